@@ -19,8 +19,6 @@ mod search;
 mod shapes;
 mod table;
 mod tables;
-#[cfg(test)]
-mod tests;
 pub mod worked;
 
 pub use placements::{Placed, Placement, Refused, Want};

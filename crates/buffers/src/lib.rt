@@ -6,8 +6,6 @@
 
 mod blocks;
 mod pieces;
-#[cfg(test)]
-mod tests;
 mod transfers;
 pub mod worked;
 

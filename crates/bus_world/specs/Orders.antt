@@ -81,7 +81,7 @@ EndsMicroframe fixed w v = (n : ℕ) (rest : List Left) → Leads fixed (at_plac
 
 -- the most turns that the program makes in one microframe; the definitions above know no such bound
 abbrev pub most_turns : ℕ
-most_turns = 1048576
+most_turns = 67108864
 
 -- From p on, the most turns were made, and the microframe hasn't ended.
 pub record IsUnended (fixed : Fixed) (p q : OrderedWorld) : Type 0 where

@@ -14,7 +14,7 @@ use hc_core::HcStep;
 use script_types::{Event, Line, Script};
 
 /// The most turns of one microframe.
-const MOST_TURNS: u32 = 1_048_576;
+const MOST_TURNS: u32 = 67_108_864;
 
 fn ends(step: HcStep) -> bool
     ensures { result ≡ is_end step }
@@ -116,7 +116,7 @@ impl World {
         }
     }
 
-    /// Carries out the action lines of a script, in their order. A microframe that doesn't end within 1,048,576 turns ends the run.
+    /// Carries out the action lines of a script, in their order. A microframe that doesn't end within 67,108,864 turns ends the run.
     /// After each event and each command all that is placed fits, and the open of a periodic endpoint is refused for want of a placement
     /// exactly where none fits.
     pub fn run(&mut self, script: &Script)

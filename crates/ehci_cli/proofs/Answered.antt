@@ -3,14 +3,14 @@ use Rattle.std.proofs.Common.{◌≡◌, ◌≢◌, ℕ, List, Option, Some, Non
 use Rattle.program_ends.specs.Ends.{IsLeft}
 use Rattle.program_ends.specs.Input.{input_of}
 use Rattle.program_forms.specs.Form.{AreWordsOf}
-use Rattle.program_forms.specs.Output.{IsAnswer, IsLoad, IsProgram, LeavesAs, Leaves}
+use Rattle.program_forms.specs.Output.{IsRunOf, IsAnswer, IsLoad, IsProgram, LeavesAs, Leaves}
 use Rattle.program_forms.proofs.Words.{loads_once}
 use Rattle.program_forms.specs.declared.form.Form.{Form}
 use Rattle.program_forms.specs.declared.form.Form.TheVariants.{Run, Image, Check, Dump, Load}
 use Rattle.program_ends.specs.declared.status.Status.{Status}
 use Rattle.program_ends.specs.declared.status.Status.TheVariants.{Ok, Words, Refused, ReadFault, WriteFault, Memory}
 
-pub program_of : (words : List (List ℕ)) (form : Form) (status : Status) (items : List ℕ) (old new : Option (List ℕ)) → AreWordsOf words form → status ≢ Words → IsAnswer form status items old new → IsProgram words status items old new
+pub program_of : (words : List (List ℕ)) (form : Form) (status : Status) (items : List ℕ) (old new : Option (List ℕ)) → AreWordsOf words form → status ≢ Words → IsAnswer IsRunOf form status items old new → IsProgram IsRunOf words status items old new
 program_of words form Ok items old new are other answer = (form, are, answer)
 program_of words form Refused items old new are other answer = (form, are, answer)
 program_of words form WriteFault items old new are other answer = (form, are, answer)
@@ -20,20 +20,20 @@ program_of words form Words items old new are other answer = absurd (other refl)
 
 -- whatever the source had
 pub program_of_any : (left : Option (List ℕ)) (words : List (List ℕ)) (form : Form) (status : Status) (old new : Option (List ℕ)) → AreWordsOf words form → status ≢ Words
-    → ((input : List ℕ) → IsAnswer form status input old new) → IfSome left (λ xs. IsProgram words status (input_of xs) old new)
+    → ((input : List ℕ) → IsAnswer IsRunOf form status input old new) → IfSome left (λ xs. IsProgram IsRunOf words status (input_of xs) old new)
 program_of_any None words form status old new are other answer = tt
 program_of_any (Some xs) words form status old new are other answer = program_of words form status (input_of xs) old new are other (answer (input_of xs))
 
 pub program_of_source : (left : Option (List ℕ)) (words : List (List ℕ)) (form : Form) (status : Status) (old new : Option (List ℕ)) → AreWordsOf words form → status ≢ Words
-    → IfSome left (λ xs. IsAnswer form status (input_of xs) old new) → IfSome left (λ xs. IsProgram words status (input_of xs) old new)
+    → IfSome left (λ xs. IsAnswer IsRunOf form status (input_of xs) old new) → IfSome left (λ xs. IsProgram IsRunOf words status (input_of xs) old new)
 program_of_source None words form status old new are other answer = tt
 program_of_source (Some xs) words form status old new are other answer = program_of words form status (input_of xs) old new are other answer
 
 -- `view` is the slice of the bytes that were read
 pub answer_of_source : (left : Option (List ℕ)) (view items : List ℕ) (form : Form) (status : Status) (old new : Option (List ℕ)) → IfSome left (λ xs. items ≡ input_of xs) → view ≡ items
-    → IsAnswer form status view old new → IfSome left (λ xs. IsAnswer form status (input_of xs) old new)
+    → IsAnswer IsRunOf form status view old new → IfSome left (λ xs. IsAnswer IsRunOf form status (input_of xs) old new)
 answer_of_source None view items form status old new read whole answer = tt
-answer_of_source (Some xs) view items form status old new read whole answer = subst (λ v. IsAnswer form status v old new) (whole ∙ read) answer
+answer_of_source (Some xs) view items form status old new read whole answer = subst (λ v. IsAnswer IsRunOf form status v old new) (whole ∙ read) answer
 
 -- ---- what is left
 
@@ -70,5 +70,5 @@ leaves_all (Some xs) words n status are other = leaves_of words (Load n) status 
 -- ---- the form `load`
 
 -- what it answers to every input is what the program answers to its words
-pub load_of : (words : List (List ℕ)) (m : ℕ) (status : Status) (old new : Option (List ℕ)) → AreWordsOf words (Load m) → ((input : List ℕ) → IsAnswer (Load m) status input old new) → IsLoad words status old new
-load_of words m status old new are answer = λ n input other. subst (λ k. IsAnswer (Load k) status input old new) (loads_once words m n are other) (answer input)
+pub load_of : (words : List (List ℕ)) (m : ℕ) (status : Status) (old new : Option (List ℕ)) → AreWordsOf words (Load m) → ((input : List ℕ) → IsAnswer IsRunOf (Load m) status input old new) → IsLoad IsRunOf words status old new
+load_of words m status old new are answer = λ n input other. subst (λ k. IsAnswer IsRunOf (Load k) status input old new) (loads_once words m n are other) (answer input)

@@ -4,3 +4,4 @@ pub mod Streams
 pub mod Memory
 pub mod Requests
 pub mod Visits
+pub mod Whole

@@ -7,10 +7,3 @@
 mod program;
 
 pub use program::ehci;
-
-#[cfg(test)]
-mod dump_tests;
-#[cfg(test)]
-mod load_tests;
-#[cfg(test)]
-mod tests;

@@ -6,12 +6,14 @@ ghost use Rattle.list_laws.specs.owned_blocks.Worlds.{OwnsItsBlocksThroughout};
 ghost use Rattle.program_ends.specs.Ends.{IsFault, IsWriteFault, WritesNothing};
 ghost use Rattle.program_ends.specs.Input.{input_of};
 ghost use Rattle.program_forms.specs.Form.{AreWordsOf, AreNoForm};
-ghost use Rattle.program_forms.specs.Output.{IsAnswer, IsLoad, IsProgram, LeavesAs, Leaves};
+ghost use Rattle.program_forms.specs.Output.{IsRunOf, IsWholeRunOf, IsAnswer, IsLoad, IsProgram, LeavesAs, Leaves};
 ghost use Rattle.mixed_worlds.specs.Placed.{KeepsMemory};
 ghost use Rattle.frame_visits.specs.Keeps.{KeepsVisits};
-ghost use Rattle.frame_visits.specs.PaymentLaws.{PaysWithinLoad};
+ghost use Rattle.microframe_laws.specs.PaymentLaws.{PaysWithinLoad};
+ghost use Rattle.microframe_laws.specs.PaymentTimes.{ArriveInTime};
+ghost use Rattle.microframe_laws.specs.Ends.{MicroframesEnd};
 ghost use Rattle.asking_worlds.specs.Kept.{KeepsRequests};
-ghost use Rattle.ehci_cli.specs.Scripts.{OfEachScript, OfEachHighInterruptScript, OfEachAsynchronousScript, OfEachScriptOfDevices};
+ghost use Rattle.ehci_cli.specs.Scripts.{OfEachScript, OfEachHighPeriodicScript, OfEachAsynchronousScript, OfEachScriptOfDevices};
 ghost use Rattle.ehci_cli.specs.Streams.{KeepsStreams};
 
 use program_ends::{Status, Unread, read_input};
@@ -32,6 +34,9 @@ use usb_base::{Sink, Source};
 ///   the output is written.
 /// - `Memory` only before the first write.
 ///
+/// Each microframe of a script's run ends, after at most 17,957,823 events of the controller, each followed by one of the driver; so every line is carried out, and what is reported
+/// stands after the whole run.
+///
 /// Where the input spells a script, at each moment of its run all placed endpoints keep the budgets of bus time, and the open of a periodic
 /// endpoint is refused for want of a placement exactly where no allowed one fits beside them. And at each moment the controller's next event
 /// reads and writes words of Lent blocks alone, and what the driver's next event gives back is Free afterwards; just the blocks of what the driver still
@@ -46,18 +51,18 @@ use usb_base::{Sink, Source};
 /// asynchronous part ends where the head of the ring was read with Reclamation 0, or where the next price passes the time left, and then the ring goes on at the same queue head. A queue
 /// head is passed without its transaction for one of the standard's reasons alone, in the ring and in the frames.
 ///
-/// Where all its periodic endpoints are interrupt endpoints of high speed, with packets of eight bytes or more, what their transactions have cost in a microframe is no more than the
-/// plan's load there, nor than 100 microseconds, at each moment, also while endpoints are opened and cancelled.
+/// Where all its periodic endpoints are of high speed, isochronous ones too, what their transactions have cost in a microframe is no more than the plan's load there, nor than 100
+/// microseconds, at each moment, also while endpoints are opened and cancelled. So no transaction of the periodic part is skipped for want of time, but in a held microframe.
 ///
 /// Where the script opens high-speed bulk and control endpoints only, cancelled or not, the bytes that the report tells of each bulk IN endpoint begin its stream, each
 /// once and in order, and nothing follows its end; those that it tells of each bulk OUT endpoint begin what its device took, and these begin what was put to it: after
-/// the run, and at each moment of it, whatever is lost, damaged or held, and whatever control endpoints are asked and answer, STALL too. After a run of which each line
-/// was carried out these are all its streams.
+/// the run, and at each moment of it, whatever is lost, damaged or held, and whatever control endpoints are asked and answer, STALL too. After the run these are all
+/// its streams.
 ///
 /// Where these endpoints are of devices, none a hub's own control endpoint, at each moment the device acted at most once on each control request, and only on its setup
 /// bytes; of an endpoint that isn't cancelled the report tells of its requests in their order: a request that is done was acted on exactly once, and the bytes told of it are
 /// those of its data; those of one that halted begin its data; and `acted` is told as the number of requests that were acted on. After the run these are all its requests.
-#[tactic(auto, using(crate::proofs::Admitted::source_admits, crate::proofs::Admitted::source_keeps_to_lent, crate::proofs::Admitted::source_owns, crate::proofs::Admitted::source_keeps_schedule, crate::proofs::Streams::source_keeps_streams, crate::proofs::Requests::source_keeps_requests, crate::proofs::Memory::source_keeps_memory, crate::proofs::Visits::source_keeps_visits, crate::proofs::Visits::source_pays_within_load))]
+#[tactic(auto, using(crate::proofs::Admitted::source_admits, crate::proofs::Admitted::source_keeps_to_lent, crate::proofs::Admitted::source_owns, crate::proofs::Admitted::source_keeps_schedule, crate::proofs::Streams::source_keeps_streams, crate::proofs::Requests::source_keeps_requests, crate::proofs::Memory::source_keeps_memory, crate::proofs::Visits::source_keeps_visits, crate::proofs::Visits::source_pays_within_load, crate::proofs::Visits::source_is_in_time, crate::proofs::Visits::source_ends_microframes))]
 pub fn ehci<S: Source, K: Sink>(
     alloc: Global,
     words: &[String],
@@ -67,15 +72,17 @@ pub fn ehci<S: Source, K: Sink>(
     ensures words { (result ≡ Status.Words) ↔ AreNoForm (map string_bytes words.now) }
     ensures untouched { result ≡ Status.Words → (source.new ≡ source.old) × (sink.new ≡ sink.old) }
     ensures unread { (n : ℕ) → AreWordsOf (map string_bytes words.now) (Form.Load n) → source.new ≡ source.old }
-    ensures load { IsLoad (map string_bytes words.now) result (K.written sink.old) (K.written sink.new) }
-    ensures output { IfSome (S.left source.old) (λ xs. IsProgram (map string_bytes words.now) result (input_of xs) (K.written sink.old) (K.written sink.new)) }
+    ensures load { IsLoad IsWholeRunOf (map string_bytes words.now) result (K.written sink.old) (K.written sink.new) }
+    ensures output { IfSome (S.left source.old) (λ xs. IsProgram IsWholeRunOf (map string_bytes words.now) result (input_of xs) (K.written sink.old) (K.written sink.new)) }
     ensures budgets { OfEachScript AdmitsThroughout (S.left source.old) }
     ensures lent { OfEachScript KeepsToLentThroughout (S.left source.old) }
     ensures owned { OfEachScript OwnsItsBlocksThroughout (S.left source.old) }
     ensures schedule { OfEachScript KeepsScheduleThroughout (S.left source.old) }
     ensures memory { OfEachScript KeepsMemory (S.left source.old) }
     ensures visits { OfEachScript KeepsVisits (S.left source.old) }
-    ensures within_load { OfEachHighInterruptScript PaysWithinLoad (S.left source.old) }
+    ensures microframes { OfEachScript MicroframesEnd (S.left source.old) }
+    ensures within_load { OfEachHighPeriodicScript PaysWithinLoad (S.left source.old) }
+    ensures in_time { OfEachHighPeriodicScript ArriveInTime (S.left source.old) }
     ensures streams { OfEachAsynchronousScript KeepsStreams (S.left source.old) }
     ensures requests { OfEachScriptOfDevices KeepsRequests (S.left source.old) }
     ensures left { IfSome (S.left source.old) (λ xs. Leaves (map string_bytes words.now) result xs (S.left source.new)) }
@@ -98,7 +105,7 @@ fn read_and_answer<S: Source, K: Sink>(
     sink: &mut K,
 ) -> Status
     requires { (n : ℕ) → form ≢ Form.Load n }
-    ensures answer { IfSome (S.left source.old) (λ xs. IsAnswer form result (input_of xs) (K.written sink.old) (K.written sink.new)) }
+    ensures answer { IfSome (S.left source.old) (λ xs. IsAnswer IsRunOf form result (input_of xs) (K.written sink.old) (K.written sink.new)) }
     ensures left { IfSome (S.left source.old) (λ xs. LeavesAs form result xs (S.left source.new)) }
     ensures end { result ≢ Status.Words }
     ensures nothing { WritesNothing result → sink.new ≡ sink.old }
@@ -115,7 +122,7 @@ fn read_and_answer<S: Source, K: Sink>(
 
 /// The answer of a form to an input.
 fn answer<K: Sink>(alloc: Global, form: Form, input: &[u8], sink: &mut K) -> Status
-    ensures answer { IsAnswer form result input.now (K.written sink.old) (K.written sink.new) }
+    ensures answer { IsAnswer IsRunOf form result input.now (K.written sink.old) (K.written sink.new) }
     ensures end { (result ≢ Status.Words) × (result ≢ Status.ReadFault) }
     ensures nothing { WritesNothing result → sink.new ≡ sink.old }
     ensures fault { IsWriteFault result (K.faults sink.old) (K.faults sink.new) }

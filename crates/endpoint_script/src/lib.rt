@@ -20,6 +20,3 @@ pub mod worked;
 pub use device::{Device, is_scripted};
 pub use endpoint::{Endpoint, Role};
 pub use rows::TakeRow;
-
-#[cfg(test)]
-mod tests;

@@ -14,7 +14,7 @@ use trace_lines::{Entry, Happening};
 use usb_base::{Cmd, Memory, OfferError};
 
 /// The most turns of one microframe.
-const MOST_TURNS: u32 = 1_048_576;
+const MOST_TURNS: u32 = 67_108_864;
 
 /// A long run says that it goes on each time that so many microframes have ended.
 const PROGRESS: u32 = 1024;
@@ -260,7 +260,7 @@ fn end_of(alloc: Global, run: &Run, form: Form) -> Result<Vec<u8>, Memory>
     }
 }
 
-/// Runs a script, and gives what is told of the events that are wanted. A microframe that doesn't end within 1,048,576 turns ends the run.
+/// Runs a script, and gives what is told of the events that are wanted. A microframe that doesn't end within 67,108,864 turns ends the run.
 ///
 /// # Errors
 ///

@@ -112,7 +112,7 @@ module _ (d : DriverContent) (m : Mem) (o : Offered) where
   opened_new x (in_frames why same) = record { new = _; endpoints = ap (λ (g : Offered). g.driver.endpoints) why.is }
   opened_new x (bare why same) = record { new = _; endpoints = ap (λ (g : Offered). g.driver.endpoints) why.is }
 
-pushed_there : (xs : List Endpoint) (y x : Endpoint) (i : ℕ) → slice_get xs i ≡ Some x → slice_get (xs ++ y ∷ []) i ≡ Some x
+pushed_there : {X : Type 0} (xs : List X) (y x : X) (i : ℕ) → slice_get xs i ≡ Some x → slice_get (xs ++ y ∷ []) i ≡ Some x
 pushed_there [] y x i here = absurd (cc)
 pushed_there (v ∷ xs) y x zero here = here
 pushed_there (v ∷ xs) y x (suc i) here = pushed_there xs y x i here
@@ -122,17 +122,12 @@ pushed_there (v ∷ xs) y x (suc i) here = pushed_there xs y x i here
 abbrev pub KeepsPlan : DriverContent → Offered → Type 0
 KeepsPlan d o = (y : Placed) → IsAmong d.periodic.plan.placed y → IsAmong o.driver.periodic.plan.placed y
 
-joined_there : (xs : List Placed) (y z : Placed) (i : ℕ) → slice_get xs i ≡ Some y → slice_get (xs ++ z ∷ []) i ≡ Some y
-joined_there [] y z i here = absurd (cc)
-joined_there (v ∷ xs) y z zero here = here
-joined_there (v ∷ xs) y z (suc i) here = joined_there xs y z i here
-
-same_plan : (d : DriverContent) (o : Offered) → account_of o.driver ≡ account_of d → KeepsPlan d o
+pub same_plan : (d : DriverContent) (o : Offered) → account_of o.driver ≡ account_of d → KeepsPlan d o
 same_plan d o same y at = subst (λ (a : Account). IsAmong a.plan.placed y) (sym same) at
 
-open_plan : (d : DriverContent) (x : EpDesc) (o : Offered) (b : Bool) → OpenAfter d x o b → KeepsPlan d o
+pub open_plan : (d : DriverContent) (x : EpDesc) (o : Offered) (b : Bool) → OpenAfter d x o b → KeepsPlan d o
 open_plan d x o true why y at =
-    subst (λ (a : Account). IsAmong a.plan.placed y) (sym why.account) (record { place = at.place; there = joined_there d.periodic.plan.placed y _ at.place at.there })
+    subst (λ (a : Account). IsAmong a.plan.placed y) (sym why.account) (record { place = at.place; there = pushed_there d.periodic.plan.placed _ y at.place at.there })
 open_plan d x o false why y at = subst (λ (a : Account). IsAmong a.plan.placed y) (sym why) at
 
 -- ---- the fields
@@ -242,7 +237,7 @@ command_keeps_fields w line cmd fits room k have = by (offered w.driver w.memory
 
 -- ---- whose is what
 
-pushed_seen : (d : DriverContent) (o : Offered) (e : ℕ) (x : Endpoint) → HasPushed d o → slice_get d.endpoints e ≡ Some x → seen_in o.driver.endpoints e ≡ seen_in d.endpoints e
+pub pushed_seen : (d : DriverContent) (o : Offered) (e : ℕ) (x : Endpoint) → HasPushed d o → slice_get d.endpoints e ≡ Some x → seen_in o.driver.endpoints e ≡ seen_in d.endpoints e
 pushed_seen d o e x h here = ap (λ (xs : List Endpoint). seen_in xs e) h.endpoints ∙ ap (option_map seen) (pushed_there d.endpoints h.new x e here ∙ sym here)
 
 pub accepted_belongs : (w : World) (cmd : Cmd) (o : Offered) (n : ℕ) → IsPlanned o.driver → offered w.driver w.memory cmd ≡ Ok o → (b : BelongsTo w.driver n) → IsReasonOf w.driver w.memory o cmd → StaysPlaced b o.driver

@@ -1,7 +1,7 @@
 -- Each descriptor that the walk of the frames may meet is one of an isochronous endpoint whose placement is in the plan, and waits for its harvest; or it was harvested.
 use Rattle.std.proofs.Common.{◌≡◌, ◌≢◌, ℕ, ◌*◌, ◌⊎◌, Bool, true, false, slice_get, Option, Some, None, option_map, ap, refl, sym, ◌∙◌, ⊎_elim, inl, inr}
-use Rattle.std.specs.Prelude.{◌||◌, ◌==◌, not}
-use Rattle.std.proofs.lemmas.Bool.{false≢true, eq-eqb, and_from, and_parts}
+use Rattle.std.specs.Prelude.{◌||◌, not}
+use Rattle.std.proofs.lemmas.Bool.{false≢true, and_parts}
 use Rattle.std.proofs.lemmas.Option.{same_Some}
 use Rattle.usb_base.specs.declared.packets.EpKind.{EpKind}
 use Rattle.usb_base.specs.declared.packets.EpKind.TheVariants as kinds
@@ -40,16 +40,13 @@ use Rattle.bus_world.specs.World.{World}
 use Rattle.mixed_worlds.specs.Mixed.{Standing, IsMixedAt}
 use Rattle.frame_visits.specs.Belonging as belonging
 use Rattle.frame_visits.specs.Belonging.{IsDescriptorAt, IsHarvestedAt, DescriptorBelongs}
-use Rattle.frame_visits.proofs.BelongQueues.{belongs_by, alive, removed_kept, unchained_in, waiting_held, removed_held, endpoint_same}
+use Rattle.frame_visits.proofs.BelongQueues.{belongs_by, alive, removed_kept, unchained_in, waiting_held, removed_held, endpoint_same, waits_by}
 
 iso_kind : (k : EpKind) → is_iso k ≡ true → k ≡ kinds.Iso
 iso_kind kinds.Control is = absurd (false≢true is)
 iso_kind kinds.Bulk is = absurd (false≢true is)
 iso_kind kinds.Interrupt is = absurd (false≢true is)
 iso_kind kinds.Iso is = refl
-
-iso_frames : {k : EpKind} → k ≡ kinds.Iso → is_periodic k ≡ true
-iso_frames is = ap is_periodic is
 
 -- ---- a descriptor that waits at an endpoint which wasn't given back
 
@@ -58,7 +55,7 @@ module _ (d : DriverContent) (has : HasOwners d) (planned : IsPlanned d) (n e t 
   waiting_by =
       let kind = iso_kind x.desc.kind iso in
       record {
-        belongs = belongs_by d has planned n e x here kept (iso_frames kind) (belonging.a_descriptor t y kind there sort waits name);
+        belongs = belongs_by d has planned n e x here kept (ap is_periodic kind) (belonging.a_descriptor t y kind there sort waits name);
         kind = kind;
         number = t;
         transfer = y;
@@ -132,9 +129,6 @@ module _ (s : Standing) (w : World) (n : ℕ) (k : IsMixedAt s w) (kind : Kind) 
   led = led_by w.driver.periodic.list.members.schedule w.driver.periodic.list.work
 
   -- ---- it stands in the frame list
-
-  waits_by : (y : Transfer) → not y.reported ≡ true → waits_for y.endpoint y ≡ true
-  waits_by y off = and_from (y.endpoint == y.endpoint) (not y.reported) (eq-eqb y.endpoint y.endpoint refl) off
 
   by_member : (m : Member) → is_linked led m ≡ true → begins_at m ≡ n → standing w.driver n ≡ Some kind → AtLast
   by_member (Each q) on begins is =

@@ -38,7 +38,6 @@ use Rattle.driver_rows.specs.Words.{buffer_needs}
 use Rattle.driver_rows.specs.Rows.{is_iso}
 use Rattle.driver_rows.specs.Offers.{Offered, Descriptors, offered, offered_next, offered_iso, open_iso, taken_iso, take_runs, iso_needs, slots_of, slot_runs, total_of, spans_too_long, has_slots, new_runs, descriptor_note, descriptor_transfer, one_descriptor, all_descriptors, entered_iso, smask_of}
 use Rattle.driver_laws.specs.run_owners.Owners.{HasRun, is_descriptor, runs_of_transfer}
-use Rattle.driver_laws.specs.run_owners.Kept.{HasOwners}
 use Rattle.driver_laws.specs.in_place.InPlace.{IsInPlace}
 use Rattle.driver_laws.proofs.Lists.{IsOneOf}
 use Rattle.driver_laws.proofs.lemmas.run_owners.Taking.{AreTaken, runs_taken, run_some, blocks_some}
@@ -54,17 +53,19 @@ use Rattle.frame_visits.proofs.BelongItdCommands.{leaves_lent, old_stays}
 
 -- ---- what was accepted
 
-pub record IsIso (d : DriverContent) (m : Mem) (o : Offered) : Type 0 where
-  number : ℕ
-  endpoint : Endpoint
-  len : ℕ
-  count : ℕ
-  seed : ℕ
-  after : Holding
-  idle : d.command ≡ None
-  here : slice_get d.endpoints number ≡ Some endpoint
-  runs : take_runs (holding d.book m) (iso_needs (slots_of endpoint len) count) ≡ Ok after
-  is : o ≡ entered_iso d number endpoint count (total_of (slots_of endpoint len)) after.book
+pub record IsIsoAccepted (d : DriverContent) (m : Mem) (o : Offered) : Type 0 where
+  pub number : ℕ
+  pub endpoint : Endpoint
+  pub len : ℕ
+  pub count : ℕ
+  pub seed : ℕ
+  pub after : Holding
+  pub idle : d.command ≡ None
+  pub here : slice_get d.endpoints number ≡ Some endpoint
+  pub iso : is_iso endpoint.desc.kind ≡ true
+  pub goes_on : endpoint.ended ≡ None
+  pub runs : take_runs (holding d.book m) (iso_needs (slots_of endpoint len) count) ≡ Ok after
+  pub is : o ≡ entered_iso d number endpoint count (total_of (slots_of endpoint len)) after.book
       (all_descriptors after.book number endpoint.desc (slots_of endpoint len) count seed (new_runs d after) (record { notes = d.periodic.notes; transfers = d.transfers; memory = after.memory }))
 
 or_else : (P : Offered → Type 0) (b : Bool) (x y : Result Offered OfferError) → IfOk x P → IfOk y P → IfOk (if b then x else y) P
@@ -72,37 +73,43 @@ or_else P true x y one two = one
 or_else P false x y one two = two
 
 module _ (d : DriverContent) (m : Mem) (idle : d.command ≡ None) where
-  iso_taken : (e : ℕ) (x : Endpoint) (len n seed : ℕ) (r : Result Holding OfferError) → slice_get d.endpoints e ≡ Some x → take_runs (holding d.book m) (iso_needs (slots_of x len) n) ≡ r
-      → IfOk (taken_iso d e x (slots_of x len) n seed r) (IsIso d m)
-  iso_taken e x len n seed (Err why) here is = tt
-  iso_taken e x len n seed (Ok h) here is = record { number = e; endpoint = x; len = len; count = n; seed = seed; after = h; idle = idle; here = here; runs = is; is = refl }
+  iso_taken : (e : ℕ) (x : Endpoint) (len n seed : ℕ) (r : Result Holding OfferError) → slice_get d.endpoints e ≡ Some x → is_iso x.desc.kind ≡ true → x.ended ≡ None
+      → take_runs (holding d.book m) (iso_needs (slots_of x len) n) ≡ r → IfOk (taken_iso d e x (slots_of x len) n seed r) (IsIsoAccepted d m)
+  iso_taken e x len n seed (Err why) here iso goes is = tt
+  iso_taken e x len n seed (Ok h) here iso goes is =
+      record { number = e; endpoint = x; len = len; count = n; seed = seed; after = h; idle = idle; here = here; iso = iso; goes_on = goes; runs = is; is = refl }
 
-  iso_ended : (e : ℕ) (x : Endpoint) (len n seed : ℕ) (c : Option EndCause) → slice_get d.endpoints e ≡ Some x → IfOk (open_iso d m e x (slots_of x len) n seed c) (IsIso d m)
-  iso_ended e x len n seed (Some cause) here = tt
-  iso_ended e x len n seed None here =
-      or_else (IsIso d m) (spans_too_long x (n + count_by (waits_for e) d.transfers) || not (has_slots x (slots_of x len))) (Err errors.TooLong)
+  iso_ended : (e : ℕ) (x : Endpoint) (len n seed : ℕ) (c : Option EndCause) → slice_get d.endpoints e ≡ Some x → is_iso x.desc.kind ≡ true → x.ended ≡ c
+      → IfOk (open_iso d m e x (slots_of x len) n seed c) (IsIsoAccepted d m)
+  iso_ended e x len n seed (Some cause) here iso goes = tt
+  iso_ended e x len n seed None here iso goes =
+      or_else (IsIsoAccepted d m) (spans_too_long x (n + count_by (waits_for e) d.transfers) || not (has_slots x (slots_of x len))) (Err errors.TooLong)
       (taken_iso d e x (slots_of x len) n seed (take_runs (holding d.book m) (iso_needs (slots_of x len) n))) tt
-      (iso_taken e x len n seed (take_runs (holding d.book m) (iso_needs (slots_of x len) n)) here refl)
+      (iso_taken e x len n seed (take_runs (holding d.book m) (iso_needs (slots_of x len) n)) here iso goes refl)
 
-  iso_found : (e n len seed : ℕ) (q : Option Endpoint) → ((x : Endpoint) → q ≡ Some x → slice_get d.endpoints e ≡ Some x) → IfOk (offered_iso d m e n len seed q) (IsIso d m)
+  iso_kind : (e n len seed : ℕ) (x : Endpoint) (b : Bool) → is_iso x.desc.kind ≡ b → slice_get d.endpoints e ≡ Some x
+      → IfOk (if b then open_iso d m e x (slots_of x len) n seed x.ended else Err errors.NoEndpoint) (IsIsoAccepted d m)
+  iso_kind e n len seed x true iso here = iso_ended e x len n seed x.ended here iso refl
+  iso_kind e n len seed x false iso here = tt
+
+  iso_found : (e n len seed : ℕ) (q : Option Endpoint) → ((x : Endpoint) → q ≡ Some x → slice_get d.endpoints e ≡ Some x) → IfOk (offered_iso d m e n len seed q) (IsIsoAccepted d m)
   iso_found e n len seed None here = tt
-  iso_found e n len seed (Some x) here =
-      or_else (IsIso d m) (is_iso x.desc.kind) (open_iso d m e x (slots_of x len) n seed x.ended) (Err errors.NoEndpoint) (iso_ended e x len n seed x.ended (here x refl)) tt
+  iso_found e n len seed (Some x) here = iso_kind e n len seed x (is_iso x.desc.kind) refl (here x refl)
 
 there_by : (xs : List Endpoint) (o : Option ℕ) (x : Endpoint) → option_and_then (λ e. slice_get xs e) o ≡ Some x → slice_get xs (unwrap_or o 0) ≡ Some x
 there_by xs None x e = absurd (cc)
 there_by xs (Some k) x e = e
 
-pub is_iso_command : (d : DriverContent) (m : Mem) (name : EpName) (n len seed : ℕ) (o : Offered) → offered d m (commands.Iso name n len seed) ≡ Ok o → IsIso d m o
-is_iso_command d m name n len seed o is = IfOk-at_ok (IsIso d m) is (by d.command refl)
+pub is_iso_accepted : (d : DriverContent) (m : Mem) (name : EpName) (n len seed : ℕ) (o : Offered) → offered d m (commands.Iso name n len seed) ≡ Ok o → IsIsoAccepted d m o
+is_iso_accepted d m name n len seed o is = IfOk-at_ok (IsIsoAccepted d m) is (by d.command refl)
   where
-    by : (c : Option Command) → d.command ≡ c → IfOk (cond (is_some c) (Err errors.Busy) (offered_next d m (commands.Iso name n len seed))) (IsIso d m)
+    by : (c : Option Command) → d.command ≡ c → IfOk (cond (is_some c) (Err errors.Busy) (offered_next d m (commands.Iso name n len seed))) (IsIsoAccepted d m)
     by (Some c) idle = tt
     by None idle = iso_found d m idle (unwrap_or (endpoint_of d name) 0) n len seed (endpoint_named d name) (λ x e. there_by d.endpoints (endpoint_of d name) x e)
 
 -- ---- what is noted of the new ones
 
-abbrev Noted : Slots → DescriptorNote → Type 0
+abbrev pub Noted : Slots → DescriptorNote → Type 0
 Noted s note = (note.smask ≡ s.smask) × (note.split ≡ s.split)
 
 module _ (k : Book) (e : ℕ) (x : EpDesc) (s : Slots) where
@@ -188,18 +195,16 @@ await_words x note m b split words =
 
 -- ---- lists
 
-record IsLater (ys : List Transfer) (t many : ℕ) (z : Transfer) : Type 0 where
-  index : ℕ
-  there : slice_get ys index ≡ Some z
+pub record IsLater (ys : List Transfer) (z : Transfer) : Type 0 where
+  pub index : ℕ
+  pub there : slice_get ys index ≡ Some z
 
-which : (xs ys : List Transfer) (t : ℕ) (z : Transfer) → slice_get (xs ++ ys) t ≡ Some z → (slice_get xs t ≡ Some z) ⊎ IsLater ys t (length xs) z
+pub which : (xs ys : List Transfer) (t : ℕ) (z : Transfer) → slice_get (xs ++ ys) t ≡ Some z → (slice_get xs t ≡ Some z) ⊎ IsLater ys z
 which [] ys t z there = inr (record { index = t; there = there })
 which (x ∷ xs) ys zero z there = inl there
-which (x ∷ xs) ys (suc t) z there =
-    ⊎_elim {C = (slice_get xs t ≡ Some z) ⊎ IsLater ys (suc t) (suc (length xs)) z} (λ (was : slice_get xs t ≡ Some z). inl was)
-    (λ (new : IsLater ys t (length xs) z). inr (record { index = new.index; there = new.there })) (which xs ys t z there)
+which (x ∷ xs) ys (suc t) z there = which xs ys t z there
 
-made_is : (e : ℕ) (s : Slots) (n : ℕ) (rs : List ℕ) (i : ℕ) (y : Transfer) → slice_get (made e s n rs) i ≡ Some y → (y.endpoint ≡ e) × (y.reported ≡ false)
+pub made_is : (e : ℕ) (s : Slots) (n : ℕ) (rs : List ℕ) (i : ℕ) (y : Transfer) → slice_get (made e s n rs) i ≡ Some y → (y.endpoint ≡ e) × (y.reported ≡ false)
 made_is e s zero rs i y there = absurd (cc)
 made_is e s (suc n) rs zero y there = subst (λ (t : Transfer). (t.endpoint ≡ e) × (t.reported ≡ false)) (same_Some (descriptor_transfer e s (get_or rs 0 0)) y there) (refl, refl)
 made_is e s (suc n) rs (suc i) y there = made_is e s n (drop (suc (slot_runs s)) rs) i y there
@@ -214,9 +219,64 @@ slot_below ss b slots.Empty is run = absurd run
 slot_below ss b (slots.Keeps r) is run = keeps_within ss b r is
 slot_below ss b (slots.Lends r) is run = lends_within ss b r is
 
+-- ---- by the runs that it takes
+
+pub record IsByRuns (d : DriverContent) (m : Mem) (o : Offered) (k : IsIsoAccepted d m o) (bs : List ℕ) : Type 0 where
+  pub taken : AreTaken (holding d.book m) k.after (iso_needs (slots_of k.endpoint k.len) k.count) bs
+  pub is : o ≡ entered_iso d k.number k.endpoint k.count (total_of (slots_of k.endpoint k.len)) k.after.book
+      (all_descriptors k.after.book k.number k.endpoint.desc (slots_of k.endpoint k.len) k.count k.seed bs (record { notes = d.periodic.notes; transfers = d.transfers; memory = k.after.memory }))
+
+module _ (d : DriverContent) (m : Mem) (o : Offered) (place : IsInPlace m d) (k : IsIsoAccepted d m o) where
+  abbrev s : Slots
+  s = slots_of k.endpoint k.len
+
+  module _ (bs : List ℕ) (by : IsByRuns d m o k bs) where
+    abbrev first : Descriptors
+    first = record { notes = d.periodic.notes; transfers = d.transfers; memory = k.after.memory }
+
+    enough : length (iso_needs (slots_of k.endpoint k.len) k.count) ≤ length bs
+    enough = let long = by.taken.long in omega (arith, long)
+
+    pub transfer_there : (t : ℕ) (z : Transfer) → slice_get o.driver.transfers t ≡ Some z → (slice_get d.transfers t ≡ Some z) ⊎ IsLater (made k.number (slots_of k.endpoint k.len) k.count bs) z
+    transfer_there t z there =
+        which d.transfers (made k.number s k.count bs) t z
+        (ap (λ (ts : List Transfer). slice_get ts t) (sym (all_transfers k.after.book k.number k.endpoint.desc s k.count k.seed bs first)) ∙ ap (λ (g : Offered). slice_get g.driver.transfers t) (sym by.is) ∙ there)
+
+    note_is : (c : ℕ) → note_at o.driver.periodic.notes c ≡ note_at (all_descriptors k.after.book k.number k.endpoint.desc (slots_of k.endpoint k.len) k.count k.seed bs (record { notes = d.periodic.notes; transfers = d.transfers; memory = k.after.memory })).notes c
+    note_is c = ap (λ (g : Offered). note_at g.driver.periodic.notes c) by.is
+
+    pub note_was : (t : ℕ) (z : Transfer) → slice_get d.transfers t ≡ Some z → is_descriptor z.sort ≡ true → z.released ≡ false → note_at o.driver.periodic.notes z.first ≡ note_at d.periodic.notes z.first
+    note_was t z there sort held =
+        let run : HasRun (slot_of d.book.slots z.first) = placed_run z.first _ (place.sound.owners.owned.each.described t (runs_of_transfer z) (ap (option_map runs_of_transfer) there) sort held).descriptor in
+        note_is z.first
+        ∙ notes_other k.after.book k.number k.endpoint.desc s k.count k.seed bs first z.first enough
+        (none_of z.first bs (λ i below same. run_some (slot_of d.book.slots z.first) run (ap (slot_of d.book.slots) same ∙ by.taken.fresh i below)))
+
+    pub noted : (z : Transfer) → IsLater (made k.number (slots_of k.endpoint k.len) k.count bs) z → Noted (slots_of k.endpoint k.len) (note_at o.driver.periodic.notes z.first)
+    noted z new =
+        subst (Noted s) (sym (note_is z.first))
+        (new_noted k.after.book k.number k.endpoint.desc s k.count k.seed bs first new.index z enough
+        (λ j below.
+        let b = get_or bs j 0 in
+        let inside = slot_below k.after.book.slots b (slot_of k.after.book.slots b) refl (blocks_some _ (slot_of k.after.book.slots b) (by.taken.new j below)) in
+        let many = by.taken.many in
+        let as_many = place.sound.owners.owned.as_many in
+        omega (arith, inside, many, as_many)) new.there)
+
+  pub by_runs : IsByRuns d m o k (runs_taken (holding d.book m) k.after (iso_needs (slots_of k.endpoint k.len) k.count) place.sound.stands k.runs).blocks
+  by_runs =
+      let all = runs_taken (holding d.book m) k.after (iso_needs s k.count) place.sound.stands k.runs in
+      let new : new_runs d k.after ≡ all.blocks = ap (drop (length d.book.taken)) all.are.taken ∙ drop_first d.book.taken all.blocks in
+      record {
+        taken = all.are;
+        is = k.is
+            ∙ ap (λ (rs : List ℕ). entered_iso d k.number k.endpoint k.count (total_of (slots_of k.endpoint k.len)) k.after.book
+            (all_descriptors k.after.book k.number k.endpoint.desc (slots_of k.endpoint k.len) k.count k.seed rs (record { notes = d.periodic.notes; transfers = d.transfers; memory = k.after.memory }))) new;
+      }
+
 -- ---- they stand
 
-module _ (d : DriverContent) (m : Mem) (o : Offered) (place : IsInPlace m d) (reason : Accepts d m o) (old : ItdsStand d m) (k : IsIso d m o)
+module _ (d : DriverContent) (m : Mem) (o : Offered) (place : IsInPlace m d) (reason : Accepts d m o) (old : ItdsStand d m) (k : IsIsoAccepted d m o)
     (awaits : AreAwaiting o.driver o.memory) where
   abbrev e : ℕ
   e = k.number
@@ -224,38 +284,10 @@ module _ (d : DriverContent) (m : Mem) (o : Offered) (place : IsInPlace m d) (re
   abbrev x : Endpoint
   x = k.endpoint
 
-  abbrev s : Slots
-  s = slots_of k.endpoint k.len
-
   abbrev n : ℕ
   n = k.count
 
-  has_owners : HasOwners d
-  has_owners = place.sound.owners
-
-  record IsBy (bs : List ℕ) : Type 0 where
-    taken : AreTaken (holding d.book m) k.after (iso_needs (slots_of k.endpoint k.len) k.count) bs
-    is : o ≡ entered_iso d k.number k.endpoint k.count (total_of (slots_of k.endpoint k.len)) k.after.book
-        (all_descriptors k.after.book k.number k.endpoint.desc (slots_of k.endpoint k.len) k.count k.seed bs (record { notes = d.periodic.notes; transfers = d.transfers; memory = k.after.memory }))
-
-  module _ (bs : List ℕ) (by : IsBy bs) where
-    abbrev first : Descriptors
-    first = record { notes = d.periodic.notes; transfers = d.transfers; memory = k.after.memory }
-
-    abbrev f : Descriptors
-    f = all_descriptors k.after.book k.number k.endpoint.desc (slots_of k.endpoint k.len) k.count k.seed bs first
-
-    enough : length (iso_needs (slots_of k.endpoint k.len) k.count) ≤ length bs
-    enough = let long = by.taken.long in omega (arith, long)
-
-    transfer_there : (t : ℕ) (z : Transfer) → slice_get o.driver.transfers t ≡ Some z → (slice_get d.transfers t ≡ Some z) ⊎ IsLater (made k.number (slots_of k.endpoint k.len) k.count bs) t (length d.transfers) z
-    transfer_there t z there =
-        which d.transfers (made e s n bs) t z
-        (ap (λ (ts : List Transfer). slice_get ts t) (sym (all_transfers k.after.book e x.desc s n k.seed bs first)) ∙ ap (λ (g : Offered). slice_get g.driver.transfers t) (sym by.is) ∙ there)
-
-    note_is : (c : ℕ) → note_at o.driver.periodic.notes c ≡ note_at (all_descriptors k.after.book k.number k.endpoint.desc (slots_of k.endpoint k.len) k.count k.seed bs (record { notes = d.periodic.notes; transfers = d.transfers; memory = k.after.memory })).notes c
-    note_is c = ap (λ (g : Offered). note_at g.driver.periodic.notes c) by.is
-
+  module _ (bs : List ℕ) (by : IsByRuns d m o k bs) where
     endpoint_there : (i : ℕ) (v : Endpoint) → slice_get o.driver.endpoints i ≡ Some v → IsSeenIn d.endpoints i v
     endpoint_there i v there =
         seen_there o.driver.endpoints d.endpoints i v (sym (ap (λ (g : Offered). seen_in g.driver.endpoints i) by.is ∙ seen_set d.endpoints e i x _ k.here refl)) there
@@ -264,30 +296,14 @@ module _ (d : DriverContent) (m : Mem) (o : Offered) (place : IsInPlace m d) (re
 
     module _ (t : ℕ) (z : Transfer) (there : slice_get d.transfers t ≡ Some z) (sort : is_descriptor z.sort ≡ true) (held : z.released ≡ false) where
       split_was : (note_at o.driver.periodic.notes z.first).split ≡ false → (note_at d.periodic.notes z.first).split ≡ false
-      split_was split =
-          let run : HasRun (slot_of d.book.slots z.first) = placed_run z.first _ (has_owners.owned.each.described t (runs_of_transfer z) (ap (option_map runs_of_transfer) there) sort held).descriptor in
-          ap (λ (v : DescriptorNote). v.split)
-          (sym (notes_other k.after.book e x.desc s n k.seed bs first z.first enough
-          (none_of z.first bs (λ i below same. run_some (slot_of d.book.slots z.first) run (ap (slot_of d.book.slots) same ∙ by.taken.fresh i below)))) ∙ sym (note_is z.first))
-          ∙ split
+      split_was split = ap (λ (v : DescriptorNote). v.split) (sym (note_was d m o place k bs by t z there sort held)) ∙ split
 
       itd_was : (note_at o.driver.periodic.notes z.first).split ≡ false → itd_in o.memory z.first ≡ itd_in m z.first
       itd_was split = old_stays d m o.memory t z place k.idle (leaves_lent d m o reason place) there sort held (split_was split)
 
     -- ---- a new one
 
-    module _ (t : ℕ) (z : Transfer) (new : IsLater (made k.number (slots_of k.endpoint k.len) k.count bs) t (length d.transfers) z) (split : (note_at o.driver.periodic.notes z.first).split ≡ false) where
-      noted : Noted (slots_of k.endpoint k.len) (note_at o.driver.periodic.notes z.first)
-      noted =
-          subst (Noted s) (sym (note_is z.first))
-          (new_noted k.after.book e x.desc s n k.seed bs first new.index z enough
-          (λ j below.
-          let b = get_or bs j 0 in
-          let inside = slot_below k.after.book.slots b (slot_of k.after.book.slots b) refl (blocks_some _ (slot_of k.after.book.slots b) (by.taken.new j below)) in
-          let many = by.taken.many in
-          let as_many = has_owners.owned.as_many in
-          omega (arith, inside, many, as_many)) new.there)
-
+    module _ (t : ℕ) (z : Transfer) (new : IsLater (made k.number (slots_of k.endpoint k.len) k.count bs) z) (split : (note_at o.driver.periodic.notes z.first).split ≡ false) where
       awaited : AwaitsLend o.driver o.memory k.number (length d.transfers)
       awaited =
           let none : o.driver.made ≡ 0 = ap (λ (g : Offered). g.driver.made) by.is in
@@ -296,14 +312,14 @@ module _ (d : DriverContent) (m : Mem) (o : Offered) (place : IsInPlace m d) (re
       dropped : slice_get (drop (length d.transfers) o.driver.transfers) new.index ≡ Some z
       dropped =
           ap (λ (g : Offered). slice_get (drop (length d.transfers) g.driver.transfers) new.index) by.is
-          ∙ ap (λ (ts : List Transfer). slice_get (drop (length d.transfers) ts) new.index) (all_transfers k.after.book e x.desc s n k.seed bs first)
-          ∙ ap (λ (ts : List Transfer). slice_get ts new.index) (drop_old d.transfers (made e s n bs)) ∙ new.there
+          ∙ ap (λ (ts : List Transfer). slice_get (drop (length d.transfers) ts) new.index) (all_transfers k.after.book e x.desc (s d m o place k) n k.seed bs (first d m o place k bs by))
+          ∙ ap (λ (ts : List Transfer). slice_get ts new.index) (drop_old d.transfers (made e (s d m o place k) n bs)) ∙ new.there
 
       new_fields : (v : Endpoint) (p : Placement) → slice_get o.driver.endpoints z.endpoint ≡ Some v → v.placement ≡ Some p → HaveItdFields (itd_in o.memory z.first) v.desc p
       new_fields v p here placed =
           let a = awaited in
           let note = note_at o.driver.periodic.notes z.first in
-          let at_e : z.endpoint ≡ e = (made_is e s n bs new.index z new.there).0 in
+          let at_e : z.endpoint ≡ e = (made_is e (s d m o place k) n bs new.index z new.there).0 in
           let here_e : slice_get o.driver.endpoints e ≡ Some v = ap (slice_get o.driver.endpoints) (sym at_e) ∙ here in
           let same : a.endpoint ≡ v = same_Some a.endpoint v (sym a.here ∙ here_e) in
           let of : IsSeenIn d.endpoints e v = endpoint_there e v here_e in
@@ -312,13 +328,13 @@ module _ (d : DriverContent) (m : Mem) (o : Offered) (place : IsInPlace m d) (re
           let its = await_words a.endpoint.desc note o.memory z.first split (a.await.each new.index z dropped).written.words in
           let its_v = subst (λ (c : Endpoint). itd_in o.memory z.first ≡ itd_at (itd_words (new_itd c.desc note.smask note.slot note.buffer))) same its in
           let fields = subst (λ (c : Endpoint). HasFields c.desc) same a.await.fields in
-          let classic : is_classic x.desc.speed ≡ false = sym noted.1 ∙ split in
+          let classic : is_classic x.desc.speed ≡ false = sym (noted d m o place k bs by z new).1 ∙ split in
           record {
             speed = high_of v.desc.speed (ap (λ (c : Seen). is_classic c.desc.speed) (sym of.same) ∙ ap (λ (c : Endpoint). is_classic c.desc.speed) was ∙ classic);
             longest = ap (λ c. c.max) its_v ∙ max_of v.desc note.smask note.slot note.buffer fields.max;
             multi = ap (λ c. c.multi) its_v ∙ multi_of v.desc note.smask note.slot note.buffer fields.multi_most;
             own = λ u small on.
-                subst (λ (mask : ℕ). has mask u ≡ true) (noted.0 ∙ ap smask_of placed_x)
+                subst (λ (mask : ℕ). has mask u ≡ true) ((noted d m o place k bs by z new).0 ∙ ap smask_of placed_x)
                 (own_of v.desc note.smask note.slot note.buffer u small (ap (λ c. (microframe_of u c).active) (sym its_v) ∙ on));
           }
 
@@ -330,21 +346,13 @@ module _ (d : DriverContent) (m : Mem) (o : Offered) (place : IsInPlace m d) (re
           let of : IsSeenIn d.endpoints z.endpoint v = endpoint_there z.endpoint v here in
           let h = old.fields t z of.endpoint p was sort held (split_was t z was sort held split) of.here (ap (λ (c : Seen). c.placement) of.same ∙ placed) in
           subst (λ c. HaveItdFields c v.desc p) (sym (itd_was t z was sort held split)) (subst (λ (y : EpDesc). HaveItdFields (itd_in m z.first) y p) (ap (λ (c : Seen). c.desc) of.same) h))
-          (λ (new : IsLater (made k.number (slots_of k.endpoint k.len) k.count bs) t (length d.transfers) z). new_fields t z new split v p here placed) (transfer_there t z there);
+          (λ (new : IsLater (made k.number (slots_of k.endpoint k.len) k.count bs) z). new_fields t z new split v p here placed) (transfer_there d m o place k bs by t z there);
       served = λ t z there sort reported held split.
           ⊎_elim {C = IsServed (itd_in o.memory z.first)}
           (λ (was : slice_get d.transfers t ≡ Some z). subst IsServed (sym (itd_was t z was sort held split)) (old.served t z was sort reported held (split_was t z was sort held split)))
-          (λ (new : IsLater (made k.number (slots_of k.endpoint k.len) k.count bs) t (length d.transfers) z).
-          absurd (true≢false (sym reported ∙ (made_is e s n bs new.index z new.there).1))) (transfer_there t z there);
+          (λ (new : IsLater (made k.number (slots_of k.endpoint k.len) k.count bs) z).
+          absurd (true≢false (sym reported ∙ (made_is e (s d m o place k) n bs new.index z new.there).1))) (transfer_there d m o place k bs by t z there);
     }
 
   pub iso_keeps : ItdsStand o.driver o.memory
-  iso_keeps =
-      let all = runs_taken (holding d.book m) k.after (iso_needs s n) place.sound.stands k.runs in
-      let new : new_runs d k.after ≡ all.blocks = ap (drop (length d.book.taken)) all.are.taken ∙ drop_first d.book.taken all.blocks in
-      iso_stand all.blocks (record {
-        taken = all.are;
-        is = k.is
-            ∙ ap (λ (rs : List ℕ). entered_iso d k.number k.endpoint k.count (total_of (slots_of k.endpoint k.len)) k.after.book
-            (all_descriptors k.after.book k.number k.endpoint.desc (slots_of k.endpoint k.len) k.count k.seed rs (record { notes = d.periodic.notes; transfers = d.transfers; memory = k.after.memory }))) new;
-      })
+  iso_keeps = iso_stand _ (by_runs d m o place k)

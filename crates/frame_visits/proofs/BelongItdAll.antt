@@ -8,7 +8,7 @@ use Rattle.mixed_worlds.proofs.lemmas.framed_memory.TakenOn.{commands_await}
 use Rattle.bus_world.specs.World.{commanded_by}
 use Rattle.frame_visits.specs.DescriptorFields.{ItdsStand, CommandKeepsItds}
 use Rattle.frame_visits.proofs.BelongItdCommands.{other_keeps_itds}
-use Rattle.frame_visits.proofs.BelongIso.{is_iso_command, iso_keeps}
+use Rattle.frame_visits.proofs.BelongIso.{is_iso_accepted, iso_keeps}
 
 pub command_keeps_itds : CommandKeepsItds
 command_keeps_itds w line (commands.Iso name n len seed) k old = by (offered w.driver w.memory (commands.Iso name n len seed)) refl
@@ -17,7 +17,7 @@ command_keeps_itds w line (commands.Iso name n len seed) k old = by (offered w.d
     by (Err why) is = record { fields = old.fields; served = old.served }
     by (Ok o) is =
         let f = k.mixed.now.framed in
-        iso_keeps w.driver w.memory o f.place (accepted_for_a_reason w.driver w.memory (commands.Iso name n len seed) o is) old (is_iso_command w.driver w.memory name n len seed o is)
+        iso_keeps w.driver w.memory o f.place (accepted_for_a_reason w.driver w.memory (commands.Iso name n len seed) o is) old (is_iso_accepted w.driver w.memory name n len seed o is)
         (commands_await w.driver w.memory (commands.Iso name n len seed) o f.place k.mixed.now.planned k.mixed.masks k.mixed.numbers is)
 command_keeps_itds w line (commands.OpenEp x) k old = other_keeps_itds w line (commands.OpenEp x) tt k old
 command_keeps_itds w line (commands.Get name len by) k old = other_keeps_itds w line (commands.Get name len by) tt k old

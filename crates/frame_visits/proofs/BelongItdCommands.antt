@@ -39,6 +39,7 @@ use Rattle.driver_laws.proofs.lemmas.ring_members.Stores.{slots_apart, words_els
 use Rattle.driver_laws.proofs.PartAccepting.{IsAsLarge, words_large, open_leaves}
 use Rattle.driver_laws.proofs.PartSlots.{taken_leaves}
 use Rattle.driver_laws.proofs.Sending.{transfer_leaves}
+use Rattle.driver_laws.proofs.Lent.{leaves_itself}
 use Rattle.described_parts.proofs.CommandAccepting.{describes_leaves}
 use Rattle.ring_laws.specs.lent_structures.Changes.{Leaves}
 use Rattle.frame_laws.proofs.lemmas.queued_drivers.CommandReasons.{IsNew, in_ring, in_frames, bare, IsTakenOn, IsLeft, from_ring, from_frames, IsReasonOf, reason_of}
@@ -55,9 +56,6 @@ HasNoDescriptors (commands.Iso name count len seed) = ⊥
 HasNoDescriptors _ = Unit {0}
 
 -- ---- what is lent stays
-
-nothing_written : (m : Mem) → IsShaped m → Leaves m m
-nothing_written m shape = record { shape = shape; lent = λ b is. is; words = λ other on. refl }
 
 chain_leaves : (d : DriverContent) (m : Mem) (x : EpDesc) (p : Placement) (g : Holding) (bs : List ℕ) → Stands (holding d.book m) → IsShaped m → AreTaken (holding d.book m) g (2 ∷ 1 ∷ []) bs
     → Leaves m (accepted_chain d x p g (get_or bs 0 0) (get_or bs 1 0)).memory
@@ -90,11 +88,11 @@ leaves_lent d m o (chains why) place =
     subst (λ (f : Offered). Leaves m f.memory) (sym why.is)
     (subst (λ (rs : List ℕ). Leaves m (accepted_chain d why.desc why.placement why.holding_after (get_or rs 0 0) (get_or rs 1 0)).memory) (sym new)
     (chain_leaves d m why.desc why.placement why.holding_after all.blocks place.sound.stands place.sound.shape all.are))
-leaves_lent d m o (places why) place = subst (λ (f : Offered). Leaves m f.memory) (sym why.is) (nothing_written m place.sound.shape)
+leaves_lent d m o (places why) place = subst (λ (f : Offered). Leaves m f.memory) (sym why.is) (leaves_itself m place.sound.shape)
 leaves_lent d m o (transfers why) place = transfer_leaves d m o why place.sound.owners place.sound.stands place.sound.shape
 leaves_lent d m o (describes why) place = describes_leaves d m o why place.sound.stands place.sound.shape
-leaves_lent d m o (cancels why) place = subst (λ (f : Offered). Leaves m f.memory) (sym why.is) (nothing_written m place.sound.shape)
-leaves_lent d m o (unchains why) place = subst (λ (f : Offered). Leaves m f.memory) (sym why.is) (nothing_written m place.sound.shape)
+leaves_lent d m o (cancels why) place = subst (λ (f : Offered). Leaves m f.memory) (sym why.is) (leaves_itself m place.sound.shape)
+leaves_lent d m o (unchains why) place = subst (λ (f : Offered). Leaves m f.memory) (sym why.is) (leaves_itself m place.sound.shape)
 
 idle_by : (d : DriverContent) (m : Mem) (o : Offered) → Accepts d m o → d.command ≡ None
 idle_by d m o (opens why) = why.idle

@@ -1,5 +1,5 @@
 -- What is read of a descriptor has the fields that stand in memory, and each event of the controller leaves them.
-use Rattle.std.proofs.Common.{◌≡◌, ℕ, ◌+◌, ◌*◌, ◌/◌, ◌<◌, Bool, true, false, slice_get, Some, None, Result, Ok, Err, option_map, ap, refl, sym, subst, ◌∙◌, arith, if◌then◌else◌}
+use Rattle.std.proofs.Common.{◌≡◌, ℕ, ◌+◌, ◌*◌, ◌/◌, ◌<◌, Bool, true, false, slice_get, Some, None, Ok, option_map, ap, refl, sym, subst, ◌∙◌, arith, if◌then◌else◌}
 use Rattle.std.specs.Prelude.{is_some}
 use Rattle.std.specs.Result.{result_ok}
 use Rattle.std.proofs.lemmas.Bool.{false≢true, false_from_ne_true}
@@ -13,7 +13,6 @@ use Rattle.run_book.specs.declared.slots.Slot.{Slot}
 use Rattle.run_book.specs.declared.slots.Slot.TheVariants as slots
 use Rattle.run_book.specs.Book.{holding, slot_of}
 use Rattle.run_book.proofs.Standing.{keeps_at, keeps_all}
-use Rattle.link_words.specs.declared.refusal.Bad.{Bad}
 use Rattle.itd_sitd.specs.declared.itd.Itd.{Itd}
 use Rattle.itd_sitd.specs.Itd.{slot_of as microframe_of, itd_at, itd_read, itd_words}
 use Rattle.itd_sitd.proofs.ItdLaws.{itd_read-words, itd_read-is}
@@ -25,6 +24,7 @@ use Rattle.driver_laws.specs.run_owners.Owners.{HasBlocks, TransferRuns, is_desc
 use Rattle.driver_laws.specs.run_owners.Kept.{HasOwners}
 use Rattle.driver_laws.specs.PartOpened.{opening_base}
 use Rattle.driver_laws.specs.Inventory.{OfIsochronous, sort_of, IsLent, sorts_of, IsDriven}
+use Rattle.driver_laws.proofs.lemmas.chained_transfers.Harvesting.{waits_is}
 use Rattle.ring_laws.specs.lent_structures.Structures.{Isochronous, SplitIsochronous, Structures, StructureSets, HoldsIsochronous}
 use Rattle.ring_laws.specs.walk_writes.Writes.{WritesLent}
 use Rattle.lent_accesses.proofs.lemmas.lent_writes.Controlling.{controller_writes_lent}
@@ -42,15 +42,11 @@ use Rattle.stream_worlds.proofs.StreamTurning.{world_has_row}
 use Rattle.bus_world.specs.World.{World, controller_parts, controller_next}
 use Rattle.mixed_worlds.specs.Mixed.{Standing, IsMixedAt}
 use Rattle.frame_visits.specs.DescriptorFields.{itd_in, ItdIsRead, HarvestedIsRead, NewItdsStand, ControllerKeepsItds}
-use Rattle.frame_visits.proofs.BelongQueues.{waits_told}
 use Rattle.frame_visits.proofs.BelongDescriptors.{not_driven}
 use Rattle.frame_visits.proofs.BelongFields.{event_of}
+use Rattle.frame_visits.proofs.BelongReads.{ok_is}
 
 -- ---- what is read
-
-ok_is : (r : Result Itd Bad) (v : Itd) → result_ok r ≡ Some v → r ≡ Ok v
-ok_is (Ok u) v is = ap Ok (same_Some u v is)
-ok_is (Err bad) v is = absurd (cc)
 
 read_ok : (m : Mem) (a : ℕ) (v : Itd) (b : Bool) → (if b then result_ok (itd_read (words_at m a 16)) else None) ≡ Some v → itd_read (words_at m a 16) ≡ Ok v
 read_ok m a v true is = ok_is (itd_read (words_at m a 16)) v is
@@ -61,7 +57,7 @@ pub read_is : (m : Mem) (a : ℕ) (v : Itd) → itd_at_address m a ≡ Some v �
 read_is m a v is = itd_read-is (words_at m a 16) v (read_ok m a v (reaches_itd m a) is)
 
 -- one that is told is what its words are
-told_is : (m : Mem) (a : ℕ) (v : Itd) → HoldsIsochronous m a v → itd_at (words_at m a 16) ≡ v
+pub told_is : (m : Mem) (a : ℕ) (v : Itd) → HoldsIsochronous m a v → itd_at (words_at m a 16) ≡ v
 told_is m a v h = ap itd_at h.words ∙ sym (itd_read-is (itd_words v) v (itd_read-words v h.range))
 
 -- ---- an iTD stands there, and no siTD
@@ -100,7 +96,7 @@ pub itd_is_read : ItdIsRead
 itd_is_read s w n v b k is have reads =
     let y = b.transfer in
     let x = b.belongs.endpoint in
-    let of = waits_told b.belongs.number y b.waits in
+    let of = waits_is b.belongs.number y b.waits in
     let h = have b.number y x b.belongs.placement b.there b.sort b.held (noted s w n k is y.first b.name) (ap (slice_get w.driver.endpoints) of.0 ∙ b.belongs.here) b.belongs.placed in
     let same : v ≡ itd_in w.memory y.first = read_in s w n k is y.first v b.name reads in
     record {

@@ -1,5 +1,5 @@
 -- An event of the driver leaves in the plan the placements of those whose queue heads may be met.
-use Rattle.std.proofs.Common.{◌≡◌, ◌≢◌, ℕ, ◌*◌, false, slice_get, Some, None, ap, refl, sym, subst, ◌∙◌}
+use Rattle.std.proofs.Common.{◌≡◌, ◌≢◌, ℕ, ◌*◌, false, slice_get, Some, ap, refl, sym, subst, ◌∙◌}
 use Rattle.usb_base.specs.declared.endpoints.EpDesc.{EpDesc}
 use Rattle.usb_base.specs.declared.packets.EpKind.{EpKind}
 use Rattle.usb_base.specs.declared.packets.EpKind.TheVariants as kinds
@@ -14,6 +14,7 @@ use Rattle.frame_walk.specs.Met.{Kind}
 use Rattle.described_parts.specs.Meeting.{met}
 use Rattle.described_parts.proofs.GivenRow.{row_is_given_back}
 use Rattle.described_parts.proofs.Waiting.{waiting_unmet}
+use Rattle.described_parts.proofs.Returning.{none_some}
 use Rattle.mixed_worlds.proofs.lemmas.framed_memory.LeavingUnmet.{interrupt_unmet}
 use Rattle.visit_budgets.specs.visit_prices.Spent.{IsAmong, placed_as}
 use Rattle.bus_world.specs.World.{World, driver_parts, driver_next}
@@ -66,22 +67,19 @@ queue_stays d later n b k =
       placed = sym same;
     }
 
-none_met : (kind : Kind) → None ≡ Some kind → ⊥
-none_met kind same = cc
-
 -- what is given back next isn't met
 not_given : (s : Standing) (w : World) (n : ℕ) (kind : Kind) → IsMixedAt s w → met w.driver s.recent n ≡ Some kind → (e : ℕ) (x : Endpoint) → slice_get w.driver.endpoints e ≡ Some x
     → IsStructureOf w.driver n e x → driver_row (driver_parts w) ≢ rows.ReleaseRemoved (removed.Endpoint e)
 not_given s w n kind k is e x here (a_queue queue name) row =
     let parts = driver_parts w in
     let sound = k.now.framed.place.sound in
-    none_met kind
+    none_some kind
     (sym (interrupt_unmet parts s.recent w.registers.frame_index e x sound.owners sound.listed k.now.recent_are (row_is_given_back parts (removed.Endpoint e) row) here (not_iso queue))
     ∙ ap (met w.driver s.recent) (sym name) ∙ is)
 not_given s w n kind k is e x here (a_descriptor t y iso there sort waits name) row =
     let parts = driver_parts w in
     let sound = k.now.framed.place.sound in
-    none_met kind
+    none_some kind
     (sym (waiting_unmet parts s.recent w.registers.frame_index e t x y sound.owners sound.listed k.now.recent_are (row_is_given_back parts (removed.Endpoint e) row) here (ap is_iso iso) there sort waits)
     ∙ ap (met w.driver s.recent) (sym name) ∙ is)
 

@@ -1,7 +1,7 @@
 -- Each queue head that the walk of the frames may meet is that of an interrupt endpoint, whose placement is in the plan.
 use Rattle.std.proofs.Common.{◌≡◌, ℕ, ◌*◌, ◌/◌, ◌≤◌, Bool, true, false, slice_get, Option, Some, None, option_map, ap, refl, sym, subst, ◌∙◌, ⊎_elim, arith, if◌then◌else◌}
 use Rattle.std.specs.Prelude.{◌||◌, ◌&&◌, ◌==◌, not, is_some}
-use Rattle.std.proofs.lemmas.Bool.{false≢true, true≢false, eqb-true, and_parts}
+use Rattle.std.proofs.lemmas.Bool.{false≢true, true≢false, and_from, eq-eqb}
 use Rattle.std.proofs.lemmas.Option.{same_Some}
 use Rattle.usb_base.specs.declared.packets.EpKind.{EpKind}
 use Rattle.usb_base.specs.declared.packets.EpKind.TheVariants as kinds
@@ -30,6 +30,7 @@ use Rattle.frame_laws.proofs.lemmas.planned_endpoints.Laws.{endpoint_planned}
 use Rattle.frame_laws.proofs.lemmas.list_spread.Spreading.{queue_there, members_spread}
 use Rattle.ring_laws.specs.lent_structures.Structures.{Structure, QueueHead, StructureSets}
 use Rattle.driver_laws.specs.Inventory.{Sort, OfQueueHead, sort_of, sorts_of, IsDriverOwned, the_head, a_queue as of_a_queue, IsDriven}
+use Rattle.driver_laws.proofs.lemmas.chained_transfers.Harvesting.{waits_is}
 use Rattle.frame_walk.specs.Met.{Kind, AQueue, IsMetQueue}
 use Rattle.described_parts.specs.Described.{HasDescriptor, AreDescribed}
 use Rattle.described_parts.specs.Both.{owns, both}
@@ -80,12 +81,8 @@ module _ (d : DriverContent) (has : HasOwners d) (planned : IsPlanned d) (n e : 
 
 -- ---- the driver's endpoints and transfers
 
-pub waits_told : (e : ℕ) (z : Transfer) → waits_for e z ≡ true → (z.endpoint ≡ e) × (z.reported ≡ false)
-waits_told e z is = let a = and_parts (z.endpoint == e) (not z.reported) is in (eqb-true z.endpoint e a.0, turned z.reported a.1)
-  where
-    turned : (b : Bool) → not b ≡ true → b ≡ false
-    turned true is = absurd (false≢true is)
-    turned false is = refl
+pub waits_by : (z : Transfer) → not z.reported ≡ true → waits_for z.endpoint z ≡ true
+waits_by z off = and_from (z.endpoint == z.endpoint) (not z.reported) (eq-eqb z.endpoint z.endpoint refl) off
 
 pub endpoint_same : (f e : ℕ) → removed.Endpoint f ≡ removed.Endpoint e → f ≡ e
 endpoint_same f e same = cc
@@ -131,7 +128,7 @@ module _ (d : DriverContent) (has : HasOwners d) where
   waiting_held e t x y here kept there waits = by y.released refl
     where
       told : (y.endpoint ≡ e) × (y.reported ≡ false)
-      told = waits_told e y waits
+      told = waits_is e y waits
 
       by : (b : Bool) → y.released ≡ b → y.released ≡ false
       by false is = is

@@ -2,8 +2,6 @@
 use Rattle.std.proofs.Common.{◌≡◌, ℕ, ◌+◌, ◌*◌, ◌/◌, max, Bool, true, false, List, slice_get, slice_index, Some, None, Result, Ok, Err, ap, refl, sym, subst, ◌∙◌, arith, if◌then◌else◌}
 use Rattle.std.specs.Result.{result_ok}
 use Rattle.std.proofs.lemmas.Option.{same_Some}
-use Rattle.usb_base.specs.declared.packets.EpKind.{EpKind}
-use Rattle.usb_base.specs.declared.packets.EpKind.TheVariants as kinds
 use Rattle.word_mem.specs.Memory.{Mem, word_at}
 use Rattle.word_mem.specs.Views.{words_in, words_at}
 use Rattle.link_words.specs.Layout.{bits}
@@ -32,9 +30,9 @@ fields_at ws = record { eps = refl; longest = refl; mult = refl; smask = refl }
 pub fields_read : (ws : List ℕ) (q : Qh) → qh_read ws ≡ Ok q → HasReadFields (slice_index ws 1) (slice_index ws 2) q
 fields_read ws q is = subst (HasReadFields (slice_index ws 1) (slice_index ws 2)) (sym (qh_read-is ws q is)) (fields_at ws)
 
-ok_is : (r : Result Qh Bad) (q : Qh) → result_ok r ≡ Some q → r ≡ Ok q
-ok_is (Ok v) q is = ap Ok (same_Some v q is)
-ok_is (Err bad) q is = absurd (cc)
+pub ok_is : {X : Type 0} (r : Result X Bad) (x : X) → result_ok r ≡ Some x → r ≡ Ok x
+ok_is (Ok y) x is = ap Ok (same_Some y x is)
+ok_is (Err bad) x is = absurd (cc)
 
 read_ok : (m : Mem) (a : ℕ) (q : Qh) (b : Bool) → (if b then result_ok (qh_read (words_at m a 12)) else None) ≡ Some q → qh_read (words_at m a 12) ≡ Ok q
 read_ok m a q true is = ok_is (qh_read (words_at m a 12)) q is
@@ -53,13 +51,10 @@ read_fields m a q is =
     subst (λ (second : ℕ). HasReadFields (word_at m (a + 4)) second q) (word_two m.words a)
     (subst (λ (first : ℕ). HasReadFields first (slice_index (words_at m a 12) 2) q) (word_one m.words a) (fields_read (words_at m a 12) q (read_ok m a q (reaches_queue_head m a) is)))
 
-interrupt_queue : {k : EpKind} → k ≡ kinds.Interrupt → is_iso k ≡ false
-interrupt_queue is = ap is_iso is
-
 pub head_is_read : HeadIsRead
 head_is_read w n q b have high is =
     let x = b.belongs.endpoint in
-    let h = have b.belongs.number x b.belongs.placement b.belongs.here (interrupt_queue b.kind) b.belongs.kept b.belongs.placed in
+    let h = have b.belongs.number x b.belongs.placement b.belongs.here (ap is_iso b.kind) b.belongs.kept b.belongs.placed in
     let r = read_fields w.memory (32 * x.queue) q (ap (queue_head_at_address w.memory) (sym b.name) ∙ is) in
     record {
       speed = high;

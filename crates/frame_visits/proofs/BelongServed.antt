@@ -1,8 +1,8 @@
 -- Each iTD that was harvested stays served over an event of the driver: what it reports next was served then.
 use Rattle.std.proofs.Common.{◌≡◌, ◌≢◌, ℕ, zero, suc, ◌+◌, ◌*◌, ◌/◌, ◌<◌, Bool, true, false, List, [], ◌∷◌, set, slice_get, slice_index, Option, Some, ap, refl, sym, subst, ◌∙◌, ⊎_elim, inl, inr, arith, if◌then◌else◌}
-use Rattle.std.specs.Prelude.{◌⊎◌, not}
+use Rattle.std.specs.Prelude.{◌⊎◌}
 use Rattle.std.specs.List.{list_any}
-use Rattle.std.proofs.lemmas.Bool.{false≢true, or_parts, cases_eq}
+use Rattle.std.proofs.lemmas.Bool.{false≢true, or_parts, cases_eq, not-true}
 use Rattle.std.proofs.lemmas.Option.{same_Some}
 use Rattle.word_mem.specs.Memory.{Mem}
 use Rattle.word_mem.specs.Views.{words_in}
@@ -25,10 +25,10 @@ use Rattle.driver_laws.specs.run_owners.Due.{IsDue, IsHarvestDue}
 use Rattle.driver_laws.specs.run_owners.Owners.{is_descriptor}
 use Rattle.driver_laws.proofs.lemmas.run_owners.Reasons.{each_is_due}
 use Rattle.driver_laws.proofs.lemmas.run_owners.Released.{set_there}
+use Rattle.driver_laws.proofs.lemmas.chained_transfers.Harvesting.{waits_is}
 use Rattle.bus_world.specs.World.{World, driver_parts, driver_next}
 use Rattle.mixed_worlds.specs.Mixed.{IsMixedWorld}
 use Rattle.frame_visits.specs.DescriptorFields.{itd_in, IsServed, HarvestedAreServed, DriverKeepsItds}
-use Rattle.frame_visits.proofs.BelongQueues.{waits_told}
 use Rattle.frame_visits.proofs.BelongItds.{off_still}
 use Rattle.frame_visits.proofs.BelongTold.{Reports}
 use Rattle.frame_visits.proofs.BelongItdRows.{HadItd, had_itd, driver_keeps_itd_fields}
@@ -66,13 +66,9 @@ below_eight (suc (suc (suc (suc (suc (suc zero)))))) small = refl
 below_eight (suc (suc (suc (suc (suc (suc (suc zero))))))) small = refl
 below_eight (suc (suc (suc (suc (suc (suc (suc (suc u)))))))) small = absurd (omega (arith, small))
 
-not_true : (b : Bool) → not b ≡ true → b ≡ false
-not_true true is = absurd (false≢true is)
-not_true false is = refl
-
 served_is : (d : DriverContent) (m : Mem) (b : ℕ) → (note_at d.periodic.notes b).split ≡ false → is_served (note_at d.periodic.notes b) m b ≡ true → IsServed (itd_in m b)
 served_is d m b split served u small =
-    let off : itd_is_active m b ≡ false = subst (λ (c : Bool). (if c then (sitd_in m b).active else itd_is_active m b) ≡ false) split (not_true _ served) in
+    let off : itd_is_active m b ≡ false = subst (λ (c : Bool). (if c then (sitd_in m b).active else itd_is_active m b) ≡ false) split (not-true _ served) in
     ap (λ s. s.active) (slot_is m b u small) ∙ any_none (λ (i : ℕ). (slot_in m b i).active) (below 8) u u off (below_eight u small)
 
 -- ---- a harvest of a descriptor
@@ -112,7 +108,7 @@ served_after w mixed old t z b after reported (rows.Harvest e v found) is same =
     let y = b.before in
     let due : IsHarvestDue parts e v found = subst (IsDue parts) is (each_is_due parts) in
     let a = due.transfer in
-    let at_endpoint : a.endpoint ≡ e = (waits_told e a due.waits).0 in
+    let at_endpoint : a.endpoint ≡ e = (waits_is e a due.waits).0 in
     let iso : is_iso due.endpoint.desc.kind ≡ true = sym (orderly.sorts t y due.endpoint b.there (ap (slice_get d.endpoints) same ∙ due.here)) ∙ b.sort in
     let sort : a.sort ≡ sorts.Descriptor = sort_is a.sort (orderly.sorts v a due.endpoint due.there (ap (slice_get d.endpoints) at_endpoint ∙ due.here) ∙ iso) in
     let tells = due.tells ∙ ap (found_of d w.memory a) sort in

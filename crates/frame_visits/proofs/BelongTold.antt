@@ -25,8 +25,8 @@ use Rattle.driver_rows.specs.Rows.{Parts, is_iso, events_of, links, removes_memb
 use Rattle.driver_rows.specs.Rows.{after_transfer, freed_by, is_told, cancel_told, let_go, let_go_placed, after_endpoint, after_unlink, after_descriptor, after_placed, after_removed}
 use Rattle.driver_rows.specs.Rows.{told_with, behind_one, behind, after_end, harvested_as, served, after_harvest}
 use Rattle.driver_laws.proofs.lemmas.run_owners.Released.{set_here, set_there}
+use Rattle.driver_laws.proofs.lemmas.chained_transfers.Harvesting.{waits_is}
 use Rattle.admission_laws.proofs.Events.{either}
-use Rattle.frame_visits.proofs.BelongQueues.{waits_told}
 
 -- ---- what a transfer was
 
@@ -193,7 +193,7 @@ module _ (new : ℕ → Type 0) where
 
   -- one of the endpoint that is harvested is reported
   is_told_of : (e : ℕ) (x : Transfer) → waits_for e x ≡ true → new e → WasOf new x (record x { reported = true })
-  is_told_of e x waits fits = record { endpoint = refl; sort = refl; first = refl; held = λ off. off; told = λ off on. inr (subst new (sym (waits_told e x waits).0) fits) }
+  is_told_of e x waits fits = record { endpoint = refl; sort = refl; first = refl; held = λ off. off; told = λ off on. inr (subst new (sym (waits_is e x waits).0) fits) }
 
   either_way : (d : DriverContent) (b : Bool) (f g : DriverContent) → (b ≡ true → AllWere d.transfers f.transfers) → AllWere d.transfers g.transfers → AllWere d.transfers (if b then f else g).transfers
   either_way d true f g one two = one refl

@@ -31,7 +31,9 @@ use Rattle.frame_walk.specs.Met.{Kind}
 use Rattle.frame_visits.specs.Belonging.{IsQueueAt, IsStillAt}
 use Rattle.frame_visits.specs.Ranks.{next_of}
 use Rattle.frame_visits.specs.DriverVisitLaws.{CommandLeavesVisits}
-use Rattle.frame_visits.specs.Visited.{VisitsGoOn, VisitsGoOnAt}
+use Rattle.frame_visits.specs.Visited.{NewIsFirst, VisitsGoOn, VisitsGoOnAt}
+use Rattle.frame_visits.proofs.ActiveBefore.{command_before}
+use Rattle.frame_visits.proofs.NewFirst.{linking_first, next_first}
 use Rattle.frame_visits.proofs.DriverGoesOn.{IsListSpread, LeavesMembers, goes_on}
 use Rattle.frame_visits.proofs.DriverVisits.{half_led}
 use Rattle.frame_visits.proofs.InFrames.{same_back}
@@ -39,7 +41,7 @@ use Rattle.frame_visits.proofs.InFramesCommands.{command_back}
 use Rattle.frame_visits.proofs.OwnSteps.{same_list, linking_half, next_led, next_half, ended_list}
 use Rattle.frame_visits.proofs.ToldLinks.{HasOwn, own_met, told_same}
 
-module _ (s : Standing) (w : World) (k : IsMixedAt s w) (vs : List ℕ) (v : VisitsGoOnAt s w vs) (line : ℕ) (cmd : Cmd) where
+module _ (s : Standing) (w : World) (k : IsMixedAt s w) (start : World) (vs : List ℕ) (v : VisitsGoOnAt s start w vs) (line : ℕ) (cmd : Cmd) where
   module _ (o : Offered) (room : IsOffered w.driver.room cmd) (is : offered w.driver w.memory cmd ≡ Ok o) where
     abbrev d : DriverContent
     d = w.driver
@@ -80,7 +82,11 @@ module _ (s : Standing) (w : World) (k : IsMixedAt s w) (vs : List ℕ) (v : Vis
     leaves_by (opens why) = same_list w.driver o.driver (ap (λ (f : Offered). f.driver.periodic.list) why.is)
     leaves_by (chains why) =
         subst (λ (f : Offered). LeavesMembers w.driver f.driver) (sym why.is)
-        (record { led_same = linking_led w.driver.periodic.list (queue_member (slice_index (new_runs w.driver why.holding_after) 0) why.placement) k.now.framed.list.list.order.kept; half = λ x under adds made. linking_half w.driver.periodic.list (queue_member (slice_index (new_runs w.driver why.holding_after) 0) why.placement) x under adds made })
+        (record {
+          led_same = linking_led w.driver.periodic.list (queue_member (slice_index (new_runs w.driver why.holding_after) 0) why.placement) k.now.framed.list.list.order.kept;
+          half = λ x under adds made. linking_half w.driver.periodic.list (queue_member (slice_index (new_runs w.driver why.holding_after) 0) why.placement) x under adds made;
+          first = λ old. linking_first w.driver.periodic.list (queue_member (slice_index (new_runs w.driver why.holding_after) 0) why.placement) old;
+        })
     leaves_by (places why) = same_list w.driver o.driver (ap (λ (f : Offered). f.driver.periodic.list) why.is)
     leaves_by (transfers why) = same_list w.driver o.driver (ap (λ (f : Offered). f.driver.periodic.list) why.is)
     leaves_by (describes why) = same_list w.driver o.driver (ap (λ (f : Offered). f.driver.periodic.list) why.is)
@@ -93,6 +99,7 @@ module _ (s : Standing) (w : World) (k : IsMixedAt s w) (vs : List ℕ) (v : Vis
           led_same = ap led_in (ended_list f (unfinished.Unchain why.number)) ∙ next_led true (record w.driver.periodic { queued = ms }) k.now.framed.list.list.order.kept;
           half = λ x under adds made.
               next_half true (record w.driver.periodic { queued = ms }) x (sym (ap (λ (p : Periodic). p.work) (ended_list f (unfinished.Unchain why.number))) ∙ under) adds made;
+          first = λ old. subst NewIsFirst (sym (ended_list f (unfinished.Unchain why.number))) (next_first true (record w.driver.periodic { queued = ms }) old);
         })
 
     -- ---- what was unlinked in this microframe
@@ -141,9 +148,9 @@ module _ (s : Standing) (w : World) (k : IsMixedAt s w) (vs : List ℕ) (v : Vis
     back : (n : ℕ) (kind : Kind) → met w.driver v.visits.left n ≡ Some kind → (b : IsQueueAt o.driver n) → IsStillAt b w.driver
     back n kind on b = command_back s w k v.visits.left v.visits.left_are cmd o is now.framed.place.sound.owners n kind on b
 
-    accepted_visits : VisitsGoOn (record w { driver = o.driver; memory = o.memory }) vs
+    accepted_visits : VisitsGoOn start (record w { driver = o.driver; memory = o.memory }) vs
     accepted_visits =
-        goes_on w (record w { driver = o.driver; memory = o.memory }) vs v.visits spread spread_now (half_led s w k vs v)
+        goes_on start w (record w { driver = o.driver; memory = o.memory }) vs v.visits spread spread_now (half_led s w k start vs v)
         (record {
           leaves = leaves_by reason;
           links = links;
@@ -151,13 +158,14 @@ module _ (s : Standing) (w : World) (k : IsMixedAt s w) (vs : List ℕ) (v : Vis
           control = refl;
           kept_stay = λ n on. let there = v.left_within n on in back n there.0 there.1;
           met_stay = back;
+          starts_none = λ e f n on. let there = v.within n on in command_before s w k cmd o is reason e f n there.0 there.1;
         })
 
-  refused_visits : (why : OfferError) → VisitsGoOn (commanded_by w line (name_in cmd) (Err why)) vs
+  refused_visits : (why : OfferError) → VisitsGoOn start (commanded_by w line (name_in cmd) (Err why)) vs
   refused_visits why =
       let new : World = commanded_by w line (name_in cmd) (Err why) in
       let listed : IsListSpread w.driver = (has_frames opening_base s.member s.recent s.descs s.parts s.hand s.frame (controller_parts w) w.driver k.now).spread in
-      goes_on w new vs v.visits listed listed (half_led s w k vs v)
+      goes_on start w new vs v.visits listed listed (half_led s w k start vs v)
       (record {
         leaves = same_list w.driver new.driver refl;
         links = λ n on. refl;
@@ -165,14 +173,26 @@ module _ (s : Standing) (w : World) (k : IsMixedAt s w) (vs : List ℕ) (v : Vis
         control = refl;
         kept_stay = λ n on. same_back w.driver new.driver k.now.planned refl refl n;
         met_stay = λ n kind on. same_back w.driver new.driver k.now.planned refl refl n;
+        starts_none = λ e f n on a. record {
+          number = a.number;
+          transfer = a.transfer;
+          here = a.here;
+          descriptor = a.descriptor;
+          held = a.held;
+          lent = a.lent;
+          endpoint = a.endpoint;
+          frame = a.frame;
+          at = a.at;
+          active = a.active;
+        };
       })
 
-  by_offer : (r : Result Offered OfferError) → IsOffered w.driver.room cmd → offered w.driver w.memory cmd ≡ r → VisitsGoOn (commanded_by w line (name_in cmd) r) vs
+  by_offer : (r : Result Offered OfferError) → IsOffered w.driver.room cmd → offered w.driver w.memory cmd ≡ r → VisitsGoOn start (commanded_by w line (name_in cmd) r) vs
   by_offer (Ok o) room is = accepted_visits o room is
   by_offer (Err why) room is = refused_visits why
 
-  pub command_visits : IsOffered w.driver.room cmd → VisitsGoOn (commanded w line cmd) vs
+  pub command_visits : IsOffered w.driver.room cmd → VisitsGoOn start (commanded w line cmd) vs
   command_visits room = by_offer (offered w.driver w.memory cmd) room refl
 
 pub command_leaves_visits : CommandLeavesVisits
-command_leaves_visits s w line cmd vs room k v = command_visits s w k vs v line cmd room
+command_leaves_visits s start w line cmd vs room k v = command_visits s w k start vs v line cmd room

@@ -10,6 +10,7 @@ use Rattle.frame_chains.proofs.Linking.{weaken}
 use Rattle.frame_members.specs.Members.{is_linked}
 use Rattle.periodic_list.specs.declared.work.Work.{Work}
 use Rattle.driver_rows.specs.DriverContent.{DriverContent}
+use Rattle.hc_core.specs.declared.controller.MicroframePart.TheVariants.{Periodic}
 use Rattle.hc_core.specs.Controller.{Control}
 use Rattle.frame_laws.specs.frame_words.InWords.{IsSpread}
 use Rattle.frame_walk.specs.Met.{Kind}
@@ -20,8 +21,9 @@ use Rattle.described_parts.proofs.Finding.{member_kind, IsMemberAt, member_at}
 use Rattle.described_parts.proofs.Leading.{led_spread}
 use Rattle.bus_world.specs.World.{World}
 use Rattle.frame_visits.specs.Belonging.{IsQueueAt, IsStillAt}
-use Rattle.frame_visits.specs.Ranks.{next_of, height_to, begins, IsRanked}
-use Rattle.frame_visits.specs.Visited.{WasVisited, IsBehind, IsActiveAs, VisitsGoOn, frame_in}
+use Rattle.frame_visits.specs.OneDescriptor.{IsActiveDescriptor}
+use Rattle.frame_visits.specs.Ranks.{name_of, next_of, height_to, begins, IsRanked}
+use Rattle.frame_visits.specs.Visited.{WasVisited, IsBehind, IsActiveAs, NewIsFirst, VisitsGoOn, link_ahead, frame_in}
 
 -- the members of the list are spread
 abbrev pub IsListSpread : DriverContent → Type 0
@@ -50,9 +52,6 @@ stands_still d new n kind spread more is =
 pub record IsMetStill (d : DriverContent) (left : ℕ → Option Kind) (n : ℕ) : Type 0 where
   pub kind : Kind
   pub is : met d left n ≡ Some kind
-
-some_none : {X : Type 0} (o : Option X) (x : X) → o ≡ None → o ≡ Some x → ⊥
-some_none o x none some = cc
 
 -- one that stood stands, or is left; and what was left is
 pub met_still : (d new : DriverContent) (left later : ℕ → Option Kind) (n : ℕ) (kind : Kind) → met d left n ≡ Some kind → ((kind : Kind) → standing d n ≡ Some kind → IsMetStill new later n)
@@ -99,6 +98,7 @@ were_active_still d new left who frame (v ∷ vs) back were all =
 pub record LeavesMembers (d new : DriverContent) : Type 0 where
   pub led_same : led new ≡ led d
   pub half : (w : Work) → new.periodic.list.work ≡ Some w → w.removes ≡ false → 1 ≤ w.made → d.periodic.list.work ≡ Some w
+  pub first : NewIsFirst d.periodic.list → NewIsFirst new.periodic.list
 
 pub ranked_on : (m after : Mem) (d new : DriverContent) (kept : ℕ → Bool) (height : ℕ → ℕ) (who : ℕ → Member) → IsRanked m d kept height who → IsListSpread d → LeavesMembers d new
     → ((n : ℕ) → kept n ≡ true → next_of after n ≡ next_of m n) → (begins_kept : (w : Work) → new.periodic.list.work ≡ Some w → w.removes ≡ false → 1 ≤ w.made → kept (begins w.member) ≡ true)
@@ -123,10 +123,11 @@ pub record Elsewhere (w new : World) (kept : ℕ → Bool) (left : ℕ → Optio
   pub control : new.control ≡ w.control
   pub kept_stay : (n : ℕ) → kept n ≡ true → (b : IsQueueAt new.driver n) → IsStillAt b w.driver
   pub met_stay : (n : ℕ) (kind : Kind) → met w.driver left n ≡ Some kind → (b : IsQueueAt new.driver n) → IsStillAt b w.driver
+  pub starts_none : (e f n : ℕ) → kept n ≡ true → IsActiveDescriptor new.driver new.memory e f n → IsActiveDescriptor w.driver w.memory e f n
 
-pub goes_on : (w new : World) (vs : List ℕ) → (v : VisitsGoOn w vs) → IsListSpread w.driver → IsListSpread new.driver
-    → ((x : Work) → w.driver.periodic.list.work ≡ Some x → x.removes ≡ false → 1 ≤ x.made → is_linked (led w.driver) x.member ≡ true) → Elsewhere w new v.kept v.left → VisitsGoOn new vs
-goes_on w new vs v spread after half e =
+pub goes_on : (start w new : World) (vs : List ℕ) → (v : VisitsGoOn start w vs) → IsListSpread w.driver → IsListSpread new.driver
+    → ((x : Work) → w.driver.periodic.list.work ≡ Some x → x.removes ≡ false → 1 ≤ x.made → is_linked (led w.driver) x.member ≡ true) → Elsewhere w new v.kept v.left → VisitsGoOn start new vs
+goes_on start w new vs v spread after half e =
     let d : DriverContent = w.driver in
     let still : (n : ℕ) (kind : Kind) → met d v.left n ≡ Some kind → IsMetStill new.driver v.left n
     = λ n kind is. met_still d new.driver v.left v.left n kind is
@@ -151,4 +152,13 @@ goes_on w new vs v spread after half e =
           });
       active = λ n on. active_still d new.driver n (v.who n) (e.kept_stay n on) (v.active n on);
       were_active = were_active_still d new.driver v.left v.who (frame_in w.control.frame.index) vs (λ n was. e.met_stay n was.kind was.is_met) v.behind.were v.were_active;
+      goes = record {
+        ahead = v.goes.ahead;
+        are_kept = v.goes.are_kept;
+        closed = λ n k on is. v.goes.closed n k on (sym (e.links n (v.goes.are_kept n on)) ∙ is);
+        next = subst (λ (c : Control). (k : ℕ) → c.part ≡ Periodic → name_of (link_ahead c.frame.hand c.frame.cursor) ≡ Some k → v.goes.ahead k ≡ true) (sym e.control) v.goes.next;
+        first = e.leaves.first v.goes.first;
+        old = λ i f n on a. v.goes.old i f n on (e.starts_none i f n (v.goes.are_kept n on) a);
+      };
+      alone = λ n on i f g a stands. v.alone n on i f g (e.starts_none i f n on a) stands;
     }

@@ -25,7 +25,7 @@ use Rattle.frame_visits.proofs.DriverVisits.{rest_visits, status_visits, cleared
 use Rattle.frame_visits.proofs.ReturnVisits.{transfer_visits, removed_visits, endpoint_visits}
 use Rattle.frame_visits.proofs.HarvestVisits.{harvest_visits}
 
-module _ (s : Standing) (w : World) (k : IsMixedAt s w) (vs : List ℕ) (v : VisitsGoOnAt s w vs) where
+module _ (s : Standing) (w : World) (k : IsMixedAt s w) (start : World) (vs : List ℕ) (v : VisitsGoOnAt s start w vs) where
   -- ---- a queue head is linked in its frames
 
   chain_there : w.driver.command ≡ Some unfinished.Chain → 1 ≤ w.driver.made → IsChainThere w.driver s.member s.recent s.parts
@@ -40,7 +40,7 @@ module _ (s : Standing) (w : World) (k : IsMixedAt s w) (vs : List ℕ) (v : Vis
       → FramedLinked opening_base s.member s.recent s.descs s.parts s.hand s.frame (controller_parts w) w.driver why.store
   linked_by why comes = link_now opening_base s.member s.recent s.descs s.parts s.hand s.frame (controller_parts w) w.driver k.now why comes
 
-  link_visits : (c : Command) → (why : IsLinkOf (driver_parts w) (driver_row (driver_parts w))) → why.command ≡ c → VisitsGoOn (driver_next w) vs
+  link_visits : (c : Command) → (why : IsLinkOf (driver_parts w) (driver_row (driver_parts w))) → why.command ≡ c → VisitsGoOn start (driver_next w) vs
   link_visits (unfinished.Open queue) why is = absurd (false≢true (ap links (sym is) ∙ why.links))
   link_visits (unfinished.Publish b words) why is = absurd (false≢true (ap links (sym is) ∙ why.links))
   link_visits (unfinished.Unlink e b link) why is = absurd (false≢true (ap links (sym is) ∙ why.links))
@@ -48,45 +48,45 @@ module _ (s : Standing) (w : World) (k : IsMixedAt s w) (vs : List ℕ) (v : Vis
       let command : w.driver.command ≡ Some unfinished.Chain = why.unfinished ∙ ap (λ (c : Command). Some c) is in
       let late : 1 ≤ w.driver.made = subst (λ (c : Command). length (events_of c) ≤ w.driver.made) is why.late in
       let t : IsChainThere w.driver s.member s.recent s.parts = chain_there command late in
-      chained_visits s w k vs v why
+      chained_visits s w k start vs v why
       (linked_by why (λ chain. chain_comes_first opening_base s.member s.recent s.descs s.parts s.hand s.frame (controller_parts w) w.driver k.now t.lent)) t.lent
   link_visits (unfinished.Iso e t count) why is =
-      described_visits s w k vs v why (linked_by why (λ chain. absurd (iso_chain e t count (sym is ∙ chain)))) e t count (why.unfinished ∙ ap (λ (c : Command). Some c) is)
+      described_visits s w k start vs v why (linked_by why (λ chain. absurd (iso_chain e t count (sym is ∙ chain)))) e t count (why.unfinished ∙ ap (λ (c : Command). Some c) is)
     where
       iso_chain : (e t count : ℕ) → unfinished.Iso e t count ≡ unfinished.Chain → ⊥
       iso_chain e t count same = cc
   link_visits (unfinished.Unchain e) why is =
-      unchained_visits s w k vs v why (linked_by why (λ chain. absurd (unchain_chain e (sym is ∙ chain)))) e (why.unfinished ∙ ap (λ (c : Command). Some c) is)
+      unchained_visits s w k start vs v why (linked_by why (λ chain. absurd (unchain_chain e (sym is ∙ chain)))) e (why.unfinished ∙ ap (λ (c : Command). Some c) is)
     where
       unchain_chain : (e : ℕ) → unfinished.Unchain e ≡ unfinished.Chain → ⊥
       unchain_chain e same = cc
 
   -- ---- a harvested descriptor is unlinked
 
-  unlinked_by : (t : ℕ) (o : Option Transfer) → slice_get w.driver.transfers t ≡ o → driver_row (driver_parts w) ≡ rows.Unlink t → VisitsGoOn (driver_next w) vs
-  unlinked_by t (Some y) there is = unlink_visits s w k vs v t y is there
+  unlinked_by : (t : ℕ) (o : Option Transfer) → slice_get w.driver.transfers t ≡ o → driver_row (driver_parts w) ≡ rows.Unlink t → VisitsGoOn start (driver_next w) vs
+  unlinked_by t (Some y) there is = unlink_visits s w k start vs v t y is there
   unlinked_by t None there is =
-      subst (λ (r : DriverRow). VisitsGoOn (with_parts w (after_driver_row r (driver_parts w))) vs) (sym is)
-      (subst (λ (o : Option Transfer). VisitsGoOn (with_parts w (after_unlink (driver_parts w) t o)) vs) (sym there) v.visits)
+      subst (λ (r : DriverRow). VisitsGoOn start (with_parts w (after_driver_row r (driver_parts w))) vs) (sym is)
+      (subst (λ (o : Option Transfer). VisitsGoOn start (with_parts w (after_unlink (driver_parts w) t o)) vs) (sym there) v.visits)
 
-  by_row : (row : DriverRow) → driver_row (driver_parts w) ≡ row → IsDue (driver_parts w) row → VisitsGoOn (driver_next w) vs
-  by_row rows.Lend is due = lend_visits s w k vs v is
+  by_row : (row : DriverRow) → driver_row (driver_parts w) ≡ row → IsDue (driver_parts w) row → VisitsGoOn start (driver_next w) vs
+  by_row rows.Lend is due = lend_visits s w k start vs v is
   by_row (rows.Store b at x) is due =
-      ⊎_elim (λ (next : IsNextOf (driver_parts w) (rows.Store b at x)). store_visits s w k vs v b at x is next)
+      ⊎_elim (λ (next : IsNextOf (driver_parts w) (rows.Store b at x)). store_visits s w k start vs v b at x is next)
       (λ (link : IsLinkOf (driver_parts w) (rows.Store b at x)). let why = subst (IsLinkOf (driver_parts w)) (sym is) link in link_visits why.command why refl) due
-  by_row (rows.Mend x) is due = mend_visits s w k vs v x is
-  by_row rows.Frames is due = frames_visits s w k vs v is
-  by_row rows.LendDescriptors is due = described_lent_visits s w k vs v is
+  by_row (rows.Mend x) is due = mend_visits s w k start vs v x is
+  by_row rows.Frames is due = frames_visits s w k start vs v is
+  by_row rows.LendDescriptors is due = described_lent_visits s w k start vs v is
   by_row (rows.Unlink t) is due = unlinked_by t (slice_get w.driver.transfers t) refl is
-  by_row (rows.ReleaseRemoved what) is due = removed_visits s w k vs v what is
-  by_row (rows.ReleaseTransfer t) is due = transfer_visits s w k vs v t is
-  by_row (rows.ReleaseEndpoint e) is due = endpoint_visits s w k vs v e is
-  by_row rows.ClearAdvance is due = cleared_visits s w k vs v is
-  by_row rows.RingBell is due = doorbell_visits s w k vs v is
-  by_row (rows.ReadStatus heard) is due = status_visits s w k vs v heard is
-  by_row (rows.ReadFrame n) is due = frame_read_visits s w k vs v n is
-  by_row (rows.Harvest e t found) is due = harvest_visits s w k vs v e t found is
-  by_row rows.Rest is due = rest_visits s w k vs v is
+  by_row (rows.ReleaseRemoved what) is due = removed_visits s w k start vs v what is
+  by_row (rows.ReleaseTransfer t) is due = transfer_visits s w k start vs v t is
+  by_row (rows.ReleaseEndpoint e) is due = endpoint_visits s w k start vs v e is
+  by_row rows.ClearAdvance is due = cleared_visits s w k start vs v is
+  by_row rows.RingBell is due = doorbell_visits s w k start vs v is
+  by_row (rows.ReadStatus heard) is due = status_visits s w k start vs v heard is
+  by_row (rows.ReadFrame n) is due = frame_read_visits s w k start vs v n is
+  by_row (rows.Harvest e t found) is due = harvest_visits s w k start vs v e t found is
+  by_row rows.Rest is due = rest_visits s w k start vs v is
 
 pub each_row_visits : (row : DriverRow) → RowKeepsVisiting row
-each_row_visits row s w vs k v is = by_row s w k vs v row is (subst (IsDue (driver_parts w)) is (each_is_due (driver_parts w)))
+each_row_visits row s start w vs k v is = by_row s w k start vs v row is (subst (IsDue (driver_parts w)) is (each_is_due (driver_parts w)))

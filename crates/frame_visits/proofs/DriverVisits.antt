@@ -1,7 +1,7 @@
 -- The visits go on with each event of the driver that stores nothing of its frame list.
 use Rattle.std.proofs.Common.{◌≡◌, ◌≢◌, ℕ, zero, suc, ◌+◌, ◌*◌, ◌/◌, ◌≤◌, ◌<◌, ◌⊎◌, Bool, true, false, inl, inr, cond, if◌then◌else◌, List, length, slice_get, Option, Some, None, ⊎_elim, ap, refl, sym, subst, ◌∙◌, arith}
-use Rattle.std.specs.Prelude.{◌&&◌, ◌||◌, slice_index, nat_eq, nat_lt, option_map, drop, take}
-use Rattle.std.proofs.lemmas.Bool.{true≢false, false≢true, eq-eqb, lt-ltb}
+use Rattle.std.specs.Prelude.{◌||◌, slice_index, nat_eq, nat_lt, option_map, drop, take}
+use Rattle.std.proofs.lemmas.Bool.{true≢false, false≢true, eq-eqb, lt-ltb, and_parts}
 use Rattle.std.proofs.lemmas.List.{get_or-set_other}
 use Rattle.std.proofs.lemmas.Option.{same_Some, slice_get-map}
 use Rattle.word_mem.specs.Memory.{Mem, word_at, reaches, with_word}
@@ -40,8 +40,10 @@ use Rattle.bus_world.specs.World.{World, driver_parts, controller_parts, with_pa
 use Rattle.mixed_worlds.proofs.Driving.{driver_keeps_mixed}
 use Rattle.mixed_worlds.proofs.lemmas.framed_memory.Now.{has_frames}
 use Rattle.mixed_worlds.specs.Mixed.{Standing, IsMixedAt, IsMixedWorld}
+use Rattle.frame_visits.specs.OneDescriptor.{IsActiveDescriptor}
 use Rattle.frame_visits.specs.Ranks.{name_of, next_of}
 use Rattle.frame_visits.specs.Visited.{VisitsGoOn, VisitsGoOnAt}
+use Rattle.frame_visits.proofs.ActiveBefore.{driver_before}
 use Rattle.frame_visits.proofs.DriverGoesOn.{IsListSpread, LeavesMembers, goes_on}
 use Rattle.frame_visits.proofs.InFrames.{row_back}
 use Rattle.frame_visits.proofs.LeftOwned.{has_name, own_store}
@@ -63,7 +65,7 @@ same_frame : (index first : ℕ) (b : Bool) → first ≡ frame_number index →
 same_frame index first true still is = still
 same_frame index first false still is = absurd (true≢false (sym (eq-eqb (frame_number index) first (sym still)) ∙ is))
 
-open_again : (index : ℕ) (b : Boundary) → IsOpenAt index b → IsOpenAt index (after_reading index b)
+pub open_again : (index : ℕ) (b : Boundary) → IsOpenAt index b → IsOpenAt index (after_reading index b)
 open_again index Unread still = refl
 open_again index (Since first) still = same_frame index first (nat_eq (frame_number index) first) still refl
 open_again index Seen still = absurd still
@@ -139,16 +141,12 @@ iso_frames c n is = iso_own c n rows.Frames is refl
 iso_lends : (c : Command) (n : ℕ) → slice_get (events_of c) n ≡ Some rows.LendDescriptors → IsIso c
 iso_lends c n is = iso_own c n rows.LendDescriptors is refl
 
-first_and : (a b : Bool) → (a && b) ≡ true → a ≡ true
-first_and true b is = refl
-first_and false b is = absurd (false≢true is)
-
 own_reached : (m : Mem) (n : ℕ) (t : Structure) → Holds m n t → HasLink t → reaches m n ≡ true
-own_reached m n (QueueHead q) h has = first_and (reaches m n) (reaches m (n + 32)) h.lent
+own_reached m n (QueueHead q) h has = (and_parts (reaches m n) (reaches m (n + 32)) h.lent).0
 own_reached m n (Qtd t) h has = absurd has
 own_reached m n (Buffer pages start bytes) h has = absurd has
 own_reached m n (Table words) h has = absurd has
-own_reached m n (Isochronous x) h has = first_and (reaches m n) (reaches m (n + 32)) h.lent
+own_reached m n (Isochronous x) h has = (and_parts (reaches m n) (reaches m (n + 32)) h.lent).0
 own_reached m n (SplitIsochronous x) h has = h.lent
 
 -- a store that is owed to a stalled endpoint is none of a link
@@ -165,7 +163,7 @@ mend_left k m w b mending = by (can_store (slot_of k.slots w.queue) w.at)
     by true = get_or-set_other m.words (w.at / 4) (32 * b / 4) w.value 0 apart
     by false = refl
 
-module _ (s : Standing) (w : World) (k : IsMixedAt s w) (vs : List ℕ) (v : VisitsGoOnAt s w vs) where
+module _ (s : Standing) (w : World) (k : IsMixedAt s w) (start : World) (vs : List ℕ) (v : VisitsGoOnAt s start w vs) where
   abbrev d : DriverContent
   d = w.driver
 
@@ -195,10 +193,10 @@ module _ (s : Standing) (w : World) (k : IsMixedAt s w) (vs : List ℕ) (v : Vis
 
   pub elsewhere : (row : DriverRow) → driver_row (driver_parts w) ≡ row → LeavesMembers w.driver (next_by row).driver
       → ((n : ℕ) → v.visits.kept n ≡ true → next_of (next_by row).memory n ≡ next_of w.memory n) → AreRecent (next_by row).driver (next_by row).registers.frame_index v.visits.left
-      → VisitsGoOn (driver_next w) vs
+      → VisitsGoOn start (driver_next w) vs
   elsewhere row is leaves links are =
-      subst (λ (r : DriverRow). VisitsGoOn (next_by r) vs) (sym is)
-      (goes_on w (next_by row) vs v.visits frames.spread (subst (λ (r : DriverRow). IsListSpread (next_by r).driver) is spread_next) half_led
+      subst (λ (r : DriverRow). VisitsGoOn start (next_by r) vs) (sym is)
+      (goes_on start w (next_by row) vs v.visits frames.spread (subst (λ (r : DriverRow). IsListSpread (next_by r).driver) is spread_next) half_led
       (record {
         leaves = leaves;
         links = links;
@@ -206,23 +204,26 @@ module _ (s : Standing) (w : World) (k : IsMixedAt s w) (vs : List ℕ) (v : Vis
         control = refl;
         kept_stay = λ n on. row_back row (driver_parts w) k.now.planned n;
         met_stay = λ n kind on. row_back row (driver_parts w) k.now.planned n;
+        starts_none = λ e f n on.
+            subst (λ (r : DriverRow). IsActiveDescriptor (next_by r).driver (next_by r).memory e f n → IsActiveDescriptor w.driver w.memory e f n) is
+            (let there = v.within n on in driver_before s w k e f n there.0 there.1);
       }))
 
   -- ---- registers
 
-  pub rest_visits : driver_row (driver_parts w) ≡ rows.Rest → VisitsGoOn (driver_next w) vs
-  rest_visits is = subst (λ (r : DriverRow). VisitsGoOn (next_by r) vs) (sym is) v.visits
+  pub rest_visits : driver_row (driver_parts w) ≡ rows.Rest → VisitsGoOn start (driver_next w) vs
+  rest_visits is = subst (λ (r : DriverRow). VisitsGoOn start (next_by r) vs) (sym is) v.visits
 
-  pub status_visits : (heard : Bool) → driver_row (driver_parts w) ≡ rows.ReadStatus heard → VisitsGoOn (driver_next w) vs
+  pub status_visits : (heard : Bool) → driver_row (driver_parts w) ≡ rows.ReadStatus heard → VisitsGoOn start (driver_next w) vs
   status_visits heard is = elsewhere (rows.ReadStatus heard) is (same_list w.driver (next_by (rows.ReadStatus heard)).driver refl) (λ n on. refl) v.visits.left_are
 
-  pub cleared_visits : driver_row (driver_parts w) ≡ rows.ClearAdvance → VisitsGoOn (driver_next w) vs
+  pub cleared_visits : driver_row (driver_parts w) ≡ rows.ClearAdvance → VisitsGoOn start (driver_next w) vs
   cleared_visits is = elsewhere rows.ClearAdvance is (same_list w.driver (next_by rows.ClearAdvance).driver refl) (λ n on. refl) v.visits.left_are
 
-  pub doorbell_visits : driver_row (driver_parts w) ≡ rows.RingBell → VisitsGoOn (driver_next w) vs
+  pub doorbell_visits : driver_row (driver_parts w) ≡ rows.RingBell → VisitsGoOn start (driver_next w) vs
   doorbell_visits is = elsewhere rows.RingBell is (same_list w.driver (next_by rows.RingBell).driver refl) (λ n on. refl) v.visits.left_are
 
-  pub frame_read_visits : (n : ℕ) → driver_row (driver_parts w) ≡ rows.ReadFrame n → VisitsGoOn (driver_next w) vs
+  pub frame_read_visits : (n : ℕ) → driver_row (driver_parts w) ≡ rows.ReadFrame n → VisitsGoOn start (driver_next w) vs
   frame_read_visits n is =
       let due : IsDue (driver_parts w) (rows.ReadFrame n) = subst (IsDue (driver_parts w)) is (each_is_due (driver_parts w)) in
       elsewhere (rows.ReadFrame n) is (same_list w.driver (next_by (rows.ReadFrame n)).driver refl) (λ n on. refl)
@@ -230,7 +231,7 @@ module _ (s : Standing) (w : World) (k : IsMixedAt s w) (vs : List ℕ) (v : Vis
 
   -- ---- what is owed to a stalled endpoint
 
-  pub mend_visits : (x : Mend) → driver_row (driver_parts w) ≡ rows.Mend x → VisitsGoOn (driver_next w) vs
+  pub mend_visits : (x : Mend) → driver_row (driver_parts w) ≡ rows.Mend x → VisitsGoOn start (driver_next w) vs
   mend_visits x is =
       let due : IsDue (driver_parts w) (rows.Mend x) = subst (IsDue (driver_parts w)) is (each_is_due (driver_parts w)) in
       let mending : IsMending x = first_mend w.driver.mends x due.1 k.now.framed.place.sound.ring.mends in
@@ -243,7 +244,7 @@ module _ (s : Standing) (w : World) (k : IsMixedAt s w) (vs : List ℕ) (v : Vis
 
   own_row : (row : DriverRow) (g : DriverContent) → driver_row (driver_parts w) ≡ row → (next : IsNextOf (driver_parts w) row) → g.periodic.list ≡ w.driver.periodic.list → g.made ≡ w.driver.made
       → (next_by row).driver ≡ advanced_by g w.driver.command → (next_by row).registers.frame_index ≡ w.registers.frame_index → AreRecent (no_command g) w.registers.frame_index v.visits.left
-      → ((n : ℕ) → v.visits.kept n ≡ true → next_of (next_by row).memory n ≡ next_of w.memory n) → VisitsGoOn (driver_next w) vs
+      → ((n : ℕ) → v.visits.kept n ≡ true → next_of (next_by row).memory n ≡ next_of w.memory n) → VisitsGoOn start (driver_next w) vs
   own_row row g is next list made driver_is index are links =
       let c : Command = next.command in
       let never : (e : ℕ) → c ≡ unfinished.Unchain e → ⊥ = no_events c w.driver.made row next.next in
@@ -259,14 +260,14 @@ module _ (s : Standing) (w : World) (k : IsMixedAt s w) (vs : List ℕ) (v : Vis
   dropped : (row : DriverRow) → IsNextOf (driver_parts w) row → AreRecent (no_command w.driver) w.registers.frame_index v.visits.left
   dropped row next = without_command w.driver v.visits.left w.registers.frame_index (stays row next) v.visits.left_are
 
-  pub lend_visits : driver_row (driver_parts w) ≡ rows.Lend → VisitsGoOn (driver_next w) vs
+  pub lend_visits : driver_row (driver_parts w) ≡ rows.Lend → VisitsGoOn start (driver_next w) vs
   lend_visits is =
       let next : IsNextOf (driver_parts w) rows.Lend = subst (IsDue (driver_parts w)) is (each_is_due (driver_parts w)) in
       let h : Holding = lend_taken (holding w.driver.book w.memory) in
       own_row rows.Lend (record w.driver { book = h.book }) is next refl refl refl refl (dropped rows.Lend next)
       (λ n on. ap (λ (ws : List ℕ). next_of (record h.memory { words = ws }) n) (lent_words (holding w.driver.book w.memory)))
 
-  pub store_visits : (b at x : ℕ) → driver_row (driver_parts w) ≡ rows.Store b at x → IsNextOf (driver_parts w) (rows.Store b at x) → VisitsGoOn (driver_next w) vs
+  pub store_visits : (b at x : ℕ) → driver_row (driver_parts w) ≡ rows.Store b at x → IsNextOf (driver_parts w) (rows.Store b at x) → VisitsGoOn start (driver_next w) vs
   store_visits b at x is next =
       let sound = k.now.framed.place.sound in
       own_row (rows.Store b at x) w.driver is next refl refl refl refl (dropped (rows.Store b at x) next)
@@ -281,7 +282,7 @@ module _ (s : Standing) (w : World) (k : IsMixedAt s w) (vs : List ℕ) (v : Vis
   noted_by e t count =
       with_notes w.driver w.registers.frame_index (take count (drop t w.driver.transfers)) (framed_notes w.driver w.registers.frame_index e t count (placement_at w.driver e))
 
-  pub frames_visits : driver_row (driver_parts w) ≡ rows.Frames → VisitsGoOn (driver_next w) vs
+  pub frames_visits : driver_row (driver_parts w) ≡ rows.Frames → VisitsGoOn start (driver_next w) vs
   frames_visits is =
       let next : IsNextOf (driver_parts w) rows.Frames = subst (IsDue (driver_parts w)) is (each_is_due (driver_parts w)) in
       let i : IsIso next.command = iso_frames next.command w.driver.made next.next in
@@ -291,7 +292,7 @@ module _ (s : Standing) (w : World) (k : IsMixedAt s w) (vs : List ℕ) (v : Vis
 
   -- ---- .. and are lent
 
-  pub described_lent_visits : driver_row (driver_parts w) ≡ rows.LendDescriptors → VisitsGoOn (driver_next w) vs
+  pub described_lent_visits : driver_row (driver_parts w) ≡ rows.LendDescriptors → VisitsGoOn start (driver_next w) vs
   described_lent_visits is =
       let next : IsNextOf (driver_parts w) rows.LendDescriptors = subst (IsDue (driver_parts w)) is (each_is_due (driver_parts w)) in
       let i : IsIso next.command = iso_lends next.command w.driver.made next.next in

@@ -176,14 +176,14 @@ harvest_recent d f e index recent leaves views other idle are n kind on =
 
 -- ---- the row
 
-module _ (s : Standing) (w : World) (k : IsMixedAt s w) (vs : List ℕ) (v : VisitsGoOnAt s w vs) where
-  pub harvest_visits : (e t : ℕ) (found : Found) → driver_row (driver_parts w) ≡ rows.Harvest e t found → VisitsGoOn (driver_next w) vs
+module _ (s : Standing) (w : World) (k : IsMixedAt s w) (start : World) (vs : List ℕ) (v : VisitsGoOnAt s start w vs) where
+  pub harvest_visits : (e t : ℕ) (found : Found) → driver_row (driver_parts w) ≡ rows.Harvest e t found → VisitsGoOn start (driver_next w) vs
   harvest_visits e t found is =
       let d : DriverContent = w.driver in
       let due : IsHarvestDue (driver_parts w) e t found = subst (IsDue (driver_parts w)) is (each_is_due (driver_parts w)) in
       let f : DriverContent = (after_driver_row (rows.Harvest e t found) (driver_parts w)).driver in
       let l : HarvestLeaves e d f = harvest_leaves d w.memory e t found (slice_get d.endpoints e) (slice_get d.transfers t) refl in
-      elsewhere s w k vs v (rows.Harvest e t found) is (same_list d f (ap (λ (q : PeriodicContent). q.list) l.periodic)) (λ n on. refl)
+      elsewhere s w k start vs v (rows.Harvest e t found) is (same_list d f (ap (λ (q : PeriodicContent). q.list) l.periodic)) (λ n on. refl)
       (harvest_recent d f e w.registers.frame_index v.visits.left l
       (harvest_stays d w.memory e t found (slice_get d.endpoints e) (slice_get d.transfers t) refl refl).same.transfers
       (λ i r here what. (owners_ended d k.now.framed.place.sound.owners).removed_ended i e r due.endpoint here what due.here due.goes_on) due.idle v.visits.left_are)

@@ -1,6 +1,6 @@
 -- The member that is the queue head of an interrupt endpoint stands in the frames in which the endpoint's placement is active (EHCI 1.0, 3.6 and 4.6); and an event of the driver takes
 -- no queue head for that of another endpoint, nor changes a placement.
-use Rattle.std.proofs.Common.{◌≡◌, ℕ, ◌*◌, ◌/◌, ◌%◌, Bool, true, false, List, slice_get, Some, option_map, ap, sym, subst, ◌∙◌, arith}
+use Rattle.std.proofs.Common.{◌≡◌, ℕ, ◌*◌, ◌/◌, ◌%◌, true, false, List, slice_get, Some, option_map, ap, sym, subst, ◌∙◌}
 use Rattle.std.proofs.lemmas.Option.{same_Some}
 use Rattle.frame_chains.specs.declared.members.Descriptor.{Descriptor}
 use Rattle.frame_chains.specs.declared.members.QueueHead.{QueueHead as Queue}
@@ -17,16 +17,17 @@ use Rattle.driver_rows.specs.declared.content.Transfer.{Transfer}
 use Rattle.driver_rows.specs.declared.rows.DriverRow.{DriverRow}
 use Rattle.driver_rows.specs.DriverContent.{DriverContent}
 use Rattle.driver_rows.specs.Rows.{Parts, after_driver_row}
-use Rattle.driver_laws.specs.run_owners.Owners.{QueueHead, Described, is_descriptor, runs_of_transfer, views_of}
+use Rattle.driver_laws.specs.run_owners.Owners.{QueueHead, is_descriptor, runs_of_transfer, views_of}
 use Rattle.driver_laws.specs.run_owners.Kept.{HasOwners}
 use Rattle.driver_laws.specs.listed_members.Placed.{Framed}
 use Rattle.driver_laws.specs.listed_members.Listed.{IsQueueOf, IsListed}
 use Rattle.driver_laws.proofs.lemmas.listed_members.Owned.{queue_owned, descriptor_owned}
-use Rattle.driver_laws.proofs.lemmas.listed_members.Standing.{IsFramed, framed}
+use Rattle.driver_laws.proofs.lemmas.listed_members.Standing.{IsFramed, framed, one_endpoint}
 use Rattle.driver_laws.proofs.lemmas.ring_members.Placed.{queue_placed, has_queue}
 use Rattle.frame_laws.specs.planned_endpoints.Planned.{IsPlanned}
 use Rattle.frame_laws.proofs.lemmas.planned_endpoints.Queues.{same_test}
 use Rattle.frame_laws.proofs.lemmas.list_spread.Spreading.{queue_there, standing_there}
+use Rattle.described_parts.proofs.Returning.{no_descriptor, same_blocks}
 use Rattle.visit_budgets.specs.visit_prices.Spent.{IsAmong, placed_as}
 use Rattle.frame_visits.specs.Ranks.{begins}
 use Rattle.frame_visits.specs.Visited.{IsActiveAs}
@@ -37,22 +38,13 @@ use Rattle.frame_visits.proofs.BelongKeeps.{not_iso, stays_in, queue_stays}
 
 -- ---- one endpoint's at one place
 
-same_block : (a b : ℕ) → 32 * a ≡ 32 * b → a ≡ b
-same_block a b is = omega (arith, is)
-
-one_endpoint : (e f : ℕ) → QueueHead e ≡ QueueHead f → e ≡ f
-one_endpoint e f same = cc
-
-not_described : (e t : ℕ) (split : Bool) → QueueHead e ≡ Described split t → ⊥
-not_described e t split same = cc
-
 module _ (d : DriverContent) (has : HasOwners d) (n : ℕ) where
   owned_at : (b : IsQueueAt d n) → has.owner b.belongs.endpoint.queue ≡ QueueHead b.belongs.number
   owned_at b = (queue_placed d b.belongs.number b.belongs.endpoint has b.belongs.here (has_queue b.belongs.endpoint (not_iso b.kind) b.belongs.kept)).owned
 
   number_by : (b : IsQueueAt d n) (block e : ℕ) → n ≡ 32 * block → has.owner block ≡ QueueHead e → b.belongs.number ≡ e
   number_by b block e at owned =
-      let same : b.belongs.endpoint.queue ≡ block = same_block b.belongs.endpoint.queue block (sym b.name ∙ at) in
+      let same : b.belongs.endpoint.queue ≡ block = same_blocks b.belongs.endpoint.queue block (sym b.name ∙ at) in
       one_endpoint b.belongs.number e (sym (owned_at b) ∙ ap has.owner same ∙ owned)
 
   pub one_number : (b c : IsQueueAt d n) → b.belongs.number ≡ c.belongs.number
@@ -73,8 +65,8 @@ module _ (d : DriverContent) (has : HasOwners d) (n : ℕ) where
   pub no_transfer : (b : IsQueueAt d n) (t : ℕ) (y : Transfer) → slice_get d.transfers t ≡ Some y → is_descriptor y.sort ≡ true → y.released ≡ false → n ≡ 32 * y.first → ⊥
   no_transfer b t y there sort held at =
       let o = has.owned.each.described t (runs_of_transfer y) (ap (option_map runs_of_transfer) there) sort held in
-      let same : b.belongs.endpoint.queue ≡ y.first = same_block b.belongs.endpoint.queue y.first (sym b.name ∙ at) in
-      not_described b.belongs.number t ((views_of d).descriptor y.first).split (sym (owned_at b) ∙ ap has.owner same ∙ o.descriptor.owned)
+      let same : b.belongs.endpoint.queue ≡ y.first = same_blocks b.belongs.endpoint.queue y.first (sym b.name ∙ at) in
+      no_descriptor b.belongs.number t ((views_of d).descriptor y.first).split (sym (owned_at b) ∙ ap has.owner same ∙ o.descriptor.owned)
 
 -- ---- a member of the list
 
@@ -100,8 +92,8 @@ module _ (d : DriverContent) (has : HasOwners d) (listed : IsListed d) (n : ℕ)
   descriptor_active : (c : Descriptor) → is_linked d.periodic.list.members.schedule (Once c) ≡ true → begins (Once c) ≡ n → IsActiveAs d n (Once c)
   descriptor_active c on at b f stands =
       let o = descriptor_owned d c has (standing_there d c listed on) in
-      let same : b.belongs.endpoint.queue ≡ c.id / 32 = same_block b.belongs.endpoint.queue (c.id / 32) (sym b.name ∙ sym at) in
-      absurd (not_described b.belongs.number o.1.0 o.0 (sym (owned_at d has n b) ∙ ap has.owner same ∙ o.1.1.owned))
+      let same : b.belongs.endpoint.queue ≡ c.id / 32 = same_blocks b.belongs.endpoint.queue (c.id / 32) (sym b.name ∙ sym at) in
+      absurd (no_descriptor b.belongs.number o.1.0 o.0 (sym (owned_at d has n b) ∙ ap has.owner same ∙ o.1.1.owned))
 
   pub linked_active : (x : Member) → is_linked d.periodic.list.members.schedule x ≡ true → begins x ≡ n → IsActiveAs d n x
   linked_active (Each q) on at = queue_active q on at

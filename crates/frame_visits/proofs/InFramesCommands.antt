@@ -18,6 +18,7 @@ use Rattle.frame_laws.proofs.lemmas.queued_drivers.CommandReasons.{IsNew, in_rin
 use Rattle.frame_walk.specs.Met.{Kind, AQueue, AnItd, ASitd}
 use Rattle.described_parts.specs.Meeting.{standing, or_recent, met}
 use Rattle.described_parts.specs.Recent.{IsRemovedAt, a_descriptor, a_queue, a_waiting, IsRemovedSince, IsUnchainedNow, AreRecent}
+use Rattle.described_parts.proofs.Returning.{none_some}
 use Rattle.visit_budgets.specs.visit_prices.Spent.{IsAmong}
 use Rattle.bus_world.specs.World.{World}
 use Rattle.mixed_worlds.specs.Mixed.{Standing, IsMixedAt}
@@ -43,15 +44,6 @@ record HasDescriptorAt (d : DriverContent) (n : ℕ) : Type 0 where
 abbrev IsHis : DriverContent → ℕ → Type 0
 IsHis d n = IsQueueAt d n ⊎ HasDescriptorAt d n
 
-itd_no_queue : AnItd ≡ AQueue → ⊥
-itd_no_queue same = cc
-
-sitd_no_queue : ASitd ≡ AQueue → ⊥
-sitd_no_queue same = cc
-
-none_some : {X : Type 0} (o : Option X) (x : X) → o ≡ None → o ≡ Some x → ⊥
-none_some o x none some = cc
-
 module _ (s : Standing) (w : World) (k : IsMixedAt s w) (n : ℕ) where
   has : HasOwners w.driver
   has = k.now.framed.place.sound.owners
@@ -64,8 +56,8 @@ module _ (s : Standing) (w : World) (k : IsMixedAt s w) (n : ℕ) where
 
   his_now : (kind : Kind) → met w.driver s.recent n ≡ Some kind → IsHis w.driver n
   his_now AQueue is = inl (queue_belongs s w n k is)
-  his_now AnItd is = no_queue AnItd is itd_no_queue
-  his_now ASitd is = no_queue ASitd is sitd_no_queue
+  his_now AnItd is = no_queue AnItd is (λ same. cc)
+  his_now ASitd is = no_queue ASitd is (λ same. cc)
 
   his_removed : (i : ℕ) (r : Removal) (what : Removed) → slice_get w.driver.periodic.removals i ≡ Some r → r.what ≡ what → IsRemovedAt w.driver.endpoints w.driver.transfers n what → IsHis w.driver n
   his_removed i r _ at is (a_descriptor t y there name) =
@@ -84,7 +76,7 @@ module _ (s : Standing) (w : World) (k : IsMixedAt s w) (n : ℕ) where
         by None none on =
             ⊎_elim (λ (since : IsRemovedSince w.driver.endpoints w.driver.transfers w.driver.periodic.removals w.registers.frame_index n).
             his_removed since.place since.removal since.removal.what since.here refl since.what)
-            (λ (now : IsUnchainedNow w.driver.endpoints w.driver.transfers w.driver.command n). absurd (none_some w.driver.command _ idle now.command)) (are n kind on)
+            (λ (now : IsUnchainedNow w.driver.endpoints w.driver.transfers w.driver.command n). absurd (none_some _ (sym idle ∙ now.command))) (are n kind on)
 
 -- ---- an endpoint is opened
 

@@ -1,6 +1,5 @@
 -- A queue head that is in the frame list, or is to be, wasn't unlinked in this microframe: its endpoint is in its frames, so it isn't among what left them.
-use Rattle.std.proofs.Common.{◌≡◌, ℕ, ◌*◌, ◌/◌, ◌≤◌, Bool, true, false, not, ◌&&◌, ◌||◌, ◌==◌, cond, if◌then◌else◌, slice_get, Option, Some, None, option_map, ⊎_elim, ap, refl, sym, ◌∙◌, arith}
-use Rattle.std.proofs.lemmas.Bool.{false≢true, true≢false, eqb-true, and_parts}
+use Rattle.std.proofs.Common.{◌≡◌, ℕ, ◌*◌, ◌/◌, ◌≤◌, Bool, true, false, not, ◌&&◌, ◌||◌, cond, if◌then◌else◌, slice_get, Option, Some, None, option_map, ⊎_elim, ap, refl, sym, ◌∙◌, arith}
 use Rattle.frame_chains.specs.declared.members.QueueHead.{QueueHead as Queue}
 use Rattle.frame_chains.specs.declared.members.Member.TheVariants.{Each}
 use Rattle.frame_members.specs.Members.{is_linked}
@@ -11,28 +10,19 @@ use Rattle.periodic_rows.specs.declared.content.Removed.TheVariants as removed
 use Rattle.driver_rows.specs.declared.content.Endpoint.{Endpoint}
 use Rattle.driver_rows.specs.declared.content.Transfer.{Transfer}
 use Rattle.driver_rows.specs.declared.content.Command.TheVariants as unfinished
-use Rattle.driver_rows.specs.DriverContent.{DriverContent, waits_for}
+use Rattle.driver_rows.specs.DriverContent.{DriverContent}
 use Rattle.driver_laws.specs.run_owners.Owners.{QueueHead, is_descriptor, runs_of_transfer, runs_of_endpoint, views_of}
 use Rattle.driver_laws.specs.run_owners.Leaving.{times, endpoints_in, owes, leaves_frames}
 use Rattle.driver_laws.specs.run_owners.Kept.{HasOwners}
 use Rattle.driver_laws.specs.listed_members.Placed.{Framed}
 use Rattle.driver_laws.specs.listed_members.Listed.{IsQueueOf, IsListed}
-use Rattle.driver_laws.proofs.lemmas.listed_members.Standing.{IsFramed, framed}
+use Rattle.driver_laws.proofs.lemmas.listed_members.Standing.{IsFramed, framed, one_endpoint}
 use Rattle.driver_laws.proofs.lemmas.listed_members.Owned.{queue_owned}
 use Rattle.frame_laws.proofs.lemmas.list_spread.Spreading.{queue_there}
 use Rattle.frame_walk.specs.Met.{Kind}
 use Rattle.described_parts.specs.Recent.{IsRemovedAt, a_descriptor, a_queue, a_waiting, IsRemovedSince, IsUnchainedNow, AreRecent}
 use Rattle.described_parts.proofs.Returning.{no_descriptor, same_blocks, owed_by, frames_owed, transfer_counts, endpoint_counts}
-
-same_endpoint : (e f : ℕ) → QueueHead e ≡ QueueHead f → e ≡ f
-same_endpoint e f same = cc
-
-not_told : (e : ℕ) (z : Transfer) → waits_for e z ≡ true → (z.endpoint ≡ e) × (z.reported ≡ false)
-not_told e z is = let a = and_parts (z.endpoint == e) (not z.reported) is in (eqb-true z.endpoint e a.0, turned z.reported a.1)
-  where
-    turned : (b : Bool) → not b ≡ true → b ≡ false
-    turned true is = absurd (false≢true is)
-    turned false is = refl
+use Rattle.frame_visits.proofs.BelongQueues.{waiting_held}
 
 module _ (d : DriverContent) (left : ℕ → Option Kind) (index : ℕ) (q : Queue) (has : HasOwners d) (listed : IsListed d) (on : is_linked d.periodic.list.members.schedule (Each q) ≡ true)
     (stays : (e : ℕ) → d.command ≡ Some (unfinished.Unchain e) → ⊥) where
@@ -71,12 +61,6 @@ module _ (d : DriverContent) (left : ℕ → Option Kind) (index : ℕ) (q : Que
       let owes_it : leaves_frames (slice_get d.endpoints g) ≡ (if v.chained || v.gone || not (is_periodic v.desc.kind) then 0 else 1) = ap leaves_frames at in
       frames_owed v.chained v.gone (is_periodic v.desc.kind) (omega (arith, counts, most, owes_it))
 
-  held_by : (g u : ℕ) (v : Endpoint) (z : Transfer) → slice_get d.endpoints g ≡ Some v → v.gone ≡ false → slice_get d.transfers u ≡ Some z → waits_for g z ≡ true → (b : Bool) → z.released ≡ b → z.released ≡ false
-  held_by g u v z at kept in_list waiting false is = is
-  held_by g u v z at kept in_list waiting true is =
-      let told = not_told g z waiting in
-      absurd (true≢false (sym (has.orderly.untold u z in_list is told.1 v (ap (slice_get d.endpoints) told.0 ∙ at)) ∙ kept))
-
   removed_not : (k : ℕ) (r : Removal) (w : Removed) → slice_get d.periodic.removals k ≡ Some r → r.what ≡ w → IsRemovedAt d.endpoints d.transfers (32 * (q.id / 32)) w → ⊥
   removed_not k r _ at what (a_descriptor u z in_list n) =
       let counts = transfer_counts u d.periodic.removals k r at what in
@@ -87,11 +71,11 @@ module _ (d : DriverContent) (left : ℕ → Option Kind) (index : ℕ) (q : Que
   removed_not k r _ at what (a_queue g v in_list bulk n) =
       let kept : v.gone ≡ false = gone_not g v in_list (endpoint_counts g d.periodic.removals k r at what) in
       let o = has.owned.each.queue g (runs_of_endpoint v) (ap (option_map runs_of_endpoint) in_list) (ap (λ (b : Bool). b || v.gone) bulk ∙ kept) in
-      let same : g ≡ s.number = same_endpoint g s.number (sym o.owned ∙ ap has.owner (sym (same_blocks (q.id / 32) v.queue n)) ∙ mine) in
+      let same : g ≡ s.number = one_endpoint g s.number (sym o.owned ∙ ap has.owner (sym (same_blocks (q.id / 32) v.queue n)) ∙ mine) in
       never k r at (what ∙ ap removed.Endpoint same)
   removed_not k r _ at what (a_waiting g u v z in_endpoints iso in_list is waiting n) =
       let kept : v.gone ≡ false = gone_not g v in_endpoints (endpoint_counts g d.periodic.removals k r at what) in
-      not_described u z in_list is (held_by g u v z in_endpoints kept in_list waiting z.released refl) n
+      not_described u z in_list is (waiting_held d has g u v z in_endpoints kept in_list waiting) n
 
   pub queue_fresh : AreRecent d index left → left (32 * (q.id / 32)) ≡ None
   queue_fresh are = by (left (32 * (q.id / 32))) refl

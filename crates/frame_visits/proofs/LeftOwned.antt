@@ -1,7 +1,7 @@
 -- Whose the run of a structure is that stands in the frame list, or was unlinked in this microframe: of an endpoint that is in its frames, or was, or of a descriptor. So the
 -- driver's events for queues and for what it gives back leave its link.
-use Rattle.std.proofs.Common.{◌≡◌, ◌≢◌, ℕ, suc, ◌*◌, ◌/◌, ◌≤◌, Bool, true, false, not, ◌&&◌, ◌||◌, ◌==◌, if◌then◌else◌, slice_get, drop, Option, Some, None, option_map, ⊎_elim, ap, refl, sym, ◌∙◌, arith}
-use Rattle.std.proofs.lemmas.Bool.{false≢true, true≢false, eqb-true, and_parts}
+use Rattle.std.proofs.Common.{◌≡◌, ◌≢◌, ℕ, suc, ◌*◌, ◌/◌, ◌≤◌, Bool, true, false, not, ◌&&◌, ◌||◌, if◌then◌else◌, slice_get, drop, Option, Some, None, option_map, ⊎_elim, ap, refl, sym, ◌∙◌, arith}
+use Rattle.std.proofs.lemmas.Bool.{true≢false}
 use Rattle.std.proofs.lemmas.Option.{same_Some}
 use Rattle.run_book.specs.declared.slots.Slot.{Slot}
 use Rattle.run_book.specs.Book.{holding, slot_of, store, IsAt}
@@ -14,7 +14,7 @@ use Rattle.driver_rows.specs.declared.content.Command.TheVariants as unfinished
 use Rattle.driver_rows.specs.declared.content.Endpoint.{Endpoint}
 use Rattle.driver_rows.specs.declared.content.Transfer.{Transfer}
 use Rattle.driver_rows.specs.declared.rows.DriverRow.TheVariants as rows
-use Rattle.driver_rows.specs.DriverContent.{DriverContent, waits_for}
+use Rattle.driver_rows.specs.DriverContent.{DriverContent}
 use Rattle.driver_rows.specs.Offers.{oldest_of}
 use Rattle.driver_rows.specs.Rows.{Parts, events_of}
 use Rattle.driver_rows.specs.Words.{head_block}
@@ -29,6 +29,7 @@ use Rattle.driver_laws.specs.listed_members.Listed.{IsListed}
 use Rattle.driver_laws.proofs.lemmas.ring_members.Links.{LeadsTo, oldest_is, dropped}
 use Rattle.driver_laws.proofs.lemmas.ring_members.Events.{open_store, unlink_store, publish_store, chain_never, iso_never, unchain_never, stands_as, block_of}
 use Rattle.driver_laws.proofs.lemmas.ring_members.Stores.{slots_apart, store_elsewhere}
+use Rattle.driver_laws.proofs.lemmas.listed_members.Standing.{one_endpoint}
 use Rattle.frame_laws.proofs.lemmas.list_spread.Spreading.{IsHis, his, slot_has}
 use Rattle.list_laws.proofs.lemmas.list_aside.Aside.{IsOther, IsOwn, own}
 use Rattle.frame_walk.specs.Met.{Kind}
@@ -40,6 +41,7 @@ use Rattle.described_parts.proofs.Leading.{led_linked}
 use Rattle.described_parts.proofs.Returning.{owed_by, frames_owed, transfer_counts, endpoint_counts}
 use Rattle.frame_visits.specs.Ranks.{name_of, next_of}
 use Rattle.frame_visits.proofs.DriverGoesOn.{member_stands}
+use Rattle.frame_visits.proofs.BelongQueues.{waiting_held}
 
 pub record HasName (d : DriverContent) (owner : ℕ → Owner) (n : ℕ) : Type 0 where
   pub block : ℕ
@@ -48,16 +50,6 @@ pub record HasName (d : DriverContent) (owner : ℕ → Owner) (n : ℕ) : Type 
   pub owned : owner block ≡ whose
   pub other : IsOther d whose
   pub run : (i : ℕ) × ((1 ≤ i) × HasBlocks i (slot_of d.book.slots block))
-
-one_endpoint : (e f : ℕ) → QueueHead e ≡ QueueHead f → e ≡ f
-one_endpoint e f same = cc
-
-not_told : (e : ℕ) (z : Transfer) → waits_for e z ≡ true → (z.endpoint ≡ e) × (z.reported ≡ false)
-not_told e z is = let a = and_parts (z.endpoint == e) (not z.reported) is in (eqb-true z.endpoint e a.0, turned z.reported a.1)
-  where
-    turned : (b : Bool) → not b ≡ true → b ≡ false
-    turned true is = absurd (false≢true is)
-    turned false is = refl
 
 described_run : (split : Bool) (s : Slot) → HasBlocks (if split then 1 else 2) s → (i : ℕ) × ((1 ≤ i) × HasBlocks i s)
 described_run true s run = (1, (omega arith, run))
@@ -91,12 +83,6 @@ module _ (d : DriverContent) (left : ℕ → Option Kind) (index : ℕ) (has : H
       let owes_it : leaves_frames (slice_get d.endpoints g) ≡ (if v.chained || v.gone || not (is_periodic v.desc.kind) then 0 else 1) = ap leaves_frames at in
       omega (arith, counts, most, owes_it)
 
-  held_by : (g u : ℕ) (v : Endpoint) (z : Transfer) → slice_get d.endpoints g ≡ Some v → v.gone ≡ false → slice_get d.transfers u ≡ Some z → waits_for g z ≡ true → (b : Bool) → z.released ≡ b → z.released ≡ false
-  held_by g u v z at kept in_list waiting false is = is
-  held_by g u v z at kept in_list waiting true is =
-      let told = not_told g z waiting in
-      absurd (true≢false (sym (has.orderly.untold u z in_list is told.1 v (ap (slice_get d.endpoints) told.0 ∙ at)) ∙ kept))
-
   of_removed : (k : ℕ) (r : Removal) (w : Removed) (n : ℕ) → slice_get d.periodic.removals k ≡ Some r → r.what ≡ w → IsRemovedAt d.endpoints d.transfers n w → HasName d has.owner n
   of_removed k r _ n at what (a_descriptor u z in_list is) =
       let counts = transfer_counts u d.periodic.removals k r at what in
@@ -125,7 +111,7 @@ module _ (d : DriverContent) (left : ℕ → Option Kind) (index : ℕ) (has : H
       }
   of_removed k r _ n at what (a_waiting g u v z in_endpoints iso in_list is_sort waiting is) =
       let kept : v.gone ≡ false = frames_owed v.chained v.gone (is_periodic v.desc.kind) (frames_owe g v in_endpoints (endpoint_counts g d.periodic.removals k r at what)) in
-      of_descriptor u z n in_list is_sort (held_by g u v z in_endpoints kept in_list waiting z.released refl) is
+      of_descriptor u z n in_list is_sort (waiting_held d has g u v z in_endpoints kept in_list waiting) is
 
   of_member : (n : ℕ) (kind : Kind) → standing d n ≡ Some kind → HasName d has.owner n
   of_member n kind is =

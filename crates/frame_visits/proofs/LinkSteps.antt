@@ -33,6 +33,7 @@ use Rattle.frame_walk.specs.Met.{Kind, AQueue, AnItd, ASitd, LeadsTo}
 use Rattle.described_parts.specs.Meeting.{is_led, led_by, kind_of, standing}
 use Rattle.described_parts.proofs.Finding.{IsMemberAt}
 use Rattle.described_parts.proofs.Leading.{led_linked, element_leads}
+use Rattle.described_parts.proofs.Returning.{same_blocks}
 use Rattle.frame_visits.specs.Ranks.{name_of, next_of, height_to, begins, IsRanked}
 use Rattle.frame_visits.proofs.DriverGoesOn.{IsListSpread, linked_stands, member_stands}
 
@@ -104,9 +105,6 @@ same_itself (Once d) = and_from (nat_eq d.id d.id) (nat_eq d.frame d.frame) (eq-
 same_itself (Each q) = and_from (nat_eq q.id q.id) (nat_eq q.period q.period && nat_eq q.phase q.phase) (eq-eqb q.id q.id refl)
     (and_from (nat_eq q.period q.period) (nat_eq q.phase q.phase) (eq-eqb q.period q.period refl) (eq-eqb q.phase q.phase refl))
 
-same_block : (a b : ℕ) → 32 * a ≡ 32 * b → a ≡ b
-same_block a b is = omega (arith, is)
-
 first_word : (b : ℕ) → b * 32 ≡ 32 * b
 first_word b = omega arith
 
@@ -140,7 +138,7 @@ module _ (m mem : Mem) (d new : DriverContent) (p : Periodic) (w : Work) (st : S
   abbrev o : Option Member
   o = successor p.members.schedule w.member (frame_of w.member)
 
-  its : IsMember w.member × (is_linked p.members.schedule w.member ≡ true)
+  pub its : IsMember w.member × (is_linked p.members.schedule w.member ≡ true)
   its = subst (HasMember p.members.schedule) k.under k.order.member
 
   schedule : p.members.schedule ≡ d.periodic.list.members.schedule
@@ -175,7 +173,7 @@ module _ (m mem : Mem) (d new : DriverContent) (p : Periodic) (w : Work) (st : S
       goes_by g.word refl (nth_all (IsWordOf p.members.schedule) (words_of p.members.schedule w) w.made g.word (words_in p.members.schedule w.member k.order.kept) g.here) sp.other
 
   one_name : (x y : Member) → is_linked p.members.schedule x ≡ true → is_linked p.members.schedule y ≡ true → begins x ≡ begins y → x ≡ y
-  one_name x y one two same = spread.once x y one two (same_block (id_of x / 32) (id_of y / 32) same)
+  one_name x y one two same = spread.once x y one two (same_blocks (id_of x / 32) (id_of y / 32) same)
 
   -- its own word is none that is stored
   pub name_away : ((i : ℕ) → i < 1024 → st.at ≡ address_of p.list (Element i) → ⊥) → name ≢ st.at
@@ -200,16 +198,16 @@ module _ (m mem : Mem) (d new : DriverContent) (p : Periodic) (w : Work) (st : S
       (record { next = o; stands = subst (λ (t : Schedule). IsNext t (frame_of w.member) o) schedule (successor_is p.members.schedule w.member (frame_of w.member) k.order.kept); word = refl }))
       ∙ structure_name d.periodic o
 
-  own : next_of m name ≡ next_name o
+  pub own : next_of m name ≡ next_name o
   own =
       ap (λ (a : ℕ). name_of (link_read (word_at m a))) (sym (first_word (id_of w.member / 32)))
       ∙ ap (λ (v : ℕ). name_of (link_read v)) sp.own ∙ next_told
 
-  value_false : w.removes ≡ false → name_of (link_read st.value) ≡ Some name
+  pub value_false : w.removes ≡ false → name_of (link_read st.value) ≡ Some name
   value_false adds =
       ap (λ (v : ℕ). name_of (link_read v)) (value ∙ ap (λ (b : Bool). if b then link_to o else id_of w.member) adds) ∙ member_name w.member its.1
 
-  value_true : w.removes ≡ true → name_of (link_read st.value) ≡ next_name o
+  pub value_true : w.removes ≡ true → name_of (link_read st.value) ≡ next_name o
   value_true removes = ap (λ (v : ℕ). name_of (link_read v)) (value ∙ ap (λ (b : Bool). if b then link_to o else id_of w.member) removes) ∙ next_told
 
   passed_false : w.removes ≡ false → name_of (link_read (passed p.members.schedule w)) ≡ next_name o
@@ -222,13 +220,13 @@ module _ (m mem : Mem) (d new : DriverContent) (p : Periodic) (w : Work) (st : S
   word_before : (v : ℕ) → word_at m (address_of p.list g.word) ≡ v → next_of m st.at ≡ name_of (link_read v)
   word_before v is = ap (λ (a : ℕ). name_of (link_read (word_at m a))) at ∙ ap (λ (v : ℕ). name_of (link_read v)) is
 
-  before_false : w.removes ≡ false → (next_of m st.at ≡ Some name) ⊎ (next_of m st.at ≡ next_name o)
+  pub before_false : w.removes ≡ false → (next_of m st.at ≡ Some name) ⊎ (next_of m st.at ≡ next_name o)
   before_false adds =
       ⊎_elim {C = (next_of m st.at ≡ Some name) ⊎ (next_of m st.at ≡ next_name o)}
       (λ (same : word_at m (address_of p.list g.word) ≡ value_of p.members.schedule w). inl (word_before _ same ∙ ap (λ (v : ℕ). name_of (link_read v)) (sym value) ∙ value_false adds))
       (λ (past : word_at m (address_of p.list g.word) ≡ passed p.members.schedule w). inr (word_before _ past ∙ passed_false adds)) sp.leads
 
-  before_true : w.removes ≡ true → (next_of m st.at ≡ next_name o) ⊎ (next_of m st.at ≡ Some name)
+  pub before_true : w.removes ≡ true → (next_of m st.at ≡ next_name o) ⊎ (next_of m st.at ≡ Some name)
   before_true removes =
       ⊎_elim {C = (next_of m st.at ≡ next_name o) ⊎ (next_of m st.at ≡ Some name)}
       (λ (same : word_at m (address_of p.list g.word) ≡ value_of p.members.schedule w). inl (word_before _ same ∙ ap (λ (v : ℕ). name_of (link_read v)) (sym value) ∙ value_true removes))
@@ -242,7 +240,7 @@ module _ (m mem : Mem) (d new : DriverContent) (p : Periodic) (w : Work) (st : S
   way_led : led d ≡ (if is_led w then p.members.schedule else without_member p.members.schedule w.member)
   way_led = sym k.before ∙ ap (led_by p.members.schedule) k.under
 
-  all_led : is_led w ≡ true → led d ≡ p.members.schedule
+  pub all_led : is_led w ≡ true → led d ≡ p.members.schedule
   all_led on = way_led ∙ ap (λ (b : Bool). if b then p.members.schedule else without_member p.members.schedule w.member) on
 
   not_the : (x : Member) (b : Bool) → is_linked p.members.schedule x ≡ true → (x ≡ w.member → ⊥) → is_the w.member x ≡ b → b ≡ false
@@ -279,7 +277,7 @@ module _ (m mem : Mem) (d new : DriverContent) (p : Periodic) (w : Work) (st : S
 
     -- what is stored where the new member, or the leaving one, is kept
     module _ (on_way : is_led w ≡ true) where
-      name_kept : kept name ≡ true
+      pub name_kept : kept name ≡ true
       name_kept = led_kept w.member (ap (λ (t : Schedule). is_linked t w.member) (all_led on_way) ∙ its.1)
 
       made_some : (a : Bool) (n : ℕ) → a ≡ false → (a || nat_lt 0 n) ≡ true → 1 ≤ n
@@ -289,7 +287,7 @@ module _ (m mem : Mem) (d new : DriverContent) (p : Periodic) (w : Work) (st : S
       name_apart : name ≢ st.at
       name_apart same = apart (subst (λ (n : ℕ). kept n ≡ true) same name_kept) (sym same)
 
-      then_name : next_of mem name ≡ next_of m name
+      pub then_name : next_of mem name ≡ next_of m name
       then_name = links name name_kept name_apart
 
       at_false : w.removes ≡ false → kept st.at ≡ true → next_of mem st.at ≡ Some name
@@ -394,7 +392,7 @@ module _ (m mem : Mem) (d new : DriverContent) (p : Periodic) (w : Work) (st : S
       pub still_kept : (n : ℕ) → kept n ≡ true → kept_then n ≡ true
       still_kept n on = ap (λ (b : Bool). b || kept n) (is_other n (other_name n on)) ∙ on
 
-      name_is_kept : kept_then name ≡ true
+      pub name_is_kept : kept_then name ≡ true
       name_is_kept = ap (λ (b : Bool). b || kept name) is_name
 
       was_kept : (n : ℕ) → kept_then n ≡ true → n ≢ name → kept n ≡ true

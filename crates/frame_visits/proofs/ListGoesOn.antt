@@ -3,7 +3,10 @@ use Rattle.std.proofs.Common.{◌≡◌, ◌≢◌, ℕ, ◌+◌, ◌*◌, ◌<�
 use Rattle.std.specs.List.{AllByRecursion}
 use Rattle.std.specs.Prelude.{◌||◌, if◌then◌else◌}
 use Rattle.std.proofs.lemmas.Bool.{false≢true, ne_eqb, eq-eqb, cases_eq}
+use Rattle.frame_chains.specs.declared.members.Descriptor.{Descriptor}
+use Rattle.frame_chains.specs.declared.members.QueueHead.{QueueHead}
 use Rattle.frame_chains.specs.declared.members.Member.{Member}
+use Rattle.frame_chains.specs.declared.members.Member.TheVariants.{Once, Each}
 use Rattle.frame_chains.specs.declared.members.Predecessor.TheVariants.{Element}
 use Rattle.frame_chains.specs.Chains.{Schedule, stands_in}
 use Rattle.frame_chains.proofs.Linking.{weaken}
@@ -16,35 +19,56 @@ use Rattle.driver_rows.specs.Rows.{driver_row}
 use Rattle.frame_laws.specs.frame_words.InWords.{HasMember}
 use Rattle.link_words.specs.Links.{link_read}
 use Rattle.driver_laws.specs.PartOpened.{opening_base}
-use Rattle.ring_laws.specs.lent_structures.Structures.{StructureSets, Tells}
-use Rattle.frame_walk.specs.Met.{Kind}
+use Rattle.qh_qtd.specs.declared.queue_head.Qh.{Qh}
+use Rattle.ring_laws.specs.lent_structures.Structures.{QueueHead as QueueHeadAt, StructureSets, Tells}
+use Rattle.periodic_rows.specs.Periodic.{PeriodicContent}
+use Rattle.frame_walk.specs.Met.{Kind, IsMetAs}
 use Rattle.frame_walk.specs.FrameHand.{FrameHand}
 use Rattle.described_parts.specs.Both.{both}
-use Rattle.described_parts.specs.Meeting.{is_led, kind_of, standing, met}
+use Rattle.described_parts.specs.Meeting.{is_led, kind_of, standing, or_recent, met}
 use Rattle.described_parts.specs.Growing.{led, led_in, IsLeftOut}
 use Rattle.described_parts.specs.Recent.{AreRecent}
-use Rattle.described_parts.specs.ListRows.{IsStoredIn}
+use Rattle.described_parts.specs.ListRows.{HasPart, IsStoredIn}
 use Rattle.described_parts.proofs.Finding.{IsMemberAt}
 use Rattle.described_parts.proofs.Growing.{members_kept}
+use Rattle.described_parts.proofs.Returning.{none_some}
 use Rattle.bus_world.specs.World.{World, controller_parts, driver_parts, driver_next}
 use Rattle.mixed_worlds.specs.Mixed.{Standing, IsMixedAt}
 use Rattle.mixed_worlds.proofs.lemmas.framed_memory.Now.{begins_there}
 use Rattle.frame_visits.specs.Ranks.{name_of, next_of, begins}
 use Rattle.frame_visits.specs.Belonging.{IsQueueAt, IsStillAt}
-use Rattle.frame_visits.specs.Visited.{IsNext, WasVisited, IsActiveAs, VisitsGoOn, VisitsGoOnAt, frame_in}
+use Rattle.frame_visits.specs.Visited.{IsNext, WasVisited, IsActiveAs, IsFirstIn, NewIsFirst, GoesAhead, VisitsGoOn, VisitsGoOnAt, frame_in}
 use Rattle.frame_visits.proofs.DriverGoesOn.{IsListSpread, IsMetStill, linked_stands, member_stands, met_still, standing_is_met, left_is_met, visited_still, active_still, were_active_still}
 use Rattle.frame_visits.proofs.InFrames.{linked_active, row_back}
-use Rattle.frame_visits.proofs.LinkSteps.{ListStep, IsMetThere, name_away, same_ranked, first_ranked, still_kept, old_height, old_who, kept_then, height_then, who_then}
-use Rattle.frame_visits.proofs.ToldLinks.{HasOwn, own_met, table_apart, other_links, link_here}
+use Rattle.frame_visits.proofs.LinkSteps.{ListStep, IsMetThere, its as its_way, all_led, name_kept, then_name, name_is_kept, name_away, same_ranked, first_ranked, still_kept, old_height, old_who, kept_then, height_then, who_then}
+use Rattle.frame_visits.specs.OneDescriptor.{IsActiveDescriptor, IsAloneAs}
+use Rattle.frame_visits.proofs.ActiveBefore.{driver_before, part_before, driver_no_queue}
+use Rattle.frame_visits.proofs.ActiveStands.{scheduled_is_alone}
+use Rattle.frame_visits.proofs.AheadStores.{IsQueue, is_queue, ahead_then, still_ahead, either_ahead, closed_then}
+use Rattle.frame_visits.proofs.ToldLinks.{HasOwn, own_met, own_part, table_apart, other_links, link_here}
 
-some_none : {X : Type 0} (a : Option X) (x : X) → a ≡ None → a ≡ Some x → ⊥
-some_none a x none some = cc
+-- a queue head is there
+record IsHeadAt (parts : StructureSets) (n : ℕ) : Type 0 where
+  head : Qh
+  here : parts n n ≡ Some (QueueHeadAt head)
 
-module _ (s : Standing) (w : World) (k : IsMixedAt s w) (vs : List ℕ) (v : VisitsGoOnAt s w vs) (p : Periodic) (way : Work) (st : Store)
+no_queue : (x : Descriptor) (q : QueueHead) → Once x ≡ Each q → ⊥
+no_queue x q same = cc
+
+head_part : (q : PeriodicContent) (parts : StructureSets) (n : ℕ) (x : Member) → HasPart n (parts n) (kind_of q x) → (r : QueueHead) → x ≡ Each r → IsHeadAt parts n
+head_part q parts n (Each x) part r same = record { head = part.part_is.queue; here = part.part_is.here }
+head_part q parts n (Once x) part r same = absurd (no_queue x r same)
+
+head_met : (met : ℕ → Option Kind) (q : PeriodicContent) (parts : StructureSets) (n : ℕ) (x : Member) → IsMetAs met n (parts n) (kind_of q x) → (r : QueueHead) → x ≡ Each r → IsHeadAt parts n
+head_met met q parts n (Each x) part r same = record { head = part.part_is.queue; here = part.part_is.here }
+head_met met q parts n (Once x) part r same = absurd (no_queue x r same)
+
+module _ (s : Standing) (w : World) (k : IsMixedAt s w) (start : World) (vs : List ℕ) (v : VisitsGoOnAt s start w vs) (p : Periodic) (way : Work) (st : Store)
     (step : ListStep w.memory (driver_next w).memory w.driver (driver_next w).driver p way st) (now : StructureSets) (frame_later : FrameHand)
     (stored : IsStoredIn opening_base (both s.descs s.parts) s.frame st.at st.value now frame_later) (after : Tells (driver_next w).memory now) (later : ℕ → Option Kind)
     (left_are : AreRecent (driver_next w).driver (driver_next w).registers.frame_index later) (gone : (n : ℕ) (kind : Kind) → v.visits.left n ≡ Some kind → IsMetThere later n)
-    (out : (x : Member) → is_linked (led w.driver) x ≡ true → IsLeftOut p way x → IsMetThere later (begins x)) where
+    (out : (x : Member) → is_linked (led w.driver) x ≡ true → IsLeftOut p way x → IsMetThere later (begins x))
+    (first_then : NewIsFirst w.driver.periodic.list → NewIsFirst (driver_next w).driver.periodic.list) where
   abbrev d : DriverContent
   d = w.driver
 
@@ -112,9 +136,68 @@ module _ (s : Standing) (w : World) (k : IsMixedAt s w) (vs : List ℕ) (v : Vis
   placed_back : (n : ℕ) (b : IsQueueAt (driver_next w).driver n) → IsStillAt b w.driver
   placed_back n b = row_back (driver_row (driver_parts w)) (driver_parts w) k.now.planned n b
 
+  -- ---- to which the walk may go on
+
+  module _ (own_link : next_of (driver_next w).memory (begins way.member) ≡ next_of w.memory (begins way.member))
+      (queue : (q : QueueHead) → way.member ≡ Each q → IsHeadAt (both s.descs s.parts) (begins way.member)) where
+    abbrev ahead : ℕ → Bool
+    ahead =
+        ahead_then w.memory (driver_next w).memory w.driver (driver_next w).driver p way st step v.visits.kept v.visits.goes.ahead v.visits.goes.are_kept v.visits.goes.closed links here own_link
+
+    new_first : way.removes ≡ false → IsFirstIn p.members.schedule way.member
+    new_first adds = subst (λ (ms : Members). IsFirstIn ms.schedule way.member) (sym step.members) (v.visits.goes.first way (step.work adds) adds)
+
+    its_queue : way.removes ≡ false → v.visits.goes.ahead st.at ≡ true → IsQueue way.member
+    its_queue adds on =
+        is_queue w.memory (driver_next w).memory w.driver (driver_next w).driver p way st step (new_first adds) (λ i low at. beside i low at (v.visits.goes.are_kept st.at on))
+
+    none_new : (e f : ℕ) → way.removes ≡ false → v.visits.goes.ahead st.at ≡ true → IsActiveDescriptor (driver_next w).driver (driver_next w).memory e f (begins way.member) → ⊥
+    none_new e f adds on active =
+        let q : IsQueue way.member = its_queue adds on in
+        let h : IsHeadAt (both s.descs s.parts) (begins way.member) = queue q.queue q.is in
+        driver_no_queue s w k e f (begins way.member) h.head h.here active
+
+    old_then : (e f n : ℕ) → ahead n ≡ true → IsActiveDescriptor (driver_next w).driver (driver_next w).memory e f n → IsActiveDescriptor start.driver start.memory e f n
+    old_then e f n on active =
+        ⊎_elim (λ (old : v.visits.goes.ahead n ≡ true).
+        let there = v.within n (v.visits.goes.are_kept n old) in
+        v.visits.goes.old e f n old (driver_before s w k e f n there.0 there.1 active))
+        (λ (it : (n ≡ begins way.member) × ((way.removes ≡ false) × (v.visits.goes.ahead st.at ≡ true))).
+        absurd (none_new e f it.1.0 it.1.1 (subst (λ (i : ℕ). IsActiveDescriptor (driver_next w).driver (driver_next w).memory e f i) it.0 active)))
+        (either_ahead w.memory (driver_next w).memory w.driver (driver_next w).driver p way st step v.visits.kept v.visits.goes.ahead v.visits.goes.are_kept v.visits.goes.closed links here own_link n on)
+
+    goes_ahead : (kept_on : ℕ → Bool) → ((n : ℕ) → v.visits.kept n ≡ true → kept_on n ≡ true) → (way.removes ≡ false → kept_on (begins way.member) ≡ true) → GoesAhead start (driver_next w) kept_on
+    goes_ahead kept_on keeps name_kept = record {
+      ahead = ahead;
+      are_kept = λ n on.
+          ⊎_elim (λ (old : v.visits.goes.ahead n ≡ true). keeps n (v.visits.goes.are_kept n old))
+          (λ (it : (n ≡ begins way.member) × ((way.removes ≡ false) × (v.visits.goes.ahead st.at ≡ true))). subst (λ (i : ℕ). kept_on i ≡ true) (sym it.0) (name_kept it.1.0))
+          (either_ahead w.memory (driver_next w).memory w.driver (driver_next w).driver p way st step v.visits.kept v.visits.goes.ahead v.visits.goes.are_kept v.visits.goes.closed links here own_link n on);
+      closed = closed_then w.memory (driver_next w).memory w.driver (driver_next w).driver p way st step v.visits.kept v.visits.goes.ahead v.visits.goes.are_kept v.visits.goes.closed links here own_link;
+      next = λ j part is.
+          still_ahead w.memory (driver_next w).memory w.driver (driver_next w).driver p way st step v.visits.kept v.visits.goes.ahead v.visits.goes.are_kept v.visits.goes.closed links here own_link j
+          (v.visits.goes.next j part is);
+      first = first_then v.visits.goes.first;
+      old = old_then;
+    }
+
+  -- ---- what is active stands in its frame alone
+
+  alone_still : (n : ℕ) → v.visits.kept n ≡ true → IsAloneAs (driver_next w).driver (driver_next w).memory n (v.visits.who n)
+  alone_still n on e f g a stands = let there = v.within n on in v.visits.alone n on e f g (driver_before s w k e f n there.0 there.1 a) stands
+
   -- ---- a member goes on to be linked, or leaves
 
-  pub store_goes_on : is_led way ≡ true → VisitsGoOn (driver_next w) vs
+  head_on : is_led way ≡ true → (q : QueueHead) → way.member ≡ Each q → IsHeadAt (both s.descs s.parts) (begins way.member)
+  head_on on =
+      let linked : is_linked (led w.driver) way.member ≡ true
+      = ap (λ (t : Schedule). is_linked t way.member) (all_led w.memory (driver_next w).memory w.driver (driver_next w).driver p way st step on)
+      ∙ (its_way w.memory (driver_next w).memory w.driver (driver_next w).driver p way st step).1 in
+      head_met (met w.driver s.recent) w.driver.periodic (both s.descs s.parts) (begins way.member) way.member
+      (k.now.framed.runs.members (begins way.member) (kind_of w.driver.periodic way.member)
+      (ap (λ (o : Option Kind). or_recent o (s.recent (begins way.member))) (linked_stands w.driver way.member step.frames.spread linked)))
+
+  pub store_goes_on : is_led way ≡ true → VisitsGoOn start (driver_next w) vs
   store_goes_on on = record {
     left = later;
     left_are = left_are;
@@ -130,18 +213,26 @@ module _ (s : Standing) (w : World) (k : IsMixedAt s w) (vs : List ℕ) (v : Vis
     };
     active = λ n on. active_still w.driver (driver_next w).driver n (v.visits.who n) (placed_back n) (v.visits.active n on);
     were_active = were_active_still w.driver (driver_next w).driver v.visits.left v.visits.who frame vs (λ n was. placed_back n) v.visits.behind.were v.visits.were_active;
+    goes = goes_ahead
+        (then_name w.memory (driver_next w).memory w.driver (driver_next w).driver p way st step v.visits.kept v.visits.height v.visits.who v.visits.ranked links here beside on) (head_on on) v.visits.kept
+        (λ n there. there)
+        (λ adds. name_kept w.memory (driver_next w).memory w.driver (driver_next w).driver p way st step v.visits.kept v.visits.height v.visits.who v.visits.ranked links here beside on);
+    alone = alone_still;
   }
 
   -- ---- a member comes
 
-  module _ (adds : way.removes ≡ false) (zero_made : way.made ≡ 0) (own : HasOwn (both s.descs s.parts) (begins way.member)) (unmet : met w.driver s.recent (begins way.member) ≡ None)
+  module _ (adds : way.removes ≡ false) (zero_made : way.made ≡ 0) (part : HasPart (begins way.member) (both s.descs s.parts (begins way.member)) (kind_of w.driver.periodic way.member)) (unmet : met w.driver s.recent (begins way.member) ≡ None)
       (unvisited : met w.driver v.visits.left (begins way.member) ≡ None) where
     abbrev name : ℕ
     name = begins way.member
 
+    own : HasOwn (both s.descs s.parts) (begins way.member)
+    own = own_part (both s.descs s.parts) (begins way.member) (kind_of w.driver.periodic way.member) part
+
     fresh_by : (b : Bool) → v.visits.kept (begins way.member) ≡ b → b ≡ false
     fresh_by false is = refl
-    fresh_by true is = let there = v.within (begins way.member) is in absurd (some_none (met w.driver s.recent (begins way.member)) there.0 unmet there.1)
+    fresh_by true is = let there = v.within (begins way.member) is in absurd (none_some there.0 (sym unmet ∙ there.1))
 
     fresh : v.visits.kept (begins way.member) ≡ false
     fresh = fresh_by (v.visits.kept (begins way.member)) refl
@@ -154,7 +245,7 @@ module _ (s : Standing) (w : World) (k : IsMixedAt s w) (vs : List ℕ) (v : Vis
     own_link = other_links w.memory (driver_next w).memory (both s.descs s.parts) now opening_base s.frame frame_later st.at st.value stored told after (begins way.member) own away
 
     other_visited : (x : ℕ) → WasVisited w.driver v.visits.left v.visits.who frame x → x ≢ begins way.member
-    other_visited x was same = some_none (met w.driver v.visits.left (begins way.member)) was.kind unvisited (ap (met w.driver v.visits.left) (sym same) ∙ was.is_met)
+    other_visited x was same = none_some was.kind (sym unvisited ∙ ap (met w.driver v.visits.left) (sym same) ∙ was.is_met)
 
     other_kept : (x : ℕ) → v.visits.kept x ≡ true → x ≢ begins way.member
     other_kept x on same = false≢true (sym fresh ∙ ap v.visits.kept (sym same) ∙ on)
@@ -223,12 +314,23 @@ module _ (s : Standing) (w : World) (k : IsMixedAt s w) (vs : List ℕ) (v : Vis
         subst (λ (i : ℕ). IsActiveAs (driver_next w).driver i (who_on i)) (sym same) (subst (IsActiveAs (driver_next w).driver (begins way.member)) (sym new_who) name_active))
         (λ (differs : n ≢ begins way.member). other_active n differs (v.visits.active n (was_kept n differs on))) (cases_eq n (begins way.member))
 
+    name_alone : IsAloneAs (driver_next w).driver (driver_next w).memory (begins way.member) way.member
+    name_alone e f g a stands = scheduled_is_alone s w way.member k its e f g (part_before s w k e f (begins way.member) (kind_of w.driver.periodic way.member) part a) stands
+
+    alone_on : (n : ℕ) → kept_on n ≡ true → IsAloneAs (driver_next w).driver (driver_next w).memory n (who_on n)
+    alone_on n on =
+        ⊎_elim {C = IsAloneAs (driver_next w).driver (driver_next w).memory n (who_on n)} (λ (same : n ≡ begins way.member).
+        subst (λ (i : ℕ). IsAloneAs (driver_next w).driver (driver_next w).memory i (who_on i)) (sym same)
+        (subst (IsAloneAs (driver_next w).driver (driver_next w).memory (begins way.member)) (sym new_who) name_alone))
+        (λ (differs : n ≢ begins way.member).
+        subst (IsAloneAs (driver_next w).driver (driver_next w).memory n) (sym (whos n differs)) (alone_still n (was_kept n differs on))) (cases_eq n (begins way.member))
+
     were_active_on : (us : List ℕ) → AllByRecursion (WasVisited w.driver v.visits.left v.visits.who frame) us → AllByRecursion (λ x. IsActiveAs w.driver x (v.visits.who x)) us
         → AllByRecursion (λ x. IsActiveAs (driver_next w).driver x (who_on x)) us
     were_active_on [] were all = tt
     were_active_on (x ∷ xs) were all = (other_active x (other_visited x were.0) all.0, were_active_on xs were.1 all.1)
 
-    pub member_comes : VisitsGoOn (driver_next w) vs
+    pub member_comes : VisitsGoOn start (driver_next w) vs
     member_comes = record {
       left = later;
       left_are = left_are;
@@ -249,4 +351,7 @@ module _ (s : Standing) (w : World) (k : IsMixedAt s w) (vs : List ℕ) (v : Vis
       };
       active = active_on;
       were_active = were_active_on vs v.visits.behind.were v.visits.were_active;
+      goes = goes_ahead own_link (head_part w.driver.periodic (both s.descs s.parts) (begins way.member) way.member part) kept_on keeps
+          (λ adds. name_is_kept w.memory (driver_next w).memory w.driver (driver_next w).driver p way st step v.visits.kept v.visits.height v.visits.who v.visits.ranked links here beside adds zero_made fresh own_link);
+      alone = alone_on;
     }

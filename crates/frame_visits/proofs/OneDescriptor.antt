@@ -26,7 +26,7 @@ use Rattle.frame_visits.specs.OneDescriptor.{HasOneActive, IsActiveDescriptor, O
 
 -- ---- what is lent has its frame
 
-lent_framed : (d : DriverContent) (m : Mem) (number : ℕ) (y : Transfer) → AreAwaiting d m → slice_get d.transfers number ≡ Some y → IsLent (slot_of d.book.slots y.first)
+pub lent_framed : (d : DriverContent) (m : Mem) (number : ℕ) (y : Transfer) → AreAwaiting d m → slice_get d.transfers number ≡ Some y → IsLent (slot_of d.book.slots y.first)
     → number < framed_to d.command d.made (length d.transfers)
 lent_framed d m number y await here lent = by d.command d.made refl refl
   where
@@ -52,7 +52,7 @@ lent_framed d m number y await here lent = by d.command d.made refl refl
 
 -- ---- one that is active waits for its harvest
 
-unreported : (d : DriverContent) (m : Mem) (e f n : ℕ) → HasOneActive d m → (a : IsActiveDescriptor d m e f n) → a.transfer.reported ≡ false
+pub unreported : (d : DriverContent) (m : Mem) (e f n : ℕ) → HasOneActive d m → (a : IsActiveDescriptor d m e f n) → a.transfer.reported ≡ false
 unreported d m e f n k a = by a.transfer.reported refl
   where
     by : (b : Bool) → a.transfer.reported ≡ b → a.transfer.reported ≡ false

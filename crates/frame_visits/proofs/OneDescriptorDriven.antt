@@ -28,7 +28,7 @@ use Rattle.driver_rows.specs.DriverContent.{DriverContent}
 use Rattle.driver_rows.specs.Words.{head_block}
 use Rattle.driver_rows.specs.Harvests.{reported}
 use Rattle.driver_rows.specs.Rows.{Parts, events_of, store_order, after_driver_row, advanced_by, last_frame, framed_notes, with_notes, placement_at, framed_by, linked_by, after_transfer, freed_by, free_runs, free_transfers, free_descriptors, free_endpoint, is_told, gone_with, after_endpoint, stored_link, descriptor_leaving, after_unlink, after_descriptor, removed_with, after_placed, after_removed, after_harvest, is_iso}
-use Rattle.driver_laws.specs.run_owners.Owners.{Owner, Described, Element, FrameList, IsPlaced, ArePieces, is_descriptor, runs_of_transfer, DescriptorRuns, views_of}
+use Rattle.driver_laws.specs.run_owners.Owners.{Described, Element, FrameList, IsPlaced, ArePieces, is_descriptor, runs_of_transfer, DescriptorRuns, views_of}
 use Rattle.driver_laws.specs.run_owners.Due.{IsNextOf, IsLinkOf, IsDue}
 use Rattle.driver_laws.specs.run_owners.Kept.{HasOwners}
 use Rattle.driver_laws.proofs.lemmas.run_owners.Stays.{framed}
@@ -41,6 +41,7 @@ use Rattle.driver_laws.proofs.lemmas.listed_members.Stays.{endpoint_set}
 use Rattle.admission_laws.proofs.Events.{either}
 use Rattle.frame_laws.specs.iso_frames.Frames.{framed_to}
 use Rattle.frame_laws.proofs.lemmas.iso_frames.Harvested.{get_dropped}
+use Rattle.described_parts.proofs.Returning.{same_transfer}
 use Rattle.frame_visits.proofs.OneDescriptorWords.{AreCalm, same}
 use Rattle.frame_visits.proofs.OneDescriptorStores.{AllCalm, both_calm, all_calm, more_calm, either_calm, lend_calm, runs_calm, qtds_calm, transfers_calm, descriptors_calm, first_word, other_run, linked_calm, link_calm}
 use Rattle.frame_visits.proofs.OneDescriptorRows.{Back, Out, back_same, out_same, back_released, back_all, back_placed, advanced_transfers, advanced_notes, advanced_out, iso_endpoints, framed_elsewhere, harvest_back, harvest_out, harvest_notes}
@@ -124,14 +125,6 @@ get_taken zero xs i x here = absurd (cc)
 get_taken (suc n) [] i x here = absurd (cc)
 get_taken (suc n) (y ∷ ys) zero x here = here
 get_taken (suc n) (y ∷ ys) (suc i) x here = get_taken n ys i x here
-
-transfer_of : Owner → ℕ
-transfer_of (Described split t) = t
-transfer_of _ = 0
-
-same_transfer : (a b : Bool) (t u : ℕ) → Described a t ≡ Described b u → t ≡ u
-unfolding transfer_of
-same_transfer a b t u is = ap transfer_of is
 
 -- each descriptor that is held has a block of its own
 pub one_block : (d : DriverContent) (t u : ℕ) (y z : Transfer) → HasOwners d → slice_get d.transfers t ≡ Some y → slice_get d.transfers u ≡ Some z → is_descriptor y.sort ≡ true → is_descriptor z.sort ≡ true → y.released ≡ false → z.released ≡ false

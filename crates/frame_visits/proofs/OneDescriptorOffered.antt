@@ -16,11 +16,10 @@ use Rattle.periodic_rows.specs.Periodic.{note_at}
 use Rattle.periodic_rows.specs.Descriptors.{is_served}
 use Rattle.driver_rows.specs.declared.content.Endpoint.{Endpoint}
 use Rattle.driver_rows.specs.declared.content.Transfer.{Transfer}
-use Rattle.driver_rows.specs.declared.content.Slots.{Slots}
 use Rattle.driver_rows.specs.declared.content.Command.{Command}
 use Rattle.driver_rows.specs.declared.content.Command.TheVariants as unfinished
 use Rattle.driver_rows.specs.DriverContent.{DriverContent}
-use Rattle.driver_rows.specs.Offers.{Offered, offered, Descriptors, descriptor_transfer, all_descriptors, slot_runs, iso_needs, new_runs, total_of, entered_iso, first_waiting, with_cancel, accepted_unchain, endpoint_members}
+use Rattle.driver_rows.specs.Offers.{Offered, offered, Descriptors, all_descriptors, iso_needs, new_runs, total_of, entered_iso, first_waiting, with_cancel, accepted_unchain, endpoint_members}
 use Rattle.driver_rows.specs.Rows.{finished}
 use Rattle.driver_laws.specs.run_owners.Owners.{Described, IsPlaced, HasBlocks, HasRun, is_descriptor, runs_of_transfer}
 use Rattle.driver_laws.specs.run_owners.Accepts.{Chains, Describes, Accepts, opens, chains, places, transfers, describes, cancels, unchains}
@@ -48,6 +47,7 @@ use Rattle.frame_visits.proofs.OneDescriptorStores.{both_calm, all_calm, words_c
 use Rattle.frame_visits.proofs.OneDescriptorRows.{Back, Out, from_itself, back_same, done_transfers, done_notes}
 use Rattle.frame_visits.proofs.OneDescriptorDriven.{Follows, noted_same}
 use Rattle.frame_visits.proofs.OneDescriptorWorlds.{goes_on, was_active}
+use Rattle.frame_visits.proofs.BelongIso.{IsLater, which, made_is}
 
 -- ---- memory
 
@@ -97,7 +97,7 @@ row_calm k m stands b split run q c at (v ∷ vs) off =
 idle_out : (d : DriverContent) (xs : List Endpoint) → d.command ≡ None → Out d xs
 idle_out d xs idle e off = inr (ap (λ (c : Option Command). framed_to c d.made (length d.transfers)) idle)
 
-either_pushed : {X : Type 0} (xs : List X) (y : X) (t : ℕ) (z : X) → slice_get (xs ++ y ∷ []) t ≡ Some z → (slice_get xs t ≡ Some z) ⊎ (y ≡ z)
+pub either_pushed : {X : Type 0} (xs : List X) (y : X) (t : ℕ) (z : X) → slice_get (xs ++ y ∷ []) t ≡ Some z → (slice_get xs t ≡ Some z) ⊎ (y ≡ z)
 either_pushed [] y zero z here = inr (same_Some y z here)
 either_pushed [] y (suc t) z here = absurd (cc)
 either_pushed (x ∷ xs) y zero z here = inl here
@@ -110,23 +110,6 @@ back_pushed d m y off t z here sort held =
 
 -- ---- descriptors are taken on
 
--- what comes behind
-either_more : {X : Type 0} (xs ys : List X) (t : ℕ) (z : X) → slice_get (xs ++ ys) t ≡ Some z → (slice_get xs t ≡ Some z) ⊎ ((i : ℕ) × (slice_get ys i ≡ Some z))
-either_more [] ys t z here = inr (t, here)
-either_more (x ∷ xs) ys zero z here = inl here
-either_more (x ∷ xs) ys (suc t) z here = either_more xs ys t z here
-
-pub record IsFreshOf (e : ℕ) (z : Transfer) : Type 0 where
-  pub untold : z.reported ≡ false
-  pub endpoint : z.endpoint ≡ e
-
-made_fresh : (e : ℕ) (s : Slots) (n : ℕ) (rs : List ℕ) (i : ℕ) (z : Transfer) → slice_get (made e s n rs) i ≡ Some z → IsFreshOf e z
-made_fresh e s zero rs i z here = absurd (cc)
-made_fresh e s (suc n) rs zero z here =
-    let is : descriptor_transfer e s (get_or rs 0 0) ≡ z = same_Some (descriptor_transfer e s (get_or rs 0 0)) z here in
-    record { untold = ap (λ (x : Transfer). x.reported) (sym is); endpoint = ap (λ (x : Transfer). x.endpoint) (sym is) }
-made_fresh e s (suc n) rs (suc i) z here = made_fresh e s n (drop (suc (slot_runs s)) rs) i z here
-
 not_fresh : (h g : Holding) (ns bs : List ℕ) (taken : AreTaken h g ns bs) (b : ℕ) → HasRun (slot_of h.book.slots b) → IsOneOf b bs → ⊥
 not_fresh h g ns bs taken b run one = let at = index bs one in fresh_differs at.0 b taken at.1.0 run (sym at.1.1)
   where
@@ -135,7 +118,7 @@ not_fresh h g ns bs taken b run one = let at = index bs one in fresh_differs at.
     index (c ∷ cs) (inl is) = (0, (omega arith, is))
     index (c ∷ cs) (inr there) = let at = index cs there in let low = at.1.0 in (suc at.0, (omega (arith, low), at.1.1))
 
-abbrev Starts : DriverContent → Mem → DriverContent → Mem → Type 0
+abbrev pub Starts : DriverContent → Mem → DriverContent → Mem → Type 0
 Starts d m new later = (t : ℕ) (z : Transfer) → IsActiveTransfer new later t z → WasActive d m new t z ⊎ (length d.transfers ≤ t)
 
 module _ (d : DriverContent) (m : Mem) (o : Offered) (why : Describes d m o) (sound : IsSound m d) (lent : AreLent d) where
@@ -164,11 +147,11 @@ module _ (d : DriverContent) (m : Mem) (o : Offered) (why : Describes d m o) (so
         notes_other g.book why.number why.endpoint.desc why.slots why.count why.seed bs (record { notes = d.periodic.notes; transfers = d.transfers; memory = g.memory }) y.first enough
         (not_fresh (holding d.book m) g (iso_needs why.slots why.count) bs taken y.first (blocks_some _ (slot_of d.book.slots y.first) placed.run))
 
-    either_one : (t : ℕ) (z : Transfer) → slice_get new.transfers t ≡ Some z → (slice_get d.transfers t ≡ Some z) ⊎ IsFreshOf why.number z
+    either_one : (t : ℕ) (z : Transfer) → slice_get new.transfers t ≡ Some z → (slice_get d.transfers t ≡ Some z) ⊎ ((z.endpoint ≡ why.number) × (z.reported ≡ false))
     either_one t z here =
         ⊎_elim (λ (was : slice_get d.transfers t ≡ Some z). inl was)
-        (λ (more : (i : ℕ) × (slice_get (made why.number why.slots why.count bs) i ≡ Some z)). inr (made_fresh why.number why.slots why.count bs more.0 z more.1))
-        (either_more d.transfers (made why.number why.slots why.count bs) t z
+        (λ (more : IsLater (made why.number why.slots why.count bs) z). inr (made_is why.number why.slots why.count bs more.index z more.there))
+        (which d.transfers (made why.number why.slots why.count bs) t z
         (ap (λ (ts : List Transfer). slice_get ts t) (sym (all_transfers g.book why.number why.endpoint.desc why.slots why.count why.seed bs (record { notes = d.periodic.notes; transfers = d.transfers; memory = g.memory }))) ∙ here))
 
     same_frames : (e : ℕ) → framed_in new.endpoints e ≡ framed_in d.endpoints e
@@ -186,12 +169,12 @@ module _ (d : DriverContent) (m : Mem) (o : Offered) (why : Describes d m o) (so
         (λ (was : slice_get d.transfers t ≡ Some z).
         stays_served (note_at d.periodic.notes z.first) (note_at new.periodic.notes z.first) m (entered bs).memory z.first (ap (λ note. note.split) (noted t z was sort held))
         (lent_calm d m (entered bs).memory t z sound lent why.idle leaves was sort held) (old.served t z was sort told held))
-        (λ (fresh : IsFreshOf why.number z). absurd (false≢true (sym fresh.untold ∙ told))) (either_one t z here)
+        (λ (fresh : (z.endpoint ≡ why.number) × (z.reported ≡ false)). absurd (false≢true (sym fresh.1 ∙ told))) (either_one t z here)
 
     older : (e t : ℕ) (z : Transfer) → is_chained (framed_in new.endpoints e) ≡ false → slice_get new.transfers t ≡ Some z → z.endpoint ≡ e → slice_get d.transfers t ≡ Some z
     older e t z off here at =
         ⊎_elim (λ (was : slice_get d.transfers t ≡ Some z). was)
-        (λ (fresh : IsFreshOf why.number z). absurd (false≢true (sym off ∙ ap (λ (i : ℕ). is_chained (framed_in new.endpoints i)) (sym at ∙ fresh.endpoint) ∙ on))) (either_one t z here)
+        (λ (fresh : (z.endpoint ≡ why.number) × (z.reported ≡ false)). absurd (false≢true (sym off ∙ ap (λ (i : ℕ). is_chained (framed_in new.endpoints i)) (sym at ∙ fresh.0) ∙ on))) (either_one t z here)
 
     in_front : {X : Type 0} (xs ys : List X) (t : ℕ) (z : X) → slice_get (xs ++ ys) t ≡ Some z → t < length xs → slice_get xs t ≡ Some z
     in_front [] ys t z there low = absurd (omega (arith, low))
@@ -259,9 +242,9 @@ module _ (s : Standing) (w : World) (k : IsMixedAt s w) where
   lent = k.now.framed.place.lent
 
   -- both that are shown of it
-  record Goes (new : DriverContent) (later : Mem) : Type 0 where
-    has : HasOneActive w.driver w.memory → HasOneActive new later
-    starts : Starts w.driver w.memory new later
+  pub record Goes (new : DriverContent) (later : Mem) : Type 0 where
+    pub has : HasOneActive w.driver w.memory → HasOneActive new later
+    pub starts : Starts w.driver w.memory new later
 
   by_follows : (new : DriverContent) (later : Mem) → Follows w.driver w.memory new
       → ((t : ℕ) (y : Transfer) → slice_get w.driver.transfers t ≡ Some y → is_descriptor y.sort ≡ true → y.released ≡ false → AreCalm (note_at w.driver.periodic.notes y.first).split w.memory later y.first) → Goes new later
@@ -302,7 +285,7 @@ module _ (s : Standing) (w : World) (k : IsMixedAt s w) where
       (back_same d w.memory (finished f (unfinished.Unchain e)).transfers (done_transfers f (unfinished.Unchain e) ∙ moves)) (idle_out d _ idle)
   unchain_by e x q idle f moves kept false = noted_same d w.memory f kept (back_same d w.memory f.transfers moves) (idle_out d _ idle)
 
-  by_accept : (o : Offered) → Accepts w.driver w.memory o → Goes o.driver o.memory
+  pub by_accept : (o : Offered) → Accepts w.driver w.memory o → Goes o.driver o.memory
   by_accept o (opens why) =
       let new = o.driver in
       by_leaves o.driver o.memory why.idle

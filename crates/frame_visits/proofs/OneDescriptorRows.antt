@@ -34,6 +34,7 @@ use Rattle.driver_laws.proofs.lemmas.listed_members.Events.{plain_by}
 use Rattle.admission_laws.proofs.Events.{either}
 use Rattle.frame_laws.specs.iso_frames.Frames.{framed_to}
 use Rattle.frame_visits.proofs.OneDescriptorMet.{there}
+use Rattle.frame_visits.proofs.BelongTold.{or_left}
 
 -- ---- who is held
 
@@ -123,14 +124,11 @@ done_transfers d unfinished.Chain = refl
 done_transfers d (unfinished.Iso e t count) = refl
 done_transfers d (unfinished.Unchain e) = out_transfers (no_command d) e (slice_get d.endpoints e)
 
-or_transfers : (d : DriverContent) (c : Command) → (or_finished d c).transfers ≡ d.transfers
-or_transfers d c = either (λ (g : DriverContent). g.transfers) (is_none d.periodic.list.work) (finished d c) d d.transfers (done_transfers d c) refl
-
 pub advanced_transfers : (d : DriverContent) (o : Option Command) → (advanced_by d o).transfers ≡ d.transfers
 advanced_transfers d None = refl
 advanced_transfers d (Some c) =
     either (λ (g : DriverContent). g.transfers) (nat_lt (suc d.made) (length (events_of c))) (record d { made = suc d.made }) (if links c then linked_on d c else finished d c) d.transfers refl
-    (either (λ (g : DriverContent). g.transfers) (links c) (linked_on d c) (finished d c) d.transfers (or_transfers _ c) (done_transfers d c))
+    (either (λ (g : DriverContent). g.transfers) (links c) (linked_on d c) (finished d c) d.transfers (or_left _ c) (done_transfers d c))
 
 left_notes : (d : DriverContent) (e : ℕ) (o : Option Endpoint) → (leave_ring d e o).periodic.notes ≡ d.periodic.notes
 left_notes d e None = refl
@@ -148,7 +146,7 @@ done_notes d unfinished.Chain = refl
 done_notes d (unfinished.Iso e t count) = refl
 done_notes d (unfinished.Unchain e) = out_notes (no_command d) e (slice_get d.endpoints e)
 
-or_notes : (d : DriverContent) (c : Command) → (or_finished d c).periodic.notes ≡ d.periodic.notes
+pub or_notes : (d : DriverContent) (c : Command) → (or_finished d c).periodic.notes ≡ d.periodic.notes
 or_notes d c = either (λ (g : DriverContent). g.periodic.notes) (is_none d.periodic.list.work) (finished d c) d d.periodic.notes (done_notes d c) refl
 
 pub advanced_notes : (d : DriverContent) (o : Option Command) → (advanced_by d o).periodic.notes ≡ d.periodic.notes

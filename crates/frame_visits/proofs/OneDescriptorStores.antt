@@ -26,6 +26,7 @@ use Rattle.driver_rows.specs.declared.content.Transfer.{Transfer}
 use Rattle.driver_rows.specs.Harvests.{note_at}
 use Rattle.driver_rows.specs.Rows.{free_runs, free_qtd, free_qtds, is_held_of, free_transfers, free_descriptor, free_descriptors, linked_descriptors}
 use Rattle.driver_rows.specs.DriverContent.{waits_for}
+use Rattle.frame_laws.proofs.lemmas.list_spread.Spreading.{slot_has}
 use Rattle.frame_visits.proofs.OneDescriptorWords.{Calms, same, cleared, AreCalm}
 
 -- ---- one after the other
@@ -129,11 +130,6 @@ run_within r i b first few has =
     let low = is.from in
     let high = is.below in
     (omega (arith, first, low), omega (arith, first, few, high))
-
-slot_has : (s : Slot) (b n i : ℕ) → IsAt b s → HasBlocks n s → b ≤ i → i < b + n → SlotHas s i
-slot_has Empty b n i at blocks low high = absurd blocks
-slot_has (Keeps r) b n i at blocks low high = let first = at.0 in has_block_from r i (omega (arith, first, low)) (omega (arith, first, blocks, high))
-slot_has (Lends r) b n i at blocks low high = let first = at.0 in has_block_from r i (omega (arith, first, low)) (omega (arith, first, blocks, high))
 
 slot_stores : (s : Slot) (at : ℕ) → can_store s at ≡ true → SlotHas s (at / 32)
 slot_stores Empty at on = absurd (cc)

@@ -2,7 +2,7 @@
 use Rattle.std.proofs.Common.{◌≡◌, ℕ, zero, suc, ◌+◌, ◌*◌, ◌<◌, Bool, true, false, not, cond, List, [], ◌∷◌, refl, ap, sym, ◌∙◌, arith, get_or}
 use Rattle.std.specs.Prelude.{◌||◌}
 use Rattle.std.specs.List.{list_any}
-use Rattle.std.proofs.lemmas.Bool.{false≢true, true≢false}
+use Rattle.std.proofs.lemmas.Bool.{not-true, or_parts}
 use Rattle.word_mem.specs.Memory.{Mem, word_at}
 use Rattle.word_mem.proofs.Words.{get_or-words_in}
 use Rattle.bandwidth.specs.Placements.{below}
@@ -23,10 +23,6 @@ none_or : (a b : Bool) → a ≡ false → b ≡ false → (a || b) ≡ false
 none_or true b one two = one
 none_or false b one two = two
 
-or_none : (a b : Bool) → (a || b) ≡ false → (a ≡ false) × (b ≡ false)
-or_none true b none = absurd (true≢false none)
-or_none false b none = (refl, none)
-
 pub any_none : (p : ℕ → Bool) → ((u : ℕ) → u < 8 → p u ≡ false) → list_any p (below 8) ≡ false
 any_none p each =
     none_or (p 0) _ (each 0 (omega arith))
@@ -38,14 +34,14 @@ any_none p each =
 
 pub none_any : (p : ℕ → Bool) → list_any p (below 8) ≡ false → (u : ℕ) → u < 8 → p u ≡ false
 none_any p none u few =
-    let a0 = or_none (p 0) _ none in
-    let a1 = or_none (p 1) _ a0.1 in
-    let a2 = or_none (p 2) _ a1.1 in
-    let a3 = or_none (p 3) _ a2.1 in
-    let a4 = or_none (p 4) _ a3.1 in
-    let a5 = or_none (p 5) _ a4.1 in
-    let a6 = or_none (p 6) _ a5.1 in
-    let a7 = or_none (p 7) _ a6.1 in
+    let a0 = or_parts (p 0) _ none in
+    let a1 = or_parts (p 1) _ a0.1 in
+    let a2 = or_parts (p 2) _ a1.1 in
+    let a3 = or_parts (p 3) _ a2.1 in
+    let a4 = or_parts (p 4) _ a3.1 in
+    let a5 = or_parts (p 5) _ a4.1 in
+    let a6 = or_parts (p 6) _ a5.1 in
+    let a7 = or_parts (p 7) _ a6.1 in
     by u few a0.0 a1.0 a2.0 a3.0 a4.0 a5.0 a6.0 a7.0
   where
     by : (u : ℕ) → u < 8 → p 0 ≡ false → p 1 ≡ false → p 2 ≡ false → p 3 ≡ false → p 4 ≡ false → p 5 ≡ false → p 6 ≡ false → p 7 ≡ false → p u ≡ false
@@ -124,10 +120,6 @@ pub record AreCalm (split : Bool) (m new : Mem) (b : ℕ) : Type 0 where
   pub slots : split ≡ false → (u : ℕ) → u < 8 → Calms (word_at m (32 * b + 4 + 4 * u)) (word_at new (32 * b + 4 + 4 * u))
   pub state : split ≡ true → Calms (word_at m (32 * b + 12)) (word_at new (32 * b + 12))
 
-not_true : (b : Bool) → not b ≡ true → b ≡ false
-not_true true is = absurd (false≢true is)
-not_true false is = refl
-
 pub served_split : (note : DescriptorNote) (m : Mem) (b : ℕ) → note.split ≡ true → is_served note m b ≡ not (sitd_in m b).active
 served_split note m b is = ap (λ (s : Bool). not (cond s (sitd_in m b).active (itd_is_active m b))) is
 
@@ -135,10 +127,10 @@ pub served_itd : (note : DescriptorNote) (m : Mem) (b : ℕ) → note.split ≡ 
 served_itd note m b is = ap (λ (s : Bool). not (cond s (sitd_in m b).active (itd_is_active m b))) is
 
 pub served_off : (note : DescriptorNote) (m : Mem) (b : ℕ) → note.split ≡ false → is_served note m b ≡ true → itd_is_active m b ≡ false
-served_off note m b is on = not_true (itd_is_active m b) (sym (served_itd note m b is) ∙ on)
+served_off note m b is on = not-true (itd_is_active m b) (sym (served_itd note m b is) ∙ on)
 
 pub split_off : (note : DescriptorNote) (m : Mem) (b : ℕ) → note.split ≡ true → is_served note m b ≡ true → (sitd_in m b).active ≡ false
-split_off note m b is on = not_true (sitd_in m b).active (sym (served_split note m b is) ∙ on)
+split_off note m b is on = not-true (sitd_in m b).active (sym (served_split note m b is) ∙ on)
 
 pub stays_served : (note now : DescriptorNote) (m new : Mem) (b : ℕ) → now.split ≡ note.split → AreCalm note.split m new b → is_served note m b ≡ true → is_served now new b ≡ true
 stays_served note now m new b alike calm on = by note.split refl

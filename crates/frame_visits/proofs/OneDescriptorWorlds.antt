@@ -1,5 +1,5 @@
 -- Each event of the driver leaves of an endpoint and a frame at most one descriptor active, and a new world has none.
-use Rattle.std.proofs.Common.{◌≡◌, ◌≢◌, ℕ, zero, suc, ◌*◌, ◌/◌, ◌&&◌, not, Bool, true, false, cond, List, [], ◌∷◌, length, drop, slice_get, Option, Some, None, option_map, refl, ap, sym, subst, ◌∙◌, ⊎_elim, arith}
+use Rattle.std.proofs.Common.{◌≡◌, ◌≢◌, ℕ, ◌*◌, ◌/◌, ◌&&◌, not, Bool, true, false, cond, List, [], ◌∷◌, length, slice_get, Option, Some, None, option_map, refl, ap, sym, subst, ◌∙◌, ⊎_elim, arith}
 use Rattle.std.specs.Prelude.{option_and_then}
 use Rattle.std.specs.List.{AllByRecursion}
 use Rattle.std.proofs.lemmas.Bool.{true≢false}
@@ -22,6 +22,7 @@ use Rattle.driver_laws.specs.Inventory.{Sort, OfQueueHead, sort_of, IsDriverOwne
 use Rattle.driver_laws.specs.listed_members.Placed.{Placed, placed_of, framed_in, is_chained}
 use Rattle.driver_laws.specs.listed_members.Listed.{IsListed}
 use Rattle.driver_laws.proofs.lemmas.listed_members.Standing.{descriptor_block}
+use Rattle.driver_laws.proofs.lemmas.listed_members.Schedules.{all_more}
 use Rattle.frame_laws.specs.iso_frames.Frames.{framed_to, AreInFrames}
 use Rattle.frame_laws.specs.iso_frames.Due.{IsWaitingFor}
 use Rattle.frame_laws.proofs.lemmas.iso_frames.Due.{one_each}
@@ -29,6 +30,7 @@ use Rattle.frame_laws.proofs.lemmas.iso_frames.Framing.{all_joined}
 use Rattle.walked_queues.specs.mended_heads.Owed.{StalledQueue, left_of, all_left, mends_at}
 use Rattle.walked_queues.specs.mended_heads.Waiting.{Waits}
 use Rattle.bus_world.specs.World.{World, driver_parts, driver_next}
+use Rattle.script_laws.proofs.lemmas.byte_answers.Lists.{all_drop}
 use Rattle.mixed_worlds.specs.Mixed.{Standing, IsMixedAt}
 use Rattle.frame_visits.specs.OneDescriptor.{HasOneActive, NewHasOneActive, DriverKeepsOneActive, IsActiveTransfer, WasActive, ControllerStartsNone, DriverStartsNone}
 use Rattle.frame_visits.proofs.OneDescriptorWords.{AreCalm, stays_served}
@@ -65,21 +67,12 @@ waiting d e t y here sort at untold chained all = record {
 
 -- ---- what is owed to stalled endpoints
 
-drop_all : {X : Type 0} (P : X → Type 0) (n : ℕ) (xs : List X) → AllByRecursion P xs → AllByRecursion P (drop n xs)
-drop_all P zero xs all = all
-drop_all P (suc n) [] all = tt
-drop_all P (suc n) (x ∷ xs) all = drop_all P n xs all.1
-
 left_all : (P : ℕ → Type 0) (s : StalledQueue) → P s.queue → AllByRecursion (λ w. P w.queue) (left_of s)
-left_all P s own = drop_all (λ w. P w.queue) s.made (mends_at s.queue s.onward) (own, (own, (own, tt)))
+left_all P s own = all_drop (λ w. P w.queue) s.made (mends_at s.queue s.onward) (own, (own, (own, tt)))
 
 mends_all : (P : ℕ → Type 0) (ss : List StalledQueue) → AllByRecursion (λ s. P s.queue) ss → AllByRecursion (λ w. P w.queue) (all_left ss)
 mends_all P [] all = tt
 mends_all P (s ∷ ss) all = all_joined (λ w. P w.queue) (left_of s) (all_left ss) (left_all P s all.0) (mends_all P ss all.1)
-
-weaker_all : {X : Type 0} (P Q : X → Type 0) (xs : List X) → ((x : X) → Q x → P x) → AllByRecursion Q xs → AllByRecursion P xs
-weaker_all P Q [] by all = tt
-weaker_all P Q (x ∷ xs) by all = (by x all.0, weaker_all P Q xs by all.1)
 
 first_all : {X : Type 0} (P : X → Type 0) (xs : List X) (x : X) → AllByRecursion P xs → slice_get xs 0 ≡ Some x → P x
 first_all P [] x all here = absurd (cc)
@@ -184,7 +177,7 @@ module _ (s : Standing) (w : World) (k : IsMixedAt s w) where
       let mends = k.queues.controls.mends in
       let placed = (sound.owners.owned.each.described t (runs_of_transfer y) (ap (option_map runs_of_transfer) here) sort held).descriptor in
       let each : AllByRecursion (λ q. q.queue ≢ y.first) mends.queues =
-      weaker_all (λ (q : StalledQueue). q.queue ≢ y.first) (λ q. Waits q s.parts s.out) mends.queues
+      all_more (λ q. Waits q s.parts s.out) (λ (q : StalledQueue). q.queue ≢ y.first) mends.queues
       (λ q waits. no_head w.driver sound.owners (32 * q.queue) (32 * q.queue) OfQueueHead q.queue y.first t (note_at w.driver.periodic.notes y.first).split
       (k.now.framed.driven.only (32 * q.queue) (32 * q.queue) OfQueueHead (ap (option_map sort_of) waits.stands.here)) refl refl placed) mends.are.wait in
       first_all (λ (x : Mend). x.queue ≢ y.first) w.driver.mends v (subst (AllByRecursion (λ (x : Mend). x.queue ≢ y.first)) (sym mends.are.mends) (mends_all (λ q. q ≢ y.first) mends.queues each)) first

@@ -22,6 +22,8 @@ use Rattle.described_parts.specs.Recent.{IsRemovedSince, IsUnchainedNow, AreRece
 use Rattle.described_parts.proofs.ListRows.{either_if, unlinking_led}
 use Rattle.mixed_worlds.proofs.lemmas.framed_memory.Steps.{linking_led}
 use Rattle.mixed_worlds.proofs.lemmas.framed_memory.StillStanding.{IsThereStill, set_still, recent_still}
+use Rattle.frame_visits.specs.Visited.{NewIsFirst}
+use Rattle.frame_visits.proofs.NewFirst.{next_first}
 use Rattle.frame_visits.proofs.DriverGoesOn.{LeavesMembers}
 
 -- ---- the next member begins
@@ -108,7 +110,7 @@ ended_list d c = either_if (λ (f : DriverContent). f.periodic.list ≡ d.period
 -- ---- an event of its own
 
 pub same_list : (d new : DriverContent) → new.periodic.list ≡ d.periodic.list → LeavesMembers d new
-same_list d new same = record { led_same = ap led_in same; half = λ x is adds made. sym (ap (λ (p : Periodic). p.work) same) ∙ is }
+same_list d new same = record { led_same = ap led_in same; half = λ x is adds made. sym (ap (λ (p : Periodic). p.work) same) ∙ is; first = subst NewIsFirst (sym same) }
 
 pub some_below : {X : Type 0} (xs : List X) (n : ℕ) (x : X) → slice_get xs n ≡ Some x → n < length xs
 some_below [] n x here = absurd (cc)
@@ -132,6 +134,8 @@ module _ (d g : DriverContent) (c : Command) (list : g.periodic.list ≡ d.perio
     half = λ x is adds made.
         sym (ap (λ (p : Periodic). p.work) after_is)
         ∙ next_half (removes_members c) (record g.periodic { list = list_after g c }) x (sym (ap (λ (p : Periodic). p.work) (ended_list begun_on c)) ∙ is) adds made;
+    first = λ old.
+        subst NewIsFirst (sym (ended_list begun_on c)) (next_first (removes_members c) (record g.periodic { list = list_after g c }) (subst NewIsFirst (sym after_is) old));
   }
 
   pub own_leaves : LeavesMembers d (advanced_by g (Some c))
@@ -152,7 +156,7 @@ first_removals : (removes : Bool) (q : PeriodicContent) (ms : List Member) → (
 first_removals removes q [] = refl
 first_removals removes q (x ∷ xs) = refl
 
-next_removals : (removes : Bool) (q : PeriodicContent) → (begun_next removes q).removals ≡ q.removals
+pub next_removals : (removes : Bool) (q : PeriodicContent) → (begun_next removes q).removals ≡ q.removals
 next_removals removes q = either_if (λ (r : PeriodicContent). r.removals ≡ q.removals) (is_none q.list.work) (with_first removes q q.queued) q (λ e. first_removals removes q q.queued) (λ e. refl)
 
 -- what is recent goes by these alone

@@ -28,6 +28,7 @@ use Rattle.iso_visits.specs.Sitd.{sitd_turn, sitd_in, sitd_out, sitd_transaction
 use Rattle.iso_visits.specs.WriteBack.{itd_written}
 use Rattle.async_walk.specs.declared.state.WalkStep.TheVariants as steps
 use Rattle.async_walk.proofs.Times.{costs_something}
+use Rattle.frame_visits.proofs.ReasonRings.{either_step, either_written}
 use Rattle.periodic_walk.specs.declared.chain.ChainRow.{ChainRow}
 use Rattle.periodic_walk.specs.declared.chain.ChainRow.TheVariants as chain_rows
 use Rattle.periodic_walk.specs.declared.queue.QueueRow.{QueueRow}
@@ -81,14 +82,6 @@ too_late : (left price : ℕ) → left ≡ 0 → 0 < price → nat_lt left price
 too_late left price none costs in_time = let most = ltb-false left price in_time in omega (arith, none, costs, most)
 
 -- ---- which step it is
-
-either_written : (b : Bool) → (if b then steps.WriteBack else steps.Fault) ≢ steps.Transact
-either_written true same = cc
-either_written false same = cc
-
-either_taken : (b : Bool) → (if b then steps.Advance else steps.Fault) ≢ steps.Transact
-either_taken true same = cc
-either_taken false same = cc
 
 either_left : (b : Bool) (p q : FramePlace) → p.walk.left ≡ 0 → q.walk.left ≡ 0 → (if b then p else q).walk.left ≡ 0
 either_left true p q one other = one
@@ -165,7 +158,7 @@ queue_effect_quiet (queue_rows.WriteBack outcome) h p quiet none =
 queue_no_transaction : (row : QueueRow) (h : HeldQueue) (p : FramePlace) → AsksNothing row → queue_step row h p ≢ steps.Transact
 queue_no_transaction queue_rows.Fault h p quiet same = cc
 queue_no_transaction queue_rows.Skip h p quiet same = cc
-queue_no_transaction (queue_rows.Advance a t) h p quiet same = either_taken (reaches_queue_head p.memory h.copy.at) same
+queue_no_transaction (queue_rows.Advance a t) h p quiet same = either_step (reaches_queue_head p.memory h.copy.at) same
 queue_no_transaction (queue_rows.Transact t) h p quiet same = quiet
 queue_no_transaction queue_rows.Miss h p quiet same = either_written (queue_writing (missed h).copy miss_outcome p.walk.reply p.memory).all same
 queue_no_transaction (queue_rows.WriteBack outcome) h p quiet same = either_written (queue_writing h.copy outcome p.walk.reply p.memory).all same

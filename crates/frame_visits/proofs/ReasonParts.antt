@@ -47,7 +47,7 @@ row_in w = where_running w.registers.run w.registers w.control.frame w.control.p
 
 -- ---- a command leaves the controller and the bus
 
-answered_control : (w : World) (n : ℕ) (name : EpName) (r : Result Offered OfferError) → (commanded_by w n name r).control ≡ w.control
+pub answered_control : (w : World) (n : ℕ) (name : EpName) (r : Result Offered OfferError) → (commanded_by w n name r).control ≡ w.control
 answered_control w n name (Ok o) = refl
 answered_control w n name (Err why) = refl
 

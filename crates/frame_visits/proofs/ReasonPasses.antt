@@ -1,7 +1,7 @@
 -- A queue head in hand of the walk of the frames is passed for a reason, and each event at it is one of a few.
 use Rattle.std.proofs.Common.{◌≡◌, ◌≢◌, ℕ, ◌≤◌, Bool, true, false, not, ◌&&◌, if◌then◌else◌, inl, inr, Option, Some, None, ap, sym, subst, ◌∙◌, refl}
 use Rattle.std.specs.Prelude.{nat_lt, ◌⊎◌}
-use Rattle.std.proofs.lemmas.Bool.{ltb-true, ltb-false, true≢false, and_left, and_right}
+use Rattle.std.proofs.lemmas.Bool.{ltb-true, ltb-false, true≢false, and_left, and_right, not-true, and_parts}
 use Rattle.word_mem.specs.Memory.{Mem}
 use Rattle.link_words.specs.declared.kinds.QtdLink.{QtdLink}
 use Rattle.link_words.specs.declared.kinds.QtdLink.TheVariants as qtd_links
@@ -38,14 +38,6 @@ use Rattle.frame_visits.specs.FrameReasons.{GoesToLink, HasItsTurn, QueueHasNoth
 
 -- ---- which turn it is, and why
 
-both_of : (x y : Bool) → (x && y) ≡ true → (x ≡ true) × (y ≡ true)
-both_of true y is = (refl, is)
-both_of false y is = absurd (true≢false (sym is))
-
-not_of : (x : Bool) → not x ≡ true → x ≡ false
-not_of true is = absurd (true≢false (sym is))
-not_of false is = refl
-
 data TurnIs (p : FramePlace) (h : HeldQueue) : Turn → Type 0 where
   rests : QueueHasNothing p h → TurnIs p h turns.Rest
   works : HasItsTurn p h → TurnIs p h turns.Work
@@ -61,10 +53,10 @@ module _ (p : FramePlace) (h : HeldQueue) where
 
   waiting_is : waits h.copy.queue_head ≡ true → (h.copy.queue_head.token.active ≡ true) × (h.copy.queue_head.token.halted ≡ false)
   waiting_is is =
-      let rest = (both_of _ _ is).1 in
-      let last = (both_of _ _ rest).1 in
-      let both = both_of _ _ last in
-      (both.0, not_of _ both.1)
+      let rest = (and_parts _ _ is).1 in
+      let last = (and_parts _ _ rest).1 in
+      let both = and_parts _ _ last in
+      (both.0, not-true _ both.1)
 
   completed : (lost now : Bool) → waits h.copy.queue_head ≡ true → is_missed p.walk.index h.copy.queue_head ≡ lost → has h.copy.queue_head.cmask (microframe_of p.walk.index) ≡ now
       → TurnIs p h (complete_turn lost now)

@@ -29,7 +29,7 @@ use Rattle.bus_world.specs.World.{sent_by, sends_by, walk_by, walk_next}
 abbrev IsLeft : WalkPlace → Type 0
 IsLeft p = p.walk.left ≡ 0
 
-passed_left : (w : Walk) (o : Option Held) → (passed_walk w o).left ≡ w.left
+pub passed_left : (w : Walk) (o : Option Held) → (passed_walk w o).left ≡ w.left
 passed_left w None = refl
 passed_left w (Some h) = refl
 
@@ -56,7 +56,7 @@ wrote_left p (Some h) none = wrote_settled_left p h h.settled none
 
 -- ---- which step it is
 
-either_step : (b : Bool) → (if b then steps.Advance else steps.Fault) ≢ steps.Transact
+pub either_step : (b : Bool) → (if b then steps.Advance else steps.Fault) ≢ steps.Transact
 either_step true same = cc
 either_step false same = cc
 
@@ -64,7 +64,7 @@ took_no_transaction : (m : Mem) (o : Option Held) → took_step m o ≢ steps.Tr
 took_no_transaction m None same = cc
 took_no_transaction m (Some h) same = either_step (reaches_queue_head m h.at) same
 
-either_written : (b : Bool) → (if b then steps.WriteBack else steps.Fault) ≢ steps.Transact
+pub either_written : (b : Bool) → (if b then steps.WriteBack else steps.Fault) ≢ steps.Transact
 either_written true same = cc
 either_written false same = cc
 

@@ -123,7 +123,7 @@ transfer_recent p left index t h (Some y) there are = λ n kind on.
 
 -- ---- the row
 
-module _ (s : Standing) (w : World) (k : IsMixedAt s w) (vs : List ℕ) (v : VisitsGoOnAt s w vs) where
+module _ (s : Standing) (w : World) (k : IsMixedAt s w) (start : World) (vs : List ℕ) (v : VisitsGoOnAt s start w vs) where
   abbrev next_by : DriverRow → World
   next_by row = with_parts w (after_driver_row row (driver_parts w))
 
@@ -138,13 +138,13 @@ module _ (s : Standing) (w : World) (k : IsMixedAt s w) (vs : List ℕ) (v : Vis
       (sound.owners, (sound.listed, (has_frames opening_base n.member n.recent n.descs n.parts n.hand n.frame (controller_parts (driver_next w)) (driver_next w).driver m.mixed.now).spread))
 
   returned : (row : DriverRow) → driver_row (driver_parts w) ≡ row → IsRest (driver_parts w) (after_driver_row row (driver_parts w)) → ((e : ℕ) → w.driver.command ≡ Some (unfinished.Unchain e) → ⊥)
-      → AreRecent (after_driver_row row (driver_parts w)).driver w.registers.frame_index v.visits.left → VisitsGoOn (driver_next w) vs
+      → AreRecent (after_driver_row row (driver_parts w)).driver w.registers.frame_index v.visits.left → VisitsGoOn start (driver_next w) vs
   returned row is rest stays are =
       let d : DriverContent = w.driver in
       let new : DriverContent = (next_by row).driver in
       let after : Owned (next_by row) = subst (λ (r : DriverRow). Owned (next_by r)) is owned_next in
       let led_same : led new ≡ led d = ap led_in rest.list in
-      elsewhere s w k vs v row is (same_list d new rest.list)
+      elsewhere s w k start vs v row is (same_list d new rest.list)
       (λ n on.
       let there = v.left_within n on in
       let still : IsMetStill new v.visits.left n
@@ -156,7 +156,7 @@ module _ (s : Standing) (w : World) (k : IsMixedAt s w) (vs : List ℕ) (v : Vis
       ap (λ (x : ℕ). name_of (link_read x)) (rest.words h.block n (slot_there new after.0.owner n rest.placed h)))
       (subst (λ (r : RegisterFile). AreRecent new r.frame_index v.visits.left) (sym rest.registers) are)
 
-  pub transfer_visits : (t : ℕ) → driver_row (driver_parts w) ≡ rows.ReleaseTransfer t → VisitsGoOn (driver_next w) vs
+  pub transfer_visits : (t : ℕ) → driver_row (driver_parts w) ≡ rows.ReleaseTransfer t → VisitsGoOn start (driver_next w) vs
   transfer_visits t is =
       let due : IsDue (driver_parts w) (rows.ReleaseTransfer t) = subst (IsDue (driver_parts w)) is (each_is_due (driver_parts w)) in
       let sound = k.now.framed.place.sound in
@@ -177,7 +177,7 @@ module _ (s : Standing) (w : World) (k : IsMixedAt s w) (vs : List ℕ) (v : Vis
       by (Some x) here =
           endpoint_recent (driver_parts w) v.visits.left w.registers.frame_index e x k.now.framed.place.sound.owners (row_is_given_back (driver_parts w) (removed.Endpoint e) is) here v.visits.left_are
 
-  pub removed_visits : (what : Removed) → driver_row (driver_parts w) ≡ rows.ReleaseRemoved what → VisitsGoOn (driver_next w) vs
+  pub removed_visits : (what : Removed) → driver_row (driver_parts w) ≡ rows.ReleaseRemoved what → VisitsGoOn start (driver_next w) vs
   removed_visits what is =
       let due : IsDue (driver_parts w) (rows.ReleaseRemoved what) = subst (IsDue (driver_parts w)) is (each_is_due (driver_parts w)) in
       let sound = k.now.framed.place.sound in
@@ -204,7 +204,7 @@ module _ (s : Standing) (w : World) (k : IsMixedAt s w) (vs : List ℕ) (v : Vis
         within = r.within;
       })))
 
-  pub endpoint_visits : (e : ℕ) → driver_row (driver_parts w) ≡ rows.ReleaseEndpoint e → VisitsGoOn (driver_next w) vs
+  pub endpoint_visits : (e : ℕ) → driver_row (driver_parts w) ≡ rows.ReleaseEndpoint e → VisitsGoOn start (driver_next w) vs
   endpoint_visits e is =
       let due : IsEndpointDue (driver_parts w) e = subst (IsDue (driver_parts w)) is (each_is_due (driver_parts w)) in
       let sound = k.now.framed.place.sound in

@@ -1,5 +1,5 @@
 -- The visits go on with each event of the driver by which it links or unlinks members of its frame list.
-use Rattle.std.proofs.Common.{◌≡◌, ℕ, ◌*◌, ◌/◌, Bool, true, false, nat_eq, if◌then◌else◌, List, Option, Some, None, ⊎_elim, ap, refl, sym, subst, ◌∙◌, arith}
+use Rattle.std.proofs.Common.{◌≡◌, ℕ, ◌*◌, ◌/◌, Bool, true, false, nat_eq, if◌then◌else◌, List, Option, Some, None, ⊎_elim, ap, refl, sym, subst, ◌∙◌}
 use Rattle.std.specs.Prelude.{◌==◌, ◌&&◌, not, nat_lt, option_and_then}
 use Rattle.std.proofs.lemmas.Bool.{true≢false, and_parts, eq-eqb, eqb-true, cases_Bool}
 use Rattle.std.proofs.lemmas.Map.Views.{any-filter_same}
@@ -36,6 +36,7 @@ use Rattle.described_parts.proofs.Finding.{IsMemberAt}
 use Rattle.described_parts.proofs.Leading.{no_removal, none_made, led_linked}
 use Rattle.described_parts.proofs.ListRecent.{link_recent}
 use Rattle.described_parts.proofs.Queued.{descriptors_first, leaving_first}
+use Rattle.described_parts.proofs.Returning.{same_blocks}
 use Rattle.bus_world.specs.World.{World, driver_parts, controller_parts, driver_next}
 use Rattle.mixed_worlds.specs.framed_memory.Chained.{IsChainLent}
 use Rattle.mixed_worlds.specs.framed_memory.NowRows.{FramedLinked}
@@ -43,11 +44,11 @@ use Rattle.mixed_worlds.proofs.lemmas.framed_memory.ChainedLent.{chain_comes_fir
 use Rattle.mixed_worlds.proofs.lemmas.framed_memory.Now.{has_frames}
 use Rattle.mixed_worlds.specs.Mixed.{Standing, IsMixedAt}
 use Rattle.frame_visits.specs.Ranks.{begins}
-use Rattle.frame_visits.specs.Visited.{VisitsGoOn, VisitsGoOnAt}
+use Rattle.frame_visits.specs.Visited.{NewIsFirst, VisitsGoOn, VisitsGoOnAt}
 use Rattle.frame_visits.proofs.DriverGoesOn.{IsListSpread, member_stands}
 use Rattle.frame_visits.proofs.LinkSteps.{ListStep, IsMetThere}
 use Rattle.frame_visits.proofs.LeftFresh.{queue_fresh}
-use Rattle.frame_visits.proofs.ToldLinks.{own_part}
+use Rattle.frame_visits.proofs.NewFirst.{next_first, store_first}
 use Rattle.frame_visits.proofs.ListGoesOn.{store_goes_on, member_comes}
 use Rattle.frame_visits.proofs.OwnSteps.{next_led, next_half, stored_half}
 
@@ -89,9 +90,6 @@ gone s (Each q) =
     any-filter_same (is_this q) (λ x. not (is_named q.id x)) false
     (λ x is. ap not (and_parts (nat_eq x.id q.id) (nat_eq x.period q.period && nat_eq x.phase q.phase) is).0) s.queues
 
-same_block : (a b : ℕ) → 32 * a ≡ 32 * b → a ≡ b
-same_block a b is = omega (arith, is)
-
 unled_off : (d : DriverContent) (x : Work) → IsListSpread d → d.periodic.list.work ≡ Some x → is_led x ≡ false → is_linked d.periodic.list.members.schedule x.member ≡ true → standing d (begins x.member) ≡ None
 unled_off d x spread under off on = by (standing d (begins x.member)) refl
   where
@@ -106,7 +104,7 @@ unled_off d x spread under off on = by (standing d (begins x.member)) refl
     by (Some kind) is =
         let at : IsMemberAt (led d) (begins x.member) = member_stands d (begins x.member) kind is in
         let same : at.member ≡ x.member
-        = spread.once at.member x.member (led_linked s d.periodic.list.work at.member at.linked) on (same_block (id_of at.member / 32) (id_of x.member / 32) at.begins) in
+        = spread.once at.member x.member (led_linked s d.periodic.list.work at.member at.linked) on (same_blocks (id_of at.member / 32) (id_of x.member / 32) at.begins) in
         absurd (true≢false (sym (ap (λ (t : Schedule). is_linked t x.member) (sym led_is) ∙ ap (is_linked (led d)) (sym same) ∙ at.linked) ∙ gone s x.member))
 
 none_of_both : (o r : Option Kind) → o ≡ None → r ≡ None → or_recent o r ≡ None
@@ -122,7 +120,7 @@ pub has_way : (p : Periodic) (st : Store) (o : Option Work) → p.work ≡ o →
 has_way p st None under is = absurd (cc)
 has_way p st (Some x) under is = record { work = x; under = under }
 
-module _ (s : Standing) (w : World) (k : IsMixedAt s w) (vs : List ℕ) (v : VisitsGoOnAt s w vs) (why : IsLinkOf (driver_parts w) (driver_row (driver_parts w)))
+module _ (s : Standing) (w : World) (k : IsMixedAt s w) (start : World) (vs : List ℕ) (v : VisitsGoOnAt s start w vs) (why : IsLinkOf (driver_parts w) (driver_row (driver_parts w)))
     (e : FramedLinked opening_base s.member s.recent s.descs s.parts s.hand s.frame (controller_parts w) w.driver why.store)
     (comes : ComesFirst s.member s.recent (both s.descs s.parts) w.driver w.driver.periodic.list)
     (left_fresh : (x : Work) → w.driver.periodic.list.work ≡ Some x → x.removes ≡ false → x.made ≡ 0 → v.visits.left (begins x.member) ≡ None) where
@@ -179,19 +177,23 @@ module _ (s : Standing) (w : World) (k : IsMixedAt s w) (vs : List ℕ) (v : Vis
   leaves : (x : Member) → is_linked (led w.driver) x ≡ true → IsLeftOut w.driver.periodic.list way.work x → IsMetThere later (begins x)
   leaves x on out = leaver_met w.driver.periodic w.driver.periodic.list way.work x v.visits.left way.under out
 
-  pub link_visits : VisitsGoOn (driver_next w) vs
+  first_then : NewIsFirst w.driver.periodic.list → NewIsFirst (driver_next w).driver.periodic.list
+  first_then old =
+      subst NewIsFirst (sym list_is) (next_first (removes_members why.command) (record w.driver.periodic { list = after_store w.driver.periodic.list }) (store_first w.driver.periodic.list old))
+
+  pub link_visits : VisitsGoOn start (driver_next w) vs
   link_visits =
       ⊎_elim
       (λ (on : is_led way.work ≡ true).
-      store_goes_on s w k vs v w.driver.periodic.list way.work why.store step e.event.now e.event.frame_later e.event.stored e.event.runs.ring.tells later left_are stays_left leaves on)
+      store_goes_on s w k start vs v w.driver.periodic.list way.work why.store step e.event.now e.event.frame_later e.event.stored e.event.runs.ring.tells later left_are stays_left leaves first_then on)
       (λ (off : is_led way.work ≡ false).
       let parted = no_removal way.work.removes (nat_lt 0 way.work.made) off in
       let zero : way.work.made ≡ 0 = none_made way.work.made parted.1 in
       let c : Comes s.member s.recent (both s.descs s.parts) (begins way.work.member) (kind_of w.driver.periodic way.work.member) = comes way.work way.under parted.0 zero in
       let linked : is_linked w.driver.periodic.list.members.schedule way.work.member ≡ true = on_way w.driver.periodic.list.members.schedule w.driver.periodic.list.work way.work way.under frames.list.order.member in
       let unled : standing w.driver (begins way.work.member) ≡ None = unled_off w.driver way.work frames.spread way.under off linked in
-      member_comes s w k vs v w.driver.periodic.list way.work why.store step e.event.now e.event.frame_later e.event.stored e.event.runs.ring.tells later left_are stays_left leaves parted.0 zero
-      (own_part (both s.descs s.parts) (begins way.work.member) (kind_of w.driver.periodic way.work.member) c.part) (none_of_both (standing w.driver (begins way.work.member)) (s.recent (begins way.work.member)) unled c.fresh)
+      member_comes s w k start vs v w.driver.periodic.list way.work why.store step e.event.now e.event.frame_later e.event.stored e.event.runs.ring.tells later left_are stays_left leaves first_then parted.0 zero
+      c.part (none_of_both (standing w.driver (begins way.work.member)) (s.recent (begins way.work.member)) unled c.fresh)
       (none_of_both (standing w.driver (begins way.work.member)) (v.visits.left (begins way.work.member)) unled (left_fresh way.work way.under parted.0 zero)))
       (cases_Bool (is_led way.work))
     where
@@ -213,21 +215,21 @@ module _ (s : Standing) (w : World) (k : IsMixedAt s w) (left : ℕ → Option K
 chain_only : (o : Option Command) (e : ℕ) → o ≡ Some unfinished.Chain → o ≡ Some (unfinished.Unchain e) → ⊥
 chain_only o e one two = cc
 
-module _ (s : Standing) (w : World) (k : IsMixedAt s w) (vs : List ℕ) (v : VisitsGoOnAt s w vs) (why : IsLinkOf (driver_parts w) (driver_row (driver_parts w)))
+module _ (s : Standing) (w : World) (k : IsMixedAt s w) (start : World) (vs : List ℕ) (v : VisitsGoOnAt s start w vs) (why : IsLinkOf (driver_parts w) (driver_row (driver_parts w)))
     (e : FramedLinked opening_base s.member s.recent s.descs s.parts s.hand s.frame (controller_parts w) w.driver why.store) where
-  pub described_visits : (f t count : ℕ) → w.driver.command ≡ Some (unfinished.Iso f t count) → VisitsGoOn (driver_next w) vs
+  pub described_visits : (f t count : ℕ) → w.driver.command ≡ Some (unfinished.Iso f t count) → VisitsGoOn start (driver_next w) vs
   described_visits f t count is =
-      link_visits s w k vs v why e (described_first s w k s.recent k.now.recent_are f t count is)
+      link_visits s w k start vs v why e (described_first s w k s.recent k.now.recent_are f t count is)
       (λ x under adds zero. (described_first s w k v.visits.left v.visits.left_are f t count is x under adds zero).fresh)
 
-  pub unchained_visits : (f : ℕ) → w.driver.command ≡ Some (unfinished.Unchain f) → VisitsGoOn (driver_next w) vs
+  pub unchained_visits : (f : ℕ) → w.driver.command ≡ Some (unfinished.Unchain f) → VisitsGoOn start (driver_next w) vs
   unchained_visits f is =
-      link_visits s w k vs v why e (unchained_first s w k s.recent k.now.recent_are f is)
+      link_visits s w k start vs v why e (unchained_first s w k s.recent k.now.recent_are f is)
       (λ x under adds zero. (unchained_first s w k v.visits.left v.visits.left_are f is x under adds zero).fresh)
 
-  pub chained_visits : IsChainLent w.driver s.member s.recent s.parts → VisitsGoOn (driver_next w) vs
+  pub chained_visits : IsChainLent w.driver s.member s.recent s.parts → VisitsGoOn start (driver_next w) vs
   chained_visits t =
-      link_visits s w k vs v why e (chain_comes_first opening_base s.member s.recent s.descs s.parts s.hand s.frame (controller_parts w) w.driver k.now t) left_fresh
+      link_visits s w k start vs v why e (chain_comes_first opening_base s.member s.recent s.descs s.parts s.hand s.frame (controller_parts w) w.driver k.now t) left_fresh
     where
       left_fresh : (x : Work) → w.driver.periodic.list.work ≡ Some x → x.removes ≡ false → x.made ≡ 0 → v.visits.left (begins x.member) ≡ None
       left_fresh x under adds zero =

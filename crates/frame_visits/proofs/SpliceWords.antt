@@ -59,13 +59,13 @@ queue_around s q f kept is on stands =
       next = ap (λ (x : Schedule). successor x (Each q) f) (queue_put s q at) ∙ next_is s.descriptors at.front at.back q f named period stands;
     }
 
-abbrev queues_of : List QueueHead → ℕ → List Member
+abbrev pub queues_of : List QueueHead → ℕ → List Member
 queues_of qs f = map Each (flat_map (queues_in (of_lists [] qs) f) periods)
 
-abbrev rest_in : List Descriptor → List QueueHead → ℕ → List Member
+abbrev pub rest_in : List Descriptor → List QueueHead → ℕ → List Member
 rest_in ys qs f = once_in ys f ++ queues_of qs f
 
-with_chain : (xs ys : List Descriptor) (d : Descriptor) (qs : List QueueHead) (f : ℕ) → nat_eq d.frame f ≡ true → chain (of_lists (xs ++ d ∷ ys) qs) f ≡ once_in xs f ++ Once d ∷ rest_in ys qs f
+pub with_chain : (xs ys : List Descriptor) (d : Descriptor) (qs : List QueueHead) (f : ℕ) → nat_eq d.frame f ≡ true → chain (of_lists (xs ++ d ∷ ys) qs) f ≡ once_in xs f ++ Once d ∷ rest_in ys qs f
 with_chain xs ys d qs f e =
     ap (λ (x : List Descriptor). map Once x ++ queues_of qs f) (among (λ x. nat_eq x.frame f) xs ys d e)
     ∙ ap (λ (x : List Member). x ++ queues_of qs f) (map-append Once (filter (λ x. nat_eq x.frame f) xs) (d ∷ filter (λ x. nat_eq x.frame f) ys))
@@ -115,11 +115,11 @@ leads_behind list word p (m ∷ a) b led = leads_behind list word (After m) a b 
 
 -- ---- each word that is stored comes right before the member in a frame
 
-record IsBefore (s : Schedule) (m : Member) (p : Predecessor) : Type 0 where
-  frame : ℕ
-  below : frame < 1024
-  stands : stands_in frame m ≡ true
-  is : p ≡ predecessor s m frame
+pub record IsBefore (s : Schedule) (m : Member) (p : Predecessor) : Type 0 where
+  pub frame : ℕ
+  pub below : frame < 1024
+  pub stands : stands_in frame m ≡ true
+  pub is : p ≡ predecessor s m frame
 
 met_or_not : (s : Schedule) (m : Member) (f : ℕ) (b : Bool) → f < 1024 → stands_in f m ≡ true → AllByRecursion (IsBefore s m) (if b then predecessor s m f ∷ [] else [])
 met_or_not s m f true below stands = (record { frame = f; below = below; stands = stands; is = refl }, tt)
@@ -131,7 +131,7 @@ stands_or_not s m f fs true below stands all =
     both_parts (IsBefore s m) (word_met s m f) (flat_map (word_met s m) fs) (met_or_not s m f (nat_eq (first_frame (predecessor s m f)) f) below stands) all
 stands_or_not s m f fs false below stands all = all
 
-all_before : (s : Schedule) (m : Member) (fs : List ℕ) → AllByRecursion (λ f. f < 1024) fs → AllByRecursion (IsBefore s m) (predecessors s m fs)
+pub all_before : (s : Schedule) (m : Member) (fs : List ℕ) → AllByRecursion (λ f. f < 1024) fs → AllByRecursion (IsBefore s m) (predecessors s m fs)
 unfolding predecessors
 all_before s m [] below = tt
 all_before s m (f ∷ fs) below = stands_or_not s m f (filter (λ g. stands_in g m) fs) (stands_in f m) below.0 refl (all_before s m fs below.1)
@@ -141,7 +141,7 @@ nth_all P [] n x all there = absurd cc
 nth_all P (y ∷ ys) zero x all there = subst P (same_Some y x there) all.0
 nth_all P (y ∷ ys) (suc n) x all there = nth_all P ys n x all.1 there
 
-frames_low : AllByRecursion (λ f. f < 1024) (frames 10)
+pub frames_low : AllByRecursion (λ f. f < 1024) (frames 10)
 frames_low = weaken (λ f. f < 2 ^ 10) (λ f. f < 1024) (λ f h. omega (arith, h)) (frames 10) (recursion_from_All (λ f. f < 2 ^ 10) (frames 10) (all_below 10))
 
 -- ---- the member stands in each frame that has the word

@@ -32,13 +32,15 @@ use Rattle.described_parts.proofs.ListRows.{unlinking_led}
 use Rattle.described_parts.proofs.ListUnlinks.{name_block}
 use Rattle.ring_laws.specs.lent_structures.Structures.{Tells}
 use Rattle.described_parts.proofs.RowStaying.{unlink_recent}
+use Rattle.described_parts.proofs.Returning.{none_some}
 use Rattle.bus_world.specs.World.{World, driver_parts, controller_parts, driver_next}
 use Rattle.mixed_worlds.specs.framed_memory.NowRows.{FramedUnlinked}
 use Rattle.mixed_worlds.proofs.lemmas.framed_memory.Now.{has_frames}
 use Rattle.mixed_worlds.proofs.lemmas.framed_memory.NowRows.{unlink_now}
 use Rattle.mixed_worlds.specs.Mixed.{Standing, IsMixedAt}
 use Rattle.frame_visits.specs.Ranks.{begins}
-use Rattle.frame_visits.specs.Visited.{VisitsGoOn, VisitsGoOnAt}
+use Rattle.frame_visits.specs.Visited.{NewIsFirst, VisitsGoOn, VisitsGoOnAt}
+use Rattle.frame_visits.proofs.NewFirst.{store_first, unlinking_first}
 use Rattle.frame_visits.proofs.LinkSteps.{ListStep, IsMetThere}
 use Rattle.frame_visits.proofs.ListGoesOn.{store_goes_on}
 use Rattle.frame_visits.proofs.OwnSteps.{stored_half}
@@ -77,10 +79,7 @@ leaving l m word order stands = by (may_unlink l m) refl
           work = λ x is. inr (sym (same_Some (begun m true) x is));
         }
 
-none_some : {X : Type 0} (a : Option X) (x : X) → a ≡ None → a ≡ Some x → ⊥
-none_some a x none some = cc
-
-module _ (s : Standing) (w : World) (k : IsMixedAt s w) (vs : List ℕ) (v : VisitsGoOnAt s w vs) (t : ℕ) (y : Transfer) (is : driver_row (driver_parts w) ≡ rows.Unlink t)
+module _ (s : Standing) (w : World) (k : IsMixedAt s w) (start : World) (vs : List ℕ) (v : VisitsGoOnAt s start w vs) (t : ℕ) (y : Transfer) (is : driver_row (driver_parts w) ≡ rows.Unlink t)
     (there : slice_get w.driver.transfers t ≡ Some y) where
   abbrev p : Periodic
   p = descriptor_leaving w.driver y
@@ -108,7 +107,7 @@ module _ (s : Standing) (w : World) (k : IsMixedAt s w) (vs : List ℕ) (v : Vis
 
   way_is : way.work ≡ begun m true
   way_is =
-      ⊎_elim (λ (old : w.driver.periodic.list.work ≡ Some way.work). absurd (none_some w.driver.periodic.list.work way.work none old)) (λ (new : way.work ≡ begun m true). new)
+      ⊎_elim (λ (old : w.driver.periodic.list.work ≡ Some way.work). absurd (none_some way.work (sym none ∙ old))) (λ (new : way.work ≡ begun m true). new)
       (l.work way.work way.under)
 
   removes : way.work.removes ≡ true
@@ -157,8 +156,12 @@ module _ (s : Standing) (w : World) (k : IsMixedAt s w) (vs : List ℕ) (v : Vis
       (ap (λ (i : ℕ). 32 * (i / 32)) (eqb-true (id_of x) (id_of way.work.member) out.is ∙ ap (λ (z : Work). id_of z.member) way_is)
       ∙ ap (λ (b : ℕ). 32 * b) (name_block (note_at w.driver.periodic.notes y.first) y.first))
 
-  pub unlink_visits : VisitsGoOn (driver_next w) vs
+  first_then : NewIsFirst w.driver.periodic.list → NewIsFirst (driver_next w).driver.periodic.list
+  first_then old = subst NewIsFirst (sym list_is) (store_first (descriptor_leaving w.driver y) (unlinking_first w.driver.periodic.list m old))
+
+  pub unlink_visits : VisitsGoOn start (driver_next w) vs
   unlink_visits =
-      store_goes_on s w k vs v (descriptor_leaving w.driver y) way.work u.event.store step u.event.stored.now u.event.stored.frame_later u.event.stored.stored
+      store_goes_on s w k start vs v (descriptor_leaving w.driver y) way.work u.event.store step u.event.stored.now u.event.stored.frame_later u.event.stored.stored
       (subst (λ (r : DriverRow). Tells (after_driver_row r (driver_parts w)).memory u.event.stored.now) (sym is) u.event.stored.runs.ring.tells) later left_are
-      (λ n kind on. also_met (32 * y.first) n _ kind v.visits.left on) leaves (ap (λ (b : Bool). b || nat_lt 0 way.work.made) removes)
+      (λ n kind on. also_met (32 * y.first) n _ kind v.visits.left on) leaves first_then
+      (ap (λ (b : Bool). b || nat_lt 0 way.work.made) removes)

@@ -16,6 +16,10 @@ use Rattle.hc_core.specs.declared.controller.MicroframePart.TheVariants.{Over, P
 use Rattle.hc_core.specs.declared.controller.ControllerRow.{ControllerRow}
 use Rattle.hc_core.specs.declared.controller.ControllerRow.TheVariants as rows
 use Rattle.hc_core.specs.Controller.{Content, part_row, enter_row, ring_row, element_address, entered, frame_place, walk_place, HasRow}
+use Rattle.std.proofs.lemmas.Option.{same_Some}
+use Rattle.periodic_rows.specs.Periodic.{note_at}
+use Rattle.periodic_rows.specs.Descriptors.{is_served}
+use Rattle.driver_rows.specs.declared.content.Transfer.{Transfer}
 use Rattle.driver_rows.specs.DriverContent.{DriverContent}
 use Rattle.driver_laws.specs.PartOpened.{opening_base}
 use Rattle.ring_laws.specs.lent_structures.Structures.{StructureSets}
@@ -40,9 +44,13 @@ use Rattle.mixed_worlds.specs.framed_memory.Now.{recent_then}
 use Rattle.mixed_worlds.proofs.lemmas.framed_memory.Now.{has_frames, begins_there}
 use Rattle.mixed_worlds.proofs.lemmas.framed_memory.Index.{ring_index, frame_index}
 use Rattle.mixed_worlds.proofs.Controller.{controller_keeps_mixed}
-use Rattle.frame_visits.specs.Ranks.{name_of, next_of}
-use Rattle.frame_visits.specs.Visited.{visits_after, link_ahead, frame_in, IsNext, IsActiveAs, VisitsGoOn, VisitsGoOnAt}
+use Rattle.frame_visits.specs.OneDescriptor.{IsActiveDescriptor, WasActive}
+use Rattle.frame_visits.specs.Began.{began_at, began_by}
+use Rattle.frame_visits.specs.Ranks.{name_of, next_of, IsRanked}
+use Rattle.frame_visits.specs.Visited.{visits_after, link_ahead, frame_in, IsNext, IsBehind, IsActiveAs, GoesAhead, VisitsGoOn, VisitsGoOnAt}
 use Rattle.frame_visits.specs.VisitLaws.{ControllerKeepsVisiting}
+use Rattle.frame_visits.proofs.AheadWalking.{goes_to}
+use Rattle.frame_visits.proofs.OneDescriptorWorlds.{controller_starts_none}
 use Rattle.frame_visits.proofs.InFramesFetched.{all_after}
 use Rattle.frame_visits.proofs.VisitLinks.{next_stays}
 use Rattle.frame_visits.proofs.VisitMeeting.{visits_meet_now}
@@ -83,6 +91,15 @@ ring_no_frame false is = cc
 begin_no_frame : rows.Begin ≡ rows.Frame → ⊥
 begin_no_frame is = cc
 
+enter_no_begin : rows.Enter ≡ rows.Begin → ⊥
+enter_no_begin is = cc
+
+go_no_begin : rows.Go ≡ rows.Begin → ⊥
+go_no_begin is = cc
+
+end_no_begin : rows.End ≡ rows.Begin → ⊥
+end_no_begin is = cc
+
 idle_no_frame : rows.Idle ≡ rows.Frame → ⊥
 idle_no_frame is = cc
 
@@ -118,7 +135,7 @@ module _ {W : Type 0} (begins_with : W → ℕ → Bool → W → Type 0) (trans
 
 -- ---- the world
 
-module _ (fixed : Fixed) (s : Standing) (w : World) (vs : List ℕ) (k : IsMixedAt s w) (g : VisitsGoOnAt s w vs) where
+module _ (fixed : Fixed) (s : Standing) (start w : World) (vs : List ℕ) (k : IsMixedAt s w) (g : VisitsGoOnAt s start w vs) where
   abbrev new : World
   new = controller_next fixed w
 
@@ -170,7 +187,67 @@ module _ (fixed : Fixed) (s : Standing) (w : World) (vs : List ℕ) (k : IsMixed
         below = tt;
       }
 
-  visits_then : VisitsGoOn (controller_next fixed w) (visits_after (controller_row w) (controller_parts w) vs)
+  abbrev Then : Type 0
+  Then = IsBehind w.driver (recent_then (controller_row w) g.visits.left) g.visits.kept g.visits.height g.visits.who (controller_next fixed w).control (visits_after (controller_row w) (controller_parts w) vs)
+
+  ranked_then : IsRanked (controller_next fixed w).memory w.driver g.visits.kept g.visits.height g.visits.who
+  ranked_then = ranked_stays w.memory (controller_next fixed w).memory w.driver g.visits.kept g.visits.height g.visits.who frames link_stays g.visits.ranked
+
+  behind_then : Then
+  behind_then = behind_next begins_by transacts_by w.driver g.visits.left g.visits.kept g.visits.height g.visits.who (controller_parts w) (wired fixed w) (controller_parts (controller_next fixed w))
+      (wired fixed (controller_next fixed w)) vs g.visits.ranked g.visits.behind g.left_within (controller_row w)
+      (λ is. begins_over w.registers.run w.registers w.control.frame w.control.part is) (λ is. frame_periodic w.registers.run w.registers w.control.frame w.control.part is) first (world_has_row fixed w)
+
+  -- ---- to which the walk may go on
+
+  none_started : (e f n : ℕ) → IsActiveDescriptor (controller_next fixed w).driver (controller_next fixed w).memory e f n → IsActiveDescriptor w.driver w.memory e f n
+  none_started e f n a =
+      let was : WasActive w.driver w.memory (controller_next fixed w).driver a.number a.transfer
+      = controller_starts_none fixed w a.number a.transfer (record { standing = s; mixed = k })
+      (record { here = a.here; descriptor = a.descriptor; held = a.held; active = a.active }) in
+      record {
+        number = a.number;
+        transfer = a.transfer;
+        here = a.here;
+        descriptor = a.descriptor;
+        held = a.held;
+        lent = a.lent;
+        endpoint = a.endpoint;
+        frame = a.frame;
+        at = a.at;
+        active = subst (λ (y : Transfer). is_served (note_at w.driver.periodic.notes y.first) w.memory y.first ≡ false)
+            (same_Some was.transfer a.transfer (sym was.was.here ∙ a.here)) was.was.active;
+      }
+
+  -- a microframe goes on
+  goes_on : (r : ControllerRow) → controller_row w ≡ r → (r ≡ rows.Begin → ⊥) → GoesAhead start (controller_next fixed w) g.visits.kept
+  goes_on r is other = record {
+    ahead = g.visits.goes.ahead;
+    are_kept = g.visits.goes.are_kept;
+    closed = λ n to on next. g.visits.goes.closed n to on (sym (link_stays n (g.visits.goes.are_kept n on)) ∙ next);
+    next = goes_to begins_by transacts_by g.visits.goes.ahead (controller_parts w) (wired fixed w) (controller_parts (controller_next fixed w)) (wired fixed (controller_next fixed w))
+        g.visits.goes.closed g.visits.goes.next (controller_row w) (λ begins. other (sym is ∙ begins))
+        (λ frame. frame_periodic w.registers.run w.registers w.control.frame w.control.part frame) (world_has_row fixed w);
+    first = g.visits.goes.first;
+    old = λ e f n on a. g.visits.goes.old e f n on (none_started e f n a);
+  }
+
+  goes_by : (r : ControllerRow) → controller_row w ≡ r → GoesAhead (began_at r w start) (controller_next fixed w) g.visits.kept
+  goes_by rows.Begin is = record {
+    ahead = g.visits.kept;
+    are_kept = λ n on. on;
+    closed = ranked_then.closed;
+    next = λ to part leads. (behind_then.next to part leads).is_kept;
+    first = g.visits.goes.first;
+    old = λ e f n on a. none_started e f n a;
+  }
+  goes_by rows.Idle is = goes_on rows.Idle is (λ same. not_idle same)
+  goes_by rows.Frame is = goes_on rows.Frame is (λ same. begin_no_frame (sym same))
+  goes_by rows.Enter is = goes_on rows.Enter is (λ same. enter_no_begin same)
+  goes_by rows.Go is = goes_on rows.Go is (λ same. go_no_begin same)
+  goes_by rows.End is = goes_on rows.End is (λ same. end_no_begin same)
+
+  visits_then : VisitsGoOn (began_by fixed w start) (controller_next fixed w) (visits_after (controller_row w) (controller_parts w) vs)
   visits_then = record {
     left = recent_then (controller_row w) g.visits.left;
     left_are = left_next begins_by transacts_by w.driver g.visits.left (controller_parts w) (wired fixed w) (controller_parts (controller_next fixed w)) (wired fixed (controller_next fixed w))
@@ -178,19 +255,19 @@ module _ (fixed : Fixed) (s : Standing) (w : World) (vs : List ℕ) (k : IsMixed
     kept = g.visits.kept;
     height = g.visits.height;
     who = g.visits.who;
-    ranked = ranked_stays w.memory (controller_next fixed w).memory w.driver g.visits.kept g.visits.height g.visits.who frames link_stays g.visits.ranked;
-    behind = behind_next begins_by transacts_by w.driver g.visits.left g.visits.kept g.visits.height g.visits.who (controller_parts w) (wired fixed w) (controller_parts (controller_next fixed w))
-        (wired fixed (controller_next fixed w)) vs g.visits.ranked g.visits.behind g.left_within (controller_row w)
-        (λ is. begins_over w.registers.run w.registers w.control.frame w.control.part is) (λ is. frame_periodic w.registers.run w.registers w.control.frame w.control.part is) first (world_has_row fixed w);
+    ranked = ranked_then;
+    behind = behind_then;
     active = g.visits.active;
     were_active = all_after (λ (a : ℕ). IsActiveAs w.driver a (g.visits.who a)) (controller_row w) (controller_parts w) vs g.visits.were_active
         (λ is a held name.
         g.visits.active a (g.visits.behind.next a (frame_periodic w.registers.run w.registers w.control.frame w.control.part is)
         (ap (λ (o : Option Hand). name_of (link_ahead o w.control.frame.cursor)) held ∙ name)).is_kept);
+    goes = goes_by (controller_row w) refl;
+    alone = λ n on e f h a stands. g.visits.alone n on e f h (none_started e f n a) stands;
   }
 
 pub controller_keeps_visiting : ControllerKeepsVisiting
-controller_keeps_visiting fixed w vs h = record {
+controller_keeps_visiting fixed start w vs h = record {
   mixed = controller_keeps_mixed fixed w h.mixed;
-  visits = visits_then fixed h.mixed.standing w vs h.mixed.mixed (visits_meet_now h.mixed.standing w vs h.mixed.mixed h.visits);
+  visits = visits_then fixed h.mixed.standing start w vs h.mixed.mixed (visits_meet_now h.mixed.standing start w vs h.mixed.mixed h.visits);
 }

@@ -20,7 +20,7 @@ use Rattle.described_parts.specs.Recent.{IsRemovedSince, IsUnchainedNow, AreRece
 use Rattle.bus_world.specs.World.{World}
 use Rattle.mixed_worlds.specs.Mixed.{Standing, IsMixedAt}
 use Rattle.frame_visits.specs.Ranks.{name_of, next_of, IsRanked}
-use Rattle.frame_visits.specs.Visited.{link_ahead, frame_in, IsNext, WasVisited, VisitsGoOn, VisitsGoOnAt}
+use Rattle.frame_visits.specs.Visited.{link_ahead, frame_in, IsNext, WasVisited, GoesAhead, VisitsGoOn, VisitsGoOnAt}
 use Rattle.frame_visits.specs.VisitLaws.{VisitsMeetNow}
 use Rattle.frame_visits.proofs.VisitLinks.{lead_met, next_met}
 
@@ -96,7 +96,7 @@ were_joined d left recent who frame (v ∷ vs) all = (
 
 -- ---- the whole
 
-module _ (s : Standing) (w : World) (vs : List ℕ) (k : IsMixedAt s w) (g : VisitsGoOn w vs) where
+module _ (s : Standing) (start w : World) (vs : List ℕ) (k : IsMixedAt s w) (g : VisitsGoOn start w vs) where
   abbrev now_met : ℕ → Option Kind
   now_met = met w.driver s.recent
 
@@ -106,16 +106,18 @@ module _ (s : Standing) (w : World) (vs : List ℕ) (k : IsMixedAt s w) (g : Vis
   standing_met : (n : ℕ) (kind : Kind) → standing w.driver n ≡ Some kind → met w.driver s.recent n ≡ Some kind
   standing_met n kind is = ap (λ o. or_recent o (s.recent n)) is
 
-  closed : (n to : ℕ) → narrowed g.kept (met w.driver s.recent) n ≡ true → next_of w.memory n ≡ Some to → narrowed g.kept (met w.driver s.recent) to ≡ true
-  closed n to on is =
-      let here = was_met g.kept (met w.driver s.recent) n on in
+  -- links lead from those that are met to those that are met
+  closed_by : (some : ℕ → Bool) → ((n to : ℕ) → some n ≡ true → next_of w.memory n ≡ Some to → some to ≡ true) → (n to : ℕ) → narrowed some (met w.driver s.recent) n ≡ true
+      → next_of w.memory n ≡ Some to → narrowed some (met w.driver s.recent) to ≡ true
+  closed_by some closed n to on is =
+      let here = was_met some (met w.driver s.recent) n on in
       let there = next_met (met w.driver s.recent) w.memory (both s.descs s.parts) n to here.0 k.now.framed.runs.ring.tells k.now.framed.runs.members here.1 is in
-      is_narrowed g.kept (met w.driver s.recent) to there.0 (g.ranked.closed n to (was_kept g.kept (met w.driver s.recent) n on) is) there.1
+      is_narrowed some (met w.driver s.recent) to there.0 (closed n to (was_kept some (met w.driver s.recent) n on) is) there.1
 
   ranked : IsRanked w.memory w.driver (narrowed g.kept (met w.driver s.recent)) g.height g.who
   ranked = record {
     standing_are = λ n kind is. is_narrowed g.kept (met w.driver s.recent) n kind (g.ranked.standing_are n kind is) (standing_met n kind is);
-    closed = closed;
+    closed = closed_by g.kept g.ranked.closed;
     falls = λ n on. g.ranked.falls n (was_kept g.kept (met w.driver s.recent) n on);
     shares = λ n to f below on. g.ranked.shares n to f below (was_kept g.kept (met w.driver s.recent) n on);
     named = λ n on. g.ranked.named n (was_kept g.kept (met w.driver s.recent) n on);
@@ -123,15 +125,31 @@ module _ (s : Standing) (w : World) (vs : List ℕ) (k : IsMixedAt s w) (g : Vis
     linking = λ work is adds made n on. g.ranked.linking work is adds made n (was_kept g.kept (met w.driver s.recent) n on);
   }
 
+  next_is_met : (to : ℕ) → w.control.part ≡ Periodic → name_of (link_ahead w.control.frame.hand w.control.frame.cursor) ≡ Some to → (kind : Kind) × (met w.driver s.recent to ≡ Some kind)
+  next_is_met to part is =
+      lead_met (met w.driver s.recent) (link_ahead w.control.frame.hand w.control.frame.cursor) to
+      (leads_ahead (met w.driver s.recent) (both s.descs s.parts) s.frame _ (k.now.framed.runs.walk part)) is
+
   next_narrowed : (to : ℕ) → w.control.part ≡ Periodic → name_of (link_ahead w.control.frame.hand w.control.frame.cursor) ≡ Some to
       → IsNext (narrowed g.kept (met w.driver s.recent)) g.height g.who (frame_in w.control.frame.index) vs to
   next_narrowed to part is =
       let n = g.behind.next to part is in
-      let leads = leads_ahead (met w.driver s.recent) (both s.descs s.parts) s.frame _ (k.now.framed.runs.walk part) in
-      let there = lead_met (met w.driver s.recent) (link_ahead w.control.frame.hand w.control.frame.cursor) to leads is in
+      let there = next_is_met to part is in
       record { is_kept = is_narrowed g.kept (met w.driver s.recent) to there.0 n.is_kept there.1; stands = n.stands; below = n.below }
 
-  all : VisitsGoOnAt s w vs
+  goes : GoesAhead start w (narrowed g.kept (met w.driver s.recent))
+  goes = record {
+    ahead = narrowed g.goes.ahead (met w.driver s.recent);
+    are_kept = λ n on.
+        (let here = was_met g.goes.ahead (met w.driver s.recent) n on in
+        is_narrowed g.kept (met w.driver s.recent) n here.0 (g.goes.are_kept n (was_kept g.goes.ahead (met w.driver s.recent) n on)) here.1);
+    closed = closed_by g.goes.ahead g.goes.closed;
+    next = λ to part is. (let there = next_is_met to part is in is_narrowed g.goes.ahead (met w.driver s.recent) to there.0 (g.goes.next to part is) there.1);
+    first = g.goes.first;
+    old = λ e f n on. g.goes.old e f n (was_kept g.goes.ahead (met w.driver s.recent) n on);
+  }
+
+  all : VisitsGoOnAt s start w vs
   all = record {
     visits = record {
       left = joined g.left s.recent;
@@ -143,6 +161,8 @@ module _ (s : Standing) (w : World) (vs : List ℕ) (k : IsMixedAt s w) (g : Vis
       behind = record { once = g.behind.once; were = were_joined w.driver g.left s.recent g.who (frame_in w.control.frame.index) vs g.behind.were; next = next_narrowed };
       active = λ n on. g.active n (was_kept g.kept (met w.driver s.recent) n on);
       were_active = g.were_active;
+      goes = goes;
+      alone = λ n on. g.alone n (was_kept g.kept (met w.driver s.recent) n on);
     };
     within = was_met g.kept (met w.driver s.recent);
     left_within = λ n on.
@@ -151,4 +171,4 @@ module _ (s : Standing) (w : World) (vs : List ℕ) (k : IsMixedAt s w) (g : Vis
   }
 
 pub visits_meet_now : VisitsMeetNow
-visits_meet_now s w vs k g = all s w vs k g
+visits_meet_now s start w vs k g = all s start w vs k g

@@ -46,5 +46,14 @@ new_is_visiting s fit bytes = record {
     behind = record { once = tt; were = tt; next = λ k part. absurd (over_no part) };
     active = λ n on. absurd (false≢true on);
     were_active = tt;
+    goes = record {
+      ahead = λ n. false;
+      are_kept = λ n on. absurd (false≢true on);
+      closed = λ n k on. absurd (false≢true on);
+      next = λ k part. absurd (over_no part);
+      first = λ x is. absurd (no_work x is);
+      old = λ e f n on. absurd (false≢true on);
+    };
+    alone = λ n on. absurd (false≢true on);
   };
 }

@@ -23,22 +23,23 @@ use Rattle.bus_world.specs.Opening.{opening_world}
 use Rattle.bus_world.specs.Orders.{Left, Command, at_place, orders_of}
 use Rattle.mixed_worlds.specs.Samples.{keyboard, keyboard_place, keyboard_and_disk, after_the_open}
 use Rattle.mixed_worlds.proofs.SampledPlace.{plans_first}
-use Rattle.frame_visits.specs.Visited.{visited_from, visited}
+use Rattle.frame_visits.specs.Carried.{carried_from}
+use Rattle.frame_visits.specs.Visited.{visits_next, visited}
 use Rattle.frame_visits.specs.VisitSamples.{typed_visits}
 
-answered : (fixed : Fixed) (w : World) (n : ℕ) (cmd : Cmd) (rest : List Left) (r : Result Offered OfferError) (vs : List ℕ) (k : ℕ) → offered w.driver w.memory cmd ≡ r
-    → visited_from fixed (at_place w (Command n cmd ∷ rest)) vs (suc k) ≡ visited_from fixed (at_place (commanded_by w n (name_in cmd) r) rest) vs k
-unfolding visited_from
-answered fixed w n cmd rest r vs k is = ap (λ (x : Result Offered OfferError). visited_from fixed (at_place (commanded_by w n (name_in cmd) x) rest) vs k) is
+pub answered : {X : Type 0} (by : Fixed → World → X → X) (fixed : Fixed) (w : World) (n : ℕ) (cmd : Cmd) (rest : List Left) (r : Result Offered OfferError) (x : X) (k : ℕ)
+    → offered w.driver w.memory cmd ≡ r → carried_from by fixed (at_place w (Command n cmd ∷ rest)) x (suc k) ≡ carried_from by fixed (at_place (commanded_by w n (name_in cmd) r) rest) x k
+unfolding carried_from
+answered by fixed w n cmd rest r x k is = ap (λ (a : Result Offered OfferError). carried_from by fixed (at_place (commanded_by w n (name_in cmd) a) rest) x k) is
 
-accepted : offered (opening_world keyboard_and_disk).driver (opening_world keyboard_and_disk).memory (commands.OpenEp keyboard)
+pub accepted : offered (opening_world keyboard_and_disk).driver (opening_world keyboard_and_disk).memory (commands.OpenEp keyboard)
     ≡ planned_open (opening_world keyboard_and_disk).driver (opening_world keyboard_and_disk).memory keyboard (Ok keyboard_place)
 accepted =
     ap (λ (a : Result Placement Refused). planned_open (opening_world keyboard_and_disk).driver (opening_world keyboard_and_disk).memory keyboard a) plans_first
 
 pub typed_visited : (k : ℕ) → visited keyboard_and_disk (suc k) ≡ typed_visits k
-typed_visited k = answered (fixed_of keyboard_and_disk) (opening_world keyboard_and_disk) 6 (commands.OpenEp keyboard) (orders_of after_the_open) _ [] k accepted
+typed_visited k = answered visits_next (fixed_of keyboard_and_disk) (opening_world keyboard_and_disk) 6 (commands.OpenEp keyboard) (orders_of after_the_open) _ [] k accepted
 
 pub a_visit : (typed_visits 26 ≡ []) × (typed_visits 28 ≡ 4160 ∷ []) × (typed_visits 30 ≡ 4160 ∷ [])
-unfolding visited_from lowest_run filled with_words_in store_words lend_runs qh_words qtd_words token_word token_at link_word qtd_link_word predecessors frames word_after before_the behind_the link_read qh_read qh_bad qh_at first_bad_bit words_in
+unfolding carried_from lowest_run filled with_words_in store_words lend_runs qh_words qtd_words token_word token_at link_word qtd_link_word predecessors frames word_after before_the behind_the link_read qh_read qh_bad qh_at first_bad_bit words_in
 a_visit = (refl, refl, refl)

@@ -34,10 +34,10 @@ use Rattle.frame_visits.proofs.VisitLinks.{IsReadAt, queue_is_read, itd_is_read,
 
 -- ---- parts of a microframe
 
-over_no : Over ≡ Periodic → ⊥
+pub over_no : Over ≡ Periodic → ⊥
 over_no e = cc
 
-async_no : (kind : WalkStep) → part_after Asynchronous kind ≡ Periodic → ⊥
+pub async_no : (kind : WalkStep) → part_after Asynchronous kind ≡ Periodic → ⊥
 async_no steps.Fetch e = cc
 async_no steps.Advance e = cc
 async_no steps.Transact e = cc

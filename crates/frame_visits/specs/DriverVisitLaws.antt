@@ -14,4 +14,5 @@ abbrev pub EachRowKeepsVisiting : Type 0
 EachRowKeepsVisiting = (row : DriverRow) → RowKeepsVisiting row
 
 abbrev pub CommandLeavesVisits : Type 0
-CommandLeavesVisits = (s : Standing) (w : World) (line : ℕ) (cmd : Cmd) (vs : List ℕ) → IsOffered w.driver.room cmd → IsMixedAt s w → VisitsGoOnAt s w vs → VisitsGoOn (commanded w line cmd) vs
+CommandLeavesVisits = (s : Standing) (start w : World) (line : ℕ) (cmd : Cmd) (vs : List ℕ) → IsOffered w.driver.room cmd → IsMixedAt s w → VisitsGoOnAt s start w vs
+    → VisitsGoOn start (commanded w line cmd) vs

@@ -4,9 +4,6 @@ pub mod VisitLaws
 pub mod Splices
 pub mod DriverVisitLaws
 pub mod VisitSamples
-pub mod Charges
-pub mod ChargeSamples
-pub mod ChargeLoads
 pub mod HeldTime
 pub mod PlaceOfRing
 pub mod FrameReasons
@@ -14,7 +11,8 @@ pub mod ReasonSamples
 pub mod Keeps
 pub mod Belonging
 pub mod DescriptorFields
-pub mod Payments
-pub mod PaymentLaws
 pub mod InFrames
 pub mod OneDescriptor
+pub mod Carried
+pub mod Began
+pub mod ActiveFrames

@@ -6,6 +6,7 @@
 --     HasOneActive d m                  both: what goes on from one event to the next
 --     IsActiveDescriptor d m e f n      a descriptor of endpoint e for frame f, of which something is active, begins at byte address n
 --     IsActiveSome d m n                so does one of some endpoint, for some frame
+--     IsAloneAs d m n x                 where one begins at n, x stands in its frame alone
 --     OneDescriptorEach                 two of one endpoint and one frame are the same
 --     MetIsActive, MetSplitIsActive     each iTD or siTD in memory of which something is active is one
 --     NewHasOneActive, ControllerKeepsOneActive, DriverKeepsOneActive, CommandKeepsOneActive     it goes on
@@ -21,6 +22,8 @@ use Rattle.run_book.specs.Book.{slot_of}
 use Rattle.script_types.specs.declared.scripts.Script.{Script}
 use Rattle.script_fits.specs.Fits.{IsFit}
 use Rattle.script_laws.specs.byte_answers.Bytes.{IsByteScript}
+use Rattle.frame_chains.specs.declared.members.Member.{Member}
+use Rattle.frame_chains.specs.Chains.{stands_in}
 use Rattle.usb_bus.specs.Bus.{Fixed}
 use Rattle.itd_sitd.specs.declared.itd.Itd.{Itd}
 use Rattle.itd_sitd.specs.declared.sitd.Sitd.{Sitd}
@@ -89,6 +92,11 @@ MetIsActive = (s : Standing) (w : World) (n u : ℕ) (v : Itd) → IsMixedAt s w
 
 abbrev pub MetSplitIsActive : Type 0
 MetSplitIsActive = (s : Standing) (w : World) (n : ℕ) (v : Sitd) → IsMixedAt s w → both s.descs s.parts n n ≡ Some (SplitIsochronous v) → v.active ≡ true → IsActiveSome w.driver w.memory n
+
+-- ---- where it stands
+
+abbrev pub IsAloneAs : DriverContent → Mem → ℕ → Member → Type 0
+IsAloneAs d m n x = (e f g : ℕ) → IsActiveDescriptor d m e f n → stands_in g x ≡ true → g ≡ f
 
 -- ---- it goes on
 

@@ -7,14 +7,12 @@
 --     DriverKeepsVisiting        .. and so each event of the driver
 --     CommandKeepsVisiting       .. and each command, accepted or refused
 --     ScriptsVisit               so the visits go on at each moment of the run of a script
---     ScriptsVisitWhileKept      .. where each event of the driver and each command goes on with them
 --     IsInItsFrame d index frame v
 --                                the structure at v is that of a member of this frame, which stands, or was unlinked in this microframe: no reading of FRINDEX with
 --                                another frame number came since, or the command that unlinks it isn't finished
 --     VisitsApart w vs           no structure was visited twice, and each that was visited is in its frame
 --     VisitsEachOnce s           at each moment no structure was visited twice in the microframe, and each that was visited is in its frame
 --     TextsVisitEachOnce         the law
---     TextsVisitWhileKept        .. where each event of the driver and each command goes on with the visits
 use Rattle.std.specs.Prelude.{◌≡◌, ◌⊎◌, ℕ, true, List, []}
 use Rattle.std.specs.List.{AllByRecursion}
 use Rattle.usb_base.specs.declared.commands.Cmd.{Cmd}
@@ -40,36 +38,35 @@ use Rattle.mixed_worlds.specs.Laws.{OpensMixed}
 use Rattle.mixed_worlds.specs.Placed.{AreOnce}
 use Rattle.mixed_worlds.specs.PlacedLaws.{FitsMixed}
 use Rattle.frame_visits.specs.Ranks.{begins}
+use Rattle.frame_visits.specs.Began.{began, began_by}
 use Rattle.frame_visits.specs.Visited.{visits_after, visited, frame_in, VisitsGoOn, IsVisiting, VisitsGoOnAt}
 
 abbrev pub VisitsMeetNow : Type 0
-VisitsMeetNow = (s : Standing) (w : World) (vs : List ℕ) → IsMixedAt s w → VisitsGoOn w vs → VisitsGoOnAt s w vs
+VisitsMeetNow = (s : Standing) (start w : World) (vs : List ℕ) → IsMixedAt s w → VisitsGoOn start w vs → VisitsGoOnAt s start w vs
 
 -- ---- each event and command
 
 abbrev pub NewIsVisiting : Type 0
-NewIsVisiting = (s : Script) → IsFit s → IsByteScript s → IsVisiting (opening_world s) []
+NewIsVisiting = (s : Script) → IsFit s → IsByteScript s → IsVisiting (opening_world s) (opening_world s) []
 
 abbrev pub ControllerKeepsVisiting : Type 0
-ControllerKeepsVisiting = (fixed : Fixed) (w : World) (vs : List ℕ) → IsVisiting w vs
-    → IsVisiting (controller_next fixed w) (visits_after (controller_row w) (controller_parts w) vs)
+ControllerKeepsVisiting = (fixed : Fixed) (start w : World) (vs : List ℕ) → IsVisiting start w vs
+    → IsVisiting (began_by fixed w start) (controller_next fixed w) (visits_after (controller_row w) (controller_parts w) vs)
 
 abbrev pub RowKeepsVisiting : DriverRow → Type 0
-RowKeepsVisiting row = (s : Standing) (w : World) (vs : List ℕ) → IsMixedAt s w → VisitsGoOnAt s w vs → driver_row (driver_parts w) ≡ row → VisitsGoOn (driver_next w) vs
+RowKeepsVisiting row = (s : Standing) (start w : World) (vs : List ℕ) → IsMixedAt s w → VisitsGoOnAt s start w vs → driver_row (driver_parts w) ≡ row → VisitsGoOn start (driver_next w) vs
 
 abbrev pub DriverKeepsVisiting : Type 0
-DriverKeepsVisiting = (w : World) (vs : List ℕ) → IsVisiting w vs → IsVisiting (driver_next w) vs
+DriverKeepsVisiting = (start w : World) (vs : List ℕ) → IsVisiting start w vs → IsVisiting start (driver_next w) vs
 
 abbrev pub CommandKeepsVisiting : Type 0
-CommandKeepsVisiting = (w : World) (line : ℕ) (cmd : Cmd) (vs : List ℕ) → OpensMixed cmd → IsOffered w.driver.room cmd → IsVisiting w vs → IsVisiting (commanded w line cmd) vs
+CommandKeepsVisiting = (start w : World) (line : ℕ) (cmd : Cmd) (vs : List ℕ) → OpensMixed cmd → IsOffered w.driver.room cmd → IsVisiting start w vs
+    → IsVisiting start (commanded w line cmd) vs
 
 -- ---- a run
 
 abbrev pub ScriptsVisit : Type 0
-ScriptsVisit = (s : Script) → IsFit s → IsByteScript s → FitsMixed s → (k : ℕ) → IsVisiting (moment s k).world (visited s k)
-
-abbrev pub ScriptsVisitWhileKept : Type 0
-ScriptsVisitWhileKept = DriverKeepsVisiting → CommandKeepsVisiting → ScriptsVisit
+ScriptsVisit = (s : Script) → IsFit s → IsByteScript s → FitsMixed s → (k : ℕ) → IsVisiting (began s k) (moment s k).world (visited s k)
 
 pub record IsInItsFrame (d : DriverContent) (index frame v : ℕ) : Type 0 where
   pub member : Member
@@ -86,6 +83,3 @@ VisitsEachOnce s = (k : ℕ) → VisitsApart (moment s k).world (visited s k)
 
 abbrev pub TextsVisitEachOnce : Type 0
 TextsVisitEachOnce = (text : List ℕ) (s : Script) → Spells text s → VisitsEachOnce s
-
-abbrev pub TextsVisitWhileKept : Type 0
-TextsVisitWhileKept = DriverKeepsVisiting → CommandKeepsVisiting → TextsVisitEachOnce

@@ -4,9 +4,8 @@
 --     visited_too o vs        it was visited too
 --     visits_at hand row vs   .. where nothing is in hand
 --     visits_after row c vs   what was visited after an event of the controller, the newest first
---     visits_next w event vs  .. after an event of the world
---     visits_by w order vs    .. after an event or a command that this order asks for; visits_in: .. that the first of these orders asks for
---     visited_from fixed p vs n   .. after n of them
+--     visits_next fixed w vs  .. after the next event of the controller of a world
+--     visited_from fixed p vs n   .. after n events and commands
 --     visited s k             .. after k events and commands of the run of a script
 --     link_held hand          the link of the copy in hand
 --     link_ahead hand cursor  the link by which the walk goes on, once the visit is over
@@ -15,19 +14,26 @@
 --     WasVisited ..           what was visited stands in the frame, or did when it was unlinked in this microframe
 --     IsBehind ..             no structure was visited twice, and what was visited is behind the walk
 --     IsActiveAs d n x        where the queue head of an endpoint stands at n, its placement is active in each frame in which x stands
---     VisitsGoOn w vs         so it is in a world whose links lead down, and so are those that are kept and those that were visited
---     IsVisiting w vs         .. where nothing of the world is out of place
---     VisitsGoOnAt s w vs     .. where each of those whose links lead down may be met, and stands or was unlinked in this microframe
-use Rattle.std.specs.Prelude.{◌≡◌, ℕ, zero, suc, ◌/◌, ◌%◌, ◌<◌, Bool, true, List, [], ◌∷◌, Option, Some, None}
+--     IsFirstIn s x           a descriptor comes right behind the element of its frame
+--     NewIsFirst p            so does one that is being linked
+--     GoesAhead start w kept  to which the walk may go on in this microframe: closed under links; and what is active of them was so in the world start, of the same endpoint and frame
+--     VisitsGoOn start w vs   so it is in a world whose links lead down, and so are those that are kept and those that were visited; `start` is the world as its microframe began.
+--                             Of those that are kept each of which something is active stands in its frame alone
+--     IsVisiting start w vs   .. where nothing of the world is out of place
+--     VisitsGoOnAt s start w vs
+--                             .. where each of those whose links lead down may be met, and stands or was unlinked in this microframe
+use Rattle.std.specs.Prelude.{◌≡◌, ℕ, ◌/◌, ◌%◌, ◌<◌, Bool, true, false, List, [], ◌∷◌, Option, Some, None}
 use Rattle.std.specs.List.{AllByRecursion}
-use Rattle.script_types.specs.declared.scripts.Event.{Event}
-use Rattle.script_types.specs.declared.scripts.Event.TheVariants as events
 use Rattle.script_types.specs.declared.scripts.Script.{Script}
 use Rattle.link_words.specs.declared.kinds.Link.{Link}
 use Rattle.link_words.specs.Links.{link_of}
 use Rattle.bandwidth.specs.Sums.{is_active}
 use Rattle.frame_chains.specs.declared.members.Member.{Member}
-use Rattle.frame_chains.specs.Chains.{stands_in}
+use Rattle.frame_chains.specs.declared.members.Member.TheVariants.{Once, Each}
+use Rattle.frame_chains.specs.declared.members.Predecessor.TheVariants.{Element}
+use Rattle.frame_chains.specs.Chains.{Schedule, stands_in, predecessor}
+use Rattle.periodic_list.specs.declared.work.Work.{Work}
+use Rattle.periodic_list.specs.Periodic.{Periodic as FrameList}
 use Rattle.periodic_walk.specs.declared.state.Hand.{Hand}
 use Rattle.periodic_walk.specs.declared.state.Hand.TheVariants as hands
 use Rattle.periodic_walk.specs.declared.chain.ChainRow.{ChainRow}
@@ -41,14 +47,15 @@ use Rattle.driver_rows.specs.DriverContent.{DriverContent}
 use Rattle.frame_walk.specs.Met.{Kind}
 use Rattle.described_parts.specs.Meeting.{met}
 use Rattle.described_parts.specs.Recent.{AreRecent}
-use Rattle.usb_bus.specs.Bus.{Fixed, fixed_of}
+use Rattle.usb_bus.specs.Bus.{Fixed}
 use Rattle.bus_world.specs.World.{World, controller_parts, controller_row}
-use Rattle.bus_world.specs.Opening.{opening_world}
-use Rattle.bus_world.specs.Orders.{Left, Events, Microframes, Answer, Command, OrderedWorld, at_place, orders_of, tick}
+use Rattle.bus_world.specs.Orders.{OrderedWorld}
 use Rattle.mixed_worlds.specs.Mixed.{Standing, IsMixedWorld}
 use Rattle.mixed_worlds.specs.Placed.{AreOnce}
+use Rattle.frame_visits.specs.Carried.{carried_from, carried}
 use Rattle.frame_visits.specs.Belonging.{IsQueueAt}
-use Rattle.frame_visits.specs.Ranks.{name_of, begins, IsRanked}
+use Rattle.frame_visits.specs.OneDescriptor.{IsActiveDescriptor, IsAloneAs}
+use Rattle.frame_visits.specs.Ranks.{name_of, next_of, begins, IsRanked}
 
 -- ---- what was visited
 
@@ -76,28 +83,14 @@ visits_after rows.Enter c vs = vs
 visits_after rows.Go c vs = vs
 visits_after rows.End c vs = vs
 
-abbrev pub visits_next : World → Event → List ℕ → List ℕ
-visits_next w events.D vs = vs
-visits_next w events.C vs = visits_after (controller_row w) (controller_parts w) vs
+abbrev pub visits_next : Fixed → World → List ℕ → List ℕ
+visits_next fixed w vs = visits_after (controller_row w) (controller_parts w) vs
 
-abbrev pub visits_by : World → Left → List ℕ → List ℕ
-visits_by w (Events event zero) vs = vs
-visits_by w (Events event (suc n)) vs = visits_next w event vs
-visits_by w (Microframes zero) vs = vs
-visits_by w (Microframes (suc n)) vs = visits_next w events.C vs
-visits_by w (Answer ended n) vs = visits_next w events.D vs
-visits_by w (Command n cmd) vs = vs
-
-abbrev pub visits_in : World → List Left → List ℕ → List ℕ
-visits_in w [] vs = vs
-visits_in w (order ∷ rest) vs = visits_by w order vs
-
-unfoldable pub visited_from : Fixed → OrderedWorld → List ℕ → ℕ → List ℕ
-visited_from fixed p vs zero = vs
-visited_from fixed p vs (suc n) = visited_from fixed (tick fixed p) (visits_in p.world p.orders vs) n
+abbrev pub visited_from : Fixed → OrderedWorld → List ℕ → ℕ → List ℕ
+visited_from fixed p vs n = carried_from visits_next fixed p vs n
 
 abbrev pub visited : Script → ℕ → List ℕ
-visited s k = visited_from (fixed_of s) (at_place (opening_world s) (orders_of s.lines)) [] k
+visited s k = carried visits_next s [] k
 
 -- ---- what comes next
 
@@ -136,7 +129,23 @@ pub record IsBehind (d : DriverContent) (left : ℕ → Option Kind) (kept : ℕ
 abbrev pub IsActiveAs : DriverContent → ℕ → Member → Type 0
 IsActiveAs d n x = (b : IsQueueAt d n) (f : ℕ) → stands_in f x ≡ true → is_active b.belongs.placement f ≡ true
 
-pub record VisitsGoOn (w : World) (vs : List ℕ) : Type 0 where
+-- a descriptor that is being linked comes right behind the element of its frame (4.6)
+abbrev pub IsFirstIn : Schedule → Member → Type 0
+IsFirstIn s (Once x) = predecessor s (Once x) x.frame ≡ Element x.frame
+IsFirstIn s (Each q) = Unit {0}
+
+abbrev pub NewIsFirst : FrameList → Type 0
+NewIsFirst p = (x : Work) → p.work ≡ Some x → x.removes ≡ false → IsFirstIn p.members.schedule x.member
+
+pub record GoesAhead (start w : World) (kept : ℕ → Bool) : Type 0 where
+  pub ahead : ℕ → Bool
+  pub are_kept : (n : ℕ) → ahead n ≡ true → kept n ≡ true
+  pub closed : (n k : ℕ) → ahead n ≡ true → next_of w.memory n ≡ Some k → ahead k ≡ true
+  pub next : (k : ℕ) → w.control.part ≡ Periodic → name_of (link_ahead w.control.frame.hand w.control.frame.cursor) ≡ Some k → ahead k ≡ true
+  pub first : NewIsFirst w.driver.periodic.list
+  pub old : (e f n : ℕ) → ahead n ≡ true → IsActiveDescriptor w.driver w.memory e f n → IsActiveDescriptor start.driver start.memory e f n
+
+pub record VisitsGoOn (start w : World) (vs : List ℕ) : Type 0 where
   pub left : ℕ → Option Kind
   pub left_are : AreRecent w.driver w.registers.frame_index left
   pub kept : ℕ → Bool
@@ -146,12 +155,14 @@ pub record VisitsGoOn (w : World) (vs : List ℕ) : Type 0 where
   pub behind : IsBehind w.driver left kept height who w.control vs
   pub active : (n : ℕ) → kept n ≡ true → IsActiveAs w.driver n (who n)
   pub were_active : AllByRecursion (λ v. IsActiveAs w.driver v (who v)) vs
+  pub goes : GoesAhead start w kept
+  pub alone : (n : ℕ) → kept n ≡ true → IsAloneAs w.driver w.memory n (who n)
 
-pub record IsVisiting (w : World) (vs : List ℕ) : Type 0 where
+pub record IsVisiting (start w : World) (vs : List ℕ) : Type 0 where
   pub mixed : IsMixedWorld w
-  pub visits : VisitsGoOn w vs
+  pub visits : VisitsGoOn start w vs
 
-pub record VisitsGoOnAt (s : Standing) (w : World) (vs : List ℕ) : Type 0 where
-  pub visits : VisitsGoOn w vs
+pub record VisitsGoOnAt (s : Standing) (start w : World) (vs : List ℕ) : Type 0 where
+  pub visits : VisitsGoOn start w vs
   pub within : (n : ℕ) → visits.kept n ≡ true → (kind : Kind) × (met w.driver s.recent n ≡ Some kind)
   pub left_within : (n : ℕ) → visits.kept n ≡ true → (kind : Kind) × (met w.driver visits.left n ≡ Some kind)

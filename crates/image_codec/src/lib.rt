@@ -14,14 +14,10 @@ mod lines;
 mod page;
 mod queue;
 mod reading;
-#[cfg(test)]
-mod show_tests;
 mod showing;
 pub mod shown_laws;
 mod structure;
 mod structures;
-#[cfg(test)]
-mod tests;
 mod writing;
 
 pub use failure::ShowError;

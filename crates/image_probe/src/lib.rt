@@ -6,8 +6,6 @@
 
 mod probing;
 mod silence;
-#[cfg(test)]
-mod tests;
 pub mod worked;
 
 pub use probing::{ProbeError, Probed, probe};

@@ -13,6 +13,3 @@ pub use laws::worked_layouts;
 pub use link_words::Bad;
 pub use sitd::Sitd;
 pub use slot::ItdSlot;
-
-#[cfg(test)]
-mod tests;

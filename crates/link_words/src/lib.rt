@@ -20,6 +20,3 @@ pub use pages::{page_bad_bit, page_word};
 pub use reading::{read, read_qtd, write, write_qtd};
 pub use refusal::Bad;
 pub use word_bits::{address, bit, field, first_set};
-
-#[cfg(test)]
-mod tests;

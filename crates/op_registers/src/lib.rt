@@ -14,6 +14,3 @@ pub use command::Command;
 pub use register::Register;
 pub use registers::Registers;
 pub use status::Status;
-
-#[cfg(test)]
-mod tests;

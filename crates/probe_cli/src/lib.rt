@@ -9,6 +9,3 @@ mod probing;
 pub mod worked;
 
 pub use probing::ehci_probe;
-
-#[cfg(test)]
-mod tests;

@@ -16,6 +16,3 @@ pub use reading::{Unread, read_input};
 pub use status::Status;
 pub use std_ends::{StdSink, StdSource};
 pub use telling::tell;
-
-#[cfg(test)]
-mod tests;

@@ -1,8 +1,11 @@
 -- What the program writes: for each form and input, how it ends and which bytes it writes.
---     Gives form input status bytes        the whole output: an end with its bytes
---     IsAnswer form status input old new   how what is written follows from how the program ended
---     IsProgram words status ..            the same by the words
---     Leaves words status xs after         what is left of a source that had xs
+-- What comes of a script is said with a relation `runs`: which worlds are those after the run of a script.
+--     IsRunOf s w                               every line was carried out, or a microframe hasn't ended after the most turns
+--     IsWholeRunOf s w                          every line was carried out
+--     Gives runs form input status bytes        the whole output: an end with its bytes
+--     IsAnswer runs form status input old new   how what is written follows from how the program ended
+--     IsProgram runs words status ..            the same by the words
+--     Leaves words status xs after              what is left of a source that had xs
 use Rattle.std.specs.Prelude.{◌≡◌, ℕ, Bool, true, false, List, [], ◌∷◌, Option, None, Some, is_none, codes}
 use Rattle.std.specs.Io.KnownBytes.{Appends, Keeps}
 use Rattle.usb_base.specs.Outside.{AppendsPrefix}
@@ -12,7 +15,7 @@ use Rattle.script_forms.specs.declared.causes.TextWhy.{TextWhy}
 use Rattle.script_text.specs.Faults.{Spells, first_fault, fault_line, check_text, is_image}
 use Rattle.bus_world.specs.World.{Standing}
 use Rattle.bus_world.specs.Opening.{opening_standing}
-use Rattle.bus_world.specs.Orders.{IsRun, orders_of}
+use Rattle.bus_world.specs.Orders.{IsRun, Leads, at_place, orders_of}
 use Rattle.bus_world.specs.Closing.{world_text, world_image}
 use Rattle.load_script.specs.Load.{load_text}
 use Rattle.load_summary.specs.Summary.{summary_of, summary_line}
@@ -29,33 +32,38 @@ use Rattle.program_ends.specs.declared.status.Status.TheVariants.{Ok, Words, Ref
 
 -- ---- scripts
 
--- a world after the run of a script: from its opening on, all action lines in their order
+-- a world after the run of a script: from its opening on, the action lines in their order
 pub record IsRunOf (s : Script) (w : Standing) : Type 0 where
   pub fixed : w.fixed ≡ (opening_standing s).fixed
   pub ran : IsRun (opening_standing s).fixed (opening_standing s).world (orders_of s.lines) w.world
 
+-- a world after the run of a script, all of whose lines were carried out
+pub record IsWholeRunOf (s : Script) (w : Standing) : Type 0 where
+  pub fixed : w.fixed ≡ (opening_standing s).fixed
+  pub led : Leads (opening_standing s).fixed (at_place (opening_standing s).world (orders_of s.lines)) (at_place w.world [])
+
 -- The input spells a script, and this is a world after its run.
-pub record RunOf (input : List ℕ) (w : Standing) : Type 0 where
+pub record RunOf (runs : Script → Standing → Type 0) (input : List ℕ) (w : Standing) : Type 0 where
   pub script : Script
   pub spelled : Spells input script
-  pub ran : IsRunOf script w
+  pub ran : runs script w
 
 -- The bytes are the report of a world after the run of the script that the input spells.
-pub record ReportsRun (input bytes : List ℕ) : Type 0 where
+pub record ReportsRun (runs : Script → Standing → Type 0) (input bytes : List ℕ) : Type 0 where
   pub world : Standing
-  pub ran : RunOf input world
+  pub ran : RunOf runs input world
   pub told : bytes ≡ world_text world.fixed world.world
 
 -- The bytes are the image of memory after that run.
-pub record GivesImage (input bytes : List ℕ) : Type 0 where
+pub record GivesImage (runs : Script → Standing → Type 0) (input bytes : List ℕ) : Type 0 where
   pub world : Standing
-  pub ran : RunOf input world
+  pub ran : RunOf runs input world
   pub told : bytes ≡ image_bytes (world_image world.world)
 
 -- The bytes are the line of what the report counts after the run of the load script of n.
-pub record SummarizesLoad (n : ℕ) (bytes : List ℕ) : Type 0 where
+pub record SummarizesLoad (runs : Script → Standing → Type 0) (n : ℕ) (bytes : List ℕ) : Type 0 where
   pub world : Standing
-  pub ran : RunOf (load_text n) world
+  pub ran : RunOf runs (load_text n) world
   pub told : bytes ≡ summary_line n (summary_of world.fixed world.world)
 
 -- The input spells no script, and the line names its first fault.
@@ -100,44 +108,44 @@ pub record Checks (input : List ℕ) (sound : Bool) (bytes : List ℕ) : Type 0 
 -- ---- the program
 
 -- the whole output of a form on an input: an end with its bytes; `load` has the same on every input
-abbrev pub Gives : Form → List ℕ → Status → List ℕ → Type 0
-Gives Run input Ok bytes = ReportsRun input bytes
-Gives Run input Refused bytes = RefusesScript input bytes
-Gives Image input Ok bytes = GivesImage input bytes
-Gives Image input Refused bytes = RefusesScript input bytes
-Gives Check input Ok bytes = Checks input true bytes
-Gives Check input Refused bytes = Checks input false bytes
-Gives Dump input Ok bytes = ShowsImage input bytes
-Gives Dump input Refused bytes = RefusesImage input bytes
-Gives (Load n) input Ok bytes = SummarizesLoad n bytes
-Gives (Load n) input Refused bytes = RefusesScript (load_text n) bytes
-Gives form input Words bytes = ⊥
-Gives form input ReadFault bytes = ⊥
-Gives form input WriteFault bytes = ⊥
-Gives form input Memory bytes = ⊥
+abbrev pub Gives : (Script → Standing → Type 0) → Form → List ℕ → Status → List ℕ → Type 0
+Gives runs Run input Ok bytes = ReportsRun runs input bytes
+Gives runs Run input Refused bytes = RefusesScript input bytes
+Gives runs Image input Ok bytes = GivesImage runs input bytes
+Gives runs Image input Refused bytes = RefusesScript input bytes
+Gives runs Check input Ok bytes = Checks input true bytes
+Gives runs Check input Refused bytes = Checks input false bytes
+Gives runs Dump input Ok bytes = ShowsImage input bytes
+Gives runs Dump input Refused bytes = RefusesImage input bytes
+Gives runs (Load n) input Ok bytes = SummarizesLoad runs n bytes
+Gives runs (Load n) input Refused bytes = RefusesScript (load_text n) bytes
+Gives runs form input Words bytes = ⊥
+Gives runs form input ReadFault bytes = ⊥
+Gives runs form input WriteFault bytes = ⊥
+Gives runs form input Memory bytes = ⊥
 
 -- all of an output was written
-abbrev pub WritesAll : Form → List ℕ → Status → Option (List ℕ) → Option (List ℕ) → Type 0
-WritesAll form input status old new = (bytes : List ℕ) × Gives form input status bytes × Appends old new bytes
+abbrev pub WritesAll : (Script → Standing → Type 0) → Form → List ℕ → Status → Option (List ℕ) → Option (List ℕ) → Type 0
+WritesAll runs form input status old new = (bytes : List ℕ) × Gives runs form input status bytes × Appends old new bytes
 
 -- How what is written follows from how the program ended: the whole output where it is done or refuses the input, a front
 -- part of it where the sink failed, and nothing else.
-abbrev pub IsAnswer : Form → Status → List ℕ → Option (List ℕ) → Option (List ℕ) → Type 0
-IsAnswer form Ok input old new = WritesAll form input Ok old new
-IsAnswer form Refused input old new = WritesAll form input Refused old new
-IsAnswer form WriteFault input old new = (status : Status) × (bytes : List ℕ) × Gives form input status bytes × AppendsPrefix old new bytes
-IsAnswer form ReadFault input old new = Keeps old new
-IsAnswer form Memory input old new = Keeps old new
-IsAnswer form Words input old new = Keeps old new
+abbrev pub IsAnswer : (Script → Standing → Type 0) → Form → Status → List ℕ → Option (List ℕ) → Option (List ℕ) → Type 0
+IsAnswer runs form Ok input old new = WritesAll runs form input Ok old new
+IsAnswer runs form Refused input old new = WritesAll runs form input Refused old new
+IsAnswer runs form WriteFault input old new = (status : Status) × (bytes : List ℕ) × Gives runs form input status bytes × AppendsPrefix old new bytes
+IsAnswer runs form ReadFault input old new = Keeps old new
+IsAnswer runs form Memory input old new = Keeps old new
+IsAnswer runs form Words input old new = Keeps old new
 
 -- The answer of the program to these words: that of the form that they have.
-abbrev pub IsProgram : List (List ℕ) → Status → List ℕ → Option (List ℕ) → Option (List ℕ) → Type 0
-IsProgram words Words input old new = Keeps old new
-IsProgram words status input old new = (form : Form) × AreWordsOf words form × IsAnswer form status input old new
+abbrev pub IsProgram : (Script → Standing → Type 0) → List (List ℕ) → Status → List ℕ → Option (List ℕ) → Option (List ℕ) → Type 0
+IsProgram runs words Words input old new = Keeps old new
+IsProgram runs words status input old new = (form : Form) × AreWordsOf words form × IsAnswer runs form status input old new
 
 -- The answer of the program to the words of `load`, whatever is known of what it could read.
-abbrev pub IsLoad : List (List ℕ) → Status → Option (List ℕ) → Option (List ℕ) → Type 0
-IsLoad words status old new = (n : ℕ) (input : List ℕ) → AreWordsOf words (Load n) → IsAnswer (Load n) status input old new
+abbrev pub IsLoad : (Script → Standing → Type 0) → List (List ℕ) → Status → Option (List ℕ) → Option (List ℕ) → Type 0
+IsLoad runs words status old new = (n : ℕ) (input : List ℕ) → AreWordsOf words (Load n) → IsAnswer runs (Load n) status input old new
 
 -- ---- what is left of a source that had xs
 

@@ -2,7 +2,7 @@ ghost use Rattle.std.specs.Prelude.{◌≡◌, ◌≢◌, true, false, None};
 ghost use Rattle.image_codec.specs.Image.{image_fault};
 ghost use Rattle.script_text.specs.Faults.{first_fault, is_image};
 ghost use Rattle.program_ends.specs.Ends.{IsWriteFault, WritesNothing};
-ghost use Rattle.program_forms.specs.Output.{IsAnswer};
+ghost use Rattle.program_forms.specs.Output.{IsAnswer, IsRunOf};
 
 use crate::form::Form;
 use crate::refusing::{refuse_image, refuse_script};
@@ -16,7 +16,7 @@ use usb_base::{Sink, write_all};
 fn accept_image<K: Sink>(input: &[u8], sink: &mut K) -> Status
     requires image { is_image input.now ≡ true }
     requires sound { image_fault input.now ≡ None }
-    ensures answer { IsAnswer Form.Check result input.now (K.written sink.old) (K.written sink.new) }
+    ensures answer { IsAnswer IsRunOf Form.Check result input.now (K.written sink.old) (K.written sink.new) }
     ensures end { (result ≢ Status.Words) × (result ≢ Status.ReadFault) }
     ensures nothing { WritesNothing result → sink.new ≡ sink.old }
     ensures fault { IsWriteFault result (K.faults sink.old) (K.faults sink.new) }
@@ -30,7 +30,7 @@ fn accept_image<K: Sink>(input: &[u8], sink: &mut K) -> Status
 /// Checks an input that begins as an image.
 fn check_image<K: Sink>(alloc: Global, input: &[u8], sink: &mut K) -> Status
     requires { is_image input.now ≡ true }
-    ensures answer { IsAnswer Form.Check result input.now (K.written sink.old) (K.written sink.new) }
+    ensures answer { IsAnswer IsRunOf Form.Check result input.now (K.written sink.old) (K.written sink.new) }
     ensures end { (result ≢ Status.Words) × (result ≢ Status.ReadFault) }
     ensures nothing { WritesNothing result → sink.new ≡ sink.old }
     ensures fault { IsWriteFault result (K.faults sink.old) (K.faults sink.new) }
@@ -48,7 +48,7 @@ fn check_image<K: Sink>(alloc: Global, input: &[u8], sink: &mut K) -> Status
 fn accept_script<K: Sink>(input: &[u8], sink: &mut K) -> Status
     requires text { is_image input.now ≡ false }
     requires sound { first_fault input.now ≡ None }
-    ensures answer { IsAnswer Form.Check result input.now (K.written sink.old) (K.written sink.new) }
+    ensures answer { IsAnswer IsRunOf Form.Check result input.now (K.written sink.old) (K.written sink.new) }
     ensures end { (result ≢ Status.Words) × (result ≢ Status.ReadFault) }
     ensures nothing { WritesNothing result → sink.new ≡ sink.old }
     ensures fault { IsWriteFault result (K.faults sink.old) (K.faults sink.new) }
@@ -62,7 +62,7 @@ fn accept_script<K: Sink>(input: &[u8], sink: &mut K) -> Status
 /// Checks an input that is a text.
 fn check_script<K: Sink>(alloc: Global, input: &[u8], sink: &mut K) -> Status
     requires { is_image input.now ≡ false }
-    ensures answer { IsAnswer Form.Check result input.now (K.written sink.old) (K.written sink.new) }
+    ensures answer { IsAnswer IsRunOf Form.Check result input.now (K.written sink.old) (K.written sink.new) }
     ensures end { (result ≢ Status.Words) × (result ≢ Status.ReadFault) }
     ensures nothing { WritesNothing result → sink.new ≡ sink.old }
     ensures fault { IsWriteFault result (K.faults sink.old) (K.faults sink.new) }
@@ -76,7 +76,7 @@ fn check_script<K: Sink>(alloc: Global, input: &[u8], sink: &mut K) -> Status
 
 /// The form `check`: that the input is a script or an image, or what is wrong with it first.
 pub fn check<K: Sink>(alloc: Global, input: &[u8], sink: &mut K) -> Status
-    ensures answer { IsAnswer Form.Check result input.now (K.written sink.old) (K.written sink.new) }
+    ensures answer { IsAnswer IsRunOf Form.Check result input.now (K.written sink.old) (K.written sink.new) }
     ensures end { (result ≢ Status.Words) × (result ≢ Status.ReadFault) }
     ensures nothing { WritesNothing result → sink.new ≡ sink.old }
     ensures fault { IsWriteFault result (K.faults sink.old) (K.faults sink.new) }

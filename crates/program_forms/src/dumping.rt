@@ -1,7 +1,7 @@
 ghost use Rattle.std.specs.Prelude.{◌≡◌, ◌≢◌, None};
 ghost use Rattle.image_codec.specs.Image.{image_fault, image_of, IsAligned};
 ghost use Rattle.program_ends.specs.Ends.{IsWriteFault, WritesNothing};
-ghost use Rattle.program_forms.specs.Output.{IsAnswer};
+ghost use Rattle.program_forms.specs.Output.{IsAnswer, IsRunOf};
 
 use crate::form::Form;
 use crate::refusing::refuse_image;
@@ -15,7 +15,7 @@ fn show_image<K: Sink>(alloc: Global, input: &[u8], image: &Image, sink: &mut K)
     requires sound { image_fault input.now ≡ None }
     requires image { image.now ≡ image_of input.now }
     requires aligned { IsAligned image.now }
-    ensures answer { IsAnswer Form.Dump result input.now (K.written sink.old) (K.written sink.new) }
+    ensures answer { IsAnswer IsRunOf Form.Dump result input.now (K.written sink.old) (K.written sink.new) }
     ensures end { (result ≢ Status.Words) × (result ≢ Status.ReadFault) × (result ≢ Status.Refused) }
     ensures nothing { WritesNothing result → sink.new ≡ sink.old }
     ensures fault { IsWriteFault result (K.faults sink.old) (K.faults sink.new) }
@@ -30,7 +30,7 @@ fn show_image<K: Sink>(alloc: Global, input: &[u8], image: &Image, sink: &mut K)
 /// The form `dump`: the text that shows the image that the input is, or its refusal. All memory is taken before the
 /// first write.
 pub fn dump<K: Sink>(alloc: Global, input: &[u8], sink: &mut K) -> Status
-    ensures answer { IsAnswer Form.Dump result input.now (K.written sink.old) (K.written sink.new) }
+    ensures answer { IsAnswer IsRunOf Form.Dump result input.now (K.written sink.old) (K.written sink.new) }
     ensures end { (result ≢ Status.Words) × (result ≢ Status.ReadFault) }
     ensures nothing { WritesNothing result → sink.new ≡ sink.old }
     ensures fault { IsWriteFault result (K.faults sink.old) (K.faults sink.new) }

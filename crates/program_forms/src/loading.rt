@@ -3,7 +3,7 @@ ghost use Rattle.script_text.specs.Faults.{Spells, first_fault};
 ghost use Rattle.script_fits.specs.Fits.{IsFit};
 ghost use Rattle.load_script.specs.Load.{load_text};
 ghost use Rattle.program_ends.specs.Ends.{IsWriteFault, WritesNothing};
-ghost use Rattle.program_forms.specs.Output.{IsAnswer, RunOf};
+ghost use Rattle.program_forms.specs.Output.{IsAnswer, IsRunOf, RunOf};
 
 use crate::form::Form;
 use crate::running::world_of;
@@ -19,8 +19,8 @@ use usb_base::Sink;
 
 /// Prints what the report of a world counts.
 fn summarize<K: Sink>(n: u32, world: &World, sink: &mut K) -> Status
-    requires { RunOf (load_text n) world.now }
-    ensures answer { (input : List ℕ) → IsAnswer (Form.Load n) result input (K.written sink.old) (K.written sink.new) }
+    requires { RunOf IsRunOf (load_text n) world.now }
+    ensures answer { (input : List ℕ) → IsAnswer IsRunOf (Form.Load n) result input (K.written sink.old) (K.written sink.new) }
     ensures end { (result ≢ Status.Words) × (result ≢ Status.ReadFault) }
     ensures nothing { WritesNothing result → sink.new ≡ sink.old }
     ensures fault { IsWriteFault result (K.faults sink.old) (K.faults sink.new) }
@@ -35,7 +35,7 @@ fn summarize<K: Sink>(n: u32, world: &World, sink: &mut K) -> Status
 fn load_world<K: Sink>(alloc: Global, n: u32, script: &Script, sink: &mut K) -> Status
     requires spelled { Spells (load_text n) script.now }
     requires fits { IsFit script.now }
-    ensures answer { (input : List ℕ) → IsAnswer (Form.Load n) result input (K.written sink.old) (K.written sink.new) }
+    ensures answer { (input : List ℕ) → IsAnswer IsRunOf (Form.Load n) result input (K.written sink.old) (K.written sink.new) }
     ensures end { (result ≢ Status.Words) × (result ≢ Status.ReadFault) }
     ensures nothing { WritesNothing result → sink.new ≡ sink.old }
     ensures fault { IsWriteFault result (K.faults sink.old) (K.faults sink.new) }
@@ -49,7 +49,7 @@ fn load_world<K: Sink>(alloc: Global, n: u32, script: &Script, sink: &mut K) -> 
 /// The form `load`: what the report counts after the run of the load script of n. Nothing is read, and all memory is taken before the
 /// first write.
 pub fn load<K: Sink>(alloc: Global, n: u32, sink: &mut K) -> Status
-    ensures answer { (input : List ℕ) → IsAnswer (Form.Load n) result input (K.written sink.old) (K.written sink.new) }
+    ensures answer { (input : List ℕ) → IsAnswer IsRunOf (Form.Load n) result input (K.written sink.old) (K.written sink.new) }
     ensures end { (result ≢ Status.Words) × (result ≢ Status.ReadFault) }
     ensures nothing { WritesNothing result → sink.new ≡ sink.old }
     ensures fault { IsWriteFault result (K.faults sink.old) (K.faults sink.new) }
@@ -64,7 +64,7 @@ pub fn load<K: Sink>(alloc: Global, n: u32, sink: &mut K) -> Status
 /// Reads the text of the load script of a number, runs it and prints what its report counts.
 fn load_script<K: Sink>(alloc: Global, n: u32, text: &[u8], sink: &mut K) -> Status
     requires { text.now ≡ load_text n }
-    ensures answer { (input : List ℕ) → IsAnswer (Form.Load n) result input (K.written sink.old) (K.written sink.new) }
+    ensures answer { (input : List ℕ) → IsAnswer IsRunOf (Form.Load n) result input (K.written sink.old) (K.written sink.new) }
     ensures end { (result ≢ Status.Words) × (result ≢ Status.ReadFault) }
     ensures nothing { WritesNothing result → sink.new ≡ sink.old }
     ensures fault { IsWriteFault result (K.faults sink.old) (K.faults sink.new) }
@@ -79,7 +79,7 @@ fn load_script<K: Sink>(alloc: Global, n: u32, text: &[u8], sink: &mut K) -> Sta
 /// Refuses a load script, by the line of its first fault.
 fn refuse_load<K: Sink>(n: u32, line: u32, why: TextWhy, sink: &mut K) -> Status
     requires { first_fault (load_text n) ≡ Some (line, why) }
-    ensures answer { (input : List ℕ) → IsAnswer (Form.Load n) result input (K.written sink.old) (K.written sink.new) }
+    ensures answer { (input : List ℕ) → IsAnswer IsRunOf (Form.Load n) result input (K.written sink.old) (K.written sink.new) }
     ensures end { (result ≢ Status.Words) × (result ≢ Status.ReadFault) }
     ensures nothing { WritesNothing result → sink.new ≡ sink.old }
     ensures fault { IsWriteFault result (K.faults sink.old) (K.faults sink.new) }

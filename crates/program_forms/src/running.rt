@@ -28,8 +28,8 @@ pub(crate) fn world_of(alloc: Global, script: &Script) -> Result<World, Memory>
 
 /// Prints the report of a world.
 fn report<K: Sink>(input: &[u8], world: &World, sink: &mut K) -> Status
-    requires { RunOf input.now world.now }
-    ensures answer { IsAnswer Form.Run result input.now (K.written sink.old) (K.written sink.new) }
+    requires { RunOf IsRunOf input.now world.now }
+    ensures answer { IsAnswer IsRunOf Form.Run result input.now (K.written sink.old) (K.written sink.new) }
     ensures end { (result ≢ Status.Words) × (result ≢ Status.ReadFault) }
     ensures nothing { WritesNothing result → sink.new ≡ sink.old }
     ensures fault { IsWriteFault result (K.faults sink.old) (K.faults sink.new) }
@@ -44,7 +44,7 @@ fn report<K: Sink>(input: &[u8], world: &World, sink: &mut K) -> Status
 fn run_script<K: Sink>(alloc: Global, input: &[u8], script: &Script, sink: &mut K) -> Status
     requires spelled { Spells input.now script.now }
     requires fits { IsFit script.now }
-    ensures answer { IsAnswer Form.Run result input.now (K.written sink.old) (K.written sink.new) }
+    ensures answer { IsAnswer IsRunOf Form.Run result input.now (K.written sink.old) (K.written sink.new) }
     ensures end { (result ≢ Status.Words) × (result ≢ Status.ReadFault) }
     ensures nothing { WritesNothing result → sink.new ≡ sink.old }
     ensures fault { IsWriteFault result (K.faults sink.old) (K.faults sink.new) }
@@ -58,7 +58,7 @@ fn run_script<K: Sink>(alloc: Global, input: &[u8], script: &Script, sink: &mut 
 /// The form `run`: the report of the script that the input spells, or the line of its first fault. All memory is taken before the first
 /// write.
 pub fn run<K: Sink>(alloc: Global, input: &[u8], sink: &mut K) -> Status
-    ensures answer { IsAnswer Form.Run result input.now (K.written sink.old) (K.written sink.new) }
+    ensures answer { IsAnswer IsRunOf Form.Run result input.now (K.written sink.old) (K.written sink.new) }
     ensures end { (result ≢ Status.Words) × (result ≢ Status.ReadFault) }
     ensures nothing { WritesNothing result → sink.new ≡ sink.old }
     ensures fault { IsWriteFault result (K.faults sink.old) (K.faults sink.new) }
@@ -72,8 +72,8 @@ pub fn run<K: Sink>(alloc: Global, input: &[u8], sink: &mut K) -> Status
 
 /// Writes the image of a world.
 fn write_image<K: Sink>(alloc: Global, input: &[u8], world: &World, sink: &mut K) -> Status
-    requires { RunOf input.now world.now }
-    ensures answer { IsAnswer Form.Image result input.now (K.written sink.old) (K.written sink.new) }
+    requires { RunOf IsRunOf input.now world.now }
+    ensures answer { IsAnswer IsRunOf Form.Image result input.now (K.written sink.old) (K.written sink.new) }
     ensures end { (result ≢ Status.Words) × (result ≢ Status.ReadFault) }
     ensures nothing { WritesNothing result → sink.new ≡ sink.old }
     ensures fault { IsWriteFault result (K.faults sink.old) (K.faults sink.new) }
@@ -92,7 +92,7 @@ fn write_image<K: Sink>(alloc: Global, input: &[u8], world: &World, sink: &mut K
 fn image_script<K: Sink>(alloc: Global, input: &[u8], script: &Script, sink: &mut K) -> Status
     requires spelled { Spells input.now script.now }
     requires fits { IsFit script.now }
-    ensures answer { IsAnswer Form.Image result input.now (K.written sink.old) (K.written sink.new) }
+    ensures answer { IsAnswer IsRunOf Form.Image result input.now (K.written sink.old) (K.written sink.new) }
     ensures end { (result ≢ Status.Words) × (result ≢ Status.ReadFault) }
     ensures nothing { WritesNothing result → sink.new ≡ sink.old }
     ensures fault { IsWriteFault result (K.faults sink.old) (K.faults sink.new) }
@@ -106,7 +106,7 @@ fn image_script<K: Sink>(alloc: Global, input: &[u8], script: &Script, sink: &mu
 /// The form `image`: the image of memory after the run of the script that the input spells, or the line of its first fault. All memory
 /// is taken before the first write.
 pub fn image<K: Sink>(alloc: Global, input: &[u8], sink: &mut K) -> Status
-    ensures answer { IsAnswer Form.Image result input.now (K.written sink.old) (K.written sink.new) }
+    ensures answer { IsAnswer IsRunOf Form.Image result input.now (K.written sink.old) (K.written sink.new) }
     ensures end { (result ≢ Status.Words) × (result ≢ Status.ReadFault) }
     ensures nothing { WritesNothing result → sink.new ≡ sink.old }
     ensures fault { IsWriteFault result (K.faults sink.old) (K.faults sink.new) }

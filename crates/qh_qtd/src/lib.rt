@@ -17,6 +17,3 @@ pub use link_words::Bad;
 pub use qtd::Qtd;
 pub use queue_head::Qh;
 pub use token::Token;
-
-#[cfg(test)]
-mod tests;

@@ -9,6 +9,3 @@ pub mod laws;
 mod structures;
 
 pub use structures::{read_qtd, read_queue_head, write_overlay, write_token};
-
-#[cfg(test)]
-mod tests;

@@ -8,8 +8,6 @@
 
 mod closing;
 mod report;
-#[cfg(test)]
-mod tests;
 mod text;
 pub mod worked;
 

@@ -7,8 +7,6 @@
 
 mod book;
 mod slots;
-#[cfg(test)]
-mod tests;
 pub mod worked;
 
 pub use book::RunBook;

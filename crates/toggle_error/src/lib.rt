@@ -12,6 +12,3 @@ pub mod worked;
 
 pub use host::{HostSide, Outcome};
 pub use rows::{AskToken, CompleteRow, Heard, PlainRow, SettleRow, StartRow};
-
-#[cfg(test)]
-mod tests;

@@ -14,6 +14,3 @@ pub use exchanges::{exchange, received};
 pub use pipe::{IsoResult, Pipe, Result3};
 pub use pricing::{price, price_of_bytes};
 pub use runs::{run_high, run_iso, run_split_complete, run_split_start};
-
-#[cfg(test)]
-mod tests;

@@ -15,6 +15,3 @@ pub use entry::{Brought, Entry, Exchange};
 pub use out_data::OutData;
 pub use pipeline::Pipeline;
 pub use rows::{AnswerRow, StartRow};
-
-#[cfg(test)]
-mod tests;

@@ -10,8 +10,6 @@ mod copies;
 mod memory;
 pub mod owners;
 mod scan;
-#[cfg(test)]
-mod tests;
 pub mod worked;
 
 pub use blocks::{BlockRun, BlockState, LentRun};

@@ -1,5 +1,0 @@
-use Rattle.frame_visits.proofs.ChargeLoads.{held_paid}
-use Rattle.frame_visits.proofs.charges.visits_in_hand_are_paid.Goals as goal
-
-pub returns : goal.returns
-returns c = held_paid

@@ -1,5 +1,0 @@
-use Rattle.ring_rounds.proofs.DriverRounds.{each_row_rounds}
-use Rattle.ring_rounds.proofs.driver_rounds.each_row_goes_on_with_the_round.Goals as goal
-
-pub returns : goal.returns
-returns c = each_row_rounds

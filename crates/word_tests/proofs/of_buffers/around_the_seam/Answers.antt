@@ -1,0 +1,10 @@
+use Rattle.std.proofs.Common.{ℕ, zero, suc, ◌+◌, ◌/◌, ◌≤◌, [], ◌∷◌, get_or, arith}
+use Rattle.word_tests.proofs.of_buffers.around_the_seam.Goals as goal
+
+up_to_two : (i : ℕ) → get_or (2 ∷ 0 ∷ []) i 0 ≤ 2
+up_to_two zero = omega arith
+up_to_two (suc zero) = omega arith
+up_to_two (suc (suc i)) = omega arith
+
+pub load-requires-clause-there : goal.load-requires-clause-there
+load-requires-clause-there c i below = omega (arith, up_to_two ((4092 + i) / 4096))

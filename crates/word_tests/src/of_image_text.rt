@@ -1,0 +1,253 @@
+use crate::of_image_codec::{changed, opening};
+use byteorder::{ByteOrder, LittleEndian};
+use image_codec::{ImageWhy, Refusal, ShowError, decode, print_refusal, show};
+use std::alloc::{AllocError, Global};
+use std::process::Abort;
+use std::test::Fail;
+use usb_base::MemSink;
+
+/// The bytes of the opening image with some words, by address, written otherwise.
+fn with_words(alloc: Global, words: &[(u32, u32)]) -> Result<Vec<u8>, AllocError> {
+    let mut bytes = opening(alloc)?;
+    for (address, word) in words {
+        let at = 24 + *address as usize;
+        if at + 4 <= bytes.len() {
+            LittleEndian::write_u32(&mut bytes[at..], *word);
+        }
+    }
+    Ok(bytes)
+}
+
+fn text_of(alloc: Global, bytes: &[u8]) -> Result<MemSink, Fail> {
+    let image = decode(alloc, bytes)?;
+    let mut sink = MemSink::build(alloc, 100000, &[])?;
+    show(alloc, &image, &mut sink)?;
+    Ok(sink)
+}
+
+const FIRST: &[u8] = b"frindex 0000 list 00000000 async 00001000 words 2048\n";
+
+/// The frames' lines, if any, and those of the ring.
+fn is_shown(
+    rt: &impl Abort,
+    alloc: Global,
+    words: &[(u32, u32)],
+    lines: &[u8],
+) -> Result<(), Fail> {
+    let bytes = with_words(alloc, words)?;
+    let sink = text_of(alloc, &bytes)?;
+    let mut text = Vec::from_slice(alloc, FIRST)?;
+    text.extend_from_slice(lines)?;
+    assert_eq!(rt; sink.written(), text.as_slice());
+    Ok(())
+}
+
+#[test]
+fn rings(rt: HostRuntime) -> Result<(), Fail> {
+    let cases: [(&[(u32, u32)], &[u8]); 8] = [
+        (
+            &[],
+            b"async\n  qh 00001000 0.0 high max 64 s 00 c 00 token 00000040\n  ring\n",
+        ),
+        (
+            &[
+                (0x1000, 0x1042),
+                (0x1040, 0x1042),
+                (0x1044, 0x2003),
+                (0x1050, 1),
+                (0x1054, 1),
+            ],
+            b"async\n  qh 00001000 0.0 high max 64 s 00 c 00 token 00000040\n  qh 00001040 3.0 high max 0 s 00 c 00 token 00000000\n  loop at 00001040\n",
+        ),
+        (
+            &[(0x1000, 0x1042), (0x1044, 0x3003)],
+            b"async\n  qh 00001000 0.0 high max 64 s 00 c 00 token 00000040\n  bad at 00001040 word 1 bit 12\n",
+        ),
+        (
+            &[(0x1000, 0x10_0002)],
+            b"async\n  qh 00001000 0.0 high max 64 s 00 c 00 token 00000040\n  outside at 00100000\n",
+        ),
+        (
+            &[(0x1000, 0x1046)],
+            b"async\n  qh 00001000 0.0 high max 64 s 00 c 00 token 00000040\n  fstn at 00001040\n",
+        ),
+        (
+            &[
+                (0x1000, 0x1042),
+                (0x1040, 0x1082),
+                (0x1044, 3),
+                (0x1050, 1),
+                (0x1054, 1),
+                (0x1080, 0x1042),
+                (0x1084, 0x1104),
+                (0x1090, 1),
+                (0x1094, 1),
+                (0x1098, 0x8000_0040),
+            ],
+            b"async\n  qh 00001000 0.0 high max 64 s 00 c 00 token 00000040\n  qh 00001040 3.0 full max 0 s 00 c 00 token 00000000\n  qh 00001080 4.1 low max 0 s 00 c 00 token 80000040\n  loop at 00001040\n",
+        ),
+        (
+            &[(0x1000, 0x1040), (0x106c, 3)],
+            b"async\n  qh 00001000 0.0 high max 64 s 00 c 00 token 00000040\n  kind at 00001040\n",
+        ),
+        (
+            &[(0x1000, 0x1fe2)],
+            b"async\n  qh 00001000 0.0 high max 64 s 00 c 00 token 00000040\n  outside at 00001fe0\n",
+        ),
+    ];
+    for (words, lines) in cases {
+        is_shown(&rt, rt.alloc(), words, lines)?;
+    }
+    Ok(())
+}
+
+#[test]
+fn queues(rt: HostRuntime) -> Result<(), Fail> {
+    let cases: [(&[(u32, u32)], &[u8]); 4] = [
+        // Two descriptors that lead to one another.
+        (
+            &[
+                (0x1010, 0x1040),
+                (0x1040, 0x1060),
+                (0x1048, 0x8_0d80),
+                (0x1060, 0x1040),
+                (0x1068, 0x8200_0600),
+            ],
+            b"async\n  qh 00001000 0.0 high max 64 s 00 c 00 token 00000040\n    qtd 00001040 in total 8 cerr 3 token 00080d80\n    qtd 00001060 setup total 512 cerr 1 token 82000600\n    loop at 00001040\n  ring\n",
+        ),
+        // The last descriptor of memory, and a link past it.
+        (
+            &[(0x1010, 0x1fe0), (0x1fe0, 0x2000)],
+            b"async\n  qh 00001000 0.0 high max 64 s 00 c 00 token 00000040\n    qtd 00001fe0 out total 0 cerr 0 token 00000000\n    outside at 00002000\n  ring\n",
+        ),
+        // A reserved PID code.
+        (
+            &[(0x1010, 0x1040), (0x1048, 0x300)],
+            b"async\n  qh 00001000 0.0 high max 64 s 00 c 00 token 00000040\n    bad at 00001040 word 2 bit 8\n  ring\n",
+        ),
+        // One descriptor below two queue heads.
+        (
+            &[
+                (0x1000, 0x1082),
+                (0x1010, 0x1040),
+                (0x1040, 1),
+                (0x1080, 0x1002),
+                (0x1084, 0x2003),
+                (0x1090, 0x1040),
+                (0x1094, 1),
+            ],
+            b"async\n  qh 00001000 0.0 high max 64 s 00 c 00 token 00000040\n    qtd 00001040 out total 0 cerr 0 token 00000000\n  qh 00001080 3.0 high max 0 s 00 c 00 token 00000000\n    qtd 00001040 out total 0 cerr 0 token 00000000\n  ring\n",
+        ),
+    ];
+    for (words, lines) in cases {
+        is_shown(&rt, rt.alloc(), words, lines)?;
+    }
+    Ok(())
+}
+
+#[test]
+fn frames(rt: HostRuntime) -> Result<(), Fail> {
+    let cases: [(&[(u32, u32)], &[u8]); 3] = [
+        // Two frames that join, and one that begins where the first does.
+        (
+            &[
+                (0, 0x1042),
+                (4, 0x1082),
+                (8, 0x1042),
+                (0x1040, 0x1082),
+                (0x1044, 0x8_2105),
+                (0x1048, 0x1c01),
+                (0x1050, 1),
+                (0x1080, 1),
+                (0x1084, 0x40_0207),
+                (0x1088, 0x4402),
+                (0x1090, 1),
+            ],
+            b"frame 0\n  qh 00001040 5.1 high max 8 s 01 c 1c token 00000000\n  qh 00001080 7.2 full max 64 s 02 c 44 token 00000000\nframe 1\n  seen 00001080\nframe 2\n  seen 00001040\nasync\n  qh 00001000 0.0 high max 64 s 00 c 00 token 00000040\n  ring\n",
+        ),
+        // An iTD and a siTD, and an element outside of memory.
+        (
+            &[
+                (0x14, 0x1100),
+                (0xffc, 0x8000),
+                (0x1100, 0x1144),
+                (0x1124, 0x203),
+                (0x1128, 0x900),
+                (0x112c, 2),
+                (0x1140, 1),
+                (0x1144, 0x8409_0207),
+                (0x114c, 0x14_0000),
+                (0x1158, 1),
+            ],
+            b"frame 5\n  itd 00001100 3.2 in max 256 multi 2\n  sitd 00001140 7.2 in hub 9 port 4 total 20\nframe 1023\n  outside at 00008000\nasync\n  qh 00001000 0.0 high max 64 s 00 c 00 token 00000040\n  ring\n",
+        ),
+        // Reserved bits, twice each: a structure that wasn't shown isn't seen.
+        (
+            &[
+                (0, 0x1042),
+                (4, 0x1042),
+                (8, 0x1100),
+                (12, 0x1100),
+                (16, 0x1144),
+                (20, 0x1144),
+                (0x104c, 1),
+                (0x1128, 0x401),
+                (0x112c, 1),
+                (0x1148, 0x1_0000),
+            ],
+            b"frame 0\n  bad at 00001040 word 3 bit 0\nframe 1\n  bad at 00001040 word 3 bit 0\nframe 2\n  bad at 00001100 word 10 bit 0\nframe 3\n  bad at 00001100 word 10 bit 0\nframe 4\n  bad at 00001140 word 2 bit 16\nframe 5\n  bad at 00001140 word 2 bit 16\nasync\n  qh 00001000 0.0 high max 64 s 00 c 00 token 00000040\n  ring\n",
+        ),
+    ];
+    for (words, lines) in cases {
+        is_shown(&rt, rt.alloc(), words, lines)?;
+    }
+    Ok(())
+}
+
+#[test]
+fn frame_list_outside_and_failing_sinks(rt: HostRuntime) -> Result<(), Fail> {
+    let bytes = opening(rt.alloc())?;
+    let outside = changed(rt.alloc(), &bytes, &[(8, 0xff), (9, 0x3f), (13, 0x20)])?;
+    let mut text = String::from_str(
+        rt.alloc(),
+        "frindex 3fff list 00002000 async 00001000 words 2048\n",
+    )?;
+    for n in 0..1024u32 {
+        text.push_str(format!(in rt.alloc();
+            "frame {n}\n  outside at {:08x}\n",
+            0x2000 + 4 * n
+        )?.as_str())?;
+    }
+    text.push_str("async\n  qh 00001000 0.0 high max 64 s 00 c 00 token 00000040\n  ring\n")?;
+    let sink = text_of(rt.alloc(), &outside)?;
+    assert_eq!(rt; sink.written(), text.as_bytes());
+    let image = decode(rt.alloc(), &outside)?;
+    for call in 0..9u32 {
+        let mut failing = MemSink::build(rt.alloc(), 100000, &[call])?;
+        let failed = matches!(
+            show(rt.alloc(), &image, &mut failing),
+            Err(ShowError::Failed(_))
+        );
+        assert!(rt; failed);
+        assert_eq!(rt; failing.faults(), 1);
+        assert_eq!(rt; failing.written().len() <= 4096 * call as usize, true);
+        assert!(rt; text.as_bytes().starts_with(failing.written()));
+    }
+    Ok(())
+}
+
+#[test]
+fn refusals_are_lines(rt: HostRuntime) -> Result<(), Fail> {
+    let cases: [(u32, ImageWhy, &[u8]); 4] = [
+        (8215, ImageWhy::Length, b"offset 8215: length\n"),
+        (0, ImageWhy::Magic, b"offset 0: magic\n"),
+        (4, ImageWhy::Version, b"offset 4: version\n"),
+        (12, ImageWhy::Alignment, b"offset 12: alignment\n"),
+    ];
+    for (offset, why, line) in cases {
+        let mut sink = MemSink::build(rt.alloc(), 100, &[])?;
+        assert!(rt; print_refusal(Refusal { offset, why }, &mut sink).is_ok());
+        assert_eq!(rt; sink.written(), line);
+    }
+    Ok(())
+}
