@@ -1,1 +1,2 @@
+pub mod DueSampled
 pub mod Sampled
