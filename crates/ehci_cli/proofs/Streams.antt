@@ -1,14 +1,17 @@
 -- The report after a script's run is that of the moment with no order left.
-use Rattle.std.proofs.Common.{ℕ, List, [], Option, Some, None, ap, sym, subst, refl}
+use Rattle.std.proofs.Common.{◌≡◌, ℕ, List, [], Option, Some, None, ap, sym, subst, refl}
 use Rattle.script_types.specs.declared.scripts.Script.{Script}
 use Rattle.told_streams.specs.right_reports.WorldReport.{report_of}
+use Rattle.told_streams.specs.taken_reports.Taken.{AreTakenStreams}
+use Rattle.report_streams.specs.Reports.{WholeReport}
 use Rattle.report_streams.specs.Streams.{AreRightStreams}
 use Rattle.told_streams.proofs.lemmas.right_reports.Printed.{report_printed}
 use Rattle.usb_bus.specs.Bus.{fixed_of}
 use Rattle.bus_world.specs.World.{Standing}
 use Rattle.bus_world.specs.Opening.{opening_world}
 use Rattle.bus_world.specs.Orders.{OrderedWorld, Leads, at_place, orders_of}
-use Rattle.whole_worlds.specs.sending_worlds.Moments.{StreamsAreRightAtTheEnd}
+use Rattle.bus_world.specs.Budgets.{moment}
+use Rattle.whole_worlds.specs.sending_worlds.Sent.{AreSentStreams}
 use Rattle.whole_worlds.specs.sending_worlds.Kept.{KeepsStreamsThroughout}
 use Rattle.whole_worlds.proofs.lemmas.sending_worlds.Moments.{texts_keep_streams}
 use Rattle.program_ends.specs.Input.{input_of}
@@ -16,14 +19,22 @@ use Rattle.program_forms.specs.Output.{IsWholeRunOf}
 use Rattle.ehci_cli.specs.Scripts.{OfEachAsynchronousScript}
 use Rattle.ehci_cli.specs.Streams.{KeepsStreams}
 
-whole_end : (s : Script) → StreamsAreRightAtTheEnd s → (w : Standing) → IsWholeRunOf s w → AreRightStreams s (report_of w.fixed w.world)
-whole_end s right w ran =
-    let led = subst (λ f. Leads f (at_place (opening_world s) (orders_of s.lines)) (at_place w.world [])) refl ran.led in
-    subst (λ f. AreRightStreams s (report_of f w.world)) (sym ran.fixed)
-    (subst (λ v. AreRightStreams s (report_of (fixed_of s) v)) (ap (λ (p : OrderedWorld). p.world) led.there) (right led.count (ap (λ (p : OrderedWorld). p.orders) led.there)))
+-- what is so of the report of each moment with no order left is so of that after the run
+module _ (so : WholeReport → Type 0) where
+  at_end : (s : Script) → ((k : ℕ) → (moment s k).orders ≡ [] → so (report_of (fixed_of s) (moment s k).world)) → (w : Standing) → IsWholeRunOf s w → so (report_of w.fixed w.world)
+  at_end s each w ran =
+      let led = subst (λ f. Leads f (at_place (opening_world s) (orders_of s.lines)) (at_place w.world [])) refl ran.led in
+      subst (λ f. so (report_of f w.world)) (sym ran.fixed)
+      (subst (λ v. so (report_of (fixed_of s) v)) (ap (λ (p : OrderedWorld). p.world) led.there) (each led.count (ap (λ (p : OrderedWorld). p.orders) led.there)))
 
 keeps : (s : Script) → KeepsStreamsThroughout s → KeepsStreams s
-keeps s k = record { throughout = k; all = whole_end s k.at_the_end; printed = λ w. report_printed w.fixed w.world }
+keeps s k = record {
+  throughout = k;
+  taken = at_end (AreTakenStreams s) s (λ j none. k.taken j);
+  sent = at_end (AreSentStreams s) s (λ j none. k.sent j);
+  all = at_end (AreRightStreams s) s k.at_the_end;
+  printed = λ w. report_printed w.fixed w.world;
+}
 
 pub source_keeps_streams : (left : Option (List ℕ)) → OfEachAsynchronousScript KeepsStreams left
 source_keeps_streams None = tt
