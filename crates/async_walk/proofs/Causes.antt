@@ -9,11 +9,11 @@ use Rattle.link_words.specs.declared.kinds.QtdLink.TheVariants as qtd_links
 use Rattle.qh_qtd.specs.declared.qtd.Qtd.{Qtd}
 use Rattle.qh_qtd.specs.declared.queue_head.Qh.{Qh}
 use Rattle.toggle_error.specs.declared.host.Outcome.{Outcome}
-use Rattle.queue_words.specs.Structures.{qtd_at_address, queue_head_at_address}
-use Rattle.walk_copy.specs.declared.held.Held.{Held}
-use Rattle.walk_copy.specs.declared.held.Visit.{Visit}
-use Rattle.walk_copy.specs.declared.held.Visit.TheVariants as visits
-use Rattle.walk_copy.specs.Visits.{visit_of}
+use Rattle.mem_queues.specs.Structures.{qtd_at_address, queue_head_at_address}
+use Rattle.hc_copy.specs.declared.held.Held.{Held}
+use Rattle.hc_copy.specs.declared.held.Visit.{Visit}
+use Rattle.hc_copy.specs.declared.held.Visit.TheVariants as visits
+use Rattle.hc_copy.specs.Visits.{visit_of}
 use Rattle.async_walk.specs.declared.rows.WalkRow.TheVariants as rows
 use Rattle.async_walk.specs.Naks.{may_work, planned}
 use Rattle.async_walk.specs.Rows.{WalkPlace, fetch_row, ring_row, work_row, taken_row, take_row, visit_row, held_row, cursor_link, row_at, walk_row}
@@ -34,11 +34,8 @@ module _ (p : WalkPlace) where
   read_cause at (Some q) none leads stands = fetch_cause at q q.head p.registers.reclamation (record { no_copy = none; leads_there = leads; stands_there = stands }) refl refl
 
   ring_cause : (link : Link) → p.walk.held ≡ None → cursor_link p.registers p.walk.cursor ≡ link → Cause p (ring_row p.memory p.registers.reclamation link)
-  ring_cause links.End none leads = ring_is_broken (record { no_copy = none; nothing_there = λ a is. absurd cc })
-  ring_cause (links.Itd b) none leads = ring_is_broken (record { no_copy = none; nothing_there = λ a is. absurd cc })
   ring_cause (links.Qh at) none leads = read_cause at (queue_head_at_address p.memory at) none leads refl
-  ring_cause (links.Sitd b) none leads = ring_is_broken (record { no_copy = none; nothing_there = λ a is. absurd cc })
-  ring_cause (links.Fstn b) none leads = ring_is_broken (record { no_copy = none; nothing_there = λ a is. absurd cc })
+  ring_cause _ none leads = ring_is_broken (record { no_copy = none; nothing_there = λ a is. absurd cc })
 
   work_cause : (h : Held) (late : Bool) → IsVisited p h visits.Work → nat_lt p.walk.left (planned h.queue_head).price.0 ≡ late → Cause p (work_row late (planned h.queue_head))
   work_cause h true visited late = is_out_of_time (record { copy = h; visited = visited; late = ltb-true p.walk.left (planned h.queue_head).price.0 late })

@@ -3,15 +3,14 @@ use Rattle.std.proofs.Common.{◌≤◌, Bool, arith}
 use Rattle.qh_qtd.specs.declared.queue_head.Qh.{Qh}
 use Rattle.qh_qtd.specs.QueueHead.{IsQhInRange}
 use Rattle.async_walk.specs.declared.state.ReloadMode.{ReloadMode}
-use Rattle.async_walk.specs.declared.state.ReloadMode.TheVariants.{WaitHead, Reload, WaitStart}
+use Rattle.async_walk.specs.declared.state.ReloadMode.TheVariants.{Reload}
 use Rattle.async_walk.specs.Naks.{reloaded, naks_after, counted_queue}
 
 pub reloaded_in_range : (mode : ReloadMode) (q : Qh) → IsQhInRange q → IsQhInRange (reloaded mode q)
 unfolding reloaded
-reloaded_in_range WaitHead q r = r
-reloaded_in_range WaitStart q r = r
 reloaded_in_range Reload q (link, (chars, (caps, (current, (next, ((alternate, (naks, _)), rest)))))) =
     (link, (chars, (caps, (current, (next, ((alternate, (chars.0, tt)), rest))))))
+reloaded_in_range _ q r = r
 
 fewer : (counted : Bool) (q : Qh) → naks_after counted q ≤ q.nak_cnt
 fewer counted q = grind arith

@@ -5,16 +5,16 @@ use Rattle.usb_base.specs.declared.packets.Ask.{Ask}
 use Rattle.usb_base.specs.declared.packets.Reply.{Reply}
 use Rattle.word_mem.specs.Memory.{Mem, reaches, refused, with_word}
 use Rattle.word_mem.specs.Views.{with_words}
-use Rattle.buffers.specs.Bytes.{all_reached, stored, with_bytes}
+use Rattle.mem_bytes.specs.Bytes.{all_reached, stored, with_bytes}
 use Rattle.qh_qtd.specs.declared.queue_head.Qh.{Qh}
 use Rattle.qh_qtd.specs.Token.{token_word}
 use Rattle.toggle_error.specs.declared.host.Outcome.{Outcome}
-use Rattle.queue_words.specs.Structures.{reaches_queue_head, overlay_words}
-use Rattle.walk_copy.specs.declared.held.Held.{Held}
-use Rattle.walk_copy.specs.declared.held.Transaction.{Transaction}
-use Rattle.walk_copy.specs.Overlay.{pages_of, buffer_place, advanced, moved}
-use Rattle.walk_copy.specs.Buffer.{Reading, Writing, size_of, placed, bytes_written, sending}
-use Rattle.walk_copy.specs.WriteBack.{moved_by, then_write, overlay_after, overlay_back, token_back, written_back}
+use Rattle.mem_queues.specs.Structures.{reaches_queue_head, overlay_words}
+use Rattle.hc_copy.specs.declared.held.Held.{Held}
+use Rattle.hc_copy.specs.declared.held.Transaction.{Transaction}
+use Rattle.hc_copy.specs.Overlay.{pages_of, buffer_place, advanced, moved}
+use Rattle.hc_copy.specs.Buffer.{Reading, Writing, size_of, placed, bytes_written, sending}
+use Rattle.hc_copy.specs.WriteBack.{moved_by, then_write, overlay_after, overlay_back, token_back, written_back}
 use Rattle.async_walk.specs.declared.rows.WalkRow.{WalkRow}
 use Rattle.async_walk.specs.declared.rows.WalkRow.TheVariants as rows
 use Rattle.async_walk.specs.Naks.{planned}

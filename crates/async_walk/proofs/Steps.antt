@@ -5,11 +5,11 @@ use Rattle.link_words.specs.declared.kinds.QtdLink.TheVariants as qtd_links
 use Rattle.qh_qtd.specs.declared.qtd.Qtd.{Qtd}
 use Rattle.qh_qtd.specs.declared.queue_head.Qh.{Qh}
 use Rattle.toggle_error.specs.declared.host.Outcome.{Outcome}
-use Rattle.queue_words.specs.Structures.{reaches_queue_head}
-use Rattle.walk_copy.specs.declared.held.Held.{Held}
-use Rattle.walk_copy.specs.declared.held.Visit.{Visit}
-use Rattle.walk_copy.specs.declared.held.Visit.TheVariants as visits
-use Rattle.walk_copy.specs.Buffer.{sending}
+use Rattle.mem_queues.specs.Structures.{reaches_queue_head}
+use Rattle.hc_copy.specs.declared.held.Held.{Held}
+use Rattle.hc_copy.specs.declared.held.Visit.{Visit}
+use Rattle.hc_copy.specs.declared.held.Visit.TheVariants as visits
+use Rattle.hc_copy.specs.Buffer.{sending}
 use Rattle.async_walk.specs.declared.rows.WalkRow.{WalkRow}
 use Rattle.async_walk.specs.declared.rows.WalkRow.TheVariants as rows
 use Rattle.async_walk.specs.declared.state.WalkStep.{WalkStep}

@@ -14,7 +14,7 @@ use Rattle.transactions.specs.Prices.{priced_speed, price_at}
 use Rattle.word_mem.specs.Memory.{Mem}
 use Rattle.op_registers.specs.RegisterFile.{RegisterFile}
 use Rattle.qh_qtd.specs.declared.queue_head.Qh.{Qh}
-use Rattle.walk_copy.specs.declared.held.Transaction.{Transaction}
+use Rattle.hc_copy.specs.declared.held.Transaction.{Transaction}
 use Rattle.async_walk.specs.declared.rows.WalkRow.{WalkRow}
 use Rattle.async_walk.specs.declared.rows.WalkRow.TheVariants as rows
 use Rattle.async_walk.specs.Walk.{begun}

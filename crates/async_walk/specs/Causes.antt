@@ -8,12 +8,12 @@ use Rattle.op_registers.specs.RegisterFile.{RegisterFile}
 use Rattle.qh_qtd.specs.declared.qtd.Qtd.{Qtd}
 use Rattle.qh_qtd.specs.declared.queue_head.Qh.{Qh}
 use Rattle.toggle_error.specs.declared.host.Outcome.{Outcome}
-use Rattle.queue_words.specs.Structures.{qtd_at_address, queue_head_at_address, reaches_queue_head}
-use Rattle.walk_copy.specs.declared.held.Held.{Held}
-use Rattle.walk_copy.specs.declared.held.Visit.{Visit}
-use Rattle.walk_copy.specs.declared.held.Visit.TheVariants.{Rest, Work, Take}
-use Rattle.walk_copy.specs.Visits.{visit_of}
-use Rattle.walk_copy.specs.Buffer.{sending}
+use Rattle.mem_queues.specs.Structures.{qtd_at_address, queue_head_at_address, reaches_queue_head}
+use Rattle.hc_copy.specs.declared.held.Held.{Held}
+use Rattle.hc_copy.specs.declared.held.Visit.{Visit}
+use Rattle.hc_copy.specs.declared.held.Visit.TheVariants.{Rest, Work, Take}
+use Rattle.hc_copy.specs.Visits.{visit_of}
+use Rattle.hc_copy.specs.Buffer.{sending}
 use Rattle.async_walk.specs.declared.rows.WalkRow.{WalkRow}
 use Rattle.async_walk.specs.declared.rows.WalkRow.TheVariants as rows
 use Rattle.async_walk.specs.declared.state.WalkStep.{WalkStep}

@@ -16,17 +16,17 @@ use Rattle.qh_qtd.specs.QueueHead.{IsQhInRange}
 use Rattle.op_registers.specs.RegisterFile.{RegisterFile}
 use Rattle.op_registers.specs.Events.{after_advance, after_reclamation, after_fault}
 use Rattle.toggle_error.specs.declared.host.Outcome.{Outcome}
-use Rattle.queue_words.specs.Structures.{qtd_at_address, qtd_was_read, queue_head_at_address, queue_head_was_read, reaches_queue_head}
-use Rattle.walk_copy.specs.declared.held.Held.{Held}
-use Rattle.walk_copy.specs.declared.held.Transaction.{Transaction}
-use Rattle.walk_copy.specs.declared.held.Visit.{Visit}
-use Rattle.walk_copy.specs.declared.held.Visit.TheVariants as visits
-use Rattle.walk_copy.specs.Visits.{visit_of}
-use Rattle.walk_copy.specs.Planning.{CanBeMade}
-use Rattle.walk_copy.specs.Overlay.{advanced}
-use Rattle.walk_copy.specs.Buffer.{Reading, Writing, sending}
-use Rattle.walk_copy.specs.Transacting.{call_in, outcome_in, copy_after}
-use Rattle.walk_copy.specs.WriteBack.{received, written_back, raised, overlay_after}
+use Rattle.mem_queues.specs.Structures.{qtd_at_address, qtd_was_read, queue_head_at_address, queue_head_was_read, reaches_queue_head}
+use Rattle.hc_copy.specs.declared.held.Held.{Held}
+use Rattle.hc_copy.specs.declared.held.Transaction.{Transaction}
+use Rattle.hc_copy.specs.declared.held.Visit.{Visit}
+use Rattle.hc_copy.specs.declared.held.Visit.TheVariants as visits
+use Rattle.hc_copy.specs.Visits.{visit_of}
+use Rattle.hc_copy.specs.Planning.{CanBeMade}
+use Rattle.hc_copy.specs.Overlay.{advanced}
+use Rattle.hc_copy.specs.Buffer.{Reading, Writing, sending}
+use Rattle.hc_copy.specs.Transacting.{call_in, outcome_in, copy_after}
+use Rattle.hc_copy.specs.WriteBack.{received, written_back, raised, overlay_after}
 use Rattle.async_walk.specs.declared.rows.WalkRow.{WalkRow}
 use Rattle.async_walk.specs.declared.rows.WalkRow.TheVariants as rows
 use Rattle.async_walk.specs.declared.state.Cursor.{Cursor}

@@ -3,8 +3,8 @@ use Rattle.std.specs.Prelude.{ℕ, Bool, true, false, Option, None, Some, IfSome
 use Rattle.usb_base.specs.declared.packets.Reply.{Reply}
 use Rattle.usb_base.specs.declared.packets.Reply.TheVariants.{Silent}
 use Rattle.link_words.specs.Links.{IsAligned, address_of}
-use Rattle.walk_copy.specs.declared.held.Held.{Held}
-use Rattle.walk_copy.specs.Visits.{IsHeld}
+use Rattle.hc_copy.specs.declared.held.Held.{Held}
+use Rattle.hc_copy.specs.Visits.{IsHeld}
 use Rattle.async_walk.specs.declared.state.Cursor.{Cursor}
 use Rattle.async_walk.specs.declared.state.Cursor.TheVariants as cursors
 use Rattle.async_walk.specs.declared.state.ReloadMode.{ReloadMode}

@@ -5,7 +5,7 @@ ghost use Rattle.link_words.specs.Links.{IsAligned};
 ghost use Rattle.op_registers.specs.Events.{after_fault};
 ghost use Rattle.qh_qtd.specs.Qtd.{IsQtdInRange};
 ghost use Rattle.qh_qtd.specs.QueueHead.{IsQhInRange};
-ghost use Rattle.walk_copy.specs.Planning.{CanBeMade};
+ghost use Rattle.hc_copy.specs.Planning.{CanBeMade};
 ghost use Rattle.async_walk.specs.Walk.{stopped};
 ghost use Rattle.async_walk.specs.Rows.{WalkPlace, place, cursor_link, IsSound, started_walk, started_registers, head_read, restarted, fetched_registers, fetched_walk, passed_walk, took, took_step, wrote, wrote_step, sent_step, Sends, Leads, step_of, started, at_event, event_row};
 ghost use Rattle.async_walk.specs.Causes.{HasReason, HasNothing, IsStuck, IsWorked, AreRefusalsFaults};
@@ -13,11 +13,11 @@ ghost use Rattle.async_walk.specs.Causes.{HasReason, HasNothing, IsStuck, IsWork
 use crate::naks::{count, mode_of, reloaded};
 use crate::rows::{WalkRow, fetched, visited};
 use crate::state::{AsyncState, Cursor, ReloadMode, WalkStep};
+use hc_copy::{Held, Transaction, raise, read_out, take_qtd, transact, write_back};
 use link_words::Link;
 use op_registers::Registers;
 use qh_qtd::{Qh, Qtd};
 use usb_base::{Ps, Wire};
-use walk_copy::{Held, Transaction, raise, read_out, take_qtd, transact, write_back};
 use word_mem::WordMem;
 
 /// Answers the doorbell where the head of the ring was read.

@@ -4,7 +4,7 @@
 ghost use Rattle.std.specs.Prelude.{◌≡◌, ◌≢◌, ℕ, ◌<◌, ◌≤◌, true};
 ghost use Rattle.word_mem.specs.Memory.{Mem};
 ghost use Rattle.op_registers.specs.RegisterFile.{RegisterFile};
-ghost use Rattle.walk_copy.specs.declared.held.Transaction.{Transaction};
+ghost use Rattle.hc_copy.specs.declared.held.Transaction.{Transaction};
 ghost use Rattle.async_walk.specs.declared.rows.WalkRow.TheVariants.{OutOfTime, Transact};
 ghost use Rattle.async_walk.specs.declared.state.WalkStep.TheVariants as steps;
 ghost use Rattle.async_walk.specs.Rows.{WalkPlace, ring_row, cursor_link, walk_row, started, at_event, event_row, step_of, after_walk_row, begun_after};

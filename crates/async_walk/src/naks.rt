@@ -1,13 +1,13 @@
 ghost use Rattle.std.specs.Prelude.{◌≡◌};
 ghost use Rattle.qh_qtd.specs.QueueHead.{IsQhInRange};
-ghost use Rattle.walk_copy.specs.Visits.{IsHeld};
+ghost use Rattle.hc_copy.specs.Visits.{IsHeld};
 ghost use Rattle.async_walk.specs.Naks.{kind_at, may_work, mode_after, reloaded as reloaded_queue, counts, naks_after, counted_queue, counted_copy};
 
 use crate::state::ReloadMode;
+use hc_copy::Held;
 use qh_qtd::Qh;
 use toggle_error::Outcome;
 use usb_base::{EpKind, Pid, Reply};
-use walk_copy::Held;
 
 /// The kind of an endpoint of the ring: a control endpoint takes its toggle from each qTD (EHCI 1.0, 3.6.2).
 pub(crate) fn kind(queue_head: &Qh) -> EpKind

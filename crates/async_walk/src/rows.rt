@@ -2,16 +2,16 @@ ghost use Rattle.std.specs.Prelude.{◌≡◌, nat_lt};
 ghost use Rattle.word_mem.specs.Access.{IsByController};
 ghost use Rattle.link_words.specs.Links.{IsAligned, IsQtdAligned};
 ghost use Rattle.qh_qtd.specs.QueueHead.{IsQhInRange};
-ghost use Rattle.walk_copy.specs.Visits.{visit_of};
+ghost use Rattle.hc_copy.specs.Visits.{visit_of};
 ghost use Rattle.async_walk.specs.Naks.{may_work, planned};
 ghost use Rattle.async_walk.specs.Rows.{ring_row, work_row, take_row, visit_row, ring_read, take_read, visit_read, IsSound};
 
 use crate::naks::{kind, may};
+use hc_copy::{Transaction, Visit, next_transaction, visit};
 use link_words::{Link, QtdLink};
+use mem_queues::{read_qtd, read_queue_head};
 use qh_qtd::{Qh, Qtd};
-use queue_words::{read_qtd, read_queue_head};
 use usb_base::Ps;
-use walk_copy::{Transaction, Visit, next_transaction, visit};
 use word_mem::WordMem;
 
 /// The kind of an event, with what it read.
@@ -42,6 +42,7 @@ fn work(queue_head: &Qh, left: Ps) -> WalkRow
     ensures row { result ≡ work_row (nat_lt left.0 (planned queue_head.now).price.0) (planned queue_head.now) }
 {
     let transaction = next_transaction(queue_head, kind(queue_head));
+    // A transaction must not cross the end of the microframe (EHCI 1.0, 4.4.1).
     if transaction.price > left {
         return WalkRow::OutOfTime;
     }
@@ -57,10 +58,14 @@ fn take_row_of(link: QtdLink, mem: &mut WordMem) -> WalkRow
     ensures only_lent { IsByController mem.old mem.new }
 {
     match link {
+        // The queue is empty, so its overlay stays as it is (EHCI 1.0, 4.10.2).
         QtdLink::End => WalkRow::Skip,
         QtdLink::To(at) => match read_qtd(mem, at) {
+            // The word isn't lent: a host system error (EHCI 1.0, 4.15.2.4).
             None => WalkRow::Fault,
+            // Only an active qTD comes into the overlay (EHCI 1.0, 4.10.2).
             Some(qtd) if qtd.token.active => WalkRow::Advance(at, qtd),
+            // The driver hasn't given this qTD yet (EHCI 1.0, 4.10.2).
             Some(_) => WalkRow::Skip,
         },
     }
@@ -75,8 +80,11 @@ pub(crate) fn visited(queue_head: &Qh, left: Ps, mem: &mut WordMem) -> WalkRow
     ensures only_lent { IsByController mem.old mem.new }
 {
     match visit(queue_head, may(queue_head)) {
+        // Halted, or with a NAK count of 0: the next queue head comes (EHCI 1.0, 4.9 and 4.10.3).
         Visit::Rest => WalkRow::Skip,
+        // The overlay is active, so its transaction comes before any other qTD (EHCI 1.0, 4.10.3).
         Visit::Work => work(queue_head, left),
+        // The overlay is done, so the queue is advanced (EHCI 1.0, 4.10.2).
         Visit::Take(link) => take_row_of(link, mem),
     }
 }
@@ -91,10 +99,14 @@ pub(crate) fn fetched(link: Link, reclamation: bool, mem: &mut WordMem) -> WalkR
 {
     match link {
         Link::Qh(at) => match read_queue_head(mem, at) {
+            // The word isn't lent: a host system error (EHCI 1.0, 4.15.2.4).
             None => WalkRow::Fault,
+            // The head again, and no transaction since it was left: the schedule is empty (EHCI 1.0, 4.8.3).
             Some(queue_head) if queue_head.head && !reclamation => WalkRow::HeadEnds,
+            // Each read of a queue head is an event, also of one that has nothing to do (EHCI 1.0, 4.10.1).
             Some(queue_head) => WalkRow::Fetch(at, queue_head),
         },
+        // The ring has queue heads alone (EHCI 1.0, 4.8).
         _ => WalkRow::Fault,
     }
 }

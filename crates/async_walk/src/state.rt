@@ -1,9 +1,9 @@
 ghost use Rattle.std.specs.Prelude.{◌≡◌};
 
+use hc_copy::Held;
 use link_words::Link;
 use std::marker::Model;
 use usb_base::{Ps, Reply};
-use walk_copy::Held;
 
 /// One event of a walk.
 #[derive(Clone, Copy, Debug, PartialEq, Eq)]

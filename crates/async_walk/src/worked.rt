@@ -5,7 +5,7 @@ ghost use Rattle.usb_base.specs.declared.packets.EpKind.TheVariants.{Control, Bu
 ghost use Rattle.usb_base.specs.declared.packets.Pid.TheVariants as pids;
 ghost use Rattle.usb_base.specs.declared.packets.Reply.TheVariants.{Silent, Bytes, Hand};
 ghost use Rattle.toggle_error.specs.declared.host.Outcome.TheVariants.{Moved, Discarded, Nak, Wait, Error, Halt};
-ghost use Rattle.walk_copy.specs.Samples.{moving, bulk_in, bulk_out, setup, full_in, full_out, ring_head, counted};
+ghost use Rattle.hc_copy.specs.Samples.{moving, bulk_in, bulk_out, setup, full_in, full_out, ring_head, counted};
 ghost use Rattle.async_walk.specs.declared.state.ReloadMode.TheVariants.{WaitHead, Reload, WaitStart};
 ghost use Rattle.async_walk.specs.Naks.{planned, may_work, next_mode, mode_after, reloaded, counts, naks_after, counted_queue};
 ghost use Rattle.async_walk.specs.Samples.{in_hand, was_settled};

@@ -125,15 +125,8 @@ first_every period s p h =
     (has_every period s s h ∙ (let e = mod-eq_of_lt p in rw e (grind (arith, nat_tests)))))
 
 has_none : (m : ℕ) → m < 8 → has 0 m ≡ false
-has_none zero h = refl
-has_none (suc zero) h = refl
-has_none (suc (suc zero)) h = refl
-has_none (suc (suc (suc zero))) h = refl
-has_none (suc (suc (suc (suc zero)))) h = refl
-has_none (suc (suc (suc (suc (suc zero))))) h = refl
-has_none (suc (suc (suc (suc (suc (suc zero)))))) h = refl
-has_none (suc (suc (suc (suc (suc (suc (suc zero))))))) h = refl
 has_none (suc (suc (suc (suc (suc (suc (suc (suc m)))))))) h = absurd (omega arith)
+has_none _ h = refl
 
 -- ---- the rows of the table of placements
 
@@ -255,8 +248,7 @@ high_span period s is h = high_by (nat_lt period 8) period s is refl h
 
 row_span : (speed : Speed) (kind : EpKind) (dir : Dir) (bytes period s : ℕ) → is_period period ≡ true → 1 ≤ bytes → s < (if is_classic speed then classic_row kind dir bytes else high_row period).starts → IsSpan (if is_classic speed then classic_row kind dir bytes else high_row period) (if is_classic speed then classic_cells kind dir bytes else (if nat_lt period 8 then 9 - period else 1)) s
 row_span High kind dir bytes period s is some h = high_span period s is h
-row_span Full kind dir bytes period s is some h = classic_span kind dir bytes s some h
-row_span Low kind dir bytes period s is some h = classic_span kind dir bytes s some h
+row_span _ kind dir bytes period s is some h = classic_span kind dir bytes s some h
 
 high_starts : (b : Bool) (period : ℕ) → nat_lt period 8 ≡ b → (row_by b period).starts ≤ 8
 high_starts true period e = let l : period < 8 = grind (arith, nat_tests) in omega (arith, l)
@@ -274,8 +266,7 @@ classic_starts Interrupt Out bytes = omega arith
 
 starts_by : (speed : Speed) (kind : EpKind) (dir : Dir) (bytes period : ℕ) → (if is_classic speed then classic_row kind dir bytes else high_row period).starts ≤ 8
 starts_by High kind dir bytes period = high_starts (nat_lt period 8) period refl
-starts_by Full kind dir bytes period = classic_starts kind dir bytes
-starts_by Low kind dir bytes period = classic_starts kind dir bytes
+starts_by _ kind dir bytes period = classic_starts kind dir bytes
 
 pub few_starts : (w : Want) → (placement_row w).starts ≤ 8
 few_starts w = starts_by w.speed w.kind w.dir w.max w.period
@@ -295,9 +286,7 @@ cost_none w p m h = cost_by (has p.smask m) (has p.cmask m) _ _ h
 
 high_time : (kind : EpKind) (dir : Dir) (n : ℕ) → 1 ≤ bus_time High kind dir n
 high_time Iso dir n = omega arith
-high_time Control dir n = omega arith
-high_time Bulk dir n = omega arith
-high_time Interrupt dir n = omega arith
+high_time _ dir n = omega arith
 
 price_some : (w : Want) (n : ℕ) → 1 ≤ w.multi → 1 ≤ price w n
 price_some w n h = one-le-mul h (high_time w.kind w.dir n)
@@ -350,24 +339,12 @@ high_few_by true period is e = few period is (grind (arith, nat_tests))
 high_few_by false period is e = omega arith
 
 in_few : (k : ℕ) → k ≤ 6 → (6 - k + 1) * (k + 3 + k + 1) ≤ 40
-in_few zero h = omega arith
-in_few (suc zero) h = omega arith
-in_few (suc (suc zero)) h = omega arith
-in_few (suc (suc (suc zero))) h = omega arith
-in_few (suc (suc (suc (suc zero)))) h = omega arith
-in_few (suc (suc (suc (suc (suc zero))))) h = omega arith
-in_few (suc (suc (suc (suc (suc (suc zero)))))) h = omega arith
 in_few (suc (suc (suc (suc (suc (suc (suc k))))))) h = absurd (omega arith)
+in_few _ h = omega arith
 
 out_few : (k j : ℕ) → k ≤ 6 → j ≤ k + 1 → (7 - k + 1) * (k + j + 1) ≤ 40
-out_few zero j h l = omega arith
-out_few (suc zero) j h l = omega arith
-out_few (suc (suc zero)) j h l = omega arith
-out_few (suc (suc (suc zero))) j h l = omega arith
-out_few (suc (suc (suc (suc zero)))) j h l = omega arith
-out_few (suc (suc (suc (suc (suc zero))))) j h l = omega arith
-out_few (suc (suc (suc (suc (suc (suc zero)))))) j h l = omega arith
 out_few (suc (suc (suc (suc (suc (suc (suc k))))))) j h l = absurd (omega arith)
+out_few _ j h l = omega arith
 
 few_by : (speed : Speed) (kind : EpKind) (dir : Dir) (bytes period : ℕ) → is_period period ≡ true → bytes ≤ most_bytes speed kind → 1 ≤ bytes → ((if is_classic speed then classic_row kind dir bytes else high_row period).starts + 1) * ((if is_classic speed then classic_cells kind dir bytes else (if nat_lt period 8 then 9 - period else 1)) + (byte_times speed kind bytes + 187) / 188 + 1) ≤ 40
 few_by High kind dir bytes period is most some = high_few_by (nat_lt period 8) period is refl

@@ -3,6 +3,7 @@
 --     better P w b p            the better of the one so far and p
 --     choice P w b ps           the best of the one so far and of these
 use Rattle.std.specs.Prelude.{ℕ, ◌-◌, min, nat_lt, if◌then◌else◌, List, [], ◌∷◌, Option, Some, None}
+use Rattle.usb_base.specs.Limits.{microframe_budget}
 use Rattle.bandwidth.specs.declared.placements.Want.{Want}
 use Rattle.bandwidth.specs.declared.placements.Placement.{Placement}
 use Rattle.bandwidth.specs.declared.placements.Placed.{Placed}
@@ -18,8 +19,8 @@ lesser (Some old) new = if nat_lt new.peak old.peak then Some new else Some old
 
 -- the greatest peak within the budget of microframes that is less than that of the one so far
 abbrev pub limit : Option Candidate → ℕ
-limit None = 100000000
-limit (Some old) = min (old.peak - 1) 100000000
+limit None = microframe_budget
+limit (Some old) = min (old.peak - 1) microframe_budget
 
 abbrev pub better : List Placed → Want → Option Candidate → Placement → Option Candidate
 better placed w so_far p = if keeps placed w p then lesser so_far (candidate placed w p) else so_far

@@ -14,6 +14,7 @@ use Rattle.usb_base.specs.declared.packets.EpKind.{EpKind}
 use Rattle.usb_base.specs.declared.packets.EpKind.TheVariants.{Iso, Interrupt}
 use Rattle.usb_base.specs.declared.packets.Dir.{Dir}
 use Rattle.usb_base.specs.declared.packets.Dir.TheVariants.{In, Out}
+use Rattle.usb_base.specs.Limits.{byte_times_of_microframe}
 use Rattle.bandwidth.specs.declared.placements.Want.{Want}
 use Rattle.bandwidth.specs.declared.placements.Placement.{Placement}
 
@@ -109,8 +110,8 @@ abbrev pub iso_out_row : ℕ → PlacementRow
 iso_out_row k = record { starts = 7 - k; smask = λ s. run s k; cmask = λ s. 0 }
 
 abbrev pub classic_row : EpKind → Dir → ℕ → PlacementRow
-classic_row Iso In bytes = iso_in_row ((bytes + 9 + 187) / 188)
-classic_row Iso Out bytes = iso_out_row ((bytes + 187) / 188)
+classic_row Iso In bytes = iso_in_row ((bytes + 9 + (byte_times_of_microframe - 1)) / byte_times_of_microframe)
+classic_row Iso Out bytes = iso_out_row ((bytes + (byte_times_of_microframe - 1)) / byte_times_of_microframe)
 classic_row _ _ bytes = interrupt_row
 
 abbrev pub placement_row : Want → PlacementRow

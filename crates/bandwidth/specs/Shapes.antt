@@ -13,6 +13,7 @@ use Rattle.usb_base.specs.declared.packets.EpKind.TheVariants.{Iso}
 use Rattle.usb_base.specs.declared.packets.Dir.{Dir}
 use Rattle.usb_base.specs.declared.packets.Dir.TheVariants.{In, Out}
 use Rattle.usb_base.specs.Cost.{byte_times}
+use Rattle.usb_base.specs.Limits.{byte_times_of_microframe, frame_list_length}
 use Rattle.bandwidth.specs.declared.placements.Want.{Want}
 use Rattle.bandwidth.specs.declared.placements.Placement.{Placement}
 use Rattle.bandwidth.specs.declared.shapes.Amounts.{Amounts}
@@ -21,7 +22,7 @@ use Rattle.bandwidth.specs.Placements.{frame_period, is_classic, placement_row, 
 use Rattle.bandwidth.specs.Sums.{cost_in, laid_in, time_of}
 
 abbrev pub turns : ℕ → ℕ
-turns period = 1024 / frame_period period
+turns period = frame_list_length / frame_period period
 
 pub record IsAmounts (a : Amounts) : Type 0 where
   pub order : a.from ≤ a.to
@@ -32,8 +33,8 @@ pub record IsAmounts (a : Amounts) : Type 0 where
 
 -- from the first start-split to the last complete-split
 abbrev pub classic_cells : EpKind → Dir → ℕ → ℕ
-classic_cells Iso In bytes = (bytes + 9 + 187) / 188 + 3
-classic_cells Iso Out bytes = (bytes + 187) / 188
+classic_cells Iso In bytes = (bytes + 9 + (byte_times_of_microframe - 1)) / byte_times_of_microframe + 3
+classic_cells Iso Out bytes = (bytes + (byte_times_of_microframe - 1)) / byte_times_of_microframe
 classic_cells _ _ bytes = 5
 
 abbrev pub cost_cells : Want → ℕ
@@ -41,7 +42,7 @@ cost_cells w =
     if is_classic w.speed then classic_cells w.kind w.dir w.max else (if nat_lt w.period 8 then 9 - w.period else 1)
 
 abbrev pub laid_cells : Want → ℕ
-laid_cells w = (byte_times w.speed w.kind w.max + 187) / 188
+laid_cells w = (byte_times w.speed w.kind w.max + (byte_times_of_microframe - 1)) / byte_times_of_microframe
 
 abbrev pub cells : Want → ℕ
 cells w = cost_cells w + laid_cells w + 1

@@ -13,6 +13,7 @@ use Rattle.usb_base.specs.declared.packets.EpKind.TheVariants.{Iso}
 use Rattle.usb_base.specs.declared.packets.Dir.{Dir}
 use Rattle.usb_base.specs.declared.packets.Dir.TheVariants.{In, Out}
 use Rattle.usb_base.specs.Cost.{bus_time, byte_times}
+use Rattle.usb_base.specs.Limits.{byte_times_of_microframe, microframe_budget, frame_budget, frame_list_length}
 use Rattle.bandwidth.specs.declared.placements.Want.{Want}
 use Rattle.bandwidth.specs.declared.placements.Placement.{Placement}
 use Rattle.bandwidth.specs.declared.placements.Placed.{Placed}
@@ -24,13 +25,13 @@ is_active p f = nat_eq (f % frame_period p.period) p.phase
 -- the bytes of a classic start-split: none for IN, parts of 188 for isochronous OUT, all for interrupt OUT
 abbrev pub start_bytes : EpKind → Dir → ℕ → ℕ → ℕ
 start_bytes _ In bytes part = 0
-start_bytes Iso Out bytes part = min 188 (bytes - 188 * part)
+start_bytes Iso Out bytes part = min byte_times_of_microframe (bytes - byte_times_of_microframe * part)
 start_bytes _ Out bytes part = bytes
 
 -- the bytes of a complete-split: a part of at most 188 for isochronous IN, all for interrupt IN, none for OUT
 abbrev pub complete_bytes : EpKind → Dir → ℕ → ℕ
 complete_bytes _ Out bytes = 0
-complete_bytes Iso In bytes = min bytes 188
+complete_bytes Iso In bytes = min bytes byte_times_of_microframe
 complete_bytes _ In bytes = bytes
 
 -- the bytes of the transaction of an S-mask bit, the bit being this many microframes after the first
@@ -51,7 +52,7 @@ cost_in w p m =
 abbrev pub laid_in : Want → Placement → ℕ → ℕ
 laid_in w p m =
     if nat_le (first_in p.smask) m
-    then min 188 (byte_times w.speed w.kind w.max - 188 * (m - first_in p.smask))
+    then min byte_times_of_microframe (byte_times w.speed w.kind w.max - byte_times_of_microframe * (m - first_in p.smask))
     else 0
 
 abbrev pub time_of : Want → ℕ
@@ -81,9 +82,9 @@ tt_sum placed hub u = sum_by (λ x. if is_hub x.want.hub hub then laid_at u x el
 
 -- 8,192 microframes, 1,024 frames, 128 addresses of hubs
 pub record Fits (placed : List Placed) : Type 0 where
-  pub loads : (u : ℕ) → u < 8192 → load placed u ≤ 100000000
-  pub frames : (hub f : ℕ) → hub < 128 → f < 1024 → frame_sum placed hub f ≤ 900000000
-  pub bytes : (hub u : ℕ) → hub < 128 → u < 8192 → tt_sum placed hub u ≤ 188
+  pub loads : (u : ℕ) → u < 8192 → load placed u ≤ microframe_budget
+  pub frames : (hub f : ℕ) → hub < 128 → f < frame_list_length → frame_sum placed hub f ≤ frame_budget
+  pub bytes : (hub u : ℕ) → hub < 128 → u < 8192 → tt_sum placed hub u ≤ byte_times_of_microframe
 
 -- each number below n passes
 unfoldable pub each_below : ℕ → (ℕ → Bool) → Bool
@@ -92,6 +93,6 @@ each_below (suc n) test = each_below n test && test n
 
 unfoldable pub fits : List Placed → Bool
 fits placed =
-    each_below 8192 (λ u. nat_le (load placed u) 100000000)
-    && (each_below 128 (λ hub. each_below 1024 (λ f. nat_le (frame_sum placed hub f) 900000000))
-    && each_below 128 (λ hub. each_below 8192 (λ u. nat_le (tt_sum placed hub u) 188)))
+    each_below 8192 (λ u. nat_le (load placed u) microframe_budget)
+    && (each_below 128 (λ hub. each_below frame_list_length (λ f. nat_le (frame_sum placed hub f) frame_budget))
+    && each_below 128 (λ hub. each_below 8192 (λ u. nat_le (tt_sum placed hub u) byte_times_of_microframe)))

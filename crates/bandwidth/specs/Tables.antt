@@ -13,6 +13,7 @@
 use Rattle.std.specs.Prelude.{◌≡◌, ◌↔◌, ℕ, ◌+◌, ◌*◌, ◌/◌, ◌%◌, ◌<◌, ◌≤◌, min, Bool, true, false, ◌||◌, if◌then◌else◌}
 use Rattle.std.specs.Prelude.{List, [], Option, Some, None, is_some, sum_by, slice_index, slice_index_or, slice_set, All, length}
 use Rattle.std.specs.List.{list_any, count_by}
+use Rattle.usb_base.specs.Limits.{byte_times_of_microframe, microframe_budget, frame_budget, frame_list_length}
 use Rattle.bandwidth.specs.declared.placements.Want.{Want}
 use Rattle.bandwidth.specs.declared.placements.Placement.{Placement}
 use Rattle.bandwidth.specs.declared.placements.Placed.{Placed}
@@ -43,17 +44,17 @@ abbrev pub pool_size : Pool → ℕ
 pool_size pool = length pool.free + count_by is_some pool.hubs
 
 pub record AreCells (t : HubTables) : Type 0 where
-  pub frames : length t.frames ≡ 1024
+  pub frames : length t.frames ≡ frame_list_length
   pub bytes : length t.bytes ≡ 8192
 
 pub record AreZero (t : HubTables) : Type 0 where
   pub cells : AreCells t
-  pub frames : (f : ℕ) → f < 1024 → slice_index t.frames f ≡ 0
+  pub frames : (f : ℕ) → f < frame_list_length → slice_index t.frames f ≡ 0
   pub bytes : (u : ℕ) → u < 8192 → slice_index t.bytes u ≡ 0
 
 pub record AreHubSums (placed : List Placed) (hub : ℕ) (t : HubTables) : Type 0 where
   pub cells : AreCells t
-  pub frames : (f : ℕ) → f < 1024 → slice_index t.frames f ≡ frame_sum placed hub f
+  pub frames : (f : ℕ) → f < frame_list_length → slice_index t.frames f ≡ frame_sum placed hub f
   pub bytes : (u : ℕ) → u < 8192 → slice_index t.bytes u ≡ tt_sum placed hub u
 
 pub record IsPlaced (x : Placed) : Type 0 where
@@ -111,20 +112,20 @@ byte_share laid p u = if is_active p (u / 8) then laid (u % 8) else 0
 -- the cells of u are those of t with one placement more
 pub record Adds (time : ℕ) (laid : ℕ → ℕ) (p : Placement) (t u : HubTables) : Type 0 where
   pub cells : AreCells u
-  pub frames : (f : ℕ) → f < 1024 → slice_index u.frames f ≡ slice_index t.frames f + frame_share time p f
+  pub frames : (f : ℕ) → f < frame_list_length → slice_index u.frames f ≡ slice_index t.frames f + frame_share time p f
   pub bytes : (m : ℕ) → m < 8192 → slice_index u.bytes m ≡ slice_index t.bytes m + byte_share laid p m
 
 -- the cells hold what the placement adds
 pub record Holds (time : ℕ) (laid : ℕ → ℕ) (p : Placement) (t : HubTables) : Type 0 where
   pub cells : AreCells t
-  pub frames : (f : ℕ) → f < 1024 → is_active p f ≡ true → time ≤ slice_index t.frames f
+  pub frames : (f : ℕ) → f < frame_list_length → is_active p f ≡ true → time ≤ slice_index t.frames f
   pub bytes : (m : ℕ) → m < 8192 → is_active p (m / 8) ≡ true → laid (m % 8) ≤ slice_index t.bytes m
 
 -- within the budgets
 pub record AreWithin (t : HubTables) : Type 0 where
   pub cells : AreCells t
-  pub frames : (f : ℕ) → f < 1024 → slice_index t.frames f ≤ 900000000
-  pub bytes : (m : ℕ) → m < 8192 → slice_index t.bytes m ≤ 188
+  pub frames : (f : ℕ) → f < frame_list_length → slice_index t.frames f ≤ frame_budget
+  pub bytes : (m : ℕ) → m < 8192 → slice_index t.bytes m ≤ byte_times_of_microframe
 
 -- the tables that a hub has, or new ones
 abbrev pub Had : Option HubTables → HubTables → Type 0
@@ -177,21 +178,21 @@ sheet_at b hub =
 
 pub record AreSums (s : Sheet) (hub : Option ℕ) : Type 0 where
   pub loads : (u : ℕ) → u < 8192 → slice_index s.loads u ≡ load s.placed u
-  pub frames : (h f : ℕ) → hub ≡ Some h → h < 128 → f < 1024 → slice_index s.frames f ≡ frame_sum s.placed h f
+  pub frames : (h f : ℕ) → hub ≡ Some h → h < 128 → f < frame_list_length → slice_index s.frames f ≡ frame_sum s.placed h f
   pub bytes : (h u : ℕ) → hub ≡ Some h → h < 128 → u < 8192 → slice_index s.bytes u ≡ tt_sum s.placed h u
 
 -- what must stay within the budgets in the placement's own frames
 
 abbrev pub LoadsFit : List ℕ → (ℕ → ℕ) → Placement → Type 0
 LoadsFit loads cost p =
-    (u : ℕ) → u < 8192 → is_active p (u / 8) ≡ true → slice_index loads u + cost (u % 8) ≤ 100000000
+    (u : ℕ) → u < 8192 → is_active p (u / 8) ≡ true → slice_index loads u + cost (u % 8) ≤ microframe_budget
 
 abbrev pub FramesFit : List ℕ → ℕ → Placement → Type 0
-FramesFit frames time p = (f : ℕ) → f < 1024 → is_active p f ≡ true → slice_index frames f + time ≤ 900000000
+FramesFit frames time p = (f : ℕ) → f < frame_list_length → is_active p f ≡ true → slice_index frames f + time ≤ frame_budget
 
 abbrev pub BytesFit : List ℕ → (ℕ → ℕ) → Placement → Type 0
 BytesFit bytes laid p =
-    (u : ℕ) → u < 8192 → is_active p (u / 8) ≡ true → slice_index bytes u + laid (u % 8) ≤ 188
+    (u : ℕ) → u < 8192 → is_active p (u / 8) ≡ true → slice_index bytes u + laid (u % 8) ≤ byte_times_of_microframe
 
 -- each cell of the placement's own frames that gets an amount is at most n with it
 abbrev pub CellsWithin : List ℕ → (ℕ → ℕ) → Placement → ℕ → Type 0

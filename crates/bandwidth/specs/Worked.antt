@@ -8,17 +8,17 @@ use Rattle.bandwidth.specs.declared.placements.Placement.{Placement}
 
 -- a high-speed interrupt IN endpoint of 8 bytes
 abbrev pub mouse : ℕ → Want
-mouse period = record { id = 1; speed = High; kind = Interrupt; dir = In; max = 8; multi = 1; period = period; hub = None }
+mouse period = record { id = 1; speed = High; kind = Interrupt; dir = In; max = 8; multi = 1; period = period; hub = None; tt = 0 }
 
 -- full-speed endpoints of period 8 below hub 9
 abbrev pub keyboard : Want
-keyboard = record { id = 2; speed = Full; kind = Interrupt; dir = In; max = 64; multi = 1; period = 8; hub = Some 9 }
+keyboard = record { id = 2; speed = Full; kind = Interrupt; dir = In; max = 64; multi = 1; period = 8; hub = Some 9; tt = 0 }
 
 abbrev pub camera : ℕ → Want
-camera bytes = record { id = 3; speed = Full; kind = Iso; dir = In; max = bytes; multi = 1; period = 8; hub = Some 9 }
+camera bytes = record { id = 3; speed = Full; kind = Iso; dir = In; max = bytes; multi = 1; period = 8; hub = Some 9; tt = 0 }
 
 abbrev pub speaker : Want
-speaker = record { id = 4; speed = Full; kind = Iso; dir = Out; max = 1023; multi = 1; period = 8; hub = Some 9 }
+speaker = record { id = 4; speed = Full; kind = Iso; dir = Out; max = 1023; multi = 1; period = 8; hub = Some 9; tt = 0 }
 
 abbrev pub placed : ℕ → ℕ → ℕ → ℕ → Placement
 placed period phase smask cmask = record { period = period; phase = phase; smask = smask; cmask = cmask }

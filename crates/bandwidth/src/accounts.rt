@@ -2,6 +2,7 @@ ghost use Rattle.std.specs.Prelude.{◌≡◌, ℕ, ◌+◌, ◌*◌, ◌<◌, �
 ghost use Rattle.std.specs.Prelude.{true, false, filter, slice_index, Some, None, is_some, IfOk, IfSome, IfNone, IsTrue, ◌↔◌};
 ghost use Rattle.std.specs.List.{list_any, position};
 ghost use Rattle.std.specs.Option.{option_copied};
+ghost use Rattle.usb_base.specs.Limits.{microframe_budget};
 ghost use Rattle.bandwidth.specs.Placements.{IsWant, IsPlace};
 ghost use Rattle.bandwidth.specs.Sums.{Fits};
 ghost use Rattle.bandwidth.specs.Admission.{joined, keeps, peak};
@@ -10,20 +11,18 @@ ghost use Rattle.bandwidth.specs.Tables.{IsPool, HadMore, AreWithin, serves, tab
 
 use crate::asks::{byte_times_of, costs_of, is_below, time_in_frame};
 use crate::hub_pool::HubPool;
-use crate::hub_sums::{FRAME_BUDGET, HubSums};
+use crate::hub_sums::HubSums;
 use crate::limits::{first_sum, least_cost, peak_within};
 use crate::placements::{Placed, Placement, Want};
 use crate::shapes::Shape;
 use crate::table::Table;
 use crate::tables::{add_microframes, sub_microframes};
+use bandwidth_steps::Steps;
 use std::alloc::Global;
 use std::marker::Model;
 use std::sync::ledger::Ledger;
-use step_count::Steps;
+use usb_base::limits::FRAME_BUDGET;
 use usb_base::{DevAddr, Memory};
-
-/// The budget of a microframe: 80 % of 125 microseconds, in picoseconds (USB 2.0, 5.6.4 and 5.7.4).
-pub(crate) const MICROFRAME_BUDGET: u64 = 100_000_000;
 
 /// The addresses of hubs.
 const ADDRESSES: u32 = 128;
@@ -181,7 +180,7 @@ impl Accounts {
         requires want { IsWant want.now }
         requires shape { IsShape want.now shape.now }
         requires place { IsOf shape.now placement.now }
-        requires limit { limit ≤ 100000000 }
+        requires limit { limit ≤ microframe_budget }
         ensures keeps { IfSome result (λ top. keeps self.now.placed want.now placement.now ≡ true) }
         ensures peak { IfSome result (λ top. top ≡ peak self.now.placed want.now placement.now) }
         ensures none { IfNone result (keeps self.now.placed want.now placement.now ≡ true → limit < peak self.now.placed want.now placement.now) }

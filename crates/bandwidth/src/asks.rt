@@ -1,10 +1,12 @@
 ghost use Rattle.std.specs.Prelude.{◌≡◌, ◌≢◌, ℕ, ◌+◌, ◌*◌, ◌<◌, ◌≤◌, slice_index};
 ghost use Rattle.usb_base.specs.Cost.{bus_time, byte_times};
+ghost use Rattle.usb_base.specs.Limits.{byte_times_of_microframe};
 ghost use Rattle.bandwidth.specs.Placements.{is_classic, IsWant};
 ghost use Rattle.bandwidth.specs.Sums.{start_bytes, complete_bytes, sent_bytes, price, cost_in, laid_in, time_of, is_hub};
 
 use crate::masks::{first_bit, has_bit};
 use crate::placements::{Placement, Want};
+use usb_base::limits::BYTE_TIMES_OF_MICROFRAME;
 use usb_base::{DevAddr, Dir, EpKind, Speed, cost, tt_bytes};
 
 /// Whether a translator serves endpoints of this speed.
@@ -24,7 +26,9 @@ fn start_size(kind: EpKind, dir: Dir, bytes: u16, part: u8) -> u16
 {
     match (kind, dir) {
         (_, Dir::In) => 0,
-        (EpKind::Iso, Dir::Out) => bytes.saturating_sub(188 * part as u16).min(188),
+        (EpKind::Iso, Dir::Out) => bytes
+            .saturating_sub(BYTE_TIMES_OF_MICROFRAME * part as u16)
+            .min(BYTE_TIMES_OF_MICROFRAME),
         (_, Dir::Out) => bytes,
     }
 }
@@ -36,7 +40,7 @@ fn complete_size(kind: EpKind, dir: Dir, bytes: u16) -> u16
 {
     match (kind, dir) {
         (_, Dir::Out) => 0,
-        (EpKind::Iso, Dir::In) => bytes.min(188),
+        (EpKind::Iso, Dir::In) => bytes.min(BYTE_TIMES_OF_MICROFRAME),
         (_, Dir::In) => bytes,
     }
 }
@@ -86,14 +90,15 @@ pub(crate) fn laid_of(want: &Want, placement: &Placement, m: u8) -> u64
     requires want { IsWant want.now }
     requires microframe { m < 8 }
     ensures laid { result ≡ laid_in want.now placement.now m }
-    ensures bound { result ≤ 188 }
+    ensures bound { result ≤ byte_times_of_microframe }
 {
     let first = first_bit(placement.smask);
     if m < first || !classic(want.speed) {
         return 0;
     }
     let all = tt_bytes(want.speed, want.kind, want.max) as u64;
-    all.saturating_sub(188 * (m - first) as u64).min(188)
+    all.saturating_sub(BYTE_TIMES_OF_MICROFRAME as u64 * (m - first) as u64)
+        .min(BYTE_TIMES_OF_MICROFRAME as u64)
 }
 
 /// The classic bus time of an active frame, in picoseconds.
@@ -122,7 +127,7 @@ pub(crate) fn costs_of(want: &Want, placement: &Placement) -> [u64; 8]
 pub(crate) fn byte_times_of(want: &Want, placement: &Placement) -> [u64; 8]
     requires { IsWant want.now }
     ensures laid { (m : ℕ) → m < 8 → slice_index result m ≡ laid_in want.now placement.now m }
-    ensures bound { (m : ℕ) → m < 8 → slice_index result m ≤ 188 }
+    ensures bound { (m : ℕ) → m < 8 → slice_index result m ≤ byte_times_of_microframe }
 {
     let mut bytes = [0; 8];
     for m in 0..8 {

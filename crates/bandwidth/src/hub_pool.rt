@@ -7,10 +7,10 @@ ghost use Rattle.bandwidth.specs.Tables.{AreZero};
 use crate::hub_sums::HubSums;
 use crate::placements::Placement;
 use crate::shapes::Amounts;
+use bandwidth_steps::Steps;
 use std::alloc::Global;
 use std::marker::Model;
 use std::sync::ledger::Ledger;
-use step_count::Steps;
 use usb_base::{DevAddr, Memory};
 
 /// The tables that hubs have, by address, and those that no hub has, whose cells are all 0.

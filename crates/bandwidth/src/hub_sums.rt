@@ -7,17 +7,12 @@ use crate::placements::Placement;
 use crate::shapes::Amounts;
 use crate::table::Table;
 use crate::tables::{add_frames, add_microframes, sub_frames, sub_microframes};
+use bandwidth_steps::Steps;
 use std::alloc::Global;
 use std::marker::Model;
 use std::sync::ledger::Ledger;
-use step_count::Steps;
 use usb_base::Memory;
-
-/// The budget of a frame below a hub: 90 % of a millisecond, in picoseconds (USB 2.0, 5.6.4 and 5.7.4).
-pub(crate) const FRAME_BUDGET: u64 = 900_000_000;
-
-/// The byte-times that a translator moves in a microframe (USB 2.0, 11.18.4).
-const BYTE_TIMES: u64 = 188;
+use usb_base::limits::{BYTE_TIMES_OF_MICROFRAME, FRAME_BUDGET, FRAME_LIST_LENGTH};
 
 /// The tables of one hub: the classic bus time of each of the 1,024 frames, in picoseconds, and the byte-times of each of the 8,192
 /// microframes.
@@ -42,7 +37,7 @@ impl HubSums {
     pub(crate) fn zeros(alloc: Global) -> Result<HubSums, Memory>
         ensures { IfOk result (λ h. AreZero h) }
     {
-        let frames = Table::zeros(alloc, 1024)?;
+        let frames = Table::zeros(alloc, FRAME_LIST_LENGTH as usize)?;
         let bytes = Table::zeros(alloc, 8192)?;
         Ok(HubSums { frames, bytes })
     }
@@ -96,6 +91,12 @@ impl HubSums {
         if !frames_fit(&self.frames, placement, time, FRAME_BUDGET, steps) {
             return false;
         }
-        microframes_fit(&self.bytes, placement, bytes, BYTE_TIMES, steps)
+        microframes_fit(
+            &self.bytes,
+            placement,
+            bytes,
+            BYTE_TIMES_OF_MICROFRAME as u64,
+            steps,
+        )
     }
 }

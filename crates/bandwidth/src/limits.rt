@@ -1,4 +1,5 @@
 ghost use Rattle.std.specs.Prelude.{◌≡◌, ℕ, ◌+◌, ◌-◌, ◌*◌, ◌/◌, ◌%◌, ◌<◌, ◌≤◌, true, length, slice_index, IsTrue, ◌↔◌, IfSome, IfNone};
+ghost use Rattle.usb_base.specs.Limits.{frame_list_length};
 ghost use Rattle.bandwidth.specs.Placements.{IsPlace};
 ghost use Rattle.bandwidth.specs.Shapes.{turns, IsAmounts};
 ghost use Rattle.bandwidth.specs.Sums.{is_active};
@@ -8,8 +9,8 @@ use crate::frames::{active_frame, turns};
 use crate::placements::Placement;
 use crate::shapes::Amounts;
 use crate::table::Table;
+use bandwidth_steps::Steps;
 use std::sync::ledger::Ledger;
-use step_count::Steps;
 
 /// Whether each of the eight microframes of one frame stays within the limit with its amount, where the cells alone do.
 #[inline(always)]
@@ -21,7 +22,7 @@ fn frame_fits<L: Ledger>(
     steps: &mut Steps<L>,
 ) -> bool
     requires cells { length table.now ≡ 8192 }
-    requires frame { frame < 1024 }
+    requires frame { frame < frame_list_length }
     requires room { (u : ℕ) → u < 8192 → slice_index table.now u ≤ limit }
     requires limit { limit ≤ 1000000000000 }
     requires amounts { IsAmounts amounts.now }
@@ -70,11 +71,11 @@ pub(crate) fn frames_fit<L: Ledger>(
     limit: u64,
     steps: &mut Steps<L>,
 ) -> bool
-    requires cells { length table.now ≡ 1024 }
+    requires cells { length table.now ≡ frame_list_length }
     requires place { IsPlace placement.now }
-    requires room { (f : ℕ) → f < 1024 → slice_index table.now f ≤ 1000000000000 }
+    requires room { (f : ℕ) → f < frame_list_length → slice_index table.now f ≤ 1000000000000 }
     requires small { amount ≤ 1000000000000 }
-    ensures fits { IsTrue result ↔ ((f : ℕ) → f < 1024 → is_active placement.now f ≡ true → slice_index table.now f + amount ≤ limit) }
+    ensures fits { IsTrue result ↔ ((f : ℕ) → f < frame_list_length → is_active placement.now f ≡ true → slice_index table.now f + amount ≤ limit) }
     ensures steps { steps.new ≤ steps.old + turns placement.now.period }
 {
     for k in 0..turns(placement) {
@@ -121,7 +122,7 @@ pub(crate) fn first_sum<L: Ledger>(
     steps: &mut Steps<L>,
 ) -> u64
     requires cells { length table.now ≡ 8192 }
-    requires frame { frame < 1024 }
+    requires frame { frame < frame_list_length }
     requires room { (u : ℕ) → u < 8192 → slice_index table.now u ≤ 1000000000000 }
     requires amounts { IsAmounts amounts.now }
     ensures least { (b : ℕ) → FrameWithin table.now frame (slice_index amounts.now.each) b → result ≤ b }
@@ -144,7 +145,7 @@ fn frame_peak<L: Ledger>(
     steps: &mut Steps<L>,
 ) -> u64
     requires cells { length table.now ≡ 8192 }
-    requires frame { frame < 1024 }
+    requires frame { frame < frame_list_length }
     requires room { (u : ℕ) → u < 8192 → slice_index table.now u ≤ 1000000000000 }
     requires amounts { IsAmounts amounts.now }
     ensures at_least { so_far ≤ result }

@@ -1,18 +1,20 @@
-ghost use Rattle.std.specs.Prelude.{◌≡◌, ◌+◌, ◌/◌, ◌<◌, ◌≤◌};
+ghost use Rattle.std.specs.Prelude.{◌≡◌, ◌+◌, ◌-◌, ◌/◌, ◌<◌, ◌≤◌};
+ghost use Rattle.usb_base.specs.Limits.{byte_times_of_microframe};
 ghost use Rattle.bandwidth.specs.Placements.{IsWant, IsPlace, frame_period, high_row, classic_row, is_classic, placement_row, placement_at};
 
 use crate::asks::classic;
 use crate::masks::{every_of, run_of};
 use crate::placements::{Placement, Want};
+use usb_base::limits::BYTE_TIMES_OF_MICROFRAME;
 use usb_base::{Dir, EpKind};
 
 /// How many microframes of 188 byte-times so many byte-times fill.
 pub(crate) fn microframes(bytes: u16) -> u8
     requires { bytes ≤ 1032 }
-    ensures value { result ≡ (bytes + 187) / 188 }
+    ensures value { result ≡ (bytes + (byte_times_of_microframe - 1)) / byte_times_of_microframe }
     ensures bound { result ≤ 6 }
 {
-    ((bytes + 187) / 188) as u8
+    ((bytes + (BYTE_TIMES_OF_MICROFRAME - 1)) / BYTE_TIMES_OF_MICROFRAME) as u8
 }
 
 /// How many first microframes a placement may have in its frame.

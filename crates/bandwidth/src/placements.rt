@@ -17,6 +17,8 @@ pub struct Want {
     pub period: u16,
     /// The hub whose translator serves it, for a full- or low-speed endpoint alone.
     pub hub: Option<DevAddr>,
+    /// The translator of that hub, by the port that it serves alone; 0 where one serves all ports (USB 2.0, 11.14).
+    pub tt: u8,
 }
 
 /// A place on the bus. It is active in each frame that leaves `phase` when divided by the frames of its period, 1 below 8

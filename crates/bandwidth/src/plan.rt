@@ -1,5 +1,6 @@
 ghost use Rattle.std.specs.Prelude.{◌≡◌, ℕ, ◌+◌, ◌<◌, ◌≤◌, ◌↔◌, false, true, List, [], length, slice_index, Some, None, IfOk, IfSome, Result};
 ghost use Rattle.std.specs.Bool.{OnTrue, OnFalse};
+ghost use Rattle.usb_base.specs.Limits.{frame_list_length};
 ghost use Rattle.bandwidth.specs.declared.placements.Refused.TheVariants.{NoPlacement, Room};
 ghost use Rattle.bandwidth.specs.Placements.{IsWant};
 ghost use Rattle.bandwidth.specs.Sums.{Fits, load, frame_sum, tt_sum};
@@ -11,10 +12,10 @@ use crate::placements::{Placement, Refused, Want};
 use crate::search::best_placement;
 use crate::shapes::shapes_of;
 use crate::table::Table;
+use bandwidth_steps::Steps;
 use std::alloc::Global;
 use std::marker::{Brand, Model};
 use std::sync::ledger::{Blank, Ledger};
-use step_count::Steps;
 use usb_base::{DevAddr, Memory, Ps};
 
 /// The periodic endpoints that are placed, in the order of admission, and how many may be. What is placed keeps every
@@ -143,8 +144,8 @@ impl Plan {
     /// placed or its endpoint has no hub.
     pub fn frame_sums(&self, id: u32) -> Option<&Table>
         ensures none { (result ≡ None) ↔ (hub_of self.now.placed id ≡ None) }
-        ensures cells { IfSome result (λ t. length t.now ≡ 1024) }
-        ensures sums { IfSome result (λ t. (hub f : ℕ) → hub_of self.now.placed id ≡ Some hub → f < 1024 → slice_index t.now f ≡ frame_sum self.now.placed hub f) }
+        ensures cells { IfSome result (λ t. length t.now ≡ frame_list_length) }
+        ensures sums { IfSome result (λ t. (hub f : ℕ) → hub_of self.now.placed id ≡ Some hub → f < frame_list_length → slice_index t.now f ≡ frame_sum self.now.placed hub f) }
     {
         let hub = self.hub(id)?;
         match self.accounts.below(hub) {

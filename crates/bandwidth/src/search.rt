@@ -4,14 +4,15 @@ ghost use Rattle.bandwidth.specs.Shapes.{turns, cells, IsShape, AreShapes};
 ghost use Rattle.bandwidth.specs.Admission.{best};
 ghost use Rattle.bandwidth.specs.Choice.{lesser, limit, better, choice, place_in};
 
-use crate::accounts::{Accounts, MICROFRAME_BUDGET};
+use crate::accounts::Accounts;
 use crate::choice::Candidate;
 use crate::frames::frames_of;
 use crate::options::starts;
 use crate::placements::{Placement, Want};
 use crate::shapes::Shape;
+use bandwidth_steps::Steps;
 use std::sync::ledger::Ledger;
-use step_count::Steps;
+use usb_base::limits::MICROFRAME_BUDGET;
 
 /// The one with the lesser peak, the one so far where they are equal.
 #[inline(always)]

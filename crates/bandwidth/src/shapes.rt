@@ -5,6 +5,7 @@ ghost use Rattle.bandwidth.specs.Shapes.{IsShape, AreShapes, cost_cells, laid_ce
 use crate::asks::{byte_times_of, classic, costs_of, time_in_frame};
 use crate::options::{microframes, placement_of, starts};
 use crate::placements::{Placement, Want};
+use usb_base::limits::BYTE_TIMES_OF_MICROFRAME;
 use usb_base::{Dir, EpKind, tt_bytes};
 
 /// Amounts of the eight microframes of a frame, all of them 0 outside `from` to below `to`.
@@ -57,7 +58,8 @@ fn span_of_bytes(want: &Want) -> u8
     if !classic(want.speed) {
         return 0;
     }
-    ((tt_bytes(want.speed, want.kind, want.max) + 187) / 188) as u8
+    ((tt_bytes(want.speed, want.kind, want.max) + (BYTE_TIMES_OF_MICROFRAME as u32 - 1))
+        / BYTE_TIMES_OF_MICROFRAME as u32) as u8
 }
 
 /// What the placements from a first microframe on do.

@@ -1,4 +1,5 @@
 ghost use Rattle.std.specs.Prelude.{◌≡◌, ℕ, ◌+◌, ◌-◌, ◌*◌, ◌/◌, ◌%◌, ◌<◌, ◌≤◌, true, length, slice_index, nat_eq, if◌then◌else◌, IsTrue, ◌↔◌};
+ghost use Rattle.usb_base.specs.Limits.{frame_list_length};
 ghost use Rattle.bandwidth.specs.Placements.{IsPlace};
 ghost use Rattle.bandwidth.specs.Shapes.{turns, IsAmounts};
 ghost use Rattle.bandwidth.specs.Sums.{is_active};
@@ -7,13 +8,13 @@ use crate::frames::{active_frame, turns};
 use crate::placements::Placement;
 use crate::shapes::Amounts;
 use crate::table::Table;
+use bandwidth_steps::Steps;
 use std::sync::ledger::Ledger;
-use step_count::Steps;
 
 /// Adds the amounts of the eight microframes to those of one frame.
 fn add_in_frame<L: Ledger>(table: &mut Table, frame: u32, amounts: &Amounts, steps: &mut Steps<L>)
     requires cells { length table.old ≡ 8192 }
-    requires frame { frame < 1024 }
+    requires frame { frame < frame_list_length }
     requires room { (m : ℕ) → m < 8 → slice_index table.old (8 * frame + m) ≤ 1000000000000 }
     requires amounts { IsAmounts amounts.now }
     ensures cells { length table.new ≡ 8192 }
@@ -52,12 +53,12 @@ pub(crate) fn add_frames<L: Ledger>(
     amount: u64,
     steps: &mut Steps<L>,
 )
-    requires cells { length table.old ≡ 1024 }
+    requires cells { length table.old ≡ frame_list_length }
     requires place { IsPlace placement.now }
-    requires room { (f : ℕ) → f < 1024 → slice_index table.old f ≤ 1000000000000 }
+    requires room { (f : ℕ) → f < frame_list_length → slice_index table.old f ≤ 1000000000000 }
     requires small { amount ≤ 1000000000000 }
-    ensures cells { length table.new ≡ 1024 }
-    ensures sums { (f : ℕ) → f < 1024 → slice_index table.new f ≡ slice_index table.old f + (if is_active placement.now f then amount else 0) }
+    ensures cells { length table.new ≡ frame_list_length }
+    ensures sums { (f : ℕ) → f < frame_list_length → slice_index table.new f ≡ slice_index table.old f + (if is_active placement.now f then amount else 0) }
     ensures steps { steps.new ≤ steps.old + turns placement.now.period }
 {
     for k in 0..turns(placement) {
@@ -68,7 +69,7 @@ pub(crate) fn add_frames<L: Ledger>(
 /// Takes the amounts of the eight microframes from those of one frame.
 fn sub_in_frame(table: &mut Table, frame: u32, amounts: &[u64; 8])
     requires cells { length table.old ≡ 8192 }
-    requires frame { frame < 1024 }
+    requires frame { frame < frame_list_length }
     requires enough { (m : ℕ) → m < 8 → slice_index amounts.now m ≤ slice_index table.old (8 * frame + m) }
     ensures cells { length table.new ≡ 8192 }
     ensures sums { (u : ℕ) → u < 8192 → slice_index table.old u ≡ slice_index table.new u + (if nat_eq (u / 8) frame then slice_index amounts.now (u % 8) else 0) }
@@ -93,11 +94,11 @@ pub(crate) fn sub_microframes(table: &mut Table, placement: &Placement, amounts:
 
 /// Takes an amount from each active frame of a placement.
 pub(crate) fn sub_frames(table: &mut Table, placement: &Placement, amount: u64)
-    requires cells { length table.old ≡ 1024 }
+    requires cells { length table.old ≡ frame_list_length }
     requires place { IsPlace placement.now }
-    requires enough { (f : ℕ) → f < 1024 → is_active placement.now f ≡ true → amount ≤ slice_index table.old f }
-    ensures cells { length table.new ≡ 1024 }
-    ensures sums { (f : ℕ) → f < 1024 → slice_index table.old f ≡ slice_index table.new f + (if is_active placement.now f then amount else 0) }
+    requires enough { (f : ℕ) → f < frame_list_length → is_active placement.now f ≡ true → amount ≤ slice_index table.old f }
+    ensures cells { length table.new ≡ frame_list_length }
+    ensures sums { (f : ℕ) → f < frame_list_length → slice_index table.old f ≡ slice_index table.new f + (if is_active placement.now f then amount else 0) }
 {
     for k in 0..turns(placement) {
         table.sub(active_frame(placement, k), amount);

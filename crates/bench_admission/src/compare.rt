@@ -5,10 +5,10 @@ ghost use Rattle.bandwidth.specs.Placements.{IsWant};
 use crate::draws::{Draws, any_want};
 use crate::sums::Sums;
 use bandwidth::{Placement, Plan, Refused, Table, Want};
+use bandwidth_steps::Steps;
 use std::alloc::{AllocError, Global};
 use std::marker::Brand;
 use std::sync::ledger::{Blank, Ledger};
-use step_count::Steps;
 use usb_base::Memory;
 
 /// How many endpoints were placed, how many found no placement and how many no room, how many were taken out, and how often the two

@@ -66,6 +66,7 @@ fn high(id: u32, draws: &mut Draws) -> Want
         multi: 1 + (draws.draw() % 3) as u8,
         period: long_period(draws.draw()),
         hub: None,
+        tt: 0,
     }
 }
 
@@ -82,6 +83,7 @@ fn classic_iso(id: u32, hub: DevAddr, draws: &mut Draws) -> Want
         multi: 1,
         period: long_period(draws.draw()),
         hub: Some(hub),
+        tt: 0,
     }
 }
 
@@ -101,6 +103,7 @@ fn classic(id: u32, hub: DevAddr, draws: &mut Draws) -> Want
         multi: 1,
         period: long_period(draws.draw()),
         hub: Some(hub),
+        tt: 0,
     }
 }
 
@@ -133,6 +136,7 @@ fn dense(id: u32, draws: &mut Draws) -> Want
         multi: 1,
         period,
         hub: None,
+        tt: 0,
     }
 }
 
@@ -149,6 +153,7 @@ fn slow(id: u32, hub: DevAddr, draws: &mut Draws) -> Want
         multi: 1,
         period: long_period(draws.draw()),
         hub: Some(hub),
+        tt: 0,
     }
 }
 
@@ -181,6 +186,7 @@ pub(crate) fn small(id: u32) -> Want
         multi: 1,
         period: 256,
         hub: None,
+        tt: 0,
     }
 }
 
@@ -209,6 +215,7 @@ pub(crate) fn long_in(id: u32, period: u16) -> Want
         multi: 1,
         period,
         hub: DevAddr::new(9),
+        tt: 0,
     }
 }
 
@@ -227,5 +234,6 @@ pub(crate) fn long_out(id: u32, period: u16) -> Want
         multi: 1,
         period,
         hub: DevAddr::new(9),
+        tt: 0,
     }
 }

@@ -4,14 +4,8 @@ ghost use Rattle.std.specs.Prelude.{IfOk};
 use crate::spots::{costs_of, frames_of, laid_of, placement_of, starts_of, time_of};
 use bandwidth::{Placed, Placement, Refused, Want};
 use std::alloc::Global;
+use usb_base::limits::{BYTE_TIMES_OF_MICROFRAME, FRAME_BUDGET, MICROFRAME_BUDGET};
 use usb_base::{DevAddr, Memory};
-
-/// The budget of a microframe, in picoseconds.
-const MICROFRAME: u64 = 100_000_000;
-/// The budget of a frame below a hub, in picoseconds.
-const FRAME: u64 = 900_000_000;
-/// The byte-times of a translator in a microframe.
-const BYTES: u64 = 188;
 
 /// What is placed, and room for the sums of one question.
 #[derive(Drop)]
@@ -154,13 +148,13 @@ impl Sums {
     /// The greatest microframe sum with a placement, `None` where it breaks a budget.
     fn peak(&self, want: &Want, placement: &Placement) -> Option<u64> {
         let peak = greatest(&self.loads, placement, &costs_of(want, placement));
-        if peak > MICROFRAME {
+        if peak > MICROFRAME_BUDGET {
             return None;
         }
         if want.hub.is_some() {
             let time = greatest_frame(&self.frames, placement).wrapping_add(time_of(want));
             let bytes = greatest(&self.bytes, placement, &laid_of(want, placement));
-            if time > FRAME || bytes > BYTES {
+            if time > FRAME_BUDGET || bytes > BYTE_TIMES_OF_MICROFRAME as u64 {
                 return None;
             }
         }

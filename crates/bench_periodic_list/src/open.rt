@@ -1,6 +1,6 @@
-use class_search::Reads;
-use frame_chains::{Member, QueueHead};
-use periodic_list::PeriodicList;
+use drv_chains::{Member, QueueHead};
+use drv_periodic::PeriodicList;
+use drv_search::Reads;
 use std::alloc::{AllocError, Global};
 use usb_base::Memory;
 

@@ -10,15 +10,15 @@ use Rattle.usb_base.specs.declared.packets.Reply.{Reply}
 use Rattle.usb_base.specs.declared.packets.Reply.TheVariants as replies
 use Rattle.usb_base.specs.declared.endpoints.EpName.{EpName}
 use Rattle.script_types.specs.declared.scripts.FateText.{FateText}
-use Rattle.usb_bus.specs.declared.told.Told.{Told}
-use Rattle.usb_bus.specs.Bus.{Wired, begin_after, is_allowed, reply_of, transact_after}
-use Rattle.usb_bus.specs.Fates.{is_against}
-use Rattle.usb_bus.specs.Told.{told_of, answer_told}
-use Rattle.usb_bus.specs.WhoHeard.{packets_before, later}
-use Rattle.bus_exchanges.specs.declared.exchanges.Answer.{Answer}
-use Rattle.bus_exchanges.specs.declared.exchanges.Answer.TheVariants as answers
-use Rattle.bus_exchanges.specs.declared.exchanges.Exchange.{Exchange}
-use Rattle.bus_exchanges.specs.declared.exchanges.Fates.{Fates}
+use Rattle.bus_wire.specs.declared.told.Told.{Told}
+use Rattle.bus_wire.specs.Bus.{Wired, begin_after, is_allowed, reply_of, transact_after}
+use Rattle.bus_wire.specs.Fates.{is_against}
+use Rattle.bus_wire.specs.Told.{told_of, answer_told}
+use Rattle.bus_wire.specs.WhoHeard.{packets_before, later}
+use Rattle.bus_packets.specs.declared.exchanges.Answer.{Answer}
+use Rattle.bus_packets.specs.declared.exchanges.Answer.TheVariants as answers
+use Rattle.bus_packets.specs.declared.exchanges.Exchange.{Exchange}
+use Rattle.bus_packets.specs.declared.exchanges.Fates.{Fates}
 
 pub record Recorded : Type 0 where
   pub wired : Wired

@@ -1,10 +1,10 @@
 ghost use Rattle.std.specs.Prelude.{◌≡◌, ◌≤◌, find};
 ghost use Rattle.std.specs.Option.{option_copied};
-ghost use Rattle.usb_bus.specs.Fates.{is_bad, is_same_way, is_same_name, is_against};
-ghost use Rattle.usb_bus.specs.WhoHeard.{packets_sent, later};
+ghost use Rattle.bus_wire.specs.Fates.{is_bad, is_same_way, is_same_name, is_against};
+ghost use Rattle.bus_wire.specs.WhoHeard.{packets_sent, later};
 ghost use Rattle.bus_recorder.specs.Recorded.{speaks_of, fate_by, fate_of, fates_of};
 
-use bus_exchanges::Fates;
+use bus_packets::Fates;
 use script_types::FateText;
 use usb_base::{Ask, EpName, Fate, Pid, Split, Way};
 

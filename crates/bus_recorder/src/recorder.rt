@@ -2,16 +2,16 @@ ghost use Rattle.std.specs.Prelude.{◌≡◌, ◌≤◌, length, slice_get, Opt
 ghost use Rattle.std.specs.List.{list_all};
 ghost use Rattle.endpoint_script.specs.Device.{is_scripted};
 ghost use Rattle.hub_class.specs.HubContent.{has_few_ports};
-ghost use Rattle.usb_bus.specs.Bus.{opening_wired};
+ghost use Rattle.bus_wire.specs.Bus.{opening_wired};
 ghost use Rattle.bus_recorder.specs.Recorded.{answer_in, bytes_in, exchange_in, BeginsIn, TransactsIn, forgotten};
 
 use crate::fates::{fates_of, packets_sent};
-use bus_exchanges::{Answer, Exchange};
+use bus_packets::{Answer, Exchange};
+use bus_wire::{Seat, Told, UsbBus};
 use script_types::{FateText, Script};
 use std::alloc::Global;
 use std::marker::Model;
 use usb_base::{Ask, Memory, Packet, Reply, Wire};
-use usb_bus::{Seat, Told, UsbBus};
 
 /// A bus with a record of what went over it last.
 #[derive(Drop)]

@@ -11,16 +11,17 @@ use Rattle.script_types.specs.declared.scripts.Event.TheVariants as events
 use Rattle.script_types.specs.declared.scripts.Line.{Line}
 use Rattle.script_types.specs.declared.scripts.Line.TheVariants as lines
 use Rattle.script_types.specs.declared.scripts.Script.{Script}
-use Rattle.usb_bus.specs.Bus.{Fixed, fixed_of}
-use Rattle.driver_rows.specs.declared.content.Reserve.{Reserve}
-use Rattle.driver_rows.specs.Offers.{Offered, IsOffered, offered}
+use Rattle.bus_wire.specs.Bus.{Fixed, fixed_of}
+use Rattle.drv_table.specs.declared.content.Reserve.{Reserve}
+use Rattle.drv_table.specs.Accepting.{Offered}
+use Rattle.drv_table.specs.Offers.{IsOffered, offered}
 use Rattle.script_fits.specs.Fits.{IsFit, IsFitCommand, IsFitLine}
-use Rattle.admission_laws.specs.Budgets.{account_of, KeepsBudgets}
-use Rattle.admission_laws.proofs.Budgets.{opening_kept, command_kept, event_kept}
-use Rattle.admission_laws.proofs.Refusals.{refused_exactly}
+use Rattle.law_admission.specs.Budgets.{account_of, KeepsBudgets}
+use Rattle.law_admission.proofs.Budgets.{opening_kept, command_kept, event_kept}
+use Rattle.law_admission.proofs.Refusals.{refused_exactly}
 use Rattle.bus_world.specs.World.{World, next, driver_parts, commanded, commanded_by, name_in}
 use Rattle.bus_world.specs.Opening.{opening_world}
-use Rattle.bus_world.specs.Orders.{Left, Events, Microframes, Answer, Command, OrderedWorld, at_place, left_of, orders_of, fewer, tick, tick_by, tick_at, ticks}
+use Rattle.bus_world.specs.Orders.{Left, Events, Microframes, Answer, Command, Plugs, OrderedWorld, at_place, left_of, orders_of, fewer, tick, tick_by, tick_at, ticks}
 use Rattle.bus_world.specs.Rooms.{needs, needs_line, no_room, with_room, reserve_of, HasRoomFor}
 use Rattle.bus_world.specs.Budgets.{AdmitsExactly, AdmitsThroughout}
 use Rattle.bus_world.proofs.Ways.{next_room}
@@ -43,10 +44,8 @@ commanded_kept w n cmd ok old = answered_kept w n (name_in cmd) cmd (offered w.d
 -- ---- what is left of the orders
 
 abbrev needs_left : Left → Reserve
-needs_left (Events event n) = no_room
-needs_left (Microframes n) = no_room
-needs_left (Answer ended n) = no_room
 needs_left (Command n cmd) = needs cmd
+needs_left _ = no_room
 
 reserve_left : List Left → Reserve
 reserve_left [] = no_room
@@ -57,6 +56,7 @@ FitsLeft (Events event n) = Unit {0}
 FitsLeft (Microframes n) = Unit {0}
 FitsLeft (Answer ended n) = Unit {0}
 FitsLeft (Command n cmd) = IsFitCommand cmd
+FitsLeft (Plugs there port) = Unit {0}
 
 record IsReady (w : World) (orders : List Left) : Type 0 where
   budgets : KeepsBudgets (account_of w.driver)
@@ -100,6 +100,7 @@ by_ready fixed w (Microframes zero) rest h = ends w (Microframes zero) rest refl
 by_ready fixed w (Microframes (suc n)) rest h = goes_on fixed w events.C (Microframes (suc n)) (Answer _ (suc n)) rest refl refl tt h
 by_ready fixed w (Answer ended n) rest h = goes_on fixed w events.D (Answer ended n) (Microframes (fewer ended n)) rest refl refl tt h
 by_ready fixed w (Command n cmd) rest h = command_ready w n cmd rest h
+by_ready fixed w (Plugs there port) rest h = ends w (Plugs there port) rest refl h
 
 at_ready : (fixed : Fixed) (w : World) (orders : List Left) → IsReady w orders → IsReadyAt (tick_at fixed w orders)
 at_ready fixed w [] h = h
@@ -128,8 +129,7 @@ admits w orders h = record {
 
 line_needs : (l : Line) (n : ℕ) → needs_left (left_of l n) ≡ needs_line l
 line_needs (lines.Order event count) n = refl
-line_needs (lines.Micro count) n = refl
-line_needs (lines.Command cmd) n = refl
+line_needs _ n = refl
 
 lines_need : (xs : List (ℕ × Line)) → reserve_left (orders_of xs) ≡ reserve_of xs
 unfolding reserve_left
@@ -139,9 +139,8 @@ lines_need (x ∷ xs) =
     ∙ ap (with_room (needs_line x.1)) (lines_need xs)
 
 line_fits : (l : Line) (n : ℕ) → IsFitLine l → FitsLeft (left_of l n)
-line_fits (lines.Order event count) n h = tt
-line_fits (lines.Micro count) n h = tt
 line_fits (lines.Command cmd) n h = h
+line_fits _ n h = tt
 
 lines_fit : (xs : List (ℕ × Line)) → AllByRecursion (λ x. IsFitLine x.1) xs → AllByRecursion FitsLeft (orders_of xs)
 lines_fit [] h = tt

@@ -9,25 +9,28 @@ use Rattle.usb_base.specs.declared.reports.What.TheVariants as lines
 use Rattle.usb_base.specs.declared.reports.Report.{Report}
 use Rattle.report_text.specs.ReportText.{AreStored}
 use Rattle.word_mem.specs.Memory.{Mem}
-use Rattle.run_book.specs.Book.{Book, Holding, holding, lend_taken}
-use Rattle.periodic_rows.specs.declared.content.Removed.{Removed}
-use Rattle.periodic_rows.specs.declared.content.Removed.TheVariants as removed
-use Rattle.periodic_rows.specs.Linking.{begun_next}
-use Rattle.driver_rows.specs.declared.content.Endpoint.{Endpoint}
-use Rattle.driver_rows.specs.declared.content.Transfer.{Transfer}
-use Rattle.driver_rows.specs.declared.content.QtdNote.{QtdNote}
-use Rattle.driver_rows.specs.declared.content.Command.{Command}
-use Rattle.driver_rows.specs.declared.content.Command.TheVariants as unfinished
-use Rattle.driver_rows.specs.declared.rows.DriverRow.{DriverRow}
-use Rattle.driver_rows.specs.declared.rows.DriverRow.TheVariants as rows
-use Rattle.driver_rows.specs.declared.rows.Found.{Found}
-use Rattle.driver_rows.specs.declared.rows.Found.TheVariants as founds
-use Rattle.driver_rows.specs.DriverContent.{DriverContent, waits_for}
-use Rattle.driver_rows.specs.Harvests.{reported, noted, end_of, is_stall}
-use Rattle.driver_rows.specs.Rows.{Parts, after_driver_row, advance, advanced_by, finished, no_command, leave_ring, leave_frames, events_of, links, removes_members, list_after, linked_on}
-use Rattle.driver_rows.specs.Rows.{framed_by, with_notes, framed_notes, placement_at, linked_by, after_transfer, freed_by, after_endpoint, cancel_told}
-use Rattle.driver_rows.specs.Rows.{after_unlink, after_descriptor, after_placed, after_removed, removed_with}
-use Rattle.driver_rows.specs.Rows.{is_told, gone_with, after_harvest, harvested_as, after_end, told_with, stalled, goes_on, behind, behind_one, mends_of, served}
+use Rattle.mem_runs.specs.Book.{Book, Holding, holding, lend_taken}
+use Rattle.drv_periodic_table.specs.declared.content.Removed.{Removed}
+use Rattle.drv_periodic_table.specs.declared.content.Removed.TheVariants as removed
+use Rattle.drv_periodic_table.specs.Linking.{begun_next}
+use Rattle.drv_table.specs.declared.content.Endpoint.{Endpoint}
+use Rattle.drv_table.specs.declared.content.Transfer.{Transfer}
+use Rattle.drv_table.specs.declared.content.QtdNote.{QtdNote}
+use Rattle.drv_table.specs.declared.content.Command.{Command}
+use Rattle.drv_table.specs.declared.content.Command.TheVariants as unfinished
+use Rattle.drv_table.specs.declared.rows.DriverRow.{DriverRow}
+use Rattle.drv_table.specs.declared.rows.DriverRow.TheVariants as rows
+use Rattle.drv_table.specs.declared.rows.Found.{Found}
+use Rattle.drv_table.specs.declared.rows.Found.TheVariants as founds
+use Rattle.drv_table.specs.DriverContent.{DriverContent, waits_for}
+use Rattle.drv_table.specs.Harvests.{reported, noted, end_of, is_stall}
+use Rattle.drv_table.specs.Parts.{Parts}
+use Rattle.drv_table.specs.Rows.{after_driver_row}
+use Rattle.drv_table.specs.Commands.{advance, advanced_by, finished, no_command, leave_ring, leave_frames, events_of, links, removes_members, list_after, linked_on}
+use Rattle.drv_table.specs.FrameChoice.{framed_by, with_notes, framed_notes, placement_at, linked_by}
+use Rattle.drv_table.specs.Releases.{after_transfer, freed_by, after_endpoint, cancel_told, is_told, gone_with}
+use Rattle.drv_table.specs.Removals.{after_unlink, after_descriptor, after_placed, after_removed, removed_with}
+use Rattle.drv_table.specs.Harvesting.{after_harvest, harvested_as, after_end, told_with, stalled, goes_on, behind, behind_one, mends_of, served}
 
 -- the reserve stays, and lines keep their bytes
 pub record Keeps (d e : DriverContent) : Type 0 where
@@ -74,13 +77,10 @@ frames_left_keeps d e None = keeps_all d
 frames_left_keeps d e (Some x) = keeps_if d x.chained _ d (record { room = refl; stored = λ h. h }) (keeps_all d)
 
 finished_keeps : (d : DriverContent) (c : Command) → Keeps d (finished d c)
-finished_keeps d (unfinished.Open queue) = record { room = refl; stored = λ h. h }
-finished_keeps d (unfinished.Publish b words) = record { room = refl; stored = λ h. h }
 finished_keeps d (unfinished.Unlink e b link) = keeps_join d (no_command d) _ (record { room = refl; stored = λ h. h }) (left_keeps (no_command d) e (slice_get d.endpoints e))
-finished_keeps d unfinished.Chain = record { room = refl; stored = λ h. h }
-finished_keeps d (unfinished.Iso e t count) = record { room = refl; stored = λ h. h }
 finished_keeps d (unfinished.Unchain e) =
     keeps_join d (no_command d) _ (record { room = refl; stored = λ h. h }) (frames_left_keeps (no_command d) e (slice_get d.endpoints e))
+finished_keeps d _ = record { room = refl; stored = λ h. h }
 
 linked_keeps : (d : DriverContent) (c : Command) → Keeps d (linked_on d c)
 linked_keeps d c =
@@ -98,15 +98,10 @@ advance_keeps d = advanced_keeps d d.command
 
 -- the descriptors of a command have their frames
 framed_keeps : (d : DriverContent) (n : ℕ) (c : Option Command) → Keeps d (framed_by d n c)
-framed_keeps d n None = keeps_all d
-framed_keeps d n (Some (unfinished.Open queue)) = keeps_all d
-framed_keeps d n (Some (unfinished.Publish b words)) = keeps_all d
-framed_keeps d n (Some (unfinished.Unlink e b link)) = keeps_all d
-framed_keeps d n (Some unfinished.Chain) = keeps_all d
 framed_keeps d n (Some (unfinished.Iso e t count)) =
     let with : DriverContent = with_notes d n (take count (drop t d.transfers)) (framed_notes d n e t count (placement_at d e)) in
     keeps_join d with _ (record { room = refl; stored = λ h. h }) (advance_keeps with)
-framed_keeps d n (Some (unfinished.Unchain e)) = keeps_all d
+framed_keeps d n _ = keeps_all d
 
 -- ---- leaving work
 
@@ -208,14 +203,9 @@ row_keeps rows.Lend p =
     let lent : DriverContent = record p.driver { book = (lend_taken (holding p.driver.book p.memory)).book } in
     keeps_join p.driver lent _ (record { room = refl; stored = λ s. s }) (advance_keeps lent)
 row_keeps (rows.Store b at v) p = advance_keeps p.driver
-row_keeps (rows.Mend w) p = record { room = refl; stored = λ s. s }
 row_keeps (rows.ReleaseTransfer t) p =
     transfer_keeps p t (slice_get p.driver.transfers t) (freed_by p.driver (holding p.driver.book p.memory) (slice_get p.driver.transfers t))
 row_keeps (rows.ReleaseEndpoint e) p = endpoint_keeps p e (slice_get p.driver.endpoints e)
-row_keeps rows.ClearAdvance p = record { room = refl; stored = λ s. s }
-row_keeps rows.RingBell p = record { room = refl; stored = λ s. s }
-row_keeps (rows.ReadStatus heard) p = record { room = refl; stored = λ s. s }
-row_keeps (rows.ReadFrame n) p = record { room = refl; stored = λ s. s }
 row_keeps rows.Frames p = framed_keeps p.driver p.registers.frame_index p.driver.command
 row_keeps rows.LendDescriptors p =
     let lent : DriverContent = record p.driver { book = (lend_taken (holding p.driver.book (linked_by p.driver p.memory p.driver.command))).book } in
@@ -224,3 +214,4 @@ row_keeps (rows.Unlink t) p = unlink_keeps p t (slice_get p.driver.transfers t)
 row_keeps (rows.ReleaseRemoved what) p = what_keeps p what
 row_keeps (rows.Harvest e t found) p = harvest_keeps p.driver p.memory e t found (slice_get p.driver.endpoints e) (slice_get p.driver.transfers t)
 row_keeps rows.Rest p = keeps_all p.driver
+row_keeps _ p = record { room = refl; stored = λ s. s }

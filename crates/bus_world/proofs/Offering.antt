@@ -13,21 +13,23 @@ use Rattle.usb_base.specs.declared.packets.EpKind.TheVariants as kinds
 use Rattle.usb_base.specs.declared.reports.OfferError.{OfferError}
 use Rattle.usb_base.specs.declared.reports.OfferError.TheVariants as errors
 use Rattle.word_mem.specs.Memory.{Mem}
-use Rattle.run_book.specs.Book.{Holding, holding}
+use Rattle.mem_runs.specs.Book.{Holding, holding}
 use Rattle.bandwidth.specs.declared.placements.Placement.{Placement}
 use Rattle.bandwidth.specs.declared.placements.Refused.{Refused}
 use Rattle.bandwidth.specs.Admission.{answer}
-use Rattle.periodic_rows.specs.Periodic.{is_periodic, want_of}
-use Rattle.driver_rows.specs.declared.content.Endpoint.{Endpoint}
-use Rattle.driver_rows.specs.declared.content.Slots.{Slots}
-use Rattle.driver_rows.specs.declared.content.Command.TheVariants as unfinished
-use Rattle.driver_rows.specs.declared.content.Sort.TheVariants as sorts
-use Rattle.driver_rows.specs.Words.{get_stages, put_stages, request_stages, request_length}
-use Rattle.driver_rows.specs.DriverContent.{DriverContent, busy, endpoint_of, endpoint_named, waits_for}
-use Rattle.driver_rows.specs.Rows.{is_iso, or_finished, finished, no_command, leave_frames}
-use Rattle.driver_rows.specs.Offers.{Offered, offered, offered_next, offered_open, taken_open, taken_chain, placed_open, planned_open, new_open, offered_transfer, found_transfer}
-use Rattle.driver_rows.specs.Offers.{open_transfer, taken_transfer, offered_iso, open_iso, taken_iso, iso_needs, slots_of, spans_too_long, has_slots, offered_cancel, cancelled_by}
-use Rattle.driver_rows.specs.Offers.{with_cancel, endpoint_members, take_runs, takes_get, takes_put, takes_control, Asked}
+use Rattle.drv_periodic_table.specs.Periodic.{is_periodic, want_of}
+use Rattle.drv_table.specs.declared.content.Endpoint.{Endpoint}
+use Rattle.drv_table.specs.declared.content.Slots.{Slots}
+use Rattle.drv_table.specs.declared.content.Command.TheVariants as unfinished
+use Rattle.drv_table.specs.declared.content.Sort.TheVariants as sorts
+use Rattle.drv_table.specs.Words.{get_stages, put_stages, request_stages, request_length}
+use Rattle.drv_table.specs.DriverContent.{DriverContent, busy, endpoint_of, endpoint_named, waits_for}
+use Rattle.drv_table.specs.Kinds.{is_iso}
+use Rattle.drv_table.specs.Commands.{or_finished, finished, no_command, leave_frames}
+use Rattle.drv_table.specs.Accepting.{Offered, take_runs}
+use Rattle.drv_table.specs.Offers.{offered, offered_next, offered_open, taken_open, taken_chain, placed_open, planned_open, new_open, offered_transfer, found_transfer, open_transfer, taken_transfer, takes_get, takes_put, takes_control, Asked}
+use Rattle.drv_table.specs.IsoOffers.{offered_iso, open_iso, taken_iso, iso_needs, slots_of, spans_too_long, has_slots}
+use Rattle.drv_table.specs.CancelOffers.{offered_cancel, cancelled_by, with_cancel, endpoint_members}
 
 -- what is asked by a get, a put and a request
 abbrev pub get_asked : ℕ → ℕ → Asked
@@ -61,9 +63,7 @@ taken_chain_lines d x p (Ok h) = record { reports = refl; store = refl }
 
 placed_open_lines : (d : DriverContent) (m : Mem) (x : EpDesc) (p : Placement) (kind : EpKind) → Lines d (placed_open d m x p kind)
 placed_open_lines d m x p kinds.Iso = record { reports = refl; store = refl }
-placed_open_lines d m x p kinds.Interrupt = taken_chain_lines d x p (take_runs (holding d.book m) (2 ∷ 1 ∷ []))
-placed_open_lines d m x p kinds.Bulk = taken_chain_lines d x p (take_runs (holding d.book m) (2 ∷ 1 ∷ []))
-placed_open_lines d m x p kinds.Control = taken_chain_lines d x p (take_runs (holding d.book m) (2 ∷ 1 ∷ []))
+placed_open_lines d m x p _ = taken_chain_lines d x p (take_runs (holding d.book m) (2 ∷ 1 ∷ []))
 
 planned_open_lines : (d : DriverContent) (m : Mem) (x : EpDesc) (p : Result Placement Refused) → Lines d (planned_open d m x p)
 planned_open_lines d m x (Err why) = tt
@@ -147,6 +147,7 @@ next_lines d m (commands.Put name bytes by) = transfer_lines d m name takes_put 
 next_lines d m (commands.Control name setup bytes) = transfer_lines d m name takes_control (request_asked setup bytes)
 next_lines d m (commands.Iso name count len seed) = iso_lines d m (unwrap_or (endpoint_of d name) 0) count len seed (endpoint_named d name)
 next_lines d m (commands.Cancel name) = cancel_lines d m (unwrap_or (endpoint_of d name) 0) (endpoint_named d name)
+next_lines d m _ = tt
 
 pub offer_lines : (d : DriverContent) (m : Mem) (cmd : Cmd) → Lines d (offered d m cmd)
 offer_lines d m cmd = cond_both (busy d) (Err errors.Busy) (offered_next d m cmd) (Lines d) (λ _. tt) (λ _. next_lines d m cmd)

@@ -16,24 +16,28 @@ use Rattle.usb_base.specs.declared.packets.EpKind.{EpKind}
 use Rattle.usb_base.specs.declared.packets.EpKind.TheVariants as kinds
 use Rattle.usb_base.specs.declared.reports.OfferError.{OfferError}
 use Rattle.usb_base.specs.declared.reports.OfferError.TheVariants as errors
+use Rattle.usb_base.specs.declared.rules.Rules.{Rules}
+use Rattle.usb_base.specs.Rules.{first_rules}
 use Rattle.script_types.specs.declared.scripts.Line.{Line}
+use Rattle.script_types.specs.declared.scripts.Line.TheVariants as lines
 use Rattle.word_mem.specs.Memory.{Mem}
-use Rattle.run_book.specs.Book.{Holding, holding}
-use Rattle.driver_rows.specs.declared.content.Reserve.{Reserve}
+use Rattle.mem_runs.specs.Book.{Holding, holding}
+use Rattle.drv_table.specs.declared.content.Reserve.{Reserve}
 use Rattle.bandwidth.specs.declared.placements.Placement.{Placement}
 use Rattle.bandwidth.specs.declared.placements.Refused.{Refused}
 use Rattle.bandwidth.specs.Placements.{has, below}
 use Rattle.bandwidth.specs.Admission.{answer}
-use Rattle.periodic_rows.specs.Periodic.{is_periodic, want_of}
-use Rattle.periodic_rows.specs.Descriptors.{slot_limit, slots_before, slots_in}
-use Rattle.driver_rows.specs.declared.content.Endpoint.{Endpoint}
-use Rattle.driver_rows.specs.declared.content.Slots.{Slots}
-use Rattle.driver_rows.specs.DriverContent.{DriverContent, busy, endpoint_of, endpoint_named, waits_for}
-use Rattle.driver_rows.specs.Rows.{is_iso}
-use Rattle.driver_rows.specs.Words.{request_length}
-use Rattle.driver_rows.specs.Offers.{Offered, offered, offered_next, offered_open, taken_open, taken_chain, placed_open, planned_open, new_open, offered_transfer, found_transfer}
-use Rattle.driver_rows.specs.Offers.{open_transfer, taken_transfer, total_of, offered_iso, open_iso, taken_iso, iso_needs, slots_of, spans_too_long, has_slots, offered_cancel, cancelled_by}
-use Rattle.driver_rows.specs.Offers.{take_runs, takes_get, takes_put, takes_control, Asked, IsOffered, HasRoom}
+use Rattle.drv_periodic_table.specs.Periodic.{is_periodic, want_of}
+use Rattle.drv_periodic_table.specs.Descriptors.{slot_limit, slots_before, slots_in}
+use Rattle.drv_table.specs.declared.content.Endpoint.{Endpoint}
+use Rattle.drv_table.specs.declared.content.Slots.{Slots}
+use Rattle.drv_table.specs.DriverContent.{DriverContent, busy, endpoint_of, endpoint_named, waits_for}
+use Rattle.drv_table.specs.Kinds.{is_iso}
+use Rattle.drv_table.specs.Words.{request_length}
+use Rattle.drv_table.specs.Accepting.{Offered, take_runs}
+use Rattle.drv_table.specs.Offers.{offered, offered_next, offered_open, taken_open, taken_chain, placed_open, planned_open, new_open, offered_transfer, found_transfer, open_transfer, taken_transfer, takes_get, takes_put, takes_control, Asked, IsOffered, HasRoom}
+use Rattle.drv_table.specs.IsoOffers.{total_of, offered_iso, open_iso, taken_iso, iso_needs, slots_of, spans_too_long, has_slots}
+use Rattle.drv_table.specs.CancelOffers.{offered_cancel, cancelled_by}
 use Rattle.script_fits.specs.Fits.{IsFitCommand}
 use Rattle.script_fits.proofs.Opened.{can_be_opened}
 use Rattle.bus_world.specs.Rooms.{needs, needs_line, no_room, transfer_room, iso_room, with_room, HasRoomFor, reserve_of}
@@ -87,8 +91,7 @@ placed_open_leaves d m x p kinds.Iso r room = record {
   report_bytes = omega (arith, room.report_bytes);
 }
 placed_open_leaves d m x p kinds.Interrupt r room = taken_chain_leaves d x p r (take_runs (holding d.book m) (2 ∷ 1 ∷ [])) room
-placed_open_leaves d m x p kinds.Bulk r room = taken_chain_leaves d x p r (take_runs (holding d.book m) (2 ∷ 1 ∷ [])) room
-placed_open_leaves d m x p kinds.Control r room = taken_chain_leaves d x p r (take_runs (holding d.book m) (2 ∷ 1 ∷ [])) room
+placed_open_leaves d m x p _ r room = taken_chain_leaves d x p r (take_runs (holding d.book m) (2 ∷ 1 ∷ [])) room
 
 planned_open_leaves : (d : DriverContent) (m : Mem) (x : EpDesc) (p : Result Placement Refused) (r : Reserve)
     → HasRoomFor d.room (with_room (record no_room { endpoints = 1; reports = 1 }) r) → Leaves r (planned_open d m x p)
@@ -218,18 +221,15 @@ next_leaves d m (commands.Put name bytes by) r room = transfer_leaves d m name t
 next_leaves d m (commands.Control name setup bytes) r room = transfer_leaves d m name takes_control (request_asked setup bytes) r room
 next_leaves d m (commands.Iso name count len seed) r room = iso_leaves d m (unwrap_or (endpoint_of d name) 0) count len seed r (endpoint_named d name) room
 next_leaves d m (commands.Cancel name) r room = cancel_leaves d m (unwrap_or (endpoint_of d name) 0) (endpoint_named d name) r room
+next_leaves d m _ r room = tt
 
 offer_leaves : (d : DriverContent) (m : Mem) (cmd : Cmd) (r : Reserve) → HasRoomFor d.room (with_room (needs cmd) r) → Leaves r (offered d m cmd)
 offer_leaves d m cmd r room = leaves_if r (busy d) (Err errors.Busy) (offered_next d m cmd) (λ _. tt) (λ _. next_leaves d m cmd r room)
 
 -- each command needs one line of the report
 one_line : (cmd : Cmd) → IsFitCommand cmd → 1 ≤ (needs cmd).reports
-one_line (commands.OpenEp x) fit = omega arith
-one_line (commands.Get name len by) fit = omega arith
-one_line (commands.Put name bytes by) fit = omega arith
-one_line (commands.Control name setup bytes) fit = omega arith
 one_line (commands.Iso name count len seed) fit = fit
-one_line (commands.Cancel name) fit = omega arith
+one_line _ fit = omega arith
 
 pub has_line : (room : Reserve) (cmd : Cmd) → IsFitCommand cmd → HasRoomFor room (needs cmd) → 1 ≤ room.reports
 has_line room cmd fit has = omega (arith, one_line cmd fit, has.reports)
@@ -258,7 +258,7 @@ can_offer room (commands.Get name len by) fit has = (fit.0, fit.1, has_room room
 can_offer room (commands.Put name bytes by) fit has = (fit.0, fit.1, has_room room (length bytes) has)
 can_offer room (commands.Control name setup bytes) fit has = has_room room (request_length setup) has
 can_offer room (commands.Iso name count len seed) fit has = (has.transfers, has.reports, has.report_bytes)
-can_offer room (commands.Cancel name) fit has = has.reports
+can_offer room _ fit has = has.reports
 
 -- the room for more has room for less
 pub less_room : (room a r : Reserve) → HasRoomFor room (with_room a r) → HasRoomFor room a
@@ -287,13 +287,29 @@ with_assoc a n r =
     let b : a.report_bytes + n.report_bytes + r.report_bytes ≡ a.report_bytes + (n.report_bytes + r.report_bytes) = omega arith in
     rw (e, t, p, b) refl
 
-with_none : (r : Reserve) → with_room no_room r ≡ r
-with_none r =
+-- what a line needs says nothing of rules
+needs_rules : (cmd : Cmd) → (needs cmd).rules ≡ first_rules
+needs_rules (commands.Iso name count len seed) = refl
+needs_rules _ = refl
+
+line_rules : (l : Line) → (needs_line l).rules ≡ first_rules
+line_rules (lines.Command cmd) = needs_rules cmd
+line_rules _ = refl
+
+rules_of : (xs : List (ℕ × Line)) → (reserve_of xs).rules ≡ first_rules
+rules_of [] = refl
+rules_of (x ∷ xs) = line_rules x.1
+
+abbrev ruled : Reserve → Rules → Reserve
+ruled r x = record r { rules = x }
+
+with_none : (r : Reserve) → r.rules ≡ first_rules → with_room no_room r ≡ r
+with_none r is =
     let e : 0 + r.endpoints ≡ r.endpoints = omega arith in
     let t : 0 + r.transfers ≡ r.transfers = omega arith in
     let p : 0 + r.reports ≡ r.reports = omega arith in
     let b : 0 + r.report_bytes ≡ r.report_bytes = omega arith in
-    rw (e, t, p, b) refl
+    rw (e, t, p, b) (ap (ruled r) (sym is))
 
 none_with : (r : Reserve) → with_room r no_room ≡ r
 none_with r =
@@ -311,7 +327,7 @@ drop_next xs i x h =
 
 -- the room so far, and that of the lines that are left
 pub rooms_begin : (xs left : List (ℕ × Line)) → left ≡ xs → with_room no_room (reserve_of left) ≡ reserve_of xs
-rooms_begin xs left e = with_none (reserve_of left) ∙ ap reserve_of e
+rooms_begin xs left e = with_none (reserve_of left) (rules_of left) ∙ ap reserve_of e
 
 pub rooms_more : (all next : Reserve) (xs : List (ℕ × Line)) (i : ℕ) (x : ℕ × Line) → i < length xs → x ≡ get_or xs i x → next ≡ with_room all (needs_line x.1)
     → with_room all (reserve_of (drop i xs)) ≡ reserve_of xs → with_room next (reserve_of (drop (i + 1) xs)) ≡ reserve_of xs

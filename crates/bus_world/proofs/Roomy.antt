@@ -12,28 +12,28 @@ use Rattle.script_types.specs.declared.devices.Item.{Item}
 use Rattle.script_types.specs.declared.devices.Item.TheVariants as items
 use Rattle.script_types.specs.declared.devices.EpText.{EpText}
 use Rattle.script_types.specs.declared.devices.DeviceText.{DeviceText}
-use Rattle.control_stages.specs.declared.rows.Sequence.{Sequence}
-use Rattle.control_stages.specs.declared.rows.Sequence.TheVariants as sequences
-use Rattle.control_stages.specs.Stages.{sequence_of}
+use Rattle.dev_control.specs.declared.rows.Sequence.{Sequence}
+use Rattle.dev_control.specs.declared.rows.Sequence.TheVariants as sequences
+use Rattle.dev_control.specs.Stages.{sequence_of}
 use Rattle.endpoint_script.specs.declared.endpoint.Endpoint.{Endpoint}
 use Rattle.endpoint_script.specs.declared.endpoint.Role.{Role}
-use Rattle.endpoint_script.specs.declared.endpoint.Role.TheVariants.{Sends, Takes, Controls, Streams, Hears}
+use Rattle.endpoint_script.specs.declared.endpoint.Role.TheVariants.{Takes}
 use Rattle.endpoint_script.specs.declared.rows.TakeRow.{TakeRow}
 use Rattle.endpoint_script.specs.declared.rows.TakeRow.TheVariants as takes
 use Rattle.endpoint_script.specs.Taking.{Taking, next_row, out_row, ping_row, has_room, is_ping, take_row, taking_row, after_taking_row as after_taking}
 use Rattle.endpoint_script.specs.Device.{Device, opened_part, opened_endpoint, opening, part_begun, endpoint_begun, begun, part_answered, endpoint_answered, part_acked}
 use Rattle.endpoint_script.specs.Device.{endpoint_acked, answered, answered_in, answered_at, acked_by, acked_in, acked_at, endpoint_asked, taken_of, taken_from, part_taken, endpoint_at}
 use Rattle.endpoint_script.specs.Device.{place_of_name}
-use Rattle.usb_bus.specs.declared.asked.Asked.{Asked}
-use Rattle.usb_bus.specs.declared.who_heard.WhoHeard.{WhoHeard}
-use Rattle.usb_bus.specs.declared.who_heard.WhoHeard.TheVariants as rows
+use Rattle.bus_wire.specs.declared.asked.Asked.{Asked}
+use Rattle.bus_wire.specs.declared.who_heard.WhoHeard.{WhoHeard}
+use Rattle.bus_wire.specs.declared.who_heard.WhoHeard.TheVariants as rows
 use Rattle.hub_class.specs.HubContent.{HubContent}
 use Rattle.hub_class.proofs.Microframe.{work_keeps}
-use Rattle.usb_bus.specs.declared.asked.Answerer.{Answerer}
-use Rattle.usb_bus.specs.declared.asked.Answerer.TheVariants as answerers
-use Rattle.usb_bus.specs.Asking.{device_after, put_at, changed_at}
-use Rattle.usb_bus.specs.Below.{Below, Floor, below_at, asked_below, below_row, devices_after, below_reply, below_after_at, below_after, floor_left, floor_worked}
-use Rattle.usb_bus.specs.Bus.{Fixed, Bus, floor_of, begins_anew, begun_at, begin_after, asked_of, changed_by, after_at, bus_row as heard_row, transact_after}
+use Rattle.bus_wire.specs.declared.asked.Answerer.{Answerer}
+use Rattle.bus_wire.specs.declared.asked.Answerer.TheVariants as answerers
+use Rattle.bus_wire.specs.Asking.{device_after, put_at, changed_at}
+use Rattle.bus_wire.specs.Below.{Below, Floor, below_at, asked_below, below_row, devices_after, below_reply, below_after_at, below_after, floor_left, floor_worked}
+use Rattle.bus_wire.specs.Bus.{Fixed, Bus, floor_of, begins_anew, begun_at, begin_after, asked_of, changed_by, after_at, bus_row as heard_row, transact_after}
 use Rattle.script_fits.specs.Fits.{IsFitRoom}
 use Rattle.bus_world.specs.Sound.{IsRoomy, IsRoomyEndpoint, IsRoomyDevice}
 
@@ -86,11 +86,12 @@ next_fits (items.Stall ∷ xs) true = tt
 next_fits (items.Stall ∷ xs) false = tt
 next_fits (items.Request setup bytes ∷ xs) true = refl
 next_fits (items.Request setup bytes ∷ xs) false = tt
+next_fits (items.Epoch ∷ xs) true = refl
+next_fits (items.Epoch ∷ xs) false = tt
 
 out_fits : (s : Sequence) (xs : List Item) (fits : Bool) → IfTaken (out_row s xs fits) fits
 out_fits sequences.Next xs fits = next_fits xs fits
-out_fits sequences.Repeat xs fits = tt
-out_fits sequences.Neither xs fits = tt
+out_fits _ xs fits = tt
 
 ping_fits : (xs : List Item) (fits : Bool) → IfTaken (ping_row xs) fits
 ping_fits [] fits = tt
@@ -99,40 +100,28 @@ ping_fits (items.Nak n ∷ xs) fits = tt
 ping_fits (items.Nyet ∷ xs) fits = tt
 ping_fits (items.Stall ∷ xs) fits = tt
 ping_fits (items.Request setup bytes ∷ xs) fits = tt
+ping_fits (items.Epoch ∷ xs) fits = tt
 
 row_fits : (ping : Bool) (t : Taking) (s : Sequence) (n : ℕ) → IfTaken (take_row ping t s n) (has_room t n)
 row_fits true t s n = ping_fits t.items (has_room t n)
 row_fits false t s n = out_fits s t.items (has_room t n)
 
 taken_roomy : (row : TakeRow) (t : Taking) (out : List ℕ) → IfTaken row (has_room t (length out)) → IsRoomy (Takes t) → IsRoomy (Takes (after_taking row out t))
-taken_roomy takes.Drops t out fits h = h
-taken_roomy takes.Naks t out fits h = h
-taken_roomy takes.IsFull t out fits h = h
-taken_roomy takes.Stalls t out fits h = h
 taken_roomy takes.Takes t out fits h = (omega (arith, leb-true (length t.taken + length out) t.room fits, length-append t.taken out), h.1)
 taken_roomy takes.TakesLast t out fits h = (omega (arith, leb-true (length t.taken + length out) t.room fits, length-append t.taken out), h.1)
-taken_roomy takes.HasRoom t out fits h = h
+taken_roomy _ t out fits h = h
 
 part_roomy : (part : Role) (ask : Ask) (out : List ℕ) → IsRoomy part → IsRoomy (part_answered part ask out)
-part_roomy (Sends s) ask out h = tt
 part_roomy (Takes t) ask out h = taken_roomy (taking_row t ask out) t out (row_fits (is_ping ask.pid) t (sequence_of t.toggle ask.toggle) (length out)) h
-part_roomy (Controls c) ask out h = tt
-part_roomy (Streams s) ask out h = tt
-part_roomy Hears ask out h = tt
+part_roomy _ ask out h = tt
 
 acked_roomy : (part : Role) → IsRoomy part → IsRoomy (part_acked part)
-acked_roomy (Sends s) h = tt
 acked_roomy (Takes t) h = h
-acked_roomy (Controls c) h = tt
-acked_roomy (Streams s) h = tt
-acked_roomy Hears h = tt
+acked_roomy _ h = tt
 
 begun_roomy : (part : Role) → IsRoomy part → IsRoomy (part_begun part)
-begun_roomy (Sends s) h = tt
 begun_roomy (Takes t) h = h
-begun_roomy (Controls c) h = tt
-begun_roomy (Streams s) h = tt
-begun_roomy Hears h = tt
+begun_roomy _ h = tt
 
 -- ---- a device
 
@@ -169,11 +158,8 @@ begun_at_roomy frindex d h = cond_both (begins_anew d.speed frindex) (begun d) d
 
 device_after_roomy : (row : WhoHeard) (ask : Ask) (out : List ℕ) (d : Device) → IsRoomyDevice d → IsRoomyDevice (device_after row ask out d)
 device_after_roomy rows.SentUnheard ask out d h = h
-device_after_roomy rows.NoAnswer ask out d h = answered_roomy d ask out h
-device_after_roomy rows.AnswerUnheard ask out d h = answered_roomy d ask out h
-device_after_roomy rows.AnswerHeard ask out d h = answered_roomy d ask out h
-device_after_roomy rows.AckUnheard ask out d h = answered_roomy d ask out h
 device_after_roomy rows.AckHeard ask out d h = acked_by_roomy (answered d ask out) ask (answered_roomy d ask out h)
+device_after_roomy _ ask out d h = answered_roomy d ask out h
 
 abbrev AreRoomy : List Device → Type 0
 AreRoomy ds = AllByRecursion IsRoomyDevice ds
@@ -189,9 +175,7 @@ changed_roomy place row ask out ds h =
 
 changed_by_roomy : (row : WhoHeard) (who : Answerer) (ask : Ask) (out : List ℕ) (b : Bus) → AreRoomy b.devices → AreRoomy (changed_by row who ask out b).devices
 changed_by_roomy row (answerers.Device place) ask out b h = changed_roomy place row ask out b.devices h
-changed_by_roomy row (answerers.Hub place) ask out b h = h
-changed_by_roomy row (answerers.Translator place) ask out b h = h
-changed_by_roomy row answerers.Nobody ask out b h = h
+changed_by_roomy row _ ask out b h = h
 
 at_roomy : (fixed : Fixed) (b : Bus) (ask : Ask) (out : List ℕ) (e : Option Asked) → AreRoomy b.devices → AreRoomy (after_at fixed b ask out e).devices
 at_roomy fixed b ask out None h = h
@@ -204,9 +188,7 @@ transact_roomy fixed b ask out h = at_roomy fixed b ask out (asked_of fixed b as
 
 devices_after_roomy : (row : WhoHeard) (who : Answerer) (ask : Ask) (out : List ℕ) (ds : List Device) → AreRoomy ds → AreRoomy (devices_after row who ask out ds)
 devices_after_roomy row (answerers.Device place) ask out ds h = changed_roomy place row ask out ds h
-devices_after_roomy row (answerers.Hub place) ask out ds h = h
-devices_after_roomy row (answerers.Translator place) ask out ds h = h
-devices_after_roomy row answerers.Nobody ask out ds h = h
+devices_after_roomy row _ ask out ds h = h
 
 below_roomy : (w : Below) (ask : Ask) (out : List ℕ) (e : Option Asked) → AreRoomy w.floor.devices → AreRoomy (below_after_at w ask out e).floor.devices
 below_roomy w ask out None h = h
@@ -247,11 +229,8 @@ abbrev IsShort : List ℕ → Type 0
 IsShort bytes = length bytes < 4294967296
 
 part_short : (part : Role) → IsRoomy part → IsShort (part_taken part)
-part_short (Sends s) h = omega arith
 part_short (Takes t) h = omega (arith, h.0, h.1)
-part_short (Controls c) h = omega arith
-part_short (Streams s) h = omega arith
-part_short Hears h = omega arith
+part_short _ h = omega arith
 
 part_taken_short : (e : Option Endpoint) → Holds IsRoomyEndpoint e → IsShort (taken_from e)
 part_taken_short None h = omega arith

@@ -7,11 +7,11 @@ use Rattle.usb_base.specs.declared.reports.OfferError.{OfferError}
 use Rattle.report_text.specs.ReportText.{AreStored}
 use Rattle.word_mem.specs.Memory.{Mem}
 use Rattle.word_mem.specs.Access.{IsByController}
-use Rattle.run_book.specs.Book.{Book, holding, Stands}
-use Rattle.walk_copy.specs.declared.held.Held.{Held}
-use Rattle.walk_copy.specs.declared.held.Transaction.{Transaction}
-use Rattle.walk_copy.specs.Buffer.{sending}
-use Rattle.walk_copy.specs.Transacting.{call_in}
+use Rattle.mem_runs.specs.Book.{Book, holding, Stands}
+use Rattle.hc_copy.specs.declared.held.Held.{Held}
+use Rattle.hc_copy.specs.declared.held.Transaction.{Transaction}
+use Rattle.hc_copy.specs.Buffer.{sending}
+use Rattle.hc_copy.specs.Transacting.{call_in}
 use Rattle.op_registers.specs.Events.{next_index}
 use Rattle.async_walk.specs.declared.rows.WalkRow.{WalkRow}
 use Rattle.async_walk.specs.declared.rows.WalkRow.TheVariants as walks
@@ -22,14 +22,15 @@ use Rattle.periodic_walk.specs.Place.{Effect}
 use Rattle.periodic_walk.specs.Place.Effect.{Leaves, Asks}
 use Rattle.periodic_walk.specs.Rows.{effect_of}
 use Rattle.hc_core.specs.Controller.{Content, entered, frame_place, walk_place}
-use Rattle.driver_rows.specs.DriverContent.{DriverContent, new_driver}
-use Rattle.driver_rows.specs.declared.content.Reserve.{Reserve}
-use Rattle.driver_rows.specs.Rows.{Parts, driver_row, after_driver_row}
-use Rattle.driver_rows.specs.Offers.{IsOffered, offered}
+use Rattle.drv_table.specs.DriverContent.{DriverContent, new_driver}
+use Rattle.drv_table.specs.declared.content.Reserve.{Reserve}
+use Rattle.drv_table.specs.Parts.{Parts}
+use Rattle.drv_table.specs.Rows.{driver_row, after_driver_row}
+use Rattle.drv_table.specs.Offers.{IsOffered, offered}
 use Rattle.bandwidth.proofs.Budgets.{fits_none}
-use Rattle.admission_laws.specs.Budgets.{account_of, KeepsBudgets}
-use Rattle.admission_laws.proofs.Budgets.{command_kept, event_kept}
-use Rattle.usb_bus.specs.Bus.{Fixed, Bus}
+use Rattle.law_admission.specs.Budgets.{account_of, KeepsBudgets}
+use Rattle.law_admission.proofs.Budgets.{command_kept, event_kept}
+use Rattle.bus_wire.specs.Bus.{Fixed, Bus}
 use Rattle.bus_world.specs.World.{Standing, World, controller_row, controller_parts, controller_next, turned_by, frame_by, walk_by, sends_by, sent_by, refused_line}
 use Rattle.bus_world.specs.Sound.{IsSound, IsRoomyDevice}
 use Rattle.bus_world.proofs.Kept.{row_keeps, line_stored}
@@ -63,25 +64,18 @@ sends_roomy fixed t p (Some h) b r =
 
 walk_roomy : (fixed : Fixed) (row : WalkRow) (p : WalkPlace) (b : Bus) → AreRoomy b → AreRoomy (walk_by fixed row p b).bus
 walk_roomy fixed (walks.Transact t) p b r = sends_roomy fixed t p p.walk.held b r
-walk_roomy fixed walks.Fault p b r = r
-walk_roomy fixed walks.HeadEnds p b r = r
-walk_roomy fixed (walks.Fetch a q) p b r = r
-walk_roomy fixed walks.Skip p b r = r
-walk_roomy fixed walks.OutOfTime p b r = r
-walk_roomy fixed (walks.Advance a t) p b r = r
-walk_roomy fixed walks.WriteBack p b r = r
+walk_roomy fixed _ p b r = r
 
 frame_roomy : (fixed : Fixed) (e : Effect) (b : Bus) → AreRoomy b → AreRoomy (frame_by fixed e b).bus
 frame_roomy fixed (Leaves p) b r = r
 frame_roomy fixed (Asks ask out left_by) b r = transact_roomy fixed b ask out r
 
 turned_roomy : (fixed : Fixed) (row : ControllerRow) (c : Content) (b : Bus) → AreRoomy b → AreRoomy (turned_by fixed row c b).bus
-turned_roomy fixed rows.Idle c b r = r
 turned_roomy fixed rows.Begin c b r = begin_roomy fixed (next_index c.registers.frame_index) b r
 turned_roomy fixed rows.Frame c b r = frame_roomy fixed (effect_of (frame_place c)) b r
 turned_roomy fixed rows.Enter c b r = walk_roomy fixed (event_row (walk_place (entered c))) (at_event (walk_place (entered c))) b r
 turned_roomy fixed rows.Go c b r = walk_roomy fixed (event_row (walk_place c)) (at_event (walk_place c)) b r
-turned_roomy fixed rows.End c b r = r
+turned_roomy fixed _ c b r = r
 
 pub next_roomy : (fixed : Fixed) (w : World) → AreRoomy w.bus → AreRoomy (controller_next fixed w).bus
 next_roomy fixed w r = turned_roomy fixed (controller_row w) (controller_parts w) w.bus r

@@ -1,6 +1,6 @@
 -- The driver's runs stand in memory as they did, whatever the controller wrote.
 use Rattle.std.proofs.Common.{◌≡◌, ℕ, ◌+◌, ◌*◌, ◌/◌, ◌<◌, ◌≤◌, false, Some, length, slice_get, slice_index, ap, sym, subst, ◌∙◌, arith}
-use Rattle.run_book.specs.Book.{Book, holding, Stands}
+use Rattle.mem_runs.specs.Book.{Book, holding, Stands}
 use Rattle.word_mem.specs.declared.blocks.BlockState.TheVariants.{Free}
 use Rattle.word_mem.specs.Memory.{Mem, is_lent, reaches}
 use Rattle.word_mem.specs.Access.{IsByController}

@@ -2,7 +2,7 @@
 use Rattle.std.proofs.Common.{◌≡◌, ℕ, zero, suc, ◌+◌, ◌*◌, List, ◌∷◌, Bool, true, false, refl, ap, sym, ◌∙◌, zero-add, arith, subst}
 use Rattle.script_types.specs.declared.scripts.Event.{Event}
 use Rattle.script_types.specs.declared.scripts.Event.TheVariants as events
-use Rattle.usb_bus.specs.Bus.{Fixed}
+use Rattle.bus_wire.specs.Bus.{Fixed}
 use Rattle.bus_world.specs.World.{World, Standing, next, kind_next}
 use Rattle.bus_world.specs.Orders.{Left, Events, Microframes, OrderedWorld, tick, ticks, Leads, at_place, is_end, fewer, IsUnended, IsOverlong, most_turns}
 

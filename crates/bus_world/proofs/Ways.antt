@@ -1,21 +1,21 @@
 -- The lines of a script, one after the other: what is left leads where all led, and there is room for its commands.
-use Rattle.std.proofs.Common.{◌≡◌, ℕ, ◌+◌, ◌<◌, List, [], ◌∷◌, length, drop, get_or, refl, ap, sym, ◌∙◌, subst, inl, inr}
+use Rattle.std.proofs.Common.{◌≡◌, ℕ, ◌+◌, ◌<◌, true, false, List, [], ◌∷◌, length, drop, get_or, refl, ap, sym, ◌∙◌, subst, inl, inr}
 use Rattle.std.specs.List.{AllByRecursion}
 use Rattle.script_types.specs.declared.scripts.Event.{Event}
 use Rattle.script_types.specs.declared.scripts.Event.TheVariants as events
 use Rattle.script_types.specs.declared.scripts.Line.{Line}
 use Rattle.script_types.specs.declared.scripts.Line.TheVariants as lines
 use Rattle.usb_base.specs.declared.commands.Cmd.{Cmd}
-use Rattle.usb_bus.specs.Bus.{Fixed}
-use Rattle.driver_rows.specs.declared.content.Reserve.{Reserve}
-use Rattle.driver_rows.specs.Rows.{driver_row}
+use Rattle.bus_wire.specs.Bus.{Fixed}
+use Rattle.drv_table.specs.declared.content.Reserve.{Reserve}
+use Rattle.drv_table.specs.Rows.{driver_row}
 use Rattle.script_fits.specs.Fits.{IsFitLine}
 use Rattle.bus_world.specs.World.{World, Standing, next, driver_parts, commanded}
-use Rattle.bus_world.specs.Orders.{Left, Command, OrderedWorld, Leads, at_place, left_of, orders_of, IsOverlong, IsRun}
+use Rattle.bus_world.specs.Orders.{Left, Command, Plugs, OrderedWorld, Leads, at_place, left_of, orders_of, IsOverlong, IsRun}
 use Rattle.bus_world.specs.Rooms.{HasRoomFor, needs_line, with_room, reserve_of}
 use Rattle.bus_world.proofs.Kept.{row_keeps}
 use Rattle.bus_world.proofs.Ticks.{joined, nothing, one_tick}
-use Rattle.driver_rows.specs.Offers.{IsOffered}
+use Rattle.drv_table.specs.Offers.{IsOffered}
 use Rattle.bus_world.proofs.Rooming.{less_room, drop_next, can_offer, command_leaves}
 
 -- an event leaves the driver's reserve as it was
@@ -37,6 +37,19 @@ pub command_line_done : (now later : Standing) (l : Line) (n : ℕ) (cmd : Cmd) 
     → Leads now.fixed (at_place now.world (left_of l n ∷ rest)) (at_place later.world rest)
 command_line_done now later l n cmd is e rest =
     subst (λ (x : Line). Leads now.fixed (at_place now.world (left_of x n ∷ rest)) (at_place later.world rest)) (sym is) (command_done now later n cmd e rest)
+
+-- so is what is plugged in or unplugged
+pub plug_line_done : (now : Standing) (l : Line) (n port : ℕ) → l ≡ lines.Plug port → (rest : List Left)
+    → Leads now.fixed (at_place now.world (left_of l n ∷ rest)) (at_place now.world rest)
+plug_line_done now l n port is rest =
+    subst (λ (x : Line). Leads now.fixed (at_place now.world (left_of x n ∷ rest)) (at_place now.world rest)) (sym is)
+    (one_tick now.fixed (at_place now.world (Plugs true port ∷ rest)))
+
+pub unplug_line_done : (now : Standing) (l : Line) (n port : ℕ) → l ≡ lines.Unplug port → (rest : List Left)
+    → Leads now.fixed (at_place now.world (left_of l n ∷ rest)) (at_place now.world rest)
+unplug_line_done now l n port is rest =
+    subst (λ (x : Line). Leads now.fixed (at_place now.world (left_of x n ∷ rest)) (at_place now.world rest)) (sym is)
+    (one_tick now.fixed (at_place now.world (Plugs false port ∷ rest)))
 
 pub command_line_room : (now later : Standing) (l : Line) (n : ℕ) (cmd : Cmd) → l ≡ lines.Command cmd → later ≡ record now { world = commanded now.world n cmd } → IsFitLine l → (r : Reserve)
     → HasRoomFor now.world.driver.room (with_room (needs_line l) r) → HasRoomFor later.world.driver.room r

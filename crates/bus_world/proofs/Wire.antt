@@ -2,10 +2,10 @@
 use Rattle.std.proofs.Common.{◌≡◌, ℕ, Bool, true, false, List, Option, Some, None, ap, ◌∙◌}
 use Rattle.usb_base.specs.declared.packets.Ask.{Ask}
 use Rattle.usb_base.specs.declared.packets.Reply.{Reply}
-use Rattle.walk_copy.specs.declared.held.Held.{Held}
-use Rattle.walk_copy.specs.declared.held.Transaction.{Transaction}
-use Rattle.walk_copy.specs.Buffer.{Reading, sending}
-use Rattle.walk_copy.specs.Transacting.{call_in}
+use Rattle.hc_copy.specs.declared.held.Held.{Held}
+use Rattle.hc_copy.specs.declared.held.Transaction.{Transaction}
+use Rattle.hc_copy.specs.Buffer.{Reading, sending}
+use Rattle.hc_copy.specs.Transacting.{call_in}
 use Rattle.op_registers.specs.Events.{next_index}
 use Rattle.async_walk.specs.declared.rows.WalkRow.{WalkRow}
 use Rattle.async_walk.specs.declared.rows.WalkRow.TheVariants as walks
@@ -22,7 +22,7 @@ use Rattle.hc_core.specs.declared.controller.ControllerRow.TheVariants as rows
 use Rattle.word_mem.specs.Memory.{Mem}
 use Rattle.op_registers.specs.RegisterFile.{RegisterFile}
 use Rattle.hc_core.specs.Controller.{Control, Content, content, began, ended, entered, part_after, frame_place, frame_step, walk_place, walk_step, WalksFrame, Walks, HasRow}
-use Rattle.usb_bus.specs.Bus.{Fixed, Wired, begin_after, is_allowed, reply_of, transact_after}
+use Rattle.bus_wire.specs.Bus.{Fixed, Wired, begin_after, is_allowed, reply_of, transact_after}
 use Rattle.bus_world.specs.World.{Standing, controller_row, controller_parts, controller_next, with_turned, Turned, FrameWalked, frame_by, frame_next, framed, Walked, sent_by}
 use Rattle.bus_world.specs.World.{sends_by, walk_by, walk_next, walked, turned_by}
 

@@ -10,9 +10,9 @@ use Rattle.usb_base.specs.declared.commands.Cmd.TheVariants.{OpenEp}
 use Rattle.usb_base.specs.declared.reports.OfferError.TheVariants.{NoPlacement}
 use Rattle.script_types.specs.declared.scripts.Script.{Script}
 use Rattle.bandwidth.specs.Sums.{Fits}
-use Rattle.driver_rows.specs.Offers.{offered}
-use Rattle.usb_bus.specs.Bus.{fixed_of}
-use Rattle.admission_laws.specs.Opens.{PassesBefore, BreaksBudgets}
+use Rattle.drv_table.specs.Offers.{offered}
+use Rattle.bus_wire.specs.Bus.{fixed_of}
+use Rattle.drv_table.specs.PeriodicOpens.{PassesBefore, BreaksBudgets}
 use Rattle.bus_world.specs.World.{World}
 use Rattle.bus_world.specs.Opening.{opening_world}
 use Rattle.bus_world.specs.Orders.{Left, Command, OrderedWorld, at_place, orders_of, ticks}

@@ -12,9 +12,9 @@ use Rattle.usb_base.specs.declared.packets.Way.TheVariants.{Out, Ctl}
 use Rattle.report_text.specs.ReportText.{report_text, pending_line, taken_line, acted_line}
 use Rattle.endpoint_script.specs.Device.{Device, taken_of, acted_of}
 use Rattle.hub_class.specs.HubContent.{HubContent}
-use Rattle.driver_rows.specs.DriverContent.{DriverContent, pending, opened, ended}
-use Rattle.usb_bus.specs.declared.seats.Seat.{Seat}
-use Rattle.usb_bus.specs.Bus.{Fixed, Bus}
+use Rattle.drv_table.specs.DriverContent.{DriverContent, pending, opened, ended}
+use Rattle.bus_wire.specs.declared.seats.Seat.{Seat}
+use Rattle.bus_wire.specs.Bus.{Fixed, Bus}
 use Rattle.image_codec.specs.declared.image.Image.{Image}
 use Rattle.bus_world.specs.World.{World}
 

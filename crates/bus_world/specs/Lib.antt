@@ -5,3 +5,4 @@ pub mod Rooms
 pub mod Budgets
 pub mod Opening
 pub mod Closing
+pub mod Runs

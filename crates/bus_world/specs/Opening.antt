@@ -1,9 +1,9 @@
 -- The world of a script before its first line: the end of microframe 0, with the driver built and nothing offered yet.
 use Rattle.script_types.specs.declared.scripts.Script.{Script}
 use Rattle.hc_core.specs.Controller.{new_control}
-use Rattle.driver_rows.specs.Rows.{Parts}
-use Rattle.driver_rows.specs.Opening.{opening}
-use Rattle.usb_bus.specs.Bus.{fixed_of, opening_bus}
+use Rattle.drv_table.specs.Parts.{Parts}
+use Rattle.drv_table.specs.Opening.{opening}
+use Rattle.bus_wire.specs.Bus.{fixed_of, opening_bus}
 use Rattle.bus_world.specs.Rooms.{reserve_of}
 use Rattle.bus_world.specs.World.{World, Standing}
 

@@ -11,7 +11,7 @@ use Rattle.script_types.specs.declared.scripts.Line.{Line}
 use Rattle.script_types.specs.declared.scripts.Line.TheVariants as lines
 use Rattle.hc_core.specs.declared.controller.HcStep.{HcStep}
 use Rattle.hc_core.specs.declared.controller.HcStep.TheVariants as steps
-use Rattle.usb_bus.specs.Bus.{Fixed}
+use Rattle.bus_wire.specs.Bus.{Fixed}
 use Rattle.bus_world.specs.World.{World, next, kind_next, commanded}
 
 -- what is left of an order
@@ -20,11 +20,14 @@ pub data Left : Type 0 where
   Microframes : ℕ → Left  -- turns of the controller and the driver until so many microframes have ended
   Answer : Bool → ℕ → Left  -- the driver's event of a turn, after one of the controller that ended a microframe or didn't; then as above
   Command : ℕ → Cmd → Left  -- the command on this line
+  Plugs : Bool → ℕ → Left  -- what belongs to this root port is plugged in or unplugged, which changes nothing yet
 
 abbrev pub left_of : Line → ℕ → Left
 left_of (lines.Order event n) line = Events event n
 left_of (lines.Micro n) line = Microframes n
 left_of (lines.Command cmd) line = Command line cmd
+left_of (lines.Plug port) line = Plugs true port
+left_of (lines.Unplug port) line = Plugs false port
 
 abbrev pub orders_of : List (ℕ × Line) → List Left
 orders_of xs = map (λ x. left_of x.1 x.0) xs
@@ -50,6 +53,7 @@ tick_by fixed w (Microframes zero) rest = record { world = w; orders = rest }
 tick_by fixed w (Microframes (suc n)) rest = record { world = next fixed w events.C; orders = Answer (is_end (kind_next w)) (suc n) ∷ rest }
 tick_by fixed w (Answer ended n) rest = record { world = next fixed w events.D; orders = Microframes (fewer ended n) ∷ rest }
 tick_by fixed w (Command n cmd) rest = record { world = commanded w n cmd; orders = rest }
+tick_by fixed w (Plugs there port) rest = record { world = w; orders = rest }
 
 abbrev pub tick_at : Fixed → World → List Left → OrderedWorld
 tick_at fixed w [] = record { world = w; orders = [] }

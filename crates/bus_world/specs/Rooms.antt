@@ -5,21 +5,23 @@
 use Rattle.std.specs.Prelude.{ℕ, ◌+◌, ◌*◌, ◌≤◌, nat_le, List, [], ◌∷◌, length, if◌then◌else◌}
 use Rattle.usb_base.specs.declared.commands.Cmd.{Cmd}
 use Rattle.usb_base.specs.declared.commands.Cmd.TheVariants as commands
+use Rattle.usb_base.specs.Limits.{longest_qtd}
 use Rattle.script_types.specs.declared.scripts.Line.{Line}
 use Rattle.script_types.specs.declared.scripts.Line.TheVariants as lines
-use Rattle.driver_rows.specs.declared.content.Reserve.{Reserve}
-use Rattle.driver_rows.specs.Words.{request_length}
+use Rattle.drv_table.specs.declared.content.Reserve.{Reserve}
+use Rattle.drv_table.specs.Words.{request_length}
+use Rattle.usb_base.specs.Rules.{first_rules}
 
 abbrev pub no_room : Reserve
-no_room = record { endpoints = 0; transfers = 0; reports = 0; report_bytes = 0 }
+no_room = record { endpoints = 0; transfers = 0; reports = 0; report_bytes = 0; rules = first_rules }
 
 -- A transfer has one line of the report, with all its bytes; a longer one than 20,480 bytes is refused.
 abbrev pub transfer_room : ℕ → Reserve
-transfer_room n = record { endpoints = 0; transfers = 1; reports = 1; report_bytes = if nat_le n 20480 then n else 0 }
+transfer_room n = record { endpoints = 0; transfers = 1; reports = 1; report_bytes = if nat_le n longest_qtd then n else 0; rules = first_rules }
 
 -- A descriptor has one line of the report; its slots have at most 8 times 3,072 bytes.
 abbrev pub iso_room : ℕ → Reserve
-iso_room n = record { endpoints = 0; transfers = n; reports = n; report_bytes = 24576 * n }
+iso_room n = record { endpoints = 0; transfers = n; reports = n; report_bytes = 24576 * n; rules = first_rules }
 
 abbrev pub needs : Cmd → Reserve
 needs (commands.OpenEp desc) = record no_room { endpoints = 1; reports = 1 }
@@ -28,6 +30,7 @@ needs (commands.Put name bytes by) = transfer_room (length bytes)
 needs (commands.Control name setup bytes) = transfer_room (request_length setup)
 needs (commands.Iso name count len seed) = iso_room count
 needs (commands.Cancel name) = record no_room { reports = 1 }
+needs _ = record no_room { reports = 1 }
 
 abbrev pub needs_line : Line → Reserve
 needs_line (lines.Command cmd) = needs cmd
@@ -39,6 +42,7 @@ with_room a b = record {
   transfers = a.transfers + b.transfers;
   reports = a.reports + b.reports;
   report_bytes = a.report_bytes + b.report_bytes;
+  rules = a.rules;
 }
 
 abbrev pub reserve_of : List (ℕ × Line) → Reserve

@@ -8,10 +8,10 @@ use Rattle.endpoint_script.specs.declared.endpoint.Role.{Role}
 use Rattle.endpoint_script.specs.declared.endpoint.Role.TheVariants.{Sends, Takes, Controls, Streams, Hears}
 use Rattle.endpoint_script.specs.Device.{Device}
 use Rattle.word_mem.specs.Memory.{Mem}
-use Rattle.run_book.specs.Book.{holding, Stands}
-use Rattle.driver_rows.specs.DriverContent.{DriverContent}
-use Rattle.usb_bus.specs.Bus.{Bus}
-use Rattle.admission_laws.specs.Budgets.{account_of, KeepsBudgets}
+use Rattle.mem_runs.specs.Book.{holding, Stands}
+use Rattle.drv_table.specs.DriverContent.{DriverContent}
+use Rattle.bus_wire.specs.Bus.{Bus}
+use Rattle.law_admission.specs.Budgets.{account_of, KeepsBudgets}
 
 abbrev pub IsRoomy : Role → Type 0
 IsRoomy (Sends s) = Unit {0}

@@ -8,6 +8,7 @@ use Rattle.std.specs.Prelude.{ℕ, ◌-◌, Bool, true, false, List, [], ◌∷�
 use Rattle.usb_base.specs.declared.commands.Cmd.{Cmd}
 use Rattle.usb_base.specs.declared.commands.Cmd.TheVariants as commands
 use Rattle.usb_base.specs.declared.endpoints.EpName.{EpName}
+use Rattle.usb_base.specs.declared.packets.Way.TheVariants as ways
 use Rattle.usb_base.specs.declared.reports.OfferError.{OfferError}
 use Rattle.usb_base.specs.declared.reports.What.TheVariants.{Refused}
 use Rattle.script_types.specs.declared.scripts.Event.{Event}
@@ -16,10 +17,10 @@ use Rattle.word_mem.specs.Memory.{Mem}
 use Rattle.op_registers.specs.RegisterFile.{RegisterFile}
 use Rattle.op_registers.specs.Events.{next_index}
 use Rattle.transactions.specs.Calls.{Call}
-use Rattle.walk_copy.specs.declared.held.Held.{Held}
-use Rattle.walk_copy.specs.declared.held.Transaction.{Transaction}
-use Rattle.walk_copy.specs.Buffer.{Reading, sending}
-use Rattle.walk_copy.specs.Transacting.{call_in}
+use Rattle.hc_copy.specs.declared.held.Held.{Held}
+use Rattle.hc_copy.specs.declared.held.Transaction.{Transaction}
+use Rattle.hc_copy.specs.Buffer.{Reading, sending}
+use Rattle.hc_copy.specs.Transacting.{call_in}
 use Rattle.async_walk.specs.declared.rows.WalkRow.{WalkRow}
 use Rattle.async_walk.specs.declared.rows.WalkRow.TheVariants as walks
 use Rattle.async_walk.specs.Rows.{WalkPlace, at_event, event_row, after_walk_row as after_walk, transacted, faulted as walk_faulted}
@@ -31,10 +32,12 @@ use Rattle.hc_core.specs.declared.controller.MicroframePart.TheVariants.{Periodi
 use Rattle.hc_core.specs.declared.controller.ControllerRow.{ControllerRow}
 use Rattle.hc_core.specs.declared.controller.ControllerRow.TheVariants as rows
 use Rattle.hc_core.specs.Controller.{Control, Content, content, microframe_row, kind_of, began, ended, entered, frame_place, frame_step, walk_place, walk_step, part_after}
-use Rattle.driver_rows.specs.DriverContent.{DriverContent}
-use Rattle.driver_rows.specs.Rows.{Parts, driver_row, after_driver_row as after_driver}
-use Rattle.driver_rows.specs.Offers.{Offered, offered}
-use Rattle.usb_bus.specs.Bus.{Bus, Fixed, begin_after, is_allowed, reply_of, transact_after}
+use Rattle.drv_table.specs.DriverContent.{DriverContent}
+use Rattle.drv_table.specs.Parts.{Parts}
+use Rattle.drv_table.specs.Rows.{driver_row, after_driver_row as after_driver}
+use Rattle.drv_table.specs.Accepting.{Offered}
+use Rattle.drv_table.specs.Offers.{offered}
+use Rattle.bus_wire.specs.Bus.{Bus, Fixed, begin_after, is_allowed, reply_of, transact_after}
 
 pub record World : Type 0 where
   pub registers : RegisterFile
@@ -158,6 +161,11 @@ kind_next w = kind_of (controller_row w) (controller_parts w)
 
 -- ---- a command: it is accepted, or its refusal is a line of the report
 
+-- the control endpoint 0 of an address
+abbrev pub endpoint_zero : ℕ → EpName
+endpoint_zero addr = record { addr = addr; num = 0; way = ways.Ctl }
+
+-- the endpoint that a command is for; a root port has none
 abbrev pub name_in : Cmd → EpName
 name_in (commands.OpenEp desc) = desc.name
 name_in (commands.Get name len by) = name
@@ -165,6 +173,12 @@ name_in (commands.Put name bytes by) = name
 name_in (commands.Control name setup bytes) = name
 name_in (commands.Iso name count len seed) = name
 name_in (commands.Cancel name) = name
+name_in (commands.Clear name) = name
+name_in (commands.Reset port) = endpoint_zero 0
+name_in (commands.Give port) = endpoint_zero 0
+name_in (commands.DiskRead addr lba count) = endpoint_zero addr
+name_in (commands.DiskWrite addr lba bytes) = endpoint_zero addr
+name_in (commands.Revive addr) = endpoint_zero addr
 
 -- one more line of the report: the command on line n was refused
 abbrev pub refused_line : DriverContent → ℕ → EpName → OfferError → DriverContent

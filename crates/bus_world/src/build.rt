@@ -1,21 +1,27 @@
 ghost use Rattle.std.specs.Prelude.{◌≡◌, nat_le, if◌then◌else◌, IfOk, IfSome};
-ghost use Rattle.driver_rows.specs.Words.{request_length};
+ghost use Rattle.usb_base.specs.Limits.{longest_qtd};
+ghost use Rattle.drv_table.specs.Words.{request_length};
 ghost use Rattle.script_fits.specs.Fits.{IsFit};
 ghost use Rattle.bus_world.specs.Rooms.{needs, needs_line, transfer_room, with_room, reserve_of, HasRoomFor};
 ghost use Rattle.bus_world.specs.Opening.{opening_standing};
 
 use crate::world::World;
+use bus_wire::UsbBus;
 use ehci_driver::{Driver, Reserve};
 use hc_core::Controller;
 use op_registers::Registers;
 use script_types::{Line, Script};
 use std::alloc::Global;
-use usb_base::{Cmd, Memory};
-use usb_bus::UsbBus;
+use usb_base::limits::LONGEST_QTD;
+use usb_base::{Cmd, Memory, Rules};
 use word_mem::WordMem;
 
-/// The longest transfer that the driver takes, in bytes.
-const LONGEST: u32 = 20_480;
+/// What the frame list, the placements and the visits follow in version 1 of the script language.
+const FIRST_RULES: Rules = Rules {
+    frames: 1024,
+    stuffed: false,
+    park: 0,
+};
 
 /// No room.
 const NO_ROOM: Reserve = Reserve {
@@ -23,13 +29,14 @@ const NO_ROOM: Reserve = Reserve {
     transfers: 0,
     reports: 0,
     report_bytes: 0,
+    rules: FIRST_RULES,
 };
 
 /// The bytes of the report that a transfer of this length can use: none where the driver refuses it.
 fn told_bytes(length: usize) -> u32
-    ensures { result ≡ (if nat_le length 20480 then length else 0) }
+    ensures { result ≡ (if nat_le length longest_qtd then length else 0) }
 {
-    if length <= LONGEST as usize {
+    if length <= LONGEST_QTD as usize {
         length as u32
     } else {
         0
@@ -52,6 +59,7 @@ fn room_of_transfer(length: usize) -> Reserve
         transfers: 1,
         reports: 1,
         report_bytes: told_bytes(length),
+        rules: FIRST_RULES,
     }
 }
 
@@ -65,6 +73,7 @@ fn room_of(cmd: &Cmd) -> Reserve
             transfers: 0,
             reports: 1,
             report_bytes: 0,
+            rules: FIRST_RULES,
         },
         Cmd::Get { len, .. } => room_of_transfer(*len as usize),
         Cmd::Put { bytes, .. } => room_of_transfer(bytes.as_slice().len()),
@@ -74,12 +83,26 @@ fn room_of(cmd: &Cmd) -> Reserve
             transfers: *count as u32,
             reports: *count as u32,
             report_bytes: 24_576 * *count as u32,
+            rules: FIRST_RULES,
         },
         Cmd::Cancel(_) => Reserve {
             endpoints: 0,
             transfers: 0,
             reports: 1,
             report_bytes: 0,
+            rules: FIRST_RULES,
+        },
+        Cmd::Clear(_)
+        | Cmd::Reset(_)
+        | Cmd::Give(_)
+        | Cmd::DiskRead { .. }
+        | Cmd::DiskWrite { .. }
+        | Cmd::Revive(_) => Reserve {
+            endpoints: 0,
+            transfers: 0,
+            reports: 1,
+            report_bytes: 0,
+            rules: FIRST_RULES,
         },
     }
 }
@@ -90,7 +113,7 @@ fn room_of_line(line: &Line) -> Reserve
 {
     match line {
         Line::Command(cmd) => room_of(cmd),
-        Line::Order(_, _) | Line::Micro(_) => NO_ROOM,
+        Line::Order(_, _) | Line::Micro(_) | Line::Plug(_) | Line::Unplug(_) => NO_ROOM,
     }
 }
 
@@ -103,6 +126,7 @@ fn joined(a: &Reserve, b: &Reserve) -> Option<Reserve>
         transfers: a.transfers.checked_add(b.transfers)?,
         reports: a.reports.checked_add(b.reports)?,
         report_bytes: a.report_bytes.checked_add(b.report_bytes)?,
+        rules: a.rules,
     })
 }
 

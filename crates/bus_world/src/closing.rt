@@ -8,12 +8,12 @@ ghost use Rattle.endpoint_script.specs.Device.{taken_of};
 ghost use Rattle.bus_world.specs.Closing.{waiting, waiting_text, device_text, hub_of, hub_text, told_text, opened_text, closing_text, world_text, world_image};
 
 use crate::world::World;
+use bus_wire::Seat;
 use endpoint_script::Device;
 use image_codec::Image;
 use report_text::{print_acted, print_pending, print_report, print_taken};
 use std::alloc::Global;
 use usb_base::{EpKind, EpName, Failed, ListOf, Memory, Sink, Way};
-use usb_bus::Seat;
 
 /// Writes the line of so many transfers that wait at an endpoint, if there are some.
 fn print_count<K: Sink>(name: &EpName, k: u32, sink: &mut K) -> Result<(), Failed>

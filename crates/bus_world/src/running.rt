@@ -3,7 +3,7 @@ ghost use Rattle.std.specs.Bool.{OnTrue, OnFalse};
 ghost use Rattle.std.specs.List.{AllByRecursion};
 ghost use Rattle.script_types.specs.declared.scripts.Event.{Event as Kind};
 ghost use Rattle.bus_world.specs.World.{next, kind_next};
-ghost use Rattle.driver_rows.specs.declared.content.Reserve.{Reserve as Room};
+ghost use Rattle.drv_table.specs.declared.content.Reserve.{Reserve as Room};
 ghost use Rattle.script_fits.specs.Fits.{IsFit, IsFitLine};
 ghost use Rattle.bus_world.specs.Rooms.{HasRoomFor, needs_line, with_room, reserve_of};
 ghost use Rattle.bus_world.specs.Orders.{is_end, left_of, orders_of, CarriesOut, EndsMicroframe, IsMicroframeUnended, StopsIn, IsRun, Events, Microframes, at_place, ticks};
@@ -99,6 +99,8 @@ impl World {
                 self.offer(number, cmd);
                 true
             }
+            Line::Plug(_port) => true,
+            Line::Unplug(_port) => true,
         }
     }
 

@@ -3,11 +3,12 @@ ghost use Rattle.std.specs.Option.{option_copied};
 ghost use Rattle.usb_base.specs.declared.endpoints.EpName.{EpName as Named};
 ghost use Rattle.report_text.specs.ReportText.{AreStored};
 ghost use Rattle.endpoint_script.specs.Device.{taken_of};
-ghost use Rattle.driver_rows.specs.Offers.{IsOffered};
-ghost use Rattle.admission_laws.specs.Budgets.{account_of, KeepsBudgets};
+ghost use Rattle.drv_table.specs.Offers.{IsOffered};
+ghost use Rattle.law_admission.specs.Budgets.{account_of, KeepsBudgets};
 ghost use Rattle.bus_world.specs.Sound.{IsSound};
-ghost use Rattle.bus_world.specs.World.{driver_next, controller_next, next, kind_next, name_in, commanded};
+ghost use Rattle.bus_world.specs.World.{driver_next, controller_next, next, kind_next, endpoint_zero, name_in, commanded};
 
+use bus_wire::{Seat, UsbBus};
 use ehci_driver::Driver;
 use endpoint_script::Device;
 use hc_core::{Controller, HcStep};
@@ -15,8 +16,7 @@ use hub_class::Hub;
 use op_registers::Registers;
 use script_types::Event;
 use std::marker::Model;
-use usb_base::{Cmd, DevAddr, EpName};
-use usb_bus::{Seat, UsbBus};
+use usb_base::{Cmd, DevAddr, EpName, EpNum, Way};
 use word_mem::WordMem;
 
 /// The world of a script, at the end of some event. Contracts see what is fixed of its bus, and the content `World` of
@@ -54,7 +54,21 @@ fn name_of(cmd: &Cmd) -> EpName
         | Cmd::Put { name, .. }
         | Cmd::Control { name, .. }
         | Cmd::Iso { name, .. } => *name,
-        Cmd::Cancel(name) => *name,
+        Cmd::Cancel(name) | Cmd::Clear(name) => *name,
+        Cmd::Reset(_) | Cmd::Give(_) => endpoint_zero(DevAddr::zero()),
+        Cmd::DiskRead { addr, .. } | Cmd::DiskWrite { addr, .. } => endpoint_zero(*addr),
+        Cmd::Revive(addr) => endpoint_zero(*addr),
+    }
+}
+
+/// The control endpoint 0 of this address.
+fn endpoint_zero(addr: DevAddr) -> EpName
+    ensures { result ≡ endpoint_zero addr }
+{
+    EpName {
+        addr,
+        num: EpNum::zero(),
+        way: Way::Ctl,
     }
 }
 

@@ -1,13 +1,13 @@
 //! The program `ehci`: its words, standard input and standard output for the top call of `ehci_cli`.
 //!
-//! What it reads and writes with, and the exit status of each end, stand in `program_ends`.
+//! What it reads and writes with, and the exit status of each end, stand in `app_ends`.
 #![tactic(auto)]
 
 ghost use Rattle.std.specs.Process.{exit_status};
-ghost use Rattle.program_ends.specs.Ends.{ExitsBy, IsFault, IsWriteFault};
+ghost use Rattle.app_ends.specs.Ends.{ExitsBy, IsFault, IsWriteFault};
 
+use app_ends::{Status, StdSink, StdSource, ended, tell};
 use ehci_cli::ehci;
-use program_ends::{Status, StdSink, StdSource, ended, tell};
 use std::alloc::Global;
 use std::process::ExitCode;
 use std::rt::Env;

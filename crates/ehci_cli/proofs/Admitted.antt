@@ -3,14 +3,14 @@ use Rattle.std.proofs.Common.{ℕ, List, Option, Some, None}
 use Rattle.script_fits.proofs.Texts.{spelled_fits}
 use Rattle.bus_world.specs.Budgets.{AdmitsThroughout}
 use Rattle.bus_world.proofs.Budgeted.{script_admits}
-use Rattle.list_laws.specs.worlds_keep_to_lent.Written.{KeepsToLentThroughout}
-use Rattle.list_laws.proofs.lemmas.worlds_keep_to_lent.Moments.{script_keeps}
-use Rattle.list_laws.specs.owned_blocks.Worlds.{OwnsItsBlocksThroughout}
-use Rattle.list_laws.proofs.lemmas.owned_blocks.Worlds.{script_owns}
-use Rattle.list_laws.specs.world_frames.Scheduled.{KeepsScheduleThroughout}
-use Rattle.list_laws.proofs.lemmas.world_frames.Moments.{script_scheduled}
-use Rattle.program_ends.specs.Input.{input_of}
-use Rattle.ehci_cli.specs.Scripts.{OfEachScript}
+use Rattle.claims_world.specs.Lent.{KeepsToLentThroughout}
+use Rattle.law_world_memory.proofs.lemmas.worlds_keep_to_lent.Moments.{script_keeps}
+use Rattle.claims_world.specs.Owned.{OwnsItsBlocksThroughout}
+use Rattle.law_world_memory.proofs.lemmas.owned_blocks.Worlds.{script_owns}
+use Rattle.claims_world.specs.Schedule.{KeepsScheduleThroughout}
+use Rattle.law_world_memory.proofs.lemmas.world_frames.Moments.{script_scheduled}
+use Rattle.app_ends.specs.Input.{input_of}
+use Rattle.claims_world.specs.Scripts.{OfEachScript}
 
 pub source_admits : (left : Option (List ℕ)) → OfEachScript AdmitsThroughout left
 source_admits None = tt

@@ -1,22 +1,19 @@
 -- The answer of the form that the words have is that of the program.
 use Rattle.std.proofs.Common.{◌≡◌, ◌≢◌, ℕ, List, Option, Some, None, IfSome, refl, subst, ◌∙◌}
-use Rattle.program_ends.specs.Ends.{IsLeft}
-use Rattle.program_ends.specs.Input.{input_of}
-use Rattle.program_forms.specs.Form.{AreWordsOf}
-use Rattle.program_forms.specs.Output.{IsRunOf, IsAnswer, IsLoad, IsProgram, LeavesAs, Leaves}
-use Rattle.program_forms.proofs.Words.{loads_once}
-use Rattle.program_forms.specs.declared.form.Form.{Form}
-use Rattle.program_forms.specs.declared.form.Form.TheVariants.{Run, Image, Check, Dump, Load}
-use Rattle.program_ends.specs.declared.status.Status.{Status}
-use Rattle.program_ends.specs.declared.status.Status.TheVariants.{Ok, Words, Refused, ReadFault, WriteFault, Memory}
+use Rattle.app_ends.specs.Ends.{IsLeft}
+use Rattle.app_ends.specs.Input.{input_of}
+use Rattle.app_forms.specs.Form.{AreWordsOf}
+use Rattle.bus_world.specs.Runs.{IsRunOf}
+use Rattle.app_forms.specs.Output.{IsAnswer, IsLoad, IsProgram, LeavesAs, Leaves}
+use Rattle.app_forms.proofs.Words.{loads_once}
+use Rattle.app_forms.specs.declared.form.Form.{Form}
+use Rattle.app_forms.specs.declared.form.Form.TheVariants.{Load}
+use Rattle.app_ends.specs.declared.status.Status.{Status}
+use Rattle.app_ends.specs.declared.status.Status.TheVariants.{Words}
 
 pub program_of : (words : List (List ℕ)) (form : Form) (status : Status) (items : List ℕ) (old new : Option (List ℕ)) → AreWordsOf words form → status ≢ Words → IsAnswer IsRunOf form status items old new → IsProgram IsRunOf words status items old new
-program_of words form Ok items old new are other answer = (form, are, answer)
-program_of words form Refused items old new are other answer = (form, are, answer)
-program_of words form WriteFault items old new are other answer = (form, are, answer)
-program_of words form ReadFault items old new are other answer = (form, are, answer)
-program_of words form Memory items old new are other answer = (form, are, answer)
 program_of words form Words items old new are other answer = absurd (other refl)
+program_of words form _ items old new are other answer = (form, are, answer)
 
 -- whatever the source had
 pub program_of_any : (left : Option (List ℕ)) (words : List (List ℕ)) (form : Form) (status : Status) (old new : Option (List ℕ)) → AreWordsOf words form → status ≢ Words
@@ -38,20 +35,13 @@ answer_of_source (Some xs) view items form status old new read whole answer = su
 -- ---- what is left
 
 pub leaves_of : (words : List (List ℕ)) (form : Form) (status : Status) (xs : List ℕ) (after : Option (List ℕ)) → AreWordsOf words form → status ≢ Words → LeavesAs form status xs after → Leaves words status xs after
-leaves_of words form Ok xs after are other left = (form, are, left)
-leaves_of words form Refused xs after are other left = (form, are, left)
-leaves_of words form WriteFault xs after are other left = (form, are, left)
-leaves_of words form ReadFault xs after are other left = (form, are, left)
-leaves_of words form Memory xs after are other left = (form, are, left)
 leaves_of words form Words xs after are other left = absurd (other refl)
+leaves_of words form _ xs after are other left = (form, are, left)
 
 -- a form that reads
 pub read_leaves : (form : Form) (status : Status) (xs : List ℕ) (after : Option (List ℕ)) → ((n : ℕ) → form ≢ Load n) → IsLeft status xs after → LeavesAs form status xs after
-read_leaves Run status xs after reads left = left
-read_leaves Image status xs after reads left = left
-read_leaves Check status xs after reads left = left
-read_leaves Dump status xs after reads left = left
 read_leaves (Load n) status xs after reads left = absurd (reads n refl)
+read_leaves _ status xs after reads left = left
 
 pub reading_leaves : (before after : Option (List ℕ)) (form : Form) (status : Status) → ((n : ℕ) → form ≢ Load n) → IfSome before (λ xs. IsLeft status xs after) → IfSome before (λ xs. LeavesAs form status xs after)
 reading_leaves None after form status reads left = tt

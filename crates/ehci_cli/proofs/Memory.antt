@@ -1,9 +1,9 @@
 -- At each moment of a script's run everything of the driver is in place in memory, and the controller goes on.
 use Rattle.std.proofs.Common.{ℕ, List, Option, Some, None}
-use Rattle.mixed_worlds.specs.Placed.{KeepsMemory}
-use Rattle.mixed_worlds.proofs.Together.{texts_keep_memory}
-use Rattle.program_ends.specs.Input.{input_of}
-use Rattle.ehci_cli.specs.Scripts.{OfEachScript}
+use Rattle.claims_world.specs.Memory.{KeepsMemory}
+use Rattle.law_world_memory.proofs.Together.{texts_keep_memory}
+use Rattle.app_ends.specs.Input.{input_of}
+use Rattle.claims_world.specs.Scripts.{OfEachScript}
 
 pub source_keeps_memory : (left : Option (List ℕ)) → OfEachScript KeepsMemory left
 source_keeps_memory None = tt

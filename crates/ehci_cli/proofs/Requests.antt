@@ -1,9 +1,9 @@
 -- The control requests of a script of bulk and control endpoints of devices stand as they must at each moment of its run.
 use Rattle.std.proofs.Common.{ℕ, List, Option, Some, None}
-use Rattle.asking_worlds.specs.Kept.{KeepsRequests}
-use Rattle.asking_worlds.proofs.Together.{texts_keep}
-use Rattle.program_ends.specs.Input.{input_of}
-use Rattle.ehci_cli.specs.Scripts.{OfEachScriptOfDevices}
+use Rattle.claims_world.specs.Requests.{KeepsRequests}
+use Rattle.law_world_requests.proofs.Together.{texts_keep}
+use Rattle.app_ends.specs.Input.{input_of}
+use Rattle.claims_world.specs.Scripts.{OfEachScriptOfDevices}
 
 pub source_keeps_requests : (left : Option (List ℕ)) → OfEachScriptOfDevices KeepsRequests left
 source_keeps_requests None = tt

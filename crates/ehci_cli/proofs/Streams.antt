@@ -1,23 +1,19 @@
 -- The report after a script's run is that of the moment with no order left.
 use Rattle.std.proofs.Common.{◌≡◌, ℕ, List, [], Option, Some, None, ap, sym, subst, refl}
 use Rattle.script_types.specs.declared.scripts.Script.{Script}
-use Rattle.told_streams.specs.right_reports.WorldReport.{report_of}
-use Rattle.told_streams.specs.taken_reports.Taken.{AreTakenStreams}
-use Rattle.report_streams.specs.Reports.{WholeReport}
-use Rattle.report_streams.specs.Streams.{AreRightStreams}
-use Rattle.told_streams.proofs.lemmas.right_reports.Printed.{report_printed}
-use Rattle.usb_bus.specs.Bus.{fixed_of}
+use Rattle.claims_world.specs.Streams.{report_of, AreTakenStreams, AreSentStreams, KeepsStreamsThroughout, KeepsStreams}
+use Rattle.claims_report.specs.Reports.{WholeReport}
+use Rattle.claims_report.specs.Streams.{AreRightStreams}
+use Rattle.law_world_streams.proofs.lemmas.right_reports.Printed.{report_printed}
+use Rattle.bus_wire.specs.Bus.{fixed_of}
 use Rattle.bus_world.specs.World.{Standing}
 use Rattle.bus_world.specs.Opening.{opening_world}
 use Rattle.bus_world.specs.Orders.{OrderedWorld, Leads, at_place, orders_of}
 use Rattle.bus_world.specs.Budgets.{moment}
-use Rattle.whole_worlds.specs.sending_worlds.Sent.{AreSentStreams}
-use Rattle.whole_worlds.specs.sending_worlds.Kept.{KeepsStreamsThroughout}
-use Rattle.whole_worlds.proofs.lemmas.sending_worlds.Moments.{texts_keep_streams}
-use Rattle.program_ends.specs.Input.{input_of}
-use Rattle.program_forms.specs.Output.{IsWholeRunOf}
-use Rattle.ehci_cli.specs.Scripts.{OfEachAsynchronousScript}
-use Rattle.ehci_cli.specs.Streams.{KeepsStreams}
+use Rattle.law_world_streams.proofs.lemmas.sending_worlds.Moments.{texts_keep_streams}
+use Rattle.app_ends.specs.Input.{input_of}
+use Rattle.bus_world.specs.Runs.{IsWholeRunOf}
+use Rattle.claims_world.specs.Scripts.{OfEachAsynchronousScript}
 
 -- what is so of the report of each moment with no order left is so of that after the run
 module _ (so : WholeReport → Type 0) where

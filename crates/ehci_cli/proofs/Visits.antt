@@ -1,15 +1,15 @@
 -- At each moment of a script's run both walks visit as the standard has it, and each microframe ends.
 use Rattle.std.proofs.Common.{ℕ, List, Option, Some, None}
-use Rattle.frame_visits.specs.Keeps.{KeepsVisits}
-use Rattle.microframe_laws.specs.PaymentLaws.{PaysWithinLoad}
-use Rattle.microframe_laws.specs.PaymentTimes.{ArriveInTime}
-use Rattle.frame_visits.proofs.Together.{texts_keep_visits}
-use Rattle.microframe_laws.proofs.PaymentTexts.{texts_pay}
-use Rattle.microframe_laws.proofs.PaymentTimes.{texts_in_time}
-use Rattle.microframe_laws.specs.Ends.{MicroframesEnd}
-use Rattle.microframe_laws.proofs.TurnTexts.{texts_end}
-use Rattle.program_ends.specs.Input.{input_of}
-use Rattle.ehci_cli.specs.Scripts.{OfEachScript, OfEachHighPeriodicScript}
+use Rattle.claims_world.specs.Visits.{KeepsVisits}
+use Rattle.claims_world.specs.WithinLoad.{PaysWithinLoad}
+use Rattle.claims_world.specs.InTime.{ArriveInTime}
+use Rattle.law_world_visits.proofs.Together.{texts_keep_visits}
+use Rattle.law_world_time.proofs.PaymentTexts.{texts_pay}
+use Rattle.law_world_time.proofs.PaymentTimes.{texts_in_time}
+use Rattle.claims_world.specs.Microframes.{MicroframesEnd}
+use Rattle.law_world_time.proofs.TurnTexts.{texts_end}
+use Rattle.app_ends.specs.Input.{input_of}
+use Rattle.claims_world.specs.Scripts.{OfEachScript, OfEachHighPeriodicScript}
 
 pub source_keeps_visits : (left : Option (List ℕ)) → OfEachScript KeepsVisits left
 source_keeps_visits None = tt

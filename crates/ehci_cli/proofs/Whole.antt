@@ -5,11 +5,12 @@ use Rattle.script_text.specs.Faults.{Spells}
 use Rattle.bus_world.specs.World.{Standing}
 use Rattle.bus_world.specs.Opening.{opening_world}
 use Rattle.bus_world.specs.Orders.{IsRun, orders_of}
-use Rattle.microframe_laws.proofs.TurnTexts.{texts_carry_out}
-use Rattle.program_ends.specs.Input.{input_of}
-use Rattle.program_ends.specs.declared.status.Status.{Status}
-use Rattle.program_forms.specs.Output.{IsRunOf, IsWholeRunOf, IsLoad, IsProgram}
-use Rattle.program_forms.proofs.Whole.{load_follows, program_follows}
+use Rattle.law_world_time.proofs.TurnTexts.{texts_carry_out}
+use Rattle.app_ends.specs.Input.{input_of}
+use Rattle.app_ends.specs.declared.status.Status.{Status}
+use Rattle.bus_world.specs.Runs.{IsRunOf, IsWholeRunOf}
+use Rattle.app_forms.specs.Output.{IsLoad, IsProgram}
+use Rattle.app_forms.proofs.Whole.{load_follows, program_follows}
 
 whole_run : (text : List ℕ) (s : Script) (w : Standing) → Spells text s → IsRunOf s w → IsWholeRunOf s w
 whole_run text s w spelled ran = record {

@@ -1,7 +1,7 @@
 //! The program's top call: what it reads, what it writes and how it ends.
 //!
-//! `ehci` carries the theorem of the whole. What it does in each form stands below it in `program_forms`, what it reads with and how it ends in
-//! `program_ends`.
+//! `ehci` carries the theorem of the whole. What it does in each form stands below it in `app_forms`, what it reads with and how it ends in
+//! `app_ends`.
 #![tactic(auto)]
 
 mod program;

@@ -1,23 +1,24 @@
 ghost use Rattle.std.specs.Prelude.{◌≡◌, ◌≢◌, ℕ, ◌≤◌, ◌↔◌, map, string_bytes, IfSome};
 ghost use Rattle.bus_world.specs.Budgets.{AdmitsThroughout};
-ghost use Rattle.list_laws.specs.world_frames.Scheduled.{KeepsScheduleThroughout};
-ghost use Rattle.list_laws.specs.worlds_keep_to_lent.Written.{KeepsToLentThroughout};
-ghost use Rattle.list_laws.specs.owned_blocks.Worlds.{OwnsItsBlocksThroughout};
-ghost use Rattle.program_ends.specs.Ends.{IsFault, IsWriteFault, WritesNothing};
-ghost use Rattle.program_ends.specs.Input.{input_of};
-ghost use Rattle.program_forms.specs.Form.{AreWordsOf, AreNoForm};
-ghost use Rattle.program_forms.specs.Output.{IsRunOf, IsWholeRunOf, IsAnswer, IsLoad, IsProgram, LeavesAs, Leaves};
-ghost use Rattle.mixed_worlds.specs.Placed.{KeepsMemory};
-ghost use Rattle.frame_visits.specs.Keeps.{KeepsVisits};
-ghost use Rattle.microframe_laws.specs.PaymentLaws.{PaysWithinLoad};
-ghost use Rattle.microframe_laws.specs.PaymentTimes.{ArriveInTime};
-ghost use Rattle.microframe_laws.specs.Ends.{MicroframesEnd};
-ghost use Rattle.asking_worlds.specs.Kept.{KeepsRequests};
-ghost use Rattle.ehci_cli.specs.Scripts.{OfEachScript, OfEachHighPeriodicScript, OfEachAsynchronousScript, OfEachScriptOfDevices};
-ghost use Rattle.ehci_cli.specs.Streams.{KeepsStreams};
+ghost use Rattle.claims_world.specs.Schedule.{KeepsScheduleThroughout};
+ghost use Rattle.claims_world.specs.Lent.{KeepsToLentThroughout};
+ghost use Rattle.claims_world.specs.Owned.{OwnsItsBlocksThroughout};
+ghost use Rattle.app_ends.specs.Ends.{IsFault, IsWriteFault, WritesNothing};
+ghost use Rattle.app_ends.specs.Input.{input_of};
+ghost use Rattle.app_forms.specs.Form.{AreWordsOf, AreNoForm};
+ghost use Rattle.bus_world.specs.Runs.{IsRunOf, IsWholeRunOf};
+ghost use Rattle.app_forms.specs.Output.{IsAnswer, IsLoad, IsProgram, LeavesAs, Leaves};
+ghost use Rattle.claims_world.specs.Memory.{KeepsMemory};
+ghost use Rattle.claims_world.specs.Visits.{KeepsVisits};
+ghost use Rattle.claims_world.specs.WithinLoad.{PaysWithinLoad};
+ghost use Rattle.claims_world.specs.InTime.{ArriveInTime};
+ghost use Rattle.claims_world.specs.Microframes.{MicroframesEnd};
+ghost use Rattle.claims_world.specs.Requests.{KeepsRequests};
+ghost use Rattle.claims_world.specs.Scripts.{OfEachScript, OfEachHighPeriodicScript, OfEachAsynchronousScript, OfEachScriptOfDevices};
+ghost use Rattle.claims_world.specs.Streams.{KeepsStreams};
 
-use program_ends::{Status, Unread, read_input};
-use program_forms::{Form, check, dump, form_of, image, load, run};
+use app_ends::{Status, Unread, read_input};
+use app_forms::{Form, check, dump, form_of, image, load, run};
 use std::alloc::Global;
 use usb_base::{Sink, Source};
 
@@ -34,34 +35,45 @@ use usb_base::{Sink, Source};
 ///   the output is written.
 /// - `Memory` only before the first write.
 ///
-/// Each microframe of a script's run ends, after at most 17,957,823 events of the controller, each followed by one of the driver; so every line is carried out, and what is reported
-/// stands after the whole run.
+/// What the clauses after `output` say is said of the table machine over the script that the input spells; `output` says that what is
+/// printed is its report, after the whole run. docs/THEOREM.md has each clause with its definitions.
 ///
-/// Where the input spells a script, at each moment of its run all placed endpoints keep the budgets of bus time, and the open of a periodic
-/// endpoint is refused for want of a placement exactly where no allowed one fits beside them. And at each moment the controller's next event
-/// reads and writes words of Lent blocks alone, and what the driver's next event gives back is Free afterwards; just the blocks of what the driver still
-/// needs are Lent, each run of them with one owner, but for what its unfinished command has still to lend; and each frame of the list has what is due in
-/// it: the queue heads of placed interrupt endpoints, each once, and of each isochronous endpoint at most one descriptor that waits.
+/// Each microframe of a script's run ends, after at most 17,957,823 events of the controller, each followed by one of the driver; so
+/// every line is carried out, and what is reported stands after the whole run.
 ///
-/// And at each such moment, whatever endpoints it opens and cancels, nothing of the driver is out of place in memory; the words of the ring stand for the queue heads that are linked in
-/// it, each once, and those of the frame list and of its members for the driver's list, also while one is linked or unlinked; the walk of the ring stands at these queue heads
-/// alone, or at those that left since the last answered doorbell was rung; and the controller runs with both schedules on, meets no fault and is refused no word.
+/// At each moment of a script's run what is placed keeps the budgets of bus time, and the open of a periodic endpoint is refused for
+/// want of a placement exactly where no allowed one fits beside it. The controller's next event reads and writes words of Lent blocks
+/// alone, and what the driver's next event gives back is Free right after it. Just the blocks of what the driver still needs are Lent,
+/// each run of them with one owner, but for what its unfinished command has still to lend. Each frame of the driver's list has the
+/// queue heads of the interrupt endpoints that are placed in it, each once and no others, those of cancelled endpoints until they are
+/// unlinked, and of each isochronous endpoint at most one descriptor that waits. A cancelled endpoint stays placed until it is given
+/// back.
 ///
-/// In one microframe the walk of the frames visits no structure twice, and each in its frame, while members are linked and unlinked. In a microframe that is held no time is left. The
-/// asynchronous part ends where the head of the ring was read with Reclamation 0, or where the next price passes the time left, and then the ring goes on at the same queue head. A queue
-/// head is passed without its transaction for one of the standard's reasons alone, in the ring and in the frames.
+/// And at each such moment, whatever endpoints it opens and cancels, the runs of the driver's blocks, its frame list, the links of its
+/// members, the ring and words 1 and 2 of queue heads stand in memory for the driver's content, also while a structure is linked or
+/// unlinked; the walk of the ring stands at queue heads of the ring, or at those that left since the last answered doorbell was rung;
+/// and the controller runs with both schedules on, meets no fault and is refused no word. Of qTDs, overlays and buffers this says
+/// nothing.
 ///
-/// Where all its periodic endpoints are of high speed, isochronous ones too, what their transactions have cost in a microframe is no more than the plan's load there, nor than 100
-/// microseconds, at each moment, also while endpoints are opened and cancelled. So no transaction of the periodic part is skipped for want of time, but in a held microframe.
+/// In one microframe the walk of the frames visits no structure twice, and each in its frame, while members are linked and unlinked. In
+/// a microframe that is held no time is left. The asynchronous part ends where the head of the ring was read with Reclamation 0, or
+/// where the next price passes the time left, and then the ring goes on at the same queue head. A queue head is passed without its
+/// transaction for one of the standard's reasons alone, in the ring and in the frames.
 ///
-/// Where the script opens high-speed bulk and control endpoints only, cancelled or not, the bytes that the report tells of each bulk IN endpoint begin its stream, each
-/// once and in order, and nothing follows its end; those that it tells of each bulk OUT endpoint begin what its device took, and these begin what was put to it: after
-/// the run, and at each moment of it, whatever is lost, damaged or held, and whatever control endpoints are asked and answer, STALL too. After the run these are all
-/// its streams.
+/// Where all its periodic endpoints are of high speed, isochronous ones too, the time that is deducted for their transactions in a
+/// microframe is no more than the plan's load there, nor than 100 microseconds, at each moment, also while endpoints are opened and
+/// cancelled. So no transaction of the periodic part is skipped for want of time, but in a held microframe.
 ///
-/// Where these endpoints are of devices, none a hub's own control endpoint, at each moment the device acted at most once on each control request, and only on its setup
-/// bytes; of an endpoint that isn't cancelled the report tells of its requests in their order: a request that is done was acted on exactly once, and the bytes told of it are
-/// those of its data; those of one that halted begin its data; and `acted` is told as the number of requests that were acted on. After the run these are all its requests.
+/// Where the script opens high-speed bulk and control endpoints only, cancelled or not, the bytes that the report tells of each bulk IN
+/// endpoint begin its stream, each once and in order, and nothing follows its end; those that it tells of each bulk OUT endpoint begin
+/// what its device took, and these begin what was put to it: after the run, and at each moment of it, when the puts are those that
+/// weren't refused so far; whatever is lost, damaged or held, and whatever control endpoints are asked and answer, STALL too. After the
+/// run these are all its streams.
+///
+/// Where these endpoints are of devices, none a hub's own control endpoint, at each moment the device acted at most once on each
+/// control request, and only on its setup bytes; of an endpoint that isn't cancelled the report tells of its requests in their order: a
+/// request that is done was acted on exactly once, and the bytes told of it are those of its data; those of one that halted begin its
+/// data; and `acted` is told as the number of requests that were acted on. After the run these are all its requests.
 #[tactic(auto, using(crate::proofs::Admitted::source_admits, crate::proofs::Admitted::source_keeps_to_lent, crate::proofs::Admitted::source_owns, crate::proofs::Admitted::source_keeps_schedule, crate::proofs::Streams::source_keeps_streams, crate::proofs::Requests::source_keeps_requests, crate::proofs::Memory::source_keeps_memory, crate::proofs::Visits::source_keeps_visits, crate::proofs::Visits::source_pays_within_load, crate::proofs::Visits::source_is_in_time, crate::proofs::Visits::source_ends_microframes))]
 pub fn ehci<S: Source, K: Sink>(
     alloc: Global,

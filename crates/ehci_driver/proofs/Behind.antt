@@ -5,10 +5,10 @@ use Rattle.usb_base.specs.declared.endpoints.EpName.{EpName}
 use Rattle.usb_base.specs.declared.endpoints.EndCause.TheVariants as causes
 use Rattle.usb_base.specs.declared.reports.Report.{Report}
 use Rattle.usb_base.specs.declared.reports.What.TheVariants as lines
-use Rattle.driver_rows.specs.declared.content.Transfer.{Transfer}
-use Rattle.driver_rows.specs.DriverContent.{DriverContent, waits_for}
-use Rattle.driver_rows.specs.Harvests.{reported}
-use Rattle.driver_rows.specs.Rows.{behind_one, behind}
+use Rattle.drv_table.specs.declared.content.Transfer.{Transfer}
+use Rattle.drv_table.specs.DriverContent.{DriverContent, waits_for}
+use Rattle.drv_table.specs.Harvests.{reported}
+use Rattle.drv_table.specs.Harvesting.{behind_one, behind}
 
 pub behind_made : (d : DriverContent) (e : ℕ) (name : EpName) (k : ℕ) (x : Transfer) (told : List Report) (ts : List Transfer) (gives : List ℕ) → slice_get d.transfers k ≡ Some x → waits_for e x ≡ true → told ≡ d.reports ++ (record { name = name; what = lines.Halt causes.Stall; from = length d.store; len = 0 }) ∷ [] → ts ≡ set d.transfers k (record x { reported = true }) → gives ≡ d.harvested ++ k ∷ [] → record d { reports = told; transfers = ts; harvested = gives } ≡ behind_one d e name k (slice_get d.transfers k)
 behind_made d e name k x told ts gives there waits l t g =

@@ -4,17 +4,18 @@ use Rattle.usb_base.specs.declared.reports.Report.{Report}
 use Rattle.usb_base.specs.declared.reports.What.TheVariants as lines
 use Rattle.word_mem.specs.Memory.{Mem}
 use Rattle.bandwidth.specs.declared.placements.Placement.{Placement}
-use Rattle.frame_chains.specs.declared.members.Member.{Member}
-use Rattle.periodic_part.specs.Part.{Held, with_periodic, with_queued}
-use Rattle.periodic_rows.specs.Periodic.{PeriodicContent, note_at, descriptor_member, queue_member}
-use Rattle.periodic_rows.specs.Linking.{begun_next}
-use Rattle.periodic_rows.specs.Descriptors.{told_bytes}
-use Rattle.driver_rows.specs.declared.content.Endpoint.{Endpoint}
-use Rattle.driver_rows.specs.declared.content.Transfer.{Transfer}
-use Rattle.driver_rows.specs.declared.content.Command.TheVariants as unfinished
-use Rattle.driver_rows.specs.DriverContent.{DriverContent, next_after, waits_for}
-use Rattle.driver_rows.specs.Offers.{with_cancel, endpoint_members, first_end}
-use Rattle.driver_rows.specs.Rows.{descriptor_told, is_iso}
+use Rattle.drv_chains.specs.declared.members.Member.{Member}
+use Rattle.drv_frames_content.specs.Part.{Held, with_periodic, with_queued}
+use Rattle.drv_periodic_table.specs.Periodic.{PeriodicContent, note_at, descriptor_member, queue_member}
+use Rattle.drv_periodic_table.specs.Linking.{begun_next}
+use Rattle.drv_periodic_table.specs.Descriptors.{told_bytes}
+use Rattle.drv_table.specs.declared.content.Endpoint.{Endpoint}
+use Rattle.drv_table.specs.declared.content.Transfer.{Transfer}
+use Rattle.drv_table.specs.declared.content.Command.TheVariants as unfinished
+use Rattle.drv_table.specs.DriverContent.{DriverContent, next_after, waits_for}
+use Rattle.drv_table.specs.CancelOffers.{with_cancel, endpoint_members, first_end}
+use Rattle.drv_table.specs.Harvesting.{descriptor_told}
+use Rattle.drv_table.specs.Kinds.{is_iso}
 
 -- v is the driver as its fields show it
 pub unchain_made : (v d : DriverContent) (e : ℕ) (x : Endpoint) (p : Placement) (xs : List Endpoint) (q : PeriodicContent) → v ≡ d → xs ≡ set v.endpoints e (record x { cancelled = true; ended = first_end x.ended }) → q ≡ begun_next true (record v.periodic { queued = endpoint_members v e x p }) → record v { endpoints = xs; command = Some (unfinished.Unchain e); made = 0; room = record v.room { reports = v.room.reports - 1 }; periodic = q } ≡ with_cancel d e x (endpoint_members d e x p)

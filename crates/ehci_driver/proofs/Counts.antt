@@ -2,8 +2,8 @@
 use Rattle.std.proofs.Common.{◌≡◌, ℕ, ◌+◌, ◌≤◌, Bool, true, false, not, ◌&&◌, cond, List, set, get_or, slice_get, Some, sum_by, arith, ap, sym, ◌∙◌, refl}
 use Rattle.std.proofs.lemmas.Option.{slice_get_within, same_Some, slice_get-get_or}
 use Rattle.std.proofs.lemmas.List.Sums.{sum_by-set}
-use Rattle.driver_rows.specs.declared.content.Endpoint.{Endpoint}
-use Rattle.driver_rows.specs.declared.content.Transfer.{Transfer}
+use Rattle.drv_table.specs.declared.content.Endpoint.{Endpoint}
+use Rattle.drv_table.specs.declared.content.Transfer.{Transfer}
 use Rattle.ehci_driver.specs.Rooms.{unreported, owed_bytes, owed_cancels, linked}
 
 -- one item of a sum changes

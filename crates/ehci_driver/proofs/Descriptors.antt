@@ -4,13 +4,13 @@ use Rattle.std.proofs.Math.Nat.{suc-mul}
 use Rattle.std.proofs.lemmas.List.{length-set, length_push}
 use Rattle.std.proofs.lemmas.List.Sums.{sum_by_push}
 use Rattle.usb_base.specs.declared.endpoints.EpDesc.{EpDesc}
-use Rattle.run_book.specs.Book.{Book}
-use Rattle.periodic_part.specs.Part.{Held}
-use Rattle.driver_rows.specs.declared.content.Endpoint.{Endpoint}
-use Rattle.driver_rows.specs.declared.content.Transfer.{Transfer}
-use Rattle.driver_rows.specs.declared.content.Reserve.{Reserve}
-use Rattle.driver_rows.specs.declared.content.Slots.{Slots}
-use Rattle.driver_rows.specs.Offers.{Descriptors, all_descriptors, one_descriptor, descriptor_transfer, slot_runs, total_of, with_descriptors}
+use Rattle.mem_runs.specs.Book.{Book}
+use Rattle.drv_frames_content.specs.Part.{Held}
+use Rattle.drv_table.specs.declared.content.Endpoint.{Endpoint}
+use Rattle.drv_table.specs.declared.content.Transfer.{Transfer}
+use Rattle.drv_table.specs.declared.content.Reserve.{Reserve}
+use Rattle.drv_table.specs.declared.content.Slots.{Slots}
+use Rattle.drv_table.specs.IsoOffers.{Descriptors, all_descriptors, one_descriptor, descriptor_transfer, slot_runs, total_of, with_descriptors}
 use Rattle.ehci_driver.specs.Rooms.{HasRooms, HasFrameRooms, unreported, owed_bytes}
 use Rattle.ehci_driver.proofs.Counts.{kept_linked, kept_cancels}
 use Rattle.ehci_driver.proofs.Placed.{kept_chained, before_same, frames_written}

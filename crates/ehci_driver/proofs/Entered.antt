@@ -2,10 +2,10 @@
 use Rattle.std.proofs.Common.{◌≡◌, ℕ, ◌+◌, ◌-◌, ◌≤◌, Bool, true, false, not, ◌&&◌, cond, List, [], ◌∷◌, ◌++◌, length, set, slice_get, Some, arith, ap, ◌∙◌}
 use Rattle.std.proofs.lemmas.List.{length-set, length_push}
 use Rattle.std.proofs.lemmas.List.Sums.{sum_by_push}
-use Rattle.driver_rows.specs.declared.content.Endpoint.{Endpoint}
-use Rattle.driver_rows.specs.declared.content.Transfer.{Transfer}
-use Rattle.driver_rows.specs.declared.content.Reserve.{Reserve}
-use Rattle.driver_rows.specs.Offers.{with_transfer}
+use Rattle.drv_table.specs.declared.content.Endpoint.{Endpoint}
+use Rattle.drv_table.specs.declared.content.Transfer.{Transfer}
+use Rattle.drv_table.specs.declared.content.Reserve.{Reserve}
+use Rattle.drv_table.specs.Offers.{with_transfer}
 use Rattle.ehci_driver.specs.Rooms.{HasRooms, unreported, owed_bytes, owed_cancels, linked}
 use Rattle.ehci_driver.proofs.Counts.{counted, kept_linked, kept_cancels}
 

@@ -2,12 +2,12 @@
 use Rattle.std.proofs.Common.{◌≡◌, ℕ, ◌+◌, ◌<◌, ◌≤◌, ◌==◌, Bool, true, false, not, ◌&&◌, ◌||◌, cond, List, [], ◌∷◌, length, map, set, slice_get, Some, arith, suc, refl, ap, ◌∙◌}
 use Rattle.std.proofs.lemmas.List.{length-set}
 use Rattle.std.proofs.lemmas.List.Sums.{sum_by-cons}
-use Rattle.driver_rows.specs.declared.content.Endpoint.{Endpoint}
-use Rattle.driver_rows.specs.declared.content.Transfer.{Transfer}
-use Rattle.driver_rows.specs.declared.content.Reserve.{Reserve}
-use Rattle.driver_rows.specs.DriverContent.{waits_for}
-use Rattle.driver_rows.specs.Rows.{let_go, is_told, ended_by_cancel}
-use Rattle.driver_harvests.specs.Owed.{owed_of}
+use Rattle.drv_table.specs.declared.content.Endpoint.{Endpoint}
+use Rattle.drv_table.specs.declared.content.Transfer.{Transfer}
+use Rattle.drv_table.specs.declared.content.Reserve.{Reserve}
+use Rattle.drv_table.specs.DriverContent.{waits_for}
+use Rattle.drv_table.specs.Releases.{let_go, is_told, ended_by_cancel}
+use Rattle.drv_harvests.specs.Owed.{owed_of}
 use Rattle.ehci_driver.specs.Rooms.{HasRooms, unreported, owed_bytes}
 use Rattle.ehci_driver.proofs.Counts.{kept_linked, less_cancels, gone_cancel}
 

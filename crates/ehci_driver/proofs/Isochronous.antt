@@ -4,12 +4,13 @@ use Rattle.usb_base.specs.declared.endpoints.EpName.{EpName}
 use Rattle.usb_base.specs.declared.reports.OfferError.{OfferError}
 use Rattle.usb_base.specs.declared.reports.OfferError.TheVariants as errors
 use Rattle.word_mem.specs.Memory.{Mem}
-use Rattle.run_book.specs.Book.{holding}
-use Rattle.driver_rows.specs.declared.content.Endpoint.{Endpoint}
-use Rattle.driver_rows.specs.declared.content.Slots.{Slots}
-use Rattle.driver_rows.specs.DriverContent.{DriverContent, endpoint_of, endpoint_named, waits_for}
-use Rattle.driver_rows.specs.Rows.{is_iso}
-use Rattle.driver_rows.specs.Offers.{Offered, offered_iso, open_iso, taken_iso, take_runs, iso_needs, slots_of, has_slots, spans_too_long}
+use Rattle.mem_runs.specs.Book.{holding}
+use Rattle.drv_table.specs.declared.content.Endpoint.{Endpoint}
+use Rattle.drv_table.specs.declared.content.Slots.{Slots}
+use Rattle.drv_table.specs.DriverContent.{DriverContent, endpoint_of, endpoint_named, waits_for}
+use Rattle.drv_table.specs.Kinds.{is_iso}
+use Rattle.drv_table.specs.Accepting.{Offered, take_runs}
+use Rattle.drv_table.specs.IsoOffers.{offered_iso, open_iso, taken_iso, iso_needs, slots_of, has_slots, spans_too_long}
 
 -- by whether they span too much, and whether their slots fit
 abbrev pub if_fitting : DriverContent → Mem → ℕ → Endpoint → Slots → ℕ → ℕ → Bool → Bool → Result Offered OfferError

@@ -1,9 +1,9 @@
 -- There is still room for what is owed once an endpoint left the ring or its frames.
 use Rattle.std.proofs.Common.{◌≡◌, ℕ, ◌+◌, true, false, List, set, slice_get, Some, arith, refl}
 use Rattle.std.proofs.lemmas.List.{length-set}
-use Rattle.driver_rows.specs.declared.content.Endpoint.{Endpoint}
-use Rattle.driver_rows.specs.declared.content.Transfer.{Transfer}
-use Rattle.driver_rows.specs.declared.content.Reserve.{Reserve}
+use Rattle.drv_table.specs.declared.content.Endpoint.{Endpoint}
+use Rattle.drv_table.specs.declared.content.Transfer.{Transfer}
+use Rattle.drv_table.specs.declared.content.Reserve.{Reserve}
 use Rattle.ehci_driver.specs.Rooms.{HasRooms}
 use Rattle.ehci_driver.proofs.Counts.{left_ring, kept_linked, kept_cancels}
 use Rattle.ehci_driver.proofs.Rosters.{written_rooms}

@@ -1,9 +1,9 @@
 -- There is room for a line of the report, and still room for what is owed once it was made.
 use Rattle.std.proofs.Common.{◌≡◌, ℕ, ◌+◌, ◌<◌, ◌≤◌, false, true, List, set, slice_get, Some, arith}
 use Rattle.std.proofs.lemmas.List.{length-set}
-use Rattle.driver_rows.specs.declared.content.Endpoint.{Endpoint}
-use Rattle.driver_rows.specs.declared.content.Transfer.{Transfer}
-use Rattle.driver_rows.specs.declared.content.Reserve.{Reserve}
+use Rattle.drv_table.specs.declared.content.Endpoint.{Endpoint}
+use Rattle.drv_table.specs.declared.content.Transfer.{Transfer}
+use Rattle.drv_table.specs.declared.content.Reserve.{Reserve}
 use Rattle.ehci_driver.specs.Rooms.{HasRooms}
 use Rattle.ehci_driver.proofs.Counts.{told_once, told_bytes, kept_lines, kept_bytes, kept_linked, kept_cancels}
 

@@ -3,23 +3,27 @@ use Rattle.std.proofs.Common.{ℕ, zero, suc, ◌≤◌, Bool, true, false, ◌&
 use Rattle.std.specs.List.{AllByRecursion}
 use Rattle.word_mem.specs.Memory.{Mem}
 use Rattle.op_registers.specs.RegisterFile.{RegisterFile}
-use Rattle.frame_chains.specs.Boundary.{is_seen}
-use Rattle.periodic_list.specs.declared.work.Store.{Store}
-use Rattle.periodic_list.specs.Periodic.{next_store}
-use Rattle.periodic_rows.specs.declared.content.Removal.{Removal}
-use Rattle.driver_rows.specs.declared.content.Endpoint.{Endpoint}
-use Rattle.driver_rows.specs.declared.content.Transfer.{Transfer}
-use Rattle.driver_rows.specs.declared.content.Mend.{Mend}
-use Rattle.driver_rows.specs.declared.content.Command.{Command}
-use Rattle.driver_rows.specs.declared.content.Command.TheVariants as unfinished
-use Rattle.driver_rows.specs.declared.content.Turn.{Turn}
-use Rattle.driver_rows.specs.declared.content.Turn.TheVariants as turns
-use Rattle.driver_rows.specs.declared.content.Bell.{Bell}
-use Rattle.driver_rows.specs.declared.content.Bell.TheVariants as bells
-use Rattle.driver_rows.specs.declared.rows.DriverRow.{DriverRow}
-use Rattle.driver_rows.specs.declared.rows.DriverRow.TheVariants as rows
-use Rattle.driver_rows.specs.DriverContent.{DriverContent, waits_for}
-use Rattle.driver_rows.specs.Rows.{Parts, events_of, links, link_row, command_row, next_row, tells_advance, reading_for, removes, bell_row, removal_row, first_row, leaving_row, found_of, reading_row, transfer_row, worker_row, harvest_row, next_worker, turn_row, row_for, driver_row}
+use Rattle.drv_chains.specs.Boundary.{is_seen}
+use Rattle.drv_periodic.specs.declared.work.Store.{Store}
+use Rattle.drv_periodic.specs.Periodic.{next_store}
+use Rattle.drv_periodic_table.specs.declared.content.Removal.{Removal}
+use Rattle.drv_table.specs.declared.content.Endpoint.{Endpoint}
+use Rattle.drv_table.specs.declared.content.Transfer.{Transfer}
+use Rattle.drv_table.specs.declared.content.Mend.{Mend}
+use Rattle.drv_table.specs.declared.content.Command.{Command}
+use Rattle.drv_table.specs.declared.content.Command.TheVariants as unfinished
+use Rattle.drv_table.specs.declared.content.Turn.{Turn}
+use Rattle.drv_table.specs.declared.content.Turn.TheVariants as turns
+use Rattle.drv_table.specs.declared.content.Bell.{Bell}
+use Rattle.drv_table.specs.declared.content.Bell.TheVariants as bells
+use Rattle.drv_table.specs.declared.rows.DriverRow.{DriverRow}
+use Rattle.drv_table.specs.declared.rows.DriverRow.TheVariants as rows
+use Rattle.drv_table.specs.DriverContent.{DriverContent, waits_for}
+use Rattle.drv_table.specs.Parts.{Parts}
+use Rattle.drv_table.specs.Commands.{events_of, links, link_row, command_row, next_row}
+use Rattle.drv_table.specs.Leaving.{tells_advance, reading_for, removes, bell_row, removal_row, first_row, leaving_row}
+use Rattle.drv_table.specs.Harvesting.{found_of, reading_row, transfer_row, worker_row, harvest_row, next_worker}
+use Rattle.drv_table.specs.Rows.{turn_row, row_for, driver_row}
 use Rattle.ehci_driver.specs.Makes.{CanMake}
 
 either_can : (d : DriverContent) (b : Bool) (x y : DriverRow) → CanMake d x → CanMake d y → CanMake d (cond b x y)
@@ -35,12 +39,11 @@ get_can d (r ∷ rs) zero all = all.0
 get_can d (r ∷ rs) (suc k) all = get_can d rs k all.1
 
 own_can : (d : DriverContent) (c : Command) → AllByRecursion (CanMake d) (events_of c)
-own_can d (unfinished.Open queue) = (tt, (tt, tt))
 own_can d (unfinished.Publish b words) = (tt, (tt, (tt, (tt, (tt, (tt, (tt, (tt, (tt, tt)))))))))
 own_can d (unfinished.Unlink e b link) = (tt, tt)
 own_can d unfinished.Chain = (tt, tt)
-own_can d (unfinished.Iso e t count) = (tt, (tt, tt))
 own_can d (unfinished.Unchain e) = tt
+own_can d _ = (tt, (tt, tt))
 
 link_can : (d : DriverContent) (o : Option Store) → CanMake d (link_row o)
 link_can d None = tt

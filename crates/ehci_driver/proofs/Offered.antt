@@ -8,15 +8,18 @@ use Rattle.usb_base.specs.declared.reports.OfferError.{OfferError}
 use Rattle.usb_base.specs.declared.reports.OfferError.TheVariants as errors
 use Rattle.word_mem.specs.Memory.{Mem}
 use Rattle.qh_qtd.specs.Qtd.{qtd_words}
-use Rattle.run_book.specs.Book.{Book, Holding, holding, store_words}
+use Rattle.mem_runs.specs.Book.{Book, Holding, holding, store_words}
 use Rattle.bandwidth.specs.Admission.{answer}
-use Rattle.periodic_rows.specs.Periodic.{is_periodic, want_of}
-use Rattle.driver_rows.specs.declared.content.Endpoint.{Endpoint}
-use Rattle.driver_rows.specs.declared.content.Command.TheVariants as unfinished
-use Rattle.driver_rows.specs.DriverContent.{DriverContent, endpoint_of, endpoint_named}
-use Rattle.driver_rows.specs.Harvests.{note_at}
-use Rattle.driver_rows.specs.Words.{needs, dummy_qtd}
-use Rattle.driver_rows.specs.Offers.{Offered, Asked, take_runs, offered_open, planned_open, cancelled_by, taken_open, accepted_open, offered_transfer, found_transfer, open_transfer, taken_transfer, accepted_transfer, with_queued, with_transfer, stage_words, note_stages, write_stages, send_stages, first_of, offered_cancel}
+use Rattle.drv_periodic_table.specs.Periodic.{is_periodic, want_of}
+use Rattle.drv_table.specs.declared.content.Endpoint.{Endpoint}
+use Rattle.drv_table.specs.declared.content.Command.TheVariants as unfinished
+use Rattle.drv_table.specs.DriverContent.{DriverContent, endpoint_of, endpoint_named}
+use Rattle.drv_table.specs.Harvests.{note_at}
+use Rattle.drv_table.specs.Words.{needs, dummy_qtd}
+use Rattle.drv_table.specs.Accepting.{Offered, take_runs}
+use Rattle.drv_table.specs.Offers.{Asked, offered_open, planned_open, taken_open, accepted_open, offered_transfer, found_transfer, open_transfer, taken_transfer, accepted_transfer, with_queued, with_transfer, stage_words, note_stages, write_stages, send_stages, first_of}
+use Rattle.drv_table.specs.CancelOffers.{cancelled_by, offered_cancel}
+use Rattle.drv_table.specs.declared.content.Part.TheVariants as parts
 
 -- ---- which endpoint
 
@@ -46,7 +49,7 @@ goes_on d m e x a r going short this =
 
 -- ---- a transfer
 
-pub accepted_is : (d d1 d2 : DriverContent) (m m2 : Mem) (e : ℕ) (x : Endpoint) (a : Asked) (runs : List ℕ) (qtds dummy : ℕ) (words : List ℕ) → qtds ≡ length a.stages → dummy ≡ get_or (take (length a.stages) runs) (length a.stages - 1) 0 → d1 ≡ record d { notes = note_stages d.notes a.stages x.dummy (take (length a.stages) runs) (drop (length a.stages) runs) } → words ≡ stage_words d1.notes (first_of a.stages) x.dummy dummy (nat_eq (length a.stages) 1) → m2 ≡ send_stages d.book (store_words d.book (write_stages d.book m d1.notes dummy (drop 1 a.stages) (note_at d1.notes x.dummy).next) dummy (32 * dummy) (qtd_words dummy_qtd)) d1.notes a.stages x.dummy a.bytes → d2 ≡ record d1 { endpoints = set d1.endpoints e (with_queued x dummy (length d1.transfers)); transfers = d1.transfers ++ (record { endpoint = e; sort = a.sort; first = x.dummy; qtds = qtds; place = x.dummy; left = qtds; most = a.most; reported = false; released = false }) ∷ []; command = Some (unfinished.Publish x.dummy words); made = 0; room = with_transfer d1.room a.most } → ◌≡◌ {A = Offered} (record { driver = d2; memory = m2 }) (accepted_transfer d e x a (holding d.book m) (get_or (take (length a.stages) runs) (length a.stages - 1) 0) (note_stages d.notes a.stages x.dummy (take (length a.stages) runs) (drop (length a.stages) runs)))
+pub accepted_is : (d d1 d2 : DriverContent) (m m2 : Mem) (e : ℕ) (x : Endpoint) (a : Asked) (runs : List ℕ) (qtds dummy : ℕ) (words : List ℕ) → qtds ≡ length a.stages → dummy ≡ get_or (take (length a.stages) runs) (length a.stages - 1) 0 → d1 ≡ record d { notes = note_stages d.notes a.stages x.dummy (take (length a.stages) runs) (drop (length a.stages) runs) } → words ≡ stage_words d1.notes (first_of a.stages) x.dummy dummy (nat_eq (length a.stages) 1) → m2 ≡ send_stages d.book (store_words d.book (write_stages d.book m d1.notes dummy (drop 1 a.stages) (note_at d1.notes x.dummy).next) dummy (32 * dummy) (qtd_words dummy_qtd)) d1.notes a.stages x.dummy a.bytes → d2 ≡ record d1 { endpoints = set d1.endpoints e (with_queued x dummy (length d1.transfers)); transfers = d1.transfers ++ (record { endpoint = e; sort = a.sort; first = x.dummy; qtds = qtds; place = x.dummy; left = qtds; most = a.most; reported = false; released = false; part = parts.Own }) ∷ []; command = Some (unfinished.Publish x.dummy words); made = 0; room = with_transfer d1.room a.most } → ◌≡◌ {A = Offered} (record { driver = d2; memory = m2 }) (accepted_transfer d e x a (holding d.book m) (get_or (take (length a.stages) runs) (length a.stages - 1) 0) (note_stages d.notes a.stages x.dummy (take (length a.stages) runs) (drop (length a.stages) runs)))
 accepted_is d d1 d2 m m2 e x a runs qtds dummy words q1 q2 q3 q4 q5 q6 = cc
 
 -- the runs that were taken after the first `keep`

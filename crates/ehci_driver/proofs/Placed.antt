@@ -6,18 +6,18 @@ use Rattle.std.proofs.lemmas.List.Sums.{sum_by_push}
 use Rattle.bandwidth.specs.declared.placements.Placed.{Placed}
 use Rattle.std.specs.List.{list_any}
 use Rattle.bandwidth.specs.Admission.{Admissions, without}
-use Rattle.frame_chains.specs.declared.members.Member.{Member}
-use Rattle.periodic_list.specs.Periodic.{Periodic}
-use Rattle.periodic_rows.specs.declared.content.DescriptorNote.{DescriptorNote}
-use Rattle.periodic_rows.specs.Periodic.{PeriodicContent, read_again}
-use Rattle.periodic_rows.specs.Linking.{with_first, begun_next}
-use Rattle.periodic_rows.specs.declared.content.Removal.{Removal}
-use Rattle.periodic_part.specs.Part.{Held, with_periodic, with_list, with_queued, with_notes, with_removals}
-use Rattle.driver_rows.specs.declared.content.Endpoint.{Endpoint}
-use Rattle.driver_rows.specs.declared.content.Transfer.{Transfer}
-use Rattle.driver_rows.specs.declared.content.Reserve.{Reserve}
+use Rattle.drv_chains.specs.declared.members.Member.{Member}
+use Rattle.drv_periodic.specs.Periodic.{Periodic}
+use Rattle.drv_periodic_table.specs.declared.content.DescriptorNote.{DescriptorNote}
+use Rattle.drv_periodic_table.specs.Periodic.{PeriodicContent, read_again}
+use Rattle.drv_periodic_table.specs.Linking.{with_first, begun_next}
+use Rattle.drv_periodic_table.specs.declared.content.Removal.{Removal}
+use Rattle.drv_frames_content.specs.Part.{Held, with_periodic, with_list, with_queued, with_notes, with_removals}
+use Rattle.drv_table.specs.declared.content.Endpoint.{Endpoint}
+use Rattle.drv_table.specs.declared.content.Transfer.{Transfer}
+use Rattle.drv_table.specs.declared.content.Reserve.{Reserve}
 use Rattle.ehci_driver.specs.Rooms.{HasFrameRooms, unreported, chained, AreBefore}
-use Rattle.driver_rows.specs.Rows.{let_go}
+use Rattle.drv_table.specs.Releases.{let_go}
 use Rattle.ehci_driver.proofs.Counts.{counted, told_once, kept_lines}
 use Rattle.ehci_driver.proofs.Gone.{fewer_lines, same_long}
 

@@ -2,15 +2,15 @@
 use Rattle.std.proofs.Common.{◌≡◌, ℕ, ◌-◌, ◌≤◌, Bool, true, false, cond, List, [], ◌∷◌, ◌++◌, length, refl, sym, subst}
 use Rattle.usb_base.specs.declared.endpoints.EpDesc.{EpDesc}
 use Rattle.bandwidth.specs.declared.placements.Placed.{Placed}
-use Rattle.periodic_rows.specs.Periodic.{want_of, queue_member}
-use Rattle.periodic_rows.specs.Linking.{linking}
-use Rattle.periodic_part.specs.Part.{Held, with_place}
-use Rattle.driver_rows.specs.declared.content.Endpoint.{Endpoint}
-use Rattle.driver_rows.specs.declared.content.Transfer.{Transfer}
-use Rattle.driver_rows.specs.declared.content.Reserve.{Reserve}
-use Rattle.driver_rows.specs.Rows.{is_iso}
-use Rattle.driver_frames.specs.declared.placing.NewPlace.{NewPlace}
-use Rattle.driver_frames.specs.Places.{chained_part, placed_part}
+use Rattle.drv_periodic_table.specs.Periodic.{want_of, queue_member}
+use Rattle.drv_periodic_table.specs.Linking.{linking}
+use Rattle.drv_frames_content.specs.Part.{Held, with_place}
+use Rattle.drv_table.specs.declared.content.Endpoint.{Endpoint}
+use Rattle.drv_table.specs.declared.content.Transfer.{Transfer}
+use Rattle.drv_table.specs.declared.content.Reserve.{Reserve}
+use Rattle.drv_table.specs.Kinds.{is_iso}
+use Rattle.drv_frames.specs.declared.placing.NewPlace.{NewPlace}
+use Rattle.drv_frames.specs.Places.{chained_part, placed_part}
 use Rattle.ehci_driver.specs.Rooms.{HasFrameRooms}
 use Rattle.ehci_driver.proofs.Placed.{Keeps, keeps_list, frames_held, frames_placed}
 

@@ -1,12 +1,13 @@
 -- What a periodic endpoint lets go is owed as that of one in the ring.
 use Rattle.std.proofs.Common.{◌≡◌, ℕ, suc, ◌==◌, Bool, true, false, not, ◌&&◌, ◌||◌, cond, List, [], ◌∷◌, length, map, arith, ap, sym, ◌∙◌, refl}
 use Rattle.std.proofs.lemmas.List.Sums.{sum_by-cons}
-use Rattle.driver_rows.specs.declared.content.Endpoint.{Endpoint}
-use Rattle.driver_rows.specs.declared.content.Transfer.{Transfer}
-use Rattle.driver_rows.specs.declared.content.Reserve.{Reserve}
-use Rattle.driver_rows.specs.DriverContent.{waits_for}
-use Rattle.driver_rows.specs.Rows.{let_go, let_go_waiting, let_go_placed}
-use Rattle.periodic_part.specs.Part.{Held}
+use Rattle.drv_table.specs.declared.content.Endpoint.{Endpoint}
+use Rattle.drv_table.specs.declared.content.Transfer.{Transfer}
+use Rattle.drv_table.specs.declared.content.Reserve.{Reserve}
+use Rattle.drv_table.specs.DriverContent.{waits_for}
+use Rattle.drv_table.specs.Releases.{let_go}
+use Rattle.drv_table.specs.Removals.{let_go_waiting, let_go_placed}
+use Rattle.drv_frames_content.specs.Part.{Held}
 use Rattle.ehci_driver.specs.Rooms.{HasRooms, HasFrameRooms, unreported, owed_bytes}
 use Rattle.ehci_driver.proofs.Placed.{frames_kept}
 

@@ -6,35 +6,39 @@ use Rattle.std.proofs.lemmas.List.{get_or-set_other}
 use Rattle.word_mem.specs.Memory.{Mem, IsShaped, word_at, state_at, with_word}
 use Rattle.word_mem.specs.declared.blocks.BlockState.TheVariants.{Free}
 use Rattle.word_mem.proofs.Filled.{length-filled, slice_get-filled_inside, slice_get-filled_before, slice_get-filled_after, get_or-filled_before, get_or-filled_after}
-use Rattle.run_book.specs.Book.{Book, Holding, holding, Stands, store, slot_of, slot_at, lend_slot, lend_runs, none_taken, release_slot, release_run, can_store}
-use Rattle.run_book.specs.declared.slots.Slot.{Slot}
-use Rattle.run_book.specs.declared.slots.Slot.TheVariants.{Empty, Keeps, Lends}
-use Rattle.run_book.proofs.Standing.{stands_released, within_lent}
-use Rattle.periodic_list.specs.declared.work.Store.{Store}
-use Rattle.periodic_list.specs.Periodic.{Periodic, next_store}
-use Rattle.periodic_rows.specs.declared.content.DescriptorNote.{DescriptorNote}
-use Rattle.periodic_rows.specs.declared.content.Removed.{Removed}
-use Rattle.periodic_rows.specs.declared.content.Removed.TheVariants as removed
-use Rattle.periodic_rows.specs.Periodic.{descriptor_member, note_at as periodic_note}
-use Rattle.periodic_rows.specs.Linking.{new_link}
-use Rattle.driver_rows.specs.declared.content.Endpoint.{Endpoint}
-use Rattle.driver_rows.specs.declared.content.Transfer.{Transfer}
-use Rattle.driver_rows.specs.declared.content.QtdNote.{QtdNote}
-use Rattle.driver_rows.specs.declared.content.Command.{Command}
-use Rattle.driver_rows.specs.declared.content.Command.TheVariants as unfinished
-use Rattle.driver_rows.specs.declared.rows.DriverRow.{DriverRow}
-use Rattle.driver_rows.specs.declared.rows.DriverRow.TheVariants as rows
-use Rattle.driver_rows.specs.Harvests.{note_at}
-use Rattle.driver_rows.specs.DriverContent.{DriverContent, waits_for}
-use Rattle.driver_rows.specs.Rows.{Parts, after_driver_row, after_transfer, after_endpoint, freed_by, free_runs, free_qtd, free_qtds, free_transfers, free_endpoint, is_held_of, is_iso, linked_descriptors, linked_by, stored_link, descriptor_leaving, after_unlink, free_descriptor, free_descriptors, free_placed, after_descriptor, after_placed, after_removed}
+use Rattle.mem_runs.specs.Book.{Book, Holding, holding, Stands, store, slot_of, slot_at, lend_slot, lend_runs, none_taken, release_slot, release_run, can_store}
+use Rattle.mem_runs.specs.declared.slots.Slot.{Slot}
+use Rattle.mem_runs.specs.declared.slots.Slot.TheVariants.{Empty, Lends}
+use Rattle.mem_runs.proofs.Standing.{stands_released, within_lent}
+use Rattle.drv_periodic.specs.declared.work.Store.{Store}
+use Rattle.drv_periodic.specs.Periodic.{Periodic, next_store}
+use Rattle.drv_periodic_table.specs.declared.content.DescriptorNote.{DescriptorNote}
+use Rattle.drv_periodic_table.specs.declared.content.Removed.{Removed}
+use Rattle.drv_periodic_table.specs.declared.content.Removed.TheVariants as removed
+use Rattle.drv_periodic_table.specs.Periodic.{descriptor_member, note_at as periodic_note}
+use Rattle.drv_periodic_table.specs.Linking.{new_link}
+use Rattle.drv_table.specs.declared.content.Endpoint.{Endpoint}
+use Rattle.drv_table.specs.declared.content.Transfer.{Transfer}
+use Rattle.drv_table.specs.declared.content.QtdNote.{QtdNote}
+use Rattle.drv_table.specs.declared.content.Command.{Command}
+use Rattle.drv_table.specs.declared.content.Command.TheVariants as unfinished
+use Rattle.drv_table.specs.declared.rows.DriverRow.{DriverRow}
+use Rattle.drv_table.specs.declared.rows.DriverRow.TheVariants as rows
+use Rattle.drv_table.specs.Harvests.{note_at}
+use Rattle.drv_table.specs.DriverContent.{DriverContent, waits_for}
+use Rattle.drv_table.specs.Parts.{Parts}
+use Rattle.drv_table.specs.Rows.{after_driver_row}
+use Rattle.drv_table.specs.Releases.{after_transfer, after_endpoint, freed_by, free_runs, free_qtd, free_qtds, free_transfers, free_endpoint, is_held_of}
+use Rattle.drv_table.specs.Kinds.{is_iso}
+use Rattle.drv_table.specs.FrameChoice.{linked_descriptors, linked_by}
+use Rattle.drv_table.specs.Removals.{stored_link, descriptor_leaving, after_unlink, free_descriptor, free_descriptors, free_placed, after_descriptor, after_placed, after_removed}
 use Rattle.ehci_driver.specs.Written.{OnlyStores, is_word, links_at, command_links_at, link_at, unlinks_at}
 
 -- ---- lending
 
 lent_slot : (h : Holding) (b : ℕ) (s : Slot) → (lend_slot h b s).memory.words ≡ h.memory.words
 lent_slot h b Empty = refl
-lent_slot h b (Keeps r) = refl
-lent_slot h b (Lends r) = refl
+lent_slot h b _ = refl
 
 lent_runs : (h : Holding) (bs : List ℕ) → (lend_runs h bs).memory.words ≡ h.memory.words
 unfolding lend_runs
@@ -70,8 +74,6 @@ freed_both h g k one two = record {
 }
 
 freed_slot : (h : Holding) (b : ℕ) (s : Slot) → Stands h → IsShaped h.memory → slot_of h.book.slots b ≡ s → Freed h (release_slot h b s)
-freed_slot h b Empty stands shape there = freed_nothing h stands shape
-freed_slot h b (Keeps r) stands shape there = freed_nothing h stands shape
 freed_slot h b (Lends r) stands shape there =
     let m = h.memory in
     let fits = within_lent h b r stands there in
@@ -101,6 +103,7 @@ freed_slot h b (Lends r) stands shape there =
         eight_each = omega (arith, words, states, shape.eight_each);
       };
     }
+freed_slot h b _ stands shape there = freed_nothing h stands shape
 
 freed_run : (h : Holding) (b : ℕ) → Stands h → IsShaped h.memory → Freed h (release_run h b)
 freed_run h b stands shape = freed_slot h b (slot_at h b) stands shape refl
@@ -165,13 +168,8 @@ linked_apart k list notes (t ∷ ts) m at apart =
     ∙ written (can_store (slot_of k.slots t.first) (32 * t.first)) m (32 * t.first) v at (first_off (is_word (32 * t.first) at) (links_at ts at) apart)
 
 command_apart : (d : DriverContent) (m : Mem) (o : Option Command) (at : ℕ) → command_links_at d o at ≡ false → word_at (linked_by d m o) at ≡ word_at m at
-command_apart d m None at apart = refl
-command_apart d m (Some (unfinished.Open queue)) at apart = refl
-command_apart d m (Some (unfinished.Publish b words)) at apart = refl
-command_apart d m (Some (unfinished.Unlink e b link)) at apart = refl
-command_apart d m (Some unfinished.Chain) at apart = refl
-command_apart d m (Some (unfinished.Unchain e)) at apart = refl
 command_apart d m (Some (unfinished.Iso e t count)) at apart = linked_apart d.book d.periodic.list d.periodic.notes (take count (drop t d.transfers)) m at apart
+command_apart d m _ at apart = refl
 
 stored_apart : (k : Book) (m : Mem) (o : Option Store) (at : ℕ) → link_at o at ≡ false → word_at (stored_link k m o) at ≡ word_at m at
 stored_apart k m None at apart = refl
@@ -230,16 +228,10 @@ row_words (rows.Store b to v) p stands shape at apart busy = written (can_store 
 row_words (rows.Mend w) p stands shape at apart busy = written (can_store (slot_of p.driver.book.slots w.queue) w.at) p.memory w.at w.value at apart
 row_words (rows.ReleaseTransfer t) p stands shape at apart busy = transfer_words p t (slice_get p.driver.transfers t) stands shape at busy
 row_words (rows.ReleaseEndpoint e) p stands shape at apart busy = endpoint_words p e (slice_get p.driver.endpoints e) stands shape at busy
-row_words rows.ClearAdvance p stands shape at apart busy = refl
-row_words rows.RingBell p stands shape at apart busy = refl
-row_words (rows.ReadStatus heard) p stands shape at apart busy = refl
-row_words (rows.Harvest e t found) p stands shape at apart busy = refl
-row_words rows.Frames p stands shape at apart busy = refl
 row_words rows.LendDescriptors p stands shape at apart busy =
     let m = linked_by p.driver p.memory p.driver.command in
     let h = holding p.driver.book m in
     ap (λ ws. slice_index ws (at / 4)) (lent_runs (none_taken h) (reverse h.book.taken)) ∙ command_apart p.driver p.memory p.driver.command at apart
 row_words (rows.Unlink t) p stands shape at apart busy = unlink_apart p t (slice_get p.driver.transfers t) at apart
 row_words (rows.ReleaseRemoved what) p stands shape at apart busy = removed_words p what stands shape at busy
-row_words (rows.ReadFrame n) p stands shape at apart busy = refl
-row_words rows.Rest p stands shape at apart busy = refl
+row_words _ p stands shape at apart busy = refl

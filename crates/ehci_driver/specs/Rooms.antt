@@ -8,10 +8,10 @@
 use Rattle.std.specs.Prelude.{ℕ, ◌+◌, ◌*◌, ◌≤◌, ◌<◌, not, ◌&&◌, List, length, sum_by, if◌then◌else◌}
 use Rattle.std.specs.List.{AllByRecursion}
 use Rattle.bandwidth.specs.declared.placements.Placed.{Placed}
-use Rattle.periodic_part.specs.Part.{Held}
-use Rattle.driver_rows.specs.declared.content.Endpoint.{Endpoint}
-use Rattle.driver_rows.specs.declared.content.Transfer.{Transfer}
-use Rattle.driver_rows.specs.declared.content.Reserve.{Reserve}
+use Rattle.drv_frames_content.specs.Part.{Held}
+use Rattle.drv_table.specs.declared.content.Endpoint.{Endpoint}
+use Rattle.drv_table.specs.declared.content.Transfer.{Transfer}
+use Rattle.drv_table.specs.declared.content.Reserve.{Reserve}
 
 abbrev pub unreported : List Transfer → ℕ
 unreported ts = sum_by (λ t. if t.reported then 0 else 1) ts

@@ -21,23 +21,26 @@ use Rattle.usb_base.specs.declared.reports.OfferError.{OfferError}
 use Rattle.usb_base.specs.declared.reports.What.TheVariants.{Refused}
 use Rattle.word_mem.specs.Memory.{Mem}
 use Rattle.qh_qtd.specs.Qtd.{qtd_words}
-use Rattle.run_book.specs.Book.{Book, holding, store_words}
+use Rattle.mem_runs.specs.Book.{Book, holding, store_words}
 use Rattle.bandwidth.specs.Admission.{answer}
-use Rattle.periodic_rows.specs.Periodic.{want_of}
-use Rattle.driver_rows.specs.declared.content.Endpoint.{Endpoint}
-use Rattle.driver_rows.specs.declared.content.Transfer.{Transfer}
-use Rattle.driver_rows.specs.declared.content.QtdNote.{QtdNote}
-use Rattle.driver_rows.specs.declared.content.Slots.{Slots}
-use Rattle.driver_rows.specs.declared.content.Sort.{Sort}
-use Rattle.driver_rows.specs.declared.content.Sort.TheVariants as sorts
-use Rattle.driver_rows.specs.declared.content.Stage.{Stage}
-use Rattle.driver_rows.specs.declared.content.Command.TheVariants as unfinished
-use Rattle.driver_rows.specs.DriverContent.{DriverContent, endpoint_of, endpoint_named}
-use Rattle.driver_rows.specs.Words.{needs, dummy_qtd, get_stages, put_stages, request_stages, request_length}
-use Rattle.driver_rows.specs.Harvests.{note_at}
-use Rattle.driver_rows.specs.Offers.{Offered, Asked, take_runs, taken_transfer, accepted_transfer, note_stages, write_stages, send_stages, with_queued, with_transfer, new_endpoint, planned_open, offered_cancel, offered_iso, taken_iso, iso_needs, entered_iso, all_descriptors, total_of}
-use Rattle.driver_words.specs.declared.cuts.Cut.{Cut}
-use Rattle.driver_words.specs.Cuts.{stages_of}
+use Rattle.drv_periodic_table.specs.Periodic.{want_of}
+use Rattle.drv_table.specs.declared.content.Endpoint.{Endpoint}
+use Rattle.drv_table.specs.declared.content.Transfer.{Transfer}
+use Rattle.drv_table.specs.declared.content.QtdNote.{QtdNote}
+use Rattle.drv_table.specs.declared.content.Slots.{Slots}
+use Rattle.drv_table.specs.declared.content.Sort.{Sort}
+use Rattle.drv_table.specs.declared.content.Sort.TheVariants as sorts
+use Rattle.drv_table.specs.declared.content.Stage.{Stage}
+use Rattle.drv_table.specs.declared.content.Command.TheVariants as unfinished
+use Rattle.drv_table.specs.DriverContent.{DriverContent, endpoint_of, endpoint_named}
+use Rattle.drv_table.specs.Words.{needs, dummy_qtd, get_stages, put_stages, request_stages, request_length}
+use Rattle.drv_table.specs.Harvests.{note_at}
+use Rattle.drv_table.specs.Accepting.{Offered, take_runs}
+use Rattle.drv_table.specs.Offers.{Asked, taken_transfer, accepted_transfer, note_stages, write_stages, send_stages, with_queued, with_transfer, new_endpoint, planned_open}
+use Rattle.drv_table.specs.CancelOffers.{offered_cancel}
+use Rattle.drv_table.specs.IsoOffers.{offered_iso, taken_iso, iso_needs, entered_iso, all_descriptors, total_of}
+use Rattle.drv_words.specs.declared.cuts.Cut.{Cut}
+use Rattle.drv_words.specs.Cuts.{stages_of}
 
 abbrev pub standing : DriverContent → Mem → Offered
 standing d m = record { driver = d; memory = m }

@@ -9,13 +9,17 @@ use Rattle.usb_base.specs.declared.reports.What.{What}
 use Rattle.usb_base.specs.declared.reports.What.TheVariants.{Cancel}
 use Rattle.op_registers.specs.RegisterFile.{RegisterFile}
 use Rattle.word_mem.specs.Memory.{Mem}
-use Rattle.driver_rows.specs.declared.content.Endpoint.{Endpoint}
-use Rattle.driver_rows.specs.declared.content.Transfer.{Transfer}
-use Rattle.driver_rows.specs.declared.rows.DriverRow.{DriverRow}
-use Rattle.driver_rows.specs.declared.rows.DriverRow.TheVariants as rows
-use Rattle.driver_rows.specs.DriverContent.{DriverContent}
-use Rattle.driver_rows.specs.Harvests.{reported}
-use Rattle.driver_rows.specs.Rows.{Parts, driver_row, after_driver_row, first_row, removal_row, bell_row, told_with, cancelled_bytes}
+use Rattle.drv_table.specs.declared.content.Endpoint.{Endpoint}
+use Rattle.drv_table.specs.declared.content.Transfer.{Transfer}
+use Rattle.drv_table.specs.declared.rows.DriverRow.{DriverRow}
+use Rattle.drv_table.specs.declared.rows.DriverRow.TheVariants as rows
+use Rattle.drv_table.specs.DriverContent.{DriverContent}
+use Rattle.drv_table.specs.Harvests.{reported}
+use Rattle.drv_table.specs.Parts.{Parts}
+use Rattle.drv_table.specs.Rows.{driver_row, after_driver_row}
+use Rattle.drv_table.specs.Leaving.{first_row, removal_row, bell_row}
+use Rattle.drv_table.specs.Harvesting.{told_with}
+use Rattle.drv_table.specs.Releases.{cancelled_bytes}
 
 abbrev pub parts : DriverContent → RegisterFile → Mem → Parts
 parts d r m = record { driver = d; registers = r; memory = m }

@@ -5,15 +5,15 @@ use Rattle.std.specs.Prelude.{◌≡◌, ◌≢◌, ℕ, ◌*◌, ◌/◌, ◌==
 use Rattle.std.specs.List.{list_any}
 use Rattle.word_mem.specs.Memory.{Mem, word_at, state_at}
 use Rattle.word_mem.specs.declared.blocks.BlockState.TheVariants.{Free}
-use Rattle.periodic_list.specs.declared.work.Store.{Store}
-use Rattle.periodic_list.specs.Periodic.{next_store}
-use Rattle.driver_rows.specs.declared.content.Transfer.{Transfer}
-use Rattle.driver_rows.specs.declared.content.Command.{Command}
-use Rattle.driver_rows.specs.declared.content.Command.TheVariants as unfinished
-use Rattle.driver_rows.specs.declared.rows.DriverRow.{DriverRow}
-use Rattle.driver_rows.specs.declared.rows.DriverRow.TheVariants as rows
-use Rattle.driver_rows.specs.DriverContent.{DriverContent}
-use Rattle.driver_rows.specs.Rows.{descriptor_leaving}
+use Rattle.drv_periodic.specs.declared.work.Store.{Store}
+use Rattle.drv_periodic.specs.Periodic.{next_store}
+use Rattle.drv_table.specs.declared.content.Transfer.{Transfer}
+use Rattle.drv_table.specs.declared.content.Command.{Command}
+use Rattle.drv_table.specs.declared.content.Command.TheVariants as unfinished
+use Rattle.drv_table.specs.declared.rows.DriverRow.{DriverRow}
+use Rattle.drv_table.specs.declared.rows.DriverRow.TheVariants as rows
+use Rattle.drv_table.specs.DriverContent.{DriverContent}
+use Rattle.drv_table.specs.Removals.{descriptor_leaving}
 
 abbrev pub is_word : ℕ → ℕ → Bool
 is_word to at = at / 4 == to / 4

@@ -1,7 +1,7 @@
-use driver_endpoints::Endpoints;
-use driver_rows::{Bell, Command, Mend, QtdNote, Reserve, Transfer, Turn};
-use periodic_part::PeriodicPart;
-use run_book::RunBook;
+use drv_endpoints::Endpoints;
+use drv_frames_content::PeriodicPart;
+use drv_table::{Bell, Command, Mend, QtdNote, Reserve, Transfer, Turn};
+use mem_runs::RunBook;
 use std::collections::VecDeque;
 use std::marker::Model;
 use usb_base::Report;
@@ -30,7 +30,7 @@ pub struct Driver {
 }
 
 impl Model for Driver {
-    ghost use Rattle.driver_rows.specs.DriverContent.{DriverContent};
+    ghost use Rattle.drv_table.specs.DriverContent.{DriverContent};
     ghost use Rattle.ehci_driver.specs.Rooms.{HasRooms, HasFrameRooms};
     ghost use Rattle.std.specs.VecDeque.{deque_len, deque_capacity};
     ghost use Rattle.std.specs.Prelude.{vec_len, vec_capacity};

@@ -1,15 +1,17 @@
 ghost use Rattle.std.specs.Prelude.{◌≡◌, ◌≤◌, ◌+◌, false, slice_get, drop, [], ◌++◌};
 ghost use Rattle.std.specs.VecDeque.{deque_len, deque_capacity};
-ghost use Rattle.run_book.specs.Book.{holding, Stands, lend_taken, store};
+ghost use Rattle.mem_runs.specs.Book.{holding, Stands, lend_taken, store};
 ghost use Rattle.op_registers.specs.Table.{after_write};
-ghost use Rattle.driver_rows.specs.Rows.{driver_row, after_driver_row, step_of, advance, doorbell_command, bell_after, finished, leave_ring};
+ghost use Rattle.drv_table.specs.Rows.{driver_row, after_driver_row, step_of};
+ghost use Rattle.drv_table.specs.Commands.{advance, finished, leave_ring};
+ghost use Rattle.drv_table.specs.Leaving.{doorbell_command, bell_after};
 ghost use Rattle.ehci_driver.specs.Makes.{CanMake};
 ghost use Rattle.ehci_driver.specs.Turns.{parts, after_event};
 ghost use Rattle.ehci_driver.specs.Written.{OnlyStores};
 
 use crate::driver::Driver;
-use driver_endpoints::{event_count, links};
-use driver_rows::{Bell, Command, DriverRow, DriverStep, Endpoint, Found, Mend, Transfer, Turn};
+use drv_endpoints::{event_count, links};
+use drv_table::{Bell, Command, DriverRow, DriverStep, Endpoint, Found, Mend, Transfer, Turn};
 use op_registers::Registers;
 use std::collections::VecDeque;
 use word_mem::WordMem;
@@ -56,19 +58,33 @@ impl Driver {
         ensures stands { Stands (holding self.new.book mem.new) }
     {
         match row {
+            // Before its first store: the controller may follow the new link at once (EHCI 1.0, 4.8.1).
             DriverRow::Lend => self.lend(mem),
+            // A word at a time, the one that gives the structure last (EHCI 1.0, 4.8.1 and 4.10.2).
             DriverRow::Store(block, at, value) => self.store_word(mem, block, at, value),
+            // The overlay of a halted queue is the driver's (EHCI 1.0, 4.10.3).
             DriverRow::Mend(mend) => self.mend(mem, mend),
+            // Its qTDs are retired, and the overlay has left them (EHCI 1.0, 4.10.4).
             DriverRow::ReleaseTransfer(t) => self.release_transfer(mem, t),
+            // Only after the doorbell was answered (EHCI 1.0, 4.8.2).
             DriverRow::ReleaseEndpoint(e) => self.release_endpoint(mem, e),
+            // So that the next answer can be told from this one (EHCI 1.0, 2.3.2).
             DriverRow::ClearAdvance => self.clear_advance(regs),
+            // The controller is asked to let go of what left the ring (EHCI 1.0, 4.8.2).
             DriverRow::RingBell => self.ring_bell(regs),
+            // Whether it has let go (EHCI 1.0, 4.8.2).
             DriverRow::ReadStatus(heard) => self.read_status(heard),
+            // A token that isn't active is the driver's again (EHCI 1.0, 3.5.3).
             DriverRow::Harvest(e, t, found) => self.harvest(mem, e, t, found),
+            // Frames far enough ahead that the controller hasn't read their elements (EHCI 1.0, 4.7).
             DriverRow::Frames => self.give_frames(regs.frame_index()),
+            // Their links are written first, since one store of a frame's chain gives them (EHCI 1.0, 4.6).
             DriverRow::LendDescriptors => self.lend_descriptors(mem),
+            // One store, so that each frame's chain is whole at each moment (EHCI 1.0, 4.6).
             DriverRow::Unlink(t) => self.unlink(mem, t),
+            // The frame in which the controller may have had it is over (EHCI 1.0, 4.6).
             DriverRow::ReleaseRemoved(what) => self.release_removed(mem, what),
+            // The frame list has no doorbell: FRINDEX tells when a frame is over (EHCI 1.0, 2.3.4).
             DriverRow::ReadFrame(frindex) => self.read_frame(frindex),
             DriverRow::Rest => {}
         }

@@ -1,16 +1,15 @@
 ghost use Rattle.std.specs.Prelude.{◌≡◌, ◌≤◌, take, drop, slice_get, Some};
-ghost use Rattle.run_book.specs.Book.{holding, Stands, lend_taken};
-ghost use Rattle.driver_rows.specs.Offers.{accepted_unchain, with_cancel, endpoint_members};
-ghost use Rattle.driver_rows.specs.Rows.{framed_by, framed_notes, with_notes, placement_at, linked_by, advance, linked_on, or_finished, leave_frames};
+ghost use Rattle.mem_runs.specs.Book.{holding, Stands, lend_taken};
+ghost use Rattle.drv_table.specs.CancelOffers.{accepted_unchain, with_cancel, endpoint_members};
+ghost use Rattle.drv_table.specs.FrameChoice.{framed_by, framed_notes, with_notes, placement_at, linked_by};
+ghost use Rattle.drv_table.specs.Commands.{advance, linked_on, or_finished, leave_frames};
 
 use crate::driver::Driver;
 use bandwidth::Placement;
-use driver_endpoints::{event_count, or_cancel, removes_members};
-use driver_frames::{
-    give_frames, go_on, of_command, queue_descriptors, queue_leaving, write_links,
-};
-use driver_rows::{Command, Endpoint};
-use periodic_rows::Removed;
+use drv_endpoints::{event_count, or_cancel, removes_members};
+use drv_frames::{give_frames, go_on, of_command, queue_descriptors, queue_leaving, write_links};
+use drv_periodic_table::Removed;
+use drv_table::{Command, Endpoint};
 use word_mem::WordMem;
 
 impl Driver {

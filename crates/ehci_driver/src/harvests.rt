@@ -1,11 +1,11 @@
 ghost use Rattle.std.specs.Prelude.{◌≡◌, ◌≤◌, ◌<◌, ◌+◌, ◌-◌, ◌^◌, length, slice_get, false, Some};
-ghost use Rattle.driver_rows.specs.Harvests.{noted, end_of, is_stall};
-ghost use Rattle.driver_rows.specs.Rows.{after_harvest, harvested_as, served, moved_on, after_end, goes_on, stalled, behind, behind_one};
+ghost use Rattle.drv_table.specs.Harvests.{noted, end_of, is_stall};
+ghost use Rattle.drv_table.specs.Harvesting.{after_harvest, harvested_as, served, moved_on, after_end, goes_on, stalled, behind, behind_one};
 ghost use Rattle.ehci_driver.specs.Turns.{told_now};
 
 use crate::driver::Driver;
-use driver_harvests::{end_cause, next_waiting, owe_stores, report, tells_stall, waits_at};
-use driver_rows::{Endpoint, Found, QtdNote, Transfer, Turn};
+use drv_harvests::{end_cause, next_waiting, owe_stores, report, tells_stall, waits_at};
+use drv_table::{Endpoint, Found, QtdNote, Transfer, Turn};
 use usb_base::{EndCause, EpName, Report, What};
 use word_mem::WordMem;
 

@@ -2,8 +2,8 @@
 //! controller has done, and gives back what has left.
 //!
 //! `Driver::offer` accepts a command or refuses it, and `Driver::step` makes one event. A contract sees the driver as the content of
-//! `driver_rows`, specs/DriverContent.antt; what an accepted command leaves is `offered`, and each event is one row (its specs/Rows.antt).
-//! Beside it stand `run_book`, which has its runs of blocks, `periodic_part`, which has the plan and the frame list, and
+//! `drv_table`, specs/DriverContent.antt; what an accepted command leaves is `offered`, and each event is one row (its specs/Rows.antt).
+//! Beside it stand `mem_runs`, which has its runs of blocks, `drv_frames_content`, which has the plan and the frame list, and
 //! `word_mem`, whose words it shares with the controller.
 #![tactic(auto)]
 
@@ -21,4 +21,4 @@ mod told;
 mod transfers;
 
 pub use driver::Driver;
-pub use driver_rows::{DriverStep, Reserve};
+pub use drv_table::{DriverStep, Reserve};

@@ -1,16 +1,18 @@
 ghost use Rattle.std.specs.Prelude.{◌≡◌, ◌≤◌, ◌<◌, length, slice_get, Some, Ok, Err, IfOk, IfErr, [], ◌∷◌};
 ghost use Rattle.word_mem.specs.Memory.{Mem};
-ghost use Rattle.run_book.specs.Book.{holding, Stands};
-ghost use Rattle.driver_rows.specs.DriverContent.{endpoint_named};
-ghost use Rattle.driver_rows.specs.Words.{queue_head_link};
-ghost use Rattle.driver_rows.specs.Offers.{offered, offered_next, offered_open, taken_open, take_runs, cancelled_by, accepted_cancel, before, after, written_open, newest_of, IsOpened, IsOffered};
+ghost use Rattle.mem_runs.specs.Book.{holding, Stands};
+ghost use Rattle.drv_table.specs.DriverContent.{endpoint_named};
+ghost use Rattle.drv_table.specs.Words.{queue_head_link};
+ghost use Rattle.drv_table.specs.Offers.{offered, offered_next, offered_open, taken_open, written_open, IsOpened, IsOffered};
+ghost use Rattle.drv_table.specs.Accepting.{take_runs, before, after, newest_of};
+ghost use Rattle.drv_table.specs.CancelOffers.{cancelled_by, accepted_cancel};
 ghost use Rattle.ehci_driver.specs.Standing.{standing, opened_at, cancel_answer};
 
 use crate::driver::Driver;
-use driver_endpoints::{not_again, or_cancel};
-use driver_queues::{newest, oldest, take_endpoint, write_endpoint};
-use driver_rows::{Command, Endpoint};
-use periodic_part::is_in_frames;
+use drv_endpoints::{not_again, or_cancel};
+use drv_frames_content::is_in_frames;
+use drv_queues::{newest, oldest, take_endpoint, write_endpoint};
+use drv_table::{Command, Endpoint};
 use usb_base::{Cmd, EndCause, EpDesc, EpName, OfferError};
 use word_mem::WordMem;
 
@@ -60,6 +62,12 @@ impl Driver {
                 seed,
             } => self.offer_iso(name, *count, *len, *seed, mem),
             Cmd::Cancel(name) => self.offer_cancel(name),
+            Cmd::Clear(_)
+            | Cmd::Reset(_)
+            | Cmd::Give(_)
+            | Cmd::DiskRead { .. }
+            | Cmd::DiskWrite { .. }
+            | Cmd::Revive(_) => Err(OfferError::NoEndpoint),
         }
     }
 

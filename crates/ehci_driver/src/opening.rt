@@ -1,18 +1,18 @@
 ghost use Rattle.std.specs.Prelude.{◌≡◌, ◌≤◌, ◌/◌, length, replicate, [], IfOk, IfErr};
 ghost use Rattle.word_mem.specs.Memory.{fresh};
 ghost use Rattle.op_registers.specs.RegisterFile.{reset_file};
-ghost use Rattle.run_book.specs.Book.{holding, Stands};
-ghost use Rattle.run_book.specs.declared.slots.Slot.TheVariants.{Empty};
-ghost use Rattle.driver_rows.specs.DriverContent.{new_driver};
-ghost use Rattle.driver_rows.specs.Opening.{opening_book, opening_memory, opening_registers};
+ghost use Rattle.mem_runs.specs.Book.{holding, Stands};
+ghost use Rattle.mem_runs.specs.declared.slots.Slot.TheVariants.{Empty};
+ghost use Rattle.drv_table.specs.DriverContent.{new_driver};
+ghost use Rattle.drv_table.specs.Opening.{opening_book, opening_memory, opening_registers};
 
 use crate::driver::Driver;
-use driver_endpoints::Endpoints;
-use driver_queues::open_ring;
-use driver_rows::{Bell, QtdNote, Reserve, Turn};
+use drv_endpoints::Endpoints;
+use drv_frames_content::PeriodicPart;
+use drv_queues::open_ring;
+use drv_table::{Bell, QtdNote, Reserve, Turn};
+use mem_runs::RunBook;
 use op_registers::Registers;
-use periodic_part::PeriodicPart;
-use run_book::RunBook;
 use std::alloc::Global;
 use std::collections::VecDeque;
 use usb_base::Memory;

@@ -1,20 +1,20 @@
 ghost use Rattle.std.specs.Prelude.{◌≡◌, ◌≤◌, ◌*◌, drop, slice_get, Some, Ok, Err, IfOk, IfErr, true};
-ghost use Rattle.run_book.specs.Book.{holding, Stands};
+ghost use Rattle.mem_runs.specs.Book.{holding, Stands};
 ghost use Rattle.bandwidth.specs.Placements.{IsWant};
-ghost use Rattle.periodic_rows.specs.Periodic.{want_of, is_periodic};
-ghost use Rattle.periodic_rows.specs.Descriptors.{slot_limit};
-ghost use Rattle.driver_rows.specs.Rows.{is_iso};
-ghost use Rattle.driver_frames.specs.Places.{started};
+ghost use Rattle.drv_periodic_table.specs.Periodic.{want_of, is_periodic};
+ghost use Rattle.drv_periodic_table.specs.Descriptors.{slot_limit};
+ghost use Rattle.drv_table.specs.Kinds.{is_iso};
+ghost use Rattle.drv_frames.specs.Places.{started};
 ghost use Rattle.ehci_driver.specs.Standing.{standing, plan_answer, iso_answer, taken_descriptors, entered_descriptors};
 
 use crate::driver::Driver;
-use driver_endpoints::{is_isochronous, or_first};
-use driver_frames::{
+use drv_endpoints::{is_isochronous, or_first};
+use drv_frames::{
     blocks_from, new_placed, place_endpoint, room_for_descriptors, spans_too_long,
     write_descriptors,
 };
-use driver_rows::{Command, Endpoint, Slots};
-use iso_queues::{slots_of, take_descriptors, total_bytes};
+use drv_iso::{slots_of, take_descriptors, total_bytes};
+use drv_table::{Command, Endpoint, Slots};
 use usb_base::{EpDesc, EpKind, EpName, OfferError};
 use word_mem::WordMem;
 

@@ -1,15 +1,16 @@
 ghost use Rattle.std.specs.Prelude.{◌≡◌, slice_get, true, false, Some};
-ghost use Rattle.run_book.specs.Book.{holding, Stands};
-ghost use Rattle.driver_rows.specs.Rows.{after_driver_row, is_told, gone_with, free_endpoint};
+ghost use Rattle.mem_runs.specs.Book.{holding, Stands};
+ghost use Rattle.drv_table.specs.Rows.{after_driver_row};
+ghost use Rattle.drv_table.specs.Releases.{is_told, gone_with, free_endpoint};
 ghost use Rattle.op_registers.specs.RegisterFile.{RegisterFile};
-ghost use Rattle.driver_rows.specs.declared.rows.DriverRow.TheVariants.{ReleaseTransfer, ReleaseEndpoint};
+ghost use Rattle.drv_table.specs.declared.rows.DriverRow.TheVariants.{ReleaseTransfer, ReleaseEndpoint};
 ghost use Rattle.ehci_driver.specs.Turns.{parts, told_cancel};
 
 use crate::driver::Driver;
-use driver_harvests::{
+use drv_harvests::{
     free_qtds_from, free_runs_at, free_transfers_of, is_told_at_release, let_all_go, report_cancel,
 };
-use driver_rows::{Endpoint, Transfer, Turn};
+use drv_table::{Endpoint, Transfer, Turn};
 use word_mem::WordMem;
 
 impl Driver {

@@ -1,18 +1,20 @@
 ghost use Rattle.std.specs.Prelude.{◌≡◌, ◌≤◌, length, slice_get, true, false, Some};
 ghost use Rattle.op_registers.specs.RegisterFile.{RegisterFile};
-ghost use Rattle.run_book.specs.Book.{holding, Stands};
-ghost use Rattle.periodic_rows.specs.Periodic.{read_again};
-ghost use Rattle.driver_rows.specs.Rows.{descriptor_told, after_unlink, after_removed, after_descriptor, after_placed, free_placed, removed_with, is_told};
+ghost use Rattle.mem_runs.specs.Book.{holding, Stands};
+ghost use Rattle.drv_periodic_table.specs.Periodic.{read_again};
+ghost use Rattle.drv_table.specs.Harvesting.{descriptor_told};
+ghost use Rattle.drv_table.specs.Removals.{after_unlink, after_removed, after_descriptor, after_placed, free_placed, removed_with};
+ghost use Rattle.drv_table.specs.Releases.{is_told};
 ghost use Rattle.ehci_driver.specs.Turns.{parts, told_cancel};
 
 use crate::driver::Driver;
-use driver_endpoints::is_isochronous;
-use driver_frames::{
+use drv_endpoints::is_isochronous;
+use drv_frames::{
     free_descriptor, free_placed, let_placed_go, report_descriptor, unlink_descriptor,
 };
-use driver_harvests::{is_told_at_release, next_waiting, report_cancel};
-use driver_rows::{Endpoint, Transfer, Turn};
-use periodic_rows::Removed;
+use drv_harvests::{is_told_at_release, next_waiting, report_cancel};
+use drv_periodic_table::Removed;
+use drv_table::{Endpoint, Transfer, Turn};
 use word_mem::WordMem;
 
 impl Driver {

@@ -1,14 +1,17 @@
 ghost use Rattle.std.specs.Prelude.{◌≡◌, slice_get, Some};
-ghost use Rattle.driver_rows.specs.Rows.{driver_row, next_row, link_row, leaving_row, removal_row, reading_for, removes, bell_row, harvest_row, worker_row, reading_row, next_worker, found_of, tells_advance, turn_row};
-ghost use Rattle.periodic_list.specs.Periodic.{next_store};
-ghost use Rattle.driver_rows.specs.Harvests.{note_at};
+ghost use Rattle.drv_table.specs.Rows.{driver_row, turn_row};
+ghost use Rattle.drv_table.specs.Commands.{next_row, link_row};
+ghost use Rattle.drv_table.specs.Leaving.{leaving_row, removal_row, reading_for, removes, bell_row, tells_advance};
+ghost use Rattle.drv_table.specs.Harvesting.{harvest_row, worker_row, reading_row, next_worker, found_of};
+ghost use Rattle.drv_periodic.specs.Periodic.{next_store};
+ghost use Rattle.drv_table.specs.Harvests.{note_at};
 ghost use Rattle.ehci_driver.specs.Turns.{parts, later_row};
 
 use crate::driver::Driver;
-use driver_endpoints::{event_count, links, row_of_command};
-use driver_harvests::{found, note_of, token_at};
-use driver_rows::{Bell, Command, DriverRow, Found, QtdNote, Sort, Transfer, Turn};
-use iso_queues::descriptor_found;
+use drv_endpoints::{event_count, links, row_of_command};
+use drv_harvests::{found, note_of, token_at};
+use drv_iso::descriptor_found;
+use drv_table::{Bell, Command, DriverRow, Found, QtdNote, Sort, Transfer, Turn};
 use op_registers::Registers;
 use word_mem::WordMem;
 
@@ -24,8 +27,10 @@ impl Driver {
         ensures { result ≡ driver_row (parts self.now regs.now mem.now) }
     {
         match &self.command {
+            // Its stores belong together, so no other work comes between them (EHCI 1.0, 4.8.1 and 4.10.2).
             Some(command) => self.next_row(command),
             None => match self.turn {
+                // By turns, so that neither work keeps the other waiting.
                 Turn::Leaving => self.leaving_first(regs, mem),
                 Turn::Harvest => self.harvest_first(regs, mem),
             },
@@ -80,9 +85,11 @@ impl Driver {
     fn leaving_row(&self, regs: &Registers) -> Option<DriverRow>
         ensures { result ≡ leaving_row self.now regs.now }
     {
+        // A stalled control endpoint waits for it with all its transfers (EHCI 1.0, 4.10.3; USB 2.0, 8.5.3.4).
         if let Some(mend) = self.mends.front() {
             return Some(DriverRow::Mend(*mend));
         }
+        // The controller is done with its qTDs, so no doorbell is needed (EHCI 1.0, 4.10.4).
         if let Some(t) = self.harvested.front() {
             return Some(DriverRow::ReleaseTransfer(*t));
         }
@@ -93,9 +100,11 @@ impl Driver {
     fn leaving_frames(&self, regs: &Registers) -> Option<DriverRow>
         ensures { result ≡ later_row self.now regs.now }
     {
+        // The slots are served, but the frame's chain still leads here (EHCI 1.0, 4.7.1).
         if let Some(t) = self.periodic.first_unlink() {
             return Some(DriverRow::Unlink(t));
         }
+        // Async Advance was heard: the controller holds nothing of this endpoint (EHCI 1.0, 4.8.2).
         if let Some(e) = self.cleared.front() {
             return Some(DriverRow::ReleaseEndpoint(*e));
         }
@@ -111,6 +120,7 @@ impl Driver {
     {
         match self.periodic.first_removal() {
             Some(removal) => {
+                // Until the frame is over the controller may have it in hand (EHCI 1.0, 4.6).
                 if removal.boundary.is_seen() {
                     Some(DriverRow::ReleaseRemoved(removal.what))
                 } else {
@@ -127,9 +137,12 @@ impl Driver {
     {
         match (rung, self.periodic.removes()) {
             (false, false) => None,
+            // The answer to the doorbell stands in USBSTS (EHCI 1.0, 2.3.2 and 4.8.2).
             (true, false) => Some(DriverRow::ReadStatus(reads_advance(regs))),
+            // FRINDEX tells when the frame is over (EHCI 1.0, 2.3.4).
             (false, true) => Some(DriverRow::ReadFrame(regs.frame_index())),
             (true, true) => {
+                // Both are waited for: each in turn.
                 if self.periodic.reads_status() {
                     Some(DriverRow::ReadStatus(reads_advance(regs)))
                 } else {
@@ -144,9 +157,12 @@ impl Driver {
         ensures { result ≡ bell_row self.now regs.now self.now.bell }
     {
         match self.bell {
+            // Async Advance is cleared by a 1, and only then may the doorbell be set again (EHCI 1.0, 2.3.2).
             Bell::Heard => Some(DriverRow::ClearAdvance),
+            // The doorbell isn't set again while it is unanswered (EHCI 1.0, 4.8.2).
             Bell::Rung => self.reading_for(regs, true),
             Bell::Quiet => {
+                // One doorbell for all that left the ring so far (EHCI 1.0, 4.8.2).
                 if self.waiting.is_empty() {
                     self.reading_for(regs, false)
                 } else {

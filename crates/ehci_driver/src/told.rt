@@ -1,10 +1,10 @@
 ghost use Rattle.std.specs.Prelude.{◌≡◌, ◌≤◌, ◌<◌, ◌+◌, length, count_by, slice_get, slice_range, option_and_then};
-ghost use Rattle.driver_rows.specs.DriverContent.{busy, pending, opened, ended, waits_for};
+ghost use Rattle.drv_table.specs.DriverContent.{busy, pending, opened, ended, waits_for};
 ghost use Rattle.ehci_driver.specs.Standing.{with_refusal};
 
 use crate::driver::Driver;
 use bandwidth::Plan;
-use driver_rows::{Endpoint, Reserve, Transfer};
+use drv_table::{Endpoint, Reserve, Transfer};
 use usb_base::{EndCause, EpName, OfferError, Report, What};
 
 impl Driver {

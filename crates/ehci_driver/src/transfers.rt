@@ -1,16 +1,17 @@
 ghost use Rattle.std.specs.Prelude.{◌≡◌, ◌≤◌, false, nat_eq, length, drop, slice_get, Some, None, Ok, Err, IfOk, IfErr, IfSome, IfNone, ◌++◌};
-ghost use Rattle.run_book.specs.Book.{holding, Stands};
-ghost use Rattle.driver_rows.specs.DriverContent.{endpoint_of, endpoint_named};
-ghost use Rattle.driver_rows.specs.Words.{request_length};
-ghost use Rattle.driver_rows.specs.Offers.{offered_transfer, stage_words, first_of, takes_get, takes_put, takes_control, HasRoom};
-ghost use Rattle.driver_words.specs.Cuts.{stages_of, IsCut};
+ghost use Rattle.usb_base.specs.Limits.{longest_qtd};
+ghost use Rattle.mem_runs.specs.Book.{holding, Stands};
+ghost use Rattle.drv_table.specs.DriverContent.{endpoint_of, endpoint_named};
+ghost use Rattle.drv_table.specs.Words.{request_length};
+ghost use Rattle.drv_table.specs.Offers.{offered_transfer, stage_words, first_of, takes_get, takes_put, takes_control, HasRoom};
+ghost use Rattle.drv_words.specs.Cuts.{stages_of, IsCut};
 ghost use Rattle.ehci_driver.specs.Standing.{standing, get_asked, put_asked, request_asked, cut_asked, taken_asked, new_dummy, noted_transfer, written_transfer, accepted_with, entered};
 
 use crate::driver::Driver;
-use driver_endpoints::{can_get, can_put, less_room, or_first, refusal};
-use driver_queues::{Queued, take_transfer, write_transfer};
-use driver_rows::{Command, Endpoint, Sort, Transfer};
-use driver_words::{Cut, is_for_control};
+use drv_endpoints::{can_get, can_put, less_room, or_first, refusal};
+use drv_queues::{Queued, take_transfer, write_transfer};
+use drv_table::{Command, Endpoint, Part, Sort, Transfer};
+use drv_words::{Cut, is_for_control};
 use usb_base::{EpName, OfferError};
 use word_mem::WordMem;
 
@@ -28,7 +29,7 @@ impl Driver {
         mem: &mut WordMem,
     ) -> Result<(), OfferError>
         requires some { 1 ≤ by }
-        requires few { by ≤ 20480 }
+        requires few { by ≤ longest_qtd }
         requires room { HasRoom self.old.room len }
         requires stands { Stands (holding self.old.book mem.old) }
         ensures accepted { IfOk result (λ _. offered_transfer self.old mem.old name.now takes_get (get_asked len by) ≡ Ok (standing self.new mem.new)) }
@@ -70,7 +71,7 @@ impl Driver {
         mem: &mut WordMem,
     ) -> Result<(), OfferError>
         requires some { 1 ≤ by }
-        requires few { by ≤ 20480 }
+        requires few { by ≤ longest_qtd }
         requires room { HasRoom self.old.room (length bytes.now) }
         requires stands { Stands (holding self.old.book mem.old) }
         ensures accepted { IfOk result (λ _. offered_transfer self.old mem.old name.now takes_put (put_asked bytes.now by) ≡ Ok (standing self.new mem.new)) }
@@ -229,6 +230,7 @@ impl Driver {
             most,
             reported: false,
             released: false,
+            part: Part::Own,
         };
         self.enter(e, endpoint, transfer, &queued);
     }

@@ -1,14 +1,14 @@
 //! The program `ehci_probe`: what a controller would do with an image of memory.
 //!
 //! It reads an image from standard input, lets a controller make a number of events over its words, and writes one line: its words,
-//! standard input and standard output for the top call of `probe_cli`. What it reads and writes with stands in `program_ends`.
+//! standard input and standard output for the top call of `app_probe_cli`. What it reads and writes with stands in `app_ends`.
 #![tactic(auto)]
 
 ghost use Rattle.std.specs.Process.{exit_status};
-ghost use Rattle.program_ends.specs.Ends.{ExitsBy, IsFault, IsWriteFault};
+ghost use Rattle.app_ends.specs.Ends.{ExitsBy, IsFault, IsWriteFault};
 
-use probe_cli::ehci_probe;
-use program_ends::{Status, StdSink, StdSource, ended, tell};
+use app_ends::{Status, StdSink, StdSource, ended, tell};
+use app_probe_cli::ehci_probe;
 use std::alloc::Global;
 use std::process::ExitCode;
 use std::rt::Env;

@@ -1,17 +1,17 @@
-//! The program `ehci_trace`: its words, standard input and standard output for the top call of `trace_cli`.
+//! The program `ehci_trace`: its words, standard input and standard output for the top call of `app_trace_cli`.
 //!
-//! What it reads and writes with, and the exit status of each end, stand in `program_ends`.
+//! What it reads and writes with, and the exit status of each end, stand in `app_ends`.
 #![tactic(auto)]
 
 ghost use Rattle.std.specs.Process.{exit_status};
-ghost use Rattle.program_ends.specs.Ends.{ExitsBy, IsFault, IsWriteFault};
+ghost use Rattle.app_ends.specs.Ends.{ExitsBy, IsFault, IsWriteFault};
 
-use program_ends::{Status, StdSink, StdSource, ended, tell};
+use app_ends::{Status, StdSink, StdSource, ended, tell};
+use app_trace_cli::ehci_trace;
 use std::alloc::Global;
 use std::process::ExitCode;
 use std::rt::Env;
 use std::{env, io};
-use trace_cli::ehci_trace;
 use usb_base::{Sink, Source};
 
 const USAGE: &str =

@@ -7,7 +7,7 @@ use Rattle.std.specs.Prelude.{IsTrue, filter_map}
 use Rattle.std.specs.List.{list_all}
 use Rattle.std.specs.Option.{option_to_list}
 use Rattle.script_types.specs.declared.devices.Item.{Item}
-use Rattle.script_types.specs.declared.devices.Item.TheVariants.{Bytes, Nak, Nyet, Stall, Request}
+use Rattle.script_types.specs.declared.devices.Item.TheVariants.{Bytes, Nak, Nyet, Stall, Request, Epoch}
 use Rattle.endpoint_script.specs.Items.{rest_of, is_short, is_packet, packets_of}
 
 -- one more is over
@@ -40,6 +40,7 @@ short_packets (Nak n ∷ items) h = short_packets items h
 short_packets (Nyet ∷ items) h = short_packets items h
 short_packets (Stall ∷ items) h = short_packets items h
 short_packets (Request setup bytes ∷ items) h = short_packets items h
+short_packets (Epoch ∷ items) h = short_packets items h
 
 -- ---- a list whose first n items have become f of them
 

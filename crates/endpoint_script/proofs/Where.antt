@@ -5,8 +5,8 @@ use Rattle.std.specs.Prelude.{IfSome, nat_lt, position}
 use Rattle.std.specs.List.{position_or_len}
 use Rattle.usb_base.specs.declared.packets.Way.{Way}
 use Rattle.usb_base.specs.declared.packets.Way.TheVariants as Ways
-use Rattle.control_stages.specs.declared.rows.StageToken.{StageToken}
-use Rattle.control_stages.specs.declared.rows.StageToken.TheVariants as Tokens
+use Rattle.dev_control.specs.declared.rows.StageToken.{StageToken}
+use Rattle.dev_control.specs.declared.rows.StageToken.TheVariants as Tokens
 use Rattle.endpoint_script.specs.declared.endpoint.Endpoint.{Endpoint}
 use Rattle.endpoint_script.specs.Device.{is_named, place_named, or_else, place_for, endpoint_begun}
 use Rattle.endpoint_script.specs.declared.places.Places.{Places}
@@ -33,9 +33,8 @@ within_else n (Some place) other h k = h
 pub within_for : (token : StageToken) (es : List Endpoint) (num : ℕ) → IfSome (place_for token es num) (λ place. place < length es)
 within_for Tokens.Setup es num = within_named es num Ways.Ctl
 within_for Tokens.In es num = within_else (length es) (place_named es num Ways.In) (place_named es num Ways.Ctl) (within_named es num Ways.In) (within_named es num Ways.Ctl)
-within_for Tokens.Out es num = within_else (length es) (place_named es num Ways.Out) (place_named es num Ways.Ctl) (within_named es num Ways.Out) (within_named es num Ways.Ctl)
-within_for Tokens.Ping es num = within_else (length es) (place_named es num Ways.Out) (place_named es num Ways.Ctl) (within_named es num Ways.Out) (within_named es num Ways.Ctl)
 within_for Tokens.Other es num = tt
+within_for _ es num = within_else (length es) (place_named es num Ways.Out) (place_named es num Ways.Ctl) (within_named es num Ways.Out) (within_named es num Ways.Ctl)
 
 -- ---- endpoints stay where they are as a microframe begins
 

@@ -2,8 +2,8 @@
 use Rattle.std.specs.Prelude.{ℕ, Bool, List, position, slice_get, bytes_eq, Option, Some, None, option_map}
 use Rattle.usb_base.specs.declared.packets.Ask.{Ask}
 use Rattle.usb_base.specs.declared.packets.Reply.{Reply}
-use Rattle.control_stages.specs.declared.control.Request.{Request as UnderWay}
-use Rattle.control_stages.specs.Stages.{Stages, opened, setup_of, stages_reply, stages_after, stages_acked}
+use Rattle.dev_control.specs.declared.control.Request.{Request as UnderWay}
+use Rattle.dev_control.specs.Stages.{Stages, opened, setup_of, stages_reply, stages_after, stages_acked}
 use Rattle.script_types.specs.declared.devices.Item.{Item}
 use Rattle.endpoint_script.specs.Items.{naks_of, requests_of}
 use Rattle.endpoint_script.specs.declared.control_endpoint.KnownRequest.{KnownRequest}

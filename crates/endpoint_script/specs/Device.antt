@@ -17,9 +17,9 @@ use Rattle.usb_base.specs.declared.packets.Reply.TheVariants.{Silent}
 use Rattle.usb_base.specs.declared.packets.Speed.{Speed}
 use Rattle.usb_base.specs.declared.packets.Way.{Way}
 use Rattle.usb_base.specs.declared.packets.Way.TheVariants as Ways
-use Rattle.control_stages.specs.declared.rows.StageToken.{StageToken}
-use Rattle.control_stages.specs.declared.rows.StageToken.TheVariants as Tokens
-use Rattle.control_stages.specs.Stages.{token_of}
+use Rattle.dev_control.specs.declared.rows.StageToken.{StageToken}
+use Rattle.dev_control.specs.declared.rows.StageToken.TheVariants as Tokens
+use Rattle.dev_control.specs.Stages.{token_of}
 use Rattle.script_types.specs.declared.devices.DeviceText.{DeviceText}
 use Rattle.script_types.specs.declared.devices.EpText.{EpText}
 use Rattle.endpoint_script.specs.declared.endpoint.Endpoint.{Endpoint}

@@ -5,7 +5,7 @@ use Rattle.usb_base.specs.declared.packets.Reply.{Reply}
 use Rattle.usb_base.specs.declared.packets.Reply.TheVariants as Replies
 use Rattle.script_types.specs.declared.devices.Item.{Item}
 use Rattle.script_types.specs.declared.devices.Item.TheVariants.{Bytes, Nak, Stall}
-use Rattle.control_stages.specs.Stages.{data_pid}
+use Rattle.dev_control.specs.Stages.{data_pid}
 use Rattle.endpoint_script.specs.Items.{nak_given}
 
 pub record Sending : Type 0 where

@@ -9,9 +9,9 @@ use Rattle.usb_base.specs.declared.packets.Speed.{Speed}
 use Rattle.usb_base.specs.declared.packets.Speed.TheVariants.{High}
 use Rattle.script_types.specs.declared.devices.Item.{Item}
 use Rattle.script_types.specs.declared.devices.Item.TheVariants.{Nak, Nyet, Stall}
-use Rattle.control_stages.specs.declared.rows.Sequence.{Sequence}
-use Rattle.control_stages.specs.declared.rows.Sequence.TheVariants.{Next}
-use Rattle.control_stages.specs.Stages.{sequence_of}
+use Rattle.dev_control.specs.declared.rows.Sequence.{Sequence}
+use Rattle.dev_control.specs.declared.rows.Sequence.TheVariants.{Next}
+use Rattle.dev_control.specs.Stages.{sequence_of}
 use Rattle.endpoint_script.specs.Items.{nak_given, rest_of}
 use Rattle.endpoint_script.specs.declared.rows.TakeRow.{TakeRow}
 use Rattle.endpoint_script.specs.declared.rows.TakeRow.TheVariants.{Drops, Naks, IsFull, Stalls, Takes, TakesLast, HasRoom}

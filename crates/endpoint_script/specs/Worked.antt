@@ -96,10 +96,10 @@ abbrev pub name_of : ℕ → Way → EpName
 name_of num way = record { addr = 3; num = num; way = way }
 
 abbrev pub desc_of : ℕ → Way → EpKind → ℕ → EpDesc
-desc_of num way kind multi = record { name = name_of num way; speed = High; kind = kind; max = 64; period = 8; multi = multi; hub = None; port = 0 }
+desc_of num way kind multi = record { name = name_of num way; speed = High; kind = kind; max = 64; period = 8; multi = multi; hub = None; port = 0; tt = 0 }
 
 abbrev pub text_of : ℕ → Way → EpKind → ℕ → ℕ → List Item → EpText
-text_of num way kind multi room items = record { desc = desc_of num way kind multi; items = items; room = room }
+text_of num way kind multi room items = record { desc = desc_of num way kind multi; items = items; room = room; stuff = 0; clears = 0 }
 
 abbrev pub device_of : Speed → List EpText → Device
 device_of speed eps = opening (record { addr = 3; speed = speed; eps = eps })

@@ -3,7 +3,7 @@ ghost use Rattle.std.specs.Option.{option_copied, option_to_list};
 ghost use Rattle.endpoint_script.specs.Items.{naks_of, request_in, requests_of};
 ghost use Rattle.endpoint_script.specs.Controlling.{controlling_at, has_setup, place_under, place_in, reply_at, reply_of, controlling_reply, controlling_answered, controlling_acked};
 
-use control_stages::{ControlStages, Request, StageToken, token};
+use dev_control::{ControlStages, Request, StageToken, token};
 use script_types::Item;
 use std::alloc::{AllocError, Global};
 use std::marker::Model;

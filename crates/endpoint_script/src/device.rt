@@ -5,7 +5,7 @@ ghost use Rattle.endpoint_script.specs.Device.{is_scripted, is_scripted_endpoint
 
 use crate::endpoint::Endpoint;
 use crate::places::Places;
-use control_stages::token;
+use dev_control::token;
 use script_types::{DeviceText, EpText, Item};
 use std::alloc::{AllocError, Global};
 use std::marker::Model;

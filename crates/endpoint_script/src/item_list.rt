@@ -16,6 +16,7 @@ fn copy_of(alloc: Global, item: &Item) -> Result<Item, AllocError>
         Item::Nak(n) => Ok(Item::Nak(*n)),
         Item::Nyet => Ok(Item::Nyet),
         Item::Stall => Ok(Item::Stall),
+        Item::Epoch => Ok(Item::Epoch),
         Item::Request { setup, bytes } => Ok(Item::Request {
             setup: *setup,
             bytes: ListOf::of(bytes.as_slice().to_vec(alloc)?),

@@ -2,7 +2,7 @@
 //!
 //! `Device` is built from its text. The bus calls `Device::answer` where a token and the data sent with it reached the device,
 //! and `Device::acked` where the host's ACK of the data just sent did. The rules stand in `specs/` as tables, a file for each kind
-//! of endpoint: `Sending` and `Taking` (bulk and interrupt), `Controlling` (control, over the crate `control_stages`) and
+//! of endpoint: `Sending` and `Taking` (bulk and interrupt), `Controlling` (control, over the crate `dev_control`) and
 //! `Streaming` (isochronous); `specs/Device.antt` puts them together.
 #![tactic(auto)]
 

@@ -4,7 +4,7 @@ ghost use Rattle.endpoint_script.specs.Device.{is_named, place_named, place_for,
 ghost use Rattle.endpoint_script.specs.Places.{IsIndex, ArePlaces};
 
 use crate::endpoint::Endpoint;
-use control_stages::StageToken;
+use dev_control::StageToken;
 use usb_base::{EpNum, Way};
 
 /// Where the endpoint of this number and way stands.

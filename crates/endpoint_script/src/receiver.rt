@@ -5,7 +5,7 @@ ghost use Rattle.endpoint_script.specs.Taking.{taking_at, next_row, out_row, pin
 
 use crate::item_list::ItemList;
 use crate::rows::TakeRow;
-use control_stages::{Sequence, sequence};
+use dev_control::{Sequence, sequence};
 use script_types::Item;
 use std::alloc::{AllocError, Global};
 use std::marker::Model;

@@ -4,7 +4,7 @@ ghost use Rattle.endpoint_script.specs.Items.{is_short};
 ghost use Rattle.endpoint_script.specs.Sending.{sending_at, sending_reply, sending_answered, sending_acked};
 
 use crate::item_list::ItemList;
-use control_stages::data_pid;
+use dev_control::data_pid;
 use script_types::Item;
 use std::alloc::{AllocError, Global};
 use std::marker::Model;

@@ -3,6 +3,7 @@
 use Rattle.std.specs.Prelude.{◌≡◌, ℕ, ◌+◌, ◌*◌, ◌/◌, ◌%◌, Bool, true, false, ◌&&◌, not, Option, None, Some, List, if◌then◌else◌}
 use Rattle.usb_base.specs.declared.packets.Ask.{Ask}
 use Rattle.usb_base.specs.declared.packets.Reply.{Reply}
+use Rattle.usb_base.specs.Limits.{frame_list_length, microframe_time}
 use Rattle.link_words.specs.Links.{link_read}
 use Rattle.word_mem.specs.Memory.{Mem, reaches, refused, word_at}
 use Rattle.op_registers.specs.RegisterFile.{RegisterFile}
@@ -81,12 +82,12 @@ microframe_row r c = if r.run then part_row r c.frame c.part else rows.Idle
 
 -- the time of a microframe in picoseconds, and none where the bus may not be used
 abbrev pub time_of : Bool → ℕ
-time_of true = 125000000
+time_of true = microframe_time
 time_of false = 0
 
 -- the address of the element of the frame list that a frame index names: bits 12:3 (4.4)
 abbrev pub element_address : RegisterFile → ℕ
-element_address r = r.periodic_list_base + 4 * (r.frame_index / 8 % 1024)
+element_address r = r.periodic_list_base + 4 * (r.frame_index / 8 % frame_list_length)
 
 -- the chain of the frame begins with the link of its element
 abbrev pub begun_control : ℕ → ℕ → ℕ → Control → Control

@@ -8,11 +8,9 @@ use link_words::read;
 use op_registers::Registers;
 use periodic_walk::{PeriodicState, step as walk_frame};
 use std::marker::Model;
+use usb_base::limits::{FRAME_LIST_LENGTH, MICROFRAME_TIME};
 use usb_base::{Ps, Wire};
 use word_mem::WordMem;
-
-/// The time of a microframe, in picoseconds (USB 2.0, 8.4.3.1).
-const MICROFRAME: u64 = 125_000_000;
 
 /// One event of the controller.
 #[derive(Clone, Copy, Debug, PartialEq, Eq)]
@@ -166,8 +164,12 @@ impl Controller {
         ensures refused { AreRefusalsFaults mem.old mem.new regs.new }
     {
         let index = regs.begin_microframe();
-        let left = if wire.begin(index) { MICROFRAME } else { 0 };
-        let at = regs.periodic_list_base() + 4 * (index as u32 / 8 % 1024);
+        let left = if wire.begin(index) {
+            MICROFRAME_TIME
+        } else {
+            0
+        };
+        let at = regs.periodic_list_base() + 4 * (index as u32 / 8 % FRAME_LIST_LENGTH);
         match mem.hc_read(at) {
             Some(word) => {
                 self.part = MicroframePart::Periodic;

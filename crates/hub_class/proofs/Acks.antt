@@ -2,7 +2,7 @@
 use Rattle.std.proofs.Common.{◌≡◌, ℕ, Bool, true, false, List, refl, ap, if◌then◌else◌}
 use Rattle.usb_base.specs.declared.packets.Ask.{Ask}
 use Rattle.usb_base.specs.declared.packets.Reply.{Reply}
-use Rattle.control_stages.specs.Stages.{Stages, stages_acked}
+use Rattle.dev_control.specs.Stages.{Stages, stages_acked}
 use Rattle.hub_class.specs.HubContent.{HubContent}
 use Rattle.hub_class.specs.EndpointZero.{reply_under, suits, hub_acked}
 use Rattle.hub_class.specs.Translating.{HubWorks}

@@ -1,12 +1,12 @@
 -- What requests and split asks leave of a hub's ports.
 use Rattle.std.proofs.Common.{◌≡◌, ℕ, Bool, true, false, List, Option, Some, None, length, refl, subst, sym, if◌then◌else◌}
 use Rattle.usb_base.specs.declared.packets.Ask.{Ask}
-use Rattle.control_stages.specs.Stages.{Stages, stages_after}
+use Rattle.dev_control.specs.Stages.{Stages, stages_after}
 use Rattle.hub_ports.specs.declared.rows.HubRequest.{HubRequest}
-use Rattle.hub_ports.specs.declared.rows.HubRequest.TheVariants.{HubStatus, PortStatus, ChangePort, ClearBuffer, ResetTranslator}
+use Rattle.hub_ports.specs.declared.rows.HubRequest.TheVariants.{HubStatus}
 use Rattle.hub_ports.specs.Requests.{request_of}
 use Rattle.hub_class.specs.declared.translator.SplitRow.{SplitRow}
-use Rattle.hub_class.specs.declared.translator.SplitRow.TheVariants.{BulkStart, BulkComplete, PeriodicStart, PeriodicComplete, NoSplit}
+use Rattle.hub_class.specs.declared.translator.SplitRow.TheVariants.{BulkStart}
 use Rattle.hub_class.specs.HubContent.{HubContent}
 use Rattle.hub_class.specs.Requesting.{effect_if, request_at, requested}
 use Rattle.hub_class.specs.EndpointZero.{acts_on, row_at, reply_under, acted_with, suits, hub_answered}
@@ -14,26 +14,16 @@ use Rattle.hub_class.specs.Translating.{after_split}
 
 pub split_ports : (row : SplitRow) (ask : Ask) (out : List ℕ) (h : HubContent) → (after_split row ask out h).ports ≡ h.ports
 split_ports BulkStart ask out h = refl
-split_ports BulkComplete ask out h = refl
-split_ports PeriodicStart ask out h = refl
-split_ports PeriodicComplete ask out h = refl
-split_ports NoSplit ask out h = refl
+split_ports _ ask out h = refl
 
 pub split_control : (row : SplitRow) (ask : Ask) (out : List ℕ) (h : HubContent) → (after_split row ask out h).control ≡ h.control
 split_control BulkStart ask out h = refl
-split_control BulkComplete ask out h = refl
-split_control PeriodicStart ask out h = refl
-split_control PeriodicComplete ask out h = refl
-split_control NoSplit ask out h = refl
+split_control _ ask out h = refl
 
 -- endpoint 0's own state has no part in an effect
 effect_ports : (request : Option HubRequest) (c : Stages) (h : HubContent) → (effect_if request (record h { control = c })).ports ≡ (effect_if request h).ports
-effect_ports None c h = refl
 effect_ports (Some HubStatus) c h = refl
-effect_ports (Some (PortStatus port)) c h = refl
-effect_ports (Some (ChangePort port change)) c h = refl
-effect_ports (Some (ClearBuffer key)) c h = refl
-effect_ports (Some ResetTranslator) c h = refl
+effect_ports _ c h = refl
 
 none_acted : (b : Bool) (o : Option (List ℕ)) (c : Stages) (h : HubContent) → o ≡ None → (if b then acted_with o (record h { control = c }) else h).ports ≡ h.ports
 none_acted true o c h e = subst (λ x. (acted_with x (record h { control = c })).ports ≡ h.ports) (sym e) refl

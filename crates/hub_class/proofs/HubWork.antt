@@ -2,7 +2,7 @@
 use Rattle.std.proofs.Common.{◌≡◌, ℕ, ◌-◌, List, subst, refl}
 use Rattle.usb_base.specs.declared.packets.Ask.{Ask}
 use Rattle.usb_base.specs.declared.packets.Reply.{Reply}
-use Rattle.control_stages.specs.Stages.{Stages}
+use Rattle.dev_control.specs.Stages.{Stages}
 use Rattle.hub_ports.specs.declared.port.Port.{Port}
 use Rattle.tt_bulk.specs.Contents.{TwoBuffers}
 use Rattle.tt_bulk.specs.Work.{Works}

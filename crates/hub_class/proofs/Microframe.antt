@@ -2,7 +2,7 @@
 use Rattle.std.proofs.Common.{◌≡◌, ℕ, ◌-◌, Bool, true, false, List, [], ◌∷◌, refl, ◌∙◌, ap, subst}
 use Rattle.usb_base.specs.declared.packets.Ask.{Ask}
 use Rattle.usb_base.specs.declared.packets.Reply.{Reply}
-use Rattle.tt_keys.specs.Asks.{classic_of}
+use Rattle.hub_keys.specs.Asks.{classic_of}
 use Rattle.tt_bulk.specs.Contents.{BufferContent, TwoBuffers, buffer_content, with_place}
 use Rattle.tt_bulk.specs.Work.{Turn, Tries, Rests, after_turn, earlier_turn, later_turn, other, worked, Works as BuffersWork}
 use Rattle.tt_bulk.specs.Work as Buffered

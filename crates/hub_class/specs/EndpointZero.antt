@@ -4,12 +4,12 @@ use Rattle.std.specs.Prelude.{ℕ, ◌==◌, Bool, true, false, ◌&&◌, List, 
 use Rattle.usb_base.specs.declared.packets.Ask.{Ask}
 use Rattle.usb_base.specs.declared.packets.Reply.{Reply}
 use Rattle.usb_base.specs.declared.packets.Reply.TheVariants.{Silent}
-use Rattle.control_stages.specs.declared.control.Request.{Request}
-use Rattle.control_stages.specs.declared.rows.StageRow.{StageRow}
-use Rattle.control_stages.specs.declared.rows.StageRow.TheVariants.{Acknowledges, Confirms}
-use Rattle.control_stages.specs.declared.rows.StageToken.{StageToken}
-use Rattle.control_stages.specs.declared.rows.StageToken.TheVariants.{Other}
-use Rattle.control_stages.specs.Stages.{token_of, setup_of, stage_row, stages_reply, stages_after, stages_acked}
+use Rattle.dev_control.specs.declared.control.Request.{Request}
+use Rattle.dev_control.specs.declared.rows.StageRow.{StageRow}
+use Rattle.dev_control.specs.declared.rows.StageRow.TheVariants.{Acknowledges, Confirms}
+use Rattle.dev_control.specs.declared.rows.StageToken.{StageToken}
+use Rattle.dev_control.specs.declared.rows.StageToken.TheVariants.{Other}
+use Rattle.dev_control.specs.Stages.{token_of, setup_of, stage_row, stages_reply, stages_after, stages_acked}
 use Rattle.hub_ports.specs.declared.rows.HubReply.{HubReply}
 use Rattle.hub_ports.specs.declared.rows.HubReply.TheVariants.{Bytes, Done, Stall}
 use Rattle.hub_class.specs.HubContent.{HubContent}

@@ -1,6 +1,6 @@
 -- What a hub has in it (USB 2.0, 11.1 and 11.14).
 use Rattle.std.specs.Prelude.{ℕ, Bool, nat_le, length, List, [], map}
-use Rattle.control_stages.specs.Stages.{Stages, opened}
+use Rattle.dev_control.specs.Stages.{Stages, opened}
 use Rattle.hub_ports.specs.declared.port.Port.{Port}
 use Rattle.hub_ports.specs.Ports.{opened_port}
 use Rattle.script_types.specs.declared.devices.HubText.{HubText}

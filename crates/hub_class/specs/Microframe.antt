@@ -6,7 +6,7 @@ use Rattle.std.specs.Prelude.{ℕ, ◌-◌, List}
 use Rattle.usb_base.specs.declared.packets.Ask.{Ask}
 use Rattle.usb_base.specs.declared.packets.Reply.{Reply}
 use Rattle.usb_base.specs.declared.packets.Reply.TheVariants.{Silent}
-use Rattle.tt_keys.specs.Asks.{classic_of}
+use Rattle.hub_keys.specs.Asks.{classic_of}
 use Rattle.tt_bulk.specs.Contents.{TwoBuffers}
 use Rattle.tt_bulk.specs.Work.{Turn, Tries, Rests, earlier_turn, later_turn, worked}
 use Rattle.tt_pipeline.specs.Working.{budget, used_by, kept, entries_after, wire_worked}

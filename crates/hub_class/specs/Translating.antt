@@ -7,7 +7,7 @@ use Rattle.usb_base.specs.declared.packets.Reply.{Reply}
 use Rattle.usb_base.specs.declared.packets.Reply.TheVariants.{Silent}
 use Rattle.usb_base.specs.declared.packets.Split.{Split}
 use Rattle.usb_base.specs.declared.packets.Split.TheVariants.{Plain, Start, Complete}
-use Rattle.tt_keys.specs.Keys.{key_of}
+use Rattle.hub_keys.specs.Keys.{key_of}
 use Rattle.tt_bulk.specs.Rows as Buffered
 use Rattle.tt_bulk.specs.Work.{Works}
 use Rattle.tt_pipeline.specs.Answers as Piped

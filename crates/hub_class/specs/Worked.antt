@@ -8,7 +8,7 @@ use Rattle.usb_base.specs.declared.packets.Pid.{Pid}
 use Rattle.usb_base.specs.declared.packets.Pid.TheVariants as Pids
 use Rattle.usb_base.specs.declared.packets.Speed.TheVariants.{Full, High}
 use Rattle.usb_base.specs.declared.packets.Split.TheVariants.{Plain, Start, Complete}
-use Rattle.control_stages.specs.Stages.{opened}
+use Rattle.dev_control.specs.Stages.{opened}
 use Rattle.hub_ports.specs.Ports.{opened_port}
 use Rattle.tt_bulk.specs.Contents as Bulk
 use Rattle.hub_class.specs.HubContent.{HubContent}

@@ -1,9 +1,9 @@
 ghost use Rattle.std.specs.Prelude.{◌≡◌};
 ghost use Rattle.std.specs.Option.{option_copied};
-ghost use Rattle.control_stages.specs.Stages.{token_of};
+ghost use Rattle.dev_control.specs.Stages.{token_of};
 ghost use Rattle.hub_class.specs.EndpointZero.{reply_bytes, is_token, acts_on, unless_done};
 
-use control_stages::{Request, StageRow, StageToken, token};
+use dev_control::{Request, StageRow, StageToken, token};
 use hub_ports::HubReply;
 use usb_base::Pid;
 

@@ -1,5 +1,5 @@
 ghost use Rattle.std.specs.Prelude.{◌≡◌, ◌≤◌, length, IfOk};
-ghost use Rattle.control_stages.specs.Stages.{stages_reply};
+ghost use Rattle.dev_control.specs.Stages.{stages_reply};
 ghost use Rattle.hub_ports.specs.Ports.{is_enabled};
 ghost use Rattle.hub_class.specs.HubContent.{opening};
 ghost use Rattle.hub_class.specs.Requesting.{requested, request_answer, effect};
@@ -8,18 +8,16 @@ ghost use Rattle.hub_class.specs.Translating.{transact_reply, transacted, HubWor
 
 use crate::endpoint_zero::{acting, bytes, is_token_pid};
 use crate::translator::{SplitRow, split_row};
-use control_stages::ControlStages;
+use dev_control::ControlStages;
+use hub_keys::Key;
 use hub_ports::{HubReply, HubRequest, Ports};
 use script_types::HubText;
 use std::alloc::Global;
 use std::marker::Model;
 use tt_bulk::Buffers;
-use tt_keys::Key;
 use tt_pipeline::Pipeline;
+use usb_base::limits::BYTE_TIMES_OF_MICROFRAME;
 use usb_base::{Ask, DevAddr, Memory, Reply, Wire};
-
-/// The byte-times that a translator moves in a microframe (USB 2.0, 11.18.4).
-const BUDGET: u32 = 188;
 
 /// The maximum packet size of endpoint 0, in bytes.
 const PACKET: u16 = 64;
@@ -169,7 +167,7 @@ impl Hub {
         ensures { HubWorks W.transacts frindex self.old down.old self.new down.new }
     {
         let used = self.pipeline.microframe(frindex, down);
-        self.bulk.work(down, BUDGET - used);
+        self.bulk.work(down, BYTE_TIMES_OF_MICROFRAME as u32 - used);
     }
 
     fn suits(&self, ask: &Ask) -> bool

@@ -4,7 +4,7 @@ use Rattle.usb_base.specs.declared.packets.Dir.{Dir}
 use Rattle.usb_base.specs.declared.packets.Dir.TheVariants as Directions
 use Rattle.usb_base.specs.declared.packets.EpKind.{EpKind}
 use Rattle.usb_base.specs.declared.packets.EpKind.TheVariants.{Control, Bulk}
-use Rattle.tt_keys.specs.declared.key.Key.{Key}
+use Rattle.hub_keys.specs.declared.key.Key.{Key}
 use Rattle.hub_ports.specs.declared.requests.SetupFields.{SetupFields}
 use Rattle.hub_ports.specs.declared.rows.ClassRequest.{ClassRequest}
 use Rattle.hub_ports.specs.declared.rows.ClassRequest.TheVariants.{GetHubStatus, GetPortStatus, SetPortFeature, ClearPortFeature, ClearTtBuffer, ResetTt}

@@ -2,7 +2,7 @@ ghost use Rattle.std.specs.Prelude.{◌≡◌, ◌+◌, ◌*◌, ◌<◌};
 ghost use Rattle.hub_ports.specs.Requests.{fields_of, class_request, length_of, set_feature, clear_feature, buffer_kind, buffer_direction, buffer_key, at_port, change_at, request_by, request_of_fields, request_of as request_of_setup};
 
 use crate::rows::{ClassRequest, HubRequest, PortChange};
-use tt_keys::Key;
+use hub_keys::Key;
 use usb_base::{DevAddr, Dir, EpKind, EpNum};
 
 /// The fields of a request (USB 2.0, 9.3).

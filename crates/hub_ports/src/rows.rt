@@ -1,4 +1,4 @@
-use tt_keys::Key;
+use hub_keys::Key;
 
 /// What a request changes of a port (USB 2.0, table 11-17).
 #[derive(Clone, Copy, Debug, PartialEq, Eq)]

@@ -198,10 +198,7 @@ chain_bounded words seen home u = record {
 
 first_in_chain : (first : Link) → IsAligned first → address_of first % 32 ≡ 0
 first_in_chain links.End a = refl
-first_in_chain (links.Itd at) a = a
-first_in_chain (links.Qh at) a = a
-first_in_chain (links.Sitd at) a = a
-first_in_chain (links.Fstn at) a = a
+first_in_chain _ a = a
 
 pub chain_ends : (words seen : List ℕ) (home : Option ℕ) (first : Link) → length words % 8 ≡ 0 → IsAligned first
     → is_some (ending_at (chain words home seen) first (count (chain words home seen) first)) ≡ true

@@ -6,19 +6,13 @@ use Rattle.image_codec.specs.Image.{field_of, field_at, field_bytes, fields_of}
 
 -- four bytes or more begin with a field
 pub fields_of-more : (bytes : List ℕ) → 4 ≤ length bytes → fields_of bytes ≡ field_at bytes 0 ∷ fields_of (drop 4 bytes)
-fields_of-more [] h = absurd (omega arith)
-fields_of-more (a ∷ []) h = absurd (omega arith)
-fields_of-more (a ∷ b ∷ []) h = absurd (omega arith)
-fields_of-more (a ∷ b ∷ c ∷ []) h = absurd (omega arith)
 fields_of-more (a ∷ b ∷ c ∷ d ∷ bytes) h = refl
+fields_of-more _ h = absurd (omega arith)
 
 -- less than four bytes are no field
 pub fields_of-few : (bytes : List ℕ) → length bytes < 4 → fields_of bytes ≡ []
-fields_of-few [] h = refl
-fields_of-few (a ∷ []) h = refl
-fields_of-few (a ∷ b ∷ []) h = refl
-fields_of-few (a ∷ b ∷ c ∷ []) h = refl
 fields_of-few (a ∷ b ∷ c ∷ d ∷ bytes) h = absurd (omega arith)
+fields_of-few _ h = refl
 
 -- the bytes of the number that four bytes are
 pub field_bytes-field_of : (a b c d : ℕ) → a < 256 → b < 256 → c < 256 → d < 256 → field_bytes (field_of a b c d) ≡ a ∷ b ∷ c ∷ d ∷ []
@@ -61,13 +55,11 @@ drop-field bytes at small h =
 pub field_bytes-fields_of : (bytes : List ℕ) → ((i : ℕ) → slice_index bytes i < 256) → length bytes % 4 ≡ 0
     → (flat_map field_bytes (fields_of bytes) ≡ bytes) × (4 * length (fields_of bytes) ≡ length bytes)
 field_bytes-fields_of [] small h = (refl, refl)
-field_bytes-fields_of (a ∷ []) small h = absurd (omega arith)
-field_bytes-fields_of (a ∷ b ∷ []) small h = absurd (omega arith)
-field_bytes-fields_of (a ∷ b ∷ c ∷ []) small h = absurd (omega arith)
 field_bytes-fields_of (a ∷ b ∷ c ∷ d ∷ bytes) small h =
     let rest = field_bytes-fields_of bytes (λ i. small (suc (suc (suc (suc i))))) (omega arith) in
     let spelled = field_bytes-field_of a b c d (small 0) (small 1) (small 2) (small 3) in
     (ap (λ (front : List ℕ). front ++ flat_map field_bytes (fields_of bytes)) spelled ∙ ap (λ (tail : List ℕ). a ∷ b ∷ c ∷ d ∷ tail) rest.0, omega (arith, rest.1))
+field_bytes-fields_of _ small h = absurd (omega arith)
 
 -- the fields that the bytes of numbers are
 pub fields_of-field_bytes : (words : List ℕ) → ((k : ℕ) → slice_index words k < 4294967296) → fields_of (flat_map field_bytes words) ≡ words

@@ -28,10 +28,7 @@ frame-listed i n h e = rw h (rw e refl)
 
 end_is : (l : Link) → is_end l ≡ true → l ≡ links.End
 end_is links.End h = refl
-end_is (links.Itd a) h = cc
-end_is (links.Qh a) h = cc
-end_is (links.Sitd a) h = cc
-end_is (links.Fstn a) h = cc
+end_is _ h = cc
 
 pub first-outside : (i : Image) (n : ℕ) → is_outside i.words (element_at i n) 1 ≡ true → frame_first i n ≡ links.End
 unfolding frame_first

@@ -6,6 +6,7 @@
 --                                   offset 24  the words
 use Rattle.std.specs.Prelude.{if◌then◌else◌, ◌≡◌, ℕ, ◌+◌, ◌*◌, ◌/◌, ◌%◌, ◌<◌, ◌≤◌, Bool, ◌&&◌, ◌==◌, nat_le, min, List, [], ◌∷◌, ◌++◌, length, drop, slice_index, Option, Some, None, Result, Ok, Err}
 use Rattle.std.specs.List.{flat_map}
+use Rattle.usb_base.specs.Limits.{most_memory}
 use Rattle.image_codec.specs.declared.image.Image.{Image}
 use Rattle.image_codec.specs.declared.image.ImageWhy.{ImageWhy}
 use Rattle.image_codec.specs.declared.image.ImageWhy.TheVariants.{Magic, Version, Alignment, Length}
@@ -48,7 +49,7 @@ image_bytes i = header_bytes i ++ flat_map field_bytes i.words
 
 -- a number of words that an image may have
 abbrev pub is_word_count : ℕ → Bool
-is_word_count n = n % 1024 == 0 && nat_le 1024 n && nat_le n 262144
+is_word_count n = n % 1024 == 0 && nat_le 1024 n && nat_le n most_memory
 
 -- the fields keep their ranges and alignments
 pub record IsAligned (i : Image) : Type 0 where
@@ -57,7 +58,7 @@ pub record IsAligned (i : Image) : Type 0 where
   pub async_at : i.async_at % 32 ≡ 0
   pub whole : length i.words % 1024 ≡ 0
   pub least : 1024 ≤ length i.words
-  pub most : length i.words ≤ 262144
+  pub most : length i.words ≤ most_memory
 
 -- bytes are those of an image
 pub record IsImage (bytes : List ℕ) (i : Image) : Type 0 where

@@ -1,6 +1,7 @@
 -- The text that shows an image: each list with its structures in order, up to the first link that ends it.
 use Rattle.std.specs.Prelude.{ℕ, zero, suc, ◌+◌, ◌*◌, ◌/◌, Bool, true, false, not, ◌&&◌, ◌==◌, nat_lt, if◌then◌else◌, List, [], ◌∷◌, ◌++◌, length, take, drop, slice_index, codes, decimal, Option, Some, None, is_some, Result, Ok, Err}
 use Rattle.std.specs.Result.{result_err}
+use Rattle.usb_base.specs.Limits.{frame_list_length}
 use Rattle.link_words.specs.declared.refusal.Bad.{Bad}
 use Rattle.link_words.specs.declared.kinds.Link.{Link}
 use Rattle.link_words.specs.declared.kinds.Link.TheVariants as links
@@ -268,8 +269,8 @@ header_line i =
 
 -- the ring begins at ASYNCLISTADDR, after the 1,024 frames
 unfoldable pub ring_text : Image → List ℕ
-ring_text i = line (codes "async") ++ list_text (chain i.words (Some i.async_at) (seen_before i 1024)) (links.Qh i.async_at)
+ring_text i = line (codes "async") ++ list_text (chain i.words (Some i.async_at) (seen_before i frame_list_length)) (links.Qh i.async_at)
 
 -- the shown text of an image
 unfoldable pub shown : Image → List ℕ
-shown i = header_line i ++ (frames_text i 1024 ++ ring_text i)
+shown i = header_line i ++ (frames_text i frame_list_length ++ ring_text i)

@@ -1,4 +1,5 @@
 ghost use Rattle.std.specs.Prelude.{◌≡◌, ℕ, ◌+◌, ◌*◌, ◌/◌, ◌%◌, ◌≤◌, ◌<◌, ◌++◌, false, length, OnOk, OnErr, IfNone};
+ghost use Rattle.usb_base.specs.Limits.{frame_list_length, most_memory};
 ghost use Rattle.link_words.specs.Links.{IsAligned as IsLinkAligned, address_of, is_end};
 ghost use Rattle.image_codec.specs.Image.{IsAligned};
 ghost use Rattle.image_codec.specs.Linked.{count, list_text, passed};
@@ -38,7 +39,7 @@ pub fn put_chain<K: Sink>(
     requires image { IsAligned image.now }
     requires lists_whole { length lists.old ≡ units image.now.words }
     requires queues_whole { length queues.old ≡ units image.now.words }
-    requires frames { place.frames ≤ 1024 }
+    requires frames { place.frames ≤ frame_list_length }
     requires marks { AreMarks lists.old queues.old (place.frames + 1) (seen_before image.now place.frames) }
     requires aligned { IsLinkAligned first }
     ensures printed { PrintsOn K.written K.faults sink.old sink.new page.old page.new result (list_text (chain image.now.words place.home (seen_before image.now place.frames)) first) }
@@ -140,7 +141,7 @@ fn ending_of(
     earlier: bool,
     link: Link,
 ) -> Option<Ending>
-    requires memory { length words.now ≤ 262144 }
+    requires memory { length words.now ≤ most_memory }
     requires aligned { IsLinkAligned link }
     ensures ending { result ≡ chain_ending words.now home begun here earlier link }
     ensures inside { IfNone result (address_of link + 4 * size_of link ≤ 4 * length words.now) }

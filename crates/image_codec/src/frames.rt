@@ -1,4 +1,5 @@
 ghost use Rattle.std.specs.Prelude.{◌≡◌, ℕ, ◌+◌, ◌≤◌, ◌<◌, ◌++◌, None, length, OnOk, OnErr};
+ghost use Rattle.usb_base.specs.Limits.{frame_list_length};
 ghost use Rattle.link_words.specs.Links.{IsAligned as IsLinkAligned};
 ghost use Rattle.image_codec.specs.Image.{IsAligned};
 ghost use Rattle.image_codec.specs.Linked.{count, list_text, passed};
@@ -13,6 +14,7 @@ use crate::lines::{line_of_ending, line_of_frame};
 use crate::page::Page;
 use crate::structures::{reaches_outside, read_word};
 use link_words::{Link, read};
+use usb_base::limits::FRAME_LIST_LENGTH;
 use usb_base::{Failed, Sink};
 
 /// The elements of a frame list (EHCI 1.0, 3.1).
@@ -30,10 +32,10 @@ pub fn put_frames<K: Sink>(
     requires lists_whole { length lists.old ≡ units image.now.words }
     requires queues_whole { length queues.old ≡ units image.now.words }
     requires marks { AreMarks lists.old queues.old 1 (seen_before image.now 0) }
-    ensures printed { PrintsOn K.written K.faults sink.old sink.new page.old page.new result (frames_text image.now 1024) }
-    ensures marked { OnOk result (AreMarks lists.new queues.new 1025 (seen_before image.now 1024)) }
+    ensures printed { PrintsOn K.written K.faults sink.old sink.new page.old page.new result (frames_text image.now frame_list_length) }
+    ensures marked { OnOk result (AreMarks lists.new queues.new 1025 (seen_before image.now frame_list_length)) }
 {
-    for n in 0..FRAMES {
+    for n in 0..FRAME_LIST_LENGTH {
         put_frame(page, sink, image, lists, queues, n)?;
     }
     Ok(())
@@ -51,12 +53,12 @@ pub fn put_ring<K: Sink>(
     requires image { IsAligned image.now }
     requires lists_whole { length lists.old ≡ units image.now.words }
     requires queues_whole { length queues.old ≡ units image.now.words }
-    requires marks { AreMarks lists.old queues.old 1025 (seen_before image.now 1024) }
+    requires marks { AreMarks lists.old queues.old 1025 (seen_before image.now frame_list_length) }
     ensures { PrintsOn K.written K.faults sink.old sink.new page.old page.new result (ring_text image.now) }
 {
     page.put(sink, b"async\n")?;
     let place = ShownList {
-        frames: FRAMES,
+        frames: FRAME_LIST_LENGTH,
         home: Some(image.async_at),
     };
     put_chain(
@@ -81,7 +83,7 @@ fn put_frame<K: Sink>(
     requires image { IsAligned image.now }
     requires lists_whole { length lists.old ≡ units image.now.words }
     requires queues_whole { length queues.old ≡ units image.now.words }
-    requires frame { n < 1024 }
+    requires frame { n < frame_list_length }
     requires marks { AreMarks lists.old queues.old (n + 1) (seen_before image.now n) }
     ensures printed { PrintsOn K.written K.faults sink.old sink.new page.old page.new result (frame_text image.now n) }
     ensures marked { OnOk result (AreMarks lists.new queues.new (n + 2) (seen_before image.now (n + 1))) }
@@ -110,7 +112,7 @@ fn put_listed<K: Sink>(
     requires image { IsAligned image.now }
     requires lists_whole { length lists.old ≡ units image.now.words }
     requires queues_whole { length queues.old ≡ units image.now.words }
-    requires frame { n < 1024 }
+    requires frame { n < frame_list_length }
     requires marks { AreMarks lists.old queues.old (n + 1) (seen_before image.now n) }
     requires aligned { IsLinkAligned first }
     ensures printed { PrintsOn K.written K.faults sink.old sink.new page.old page.new result (frame_line n ++ list_text (chain image.now.words None (seen_before image.now n)) first) }

@@ -1,4 +1,5 @@
 ghost use Rattle.std.specs.Prelude.{◌≡◌, ℕ, ◌≤◌, ◌++◌, length};
+ghost use Rattle.usb_base.specs.Limits.{most_memory};
 ghost use Rattle.image_codec.specs.Linked.{ending_line, ending_text, is_silent};
 ghost use Rattle.image_codec.specs.Text.{hex, refusal_line, why_text};
 ghost use Rattle.image_codec.specs.Shown.{direction_text, frame_line, header_line, itd_line, pid_text, qh_line, qtd_line, sitd_line, speed_text};
@@ -208,7 +209,7 @@ pub fn line_of_frame(n: u32) -> Line
 /// The first line of the text: the registers, and the number of words.
 #[tactic(auto, unfolding(crate::specs::Shown::header_line))]
 pub fn line_of_header(image: &Image) -> Line
-    requires { length image.now.words ≤ 262144 }
+    requires { length image.now.words ≤ most_memory }
     ensures { result ≡ header_line image.now }
 {
     let mut line = Line::new();

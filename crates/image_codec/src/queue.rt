@@ -1,4 +1,5 @@
 ghost use Rattle.std.specs.Prelude.{◌≡◌, ℕ, ◌+◌, ◌*◌, ◌/◌, ◌%◌, ◌≤◌, ◌<◌, ◌⊎◌, ◌++◌, false, length, slice_index, slice_set, OnOk, OnErr, IfNone};
+ghost use Rattle.usb_base.specs.Limits.{most_memory};
 ghost use Rattle.link_words.specs.Links.{IsQtdAligned};
 ghost use Rattle.image_codec.specs.Linked.{list_text};
 ghost use Rattle.image_codec.specs.Marks.{is_marked, IsFresh};
@@ -23,7 +24,7 @@ pub fn put_queue<K: Sink>(
     head: u32,
     first: QtdLink,
 ) -> Result<(), Failed>
-    requires memory { length words.now ≤ 262144 }
+    requires memory { length words.now ≤ most_memory }
     requires whole { length marks.old ≡ units words.now }
     requires fresh { IsFresh marks.old head }
     requires aligned { IsQtdAligned first }
@@ -63,7 +64,7 @@ pub fn has_mark(marks: &[u32], mark: u32, at: u32) -> bool
 }
 
 fn ending_of(words: &[u32], here: bool, link: QtdLink) -> Option<Ending>
-    requires { length words.now ≤ 262144 }
+    requires { length words.now ≤ most_memory }
     ensures ending { result ≡ queue_ending words.now here link }
     ensures inside { IfNone result (queue_address link + 32 ≤ 4 * length words.now) }
     ensures fresh { IfNone result (here ≡ false) }
@@ -90,7 +91,7 @@ fn put_descriptor<K: Sink>(
     words: &[u32],
     at: u32,
 ) -> Result<(), Failed>
-    requires memory { length words.now ≤ 262144 }
+    requires memory { length words.now ≤ most_memory }
     requires inside { at + 32 ≤ 4 * length words.now }
     ensures { PrintsOn K.written K.faults sink.old sink.new page.old page.new result (descriptor_text words.now at) }
 {
@@ -99,7 +100,7 @@ fn put_descriptor<K: Sink>(
 
 #[tactic(auto, unfolding(crate::specs::Shown::descriptor_text))]
 fn line_of_descriptor(words: &[u32], at: u32) -> Line
-    requires memory { length words.now ≤ 262144 }
+    requires memory { length words.now ≤ most_memory }
     requires inside { at + 32 ≤ 4 * length words.now }
     ensures { result ≡ descriptor_text words.now at }
 {

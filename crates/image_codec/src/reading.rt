@@ -4,6 +4,7 @@ ghost use Rattle.image_codec.specs.Image.{field_at, fields_of, image_bytes, imag
 use crate::image::{Image, ImageError, ImageWhy, Refusal};
 use byteorder::{ByteOrder, LittleEndian};
 use std::alloc::Global;
+use usb_base::limits::MOST_MEMORY;
 use usb_base::{ListOf, Memory};
 
 const HEADER: usize = 24;
@@ -90,7 +91,7 @@ fn fault_of(bytes: &[u8]) -> Option<Refusal>
         return refusal(16, ImageWhy::Alignment);
     }
     let words = field(bytes, 20);
-    if words % 1024 != 0 || words < 1024 || words > 262144 {
+    if words % 1024 != 0 || words < 1024 || words > MOST_MEMORY {
         return refusal(20, ImageWhy::Alignment);
     }
     let total = 24 + 4 * words;

@@ -1,4 +1,5 @@
 ghost use Rattle.std.specs.Prelude.{◌≡◌, ℕ, ◌+◌, ◌*◌, ◌%◌, ◌≤◌, ◌⊎◌, ◌++◌, true, length, slice_index, OnOk, OnErr};
+ghost use Rattle.usb_base.specs.Limits.{most_memory};
 ghost use Rattle.link_words.specs.Links.{address_of};
 ghost use Rattle.image_codec.specs.Marks.{IsFresh};
 ghost use Rattle.image_codec.specs.Printing.{PrintsOn};
@@ -21,7 +22,7 @@ pub fn put_structure<K: Sink>(
     queues: &mut [u32],
     link: Link,
 ) -> Result<(), Failed>
-    requires memory { length words.now ≤ 262144 }
+    requires memory { length words.now ≤ most_memory }
     requires whole { length queues.old ≡ units words.now }
     requires inside { address_of link + 4 * size_of link ≤ 4 * length words.now }
     requires fresh { is_queue_head link ≡ true → IsFresh queues.old (address_of link) }
@@ -63,7 +64,7 @@ fn put_queue_head<K: Sink>(
     queues: &mut [u32],
     at: u32,
 ) -> Result<(), Failed>
-    requires memory { length words.now ≤ 262144 }
+    requires memory { length words.now ≤ most_memory }
     requires whole { length queues.old ≡ units words.now }
     requires inside { at + 48 ≤ 4 * length words.now }
     requires fresh { IsFresh queues.old at }

@@ -1,4 +1,5 @@
 ghost use Rattle.std.specs.Prelude.{◌≡◌, ℕ, ◌+◌, ◌*◌, ◌≤◌, length};
+ghost use Rattle.usb_base.specs.Limits.{most_memory};
 ghost use Rattle.image_codec.specs.Shown.{descriptor, is_outside, itd_at_address, queue_head, sitd_at_address, word_at};
 
 use itd_sitd::{Itd, Sitd};
@@ -7,7 +8,7 @@ use qh_qtd::{Qh, Qtd};
 
 /// Whether `n` words from a byte address on aren't all within memory.
 pub fn reaches_outside(words: &[u32], at: u32, n: u32) -> bool
-    requires memory { length words.now ≤ 262144 }
+    requires memory { length words.now ≤ most_memory }
     requires size { n ≤ 16 }
     ensures { result ≡ is_outside words.now at n }
 {

@@ -101,15 +101,8 @@ itd_at-link ws = refl
 
 words_at : (v : Itd) (a0 a1 a2 a3 a4 a5 a6 a7 s : ItdSlot) (k : ℕ) → k < 8 → itd_words (record v { slots = slice_set (a0 ∷ a1 ∷ a2 ∷ a3 ∷ a4 ∷ a5 ∷ a6 ∷ a7 ∷ []) k s }) ≡ slice_set (itd_words (record v { slots = a0 ∷ a1 ∷ a2 ∷ a3 ∷ a4 ∷ a5 ∷ a6 ∷ a7 ∷ [] })) (suc k) (slot_word s)
 unfolding itd_words slot_word
-words_at v a0 a1 a2 a3 a4 a5 a6 a7 s zero l = refl
-words_at v a0 a1 a2 a3 a4 a5 a6 a7 s (suc zero) l = refl
-words_at v a0 a1 a2 a3 a4 a5 a6 a7 s (suc (suc zero)) l = refl
-words_at v a0 a1 a2 a3 a4 a5 a6 a7 s (suc (suc (suc zero))) l = refl
-words_at v a0 a1 a2 a3 a4 a5 a6 a7 s (suc (suc (suc (suc zero)))) l = refl
-words_at v a0 a1 a2 a3 a4 a5 a6 a7 s (suc (suc (suc (suc (suc zero))))) l = refl
-words_at v a0 a1 a2 a3 a4 a5 a6 a7 s (suc (suc (suc (suc (suc (suc zero)))))) l = refl
-words_at v a0 a1 a2 a3 a4 a5 a6 a7 s (suc (suc (suc (suc (suc (suc (suc zero))))))) l = refl
 words_at v a0 a1 a2 a3 a4 a5 a6 a7 s (suc (suc (suc (suc (suc (suc (suc (suc k)))))))) l = absurd (omega arith)
+words_at v a0 a1 a2 a3 a4 a5 a6 a7 s _ l = refl
 
 -- a store of a microframe's word changes that microframe alone
 pub itd_words-slot : (v : Itd) (s : ItdSlot) (k : ℕ) → length v.slots ≡ 8 → k < 8 → itd_words (record v { slots = slice_set v.slots k s }) ≡ slice_set (itd_words v) (suc k) (slot_word s)
@@ -158,15 +151,8 @@ itd_read-link ws v e = ap (λ x. link_of x.link) (itd_read-is ws v e) ∙ itd_at
 
 slot_of-at : (ws : List ℕ) (k : ℕ) → k < 8 → slot_of k (itd_at ws) ≡ slot_at (slice_index ws (suc k))
 unfolding itd_at
-slot_of-at ws zero l = refl
-slot_of-at ws (suc zero) l = refl
-slot_of-at ws (suc (suc zero)) l = refl
-slot_of-at ws (suc (suc (suc zero))) l = refl
-slot_of-at ws (suc (suc (suc (suc zero)))) l = refl
-slot_of-at ws (suc (suc (suc (suc (suc zero))))) l = refl
-slot_of-at ws (suc (suc (suc (suc (suc (suc zero)))))) l = refl
-slot_of-at ws (suc (suc (suc (suc (suc (suc (suc zero))))))) l = refl
 slot_of-at ws (suc (suc (suc (suc (suc (suc (suc (suc k)))))))) l = absurd (omega arith)
+slot_of-at ws _ l = refl
 
 pub itd_read-slot : (ws : List ℕ) (v : Itd) (k : ℕ) → itd_read ws ≡ Ok v → k < 8 → slot_of k v ≡ slot_at (slice_index ws (suc k))
 itd_read-slot ws v k e within = ap (slot_of k) (itd_read-is ws v e) ∙ slot_of-at ws k within

@@ -29,10 +29,7 @@ short_link_same w l (address, (t, _)) = λ i. record { t = t i; address = addres
 pub link_read-word : (link : Link) → IsAligned link → link_read (link_word link) ≡ link
 unfolding link_read link_word
 link_read-word kinds.End h = refl
-link_read-word (kinds.Itd a) h = grind (arith, common_steps)
-link_read-word (kinds.Qh a) h = grind (arith, common_steps)
-link_read-word (kinds.Sitd a) h = grind (arith, common_steps)
-link_read-word (kinds.Fstn a) h = grind (arith, common_steps)
+link_read-word _ h = grind (arith, common_steps)
 
 pub qtd_link_read-word : (link : QtdLink) → IsQtdAligned link → qtd_link_read (qtd_link_word link) ≡ link
 unfolding qtd_link_read qtd_link_word
@@ -62,10 +59,7 @@ qtd_word_of-fields link = refl
 -- and its fields lead where it does
 pub link_of-fields : (link : Link) → link_of (link_fields link) ≡ link
 link_of-fields kinds.End = refl
-link_of-fields (kinds.Itd a) = refl
-link_of-fields (kinds.Qh a) = refl
-link_of-fields (kinds.Sitd a) = refl
-link_of-fields (kinds.Fstn a) = refl
+link_of-fields _ = refl
 
 pub qtd_link_of-fields : (link : QtdLink) → qtd_link_of (qtd_link_fields link) ≡ link
 qtd_link_of-fields qtd_kinds.End = refl

@@ -1,7 +1,9 @@
 -- What the controller itself does to the registers.
 use Rattle.std.specs.Prelude.{Bool, true, false, ℕ, ◌+◌, ◌/◌, ◌%◌, ◌^◌, ◌==◌, ◌||◌, not}
 use Rattle.std.specs.Int.RustNames.{bit_and}
+use Rattle.root_ports.specs.declared.port_event.PortEvent.TheVariants as Events
 use Rattle.op_registers.specs.RegisterFile.{RegisterFile}
+use Rattle.op_registers.specs.Table.{after_port_event}
 use Rattle.op_registers.specs.declared.status.Status.{Status}
 
 -- whether a number has the bits of a mask
@@ -43,3 +45,10 @@ after_reclamation r on = record r { reclamation = on }
 -- A host system error: the controller stops (EHCI 1.0 section 4.15.2.4).
 abbrev pub after_fault : RegisterFile → RegisterFile
 after_fault r = record r { host_system_error = true; run = false }
+
+-- What is declared at a root port is plugged in, or unplugged.
+abbrev pub after_plug : RegisterFile → ℕ → RegisterFile
+after_plug r port = after_port_event (Events.Plug port) r.ports r
+
+abbrev pub after_unplug : RegisterFile → ℕ → RegisterFile
+after_unplug r port = after_port_event (Events.Unplug port) r.ports r

@@ -1,8 +1,11 @@
 -- What the operational registers hold (EHCI 1.0 section 2.3).
-use Rattle.std.specs.Prelude.{Bool, false, ℕ, ◌≡◌, ◌%◌, ◌^◌, ◌<◌}
+use Rattle.std.specs.Prelude.{Bool, false, ℕ, ◌≡◌, ◌%◌, ◌^◌, ◌<◌, List, map, Option, None, option_map}
+use Rattle.root_ports.specs.declared.port.Port.{Port}
+use Rattle.root_ports.specs.Ports.{reopened}
 
 -- Each field stands at a row of the table (Table.antt). Three rows have no field of their own: HCHalted reads 1 where `run` is false, and the status of a schedule where `run` and the
--- schedule's enable are both true. The two addresses are byte addresses.
+-- schedule's enable are both true. The two addresses are byte addresses. `ports` is None for a controller of one root port that is connected, enabled and
+-- powered for ever.
 pub record RegisterFile : Type 0 where
   pub run : Bool
   pub periodic_enable : Bool
@@ -21,6 +24,7 @@ pub record RegisterFile : Type 0 where
   pub periodic_list_base : ℕ
   pub async_list_address : ℕ
   pub configured : Bool
+  pub ports : Option (List Port)
 
 -- the registers after a reset (EHCI 1.0 sections 2.3 and 4.1): halted, with a threshold of 8 microframes
 abbrev pub reset_file : RegisterFile
@@ -42,7 +46,12 @@ reset_file = record {
   periodic_list_base = 0;
   async_list_address = 0;
   configured = false;
+  ports = None;
 }
+
+-- the registers after HCReset (EHCI 1.0 section 2.3.1): the root ports open anew with what is plugged in
+abbrev pub reset_of : RegisterFile → RegisterFile
+reset_of r = record reset_file { ports = option_map (map reopened) r.ports }
 
 -- the ranges of the numbers: six enables, a microframe of 1,024 frames, the address of a frame list of 4,096 bytes and that of a queue head
 pub record IsInRange (enables index base address : ℕ) : Type 0 where

@@ -1,13 +1,25 @@
 -- The table of the operational registers (EHCI 1.0 section 2.3): where each stands, what its bits are, how they begin and how they take a write of the driver.
-use Rattle.std.specs.Prelude.{Bool, true, false, ℕ, ◌+◌, ◌-◌, ◌*◌, ◌/◌, ◌%◌, ◌^◌, ◌==◌, ◌&&◌, ◌||◌, not, if◌then◌else◌, List, [], ◌∷◌, Option, Some, None, option_map, unwrap_or}
+use Rattle.std.specs.Prelude.{Bool, true, false, ℕ, ◌+◌, ◌-◌, ◌*◌, ◌/◌, ◌%◌, ◌^◌, ◌==◌, ◌&&◌, ◌||◌, not, if◌then◌else◌, nat_le, nat_lt, List, [], ◌∷◌, length, Option, Some, None, option_map, unwrap_or}
 use Rattle.std.specs.List.{list_all}
-use Rattle.op_registers.specs.RegisterFile.{RegisterFile, reset_file}
+use Rattle.root_ports.specs.declared.port.Port.{Port as RootPort}
+use Rattle.root_ports.specs.declared.port_event.PortEvent.{PortEvent}
+use Rattle.root_ports.specs.declared.port_event.PortEvent.TheVariants as Events
+use Rattle.root_ports.specs.Ports.{ports_after, port_status, has_new_change}
+use Rattle.op_registers.specs.RegisterFile.{RegisterFile, reset_file, reset_of}
 use Rattle.op_registers.specs.declared.register.Register.{Register}
 use Rattle.op_registers.specs.declared.register.Register.TheVariants.{Command, Status, InterruptEnable, FrameIndex, Segment, PeriodicListBase, AsyncListAddress, ConfigureFlag, PortStatus}
 
--- The register at an offset, in bytes from the first operational register.
-abbrev pub register_at : ℕ → Option Register
-register_at off =
+-- The number of root ports.
+abbrev pub port_count : RegisterFile → ℕ
+port_count r = unwrap_or (option_map length r.ports) 1
+
+-- PORTSC of the ports, which are numbered from 1 (EHCI 1.0 section 2.3.9)
+abbrev pub port_register_at : ℕ → ℕ → Option Register
+port_register_at ports off = if nat_le 0x44 off && (nat_lt off (0x44 + 4 * ports) && (off % 4 == 0)) then Some (PortStatus (off / 4 - 0x10)) else None
+
+-- The register at an offset, in bytes from the first operational register, of a controller with so many root ports.
+abbrev pub register_at : ℕ → ℕ → Option Register
+register_at ports off =
     if off == 0x00 then Some Command
     else if off == 0x04 then Some Status
     else if off == 0x08 then Some InterruptEnable
@@ -16,26 +28,32 @@ register_at off =
     else if off == 0x14 then Some PeriodicListBase
     else if off == 0x18 then Some AsyncListAddress
     else if off == 0x40 then Some ConfigureFlag
-    else if off == 0x44 then Some PortStatus
-    else None
+    else port_register_at ports off
 
--- every register
+-- whether a controller with so many root ports has a register
+abbrev pub has_register : ℕ → Register → Bool
+has_register ports (PortStatus port) = nat_le 1 port && nat_le port ports
+has_register ports _ = true
+
+-- every register of a controller with one root port
 abbrev pub registers : List Register
-registers = Command ∷ Status ∷ InterruptEnable ∷ FrameIndex ∷ Segment ∷ PeriodicListBase ∷ AsyncListAddress ∷ ConfigureFlag ∷ PortStatus ∷ []
+registers = Command ∷ Status ∷ InterruptEnable ∷ FrameIndex ∷ Segment ∷ PeriodicListBase ∷ AsyncListAddress ∷ ConfigureFlag ∷ PortStatus 1 ∷ []
 
 -- What a row's bits are.
 pub data Field : Type 0 where
   Run HCReset ListSize PeriodicEnable AsyncEnable Doorbell Threshold : Field
   Interrupt Error PortChange Rollover HostSystemError AsyncAdvance Halted Reclamation PeriodicStatus AsyncStatus : Field
-  InterruptEnables FrameNumber SegmentBase ListBase AsyncAddress Configured Port : Field
+  InterruptEnables FrameNumber SegmentBase ListBase AsyncAddress Configured : Field
+  Port : ℕ → Field
 
 -- How bits take a write of the driver.
 -- * `Fixed` bits ignore it.
 -- * `Stored` bits become what is written; `StoredHalted` ones only while the controller is halted, and else ignore it.
 -- * A 1 clears a bit that is `ClearedByOne`, and sets one that is `SetByOne`; a 0 leaves either.
 -- * A 1 to the bit that `Resets` resets all registers, at once, and nothing else of the word counts. The bit reads as 0.
+-- * `OfPort` bits are those of a root port (crate root_ports); they ignore a write where there are no ports but the one that never changes.
 pub data Write : Type 0 where
-  Fixed Stored StoredHalted ClearedByOne SetByOne Resets : Write
+  Fixed Stored StoredHalted ClearedByOne SetByOne Resets OfPort : Write
 
 -- A row of a register: its bits from `high` down to `low`, what they are, what they read after a reset, and how they take a write.
 pub record RegisterRow : Type 0 where
@@ -85,13 +103,18 @@ rows PeriodicListBase = row 31 12 ListBase 0 Stored ∷ []
 rows AsyncListAddress = row 31 5 AsyncAddress 0 Stored ∷ []
 -- CONFIGFLAG, section 2.3.8
 rows ConfigureFlag = row 0 0 Configured 0 Stored ∷ []
--- PORTSC, section 2.3.9: connected, enabled and powered, for ever
-rows PortStatus = row 31 0 Port 0x00001005 Fixed ∷ []
+-- PORTSC, section 2.3.9
+rows (PortStatus port) = row 31 0 (Port port) 0x00001005 OfPort ∷ []
 
 -- ---- reading
 
 abbrev pub one_if : Bool → ℕ
 one_if b = if b then 1 else 0
+
+-- PORTSC of a port; of the one that never changes it is connected, enabled and powered
+abbrev pub port_value : ℕ → Option (List RootPort) → ℕ
+port_value port None = 0x00001005
+port_value port (Some ports) = port_status port ports
 
 -- what a field holds, as the number that its bits show
 abbrev pub value_of : RegisterFile → Field → ℕ
@@ -118,7 +141,7 @@ value_of r SegmentBase = 0
 value_of r ListBase = r.periodic_list_base / 2 ^ 12
 value_of r AsyncAddress = r.async_list_address / 2 ^ 5
 value_of r Configured = one_if r.configured
-value_of r Port = 0x00001005
+value_of r (Port port) = port_value port r.ports
 
 -- a number at a place of a word
 abbrev at_place : ℕ → ℕ → ℕ
@@ -135,7 +158,7 @@ word_of r register = word_of_rows r (rows register)
 
 -- the word that the driver reads at an offset; None at one of no register
 abbrev pub word_at : RegisterFile → ℕ → Option ℕ
-word_at r off = option_map (word_of r) (register_at off)
+word_at r off = option_map (word_of r) (register_at (port_count r) off)
 
 -- ---- writing
 
@@ -171,6 +194,7 @@ taken StoredHalted running old bits = if running then old else bits
 taken ClearedByOne running old bits = if bits == 1 then 0 else old
 taken SetByOne running old bits = if bits == 1 then 1 else old
 taken Resets running old bits = old
+taken OfPort running old bits = old
 
 -- the registers r after rows took a word, each bit as its row says over the registers `before` the write
 abbrev pub after_rows : RegisterFile → List RegisterRow → ℕ → RegisterFile → RegisterFile
@@ -187,13 +211,24 @@ abbrev pub asks_reset : List RegisterRow → ℕ → Bool
 asks_reset [] word = false
 asks_reset (row ∷ rest) word = (is_reset row.write && (bits_of word row.high row.low == 1)) || asks_reset rest word
 
+-- the registers after an event of these root ports; Port Change Detect of USBSTS is raised where a connection change goes from 0 to 1 (section 2.3.2)
+abbrev pub after_port_event : PortEvent → Option (List RootPort) → RegisterFile → RegisterFile
+after_port_event e None r = r
+after_port_event e (Some ports) r = record r { ports = Some (ports_after e ports); port_change = has_new_change ports (ports_after e ports) || r.port_change }
+
+-- what a write makes of the root ports: a write of PORTSC, and one of CONFIGFLAG, which routes them (section 2.3.8)
+abbrev pub after_port_write : Register → ℕ → RegisterFile → RegisterFile
+after_port_write (PortStatus port) word r = after_port_event (Events.Write port word r.run) r.ports r
+after_port_write ConfigureFlag word r = after_port_event (Events.Route r.configured) r.ports r
+after_port_write _ word r = r
+
 -- the registers after the driver wrote a word to a register
 abbrev pub after_write_to : RegisterFile → Register → ℕ → RegisterFile
-after_write_to r register word = if asks_reset (rows register) word then reset_file else after_rows r (rows register) word r
+after_write_to r register word = if asks_reset (rows register) word then reset_of r else after_port_write register word (after_rows r (rows register) word r)
 
 -- the registers after the driver wrote a word at an offset; the same at one of no register
 abbrev pub after_write : RegisterFile → ℕ → ℕ → RegisterFile
-after_write r off word = unwrap_or (option_map (λ register. after_write_to r register word) (register_at off)) r
+after_write r off word = unwrap_or (option_map (λ register. after_write_to r register word) (register_at (port_count r) off)) r
 
 -- the registers after the driver wrote words at offsets, in their order
 abbrev pub after_writes : RegisterFile → List (ℕ × ℕ) → RegisterFile

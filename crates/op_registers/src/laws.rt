@@ -2,7 +2,7 @@
 
 ghost use Rattle.std.specs.Prelude.{◌≡◌, ℕ, Bool, true, false, Some, None, [], ◌∷◌, ◌⊎◌, ◌&&◌, not};
 ghost use Rattle.std.specs.List.{list_all};
-ghost use Rattle.op_registers.specs.RegisterFile.{RegisterFile, reset_file};
+ghost use Rattle.op_registers.specs.RegisterFile.{RegisterFile, reset_file, reset_of};
 ghost use Rattle.op_registers.specs.Table.{registers, rows, shows_resets, word_of, word_at, after_write, after_writes};
 ghost use Rattle.op_registers.specs.Events.{has, after_raise, after_begin, after_advance, after_reclamation, after_fault};
 
@@ -102,7 +102,7 @@ pub fn status_tells()
 
 /// Nothing but `advance` and a reset clears the doorbell (EHCI 1.0 section 4.8.2).
 pub fn doorbell_stays()
-    ensures write { (r : RegisterFile) (off word : ℕ) → r.doorbell ≡ true → (after_write r off word ≡ reset_file) ⊎ ((after_write r off word).doorbell ≡ true) }
+    ensures write { (r : RegisterFile) (off word : ℕ) → r.doorbell ≡ true → (after_write r off word ≡ reset_of r) ⊎ ((after_write r off word).doorbell ≡ true) }
     ensures raise { (r : RegisterFile) (set : Status) → (after_raise r set).doorbell ≡ r.doorbell }
     ensures begin { (r : RegisterFile) → (after_begin r).doorbell ≡ r.doorbell }
     ensures reclamation { (r : RegisterFile) (on : Bool) → (after_reclamation r on).doorbell ≡ r.doorbell }

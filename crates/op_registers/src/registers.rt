@@ -1,15 +1,17 @@
-ghost use Rattle.std.specs.Prelude.{◌≡◌, ◌<◌, ◌%◌, ◌^◌, ◌&&◌, is_some, take};
-ghost use Rattle.op_registers.specs.RegisterFile.{reset_file};
-ghost use Rattle.op_registers.specs.Table.{register_at, rows, word_of_rows, word_of, word_at, after_write_to, after_write};
-ghost use Rattle.op_registers.specs.Events.{after_raise, after_begin, after_advance, after_reclamation, after_fault};
+ghost use Rattle.std.specs.Prelude.{◌≡◌, ◌<◌, ◌%◌, ◌^◌, ◌&&◌, true, false, Some, is_some, option_copied, option_map, unwrap_or, take};
+ghost use Rattle.root_ports.specs.Ports.{ports_after, has_new_change};
+ghost use Rattle.op_registers.specs.RegisterFile.{reset_file, reset_of};
+ghost use Rattle.op_registers.specs.Table.{port_count, register_at, rows, port_value, after_port_event, word_of_rows, word_of, word_at, after_write_to, after_write};
+ghost use Rattle.op_registers.specs.Events.{after_raise, after_begin, after_advance, after_reclamation, after_fault, after_plug, after_unplug};
 
 use crate::command::Command;
 use crate::register::Register;
 use crate::status::Status;
 use bitflags::Flags;
+use root_ports::{PortEvent, RootPorts};
 use std::marker::Model;
 
-/// PORTSC: powered, connected and enabled, for ever.
+/// PORTSC of the one port where there are no `RootPorts`: powered, connected and enabled, for ever.
 const PORT_STATUS: u32 = 0x0000_1005;
 
 /// The operational registers (EHCI 1.0 section 2.3). The driver reads and writes them by `driver_read` and `driver_write`; every other call that changes them is the controller's.
@@ -23,6 +25,7 @@ pub struct Registers {
     periodic_list_base: u32,
     async_list_address: u32,
     configured: bool,
+    ports: Option<RootPorts>,
 }
 
 impl Model for Registers {
@@ -53,13 +56,27 @@ impl Model for Registers {
       periodic_list_base = a.periodic_list_base;
       async_list_address = a.async_list_address;
       configured = a.configured;
+      ports = a.ports;
     } };
 }
 
 impl Registers {
-    /// The registers after a reset: halted, nothing enabled, no status raised, microframe 0 (EHCI 1.0 section 2.3).
+    /// The registers after a reset: halted, nothing enabled, no status raised, microframe 0 (EHCI 1.0 section 2.3). There is one root port, which never changes.
     pub fn reset() -> Registers
         ensures { result ≡ reset_file }
+    {
+        Registers::opened(None)
+    }
+
+    /// The registers after a reset, with these root ports as they stand.
+    pub fn with_ports(ports: RootPorts) -> Registers
+        ensures { result ≡ record reset_file { ports = Some ports } }
+    {
+        Registers::opened(Some(ports))
+    }
+
+    fn opened(ports: Option<RootPorts>) -> Registers
+        ensures { result ≡ record reset_file { ports = ports } }
     {
         Registers {
             command: Command::empty(),
@@ -70,6 +87,24 @@ impl Registers {
             periodic_list_base: 0,
             async_list_address: 0,
             configured: false,
+            ports,
+        }
+    }
+
+    /// The root ports; None exactly where the registers weren't made by `with_ports`.
+    pub fn ports(&self) -> Option<&RootPorts>
+        ensures { option_copied result ≡ self.now.ports }
+    {
+        self.ports.as_ref()
+    }
+
+    // The number of root ports.
+    fn port_count(&self) -> u8
+        ensures { result ≡ port_count self.now }
+    {
+        match &self.ports {
+            Some(ports) => ports.count(),
+            None => 1,
         }
     }
 
@@ -136,7 +171,7 @@ impl Registers {
     pub fn driver_read(&self, off: u32) -> Option<u32>
         ensures { result ≡ word_at self.now off }
     {
-        match Register::at(off) {
+        match Register::at(off, self.port_count()) {
             Some(register) => Some(self.word(register)),
             None => None,
         }
@@ -154,7 +189,16 @@ impl Registers {
             Register::PeriodicListBase => self.periodic_list_base,
             Register::AsyncListAddress => self.async_list_address,
             Register::ConfigureFlag => self.configured as u32,
-            Register::PortStatus => PORT_STATUS,
+            Register::PortStatus(port) => self.port_word(port),
+        }
+    }
+
+    fn port_word(&self, port: u8) -> u32
+        ensures { result ≡ port_value port self.now.ports }
+    {
+        match &self.ports {
+            Some(ports) => ports.read(port),
+            None => PORT_STATUS,
         }
     }
 
@@ -201,10 +245,10 @@ impl Registers {
     /// Writes a word of the driver at an offset, in bytes from the first register: each bit takes it as its row of the table says. False exactly where the table has no
     /// register, and nothing changes then.
     pub fn driver_write(&mut self, off: u32, v: u32) -> bool
-        ensures known { result ≡ is_some (register_at off) }
+        ensures known { result ≡ is_some (register_at (port_count self.old) off) }
         ensures file { self.new ≡ after_write self.old off v }
     {
-        match Register::at(off) {
+        match Register::at(off, self.port_count()) {
             Some(register) => {
                 self.write(register, v);
                 true
@@ -223,8 +267,11 @@ impl Registers {
             Register::FrameIndex => self.write_frame_index(word),
             Register::PeriodicListBase => self.periodic_list_base = word & 0xffff_f000,
             Register::AsyncListAddress => self.async_list_address = word & 0xffff_ffe0,
-            Register::ConfigureFlag => self.configured = word & 1 == 1,
-            Register::Segment | Register::PortStatus => {}
+            Register::ConfigureFlag => self.write_configure_flag(word),
+            Register::PortStatus(port) => {
+                self.port_event(&PortEvent::Write(port, word, self.running()))
+            }
+            Register::Segment => {}
         }
     }
 
@@ -233,7 +280,7 @@ impl Registers {
     {
         let written = Command::from_bits_retain(word);
         if written.contains(Command::RESET) {
-            *self = Registers::reset();
+            self.restart();
             return;
         }
         let rung = self.command.intersection(Command::DOORBELL);
@@ -261,6 +308,65 @@ impl Registers {
         if !self.running() {
             self.frame_index = (word & 0x3fff) as u16;
         }
+    }
+
+    fn write_configure_flag(&mut self, word: u32)
+        ensures { self.new ≡ after_write_to self.old Register.ConfigureFlag word }
+    {
+        self.configured = word & 1 == 1;
+        self.port_event(&PortEvent::Route(self.configured));
+    }
+
+    // HCReset: the root ports open anew with what is plugged in.
+    fn restart(&mut self)
+        ensures { self.new ≡ reset_of self.old }
+    {
+        let mut ports = self.ports.take();
+        if let Some(ports) = &mut ports {
+            ports.reopen();
+        }
+        *self = Registers::opened(ports);
+    }
+
+    // Makes an event of the root ports, and tells whether a connection change went from 0 to 1.
+    fn event_of_ports(&mut self, e: &PortEvent) -> bool
+        ensures ports { self.new ≡ record self.old { ports = option_map (ports_after e.now) self.old.ports } }
+        ensures raised { result ≡ unwrap_or (option_map (λ ports. has_new_change ports (ports_after e.now ports)) self.old.ports) false }
+    {
+        match &mut self.ports {
+            Some(ports) => ports.event_raises(e),
+            None => false,
+        }
+    }
+
+    fn port_event(&mut self, e: &PortEvent)
+        ensures { self.new ≡ after_port_event e.now self.old.ports self.old }
+    {
+        if self.event_of_ports(e) {
+            self.tell_port_change();
+        }
+    }
+
+    fn tell_port_change(&mut self)
+        ensures { self.new ≡ record self.old { port_change = true } }
+    {
+        self.status.insert(Status::PORT_CHANGE);
+    }
+
+    /// What is declared at a root port is plugged in. Nothing changes where there are no `RootPorts`, where the port isn't there or has nothing declared, and where it is
+    /// plugged in already. Port Change Detect is raised where the connection change goes from 0 to 1.
+    pub fn plug(&mut self, port: u8)
+        ensures { self.new ≡ after_plug self.old port }
+    {
+        self.port_event(&PortEvent::Plug(port));
+    }
+
+    /// What is plugged in at a root port is unplugged. Nothing changes where there are no `RootPorts`, where the port isn't there, and where nothing is plugged in. Port Change
+    /// Detect is raised where the connection change goes from 0 to 1.
+    pub fn unplug(&mut self, port: u8)
+        ensures { self.new ≡ after_unplug self.old port }
+    {
+        self.port_event(&PortEvent::Unplug(port));
     }
 
     /// Raises the bits of `bits` in USBSTS (EHCI 1.0 section 2.3.2): bits 5:0 and Reclamation. HCHalted and the status of the schedules follow USBCMD at once, so those of

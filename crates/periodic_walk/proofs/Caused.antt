@@ -11,19 +11,19 @@ use Rattle.qh_qtd.specs.declared.queue_head.Qh.{Qh}
 use Rattle.itd_sitd.specs.declared.itd.Itd.{Itd}
 use Rattle.itd_sitd.specs.declared.sitd.Sitd.{Sitd}
 use Rattle.toggle_error.specs.declared.host.Outcome.{Outcome}
-use Rattle.queue_words.specs.Structures.{qtd_at_address, qtd_was_read, queue_head_at_address, reaches_queue_head}
-use Rattle.descriptor_words.specs.Descriptors.{itd_at_address, sitd_at_address}
-use Rattle.interrupt_visits.specs.declared.turns.Turn.{Turn}
-use Rattle.interrupt_visits.specs.declared.turns.Turn.TheVariants as turns
-use Rattle.interrupt_visits.specs.Turns.{planned}
-use Rattle.iso_visits.specs.declared.held.HeldItd.{HeldItd}
-use Rattle.iso_visits.specs.declared.held.HeldSitd.{HeldSitd}
-use Rattle.iso_visits.specs.declared.held.IsoEnd.{IsoEnd}
-use Rattle.iso_visits.specs.declared.held.SitdTurn.{SitdTurn}
-use Rattle.iso_visits.specs.declared.held.SitdTurn.TheVariants as sitd_turns
-use Rattle.iso_visits.specs.declared.held.SplitOutcome.{SplitOutcome}
-use Rattle.iso_visits.specs.Itd.{itd_transaction}
-use Rattle.iso_visits.specs.Sitd.{sitd_transaction}
+use Rattle.mem_queues.specs.Structures.{qtd_at_address, qtd_was_read, queue_head_at_address, reaches_queue_head}
+use Rattle.mem_descriptors.specs.Descriptors.{itd_at_address, sitd_at_address}
+use Rattle.hc_interrupt.specs.declared.turns.Turn.{Turn}
+use Rattle.hc_interrupt.specs.declared.turns.Turn.TheVariants as turns
+use Rattle.hc_interrupt.specs.Turns.{planned}
+use Rattle.hc_iso.specs.declared.held.HeldItd.{HeldItd}
+use Rattle.hc_iso.specs.declared.held.HeldSitd.{HeldSitd}
+use Rattle.hc_iso.specs.declared.held.IsoEnd.{IsoEnd}
+use Rattle.hc_iso.specs.declared.held.SitdTurn.{SitdTurn}
+use Rattle.hc_iso.specs.declared.held.SitdTurn.TheVariants as sitd_turns
+use Rattle.hc_iso.specs.declared.held.SplitOutcome.{SplitOutcome}
+use Rattle.hc_iso.specs.Itd.{itd_transaction}
+use Rattle.hc_iso.specs.Sitd.{sitd_transaction}
 use Rattle.async_walk.specs.declared.state.WalkStep.TheVariants as steps
 use Rattle.periodic_walk.specs.declared.state.Hand.TheVariants as hands
 use Rattle.periodic_walk.specs.declared.state.HeldQueue.{HeldQueue}

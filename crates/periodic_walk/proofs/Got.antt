@@ -3,12 +3,12 @@ use Rattle.std.proofs.Common.{◌≡◌, ℕ, ◌≤◌, Bool, true, false, List
 use Rattle.std.specs.Prelude.{nat_le}
 use Rattle.std.proofs.lemmas.List.{length-append}
 use Rattle.usb_base.specs.declared.packets.Reply.{Reply}
-use Rattle.usb_base.specs.declared.packets.Reply.TheVariants.{Silent, Bytes, Hand}
-use Rattle.iso_visits.specs.declared.held.HeldItd.{HeldItd}
-use Rattle.iso_visits.specs.declared.held.Heard.{Heard}
-use Rattle.iso_visits.specs.declared.held.Heard.TheVariants.{Packet, TooLong, Wrong}
-use Rattle.iso_visits.specs.Itd.{IsItdHeld, limit_of, number_of, is_in_order, heard_numbered, heard_in, after_heard, after_in, after_out, itd_after}
-use Rattle.iso_visits.specs.WriteBack.{bytes_of}
+use Rattle.usb_base.specs.declared.packets.Reply.TheVariants.{Bytes}
+use Rattle.hc_iso.specs.declared.held.HeldItd.{HeldItd}
+use Rattle.hc_iso.specs.declared.held.Heard.{Heard}
+use Rattle.hc_iso.specs.declared.held.Heard.TheVariants.{Packet, TooLong, Wrong}
+use Rattle.hc_iso.specs.Itd.{IsItdHeld, limit_of, number_of, is_in_order, heard_numbered, heard_in, after_heard, after_in, after_out, itd_after}
+use Rattle.hc_iso.specs.WriteBack.{bytes_of}
 use Rattle.periodic_walk.specs.Itd.{with_heard, got_after}
 
 pub room_for_packet : (h : HeldItd) (got : List ℕ) → IsItdHeld h → h.ended ≡ None → length got ≤ h.moved → length got ≤ 2048
@@ -25,14 +25,12 @@ numbered h n None k m e = absurd cc
 numbered h n (Some j) k m e = numbered_at h n j k m (is_in_order h j) (nat_le n (limit_of h)) e
 
 heard_bytes : (h : HeldItd) (reply : Reply) (k m : ℕ) → heard_in h reply ≡ Packet k m → length (bytes_of reply) ≡ m
-heard_bytes h Silent k m e = absurd cc
 heard_bytes h (Bytes pid bytes) k m e = numbered h (length bytes) (number_of pid) k m e
-heard_bytes h (Hand pid) k m e = absurd cc
+heard_bytes h _ k m e = absurd cc
 
 kept_at : (h : HeldItd) (reply : Reply) (got : List ℕ) (heard : Heard) → length got ≤ h.moved → ((k m : ℕ) → heard ≡ Packet k m → length (bytes_of reply) ≡ m) → length (with_heard heard reply got) ≤ (after_heard h heard).moved
 kept_at h reply got (Packet k n) kept bytes = omega (arith, length-append got (bytes_of reply), bytes k n refl, kept)
-kept_at h reply got TooLong kept bytes = kept
-kept_at h reply got Wrong kept bytes = kept
+kept_at h reply got _ kept bytes = kept
 
 in_kept : (h : HeldItd) (reply : Reply) (got : List ℕ) → length got ≤ h.moved → length (with_heard (heard_in h reply) reply got) ≤ (after_in h reply).moved
 unfolding after_in

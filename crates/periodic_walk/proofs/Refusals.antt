@@ -6,7 +6,7 @@ use Rattle.usb_base.specs.declared.packets.Ask.{Ask}
 use Rattle.usb_base.specs.declared.packets.Reply.{Reply}
 use Rattle.word_mem.specs.Memory.{Mem, reaches, refused, with_word}
 use Rattle.word_mem.specs.Views.{words_at, with_words}
-use Rattle.buffers.specs.Bytes.{all_reached}
+use Rattle.mem_bytes.specs.Bytes.{all_reached}
 use Rattle.link_words.specs.declared.kinds.Link.{Link}
 use Rattle.link_words.specs.declared.kinds.Link.TheVariants as links
 use Rattle.link_words.specs.declared.kinds.QtdLink.TheVariants as qtd_links
@@ -17,26 +17,26 @@ use Rattle.itd_sitd.specs.declared.itd.Itd.{Itd}
 use Rattle.itd_sitd.specs.declared.sitd.Sitd.{Sitd}
 use Rattle.itd_sitd.specs.Slot.{slot_word}
 use Rattle.toggle_error.specs.declared.host.Outcome.{Outcome}
-use Rattle.queue_words.specs.Structures.{reaches_queue_head}
-use Rattle.descriptor_words.specs.Descriptors.{reaches_itd, slot_address, state_words}
-use Rattle.walk_copy.specs.declared.held.Transaction.{Transaction}
-use Rattle.walk_copy.specs.Overlay.{advanced}
-use Rattle.walk_copy.specs.Buffer.{Writing, size_of, placed, bytes_read, bytes_written, sending}
-use Rattle.walk_copy.specs.WriteBack.{received}
-use Rattle.interrupt_visits.specs.declared.turns.Turn.{Turn}
-use Rattle.interrupt_visits.specs.declared.turns.Turn.TheVariants as turns
-use Rattle.interrupt_visits.specs.Turns.{microframe_of, turn_of, planned}
-use Rattle.iso_visits.specs.declared.held.HeldItd.{HeldItd}
-use Rattle.iso_visits.specs.declared.held.HeldSitd.{HeldSitd}
-use Rattle.iso_visits.specs.declared.held.IsoEnd.{IsoEnd}
-use Rattle.iso_visits.specs.declared.held.IsoTransaction.{IsoTransaction}
-use Rattle.iso_visits.specs.declared.held.SitdTurn.{SitdTurn}
-use Rattle.iso_visits.specs.declared.held.SitdTurn.TheVariants as sitd_turns
-use Rattle.iso_visits.specs.declared.held.SplitOutcome.{SplitOutcome}
-use Rattle.iso_visits.specs.declared.held.SplitOutcome.TheVariants.{Failed}
-use Rattle.iso_visits.specs.Itd.{itd_transaction}
-use Rattle.iso_visits.specs.Sitd.{sitd_turn, sitd_transaction, sitd_place, missed_copy, moved_sitd}
-use Rattle.iso_visits.specs.WriteBack.{moved_by, itd_pages, slot_place, itd_sending, done_slot, slot_back, itd_written, sitd_pages, sitd_sending, sitd_received, state_back, sitd_written}
+use Rattle.mem_queues.specs.Structures.{reaches_queue_head}
+use Rattle.mem_descriptors.specs.Descriptors.{reaches_itd, slot_address, state_words}
+use Rattle.hc_copy.specs.declared.held.Transaction.{Transaction}
+use Rattle.hc_copy.specs.Overlay.{advanced}
+use Rattle.hc_copy.specs.Buffer.{Writing, size_of, placed, bytes_read, bytes_written, sending}
+use Rattle.hc_copy.specs.WriteBack.{received}
+use Rattle.hc_interrupt.specs.declared.turns.Turn.{Turn}
+use Rattle.hc_interrupt.specs.declared.turns.Turn.TheVariants as turns
+use Rattle.hc_interrupt.specs.Turns.{microframe_of, turn_of, planned}
+use Rattle.hc_iso.specs.declared.held.HeldItd.{HeldItd}
+use Rattle.hc_iso.specs.declared.held.HeldSitd.{HeldSitd}
+use Rattle.hc_iso.specs.declared.held.IsoEnd.{IsoEnd}
+use Rattle.hc_iso.specs.declared.held.IsoTransaction.{IsoTransaction}
+use Rattle.hc_iso.specs.declared.held.SitdTurn.{SitdTurn}
+use Rattle.hc_iso.specs.declared.held.SitdTurn.TheVariants as sitd_turns
+use Rattle.hc_iso.specs.declared.held.SplitOutcome.{SplitOutcome}
+use Rattle.hc_iso.specs.declared.held.SplitOutcome.TheVariants.{Failed}
+use Rattle.hc_iso.specs.Itd.{itd_transaction}
+use Rattle.hc_iso.specs.Sitd.{sitd_turn, sitd_transaction, sitd_place, missed_copy, moved_sitd}
+use Rattle.hc_iso.specs.WriteBack.{moved_by, itd_pages, slot_place, itd_sending, done_slot, slot_back, itd_written, sitd_pages, sitd_sending, sitd_received, state_back, sitd_written}
 use Rattle.async_walk.specs.Causes.{AreRefusalsFaults}
 use Rattle.async_walk.proofs.Refusals.{both_true, first_of, overlay_counts, stored_counts, then_counts, written_counts, reading_counts, sending_counts}
 use Rattle.periodic_walk.specs.declared.chain.ChainRow.{ChainRow}
@@ -170,11 +170,10 @@ module _ {W : Type 0} (transacts : W → Ask → List ℕ → Reply → W → Ty
       (λ all. written_counts h.copy.at h.copy.queue_head outcome (received h.copy.queue_head outcome p.walk.reply) p.memory all))
 
   queue_turn : (h : HeldQueue) (t : Turn) → HasEffect transacts (queue_effect (turn_row p.memory p.walk.left h.copy.queue_head t) h (reading (turn_read p.memory t) p)) before new after → Halts new p.memory.foreign
-  queue_turn h turns.Rest leads = skip_halts (passing h.copy.queue_head.link p) refl leads
   queue_turn h turns.Work leads = queue_timed h (nat_lt p.walk.left (planned h.copy.queue_head).price.0) leads
   queue_turn h turns.Miss leads = queue_wrote (missed h) miss_outcome leads
-  queue_turn h (turns.Take qtd_links.End) leads = skip_halts (passing h.copy.queue_head.link p) refl leads
   queue_turn h (turns.Take (qtd_links.To a)) leads = queue_read h a (reaches p.memory a) (result_ok (qtd_read (words_at p.memory a 8))) leads
+  queue_turn h _ leads = skip_halts (passing h.copy.queue_head.link p) refl leads
 
   queue_halts : (h : HeldQueue) (s : Option Outcome) → HasEffect transacts (queue_effect (settled_row p.memory p.walk.left p.walk.index h.copy.queue_head s) h (reading (settled_read p.memory p.walk.index h.copy.queue_head s) p)) before new after → Halts new p.memory.foreign
   queue_halts h None leads = queue_turn h (turn_of p.walk.index h.copy.queue_head) leads

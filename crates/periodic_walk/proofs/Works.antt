@@ -4,18 +4,18 @@ use Rattle.std.specs.Prelude.{nat_lt}
 use Rattle.std.proofs.lemmas.Bool.{ltb-true}
 use Rattle.link_words.specs.declared.kinds.QtdLink.{QtdLink}
 use Rattle.link_words.specs.Links.{qtd_link_of}
-use Rattle.frame_masks.specs.Masks.{has}
-use Rattle.walk_copy.specs.Visits.{next_pointer, visit_at}
-use Rattle.walk_copy.specs.Buffer.{sending}
-use Rattle.interrupt_visits.specs.declared.turns.Turn.TheVariants as turns
-use Rattle.interrupt_visits.specs.Turns.{microframe_of, waits, is_missed, complete_turn, start_turn, planned}
-use Rattle.iso_visits.specs.declared.held.HeldItd.{HeldItd}
-use Rattle.iso_visits.specs.declared.held.HeldSitd.{HeldSitd}
-use Rattle.iso_visits.specs.declared.held.SitdTurn.TheVariants as sitd_turns
-use Rattle.iso_visits.specs.declared.held.SplitOutcome.TheVariants.{Failed}
-use Rattle.iso_visits.specs.Itd.{itd_transaction}
-use Rattle.iso_visits.specs.Sitd.{sitd_missed, comes, turn_at, sitd_transaction, missed_copy}
-use Rattle.iso_visits.specs.WriteBack.{itd_sending, sitd_sending}
+use Rattle.hc_masks.specs.Masks.{has}
+use Rattle.hc_copy.specs.Visits.{next_pointer, visit_at}
+use Rattle.hc_copy.specs.Buffer.{sending}
+use Rattle.hc_interrupt.specs.declared.turns.Turn.TheVariants as turns
+use Rattle.hc_interrupt.specs.Turns.{microframe_of, waits, is_missed, complete_turn, start_turn, planned}
+use Rattle.hc_iso.specs.declared.held.HeldItd.{HeldItd}
+use Rattle.hc_iso.specs.declared.held.HeldSitd.{HeldSitd}
+use Rattle.hc_iso.specs.declared.held.SitdTurn.TheVariants as sitd_turns
+use Rattle.hc_iso.specs.declared.held.SplitOutcome.TheVariants.{Failed}
+use Rattle.hc_iso.specs.Itd.{itd_transaction}
+use Rattle.hc_iso.specs.Sitd.{sitd_missed, comes, turn_at, sitd_transaction, missed_copy}
+use Rattle.hc_iso.specs.WriteBack.{itd_sending, sitd_sending}
 use Rattle.async_walk.specs.declared.state.WalkStep.{WalkStep}
 use Rattle.async_walk.specs.declared.state.WalkStep.TheVariants as steps
 use Rattle.periodic_walk.specs.declared.state.Hand.TheVariants as hands

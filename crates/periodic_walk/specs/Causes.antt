@@ -7,23 +7,23 @@ use Rattle.link_words.specs.declared.kinds.Link.TheVariants as links
 use Rattle.link_words.specs.declared.kinds.QtdLink.TheVariants as qtd_links
 use Rattle.qh_qtd.specs.declared.qtd.Qtd.{Qtd}
 use Rattle.toggle_error.specs.declared.host.Outcome.{Outcome}
-use Rattle.queue_words.specs.Structures.{qtd_at_address, queue_head_at_address, reaches_queue_head}
-use Rattle.descriptor_words.specs.Descriptors.{itd_at_address, sitd_at_address}
-use Rattle.walk_copy.specs.Buffer.{sending}
-use Rattle.frame_masks.specs.Masks.{has}
-use Rattle.interrupt_visits.specs.declared.turns.Turn.{Turn}
-use Rattle.interrupt_visits.specs.declared.turns.Turn.TheVariants as turns
-use Rattle.interrupt_visits.specs.Turns.{microframe_of, waits, is_missed, turn_of, planned}
-use Rattle.iso_visits.specs.declared.held.HeldItd.{HeldItd}
-use Rattle.iso_visits.specs.declared.held.HeldSitd.{HeldSitd}
-use Rattle.iso_visits.specs.declared.held.IsoEnd.{IsoEnd}
-use Rattle.iso_visits.specs.declared.held.SitdTurn.{SitdTurn}
-use Rattle.iso_visits.specs.declared.held.SitdTurn.TheVariants as sitd_turns
-use Rattle.iso_visits.specs.declared.held.SplitOutcome.{SplitOutcome}
-use Rattle.iso_visits.specs.declared.held.SplitOutcome.TheVariants.{Failed}
-use Rattle.iso_visits.specs.Itd.{itd_transaction}
-use Rattle.iso_visits.specs.Sitd.{sitd_missed, comes, sitd_turn, sitd_transaction, missed_copy}
-use Rattle.iso_visits.specs.WriteBack.{itd_sending, itd_written, sitd_sending}
+use Rattle.mem_queues.specs.Structures.{qtd_at_address, queue_head_at_address, reaches_queue_head}
+use Rattle.mem_descriptors.specs.Descriptors.{itd_at_address, sitd_at_address}
+use Rattle.hc_copy.specs.Buffer.{sending}
+use Rattle.hc_masks.specs.Masks.{has}
+use Rattle.hc_interrupt.specs.declared.turns.Turn.{Turn}
+use Rattle.hc_interrupt.specs.declared.turns.Turn.TheVariants as turns
+use Rattle.hc_interrupt.specs.Turns.{microframe_of, waits, is_missed, turn_of, planned}
+use Rattle.hc_iso.specs.declared.held.HeldItd.{HeldItd}
+use Rattle.hc_iso.specs.declared.held.HeldSitd.{HeldSitd}
+use Rattle.hc_iso.specs.declared.held.IsoEnd.{IsoEnd}
+use Rattle.hc_iso.specs.declared.held.SitdTurn.{SitdTurn}
+use Rattle.hc_iso.specs.declared.held.SitdTurn.TheVariants as sitd_turns
+use Rattle.hc_iso.specs.declared.held.SplitOutcome.{SplitOutcome}
+use Rattle.hc_iso.specs.declared.held.SplitOutcome.TheVariants.{Failed}
+use Rattle.hc_iso.specs.Itd.{itd_transaction}
+use Rattle.hc_iso.specs.Sitd.{sitd_missed, comes, sitd_turn, sitd_transaction, missed_copy}
+use Rattle.hc_iso.specs.WriteBack.{itd_sending, itd_written, sitd_sending}
 use Rattle.async_walk.specs.declared.state.WalkStep.{WalkStep}
 use Rattle.async_walk.specs.declared.state.WalkStep.TheVariants as steps
 use Rattle.periodic_walk.specs.declared.state.Hand.TheVariants as hands

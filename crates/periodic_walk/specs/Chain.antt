@@ -11,10 +11,10 @@ use Rattle.itd_sitd.specs.Itd.{IsItdInRange}
 use Rattle.itd_sitd.specs.Sitd.{IsSitdInRange}
 use Rattle.op_registers.specs.RegisterFile.{RegisterFile}
 use Rattle.op_registers.specs.Events.{after_fault}
-use Rattle.queue_words.specs.Structures.{queue_head_at_address, queue_head_was_read}
-use Rattle.descriptor_words.specs.Descriptors.{itd_at_address, itd_was_read, sitd_at_address, sitd_was_read}
-use Rattle.interrupt_visits.specs.Turns.{microframe_of}
-use Rattle.iso_visits.specs.Itd.{fetched_itd}
+use Rattle.mem_queues.specs.Structures.{queue_head_at_address, queue_head_was_read}
+use Rattle.mem_descriptors.specs.Descriptors.{itd_at_address, itd_was_read, sitd_at_address, sitd_was_read}
+use Rattle.hc_interrupt.specs.Turns.{microframe_of}
+use Rattle.hc_iso.specs.Itd.{fetched_itd}
 use Rattle.async_walk.specs.declared.state.WalkStep.{WalkStep}
 use Rattle.async_walk.specs.declared.state.WalkStep.TheVariants as steps
 use Rattle.periodic_walk.specs.declared.chain.ChainRow.{ChainRow}

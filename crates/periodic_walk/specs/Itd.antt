@@ -1,14 +1,14 @@
 -- An event at the iTD in hand (EHCI 1.0, 4.7.1): its microframe has its transactions, then one write-back.
 use Rattle.std.specs.Prelude.{ℕ, ◌-◌, Bool, true, false, nat_lt, List, ◌++◌, Option, None, Some, if◌then◌else◌}
 use Rattle.usb_base.specs.declared.packets.Reply.{Reply}
-use Rattle.walk_copy.specs.Buffer.{Reading, Writing}
-use Rattle.iso_visits.specs.declared.held.HeldItd.{HeldItd}
-use Rattle.iso_visits.specs.declared.held.IsoEnd.{IsoEnd}
-use Rattle.iso_visits.specs.declared.held.IsoTransaction.{IsoTransaction}
-use Rattle.iso_visits.specs.declared.held.Heard.{Heard}
-use Rattle.iso_visits.specs.declared.held.Heard.TheVariants.{Packet, TooLong, Wrong}
-use Rattle.iso_visits.specs.Itd.{itd_transaction, heard_in, itd_after}
-use Rattle.iso_visits.specs.WriteBack.{itd_sending, itd_written, itd_raised, bytes_of}
+use Rattle.hc_copy.specs.Buffer.{Reading, Writing}
+use Rattle.hc_iso.specs.declared.held.HeldItd.{HeldItd}
+use Rattle.hc_iso.specs.declared.held.IsoEnd.{IsoEnd}
+use Rattle.hc_iso.specs.declared.held.IsoTransaction.{IsoTransaction}
+use Rattle.hc_iso.specs.declared.held.Heard.{Heard}
+use Rattle.hc_iso.specs.declared.held.Heard.TheVariants.{Packet, TooLong, Wrong}
+use Rattle.hc_iso.specs.Itd.{itd_transaction, heard_in, itd_after}
+use Rattle.hc_iso.specs.WriteBack.{itd_sending, itd_written, itd_raised, bytes_of}
 use Rattle.async_walk.specs.declared.state.WalkStep.{WalkStep}
 use Rattle.async_walk.specs.declared.state.WalkStep.TheVariants as steps
 use Rattle.periodic_walk.specs.declared.itd.ItdRow.{ItdRow}

@@ -10,18 +10,18 @@ use Rattle.qh_qtd.specs.declared.queue_head.Qh.{Qh}
 use Rattle.qh_qtd.specs.Qtd.{IsQtdInRange}
 use Rattle.toggle_error.specs.declared.host.Outcome.{Outcome}
 use Rattle.toggle_error.specs.declared.host.Outcome.TheVariants as outcomes
-use Rattle.queue_words.specs.Structures.{qtd_at_address, qtd_was_read, reaches_queue_head}
-use Rattle.walk_copy.specs.declared.held.Held.{Held}
-use Rattle.walk_copy.specs.declared.held.Transaction.{Transaction}
-use Rattle.walk_copy.specs.Planning.{CanBeMade}
-use Rattle.walk_copy.specs.Overlay.{advanced}
-use Rattle.walk_copy.specs.Buffer.{Reading, Writing, sending}
-use Rattle.walk_copy.specs.Transacting.{call_in}
-use Rattle.walk_copy.specs.WriteBack.{received, written_back, raised, overlay_after}
-use Rattle.interrupt_visits.specs.declared.turns.Turn.{Turn}
-use Rattle.interrupt_visits.specs.declared.turns.Turn.TheVariants as turns
-use Rattle.interrupt_visits.specs.Turns.{turn_of, planned, is_last_of}
-use Rattle.interrupt_visits.specs.Copies.{interrupt_copy, missed_copy, goes_on, again_copy}
+use Rattle.mem_queues.specs.Structures.{qtd_at_address, qtd_was_read, reaches_queue_head}
+use Rattle.hc_copy.specs.declared.held.Held.{Held}
+use Rattle.hc_copy.specs.declared.held.Transaction.{Transaction}
+use Rattle.hc_copy.specs.Planning.{CanBeMade}
+use Rattle.hc_copy.specs.Overlay.{advanced}
+use Rattle.hc_copy.specs.Buffer.{Reading, Writing, sending}
+use Rattle.hc_copy.specs.Transacting.{call_in}
+use Rattle.hc_copy.specs.WriteBack.{received, written_back, raised, overlay_after}
+use Rattle.hc_interrupt.specs.declared.turns.Turn.{Turn}
+use Rattle.hc_interrupt.specs.declared.turns.Turn.TheVariants as turns
+use Rattle.hc_interrupt.specs.Turns.{turn_of, planned, is_last_of}
+use Rattle.hc_interrupt.specs.Copies.{interrupt_copy, missed_copy, goes_on, again_copy}
 use Rattle.async_walk.specs.declared.state.WalkStep.{WalkStep}
 use Rattle.async_walk.specs.declared.state.WalkStep.TheVariants as steps
 use Rattle.periodic_walk.specs.declared.queue.QueueRow.{QueueRow}

@@ -11,10 +11,10 @@ use Rattle.qh_qtd.specs.declared.queue_head.Qh.{Qh}
 use Rattle.toggle_error.specs.declared.host.Outcome.{Outcome}
 use Rattle.toggle_error.specs.declared.host.Outcome.TheVariants.{Error}
 use Rattle.word_mem.specs.Memory.{Mem}
-use Rattle.interrupt_visits.specs.Samples.{split_in}
-use Rattle.iso_visits.specs.declared.held.HeldSitd.{HeldSitd}
-use Rattle.iso_visits.specs.declared.held.SplitOutcome.{SplitOutcome}
-use Rattle.iso_visits.specs.Samples.{split_in as sitd_in}
+use Rattle.hc_interrupt.specs.Samples.{split_in}
+use Rattle.hc_iso.specs.declared.held.HeldSitd.{HeldSitd}
+use Rattle.hc_iso.specs.declared.held.SplitOutcome.{SplitOutcome}
+use Rattle.hc_iso.specs.Samples.{split_in as sitd_in}
 use Rattle.periodic_walk.specs.declared.state.HeldQueue.{HeldQueue}
 use Rattle.periodic_walk.specs.declared.state.Hand.{Hand}
 use Rattle.periodic_walk.specs.Place.{FramePlace}

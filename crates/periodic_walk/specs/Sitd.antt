@@ -2,17 +2,17 @@
 use Rattle.std.specs.Prelude.{ℕ, ◌-◌, Bool, true, false, nat_lt, Option, None, Some, if◌then◌else◌}
 use Rattle.usb_base.specs.declared.packets.Reply.{Reply}
 use Rattle.word_mem.specs.Memory.{Mem}
-use Rattle.walk_copy.specs.Buffer.{Reading, Writing}
-use Rattle.interrupt_visits.specs.Turns.{microframe_of}
+use Rattle.hc_copy.specs.Buffer.{Reading, Writing}
+use Rattle.hc_interrupt.specs.Turns.{microframe_of}
 use Rattle.itd_sitd.specs.declared.sitd.Sitd.{Sitd}
-use Rattle.iso_visits.specs.declared.held.HeldSitd.{HeldSitd}
-use Rattle.iso_visits.specs.declared.held.IsoTransaction.{IsoTransaction}
-use Rattle.iso_visits.specs.declared.held.SitdTurn.{SitdTurn}
-use Rattle.iso_visits.specs.declared.held.SitdTurn.TheVariants as turns
-use Rattle.iso_visits.specs.declared.held.SplitOutcome.{SplitOutcome}
-use Rattle.iso_visits.specs.declared.held.SplitOutcome.TheVariants.{Failed}
-use Rattle.iso_visits.specs.Sitd.{sitd_turn, sitd_transaction, sitd_copy, missed_copy}
-use Rattle.iso_visits.specs.WriteBack.{sitd_sending, sitd_received, sitd_written, sitd_raised}
+use Rattle.hc_iso.specs.declared.held.HeldSitd.{HeldSitd}
+use Rattle.hc_iso.specs.declared.held.IsoTransaction.{IsoTransaction}
+use Rattle.hc_iso.specs.declared.held.SitdTurn.{SitdTurn}
+use Rattle.hc_iso.specs.declared.held.SitdTurn.TheVariants as turns
+use Rattle.hc_iso.specs.declared.held.SplitOutcome.{SplitOutcome}
+use Rattle.hc_iso.specs.declared.held.SplitOutcome.TheVariants.{Failed}
+use Rattle.hc_iso.specs.Sitd.{sitd_turn, sitd_transaction, sitd_copy, missed_copy}
+use Rattle.hc_iso.specs.WriteBack.{sitd_sending, sitd_received, sitd_written, sitd_raised}
 use Rattle.async_walk.specs.declared.state.WalkStep.{WalkStep}
 use Rattle.async_walk.specs.declared.state.WalkStep.TheVariants as steps
 use Rattle.periodic_walk.specs.declared.sitd.SitdRow.{SitdRow}

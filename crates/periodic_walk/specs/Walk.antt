@@ -5,9 +5,9 @@ use Rattle.usb_base.specs.declared.packets.Reply.TheVariants.{Silent}
 use Rattle.link_words.specs.declared.kinds.Link.{Link}
 use Rattle.link_words.specs.declared.kinds.Link.TheVariants as links
 use Rattle.link_words.specs.Links.{IsAligned, is_end}
-use Rattle.walk_copy.specs.Visits.{IsHeld}
-use Rattle.iso_visits.specs.Itd.{IsItdHeld}
-use Rattle.iso_visits.specs.Sitd.{IsSitdHeld}
+use Rattle.hc_copy.specs.Visits.{IsHeld}
+use Rattle.hc_iso.specs.Itd.{IsItdHeld}
+use Rattle.hc_iso.specs.Sitd.{IsSitdHeld}
 use Rattle.periodic_walk.specs.declared.state.Hand.{Hand}
 use Rattle.periodic_walk.specs.declared.state.Hand.TheVariants as hands
 

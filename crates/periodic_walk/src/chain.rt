@@ -9,15 +9,15 @@ ghost use Rattle.periodic_walk.specs.Chain.{IsSound, chain_row, chain_read, fetc
 
 use crate::state::{Hand, HeldQueue, PeriodicState};
 use async_walk::WalkStep;
-use descriptor_words::{read_itd, read_sitd};
-use interrupt_visits::microframe;
-use iso_visits::{HeldItd, HeldSitd};
+use hc_copy::Held;
+use hc_interrupt::microframe;
+use hc_iso::{HeldItd, HeldSitd};
 use itd_sitd::{Itd, Sitd};
 use link_words::Link;
+use mem_descriptors::{read_itd, read_sitd};
+use mem_queues::read_queue_head;
 use op_registers::Registers;
 use qh_qtd::Qh;
-use queue_words::read_queue_head;
-use walk_copy::Held;
 use word_mem::WordMem;
 
 /// What the cursor's link leads to, with what was read there.

@@ -1,13 +1,13 @@
 ghost use Rattle.std.specs.Prelude.{◌≡◌, ◌≤◌, None, length};
 ghost use Rattle.word_mem.specs.Access.{IsByController};
-ghost use Rattle.iso_visits.specs.Itd.{IsItdHeld, itd_transaction};
+ghost use Rattle.hc_iso.specs.Itd.{IsItdHeld, itd_transaction};
 ghost use Rattle.periodic_walk.specs.Place.{place, HasEffect};
 ghost use Rattle.periodic_walk.specs.Itd.{open_row, itd_row, wrote, wrote_step, itd_step, with_heard, got_after, itd_sent, itd_effect};
 
 use crate::state::{Hand, PeriodicState};
 use arrayvec::ArrayVec;
 use async_walk::WalkStep;
-use iso_visits::{Heard, HeldItd, IsoEnd, IsoTransaction, bytes, load_itd, raise_itd, write_itd};
+use hc_iso::{Heard, HeldItd, IsoEnd, IsoTransaction, bytes, load_itd, raise_itd, write_itd};
 use op_registers::Registers;
 use usb_base::{Ps, Reply, Wire};
 use word_mem::WordMem;

@@ -3,9 +3,9 @@ ghost use Rattle.word_mem.specs.Access.{IsByController};
 ghost use Rattle.link_words.specs.Links.{IsQtdAligned};
 ghost use Rattle.qh_qtd.specs.Qtd.{IsQtdInRange};
 ghost use Rattle.qh_qtd.specs.QueueHead.{IsQhInRange};
-ghost use Rattle.walk_copy.specs.Visits.{IsHeld};
-ghost use Rattle.walk_copy.specs.Planning.{CanBeMade};
-ghost use Rattle.interrupt_visits.specs.Turns.{turn_of, planned};
+ghost use Rattle.hc_copy.specs.Visits.{IsHeld};
+ghost use Rattle.hc_copy.specs.Planning.{CanBeMade};
+ghost use Rattle.hc_interrupt.specs.Turns.{turn_of, planned};
 ghost use Rattle.periodic_walk.specs.declared.state.Hand.TheVariants.{Queue};
 ghost use Rattle.periodic_walk.specs.Place.{place, HasEffect};
 ghost use Rattle.periodic_walk.specs.Queue.{IsSound, timed_row, take_row, turn_row, take_read, turn_read, took, took_step, visit_after, wrote, wrote_step, missed as missed_held, miss_outcome, queue_step, queue_sent, queue_effect, sent_step};
@@ -13,14 +13,14 @@ ghost use Rattle.periodic_walk.specs.Rows.{step_at, effect_at};
 
 use crate::state::{Hand, HeldQueue, PeriodicState};
 use async_walk::WalkStep;
-use interrupt_visits::{Turn, again, goes_on, missed, planned as next, transact, turn_in};
+use hc_copy::{Transaction, raise, read_out, take_qtd, write_back};
+use hc_interrupt::{Turn, again, goes_on, missed, planned as next, transact, turn_in};
 use link_words::QtdLink;
+use mem_queues::read_qtd;
 use op_registers::Registers;
 use qh_qtd::{Qh, Qtd};
-use queue_words::read_qtd;
 use toggle_error::Outcome;
 use usb_base::{EndCause, Ps, Wire};
-use walk_copy::{Transaction, raise, read_out, take_qtd, write_back};
 use word_mem::WordMem;
 
 /// The kind of an event at a queue head in hand, with what it read.

@@ -1,14 +1,14 @@
 ghost use Rattle.std.specs.Prelude.{◌≡◌, ◌≤◌};
 ghost use Rattle.word_mem.specs.Access.{IsByController};
-ghost use Rattle.interrupt_visits.specs.Turns.{microframe_of};
-ghost use Rattle.iso_visits.specs.Sitd.{IsSitdHeld, sitd_turn, sitd_transaction, missed_copy};
+ghost use Rattle.hc_interrupt.specs.Turns.{microframe_of};
+ghost use Rattle.hc_iso.specs.Sitd.{IsSitdHeld, sitd_turn, sitd_transaction, missed_copy};
 ghost use Rattle.periodic_walk.specs.Place.{place, HasEffect};
 ghost use Rattle.periodic_walk.specs.Sitd.{turn_row, timed_row, sitd_row, wrote, wrote_step, sitd_step, sitd_sent, sitd_effect, work_effect, turn_effect};
 
 use crate::state::{Hand, PeriodicState};
 use async_walk::WalkStep;
-use interrupt_visits::microframe;
-use iso_visits::{
+use hc_interrupt::microframe;
+use hc_iso::{
     HeldSitd, IsoTransaction, SitdTurn, SplitOutcome, load_sitd, raise_sitd, turn, write_sitd,
 };
 use op_registers::Registers;

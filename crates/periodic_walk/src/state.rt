@@ -1,12 +1,12 @@
 ghost use Rattle.std.specs.Prelude.{◌≡◌, ◌%◌};
 
 use arrayvec::ArrayVec;
-use iso_visits::{HeldItd, HeldSitd};
+use hc_copy::Held;
+use hc_iso::{HeldItd, HeldSitd};
 use link_words::{Link, LinkBits};
 use op_registers::Registers;
 use std::marker::Model;
 use usb_base::{Ps, Reply};
-use walk_copy::Held;
 
 /// The copy of an interrupt queue head in hand.
 #[derive(Clone, Copy, Debug, PartialEq, Eq)]

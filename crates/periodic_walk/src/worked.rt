@@ -4,13 +4,13 @@ ghost use Rattle.usb_base.specs.declared.packets.Pid.TheVariants as pids;
 ghost use Rattle.usb_base.specs.declared.packets.Reply.TheVariants.{Silent, Bytes, Hand as Handshake};
 ghost use Rattle.link_words.specs.declared.kinds.Link.TheVariants as links;
 ghost use Rattle.toggle_error.specs.declared.host.Outcome.TheVariants.{Moved, Error};
-ghost use Rattle.interrupt_visits.specs.Turns.{planned};
-ghost use Rattle.interrupt_visits.specs.Samples.{high_in, split_in};
-ghost use Rattle.iso_visits.specs.declared.held.IsoEnd.TheVariants.{Whole};
-ghost use Rattle.iso_visits.specs.declared.held.SplitOutcome.TheVariants.{Nothing};
-ghost use Rattle.iso_visits.specs.Itd.{itd_transaction};
-ghost use Rattle.iso_visits.specs.Sitd.{sitd_transaction};
-ghost use Rattle.iso_visits.specs.Samples.{begun, split_in as sitd_in};
+ghost use Rattle.hc_interrupt.specs.Turns.{planned};
+ghost use Rattle.hc_interrupt.specs.Samples.{high_in, split_in};
+ghost use Rattle.hc_iso.specs.declared.held.IsoEnd.TheVariants.{Whole};
+ghost use Rattle.hc_iso.specs.declared.held.SplitOutcome.TheVariants.{Nothing};
+ghost use Rattle.hc_iso.specs.Itd.{itd_transaction};
+ghost use Rattle.hc_iso.specs.Sitd.{sitd_transaction};
+ghost use Rattle.hc_iso.specs.Samples.{begun, split_in as sitd_in};
 ghost use Rattle.periodic_walk.specs.declared.chain.ChainRow.TheVariants as chain_rows;
 ghost use Rattle.periodic_walk.specs.declared.queue.QueueRow.TheVariants as queue_rows;
 ghost use Rattle.periodic_walk.specs.declared.itd.ItdRow.TheVariants as itd_rows;
@@ -33,7 +33,7 @@ pub fn rows_of_a_chain()
 
 /// The row of a queue head in hand: its transaction, or a skip where that costs more than is left, or a miss, or its write-back (4.10.3
 /// and 4.12.2.4).
-#[tactic(auto, unfolding(frame_masks::specs::Masks::lacks))]
+#[tactic(auto, unfolding(hc_masks::specs::Masks::lacks))]
 pub fn rows_of_a_queue_head()
     ensures in_time { queue_row (at_hand (Queue (queue high_in 0 None)) 40 2171320) (queue high_in 0 None) ≡ queue_rows.Transact (planned high_in) }
     ensures late { queue_row (at_hand (Queue (queue high_in 0 None)) 40 2171319) (queue high_in 0 None) ≡ queue_rows.Skip }
@@ -44,7 +44,7 @@ pub fn rows_of_a_queue_head()
 {}
 
 /// After a write-back the visit goes on, or the link of the copy comes next (3.6.2, 4.10.3 and 4.12.2.4.2).
-#[tactic(auto, unfolding(walk_copy::specs::Overlay::moved))]
+#[tactic(auto, unfolding(hc_copy::specs::Overlay::moved))]
 pub fn visits_after_a_write_back()
     ensures silent { (visit_after failed Error (at_hand (Queue failed) 42 0).walk).hand ≡ Some (Queue (queue (split_in true 4) 1 None)) }
     ensures third { (visit_after (queue high_in 3 (Some (Moved 64))) (Moved 64) (at_hand (Queue (queue high_in 3 (Some (Moved 64)))) 40 0).walk).hand ≡ None }
@@ -69,7 +69,7 @@ pub fn packets_kept()
 {}
 
 /// The row of a siTD in hand (4.12.3.3).
-#[tactic(auto, unfolding(frame_masks::specs::Masks::lacks))]
+#[tactic(auto, unfolding(hc_masks::specs::Masks::lacks))]
 pub fn rows_of_a_sitd()
     ensures starts { sitd_row (at_hand (Sitd (held_sitd false None)) 40 644481) (held_sitd false None) ≡ sitd_rows.Transact (sitd_transaction (sitd_in false 200)) }
     ensures late { sitd_row (at_hand (Sitd (held_sitd false None)) 40 644480) (held_sitd false None) ≡ sitd_rows.Skip }

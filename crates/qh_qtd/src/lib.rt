@@ -2,7 +2,7 @@
 //!
 //! `Qh::read`, `Qtd::read` and their `write`; a token alone is `Token`. Others are written as changes of `Qh::blank`,
 //! `Qtd::blank` and `Token::blank`. Isochronous descriptors stand beside it in `itd_sitd`, structures at
-//! addresses of memory above it in `queue_words`.
+//! addresses of memory above it in `mem_queues`.
 #![tactic(auto)]
 
 mod blank;

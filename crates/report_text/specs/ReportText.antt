@@ -1,5 +1,5 @@
 -- The lines of a report as text.
-use Rattle.std.specs.Prelude.{ℕ, ◌+◌, ◌≤◌, List, [], ◌∷◌, ◌++◌, length, take, drop, Option, Some, None, codes}
+use Rattle.std.specs.Prelude.{ℕ, ◌+◌, ◌/◌, ◌%◌, ◌≤◌, Bool, true, false, List, [], ◌∷◌, ◌++◌, length, take, drop, Option, Some, None, codes}
 use Rattle.std.specs.List.{flat_map, join_with_byte, AllByRecursion}
 use Rattle.std.specs.Fmt.{decimal}
 use Rattle.hex.specs.Hex.{encode_lower}
@@ -9,9 +9,9 @@ use Rattle.usb_base.specs.declared.endpoints.EpName.{EpName}
 use Rattle.usb_base.specs.declared.endpoints.EndCause.{EndCause}
 use Rattle.usb_base.specs.declared.endpoints.EndCause.TheVariants.{Stall, Error, Babble, Miss, Cancel}
 use Rattle.usb_base.specs.declared.reports.OfferError.{OfferError}
-use Rattle.usb_base.specs.declared.reports.OfferError.TheVariants.{Busy, NoEndpoint, Closed, AlreadyOpen, TooLong, NoPlacement, NoBlocks}
+use Rattle.usb_base.specs.declared.reports.OfferError.TheVariants.{Busy, NoEndpoint, Closed, AlreadyOpen, TooLong, NoPlacement, NoBlocks, NotEnded, HubClosed}
 use Rattle.usb_base.specs.declared.reports.What.{What}
-use Rattle.usb_base.specs.declared.reports.What.TheVariants.{Done, Halt, Miss as Missed, Cancel as Cancelled, Iso, Refused}
+use Rattle.usb_base.specs.declared.reports.What.TheVariants.{Done, Halt, Miss as Missed, Cancel as Cancelled, Iso, Refused, Clear, ClearFailed, Port, Disk, DiskReset}
 use Rattle.usb_base.specs.declared.reports.Report.{Report}
 
 -- a line of words
@@ -59,7 +59,18 @@ why_words (Closed cause) = codes "closed" ∷ cause_word cause ∷ []
 why_words AlreadyOpen = codes "already-open" ∷ []
 why_words TooLong = codes "too-long" ∷ []
 why_words NoPlacement = codes "no-placement" ∷ []
+why_words NotEnded = codes "not-ended" ∷ []
+why_words HubClosed = codes "hub-closed" ∷ []
 why_words (NoBlocks need largest) = codes "no-blocks" ∷ decimal need ∷ decimal largest ∷ []
+
+-- the four bytes of a register, the highest first
+abbrev pub value_bytes : ℕ → List ℕ
+value_bytes v = v / 16777216 ∷ v / 65536 % 256 ∷ v / 256 % 256 ∷ v % 256 ∷ []
+
+-- a command of a disk passed or failed
+abbrev pub passed_word : Bool → List ℕ
+passed_word true = codes "passed"
+passed_word false = codes "failed"
 
 -- what is told of an endpoint and its bytes
 abbrev pub told : What → EpName → List ℕ → Line
@@ -68,6 +79,11 @@ told (Halt cause) name bytes = codes "halt" ∷ ep_word name ∷ cause_word caus
 told Missed name bytes = codes "miss" ∷ ep_word name ∷ size_word bytes ∷ hex_word bytes ∷ []
 told Cancelled name bytes = codes "cancel" ∷ ep_word name ∷ size_word bytes ∷ hex_word bytes ∷ []
 told (Iso errors) name bytes = codes "iso" ∷ ep_word name ∷ size_word bytes ∷ hex_word bytes ∷ codes "errors" ∷ decimal errors ∷ []
+told Clear name bytes = codes "clear" ∷ ep_word name ∷ []
+told (ClearFailed cause) name bytes = codes "clear" ∷ ep_word name ∷ codes "failed" ∷ cause_word cause ∷ []
+told (Port port value) name bytes = codes "port" ∷ decimal port ∷ hex_word (value_bytes value) ∷ []
+told (Disk tag passed) name bytes = codes "disk" ∷ decimal name.addr ∷ decimal tag ∷ passed_word passed ∷ size_word bytes ∷ hex_word bytes ∷ []
+told DiskReset name bytes = codes "reset" ∷ decimal name.addr ∷ []
 told (Refused line why) name bytes = codes "line" ∷ (decimal line ++ codes ":") ∷ codes "refused" ∷ why_words why
 
 -- the bytes of a line of the report in the store

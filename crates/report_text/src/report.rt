@@ -4,10 +4,10 @@ ghost use Rattle.std.specs.Fmt.{decimal};
 ghost use Rattle.hex.specs.Hex.{encode_lower};
 ghost use Rattle.usb_base.specs.declared.endpoints.EpName.{EpName as Named};
 ghost use Rattle.usb_base.specs.Outside.{Prints};
-ghost use Rattle.report_text.specs.ReportText.{line_text, ep_word, hex_word, after_cause, told, report_line, report_text, AreStored};
+ghost use Rattle.report_text.specs.ReportText.{line_text, ep_word, hex_word, cause_word, passed_word, value_bytes, after_cause, told, report_line, report_text, AreStored};
 
 use crate::text::{Text, cause_text};
-use usb_base::{EndCause, EpName, Failed, OfferError, Report, Sink, What, write_all};
+use usb_base::{DevAddr, EndCause, EpName, Failed, OfferError, Report, Sink, What, write_all};
 
 /// The digits of some bytes.
 fn encode(bytes: &[u8], digits: &mut [u8])
@@ -100,6 +100,92 @@ fn refused_text(line: u32, why: OfferError) -> Text
     text
 }
 
+/// The line of an endpoint that was cleared.
+fn cleared_text(name: &EpName) -> Text
+    ensures { result ≡ codes "clear " ++ (ep_word name.now ++ (10 ∷ [])) }
+{
+    let mut text = Text::new();
+    text.put("clear ");
+    text.put_endpoint(name);
+    text.put("\n");
+    text
+}
+
+/// The line of an endpoint whose clear failed.
+fn failed_text(name: &EpName, cause: EndCause) -> Text
+    ensures { result ≡ codes "clear " ++ (ep_word name.now ++ (codes " failed " ++ (cause_word cause ++ (10 ∷ [])))) }
+{
+    let mut text = Text::new();
+    text.put("clear ");
+    text.put_endpoint(name);
+    text.put(" failed ");
+    text.put(cause_text(cause));
+    text.put("\n");
+    text
+}
+
+/// What stands in the line of a root port before its status and control word.
+fn port_text(port: u8) -> Text
+    ensures { result ≡ codes "port " ++ (decimal port ++ (32 ∷ [])) }
+{
+    let mut text = Text::new();
+    text.put("port ");
+    text.put_number(port as u32);
+    text.put(" ");
+    text
+}
+
+/// The four bytes of a register, the highest first.
+fn value_bytes(value: u32) -> [u8; 4]
+    ensures { result ≡ value_bytes value }
+{
+    [
+        (value / 16_777_216) as u8,
+        (value / 65_536 % 256) as u8,
+        (value / 256 % 256) as u8,
+        (value % 256) as u8,
+    ]
+}
+
+/// Whether a command passed.
+fn passed_text(passed: bool) -> &'static str
+    ensures text { result.now ≡ passed_word passed }
+    ensures short { length result.now ≤ 6 }
+{
+    if passed {
+        return "passed";
+    }
+    "failed"
+}
+
+/// What stands in the line of a disk before the digits of its bytes.
+fn disk_text(addr: DevAddr, tag: u32, passed: bool, len: u32) -> Text
+    ensures { result ≡ codes "disk " ++ (decimal addr ++ (32 ∷ (decimal tag ++ (32 ∷ (passed_word passed ++ (32 ∷ (decimal len ++ (32 ∷ [])))))))) }
+{
+    let mut text = Text::new();
+    text.put("disk ");
+    text.put_number(addr.get() as u32);
+    text.put(" ");
+    text.put_number(tag);
+    text.put(" ");
+    text.put(passed_text(passed));
+    text.put(" ");
+    text.put_number(len);
+    text.put(" ");
+    text
+}
+
+/// The line of a disk that was reset.
+fn reset_text(addr: DevAddr) -> Text
+    ensures { result ≡ codes "reset " ++ (decimal addr ++ (10 ∷ [])) }
+{
+    let mut text = Text::new();
+    text.put("reset ");
+    text.put_number(addr.get() as u32);
+    text.put("\n");
+    text
+}
+
 /// Writes a line: its front, the digits of its bytes, and what stands behind them.
 pub fn print_line<K: Sink>(
     front: &[u8],
@@ -156,6 +242,21 @@ fn print_told<K: Sink>(what: What, name: &EpName, bytes: &[u8], sink: &mut K) ->
             sink,
         ),
         What::Refused { line, why } => write_all(sink, refused_text(line, why).as_bytes()),
+        What::Clear => write_all(sink, cleared_text(name).as_bytes()),
+        What::ClearFailed(cause) => write_all(sink, failed_text(name, cause).as_bytes()),
+        What::Port { port, value } => print_line(
+            port_text(port).as_bytes(),
+            &value_bytes(value),
+            b"\n",
+            sink,
+        ),
+        What::Disk { tag, passed } => print_line(
+            disk_text(name.addr, tag, passed, len).as_bytes(),
+            bytes,
+            b"\n",
+            sink,
+        ),
+        What::DiskReset => write_all(sink, reset_text(name.addr).as_bytes()),
     }
 }
 

@@ -86,6 +86,8 @@ impl Text {
             OfferError::AlreadyOpen => self.put("already-open"),
             OfferError::TooLong => self.put("too-long"),
             OfferError::NoPlacement => self.put("no-placement"),
+            OfferError::NotEnded => self.put("not-ended"),
+            OfferError::HubClosed => self.put("hub-closed"),
             OfferError::NoBlocks { need, largest } => {
                 self.put("no-blocks ");
                 self.put_number(need);

@@ -31,7 +31,7 @@ use Rattle.script_world.specs.Ranges.{in_range, within, is_size, is_paced, suits
 use Rattle.script_world.specs.Rows.{name_of, after, answered, items_of, at_ep, with_ep, desc_of, commanded, where_known, by_of, put_room, roomier, counted}
 use Rattle.script_world.specs.Rows.{content_len, bytes_len, control_name, is_known, attach, after_hub, after_below}
 use Rattle.endpoint_script.specs.Items.{is_short, is_packet}
-use Rattle.driver_rows.specs.Words.{is_high}
+use Rattle.drv_table.specs.Words.{is_high}
 use Rattle.script_fits.specs.Fits.{IsPiece, IsSuited, IsFitCommand, IsFitLine, IsFitRoom}
 use Rattle.script_fits.proofs.Statements.{IsPieceIf, IsSaid}
 
@@ -151,10 +151,7 @@ answers_short w (answer.Data bytes) kind max le e =
     let p = and_parts (same_way w way.In) (nat_le (length bytes) max) e in
     λ m h. and_from (is_packet bytes) true (le-leb (length bytes) 1024 (omega (arith, leb-true (length bytes) max p.1, le))) refl
 answers_short w (answer.Fill n seed) kind max le e = λ m h. chunks_short m (packet_count m (length (filled n seed))) (filled n seed) h
-answers_short w (answer.Nak k) kind max le e = λ m h. refl
-answers_short w answer.Nyet kind max le e = λ m h. refl
-answers_short w answer.Stall kind max le e = λ m h. refl
-answers_short w (answer.Request setup bytes) kind max le e = λ m h. refl
+answers_short w _ kind max le e = λ m h. refl
 
 some_short : (w : Way) (a : Answer) (ks : List EpKind) → list_any (λ kind. can_answer w a kind 1024) ks ≡ true → AreShort a
 some_short w a [] e = cc
@@ -221,7 +218,7 @@ with_ep_fits l d max e h = record {
 
 -- ---- hubs
 
-new_hub_fits : (addr ports : ℕ) → ports ≤ 15 → IsFitHub (record { addr = addr; ports = ports; attached = replicate ports None })
+new_hub_fits : (addr ports : ℕ) → ports ≤ 15 → IsFitHub (record { addr = addr; ports = ports; attached = replicate ports None; multi = false })
 new_hub_fits addr ports le =
     let nobody : Option Speed = None in
     record { ports = le; attached = omega (arith, length-replicate ports nobody, le) }
@@ -336,5 +333,4 @@ after_fits w n (says.Iso l) t said h =
     cond_both (is_slots l) _ w IsFitDraft
     (λ e. where_fits w l.name _ h (commanded_fits w n (commands.Iso (name_of l.name) l.count l.len l.seed) (some_slots l e) h))
     (λ _. h)
-after_fits w n (says.Order event k) t said h = record { words = h.words; hubs = h.hubs; devices = h.devices; lines = all_append (λ x. IsFitLine x.1) w.lines _ h.lines tt }
-after_fits w n (says.Micro k) t said h = record { words = h.words; hubs = h.hubs; devices = h.devices; lines = all_append (λ x. IsFitLine x.1) w.lines _ h.lines tt }
+after_fits w n _ t said h = record { words = h.words; hubs = h.hubs; devices = h.devices; lines = all_append (λ x. IsFitLine x.1) w.lines _ h.lines tt }

@@ -9,9 +9,9 @@ use Rattle.usb_base.specs.declared.packets.EpKind.{EpKind}
 use Rattle.usb_base.specs.declared.packets.EpKind.TheVariants as kinds
 use Rattle.usb_base.specs.declared.endpoints.EpDesc.{EpDesc}
 use Rattle.bandwidth.specs.Placements.{periods, is_period as is_plan_period, least_period, most_bytes, most_multi, is_classic}
-use Rattle.periodic_rows.specs.Periodic.{is_periodic}
-use Rattle.driver_rows.specs.Words.{is_high}
-use Rattle.driver_rows.specs.Offers.{IsOpened}
+use Rattle.drv_periodic_table.specs.Periodic.{is_periodic}
+use Rattle.drv_table.specs.Words.{is_high}
+use Rattle.drv_table.specs.Offers.{IsOpened}
 use Rattle.script_world.specs.Ranges.{within, is_size, is_period, is_rate, is_paced}
 use Rattle.script_fits.specs.Fits.{IsSuited}
 
@@ -27,12 +27,11 @@ record IsSized (kind : EpKind) (speed : Speed) (max : ℕ) : Type 0 where
 sized : (kind : EpKind) (speed : Speed) (max : ℕ) → is_periodic kind ≡ true → is_size kind speed max ≡ true → IsSized kind speed max
 sized kinds.Control speed max p e = cc
 sized kinds.Bulk speed max p e = cc
-sized kinds.Interrupt High max p e = let h = ends 1 1024 max e in record { some = h.0; most = h.1 }
 sized kinds.Interrupt Full max p e = let h = ends 1 64 max e in record { some = h.0; most = h.1 }
 sized kinds.Interrupt Low max p e = let h = ends 1 8 max e in record { some = h.0; most = h.1 }
-sized kinds.Iso High max p e = let h = ends 1 1024 max e in record { some = h.0; most = h.1 }
 sized kinds.Iso Full max p e = let h = ends 1 1023 max e in record { some = h.0; most = h.1 }
 sized kinds.Iso Low max p e = cc
+sized _ High max p e = let h = ends 1 1024 max e in record { some = h.0; most = h.1 }
 
 -- a member of the list, as the list's test asks for it
 or_later : (a b : Bool) → b ≡ true → (a || b) ≡ true
@@ -68,23 +67,18 @@ paced High period multi e =
     let p = and_parts (is_period period) (within 1 3 multi) e in
     let h = ends 1 3 multi p.1 in
     record { periods = turned period periods p.0; frames = some_period period p.0; some = h.0; most = h.1 }
-paced Full period multi e =
-    let h = paced_below period multi e in
-    record { periods = h.0; frames = h.1; some = omega (arith, h.2); most = omega (arith, h.2) }
-paced Low period multi e =
+paced _ period multi e =
     let h = paced_below period multi e in
     record { periods = h.0; frames = h.1; some = omega (arith, h.2); most = omega (arith, h.2) }
 
 pace_of : (kind : EpKind) (speed : Speed) (period multi : ℕ) → is_periodic kind ≡ true → is_paced kind speed period multi ≡ true → IsPaced speed period multi
-pace_of kinds.Control speed period multi p e = cc
-pace_of kinds.Bulk speed period multi p e = cc
 pace_of kinds.Interrupt speed period multi p e = paced speed period multi e
 pace_of kinds.Iso speed period multi p e = paced speed period multi e
+pace_of _ speed period multi p e = cc
 
 classic : (speed : Speed) → not (is_high speed) ≡ is_classic speed
 classic High = refl
-classic Full = refl
-classic Low = refl
+classic _ = refl
 
 pub can_be_opened : (x : EpDesc) → IsSuited x → IsOpened x
 can_be_opened x h p =

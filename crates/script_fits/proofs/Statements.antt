@@ -7,7 +7,7 @@ use Rattle.script_forms.specs.declared.statements.Statement.{Statement}
 use Rattle.script_forms.specs.declared.statements.Statement.TheVariants as says
 use Rattle.script_forms.specs.Table.{slots_of}
 use Rattle.script_forms.specs.Values.{statement_of}
-use Rattle.driver_rows.specs.Words.{is_high}
+use Rattle.drv_table.specs.Words.{is_high}
 use Rattle.script_fits.specs.Fits.{IsPiece}
 use Rattle.script_fits.proofs.Numbers.{IsRanged, number_in}
 
@@ -35,35 +35,9 @@ IsSaid (says.Micro n) = Unit {0}
 
 pub form_said : (f : Form) (ws : List (List ℕ)) → IsRanged f ws → IsSaid (statement_of f ws)
 unfolding statement_of
-form_said form.Mem ws r = tt
-form_said form.Hub ws r = tt
-form_said form.DevHigh ws r = tt
 form_said form.DevFull ws r = refl
 form_said form.DevLow ws r = refl
-form_said form.EpControl ws r = tt
-form_said form.EpBulk ws r = tt
-form_said form.EpInterrupt ws r = tt
-form_said form.EpIso ws r = tt
-form_said form.ReplyData ws r = tt
-form_said form.ReplyFill ws r = tt
-form_said form.ReplyNak ws r = tt
-form_said form.ReplyNyet ws r = tt
-form_said form.ReplyStall ws r = tt
-form_said form.ReplyRequest ws r = tt
-form_said form.Fate ws r = tt
-form_said form.Hold ws r = tt
-form_said form.Open ws r = tt
-form_said form.Cancel ws r = tt
-form_said form.Get ws r = tt
 form_said form.GetBy ws r = number_in (slots_of form.GetBy) ws 5 1 20480 r.ranged r.long refl
-form_said form.Put ws r = tt
 form_said form.PutBy ws r = number_in (slots_of form.PutBy) ws 5 1 20480 r.ranged r.long refl
-form_said form.PutFill ws r = tt
 form_said form.PutFillBy ws r = number_in (slots_of form.PutFillBy) ws 7 1 20480 r.ranged r.long refl
-form_said form.Control ws r = tt
-form_said form.ControlData ws r = tt
-form_said form.IsoIn ws r = tt
-form_said form.IsoOut ws r = tt
-form_said form.OrderD ws r = tt
-form_said form.OrderC ws r = tt
-form_said form.OrderM ws r = tt
+form_said _ ws r = tt

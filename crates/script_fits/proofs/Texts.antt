@@ -19,7 +19,7 @@ use Rattle.script_forms.specs.Values.{statement_of}
 use Rattle.script_world.specs.Draft.{Draft, Placed, empty, script_of, device_text}
 use Rattle.script_world.specs.Ranges.{in_range}
 use Rattle.script_world.specs.Rows.{cause_of, is_known, is_twice, has_room, is_late, after}
-use Rattle.script_text.specs.Reading.{lines_in, words_in, says, may_stand, no_bytes, answer, said, form_read, first_read, words_read, line_read, onward, lines_read, script_after}
+use Rattle.script_text.specs.Reading.{lines_in, words_in, says, may_stand, no_bytes, answer, said, form_read, first_read, words_read, version_read, line_read, onward, lines_read, script_after}
 use Rattle.script_text.specs.Reading.{text_read, script_read}
 use Rattle.script_text.specs.Faults.{Spells}
 use Rattle.endpoint_script.specs.Items.{is_short}
@@ -66,12 +66,17 @@ words_fit w n [] h = tt
 words_fit w n (first ∷ more) h =
     cond_both (list_any no_bytes (first ∷ more)) (Err C.Word) (first_read w n more (first_of first)) Fits (λ _. tt) (λ _. first_fits w n more (first_of first) h)
 
+version_fits : (w : Draft) (line : List ℕ) → IsFitDraft w → Fits (version_read w line)
+version_fits w line h =
+    cond_both (bytes_eq line (codes "ehci 1")) (Ok w) _ Fits (λ _. h)
+    (λ _. cond_both (bytes_eq line (codes "ehci 2")) (Ok (record w { version = 2 })) (Err C.Version) Fits
+    (λ _. record { words = h.words; hubs = h.hubs; devices = h.devices; lines = h.lines }) (λ _. tt))
+
 line_fits : (w : Draft) (n : ℕ) (line : List ℕ) → IsFitDraft w → Fits (line_read w n line)
 line_fits w n line h =
     cond_both (nat_lt 65535 (length line)) (Err C.Long) _ Fits (λ _. tt)
     (λ _. cond_both (not (list_all may_stand line)) (Err C.Byte) _ Fits (λ _. tt)
-    (λ _. cond_both (n == 1) (if bytes_eq line (codes "ehci 1") then Ok w else Err C.Version) _ Fits
-    (λ _. cond_both (bytes_eq line (codes "ehci 1")) (Ok w) (Err C.Version) Fits (λ _. h) (λ _. tt))
+    (λ _. cond_both (n == 1) (version_read w line) _ Fits (λ _. version_fits w line h)
     (λ _. cond_both (says line) (words_read w n (words_in line)) (Ok w) Fits (λ _. words_fit w n (words_in line) h) (λ _. h))))
 
 -- ---- a text

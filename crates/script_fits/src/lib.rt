@@ -1,6 +1,6 @@
 //! Scripts that a host carries out: each that a text spells keeps the ranges that memory, devices and driver have.
 //!
-//! `read` is what others call. Beside it stand `script_text`, which reads texts, and `driver_rows` and `endpoint_script`, whose ranges
+//! `read` is what others call. Beside it stand `script_text`, which reads texts, and `drv_table` and `endpoint_script`, whose ranges
 //! specs/Fits.antt names.
 #![tactic(auto)]
 

@@ -2,6 +2,7 @@
 use Rattle.std.specs.Prelude.{ℕ, List, [], ◌∷◌, Option, codes}
 use Rattle.std.specs.List.{find}
 use Rattle.std.specs.Str.{bytes_eq}
+use Rattle.usb_base.specs.Limits.{longest_qtd, most_memory}
 use Rattle.script_forms.specs.declared.table.FirstWord.{FirstWord}
 use Rattle.script_forms.specs.declared.table.FirstWord.TheVariants as F
 use Rattle.script_forms.specs.declared.table.Keyword.{Keyword}
@@ -71,7 +72,7 @@ address = Number 1 127
 
 -- the bytes of a qTD (EHCI 1.0, 3.5.4)
 abbrev pub by_bytes : Slot
-by_bytes = Number 1 20480
+by_bytes = Number 1 longest_qtd
 
 -- the first byte of bytes that each are one more
 abbrev pub seed : Slot
@@ -79,7 +80,7 @@ seed = Number 0 255
 
 -- the slots of each form; an endpoint is `<addr> <num> <way>`
 abbrev pub slots_of : Form → List Slot
-slots_of form.Mem = Number 2048 262144 ∷ []
+slots_of form.Mem = Number 2048 most_memory ∷ []
 slots_of form.Hub = address ∷ Number 1 15 ∷ []
 slots_of form.DevHigh = address ∷ Key K.High ∷ []
 slots_of form.DevFull = address ∷ Key K.Full ∷ any ∷ any ∷ []

@@ -2,6 +2,8 @@
 ghost use Rattle.std.specs.Prelude.{◌≡◌};
 ghost use Rattle.script_forms.specs.Table.{first_of, keyword_word, slots_of, forms_of};
 
+use usb_base::limits::{LONGEST_QTD, MOST_MEMORY};
+
 /// The first word of a line that says something.
 #[derive(Clone, Copy)]
 pub enum FirstWord {
@@ -142,7 +144,7 @@ const ANY: Slot = Slot::Number(0, 4_294_967_295);
 /// The address of a device or hub (USB 2.0, 8.3.2.1); 0 is the default address.
 const ADDRESS: Slot = Slot::Number(1, 127);
 /// The bytes of a qTD, at most five pages of 4,096 (EHCI 1.0, 3.5.4).
-const BY: Slot = Slot::Number(1, 20_480);
+const BY: Slot = Slot::Number(1, LONGEST_QTD);
 /// The first byte of bytes that each are one more.
 const SEED: Slot = Slot::Number(0, 255);
 
@@ -151,7 +153,7 @@ pub fn slots(form: Form) -> &'static [Slot]
     ensures { result.now ≡ slots_of form }
 {
     match form {
-        Form::Mem => &[Slot::Number(2048, 262144)],
+        Form::Mem => &[Slot::Number(2048, MOST_MEMORY)],
         Form::Hub => &[ADDRESS, Slot::Number(1, 15)],
         Form::DevHigh => &[ADDRESS, Slot::Key(Keyword::High)],
         Form::DevFull => &[ADDRESS, Slot::Key(Keyword::Full), ANY, ANY],

@@ -59,12 +59,19 @@ abbrev pub words_read : Draft → ℕ → List (List ℕ) → Result Draft TextW
 words_read w n [] = Err C.Word
 words_read w n (first ∷ more) = if list_any no_bytes (first ∷ more) then Err C.Word else first_read w n more (first_of first)
 
--- line n, where the first is the version alone
+-- the first line is the version alone
+abbrev pub version_read : Draft → List ℕ → Result Draft TextWhy
+version_read w line =
+    if bytes_eq line (codes "ehci 1") then Ok w
+    else if bytes_eq line (codes "ehci 2") then Ok (record w { version = 2 })
+    else Err C.Version
+
+-- line n
 abbrev pub line_read : Draft → ℕ → List ℕ → Result Draft TextWhy
 line_read w n line =
     if nat_lt 65535 (length line) then Err C.Long
     else if not (list_all may_stand line) then Err C.Byte
-    else if n == 1 then (if bytes_eq line (codes "ehci 1") then Ok w else Err C.Version)
+    else if n == 1 then version_read w line
     else if says line then words_read w n (words_in line) else Ok w
 
 -- the first line with a cause ends the reading

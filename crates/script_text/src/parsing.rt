@@ -6,7 +6,7 @@ ghost use Rattle.script_forms.specs.declared.causes.TextWhy.{TextWhy as Why};
 ghost use Rattle.script_forms.specs.Table.{first_of};
 ghost use Rattle.script_forms.specs.Fitting.{form_of};
 ghost use Rattle.script_world.specs.Draft.{empty, script_of};
-ghost use Rattle.script_text.specs.Reading.{lines_in, words_in, says, may_stand, no_bytes, answer, said, form_read, first_read, words_read, line_read, lines_read, outcome, script_after, text_read, script_read};
+ghost use Rattle.script_text.specs.Reading.{lines_in, words_in, says, may_stand, no_bytes, answer, said, form_read, first_read, words_read, version_read, line_read, lines_read, outcome, script_after, text_read, script_read};
 ghost use Rattle.script_text.specs.Faults.{Spells, IsFault, IsRight};
 
 use crate::lines::{cut, says, words_in};
@@ -109,6 +109,20 @@ fn read_words(
     read_first(alloc, draft, n, first.bytes(), more)
 }
 
+/// Reads the first line.
+fn read_version(draft: &mut Draft, line: &[u8]) -> Option<TextWhy>
+    ensures { version_read draft.old line.now ≡ answer result draft.new }
+{
+    if line == b"ehci 1".as_slice() {
+        return None;
+    }
+    if line == b"ehci 2".as_slice() {
+        draft.set_version(2);
+        return None;
+    }
+    Some(TextWhy::Version)
+}
+
 /// Reads line n.
 fn read_line(
     alloc: Global,
@@ -125,10 +139,7 @@ fn read_line(
         return Ok(Some(TextWhy::Byte));
     }
     if n == 1 {
-        if line == b"ehci 1".as_slice() {
-            return Ok(None);
-        }
-        return Ok(Some(TextWhy::Version));
+        return Ok(read_version(draft, line));
     }
     if !says(line) {
         return Ok(None);

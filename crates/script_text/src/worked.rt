@@ -24,7 +24,7 @@ pub fn too_long()
 
 pub const BYTE: &[u8] = b"ehci 1\ndev 3\thigh";
 
-pub const VERSION: &[u8] = b"ehci 2\n";
+pub const VERSION: &[u8] = b"ehci 3\n";
 
 pub const WORD: &[u8] = b"ehci 1\n\n# a device\ndevice 3 high\n";
 
@@ -72,17 +72,25 @@ pub fn one_device()
         addr = 3;
         speed = Speed.High;
         eps = record {
-          desc = record { name = record { addr = 3; num = 1; way = Way.In }; speed = Speed.High; kind = EpKind.Bulk; max = 512; period = 0; multi = 1; hub = None; port = 0 };
+          desc = record { name = record { addr = 3; num = 1; way = Way.In }; speed = Speed.High; kind = EpKind.Bulk; max = 512; period = 0; multi = 1; hub = None; port = 0; tt = 0 };
           items = Item.Bytes (1 ∷ 255 ∷ []) ∷ Item.Nak 2 ∷ [];
           room = 0;
+          stuff = 0;
+          clears = 0;
         } ∷ [];
       } ∷ [];
       endpoints = record { addr = 3; num = 1; way = Way.In } ∷ [];
       fates = [];
       holds = [];
-      lines = (7, Line.Command (Cmd.OpenEp (record { name = record { addr = 3; num = 1; way = Way.In }; speed = Speed.High; kind = EpKind.Bulk; max = 512; period = 0; multi = 1; hub = None; port = 0 })))
+      lines = (7, Line.Command (Cmd.OpenEp (record { name = record { addr = 3; num = 1; way = Way.In }; speed = Speed.High; kind = EpKind.Bulk; max = 512; period = 0; multi = 1; hub = None; port = 0; tt = 0 })))
           ∷ (8, Line.Command (Cmd.Get (record { addr = 3; num = 1; way = Way.In }) 5 20480))
           ∷ (9, Line.Micro 20)
           ∷ [];
+      version = 1;
+      frames = 1024;
+      park = 0;
+      roots = [];
+      classics = [];
+      disks = [];
     }) }
 {}

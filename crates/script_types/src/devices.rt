@@ -18,6 +18,8 @@ pub enum Item {
         /// The bytes of its data stage, where that is an IN.
         bytes: ListOf<u8>,
     },
+    /// What stands behind it comes once the endpoint is reset.
+    Epoch,
 }
 
 /// A scripted endpoint.
@@ -29,6 +31,10 @@ pub struct EpText {
     pub items: ListOf<Item>,
     /// The bytes that an OUT endpoint has room for: the sum of the lengths that the script puts to it; 0 for every other endpoint.
     pub room: u32,
+    /// How many bytes in 36 its packets are longer by stuffed bits below a translator, 0 to 6 (USB 2.0, 7.1.9).
+    pub stuff: u8,
+    /// How often it is cleared.
+    pub clears: u32,
 }
 
 /// A scripted device with its endpoints in the order of their lines.
@@ -51,4 +57,6 @@ pub struct HubText {
     pub ports: u8,
     /// For each port, from port 1 on, the speed of the device that is attached there.
     pub attached: ListOf<Option<Speed>>,
+    /// It has a translator for each port, and not one for all (USB 2.0, 11.14).
+    pub multi: bool,
 }

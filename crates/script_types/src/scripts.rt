@@ -1,5 +1,5 @@
 use crate::devices::{DeviceText, HubText};
-use usb_base::{Cmd, EpName, Fate, ListOf};
+use usb_base::{Cmd, DevAddr, DiskText, EpName, Fate, ListOf, Speed};
 
 /// One step of the driver or of the controller.
 #[derive(Clone, Copy, Debug, PartialEq, Eq)]
@@ -19,6 +19,10 @@ pub enum Line {
     Micro(u32),
     /// A command for the driver.
     Command(Cmd),
+    /// What belongs to the root port of this number is plugged in.
+    Plug(u8),
+    /// It is unplugged.
+    Unplug(u8),
 }
 
 /// What becomes of one packet of an endpoint.
@@ -51,4 +55,16 @@ pub struct Script {
     pub holds: ListOf<(u32, u32)>,
     /// The action lines in their order, each with its number, from 1.
     pub lines: ListOf<(u32, Line)>,
+    /// The version of the language, 1 or 2.
+    pub version: u8,
+    /// The elements of the frame list: 256, 512 or 1,024 (EHCI 1.0, 2.3.4).
+    pub frames: u16,
+    /// The transactions of a visit in asynchronous park mode, 1 to 3, or 0 where it is off (EHCI 1.0, 4.10.3.2).
+    pub park: u8,
+    /// The root ports with a high-speed device or hub, each with its address, in the order of their lines.
+    pub roots: ListOf<(u8, DevAddr)>,
+    /// The root ports with a full- or low-speed device that a companion controller serves, in the order of their lines.
+    pub classics: ListOf<(u8, Speed)>,
+    /// The disks, in the order of their lines.
+    pub disks: ListOf<DiskText>,
 }

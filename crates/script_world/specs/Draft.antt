@@ -29,6 +29,7 @@ pub record Placed : Type 0 where
   pub eps : List EpText
 
 pub record Draft : Type 0 where
+  pub version : ℕ  -- the version of the language
   pub words : Option ℕ  -- the words of memory, where a line said them
   pub declaring : Bool  -- something of the world but the memory is declared
   pub acting : Bool  -- an action came
@@ -47,6 +48,7 @@ pub record Draft : Type 0 where
 -- nothing is read yet
 abbrev pub empty : Draft
 empty = record {
+  version = 1;
   words = None;
   declaring = false;
   acting = false;
@@ -96,7 +98,7 @@ device_ep w name = option_and_then (λ d. ep_of d.eps name) (device_of w.devices
 
 -- the control endpoint 0 that each hub has, of 64 bytes (USB 2.0, 11.12.1)
 abbrev pub hub_desc : ℕ → EpDesc
-hub_desc a = record { name = record { addr = a; num = 0; way = way.Ctl }; speed = speed.High; kind = kind.Control; max = 64; period = 0; multi = 1; hub = None; port = 0 }
+hub_desc a = record { name = record { addr = a; num = 0; way = way.Ctl }; speed = speed.High; kind = kind.Control; max = 64; period = 0; multi = 1; hub = None; port = 0; tt = 0 }
 
 -- a hub's own endpoint
 abbrev pub hub_ep : Draft → Name → Option EpDesc
@@ -132,4 +134,4 @@ abbrev pub device_text : Placed → DeviceText
 device_text d = record { addr = d.addr; speed = d.speed; eps = d.eps }
 
 abbrev pub script_of : Draft → Script
-script_of w = record { words = unwrap_or w.words 65536; hubs = w.hubs; devices = map device_text w.devices; endpoints = w.endpoints; fates = w.fates; holds = w.holds; lines = w.lines }
+script_of w = record { words = unwrap_or w.words 65536; hubs = w.hubs; devices = map device_text w.devices; endpoints = w.endpoints; fates = w.fates; holds = w.holds; lines = w.lines; version = w.version; frames = 1024; park = 0; roots = []; classics = []; disks = [] }

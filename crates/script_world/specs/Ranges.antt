@@ -8,6 +8,7 @@ use Rattle.usb_base.specs.declared.packets.Speed.{Speed}
 use Rattle.usb_base.specs.declared.packets.Speed.TheVariants.{Full, Low, High}
 use Rattle.usb_base.specs.declared.packets.EpKind.{EpKind}
 use Rattle.usb_base.specs.declared.packets.EpKind.TheVariants.{Control, Iso, Bulk, Interrupt}
+use Rattle.usb_base.specs.Limits.{most_memory}
 use Rattle.script_forms.specs.declared.statements.Name.{Name}
 use Rattle.script_forms.specs.declared.statements.Answer.{Answer}
 use Rattle.script_forms.specs.declared.statements.Answer.TheVariants as answer
@@ -122,7 +123,7 @@ iso_ranged w l = is_slots l && option_map_or (λ d. nat_le l.len (d.max * d.mult
 
 -- what the line says is in range
 abbrev pub in_range : Draft → Statement → Bool
-in_range w (says.Mem n) = within 2048 262144 n && n % 1024 == 0
+in_range w (says.Mem n) = within 2048 most_memory n && n % 1024 == 0
 in_range w (says.Hub addr ports) = within 1 127 addr && within 1 15 ports
 in_range w (says.DevHigh addr) = within 1 127 addr
 in_range w (says.DevBelow b) = within 1 127 b.addr

@@ -9,6 +9,7 @@ use Rattle.usb_base.specs.declared.endpoints.EpName.{EpName}
 use Rattle.usb_base.specs.declared.endpoints.EpDesc.{EpDesc}
 use Rattle.usb_base.specs.declared.commands.Cmd.{Cmd}
 use Rattle.usb_base.specs.declared.commands.Cmd.TheVariants as cmd
+use Rattle.usb_base.specs.Limits.{longest_qtd}
 use Rattle.script_types.specs.declared.devices.EpText.{EpText}
 use Rattle.script_types.specs.declared.devices.HubText.{HubText}
 use Rattle.script_types.specs.declared.devices.Item.{Item}
@@ -189,10 +190,11 @@ desc_of l d = record {
   multi = l.multi;
   hub = d.hub;
   port = d.port;
+  tt = 0;
 }
 
 abbrev pub with_ep : EpLine → Placed → Placed
-with_ep l d = record d { eps = d.eps ++ record { desc = desc_of l d; items = []; room = 0 } ∷ [] }
+with_ep l d = record d { eps = d.eps ++ record { desc = desc_of l d; items = []; room = 0; stuff = 0; clears = 0 } ∷ [] }
 
 abbrev pub content_bytes : Content → List ℕ
 content_bytes (content.Given bytes) = bytes
@@ -208,7 +210,7 @@ where_known w name v = if is_some (known w name) then v else w
 
 -- the bytes of a qTD
 abbrev pub by_of : Option ℕ → ℕ
-by_of by = unwrap_or by 20480
+by_of by = unwrap_or by longest_qtd
 
 -- an OUT endpoint has room for what is put to it
 abbrev pub put_room : Name → ℕ → List Placed → List Placed
@@ -217,7 +219,7 @@ put_room name n ds = if same_way name.way way.Out then at_ep name (roomier n) ds
 abbrev pub after_hub : Draft → ℕ → ℕ → Draft
 after_hub w addr ports =
     if within 1 127 addr && within 1 15 ports then
-    record w { declaring = true; hubs = w.hubs ++ record { addr = addr; ports = ports; attached = replicate ports None } ∷ [] }
+    record w { declaring = true; hubs = w.hubs ++ record { addr = addr; ports = ports; attached = replicate ports None; multi = false } ∷ [] }
     else w
 
 abbrev pub after_high : Draft → ℕ → Draft

@@ -17,6 +17,7 @@ use script_forms::{
 };
 use script_types::{Event, FateText, HubText, Line};
 use std::alloc::Global;
+use usb_base::limits::LONGEST_QTD;
 use usb_base::{Cmd, DevAddr, EpName, EpNum, ListOf, Memory, Speed, Way};
 
 /// The bytes of a line.
@@ -85,7 +86,7 @@ fn attach(alloc: Global, hub: &mut HubText, port: u32, speed: Speed) -> Result<(
 fn by_of(by: Option<u32>) -> u32
     ensures { result ≡ by_of by }
 {
-    by.unwrap_or(20_480)
+    by.unwrap_or(LONGEST_QTD)
 }
 
 impl Draft {
@@ -114,6 +115,7 @@ impl Draft {
             addr,
             ports: ports as u8,
             attached: ListOf::of(attached),
+            multi: false,
         };
         push(&mut self.hubs, hub)?;
         self.declaring = true;

@@ -107,6 +107,7 @@ impl DeviceDraft {
             multi: line.multi as u8,
             hub: self.hub,
             port: self.port,
+            tt: 0,
         };
         push(&mut self.eps, EpDraft::new(alloc, desc))
     }

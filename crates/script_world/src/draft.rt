@@ -12,6 +12,7 @@ use usb_base::{EpName, ListOf, Memory};
 /// A script as far as it is read: what is declared, the actions so far, and what counts toward the limits.
 #[derive(Drop)]
 pub struct Draft {
+    pub(crate) version: u8,
     pub(crate) words: Option<u32>,
     pub(crate) declaring: bool,
     pub(crate) acting: bool,
@@ -34,6 +35,7 @@ impl Model for Draft {
     ghost Value = { Drafted };
 
     ghost view = { λ w. record {
+      version = w.version;
       words = w.words;
       declaring = w.declaring;
       acting = w.acting;
@@ -57,6 +59,7 @@ impl Draft {
         ensures { result ≡ empty }
     {
         Draft {
+            version: 1,
             words: None,
             declaring: false,
             acting: false,
@@ -72,6 +75,13 @@ impl Draft {
             scripted: 0,
             asked: 0,
         }
+    }
+
+    /// The text is of this version of the language.
+    pub fn set_version(&mut self, version: u8)
+        ensures { self.new ≡ record self.old { version = version } }
+    {
+        self.version = version;
     }
 
     /// The script that was read. An error is want of memory alone.
@@ -91,6 +101,12 @@ impl Draft {
             fates: ListOf::of(self.fates),
             holds: ListOf::of(self.holds),
             lines: ListOf::of(self.lines),
+            version: self.version,
+            frames: 1024,
+            park: 0,
+            roots: ListOf::of(Vec::new(alloc)),
+            classics: ListOf::of(Vec::new(alloc)),
+            disks: ListOf::of(Vec::new(alloc)),
         })
     }
 }

@@ -25,7 +25,7 @@ impl Model for EpDraft {
 
     ghost Value = { Told };
 
-    ghost view = { λ e. record { desc = e.desc; items = e.items.items; room = e.room } };
+    ghost view = { λ e. record { desc = e.desc; items = e.items.items; room = e.room; stuff = 0; clears = 0 } };
 
     ghost invariant = { λ e. 0 < e.desc.max };
 }
@@ -52,7 +52,7 @@ impl EpDraft {
     /// An endpoint that does nothing yet.
     pub fn new(alloc: Global, desc: EpDesc) -> EpDraft
         requires { 0 < desc.max }
-        ensures { result ≡ record { desc = desc; items = []; room = 0 } }
+        ensures { result ≡ record { desc = desc; items = []; room = 0; stuff = 0; clears = 0 } }
     {
         EpDraft {
             desc,
@@ -110,6 +110,8 @@ impl EpDraft {
             desc: self.desc,
             items: ListOf::of(self.items),
             room: self.room,
+            stuff: 0,
+            clears: 0,
         }
     }
 }

@@ -36,6 +36,7 @@ fn hub_desc(addr: DevAddr, num: EpNum) -> EpDesc
         multi: 1,
         hub: None,
         port: 0,
+        tt: 0,
     }
 }
 

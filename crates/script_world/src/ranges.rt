@@ -6,6 +6,7 @@ ghost use Rattle.script_world.specs.Ranges.{within, is_size, is_period, is_rate,
 use crate::draft::Draft;
 use crate::endpoints::same_way;
 use script_forms::{Answer, ControlLine, EpLine, IsoLine, Name, Statement};
+use usb_base::limits::MOST_MEMORY;
 use usb_base::{EpKind, Speed, Way};
 
 /// Whether a number is from `low` to `high`.
@@ -244,7 +245,7 @@ impl Draft {
         ensures { result ≡ in_range self.now statement.now }
     {
         match statement {
-            Statement::Mem(words) => within(2_048, 262_144, *words) && *words % 1_024 == 0,
+            Statement::Mem(words) => within(2_048, MOST_MEMORY, *words) && *words % 1_024 == 0,
             Statement::Hub(addr, ports) => within(1, 127, *addr) && within(1, 15, *ports),
             Statement::DevHigh(addr) => within(1, 127, *addr),
             Statement::DevBelow(below) => within(1, 127, below.addr),

@@ -18,7 +18,7 @@ use Rattle.toggle_error.specs.declared.host.HostSide.{HostSide}
 use Rattle.toggle_error.specs.declared.host.Outcome.{Outcome}
 use Rattle.toggle_error.specs.declared.host.Outcome.TheVariants.{Error, Halt}
 use Rattle.toggle_error.specs.declared.rows.CompleteRow.{CompleteRow}
-use Rattle.toggle_error.specs.declared.rows.CompleteRow.TheVariants.{Pending, NeverCame, Answered, BrokeBelow, Unanswered}
+use Rattle.toggle_error.specs.declared.rows.CompleteRow.TheVariants.{Pending, Answered}
 use Rattle.toggle_error.specs.declared.rows.Heard.{Heard}
 use Rattle.toggle_error.specs.declared.rows.Heard.TheVariants as Heards
 use Rattle.toggle_error.specs.declared.rows.PlainRow.{PlainRow}
@@ -63,10 +63,8 @@ answered_error _ host = other _ _ _ (λ e. cc) refl
 
 complete_error : (row : CompleteRow) (host : HostSide) → (complete_outcome row host ≡ Halt Ends.Error) ↔ RanOut host (after_complete row host)
 complete_error Pending host = other _ _ _ (λ e. cc) refl
-complete_error NeverCame host = error_halts host _ refl
 complete_error (Answered row) host = answered_error row host
-complete_error BrokeBelow host = error_halts host _ refl
-complete_error Unanswered host = error_halts host _ refl
+complete_error _ host = error_halts host _ refl
 
 pub row_error : (row : SettleRow) (host : HostSide) → (outcome_of_row row host ≡ Halt Ends.Error) ↔ RanOut host (after_settle_row row host)
 row_error (Rows.Plain row) host = plain_error row host
@@ -88,7 +86,6 @@ start_cause _ host cause e = cc
 -- a complete-split halts for another cause only as the plain ask does
 answered_cause : (row : PlainRow) (host : HostSide) (cause : EndCause) → complete_outcome (answered row) host ≡ Halt cause → plain_outcome row host ≡ Halt cause
 answered_cause Failed host cause e = e
-answered_cause FailedPinged host cause e = e
 answered_cause _ host cause e = e
 
 complete_cause : (kind : EpKind) (last : Bool) (heard : Heard) (row : PlainRow) (host : HostSide) (cause : EndCause) → (cause ≡ Ends.Error → ⊥) → complete_outcome (complete_row kind last heard row) host ≡ Halt cause → plain_outcome row host ≡ Halt cause

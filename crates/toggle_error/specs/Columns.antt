@@ -25,7 +25,8 @@ expected_pid true = Packets.Data1
 abbrev pub limit_of : HostSide → ℕ
 limit_of host = min host.max host.left
 
--- the OUT token of a high-speed bulk or control endpoint, which is pinged (USB 2.0, 8.5.1)
+-- The column of an OUT: of a high-speed bulk or control endpoint the host keeps the ping state (EHCI 1.0, 4.11; USB 2.0, 8.5.1). So it
+-- tells which answers set that state; which token goes out in a state is `pinged` of transactions.
 abbrev pub out_token : Speed → EpKind → AskToken
 out_token High Bulk = PingedOut
 out_token High Control = PingedOut

@@ -15,6 +15,7 @@ fn token(ask: &Ask) -> AskToken
     match ask.pid {
         Pid::In => AskToken::In,
         Pid::Out => match (ask.speed, ask.kind) {
+            // The ping state is kept for these alone (EHCI 1.0, 4.11; USB 2.0, 8.5.1).
             (Speed::High, EpKind::Bulk | EpKind::Control) => AskToken::PingedOut,
             _ => AskToken::Out,
         },
@@ -44,17 +45,29 @@ fn plain(token: AskToken, heard: Heard, sent: u16) -> PlainRow
     ensures { result ≡ plain_row token heard sent }
 {
     match (token, heard) {
+        // Data of the expected toggle are new (USB 2.0, 8.6.2).
         (AskToken::In, Heard::Fitting(n)) => PlainRow::Received(n),
+        // The acknowledgement before was lost: the packet is acknowledged and dropped (USB 2.0, 8.6.4).
         (AskToken::In, Heard::Repeat) => PlainRow::Repeated,
+        // More bytes than the host can take are a babble (EHCI 1.0, 4.15.1.1.2).
         (AskToken::In, Heard::TooLong) => PlainRow::Babbled,
+        // ACK alone moves an OUT on (USB 2.0, 8.6.2).
         (AskToken::Out | AskToken::PingedOut | AskToken::Setup, Heard::Ack) => PlainRow::Sent(sent),
+        // NYET took the packet, and has no room for the next (EHCI 1.0, 4.11; USB 2.0, 8.5.1).
         (AskToken::PingedOut, Heard::Nyet) => PlainRow::SentLast(sent),
+        // NAK is no error: CERR stays (EHCI 1.0, 3.5.3).
         (AskToken::In | AskToken::Out, Heard::Nak) => PlainRow::Refused,
+        // After a NAK the host asks for room first (EHCI 1.0, 4.11).
         (AskToken::PingedOut, Heard::Nak) => PlainRow::RefusedPinged,
+        // ACK to a PING tells room for one packet, and moves nothing (USB 2.0, 8.5.1).
         (AskToken::Ping, Heard::Ack) => PlainRow::Room,
+        // No room yet: PING again (EHCI 1.0, 4.11).
         (AskToken::Ping, Heard::Nak) => PlainRow::NoRoom,
+        // A STALL halts at once, whatever CERR (EHCI 1.0, 4.10.3).
         (_, Heard::Stall) => PlainRow::Stalled,
+        // What became of the packet isn't known, so the host asks for room first (EHCI 1.0, 4.11).
         (AskToken::PingedOut | AskToken::Ping, _) => PlainRow::FailedPinged,
+        // Silence or anything else is a transaction error, which CERR counts (EHCI 1.0, 4.15.1.1).
         _ => PlainRow::Failed,
     }
 }
@@ -64,9 +77,13 @@ fn start(kind: EpKind, heard: Heard) -> StartRow
     ensures { result ≡ start_row kind heard }
 {
     match (kind, heard) {
+        // A translator answers no interrupt's start-split (EHCI 1.0, 4.12.2.4.1).
         (EpKind::Interrupt, _) => StartRow::Begun,
+        // The translator has it: complete-splits follow (EHCI 1.0, 4.12.1.1).
         (_, Heard::Ack) => StartRow::Accepted,
+        // Its buffers are full: the same start-split again, and no error (EHCI 1.0, 4.12.1.1).
         (_, Heard::Nak) => StartRow::Declined,
+        // A transaction error: the same start-split again (EHCI 1.0, 4.12.1.1).
         _ => StartRow::Unheard,
     }
 }
@@ -76,11 +93,16 @@ fn complete(kind: EpKind, last: bool, heard: Heard, plain: PlainRow) -> Complete
     ensures { result ≡ complete_row kind last heard plain }
 {
     match (kind, heard) {
+        // The last microframe, and no answer: the translator didn't run it, or lost it (EHCI 1.0, 4.12.2.4.2).
         (EpKind::Interrupt, Heard::Nyet) if last => CompleteRow::NeverCame,
+        // The translator has no answer yet (EHCI 1.0, 4.12.1.2 and 4.12.2.4.2).
         (_, Heard::Nyet) => CompleteRow::Pending,
+        // ERR: the transaction below the translator failed (EHCI 1.0, 4.12.2.4.2).
         (EpKind::Interrupt, Heard::Err) => CompleteRow::BrokeBelow,
         _ => match plain {
+            // A failure on the host's bus: the result still waits in the translator (EHCI 1.0, 4.12.1.2).
             PlainRow::Failed | PlainRow::FailedPinged => CompleteRow::Unanswered,
+            // The endpoint's own answer, as of a plain transaction (EHCI 1.0, 4.12.1.2).
             row => CompleteRow::Answered(row),
         },
     }

@@ -13,7 +13,8 @@ use Rattle.toggle_error.specs.declared.host.HostSide.{HostSide}
 use Rattle.toggle_error.specs.Columns.{expected_pid, limit_of}
 use Rattle.transactions.specs.declared.pipe.Pipe.{Pipe}
 
--- the token of an OUT in this ping state; an isochronous endpoint is never pinged (USB 2.0, 8.5.1)
+-- The token of an OUT in this ping state, which an isochronous endpoint hasn't (USB 2.0, 8.5.1). The state alone decides; for which
+-- endpoints an answer sets it is `out_token` of toggle_error.
 abbrev pub pinged : EpKind → Bool → Pid
 pinged Iso _ = Out
 pinged _ true = Ping

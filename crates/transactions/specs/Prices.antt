@@ -9,6 +9,7 @@ use Rattle.usb_base.specs.declared.packets.Speed.{Speed}
 use Rattle.usb_base.specs.declared.packets.Speed.TheVariants.{High}
 use Rattle.usb_base.specs.declared.packets.Split.{Split}
 use Rattle.usb_base.specs.declared.packets.Split.TheVariants.{Plain, Start, Complete}
+use Rattle.usb_base.specs.Limits.{byte_times_of_microframe}
 use Rattle.toggle_error.specs.declared.host.HostSide.{HostSide}
 use Rattle.transactions.specs.declared.pipe.Pipe.{Pipe}
 use Rattle.transactions.specs.Asks.{pinged, token_pid, dir_of}
@@ -23,7 +24,7 @@ priced_bytes Plain _ _ _ out = out
 priced_bytes (Start _ _ _) In _ _ _ = 0
 priced_bytes (Start _ _ _) Ping _ _ _ = 0
 priced_bytes (Start _ _ _) _ _ _ out = out
-priced_bytes (Complete _ _) In Iso max _ = min max 188
+priced_bytes (Complete _ _) In Iso max _ = min max byte_times_of_microframe
 priced_bytes (Complete _ _) In _ max _ = max
 priced_bytes (Complete _ _) _ _ _ _ = 0
 

@@ -5,6 +5,7 @@ ghost use Rattle.transactions.specs.Prices.{priced_bytes, priced_speed, price_of
 
 use crate::pipe::Pipe;
 use toggle_error::HostSide;
+use usb_base::limits::BYTE_TIMES_OF_MICROFRAME;
 use usb_base::{Dir, EpKind, Pid, Ps, Speed, Split, cost};
 
 /// The token of an OUT of this kind in this ping state.
@@ -56,7 +57,7 @@ fn priced(split: &Split, pid: Pid, kind: EpKind, max: u16, out: u16) -> u16
     match (split, pid, kind) {
         (Split::Plain, Pid::In, _) => max,
         (Split::Plain, Pid::Setup, _) => 8,
-        (Split::Complete { .. }, Pid::In, EpKind::Iso) => u16::min(max, 188),
+        (Split::Complete { .. }, Pid::In, EpKind::Iso) => u16::min(max, BYTE_TIMES_OF_MICROFRAME),
         (Split::Complete { .. }, Pid::In, _) => max,
         (Split::Complete { .. }, _, _) | (_, Pid::In | Pid::Ping, _) => 0,
         _ => out,

@@ -6,8 +6,8 @@ use Rattle.usb_base.specs.declared.packets.EpKind.TheVariants.{Control}
 use Rattle.usb_base.specs.declared.packets.Pid.TheVariants as Packets
 use Rattle.usb_base.specs.declared.packets.Reply.{Reply}
 use Rattle.usb_base.specs.declared.packets.Reply.TheVariants.{Silent, Hand}
-use Rattle.tt_keys.specs.declared.key.Key.{Key}
-use Rattle.tt_keys.specs.Keys.{key_of, is_same_key, is_same_kind, is_same_direction}
+use Rattle.hub_keys.specs.declared.key.Key.{Key}
+use Rattle.hub_keys.specs.Keys.{key_of, is_same_key, is_same_kind, is_same_direction}
 use Rattle.tt_bulk.specs.declared.rows.CompleteRow.{CompleteRow}
 use Rattle.tt_bulk.specs.declared.rows.CompleteRow.TheVariants.{Waits, Gives, Unknown}
 use Rattle.tt_bulk.specs.declared.rows.BufferIndex.TheVariants.{First, Second}

@@ -2,7 +2,7 @@
 use Rattle.std.specs.Prelude.{◌≡◌, ℕ, ◌+◌, ◌-◌, List, length, Option, Some, None, nat_le, if◌then◌else◌}
 use Rattle.usb_base.specs.declared.packets.Ask.{Ask}
 use Rattle.usb_base.specs.declared.packets.Reply.{Reply}
-use Rattle.tt_keys.specs.Asks.{classic_of, work_of}
+use Rattle.hub_keys.specs.Asks.{classic_of, work_of}
 use Rattle.tt_bulk.specs.declared.answers.Answer.{Answer}
 use Rattle.tt_bulk.specs.declared.answers.Answer.TheVariants.{Stall}
 use Rattle.tt_bulk.specs.declared.rows.BufferIndex.{BufferIndex}

@@ -5,8 +5,8 @@ ghost use Rattle.tt_bulk.specs.Work.{TakesTurn, turn_of, room_after, heard_by, s
 
 use crate::answers::{Answer, reply, result};
 use crate::rows::{Stage, Stand};
+use hub_keys::{Key, classic_ask, work};
 use std::marker::Model;
-use tt_keys::{Key, classic_ask, work};
 use usb_base::{Ask, DevAddr, EpKind, EpNum, Packet, Pid, Reply, Speed, Split, Wire, reply_to};
 
 /// One of a translator's buffers. What it shows depends on its stage: a free buffer shows nothing of its fields.

@@ -6,9 +6,9 @@ ghost use Rattle.tt_bulk.specs.Work.{Works};
 use crate::buffer::Buffer;
 use crate::rows::{BufferIndex, CompleteRow, StartRow};
 use crate::table::{complete_row, start_row};
+use hub_keys::Key;
 use std::alloc::Global;
 use std::marker::Model;
-use tt_keys::Key;
 use usb_base::{Ask, Memory, Pid, Reply, Wire};
 
 /// A translator's two buffers for bulk and control transactions. A contract sees what each has, and which one took its

@@ -2,7 +2,7 @@
 ghost use Rattle.std.specs.Prelude.{◌≡◌, true, false, [], ◌∷◌};
 ghost use Rattle.usb_base.specs.declared.packets.Pid.TheVariants as Packets;
 ghost use Rattle.usb_base.specs.declared.packets.Reply.TheVariants as Replies;
-ghost use Rattle.tt_keys.specs.Keys.{key_of};
+ghost use Rattle.hub_keys.specs.Keys.{key_of};
 ghost use Rattle.tt_bulk.specs.declared.answers.Answer.TheVariants as Answers;
 ghost use Rattle.tt_bulk.specs.declared.rows.BufferIndex.TheVariants.{First, Second};
 ghost use Rattle.tt_bulk.specs.Answers.{result_of};

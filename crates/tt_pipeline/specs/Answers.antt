@@ -10,7 +10,7 @@ use Rattle.usb_base.specs.declared.packets.Pid.{Pid}
 use Rattle.usb_base.specs.declared.packets.Pid.TheVariants as Packets
 use Rattle.usb_base.specs.declared.packets.Reply.{Reply}
 use Rattle.usb_base.specs.declared.packets.Reply.TheVariants.{Silent, Bytes, Hand}
-use Rattle.tt_keys.specs.declared.key.Key.{Key}
+use Rattle.hub_keys.specs.declared.key.Key.{Key}
 use Rattle.tt_pipeline.specs.declared.entry.Entry.{Entry}
 use Rattle.tt_pipeline.specs.declared.entry.Exchange.{Exchange}
 use Rattle.tt_pipeline.specs.declared.entry.Exchange.TheVariants.{Ahead, Made}

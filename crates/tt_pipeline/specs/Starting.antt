@@ -6,8 +6,8 @@ use Rattle.std.specs.List.{find, list_any}
 use Rattle.usb_base.specs.declared.packets.Ask.{Ask}
 use Rattle.usb_base.specs.declared.packets.DataPart.{DataPart}
 use Rattle.usb_base.specs.declared.packets.DataPart.TheVariants.{All, Begin, Middle, End}
-use Rattle.tt_keys.specs.Keys.{key_of, is_same_key}
-use Rattle.tt_keys.specs.declared.key.Key.{Key}
+use Rattle.hub_keys.specs.Keys.{key_of, is_same_key}
+use Rattle.hub_keys.specs.declared.key.Key.{Key}
 use Rattle.tt_pipeline.specs.declared.entry.Entry.{Entry}
 use Rattle.tt_pipeline.specs.declared.rows.StartRow.{StartRow}
 use Rattle.tt_pipeline.specs.declared.rows.StartRow.TheVariants.{Enters, Joins, Forgotten}

@@ -14,8 +14,9 @@ use Rattle.usb_base.specs.declared.packets.Pid.TheVariants.{In}
 use Rattle.usb_base.specs.declared.packets.Reply.{Reply}
 use Rattle.usb_base.specs.declared.packets.Split.{Split}
 use Rattle.usb_base.specs.declared.packets.Split.TheVariants.{Start}
-use Rattle.tt_keys.specs.Asks.{classic_of, work_of}
-use Rattle.tt_keys.specs.Keys.{key_of}
+use Rattle.usb_base.specs.Limits.{byte_times_of_microframe}
+use Rattle.hub_keys.specs.Asks.{classic_of, work_of}
+use Rattle.hub_keys.specs.Keys.{key_of}
 use Rattle.tt_pipeline.specs.declared.entry.Brought.{Brought}
 use Rattle.tt_pipeline.specs.declared.entry.Entry.{Entry}
 use Rattle.tt_pipeline.specs.declared.entry.Exchange.{Exchange}
@@ -94,7 +95,7 @@ aged e = record e { heard = e.before; before = e.came }
 -- the byte-times that starts call for: 188 for each part that isn't the last, and with the last part those of the
 -- whole transaction (USB 2.0, 11.18.4)
 abbrev pub called : Ask → Brought → ℕ
-called ask b = if b.whole then work_of ask b.bytes else 188 * b.parts
+called ask b = if b.whole then work_of ask b.bytes else byte_times_of_microframe * b.parts
 
 abbrev pub called_for : Entry → ℕ
 called_for e = called e.ask e.heard

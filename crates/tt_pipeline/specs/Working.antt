@@ -8,12 +8,13 @@ use Rattle.std.specs.Prelude.{◌≡◌, ℕ, ◌+◌, ◌-◌, ◌%◌, ◌==�
 use Rattle.usb_base.specs.declared.packets.Ask.{Ask}
 use Rattle.usb_base.specs.declared.packets.Reply.{Reply}
 use Rattle.usb_base.specs.declared.packets.Reply.TheVariants.{Silent}
-use Rattle.tt_keys.specs.Asks.{classic_of}
+use Rattle.usb_base.specs.Limits.{byte_times_of_microframe}
+use Rattle.hub_keys.specs.Asks.{classic_of}
 use Rattle.tt_pipeline.specs.declared.entry.Entry.{Entry}
 use Rattle.tt_pipeline.specs.Work.{aged, used, moved, is_due, sent_of, answered, Turn}
 
 abbrev pub budget : ℕ
-budget = 188
+budget = byte_times_of_microframe
 
 -- the byte-times that an entry takes at its turn
 abbrev pub used_at : ℕ → Entry → ℕ

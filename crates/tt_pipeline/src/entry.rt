@@ -6,7 +6,8 @@ ghost use Rattle.tt_pipeline.specs.Answers.{answer_row, bytes_row, result_of, re
 
 use crate::out_data::OutData;
 use crate::rows::AnswerRow;
-use tt_keys::{Key, classic_ask, work};
+use hub_keys::{Key, classic_ask, work};
+use usb_base::limits::BYTE_TIMES_OF_MICROFRAME;
 use usb_base::{Ask, DataPart, EpKind, Packet, Pid, Reply, Split, Wire, reply_to};
 
 /// What start-splits brought to an entry.
@@ -123,7 +124,7 @@ impl Brought {
         if self.whole {
             work(ask, self.bytes) as u64
         } else {
-            188 * self.parts as u64
+            BYTE_TIMES_OF_MICROFRAME as u64 * self.parts as u64
         }
     }
 }

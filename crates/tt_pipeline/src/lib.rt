@@ -2,7 +2,7 @@
 //! become classic transactions on the bus below, 188 byte-times in a microframe, and their results wait for the
 //! complete-splits of the same frame. Others call `Pipeline::start`, `microframe` and `complete`; the content is the
 //! list of entries in order of arrival, and the words of `specs/` say what each call makes of it. Crate `tt_bulk` has
-//! the other half of a translator, `tt_keys` what both share; `translator_keeps_up` shows that a plan that fits is done.
+//! the other half of a translator, `hub_keys` what both share; `law_translator` shows that a plan that fits is done.
 #![tactic(auto)]
 
 mod entry;

@@ -5,20 +5,18 @@ ghost use Rattle.tt_pipeline.specs.Starting.{has_key, at_key, without, is_there,
 ghost use Rattle.tt_pipeline.specs.Work.{fresh, joined};
 ghost use Rattle.tt_pipeline.specs.Working.{budget, used_by, kept, IsWorked, Works};
 ghost use Rattle.tt_pipeline.specs.Answers.{complete_answer, completed};
-ghost use Rattle.tt_keys.specs.Keys.{key_of};
+ghost use Rattle.hub_keys.specs.Keys.{key_of};
 
 use crate::entry::{Entry, part};
 use crate::rows::StartRow;
+use hub_keys::Key;
 use std::alloc::Global;
 use std::marker::Model;
-use tt_keys::Key;
+use usb_base::limits::BYTE_TIMES_OF_MICROFRAME;
 use usb_base::{Ask, DataPart, Memory, Pid, Reply, Wire};
 
 /// The most entries that a pipeline has.
 const ROOM: usize = 256;
-
-/// The byte-times that a translator moves in a microframe (USB 2.0, 11.18.4).
-const BUDGET: u32 = 188;
 
 /// The periodic pipeline of a translator: its entries in order of arrival.
 #[derive(Debug, Drop)]
@@ -190,11 +188,11 @@ impl Pipeline {
         ensures bound { result ≤ budget }
         ensures works { Works W.transacts budget self.old port.old port.new self.new }
     {
-        let mut room = BUDGET;
+        let mut room = BYTE_TIMES_OF_MICROFRAME as u32;
         for entry in self.entries.iter_mut() {
             room -= entry.turn(room, port);
         }
-        BUDGET - room
+        BYTE_TIMES_OF_MICROFRAME as u32 - room
     }
 
     /// Drops all entries at the begin of a frame.

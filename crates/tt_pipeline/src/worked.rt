@@ -3,7 +3,7 @@ ghost use Rattle.std.specs.Prelude.{◌≡◌, ℕ, ◌++◌, [], ◌∷◌, map
 ghost use Rattle.usb_base.specs.declared.packets.DataPart.TheVariants as Parts;
 ghost use Rattle.usb_base.specs.declared.packets.Pid.TheVariants as Packets;
 ghost use Rattle.usb_base.specs.declared.packets.Reply.TheVariants.{Silent, Bytes, Hand};
-ghost use Rattle.tt_keys.specs.Keys.{key_of};
+ghost use Rattle.hub_keys.specs.Keys.{key_of};
 ghost use Rattle.tt_pipeline.specs.declared.entry.Exchange.TheVariants.{Ahead, Made};
 ghost use Rattle.tt_pipeline.specs.declared.rows.StartRow.TheVariants.{Enters, Joins, Forgotten};
 ghost use Rattle.tt_pipeline.specs.Answers.{complete_answer, completed};

@@ -1,5 +1,6 @@
 use crate::endpoints::{EpDesc, EpName};
 use crate::items::ListOf;
+use crate::numbers::DevAddr;
 
 /// A command for the driver.
 #[derive(Debug, Drop)]
@@ -46,4 +47,30 @@ pub enum Cmd {
     },
     /// The endpoint is cancelled.
     Cancel(EpName),
+    /// The halt of an endpoint that has ended is cleared (USB 2.0, 9.4.5).
+    Clear(EpName),
+    /// The root port of this number is reset (EHCI 1.0, 2.3.9).
+    Reset(u8),
+    /// The root port of this number is given to a companion controller (EHCI 1.0, 4.2).
+    Give(u8),
+    /// Blocks of a disk are read.
+    DiskRead {
+        /// The address of its device.
+        addr: DevAddr,
+        /// The number of the first block.
+        lba: u32,
+        /// How many blocks of 512 bytes, 1 to 40.
+        count: u16,
+    },
+    /// Blocks of a disk are written.
+    DiskWrite {
+        /// The address of its device.
+        addr: DevAddr,
+        /// The number of the first block.
+        lba: u32,
+        /// The bytes, 1 to 40 blocks of 512.
+        bytes: ListOf<u8>,
+    },
+    /// Both endpoints of the disk of this device are cancelled, reset and opened again.
+    Revive(DevAddr),
 }

@@ -25,6 +25,8 @@ pub struct EpDesc {
     pub hub: Option<DevAddr>,
     /// The port of that hub.
     pub port: u8,
+    /// The translator of that hub, by the port that it serves alone; 0 where one translator serves all ports (USB 2.0, 11.14).
+    pub tt: u8,
 }
 
 /// Why an endpoint ended.
@@ -40,4 +42,17 @@ pub enum EndCause {
     Miss,
     /// The endpoint was cancelled.
     Cancel,
+}
+
+/// A disk of a high-speed device, which two of its bulk endpoints serve (Bulk-Only Transport 1.0).
+#[derive(Clone, Copy, Debug, PartialEq, Eq)]
+pub struct DiskText {
+    /// The address of the device.
+    pub addr: DevAddr,
+    /// The number of its IN endpoint.
+    pub input: EpNum,
+    /// The number of its OUT endpoint.
+    pub output: EpNum,
+    /// How many blocks of 512 bytes it has, 1 to 1,024.
+    pub blocks: u32,
 }

@@ -19,6 +19,13 @@ impl Model for DevAddr {
 }
 
 impl DevAddr {
+    /// The default address, 0 (USB 2.0, 9.1.1.4).
+    pub fn zero() -> DevAddr
+        ensures { result ≡ 0 }
+    {
+        DevAddr { number: 0 }
+    }
+
     /// The address `n`; `None` exactly above 127.
     pub fn new(n: u8) -> Option<DevAddr>
         ensures valid { IsSome result ↔ (n ≤ 127) }
@@ -57,6 +64,13 @@ impl Model for EpNum {
 }
 
 impl EpNum {
+    /// The number of the default control pipe, 0 (USB 2.0, 5.5.1).
+    pub fn zero() -> EpNum
+        ensures { result ≡ 0 }
+    {
+        EpNum { number: 0 }
+    }
+
     /// The endpoint number `n`; `None` exactly above 15.
     pub fn new(n: u8) -> Option<EpNum>
         ensures valid { IsSome result ↔ (n ≤ 15) }

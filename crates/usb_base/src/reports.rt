@@ -17,6 +17,10 @@ pub enum OfferError {
     NoPlacement,
     /// No page has a free run of `need` blocks of 32 bytes; the largest has `largest`.
     NoBlocks { need: u32, largest: u32 },
+    /// The endpoint to be cleared hasn't ended.
+    NotEnded,
+    /// The endpoint 0 of the hub whose translator is to be cleared isn't open, has ended, or has a request that isn't done.
+    HubClosed,
 }
 
 /// What a line of the report tells of an endpoint.
@@ -34,6 +38,16 @@ pub enum What {
     Iso { errors: u8 },
     /// The command on this line of the script was refused.
     Refused { line: u32, why: OfferError },
+    /// The halt of the endpoint was cleared: it is open again.
+    Clear,
+    /// The hub's request of a clear ended so: the endpoint stays ended.
+    ClearFailed(EndCause),
+    /// A root port of this number has this status and control word (EHCI 1.0, 2.3.9).
+    Port { port: u8, value: u32 },
+    /// The command with this tag of a disk was done, and it passed or failed.
+    Disk { tag: u32, passed: bool },
+    /// A disk and its endpoints were reset.
+    DiskReset,
 }
 
 /// One line of the report, whose bytes are the `len` bytes from `from` on of the store of all reported bytes.

@@ -1,6 +1,7 @@
 //! Worked values of the definitions, which the check computes.
-ghost use Rattle.std.specs.Prelude.{◌≡◌, ◌∷◌, [], Bool, true, false, ℕ, ◌+◌, ◌<◌, ◌≤◌, replicate};
+ghost use Rattle.std.specs.Prelude.{◌≡◌, ◌∷◌, [], Bool, true, false, ℕ, ◌+◌, ◌*◌, ◌/◌, ◌<◌, ◌≤◌, replicate};
 ghost use Rattle.usb_base.specs.Cost.{bus_time, byte_times};
+ghost use Rattle.usb_base.specs.Limits.{microframe_time, microframe_budget, frame_budget, byte_times_of_microframe, frame_list_length, longest_qtd, most_memory};
 ghost use Rattle.usb_base.specs.Outside.{one_more, Rose};
 ghost use Rattle.usb_base.specs.Acknowledgement.{acknowledges};
 ghost use Rattle.usb_base.specs.declared.packets.Ask.{Ask as Asked};
@@ -28,6 +29,17 @@ pub fn byte_times_of_packets()
     ensures full_8 { byte_times Speed.Full EpKind.Interrupt 8 ≡ 21 }
     ensures full_iso_931 { byte_times Speed.Full EpKind.Iso 931 ≡ 940 }
     ensures low_8 { byte_times Speed.Low EpKind.Interrupt 8 ≡ 168 }
+{}
+
+/// The numbers that several crates name, as the standards give them: 80 of 100 of a microframe and 90 of 100 of a frame of
+/// eight; 12 bits a microsecond at full speed, in whole bytes; pages of 4,096 bytes.
+pub fn limits()
+    ensures microframe { microframe_budget ≡ 80 * microframe_time / 100 }
+    ensures frame { frame_budget ≡ 90 * (8 * microframe_time) / 100 }
+    ensures byte_times { byte_times_of_microframe ≡ (12 * 125 + 7) / 8 }
+    ensures list { 4 * frame_list_length ≡ 4096 }
+    ensures qtd { longest_qtd ≡ 5 * 4096 }
+    ensures memory { 4 * most_memory ≡ 256 * 4096 }
 {}
 
 /// Which answers to an IN of device 3 are acknowledged, where DATA1 with at most two bytes is expected.

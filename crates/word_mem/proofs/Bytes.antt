@@ -9,11 +9,8 @@ use Rattle.word_mem.specs.Views.{with_bytes, byte_of, with_byte_of, byte_in, wit
 
 -- a byte of a word just changed
 pub byte_of-with_byte_of_same : (w j b : ℕ) → j < 4 → b < 256 → byte_of (with_byte_of w j b) j ≡ b
-byte_of-with_byte_of_same w zero b small byte = omega arith
-byte_of-with_byte_of_same w (suc zero) b small byte = omega arith
-byte_of-with_byte_of_same w (suc (suc zero)) b small byte = omega arith
-byte_of-with_byte_of_same w (suc (suc (suc zero))) b small byte = omega arith
 byte_of-with_byte_of_same w (suc (suc (suc (suc j)))) b small byte = absurd (omega arith)
+byte_of-with_byte_of_same w _ b small byte = omega arith
 
 -- and another byte of it
 pub byte_of-with_byte_of_other : (w j b i : ℕ) → j < 4 → b < 256 → i < 4 → i ≢ j → byte_of (with_byte_of w j b) i ≡ byte_of w i
@@ -41,11 +38,8 @@ byte_of-with_byte_of_other w (suc (suc (suc (suc j)))) b i small byte also other
 
 -- a word stays a word
 pub with_byte_of-fits : (w j b : ℕ) → j < 4 → b < 256 → w < 2 ^ 32 → with_byte_of w j b < 2 ^ 32
-with_byte_of-fits w zero b small byte fits = omega arith
-with_byte_of-fits w (suc zero) b small byte fits = omega arith
-with_byte_of-fits w (suc (suc zero)) b small byte fits = omega arith
-with_byte_of-fits w (suc (suc (suc zero))) b small byte fits = omega arith
 with_byte_of-fits w (suc (suc (suc (suc j)))) b small byte fits = absurd (omega arith)
+with_byte_of-fits w _ b small byte fits = omega arith
 
 -- a byte just written, and another one
 pub byte_in-with_byte_in_same : (ws : List ℕ) (at b : ℕ) → at / 4 < length ws → b < 256 → byte_in (with_byte_in ws at b) at ≡ b
@@ -176,11 +170,8 @@ bytes_in_by_words ws new at n each =
 
 -- the word of four bytes, the lowest first
 pub byte_of_four : (b c d e j : ℕ) → b < 256 → c < 256 → d < 256 → e < 256 → j < 4 → byte_of (b + 256 * c + 65536 * d + 16777216 * e) j ≡ get_or (b ∷ c ∷ d ∷ e ∷ []) j 0
-byte_of_four b c d e zero small also third fourth few = omega arith
-byte_of_four b c d e (suc zero) small also third fourth few = omega arith
-byte_of_four b c d e (suc (suc zero)) small also third fourth few = omega arith
-byte_of_four b c d e (suc (suc (suc zero))) small also third fourth few = omega arith
 byte_of_four b c d e (suc (suc (suc (suc j)))) small also third fourth few = absurd (omega arith)
+byte_of_four b c d e _ small also third fourth few = omega arith
 
 -- the places below and above a byte that is changed
 low_step : (w b : ℕ) → b < 256 → (with_byte_of w 0 b % 256 ≡ b) × (with_byte_of w 0 b / 256 ≡ w / 256)

@@ -8,7 +8,7 @@ use Rattle.word_mem.specs.Memory.{Mem, IsShaped, fresh, all_lent, word_at, state
 use Rattle.word_mem.specs.Free.{IsTaken}
 use Rattle.word_mem.proofs.Filled.{length-filled, get_or-filled_inside, get_or-filled_before, get_or-filled_after, slice_get-filled_inside, slice_get-filled_before, slice_get-filled_after}
 use Rattle.word_mem.specs.declared.blocks.BlockState.{BlockState}
-use Rattle.word_mem.specs.declared.blocks.BlockState.TheVariants.{Free, Kept, Lent}
+use Rattle.word_mem.specs.declared.blocks.BlockState.TheVariants.{Free, Lent}
 
 -- a run of one state lies in memory
 pub run_within : (m : Mem) (s : BlockState) (r : Run) → AreAll m s r → 1 ≤ r.blocks → r.first + r.blocks ≤ length m.states
@@ -94,10 +94,8 @@ pub reaches_lent : (m : Mem) (r : Run) (at : ℕ) → AreAll m Lent r → IsInRu
 reaches_lent m r at all here = ap is_lent (all (at / 32) (omega (arith, here.from)) (omega (arith, here.below)))
 
 from_is_lent : (o : Option BlockState) → is_lent o ≡ true → o ≡ Some Lent
-from_is_lent None e = absurd (false≢true e)
-from_is_lent (Some Free) e = absurd (false≢true e)
-from_is_lent (Some Kept) e = absurd (false≢true e)
 from_is_lent (Some Lent) e = refl
+from_is_lent _ e = absurd (false≢true e)
 
 -- and no word of a block that isn't Lent
 pub lent_if_reached : (m : Mem) (at : ℕ) → reaches m at ≡ true → state_at m (at / 32) ≡ Some Lent

@@ -1,10 +1,10 @@
 -- How the Free blocks in a row before a block go on with it.
-use Rattle.std.proofs.Common.{◌≡◌, ◌≢◌, ℕ, ◌+◌, ◌-◌, ◌%◌, ◌<◌, ◌≤◌, ◌⊎◌, List, Option, None, Some, length, slice_get, arith, refl, sym, subst, inl, inr, ⊎_elim}
+use Rattle.std.proofs.Common.{◌≡◌, ◌≢◌, ℕ, ◌+◌, ◌-◌, ◌%◌, ◌<◌, ◌≤◌, ◌⊎◌, List, Option, Some, length, slice_get, arith, refl, sym, subst, inl, inr, ⊎_elim}
 use Rattle.std.proofs.lemmas.Bool.{cases_eq, cases_lt}
 use Rattle.std.proofs.lemmas.Option.{slice_get_within}
 use Rattle.word_mem.specs.Free.{IsFreeRun}
 use Rattle.word_mem.specs.declared.blocks.BlockState.{BlockState}
-use Rattle.word_mem.specs.declared.blocks.BlockState.TheVariants.{Free, Kept, Lent}
+use Rattle.word_mem.specs.declared.blocks.BlockState.TheVariants.{Free}
 
 -- n is the length of the longest run of Free blocks in one page, or 0, among those that end right before block `end`
 pub record IsFreeTail (states : List BlockState) (end n : ℕ) : Type 0 where
@@ -66,11 +66,7 @@ tail_at states block before after (Some Free) is tail goes_on begins ends =
     ⊎_elim (λ (edge : block % 128 ≡ 0). subst (IsFreeTail states (block + 1)) (sym (begins refl edge)) (tail_begins states block is edge))
     (λ (inner : block % 128 ≢ 0). subst (IsFreeTail states (block + 1)) (sym (goes_on refl inner)) (tail_grows states block before tail is inner))
     (cases_eq (block % 128) 0)
-tail_at states block before after (Some Kept) is tail goes_on begins ends =
-    subst (IsFreeTail states (block + 1)) (sym (ends (λ e. cc))) (tail_ends states block (λ e. cc))
-tail_at states block before after (Some Lent) is tail goes_on begins ends =
-    subst (IsFreeTail states (block + 1)) (sym (ends (λ e. cc))) (tail_ends states block (λ e. cc))
-tail_at states block before after None is tail goes_on begins ends =
+tail_at states block before after _ is tail goes_on begins ends =
     subst (IsFreeTail states (block + 1)) (sym (ends (λ e. cc))) (tail_ends states block (λ e. cc))
 
 -- the tail one block on

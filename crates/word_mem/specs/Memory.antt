@@ -11,6 +11,7 @@
 --     released m r            the blocks of r are Free and their words 0 now, and nothing else differs
 --     refused m               one more refusal is counted, up to 2 ^ 64 - 1, and nothing else differs
 use Rattle.std.specs.Prelude.{◌≡◌, ℕ, ◌+◌, ◌-◌, ◌*◌, ◌/◌, ◌%◌, ◌^◌, ◌<◌, ◌≤◌, min, Bool, true, false, List, ◌++◌, length, take, drop, replicate, slice_get, slice_index, slice_set, Option, Some, None}
+use Rattle.usb_base.specs.Limits.{most_memory}
 use Rattle.word_mem.specs.Runs.{Run}
 use Rattle.word_mem.specs.declared.blocks.BlockState.{BlockState}
 use Rattle.word_mem.specs.declared.blocks.BlockState.TheVariants.{Free, Kept, Lent}
@@ -22,7 +23,7 @@ pub record Mem : Type 0 where
 
 pub record IsShaped (m : Mem) : Type 0 where
   pub at_least : 1024 ≤ length m.words
-  pub at_most : length m.words ≤ 262144
+  pub at_most : length m.words ≤ most_memory
   pub whole_pages : length m.words % 1024 ≡ 0
   pub eight_each : length m.words ≡ 8 * length m.states
 

@@ -2,7 +2,7 @@
 //!
 //! `WordMem` is the memory: the driver takes, lends and releases typed runs of blocks, the controller goes through `hc_read` and `hc_write`
 //! alone, or `hc_read_words` and `hc_write_words` for words in a row of one block. `owners` has the laws of the runs in hand: no two of
-//! them share a block. Bytes of a buffer stand above it in `buffers`, structures in `queue_words`.
+//! them share a block. Bytes of a buffer stand above it in `mem_bytes`, structures in `mem_queues`.
 #![tactic(auto)]
 
 mod blocks;

@@ -1,4 +1,5 @@
 ghost use Rattle.std.specs.Prelude.{◌≡◌, ℕ, ◌+◌, ◌*◌, ◌/◌, ◌%◌, ◌^◌, ◌<◌, ◌≤◌, List, length, slice_get, slice_index, Option, Some, None, true, IsTrue, IfOk, IfSome, if◌then◌else◌};
+ghost use Rattle.usb_base.specs.Limits.{most_memory};
 
 use crate::blocks::{BlockRun, BlockState, LentRun};
 use crate::copies::{copy_in, copy_out, overwrite};
@@ -42,7 +43,7 @@ impl WordMem {
     /// `Memory` where the words or the states find no room.
     pub fn build(alloc: Global, words: u32) -> Result<WordMem, Memory>
         requires at_least { 1024 ≤ words }
-        requires at_most { words ≤ 262144 }
+        requires at_most { words ≤ most_memory }
         requires whole_pages { words % 1024 ≡ 0 }
         ensures { IfOk result (λ m. m ≡ fresh words) }
     {
@@ -60,7 +61,7 @@ impl WordMem {
     /// `Memory` where the words or the states find no room.
     pub fn from_words(alloc: Global, words: &[u32]) -> Result<WordMem, Memory>
         requires at_least { 1024 ≤ length words.now }
-        requires at_most { length words.now ≤ 262144 }
+        requires at_most { length words.now ≤ most_memory }
         requires whole_pages { length words.now % 1024 ≡ 0 }
         ensures { IfOk result (λ m. m ≡ all_lent words.now) }
     {

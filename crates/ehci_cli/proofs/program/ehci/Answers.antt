@@ -1,6 +1,6 @@
 use Rattle.std.proofs.Common.{subst, refl}
-use Rattle.program_ends.proofs.Endings.{fault_by}
-use Rattle.program_forms.specs.Form.{AreWordsOf}
+use Rattle.app_ends.proofs.Endings.{fault_by}
+use Rattle.app_forms.specs.Form.{AreWordsOf}
 use Rattle.ehci_cli.proofs.Answered.{program_of_any, program_of_source, leaves_of_source, leaves_all, load_of}
 use Rattle.ehci_cli.proofs.Whole.{whole_load, whole_program}
 use Rattle.ehci_cli.proofs.program.ehci.Goals as goal

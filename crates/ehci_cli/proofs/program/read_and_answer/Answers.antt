@@ -1,4 +1,4 @@
-use Rattle.program_ends.proofs.Endings.{fault_by, left_by}
+use Rattle.app_ends.proofs.Endings.{fault_by, left_by}
 use Rattle.ehci_cli.proofs.Answered.{answer_of_source, reading_leaves}
 use Rattle.ehci_cli.proofs.program.read_and_answer.Goals as goal
 

@@ -1,7 +1,7 @@
 use Rattle.std.proofs.Common.{◌/◌, length, sym, subst}
 use Rattle.std.specs.List.{AllByRecursion}
-use Rattle.usb_bus.specs.Bus.{Wired}
-use Rattle.driver_rows.specs.Opening.{opening_book}
+use Rattle.bus_wire.specs.Bus.{Wired}
+use Rattle.drv_table.specs.Opening.{opening_book}
 use Rattle.bus_world.specs.Sound.{IsRoomyDevice}
 use Rattle.bus_world.proofs.Roomy.{opening_roomy}
 use Rattle.bus_world.proofs.Sounds.{opening_sound}

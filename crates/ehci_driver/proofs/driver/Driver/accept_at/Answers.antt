@@ -1,5 +1,5 @@
 use Rattle.std.proofs.Common.{◌++◌, drop}
-use Rattle.driver_words.specs.Cuts.{stages_of}
+use Rattle.drv_words.specs.Cuts.{stages_of}
 use Rattle.ehci_driver.proofs.Offered.{accepted_is}
 use Rattle.ehci_driver.proofs.driver.Driver.accept_at.Goals as goal
 

@@ -1,10 +1,10 @@
 use Rattle.std.proofs.Common.{◌≤◌, ℕ, List, slice_get, ap, subst, sym, ◌∙◌, arith, refl}
 use Rattle.std.proofs.Math.Nat.{mul-le-mul_left}
-use Rattle.driver_rows.specs.declared.content.Transfer.{Transfer}
-use Rattle.driver_rows.specs.DriverContent.{DriverContent}
-use Rattle.driver_rows.specs.Offers.{Descriptors, total_of, with_descriptors}
+use Rattle.drv_table.specs.declared.content.Transfer.{Transfer}
+use Rattle.drv_table.specs.DriverContent.{DriverContent}
+use Rattle.drv_table.specs.IsoOffers.{Descriptors, total_of, with_descriptors}
 use Rattle.ehci_driver.proofs.Descriptors.{Adds, adds_all, descriptors_rooms, descriptors_frames}
-use Rattle.periodic_part.specs.Part.{Held}
+use Rattle.drv_frames_content.specs.Part.{Held}
 use Rattle.ehci_driver.proofs.Rosters.{written_rooms}
 use Rattle.ehci_driver.proofs.Placed.{Keeps, keeps_notes, frames_held}
 use Rattle.ehci_driver.proofs.driver.Driver.accept_iso.Goals as goal

@@ -1,5 +1,5 @@
 use Rattle.std.proofs.Common.{◌≤◌, ap, arith, refl}
-use Rattle.driver_rows.specs.DriverContent.{DriverContent}
+use Rattle.drv_table.specs.DriverContent.{DriverContent}
 use Rattle.ehci_driver.proofs.Entered.{opened_rooms}
 use Rattle.ehci_driver.proofs.Placed.{frames_opened}
 use Rattle.ehci_driver.proofs.driver.Driver.accept_open.Goals as goal

@@ -1,7 +1,7 @@
 use Rattle.std.proofs.Common.{length, true, set, slice_get, ap, subst, sym, ◌∙◌, arith, refl}
-use Rattle.driver_rows.specs.declared.content.Transfer.{Transfer}
-use Rattle.driver_rows.specs.DriverContent.{DriverContent}
-use Rattle.periodic_part.specs.Part.{Held}
+use Rattle.drv_table.specs.declared.content.Transfer.{Transfer}
+use Rattle.drv_table.specs.DriverContent.{DriverContent}
+use Rattle.drv_frames_content.specs.Part.{Held}
 use Rattle.ehci_driver.proofs.Entered.{cancelled_rooms}
 use Rattle.ehci_driver.proofs.Rosters.{written_rooms}
 use Rattle.ehci_driver.proofs.Placed.{Keeps, keeps_both, keeps_queued, keeps_begun, frames_held, frames_cancelled}

@@ -1,7 +1,7 @@
 use Rattle.std.proofs.Common.{slice_get, Some, vec_len, vec_capacity, ap, ◌∙◌, arith, refl}
 use Rattle.std.specs.VecDeque.{deque_len, deque_capacity}
 use Rattle.std.proofs.lemmas.Option.{slice_get_within}
-use Rattle.driver_rows.specs.DriverContent.{DriverContent}
+use Rattle.drv_table.specs.DriverContent.{DriverContent}
 use Rattle.ehci_driver.proofs.Lines.{can_tell, told_after}
 use Rattle.ehci_driver.proofs.Rosters.{written_rooms}
 use Rattle.ehci_driver.proofs.Placed.{frames_told}

@@ -1,6 +1,6 @@
 use Rattle.std.proofs.Common.{position, slice_get, option_and_then, ap, ◌∙◌}
-use Rattle.driver_rows.specs.declared.content.Endpoint.{Endpoint}
-use Rattle.driver_rows.specs.DriverContent.{DriverContent, is_same_name}
+use Rattle.drv_table.specs.declared.content.Endpoint.{Endpoint}
+use Rattle.drv_table.specs.DriverContent.{DriverContent, is_same_name}
 use Rattle.ehci_driver.proofs.driver.Driver.ended.Goals as goal
 
 pub returns-in-Some : goal.returns-in-Some

@@ -1,7 +1,7 @@
 use Rattle.std.proofs.Common.{length, ap, subst, sym, ◌∙◌, arith}
-use Rattle.driver_rows.specs.declared.content.Transfer.{Transfer}
-use Rattle.driver_rows.specs.DriverContent.{DriverContent}
-use Rattle.periodic_part.specs.Part.{Held}
+use Rattle.drv_table.specs.declared.content.Transfer.{Transfer}
+use Rattle.drv_table.specs.DriverContent.{DriverContent}
+use Rattle.drv_frames_content.specs.Part.{Held}
 use Rattle.ehci_driver.proofs.Placed.{Keeps, keeps_both, keeps_notes, keeps_queued, keeps_read, frames_held, short_span}
 use Rattle.ehci_driver.proofs.driver.Driver.frame_command.Goals as goal
 

@@ -1,5 +1,5 @@
 use Rattle.std.proofs.Common.{rules, ◌≡◌, true, slice_get, Some, subst, sym, ◌∙◌, refl}
-use Rattle.periodic_part.specs.Part.{Held}
+use Rattle.drv_frames_content.specs.Part.{Held}
 use Rattle.ehci_driver.specs.Rooms.{HasFrameRooms}
 use Rattle.ehci_driver.proofs.Left.{kept_rooms}
 use Rattle.ehci_driver.proofs.Placed.{can_leave, frames_left}

@@ -1,5 +1,5 @@
 use Rattle.std.proofs.Common.{slice_get, ap, ◌∙◌, refl}
-use Rattle.driver_rows.specs.DriverContent.{DriverContent}
+use Rattle.drv_table.specs.DriverContent.{DriverContent}
 use Rattle.ehci_driver.proofs.Lines.{moved_rooms}
 use Rattle.ehci_driver.proofs.Placed.{frames_transfer}
 use Rattle.ehci_driver.proofs.driver.Driver.move_on.Goals as goal

@@ -1,8 +1,8 @@
 use Rattle.std.proofs.Common.{◌++◌, Err, sym, ◌∙◌, refl}
 use Rattle.std.proofs.lemmas.Result.{IfOk-weaker, IfErr-weaker}
-use Rattle.driver_rows.specs.declared.content.Sort.TheVariants as sorts
-use Rattle.driver_rows.specs.Words.{request_length, request_stages}
-use Rattle.driver_rows.specs.Offers.{Asked, takes_control}
+use Rattle.drv_table.specs.declared.content.Sort.TheVariants as sorts
+use Rattle.drv_table.specs.Words.{request_length, request_stages}
+use Rattle.drv_table.specs.Offers.{Asked, takes_control}
 use Rattle.ehci_driver.proofs.Offered.{no_such, not_for_it, for_it, takes_it}
 use Rattle.ehci_driver.proofs.driver.Driver.offer_control.Goals as goal
 

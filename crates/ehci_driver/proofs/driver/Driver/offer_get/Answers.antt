@@ -1,8 +1,8 @@
 use Rattle.std.proofs.Common.{[], Err, sym, ◌∙◌, refl}
 use Rattle.std.proofs.lemmas.Result.{IfOk-weaker, IfErr-weaker}
-use Rattle.driver_rows.specs.declared.content.Sort.TheVariants as sorts
-use Rattle.driver_rows.specs.Words.{get_stages}
-use Rattle.driver_rows.specs.Offers.{Asked, takes_get}
+use Rattle.drv_table.specs.declared.content.Sort.TheVariants as sorts
+use Rattle.drv_table.specs.Words.{get_stages}
+use Rattle.drv_table.specs.Offers.{Asked, takes_get}
 use Rattle.ehci_driver.proofs.Offered.{no_such, not_for_it, for_it, takes_it}
 use Rattle.ehci_driver.proofs.driver.Driver.offer_get.Goals as goal
 

@@ -1,6 +1,6 @@
 use Rattle.std.proofs.Common.{◌≡◌, ◌+◌, ℕ, None, Err, rules, refl, ap, sym, ◌∙◌}
 use Rattle.std.proofs.lemmas.Result.{IfOk-weaker, IfErr-weaker}
-use Rattle.driver_rows.specs.Offers.{spans_too_long}
+use Rattle.drv_table.specs.IsoOffers.{spans_too_long}
 use Rattle.ehci_driver.proofs.Isochronous.{iso_too_long, iso_taken}
 use Rattle.ehci_driver.proofs.driver.Driver.offer_iso.Goals as goal
 

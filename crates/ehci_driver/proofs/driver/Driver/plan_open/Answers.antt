@@ -1,6 +1,6 @@
 use Rattle.std.proofs.Common.{◌≡◌, ◌≤◌, false, length, ap, arith}
-use Rattle.driver_rows.specs.declared.content.Endpoint.{Endpoint}
-use Rattle.driver_rows.specs.DriverContent.{DriverContent}
+use Rattle.drv_table.specs.declared.content.Endpoint.{Endpoint}
+use Rattle.drv_table.specs.DriverContent.{DriverContent}
 use Rattle.ehci_driver.proofs.Entered.{placed_rooms}
 use Rattle.ehci_driver.proofs.Placed.{before_same, fresh_number}
 use Rattle.ehci_driver.proofs.Placing.{place_rooms}

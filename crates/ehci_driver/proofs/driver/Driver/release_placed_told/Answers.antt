@@ -1,12 +1,14 @@
 use Rattle.std.proofs.Common.{true, slice_get, ap, ◌∙◌, arith, vec_len, vec_capacity, ◌≡◌, Bool, map, subst, sym, refl}
 use Rattle.std.specs.VecDeque.{deque_len, deque_capacity}
 use Rattle.std.proofs.lemmas.Option.{slice_get_within}
-use Rattle.driver_rows.specs.DriverContent.{DriverContent}
-use Rattle.driver_harvests.specs.Owed.{owed_of}
+use Rattle.drv_table.specs.DriverContent.{DriverContent}
+use Rattle.drv_harvests.specs.Owed.{owed_of}
 use Rattle.ehci_driver.proofs.Gone.{can_tell_gone, line_rooms, told_is}
 use Rattle.ehci_driver.proofs.Rosters.{written_rooms}
-use Rattle.periodic_part.specs.Part.{Held}
-use Rattle.driver_rows.specs.Rows.{is_iso, let_go, let_go_placed}
+use Rattle.drv_frames_content.specs.Part.{Held}
+use Rattle.drv_table.specs.Kinds.{is_iso}
+use Rattle.drv_table.specs.Releases.{let_go}
+use Rattle.drv_table.specs.Removals.{let_go_placed}
 use Rattle.ehci_driver.specs.Rooms.{HasFrameRooms}
 use Rattle.ehci_driver.proofs.Released.{placed_as, owed_by, owed_as, frames_owed}
 use Rattle.ehci_driver.proofs.Placed.{frames_gone, frames_withdrawn, frames_held, keeps_less}

@@ -1,8 +1,8 @@
 use Rattle.std.proofs.Common.{true, slice_get, ap, ◌∙◌, arith, vec_len, vec_capacity}
 use Rattle.std.specs.VecDeque.{deque_len, deque_capacity}
 use Rattle.std.proofs.lemmas.Option.{slice_get_within}
-use Rattle.driver_rows.specs.DriverContent.{DriverContent}
-use Rattle.driver_harvests.specs.Owed.{owed_of}
+use Rattle.drv_table.specs.DriverContent.{DriverContent}
+use Rattle.drv_harvests.specs.Owed.{owed_of}
 use Rattle.ehci_driver.proofs.Gone.{can_tell_gone, line_rooms, told_is}
 use Rattle.ehci_driver.proofs.Rosters.{written_rooms}
 use Rattle.ehci_driver.proofs.Placed.{frames_gone}

@@ -2,7 +2,7 @@ use Rattle.std.proofs.Common.{slice_get, None, vec_len, vec_capacity, ap, ◌∙
 use Rattle.std.specs.VecDeque.{deque_len, deque_capacity}
 use Rattle.std.proofs.lemmas.Option.{slice_get_within}
 use Rattle.std.proofs.lemmas.List.{length-set}
-use Rattle.driver_rows.specs.DriverContent.{DriverContent}
+use Rattle.drv_table.specs.DriverContent.{DriverContent}
 use Rattle.ehci_driver.proofs.Lines.{can_tell, told_after}
 use Rattle.ehci_driver.proofs.Rosters.{written_rooms}
 use Rattle.ehci_driver.proofs.Placed.{frames_told}

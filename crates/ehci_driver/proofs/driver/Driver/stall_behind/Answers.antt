@@ -1,6 +1,6 @@
 use Rattle.std.proofs.Common.{◌≡◌, ◌<◌, ◌+◌, ◌-◌, length, ap, sym, ◌∙◌, arith}
-use Rattle.driver_rows.specs.DriverContent.{DriverContent}
-use Rattle.driver_rows.specs.Rows.{behind}
+use Rattle.drv_table.specs.DriverContent.{DriverContent}
+use Rattle.drv_table.specs.Harvesting.{behind}
 use Rattle.ehci_driver.proofs.Behind.{behind_more, behind_all}
 use Rattle.ehci_driver.proofs.driver.Driver.stall_behind.Goals as goal
 

@@ -1,5 +1,5 @@
 use Rattle.std.proofs.Common.{◌≡◌, ◌-◌, length}
-use Rattle.driver_rows.specs.Rows.{behind}
+use Rattle.drv_table.specs.Harvesting.{behind}
 use Rattle.ehci_driver.proofs.driver.Driver.stall_behind.Given as goal
 
 abbrev pub invariant-loop-k : goal.invariant-loop-k

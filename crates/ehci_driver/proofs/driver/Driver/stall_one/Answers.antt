@@ -1,6 +1,6 @@
 use Rattle.std.proofs.Common.{rules, arith, slice_get, ap, ◌∙◌, refl}
-use Rattle.driver_rows.specs.DriverContent.{DriverContent}
-use Rattle.driver_rows.specs.Rows.{behind_one}
+use Rattle.drv_table.specs.DriverContent.{DriverContent}
+use Rattle.drv_table.specs.Harvesting.{behind_one}
 use Rattle.ehci_driver.proofs.Behind.{behind_made, there_read}
 use Rattle.ehci_driver.proofs.driver.Driver.stall_one.Goals as goal
 

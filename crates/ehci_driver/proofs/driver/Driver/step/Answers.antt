@@ -1,7 +1,7 @@
 use Rattle.std.proofs.Common.{subst, sym}
 use Rattle.word_mem.specs.Memory.{Mem}
-use Rattle.driver_rows.specs.declared.rows.DriverRow.{DriverRow}
-use Rattle.driver_rows.specs.Rows.{Parts}
+use Rattle.drv_table.specs.declared.rows.DriverRow.{DriverRow}
+use Rattle.drv_table.specs.Parts.{Parts}
 use Rattle.ehci_driver.specs.Makes.{CanMake}
 use Rattle.ehci_driver.proofs.Makes.{row_can}
 use Rattle.ehci_driver.specs.Written.{OnlyStores}

@@ -1,5 +1,5 @@
 use Rattle.std.proofs.Common.{ℕ, ◌++◌, ap, length}
-use Rattle.driver_words.specs.Cuts.{stages_of}
+use Rattle.drv_words.specs.Cuts.{stages_of}
 use Rattle.ehci_driver.proofs.Offered.{taken_by, refused_by}
 use Rattle.ehci_driver.proofs.driver.Driver.take_at.Goals as goal
 

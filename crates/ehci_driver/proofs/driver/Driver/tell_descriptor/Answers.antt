@@ -1,16 +1,16 @@
 use Rattle.std.proofs.Common.{List, [], ◌∷◌, ◌++◌, take, set, slice_get, vec_len, vec_capacity, ap, subst, sym, ◌∙◌, arith, refl, length, true}
 use Rattle.std.specs.VecDeque.{deque_len, deque_capacity}
 use Rattle.std.proofs.lemmas.Option.{slice_get_within}
-use Rattle.driver_rows.specs.DriverContent.{DriverContent, next_after}
+use Rattle.drv_table.specs.DriverContent.{DriverContent, next_after}
 use Rattle.usb_base.specs.declared.reports.What.TheVariants.{Iso}
-use Rattle.periodic_rows.specs.Descriptors.{told_bytes}
-use Rattle.periodic_part.specs.Part.{Held}
+use Rattle.drv_periodic_table.specs.Descriptors.{told_bytes}
+use Rattle.drv_frames_content.specs.Part.{Held}
 use Rattle.ehci_driver.specs.Rooms.{HasFrameRooms}
 use Rattle.ehci_driver.proofs.Lines.{can_tell, told_after}
 use Rattle.ehci_driver.proofs.Rosters.{written_rooms}
 use Rattle.ehci_driver.proofs.Placed.{can_serve, frames_served}
-use Rattle.driver_rows.specs.declared.content.Transfer.{Transfer}
-use Rattle.periodic_rows.specs.declared.content.DescriptorNote.{DescriptorNote}
+use Rattle.drv_table.specs.declared.content.Transfer.{Transfer}
+use Rattle.drv_periodic_table.specs.declared.content.DescriptorNote.{DescriptorNote}
 use Rattle.ehci_driver.proofs.Cancelled.{served_made}
 use Rattle.ehci_driver.proofs.driver.Driver.tell_descriptor.Goals as goal
 

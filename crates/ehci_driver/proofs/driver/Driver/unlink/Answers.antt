@@ -1,10 +1,10 @@
 use Rattle.std.proofs.Common.{length, ap, ◌∙◌, arith}
 use Rattle.std.proofs.lemmas.List.{length_push}
-use Rattle.frame_chains.specs.declared.boundary.Boundary.TheVariants.{Unread}
-use Rattle.periodic_rows.specs.declared.content.Removal.{Removal}
-use Rattle.periodic_rows.specs.declared.content.Removed.TheVariants.{Descriptor}
-use Rattle.driver_rows.specs.DriverContent.{DriverContent}
-use Rattle.periodic_part.specs.Part.{Held}
+use Rattle.drv_chains.specs.declared.boundary.Boundary.TheVariants.{Unread}
+use Rattle.drv_periodic_table.specs.declared.content.Removal.{Removal}
+use Rattle.drv_periodic_table.specs.declared.content.Removed.TheVariants.{Descriptor}
+use Rattle.drv_table.specs.DriverContent.{DriverContent}
+use Rattle.drv_frames_content.specs.Part.{Held}
 use Rattle.ehci_driver.proofs.Placed.{one_less, frames_unlinked}
 use Rattle.ehci_driver.proofs.driver.Driver.unlink.Goals as goal
 

@@ -1,7 +1,7 @@
 use Rattle.std.proofs.Common.{◌≢◌, sym, ap, ◌∙◌}
-use Rattle.control_stages.specs.declared.rows.StageToken.TheVariants as Tokens
-use Rattle.control_stages.specs.Stages.{token_of}
-use Rattle.control_stages.proofs.Kept.{setup_stays}
+use Rattle.dev_control.specs.declared.rows.StageToken.TheVariants as Tokens
+use Rattle.dev_control.specs.Stages.{token_of}
+use Rattle.dev_control.proofs.Kept.{setup_stays}
 use Rattle.endpoint_script.specs.Controlling.{place_at}
 use Rattle.endpoint_script.proofs.control_endpoint.ControlEndpoint.answer.Goals as goal
 

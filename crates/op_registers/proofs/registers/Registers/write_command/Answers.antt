@@ -10,7 +10,7 @@ returns-then-contains c =
     let asked : (c.args.word / 2 % 2 == 1) ≡ true =
     sym (has_bit 1 c.args.word) ∙ ap (λ n. has n 2) (sym (c.from_bits_retain-written.ensures tt)) ∙ sym (c.contains.ensures tt) ∙ c.if-contains.true
     in
-    simp (asked, c.self-then-contains.view_is, c.reset.ensures)
+    rw (asked) c.restart.ensures
 
 pub returns : goal.returns
 returns c =

@@ -1,0 +1,12 @@
+use Rattle.std.proofs.Common.{◌≤◌}
+use Rattle.word_mem.specs.Access.{IsByController}
+use Rattle.hc_core.specs.Controller.{content}
+use Rattle.app_probe.specs.Probe.{Events}
+use Rattle.app_probe.proofs.probing.go.Given as goal
+
+abbrev pub invariant-loop-event : goal.invariant-loop-event
+invariant-loop-event l = record {
+  made : Events (content l.initial.controller l.initial.regs l.initial.mem) l._event l.steps (content l.controller l.regs l.mem);
+  few : l.steps ≤ l._event;
+  only_lent : IsByController l.initial.mem l.mem;
+}

@@ -1,5 +1,0 @@
-use Rattle.asking_worlds.proofs.Transferring.{transfer_keeps_asking}
-use Rattle.asking_worlds.proofs.commands.a_transfer_is_accepted.Goals as goal
-
-pub returns : goal.returns
-returns c = transfer_keeps_asking

@@ -1,5 +1,0 @@
-use Rattle.asking_worlds.proofs.Transferring.{cancel_keeps_asking}
-use Rattle.asking_worlds.proofs.commands.an_endpoint_is_cancelled.Goals as goal
-
-pub returns : goal.returns
-returns c = cancel_keeps_asking

@@ -1,5 +1,0 @@
-use Rattle.asking_worlds.proofs.lemmas.control_requests.Resting.{control_rests}
-use Rattle.asking_worlds.proofs.control_requests.an_event_leaves_a_queue_at_rest.Goals as goal
-
-pub returns : goal.returns
-returns g c = control_rests g.W.Wire.begins g.W.Wire.transacts

@@ -1,5 +1,0 @@
-use Rattle.asking_worlds.proofs.GivenBack.{endpoint_release_asking}
-use Rattle.asking_worlds.proofs.leaves.an_endpoint_is_given_back.Goals as goal
-
-pub returns : goal.returns
-returns c = endpoint_release_asking

@@ -1,6 +1,0 @@
-pub mod request_stores
-pub mod control_requests
-pub mod world_requests
-pub mod told_requests
-pub mod request_bytes
-pub mod driver_requests

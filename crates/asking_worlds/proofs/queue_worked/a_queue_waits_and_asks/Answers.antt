@@ -1,5 +1,0 @@
-use Rattle.asking_worlds.proofs.QueueSampled.{waiting, asking}
-use Rattle.asking_worlds.proofs.queue_worked.a_queue_waits_and_asks.Goals as goal
-
-pub returns : goal.returns
-returns c = record { waits = waiting; asks = asking }

@@ -1,5 +1,0 @@
-use Rattle.asking_worlds.proofs.SampledComing.{second_coming}
-use Rattle.asking_worlds.proofs.queue_worked.the_second_request_is_coming.Goals as goal
-
-pub returns : goal.returns
-returns c = second_coming

@@ -1,5 +1,0 @@
-use Rattle.asking_worlds.proofs.lemmas.request_stores.Publishing.{run_with}
-use Rattle.asking_worlds.proofs.request_stores.laws.the_run_goes_on.Goals as goal
-
-pub returns : goal.returns
-returns c = run_with

@@ -1,6 +1,0 @@
-use Rattle.asking_worlds.proofs.Silent.{row_silent}
-use Rattle.asking_worlds.proofs.SilentCommands.{command_silent}
-use Rattle.asking_worlds.proofs.told_data.bytes_are_told_of_data_alone.Goals as goal
-
-pub returns : goal.returns
-returns c = record { row = row_silent; command = command_silent }

@@ -1,5 +1,0 @@
-use Rattle.asking_worlds.proofs.lemmas.told_requests.Closing.{closing_tells}
-use Rattle.asking_worlds.proofs.told_requests.laws.a_closing_line_tells_how_often_a_device_acted.Goals as goal
-
-pub returns : goal.returns
-returns c = closing_tells

@@ -1,5 +1,0 @@
-use Rattle.asking_worlds.proofs.lemmas.world_requests.Telling.{told_windows, told_once}
-use Rattle.asking_worlds.proofs.world_requests.the_told_windows_are_right.Goals as goal
-
-pub returns : goal.returns
-returns c = record { told = told_windows; once = told_once }

@@ -1,5 +1,0 @@
-pub mod Requesting
-pub mod Recorded
-pub mod Samples
-pub mod Recording
-pub mod Along

@@ -1,5 +1,0 @@
-mod Streams
-mod InSteps
-mod InStranded
-mod OutSteps
-mod OutStranded

@@ -1,6 +1,0 @@
-use Rattle.std.proofs.Common.{◌≡◌, ◌*◌, ◌++◌, drop}
-use Rattle.buffers.specs.Bytes.{bytes_at}
-use Rattle.buffers.proofs.blocks.hc_get_block.Given as goal
-
-abbrev pub invariant-loop-i : goal.invariant-loop-i
-invariant-loop-i l = l.into ≡ bytes_at l.mem l.pages l.k (4 * l.i) ++ drop (4 * l.i) l.initial.into

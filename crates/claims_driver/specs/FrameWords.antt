@@ -1,0 +1,102 @@
+-- The frame list of a driver in the words of memory (EHCI 1.0, 3.1, 3.3.1 and 4.6), also while a member is linked or unlinked. What words
+-- there are is a function from a byte address to the word there.
+--     Leads list word p ms     following the link words from p, one comes to ms in order, and then to the end
+--     is_at list at p          the word p has this address
+--     set_all list ps v word   the words once those of ps have the value v
+--     old_of s w               the schedule before what is under way, and after it
+--     Begun p w word           before the first store the words stood for the old schedule and the member's own link led to the one behind
+--                              it; since then the first stores were made, and nothing else
+--     HasMember s o            what is under way has a member of the schedule
+--     IsInOrder p              the members are kept in order, and what is under way has one of them
+--     StandFor p word          the words stand for the list: each frame's lead to its chain, or what is under way has begun so
+--     ListStands m d           its members are kept in order, and the words of memory stand for it, also while a member is linked or
+--                              unlinked
+--     MendsAside d             none of them goes into the run of the frame list, which begins in block 0
+--     LeadsOn word p x         the link of x leads to what stands first in its frame
+--     AreLeading m d           once they were lent, so does that of each one that is still to be linked
+--     IsToLink d first         before that nothing is under way, and once they have their frames each of them is to be linked
+--     AreToLink d              so it is of an unfinished command with such descriptors
+--     KeepsItsList m d         the words of memory stand for it; what a stalled endpoint is owed goes elsewhere; and isochronous
+--                              descriptors that are still to be linked lead to what stands first in their frames
+use Rattle.std.specs.List.{AllByRecursion, list_any}
+use Rattle.std.specs.Prelude.{◌≡◌, ℕ, ◌<◌, ◌≤◌, Bool, true, nat_eq, List, [], ◌∷◌, take, Option, Some, if◌then◌else◌, None}
+use Rattle.word_mem.specs.Memory.{Mem, word_at}
+use Rattle.drv_chains.specs.declared.members.Member.{Member}
+use Rattle.drv_chains.specs.declared.members.Predecessor.{Predecessor}
+use Rattle.drv_chains.specs.declared.members.Predecessor.TheVariants.{Element, After}
+use Rattle.drv_chains.specs.Chains.{Schedule, first_of, id_of, chain, successor}
+use Rattle.drv_members.specs.Members.{IsKept, IsMember, without_member, is_linked, frame_of}
+use Rattle.drv_periodic.specs.declared.work.Work.{Work}
+use Rattle.drv_periodic.specs.Periodic.{Periodic, link_to, words_of, address_of, value_of}
+use Rattle.drv_table.specs.declared.content.Command.TheVariants as unfinished
+use Rattle.drv_table.specs.DriverContent.{DriverContent}
+use Rattle.claims_driver.specs.FrameListMembers.{Placed, is_in_names, member_of, placed_in}
+
+unfoldable pub Leads : ℕ → (ℕ → ℕ) → Predecessor → List Member → Type 0
+Leads list word p [] = word (address_of list p) ≡ 1
+Leads list word p (m ∷ ms) = (word (address_of list p) ≡ id_of m) × Leads list word (After m) ms
+
+abbrev pub is_at : ℕ → ℕ → Predecessor → Bool
+is_at list at p = nat_eq (address_of list p) at
+
+abbrev pub set_all : ℕ → List Predecessor → ℕ → (ℕ → ℕ) → ℕ → ℕ
+set_all list ps v word at = if list_any (is_at list at) ps then v else word at
+
+abbrev pub old_of : Schedule → Work → Schedule
+old_of s w = if w.removes then s else without_member s w.member
+
+abbrev pub made_of : Schedule → Work → List Predecessor
+made_of s w = take w.made (words_of s w)
+
+abbrev pub AllLead : ℕ → (ℕ → ℕ) → Schedule → Type 0
+AllLead list word s = (f : ℕ) → f < 1024 → Leads list word (Element f) (chain s f)
+
+pub record Begun (list : ℕ) (s : Schedule) (w : Work) (word : ℕ → ℕ) : Type 0 where
+  pub before : ℕ → ℕ
+  pub stood : AllLead list before (old_of s w)
+  pub own : before (address_of list (After w.member)) ≡ link_to (successor s w.member (frame_of w.member))
+  pub since : (at : ℕ) → word at ≡ set_all list (made_of s w) (value_of s w) before at
+
+abbrev pub StandsBy : ℕ → Schedule → Option Work → (ℕ → ℕ) → Type 0
+StandsBy list s None word = AllLead list word s
+StandsBy list s (Some w) word = Begun list s w word
+
+abbrev pub StandFor : Periodic → (ℕ → ℕ) → Type 0
+StandFor p word = StandsBy p.list p.members.schedule p.work word
+
+-- what is under way has a member of the schedule
+abbrev pub HasMember : Schedule → Option Work → Type 0
+HasMember s None = Unit {0}
+HasMember s (Some w) = IsMember w.member × (is_linked s w.member ≡ true)
+
+pub record IsInOrder (p : Periodic) : Type 0 where
+  pub kept : IsKept p.members.schedule
+  pub member : HasMember p.members.schedule p.work
+
+pub record ListStands (m : Mem) (d : DriverContent) : Type 0 where
+  pub order : IsInOrder d.periodic.list
+  pub words : StandFor d.periodic.list (word_at m)
+
+abbrev pub MendsAside : DriverContent → Type 0
+MendsAside d = AllByRecursion (λ w. 1 ≤ w.queue) d.mends
+
+abbrev pub LeadsOn : (ℕ → ℕ) → Periodic → Member → Type 0
+LeadsOn word p x = word (address_of p.list (After x)) ≡ link_to (first_of (chain p.members.schedule (frame_of x)))
+
+abbrev pub AreLeading : Mem → DriverContent → Type 0
+AreLeading m d =
+    (e first count : ℕ) → d.command ≡ Some (unfinished.Iso e first count) → 2 ≤ d.made
+    → AllByRecursion (LeadsOn (word_at m) d.periodic.list) d.periodic.queued
+
+pub record IsToLink (d : DriverContent) (first : ℕ) : Type 0 where
+  pub idle : d.periodic.list.work ≡ None
+  pub all : d.made ≡ 1 → (t : ℕ) → (y : Placed) → first ≤ t → placed_in d.endpoints d.transfers t ≡ Some y → is_in_names (id_of (member_of d.periodic y)) d.periodic.queued ≡ true
+
+abbrev pub AreToLink : DriverContent → Type 0
+AreToLink d = (e first count : ℕ) → d.command ≡ Some (unfinished.Iso e first count) → d.made ≤ 1 → IsToLink d first
+
+pub record KeepsItsList (m : Mem) (d : DriverContent) : Type 0 where
+  pub list : ListStands m d
+  pub mends : MendsAside d
+  pub to_link : AreToLink d
+  pub leading : AreLeading m d

@@ -1,0 +1,12 @@
+pub mod Owners
+pub mod Leaving
+pub mod LentRuns
+pub mod FrameListMembers
+pub mod DueMembers
+pub mod FrameWords
+pub mod Unlinked
+pub mod Ring
+pub mod InPlace
+pub mod Walk
+pub mod Released
+pub mod Scripts

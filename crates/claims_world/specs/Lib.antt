@@ -1,0 +1,12 @@
+pub mod Scripts
+pub mod Lent
+pub mod Owned
+pub mod Schedule
+pub mod Memory
+pub mod Carried
+pub mod Visits
+pub mod Microframes
+pub mod WithinLoad
+pub mod InTime
+pub mod Streams
+pub mod Requests

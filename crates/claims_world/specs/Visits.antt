@@ -1,0 +1,306 @@
+-- In one microframe the walk of the frames visits no structure twice, and each in its frame, while members are linked and unlinked. In a
+-- microframe that is held no time is left. The asynchronous part ends where the head of the ring was read with Reclamation 0, or where the
+-- next price passes the time left, and then the ring goes on at the same queue head. A queue head is passed without its transaction for one
+-- of the standard's reasons alone, in the ring and in the frames (EHCI 1.0, 3.6.2, 4.4, 4.6 to 4.10, 4.10.3 and 4.12).
+--     begins x                       the byte address at which the structure of a member begins
+--     fetched_by row                 the byte address of the structure that is fetched so
+--     visited_too o vs               it was visited too
+--     visits_at hand row vs          .. where nothing is in hand
+--     visits_after row c vs          what was visited after an event of the controller, the newest first
+--     visits_next fixed w vs         .. after the next event of the controller of a world
+--     visited s k                    .. after k events and commands of the run of a script
+--     frame_in index                 the frame of the microframe with this FRINDEX
+--     IsInItsFrame d index frame v   the structure at v is that of a member of this frame, which stands, or was unlinked in this
+--                                    microframe: no reading of FRINDEX with another frame number came since, or the command that unlinks it
+--                                    isn't finished
+--     VisitsApart w vs               no structure was visited twice, and each that was visited is in its frame
+--     VisitsEachOnce s               at each moment no structure was visited twice in the microframe, and each that was visited is in its
+--                                    frame
+--     is_held_now fixed w            the microframe that began last is one in which the bus may not be used
+--     TellsMicroframe fixed w        so the Begin of that microframe heard of it; no other event changes which microframe it is, and no
+--                                    command
+--     HasNoTime fixed w              no time is left, the controller's next event is no transaction, and unless a microframe begins by it
+--                                    nobody on the bus hears anything
+--     HoldsNoTime fixed w            it is told which microframe it is, and in one that is held there is no time
+--     KeepsHeldTime s                .. at each moment of a script's run: from the Begin of a held microframe, with both walks of it, to
+--                                    the next Begin
+--     EndsByTime w h                 the controller's next event ends the asynchronous part, since the price of the next transaction of the
+--                                    queue head in hand passes the time left
+--     LeavesPlace fixed w h          it drops the copy, and leaves the cursor at that queue head
+--     ReadsAnew fixed w at           the controller's next event reads the queue head at this address: the copy is as memory has it then,
+--                                    with NakCnt reloaded if it is the head of the ring
+--     IsOutside w                    the controller isn't in the asynchronous part
+--     StaysOutside s i n             .. from moment i on, for n moments more
+--     KeepsPlaceOfRing s             of a script's run: outside the asynchronous part the cursor stays; an end by time leaves it at the
+--                                    queue head in hand, and where the next asynchronous part begins that one is read anew
+--     EndsForAReason w               where the controller's next event is the end of the part, the head of the ring was read with
+--                                    Reclamation 0, or the price of the next transaction passes the time that is left; the part is never
+--                                    disabled, and the event is never a fault
+--     PassesForAReason w             where it passes the queue head in hand, that one rests (it is halted, or NakCnt is 0 while RL isn't),
+--                                    its queue ends, or the qTD that comes next isn't active: so one whose qTD is active makes its
+--                                    transaction, but for the time
+--     HasReasons w                   both
+--     KeepsReasons s                 .. at each moment of a script's run
+--     GoesToLink p h                 its overlay is done, and the link of that tells the qTD that comes next
+--     HasItsTurn p h                 its overlay is active, and this is a microframe of it
+--     QueueHasNothing p h            it is halted, this microframe isn't in its S-mask or, while complete-splits are to come, in its
+--                                    C-mask, the price of its transaction passes the time left, its queue ends, or the qTD that comes next
+--                                    isn't active; NakCnt is no reason (4.9 is of the ring)
+--     QueueVisited p h               what the event is, of a copy with no transaction to be written back: its transaction, for which there
+--                                    is time; a qTD is taken; it is passed for one of these reasons; or a microframe of its split
+--                                    transaction was missed, which is written back with no transaction
+--     PassesInFramesForAReason w     a queue head in hand of the walk of the frames is passed for one of these reasons alone, and for each
+--                                    of them; and any structure only where it rests or has no time
+--     VisitsInFrames w               each event at a queue head in hand of the walk of the frames is one of those, so that it is never the
+--                                    fault
+--     HasFrameReasons w              both
+--     KeepsFrameReasons s            .. at each moment of a script's run
+--     KeepsVisits s                  in one microframe the walk of the frames visits no structure twice, and each in its frame; a
+--                                    microframe in which the bus may not be used has no time; the asynchronous part ends at the head of the
+--                                    ring, read with Reclamation 0, or for want of time, and then the ring goes on at the same queue head;
+--                                    and a queue head is passed without its transaction for one of the standard's reasons alone, in the
+--                                    ring and in the frames
+use Rattle.std.specs.List.{AllByRecursion}
+use Rattle.std.specs.Prelude.{◌≡◌, ◌≢◌, ℕ, ◌+◌, suc, ◌/◌, ◌*◌, ◌%◌, ◌<◌, ◌≤◌, ◌⊎◌, Bool, true, not, false, List, [], ◌∷◌, Option, Some, None}
+use Rattle.usb_base.specs.declared.commands.Cmd.{Cmd}
+use Rattle.script_types.specs.declared.scripts.Script.{Script}
+use Rattle.drv_chains.specs.declared.members.Member.{Member}
+use Rattle.drv_chains.specs.Chains.{id_of, stands_in}
+use Rattle.drv_members.specs.Members.{is_linked}
+use Rattle.link_words.specs.declared.kinds.Link.TheVariants as links
+use Rattle.link_words.specs.declared.kinds.QtdLink.TheVariants as qtd_links
+use Rattle.link_words.specs.Links.{qtd_link_of}
+use Rattle.qh_qtd.specs.declared.qtd.Qtd.{Qtd}
+use Rattle.qh_qtd.specs.declared.queue_head.Qh.{Qh}
+use Rattle.drv_table.specs.DriverContent.{DriverContent}
+use Rattle.mem_queues.specs.Structures.{qtd_at_address, queue_head_at_address}
+use Rattle.hc_copy.specs.declared.held.Held.{Held}
+use Rattle.hc_copy.specs.Visits.{next_pointer}
+use Rattle.async_walk.specs.declared.rows.WalkRow.TheVariants as walks
+use Rattle.async_walk.specs.declared.state.Cursor.TheVariants as cursors
+use Rattle.async_walk.specs.declared.state.ReloadMode.TheVariants.{WaitHead}
+use Rattle.async_walk.specs.Causes.{HasReason, HasNothing}
+use Rattle.async_walk.specs.Naks.{mode_after, reloaded}
+use Rattle.async_walk.specs.Rows.{started, event_row}
+use Rattle.hc_masks.specs.Masks.{has}
+use Rattle.hc_interrupt.specs.Turns.{microframe_of, waits, is_missed, planned}
+use Rattle.periodic_walk.specs.declared.chain.ChainRow.{ChainRow}
+use Rattle.periodic_walk.specs.declared.chain.ChainRow.TheVariants as chains
+use Rattle.periodic_walk.specs.declared.state.Hand.{Hand}
+use Rattle.periodic_walk.specs.declared.state.Hand.TheVariants as hands
+use Rattle.periodic_walk.specs.declared.state.HeldQueue.{HeldQueue}
+use Rattle.periodic_walk.specs.Causes.{HasNothing as FrameHasNothing}
+use Rattle.periodic_walk.specs.Chain.{chain_row}
+use Rattle.periodic_walk.specs.Place.{FramePlace}
+use Rattle.hc_core.specs.declared.controller.ControllerRow.{ControllerRow}
+use Rattle.hc_core.specs.declared.controller.ControllerRow.TheVariants as rows
+use Rattle.hc_core.specs.declared.controller.HcStep.{HcStep}
+use Rattle.hc_core.specs.declared.controller.HcStep.TheVariants as steps
+use Rattle.hc_core.specs.declared.controller.MicroframePart.TheVariants.{Asynchronous}
+use Rattle.hc_core.specs.Controller.{Content, entered, frame_place, time_left, walk_place}
+use Rattle.bus_wire.specs.Bus.{Fixed, is_held, fixed_of, is_allowed}
+use Rattle.bus_world.specs.Budgets.{moment}
+use Rattle.bus_world.specs.World.{World, controller_parts, controller_row, driver_next, controller_next, kind_next, commanded}
+use Rattle.claims_driver.specs.Unlinked.{IsRemovedSince, IsUnchainedNow, led}
+use Rattle.claims_world.specs.Carried.{carried}
+use Rattle.claims_world.specs.Memory.{AreOnce}
+
+-- ---- where a link leads
+
+abbrev pub begins : Member → ℕ
+begins x = 32 * (id_of x / 32)
+
+-- ---- what was visited
+
+abbrev pub fetched_by : ChainRow → Option ℕ
+fetched_by chains.Fault = None
+fetched_by chains.Ends = None
+fetched_by (chains.Queue a q) = Some a
+fetched_by (chains.Itd a v) = Some a
+fetched_by (chains.Sitd a v) = Some a
+
+abbrev pub visited_too : Option ℕ → List ℕ → List ℕ
+visited_too None vs = vs
+visited_too (Some a) vs = a ∷ vs
+
+-- with a copy in hand nothing is fetched
+abbrev pub visits_at : Option Hand → ChainRow → List ℕ → List ℕ
+visits_at None row vs = visited_too (fetched_by row) vs
+visits_at (Some hand) row vs = vs
+
+abbrev pub visits_after : ControllerRow → Content → List ℕ → List ℕ
+visits_after rows.Begin c vs = []
+visits_after rows.Frame c vs = visits_at c.control.frame.hand (chain_row c.memory c.control.frame.cursor) vs
+visits_after rows.Idle c vs = vs
+visits_after rows.Enter c vs = vs
+visits_after rows.Go c vs = vs
+visits_after rows.End c vs = vs
+
+abbrev pub visits_next : Fixed → World → List ℕ → List ℕ
+visits_next fixed w vs = visits_after (controller_row w) (controller_parts w) vs
+
+abbrev pub visited : Script → ℕ → List ℕ
+visited s k = carried visits_next s [] k
+
+-- ---- what comes next
+
+-- its element of the frame list (4.4)
+abbrev pub frame_in : ℕ → ℕ
+frame_in index = index / 8 % 1024
+
+-- ---- a run
+
+pub record IsInItsFrame (d : DriverContent) (index frame v : ℕ) : Type 0 where
+  pub member : Member
+  pub at : begins member ≡ v
+  pub in_frame : stands_in frame member ≡ true
+  pub there : (is_linked (led d) member ≡ true) ⊎ (IsRemovedSince d.endpoints d.transfers d.periodic.removals index v ⊎ IsUnchainedNow d.endpoints d.transfers d.command v)
+
+pub record VisitsApart (w : World) (vs : List ℕ) : Type 0 where
+  pub once : AreOnce vs
+  pub in_frame : AllByRecursion (IsInItsFrame w.driver w.registers.frame_index (frame_in w.control.frame.index)) vs
+
+abbrev pub VisitsEachOnce : Script → Type 0
+VisitsEachOnce s = (k : ℕ) → VisitsApart (moment s k).world (visited s k)
+
+-- by the number that the bus counts at each Begin
+abbrev pub is_held_now : Fixed → World → Bool
+is_held_now fixed w = is_held fixed.holds w.bus.microframe
+
+pub record TellsMicroframe (fixed : Fixed) (w : World) : Type 0 where
+  -- what the controller heard as the microframe began is so of this one
+  pub begins : controller_row w ≡ rows.Begin → is_allowed fixed w.bus ≡ not (is_held_now fixed (controller_next fixed w))
+  pub goes_on : controller_row w ≢ rows.Begin → (controller_next fixed w).bus.microframe ≡ w.bus.microframe
+  pub driver : (driver_next w).bus ≡ w.bus
+  pub command : (line : ℕ) (cmd : Cmd) → (commanded w line cmd).bus ≡ w.bus
+
+pub record HasNoTime (fixed : Fixed) (w : World) : Type 0 where
+  pub none_left : time_left w.control ≡ 0
+  pub no_transaction : kind_next w ≢ steps.Transact
+  pub unasked : controller_row w ≢ rows.Begin → (controller_next fixed w).bus ≡ w.bus
+
+pub record HoldsNoTime (fixed : Fixed) (w : World) : Type 0 where
+  pub tells : TellsMicroframe fixed w
+  pub held : is_held_now fixed w ≡ true → HasNoTime fixed w
+
+abbrev pub KeepsHeldTime : Script → Type 0
+KeepsHeldTime s = (k : ℕ) → HoldsNoTime (fixed_of s) (moment s k).world
+
+-- ---- an end by time
+
+pub record EndsByTime (w : World) (h : Held) : Type 0 where
+  pub going : controller_row w ≡ rows.Go
+  pub in_hand : w.control.walk.held ≡ Some h
+  pub late : event_row (walk_place (controller_parts w)) ≡ walks.OutOfTime
+
+pub record LeavesPlace (fixed : Fixed) (w : World) (h : Held) : Type 0 where
+  pub is_end : kind_next w ≡ steps.End
+  pub cursor : (controller_next fixed w).control.walk.cursor ≡ cursors.At (links.Qh h.at)
+  pub dropped : (controller_next fixed w).control.walk.held ≡ None
+
+-- ---- the next part begins
+
+pub record ReadsAnew (fixed : Fixed) (w : World) (at : ℕ) : Type 0 where
+  pub queue_head : Qh
+  pub stands_there : queue_head_at_address w.memory at ≡ Some queue_head
+  pub is_fetch : kind_next w ≡ steps.Fetch
+  pub cursor : (controller_next fixed w).control.walk.cursor ≡ cursors.At (links.Qh at)
+  pub in_hand : (controller_next fixed w).control.walk.held
+      ≡ Some (record { at = at; queue_head = reloaded (mode_after queue_head WaitHead) queue_head; settled = None })
+
+-- ---- a run
+
+abbrev pub IsOutside : World → Type 0
+IsOutside w = w.control.part ≢ Asynchronous
+
+abbrev pub StaysOutside : Script → ℕ → ℕ → Type 0
+StaysOutside s i n = (j : ℕ) → j ≤ n → IsOutside (moment s (i + j)).world
+
+pub record KeepsPlaceOfRing (s : Script) : Type 0 where
+  pub stays : (i n : ℕ) → StaysOutside s i n → (moment s (i + n)).world.control.walk.cursor ≡ (moment s i).world.control.walk.cursor
+  pub leaves : (i : ℕ) (h : Held) → EndsByTime (moment s i).world h → LeavesPlace (fixed_of s) (moment s i).world h
+  -- the controller has that event, and its next part begins n moments later
+  pub goes_on : (i n : ℕ) (h : Held) → EndsByTime (moment s i).world h → (moment s (suc i)).world ≡ controller_next (fixed_of s) (moment s i).world → StaysOutside s (suc i) n
+      → controller_row (moment s (suc i + n)).world ≡ rows.Enter → ReadsAnew (fixed_of s) (moment s (suc i + n)).world h.at
+
+-- the part may begin with the event
+pub record EndsForAReason (w : World) : Type 0 where
+  pub enabled : controller_row w ≢ rows.End
+  pub going : controller_row w ≡ rows.Go → kind_next w ≡ steps.End → HasReason (started (walk_place (controller_parts w)))
+  pub beginning : controller_row w ≡ rows.Enter → kind_next w ≡ steps.End → HasReason (started (walk_place (entered (controller_parts w))))
+
+pub record PassesForAReason (w : World) : Type 0 where
+  pub going : controller_row w ≡ rows.Go → kind_next w ≡ steps.Skip → HasNothing (started (walk_place (controller_parts w)))
+  pub beginning : controller_row w ≡ rows.Enter → kind_next w ≡ steps.Skip → HasNothing (started (walk_place (entered (controller_parts w))))
+
+pub record HasReasons (w : World) : Type 0 where
+  pub ends : EndsForAReason w
+  pub passes : PassesForAReason w
+
+abbrev pub KeepsReasons : Script → Type 0
+KeepsReasons s = (k : ℕ) → HasReasons (moment s k).world
+
+-- ---- the reasons
+
+-- its overlay isn't active, nor is it halted: the link of its overlay tells the qTD that comes next
+pub record GoesToLink (p : FramePlace) (h : HeldQueue) : Type 0 where
+  pub done : h.copy.queue_head.token.active ≡ false
+  pub unhalted : h.copy.queue_head.token.halted ≡ false
+  pub in_its_s_mask : has h.copy.queue_head.smask (microframe_of p.walk.index) ≡ true
+
+-- its overlay is active, and this is a microframe of it
+pub record HasItsTurn (p : FramePlace) (h : HeldQueue) : Type 0 where
+  pub active : h.copy.queue_head.token.active ≡ true
+  pub unhalted : h.copy.queue_head.token.halted ≡ false
+  pub starts : waits h.copy.queue_head ≡ false → has h.copy.queue_head.smask (microframe_of p.walk.index) ≡ true
+  pub completes : waits h.copy.queue_head ≡ true → has h.copy.queue_head.cmask (microframe_of p.walk.index) ≡ true
+  pub none_missed : waits h.copy.queue_head ≡ true → is_missed p.walk.index h.copy.queue_head ≡ false
+
+pub data QueueHasNothing (p : FramePlace) (h : HeldQueue) : Type 0 where
+  is_halted : h.copy.queue_head.token.halted ≡ true → QueueHasNothing p h
+  not_in_its_s_mask : waits h.copy.queue_head ≡ false → has h.copy.queue_head.smask (microframe_of p.walk.index) ≡ false → QueueHasNothing p h
+  not_in_its_c_mask : waits h.copy.queue_head ≡ true → is_missed p.walk.index h.copy.queue_head ≡ false → has h.copy.queue_head.cmask (microframe_of p.walk.index) ≡ false
+      → QueueHasNothing p h
+  has_no_time : HasItsTurn p h → p.walk.left < (planned h.copy.queue_head).price.0 → QueueHasNothing p h
+  queue_ends : GoesToLink p h → qtd_link_of (next_pointer h.copy.queue_head) ≡ qtd_links.End → QueueHasNothing p h
+  qtd_is_done : (at : ℕ) (qtd : Qtd) → GoesToLink p h → qtd_link_of (next_pointer h.copy.queue_head) ≡ qtd_links.To at → qtd_at_address p.memory at ≡ Some qtd
+      → qtd.token.active ≡ false → QueueHasNothing p h
+
+-- ---- what an event at it is
+
+pub data QueueVisited (p : FramePlace) (h : HeldQueue) : HcStep → Type 0 where
+  transacts : HasItsTurn p h → (planned h.copy.queue_head).price.0 ≤ p.walk.left → QueueVisited p h steps.Transact
+  advances : (at : ℕ) (qtd : Qtd) → GoesToLink p h → qtd_link_of (next_pointer h.copy.queue_head) ≡ qtd_links.To at → qtd_at_address p.memory at ≡ Some qtd
+      → qtd.token.active ≡ true → QueueVisited p h steps.Advance
+  passes : QueueHasNothing p h → QueueVisited p h steps.Skip
+  misses : waits h.copy.queue_head ≡ true → is_missed p.walk.index h.copy.queue_head ≡ true → QueueVisited p h steps.WriteBack
+
+-- ---- of a world
+
+pub record PassesInFramesForAReason (w : World) : Type 0 where
+  pub queue : (h : HeldQueue) → controller_row w ≡ rows.Frame → kind_next w ≡ steps.Skip → w.control.frame.hand ≡ Some (hands.Queue h)
+      → QueueHasNothing (frame_place (controller_parts w)) h
+  -- and each of the reasons passes it
+  pub each : (h : HeldQueue) → controller_row w ≡ rows.Frame → w.control.frame.hand ≡ Some (hands.Queue h) → h.copy.settled ≡ None
+      → QueueHasNothing (frame_place (controller_parts w)) h → kind_next w ≡ steps.Skip
+  pub any : controller_row w ≡ rows.Frame → kind_next w ≡ steps.Skip → FrameHasNothing (frame_place (controller_parts w))
+
+abbrev pub VisitsInFrames : World → Type 0
+VisitsInFrames w = (h : HeldQueue) → controller_row w ≡ rows.Frame → w.control.frame.hand ≡ Some (hands.Queue h) → h.copy.settled ≡ None
+    → QueueVisited (frame_place (controller_parts w)) h (kind_next w)
+
+pub record HasFrameReasons (w : World) : Type 0 where
+  pub passes : PassesInFramesForAReason w
+  pub visits : VisitsInFrames w
+
+-- ---- of a run
+
+abbrev pub KeepsFrameReasons : Script → Type 0
+KeepsFrameReasons s = (k : ℕ) → HasFrameReasons (moment s k).world
+
+pub record KeepsVisits (s : Script) : Type 0 where
+  pub once : VisitsEachOnce s
+  pub held : KeepsHeldTime s
+  pub place : KeepsPlaceOfRing s
+  pub ring : KeepsReasons s
+  pub frames : KeepsFrameReasons s

@@ -1,5 +1,0 @@
-use Rattle.class_search.proofs.SameWords.{found_words}
-use Rattle.class_search.proofs.laws.search_is_the_words.Goals as goal
-
-pub returns : goal.returns
-returns c = found_words

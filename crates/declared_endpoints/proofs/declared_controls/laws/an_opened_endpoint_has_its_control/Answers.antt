@@ -1,5 +1,0 @@
-use Rattle.declared_endpoints.proofs.lemmas.declared_controls.Controls.{spelled_controls}
-use Rattle.declared_endpoints.proofs.declared_controls.laws.an_opened_endpoint_has_its_control.Goals as goal
-
-pub returns : goal.returns
-returns c = spelled_controls

@@ -1,5 +1,0 @@
-use Rattle.declared_endpoints.proofs.Senders.{spelled_senders}
-use Rattle.declared_endpoints.proofs.laws.an_opened_endpoint_has_its_sender.Goals as goal
-
-pub returns : goal.returns
-returns c = spelled_senders

@@ -1,5 +1,0 @@
-use Rattle.declared_endpoints.proofs.lemmas.ring_requests.Telling.{laid_opens}
-use Rattle.declared_endpoints.proofs.ring_requests.laws.a_request_opens_its_window.Goals as goal
-
-pub returns : goal.returns
-returns c = laid_opens

@@ -1,5 +1,0 @@
-use Rattle.declared_endpoints.proofs.lemmas.ring_requests.Windows.{window_before}
-use Rattle.declared_endpoints.proofs.ring_requests.laws.each_request_before_was_acted_on_once.Goals as goal
-
-pub returns : goal.returns
-returns g c = window_before

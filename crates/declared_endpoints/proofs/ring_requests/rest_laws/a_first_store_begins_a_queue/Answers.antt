@@ -1,5 +1,0 @@
-use Rattle.declared_endpoints.proofs.lemmas.ring_requests.RestingGrows.{queue_grows}
-use Rattle.declared_endpoints.proofs.ring_requests.rest_laws.a_first_store_begins_a_queue.Goals as goal
-
-pub returns : goal.returns
-returns c = queue_grows

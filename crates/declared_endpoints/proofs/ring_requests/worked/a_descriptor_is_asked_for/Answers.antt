@@ -1,5 +1,0 @@
-use Rattle.declared_endpoints.proofs.lemmas.ring_requests.Asking.{request_laid}
-use Rattle.declared_endpoints.proofs.ring_requests.worked.a_descriptor_is_asked_for.Goals as goal
-
-pub returns : goal.returns
-returns c = request_laid

@@ -1,5 +1,0 @@
-use Rattle.declared_endpoints.proofs.lemmas.scripted_requests.Asking.{scripted_control}
-use Rattle.declared_endpoints.proofs.scripted_requests.a_scripted_bus_answers_by_stages.Goals as goal
-
-pub returns : goal.returns
-returns c = scripted_control

@@ -1,5 +1,0 @@
-use Rattle.described_parts.proofs.Chained.{new_chained}
-use Rattle.described_parts.proofs.chained_laws.a_new_driver_unlinks_nothing.Goals as goal
-
-pub returns : goal.returns
-returns c = new_chained

@@ -1,5 +1,0 @@
-use Rattle.described_parts.proofs.Others.{rows_told, commands_describe, queue_lend_describes}
-use Rattle.described_parts.proofs.command_laws.others_leave_descriptors.Goals as goal
-
-pub returns : goal.returns
-returns c = record { rows = rows_told; commands = commands_describe; lend = queue_lend_describes }

@@ -1,5 +1,0 @@
-use Rattle.described_parts.proofs.GivenBoth.{release_told, release_runs_both}
-use Rattle.described_parts.proofs.given_laws.a_descriptor_is_given_back.Goals as goal
-
-pub returns : goal.returns
-returns c = record { told = release_told; both = release_runs_both }

@@ -1,6 +1,0 @@
-use Rattle.described_parts.proofs.Accepted.{accepted_await}
-use Rattle.described_parts.proofs.LendStaying.{frames_await, written_stay}
-use Rattle.described_parts.proofs.lend_laws.descriptors_are_written.Goals as goal
-
-pub returns : goal.returns
-returns c = record { accepted = accepted_await; frames = frames_await; stay = written_stay }

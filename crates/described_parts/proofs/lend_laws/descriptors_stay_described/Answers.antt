@@ -1,5 +1,0 @@
-use Rattle.described_parts.proofs.LendStaying.{frames_describe}
-use Rattle.described_parts.proofs.lend_laws.descriptors_stay_described.Goals as goal
-
-pub returns : goal.returns
-returns c = record { frames = frames_describe }

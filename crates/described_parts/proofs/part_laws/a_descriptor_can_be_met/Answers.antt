@@ -1,5 +1,0 @@
-use Rattle.described_parts.proofs.Rings.{itd_met, sitd_met}
-use Rattle.described_parts.proofs.part_laws.a_descriptor_can_be_met.Goals as goal
-
-pub returns : goal.returns
-returns c = record { itd = itd_met; sitd = sitd_met }

@@ -1,5 +1,0 @@
-use Rattle.described_parts.proofs.Telling.{queues_apart, descriptors_apart}
-use Rattle.described_parts.proofs.part_laws.descriptors_stand_beside_queues.Goals as goal
-
-pub returns : goal.returns
-returns c = record { queues = queues_apart; descriptors = descriptors_apart }

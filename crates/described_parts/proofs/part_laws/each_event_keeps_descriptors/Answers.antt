@@ -1,6 +1,0 @@
-use Rattle.described_parts.proofs.Events.{ring_keeps}
-use Rattle.described_parts.proofs.Frames.{frames_keep}
-use Rattle.described_parts.proofs.part_laws.each_event_keeps_descriptors.Goals as goal
-
-pub returns : goal.returns
-returns g c = record { frames = frames_keep g.W.Wire.transacts; ring = ring_keeps g.W.Wire.transacts }

@@ -1,5 +1,0 @@
-use Rattle.described_parts.proofs.Telling.{both_told, each_told}
-use Rattle.described_parts.proofs.part_laws.memory_is_told_by_both.Goals as goal
-
-pub returns : goal.returns
-returns c = record { both = both_told; each = each_told }

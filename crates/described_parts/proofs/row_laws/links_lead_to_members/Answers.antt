@@ -1,6 +1,0 @@
-use Rattle.described_parts.proofs.Leading.{element_leads, member_leads}
-use Rattle.described_parts.proofs.Closing.{standing_closed, list_leads}
-use Rattle.described_parts.proofs.row_laws.links_lead_to_members.Goals as goal
-
-pub returns : goal.returns
-returns c = record { elements = element_leads; members = member_leads; closed = standing_closed; list = list_leads }

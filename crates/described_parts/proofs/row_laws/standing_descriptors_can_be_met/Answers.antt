@@ -1,5 +1,0 @@
-use Rattle.described_parts.proofs.Storing.{descriptor_met}
-use Rattle.described_parts.proofs.row_laws.standing_descriptors_can_be_met.Goals as goal
-
-pub returns : goal.returns
-returns c = descriptor_met

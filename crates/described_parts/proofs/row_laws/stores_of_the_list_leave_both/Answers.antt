@@ -1,5 +1,0 @@
-use Rattle.described_parts.proofs.Storing.{element_meets, link_meets}
-use Rattle.described_parts.proofs.row_laws.stores_of_the_list_leave_both.Goals as goal
-
-pub returns : goal.returns
-returns c = record { element = element_meets; link = link_meets }

@@ -1,5 +1,0 @@
-use Rattle.described_parts.proofs.Growing.{members_kept, all_further}
-use Rattle.described_parts.proofs.row_laws.those_that_are_met_stay_met.Goals as goal
-
-pub returns : goal.returns
-returns c = record { store = members_kept; met = all_further }

@@ -1,6 +1,0 @@
-use Rattle.described_parts.proofs.Returning.{descriptor_unmet}
-use Rattle.described_parts.proofs.Waiting.{waiting_unmet}
-use Rattle.described_parts.proofs.row_laws.what_is_given_back_is_not_met.Goals as goal
-
-pub returns : goal.returns
-returns c = record { descriptor = descriptor_unmet; waiting = waiting_unmet }

@@ -1,5 +1,0 @@
-use Rattle.described_parts.proofs.RowStaying.{unlink_recent, unchain_recent, release_recent}
-use Rattle.described_parts.proofs.row_laws.what_is_recent_stays_recent.Goals as goal
-
-pub returns : goal.returns
-returns c = record { unlink = unlink_recent; unchain = unchain_recent; release = release_recent }

@@ -1,5 +1,0 @@
-use Rattle.driven_queues.proofs.lemmas.publish_laws.Keeping.{publishing_still}
-use Rattle.driven_queues.proofs.publish_laws.qtd_laws.it_goes_on_beside_the_controller.Goals as goal
-
-pub returns : goal.returns
-returns c = publishing_still

@@ -1,5 +1,0 @@
-use Rattle.driven_queues.proofs.lemmas.reached_rings.Narrowing.{narrow_ring, narrow_drives}
-use Rattle.driven_queues.proofs.reached_rings.laws.a_ring_narrows.Goals as goal
-
-pub returns : goal.returns
-returns c = record { ring = narrow_ring; drives = narrow_drives }

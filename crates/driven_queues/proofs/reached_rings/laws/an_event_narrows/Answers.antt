@@ -1,5 +1,0 @@
-use Rattle.driven_queues.proofs.lemmas.reached_rings.Narrowing.{event_narrows, answer_narrows}
-use Rattle.driven_queues.proofs.reached_rings.laws.an_event_narrows.Goals as goal
-
-pub returns : goal.returns
-returns g c = record { each = event_narrows g.W.Wire.transacts; answer = answer_narrows g.W.Wire.transacts }

@@ -1,6 +1,0 @@
-use Rattle.driven_queues.proofs.lemmas.stalled_fronts.Stalled.{stall_moves}
-use Rattle.driven_queues.proofs.lemmas.stalled_fronts.Halted.{stall_stops}
-use Rattle.driven_queues.proofs.stalled_fronts.laws.a_stall_in_any_queue.Goals as goal
-
-pub returns : goal.returns
-returns c = record { fronts = stall_moves; halts = stall_stops }

@@ -1,5 +1,0 @@
-use Rattle.driven_queues.proofs.lemmas.whole_sends.Walking.{walk_keeps, control_keeps}
-use Rattle.driven_queues.proofs.whole_sends.laws.each_event_sends_whole.Goals as goal
-
-pub returns : goal.returns
-returns g c = record { walk = walk_keeps g.W.Wire.transacts; control = control_keeps g.W.Wire.begins g.W.Wire.transacts }

@@ -1,5 +1,0 @@
-use Rattle.driver_laws.proofs.lemmas.chained_transfers.BulkAndControl.{bulk_takes_turns}
-use Rattle.driver_laws.proofs.chained_transfers.asynchronous.bulk_is_asynchronous.Goals as goal
-
-pub returns : goal.returns
-returns c = bulk_takes_turns

@@ -1,5 +1,0 @@
-use Rattle.driver_laws.proofs.lemmas.chained_transfers.Commands.{command_takes_turns}
-use Rattle.driver_laws.proofs.chained_transfers.asynchronous.commands_keep_asynchronous_turns.Goals as goal
-
-pub returns : goal.returns
-returns c = command_takes_turns

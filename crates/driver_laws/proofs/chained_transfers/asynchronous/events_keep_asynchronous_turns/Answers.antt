@@ -1,5 +1,0 @@
-use Rattle.driver_laws.proofs.lemmas.chained_transfers.Events.{event_queues}
-use Rattle.driver_laws.proofs.chained_transfers.asynchronous.events_keep_asynchronous_turns.Goals as goal
-
-pub returns : goal.returns
-returns c = event_queues

@@ -1,5 +1,0 @@
-use Rattle.driver_laws.proofs.lemmas.chained_transfers.Events.{new_turns}
-use Rattle.driver_laws.proofs.chained_transfers.laws.a_new_driver_takes_turns.Goals as goal
-
-pub returns : goal.returns
-returns c = new_turns

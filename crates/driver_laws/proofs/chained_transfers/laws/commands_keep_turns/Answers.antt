@@ -1,5 +1,0 @@
-use Rattle.driver_laws.proofs.lemmas.chained_transfers.Commands.{command_in_turn}
-use Rattle.driver_laws.proofs.chained_transfers.laws.commands_keep_turns.Goals as goal
-
-pub returns : goal.returns
-returns c = command_in_turn

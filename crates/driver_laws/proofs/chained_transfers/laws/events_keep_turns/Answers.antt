@@ -1,5 +1,0 @@
-use Rattle.driver_laws.proofs.lemmas.chained_transfers.Events.{event_turns}
-use Rattle.driver_laws.proofs.chained_transfers.laws.events_keep_turns.Goals as goal
-
-pub returns : goal.returns
-returns c = event_turns

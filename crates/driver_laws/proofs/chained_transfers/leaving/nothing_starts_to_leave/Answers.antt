@@ -1,5 +1,0 @@
-use Rattle.driver_laws.proofs.lemmas.chained_transfers.Events.{event_nothing}
-use Rattle.driver_laws.proofs.chained_transfers.leaving.nothing_starts_to_leave.Goals as goal
-
-pub returns : goal.returns
-returns c = event_nothing

@@ -1,9 +1,0 @@
-use Rattle.std.proofs.Common.{refl}
-use Rattle.driver_laws.proofs.lemmas.fed_queues.Setup.{setup_row}
-use Rattle.driver_laws.proofs.fed_queues.worked.a_setup_is_fed.Goals as goal
-
-pub returns-clause-told : goal.returns-clause-told
-returns-clause-told c = refl
-
-pub returns-clause-fed : goal.returns-clause-fed
-returns-clause-fed c = setup_row

@@ -1,5 +1,0 @@
-use Rattle.driver_laws.proofs.lemmas.in_place.Laws.{command_in_place}
-use Rattle.driver_laws.proofs.in_place.commands_keep_all_in_place.Goals as goal
-
-pub returns : goal.returns
-returns c = command_in_place

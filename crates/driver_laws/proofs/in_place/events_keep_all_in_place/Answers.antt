@@ -1,5 +1,0 @@
-use Rattle.driver_laws.proofs.lemmas.in_place.Laws.{event_in_place}
-use Rattle.driver_laws.proofs.in_place.events_keep_all_in_place.Goals as goal
-
-pub returns : goal.returns
-returns c = event_in_place

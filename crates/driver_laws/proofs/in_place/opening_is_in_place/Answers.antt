@@ -1,5 +1,0 @@
-use Rattle.driver_laws.proofs.lemmas.in_place.Opened.{opening_in_place}
-use Rattle.driver_laws.proofs.in_place.opening_is_in_place.Goals as goal
-
-pub returns : goal.returns
-returns c = opening_in_place

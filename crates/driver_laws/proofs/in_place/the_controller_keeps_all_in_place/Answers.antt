@@ -1,5 +1,0 @@
-use Rattle.driver_laws.proofs.lemmas.in_place.Elsewhere.{elsewhere_in_place}
-use Rattle.driver_laws.proofs.in_place.the_controller_keeps_all_in_place.Goals as goal
-
-pub returns : goal.returns
-returns c = elsewhere_in_place

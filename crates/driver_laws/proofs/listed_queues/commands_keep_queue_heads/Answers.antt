@@ -1,5 +1,0 @@
-use Rattle.driver_laws.proofs.lemmas.listed_queues.Commands.{accepted_queues}
-use Rattle.driver_laws.proofs.listed_queues.commands_keep_queue_heads.Goals as goal
-
-pub returns : goal.returns
-returns c = λ d m cmd stands has room listed o old is. accepted_queues d m cmd o stands has room listed old is

@@ -1,5 +1,0 @@
-use Rattle.driver_laws.proofs.lemmas.listed_queues.Rows.{event_queues}
-use Rattle.driver_laws.proofs.listed_queues.events_keep_queue_heads.Goals as goal
-
-pub returns : goal.returns
-returns c = event_queues

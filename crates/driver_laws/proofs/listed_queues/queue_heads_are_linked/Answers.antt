@@ -1,5 +1,0 @@
-use Rattle.driver_laws.proofs.lemmas.listed_queues.Linked.{queues_linked}
-use Rattle.driver_laws.proofs.listed_queues.queue_heads_are_linked.Goals as goal
-
-pub returns : goal.returns
-returns c = queues_linked

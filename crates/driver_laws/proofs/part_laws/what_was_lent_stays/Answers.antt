@@ -1,6 +1,0 @@
-use Rattle.driver_laws.proofs.Lent.{lend_taken_leaves}
-use Rattle.driver_laws.proofs.Offered.{opens_leave, gets_leave}
-use Rattle.driver_laws.proofs.part_laws.what_was_lent_stays.Goals as goal
-
-pub returns : goal.returns
-returns c = record { lend = lend_taken_leaves; opening = opens_leave; receiving = gets_leave }

@@ -1,5 +1,0 @@
-use Rattle.driver_laws.proofs.lemmas.queue_head_words.Events.{event_fixed}
-use Rattle.driver_laws.proofs.queue_head_words.events_keep_the_fixed_words.Goals as goal
-
-pub returns : goal.returns
-returns c = event_fixed

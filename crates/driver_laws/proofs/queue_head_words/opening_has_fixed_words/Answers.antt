@@ -1,5 +1,0 @@
-use Rattle.driver_laws.proofs.lemmas.queue_head_words.Opened.{opening_fixed}
-use Rattle.driver_laws.proofs.queue_head_words.opening_has_fixed_words.Goals as goal
-
-pub returns : goal.returns
-returns c = opening_fixed

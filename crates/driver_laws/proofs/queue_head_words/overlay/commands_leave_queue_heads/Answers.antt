@@ -1,6 +1,0 @@
-use Rattle.driver_laws.proofs.lemmas.run_owners.Commands.{accepted_for_a_reason}
-use Rattle.driver_laws.proofs.lemmas.queue_head_words.Offering.{accepted_leaves}
-use Rattle.driver_laws.proofs.queue_head_words.overlay.commands_leave_queue_heads.Goals as goal
-
-pub returns : goal.returns
-returns c = λ d m cmd o is b i stands has there small. accepted_leaves d m o b i (accepted_for_a_reason d m cmd o is) stands has there small

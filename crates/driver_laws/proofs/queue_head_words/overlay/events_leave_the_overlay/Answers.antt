@@ -1,5 +1,0 @@
-use Rattle.driver_laws.proofs.lemmas.queue_head_words.Stored.{event_leaves}
-use Rattle.driver_laws.proofs.queue_head_words.overlay.events_leave_the_overlay.Goals as goal
-
-pub returns : goal.returns
-returns c = event_leaves

@@ -1,6 +1,0 @@
-use Rattle.driver_laws.proofs.Extending.{extents_stay}
-use Rattle.driver_laws.proofs.Following.{extents_follow}
-use Rattle.driver_laws.proofs.release_laws.extents_stay_in_their_runs.Goals as goal
-
-pub returns : goal.returns
-returns c = record { stay = extents_stay; follow = extents_follow }

@@ -1,5 +1,0 @@
-use Rattle.driver_laws.proofs.lemmas.ring_members.Placed.{queues_stand_apart}
-use Rattle.driver_laws.proofs.ring_members.each_is_met_once.Goals as goal
-
-pub returns : goal.returns
-returns c = queues_stand_apart

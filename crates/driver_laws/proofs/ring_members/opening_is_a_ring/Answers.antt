@@ -1,5 +1,0 @@
-use Rattle.driver_laws.proofs.lemmas.ring_members.Opened.{opening_ring}
-use Rattle.driver_laws.proofs.ring_members.opening_is_a_ring.Goals as goal
-
-pub returns : goal.returns
-returns c = opening_ring

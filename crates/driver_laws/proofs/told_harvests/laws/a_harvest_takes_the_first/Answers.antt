@@ -1,5 +1,0 @@
-use Rattle.driver_laws.proofs.lemmas.told_harvests.Passing.{first_harvested}
-use Rattle.driver_laws.proofs.told_harvests.laws.a_harvest_takes_the_first.Goals as goal
-
-pub returns : goal.returns
-returns c = first_harvested

@@ -1,5 +1,0 @@
-use Rattle.driver_laws.proofs.Unlinking.{unlink_drives, answer_drives}
-use Rattle.driver_laws.proofs.unlink_laws.a_queue_head_leaves.Goals as goal
-
-pub returns : goal.returns
-returns c = record { unlinks = unlink_drives; answers = answer_drives }

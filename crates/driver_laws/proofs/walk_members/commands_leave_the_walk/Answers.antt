@@ -1,5 +1,0 @@
-use Rattle.driver_laws.proofs.lemmas.walk_members.Offering.{command_walk}
-use Rattle.driver_laws.proofs.walk_members.commands_leave_the_walk.Goals as goal
-
-pub returns : goal.returns
-returns c = command_walk

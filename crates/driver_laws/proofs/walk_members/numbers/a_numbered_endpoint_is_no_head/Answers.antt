@@ -1,5 +1,0 @@
-use Rattle.driver_laws.proofs.lemmas.walk_members.Descriptions.{no_head}
-use Rattle.driver_laws.proofs.walk_members.numbers.a_numbered_endpoint_is_no_head.Goals as goal
-
-pub returns : goal.returns
-returns c = no_head

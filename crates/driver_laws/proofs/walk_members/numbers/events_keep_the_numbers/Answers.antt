@@ -1,5 +1,0 @@
-use Rattle.driver_laws.proofs.lemmas.walk_members.Descriptions.{event_numbers}
-use Rattle.driver_laws.proofs.walk_members.numbers.events_keep_the_numbers.Goals as goal
-
-pub returns : goal.returns
-returns c = event_numbers

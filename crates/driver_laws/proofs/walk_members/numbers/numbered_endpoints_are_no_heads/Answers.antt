@@ -1,5 +1,0 @@
-use Rattle.driver_laws.proofs.lemmas.walk_members.Descriptions.{no_heads}
-use Rattle.driver_laws.proofs.walk_members.numbers.numbered_endpoints_are_no_heads.Goals as goal
-
-pub returns : goal.returns
-returns c = no_heads

@@ -1,5 +1,0 @@
-use Rattle.driver_laws.proofs.lemmas.walk_members.Ringing.{driver_bell}
-use Rattle.driver_laws.proofs.walk_members.the_driver_keeps_the_bell.Goals as goal
-
-pub returns : goal.returns
-returns c = driver_bell

@@ -1,5 +1,0 @@
-use Rattle.driver_laws.proofs.lemmas.walk_members.Driving.{driver_walk}
-use Rattle.driver_laws.proofs.walk_members.the_driver_leaves_the_walk.Goals as goal
-
-pub returns : goal.returns
-returns c = driver_walk

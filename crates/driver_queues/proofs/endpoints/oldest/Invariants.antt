@@ -1,6 +1,0 @@
-use Rattle.std.proofs.Common.{◌≡◌, drop}
-use Rattle.driver_rows.specs.Offers.{oldest_of}
-use Rattle.driver_queues.proofs.endpoints.oldest.Given as goal
-
-abbrev pub invariant-loop-x : goal.invariant-loop-x
-invariant-loop-x l = oldest_of (drop l.x-index l.endpoints) ≡ oldest_of l.endpoints

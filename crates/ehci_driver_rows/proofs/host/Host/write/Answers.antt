@@ -1,5 +1,0 @@
-use Rattle.ehci_driver_rows.proofs.Standing.{book_stands}
-use Rattle.ehci_driver_rows.proofs.host.Host.write.Goals as goal
-
-pub invariant_of-self : goal.invariant_of-self
-invariant_of-self c = book_stands c.self.inside.driver.book c.self.inside.mem c.hc_write.new.self c.self.invariant c.hc_write.ensures.only_lent

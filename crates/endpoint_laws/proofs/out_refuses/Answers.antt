@@ -1,8 +1,0 @@
-use Rattle.endpoint_laws.proofs.Receivers.{out_refuses, out_pinged}
-use Rattle.endpoint_laws.proofs.out_refuses.Goals as goal
-
-pub returns-clause-data : goal.returns-clause-data
-returns-clause-data c = λ packets. out_refuses
-
-pub returns-clause-ping : goal.returns-clause-ping
-returns-clause-ping c = λ packets. out_pinged

@@ -1,7 +1,0 @@
-use Rattle.std.proofs.Common.{ap, ◌∙◌}
-use Rattle.driver_rows.specs.Rows.{driver_row}
-use Rattle.event_trace.specs.Watched.{Watched, parts_of}
-use Rattle.event_trace.proofs.host.Host.next_row.Goals as goal
-
-pub returns : goal.returns
-returns c = c.row.ensures ∙ ap (λ (m : Watched). driver_row (parts_of m)) c.self.view_is

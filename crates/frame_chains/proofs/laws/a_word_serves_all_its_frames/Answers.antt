@@ -1,5 +1,0 @@
-use Rattle.frame_chains.proofs.Following.{follows}
-use Rattle.frame_chains.proofs.laws.a_word_serves_all_its_frames.Goals as goal
-
-pub returns : goal.returns
-returns c = follows

@@ -1,5 +1,0 @@
-use Rattle.frame_chains.proofs.Search.{found}
-use Rattle.frame_chains.proofs.laws.classes_find_the_words.Goals as goal
-
-pub returns : goal.returns
-returns c = found

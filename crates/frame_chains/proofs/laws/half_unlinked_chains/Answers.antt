@@ -1,6 +1,0 @@
-use Rattle.frame_chains.proofs.Linking.{unlinking}
-use Rattle.frame_chains.proofs.Descriptors.{unlinking_once}
-use Rattle.frame_chains.proofs.laws.half_unlinked_chains.Goals as goal
-
-pub returns : goal.returns
-returns c = record { queue_head = unlinking; descriptor = unlinking_once }

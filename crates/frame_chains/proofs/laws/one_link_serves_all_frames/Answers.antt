@@ -1,5 +1,0 @@
-use Rattle.frame_chains.proofs.OneLink.{one_link}
-use Rattle.frame_chains.proofs.laws.one_link_serves_all_frames.Goals as goal
-
-pub returns : goal.returns
-returns c = one_link

@@ -1,5 +1,0 @@
-use Rattle.frame_chains.proofs.Sequence.{stores_in_order}
-use Rattle.frame_chains.proofs.laws.stores_come_in_order.Goals as goal
-
-pub returns : goal.returns
-returns c = stores_in_order

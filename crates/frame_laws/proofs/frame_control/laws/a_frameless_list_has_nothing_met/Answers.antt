@@ -1,5 +1,0 @@
-use Rattle.frame_laws.proofs.lemmas.frame_control.Frameless.{controlled_runs}
-use Rattle.frame_laws.proofs.frame_control.laws.a_frameless_list_has_nothing_met.Goals as goal
-
-pub returns : goal.returns
-returns c = controlled_runs

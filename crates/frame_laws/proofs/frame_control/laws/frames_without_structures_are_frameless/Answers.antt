@@ -1,5 +1,0 @@
-use Rattle.frame_laws.proofs.lemmas.frame_control.Frameless.{runs_controlled}
-use Rattle.frame_laws.proofs.frame_control.laws.frames_without_structures_are_frameless.Goals as goal
-
-pub returns : goal.returns
-returns c = runs_controlled

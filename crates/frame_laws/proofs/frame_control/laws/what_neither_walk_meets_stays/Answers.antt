@@ -1,5 +1,0 @@
-use Rattle.frame_laws.proofs.lemmas.frame_control.Running.{neither_changes}
-use Rattle.frame_laws.proofs.frame_control.laws.what_neither_walk_meets_stays.Goals as goal
-
-pub returns : goal.returns
-returns g c = neither_changes g.W.Wire.begins g.W.Wire.transacts

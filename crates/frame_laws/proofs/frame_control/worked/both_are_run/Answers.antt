@@ -1,5 +1,0 @@
-use Rattle.frame_laws.proofs.lemmas.frame_control.Sampled.{both_run}
-use Rattle.frame_laws.proofs.frame_control.worked.both_are_run.Goals as goal
-
-pub returns : goal.returns
-returns c = both_run

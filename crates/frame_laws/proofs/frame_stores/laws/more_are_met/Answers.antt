@@ -1,5 +1,0 @@
-use Rattle.frame_laws.proofs.lemmas.frame_stores.Framing.{frame_further}
-use Rattle.frame_laws.proofs.frame_stores.laws.more_are_met.Goals as goal
-
-pub returns : goal.returns
-returns c = frame_further

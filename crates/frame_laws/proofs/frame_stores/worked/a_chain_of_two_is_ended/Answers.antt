@@ -1,5 +1,0 @@
-use Rattle.frame_laws.proofs.lemmas.frame_stores.Sampled.{ended_in_hand, ended_before}
-use Rattle.frame_laws.proofs.frame_stores.worked.a_chain_of_two_is_ended.Goals as goal
-
-pub returns : goal.returns
-returns c = record { in_hand = ended_in_hand; before = ended_before }

@@ -1,8 +1,0 @@
-use Rattle.frame_laws.proofs.lemmas.frame_words.Begins.{insert_stands, remove_stands}
-use Rattle.frame_laws.proofs.frame_words.laws.beginning_changes_no_word.Goals as goal
-
-pub returns-clause-insert : goal.returns-clause-insert
-returns-clause-insert c = insert_stands
-
-pub returns-clause-remove : goal.returns-clause-remove
-returns-clause-remove c = remove_stands

@@ -1,5 +1,0 @@
-use Rattle.frame_laws.proofs.lemmas.frame_words.Steps.{one_store}
-use Rattle.frame_laws.proofs.frame_words.laws.each_store_keeps_the_words.Goals as goal
-
-pub returns : goal.returns
-returns c = λ p s word o sp h e. one_store p s word o.kept sp o.member h e

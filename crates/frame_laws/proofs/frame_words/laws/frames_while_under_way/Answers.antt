@@ -1,5 +1,0 @@
-use Rattle.frame_laws.proofs.lemmas.frame_words.Steps.{half_way}
-use Rattle.frame_laws.proofs.frame_words.laws.frames_while_under_way.Goals as goal
-
-pub returns : goal.returns
-returns c = half_way

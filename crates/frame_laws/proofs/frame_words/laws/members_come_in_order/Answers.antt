@@ -1,8 +1,0 @@
-use Rattle.frame_laws.proofs.lemmas.frame_words.Opening.{opened_last, newest_first}
-use Rattle.frame_laws.proofs.frame_words.laws.members_come_in_order.Goals as goal
-
-pub returns-clause-queues : goal.returns-clause-queues
-returns-clause-queues c = opened_last
-
-pub returns-clause-descriptors : goal.returns-clause-descriptors
-returns-clause-descriptors c = newest_first

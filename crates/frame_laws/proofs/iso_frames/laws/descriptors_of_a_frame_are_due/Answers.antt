@@ -1,5 +1,0 @@
-use Rattle.frame_laws.proofs.lemmas.iso_frames.Due.{are_due}
-use Rattle.frame_laws.proofs.iso_frames.laws.descriptors_of_a_frame_are_due.Goals as goal
-
-pub returns : goal.returns
-returns c = are_due

@@ -1,5 +1,0 @@
-use Rattle.frame_laws.proofs.lemmas.iso_frames.Due.{opening_in_frames}
-use Rattle.frame_laws.proofs.iso_frames.laws.opening_frames.Goals as goal
-
-pub returns : goal.returns
-returns c = opening_in_frames

@@ -1,5 +1,0 @@
-use Rattle.frame_laws.proofs.lemmas.list_closed.Closing.{walk_closed}
-use Rattle.frame_laws.proofs.list_closed.laws.a_walk_meets_members_alone.Goals as goal
-
-pub returns : goal.returns
-returns c = walk_closed

@@ -1,5 +1,0 @@
-use Rattle.frame_laws.proofs.lemmas.list_closed.Structures.{structures_told}
-use Rattle.frame_laws.proofs.list_closed.laws.links_tell_structures.Goals as goal
-
-pub returns : goal.returns
-returns c = structures_told

@@ -1,5 +1,0 @@
-use Rattle.frame_laws.proofs.lemmas.list_closed.Closing.{first_frames}
-use Rattle.frame_laws.proofs.list_closed.laws.members_stand_in_their_first_frame.Goals as goal
-
-pub returns : goal.returns
-returns c = first_frames

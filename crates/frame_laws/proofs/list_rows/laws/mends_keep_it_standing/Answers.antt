@@ -1,5 +1,0 @@
-use Rattle.frame_laws.proofs.lemmas.list_rows.Mending.{mend_stands}
-use Rattle.frame_laws.proofs.list_rows.laws.mends_keep_it_standing.Goals as goal
-
-pub returns : goal.returns
-returns c = mend_stands

@@ -1,5 +1,0 @@
-use Rattle.frame_laws.proofs.lemmas.list_rows.Unlinked.{unlink_stands}
-use Rattle.frame_laws.proofs.list_rows.laws.unlinks_keep_it_standing.Goals as goal
-
-pub returns : goal.returns
-returns c = unlink_stands

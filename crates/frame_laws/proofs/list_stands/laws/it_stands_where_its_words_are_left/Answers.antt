@@ -1,5 +1,0 @@
-use Rattle.frame_laws.proofs.lemmas.list_stands.Listing.{stands_left}
-use Rattle.frame_laws.proofs.list_stands.laws.it_stands_where_its_words_are_left.Goals as goal
-
-pub returns : goal.returns
-returns c = stands_left

@@ -1,5 +1,0 @@
-use Rattle.frame_laws.proofs.lemmas.list_stands.Listing.{event_stands}
-use Rattle.frame_laws.proofs.list_stands.laws.quiet_events_keep_it_standing.Goals as goal
-
-pub returns : goal.returns
-returns c = event_stands

@@ -1,5 +1,0 @@
-use Rattle.frame_laws.proofs.lemmas.list_steps.Stepping.{step_stands}
-use Rattle.frame_laws.proofs.list_steps.laws.a_step_keeps_the_list_standing.Goals as goal
-
-pub returns : goal.returns
-returns c = step_stands

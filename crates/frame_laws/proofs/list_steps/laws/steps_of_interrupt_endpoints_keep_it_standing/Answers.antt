@@ -1,5 +1,0 @@
-use Rattle.frame_laws.proofs.lemmas.list_steps.Stepping.{interrupt_step_stands}
-use Rattle.frame_laws.proofs.list_steps.laws.steps_of_interrupt_endpoints_keep_it_standing.Goals as goal
-
-pub returns : goal.returns
-returns c = interrupt_step_stands

@@ -1,5 +1,0 @@
-use Rattle.frame_laws.proofs.lemmas.list_words.Sparing.{stands_where_left}
-use Rattle.frame_laws.proofs.list_words.laws.what_leaves_its_words_leaves_the_list.Goals as goal
-
-pub returns : goal.returns
-returns c = stands_where_left

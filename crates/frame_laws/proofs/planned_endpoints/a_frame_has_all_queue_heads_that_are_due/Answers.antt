@@ -1,5 +1,0 @@
-use Rattle.frame_laws.proofs.lemmas.planned_endpoints.Due.{due_is_there}
-use Rattle.frame_laws.proofs.planned_endpoints.a_frame_has_all_queue_heads_that_are_due.Goals as goal
-
-pub returns : goal.returns
-returns c = due_is_there

@@ -1,5 +1,0 @@
-use Rattle.frame_laws.proofs.lemmas.planned_endpoints.Due.{are_due}
-use Rattle.frame_laws.proofs.planned_endpoints.queue_heads_of_a_frame_are_due.Goals as goal
-
-pub returns : goal.returns
-returns c = are_due

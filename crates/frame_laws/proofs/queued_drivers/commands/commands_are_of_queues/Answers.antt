@@ -1,5 +1,0 @@
-use Rattle.frame_laws.proofs.lemmas.queued_drivers.CommandTurns.{commands_are_of_queues}
-use Rattle.frame_laws.proofs.queued_drivers.commands.commands_are_of_queues.Goals as goal
-
-pub returns : goal.returns
-returns c = commands_are_of_queues

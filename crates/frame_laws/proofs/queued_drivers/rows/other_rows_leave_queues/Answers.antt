@@ -1,5 +1,0 @@
-use Rattle.frame_laws.proofs.lemmas.queued_drivers.RowFrames.{frames_leave}
-use Rattle.frame_laws.proofs.queued_drivers.rows.other_rows_leave_queues.Goals as goal
-
-pub returns : goal.returns
-returns c = λ p row. frames_leave row p

@@ -1,5 +1,0 @@
-use Rattle.frame_laws.proofs.lemmas.queued_drivers.RowOwners.{queued_lent}
-use Rattle.frame_laws.proofs.queued_drivers.rows.queued_are_lent.Goals as goal
-
-pub returns : goal.returns
-returns c = queued_lent

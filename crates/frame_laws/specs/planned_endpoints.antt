@@ -1,4 +1,0 @@
-pub mod Planned
-pub mod Worked
-pub mod Queues
-pub mod Due

@@ -1,5 +1,0 @@
-use Rattle.frame_visits.proofs.BelongItdAll.{command_keeps_itds}
-use Rattle.frame_visits.proofs.itds.each_command_leaves_the_fields_of_itds.Goals as goal
-
-pub returns : goal.returns
-returns c = command_keeps_itds

@@ -1,5 +1,0 @@
-use Rattle.frame_visits.proofs.VisitControlling.{controller_keeps_visiting}
-use Rattle.frame_visits.proofs.visits.the_controller_goes_on_with_its_visits.Goals as goal
-
-pub returns : goal.returns
-returns c = controller_keeps_visiting

@@ -1,5 +1,0 @@
-use Rattle.frame_walk.proofs.Fetching.{no_node}
-use Rattle.frame_walk.proofs.fetch_laws.no_traversal_node_is_met.Goals as goal
-
-pub returns : goal.returns
-returns c = no_node

@@ -1,5 +1,0 @@
-use Rattle.frame_walk.proofs.PartTurning.{place_moved}
-use Rattle.frame_walk.proofs.part_laws.its_place_moves_on.Goals as goal
-
-pub returns : goal.returns
-returns c = place_moved

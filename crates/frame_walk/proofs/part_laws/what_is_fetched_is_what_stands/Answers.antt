@@ -1,5 +1,0 @@
-use Rattle.frame_walk.proofs.Hands.{fetched_stands}
-use Rattle.frame_walk.proofs.part_laws.what_is_fetched_is_what_stands.Goals as goal
-
-pub returns : goal.returns
-returns c = fetched_stands

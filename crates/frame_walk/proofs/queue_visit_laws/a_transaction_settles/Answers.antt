@@ -1,5 +1,0 @@
-use Rattle.frame_walk.proofs.Making.{settles_so, copy_settles}
-use Rattle.frame_walk.proofs.queue_visit_laws.a_transaction_settles.Goals as goal
-
-pub returns : goal.returns
-returns c = record { settlement = settles_so; copy = copy_settles }

@@ -1,5 +1,0 @@
-use Rattle.frame_walk.proofs.Writing.{visit_written}
-use Rattle.frame_walk.proofs.queue_visit_laws.a_write_back_keeps_the_visit.Goals as goal
-
-pub returns : goal.returns
-returns c = visit_written

@@ -1,5 +1,0 @@
-use Rattle.frame_walk.proofs.Taking.{advance_stays, advance_only}
-use Rattle.frame_walk.proofs.queue_visit_laws.an_advance_keeps_the_visit.Goals as goal
-
-pub returns : goal.returns
-returns c = record { visit = advance_stays; only = advance_only }

@@ -1,5 +1,0 @@
-use Rattle.frame_walk.proofs.Backs.{received_put}
-use Rattle.frame_walk.proofs.sitd_back_laws.what_a_sitd_received_is_put.Goals as goal
-
-pub returns : goal.returns
-returns c = received_put

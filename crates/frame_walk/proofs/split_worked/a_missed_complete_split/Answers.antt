@@ -1,9 +1,0 @@
-use Rattle.std.proofs.Common.{refl}
-use Rattle.walk_copy.specs.Overlay.{settled_queue, moved}
-use Rattle.interrupt_visits.specs.Copies.{with_split}
-use Rattle.frame_walk.proofs.SplitSampled.{misses_it, missed_back}
-use Rattle.frame_walk.proofs.split_worked.a_missed_complete_split.Goals as goal
-
-pub returns : goal.returns
-unfolding settled_queue moved with_split
-returns c = record { misses = misses_it; halts = refl; back = missed_back; told = refl; halted = refl; idle = refl; left = refl; over = refl }

@@ -1,9 +1,0 @@
-use Rattle.std.proofs.Common.{refl}
-use Rattle.walk_copy.specs.Overlay.{settled_queue, moved}
-use Rattle.interrupt_visits.specs.Copies.{with_split}
-use Rattle.frame_walk.proofs.SplitSampled.{visit_is, back_is}
-use Rattle.frame_walk.proofs.split_worked.a_start_split.Goals as goal
-
-pub returns : goal.returns
-unfolding settled_queue moved with_split
-returns c = record { visit = visit_is; starts = refl; waits = refl; noted = refl; back = back_is; do_complete = refl; tag = refl; over = refl }

@@ -1,5 +1,0 @@
-use Rattle.frame_walk.proofs.Walking.{event_happens}
-use Rattle.frame_walk.proofs.walk_laws.each_event.Goals as goal
-
-pub returns : goal.returns
-returns g c = event_happens g.W.Wire.transacts

@@ -1,0 +1,90 @@
+use crate::host::Host;
+use std::alloc::{AllocError, Global};
+use usb_base::{EndCause, EpName, OfferError, Report, Way, What};
+
+fn way(way: Way) -> &'static str {
+    match way {
+        Way::In => "in",
+        Way::Out => "out",
+        Way::Ctl => "ctl",
+    }
+}
+
+pub(crate) fn cause(cause: EndCause) -> &'static str {
+    match cause {
+        EndCause::Stall => "stall",
+        EndCause::Error => "error",
+        EndCause::Babble => "babble",
+        EndCause::Miss => "miss",
+        EndCause::Cancel => "cancel",
+    }
+}
+
+/// An endpoint as reports name it.
+pub(crate) fn name(alloc: Global, name: &EpName) -> Result<String, AllocError> {
+    format!(in alloc; "{}.{}.{}", name.addr.get(), name.num.get(), way(name.way))
+}
+
+/// Why a command is refused.
+pub(crate) fn refusal(alloc: Global, why: OfferError) -> Result<String, AllocError> {
+    match why {
+        OfferError::Busy => format!(in alloc; "busy"),
+        OfferError::NoEndpoint => format!(in alloc; "no-endpoint"),
+        OfferError::Closed(first) => format!(in alloc; "closed {}", cause(first)),
+        OfferError::AlreadyOpen => format!(in alloc; "already-open"),
+        OfferError::TooLong => format!(in alloc; "too-long"),
+        OfferError::NoPlacement => format!(in alloc; "no-placement"),
+        OfferError::NotEnded => format!(in alloc; "not-ended"),
+        OfferError::HubClosed => format!(in alloc; "hub-closed"),
+        OfferError::NoBlocks { need, largest } => format!(in alloc; "no-blocks {need} {largest}"),
+    }
+}
+
+fn what(alloc: Global, what: What) -> Result<String, AllocError> {
+    match what {
+        What::Done => format!(in alloc; "done"),
+        What::Halt(first) => format!(in alloc; "halt {}", cause(first)),
+        What::Miss => format!(in alloc; "miss"),
+        What::Cancel => format!(in alloc; "cancel"),
+        What::Clear => format!(in alloc; "clear"),
+        What::ClearFailed(first) => format!(in alloc; "clear failed {}", cause(first)),
+        What::Port { port, value } => format!(in alloc; "port {port} {value:08x}"),
+        What::Disk { tag, passed } => format!(in alloc; "disk {tag} {passed}"),
+        What::DiskReset => format!(in alloc; "reset"),
+        What::Iso { errors } => format!(in alloc; "iso {errors}"),
+        What::Refused { line, why } => {
+            let text = refusal(alloc, why)?;
+            format!(in alloc; "line {line} refused {}", text.as_str())
+        }
+    }
+}
+
+/// A line of the report: the number of its bytes, and those of them that aren't 0, with their places.
+fn line(alloc: Global, report: &Report, store: &[u8]) -> Result<String, AllocError> {
+    let told = what(alloc, report.what)?;
+    let named = name(alloc, &report.name)?;
+    let mut text = format!(in alloc; "{} {} {}", told.as_str(), named.as_str(), report.len)?;
+    for place in 0..report.len {
+        let byte = match store.get(report.from as usize + place as usize) {
+            Some(byte) => *byte,
+            None => 0,
+        };
+        if byte != 0 {
+            let one = format!(in alloc; " {place}={byte:x}")?;
+            text.push_str(one.as_str())?;
+        }
+    }
+    Ok(text)
+}
+
+/// The lines of the report after the first `before`.
+pub(crate) fn since(alloc: Global, host: &Host, before: usize) -> Result<String, AllocError> {
+    let mut text = String::new(alloc);
+    let reports = host.driver().reports();
+    for number in before..reports.len() {
+        let one = line(alloc, &reports[number], host.driver().store())?;
+        text.push_str("; ")?;
+        text.push_str(one.as_str())?;
+    }
+    Ok(text)
+}

@@ -1,6 +1,0 @@
-use Rattle.hub_laws.proofs.Answers.{change_has_no_data}
-use Rattle.hub_laws.proofs.Transfers.{change_reply, change_after}
-use Rattle.hub_laws.proofs.laws.change_is_made.Goals as goal
-
-pub returns : goal.returns
-returns c = record { no_data = change_has_no_data; reply = change_reply; after = change_after }

@@ -1,5 +1,0 @@
-use Rattle.hub_laws.proofs.Rows.{setup_reply, setup_after}
-use Rattle.hub_laws.proofs.laws.setup_is_heard.Goals as goal
-
-pub returns : goal.returns
-returns c = record { reply = setup_reply; after = setup_after }

@@ -1,5 +1,0 @@
-use Rattle.hub_laws.proofs.Transfers.{unknown_reply, unknown_after}
-use Rattle.hub_laws.proofs.laws.unknown_is_stalled.Goals as goal
-
-pub returns : goal.returns
-returns c = record { reply = unknown_reply; after = unknown_after }

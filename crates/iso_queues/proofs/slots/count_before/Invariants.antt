@@ -1,9 +1,0 @@
-use Rattle.std.proofs.Common.{◌≡◌, ◌≤◌}
-use Rattle.periodic_rows.specs.Descriptors.{slots_before}
-use Rattle.iso_queues.proofs.slots.count_before.Given as goal
-
-abbrev pub invariant-loop-v : goal.invariant-loop-v
-invariant-loop-v l = record {
-  counted : l.count ≡ slots_before l.smask l.v;
-  few : l.count ≤ l.v;
-}

@@ -1,0 +1,228 @@
+-- The endpoint whose members a command unlinks is in its frames, after each event of the driver and each accepted command.
+use Rattle.std.proofs.Common.{◌≡◌, ℕ, zero, suc, Bool, true, false, cond, nat_lt, List, [], ◌∷◌, ◌++◌, length, take, drop, set, slice_get, Option, Some, None, Ok, ap, sym, subst, ◌∙◌, refl}
+use Rattle.std.specs.Prelude.{is_some, is_none, ◌-◌}
+use Rattle.std.proofs.lemmas.Option.{same_Some}
+use Rattle.usb_base.specs.declared.commands.Cmd.{Cmd}
+use Rattle.usb_base.specs.declared.endpoints.EpName.{EpName}
+use Rattle.usb_base.specs.declared.endpoints.EndCause.{EndCause}
+use Rattle.usb_base.specs.declared.endpoints.EndCause.TheVariants as causes
+use Rattle.usb_base.specs.declared.reports.What.TheVariants as lines
+use Rattle.word_mem.specs.Memory.{Mem}
+use Rattle.mem_runs.specs.Book.{Holding, holding, lend_taken}
+use Rattle.drv_periodic_table.specs.Periodic.{is_periodic}
+use Rattle.drv_periodic_table.specs.declared.content.Removed.{Removed}
+use Rattle.drv_periodic_table.specs.declared.content.Removed.TheVariants as removed
+use Rattle.drv_chains.specs.declared.members.Member.{Member}
+use Rattle.drv_table.specs.declared.content.Reserve.{Reserve}
+use Rattle.drv_table.specs.declared.content.Endpoint.{Endpoint}
+use Rattle.drv_table.specs.declared.content.Transfer.{Transfer}
+use Rattle.drv_table.specs.declared.content.Command.{Command}
+use Rattle.drv_table.specs.declared.content.Command.TheVariants as unfinished
+use Rattle.drv_table.specs.declared.rows.DriverRow.{DriverRow}
+use Rattle.drv_table.specs.declared.rows.DriverRow.TheVariants as rows
+use Rattle.drv_table.specs.declared.rows.Found.{Found}
+use Rattle.drv_table.specs.declared.rows.Found.TheVariants as founds
+use Rattle.drv_table.specs.DriverContent.{DriverContent, waits_for}
+use Rattle.drv_table.specs.Opening.{opening}
+use Rattle.drv_table.specs.Accepting.{Offered}
+use Rattle.drv_table.specs.Offers.{offered}
+use Rattle.drv_table.specs.CancelOffers.{first_end, endpoint_members, with_cancel}
+use Rattle.drv_table.specs.Harvests.{noted, end_of, is_stall, reported}
+use Rattle.drv_table.specs.Parts.{Parts}
+use Rattle.drv_table.specs.Commands.{events_of, links, leave_ring, leave_frames, no_command, removal_of, finished, or_finished, linked_on, advanced_by}
+use Rattle.drv_table.specs.FrameChoice.{framed_by, framed_notes, with_notes, placement_at, linked_by}
+use Rattle.drv_table.specs.Removals.{after_unlink, after_descriptor, after_placed, after_removed}
+use Rattle.drv_table.specs.Releases.{after_transfer, after_endpoint, freed_by, cancelled_bytes, cancel_told, is_told}
+use Rattle.drv_table.specs.Harvesting.{told_with, behind_one, behind, after_end, harvested_as, served, after_harvest}
+use Rattle.drv_table.specs.Rows.{driver_row, after_driver_row}
+use Rattle.law_driver.specs.run_owners.Accepts.{Accepts, opens, chains, places, transfers, describes, cancels, unchains, Unchains}
+use Rattle.law_driver.specs.run_owners.Due.{IsDue}
+use Rattle.claims_driver.specs.Leaving.{HasOwners}
+use Rattle.law_driver.proofs.lemmas.run_owners.Commands.{accepted_for_a_reason}
+use Rattle.law_driver.proofs.lemmas.run_owners.Reasons.{each_is_due}
+use Rattle.law_driver.proofs.lemmas.run_owners.Released.{set_here}
+use Rattle.claims_driver.specs.FrameListMembers.{IsListed}
+use Rattle.law_descriptors.specs.ListRows.{LeavesChained}
+
+-- ---- where no command unlinks members
+
+none_chained : (d : DriverContent) → d.command ≡ None → LeavesChained d
+none_chained d none e x is here = let no : ◌≡◌ {A = Option Command} None (Some (unfinished.Unchain e)) = sym none ∙ is in absurd (cc)
+
+either : (d f : DriverContent) (b : Bool) → LeavesChained d → LeavesChained f → LeavesChained (cond b d f)
+either d f true one two = one
+either d f false one two = two
+
+-- ---- the command goes on
+
+pub out_of_ring : (d : DriverContent) (e : ℕ) (o : Option Endpoint) → d.command ≡ None → (leave_ring d e o).command ≡ None
+out_of_ring d e None none = none
+out_of_ring d e (Some x) none = by x.linked
+  where
+    by : (b : Bool) → (cond b (record d { waiting = d.waiting ++ e ∷ []; endpoints = set d.endpoints e (record x { linked = false }) }) d).command ≡ None
+    by true = none
+    by false = none
+
+out_of_frames : (d : DriverContent) (e : ℕ) (o : Option Endpoint) → d.command ≡ None → LeavesChained (leave_frames d e o)
+out_of_frames d e None none = none_chained d none
+out_of_frames d e (Some x) none = either f d x.chained (none_chained f none) (none_chained d none)
+  where
+    f : DriverContent
+    f = record d { endpoints = set d.endpoints e (record x { chained = false }); periodic = record d.periodic { removals = d.periodic.removals ++ removal_of (removed.Endpoint e) ∷ [] } }
+
+done_chained : (d : DriverContent) (c : Command) → LeavesChained (finished d c)
+done_chained d (unfinished.Unlink e b link) =
+    none_chained (leave_ring (no_command d) e (slice_get d.endpoints e)) (out_of_ring (no_command d) e (slice_get d.endpoints e) refl)
+done_chained d (unfinished.Unchain e) = out_of_frames (no_command d) e (slice_get d.endpoints e) refl
+done_chained d _ = none_chained (no_command d) refl
+
+or_done : (d : DriverContent) (c : Command) → LeavesChained d → LeavesChained (or_finished d c)
+or_done d c old = either (finished d c) d (is_none d.periodic.list.work) (done_chained d c) old
+
+linked_chained : (d : DriverContent) (c : Command) → LeavesChained d → LeavesChained (linked_on d c)
+linked_chained d c old = or_done _ c old
+
+advanced_chained : (d : DriverContent) (o : Option Command) → LeavesChained d → LeavesChained (advanced_by d o)
+advanced_chained d None old = old
+advanced_chained d (Some c) old =
+    either (record d { made = suc d.made }) (cond (links c) (linked_on d c) (finished d c)) (nat_lt (suc d.made) (length (events_of c))) old
+    (either (linked_on d c) (finished d c) (links c) (linked_chained d c old) (done_chained d c))
+
+framed_chained : (d : DriverContent) (n : ℕ) (o : Option Command) → LeavesChained d → LeavesChained (framed_by d n o)
+framed_chained d n (Some (unfinished.Iso e t count)) old =
+    let f = with_notes d n (take count (drop t d.transfers)) (framed_notes d n e t count (placement_at d e)) in advanced_chained f f.command old
+framed_chained d n _ old = old
+
+-- ---- what is given back, and unlinked, leaves the command
+
+pub transfer_command : (p : Parts) (t : ℕ) (o : Option Transfer) (h : Holding) → (after_transfer p t o h).driver.command ≡ p.driver.command
+transfer_command p t None h = refl
+transfer_command p t (Some y) h = refl
+
+pub unlink_command : (p : Parts) (t : ℕ) (o : Option Transfer) → (after_unlink p t o).driver.command ≡ p.driver.command
+unlink_command p t None = refl
+unlink_command p t (Some y) = refl
+
+told_command : (d : DriverContent) (m : Mem) (e : ℕ) (x : Endpoint) → (cancel_told d m e x).command ≡ d.command
+told_command d m e x = by (is_told x)
+  where
+    by : (b : Bool) → (cond b (reported d lines.Cancel x.desc.name (cancelled_bytes d.notes m e x.queue d.transfers)) d).command ≡ d.command
+    by true = refl
+    by false = refl
+
+pub endpoint_command : (p : Parts) (e : ℕ) (o : Option Endpoint) → (after_endpoint p e o).driver.command ≡ p.driver.command
+endpoint_command p e None = refl
+endpoint_command p e (Some x) = told_command p.driver p.memory e x
+
+pub removed_command : (p : Parts) (what : Removed) → (after_removed p what).driver.command ≡ p.driver.command
+removed_command p (removed.Descriptor t) = by (slice_get p.driver.transfers t)
+  where
+    by : (o : Option Transfer) → (after_descriptor p t o).driver.command ≡ p.driver.command
+    by None = refl
+    by (Some y) = refl
+removed_command p (removed.Endpoint e) = by (slice_get p.driver.endpoints e)
+  where
+    by : (o : Option Endpoint) → (after_placed p e o).driver.command ≡ p.driver.command
+    by None = refl
+    by (Some x) = told_command p.driver p.memory e x
+
+-- ---- a harvest leaves it
+
+one_command : (d : DriverContent) (e : ℕ) (name : EpName) (k : ℕ) (o : Option Transfer) → (behind_one d e name k o).command ≡ d.command
+one_command d e name k None = refl
+one_command d e name k (Some y) = by (waits_for e y)
+  where
+    by : (b : Bool) → (cond b (record (reported d (lines.Halt causes.Stall) name []) { transfers = set d.transfers k (record y { reported = true }); harvested = d.harvested ++ k ∷ [] }) d).command ≡ d.command
+    by true = refl
+    by false = refl
+
+behind_command : (d : DriverContent) (e : ℕ) (name : EpName) (k n : ℕ) → (behind d e name k n).command ≡ d.command
+unfolding behind
+behind_command d e name k zero = refl
+behind_command d e name k (suc n) =
+    let f = behind_one d e name k (slice_get d.transfers k) in behind_command f e name (suc k) n ∙ one_command d e name k (slice_get d.transfers k)
+
+end_command : (d : DriverContent) (e t : ℕ) (x : Endpoint) (stall : Bool) (o : Option EndCause) → (after_end d e t x stall o).command ≡ d.command
+end_command d e t x stall (Some cause) = refl
+end_command d e t x false None = refl
+end_command d e t x true None = behind_command _ e x.desc.name (suc t) (length d.transfers - suc t)
+
+read_command : (d : DriverContent) (m : Mem) (e t : ℕ) (x : Endpoint) (y : Transfer) (found : Found) → (harvested_as d m e t x y found).command ≡ d.command
+read_command d m e t x y (founds.Ended n what) = end_command (told_with d m t y what x.desc.name (noted d.notes y.place n)) e t x (is_stall what) (end_of x.desc.kind what)
+read_command d m e t x y _ = refl
+
+pub harvest_command : (d : DriverContent) (m : Mem) (e t : ℕ) (found : Found) (o : Option Endpoint) (q : Option Transfer) → (after_harvest d m e t found o q).command ≡ d.command
+harvest_command d m e t found None q = refl
+harvest_command d m e t found (Some x) None = refl
+harvest_command d m e t found (Some x) (Some y) = by (waits_for e y)
+  where
+    by : (b : Bool) → (cond b (served (harvested_as d m e t x y found) e) d).command ≡ d.command
+    by true = read_command d m e t x y found
+    by false = refl
+
+-- ---- any event
+
+idle_row : (row : DriverRow) (p : Parts) → (after_driver_row row p).driver.command ≡ p.driver.command → p.driver.command ≡ None → LeavesChained (after_driver_row row p).driver
+idle_row row p same none = none_chained (after_driver_row row p).driver (same ∙ none)
+
+row_chained : (row : DriverRow) (p : Parts) → IsDue p row → LeavesChained p.driver → LeavesChained (after_driver_row row p).driver
+row_chained rows.Lend p due old = advanced_chained (record p.driver { book = (lend_taken (holding p.driver.book p.memory)).book }) p.driver.command old
+row_chained (rows.Store b at v) p due old = advanced_chained p.driver p.driver.command old
+row_chained (rows.Mend w) p due old = idle_row (rows.Mend w) p refl due.0
+row_chained rows.Frames p due old = framed_chained p.driver p.registers.frame_index p.driver.command old
+row_chained rows.LendDescriptors p due old =
+    advanced_chained (record p.driver { book = (lend_taken (holding p.driver.book (linked_by p.driver p.memory p.driver.command))).book }) p.driver.command old
+row_chained (rows.Unlink t) p due old = idle_row (rows.Unlink t) p (unlink_command p t (slice_get p.driver.transfers t)) due.idle
+row_chained (rows.ReleaseRemoved what) p due old = idle_row (rows.ReleaseRemoved what) p (removed_command p what) due.idle
+row_chained (rows.ReleaseTransfer t) p due old =
+    idle_row (rows.ReleaseTransfer t) p (transfer_command p t (slice_get p.driver.transfers t) (freed_by p.driver (holding p.driver.book p.memory) (slice_get p.driver.transfers t))) due.idle
+row_chained (rows.ReleaseEndpoint e) p due old = idle_row (rows.ReleaseEndpoint e) p (endpoint_command p e (slice_get p.driver.endpoints e)) due.idle
+row_chained rows.ClearAdvance p due old = idle_row rows.ClearAdvance p refl due.0
+row_chained rows.RingBell p due old = idle_row rows.RingBell p refl due.0
+row_chained (rows.ReadStatus heard) p due old = idle_row (rows.ReadStatus heard) p refl due.0
+row_chained (rows.ReadFrame n) p due old = idle_row (rows.ReadFrame n) p refl due.0
+row_chained (rows.Harvest e t found) p due old =
+    idle_row (rows.Harvest e t found) p (harvest_command p.driver p.memory e t found (slice_get p.driver.endpoints e) (slice_get p.driver.transfers t)) due.idle
+row_chained rows.Rest p due old = old
+
+pub event_chained : (p : Parts) → LeavesChained p.driver → LeavesChained (after_driver_row (driver_row p) p).driver
+event_chained p old = row_chained (driver_row p) p (each_is_due p) old
+
+-- ---- an accepted command
+
+other_command : (d : DriverContent) (c : Command) → d.command ≡ Some c → ((e : ℕ) → c ≡ unfinished.Unchain e → ⊥) → LeavesChained d
+other_command d c is other e x now here = absurd (other e (same_Some c (unfinished.Unchain e) (sym is ∙ now)))
+
+same_endpoint : (e i : ℕ) → ◌≡◌ {A = Option Command} (Some (unfinished.Unchain e)) (Some (unfinished.Unchain i)) → i ≡ e
+same_endpoint e i is = cc
+
+cancelled_chained : (d : DriverContent) (e : ℕ) (x : Endpoint) (members : List Member) → slice_get d.endpoints e ≡ Some x → x.chained ≡ true → LeavesChained (with_cancel d e x members)
+cancelled_chained d e x members here chained i y is there =
+    let z : Endpoint = record x { cancelled = true; ended = first_end x.ended } in
+    let at : slice_get (set d.endpoints e z) e ≡ Some z = set_here d.endpoints e x z here in
+    let same : z ≡ y = same_Some z y (sym at ∙ ap (slice_get (set d.endpoints e z)) (sym (same_endpoint e i is)) ∙ there) in
+    ap (λ (w : Endpoint). w.chained) (sym same) ∙ chained
+
+unchained : (d : DriverContent) (m : Mem) (o : Offered) → HasOwners d → IsListed d → Unchains d m o → LeavesChained o.driver
+unchained d m o has listed why =
+    let e : ℕ = why.number in
+    let x : Endpoint = why.endpoint in
+    let ms : List Member = endpoint_members d e x why.placement in
+    let periodic : is_periodic x.desc.kind ≡ true = sym (has.orderly.steady e x why.here).placed ∙ ap is_some why.placed in
+    subst (λ (f : Offered). LeavesChained f.driver) (sym why.is)
+    (or_done (with_cancel d e x ms) (unfinished.Unchain e) (cancelled_chained d e x ms why.here (listed.list.kept e x why.here periodic why.fresh)))
+
+accepted_chained : (d : DriverContent) (m : Mem) (o : Offered) → HasOwners d → IsListed d → Accepts d m o → LeavesChained o.driver
+accepted_chained d m o has listed (opens why) = other_command o.driver _ (ap (λ (f : Offered). f.driver.command) why.is) (λ e is. cc)
+accepted_chained d m o has listed (chains why) = other_command o.driver _ (ap (λ (f : Offered). f.driver.command) why.is) (λ e is. cc)
+accepted_chained d m o has listed (places why) = none_chained o.driver (ap (λ (f : Offered). f.driver.command) why.is ∙ why.idle)
+accepted_chained d m o has listed (transfers why) = other_command o.driver _ (ap (λ (f : Offered). f.driver.command) why.is) (λ e is. cc)
+accepted_chained d m o has listed (describes why) = other_command o.driver _ (ap (λ (f : Offered). f.driver.command) why.is) (λ e is. cc)
+accepted_chained d m o has listed (cancels why) = other_command o.driver _ (ap (λ (f : Offered). f.driver.command) why.is) (λ e is. cc)
+accepted_chained d m o has listed (unchains why) = unchained d m o has listed why
+
+pub command_chained : (d : DriverContent) (m : Mem) (cmd : Cmd) (o : Offered) → HasOwners d → IsListed d → offered d m cmd ≡ Ok o → LeavesChained o.driver
+command_chained d m cmd o has listed is = accepted_chained d m o has listed (accepted_for_a_reason d m cmd o is)
+
+pub new_chained : (n : ℕ) (room : Reserve) → LeavesChained (opening n room).driver
+new_chained n room = none_chained (opening n room).driver refl

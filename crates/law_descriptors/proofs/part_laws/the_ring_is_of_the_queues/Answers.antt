@@ -1,0 +1,5 @@
+use Rattle.law_descriptors.proofs.Rings.{ring_of_queues, ring_of_both, list_of_queues}
+use Rattle.law_descriptors.proofs.part_laws.the_ring_is_of_the_queues.Goals as goal
+
+pub returns : goal.returns
+returns c = record { queues = ring_of_queues; both = ring_of_both; list = list_of_queues }

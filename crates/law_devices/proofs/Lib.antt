@@ -1,0 +1,12 @@
+pub mod lemmas
+pub mod Lists
+pub mod Drafts
+pub mod Texts
+pub mod Seats
+pub mod Senders
+pub mod Owning
+pub mod Places
+pub mod Devices
+pub mod Sending
+pub mod Asking
+pub mod Beginning

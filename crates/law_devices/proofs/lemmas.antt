@@ -1,0 +1,9 @@
+pub mod request_stores
+pub mod control_requests
+pub mod request_calls
+pub mod ring_requests
+pub mod opening_senders
+pub mod scripted_requests
+pub mod declared_controls
+pub mod scripted_takers
+pub mod declared_takers

@@ -1,0 +1,15 @@
+pub mod endpoint_lives
+pub mod run_owners
+pub mod chained_transfers
+pub mod lent_runs
+pub mod listed_members
+pub mod listed_queues
+pub mod ring_members
+pub mod queue_head_words
+pub mod in_place
+pub mod planned_endpoints
+pub mod iso_frames
+pub mod queued_drivers
+pub mod ordered_list
+pub mod released_blocks
+pub mod due_frames

@@ -1,0 +1,5 @@
+pub mod Frame
+pub mod Accepted
+pub mod Fields
+pub mod EndpointsChanged
+pub mod TransfersChanged

@@ -1,0 +1,3 @@
+pub mod Footprint
+pub mod Changes
+pub mod Worked

@@ -1,0 +1,117 @@
+-- The whole: at the opening, after each event and after each accepted command.
+use Rattle.std.proofs.Common.{◌≡◌, ℕ, ◌%◌, ◌≤◌, true, false, slice_get, Option, Some, Ok, inl, inr, ap, refl, ◌∙◌}
+use Rattle.std.specs.Prelude.{not, is_some}
+use Rattle.std.proofs.lemmas.Bool.{false≢true}
+use Rattle.usb_base.specs.declared.commands.Cmd.{Cmd}
+use Rattle.word_mem.specs.Memory.{Mem}
+use Rattle.drv_table.specs.declared.content.Reserve.{Reserve}
+use Rattle.drv_table.specs.declared.content.Command.{Command}
+use Rattle.drv_table.specs.declared.content.Command.TheVariants as unfinished
+use Rattle.drv_table.specs.declared.rows.DriverRow.{DriverRow}
+use Rattle.drv_table.specs.declared.rows.DriverRow.TheVariants as rows
+use Rattle.drv_table.specs.DriverContent.{DriverContent}
+use Rattle.drv_table.specs.Opening.{opening}
+use Rattle.drv_table.specs.Accepting.{Offered}
+use Rattle.drv_table.specs.Offers.{offered}
+use Rattle.drv_table.specs.Parts.{Parts}
+use Rattle.drv_table.specs.Rows.{driver_row, after_driver_row}
+use Rattle.drv_table.specs.Commands.{events_of, links}
+use Rattle.law_driver.specs.run_owners.Due.{IsDue}
+use Rattle.law_driver.proofs.lemmas.run_owners.Commands.{accepted_for_a_reason}
+use Rattle.law_driver.proofs.lemmas.run_owners.Reasons.{each_is_due}
+use Rattle.claims_driver.specs.Ring.{IsSound}
+use Rattle.law_driver.proofs.lemmas.ring_members.Events.{chain_never, iso_never, unchain_never}
+use Rattle.law_driver.specs.iso_frames.Frames.{AreInFrames}
+use Rattle.claims_driver.specs.DueMembers.{HasOneEach}
+use Rattle.law_driver.proofs.lemmas.iso_frames.Due.{one_each}
+use Rattle.claims_driver.specs.FrameWords.{ListStands, KeepsItsList}
+use Rattle.law_frame_list.proofs.lemmas.list_stands.Listing.{opening_stands}
+use Rattle.law_frame_list.specs.list_aside.Elsewhere.{links_now, is_elsewhere}
+use Rattle.law_frame_list.proofs.lemmas.list_aside.Elsewhere.{elsewhere_stands}
+use Rattle.law_frame_list.specs.list_steps.Steps.{IsLinkingStep}
+use Rattle.law_frame_list.proofs.lemmas.list_steps.Stepping.{interrupt_step_stands}
+use Rattle.law_frame_list.proofs.lemmas.list_rows.Mending.{mend_stands}
+use Rattle.law_frame_list.proofs.lemmas.list_rows.Owed.{opening_aside, event_aside, command_aside}
+use Rattle.law_frame_list.proofs.lemmas.list_rows.Unlinked.{unlink_stands}
+use Rattle.law_frame_list.proofs.lemmas.list_queued.Linked.{link_stands}
+use Rattle.law_frame_list.proofs.lemmas.list_queued.Lent.{lend_stands}
+use Rattle.law_frame_list.proofs.lemmas.list_opens.Commands.{any_stands}
+use Rattle.law_frame_list.proofs.lemmas.list_driver.Queueing.{AreQueued, event_to_link, event_leading, accepted_queued}
+
+abbrev Stays : Parts → Type 0
+Stays p = ListStands (after_driver_row (driver_row p) p).memory (after_driver_row (driver_row p) p).driver
+
+-- ---- a store
+
+elsewhere : (p : Parts) (r : DriverRow) → driver_row p ≡ r → is_elsewhere p.driver.command r ≡ true → IsSound p.memory p.driver → KeepsItsList p.memory p.driver → Stays p
+elsewhere p r is on sound old = elsewhere_stands p (ap (is_elsewhere p.driver.command) is ∙ on) sound old.list
+
+-- of a command that links nothing
+aside_store : (p : Parts) (c : Command) (b at v : ℕ) → driver_row p ≡ rows.Store b at v → p.driver.command ≡ Some c → links c ≡ false → IsSound p.memory p.driver → KeepsItsList p.memory p.driver → Stays p
+aside_store p c b at v is command off sound old = elsewhere p (rows.Store b at v) is (ap (λ (o : Option Command). not (links_now o)) command ∙ ap not off) sound old
+
+next_stored : (p : Parts) (c : Command) (b at v : ℕ) → driver_row p ≡ rows.Store b at v → p.driver.command ≡ Some c → slice_get (events_of c) p.driver.made ≡ Some (rows.Store b at v) → IsSound p.memory p.driver → KeepsItsList p.memory p.driver → Stays p
+next_stored p (unfinished.Open q) b at v is here there sound old = aside_store p (unfinished.Open q) b at v is here refl sound old
+next_stored p (unfinished.Publish a words) b at v is here there sound old = aside_store p (unfinished.Publish a words) b at v is here refl sound old
+next_stored p (unfinished.Unlink e a link) b at v is here there sound old = aside_store p (unfinished.Unlink e a link) b at v is here refl sound old
+next_stored p unfinished.Chain b at v is here there sound old = absurd (chain_never p.driver.made b at v there)
+next_stored p (unfinished.Iso e t n) b at v is here there sound old = absurd (iso_never e t n p.driver.made b at v there)
+next_stored p (unfinished.Unchain e) b at v is here there sound old = absurd (unchain_never e p.driver.made b at v there)
+
+-- of the frame list
+link_stored : (p : Parts) (c : Command) → IsLinkingStep p c → IsSound p.memory p.driver → HasOneEach p.driver → KeepsItsList p.memory p.driver → Stays p
+link_stored p unfinished.Chain step sound one old = interrupt_step_stands p unfinished.Chain step (inl refl) sound.stands sound.shape sound.owners sound.listed old.list
+link_stored p (unfinished.Iso e t n) step sound one old = link_stands p e t n step sound one old.leading old.list
+link_stored p (unfinished.Unchain e) step sound one old = interrupt_step_stands p (unfinished.Unchain e) step (inr (e, refl)) sound.stands sound.shape sound.owners sound.listed old.list
+link_stored p _ step sound one old = absurd (false≢true step.links)
+
+stored : (p : Parts) (b at v : ℕ) → driver_row p ≡ rows.Store b at v → IsDue p (rows.Store b at v) → IsSound p.memory p.driver → HasOneEach p.driver → KeepsItsList p.memory p.driver → Stays p
+stored p b at v is (inl next) sound one old = next_stored p next.command b at v is next.unfinished next.next sound old
+stored p b at v is (inr link) sound one old = link_stored p link.command (record { unfinished = link.unfinished; links = link.links; late = link.late }) sound one old
+
+-- ---- any row
+
+row_stands : (p : Parts) (r : DriverRow) → driver_row p ≡ r → IsDue p r → IsSound p.memory p.driver → HasOneEach p.driver → KeepsItsList p.memory p.driver → Stays p
+row_stands p rows.Lend is due sound one old = elsewhere p rows.Lend is refl sound old
+row_stands p (rows.Store b at v) is due sound one old = stored p b at v is due sound one old
+row_stands p (rows.Mend w) is due sound one old = mend_stands p w is sound old.mends old.list
+row_stands p rows.Frames is due sound one old = elsewhere p rows.Frames is refl sound old
+row_stands p rows.LendDescriptors is due sound one old = lend_stands p is sound one old.to_link old.list
+row_stands p (rows.Unlink t) is due sound one old = unlink_stands p t is sound old.list
+row_stands p (rows.ReleaseRemoved what) is due sound one old = elsewhere p (rows.ReleaseRemoved what) is refl sound old
+row_stands p (rows.ReadFrame n) is due sound one old = elsewhere p (rows.ReadFrame n) is refl sound old
+row_stands p (rows.ReleaseTransfer t) is due sound one old = elsewhere p (rows.ReleaseTransfer t) is refl sound old
+row_stands p (rows.ReleaseEndpoint e) is due sound one old = elsewhere p (rows.ReleaseEndpoint e) is refl sound old
+row_stands p rows.ClearAdvance is due sound one old = elsewhere p rows.ClearAdvance is refl sound old
+row_stands p rows.RingBell is due sound one old = elsewhere p rows.RingBell is refl sound old
+row_stands p (rows.ReadStatus heard) is due sound one old = elsewhere p (rows.ReadStatus heard) is refl sound old
+row_stands p (rows.Harvest e t found) is due sound one old = elsewhere p (rows.Harvest e t found) is refl sound old
+row_stands p rows.Rest is due sound one old = elsewhere p rows.Rest is refl sound old
+
+pub event_keeps : (p : Parts) → IsSound p.memory p.driver → AreInFrames p.driver → KeepsItsList p.memory p.driver → KeepsItsList (after_driver_row (driver_row p) p).memory (after_driver_row (driver_row p) p).driver
+event_keeps p sound frames old =
+    let one : HasOneEach p.driver = one_each p.driver sound.owners sound.listed frames in
+    record {
+      list = row_stands p (driver_row p) refl (each_is_due p) sound one old;
+      mends = event_aside p sound.owners old.mends;
+      to_link = event_to_link p sound.listed old.to_link;
+      leading = event_leading p sound one old.list old.to_link old.leading;
+    }
+
+pub command_keeps : (d : DriverContent) (m : Mem) (cmd : Cmd) (o : Offered) → offered d m cmd ≡ Ok o → IsSound m d → KeepsItsList m d → KeepsItsList o.memory o.driver
+command_keeps d m cmd o is sound old =
+    let q : AreQueued o.memory o.driver = accepted_queued d m o (accepted_for_a_reason d m cmd o is) sound.listed in
+    record {
+      list = any_stands d m cmd o is sound.stands sound.shape sound.owners sound.listed old.list;
+      mends = command_aside d m cmd o is old.mends;
+      to_link = q.to_link;
+      leading = q.leading;
+    }
+
+pub opening_keeps : (n : ℕ) (room : Reserve) → 2048 ≤ n → n ≤ 262144 → n % 1024 ≡ 0 → KeepsItsList (opening n room).memory (opening n room).driver
+opening_keeps n room many few whole = record {
+  list = opening_stands n room many few whole;
+  mends = opening_aside n room;
+  to_link = λ e f c is made. absurd (false≢true (ap is_some is));
+  leading = λ e f c is made. absurd (false≢true (ap is_some is));
+}

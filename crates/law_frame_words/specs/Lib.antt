@@ -1,0 +1,2 @@
+pub mod frame_words
+pub mod list_words

@@ -1,0 +1,22 @@
+-- What was just read is what stands there, and where nothing is met nothing is in hand.
+use Rattle.std.proofs.Common.{◌≡◌, ℕ, List, Some, None, refl}
+use Rattle.usb_base.specs.declared.packets.Reply.{Reply}
+use Rattle.qh_qtd.specs.declared.queue_head.Qh.{Qh}
+use Rattle.law_structures.specs.lent_structures.Structures.{StructureSets}
+use Rattle.law_ring.specs.Hand.{copied_queue}
+use Rattle.law_frames.specs.Met.{Kind, AQueue, AnItd, ASitd}
+use Rattle.law_frames.specs.FrameHand.{FrameHand, Nothing, OfQueue, OfSettled, OfItd, OfSitd, fetched_copy}
+use Rattle.law_frames.specs.Frame.{IsInFrame}
+
+pub fetched_stands : (a : ℕ) (q : Qh) → copied_queue (fetched_copy a q) ≡ q
+fetched_stands a q = refl
+
+none_met : (k : Kind) → None ≡ Some k → ⊥
+none_met k e = cc
+
+pub nothing_in_hand : (parts : StructureSets) (got : List ℕ) (reply : Reply) (hand : FrameHand) → IsInFrame (λ a. None) parts got reply hand → hand ≡ Nothing
+nothing_in_hand parts got reply Nothing k = refl
+nothing_in_hand parts got reply (OfQueue c made) k = absurd (none_met AQueue k.on)
+nothing_in_hand parts got reply (OfSettled c s made) k = absurd (none_met AQueue k.0.on)
+nothing_in_hand parts got reply (OfItd c) k = absurd (none_met AnItd k.on)
+nothing_in_hand parts got reply (OfSitd c) k = absurd (none_met ASitd k.on)

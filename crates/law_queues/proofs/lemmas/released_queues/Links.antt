@@ -1,0 +1,49 @@
+-- What views tell, and where links lead.
+use Rattle.std.proofs.Common.{◌≡◌, ℕ, ◌*◌, Bool, true, false, if◌then◌else◌, Option, Some, None, option_map, ap, refl, sym, subst, ◌∙◌, ⊎_elim, inl, inr, ◌⊎◌}
+use Rattle.std.proofs.lemmas.Option.{same_Some}
+use Rattle.link_words.specs.declared.kinds.QtdLink.{QtdLink}
+use Rattle.link_words.specs.declared.kinds.QtdLink.TheVariants as qtd_links
+use Rattle.link_words.specs.declared.fields.ShortLink.{ShortLink}
+use Rattle.link_words.specs.Links.{qtd_link_of, no_qtd}
+use Rattle.drv_table.specs.Words.{to_qtd}
+use Rattle.drv_table.specs.declared.content.Command.{Command}
+use Rattle.drv_table.specs.declared.content.Sort.{Sort as Sorted}
+use Rattle.drv_table.specs.declared.content.Sort.TheVariants as sorts
+use Rattle.law_driver.specs.chained_transfers.Out.{unpublished}
+use Rattle.law_structures.specs.lent_structures.Structures.{Structures}
+use Rattle.law_structures.specs.lent_structures.Sound.{IsElement, LeadsOn}
+use Rattle.law_driver_ring.specs.fed_queues.Fed.{IsAlternate}
+
+-- ---- what views tell
+
+pub mapped : {X Y : Type 0} (f : X → Y) (o : Option X) (y : Y) → option_map f o ≡ Some y → (x : X) × (o ≡ Some x) × (y ≡ f x)
+mapped f None y is = absurd (cc)
+mapped f (Some x) y is = (x, refl, sym (same_Some (f x) y is))
+
+pub none_yet : (o : Option Command) (made n : ℕ) (b : Bool) → o ≡ None → (if b then unpublished o made n else 0) ≡ 0
+none_yet o made n b free = ap (λ (c : Option Command). if b then unpublished c made n else 0) free ∙ either b
+  where
+    either : (b : Bool) → ◌≡◌ {A = ℕ} (if b then 0 else 0) 0
+    either true = refl
+    either false = refl
+
+pub link_there : (part : Structures) (l : QtdLink) (b : ℕ) → LeadsOn part l → l ≡ qtd_links.To b → IsElement part b
+link_there part l b leads is = subst (LeadsOn part) is leads
+
+target : QtdLink → ℕ → ℕ
+target qtd_links.End a = a
+target (qtd_links.To b) a = b
+
+leads_nowhere : (b : ℕ) → qtd_links.End ≡ qtd_links.To b → ⊥
+leads_nowhere b is = cc
+
+pub same_target : (b c : ℕ) → qtd_links.To b ≡ qtd_links.To c → b ≡ c
+unfolding target
+same_target b c is = ap (λ (l : QtdLink). target l b) is
+
+-- an alternate that leads anywhere leads to the end, or where the next does
+pub alternate_to : (sort : Sorted) (l : ShortLink) (next end b : ℕ) → IsAlternate sort l next end → qtd_link_of l ≡ qtd_links.To b → (32 * end ≡ b) ⊎ (32 * next ≡ b)
+alternate_to sorts.Get l next end b is to = inl (same_target (32 * end) b (sym (ap qtd_link_of is) ∙ to))
+alternate_to sorts.Request l next end b is to =
+    ⊎_elim (λ (none : l ≡ no_qtd). absurd (leads_nowhere b (sym (ap qtd_link_of none) ∙ to))) (λ (on : l ≡ to_qtd next). inr (same_target (32 * next) b (sym (ap qtd_link_of on) ∙ to))) is
+alternate_to _ l next end b is to = absurd (leads_nowhere b (sym (ap qtd_link_of is) ∙ to))

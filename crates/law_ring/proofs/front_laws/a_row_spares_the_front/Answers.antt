@@ -1,0 +1,5 @@
+use Rattle.law_ring.proofs.FrontGoing.{front_spared, front_renumbered}
+use Rattle.law_ring.proofs.front_laws.a_row_spares_the_front.Goals as goal
+
+pub returns : goal.returns
+returns c = record { spared = front_spared; renumbered = front_renumbered }

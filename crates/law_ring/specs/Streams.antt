@@ -1,0 +1,44 @@
+-- What an event of the walk does to the streams of the ring's endpoints (EHCI 1.0, 4.10): nothing, or it makes one transaction of one endpoint, by
+-- which the current qTD of that endpoint grows.
+--     moved_bytes q t z bs      the bytes that a transaction moved: received with an IN, else those of the buffer that were sent
+--     Grows ..                  what is told after a transaction: the current qTD's bytes have grown by these, and nothing else has
+--     StreamEffect ..           nothing is told otherwise and nothing was asked, or one transaction was made
+--     Streams ..                an event of the walk with its effect on streams
+use Rattle.std.specs.Prelude.{◌≡◌, ◌≢◌, ℕ, ◌-◌, Bool, true, ◌==◌, List, ◌++◌, take, drop, if◌then◌else◌}
+use Rattle.usb_base.specs.declared.packets.Ask.{Ask}
+use Rattle.usb_base.specs.declared.packets.Reply.{Reply}
+use Rattle.qh_qtd.specs.declared.qtd.Qtd.{Qtd}
+use Rattle.qh_qtd.specs.declared.queue_head.Qh.{Qh}
+use Rattle.hc_copy.specs.Overlay.{buffer_place}
+use Rattle.hc_copy.specs.WriteBack.{moved_by}
+use Rattle.async_walk.specs.declared.state.WalkStep.{WalkStep}
+use Rattle.async_walk.specs.Rows.{WalkPlace}
+use Rattle.law_structures.specs.lent_structures.Structures.{StructureSets}
+use Rattle.law_structures.specs.lent_structures.Sound.{IsMember}
+use Rattle.law_ring.specs.Hand.{Copy, Settlement, Hand}
+use Rattle.claims_base.specs.Controller.{Base}
+use Rattle.law_ring.specs.Effects.{buffer_of, settlement, Makes, Happens}
+use Rattle.law_ring.specs.Told.{Told, HasToggle, SameTold}
+
+abbrev pub AreMembers : (ℕ → Bool) → StructureSets → Type 0
+AreMembers member parts = (n : ℕ) → member n ≡ true → IsMember member n (parts n)
+
+abbrev pub moved_bytes : Qh → Qtd → Settlement → List ℕ → List ℕ
+moved_bytes q t z bs = if q.token.pid == 1 then z.got else take (moved_by z.outcome) (drop (buffer_place q - t.offset) bs)
+
+-- the transaction of this copy came to z, and worked on the qTD t
+pub record Grows (hand : Hand) (parts : StructureSets) (later : Hand) (c : Copy) (z : Settlement) (t : Qtd) : Type 0 where
+  pub bytes : (xs : List ℕ) → Told hand parts c.at c.queue.current xs → Told later parts c.at c.queue.current (xs ++ moved_bytes c.queue t z (buffer_of (parts c.at) t))
+  pub other_bytes : (n e : ℕ) (xs : List ℕ) → (((n ≡ c.at) × (e ≡ c.queue.current)) → ⊥) → Told hand parts n e xs → Told later parts n e xs
+  pub toggle : (b : Bool) → HasToggle hand parts c.at b → (b ≡ c.queue.token.toggle) × HasToggle later parts c.at z.host.toggle
+  pub other_toggles : (n : ℕ) (b : Bool) → n ≢ c.at → HasToggle hand parts n b → HasToggle later parts n b
+
+pub data StreamEffect {W : Type 0} (transacts : W → Ask → List ℕ → Reply → W → Type 0) (parts : StructureSets) (hand : Hand) (wire after : W) (now : StructureSets) (later : Hand) : Type 0 where
+  same : SameTold hand parts later now → after ≡ wire → StreamEffect transacts parts hand wire after now later
+  grows : (m : Makes transacts parts hand wire after later) → now ≡ parts → Grows hand parts later m.copy (settlement m.copy.queue m.out m.reply) m.sent.element
+      → StreamEffect transacts parts hand wire after now later
+
+pub record Streams {W : Type 0} (transacts : W → Ask → List ℕ → Reply → W → Type 0) (base : Base) (member : ℕ → Bool) (parts : StructureSets) (hand : Hand) (wire after : W) (new : WalkPlace)
+    (kind : WalkStep) : Type 0 where
+  pub happens : Happens transacts base member parts hand wire after new kind
+  pub streams : StreamEffect transacts parts hand wire after happens.now happens.later

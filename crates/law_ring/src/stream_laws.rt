@@ -1,0 +1,17 @@
+ghost use Rattle.std.specs.Prelude.{ℕ, Bool};
+ghost use Rattle.async_walk.specs.Rows.{WalkPlace, at_event, event_row, step_of, Leads};
+ghost use Rattle.law_structures.specs.lent_structures.Structures.{StructureSets};
+ghost use Rattle.law_ring.specs.Hand.{Hand};
+ghost use Rattle.claims_base.specs.Controller.{Base};
+ghost use Rattle.law_ring.specs.Ring.{IsRing};
+ghost use Rattle.law_ring.specs.Effects.{AreBytesHeard};
+ghost use Rattle.law_ring.specs.Streams.{Streams};
+
+use usb_base::Wire;
+
+/// Each event of the walk is one transaction of one endpoint, by which the bytes of its current qTD grow, or nothing is told otherwise.
+pub fn each_event_moves_one_stream<W: Wire>()
+    ensures { (base : Base) (member : ℕ → Bool) (parts : StructureSets) (hand : Hand) (p : WalkPlace) (wire : W) (new : WalkPlace) (after : W) → IsRing base member parts hand p
+        → AreBytesHeard W.transacts wire after → Leads W.transacts (event_row p) (at_event p) wire new after
+        → Streams W.transacts base member parts hand wire after new (step_of (event_row p) (at_event p)) }
+{}

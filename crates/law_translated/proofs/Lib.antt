@@ -1,0 +1,11 @@
+pub mod Lifting
+pub mod Streams
+pub mod Receiving
+pub mod Sending
+pub mod Requesting
+pub mod Reading
+pub mod Writing
+pub mod Settling
+pub mod WorkedPipes
+pub mod WorkedRequests
+pub mod WorkedWindows

@@ -1,0 +1,11 @@
+pub mod Lift
+pub mod InPipes
+pub mod OutPipes
+pub mod Requests
+pub mod Reads
+pub mod Writes
+pub mod Windows
+pub mod Samples
+pub mod WorkedPipes
+pub mod WorkedRequests
+pub mod WorkedWindows

@@ -1,0 +1,134 @@
+-- The work of a microframe keeps up with what is laid.
+use Rattle.std.proofs.Common.{◌≡◌, ℕ, ◌+◌, ◌-◌, ◌*◌, ◌<◌, ◌≤◌, min, Bool, true, false, List, [], ◌∷◌, refl, subst, inl, inr, arith}
+use Rattle.usb_base.specs.declared.packets.Reply.{Reply}
+use Rattle.usb_base.specs.declared.packets.Speed.TheVariants.{High}
+use Rattle.hub_keys.specs.Asks.{work_of}
+use Rattle.hub_keys.specs.declared.key.Key.{Key}
+use Rattle.tt_pipeline.specs.declared.entry.Entry.{Entry}
+use Rattle.tt_pipeline.specs.Work.{called, called_for, is_due, moved, answered}
+use Rattle.tt_pipeline.specs.Working.{used_at, first_reply, later_replies}
+use Rattle.law_translator.specs.Plans.{Plan, laid, Fits}
+use Rattle.law_translator.specs.Frames.{Watched, worked_one, worked_all}
+use Rattle.law_translator.proofs.Keys.{Distinct, AllIn}
+use Rattle.law_translator.proofs.Sums.{due_at, total, later, Sorted}
+use Rattle.law_translator.proofs.Numbers.{Ready, work_one, work_used}
+use Rattle.law_translator.proofs.Owing.{Came, Grew, same, Seen, Owing, before_gaps, came_gaps, once_more, ready, even_after}
+
+-- an entry before its turn
+pub ready_for : (p : Plan) (now : ℕ) (w : Watched) → Owing p now w → Ready (p.times w.entry.key) (p.first w.entry.key) now (called w.entry.ask w.entry.before) w.entry.done (before_gaps w)
+ready_for p now w o =
+    ready p w.entry.key w.entry.ask w.entry.heard w.entry.before w.gaps now w.entry.done o.heard o.grew o.below o.kept o.even
+
+-- all of what is owed but that the transaction was made
+record Standing (p : Plan) (now : ℕ) (w : Watched) : Type 0 where
+  heard : Came p w.entry.key w.entry.ask w.entry.heard w.gaps (now - 1)
+  before : Came p w.entry.key w.entry.ask w.entry.before (before_gaps w) now
+  came : Came p w.entry.key w.entry.ask w.entry.came (came_gaps w) (now + 1)
+  seen : Seen w.entry.came
+  grew : Grew p w.entry.key w.entry.ask w.entry.heard w.entry.before (before_gaps w)
+  grows : Grew p w.entry.key w.entry.ask w.entry.before w.entry.came (came_gaps w)
+  below : w.entry.done ≤ called_for w.entry
+  kept : min (laid p w.entry.key (now - 1)) (called_for w.entry + 188 * w.gaps) ≤ w.entry.done + 188 * w.gaps
+  even : w.entry.heard.whole ≡ false → w.entry.done ≡ called_for w.entry
+  plain : 0 < w.entry.came.parts → (n : ℕ) → work_of w.entry.ask n ≡ n + 9
+  classic : w.entry.ask.speed ≡ High → ⊥
+
+-- the answer to its transaction changes nothing else
+owing_of : (p : Plan) (now : ℕ) (m : Entry) (g : ℕ) (reply : Reply) (b : Bool) → is_due m ≡ b → Standing p now (record { entry = m; gaps = g }) → Owing p now (record { entry = answered b reply m; gaps = g })
+owing_of p now m g reply true is o = record {
+  heard = o.heard;
+  before = o.before;
+  came = o.came;
+  seen = o.seen;
+  grew = o.grew;
+  grows = o.grows;
+  below = o.below;
+  kept = o.kept;
+  even = o.even;
+  plain = o.plain;
+  classic = o.classic;
+  asked = refl;
+}
+owing_of p now m g reply false is o = record {
+  heard = o.heard;
+  before = o.before;
+  came = o.came;
+  seen = o.seen;
+  grew = o.grew;
+  grows = o.grows;
+  below = o.below;
+  kept = o.kept;
+  even = o.even;
+  plain = o.plain;
+  classic = o.classic;
+  asked = is;
+}
+
+-- an entry's turn, in a room for what is due
+turn_keeps : (p : Plan) (now room : ℕ) (reply : Reply) (w : Watched) → Owing p now w → due_at p w.entry.key now ≤ room → Owing p (now + 1) (worked_one room reply w)
+turn_keeps p now room reply w o fits =
+    let m : Entry = moved room w.entry in
+    let done = work_one _ _ _ _ _ _ room (ready_for p now w o) fits in
+    let even = even_after p w.entry.key w.entry.ask w.entry.heard w.entry.before w.gaps (before_gaps w) now w.entry.done room o.grew o.before o.even done in
+    let back : now ≡ now + 1 - 1 = omega arith in
+    let heard = subst (λ (u : ℕ). Came p w.entry.key w.entry.ask w.entry.before (before_gaps w) u) back o.before in
+    let kept = subst (λ (u : ℕ). min (laid p w.entry.key u) (called w.entry.ask w.entry.before + 188 * before_gaps w) ≤ m.done + 188 * before_gaps w) back done.kept in
+    let standing : Standing p (now + 1) (record { entry = m; gaps = before_gaps w }) = record {
+      heard = heard;
+      before = o.came;
+      came = once_more p w.entry.key w.entry.ask w.entry.came (came_gaps w) (now + 1) o.seen o.came;
+      seen = o.seen;
+      grew = o.grows;
+      grows = same refl;
+      below = done.below;
+      kept = kept;
+      even = even;
+      plain = o.plain;
+      classic = o.classic;
+    } in
+    owing_of p (now + 1) m (before_gaps w) reply (is_due m) refl standing
+
+abbrev pub keys_of : List Watched → List Key
+keys_of [] = []
+keys_of (w ∷ ws) = w.entry.key ∷ keys_of ws
+
+abbrev pub AllOwe : Plan → ℕ → List Watched → Type 0
+AllOwe p now [] = Unit {0}
+AllOwe p now (w ∷ ws) = Owing p now w × AllOwe p now ws
+
+key_answered : (b : Bool) (reply : Reply) (m : Entry) → (answered b reply m).key ≡ m.key
+key_answered true reply m = refl
+key_answered false reply m = refl
+
+pub keys_worked : (room : ℕ) (replies : List Reply) (ws : List Watched) → keys_of (worked_all room replies ws) ≡ keys_of ws
+keys_worked room replies [] = refl
+keys_worked room replies (w ∷ ws) =
+    let here : (answered (is_due (moved room w.entry)) (first_reply replies) (moved room w.entry)).key ≡ w.entry.key = key_answered (is_due (moved room w.entry)) (first_reply replies) (moved room w.entry) in
+    let rest = keys_worked (room - used_at room w.entry) (later_replies replies) ws in
+    cc
+
+first_fits : (a b room : ℕ) → a + b ≤ room → a ≤ room
+first_fits a b room h = omega arith
+
+none_left : (a b room u : ℕ) → a + b ≤ room → b ≡ 0 → b ≤ room - u
+none_left a b room u h e = omega arith
+
+rest_fits : (a b room u : ℕ) → a + b ≤ room → u ≤ a → b ≤ room - u
+rest_fits a b room u h l = omega arith
+
+-- the turns of all entries, in a room for what is due to them
+pub work_keeps : (p : Plan) → Fits p → (now room : ℕ) (replies : List Reply) (ws : List Watched) → AllOwe p now ws → Sorted p (keys_of ws) → Distinct (keys_of ws) → AllIn (keys_of ws) p.keys → total (λ k. due_at p k now) (keys_of ws) ≤ room → AllOwe p (now + 1) (worked_all room replies ws)
+work_keeps p fits now room replies [] owe sorted distinct members within = tt
+work_keeps p fits now room replies (w ∷ ws) owe sorted distinct members within =
+    let sum : ℕ = total (λ k. due_at p k now) (keys_of ws) in
+    let here = first_fits (due_at p w.entry.key now) sum room within in
+    let rest : sum ≤ room - used_at room w.entry =
+    elim (later p fits now w.entry.key (keys_of ws) members.0 members.1 distinct.0 sorted.0) [
+      | inl none ↦ none_left (due_at p w.entry.key now) sum room (used_at room w.entry) within none
+      | inr whole ↦
+          rest_fits (due_at p w.entry.key now) sum room (used_at room w.entry) within (work_used _ _ _ _ _ _ room (ready_for p now w owe.0) whole)
+    ]
+    in (
+      turn_keeps p now room (first_reply replies) w owe.0 here,
+      work_keeps p fits now (room - used_at room w.entry) (later_replies replies) ws owe.1 sorted.1 distinct.1 members.1 rest,
+    )

@@ -1,0 +1,40 @@
+//! The laws, each a function whose contract is the law.
+ghost use Rattle.std.specs.Prelude.{◌≡◌, ℕ, List};
+ghost use Rattle.usb_base.specs.declared.packets.Reply.{Reply};
+ghost use Rattle.tt_pipeline.specs.Working.{Works, turned_all};
+ghost use Rattle.tt_pipeline.specs.declared.entry.Entry.{Entry};
+ghost use Rattle.law_translator.specs.Frames.{Event, Frame, entries_of, run, run_contents};
+ghost use Rattle.law_translator.specs.Laws.{KeepsUpWithPlans, AnswersStay, WorksByFunctions};
+
+use usb_base::Wire;
+
+/// Whatever the wire answers, whichever starts are lost or short, and whatever else is asked: where each start that
+/// comes is one that the plan of its frame calls for, and each plan lays at most 188 byte-times in a microframe, each
+/// entry has had what is laid for it. An interrupt that is laid whole has its answer there.
+pub fn a_plan_that_fits_is_done()
+    ensures { KeepsUpWithPlans }
+{}
+
+/// The answer of an interrupt that is there stays: the work of a microframe leaves it as it is, until the entries are
+/// dropped at the frame's end.
+pub fn an_answer_stays()
+    ensures { AnswersStay }
+{}
+
+/// The count of missing parts is beside the pipeline and changes nothing in it: the entries are those that the words of
+/// the pipeline give.
+pub fn the_watch_only_watches()
+    ensures { (events : List Event) → (frame : Frame) → entries_of (run events frame).watched ≡ run_contents events (entries_of frame.watched) }
+{}
+
+/// Over any wire, the work of a microframe is the event `Work` with some replies: so the laws speak of every run of a
+/// pipeline.
+pub fn the_work_is_an_event<W: Wire>()
+    ensures { (room : ℕ) → (es : List Entry) → (before : W) → (after : W) → (new : List Entry) →
+        Works W.transacts room es before after new → (replies : List Reply) × (new ≡ turned_all room replies es) }
+{}
+
+/// Over a wire that answers and changes by functions of its content, so does the work.
+pub fn the_work_is_a_function<W: Wire>()
+    ensures { WorksByFunctions W.transacts }
+{}

@@ -1,0 +1,5 @@
+pub mod worlds_keep_to_lent
+pub mod owned_blocks
+pub mod world_frames
+pub mod running_worlds
+pub mod framed_memory

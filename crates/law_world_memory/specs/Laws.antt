@@ -1,0 +1,46 @@
+-- Laws of worlds with endpoints of every kind: each event and each command leaves such a world one, everything is in place, and the controller meets no fault.
+--     NewWorldIsMixed            the world of each script of bytes is one before its first line
+--     ControllerKeepsMixed       each event of the controller leaves it one
+--     RowKeepsMixed row          so does the driver's event where it is this row
+--     DriverKeepsMixed           .. and so each event of the driver
+--     OpensMixed cmd             what the command opens, if anything, has numbers that fit their fields and a way that fits its kind
+--     CommandKeepsMixed          each command that opens nothing else leaves it one, accepted or refused
+use Rattle.std.specs.Prelude.{◌≡◌, ℕ}
+use Rattle.usb_base.specs.declared.commands.Cmd.{Cmd}
+use Rattle.usb_base.specs.declared.commands.Cmd.TheVariants as commands
+use Rattle.usb_base.specs.declared.endpoints.EpDesc.{EpDesc}
+use Rattle.script_types.specs.declared.scripts.Script.{Script}
+use Rattle.script_fits.specs.Fits.{IsFit}
+use Rattle.law_scripts.specs.byte_answers.Bytes.{IsByteScript}
+use Rattle.bus_wire.specs.Bus.{Fixed}
+use Rattle.drv_table.specs.declared.rows.DriverRow.{DriverRow}
+use Rattle.drv_table.specs.Offers.{IsOffered}
+use Rattle.drv_table.specs.Rows.{driver_row}
+use Rattle.law_world_memory.specs.framed_memory.Isochronous.{NumbersFit}
+use Rattle.law_driver.specs.queued_drivers.Queued.{FitsKind}
+use Rattle.bus_world.specs.World.{World, driver_parts, driver_next, controller_next, commanded}
+use Rattle.bus_world.specs.Opening.{opening_world}
+use Rattle.law_world_memory.specs.Mixed.{Standing, IsMixedAt, IsMixedWorld}
+
+abbrev pub NewWorldIsMixed : Type 0
+NewWorldIsMixed = (s : Script) → IsFit s → IsByteScript s → IsMixedWorld (opening_world s)
+
+abbrev pub ControllerKeepsMixed : Type 0
+ControllerKeepsMixed = (fixed : Fixed) (w : World) → IsMixedWorld w → IsMixedWorld (controller_next fixed w)
+
+abbrev pub RowKeepsMixed : DriverRow → Type 0
+RowKeepsMixed row = (s : Standing) (w : World) → IsMixedAt s w → driver_row (driver_parts w) ≡ row → IsMixedWorld (driver_next w)
+
+abbrev pub DriverKeepsMixed : Type 0
+DriverKeepsMixed = (w : World) → IsMixedWorld w → IsMixedWorld (driver_next w)
+
+pub record IsMixed (x : EpDesc) : Type 0 where
+  pub numbers : NumbersFit x
+  pub kind : FitsKind x
+
+abbrev pub OpensMixed : Cmd → Type 0
+OpensMixed (commands.OpenEp x) = IsMixed x
+OpensMixed _ = Unit {0}
+
+abbrev pub CommandKeepsMixed : Type 0
+CommandKeepsMixed = (w : World) (line : ℕ) (cmd : Cmd) → OpensMixed cmd → IsOffered w.driver.room cmd → IsMixedWorld w → IsMixedWorld (commanded w line cmd)

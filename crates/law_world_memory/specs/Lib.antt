@@ -1,0 +1,10 @@
+pub mod owned_blocks
+pub mod Mixed
+pub mod Laws
+pub mod Scripts
+pub mod MicrophoneSamples
+pub mod PlacedLaws
+pub mod Samples
+pub mod Reasons
+pub mod running_worlds
+pub mod framed_memory

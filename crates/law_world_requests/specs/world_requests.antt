@@ -1,0 +1,4 @@
+pub mod Requesting
+pub mod Samples
+pub mod Recording
+pub mod Along

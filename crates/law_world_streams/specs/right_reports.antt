@@ -1,0 +1,3 @@
+pub mod Ins
+pub mod Laws
+pub mod Samples

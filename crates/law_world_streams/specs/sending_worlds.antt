@@ -1,0 +1,8 @@
+pub mod LeavingSent
+pub mod LeaveSamples
+pub mod ReportLaws
+pub mod ReportSamples
+pub mod Sending
+pub mod WorldLaws
+pub mod Moments
+pub mod Kept

@@ -1,0 +1,5 @@
+pub mod Seats
+pub mod Laws
+pub mod Worlds
+pub mod Turns
+pub mod Samples

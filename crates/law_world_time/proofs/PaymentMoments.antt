@@ -1,0 +1,136 @@
+-- So it is at each moment of the run of a script.
+use Rattle.std.proofs.Common.{◌≡◌, ℕ, List, [], ◌∷◌, Option, Some, None, ap, sym, subst, ◌∙◌, refl}
+use Rattle.script_types.specs.declared.scripts.Script.{Script}
+use Rattle.script_fits.specs.Fits.{IsFit}
+use Rattle.law_scripts.specs.byte_answers.Bytes.{IsByteScript}
+use Rattle.periodic_walk.specs.declared.state.Hand.{Hand}
+use Rattle.periodic_walk.specs.declared.chain.ChainRow.{ChainRow}
+use Rattle.hc_core.specs.declared.controller.MicroframePart.TheVariants.{Over, Periodic}
+use Rattle.hc_core.specs.declared.controller.ControllerRow.{ControllerRow}
+use Rattle.hc_core.specs.declared.controller.ControllerRow.TheVariants as rows
+use Rattle.hc_core.specs.Controller.{Content}
+use Rattle.periodic_walk.specs.Chain.{chain_row}
+use Rattle.bus_wire.specs.Bus.{Fixed, fixed_of}
+use Rattle.bus_world.specs.World.{World, controller_row, controller_parts, controller_next}
+use Rattle.bus_world.specs.Opening.{opening_world}
+use Rattle.bus_world.specs.Budgets.{moment}
+use Rattle.bus_world.proofs.Budgeted.{script_admits}
+use Rattle.claims_world.specs.Memory.{AreOnce}
+use Rattle.law_world_memory.specs.PlacedLaws.{FitsMixed}
+use Rattle.claims_world.specs.Visits.{fetched_by, visited_too, visits_at, visits_after, visits_next, visited}
+use Rattle.law_world_visits.specs.Visited.{IsVisiting}
+use Rattle.law_world_visits.specs.Belonging.{HeadsHaveFields}
+use Rattle.law_world_visits.specs.DescriptorFields.{ItdsStand}
+use Rattle.law_world_visits.specs.InFrames.{AreInTheirFrames}
+use Rattle.claims_world.specs.Carried.{carried}
+use Rattle.law_world_visits.specs.Began.{began_by, began}
+use Rattle.law_world_visits.proofs.ActiveFrames.{scripts_go_on_in_frame}
+use Rattle.law_world_visits.proofs.AheadMoments.{scripts_go_on, began_is_mixed}
+use Rattle.law_world_visits.proofs.InFramesMoments.{in_their_frames}
+use Rattle.law_world_visits.proofs.VisitsKept.{scripts_visit_all}
+use Rattle.law_world_visits.proofs.VisitControlling.{controller_keeps_visiting}
+use Rattle.law_world_visits.proofs.Carrying.{KeepsCarried, carrying, both, both_carried}
+use Rattle.law_world_visits.proofs.BelongMoments.{scripts_keep_fields}
+use Rattle.law_world_visits.proofs.BelongItdMoments.{scripts_keep_itds}
+use Rattle.law_world_time.specs.DataQueues.{ReadsData}
+use Rattle.claims_world.specs.WithinLoad.{begun_too, paid_more, payments_at, payments_after, payments_next, payments}
+use Rattle.law_world_time.specs.Payments.{names_in}
+use Rattle.claims_world.specs.Scripts.{HighPeriodicsOnly}
+use Rattle.law_world_time.specs.PaymentLaws.{HasHighPeriodics, ArePaid, IsWithin, GoesOnPaying, ScriptsPayWithinLoad}
+use Rattle.law_world_time.proofs.DataHeads.{scripts_read_data}
+use Rattle.law_world_time.proofs.PaymentEvents.{controller_keeps_paying, driver_keeps_paying, command_keeps_paying}
+use Rattle.law_world_time.proofs.PaymentSums.{within_load}
+use Rattle.law_world_time.proofs.PaymentOpens.{scripts_have_high}
+
+-- ---- payments are those of the visits
+
+more_names : (n : ℕ) (ps : List (ℕ × ℕ)) → names_in (paid_more n ps) ≡ names_in ps
+more_names n [] = refl
+more_names n (x ∷ ps) = refl
+
+too_names : (o : Option ℕ) (ps : List (ℕ × ℕ)) → names_in (begun_too o ps) ≡ visited_too o (names_in ps)
+too_names None ps = refl
+too_names (Some a) ps = refl
+
+at_names : (o : Option Hand) (row : ChainRow) (cost : ℕ) (ps : List (ℕ × ℕ)) → names_in (payments_at o row cost ps) ≡ visits_at o row (names_in ps)
+at_names None row cost ps = too_names (fetched_by row) ps
+at_names (Some hand) row cost ps = more_names cost ps
+
+after_names : (row : ControllerRow) (c : Content) (left : ℕ) (ps : List (ℕ × ℕ)) → names_in (payments_after row c left ps) ≡ visits_after row c (names_in ps)
+after_names rows.Frame c left ps = at_names c.control.frame.hand (chain_row c.memory c.control.frame.cursor) _ ps
+after_names _ c left ps = refl
+
+pub payments_are_of_visits : (s : Script) (k : ℕ) → names_in (payments s k) ≡ visited s k
+payments_are_of_visits s k =
+    subst (λ (z : List (ℕ × ℕ) × List ℕ). names_in z.0 ≡ z.1) (both_carried payments_next visits_next s [] [] k)
+    (carrying (both payments_next visits_next) (λ w orders z. Unit {0}) (λ w z. names_in z.0 ≡ z.1) s ([], [])
+    (record {
+      controller = λ w orders z known same.
+          after_names (controller_row w) (controller_parts w) (controller_next (fixed_of s) w).control.frame.left z.0
+          ∙ ap (λ (vs : List ℕ). visits_after (controller_row w) (controller_parts w) vs) same;
+      driver = λ w orders z known same. same;
+      command = λ w n cmd rest z known same. same;
+    })
+    (λ j. tt) refl k)
+
+-- ---- along a run
+
+-- what holds at a moment
+pub record HoldsAt (b w : World) (vs : List ℕ) : Type 0 where
+  pub visiting : IsVisiting b w vs
+  pub heads : HeadsHaveFields w.driver w.memory
+  pub itds : ItdsStand w.driver w.memory
+  pub high : HasHighPeriodics w.driver
+  pub reads : ReadsData w
+  pub within : IsWithin b w
+
+abbrev pub ArePaidIn : World → World → List (ℕ × ℕ) → Type 0
+ArePaidIn b w ps = ArePaid b w.driver w.registers.frame_index w.control ps
+
+going : (b w : World) (ps : List (ℕ × ℕ)) → HoldsAt b w (names_in ps) → ArePaidIn b w ps → GoesOnPaying b w ps
+going b w ps h k = record { visiting = h.visiting; heads = h.heads; itds = h.itds; high = h.high; reads = h.reads; within = h.within; paid = k }
+
+module _ (fixed : Fixed) where
+  in_frames_then : (b w : World) (vs : List ℕ) → IsVisiting b w vs → AreInTheirFrames (controller_next fixed w) (visits_after (controller_row w) (controller_parts w) vs)
+  in_frames_then b w vs h =
+      in_their_frames (began_by fixed w b) (controller_next fixed w) (visits_after (controller_row w) (controller_parts w) vs) (controller_keeps_visiting fixed b w vs h)
+
+  keeps_paying : KeepsCarried (both began_by payments_next) fixed (λ w orders z. HoldsAt z.0 w (names_in z.1)) (λ w z. ArePaidIn z.0 w z.1)
+  keeps_paying = record {
+    controller = λ w orders z h paid. controller_keeps_paying fixed z.0 w z.1 (going z.0 w z.1 h paid) (in_frames_then z.0 w (names_in z.1) h.visiting);
+    driver = λ w orders z h paid. driver_keeps_paying z.0 w z.1 (going z.0 w z.1 h paid);
+    command = λ w n cmd rest z h paid. command_keeps_paying z.0 w n cmd z.1 (going z.0 w z.1 h paid);
+  }
+
+over_no : Over ≡ Periodic → ⊥
+over_no e = cc
+
+pub pays_within : (s : Script) → ((k : ℕ) → HoldsAt (began s k) (moment s k).world (visited s k)) → (k : ℕ) → ArePaidIn (began s k) (moment s k).world (payments s k)
+pays_within s holds k =
+    let both_are : (j : ℕ) → carried (both began_by payments_next) s (opening_world s, []) j ≡ (began s j, payments s j) = both_carried began_by payments_next s (opening_world s) [] in
+    subst (λ (z : World × List (ℕ × ℕ)). ArePaidIn z.0 (moment s k).world z.1) (both_are k)
+    (carrying (both began_by payments_next) (λ w orders z. HoldsAt z.0 w (names_in z.1)) (λ w z. ArePaidIn z.0 w z.1) s (opening_world s, []) (keeps_paying (fixed_of s))
+    (λ j.
+    subst (λ (z : World × List (ℕ × ℕ)). HoldsAt z.0 (moment s j).world (names_in z.1)) (sym (both_are j))
+    (subst (λ (vs : List ℕ). HoldsAt (began s j) (moment s j).world vs) (sym (payments_are_of_visits s j)) (holds j)))
+    (record { entries = tt; hand = λ on. absurd (over_no on) }) k)
+
+pub scripts_are_paid : (s : Script) → IsFit s → IsByteScript s → FitsMixed s → HighPeriodicsOnly s → (k : ℕ) → ArePaidIn (began s k) (moment s k).world (payments s k)
+scripts_are_paid s fit bytes opens only k =
+    pays_within s
+    (λ j.
+    record {
+      visiting = scripts_visit_all s fit bytes opens j;
+      heads = scripts_keep_fields s fit bytes opens j;
+      itds = scripts_keep_itds s fit bytes opens j;
+      high = scripts_have_high s fit bytes opens only j;
+      reads = scripts_read_data s fit bytes opens j;
+      within = record { began = began_is_mixed s fit bytes opens j; old = scripts_go_on s fit bytes opens j; in_frame = scripts_go_on_in_frame s fit bytes opens j };
+    }) k
+
+pub scripts_pay : ScriptsPayWithinLoad
+scripts_pay s fit bytes opens only k =
+    let visiting : IsVisiting (began s k) (moment s k).world (visited s k) = scripts_visit_all s fit bytes opens k in
+    within_load (began s k) (moment s k).world (payments s k) (began_is_mixed s fit bytes opens k) (script_admits s fit k).fits
+    (subst AreOnce (sym (payments_are_of_visits s k)) visiting.visits.behind.once)
+    (scripts_are_paid s fit bytes opens only k)

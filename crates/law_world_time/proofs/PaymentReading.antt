@@ -1,0 +1,272 @@
+-- Where periodic endpoints are of high speed, the walk of the frames reads their queue heads and iTDs alone; and an iTD with something active in this microframe is one that was active as the
+-- microframe began, of a placed isochronous endpoint in a frame of its placement (EHCI 1.0, 3.1, 3.3, 3.6, 4.6, 4.7 and 4.10).
+use Rattle.std.proofs.Common.{◌≡◌, ℕ, ◌+◌, ◌*◌, ◌%◌, ◌<◌, ◌≤◌, Bool, true, false, List, length, slice_get, Option, Some, None, option_map, ap, refl, sym, subst, ◌∙◌, ⊎_elim, arith}
+use Rattle.std.specs.Prelude.{max}
+use Rattle.std.proofs.lemmas.Bool.{true≢false}
+use Rattle.std.proofs.lemmas.Option.{same_Some}
+use Rattle.word_mem.specs.Memory.{Mem, word_at}
+use Rattle.link_words.specs.Layout.{bits}
+use Rattle.link_words.specs.declared.kinds.Link.{Link}
+use Rattle.link_words.specs.declared.kinds.Link.TheVariants as links
+use Rattle.qh_qtd.specs.declared.queue_head.Qh.{Qh}
+use Rattle.itd_sitd.specs.declared.itd.Itd.{Itd}
+use Rattle.itd_sitd.specs.declared.sitd.Sitd.{Sitd}
+use Rattle.itd_sitd.specs.Itd.{slot_of}
+use Rattle.mem_queues.specs.Structures.{queue_head_at_address}
+use Rattle.mem_descriptors.specs.Descriptors.{itd_at_address, sitd_at_address}
+use Rattle.bandwidth.specs.Sums.{is_active}
+use Rattle.drv_periodic_table.specs.Periodic.{is_periodic, note_at}
+use Rattle.periodic_walk.specs.declared.state.Hand.{Hand}
+use Rattle.periodic_walk.specs.declared.state.Hand.TheVariants as hands
+use Rattle.periodic_walk.specs.declared.chain.ChainRow.TheVariants as chains
+use Rattle.periodic_walk.specs.Chain.{chain_row, queue_fetch, itd_fetch, sitd_fetch}
+use Rattle.hc_core.specs.declared.controller.MicroframePart.TheVariants.{Periodic}
+use Rattle.hc_core.specs.Controller.{frame_place}
+use Rattle.drv_table.specs.declared.content.Transfer.{Transfer}
+use Rattle.drv_table.specs.DriverContent.{DriverContent}
+use Rattle.drv_table.specs.Kinds.{is_iso}
+use Rattle.claims_driver.specs.Owners.{views_of}
+use Rattle.claims_driver.specs.Leaving.{HasOwners}
+use Rattle.law_driver_ring.specs.Inventory.{OfSplitIsochronous, sort_of, sorts_of, IsDriven}
+use Rattle.law_driver.proofs.lemmas.chained_transfers.Harvesting.{waits_is}
+use Rattle.law_structures.specs.lent_structures.Structures.{Isochronous, SplitIsochronous, Structures, StructureSets, HoldsIsochronous}
+use Rattle.claims_driver.specs.DueMembers.{framed_to}
+use Rattle.law_frames.specs.Met.{AQueue, AnItd, ASitd, LeadsTo}
+use Rattle.law_descriptors.specs.Described.{HasDescriptor, AreDescribed}
+use Rattle.law_descriptors.specs.Both.{owns, both}
+use Rattle.law_descriptors.specs.Meeting.{met}
+use Rattle.law_descriptors.proofs.Standing.{both_on, both_off, IsAtOwner, on_owner}
+use Rattle.law_descriptors.proofs.Returning.{same_blocks}
+use Rattle.law_budgets.specs.visit_prices.Spent.{IsHeadOf}
+use Rattle.bus_world.specs.World.{World, controller_parts}
+use Rattle.law_world_memory.specs.Mixed.{Standing, IsMixedAt}
+use Rattle.law_world_visits.specs.Ranks.{name_of}
+use Rattle.claims_world.specs.Visits.{frame_in}
+use Rattle.law_world_visits.specs.Visited.{link_ahead, IsVisiting}
+use Rattle.law_world_visits.specs.Belonging.{placed_of, IsQueueAt, IsDescriptorAt, IsHarvestedAt, HeadsHaveFields}
+use Rattle.law_world_visits.specs.DescriptorFields.{IsReadItd, ItdsStand}
+use Rattle.law_world_visits.specs.OneDescriptor.{IsActiveDescriptor, IsActiveSome}
+use Rattle.law_world_visits.specs.Began.{IsAhead}
+use Rattle.law_world_visits.proofs.ActiveStands.{active_is_framed}
+use Rattle.law_world_visits.proofs.BelongReads.{HasReadFields, read_fields, head_is_read}
+use Rattle.law_world_visits.proofs.BelongQueues.{queue_belongs}
+use Rattle.law_world_visits.proofs.BelongDescriptors.{descriptor_belongs, not_driven}
+use Rattle.law_world_visits.proofs.BelongItds.{read_is, itd_is_read, harvested_is_read, told_is}
+use Rattle.law_world_visits.proofs.OneDescriptorMet.{met_is_active}
+use Rattle.law_world_time.specs.Charges.{TakesData}
+use Rattle.law_world_time.specs.DataQueues.{ReadsData}
+use Rattle.law_world_time.specs.PaymentLaws.{by_descriptor, IsHighAndSome, HasHighPeriodics, IsWithin}
+use Rattle.law_world_time.proofs.PaymentFrames.{chained_active}
+use Rattle.law_world_time.proofs.PaymentIsochronous.{one_transfer, iso_now}
+use Rattle.law_world_time.proofs.PaymentWalking.{IsHeadThere, IsItdThere, ReadsStructures}
+
+-- ---- what a fetch reads
+
+queue_fetched : (b a : ℕ) (q : Qh) (o : Option Qh) → queue_fetch b o ≡ chains.Queue a q → (b ≡ a) × (o ≡ Some q)
+queue_fetched b a q None is = absurd (cc)
+queue_fetched b a q (Some p) is = (cc, ap Some (cc))
+
+itd_no_queue : (b a : ℕ) (q : Qh) (o : Option Itd) → itd_fetch b o ≡ chains.Queue a q → ⊥
+itd_no_queue b a q None is = cc
+itd_no_queue b a q (Some v) is = cc
+
+sitd_no_queue : (b a : ℕ) (q : Qh) (o : Option Sitd) → sitd_fetch b o ≡ chains.Queue a q → ⊥
+sitd_no_queue b a q None is = cc
+sitd_no_queue b a q (Some v) is = cc
+
+queue_cursor : (m : Mem) (cursor : Link) (a : ℕ) (q : Qh) → chain_row m cursor ≡ chains.Queue a q → (cursor ≡ links.Qh a) × (queue_head_at_address m a ≡ Some q)
+queue_cursor m (links.Itd b) a q is = absurd (itd_no_queue b a q (itd_at_address m b) is)
+queue_cursor m (links.Qh b) a q is =
+    let f = queue_fetched b a q (queue_head_at_address m b) is in
+    (ap links.Qh f.0, subst (λ (i : ℕ). queue_head_at_address m i ≡ Some q) f.0 f.1)
+queue_cursor m (links.Sitd b) a q is = absurd (sitd_no_queue b a q (sitd_at_address m b) is)
+queue_cursor m _ a q is = absurd (cc)
+
+itd_fetched : (b a : ℕ) (v : Itd) (o : Option Itd) → itd_fetch b o ≡ chains.Itd a v → (b ≡ a) × (o ≡ Some v)
+itd_fetched b a v None is = absurd (cc)
+itd_fetched b a v (Some p) is = (cc, ap Some (cc))
+
+queue_no_itd : (b a : ℕ) (v : Itd) (o : Option Qh) → queue_fetch b o ≡ chains.Itd a v → ⊥
+queue_no_itd b a v None is = cc
+queue_no_itd b a v (Some q) is = cc
+
+sitd_no_itd : (b a : ℕ) (v : Itd) (o : Option Sitd) → sitd_fetch b o ≡ chains.Itd a v → ⊥
+sitd_no_itd b a v None is = cc
+sitd_no_itd b a v (Some q) is = cc
+
+itd_cursor : (m : Mem) (cursor : Link) (a : ℕ) (v : Itd) → chain_row m cursor ≡ chains.Itd a v → (cursor ≡ links.Itd a) × (itd_at_address m a ≡ Some v)
+itd_cursor m (links.Itd b) a v is =
+    let f = itd_fetched b a v (itd_at_address m b) is in
+    (ap links.Itd f.0, subst (λ (i : ℕ). itd_at_address m i ≡ Some v) f.0 f.1)
+itd_cursor m (links.Qh b) a v is = absurd (queue_no_itd b a v (queue_head_at_address m b) is)
+itd_cursor m (links.Sitd b) a v is = absurd (sitd_no_itd b a v (sitd_at_address m b) is)
+itd_cursor m _ a v is = absurd (cc)
+
+sitd_fetched : (b a : ℕ) (v : Sitd) (o : Option Sitd) → sitd_fetch b o ≡ chains.Sitd a v → b ≡ a
+sitd_fetched b a v None is = absurd (cc)
+sitd_fetched b a v (Some p) is = cc
+
+queue_no_sitd : (b a : ℕ) (v : Sitd) (o : Option Qh) → queue_fetch b o ≡ chains.Sitd a v → ⊥
+queue_no_sitd b a v None is = cc
+queue_no_sitd b a v (Some q) is = cc
+
+itd_no_sitd : (b a : ℕ) (v : Sitd) (o : Option Itd) → itd_fetch b o ≡ chains.Sitd a v → ⊥
+itd_no_sitd b a v None is = cc
+itd_no_sitd b a v (Some q) is = cc
+
+sitd_cursor : (m : Mem) (cursor : Link) (a : ℕ) (v : Sitd) → chain_row m cursor ≡ chains.Sitd a v → cursor ≡ links.Sitd a
+sitd_cursor m (links.Itd b) a v is = absurd (itd_no_sitd b a v (itd_at_address m b) is)
+sitd_cursor m (links.Qh b) a v is = absurd (queue_no_sitd b a v (queue_head_at_address m b) is)
+sitd_cursor m (links.Sitd b) a v is = ap links.Sitd (sitd_fetched b a v (sitd_at_address m b) is)
+sitd_cursor m _ a v is = absurd (cc)
+
+-- ---- in a world
+
+few_transactions : (mult multi w : ℕ) → mult ≡ bits 31 30 w → max 1 mult ≡ multi → multi ≤ 3
+few_transactions mult multi w is most = omega (arith, is, most)
+
+-- ---- no siTD is met
+
+no_sitd_there : (split : Bool) (part : Structures) (n : ℕ) (v : Sitd) → split ≡ false → part n ≡ Some (SplitIsochronous v) → HasDescriptor split part n → ⊥
+no_sitd_there false part n v whole here h = let e : SplitIsochronous v ≡ Isochronous h.itd = same_Some (SplitIsochronous v) (Isochronous h.itd) (sym here ∙ h.here) in cc
+no_sitd_there true part n v whole here h = true≢false whole
+
+module _ (d : DriverContent) (has : HasOwners d) (descs parts : StructureSets) (driven : IsDriven (views_of d) (sorts_of parts)) (described : AreDescribed (views_of d) descs) where
+  not_whole : (n first : ℕ) (v : Sitd) → both descs parts n n ≡ Some (SplitIsochronous v) → n ≡ 32 * first → (note_at d.periodic.notes first).split ≡ false → ⊥
+  not_whole n first v here at whole = by (owns descs n) refl
+    where
+      by : (c : Bool) → owns descs n ≡ c → ⊥
+      by true on =
+          let a : IsAtOwner (views_of d) n = on_owner (views_of d) descs n described on in
+          let same : first ≡ a.transfer.first = same_blocks first a.transfer.first (sym at ∙ a.name) in
+          let h = described.descriptors a.number a.transfer a.lent in
+          no_sitd_there ((views_of d).descriptor a.transfer.first).split (descs n) n v (ap (λ (i : ℕ). (note_at d.periodic.notes i).split) (sym same) ∙ whole)
+          (ap (λ (part : Structures). part n) (sym (both_on descs parts n on)) ∙ here)
+          (subst (λ (i : ℕ). HasDescriptor ((views_of d).descriptor a.transfer.first).split (descs i) i) (sym a.name) h)
+      by false off =
+          not_driven d has descs parts driven described n n OfSplitIsochronous
+          (driven.only n n OfSplitIsochronous (ap (λ (part : Structures). option_map sort_of (part n)) (sym (both_off descs parts n off)) ∙ ap (option_map sort_of) here)) refl
+
+-- ---- a world
+
+module _ (b : World) (s : Standing) (w : World) (k : IsMixedAt s w) (heads : HeadsHaveFields w.driver w.memory) (itds : ItdsStand w.driver w.memory)
+    (high : HasHighPeriodics w.driver) (data_alone : ReadsData w) (within : IsWithin b w) where
+  its : {a : ℕ} (q : IsQueueAt w.driver a) → IsHighAndSome q.belongs.endpoint.desc
+  its q = high.endpoints q.belongs.number q.belongs.endpoint q.belongs.here (ap is_periodic q.kind)
+
+  leads : w.control.part ≡ Periodic → LeadsTo (met w.driver s.recent) w.control.frame.cursor
+  leads periodic = (k.now.framed.runs.walk periodic).cursor
+
+  head : (a : ℕ) (q : Qh) → w.control.part ≡ Periodic → chain_row w.memory w.control.frame.cursor ≡ chains.Queue a q → IsHeadThere w.driver a q
+  head a q periodic is =
+      let c = queue_cursor w.memory w.control.frame.cursor a q is in
+      let on : met w.driver s.recent a ≡ Some AQueue = subst (LeadsTo (met w.driver s.recent)) c.0 (leads periodic) in
+      let h : IsQueueAt w.driver a = queue_belongs s w a k on in
+      let one = its h in
+      let of : IsHeadOf (placed_of h.belongs) q = head_is_read w a q h heads one.speed c.1 in
+      let sends : q.token.active ≡ true → q.token.pid ≤ 1
+      = data_alone.heads h.belongs.number h.belongs.endpoint q h.belongs.here h.kind h.belongs.kept (ap (queue_head_at_address w.memory) (sym h.name) ∙ c.1) in
+      let read : HasReadFields (word_at w.memory (a + 4)) (word_at w.memory (a + 8)) q = read_fields w.memory a q c.1 in
+      record { queue = h; head = of; few = few_transactions q.mult h.belongs.endpoint.desc.multi (word_at w.memory (a + 8)) read.mult of.multi; pid = sends }
+
+  no_sitd_met : (n : ℕ) → met w.driver s.recent n ≡ Some ASitd → ⊥
+  no_sitd_met n is =
+      let f = k.now.framed in
+      let m = f.runs.members n ASitd is in
+      ⊎_elim
+      (λ (q : IsDescriptorAt w.driver n).
+      not_whole w.driver f.place.sound.owners s.descs s.parts f.driven f.described n q.transfer.first m.sitd m.here q.name (high.whole q.number q.transfer q.there q.sort q.held))
+      (λ (q : IsHarvestedAt w.driver n).
+      not_whole w.driver f.place.sound.owners s.descs s.parts f.driven f.described n q.transfer.first m.sitd m.here q.name (high.whole q.number q.transfer q.there q.sort q.held))
+      (descriptor_belongs s w n ASitd k is (λ same. cc))
+
+  -- ---- an iTD with something active in this microframe
+
+  module _ (a : ℕ) (v : Itd) (periodic : w.control.part ≡ Periodic) (free : w.control.frame.hand ≡ None) (is : chain_row w.memory w.control.frame.cursor ≡ chains.Itd a v)
+      (on : (slot_of (w.control.frame.index % 8) v).active ≡ true) where
+    abbrev u : ℕ
+    u = w.control.frame.index % 8
+
+    small : w.control.frame.index % 8 < 8
+    small = omega arith
+
+    at : w.control.frame.cursor ≡ links.Itd a
+    at = (itd_cursor w.memory w.control.frame.cursor a v is).0
+
+    reads : itd_at_address w.memory a ≡ Some v
+    reads = (itd_cursor w.memory w.control.frame.cursor a v is).1
+
+    is_met : met w.driver s.recent a ≡ Some AnItd
+    is_met = subst (LeadsTo (met w.driver s.recent)) at (leads periodic)
+
+    ahead : IsAhead w a
+    ahead = record { periodic = periodic; next = ap (λ (o : Option Hand). name_of (link_ahead o w.control.frame.cursor)) free ∙ ap name_of at }
+
+    is_active_one : IsActiveSome w.driver w.memory a
+    is_active_one =
+        let m = k.now.framed.runs.members a AnItd is_met in
+        let holds : HoldsIsochronous w.memory a m.itd = k.now.framed.runs.ring.tells.each a a (Isochronous m.itd) m.here in
+        let same : v ≡ m.itd = read_is w.memory a v reads ∙ told_is w.memory a m.itd holds in
+        met_is_active s w a u m.itd k m.here small (ap (λ (z : Itd). (slot_of (w.control.frame.index % 8) z).active) (sym same) ∙ on)
+
+    there_by : (q : IsDescriptorAt w.driver a) → IsItdThere b w.driver (controller_parts w) a v
+    there_by q =
+        let one = is_active_one in
+        let i = one.is in
+        let told = waits_is q.belongs.number q.transfer q.waits in
+        let same : i.transfer ≡ q.transfer = one_transfer s w a k q i.number i.transfer i.here i.descriptor i.held i.at in
+        let at_e : one.endpoint ≡ q.belongs.number = sym i.endpoint ∙ ap (λ (z : Transfer). z.endpoint) same ∙ told.0 in
+        let at_f : one.frame ≡ frame_in w.control.frame.index = within.in_frame one.endpoint one.frame a ahead i in
+        let was : IsActiveDescriptor b.driver b.memory q.belongs.number (frame_in w.control.frame.index) a
+        = subst (λ (f : ℕ). IsActiveDescriptor b.driver b.memory q.belongs.number f a) at_f
+        (subst (λ (e : ℕ). IsActiveDescriptor b.driver b.memory e one.frame a) at_e (within.old one.endpoint one.frame a ahead i)) in
+        let n = iso_now s w a k q AnItd is_met in
+        let read : IsReadItd (placed_of q.belongs) v = itd_is_read s w a v q k is_met itds.fields reads in
+        let periodic_kind = ap is_periodic q.kind in
+        let some : 1 ≤ q.belongs.endpoint.desc.multi = (high.endpoints q.belongs.number q.belongs.endpoint q.belongs.here periodic_kind).some in
+        record {
+          of = placed_of q.belongs;
+          owned = by_descriptor q.belongs.number n.its n.same was;
+          descriptor = read.of;
+          some = (let m = read.multi in omega (arith, some, m));
+          multi = (let m = read.multi in omega (arith, m));
+          own = read.own (w.control.frame.index % 8) small on;
+          active = active_by i same at_f told.0 told.1 q.belongs.endpoint.chained refl;
+        }
+      where
+        active_by : {e f : ℕ} (i : IsActiveDescriptor w.driver w.memory e f a) → i.transfer ≡ q.transfer → f ≡ frame_in w.control.frame.index → q.transfer.endpoint ≡ q.belongs.number → q.transfer.reported ≡ false
+            → (c : Bool) → q.belongs.endpoint.chained ≡ c → is_active q.belongs.placement (frame_in w.control.frame.index) ≡ true
+        active_by {e} {f} i same at_f told untold c is_c =
+            let here : slice_get w.driver.endpoints i.transfer.endpoint ≡ Some q.belongs.endpoint
+            = ap (slice_get w.driver.endpoints) (ap (λ (z : Transfer). z.endpoint) same ∙ told) ∙ q.belongs.here in
+            let low = active_is_framed s w e f a k i in
+            ap (is_active q.belongs.placement) (sym (i.frame ∙ at_f)) ∙ by c is_c here (ap (λ (z : Transfer). z.reported) same ∙ untold) low
+          where
+            by : (c : Bool) → q.belongs.endpoint.chained ≡ c → slice_get w.driver.endpoints i.transfer.endpoint ≡ Some q.belongs.endpoint → i.transfer.reported ≡ false
+                → i.number < framed_to w.driver.command w.driver.made (length w.driver.transfers) → is_active q.belongs.placement (note_at w.driver.periodic.notes i.transfer.first).frame ≡ true
+            by true chained here off low =
+                chained_active w.driver i.number i.transfer q.belongs.endpoint q.belongs.placement k.now.in_frames i.here i.descriptor off here (ap is_iso q.kind) q.belongs.placed chained low
+            by false out here off low = high.outside i.number i.transfer q.belongs.endpoint q.belongs.placement i.here i.descriptor i.held off here q.belongs.placed out
+
+    itd_there : IsItdThere b w.driver (controller_parts w) a v
+    itd_there =
+        ⊎_elim {C = IsItdThere b w.driver (controller_parts w) a v} there_by
+        (λ (h : IsHarvestedAt w.driver a). absurd (true≢false (sym on ∙ harvested_is_read s w a v h k is_met itds.served reads (w.control.frame.index % 8) small)))
+        (descriptor_belongs s w a AnItd k is_met (λ same. cc))
+
+  takes_data : (hand : Hand) → w.control.part ≡ Periodic → w.control.frame.hand ≡ Some hand → TakesData (frame_place (controller_parts w)) hand
+  takes_data (hands.Queue h) periodic held = λ a t is. data_alone.takes h a t periodic held is
+  takes_data _ periodic held = tt
+
+  structures : ReadsStructures b w.driver (controller_parts w)
+  structures = record {
+    heads = λ a q periodic free is. head a q periodic is;
+    itds = λ a v periodic free is on. itd_there a v periodic free is on;
+    no_sitd = λ a v periodic free is.
+        no_sitd_met a (subst (LeadsTo (met w.driver s.recent)) (sitd_cursor w.memory w.control.frame.cursor a v is) (leads periodic));
+    takes = takes_data;
+  }
+
+pub reads_structures : (b w : World) (vs : List ℕ) → IsVisiting b w vs → HeadsHaveFields w.driver w.memory → ItdsStand w.driver w.memory → HasHighPeriodics w.driver → ReadsData w → IsWithin b w
+    → ReadsStructures b w.driver (controller_parts w)
+reads_structures b w vs g heads itds high data_alone within = structures b g.mixed.standing w g.mixed.mixed heads itds high data_alone within

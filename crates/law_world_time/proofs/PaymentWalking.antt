@@ -1,0 +1,304 @@
+-- An event of the controller adds to what the newest visit cost, and no more than the placement of its endpoint allows (USB 2.0, 5.9 and 5.11.3; EHCI 1.0, 3.3, 4.6, 4.7, 4.10 and 4.12).
+use Rattle.std.proofs.Common.{◌≡◌, ℕ, ◌+◌, ◌-◌, ◌/◌, ◌%◌, ◌≤◌, Bool, true, false, List, [], ◌∷◌, Option, Some, None, ap, refl, sym, subst, ◌∙◌, ⊎_elim, arith, inl, inr}
+use Rattle.std.specs.Prelude.{if◌then◌else◌}
+use Rattle.std.specs.List.{AllByRecursion}
+use Rattle.usb_base.specs.declared.packets.Ask.{Ask}
+use Rattle.usb_base.specs.declared.packets.Reply.{Reply}
+use Rattle.usb_base.specs.declared.packets.Reply.TheVariants.{Silent}
+use Rattle.word_mem.specs.Memory.{reaches}
+use Rattle.op_registers.specs.Events.{after_begin}
+use Rattle.hc_iso.specs.declared.held.HeldItd.{HeldItd}
+use Rattle.hc_iso.specs.declared.held.IsoEnd.{IsoEnd}
+use Rattle.hc_iso.specs.Itd.{itd_transaction, fetched_itd}
+use Rattle.qh_qtd.specs.declared.queue_head.Qh.{Qh}
+use Rattle.itd_sitd.specs.declared.itd.Itd.{Itd}
+use Rattle.itd_sitd.specs.Itd.{slot_of}
+use Rattle.itd_sitd.specs.declared.sitd.Sitd.{Sitd}
+use Rattle.bandwidth.specs.declared.placements.Placed.{Placed}
+use Rattle.bandwidth.specs.Placements.{has}
+use Rattle.bandwidth.specs.Sums.{is_active}
+use Rattle.periodic_walk.specs.declared.state.Hand.{Hand}
+use Rattle.periodic_walk.specs.declared.state.Hand.TheVariants as hands
+use Rattle.periodic_walk.specs.declared.chain.ChainRow.{ChainRow}
+use Rattle.periodic_walk.specs.declared.chain.ChainRow.TheVariants as chains
+use Rattle.periodic_walk.specs.declared.itd.ItdRow.{ItdRow}
+use Rattle.periodic_walk.specs.declared.itd.ItdRow.TheVariants as itds
+use Rattle.periodic_walk.specs.Walk.{Walk as FrameWalk}
+use Rattle.periodic_walk.specs.Place.{FramePlace, passing, HasEffect}
+use Rattle.periodic_walk.specs.Itd.{timed_row, ended_row, itd_row, itd_effect}
+use Rattle.periodic_walk.specs.Chain.{chain_row, chain_walk, chain_step}
+use Rattle.periodic_walk.specs.Rows.{step_at, effect_at, effect_of}
+use Rattle.hc_core.specs.declared.controller.MicroframePart.TheVariants.{Over, Periodic}
+use Rattle.hc_core.specs.declared.controller.ControllerRow.{ControllerRow}
+use Rattle.hc_core.specs.declared.controller.ControllerRow.TheVariants as rows
+use Rattle.hc_core.specs.Controller.{Control, Content, element_address, begun_at, ended, entered, frame_place, walk_place, walk_step, part_after, Walks, HasRow}
+use Rattle.drv_table.specs.DriverContent.{DriverContent}
+use Rattle.law_budgets.specs.visit_prices.Spent.{IsHeadOf, IsItdOf}
+use Rattle.law_budgets.specs.visit_prices.Prices.{after}
+use Rattle.law_budgets.specs.visit_prices.Fetched.{queue_copy, itd_copy}
+use Rattle.bus_world.specs.World.{World}
+use Rattle.law_world_memory.proofs.lemmas.framed_memory.Index.{ring_index, frame_index}
+use Rattle.law_world_visits.specs.Began.{began_at}
+use Rattle.claims_world.specs.Visits.{visits_after, visits_at, frame_in}
+use Rattle.law_world_time.specs.Charges.{IsInHandOf, TakesData, IsHeldFor, IsHeldStill, IsSummed, Begins}
+use Rattle.law_world_time.specs.ChargeLoads.{IsPaidIn}
+use Rattle.law_world_visits.specs.Belonging.{placed_of, IsQueueAt}
+use Rattle.law_world_visits.proofs.VisitWalking.{over_no, async_no}
+use Rattle.claims_world.specs.WithinLoad.{paid_more, payments_at, payments_after, microframe_in}
+use Rattle.law_world_time.specs.Payments.{names_in}
+use Rattle.law_world_time.specs.PaymentLaws.{IsOwnedBy, by_queue, IsPayment, IsHandPaid, IsPassing, ArePaidByHand, ArePaid}
+use Rattle.law_world_time.proofs.ChargeEvents.{leads_charged}
+use Rattle.law_world_time.proofs.ChargeSums.{charges_summed, head_begins, itd_begins}
+use Rattle.law_world_time.proofs.ChargeLoads.{held_paid}
+
+-- ---- the microframe among those of the frame list
+
+same_part : (index : ℕ) → index % 8192 % 8 ≡ index % 8
+same_part index = omega arith
+
+pub same_frame : (index : ℕ) → microframe_in index / 8 ≡ frame_in index
+same_frame index = omega arith
+
+in_hand_of : (x : Placed) (u v : ℕ) (hand : Hand) → v % 8 ≡ u % 8 → IsInHandOf x u hand → IsInHandOf x v hand
+in_hand_of x u v (hands.Queue h) same held =
+    record { head = held.head; few = held.few; pid = held.pid; room = held.room; own = λ some. ap (has x.placement.smask) same ∙ held.own some }
+in_hand_of x u v (hands.Itd h) same held =
+    let slots = ap (λ (i : ℕ). (slot_of i h.itd).active) same in
+    record {
+      descriptor = held.descriptor;
+      packets = held.packets;
+      room = held.room;
+      slot = held.slot ∙ sym slots;
+      placed = λ on. ap (has x.placement.smask) same ∙ held.placed (sym slots ∙ on);
+      own = λ some. ap (has x.placement.smask) same ∙ held.own some;
+    }
+in_hand_of x u v (hands.Sitd h) same held = absurd held
+
+pub held_in : (x : Placed) (index : ℕ) (hand : Hand) (paid : ℕ) → IsHeldFor x index hand paid → IsHeldFor x (microframe_in index) hand paid
+held_in x index hand paid held = record { of = in_hand_of x index (microframe_in index) hand (same_part index) held.of; charged = held.charged }
+
+-- ---- what is told of the place where the walk is
+
+-- the queue head there is that of a placed interrupt endpoint
+pub record IsHeadThere (d : DriverContent) (a : ℕ) (q : Qh) : Type 0 where
+  pub queue : IsQueueAt d a
+  pub head : IsHeadOf (placed_of queue.belongs) q
+  pub few : queue.belongs.endpoint.desc.multi ≤ 3
+  pub pid : q.token.active ≡ true → q.token.pid ≤ 1
+
+-- a descriptor there of which something is active in this microframe is that of a placed isochronous endpoint
+pub record IsItdThere (b : World) (d : DriverContent) (c : Content) (a : ℕ) (v : Itd) : Type 0 where
+  pub of : Placed
+  pub owned : IsOwnedBy b d c.registers.frame_index (frame_in c.control.frame.index) a of
+  pub descriptor : IsItdOf of v
+  pub some : 1 ≤ v.multi
+  pub multi : v.multi ≤ of.want.multi
+  pub own : has of.placement.smask (c.control.frame.index % 8) ≡ true
+  pub active : is_active of.placement (frame_in c.control.frame.index) ≡ true
+
+-- no siTD is read, and a qTD that is taken is of an IN or an OUT
+pub record ReadsStructures (b : World) (d : DriverContent) (c : Content) : Type 0 where
+  pub heads : (a : ℕ) (q : Qh) → c.control.part ≡ Periodic → c.control.frame.hand ≡ None → chain_row c.memory c.control.frame.cursor ≡ chains.Queue a q → IsHeadThere d a q
+  pub itds : (a : ℕ) (v : Itd) → c.control.part ≡ Periodic → c.control.frame.hand ≡ None → chain_row c.memory c.control.frame.cursor ≡ chains.Itd a v
+      → (slot_of (c.control.frame.index % 8) v).active ≡ true → IsItdThere b d c a v
+  pub no_sitd : (a : ℕ) (v : Sitd) → c.control.part ≡ Periodic → c.control.frame.hand ≡ None → chain_row c.memory c.control.frame.cursor ≡ chains.Sitd a v → ⊥
+  pub takes : (hand : Hand) → c.control.part ≡ Periodic → c.control.frame.hand ≡ Some hand → TakesData (frame_place c) hand
+
+abbrev InFrame : DriverContent → ℕ → ℕ → Type 0
+InFrame d index v = (b : IsQueueAt d v) → is_active b.belongs.placement (frame_in index) ≡ true
+
+-- ---- an iTD of which nothing is active in this microframe
+
+passing_copy : (a u : ℕ) (v : Itd) (ps : List (ℕ × ℕ)) → (slot_of u v).active ≡ false → IsPassing (hands.Itd (fetched_itd a u v)) ((a, 0) ∷ ps)
+unfolding fetched_itd
+passing_copy a u v ps off = record { copy = fetched_itd a u v; is = refl; goes_on = refl; off = off; address = a; rest = ps; are = refl }
+
+skips : (left : ℕ) (h : HeldItd) → h.ended ≡ None → h.slot.active ≡ false → itd_row left h ≡ itds.Skip
+skips left h goes_on off = ap (λ (o : Option IsoEnd). ended_row left h o) goes_on ∙ ap (λ (b : Bool). if b then timed_row left (itd_transaction h) else itds.Skip) off
+
+-- ---- an event
+
+module _ {W : Type 0} (begins_with : W → ℕ → Bool → W → Type 0) (transacts : W → Ask → List ℕ → Reply → W → Type 0) (old b : World) (d : DriverContent) (c : Content) (wire : W) (n : Content) (after_wire : W)
+    (ps : List (ℕ × ℕ)) (reads : ReadsStructures b d c) (k : ArePaid b d c.registers.frame_index c.control ps) where
+  abbrev now : ℕ
+  now = c.registers.frame_index
+
+  abbrev Entries : ℕ → List (ℕ × ℕ) → Type 0
+  Entries index xs = AllByRecursion (IsPayment b d c.registers.frame_index index) xs
+
+  abbrev Paid : Control → List (ℕ × ℕ) → Type 0
+  Paid to xs = ArePaid b d c.registers.frame_index to xs
+
+  -- the periodic part is over
+  over : (to : Control) → (to.part ≡ Periodic → ⊥) → to.frame.index ≡ c.control.frame.index → Paid to ps
+  over to out same = record { entries = subst (λ (i : ℕ). Entries i ps) (sym same) k.entries; hand = λ on. absurd (out on) }
+
+  -- a queue head is fetched
+  fetched : (a : ℕ) (q : Qh) → c.control.part ≡ Periodic → c.control.frame.hand ≡ None → chain_row c.memory c.control.frame.cursor ≡ chains.Queue a q
+      → n.control.frame ≡ chain_walk (chains.Queue a q) c.control.frame → InFrame d n.control.frame.index a → Paid n.control ((a, 0) ∷ ps)
+  fetched a q periodic free is walk in_frame =
+      let there : IsHeadThere d a q = reads.heads a q periodic free is in
+      let x : Placed = placed_of there.queue.belongs in
+      let begins : Begins x (frame_place c) (hands.Queue (queue_copy a q)) (after (frame_place c) Silent)
+      = head_begins x (frame_place c) a q Silent (record { free = free; row = is; head = there.head; few = there.few; pid = there.pid }) in
+      let same : n.control.frame.index ≡ c.control.frame.index = ap (λ (w : FrameWalk). w.index) walk in
+      let hand_is : n.control.frame.hand ≡ Some (hands.Queue (queue_copy a q)) = ap (λ (w : FrameWalk). w.hand) walk in
+      let held : IsHeldFor x n.control.frame.index (hands.Queue (queue_copy a q)) 0
+      = subst (λ (i : ℕ). IsHeldFor x i (hands.Queue (queue_copy a q)) 0) (sym same) begins.held in
+      record {
+        entries = (inl refl, subst (λ (i : ℕ). Entries i ps) (sym same) k.entries);
+        hand = λ on.
+            subst (λ (o : Option Hand). ArePaidByHand b d c.registers.frame_index n.control.frame.index o ((a, 0) ∷ ps)) (sym hand_is)
+            (inl (record {
+              address = a;
+              paid = 0;
+              rest = ps;
+              are = refl;
+              of = x;
+              owned = by_queue there.queue refl;
+              held = held;
+              active = ap (is_active there.queue.belongs.placement) (same_frame n.control.frame.index) ∙ in_frame there.queue;
+            }));
+      }
+
+  -- an iTD is
+  abbrev ByItd : ℕ → Itd → Type 0
+  ByItd a v = ArePaidByHand b d c.registers.frame_index c.control.frame.index (Some (hands.Itd (itd_copy (frame_place c) a v))) ((a, 0) ∷ ps)
+
+  itd_by : (a : ℕ) (v : Itd) (active : Bool) → (slot_of (c.control.frame.index % 8) v).active ≡ active → c.control.part ≡ Periodic → c.control.frame.hand ≡ None
+      → chain_row c.memory c.control.frame.cursor ≡ chains.Itd a v → ByItd a v
+  itd_by a v false off periodic free is = inr (passing_copy a (c.control.frame.index % 8) v ps off)
+  itd_by a v true on periodic free is =
+      let there : IsItdThere b d c a v = reads.itds a v periodic free is on in
+      let begins : Begins there.of (frame_place c) (hands.Itd (itd_copy (frame_place c) a v)) (after (frame_place c) Silent)
+      = itd_begins there.of (frame_place c) a v Silent
+      (record { free = free; row = is; descriptor = there.descriptor; some = there.some; multi = there.multi; placed = λ other. there.own }) in
+      inl (record {
+        address = a;
+        paid = 0;
+        rest = ps;
+        are = refl;
+        of = there.of;
+        owned = there.owned;
+        held = begins.held;
+        active = ap (is_active there.of.placement) (same_frame c.control.frame.index) ∙ there.active;
+      })
+
+  itd_fetched : (a : ℕ) (v : Itd) → c.control.part ≡ Periodic → c.control.frame.hand ≡ None → chain_row c.memory c.control.frame.cursor ≡ chains.Itd a v
+      → n.control.frame ≡ chain_walk (chains.Itd a v) c.control.frame → Paid n.control ((a, 0) ∷ ps)
+  itd_fetched a v periodic free is walk =
+      let same : n.control.frame.index ≡ c.control.frame.index = ap (λ (w : FrameWalk). w.index) walk in
+      let hand_is : n.control.frame.hand ≡ Some (hands.Itd (itd_copy (frame_place c) a v)) = ap (λ (w : FrameWalk). w.hand) walk in
+      record {
+        entries = (inl refl, subst (λ (i : ℕ). Entries i ps) (sym same) k.entries);
+        hand = λ on.
+            subst (λ (o : Option Hand). ArePaidByHand b d c.registers.frame_index n.control.frame.index o ((a, 0) ∷ ps)) (sym hand_is)
+            (subst (λ (i : ℕ). ArePaidByHand b d c.registers.frame_index i (Some (hands.Itd (itd_copy (frame_place c) a v))) ((a, 0) ∷ ps)) (sym same)
+            (itd_by a v (slot_of (c.control.frame.index % 8) v).active refl periodic free is));
+      }
+
+  by_chain : (r : ChainRow) → chain_row c.memory c.control.frame.cursor ≡ r → c.control.part ≡ Periodic → c.control.frame.hand ≡ None → n.control.frame ≡ chain_walk r c.control.frame
+      → n.control.part ≡ part_after Periodic (chain_step r) → AllByRecursion (InFrame d n.control.frame.index) (visits_at None r (names_in ps)) → Paid n.control (payments_at None r 0 ps)
+  by_chain (chains.Queue a q) is periodic free walk part in_frames = fetched a q periodic free is walk in_frames.0
+  by_chain (chains.Itd a v) is periodic free walk part in_frames = itd_fetched a v periodic free is walk
+  by_chain (chains.Sitd a v) is periodic free walk part in_frames = absurd (reads.no_sitd a v periodic free is)
+  by_chain _ is periodic free walk part in_frames = over n.control (λ on. over_no (sym part ∙ on)) (ap (λ (w : FrameWalk). w.index) walk)
+
+  -- ---- an event with a copy in hand
+
+  still_held : (x : Placed) (hand : Hand) (paid more : ℕ) (o : Option Hand) → is_active x.placement (microframe_in c.control.frame.index / 8) ≡ true → IsHeldFor x c.control.frame.index hand paid
+      → IsHeldStill x c.control.frame.index (paid + more) o → (o ≡ None → more ≡ 0) → IsPaidIn (microframe_in c.control.frame.index) (record { of = x; paid = paid + more })
+  still_held x hand paid more None active was kept ends =
+      let same : paid ≡ paid + more = omega (arith, ends refl) in
+      held_paid x (microframe_in c.control.frame.index) hand (paid + more)
+      (subst (λ (i : ℕ). IsHeldFor x (microframe_in c.control.frame.index) hand i) same (held_in x c.control.frame.index hand paid was)) active
+  still_held x hand paid more (Some next) active was kept ends =
+      held_paid x (microframe_in c.control.frame.index) next (paid + more) (held_in x c.control.frame.index next (paid + more) kept) active
+
+  then_held : (h : Hand) (o : IsHandPaid b d c.registers.frame_index c.control.frame.index h ps) (more : ℕ) (to : Option Hand) → IsHeldStill o.of c.control.frame.index (o.paid + more) to
+      → ArePaidByHand b d c.registers.frame_index c.control.frame.index to ((o.address, o.paid + more) ∷ o.rest)
+  then_held h o more None kept = tt
+  then_held h o more (Some next) kept =
+      inl (record { address = o.address; paid = o.paid + more; rest = o.rest; are = refl; of = o.of; owned = o.owned; held = kept; active = o.active })
+
+  charged : (hand : Hand) → c.control.frame.hand ≡ Some hand → c.control.part ≡ Periodic → HasEffect transacts (effect_of (frame_place c)) wire (frame_place n) after_wire
+      → IsHandPaid b d c.registers.frame_index c.control.frame.index hand ps → Paid n.control (paid_more (c.control.frame.left - n.control.frame.left) ps)
+  charged hand held periodic made o =
+      let more : ℕ = c.control.frame.left - n.control.frame.left in
+      let charging = leads_charged transacts o.of (frame_place c) (frame_place n) wire after_wire hand held o.held.of (reads.takes hand periodic held) made in
+      let sum : IsSummed o.of (frame_place c) o.paid (frame_place n) = charges_summed o.of (frame_place c) (frame_place n) hand o.paid o.held charging in
+      let rest : Entries c.control.frame.index o.rest = (subst (λ (xs : List (ℕ × ℕ)). Entries c.control.frame.index xs) o.are k.entries).1 in
+      let one : IsPaidIn (microframe_in c.control.frame.index) (record { of = o.of; paid = o.paid + (c.control.frame.left - n.control.frame.left) })
+      = still_held o.of hand o.paid (c.control.frame.left - n.control.frame.left) n.control.frame.hand o.active o.held sum.held sum.ends in
+      subst (λ (xs : List (ℕ × ℕ)). Paid n.control (paid_more (c.control.frame.left - n.control.frame.left) xs)) (sym o.are)
+      (record {
+        entries =
+            subst (λ (i : ℕ). Entries i ((o.address, o.paid + (c.control.frame.left - n.control.frame.left)) ∷ o.rest)) (sym sum.index)
+            (inr (record { of = o.of; owned = o.owned; within = one }), rest);
+        hand = λ on.
+            subst (λ (i : ℕ). ArePaidByHand b d c.registers.frame_index i n.control.frame.hand ((o.address, o.paid + (c.control.frame.left - n.control.frame.left)) ∷ o.rest)) (sym sum.index)
+            (then_held hand o (c.control.frame.left - n.control.frame.left) n.control.frame.hand sum.held);
+      })
+
+  -- nothing is paid where nothing is active
+  passed_by : (hand : Hand) → c.control.frame.hand ≡ Some hand → HasEffect transacts (effect_of (frame_place c)) wire (frame_place n) after_wire
+      → IsPassing hand ps → Paid n.control (paid_more (c.control.frame.left - n.control.frame.left) ps)
+  passed_by hand held made o =
+      let at_copy : HasEffect transacts (itd_effect (itd_row c.control.frame.left o.copy) o.copy (frame_place c)) wire (frame_place n) after_wire
+      = subst (λ (h : Option Hand). HasEffect transacts (effect_at (frame_place c) h) wire (frame_place n) after_wire) (held ∙ ap Some o.is) made in
+      let at_skip : HasEffect transacts (itd_effect itds.Skip o.copy (frame_place c)) wire (frame_place n) after_wire
+      = subst (λ (r : ItdRow). HasEffect transacts (itd_effect r o.copy (frame_place c)) wire (frame_place n) after_wire) (skips c.control.frame.left o.copy o.goes_on o.off) at_copy in
+      let is : frame_place n ≡ passing o.copy.itd.link (frame_place c) = at_skip.0 in
+      let same : n.control.frame.index ≡ c.control.frame.index = ap (λ (p : FramePlace). p.walk.index) is in
+      let left : n.control.frame.left ≡ c.control.frame.left = ap (λ (p : FramePlace). p.walk.left) is in
+      let none : n.control.frame.hand ≡ None = ap (λ (p : FramePlace). p.walk.hand) is in
+      let rest : Entries c.control.frame.index o.rest = (subst (λ (xs : List (ℕ × ℕ)). Entries c.control.frame.index xs) o.are k.entries).1 in
+      let cost : 0 + (c.control.frame.left - n.control.frame.left) ≡ 0 = omega (arith, left) in
+      subst (λ (xs : List (ℕ × ℕ)). Paid n.control (paid_more (c.control.frame.left - n.control.frame.left) xs)) (sym o.are)
+      (record {
+        entries = (inl cost, subst (λ (i : ℕ). Entries i o.rest) (sym same) rest);
+        hand = λ on.
+            subst (λ (h : Option Hand). ArePaidByHand b d c.registers.frame_index n.control.frame.index h ((o.address, 0 + (c.control.frame.left - n.control.frame.left)) ∷ o.rest)) (sym none) tt;
+      })
+
+  with_hand : (hand : Hand) → c.control.frame.hand ≡ Some hand → c.control.part ≡ Periodic → HasEffect transacts (effect_of (frame_place c)) wire (frame_place n) after_wire
+      → Paid n.control (paid_more (c.control.frame.left - n.control.frame.left) ps)
+  with_hand hand held periodic made =
+      ⊎_elim (charged hand held periodic made) (passed_by hand held made) (subst (λ (h : Option Hand). ArePaidByHand b d c.registers.frame_index c.control.frame.index h ps) held (k.hand periodic))
+
+  by_hand : (o : Option Hand) → c.control.frame.hand ≡ o → c.control.part ≡ Periodic → n.control.part ≡ part_after Periodic (step_at (frame_place c) o)
+      → HasEffect transacts (effect_at (frame_place c) o) wire (frame_place n) after_wire → HasEffect transacts (effect_of (frame_place c)) wire (frame_place n) after_wire
+      → AllByRecursion (InFrame d n.control.frame.index) (visits_at o (chain_row c.memory c.control.frame.cursor) (names_in ps))
+      → Paid n.control (payments_at o (chain_row c.memory c.control.frame.cursor) (c.control.frame.left - n.control.frame.left) ps)
+  by_hand None free periodic part made here in_frames =
+      by_chain (chain_row c.memory c.control.frame.cursor) refl periodic free (ap (λ (p : FramePlace). p.walk) made.0) part in_frames
+  by_hand (Some hand) held periodic part made here in_frames = with_hand hand held periodic here
+
+  -- ---- a microframe begins
+
+  begun : (reached allowed : Bool) → c.control.part ≡ Over → ArePaid old d n.registers.frame_index (begun_at reached allowed (record c { registers = after_begin c.registers })).control []
+  begun true allowed is_over = record { entries = tt; hand = λ on. tt }
+  begun false allowed is_over = record { entries = tt; hand = λ on. absurd (over_no (sym is_over ∙ on)) }
+
+  -- ---- each row
+
+  walked : (from : Content) → from.control.frame.index ≡ c.control.frame.index → Walks transacts from wire n after_wire → Paid n.control ps
+  walked from same row = over n.control (λ on. async_no (walk_step from) (sym row.part ∙ on)) (ap (λ (x : FrameWalk). x.index) row.frame ∙ same)
+
+  at_index : (xs : List (ℕ × ℕ)) → n.registers.frame_index ≡ c.registers.frame_index → Paid n.control xs → ArePaid b d n.registers.frame_index n.control xs
+  at_index xs same paid = subst (λ (i : ℕ). ArePaid b d i n.control xs) (sym same) paid
+
+  pub paid_next : (r : ControllerRow) → (r ≡ rows.Begin → c.control.part ≡ Over) → (r ≡ rows.Frame → c.control.part ≡ Periodic)
+      → AllByRecursion (InFrame d n.control.frame.index) (visits_after r c (names_in ps)) → HasRow begins_with transacts r c wire n after_wire
+      → ArePaid (began_at r old b) d n.registers.frame_index n.control (payments_after r c n.control.frame.left ps)
+  paid_next rows.Idle begins_over frame_there in_frames row = subst (λ (x : Content). ArePaid b d x.registers.frame_index x.control ps) (sym row.0) k
+  paid_next rows.Begin begins_over frame_there in_frames row =
+      subst (λ (x : Content). ArePaid old d n.registers.frame_index x.control []) (sym row.contents)
+      (begun (reaches c.memory (element_address (after_begin c.registers))) row.allowed (begins_over refl))
+  paid_next rows.Frame begins_over frame_there in_frames row =
+      at_index _ (frame_index transacts (frame_place c) wire (frame_place n) after_wire row.walked) (by_hand c.control.frame.hand refl (frame_there refl) row.part row.walked row.walked in_frames)
+  paid_next rows.Enter begins_over frame_there in_frames row =
+      at_index ps (ring_index transacts (walk_place (entered c)) wire (walk_place n) after_wire row.walked) (walked (entered c) refl row)
+  paid_next rows.Go begins_over frame_there in_frames row = at_index ps (ring_index transacts (walk_place c) wire (walk_place n) after_wire row.walked) (walked c refl row)
+  paid_next rows.End begins_over frame_there in_frames row =
+      at_index ps (ap (λ (x : Content). x.registers.frame_index) row.0) (subst (λ (x : Content). Paid x.control ps) (sym row.0) (over (ended c.control) over_no refl))

@@ -1,0 +1,59 @@
+-- Before the first line of a script nothing was visited, and no link leads anywhere.
+use Rattle.std.proofs.Common.{◌≡◌, true, false, [], Some, None}
+use Rattle.std.proofs.lemmas.Bool.{false≢true}
+use Rattle.drv_chains.specs.declared.members.Member.{Member}
+use Rattle.drv_chains.specs.declared.members.Member.TheVariants.{Once, Each}
+use Rattle.drv_chains.specs.Chains.{of_lists}
+use Rattle.drv_members.specs.Members.{is_linked}
+use Rattle.drv_periodic.specs.declared.work.Work.{Work}
+use Rattle.hc_core.specs.declared.controller.MicroframePart.TheVariants.{Over, Periodic}
+use Rattle.law_frames.specs.Met.{Kind}
+use Rattle.law_descriptors.specs.Meeting.{no_recent}
+use Rattle.law_world_memory.proofs.Opening.{new_world_is_mixed}
+use Rattle.law_world_visits.specs.VisitLaws.{NewIsVisiting}
+
+none_stands : (kind : Kind) → None ≡ Some kind → ⊥
+none_stands kind e = cc
+
+no_work : (w : Work) → None ≡ Some w → ⊥
+no_work w e = cc
+
+over_no : Over ≡ Periodic → ⊥
+over_no e = cc
+
+none_linked : (x : Member) → is_linked (of_lists [] []) x ≡ true → ⊥
+none_linked (Once d) on = false≢true on
+none_linked (Each q) on = false≢true on
+
+pub new_is_visiting : NewIsVisiting
+new_is_visiting s fit bytes = record {
+  mixed = new_world_is_mixed s fit bytes;
+  visits = record {
+    left = no_recent;
+    left_are = λ n kind is. absurd (none_stands kind is);
+    kept = λ n. false;
+    height = λ n. 0;
+    who = λ n. Once (record { id = 0; frame = 0 });
+    ranked = record {
+      standing_are = λ n kind is. absurd (none_stands kind is);
+      closed = λ n k on. absurd (false≢true on);
+      falls = λ n on. absurd (false≢true on);
+      shares = λ n k f below on. absurd (false≢true on);
+      named = λ n on. absurd (false≢true on);
+      stand = λ x on. absurd (none_linked x on);
+      linking = λ w is. absurd (no_work w is);
+    };
+    behind = record { once = tt; were = tt; next = λ k part. absurd (over_no part) };
+    active = λ n on. absurd (false≢true on);
+    were_active = tt;
+    goes = record {
+      ahead = λ n. false;
+      are_kept = λ n on. absurd (false≢true on);
+      closed = λ n k on. absurd (false≢true on);
+      next = λ k part. absurd (over_no part);
+      first = λ x is. absurd (no_work x is);
+      old = λ e f n on. absurd (false≢true on);
+    };
+    alone = λ n on. absurd (false≢true on);
+  };
+}

@@ -1,0 +1,17 @@
+pub mod Ranks
+pub mod Visited
+pub mod VisitLaws
+pub mod Splices
+pub mod DriverVisitLaws
+pub mod VisitSamples
+pub mod HeldTime
+pub mod PlaceOfRing
+pub mod FrameReasons
+pub mod ReasonSamples
+pub mod Keeps
+pub mod Belonging
+pub mod DescriptorFields
+pub mod InFrames
+pub mod OneDescriptor
+pub mod Began
+pub mod ActiveFrames

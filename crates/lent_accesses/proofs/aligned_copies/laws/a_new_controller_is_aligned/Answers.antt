@@ -1,5 +1,0 @@
-use Rattle.lent_accesses.proofs.lemmas.aligned_copies.Controlling.{new_aligned}
-use Rattle.lent_accesses.proofs.aligned_copies.laws.a_new_controller_is_aligned.Goals as goal
-
-pub returns : goal.returns
-returns c = new_aligned

@@ -1,6 +1,0 @@
-use Rattle.lent_accesses.proofs.lemmas.lent_writes.Controlling.{controller_writes_lent}
-use Rattle.lent_accesses.proofs.lemmas.aligned_copies.Controlling.{aligned_placed}
-use Rattle.lent_accesses.proofs.aligned_copies.laws.an_aligned_controller_writes_lent_words.Goals as goal
-
-pub returns : goal.returns
-returns g c = λ old wire new after is row. controller_writes_lent g.W.Wire.begins g.W.Wire.transacts old wire new after (aligned_placed old is) row

@@ -1,5 +1,0 @@
-use Rattle.lent_accesses.proofs.lemmas.aligned_copies.Controlling.{event_aligned}
-use Rattle.lent_accesses.proofs.aligned_copies.laws.each_event_keeps_addresses_aligned.Goals as goal
-
-pub returns : goal.returns
-returns g c = event_aligned g.W.Wire.begins g.W.Wire.transacts

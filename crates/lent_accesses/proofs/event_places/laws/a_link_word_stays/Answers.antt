@@ -1,5 +1,0 @@
-use Rattle.lent_accesses.proofs.lemmas.event_places.Controlling.{link_stays}
-use Rattle.lent_accesses.proofs.event_places.laws.a_link_word_stays.Goals as goal
-
-pub returns : goal.returns
-returns g c = link_stays g.W.Wire.begins g.W.Wire.transacts

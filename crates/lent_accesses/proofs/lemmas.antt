@@ -1,4 +1,0 @@
-pub mod lent_writes
-pub mod aligned_copies
-pub mod event_places
-pub mod lent_reads

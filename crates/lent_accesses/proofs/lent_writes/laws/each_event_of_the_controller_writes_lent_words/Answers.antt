@@ -1,5 +1,0 @@
-use Rattle.lent_accesses.proofs.lemmas.lent_writes.Controlling.{controller_writes_lent}
-use Rattle.lent_accesses.proofs.lent_writes.laws.each_event_of_the_controller_writes_lent_words.Goals as goal
-
-pub returns : goal.returns
-returns g c = controller_writes_lent g.W.Wire.begins g.W.Wire.transacts

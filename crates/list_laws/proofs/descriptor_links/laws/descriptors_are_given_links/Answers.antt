@@ -1,5 +1,0 @@
-use Rattle.list_laws.proofs.lemmas.descriptor_links.Links.{links_are}
-use Rattle.list_laws.proofs.descriptor_links.laws.descriptors_are_given_links.Goals as goal
-
-pub returns : goal.returns
-returns c = links_are

@@ -1,5 +1,0 @@
-use Rattle.list_laws.proofs.lemmas.due_frames.Runs.{stands_for_plan}
-use Rattle.list_laws.proofs.due_frames.a_frame_stands_for_the_plan.Goals as goal
-
-pub returns : goal.returns
-returns c = stands_for_plan

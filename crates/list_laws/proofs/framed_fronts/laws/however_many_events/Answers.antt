@@ -1,5 +1,0 @@
-use Rattle.list_laws.proofs.lemmas.framed_fronts.Running.{front_runs, halts_run}
-use Rattle.list_laws.proofs.framed_fronts.laws.however_many_events.Goals as goal
-
-pub returns : goal.returns
-returns g c = record { front = front_runs g.W.Wire.transacts; halts = halts_run g.W.Wire.transacts }

@@ -1,5 +1,0 @@
-use Rattle.list_laws.proofs.lemmas.framed_fronts.SampledHalts.{works_met, works_in_hand}
-use Rattle.list_laws.proofs.framed_fronts.worked.the_walk_meets_a_queue.Goals as goal
-
-pub returns : goal.returns
-returns c = record { met = works_met; in_hand = works_in_hand }

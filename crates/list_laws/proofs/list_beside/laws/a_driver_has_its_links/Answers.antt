@@ -1,5 +1,0 @@
-use Rattle.list_laws.proofs.lemmas.list_beside.Linking.{driver_links}
-use Rattle.list_laws.proofs.list_beside.laws.a_driver_has_its_links.Goals as goal
-
-pub returns : goal.returns
-returns c = driver_links

@@ -1,5 +1,0 @@
-use Rattle.list_laws.proofs.lemmas.list_beside.Linking.{list_left}
-use Rattle.list_laws.proofs.list_beside.laws.links_of_a_list_stay.Goals as goal
-
-pub returns : goal.returns
-returns c = list_left

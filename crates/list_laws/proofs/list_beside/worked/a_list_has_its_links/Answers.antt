@@ -1,5 +1,0 @@
-use Rattle.list_laws.proofs.lemmas.list_beside.Sampled.{sample_links}
-use Rattle.list_laws.proofs.list_beside.worked.a_list_has_its_links.Goals as goal
-
-pub returns : goal.returns
-returns c = sample_links

@@ -1,5 +1,0 @@
-use Rattle.list_laws.proofs.lemmas.list_driver.Rows.{event_keeps}
-use Rattle.list_laws.proofs.list_driver.laws.events_keep_the_list.Goals as goal
-
-pub returns : goal.returns
-returns c = event_keeps

@@ -1,5 +1,0 @@
-use Rattle.list_laws.proofs.lemmas.list_opens.Commands.{any_stands}
-use Rattle.list_laws.proofs.list_opens.laws.commands_keep_it_standing.Goals as goal
-
-pub returns : goal.returns
-returns c = any_stands

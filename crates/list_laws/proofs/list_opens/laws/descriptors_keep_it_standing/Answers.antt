@@ -1,5 +1,0 @@
-use Rattle.list_laws.proofs.lemmas.list_opens.Described.{describe_stands}
-use Rattle.list_laws.proofs.list_opens.laws.descriptors_keep_it_standing.Goals as goal
-
-pub returns : goal.returns
-returns c = describe_stands

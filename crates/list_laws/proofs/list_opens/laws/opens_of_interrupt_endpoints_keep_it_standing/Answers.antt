@@ -1,5 +1,0 @@
-use Rattle.list_laws.proofs.lemmas.list_opens.Linked.{chain_stands}
-use Rattle.list_laws.proofs.list_opens.laws.opens_of_interrupt_endpoints_keep_it_standing.Goals as goal
-
-pub returns : goal.returns
-returns c = chain_stands

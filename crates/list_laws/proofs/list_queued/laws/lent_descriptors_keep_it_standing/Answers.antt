@@ -1,8 +1,0 @@
-use Rattle.list_laws.proofs.lemmas.list_queued.Lent.{lend_stands, lend_leads}
-use Rattle.list_laws.proofs.list_queued.laws.lent_descriptors_keep_it_standing.Goals as goal
-
-pub returns-clause-list : goal.returns-clause-list
-returns-clause-list c = lend_stands
-
-pub returns-clause-queued : goal.returns-clause-queued
-returns-clause-queued c = lend_leads

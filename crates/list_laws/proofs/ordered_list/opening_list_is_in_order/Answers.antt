@@ -1,5 +1,0 @@
-use Rattle.list_laws.proofs.lemmas.ordered_list.Commands.{opening_ordered}
-use Rattle.list_laws.proofs.ordered_list.opening_list_is_in_order.Goals as goal
-
-pub returns : goal.returns
-returns c = opening_ordered

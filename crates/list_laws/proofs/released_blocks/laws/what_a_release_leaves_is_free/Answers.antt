@@ -1,5 +1,0 @@
-use Rattle.list_laws.proofs.lemmas.released_blocks.Releasing.{released_free}
-use Rattle.list_laws.proofs.released_blocks.laws.what_a_release_leaves_is_free.Goals as goal
-
-pub returns : goal.returns
-returns c = released_free

@@ -1,7 +1,0 @@
--- The frame list of a driver is in order (EHCI 1.0, 4.6): queue heads by period, phase and order of opening, descriptors by frame, each in
--- range, and no two members of one name.
-use Rattle.frame_members.specs.Members.{IsKept}
-use Rattle.driver_rows.specs.DriverContent.{DriverContent}
-
-abbrev pub IsOrdered : DriverContent → Type 0
-IsOrdered d = IsKept d.periodic.list.members.schedule

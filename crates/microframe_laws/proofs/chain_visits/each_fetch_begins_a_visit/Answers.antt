@@ -1,5 +1,0 @@
-use Rattle.microframe_laws.proofs.ChainFalls.{chain_fetches_begin}
-use Rattle.microframe_laws.proofs.chain_visits.each_fetch_begins_a_visit.Goals as goal
-
-pub returns : goal.returns
-returns g c = chain_fetches_begin g.W.Wire.transacts

@@ -1,5 +1,0 @@
-use Rattle.microframe_laws.proofs.ChargeLoads.{paid_in_time}
-use Rattle.microframe_laws.proofs.charges.paid_visits_are_in_time.Goals as goal
-
-pub returns : goal.returns
-returns c = paid_in_time

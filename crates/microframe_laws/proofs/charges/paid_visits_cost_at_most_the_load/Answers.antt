@@ -1,5 +1,0 @@
-use Rattle.microframe_laws.proofs.ChargeLoads.{paid_within}
-use Rattle.microframe_laws.proofs.charges.paid_visits_cost_at_most_the_load.Goals as goal
-
-pub returns : goal.returns
-returns c = paid_within

@@ -1,5 +1,0 @@
-use Rattle.microframe_laws.proofs.CountTaken.{events_take_time}
-use Rattle.microframe_laws.proofs.counts.each_transaction_takes_time.Goals as goal
-
-pub returns : goal.returns
-returns c = events_take_time

@@ -1,5 +1,0 @@
-use Rattle.microframe_laws.proofs.CountPrices.{prices_are_at_least, paid_where_made, made_few}
-use Rattle.microframe_laws.proofs.counts.transactions_take_their_time.Goals as goal
-
-pub returns : goal.returns
-returns c = record { prices = prices_are_at_least; paid = paid_where_made; few = made_few }

@@ -1,6 +1,0 @@
-use Rattle.microframe_laws.proofs.CountVisits.{texts_visit_few}
-use Rattle.microframe_laws.proofs.CountRounds.{texts_round_few}
-use Rattle.microframe_laws.proofs.counts.visits_are_few.Goals as goal
-
-pub returns : goal.returns
-returns c = record { frames = texts_visit_few; ring = texts_round_few }

@@ -1,5 +1,0 @@
-use Rattle.microframe_laws.proofs.DataHeads.{mixed_read_data, scripts_read_data}
-use Rattle.microframe_laws.proofs.data_queues.each_moment_reads_data.Goals as goal
-
-pub returns : goal.returns
-returns c = record { mixed = mixed_read_data; scripts = scripts_read_data }

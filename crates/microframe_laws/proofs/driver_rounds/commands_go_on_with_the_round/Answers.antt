@@ -1,5 +1,0 @@
-use Rattle.microframe_laws.proofs.CommandRounds.{command_leaves_rounds}
-use Rattle.microframe_laws.proofs.driver_rounds.commands_go_on_with_the_round.Goals as goal
-
-pub returns : goal.returns
-returns c = command_leaves_rounds

@@ -1,5 +1,0 @@
-use Rattle.mixed_worlds.proofs.lemmas.framed_memory.Quiet.{quiet_keeps}
-use Rattle.mixed_worlds.proofs.framed_memory.laws.quiet_events_keep_it_framed.Goals as goal
-
-pub returns : goal.returns
-returns c = quiet_keeps

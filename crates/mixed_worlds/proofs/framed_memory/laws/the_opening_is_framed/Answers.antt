@@ -1,5 +1,0 @@
-use Rattle.mixed_worlds.proofs.lemmas.framed_memory.Opening.{new_framed}
-use Rattle.mixed_worlds.proofs.framed_memory.laws.the_opening_is_framed.Goals as goal
-
-pub returns : goal.returns
-returns c = new_framed

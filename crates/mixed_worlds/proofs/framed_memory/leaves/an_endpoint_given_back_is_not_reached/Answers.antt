@@ -1,5 +1,0 @@
-use Rattle.mixed_worlds.proofs.lemmas.framed_memory.LeavingReached.{interrupt_unreached, cleared_unreached}
-use Rattle.mixed_worlds.proofs.framed_memory.leaves.an_endpoint_given_back_is_not_reached.Goals as goal
-
-pub returns : goal.returns
-returns c = record { interrupt = interrupt_unreached; cleared = cleared_unreached }

@@ -1,2 +1,0 @@
-pub mod running_worlds
-pub mod framed_memory

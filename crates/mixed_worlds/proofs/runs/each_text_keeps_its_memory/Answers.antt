@@ -1,5 +1,0 @@
-use Rattle.mixed_worlds.proofs.Together.{texts_keep_memory}
-use Rattle.mixed_worlds.proofs.runs.each_text_keeps_its_memory.Goals as goal
-
-pub returns : goal.returns
-returns c = texts_keep_memory

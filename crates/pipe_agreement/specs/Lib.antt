@@ -1,3 +1,0 @@
-pub mod Pipe
-pub mod Prefix
-pub mod Samples

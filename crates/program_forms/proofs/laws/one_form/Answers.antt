@@ -1,5 +1,0 @@
-use Rattle.program_forms.proofs.Words.{forms_once}
-use Rattle.program_forms.proofs.laws.one_form.Goals as goal
-
-pub returns : goal.returns
-returns c = forms_once

@@ -1,8 +1,0 @@
-use Rattle.program_ends.specs.declared.status.Status.TheVariants as Statuses
-use Rattle.image_codec.specs.Text.{refusal_line}
-use Rattle.program_forms.proofs.Checked.{refused_check}
-use Rattle.program_forms.proofs.refusing.refuse_image.Goals as goal
-
-pub returns-in-Err-clause-check : goal.returns-in-Err-clause-check
-returns-in-Err-clause-check g c is =
-    (Statuses.Refused, refusal_line c.args.refusal, refused_check c.args.input.now c.args.refusal c.requires is, c.in-Err.ensures.err)

@@ -1,4 +1,0 @@
-pub mod Reports
-pub mod Streams
-pub mod Requests
-pub mod Samples

@@ -1,5 +1,0 @@
-use Rattle.request_windows.proofs.Counts.{transacted_counts, windows_count}
-use Rattle.request_windows.proofs.laws.acts_are_counted.Goals as goal
-
-pub returns : goal.returns
-returns c = record { transaction = transacted_counts; windows = windows_count }

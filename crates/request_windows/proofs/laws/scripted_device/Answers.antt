@@ -1,6 +1,0 @@
-use Rattle.std.proofs.Common.{refl}
-use Rattle.request_windows.proofs.Scripts.{same_answer, same_left, same_acked}
-use Rattle.request_windows.proofs.laws.scripted_device.Goals as goal
-
-pub returns : goal.returns
-returns c = record { answer = same_answer; left = same_left; acknowledged = same_acked; sent = λ addr num max s name r. refl }

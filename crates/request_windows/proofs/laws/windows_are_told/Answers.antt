@@ -1,5 +1,0 @@
-use Rattle.request_windows.proofs.Told.{done_told, halt_told, cancel_told, acts_told, count_told}
-use Rattle.request_windows.proofs.laws.windows_are_told.Goals as goal
-
-pub returns : goal.returns
-returns c = record { done = done_told; halted = halt_told; cancelled = cancel_told; acts = acts_told; count = count_told }

@@ -1,5 +1,0 @@
-use Rattle.ring_laws.proofs.Tails.{tail_stays, last_is_tail, tail_moves}
-use Rattle.ring_laws.proofs.front_laws.a_queue_has_a_tail.Goals as goal
-
-pub returns : goal.returns
-returns c = record { stays = tail_stays; last = last_is_tail; moves = tail_moves }

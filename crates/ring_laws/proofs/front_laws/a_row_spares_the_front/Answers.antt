@@ -1,5 +1,0 @@
-use Rattle.ring_laws.proofs.FrontGoing.{front_spared, front_renumbered}
-use Rattle.ring_laws.proofs.front_laws.a_row_spares_the_front.Goals as goal
-
-pub returns : goal.returns
-returns c = record { spared = front_spared; renumbered = front_renumbered }

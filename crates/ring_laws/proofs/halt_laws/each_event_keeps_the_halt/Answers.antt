@@ -1,5 +1,0 @@
-use Rattle.ring_laws.proofs.Walking.{halts_kept, halted_stays}
-use Rattle.ring_laws.proofs.halt_laws.each_event_keeps_the_halt.Goals as goal
-
-pub returns : goal.returns
-returns g c = record { halts = halts_kept g.W.Wire.transacts; stays = halted_stays g.W.Wire.transacts }

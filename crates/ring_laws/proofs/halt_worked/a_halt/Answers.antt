@@ -1,5 +1,0 @@
-use Rattle.ring_laws.proofs.HaltSampled.{halted, has_front, stops}
-use Rattle.ring_laws.proofs.halt_worked.a_halt.Goals as goal
-
-pub returns : goal.returns
-returns c = record { halted = halted; front = has_front; stops = stops }

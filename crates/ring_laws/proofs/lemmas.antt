@@ -1,2 +1,0 @@
-pub mod lent_structures
-pub mod walk_writes

@@ -1,5 +1,0 @@
-use Rattle.ring_laws.proofs.lemmas.lent_structures.Settling.{settles}
-use Rattle.ring_laws.proofs.lent_structures.settlement_laws.a_transaction_settles.Goals as goal
-
-pub returns : goal.returns
-returns c = settles

@@ -1,6 +1,0 @@
-use Rattle.ring_laws.proofs.lemmas.lent_structures.Writing.{overlay_put, token_put}
-use Rattle.ring_laws.proofs.lemmas.lent_structures.Storing.{bytes_put}
-use Rattle.ring_laws.proofs.lent_structures.structure_laws.controller_writes_are_told.Goals as goal
-
-pub returns : goal.returns
-returns c = record { overlay = overlay_put; token = token_put; bytes = bytes_put }

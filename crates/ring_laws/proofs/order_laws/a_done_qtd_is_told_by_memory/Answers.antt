@@ -1,5 +1,0 @@
-use Rattle.ring_laws.proofs.Ordering.{done_told}
-use Rattle.ring_laws.proofs.order_laws.a_done_qtd_is_told_by_memory.Goals as goal
-
-pub returns : goal.returns
-returns c = done_told

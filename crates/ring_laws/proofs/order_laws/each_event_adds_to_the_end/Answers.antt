@@ -1,5 +1,0 @@
-use Rattle.ring_laws.proofs.Adding.{event_adds}
-use Rattle.ring_laws.proofs.order_laws.each_event_adds_to_the_end.Goals as goal
-
-pub returns : goal.returns
-returns g c = event_adds g.W.Wire.transacts

@@ -1,5 +1,0 @@
-use Rattle.ring_laws.proofs.Assembling.{event_keeps}
-use Rattle.ring_laws.proofs.out_pipe_laws.each_event_keeps_an_out_pipe.Goals as goal
-
-pub returns : goal.returns
-returns g c = event_keeps g.W.Wire.transacts

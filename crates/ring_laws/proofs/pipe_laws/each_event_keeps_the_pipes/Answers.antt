@@ -1,5 +1,0 @@
-use Rattle.ring_laws.proofs.PipeAgreeing.{event_agrees}
-use Rattle.ring_laws.proofs.pipe_laws.each_event_keeps_the_pipes.Goals as goal
-
-pub returns : goal.returns
-returns g c = event_agrees g.W.Wire.transacts

@@ -1,6 +1,0 @@
-use Rattle.ring_laws.proofs.ReleaseGoing.{part_loses}
-use Rattle.ring_laws.proofs.Returning.{ring_returned}
-use Rattle.ring_laws.proofs.release_laws.structures_are_given_back_together.Goals as goal
-
-pub returns : goal.returns
-returns c = record { part = part_loses; ring = ring_returned }

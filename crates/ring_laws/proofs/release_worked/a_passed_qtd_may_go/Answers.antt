@@ -1,5 +1,0 @@
-use Rattle.ring_laws.proofs.ReleaseSampled.{may_go}
-use Rattle.ring_laws.proofs.release_worked.a_passed_qtd_may_go.Goals as goal
-
-pub returns : goal.returns
-returns c = may_go

@@ -1,5 +1,0 @@
-use Rattle.ring_laws.proofs.StreamEvents.{event_streams}
-use Rattle.ring_laws.proofs.stream_laws.each_event_moves_one_stream.Goals as goal
-
-pub returns : goal.returns
-returns g c = event_streams g.W.Wire.transacts

@@ -1,5 +1,0 @@
-use Rattle.ring_laws.proofs.lemmas.walk_writes.Walking.{event_writes}
-use Rattle.ring_laws.proofs.walk_writes.laws.each_event_writes_lent_words.Goals as goal
-
-pub returns : goal.returns
-returns g c = event_writes g.W.Wire.transacts

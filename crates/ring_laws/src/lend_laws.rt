@@ -1,7 +1,0 @@
-//! The laws.
-ghost use Rattle.ring_laws.specs.Together.{LendsLeaveRing};
-
-/// Where qTDs and buffers of one queue head are lent together, wherever the walk is and whatever it has in hand, the ring goes on with all of them.
-pub fn structures_are_lent_together()
-    ensures { LendsLeaveRing }
-{}

@@ -1,4 +1,0 @@
-pub mod script_spelling
-pub mod script_grammar
-pub mod byte_answers
-pub mod script_bytes

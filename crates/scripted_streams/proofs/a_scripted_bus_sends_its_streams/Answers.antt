@@ -1,5 +1,0 @@
-use Rattle.scripted_streams.proofs.Asking.{scripted_bus}
-use Rattle.scripted_streams.proofs.a_scripted_bus_sends_its_streams.Goals as goal
-
-pub returns : goal.returns
-returns c = scripted_bus

@@ -1,5 +1,0 @@
-use Rattle.scripted_streams.proofs.lemmas.scripted_takers.Beginning.{scripted_out_begins}
-use Rattle.scripted_streams.proofs.scripted_takers.a_microframe_keeps_its_takers.Goals as goal
-
-pub returns : goal.returns
-returns c = scripted_out_begins

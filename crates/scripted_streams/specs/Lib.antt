@@ -1,2 +1,0 @@
-pub mod Senders
-pub mod scripted_takers

@@ -1,5 +1,0 @@
-use Rattle.stream_worlds.proofs.lemmas.closed_streams.Leaving.{name_closed, head_closed}
-use Rattle.stream_worlds.proofs.closed_streams.laws.one_is_left_out.Goals as goal
-
-pub returns : goal.returns
-returns c = record { name = name_closed; head = head_closed }

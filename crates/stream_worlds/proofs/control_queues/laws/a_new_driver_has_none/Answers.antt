@@ -1,5 +1,0 @@
-use Rattle.stream_worlds.proofs.lemmas.control_queues.Beside.{new_driver_controls}
-use Rattle.stream_worlds.proofs.control_queues.laws.a_new_driver_has_none.Goals as goal
-
-pub returns : goal.returns
-returns c = new_driver_controls

@@ -1,5 +1,0 @@
-use Rattle.stream_worlds.proofs.lemmas.control_queues.Beside.{controller_keeps_controls}
-use Rattle.stream_worlds.proofs.control_queues.laws.the_controller_leaves_control_queues.Goals as goal
-
-pub returns : goal.returns
-returns g c = controller_keeps_controls g.W.Wire.begins g.W.Wire.transacts

@@ -1,5 +1,0 @@
-use Rattle.stream_worlds.proofs.lemmas.endpoint_releases.Releasing.{due_leaves, queues_differ}
-use Rattle.stream_worlds.proofs.endpoint_releases.laws.the_endpoint_that_is_due.Goals as goal
-
-pub returns : goal.returns
-returns c = record { due = due_leaves; differ = queues_differ }

@@ -1,5 +1,0 @@
-use Rattle.stream_worlds.proofs.lemmas.world_bytes.Hearing.{moment_hears, text_hears}
-use Rattle.stream_worlds.proofs.world_bytes.laws.each_moment_hears_bytes.Goals as goal
-
-pub returns : goal.returns
-returns c = record { script = moment_hears; text = text_hears }

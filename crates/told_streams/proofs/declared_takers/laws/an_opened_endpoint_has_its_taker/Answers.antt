@@ -1,5 +1,0 @@
-use Rattle.told_streams.proofs.lemmas.declared_takers.Takers.{spelled_takers}
-use Rattle.told_streams.proofs.declared_takers.laws.an_opened_endpoint_has_its_taker.Goals as goal
-
-pub returns : goal.returns
-returns c = spelled_takers

@@ -1,5 +1,0 @@
-use Rattle.told_streams.proofs.lemmas.open_names.Apart.{new_apart, events_apart, accepted_apart}
-use Rattle.told_streams.proofs.open_names.laws.names_stay_apart.Goals as goal
-
-pub returns : goal.returns
-returns c = record { new = new_apart; events = events_apart; accepted = accepted_apart }

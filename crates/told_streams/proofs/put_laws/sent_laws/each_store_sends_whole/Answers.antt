@@ -1,5 +1,0 @@
-use Rattle.told_streams.proofs.lemmas.put_laws.Storing.{store_sends}
-use Rattle.told_streams.proofs.put_laws.sent_laws.each_store_sends_whole.Goals as goal
-
-pub returns : goal.returns
-returns c = store_sends

@@ -1,5 +1,0 @@
-use Rattle.told_streams.proofs.lemmas.put_laws.Ends.{all_taken}
-use Rattle.told_streams.proofs.put_laws.taken_laws.all_lines_are_taken_in_the_end.Goals as goal
-
-pub returns : goal.returns
-returns c = all_taken

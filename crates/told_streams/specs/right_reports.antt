@@ -1,4 +1,0 @@
-pub mod WorldReport
-pub mod Ins
-pub mod Laws
-pub mod Samples

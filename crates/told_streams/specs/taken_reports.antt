@@ -1,6 +1,0 @@
-pub mod Taken
-pub mod Seats
-pub mod Laws
-pub mod Worlds
-pub mod Turns
-pub mod Samples

@@ -1,9 +1,0 @@
-//! The laws.
-ghost use Rattle.told_streams.specs.open_names.Names.{NamesStayApart, AcceptedNamesAreApart, NewNamesAreApart};
-
-/// A driver that was just built has no endpoint, each of its events leaves their descriptions, and an endpoint that is opened has a new name.
-pub fn names_stay_apart()
-    ensures new { NewNamesAreApart }
-    ensures events { NamesStayApart }
-    ensures accepted { AcceptedNamesAreApart }
-{}

@@ -1,5 +1,0 @@
-use Rattle.translator_keeps_up.proofs.Works.{works_turned}
-use Rattle.translator_keeps_up.proofs.laws.the_work_is_an_event.Goals as goal
-
-pub returns : goal.returns
-returns g c = works_turned g.W.Wire.transacts

@@ -1,6 +1,0 @@
-use Rattle.std.proofs.Common.{◌≡◌, ◌++◌, map, take, drop}
-use Rattle.usb_bus.specs.Bus.{begun_at}
-use Rattle.usb_bus.proofs.below.begin_devices.Given as goal
-
-abbrev pub invariant-loop-device : goal.invariant-loop-device
-invariant-loop-device l = l.devices ≡ map (begun_at l.frindex) (take l.device-index l.initial.devices) ++ drop l.device-index l.initial.devices

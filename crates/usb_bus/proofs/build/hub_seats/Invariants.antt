@@ -1,6 +1,0 @@
-use Rattle.std.proofs.Common.{◌≡◌, ◌++◌, drop}
-use Rattle.usb_bus.specs.Seats.{hub_seats_from}
-use Rattle.usb_bus.proofs.build.hub_seats.Given as goal
-
-abbrev pub invariant-loop-place : goal.invariant-loop-place
-invariant-loop-place l = l.seats.items ++ hub_seats_from l.place (drop l.place l.hubs) ≡ hub_seats_from 0 l.hubs

@@ -1,6 +1,0 @@
-use Rattle.std.proofs.Common.{◌≡◌, ◌++◌, drop}
-use Rattle.usb_bus.specs.Seats.{seats_from}
-use Rattle.usb_bus.proofs.build.seats_by_device.Given as goal
-
-abbrev pub invariant-loop-device : goal.invariant-loop-device
-invariant-loop-device l = l.seats.items ++ seats_from l.device (drop l.device l.devices) ≡ seats_from 0 l.devices

@@ -1,9 +1,0 @@
-use Rattle.std.proofs.Common.{◌≡◌, ◌++◌, drop}
-use Rattle.std.specs.Prelude.{filter_map}
-use Rattle.usb_bus.specs.Seats.{seat_named}
-use Rattle.usb_bus.proofs.build.seats_in_order.Given as goal
-
-abbrev pub invariant-loop-name : goal.invariant-loop-name
-invariant-loop-name l = record {
-  named : l.named.items ++ filter_map (seat_named l.seats) (drop l.name-index l.names) ≡ filter_map (seat_named l.seats) l.names;
-}

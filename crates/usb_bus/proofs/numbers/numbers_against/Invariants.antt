@@ -1,6 +1,0 @@
-use Rattle.std.proofs.Common.{◌≡◌, ◌++◌, drop}
-use Rattle.usb_bus.specs.Fates.{bad_numbers}
-use Rattle.usb_bus.proofs.numbers.numbers_against.Given as goal
-
-abbrev pub invariant-loop-fate : goal.invariant-loop-fate
-invariant-loop-fate l = l.numbers.items ++ bad_numbers (drop l.fate-index l.fates) l.name l.below ≡ bad_numbers l.fates l.name l.below

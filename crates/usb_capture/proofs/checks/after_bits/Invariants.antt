@@ -1,6 +1,0 @@
-use Rattle.std.proofs.Common.{◌≡◌, ◌-◌}
-use Rattle.usb_capture.specs.Checks.{after_bits}
-use Rattle.usb_capture.proofs.checks.after_bits.Given as goal
-
-abbrev pub invariant-loop-bit : goal.invariant-loop-bit
-invariant-loop-bit l = after_bits l.polynomial l.r l.rest (l.count - l._bit) ≡ after_bits l.polynomial l.first l.n l.count

@@ -1,5 +1,0 @@
-use Rattle.visit_budgets.proofs.lemmas.iso_budget.Visited.{different}
-use Rattle.visit_budgets.proofs.iso_budget.laws.descriptors_of_a_frame_are_different.Goals as goal
-
-pub returns : goal.returns
-returns c = different

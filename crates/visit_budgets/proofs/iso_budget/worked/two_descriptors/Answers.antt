@@ -1,6 +1,0 @@
-use Rattle.std.proofs.Common.{ap, arith}
-use Rattle.frame_chains.specs.declared.members.Descriptor.{Descriptor}
-use Rattle.visit_budgets.proofs.iso_budget.worked.two_descriptors.Goals as goal
-
-pub returns : goal.returns
-returns c = (((λ e. let x = ap (λ (k : Descriptor). k.id) e in omega (arith, x)), tt), (tt, tt))

@@ -1,5 +1,0 @@
-use Rattle.visit_budgets.proofs.lemmas.visit_prices.Joined.{queue_in_time}
-use Rattle.visit_budgets.proofs.visit_prices.queue_visits_are_in_time.Goals as goal
-
-pub returns : goal.returns
-returns c = queue_in_time

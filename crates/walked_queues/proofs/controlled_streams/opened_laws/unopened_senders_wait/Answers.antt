@@ -1,5 +1,0 @@
-use Rattle.walked_queues.proofs.lemmas.controlled_streams.Waiting.{unopened_wait}
-use Rattle.walked_queues.proofs.controlled_streams.opened_laws.unopened_senders_wait.Goals as goal
-
-pub returns : goal.returns
-returns g c = unopened_wait g.W.Wire.begins g.W.Wire.transacts

@@ -1,5 +1,0 @@
-use Rattle.walked_queues.proofs.lemmas.controlled_streams.Outs.{harvest_keeps_out}
-use Rattle.walked_queues.proofs.controlled_streams.out_pipe_laws.a_harvest_keeps_an_out_stream.Goals as goal
-
-pub returns : goal.returns
-returns c = harvest_keeps_out

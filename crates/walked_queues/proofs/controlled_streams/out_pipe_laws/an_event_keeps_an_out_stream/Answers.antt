@@ -1,5 +1,0 @@
-use Rattle.walked_queues.proofs.lemmas.controlled_streams.Outs.{event_keeps_out}
-use Rattle.walked_queues.proofs.controlled_streams.out_pipe_laws.an_event_keeps_an_out_stream.Goals as goal
-
-pub returns : goal.returns
-returns g c = event_keeps_out g.W.Wire.begins g.W.Wire.transacts

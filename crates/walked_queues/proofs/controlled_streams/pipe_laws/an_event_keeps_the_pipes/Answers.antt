@@ -1,5 +1,0 @@
-use Rattle.walked_queues.proofs.lemmas.controlled_streams.Piping.{control_pipes}
-use Rattle.walked_queues.proofs.controlled_streams.pipe_laws.an_event_keeps_the_pipes.Goals as goal
-
-pub returns : goal.returns
-returns g c = control_pipes g.W.Wire.begins g.W.Wire.transacts

@@ -1,5 +1,0 @@
-use Rattle.walked_queues.proofs.lemmas.controlled_streams.Reporting.{harvest_reported}
-use Rattle.walked_queues.proofs.controlled_streams.report_laws.a_harvest_adds_to_the_report.Goals as goal
-
-pub returns : goal.returns
-returns c = harvest_reported

@@ -1,5 +1,0 @@
-use Rattle.walked_queues.proofs.lemmas.controlled_streams.Reporting.{event_reported}
-use Rattle.walked_queues.proofs.controlled_streams.report_laws.an_event_leaves_the_report_right.Goals as goal
-
-pub returns : goal.returns
-returns g c = event_reported g.W.Wire.begins g.W.Wire.transacts

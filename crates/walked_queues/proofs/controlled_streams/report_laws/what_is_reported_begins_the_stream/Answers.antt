@@ -1,5 +1,0 @@
-use Rattle.walked_queues.proofs.lemmas.controlled_streams.Reporting.{reported_begins}
-use Rattle.walked_queues.proofs.controlled_streams.report_laws.what_is_reported_begins_the_stream.Goals as goal
-
-pub returns : goal.returns
-returns g c = reported_begins

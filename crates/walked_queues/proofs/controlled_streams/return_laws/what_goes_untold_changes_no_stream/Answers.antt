@@ -1,5 +1,0 @@
-use Rattle.walked_queues.proofs.lemmas.controlled_streams.Returning.{accounts_returned, reported_stay}
-use Rattle.walked_queues.proofs.controlled_streams.return_laws.what_goes_untold_changes_no_stream.Goals as goal
-
-pub returns : goal.returns
-returns c = record { accounts = accounts_returned; reported = reported_stay }

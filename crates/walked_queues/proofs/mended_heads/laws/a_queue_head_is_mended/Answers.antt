@@ -1,5 +1,0 @@
-use Rattle.walked_queues.proofs.lemmas.mended_heads.Row.{mend_leaves_ring, last_ends}
-use Rattle.walked_queues.proofs.mended_heads.laws.a_queue_head_is_mended.Goals as goal
-
-pub returns : goal.returns
-returns c = record { ring = mend_leaves_ring; last = last_ends }

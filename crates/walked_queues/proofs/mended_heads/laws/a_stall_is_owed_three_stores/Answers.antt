@@ -1,5 +1,0 @@
-use Rattle.walked_queues.proofs.lemmas.mended_heads.Stalling.{stall_is_halted, halt_stops, harvest_keeps}
-use Rattle.walked_queues.proofs.mended_heads.laws.a_stall_is_owed_three_stores.Goals as goal
-
-pub returns : goal.returns
-returns c = record { halted = stall_is_halted; stops = halt_stops; harvest = harvest_keeps }

@@ -1,5 +1,0 @@
-use Rattle.walked_queues.proofs.lemmas.mended_heads.Standing.{commands_keep, rows_keep}
-use Rattle.walked_queues.proofs.mended_heads.laws.commands_and_rows_leave_what_is_owed.Goals as goal
-
-pub returns : goal.returns
-returns c = record { commands = commands_keep; rows = rows_keep }

@@ -1,5 +1,0 @@
-use Rattle.walked_queues.proofs.lemmas.shared_memory.Sharing.{opening_shared}
-use Rattle.walked_queues.proofs.shared_memory.laws.the_opening_is_shared.Goals as goal
-
-pub returns : goal.returns
-returns c = opening_shared

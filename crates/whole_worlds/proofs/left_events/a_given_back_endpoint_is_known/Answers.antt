@@ -1,5 +1,0 @@
-use Rattle.whole_worlds.proofs.Released.{release_keeps_left}
-use Rattle.whole_worlds.proofs.left_events.a_given_back_endpoint_is_known.Goals as goal
-
-pub returns : goal.returns
-returns c = release_keeps_left

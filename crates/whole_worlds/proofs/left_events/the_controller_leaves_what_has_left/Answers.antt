@@ -1,5 +1,0 @@
-use Rattle.whole_worlds.proofs.Controlled.{controller_keeps_left}
-use Rattle.whole_worlds.proofs.left_events.the_controller_leaves_what_has_left.Goals as goal
-
-pub returns : goal.returns
-returns c = controller_keeps_left

@@ -1,7 +1,0 @@
-use Rattle.whole_worlds.proofs.Running.{scripts_stay_whole, streams_are_right}
-use Rattle.whole_worlds.proofs.Sampling.{get_is_asynchronous, get_owns}
-use Rattle.whole_worlds.specs.FeedingSamples.{one_get}
-use Rattle.whole_worlds.proofs.worked.its_streams_are_right.Goals as goal
-
-pub returns : goal.returns
-returns c = record { whole = scripts_stay_whole one_get get_is_asynchronous; right = streams_are_right one_get get_is_asynchronous get_owns }

@@ -1,9 +1,0 @@
-pub mod LeavingSent
-pub mod LeaveSamples
-pub mod Sent
-pub mod ReportLaws
-pub mod ReportSamples
-pub mod Sending
-pub mod WorldLaws
-pub mod Moments
-pub mod Kept

@@ -1,5 +1,0 @@
-use Rattle.run_book.proofs.NewBook.{fresh_again}
-use Rattle.word_tests.proofs.of_run_book.runs_come_and_go.Goals as goal
-
-pub build-requires-2 : goal.build-requires-2
-build-requires-2 g c = fresh_again c.in_ok-mem.mem 1024 c.in_ok-mem.ensures

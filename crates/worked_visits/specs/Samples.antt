@@ -1,0 +1,111 @@
+-- Scripts of worked rows.
+--     typed_payments k     what was paid in the microframe, k events and commands after the open of the keyboard's endpoint was accepted, in the script of `law_world_memory`
+--     typed_began k        the world as the microframe began, after so many
+--     typed_place k        where the walk of the frames is, after so many
+--     typed_qtd k b        the qTD in block b, after so many
+--     kinds_of d           the kinds of the driver's endpoints
+--     owners_of d          the numbers of the endpoints of its transfers; firsts_of d: the blocks of their first qTDs
+--     due_from             the world of the script with a microphone of `law_world_memory` once its descriptor is linked, but that FRINDEX is 15, and nine events of the controller
+--     due_at k             its world after k of them: the descriptor's frame begins
+--     due_payments k       what was paid in the microframe then
+--     paid_at u r          what was paid after an event with a descriptor of a high-speed isochronous IN endpoint in hand in microframe u, which had this reply
+--     sensor               a high-speed interrupt IN endpoint of packets of 64 bytes that is polled in each microframe
+--     sensor_and_disk      a script that opens it and the disk's bulk IN endpoint, asks it for 64 bytes and lets three microframes pass
+use Rattle.std.specs.Prelude.{ℕ, List, [], ◌∷◌, None, map}
+use Rattle.usb_base.specs.declared.commands.Cmd.TheVariants as commands
+use Rattle.usb_base.specs.declared.endpoints.EpDesc.{EpDesc}
+use Rattle.usb_base.specs.declared.packets.EpKind.{EpKind}
+use Rattle.usb_base.specs.declared.packets.EpKind.TheVariants as kinds
+use Rattle.usb_base.specs.declared.packets.Reply.{Reply}
+use Rattle.usb_base.specs.declared.packets.Speed.TheVariants as speeds
+use Rattle.usb_base.specs.declared.packets.Way.TheVariants as ways
+use Rattle.script_types.specs.declared.devices.Item.TheVariants as items
+use Rattle.script_types.specs.declared.scripts.Event.TheVariants as events
+use Rattle.script_types.specs.declared.scripts.Line.TheVariants as lines
+use Rattle.script_types.specs.declared.scripts.Script.{Script}
+use Rattle.periodic_walk.specs.Place.{FramePlace}
+use Rattle.hc_core.specs.declared.controller.MicroframePart.TheVariants.{Periodic}
+use Rattle.hc_core.specs.declared.controller.ControllerRow.TheVariants as rows
+use Rattle.hc_core.specs.Controller.{Content, content, new_control, frame_place}
+use Rattle.qh_qtd.specs.declared.qtd.Qtd.{Qtd}
+use Rattle.drv_table.specs.DriverContent.{DriverContent}
+use Rattle.law_budgets.specs.visit_prices.Prices.{after}
+use Rattle.bus_wire.specs.Bus.{fixed_of}
+use Rattle.bus_world.specs.World.{World, controller_parts}
+use Rattle.bus_world.specs.Opening.{opening_world}
+use Rattle.bus_world.specs.Orders.{OrderedWorld, Events, at_place, orders_of, ticks}
+use Rattle.law_world_memory.specs.Samples.{disk, keyboard_and_disk, after_the_open, opened, typed_at}
+use Rattle.law_world_memory.specs.MicrophoneSamples.{one_microphone, heard_at}
+use Rattle.claims_world.specs.Carried.{carried_from}
+use Rattle.law_world_visits.specs.Began.{began_by}
+use Rattle.law_world_time.specs.ChargeSamples.{itd_at}
+use Rattle.law_world_time.specs.DataQueues.{qtd_in}
+use Rattle.claims_world.specs.WithinLoad.{payments_after}
+use Rattle.law_world_time.specs.Payments.{payments_from}
+
+abbrev pub typed_payments : ℕ → List (ℕ × ℕ)
+typed_payments k = payments_from (fixed_of keyboard_and_disk) (at_place opened (orders_of after_the_open)) [] k
+
+abbrev pub typed_began : ℕ → World
+typed_began k = carried_from began_by (fixed_of keyboard_and_disk) (at_place opened (orders_of after_the_open)) (opening_world keyboard_and_disk) k
+
+abbrev pub typed_place : ℕ → FramePlace
+typed_place k = frame_place (controller_parts (typed_at k))
+
+abbrev pub typed_qtd : ℕ → ℕ → Qtd
+typed_qtd k b = qtd_in (typed_at k).memory b
+
+abbrev pub kinds_of : DriverContent → List EpKind
+kinds_of d = map (λ x. x.desc.kind) d.endpoints
+
+abbrev pub owners_of : DriverContent → List ℕ
+owners_of d = map (λ y. y.endpoint) d.transfers
+
+abbrev pub firsts_of : DriverContent → List ℕ
+firsts_of d = map (λ y. y.first) d.transfers
+
+abbrev pub due_from : OrderedWorld
+due_from = at_place (record (heard_at 4) { registers = record (heard_at 4).registers { frame_index = 15 } }) (Events events.C 9 ∷ [])
+
+abbrev pub due_at : ℕ → World
+due_at k = (ticks (fixed_of one_microphone) due_from k).world
+
+abbrev pub due_payments : ℕ → List (ℕ × ℕ)
+due_payments k = payments_from (fixed_of one_microphone) due_from [] k
+
+abbrev pub content_at : FramePlace → Content
+content_at p = content (record new_control { part = Periodic; frame = p.walk }) p.registers p.memory
+
+abbrev pub paid_at : ℕ → Reply → List (ℕ × ℕ)
+paid_at u r = payments_after rows.Frame (content_at (itd_at u)) (after (itd_at u) r).walk.left ((0x1000, 0) ∷ [])
+
+abbrev pub sensor : EpDesc
+sensor = record { name = record { addr = 4; num = 1; way = ways.In }; speed = speeds.High; kind = kinds.Interrupt; max = 64; period = 1; multi = 1; hub = None; port = 0; tt = 0 }
+
+abbrev pub sensor_and_disk : Script
+sensor_and_disk = record {
+  words = 2048;
+  hubs = [];
+  devices =
+      record { addr = 4; speed = speeds.High; eps = record { desc = sensor; items = items.Bytes (0 ∷ 1 ∷ 2 ∷ []) ∷ []; room = 0; stuff = 0; clears = 0 } ∷ [] }
+      ∷ record { addr = 3; speed = speeds.High; eps = record { desc = disk; items = []; room = 0; stuff = 0; clears = 0 } ∷ [] }
+      ∷ [];
+  endpoints = sensor.name ∷ disk.name ∷ [];
+  fates = [];
+  holds = [];
+  lines =
+      (6, lines.Command (commands.OpenEp sensor))
+      ∷ (7, lines.Order events.D 9)
+      ∷ (8, lines.Command (commands.OpenEp disk))
+      ∷ (9, lines.Order events.D 2)
+      ∷ (10, lines.Command (commands.Get sensor.name 64 8))
+      ∷ (11, lines.Order events.D 9)
+      ∷ (12, lines.Micro 3)
+      ∷ [];
+  version = 1;
+  frames = 1024;
+  park = 0;
+  roots = [];
+  classics = [];
+  disks = [];
+}

@@ -1,0 +1,110 @@
+//! The rows.
+ghost use Rattle.std.specs.Prelude.{◌≡◌, ℕ, suc, ◌+◌, true, false, [], ◌∷◌, Some};
+ghost use Rattle.law_world_memory.specs.Samples.{keyboard_and_disk, typed_at};
+ghost use Rattle.law_world_memory.specs.MicrophoneSamples.{one_microphone};
+ghost use Rattle.hc_core.specs.declared.controller.ControllerRow.TheVariants as rows;
+ghost use Rattle.hc_core.specs.declared.controller.MicroframePart.TheVariants.{Over};
+ghost use Rattle.bus_wire.specs.Bus.{fixed_of};
+ghost use Rattle.bus_world.specs.World.{controller_row, controller_parts};
+ghost use Rattle.hc_core.specs.Controller.{frame_place};
+ghost use Rattle.law_budgets.specs.visit_prices.Prices.{after};
+ghost use Rattle.claims_world.specs.InTime.{is_late};
+ghost use Rattle.law_world_visits.specs.Began.{began, IsAhead};
+ghost use Rattle.law_world_visits.specs.OneDescriptor.{IsActiveDescriptor};
+ghost use Rattle.law_world_visits.specs.Ranks.{name_of};
+ghost use Rattle.law_world_visits.specs.Visited.{link_ahead};
+ghost use Rattle.claims_world.specs.Visits.{is_held_now};
+ghost use Rattle.claims_world.specs.WithinLoad.{payments, paid_by_all};
+ghost use Rattle.claims_world.specs.Scripts.{HighPeriodicsOnly};
+ghost use Rattle.usb_base.specs.declared.packets.EpKind.TheVariants.{Interrupt, Bulk};
+ghost use Rattle.usb_base.specs.declared.packets.Pid.TheVariants.{Data2};
+ghost use Rattle.usb_base.specs.declared.packets.Reply.TheVariants.{Bytes, Silent};
+ghost use Rattle.bandwidth.specs.Sums.{load};
+ghost use Rattle.law_world_time.specs.ChargeSamples.{iso_in, itd_at};
+ghost use Rattle.worked_visits.specs.Samples.{typed_payments, typed_began, typed_place, typed_qtd, kinds_of, owners_of, firsts_of, due_at, due_payments, paid_at, sensor_and_disk};
+
+/// Where a microframe begins nothing was paid; the queue head of the keyboard's endpoint is fetched, which costs nothing, and passed, since it is inactive.
+pub fn a_keyboard_is_passed()
+    ensures begins { typed_payments 26 ≡ [] }
+    ensures reads { typed_payments 28 ≡ (4160, 0) ∷ [] }
+    ensures passes { typed_payments 30 ≡ (4160, 0) ∷ [] }
+{}
+
+/// Where the descriptor of an isochronous endpoint with up to three packets of 1,024 bytes a microframe is in hand, 20.6 microseconds are paid for a packet in the microframe of its
+/// placement, in which its load is 61.7 microseconds; and nothing in the next.
+pub fn a_descriptor_is_paid()
+    ensures own { paid_at 2 (Bytes Data2 []) ≡ (0x1000, 20551712) ∷ [] }
+    ensures its_load { load (iso_in ∷ []) 2 ≡ 61655136 }
+    ensures other { paid_at 3 Silent ≡ (0x1000, 0) ∷ [] }
+    ensures no_load { load (iso_in ∷ []) 3 ≡ 0 }
+{}
+
+/// A script that opens a high-speed interrupt endpoint and a bulk one is one of those whose payments are within the load; so is one that opens a high-speed isochronous endpoint.
+pub fn a_script_of_high_speed_periodics()
+    ensures interrupt { HighPeriodicsOnly sensor_and_disk }
+    ensures isochronous { HighPeriodicsOnly one_microphone }
+{}
+
+/// What is paid and what is begun after the open of the keyboard's endpoint, which is accepted, are those of the run of what is left.
+pub fn its_payments_and_begins()
+    ensures paid { (k : ℕ) → payments keyboard_and_disk (suc k) ≡ typed_payments k }
+    ensures begun { (k : ℕ) → began keyboard_and_disk (suc k) ≡ typed_began k }
+{}
+
+/// In the periodic part of a microframe in which the bus may be used, with the keyboard's queue head in hand, what is left and what was paid are the whole time, and no transaction is
+/// skipped for want of it.
+pub fn a_keyboard_is_in_time()
+    ensures walks { controller_row (typed_at 28) ≡ rows.Frame }
+    ensures allowed { is_held_now (fixed_of keyboard_and_disk) (typed_at 28) ≡ false }
+    ensures rest { (typed_at 28).control.frame.left + paid_by_all (typed_payments 28) ≡ 125000000 }
+    ensures in_time { is_late (typed_place 28) ≡ false }
+{}
+
+/// So it is where a packet of 1,024 bytes was paid: 104.4 of the 125 microseconds are left.
+pub fn a_descriptor_is_in_time()
+    ensures before { is_late (itd_at 2) ≡ false }
+    ensures left { (after (itd_at 2) (Bytes Data2 [])).walk.left ≡ 104448288 }
+    ensures rest { (after (itd_at 2) (Bytes Data2 [])).walk.left + paid_by_all (paid_at 2 (Bytes Data2 [])) ≡ 125000000 }
+    ensures in_time { is_late (after (itd_at 2) (Bytes Data2 [])) ≡ false }
+{}
+
+/// Where the frame of a high-speed microphone's descriptor begins, which the script with one asked for, the walk goes on to the descriptor; it is fetched, its transaction isn't late, and
+/// once that is paid what is left and what was paid are the whole time.
+pub fn a_microphone_is_in_time()
+    ensures ahead { name_of (link_ahead (due_at 1).control.frame.hand (due_at 1).control.frame.cursor) ≡ Some 4160 }
+    ensures fetched { due_payments 2 ≡ (4160, 0) ∷ [] }
+    ensures walks { controller_row (due_at 2) ≡ rows.Frame }
+    ensures allowed { is_held_now (fixed_of one_microphone) (due_at 2) ≡ false }
+    ensures in_time { is_late (frame_place (controller_parts (due_at 2))) ≡ false }
+    ensures paid { due_payments 3 ≡ (4160, 798623) ∷ [] }
+    ensures left { (due_at 3).control.frame.left ≡ 124201377 }
+    ensures rest { (due_at 3).control.frame.left + paid_by_all (due_payments 3) ≡ 125000000 }
+{}
+
+/// That descriptor, of endpoint 0 and for frame 2, is active, and the walk goes on to it.
+pub fn the_walk_goes_on_to_a_microphone()
+    ensures ahead { IsAhead (due_at 1) 4160 }
+    ensures active { IsActiveDescriptor (due_at 1).driver (due_at 1).memory 0 2 4160 }
+{}
+
+/// Before the first Begin the world is that before the first line, which has no transfers; from each Begin on it is the world in which that Begin was, with the frame index before it, until
+/// the next.
+pub fn a_microframe_has_its_begin()
+    ensures before { firsts_of (typed_began 25).driver ≡ [] }
+    ensures first { firsts_of (typed_began 26).driver ≡ 132 ∷ [] }
+    ensures index { (typed_began 28).registers.frame_index ≡ 0 }
+    ensures goes_on { (typed_at 28).registers.frame_index ≡ 1 }
+    ensures over { (typed_began 40).registers.frame_index ≡ 0 }
+    ensures second { (typed_began 42).registers.frame_index ≡ 1 }
+    ensures second_part { (typed_began 42).control.part ≡ Over }
+    ensures second_goes_on { (typed_at 42).registers.frame_index ≡ 2 }
+{}
+
+/// The one transfer is that of the keyboard's interrupt endpoint; its qTD is in memory in block 132, active, and of an IN, whose PID code is 1.
+pub fn a_get_is_an_in()
+    ensures kinds { kinds_of (typed_at 25).driver ≡ Interrupt ∷ Bulk ∷ [] }
+    ensures transfer { owners_of (typed_at 25).driver ≡ 0 ∷ [] }
+    ensures block { firsts_of (typed_at 25).driver ≡ 132 ∷ [] }
+    ensures active { (typed_qtd 25 132).token.active ≡ true }
+    ensures pid { (typed_qtd 25 132).token.pid ≡ 1 }
+{}

@@ -1,0 +1,144 @@
+#!/usr/bin/env python3
+"""Checks the wrappers and their scripts: exits with 1 where one is amiss. Run it anywhere in the repository; it takes seconds.
+
+Rows of explanations stand in tools/rows.txt. What needs a program is tried where one is built and current, and else told as left out.
+"""
+import os
+import pathlib
+import re
+import shutil
+import subprocess
+import sys
+import tempfile
+import xml.dom.minidom
+
+TOP = pathlib.Path(__file__).resolve().parent.parent
+TOOLS = TOP / "tools"
+wrong = []
+
+
+def amiss(what):
+    wrong.append(what)
+    print(what)
+
+
+def run(*words, **more):
+    return subprocess.run(words, capture_output=True, cwd=TOP, check=False, **more)
+
+
+def rows():
+    """Each row: what the program says, the input, and what must be said of it."""
+    said, lines, answer = None, [], []
+    for text in [*(TOOLS / "rows.txt").read_text().split("\n"), "> end"]:
+        if text.startswith("> "):
+            if said:
+                yield said, "\n".join(lines).replace("\\r", "\r") + "\n", "\n".join(answer) + "\n"
+            said, lines, answer = text[2:], [], []
+        elif text.startswith("< "):
+            answer.append(text[2:])
+        elif said and text:
+            lines.append(text)
+
+
+def check_rows(room, program):
+    for said, script, answer in rows():
+        (room / "script").write_bytes(script.encode())
+        (room / "said").write_text(said + "\n")
+        got = run(sys.executable, str(TOOLS / "explain.py"), str(room / "script"), str(room / "said"))
+        if got.stdout.decode() != answer or got.stderr:
+            amiss(f"explain.py of `{said}`: {got.stdout.decode() or got.stderr.decode()[-200:]}")
+        if program:
+            told = run(program, "run" if "refused" in said else "check", input=script.encode()).stdout.decode()
+            if said not in told.split("\n"):
+                amiss(f"the program says {told!r}, and tools/rows.txt `{said}`")
+
+
+def check_fold():
+    dump = "".join(f"frame {k}\n  seen {1 + k % 2}\n" for k in range(1, 7)) + "frame 8\n  seen 1\nframe 9\n  qh 3\n  seen 1\nasync\n  ring\n"
+    folded = "frames 1 to 5 by 2, 3 of them\n  seen 2\nframes 2 to 8 by 2, 4 of them\n  seen 1\nframe 9\n  qh 3\n  seen 1\nasync\n  ring\n"
+    if run("awk", "-f", str(TOOLS / "fold.awk"), input=dump.encode()).stdout.decode() != folded:
+        amiss("fold.awk folds otherwise")
+
+
+def check_texts():
+    for name in ("ehci", "ehci-trace", "tools/wrapper.sh", "tools/completion.bash"):
+        if run("bash", "-n", name).returncode:
+            amiss(f"{name} is no script of bash")
+    pages = sorted(str(it) for it in (TOP / "docs").glob("*.1"))
+    if shutil.which("mandoc"):
+        said = run("mandoc", "-T", "lint", *pages).stdout.decode()
+        if said:
+            amiss(said)
+    else:
+        print("left out: mandoc isn't installed")
+    offered = set(re.findall(r"--[a-z]+", (TOOLS / "completion.bash").read_text()))
+    told = set(re.findall(r"--[a-z]+", "".join(pathlib.Path(it).read_text() for it in pages).replace("\\-", "-")))
+    for option in offered ^ told:
+        amiss(f"{option} stands in one alone of the man pages and tools/completion.bash")
+
+
+def check_pictures(program, trace):
+    """The pictures of README are XML, and what the programs give for their script."""
+    for path in (TOP / "docs").glob("*.svg"):
+        xml.dom.minidom.parse(str(path))
+    script = (TOP / "docs/pictures.ehci").read_bytes()
+    drawn = {}
+    if trace:
+        drawn["microframes.svg"] = run("./ehci-trace", "--svg", "--from", "64", "--to", "79", input=script).stdout
+    if program:
+        dump = run(program, "dump", input=run(program, "image", input=script).stdout).stdout
+        drawn["structures.svg"] = run(sys.executable, str(TOOLS / "draw_structures.py"), input=dump).stdout
+    for name, picture in drawn.items():
+        if picture != (TOP / "docs" / name).read_bytes():
+            amiss(f"docs/{name} is another picture than the programs'")
+
+
+def check_wrapper(room):
+    """Statuses and output of the wrapper, over a program that is built."""
+    script = str(TOP / "examples/errors-add-up.ehci")
+    report = (TOP / "examples/errors-add-up.report").read_bytes()
+    faulty = b"ehci 1\ndev 3 hgh\n"
+    for words, status, text, output in (
+        (("run", script), 0, b"", report),
+        (("--strict", "run", script), 7, b"", report),
+        (("run", str(room / "none")), 4, b"", b""),
+        (("run", str(room)), 4, b"", b""),
+        (("check",), 3, faulty, b"line 2: word\n"),
+        (("run", script, "more"), 2, b"", b""),
+        (("--fold", "run", script), 2, b"", b""),
+    ):
+        got = run("./ehci", *words, input=text)
+        if (got.returncode, got.stdout) != (status, output):
+            amiss(f"./ehci {' '.join(words)}: status {got.returncode}, {got.stdout[:80]}")
+    if b"line 2, column 7" not in run("./ehci", "check", input=faulty).stderr:
+        amiss("./ehci check says nothing of the word on standard error")
+    if run("./ehci", "-h").stdout != run("./ehci", "--help").stdout:
+        amiss("./ehci -h is another text than --help")
+
+
+def current(*crates):
+    """The first of these programs that the wrapper would take."""
+    words = f'me=check top="{TOP}"; . tools/wrapper.sh; choose {" ".join(crates)}; echo "$program"'
+    return run("bash", "-c", words).stdout.decode().strip() or None
+
+
+def main():
+    program, trace = current("ehci"), current("ehci_trace")
+    for what, there in (("./ehci --prove", program), ("./ehci-trace --build", trace)):
+        if not there:
+            print(f"left out: rows of a program that `{what}` builds")
+    with tempfile.TemporaryDirectory() as room:
+        room = pathlib.Path(room)
+        check_texts()
+        check_rows(room, program)
+        check_fold()
+        check_pictures(program, trace)
+        if program:
+            check_wrapper(room)
+    print(f"tools: {len(wrong)} amiss")
+    return 1 if wrong else 0
+
+
+if __name__ == "__main__":
+    os.environ["LC_ALL"] = "C"
+    sys.exit(main())

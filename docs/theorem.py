@@ -1,0 +1,145 @@
+#!/usr/bin/env python3
+"""Writes docs/THEOREM.md: what the top call of the program says, clause by clause, with each definition that one has to believe.
+
+    docs/theorem.py            writes the page
+    docs/theorem.py --check    says whether the page is current, and exits with 1 if it isn't
+    docs/theorem.py --numbers  counts the definitions that each clause reaches, and writes nothing
+"""
+import collections
+import re
+import sys
+
+from sources import CRATES, NAME, TOP, kind, modules, reached, written
+
+CALL = CRATES / "ehci_cli/src/program.rt"
+
+# What each clause says, in the order in which one reads them.
+SAYS = {
+    "output": "Where the bytes of the input are known, what is written is what the form defines of them: for `run` and `image` the report or the memory after the whole run "
+              "of the script that they spell, for `check` and `dump` its text, else the first fault. The run is that of the table machine (driver, controller, hubs, devices), "
+              "event by event.",
+    "microframes": "Each microframe that a script lets pass ends after at most 17,957,823 events of the controller, each followed by one of the driver; so each line of the script is carried "
+                   "out, and the report that `output` speaks of stands after the whole run.",
+    "budgets": "At each moment what is placed keeps every budget of bus time; and the open of a periodic endpoint that passes the checks before is refused for want of a "
+               "placement exactly where each placement that it may have breaks a budget beside what is placed.",
+    "lent": "At each moment the controller's next event reads and writes words of Lent blocks alone, the blocks that the driver's next event gives back are Free right after that event, and each word of a Free block is 0.",
+    "owned": "At each moment the Lent blocks are those that the driver still needs, each run of blocks with one owner, but for those that the unfinished command has still to lend.",
+    "schedule": "At each moment the driver's list has in each frame the queue heads of the interrupt endpoints that are placed there and not cancelled, each once and no others, and of each isochronous "
+                "endpoint at most one waiting descriptor, due in that frame. An endpoint that is being cancelled keeps its placement, and with it its bus time, until it is given back, though no frame need have its queue head.",
+    "memory": "At each moment the runs of the driver's blocks, the frame list and its links, the ring and words 1 and 2 of the queue heads stand in memory as the driver's "
+              "content says, also between two stores of a link; the walk of the ring stands at queue heads of the ring or at those that left since the last answered doorbell was "
+              "rung; and the controller runs, meets no fault and is refused no word. Of qTDs, overlays and the words of isochronous descriptors other than links it says nothing.",
+    "visits": "In one microframe the walk of the frames visits no structure twice, and each in its frame; in a held microframe no time is left; the asynchronous part ends for "
+              "one of the standard's reasons, and a queue head is passed without its transaction for one of the standard's reasons alone.",
+    "within_load": "Where all periodic endpoints are of high speed: the bus time that the walk of the frames has deducted in a microframe is at each moment at most the plan's load there, and at most 100 microseconds.",
+    "in_time": "Where all periodic endpoints are of high speed: in a microframe that isn't held no transaction of the periodic part is skipped for want of time.",
+    "streams": "Where a script opens high-speed bulk and control endpoints alone: at each moment, and after the run, the bytes told of each bulk IN endpoint that was opened begin its stream; those told of "
+               "each bulk OUT endpoint as moved begin what its device took, and these begin what was put to it. In mid-run they are compared with all puts that weren't refused so far; after the run with all of the script that weren't.",
+    "requests": "Where a script opens high-speed bulk and control endpoints alone, none a hub's own: at each moment a device acted on each control request at most once, and on nothing but its setup bytes; "
+                "of an endpoint that isn't cancelled a request that is told done was acted on exactly once, with all its data, and one that halted tells a beginning of them.",
+    "words": "The status is `Words` exactly where the words have none of the forms.",
+    "untouched": "Then nothing is read and nothing is written.",
+    "unread": "The form `load` reads nothing.",
+    "load": "The line of `load` counts the report of the whole run of the script that is drawn from its number.",
+    "left": "What a form leaves unread in its source: nothing, or what stands behind the 1,048,601st byte.",
+    "nothing": "Where the input couldn't be read or memory was wanting, nothing is written.",
+    "read": "The status is `ReadFault` exactly where a read failed.",
+    "write": "The status is `WriteFault` exactly where a write failed.",
+}
+INTRODUCTION = """# The theorem
+
+Written by docs/theorem.py; the checks of `.ci/run` compare it with the sources.
+
+The theorem of this repository is the contract of one function, `ehci` in crates/ehci_cli/src/program.rt, which the program `ehci` calls with its words, standard input and standard output. A clause holds for every input, every list of lost packets and every order of steps.
+
+Most clauses speak of **the table machine** over the script that the input spells: contents of driver, controller, registers, memory, hubs and devices, and the row that each event is. Clause `output` ties it to what is printed: the report is that of the machine's whole run. Each clause below is given in its own words, then in English, then come the definitions beside the machine that it reaches, which one has to read to know what it says. "At each moment" is: before the run, and after each of its events and commands.
+
+Where a clause's English says less than its name, the definitions count. [NOT_PROVED.md](NOT_PROVED.md) has what no clause says. **Lent, Kept, Free**: a block of memory that the controller may touch too, that the driver has alone, that nobody has. A **run** of blocks is some blocks in a row.
+"""
+
+
+def clauses():
+    """Name, text and directly named definitions of each clause of the top call."""
+    text = CALL.read_text()
+    imports = {}
+    for row in re.finditer(r"ghost use (Rattle\.[\w.]+)\.\{(.*)\};", text):
+        for item in row[2].split(","):
+            of, _, known_as = item.strip().partition(" as ")
+            imports[known_as or of] = (row[1], of)
+    contract = text.split("pub fn ehci<")[1].split("\n{")[0]
+    for row in re.finditer(r"ensures (\w+) \{ (.*) \}", contract):
+        yield row[1], row[2], [imports[it] for it in NAME.findall(row[2]) if it in imports]
+
+
+def is_beside(definition):
+    """Whether a definition stands beside the machine: in a crate of claims or laws, or in the top call's own."""
+    return kind(definition.crate) != "" or definition.crate == "ehci_cli"
+
+
+def lines(found):
+    return sum(len(it.text) for it in found)
+
+
+def told(definitions):
+    """A list item a file: each name with its line, and its words where its file's head has them."""
+    by_file = collections.defaultdict(list)
+    for it in definitions:
+        by_file[it.path].append(it)
+    for path in sorted(by_file):
+        yield f"- `{path.relative_to(CRATES)}`: " + ", ".join(f"{it.name}:{it.line}" for it in sorted(by_file[path], key=lambda it: it.line))
+
+
+def page(known):
+    out, everything = [INTRODUCTION], {}
+    found = {name: (text, roots) for name, text, roots in clauses()}
+    if set(found) != set(SAYS):
+        sys.exit(f"docs/theorem.py has a sentence too many or too few: {sorted(set(found) ^ set(SAYS))}")
+    for name, says in SAYS.items():
+        text, roots = found[name]
+        roots = [known[m].definitions[n] for m, n in roots if m in known and n in known[m].definitions]
+        all_of_it = reached(known, roots)
+        everything |= {id(it): it for it in all_of_it}
+        mine = [it for it in all_of_it if is_beside(it)]
+        out.append(f"## `{name}`\n\n    {text}\n\n{says}\n")
+        first = [it for it in roots if it.words() and "OfEach" not in it.name]
+        out += [f"`{it.name}` ({it.place}): {it.words()}\n" for it in first]
+        if mine:
+            out.append(f"{len(mine)} definitions beside the machine, {lines(mine)} lines:\n")
+            out += [*told(mine), ""]
+    return "\n".join([*out, *machine(known, list(everything.values()))])
+
+
+def machine(known, everything):
+    rest = collections.defaultdict(list)
+    for it in everything:
+        if not is_beside(it):
+            rest[it.crate].append(it)
+    yield "## The machine\n\nWhat all clauses speak of, by crate: the definitions that they reach. [RULES.md](RULES.md) finds each by the section of its standard.\n"
+    yield "| crate | definitions | lines |\n|---|---|---|"
+    for crate in sorted(rest, key=lambda it: (-lines(rest[it]), it)):
+        yield f"| {crate} | {len(rest[crate])} | {lines(rest[crate])} |"
+    beside = [it for it in everything if is_beside(it)]
+    of_all = lines([d for m in known.values() for d in m.definitions.values()])
+    machine_lines = lines([it for its in rest.values() for it in its])
+    yield (f"\nThe machine has {machine_lines:,} lines that clauses reach, and beside it stand {lines(beside):,} in {len({it.path for it in beside})} files: "
+           f"{lines(everything):,} of the {of_all:,} lines of definitions are what one has to believe. All others serve proofs, or speak of what no clause does.\n")
+
+
+def numbers(known):
+    for name, _, roots in clauses():
+        all_of_it = reached(known, [known[m].definitions[n] for m, n in roots if m in known and n in known[m].definitions])
+        mine = [it for it in all_of_it if is_beside(it)]
+        print(f"{name:12} {len(all_of_it):5} definitions, {lines(all_of_it):6} lines; beside the machine {len(mine):4} in {len({it.path for it in mine}):3} files "
+              f"of {len({it.crate for it in mine}):2} crates, {lines(mine):5} lines")
+
+
+def main():
+    known = modules()
+    if "--numbers" in sys.argv[1:]:
+        numbers(known)
+        return 0
+    return written(TOP / "docs/THEOREM.md", page(known), "--check" in sys.argv[1:], "docs/theorem.py")
+
+
+if __name__ == "__main__":
+    sys.exit(main())
