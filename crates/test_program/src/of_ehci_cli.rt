@@ -53,7 +53,8 @@ fn ends_as_it_must(rt: HostRuntime) -> Result<(), Fail> {
     for (word, input, status, output) in [
         ("run", SCRIPT, Status::Ok, REPORT),
         ("run", b"", Status::Ok, b""),
-        ("run", b"ehci 2\n", Status::Refused, b"line 1: version\n"),
+        ("run", b"ehci 2\n", Status::Ok, b""),
+        ("run", b"ehci 3\n", Status::Refused, b"line 1: version\n"),
         (
             "image",
             b"ehci 1\nmem 2047\n",
@@ -94,10 +95,10 @@ fn each_read_fails(rt: HostRuntime) -> Result<(), Fail> {
 #[test]
 fn each_line_fails(rt: HostRuntime) -> Result<(), Fail> {
     for (word, input) in [
-        ("run", b"ehci 2\n".as_slice()),
-        ("image", b"ehci 2\n".as_slice()),
+        ("run", b"ehci 3\n".as_slice()),
+        ("image", b"ehci 3\n".as_slice()),
         ("check", SCRIPT),
-        ("check", b"ehci 2\n".as_slice()),
+        ("check", b"ehci 3\n".as_slice()),
         ("check", b"EHCI".as_slice()),
     ] {
         let (status, written) = program(rt.alloc(), word, input, &[], &[0])?;

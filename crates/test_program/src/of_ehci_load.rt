@@ -9,7 +9,7 @@ const SUMMARY: &[u8] = b"load 1 endpoints 40 refused 0 done 40 halted 0 pending 
 #[test]
 fn load_of_one(rt: HostRuntime) -> Result<(), Fail> {
     for _time in 0..2 {
-        let (status, written) = program_of(rt.alloc(), &["load", "1"], b"ehci 2\n", &[0], &[])?;
+        let (status, written) = program_of(rt.alloc(), &["load", "1"], b"ehci 3\n", &[0], &[])?;
         assert_eq!(rt; status, Status::Ok);
         assert_eq!(rt; written.as_slice(), SUMMARY);
     }
