@@ -14,7 +14,7 @@ ghost use Rattle.claims_world.specs.WithinLoad.{PaysWithinLoad};
 ghost use Rattle.claims_world.specs.InTime.{ArriveInTime};
 ghost use Rattle.claims_world.specs.Microframes.{MicroframesEnd};
 ghost use Rattle.claims_world.specs.Requests.{KeepsRequests};
-ghost use Rattle.claims_world.specs.Scripts.{OfEachScript, OfEachHighPeriodicScript, OfEachAsynchronousScript, OfEachScriptOfDevices};
+ghost use Rattle.claims_world.specs.Scripts.{OfEachScript, OfEachAsynchronousScript, OfEachScriptOfDevices};
 ghost use Rattle.claims_world.specs.Streams.{KeepsStreams};
 
 use app_ends::{Status, Unread, read_input};
@@ -60,9 +60,12 @@ use usb_base::{Sink, Source};
 /// where the next price passes the time left, and then the ring goes on at the same queue head. A queue head is passed without its
 /// transaction for one of the standard's reasons alone, in the ring and in the frames.
 ///
-/// Where all its periodic endpoints are of high speed, isochronous ones too, the time that is deducted for their transactions in a
-/// microframe is no more than the plan's load there, nor than 100 microseconds, at each moment, also while endpoints are opened and
-/// cancelled. So no transaction of the periodic part is skipped for want of time, but in a held microframe.
+/// Words 1 and 2 of the queue head of each interrupt endpoint that wasn't given back are those of its description and of its placement, and
+/// each placement is one that its endpoint may have. What is deducted for the transactions of the walk of the frames in a microframe is the
+/// sum of their prices. Where all isochronous endpoints of the script are of high speed it comes, but for complete-splits that are made
+/// again at once, to no more than the plan's load there, nor to more than 100 microseconds; so no transaction of the periodic part is
+/// skipped for want of time, but in a held microframe or where one was made again. None is made again where all periodic endpoints are of
+/// high speed.
 ///
 /// Where the script opens high-speed bulk and control endpoints only, cancelled or not, the bytes that the report tells of each bulk IN
 /// endpoint begin its stream, each once and in order, and nothing follows its end; those that it tells of each bulk OUT endpoint begin
@@ -93,8 +96,8 @@ pub fn ehci<S: Source, K: Sink>(
     ensures memory { OfEachScript KeepsMemory (S.left source.old) }
     ensures visits { OfEachScript KeepsVisits (S.left source.old) }
     ensures microframes { OfEachScript MicroframesEnd (S.left source.old) }
-    ensures within_load { OfEachHighPeriodicScript PaysWithinLoad (S.left source.old) }
-    ensures in_time { OfEachHighPeriodicScript ArriveInTime (S.left source.old) }
+    ensures within_load { OfEachScript PaysWithinLoad (S.left source.old) }
+    ensures in_time { OfEachScript ArriveInTime (S.left source.old) }
     ensures streams { OfEachAsynchronousScript KeepsStreams (S.left source.old) }
     ensures requests { OfEachScriptOfDevices KeepsRequests (S.left source.old) }
     ensures left { IfSome (S.left source.old) (λ xs. Leaves (map string_bytes words.now) result xs (S.left source.new)) }

@@ -41,6 +41,10 @@ pub mod ChargeItds
 pub mod ChargeEvents
 pub mod ChargeSums
 pub mod ChargeLoads
+pub mod PriceTaken
+pub mod SplitMasked
+pub mod SplitHeads
+pub mod SplitCharged
 pub mod PaymentRemovals
 pub mod PaymentIsochronous
 pub mod PaymentFrames

@@ -19,3 +19,5 @@ pub mod Payments
 pub mod PaymentLaws
 pub mod PaymentTimes
 pub mod DataQueues
+pub mod SplitMasks
+pub mod SplitCharges
