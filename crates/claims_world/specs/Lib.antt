@@ -10,3 +10,4 @@ pub mod WithinLoad
 pub mod InTime
 pub mod Streams
 pub mod Requests
+pub mod Reach

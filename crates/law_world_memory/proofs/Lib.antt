@@ -73,3 +73,5 @@ pub mod Sampled
 pub mod SampledMemory
 pub mod SampledMoments
 pub mod Reasons
+pub mod Reach
+pub mod ReachMoments

@@ -8,3 +8,4 @@ pub mod Samples
 pub mod Reasons
 pub mod running_worlds
 pub mod framed_memory
+pub mod Reach
