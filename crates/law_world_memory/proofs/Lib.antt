@@ -75,3 +75,4 @@ pub mod SampledMoments
 pub mod Reasons
 pub mod Reach
 pub mod ReachMoments
+pub mod ReachSamples
