@@ -11,3 +11,4 @@ pub mod InTime
 pub mod Streams
 pub mod Requests
 pub mod Reach
+pub mod Releases

@@ -76,3 +76,6 @@ pub mod Reasons
 pub mod Reach
 pub mod ReachMoments
 pub mod ReachSamples
+pub mod ReleaseRows
+pub mod ReleaseCommands
+pub mod Releases

@@ -9,3 +9,4 @@ pub mod Reasons
 pub mod running_worlds
 pub mod framed_memory
 pub mod Reach
+pub mod Releases

@@ -7,6 +7,7 @@
 //! - `owned_blocks`: No run of blocks leaks (EHCI 1.0, 3, 4.8.2 and 4.10): each run that a driver has is that of the frame list, of the head of the ring, of a
 //!   queue head or an inactive qTD of an endpoint that wasn't given back, or of a qTD, an isochronous descriptor or a buffer of a transfer that wasn't.
 //! - `reach`: All that the controller can come to from where it stands is Lent (EHCI 1.0, 3, 4.6, 4.8, 4.10 and 4.12), at each moment of each script that a text spells.
+//! - `releases`: What left the ring or the frame list is given back only after the controller has shown that it let go of it (EHCI 1.0, 2.3.2, 2.3.4, 4.6 and 4.8.2).
 //! - `running_worlds`: Worlds whose controller runs, whatever the script opens (EHCI 1.0, 2.3.1, 2.3.2 and 4.15.2.4): meanwhile Host System Error is 0, and no
 //!   refusal is counted.
 //! - `runs`: So it is at each moment of each script that a text spells, and its memory is kept: runs, members and fixed words are in place, the words of the ring and of the frame list stand for the
@@ -25,6 +26,7 @@ pub mod linked_rings;
 pub mod microphone;
 pub mod owned_blocks;
 pub mod reach;
+pub mod releases;
 pub mod running_worlds;
 pub mod runs;
 pub mod worked;
