@@ -73,9 +73,9 @@ pub mod Sampled
 pub mod SampledMemory
 pub mod SampledMoments
 pub mod Reasons
-pub mod Reach
+pub mod WaysThere
 pub mod ReachMoments
 pub mod ReachSamples
 pub mod ReleaseRows
 pub mod ReleaseCommands
-pub mod Releases
+pub mod LetGo

@@ -10,7 +10,7 @@ use Rattle.law_descriptors.specs.Meeting.{met}
 use Rattle.law_world_memory.specs.Mixed.{Standing, IsMixedAt, IsMixedWorld}
 use Rattle.law_world_memory.specs.Reach.{TextsReachLent}
 use Rattle.law_world_memory.proofs.Together.{texts_stay_mixed}
-use Rattle.law_world_memory.proofs.Reach.{runs_reach_lent}
+use Rattle.law_world_memory.proofs.WaysThere.{runs_reach_lent}
 
 mixed_reaches_lent : (w : World) → IsMixedWorld w → (t : Reached) → Reaches (controller_parts w) t → IsLentAt (controller_parts w) t
 mixed_reaches_lent w k =

@@ -1,6 +1,6 @@
 -- An accepted command leaves those that wait, are rung or cleared, and the bell; a cancel with nothing to unlink takes its endpoint out of the frames.
 use Rattle.std.proofs.Common.{◌≡◌, ℕ, Bool, true, false, List, [], ◌∷◌, slice_get, Option, Some, None, Result, Ok, Err, cond, unwrap_or, is_some, ap, refl, sym, subst, ◌∙◌}
-use Rattle.std.specs.Prelude.{option_and_then, if◌then◌else◌}
+use Rattle.std.specs.Prelude.{IfOk, option_and_then, if◌then◌else◌}
 use Rattle.std.specs.List.{AllByRecursion}
 use Rattle.usb_base.specs.declared.commands.Cmd.{Cmd}
 use Rattle.usb_base.specs.declared.commands.Cmd.TheVariants as commands
@@ -17,8 +17,8 @@ use Rattle.drv_table.specs.declared.content.Endpoint.{Endpoint}
 use Rattle.drv_table.specs.Accepting.{Offered}
 use Rattle.drv_table.specs.CancelOffers.{cancelled_by, endpoint_members, offered_cancel}
 use Rattle.drv_table.specs.Commands.{removal_of}
-use Rattle.drv_table.specs.DriverContent.{DriverContent, endpoint_of}
-use Rattle.drv_table.specs.Offers.{busy, offered, offered_next}
+use Rattle.drv_table.specs.DriverContent.{DriverContent, busy, endpoint_of}
+use Rattle.drv_table.specs.Offers.{offered, offered_next}
 use Rattle.law_footprints.specs.Footprint.{offer_footprint, merged_driver}
 use Rattle.law_footprints.proofs.Accepted.{accept_frame}
 use Rattle.claims_world.specs.Releases.{LeavesFrames}
@@ -60,11 +60,11 @@ bell_same d m cmd o is = same d m cmd o is (λ x. x.bell) (bell_kept cmd d o.dri
 -- ---- what left the frame list
 
 module _ (Q : Removal → Type 0) (d : DriverContent) (m : Mem) (o : Offered) (new : (e : ℕ) → LeavesFrames d.endpoints o.driver.endpoints e → Q (removal_of (removed.Endpoint e))) (all : AllByRecursion Q d.periodic.removals) where
-  Kept : DriverContent → Type 0
+  abbrev Kept : DriverContent → Type 0
   Kept x = AllByRecursion Q x.periodic.removals
 
   ok_is : (x : Offered) → ◌≡◌ {A = Result Offered OfferError} (Ok x) (Ok o) → x ≡ o
-  ok_is x refl = refl
+  ok_is x same = subst (λ (r : Result Offered OfferError). IfOk r (λ y. x ≡ y)) same refl
 
   cancel_placed : (e : ℕ) (x : Endpoint) (p : Option Placement) → slice_get d.endpoints e ≡ Some x → cancelled_by d e x p ≡ o.driver → Kept (cancelled_by d e x p)
   cancel_placed e x None here is = all

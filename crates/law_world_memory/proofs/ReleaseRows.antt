@@ -131,6 +131,7 @@ begun_same removes q = by_work (is_none q.list.work)
     by_first : (ms : List Member) → (with_first removes q ms).removals ≡ q.removals
     by_first [] = refl
     by_first (m ∷ ms) = refl
+
     by_work : (b : Bool) → (cond b (with_first removes q q.queued) q).removals ≡ q.removals
     by_work true = by_first q.queued
     by_work false = refl
@@ -143,7 +144,7 @@ frames_out d e x on = cond on (record d {
 
 -- what holds of each then: of those that were there, and of an endpoint that leaves its frames
 module _ (P : Removal → Type 0) where
-  NewGone : List Endpoint → List Endpoint → ℕ → Type 0
+  abbrev NewGone : List Endpoint → List Endpoint → ℕ → Type 0
   NewGone xs ys e = LeavesFrames xs ys e → P (removal_of (removed.Endpoint e))
 
   gone_from : (d : DriverContent) (e : ℕ) (x : Endpoint) (on : Bool) → x.chained ≡ on → slice_get d.endpoints e ≡ Some x
@@ -225,7 +226,7 @@ iso_same : (p : Parts) (d : DriverContent) (e t count : ℕ) → d.command ≡ S
 iso_same p d e t count is = removals_stays (rows.Store 0 0 0) (record p { driver = d }) (Some (unfinished.Iso e t count)) is refl
 
 module _ (P Q : Removal → Type 0) (more : (r : Removal) → P r → Q r) where
-  Reading : DriverRow → Parts → Type 0
+  abbrev Reading : DriverRow → Parts → Type 0
   Reading row p = (n : ℕ) → frindex_read row p ≡ Some n → (r : Removal) → P r → Q (read_once n r)
 
   framed : (p : Parts) (e t count : ℕ) → p.driver.command ≡ Some (unfinished.Iso e t count) → Reading rows.Frames p → All P p.driver.periodic.removals

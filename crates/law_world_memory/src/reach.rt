@@ -2,7 +2,6 @@
 ghost use Rattle.law_world_memory.specs.Reach.{RunsReachLent, TextsReachLent};
 
 /// Where both walks are over structures that memory tells, each place that is reached is Lent.
-#[tactic(auto, using(crate::proofs::Reach::runs_reach_lent))]
 pub fn runs_reach_lent()
     ensures { RunsReachLent }
 {}

@@ -3,7 +3,6 @@ ghost use Rattle.law_world_memory.specs.Releases.{ScriptsGiveBackLast};
 
 /// Of every script: an endpoint of the ring is given back after the answer of a doorbell that was rung since it left, and what left the frame list after two
 /// readings of FRINDEX since then whose frame numbers differ.
-#[tactic(auto, using(crate::proofs::Releases::scripts_give_back_last))]
 pub fn scripts_give_back_last()
     ensures { ScriptsGiveBackLast }
 {}

@@ -58,7 +58,7 @@ module _ (base : Base) (member : ℕ → Bool) (met : ℕ → Option Kind) (part
   tells : Tells c.memory parts
   tells = k.ring.tells
 
-  IsTold : Reached → Type 0
+  abbrev IsTold : Reached → Type 0
   IsTold TheList = Unit {0}
   IsTold (QueueAt a) = (member a ≡ true) ⊎ (met a ≡ Some AQueue)
   IsTold (QtdAt a) = IsToldQtd parts a
@@ -166,10 +166,10 @@ module _ (base : Base) (member : ℕ → Bool) (met : ℕ → Option Kind) (part
         let at : d.offset + i ≡ qtd_place d + i = omega (arith, start) in
         subst IsTold (sym is) (subst (λ (x : ℕ). reaches c.memory (place (qtd_pages d) x) ≡ true) at (byte_of n d d.token.total (ready.buffer (omega (arith, below))) i below))
 
-  HasParts : Qh → Type 0
+  abbrev HasParts : Qh → Type 0
   HasParts q = (t : Reached) → IsPartOfQueue q t → IsTold t
 
-  LinkTold : LinkBits → Type 0
+  abbrev LinkTold : LinkBits → Type 0
   LinkTold l = IfSome (leads_to (link_of l)) IsTold
 
   told_parts : (a : ℕ) (x : IsToldQueue a) → HasParts x.part_is.queue
@@ -217,7 +217,7 @@ module _ (base : Base) (member : ℕ → Bool) (met : ℕ → Option Kind) (part
   ring_held reply (Settled x s) in_hand = record { at = inl (in_hand.0).on; link = member_lead x.link (in_hand.0).link; parts_are = λ none. cc none }
   ring_held reply (Stale n q) in_hand = record { at = inl in_hand.on; link = member_lead q.link in_hand.link; parts_are = λ none. stale_parts n q in_hand }
 
-  QueueCopyTold : FrameCopy → Type 0
+  abbrev QueueCopyTold : FrameCopy → Type 0
   QueueCopyTold (hands.Queue h) = IsToldHeld h.copy
   QueueCopyTold (hands.Itd h) = Unit {0}
   QueueCopyTold (hands.Sitd h) = Unit {0}
@@ -345,17 +345,17 @@ module _ (base : Base) (member : ℕ → Bool) (met : ℕ → Option Kind) (part
   -- ---- what is told is Lent
 
   lent : (t : Reached) → IsTold t → IsLentAt c t
-  lent TheList told = list_lent
-  lent (QueueAt a) told = let x = queue_told a told in head_reached c.memory parts a a x.part_is.queue tells x.part_is.here
-  lent (QtdAt a) told = element_reached c.memory parts told.owner a told.qtd tells told.here
-  lent (ItdAt a) told =
-      let m : IsMetItd met a (parts a) = k.members a AnItd told in
+  lent TheList is = list_lent
+  lent (QueueAt a) is = let x = queue_told a is in head_reached c.memory parts a a x.part_is.queue tells x.part_is.here
+  lent (QtdAt a) is = element_reached c.memory parts is.owner a is.qtd tells is.here
+  lent (ItdAt a) is =
+      let m : IsMetItd met a (parts a) = k.members a AnItd is in
       let h : HoldsIsochronous c.memory a m.itd = tells.each a a (Isochronous m.itd) m.here in h.lent
-  lent (SitdAt a) told =
-      let m : IsMetSitd met a (parts a) = k.members a ASitd told in
+  lent (SitdAt a) is =
+      let m : IsMetSitd met a (parts a) = k.members a ASitd is in
       let h : HoldsSplitIsochronous c.memory a m.sitd = tells.each a a (SplitIsochronous m.sitd) m.here in h.lent
-  lent (FstnAt a) told = told
-  lent (ByteAt a) told = told
+  lent (FstnAt a) is = is
+  lent (ByteAt a) is = is
 
 pub runs_reach_lent : RunsReachLent
 runs_reach_lent = λ base member met parts hand frame c k t way. lent base member met parts hand frame c k t (told base member met parts hand frame c k t way)

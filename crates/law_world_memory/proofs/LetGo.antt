@@ -1,6 +1,7 @@
 -- The run so far, event by event: whatever is given back stands first in a list that tells of it.
 use Rattle.std.proofs.Common.{◌≡◌, ◌≢◌, ℕ, zero, suc, ◌<◌, Bool, true, false, not, nat_eq, List, [], ◌∷◌, slice_get, Option, Some, None, Result, Ok, Err, cond, ap, refl, sym, subst, ◌∙◌, arith}
 use Rattle.std.specs.List.{AllByRecursion}
+use Rattle.std.specs.Prelude.{IfSome}
 use Rattle.usb_base.specs.declared.commands.Cmd.{Cmd}
 use Rattle.usb_base.specs.declared.commands.Cmd.TheVariants as commands
 use Rattle.usb_base.specs.declared.reports.OfferError.{OfferError}
@@ -21,6 +22,7 @@ use Rattle.drv_table.specs.DriverContent.{DriverContent}
 use Rattle.drv_table.specs.Offers.{offered}
 use Rattle.drv_table.specs.Parts.{Parts}
 use Rattle.drv_table.specs.Rows.{driver_row, after_driver_row}
+use Rattle.drv_chains.proofs.Linking.{same_number}
 use Rattle.bus_wire.specs.Bus.{Fixed, fixed_of}
 use Rattle.bus_world.specs.World.{World, driver_parts, driver_next, controller_next, commanded, commanded_by, name_in}
 use Rattle.bus_world.specs.Opening.{opening_world}
@@ -35,6 +37,9 @@ use Rattle.law_descriptors.specs.Returned.{IsGivenBack}
 use Rattle.law_descriptors.proofs.GivenRow.{row_is_given_back}
 use Rattle.law_world_memory.proofs.ReleaseCommands.{waiting_same, rung_same, cleared_same, bell_same, removals_offered}
 use Rattle.law_world_memory.proofs.ReleaseRows.{waiting_then, rung_then, cleared_then, heard_then, removals_then}
+
+differs : (a b : ℕ) → nat_eq a b ≡ false → a ≢ b
+differs a b not_same same = cc (not_same, subst (λ (x : ℕ). nat_eq a x ≡ true) same (same_number a))
 
 -- ---- from one moment to the next
 
@@ -57,7 +62,14 @@ module _ (s : Script) where
 
   later_heard : (k e : ℕ) → HeardAdvance s e k → HeardAdvance s e (suc k)
   later_heard k e h = record {
-    unlinking = h.unlinking; ringing = h.ringing; reading = h.reading; left = h.left; rang = h.rang; heard = h.heard; one = h.one; two = h.two;
+    unlinking = h.unlinking;
+    ringing = h.ringing;
+    reading = h.reading;
+    left = h.left;
+    rang = h.rang;
+    heard = h.heard;
+    one = h.one;
+    two = h.two;
     three = let three = h.three in omega (arith, three);
   }
 
@@ -81,14 +93,14 @@ module _ (s : Script) where
     first_read : (at frame : ℕ) → HasRead s at k frame → (same : Bool) → nat_eq (frame_number n) frame ≡ same → HasBoundary s at (suc k) (cond same (Since frame) Seen)
     first_read at frame h true is = later_read at k frame h
     first_read at frame h false is = record {
-      second = k; m = n; frame = frame; read = h; again = reads; differ = λ same. differs (frame_number n) frame is (sym same); three = omega arith;
+      second = k;
+      m = n;
+      frame = frame;
+      read = h;
+      again = reads;
+      differ = λ same. differs (frame_number n) frame is (sym same);
+      three = omega arith;
     }
-      where
-        differs : (a b : ℕ) → nat_eq a b ≡ false → a ≢ b
-        differs a b not_same same = cc (not_same, subst (λ (x : ℕ). nat_eq a x ≡ true) same (nat_eq-same a))
-        nat_eq-same : (a : ℕ) → nat_eq a a ≡ true
-        nat_eq-same zero = refl
-        nat_eq-same (suc a) = nat_eq-same a
 
     read_boundary : (at : ℕ) (b : Boundary) → at < k → HasBoundary s at k b → HasBoundary s at (suc k) (after_reading n b)
     read_boundary at Unread one h = record { first = k; n = n; read = reads; number = refl; one = one; two = omega arith }
@@ -97,7 +109,10 @@ module _ (s : Script) where
 
     read_gone : (r : Removal) → HasGone s k r → HasGone s (suc k) (record r { boundary = after_reading n r.boundary })
     read_gone r h = record {
-      unlinking = h.unlinking; left = h.left; boundary = read_boundary h.unlinking r.boundary h.one h.boundary; one = let one = h.one in omega (arith, one);
+      unlinking = h.unlinking;
+      left = h.left;
+      boundary = read_boundary h.unlinking r.boundary h.one h.boundary;
+      one = let one = h.one in omega (arith, one);
     }
 
   -- ---- the driver's content stays
@@ -114,7 +129,7 @@ module _ (s : Script) where
   -- ---- an event of the driver
 
   module _ (k : ℕ) (turn : is_drivers (moment s k).orders ≡ true) (next : (moment s (suc k)).world ≡ driver_next (moment s k).world) (h : IsHistory s k (moment s k).world.driver) where
-    p : Parts
+    abbrev p : Parts
     p = driver_parts (moment s k).world
 
     does : (row : DriverRow) → driver_row p ≡ row → Does s k row
@@ -134,8 +149,15 @@ module _ (s : Script) where
 
     heard_now : driver_row p ≡ rows.ReadStatus true → (e : ℕ) → HasRung s k e → HeardAdvance s e (suc k)
     heard_now is e r = record {
-      unlinking = r.left.unlinking; ringing = r.ringing; reading = k; left = r.left.left; rang = r.rang; heard = does (rows.ReadStatus true) is;
-      one = r.left.one; two = r.two; three = omega arith;
+      unlinking = r.left.unlinking;
+      ringing = r.ringing;
+      reading = k;
+      left = r.left.left;
+      rang = r.rang;
+      heard = does (rows.ReadStatus true) is;
+      one = r.left.one;
+      two = r.two;
+      three = omega arith;
     }
 
     gone_now : (e : ℕ) → LeavesFrames p.driver.endpoints (after_driver_row (driver_row p) p).driver.endpoints e → HasGone s (suc k) (record { what = removed.Endpoint e; boundary = Unread })
@@ -164,7 +186,7 @@ module _ (s : Script) where
   -- ---- a command
 
   module _ (k n : ℕ) (cmd : Cmd) (next : (moment s (suc k)).world ≡ commanded (moment s k).world n cmd) (h : IsHistory s k (moment s k).world.driver) where
-    w : World
+    abbrev w : World
     w = (moment s k).world
 
     gone_by : (r : Result Offered OfferError) → commanded_by w n (name_in cmd) r ≡ (moment s (suc k)).world → (o : Offered) → r ≡ Ok o → (e : ℕ) → LeavesFrames w.driver.endpoints o.driver.endpoints e
@@ -212,7 +234,8 @@ module _ (s : Script) where
   -- ---- what is given back
 
   first_all : {X : Type 0} (P : X → Type 0) (xs : List X) (x : X) → AllByRecursion P xs → slice_get xs 0 ≡ Some x → P x
-  first_all P (y ∷ ys) y all refl = all.0
+  first_all P [] x all is = absurd (cc)
+  first_all P (y ∷ ys) x all is = subst (λ o. IfSome o P) is all.0
 
   ring_let_go : (k e : ℕ) → Does s k (rows.ReleaseEndpoint e) → HeardAdvance s e k
   ring_let_go k e does =
@@ -224,8 +247,18 @@ module _ (s : Script) where
   saw k what Unread seen at left h = absurd (cc)
   saw k what (Since frame) seen at left h = absurd (cc)
   saw k what Seen seen at left h = record {
-    unlinking = at; first = h.read.first; second = h.second; n = h.read.n; m = h.m; left = left; read = h.read.read; again = h.again;
-    differ = λ same. h.differ (sym h.read.number ∙ same); one = h.read.one; two = h.read.two; three = h.three;
+    unlinking = at;
+    first = h.read.first;
+    second = h.second;
+    n = h.read.n;
+    m = h.m;
+    left = left;
+    read = h.read.read;
+    again = h.again;
+    differ = λ same. h.differ (sym h.read.number ∙ same);
+    one = h.read.one;
+    two = h.read.two;
+    three = h.three;
   }
 
   frames_let_go : (k : ℕ) (what : Removed) → Does s k (rows.ReleaseRemoved what) → SawTwoFrames s what k
