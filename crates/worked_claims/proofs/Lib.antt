@@ -1,1 +1,1 @@
-pub mod Broken
+pub mod Breaking

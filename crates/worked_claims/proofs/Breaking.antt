@@ -1,5 +1,5 @@
 -- Each world breaks its clause.
-use Rattle.std.proofs.Common.{◌≡◌, ℕ, zero, suc, ◌+◌, ◌*◌, List, [], ◌∷◌, ap, refl, sym, subst, ◌∙◌}
+use Rattle.std.proofs.Common.{◌≡◌, ℕ, zero, suc, ◌+◌, ◌*◌, ◌≤◌, List, [], ◌∷◌, ap, refl, sym, subst, ◌∙◌, arith}
 use Rattle.script_types.specs.declared.scripts.Line.{Line}
 use Rattle.script_types.specs.declared.scripts.Script.{Script}
 use Rattle.bus_wire.specs.Bus.{Fixed, fixed_of}
@@ -34,10 +34,10 @@ breaks_microframes = λ s none n rest k.
     cc (sym k.over ∙ ap (λ (p : OrderedWorld). p.orders) is)
 
 pub breaks_within_load : BreaksWithinLoad
-breaks_within_load = λ w k. let is = k.fifth in cc is
+breaks_within_load = λ w k. let is : 100000001 ≤ 100000000 = k.fifth in omega (arith, is)
 
 pub breaks_in_time : BreaksInTime
-breaks_in_time = λ fixed w k. cc (k.fifth refl refl)
+breaks_in_time = λ fixed w k. let is : 25000000 ≤ 0 = k.fifth refl refl in omega (arith, is)
 
 pub breaks_budgets : BreaksBudgets
-breaks_budgets = λ p k. let is = k.fits.loads 0 (omega arith) in cc is
+breaks_budgets = λ p k. let is : 125010000 ≤ 100000000 = k.fits.loads 0 (omega arith) in omega (arith, is)
