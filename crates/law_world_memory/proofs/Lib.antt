@@ -12,6 +12,7 @@ pub mod Hubs
 pub mod Texts
 pub mod FittingTexts
 pub mod AtWork
+pub mod Carrying
 pub mod Moments
 pub mod QueueViews
 pub mod PublishStores
