@@ -55,6 +55,7 @@ use Rattle.law_driver.specs.queued_drivers.Rows.{QueuesAlike}
 use Rattle.law_driver.proofs.lemmas.queued_drivers.RowTurns.{alike_subst}
 use Rattle.law_queues.specs.open_laws.Queues.{IsOpenThere, IsNewPart}
 use Rattle.law_world_memory.specs.Mixed.{QueuesGoOn}
+use Rattle.law_world_memory.specs.SameQueues.{IsRelinked, IsSameQueue}
 
 -- ---- the same queues
 
@@ -203,20 +204,6 @@ there_alike g f parts alike k = record {
 }
 
 -- ---- structures of one queue head that differ at most in its link
-
-pub record IsRelinked (part : Structures) (n : ℕ) (q : Qh) : Type 0 where
-  link : LinkBits
-  here : part n ≡ Some (QueueHead (record q { link = link }))
-
--- those that are no structures of a queue may differ
-pub record IsSameQueue (n : ℕ) (part now : Structures) : Type 0 where
-  elements : (a : ℕ) (t : Qtd) → part a ≡ Some (Element t) → now a ≡ Some (Element t)
-  elements_were : (a : ℕ) (t : Qtd) → now a ≡ Some (Element t) → part a ≡ Some (Element t)
-  buffers : (a : ℕ) (pages : List ℕ) (j : ℕ) (bs : List ℕ) → part a ≡ Some (Buffer pages j bs) → now a ≡ Some (Buffer pages j bs)
-  buffers_were : (a : ℕ) (pages : List ℕ) (j : ℕ) (bs : List ℕ) → now a ≡ Some (Buffer pages j bs) → part a ≡ Some (Buffer pages j bs)
-  bytes : (a : ℕ) → bytes_in (now a) ≡ bytes_in (part a)
-  head : (q : Qh) → part n ≡ Some (QueueHead q) → IsRelinked now n q
-  head_was : (q : Qh) → now n ≡ Some (QueueHead q) → IsRelinked part n q
 
 same_itself : (n : ℕ) (part : Structures) → IsSameQueue n part part
 same_itself n part = record {

@@ -28,9 +28,10 @@ use Rattle.law_driver.proofs.lemmas.queued_drivers.RowFrames.{frames_leave, chai
 use Rattle.law_driver.proofs.lemmas.queued_drivers.RowOwners.{queued_owners}
 use Rattle.bus_world.specs.World.{World, driver_parts, controller_parts, with_parts, driver_next}
 use Rattle.law_world_memory.specs.Mixed.{QueuesGoOn, IsChainToLend, IsChainThere, IsUnderWay, Standing, IsMixedAt, IsMixedWorld}
+use Rattle.law_world_memory.specs.SameQueues.{IsSameQueue}
 use Rattle.law_world_memory.proofs.Unfinished.{none_unfinished}
 use Rattle.law_world_memory.proofs.Next.{mixed_next}
-use Rattle.law_world_memory.proofs.Alike.{same_lent, goes_on_alike, there_alike, IsSameQueue, new_still, goes_on_still, queues_stored}
+use Rattle.law_world_memory.proofs.Alike.{same_lent, goes_on_alike, there_alike, new_still, goes_on_still, queues_stored}
 use Rattle.law_world_memory.proofs.ChainSteps.{AfterChain, after_chain, ring_on, finished_goes}
 use Rattle.law_world_memory.proofs.ChainLends.{lend_world}
 

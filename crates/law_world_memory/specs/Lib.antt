@@ -1,5 +1,6 @@
 pub mod owned_blocks
 pub mod Mixed
+pub mod SameQueues
 pub mod Laws
 pub mod Scripts
 pub mod MicrophoneSamples
