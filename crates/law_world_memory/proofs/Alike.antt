@@ -205,7 +205,7 @@ there_alike g f parts alike k = record {
 
 -- ---- structures of one queue head that differ at most in its link
 
-same_itself : (n : ℕ) (part : Structures) → IsSameQueue n part part
+pub same_itself : (n : ℕ) (part : Structures) → IsSameQueue n part part
 same_itself n part = record {
   elements = λ a t is. is;
   elements_were = λ a t is. is;
@@ -459,6 +459,11 @@ module _ (parts : StructureSets) (m : ℕ) (s r : Structure) (here : parts m m �
         ⊎_elim {C = IsRelinked (parts n) n q} (λ (same : put_now n n ≡ parts n n). record { link = q.link; here = sym same ∙ is })
         (λ (own : IsOwn n n). let h = head_before s r q like (same_Some r (QueueHead q) (sym own.is ∙ is)) in record { link = h.link; here = own.was ∙ ap (λ (z : Structure). Some z) h.is }) (which n n);
   }
+
+-- the queue head at m has another link
+pub relinked_same : (parts : StructureSets) (m : ℕ) (q : Qh) (l : LinkBits) → parts m m ≡ Some (QueueHead q) → (n : ℕ)
+    → IsSameQueue n (parts n) (put parts m m (QueueHead (record q { link = l })) n)
+relinked_same parts m q l here = put_is_same parts m (QueueHead q) (QueueHead (record q { link = l })) here (a_head q l)
 
 -- ---- a store of the frame list
 

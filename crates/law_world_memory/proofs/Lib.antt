@@ -5,6 +5,7 @@ pub mod Controller
 pub mod Opening
 pub mod Unfinished
 pub mod HarvestOwed
+pub mod Stepping
 pub mod Next
 pub mod Rings
 pub mod Working
@@ -73,4 +74,6 @@ pub mod SampledPlace
 pub mod Sampled
 pub mod SampledMemory
 pub mod SampledMoments
+pub mod StepSampled
+pub mod StepTelling
 pub mod Reasons
