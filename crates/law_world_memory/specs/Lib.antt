@@ -1,5 +1,9 @@
 pub mod owned_blocks
 pub mod Mixed
+pub mod SameQueues
+pub mod Steps
+pub mod StepLaws
+pub mod StepSamples
 pub mod Laws
 pub mod Scripts
 pub mod MicrophoneSamples

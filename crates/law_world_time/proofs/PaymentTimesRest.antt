@@ -19,7 +19,7 @@ use Rattle.bus_world.specs.Budgets.{moment}
 use Rattle.law_world_steps.specs.Streaming.{begins_by, transacts_by, wired}
 use Rattle.law_world_steps.proofs.StreamTurning.{world_has_row}
 use Rattle.claims_world.specs.Visits.{TellsMicroframe, fetched_by}
-use Rattle.law_world_visits.proofs.Carrying.{KeepsCarried, carrying}
+use Rattle.law_world_memory.proofs.Carrying.{KeepsCarried, carrying}
 use Rattle.law_world_visits.proofs.VisitWalking.{over_no, async_no}
 use Rattle.law_world_visits.proofs.ReasonParts.{InPart, row_in, command_control, command_bus}
 use Rattle.claims_world.specs.WithinLoad.{begun_too, paid_more, payments_at, payments_after, payments_next, payments, paid_by_all}
