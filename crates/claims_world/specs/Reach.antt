@@ -127,9 +127,12 @@ pub data Reaches (c : Content) : Reached → Type 0 where
   ring_cursor : (t : Reached) → leads_to (cursor_link c.registers c.control.walk.cursor) ≡ Some t → Reaches c t
   held : (t : Reached) (l : Link) → IsHeld c t l → Reaches c t
   behind_held : (s t : Reached) (l : Link) → IsHeld c s l → leads_to l ≡ Some t → Reaches c t
-  behind_queue : (a : ℕ) (q : Qh) (t : Reached) → Reaches c (QueueAt a) → queue_head_at_address c.memory a ≡ Some q → leads_to (link_of q.link) ≡ Some t → Reaches c t
-  behind_itd : (a : ℕ) (v : Itd) (t : Reached) → Reaches c (ItdAt a) → itd_at_address c.memory a ≡ Some v → leads_to (link_of v.link) ≡ Some t → Reaches c t
-  behind_sitd : (a : ℕ) (v : Sitd) (t : Reached) → Reaches c (SitdAt a) → sitd_at_address c.memory a ≡ Some v → leads_to (link_of v.link) ≡ Some t → Reaches c t
+  behind_queue : (a : ℕ) (q : Qh) (t : Reached) → Reaches c (QueueAt a) → queue_head_at_address c.memory a ≡ Some q
+      → leads_to (link_of q.link) ≡ Some t → Reaches c t
+  behind_itd : (a : ℕ) (v : Itd) (t : Reached) → Reaches c (ItdAt a) → itd_at_address c.memory a ≡ Some v
+      → leads_to (link_of v.link) ≡ Some t → Reaches c t
+  behind_sitd : (a : ℕ) (v : Sitd) (t : Reached) → Reaches c (SitdAt a) → sitd_at_address c.memory a ≡ Some v
+      → leads_to (link_of v.link) ≡ Some t → Reaches c t
   of_queue : (a : ℕ) (q : Qh) (t : Reached) → Reaches c (QueueAt a) → IsQueueHeadAt c a q → IsPartOfQueue q t → Reaches c t
   of_qtd : (a : ℕ) (d : Qtd) (t : Reached) → Reaches c (QtdAt a) → qtd_at_address c.memory a ≡ Some d → IsPartOfQtd d t → Reaches c t
   of_itd : (a : ℕ) (v : Itd) (t : Reached) → Reaches c (ItdAt a) → itd_at_address c.memory a ≡ Some v → IsPartOfItd v t → Reaches c t
@@ -147,4 +150,5 @@ IsLentAt c (FstnAt a) = ⊥
 IsLentAt c (ByteAt a) = reaches c.memory a ≡ true
 
 abbrev pub ReachesLentThroughout : Script → Type 0
-ReachesLentThroughout s = (k : ℕ) (t : Reached) → Reaches (controller_parts (moment s k).world) t → IsLentAt (controller_parts (moment s k).world) t
+ReachesLentThroughout s = (k : ℕ) (t : Reached) → Reaches (controller_parts (moment s k).world) t
+    → IsLentAt (controller_parts (moment s k).world) t

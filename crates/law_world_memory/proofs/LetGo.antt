@@ -1,5 +1,6 @@
 -- The run so far, event by event: whatever is given back stands first in a list that tells of it.
-use Rattle.std.proofs.Common.{◌≡◌, ◌≢◌, ℕ, zero, suc, ◌<◌, Bool, true, false, not, nat_eq, List, [], ◌∷◌, slice_get, Option, Some, None, Result, Ok, Err, cond, ap, refl, sym, subst, ◌∙◌, arith}
+use Rattle.std.proofs.Common.{◌≡◌, ◌≢◌, ℕ, zero, suc, ◌<◌, Bool, true, false, not, nat_eq, List, [], ◌∷◌, slice_get, Option, Some, None}
+use Rattle.std.proofs.Common.{Result, Ok, Err, cond, ap, refl, sym, subst, ◌∙◌, arith}
 use Rattle.std.specs.List.{AllByRecursion}
 use Rattle.std.specs.Prelude.{IfSome}
 use Rattle.usb_base.specs.declared.commands.Cmd.{Cmd}
@@ -26,12 +27,14 @@ use Rattle.drv_chains.proofs.Linking.{same_number}
 use Rattle.bus_wire.specs.Bus.{Fixed, fixed_of}
 use Rattle.bus_world.specs.World.{World, driver_parts, driver_next, controller_next, commanded, commanded_by, name_in}
 use Rattle.bus_world.specs.Opening.{opening_world}
-use Rattle.bus_world.specs.Orders.{Left, Events, Microframes, Answer, Command, Plugs, OrderedWorld, at_place, orders_of, tick, tick_at, tick_by, ticks}
+use Rattle.bus_world.specs.Orders.{Left, Events, Microframes, Answer, Command, Plugs, OrderedWorld, at_place, orders_of, tick, tick_at}
+use Rattle.bus_world.specs.Orders.{tick_by, ticks}
 use Rattle.bus_world.specs.Budgets.{moment}
 use Rattle.law_devices.proofs.Lists.{all_more}
 use Rattle.law_driver.specs.run_owners.Due.{IsDue, IsEndpointDue, IsRemovalDue}
 use Rattle.law_driver.proofs.lemmas.run_owners.Reasons.{each_is_due}
-use Rattle.claims_world.specs.Releases.{is_drivers, Does, Reads, LeavesRing, LeavesFrames, HeardAdvance, SawTwoFrames, IsUnlinkedAt, frindex_read, IsLetGo}
+use Rattle.claims_world.specs.Releases.{is_drivers, Does, Reads, LeavesRing, LeavesFrames, HeardAdvance, SawTwoFrames, IsUnlinkedAt}
+use Rattle.claims_world.specs.Releases.{frindex_read, IsLetGo}
 use Rattle.law_world_memory.specs.Releases.{HasLeft, HasRung, HasRead, HasReadTwo, HasBoundary, HasGone, IsHistory, ScriptsGiveBackLast}
 use Rattle.law_descriptors.specs.Returned.{IsGivenBack}
 use Rattle.law_descriptors.proofs.GivenRow.{row_is_given_back}
@@ -90,7 +93,8 @@ module _ (s : Script) where
   -- ---- one reading more
 
   module _ (k n : ℕ) (reads : Reads s k n) where
-    first_read : (at frame : ℕ) → HasRead s at k frame → (same : Bool) → nat_eq (frame_number n) frame ≡ same → HasBoundary s at (suc k) (cond same (Since frame) Seen)
+    first_read : (at frame : ℕ) → HasRead s at k frame → (same : Bool) → nat_eq (frame_number n) frame ≡ same
+        → HasBoundary s at (suc k) (cond same (Since frame) Seen)
     first_read at frame h true is = later_read at k frame h
     first_read at frame h false is = record {
       second = k;
@@ -128,7 +132,8 @@ module _ (s : Script) where
 
   -- ---- an event of the driver
 
-  module _ (k : ℕ) (turn : is_drivers (moment s k).orders ≡ true) (next : (moment s (suc k)).world ≡ driver_next (moment s k).world) (h : IsHistory s k (moment s k).world.driver) where
+  module _ (k : ℕ) (turn : is_drivers (moment s k).orders ≡ true) (next : (moment s (suc k)).world ≡ driver_next (moment s k).world)
+      (h : IsHistory s k (moment s k).world.driver) where
     abbrev p : Parts
     p = driver_parts (moment s k).world
 
@@ -138,7 +143,8 @@ module _ (s : Script) where
     after_is : (after_driver_row (driver_row p) p).driver ≡ (moment s (suc k)).world.driver
     after_is = ap (λ (w : World). w.driver) (sym next)
 
-    ends_now : (P : List Endpoint → Type 0) → P (after_driver_row (driver_row p) p).driver.endpoints → P (moment s (suc k)).world.driver.endpoints
+    ends_now : (P : List Endpoint → Type 0) → P (after_driver_row (driver_row p) p).driver.endpoints
+        → P (moment s (suc k)).world.driver.endpoints
     ends_now P = subst (λ (d : DriverContent). P d.endpoints) after_is
 
     left_now : (e : ℕ) → LeavesRing p.driver.endpoints (after_driver_row (driver_row p) p).driver.endpoints e → HasLeft s (suc k) e
@@ -160,8 +166,14 @@ module _ (s : Script) where
       three = omega arith;
     }
 
-    gone_now : (e : ℕ) → LeavesFrames p.driver.endpoints (after_driver_row (driver_row p) p).driver.endpoints e → HasGone s (suc k) (record { what = removed.Endpoint e; boundary = Unread })
-    gone_now e l = record { unlinking = k; left = ends_now (λ xs. LeavesFrames p.driver.endpoints xs e) l; boundary = tt; one = omega arith }
+    gone_now : (e : ℕ) → LeavesFrames p.driver.endpoints (after_driver_row (driver_row p) p).driver.endpoints e
+        → HasGone s (suc k) (record { what = removed.Endpoint e; boundary = Unread })
+    gone_now e l = record {
+      unlinking = k;
+      left = ends_now (λ xs. LeavesFrames p.driver.endpoints xs e) l;
+      boundary = tt;
+      one = omega arith;
+    }
 
     unlinked_now : (t : ℕ) → driver_row p ≡ rows.Unlink t → HasGone s (suc k) (record { what = removed.Descriptor t; boundary = Unread })
     unlinked_now t is = record { unlinking = k; left = does (rows.Unlink t) is; boundary = tt; one = omega arith }
@@ -171,13 +183,16 @@ module _ (s : Script) where
 
     driven : IsHistory s (suc k) (after_driver_row (driver_row p) p).driver
     driven = record {
-      waiting = waiting_then (HasLeft s (suc k)) (driver_row p) p p.driver.command refl left_now (all_more (HasLeft s k) (HasLeft s (suc k)) p.driver.waiting (later_left k) h.waiting);
-      rung = rung_then (HasRung s (suc k)) (driver_row p) p (λ is. all_more (HasLeft s k) (HasRung s (suc k)) p.driver.waiting (rung_now is) h.waiting)
+      waiting = waiting_then (HasLeft s (suc k)) (driver_row p) p p.driver.command refl left_now
+          (all_more (HasLeft s k) (HasLeft s (suc k)) p.driver.waiting (later_left k) h.waiting);
+      rung = rung_then (HasRung s (suc k)) (driver_row p) p
+          (λ is. all_more (HasLeft s k) (HasRung s (suc k)) p.driver.waiting (rung_now is) h.waiting)
           (all_more (HasRung s k) (HasRung s (suc k)) p.driver.rung (later_rung k) h.rung);
       heard = heard_then (driver_row p) p (λ e. HeardAdvance s e k) (λ e. HeardAdvance s e (suc k)) (later_heard k) h.heard
           (λ is. all_more (HasRung s k) (λ e. HeardAdvance s e (suc k)) p.driver.rung (heard_now is) h.rung);
       cleared = cleared_then (λ e. HeardAdvance s e (suc k)) (driver_row p) p
-          (λ is. all_more (λ e. HeardAdvance s e k) (λ e. HeardAdvance s e (suc k)) p.driver.rung (later_heard k) (h.heard (heard_before is)))
+          (λ is. all_more (λ e. HeardAdvance s e k) (λ e. HeardAdvance s e (suc k)) p.driver.rung (later_heard k)
+          (h.heard (heard_before is)))
           (all_more (λ e. HeardAdvance s e k) (λ e. HeardAdvance s e (suc k)) p.driver.cleared (later_heard k) h.cleared);
       removals = removals_then (HasGone s k) (HasGone s (suc k)) (later_gone k) (driver_row p) p p.driver.command refl gone_now unlinked_now
           (λ n is. read_gone k n (record { turn = turn; reads = is })) h.removals;
@@ -185,15 +200,18 @@ module _ (s : Script) where
 
   -- ---- a command
 
-  module _ (k n : ℕ) (cmd : Cmd) (next : (moment s (suc k)).world ≡ commanded (moment s k).world n cmd) (h : IsHistory s k (moment s k).world.driver) where
+  module _ (k n : ℕ) (cmd : Cmd) (next : (moment s (suc k)).world ≡ commanded (moment s k).world n cmd)
+      (h : IsHistory s k (moment s k).world.driver) where
     abbrev w : World
     w = (moment s k).world
 
-    gone_by : (r : Result Offered OfferError) → commanded_by w n (name_in cmd) r ≡ (moment s (suc k)).world → (o : Offered) → r ≡ Ok o → (e : ℕ) → LeavesFrames w.driver.endpoints o.driver.endpoints e
+    gone_by : (r : Result Offered OfferError) → commanded_by w n (name_in cmd) r ≡ (moment s (suc k)).world → (o : Offered) → r ≡ Ok o
+        → (e : ℕ) → LeavesFrames w.driver.endpoints o.driver.endpoints e
         → HasGone s (suc k) (record { what = removed.Endpoint e; boundary = Unread })
     gone_by r same o is e l = record {
       unlinking = k;
-      left = subst (λ (v : World). LeavesFrames w.driver.endpoints v.driver.endpoints e) (sym (ap (commanded_by w n (name_in cmd)) is) ∙ same) l;
+      left = subst (λ (v : World). LeavesFrames w.driver.endpoints v.driver.endpoints e)
+          (sym (ap (commanded_by w n (name_in cmd)) is) ∙ same) l;
       boundary = tt;
       one = omega arith;
     }
@@ -204,24 +222,31 @@ module _ (s : Script) where
         record {
           waiting = subst (AllByRecursion (HasLeft s (suc k))) (sym (waiting_same w.driver w.memory cmd o is)) later.waiting;
           rung = subst (AllByRecursion (HasRung s (suc k))) (sym (rung_same w.driver w.memory cmd o is)) later.rung;
-          heard = λ bell. subst (AllByRecursion (λ e. HeardAdvance s e (suc k))) (sym (rung_same w.driver w.memory cmd o is)) (later.heard (sym (bell_same w.driver w.memory cmd o is) ∙ bell));
+          heard = λ bell. subst (AllByRecursion (λ e. HeardAdvance s e (suc k))) (sym (rung_same w.driver w.memory cmd o is))
+              (later.heard (sym (bell_same w.driver w.memory cmd o is) ∙ bell));
           cleared = subst (AllByRecursion (λ e. HeardAdvance s e (suc k))) (sym (cleared_same w.driver w.memory cmd o is)) later.cleared;
-          removals = removals_offered (HasGone s (suc k)) w.driver w.memory cmd o is (gone_by (offered w.driver w.memory cmd) (sym next) o is) later.removals;
+          removals = removals_offered (HasGone s (suc k)) w.driver w.memory cmd o is
+              (gone_by (offered w.driver w.memory cmd) (sym next) o is) later.removals;
         }
 
-    answered : (r : Result Offered OfferError) → offered w.driver w.memory cmd ≡ r → IsHistory s (suc k) (commanded_by w n (name_in cmd) r).driver
+    answered : (r : Result Offered OfferError) → offered w.driver w.memory cmd ≡ r
+        → IsHistory s (suc k) (commanded_by w n (name_in cmd) r).driver
     answered (Ok o) is = offered_history o is h
-    answered (Err why) is = let later : IsHistory s (suc k) w.driver = stays k w.driver h in record { waiting = later.waiting; rung = later.rung; heard = later.heard; cleared = later.cleared; removals = later.removals }
+    answered (Err why) is =
+        let later : IsHistory s (suc k) w.driver = stays k w.driver h in
+        record { waiting = later.waiting; rung = later.rung; heard = later.heard; cleared = later.cleared; removals = later.removals }
 
   -- ---- each event
 
-  stepped : (k : ℕ) (orders : List Left) → (moment s k).orders ≡ orders → moment s (suc k) ≡ tick_at (fixed_of s) (moment s k).world orders → IsHistory s k (moment s k).world.driver
+  stepped : (k : ℕ) (orders : List Left) → (moment s k).orders ≡ orders
+      → moment s (suc k) ≡ tick_at (fixed_of s) (moment s k).world orders → IsHistory s k (moment s k).world.driver
       → IsHistory s (suc k) (tick_at (fixed_of s) (moment s k).world orders).world.driver
   stepped k (Events events.D (suc n) ∷ rest) are next h = driven k (ap is_drivers are) (ap (λ (q : OrderedWorld). q.world) next) h
   stepped k (Events events.C (suc n) ∷ rest) are next h = stays k (moment s k).world.driver h
   stepped k (Microframes (suc n) ∷ rest) are next h = stays k (moment s k).world.driver h
   stepped k (Answer ended n ∷ rest) are next h = driven k (ap is_drivers are) (ap (λ (q : OrderedWorld). q.world) next) h
-  stepped k (Command n cmd ∷ rest) are next h = answered k n cmd (ap (λ (q : OrderedWorld). q.world) next) h (offered (moment s k).world.driver (moment s k).world.memory cmd) refl
+  stepped k (Command n cmd ∷ rest) are next h = answered k n cmd (ap (λ (q : OrderedWorld). q.world) next) h
+      (offered (moment s k).world.driver (moment s k).world.memory cmd) refl
   stepped k _ are next h = stays k (moment s k).world.driver h
 
   history : (k : ℕ) → IsHistory s k (moment s k).world.driver
@@ -243,7 +268,8 @@ module _ (s : Script) where
       let due : IsEndpointDue p e = subst (IsDue p) does.row_is (each_is_due p) in
       first_all (λ f. HeardAdvance s f k) p.driver.cleared e (history k).cleared due.first
 
-  saw : (k : ℕ) (what : Removed) (b : Boundary) → is_seen b ≡ true → (at : ℕ) → IsUnlinkedAt s at what → HasBoundary s at k b → SawTwoFrames s what k
+  saw : (k : ℕ) (what : Removed) (b : Boundary) → is_seen b ≡ true → (at : ℕ) → IsUnlinkedAt s at what → HasBoundary s at k b
+      → SawTwoFrames s what k
   saw k what Unread seen at left h = absurd (cc)
   saw k what (Since frame) seen at left h = absurd (cc)
   saw k what Seen seen at left h = record {
@@ -265,8 +291,10 @@ module _ (s : Script) where
   frames_let_go k what does =
       let p : Parts = driver_parts (moment s k).world in
       let given : IsGivenBack p what = row_is_given_back p what does.row_is in
-      let gone : HasGone s k given.due.removal = first_all (HasGone s k) p.driver.periodic.removals given.due.removal (history k).removals given.due.first in
-      saw k what given.due.removal.boundary given.seen gone.unlinking (subst (IsUnlinkedAt s gone.unlinking) given.due.is gone.left) gone.boundary
+      let gone : HasGone s k given.due.removal = first_all (HasGone s k) p.driver.periodic.removals given.due.removal
+      (history k).removals given.due.first in
+      saw k what given.due.removal.boundary given.seen gone.unlinking
+      (subst (IsUnlinkedAt s gone.unlinking) given.due.is gone.left) gone.boundary
 
 pub scripts_give_back_last : ScriptsGiveBackLast
 scripts_give_back_last = λ s k. record { ring = ring_let_go s k; frames = frames_let_go s k }

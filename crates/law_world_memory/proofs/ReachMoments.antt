@@ -15,7 +15,8 @@ use Rattle.law_world_memory.proofs.WaysThere.{runs_reach_lent}
 mixed_reaches_lent : (w : World) → IsMixedWorld w → (t : Reached) → Reaches (controller_parts w) t → IsLentAt (controller_parts w) t
 mixed_reaches_lent w k =
     let s : Standing = k.standing in
-    runs_reach_lent opening_base s.member (met w.driver s.recent) (both s.descs s.parts) s.hand s.frame (controller_parts w) k.mixed.now.framed.runs
+    runs_reach_lent opening_base s.member (met w.driver s.recent) (both s.descs s.parts) s.hand s.frame
+    (controller_parts w) k.mixed.now.framed.runs
 
 pub texts_reach_lent : TextsReachLent
 texts_reach_lent = λ text s spelled n. mixed_reaches_lent (moment s n).world (texts_stay_mixed text s spelled n)

@@ -23,7 +23,9 @@ by_the_list = reach.element 0 (QueueAt 4160) (omega arith) refl
 
 pub by_the_queue : Reaches (controller_parts (typed_at 24)) (QtdAt 4224)
 unfolding ticks lowest_run filled with_words_in store_words lend_runs qh_words qtd_words token_word token_at link_word qtd_link_word predecessors frames word_after before_the behind_the link_read qh_read qh_bad qh_at first_bad_bit words_in
-by_the_queue = reach.of_queue 4160 (qh_at (words_at (typed_at 24).memory 4160 12)) (QtdAt 4224) by_the_list (reach.in_memory refl) (reach.taken refl refl refl)
+by_the_queue = reach.of_queue 4160 (qh_at (words_at (typed_at 24).memory 4160 12)) (QtdAt 4224) by_the_list (reach.in_memory refl)
+    (reach.taken refl refl refl)
 
-pub over_no_block : Reaches (unlent (controller_parts (typed_at 24))) TheList × (IsLentAt (unlent (controller_parts (typed_at 24))) TheList → ⊥)
+pub over_no_block : Reaches (unlent (controller_parts (typed_at 24))) TheList ×
+    (IsLentAt (unlent (controller_parts (typed_at 24))) TheList → ⊥)
 over_no_block = (reach.list, λ lent. cc (lent 0 (omega arith)))

@@ -1,5 +1,6 @@
 -- An accepted command leaves those that wait, are rung or cleared, and the bell; a cancel with nothing to unlink takes its endpoint out of the frames.
-use Rattle.std.proofs.Common.{◌≡◌, ℕ, Bool, true, false, List, [], ◌∷◌, slice_get, Option, Some, None, Result, Ok, Err, cond, unwrap_or, is_some, ap, refl, sym, subst, ◌∙◌}
+use Rattle.std.proofs.Common.{◌≡◌, ℕ, Bool, true, false, List, [], ◌∷◌, slice_get, Option, Some, None, Result, Ok, Err, cond, unwrap_or}
+use Rattle.std.proofs.Common.{is_some, ap, refl, sym, subst, ◌∙◌}
 use Rattle.std.specs.Prelude.{IfOk, option_and_then, if◌then◌else◌}
 use Rattle.std.specs.List.{AllByRecursion}
 use Rattle.usb_base.specs.declared.commands.Cmd.{Cmd}
@@ -59,19 +60,25 @@ bell_same d m cmd o is = same d m cmd o is (λ x. x.bell) (bell_kept cmd d o.dri
 
 -- ---- what left the frame list
 
-module _ (Q : Removal → Type 0) (d : DriverContent) (m : Mem) (o : Offered) (new : (e : ℕ) → LeavesFrames d.endpoints o.driver.endpoints e → Q (removal_of (removed.Endpoint e))) (all : AllByRecursion Q d.periodic.removals) where
+module _ (Q : Removal → Type 0) (d : DriverContent) (m : Mem) (o : Offered)
+    (new : (e : ℕ) → LeavesFrames d.endpoints o.driver.endpoints e → Q (removal_of (removed.Endpoint e)))
+    (all : AllByRecursion Q d.periodic.removals) where
   abbrev Kept : DriverContent → Type 0
   Kept x = AllByRecursion Q x.periodic.removals
 
   ok_is : (x : Offered) → ◌≡◌ {A = Result Offered OfferError} (Ok x) (Ok o) → x ≡ o
   ok_is x same = subst (λ (r : Result Offered OfferError). IfOk r (λ y. x ≡ y)) same refl
 
-  cancel_placed : (e : ℕ) (x : Endpoint) (p : Option Placement) → slice_get d.endpoints e ≡ Some x → cancelled_by d e x p ≡ o.driver → Kept (cancelled_by d e x p)
+  cancel_placed : (e : ℕ) (x : Endpoint) (p : Option Placement) → slice_get d.endpoints e ≡ Some x → cancelled_by d e x p ≡ o.driver
+      → Kept (cancelled_by d e x p)
   cancel_placed e x None here is = all
   cancel_placed e x (Some p) here is =
-      cancelled_out Q d e x (endpoint_members d e x p) here (λ l. new e (subst (λ (y : DriverContent). LeavesFrames d.endpoints y.endpoints e) is l)) all
+      cancelled_out Q d e x (endpoint_members d e x p) here
+      (λ l. new e (subst (λ (y : DriverContent). LeavesFrames d.endpoints y.endpoints e) is l)) all
 
-  cancelled_one : (e : ℕ) (x : Endpoint) (b : Bool) → slice_get d.endpoints e ≡ Some x → cond b (Err (errors.Closed causes.Cancel)) (Ok (record { driver = cancelled_by d e x x.placement; memory = m })) ≡ Ok o → Kept o.driver
+  cancelled_one : (e : ℕ) (x : Endpoint) (b : Bool) → slice_get d.endpoints e ≡ Some x
+      → cond b (Err (errors.Closed causes.Cancel)) (Ok (record { driver = cancelled_by d e x x.placement; memory = m })) ≡ Ok o
+      → Kept o.driver
   cancelled_one e x true here f = absurd (cc)
   cancelled_one e x false here f =
       let is : cancelled_by d e x x.placement ≡ o.driver = ap (λ (y : Offered). y.driver) (ok_is _ f) in
@@ -81,7 +88,8 @@ module _ (Q : Removal → Type 0) (d : DriverContent) (m : Mem) (o : Offered) (n
   cancelled_at e None here f = absurd (cc)
   cancelled_at e (Some x) here f = cancelled_one e x x.cancelled here f
 
-  cancelled_named : (q : Option ℕ) → offered_cancel d m (unwrap_or q 0) (option_and_then (λ e. slice_get d.endpoints e) q) ≡ Ok o → Kept o.driver
+  cancelled_named : (q : Option ℕ) → offered_cancel d m (unwrap_or q 0) (option_and_then (λ e. slice_get d.endpoints e) q) ≡ Ok o
+      → Kept o.driver
   cancelled_named None f = absurd (cc)
   cancelled_named (Some e) f = cancelled_at e (slice_get d.endpoints e) refl f
 
@@ -89,11 +97,13 @@ module _ (Q : Removal → Type 0) (d : DriverContent) (m : Mem) (o : Offered) (n
   cancel_offered name true f = absurd (cc)
   cancel_offered name false f = cancelled_named (endpoint_of d name) f
 
-removals_kept : (cmd : Cmd) (d new : DriverContent) → (offer_footprint cmd).removals ≡ false → (merged_driver (offer_footprint cmd) d new).periodic.removals ≡ d.periodic.removals
+removals_kept : (cmd : Cmd) (d new : DriverContent) → (offer_footprint cmd).removals ≡ false
+    → (merged_driver (offer_footprint cmd) d new).periodic.removals ≡ d.periodic.removals
 removals_kept cmd d new is = ap (λ (b : Bool). cond b new.periodic.removals d.periodic.removals) is
 
 pub removals_offered : (Q : Removal → Type 0) (d : DriverContent) (m : Mem) (cmd : Cmd) (o : Offered) → offered d m cmd ≡ Ok o
-    → ((e : ℕ) → LeavesFrames d.endpoints o.driver.endpoints e → Q (removal_of (removed.Endpoint e))) → AllByRecursion Q d.periodic.removals → AllByRecursion Q o.driver.periodic.removals
+    → ((e : ℕ) → LeavesFrames d.endpoints o.driver.endpoints e → Q (removal_of (removed.Endpoint e)))
+    → AllByRecursion Q d.periodic.removals → AllByRecursion Q o.driver.periodic.removals
 removals_offered Q d m (commands.Cancel name) o is new all = cancel_offered Q d m o new all name (busy d) is
 removals_offered Q d m cmd o is new all =
     subst (AllByRecursion Q) (sym (same d m cmd o is (λ x. x.periodic.removals) (removals_kept cmd d o.driver refl))) all

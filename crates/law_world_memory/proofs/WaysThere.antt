@@ -1,5 +1,6 @@
 -- What is reached is told: by recursion on the way there.
-use Rattle.std.proofs.Common.{◌≡◌, ℕ, ◌+◌, ◌*◌, ◌-◌, ◌<◌, Bool, true, false, List, length, get_or, slice_index, Option, Some, None, ap, refl, sym, subst, ◌∙◌, arith, ⊎_elim, inl, inr}
+use Rattle.std.proofs.Common.{◌≡◌, ℕ, ◌+◌, ◌*◌, ◌-◌, ◌<◌, Bool, true, false, List, length, get_or, slice_index, Option, Some, None, ap}
+use Rattle.std.proofs.Common.{refl, sym, subst, ◌∙◌, arith, ⊎_elim, inl, inr}
 use Rattle.std.specs.Prelude.{◌⊎◌, IfSome}
 use Rattle.usb_base.specs.declared.packets.Reply.{Reply}
 use Rattle.word_mem.specs.Memory.{Mem, reaches, word_at}
@@ -29,12 +30,18 @@ use Rattle.periodic_walk.specs.declared.state.Hand.TheVariants as hands
 use Rattle.hc_core.specs.declared.controller.MicroframePart.TheVariants.{Periodic}
 use Rattle.hc_core.specs.Controller.{Content, frame_place, walk_place}
 use Rattle.claims_base.specs.Controller.{Base, base_of}
-use Rattle.claims_world.specs.Reach.{Reached, TheList, QueueAt, QtdAt, ItdAt, SitdAt, FstnAt, ByteAt, leads_to, leads_to_qtd, element_at, IsLentAt, held_at, held_link}
-use Rattle.claims_world.specs.Reach.{IsPartOfQueue, IsPartOfQtd, IsPartOfItd, IsPartOfSitd, qtd_pages, qtd_place, IsHeld, IsQueueHeadAt, Reaches}
+use Rattle.claims_world.specs.Reach.{Reached, TheList, QueueAt, QtdAt, ItdAt, SitdAt, FstnAt, ByteAt, leads_to, leads_to_qtd, element_at}
+use Rattle.claims_world.specs.Reach.{IsLentAt, held_at, held_link}
+use Rattle.claims_world.specs.Reach.{IsPartOfQueue, IsPartOfQtd, IsPartOfItd, IsPartOfSitd, qtd_pages, qtd_place, IsHeld, IsQueueHeadAt}
+use Rattle.claims_world.specs.Reach.{Reaches}
 use Rattle.claims_world.specs.Reach as reach
-use Rattle.law_structures.specs.lent_structures.Structures.{QueueHead, Element, Buffer, Table, Isochronous, SplitIsochronous, HoldsBuffer, HoldsTable, HoldsIsochronous, HoldsSplitIsochronous, Structures, StructureSets, Tells}
-use Rattle.law_structures.specs.lent_structures.Sound.{IsElement, LeadsOn, LeadsAmong, HasBuffer, IsReady, IsSoundElement, IsWorking, IsSoundQueue, IsMember, element_pages, buffer_name}
-use Rattle.law_structures.proofs.lemmas.lent_structures.Reading.{head_read, head_reached, element_read, element_reached, itd_read_there, sitd_read_there}
+use Rattle.law_structures.specs.lent_structures.Structures.{QueueHead, Element, Buffer, Table, Isochronous, SplitIsochronous, HoldsBuffer}
+use Rattle.law_structures.specs.lent_structures.Structures.{HoldsTable, HoldsIsochronous, HoldsSplitIsochronous, Structures, StructureSets}
+use Rattle.law_structures.specs.lent_structures.Structures.{Tells}
+use Rattle.law_structures.specs.lent_structures.Sound.{IsElement, LeadsOn, LeadsAmong, HasBuffer, IsReady, IsSoundElement, IsWorking}
+use Rattle.law_structures.specs.lent_structures.Sound.{IsSoundQueue, IsMember, element_pages, buffer_name}
+use Rattle.law_structures.proofs.lemmas.lent_structures.Reading.{head_read, head_reached, element_read, element_reached, itd_read_there}
+use Rattle.law_structures.proofs.lemmas.lent_structures.Reading.{sitd_read_there}
 use Rattle.law_ring.specs.Hand.{Copy, copied_queue, Hand, Empty, Copied, Settled, Stale, held_of, settled_queue_of}
 use Rattle.law_ring.specs.Ring.{IsCopied, IsInHand, IsStale}
 use Rattle.law_frames.specs.Met.{Kind, AQueue, AnItd, ASitd, LeadsTo, IsQueuePart, IsBuffered, IsMetQueue, IsMetItd, IsMetSitd}
@@ -54,7 +61,8 @@ record IsToldQtd (parts : StructureSets) (a : ℕ) : Type 0 where
 read_is : {X : Type 0} (P : X → Type 0) (o : Option X) (x y : X) → o ≡ Some x → o ≡ Some y → P x → P y
 read_is P o x y one other has = subst (λ p. IfSome p P) other (subst (λ p. IfSome p P) (sym one) has)
 
-module _ (base : Base) (member : ℕ → Bool) (met : ℕ → Option Kind) (parts : StructureSets) (hand : Hand) (frame : FrameHand) (c : Content) (k : RunsBoth base member met parts hand frame c) where
+module _ (base : Base) (member : ℕ → Bool) (met : ℕ → Option Kind) (parts : StructureSets) (hand : Hand) (frame : FrameHand)
+    (c : Content) (k : RunsBoth base member met parts hand frame c) where
   tells : Tells c.memory parts
   tells = k.ring.tells
 
@@ -99,18 +107,23 @@ module _ (base : Base) (member : ℕ → Bool) (met : ℕ → Option Kind) (part
   of_met a m = record { part_is = m.part_is; link = met_lead (link_of m.part_is.queue.link) m.link }
 
   queue_told : (a : ℕ) → IsTold (QueueAt a) → IsToldQueue a
-  queue_told a told = ⊎_elim (λ (on : member a ≡ true). of_member a (k.ring.members a on)) (λ (on : met a ≡ Some AQueue). of_met a (k.members a AQueue on)) told
+  queue_told a told = ⊎_elim (λ (on : member a ≡ true). of_member a (k.ring.members a on))
+      (λ (on : met a ≡ Some AQueue). of_met a (k.members a AQueue on)) told
 
   -- ---- the bytes of a buffer
 
-  byte_of : (n : ℕ) (d : Qtd) (size : ℕ) → HasBuffer (parts n) d size → (j : ℕ) → j < size → reaches c.memory (place (element_pages d) (d.offset + j)) ≡ true
+  byte_of : (n : ℕ) (d : Qtd) (size : ℕ) → HasBuffer (parts n) d size → (j : ℕ) → j < size
+      → reaches c.memory (place (element_pages d) (d.offset + j)) ≡ true
   byte_of n d size b j below =
-      let h : HoldsBuffer c.memory (buffer_name d) (element_pages d) d.offset b.bytes = tells.each n (buffer_name d) (Buffer (element_pages d) d.offset b.bytes) b.here in
+      let h : HoldsBuffer c.memory (buffer_name d) (element_pages d) d.offset b.bytes = tells.each n (buffer_name d)
+      (Buffer (element_pages d) d.offset b.bytes) b.here in
       h.lent j (let is = b.size in omega (arith, below, is))
 
-  buffered : (n : ℕ) (pages : List ℕ) (from size : ℕ) → IsBuffered (parts n) pages from size → (i : ℕ) → i < size → reaches c.memory (place pages (from + i)) ≡ true
+  buffered : (n : ℕ) (pages : List ℕ) (from size : ℕ) → IsBuffered (parts n) pages from size → (i : ℕ) → i < size
+      → reaches c.memory (place pages (from + i)) ≡ true
   buffered n pages from size b i below =
-      let h : HoldsBuffer c.memory (place pages b.start) pages b.start b.bytes = tells.each n (place pages b.start) (Buffer pages b.start b.bytes) b.here in
+      let h : HoldsBuffer c.memory (place pages b.start) pages b.start b.bytes = tells.each n (place pages b.start)
+      (Buffer pages b.start b.bytes) b.here in
       let after = b.after in
       let within = b.within in
       let at : b.start + (from - b.start + i) ≡ from + i = omega (arith, after) in
@@ -140,7 +153,8 @@ module _ (base : Base) (member : ℕ → Bool) (met : ℕ → Option Kind) (part
           let ready : IsReady (parts n) w.element = sound_element.work w.published in
           let some : 0 < w.element.token.total = omega (arith, below, fewer) in
           let there : w.element.offset + (w.element.token.total - q.token.total + i) ≡ buffer_place q + i = omega (arith, fewer, at) in
-          let byte = byte_of n w.element w.element.token.total (ready.buffer some) (w.element.token.total - q.token.total + i) (omega (arith, fewer, below)) in
+          let byte = byte_of n w.element w.element.token.total (ready.buffer some) (w.element.token.total - q.token.total + i)
+          (omega (arith, fewer, below)) in
           subst (λ (pages : List ℕ). reaches c.memory (place pages (buffer_place q + i)) ≡ true) (sym w.pages)
           (subst (λ (x : ℕ). reaches c.memory (place (element_pages w.element) x) ≡ true) there byte)
 
@@ -151,7 +165,8 @@ module _ (base : Base) (member : ℕ → Bool) (met : ℕ → Option Kind) (part
       alternate_on = subst (λ (l : ShortLink). LeadsOn (parts n) (qtd_link_of l)) (sym w.alternate) sound_element.alternate
 
     queue_part : (q : Qh) → IsSoundQueue (parts n) q → (t : Reached) → IsPartOfQueue q t → IsTold t
-    queue_part q s t (reach.current goes active is) = subst IsTold (sym is) (let w = s.work active in element_told q.current w.element w.here)
+    queue_part q s t (reach.current goes active is) = subst IsTold (sym is)
+        (let w = s.work active in element_told q.current w.element w.here)
     queue_part q s t (reach.next goes active is) = led_on q.next t (next_on q (s.work active)) is
     queue_part q s t (reach.alternate goes active is) = led_on q.alternate t (alternate_on q (s.work active)) is
     queue_part q s t (reach.byte goes active i below is) = subst IsTold (sym is) (working_byte q (s.work active) i below)
@@ -164,7 +179,8 @@ module _ (base : Base) (member : ℕ → Bool) (met : ℕ → Option Kind) (part
         let ready : IsReady (parts n) d = s.work active in
         let start = ready.start in
         let at : d.offset + i ≡ qtd_place d + i = omega (arith, start) in
-        subst IsTold (sym is) (subst (λ (x : ℕ). reaches c.memory (place (qtd_pages d) x) ≡ true) at (byte_of n d d.token.total (ready.buffer (omega (arith, below))) i below))
+        subst IsTold (sym is) (subst (λ (x : ℕ). reaches c.memory (place (qtd_pages d) x) ≡ true) at (byte_of n d d.token.total
+        (ready.buffer (omega (arith, below))) i below))
 
   abbrev HasParts : Qh → Type 0
   HasParts q = (t : Reached) → IsPartOfQueue q t → IsTold t
@@ -179,7 +195,8 @@ module _ (base : Base) (member : ℕ → Bool) (met : ℕ → Option Kind) (part
   told_read a x = head_read c.memory parts a a x.part_is.queue tells x.part_is.here
 
   read_parts : (a : ℕ) (q : Qh) → IsTold (QueueAt a) → queue_head_at_address c.memory a ≡ Some q → HasParts q
-  read_parts a q told is = let x = queue_told a told in read_is HasParts (queue_head_at_address c.memory a) x.part_is.queue q (told_read a x) is (told_parts a x)
+  read_parts a q told is = let x = queue_told a told in read_is HasParts (queue_head_at_address c.memory a) x.part_is.queue q
+      (told_read a x) is (told_parts a x)
 
   read_link : (a : ℕ) (q : Qh) → IsTold (QueueAt a) → queue_head_at_address c.memory a ≡ Some q → LinkTold q.link
   read_link a q told is =
@@ -196,7 +213,8 @@ module _ (base : Base) (member : ℕ → Bool) (met : ℕ → Option Kind) (part
   copy_part x t (reach.taken goes rests is) = reach.taken goes rests is
 
   copy_parts : (x : Copy) → IsTold (QueueAt x.at) → parts x.at x.at ≡ Some (QueueHead x.queue) → HasParts (copied_queue x)
-  copy_parts x told here t part = read_parts x.at x.queue told (head_read c.memory parts x.at x.at x.queue tells here) t (copy_part x t part)
+  copy_parts x told here t part = read_parts x.at x.queue told (head_read c.memory parts x.at x.at x.queue tells here) t
+      (copy_part x t part)
 
   record IsToldHeld (h : Held) : Type 0 where
     at : IsTold (QueueAt h.at)
@@ -213,9 +231,21 @@ module _ (base : Base) (member : ℕ → Bool) (met : ℕ → Option Kind) (part
   ring_held : (reply : Reply) (x : Hand) → IsInHand member parts reply x → IfSome (held_of x) IsToldHeld
   unfolding settled_queue
   ring_held reply Empty in_hand = tt
-  ring_held reply (Copied x) in_hand = record { at = inl in_hand.on; link = member_lead x.link in_hand.link; parts_are = λ none. copy_parts x (inl in_hand.on) in_hand.here }
-  ring_held reply (Settled x s) in_hand = record { at = inl (in_hand.0).on; link = member_lead x.link (in_hand.0).link; parts_are = λ none. cc none }
-  ring_held reply (Stale n q) in_hand = record { at = inl in_hand.on; link = member_lead q.link in_hand.link; parts_are = λ none. stale_parts n q in_hand }
+  ring_held reply
+      (Copied x) in_hand = record {
+        at = inl in_hand.on;
+        link = member_lead x.link in_hand.link;
+        parts_are = λ none. copy_parts x
+            (inl in_hand.on) in_hand.here;
+      }
+  ring_held reply (Settled x s) in_hand = record {
+    at = inl (in_hand.0).on;
+    link = member_lead x.link
+        (in_hand.0).link;
+    parts_are = λ none. cc none;
+  }
+  ring_held reply (Stale n q) in_hand =
+      record { at = inl in_hand.on; link = member_lead q.link in_hand.link; parts_are = λ none. stale_parts n q in_hand }
 
   abbrev QueueCopyTold : FrameCopy → Type 0
   QueueCopyTold (hands.Queue h) = IsToldHeld h.copy
@@ -269,7 +299,8 @@ module _ (base : Base) (member : ℕ → Bool) (met : ℕ → Option Kind) (part
 
   qtd_parts : (a : ℕ) (d : Qtd) → IsTold (QtdAt a) → qtd_at_address c.memory a ≡ Some d → (t : Reached) → IsPartOfQtd d t → IsTold t
   qtd_parts a d told is =
-      read_is (λ (y : Qtd). (t : Reached) → IsPartOfQtd y t → IsTold t) (qtd_at_address c.memory a) told.qtd d (element_read c.memory parts told.owner a told.qtd tells told.here) is
+      read_is (λ (y : Qtd). (t : Reached) → IsPartOfQtd y t → IsTold t) (qtd_at_address c.memory a) told.qtd d
+      (element_read c.memory parts told.owner a told.qtd tells told.here) is
       (qtd_part told.owner told.part_is a told.qtd (told.part_is.elements a told.qtd told.here))
 
   record IsToldItd (v : Itd) : Type 0 where
@@ -278,7 +309,8 @@ module _ (base : Base) (member : ℕ → Bool) (met : ℕ → Option Kind) (part
 
   itd_parts : (a : ℕ) (m : IsMetItd met a (parts a)) (t : Reached) → IsPartOfItd m.itd t → IsTold t
   itd_parts a m t (reach.byte u low active i below is) =
-      subst IsTold (sym is) (buffered a (itd_pages m.itd) (slot_place (slot_of u m.itd)) (slot_of u m.itd).length (m.slots u low active (omega (arith, below))) i below)
+      subst IsTold (sym is) (buffered a (itd_pages m.itd) (slot_place (slot_of u m.itd)) (slot_of u m.itd).length (m.slots u low active
+      (omega (arith, below))) i below)
 
   itd_told : (a : ℕ) (v : Itd) → met a ≡ Some AnItd → itd_at_address c.memory a ≡ Some v → IsToldItd v
   itd_told a v on is =
@@ -291,7 +323,8 @@ module _ (base : Base) (member : ℕ → Bool) (met : ℕ → Option Kind) (part
     parts_are : (t : Reached) → IsPartOfSitd v t → IsTold t
 
   sitd_parts : (a : ℕ) (m : IsMetSitd met a (parts a)) (t : Reached) → IsPartOfSitd m.sitd t → IsTold t
-  sitd_parts a m t (reach.byte active i below is) = subst IsTold (sym is) (buffered a (sitd_pages m.sitd) (sitd_place m.sitd) m.sitd.total (m.bytes active (omega (arith, below))) i below)
+  sitd_parts a m t (reach.byte active i below is) = subst IsTold (sym is)
+      (buffered a (sitd_pages m.sitd) (sitd_place m.sitd) m.sitd.total (m.bytes active (omega (arith, below))) i below)
 
   sitd_told : (a : ℕ) (v : Sitd) → met a ≡ Some ASitd → sitd_at_address c.memory a ≡ Some v → IsToldSitd v
   sitd_told a v on is =
@@ -308,14 +341,17 @@ module _ (base : Base) (member : ℕ → Bool) (met : ℕ → Option Kind) (part
   list_there = tells.each base.periodic_list_base base.periodic_list_base (Table k.list.words) k.list.here
 
   list_lent : (f : ℕ) → f < 1024 → reaches c.memory (c.registers.periodic_list_base + 4 * f) ≡ true
-  list_lent f low = subst (λ (b : ℕ). reaches c.memory (b + 4 * f) ≡ true) (sym list_base) (list_there.lent f (let size = k.list.size in omega (arith, low, size)))
+  list_lent f low = subst (λ (b : ℕ). reaches c.memory (b + 4 * f) ≡ true) (sym list_base)
+      (list_there.lent f (let size = k.list.size in omega (arith, low, size)))
 
   element_leads : (f : ℕ) → f < 1024 → IfSome (leads_to (element_at c f)) IsTold
   element_leads f low =
       let size = k.list.size in
       let word : word_at c.memory (base.periodic_list_base + 4 * f) ≡ slice_index k.list.words f =
-      sym (get_or-words_in c.memory.words base.periodic_list_base (length k.list.words) f (omega (arith, low, size))) ∙ ap (λ ws. get_or ws f 0) list_there.words in
-      let read : element_at c f ≡ link_read (slice_index k.list.words f) = ap link_read (ap (λ (b : ℕ). word_at c.memory (b + 4 * f)) list_base ∙ word) in
+      sym (get_or-words_in c.memory.words base.periodic_list_base (length k.list.words) f (omega (arith, low, size)))
+      ∙ ap (λ ws. get_or ws f 0) list_there.words in
+      let read : element_at c f ≡ link_read (slice_index k.list.words f) = ap link_read
+      (ap (λ (b : ℕ). word_at c.memory (b + 4 * f)) list_base ∙ word) in
       subst (λ (x : Link). IfSome (leads_to x) IsTold) (sym read) (met_lead (link_read (slice_index k.list.words f)) (k.elements f low))
 
   head_on : member c.registers.async_list_address ≡ true
@@ -358,4 +394,5 @@ module _ (base : Base) (member : ℕ → Bool) (met : ℕ → Option Kind) (part
   lent (ByteAt a) is = is
 
 pub runs_reach_lent : RunsReachLent
-runs_reach_lent = λ base member met parts hand frame c k t way. lent base member met parts hand frame c k t (told base member met parts hand frame c k t way)
+runs_reach_lent = λ base member met parts hand frame c k t way. lent base member met parts hand frame c k t
+    (told base member met parts hand frame c k t way)

@@ -14,7 +14,8 @@ use Rattle.law_frames.specs.FrameHand.{FrameHand}
 use Rattle.law_controller.specs.frame_control.Both.{RunsBoth}
 
 abbrev pub RunsReachLent : Type 0
-RunsReachLent = (base : Base) (member : ℕ → Bool) (met : ℕ → Option Kind) (parts : StructureSets) (hand : Hand) (frame : FrameHand) (c : Content) → RunsBoth base member met parts hand frame c
+RunsReachLent = (base : Base) (member : ℕ → Bool) (met : ℕ → Option Kind) (parts : StructureSets) (hand : Hand) (frame : FrameHand)
+    (c : Content) → RunsBoth base member met parts hand frame c
     → (t : Reached) → Reaches c t → IsLentAt c t
 
 abbrev pub TextsReachLent : Type 0

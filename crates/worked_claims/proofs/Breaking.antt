@@ -8,7 +8,8 @@ use Rattle.bus_world.specs.Opening.{opening_world}
 use Rattle.bus_world.specs.Orders.{OrderedWorld, Left, Microframes, at_place, orders_of, ticks}
 use Rattle.bus_world.specs.Budgets.{moment}
 use Rattle.claims_world.specs.Microframes.{EndsWithin}
-use Rattle.worked_claims.specs.Broken.{BreaksLent, BreaksMemory, BreaksSchedule, BreaksMicroframes, BreaksWithinLoad, BreaksInTime, BreaksBudgets}
+use Rattle.worked_claims.specs.Broken.{BreaksLent, BreaksMemory, BreaksSchedule, BreaksMicroframes, BreaksWithinLoad, BreaksInTime}
+use Rattle.worked_claims.specs.Broken.{BreaksBudgets}
 
 pub breaks_lent : BreaksLent
 breaks_lent = λ fixed w k. cc (k.clean 0 0 refl (omega arith))
@@ -29,7 +30,8 @@ none_ordered fixed w (suc n) = none_ordered fixed w n
 pub breaks_microframes : BreaksMicroframes
 breaks_microframes = λ s none n rest k.
     let is : moment s (0 + 2 * k.turns) ≡ at_place (opening_world s) [] =
-    subst (λ (lines : List (ℕ × Line)). ticks (fixed_of s) (at_place (opening_world s) (orders_of lines)) (0 + 2 * k.turns) ≡ at_place (opening_world s) []) (sym none)
+    subst (λ (lines : List (ℕ × Line)). ticks (fixed_of s) (at_place (opening_world s) (orders_of lines)) (0 + 2 * k.turns) ≡ at_place
+    (opening_world s) []) (sym none)
     (none_ordered (fixed_of s) (opening_world s) (0 + 2 * k.turns)) in
     cc (sym k.over ∙ ap (λ (p : OrderedWorld). p.orders) is)
 
