@@ -231,13 +231,11 @@ module _ (base : Base) (member : ℕ → Bool) (met : ℕ → Option Kind) (part
   ring_held : (reply : Reply) (x : Hand) → IsInHand member parts reply x → IfSome (held_of x) IsToldHeld
   unfolding settled_queue
   ring_held reply Empty in_hand = tt
-  ring_held reply
-      (Copied x) in_hand = record {
-        at = inl in_hand.on;
-        link = member_lead x.link in_hand.link;
-        parts_are = λ none. copy_parts x
-            (inl in_hand.on) in_hand.here;
-      }
+  ring_held reply (Copied x) in_hand = record {
+    at = inl in_hand.on;
+    link = member_lead x.link in_hand.link;
+    parts_are = λ none. copy_parts x (inl in_hand.on) in_hand.here;
+  }
   ring_held reply (Settled x s) in_hand = record {
     at = inl (in_hand.0).on;
     link = member_lead x.link
