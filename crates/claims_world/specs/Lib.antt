@@ -12,3 +12,5 @@ pub mod WithinLoad
 pub mod InTime
 pub mod Streams
 pub mod Requests
+pub mod Reach
+pub mod Releases

@@ -41,11 +41,12 @@ use Rattle.law_driver.proofs.lemmas.queued_drivers.RowFrames.{chain_lends as len
 use Rattle.law_driver.proofs.lemmas.queued_drivers.RowOwners.{queued_owners}
 use Rattle.law_queues.proofs.lemmas.publish_laws.Apart.{thirty_two}
 use Rattle.bus_world.specs.World.{World, driver_parts, controller_parts, driver_next}
-use Rattle.law_world_memory.specs.Mixed.{QueuesGoOn, IsChainToLend, IsChainThere, IsUnderWay, Standing, IsMixedAt, IsMixedWorld}
+use Rattle.law_world_memory.specs.Mixed.{QueuesGoOn, IsChainToLend, IsChainThere, IsUnderWay, Standing, IsMixedAt}
+use Rattle.law_world_memory.specs.Steps.{QueueStep, same_hand, same_frame, begins, begins_and_opens, IsMixedNext}
 use Rattle.law_world_memory.proofs.Unfinished.{none_unfinished}
 use Rattle.law_world_memory.proofs.Next.{mixed_next}
 use Rattle.law_world_memory.proofs.QueueViews.{queued_driven}
-use Rattle.law_world_memory.proofs.Alike.{same_lent, goes_on_alike, there_alike}
+use Rattle.law_world_memory.proofs.Alike.{same_lent, goes_on_alike, there_alike, same_itself}
 use Rattle.law_world_memory.proofs.ChainReady.{off_ring, queue, kept, frames, to_lend}
 use Rattle.law_world_memory.proofs.ChainSteps.{AfterChain, after_chain, finishes, ring_on, finished_goes}
 
@@ -184,9 +185,12 @@ module _ (s : Standing) (w : World) (k : IsMixedAt s w) (t : IsChainToLend w.dri
     way_on =
         subst (IsUnderWay (driver_next w).driver (driver_next w).memory s.member s.recent parts) (sym (ap (λ (g : DriverContent). g.command) driver_is ∙ on)) (inr next_there)
 
-    world_on : IsMixedWorld (driver_next w)
+    step_on : QueueStep s w (record s { parts = parts })
+    step_on = begins lending row_is (subst (λ (g : DriverContent). QueuesAlike lent (queued g)) (sym driver_is) queues_on)
+
+    world_on : IsMixedNext s w (driver_next w)
     world_on =
-        mixed_next s w k (record s { parts = parts }) lends.framed ring
+        mixed_next s w k (record s { parts = parts }) step_on lends.framed ring
         (subst (λ (g : DriverContent). QueuesGoOn (queued g) s.near s.streams s.ends parts s.order s.out) (sym driver_is) goes_on) way_on
 
   -- nothing is to be linked
@@ -222,20 +226,34 @@ module _ (s : Standing) (w : World) (k : IsMixedAt s w) (t : IsChainToLend w.dri
         goes_on_alike (open_finished lent) (queued f) (with_member s.near (32 * there.endpoint.queue)) (streams_then s.streams there.endpoint) (with_end s.ends (32 * there.endpoint.queue) (end_then there.endpoint)) parts s.order
         (with_none s.out (32 * there.endpoint.queue)) queues_over (same_lent (open_finished lent) (queued f) after.book) (finished_goes lent s.near s.streams s.ends parts s.order s.out lent_owners lent_turns there lent_goes)
 
-    world_over : IsMixedWorld (driver_next w)
-    world_over =
-        mixed_next s w k
-        (record s {
-          near = with_member s.near (32 * there.endpoint.queue);
-          streams = streams_then s.streams there.endpoint;
-          ends = with_end s.ends (32 * there.endpoint.queue) (end_then there.endpoint);
-          parts = parts;
-          out = with_none s.out (32 * there.endpoint.queue);
+    abbrev after_it : Standing
+    after_it = record s {
+      near = with_member s.near (32 * there.endpoint.queue);
+      streams = streams_then s.streams there.endpoint;
+      ends = with_end s.ends (32 * there.endpoint.queue) (end_then there.endpoint);
+      parts = parts;
+      out = with_none s.out (32 * there.endpoint.queue);
+    }
+
+    step_over : QueueStep s w after_it
+    step_over =
+        begins_and_opens lending there after_it row_is
+        (subst (λ (g : DriverContent). QueuesAlike (open_finished lent) (queued g)) (sym driver_is) queues_over)
+        (record {
+          near = refl;
+          streams = refl;
+          ends = refl;
+          order = refl;
+          out = refl;
+          told = record { parts = λ n. same_itself n (parts n); hand = same_hand; frame = same_frame };
         })
-        lends.framed ring
+
+    world_over : IsMixedNext s w (driver_next w)
+    world_over =
+        mixed_next s w k after_it step_over lends.framed ring
         (subst (λ (g : DriverContent). QueuesGoOn (queued g) (with_member s.near (32 * there.endpoint.queue)) (streams_then s.streams there.endpoint) (with_end s.ends (32 * there.endpoint.queue) (end_then there.endpoint)) parts s.order (with_none s.out (32 * there.endpoint.queue)))
         (sym driver_is) goes_over)
         (subst (IsUnderWay (driver_next w).driver (driver_next w).memory s.member s.recent parts) (sym (ap (λ (g : DriverContent). g.command) driver_is ∙ over)) tt)
 
-  pub lend_world : IsMixedWorld (driver_next w)
+  pub lend_world : IsMixedNext s w (driver_next w)
   lend_world = ⊎_elim world_on world_over after.ring.command

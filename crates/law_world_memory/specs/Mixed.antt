@@ -7,7 +7,8 @@
 --     IsChainThere ..          .. or they are lent: whatever the walk of the frames has met of them by now, the queue rests at its inactive qTD, its only one
 --     IsUnderWay ..            what the unfinished command has still to lend stands ready, or is lent
 --     Standing                 which queue heads the walk of the ring may meet (`member`), and which have their queue (`near`); what was unlinked in this microframe; the
---                              structures of descriptors and of queues; what is in both hands; the order of each queue, and what is out of it
+--                              structures of descriptors and of queues; what is in both hands; the order of each queue, and what is out
+--                              of it; of each queue whether data come in (`streams`), and its endpoint as the queues tell it (`ends`)
 --     IsMixedAt s w            the world is so
 --     IsMixedWorld w           .. for some standing
 use Rattle.std.specs.Prelude.{◌≡◌, ℕ, suc, ◌*◌, ◌≤◌, ◌⊎◌, Bool, false, List, length, Option, Some}
@@ -73,6 +74,8 @@ pub record Standing : Type 0 where
   pub member : ℕ → Bool
   pub near : ℕ → Bool
   pub streams : ℕ → Bool
+  -- as the queues tell the endpoint: at high speed and below no hub, whatever its own speed, hub and port are. These stand in its queue
+  -- head alone, by which it is asked: `HasEndpoint parts n`
   pub ends : ℕ → Told
   pub recent : ℕ → Option Kind
   pub descs : StructureSets

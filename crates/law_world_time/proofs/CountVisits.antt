@@ -32,7 +32,7 @@ use Rattle.claims_world.specs.Visits.{fetched_by, visited_too, visits_at, visits
 use Rattle.law_world_visits.specs.Visited.{IsVisiting}
 use Rattle.drv_chains.specs.declared.members.Member.{Member}
 use Rattle.drv_chains.specs.Chains.{id_of}
-use Rattle.law_world_visits.proofs.Carrying.{carrying}
+use Rattle.law_world_memory.proofs.Carrying.{carrying}
 use Rattle.law_world_visits.proofs.VisitMoments.{visits_apart}
 use Rattle.law_world_visits.proofs.VisitTexts.{lines_fit}
 use Rattle.law_world_visits.proofs.VisitsKept.{scripts_visit_all}

@@ -31,7 +31,7 @@ use Rattle.law_world_visits.proofs.AheadMoments.{scripts_go_on, began_is_mixed}
 use Rattle.law_world_visits.proofs.InFramesMoments.{in_their_frames}
 use Rattle.law_world_visits.proofs.VisitsKept.{scripts_visit_all}
 use Rattle.law_world_visits.proofs.VisitControlling.{controller_keeps_visiting}
-use Rattle.law_world_visits.proofs.Carrying.{KeepsCarried, carrying, both, both_carried}
+use Rattle.law_world_memory.proofs.Carrying.{KeepsCarried, carrying, both, both_carried}
 use Rattle.law_world_visits.proofs.BelongMoments.{scripts_keep_fields}
 use Rattle.law_world_visits.proofs.BelongItdMoments.{scripts_keep_itds}
 use Rattle.law_world_time.specs.DataQueues.{ReadsData}

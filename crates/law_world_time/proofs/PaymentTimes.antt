@@ -46,7 +46,7 @@ use Rattle.law_world_memory.proofs.lemmas.framed_memory.EndpointFacts.{after_row
 use Rattle.claims_world.specs.Visits.{frame_in, is_held_now}
 use Rattle.law_world_visits.specs.Began.{began}
 use Rattle.law_world_visits.proofs.BelongMoments.{scripts_keep_fields}
-use Rattle.law_world_visits.proofs.Carrying.{KeepsCarried, carrying}
+use Rattle.law_world_memory.proofs.Carrying.{KeepsCarried, carrying}
 use Rattle.law_world_visits.proofs.ReasonHeld.{texts_keep_held_time}
 use Rattle.law_world_visits.proofs.ReasonParts.{InPart, row_in}
 use Rattle.law_world_visits.proofs.VisitControlling.{frame_periodic}

@@ -25,7 +25,7 @@ use Rattle.law_world_steps.proofs.StreamTurning.{world_has_row}
 use Rattle.claims_world.specs.Carried.{carried}
 use Rattle.claims_world.specs.Prices.{cost_of}
 use Rattle.claims_world.specs.Visits.{TellsMicroframe, fetched_by}
-use Rattle.law_world_visits.proofs.Carrying.{KeepsCarried, carrying, both, both_carried}
+use Rattle.law_world_memory.proofs.Carrying.{KeepsCarried, carrying, both, both_carried}
 use Rattle.law_world_visits.proofs.VisitWalking.{over_no, async_no}
 use Rattle.law_world_visits.proofs.ReasonParts.{InPart, row_in, command_control, command_bus}
 use Rattle.claims_world.specs.WithinLoad.{is_again, begun_too, paid_more, payments_at, payments_after, payments_next, payments, repeats_at, repeats_after, repeats_next, repeats, paid_by_all, LeavesTheRest}

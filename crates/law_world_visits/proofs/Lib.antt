@@ -21,7 +21,6 @@ pub mod VisitStays
 pub mod VisitWalking
 pub mod VisitOpening
 pub mod VisitControlling
-pub mod Carrying
 pub mod VisitMoments
 pub mod VisitTexts
 pub mod VisitSampled

@@ -23,7 +23,7 @@ use Rattle.law_world_visits.proofs.VisitOpening.{new_is_visiting}
 use Rattle.law_world_visits.proofs.VisitControlling.{controller_keeps_visiting}
 use Rattle.law_world_visits.proofs.VisitMoments.{visits_apart}
 use Rattle.law_world_visits.proofs.VisitTexts.{lines_fit}
-use Rattle.law_world_visits.proofs.Carrying.{KeepsCarried, carrying, both, both_carried, NextIsOffered, next_is_offered}
+use Rattle.law_world_memory.proofs.Carrying.{KeepsCarried, carrying, both, both_carried, NextIsOffered, next_is_offered}
 
 pub driver_keeps_visiting : DriverKeepsVisiting
 driver_keeps_visiting start w vs k =
