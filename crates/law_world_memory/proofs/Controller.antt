@@ -141,6 +141,8 @@ module _ (fixed : Fixed) (s : Standing) (w : World) (k : IsMixedAt s w) where
             opened = opened_stays d w.memory new.memory r.number (runs_of_endpoint r.endpoint) (chained_queue r.endpoint r.place r.link) r.opened k.now.framed.place.sound.owners stands writes.words;
             links = r.links;
           };
+          work = t.work;
+          begun = t.begun;
           newest = t.newest;
         }
 

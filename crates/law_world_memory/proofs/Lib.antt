@@ -51,6 +51,7 @@ pub mod FrameNext
 pub mod FrameRegisters
 pub mod FrameEnds
 pub mod FrameRows
+pub mod ChainBegun
 pub mod ChainReady
 pub mod ChainSteps
 pub mod ChainLends

@@ -1,5 +1,5 @@
--- Structures of one queue head that differ at most in its link (EHCI 1.0, 3.5 and 3.6), as where the one behind it in the ring or a frame is
--- linked or unlinked.
+-- Structures of one queue head that differ at most in its link (EHCI 1.0, 3.5 and 3.6), as where the one behind it in the ring or a frame
+-- is linked or unlinked.
 --     IsRelinked part n q      the queue head q stands at n, with whatever link
 --     IsSameQueue n part now   the queue head at n, its qTDs and their buffers are the same in both, but for the link of the queue head
 use Rattle.std.specs.Prelude.{◌≡◌, ℕ, List, Some}

@@ -197,12 +197,6 @@ pub data QueueStep (s : Standing) (w : World) : Standing → Type 0 where
       → QueueStep s w (record s { parts = parts_opened k s.parts })
   opens : (k : IsOpenThere (queued w.driver) s.parts) (t : Standing)
       → QueuesAlike (open_finished (queued w.driver)) (queued (driver_next w).driver) → HasOpened s t k.endpoint → QueueStep s w t
-  -- .. both by one event, where it has no frame to be linked in
-  begins_and_opens : (k : IsOpenToLend (queued w.driver) w.memory)
-      (there : IsOpenThere (open_lent (queued w.driver) w.memory) (parts_opened k s.parts)) (t : Standing)
-      → driver_row (driver_parts w) ≡ rows.Lend
-      → QueuesAlike (open_finished (open_lent (queued w.driver) w.memory)) (queued (driver_next w).driver)
-      → HasOpened (record s { parts = parts_opened k s.parts }) t there.endpoint → QueueStep s w t
   unlinks : (k : IsAtUnlink (queued w.driver) s.near s.parts)
       → IsToldRow w (rows.Store k.before (32 * k.before) (queue_head_link k.after))
       → QueueStep s w (record s {
