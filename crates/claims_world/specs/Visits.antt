@@ -2,6 +2,11 @@
 -- microframe that is held no time is left. The asynchronous part ends where the head of the ring was read with Reclamation 0, or where the
 -- next price passes the time left, and then the ring goes on at the same queue head. A queue head is passed without its transaction for one
 -- of the standard's reasons alone, in the ring and in the frames (EHCI 1.0, 3.6.2, 4.4, 4.6 to 4.10, 4.10.3 and 4.12).
+--     name_of link                   the byte address of the structure to which a link leads, if any
+--     next_of m n                    .. where the link is the word at byte address n: that of an element of the frame list, or the first
+--                                    word of a structure
+--     IsLedTo m n o                  the structure at n is the one at o, or the links lead to it from there
+--     IsInChain w f n                .. from the element of frame f: it is linked in that frame
 --     begins x                       the byte address at which the structure of a member begins
 --     fetched_by row                 the byte address of the structure that is fetched so
 --     visited_too o vs               it was visited too
@@ -9,6 +14,9 @@
 --     visits_after row c vs          what was visited after an event of the controller, the newest first
 --     visits_next fixed w vs         .. after the next event of the controller of a world
 --     visited s k                    .. after k events and commands of the run of a script
+--     began_at row w b, began_by     the world as the microframe began, where it was b before an event of this row in the world w
+--     began s k                      .. after k events and commands of the run of a script; before the first Begin the world before its
+--                                    first line
 --     frame_in index                 the frame of the microframe with this FRINDEX
 --     IsInItsFrame d index frame v   the structure at v is that of a member of this frame, which stands, or was unlinked in this
 --                                    microframe: no reading of FRINDEX with another frame number came since, or the command that unlinks it
@@ -16,6 +24,10 @@
 --     VisitsApart w vs               no structure was visited twice, and each that was visited is in its frame
 --     VisitsEachOnce s               at each moment no structure was visited twice in the microframe, and each that was visited is in its
 --                                    frame
+--     HasVisited n vs                the structure at n is among those that were visited
+--     IsPastFrames w                 the walk of the frames is over in this microframe
+--     VisitsEach s                   at each moment at which it is over, each structure that was linked in the frame as the microframe
+--                                    began, and is linked there still, was visited
 --     is_held_now fixed w            the microframe that began last is one in which the bus may not be used
 --     TellsMicroframe fixed w        so the Begin of that microframe heard of it; no other event changes which microframe it is, and no
 --                                    command
@@ -64,12 +76,14 @@ use Rattle.std.specs.List.{AllByRecursion}
 use Rattle.std.specs.Prelude.{◌≡◌, ◌≢◌, ℕ, ◌+◌, suc, ◌/◌, ◌*◌, ◌%◌, ◌<◌, ◌≤◌, ◌⊎◌, Bool, true, not, false, List, [], ◌∷◌, Option, Some, None}
 use Rattle.usb_base.specs.declared.commands.Cmd.{Cmd}
 use Rattle.script_types.specs.declared.scripts.Script.{Script}
+use Rattle.word_mem.specs.Memory.{Mem, word_at}
 use Rattle.drv_chains.specs.declared.members.Member.{Member}
 use Rattle.drv_chains.specs.Chains.{id_of, stands_in}
 use Rattle.drv_members.specs.Members.{is_linked}
+use Rattle.link_words.specs.declared.kinds.Link.{Link}
 use Rattle.link_words.specs.declared.kinds.Link.TheVariants as links
 use Rattle.link_words.specs.declared.kinds.QtdLink.TheVariants as qtd_links
-use Rattle.link_words.specs.Links.{qtd_link_of}
+use Rattle.link_words.specs.Links.{link_read, qtd_link_of}
 use Rattle.qh_qtd.specs.declared.qtd.Qtd.{Qtd}
 use Rattle.qh_qtd.specs.declared.queue_head.Qh.{Qh}
 use Rattle.drv_table.specs.DriverContent.{DriverContent}
@@ -92,20 +106,40 @@ use Rattle.periodic_walk.specs.declared.state.HeldQueue.{HeldQueue}
 use Rattle.periodic_walk.specs.Causes.{HasNothing as FrameHasNothing}
 use Rattle.periodic_walk.specs.Chain.{chain_row}
 use Rattle.periodic_walk.specs.Place.{FramePlace}
+use Rattle.periodic_walk.specs.Walk.{is_over}
 use Rattle.hc_core.specs.declared.controller.ControllerRow.{ControllerRow}
 use Rattle.hc_core.specs.declared.controller.ControllerRow.TheVariants as rows
 use Rattle.hc_core.specs.declared.controller.HcStep.{HcStep}
 use Rattle.hc_core.specs.declared.controller.HcStep.TheVariants as steps
-use Rattle.hc_core.specs.declared.controller.MicroframePart.TheVariants.{Asynchronous}
+use Rattle.hc_core.specs.declared.controller.MicroframePart.TheVariants.{Periodic, Asynchronous}
 use Rattle.hc_core.specs.Controller.{Content, entered, frame_place, time_left, walk_place}
 use Rattle.bus_wire.specs.Bus.{Fixed, is_held, fixed_of, is_allowed}
 use Rattle.bus_world.specs.Budgets.{moment}
+use Rattle.bus_world.specs.Opening.{opening_world}
 use Rattle.bus_world.specs.World.{World, controller_parts, controller_row, driver_next, controller_next, kind_next, commanded}
 use Rattle.claims_driver.specs.Unlinked.{IsRemovedSince, IsUnchainedNow, led}
 use Rattle.claims_world.specs.Carried.{carried}
 use Rattle.claims_world.specs.Memory.{AreOnce}
 
 -- ---- where a link leads
+
+abbrev pub name_of : Link → Option ℕ
+name_of links.End = None
+name_of (links.Itd a) = Some a
+name_of (links.Qh a) = Some a
+name_of (links.Sitd a) = Some a
+name_of (links.Fstn a) = Some a
+
+abbrev pub next_of : Mem → ℕ → Option ℕ
+next_of m n = name_of (link_read (word_at m n))
+
+pub data IsLedTo (m : Mem) (n : ℕ) : Option ℕ → Type 0 where
+  is_there : IsLedTo m n (Some n)
+  leads_on : (a : ℕ) → IsLedTo m n (next_of m a) → IsLedTo m n (Some a)
+
+-- four bytes an element (3.1)
+abbrev pub IsInChain : World → ℕ → ℕ → Type 0
+IsInChain w f n = IsLedTo w.memory n (next_of w.memory (w.registers.periodic_list_base + 4 * f))
 
 abbrev pub begins : Member → ℕ
 begins x = 32 * (id_of x / 32)
@@ -142,6 +176,22 @@ visits_next fixed w vs = visits_after (controller_row w) (controller_parts w) vs
 abbrev pub visited : Script → ℕ → List ℕ
 visited s k = carried visits_next s [] k
 
+-- ---- the world as the microframe began
+
+abbrev pub began_at : ControllerRow → World → World → World
+began_at rows.Begin w b = w
+began_at rows.Idle w b = b
+began_at rows.Frame w b = b
+began_at rows.Enter w b = b
+began_at rows.Go w b = b
+began_at rows.End w b = b
+
+abbrev pub began_by : Fixed → World → World → World
+began_by fixed w b = began_at (controller_row w) w b
+
+abbrev pub began : Script → ℕ → World
+began s k = carried began_by s (opening_world s) k
+
 -- ---- what comes next
 
 -- its element of the frame list (4.4)
@@ -162,6 +212,17 @@ pub record VisitsApart (w : World) (vs : List ℕ) : Type 0 where
 
 abbrev pub VisitsEachOnce : Script → Type 0
 VisitsEachOnce s = (k : ℕ) → VisitsApart (moment s k).world (visited s k)
+
+abbrev pub HasVisited : ℕ → List ℕ → Type 0
+HasVisited n [] = ⊥
+HasVisited n (v ∷ vs) = (n ≡ v) ⊎ HasVisited n vs
+
+abbrev pub IsPastFrames : World → Type 0
+IsPastFrames w = w.control.part ≡ Periodic → is_over w.control.frame ≡ true
+
+abbrev pub VisitsEach : Script → Type 0
+VisitsEach s = (k n : ℕ) → IsPastFrames (moment s k).world → IsInChain (began s k) (frame_in (moment s k).world.control.frame.index) n
+    → IsInChain (moment s k).world (frame_in (moment s k).world.control.frame.index) n → HasVisited n (visited s k)
 
 -- by the number that the bus counts at each Begin
 abbrev pub is_held_now : Fixed → World → Bool

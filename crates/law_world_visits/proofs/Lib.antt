@@ -1,3 +1,8 @@
+pub mod NoneLeft
+pub mod NoneLeftStores
+pub mod NoneLeftChains
+pub mod NoneLeftWorlds
+pub mod NoneLeftWalking
 pub mod SpliceWords
 pub mod DriverGoesOn
 pub mod LinkSteps
