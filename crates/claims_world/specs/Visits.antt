@@ -1,7 +1,8 @@
--- In one microframe the walk of the frames visits no structure twice, and each in its frame, while members are linked and unlinked. In a
--- microframe that is held no time is left. The asynchronous part ends where the head of the ring was read with Reclamation 0, or where the
--- next price passes the time left, and then the ring goes on at the same queue head. A queue head is passed without its transaction for one
--- of the standard's reasons alone, in the ring and in the frames (EHCI 1.0, 3.6.2, 4.4, 4.6 to 4.10, 4.10.3 and 4.12).
+-- In one microframe the walk of the frames visits no structure twice, and each in its frame, while members are linked and unlinked; and once
+-- it is over, it has visited each that was linked in the frame as the microframe began and is linked there still. In a microframe that is
+-- held no time is left. The asynchronous part ends where the head of the ring was read with Reclamation 0, or where the next price passes the
+-- time left, and then the ring goes on at the same queue head. A queue head is passed without its transaction for one of the standard's
+-- reasons alone, in the ring and in the frames (EHCI 1.0, 3.6.2, 4.4, 4.6 to 4.10, 4.10.3 and 4.12).
 --     name_of link                   the byte address of the structure to which a link leads, if any
 --     next_of m n                    .. where the link is the word at byte address n: that of an element of the frame list, or the first
 --                                    word of a structure
@@ -67,11 +68,11 @@
 --                                    fault
 --     HasFrameReasons w              both
 --     KeepsFrameReasons s            .. at each moment of a script's run
---     KeepsVisits s                  in one microframe the walk of the frames visits no structure twice, and each in its frame; a
---                                    microframe in which the bus may not be used has no time; the asynchronous part ends at the head of the
---                                    ring, read with Reclamation 0, or for want of time, and then the ring goes on at the same queue head;
---                                    and a queue head is passed without its transaction for one of the standard's reasons alone, in the
---                                    ring and in the frames
+--     KeepsVisits s                  in one microframe the walk of the frames visits no structure twice, and each in its frame, and leaves
+--                                    none out; a microframe in which the bus may not be used has no time; the asynchronous part ends at the
+--                                    head of the ring, read with Reclamation 0, or for want of time, and then the ring goes on at the same
+--                                    queue head; and a queue head is passed without its transaction for one of the standard's reasons
+--                                    alone, in the ring and in the frames
 use Rattle.std.specs.List.{AllByRecursion}
 use Rattle.std.specs.Prelude.{◌≡◌, ◌≢◌, ℕ, ◌+◌, suc, ◌/◌, ◌*◌, ◌%◌, ◌<◌, ◌≤◌, ◌⊎◌, Bool, true, not, false, List, [], ◌∷◌, Option, Some, None}
 use Rattle.usb_base.specs.declared.commands.Cmd.{Cmd}
@@ -361,6 +362,7 @@ KeepsFrameReasons s = (k : ℕ) → HasFrameReasons (moment s k).world
 
 pub record KeepsVisits (s : Script) : Type 0 where
   pub once : VisitsEachOnce s
+  pub each : VisitsEach s
   pub held : KeepsHeldTime s
   pub place : KeepsPlaceOfRing s
   pub ring : KeepsReasons s

@@ -55,8 +55,9 @@ use usb_base::{Sink, Source};
 /// and the controller runs with both schedules on, meets no fault and is refused no word. Of qTDs, overlays and buffers this says
 /// nothing.
 ///
-/// In one microframe the walk of the frames visits no structure twice, and each in its frame, while members are linked and unlinked. In
-/// a microframe that is held no time is left. The asynchronous part ends where the head of the ring was read with Reclamation 0, or
+/// In one microframe the walk of the frames visits no structure twice, and each in its frame, while members are linked and unlinked;
+/// and once it is over, it has visited each to which the links of the frame led as the microframe began, and to which they lead still.
+/// In a microframe that is held no time is left. The asynchronous part ends where the head of the ring was read with Reclamation 0, or
 /// where the next price passes the time left, and then the ring goes on at the same queue head. A queue head is passed without its
 /// transaction for one of the standard's reasons alone, in the ring and in the frames.
 ///
