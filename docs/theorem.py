@@ -30,7 +30,7 @@ SAYS = {
               "content says, also between two stores of a link; the walk of the ring stands at queue heads of the ring or at those that left since the last answered doorbell was "
               "rung; and the controller runs, meets no fault and is refused no word. Of qTDs, overlays and the words of isochronous descriptors other than links it says nothing.",
     "visits": "In one microframe the walk of the frames visits no structure twice, and each in its frame, and once it is over it has visited each to which the links of the frame led as "
-              "the microframe began, and to which they lead still; in a held microframe no time is left; the asynchronous part ends for one of the standard's reasons, and a queue head is passed without its transaction for one of the standard's reasons alone.",
+              "the microframe began, and to which they lead still; in a held microframe no time is left; the asynchronous part ends for one of the standard's reasons, and a structure that is visited has its transaction, or is passed without it for one of the standard's reasons alone.",
     "within_load": "Where all periodic endpoints are of high speed: the bus time that the walk of the frames has deducted in a microframe is at each moment at most the plan's load there, and at most 100 microseconds.",
     "in_time": "Where all periodic endpoints are of high speed: in a microframe that isn't held no transaction of the periodic part is skipped for want of time.",
     "streams": "Where a script opens high-speed bulk and control endpoints alone: at each moment, and after the run, the bytes told of each bulk IN endpoint that was opened begin its stream; those told of "

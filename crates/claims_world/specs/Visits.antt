@@ -1,8 +1,8 @@
--- In one microframe the walk of the frames visits no structure twice, and each in its frame, while members are linked and unlinked; and once
--- it is over, it has visited each that was linked in the frame as the microframe began and is linked there still. In a microframe that is
--- held no time is left. The asynchronous part ends where the head of the ring was read with Reclamation 0, or where the next price passes the
--- time left, and then the ring goes on at the same queue head. A queue head is passed without its transaction for one of the standard's
--- reasons alone, in the ring and in the frames (EHCI 1.0, 3.6.2, 4.4, 4.6 to 4.10, 4.10.3 and 4.12).
+-- In one microframe the walk of the frames visits no structure twice, and each in its frame, while members are linked and unlinked; and
+-- once it is over, it has visited each that was linked in the frame as the microframe began and is linked there still. In a microframe that
+-- is held no time is left. The asynchronous part ends where the head of the ring was read with Reclamation 0, or where the next price
+-- passes the time left, and then the ring goes on at the same queue head. A structure that is visited has its transaction, or is passed
+-- without it for one of the standard's reasons alone, in the ring and in the frames (EHCI 1.0, 3.6.2, 4.4, 4.6 to 4.10, 4.10.3 and 4.12).
 --     name_of link                   the byte address of the structure to which a link leads, if any
 --     next_of m n                    .. where the link is the word at byte address n: that of an element of the frame list, or the first
 --                                    word of a structure
@@ -49,10 +49,16 @@
 --     EndsForAReason w               where the controller's next event is the end of the part, the head of the ring was read with
 --                                    Reclamation 0, or the price of the next transaction passes the time that is left; the part is never
 --                                    disabled, and the event is never a fault
---     PassesForAReason w             where it passes the queue head in hand, that one rests (it is halted, or NakCnt is 0 while RL isn't),
---                                    its queue ends, or the qTD that comes next isn't active: so one whose qTD is active makes its
---                                    transaction, but for the time
---     HasReasons w                   both
+--     RingHasNothing p h             it is halted, or NakCnt is 0 while RL isn't; or its overlay is done, and its queue ends, or the qTD
+--                                    that comes next isn't active
+--     IsPassedInRing p               there is one of these reasons at the queue head of the ring in hand, which has no transaction to be
+--                                    written back
+--     PassesForAReason w             that one is passed for one of these reasons alone; and a part begins with none in hand
+--     IsWorkedInRing p h             what the event is, of a copy with an active overlay and no transaction to be written back: its
+--                                    transaction; it is passed, since it is halted or its NAKs are used up; or the part ends, since the
+--                                    price passes the time left
+--     WorksInRing w                  so it is at each queue head of the ring in hand whose overlay is active
+--     HasReasons w                   all three
 --     KeepsReasons s                 .. at each moment of a script's run
 --     GoesToLink p h                 its overlay is done, and the link of that tells the qTD that comes next
 --     HasItsTurn p h                 its overlay is active, and this is a microframe of it
@@ -62,17 +68,26 @@
 --     QueueVisited p h               what the event is, of a copy with no transaction to be written back: its transaction, for which there
 --                                    is time; a qTD is taken; it is passed for one of these reasons; or a microframe of its split
 --                                    transaction was missed, which is written back with no transaction
---     PassesInFramesForAReason w     a queue head in hand of the walk of the frames is passed for one of these reasons alone, and for each
---                                    of them; and any structure only where it rests or has no time
---     VisitsInFrames w               each event at a queue head in hand of the walk of the frames is one of those, so that it is never the
---                                    fault
+--     ItdHasNothing p h              its slot of this microframe isn't active, or the price of its transaction passes the time left
+--     ItdVisited p h                 what the event is, of an iTD with a transaction to come: its transaction, or it is passed for such a
+--                                    reason
+--     SitdHasNothing p h             it isn't active, this microframe isn't one of its mask, or the price passes the time left
+--     SitdVisited p h                what the event is, of a siTD with no transaction to be written back: its transaction, for which this
+--                                    is a microframe of its mask; it is passed for such a reason; or a microframe of its split transaction
+--                                    was missed, which is written back with no transaction
+--     HandHasNothing p               there is one of these reasons at the structure in hand
+--     PassesInFramesForAReason w     a queue head in hand of the walk of the frames is passed for one of its reasons alone, and for each of
+--                                    them; and any structure for one of its own
+--     VisitsInFrames w               each event at a structure in hand of the walk of the frames, with no transaction to be written back,
+--                                    is one of those, so that it is never the fault: an active one has its transaction, or one of the
+--                                    reasons stands
 --     HasFrameReasons w              both
 --     KeepsFrameReasons s            .. at each moment of a script's run
 --     KeepsVisits s                  in one microframe the walk of the frames visits no structure twice, and each in its frame, and leaves
 --                                    none out; a microframe in which the bus may not be used has no time; the asynchronous part ends at the
 --                                    head of the ring, read with Reclamation 0, or for want of time, and then the ring goes on at the same
---                                    queue head; and a queue head is passed without its transaction for one of the standard's reasons
---                                    alone, in the ring and in the frames
+--                                    queue head; and a structure that is visited has its transaction, or is passed without it for one of
+--                                    the standard's reasons alone, in the ring and in the frames
 use Rattle.std.specs.List.{AllByRecursion}
 use Rattle.std.specs.Prelude.{◌≡◌, ◌≢◌, ℕ, ◌+◌, suc, ◌/◌, ◌*◌, ◌%◌, ◌<◌, ◌≤◌, ◌⊎◌, Bool, true, not, false, List, [], ◌∷◌, Option, Some, None}
 use Rattle.usb_base.specs.declared.commands.Cmd.{Cmd}
@@ -94,17 +109,20 @@ use Rattle.hc_copy.specs.Visits.{next_pointer}
 use Rattle.async_walk.specs.declared.rows.WalkRow.TheVariants as walks
 use Rattle.async_walk.specs.declared.state.Cursor.TheVariants as cursors
 use Rattle.async_walk.specs.declared.state.ReloadMode.TheVariants.{WaitHead}
-use Rattle.async_walk.specs.Causes.{HasReason, HasNothing}
-use Rattle.async_walk.specs.Naks.{mode_after, reloaded}
-use Rattle.async_walk.specs.Rows.{started, event_row}
+use Rattle.async_walk.specs.Causes.{HasReason, NaksAreUsedUp}
+use Rattle.async_walk.specs.Naks.{mode_after, reloaded, planned as ring_planned}
+use Rattle.async_walk.specs.Rows.{WalkPlace, started, event_row}
 use Rattle.hc_masks.specs.Masks.{has}
 use Rattle.hc_interrupt.specs.Turns.{microframe_of, waits, is_missed, planned}
+use Rattle.hc_iso.specs.declared.held.HeldItd.{HeldItd}
+use Rattle.hc_iso.specs.declared.held.HeldSitd.{HeldSitd}
+use Rattle.hc_iso.specs.Itd.{itd_transaction}
+use Rattle.hc_iso.specs.Sitd.{sitd_missed, comes, sitd_transaction}
 use Rattle.periodic_walk.specs.declared.chain.ChainRow.{ChainRow}
 use Rattle.periodic_walk.specs.declared.chain.ChainRow.TheVariants as chains
 use Rattle.periodic_walk.specs.declared.state.Hand.{Hand}
 use Rattle.periodic_walk.specs.declared.state.Hand.TheVariants as hands
 use Rattle.periodic_walk.specs.declared.state.HeldQueue.{HeldQueue}
-use Rattle.periodic_walk.specs.Causes.{HasNothing as FrameHasNothing}
 use Rattle.periodic_walk.specs.Chain.{chain_row}
 use Rattle.periodic_walk.specs.Place.{FramePlace}
 use Rattle.periodic_walk.specs.Walk.{is_over}
@@ -291,13 +309,42 @@ pub record EndsForAReason (w : World) : Type 0 where
   pub going : controller_row w ≡ rows.Go → kind_next w ≡ steps.End → HasReason (started (walk_place (controller_parts w)))
   pub beginning : controller_row w ≡ rows.Enter → kind_next w ≡ steps.End → HasReason (started (walk_place (entered (controller_parts w))))
 
+-- its overlay is neither active nor halted: the link of the overlay tells the qTD that comes next
+pub record OverlayIsDone (h : Held) : Type 0 where
+  pub done : h.queue_head.token.active ≡ false
+  pub unhalted : h.queue_head.token.halted ≡ false
+
+pub data RingHasNothing (p : WalkPlace) (h : Held) : Type 0 where
+  is_halted : h.queue_head.token.halted ≡ true → RingHasNothing p h
+  naks_are_used_up : NaksAreUsedUp h.queue_head → RingHasNothing p h
+  queue_ends : OverlayIsDone h → qtd_link_of (next_pointer h.queue_head) ≡ qtd_links.End → RingHasNothing p h
+  qtd_is_done : (at : ℕ) (qtd : Qtd) → OverlayIsDone h → qtd_link_of (next_pointer h.queue_head) ≡ qtd_links.To at
+      → qtd_at_address p.memory at ≡ Some qtd → qtd.token.active ≡ false → RingHasNothing p h
+
+pub record IsPassedInRing (p : WalkPlace) : Type 0 where
+  pub held : Held
+  pub in_hand : p.walk.held ≡ Some held
+  pub unsettled : held.settled ≡ None
+  pub reason : RingHasNothing p held
+
 pub record PassesForAReason (w : World) : Type 0 where
-  pub going : controller_row w ≡ rows.Go → kind_next w ≡ steps.Skip → HasNothing (started (walk_place (controller_parts w)))
-  pub beginning : controller_row w ≡ rows.Enter → kind_next w ≡ steps.Skip → HasNothing (started (walk_place (entered (controller_parts w))))
+  pub going : controller_row w ≡ rows.Go → kind_next w ≡ steps.Skip → IsPassedInRing (walk_place (controller_parts w))
+  pub beginning : controller_row w ≡ rows.Enter → kind_next w ≢ steps.Skip
+
+pub data IsWorkedInRing (p : WalkPlace) (h : Held) : HcStep → Type 0 where
+  transacts : IsWorkedInRing p h steps.Transact
+  is_halted : h.queue_head.token.halted ≡ true → IsWorkedInRing p h steps.Skip
+  naks_are_used_up : NaksAreUsedUp h.queue_head → IsWorkedInRing p h steps.Skip
+  has_no_time : p.walk.left < (ring_planned h.queue_head).price.0 → IsWorkedInRing p h steps.End
+
+abbrev pub WorksInRing : World → Type 0
+WorksInRing w = (h : Held) → controller_row w ≡ rows.Go → w.control.walk.held ≡ Some h → h.settled ≡ None → h.queue_head.token.active ≡ true
+    → IsWorkedInRing (walk_place (controller_parts w)) h (kind_next w)
 
 pub record HasReasons (w : World) : Type 0 where
   pub ends : EndsForAReason w
   pub passes : PassesForAReason w
+  pub works : WorksInRing w
 
 abbrev pub KeepsReasons : Script → Type 0
 KeepsReasons s = (k : ℕ) → HasReasons (moment s k).world
@@ -337,6 +384,32 @@ pub data QueueVisited (p : FramePlace) (h : HeldQueue) : HcStep → Type 0 where
   passes : QueueHasNothing p h → QueueVisited p h steps.Skip
   misses : waits h.copy.queue_head ≡ true → is_missed p.walk.index h.copy.queue_head ≡ true → QueueVisited p h steps.WriteBack
 
+-- of an iTD, each microframe has a slot (3.3.2)
+pub data ItdHasNothing (p : FramePlace) (h : HeldItd) : Type 0 where
+  is_inactive : h.slot.active ≡ false → ItdHasNothing p h
+  has_no_time : h.slot.active ≡ true → p.walk.left < (itd_transaction h).price.0 → ItdHasNothing p h
+
+pub data ItdVisited (p : FramePlace) (h : HeldItd) : HcStep → Type 0 where
+  transacts : h.slot.active ≡ true → ItdVisited p h steps.Transact
+  passes : ItdHasNothing p h → ItdVisited p h steps.Skip
+
+-- of a siTD, an IN's start-split comes in a microframe of the S-mask and its complete-splits in those of the C-mask, an OUT's parts in
+-- those of the S-mask (4.12.3)
+pub data SitdHasNothing (p : FramePlace) (h : HeldSitd) : Type 0 where
+  is_inactive : h.sitd.active ≡ false → SitdHasNothing p h
+  not_in_its_mask : comes (microframe_of p.walk.index) h.sitd ≡ false → SitdHasNothing p h
+  has_no_time : h.sitd.active ≡ true → p.walk.left < (sitd_transaction h.sitd).price.0 → SitdHasNothing p h
+
+pub data SitdVisited (p : FramePlace) (h : HeldSitd) : HcStep → Type 0 where
+  transacts : h.sitd.active ≡ true → comes (microframe_of p.walk.index) h.sitd ≡ true → SitdVisited p h steps.Transact
+  passes : SitdHasNothing p h → SitdVisited p h steps.Skip
+  misses : h.sitd.active ≡ true → sitd_missed (microframe_of p.walk.index) h.sitd ≡ true → SitdVisited p h steps.WriteBack
+
+pub data HandHasNothing (p : FramePlace) : Type 0 where
+  of_queue : (h : HeldQueue) → p.walk.hand ≡ Some (hands.Queue h) → QueueHasNothing p h → HandHasNothing p
+  of_itd : (h : HeldItd) → p.walk.hand ≡ Some (hands.Itd h) → ItdHasNothing p h → HandHasNothing p
+  of_sitd : (h : HeldSitd) → p.walk.hand ≡ Some (hands.Sitd h) → SitdHasNothing p h → HandHasNothing p
+
 -- ---- of a world
 
 pub record PassesInFramesForAReason (w : World) : Type 0 where
@@ -345,11 +418,15 @@ pub record PassesInFramesForAReason (w : World) : Type 0 where
   -- and each of the reasons passes it
   pub each : (h : HeldQueue) → controller_row w ≡ rows.Frame → w.control.frame.hand ≡ Some (hands.Queue h) → h.copy.settled ≡ None
       → QueueHasNothing (frame_place (controller_parts w)) h → kind_next w ≡ steps.Skip
-  pub any : controller_row w ≡ rows.Frame → kind_next w ≡ steps.Skip → FrameHasNothing (frame_place (controller_parts w))
+  pub any : controller_row w ≡ rows.Frame → kind_next w ≡ steps.Skip → HandHasNothing (frame_place (controller_parts w))
 
-abbrev pub VisitsInFrames : World → Type 0
-VisitsInFrames w = (h : HeldQueue) → controller_row w ≡ rows.Frame → w.control.frame.hand ≡ Some (hands.Queue h) → h.copy.settled ≡ None
-    → QueueVisited (frame_place (controller_parts w)) h (kind_next w)
+pub record VisitsInFrames (w : World) : Type 0 where
+  pub queue : (h : HeldQueue) → controller_row w ≡ rows.Frame → w.control.frame.hand ≡ Some (hands.Queue h) → h.copy.settled ≡ None
+      → QueueVisited (frame_place (controller_parts w)) h (kind_next w)
+  pub itd : (h : HeldItd) → controller_row w ≡ rows.Frame → w.control.frame.hand ≡ Some (hands.Itd h) → h.ended ≡ None
+      → ItdVisited (frame_place (controller_parts w)) h (kind_next w)
+  pub sitd : (h : HeldSitd) → controller_row w ≡ rows.Frame → w.control.frame.hand ≡ Some (hands.Sitd h) → h.settled ≡ None
+      → SitdVisited (frame_place (controller_parts w)) h (kind_next w)
 
 pub record HasFrameReasons (w : World) : Type 0 where
   pub passes : PassesInFramesForAReason w

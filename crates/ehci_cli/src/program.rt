@@ -58,8 +58,8 @@ use usb_base::{Sink, Source};
 /// In one microframe the walk of the frames visits no structure twice, and each in its frame, while members are linked and unlinked;
 /// and once it is over, it has visited each to which the links of the frame led as the microframe began, and to which they lead still.
 /// In a microframe that is held no time is left. The asynchronous part ends where the head of the ring was read with Reclamation 0, or
-/// where the next price passes the time left, and then the ring goes on at the same queue head. A queue head is passed without its
-/// transaction for one of the standard's reasons alone, in the ring and in the frames.
+/// where the next price passes the time left, and then the ring goes on at the same queue head. A structure that is visited has its
+/// transaction, or is passed without it for one of the standard's reasons alone, in the ring and in the frames.
 ///
 /// Where all its periodic endpoints are of high speed, isochronous ones too, the time that is deducted for their transactions in a
 /// microframe is no more than the plan's load there, nor than 100 microseconds, at each moment, also while endpoints are opened and

@@ -36,6 +36,7 @@ pub mod ReasonRings
 pub mod ReasonFrames
 pub mod ReasonHeld
 pub mod ReasonPlace
+pub mod ReasonIso
 pub mod ReasonPasses
 pub mod ReasonTexts
 pub mod ReasonSampled

@@ -1,6 +1,6 @@
 -- What the walk of the frames comes to in a microframe, beside the world as it began (EHCI 1.0, 3.3, 3.4, 4.4, 4.6 and 4.7). A descriptor
--- that is linked in a microframe stands first in its
--- frame, so that only the element of the frame list leads to it, which is read as the microframe begins: the walk doesn't come to it in this microframe.
+-- that is linked in a microframe stands first in its frame, so that only the element of the frame list leads to it, which is read as the
+-- microframe begins: the walk doesn't come to it in this microframe.
 --     IsAhead w n              the walk of the frames goes on to what stands at n
 --     GoesOnToOld b w          where something is active of a descriptor to which the walk goes on, so it was in the world b, of the same endpoint and frame
 --     StandsAlone d n f        the descriptor at n is a member to which a word may lead, and stands in frame f alone

@@ -1,8 +1,7 @@
 -- The walk of the frames leaves none out (EHCI 1.0, 4.6 and 4.7), while members are linked and unlinked.
 --     ChainIsStanding    what the words of memory link in a frame stands there
 --     TextsVisitEach     the law, of each script that a text spells: in a microframe each structure that was linked in its frame as it
---                        began, and is linked there still, was visited
---                        once the walk is over
+--                        began, and is linked there still, was visited once the walk is over
 use Rattle.std.specs.Prelude.{ℕ, ◌<◌, List}
 use Rattle.script_types.specs.declared.scripts.Script.{Script}
 use Rattle.script_text.specs.Faults.{Spells}
