@@ -1,3 +1,8 @@
+pub mod NoneLeft
+pub mod NoneLeftStores
+pub mod NoneLeftChains
+pub mod NoneLeftWorlds
+pub mod NoneLeftWalking
 pub mod SpliceWords
 pub mod DriverGoesOn
 pub mod LinkSteps
@@ -30,6 +35,7 @@ pub mod ReasonRings
 pub mod ReasonFrames
 pub mod ReasonHeld
 pub mod ReasonPlace
+pub mod ReasonIso
 pub mod ReasonPasses
 pub mod ReasonTexts
 pub mod ReasonSampled

@@ -15,7 +15,8 @@ ghost use Rattle.law_world_visits.specs.Began.{began, IsAhead};
 ghost use Rattle.law_world_visits.specs.OneDescriptor.{IsActiveDescriptor};
 ghost use Rattle.law_world_visits.specs.Ranks.{name_of};
 ghost use Rattle.law_world_visits.specs.Visited.{link_ahead};
-ghost use Rattle.claims_world.specs.Visits.{is_held_now};
+ghost use Rattle.claims_world.specs.Visits.{IsInChain, HasVisited, IsPastFrames, is_held_now};
+ghost use Rattle.law_world_visits.specs.VisitSamples.{typed_visits};
 ghost use Rattle.claims_world.specs.WithinLoad.{payments, paid_by_all};
 ghost use Rattle.claims_world.specs.Scripts.{HighPeriodicsOnly};
 ghost use Rattle.usb_base.specs.declared.packets.EpKind.TheVariants.{Interrupt, Bulk};
@@ -86,6 +87,18 @@ pub fn a_microphone_is_in_time()
     ensures paid { due_payments 3 ≡ (4160, 798623) ∷ [] }
     ensures left { (due_at 3).control.frame.left ≡ 124201377 }
     ensures rest { (due_at 3).control.frame.left + paid_by_all (due_payments 3) ≡ 125000000 }
+{}
+
+/// Where microframe 1 begins the keyboard's queue head is linked in frame 0, and not in frame 1; the walk of the frames isn't over then,
+/// and has visited nothing. Once it is over the queue head was visited.
+pub fn a_keyboard_is_not_left_out()
+    ensures linked { IsInChain (typed_at 25) 0 4160 }
+    ensures elsewhere { IsInChain (typed_at 25) 1 4160 → ⊥ }
+    ensures goes_on { IsPastFrames (typed_at 26) → ⊥ }
+    ensures none { HasVisited 4160 (typed_visits 26) → ⊥ }
+    ensures still { IsInChain (typed_at 30) 0 4160 }
+    ensures over { IsPastFrames (typed_at 30) }
+    ensures visited { HasVisited 4160 (typed_visits 30) }
 {}
 
 /// That descriptor, of endpoint 0 and for frame 2, is active, and the walk goes on to it.
