@@ -1,4 +1,4 @@
-# Installs what `./ehci --prove` and `./ehci-trace --build` have built: make install PREFIX=/usr/local.
+# Installs what `./ehci --prove`, `./ehci-trace --build` and `make library` have built: make install PREFIX=/usr/local.
 PREFIX ?= /usr/local
 DESTDIR ?=
 TO = $(DESTDIR)$(PREFIX)
@@ -7,7 +7,12 @@ TOOLS = wrapper.sh about.sh fold.awk explain.py svg.py draw_microframes.py draw_
 PROGRAMS = ehci ehci_trace ehci_probe
 COMMIT = $(shell git diff --quiet HEAD 2>/dev/null && git rev-parse HEAD 2>/dev/null)
 
-.PHONY: install uninstall
+.PHONY: install uninstall library
+
+# The controller for C and Rust: libehci.a, proved where that isn't done yet (docs/LIBRARY.md).
+library:
+	tools/library.sh
+	cp crates/ehci_c/out/libehci.a libehci.a
 
 install:
 	@[ -x crates/ehci/out/ehci ] || { echo "make: no program is built: ./ehci --prove" >&2; exit 1; }
@@ -22,11 +27,13 @@ install:
 	install -m 644 README.md CHANGELOG.md docs/FORMATS.md $(TO)/share/doc/ehci
 	install -m 644 examples/*.ehci examples/*.report $(TO)/share/doc/ehci/examples
 	install -m 644 tools/completion.bash $(TO)/share/bash-completion/completions/ehci
-	for it in crates/*/out/lib*.a; do if [ -f $$it ]; then install -d $(TO)/lib && install -m 644 $$it $(TO)/lib || exit 1; fi; done
-	for it in crates/*/c/*.h; do if [ -f $$it ]; then install -d $(TO)/include && install -m 644 $$it $(TO)/include || exit 1; fi; done
+	if [ -f crates/ehci_c/out/libehci.a ]; then \
+		install -d $(TO)/lib $(TO)/include && install -m 644 crates/ehci_c/out/libehci.a $(TO)/lib && install -m 644 include/* $(TO)/include || exit 1; \
+	fi
 	ln -sf ehci $(TO)/share/bash-completion/completions/ehci-trace
 
 uninstall:
 	rm -rf $(LIBEXEC) $(TO)/share/doc/ehci
+	rm -f $(TO)/lib/libehci.a $(TO)/include/ehci.h $(TO)/include/ehci_bus.h $(TO)/include/ehci.rs
 	rm -f $(TO)/bin/ehci $(TO)/bin/ehci-trace $(TO)/share/bash-completion/completions/ehci $(TO)/share/bash-completion/completions/ehci-trace
 	cd docs && for page in *.1; do rm -f $(TO)/share/man/man1/$$page; done

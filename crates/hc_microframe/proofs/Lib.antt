@@ -1,0 +1,3 @@
+mod Going
+mod Words
+pub mod Telling

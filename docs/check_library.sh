@@ -1,0 +1,47 @@
+#!/usr/bin/env bash
+# Builds libehci.a and runs what stands above it: the examples from C, under the address and undefined sanitizers, from Rust and from Python.
+# What can't be built here for want of a tool is said in a line.
+cd "$(dirname "$0")/.." || exit 2
+top=$PWD
+room=$(mktemp -d)
+trap 'rm -rf "$room"' EXIT
+status=0
+has() { command -v "$1" >/dev/null; }
+left() { echo "docs/check_library.sh: $1 left out, as there is no $2"; }
+failed() { echo "docs/check_library.sh: $1"; status=1; }
+
+if ! has cc || ! has ar; then left "the library" "C compiler"; exit 0; fi
+tools/library.sh >"$room/library.log" 2>&1 || { cat "$room/library.log"; exit 1; }
+library=$top/crates/ehci_c/out/libehci.a
+flags=(-std=c11 -Wall -Wextra -Werror -O1 -g -Iinclude)
+
+# A sanitized build where the compiler has the sanitizers.
+if echo 'int main(void) { return 0; }' | cc -x c - -fsanitize=address,undefined -o "$room/tried" 2>/dev/null && "$room/tried"; then
+  flags+=(-fsanitize=address,undefined -fno-sanitize-recover=all)
+else
+  left "the sanitizers" "compiler that has them"
+fi
+
+for name in emulator; do
+  cc "${flags[@]}" "examples/library/$name.c" "$library" -o "$room/$name" || failed "$name.c isn't built"
+done
+"$room/emulator" >"$room/c.out" || failed "emulator.c ended with $?"
+diff examples/library/emulator.expected "$room/c.out" || failed "emulator.c differs"
+
+if echo "fn main() {}" | rustc --edition 2024 - -o "$room/tried" 2>/dev/null; then
+  rustc --edition 2024 -O examples/library/emulator.rs -L "$top/crates/ehci_c/out" -l static=ehci -o "$room/rust" && "$room/rust" >"$room/rust.out" ||
+    failed "emulator.rs doesn't run"
+  diff examples/library/emulator.expected "$room/rust.out" || failed "emulator.rs differs"
+else
+  left "emulator.rs" "rustc of 2024"
+fi
+
+if python3 -c '' 2>/dev/null; then
+  cc -shared -o "$room/libehci.so" -Wl,--whole-archive "$library" -Wl,--no-whole-archive && python3 -B examples/library/emulator.py "$room/libehci.so" >"$room/python.out" ||
+    failed "emulator.py doesn't run"
+  diff examples/library/emulator.expected "$room/python.out" || failed "emulator.py differs"
+else
+  left "emulator.py" "python3"
+fi
+
+exit $status

@@ -1,0 +1,96 @@
+/* ehci.h: a verified EHCI host controller (Enhanced Host Controller Interface 1.0) for emulators, a microframe a call.
+ *
+ * All state is plain data of the caller: copy it, compare it, save it, restore it. No call calls back, none keeps a pointer, none
+ * touches anything but what it is passed, and each ends, whatever words stand in memory. What is said of a call here is proved of its
+ * body; docs/LIBRARY.md shows the use in an emulator.
+ *
+ * Link with libehci.a and the three heap functions of include/ehci_heap.c (or the kit's liblibc_c.a), which call malloc and free.
+ */
+#ifndef EHCI_H
+#define EHCI_H
+
+#include <stdbool.h>
+#include <stddef.h>
+#include <stdint.h>
+
+#ifdef __cplusplus
+extern "C" {
+#endif
+
+/* All of a controller between two microframes: the words of its operational registers (EHCI 1.0, 2.3), and where in the ring it goes on.
+ * `ring` is ASYNCLISTADDR as the driver wrote it; `cursor` the byte address of the queue head at which the walk of the ring goes on, 0 for
+ * `ring`. PORTSC isn't there: the one root port is connected, enabled and powered for ever. */
+struct ehci {
+    uint32_t command, status, interrupt_enable, frame_index, list, ring, configured, cursor;
+};
+
+/* Packet identifiers (USB 2.0, 8.3.1). */
+enum {
+    EHCI_OUT = 1, EHCI_IN = 9, EHCI_SETUP = 13, EHCI_PING = 4,
+    EHCI_DATA0 = 3, EHCI_DATA1 = 11, EHCI_DATA2 = 7, EHCI_MDATA = 15,
+    EHCI_ACK = 2, EHCI_NAK = 10, EHCI_STALL = 14, EHCI_NYET = 6, EHCI_ERR = 12
+};
+enum { EHCI_FULL, EHCI_LOW, EHCI_HIGH };                           /* speed */
+enum { EHCI_CONTROL, EHCI_ISO, EHCI_BULK, EHCI_INTERRUPT };        /* kind */
+enum { EHCI_PLAIN, EHCI_START, EHCI_COMPLETE };                    /* split */
+enum { EHCI_ALL, EHCI_BEGIN, EHCI_MIDDLE, EHCI_LAST };             /* part of the data of a start-split of an isochronous OUT */
+
+/* One transaction that the controller asks of the bus. `toggle` is the identifier of the data that are sent or expected, `limit` the most
+ * bytes that the host can take, `out_len` how many bytes it sends. A split goes to the translator of `hub` for its `port`. */
+struct ehci_ask {
+    uint8_t pid, address, endpoint, speed, kind, toggle, split, hub, port, part;
+    uint16_t limit, out_len;
+};
+
+/* What the host hears in one transaction: a handshake, a data packet of `len` bytes (at most 1,024) from bytes[start] on, or nothing that
+ * it can use. So it hears nothing also of another kind, of a `pid` that no packet has, and of data that aren't whole among the bytes. */
+enum { EHCI_SILENT, EHCI_HANDSHAKE, EHCI_DATA };
+struct ehci_answer {
+    uint8_t kind, pid;
+    uint16_t len;
+    uint32_t start;
+};
+
+/* A controller after a reset: halted, with a threshold of 8 microframes (2.3). */
+void ehci_reset(struct ehci *);
+
+/* What a driver reads at an offset in bytes from the first operational register, 00h USBCMD to 44h PORTSC; all ones where there is none.
+ * The capability registers are the emulator's: one port, 64-bit addressing 0, programmable frame list 0, no park mode. */
+uint32_t ehci_read(const struct ehci *, uint32_t offset);
+
+/* A driver's write of a word there: each bit takes it as its row of 2.3 says; nothing changes where there is no register. HCReset resets
+ * at once; it and a write of ASYNCLISTADDR have the walk of the ring begin anew. */
+void ehci_write(struct ehci *, uint32_t offset, uint32_t word);
+
+/* Whether the interrupt line is up: a bit of USBSTS stands whose bit of USBINTR stands (4.15). The interrupt threshold isn't kept: the
+ * line is up as soon as the microframe is made. */
+bool ehci_interrupts(const struct ehci *);
+
+enum {
+    EHCI_HALTED,      /* Run is 0 */
+    EHCI_MADE,        /* a microframe was made */
+    EHCI_WANTS_BUS,   /* a transaction is asked that has no answer */
+    EHCI_LONG,        /* the microframe has more events than were allowed */
+    EHCI_UNFIT,       /* the number of words, or of bytes of room, is out of its range */
+    EHCI_NO_MEMORY    /* there was no memory for a copy of the words */
+};
+
+/* Makes one microframe (4.6 to 4.12), of at most `*events` events, over `n` words of memory from address 0 on, all of which the controller
+ * may read and write, and a bus that gives these answers, one to each transaction in its turn.
+ *
+ * EHCI_MADE: FRINDEX was stepped, the periodic list and then the ring were walked, each event one row of the controller's table, each
+ * transaction with its own answer; `*events` tells how many events that were. Where a structure can't be read, or an address lies past the
+ * last word, the microframe ended in a host system error: USBSTS has it, and Run is 0 (4.15.2.4).
+ * EHCI_WANTS_BUS: after that many answers the controller asks `*ask`, and sends the first `ask->out_len` bytes of `out`; it would make no
+ * other transaction there. Call again with the same answers and one more.
+ * EHCI_LONG: a ring without a head, or a chain that is a circle, has no end; 100,000 events are more than a microframe has otherwise.
+ *
+ * But for EHCI_MADE the state and the words stay as they were. `n` is 1,024 to 262,144, in steps of 1,024; `out` has room for 1,024
+ * bytes or more. No two of what is passed overlap; `answers`, `bytes` and `ask` are never null. */
+uint32_t ehci_microframe(struct ehci *, uint32_t *words, size_t n, const struct ehci_answer *answers, size_t count, const uint8_t *bytes,
+                         size_t len, uint32_t *events, struct ehci_ask *ask, uint8_t *out, size_t room);
+
+#ifdef __cplusplus
+}
+#endif
+#endif
