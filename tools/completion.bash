@@ -9,7 +9,7 @@ _ehci() {
     --fold) mapfile -t COMPREPLY < <(compgen -W "dump" -- "$word") ;;
     *)
       if [ "$COMP_CWORD" -eq 1 ]; then
-        mapfile -t COMPREPLY < <(compgen -W "run image check dump load probe --strict --fold --prove --help --version" -- "$word")
+        mapfile -t COMPREPLY < <(compgen -W "run image check dump load probe --strict --fold --build --prove --help --version" -- "$word")
       fi
       ;;
   esac
