@@ -1,8 +1,4 @@
-<<<<<<< HEAD
-# Installs what `./ehci --prove`, `./ehci-trace --build` and `make library` have built: make install PREFIX=/usr/local.
-=======
-# Installs what `./ehci --prove` or `./ehci --build`, and `./ehci-trace --build` have built: make install PREFIX=/usr/local.
->>>>>>> cd35ea3cbd78b38fad70b87c5c83d4cacbb417fc
+# Installs what `./ehci --prove` or `./ehci --build`, `./ehci-trace --build` and `make library` have built: make install PREFIX=/usr/local.
 PREFIX ?= /usr/local
 DESTDIR ?=
 TO = $(DESTDIR)$(PREFIX)
