@@ -28,7 +28,11 @@ SAYS = {
                 "endpoint at most one waiting descriptor, due in that frame. An endpoint that is being cancelled keeps its placement, and with it its bus time, until it is given back, though no frame need have its queue head.",
     "memory": "At each moment the runs of the driver's blocks, the frame list and its links, the ring and words 1 and 2 of the queue heads stand in memory as the driver's "
               "content says, also between two stores of a link; the walk of the ring stands at queue heads of the ring or at those that left since the last answered doorbell was "
-              "rung; and the controller runs, meets no fault and is refused no word. Of qTDs, overlays and the words of isochronous descriptors other than links it says nothing.",
+              "rung; and the controller runs, meets no fault and is refused no word. Of what qTDs, overlays and the words of isochronous descriptors other than links hold it says nothing.",
+    "reach": "At each moment all that the controller can come to from where it stands is Lent: the frame list and the ring's head, what either walk is at or holds a copy of, what links lead to, and of what "
+             "works the qTDs and each byte of its buffer; no link leads to a frame span traversal node.",
+    "releases": "What left the ring is given back only after the doorbell was rung since its unlinking and Async Advance was then read; what left the frame list only after two readings of FRINDEX since then "
+                "with different frame numbers.",
     "visits": "In one microframe the walk of the frames visits no structure twice, and each in its frame, and once it is over it has visited each to which the links of the frame led as "
               "the microframe began, and to which they lead still; in a held microframe no time is left; the asynchronous part ends for one of the standard's reasons, and a structure that is visited has its transaction, or is passed without it for one of the standard's reasons alone.",
     "within_load": "What the walk of the frames has deducted in a microframe are the prices of its transactions, and words 1 and 2 of the queue heads in the frames are those of descriptions and allowed placements. Where all isochronous endpoints are of high speed, these prices, but for complete-splits that are made again, come at each moment to at most the plan's load there, and at most 100 microseconds.",
