@@ -22,11 +22,13 @@ else
   left "the sanitizers" "compiler that has them"
 fi
 
-for name in emulator compare; do
+for name in emulator edges compare; do
   cc "${flags[@]}" "examples/library/$name.c" "$library" -o "$room/$name" || failed "$name.c isn't built"
 done
-"$room/emulator" >"$room/c.out" || failed "emulator.c ended with $?"
-diff examples/library/emulator.expected "$room/c.out" || failed "emulator.c differs"
+for name in emulator edges; do
+  "$room/$name" >"$room/c.out" || failed "$name.c ended with $?"
+  diff "examples/library/$name.expected" "$room/c.out" || failed "$name.c differs"
+done
 
 if echo "fn main() {}" | rustc --edition 2024 - -o "$room/tried" 2>/dev/null; then
   rustc --edition 2024 -O examples/library/emulator.rs -L "$top/crates/ehci_c/out" -l static=ehci -o "$room/rust" && "$room/rust" >"$room/rust.out" ||
