@@ -19,9 +19,13 @@
 --     began s k                      .. after k events and commands of the run of a script; before the first Begin the world before its
 --                                    first line
 --     frame_in index                 the frame of the microframe with this FRINDEX
---     IsInItsFrame d index frame v   the structure at v is that of a member of this frame, which stands, or was unlinked in this
---                                    microframe: no reading of FRINDEX with another frame number came since, or the command that unlinks it
---                                    isn't finished
+--     IsMemberIn d frame n           the member that begins at n is one to which a word may lead, and stands in this frame
+--     WasOfFrame d frame n what      what was removed had a structure at n, of this frame: a descriptor that is for it, or the queue head of
+--                                    an endpoint whose placement is active in it
+--     IsUnlinkedNow d index what     it was removed in this microframe: no reading of FRINDEX with another frame number came since, or the
+--                                    command that unlinks it isn't finished
+--     IsInItsFrame d index frame v   the structure at v is that of such a member; or it was of this frame, and was unlinked in this
+--                                    microframe
 --     VisitsApart w vs               no structure was visited twice, and each that was visited is in its frame
 --     VisitsEachOnce s               at each moment no structure was visited twice in the microframe, and each that was visited is in its
 --                                    frame
@@ -89,8 +93,9 @@
 --                                    queue head; and a structure that is visited has its transaction, or is passed without it for one of
 --                                    the standard's reasons alone, in the ring and in the frames
 use Rattle.std.specs.List.{AllByRecursion}
-use Rattle.std.specs.Prelude.{◌≡◌, ◌≢◌, ℕ, ◌+◌, suc, ◌/◌, ◌*◌, ◌%◌, ◌<◌, ◌≤◌, ◌⊎◌, Bool, true, not, false, List, [], ◌∷◌, Option, Some, None}
+use Rattle.std.specs.Prelude.{◌≡◌, ◌≢◌, ℕ, ◌+◌, suc, ◌/◌, ◌*◌, ◌%◌, ◌<◌, ◌≤◌, ◌⊎◌, Bool, true, not, false, List, [], ◌∷◌, slice_get, Option, Some, None}
 use Rattle.usb_base.specs.declared.commands.Cmd.{Cmd}
+use Rattle.usb_base.specs.declared.packets.EpKind.TheVariants.{Interrupt}
 use Rattle.script_types.specs.declared.scripts.Script.{Script}
 use Rattle.word_mem.specs.Memory.{Mem, word_at}
 use Rattle.drv_chains.specs.declared.members.Member.{Member}
@@ -102,7 +107,16 @@ use Rattle.link_words.specs.declared.kinds.QtdLink.TheVariants as qtd_links
 use Rattle.link_words.specs.Links.{link_read, qtd_link_of}
 use Rattle.qh_qtd.specs.declared.qtd.Qtd.{Qtd}
 use Rattle.qh_qtd.specs.declared.queue_head.Qh.{Qh}
-use Rattle.drv_table.specs.DriverContent.{DriverContent}
+use Rattle.bandwidth.specs.declared.placements.Placement.{Placement}
+use Rattle.bandwidth.specs.Sums.{is_active}
+use Rattle.drv_periodic_table.specs.declared.content.Removal.{Removal}
+use Rattle.drv_periodic_table.specs.declared.content.Removed.{Removed}
+use Rattle.drv_periodic_table.specs.declared.content.Removed.TheVariants as removed
+use Rattle.drv_periodic_table.specs.Periodic.{note_at}
+use Rattle.drv_table.specs.declared.content.Command.TheVariants as unfinished
+use Rattle.drv_table.specs.declared.content.Endpoint.{Endpoint}
+use Rattle.drv_table.specs.declared.content.Transfer.{Transfer}
+use Rattle.drv_table.specs.DriverContent.{DriverContent, waits_for}
 use Rattle.mem_queues.specs.Structures.{qtd_at_address, queue_head_at_address}
 use Rattle.hc_copy.specs.declared.held.Held.{Held}
 use Rattle.hc_copy.specs.Visits.{next_pointer}
@@ -136,7 +150,8 @@ use Rattle.bus_wire.specs.Bus.{Fixed, is_held, fixed_of, is_allowed}
 use Rattle.bus_world.specs.Budgets.{moment}
 use Rattle.bus_world.specs.Opening.{opening_world}
 use Rattle.bus_world.specs.World.{World, controller_parts, controller_row, driver_next, controller_next, kind_next, commanded}
-use Rattle.claims_driver.specs.Unlinked.{IsRemovedSince, IsUnchainedNow, led}
+use Rattle.claims_driver.specs.Owners.{is_descriptor}
+use Rattle.claims_driver.specs.Unlinked.{IsOpenAt, led}
 use Rattle.claims_world.specs.Carried.{carried}
 use Rattle.claims_world.specs.Memory.{AreOnce}
 
@@ -219,11 +234,26 @@ frame_in index = index / 8 % 1024
 
 -- ---- a run
 
-pub record IsInItsFrame (d : DriverContent) (index frame v : ℕ) : Type 0 where
+pub record IsMemberIn (d : DriverContent) (frame n : ℕ) : Type 0 where
   pub member : Member
-  pub at : begins member ≡ v
+  pub at : begins member ≡ n
+  pub linked : is_linked (led d) member ≡ true
   pub in_frame : stands_in frame member ≡ true
-  pub there : (is_linked (led d) member ≡ true) ⊎ (IsRemovedSince d.endpoints d.transfers d.periodic.removals index v ⊎ IsUnchainedNow d.endpoints d.transfers d.command v)
+
+pub data WasOfFrame (d : DriverContent) (frame n : ℕ) : Removed → Type 0 where
+  of_descriptor : (t : ℕ) (y : Transfer) → slice_get d.transfers t ≡ Some y → is_descriptor y.sort ≡ true → n ≡ 32 * y.first
+      → (note_at d.periodic.notes y.first).frame ≡ frame → WasOfFrame d frame n (removed.Descriptor t)
+  of_queue_head : (e : ℕ) (x : Endpoint) (p : Placement) → slice_get d.endpoints e ≡ Some x → x.desc.kind ≡ Interrupt → x.placement ≡ Some p
+      → n ≡ 32 * x.queue → is_active p frame ≡ true → WasOfFrame d frame n (removed.Endpoint e)
+  of_waiting : (e t : ℕ) (y : Transfer) → slice_get d.transfers t ≡ Some y → is_descriptor y.sort ≡ true → waits_for e y ≡ true
+      → n ≡ 32 * y.first → (note_at d.periodic.notes y.first).frame ≡ frame → WasOfFrame d frame n (removed.Endpoint e)
+
+pub data IsUnlinkedNow (d : DriverContent) (index : ℕ) : Removed → Type 0 where
+  since : (i : ℕ) (r : Removal) → slice_get d.periodic.removals i ≡ Some r → IsOpenAt index r.boundary → IsUnlinkedNow d index r.what
+  by_command : (e : ℕ) → d.command ≡ Some (unfinished.Unchain e) → IsUnlinkedNow d index (removed.Endpoint e)
+
+abbrev pub IsInItsFrame : DriverContent → ℕ → ℕ → ℕ → Type 0
+IsInItsFrame d index frame v = IsMemberIn d frame v ⊎ ((what : Removed) × (WasOfFrame d frame v what × IsUnlinkedNow d index what))
 
 pub record VisitsApart (w : World) (vs : List ℕ) : Type 0 where
   pub once : AreOnce vs

@@ -61,8 +61,9 @@ use usb_base::{Sink, Source};
 /// What left the ring is given back only after the doorbell was rung since its unlinking and Async Advance was then read, and what left the
 /// frame list only after FRINDEX was read twice since then with different frame numbers.
 ///
-/// In one microframe the walk of the frames visits no structure twice, and each in its frame, while members are linked and unlinked;
-/// and once it is over, it has visited each to which the links of the frame led as the microframe began, and to which they lead still.
+/// In one microframe the walk of the frames visits no structure twice, and each in its frame, or, where it was unlinked in this
+/// microframe, in a frame from which it was, while members are linked and unlinked; and once it is over, it has visited each to which
+/// the links of the frame led as the microframe began, and to which they lead still.
 /// In a microframe that is held no time is left. The asynchronous part ends where the head of the ring was read with Reclamation 0, or
 /// where the next price passes the time left, and then the ring goes on at the same queue head. A structure that is visited has its
 /// transaction, or is passed without it for one of the standard's reasons alone, in the ring and in the frames.

@@ -38,6 +38,7 @@ use Rattle.law_world_visits.proofs.ActiveBefore.{command_before}
 use Rattle.law_world_visits.proofs.NewFirst.{linking_first, next_first}
 use Rattle.law_world_visits.proofs.DriverGoesOn.{IsListSpread, LeavesMembers, goes_on}
 use Rattle.law_world_visits.proofs.DriverVisits.{half_led}
+use Rattle.law_world_visits.proofs.FramedThere.{command_framed}
 use Rattle.law_world_visits.proofs.InFrames.{same_back}
 use Rattle.law_world_visits.proofs.InFramesCommands.{command_back}
 use Rattle.law_world_visits.proofs.OwnSteps.{same_list, linking_half, linking_kept, next_led, next_half, next_kept, ended_list}
@@ -166,6 +167,9 @@ module _ (s : Standing) (w : World) (k : IsMixedAt s w) (start : World) (vs : Li
           control = refl;
           kept_stay = λ n on. let there = v.left_within n on in back n there.0 there.1;
           met_stay = back;
+          kept_framed = λ n x on framed.
+              (let there = v.left_within n on in command_framed s w k o v.visits.left n there.0 x v.visits.left_are there.1 framed reason);
+          met_framed = λ n kind x on framed. command_framed s w k o v.visits.left n kind x v.visits.left_are on framed reason;
           starts_none = λ e f n on. let there = v.within n on in command_before s w k cmd o is reason e f n there.0 there.1;
         })
 
@@ -181,6 +185,8 @@ module _ (s : Standing) (w : World) (k : IsMixedAt s w) (start : World) (vs : Li
         control = refl;
         kept_stay = λ n on. same_back w.driver new.driver k.now.planned refl refl n;
         met_stay = λ n kind on. same_back w.driver new.driver k.now.planned refl refl n;
+        kept_framed = λ n x on framed. framed;
+        met_framed = λ n kind x on framed. framed;
         starts_none = λ e f n on a. record {
           number = a.number;
           transfer = a.transfer;

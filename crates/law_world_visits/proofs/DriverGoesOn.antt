@@ -27,7 +27,7 @@ use Rattle.law_world_visits.specs.Belonging.{IsQueueAt, IsStillAt}
 use Rattle.law_world_visits.specs.OneDescriptor.{IsActiveDescriptor}
 use Rattle.law_world_visits.specs.Ranks.{name_of, next_of, height_to, IsRanked}
 use Rattle.claims_world.specs.Visits.{begins, frame_in, HasVisited}
-use Rattle.law_world_visits.specs.Visited.{WasVisited, IsBehind, IsActiveAs, NewIsFirst, StandsIn, IsToCome, LeavesNoneOut, VisitsGoOn, link_ahead}
+use Rattle.law_world_visits.specs.Visited.{WasVisited, IsBehind, IsActiveAs, IsFramedAs, NewIsFirst, StandsIn, IsToCome, LeavesNoneOut, VisitsGoOn, link_ahead}
 use Rattle.law_world_visits.proofs.NoneLeft.{way_stays}
 
 -- the members of the list are spread
@@ -97,9 +97,17 @@ were_active_still d new left who frame [] back were all = tt
 were_active_still d new left who frame (v ∷ vs) back were all =
     (active_still d new v (who v) (back v were.0) all.0, were_active_still d new left who frame vs back were.1 all.1)
 
+-- the same may be led to, and nothing new is half linked
+pub were_framed_still : (d new : DriverContent) (left : ℕ → Option Kind) (who : ℕ → Member) (frame : ℕ) (vs : List ℕ)
+    → ((n : ℕ) (kind : Kind) → met d left n ≡ Some kind → IsFramedAs d n (who n) → IsFramedAs new n (who n))
+    → AllByRecursion (WasVisited d left who frame) vs
+    → AllByRecursion (λ v. IsFramedAs d v (who v)) vs → AllByRecursion (λ v. IsFramedAs new v (who v)) vs
+were_framed_still d new left who frame [] still were all = tt
+were_framed_still d new left who frame (v ∷ vs) still were all =
+    (still v were.0.kind were.0.is_met all.0, were_framed_still d new left who frame vs still were.1 all.1)
+
 -- ---- nothing that may be met is stored
 
--- the same may be led to, and nothing new is half linked
 pub record LeavesMembers (d new : DriverContent) : Type 0 where
   pub led_same : led new ≡ led d
   pub half : (w : Work) → new.periodic.list.work ≡ Some w → w.removes ≡ false → 1 ≤ w.made → d.periodic.list.work ≡ Some w
@@ -151,6 +159,9 @@ pub record Elsewhere (w new : World) (kept : ℕ → Bool) (left : ℕ → Optio
   pub control : new.control ≡ w.control
   pub kept_stay : (n : ℕ) → kept n ≡ true → (b : IsQueueAt new.driver n) → IsStillAt b w.driver
   pub met_stay : (n : ℕ) (kind : Kind) → met w.driver left n ≡ Some kind → (b : IsQueueAt new.driver n) → IsStillAt b w.driver
+  pub kept_framed : (n : ℕ) (x : Member) → kept n ≡ true → IsFramedAs w.driver n x → IsFramedAs new.driver n x
+  pub met_framed : (n : ℕ) (kind : Kind) (x : Member) → met w.driver left n ≡ Some kind → IsFramedAs w.driver n x
+      → IsFramedAs new.driver n x
   pub starts_none : (e f n : ℕ) → kept n ≡ true → IsActiveDescriptor new.driver new.memory e f n → IsActiveDescriptor w.driver w.memory e f n
 
 pub goes_on : (start w new : World) (vs : List ℕ) → (v : VisitsGoOn start w vs) → IsListSpread w.driver → IsListSpread new.driver
@@ -202,4 +213,7 @@ goes_on start w new vs v spread after half e =
                       (λ a is. (v.behind.next a t.periodic is).is_kept) t.leads;
                 })) (v.none.each n led (stood_before d new.driver (frame_in w.control.frame.index) n e.leaves stands));
           });
+      framed = λ n on. e.kept_framed n (v.who n) on (v.framed n on);
+      were_framed = were_framed_still d new.driver v.left v.who (frame_in w.control.frame.index) vs
+          (λ n kind is. e.met_framed n kind (v.who n) is) v.behind.were v.were_framed;
     }

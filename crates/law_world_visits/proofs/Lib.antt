@@ -18,6 +18,7 @@ pub mod ReturnVisits
 pub mod HarvestVisits
 pub mod DriverTogether
 pub mod CommandVisits
+pub mod FramedThere
 pub mod VisitSteps
 pub mod VisitLinks
 pub mod VisitMeeting

@@ -49,7 +49,7 @@ use Rattle.law_world_visits.specs.OneDescriptor.{IsActiveDescriptor, WasActive}
 use Rattle.law_world_visits.specs.Began.{began_at, began_by}
 use Rattle.law_world_visits.specs.Ranks.{name_of, next_of, IsRanked}
 use Rattle.claims_world.specs.Visits.{IsInChain, visits_after, frame_in, HasVisited}
-use Rattle.law_world_visits.specs.Visited.{link_ahead, IsNext, IsBehind, IsActiveAs, GoesAhead, StandsIn, IsToCome, LeavesNoneOut, VisitsGoOn, VisitsGoOnAt}
+use Rattle.law_world_visits.specs.Visited.{link_ahead, IsNext, IsBehind, IsActiveAs, IsFramedAs, GoesAhead, StandsIn, IsToCome, LeavesNoneOut, VisitsGoOn, VisitsGoOnAt}
 use Rattle.law_world_visits.specs.VisitLaws.{ControllerKeepsVisiting}
 use Rattle.law_world_visits.proofs.AheadWalking.{goes_to}
 use Rattle.law_world_visits.proofs.DriverGoesOn.{linked_stands}
@@ -385,6 +385,12 @@ module _ (fixed : Fixed) (s : Standing) (start w : World) (vs : List ℕ) (k : I
     goes = goes_by (controller_row w) refl;
     alone = λ n on e f h a stands. g.visits.alone n on e f h (none_started e f n a) stands;
     none = none_by (controller_row w) refl (world_has_row fixed w);
+    framed = g.visits.framed;
+    were_framed = all_after (λ (a : ℕ). IsFramedAs w.driver a (g.visits.who a)) (controller_row w)
+        (controller_parts w) vs g.visits.were_framed
+        (λ is a held name.
+        g.visits.framed a (g.visits.behind.next a (frame_periodic w.registers.run w.registers w.control.frame w.control.part is)
+        (ap (λ (o : Option Hand). name_of (link_ahead o w.control.frame.cursor)) held ∙ name)).is_kept);
   }
 
 pub controller_keeps_visiting : ControllerKeepsVisiting

@@ -167,6 +167,8 @@ module _ (s : Standing) (start w : World) (vs : List ℕ) (k : IsMixedAt s w) (g
         were_met = λ n led. (let h = g.none.were_met n led in (h.0, first_met (standing w.driver n) (g.left n) (s.recent n) h.0 h.1));
         each = g.none.each;
       };
+      framed = λ n on. g.framed n (was_kept g.kept (met w.driver s.recent) n on);
+      were_framed = g.were_framed;
     };
     within = was_met g.kept (met w.driver s.recent);
     left_within = λ n on.

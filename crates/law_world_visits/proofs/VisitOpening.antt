@@ -78,5 +78,7 @@ new_is_visiting s fit bytes = record {
       each = λ n led. absurd
           (none_in_chain s fit bytes n led);
     };
+    framed = λ n on. absurd (false≢true on);
+    were_framed = tt;
   };
 }

@@ -7,6 +7,7 @@
 --     WasVisited ..           what was visited stands in the frame, or did when it was unlinked in this microframe
 --     IsBehind ..             no structure was visited twice, and what was visited is behind the walk
 --     IsActiveAs d n x        where the queue head of an endpoint stands at n, its placement is active in each frame in which x stands
+--     IsFramedAs d n x        where a descriptor of the driver's stands at n, x stands in its frame alone
 --     IsFirstIn s x           a descriptor comes right behind the element of its frame
 --     NewIsFirst p            so does one that is being linked
 --     GoesAhead start w kept  to which the walk may go on in this microframe: closed under links; and what is active of them was so in the world start, of the same endpoint and frame
@@ -21,7 +22,7 @@
 --     IsVisiting start w vs   .. where nothing of the world is out of place
 --     VisitsGoOnAt s start w vs
 --                             .. where each of those whose links lead down may be met, and stands or was unlinked in this microframe
-use Rattle.std.specs.Prelude.{◌≡◌, ℕ, ◌<◌, ◌⊎◌, Bool, true, false, List, Option, Some, None}
+use Rattle.std.specs.Prelude.{◌≡◌, ℕ, ◌*◌, ◌<◌, ◌⊎◌, Bool, true, false, List, slice_get, Option, Some, None}
 use Rattle.std.specs.List.{AllByRecursion}
 use Rattle.word_mem.specs.Memory.{Mem}
 use Rattle.link_words.specs.declared.kinds.Link.{Link}
@@ -39,7 +40,10 @@ use Rattle.periodic_walk.specs.declared.state.Hand.{Hand}
 use Rattle.periodic_walk.specs.declared.state.Hand.TheVariants as hands
 use Rattle.hc_core.specs.declared.controller.MicroframePart.TheVariants.{Periodic}
 use Rattle.hc_core.specs.Controller.{Control}
+use Rattle.drv_periodic_table.specs.Periodic.{note_at}
+use Rattle.drv_table.specs.declared.content.Transfer.{Transfer}
 use Rattle.drv_table.specs.DriverContent.{DriverContent}
+use Rattle.claims_driver.specs.Owners.{is_descriptor}
 use Rattle.claims_driver.specs.FrameWords.{made_of}
 use Rattle.claims_driver.specs.Unlinked.{led}
 use Rattle.law_frames.specs.Met.{Kind}
@@ -94,6 +98,11 @@ pub record IsBehind (d : DriverContent) (left : ℕ → Option Kind) (kept : ℕ
 abbrev pub IsActiveAs : DriverContent → ℕ → Member → Type 0
 IsActiveAs d n x = (b : IsQueueAt d n) (f : ℕ) → stands_in f x ≡ true → is_active b.belongs.placement f ≡ true
 
+abbrev pub IsFramedAs : DriverContent → ℕ → Member → Type 0
+IsFramedAs d n x = (t : ℕ) (y : Transfer) → slice_get d.transfers t ≡ Some y → is_descriptor y.sort ≡ true → y.released ≡ false
+    → n ≡ 32 * y.first
+    → (f : ℕ) → stands_in f x ≡ true → f ≡ (note_at d.periodic.notes y.first).frame
+
 -- a descriptor that is being linked comes right behind the element of its frame (4.6)
 abbrev pub IsFirstIn : Schedule → Member → Type 0
 IsFirstIn s (Once x) = predecessor s (Once x) x.frame ≡ Element x.frame
@@ -144,6 +153,8 @@ pub record VisitsGoOn (start w : World) (vs : List ℕ) : Type 0 where
   pub goes : GoesAhead start w kept
   pub alone : (n : ℕ) → kept n ≡ true → IsAloneAs w.driver w.memory n (who n)
   pub none : LeavesNoneOut start w.memory w.driver w.control left vs
+  pub framed : (n : ℕ) → kept n ≡ true → IsFramedAs w.driver n (who n)
+  pub were_framed : AllByRecursion (λ v. IsFramedAs w.driver v (who v)) vs
 
 pub record IsVisiting (start w : World) (vs : List ℕ) : Type 0 where
   pub mixed : IsMixedWorld w
