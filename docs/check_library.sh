@@ -1,6 +1,6 @@
 #!/usr/bin/env bash
-# Builds libehci.a and runs what stands above it: the examples from C, under the address and undefined sanitizers, from Rust and from Python.
-# What can't be built here for want of a tool is said in a line.
+# Builds libehci.a and runs what stands above it: the examples from C, Rust and Python, and microframes over memory images against the
+# program `ehci`, from C under the address and undefined sanitizers. What can't be built here for want of a tool is said in a line.
 cd "$(dirname "$0")/.." || exit 2
 top=$PWD
 room=$(mktemp -d)
@@ -22,11 +22,13 @@ else
   left "the sanitizers" "compiler that has them"
 fi
 
-for name in emulator; do
+for name in emulator edges compare; do
   cc "${flags[@]}" "examples/library/$name.c" "$library" -o "$room/$name" || failed "$name.c isn't built"
 done
-"$room/emulator" >"$room/c.out" || failed "emulator.c ended with $?"
-diff examples/library/emulator.expected "$room/c.out" || failed "emulator.c differs"
+for name in emulator edges; do
+  "$room/$name" >"$room/c.out" || failed "$name.c ended with $?"
+  diff "examples/library/$name.expected" "$room/c.out" || failed "$name.c differs"
+done
 
 if echo "fn main() {}" | rustc --edition 2024 - -o "$room/tried" 2>/dev/null; then
   rustc --edition 2024 -O examples/library/emulator.rs -L "$top/crates/ehci_c/out" -l static=ehci -o "$room/rust" && "$room/rust" >"$room/rust.out" ||
@@ -41,7 +43,21 @@ if python3 -c '' 2>/dev/null; then
     failed "emulator.py doesn't run"
   diff examples/library/emulator.expected "$room/python.out" || failed "emulator.py differs"
 else
-  left "emulator.py" "python3"
+  left "emulator.py and the comparison" "python3"
+  exit $status
 fi
 
+# From the same words, so many microframes by the library and so many events by the program leave the same words.
+ehci=$top/crates/ehci/out/ehci
+trace=$top/crates/ehci_trace/out/ehci_trace
+if [ ! -x "$ehci" ] || [ ! -x "$trace" ]; then left "the comparison" "built program"; exit $status; fi
+script=examples/library/compare.ehci
+"$ehci" image <"$script" >"$room/start" && { cat "$script"; echo "order c 20000"; } | "$trace" --pcap >"$room/capture" &&
+  python3 -B examples/library/answers.py "$room/capture" "$room/answers" || failed "no image or capture of $script"
+for microframes in 1 4 17 40 100; do
+  read -r events differ < <("$room/compare" "$room/start" "$room/answers" "$microframes" "$room/words")
+  { cat "$script"; echo "order c ${events:-0}"; } | "$ehci" image | tail -c +25 >"$room/program"
+  [ "${differ:-1}" = 0 ] || failed "${differ:-all} transactions of $microframes microframes aren't those of the program"
+  cmp "$room/words" "$room/program" || failed "the words after $microframes microframes differ from the program's after ${events:-no} events"
+done
 exit $status

@@ -9,12 +9,14 @@ use Rattle.hc_microframe.specs.Answers.{Told, told}
 use Rattle.hc_microframe.specs.Microframe.{IsWanted}
 use Rattle.hc_microframe.specs.Calls.{IsTold, Asks}
 
-asks_this : (s : State) (words : List ℕ) (answers : List Answer) (bytes : List ℕ) (n : ℕ) (after : Told) (ask : AskWords) (out : List ℕ) (wanted : Option Wanted)
-    → IsWanted s words (told answers bytes) n after → after.wanted ≡ wanted → is_some wanted ≡ true → IfSome wanted (λ w. IsTold w ask out)
-    → Asks s words answers bytes n ask out
+asks_this : (s : State) (words : List ℕ) (answers : List Answer) (bytes : List ℕ) (n : ℕ) (after : Told) (ask : AskWords) (out : List ℕ)
+    (wanted : Option Wanted) → IsWanted s words (told answers bytes) n after → after.wanted ≡ wanted → is_some wanted ≡ true
+    → IfSome wanted (λ w. IsTold w ask out) → Asks s words answers bytes n ask out
 asks_this s words answers bytes n after ask out None made is some tells = absurd cc
-asks_this s words answers bytes n after ask out (Some w) made is some tells = record { after = after; wanted = w; made = made; first = is; is_told = tells }
+asks_this s words answers bytes n after ask out (Some w) made is some tells =
+    record { after = after; wanted = w; made = made; first = is; is_told = tells }
 
 pub asks : (s : State) (words : List ℕ) (answers : List Answer) (bytes : List ℕ) (n : ℕ) (after : Told) (ask : AskWords) (out : List ℕ)
     → IsWanted s words (told answers bytes) n after → IfSome after.wanted (λ w. IsTold w ask out) → Asks s words answers bytes n ask out
-asks s words answers bytes n after ask out made tells = asks_this s words answers bytes n after ask out after.wanted made refl made.wanted tells
+asks s words answers bytes n after ask out made tells =
+    asks_this s words answers bytes n after ask out after.wanted made refl made.wanted tells

@@ -35,7 +35,8 @@ doorbell_bit : (r : RegisterFile) → bits_of (word_of r Command) 6 6 ≡ one_if
 doorbell_bit r = omega (arith, one_if_small r.run, one_if_small r.periodic_enable, one_if_small r.async_enable, one_if_small r.doorbell)
 
 threshold_bits : (r : RegisterFile) → r.threshold < 2 ^ 8 → bits_of (word_of r Command) 23 16 ≡ r.threshold
-threshold_bits r small = omega (arith, small, one_if_small r.run, one_if_small r.periodic_enable, one_if_small r.async_enable, one_if_small r.doorbell)
+threshold_bits r small =
+    omega (arith, small, one_if_small r.run, one_if_small r.periodic_enable, one_if_small r.async_enable, one_if_small r.doorbell)
 
 enable_bits : (r : RegisterFile) → IsHeld r → bits_of (word_of r InterruptEnable) 5 0 ≡ r.interrupt_enable
 enable_bits r held = omega (arith, held.ranges.enables_named)

@@ -14,9 +14,9 @@ pub record IsTold (w : Wanted) (ask : AskWords) (out : List ℕ) : Type 0 where
   pub ask_is : ask ≡ words_of_ask w
   pub sent : take (length w.out) out ≡ w.out
 
-pub record Makes (s : State) (words : List ℕ) (answers : List Answer) (bytes : List ℕ) (n : ℕ) (new : State) (new_words : List ℕ) : Type 0 where
+pub record Makes (s : State) (words : List ℕ) (answers : List Answer) (bytes : List ℕ) (n : ℕ) (new : State) (left : List ℕ) : Type 0 where
   pub after : Told
-  pub made : IsMade s words (told answers bytes) n new new_words after
+  pub made : IsMade s words (told answers bytes) n new left after
 
 pub record Asks (s : State) (words : List ℕ) (answers : List Answer) (bytes : List ℕ) (n : ℕ) (ask : AskWords) (out : List ℕ) : Type 0 where
   pub after : Told

@@ -2,3 +2,4 @@ pub mod State
 pub mod Answers
 pub mod Microframe
 pub mod Calls
+pub mod Samples

@@ -45,8 +45,8 @@ is_last old new = is_end (kind_of (microframe_row old.registers old.control) old
 
 pub data Goes (start : Content) (desk : Told) : ℕ → Content → Told → Type 0 where
   none : Goes start desk 0 start desk
-  next : (n : ℕ) (old : Content) (before : Told) (new : Content) (after : Told) → Goes start desk n old before → IsEvent old before new after
-      → after.wanted ≡ None → is_last old new ≡ false → Goes start desk (n + 1) new after
+  next : (n : ℕ) (old : Content) (before : Told) (new : Content) (after : Told) → Goes start desk n old before
+      → IsEvent old before new after → after.wanted ≡ None → is_last old new ≡ false → Goes start desk (n + 1) new after
 
 pub record IsOver (start : Content) (desk : Told) (n : ℕ) (held : Option ℕ) (end : Content) (after : Told) : Type 0 where
   pub earlier : ℕ

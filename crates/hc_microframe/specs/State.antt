@@ -4,7 +4,7 @@
 --     cursor_after_write cursor at word   the place in the ring after a driver's write
 --     is_up s                             the interrupt line is up
 --     WordsKeepRegisters                  what registers hold is got back from their words
-use Rattle.std.specs.Prelude.{◌≡◌, ℕ, ◌/◌, ◌%◌, ◌^◌, ◌<◌, Bool, ◌==◌, ◌&&◌, ◌||◌, not, if◌then◌else◌, None, [], ◌∷◌}
+use Rattle.std.specs.Prelude.{◌≡◌, ℕ, ◌/◌, ◌%◌, ◌^◌, ◌<◌, Bool, ◌==◌, ◌&&◌, ◌||◌, not, if◌then◌else◌, None, List, [], ◌∷◌}
 use Rattle.std.specs.Int.RustNames.{bit_and}
 use Rattle.op_registers.specs.declared.register.Register.TheVariants.{Command, Status, InterruptEnable, FrameIndex, PeriodicListBase, AsyncListAddress, ConfigureFlag}
 use Rattle.op_registers.specs.RegisterFile.{RegisterFile, reset_file, IsInRange}
@@ -24,11 +24,13 @@ shown r cursor = record {
   cursor = cursor;
 }
 
+abbrev pub halted_writes : State → List (ℕ × ℕ)
+halted_writes s = (0x08, s.interrupt_enable) ∷ (0x0c, s.frame_index) ∷ (0x14, s.list) ∷ (0x18, s.ring) ∷ (0x40, s.configured) ∷ []
+
 -- what a driver makes of reset registers that writes these words while they are halted, USBCMD last; bits of USBSTS are raised
 abbrev pub file_of : State → RegisterFile
 file_of s =
-    let halted : RegisterFile = after_writes reset_file ((0x08, s.interrupt_enable) ∷ (0x0c, s.frame_index) ∷ (0x14, s.list) ∷ (0x18, s.ring) ∷ (0x40, s.configured) ∷ []) in
-    after_write (after_raise halted (record { 0 = s.status })) 0x00 s.command
+    after_write (after_raise (after_writes reset_file (halted_writes s)) (record { 0 = s.status })) 0x00 s.command
 
 -- a reset (2.3.1), and a new ASYNCLISTADDR (2.3.7), have the walk of the ring begin anew
 abbrev pub cursor_after_write : ℕ → ℕ → ℕ → ℕ

@@ -36,9 +36,11 @@ pub(crate) fn make(
     most: u32,
 ) -> Stop
     requires { desk.old.wanted ≡ None }
-    ensures over { (n : ℕ) (held : Option ℕ) → result ≡ Stop.Over n held → IsOver (content controller.old regs.old mem.old) desk.old n held (content controller.new regs.new mem.new) desk.new }
+    ensures over { let start = content controller.old regs.old mem.old in let end = content controller.new regs.new mem.new in
+        (n : ℕ) (held : Option ℕ) → result ≡ Stop.Over n held → IsOver start desk.old n held end desk.new }
     ensures asked { (n : ℕ) → result ≡ Stop.Asked n → IsAsked (content controller.old regs.old mem.old) desk.old n desk.new }
-    ensures long { result ≡ Stop.Long → Goes (content controller.old regs.old mem.old) desk.old most (content controller.new regs.new mem.new) desk.new }
+    ensures long { let start = content controller.old regs.old mem.old in
+        result ≡ Stop.Long → Goes start desk.old most (content controller.new regs.new mem.new) desk.new }
     ensures only_lent { IsByController mem.old mem.new }
 {
     for event in 0..most {

@@ -43,7 +43,7 @@ pub struct State {
     pub cursor: u32,
 }
 
-/// The registers that have the words of this state. A word's bits count as its register takes them: those that it doesn't hold are left out.
+/// The registers that have the words of this state. A word counts as its register takes it: bits that it doesn't hold are left out.
 pub fn registers_of(state: &State) -> Registers
     ensures { result ≡ file_of state.now }
 {

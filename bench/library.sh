@@ -1,0 +1,9 @@
+#!/usr/bin/env bash
+# What a microframe costs from C. Usage: bench/library.sh
+set -eu
+cd "$(dirname "$0")/.."
+tools/library.sh >/dev/null
+program=$(mktemp)
+cc -std=c11 -O2 -Iinclude bench/library.c crates/ehci_c/out/libehci.a -o "$program"
+"$program"
+rm -f "$program"
