@@ -40,6 +40,8 @@ pub struct Choice {
     pub quiet: bool,
     /// Whether a long run says on standard error that it goes on.
     pub progress: bool,
+    /// Whether the driver finishes the command under way before the next is offered.
+    pub wait: bool,
 }
 
 fn are_same_ways(a: Way, b: Way) -> bool

@@ -152,6 +152,11 @@ impl Host {
         self.microframe
     }
 
+    /// Whether the driver is at work on a command.
+    pub fn is_busy(&self) -> bool {
+        self.driver.busy()
+    }
+
     /// The endpoints that were opened.
     pub fn endpoints(&self) -> &[Endpoint] {
         self.driver.endpoints()
