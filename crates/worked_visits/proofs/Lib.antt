@@ -1,3 +1,4 @@
 pub mod CoverSampled
 pub mod DueSampled
 pub mod Sampled
+pub mod WereSampled

@@ -5,6 +5,9 @@
 --     typed_qtd k b        the qTD in block b, after so many
 --     kinds_of d           the kinds of the driver's endpoints
 --     owners_of d          the numbers of the endpoints of its transfers; firsts_of d: the blocks of their first qTDs
+--     unlinked_keyboard    the keyboard's endpoint, cancelled, with its queue head in block 130
+--     its_removal          it left the frame list, and frame 128 was read since
+--     without_keyboard     a driver's content with this endpoint and this removal alone
 --     due_from             the world of the script with a microphone of `law_world_memory` once its descriptor is linked, but that FRINDEX is 15, and nine events of the controller
 --     due_at k             its world after k of them: the descriptor's frame begins
 --     due_payments k       what was paid in the microframe then
@@ -16,7 +19,7 @@
 --     placed_speaker       a full-speed isochronous OUT endpoint of packets of 400 bytes below a hub: parts in the microframes 1, 2 and 3
 --     sensor               a high-speed interrupt IN endpoint of packets of 64 bytes that is polled in each microframe
 --     sensor_and_disk      a script that opens it and the disk's bulk IN endpoint, asks it for 64 bytes and lets three microframes pass
-use Rattle.std.specs.Prelude.{ℕ, List, [], ◌∷◌, None, map}
+use Rattle.std.specs.Prelude.{ℕ, true, false, List, [], ◌∷◌, Some, None, map}
 use Rattle.usb_base.specs.declared.commands.Cmd.TheVariants as commands
 use Rattle.usb_base.specs.declared.endpoints.EpDesc.{EpDesc}
 use Rattle.usb_base.specs.declared.packets.EpKind.{EpKind}
@@ -36,12 +39,16 @@ use Rattle.hc_core.specs.declared.controller.MicroframePart.TheVariants.{Periodi
 use Rattle.hc_core.specs.declared.controller.ControllerRow.TheVariants as rows
 use Rattle.hc_core.specs.Controller.{Content, content, new_control, frame_place, kind_of}
 use Rattle.qh_qtd.specs.declared.qtd.Qtd.{Qtd}
+use Rattle.drv_chains.specs.declared.boundary.Boundary.TheVariants.{Since}
+use Rattle.drv_periodic_table.specs.declared.content.Removal.{Removal}
+use Rattle.drv_periodic_table.specs.declared.content.Removed.TheVariants as removed
+use Rattle.drv_table.specs.declared.content.Endpoint.{Endpoint}
 use Rattle.drv_table.specs.DriverContent.{DriverContent}
 use Rattle.bus_wire.specs.Bus.{fixed_of}
 use Rattle.bus_world.specs.World.{World, controller_parts}
 use Rattle.bus_world.specs.Opening.{opening_world}
 use Rattle.bus_world.specs.Orders.{OrderedWorld, Events, at_place, orders_of, ticks}
-use Rattle.law_world_memory.specs.Samples.{disk, keyboard_and_disk, after_the_open, opened, typed_at}
+use Rattle.law_world_memory.specs.Samples.{disk, keyboard as polled_keyboard, keyboard_and_disk, keyboard_place, after_the_open, opened, typed_at}
 use Rattle.law_world_memory.specs.MicrophoneSamples.{one_microphone, heard_at}
 use Rattle.claims_world.specs.Carried.{carried_from}
 use Rattle.law_world_visits.specs.Began.{began_by}
@@ -70,6 +77,30 @@ owners_of d = map (λ y. y.endpoint) d.transfers
 
 abbrev pub firsts_of : DriverContent → List ℕ
 firsts_of d = map (λ y. y.first) d.transfers
+
+abbrev pub unlinked_keyboard : Endpoint
+unlinked_keyboard = record {
+  desc = polled_keyboard;
+  placement = Some keyboard_place;
+  queue = 130;
+  dummy = 131;
+  next = None;
+  ended = None;
+  cancelled = true;
+  linked = false;
+  chained = false;
+  gone = false;
+}
+
+abbrev pub its_removal : Removal
+its_removal = record { what = removed.Endpoint 0; boundary = Since 128 }
+
+abbrev pub without_keyboard : DriverContent
+without_keyboard = record (opening_world keyboard_and_disk).driver {
+  endpoints = unlinked_keyboard ∷ [];
+  transfers = [];
+  periodic = record (opening_world keyboard_and_disk).driver.periodic { removals = its_removal ∷ [] };
+}
 
 abbrev pub due_from : OrderedWorld
 due_from = at_place (record (heard_at 4) { registers = record (heard_at 4).registers { frame_index = 15 } }) (Events events.C 9 ∷ [])

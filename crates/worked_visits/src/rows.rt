@@ -15,7 +15,8 @@ ghost use Rattle.law_world_visits.specs.Began.{began, IsAhead};
 ghost use Rattle.law_world_visits.specs.OneDescriptor.{IsActiveDescriptor};
 ghost use Rattle.law_world_visits.specs.Ranks.{name_of};
 ghost use Rattle.law_world_visits.specs.Visited.{link_ahead};
-ghost use Rattle.claims_world.specs.Visits.{IsInChain, HasVisited, IsPastFrames, is_held_now};
+ghost use Rattle.claims_world.specs.Visits.{IsInChain, HasVisited, IsPastFrames, WasOfFrame, IsUnlinkedNow, is_held_now};
+ghost use Rattle.drv_periodic_table.specs.declared.content.Removed.TheVariants as removed;
 ghost use Rattle.law_world_visits.specs.VisitSamples.{typed_visits};
 ghost use Rattle.claims_world.specs.WithinLoad.{payments, paid_by_all};
 ghost use Rattle.claims_world.specs.Scripts.{HighPeriodicsOnly};
@@ -24,7 +25,7 @@ ghost use Rattle.usb_base.specs.declared.packets.Pid.TheVariants.{Data2};
 ghost use Rattle.usb_base.specs.declared.packets.Reply.TheVariants.{Bytes};
 ghost use Rattle.bandwidth.specs.Sums.{load};
 ghost use Rattle.law_world_time.specs.ChargeSamples.{iso_in, itd_at};
-ghost use Rattle.worked_visits.specs.Samples.{typed_payments, typed_began, typed_place, typed_qtd, kinds_of, owners_of, firsts_of, due_at, due_payments, paid_at, sensor_and_disk};
+ghost use Rattle.worked_visits.specs.Samples.{typed_payments, typed_began, typed_place, typed_qtd, kinds_of, owners_of, firsts_of, due_at, due_payments, paid_at, sensor_and_disk, without_keyboard};
 
 /// Where a microframe begins nothing was paid; the queue head of the keyboard's endpoint is fetched, which costs nothing, and passed, since it is inactive.
 pub fn a_keyboard_is_passed()
@@ -99,6 +100,15 @@ pub fn a_keyboard_is_not_left_out()
     ensures still { IsInChain (typed_at 30) 0 4160 }
     ensures over { IsPastFrames (typed_at 30) }
     ensures visited { HasVisited 4160 (typed_visits 30) }
+{}
+
+/// Where the keyboard's endpoint was unlinked, its queue head was of frame 128, not of frame 129, and nothing else was. In microframe 2 of
+/// frame 128 it was unlinked in this microframe, where no later frame was read since.
+pub fn a_keyboard_was_of_its_frame()
+    ensures own { WasOfFrame without_keyboard 128 4160 (removed.Endpoint 0) }
+    ensures another_frame { WasOfFrame without_keyboard 129 4160 (removed.Endpoint 0) → ⊥ }
+    ensures another_place { WasOfFrame without_keyboard 128 4192 (removed.Endpoint 0) → ⊥ }
+    ensures now { IsUnlinkedNow without_keyboard 1026 (removed.Endpoint 0) }
 {}
 
 /// That descriptor, of endpoint 0 and for frame 2, is active, and the walk goes on to it.
