@@ -1,10 +1,10 @@
-# Installs what `./ehci --prove`, `./ehci-trace --build` and `make library` have built: make install PREFIX=/usr/local.
+# Installs what `./ehci --prove` or `./ehci --build`, `./ehci-trace --build` and `make library` have built: make install PREFIX=/usr/local.
 PREFIX ?= /usr/local
 DESTDIR ?=
 TO = $(DESTDIR)$(PREFIX)
 LIBEXEC = $(TO)/libexec/ehci
 TOOLS = wrapper.sh about.sh fold.awk explain.py svg.py draw_microframes.py draw_structures.py
-PROGRAMS = ehci ehci_trace ehci_probe
+PROGRAMS = ehci ehci_machine ehci_trace ehci_probe
 COMMIT = $(shell git diff --quiet HEAD 2>/dev/null && git rev-parse HEAD 2>/dev/null)
 
 .PHONY: install uninstall library
@@ -15,7 +15,8 @@ library:
 	cp crates/ehci_c/out/libehci.a libehci.a
 
 install:
-	@[ -x crates/ehci/out/ehci ] || { echo "make: no program is built: ./ehci --prove" >&2; exit 1; }
+	@[ -x crates/ehci/out/ehci ] || [ -x crates/ehci_machine/out/ehci_machine ] || \
+		{ echo "make: no program is built: ./ehci --build, or ./ehci --prove" >&2; exit 1; }
 	install -d $(TO)/bin $(LIBEXEC) $(TO)/share/man/man1 $(TO)/share/doc/ehci/examples $(TO)/share/bash-completion/completions
 	install -m 755 ehci ehci-trace $(TO)/bin
 	for name in $(PROGRAMS); do \

@@ -116,6 +116,17 @@ def check_wrapper(room):
         amiss("./ehci -h is another text than --help")
 
 
+def check_machine():
+    """The program over the machine alone says of itself what the other says, and stands on no crate of claims."""
+    texts = [(TOP / f"crates/{name}/src/main.rt").read_text().split("/// The words behind")[0].split("const USAGE")[1] for name in ("ehci", "ehci_machine")]
+    if texts[0] != texts[1]:
+        amiss("crates/ehci and crates/ehci_machine say otherwise of themselves")
+    words = f'me=check top="{TOP}"; . tools/wrapper.sh; crates_below ehci_machine'
+    for name in run("bash", "-c", words).stdout.decode().split():
+        if name.startswith("claims_"):
+            amiss(f"ehci_machine stands on {name}")
+
+
 def current(*crates):
     """The first of these programs that the wrapper would take."""
     words = f'me=check top="{TOP}"; . tools/wrapper.sh; choose {" ".join(crates)}; echo "$program"'
@@ -123,8 +134,8 @@ def current(*crates):
 
 
 def main():
-    program, trace = current("ehci"), current("ehci_trace")
-    for what, there in (("./ehci --prove", program), ("./ehci-trace --build", trace)):
+    program, trace = current("ehci", "ehci_machine"), current("ehci_trace")
+    for what, there in (("./ehci --build", program), ("./ehci-trace --build", trace)):
         if not there:
             print(f"left out: rows of a program that `{what}` builds")
     with tempfile.TemporaryDirectory() as room:
@@ -132,6 +143,7 @@ def main():
         check_texts()
         check_rows(room, program)
         check_fold()
+        check_machine()
         check_pictures(program, trace)
         if program:
             check_wrapper(room)

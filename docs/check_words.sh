@@ -1,22 +1,27 @@
 #!/usr/bin/env bash
-# Compares what the wrapper says at once with what the built program `ehci` says at the same words: standard output, standard error and status.
+# Compares what the wrapper says at once with what the built programs `ehci` and `ehci_machine` say at the same words: standard output,
+# standard error and status.
 cd "$(dirname "$0")/.." || exit 2
 top=$PWD
-program=$top/crates/ehci/out/ehci
-[ -x "$program" ] || { echo "docs/check_words.sh: $program isn't built" >&2; exit 2; }
+programs=("$top/crates/ehci/out/ehci" "$top/crates/ehci_machine/out/ehci_machine")
+for program in "${programs[@]}"; do
+  [ -x "$program" ] || { echo "docs/check_words.sh: $program isn't built" >&2; exit 2; }
+done
 . tools/about.sh
 status=0
 
-# Compares both at these words. The number 70 is that of words that the wrapper leaves to the program.
+# Compares all at these words. The number 70 is that of words that the wrapper leaves to the program.
 same() {
-  local ours theirs
+  local ours theirs program
   ours=$( (about ehci "$@"; exit 70) 2>&1 </dev/null; echo "status $?")
-  theirs=$("$program" "$@" 2>&1 </dev/null; echo "status $?")
-  if [ "$ours" != "$theirs" ]; then
-    printf 'the wrapper differs from the program at the words:'; printf ' %q' "$@"; echo
-    diff <(echo "$theirs") <(echo "$ours")
-    status=1
-  fi
+  for program in "${programs[@]}"; do
+    theirs=$("$program" "$@" 2>&1 </dev/null; echo "status $?")
+    if [ "$ours" != "$theirs" ]; then
+      printf 'the wrapper differs from %s at the words:' "${program##*/}"; printf ' %q' "$@"; echo
+      diff <(echo "$theirs") <(echo "$ours")
+      status=1
+    fi
+  done
 }
 
 # Says whether the wrapper leaves these words to the program.

@@ -28,11 +28,15 @@ SAYS = {
                 "endpoint at most one waiting descriptor, due in that frame. An endpoint that is being cancelled keeps its placement, and with it its bus time, until it is given back, though no frame need have its queue head.",
     "memory": "At each moment the runs of the driver's blocks, the frame list and its links, the ring and words 1 and 2 of the queue heads stand in memory as the driver's "
               "content says, also between two stores of a link; the walk of the ring stands at queue heads of the ring or at those that left since the last answered doorbell was "
-              "rung; and the controller runs, meets no fault and is refused no word. Of qTDs, overlays and the words of isochronous descriptors other than links it says nothing.",
-    "visits": "In one microframe the walk of the frames visits no structure twice, and each in its frame; in a held microframe no time is left; the asynchronous part ends for "
-              "one of the standard's reasons, and a queue head is passed without its transaction for one of the standard's reasons alone.",
-    "within_load": "Where all periodic endpoints are of high speed: the bus time that the walk of the frames has deducted in a microframe is at each moment at most the plan's load there, and at most 100 microseconds.",
-    "in_time": "Where all periodic endpoints are of high speed: in a microframe that isn't held no transaction of the periodic part is skipped for want of time.",
+              "rung; and the controller runs, meets no fault and is refused no word. Of what qTDs, overlays and the words of isochronous descriptors other than links hold it says nothing.",
+    "reach": "At each moment all that the controller can come to from where it stands is Lent: the frame list and the ring's head, what either walk is at or holds a copy of, what links lead to, and of what "
+             "works the qTDs and each byte of its buffer; no link leads to a frame span traversal node.",
+    "releases": "What left the ring is given back only after the doorbell was rung since its unlinking and Async Advance was then read; what left the frame list only after two readings of FRINDEX since then "
+                "with different frame numbers.",
+    "visits": "In one microframe the walk of the frames visits no structure twice, and each in its frame, or in one from which it was unlinked in this microframe, and once it is over it has visited each to which the links of the frame led as "
+              "the microframe began, and to which they lead still; in a held microframe no time is left; the asynchronous part ends for one of the standard's reasons, and a structure that is visited has its transaction, or is passed without it for one of the standard's reasons alone.",
+    "within_load": "What the walk of the frames has deducted in a microframe are the prices of its transactions, and words 1 and 2 of the queue heads in the frames are those of descriptions and allowed placements. Where all isochronous endpoints are of high speed, these prices, but for complete-splits that are made again, come at each moment to at most the plan's load there, and at most 100 microseconds.",
+    "in_time": "Where all isochronous endpoints are of high speed: in a microframe that isn't held, while no more than 4 microseconds went for complete-splits made again, no transaction of the periodic part is skipped for want of time; where all periodic endpoints are, none is made again.",
     "streams": "Where a script opens high-speed bulk and control endpoints alone: at each moment, and after the run, the bytes told of each bulk IN endpoint that was opened begin its stream; those told of "
                "each bulk OUT endpoint as moved begin what its device took, and these begin what was put to it. In mid-run they are compared with all puts that weren't refused so far; after the run with all of the script that weren't.",
     "requests": "Where a script opens high-speed bulk and control endpoints alone, none a hub's own: at each moment a device acted on each control request at most once, and on nothing but its setup bytes; "

@@ -9,7 +9,7 @@ _ehci() {
     --fold) mapfile -t COMPREPLY < <(compgen -W "dump" -- "$word") ;;
     *)
       if [ "$COMP_CWORD" -eq 1 ]; then
-        mapfile -t COMPREPLY < <(compgen -W "run image check dump load probe --strict --fold --prove --help --version" -- "$word")
+        mapfile -t COMPREPLY < <(compgen -W "run image check dump load probe --strict --fold --build --prove --help --version" -- "$word")
       fi
       ;;
   esac
@@ -21,7 +21,7 @@ _ehci_trace() {
     --endpoint | --from | --to) COMPREPLY=() ;;
     *)
       mapfile -t COMPREPLY < <(
-        compgen -W "--endpoint --from --to --quiet --explain --pcap --schedule --svg --progress \
+        compgen -W "--endpoint --from --to --quiet --wait --explain --pcap --schedule --svg --progress \
           --build --prove --help --version" -- "$word"
       )
       ;;

@@ -118,7 +118,7 @@ try() {
   return "$status"
 }
 
-# The first current one of the programs before `--`, else the sources of the first, on the words behind it.
+# The first current one of the programs before `--`, else the sources of the last, which stand on the fewest, on the words behind it.
 start() {
   local crates=()
   while [ "$1" != -- ]; do crates+=("$1"); shift; done
@@ -129,7 +129,7 @@ start() {
     echo "$me: there is no program in $tools" >&2
     return 1
   else
-    try "${crates[0]}" "$@"
+    try "${crates[-1]}" "$@"
   fi
 }
 

@@ -51,9 +51,9 @@ device_after row ask out d = left_by row d (answered d ask out) (acked_by (answe
 abbrev pub hub_after : WhoHeard → Ask → List ℕ → HubContent → HubContent
 hub_after row ask out h = left_by row h (hub_answered ask out h) (hub_acked ask (hub_answered ask out h))
 
--- what a hub is left as whose translator was asked; what it answers has no acknowledgement
-abbrev pub translator_after : WhoHeard → Ask → List ℕ → HubContent → HubContent
-translator_after row ask out h = left_by row h (transacted ask out h) (transacted ask out h)
+-- what a hub is left as whose translator was asked for an endpoint of this number of stuffed bits; what it answers has no acknowledgement
+abbrev pub translator_after : WhoHeard → Ask → List ℕ → ℕ → HubContent → HubContent
+translator_after row ask out stuff h = left_by row h (transacted ask out stuff h) (transacted ask out stuff h)
 
 -- ---- at a place
 

@@ -45,7 +45,7 @@ below_at fixed h floor = record { fixed = fixed; floor = floor; hub = h.address;
 
 -- Who hears an ask for an endpoint: its device, where that is behind an enabled port of this hub.
 abbrev pub hears_at : Below → Owner → Answerer
-hears_at w (Owners.Below device hub port) =
+hears_at w (Owners.Below device hub port stuff) =
     if hub == w.hub && unwrap_or (slice_get w.enabled port) false then Answerers.Device device else Answerers.Nobody
 hears_at w (Owners.High device) = Answerers.Nobody
 hears_at w (Owners.Hub place) = Answerers.Nobody
@@ -62,7 +62,7 @@ asked_below w ask = option_and_then (asked_below_at w) (place_for w.fixed.seats 
 abbrev pub floor_answer : Floor → Answerer → Ask → List ℕ → Reply
 floor_answer floor (Answerers.Device place) ask out = device_answer (slice_get floor.devices place) ask out
 floor_answer floor (Answerers.Hub place) ask out = Silent
-floor_answer floor (Answerers.Translator place) ask out = Silent
+floor_answer floor (Answerers.Translator place stuff) ask out = Silent
 floor_answer floor Answerers.Nobody ask out = Silent
 
 abbrev pub below_row : Below → Asked → Ask → List ℕ → WhoHeard
@@ -71,7 +71,7 @@ below_row w e ask out = row_for (losses_of w.fixed.fates true e (packets_before 
 abbrev pub devices_after : WhoHeard → Answerer → Ask → List ℕ → List Device → List Device
 devices_after row (Answerers.Device place) ask out devices = changed_at place (device_after row ask out) devices
 devices_after row (Answerers.Hub place) ask out devices = devices
-devices_after row (Answerers.Translator place) ask out devices = devices
+devices_after row (Answerers.Translator place stuff) ask out devices = devices
 devices_after row Answerers.Nobody ask out devices = devices
 
 abbrev pub floor_after : WhoHeard → Asked → Ask → List ℕ → Floor → Floor

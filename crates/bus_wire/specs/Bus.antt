@@ -92,16 +92,22 @@ is_allowed fixed b = not (is_held fixed.holds (later b.microframe 1))
 abbrev pub hears_plain : Owner → Answerer
 hears_plain (Owners.Hub place) = Answerers.Hub place
 hears_plain (Owners.High place) = Answerers.Device place
-hears_plain (Owners.Below place hub port) = Answerers.Nobody
+hears_plain (Owners.Below place hub port stuff) = Answerers.Nobody
+
+-- how many bytes in 36 stuffed bits make the packets of an endpoint below a hub longer (7.1.9)
+abbrev pub stuff_of : Owner → ℕ
+stuff_of (Owners.Below place hub port stuff) = stuff
+stuff_of _ = 0
 
 -- Who hears a split ask: the translator of the hub that it names.
-abbrev pub hears_split : List HubContent → ℕ → Answerer
-hears_split hubs hub = option_map_or (λ place. Answerers.Translator place) (position (λ h. h.address == hub) hubs) Answerers.Nobody
+abbrev pub hears_split : List HubContent → ℕ → ℕ → Answerer
+hears_split hubs hub stuff =
+    option_map_or (λ place. Answerers.Translator place stuff) (position (λ h. h.address == hub) hubs) Answerers.Nobody
 
 abbrev pub hears : Bus → Split → Owner → Answerer
 hears b Plain owner = hears_plain owner
-hears b (Start hub port part) owner = hears_split b.hubs hub
-hears b (Complete hub port) owner = hears_split b.hubs hub
+hears b (Start hub port part) owner = hears_split b.hubs hub (stuff_of owner)
+hears b (Complete hub port) owner = hears_split b.hubs hub (stuff_of owner)
 
 abbrev pub asked_at : Fixed → Bus → Split → ℕ → Option Asked
 asked_at fixed b split place =
@@ -117,7 +123,7 @@ asked_of fixed b ask = option_and_then (asked_at fixed b ask.split) (place_for f
 abbrev pub answer_by : Bus → Answerer → Ask → List ℕ → Reply
 answer_by b (Answerers.Device place) ask out = device_answer (slice_get b.devices place) ask out
 answer_by b (Answerers.Hub place) ask out = hub_answer (slice_get b.hubs place) ask out
-answer_by b (Answerers.Translator place) ask out = translator_answer (slice_get b.hubs place) ask
+answer_by b (Answerers.Translator place stuff) ask out = translator_answer (slice_get b.hubs place) ask
 answer_by b Answerers.Nobody ask out = Silent
 
 abbrev pub bus_row : Fixed → Bus → Asked → Ask → List ℕ → WhoHeard
@@ -127,7 +133,8 @@ bus_row fixed b e ask out = row_for (losses_of fixed.fates false e (packets_befo
 abbrev pub changed_by : WhoHeard → Answerer → Ask → List ℕ → Bus → Bus
 changed_by row (Answerers.Device place) ask out b = record b { devices = changed_at place (device_after row ask out) b.devices }
 changed_by row (Answerers.Hub place) ask out b = record b { hubs = changed_at place (hub_after row ask out) b.hubs }
-changed_by row (Answerers.Translator place) ask out b = record b { hubs = changed_at place (translator_after row ask out) b.hubs }
+changed_by row (Answerers.Translator place stuff) ask out b =
+    record b { hubs = changed_at place (translator_after row ask out stuff) b.hubs }
 changed_by row Answerers.Nobody ask out b = b
 
 -- the bus once the packets were sent as well

@@ -44,14 +44,14 @@ place_for seats addr num kind = position (λ s. suits s.name addr num kind) seat
 
 -- ---- whose each endpoint is
 
--- the device at place n, on the high-speed bus or below the hub that its endpoint names (11.1)
-abbrev pub owner_at : ℕ → Option ℕ → ℕ → Owner
-owner_at n None port = High n
-owner_at n (Some hub) port = Below n hub port
+-- the device at place n, on the high-speed bus or below the hub that its endpoint names (11.1), where stuffed bits count
+abbrev pub owner_at : ℕ → Option ℕ → ℕ → ℕ → Owner
+owner_at n None port stuff = High n
+owner_at n (Some hub) port stuff = Below n hub port stuff
 
 -- an endpoint of the device at place n
 abbrev pub seat_at : ℕ → EpText → Seat
-seat_at n e = record { name = e.desc.name; kind = e.desc.kind; owner = owner_at n e.desc.hub e.desc.port }
+seat_at n e = record { name = e.desc.name; kind = e.desc.kind; owner = owner_at n e.desc.hub e.desc.port e.stuff }
 
 -- the endpoints of the devices from place n on, in the order of the devices and of the lines of each
 abbrev pub seats_from : ℕ → List DeviceText → List Seat

@@ -7,8 +7,9 @@ pub enum Answerer {
     Device(usize),
     /// Endpoint 0 of the hub at this place.
     Hub(usize),
-    /// The translator of the hub at this place.
-    Translator(usize),
+    /// The translator of the hub at this place; stuffed bits make the packets of the endpoint that is asked longer by so
+    /// many bytes in 36 (USB 2.0, 7.1.9).
+    Translator(usize, u8),
     /// Nobody on this bus.
     Nobody,
 }

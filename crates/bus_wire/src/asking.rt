@@ -99,24 +99,25 @@ fn ask_hub(hub: &mut Hub, ask: &Ask, out: &[u8], losses: &Losses, reply: &mut Re
     row
 }
 
-/// Asks the translator of a hub; `reply` becomes the answer that it sent, heard or not.
+/// Asks the translator of a hub for an endpoint of this number of stuffed bits; `reply` becomes the answer that it sent, heard or not.
 fn ask_translator(
     hub: &mut Hub,
     ask: &Ask,
     out: &[u8],
+    stuff: u8,
     losses: &Losses,
     reply: &mut Reply,
 ) -> WhoHeard
     requires { length out.now ≤ 1024 }
     ensures row { result ≡ row_for losses.now ask.now (transact_reply ask.now hub.old) }
     ensures reply { reply.new ≡ answer_sent result (transact_reply ask.now hub.old) }
-    ensures hub { hub.new ≡ translator_after result ask.now out.now hub.old }
+    ensures hub { hub.new ≡ translator_after result ask.now out.now stuff hub.old }
 {
     if losses.sent {
         *reply = Reply::Silent;
         return WhoHeard::SentUnheard;
     }
-    *reply = hub.transact(ask, out);
+    *reply = hub.transact(ask, out, stuff);
     heard(losses, ask, reply)
 }
 
@@ -160,22 +161,23 @@ pub fn ask_hub_at(
     ask_hub(&mut hubs[place], ask, out, losses, reply)
 }
 
-/// Asks the translator of the hub at a place.
+/// Asks the translator of the hub at a place for an endpoint of this number of stuffed bits.
 pub fn ask_translator_at(
     hubs: &mut [Hub],
     place: usize,
     ask: &Ask,
     out: &[u8],
+    stuff: u8,
     losses: &Losses,
     reply: &mut Reply,
 ) -> WhoHeard
     requires { length out.now ≤ 1024 }
     ensures row { result ≡ row_for losses.now ask.now (translator_answer (slice_get hubs.old place) ask.now) }
     ensures reply { reply.new ≡ answer_sent result (translator_answer (slice_get hubs.old place) ask.now) }
-    ensures hubs { hubs.new ≡ changed_at place (translator_after result ask.now out.now) hubs.old }
+    ensures hubs { hubs.new ≡ changed_at place (translator_after result ask.now out.now stuff) hubs.old }
 {
     if place >= hubs.len() {
         return ask_nobody(ask, losses, reply);
     }
-    ask_translator(&mut hubs[place], ask, out, losses, reply)
+    ask_translator(&mut hubs[place], ask, out, stuff, losses, reply)
 }

@@ -181,7 +181,12 @@ impl BelowHub {
         ensures { result ≡ hears_at self.now owner }
     {
         match owner {
-            Owner::Below { device, hub, port } => {
+            Owner::Below {
+                device,
+                hub,
+                port,
+                ..
+            } => {
                 if hub.get() == self.hub.get() && self.is_enabled(port) {
                     Answerer::Device(device)
                 } else {
@@ -235,7 +240,7 @@ impl BelowHub {
     {
         match who {
             Answerer::Device(place) => self.ask_device(place, ask, out, losses, reply),
-            Answerer::Hub(_) | Answerer::Translator(_) | Answerer::Nobody => {
+            Answerer::Hub(_) | Answerer::Translator(_, _) | Answerer::Nobody => {
                 ask_nobody(ask, losses, reply)
             }
         }

@@ -16,15 +16,16 @@ use std::alloc::Global;
 use usb_base::{DevAddr, EpDesc, EpKind, EpName, EpNum, Memory, Way};
 
 /// Whose endpoint this is, of the device at a place.
-fn owner(device: usize, desc: &EpDesc) -> Owner
-    ensures { result ≡ owner_at device desc.now.hub desc.now.port }
+fn owner(device: usize, ep: &EpText) -> Owner
+    ensures { result ≡ owner_at device ep.now.desc.hub ep.now.desc.port ep.now.stuff }
 {
-    match desc.hub {
+    match ep.desc.hub {
         None => Owner::High(device),
         Some(hub) => Owner::Below {
             device,
             hub,
-            port: desc.port,
+            port: ep.desc.port,
+            stuff: ep.stuff,
         },
     }
 }
@@ -36,7 +37,7 @@ fn seat_endpoints(seats: &mut Vec<Seat>, device: usize, eps: &[EpText]) -> Resul
         let seat = Seat {
             name: ep.desc.name,
             kind: ep.desc.kind,
-            owner: owner(device, &ep.desc),
+            owner: owner(device, ep),
         };
         if seats.push(seat).is_err() {
             return Err(Memory);

@@ -5,7 +5,7 @@ ghost use Rattle.endpoint_script.specs.Device.{is_scripted};
 ghost use Rattle.hub_class.specs.HubContent.{has_few_ports};
 ghost use Rattle.bus_wire.specs.Asking.{row_for};
 ghost use Rattle.bus_wire.specs.Below.{below_at, hub_worked_at, floor_left, hubs_worked, floor_worked};
-ghost use Rattle.bus_wire.specs.Bus.{hears_split, hears, asked_at, asked_of, answer_by, changed_by, begin_after, is_allowed, reply_at, after_at, reply_of, transact_after, opening_wired};
+ghost use Rattle.bus_wire.specs.Bus.{stuff_of, hears_split, hears, asked_at, asked_of, answer_by, changed_by, begin_after, is_allowed, reply_at, after_at, reply_of, transact_after, opening_wired};
 ghost use Rattle.bus_wire.specs.Fixed.{IsSeated};
 ghost use Rattle.bus_wire.specs.WhoHeard.{answer_sent};
 ghost use Rattle.bus_wire.specs.Told.{told_at, told_of, answer_told};
@@ -57,6 +57,16 @@ fn nobody() -> DevAddr {
     match DevAddr::new(0) {
         Some(addr) => addr,
         None => unreachable!(),
+    }
+}
+
+/// How many bytes in 36 stuffed bits make the packets of an endpoint longer, which is so below a hub alone.
+fn stuff(owner: &Owner) -> u8
+    ensures { result ≡ stuff_of owner.now }
+{
+    match owner {
+        Owner::Below { stuff, .. } => *stuff,
+        Owner::Hub(_) | Owner::High(_) => 0,
     }
 }
 
@@ -134,12 +144,12 @@ impl UsbBus {
         self.below.next(place)
     }
 
-    /// The translator of the hub with this address.
-    fn translator(&self, addr: DevAddr) -> Answerer
-        ensures { result ≡ hears_split self.now.bus.hubs addr }
+    /// The translator of the hub with this address, for an endpoint of this number of stuffed bits.
+    fn translator(&self, addr: DevAddr, stuff: u8) -> Answerer
+        ensures { result ≡ hears_split self.now.bus.hubs addr stuff }
     {
         match self.hub_place(addr) {
-            Some(place) => Answerer::Translator(place),
+            Some(place) => Answerer::Translator(place, stuff),
             None => Answerer::Nobody,
         }
     }
@@ -157,7 +167,9 @@ impl UsbBus {
         ensures { result ≡ hears self.now.bus split.now owner }
     {
         match (split, owner) {
-            (Split::Start { hub, .. } | Split::Complete { hub, .. }, _) => self.translator(*hub),
+            (Split::Start { hub, .. } | Split::Complete { hub, .. }, _) => {
+                self.translator(*hub, stuff(&owner))
+            }
             (Split::Plain, Owner::Hub(place)) => Answerer::Hub(place),
             (Split::Plain, Owner::High(place)) => Answerer::Device(place),
             (Split::Plain, Owner::Below { .. }) => Answerer::Nobody,
@@ -212,8 +224,16 @@ impl UsbBus {
             Answerer::Hub(place) => {
                 ask_hub_at(self.hubs.as_mut_slice(), place, ask, out, losses, reply)
             }
-            Answerer::Translator(place) => {
-                ask_translator_at(self.hubs.as_mut_slice(), place, ask, out, losses, reply)
+            Answerer::Translator(place, stuff) => {
+                ask_translator_at(
+                    self.hubs.as_mut_slice(),
+                    place,
+                    ask,
+                    out,
+                    stuff,
+                    losses,
+                    reply,
+                )
             }
             Answerer::Nobody => ask_nobody(ask, losses, reply),
         }

@@ -18,6 +18,8 @@ pub enum Owner {
         hub: DevAddr,
         /// The port of that hub, from 1.
         port: u8,
+        /// How many bytes in 36 stuffed bits make its packets longer, 0 to 6 (USB 2.0, 7.1.9).
+        stuff: u8,
     },
 }
 

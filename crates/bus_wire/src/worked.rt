@@ -70,7 +70,7 @@ pub fn places()
 /// The endpoints of two devices stand in the order of their lines, behind those of hubs.
 pub fn order()
     ensures devices { map (λ s. s.owner) (seats_of mixed) ≡ Owners.High 1 ∷ Owners.High 0 ∷ Owners.High 1 ∷ [] }
-    ensures hubs { map (λ s. s.owner) (seats_of (script [])) ≡ Owners.Hub 0 ∷ Owners.Below 0 9 1 ∷ [] }
+    ensures hubs { map (λ s. s.owner) (seats_of (script [])) ≡ Owners.Hub 0 ∷ Owners.Below 0 9 1 0 ∷ [] }
 {}
 
 /// A bulk IN behind a hub: its packet is there once the microframe of its start has ended. Packets of both buses are counted apart.

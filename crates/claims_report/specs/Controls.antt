@@ -53,7 +53,7 @@ control_of_device addr num (Some d) = if is_alone addr num d then control_of_end
 abbrev pub control_of_owner : Bus → ℕ → ℕ → Owner → Option Side
 control_of_owner b addr num (Owners.High place) = control_of_device addr num (slice_get b.devices place)
 control_of_owner b addr num (Owners.Hub place) = None
-control_of_owner b addr num (Owners.Below place hub port) = None
+control_of_owner b addr num (Owners.Below place hub port stuff) = None
 
 abbrev pub control_of_seat : Bus → ℕ → ℕ → Option Seat → Option Side
 control_of_seat b addr num None = None

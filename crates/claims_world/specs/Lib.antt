@@ -6,7 +6,11 @@ pub mod Memory
 pub mod Carried
 pub mod Visits
 pub mod Microframes
+pub mod FrameHeads
+pub mod Prices
 pub mod WithinLoad
 pub mod InTime
 pub mod Streams
 pub mod Requests
+pub mod Reach
+pub mod Releases

@@ -2,8 +2,10 @@
 //! from a clause, and what is reached elsewhere is in `claims_driver`, `claims_report` or the machine. Why it holds is in the `law_` crates.
 //!
 //! - specs/Scripts.antt: the scripts of which the clauses speak.
-//! - specs/Lent.antt, specs/Owned.antt, specs/Schedule.antt, specs/Memory.antt: the clauses `lent`, `owned`, `schedule` and `memory`.
-//! - specs/Visits.antt, specs/Microframes.antt, specs/WithinLoad.antt, specs/InTime.antt: the clauses `visits`, `microframes`, `within_load` and `in_time`.
+//! - specs/Lent.antt, specs/Owned.antt, specs/Schedule.antt, specs/Memory.antt, specs/Reach.antt, specs/Releases.antt: the clauses `lent`, `owned`,
+//!   `schedule`, `memory`, `reach` and `releases`.
+//! - specs/Visits.antt, specs/Microframes.antt, specs/Prices.antt, specs/WithinLoad.antt, specs/InTime.antt: the clauses `visits`,
+//!   `microframes`, `within_load` and `in_time`.
 //! - specs/Streams.antt, specs/Requests.antt: the clauses `streams` and `requests`.
 //!
 //! The clause `budgets` is in `bus_world`, whose run promises it (specs/Budgets.antt). There is no code, and no proof.

@@ -9,12 +9,14 @@ ghost use Rattle.app_forms.specs.Form.{AreWordsOf, AreNoForm};
 ghost use Rattle.bus_world.specs.Runs.{IsRunOf, IsWholeRunOf};
 ghost use Rattle.app_forms.specs.Output.{IsAnswer, IsLoad, IsProgram, LeavesAs, Leaves};
 ghost use Rattle.claims_world.specs.Memory.{KeepsMemory};
+ghost use Rattle.claims_world.specs.Reach.{ReachesLentThroughout};
+ghost use Rattle.claims_world.specs.Releases.{GivesBackLast};
 ghost use Rattle.claims_world.specs.Visits.{KeepsVisits};
 ghost use Rattle.claims_world.specs.WithinLoad.{PaysWithinLoad};
 ghost use Rattle.claims_world.specs.InTime.{ArriveInTime};
 ghost use Rattle.claims_world.specs.Microframes.{MicroframesEnd};
 ghost use Rattle.claims_world.specs.Requests.{KeepsRequests};
-ghost use Rattle.claims_world.specs.Scripts.{OfEachScript, OfEachHighPeriodicScript, OfEachAsynchronousScript, OfEachScriptOfDevices};
+ghost use Rattle.claims_world.specs.Scripts.{OfEachScript, OfEachAsynchronousScript, OfEachScriptOfDevices};
 ghost use Rattle.claims_world.specs.Streams.{KeepsStreams};
 
 use app_ends::{Status, Unread, read_input};
@@ -52,17 +54,26 @@ use usb_base::{Sink, Source};
 /// And at each such moment, whatever endpoints it opens and cancels, the runs of the driver's blocks, its frame list, the links of its
 /// members, the ring and words 1 and 2 of queue heads stand in memory for the driver's content, also while a structure is linked or
 /// unlinked; the walk of the ring stands at queue heads of the ring, or at those that left since the last answered doorbell was rung;
-/// and the controller runs with both schedules on, meets no fault and is refused no word. Of qTDs, overlays and buffers this says
-/// nothing.
+/// and the controller runs with both schedules on, meets no fault and is refused no word. All that it can come to from where it stands, by
+/// the frame list, the ring, its cursors and copies, by links, and by what works to qTDs and bytes of buffers, is Lent. Of what overlays and
+/// qTDs hold this says nothing else.
 ///
-/// In one microframe the walk of the frames visits no structure twice, and each in its frame, while members are linked and unlinked. In
-/// a microframe that is held no time is left. The asynchronous part ends where the head of the ring was read with Reclamation 0, or
-/// where the next price passes the time left, and then the ring goes on at the same queue head. A queue head is passed without its
-/// transaction for one of the standard's reasons alone, in the ring and in the frames.
+/// What left the ring is given back only after the doorbell was rung since its unlinking and Async Advance was then read, and what left the
+/// frame list only after FRINDEX was read twice since then with different frame numbers.
 ///
-/// Where all its periodic endpoints are of high speed, isochronous ones too, the time that is deducted for their transactions in a
-/// microframe is no more than the plan's load there, nor than 100 microseconds, at each moment, also while endpoints are opened and
-/// cancelled. So no transaction of the periodic part is skipped for want of time, but in a held microframe.
+/// In one microframe the walk of the frames visits no structure twice, and each in its frame, or, where it was unlinked in this
+/// microframe, in a frame from which it was, while members are linked and unlinked; and once it is over, it has visited each to which
+/// the links of the frame led as the microframe began, and to which they lead still.
+/// In a microframe that is held no time is left. The asynchronous part ends where the head of the ring was read with Reclamation 0, or
+/// where the next price passes the time left, and then the ring goes on at the same queue head. A structure that is visited has its
+/// transaction, or is passed without it for one of the standard's reasons alone, in the ring and in the frames.
+///
+/// Words 1 and 2 of the queue head of each interrupt endpoint that wasn't given back are those of its description and of its placement, and
+/// each placement is one that its endpoint may have. What is deducted for the transactions of the walk of the frames in a microframe is the
+/// sum of their prices. Where all isochronous endpoints of the script are of high speed it comes, but for complete-splits that are made
+/// again at once, to no more than the plan's load there, nor to more than 100 microseconds; so no transaction of the periodic part is
+/// skipped for want of time, but in a held microframe or where more than 4 microseconds went for those made again. None is made again where
+/// all periodic endpoints are of high speed.
 ///
 /// Where the script opens high-speed bulk and control endpoints only, cancelled or not, the bytes that the report tells of each bulk IN
 /// endpoint begin its stream, each once and in order, and nothing follows its end; those that it tells of each bulk OUT endpoint begin
@@ -74,7 +85,7 @@ use usb_base::{Sink, Source};
 /// control request, and only on its setup bytes; of an endpoint that isn't cancelled the report tells of its requests in their order: a
 /// request that is done was acted on exactly once, and the bytes told of it are those of its data; those of one that halted begin its
 /// data; and `acted` is told as the number of requests that were acted on. After the run these are all its requests.
-#[tactic(auto, using(crate::proofs::Admitted::source_admits, crate::proofs::Admitted::source_keeps_to_lent, crate::proofs::Admitted::source_owns, crate::proofs::Admitted::source_keeps_schedule, crate::proofs::Streams::source_keeps_streams, crate::proofs::Requests::source_keeps_requests, crate::proofs::Memory::source_keeps_memory, crate::proofs::Visits::source_keeps_visits, crate::proofs::Visits::source_pays_within_load, crate::proofs::Visits::source_is_in_time, crate::proofs::Visits::source_ends_microframes))]
+#[tactic(auto, using(crate::proofs::Admitted::source_admits, crate::proofs::Admitted::source_keeps_to_lent, crate::proofs::Admitted::source_owns, crate::proofs::Admitted::source_keeps_schedule, crate::proofs::Streams::source_keeps_streams, crate::proofs::Requests::source_keeps_requests, crate::proofs::Memory::source_keeps_memory, crate::proofs::Memory::source_reaches_lent, crate::proofs::Memory::source_gives_back_last, crate::proofs::Visits::source_keeps_visits, crate::proofs::Visits::source_pays_within_load, crate::proofs::Visits::source_is_in_time, crate::proofs::Visits::source_ends_microframes))]
 pub fn ehci<S: Source, K: Sink>(
     alloc: Global,
     words: &[String],
@@ -91,10 +102,12 @@ pub fn ehci<S: Source, K: Sink>(
     ensures owned { OfEachScript OwnsItsBlocksThroughout (S.left source.old) }
     ensures schedule { OfEachScript KeepsScheduleThroughout (S.left source.old) }
     ensures memory { OfEachScript KeepsMemory (S.left source.old) }
+    ensures reach { OfEachScript ReachesLentThroughout (S.left source.old) }
+    ensures releases { OfEachScript GivesBackLast (S.left source.old) }
     ensures visits { OfEachScript KeepsVisits (S.left source.old) }
     ensures microframes { OfEachScript MicroframesEnd (S.left source.old) }
-    ensures within_load { OfEachHighPeriodicScript PaysWithinLoad (S.left source.old) }
-    ensures in_time { OfEachHighPeriodicScript ArriveInTime (S.left source.old) }
+    ensures within_load { OfEachScript PaysWithinLoad (S.left source.old) }
+    ensures in_time { OfEachScript ArriveInTime (S.left source.old) }
     ensures streams { OfEachAsynchronousScript KeepsStreams (S.left source.old) }
     ensures requests { OfEachScriptOfDevices KeepsRequests (S.left source.old) }
     ensures left { IfSome (S.left source.old) (λ xs. Leaves (map string_bytes words.now) result xs (S.left source.new)) }

@@ -65,7 +65,7 @@ fn make(
 ) -> Result<(), AllocError> {
     match step {
         Step::Start(number) => match start_of(number) {
-            Some(ask) => write_reply(text, &buffers.start(&ask, &[])),
+            Some(ask) => write_reply(text, &buffers.start(&ask, &[], 0)),
             None => Ok(()),
         },
         Step::Work(gives) => {

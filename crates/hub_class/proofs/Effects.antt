@@ -12,13 +12,13 @@ use Rattle.hub_class.specs.Requesting.{effect_if, request_at, requested}
 use Rattle.hub_class.specs.EndpointZero.{acts_on, row_at, reply_under, acted_with, suits, hub_answered}
 use Rattle.hub_class.specs.Translating.{after_split}
 
-pub split_ports : (row : SplitRow) (ask : Ask) (out : List ℕ) (h : HubContent) → (after_split row ask out h).ports ≡ h.ports
-split_ports BulkStart ask out h = refl
-split_ports _ ask out h = refl
+pub split_ports : (row : SplitRow) (ask : Ask) (out : List ℕ) (stuff : ℕ) (h : HubContent) → (after_split row ask out stuff h).ports ≡ h.ports
+split_ports BulkStart ask out stuff h = refl
+split_ports _ ask out stuff h = refl
 
-pub split_control : (row : SplitRow) (ask : Ask) (out : List ℕ) (h : HubContent) → (after_split row ask out h).control ≡ h.control
-split_control BulkStart ask out h = refl
-split_control _ ask out h = refl
+pub split_control : (row : SplitRow) (ask : Ask) (out : List ℕ) (stuff : ℕ) (h : HubContent) → (after_split row ask out stuff h).control ≡ h.control
+split_control BulkStart ask out stuff h = refl
+split_control _ ask out stuff h = refl
 
 -- endpoint 0's own state has no part in an effect
 effect_ports : (request : Option HubRequest) (c : Stages) (h : HubContent) → (effect_if request (record h { control = c })).ports ≡ (effect_if request h).ports

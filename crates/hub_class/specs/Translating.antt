@@ -43,19 +43,19 @@ split_reply PeriodicStart ask h = Silent
 split_reply PeriodicComplete ask h = Piped.complete_answer (key_of ask) h.pipeline
 split_reply NoSplit ask h = Silent
 
-abbrev pub after_split : SplitRow → Ask → List ℕ → HubContent → HubContent
-after_split BulkStart ask out h = record h { bulk = Buffered.started ask out h.bulk }
-after_split BulkComplete ask out h = record h { bulk = Buffered.completed (key_of ask) h.bulk }
-after_split PeriodicStart ask out h = record h { pipeline = Piped_starts.started ask out h.pipeline }
-after_split PeriodicComplete ask out h = record h { pipeline = Piped.completed (key_of ask) h.pipeline }
-after_split NoSplit ask out h = h
+abbrev pub after_split : SplitRow → Ask → List ℕ → ℕ → HubContent → HubContent
+after_split BulkStart ask out stuff h = record h { bulk = Buffered.started ask out stuff h.bulk }
+after_split BulkComplete ask out stuff h = record h { bulk = Buffered.completed (key_of ask) h.bulk }
+after_split PeriodicStart ask out stuff h = record h { pipeline = Piped_starts.started ask out stuff h.pipeline }
+after_split PeriodicComplete ask out stuff h = record h { pipeline = Piped.completed (key_of ask) h.pipeline }
+after_split NoSplit ask out stuff h = h
 
--- the answer to a split ask that sends these bytes, and the hub after it
+-- the answer to a split ask that sends these bytes, which stuffed bits make longer by a number in 36 (7.1.9), and the hub after it
 abbrev pub transact_reply : Ask → HubContent → Reply
 transact_reply ask h = split_reply (split_row ask.split ask.kind) ask h
 
-abbrev pub transacted : Ask → List ℕ → HubContent → HubContent
-transacted ask out h = after_split (split_row ask.split ask.kind) ask out h
+abbrev pub transacted : Ask → List ℕ → ℕ → HubContent → HubContent
+transacted ask out stuff h = after_split (split_row ask.split ask.kind) ask out stuff h
 
 -- The work of a microframe on the bus below: the pipeline first, then the buffers with the byte-times that are left.
 pub record HubWorks {W : Type 0} (transacts : W → Ask → List ℕ → Reply → W → Type 0) (frindex : ℕ) (old : HubContent) (before : W) (new : HubContent) (after : W) : Type 0 where

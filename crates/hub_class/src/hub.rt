@@ -143,17 +143,18 @@ impl Hub {
     }
 
     /// Takes a split ask for a full- or low-speed device below, with the bytes that it sends, at most 1,024, and answers it
-    /// (USB 2.0, 11.17 to 11.21). An ask that isn't split is answered by silence, and changes nothing.
-    pub fn transact(&mut self, ask: &Ask, out: &[u8]) -> Reply
+    /// (USB 2.0, 11.17 to 11.21). Stuffed bits make the transaction below longer by `stuff` bytes in 36 (7.1.9). An ask that
+    /// isn't split is answered by silence, and changes nothing.
+    pub fn transact(&mut self, ask: &Ask, out: &[u8], stuff: u8) -> Reply
         requires { length out.now ≤ 1024 }
         ensures answer { result ≡ transact_reply ask.now self.old }
-        ensures after { self.new ≡ transacted ask.now out.now self.old }
+        ensures after { self.new ≡ transacted ask.now out.now stuff self.old }
     {
         match split_row(&ask.split, ask.kind) {
-            SplitRow::BulkStart => self.bulk.start(ask, out),
+            SplitRow::BulkStart => self.bulk.start(ask, out, stuff),
             SplitRow::BulkComplete => self.bulk.complete(&Key::of(ask)),
             SplitRow::PeriodicStart => {
-                self.pipeline.start(ask, out);
+                self.pipeline.start(ask, out, stuff);
                 Reply::Silent
             }
             SplitRow::PeriodicComplete => self.pipeline.complete(&Key::of(ask)),

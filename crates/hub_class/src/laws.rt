@@ -12,8 +12,8 @@ use usb_base::Wire;
 
 /// Split asks change no port, and nothing of endpoint 0.
 pub fn splits_leave_the_ports()
-    ensures ports { (ask : Asked) → (out : List ℕ) → (h : HubContent) → (transacted ask out h).ports ≡ h.ports }
-    ensures control { (ask : Asked) → (out : List ℕ) → (h : HubContent) → (transacted ask out h).control ≡ h.control }
+    ensures ports { (ask : Asked) → (out : List ℕ) → (stuff : ℕ) → (h : HubContent) → (transacted ask out stuff h).ports ≡ h.ports }
+    ensures control { (ask : Asked) → (out : List ℕ) → (stuff : ℕ) → (h : HubContent) → (transacted ask out stuff h).control ≡ h.control }
 {}
 
 /// The host's ACK and the work of a microframe change no port.

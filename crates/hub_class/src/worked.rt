@@ -3,6 +3,7 @@ ghost use Rattle.std.specs.Prelude.{◌≡◌, List, [], ◌∷◌, Some, None, 
 ghost use Rattle.usb_base.specs.declared.packets.EpKind.TheVariants.{Bulk, Interrupt};
 ghost use Rattle.usb_base.specs.declared.packets.Pid.TheVariants as Pids;
 ghost use Rattle.usb_base.specs.declared.packets.Reply.TheVariants as Replies;
+ghost use Rattle.tt_pipeline.specs.Working.{used_by, worked_with};
 ghost use Rattle.hub_ports.specs.declared.rows.HubReply.TheVariants as Answers;
 ghost use Rattle.hub_ports.specs.Ports.{opened_port, is_enabled};
 ghost use Rattle.hub_class.specs.Requesting.{requested, request_answer};
@@ -42,11 +43,12 @@ pub fn unknown_is_stalled()
 /// Split asks go into the buffers or the pipeline; a reset of the translator empties both.
 pub fn splits()
     ensures bulk_start { transact_reply (start Bulk) hub ≡ Replies.Hand Pids.Ack }
-    ensures bulk_pending { transact_reply (complete Bulk) (transacted (start Bulk) [] hub) ≡ Replies.Hand Pids.Nyet }
+    ensures bulk_pending { transact_reply (complete Bulk) (transacted (start Bulk) [] 0 hub) ≡ Replies.Hand Pids.Nyet }
     ensures bulk_unknown { transact_reply (complete Bulk) hub ≡ Replies.Silent }
     ensures interrupt_start { transact_reply (start Interrupt) hub ≡ Replies.Silent }
-    ensures interrupt_pending { transact_reply (complete Interrupt) (transacted (start Interrupt) [] hub) ≡ Replies.Hand Pids.Nyet }
+    ensures interrupt_pending { transact_reply (complete Interrupt) (transacted (start Interrupt) [] 0 hub) ≡ Replies.Hand Pids.Nyet }
     ensures interrupt_unknown { transact_reply (complete Interrupt) hub ≡ Replies.Hand Pids.Nyet }
-    ensures emptied { requested reset_translator (transacted (start Interrupt) [] (transacted (start Bulk) [] hub)) ≡ hub }
-    ensures ports_stay { (transacted (start Bulk) [] hub).ports ≡ hub.ports }
+    ensures emptied { requested reset_translator (transacted (start Interrupt) [] 0 (transacted (start Bulk) [] 0 hub)) ≡ hub }
+    ensures stuffed { used_by 188 (worked_with 1 [] (transacted (start Interrupt) [] 6 hub).pipeline) ≡ 89 }
+    ensures ports_stay { (transacted (start Bulk) [] 0 hub).ports ≡ hub.ports }
 {}

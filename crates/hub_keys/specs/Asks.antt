@@ -1,5 +1,5 @@
 -- What a start-split stands for on the bus below a translator (USB 2.0, 11.14 and 11.18).
-use Rattle.std.specs.Prelude.{ℕ}
+use Rattle.std.specs.Prelude.{ℕ, ◌+◌, ◌*◌, ◌/◌}
 use Rattle.usb_base.specs.Cost.{byte_times}
 use Rattle.usb_base.specs.declared.packets.Ask.{Ask}
 use Rattle.usb_base.specs.declared.packets.Pid.{Pid}
@@ -18,3 +18,7 @@ counted_bytes _ _ sent = sent
 -- the byte-times of the transaction of a start that carried this number of bytes
 abbrev pub work_of : Ask → ℕ → ℕ
 work_of ask sent = byte_times ask.speed ask.kind (counted_bytes ask.pid ask.limit sent)
+
+-- so many byte-times with their stuffed bits (7.1.9), where those make 36 bytes longer by this number
+abbrev pub stuffed : ℕ → ℕ → ℕ
+stuffed times stuff = times + times * stuff / 36

@@ -1,5 +1,5 @@
-ghost use Rattle.std.specs.Prelude.{◌≡◌, ◌≤◌};
-ghost use Rattle.hub_keys.specs.Asks.{counted_bytes, classic_of, work_of};
+ghost use Rattle.std.specs.Prelude.{◌≡◌, ◌≤◌, ◌<◌, ◌*◌, ◌^◌};
+ghost use Rattle.hub_keys.specs.Asks.{counted_bytes, classic_of, work_of, stuffed as with_stuffed_bits};
 
 use usb_base::{Ask, EpKind, Pid, Speed, Split};
 
@@ -37,4 +37,14 @@ pub fn work(ask: &Ask, sent: u16) -> u32
         (Speed::Low, _) => 8 * (bytes + 13),
         (Speed::High, _) => 0,
     }
+}
+
+/// So many byte-times with their stuffed bits, where those make 36 bytes longer by `stuff` (USB 2.0, 7.1.9); rounded down.
+pub fn stuffed(times: u64, stuff: u8) -> u64
+    requires { times < 2 ^ 40 }
+    ensures value { result ≡ with_stuffed_bits times stuff }
+    ensures bound { times ≤ result }
+    ensures most { result ≤ times * 9 }
+{
+    times + times * stuff as u64 / 36
 }

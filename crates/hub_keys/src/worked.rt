@@ -5,7 +5,7 @@ ghost use Rattle.usb_base.specs.declared.packets.EpKind.TheVariants.{Bulk, Contr
 ghost use Rattle.usb_base.specs.declared.packets.Pid.TheVariants as Packets;
 ghost use Rattle.usb_base.specs.declared.packets.Speed.TheVariants.{Full, Low, High};
 ghost use Rattle.usb_base.specs.declared.packets.Split.TheVariants.{Plain};
-ghost use Rattle.hub_keys.specs.Asks.{classic_of, work_of};
+ghost use Rattle.hub_keys.specs.Asks.{classic_of, work_of, stuffed};
 ghost use Rattle.hub_keys.specs.Keys.{key_of, is_same_key};
 ghost use Rattle.hub_keys.specs.Worked.{start, key};
 
@@ -29,4 +29,13 @@ pub fn asks()
     ensures full_out { work_of (start Packets.Out Full Bulk) 8 ≡ 21 }
     ensures setup { work_of (start Packets.Setup Low Control) 8 ≡ 168 }
     ensures low_in { work_of (start Packets.In Low Interrupt) 0 ≡ 616 }
+{}
+
+/// Stuffed bits lengthen by at most 7/6, rounded down: 77 byte-times to 89, and 21 to 24.
+pub fn stuffed_bits()
+    ensures none { stuffed 77 0 ≡ 77 }
+    ensures most { stuffed 77 6 ≡ 89 }
+    ensures few { stuffed 21 6 ≡ 24 }
+    ensures rounded { stuffed 35 1 ≡ 35 }
+    ensures whole { stuffed 36 1 ≡ 37 }
 {}

@@ -29,7 +29,7 @@ use Rattle.bus_wire.specs.declared.who_heard.WhoHeard.TheVariants.{SentUnheard, 
 use Rattle.bus_wire.specs.WhoHeard.{asker_hears, left_by, packets_before}
 use Rattle.bus_wire.specs.Seats.{token_kind, place_for}
 use Rattle.bus_wire.specs.Asking.{losses_of, row_for, device_after, device_answer, put_at, changed_at}
-use Rattle.bus_wire.specs.Bus.{Bus, Wired, Fixed, hears, asked_at, asked_of, bus_row, changed_by, reply_at, reply_of, after_at, transact_after}
+use Rattle.bus_wire.specs.Bus.{Bus, Wired, Fixed, stuff_of, hears, asked_at, asked_of, bus_row, changed_by, reply_at, reply_of, after_at, transact_after}
 use Rattle.law_ring.specs.Bus.{Sender, IsStreamAsk, IsBus, HasAnswered, nothing_heard}
 use Rattle.law_devices.specs.Senders.{sender_of_part, sender_of_endpoint, sender_of_device, sender_of_owner, sender_of_seat, sender_of_place, sender_of}
 use Rattle.law_devices.proofs.Places.{set_here, set_beside}
@@ -128,15 +128,16 @@ pub who_place : (fixed : Fixed) (b : Bus) (split : Split) (o : Option ℕ) (e : 
 who_place fixed b split None e is = absurd cc
 who_place fixed b split (Some place) e is = who_seat b split place (slice_get fixed.seats place) e is
 
-no_translator : (o : Option ℕ) (n : ℕ) → option_map_or (λ (place : ℕ). Answerers.Translator place) o Answerers.Nobody ≡ Answerers.Device n → ⊥
-no_translator None n e = cc
-no_translator (Some k) n e = cc
+no_translator : (o : Option ℕ) (stuff n : ℕ)
+    → option_map_or (λ (place : ℕ). Answerers.Translator place stuff) o Answerers.Nobody ≡ Answerers.Device n → ⊥
+no_translator None stuff n e = cc
+no_translator (Some k) stuff n e = cc
 
 -- a device is asked by a plain ask alone
 pub plain_only : (b : Bus) (split : Split) (owner : Owner) (n : ℕ) → hears b split owner ≡ Answerers.Device n → split ≡ Plain
 plain_only b Plain owner n e = refl
-plain_only b (Start hub port part) owner n e = absurd (no_translator (position (λ h. h.address == hub) b.hubs) n e)
-plain_only b (Complete hub port) owner n e = absurd (no_translator (position (λ h. h.address == hub) b.hubs) n e)
+plain_only b (Start hub port part) owner n e = absurd (no_translator (position (λ h. h.address == hub) b.hubs) (stuff_of owner) n e)
+plain_only b (Complete hub port) owner n e = absurd (no_translator (position (λ h. h.address == hub) b.hubs) (stuff_of owner) n e)
 
 -- ---- another one stays as it is
 

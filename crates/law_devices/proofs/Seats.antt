@@ -66,7 +66,7 @@ earlier names a n k d other own =
 
 own_seats : (names : List EpName) (a n k : ℕ) (d : Placed) → n ≡ k → d.hub ≡ None → HasOwn names d → AllByRecursion (IsAt a n) (map (seat_at k) d.eps)
 own_seats names a n k d there root own =
-    all_map (IsEpOf names d.addr d.hub) (IsAt a n) (seat_at k) d.eps (λ e z same. ap (λ hub. owner_at k hub e.desc.port) (z.behind ∙ root) ∙ ap High (sym there)) own
+    all_map (IsEpOf names d.addr d.hub) (IsAt a n) (seat_at k) d.eps (λ e z same. ap (λ hub. owner_at k hub e.desc.port e.stuff) (z.behind ∙ root) ∙ ap High (sym there)) own
 
 pub owners : (names : List EpName) (a n k m : ℕ) (ds : List Placed) (d : Placed) → slice_get ds m ≡ Some d → d.addr ≡ a → n ≡ k + m → d.hub ≡ None → AreApart (addresses ds)
     → AllByRecursion (HasOwn names) ds → AllByRecursion (IsAt a n) (seats_from k (map device_text ds))

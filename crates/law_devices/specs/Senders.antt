@@ -36,7 +36,7 @@ sender_of_device addr ep (Some d) = if addr == d.address then sender_of_endpoint
 abbrev pub sender_of_owner : Bus → ℕ → ℕ → Owner → Option Sender
 sender_of_owner b addr ep (Owners.High place) = sender_of_device addr ep (slice_get b.devices place)
 sender_of_owner b addr ep (Owners.Hub place) = None
-sender_of_owner b addr ep (Owners.Below place hub port) = None
+sender_of_owner b addr ep (Owners.Below place hub port stuff) = None
 
 abbrev pub sender_of_seat : Bus → ℕ → ℕ → Option Seat → Option Sender
 sender_of_seat b addr ep None = None

@@ -40,12 +40,13 @@ effect_ready _ h r = r
 pub requested_ready : (setup : List ℕ) (h : HubContent) → IsReady h → IsReady (requested setup h)
 requested_ready setup h r = effect_ready (request_at setup h) h r
 
-split_ready : (row : SplitRow) (ask : Ask) (out : List ℕ) (h : HubContent) → IsReady h → IsReady (after_split row ask out h)
-split_ready NoSplit ask out h r = r
-split_ready _ ask out h r = record { max = r.max; naks = r.naks }
+split_ready : (row : SplitRow) (ask : Ask) (out : List ℕ) (stuff : ℕ) (h : HubContent) → IsReady h
+    → IsReady (after_split row ask out stuff h)
+split_ready NoSplit ask out stuff h r = r
+split_ready _ ask out stuff h r = record { max = r.max; naks = r.naks }
 
-pub transacted_ready : (ask : Ask) (out : List ℕ) (h : HubContent) → IsReady h → IsReady (transacted ask out h)
-transacted_ready ask out h r = split_ready (split_row ask.split ask.kind) ask out h r
+pub transacted_ready : (ask : Ask) (out : List ℕ) (stuff : ℕ) (h : HubContent) → IsReady h → IsReady (transacted ask out stuff h)
+transacted_ready ask out stuff h r = split_ready (split_row ask.split ask.kind) ask out stuff h r
 
 pub worked_ready : {W : Type 0} (transacts : W → Ask → List ℕ → Reply → W → Type 0) (frindex : ℕ) (old : HubContent) (before : W) (new : HubContent) (after : W) → HubWorks transacts frindex old before new after → IsReady old → IsReady new
 worked_ready transacts frindex old before new after works r = subst IsReady (sym works.same) (record { max = r.max; naks = r.naks })

@@ -73,7 +73,7 @@ pub fn hubs_are_ready<W: Wire>()
     ensures by_request { (setup : List ℕ) (h : HubContent) → IsReady h → IsReady (requested setup h) }
     ensures by_answer { (ask : Asked) (out : List ℕ) (h : HubContent) → IsReady h → IsReady (hub_answered ask out h) }
     ensures by_acknowledgement { (ask : Asked) (h : HubContent) → IsReady h → IsReady (hub_acked ask h) }
-    ensures by_split { (ask : Asked) (out : List ℕ) (h : HubContent) → IsReady h → IsReady (transacted ask out h) }
+    ensures by_split { (ask : Asked) (out : List ℕ) (stuff : ℕ) (h : HubContent) → IsReady h → IsReady (transacted ask out stuff h) }
     ensures by_work { (frindex : ℕ) (old : HubContent) (before : W) (new : HubContent) (after : W)
         → HubWorks W.transacts frindex old before new after → IsReady old → IsReady new }
 {}

@@ -1,5 +1,5 @@
 -- The law over all events.
-use Rattle.std.proofs.Common.{◌≡◌, ℕ, ◌+◌, ◌-◌, ◌*◌, ◌<◌, ◌≤◌, min, true, false, List, [], ◌∷◌, ◌++◌, length, refl, ◌∙◌, ap, arith}
+use Rattle.std.proofs.Common.{◌≡◌, ℕ, ◌+◌, ◌-◌, ◌*◌, ◌<◌, ◌≤◌, min, true, false, List, [], ◌∷◌, ◌++◌, length, refl, sym, ◌∙◌, ap, subst, arith}
 use Rattle.std.specs.Prelude.{nat_le, nat_lt, ◌&&◌}
 use Rattle.std.proofs.lemmas.Bool.{lt-ltb, le-leb}
 use Rattle.usb_base.specs.declared.packets.Ask.{Ask}
@@ -20,13 +20,13 @@ use Rattle.tt_pipeline.specs.declared.rows.StartRow.{StartRow}
 use Rattle.tt_pipeline.specs.declared.rows.StartRow.TheVariants.{Enters, Joins, Forgotten}
 use Rattle.tt_pipeline.specs.Answers.{row_at}
 use Rattle.tt_pipeline.specs.Starting.{start_row, without_first}
-use Rattle.tt_pipeline.specs.Work.{called, called_for, is_ahead, is_ripe, is_iso_out, fresh}
+use Rattle.tt_pipeline.specs.Work.{called, called_unstuffed, called_for, is_ahead, is_ripe, is_iso_out, fresh}
 use Rattle.law_translator.specs.Plans.{Plan, laid, Fits}
 use Rattle.law_translator.specs.Frames.{Event, Start, Complete, Work, Drop, Clear, Watched, Frame, entries_of, is_of, begun, next, run, opening}
 use Rattle.law_translator.specs.Premises.{FollowsRow, Fair, FairAll, KeepsUp, AllKeepUp}
 use Rattle.law_translator.proofs.Keys.{Distinct, AllIn, distinct_snoc, all_in_snoc}
 use Rattle.law_translator.proofs.Sums.{due_fits, Sorted, sorted_snoc}
-use Rattle.law_translator.proofs.Owing.{Came, unseen, partial, ended, Owing, called_ended, not_both}
+use Rattle.law_translator.proofs.Owing.{Came, unseen, partial, ended, Owing, called_ended, unstuffed_same, not_both}
 use Rattle.law_translator.proofs.Work.{keys_of, AllOwe, keys_worked, work_keeps}
 use Rattle.law_translator.proofs.Starts.{fresh_owes, complete_all, join_all, without_all, owe_snoc, keys_given, keys_joined, keys_without, keys_snoc, all_begun, distinct_without, members_without, sorted_without, by_without, absent}
 
@@ -50,13 +50,15 @@ same_keys f now ws h e owe = record {
   owe = owe;
 }
 
-start_keeps : (row : StartRow) (f : Frame) (ask : Ask) (bytes : List ℕ) → Holds f → FollowsRow row f.plan f.now ask (length bytes) (entries_of f.watched) → Holds (record f { watched = begun row ask bytes f.watched })
-start_keeps Enters f ask bytes h follows =
+start_keeps : (row : StartRow) (f : Frame) (ask : Ask) (bytes : List ℕ) (stuff : ℕ) → stuff ≡ 0 → Holds f
+    → FollowsRow row f.plan f.now ask (length bytes) (entries_of f.watched)
+    → Holds (record f { watched = begun row ask bytes stuff f.watched })
+start_keeps Enters f ask bytes stuff none h follows =
     let k : Key = key_of ask in
     let left : List Watched = without_first (is_of k) f.watched in
     let e : keys_of left ≡ without_first (λ x. is_same_key x k) (keys_of f.watched) = keys_without k f.watched in
-    let all : keys_of (left ++ record { entry = fresh ask bytes; gaps = 0 } ∷ []) ≡ without_first (λ x. is_same_key x k) (keys_of f.watched) ++ k ∷ [] =
-    keys_snoc left (record { entry = fresh ask bytes; gaps = 0 }) ∙ ap (λ (ks : List Key). ks ++ k ∷ []) e
+    let all : keys_of (left ++ record { entry = fresh ask bytes stuff; gaps = 0 } ∷ []) ≡ without_first (λ x. is_same_key x k) (keys_of f.watched) ++ k ∷ [] =
+    keys_snoc left (record { entry = fresh ask bytes stuff; gaps = 0 }) ∙ ap (λ (ks : List Key). ks ++ k ∷ []) e
     in
     record {
       fits = h.fits;
@@ -64,14 +66,14 @@ start_keeps Enters f ask bytes h follows =
           rw all (sorted_snoc f.plan f.now k _ (sorted_without (λ x. is_same_key x k) f.plan _ h.sorted) (by_without (λ x. is_same_key x k) f.plan f.now _ (all_begun f.plan f.now f.watched h.owe)) follows.on_time);
       distinct = rw all (distinct_snoc k _ (distinct_without (λ x. is_same_key x k) _ h.distinct) (absent k _ h.distinct));
       members = rw all (all_in_snoc k _ f.plan.keys (members_without (λ x. is_same_key x k) _ f.plan.keys h.members) follows.placed);
-      owe = owe_snoc f.plan f.now left _ (without_all f.plan f.now k f.watched h.owe) (fresh_owes f.plan f.now ask bytes follows);
+      owe = owe_snoc f.plan f.now left _ (without_all f.plan f.now k f.watched h.owe) (fresh_owes f.plan f.now ask bytes stuff none follows);
     }
-start_keeps Joins f ask bytes h follows =
+start_keeps Joins f ask bytes stuff none h follows =
     same_keys f f.now _ h (keys_joined (key_of ask) ask bytes f.watched) (join_all f.plan f.now ask bytes f.watched h.owe follows)
-start_keeps Forgotten f ask bytes h follows = h
+start_keeps Forgotten f ask bytes stuff none h follows = h
 
 pub keeps : (f : Frame) (event : Event) → Holds f → Fair event f → Holds (next f event)
-keeps f (Start ask bytes) h fair = start_keeps (start_row ask (length bytes) (entries_of f.watched)) f ask bytes h fair
+keeps f (Start ask bytes stuff) h fair = start_keeps (start_row ask (length bytes) (entries_of f.watched)) f ask bytes stuff fair.0 h fair.1
 keeps f (Complete key) h fair =
     same_keys f f.now _ h (keys_given key f.watched) (complete_all f.plan f.now key f.watched h.owe)
 keeps f (Work replies) h fair =
@@ -106,16 +108,19 @@ made_one (Made reply) e pid asked some kind all = let all' = rw kind at all in r
 
 owed_kept : (p : Plan) (now : ℕ) (w : Watched) → Owing p now w → KeepsUp p now w
 owed_kept p now w o =
+    let plain : called_for w.entry ≡ called_unstuffed w.entry = unstuffed_same (called_unstuffed w.entry) w.entry.stuff o.unstuffed in
+    let below : w.entry.done ≤ called_for w.entry = subst (λ (n : ℕ). w.entry.done ≤ n) (sym plain) o.below in
+    let kept = subst (λ (n : ℕ). min (laid p w.entry.key (now - 1)) (n + 188 * w.gaps) ≤ w.entry.done + 188 * w.gaps) (sym plain) o.kept in
     let whole = λ (h : w.entry.heard.whole ≡ true) (all : p.times w.entry.key ≤ laid p w.entry.key (now - 1)).
-    whole_done p w.entry.key w.entry.ask w.entry.heard w.gaps now w.entry.done h o.heard o.below o.kept all
+    whole_done p w.entry.key w.entry.ask w.entry.heard w.gaps now w.entry.done h o.heard o.below o.kept all ∙ sym plain
     in
     record {
-      enough = o.kept;
-      no_more = o.below;
+      enough = kept;
+      no_more = below;
       whole = whole;
       answered = λ kind h all.
           let done : w.entry.done ≡ called_for w.entry = whole h all in
-          let c : called_for w.entry ≡ work_of w.entry.ask w.entry.heard.bytes = called_ended w.entry.ask w.entry.heard h in
+          let c : called_for w.entry ≡ work_of w.entry.ask w.entry.heard.bytes = plain ∙ called_ended w.entry.ask w.entry.heard h in
           let some : 0 < w.entry.done = rw (done, c, kind) (some_work w.entry.ask.speed _ o.classic) in
           made_one w.entry.exchange w.entry w.entry.ask.pid (rw kind at o.asked) some kind (le-leb _ _ (omega arith));
     }

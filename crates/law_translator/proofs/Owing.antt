@@ -4,10 +4,10 @@ use Rattle.std.specs.Prelude.{◌==◌, nat_lt}
 use Rattle.std.proofs.lemmas.Bool.{lt-ltb}
 use Rattle.usb_base.specs.declared.packets.Ask.{Ask}
 use Rattle.usb_base.specs.declared.packets.Speed.TheVariants.{High}
-use Rattle.hub_keys.specs.Asks.{work_of}
+use Rattle.hub_keys.specs.Asks.{work_of, stuffed}
 use Rattle.hub_keys.specs.declared.key.Key.{Key}
 use Rattle.tt_pipeline.specs.declared.entry.Brought.{Brought}
-use Rattle.tt_pipeline.specs.Work.{nothing_brought, called, called_for, is_due}
+use Rattle.tt_pipeline.specs.Work.{nothing_brought, called, called_unstuffed, is_due}
 use Rattle.law_translator.specs.Plans.{Plan, laid}
 use Rattle.law_translator.specs.Frames.{Watched, gap_between, gap_of}
 use Rattle.law_translator.proofs.Numbers.{Ready, Done, ready_even, even_more, even_same}
@@ -39,9 +39,10 @@ pub record Owing (p : Plan) (now : ℕ) (w : Watched) : Type 0 where
   pub seen : Seen w.entry.came
   pub grew : Grew p w.entry.key w.entry.ask w.entry.heard w.entry.before (before_gaps w)
   pub grows : Grew p w.entry.key w.entry.ask w.entry.before w.entry.came (came_gaps w)
-  pub below : w.entry.done ≤ called_for w.entry
-  pub kept : min (laid p w.entry.key (now - 1)) (called_for w.entry + 188 * w.gaps) ≤ w.entry.done + 188 * w.gaps
-  pub even : w.entry.heard.whole ≡ false → w.entry.done ≡ called_for w.entry
+  pub below : w.entry.done ≤ called_unstuffed w.entry
+  pub kept : min (laid p w.entry.key (now - 1)) (called_unstuffed w.entry + 188 * w.gaps) ≤ w.entry.done + 188 * w.gaps
+  pub even : w.entry.heard.whole ≡ false → w.entry.done ≡ called_unstuffed w.entry
+  pub unstuffed : w.entry.stuff ≡ 0
   pub plain : 0 < w.entry.came.parts → (n : ℕ) → work_of w.entry.ask n ≡ n + 9
   pub classic : w.entry.ask.speed ≡ High → ⊥
   pub asked : is_due w.entry ≡ false
@@ -62,6 +63,13 @@ gap_itself b h some =
     let lt : nat_lt 0 b.parts ≡ true = lt-ltb 0 b.parts some in
     let eq : (b.parts == b.parts) ≡ true = eq-eqb _ _ refl in
     rw (h, lt, eq) refl
+
+no_bits : (times : ℕ) → stuffed times 0 ≡ times
+no_bits times = omega arith
+
+-- without stuffed bits the byte-times are as they were
+pub unstuffed_same : (times stuff : ℕ) → stuff ≡ 0 → stuffed times stuff ≡ times
+unstuffed_same times stuff none = subst (λ (n : ℕ). stuffed times n ≡ times) (sym none) (no_bits times)
 
 pub not_both : (b : Brought) → b.whole ≡ true → b.whole ≡ false → ⊥
 not_both b h i = cc

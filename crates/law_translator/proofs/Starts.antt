@@ -25,7 +25,7 @@ use Rattle.tt_pipeline.specs.declared.rows.AnswerRow.{AnswerRow}
 use Rattle.tt_pipeline.specs.declared.rows.AnswerRow.TheVariants as Rows
 use Rattle.tt_pipeline.specs.Answers.{given, given_at, answer_row}
 use Rattle.tt_pipeline.specs.Starting.{has_key, with_first, without_first}
-use Rattle.tt_pipeline.specs.Work.{part_at, asked_part, nothing_brought, brought_by, one_more_part, fresh, joined, appended, called, is_ripe, is_ahead, is_iso_out}
+use Rattle.tt_pipeline.specs.Work.{part_at, asked_part, nothing_brought, brought_by, one_more_part, fresh, joined, appended, called, unstuffed_done, is_ripe, is_ahead, is_iso_out}
 use Rattle.law_translator.specs.Plans.{Plan}
 use Rattle.law_translator.specs.Frames.{Watched, gap_between, entries_of, is_of, changed}
 use Rattle.law_translator.specs.Premises.{In, FirstPart, IsFirst, LaterPart, IsLater, LaterOf}
@@ -49,14 +49,17 @@ not_ripe : (b : Bool) (e : Entry) → e.heard.whole ≡ false → e.done ≡ 0 �
 not_ripe true e w d = rw w refl
 not_ripe false e w d = rw d refl
 
-abbrev fresh_with : DataPart → Ask → List ℕ → Watched
-fresh_with part ask bytes = record { entry = record (fresh ask bytes) { came = brought_by part (length bytes) nothing_brought }; gaps = 0 }
+abbrev fresh_with : DataPart → Ask → List ℕ → ℕ → Watched
+fresh_with part ask bytes stuff =
+    record { entry = record (fresh ask bytes stuff) { came = brought_by part (length bytes) nothing_brought }; gaps = 0 }
 
 nothing_laid : (a s u : ℕ) → u ≤ s → min (min a (188 * (u - s))) (188 * 0 + 188 * 0) ≤ 0 + 188 * 0
 nothing_laid a s u h = omega arith
 
-fresh_by : (p : Plan) (now : ℕ) (ask : Ask) (bytes : List ℕ) (part : DataPart) → asked_part ask ≡ part → now ≡ p.first (key_of ask) → (ask.speed ≡ High → ⊥) → FirstPart part p (key_of ask) ask (length bytes) → Owing p now (fresh_with part ask bytes)
-fresh_by p now ask bytes All is time classic fits =
+fresh_by : (p : Plan) (now : ℕ) (ask : Ask) (bytes : List ℕ) (stuff : ℕ) (part : DataPart) → stuff ≡ 0 → asked_part ask ≡ part
+    → now ≡ p.first (key_of ask) → (ask.speed ≡ High → ⊥) → FirstPart part p (key_of ask) ask (length bytes)
+    → Owing p now (fresh_with part ask bytes stuff)
+fresh_by p now ask bytes stuff All none is time classic fits =
     let n : ℕ = length bytes in
     let z : work_of ask (0 + n) ≤ p.times (key_of ask) = rw (zero-add n) fits in
     record {
@@ -69,11 +72,12 @@ fresh_by p now ask bytes All is time classic fits =
       below = omega arith;
       kept = nothing_laid (p.times (key_of ask)) (p.first (key_of ask)) (now - 1) (omega arith);
       even = λ _. refl;
+      unstuffed = none;
       plain = λ some. absurd (omega arith);
       classic = classic;
-      asked = not_ripe (is_iso_out ask.kind ask.pid) (fresh_with All ask bytes).entry refl refl;
+      asked = not_ripe (is_iso_out ask.kind ask.pid) (fresh_with All ask bytes stuff).entry refl refl;
     }
-fresh_by p now ask bytes Begin is time classic (speed, size, fits) =
+fresh_by p now ask bytes stuff Begin none is time classic (speed, size, fits) =
     record {
       heard = unseen refl refl (omega arith);
       before = unseen refl refl (omega arith);
@@ -84,15 +88,17 @@ fresh_by p now ask bytes Begin is time classic (speed, size, fits) =
       below = omega arith;
       kept = nothing_laid (p.times (key_of ask)) (p.first (key_of ask)) (now - 1) (omega arith);
       even = λ _. refl;
+      unstuffed = none;
       plain = λ _. plain_of ask is speed;
       classic = classic;
-      asked = not_ripe (is_iso_out ask.kind ask.pid) (fresh_with Begin ask bytes).entry refl refl;
+      asked = not_ripe (is_iso_out ask.kind ask.pid) (fresh_with Begin ask bytes stuff).entry refl refl;
     }
-fresh_by p now ask bytes Middle is time classic fits = absurd fits
-fresh_by p now ask bytes End is time classic fits = absurd fits
+fresh_by p now ask bytes stuff Middle none is time classic fits = absurd fits
+fresh_by p now ask bytes stuff End none is time classic fits = absurd fits
 
-pub fresh_owes : (p : Plan) (now : ℕ) (ask : Ask) (bytes : List ℕ) → IsFirst p now ask (length bytes) → Owing p now (record { entry = fresh ask bytes; gaps = 0 })
-fresh_owes p now ask bytes h = fresh_by p now ask bytes (asked_part ask) refl h.on_time h.classic h.part
+pub fresh_owes : (p : Plan) (now : ℕ) (ask : Ask) (bytes : List ℕ) (stuff : ℕ) → stuff ≡ 0 → IsFirst p now ask (length bytes)
+    → Owing p now (record { entry = fresh ask bytes stuff; gaps = 0 })
+fresh_owes p now ask bytes stuff none h = fresh_by p now ask bytes stuff (asked_part ask) none refl h.on_time h.classic h.part
 
 -- ---- a later part
 
@@ -178,6 +184,7 @@ join_middle p now bytes w o h within size fits lacks =
       below = o.below;
       kept = o.kept;
       even = o.even;
+      unstuffed = o.unstuffed;
       plain = λ _. o.plain (omega (arith, h.parts, h.some));
       classic = o.classic;
       asked =
@@ -213,6 +220,7 @@ join_end p now bytes w o h fits =
       below = o.below;
       kept = o.kept;
       even = o.even;
+      unstuffed = o.unstuffed;
       plain = o.plain;
       classic = o.classic;
       asked =
@@ -255,6 +263,7 @@ given_by p now w n b o = record {
   below = o.below;
   kept = o.kept;
   even = o.even;
+  unstuffed = o.unstuffed;
   plain = o.plain;
   classic = o.classic;
   asked = rw (ripe_given (is_iso_out w.entry.ask.kind w.entry.ask.pid) w.entry n b) o.asked;
@@ -264,7 +273,7 @@ given_owes : (p : Plan) (now : ℕ) (w : Watched) (r : AnswerRow) → Owing p no
 given_owes p now w Rows.NotYet o = o
 given_owes p now w Rows.Result o = o
 given_owes p now w Rows.Unheard o = o
-given_owes p now w Rows.More o = given_by p now w (w.entry.done - 9) w.entry.ended o
+given_owes p now w Rows.More o = given_by p now w (unstuffed_done w.entry - 9) w.entry.ended o
 given_owes p now w Rows.Last o = given_by p now w w.entry.delivered true o
 
 key_given : (r : AnswerRow) (e : Entry) → (given_at r e).key ≡ e.key

@@ -9,6 +9,7 @@ use Rattle.tt_pipeline.specs.declared.entry.Entry.{Entry}
 use Rattle.tt_pipeline.specs.declared.entry.Exchange.{Exchange}
 use Rattle.tt_pipeline.specs.declared.entry.Exchange.TheVariants.{Ahead, Made}
 use Rattle.tt_pipeline.specs.declared.rows.AnswerRow.TheVariants.{NotYet, Result}
+use Rattle.hub_keys.specs.Asks.{stuffed}
 use Rattle.tt_pipeline.specs.Answers.{answer_row, answer_of, result_at, row_at}
 use Rattle.tt_pipeline.specs.Work.{called, called_for, is_due, is_ahead, moved, answered}
 use Rattle.tt_pipeline.specs.Working.{used_at, first_reply, later_replies}
@@ -53,7 +54,7 @@ stay_one p now room reply w o = λ kind whole row.
     let m : Entry = moved room w.entry in
     let made : is_ahead w.entry.exchange ≡ false = is_made w.entry.exchange w.entry row in
     let b : w.entry.before ≡ w.entry.heard = unchanged w.entry.heard w.entry.before p w _ whole o.grew in
-    let c : called w.entry.ask w.entry.before ≡ called_for w.entry = ap (λ (x : Brought). called w.entry.ask x) b in
+    let c : called_for m ≡ called_for w.entry = ap (λ (x : Brought). stuffed (called w.entry.ask x) w.entry.stuff) b in
     let le : called_for w.entry ≤ w.entry.done = leb-true _ _ (worked_out w.entry.exchange w.entry kind row) in
     let all : nat_le (called_for m) m.done ≡ true = le-leb _ _ (omega arith) in
     stay_moved (is_due m) reply m w.entry (not_due (is_ahead w.entry.exchange) _ made) (there w.entry.exchange m made kind all) row refl

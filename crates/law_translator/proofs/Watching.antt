@@ -34,11 +34,12 @@ snoc_entries : (ws : List Watched) (w : Watched) → entries_of (ws ++ w ∷ [])
 snoc_entries [] w = refl
 snoc_entries (x ∷ xs) w = ap (λ (es : List Entry). x.entry ∷ es) (snoc_entries xs w)
 
-begun_entries : (row : StartRow) (ask : Ask) (bytes : List ℕ) (ws : List Watched) → entries_of (begun row ask bytes ws) ≡ after_start row ask bytes (entries_of ws)
-begun_entries Enters ask bytes ws =
-    snoc_entries (without_first (is_of (key_of ask)) ws) (record { entry = fresh ask bytes; gaps = 0 }) ∙ ap (λ (es : List Entry). es ++ fresh ask bytes ∷ []) (without_entries (key_of ask) ws)
-begun_entries Joins ask bytes ws = with_entries (key_of ask) (joined ask bytes) ws
-begun_entries Forgotten ask bytes ws = refl
+begun_entries : (row : StartRow) (ask : Ask) (bytes : List ℕ) (stuff : ℕ) (ws : List Watched)
+    → entries_of (begun row ask bytes stuff ws) ≡ after_start row ask bytes stuff (entries_of ws)
+begun_entries Enters ask bytes stuff ws =
+    snoc_entries (without_first (is_of (key_of ask)) ws) (record { entry = fresh ask bytes stuff; gaps = 0 }) ∙ ap (λ (es : List Entry). es ++ fresh ask bytes stuff ∷ []) (without_entries (key_of ask) ws)
+begun_entries Joins ask bytes stuff ws = with_entries (key_of ask) (joined ask bytes) ws
+begun_entries Forgotten ask bytes stuff ws = refl
 
 worked_entries : (room : ℕ) (replies : List Reply) (ws : List Watched) → entries_of (worked_all room replies ws) ≡ turned_all room replies (entries_of ws)
 worked_entries room replies [] = refl
@@ -46,7 +47,7 @@ worked_entries room replies (w ∷ ws) =
     ap (λ (es : List Entry). turned room (first_reply replies) w.entry ∷ es) (worked_entries (room - used_at room w.entry) (later_replies replies) ws)
 
 watched_one : (f : Frame) (event : Event) → entries_of (next f event).watched ≡ contents_after event (entries_of f.watched)
-watched_one f (Start ask bytes) = begun_entries (start_row ask (length bytes) (entries_of f.watched)) ask bytes f.watched
+watched_one f (Start ask bytes stuff) = begun_entries (start_row ask (length bytes) (entries_of f.watched)) ask bytes stuff f.watched
 watched_one f (Complete key) = with_entries key given f.watched
 watched_one f (Work replies) = worked_entries 188 replies f.watched
 watched_one f _ = refl

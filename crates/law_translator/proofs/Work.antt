@@ -1,18 +1,18 @@
 -- The work of a microframe keeps up with what is laid.
-use Rattle.std.proofs.Common.{◌≡◌, ℕ, ◌+◌, ◌-◌, ◌*◌, ◌<◌, ◌≤◌, min, Bool, true, false, List, [], ◌∷◌, refl, subst, inl, inr, arith}
+use Rattle.std.proofs.Common.{◌≡◌, ℕ, ◌+◌, ◌-◌, ◌*◌, ◌<◌, ◌≤◌, min, Bool, true, false, List, [], ◌∷◌, refl, sym, ◌∙◌, ap, subst, inl, inr, arith}
 use Rattle.usb_base.specs.declared.packets.Reply.{Reply}
 use Rattle.usb_base.specs.declared.packets.Speed.TheVariants.{High}
 use Rattle.hub_keys.specs.Asks.{work_of}
 use Rattle.hub_keys.specs.declared.key.Key.{Key}
 use Rattle.tt_pipeline.specs.declared.entry.Entry.{Entry}
-use Rattle.tt_pipeline.specs.Work.{called, called_for, is_due, moved, answered}
+use Rattle.tt_pipeline.specs.Work.{called, called_unstuffed, is_due, moved, answered}
 use Rattle.tt_pipeline.specs.Working.{used_at, first_reply, later_replies}
 use Rattle.law_translator.specs.Plans.{Plan, laid, Fits}
 use Rattle.law_translator.specs.Frames.{Watched, worked_one, worked_all}
 use Rattle.law_translator.proofs.Keys.{Distinct, AllIn}
 use Rattle.law_translator.proofs.Sums.{due_at, total, later, Sorted}
-use Rattle.law_translator.proofs.Numbers.{Ready, work_one, work_used}
-use Rattle.law_translator.proofs.Owing.{Came, Grew, same, Seen, Owing, before_gaps, came_gaps, once_more, ready, even_after}
+use Rattle.law_translator.proofs.Numbers.{Ready, Done, work_one, work_used}
+use Rattle.law_translator.proofs.Owing.{Came, Grew, same, Seen, Owing, before_gaps, came_gaps, once_more, ready, even_after, unstuffed_same}
 
 -- an entry before its turn
 pub ready_for : (p : Plan) (now : ℕ) (w : Watched) → Owing p now w → Ready (p.times w.entry.key) (p.first w.entry.key) now (called w.entry.ask w.entry.before) w.entry.done (before_gaps w)
@@ -27,9 +27,10 @@ record Standing (p : Plan) (now : ℕ) (w : Watched) : Type 0 where
   seen : Seen w.entry.came
   grew : Grew p w.entry.key w.entry.ask w.entry.heard w.entry.before (before_gaps w)
   grows : Grew p w.entry.key w.entry.ask w.entry.before w.entry.came (came_gaps w)
-  below : w.entry.done ≤ called_for w.entry
-  kept : min (laid p w.entry.key (now - 1)) (called_for w.entry + 188 * w.gaps) ≤ w.entry.done + 188 * w.gaps
-  even : w.entry.heard.whole ≡ false → w.entry.done ≡ called_for w.entry
+  below : w.entry.done ≤ called_unstuffed w.entry
+  kept : min (laid p w.entry.key (now - 1)) (called_unstuffed w.entry + 188 * w.gaps) ≤ w.entry.done + 188 * w.gaps
+  even : w.entry.heard.whole ≡ false → w.entry.done ≡ called_unstuffed w.entry
+  unstuffed : w.entry.stuff ≡ 0
   plain : 0 < w.entry.came.parts → (n : ℕ) → work_of w.entry.ask n ≡ n + 9
   classic : w.entry.ask.speed ≡ High → ⊥
 
@@ -45,6 +46,7 @@ owing_of p now m g reply true is o = record {
   below = o.below;
   kept = o.kept;
   even = o.even;
+  unstuffed = o.unstuffed;
   plain = o.plain;
   classic = o.classic;
   asked = refl;
@@ -59,17 +61,28 @@ owing_of p now m g reply false is o = record {
   below = o.below;
   kept = o.kept;
   even = o.even;
+  unstuffed = o.unstuffed;
   plain = o.plain;
   classic = o.classic;
   asked = is;
 }
 
+-- the byte-times that it takes
+used_one : (room : ℕ) (w : Watched) → w.entry.stuff ≡ 0 → used_at room w.entry ≡ min room (called w.entry.ask w.entry.before - w.entry.done)
+used_one room w none = ap (λ (n : ℕ). min room (n - w.entry.done)) (unstuffed_same (called w.entry.ask w.entry.before) w.entry.stuff none)
+
 -- an entry's turn, in a room for what is due
 turn_keeps : (p : Plan) (now room : ℕ) (reply : Reply) (w : Watched) → Owing p now w → due_at p w.entry.key now ≤ room → Owing p (now + 1) (worked_one room reply w)
 turn_keeps p now room reply w o fits =
     let m : Entry = moved room w.entry in
-    let done = work_one _ _ _ _ _ _ room (ready_for p now w o) fits in
-    let even = even_after p w.entry.key w.entry.ask w.entry.heard w.entry.before w.gaps (before_gaps w) now w.entry.done room o.grew o.before o.even done in
+    let raw = work_one _ _ _ _ _ _ room (ready_for p now w o) fits in
+    let taken : m.done ≡ w.entry.done + min room (called w.entry.ask w.entry.before - w.entry.done) = ap (λ (n : ℕ). w.entry.done + n) (used_one room w o.unstuffed) in
+    let done : Done (p.times w.entry.key) (p.first w.entry.key) now (called w.entry.ask w.entry.before) m.done (before_gaps w) =
+    subst (λ (n : ℕ). Done (p.times w.entry.key) (p.first w.entry.key) now (called w.entry.ask w.entry.before) n (before_gaps w)) (sym taken) raw
+    in
+    let even = λ (lacks : w.entry.before.whole ≡ false).
+    taken ∙ even_after p w.entry.key w.entry.ask w.entry.heard w.entry.before w.gaps (before_gaps w) now w.entry.done room o.grew o.before o.even raw lacks
+    in
     let back : now ≡ now + 1 - 1 = omega arith in
     let heard = subst (λ (u : ℕ). Came p w.entry.key w.entry.ask w.entry.before (before_gaps w) u) back o.before in
     let kept = subst (λ (u : ℕ). min (laid p w.entry.key u) (called w.entry.ask w.entry.before + 188 * before_gaps w) ≤ m.done + 188 * before_gaps w) back done.kept in
@@ -83,6 +96,7 @@ turn_keeps p now room reply w o fits =
       below = done.below;
       kept = kept;
       even = even;
+      unstuffed = o.unstuffed;
       plain = o.plain;
       classic = o.classic;
     } in
@@ -107,6 +121,12 @@ keys_worked room replies (w ∷ ws) =
     let rest = keys_worked (room - used_at room w.entry) (later_replies replies) ws in
     cc
 
+-- an entry that is laid whole takes no more than what is due
+used_within : (p : Plan) (now room : ℕ) (w : Watched) → Owing p now w → p.times w.entry.key ≤ laid p w.entry.key now
+    → used_at room w.entry ≤ due_at p w.entry.key now
+used_within p now room w o whole =
+    subst (λ (n : ℕ). n ≤ due_at p w.entry.key now) (sym (used_one room w o.unstuffed)) (work_used _ _ _ _ _ _ room (ready_for p now w o) whole)
+
 first_fits : (a b room : ℕ) → a + b ≤ room → a ≤ room
 first_fits a b room h = omega arith
 
@@ -126,7 +146,7 @@ work_keeps p fits now room replies (w ∷ ws) owe sorted distinct members within
     elim (later p fits now w.entry.key (keys_of ws) members.0 members.1 distinct.0 sorted.0) [
       | inl none ↦ none_left (due_at p w.entry.key now) sum room (used_at room w.entry) within none
       | inr whole ↦
-          rest_fits (due_at p w.entry.key now) sum room (used_at room w.entry) within (work_used _ _ _ _ _ _ room (ready_for p now w owe.0) whole)
+          rest_fits (due_at p w.entry.key now) sum room (used_at room w.entry) within (used_within p now room w owe.0 whole)
     ]
     in (
       turn_keeps p now room (first_reply replies) w owe.0 here,

@@ -5,18 +5,9 @@ use Rattle.usb_base.specs.declared.packets.Reply.{Reply}
 use Rattle.hub_keys.specs.Asks.{classic_of}
 use Rattle.tt_pipeline.specs.declared.entry.Entry.{Entry}
 use Rattle.tt_pipeline.specs.Work.{moved, is_due, sent_of, answered, Asks}
-use Rattle.tt_pipeline.specs.Working.{used_at, Works, turned, turned_all, reply_at, wire_at, wire_turned, entries_after, wire_worked}
+use Rattle.tt_pipeline.specs.Working.{used_at, Works, turned, reply_at, wire_at, wire_turned, entries_after, wire_worked}
 
 module _ {W : Type 0} (transacts : W → Ask → List ℕ → Reply → W → Type 0) where
-  -- what works is what the function of some replies gives
-  pub works_turned : (room : ℕ) (es : List Entry) (before after : W) (new : List Entry) → Works transacts room es before after new → (replies : List Reply) × (new ≡ turned_all room replies es)
-  works_turned room [] before after new (same, none) = ([], none)
-  works_turned room (e ∷ es) before after new (mid, first, rest, turn, works, is) =
-      let r = works_turned (room - used_at room e) es mid after rest works in
-      let a : first ≡ turned room turn.reply e = turn.becomes in
-      let b : rest ≡ turned_all (room - used_at room e) r.0 es = r.1 in
-      (turn.reply ∷ r.0, is ∙ (ap (λ (x : Entry). x ∷ rest) a ∙ ap (λ (xs : List Entry). turned room turn.reply e ∷ xs) b))
-
   module _ (reply_of : W → Ask → List ℕ → Reply) (wire_after : W → Ask → List ℕ → W) (is_function : (w : W) (ask : Ask) (out : List ℕ) (reply : Reply) (v : W) → transacts w ask out reply v → (reply ≡ reply_of w ask out) × (v ≡ wire_after w ask out)) where
     entry_told : (b : Bool) (m : Entry) (before after : W) (reply : Reply) → Asks transacts b m before reply after → answered b reply m ≡ answered b (reply_of before (classic_of m.ask) (sent_of m)) m
     entry_told true m before after reply asks =

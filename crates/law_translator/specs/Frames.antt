@@ -18,7 +18,7 @@ use Rattle.tt_pipeline.specs.Working.{budget, used_at, turned, turned_all, first
 use Rattle.law_translator.specs.Plans.{Plan}
 
 pub data Event : Type 0 where
-  Start : (ask : Ask) (bytes : List ℕ) → Event  -- a start-split comes
+  Start : (ask : Ask) (bytes : List ℕ) (stuff : ℕ) → Event  -- a start-split comes, of an endpoint with so many stuffed bits
   Complete : (key : Key) → Event  -- a complete-split comes
   Work : (replies : List Reply) → Event  -- the next microframe begins: the pipeline works for the one that ended
   Drop : (plan : Plan) → Event  -- after the work at a frame's begin the entries are dropped; the frame has this plan
@@ -54,10 +54,10 @@ is_of k w = has_key k w.entry
 abbrev pub changed : (Entry → Entry) → Watched → Watched
 changed f w = record w { entry = f w.entry }
 
-abbrev pub begun : StartRow → Ask → List ℕ → List Watched → List Watched
-begun Enters ask bytes ws = without_first (is_of (key_of ask)) ws ++ record { entry = fresh ask bytes; gaps = 0 } ∷ []
-begun Joins ask bytes ws = with_first (is_of (key_of ask)) (changed (joined ask bytes)) ws
-begun Forgotten ask bytes ws = ws
+abbrev pub begun : StartRow → Ask → List ℕ → ℕ → List Watched → List Watched
+begun Enters ask bytes stuff ws = without_first (is_of (key_of ask)) ws ++ record { entry = fresh ask bytes stuff; gaps = 0 } ∷ []
+begun Joins ask bytes stuff ws = with_first (is_of (key_of ask)) (changed (joined ask bytes)) ws
+begun Forgotten ask bytes stuff ws = ws
 
 abbrev pub worked_one : ℕ → Reply → Watched → Watched
 worked_one room reply w = record { entry = turned room reply w.entry; gaps = w.gaps + gap_of w.entry }
@@ -68,7 +68,8 @@ worked_all room replies (w ∷ ws) =
     worked_one room (first_reply replies) w ∷ worked_all (room - used_at room w.entry) (later_replies replies) ws
 
 abbrev pub next : Frame → Event → Frame
-next f (Start ask bytes) = record f { watched = begun (start_row ask (length bytes) (entries_of f.watched)) ask bytes f.watched }
+next f (Start ask bytes stuff) =
+    record f { watched = begun (start_row ask (length bytes) (entries_of f.watched)) ask bytes stuff f.watched }
 next f (Complete key) = record f { watched = with_first (is_of key) (changed given) f.watched }
 next f (Work replies) = record f { now = f.now + 1; watched = worked_all budget replies f.watched }
 next f (Drop plan) = record { plan = plan; now = 0; watched = [] }
@@ -80,7 +81,7 @@ run (event ∷ events) f = run events (next f event)
 
 -- the entries alone
 abbrev pub contents_after : Event → List Entry → List Entry
-contents_after (Start ask bytes) es = started ask bytes es
+contents_after (Start ask bytes stuff) es = started ask bytes stuff es
 contents_after (Complete key) es = completed key es
 contents_after (Work replies) es = turned_all budget replies es
 contents_after (Drop plan) es = []

@@ -1,6 +1,6 @@
 -- Starts that come from a plan that fits, and what the translator has done for them.
 --     Follows p now ask ..    a start is one that the plan calls for
---     FairAll                 each start of a run is, and each plan fits
+--     FairAll                 each start of a run is, no endpoint has stuffed bits, and each plan fits
 --     KeepsUp, IsThere        the work that is laid is done; what is laid whole is answered
 use Rattle.std.specs.Prelude.{◌≡◌, ◌⊎◌, ℕ, ◌+◌, ◌-◌, ◌*◌, ◌≤◌, ◌<◌, min, true, false, List, [], ◌∷◌, length, Option, Some, None}
 use Rattle.std.specs.List.{find}
@@ -69,13 +69,13 @@ abbrev pub Follows : Plan → ℕ → Ask → ℕ → List Entry → Type 0
 Follows p now ask n es = FollowsRow (start_row ask n es) p now ask n es
 
 abbrev pub Fair : Event → Frame → Type 0
-Fair (Start ask bytes) f = Follows f.plan f.now ask (length bytes) (entries_of f.watched)
+Fair (Start ask bytes stuff) f = (stuff ≡ 0) × Follows f.plan f.now ask (length bytes) (entries_of f.watched)
 Fair (Complete key) f = Unit {0}
 Fair (Work replies) f = Unit {0}
 Fair (Drop plan) f = Fits plan
 Fair Clear f = Unit {0}
 
--- each start of the run is one that the plan of its frame calls for, and each plan fits
+-- each start of the run is one that the plan of its frame calls for, with no stuffed bits, and each plan fits
 abbrev pub FairAll : List Event → Frame → Type 0
 FairAll [] f = Unit {0}
 FairAll (event ∷ events) f = Fair event f × FairAll events (next f event)

@@ -1,5 +1,5 @@
 -- Two plans and their runs, for worked rows.
-use Rattle.std.specs.Prelude.{◌==◌, if◌then◌else◌, List, [], ◌∷◌, replicate}
+use Rattle.std.specs.Prelude.{ℕ, ◌==◌, if◌then◌else◌, List, [], ◌∷◌, replicate}
 use Rattle.usb_base.specs.declared.packets.DataPart.TheVariants.{Begin, End}
 use Rattle.usb_base.specs.declared.packets.Pid.TheVariants.{Data0}
 use Rattle.usb_base.specs.declared.packets.Reply.TheVariants.{Bytes}
@@ -16,13 +16,20 @@ full_plan = record {
   times = λ k. if k.ep == 3 then 34 else 77;
 }
 
+-- their starts, and a microframe
+abbrev pub starts_of : ℕ → List Event → List Event
+starts_of stuff events =
+    Start (interrupt_in 1 64) [] stuff ∷ Start (interrupt_in 2 64) [] stuff ∷ Start (interrupt_in 3 21) [] stuff ∷ Work [] ∷ events
+
 abbrev pub full_starts : List Event
-full_starts =
-    Start (interrupt_in 1 64) [] ∷ Start (interrupt_in 2 64) [] ∷ Start (interrupt_in 3 21) [] ∷ Work [] ∷ []
+full_starts = starts_of 0 []
+
+-- and a second one, in which each device answers
+abbrev pub run_of : ℕ → List Event
+run_of stuff = starts_of stuff (Work (replicate 3 (Bytes Data0 (7 ∷ []))) ∷ [])
 
 abbrev pub full_run : List Event
-full_run =
-    Start (interrupt_in 1 64) [] ∷ Start (interrupt_in 2 64) [] ∷ Start (interrupt_in 3 21) [] ∷ Work [] ∷ Work (replicate 3 (Bytes Data0 (7 ∷ []))) ∷ []
+full_run = run_of 0
 
 -- an isochronous OUT of 400 bytes in microframes 1 to 3
 abbrev pub out_plan : Plan
@@ -31,4 +38,5 @@ out_plan = record { keys = key_of (iso_out Begin 1) ∷ []; first = λ k. 1; tim
 -- its middle part is lost
 abbrev pub out_run : List Event
 out_run =
-    Work [] ∷ Start (iso_out Begin 1) (replicate 188 1) ∷ Work [] ∷ Work [] ∷ Start (iso_out End 1) (replicate 24 3) ∷ Work [] ∷ Work [] ∷ []
+    Work [] ∷ Start (iso_out Begin 1) (replicate 188 1) 0 ∷ Work [] ∷ Work []
+    ∷ Start (iso_out End 1) (replicate 24 3) 0 ∷ Work [] ∷ Work [] ∷ []

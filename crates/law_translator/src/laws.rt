@@ -9,8 +9,8 @@ ghost use Rattle.law_translator.specs.Laws.{KeepsUpWithPlans, AnswersStay, Works
 use usb_base::Wire;
 
 /// Whatever the wire answers, whichever starts are lost or short, and whatever else is asked: where each start that
-/// comes is one that the plan of its frame calls for, and each plan lays at most 188 byte-times in a microframe, each
-/// entry has had what is laid for it. An interrupt that is laid whole has its answer there.
+/// comes is one that the plan of its frame calls for, no endpoint has stuffed bits, and each plan lays at most 188
+/// byte-times in a microframe, each entry has had what is laid for it. An interrupt that is laid whole has its answer there.
 pub fn a_plan_that_fits_is_done()
     ensures { KeepsUpWithPlans }
 {}

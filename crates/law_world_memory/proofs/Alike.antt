@@ -55,6 +55,7 @@ use Rattle.law_driver.specs.queued_drivers.Rows.{QueuesAlike}
 use Rattle.law_driver.proofs.lemmas.queued_drivers.RowTurns.{alike_subst}
 use Rattle.law_queues.specs.open_laws.Queues.{IsOpenThere, IsNewPart}
 use Rattle.law_world_memory.specs.Mixed.{QueuesGoOn}
+use Rattle.law_world_memory.specs.SameQueues.{IsRelinked, IsSameQueue}
 
 -- ---- the same queues
 
@@ -204,21 +205,7 @@ there_alike g f parts alike k = record {
 
 -- ---- structures of one queue head that differ at most in its link
 
-pub record IsRelinked (part : Structures) (n : ℕ) (q : Qh) : Type 0 where
-  link : LinkBits
-  here : part n ≡ Some (QueueHead (record q { link = link }))
-
--- those that are no structures of a queue may differ
-pub record IsSameQueue (n : ℕ) (part now : Structures) : Type 0 where
-  elements : (a : ℕ) (t : Qtd) → part a ≡ Some (Element t) → now a ≡ Some (Element t)
-  elements_were : (a : ℕ) (t : Qtd) → now a ≡ Some (Element t) → part a ≡ Some (Element t)
-  buffers : (a : ℕ) (pages : List ℕ) (j : ℕ) (bs : List ℕ) → part a ≡ Some (Buffer pages j bs) → now a ≡ Some (Buffer pages j bs)
-  buffers_were : (a : ℕ) (pages : List ℕ) (j : ℕ) (bs : List ℕ) → now a ≡ Some (Buffer pages j bs) → part a ≡ Some (Buffer pages j bs)
-  bytes : (a : ℕ) → bytes_in (now a) ≡ bytes_in (part a)
-  head : (q : Qh) → part n ≡ Some (QueueHead q) → IsRelinked now n q
-  head_was : (q : Qh) → now n ≡ Some (QueueHead q) → IsRelinked part n q
-
-same_itself : (n : ℕ) (part : Structures) → IsSameQueue n part part
+pub same_itself : (n : ℕ) (part : Structures) → IsSameQueue n part part
 same_itself n part = record {
   elements = λ a t is. is;
   elements_were = λ a t is. is;
@@ -472,6 +459,11 @@ module _ (parts : StructureSets) (m : ℕ) (s r : Structure) (here : parts m m �
         ⊎_elim {C = IsRelinked (parts n) n q} (λ (same : put_now n n ≡ parts n n). record { link = q.link; here = sym same ∙ is })
         (λ (own : IsOwn n n). let h = head_before s r q like (same_Some r (QueueHead q) (sym own.is ∙ is)) in record { link = h.link; here = own.was ∙ ap (λ (z : Structure). Some z) h.is }) (which n n);
   }
+
+-- the queue head at m has another link
+pub relinked_same : (parts : StructureSets) (m : ℕ) (q : Qh) (l : LinkBits) → parts m m ≡ Some (QueueHead q) → (n : ℕ)
+    → IsSameQueue n (parts n) (put parts m m (QueueHead (record q { link = l })) n)
+relinked_same parts m q l here = put_is_same parts m (QueueHead q) (QueueHead (record q { link = l })) here (a_head q l)
 
 -- ---- a store of the frame list
 

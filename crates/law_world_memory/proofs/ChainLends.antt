@@ -1,53 +1,44 @@
--- The structures of an accepted open of an interrupt endpoint are lent: the world goes on, and the open waits for its first store, or is finished where nothing is to be linked.
-use Rattle.std.proofs.Common.{◌≡◌, ◌≢◌, ℕ, ◌*◌, false, [], Option, Some, None, ap, refl, sym, subst, ◌∙◌, ⊎_elim, inr}
+-- The structures of an accepted open of an interrupt endpoint are lent: the world goes on, and the open waits for its first store.
+use Rattle.std.proofs.Common.{◌≡◌, ◌≢◌, ℕ, ◌*◌, false, Option, Some, ap, sym, subst, ◌∙◌, inr}
 use Rattle.mem_runs.specs.Book.{Book, holding, lend_taken}
-use Rattle.drv_periodic.specs.declared.work.Work.{Work}
 use Rattle.drv_table.specs.declared.content.Command.{Command}
 use Rattle.drv_table.specs.declared.content.Command.TheVariants as unfinished
-use Rattle.drv_table.specs.declared.content.Endpoint.{Endpoint}
 use Rattle.drv_table.specs.declared.rows.DriverRow.{DriverRow}
 use Rattle.drv_table.specs.declared.rows.DriverRow.TheVariants as rows
 use Rattle.drv_table.specs.DriverContent.{DriverContent}
 use Rattle.drv_table.specs.Words.{dummy_qtd}
 use Rattle.drv_table.specs.Parts.{Parts}
-use Rattle.drv_table.specs.Commands.{command_row}
-use Rattle.drv_table.specs.Rows.{row_for, driver_row, after_driver_row}
+use Rattle.drv_table.specs.Rows.{driver_row, after_driver_row}
 use Rattle.law_driver.specs.run_owners.Due.{IsDue}
 use Rattle.claims_driver.specs.Leaving.{HasOwners}
-use Rattle.law_driver.proofs.lemmas.run_owners.Laws.{event_owned}
 use Rattle.law_driver.proofs.lemmas.run_owners.Reasons.{each_is_due}
-use Rattle.claims_driver.specs.FrameListMembers.{IsUnderWay as IsListedWay}
 use Rattle.law_structures.specs.lent_structures.Structures.{StructureSets, QueueHead, Element, put}
 use Rattle.law_structures.proofs.lemmas.lent_structures.Names.{put_beside}
 use Rattle.law_driver_ring.specs.Inventory.{sorts_of}
-use Rattle.law_driver_ring.specs.Linked.{with_member}
 use Rattle.claims_base.specs.Controller.{opening_base}
-use Rattle.law_controller.specs.controlled_streams.Opened.{with_end, with_none}
-use Rattle.law_driver.specs.chained_transfers.AsynchronousTurns.{AsynchronousTakesTurns}
-use Rattle.law_driver.proofs.lemmas.chained_transfers.Events.{event_queues}
 use Rattle.law_driver_ring.specs.fed_queues.Places.{AreMet}
 use Rattle.law_frames.specs.Met.{IsQueuePart}
 use Rattle.law_descriptors.specs.queue_events.Events.{PartsStand}
 use Rattle.law_world_memory.specs.framed_memory.Chained.{chained_queue, chained_parts, IsChainLent, ChainIsLent}
 use Rattle.law_world_memory.proofs.lemmas.framed_memory.ChainedLent.{driver_begun, chain_lends}
-use Rattle.law_queues.specs.open_laws.Opens.{end_then, streams_then}
-use Rattle.law_queues.specs.open_laws.Queues.{IsOpenToLend, IsOpenThere, open_lent, open_finished}
+use Rattle.law_queues.specs.open_laws.Queues.{IsOpenToLend, IsOpenThere, open_lent}
 use Rattle.law_queues.proofs.lemmas.open_laws.LentQueues.{open_lend_is_made}
 use Rattle.law_world_steps.specs.control_queues.Queues.{IsOpenLentWhole}
 use Rattle.law_world_steps.proofs.lemmas.control_queues.OpenLends.{open_lend_is_whole}
 use Rattle.law_driver.specs.queued_drivers.Queued.{queued, queued_parts}
-use Rattle.law_driver.specs.queued_drivers.Rows.{QueuesAlike, LinksOn, IsLentAlike, IsFinishedAlike}
-use Rattle.law_driver.proofs.lemmas.queued_drivers.RowFrames.{chain_lends as lends_alike, chain_finishes}
+use Rattle.law_driver.specs.queued_drivers.Rows.{QueuesAlike, LinksOn, IsLentAlike}
+use Rattle.law_driver.proofs.lemmas.queued_drivers.RowFrames.{chain_lends as lends_alike}
 use Rattle.law_driver.proofs.lemmas.queued_drivers.RowOwners.{queued_owners}
 use Rattle.law_queues.proofs.lemmas.publish_laws.Apart.{thirty_two}
 use Rattle.bus_world.specs.World.{World, driver_parts, controller_parts, driver_next}
-use Rattle.law_world_memory.specs.Mixed.{QueuesGoOn, IsChainToLend, IsChainThere, IsUnderWay, Standing, IsMixedAt, IsMixedWorld}
+use Rattle.law_world_memory.specs.Mixed.{QueuesGoOn, IsChainToLend, IsChainThere, IsUnderWay, Standing, IsMixedAt}
+use Rattle.law_world_memory.specs.Steps.{QueueStep, begins, IsMixedNext}
 use Rattle.law_world_memory.proofs.Unfinished.{none_unfinished}
 use Rattle.law_world_memory.proofs.Next.{mixed_next}
 use Rattle.law_world_memory.proofs.QueueViews.{queued_driven}
 use Rattle.law_world_memory.proofs.Alike.{same_lent, goes_on_alike, there_alike}
 use Rattle.law_world_memory.proofs.ChainReady.{off_ring, queue, kept, frames, to_lend}
-use Rattle.law_world_memory.proofs.ChainSteps.{AfterChain, after_chain, finishes, ring_on, finished_goes}
+use Rattle.law_world_memory.proofs.ChainSteps.{AfterChain, after_chain, chain_stays, ring_on}
 
 module _ (s : Standing) (w : World) (k : IsMixedAt s w) (t : IsChainToLend w.driver w.memory) where
   abbrev d : DriverContent
@@ -114,20 +105,8 @@ module _ (s : Standing) (w : World) (k : IsMixedAt s w) (t : IsChainToLend w.dri
   lent_goes = record { queues = whole.queues; sound = lent_sound; tails = whole.tails k.queues.tails; controls = whole.controls k.queues.controls }
 
   -- .. and the driver of its queues had this event
-  told_is : driver_row (queued_parts (driver_parts w)) ≡ rows.Lend
-  told_is = ap (row_for (queued_parts p)) lending.command ∙ ap (command_row (unfinished.Open t.ready.endpoint.queue)) lending.made
-
   made_is : (after_driver_row rows.Lend (queued_parts (driver_parts w))).driver ≡ lent
   made_is = open_lend_is_made (queued_parts p) lending
-
-  row_made : (after_driver_row (driver_row (queued_parts (driver_parts w))) (queued_parts (driver_parts w))).driver ≡ lent
-  row_made = ap (λ (row : DriverRow). (after_driver_row row (queued_parts p)).driver) told_is ∙ made_is
-
-  lent_owners : HasOwners lent
-  lent_owners = subst HasOwners row_made (event_owned (queued_parts p) told_owners)
-
-  lent_turns : AsynchronousTakesTurns lent
-  lent_turns = subst AsynchronousTakesTurns row_made (event_queues (queued_parts p) told_owners k.turns.turns)
 
   -- ---- the driver then
 
@@ -138,104 +117,52 @@ module _ (s : Standing) (w : World) (k : IsMixedAt s w) (t : IsChainToLend w.dri
       (ring_on d f t.ready.command (record { endpoints = same.endpoints; waiting = same.waiting; rung = same.rung; command = same.command }) s.member k.ring)
 
   -- the open waits for its first store
-  module _ (on : f.command ≡ Some unfinished.Chain) where
-    links_on : LinksOn (driver_parts w) rows.Lend
-    links_on = record { chain = t.ready.command; unfinished = λ none. none_unfinished unfinished.Chain (sym none ∙ on) }
+  on : f.command ≡ Some unfinished.Chain
+  on =
+      ap (λ (g : DriverContent). g.command) (sym driver_is)
+      ∙ ap (λ (g : DriverContent). g.command) (driver_begun opening_base s.member s.recent s.descs s.parts s.hand s.frame (controller_parts w) w.driver k.now t.ready)
+      ∙ chain_stays (record d { book = book }) d.periodic t.work t.begun ∙ t.ready.command
 
-    like : IsLentAlike (driver_parts w)
-    like = lends_alike p due links_on
+  links_on : LinksOn (driver_parts w) rows.Lend
+  links_on = record { chain = t.ready.command; unfinished = λ none. none_unfinished unfinished.Chain (sym none ∙ on) }
 
-    queues_on : QueuesAlike lent (queued f)
-    queues_on = subst (λ (g : DriverContent). QueuesAlike g (queued f)) made_is like.queues
+  like : IsLentAlike (driver_parts w)
+  like = lends_alike p due links_on
 
-    goes_on : QueuesGoOn (queued f) s.near s.streams s.ends parts s.order s.out
-    goes_on = goes_on_alike lent (queued f) s.near s.streams s.ends parts s.order s.out queues_on (same_lent lent (queued f) (like.book ∙ ap (λ (g : DriverContent). g.book) made_is)) lent_goes
+  queues_on : QueuesAlike lent (queued f)
+  queues_on = subst (λ (g : DriverContent). QueuesAlike g (queued f)) made_is like.queues
 
-    there_on : IsOpenThere (queued f) parts
-    there_on = there_alike lent (queued f) parts queues_on whole.there
+  goes_on : QueuesGoOn (queued f) s.near s.streams s.ends parts s.order s.out
+  goes_on = goes_on_alike lent (queued f) s.near s.streams s.ends parts s.order s.out queues_on (same_lent lent (queued f) (like.book ∙ ap (λ (g : DriverContent). g.book) made_is)) lent_goes
 
-    -- what was opened is what is told of it
-    its_queue : there_on.endpoint.queue ≡ t.ready.endpoint.queue
-    its_queue = open_queue (sym there_on.command ∙ queues_on.command ∙ lending.command)
-      where
-        open_queue : {a b : ℕ} → ◌≡◌ {A = Option Command} (Some (unfinished.Open a)) (Some (unfinished.Open b)) → a ≡ b
-        open_queue same = cc
+  there_on : IsOpenThere (queued f) parts
+  there_on = there_alike lent (queued f) parts queues_on whole.there
 
-    unmet : s.member (32 * there_on.endpoint.queue) ≡ false
-    unmet =
-        ap (λ (q : ℕ). s.member (32 * q)) its_queue
-        ∙ off_ring d s.member t.ready.number t.ready.endpoint owners k.ring t.ready.here (queue d w.memory owners t.ready t.newest) (frames d w.memory owners t.ready t.newest) (kept d w.memory owners t.ready t.newest)
+  -- what was opened is what is told of it
+  its_queue : there_on.endpoint.queue ≡ t.ready.endpoint.queue
+  its_queue = open_queue (sym there_on.command ∙ queues_on.command ∙ lending.command)
+    where
+      open_queue : {a b : ℕ} → ◌≡◌ {A = Option Command} (Some (unfinished.Open a)) (Some (unfinished.Open b)) → a ≡ b
+      open_queue same = cc
 
-    waits : (o : Option Work) → w.driver.periodic.list.work ≡ o → IsChainLent (driver_next w).driver s.member s.recent parts
-    waits (Some v) is = lends.lent v is
-    waits None is =
-        let none_queued : w.driver.periodic.queued ≡ [] = (subst (IsListedWay w.driver) t.ready.command k.now.framed.place.sound.listed.way).1 in
-        absurd (none_unfinished unfinished.Chain
-        (sym (sym on ∙ sym (ap (λ (g : DriverContent). g.command) driver_is)
-        ∙ ap (λ (g : DriverContent). g.command) (driver_begun opening_base s.member s.recent s.descs s.parts s.hand s.frame (controller_parts w) w.driver k.now t.ready)
-        ∙ finishes (record d { book = book }) d.periodic is none_queued)))
+  unmet : s.member (32 * there_on.endpoint.queue) ≡ false
+  unmet =
+      ap (λ (q : ℕ). s.member (32 * q)) its_queue
+      ∙ off_ring d s.member t.ready.number t.ready.endpoint owners k.ring t.ready.here (queue d w.memory owners t.ready t.newest) (frames d w.memory owners t.ready t.newest) (kept d w.memory owners t.ready t.newest)
 
-    next_there : IsChainThere (driver_next w).driver s.member s.recent parts
-    next_there =
-        subst (λ (g : DriverContent). IsChainThere g s.member s.recent parts) (sym driver_is)
-        (record { lent = subst (λ (g : DriverContent). IsChainLent g s.member s.recent parts) driver_is (waits w.driver.periodic.list.work refl); there = there_on; unmet = unmet })
+  next_there : IsChainThere (driver_next w).driver s.member s.recent parts
+  next_there =
+      subst (λ (g : DriverContent). IsChainThere g s.member s.recent parts) (sym driver_is)
+      (record { lent = subst (λ (g : DriverContent). IsChainLent g s.member s.recent parts) driver_is (lends.lent t.work t.begun); there = there_on; unmet = unmet })
 
-    way_on : IsUnderWay (driver_next w).driver (driver_next w).memory s.member s.recent parts (driver_next w).driver.command
-    way_on =
-        subst (IsUnderWay (driver_next w).driver (driver_next w).memory s.member s.recent parts) (sym (ap (λ (g : DriverContent). g.command) driver_is ∙ on)) (inr next_there)
+  way_on : IsUnderWay (driver_next w).driver (driver_next w).memory s.member s.recent parts (driver_next w).driver.command
+  way_on =
+      subst (IsUnderWay (driver_next w).driver (driver_next w).memory s.member s.recent parts) (sym (ap (λ (g : DriverContent). g.command) driver_is ∙ on)) (inr next_there)
 
-    world_on : IsMixedWorld (driver_next w)
-    world_on =
-        mixed_next s w k (record s { parts = parts }) lends.framed ring
-        (subst (λ (g : DriverContent). QueuesGoOn (queued g) s.near s.streams s.ends parts s.order s.out) (sym driver_is) goes_on) way_on
+  step_on : QueueStep s w (record s { parts = parts })
+  step_on = begins lending row_is (subst (λ (g : DriverContent). QueuesAlike lent (queued g)) (sym driver_is) queues_on)
 
-  -- nothing is to be linked
-  module _ (over : f.command ≡ None) where
-    abbrev x : Endpoint
-    x = lending.endpoint
-
-    ended : IsFinishedAlike (driver_parts w) rows.Lend
-    ended = chain_finishes p rows.Lend due (record { chain = t.ready.command; finished = over })
-
-    there : IsOpenThere lent parts
-    there = whole.there
-
-    queues_over : QueuesAlike (open_finished lent) (queued f)
-    queues_over =
-        let q = ended.queues in
-        record {
-          endpoints = q.endpoints;
-          transfers = q.transfers;
-          notes = q.notes;
-          command = q.command;
-          made = q.made;
-          mends = q.mends;
-          harvested = q.harvested;
-          waiting = q.waiting;
-          rung = q.rung;
-          cleared = q.cleared;
-          bell = q.bell;
-        }
-
-    goes_over : QueuesGoOn (queued f) (with_member s.near (32 * there.endpoint.queue)) (streams_then s.streams there.endpoint) (with_end s.ends (32 * there.endpoint.queue) (end_then there.endpoint)) parts s.order (with_none s.out (32 * there.endpoint.queue))
-    goes_over =
-        goes_on_alike (open_finished lent) (queued f) (with_member s.near (32 * there.endpoint.queue)) (streams_then s.streams there.endpoint) (with_end s.ends (32 * there.endpoint.queue) (end_then there.endpoint)) parts s.order
-        (with_none s.out (32 * there.endpoint.queue)) queues_over (same_lent (open_finished lent) (queued f) after.book) (finished_goes lent s.near s.streams s.ends parts s.order s.out lent_owners lent_turns there lent_goes)
-
-    world_over : IsMixedWorld (driver_next w)
-    world_over =
-        mixed_next s w k
-        (record s {
-          near = with_member s.near (32 * there.endpoint.queue);
-          streams = streams_then s.streams there.endpoint;
-          ends = with_end s.ends (32 * there.endpoint.queue) (end_then there.endpoint);
-          parts = parts;
-          out = with_none s.out (32 * there.endpoint.queue);
-        })
-        lends.framed ring
-        (subst (λ (g : DriverContent). QueuesGoOn (queued g) (with_member s.near (32 * there.endpoint.queue)) (streams_then s.streams there.endpoint) (with_end s.ends (32 * there.endpoint.queue) (end_then there.endpoint)) parts s.order (with_none s.out (32 * there.endpoint.queue)))
-        (sym driver_is) goes_over)
-        (subst (IsUnderWay (driver_next w).driver (driver_next w).memory s.member s.recent parts) (sym (ap (λ (g : DriverContent). g.command) driver_is ∙ over)) tt)
-
-  pub lend_world : IsMixedWorld (driver_next w)
-  lend_world = ⊎_elim world_on world_over after.ring.command
+  pub lend_world : IsMixedNext s w (driver_next w)
+  lend_world =
+      mixed_next s w k (record s { parts = parts }) step_on lends.framed ring
+      (subst (λ (g : DriverContent). QueuesGoOn (queued g) s.near s.streams s.ends parts s.order s.out) (sym driver_is) goes_on) way_on

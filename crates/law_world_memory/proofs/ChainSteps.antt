@@ -1,5 +1,5 @@
 -- What an event of an interrupt endpoint's open leaves of the driver's content, and of the whole, once memory and queues are told.
-use Rattle.std.proofs.Common.{◌≡◌, ℕ, suc, ◌*◌, ◌⊎◌, Bool, true, false, cond, List, [], Option, Some, None, nat_lt, ap, refl, sym, subst, ◌∙◌, ⊎_elim, inl, inr}
+use Rattle.std.proofs.Common.{◌≡◌, ℕ, suc, ◌*◌, ◌⊎◌, Bool, true, false, cond, List, Option, Some, None, nat_lt, ap, refl, sym, subst, ◌∙◌, ⊎_elim, inl, inr}
 use Rattle.std.specs.Prelude.{is_none}
 use Rattle.std.proofs.lemmas.Bool.{cases_eq}
 use Rattle.drv_periodic.specs.declared.work.Work.{Work}
@@ -59,13 +59,14 @@ after_chain d is =
     chain_either (AfterChain d) d is (record { book = refl; ring = record { endpoints = refl; waiting = refl; rung = refl; command = inl is } }) (λ q. record { book = refl; ring = record { endpoints = refl; waiting = refl; rung = refl; command = inl is } })
     (λ q. record { book = refl; ring = record { endpoints = refl; waiting = refl; rung = refl; command = inr refl } })
 
--- with nothing to link it is finished at once
-none_begun : (q : PeriodicContent) → q.list.work ≡ None → q.queued ≡ [] → begun_next false q ≡ q
-none_begun q work queued = ap (λ (o : Option Work). cond (is_none o) (with_first false q q.queued) q) work ∙ ap (with_first false q) queued
+-- with something to link it goes on
+some_begun : (q : PeriodicContent) (v : Work) → q.list.work ≡ Some v → begun_next false q ≡ q
+some_begun q v work = ap (λ (o : Option Work). cond (is_none o) (with_first false q q.queued) q) work
 
-pub finishes : (g : DriverContent) (q : PeriodicContent) → q.list.work ≡ None → q.queued ≡ [] → (or_finished (record g { made = 1; periodic = begun_next false q }) unfinished.Chain).command ≡ None
-finishes g q work queued =
-    ap (λ (r : PeriodicContent). (or_finished (record g { made = 1; periodic = r }) unfinished.Chain).command) (none_begun q work queued)
+pub chain_stays : (g : DriverContent) (q : PeriodicContent) (v : Work) → q.list.work ≡ Some v
+    → (or_finished (record g { made = 1; periodic = begun_next false q }) unfinished.Chain).command ≡ g.command
+chain_stays g q v work =
+    ap (λ (r : PeriodicContent). (or_finished (record g { made = 1; periodic = r }) unfinished.Chain).command) (some_begun q v work)
     ∙ ap (λ (o : Option Work). (cond (is_none o) (no_command (record g { made = 1; periodic = q })) (record g { made = 1; periodic = q })).command) work
 
 -- the walk of the ring meets the same queue heads

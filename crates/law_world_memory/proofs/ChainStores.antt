@@ -23,14 +23,18 @@ use Rattle.law_world_memory.proofs.lemmas.framed_memory.ChainedRuns.{chain_goes_
 use Rattle.law_queues.specs.open_laws.Opens.{end_then, streams_then}
 use Rattle.law_queues.specs.open_laws.Queues.{IsOpenThere, open_finished}
 use Rattle.law_driver.specs.queued_drivers.Queued.{queued_made, queued}
-use Rattle.law_driver.specs.queued_drivers.Rows.{LeavesQueues, IsFinishedAlike}
+use Rattle.law_driver.specs.queued_drivers.Rows.{QueuesAlike, LeavesQueues, IsFinishedAlike}
 use Rattle.law_driver.proofs.lemmas.queued_drivers.RowFrames.{frames_leave, chain_finishes}
 use Rattle.law_driver.proofs.lemmas.queued_drivers.RowOwners.{queued_owners}
-use Rattle.bus_world.specs.World.{World, driver_parts, controller_parts, with_parts, driver_next}
-use Rattle.law_world_memory.specs.Mixed.{QueuesGoOn, IsChainToLend, IsChainThere, IsUnderWay, Standing, IsMixedAt, IsMixedWorld}
+use Rattle.bus_world.specs.World.{World, driver_parts, controller_parts, driver_next}
+use Rattle.law_world_memory.specs.Mixed.{QueuesGoOn, IsChainToLend, IsChainThere, IsUnderWay, Standing, IsMixedAt}
+use Rattle.law_world_memory.specs.SameQueues.{IsSameQueue}
+use Rattle.law_world_memory.specs.Steps.{AreTold, QueueStep, stays, opens, IsMixedNext}
 use Rattle.law_world_memory.proofs.Unfinished.{none_unfinished}
 use Rattle.law_world_memory.proofs.Next.{mixed_next}
-use Rattle.law_world_memory.proofs.Alike.{same_lent, goes_on_alike, there_alike, IsSameQueue, new_still, goes_on_still, queues_stored}
+use Rattle.law_world_memory.proofs.Stepping.{told_stored}
+use Rattle.law_world_memory.proofs.FrameRegisters.{rest_mixed}
+use Rattle.law_world_memory.proofs.Alike.{same_lent, goes_on_alike, there_alike, new_still, goes_on_still, queues_stored}
 use Rattle.law_world_memory.proofs.ChainSteps.{AfterChain, after_chain, ring_on, finished_goes}
 use Rattle.law_world_memory.proofs.ChainLends.{lend_world}
 
@@ -100,6 +104,9 @@ module _ (s : Standing) (w : World) (k : IsMixedAt s w) (t : IsChainThere w.driv
   ring : AreMet (driver_next w).driver s.member
   ring = subst (λ (g : DriverContent). AreMet g s.member) (sym driver_is) (ring_on d f chain after.ring s.member k.ring)
 
+  told_then : AreTold s (record s { recent = recent; descs = descs_now s.descs e.event.now; parts = parts; frame = e.event.frame_later })
+  told_then = told_stored s recent (descs_now s.descs e.event.now) why.store.at why.store.value e.event.now e.event.frame_later e.event.stored
+
   -- ---- more stores are to come
 
   module _ (on : f.command ≡ Some unfinished.Chain) where
@@ -138,9 +145,15 @@ module _ (s : Standing) (w : World) (k : IsMixedAt s w) (t : IsChainThere w.driv
         subst (λ (g : DriverContent). IsChainThere g s.member recent parts) (sym driver_is)
         (record { lent = subst (λ (g : DriverContent). IsChainLent g s.member recent parts) driver_is lent_on; there = there_on; unmet = unmet_on })
 
-    world_on : IsMixedWorld (driver_next w)
+    abbrev after_it : Standing
+    after_it = record s { recent = recent; descs = descs_now s.descs e.event.now; parts = parts; frame = e.event.frame_later }
+
+    step_on : QueueStep s w after_it
+    step_on = stays after_it (record { near = refl; streams = refl; ends = refl; order = refl; out = refl; told = told_then })
+
+    world_on : IsMixedNext s w (driver_next w)
     world_on =
-        mixed_next s w k (record s { recent = recent; descs = descs_now s.descs e.event.now; parts = parts; frame = e.event.frame_later }) e.framed ring
+        mixed_next s w k after_it step_on e.framed ring
         (subst (λ (g : DriverContent). QueuesGoOn (queued g) s.near s.streams s.ends parts s.order s.out) (sym driver_is) goes_on)
         (subst (IsUnderWay (driver_next w).driver (driver_next w).memory s.member recent parts) (sym next_command) (inr there_next))
 
@@ -155,34 +168,43 @@ module _ (s : Standing) (w : World) (k : IsMixedAt s w) (t : IsChainThere w.driv
         goes_on_alike (open_finished (queued d)) (queued f) (with_member s.near (32 * there.endpoint.queue)) (streams_then s.streams there.endpoint) (with_end s.ends (32 * there.endpoint.queue) (end_then there.endpoint)) parts s.order
         (with_none s.out (32 * there.endpoint.queue)) ended.queues (same_lent (open_finished (queued d)) (queued f) after.book) (finished_goes (queued d) s.near s.streams s.ends parts s.order s.out (queued_owners d owners k.turns) k.turns.turns there stored_goes)
 
-    world_over : IsMixedWorld (driver_next w)
-    world_over =
-        mixed_next s w k
-        (record s {
-          near = with_member s.near (32 * there.endpoint.queue);
-          streams = streams_then s.streams there.endpoint;
-          ends = with_end s.ends (32 * there.endpoint.queue) (end_then there.endpoint);
-          recent = recent;
-          descs = descs_now s.descs e.event.now;
-          parts = parts;
-          frame = e.event.frame_later;
-          out = with_none s.out (32 * there.endpoint.queue);
+    abbrev opened : Standing
+    opened = record s {
+      near = with_member s.near (32 * there.endpoint.queue);
+      streams = streams_then s.streams there.endpoint;
+      ends = with_end s.ends (32 * there.endpoint.queue) (end_then there.endpoint);
+      recent = recent;
+      descs = descs_now s.descs e.event.now;
+      parts = parts;
+      frame = e.event.frame_later;
+      out = with_none s.out (32 * there.endpoint.queue);
+    }
+
+    step_over : QueueStep s w opened
+    step_over =
+        opens t.there opened (subst (λ (g : DriverContent). QueuesAlike (open_finished (queued d)) (queued g)) (sym driver_is) ended.queues)
+        (record {
+          near = refl;
+          streams = refl;
+          ends = refl;
+          order = refl;
+          out = refl;
+          told = record { parts = told_then.parts; hand = told_then.hand; frame = told_then.frame };
         })
-        e.framed ring
+
+    world_over : IsMixedNext s w (driver_next w)
+    world_over =
+        mixed_next s w k opened step_over e.framed ring
         (subst (λ (g : DriverContent). QueuesGoOn (queued g) (with_member s.near (32 * there.endpoint.queue)) (streams_then s.streams there.endpoint) (with_end s.ends (32 * there.endpoint.queue) (end_then there.endpoint)) parts s.order (with_none s.out (32 * there.endpoint.queue)))
         (sym driver_is) goes_over)
         (subst (IsUnderWay (driver_next w).driver (driver_next w).memory s.member recent parts) (sym (ap (λ (g : DriverContent). g.command) driver_is ∙ over)) tt)
 
-  store_world : IsMixedWorld (driver_next w)
+  store_world : IsMixedNext s w (driver_next w)
   store_world = ⊎_elim world_on world_over after.ring.command
 
 -- ---- each event of the open
 
--- with nothing to do the world is as it was
-rest_world : (s : Standing) (w : World) → IsMixedAt s w → driver_row (driver_parts w) ≡ rows.Rest → IsMixedWorld (driver_next w)
-rest_world s w k is = subst IsMixedWorld (sym (ap (λ (row : DriverRow). with_parts w (after_driver_row row (driver_parts w))) is)) (record { standing = s; mixed = k })
-
-pub chain_mixed : (s : Standing) (w : World) → IsMixedAt s w → w.driver.command ≡ Some unfinished.Chain → IsMixedWorld (driver_next w)
+pub chain_mixed : (s : Standing) (w : World) → IsMixedAt s w → w.driver.command ≡ Some unfinished.Chain → IsMixedNext s w (driver_next w)
 chain_mixed s w k is =
     ⊎_elim (λ (t : IsChainToLend w.driver w.memory). lend_world s w k t)
     (λ (t : IsChainThere w.driver s.member s.recent s.parts).
@@ -192,7 +214,7 @@ chain_mixed s w k is =
     never : (n : ℕ) → n ≡ 0 → n ≡ 1 → ⊥
     never n zero one = cc
 
-    by : IsChainThere w.driver s.member s.recent s.parts → ChainGoesOn opening_base s.member s.recent s.descs s.parts s.hand s.frame (controller_parts w) w.driver → IsMixedWorld (driver_next w)
+    by : IsChainThere w.driver s.member s.recent s.parts → ChainGoesOn opening_base s.member s.recent s.descs s.parts s.hand s.frame (controller_parts w) w.driver → IsMixedNext s w (driver_next w)
     by t (lends r lend framed then) = absurd (never w.driver.made r.made t.lent.made)
     by t (stores why e then) = store_world s w k t why e then
-    by t (rests rest framed then) = rest_world s w k rest
+    by t (rests rest framed then) = rest_mixed s w k rest

@@ -14,7 +14,9 @@ use Rattle.claims_world.specs.Memory.{IsWalking}
 use Rattle.law_world_steps.proofs.lemmas.controlled_walks.Worlds.{command_walks}
 use Rattle.bus_world.specs.World.{World, name_in, commanded_by}
 use Rattle.law_world_memory.specs.Mixed.{QueuesGoOn, Standing, IsMixedAt}
-use Rattle.law_world_memory.specs.Laws.{OpensMixed, CommandKeepsMixed}
+use Rattle.law_world_memory.specs.Steps.{stays}
+use Rattle.law_world_memory.specs.Laws.{OpensMixed, CommandKeepsMixed, CommandKeepsStanding, CommandTellsStep}
+use Rattle.law_world_memory.proofs.Stepping.{still_same}
 use Rattle.law_world_memory.proofs.CommandRefused.{refused_mixed}
 use Rattle.law_world_memory.proofs.CommandShared.{walks_numbered, IsAccepted, LeavesMixed, accepts, mixed_by}
 use Rattle.law_world_memory.proofs.CommandTransfers.{get_or_put_leaves, request_leaves}
@@ -60,10 +62,14 @@ by_offer s w line cmd (Ok o) fits room is walking k =
     mixed_by s w line cmd o a (leaves s w line o cmd a (accepts s w line cmd o a) (reason_of w.driver w.memory cmd o is))
 by_offer s w line cmd (Err why) fits room is walking k = refused_mixed s w line (name_in cmd) why walking k
 
+pub command_keeps_standing : CommandKeepsStanding
+command_keeps_standing s w line cmd fits room k =
+    by_offer s w line cmd (offered w.driver w.memory cmd) fits room refl (command_walks w line cmd (walks_numbered cmd fits) k.walking) k
+
+pub command_tells_step : CommandTellsStep
+command_tells_step s w line cmd fits room k =
+    record { standing = s; step = stays s (still_same s); mixed = command_keeps_standing s w line cmd fits room k }
+
 pub command_keeps_mixed : CommandKeepsMixed
 command_keeps_mixed w line cmd fits room k =
-    let s = k.standing in
-    record {
-      standing = s;
-      mixed = by_offer s w line cmd (offered w.driver w.memory cmd) fits room refl (command_walks w line cmd (walks_numbered cmd fits) k.mixed.walking) k.mixed;
-    }
+    record { standing = k.standing; mixed = command_keeps_standing k.standing w line cmd fits room k.mixed }

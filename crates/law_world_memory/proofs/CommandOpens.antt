@@ -13,7 +13,8 @@ use Rattle.mem_runs.specs.Book.{Holding, holding, Stands}
 use Rattle.qh_qtd.specs.QueueHead.{IsQhInRange}
 use Rattle.bandwidth.specs.declared.placements.Placed.{Placed}
 use Rattle.bandwidth.specs.Placements.{most_multi, IsWant}
-use Rattle.drv_periodic_table.specs.Periodic.{is_periodic, want_of}
+use Rattle.drv_periodic.specs.Periodic.{begun}
+use Rattle.drv_periodic_table.specs.Periodic.{is_periodic, want_of, queue_member}
 use Rattle.drv_table.specs.declared.content.Endpoint.{Endpoint}
 use Rattle.drv_table.specs.declared.content.Command.{Command}
 use Rattle.drv_table.specs.declared.content.Command.TheVariants as unfinished
@@ -59,6 +60,7 @@ use Rattle.law_world_memory.proofs.RingBasis.{near_ring}
 use Rattle.law_world_memory.proofs.CommandBeside.{sound_by, by_alike}
 use Rattle.law_world_memory.proofs.CommandMet.{pushed_met}
 use Rattle.law_world_memory.proofs.CommandTails.{open_tail, idle_ends}
+use Rattle.law_world_memory.proofs.ChainBegun.{chain_begun}
 use Rattle.law_world_memory.proofs.CommandShared.{IsAccepted, LeavesMixed, place, in_place, idle, idle_queues, owners, lent}
 
 -- ---- the queues
@@ -207,13 +209,19 @@ chain_masks : (d : DriverContent) (m : Mem) (o : Offered) (why : Chains d m o) �
 chain_masks d m o why all = last_of_all (λ (y : Placed). HasMasks y.placement) d.periodic.plan.placed _ (subst (λ (g : Offered). AreMasked g.driver) why.is all)
 
 -- the endpoint is the newest
-chain_to_lend : (m : Mem) (d : DriverContent) (o : Offered) → (why : Chains d m o) → IsInPlace m d → IsQhInRange (chained_head d why.desc why.placement why.holding_after)
+chain_to_lend : (m : Mem) (d : DriverContent) (o : Offered) → (why : Chains d m o) → IsInPlace m d → IsInPlace o.memory o.driver
+    → IsQhInRange (chained_head d why.desc why.placement why.holding_after)
     → IsChainToLend o.driver o.memory
-chain_to_lend m d o why place range =
+chain_to_lend m d o why place now range =
     let x : Endpoint = placed_endpoint why.desc why.placement (slice_index (new_runs d why.holding_after) 0) (slice_index (new_runs d why.holding_after) 1) in
     let r : IsReadyAt o.driver o.memory (length d.endpoints) = chain_ready_at m d o why place range in
     let many : length o.driver.endpoints ≡ length d.endpoints + 1 = ap (λ (g : Offered). length g.driver.endpoints) why.is ∙ length-append d.endpoints (x ∷ []) in
-    record { ready = r.ready; newest = (let at = r.at in omega (arith, at, many)) }
+    record {
+      ready = r.ready;
+      work = begun (queue_member (slice_index (new_runs d why.holding_after) 0) why.placement) false;
+      begun = chain_begun m d o why place now;
+      newest = (let at = r.at in omega (arith, at, many));
+    }
 
 pub chain_leaves : (s : Standing) (w : World) (line : ℕ) (x : EpDesc) (o : Offered) → IsAccepted s w line (commands.OpenEp x) o
     → QueuesGoOn (queued o.driver) s.near s.streams s.ends s.parts s.order s.out → (why : Chains w.driver w.memory o) → why.desc ≡ x → LeavesMixed s w o
@@ -238,5 +246,5 @@ chain_leaves s w line x o a queues why same =
           (λ e z here is met. false≢true (sym (near_ring o.driver e z n.sound.owners here met.near).0 ∙ (ap (λ (y : Endpoint). is_periodic y.desc.kind) is ∙ why.periodic))) a.mixed.ring;
       queues = queues;
       under_way = subst (λ (c : Option Command). IsUnderWay o.driver o.memory s.member s.recent s.parts c) (sym command)
-          (inl (chain_to_lend w.memory d o why p range));
+          (inl (chain_to_lend w.memory d o why p n range));
     }

@@ -180,7 +180,7 @@ module _ (d : DriverContent) (line : ℕ) (name : EpName) (why : OfferError) whe
     under_way member recent parts (Some (unfinished.Publish b words)) k = ⊎_elim (λ (g : IsToBeLent (queued d) m b words). inl (to_be_lent b words g)) (λ (made : 1 ≤ d.made). inr made) k
     under_way member recent parts (Some (unfinished.Unlink e b link)) k = k
     under_way member recent parts (Some unfinished.Chain) k = ⊎_elim
-        (λ (r : IsChainToLend d m). inl (record { ready = chain_ready r.ready; newest = r.newest }))
+        (λ (r : IsChainToLend d m). inl (record { ready = chain_ready r.ready; work = r.work; begun = r.begun; newest = r.newest }))
         (λ (l : IsChainThere d member recent parts).
         let t = l.there in
         inr

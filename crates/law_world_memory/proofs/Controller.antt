@@ -12,9 +12,8 @@ use Rattle.claims_driver.specs.Owners.{runs_of_endpoint}
 use Rattle.claims_base.specs.Controller.{opening_base}
 use Rattle.law_driver_ring.proofs.Beside.{opened_stays}
 use Rattle.law_structures.specs.lent_structures.Structures.{StructureSets}
-use Rattle.law_frames.specs.Met.{Kind}
 use Rattle.law_controller.specs.frame_control.Both.{RunsBoth}
-use Rattle.law_descriptors.specs.Both.{both, descs_now, parts_now}
+use Rattle.law_descriptors.specs.Both.{both, parts_now}
 use Rattle.law_descriptors.specs.Meeting.{met}
 use Rattle.law_queues.specs.fed_lends.ToLend.{IsToBeLent}
 use Rattle.law_queues.proofs.lemmas.fed_lends.Accepting.{to_be_lent_stays}
@@ -23,7 +22,7 @@ use Rattle.law_queues.specs.open_laws.Opens.{IsOpenLent}
 use Rattle.law_queues.proofs.lemmas.open_laws.AcceptWaiting.{ready_stays}
 use Rattle.law_queues.specs.released_queues.Fronts.{FrontsStand}
 use Rattle.law_queues.specs.standing_fronts.Tails.{tail_of}
-use Rattle.law_world_memory.specs.framed_memory.Now.{recent_then, FramedNowAfter}
+use Rattle.law_world_memory.specs.framed_memory.Now.{recent_then}
 use Rattle.law_world_memory.proofs.lemmas.framed_memory.NowControlled.{controller_now}
 use Rattle.law_world_memory.proofs.lemmas.framed_memory.Awaiting.{writes_await}
 use Rattle.law_world_memory.specs.framed_memory.Chained.{chained_queue}
@@ -37,8 +36,9 @@ use Rattle.law_world_steps.specs.Streaming.{begins_by, transacts_by, wired}
 use Rattle.law_world_steps.proofs.StreamTurning.{world_has_row}
 use Rattle.law_world_steps.proofs.lemmas.world_bytes.Turning.{controller_bytes}
 use Rattle.law_world_steps.proofs.lemmas.world_bytes.Hearing.{hears_bytes}
-use Rattle.law_world_memory.specs.Mixed.{QueuesGoOn, IsChainToLend, IsChainThere, IsUnderWay, Standing, IsMixedAt, IsMixedWorld}
-use Rattle.law_world_memory.specs.Laws.{ControllerKeepsMixed}
+use Rattle.law_world_memory.specs.Mixed.{QueuesGoOn, IsChainToLend, IsChainThere, IsUnderWay, Standing, IsMixedAt}
+use Rattle.law_world_memory.specs.Steps.{IsEventOf, standing_then, IsMixedControlled}
+use Rattle.law_world_memory.specs.Laws.{ControllerKeepsMixed, ControllerTellsEvent}
 use Rattle.law_world_memory.proofs.ControllerParts.{sound_then}
 use Rattle.law_world_memory.proofs.ControllerRests.{chain_there_stays}
 
@@ -49,13 +49,8 @@ module _ (fixed : Fixed) (s : Standing) (w : World) (k : IsMixedAt s w) where
   abbrev new : World
   new = controller_next fixed w
 
-  abbrev later : ℕ → Option Kind
-  later = recent_then (controller_row w) s.recent
-
   abbrev After : Type 0
-  After =
-      FramedNowAfter begins_by transacts_by opening_base s.member (recent_then (controller_row w) s.recent) s.descs s.parts s.hand s.frame (controller_parts w) w.driver (wired fixed w)
-      (wired fixed (controller_next fixed w)) (controller_parts (controller_next fixed w))
+  After = IsEventOf fixed s w
 
   after_event : After
   after_event =
@@ -146,6 +141,8 @@ module _ (fixed : Fixed) (s : Standing) (w : World) (k : IsMixedAt s w) where
             opened = opened_stays d w.memory new.memory r.number (runs_of_endpoint r.endpoint) (chained_queue r.endpoint r.place r.link) r.opened k.now.framed.place.sound.owners stands writes.words;
             links = r.links;
           };
+          work = t.work;
+          begun = t.begun;
           newest = t.newest;
         }
 
@@ -168,35 +165,25 @@ module _ (fixed : Fixed) (s : Standing) (w : World) (k : IsMixedAt s w) where
 
     -- ---- the world
 
-    world_then : IsMixedWorld (controller_next fixed w)
+    world_then : IsMixedAt (standing_then s w a) (controller_next fixed w)
     world_then = record {
-      standing = record {
-        member = s.member;
-        near = s.near;
-        streams = s.streams;
-        ends = s.ends;
-        recent = later;
-        descs = descs_now s.descs a.now;
-        parts = then;
-        hand = a.later;
-        frame = a.frame_later;
-        order = s.order;
-        out = s.out;
-      };
-      mixed = record {
-        now = a.framed;
-        turns = k.turns;
-        ring = k.ring;
-        queues = queues_then;
-        under_way = by_command d.command refl k.under_way;
-        walking = controller_walks fixed w k.now.framed.place k.walking;
-        numbers = k.numbers;
-        masks = k.masks;
-        awaiting = writes_await d w.memory new.memory stands writes.words k.awaiting;
-        bytes = controller_bytes fixed w k.bytes;
-        owed = k.owed;
-      };
+      now = a.framed;
+      turns = k.turns;
+      ring = k.ring;
+      queues = queues_then;
+      under_way = by_command d.command refl k.under_way;
+      walking = controller_walks fixed w k.now.framed.place k.walking;
+      numbers = k.numbers;
+      masks = k.masks;
+      awaiting = writes_await d w.memory new.memory stands writes.words k.awaiting;
+      bytes = controller_bytes fixed w k.bytes;
+      owed = k.owed;
     }
 
+pub controller_tells_event : ControllerTellsEvent
+controller_tells_event fixed s w k = let a = after_event fixed s w k in record { event = a; mixed = world_then fixed s w k a }
+
 pub controller_keeps_mixed : ControllerKeepsMixed
-controller_keeps_mixed fixed w k = world_then fixed k.standing w k.mixed (after_event fixed k.standing w k.mixed)
+controller_keeps_mixed fixed w k =
+    let c : IsMixedControlled fixed k.standing w = controller_tells_event fixed k.standing w k.mixed in
+    record { standing = standing_then k.standing w c.event; mixed = c.mixed }

@@ -21,8 +21,10 @@ use Rattle.law_driver.proofs.lemmas.run_owners.Reasons.{each_is_due}
 use Rattle.law_driver.proofs.lemmas.run_owners.Orders.{one_same, endpoint_first, IsRemoved, has_removed}
 use Rattle.law_world_memory.specs.framed_memory.Isochronous.{IsFramesCommand}
 use Rattle.bus_world.specs.World.{World, driver_parts, driver_next}
-use Rattle.law_world_memory.specs.Mixed.{Standing, IsMixedAt, IsMixedWorld}
-use Rattle.law_world_memory.specs.Laws.{DriverKeepsMixed}
+use Rattle.law_world_memory.specs.Mixed.{Standing, IsMixedAt}
+use Rattle.law_world_memory.specs.Steps.{IsMixedNext}
+use Rattle.law_world_memory.specs.Laws.{DriverKeepsMixed, DriverTellsStep}
+use Rattle.law_world_memory.proofs.Stepping.{mixed_world}
 use Rattle.law_world_memory.proofs.FrameRegisters.{rest_mixed, frame_read_mixed, status_read_mixed, doorbell_mixed}
 use Rattle.law_world_memory.proofs.FrameRows.{frames_chosen_mixed, descriptor_harvested_mixed, unlinked_mixed, descriptor_returned_mixed, isochronous_returned_mixed, stored_mixed}
 use Rattle.law_world_memory.proofs.FrameLends.{descriptors_lent_mixed}
@@ -57,14 +59,14 @@ module _ (s : Standing) (w : World) (k : IsMixedAt s w) where
   abbrev p : Parts
   p = driver_parts w
 
-  removal : (what : Removed) → driver_row (driver_parts w) ≡ rows.ReleaseRemoved what → IsRemovalDue (driver_parts w) what → IsMixedWorld (driver_next w)
+  removal : (what : Removed) → driver_row (driver_parts w) ≡ rows.ReleaseRemoved what → IsRemovalDue (driver_parts w) what → IsMixedNext s w (driver_next w)
   removal (removed.Descriptor t) is due = descriptor_returned_mixed t s w k is
   removal (removed.Endpoint e) is due =
       let at : IsRemoved w.driver.endpoints e = endpoint_there p e k.now.framed.place.sound.owners due in
       ⊎_elim (λ (iso : is_iso at.endpoint.desc.kind ≡ true). isochronous_returned_mixed e at.endpoint s w k is at.here iso)
       (λ (queue : is_iso at.endpoint.desc.kind ≡ false). removed_mixed s w e at.endpoint k is at.here queue) (cases_Bool (is_iso at.endpoint.desc.kind))
 
-  harvest : (e t : ℕ) (found : Found) → driver_row (driver_parts w) ≡ rows.Harvest e t found → IsHarvestDue (driver_parts w) e t found → IsMixedWorld (driver_next w)
+  harvest : (e t : ℕ) (found : Found) → driver_row (driver_parts w) ≡ rows.Harvest e t found → IsHarvestDue (driver_parts w) e t found → IsMixedNext s w (driver_next w)
   harvest e t found is due =
       let same : (y : Transfer) → slice_get w.driver.transfers t ≡ Some y → due.transfer ≡ y = λ y there. same_Some due.transfer y (sym due.there ∙ there) in
       ⊎_elim
@@ -76,7 +78,7 @@ module _ (s : Standing) (w : World) (k : IsMixedAt s w) where
   own_store row frames lends only next =
       ⊎_elim frames lends (no_own_event next.command w.driver.made row (subst IsFramesCommand next.unfinished only) next.next)
 
-  by_row : (row : DriverRow) → driver_row (driver_parts w) ≡ row → IsDue (driver_parts w) row → IsFramesCommand w.driver.command → IsMixedWorld (driver_next w)
+  by_row : (row : DriverRow) → driver_row (driver_parts w) ≡ row → IsDue (driver_parts w) row → IsFramesCommand w.driver.command → IsMixedNext s w (driver_next w)
   by_row rows.Lend is due only = absurd (own_store rows.Lend (λ same. cc) (λ same. cc) only due)
   by_row (rows.Store b at v) is due only =
       ⊎_elim (λ (next : IsNextOf (driver_parts w) (rows.Store b at v)). absurd (own_store (rows.Store b at v) (λ same. cc) (λ same. cc) only next))
@@ -95,15 +97,18 @@ module _ (s : Standing) (w : World) (k : IsMixedAt s w) where
   by_row (rows.Harvest e t found) is due only = harvest e t found is due
   by_row rows.Rest is due only = rest_mixed s w k is
 
-  next_row : IsFramesCommand w.driver.command → IsMixedWorld (driver_next w)
+  next_row : IsFramesCommand w.driver.command → IsMixedNext s w (driver_next w)
   next_row only = by_row (driver_row (driver_parts w)) refl (each_is_due (driver_parts w)) only
 
-  by_command : (o : Option Command) → w.driver.command ≡ o → IsMixedWorld (driver_next w)
+  by_command : (o : Option Command) → w.driver.command ≡ o → IsMixedNext s w (driver_next w)
   by_command (Some (unfinished.Open queue)) is = opening_mixed s w queue k is
   by_command (Some (unfinished.Publish b words)) is = publish_mixed s w b words k is
   by_command (Some (unfinished.Unlink e b link)) is = unlink_mixed s w e b link k is
   by_command (Some unfinished.Chain) is = chain_mixed s w k is
   by_command _ is = next_row (subst IsFramesCommand (sym is) tt)
 
+pub driver_tells_step : DriverTellsStep
+driver_tells_step s w k = by_command s w k w.driver.command refl
+
 pub driver_keeps_mixed : DriverKeepsMixed
-driver_keeps_mixed w k = by_command k.standing w k.mixed w.driver.command refl
+driver_keeps_mixed w k = mixed_world k.standing w (driver_next w) (driver_tells_step k.standing w k.mixed)

@@ -37,6 +37,7 @@ use Rattle.law_world_memory.specs.framed_memory.Isochronous.{IsFramesCommand, Aw
 use Rattle.law_world_memory.proofs.lemmas.framed_memory.Lending.{lend_now}
 use Rattle.bus_world.specs.World.{driver_parts, controller_parts, driver_next}
 use Rattle.law_world_memory.specs.Laws.{RowKeepsMixed}
+use Rattle.law_world_memory.proofs.Stepping.{told_same}
 use Rattle.law_world_memory.proofs.Alike.{DummiesWereLent}
 use Rattle.law_world_memory.proofs.FrameNext.{EndsStay, its_owners, frames_mixed}
 use Rattle.law_world_memory.proofs.FrameEnds.{advance_ends}
@@ -167,3 +168,4 @@ descriptors_lent_mixed s w k is =
     (subst (λ (r : DriverRow). EndsStay w.driver.endpoints (after_driver_row r p).driver.endpoints) (sym is)
     (advance_ends (record w.driver { book = (lend_taken (holding w.driver.book (linked_by w.driver w.memory w.driver.command))).book }) frames))
     (lent_dummies w.driver w.memory iso.endpoint iso.first (its_owners s w k) k.now.framed.place.lent awaits (queued (driver_next w).driver)) k.queues
+    (told_same s _ _)

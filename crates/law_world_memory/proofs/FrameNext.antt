@@ -40,7 +40,8 @@ use Rattle.law_frames.specs.FrameHand.{FrameHand}
 use Rattle.law_world_memory.specs.framed_memory.Now.{IsFramedNow}
 use Rattle.law_world_memory.specs.framed_memory.Isochronous.{IsFramesCommand}
 use Rattle.bus_world.specs.World.{World, driver_parts, controller_parts, driver_next}
-use Rattle.law_world_memory.specs.Mixed.{QueuesGoOn, IsUnderWay, Standing, IsMixedAt, IsMixedWorld}
+use Rattle.law_world_memory.specs.Mixed.{QueuesGoOn, IsUnderWay, Standing, IsMixedAt}
+use Rattle.law_world_memory.specs.Steps.{AreTold, stays as step_stays, IsMixedNext}
 use Rattle.law_world_memory.proofs.Unfinished.{none_unfinished}
 use Rattle.law_world_memory.proofs.Next.{mixed_next}
 use Rattle.law_world_memory.proofs.Alike.{DummiesWereLent, same_lent, goes_on_alike}
@@ -213,11 +214,14 @@ module _ (s : Standing) (w : World) (k : IsMixedAt s w) where
   pub frames_mixed : (recent : ℕ → Option Kind) (descs parts : StructureSets) (hand : Hand) (frame : FrameHand)
       → IsFramedNow opening_base s.member recent descs parts hand frame (controller_parts (driver_next w)) (driver_next w).driver → IsOfFrames (driver_parts w) (driver_row (driver_parts w))
       → IsFramesCommand w.driver.command → EndsStay w.driver.endpoints (driver_next w).driver.endpoints → DummiesWereLent (queued w.driver) (queued (driver_next w).driver)
-      → QueuesGoOn (queued w.driver) s.near s.streams s.ends parts s.order s.out → IsMixedWorld (driver_next w)
-  frames_mixed recent descs parts hand frame now of frames stay dummies queues =
+      → QueuesGoOn (queued w.driver) s.near s.streams s.ends parts s.order s.out
+      → AreTold s (record s { recent = recent; descs = descs; parts = parts; hand = hand; frame = frame }) → IsMixedNext s w (driver_next w)
+  frames_mixed recent descs parts hand frame now of frames stay dummies queues told =
       let alike : QueuesAlike (queued d) (queued f) = (frames_leave (driver_row p) p its_owners k.turns (each_is_due p) of).queues in
       let frames_now = frames_still d f alike frames in
-      mixed_next s w k (record s { recent = recent; descs = descs; parts = parts; hand = hand; frame = frame }) now (ring_stays d f its_owners alike.waiting alike.rung frames frames_now s.member stay k.ring)
+      let t : Standing = record s { recent = recent; descs = descs; parts = parts; hand = hand; frame = frame } in
+      mixed_next s w k t (step_stays t (record { near = refl; streams = refl; ends = refl; order = refl; out = refl; told = told })) now
+      (ring_stays d f its_owners alike.waiting alike.rung frames frames_now s.member stay k.ring)
       (goes_on_alike (queued d) (queued f) s.near s.streams s.ends parts s.order s.out alike dummies queues)
       (none_under_way f (driver_next w).memory s.member recent parts f.command frames_now)
 

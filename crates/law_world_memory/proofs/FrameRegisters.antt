@@ -18,9 +18,11 @@ use Rattle.law_world_memory.specs.framed_memory.Isochronous.{IsFramesCommand}
 use Rattle.law_world_memory.proofs.lemmas.framed_memory.Now.{registers_now}
 use Rattle.claims_base.specs.Controller.{opening_base}
 use Rattle.bus_world.specs.World.{World, driver_parts, controller_parts, with_parts, driver_next}
-use Rattle.law_world_memory.specs.Mixed.{QueuesGoOn, Standing, IsMixedAt, IsMixedWorld}
+use Rattle.law_world_memory.specs.Mixed.{QueuesGoOn, Standing, IsMixedAt}
+use Rattle.law_world_memory.specs.Steps.{stays, IsMixedNext}
 use Rattle.law_world_memory.specs.Laws.{RowKeepsMixed}
 use Rattle.law_world_memory.proofs.Next.{mixed_next}
+use Rattle.law_world_memory.proofs.Stepping.{told_same, still_same}
 use Rattle.law_world_memory.proofs.Alike.{ring_near, goes_on_near}
 use Rattle.law_world_memory.proofs.FrameNext.{EndsStay, same, idle_frames, none_under_way, frames_mixed, same_dummies}
 
@@ -28,7 +30,8 @@ use Rattle.law_world_memory.proofs.FrameNext.{EndsStay, same, idle_frames, none_
 
 pub rest_mixed : RowKeepsMixed rows.Rest
 rest_mixed s w k is =
-    subst (λ (row : DriverRow). IsMixedWorld (with_parts w (after_driver_row row (driver_parts w)))) (sym is) (record { standing = s; mixed = k })
+    subst (λ (row : DriverRow). IsMixedNext s w (with_parts w (after_driver_row row (driver_parts w)))) (sym is)
+    (record { standing = s; step = stays s (still_same s); mixed = k })
 
 -- ---- FRINDEX is read
 
@@ -41,6 +44,7 @@ frame_read_mixed n s w k is =
     frames_mixed s w k s.recent s.descs s.parts s.hand s.frame
     (registers_now opening_base s.member s.recent s.descs s.parts s.hand s.frame (controller_parts w) w.driver k.now (ap reads_alone is)) of (idle_frames w.driver.command due.0)
     (subst (λ (r : DriverRow). EndsStay w.driver.endpoints (after_driver_row r p).driver.endpoints) (sym is) (same refl)) (same_dummies s w k of (ap keeps_book is)) k.queues
+    (told_same s s.recent s.descs)
 
 -- ---- USBSTS is read, and the doorbell is rung
 
@@ -59,9 +63,9 @@ module _ (s : Standing) (w : World) (k : IsMixedAt s w) (row : DriverRow) (is : 
   abbrev after : DriverRow → DriverContent
   after r = (after_driver_row r (driver_parts w)).driver
 
-  bell_mixed : AreMet (after row) s.member → QueuesGoOn (queued (after row)) s.near s.streams s.ends s.parts s.order s.out → IsFramesCommand (after row).command → IsMixedWorld (driver_next w)
+  bell_mixed : AreMet (after row) s.member → QueuesGoOn (queued (after row)) s.near s.streams s.ends s.parts s.order s.out → IsFramesCommand (after row).command → IsMixedNext s w (driver_next w)
   bell_mixed ring queues later =
-      mixed_next s w k s
+      mixed_next s w k s (stays s (still_same s))
       (registers_now opening_base s.member s.recent s.descs s.parts s.hand s.frame (controller_parts w) w.driver k.now (ap reads_alone is ∙ reads))
       (subst (λ (r : DriverRow). AreMet (after r) s.member) (sym is) ring) (subst (λ (r : DriverRow). QueuesGoOn (queued (after r)) s.near s.streams s.ends s.parts s.order s.out) (sym is) queues)
       (none_under_way (driver_next w).driver (driver_next w).memory s.member s.recent s.parts (driver_next w).driver.command (subst (λ (r : DriverRow). IsFramesCommand (after r).command) (sym is) later))

@@ -29,9 +29,11 @@ use Rattle.law_world_memory.proofs.lemmas.framed_memory.NowRows.{unlink_now, lin
 use Rattle.law_world_memory.proofs.lemmas.framed_memory.Harvesting.{harvest_now}
 use Rattle.law_world_memory.proofs.lemmas.framed_memory.ChosenFrames.{frames_now}
 use Rattle.bus_world.specs.World.{World, driver_parts, controller_parts, driver_next}
-use Rattle.law_world_memory.specs.Mixed.{Standing, IsMixedAt, IsMixedWorld}
+use Rattle.law_world_memory.specs.Mixed.{Standing, IsMixedAt}
+use Rattle.law_world_memory.specs.Steps.{IsMixedNext}
 use Rattle.law_world_memory.specs.Laws.{RowKeepsMixed}
 use Rattle.law_world_memory.proofs.Alike.{goes_on_relinked}
+use Rattle.law_world_memory.proofs.Stepping.{told_same, told_stored}
 use Rattle.law_world_memory.proofs.FrameNext.{EndsStay, idle_frames, never_publishes, its_owners, frames_mixed, same_dummies, quiet_dummies}
 use Rattle.law_world_memory.proofs.FrameEnds.{advance_ends, framed_ends, unlink_ends, descriptor_ends, placed_ends, harvest_ends}
 
@@ -88,18 +90,19 @@ frames_chosen_mixed s w k is =
     let frames : IsFramesCommand w.driver.command = subst IsFramesCommand (sym due.unfinished) (frames_iso due.command w.driver.made due.next) in
     frames_mixed s w k s.recent s.descs s.parts s.hand s.frame (frames_now opening_base s.member s.recent s.descs s.parts s.hand s.frame (controller_parts w) w.driver k.now is) of frames
     (row_ends w rows.Frames is (framed_ends w.driver w.registers.frame_index w.driver.command frames)) (same_dummies s w k of (ap keeps_book is)) k.queues
+    (told_same s s.recent s.descs)
 
 -- ---- a descriptor is harvested
 
 pub descriptor_harvested_mixed : (e t : ℕ) (found : Found) (s : Standing) (w : World) → IsMixedAt s w → driver_row (driver_parts w) ≡ rows.Harvest e t found
-    → ((y : Transfer) → slice_get w.driver.transfers t ≡ Some y → is_descriptor y.sort ≡ true) → IsMixedWorld (driver_next w)
+    → ((y : Transfer) → slice_get w.driver.transfers t ≡ Some y → is_descriptor y.sort ≡ true) → IsMixedNext s w (driver_next w)
 descriptor_harvested_mixed e t found s w k is sort =
     let p : Parts = driver_parts w in
     let row : DriverRow = rows.Harvest e t found in
     let of : IsOfFrames p (driver_row p) = of_frames w row is sort in
     frames_mixed s w k s.recent s.descs s.parts s.hand s.frame (harvest_now opening_base s.member s.recent s.descs s.parts s.hand s.frame (controller_parts w) w.driver e t found k.now is) of
     (idle_frames w.driver.command (row_due w row is).idle) (row_ends w row is (harvest_ends w.driver w.memory e t found (slice_get w.driver.endpoints e) (slice_get w.driver.transfers t) refl))
-    (same_dummies s w k of (ap keeps_book is)) k.queues
+    (same_dummies s w k of (ap keeps_book is)) k.queues (told_same s s.recent s.descs)
 
 -- ---- .. unlinked
 
@@ -115,7 +118,7 @@ unlinked_mixed t s w k is =
     let st = u.event.stored in
     frames_mixed s w k _ _ _ s.hand st.frame_later u.framed of frames (row_ends w row is (unlink_ends p t (slice_get w.driver.transfers t))) (same_dummies s w k of (ap keeps_book is))
     (goes_on_relinked opening_base s.descs s.parts s.frame u.event.store.at u.event.store.value st.now st.frame_later (queued w.driver) s.near s.streams s.ends s.order s.out st.stored
-    (never_publishes w.driver frames) k.queues)
+    (never_publishes w.driver frames) k.queues) (told_stored s _ _ u.event.store.at u.event.store.value st.now st.frame_later st.stored)
 
 -- ---- .. and given back
 
@@ -128,10 +131,11 @@ descriptor_returned_mixed t s w k is =
     let at : IsOwed w.driver.transfers t = descriptor_there p t (its_owners s w k) due in
     let now = release_now opening_base s.member s.recent s.descs s.parts s.hand s.frame (controller_parts w) w.driver t at.transfer k.now is at.there in
     frames_mixed s w k _ _ _ s.hand s.frame now of (idle_frames w.driver.command due.idle) (row_ends w row is (descriptor_ends p t (slice_get w.driver.transfers t))) (quiet_dummies s w k due.idle) k.queues
+    (told_same s _ _)
 
 -- an isochronous endpoint, with all that waits there
 pub isochronous_returned_mixed : (e : ℕ) (x : Endpoint) (s : Standing) (w : World) → IsMixedAt s w → driver_row (driver_parts w) ≡ rows.ReleaseRemoved (removed.Endpoint e)
-    → slice_get w.driver.endpoints e ≡ Some x → is_iso x.desc.kind ≡ true → IsMixedWorld (driver_next w)
+    → slice_get w.driver.endpoints e ≡ Some x → is_iso x.desc.kind ≡ true → IsMixedNext s w (driver_next w)
 isochronous_returned_mixed e x s w k is here iso =
     let p : Parts = driver_parts w in
     let row : DriverRow = rows.ReleaseRemoved (removed.Endpoint e) in
@@ -140,6 +144,7 @@ isochronous_returned_mixed e x s w k is here iso =
     let now = waiting_now opening_base s.member s.recent s.descs s.parts s.hand s.frame (controller_parts w) w.driver e x k.now is here iso in
     frames_mixed s w k _ _ _ s.hand s.frame now of (idle_frames w.driver.command due.idle)
     (row_ends w row is (subst (λ (o : Option Endpoint). EndsStay w.driver.endpoints (after_placed p e o).driver.endpoints) (sym here) (placed_ends p e x here iso))) (quiet_dummies s w k due.idle) k.queues
+    (told_same s _ _)
   where
     is_iso_in : Option Endpoint → Bool
     is_iso_in None = false
@@ -150,7 +155,7 @@ isochronous_returned_mixed e x s w k is here iso =
 no_chain : (c : Command) → IsFramesCommand (Some c) → c ≡ unfinished.Chain → ⊥
 no_chain c frames chain = subst (λ (z : Command). IsFramesCommand (Some z)) chain frames
 
-pub stored_mixed : (s : Standing) (w : World) → IsMixedAt s w → IsLinkOf (driver_parts w) (driver_row (driver_parts w)) → IsFramesCommand w.driver.command → IsMixedWorld (driver_next w)
+pub stored_mixed : (s : Standing) (w : World) → IsMixedAt s w → IsLinkOf (driver_parts w) (driver_row (driver_parts w)) → IsFramesCommand w.driver.command → IsMixedNext s w (driver_next w)
 stored_mixed s w k why frames =
     let p : Parts = driver_parts w in
     let st = why.store in
@@ -160,4 +165,4 @@ stored_mixed s w k why frames =
     let l = link_now opening_base s.member s.recent s.descs s.parts s.hand s.frame (controller_parts w) w.driver k.now why (λ chain. absurd (no_chain why.command its chain)) in
     frames_mixed s w k _ _ _ s.hand l.event.frame_later l.framed of frames (row_ends w row why.is (advance_ends w.driver frames)) (same_dummies s w k of (ap keeps_book why.is))
     (goes_on_relinked opening_base s.descs s.parts s.frame st.at st.value l.event.now l.event.frame_later (queued w.driver) s.near s.streams s.ends s.order s.out l.event.stored
-    (never_publishes w.driver frames) k.queues)
+    (never_publishes w.driver frames) k.queues) (told_stored s _ _ st.at st.value l.event.now l.event.frame_later l.event.stored)

@@ -35,12 +35,13 @@ use Rattle.law_driver.specs.queued_drivers.Queued.{queued, queued_parts}
 use Rattle.law_driver.specs.queued_drivers.Rows.{IsToldAlike}
 use Rattle.law_descriptors.specs.queue_events.Events.{PartsStand}
 use Rattle.bus_world.specs.World.{World, controller_parts, driver_parts, driver_next}
-use Rattle.law_world_memory.specs.Mixed.{Standing, IsMixedAt, IsMixedWorld}
+use Rattle.law_world_memory.specs.Mixed.{Standing, IsMixedAt}
+use Rattle.law_world_memory.specs.Steps.{OutAfter, waits as none_read, passes, stalls, harvests, IsMixedNext}
 use Rattle.law_world_memory.proofs.Unfinished.{none_unfinished}
 use Rattle.law_world_memory.proofs.HarvestTold.{ToldAnew, due_told, same_queues}
 use Rattle.law_world_memory.proofs.HarvestControls.{stall_or, harvest_keeps_queues}
 use Rattle.law_world_memory.proofs.HarvestKept.{idle_lent, owners_of, tells_of, driven_of, fronts_of, IsIdleNext, idle_mixed}
-use Rattle.law_world_memory.proofs.RingBasis.{due_is, row_alike, queued_next}
+use Rattle.law_world_memory.proofs.RingBasis.{due_is, row_alike, queued_next, told_row}
 
 module _ (s : Standing) (w : World) (k : IsMixedAt s w) (e t : ℕ) (found : Found) (row : driver_row (driver_parts w) ≡ rows.Harvest e t found) (moves : (y : Transfer) → slice_get w.driver.transfers t ≡ Some y → is_descriptor y.sort ≡ false) where
   abbrev p : Parts
@@ -94,6 +95,7 @@ module _ (s : Standing) (w : World) (k : IsMixedAt s w) (e t : ℕ) (found : Fou
   -- what is out then
   record IsHarvested : Type 0 where
     later : ℕ → List ℕ
+    out_then : OutAfter (queued_parts (driver_parts w)) e t found due s.out later
     stand : QueuesStand f s.near s.streams s.ends s.parts s.order later
     fronts_now : FrontsStand f s.parts s.order later
 
@@ -106,14 +108,14 @@ module _ (s : Standing) (w : World) (k : IsMixedAt s w) (e t : ℕ) (found : Fou
       let stand : QueuesStand f s.near s.streams s.ends s.parts s.order s.out =
       subst (λ (z : Found). QueuesStand (after_driver_row (rows.Harvest e t z) (queued_parts (driver_parts w))).driver s.near s.streams s.ends s.parts s.order s.out) (sym is)
       (wait_stands (queued_parts (driver_parts w)) e t s.near s.streams s.ends s.parts s.order s.out (subst (IsHarvestDue (queued_parts (driver_parts w)) e t) is due) old) in
-      record { later = s.out; stand = stand; fronts_now = unstalled_fronts (λ stall. subst (IsStall due.endpoint.desc.kind) is stall) s.out stand.out_are }
+      record { later = s.out; out_then = none_read is; stand = stand; fronts_now = unstalled_fronts (λ stall. subst (IsStall due.endpoint.desc.kind) is stall) s.out stand.out_are }
 
   unstalled : found ≢ founds.Active → (IsStall due.endpoint.desc.kind found → ⊥) → IsHarvested
   unstalled done never =
       let l : HarvestLeaves (queued_parts (driver_parts w)) e t found due s.near s.streams s.ends s.parts s.order s.out
       = unstalled_stands (queued_parts (driver_parts w)) e t found s.near s.streams s.ends s.parts s.order s.out due done never owners turns old in
       let later = with_out s.out (32 * due.endpoint.queue) (l.harvested.before ++ l.harvested.behind) in
-      record { later = later; stand = l.stand; fronts_now = unstalled_fronts never later l.stand.out_are }
+      record { later = later; out_then = passes done never l.harvested; stand = l.stand; fronts_now = unstalled_fronts never later l.stand.out_are }
 
   stalled : IsStall due.endpoint.desc.kind found → IsHarvested
   stalled stall =
@@ -129,6 +131,7 @@ module _ (s : Standing) (w : World) (k : IsMixedAt s w) (e t : ℕ) (found : Fou
       (k.queues.controls.sorted e due.endpoint due.here met.there) fronts) in
       record {
         later = later;
+        out_then = stalls stall l.stalled;
         stand = l.stand;
         fronts_now = stall_moves (queued_parts (driver_parts w)) e t found s.near s.streams s.ends s.parts s.order s.out later due stall owners lent turns old l.stand.out_are part halts fronts;
       }
@@ -185,6 +188,7 @@ module _ (s : Standing) (w : World) (k : IsMixedAt s w) (e t : ℕ) (found : Fou
 
   leaves : IsIdleNext s standing_then w
   leaves = record {
+    step = harvests e t found due harvested.later (told_row s w k (rows.Harvest e t found) row moves) harvested.out_then;
     idle = after.command ∙ raw.idle;
     now = harvest_now opening_base s.member s.recent s.descs s.parts s.hand s.frame (controller_parts w) w.driver e t found k.now row;
     ring = met_stays w.driver new s.member (same_queues w.driver new e raw.endpoint raw.here after) k.ring;
@@ -194,13 +198,13 @@ module _ (s : Standing) (w : World) (k : IsMixedAt s w) (e t : ℕ) (found : Fou
     controls = subst (λ (g : DriverContent). ControlsStand g s.parts s.order harvested.later) (sym tells_new) controls;
   }
 
-  pub harvest_leaves : IsMixedWorld (driver_next w)
+  pub harvest_leaves : IsMixedNext s w (driver_next w)
   harvest_leaves = idle_mixed s standing_then w k leaves
 
 -- the harvested transfer is one of qTDs
 abbrev pub HarvestKeepsMixed : Type 0
 HarvestKeepsMixed = (e t : ℕ) (found : Found) (s : Standing) (w : World) → IsMixedAt s w → driver_row (driver_parts w) ≡ rows.Harvest e t found
-    → ((y : Transfer) → slice_get w.driver.transfers t ≡ Some y → is_descriptor y.sort ≡ false) → IsMixedWorld (driver_next w)
+    → ((y : Transfer) → slice_get w.driver.transfers t ≡ Some y → is_descriptor y.sort ≡ false) → IsMixedNext s w (driver_next w)
 
 pub harvest_mixed : HarvestKeepsMixed
 harvest_mixed e t found s w k row moves = harvest_leaves s w k e t found row moves

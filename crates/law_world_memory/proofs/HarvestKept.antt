@@ -25,7 +25,8 @@ use Rattle.law_descriptors.specs.queue_events.Events.{PartsStand}
 use Rattle.law_descriptors.specs.PartLaws.{IsDescribing}
 use Rattle.law_world_memory.specs.framed_memory.Now.{IsFramedNow}
 use Rattle.bus_world.specs.World.{World, controller_parts, driver_parts, driver_next}
-use Rattle.law_world_memory.specs.Mixed.{Standing, IsUnderWay, IsMixedAt, IsMixedWorld}
+use Rattle.law_world_memory.specs.Mixed.{Standing, IsUnderWay, IsMixedAt}
+use Rattle.law_world_memory.specs.Steps.{QueueStep, IsMixedNext}
 use Rattle.law_world_memory.proofs.Unfinished.{none_unfinished}
 use Rattle.law_world_memory.proofs.Next.{mixed_next}
 use Rattle.law_world_memory.proofs.QueueViews.{queued_driven, queued_runs, queues_told}
@@ -60,6 +61,7 @@ module _ (s : Standing) (w : World) (k : IsMixedAt s w) where
 -- ---- what it leaves
 
 pub record IsIdleNext (s t : Standing) (w : World) : Type 0 where
+  pub step : QueueStep s w t
   pub idle : (driver_next w).driver.command ≡ None
   pub now : IsFramedNow opening_base t.member t.recent t.descs t.parts t.hand t.frame (controller_parts (driver_next w)) (driver_next w).driver
   pub ring : AreMet (driver_next w).driver t.member
@@ -90,5 +92,5 @@ module _ (s t : Standing) (w : World) (k : IsMixedAt s w) (n : IsIdleNext s t w)
   under_way : IsUnderWay new (driver_next w).memory t.member t.recent t.parts new.command
   under_way = subst (IsUnderWay new (driver_next w).memory t.member t.recent t.parts) (sym n.idle) tt
 
-  pub idle_mixed : IsMixedWorld (driver_next w)
-  idle_mixed = mixed_next s w k t n.now n.ring (record { queues = n.queues; sound = n.sound; tails = tails; controls = n.controls }) under_way
+  pub idle_mixed : IsMixedNext s w (driver_next w)
+  idle_mixed = mixed_next s w k t n.step n.now n.ring (record { queues = n.queues; sound = n.sound; tails = tails; controls = n.controls }) under_way

@@ -5,6 +5,7 @@ pub mod Controller
 pub mod Opening
 pub mod Unfinished
 pub mod HarvestOwed
+pub mod Stepping
 pub mod Next
 pub mod Rings
 pub mod Working
@@ -12,6 +13,7 @@ pub mod Hubs
 pub mod Texts
 pub mod FittingTexts
 pub mod AtWork
+pub mod Carrying
 pub mod Moments
 pub mod QueueViews
 pub mod PublishStores
@@ -49,6 +51,7 @@ pub mod FrameNext
 pub mod FrameRegisters
 pub mod FrameEnds
 pub mod FrameRows
+pub mod ChainBegun
 pub mod ChainReady
 pub mod ChainSteps
 pub mod ChainLends
@@ -72,4 +75,12 @@ pub mod SampledPlace
 pub mod Sampled
 pub mod SampledMemory
 pub mod SampledMoments
+pub mod StepSampled
+pub mod StepTelling
 pub mod Reasons
+pub mod WaysThere
+pub mod ReachMoments
+pub mod ReachSamples
+pub mod ReleaseRows
+pub mod ReleaseCommands
+pub mod LetGo

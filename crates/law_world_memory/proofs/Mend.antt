@@ -21,7 +21,7 @@ use Rattle.law_queues.proofs.lemmas.publish_laws.Apart.{queues_same, thirty_two}
 use Rattle.law_frames.specs.Met.{IsQueuePart}
 use Rattle.law_driver_ring.specs.fed_queues.Places.{IsMet}
 use Rattle.law_queues.specs.fed_lends.Commands.{QueuesStand}
-use Rattle.law_queues.specs.mended_heads.Owed.{IsOwed}
+use Rattle.law_queues.specs.mended_heads.Owed.{IsOwed, store_due}
 use Rattle.law_queues.specs.mended_heads.Mended.{IsAtMend, mended, head_at, parts_then, hand_then, driver_mended}
 use Rattle.law_queues.proofs.lemmas.mended_heads.Content.{all_on}
 use Rattle.law_queues.proofs.lemmas.mended_heads.Lent.{not_iso, queue_placed}
@@ -42,11 +42,12 @@ use Rattle.law_driver.proofs.lemmas.queued_drivers.RowLists.{queue_told, IsMappe
 use Rattle.law_descriptors.specs.queue_events.Events.{PartsStand}
 use Rattle.law_queues.proofs.lemmas.lent_fronts.Parts.{member_head}
 use Rattle.bus_world.specs.World.{World, controller_parts, driver_parts, driver_next}
-use Rattle.law_world_memory.specs.Mixed.{Standing, IsMixedAt, IsMixedWorld}
+use Rattle.law_world_memory.specs.Mixed.{Standing, IsMixedAt}
+use Rattle.law_world_memory.specs.Steps.{mends, IsMixedNext}
 use Rattle.law_world_memory.specs.Laws.{RowKeepsMixed}
 use Rattle.law_world_memory.proofs.Unfinished.{none_unfinished}
 use Rattle.law_world_memory.proofs.HarvestKept.{idle_lent, owners_of, describes, driven_of, IsIdleNext, idle_mixed}
-use Rattle.law_world_memory.proofs.RingBasis.{due_is, row_alike, queued_next}
+use Rattle.law_world_memory.proofs.RingBasis.{due_is, row_alike, queued_next, told_row}
 use Rattle.law_world_memory.proofs.CommandTails.{idle_tail}
 use Rattle.law_world_memory.proofs.MendNow.{mend_stays_now}
 use Rattle.law_world_memory.proofs.MendTurned.{turned, turned_parts, its_row, mend_at, of_ring, has_queue, owed_of}
@@ -197,6 +198,7 @@ module _ (s : Standing) (w : World) (k : IsMixedAt s w) (m : Mend) (row : driver
 
   leaves : IsIdleNext s standing_then w
   leaves = record {
+    step = mends own_at (told_row s w k (rows.Mend (store_due at.stalled)) own_at.row tt);
     idle = ap (λ (r : DriverRow). (after_driver_row r (driver_parts w)).driver.command) row ∙ due.0;
     now = now;
     ring = leaves_met (driver_parts w) s.parts s.out s.member own_at k.ring;
@@ -208,7 +210,7 @@ module _ (s : Standing) (w : World) (k : IsMixedAt s w) (m : Mend) (row : driver
         (controls_then (queued w.driver) w.registers w.memory s.near s.streams s.ends s.parts s.order s.out at old k.queues.controls);
   }
 
-  pub mend_leaves : IsMixedWorld (driver_next w)
+  pub mend_leaves : IsMixedNext s w (driver_next w)
   mend_leaves = idle_mixed s standing_then w k leaves
 
 pub mend_mixed : (m : Mend) → RowKeepsMixed (rows.Mend m)

@@ -1,4 +1,5 @@
--- The next world is mixed, where its memory and its queues are so for some standing, and what its unfinished command has still to lend stands: each event of the driver keeps the rest.
+-- The next world is mixed, where its memory and its queues are so for some standing, to which its queues come by a step, and what its unfinished command has still to lend stands:
+-- each event of the driver keeps the rest.
 use Rattle.claims_driver.specs.Leaving.{HasOwners}
 use Rattle.claims_base.specs.Controller.{opening_base}
 use Rattle.law_driver_ring.specs.fed_queues.Places.{AreMet}
@@ -11,7 +12,8 @@ use Rattle.law_world_memory.proofs.lemmas.framed_memory.Numbering.{event_numbere
 use Rattle.law_world_steps.proofs.lemmas.controlled_walks.Worlds.{driver_walks}
 use Rattle.drv_table.specs.Parts.{Parts}
 use Rattle.bus_world.specs.World.{World, driver_parts, controller_parts, driver_next}
-use Rattle.law_world_memory.specs.Mixed.{QueuesGoOn, IsUnderWay, Standing, IsMixedAt, IsMixedWorld}
+use Rattle.law_world_memory.specs.Mixed.{QueuesGoOn, IsUnderWay, Standing, IsMixedAt}
+use Rattle.law_world_memory.specs.Steps.{QueueStep, IsMixedNext}
 use Rattle.law_world_memory.proofs.HarvestOwed.{row_owes}
 
 module _ (s : Standing) (w : World) (k : IsMixedAt s w) where
@@ -21,11 +23,12 @@ module _ (s : Standing) (w : World) (k : IsMixedAt s w) where
   owners : HasOwners w.driver
   owners = k.now.framed.place.sound.owners
 
-  pub mixed_next : (new : Standing) → IsFramedNow opening_base new.member new.recent new.descs new.parts new.hand new.frame (controller_parts (driver_next w)) (driver_next w).driver
+  pub mixed_next : (new : Standing) → QueueStep s w new → IsFramedNow opening_base new.member new.recent new.descs new.parts new.hand new.frame (controller_parts (driver_next w)) (driver_next w).driver
       → AreMet (driver_next w).driver new.member → QueuesGoOn (queued (driver_next w).driver) new.near new.streams new.ends new.parts new.order new.out
-      → IsUnderWay (driver_next w).driver (driver_next w).memory new.member new.recent new.parts (driver_next w).driver.command → IsMixedWorld (driver_next w)
-  mixed_next new now ring queues under = record {
+      → IsUnderWay (driver_next w).driver (driver_next w).memory new.member new.recent new.parts (driver_next w).driver.command → IsMixedNext s w (driver_next w)
+  mixed_next new step now ring queues under = record {
     standing = new;
+    step = step;
     mixed = record {
       now = now;
       turns = rows_keep p owners k.turns;

@@ -34,10 +34,11 @@ use Rattle.law_driver.specs.queued_drivers.Queued.{queued, queued_parts, queued_
 use Rattle.law_driver.specs.queued_drivers.Rows.{IsToldAlike}
 use Rattle.law_driver.proofs.lemmas.queued_drivers.RowOwners.{queued_owners, queued_lent}
 use Rattle.bus_world.specs.World.{World, driver_parts, controller_parts, driver_next}
-use Rattle.law_world_memory.specs.Mixed.{QueuesGoOn, IsUnderWay, Standing, IsMixedAt, IsMixedWorld}
+use Rattle.law_world_memory.specs.Mixed.{QueuesGoOn, IsUnderWay, Standing, IsMixedAt}
+use Rattle.law_world_memory.specs.Steps.{QueueStep, lends, IsMixedNext}
 use Rattle.law_world_memory.proofs.Next.{mixed_next}
 use Rattle.law_world_memory.proofs.QueueViews.{queued_driven, queued_runs, awaits_back}
-use Rattle.law_world_memory.proofs.RingBasis.{row_alike}
+use Rattle.law_world_memory.proofs.RingBasis.{row_alike, told_row}
 
 pub not_described : (d : DriverContent) (b : ℕ) (words : List ℕ) (e t count : ℕ) → d.command ≡ Some (unfinished.Publish b words) → d.command ≡ Some (unfinished.Iso e t count) → ⊥
 not_described d b words e t count command is = never (sym command ∙ is)
@@ -160,7 +161,13 @@ module _ (s : Standing) (w : World) (b : ℕ) (words : List ℕ) (k : IsMixedAt 
   abbrev after_lend : Standing
   after_lend = record s { parts = now; order = leaves.order; out = leaves.out }
 
-  pub publish_lent : IsMixedWorld (driver_next w)
+  its_step : QueueStep s w after_lend
+  its_step =
+      let l = leaves.stands in
+      lends b words get leaves.order leaves.out (told_row s w k rows.Lend row_here (not_chained w.driver b words command))
+      (record { behind = l.behind; still = l.still; heads = l.heads; elements = l.elements })
+
+  pub publish_lent : IsMixedNext s w (driver_next w)
   publish_lent =
-      mixed_next s w k after_lend framed_then (subst (λ (f : DriverContent). AreMet f s.member) (sym driver_is) (met_on w.driver m s.member k.ring))
+      mixed_next s w k after_lend its_step framed_then (subst (λ (f : DriverContent). AreMet f s.member) (sym driver_is) (met_on w.driver m s.member k.ring))
       (subst (λ (f : DriverContent). QueuesGoOn f s.near s.streams s.ends now leaves.order leaves.out) (sym same) go_on) (under_way_then (driver_next w).memory)

@@ -31,7 +31,8 @@ use Rattle.law_driver.specs.queued_drivers.Queued.{queued, queued_parts, queued_
 use Rattle.law_driver.specs.queued_drivers.Rows.{IsToldAlike}
 use Rattle.law_driver.proofs.lemmas.queued_drivers.RowOwners.{queued_owners, queued_lent}
 use Rattle.bus_world.specs.World.{World, driver_parts, controller_parts, driver_next}
-use Rattle.law_world_memory.specs.Mixed.{QueuesGoOn, IsUnderWay, Standing, IsMixedAt, IsMixedWorld}
+use Rattle.law_world_memory.specs.Mixed.{QueuesGoOn, IsUnderWay, Standing, IsMixedAt}
+use Rattle.law_world_memory.specs.Steps.{QueueStep, stores, IsMixedNext}
 use Rattle.law_world_memory.proofs.Unfinished.{none_unfinished}
 use Rattle.law_world_memory.proofs.Next.{mixed_next}
 use Rattle.law_world_memory.proofs.PublishStores.{IsStoring, published_by, made_is, below, being, by_store, stands_by, met_now, met_still}
@@ -215,7 +216,10 @@ module _ (s : Standing) (w : World) (b : ℕ) (words : List ℕ) (k : IsMixedAt 
   abbrev after_store : Standing
   after_store = record s { parts = now; out = later }
 
-  pub publish_stored : IsMixedWorld (driver_next w)
+  its_step : QueueStep s w after_store
+  its_step = stores b words g (record { command = at.command; made = at.made; next = row_here; told = same })
+
+  pub publish_stored : IsMixedNext s w (driver_next w)
   publish_stored =
-      mixed_next s w k after_store framed_then ring_then (subst (λ (f : DriverContent). QueuesGoOn f s.near s.streams s.ends now s.order later) (sym same) go_on)
+      mixed_next s w k after_store its_step framed_then ring_then (subst (λ (f : DriverContent). QueuesGoOn f s.near s.streams s.ends now s.order later) (sym same) go_on)
       (under_way_then (driver_next w).memory)

@@ -47,12 +47,13 @@ use Rattle.law_driver.proofs.lemmas.queued_drivers.RowLists.{queue_at, moves_at}
 use Rattle.law_descriptors.specs.queue_events.Events.{PartsStand}
 use Rattle.law_descriptors.proofs.Returning.{owed_by}
 use Rattle.bus_world.specs.World.{World, controller_parts, driver_parts, driver_next}
-use Rattle.law_world_memory.specs.Mixed.{Standing, IsMixedAt, IsMixedWorld}
+use Rattle.law_world_memory.specs.Mixed.{Standing, IsMixedAt}
+use Rattle.law_world_memory.specs.Steps.{returns, IsMixedNext}
 use Rattle.law_world_memory.specs.Laws.{RowKeepsMixed}
 use Rattle.law_world_memory.proofs.Unfinished.{none_unfinished}
 use Rattle.law_world_memory.proofs.QueueViews.{queue_back}
 use Rattle.law_world_memory.proofs.HarvestKept.{owners_of, driven_of, runs_of, fronts_of, IsIdleNext, idle_mixed}
-use Rattle.law_world_memory.proofs.RingBasis.{due_is, row_alike, queued_next}
+use Rattle.law_world_memory.proofs.RingBasis.{due_is, row_alike, queued_next, told_row}
 
 -- ---- what is owed
 
@@ -252,6 +253,7 @@ module _ (s : Standing) (w : World) (k : IsMixedAt s w) (t : ℕ) (row : driver_
 
   leaves : IsIdleNext s standing_then w
   leaves = record {
+    step = returns t owed.transfer (with_queue its_endpoint.0) (told_row s w k (rows.ReleaseTransfer t) row tt) returning;
     idle = ap (λ (r : DriverRow). (after_driver_row r (driver_parts w)).driver.command) row ∙ ap (λ (r : Parts). r.driver.command) (row_is (driver_parts w) owed.here) ∙ due.idle;
     now = release_transfer_now opening_base s.member s.recent s.descs s.parts s.hand s.frame (controller_parts w) w.driver t owed.transfer (runs_of_endpoint (with_queue its_endpoint.0)) k.now row to_go
         (λ on q is. g.may_go q is) (λ on q is. g.may_go q is);
@@ -263,7 +265,7 @@ module _ (s : Standing) (w : World) (k : IsMixedAt s w) (t : ℕ) (row : driver_
     controls = subst (λ (i : DriverContent). ControlsStand i now s.order later) (sym tells_new) controls;
   }
 
-  pub release_leaves : IsMixedWorld (driver_next w)
+  pub release_leaves : IsMixedNext s w (driver_next w)
   release_leaves = idle_mixed s standing_then w k leaves
 
 pub release_mixed : (t : ℕ) → RowKeepsMixed (rows.ReleaseTransfer t)

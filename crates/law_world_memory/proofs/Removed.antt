@@ -57,7 +57,8 @@ use Rattle.law_driver.proofs.lemmas.queued_drivers.RowOwners.{queued_owners}
 use Rattle.law_driver.proofs.lemmas.queued_drivers.RowRemovals.{goes_back}
 use Rattle.law_driver.proofs.lemmas.listed_members.Unchaining.{elsewhere_on, elsewhere_test}
 use Rattle.bus_world.specs.World.{World, driver_parts, controller_parts, driver_next}
-use Rattle.law_world_memory.specs.Mixed.{QueuesGoOn, IsUnderWay, Standing, IsMixedAt, IsMixedWorld}
+use Rattle.law_world_memory.specs.Mixed.{QueuesGoOn, IsUnderWay, Standing, IsMixedAt}
+use Rattle.law_world_memory.specs.Steps.{left_its_frames, QueueStep, goes as step_goes, IsMixedNext}
 use Rattle.law_world_memory.proofs.Unfinished.{none_unfinished}
 use Rattle.law_world_memory.proofs.Next.{mixed_next}
 use Rattle.law_world_memory.proofs.QueueViews.{told_queue}
@@ -461,11 +462,26 @@ module _ (s : Standing) (w : World) (k : IsMixedAt s w) (e : ℕ) (is : driver_r
   ring : AreMet (driver_next w).driver s.member
   ring = subst (λ (h : DriverContent). AreMet h s.member) (sym driver_is) (ring_then d f e x here due.idle unmet gone_f s.member k.ring)
 
-  removed_world : IsMixedWorld (driver_next w)
+  abbrev after_it : Standing
+  after_it = record s { near = fewer_near; streams = met_streams s.streams fewer_near; parts = parts }
+
+  its_step : QueueStep s w after_it
+  its_step =
+      step_goes e out_y (out_of_frames q e) after_it
+      (record {
+        left = left_its_frames is;
+        leaves = subst (λ (o : DriverContent). IsToLeave o e out_y) (sym out_is) leaves;
+        told = subst
+            (λ (h : DriverContent). QueuesAlike (after_driver_row (rows.ReleaseEndpoint e) (record (queued_parts p) { driver = out_of_frames q e })).driver (queued h))
+            (sym driver_is) back.queues;
+      })
+      (record { near = λ m. refl; streams = λ m. refl; ends = refl; order = refl; out = refl; parts = refl; hand = refl; frame = refl })
+
+  removed_world : IsMixedNext s w (driver_next w)
   removed_world =
-      mixed_next s w k (record s { near = fewer_near; streams = met_streams s.streams fewer_near; parts = parts }) framed ring
+      mixed_next s w k after_it its_step framed ring
       (subst (λ (h : DriverContent). QueuesGoOn (queued h) fewer_near (met_streams s.streams fewer_near) s.ends parts s.order s.out) (sym driver_is) goes_f)
       (subst (IsUnderWay (driver_next w).driver (driver_next w).memory s.member s.recent parts) (sym (ap (λ (h : DriverContent). h.command) driver_is ∙ gone_f.command)) tt)
 
-pub removed_mixed : (s : Standing) (w : World) (e : ℕ) (x : Endpoint) → IsMixedAt s w → driver_row (driver_parts w) ≡ rows.ReleaseRemoved (removed.Endpoint e) → slice_get w.driver.endpoints e ≡ Some x → is_iso x.desc.kind ≡ false → IsMixedWorld (driver_next w)
+pub removed_mixed : (s : Standing) (w : World) (e : ℕ) (x : Endpoint) → IsMixedAt s w → driver_row (driver_parts w) ≡ rows.ReleaseRemoved (removed.Endpoint e) → slice_get w.driver.endpoints e ≡ Some x → is_iso x.desc.kind ≡ false → IsMixedNext s w (driver_next w)
 removed_mixed s w e x k is here queue = removed_world s w k e is x here queue

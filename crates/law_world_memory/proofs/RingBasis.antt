@@ -22,6 +22,7 @@ use Rattle.law_driver.proofs.lemmas.queued_drivers.RowEvents.{row_told}
 use Rattle.law_queues.proofs.lemmas.reached_rings.Computing.{one_among}
 use Rattle.bus_world.specs.World.{World, driver_parts, driver_next}
 use Rattle.law_world_memory.specs.Mixed.{Standing, IsMixedAt}
+use Rattle.law_world_memory.specs.Steps.{IsToldRow}
 use Rattle.law_world_memory.proofs.QueueViews.{end_same}
 
 -- ---- endpoints
@@ -85,3 +86,6 @@ module _ (s : Standing) (w : World) (k : IsMixedAt s w) where
 
   pub queued_next : (row : DriverRow) → driver_row (driver_parts w) ≡ row → IsOfQueues (driver_parts w) row → (after_driver_row row (queued_parts (driver_parts w))).driver ≡ queued (driver_next w).driver
   queued_next row is of = sym (ap (λ (q : Parts). q.driver) (row_alike row is of).same) ∙ ap (λ (r : DriverRow). queued (after_driver_row r p).driver) (sym is)
+
+  pub told_row : (row : DriverRow) → driver_row (driver_parts w) ≡ row → IsOfQueues (driver_parts w) row → IsToldRow w row
+  told_row row is of = record { next = is; told = sym (queued_next row is of) }

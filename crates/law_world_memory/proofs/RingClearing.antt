@@ -33,10 +33,11 @@ use Rattle.law_driver.specs.queued_drivers.Queued.{queued, queued_parts}
 use Rattle.law_driver.proofs.lemmas.queued_drivers.RowEvents.{idle_told}
 use Rattle.law_driver.proofs.lemmas.queued_drivers.RowOwners.{queued_owners}
 use Rattle.bus_world.specs.World.{World, driver_parts, controller_parts, driver_next}
-use Rattle.law_world_memory.specs.Mixed.{QueuesGoOn, IsUnderWay, Standing, IsMixedAt, IsMixedWorld}
+use Rattle.law_world_memory.specs.Mixed.{QueuesGoOn, IsUnderWay, Standing, IsMixedAt}
+use Rattle.law_world_memory.specs.Steps.{QueueStep, narrows, IsMixedNext}
 use Rattle.law_world_memory.specs.Laws.{RowKeepsMixed}
 use Rattle.law_world_memory.proofs.Next.{mixed_next}
-use Rattle.law_world_memory.proofs.RingBasis.{near_ring, due_is, queued_next}
+use Rattle.law_world_memory.proofs.RingBasis.{near_ring, due_is, queued_next, told_row}
 use Rattle.law_world_memory.proofs.CommandTails.{all_stand, tails_stand}
 
 -- ---- whom the walk meets then
@@ -178,9 +179,17 @@ module _ (s : Standing) (w : World) (k : IsMixedAt s w) (row : driver_row (drive
   go : QueuesGoOn g nearer (met_streams s.streams nearer) s.ends s.parts s.order s.out
   go = record { queues = all.queues; sound = sound; tails = tails_stand g s.parts s.order s.out told_idle all.tails; controls = controls }
 
-  cleared_next : IsMixedWorld (driver_next w)
+  abbrev after_it : Standing
+  after_it = record s { member = narrower; near = nearer; streams = met_streams s.streams nearer }
+
+  its_step : QueueStep s w after_it
+  its_step =
+      narrows narrower nearer (told_row s w k rows.ClearAdvance row tt) (λ n. refl)
+      (narrow_fewer (queued_parts p) false (queued_owners d owners k.turns) told_idle s.near k.queues.queues.met)
+
+  cleared_next : IsMixedNext s w (driver_next w)
   cleared_next =
-      mixed_next s w k (record s { member = narrower; near = nearer; streams = met_streams s.streams nearer }) framed ring
+      mixed_next s w k after_it its_step framed ring
       (subst (λ (f : DriverContent). QueuesGoOn f nearer (met_streams s.streams nearer) s.ends s.parts s.order s.out) next_is go)
       (subst (λ (c : Option Command). IsUnderWay (driver_next w).driver (driver_next w).memory narrower s.recent s.parts c) (sym none) tt)
 

@@ -36,8 +36,10 @@ use Rattle.law_driver.proofs.lemmas.queued_drivers.CommandFields.{ring_queue}
 use Rattle.law_driver.proofs.lemmas.queued_drivers.RowLists.{queue_at}
 use Rattle.law_driver.proofs.lemmas.queued_drivers.RowOwners.{queued_owners}
 use Rattle.bus_world.specs.World.{World, driver_parts, controller_parts, driver_next}
-use Rattle.law_world_memory.specs.Mixed.{QueuesGoOn, IsUnderWay, Standing, IsMixedAt, IsMixedWorld}
+use Rattle.law_world_memory.specs.Mixed.{QueuesGoOn, IsUnderWay, Standing, IsMixedAt}
+use Rattle.law_world_memory.specs.Steps.{QueueStep, begins, IsMixedNext}
 use Rattle.law_world_memory.proofs.Next.{mixed_next}
+use Rattle.law_world_memory.proofs.Stepping.{queues_are}
 use Rattle.law_world_memory.proofs.QueueViews.{told_queue, queued_driven}
 use Rattle.law_world_memory.proofs.RingBasis.{linked_still, none_of_end, none_in_end, queued_next}
 
@@ -143,9 +145,13 @@ module _ (s : Standing) (w : World) (k : IsMixedAt s w) (r : IsOpenReady w.drive
   go : QueuesGoOn (open_lent q w.memory) s.near s.streams s.ends now s.order s.out
   go = record { queues = whole.queues; sound = sound; tails = whole.tails k.queues.tails; controls = whole.controls k.queues.controls }
 
-  pub lent_next : IsMixedWorld (driver_next w)
+  its_step : QueueStep s w (record s { parts = now })
+  unfolding lend
+  its_step = begins lend row_is (queues_are (open_lent q w.memory) (queued (driver_next w).driver) next_is)
+
+  pub lent_next : IsMixedNext s w (driver_next w)
   lent_next =
       let l = open_lend_now opening_base s.member s.recent s.descs s.parts s.hand s.frame (controller_parts w) d k.now r in
-      mixed_next s w k (record s { parts = now }) l.0 (open_lend_meets (controller_parts w) d s.member r k.ring)
+      mixed_next s w k (record s { parts = now }) its_step l.0 (open_lend_meets (controller_parts w) d s.member r k.ring)
       (subst (λ (f : DriverContent). QueuesGoOn f s.near s.streams s.ends now s.order s.out) next_is go)
       (subst (λ (c : Option Command). IsUnderWay (driver_next w).driver (driver_next w).memory s.member s.recent now c) (sym l.1.command) (inr l.1))

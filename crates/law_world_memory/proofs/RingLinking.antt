@@ -1,5 +1,5 @@
 -- The head of the ring leads to a new queue head, in a world with endpoints of every kind: the walk may meet it then.
-use Rattle.std.proofs.Common.{◌≡◌, ◌≢◌, ℕ, suc, ◌*◌, Bool, false, nat_lt, if◌then◌else◌, List, slice_get, Option, Some, None, ap, sym, subst, ◌∙◌, ⊎_elim}
+use Rattle.std.proofs.Common.{◌≡◌, ◌≢◌, ℕ, suc, ◌*◌, Bool, false, nat_lt, if◌then◌else◌, List, slice_get, Option, Some, None, ap, refl, sym, subst, ◌∙◌, ⊎_elim}
 use Rattle.std.proofs.lemmas.Bool.{cases_eq}
 use Rattle.std.proofs.lemmas.Option.{same_Some}
 use Rattle.qh_qtd.specs.declared.queue_head.Qh.{Qh}
@@ -50,9 +50,12 @@ use Rattle.law_driver.proofs.lemmas.queued_drivers.RowLists.{queue_at}
 use Rattle.law_driver.proofs.lemmas.queued_drivers.RowOwners.{queued_owners}
 use Rattle.law_queues.proofs.lemmas.lent_fronts.Parts.{member_head}
 use Rattle.bus_world.specs.World.{World, driver_parts, controller_parts, driver_next}
-use Rattle.law_world_memory.specs.Mixed.{QueuesGoOn, IsUnderWay, Standing, IsMixedAt, IsMixedWorld}
+use Rattle.law_world_memory.specs.Mixed.{QueuesGoOn, IsUnderWay, Standing, IsMixedAt}
+use Rattle.law_world_memory.specs.Steps.{QueueStep, opens as step_opens, linked_hand, same_frame, IsMixedNext}
 use Rattle.law_world_memory.proofs.Unfinished.{none_unfinished}
 use Rattle.law_world_memory.proofs.Next.{mixed_next}
+use Rattle.law_world_memory.proofs.Alike.{relinked_same}
+use Rattle.law_world_memory.proofs.Stepping.{queues_are}
 use Rattle.law_world_memory.proofs.RingBasis.{linked_still, none_of_end, queued_next}
 
 module _ (s : Standing) (w : World) (k : IsMixedAt s w) (l : IsOpenLent w.driver s.member s.parts) where
@@ -214,9 +217,29 @@ module _ (s : Standing) (w : World) (k : IsMixedAt s w) (l : IsOpenLent w.driver
     controls = link_keeps_controls f s.parts s.order out head_at first.queue (to_queue_head x.queue) first.here (whole.controls k.queues.controls);
   }
 
-  pub linked_next : IsMixedWorld (driver_next w)
+  abbrev after_link : Standing
+  after_link = record s { member = wider; near = near; streams = streams; ends = ends; parts = now; hand = hand_then s.hand x; out = out }
+
+  its_step : QueueStep s w after_link
+  unfolding there
+  its_step =
+      step_opens there after_link (queues_are f (queued (driver_next w).driver) next_is)
+      (record {
+        near = refl;
+        streams = refl;
+        ends = refl;
+        order = refl;
+        out = refl;
+        told = record {
+          parts = relinked_same s.parts head_at first.queue (to_queue_head x.queue) first.here;
+          hand = linked_hand head_at (to_queue_head x.queue);
+          frame = same_frame;
+        };
+      })
+
+  pub linked_next : IsMixedNext s w (driver_next w)
   linked_next =
-      mixed_next s w k (record s { member = wider; near = near; streams = streams; ends = ends; parts = now; hand = hand_then s.hand x; out = out }) framed
+      mixed_next s w k after_link its_step framed
       (open_link_meets opening_base s.member s.recent s.descs s.parts s.hand s.frame (controller_parts w) d k.now l k.ring)
       (subst (λ (g : DriverContent). QueuesGoOn g near streams ends now s.order out) next_is go)
       (subst (λ (c : Option Command). IsUnderWay (driver_next w).driver (driver_next w).memory wider s.recent now c) (sym done) tt)

@@ -34,7 +34,7 @@ use Rattle.law_world_steps.proofs.lemmas.endpoint_releases.Owning.{queue_beside}
 use Rattle.law_world_steps.proofs.lemmas.endpoint_releases.Releasing.{due_leaves}
 use Rattle.law_world_steps.specs.left_queues.Standing.{AllStand}
 use Rattle.law_world_steps.proofs.lemmas.left_queues.Returned.{endpoint_release_stands}
-use Rattle.law_world_steps.proofs.lemmas.left_queues.Unmet.{same_block, apart_by, IsCleared, cleared_is, near_other}
+use Rattle.law_world_steps.proofs.lemmas.left_queues.Unmet.{same_block, apart_by, IsCleared, cleared_is, near_other, cleared_unmet}
 use Rattle.law_world_steps.specs.control_queues.Controls.{ControlsStand}
 use Rattle.law_world_steps.proofs.lemmas.control_queues.Beside.{same_keep_controls}
 use Rattle.law_world_steps.proofs.lemmas.control_queues.Returns.{leaver_keeps_controls}
@@ -47,9 +47,11 @@ use Rattle.law_driver.proofs.lemmas.queued_drivers.RowEvents.{idle_told}
 use Rattle.law_driver.proofs.lemmas.queued_drivers.RowLists.{queue_at}
 use Rattle.law_driver.proofs.lemmas.queued_drivers.RowOwners.{queued_owners}
 use Rattle.bus_world.specs.World.{World, driver_parts, controller_parts, driver_next}
-use Rattle.law_world_memory.specs.Mixed.{QueuesGoOn, IsUnderWay, Standing, IsMixedAt, IsMixedWorld}
+use Rattle.law_world_memory.specs.Mixed.{QueuesGoOn, IsUnderWay, Standing, IsMixedAt}
+use Rattle.law_world_memory.specs.Steps.{left_the_ring, QueueStep, goes, IsMixedNext}
 use Rattle.law_world_memory.specs.Laws.{RowKeepsMixed}
 use Rattle.law_world_memory.proofs.Next.{mixed_next}
+use Rattle.law_world_memory.proofs.Stepping.{queues_are, near_without, streams_within}
 use Rattle.law_world_memory.proofs.QueueViews.{told_queue}
 use Rattle.law_world_memory.proofs.RingBasis.{near_alive, due_is, queued_next}
 use Rattle.law_world_memory.proofs.CommandTails.{all_stand, tails_stand}
@@ -292,9 +294,26 @@ module _ (s : Standing) (w : World) (k : IsMixedAt s w) (e : ℕ) (row : driver_
     controls = release_controls (queued_parts p) e z s.parts s.order s.out told_idle (given_owes_none p (ap gives_back row)) refl told_leaves k.queues.controls;
   }
 
-  released_next : IsMixedWorld (driver_next w)
+  its_step : QueueStep s w (record s { parts = now })
+  its_step =
+      let u = k.queues.queues in
+      let off : s.near n ≡ false = cleared_unmet q s.near 0 e z told_owners turns u.met told_leaves.first told_here in
+      goes e z q (record s { parts = now })
+      (record { left = left_the_ring row; leaves = told_leaves; told = queues_are g (queued (driver_next w).driver) next_is })
+      (record {
+        near = near_without s.near n off;
+        streams = streams_within q s.near s.streams s.ends u.met u.streams_are;
+        ends = refl;
+        order = refl;
+        out = refl;
+        parts = refl;
+        hand = refl;
+        frame = refl;
+      })
+
+  released_next : IsMixedNext s w (driver_next w)
   released_next =
-      mixed_next s w k (record s { parts = now }) framed ring (subst (λ (f : DriverContent). QueuesGoOn f s.near s.streams s.ends now s.order s.out) next_is go)
+      mixed_next s w k (record s { parts = now }) its_step framed ring (subst (λ (f : DriverContent). QueuesGoOn f s.near s.streams s.ends now s.order s.out) next_is go)
       (subst (λ (c : Option Command). IsUnderWay (driver_next w).driver (driver_next w).memory s.member s.recent now c) (sym none) tt)
 
 pub endpoint_mixed : (e : ℕ) → RowKeepsMixed (rows.ReleaseEndpoint e)

@@ -44,9 +44,10 @@ use Rattle.law_driver.proofs.lemmas.queued_drivers.CommandFields.{ring_queue}
 use Rattle.law_driver.proofs.lemmas.queued_drivers.RowLists.{queue_at}
 use Rattle.law_queues.proofs.lemmas.lent_fronts.Parts.{member_head}
 use Rattle.bus_world.specs.World.{World, driver_parts, controller_parts, driver_next}
-use Rattle.law_world_memory.specs.Mixed.{QueuesGoOn, IsUnderWay, Standing, IsMixedAt, IsMixedWorld}
+use Rattle.law_world_memory.specs.Mixed.{QueuesGoOn, IsUnderWay, Standing, IsMixedAt}
+use Rattle.law_world_memory.specs.Steps.{QueueStep, unlinks, IsMixedNext}
 use Rattle.law_world_memory.proofs.Next.{mixed_next}
-use Rattle.law_world_memory.proofs.RingBasis.{linked_still, near_ring, queued_next}
+use Rattle.law_world_memory.proofs.RingBasis.{linked_still, near_ring, queued_next, told_row as told_by}
 use Rattle.law_world_memory.proofs.CommandTails.{idle_tail}
 
 never_opens : (e before link b : ℕ) → ◌≡◌ {A = Option Command} (Some (unfinished.Unlink e before link)) (Some (unfinished.Open b)) → ⊥
@@ -205,13 +206,20 @@ module _ (s : Standing) (w : World) (k : IsMixedAt s w) (at : IsAtUnlink w.drive
     controls = unlink_keeps_controls (queued_parts p) s.near s.parts s.order s.out told k.queues.controls;
   }
 
-  pub unlinked_next : IsMixedWorld (driver_next w)
+  abbrev after_unlink : Standing
+  after_unlink = record s { parts = now; hand = hand_unlinked s.hand at.before at.after }
+
+  its_step : QueueStep s w after_unlink
+  unfolding told
+  its_step = unlinks told (told_by s w k store real.row of_queues)
+
+  pub unlinked_next : IsMixedNext s w (driver_next w)
   unlinked_next =
-      mixed_next s w k (record s { parts = now; hand = hand_unlinked s.hand at.before at.after }) framed (unlink_meets (controller_parts w) d s.member s.parts at k.ring)
+      mixed_next s w k after_unlink its_step framed (unlink_meets (controller_parts w) d s.member s.parts at k.ring)
       (subst (λ (f : DriverContent). QueuesGoOn f s.near s.streams s.ends now s.order s.out) next_is go)
       (subst (λ (c : Option Command). IsUnderWay (driver_next w).driver (driver_next w).memory s.member s.recent now c) (sym real.done) tt)
 
-pub unlink_mixed : (s : Standing) (w : World) (e before link : ℕ) → IsMixedAt s w → w.driver.command ≡ Some (unfinished.Unlink e before link) → IsMixedWorld (driver_next w)
+pub unlink_mixed : (s : Standing) (w : World) (e before link : ℕ) → IsMixedAt s w → w.driver.command ≡ Some (unfinished.Unlink e before link) → IsMixedNext s w (driver_next w)
 unlink_mixed s w e before link k leaves =
     let made : w.driver.made ≡ 0 = subst (λ (c : Option Command). IsUnderWay w.driver w.memory s.member s.recent s.parts c) leaves k.under_way in
     let row : driver_row (driver_parts w) ≡ rows.Store before (32 * before) link = ap (row_for (driver_parts w)) leaves ∙ ap (command_row (unfinished.Unlink e before link)) made in

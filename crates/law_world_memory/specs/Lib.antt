@@ -1,5 +1,9 @@
 pub mod owned_blocks
 pub mod Mixed
+pub mod SameQueues
+pub mod Steps
+pub mod StepLaws
+pub mod StepSamples
 pub mod Laws
 pub mod Scripts
 pub mod MicrophoneSamples
@@ -8,3 +12,5 @@ pub mod Samples
 pub mod Reasons
 pub mod running_worlds
 pub mod framed_memory
+pub mod Reach
+pub mod Releases

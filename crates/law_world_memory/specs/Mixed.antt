@@ -3,15 +3,18 @@
 -- frames, goes on along its qTDs, which are given back only behind its front.
 --     QueuesGoOn ..            what is told of the queues: fed, in their order, sound where a walk may meet them, their fronts no further than their tails; what is halted
 --                              stops, and what a halted queue head is owed is still to be stored
---     IsChainToLend d m        an interrupt endpoint's open is still to lend its structures, and the endpoint is the newest
+--     IsChainToLend d m        an interrupt endpoint's open is still to lend its structures, and to link its queue head in frames then; and the
+--                              endpoint is the newest
 --     IsChainThere ..          .. or they are lent: whatever the walk of the frames has met of them by now, the queue rests at its inactive qTD, its only one
 --     IsUnderWay ..            what the unfinished command has still to lend stands ready, or is lent
 --     Standing                 which queue heads the walk of the ring may meet (`member`), and which have their queue (`near`); what was unlinked in this microframe; the
---                              structures of descriptors and of queues; what is in both hands; the order of each queue, and what is out of it
+--                              structures of descriptors and of queues; what is in both hands; the order of each queue, and what is out
+--                              of it; of each queue whether data come in (`streams`), and its endpoint as the queues tell it (`ends`)
 --     IsMixedAt s w            the world is so
 --     IsMixedWorld w           .. for some standing
 use Rattle.std.specs.Prelude.{◌≡◌, ℕ, suc, ◌*◌, ◌≤◌, ◌⊎◌, Bool, false, List, length, Option, Some}
 use Rattle.word_mem.specs.Memory.{Mem}
+use Rattle.drv_periodic.specs.declared.work.Work.{Work}
 use Rattle.drv_table.specs.declared.content.Command.{Command}
 use Rattle.drv_table.specs.declared.content.Command.TheVariants as unfinished
 use Rattle.drv_table.specs.DriverContent.{DriverContent}
@@ -52,6 +55,8 @@ pub record QueuesGoOn (d : DriverContent) (near streams : ℕ → Bool) (ends : 
 
 pub record IsChainToLend (d : DriverContent) (m : Mem) : Type 0 where
   pub ready : IsChainReady d m
+  pub work : Work
+  pub begun : d.periodic.list.work ≡ Some work
   pub newest : suc ready.number ≡ length d.endpoints
 
 -- the walk of the ring doesn't meet it
@@ -73,6 +78,8 @@ pub record Standing : Type 0 where
   pub member : ℕ → Bool
   pub near : ℕ → Bool
   pub streams : ℕ → Bool
+  -- as the queues tell the endpoint: at high speed and below no hub, whatever its own speed, hub and port are. These stand in its queue
+  -- head alone, by which it is asked: `HasEndpoint parts n`
   pub ends : ℕ → Told
   pub recent : ℕ → Option Kind
   pub descs : StructureSets

@@ -7,6 +7,7 @@
 --     opened               its world once the open of the keyboard's was accepted with this placement
 --     typed_at k           its world k events and commands after that
 --     typed_row k          the row that its driver has next then
+--     unlent c             this content over a memory of no block
 --     PlansFirst           the plan of a driver that was just built gives the keyboard's endpoint this placement
 --     IsMixedScript s      the premises: the script fits, says bytes, and opens endpoints whose numbers and ways fit
 use Rattle.std.specs.Prelude.{◌≡◌, ℕ, false, List, [], ◌∷◌, Some, None, Ok}
@@ -28,6 +29,7 @@ use Rattle.drv_periodic_table.specs.Periodic.{want_of}
 use Rattle.drv_table.specs.declared.rows.DriverRow.{DriverRow}
 use Rattle.drv_table.specs.Offers.{planned_open}
 use Rattle.drv_table.specs.Rows.{driver_row}
+use Rattle.hc_core.specs.Controller.{Content}
 use Rattle.bus_wire.specs.Bus.{fixed_of}
 use Rattle.bus_world.specs.World.{World, driver_parts, commanded_by, name_in}
 use Rattle.bus_world.specs.Opening.{opening_world}
@@ -91,3 +93,7 @@ pub record IsMixedScript (s : Script) : Type 0 where
   pub fits : IsFit s
   pub bytes : IsByteScript s
   pub opens : FitsMixed s
+
+-- over a memory of no block
+abbrev pub unlent : Content → Content
+unlent c = record c { memory = record { words = []; states = []; foreign = 0 } }

@@ -7,7 +7,9 @@ ghost use Rattle.drv_table.specs.declared.content.Command.TheVariants as unfinis
 ghost use Rattle.drv_table.specs.declared.rows.DriverRow.TheVariants as rows;
 ghost use Rattle.bus_world.specs.Budgets.{moment};
 ghost use Rattle.claims_world.specs.Memory.{KeepsMemory, ring_blocks};
-ghost use Rattle.law_world_memory.specs.Samples.{IsMixedScript, PlansFirst, keyboard_and_disk, typed_at, typed_row};
+ghost use Rattle.bus_world.specs.World.{controller_parts};
+ghost use Rattle.claims_world.specs.Reach.{Reaches, IsLentAt, TheList, QueueAt, QtdAt};
+ghost use Rattle.law_world_memory.specs.Samples.{unlent, IsMixedScript, PlansFirst, keyboard_and_disk, typed_at, typed_row};
 
 /// A script that opens an interrupt endpoint behind a hub and a bulk one beside it, and asks the first for eight bytes, meets the premises: it fits, says bytes, and what it
 /// opens has numbers that fit their fields, and ways that fit their kinds.
@@ -72,4 +74,13 @@ pub fn the_controller_meets_the_keyboard()
     ensures held { held_address (typed_at 28).control.frame.hand ≡ Some 4160 }
     ensures let_go { held_address (typed_at 30).control.frame.hand ≡ None }
     ensures over { (typed_at 30).control.frame.cursor ≡ links.End }
+{}
+
+/// Once a get of the keyboard's is published its queue head is reached by the frame list, and by the queue head the qTD that it takes next; over a memory
+/// of no block the frame list is reached, and isn't Lent.
+#[tactic(auto, using(crate::proofs::ReachSamples::by_the_list, crate::proofs::ReachSamples::by_the_queue, crate::proofs::ReachSamples::over_no_block))]
+pub fn the_keyboard_is_reached()
+    ensures queue { Reaches (controller_parts (typed_at 24)) (QueueAt 4160) }
+    ensures qtd { Reaches (controller_parts (typed_at 24)) (QtdAt 4224) }
+    ensures unlent { Reaches (unlent (controller_parts (typed_at 24))) TheList × (IsLentAt (unlent (controller_parts (typed_at 24))) TheList → ⊥) }
 {}

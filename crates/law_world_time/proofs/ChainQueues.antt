@@ -63,17 +63,17 @@ missed_active q = refl
 
 -- ---- what a row needs
 
-record IsReady (h : HeldQueue) (left : ℕ) (t : Transaction) : Type 0 where
-  plan : t ≡ planned h.copy.queue_head
-  enough : t.price.0 ≤ left
-  unsettled : h.copy.settled ≡ None
+pub record IsReady (h : HeldQueue) (left : ℕ) (t : Transaction) : Type 0 where
+  pub plan : t ≡ planned h.copy.queue_head
+  pub enough : t.price.0 ≤ left
+  pub unsettled : h.copy.settled ≡ None
 
-record IsDone (h : HeldQueue) (t : Qtd) : Type 0 where
-  unsettled : h.copy.settled ≡ None
-  active : h.copy.queue_head.token.active ≡ false
-  taken : t.token.active ≡ true
+pub record IsDone (h : HeldQueue) (t : Qtd) : Type 0 where
+  pub unsettled : h.copy.settled ≡ None
+  pub active : h.copy.queue_head.token.active ≡ false
+  pub taken : t.token.active ≡ true
 
-abbrev Fits : HeldQueue → ℕ → QueueRow → Type 0
+abbrev pub Fits : HeldQueue → ℕ → QueueRow → Type 0
 Fits h left rows.Fault = Unit {0}
 Fits h left rows.Skip = Unit {0}
 Fits h left (rows.Advance a t) = IsDone h t
@@ -119,7 +119,8 @@ turn_fits h m left f true none = complete_fits h m left (is_missed f h.copy.queu
 turn_fits h m left f false none =
     visit_fits h m left (has h.copy.queue_head.smask (microframe_of f)) h.copy.queue_head.token.halted h.copy.queue_head.token.active (qtd_link_of (next_pointer h.copy.queue_head)) refl none
 
-settled_fits : (h : HeldQueue) (m : Mem) (left f : ℕ) (o : Option Outcome) → h.copy.settled ≡ o → Fits h left (settled_row m left f h.copy.queue_head o)
+pub settled_fits : (h : HeldQueue) (m : Mem) (left f : ℕ) (o : Option Outcome) → h.copy.settled ≡ o
+    → Fits h left (settled_row m left f h.copy.queue_head o)
 settled_fits h m left f None e = turn_fits h m left f (waits h.copy.queue_head) e
 settled_fits h m left f (Some outcome) e = e
 

@@ -1,5 +1,5 @@
 -- In a microframe the walk of the frames visits no more structures than the largest memory has blocks.
-use Rattle.std.proofs.Common.{◌≡◌, ℕ, ◌*◌, ◌/◌, ◌%◌, ◌<◌, Bool, true, false, List, [], ◌∷◌, Option, Some, None, if◌then◌else◌, refl, subst, arith}
+use Rattle.std.proofs.Common.{◌≡◌, ℕ, ◌*◌, ◌/◌, ◌%◌, ◌<◌, Bool, true, false, List, [], ◌∷◌, Option, Some, None, if◌then◌else◌, inl, inr, refl, sym, subst, arith}
 use Rattle.std.specs.List.{AllByRecursion}
 use Rattle.std.proofs.lemmas.Bool.{and_parts}
 use Rattle.script_types.specs.declared.scripts.Script.{Script}
@@ -28,11 +28,11 @@ use Rattle.law_world_memory.proofs.Texts.{texts_fit}
 use Rattle.law_world_memory.proofs.FittingTexts.{texts_open_fitting}
 use Rattle.law_world_visits.specs.Began.{began}
 use Rattle.claims_world.specs.Carried.{carried}
-use Rattle.claims_world.specs.Visits.{fetched_by, visited_too, visits_at, visits_after, visits_next, visited, frame_in, IsInItsFrame, VisitsApart, begins}
+use Rattle.claims_world.specs.Visits.{fetched_by, visited_too, visits_at, visits_after, visits_next, visited, frame_in, WasOfFrame, of_descriptor, of_queue_head, of_waiting, IsInItsFrame, VisitsApart}
 use Rattle.law_world_visits.specs.Visited.{IsVisiting}
-use Rattle.drv_chains.specs.declared.members.Member.{Member}
+use Rattle.drv_periodic_table.specs.declared.content.Removed.{Removed}
 use Rattle.drv_chains.specs.Chains.{id_of}
-use Rattle.law_world_visits.proofs.Carrying.{carrying}
+use Rattle.law_world_memory.proofs.Carrying.{carrying}
 use Rattle.law_world_visits.proofs.VisitMoments.{visits_apart}
 use Rattle.law_world_visits.proofs.VisitTexts.{lines_fit}
 use Rattle.law_world_visits.proofs.VisitsKept.{scripts_visit_all}
@@ -104,16 +104,22 @@ after_low _ c vs shape all = all
 
 -- ---- each is a block
 
-begins_aligned : (x : Member) (v : ℕ) → begins x ≡ v → v % 32 ≡ 0
-begins_aligned x v is = subst (λ (n : ℕ). n % 32 ≡ 0) is (multiple (id_of x / 32))
-  where
-    multiple : (n : ℕ) → 32 * n % 32 ≡ 0
-    multiple n = omega arith
+multiple : (v n : ℕ) → v ≡ 32 * n → v % 32 ≡ 0
+multiple v n is = omega (arith, is)
+
+was_aligned : (d : DriverContent) (frame v : ℕ) (what : Removed) → WasOfFrame d frame v what → v % 32 ≡ 0
+was_aligned d frame v _ (of_descriptor t y here sort at framed) = multiple v y.first at
+was_aligned d frame v _ (of_queue_head e x p here kind placed at active) = multiple v x.queue at
+was_aligned d frame v _ (of_waiting e t y here sort waits at framed) = multiple v y.first at
+
+aligned_in : (d : DriverContent) (index frame v : ℕ) → IsInItsFrame d index frame v → v % 32 ≡ 0
+aligned_in d index frame v (inl m) = multiple v (id_of m.member / 32) (sym m.at)
+aligned_in d index frame v (inr was) = was_aligned d frame v was.0 was.1.0
 
 all_blocks : (d : DriverContent) (index frame : ℕ) (vs : List ℕ) → AllByRecursion (IsInItsFrame d index frame) vs → AllByRecursion IsLow vs → AllByRecursion (IsBlockBelow most_blocks) vs
 all_blocks d index frame [] framed low = tt
 all_blocks d index frame (v ∷ vs) framed low =
-    (record { aligned = begins_aligned framed.0.member v framed.0.at; below = low.0 }, all_blocks d index frame vs framed.1 low.1)
+    (record { aligned = aligned_in d index frame v framed.0; below = low.0 }, all_blocks d index frame vs framed.1 low.1)
 
 pub mixed_shaped : (w : World) → IsMixedWorld w → IsShaped w.memory
 mixed_shaped w h = h.mixed.now.framed.place.sound.shape

@@ -5,6 +5,8 @@ use Rattle.std.proofs.lemmas.Bool.{false≢true}
 use Rattle.std.proofs.lemmas.Option.{same_Some}
 use Rattle.std.proofs.lemmas.List.{length-append, length-map}
 use Rattle.usb_base.specs.declared.commands.Cmd.{Cmd}
+use Rattle.usb_base.specs.declared.packets.Dir.{Dir}
+use Rattle.usb_base.specs.declared.packets.Dir.TheVariants as directions
 use Rattle.usb_base.specs.declared.packets.EpKind.{EpKind}
 use Rattle.usb_base.specs.declared.packets.EpKind.TheVariants.{Interrupt}
 use Rattle.usb_base.specs.declared.packets.Way.{Way}
@@ -16,6 +18,7 @@ use Rattle.mem_runs.specs.declared.slots.Slot.TheVariants as slots
 use Rattle.mem_runs.specs.Book.{holding, Stands, slot_of}
 use Rattle.mem_runs.proofs.Standing.{lends_at, lends_all}
 use Rattle.qh_qtd.specs.declared.qtd.Qtd.{Qtd}
+use Rattle.drv_periodic_table.specs.Periodic.{dir_of}
 use Rattle.drv_table.specs.declared.content.Command.{Command}
 use Rattle.drv_table.specs.declared.content.Command.TheVariants as unfinished
 use Rattle.drv_table.specs.declared.content.Endpoint.{Endpoint}
@@ -65,9 +68,9 @@ use Rattle.law_world_memory.proofs.QueueViews.{queues_told}
 use Rattle.law_world_visits.proofs.BelongSeen.{Seen, seen_in, IsSeenIn, seen_set, seen_there, or_done}
 use Rattle.law_world_visits.proofs.BelongItdCommands.{leaves_lent}
 use Rattle.law_world_visits.proofs.BelongTold.{or_left}
-use Rattle.law_world_time.specs.DataQueues.{qtd_in, SendsData, QueuesSendData, CommandKeepsData}
+use Rattle.law_world_time.specs.DataQueues.{qtd_in, pid_of, way_of, SendsData, QueuesSendData, CommandKeepsData}
 use Rattle.law_world_time.proofs.DataWords.{told_qtd, of_words, same_sends}
-use Rattle.law_world_time.proofs.DataTold.{piece_run, there_queued, here_queued}
+use Rattle.law_world_time.proofs.DataTold.{pid_low, piece_run, there_queued, here_queued}
 
 -- ---- what was accepted
 
@@ -249,34 +252,37 @@ word_stays d m new b place idle leaves run = by (slot_of d.book.slots b) refl
 
 -- ---- a new one
 
-abbrev SendOrAsk : List Stage → Type 0
-SendOrAsk ss = AllByRecursion (λ s. s.pid ≤ 1) ss
+abbrev GoBy : Dir → List Stage → Type 0
+GoBy dir ss = AllByRecursion (λ s. s.pid ≡ pid_of dir) ss
 
-low_in : (ss : List Stage) → AllByRecursion (λ s. s ≡ stage_by ways.In s.long) ss → SendOrAsk ss
-low_in [] all = tt
-low_in (s ∷ ss) all = (let pid : s.pid ≡ 1 = ap (λ (r : Stage). r.pid) all.0 in omega (arith, pid), low_in ss all.1)
+go_in : (ss : List Stage) → AllByRecursion (λ s. s ≡ stage_by ways.In s.long) ss → GoBy directions.In ss
+go_in [] all = tt
+go_in (s ∷ ss) all = (ap (λ (r : Stage). r.pid) all.0, go_in ss all.1)
 
-low_out : (ss : List Stage) → AllByRecursion (λ s. s ≡ stage_by ways.Out s.long) ss → SendOrAsk ss
-low_out [] all = tt
-low_out (s ∷ ss) all = (let pid : s.pid ≡ 0 = ap (λ (r : Stage). r.pid) all.0 in omega (arith, pid), low_out ss all.1)
+go_out : (ss : List Stage) → AllByRecursion (λ s. s ≡ stage_by ways.Out s.long) ss → GoBy directions.Out ss
+go_out [] all = tt
+go_out (s ∷ ss) all = (ap (λ (r : Stage). r.pid) all.0, go_out ss all.1)
 
-stages_low : (way : Way) (kind : EpKind) (ss : List Stage) → IsOfWay way kind → kind ≡ Interrupt → AreStagesBy way ss → SendOrAsk ss
-stages_low ways.In kind ss fits is are = low_in ss are
-stages_low ways.Out kind ss fits is are = low_out ss are
-stages_low ways.Ctl kind ss fits is are = absurd (let e = sym fits ∙ is in cc)
+stages_go : (way : Way) (kind : EpKind) (ss : List Stage) → IsOfWay way kind → kind ≡ Interrupt → AreStagesBy way ss → GoBy (dir_of way) ss
+stages_go ways.In kind ss fits is are = go_in ss are
+stages_go ways.Out kind ss fits is are = go_out ss are
+stages_go ways.Ctl kind ss fits is are = absurd (let e = sym fits ∙ is in cc)
 
-written_sends : (d : DriverContent) (m : Mem) (dummy : ℕ) (ss : List Stage) (b j : ℕ) → Stands (holding d.book m) → IsShaped m → AreWritten m d.notes dummy ss b → AreNoted (slot_of d.book.slots) d.notes ss b
-    → AreShort ss → SendOrAsk ss → j < length ss → SendsData (qtd_in m (piece_at (note_in d.notes) b j))
-written_sends d m dummy [] b j stands shape words noted short low below = absurd (omega (arith, below))
-written_sends d m dummy (s ∷ ss) b zero stands shape words noted short low below =
+written_sends : (dir : Dir) (d : DriverContent) (m : Mem) (dummy : ℕ) (ss : List Stage) (b j : ℕ) → Stands (holding d.book m) → IsShaped m
+    → AreWritten m d.notes dummy ss b → AreNoted (slot_of d.book.slots) d.notes ss b
+    → AreShort ss → GoBy dir ss → j < length ss → SendsData dir (qtd_in m (piece_at (note_in d.notes) b j))
+written_sends dir d m dummy [] b j stands shape words noted short low below = absurd (omega (arith, below))
+written_sends dir d m dummy (s ∷ ss) b zero stands shape words noted short low below =
     let t : Qtd = stage_qtd d.notes s b dummy (is_last ss) in
-    let few = low.0 in
+    let pid = low.0 in
+    let few = pid_low dir in
     let is : qtd_in m b ≡ t =
     of_words m b t words.0
-    (qtd_range s (note_at d.notes b).next dummy (note_at d.notes b).buffer (is_last ss) (omega (arith, few)) short.0 (blocks_low (holding d.book m) (note_at d.notes b) s stands shape noted.0)) in
-    subst SendsData (sym is) (λ on. low.0)
-written_sends d m dummy (s ∷ ss) b (suc j) stands shape words noted short low below =
-    written_sends d m dummy ss (note_at d.notes b).next j stands shape words.1 noted.1 short.1 low.1 (omega (arith, below))
+    (qtd_range s (note_at d.notes b).next dummy (note_at d.notes b).buffer (is_last ss) (omega (arith, pid, few)) short.0
+    (blocks_low (holding d.book m) (note_at d.notes b) s stands shape noted.0)) in
+    subst (SendsData dir) (sym is) (λ on. low.0)
+written_sends dir d m dummy (s ∷ ss) b (suc j) stands shape words noted short low below =
+    written_sends dir d m dummy ss (note_at d.notes b).next j stands shape words.1 noted.1 short.1 low.1 (omega (arith, below))
 
 module _ (s : Standing) (v : World) (k : IsMixedAt s v) (t : ℕ) (z : Transfer) (x : Endpoint) (there : slice_get v.driver.transfers t ≡ Some z) (sort : is_descriptor z.sort ≡ false)
     (held : z.released ≡ false) (here : slice_get v.driver.endpoints z.endpoint ≡ Some x) (kind : x.desc.kind ≡ Interrupt) (new : IsNewest v.driver t) where
@@ -305,13 +311,14 @@ module _ (s : Standing) (v : World) (k : IsMixedAt s v) (t : ℕ) (z : Transfer)
       let g = to_be_lent in
       same_Some g.endpoint (with_queue x) (sym g.here ∙ ap (λ (y : Transfer). slice_get (queued d).endpoints y.endpoint) own ∙ here_queued d k.turns t z x there sort held here kind)
 
-  low : SendOrAsk (to_be_lent.stage ∷ to_be_lent.further)
+  low : GoBy (way_of x) (to_be_lent.stage ∷ to_be_lent.further)
   low =
       let g = to_be_lent in
-      stages_low x.desc.name.way x.desc.kind (g.stage ∷ g.further) (k.turns.kinds_fit z.endpoint x here) kind (subst (λ (y : Endpoint). AreStagesBy y.desc.name.way (g.stage ∷ g.further)) endpoint_is g.stages)
+      stages_go x.desc.name.way x.desc.kind (g.stage ∷ g.further) (k.turns.kinds_fit z.endpoint x here) kind
+      (subst (λ (y : Endpoint). AreStagesBy y.desc.name.way (g.stage ∷ g.further)) endpoint_is g.stages)
 
   -- the first is still the inactive qTD that stood at the end of the queue
-  first_sends : SendsData (qtd_in v.memory z.first)
+  first_sends : SendsData (way_of x) (qtd_in v.memory z.first)
   first_sends =
       let g = to_be_lent in
       let h : IsPublished (queued d) s.parts new.block new.words = k.queues.queues.fed.publishes new.block new.words g.command in
@@ -322,15 +329,16 @@ module _ (s : Standing) (v : World) (k : IsMixedAt s v) (t : ℕ) (z : Transfer)
       = ap (λ (y : Transfer). qtd_in v.memory y.first) (sym own) ∙ ap (qtd_in v.memory) g.first ∙ is ∙ ap (λ (n : ℕ). partly h.qtd (n - 1)) g.made in
       λ on. absurd (false≢true (ap (λ (q : Qtd). q.token.active) (sym idle) ∙ on))
 
-  new_sends : (i : ℕ) → i < z.qtds → SendsData (qtd_in v.memory (piece_at (note_in v.driver.notes) z.first i))
+  new_sends : (i : ℕ) → i < z.qtds → SendsData (way_of x) (qtd_in v.memory (piece_at (note_in v.driver.notes) z.first i))
   new_sends zero below = first_sends
   new_sends (suc j) below =
       let g = to_be_lent in
       let a = g.awaits in
       let sound = k.now.framed.place.sound in
       let long : z.qtds ≡ suc (length g.further) = ap (λ (y : Transfer). y.qtds) (sym own) ∙ a.qtds in
-      let all = written_sends (queued d) v.memory g.endpoint.dummy g.further (note_at d.notes g.transfer.first).next j sound.stands sound.shape a.words a.noted.1 a.short.1 low.1 (omega (arith, below, long)) in
-      subst (λ (y : Transfer). SendsData (qtd_in v.memory (piece_at (note_in d.notes) (note_at d.notes y.first).next j))) own all
+      let all = written_sends (way_of x) (queued d) v.memory g.endpoint.dummy g.further (note_at d.notes g.transfer.first).next j
+      sound.stands sound.shape a.words a.noted.1 a.short.1 low.1 (omega (arith, below, long)) in
+      subst (λ (y : Transfer). SendsData (way_of x) (qtd_in v.memory (piece_at (note_in d.notes) (note_at d.notes y.first).next j))) own all
 
 -- ---- any command
 
@@ -345,10 +353,13 @@ accepted_sends w line cmd o is mixed then old t i z x there sort held here kind 
     (λ (was : slice_get d.transfers t ≡ Some z).
     let b : ℕ = piece_at (note_in d.notes) z.first i in
     let of : IsSeenIn d.endpoints z.endpoint x = told.endpoints_are z.endpoint x (place.sound.owners.orderly.within t z was) here in
-    let sends = old t i z of.endpoint was sort held of.here (ap (λ (e : Seen). e.desc.kind) of.same ∙ kind) below in
+    let sends : SendsData (way_of x) (qtd_in w.memory b) =
+    subst (λ (e : Seen). SendsData (dir_of e.desc.name.way) (qtd_in w.memory b)) of.same
+    (old t i z of.endpoint was sort held of.here (ap (λ (e : Seen). e.desc.kind) of.same ∙ kind) below) in
     let run = piece_run d place.sound.owners t i z was held below in
-    subst (λ (c : ℕ). SendsData (qtd_in o.memory c)) (sym (told.pieces_are t i z was held below))
-    (same_sends w.memory o.memory b (word_stays d w.memory o.memory b place (idle_by d w.memory o reason) (leaves_lent d w.memory o reason place) run) sends))
+    subst (λ (c : ℕ). SendsData (way_of x) (qtd_in o.memory c)) (sym (told.pieces_are t i z was held below))
+    (same_sends (way_of x) w.memory o.memory b
+    (word_stays d w.memory o.memory b place (idle_by d w.memory o reason) (leaves_lent d w.memory o reason place) run) sends))
     (λ (new : IsNewest o.driver t). new_sends then.standing (commanded_by w line (name_in cmd) (Ok o)) then.mixed t z x there sort held here kind new i below) (told.transfers_are t z there sort)
 
 by_offer : (w : World) (line : ℕ) (cmd : Cmd) (r : Result Offered OfferError) → offered w.driver w.memory cmd ≡ r → IsMixedWorld w → IsMixedWorld (commanded_by w line (name_in cmd) r)

@@ -1,6 +1,7 @@
 -- Each event of the controller leaves the queues of interrupt endpoints with data alone: it ends a qTD, and makes none active.
-use Rattle.std.proofs.Common.{◌≡◌, ℕ, ◌+◌, ◌*◌, ◌/◌, ◌<◌, ◌≤◌, true, false, slice_get, Some, ap, refl, sym, subst, ◌∙◌, arith}
+use Rattle.std.proofs.Common.{◌≡◌, ℕ, ◌+◌, ◌*◌, ◌/◌, ◌<◌, true, false, slice_get, Some, ap, refl, sym, subst, ◌∙◌, arith}
 use Rattle.bus_wire.specs.Bus.{Fixed}
+use Rattle.usb_base.specs.declared.packets.Dir.{Dir}
 use Rattle.usb_base.specs.declared.packets.EpKind.TheVariants.{Interrupt}
 use Rattle.word_mem.specs.Memory.{is_lent, reaches, word_at}
 use Rattle.word_mem.specs.Runs.{Run}
@@ -35,7 +36,7 @@ use Rattle.law_world_memory.specs.framed_memory.Now.{recent_then, FramedNowAfter
 use Rattle.law_world_memory.proofs.lemmas.framed_memory.NowControlled.{controller_now}
 use Rattle.law_world_memory.proofs.QueueViews.{queues_told}
 use Rattle.law_world_memory.specs.Mixed.{Standing, IsMixedAt}
-use Rattle.law_world_time.specs.DataQueues.{qtd_in, SendsData, NewQueuesSendData, ControllerKeepsData}
+use Rattle.law_world_time.specs.DataQueues.{qtd_in, pid_of, way_of, SendsData, NewQueuesSendData, ControllerKeepsData}
 use Rattle.law_world_time.proofs.DataWords.{told_qtd, same_sends}
 use Rattle.law_world_time.proofs.DataTold.{piece_run, element_there}
 
@@ -44,11 +45,11 @@ pub new_data : NewQueuesSendData
 new_data s t i y x there sort held here kind below on = absurd (cc)
 
 -- what is active after it was so before
-after_sends : (t u : Qtd) → IsAfter t u → SendsData t → SendsData u
-after_sends t u a sends on =
+after_sends : (dir : Dir) (t u : Qtd) → IsAfter t u → SendsData dir t → SendsData dir u
+after_sends dir t u a sends on =
     let active : a.token.active ≡ true = ap (λ (q : Qtd). q.token.active) (sym a.is) ∙ on in
     let same : u.token ≡ t.token = ap (λ (q : Qtd). q.token) a.is ∙ a.active active in
-    subst (λ (k : Token). k.pid ≤ 1) (sym same) (sends (ap (λ (k : Token). k.active) (sym same) ∙ on))
+    subst (λ (k : Token). k.pid ≡ pid_of dir) (sym same) (sends (ap (λ (k : Token). k.active) (sym same) ∙ on))
 
 module _ (fixed : Fixed) (s : Standing) (w : World) (k : IsMixedAt s w) where
   abbrev d : DriverContent
@@ -85,8 +86,9 @@ module _ (fixed : Fixed) (s : Standing) (w : World) (k : IsMixedAt s w) where
       queues_told d w.memory s.descs s.parts (record { owners = f.place.sound.owners; driven = f.driven; described = f.described }) f.runs.ring.tells
 
   -- in one that is
-  lent_sends : (n b : ℕ) → IsElement (s.parts n) (32 * b) → SendsData (qtd_in w.memory b) → SendsData (qtd_in (controller_next fixed w).memory b)
-  lent_sends n b e sends =
+  lent_sends : (dir : Dir) (n b : ℕ) → IsElement (s.parts n) (32 * b) → SendsData dir (qtd_in w.memory b)
+      → SendsData dir (qtd_in (controller_next fixed w).memory b)
+  lent_sends dir n b e sends =
       let a = after_event in
       let now : StructureSets = parts_now s.descs s.parts a.now in
       let keeps : KeepsEach s.parts now =
@@ -95,19 +97,23 @@ module _ (fixed : Fixed) (s : Standing) (w : World) (k : IsMixedAt s w) where
       let then : HasElementAfter (now n) (32 * b) e.qtd = (keeps n).alters.element (32 * b) e.qtd e.here in
       let f = a.framed.framed in
       let tells : Tells new.memory now = queues_told d new.memory _ now (record { owners = f.place.sound.owners; driven = f.driven; described = f.described }) f.runs.ring.tells in
-      subst SendsData (sym (told_qtd new.memory b then.qtd (tells.each n (32 * b) _ then.here)))
-      (after_sends e.qtd then.qtd then.after (subst SendsData (told_qtd w.memory b e.qtd (tells_before.each n (32 * b) _ e.here)) sends))
+      subst (SendsData dir) (sym (told_qtd new.memory b then.qtd (tells.each n (32 * b) _ then.here)))
+      (after_sends dir e.qtd then.qtd then.after
+      (subst (SendsData dir) (told_qtd w.memory b e.qtd (tells_before.each n (32 * b) _ e.here)) sends))
 
   stays : (t i : ℕ) (y : Transfer) (x : Endpoint) → slice_get w.driver.transfers t ≡ Some y → is_descriptor y.sort ≡ false → y.released ≡ false → slice_get w.driver.endpoints y.endpoint ≡ Some x
-      → x.desc.kind ≡ Interrupt → i < y.qtds → SendsData (qtd_in w.memory (piece_at (note_in w.driver.notes) y.first i))
-      → SendsData (qtd_in (controller_next fixed w).memory (piece_at (note_in w.driver.notes) y.first i))
+      → x.desc.kind ≡ Interrupt → i < y.qtds → SendsData (way_of x) (qtd_in w.memory (piece_at (note_in w.driver.notes) y.first i))
+      → SendsData (way_of x) (qtd_in (controller_next fixed w).memory (piece_at (note_in w.driver.notes) y.first i))
   stays t i y x there sort held here kind below sends = by (slot_of d.book.slots (piece_at (note_in d.notes) y.first i)) refl
     where
-      by : (c : Slot) → slot_of w.driver.book.slots (piece_at (note_in w.driver.notes) y.first i) ≡ c → SendsData (qtd_in (controller_next fixed w).memory (piece_at (note_in w.driver.notes) y.first i))
+      by : (c : Slot) → slot_of w.driver.book.slots (piece_at (note_in w.driver.notes) y.first i) ≡ c
+          → SendsData (way_of x) (qtd_in (controller_next fixed w).memory (piece_at (note_in w.driver.notes) y.first i))
       by slots.Empty is = absurd (subst HasRun is (piece_run d k.now.framed.place.sound.owners t i y there held below))
-      by (slots.Keeps r) is = let b = piece_at (note_in d.notes) y.first i in same_sends w.memory new.memory b (kept_stays b r is) sends
+      by (slots.Keeps r) is = let b = piece_at (note_in d.notes) y.first i in
+          same_sends (way_of x) w.memory new.memory b (kept_stays b r is) sends
       by (slots.Lends r) is =
-          lent_sends (32 * x.queue) (piece_at (note_in d.notes) y.first i) (element_there d k.turns t y x there sort held here kind s.parts i k.now.framed.driven below (subst IsLent (sym is) tt)) sends
+          lent_sends (way_of x) (32 * x.queue) (piece_at (note_in d.notes) y.first i)
+          (element_there d k.turns t y x there sort held here kind s.parts i k.now.framed.driven below (subst IsLent (sym is) tt)) sends
 
 pub controller_keeps_data : ControllerKeepsData
 controller_keeps_data fixed w mixed old t i y x there sort held here kind below =

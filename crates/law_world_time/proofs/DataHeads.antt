@@ -1,5 +1,5 @@
 -- The overlay of each interrupt endpoint's queue head is that of an IN or of an OUT while it is active, whether the queue head is linked yet or not.
-use Rattle.std.proofs.Common.{◌≡◌, ◌≢◌, ℕ, ◌+◌, ◌-◌, ◌*◌, ◌/◌, ◌≤◌, ◌⊎◌, ◌||◌, Bool, true, false, not, if◌then◌else◌, length, slice_get, Option, Some, None, option_map, ap, refl, sym, subst, ◌∙◌, ⊎_elim, arith}
+use Rattle.std.proofs.Common.{◌≡◌, ◌≢◌, ℕ, ◌+◌, ◌-◌, ◌*◌, ◌/◌, ◌⊎◌, ◌||◌, Bool, true, false, not, if◌then◌else◌, length, slice_get, Option, Some, None, option_map, ap, refl, sym, subst, ◌∙◌, ⊎_elim, arith}
 use Rattle.std.specs.Prelude.{◌==◌, ◌&&◌}
 use Rattle.std.specs.Result.{result_ok}
 use Rattle.std.proofs.lemmas.Bool.{cases_eq, false≢true}
@@ -45,9 +45,9 @@ use Rattle.bus_world.specs.Budgets.{moment}
 use Rattle.law_world_memory.specs.Mixed.{IsChainToLend, IsChainThere, IsUnderWay, Standing, IsMixedAt}
 use Rattle.law_world_memory.proofs.QueueViews.{queues_told}
 use Rattle.law_world_memory.proofs.Together.{scripts_stay}
-use Rattle.law_world_visits.specs.Belonging.{IsQueueAt}
-use Rattle.law_world_visits.proofs.BelongQueues.{queue_by}
-use Rattle.law_world_time.specs.DataQueues.{QueuesSendData, MixedWorldsReadData, ScriptsReadData}
+use Rattle.law_world_visits.specs.Belonging.{a_queue}
+use Rattle.law_world_visits.proofs.BelongQueues.{belongs_by}
+use Rattle.law_world_time.specs.DataQueues.{pid_of, way_of, GoesBy, QueuesSendData, MixedWorldsReadData, ScriptsReadData}
 use Rattle.law_world_time.proofs.DataMoments.{scripts_send_data}
 use Rattle.law_world_time.proofs.DataReads.{element_sends, copies_send, takes_send}
 
@@ -86,8 +86,16 @@ module _ (s : Standing) (w : World) (k : IsMixedAt s w) (all : QueuesSendData w.
       let f = k.now.framed in
       queues_told d w.memory s.descs s.parts (record { owners = f.place.sound.owners; driven = f.driven; described = f.described }) f.runs.ring.tells
 
-  at : IsQueueAt w.driver (32 * x.queue)
-  at = queue_by d owners k.now.planned n e x here kept (ap is_periodic kind) no_iso refl
+  at : GoesBy w.driver (32 * x.queue) (way_of x)
+  at = record {
+    at = record {
+      belongs = belongs_by d owners k.now.planned n e x here kept (ap is_periodic kind) (a_queue kind refl);
+      kind =
+          kind;
+      name = refl;
+    };
+    way = refl;
+  }
 
   run : HasRun (slot_of w.driver.book.slots x.queue)
   run = placed_run x.queue (HeadOf e) (queue_placed d owners e x here no_iso kept)
@@ -137,16 +145,17 @@ module _ (s : Standing) (w : World) (k : IsMixedAt s w) (all : QueuesSendData w.
             near = ap (λ (b : Bool). b || (is_one_of e d.waiting || is_one_of e d.rung)) on;
           }
 
-      working_sends : (queued w.driver).command ≢ Some (unfinished.Open x.queue) → q.token.active ≡ true → q.token.pid ≤ 1
+      working_sends : (queued w.driver).command ≢ Some (unfinished.Open x.queue) → q.token.active ≡ true → q.token.pid ≡ pid_of (way_of x)
       working_sends other on =
           let sound : IsQueuePart n (s.parts n) = k.queues.sound e (with_queue x) (queue_at d.endpoints e x here no_iso) (is_met other) in
           let same : sound.queue ≡ q = found_queue (s.parts n n) sound.queue q sound.here part in
           let v : IsWorking (s.parts n) sound.queue = sound.sound.work (ap (λ (z : Qh). z.token.active) same ∙ on) in
-          subst (λ (i : ℕ). i ≤ 1) (sym v.pid ∙ ap (λ (z : Qh). z.token.pid) same) (element_sends s w k all n at sound.queue.current v.element v.here v.published)
+          subst (λ (i : ℕ). i ≡ pid_of (way_of x)) (sym v.pid ∙ ap (λ (z : Qh). z.token.pid) same)
+          (element_sends s w k all n (way_of x) at sound.queue.current v.element v.here v.published)
 
-      by_command : (c : Option Command) → (queued w.driver).command ≡ c → q.token.active ≡ true → q.token.pid ≤ 1
+      by_command : (c : Option Command) → (queued w.driver).command ≡ c → q.token.active ≡ true → q.token.pid ≡ pid_of (way_of x)
       by_command (Some (unfinished.Open f)) is on =
-          ⊎_elim {C = q.token.pid ≤ 1}
+          ⊎_elim {C = q.token.pid ≡ pid_of (way_of x)}
           (λ (own : f ≡ x.queue).
           absurd (false≢true (sym (opening_rests d.command refl (is ∙ ap (λ (b : ℕ). Some (unfinished.Open b)) own) k.under_way) ∙ on)))
           (λ (other : f ≢ x.queue). working_sends (λ same. other (open_same f x.queue (sym is ∙ same))) on) (cases_eq f x.queue)
@@ -157,10 +166,10 @@ module _ (s : Standing) (w : World) (k : IsMixedAt s w) (all : QueuesSendData w.
   none_read q false read off = cc
   none_read q true read off = absurd (false≢true (sym off))
 
-  head_sends : (q : Qh) → queue_head_at_address w.memory (32 * x.queue) ≡ Some q → q.token.active ≡ true → q.token.pid ≤ 1
+  head_sends : (q : Qh) → queue_head_at_address w.memory (32 * x.queue) ≡ Some q → q.token.active ≡ true → q.token.pid ≡ pid_of (way_of x)
   head_sends q read on = by (slot_of d.book.slots x.queue) refl
     where
-      by : (c : Slot) → slot_of w.driver.book.slots x.queue ≡ c → q.token.pid ≤ 1
+      by : (c : Slot) → slot_of w.driver.book.slots x.queue ≡ c → q.token.pid ≡ pid_of (way_of x)
       by slots.Empty is = absurd (subst HasRun is run)
       by (slots.Keeps r) is =
           let h = holding d.book w.memory in
@@ -180,8 +189,8 @@ module _ (s : Standing) (w : World) (k : IsMixedAt s w) (all : QueuesSendData w.
 pub mixed_read_data : MixedWorldsReadData
 mixed_read_data w mixed all = record {
   heads = λ e x q here kind kept read on. head_sends mixed.standing w mixed.mixed all e x here kind kept q read on;
-  copies = λ h periodic held on. copies_send mixed.standing w h mixed.mixed all periodic held on;
-  takes = λ h a t periodic held row. takes_send mixed.standing w h a t mixed.mixed all periodic held row;
+  copies = λ h dir by periodic held on. copies_send mixed.standing w h dir by mixed.mixed all periodic held on;
+  takes = λ h a t dir by periodic held row. takes_send mixed.standing w h a t dir by mixed.mixed all periodic held row;
 }
 
 pub scripts_read_data : ScriptsReadData

@@ -1,12 +1,15 @@
 -- What is told of the qTDs of an interrupt endpoint's transfer: whose they are, and what stands in memory for them.
 use Rattle.std.proofs.Common.{◌≡◌, ℕ, zero, suc, ◌+◌, ◌*◌, ◌/◌, ◌<◌, ◌≤◌, Bool, true, false, slice_get, Option, Some, option_map, ap, refl, sym, subst, ◌∙◌, arith}
 use Rattle.std.proofs.lemmas.Bool.{false≢true}
+use Rattle.usb_base.specs.declared.packets.Dir.{Dir}
+use Rattle.usb_base.specs.declared.packets.Dir.TheVariants as directions
 use Rattle.usb_base.specs.declared.packets.EpKind.{EpKind}
 use Rattle.usb_base.specs.declared.packets.EpKind.TheVariants.{Interrupt}
 use Rattle.usb_base.specs.declared.packets.Way.{Way}
 use Rattle.usb_base.specs.declared.packets.Way.TheVariants as ways
 use Rattle.word_mem.specs.Memory.{Mem}
 use Rattle.mem_runs.specs.Book.{holding, Stands, slot_of}
+use Rattle.drv_periodic_table.specs.Periodic.{dir_of}
 use Rattle.drv_table.specs.declared.content.Endpoint.{Endpoint}
 use Rattle.drv_table.specs.declared.content.Transfer.{Transfer}
 use Rattle.drv_table.specs.DriverContent.{DriverContent}
@@ -25,12 +28,18 @@ use Rattle.law_queues.proofs.lemmas.mended_heads.Lent.{queued_in, is_element}
 use Rattle.law_queues.proofs.lemmas.publish_laws.Apart.{piece_placed}
 use Rattle.law_driver.specs.queued_drivers.Queued.{with_queue, queued, IsOfWay, QueuesTakeTurns}
 use Rattle.law_driver.proofs.lemmas.queued_drivers.RowLists.{queue_at, moves_at}
+use Rattle.law_world_time.specs.DataQueues.{pid_of}
 
 -- ---- data go one way
 
-pub way_low : (way : Way) (kind : EpKind) → IsOfWay way kind → kind ≡ Interrupt → pid_by way ≤ 1
-way_low ways.Ctl kind fits is = absurd (let e = sym fits ∙ is in cc)
-way_low _ kind fits is = omega arith
+pub pid_low : (dir : Dir) → pid_of dir ≤ 1
+pid_low directions.In = omega arith
+pid_low directions.Out = omega arith
+
+pub pid_is : (way : Way) (kind : EpKind) → IsOfWay way kind → kind ≡ Interrupt → pid_by way ≡ pid_of (dir_of way)
+pid_is ways.Ctl kind fits is = absurd (let e = sym fits ∙ is in cc)
+pid_is ways.In kind fits is = refl
+pid_is ways.Out kind fits is = refl
 
 -- ---- its qTDs
 

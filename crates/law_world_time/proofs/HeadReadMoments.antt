@@ -19,7 +19,7 @@ use Rattle.hc_core.specs.Controller.{Control, Content, element_address, begun_at
 use Rattle.bus_wire.specs.Bus.{Bus, Fixed, fixed_of, is_allowed}
 use Rattle.bus_world.specs.World.{World, controller_parts, controller_row, controller_next, driver_next, commanded, turned_by, walk_by}
 use Rattle.bus_world.specs.Budgets.{moment}
-use Rattle.law_world_visits.proofs.Carrying.{carrying}
+use Rattle.law_world_memory.proofs.Carrying.{carrying}
 use Rattle.law_world_visits.proofs.ReasonParts.{InPart, row_in, command_control}
 use Rattle.law_world_time.specs.HeadReads.{reclamation_at, heads_by, heads_after, heads_next, heads, EndsThere, HeadsAreFew, ScriptsReadFewHeads, TextsReadFewHeads}
 use Rattle.law_world_time.proofs.HeadReading.{Tells, row_tells, took_leaves, wrote_leaves, sends_first, skip_leaves, fetched_reclamation, quiet_by, goes_with, worlds_leave_reclamation}

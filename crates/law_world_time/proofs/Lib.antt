@@ -41,6 +41,12 @@ pub mod ChargeItds
 pub mod ChargeEvents
 pub mod ChargeSums
 pub mod ChargeLoads
+pub mod PriceTaken
+pub mod SplitMasked
+pub mod SplitHeads
+pub mod SplitCharged
+pub mod SitdParts
+pub mod SitdCharged
 pub mod PaymentRemovals
 pub mod PaymentIsochronous
 pub mod PaymentFrames

@@ -45,7 +45,8 @@ use Rattle.law_world_time.proofs.PaymentReading.{reads_structures}
 pub controller_keeps_paying : ControllerKeepsPaying
 controller_keeps_paying fixed b w ps g in_frames =
     paid_next begins_by transacts_by w b w.driver (controller_parts w) (wired fixed w) (controller_parts (controller_next fixed w)) (wired fixed (controller_next fixed w)) ps
-    (reads_structures b w (names_in ps) g.visiting g.heads g.itds g.high g.reads g.within) g.paid (controller_row w) (λ is. begins_over w.registers.run w.registers w.control.frame w.control.part is)
+    (reads_structures b w (names_in ps) g.visiting g.heads g.itds g.high g.allowed g.reads g.within) g.paid (controller_row w)
+    (λ is. begins_over w.registers.run w.registers w.control.frame w.control.part is)
     (λ is. frame_periodic w.registers.run w.registers w.control.frame w.control.part is) in_frames (world_has_row fixed w)
 
 -- ---- whoever owned them owns them still
@@ -73,7 +74,18 @@ module _ (b : World) (d later : DriverContent) (now : ℕ) (isos : (e : ℕ) (i 
       ⊎_elim {C = ArePaidByHand b later now index (Some hand) ps}
       (λ (k : IsHandPaid b d now index hand ps).
       let first = (subst (λ (xs : List (ℕ × ℕ)). AllByRecursion StaysAt (names_in xs)) k.are stay).0 in
-      inl (record { address = k.address; paid = k.paid; rest = k.rest; are = k.are; of = k.of; owned = owned_still (frame_in index) k.address k.of first k.owned; held = k.held; active = k.active }))
+      inl (record {
+        address = k.address;
+        paid = k.paid;
+        rest = k.rest;
+        are = k.are;
+        of = k.of;
+        owned =
+            owned_still (frame_in index) k.address k.of first k.owned;
+        held = k.held;
+        at = k.at;
+        active = k.active;
+      }))
       (λ (k : IsPassing hand ps). inr k) paid
 
   paid_still : (c : Control) (ps : List (ℕ × ℕ)) → AllByRecursion StaysAt (names_in ps) → ArePaid b d now c ps → ArePaid b later now c ps

@@ -1,5 +1,6 @@
 -- So it is at each moment of the run of a script.
-use Rattle.std.proofs.Common.{◌≡◌, ℕ, List, [], ◌∷◌, Option, Some, None, ap, sym, subst, ◌∙◌, refl}
+use Rattle.std.proofs.Common.{◌≡◌, ℕ, Bool, true, false, List, [], ◌∷◌, Option, Some, None, ap, sym, subst, ◌∙◌, refl}
+use Rattle.std.specs.Prelude.{if◌then◌else◌}
 use Rattle.script_types.specs.declared.scripts.Script.{Script}
 use Rattle.script_fits.specs.Fits.{IsFit}
 use Rattle.law_scripts.specs.byte_answers.Bytes.{IsByteScript}
@@ -8,10 +9,11 @@ use Rattle.periodic_walk.specs.declared.chain.ChainRow.{ChainRow}
 use Rattle.hc_core.specs.declared.controller.MicroframePart.TheVariants.{Over, Periodic}
 use Rattle.hc_core.specs.declared.controller.ControllerRow.{ControllerRow}
 use Rattle.hc_core.specs.declared.controller.ControllerRow.TheVariants as rows
+use Rattle.hc_core.specs.declared.controller.HcStep.{HcStep}
 use Rattle.hc_core.specs.Controller.{Content}
 use Rattle.periodic_walk.specs.Chain.{chain_row}
 use Rattle.bus_wire.specs.Bus.{Fixed, fixed_of}
-use Rattle.bus_world.specs.World.{World, controller_row, controller_parts, controller_next}
+use Rattle.bus_world.specs.World.{World, controller_row, controller_parts, kind_next, controller_next}
 use Rattle.bus_world.specs.Opening.{opening_world}
 use Rattle.bus_world.specs.Budgets.{moment}
 use Rattle.bus_world.proofs.Budgeted.{script_admits}
@@ -29,18 +31,21 @@ use Rattle.law_world_visits.proofs.AheadMoments.{scripts_go_on, began_is_mixed}
 use Rattle.law_world_visits.proofs.InFramesMoments.{in_their_frames}
 use Rattle.law_world_visits.proofs.VisitsKept.{scripts_visit_all}
 use Rattle.law_world_visits.proofs.VisitControlling.{controller_keeps_visiting}
-use Rattle.law_world_visits.proofs.Carrying.{KeepsCarried, carrying, both, both_carried}
+use Rattle.law_world_memory.proofs.Carrying.{KeepsCarried, carrying, both, both_carried}
 use Rattle.law_world_visits.proofs.BelongMoments.{scripts_keep_fields}
 use Rattle.law_world_visits.proofs.BelongItdMoments.{scripts_keep_itds}
 use Rattle.law_world_time.specs.DataQueues.{ReadsData}
-use Rattle.claims_world.specs.WithinLoad.{begun_too, paid_more, payments_at, payments_after, payments_next, payments}
+use Rattle.claims_world.specs.FrameHeads.{AreAllowed}
+use Rattle.claims_world.specs.Prices.{cost_of}
+use Rattle.claims_world.specs.WithinLoad.{is_again, begun_too, paid_more, payments_at, payments_after, payments_next, payments}
 use Rattle.law_world_time.specs.Payments.{names_in}
-use Rattle.claims_world.specs.Scripts.{HighPeriodicsOnly}
-use Rattle.law_world_time.specs.PaymentLaws.{HasHighPeriodics, ArePaid, IsWithin, GoesOnPaying, ScriptsPayWithinLoad}
+use Rattle.claims_world.specs.Scripts.{HighIsochronousOnly}
+use Rattle.law_world_time.specs.PaymentLaws.{HasHighIsochronous, ArePaid, IsWithin, GoesOnPaying, ScriptsPayWithinLoad}
 use Rattle.law_world_time.proofs.DataHeads.{scripts_read_data}
 use Rattle.law_world_time.proofs.PaymentEvents.{controller_keeps_paying, driver_keeps_paying, command_keeps_paying}
 use Rattle.law_world_time.proofs.PaymentSums.{within_load}
 use Rattle.law_world_time.proofs.PaymentOpens.{scripts_have_high}
+use Rattle.law_world_time.proofs.SplitMasked.{scripts_keep_allowed}
 
 -- ---- payments are those of the visits
 
@@ -52,13 +57,19 @@ too_names : (o : Option ℕ) (ps : List (ℕ × ℕ)) → names_in (begun_too o 
 too_names None ps = refl
 too_names (Some a) ps = refl
 
-at_names : (o : Option Hand) (row : ChainRow) (cost : ℕ) (ps : List (ℕ × ℕ)) → names_in (payments_at o row cost ps) ≡ visits_at o row (names_in ps)
-at_names None row cost ps = too_names (fetched_by row) ps
-at_names (Some hand) row cost ps = more_names cost ps
+or_names : (again : Bool) (n : ℕ) (ps : List (ℕ × ℕ)) → names_in (if again then ps else paid_more n ps) ≡ names_in ps
+or_names true n ps = refl
+or_names false n ps = more_names n ps
 
-after_names : (row : ControllerRow) (c : Content) (left : ℕ) (ps : List (ℕ × ℕ)) → names_in (payments_after row c left ps) ≡ visits_after row c (names_in ps)
-after_names rows.Frame c left ps = at_names c.control.frame.hand (chain_row c.memory c.control.frame.cursor) _ ps
-after_names _ c left ps = refl
+at_names : (o : Option Hand) (row : ChainRow) (step : HcStep) (ps : List (ℕ × ℕ))
+    → names_in (payments_at o row step ps) ≡ visits_at o row (names_in ps)
+at_names None row step ps = too_names (fetched_by row) ps
+at_names (Some hand) row step ps = or_names (is_again hand) (cost_of step hand) ps
+
+after_names : (row : ControllerRow) (step : HcStep) (c : Content) (ps : List (ℕ × ℕ))
+    → names_in (payments_after row step c ps) ≡ visits_after row c (names_in ps)
+after_names rows.Frame step c ps = at_names c.control.frame.hand (chain_row c.memory c.control.frame.cursor) step ps
+after_names _ step c ps = refl
 
 pub payments_are_of_visits : (s : Script) (k : ℕ) → names_in (payments s k) ≡ visited s k
 payments_are_of_visits s k =
@@ -66,7 +77,7 @@ payments_are_of_visits s k =
     (carrying (both payments_next visits_next) (λ w orders z. Unit {0}) (λ w z. names_in z.0 ≡ z.1) s ([], [])
     (record {
       controller = λ w orders z known same.
-          after_names (controller_row w) (controller_parts w) (controller_next (fixed_of s) w).control.frame.left z.0
+          after_names (controller_row w) (kind_next w) (controller_parts w) z.0
           ∙ ap (λ (vs : List ℕ). visits_after (controller_row w) (controller_parts w) vs) same;
       driver = λ w orders z known same. same;
       command = λ w n cmd rest z known same. same;
@@ -80,7 +91,8 @@ pub record HoldsAt (b w : World) (vs : List ℕ) : Type 0 where
   pub visiting : IsVisiting b w vs
   pub heads : HeadsHaveFields w.driver w.memory
   pub itds : ItdsStand w.driver w.memory
-  pub high : HasHighPeriodics w.driver
+  pub high : HasHighIsochronous w.driver
+  pub allowed : AreAllowed w.driver
   pub reads : ReadsData w
   pub within : IsWithin b w
 
@@ -88,7 +100,17 @@ abbrev pub ArePaidIn : World → World → List (ℕ × ℕ) → Type 0
 ArePaidIn b w ps = ArePaid b w.driver w.registers.frame_index w.control ps
 
 going : (b w : World) (ps : List (ℕ × ℕ)) → HoldsAt b w (names_in ps) → ArePaidIn b w ps → GoesOnPaying b w ps
-going b w ps h k = record { visiting = h.visiting; heads = h.heads; itds = h.itds; high = h.high; reads = h.reads; within = h.within; paid = k }
+going b w ps h k = record {
+  visiting = h.visiting;
+  heads = h.heads;
+  itds = h.itds;
+  high = h.high;
+  allowed = h.allowed;
+  reads = h.reads;
+  within = h.within;
+  paid =
+      k;
+}
 
 module _ (fixed : Fixed) where
   in_frames_then : (b w : World) (vs : List ℕ) → IsVisiting b w vs → AreInTheirFrames (controller_next fixed w) (visits_after (controller_row w) (controller_parts w) vs)
@@ -115,7 +137,8 @@ pays_within s holds k =
     (subst (λ (vs : List ℕ). HoldsAt (began s j) (moment s j).world vs) (sym (payments_are_of_visits s j)) (holds j)))
     (record { entries = tt; hand = λ on. absurd (over_no on) }) k)
 
-pub scripts_are_paid : (s : Script) → IsFit s → IsByteScript s → FitsMixed s → HighPeriodicsOnly s → (k : ℕ) → ArePaidIn (began s k) (moment s k).world (payments s k)
+pub scripts_are_paid : (s : Script) → IsFit s → IsByteScript s → FitsMixed s → HighIsochronousOnly s → (k : ℕ)
+    → ArePaidIn (began s k) (moment s k).world (payments s k)
 scripts_are_paid s fit bytes opens only k =
     pays_within s
     (λ j.
@@ -124,6 +147,7 @@ scripts_are_paid s fit bytes opens only k =
       heads = scripts_keep_fields s fit bytes opens j;
       itds = scripts_keep_itds s fit bytes opens j;
       high = scripts_have_high s fit bytes opens only j;
+      allowed = scripts_keep_allowed s fit j;
       reads = scripts_read_data s fit bytes opens j;
       within = record { began = began_is_mixed s fit bytes opens j; old = scripts_go_on s fit bytes opens j; in_frame = scripts_go_on_in_frame s fit bytes opens j };
     }) k

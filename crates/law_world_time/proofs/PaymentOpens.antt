@@ -1,4 +1,4 @@
--- Where a script opens no other periodic endpoints than such of high speed, its driver has no others at each moment, and no siTD; and the descriptors of an endpoint that left its frames have
+-- Where a script opens no other isochronous endpoints than such of high speed, its driver has no others at each moment, and no siTD; and the descriptors of an endpoint that left its frames have
 -- frames of its placement (EHCI 1.0, 3.3, 3.4, 4.6 and 4.7).
 use Rattle.std.proofs.Common.{◌≡◌, ℕ, ◌⊎◌, Bool, true, false, List, [], ◌∷◌, ◌++◌, length, slice_get, Option, Some, None, Result, Ok, Err, option_map, ap, refl, sym, subst, ◌∙◌, ⊎_elim, inl, inr, arith}
 use Rattle.std.specs.List.{AllByRecursion}
@@ -57,13 +57,13 @@ use Rattle.law_world_visits.proofs.BelongCommands.{taken_same, left_same}
 use Rattle.law_world_visits.proofs.OneDescriptorRows.{From, or_notes}
 use Rattle.law_world_visits.proofs.OneDescriptorDriven.{Follows, row_follows}
 use Rattle.law_world_visits.proofs.BelongTold.{or_left}
-use Rattle.claims_world.specs.Scripts.{OpensHighPeriodics, HighPeriodicsLine, HighPeriodicsOnly}
-use Rattle.law_world_time.specs.PaymentLaws.{IsHighAndSome, HasHighPeriodics}
+use Rattle.claims_world.specs.Scripts.{OpensHighIsochronous, HighIsochronousLine, HighIsochronousOnly}
+use Rattle.law_world_time.specs.PaymentLaws.{IsWholeAndSome, HasHighIsochronous}
 use Rattle.law_world_time.proofs.PaymentFrames.{chained_active}
 use Rattle.law_world_time.proofs.PaymentIsoCommands.{IsTaken, IsOld, seen_same, each_taken}
 
 abbrev IsHigh : EpDesc → Option Placement → Type 0
-IsHigh x o = is_periodic x.kind ≡ true → IsHighAndSome x
+IsHigh x o = is_periodic x.kind ≡ true → IsWholeAndSome x
 
 abbrev AreWhole : DriverContent → Type 0
 AreWhole d = (t : ℕ) (y : Transfer) → slice_get d.transfers t ≡ Some y → is_descriptor y.sort ≡ true → y.released ≡ false → (note_at d.periodic.notes y.first).split ≡ false
@@ -74,7 +74,7 @@ AreActiveOutside d = (t : ℕ) (y : Transfer) (x : Endpoint) (p : Placement) →
 
 -- ---- one that was there before
 
-module _ (w : World) (k : IsMixedWorld w) (h : HasHighPeriodics w.driver) where
+module _ (w : World) (k : IsMixedWorld w) (h : HasHighIsochronous w.driver) where
   abbrev d : DriverContent
   d = w.driver
 
@@ -122,7 +122,7 @@ module _ (w : World) (k : IsMixedWorld w) (h : HasHighPeriodics w.driver) where
         ap (is_active p) (frame ∙ ap (λ (i : ℕ). (note_at d.periodic.notes i).frame) (sym f.first))
         ∙ was_active t f.transfer of.endpoint p f.here f.descriptor f.held (f.untold untold) here_then (ap (λ (s : Seen). s.placement) of.same ∙ placed) was
 
-  driver_high : HasHighPeriodics (driver_next w).driver
+  driver_high : HasHighIsochronous (driver_next w).driver
   driver_high =
       let parts = driver_parts w in
       let row = driver_row parts in
@@ -231,7 +231,9 @@ module _ (w : World) (k : IsMixedWorld w) (h : HasHighPeriodics w.driver) where
 
   iso_carries : (o : Offered) → IsIsoAccepted w.driver w.memory o → Carries o
   iso_carries o i =
-      let high : is_classic i.endpoint.desc.speed ≡ false = high_is_whole i.endpoint.desc.speed (h.endpoints i.number i.endpoint i.here (iso_periodic i.endpoint.desc.kind i.iso)).speed in
+      let high : is_classic i.endpoint.desc.speed ≡ false =
+      high_is_whole i.endpoint.desc.speed
+      ((h.endpoints i.number i.endpoint i.here (iso_periodic i.endpoint.desc.kind i.iso)).speed i.iso) in
       record {
         idle = i.idle;
         each = λ t z there sort held. subst (λ (c : Bool). IsOld w.driver o t z ⊎ IsTaken o z c) high (each_taken d w.memory o k.mixed.now.framed.place i t z there sort held);
@@ -252,14 +254,16 @@ module _ (w : World) (k : IsMixedWorld w) (h : HasHighPeriodics w.driver) where
   carries (commands.DiskWrite addr lba bytes) o is = absurd (reason_of d w.memory (commands.DiskWrite addr lba bytes) o is)
   carries (commands.Revive addr) o is = absurd (reason_of d w.memory (commands.Revive addr) o is)
 
-  opened : (cmd : Cmd) → OpensHighPeriodics cmd → IsOffered w.driver.room cmd → IsOfOpened IsHigh cmd
-  opened (commands.OpenEp x) only room = λ o on. record { speed = only on; some = (room.3 on).some_multi }
+  opened : (cmd : Cmd) → OpensHighIsochronous cmd → IsOffered w.driver.room cmd → IsOfOpened IsHigh cmd
+  opened (commands.OpenEp x) only room = λ o on. record { speed = only; some = (room.3 on).some_multi }
   opened _ only room = tt
 
-  command_high : (n : ℕ) (cmd : Cmd) → OpensHighPeriodics cmd → IsOffered w.driver.room cmd → HasHighPeriodics (commanded w n cmd).driver
+  command_high : (n : ℕ) (cmd : Cmd) → OpensHighIsochronous cmd → IsOffered w.driver.room cmd
+      → HasHighIsochronous (commanded w n cmd).driver
   command_high n cmd only room = by (offered w.driver w.memory cmd) refl
     where
-      by : (r : Result Offered OfferError) → offered w.driver w.memory cmd ≡ r → HasHighPeriodics (commanded_by w n (name_in cmd) r).driver
+      by : (r : Result Offered OfferError) → offered w.driver w.memory cmd ≡ r
+          → HasHighIsochronous (commanded_by w n (name_in cmd) r).driver
       by (Err why) is = record { endpoints = h.endpoints; whole = h.whole; outside = h.outside }
       by (Ok o) is =
           let c : Carries o = carries cmd o is in
@@ -269,17 +273,18 @@ module _ (w : World) (k : IsMixedWorld w) (h : HasHighPeriodics w.driver) where
 
 record IsMixedAndHigh (w : World) : Type 0 where
   mixed : IsMixedWorld w
-  high : HasHighPeriodics w.driver
+  high : HasHighIsochronous w.driver
 
 record Can (cmd : Cmd) : Type 0 where
   mixed : OpensMixed cmd
-  high : OpensHighPeriodics cmd
+  high : OpensHighIsochronous cmd
 
-line_can : (l : Line) → MixedLine l → HighPeriodicsLine l → KindOfLine Can l
+line_can : (l : Line) → MixedLine l → HighIsochronousLine l → KindOfLine Can l
 line_can (lines.Command cmd) fits only = record { mixed = fits; high = only }
 line_can _ fits only = tt
 
-lines_can : (xs : List (ℕ × Line)) → AllByRecursion (λ x. MixedLine x.1) xs → AllByRecursion (λ x. HighPeriodicsLine x.1) xs → AllByRecursion (λ x. KindOfLine Can x.1) xs
+lines_can : (xs : List (ℕ × Line)) → AllByRecursion (λ x. MixedLine x.1) xs → AllByRecursion (λ x. HighIsochronousLine x.1) xs
+    → AllByRecursion (λ x. KindOfLine Can x.1) xs
 lines_can [] fits only = tt
 lines_can (x ∷ xs) fits only = (line_can x.1 fits.0 only.0, lines_can xs fits.1 only.1)
 
@@ -290,7 +295,8 @@ is_kept s = record {
   command = λ w line cmd can room k. record { mixed = command_keeps_mixed w line cmd can.mixed room k.mixed; high = command_high w k.mixed k.high line cmd can.high room };
 }
 
-pub scripts_have_high : (s : Script) → IsFit s → IsByteScript s → FitsMixed s → HighPeriodicsOnly s → (k : ℕ) → HasHighPeriodics (moment s k).world.driver
+pub scripts_have_high : (s : Script) → IsFit s → IsByteScript s → FitsMixed s → HighIsochronousOnly s → (k : ℕ)
+    → HasHighIsochronous (moment s k).world.driver
 scripts_have_high s fit bytes opens only k =
     (holds_throughout Can IsMixedAndHigh s fit (lines_can s.lines opens only)
     (record {

@@ -1,9 +1,11 @@
 -- Where periodic endpoints are of high speed, the walk of the frames reads their queue heads and iTDs alone; and an iTD with something active in this microframe is one that was active as the
 -- microframe began, of a placed isochronous endpoint in a frame of its placement (EHCI 1.0, 3.1, 3.3, 3.6, 4.6, 4.7 and 4.10).
 use Rattle.std.proofs.Common.{◌≡◌, ℕ, ◌+◌, ◌*◌, ◌%◌, ◌<◌, ◌≤◌, Bool, true, false, List, length, slice_get, Option, Some, None, option_map, ap, refl, sym, subst, ◌∙◌, ⊎_elim, arith}
-use Rattle.std.specs.Prelude.{max}
+use Rattle.std.specs.Prelude.{max, ◌==◌}
 use Rattle.std.proofs.lemmas.Bool.{true≢false}
 use Rattle.std.proofs.lemmas.Option.{same_Some}
+use Rattle.usb_base.specs.declared.packets.Speed.{Speed}
+use Rattle.usb_base.specs.declared.packets.Speed.TheVariants.{Full, Low, High}
 use Rattle.word_mem.specs.Memory.{Mem, word_at}
 use Rattle.link_words.specs.Layout.{bits}
 use Rattle.link_words.specs.declared.kinds.Link.{Link}
@@ -14,6 +16,8 @@ use Rattle.itd_sitd.specs.declared.sitd.Sitd.{Sitd}
 use Rattle.itd_sitd.specs.Itd.{slot_of}
 use Rattle.mem_queues.specs.Structures.{queue_head_at_address}
 use Rattle.mem_descriptors.specs.Descriptors.{itd_at_address, sitd_at_address}
+use Rattle.bandwidth.specs.declared.placements.Placed.{Placed}
+use Rattle.bandwidth.specs.Placements.{is_classic}
 use Rattle.bandwidth.specs.Sums.{is_active}
 use Rattle.drv_periodic_table.specs.Periodic.{is_periodic, note_at}
 use Rattle.periodic_walk.specs.declared.state.Hand.{Hand}
@@ -21,10 +25,10 @@ use Rattle.periodic_walk.specs.declared.state.Hand.TheVariants as hands
 use Rattle.periodic_walk.specs.declared.chain.ChainRow.TheVariants as chains
 use Rattle.periodic_walk.specs.Chain.{chain_row, queue_fetch, itd_fetch, sitd_fetch}
 use Rattle.hc_core.specs.declared.controller.MicroframePart.TheVariants.{Periodic}
-use Rattle.hc_core.specs.Controller.{frame_place}
 use Rattle.drv_table.specs.declared.content.Transfer.{Transfer}
 use Rattle.drv_table.specs.DriverContent.{DriverContent}
 use Rattle.drv_table.specs.Kinds.{is_iso}
+use Rattle.drv_table.specs.Words.{speed_field}
 use Rattle.claims_driver.specs.Owners.{views_of}
 use Rattle.claims_driver.specs.Leaving.{HasOwners}
 use Rattle.law_driver_ring.specs.Inventory.{OfSplitIsochronous, sort_of, sorts_of, IsDriven}
@@ -38,12 +42,13 @@ use Rattle.law_descriptors.specs.Meeting.{met}
 use Rattle.law_descriptors.proofs.Standing.{both_on, both_off, IsAtOwner, on_owner}
 use Rattle.law_descriptors.proofs.Returning.{same_blocks}
 use Rattle.law_budgets.specs.visit_prices.Spent.{IsHeadOf}
+use Rattle.law_budgets.specs.visit_prices.Fetched.{queue_copy}
 use Rattle.bus_world.specs.World.{World, controller_parts}
 use Rattle.law_world_memory.specs.Mixed.{Standing, IsMixedAt}
 use Rattle.law_world_visits.specs.Ranks.{name_of}
 use Rattle.claims_world.specs.Visits.{frame_in}
 use Rattle.law_world_visits.specs.Visited.{link_ahead, IsVisiting}
-use Rattle.law_world_visits.specs.Belonging.{placed_of, IsQueueAt, IsDescriptorAt, IsHarvestedAt, HeadsHaveFields}
+use Rattle.law_world_visits.specs.Belonging.{placed_of, IsQueueAt, IsDescriptorAt, IsHarvestedAt, HaveFields, HeadsHaveFields}
 use Rattle.law_world_visits.specs.DescriptorFields.{IsReadItd, ItdsStand}
 use Rattle.law_world_visits.specs.OneDescriptor.{IsActiveDescriptor, IsActiveSome}
 use Rattle.law_world_visits.specs.Began.{IsAhead}
@@ -53,9 +58,13 @@ use Rattle.law_world_visits.proofs.BelongQueues.{queue_belongs}
 use Rattle.law_world_visits.proofs.BelongDescriptors.{descriptor_belongs, not_driven}
 use Rattle.law_world_visits.proofs.BelongItds.{read_is, itd_is_read, harvested_is_read, told_is}
 use Rattle.law_world_visits.proofs.OneDescriptorMet.{met_is_active}
-use Rattle.law_world_time.specs.Charges.{TakesData}
-use Rattle.law_world_time.specs.DataQueues.{ReadsData}
-use Rattle.law_world_time.specs.PaymentLaws.{by_descriptor, IsHighAndSome, HasHighPeriodics, IsWithin}
+use Rattle.claims_world.specs.FrameHeads.{IsAllowed, AreAllowed}
+use Rattle.law_world_memory.proofs.lemmas.framed_memory.Masking.{one_of_all}
+use Rattle.law_world_time.specs.DataQueues.{pid_of, ReadsData}
+use Rattle.law_world_time.specs.SplitCharges.{IsPaidFor, at_high, at_split}
+use Rattle.law_world_time.proofs.DataTold.{pid_low}
+use Rattle.law_world_time.proofs.SplitMasked.{allowed_split}
+use Rattle.law_world_time.specs.PaymentLaws.{by_descriptor, IsWholeAndSome, HasHighIsochronous, IsWithin}
 use Rattle.law_world_time.proofs.PaymentFrames.{chained_active}
 use Rattle.law_world_time.proofs.PaymentIsochronous.{one_transfer, iso_now}
 use Rattle.law_world_time.proofs.PaymentWalking.{IsHeadThere, IsItdThere, ReadsStructures}
@@ -122,6 +131,11 @@ sitd_cursor m _ a v is = absurd (cc)
 
 -- ---- in a world
 
+not_high : (s : Speed) → is_classic s ≡ true → (speed_field s == 2) ≡ false
+not_high High classic = absurd (cc)
+not_high Full classic = refl
+not_high Low classic = refl
+
 few_transactions : (mult multi w : ℕ) → mult ≡ bits 31 30 w → max 1 mult ≡ multi → multi ≤ 3
 few_transactions mult multi w is most = omega (arith, is, most)
 
@@ -150,24 +164,82 @@ module _ (d : DriverContent) (has : HasOwners d) (descs parts : StructureSets) (
 -- ---- a world
 
 module _ (b : World) (s : Standing) (w : World) (k : IsMixedAt s w) (heads : HeadsHaveFields w.driver w.memory) (itds : ItdsStand w.driver w.memory)
-    (high : HasHighPeriodics w.driver) (data_alone : ReadsData w) (within : IsWithin b w) where
-  its : {a : ℕ} (q : IsQueueAt w.driver a) → IsHighAndSome q.belongs.endpoint.desc
+    (high : HasHighIsochronous w.driver) (allowed : AreAllowed w.driver) (data_alone : ReadsData w) (within : IsWithin b w) where
+  its : {a : ℕ} (q : IsQueueAt w.driver a) → IsWholeAndSome q.belongs.endpoint.desc
   its q = high.endpoints q.belongs.number q.belongs.endpoint q.belongs.here (ap is_periodic q.kind)
 
   leads : w.control.part ≡ Periodic → LeadsTo (met w.driver s.recent) w.control.frame.cursor
   leads periodic = (k.now.framed.runs.walk periodic).cursor
+
+  module _ (a : ℕ) (q : Qh) (h : IsQueueAt w.driver a) (reads : queue_head_at_address w.memory a ≡ Some q) where
+    abbrev x : Placed
+    x = placed_of h.belongs
+
+    sends : q.token.active ≡ true → q.token.pid ≡ pid_of x.want.dir
+    sends =
+        data_alone.heads h.belongs.number h.belongs.endpoint q h.belongs.here h.kind h.belongs.kept
+        (ap (queue_head_at_address w.memory) (sym h.name) ∙ reads)
+
+    read : HasReadFields (word_at w.memory (a + 4)) (word_at w.memory (a + 8)) q
+    read = read_fields w.memory a q reads
+
+    have : HaveFields (word_at w.memory (a + 4)) (word_at w.memory (a + 8)) h.belongs.endpoint.desc h.belongs.placement
+    have =
+        subst (λ (n : ℕ). HaveFields (word_at w.memory (n + 4)) (word_at w.memory (n + 8)) h.belongs.endpoint.desc h.belongs.placement)
+        (sym h.name)
+        (heads h.belongs.number h.belongs.endpoint h.belongs.placement h.belongs.here (ap is_iso h.kind) h.belongs.kept h.belongs.placed)
+
+    begins_high : (u : ℕ) → h.belongs.endpoint.desc.speed ≡ High → IsPaidFor x u (hands.Queue (queue_copy a q)) 0
+    begins_high u speed =
+        let of : IsHeadOf x q = head_is_read w a q h heads speed reads in
+        let some = (its h).some in
+        let pid : q.token.active ≡ true → q.token.pid ≤ 1 = λ on. let is = sends on in let low = pid_low x.want.dir in
+        omega (arith, is, low) in
+        at_high (record {
+          of = record {
+            head = of;
+            few = few_transactions q.mult h.belongs.endpoint.desc.multi (word_at w.memory (a + 8)) read.mult of.multi;
+            pid = pid;
+            room = omega (arith, some);
+            own = λ made. absurd (omega (arith, made));
+          };
+          charged = omega arith;
+        })
+
+    begins_split : (u : ℕ) → is_classic h.belongs.endpoint.desc.speed ≡ true → IsPaidFor x u (hands.Queue (queue_copy a q)) 0
+    begins_split u classic =
+        let all : IsAllowed x = one_of_all IsAllowed w.driver.periodic.plan.placed h.belongs.planned.place x allowed
+        h.belongs.planned.there in
+        at_split (queue_copy a q) refl (record {
+          head = record {
+            classic = classic;
+            kind = h.kind;
+            some = (its h).some;
+            masks = allowed_split x all classic;
+            below = ap (λ (n : ℕ). n == 2) (read.eps ∙ have.speed) ∙ not_high h.belongs.endpoint.desc.speed classic;
+            max = read.longest ∙ have.longest;
+            smask = read.smask ∙ have.smask;
+            cmask = read.cmask ∙ have.cmask;
+          };
+          pid = sends;
+          none = λ made. refl;
+          one = omega arith;
+        })
+
+    begins : (u : ℕ) → IsPaidFor x u (hands.Queue (queue_copy a q)) 0
+    begins u = by h.belongs.endpoint.desc.speed refl
+      where
+        by : (s : Speed) → h.belongs.endpoint.desc.speed ≡ s → IsPaidFor x u (hands.Queue (queue_copy a q)) 0
+        by High is = begins_high u is
+        by Full is = begins_split u (ap is_classic is)
+        by Low is = begins_split u (ap is_classic is)
 
   head : (a : ℕ) (q : Qh) → w.control.part ≡ Periodic → chain_row w.memory w.control.frame.cursor ≡ chains.Queue a q → IsHeadThere w.driver a q
   head a q periodic is =
       let c = queue_cursor w.memory w.control.frame.cursor a q is in
       let on : met w.driver s.recent a ≡ Some AQueue = subst (LeadsTo (met w.driver s.recent)) c.0 (leads periodic) in
       let h : IsQueueAt w.driver a = queue_belongs s w a k on in
-      let one = its h in
-      let of : IsHeadOf (placed_of h.belongs) q = head_is_read w a q h heads one.speed c.1 in
-      let sends : q.token.active ≡ true → q.token.pid ≤ 1
-      = data_alone.heads h.belongs.number h.belongs.endpoint q h.belongs.here h.kind h.belongs.kept (ap (queue_head_at_address w.memory) (sym h.name) ∙ c.1) in
-      let read : HasReadFields (word_at w.memory (a + 4)) (word_at w.memory (a + 8)) q = read_fields w.memory a q c.1 in
-      record { queue = h; head = of; few = few_transactions q.mult h.belongs.endpoint.desc.multi (word_at w.memory (a + 8)) read.mult of.multi; pid = sends }
+      record { queue = h; begins = begins a q h c.1 }
 
   no_sitd_met : (n : ℕ) → met w.driver s.recent n ≡ Some ASitd → ⊥
   no_sitd_met n is =
@@ -254,19 +326,18 @@ module _ (b : World) (s : Standing) (w : World) (k : IsMixedAt s w) (heads : Hea
         (λ (h : IsHarvestedAt w.driver a). absurd (true≢false (sym on ∙ harvested_is_read s w a v h k is_met itds.served reads (w.control.frame.index % 8) small)))
         (descriptor_belongs s w a AnItd k is_met (λ same. cc))
 
-  takes_data : (hand : Hand) → w.control.part ≡ Periodic → w.control.frame.hand ≡ Some hand → TakesData (frame_place (controller_parts w)) hand
-  takes_data (hands.Queue h) periodic held = λ a t is. data_alone.takes h a t periodic held is
-  takes_data _ periodic held = tt
-
   structures : ReadsStructures b w.driver (controller_parts w)
   structures = record {
     heads = λ a q periodic free is. head a q periodic is;
     itds = λ a v periodic free is on. itd_there a v periodic free is on;
     no_sitd = λ a v periodic free is.
         no_sitd_met a (subst (LeadsTo (met w.driver s.recent)) (sitd_cursor w.memory w.control.frame.cursor a v is) (leads periodic));
-    takes = takes_data;
+    takes = λ h dir by periodic held a t is. data_alone.takes h a t dir by periodic held is;
   }
 
-pub reads_structures : (b w : World) (vs : List ℕ) → IsVisiting b w vs → HeadsHaveFields w.driver w.memory → ItdsStand w.driver w.memory → HasHighPeriodics w.driver → ReadsData w → IsWithin b w
+pub reads_structures : (b w : World) (vs : List ℕ) → IsVisiting b w vs → HeadsHaveFields w.driver w.memory → ItdsStand w.driver w.memory
+    → HasHighIsochronous w.driver → AreAllowed w.driver → ReadsData w
+    → IsWithin b w
     → ReadsStructures b w.driver (controller_parts w)
-reads_structures b w vs g heads itds high data_alone within = structures b g.mixed.standing w g.mixed.mixed heads itds high data_alone within
+reads_structures b w vs g heads itds high allowed data_alone within =
+    structures b g.mixed.standing w g.mixed.mixed heads itds high allowed data_alone within

@@ -1,12 +1,18 @@
 -- So it is in the run of each script that a text spells.
+use Rattle.std.proofs.Common.{ℕ, List}
+use Rattle.script_types.specs.declared.scripts.Script.{Script}
+use Rattle.script_text.specs.Faults.{Spells}
 use Rattle.script_fits.proofs.Texts.{spelled_fits}
 use Rattle.law_scripts.proofs.lemmas.script_bytes.Texts.{spelled_bytes}
 use Rattle.law_world_memory.proofs.Texts.{texts_fit}
 use Rattle.law_world_memory.proofs.FittingTexts.{texts_open_fitting}
-use Rattle.law_world_time.specs.PaymentLaws.{TextsPayWithinLoad}
+use Rattle.bus_world.specs.Budgets.{moment}
+use Rattle.claims_world.specs.WithinLoad.{payments, IsWithinLoad}
+use Rattle.claims_world.specs.Scripts.{HighIsochronousOnly}
 use Rattle.law_world_visits.proofs.VisitTexts.{lines_fit}
 use Rattle.law_world_time.proofs.PaymentMoments.{scripts_pay}
 
-pub texts_pay : TextsPayWithinLoad
-texts_pay text s spelled only =
+pub texts_load : (text : List ℕ) (s : Script) → Spells text s → HighIsochronousOnly s → (k : ℕ)
+    → IsWithinLoad (moment s k).world (payments s k)
+texts_load text s spelled only =
     scripts_pay s (spelled_fits text s spelled) (spelled_bytes text s spelled) (lines_fit s.lines (texts_fit text s spelled) (texts_open_fitting text s spelled)) only

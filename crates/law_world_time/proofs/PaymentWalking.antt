@@ -2,7 +2,10 @@
 use Rattle.std.proofs.Common.{◌≡◌, ℕ, ◌+◌, ◌-◌, ◌/◌, ◌%◌, ◌≤◌, Bool, true, false, List, [], ◌∷◌, Option, Some, None, ap, refl, sym, subst, ◌∙◌, ⊎_elim, arith, inl, inr}
 use Rattle.std.specs.Prelude.{if◌then◌else◌}
 use Rattle.std.specs.List.{AllByRecursion}
+use Rattle.std.proofs.lemmas.Option.{same_Some}
 use Rattle.usb_base.specs.declared.packets.Ask.{Ask}
+use Rattle.usb_base.specs.declared.packets.Dir.{Dir}
+use Rattle.usb_base.specs.declared.packets.EpKind.TheVariants.{Interrupt, Iso}
 use Rattle.usb_base.specs.declared.packets.Reply.{Reply}
 use Rattle.usb_base.specs.declared.packets.Reply.TheVariants.{Silent}
 use Rattle.word_mem.specs.Memory.{reaches}
@@ -10,46 +13,57 @@ use Rattle.op_registers.specs.Events.{after_begin}
 use Rattle.hc_iso.specs.declared.held.HeldItd.{HeldItd}
 use Rattle.hc_iso.specs.declared.held.IsoEnd.{IsoEnd}
 use Rattle.hc_iso.specs.Itd.{itd_transaction, fetched_itd}
+use Rattle.qh_qtd.specs.declared.qtd.Qtd.{Qtd}
 use Rattle.qh_qtd.specs.declared.queue_head.Qh.{Qh}
 use Rattle.itd_sitd.specs.declared.itd.Itd.{Itd}
 use Rattle.itd_sitd.specs.Itd.{slot_of}
 use Rattle.itd_sitd.specs.declared.sitd.Sitd.{Sitd}
 use Rattle.bandwidth.specs.declared.placements.Placed.{Placed}
 use Rattle.bandwidth.specs.Placements.{has}
-use Rattle.bandwidth.specs.Sums.{is_active}
+use Rattle.bandwidth.specs.Sums.{is_active, cost_in, cost_at}
 use Rattle.periodic_walk.specs.declared.state.Hand.{Hand}
 use Rattle.periodic_walk.specs.declared.state.Hand.TheVariants as hands
 use Rattle.periodic_walk.specs.declared.chain.ChainRow.{ChainRow}
 use Rattle.periodic_walk.specs.declared.chain.ChainRow.TheVariants as chains
 use Rattle.periodic_walk.specs.declared.itd.ItdRow.{ItdRow}
 use Rattle.periodic_walk.specs.declared.itd.ItdRow.TheVariants as itds
-use Rattle.periodic_walk.specs.Walk.{Walk as FrameWalk}
-use Rattle.periodic_walk.specs.Place.{FramePlace, passing, HasEffect}
+use Rattle.periodic_walk.specs.declared.state.HeldQueue.{HeldQueue}
+use Rattle.periodic_walk.specs.declared.queue.QueueRow.TheVariants as queue_rows
+use Rattle.periodic_walk.specs.Walk.{Walk as FrameWalk, hand_address}
+use Rattle.periodic_walk.specs.Place.{FramePlace, Effect, passing, HasEffect}
+use Rattle.periodic_walk.specs.Place.Effect.{Leaves, Asks}
+use Rattle.periodic_walk.specs.Queue.{queue_row}
 use Rattle.periodic_walk.specs.Itd.{timed_row, ended_row, itd_row, itd_effect}
 use Rattle.periodic_walk.specs.Chain.{chain_row, chain_walk, chain_step}
-use Rattle.periodic_walk.specs.Rows.{step_at, effect_at, effect_of}
+use Rattle.periodic_walk.specs.Rows.{step_at, step_of, effect_at, effect_of}
 use Rattle.hc_core.specs.declared.controller.MicroframePart.TheVariants.{Over, Periodic}
 use Rattle.hc_core.specs.declared.controller.ControllerRow.{ControllerRow}
 use Rattle.hc_core.specs.declared.controller.ControllerRow.TheVariants as rows
-use Rattle.hc_core.specs.Controller.{Control, Content, element_address, begun_at, ended, entered, frame_place, walk_place, walk_step, part_after, Walks, HasRow}
+use Rattle.hc_core.specs.Controller.{Control, Content, element_address, begun_at, ended, entered, frame_place, frame_step, hc_step, walk_place, walk_step, part_after, kind_of, Walks, HasRow}
 use Rattle.drv_table.specs.DriverContent.{DriverContent}
-use Rattle.law_budgets.specs.visit_prices.Spent.{IsHeadOf, IsItdOf}
+use Rattle.law_budgets.specs.visit_prices.Spent.{IsItdOf}
 use Rattle.law_budgets.specs.visit_prices.Prices.{after}
 use Rattle.law_budgets.specs.visit_prices.Fetched.{queue_copy, itd_copy}
 use Rattle.bus_world.specs.World.{World}
 use Rattle.law_world_memory.proofs.lemmas.framed_memory.Index.{ring_index, frame_index}
 use Rattle.law_world_visits.specs.Began.{began_at}
-use Rattle.claims_world.specs.Visits.{visits_after, visits_at, frame_in}
-use Rattle.law_world_time.specs.Charges.{IsInHandOf, TakesData, IsHeldFor, IsHeldStill, IsSummed, Begins}
+use Rattle.claims_world.specs.Visits.{fetched_by, visits_after, visits_at, frame_in}
+use Rattle.law_world_time.specs.Charges.{charge, IsInHandOf, TakesData, GoesOnOrEnds, IsCharging, IsHeldFor, IsHeldStill, IsSummed, Begins}
+use Rattle.law_world_time.specs.DataQueues.{pid_of, GoesBy}
+use Rattle.law_world_time.specs.SplitCharges.{IsSplitInHand, IsPaidFor, at_high, at_split, TakesWay, added, IsPaidStill, GoesOnPaid, PaysBy}
 use Rattle.law_world_time.specs.ChargeLoads.{IsPaidIn}
 use Rattle.law_world_visits.specs.Belonging.{placed_of, IsQueueAt}
 use Rattle.law_world_visits.proofs.VisitWalking.{over_no, async_no}
-use Rattle.claims_world.specs.WithinLoad.{paid_more, payments_at, payments_after, microframe_in}
+use Rattle.claims_world.specs.Prices.{cost_of}
+use Rattle.claims_world.specs.WithinLoad.{is_again, begun_too, paid_more, payments_at, payments_after, microframe_in}
 use Rattle.law_world_time.specs.Payments.{names_in}
-use Rattle.law_world_time.specs.PaymentLaws.{IsOwnedBy, by_queue, IsPayment, IsHandPaid, IsPassing, ArePaidByHand, ArePaid}
+use Rattle.law_world_time.specs.PaymentLaws.{IsOwnedBy, by_queue, by_descriptor, IsPayment, IsHandPaid, IsPassing, ArePaidByHand, ArePaid}
 use Rattle.law_world_time.proofs.ChargeEvents.{leads_charged}
-use Rattle.law_world_time.proofs.ChargeSums.{charges_summed, head_begins, itd_begins}
-use Rattle.law_world_time.proofs.ChargeLoads.{held_paid}
+use Rattle.law_world_time.proofs.ChargeSums.{charges_summed, itd_begins}
+use Rattle.law_world_time.proofs.ChargeLoads.{held_placed}
+use Rattle.law_world_time.proofs.DataTold.{pid_low}
+use Rattle.law_world_time.proofs.SplitCharged.{splits_priced}
+use Rattle.law_world_time.proofs.PriceTaken.{leads_cost}
 
 -- ---- the microframe among those of the frame list
 
@@ -74,17 +88,93 @@ in_hand_of x u v (hands.Itd h) same held =
     }
 in_hand_of x u v (hands.Sitd h) same held = absurd held
 
-pub held_in : (x : Placed) (index : ℕ) (hand : Hand) (paid : ℕ) → IsHeldFor x index hand paid → IsHeldFor x (microframe_in index) hand paid
+held_in : (x : Placed) (index : ℕ) (hand : Hand) (paid : ℕ) → IsHeldFor x index hand paid → IsHeldFor x (microframe_in index) hand paid
 held_in x index hand paid held = record { of = in_hand_of x index (microframe_in index) hand (same_part index) held.of; charged = held.charged }
+
+-- no more is paid than the placement has for the microframe
+pub paid_in : (x : Placed) (index : ℕ) (hand : Hand) (paid : ℕ) → IsPaidFor x index hand paid
+    → is_active x.placement (microframe_in index / 8) ≡ true
+    → IsPaidIn (microframe_in index) (record { of = x; paid = paid })
+paid_in x index hand paid (at_high held) on =
+    record { within = held_placed x (microframe_in index) hand paid (held_in x index hand paid held) on }
+paid_in x index hand paid (at_split h is held) on = record {
+  within =
+      let same : cost_at (microframe_in index) x ≡ cost_in x.want x.placement (microframe_in index % 8)
+      = ap (λ (b : Bool). if b then cost_in x.want x.placement (microframe_in index % 8) else 0) on in
+      subst (λ (n : ℕ). paid ≤ n) (sym (same ∙ ap (cost_in x.want x.placement) (same_part index))) held.one;
+}
+
+-- nothing is made again at high speed
+pub in_hand_once : (x : Placed) (u : ℕ) (hand : Hand) → IsInHandOf x u hand → is_again hand ≡ false
+in_hand_once x u (hands.Queue h) held = rw held.head.high refl
+in_hand_once x u (hands.Itd h) held = refl
+in_hand_once x u (hands.Sitd h) held = absurd held
+
+-- ---- an event of a visit
+
+-- what is in hand is of the same structure
+charging_at : (x : Placed) (p q : FramePlace) (hand k : Hand) → IsCharging x p hand q → q.walk.hand ≡ Some k
+    → hand_address k ≡ hand_address hand
+charging_at x p q hand k (inl rests) is = (subst (GoesOnOrEnds x p.walk.index hand) is rests.hand).address
+charging_at x p q hand k (inr works) is = let same : works.copy ≡ k = same_Some works.copy k (sym works.hand ∙ is) in
+    ap hand_address (sym same) ∙ works.going.address
+
+still_high : (x : Placed) (u paid more : ℕ) (hand : Hand) (o : Option Hand)
+    → ((k : Hand) → o ≡ Some k → hand_address k ≡ hand_address hand) → IsHeldStill x u (paid + more) o
+    → IsPaidStill x u hand (paid + more) o
+still_high x u paid more hand None at held = tt
+still_high x u paid more hand (Some k) at held = (at_high held, at k refl)
+
+effect_pays : {W : Type 0} (transacts : W → Ask → List ℕ → Reply → W → Type 0) (x : Placed) (p q : FramePlace) (before later : W)
+    (hand : Hand) (paid more : ℕ) (e : Effect)
+    → PaysBy x p hand paid more e → HasEffect transacts e before q later → GoesOnPaid x p.walk.index hand paid more q
+effect_pays transacts x p q before later hand paid more (Leaves new) pays has =
+    subst (GoesOnPaid x p.walk.index hand paid more) (sym has.0) pays
+effect_pays transacts x p q before later hand paid more (Asks ask out by) pays has =
+    subst (GoesOnPaid x p.walk.index hand paid more) (sym has.place) (pays has.reply)
+
+module _ {W : Type 0} (transacts : W → Ask → List ℕ → Reply → W → Type 0) (x : Placed) (p q : FramePlace) (before later : W) (hand : Hand)
+    (paid : ℕ) (is : p.walk.hand ≡ Some hand)
+    (way : TakesWay x p hand) (leads : HasEffect transacts (effect_of p) before q later) where
+  abbrev more : ℕ
+  more = added (hc_step (step_of p)) hand
+
+  tame : (h : Hand) → TakesWay x p h → TakesData p h
+  tame (hands.Queue h) takes = λ a t row. let pid = takes a t row in let low = pid_low x.want.dir in omega (arith, pid, low)
+  tame _ takes = tt
+
+  high_goes_on : IsHeldFor x p.walk.index hand paid → GoesOnPaid x p.walk.index hand paid (added (hc_step (step_of p)) hand) q
+  high_goes_on held =
+      let charging : IsCharging x p hand q = leads_charged transacts x p q before later hand is held.of (tame hand way) leads in
+      let sum : IsSummed x p paid q = charges_summed x p q hand paid held charging in
+      let same : charge p q ≡ added (hc_step (step_of p)) hand =
+      leads_cost transacts p q before later hand is leads
+      ∙ sym (ap (λ (b : Bool). if b then 0 else cost_of (hc_step (step_of p)) hand) (in_hand_once x p.walk.index hand held.of)) in
+      record {
+        index = sum.index;
+        held = still_high x p.walk.index paid (added (hc_step (step_of p)) hand) hand q.walk.hand
+            (λ k at. charging_at x p q hand k charging at)
+            (subst (λ (n : ℕ). IsHeldStill x p.walk.index (paid + n) q.walk.hand) same sum.held);
+        ends = λ over. sym same ∙ sum.ends over;
+      }
+
+  split_goes_on : (h : HeldQueue) → hand ≡ hands.Queue h → IsSplitInHand x h p.walk.index paid
+      → GoesOnPaid x p.walk.index hand paid (added (hc_step (step_of p)) hand) q
+  split_goes_on h same held =
+      subst (λ (z : Hand). GoesOnPaid x p.walk.index z paid (added (hc_step (step_of p)) z) q) (sym same)
+      (effect_pays transacts x p q before later (hands.Queue h) paid (added (hc_step (step_of p)) (hands.Queue h)) (effect_of p)
+      (splits_priced x p h paid (is ∙ ap Some same) held (subst (TakesWay x p) same way)) leads)
+
+  goes_on_paid : IsPaidFor x p.walk.index hand paid → GoesOnPaid x p.walk.index hand paid (added (hc_step (step_of p)) hand) q
+  goes_on_paid (at_high held) = high_goes_on held
+  goes_on_paid (at_split h same held) = split_goes_on h same held
 
 -- ---- what is told of the place where the walk is
 
--- the queue head there is that of a placed interrupt endpoint
+-- the queue head there is that of a placed interrupt endpoint, and a visit begins with nothing paid
 pub record IsHeadThere (d : DriverContent) (a : ℕ) (q : Qh) : Type 0 where
   pub queue : IsQueueAt d a
-  pub head : IsHeadOf (placed_of queue.belongs) q
-  pub few : queue.belongs.endpoint.desc.multi ≤ 3
-  pub pid : q.token.active ≡ true → q.token.pid ≤ 1
+  pub begins : (u : ℕ) → IsPaidFor (placed_of queue.belongs) u (hands.Queue (queue_copy a q)) 0
 
 -- a descriptor there of which something is active in this microframe is that of a placed isochronous endpoint
 pub record IsItdThere (b : World) (d : DriverContent) (c : Content) (a : ℕ) (v : Itd) : Type 0 where
@@ -96,13 +186,14 @@ pub record IsItdThere (b : World) (d : DriverContent) (c : Content) (a : ℕ) (v
   pub own : has of.placement.smask (c.control.frame.index % 8) ≡ true
   pub active : is_active of.placement (frame_in c.control.frame.index) ≡ true
 
--- no siTD is read, and a qTD that is taken is of an IN or an OUT
+-- no siTD is read, and a qTD that is taken is of its endpoint's way
 pub record ReadsStructures (b : World) (d : DriverContent) (c : Content) : Type 0 where
   pub heads : (a : ℕ) (q : Qh) → c.control.part ≡ Periodic → c.control.frame.hand ≡ None → chain_row c.memory c.control.frame.cursor ≡ chains.Queue a q → IsHeadThere d a q
   pub itds : (a : ℕ) (v : Itd) → c.control.part ≡ Periodic → c.control.frame.hand ≡ None → chain_row c.memory c.control.frame.cursor ≡ chains.Itd a v
       → (slot_of (c.control.frame.index % 8) v).active ≡ true → IsItdThere b d c a v
   pub no_sitd : (a : ℕ) (v : Sitd) → c.control.part ≡ Periodic → c.control.frame.hand ≡ None → chain_row c.memory c.control.frame.cursor ≡ chains.Sitd a v → ⊥
-  pub takes : (hand : Hand) → c.control.part ≡ Periodic → c.control.frame.hand ≡ Some hand → TakesData (frame_place c) hand
+  pub takes : (h : HeldQueue) (dir : Dir) → GoesBy d h.copy.at dir → c.control.part ≡ Periodic → c.control.frame.hand ≡ Some (hands.Queue h)
+      → (a : ℕ) (t : Qtd) → queue_row (frame_place c) h ≡ queue_rows.Advance a t → t.token.pid ≡ pid_of dir
 
 abbrev InFrame : DriverContent → ℕ → ℕ → Type 0
 InFrame d index v = (b : IsQueueAt d v) → is_active b.belongs.placement (frame_in index) ≡ true
@@ -112,6 +203,10 @@ InFrame d index v = (b : IsQueueAt d v) → is_active b.belongs.placement (frame
 passing_copy : (a u : ℕ) (v : Itd) (ps : List (ℕ × ℕ)) → (slot_of u v).active ≡ false → IsPassing (hands.Itd (fetched_itd a u v)) ((a, 0) ∷ ps)
 unfolding fetched_itd
 passing_copy a u v ps off = record { copy = fetched_itd a u v; is = refl; goes_on = refl; off = off; address = a; rest = ps; are = refl }
+
+itd_at : (a u : ℕ) (v : Itd) → (fetched_itd a u v).at ≡ a
+unfolding fetched_itd
+itd_at a u v = refl
 
 skips : (left : ℕ) (h : HeldItd) → h.ended ≡ None → h.slot.active ≡ false → itd_row left h ≡ itds.Skip
 skips left h goes_on off = ap (λ (o : Option IsoEnd). ended_row left h o) goes_on ∙ ap (λ (b : Bool). if b then timed_row left (itd_transaction h) else itds.Skip) off
@@ -139,12 +234,8 @@ module _ {W : Type 0} (begins_with : W → ℕ → Bool → W → Type 0) (trans
   fetched a q periodic free is walk in_frame =
       let there : IsHeadThere d a q = reads.heads a q periodic free is in
       let x : Placed = placed_of there.queue.belongs in
-      let begins : Begins x (frame_place c) (hands.Queue (queue_copy a q)) (after (frame_place c) Silent)
-      = head_begins x (frame_place c) a q Silent (record { free = free; row = is; head = there.head; few = there.few; pid = there.pid }) in
       let same : n.control.frame.index ≡ c.control.frame.index = ap (λ (w : FrameWalk). w.index) walk in
       let hand_is : n.control.frame.hand ≡ Some (hands.Queue (queue_copy a q)) = ap (λ (w : FrameWalk). w.hand) walk in
-      let held : IsHeldFor x n.control.frame.index (hands.Queue (queue_copy a q)) 0
-      = subst (λ (i : ℕ). IsHeldFor x i (hands.Queue (queue_copy a q)) 0) (sym same) begins.held in
       record {
         entries = (inl refl, subst (λ (i : ℕ). Entries i ps) (sym same) k.entries);
         hand = λ on.
@@ -156,7 +247,8 @@ module _ {W : Type 0} (begins_with : W → ℕ → Bool → W → Type 0) (trans
               are = refl;
               of = x;
               owned = by_queue there.queue refl;
-              held = held;
+              held = there.begins n.control.frame.index;
+              at = refl;
               active = ap (is_active there.queue.belongs.placement) (same_frame n.control.frame.index) ∙ in_frame there.queue;
             }));
       }
@@ -180,7 +272,8 @@ module _ {W : Type 0} (begins_with : W → ℕ → Bool → W → Type 0) (trans
         are = refl;
         of = there.of;
         owned = there.owned;
-        held = begins.held;
+        held = at_high begins.held;
+        at = itd_at a (c.control.frame.index % 8) v;
         active = ap (is_active there.of.placement) (same_frame c.control.frame.index) ∙ there.active;
       })
 
@@ -198,7 +291,8 @@ module _ {W : Type 0} (begins_with : W → ℕ → Bool → W → Type 0) (trans
       }
 
   by_chain : (r : ChainRow) → chain_row c.memory c.control.frame.cursor ≡ r → c.control.part ≡ Periodic → c.control.frame.hand ≡ None → n.control.frame ≡ chain_walk r c.control.frame
-      → n.control.part ≡ part_after Periodic (chain_step r) → AllByRecursion (InFrame d n.control.frame.index) (visits_at None r (names_in ps)) → Paid n.control (payments_at None r 0 ps)
+      → n.control.part ≡ part_after Periodic (chain_step r)
+      → AllByRecursion (InFrame d n.control.frame.index) (visits_at None r (names_in ps)) → Paid n.control (begun_too (fetched_by r) ps)
   by_chain (chains.Queue a q) is periodic free walk part in_frames = fetched a q periodic free is walk in_frames.0
   by_chain (chains.Itd a v) is periodic free walk part in_frames = itd_fetched a v periodic free is walk
   by_chain (chains.Sitd a v) is periodic free walk part in_frames = absurd (reads.no_sitd a v periodic free is)
@@ -206,38 +300,71 @@ module _ {W : Type 0} (begins_with : W → ℕ → Bool → W → Type 0) (trans
 
   -- ---- an event with a copy in hand
 
-  still_held : (x : Placed) (hand : Hand) (paid more : ℕ) (o : Option Hand) → is_active x.placement (microframe_in c.control.frame.index / 8) ≡ true → IsHeldFor x c.control.frame.index hand paid
-      → IsHeldStill x c.control.frame.index (paid + more) o → (o ≡ None → more ≡ 0) → IsPaidIn (microframe_in c.control.frame.index) (record { of = x; paid = paid + more })
-  still_held x hand paid more None active was kept ends =
-      let same : paid ≡ paid + more = omega (arith, ends refl) in
-      held_paid x (microframe_in c.control.frame.index) hand (paid + more)
-      (subst (λ (i : ℕ). IsHeldFor x (microframe_in c.control.frame.index) hand i) same (held_in x c.control.frame.index hand paid was)) active
-  still_held x hand paid more (Some next) active was kept ends =
-      held_paid x (microframe_in c.control.frame.index) next (paid + more) (held_in x c.control.frame.index next (paid + more) kept) active
+  -- a qTD that is taken is of its endpoint's way
+  its_kind : (x : Placed) (u paid : ℕ) (h : HeldQueue) → IsPaidFor x u (hands.Queue h) paid → x.want.kind ≡ Interrupt
+  its_kind x u paid h (at_high held) = held.of.head.kind
+  its_kind x u paid h (at_split g same held) = held.head.kind
 
-  then_held : (h : Hand) (o : IsHandPaid b d c.registers.frame_index c.control.frame.index h ps) (more : ℕ) (to : Option Hand) → IsHeldStill o.of c.control.frame.index (o.paid + more) to
+  no_iso : (x : Placed) (v : Placed) → v ≡ x → v.want.kind ≡ Iso → x.want.kind ≡ Interrupt → ⊥
+  no_iso x v same iso kind = let e : Interrupt ≡ Iso = sym kind ∙ ap (λ (z : Placed). z.want.kind) (sym same) ∙ iso in cc
+
+  takes_way : (x : Placed) (f a paid : ℕ) (hand : Hand) → IsOwnedBy b d c.registers.frame_index f a x → hand_address hand ≡ a
+      → IsPaidFor x c.control.frame.index hand paid
+      → c.control.part ≡ Periodic → c.control.frame.hand ≡ Some hand → TakesWay x (frame_place c) hand
+  takes_way x f a paid (hands.Queue h) (by_queue q is) at held periodic in_hand =
+      reads.takes h x.want.dir
+      (subst (λ (n : ℕ). GoesBy d n x.want.dir) (sym at) (record { at = q; way = ap (λ (z : Placed). z.want.dir) is })) periodic in_hand
+  takes_way x f a paid (hands.Queue h) (by_descriptor e i is active) at held periodic in_hand =
+      absurd (no_iso x _ is i.kind (its_kind x c.control.frame.index paid h held))
+  takes_way x f a paid (hands.Itd h) owned at held periodic in_hand = tt
+  takes_way x f a paid (hands.Sitd h) owned at held periodic in_hand = tt
+
+  then_paid : (x : Placed) (hand : Hand) (paid more : ℕ) (o : Option Hand)
+      → is_active x.placement (microframe_in c.control.frame.index / 8) ≡ true
+      → IsPaidFor x c.control.frame.index hand paid → IsPaidStill x c.control.frame.index hand (paid + more) o → (o ≡ None → more ≡ 0)
+      → IsPaidIn (microframe_in c.control.frame.index) (record { of = x; paid = paid + more })
+  then_paid x hand paid more None active was kept ends =
+      let same : paid ≡ paid + more = omega (arith, ends refl) in
+      paid_in x c.control.frame.index hand (paid + more) (subst (IsPaidFor x c.control.frame.index hand) same was) active
+  then_paid x hand paid more (Some next) active was kept ends = paid_in x c.control.frame.index next (paid + more) kept.0 active
+
+  then_held : (h : Hand) (o : IsHandPaid b d c.registers.frame_index c.control.frame.index h ps) (more : ℕ) (to : Option Hand)
+      → IsPaidStill o.of c.control.frame.index h (o.paid + more) to
       → ArePaidByHand b d c.registers.frame_index c.control.frame.index to ((o.address, o.paid + more) ∷ o.rest)
-  then_held h o more None kept = tt
-  then_held h o more (Some next) kept =
-      inl (record { address = o.address; paid = o.paid + more; rest = o.rest; are = refl; of = o.of; owned = o.owned; held = kept; active = o.active })
+  then_held h o plus None kept = tt
+  then_held h o plus (Some next) kept =
+      inl (record {
+        address = o.address;
+        paid = o.paid + plus;
+        rest = o.rest;
+        are = refl;
+        of = o.of;
+        owned = o.owned;
+        held = kept.0;
+        at = kept.1 ∙ o.at;
+        active = o.active;
+      })
 
   charged : (hand : Hand) → c.control.frame.hand ≡ Some hand → c.control.part ≡ Periodic → HasEffect transacts (effect_of (frame_place c)) wire (frame_place n) after_wire
-      → IsHandPaid b d c.registers.frame_index c.control.frame.index hand ps → Paid n.control (paid_more (c.control.frame.left - n.control.frame.left) ps)
+      → IsHandPaid b d c.registers.frame_index c.control.frame.index hand ps
+      → Paid n.control (paid_more (added (hc_step (frame_step c)) hand) ps)
   charged hand held periodic made o =
-      let more : ℕ = c.control.frame.left - n.control.frame.left in
-      let charging = leads_charged transacts o.of (frame_place c) (frame_place n) wire after_wire hand held o.held.of (reads.takes hand periodic held) made in
-      let sum : IsSummed o.of (frame_place c) o.paid (frame_place n) = charges_summed o.of (frame_place c) (frame_place n) hand o.paid o.held charging in
+      let more : ℕ = added (hc_step (frame_step c)) hand in
+      let g : GoesOnPaid o.of c.control.frame.index hand o.paid (added (hc_step (frame_step c)) hand) (frame_place n) =
+      goes_on_paid transacts o.of (frame_place c) (frame_place n) wire after_wire hand o.paid held
+      (takes_way o.of (frame_in c.control.frame.index) o.address o.paid hand o.owned o.at o.held periodic held) made o.held in
       let rest : Entries c.control.frame.index o.rest = (subst (λ (xs : List (ℕ × ℕ)). Entries c.control.frame.index xs) o.are k.entries).1 in
-      let one : IsPaidIn (microframe_in c.control.frame.index) (record { of = o.of; paid = o.paid + (c.control.frame.left - n.control.frame.left) })
-      = still_held o.of hand o.paid (c.control.frame.left - n.control.frame.left) n.control.frame.hand o.active o.held sum.held sum.ends in
-      subst (λ (xs : List (ℕ × ℕ)). Paid n.control (paid_more (c.control.frame.left - n.control.frame.left) xs)) (sym o.are)
+      let one : IsPaidIn (microframe_in c.control.frame.index) (record { of = o.of; paid = o.paid + added (hc_step (frame_step c)) hand })
+      = then_paid o.of hand o.paid (added (hc_step (frame_step c)) hand) n.control.frame.hand o.active o.held g.held g.ends in
+      subst (λ (xs : List (ℕ × ℕ)). Paid n.control (paid_more (added (hc_step (frame_step c)) hand) xs)) (sym o.are)
       (record {
         entries =
-            subst (λ (i : ℕ). Entries i ((o.address, o.paid + (c.control.frame.left - n.control.frame.left)) ∷ o.rest)) (sym sum.index)
+            subst (λ (i : ℕ). Entries i ((o.address, o.paid + added (hc_step (frame_step c)) hand) ∷ o.rest)) (sym g.index)
             (inr (record { of = o.of; owned = o.owned; within = one }), rest);
         hand = λ on.
-            subst (λ (i : ℕ). ArePaidByHand b d c.registers.frame_index i n.control.frame.hand ((o.address, o.paid + (c.control.frame.left - n.control.frame.left)) ∷ o.rest)) (sym sum.index)
-            (then_held hand o (c.control.frame.left - n.control.frame.left) n.control.frame.hand sum.held);
+            subst (λ (i : ℕ). ArePaidByHand b d c.registers.frame_index i n.control.frame.hand
+            ((o.address, o.paid + added (hc_step (frame_step c)) hand) ∷ o.rest)) (sym g.index)
+            (then_held hand o (added (hc_step (frame_step c)) hand) n.control.frame.hand g.held);
       })
 
   -- nothing is paid where nothing is active
@@ -261,15 +388,38 @@ module _ {W : Type 0} (begins_with : W → ℕ → Bool → W → Type 0) (trans
             subst (λ (h : Option Hand). ArePaidByHand b d c.registers.frame_index n.control.frame.index h ((o.address, 0 + (c.control.frame.left - n.control.frame.left)) ∷ o.rest)) (sym none) tt;
       })
 
+  -- what was paid by then is told so
+  abbrev Counted : Hand → List (ℕ × ℕ)
+  Counted hand = payments_at (Some hand) (chain_row c.memory c.control.frame.cursor) (hc_step (frame_step c)) ps
+
+  none_more : (xs : List (ℕ × ℕ)) → paid_more 0 xs ≡ xs
+  none_more [] = refl
+  none_more (x ∷ xs) = let e : x.1 + 0 ≡ x.1 = omega arith in ap (λ (i : ℕ). (x.0, i) ∷ xs) e
+
+  or_again : (again : Bool) (cost : ℕ) → paid_more (if again then 0 else cost) ps ≡ (if again then ps else paid_more cost ps)
+  or_again true cost = none_more ps
+  or_again false cost = refl
+
+  passed_cost : (hand : Hand) → c.control.frame.hand ≡ Some hand
+      → HasEffect transacts (effect_of (frame_place c)) wire (frame_place n) after_wire → is_again hand ≡ false
+      → c.control.frame.left - n.control.frame.left ≡ added (hc_step (frame_step c)) hand
+  passed_cost hand held made once =
+      leads_cost transacts (frame_place c) (frame_place n) wire after_wire hand held made
+      ∙ sym (ap (λ (b : Bool). if b then 0 else cost_of (hc_step (frame_step c)) hand) once)
+
   with_hand : (hand : Hand) → c.control.frame.hand ≡ Some hand → c.control.part ≡ Periodic → HasEffect transacts (effect_of (frame_place c)) wire (frame_place n) after_wire
-      → Paid n.control (paid_more (c.control.frame.left - n.control.frame.left) ps)
+      → Paid n.control (Counted hand)
   with_hand hand held periodic made =
-      ⊎_elim (charged hand held periodic made) (passed_by hand held made) (subst (λ (h : Option Hand). ArePaidByHand b d c.registers.frame_index c.control.frame.index h ps) held (k.hand periodic))
+      subst (Paid n.control) (or_again (is_again hand) (cost_of (hc_step (frame_step c)) hand))
+      (⊎_elim {C = Paid n.control (paid_more (added (hc_step (frame_step c)) hand) ps)} (charged hand held periodic made)
+      (λ (o : IsPassing hand ps).
+      subst (λ (i : ℕ). Paid n.control (paid_more i ps)) (passed_cost hand held made (ap is_again o.is)) (passed_by hand held made o))
+      (subst (λ (h : Option Hand). ArePaidByHand b d c.registers.frame_index c.control.frame.index h ps) held (k.hand periodic)))
 
   by_hand : (o : Option Hand) → c.control.frame.hand ≡ o → c.control.part ≡ Periodic → n.control.part ≡ part_after Periodic (step_at (frame_place c) o)
       → HasEffect transacts (effect_at (frame_place c) o) wire (frame_place n) after_wire → HasEffect transacts (effect_of (frame_place c)) wire (frame_place n) after_wire
       → AllByRecursion (InFrame d n.control.frame.index) (visits_at o (chain_row c.memory c.control.frame.cursor) (names_in ps))
-      → Paid n.control (payments_at o (chain_row c.memory c.control.frame.cursor) (c.control.frame.left - n.control.frame.left) ps)
+      → Paid n.control (payments_at o (chain_row c.memory c.control.frame.cursor) (hc_step (frame_step c)) ps)
   by_hand None free periodic part made here in_frames =
       by_chain (chain_row c.memory c.control.frame.cursor) refl periodic free (ap (λ (p : FramePlace). p.walk) made.0) part in_frames
   by_hand (Some hand) held periodic part made here in_frames = with_hand hand held periodic here
@@ -290,7 +440,7 @@ module _ {W : Type 0} (begins_with : W → ℕ → Bool → W → Type 0) (trans
 
   pub paid_next : (r : ControllerRow) → (r ≡ rows.Begin → c.control.part ≡ Over) → (r ≡ rows.Frame → c.control.part ≡ Periodic)
       → AllByRecursion (InFrame d n.control.frame.index) (visits_after r c (names_in ps)) → HasRow begins_with transacts r c wire n after_wire
-      → ArePaid (began_at r old b) d n.registers.frame_index n.control (payments_after r c n.control.frame.left ps)
+      → ArePaid (began_at r old b) d n.registers.frame_index n.control (payments_after r (kind_of r c) c ps)
   paid_next rows.Idle begins_over frame_there in_frames row = subst (λ (x : Content). ArePaid b d x.registers.frame_index x.control ps) (sym row.0) k
   paid_next rows.Begin begins_over frame_there in_frames row =
       subst (λ (x : Content). ArePaid old d n.registers.frame_index x.control []) (sym row.contents)

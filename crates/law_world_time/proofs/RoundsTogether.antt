@@ -12,7 +12,7 @@ use Rattle.law_world_memory.proofs.Driving.{driver_keeps_mixed}
 use Rattle.law_world_memory.proofs.Texts.{texts_fit}
 use Rattle.law_world_memory.proofs.FittingTexts.{texts_open_fitting}
 use Rattle.law_world_visits.proofs.VisitTexts.{lines_fit}
-use Rattle.law_world_visits.proofs.Carrying.{KeepsCarried, carrying, NextIsOffered, next_is_offered}
+use Rattle.law_world_memory.proofs.Carrying.{KeepsCarried, carrying, NextIsOffered, next_is_offered}
 use Rattle.law_world_time.specs.Rounds.{round_next, round, IsRounding}
 use Rattle.law_world_time.specs.RoundLaws.{DriverKeepsRounds, CommandKeepsRounds, ScriptsRoundOnce, TextsRoundOnce}
 use Rattle.law_world_time.proofs.CommandRounds.{command_leaves_rounds}

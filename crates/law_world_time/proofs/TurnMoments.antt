@@ -23,7 +23,7 @@ use Rattle.law_world_memory.proofs.Texts.{texts_fit}
 use Rattle.law_world_memory.proofs.FittingTexts.{texts_open_fitting}
 use Rattle.claims_world.specs.Carried.{carried_in}
 use Rattle.claims_world.specs.Visits.{visits_after, visits_next, visited}
-use Rattle.law_world_visits.proofs.Carrying.{carried_then}
+use Rattle.law_world_memory.proofs.Carrying.{carried_then}
 use Rattle.law_world_visits.proofs.ReasonMoments.{next_moment}
 use Rattle.law_world_visits.proofs.ReasonParts.{command_control}
 use Rattle.law_world_visits.proofs.VisitTexts.{lines_fit}

@@ -1,20 +1,19 @@
 -- What the visits of one microframe cost together, each charged event by event (USB 2.0, 5.11.3; EHCI 1.0, 4.6 and 4.10).
 --     PaidVisit                 a visit to a placed endpoint, and what was paid in it
---     IsPaidIn u v              the endpoint is of high speed, and no more was paid than the transactions that it may have in microframe u can cost
+--     IsPaidIn u v              no more was paid than the placement has for microframe u
 --     ArePaidApart vs           no two of the visits are of one endpoint
 --     ArePaidOf placed vs       the visits are of placed endpoints, no two of one
 --     paid_in vs                all that was paid in them
 --     IsLeftAfter placed p vs   of the microframe there is left what these visits didn't cost
-use Rattle.std.specs.Prelude.{◌≡◌, ◌≢◌, ℕ, ◌+◌, ◌*◌, ◌/◌, ◌<◌, ◌≤◌, true, false, Some, List, [], ◌∷◌, sum_by}
+use Rattle.std.specs.Prelude.{◌≡◌, ◌≢◌, ℕ, ◌+◌, ◌/◌, ◌<◌, ◌≤◌, true, false, Some, List, [], ◌∷◌, sum_by}
 use Rattle.std.specs.List.{AllByRecursion}
-use Rattle.usb_base.specs.declared.packets.Speed.TheVariants.{High}
 use Rattle.bandwidth.specs.declared.placements.Want.{Want}
 use Rattle.bandwidth.specs.declared.placements.Placed.{Placed}
-use Rattle.bandwidth.specs.Sums.{Fits, is_active, load}
+use Rattle.bandwidth.specs.Sums.{Fits, is_active, cost_at, load}
 use Rattle.periodic_walk.specs.declared.state.Hand.{Hand}
 use Rattle.periodic_walk.specs.Place.{FramePlace}
 use Rattle.claims_world.specs.InTime.{is_late}
-use Rattle.law_budgets.specs.visit_prices.Spent.{IsAmong, largest, most_in}
+use Rattle.law_budgets.specs.visit_prices.Spent.{IsAmong, largest}
 use Rattle.law_world_time.specs.Charges.{IsInHandOf, IsHeldFor}
 
 pub record PaidVisit : Type 0 where
@@ -22,8 +21,7 @@ pub record PaidVisit : Type 0 where
   pub paid : ℕ
 
 pub record IsPaidIn (u : ℕ) (v : PaidVisit) : Type 0 where
-  pub speed : v.of.want.speed ≡ High
-  pub within : v.paid ≤ most_in v.of u * largest v.of.want
+  pub within : v.paid ≤ cost_at u v.of
 
 abbrev pub ArePaidApart : List PaidVisit → Type 0
 ArePaidApart [] = Unit {0}
@@ -57,9 +55,9 @@ PaidIsWithinLoad = (placed : List Placed) (u : ℕ) (vs : List PaidVisit) → Ar
 abbrev pub PaidLeavesAFifth : Type 0
 PaidLeavesAFifth = (placed : List Placed) (u : ℕ) (vs : List PaidVisit) → Fits placed → u < 8192 → ArePaidOf placed vs → AllByRecursion (IsPaidIn u) vs → paid_in vs ≤ 100000000
 
--- no transaction of a packet of up to 1,024 bytes costs more than that
+-- no transaction of a packet of up to 1,024 bytes costs more than 21 microseconds
 abbrev pub TransactionsAreShort : Type 0
-TransactionsAreShort = (w : Want) → w.max ≤ 1024 → largest w ≤ 25000000
+TransactionsAreShort = (w : Want) → w.max ≤ 1024 → largest w ≤ 21000000
 
 -- so none is skipped for want of time, whatever was visited before in the microframe
 abbrev pub PaidVisitsAreInTime : Type 0

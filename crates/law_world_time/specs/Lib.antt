@@ -19,3 +19,6 @@ pub mod Payments
 pub mod PaymentLaws
 pub mod PaymentTimes
 pub mod DataQueues
+pub mod SplitMasks
+pub mod SplitCharges
+pub mod SitdParts

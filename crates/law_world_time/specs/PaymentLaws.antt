@@ -1,7 +1,7 @@
--- Laws of what the visits of the walk of the frames cost along a run (USB 2.0, 5.9 and 5.11.3; EHCI 1.0, 3.3, 3.6, 4.6, 4.7, 4.10.3 and 4.12), where each periodic endpoint is of high
--- speed.
---     IsHighAndSome x         it is of high speed, with at least one transaction
---     HasHighPeriodics d      each periodic endpoint of the driver is so, and no descriptor is a siTD; an endpoint that left its frames has in memory descriptors of frames of its placement
+-- Laws of what the visits of the walk of the frames cost along a run (USB 2.0, 5.9 and 5.11.3; EHCI 1.0, 3.3, 3.6, 4.6, 4.7, 4.10.3 and 4.12), where each isochronous endpoint is of
+-- high speed.
+--     IsWholeAndSome x        it is of high speed, if it is isochronous, and has at least one transaction
+--     HasHighIsochronous d    each periodic endpoint of the driver is so, and no descriptor is a siTD; an endpoint that left its frames has in memory descriptors of frames of its placement
 --                             alone
 --     IsOfIsochronous d now e an isochronous endpoint which isn't given back as long as FRINDEX has the frame number that it has now, with its placement in the plan
 --     IsOwnedBy b d now f a x at byte address a stands the queue head of the endpoint that is placed as x; or as the microframe began a descriptor was active there, of such an
@@ -14,7 +14,7 @@
 --     IsWithin b w            as the microframe began of an endpoint and a frame at most one descriptor was active; and what is active of one to which the walk goes on was active then
 --     ControllerKeepsPaying, DriverKeepsPaying, CommandKeepsPaying     each event and each command leaves them so
 --     ScriptsPayWithinLoad    the law, of each script that fits
---     TextsPayWithinLoad      .. and so of each that a text spells
+--     TextsPayWithinLoad      .. and so of each that a text spells, where nothing else takes time
 use Rattle.std.specs.Prelude.{◌≡◌, ℕ, ◌/◌, ◌≤◌, ◌⊎◌, true, false, List, ◌∷◌, Option, Some, None, slice_get}
 use Rattle.std.specs.List.{AllByRecursion}
 use Rattle.usb_base.specs.declared.commands.Cmd.{Cmd}
@@ -33,17 +33,20 @@ use Rattle.drv_periodic_table.specs.declared.content.Removed.TheVariants as remo
 use Rattle.drv_periodic_table.specs.Periodic.{is_periodic, note_at}
 use Rattle.periodic_walk.specs.declared.state.Hand.{Hand}
 use Rattle.periodic_walk.specs.declared.state.Hand.TheVariants as hands
+use Rattle.periodic_walk.specs.Walk.{hand_address}
 use Rattle.hc_iso.specs.declared.held.HeldItd.{HeldItd}
 use Rattle.hc_core.specs.declared.controller.MicroframePart.TheVariants.{Periodic}
 use Rattle.hc_core.specs.Controller.{Control}
 use Rattle.drv_table.specs.declared.content.Endpoint.{Endpoint}
 use Rattle.drv_table.specs.declared.content.Transfer.{Transfer}
 use Rattle.drv_table.specs.DriverContent.{DriverContent}
+use Rattle.drv_table.specs.Kinds.{is_iso}
+use Rattle.claims_world.specs.FrameHeads.{AreAllowed}
 use Rattle.claims_driver.specs.Owners.{is_descriptor}
 use Rattle.claims_driver.specs.Unlinked.{IsOpenAt}
 use Rattle.law_budgets.specs.visit_prices.Spent.{IsAmong, placed_as}
 use Rattle.bus_wire.specs.Bus.{Fixed}
-use Rattle.bus_world.specs.World.{World, controller_parts, controller_row, driver_next, controller_next, commanded}
+use Rattle.bus_world.specs.World.{World, controller_parts, controller_row, kind_next, driver_next, controller_next, commanded}
 use Rattle.law_world_memory.specs.PlacedLaws.{FitsMixed}
 use Rattle.claims_world.specs.Visits.{frame_in, visits_after}
 use Rattle.law_world_visits.specs.Visited.{IsVisiting}
@@ -52,21 +55,22 @@ use Rattle.law_world_visits.specs.Belonging.{placed_of, IsQueueAt, HeadsHaveFiel
 use Rattle.law_world_visits.specs.DescriptorFields.{ItdsStand}
 use Rattle.law_world_visits.specs.OneDescriptor.{IsActiveDescriptor, IsMixedOnce}
 use Rattle.law_world_visits.specs.Began.{began_at, IsAhead, GoesOnToOld}
-use Rattle.law_world_time.specs.Charges.{IsHeldFor}
 use Rattle.law_world_time.specs.ChargeLoads.{IsPaidIn}
 use Rattle.law_world_time.specs.DataQueues.{ReadsData}
-use Rattle.claims_world.specs.WithinLoad.{payments_after, microframe_in, PaysWithinLoad}
+use Rattle.law_world_time.specs.SplitCharges.{IsPaidFor}
+use Rattle.bus_world.specs.Budgets.{moment}
+use Rattle.claims_world.specs.WithinLoad.{payments_after, payments, microframe_in, IsWithinLoad, PaysWithinLoad}
 use Rattle.law_world_time.specs.Payments.{names_in}
-use Rattle.claims_world.specs.Scripts.{HighPeriodicsOnly}
+use Rattle.claims_world.specs.Scripts.{HighIsochronousOnly}
 
 -- ---- a moment
 
-pub record IsHighAndSome (x : EpDesc) : Type 0 where
-  pub speed : x.speed ≡ High
+pub record IsWholeAndSome (x : EpDesc) : Type 0 where
+  pub speed : is_iso x.kind ≡ true → x.speed ≡ High
   pub some : 1 ≤ x.multi
 
-pub record HasHighPeriodics (d : DriverContent) : Type 0 where
-  pub endpoints : (e : ℕ) (x : Endpoint) → slice_get d.endpoints e ≡ Some x → is_periodic x.desc.kind ≡ true → IsHighAndSome x.desc
+pub record HasHighIsochronous (d : DriverContent) : Type 0 where
+  pub endpoints : (e : ℕ) (x : Endpoint) → slice_get d.endpoints e ≡ Some x → is_periodic x.desc.kind ≡ true → IsWholeAndSome x.desc
   pub whole : (t : ℕ) (y : Transfer) → slice_get d.transfers t ≡ Some y → is_descriptor y.sort ≡ true → y.released ≡ false → (note_at d.periodic.notes y.first).split ≡ false
   pub outside : (t : ℕ) (y : Transfer) (x : Endpoint) (p : Placement) → slice_get d.transfers t ≡ Some y → is_descriptor y.sort ≡ true → y.released ≡ false → y.reported ≡ false
       → slice_get d.endpoints y.endpoint ≡ Some x → x.placement ≡ Some p → x.chained ≡ false → is_active p (note_at d.periodic.notes y.first).frame ≡ true
@@ -100,7 +104,8 @@ pub record IsHandPaid (b : World) (d : DriverContent) (now index : ℕ) (hand : 
   pub are : ps ≡ (address, paid) ∷ rest
   pub of : Placed
   pub owned : IsOwnedBy b d now (frame_in index) address of
-  pub held : IsHeldFor of index hand paid
+  pub held : IsPaidFor of index hand paid
+  pub at : hand_address hand ≡ address
   pub active : is_active of.placement (microframe_in index / 8) ≡ true
 
 pub record IsPassing (hand : Hand) (ps : List (ℕ × ℕ)) : Type 0 where
@@ -134,7 +139,8 @@ pub record GoesOnPaying (b w : World) (ps : List (ℕ × ℕ)) : Type 0 where
   pub visiting : IsVisiting b w (names_in ps)
   pub heads : HeadsHaveFields w.driver w.memory
   pub itds : ItdsStand w.driver w.memory
-  pub high : HasHighPeriodics w.driver
+  pub high : HasHighIsochronous w.driver
+  pub allowed : AreAllowed w.driver
   pub reads : ReadsData w
   pub within : IsWithin b w
   pub paid : ArePaid b w.driver w.registers.frame_index w.control ps
@@ -144,7 +150,7 @@ ControllerKeepsPaying =
     (fixed : Fixed) (b w : World) (ps : List (ℕ × ℕ)) → GoesOnPaying b w ps
     → AreInTheirFrames (controller_next fixed w) (visits_after (controller_row w) (controller_parts w) (names_in ps))
     → ArePaid (began_at (controller_row w) w b) (controller_next fixed w).driver (controller_next fixed w).registers.frame_index (controller_next fixed w).control
-    (payments_after (controller_row w) (controller_parts w) (controller_next fixed w).control.frame.left ps)
+    (payments_after (controller_row w) (kind_next w) (controller_parts w) ps)
 
 abbrev pub DriverKeepsPaying : Type 0
 DriverKeepsPaying = (b w : World) (ps : List (ℕ × ℕ)) → GoesOnPaying b w ps → ArePaid b (driver_next w).driver (driver_next w).registers.frame_index (driver_next w).control ps
@@ -156,7 +162,8 @@ CommandKeepsPaying = (b w : World) (line : ℕ) (cmd : Cmd) (ps : List (ℕ × �
 -- ---- a run
 
 abbrev pub ScriptsPayWithinLoad : Type 0
-ScriptsPayWithinLoad = (s : Script) → IsFit s → IsByteScript s → FitsMixed s → HighPeriodicsOnly s → PaysWithinLoad s
+ScriptsPayWithinLoad = (s : Script) → IsFit s → IsByteScript s → FitsMixed s → HighIsochronousOnly s → (k : ℕ)
+    → IsWithinLoad (moment s k).world (payments s k)
 
 abbrev pub TextsPayWithinLoad : Type 0
-TextsPayWithinLoad = (text : List ℕ) (s : Script) → Spells text s → HighPeriodicsOnly s → PaysWithinLoad s
+TextsPayWithinLoad = (text : List ℕ) (s : Script) → Spells text s → PaysWithinLoad s

@@ -22,8 +22,8 @@ pub fn each_moment_has_queues_of_data()
     ensures { ScriptsSendData }
 {}
 
-/// While the overlay of a queue head that the walk of the frames may meet is active, its PID code is that of an IN or of an OUT; so is that of the copy in hand, and that of a qTD that
-/// the walk takes (3.6.3, 4.10.2).
+/// While the overlay of a queue head that the walk of the frames may meet is active, its PID code is that of its endpoint's way, an IN's or
+/// an OUT's; so is that of the copy in hand, and that of a qTD that the walk takes (3.6.3, 4.10.2).
 pub fn the_walk_of_the_frames_reads_data()
     ensures heads { HeadsSendData }
     ensures copies { CopiesSendData }

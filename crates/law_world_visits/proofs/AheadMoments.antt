@@ -10,7 +10,7 @@ use Rattle.law_world_visits.specs.Visited.{VisitsGoOn}
 use Rattle.claims_world.specs.Visits.{visited}
 use Rattle.law_world_visits.specs.Began.{began_at, began_by, began, BeganIsMixed, ScriptsGoOnToOld}
 use Rattle.law_world_visits.proofs.OneDescriptorMoments.{each_moment_has_one_active}
-use Rattle.law_world_visits.proofs.Carrying.{carrying}
+use Rattle.law_world_memory.proofs.Carrying.{carrying}
 use Rattle.law_world_visits.proofs.VisitsKept.{scripts_visit_all}
 use Rattle.bus_world.specs.Budgets.{moment}
 

@@ -48,7 +48,7 @@ module _ (m mem : Mem) (d new : DriverContent) (p : Periodic) (w : Work) (st : S
       ⊎_elim {C = (next_of m st.at ≡ Some (begins w.member)) ⊎ (next_of m st.at ≡ behind)} (λ (past : next_of m st.at ≡ behind). inr past) (λ (it : next_of m st.at ≡ Some (begins w.member)). inl it)
       (before_true m mem d new p w st k removes)
 
-  word_before : IsBefore p.members.schedule w.member (its_word m mem d new p w st k).word
+  pub word_before : IsBefore p.members.schedule w.member (its_word m mem d new p w st k).word
   word_before =
       nth_all (IsBefore p.members.schedule w.member) (words_of p.members.schedule w) w.made (its_word m mem d new p w st k).word (all_before p.members.schedule w.member (frames 10) frames_low)
       (its_word m mem d new p w st k).here

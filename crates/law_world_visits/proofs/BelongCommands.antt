@@ -45,6 +45,7 @@ use Rattle.law_world_memory.proofs.lemmas.framed_memory.Masking.{commands_masked
 use Rattle.law_world_memory.proofs.lemmas.framed_memory.Chains.{chain_is_ready}
 use Rattle.law_world_memory.proofs.lemmas.framed_memory.ChainedRuns.{chained_head_range}
 use Rattle.law_budgets.specs.visit_prices.Spent.{IsAmong, placed_as}
+use Rattle.claims_world.specs.FrameHeads.{characteristics_in, capabilities_in}
 use Rattle.bus_world.specs.World.{World, name_in, refused_line, commanded_by}
 use Rattle.law_world_memory.specs.Mixed.{IsMixedWorld}
 use Rattle.law_world_memory.specs.Laws.{IsMixed, OpensMixed}
@@ -61,6 +62,17 @@ read_back : (q : Qh) (first second : ℕ) → IsQhInRange q → slice_index (qh_
 read_back q first second range one two =
     subst (λ (i : ℕ). HasReadFields first i q) two (subst (λ (i : ℕ). HasReadFields i (slice_index (qh_words q) 2) q) one (fields_read (qh_words q) q (qh_read-words q range)))
 
+-- whatever it leads to
+same_first : (x : EpDesc) (p : Placement) (link dummy : ℕ)
+    → slice_index (qh_words (interrupt_head x p.smask p.cmask link dummy)) 1 ≡ characteristics_in x
+unfolding qh_words
+same_first x p link dummy = refl
+
+same_second : (x : EpDesc) (p : Placement) (link dummy : ℕ)
+    → slice_index (qh_words (interrupt_head x p.smask p.cmask link dummy)) 2 ≡ capabilities_in x p
+unfolding qh_words
+same_second x p link dummy = refl
+
 one_or_more : (n : ℕ) → 1 ≤ n → max 1 n ≡ n
 one_or_more n some = omega (arith, some)
 
@@ -68,10 +80,21 @@ new_fields : (m : Mem) (b : ℕ) (x : EpDesc) (p : Placement) (link dummy : ℕ)
     → words_at m (32 * b) 12 ≡ qh_words (interrupt_head x p.smask p.cmask link dummy) → FieldsAt m b x p
 new_fields m b x p link dummy range some words =
     let q = interrupt_head x p.smask p.cmask link dummy in
+    let one : slice_index (qh_words (interrupt_head x p.smask p.cmask link dummy)) 1 ≡ word_at m (32 * b + 4) =
+    ap (λ (ws : List ℕ). slice_index ws 1) (sym words) ∙ word_one m.words (32 * b) in
+    let two : slice_index (qh_words (interrupt_head x p.smask p.cmask link dummy)) 2 ≡ word_at m (32 * b + 8) =
+    ap (λ (ws : List ℕ). slice_index ws 2) (sym words) ∙ word_two m.words (32 * b) in
     let r : HasReadFields (word_at m (32 * b + 4)) (word_at m (32 * b + 8)) q =
-    read_back q (word_at m (32 * b + 4)) (word_at m (32 * b + 8)) range
-    (ap (λ (ws : List ℕ). slice_index ws 1) (sym words) ∙ word_one m.words (32 * b)) (ap (λ (ws : List ℕ). slice_index ws 2) (sym words) ∙ word_two m.words (32 * b)) in
-    record { speed = sym r.eps; longest = sym r.longest; multi = ap (max 1) (sym r.mult) ∙ one_or_more x.multi some; smask = sym r.smask }
+    read_back q (word_at m (32 * b + 4)) (word_at m (32 * b + 8)) range one two in
+    record {
+      speed = sym r.eps;
+      longest = sym r.longest;
+      multi = ap (max 1) (sym r.mult) ∙ one_or_more x.multi some;
+      smask = sym r.smask;
+      cmask = sym r.cmask;
+      characteristics = sym one ∙ same_first x p link dummy;
+      capabilities = sym two ∙ same_second x p link dummy;
+    }
 
 multi_few : (speed : Speed) (n : ℕ) → n ≤ most_multi speed → n ≤ 3
 multi_few speeds.High n most = most

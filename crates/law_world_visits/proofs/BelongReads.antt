@@ -22,10 +22,11 @@ pub record HasReadFields (first second : ℕ) (q : Qh) : Type 0 where
   pub longest : q.max ≡ bits 26 16 first
   pub mult : q.mult ≡ bits 31 30 second
   pub smask : q.smask ≡ bits 7 0 second
+  pub cmask : q.cmask ≡ bits 15 8 second
 
 fields_at : (ws : List ℕ) → HasReadFields (slice_index ws 1) (slice_index ws 2) (qh_at ws)
 unfolding qh_at
-fields_at ws = record { eps = refl; longest = refl; mult = refl; smask = refl }
+fields_at ws = record { eps = refl; longest = refl; mult = refl; smask = refl; cmask = refl }
 
 pub fields_read : (ws : List ℕ) (q : Qh) → qh_read ws ≡ Ok q → HasReadFields (slice_index ws 1) (slice_index ws 2) q
 fields_read ws q is = subst (HasReadFields (slice_index ws 1) (slice_index ws 2)) (sym (qh_read-is ws q is)) (fields_at ws)

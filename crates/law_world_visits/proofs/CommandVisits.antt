@@ -38,9 +38,10 @@ use Rattle.law_world_visits.proofs.ActiveBefore.{command_before}
 use Rattle.law_world_visits.proofs.NewFirst.{linking_first, next_first}
 use Rattle.law_world_visits.proofs.DriverGoesOn.{IsListSpread, LeavesMembers, goes_on}
 use Rattle.law_world_visits.proofs.DriverVisits.{half_led}
+use Rattle.law_world_visits.proofs.FramedThere.{command_framed}
 use Rattle.law_world_visits.proofs.InFrames.{same_back}
 use Rattle.law_world_visits.proofs.InFramesCommands.{command_back}
-use Rattle.law_world_visits.proofs.OwnSteps.{same_list, linking_half, next_led, next_half, ended_list}
+use Rattle.law_world_visits.proofs.OwnSteps.{same_list, linking_half, linking_kept, next_led, next_half, next_kept, ended_list}
 use Rattle.law_world_visits.proofs.ToldLinks.{HasOwn, own_met, told_same}
 
 module _ (s : Standing) (w : World) (k : IsMixedAt s w) (start : World) (vs : List ℕ) (v : VisitsGoOnAt s start w vs) (line : ℕ) (cmd : Cmd) where
@@ -87,6 +88,8 @@ module _ (s : Standing) (w : World) (k : IsMixedAt s w) (start : World) (vs : Li
         (record {
           led_same = linking_led w.driver.periodic.list (queue_member (slice_index (new_runs w.driver why.holding_after) 0) why.placement) k.now.framed.list.list.order.kept;
           half = λ x under adds made. linking_half w.driver.periodic.list (queue_member (slice_index (new_runs w.driver why.holding_after) 0) why.placement) x under adds made;
+          under = λ x under. linking_kept w.driver.periodic.list
+              (queue_member (slice_index (new_runs w.driver why.holding_after) 0) why.placement) x under;
           first = λ old. linking_first w.driver.periodic.list (queue_member (slice_index (new_runs w.driver why.holding_after) 0) why.placement) old;
         })
     leaves_by (places why) = same_list w.driver o.driver (ap (λ (f : Offered). f.driver.periodic.list) why.is)
@@ -101,6 +104,10 @@ module _ (s : Standing) (w : World) (k : IsMixedAt s w) (start : World) (vs : Li
           led_same = ap led_in (ended_list f (unfinished.Unchain why.number)) ∙ next_led true (record w.driver.periodic { queued = ms }) k.now.framed.list.list.order.kept;
           half = λ x under adds made.
               next_half true (record w.driver.periodic { queued = ms }) x (sym (ap (λ (p : Periodic). p.work) (ended_list f (unfinished.Unchain why.number))) ∙ under) adds made;
+          under = λ x under.
+              ap (λ (p : Periodic). p.work)
+              (ended_list f (unfinished.Unchain why.number) ∙ next_kept true (record w.driver.periodic { queued = ms }) x under)
+              ∙ under;
           first = λ old. subst NewIsFirst (sym (ended_list f (unfinished.Unchain why.number))) (next_first true (record w.driver.periodic { queued = ms }) old);
         })
 
@@ -160,6 +167,9 @@ module _ (s : Standing) (w : World) (k : IsMixedAt s w) (start : World) (vs : Li
           control = refl;
           kept_stay = λ n on. let there = v.left_within n on in back n there.0 there.1;
           met_stay = back;
+          kept_framed = λ n x on framed.
+              (let there = v.left_within n on in command_framed s w k o v.visits.left n there.0 x v.visits.left_are there.1 framed reason);
+          met_framed = λ n kind x on framed. command_framed s w k o v.visits.left n kind x v.visits.left_are on framed reason;
           starts_none = λ e f n on. let there = v.within n on in command_before s w k cmd o is reason e f n there.0 there.1;
         })
 
@@ -175,6 +185,8 @@ module _ (s : Standing) (w : World) (k : IsMixedAt s w) (start : World) (vs : Li
         control = refl;
         kept_stay = λ n on. same_back w.driver new.driver k.now.planned refl refl n;
         met_stay = λ n kind on. same_back w.driver new.driver k.now.planned refl refl n;
+        kept_framed = λ n x on framed. framed;
+        met_framed = λ n kind x on framed. framed;
         starts_none = λ e f n on a. record {
           number = a.number;
           transfer = a.transfer;

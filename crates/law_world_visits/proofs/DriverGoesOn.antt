@@ -1,13 +1,15 @@
 -- The visits go on where the driver stores nothing that a walk of the frames may meet: the same are kept, and what was visited is what it was.
-use Rattle.std.proofs.Common.{◌≡◌, ℕ, ◌≤◌, ◌<◌, true, false, Bool, List, [], ◌∷◌, Option, Some, None, ap, refl, sym, subst, ◌∙◌}
+use Rattle.std.proofs.Common.{◌≡◌, ℕ, ◌≤◌, ◌<◌, ◌⊎◌, true, false, Bool, inl, inr, List, [], ◌∷◌, Option, Some, None, if◌then◌else◌, ⊎_elim, ap, refl, sym, subst, ◌∙◌}
+use Rattle.std.specs.Prelude.{◌||◌, nat_lt}
 use Rattle.std.specs.List.{AllByRecursion}
 use Rattle.word_mem.specs.Memory.{Mem}
 use Rattle.bandwidth.specs.declared.placements.Placed.{Placed}
 use Rattle.bandwidth.specs.Sums.{is_active}
 use Rattle.drv_chains.specs.declared.members.Member.{Member}
 use Rattle.drv_chains.specs.Chains.{Schedule}
+use Rattle.drv_chains.specs.Stores.{is_made}
 use Rattle.drv_chains.proofs.Linking.{weaken}
-use Rattle.drv_members.specs.Members.{is_linked}
+use Rattle.drv_members.specs.Members.{is_linked, without_member}
 use Rattle.drv_periodic.specs.declared.work.Work.{Work}
 use Rattle.drv_table.specs.DriverContent.{DriverContent}
 use Rattle.hc_core.specs.declared.controller.MicroframePart.TheVariants.{Periodic}
@@ -15,7 +17,8 @@ use Rattle.hc_core.specs.Controller.{Control}
 use Rattle.law_frame_words.specs.frame_words.InWords.{IsSpread}
 use Rattle.law_frames.specs.Met.{Kind}
 use Rattle.law_descriptors.specs.Meeting.{kind_of, standing, or_recent, met}
-use Rattle.claims_driver.specs.Unlinked.{led}
+use Rattle.claims_driver.specs.FrameWords.{made_of}
+use Rattle.claims_driver.specs.Unlinked.{led, led_by}
 use Rattle.law_descriptors.specs.Recent.{AreRecent}
 use Rattle.law_descriptors.proofs.Finding.{member_kind, IsMemberAt, member_at}
 use Rattle.law_descriptors.proofs.Leading.{led_spread}
@@ -23,8 +26,9 @@ use Rattle.bus_world.specs.World.{World}
 use Rattle.law_world_visits.specs.Belonging.{IsQueueAt, IsStillAt}
 use Rattle.law_world_visits.specs.OneDescriptor.{IsActiveDescriptor}
 use Rattle.law_world_visits.specs.Ranks.{name_of, next_of, height_to, IsRanked}
-use Rattle.claims_world.specs.Visits.{begins, frame_in}
-use Rattle.law_world_visits.specs.Visited.{WasVisited, IsBehind, IsActiveAs, NewIsFirst, VisitsGoOn, link_ahead}
+use Rattle.claims_world.specs.Visits.{begins, frame_in, HasVisited}
+use Rattle.law_world_visits.specs.Visited.{WasVisited, IsBehind, IsActiveAs, IsFramedAs, NewIsFirst, StandsIn, IsToCome, LeavesNoneOut, VisitsGoOn, link_ahead}
+use Rattle.law_world_visits.proofs.NoneLeft.{way_stays}
 
 -- the members of the list are spread
 abbrev pub IsListSpread : DriverContent → Type 0
@@ -93,12 +97,21 @@ were_active_still d new left who frame [] back were all = tt
 were_active_still d new left who frame (v ∷ vs) back were all =
     (active_still d new v (who v) (back v were.0) all.0, were_active_still d new left who frame vs back were.1 all.1)
 
+-- the same may be led to, and nothing new is half linked
+pub were_framed_still : (d new : DriverContent) (left : ℕ → Option Kind) (who : ℕ → Member) (frame : ℕ) (vs : List ℕ)
+    → ((n : ℕ) (kind : Kind) → met d left n ≡ Some kind → IsFramedAs d n (who n) → IsFramedAs new n (who n))
+    → AllByRecursion (WasVisited d left who frame) vs
+    → AllByRecursion (λ v. IsFramedAs d v (who v)) vs → AllByRecursion (λ v. IsFramedAs new v (who v)) vs
+were_framed_still d new left who frame [] still were all = tt
+were_framed_still d new left who frame (v ∷ vs) still were all =
+    (still v were.0.kind were.0.is_met all.0, were_framed_still d new left who frame vs still were.1 all.1)
+
 -- ---- nothing that may be met is stored
 
--- the same may be led to, and nothing new is half linked
 pub record LeavesMembers (d new : DriverContent) : Type 0 where
   pub led_same : led new ≡ led d
   pub half : (w : Work) → new.periodic.list.work ≡ Some w → w.removes ≡ false → 1 ≤ w.made → d.periodic.list.work ≡ Some w
+  pub under : (w : Work) → d.periodic.list.work ≡ Some w → new.periodic.list.work ≡ Some w
   pub first : NewIsFirst d.periodic.list → NewIsFirst new.periodic.list
 
 pub ranked_on : (m after : Mem) (d new : DriverContent) (kept : ℕ → Bool) (height : ℕ → ℕ) (who : ℕ → Member) → IsRanked m d kept height who → IsListSpread d → LeavesMembers d new
@@ -117,6 +130,28 @@ ranked_on m after d new kept height who k spread leaves same begins_kept = recor
       k.linking w (leaves.half w is adds made) adds made n on other (sym (same n on) ∙ lead ∙ same (begins w.member) (begins_kept w is adds made));
 }
 
+-- who stands in the frame stood there, and no store that unlinks it was made
+same_schedule : (s t : Schedule) (o p : Option Work) (x : Work) → o ≡ Some x → p ≡ Some x → x.removes ≡ true → led_by t p ≡ led_by s o
+    → t ≡ s
+same_schedule s t o p x one two removes same =
+    let all : (u : Schedule)
+    → led_by u (Some x) ≡ u = λ u. ap (λ (b : Bool). if b || nat_lt 0 x.made then u else without_member u x.member) removes in
+    sym (all t) ∙ ap (led_by t) (sym two) ∙ same ∙ ap (led_by s) one ∙ all s
+
+pub stood_before : (d new : DriverContent) (f n : ℕ) → LeavesMembers d new → StandsIn new f n → StandsIn d f n
+stood_before d new f n leaves h = record {
+  member = h.member;
+  at = h.at;
+  linked = ap (λ (s : Schedule). is_linked s h.member) (sym leaves.led_same) ∙ h.linked;
+  in_frame = h.in_frame;
+  stays = λ x is removes its.
+      (let goes : new.periodic.list.work ≡ Some x = leaves.under x is in
+      subst (λ (s : Schedule). is_made s x.member (made_of s x) f ≡ false)
+      (same_schedule d.periodic.list.members.schedule new.periodic.list.members.schedule d.periodic.list.work new.periodic.list.work x is
+      goes removes leaves.led_same)
+      (h.stays x goes removes its));
+}
+
 pub record Elsewhere (w new : World) (kept : ℕ → Bool) (left : ℕ → Option Kind) : Type 0 where
   pub leaves : LeavesMembers w.driver new.driver
   pub links : (n : ℕ) → kept n ≡ true → next_of new.memory n ≡ next_of w.memory n
@@ -124,6 +159,9 @@ pub record Elsewhere (w new : World) (kept : ℕ → Bool) (left : ℕ → Optio
   pub control : new.control ≡ w.control
   pub kept_stay : (n : ℕ) → kept n ≡ true → (b : IsQueueAt new.driver n) → IsStillAt b w.driver
   pub met_stay : (n : ℕ) (kind : Kind) → met w.driver left n ≡ Some kind → (b : IsQueueAt new.driver n) → IsStillAt b w.driver
+  pub kept_framed : (n : ℕ) (x : Member) → kept n ≡ true → IsFramedAs w.driver n x → IsFramedAs new.driver n x
+  pub met_framed : (n : ℕ) (kind : Kind) (x : Member) → met w.driver left n ≡ Some kind → IsFramedAs w.driver n x
+      → IsFramedAs new.driver n x
   pub starts_none : (e f n : ℕ) → kept n ≡ true → IsActiveDescriptor new.driver new.memory e f n → IsActiveDescriptor w.driver w.memory e f n
 
 pub goes_on : (start w new : World) (vs : List ℕ) → (v : VisitsGoOn start w vs) → IsListSpread w.driver → IsListSpread new.driver
@@ -162,4 +200,20 @@ goes_on start w new vs v spread after half e =
         old = λ i f n on a. v.goes.old i f n on (e.starts_none i f n (v.goes.are_kept n on) a);
       };
       alone = λ n on i f g a stands. v.alone n on i f g (e.starts_none i f n on a) stands;
+      none = subst (λ (c : Control). LeavesNoneOut start new.memory new.driver c v.left vs) (sym e.control)
+          (record {
+            were_met = λ n led. (let there = v.none.were_met n led in let s = still n there.0 there.1 in (s.kind, s.is));
+            each = λ n led stands.
+                ⊎_elim {C = HasVisited n vs ⊎ IsToCome new.memory w.control n} (λ (was : HasVisited n vs). inl was)
+                (λ (t : IsToCome w.memory w.control n).
+                inr (record {
+                  periodic = t.periodic;
+                  leads = way_stays w.memory new.memory v.kept n
+                      (name_of (link_ahead w.control.frame.hand w.control.frame.cursor)) v.ranked.closed e.links
+                      (λ a is. (v.behind.next a t.periodic is).is_kept) t.leads;
+                })) (v.none.each n led (stood_before d new.driver (frame_in w.control.frame.index) n e.leaves stands));
+          });
+      framed = λ n on. e.kept_framed n (v.who n) on (v.framed n on);
+      were_framed = were_framed_still d new.driver v.left v.who (frame_in w.control.frame.index) vs
+          (λ n kind is. e.met_framed n kind (v.who n) is) v.behind.were v.were_framed;
     }

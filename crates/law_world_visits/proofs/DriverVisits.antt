@@ -35,7 +35,8 @@ use Rattle.law_driver.proofs.lemmas.ring_members.Freed.{lent_words}
 use Rattle.law_driver.proofs.lemmas.run_owners.Reasons.{each_is_due}
 use Rattle.claims_driver.specs.FrameWords.{HasMember}
 use Rattle.law_frames.specs.Met.{Kind}
-use Rattle.claims_driver.specs.Unlinked.{is_led, led_by, led, IsOpenAt, IsRemovedSince, IsUnchainedNow}
+use Rattle.claims_driver.specs.Unlinked.{is_led, led_by, led, IsOpenAt}
+use Rattle.law_descriptors.specs.Removed.{IsRemovedSince, IsUnchainedNow}
 use Rattle.law_descriptors.specs.Meeting.{met}
 use Rattle.law_descriptors.specs.Recent.{AreRecent}
 use Rattle.law_descriptors.specs.RowLaws.{HasFrames}
@@ -45,9 +46,10 @@ use Rattle.law_world_memory.proofs.lemmas.framed_memory.Now.{has_frames}
 use Rattle.law_world_memory.specs.Mixed.{Standing, IsMixedAt, IsMixedWorld}
 use Rattle.law_world_visits.specs.OneDescriptor.{IsActiveDescriptor}
 use Rattle.law_world_visits.specs.Ranks.{name_of, next_of}
-use Rattle.law_world_visits.specs.Visited.{VisitsGoOn, VisitsGoOnAt}
+use Rattle.law_world_visits.specs.Visited.{IsFramedAs, VisitsGoOn, VisitsGoOnAt}
 use Rattle.law_world_visits.proofs.ActiveBefore.{driver_before}
 use Rattle.law_world_visits.proofs.DriverGoesOn.{IsListSpread, LeavesMembers, goes_on}
+use Rattle.law_world_visits.proofs.FramedThere.{driver_framed}
 use Rattle.law_world_visits.proofs.InFrames.{row_back}
 use Rattle.law_world_visits.proofs.LeftOwned.{has_name, own_store}
 use Rattle.law_world_visits.proofs.ToldLinks.{HasOwn, own_met}
@@ -203,6 +205,12 @@ module _ (s : Standing) (w : World) (k : IsMixedAt s w) (start : World) (vs : Li
         control = refl;
         kept_stay = λ n on. row_back row (driver_parts w) k.now.planned n;
         met_stay = λ n kind on. row_back row (driver_parts w) k.now.planned n;
+        kept_framed = λ n x on.
+            subst (λ (r : DriverRow). IsFramedAs w.driver n x → IsFramedAs (next_by r).driver n x) is
+            (let there = v.left_within n on in driver_framed s w k v.visits.left n there.0 x v.visits.left_are there.1);
+        met_framed = λ n kind x on.
+            subst (λ (r : DriverRow). IsFramedAs w.driver n x → IsFramedAs (next_by r).driver n x) is
+            (driver_framed s w k v.visits.left n kind x v.visits.left_are on);
         starts_none = λ e f n on.
             subst (λ (r : DriverRow). IsActiveDescriptor (next_by r).driver (next_by r).memory e f n → IsActiveDescriptor w.driver w.memory e f n) is
             (let there = v.within n on in driver_before s w k e f n there.0 there.1);

@@ -1,3 +1,8 @@
+pub mod NoneLeft
+pub mod NoneLeftStores
+pub mod NoneLeftChains
+pub mod NoneLeftWorlds
+pub mod NoneLeftWalking
 pub mod SpliceWords
 pub mod DriverGoesOn
 pub mod LinkSteps
@@ -13,6 +18,7 @@ pub mod ReturnVisits
 pub mod HarvestVisits
 pub mod DriverTogether
 pub mod CommandVisits
+pub mod FramedThere
 pub mod VisitSteps
 pub mod VisitLinks
 pub mod VisitMeeting
@@ -21,7 +27,6 @@ pub mod VisitStays
 pub mod VisitWalking
 pub mod VisitOpening
 pub mod VisitControlling
-pub mod Carrying
 pub mod VisitMoments
 pub mod VisitTexts
 pub mod VisitSampled
@@ -31,6 +36,7 @@ pub mod ReasonRings
 pub mod ReasonFrames
 pub mod ReasonHeld
 pub mod ReasonPlace
+pub mod ReasonIso
 pub mod ReasonPasses
 pub mod ReasonTexts
 pub mod ReasonSampled

@@ -54,6 +54,9 @@ pub record ListStep (m mem : Mem) (d new : DriverContent) (p : Periodic) (w : Wo
   pub frames : HasFrames m d
   pub frames_then : HasFrames mem new
   pub work : w.removes ≡ false → d.periodic.list.work ≡ Some w
+  pub same : (x : Work) → d.periodic.list.work ≡ Some x → x ≡ w
+  -- what goes on goes on with the same list
+  pub goes : (x : Work) → (after_store p).work ≡ Some x → new.periodic.list ≡ after_store p
   pub half : (x : Work) → new.periodic.list.work ≡ Some x → x.removes ≡ false → 1 ≤ x.made → (x.member ≡ w.member) × (w.removes ≡ false)
 
 -- ---- its word
@@ -102,7 +105,7 @@ leads_met met (links.Fstn a) j leads is = absurd leads
 
 -- ---- members
 
-same_itself : (x : Member) → is_same x x ≡ true
+pub same_itself : (x : Member) → is_same x x ≡ true
 same_itself (Once d) = and_from (nat_eq d.id d.id) (nat_eq d.frame d.frame) (eq-eqb d.id d.id refl) (eq-eqb d.frame d.frame refl)
 same_itself (Each q) = and_from (nat_eq q.id q.id) (nat_eq q.period q.period && nat_eq q.phase q.phase) (eq-eqb q.id q.id refl)
     (and_from (nat_eq q.period q.period) (nat_eq q.phase q.phase) (eq-eqb q.period q.period refl) (eq-eqb q.phase q.phase refl))
@@ -143,7 +146,7 @@ module _ (m mem : Mem) (d new : DriverContent) (p : Periodic) (w : Work) (st : S
   pub its : IsMember w.member × (is_linked p.members.schedule w.member ≡ true)
   its = subst (HasMember p.members.schedule) k.under k.order.member
 
-  schedule : p.members.schedule ≡ d.periodic.list.members.schedule
+  pub schedule : p.members.schedule ≡ d.periodic.list.members.schedule
   schedule = ap (λ (ms : Members). ms.schedule) k.members
 
   pub spread : IsSpread p.list p.members.schedule
@@ -174,7 +177,8 @@ module _ (m mem : Mem) (d new : DriverContent) (p : Periodic) (w : Work) (st : S
   goes =
       goes_by g.word refl (nth_all (IsWordOf p.members.schedule) (words_of p.members.schedule w) w.made g.word (words_in p.members.schedule w.member k.order.kept) g.here) sp.other
 
-  one_name : (x y : Member) → is_linked p.members.schedule x ≡ true → is_linked p.members.schedule y ≡ true → begins x ≡ begins y → x ≡ y
+  pub one_name : (x y : Member) → is_linked p.members.schedule x ≡ true → is_linked p.members.schedule y ≡ true → begins x ≡ begins y
+      → x ≡ y
   one_name x y one two same = spread.once x y one two (same_blocks (id_of x / 32) (id_of y / 32) same)
 
   -- its own word is none that is stored
@@ -249,11 +253,11 @@ module _ (m mem : Mem) (d new : DriverContent) (p : Periodic) (w : Work) (st : S
   not_the x false on other is = refl
   not_the x true on other is = absurd (other (spread.once x w.member on its.1 (ap (λ (n : ℕ). n / 32) (eqb-true (id_of x) (id_of w.member) is))))
 
-  other_led : (x : Member) → is_linked p.members.schedule x ≡ true → (x ≡ w.member → ⊥) → is_linked (led d) x ≡ true
+  pub other_led : (x : Member) → is_linked p.members.schedule x ≡ true → (x ≡ w.member → ⊥) → is_linked (led d) x ≡ true
   other_led x on other =
       ap (λ (t : Schedule). is_linked t x) way_led ∙ others_led p.members.schedule w x (is_led w) (not_the x (is_the w.member x) on other refl) on
 
-  then_linked : (x : Member) → is_linked (led new) x ≡ true → is_linked p.members.schedule x ≡ true
+  pub then_linked : (x : Member) → is_linked (led new) x ≡ true → is_linked p.members.schedule x ≡ true
   then_linked x on = after_fewer p x p.work (ap (λ (t : Schedule). is_linked t x) (sym k.after) ∙ on)
 
   d_spread : IsListSpread d

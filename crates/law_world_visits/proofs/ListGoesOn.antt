@@ -1,5 +1,5 @@
 -- The visits go on with a store of the frame list: where a member comes by it, and where it goes on or leaves.
-use Rattle.std.proofs.Common.{◌≡◌, ◌≢◌, ℕ, ◌+◌, ◌*◌, ◌<◌, Bool, true, false, List, [], ◌∷◌, Option, Some, None, ⊎_elim, ap, refl, sym, subst, ◌∙◌, arith}
+use Rattle.std.proofs.Common.{◌≡◌, ◌≢◌, ℕ, ◌+◌, ◌*◌, ◌<◌, ◌⊎◌, inl, inr, Bool, true, false, List, [], ◌∷◌, Option, Some, None, ⊎_elim, ap, refl, sym, subst, ◌∙◌, arith}
 use Rattle.std.specs.List.{AllByRecursion}
 use Rattle.std.specs.Prelude.{◌||◌, if◌then◌else◌}
 use Rattle.std.proofs.lemmas.Bool.{false≢true, ne_eqb, eq-eqb, cases_eq}
@@ -37,17 +37,20 @@ use Rattle.bus_world.specs.World.{World, controller_parts, driver_parts, driver_
 use Rattle.law_world_memory.specs.Mixed.{Standing, IsMixedAt}
 use Rattle.law_world_memory.proofs.lemmas.framed_memory.Now.{begins_there}
 use Rattle.law_world_visits.specs.Ranks.{name_of, next_of}
-use Rattle.claims_world.specs.Visits.{begins, frame_in}
+use Rattle.claims_world.specs.Visits.{IsInChain, begins, frame_in, HasVisited}
 use Rattle.law_world_visits.specs.Belonging.{IsQueueAt, IsStillAt}
-use Rattle.law_world_visits.specs.Visited.{IsNext, WasVisited, IsActiveAs, IsFirstIn, NewIsFirst, GoesAhead, VisitsGoOn, VisitsGoOnAt}
-use Rattle.law_world_visits.proofs.DriverGoesOn.{IsListSpread, IsMetStill, linked_stands, member_stands, met_still, standing_is_met, left_is_met, visited_still, active_still, were_active_still}
+use Rattle.law_world_visits.specs.Visited.{link_ahead, IsNext, WasVisited, IsActiveAs, IsFramedAs, IsFirstIn, NewIsFirst, GoesAhead, IsToCome, LeavesNoneOut, VisitsGoOn, VisitsGoOnAt}
+use Rattle.law_world_visits.proofs.DriverGoesOn.{IsListSpread, IsMetStill, linked_stands, member_stands, met_still, standing_is_met, left_is_met, visited_still, active_still, were_active_still, were_framed_still}
 use Rattle.law_world_visits.proofs.InFrames.{linked_active, row_back}
 use Rattle.law_world_visits.proofs.LinkSteps.{ListStep, IsMetThere, its as its_way, all_led, name_kept, then_name, name_is_kept, name_away, same_ranked, first_ranked, still_kept, old_height, old_who, kept_then, height_then, who_then}
 use Rattle.law_world_visits.specs.OneDescriptor.{IsActiveDescriptor, IsAloneAs}
 use Rattle.law_world_visits.proofs.ActiveBefore.{driver_before, part_before, driver_no_queue}
-use Rattle.law_world_visits.proofs.ActiveStands.{scheduled_is_alone}
+use Rattle.law_world_visits.proofs.ActiveStands.{scheduled_is_alone, part_is_lent}
+use Rattle.law_world_visits.proofs.FramedThere.{driver_framed, lent_stays_framed, linked_framed}
+use Rattle.law_world_visits.proofs.OneDescriptor.{lent_framed}
 use Rattle.law_world_visits.proofs.AheadStores.{IsQueue, is_queue, ahead_then, still_ahead, either_ahead, closed_then}
 use Rattle.law_world_visits.proofs.ToldLinks.{HasOwn, own_met, own_part, table_apart, other_links, link_here}
+use Rattle.law_world_visits.proofs.NoneLeftStores.{stood, spared, way_spliced}
 
 -- a queue head is there
 record IsHeadAt (parts : StructureSets) (n : ℕ) : Type 0 where
@@ -188,6 +191,38 @@ module _ (s : Standing) (w : World) (k : IsMixedAt s w) (start : World) (vs : Li
   alone_still : (n : ℕ) → v.visits.kept n ≡ true → IsAloneAs (driver_next w).driver (driver_next w).memory n (v.visits.who n)
   alone_still n on e f g a stands = let there = v.within n on in v.visits.alone n on e f g (driver_before s w k e f n there.0 there.1 a) stands
 
+  framed_on : (n : ℕ) → v.visits.kept n ≡ true → IsFramedAs (driver_next w).driver n (v.visits.who n)
+  framed_on n on = let there = v.left_within n on in driver_framed s w k v.visits.left n there.0 (v.visits.who n) v.visits.left_are there.1
+      (v.visits.framed n on)
+
+  -- ---- none is left out
+
+  frame_low : frame_in w.control.frame.index < 1024
+  frame_low = omega arith
+
+  none_stored : next_of (driver_next w).memory (begins way.member) ≡ next_of w.memory (begins way.member)
+      → ((n : ℕ) → IsInChain start (frame_in w.control.frame.index) n → (n ≢ begins way.member) ⊎ (is_led way ≡ true))
+      → LeavesNoneOut start (driver_next w).memory (driver_next w).driver w.control later vs
+  none_stored own_link known = record {
+    were_met = λ n led.
+        (let there = v.visits.none.were_met n led in
+        let still : IsMetStill (driver_next w).driver later n = met_on n there.0 there.1 in
+        (still.kind, still.is));
+    each = λ n led stands.
+        ⊎_elim {C = HasVisited n vs ⊎ IsToCome (driver_next w).memory w.control n} (λ (seen : HasVisited n vs). inl seen)
+        (λ (t : IsToCome w.memory w.control n).
+        inr (record {
+          periodic = t.periodic;
+          leads = way_spliced w.memory (driver_next w).memory w.driver
+              (driver_next w).driver p way st step v.visits.kept v.visits.height v.visits.who v.visits.ranked links here beside own_link
+              frame n
+              frame_low (spared w.memory (driver_next w).memory w.driver (driver_next w).driver p way st step frame n stands)
+              (name_of (link_ahead w.control.frame.hand w.control.frame.cursor))
+              (λ a is. (let next = v.visits.behind.next a t.periodic is in (next.is_kept, next.stands))) t.leads;
+        })) (v.visits.none.each n led
+        (stood w.memory (driver_next w).memory w.driver (driver_next w).driver p way st step frame n (known n led) stands));
+  }
+
   -- ---- a member goes on to be linked, or leaves
 
   head_on : is_led way ≡ true → (q : QueueHead) → way.member ≡ Each q → IsHeadAt (both s.descs s.parts) (begins way.member)
@@ -220,6 +255,14 @@ module _ (s : Standing) (w : World) (k : IsMixedAt s w) (start : World) (vs : Li
         (λ n there. there)
         (λ adds. name_kept w.memory (driver_next w).memory w.driver (driver_next w).driver p way st step v.visits.kept v.visits.height v.visits.who v.visits.ranked links here beside on);
     alone = alone_still;
+    none = none_stored
+        (then_name w.memory (driver_next w).memory w.driver
+        (driver_next w).driver p way st step v.visits.kept v.visits.height v.visits.who v.visits.ranked links here beside on)
+        (λ n led. inr on);
+    framed = λ n on. framed_on n on;
+    were_framed = were_framed_still w.driver (driver_next w).driver v.visits.left v.visits.who frame vs
+        (λ n kind is. driver_framed s w k v.visits.left n kind (v.visits.who n) v.visits.left_are is) v.visits.behind.were
+        v.visits.were_framed;
   }
 
   -- ---- a member comes
@@ -332,6 +375,32 @@ module _ (s : Standing) (w : World) (k : IsMixedAt s w) (start : World) (vs : Li
     were_active_on [] were all = tt
     were_active_on (x ∷ xs) were all = (other_active x (other_visited x were.0) all.0, were_active_on xs were.1 all.1)
 
+    name_framed : IsFramedAs (driver_next w).driver (begins way.member) way.member
+    name_framed =
+        lent_stays_framed s w k (begins way.member) way.member
+        (λ t y there sort held at.
+        lent_framed w.driver w.memory t y k.awaiting there
+        (part_is_lent s w (begins way.member) t y k there sort held at (kind_of w.driver.periodic way.member) part))
+        (linked_framed w.driver k.now.framed.place.sound.owners k.now.framed.place.sound.listed (begins way.member) way.member its refl)
+
+    framed_then : (n : ℕ) → kept_on n ≡ true → IsFramedAs (driver_next w).driver n (who_on n)
+    framed_then n on =
+        ⊎_elim {C = IsFramedAs (driver_next w).driver n (who_on n)} (λ (same : n ≡ begins way.member).
+        subst (λ (i : ℕ). IsFramedAs (driver_next w).driver i (who_on i)) (sym same)
+        (subst (IsFramedAs (driver_next w).driver (begins way.member)) (sym new_who) name_framed))
+        (λ (differs : n ≢ begins way.member). subst (IsFramedAs (driver_next w).driver n) (sym (whos n differs))
+        (framed_on n (was_kept n differs on))) (cases_eq n (begins way.member))
+
+    were_framed_on : (us : List ℕ) → AllByRecursion (WasVisited w.driver v.visits.left v.visits.who frame) us
+        → AllByRecursion (λ x. IsFramedAs w.driver x (v.visits.who x)) us
+        → AllByRecursion (λ x. IsFramedAs (driver_next w).driver x (who_on x)) us
+    were_framed_on [] were all = tt
+    were_framed_on (x ∷ xs) were all = (
+      subst (IsFramedAs (driver_next w).driver x) (sym (whos x (other_visited x were.0)))
+          (driver_framed s w k v.visits.left x were.0.kind (v.visits.who x) v.visits.left_are were.0.is_met all.0),
+      were_framed_on xs were.1 all.1,
+    )
+
     pub member_comes : VisitsGoOn start (driver_next w) vs
     member_comes = record {
       left = later;
@@ -356,4 +425,10 @@ module _ (s : Standing) (w : World) (k : IsMixedAt s w) (start : World) (vs : Li
       goes = goes_ahead own_link (head_part w.driver.periodic (both s.descs s.parts) (begins way.member) way.member part) kept_on keeps
           (λ adds. name_is_kept w.memory (driver_next w).memory w.driver (driver_next w).driver p way st step v.visits.kept v.visits.height v.visits.who v.visits.ranked links here beside adds zero_made fresh own_link);
       alone = alone_on;
+      framed = framed_then;
+      were_framed = were_framed_on vs v.visits.behind.were v.visits.were_framed;
+      none = none_stored own_link
+          (λ n led. inl (λ same.
+          (let there = v.visits.none.were_met n led in none_some there.0
+          (sym unvisited ∙ ap (met w.driver v.visits.left) (sym same) ∙ there.1))));
     }

@@ -1,5 +1,5 @@
 -- Each command, accepted or refused, leaves of an endpoint and a frame at most one descriptor active: those that are taken on have no frame yet.
-use Rattle.std.proofs.Common.{◌≡◌, ◌≢◌, ℕ, zero, suc, ◌+◌, ◌*◌, ◌/◌, ◌<◌, ◌≤◌, ◌⊎◌, Bool, true, false, if◌then◌else◌, List, [], ◌∷◌, ◌++◌, length, drop, slice_get, get_or, Option, Some, None, Result, Ok, Err, option_map, refl, ap, sym, subst, ◌∙◌, ⊎_elim, inl, inr, arith}
+use Rattle.std.proofs.Common.{◌≡◌, ◌≢◌, ℕ, zero, suc, ◌+◌, ◌*◌, ◌/◌, ◌<◌, ◌≤◌, ◌⊎◌, Bool, true, false, if◌then◌else◌, List, [], ◌∷◌, ◌++◌, length, drop, slice_get, get_or, Option, Some, None, Result, Ok, Err, option_map, refl, ap, sym, subst, ◌∙◌, ⊎_elim, inl, inr, arith, length-append, length-drop}
 use Rattle.std.specs.Prelude.{slice_index, is_none}
 use Rattle.std.proofs.lemmas.Bool.{false≢true, true≢false, cases_lt}
 use Rattle.std.proofs.lemmas.Option.{same_Some}
@@ -11,17 +11,20 @@ use Rattle.mem_runs.specs.declared.slots.Slot.{Slot}
 use Rattle.mem_runs.specs.declared.slots.Slot.TheVariants.{Empty, Keeps, Lends}
 use Rattle.mem_runs.specs.Book.{Book, Holding, holding, slot_of, Stands, store, store_words}
 use Rattle.mem_runs.proofs.Standing.{lends_at, lends_all}
+use Rattle.drv_chains.specs.declared.members.Member.{Member}
 use Rattle.bandwidth.specs.declared.placements.Placement.{Placement}
 use Rattle.drv_periodic_table.specs.Periodic.{note_at}
 use Rattle.drv_periodic_table.specs.Descriptors.{is_served}
 use Rattle.drv_table.specs.declared.content.Endpoint.{Endpoint}
 use Rattle.drv_table.specs.declared.content.Transfer.{Transfer}
+use Rattle.drv_table.specs.declared.content.Slots.{Slots}
 use Rattle.drv_table.specs.declared.content.Command.{Command}
 use Rattle.drv_table.specs.declared.content.Command.TheVariants as unfinished
 use Rattle.drv_table.specs.DriverContent.{DriverContent}
 use Rattle.drv_table.specs.Accepting.{Offered, new_runs, first_waiting}
 use Rattle.drv_table.specs.Offers.{offered}
-use Rattle.drv_table.specs.IsoOffers.{Descriptors, all_descriptors, iso_needs, total_of, entered_iso}
+use Rattle.drv_table.specs.Words.{buffer_needs}
+use Rattle.drv_table.specs.IsoOffers.{Descriptors, descriptor_transfer, slot_runs, all_descriptors, iso_needs, total_of, entered_iso}
 use Rattle.drv_table.specs.CancelOffers.{with_cancel, accepted_unchain, endpoint_members}
 use Rattle.drv_table.specs.Commands.{finished}
 use Rattle.claims_driver.specs.Owners.{Described, IsPlaced, HasBlocks, HasRun, is_descriptor, runs_of_transfer, IsOneOf}
@@ -35,14 +38,17 @@ use Rattle.claims_driver.specs.Ring.{IsSound}
 use Rattle.claims_driver.specs.FrameListMembers.{framed_of, framed_in, is_chained}
 use Rattle.law_driver.proofs.lemmas.listed_members.Stays.{endpoint_set}
 use Rattle.law_driver.proofs.lemmas.listed_members.Events.{in_frames}
+use Rattle.law_driver_ring.proofs.Lists.{at_one}
 use Rattle.law_driver_ring.proofs.Offered.{opens_leave}
 use Rattle.law_driver_ring.proofs.Sending.{transfer_leaves}
 use Rattle.law_structures.specs.lent_structures.Changes.{Leaves}
 use Rattle.claims_driver.specs.DueMembers.{framed_to}
 use Rattle.law_descriptors.proofs.Accepted.{made, all_transfers, notes_other}
 use Rattle.law_descriptors.proofs.CommandAccepting.{describes_leaves}
+use Rattle.law_descriptors.proofs.LendAccepting.{one_dropped}
 use Rattle.bus_world.specs.World.{World, name_in, commanded_by}
 use Rattle.law_world_memory.specs.Mixed.{Standing, IsMixedAt}
+use Rattle.law_world_visits.specs.Visited.{IsFramedAs}
 use Rattle.law_world_visits.specs.OneDescriptor.{HasOneActive, IsActiveTransfer, WasActive, CommandKeepsOneActive, CommandStartsNew}
 use Rattle.law_world_visits.proofs.OneDescriptorWords.{AreCalm, same, stays_served}
 use Rattle.law_world_visits.proofs.OneDescriptorStores.{both_calm, all_calm, words_calm, other_run}
@@ -119,6 +125,19 @@ not_fresh h g ns bs taken b run one = let at = index bs one in fresh_differs at.
     index [] one = absurd one
     index (c ∷ cs) (inl is) = (0, (omega arith, is))
     index (c ∷ cs) (inr there) = let at = index cs there in let low = at.1.0 in (suc at.0, (omega (arith, low), at.1.1))
+
+-- what is taken on begins in a run that was taken
+made_first : (e : ℕ) (s : Slots) (n : ℕ) (rs : List ℕ) (i : ℕ) (y : Transfer) → length (iso_needs s n) ≤ length rs
+    → slice_get (made e s n rs) i ≡ Some y → IsOneOf y.first rs
+made_first e s zero rs i y enough there = absurd (cc)
+made_first e s (suc n) rs zero y enough there =
+    subst (λ (z : Transfer). IsOneOf z.first rs) (same_Some (descriptor_transfer e s (get_or rs 0 0)) y there)
+    (at_one rs 0 (omega (arith, enough)))
+made_first e s (suc n) rs (suc i) y enough there =
+    let long = length-append (buffer_needs (total_of s)) (iso_needs s n) in
+    let left = length-drop (suc (slot_runs s)) rs in
+    one_dropped (suc (slot_runs s)) y.first rs
+    (made_first e s n (drop (suc (slot_runs s)) rs) i y (omega (arith, enough, long, left)) there)
 
 abbrev pub Starts : DriverContent → Mem → DriverContent → Mem → Type 0
 Starts d m new later = (t : ℕ) (z : Transfer) → IsActiveTransfer new later t z → WasActive d m new t z ⊎ (length d.transfers ≤ t)
@@ -217,6 +236,23 @@ module _ (d : DriverContent) (m : Mem) (o : Offered) (why : Describes d m o) (so
           (ap (λ note. note.frame) (sym (noted t y here_y sort_y held_y)) ∙ frame ∙ ap (λ note. note.frame) (noted u z here_z sort_z held_z));
     }
 
+  -- a descriptor stands in the frame that it was given, and one that is taken on has a run of its own
+  module _ (bs : List ℕ) (taken : AreTaken (holding d.book m) why.holding_after (iso_needs why.slots why.count) bs) (is : o ≡ entered bs)
+      (leaves : Leaves m (entered bs).memory) (n : ℕ) (x : Member)
+      (run : (b : ℕ) → n ≡ 32 * b → HasRun (slot_of d.book.slots b)) (framed : IsFramedAs d n x) where
+    entered_framed : IsFramedAs (entered bs).driver n x
+    entered_framed t z here sort held at f stands =
+        ⊎_elim
+        (λ (was : slice_get d.transfers t ≡ Some z). framed t z was sort held at f stands
+        ∙ ap (λ note. note.frame) (sym (noted bs taken is leaves t z was sort held)))
+        (λ (more : IsLater (made why.number why.slots why.count bs) z).
+        absurd (not_fresh (holding d.book m) g (iso_needs why.slots why.count) bs taken z.first (run z.first at)
+        (made_first why.number why.slots why.count bs more.index z (enough bs taken is leaves) more.there)))
+        (which d.transfers (made why.number why.slots why.count bs) t z
+        (ap (λ (ts : List Transfer). slice_get ts t)
+        (sym (all_transfers g.book why.number why.endpoint.desc why.slots why.count why.seed bs
+        (record { notes = d.periodic.notes; transfers = d.transfers; memory = g.memory }))) ∙ here))
+
   with_runs : (P : Offered → Type 0)
       → ((bs : List ℕ) → AreTaken (holding d.book m) why.holding_after (iso_needs why.slots why.count) bs → o ≡ entered bs → Leaves m (entered bs).memory → P (entered bs)) → P o
   with_runs P by =
@@ -230,6 +266,11 @@ module _ (d : DriverContent) (m : Mem) (o : Offered) (why : Describes d m o) (so
 
   describes_starts : Starts d m o.driver o.memory
   describes_starts = with_runs (λ f. Starts d m f.driver f.memory) (λ bs taken is leaves. entered_starts bs taken is leaves)
+
+  pub describes_framed : (n : ℕ) (x : Member) → ((b : ℕ) → n ≡ 32 * b → HasRun (slot_of d.book.slots b)) → IsFramedAs d n x
+      → IsFramedAs o.driver n x
+  describes_framed n x run framed = with_runs (λ f. IsFramedAs f.driver n x)
+      (λ bs taken is leaves. entered_framed bs taken is leaves n x run framed)
 
 -- ---- any command
 

@@ -1,11 +1,11 @@
 -- An event of a command's own, and one that begins to link or unlink the next member: whoever may be led to may be still, none is half linked that wasn't, and what was
 -- unlinked in this microframe is what it was.
 use Rattle.std.proofs.Common.{◌≡◌, ℕ, zero, suc, ◌+◌, ◌≤◌, ◌<◌, Bool, true, false, inl, if◌then◌else◌, List, [], ◌∷◌, length, slice_get, Option, Some, None, ⊎_elim, ap, refl, sym, subst, ◌∙◌, arith}
-use Rattle.std.specs.Prelude.{nat_lt, is_none}
+use Rattle.std.specs.Prelude.{◌&&◌, nat_lt, is_none}
 use Rattle.std.proofs.lemmas.Bool.{true≢false, lt-ltb}
 use Rattle.std.proofs.lemmas.Option.{same_Some}
 use Rattle.drv_chains.specs.declared.members.Member.{Member}
-use Rattle.drv_members.specs.Members.{IsKept}
+use Rattle.drv_members.specs.Members.{IsKept, takes}
 use Rattle.drv_periodic.specs.declared.work.Work.{Work}
 use Rattle.drv_periodic.specs.Periodic.{Periodic, begun as begun_work, inserting, removing, is_more, members_after, after_work, after_store}
 use Rattle.drv_periodic_table.specs.Linking.{may_link, may_unlink, linking, unlinking, begun, with_first, begun_next}
@@ -17,7 +17,8 @@ use Rattle.drv_table.specs.declared.content.Transfer.{Transfer}
 use Rattle.drv_table.specs.DriverContent.{DriverContent}
 use Rattle.drv_table.specs.Commands.{events_of, links, removes_members, leave_ring, leave_frames, no_command, finished, list_after, or_finished, linked_on, advanced_by}
 use Rattle.law_frames.specs.Met.{Kind}
-use Rattle.claims_driver.specs.Unlinked.{led_in, IsRemovedSince, IsUnchainedNow}
+use Rattle.claims_driver.specs.Unlinked.{led_in}
+use Rattle.law_descriptors.specs.Removed.{IsRemovedSince, IsUnchainedNow}
 use Rattle.law_descriptors.specs.Recent.{AreRecent}
 use Rattle.law_descriptors.proofs.ListRows.{either_if, unlinking_led}
 use Rattle.law_world_memory.proofs.lemmas.framed_memory.Steps.{linking_led}
@@ -76,6 +77,13 @@ next_half removes q x = by (is_none q.list.work)
     by true is adds made = first_half removes q q.queued x is adds made
     by false is adds made = is
 
+-- what is under way goes on
+pub next_kept : (removes : Bool) (q : PeriodicContent) (x : Work) → q.list.work ≡ Some x → (begun_next removes q).list ≡ q.list
+next_kept removes q x is = ap (λ (o : Option Work). (if is_none o then with_first removes q q.queued else q).list) is
+
+pub linking_kept : (p : Periodic) (m : Member) (x : Work) → p.work ≡ Some x → (linking p m).work ≡ Some x
+linking_kept p m x is = ap (λ (o : Option Work). (if is_none o && takes p.members m then inserting p m else p).work) is ∙ is
+
 -- what is half linked after a store of the list is what was stored for
 pub stored_half : (p : Periodic) (w x : Work) → p.work ≡ Some w → (after_store p).work ≡ Some x → x.removes ≡ false → (x.member ≡ w.member) × (w.removes ≡ false)
 stored_half p w x under is adds = by (is_more p.members.schedule w) (sym (ap (λ (o : Option Work). (after_work p o).work) under) ∙ is)
@@ -107,7 +115,12 @@ ended_list d c = either_if (λ (f : DriverContent). f.periodic.list ≡ d.period
 -- ---- an event of its own
 
 pub same_list : (d new : DriverContent) → new.periodic.list ≡ d.periodic.list → LeavesMembers d new
-same_list d new same = record { led_same = ap led_in same; half = λ x is adds made. sym (ap (λ (p : Periodic). p.work) same) ∙ is; first = subst NewIsFirst (sym same) }
+same_list d new same = record {
+  led_same = ap led_in same;
+  half = λ x is adds made. sym (ap (λ (p : Periodic). p.work) same) ∙ is;
+  under = λ x is. ap (λ (p : Periodic). p.work) same ∙ is;
+  first = subst NewIsFirst (sym same);
+}
 
 pub some_below : {X : Type 0} (xs : List X) (n : ℕ) (x : X) → slice_get xs n ≡ Some x → n < length xs
 some_below [] n x here = absurd (cc)
@@ -131,6 +144,10 @@ module _ (d g : DriverContent) (c : Command) (list : g.periodic.list ≡ d.perio
     half = λ x is adds made.
         sym (ap (λ (p : Periodic). p.work) after_is)
         ∙ next_half (removes_members c) (record g.periodic { list = list_after g c }) x (sym (ap (λ (p : Periodic). p.work) (ended_list begun_on c)) ∙ is) adds made;
+    under = λ x is.
+        (let goes : (list_after g c).work ≡ Some x = ap (λ (p : Periodic). p.work) after_is ∙ is in
+        ap (λ (p : Periodic). p.work)
+        (ended_list begun_on c ∙ next_kept (removes_members c) (record g.periodic { list = list_after g c }) x goes) ∙ goes);
     first = λ old.
         subst NewIsFirst (sym (ended_list begun_on c)) (next_first (removes_members c) (record g.periodic { list = list_after g c }) (subst NewIsFirst (sym after_is) old));
   }

@@ -15,6 +15,7 @@ use Rattle.hc_copy.specs.Buffer.{sending}
 use Rattle.hc_masks.specs.Masks.{has}
 use Rattle.hc_interrupt.specs.declared.turns.Turn.{Turn}
 use Rattle.hc_interrupt.specs.declared.turns.Turn.TheVariants as turns
+use Rattle.hc_iso.specs.Sitd.{sitd_missed, comes}
 use Rattle.hc_interrupt.specs.Turns.{microframe_of, waits, is_missed, complete_turn, start_turn, turn_of, planned}
 use Rattle.async_walk.specs.declared.state.WalkStep.{WalkStep}
 use Rattle.async_walk.specs.declared.state.WalkStep.TheVariants as walks
@@ -25,7 +26,7 @@ use Rattle.periodic_walk.specs.Place.{FramePlace, reading}
 use Rattle.periodic_walk.specs.Queue.{taken_row, writing, missed, miss_outcome, queue_step}
 use Rattle.periodic_walk.specs.Rows.{step_of}
 use Rattle.periodic_walk.specs.Causes.{IsVisited, HasNothing}
-use Rattle.periodic_walk.specs.Causes.HasNothing.{queue_rests, queue_is_late, queue_ends as its_queue_ends, qtd_is_done as its_qtd_is_done}
+use Rattle.periodic_walk.specs.Causes.HasNothing.{queue_rests, queue_is_late, queue_ends as its_queue_ends, qtd_is_done as its_qtd_is_done, itd_rests, itd_is_late, sitd_rests, sitd_is_late}
 use Rattle.periodic_walk.proofs.Causing.{queue_turned, skips_for_a_reason}
 use Rattle.periodic_walk.proofs.Caused.{queue_here, skips_for_each_reason}
 use Rattle.hc_core.specs.declared.controller.HcStep.{HcStep}
@@ -34,8 +35,13 @@ use Rattle.hc_core.specs.declared.controller.ControllerRow.{ControllerRow}
 use Rattle.hc_core.specs.declared.controller.ControllerRow.TheVariants as rows
 use Rattle.hc_core.specs.Controller.{hc_step, kind_of, frame_place, frame_step}
 use Rattle.bus_world.specs.World.{World, controller_parts, controller_row, kind_next}
-use Rattle.claims_world.specs.Visits.{GoesToLink, HasItsTurn, QueueHasNothing, is_halted, not_in_its_s_mask, not_in_its_c_mask, has_no_time, queue_ends, qtd_is_done, QueueVisited, transacts, advances, passes, misses, VisitsInFrames}
+use Rattle.claims_world.specs.Visits.{GoesToLink, HasItsTurn, QueueHasNothing, QueueVisited, HandHasNothing, of_queue, of_itd, of_sitd, ItdVisited, SitdVisited, VisitsInFrames}
+use Rattle.claims_world.specs.Visits.QueueHasNothing.{is_halted, not_in_its_s_mask, not_in_its_c_mask, has_no_time, queue_ends, qtd_is_done}
+use Rattle.claims_world.specs.Visits.QueueVisited.{transacts, advances, passes, misses}
+use Rattle.claims_world.specs.Visits.ItdHasNothing.{is_inactive as itd_inactive, has_no_time as itd_has_no_time}
+use Rattle.claims_world.specs.Visits.SitdHasNothing.{has_no_time as sitd_has_no_time}
 use Rattle.law_world_visits.specs.FrameReasons.{WorldsPassInFrames}
+use Rattle.law_world_visits.proofs.ReasonIso.{itd_visited, sitd_visited, sitd_resting, sitd_active}
 
 -- ---- which turn it is, and why
 
@@ -258,14 +264,44 @@ kind_is w is = ap (λ (row : ControllerRow). kind_of row (controller_parts w)) i
 step_is : (w : World) → controller_row w ≡ rows.Frame → kind_next w ≡ steps.Skip → frame_step (controller_parts w) ≡ walks.Skip
 step_is w is skip = skipped (frame_step (controller_parts w)) (sym (kind_is w is) ∙ skip)
 
+-- ---- any structure that is passed
+
+hand_passed : (p : FramePlace) → step_of p ≡ walks.Skip → HasNothing p → HandHasNothing p
+hand_passed p skip (queue_rests c) = of_queue c.held c.visited.in_hand (passed_for_a_reason p c.held c.visited.in_hand skip)
+hand_passed p skip (queue_is_late c) = of_queue c.held c.visited.in_hand (passed_for_a_reason p c.held c.visited.in_hand skip)
+hand_passed p skip (its_queue_ends c) = of_queue c.held c.visited.in_hand (passed_for_a_reason p c.held c.visited.in_hand skip)
+hand_passed p skip (its_qtd_is_done c) = of_queue c.held c.visited.in_hand (passed_for_a_reason p c.held c.visited.in_hand skip)
+hand_passed p skip (itd_rests c) = of_itd c.held c.going.in_hand (itd_inactive c.inactive)
+hand_passed p skip (itd_is_late c) = of_itd c.held c.going.in_hand (itd_has_no_time c.active c.late)
+hand_passed p skip (sitd_rests c) =
+    of_sitd c.held c.turned.in_hand
+    (sitd_resting p c.held c.held.sitd.active (sitd_missed (microframe_of p.walk.index) c.held.sitd)
+    (comes (microframe_of p.walk.index) c.held.sitd) refl refl c.turned.turns)
+hand_passed p skip (sitd_is_late c) =
+    of_sitd c.held c.turned.in_hand
+    (sitd_has_no_time
+    (sitd_active p c.held c.held.sitd.active (sitd_missed (microframe_of p.walk.index) c.held.sitd)
+    (comes (microframe_of p.walk.index) c.held.sitd) c.turned.turns) c.late)
+
 pub worlds_pass_in_frames : WorldsPassInFrames
 worlds_pass_in_frames w = record {
   queue = λ h is skip in_hand. passed_for_a_reason (frame_place (controller_parts w)) h in_hand (step_is w is skip);
   each = λ h is in_hand fresh k.
       kind_is w is ∙ ap hc_step (passed_for_each_reason (frame_place (controller_parts w)) h in_hand fresh k);
-  any = λ is skip. skips_for_a_reason (frame_place (controller_parts w)) (step_is w is skip);
+  any = λ is skip.
+      hand_passed (frame_place (controller_parts w)) (step_is w is skip)
+      (skips_for_a_reason (frame_place (controller_parts w)) (step_is w is skip));
 }
 
 pub visits_in_frames : (w : World) → (controller_row w ≡ rows.Frame → frame_step (controller_parts w) ≢ walks.Fault) → VisitsInFrames w
-visits_in_frames w sound h is in_hand fresh =
-    subst (QueueVisited (frame_place (controller_parts w)) h) (sym (kind_is w is)) (event_visited (frame_place (controller_parts w)) h in_hand fresh (sound is))
+visits_in_frames w sound = record {
+  queue = λ h is in_hand fresh.
+      subst (QueueVisited (frame_place (controller_parts w)) h) (sym (kind_is w is))
+      (event_visited (frame_place (controller_parts w)) h in_hand fresh (sound is));
+  itd = λ h is in_hand going.
+      subst (ItdVisited (frame_place (controller_parts w)) h) (sym (kind_is w is))
+      (itd_visited (frame_place (controller_parts w)) h in_hand going (sound is));
+  sitd = λ h is in_hand fresh.
+      subst (SitdVisited (frame_place (controller_parts w)) h) (sym (kind_is w is))
+      (sitd_visited (frame_place (controller_parts w)) h in_hand fresh (sound is));
+}

@@ -10,8 +10,12 @@ use Rattle.hc_interrupt.specs.Samples.{high_in, split_in}
 use Rattle.hc_core.specs.Controller.{time_left}
 use Rattle.bus_wire.specs.Bus.{fixed_of}
 use Rattle.bus_world.specs.Orders.{ticks}
-use Rattle.claims_world.specs.Visits.{is_held_now, is_halted, not_in_its_s_mask, not_in_its_c_mask, has_no_time, queue_ends, qtd_is_done}
-use Rattle.law_world_visits.specs.ReasonSamples.{empty_script, empty_at, HasReason}
+use Rattle.claims_world.specs.Visits.{is_held_now}
+use Rattle.claims_world.specs.Visits.RingHasNothing.{is_halted as in_ring_halted, naks_are_used_up, queue_ends as in_ring_ends, qtd_is_done as in_ring_done}
+use Rattle.claims_world.specs.Visits.SitdHasNothing.{is_inactive, not_in_its_mask, has_no_time as split_has_no_time}
+use Rattle.claims_world.specs.Visits.QueueHasNothing.{is_halted, not_in_its_s_mask, not_in_its_c_mask, has_no_time, queue_ends, qtd_is_done}
+use Rattle.hc_copy.specs.Samples.{counted, ring_head}
+use Rattle.law_world_visits.specs.ReasonSamples.{empty_script, empty_at, HasReason, HasReasonInRing, HasSplitReason}
 
 pub a_held_begin :
     (is_held_now (fixed_of (empty_script ((1, 1) ∷ []))) (empty_at ((1, 1) ∷ []) 1) ≡ true)
@@ -40,3 +44,44 @@ none_in_time (not_in_its_c_mask on kept off) = cc
 none_in_time (has_no_time turn late) = omega (arith, late)
 none_in_time (queue_ends goes is) = let done = goes.done in cc
 none_in_time (qtd_is_done at t goes is there off) = let done = goes.done in cc
+
+-- ---- queue heads of the ring
+
+pub used_up : HasReasonInRing (counted 4 0)
+used_up = naks_are_used_up (record { counted = λ none. cc; none_left = refl })
+
+pub halted : HasReasonInRing ring_head
+halted = in_ring_halted refl
+
+pub naks_left : HasReasonInRing (counted 4 3) → ⊥
+naks_left (in_ring_halted on) = cc
+naks_left (naks_are_used_up none) = let left = none.none_left in cc
+naks_left (in_ring_ends goes is) = let done = goes.done in cc
+naks_left (in_ring_done at t goes is there off) = let done = goes.done in cc
+
+pub uncounted : HasReasonInRing (counted 0 0) → ⊥
+uncounted (in_ring_halted on) = cc
+uncounted (naks_are_used_up none) = none.counted refl
+uncounted (in_ring_ends goes is) = let done = goes.done in cc
+uncounted (in_ring_done at t goes is there off) = let done = goes.done in cc
+
+-- ---- siTDs
+
+pub split_elsewhere : HasSplitReason false 41 125000000
+split_elsewhere = not_in_its_mask refl
+
+pub split_late : HasSplitReason false 40 100
+split_late = split_has_no_time refl (omega arith)
+
+pub split_in_time : HasSplitReason false 40 125000000 → ⊥
+split_in_time (is_inactive off) = cc
+split_in_time (not_in_its_mask off) = cc
+split_in_time (split_has_no_time active late) = omega (arith, late)
+
+pub none_to_complete : HasSplitReason true 41 125000000
+none_to_complete = not_in_its_mask refl
+
+pub one_to_complete : HasSplitReason true 42 125000000 → ⊥
+one_to_complete (is_inactive off) = cc
+one_to_complete (not_in_its_mask off) = cc
+one_to_complete (split_has_no_time active late) = omega (arith, late)

@@ -25,7 +25,7 @@ runs_on fixed w k = let work = mixed_at_work fixed w k in work.goes_on.run ∙ a
 pub texts_keep_place : TextsKeepPlaceOfRing
 texts_keep_place text s spelled = keeps_place s (λ k. runs_on (fixed_of s) (moment s k).world (texts_stay_mixed text s spelled k))
 
-never_faults : (w : World) → IsMixedWorld w → controller_row w ≡ rows.Frame → frame_step (controller_parts w) ≢ walks.Fault
+pub never_faults : (w : World) → IsMixedWorld w → controller_row w ≡ rows.Frame → frame_step (controller_parts w) ≢ walks.Fault
 never_faults w k is fault =
     let runs = k.mixed.now.framed.runs in
     never_a_fault (met w.driver k.standing.recent) (both k.standing.descs k.standing.parts) k.standing.frame (frame_place (controller_parts w))

@@ -2,7 +2,6 @@
 use Rattle.std.proofs.Common.{◌≡◌, ℕ, ◌*◌, ◌/◌, Bool, true, false, nat_eq, if◌then◌else◌, List, Option, Some, None, ⊎_elim, ap, refl, sym, subst, ◌∙◌}
 use Rattle.std.specs.Prelude.{◌==◌, ◌&&◌, not, nat_lt, option_and_then}
 use Rattle.std.proofs.lemmas.Bool.{true≢false, and_parts, eq-eqb, eqb-true, cases_Bool}
-use Rattle.std.proofs.lemmas.Map.Views.{any-filter_same}
 use Rattle.std.proofs.lemmas.Option.{same_Some}
 use Rattle.drv_chains.specs.declared.members.Member.{Member}
 use Rattle.drv_chains.specs.declared.members.Member.TheVariants.{Once, Each}
@@ -52,7 +51,8 @@ use Rattle.law_world_visits.proofs.LinkSteps.{ListStep, IsMetThere}
 use Rattle.law_world_visits.proofs.LeftFresh.{queue_fresh}
 use Rattle.law_world_visits.proofs.NewFirst.{next_first, store_first}
 use Rattle.law_world_visits.proofs.ListGoesOn.{store_goes_on, member_comes}
-use Rattle.law_world_visits.proofs.OwnSteps.{next_led, next_half, stored_half}
+use Rattle.law_world_visits.proofs.NoneLeftStores.{gone}
+use Rattle.law_world_visits.proofs.OwnSteps.{next_led, next_half, next_kept, stored_half}
 
 -- ---- what leaves, and what was unlinked stays so
 
@@ -84,13 +84,6 @@ leaver_met q p w x left under out = record {
 }
 
 -- ---- one that isn't linked yet doesn't stand
-
-gone : (s : Schedule) (m : Member) → is_linked (without_member s m) m ≡ false
-gone s (Once d) =
-    any-filter_same (is_that d) (λ x. not (is_called d.id x)) false (λ x is. ap not (and_parts (nat_eq x.id d.id) (nat_eq x.frame d.frame) is).0) s.descriptors
-gone s (Each q) =
-    any-filter_same (is_this q) (λ x. not (is_named q.id x)) false
-    (λ x is. ap not (and_parts (nat_eq x.id q.id) (nat_eq x.period q.period && nat_eq x.phase q.phase) is).0) s.queues
 
 unled_off : (d : DriverContent) (x : Work) → IsListSpread d → d.periodic.list.work ≡ Some x → is_led x ≡ false → is_linked d.periodic.list.members.schedule x.member ≡ true → standing d (begins x.member) ≡ None
 unled_off d x spread under off on = by (standing d (begins x.member)) refl
@@ -160,6 +153,9 @@ module _ (s : Standing) (w : World) (k : IsMixedAt s w) (start : World) (vs : Li
     frames = frames;
     frames_then = e.event.frames;
     work = λ adds. way.under;
+    same = λ x is. same_Some x way.work (sym is ∙ way.under);
+    goes = λ x is. list_is
+        ∙ next_kept (removes_members why.command) (record w.driver.periodic { list = after_store w.driver.periodic.list }) x is;
     half = λ x is adds made.
         stored_half w.driver.periodic.list way.work x way.under
         (next_half (removes_members why.command) (record w.driver.periodic { list = after_store w.driver.periodic.list }) x (sym (ap (λ (q : Periodic). q.work) list_is) ∙ is) adds made) adds;

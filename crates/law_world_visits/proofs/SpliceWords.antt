@@ -160,7 +160,8 @@ descriptor_serves s d f g false kept on stands is has =
     let other : nat_eq g f ≡ false = ap (λ (n : ℕ). nat_eq n f) (sym (eqb-true d.frame g stands)) ∙ is in
     absurd (false≢true (sym (elsewhere at.front g f other) ∙ sym (ap (has_word f) a.word) ∙ has))
 
-serves_by : (s : Schedule) (m : Member) (f g : ℕ) → IsKept s → IsMember m → is_linked s m ≡ true → stands_in g m ≡ true → has_word f (predecessor s m g) ≡ true → stands_in f m ≡ true
+pub serves_by : (s : Schedule) (m : Member) (f g : ℕ) → IsKept s → IsMember m → is_linked s m ≡ true → stands_in g m ≡ true
+    → has_word f (predecessor s m g) ≡ true → stands_in f m ≡ true
 serves_by s (Once d) f g kept is on stands has = descriptor_serves s d f g (nat_eq d.frame f) kept on stands refl has
 serves_by s (Each q) f g kept is on stands has =
     let at : IsAt (is_named q.id) q s.queues = queue_at s q kept on in

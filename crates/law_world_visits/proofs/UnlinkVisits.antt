@@ -133,6 +133,8 @@ module _ (s : Standing) (w : World) (k : IsMixedAt s w) (start : World) (vs : Li
     frames = frames;
     frames_then = subst (λ (r : DriverRow). HasFrames (after_driver_row r (driver_parts w)).memory (after_driver_row r (driver_parts w)).driver) (sym is) u.event.stored.frames;
     work = λ adds. absurd (true≢false (sym removes ∙ adds));
+    same = λ x is. absurd (none_some x (sym none ∙ is));
+    goes = λ x is. list_is;
     half = λ x half_is adds made. stored_half (descriptor_leaving w.driver y) way.work x way.under (sym (ap (λ (q : Periodic). q.work) list_is) ∙ half_is) adds;
   }
 

@@ -1,21 +1,23 @@
 -- Each event of the controller goes on with the visits.
-use Rattle.std.proofs.Common.{◌≡◌, ℕ, ◌+◌, ◌*◌, ◌<◌, Bool, true, false, ◌&&◌, not, if◌then◌else◌, List, [], Option, Some, None, ap, refl, sym, subst, ◌∙◌, arith}
+use Rattle.std.proofs.Common.{◌≡◌, ◌≢◌, ℕ, ◌+◌, ◌*◌, ◌<◌, ◌⊎◌, Bool, true, false, ◌&&◌, not, if◌then◌else◌, inl, inr, List, [], Option, Some, None, ⊎_elim, ap, refl, sym, subst, ◌∙◌, arith}
+use Rattle.std.proofs.lemmas.Bool.{false≢true}
 use Rattle.usb_base.specs.declared.packets.Ask.{Ask}
 use Rattle.usb_base.specs.declared.packets.Reply.{Reply}
-use Rattle.word_mem.specs.Memory.{word_at}
+use Rattle.word_mem.specs.Memory.{word_at, reaches}
 use Rattle.link_words.specs.Links.{link_read}
 use Rattle.drv_chains.specs.declared.members.Predecessor.TheVariants.{Element}
 use Rattle.drv_chains.specs.Chains.{stands_in}
 use Rattle.drv_periodic.specs.Periodic.{address_of}
 use Rattle.op_registers.specs.RegisterFile.{RegisterFile}
 use Rattle.op_registers.specs.Events.{after_begin}
+use Rattle.async_walk.specs.declared.state.WalkStep.TheVariants as walks
 use Rattle.periodic_walk.specs.declared.state.Hand.{Hand}
 use Rattle.periodic_walk.specs.Walk.{Walk as FrameWalk, is_over}
 use Rattle.hc_core.specs.declared.controller.MicroframePart.{MicroframePart}
 use Rattle.hc_core.specs.declared.controller.MicroframePart.TheVariants.{Over, Periodic, Asynchronous}
 use Rattle.hc_core.specs.declared.controller.ControllerRow.{ControllerRow}
 use Rattle.hc_core.specs.declared.controller.ControllerRow.TheVariants as rows
-use Rattle.hc_core.specs.Controller.{Content, part_row, enter_row, ring_row, element_address, entered, frame_place, walk_place, HasRow}
+use Rattle.hc_core.specs.Controller.{Control, Content, part_row, enter_row, ring_row, element_address, begun_at, entered, frame_place, frame_step, walk_place, HasRow}
 use Rattle.std.proofs.lemmas.Option.{same_Some}
 use Rattle.drv_periodic_table.specs.Periodic.{note_at}
 use Rattle.drv_periodic_table.specs.Descriptors.{is_served}
@@ -30,7 +32,7 @@ use Rattle.law_controller.proofs.lemmas.frame_control.Running.{event_runs}
 use Rattle.law_descriptors.specs.frame_keeps.Leaving.{LeavesStructures}
 use Rattle.law_descriptors.proofs.lemmas.kept_frames.Both.{both_leave}
 use Rattle.law_descriptors.specs.Both.{both}
-use Rattle.law_descriptors.specs.Meeting.{met}
+use Rattle.law_descriptors.specs.Meeting.{kind_of, standing, or_recent, no_recent, met}
 use Rattle.law_descriptors.specs.Recent.{AreRecent}
 use Rattle.law_descriptors.specs.RowLaws.{HasFrames}
 use Rattle.bus_wire.specs.Bus.{Fixed}
@@ -46,10 +48,15 @@ use Rattle.law_world_memory.proofs.Controller.{controller_keeps_mixed}
 use Rattle.law_world_visits.specs.OneDescriptor.{IsActiveDescriptor, WasActive}
 use Rattle.law_world_visits.specs.Began.{began_at, began_by}
 use Rattle.law_world_visits.specs.Ranks.{name_of, next_of, IsRanked}
-use Rattle.claims_world.specs.Visits.{visits_after, frame_in}
-use Rattle.law_world_visits.specs.Visited.{link_ahead, IsNext, IsBehind, IsActiveAs, GoesAhead, VisitsGoOn, VisitsGoOnAt}
+use Rattle.claims_world.specs.Visits.{IsInChain, visits_after, frame_in, HasVisited}
+use Rattle.law_world_visits.specs.Visited.{link_ahead, IsNext, IsBehind, IsActiveAs, IsFramedAs, GoesAhead, StandsIn, IsToCome, LeavesNoneOut, VisitsGoOn, VisitsGoOnAt}
 use Rattle.law_world_visits.specs.VisitLaws.{ControllerKeepsVisiting}
 use Rattle.law_world_visits.proofs.AheadWalking.{goes_to}
+use Rattle.law_world_visits.proofs.DriverGoesOn.{linked_stands}
+use Rattle.law_world_visits.proofs.NoneLeft.{way_stays}
+use Rattle.law_world_visits.proofs.NoneLeftWalking.{IsPast, index_stays, comes_next}
+use Rattle.law_world_visits.proofs.NoneLeftWorlds.{in_chain_stands}
+use Rattle.law_world_visits.proofs.ReasonTexts.{never_faults}
 use Rattle.law_world_visits.proofs.OneDescriptorWorlds.{controller_starts_none}
 use Rattle.law_world_visits.proofs.InFramesFetched.{all_after}
 use Rattle.law_world_visits.proofs.VisitLinks.{next_stays}
@@ -114,6 +121,25 @@ frame_periodic false r frame part is = absurd (idle_no_frame is)
 
 none_some : (kind : Kind) → None ≡ Some kind → ⊥
 none_some kind e = cc
+
+-- past the walk of the frames it is over
+goes_over : (over async : Bool) (r : ControllerRow) → (if not over then rows.Frame else enter_row async) ≡ r → IsPast r → over ≡ true
+goes_over true async r is past = refl
+goes_over false async r is past = absurd (subst IsPast (sym is) past)
+
+part_over_by : (r : RegisterFile) (frame : FrameWalk) (part : MicroframePart) (row : ControllerRow) → part_row r frame part ≡ row
+    → IsPast row → r.periodic_enable ≡ true → part ≡ Periodic
+    → is_over frame ≡ true
+part_over_by r frame part row is past on periodic =
+    goes_over (is_over frame) r.async_enable row
+    (ap (λ (b : Bool). if b && not (is_over frame) then rows.Frame else enter_row r.async_enable) (sym on)
+    ∙ ap (part_row r frame) (sym periodic) ∙ is) past
+
+past_over : (runs : Bool) (r : RegisterFile) (frame : FrameWalk) (part : MicroframePart) (row : ControllerRow)
+    → (if runs then part_row r frame part else rows.Idle) ≡ row → IsPast row
+    → r.periodic_enable ≡ true → part ≡ Periodic → is_over frame ≡ true
+past_over true r frame part row is past on periodic = part_over_by r frame part row is past on periodic
+past_over false r frame part row is past on periodic = absurd (subst IsPast (sym is) past)
 
 in_list : (index : ℕ) → frame_in index < 1024
 in_list index = omega arith
@@ -246,6 +272,101 @@ module _ (fixed : Fixed) (s : Standing) (start w : World) (vs : List ℕ) (k : I
   goes_by rows.Go is = goes_on rows.Go is (λ same. go_no_begin same)
   goes_by rows.End is = goes_on rows.End is (λ same. end_no_begin same)
 
+  -- ---- none is left out
+
+  run_then : (controller_next fixed w).registers.run ≡ true
+  run_then =
+      let n = controller_keeps_mixed fixed w (record { standing = s; mixed = k }) in
+      ap (λ (x : Base). x.run) n.mixed.now.framed.runs.ring.registers
+
+  no_fault : controller_row w ≡ rows.Frame → frame_step (controller_parts w) ≢ walks.Fault
+  no_fault is = never_faults w (record { standing = s; mixed = k }) is
+
+  enabled : w.registers.periodic_enable ≡ true
+  enabled = ap (λ (x : Base). x.periodic_enable) k.now.framed.runs.ring.registers
+
+  over_now : (r : ControllerRow) → controller_row w ≡ r → IsPast r → w.control.part ≡ Periodic → is_over w.control.frame ≡ true
+  over_now r is past part = past_over w.registers.run w.registers w.control.frame w.control.part r is past enabled part
+
+  abbrev Out : ControllerRow → Type 0
+  Out r = LeavesNoneOut (began_at r w start) (controller_next fixed w).memory w.driver (controller_next fixed w).control
+      (recent_then r g.visits.left) (visits_after r (controller_parts w) vs)
+
+  -- in new memory, by where the walk goes on
+  moves : (n : ℕ) → IsToCome w.memory (controller_next fixed w).control n
+      → IsToCome (controller_next fixed w).memory (controller_next fixed w).control n
+  moves n t = record {
+    periodic = t.periodic;
+    leads = way_stays w.memory (controller_next fixed w).memory g.visits.kept n
+        (name_of (link_ahead (controller_next fixed w).control.frame.hand (controller_next fixed w).control.frame.cursor))
+        g.visits.ranked.closed link_stays
+        (λ a is. (behind_then.next a t.periodic is).is_kept) t.leads;
+  }
+
+  none_on : (r : ControllerRow) → controller_row w ≡ r → (r ≡ rows.Begin → ⊥)
+      → HasRow begins_by transacts_by r (controller_parts w) (wired fixed w) (controller_parts (controller_next fixed w))
+      (wired fixed (controller_next fixed w))
+      → LeavesNoneOut start (controller_next fixed w).memory w.driver (controller_next fixed w).control g.visits.left
+      (visits_after r (controller_parts w) vs)
+  none_on r is other row =
+      let same : w.control.frame.index ≡ (controller_next fixed w).control.frame.index
+      = sym (index_stays begins_by transacts_by (controller_parts w) (wired fixed w) (controller_parts (controller_next fixed w))
+      (wired fixed (controller_next fixed w)) r other row) in
+      record {
+        were_met = subst (λ (i : ℕ). (n : ℕ) → IsInChain start (frame_in i) n → (kind : Kind) × (met w.driver g.visits.left n ≡ Some kind))
+            same g.visits.none.were_met;
+        each = λ n led stands.
+            ⊎_elim {C = HasVisited n (visits_after r (controller_parts w) vs)
+            ⊎ IsToCome (controller_next fixed w).memory (controller_next fixed w).control n}
+            (λ (seen : HasVisited n (visits_after r (controller_parts w) vs)). inl seen)
+            (λ (t : IsToCome w.memory (controller_next fixed w).control n). inr (moves n t))
+            (comes_next begins_by transacts_by (controller_parts w) (wired fixed w) (controller_parts (controller_next fixed w))
+            (wired fixed (controller_next fixed w)) vs n
+            (g.visits.none.each n (subst (λ (i : ℕ). IsInChain start (frame_in i) n) (sym same) led)
+            (subst (λ (i : ℕ). StandsIn w.driver (frame_in i) n) (sym same) stands))
+            r other (λ frame. no_fault (is ∙ frame)) (over_now r is) row);
+      }
+
+  -- the element of the frame is read
+  abbrev Begun : Control → Type 0
+  Begun to = ((n : ℕ) → IsInChain w (frame_in to.frame.index) n → IsToCome w.memory to n)
+
+  begun_there : (reached allowed : Bool)
+      → (begun_at reached allowed (record (controller_parts w) { registers = after_begin w.registers })).registers.run ≡ true
+      → Begun (begun_at reached allowed (record (controller_parts w) { registers = after_begin w.registers })).control
+  begun_there true allowed run = λ n led. record { periodic = refl; leads = led }
+  begun_there false allowed run = absurd (false≢true run)
+
+  none_begun : HasRow begins_by transacts_by rows.Begin (controller_parts w) (wired fixed w) (controller_parts (controller_next fixed w))
+      (wired fixed (controller_next fixed w))
+      → LeavesNoneOut w (controller_next fixed w).memory w.driver (controller_next fixed w).control no_recent []
+  none_begun row =
+      let low : frame_in (controller_next fixed w).control.frame.index < 1024 = in_list (controller_next fixed w).control.frame.index in
+      let c : Content = record (controller_parts w) { registers = after_begin w.registers } in
+      let there : Begun (controller_next fixed w).control
+      = subst (λ (x : Content). Begun x.control) (sym row.contents)
+      (begun_there (reaches w.memory (element_address (after_begin w.registers))) row.allowed
+      (ap (λ (x : Content). x.registers.run) (sym row.contents) ∙ run_then)) in
+      record {
+        were_met = λ n led.
+            (let h : StandsIn w.driver (frame_in (controller_next fixed w).control.frame.index) n
+            = in_chain_stands s w (frame_in (controller_next fixed w).control.frame.index) n k low led in
+            let stands : standing w.driver n ≡ Some (kind_of w.driver.periodic h.member) = ap (standing w.driver) (sym h.at)
+            ∙ linked_stands w.driver h.member frames.spread h.linked in
+            (kind_of w.driver.periodic h.member, ap (λ (o : Option Kind). or_recent o None) stands));
+        each = λ n led stands. inr (moves n (there n led));
+      }
+
+  none_by : (r : ControllerRow) → controller_row w ≡ r
+      → HasRow begins_by transacts_by r (controller_parts w) (wired fixed w) (controller_parts (controller_next fixed w))
+      (wired fixed (controller_next fixed w)) → Out r
+  none_by rows.Begin is row = none_begun row
+  none_by rows.Idle is row = none_on rows.Idle is (λ same. not_idle same) row
+  none_by rows.Frame is row = none_on rows.Frame is (λ same. begin_no_frame (sym same)) row
+  none_by rows.Enter is row = none_on rows.Enter is (λ same. enter_no_begin same) row
+  none_by rows.Go is row = none_on rows.Go is (λ same. go_no_begin same) row
+  none_by rows.End is row = none_on rows.End is (λ same. end_no_begin same) row
+
   visits_then : VisitsGoOn (began_by fixed w start) (controller_next fixed w) (visits_after (controller_row w) (controller_parts w) vs)
   visits_then = record {
     left = recent_then (controller_row w) g.visits.left;
@@ -263,6 +384,13 @@ module _ (fixed : Fixed) (s : Standing) (start w : World) (vs : List ℕ) (k : I
         (ap (λ (o : Option Hand). name_of (link_ahead o w.control.frame.cursor)) held ∙ name)).is_kept);
     goes = goes_by (controller_row w) refl;
     alone = λ n on e f h a stands. g.visits.alone n on e f h (none_started e f n a) stands;
+    none = none_by (controller_row w) refl (world_has_row fixed w);
+    framed = g.visits.framed;
+    were_framed = all_after (λ (a : ℕ). IsFramedAs w.driver a (g.visits.who a)) (controller_row w)
+        (controller_parts w) vs g.visits.were_framed
+        (λ is a held name.
+        g.visits.framed a (g.visits.behind.next a (frame_periodic w.registers.run w.registers w.control.frame w.control.part is)
+        (ap (λ (o : Option Hand). name_of (link_ahead o w.control.frame.cursor)) held ∙ name)).is_kept);
   }
 
 pub controller_keeps_visiting : ControllerKeepsVisiting

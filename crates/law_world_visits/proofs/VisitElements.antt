@@ -38,7 +38,7 @@ split_name : (b : Bool) (a : ℕ) → name_of (if b then links.Sitd a else links
 split_name true a = refl
 split_name false a = refl
 
-structure_name : (q : PeriodicContent) (x : Member) → name_of (structure q (Some x)) ≡ Some (begins x)
+pub structure_name : (q : PeriodicContent) (x : Member) → name_of (structure q (Some x)) ≡ Some (begins x)
 structure_name q (Each x) = refl
 structure_name q (Once k) = split_name (note_at q.notes (k.id / 32)).split (32 * (k.id / 32))
 

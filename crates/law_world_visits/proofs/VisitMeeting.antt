@@ -16,7 +16,7 @@ use Rattle.law_frames.specs.FrameHand.{FrameHand, Nothing, OfSettled, frame_held
 use Rattle.law_frames.specs.Frame.{IsInFrame, IsFrameWalk}
 use Rattle.law_descriptors.specs.Both.{both}
 use Rattle.law_descriptors.specs.Meeting.{standing, or_recent, met}
-use Rattle.claims_driver.specs.Unlinked.{IsRemovedSince, IsUnchainedNow}
+use Rattle.law_descriptors.specs.Removed.{IsRemovedSince, IsUnchainedNow}
 use Rattle.law_descriptors.specs.Recent.{AreRecent}
 use Rattle.bus_world.specs.World.{World}
 use Rattle.law_world_memory.specs.Mixed.{Standing, IsMixedAt}
@@ -163,6 +163,12 @@ module _ (s : Standing) (start w : World) (vs : List ℕ) (k : IsMixedAt s w) (g
       were_active = g.were_active;
       goes = goes;
       alone = λ n on. g.alone n (was_kept g.kept (met w.driver s.recent) n on);
+      none = record {
+        were_met = λ n led. (let h = g.none.were_met n led in (h.0, first_met (standing w.driver n) (g.left n) (s.recent n) h.0 h.1));
+        each = g.none.each;
+      };
+      framed = λ n on. g.framed n (was_kept g.kept (met w.driver s.recent) n on);
+      were_framed = g.were_framed;
     };
     within = was_met g.kept (met w.driver s.recent);
     left_within = λ n on.

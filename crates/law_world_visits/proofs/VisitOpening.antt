@@ -1,6 +1,9 @@
 -- Before the first line of a script nothing was visited, and no link leads anywhere.
-use Rattle.std.proofs.Common.{◌≡◌, true, false, [], Some, None}
+use Rattle.std.proofs.Common.{◌≡◌, ℕ, true, false, [], Some, None}
 use Rattle.std.proofs.lemmas.Bool.{false≢true}
+use Rattle.script_types.specs.declared.scripts.Script.{Script}
+use Rattle.script_fits.specs.Fits.{IsFit}
+use Rattle.law_scripts.specs.byte_answers.Bytes.{IsByteScript}
 use Rattle.drv_chains.specs.declared.members.Member.{Member}
 use Rattle.drv_chains.specs.declared.members.Member.TheVariants.{Once, Each}
 use Rattle.drv_chains.specs.Chains.{of_lists}
@@ -9,8 +12,13 @@ use Rattle.drv_periodic.specs.declared.work.Work.{Work}
 use Rattle.hc_core.specs.declared.controller.MicroframePart.TheVariants.{Over, Periodic}
 use Rattle.law_frames.specs.Met.{Kind}
 use Rattle.law_descriptors.specs.Meeting.{no_recent}
+use Rattle.bus_world.specs.Opening.{opening_world}
+use Rattle.law_world_memory.specs.Mixed.{IsMixedWorld}
 use Rattle.law_world_memory.proofs.Opening.{new_world_is_mixed}
+use Rattle.claims_world.specs.Visits.{IsInChain, frame_in}
+use Rattle.law_world_visits.specs.Visited.{StandsIn}
 use Rattle.law_world_visits.specs.VisitLaws.{NewIsVisiting}
+use Rattle.law_world_visits.proofs.NoneLeftWorlds.{frame_low, in_chain_stands}
 
 none_stands : (kind : Kind) → None ≡ Some kind → ⊥
 none_stands kind e = cc
@@ -24,6 +32,16 @@ over_no e = cc
 none_linked : (x : Member) → is_linked (of_lists [] []) x ≡ true → ⊥
 none_linked (Once d) on = false≢true on
 none_linked (Each q) on = false≢true on
+
+-- no word leads anywhere
+none_in_chain : (s : Script) → IsFit s → IsByteScript s → (n : ℕ)
+    → IsInChain (opening_world s) (frame_in (opening_world s).control.frame.index) n → ⊥
+none_in_chain s fit bytes n led =
+    let k : IsMixedWorld (opening_world s) = new_world_is_mixed s fit bytes in
+    let h : StandsIn (opening_world s).driver (frame_in (opening_world s).control.frame.index) n
+    = in_chain_stands k.standing (opening_world s) (frame_in (opening_world s).control.frame.index) n k.mixed
+    (frame_low (opening_world s).control.frame.index) led in
+    none_linked h.member h.linked
 
 pub new_is_visiting : NewIsVisiting
 new_is_visiting s fit bytes = record {
@@ -55,5 +73,12 @@ new_is_visiting s fit bytes = record {
       old = λ e f n on. absurd (false≢true on);
     };
     alone = λ n on. absurd (false≢true on);
+    none = record {
+      were_met = λ n led. absurd (none_in_chain s fit bytes n led);
+      each = λ n led. absurd
+          (none_in_chain s fit bytes n led);
+    };
+    framed = λ n on. absurd (false≢true on);
+    were_framed = tt;
   };
 }

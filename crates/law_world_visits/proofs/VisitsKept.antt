@@ -1,6 +1,6 @@
 -- Each event of the driver and each command goes on with the visits; so in no run is a structure visited twice in a microframe.
 use Rattle.drv_table.specs.Rows.{driver_row}
-use Rattle.std.proofs.Common.{ℕ, List, [], subst, refl}
+use Rattle.std.proofs.Common.{ℕ, ◌⊎◌, List, [], ⊎_elim, subst, refl}
 use Rattle.script_fits.proofs.Texts.{spelled_fits}
 use Rattle.law_scripts.proofs.lemmas.script_bytes.Texts.{spelled_bytes}
 use Rattle.bus_wire.specs.Bus.{Fixed, fixed_of}
@@ -13,17 +13,20 @@ use Rattle.law_world_memory.proofs.Driving.{driver_keeps_mixed}
 use Rattle.law_world_memory.proofs.Texts.{texts_fit}
 use Rattle.law_world_memory.proofs.FittingTexts.{texts_open_fitting}
 use Rattle.law_world_visits.specs.Began.{began_by, began}
-use Rattle.claims_world.specs.Visits.{visits_next, visited}
-use Rattle.law_world_visits.specs.Visited.{IsVisiting}
+use Rattle.claims_world.specs.Visits.{visits_next, visited, frame_in, HasVisited}
+use Rattle.law_world_visits.specs.Coverage.{TextsVisitEach}
+use Rattle.law_world_visits.specs.Visited.{IsToCome, IsVisiting}
 use Rattle.law_world_visits.specs.VisitLaws.{DriverKeepsVisiting, CommandKeepsVisiting, ScriptsVisit, TextsVisitEachOnce}
 use Rattle.law_world_visits.proofs.CommandVisits.{command_leaves_visits}
 use Rattle.law_world_visits.proofs.DriverTogether.{each_row_visits}
+use Rattle.law_world_visits.proofs.NoneLeft.{none_to_come}
+use Rattle.law_world_visits.proofs.NoneLeftWorlds.{frame_low, in_chain_stands}
 use Rattle.law_world_visits.proofs.VisitMeeting.{visits_meet_now}
 use Rattle.law_world_visits.proofs.VisitOpening.{new_is_visiting}
 use Rattle.law_world_visits.proofs.VisitControlling.{controller_keeps_visiting}
 use Rattle.law_world_visits.proofs.VisitMoments.{visits_apart}
 use Rattle.law_world_visits.proofs.VisitTexts.{lines_fit}
-use Rattle.law_world_visits.proofs.Carrying.{KeepsCarried, carrying, both, both_carried, NextIsOffered, next_is_offered}
+use Rattle.law_world_memory.proofs.Carrying.{KeepsCarried, carrying, both, both_carried, NextIsOffered, next_is_offered}
 
 pub driver_keeps_visiting : DriverKeepsVisiting
 driver_keeps_visiting start w vs k =
@@ -52,6 +55,20 @@ pub scripts_visit_all : ScriptsVisit
 scripts_visit_all s fit bytes opens k =
     subst (λ (z : World × List ℕ). IsVisiting z.0 (moment s k).world z.1) (both_carried began_by visits_next s (opening_world s) [] k)
     (carrying (both began_by visits_next) (λ w orders z. NextIsOffered w orders) (λ w z. IsVisiting z.0 w z.1) s (opening_world s, []) (is_kept (fixed_of s)) (next_is_offered s fit opens) (new_is_visiting s fit bytes) k)
+
+pub texts_visit_each : TextsVisitEach
+texts_visit_each text s spelled k n past led now =
+    let w : World = (moment s k).world in
+    let h : IsVisiting (began s k) (moment s k).world (visited s k)
+    = scripts_visit_all s (spelled_fits text s spelled) (spelled_bytes text s spelled)
+    (lines_fit s.lines (texts_fit text s spelled) (texts_open_fitting text s spelled)) k in
+    let f : ℕ = frame_in (moment s k).world.control.frame.index in
+    ⊎_elim {C = HasVisited n (visited s k)} (λ (seen : HasVisited n (visited s k)). seen)
+    (λ (t : IsToCome (moment s k).world.memory (moment s k).world.control n).
+    absurd (none_to_come (moment s k).world.memory (moment s k).world.control n (past t.periodic) t))
+    (h.visits.none.each n led
+    (in_chain_stands h.mixed.standing (moment s k).world (frame_in (moment s k).world.control.frame.index) n h.mixed.mixed
+    (frame_low (moment s k).world.control.frame.index) now))
 
 pub texts_visit_once : TextsVisitEachOnce
 texts_visit_once text s spelled k =

@@ -1,7 +1,6 @@
--- The world as its microframe began, and what the walk of the frames comes to in it (EHCI 1.0, 3.3, 3.4, 4.4, 4.6 and 4.7). A descriptor that is linked in a microframe stands first in its
--- frame, so that only the element of the frame list leads to it, which is read as the microframe begins: the walk doesn't come to it in this microframe.
---     began_at row w b         the world as the microframe began, after an event of this row in the world w
---     began s k                .. after k events and commands of the run of a script; before the first Begin the world before its first line
+-- What the walk of the frames comes to in a microframe, beside the world as it began (EHCI 1.0, 3.3, 3.4, 4.4, 4.6 and 4.7). A descriptor
+-- that is linked in a microframe stands first in its frame, so that only the element of the frame list leads to it, which is read as the
+-- microframe begins: the walk doesn't come to it in this microframe.
 --     IsAhead w n              the walk of the frames goes on to what stands at n
 --     GoesOnToOld b w          where something is active of a descriptor to which the walk goes on, so it was in the world b, of the same endpoint and frame
 --     StandsAlone d n f        the descriptor at n is a member to which a word may lead, and stands in frame f alone
@@ -19,8 +18,6 @@ use Rattle.law_scripts.specs.byte_answers.Bytes.{IsByteScript}
 use Rattle.drv_chains.specs.declared.members.Member.{Member}
 use Rattle.drv_chains.specs.Chains.{stands_in}
 use Rattle.drv_members.specs.Members.{is_linked}
-use Rattle.hc_core.specs.declared.controller.ControllerRow.{ControllerRow}
-use Rattle.hc_core.specs.declared.controller.ControllerRow.TheVariants as rows
 use Rattle.hc_core.specs.declared.controller.MicroframePart.TheVariants.{Periodic}
 use Rattle.mem_runs.specs.Book.{slot_of}
 use Rattle.drv_periodic_table.specs.declared.content.Removed.TheVariants as removed
@@ -31,35 +28,18 @@ use Rattle.claims_driver.specs.LentRuns.{IsLent}
 use Rattle.claims_driver.specs.DueMembers.{framed_to}
 use Rattle.law_frames.specs.Met.{Kind}
 use Rattle.law_descriptors.specs.Meeting.{standing, met}
-use Rattle.claims_driver.specs.Unlinked.{led, IsRemovedAt}
+use Rattle.claims_driver.specs.Unlinked.{led}
+use Rattle.law_descriptors.specs.Removed.{IsRemovedAt}
 use Rattle.law_descriptors.specs.Recent.{AreRecent}
-use Rattle.bus_wire.specs.Bus.{Fixed}
-use Rattle.bus_world.specs.World.{World, controller_row}
-use Rattle.bus_world.specs.Opening.{opening_world}
+use Rattle.bus_world.specs.World.{World}
 use Rattle.bus_world.specs.Budgets.{moment}
 use Rattle.law_world_memory.specs.Mixed.{Standing, IsMixedAt}
 use Rattle.law_world_memory.specs.PlacedLaws.{FitsMixed}
 use Rattle.law_world_visits.specs.Ranks.{name_of}
 use Rattle.claims_world.specs.Visits.{begins}
+pub use Rattle.claims_world.specs.Visits.{began_at, began_by, began}
 use Rattle.law_world_visits.specs.Visited.{link_ahead}
 use Rattle.law_world_visits.specs.OneDescriptor.{HasOneActive, IsActiveDescriptor, IsMixedOnce}
-use Rattle.claims_world.specs.Carried.{carried}
-
--- ---- the world as it began
-
-abbrev pub began_at : ControllerRow → World → World → World
-began_at rows.Begin w b = w
-began_at rows.Idle w b = b
-began_at rows.Frame w b = b
-began_at rows.Enter w b = b
-began_at rows.Go w b = b
-began_at rows.End w b = b
-
-abbrev pub began_by : Fixed → World → World → World
-began_by fixed w b = began_at (controller_row w) w b
-
-abbrev pub began : Script → ℕ → World
-began s k = carried began_by s (opening_world s) k
 
 -- ---- to what the walk goes on
 

@@ -43,6 +43,7 @@ use Rattle.claims_driver.specs.Owners.{is_descriptor}
 use Rattle.law_frames.specs.Met.{Kind, AQueue}
 use Rattle.law_descriptors.specs.Meeting.{met}
 use Rattle.law_budgets.specs.visit_prices.Spent.{IsHeadOf, placed_as, IsAmong}
+use Rattle.claims_world.specs.FrameHeads.{characteristics_in, capabilities_in}
 use Rattle.bus_world.specs.World.{World, driver_next, controller_next, commanded}
 use Rattle.bus_world.specs.Opening.{opening_world}
 use Rattle.bus_world.specs.Budgets.{moment}
@@ -115,6 +116,9 @@ pub record HaveFields (first second : ℕ) (x : EpDesc) (p : Placement) : Type 0
   pub longest : bits 26 16 first ≡ x.max
   pub multi : max 1 (bits 31 30 second) ≡ x.multi
   pub smask : bits 7 0 second ≡ p.smask
+  pub cmask : bits 15 8 second ≡ p.cmask
+  pub characteristics : first ≡ characteristics_in x
+  pub capabilities : second ≡ capabilities_in x p
 
 abbrev pub HeadsHaveFields : DriverContent → Mem → Type 0
 HeadsHaveFields d m =

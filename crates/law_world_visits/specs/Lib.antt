@@ -1,5 +1,6 @@
 pub mod Ranks
 pub mod Visited
+pub mod Coverage
 pub mod VisitLaws
 pub mod Splices
 pub mod DriverVisitLaws

@@ -1,17 +1,12 @@
 -- The order in which links lead on from those that the walk of the frames may meet (EHCI 1.0, 3.1, 3.3.1, 3.4.1, 3.6.1, 4.6 and 4.7): a height is given to each, and
 -- each link leads down. It is told of the words of memory alone, so that it is told also while a member is linked or unlinked, and of those that were unlinked in this
 -- microframe, to which the walk may still come.
---     name_of link            the structure to which a link leads, if any
---     next_of m n             .. where the link is that of the structure at byte address n
 --     height_to height o      the height of what a link leads to; the end lies below all
 --     IsRanked m d kept height who
 --                             those that are `kept` are closed under their links, and have each that stands; the link of each leads to a lower one, which stands in
 --                             each frame in which `who` stands there; and while a member is linked, each whose link leads where the member's does lies above it
 use Rattle.std.specs.Prelude.{◌≡◌, ◌≢◌, ℕ, ◌<◌, ◌≤◌, Bool, true, false, Option, Some, None}
-use Rattle.word_mem.specs.Memory.{Mem, word_at}
-use Rattle.link_words.specs.declared.kinds.Link.{Link}
-use Rattle.link_words.specs.declared.kinds.Link.TheVariants as links
-use Rattle.link_words.specs.Links.{link_read}
+use Rattle.word_mem.specs.Memory.{Mem}
 use Rattle.drv_chains.specs.declared.members.Member.{Member}
 use Rattle.drv_chains.specs.Chains.{stands_in}
 use Rattle.drv_members.specs.Members.{is_linked}
@@ -21,19 +16,9 @@ use Rattle.law_frames.specs.Met.{Kind}
 use Rattle.law_descriptors.specs.Meeting.{standing}
 use Rattle.claims_driver.specs.Unlinked.{led}
 use Rattle.claims_world.specs.Visits.{begins}
+pub use Rattle.claims_world.specs.Visits.{name_of, next_of}
 
 -- ---- where a link leads
-
-abbrev pub name_of : Link → Option ℕ
-name_of links.End = None
-name_of (links.Itd a) = Some a
-name_of (links.Qh a) = Some a
-name_of (links.Sitd a) = Some a
-name_of (links.Fstn a) = Some a
-
--- the link of a structure is its first word
-abbrev pub next_of : Mem → ℕ → Option ℕ
-next_of m n = name_of (link_read (word_at m n))
 
 abbrev pub height_to : (ℕ → ℕ) → Option ℕ → ℕ
 height_to height None = 0

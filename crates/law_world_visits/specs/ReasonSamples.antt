@@ -3,17 +3,20 @@
 --     empty_at holds k         its world after k of them: the first is the Begin of microframe 1
 --     visiting q index left    the walk of the frames has a copy of this queue head in hand, in the microframe of FRINDEX, with this time left
 --     HasReason ..             it has a reason to be passed
-use Rattle.std.specs.Prelude.{ℕ, None, List, [], ◌∷◌}
+--     HasReasonInRing q        so has this queue head of the ring
+--     HasSplitReason ..        so has a siTD of an IN, which is in Do-Complete where `waiting` is true
+use Rattle.std.specs.Prelude.{ℕ, Bool, None, List, [], ◌∷◌}
 use Rattle.script_types.specs.declared.scripts.Event.TheVariants as events
 use Rattle.script_types.specs.declared.scripts.Line.TheVariants as lines
 use Rattle.script_types.specs.declared.scripts.Script.{Script}
 use Rattle.qh_qtd.specs.declared.queue_head.Qh.{Qh}
+use Rattle.async_walk.specs.Samples.{in_hand}
 use Rattle.periodic_walk.specs.declared.state.Hand.TheVariants as hands
 use Rattle.periodic_walk.specs.Place.{FramePlace}
-use Rattle.periodic_walk.specs.Samples.{at_hand, queue}
+use Rattle.periodic_walk.specs.Samples.{at_hand, queue, held_sitd}
 use Rattle.bus_world.specs.World.{World}
 use Rattle.bus_world.specs.Budgets.{moment}
-use Rattle.claims_world.specs.Visits.{QueueHasNothing}
+use Rattle.claims_world.specs.Visits.{RingHasNothing, QueueHasNothing, SitdHasNothing}
 
 abbrev pub empty_script : List (ℕ × ℕ) → Script
 empty_script holds = record {
@@ -40,3 +43,9 @@ visiting q index left = at_hand (hands.Queue (queue q 0 None)) index left
 
 abbrev pub HasReason : Qh → ℕ → ℕ → Type 0
 HasReason q index left = QueueHasNothing (visiting q index left) (queue q 0 None)
+
+abbrev pub HasReasonInRing : Qh → Type 0
+HasReasonInRing q = RingHasNothing (in_hand q 125000000) (record { at = 0x1040; queue_head = q; settled = None })
+
+abbrev pub HasSplitReason : Bool → ℕ → ℕ → Type 0
+HasSplitReason waiting index left = SitdHasNothing (at_hand (hands.Sitd (held_sitd waiting None)) index left) (held_sitd waiting None)

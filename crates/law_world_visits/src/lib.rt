@@ -3,6 +3,7 @@
 //!
 //! - `belonging`, `itds`: To whom belongs what the walk of the frames may meet: to endpoints whose placements are in the plan, with their fields in memory.
 //! - `descriptors`, `active_descriptors`: Of an isochronous endpoint and a frame at most one descriptor has something active; and such a one stands in its frame alone.
+//! - `coverage`: It leaves out none that was linked in its frame as the microframe began, and is linked there still.
 //! - `driver_visits`, `splices`: So they do at each event and command of the driver: a store of the frame list puts a member between two others, or takes one out.
 //! - `goes_ahead`: In a microframe the walk goes on only to such descriptors with something active as were active when it began.
 //! - `in_frames`: Each queue head is visited in the frames of its endpoint's placement.
@@ -16,6 +17,7 @@
 
 pub mod active_descriptors;
 pub mod belonging;
+pub mod coverage;
 pub mod descriptors;
 pub mod driver_visits;
 pub mod goes_ahead;

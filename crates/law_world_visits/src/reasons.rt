@@ -21,9 +21,12 @@ pub fn an_end_by_time_keeps_the_place_of_the_ring()
     ensures { TextsKeepPlaceOfRing }
 {}
 
-/// In the frames a queue head in hand is passed only where it is halted, this microframe isn't in its S-mask or C-mask, the price of its transaction passes the time left, its queue
-/// ends, or the qTD that comes next isn't active. In a mixed world each event at one that isn't settled is that, its transaction, a qTD that is taken, or the write-back of a miss,
-/// and never the fault. So it is at each moment of each script that a text spells.
+/// In the frames an iTD in hand has its transaction, unless its slot isn't active or the price passes the time left, and a siTD has its
+/// own, unless it isn't active, this microframe isn't one of its mask, the price passes the time left, or a microframe of it was missed. A
+/// queue head in hand is passed only where it is halted, this microframe isn't in its S-mask or C-mask, the price of its transaction passes
+/// the time left, its queue ends, or the qTD that comes next isn't active. In a mixed world each event at one that isn't settled is that,
+/// its transaction, a qTD that is taken, or the write-back of a miss, and never the fault. So it is at each moment of each script that a
+/// text spells.
 pub fn queue_heads_of_frames_are_passed_for_a_reason()
     ensures world { WorldsPassInFrames }
     ensures mixed { MixedVisitsInFrames }

@@ -88,9 +88,9 @@ fn three_interrupts(rt: HostRuntime) -> Result<(), Fail> {
     let first = start_of(EpKind::Interrupt, Pid::In, DataPart::All, 1, 64);
     let second = start_of(EpKind::Interrupt, Pid::In, DataPart::All, 2, 64);
     let third = start_of(EpKind::Interrupt, Pid::In, DataPart::All, 3, 8);
-    pipeline.start(&first, &[]);
-    pipeline.start(&second, &[]);
-    pipeline.start(&third, &[]);
+    pipeline.start(&first, &[], 0);
+    pipeline.start(&second, &[], 0);
+    pipeline.start(&third, &[], 0);
     assert_eq!(rt; pipeline.microframe(1, &mut port), 0);
     assert_eq!(rt;
         told(pipeline.complete(&Key::of(&third))),
@@ -121,7 +121,7 @@ fn isochronous_in(rt: HostRuntime) -> Result<(), Fail> {
     let mut pipeline = Pipeline::build(rt.alloc())?;
     let mut port = port_of(&[5; 300]);
     let ask = start_of(EpKind::Iso, Pid::In, DataPart::All, 1, 300);
-    pipeline.start(&ask, &[]);
+    pipeline.start(&ask, &[], 0);
     assert_eq!(rt; pipeline.microframe(1, &mut port), 0);
     assert_eq!(rt; pipeline.microframe(2, &mut port), 188);
     assert_eq!(rt;
@@ -148,14 +148,40 @@ fn isochronous_out(rt: HostRuntime) -> Result<(), Fail> {
     let mut port = port_of(&[]);
     let begin = start_of(EpKind::Iso, Pid::Out, DataPart::Begin, 1, 0);
     let end = start_of(EpKind::Iso, Pid::Out, DataPart::End, 1, 0);
-    pipeline.start(&begin, &[1; 188]);
+    pipeline.start(&begin, &[1; 188], 0);
     assert_eq!(rt; pipeline.microframe(1, &mut port), 0);
     assert_eq!(rt; pipeline.microframe(2, &mut port), 188);
-    pipeline.start(&end, &[2; 24]);
+    pipeline.start(&end, &[2; 24], 0);
     assert_eq!(rt; pipeline.microframe(3, &mut port), 0);
     assert_eq!(rt; port.asked, 0);
     assert_eq!(rt; pipeline.microframe(4, &mut port), 33);
     assert_eq!(rt; port.asked, 1);
     assert_eq!(rt; port.sent, 212);
+    Ok(())
+}
+
+// The same three interrupts, whose packets stuffed bits make longer by 6 bytes in 36: 89, 89 and 24 byte-times. 188 are worked at
+// the begin of microframe 2, and the last 14 at that of 3.
+#[test]
+fn stuffed_interrupts(rt: HostRuntime) -> Result<(), Fail> {
+    let mut pipeline = Pipeline::build(rt.alloc())?;
+    let mut port = port_of(&[7, 8]);
+    let first = start_of(EpKind::Interrupt, Pid::In, DataPart::All, 1, 64);
+    let second = start_of(EpKind::Interrupt, Pid::In, DataPart::All, 2, 64);
+    let third = start_of(EpKind::Interrupt, Pid::In, DataPart::All, 3, 8);
+    pipeline.start(&first, &[], 6);
+    pipeline.start(&second, &[], 6);
+    pipeline.start(&third, &[], 6);
+    assert_eq!(rt; pipeline.microframe(1, &mut port), 0);
+    assert_eq!(rt; pipeline.microframe(2, &mut port), 188);
+    assert_eq!(rt;
+        told(pipeline.complete(&Key::of(&third))),
+        Some((Pid::Nyet, 0))
+    );
+    assert_eq!(rt; pipeline.microframe(3, &mut port), 14);
+    assert_eq!(rt;
+        told(pipeline.complete(&Key::of(&third))),
+        Some((Pid::Data0, 2))
+    );
     Ok(())
 }

@@ -11,6 +11,7 @@ use Rattle.tt_bulk.specs.declared.rows.Stage.TheVariants as Stages
 pub record Taken : Type 0 where
   pub ask : Ask
   pub packet : List ℕ
+  pub stuff : ℕ  -- how many bytes in 36 stuffed bits make it longer (7.1.9)
 
 pub data BufferContent : Type 0 where
   Free : BufferContent

@@ -57,8 +57,9 @@ after_start Full _ w = w
 abbrev pub start_answer : Ask → TwoBuffers → Reply
 start_answer ask w = start_reply (start_row_of (key_of ask) w)
 
-abbrev pub started : Ask → List ℕ → TwoBuffers → TwoBuffers
-started ask bytes w = after_start (start_row_of (key_of ask) w) (record { ask = ask; packet = bytes }) w
+-- after a start of this number of stuffed bits
+abbrev pub started : Ask → List ℕ → ℕ → TwoBuffers → TwoBuffers
+started ask bytes stuff w = after_start (start_row_of (key_of ask) w) (record { ask = ask; packet = bytes; stuff = stuff }) w
 
 -- Complete-splits, in the same way.
 abbrev pub complete_row : Stand → Stand → CompleteRow

@@ -1,8 +1,9 @@
 -- What a translator's buffers do on the bus below in a microframe (USB 2.0, 11.17 and 11.18).
-use Rattle.std.specs.Prelude.{◌≡◌, ℕ, ◌+◌, ◌-◌, List, length, Option, Some, None, nat_le, if◌then◌else◌}
+use Rattle.std.specs.Prelude.{◌≡◌, ℕ, ◌+◌, ◌-◌, min, List, length, Option, Some, None, nat_le, if◌then◌else◌}
 use Rattle.usb_base.specs.declared.packets.Ask.{Ask}
 use Rattle.usb_base.specs.declared.packets.Reply.{Reply}
-use Rattle.hub_keys.specs.Asks.{classic_of, work_of}
+use Rattle.usb_base.specs.Limits.{byte_times_of_microframe}
+use Rattle.hub_keys.specs.Asks.{classic_of, work_of, stuffed}
 use Rattle.tt_bulk.specs.declared.answers.Answer.{Answer}
 use Rattle.tt_bulk.specs.declared.answers.Answer.TheVariants.{Stall}
 use Rattle.tt_bulk.specs.declared.rows.BufferIndex.{BufferIndex}
@@ -15,9 +16,9 @@ pub data Turn : Type 0 where
   Tries : Taken → Turn  -- it makes its transaction
   Rests : Turn
 
--- the byte-times of a packet's transaction
+-- the byte-times of a packet's transaction, with its stuffed bits: no more than a microframe has, so that each is tried
 abbrev pub due : Taken → ℕ
-due taken = work_of taken.ask (length taken.packet)
+due taken = min byte_times_of_microframe (stuffed (work_of taken.ask (length taken.packet)) taken.stuff)
 
 -- a Pending buffer tries where its byte-times fit the room
 abbrev pub turn_of : ℕ → BufferContent → Turn

@@ -46,7 +46,7 @@ control_in = ask_of Packets.In 0 Control
 
 -- a start taken, and what a buffer then has
 abbrev pub of_ask : Ask → Taken
-of_ask ask = record { ask = ask; packet = [] }
+of_ask ask = record { ask = ask; packet = []; stuff = 0 }
 
 abbrev pub two_bytes : List ℕ
 two_bytes = 1 ∷ 2 ∷ []

@@ -1,12 +1,13 @@
 ghost use Rattle.std.specs.Prelude.{◌≡◌, ◌≤◌, length};
 ghost use Rattle.tt_bulk.specs.Contents.{Free as FreeContent, Pending as PendingContent};
 ghost use Rattle.tt_bulk.specs.Rows.{stand_of, given_by, once_given, is_cleared_by, cleared_buffer};
-ghost use Rattle.tt_bulk.specs.Work.{TakesTurn, turn_of, room_after, heard_by, silent_after};
+ghost use Rattle.tt_bulk.specs.Work.{TakesTurn, due as due_of, turn_of, room_after, heard_by, silent_after};
 
 use crate::answers::{Answer, reply, result};
 use crate::rows::{Stage, Stand};
-use hub_keys::{Key, classic_ask, work};
+use hub_keys::{Key, classic_ask, stuffed, work};
 use std::marker::Model;
+use usb_base::limits::BYTE_TIMES_OF_MICROFRAME;
 use usb_base::{Ask, DevAddr, EpKind, EpNum, Packet, Pid, Reply, Speed, Split, Wire, reply_to};
 
 /// One of a translator's buffers. What it shows depends on its stage: a free buffer shows nothing of its fields.
@@ -16,6 +17,8 @@ pub struct Buffer {
     ask: Ask,
     /// The bytes that the start carried.
     packet: Packet,
+    /// How many bytes in 36 stuffed bits make it longer.
+    stuff: u8,
     stage: Stage,
     /// How many silences met the transaction so far, 0 to 2.
     silences: u8,
@@ -28,7 +31,7 @@ impl Model for Buffer {
 
     ghost Value = { BufferContent };
 
-    ghost view = { λ b. content_at b.stage (record { ask = b.ask; packet = b.packet }) b.silences b.answer };
+    ghost view = { λ b. content_at b.stage (record { ask = b.ask; packet = b.packet; stuff = b.stuff }) b.silences b.answer };
 }
 
 /// An ask of nobody, for a buffer that took no packet yet.
@@ -62,6 +65,15 @@ fn clears(key: &Key, other: &Key) -> bool
     }
 }
 
+/// The byte-times of a packet's transaction, with its stuffed bits: no more than a microframe has.
+fn due(ask: &Ask, packet: &[u8], stuff: u8) -> u32
+    requires { length packet.now ≤ 1024 }
+    ensures { result ≡ due_of (record { ask = ask.now; packet = packet.now; stuff = stuff }) }
+{
+    let times = work(ask, packet.len() as u16) as u64;
+    u64::min(BYTE_TIMES_OF_MICROFRAME as u64, stuffed(times, stuff)) as u32
+}
+
 impl Buffer {
     /// A free buffer.
     pub fn free() -> Buffer
@@ -70,6 +82,7 @@ impl Buffer {
         Buffer {
             ask: no_ask(),
             packet: Packet::empty(),
+            stuff: 0,
             stage: Stage::Free,
             silences: 0,
             answer: Answer::Stall,
@@ -90,13 +103,14 @@ impl Buffer {
         }
     }
 
-    /// Takes the packet of a start-split in the place of what it had.
-    pub fn take(&mut self, ask: &Ask, bytes: &[u8])
+    /// Takes the packet of a start-split, with its number of stuffed bits, in the place of what it had.
+    pub fn take(&mut self, ask: &Ask, bytes: &[u8], stuff: u8)
         requires { length bytes.now ≤ 1024 }
-        ensures { self.new ≡ PendingContent (record { ask = ask.now; packet = bytes.now }) 0 }
+        ensures { self.new ≡ PendingContent (record { ask = ask.now; packet = bytes.now; stuff = stuff }) 0 }
     {
         self.ask = *ask;
         self.packet = Packet::copy_of(bytes);
+        self.stuff = stuff;
         self.stage = Stage::Pending;
         self.silences = 0;
     }
@@ -133,7 +147,7 @@ impl Buffer {
         let Stage::Pending = self.stage else {
             return room;
         };
-        let due = work(&self.ask, self.packet.as_slice().len() as u16);
+        let due = due(&self.ask, self.packet.as_slice(), self.stuff);
         if room < due {
             return room;
         }

@@ -47,33 +47,34 @@ impl Buffers {
     }
 
     /// Takes a start-split of bulk or control kind for a full- or low-speed device, which carries at most 1,024 bytes,
-    /// and answers ACK where the packet is in a buffer then, else NAK (USB 2.0, 11.17.1). The start of a key whose
+    /// whose packet stuffed bits make longer by `stuff` bytes in 36, and answers ACK where the packet is in a buffer
+    /// then, else NAK (USB 2.0, 11.17.1). The start of a key whose
     /// buffer is Pending or Ready is a repeat, which changes nothing. Else the packet goes into the key's Old buffer, a
     /// Free one or an Old one of another key, in this order.
-    pub fn start(&mut self, ask: &Ask, bytes: &[u8]) -> Reply
+    pub fn start(&mut self, ask: &Ask, bytes: &[u8], stuff: u8) -> Reply
         requires { length bytes.now ≤ 1024 }
         ensures answer { result ≡ start_answer ask.now self.old }
-        ensures after { self.new ≡ started ask.now bytes.now self.old }
+        ensures after { self.new ≡ started ask.now bytes.now stuff self.old }
     {
         let key = Key::of(ask);
         match start_row(self.first.stand(&key), self.second.stand(&key)) {
             StartRow::Repeated => Reply::Hand(Pid::Ack),
             StartRow::Takes(place) => {
-                self.take(place, ask, bytes);
+                self.take(place, ask, bytes, stuff);
                 Reply::Hand(Pid::Ack)
             }
             StartRow::Full => Reply::Hand(Pid::Nak),
         }
     }
 
-    fn take(&mut self, place: BufferIndex, ask: &Ask, bytes: &[u8])
+    fn take(&mut self, place: BufferIndex, ask: &Ask, bytes: &[u8], stuff: u8)
         requires { length bytes.now ≤ 1024 }
-        ensures { self.new ≡ after_start (StartRow.Takes place) (record { ask = ask.now; packet = bytes.now }) self.old }
+        ensures { self.new ≡ after_start (StartRow.Takes place) (record { ask = ask.now; packet = bytes.now; stuff = stuff }) self.old }
     {
         self.latest = place;
         match place {
-            BufferIndex::First => self.first.take(ask, bytes),
-            BufferIndex::Second => self.second.take(ask, bytes),
+            BufferIndex::First => self.first.take(ask, bytes, stuff),
+            BufferIndex::Second => self.second.take(ask, bytes, stuff),
         }
     }
 

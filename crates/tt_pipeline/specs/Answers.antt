@@ -16,15 +16,16 @@ use Rattle.tt_pipeline.specs.declared.entry.Exchange.{Exchange}
 use Rattle.tt_pipeline.specs.declared.entry.Exchange.TheVariants.{Ahead, Made}
 use Rattle.tt_pipeline.specs.declared.rows.AnswerRow.{AnswerRow}
 use Rattle.tt_pipeline.specs.declared.rows.AnswerRow.TheVariants.{NotYet, Result, Unheard, More, Last}
-use Rattle.tt_pipeline.specs.Work.{called_for}
+use Rattle.tt_pipeline.specs.Work.{called_for, unstuffed_done}
 use Rattle.tt_pipeline.specs.Starting.{has_key, at_key}
 
 -- ---- one entry
 
--- an isochronous IN whose device sent n bytes: the byte-times done, less 9 for the packet round them, have brought as many
+-- an isochronous IN whose device sent n bytes: the byte-times done, without stuffed bits and less 9 for the packet round them, have
+-- brought as many
 abbrev pub bytes_row : ℕ → Entry → AnswerRow
 bytes_row n e =
-    if e.ended then NotYet else (if nat_le (n + 9) e.done then Last else (if nat_lt (e.delivered + 9) e.done then More else NotYet))
+    if e.ended then NotYet else (if nat_le (n + 9) (unstuffed_done e) then Last else (if nat_lt (e.delivered + 9) (unstuffed_done e) then More else NotYet))
 
 -- an isochronous transaction that was made: an OUT has no answer
 abbrev pub iso_row : Pid → Reply → Entry → AnswerRow
@@ -67,14 +68,14 @@ abbrev pub answer_at : AnswerRow → Entry → Reply
 answer_at NotYet e = Hand Packets.Nyet
 answer_at Result e = result_at e.exchange
 answer_at Unheard e = Hand Packets.Err
-answer_at More e = Bytes Packets.Mdata (take (e.done - 9 - e.delivered) (drop e.delivered (bytes_of e.exchange)))
+answer_at More e = Bytes Packets.Mdata (take (unstuffed_done e - 9 - e.delivered) (drop e.delivered (bytes_of e.exchange)))
 answer_at Last e = Bytes Packets.Data0 (drop e.delivered (bytes_of e.exchange))
 
 abbrev pub given_at : AnswerRow → Entry → Entry
 given_at NotYet e = e
 given_at Result e = e
 given_at Unheard e = e
-given_at More e = record e { delivered = e.done - 9 }
+given_at More e = record e { delivered = unstuffed_done e - 9 }
 given_at Last e = record e { ended = true }
 
 -- the answer of an entry, and the entry after it: bytes once delivered aren't given again

@@ -1,6 +1,6 @@
 -- What a start-split makes of the pipeline (USB 2.0, 11.18 and 11.21).
 --     start_row ask n es      the row of a start with n bytes
---     started ask bytes es    the entries after it
+--     started ask bytes p es  the entries after it; stuffed bits make its bytes longer by p in 36
 use Rattle.std.specs.Prelude.{ℕ, ◌+◌, Bool, ◌||◌, nat_le, nat_lt, if◌then◌else◌, Option, Some, None, List, [], ◌∷◌, ◌++◌, length}
 use Rattle.std.specs.List.{find, list_any}
 use Rattle.usb_base.specs.declared.packets.Ask.{Ask}
@@ -57,10 +57,10 @@ abbrev pub start_row : Ask → ℕ → List Entry → StartRow
 start_row ask n es = row_of_part (asked_part ask) (key_of ask) n es
 
 -- a new entry stands last in the order of arrival
-abbrev pub after_start : StartRow → Ask → List ℕ → List Entry → List Entry
-after_start Enters ask bytes es = without (key_of ask) es ++ fresh ask bytes ∷ []
-after_start Joins ask bytes es = at_key (key_of ask) (joined ask bytes) es
-after_start Forgotten ask bytes es = es
+abbrev pub after_start : StartRow → Ask → List ℕ → ℕ → List Entry → List Entry
+after_start Enters ask bytes stuff es = without (key_of ask) es ++ fresh ask bytes stuff ∷ []
+after_start Joins ask bytes stuff es = at_key (key_of ask) (joined ask bytes) es
+after_start Forgotten ask bytes stuff es = es
 
-abbrev pub started : Ask → List ℕ → List Entry → List Entry
-started ask bytes es = after_start (start_row ask (length bytes) es) ask bytes es
+abbrev pub started : Ask → List ℕ → ℕ → List Entry → List Entry
+started ask bytes stuff es = after_start (start_row ask (length bytes) es) ask bytes stuff es

@@ -1,9 +1,10 @@
 -- The entries of the pipeline and the work on them (USB 2.0, 11.18).
 --     Entry                   a periodic transaction that start-splits of this frame called for
---     called_for e            the byte-times that the starts of e call for, those of the last two microframes apart
+--     called_for e            the byte-times that the starts of e call for, those of the last two microframes apart, with the stuffed bits
+--     unstuffed_done e        what the byte-times that were worked come to without stuffed bits
 --     used room e             the byte-times that e takes of this room
 --     is_due e                the classic transaction of e is made now
-use Rattle.std.specs.Prelude.{◌≡◌, ℕ, ◌+◌, ◌-◌, ◌*◌, min, Bool, true, false, ◌&&◌, nat_le, nat_lt, if◌then◌else◌, List, [], ◌++◌, length, take}
+use Rattle.std.specs.Prelude.{◌≡◌, ℕ, ◌+◌, ◌-◌, ◌*◌, ◌/◌, min, Bool, true, false, ◌&&◌, nat_le, nat_lt, if◌then◌else◌, List, [], ◌++◌, length, take}
 use Rattle.usb_base.specs.declared.packets.Ask.{Ask}
 use Rattle.usb_base.specs.declared.packets.EpKind.{EpKind}
 use Rattle.usb_base.specs.declared.packets.EpKind.TheVariants.{Iso}
@@ -15,7 +16,7 @@ use Rattle.usb_base.specs.declared.packets.Reply.{Reply}
 use Rattle.usb_base.specs.declared.packets.Split.{Split}
 use Rattle.usb_base.specs.declared.packets.Split.TheVariants.{Start}
 use Rattle.usb_base.specs.Limits.{byte_times_of_microframe}
-use Rattle.hub_keys.specs.Asks.{classic_of, work_of}
+use Rattle.hub_keys.specs.Asks.{classic_of, work_of, stuffed}
 use Rattle.hub_keys.specs.Keys.{key_of}
 use Rattle.tt_pipeline.specs.declared.entry.Brought.{Brought}
 use Rattle.tt_pipeline.specs.declared.entry.Entry.{Entry}
@@ -60,9 +61,9 @@ brought_by Begin n b = with_part n b
 brought_by Middle n b = with_part n b
 brought_by End n b = with_last n b
 
--- the entry that a start makes
-abbrev pub fresh : Ask → List ℕ → Entry
-fresh ask bytes = record {
+-- the entry that a start makes, whose bytes stuffed bits make longer by this number in 36 (7.1.9)
+abbrev pub fresh : Ask → List ℕ → ℕ → Entry
+fresh ask bytes stuff = record {
   key = key_of ask;
   ask = ask;
   came = brought_by (asked_part ask) (length bytes) nothing_brought;
@@ -72,6 +73,7 @@ fresh ask bytes = record {
   exchange = Ahead bytes;
   delivered = 0;
   ended = false;
+  stuff = stuff;
 }
 
 -- bytes join those that aren't sent yet, as far as a packet of 1,024 bytes goes
@@ -97,8 +99,16 @@ aged e = record e { heard = e.before; before = e.came }
 abbrev pub called : Ask → Brought → ℕ
 called ask b = if b.whole then work_of ask b.bytes else byte_times_of_microframe * b.parts
 
+-- the byte-times that an entry calls for, but for its stuffed bits
+abbrev pub called_unstuffed : Entry → ℕ
+called_unstuffed e = called e.ask e.heard
+
 abbrev pub called_for : Entry → ℕ
-called_for e = called e.ask e.heard
+called_for e = stuffed (called_unstuffed e) e.stuff
+
+-- rounded down; nothing where nothing is called for
+abbrev pub unstuffed_done : Entry → ℕ
+unstuffed_done e = e.done * called_unstuffed e / called_for e
 
 -- the byte-times that an entry takes of the room that is left in the microframe
 abbrev pub used : ℕ → Entry → ℕ

@@ -37,9 +37,13 @@ iso_in n limit = start_of Iso In All n limit
 abbrev pub iso_out : DataPart → ℕ → Ask
 iso_out part n = start_of Iso Out part n 0
 
--- two interrupts of 64 bytes and one of 8
+-- two interrupts of 64 bytes and one of 8, with this number of stuffed bits
+abbrev pub three_stuffed : ℕ → List Entry
+three_stuffed stuff = started (interrupt_in 3 8) [] stuff (started (interrupt_in 2 64) [] stuff (started (interrupt_in 1 64) [] stuff []))
+
+-- and with none
 abbrev pub three : List Entry
-three = started (interrupt_in 3 8) [] (started (interrupt_in 2 64) [] (started (interrupt_in 1 64) [] []))
+three = three_stuffed 0
 
 -- after the work of one microframe in which every device that is asked answers this
 abbrev pub after_one : Reply → List Entry → List Entry
@@ -52,5 +56,5 @@ after_more (suc n) reply es = after_one reply (after_more n reply es)
 
 -- the three parts of an isochronous OUT of 400 bytes came, one in each of three microframes
 abbrev pub out_in_parts : List Entry
-out_in_parts = started (iso_out End 1) (replicate 24 3) (after_one Silent (started (iso_out Middle 1) (replicate 188 2)
-    (after_one Silent (started (iso_out Begin 1) (replicate 188 1) []))))
+out_in_parts = started (iso_out End 1) (replicate 24 3) 0 (after_one Silent (started (iso_out Middle 1) (replicate 188 2) 0
+    (after_one Silent (started (iso_out Begin 1) (replicate 188 1) 0 []))))

@@ -1,12 +1,12 @@
-ghost use Rattle.std.specs.Prelude.{◌≡◌, ℕ, ◌+◌, ◌-◌, ◌<◌, ◌≤◌, List, [], length, take, drop};
+ghost use Rattle.std.specs.Prelude.{◌≡◌, ℕ, ◌+◌, ◌-◌, ◌*◌, ◌/◌, ◌^◌, ◌<◌, ◌≤◌, List, [], length, take, drop};
 ghost use Rattle.usb_base.specs.declared.packets.Reply.{Reply as Answer};
-ghost use Rattle.tt_pipeline.specs.Work.{aged, called, called_for, asked_part, brought_by, nothing_brought, fresh, joined, used, progressed, is_due, sent_of, Asks, answered, Turn};
+ghost use Rattle.tt_pipeline.specs.Work.{aged, called, called_unstuffed, called_for, unstuffed_done, asked_part, brought_by, nothing_brought, fresh, joined, used, progressed, is_due, sent_of, Asks, answered, Turn};
 ghost use Rattle.tt_pipeline.specs.Working.{used_at};
 ghost use Rattle.tt_pipeline.specs.Answers.{answer_row, bytes_row, result_of, result_at, answer_at, given_at, answer_of, given, bytes_of};
 
 use crate::out_data::OutData;
 use crate::rows::AnswerRow;
-use hub_keys::{Key, classic_ask, work};
+use hub_keys::{Key, classic_ask, stuffed, work};
 use usb_base::limits::BYTE_TIMES_OF_MICROFRAME;
 use usb_base::{Ask, DataPart, EpKind, Packet, Pid, Reply, Split, Wire, reply_to};
 
@@ -51,6 +51,8 @@ pub struct Entry {
     pub delivered: u64,
     /// Whether its last bytes were taken.
     pub ended: bool,
+    /// How many bytes in 36 stuffed bits make its packet longer (USB 2.0, 7.1.9).
+    pub stuff: u8,
 }
 
 /// The part that a start carries: only an isochronous OUT comes in parts.
@@ -80,6 +82,15 @@ fn window(bytes: &[u8], first: u64, end: u64) -> &[u8]
     let rest = from(bytes, first);
     let count = u64::min(end.saturating_sub(first), rest.len() as u64);
     &rest[..count as usize]
+}
+
+/// Of `done` in `whole` the share that `part` is of it, rounded down.
+fn share(done: u64, part: u64, whole: u64) -> u64
+    requires part { part ≤ whole }
+    requires some { 0 < whole }
+    ensures { result ≡ done * part / whole }
+{
+    (done as u128 * part as u128 / whole as u128) as u64
 }
 
 /// The reply that a complete-split gets for what was heard: a silence is told as ERR.
@@ -119,7 +130,8 @@ impl Brought {
 
     /// The byte-times that starts with this ask call for.
     fn called(&self, ask: &Ask) -> u64
-        ensures { result ≡ called ask.now self.now }
+        ensures value { result ≡ called ask.now self.now }
+        ensures bound { result < 2 ^ 40 }
     {
         if self.whole {
             work(ask, self.bytes) as u64
@@ -130,10 +142,10 @@ impl Brought {
 }
 
 impl Entry {
-    /// The entry that a start makes.
-    pub(crate) fn new(ask: &Ask, bytes: &[u8]) -> Entry
+    /// The entry that a start makes, whose bytes stuffed bits make longer by `stuff` in 36.
+    pub(crate) fn new(ask: &Ask, bytes: &[u8], stuff: u8) -> Entry
         requires { length bytes.now ≤ 1024 }
-        ensures { result ≡ fresh ask.now bytes.now }
+        ensures { result ≡ fresh ask.now bytes.now stuff }
     {
         let mut came = Brought::nothing();
         came.add(part(ask), bytes.len() as u16);
@@ -149,6 +161,7 @@ impl Entry {
             exchange: Exchange::Ahead(sent),
             delivered: 0,
             ended: false,
+            stuff,
         }
     }
 
@@ -163,11 +176,23 @@ impl Entry {
         }
     }
 
-    /// The byte-times that its starts call for, those of the last two microframes apart.
+    /// The byte-times that its starts call for, those of the last two microframes apart, with the stuffed bits.
     fn called(&self) -> u64
-        ensures { result ≡ called_for self.now }
+        ensures value { result ≡ called_for self.now }
+        ensures least { called_unstuffed self.now ≤ result }
     {
-        self.heard.called(&self.ask)
+        stuffed(self.heard.called(&self.ask), self.stuff)
+    }
+
+    /// What the byte-times that were worked come to without stuffed bits.
+    fn unstuffed_done(&self) -> u64
+        ensures { result ≡ unstuffed_done self.now }
+    {
+        let called = self.called();
+        if called == 0 {
+            return 0;
+        }
+        share(self.done, self.heard.called(&self.ask), called)
     }
 
     /// What came becomes older by a microframe.
@@ -269,10 +294,11 @@ impl Entry {
         if self.ended {
             return AnswerRow::NotYet;
         }
-        if bytes + 9 <= self.done {
+        let there = self.unstuffed_done();
+        if bytes + 9 <= there {
             return AnswerRow::Last;
         }
-        if self.delivered < self.done.saturating_sub(9) {
+        if self.delivered < there.saturating_sub(9) {
             return AnswerRow::More;
         }
         AnswerRow::NotYet
@@ -316,7 +342,7 @@ impl Entry {
         ensures answer { result ≡ answer_at AnswerRow.More self.old }
         ensures after { self.new ≡ given_at AnswerRow.More self.old }
     {
-        let there = self.done.saturating_sub(9);
+        let there = self.unstuffed_done().saturating_sub(9);
         let new = Packet::copy_of(window(self.bytes(), self.delivered, there));
         self.delivered = there;
         Reply::Bytes(Pid::Mdata, new)

@@ -44,18 +44,19 @@ impl Pipeline {
         Ok(Pipeline { entries })
     }
 
-    /// Takes an interrupt or isochronous start-split with the bytes that it brings (none for an IN).
+    /// Takes an interrupt or isochronous start-split with the bytes that it brings (none for an IN); stuffed bits make
+    /// its transaction longer by `stuff` bytes in 36.
     ///
     /// It makes an entry, in the place of one of its key; a part Middle or End of an isochronous OUT joins the entry
     /// of its key. It is forgotten exactly where its key has no entry and 256 are there, and as a later part without
     /// an entry, or one that would bring its entry past 1,024 bytes.
-    pub fn start(&mut self, ask: &Ask, bytes: &[u8])
+    pub fn start(&mut self, ask: &Ask, bytes: &[u8], stuff: u8)
         requires { length bytes.now ≤ 1024 }
-        ensures { self.new ≡ started ask.now bytes.now self.old }
+        ensures { self.new ≡ started ask.now bytes.now stuff self.old }
     {
         let key = Key::of(ask);
         match self.start_row(part(ask), &key, bytes.len()) {
-            StartRow::Enters => self.enter(&key, ask, bytes),
+            StartRow::Enters => self.enter(&key, ask, bytes, stuff),
             StartRow::Joins => self.join(&key, ask, bytes),
             StartRow::Forgotten => {}
         }
@@ -164,13 +165,13 @@ impl Pipeline {
         }
     }
 
-    fn enter(&mut self, key: &Key, ask: &Ask, bytes: &[u8])
+    fn enter(&mut self, key: &Key, ask: &Ask, bytes: &[u8], stuff: u8)
         requires room { first_row key.now self.old ≡ StartRow.Enters }
         requires size { length bytes.now ≤ 1024 }
-        ensures { self.new ≡ without key.now self.old ++ fresh ask.now bytes.now ∷ [] }
+        ensures { self.new ≡ without key.now self.old ++ fresh ask.now bytes.now stuff ∷ [] }
     {
         self.take_out(key);
-        self.entries.push_reserved(Entry::new(ask, bytes));
+        self.entries.push_reserved(Entry::new(ask, bytes, stuff));
     }
 
     fn join(&mut self, key: &Key, ask: &Ask, bytes: &[u8])

@@ -4,3 +4,4 @@ pub mod Cancelling
 pub mod Requesting
 pub mod Due
 pub mod lemmas
+pub mod CancelLetGo

@@ -18,6 +18,7 @@ ghost use Rattle.law_world_streams.specs.FeedingSamples.{one_get};
 ghost use Rattle.law_world_streams.specs.Feeding.{streams_of, IsFeeding};
 ghost use Rattle.law_world_streams.specs.FeedingLaws.{is_still};
 ghost use Rattle.law_world_streams.specs.Moments.{IsAsynchronousScript, IsWholeThroughout};
+ghost use Rattle.claims_world.specs.Releases.{HeardAdvance};
 ghost use Rattle.claims_world.specs.Streams.{InStreamsAreRightThroughout};
 ghost use Rattle.worked_streams.specs.small_receiver.Samples.{desc, one_cancel, cancel_at, cancel_row};
 ghost use Rattle.worked_streams.specs.Due.{IsAtUnlinkIn};
@@ -60,4 +61,12 @@ pub fn what_is_due_for_a_cancel()
     ensures told { (cancel_at 34).driver.reports ≡ record { name = desc.name; what = kinds.Cancel; from = 0; len = 1 } ∷ [] }
     ensures its_byte { (cancel_at 34).driver.store ≡ 5 ∷ [] }
     ensures still { is_still (cancel_row 34) ≡ true }
+{}
+
+/// Its endpoint is given back by event 33, after it left the ring by event 23, the doorbell was rung by event 24, and Async Advance read by event 29; no endpoint is
+/// given back by event 2 after all these.
+#[tactic(auto, using(crate::proofs::CancelLetGo::heard, crate::proofs::CancelLetGo::none_so_early))]
+pub fn what_was_heard_before_the_release()
+    ensures heard { HeardAdvance one_cancel 0 33 }
+    ensures early { (e : ℕ) → HeardAdvance one_cancel e 2 → ⊥ }
 {}

@@ -1,2 +1,3 @@
+pub mod CoverSampled
 pub mod DueSampled
 pub mod Sampled

@@ -1,8 +1,9 @@
 -- The payments of the script with a keyboard and a disk, the worlds as its microframes began, and the qTD of its get.
 use Rattle.std.proofs.Common.{◌≡◌, ℕ, suc, ◌+◌, true, false, [], ◌∷◌, refl}
+use Rattle.std.specs.Prelude.{◌==◌}
 use Rattle.usb_base.specs.declared.commands.Cmd.TheVariants as commands
 use Rattle.usb_base.specs.declared.packets.EpKind.TheVariants.{Interrupt, Bulk}
-use Rattle.word_mem.specs.Memory.{filled}
+use Rattle.word_mem.specs.Memory.{word_at, filled}
 use Rattle.word_mem.specs.Views.{words_in, with_words_in}
 use Rattle.word_mem.specs.Free.{lowest_run}
 use Rattle.link_words.specs.Links.{link_word, qtd_link_word, link_read, qtd_link_read}
@@ -20,8 +21,9 @@ use Rattle.bus_wire.specs.Bus.{fixed_of}
 use Rattle.bus_world.specs.World.{controller_row}
 use Rattle.bus_world.specs.Opening.{opening_world}
 use Rattle.bus_world.specs.Orders.{ticks, orders_of}
+use Rattle.claims_world.specs.FrameHeads.{characteristics_in, capabilities_in}
 use Rattle.claims_world.specs.InTime.{is_late}
-use Rattle.law_world_memory.specs.Samples.{keyboard, keyboard_and_disk, after_the_open, typed_at}
+use Rattle.law_world_memory.specs.Samples.{keyboard, keyboard_and_disk, keyboard_place, after_the_open, typed_at}
 use Rattle.law_world_memory.specs.MicrophoneSamples.{one_microphone}
 use Rattle.claims_world.specs.Carried.{carried_from}
 use Rattle.law_world_visits.specs.Began.{began_by, began}
@@ -78,6 +80,20 @@ pub a_get :
     × ((typed_qtd 25 132).token.pid ≡ 1)
 unfolding ticks lowest_run filled with_words_in store_words lend_runs qh_words qtd_words token_word token_at link_word qtd_link_word predecessors frames word_after before_the behind_the link_read qtd_link_read qh_read qh_bad qh_at qtd_read qtd_bad qtd_at first_bad_bit words_in
 a_get = (refl, refl, refl, refl, refl)
+
+-- ---- words 1 and 2 of its endpoint's queue head
+
+pub a_head :
+    (word_at (typed_at 25).memory 4164 ≡ characteristics_in keyboard)
+    × (word_at (typed_at 25).memory 4168 ≡ capabilities_in keyboard keyboard_place)
+unfolding ticks lowest_run filled with_words_in store_words lend_runs qh_words qtd_words token_word token_at link_word qtd_link_word
+    predecessors frames word_after before_the behind_the link_read qtd_link_read qh_read qh_bad qh_at qtd_read qtd_bad qtd_at
+    first_bad_bit words_in
+a_head = (refl, refl)
+
+pub another_word : (capabilities_in keyboard keyboard_place == capabilities_in keyboard (record keyboard_place { smask = 0 })) ≡ false
+unfolding qh_words token_word link_word qtd_link_word
+another_word = refl
 
 -- ---- scripts of high-speed endpoints
 

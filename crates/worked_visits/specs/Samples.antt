@@ -8,7 +8,12 @@
 --     due_from             the world of the script with a microphone of `law_world_memory` once its descriptor is linked, but that FRINDEX is 15, and nine events of the controller
 --     due_at k             its world after k of them: the descriptor's frame begins
 --     due_payments k       what was paid in the microframe then
---     paid_at u r          what was paid after an event with a descriptor of a high-speed isochronous IN endpoint in hand in microframe u, which had this reply
+--     paid_at u            what was paid after an event with a descriptor of a high-speed isochronous IN endpoint in hand in microframe u
+--     with_hand hand u     a controller with this copy in hand in the microframe u of FRINDEX, in which nothing was used so far
+--     paid_with hand u n   what was paid after its event, where so much was paid in the visit before
+--     again_with hand u    the price of what it made again
+--     placed_keyboard      a keyboard below a hub, polled in each frame: a start-split in microframe 0, complete-splits in 2, 3 and 4
+--     placed_speaker       a full-speed isochronous OUT endpoint of packets of 400 bytes below a hub: parts in the microframes 1, 2 and 3
 --     sensor               a high-speed interrupt IN endpoint of packets of 64 bytes that is polled in each microframe
 --     sensor_and_disk      a script that opens it and the disk's bulk IN endpoint, asks it for 64 bytes and lets three microframes pass
 use Rattle.std.specs.Prelude.{ℕ, List, [], ◌∷◌, None, map}
@@ -16,20 +21,22 @@ use Rattle.usb_base.specs.declared.commands.Cmd.TheVariants as commands
 use Rattle.usb_base.specs.declared.endpoints.EpDesc.{EpDesc}
 use Rattle.usb_base.specs.declared.packets.EpKind.{EpKind}
 use Rattle.usb_base.specs.declared.packets.EpKind.TheVariants as kinds
-use Rattle.usb_base.specs.declared.packets.Reply.{Reply}
 use Rattle.usb_base.specs.declared.packets.Speed.TheVariants as speeds
 use Rattle.usb_base.specs.declared.packets.Way.TheVariants as ways
 use Rattle.script_types.specs.declared.devices.Item.TheVariants as items
 use Rattle.script_types.specs.declared.scripts.Event.TheVariants as events
 use Rattle.script_types.specs.declared.scripts.Line.TheVariants as lines
 use Rattle.script_types.specs.declared.scripts.Script.{Script}
+use Rattle.bandwidth.specs.declared.placements.Placed.{Placed}
+use Rattle.bandwidth.specs.Worked.{keyboard, speaker, placed}
+use Rattle.periodic_walk.specs.declared.state.Hand.{Hand}
 use Rattle.periodic_walk.specs.Place.{FramePlace}
+use Rattle.periodic_walk.specs.Samples.{at_hand}
 use Rattle.hc_core.specs.declared.controller.MicroframePart.TheVariants.{Periodic}
 use Rattle.hc_core.specs.declared.controller.ControllerRow.TheVariants as rows
-use Rattle.hc_core.specs.Controller.{Content, content, new_control, frame_place}
+use Rattle.hc_core.specs.Controller.{Content, content, new_control, frame_place, kind_of}
 use Rattle.qh_qtd.specs.declared.qtd.Qtd.{Qtd}
 use Rattle.drv_table.specs.DriverContent.{DriverContent}
-use Rattle.law_budgets.specs.visit_prices.Prices.{after}
 use Rattle.bus_wire.specs.Bus.{fixed_of}
 use Rattle.bus_world.specs.World.{World, controller_parts}
 use Rattle.bus_world.specs.Opening.{opening_world}
@@ -40,7 +47,7 @@ use Rattle.claims_world.specs.Carried.{carried_from}
 use Rattle.law_world_visits.specs.Began.{began_by}
 use Rattle.law_world_time.specs.ChargeSamples.{itd_at}
 use Rattle.law_world_time.specs.DataQueues.{qtd_in}
-use Rattle.claims_world.specs.WithinLoad.{payments_after}
+use Rattle.claims_world.specs.WithinLoad.{payments_after, repeats_after}
 use Rattle.law_world_time.specs.Payments.{payments_from}
 
 abbrev pub typed_payments : ℕ → List (ℕ × ℕ)
@@ -76,8 +83,23 @@ due_payments k = payments_from (fixed_of one_microphone) due_from [] k
 abbrev pub content_at : FramePlace → Content
 content_at p = content (record new_control { part = Periodic; frame = p.walk }) p.registers p.memory
 
-abbrev pub paid_at : ℕ → Reply → List (ℕ × ℕ)
-paid_at u r = payments_after rows.Frame (content_at (itd_at u)) (after (itd_at u) r).walk.left ((0x1000, 0) ∷ [])
+abbrev pub paid_at : ℕ → List (ℕ × ℕ)
+paid_at u = payments_after rows.Frame (kind_of rows.Frame (content_at (itd_at u))) (content_at (itd_at u)) ((0x1000, 0) ∷ [])
+
+abbrev pub with_hand : Hand → ℕ → Content
+with_hand hand u = content_at (at_hand hand u 125000000)
+
+abbrev pub paid_with : Hand → ℕ → ℕ → List (ℕ × ℕ)
+paid_with hand u paid = payments_after rows.Frame (kind_of rows.Frame (with_hand hand u)) (with_hand hand u) ((0x2000, paid) ∷ [])
+
+abbrev pub again_with : Hand → ℕ → ℕ
+again_with hand u = repeats_after rows.Frame (kind_of rows.Frame (with_hand hand u)) (with_hand hand u) 0
+
+abbrev pub placed_keyboard : Placed
+placed_keyboard = record { want = keyboard; placement = placed 8 0 0x01 0x1C }
+
+abbrev pub placed_speaker : Placed
+placed_speaker = record { want = record speaker { max = 400 }; placement = placed 8 0 0x0E 0 }
 
 abbrev pub sensor : EpDesc
 sensor = record { name = record { addr = 4; num = 1; way = ways.In }; speed = speeds.High; kind = kinds.Interrupt; max = 64; period = 1; multi = 1; hub = None; port = 0; tt = 0 }

@@ -1,6 +1,7 @@
 //! The rows.
-ghost use Rattle.std.specs.Prelude.{◌≡◌, ℕ, suc, ◌+◌, true, false, [], ◌∷◌, Some};
-ghost use Rattle.law_world_memory.specs.Samples.{keyboard_and_disk, typed_at};
+ghost use Rattle.std.specs.Prelude.{◌≡◌, ℕ, suc, ◌+◌, ◌==◌, true, false, [], ◌∷◌, Some};
+ghost use Rattle.word_mem.specs.Memory.{word_at};
+ghost use Rattle.law_world_memory.specs.Samples.{keyboard, keyboard_and_disk, keyboard_place, typed_at};
 ghost use Rattle.law_world_memory.specs.MicrophoneSamples.{one_microphone};
 ghost use Rattle.hc_core.specs.declared.controller.ControllerRow.TheVariants as rows;
 ghost use Rattle.hc_core.specs.declared.controller.MicroframePart.TheVariants.{Over};
@@ -8,17 +9,19 @@ ghost use Rattle.bus_wire.specs.Bus.{fixed_of};
 ghost use Rattle.bus_world.specs.World.{controller_row, controller_parts};
 ghost use Rattle.hc_core.specs.Controller.{frame_place};
 ghost use Rattle.law_budgets.specs.visit_prices.Prices.{after};
+ghost use Rattle.claims_world.specs.FrameHeads.{characteristics_in, capabilities_in};
 ghost use Rattle.claims_world.specs.InTime.{is_late};
 ghost use Rattle.law_world_visits.specs.Began.{began, IsAhead};
 ghost use Rattle.law_world_visits.specs.OneDescriptor.{IsActiveDescriptor};
 ghost use Rattle.law_world_visits.specs.Ranks.{name_of};
 ghost use Rattle.law_world_visits.specs.Visited.{link_ahead};
-ghost use Rattle.claims_world.specs.Visits.{is_held_now};
+ghost use Rattle.claims_world.specs.Visits.{IsInChain, HasVisited, IsPastFrames, is_held_now};
+ghost use Rattle.law_world_visits.specs.VisitSamples.{typed_visits};
 ghost use Rattle.claims_world.specs.WithinLoad.{payments, paid_by_all};
 ghost use Rattle.claims_world.specs.Scripts.{HighPeriodicsOnly};
 ghost use Rattle.usb_base.specs.declared.packets.EpKind.TheVariants.{Interrupt, Bulk};
 ghost use Rattle.usb_base.specs.declared.packets.Pid.TheVariants.{Data2};
-ghost use Rattle.usb_base.specs.declared.packets.Reply.TheVariants.{Bytes, Silent};
+ghost use Rattle.usb_base.specs.declared.packets.Reply.TheVariants.{Bytes};
 ghost use Rattle.bandwidth.specs.Sums.{load};
 ghost use Rattle.law_world_time.specs.ChargeSamples.{iso_in, itd_at};
 ghost use Rattle.worked_visits.specs.Samples.{typed_payments, typed_began, typed_place, typed_qtd, kinds_of, owners_of, firsts_of, due_at, due_payments, paid_at, sensor_and_disk};
@@ -33,9 +36,9 @@ pub fn a_keyboard_is_passed()
 /// Where the descriptor of an isochronous endpoint with up to three packets of 1,024 bytes a microframe is in hand, 20.6 microseconds are paid for a packet in the microframe of its
 /// placement, in which its load is 61.7 microseconds; and nothing in the next.
 pub fn a_descriptor_is_paid()
-    ensures own { paid_at 2 (Bytes Data2 []) ≡ (0x1000, 20551712) ∷ [] }
+    ensures own { paid_at 2 ≡ (0x1000, 20551712) ∷ [] }
     ensures its_load { load (iso_in ∷ []) 2 ≡ 61655136 }
-    ensures other { paid_at 3 Silent ≡ (0x1000, 0) ∷ [] }
+    ensures other { paid_at 3 ≡ (0x1000, 0) ∷ [] }
     ensures no_load { load (iso_in ∷ []) 3 ≡ 0 }
 {}
 
@@ -64,8 +67,13 @@ pub fn a_keyboard_is_in_time()
 pub fn a_descriptor_is_in_time()
     ensures before { is_late (itd_at 2) ≡ false }
     ensures left { (after (itd_at 2) (Bytes Data2 [])).walk.left ≡ 104448288 }
-    ensures rest { (after (itd_at 2) (Bytes Data2 [])).walk.left + paid_by_all (paid_at 2 (Bytes Data2 [])) ≡ 125000000 }
+    ensures rest { (after (itd_at 2) (Bytes Data2 [])).walk.left + paid_by_all (paid_at 2) ≡ 125000000 }
     ensures in_time { is_late (after (itd_at 2) (Bytes Data2 [])) ≡ false }
+{}
+
+/// Where nothing is taken of the time, what is left and what was paid are more than the whole.
+pub fn nothing_is_free()
+    ensures untaken { (itd_at 2).walk.left + paid_by_all (paid_at 2) ≡ 145551712 }
 {}
 
 /// Where the frame of a high-speed microphone's descriptor begins, which the script with one asked for, the walk goes on to the descriptor; it is fetched, its transaction isn't late, and
@@ -79,6 +87,18 @@ pub fn a_microphone_is_in_time()
     ensures paid { due_payments 3 ≡ (4160, 798623) ∷ [] }
     ensures left { (due_at 3).control.frame.left ≡ 124201377 }
     ensures rest { (due_at 3).control.frame.left + paid_by_all (due_payments 3) ≡ 125000000 }
+{}
+
+/// Where microframe 1 begins the keyboard's queue head is linked in frame 0, and not in frame 1; the walk of the frames isn't over then,
+/// and has visited nothing. Once it is over the queue head was visited.
+pub fn a_keyboard_is_not_left_out()
+    ensures linked { IsInChain (typed_at 25) 0 4160 }
+    ensures elsewhere { IsInChain (typed_at 25) 1 4160 → ⊥ }
+    ensures goes_on { IsPastFrames (typed_at 26) → ⊥ }
+    ensures none { HasVisited 4160 (typed_visits 26) → ⊥ }
+    ensures still { IsInChain (typed_at 30) 0 4160 }
+    ensures over { IsPastFrames (typed_at 30) }
+    ensures visited { HasVisited 4160 (typed_visits 30) }
 {}
 
 /// That descriptor, of endpoint 0 and for frame 2, is active, and the walk goes on to it.
@@ -98,6 +118,14 @@ pub fn a_microframe_has_its_begin()
     ensures second { (typed_began 42).registers.frame_index ≡ 1 }
     ensures second_part { (typed_began 42).control.part ≡ Over }
     ensures second_goes_on { (typed_at 42).registers.frame_index ≡ 2 }
+{}
+
+/// Its queue head stands in block 130, with the words of its description and of its placement; at a placement without a start-split the
+/// word of the masks would be another.
+pub fn a_keyboard_has_its_words()
+    ensures characteristics { word_at (typed_at 25).memory 4164 ≡ characteristics_in keyboard }
+    ensures capabilities { word_at (typed_at 25).memory 4168 ≡ capabilities_in keyboard keyboard_place }
+    ensures without { (capabilities_in keyboard keyboard_place == capabilities_in keyboard (record keyboard_place { smask = 0 })) ≡ false }
 {}
 
 /// The one transfer is that of the keyboard's interrupt endpoint; its qTD is in memory in block 132, active, and of an IN, whose PID code is 1.

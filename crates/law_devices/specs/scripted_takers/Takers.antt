@@ -35,7 +35,7 @@ taker_of_device addr ep (Some d) = if addr == d.address then taker_of_endpoint (
 abbrev pub taker_of_owner : Bus → ℕ → ℕ → Owner → Option Taker
 taker_of_owner b addr ep (Owners.High place) = taker_of_device addr ep (slice_get b.devices place)
 taker_of_owner b addr ep (Owners.Hub place) = None
-taker_of_owner b addr ep (Owners.Below place hub port) = None
+taker_of_owner b addr ep (Owners.Below place hub port stuff) = None
 
 abbrev pub taker_of_seat : Bus → ℕ → ℕ → Option Seat → Option Taker
 taker_of_seat b addr ep None = None

@@ -4,6 +4,6 @@ use Rattle.hub_class.proofs.laws.splits_leave_the_ports.Goals as goal
 
 pub returns : goal.returns
 returns c = record {
-  ports = λ ask out h. split_ports (split_row ask.split ask.kind) ask out h;
-  control = λ ask out h. split_control (split_row ask.split ask.kind) ask out h;
+  ports = λ ask out stuff h. split_ports (split_row ask.split ask.kind) ask out stuff h;
+  control = λ ask out stuff h. split_control (split_row ask.split ask.kind) ask out stuff h;
 }

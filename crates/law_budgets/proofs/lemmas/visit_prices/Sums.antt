@@ -48,6 +48,9 @@ active_cost true x u e is =
     omega (arith, same, cost_of (has x.placement.smask (u % 8)) x.want x.placement (u % 8) e refl)
 active_cost false x u e is = omega arith
 
+pub placed_cost : (x : Placed) (u : ℕ) → x.want.speed ≡ High → most_in x u * largest x.want ≤ cost_at u x
+placed_cost x u high = active_cost (is_active x.placement (u / 8)) x u high refl
+
 visit_most : (u : ℕ) (v : Visit) → IsVisit u v → total v.prices ≤ cost_at u v.of
 visit_most u v h =
     omega (
@@ -59,7 +62,7 @@ visit_most u v h =
 -- ---- different ones of a list
 
 -- without what has the id of x
-abbrev others : Placed → List Placed → List Placed
+abbrev pub others : Placed → List Placed → List Placed
 others x ys = filter (λ y. not (nat_eq y.want.id x.want.id)) ys
 
 others_less : (f : Placed → ℕ) (x : Placed) (ys : List Placed) → sum_by f (others x ys) ≤ sum_by f ys
@@ -77,7 +80,8 @@ dropped f true y ys zs n h = omega (arith, h, sum_by-cons f y zs)
 dropped f false y ys zs n h = omega (arith, h)
 
 -- what it adds, and what the others do
-taken_out : (f : Placed → ℕ) (x : Placed) (ys : List Placed) (i : ℕ) → slice_get ys i ≡ Some x → f x + sum_by f (others x ys) ≤ sum_by f ys
+pub taken_out : (f : Placed → ℕ) (x : Placed) (ys : List Placed) (i : ℕ) → slice_get ys i ≡ Some x
+    → f x + sum_by f (others x ys) ≤ sum_by f ys
 taken_out f x [] i at = absurd (cc)
 taken_out f x (y ∷ ys) zero at =
     let same : y ≡ x = cc in
@@ -93,7 +97,7 @@ there_again : (b : Bool) (y z : Placed) (zs : List Placed) (i : ℕ) → slice_g
 there_again true y z zs i at = record { place = suc i; there = at }
 there_again false y z zs i at = record { place = i; there = at }
 
-stays : (x z : Placed) (ys : List Placed) (i : ℕ) → z.want.id ≢ x.want.id → slice_get ys i ≡ Some z → IsAmong (others x ys) z
+pub stays : (x z : Placed) (ys : List Placed) (i : ℕ) → z.want.id ≢ x.want.id → slice_get ys i ≡ Some z → IsAmong (others x ys) z
 stays x z [] i apart at = absurd (cc)
 stays x z (y ∷ ys) zero apart at =
     let same : y ≡ z = cc in

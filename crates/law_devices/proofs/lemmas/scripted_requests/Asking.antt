@@ -28,7 +28,7 @@ use Rattle.bus_wire.specs.declared.who_heard.WhoHeard.TheVariants.{SentUnheard, 
 use Rattle.bus_wire.specs.WhoHeard.{asker_hears, left_by, packets_before}
 use Rattle.bus_wire.specs.Seats.{token_kind, place_for}
 use Rattle.bus_wire.specs.Asking.{losses_of, row_for, device_after, device_answer, put_at, changed_at}
-use Rattle.bus_wire.specs.Bus.{Bus, Wired, Fixed, hears, asked_at, asked_of, bus_row, changed_by, reply_at, reply_of, after_at, transact_after}
+use Rattle.bus_wire.specs.Bus.{Bus, Wired, Fixed, stuff_of, hears, asked_at, asked_of, bus_row, changed_by, reply_at, reply_of, after_at, transact_after}
 use Rattle.law_request.specs.Host.{Endpoint as Own}
 use Rattle.law_request.specs.Line.{answer_of, answered as own_answered, device_after as own_after}
 use Rattle.law_request.proofs.Scripts.{same_answer, same_left, same_acked}
@@ -59,15 +59,16 @@ who_place : (fixed : Fixed) (b : Bus) (split : Split) (o : Option ℕ) (e : Aske
 who_place fixed b split None e is = absurd cc
 who_place fixed b split (Some place) e is = who_seat b split place (slice_get fixed.seats place) e is
 
-no_translator : (o : Option ℕ) (n : ℕ) → option_map_or (λ (place : ℕ). Answerers.Translator place) o Answerers.Nobody ≡ Answerers.Device n → ⊥
-no_translator None n e = cc
-no_translator (Some k) n e = cc
+no_translator : (o : Option ℕ) (stuff n : ℕ)
+    → option_map_or (λ (place : ℕ). Answerers.Translator place stuff) o Answerers.Nobody ≡ Answerers.Device n → ⊥
+no_translator None stuff n e = cc
+no_translator (Some k) stuff n e = cc
 
 -- a device is asked by a plain ask alone
 plain_only : (b : Bus) (split : Split) (owner : Owner) (n : ℕ) → hears b split owner ≡ Answerers.Device n → split ≡ Plain
 plain_only b Plain owner n e = refl
-plain_only b (Start hub port part) owner n e = absurd (no_translator (position (λ h. h.address == hub) b.hubs) n e)
-plain_only b (Complete hub port) owner n e = absurd (no_translator (position (λ h. h.address == hub) b.hubs) n e)
+plain_only b (Start hub port part) owner n e = absurd (no_translator (position (λ h. h.address == hub) b.hubs) (stuff_of owner) n e)
+plain_only b (Complete hub port) owner n e = absurd (no_translator (position (λ h. h.address == hub) b.hubs) (stuff_of owner) n e)
 
 -- ---- another one stays as it is
 

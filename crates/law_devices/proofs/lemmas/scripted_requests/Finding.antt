@@ -113,7 +113,7 @@ module _ (w : Wired) (addr num place : ℕ) (s : Side) (found : place_for w.fixe
     at = device_found addr num (slice_get w.bus.devices n) s e;
   }
   owner_found seat (Owners.Hub n) there is e = absurd cc
-  owner_found seat (Owners.Below n hub port) there is e = absurd cc
+  owner_found seat (Owners.Below n hub port stuff) there is e = absurd cc
 
   seat_found : (o : Option Seat) → slice_get w.fixed.seats place ≡ o → control_of_seat w.bus addr num o ≡ Some s → HasControl w addr num s
   seat_found None there e = absurd cc

@@ -49,7 +49,8 @@ translator_answer_bytes (Some x) ask h = translator_bytes ask x h
 by_bytes : (b : Bus) (who : Answerer) (ask : Ask) (out : List ℕ) → IsByteBus b → IsByteReply (answer_by b who ask out)
 by_bytes b (answerers.Device place) ask out h = device_bytes (slice_get b.devices place) ask out (all_get IsByteDevice b.devices place h.devices)
 by_bytes b (answerers.Hub place) ask out h = hub_answer_bytes (slice_get b.hubs place) ask out
-by_bytes b (answerers.Translator place) ask out h = translator_answer_bytes (slice_get b.hubs place) ask (all_get IsByteHub b.hubs place h.hubs)
+by_bytes b (answerers.Translator place stuff) ask out h =
+    translator_answer_bytes (slice_get b.hubs place) ask (all_get IsByteHub b.hubs place h.hubs)
 by_bytes b answerers.Nobody ask out h = tt
 
 at_bytes : (fixed : Fixed) (b : Bus) (ask : Ask) (out : List ℕ) (e : Option Asked) → IsByteBus b → IsByteReply (reply_at fixed b ask out e)
@@ -71,9 +72,10 @@ hub_after_left rows.SentUnheard ask out x h = h
 hub_after_left rows.AckHeard ask out x h = hub_acked_left ask (hub_answered ask out x) (hub_left ask out x h)
 hub_after_left _ ask out x h = hub_left ask out x h
 
-translator_after_left : (row : WhoHeard) (ask : Ask) (out : List ℕ) (x : HubContent) → IsByteHub x → IsByteHub (translator_after row ask out x)
-translator_after_left rows.SentUnheard ask out x h = h
-translator_after_left _ ask out x h = translator_left ask out x h
+translator_after_left : (row : WhoHeard) (ask : Ask) (out : List ℕ) (stuff : ℕ) (x : HubContent) → IsByteHub x
+    → IsByteHub (translator_after row ask out stuff x)
+translator_after_left rows.SentUnheard ask out stuff x h = h
+translator_after_left _ ask out stuff x h = translator_left ask out stuff x h
 
 put_left : {X : Type 0} (P : X → Type 0) (x : Option X) (place : ℕ) (f : X → X) (xs : List X) → ((y : X) → P y → P (f y)) → AllByRecursion P xs → Holds P x → AllByRecursion P (put_at x place f xs)
 put_left P None place f xs g h k = h
@@ -87,8 +89,8 @@ changed_by_left row (answerers.Device place) ask out b h =
     record { devices = changed_left IsByteDevice place (device_after row ask out) b.devices (device_left row ask out) h.devices; hubs = h.hubs }
 changed_by_left row (answerers.Hub place) ask out b h =
     record { devices = h.devices; hubs = changed_left IsByteHub place (hub_after row ask out) b.hubs (hub_after_left row ask out) h.hubs }
-changed_by_left row (answerers.Translator place) ask out b h =
-    record { devices = h.devices; hubs = changed_left IsByteHub place (translator_after row ask out) b.hubs (translator_after_left row ask out) h.hubs }
+changed_by_left row (answerers.Translator place stuff) ask out b h =
+    record { devices = h.devices; hubs = changed_left IsByteHub place (translator_after row ask out stuff) b.hubs (translator_after_left row ask out stuff) h.hubs }
 changed_by_left row answerers.Nobody ask out b h = h
 
 at_left : (fixed : Fixed) (b : Bus) (ask : Ask) (out : List ℕ) (e : Option Asked) → IsByteBus b → IsByteBus (after_at fixed b ask out e)

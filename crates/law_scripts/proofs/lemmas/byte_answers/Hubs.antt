@@ -35,7 +35,7 @@ use Rattle.tt_pipeline.specs.declared.rows.StartRow.{StartRow}
 use Rattle.tt_pipeline.specs.declared.rows.StartRow.TheVariants as starts
 use Rattle.tt_pipeline.specs.Answers.{answer_row, result_of as heard_result, reply_bytes, bytes_of, result_at, answer_at, given_at, given, answer_from}
 use Rattle.tt_pipeline.specs.Starting.{has_key, with_first, without_first, start_row, after_start}
-use Rattle.tt_pipeline.specs.Work.{appended, joined, fresh, moved, is_due, sent_of, answered}
+use Rattle.tt_pipeline.specs.Work.{appended, joined, fresh, unstuffed_done, moved, is_due, sent_of, answered}
 use Rattle.tt_pipeline.specs.Working.{budget, used_at, kept, reply_at, wire_at, wire_turned, entries_after, wire_worked}
 use Rattle.hub_ports.specs.declared.port.Port.{Port}
 use Rattle.hub_ports.specs.declared.rows.HubRequest.{HubRequest}
@@ -146,10 +146,13 @@ appended_bytes : (bytes : List ℕ) (x : Exchange) → IsByteExchange x → IsBy
 appended_bytes bytes (Ahead sent) h = tt
 appended_bytes bytes (Made reply) h = h
 
-entry_started : (row : StartRow) (ask : Ask) (bytes : List ℕ) (es : List Entry) → AreByteEntries es → AreByteEntries (after_start row ask bytes es)
-entry_started starts.Enters ask bytes es h = all_append IsByteEntry _ (fresh ask bytes ∷ []) (first_dropped (has_key (key_of ask)) es h) (tt, tt)
-entry_started starts.Joins ask bytes es h = first_changed (has_key (key_of ask)) (joined ask bytes) es (λ e k. appended_bytes bytes e.exchange k) h
-entry_started starts.Forgotten ask bytes es h = h
+entry_started : (row : StartRow) (ask : Ask) (bytes : List ℕ) (stuff : ℕ) (es : List Entry) → AreByteEntries es
+    → AreByteEntries (after_start row ask bytes stuff es)
+entry_started starts.Enters ask bytes stuff es h =
+    all_append IsByteEntry _ (fresh ask bytes stuff ∷ []) (first_dropped (has_key (key_of ask)) es h) (tt, tt)
+entry_started starts.Joins ask bytes stuff es h =
+    first_changed (has_key (key_of ask)) (joined ask bytes) es (λ e k. appended_bytes bytes e.exchange k) h
+entry_started starts.Forgotten ask bytes stuff es h = h
 
 given_row_bytes : (row : AnswerRow) (e : Entry) → IsByteEntry e → IsByteEntry (given_at row e)
 given_row_bytes piped.NotYet e h = h
@@ -173,7 +176,8 @@ exchange_bytes (Made reply) h = data_bytes reply h
 
 answer_row_bytes : (row : AnswerRow) (e : Entry) → IsByteEntry e → IsByteReply (answer_at row e)
 answer_row_bytes piped.Result e h = result_at_bytes e.exchange h
-answer_row_bytes piped.More e h = all_take _ (e.done - 9 - e.delivered) (drop e.delivered (bytes_of e.exchange)) (all_drop _ e.delivered (bytes_of e.exchange) (exchange_bytes e.exchange h))
+answer_row_bytes piped.More e h =
+    all_take _ (unstuffed_done e - 9 - e.delivered) (drop e.delivered (bytes_of e.exchange)) (all_drop _ e.delivered (bytes_of e.exchange) (exchange_bytes e.exchange h))
 answer_row_bytes piped.Last e h = all_drop _ e.delivered (bytes_of e.exchange) (exchange_bytes e.exchange h)
 answer_row_bytes _ e h = tt
 
@@ -189,18 +193,23 @@ split_bytes BulkComplete ask x h = complete_bytes (complete_row_of (key_of ask) 
 split_bytes PeriodicComplete ask x h = from_bytes (find (has_key (key_of ask)) x.pipeline) (found IsByteEntry (has_key (key_of ask)) x.pipeline h.pipeline)
 split_bytes _ ask x h = tt
 
-split_left : (row : SplitRow) (ask : Ask) (out : List ℕ) (x : HubContent) → IsByteHub x → IsByteHub (after_split row ask out x)
-split_left BulkStart ask out x h = record { bulk = bulk_started (start_row_of (key_of ask) x.bulk) _ x.bulk h.bulk; pipeline = h.pipeline }
-split_left BulkComplete ask out x h = record { bulk = bulk_completed (complete_row_of (key_of ask) x.bulk) x.bulk h.bulk; pipeline = h.pipeline }
-split_left PeriodicStart ask out x h = record { bulk = h.bulk; pipeline = entry_started (start_row ask (length out) x.pipeline) ask out x.pipeline h.pipeline }
-split_left PeriodicComplete ask out x h = record { bulk = h.bulk; pipeline = first_changed (has_key (key_of ask)) given x.pipeline (λ e k. given_row_bytes (answer_row e) e k) h.pipeline }
-split_left NoSplit ask out x h = h
+split_left : (row : SplitRow) (ask : Ask) (out : List ℕ) (stuff : ℕ) (x : HubContent) → IsByteHub x
+    → IsByteHub (after_split row ask out stuff x)
+split_left BulkStart ask out stuff x h =
+    record { bulk = bulk_started (start_row_of (key_of ask) x.bulk) _ x.bulk h.bulk; pipeline = h.pipeline }
+split_left BulkComplete ask out stuff x h =
+    record { bulk = bulk_completed (complete_row_of (key_of ask) x.bulk) x.bulk h.bulk; pipeline = h.pipeline }
+split_left PeriodicStart ask out stuff x h =
+    record { bulk = h.bulk; pipeline = entry_started (start_row ask (length out) x.pipeline) ask out stuff x.pipeline h.pipeline }
+split_left PeriodicComplete ask out stuff x h =
+    record { bulk = h.bulk; pipeline = first_changed (has_key (key_of ask)) given x.pipeline (λ e k. given_row_bytes (answer_row e) e k) h.pipeline }
+split_left NoSplit ask out stuff x h = h
 
 pub translator_bytes : (ask : Ask) (x : HubContent) → IsByteHub x → IsByteReply (transact_reply ask x)
 translator_bytes ask x h = split_bytes (split_row ask.split ask.kind) ask x h
 
-pub translator_left : (ask : Ask) (out : List ℕ) (x : HubContent) → IsByteHub x → IsByteHub (transacted ask out x)
-translator_left ask out x h = split_left (split_row ask.split ask.kind) ask out x h
+pub translator_left : (ask : Ask) (out : List ℕ) (stuff : ℕ) (x : HubContent) → IsByteHub x → IsByteHub (transacted ask out stuff x)
+translator_left ask out stuff x h = split_left (split_row ask.split ask.kind) ask out stuff x h
 
 -- ---- endpoint 0
 

@@ -1,4 +1,4 @@
-use Rattle.law_translator.proofs.Works.{works_turned}
+use Rattle.tt_pipeline.proofs.Works.{works_turned}
 use Rattle.law_translator.proofs.laws.the_work_is_an_event.Goals as goal
 
 pub returns : goal.returns
