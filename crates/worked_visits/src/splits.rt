@@ -85,3 +85,10 @@ pub fn a_speaker_has_its_parts()
     ensures marked { IsInParts (record (split_out 400 3 1) { c_prog = 2 }) 400 → ⊥ }
     ensures costs { map (cost_in placed_speaker.want placed_speaker.placement) (0 ∷ 1 ∷ 2 ∷ 3 ∷ []) ≡ 0 ∷ 4298063 ∷ 4298063 ∷ 1111073 ∷ [] }
 {}
+
+/// In microframe 1, where its first part comes, that part is late where less time is left than its price; in microframe 0 nothing is.
+pub fn a_part_is_late()
+    ensures late { is_late (at_hand (Sitd (record { at = 0x2000; sitd = split_out 400 3 1; settled = None })) 41 4000000) ≡ true }
+    ensures in_time { is_late (at_hand (Sitd (record { at = 0x2000; sitd = split_out 400 3 1; settled = None })) 41 5000000) ≡ false }
+    ensures rests { is_late (at_hand (Sitd (record { at = 0x2000; sitd = split_out 400 3 1; settled = None })) 40 4000000) ≡ false }
+{}
