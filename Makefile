@@ -25,7 +25,7 @@ install:
 	cd tools && install -m 644 $(TOOLS) $(LIBEXEC)
 	{ rt version | head -n 1; if [ -n "$(COMMIT)" ]; then echo "commit $(COMMIT)"; fi; } > $(LIBEXEC)/version
 	install -m 644 docs/*.1 $(TO)/share/man/man1
-	install -m 644 README.md CHANGELOG.md docs/FORMATS.md $(TO)/share/doc/ehci
+	install -m 644 README.md CHANGELOG.md docs/FORMATS.md docs/LIBRARY.md $(TO)/share/doc/ehci
 	install -m 644 examples/*.ehci examples/*.report $(TO)/share/doc/ehci/examples
 	install -m 644 tools/completion.bash $(TO)/share/bash-completion/completions/ehci
 	if [ -f crates/ehci_c/out/libehci.a ]; then \

@@ -4,7 +4,7 @@
  * touches anything but what it is passed, and each ends, whatever words stand in memory. What is said of a call here is proved of its
  * body; docs/LIBRARY.md shows the use in an emulator.
  *
- * Link with libehci.a and the three heap functions of include/ehci_heap.c (or the kit's liblibc_c.a), which call malloc and free.
+ * Link with libehci.a, which calls malloc, realloc and free (one copy of the words at a time), and C's memory functions.
  */
 #ifndef EHCI_H
 #define EHCI_H
@@ -83,7 +83,8 @@ enum {
  * last word, the microframe ended in a host system error: USBSTS has it, and Run is 0 (4.15.2.4).
  * EHCI_WANTS_BUS: after that many answers the controller asks `*ask`, and sends the first `ask->out_len` bytes of `out`; it would make no
  * other transaction there. Call again with the same answers and one more.
- * EHCI_LONG: a ring without a head, or a chain that is a circle, has no end; 100,000 events are more than a microframe has otherwise.
+ * EHCI_LONG: a ring without a head, or a chain that is a circle, has no end. A microframe over a driver's own lists has some hundred events,
+ * and 100,000 are enough for any but the largest.
  *
  * But for EHCI_MADE the state and the words stay as they were. `n` is 1,024 to 262,144, in steps of 1,024; `out` has room for 1,024
  * bytes or more. No two of what is passed overlap; `answers`, `bytes` and `ask` are never null. */

@@ -21,7 +21,7 @@ _ehci_trace() {
     --endpoint | --from | --to) COMPREPLY=() ;;
     *)
       mapfile -t COMPREPLY < <(
-        compgen -W "--endpoint --from --to --quiet --explain --pcap --schedule --svg --progress \
+        compgen -W "--endpoint --from --to --quiet --wait --explain --pcap --schedule --svg --progress \
           --build --prove --help --version" -- "$word"
       )
       ;;

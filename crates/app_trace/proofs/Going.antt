@@ -1,15 +1,12 @@
 -- Runs one after the other, and what they leave of the text.
-use Rattle.std.proofs.Common.{◌≡◌, ℕ, List, [], ◌∷◌, ◌++◌, refl, ap, sym, subst, ◌∙◌, inl, inr, Result, Ok, Err, IfOk, Option}
-use Rattle.drv_table.specs.Rows.{driver_row}
-use Rattle.drv_table.specs.declared.rows.DriverStep.{DriverStep}
+use Rattle.std.proofs.Common.{◌≡◌, ℕ, List, [], ◌∷◌, ◌++◌, refl, ap, sym, subst, ◌∙◌, inl, inr, Result, Ok, Err, IfOk}
 use Rattle.app_trace_lines.specs.declared.entries.Entry.{Entry}
 use Rattle.app_trace_lines.specs.declared.entries.Work.{Work}
-use Rattle.app_trace_lines.specs.declared.entries.Happening.TheVariants.{Driver}
 use Rattle.std.specs.List.{flat_map}
 use Rattle.std.proofs.lemmas.Grind.{flat_map-append}
 use Rattle.std.proofs.lemmas.List.{append_assoc, append-nil}
 use Rattle.app_trace.specs.declared.choice.Choice.{Choice}
-use Rattle.app_trace.specs.Watched.{Watched, Told, HasBytes, IsEvent, IsControlled, parts_of, driven, driven_step, IsStored, IsDriven, IsCommanded}
+use Rattle.app_trace.specs.Watched.{Watched, Told, HasBytes, IsEvent, IsControlled, IsDriven, IsCommanded}
 use Rattle.app_trace.specs.Chosen.{chosen_line}
 use Rattle.app_trace.specs.Traced.{Runs, Traces, Goes, Puts}
 
@@ -71,13 +68,3 @@ if_driven (Ok x) c d m n o old new e event puts = goes_event c d m n o old new e
 
 pub goes_commanded : (c d : Choice) (m n o : Watched) (old new : List ℕ) (e : Entry) → IsCommanded m e n → Puts c n old e d o new → Goes c m old d o new
 goes_commanded c d m n o old new e event puts = goes_event c d m n o old new e (inr (inr event)) puts
-
-pub is_driven : (m n : Watched) (e : Entry) (step : DriverStep) (stored : Option (ℕ × ℕ)) → n ≡ driven m → step ≡ driven_step m → e.happening ≡ Driver step stored
-    → IsStored (driver_row (parts_of m)) stored n → e.frame_index ≡ n.registers.frame_index → IsDriven m e n
-is_driven m n e step stored next is told word index = record {
-  next = next;
-  stored = stored;
-  is = told ∙ ap (λ k. Driver k stored) is;
-  word = word;
-  index = index;
-}

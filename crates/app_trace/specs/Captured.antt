@@ -29,7 +29,7 @@ made_packets time (Some x) sent got = exchange_record time x sent got
 unfoldable pub happening_packets : ℕ → ℕ → Happening → List ℕ → List ℕ → List ℕ
 happening_packets k index (Began allowed) sent got = began_packets k index allowed
 happening_packets k index (Controller step at exchange price left) sent got = made_packets (time_of k price left) exchange sent got
-happening_packets k index (Driver step stored) sent got = []
+happening_packets k index (Driver row stored) sent got = []
 happening_packets k index (Offered line refused) sent got = []
 
 unfoldable pub entry_packets : Entry → List ℕ → List ℕ → List ℕ

@@ -5,8 +5,10 @@ use Rattle.usb_base.specs.declared.endpoints.EpName.{EpName}
 use Rattle.bus_wire.specs.Fates.{is_same_name}
 use Rattle.hc_core.specs.declared.controller.HcStep.{HcStep}
 use Rattle.hc_core.specs.declared.controller.HcStep.TheVariants as steps
-use Rattle.drv_table.specs.declared.rows.DriverStep.{DriverStep}
-use Rattle.drv_table.specs.declared.rows.DriverStep.TheVariants as turns
+use Rattle.drv_table.specs.declared.rows.DriverRow.{DriverRow}
+use Rattle.drv_table.specs.declared.rows.DriverRow.TheVariants as rows
+use Rattle.drv_table.specs.declared.rows.Found.{Found}
+use Rattle.drv_table.specs.declared.rows.Found.TheVariants as founds
 use Rattle.bus_packets.specs.declared.exchanges.Exchange.{Exchange}
 use Rattle.app_trace_lines.specs.declared.entries.Entry.{Entry}
 use Rattle.app_trace_lines.specs.declared.entries.Work.{Work}
@@ -31,23 +33,38 @@ is_idle steps.Skip = true
 is_idle steps.End = true
 is_idle steps.Idle = true
 
--- an event of the driver that moves nothing
-abbrev pub is_rest : DriverStep → Bool
-is_rest turns.Lend = false
-is_rest turns.Store = false
-is_rest turns.Register = true
-is_rest turns.Harvest = false
-is_rest turns.Release = false
-is_rest (turns.Reset _) = false
-is_rest (turns.ResetDisk _) = false
-is_rest turns.Rest = true
+-- the token tells that its qTD isn't done
+abbrev pub is_active : Found → Bool
+is_active founds.Active = true
+is_active (founds.Moved n) = false
+is_active (founds.Ended n what) = false
+is_active (founds.Served errors) = false
+
+-- an event of the driver that neither hands blocks over nor finds anything done: a store, an access of a register, the read of an active
+-- token
+abbrev pub is_rest : DriverRow → Bool
+is_rest rows.Lend = false
+is_rest (rows.Store b at v) = true
+is_rest (rows.Mend w) = true
+is_rest rows.Frames = true
+is_rest rows.LendDescriptors = false
+is_rest (rows.Unlink t) = true
+is_rest (rows.ReleaseRemoved what) = false
+is_rest (rows.ReleaseTransfer t) = false
+is_rest (rows.ReleaseEndpoint e) = false
+is_rest rows.ClearAdvance = true
+is_rest rows.RingBell = true
+is_rest (rows.ReadStatus heard) = true
+is_rest (rows.ReadFrame n) = true
+is_rest (rows.Harvest e t found) = is_active found
+is_rest rows.Rest = true
 
 -- it is left out where only what moves something is wanted
 abbrev pub is_quiet : Happening → List Work → Bool
 is_quiet (Began allowed) [] = allowed
 is_quiet (Began allowed) works = false
 is_quiet (Controller step at exchange price left) works = is_idle step
-is_quiet (Driver step stored) works = is_rest step
+is_quiet (Driver row stored) works = is_rest row
 is_quiet (Offered line refused) works = false
 
 abbrev pub is_exchange_of : EpName → Option Exchange → Bool
@@ -62,7 +79,7 @@ is_work_of name w = is_same_name w.name name
 abbrev pub is_about : EpName → Happening → List Work → Bool
 is_about name (Began allowed) works = list_any (is_work_of name) works
 is_about name (Controller step at exchange price left) works = is_exchange_of name exchange
-is_about name (Driver step stored) works = false
+is_about name (Driver row stored) works = false
 is_about name (Offered line refused) works = false
 
 abbrev pub is_wanted : Option EpName → Happening → List Work → Bool

@@ -9,7 +9,6 @@ use Rattle.op_registers.specs.RegisterFile.{RegisterFile}
 use Rattle.hc_core.specs.declared.controller.HcStep.{HcStep}
 use Rattle.hc_core.specs.declared.controller.HcStep.TheVariants as steps
 use Rattle.hc_core.specs.Controller.{Control, Content, content, microframe_row, kind_of, HasRow, address_in_hand, either_address, time_left, new_control}
-use Rattle.drv_table.specs.declared.rows.DriverStep.{DriverStep}
 use Rattle.drv_table.specs.declared.rows.DriverRow.{DriverRow}
 use Rattle.drv_table.specs.declared.rows.DriverRow.TheVariants as rows
 use Rattle.drv_table.specs.DriverContent.{DriverContent}
@@ -20,7 +19,7 @@ use Rattle.bus_wire.specs.Bus.{opening_wired}
 use Rattle.drv_table.specs.Accepting.{Offered}
 use Rattle.drv_table.specs.Offers.{offered}
 use Rattle.drv_table.specs.Parts.{Parts}
-use Rattle.drv_table.specs.Rows.{step_of, driver_row, after_driver_row as after_driver}
+use Rattle.drv_table.specs.Rows.{driver_row, after_driver_row as after_driver}
 use Rattle.bus_recorder.specs.Recorded.{Recorded, BeginsIn, TransactsIn, forgotten}
 use Rattle.bus_packets.specs.declared.exchanges.Exchange.{Exchange}
 use Rattle.app_trace_lines.specs.declared.entries.Entry.{Entry}
@@ -108,14 +107,11 @@ pub record IsControlled (m : Watched) (e : Entry) (n : Watched) : Type 0 where
 abbrev pub parts_of : Watched → Parts
 parts_of m = record { driver = m.driver; registers = m.registers; memory = m.memory }
 
--- what the driver's next event leaves, and its kind
+-- what the driver's next event leaves
 unfoldable pub driven : Watched → Watched
 driven m =
     let p : Parts = after_driver (driver_row (parts_of m)) (parts_of m) in
     record m { driver = p.driver; registers = p.registers; memory = p.memory }
-
-unfoldable pub driven_step : Watched → DriverStep
-driven_step m = step_of (driver_row (parts_of m))
 
 -- The word that a store writes, with its address. That of an unlinking is the first that changed.
 abbrev pub IsStored : DriverRow → Option (ℕ × ℕ) → Watched → Type 0
@@ -128,7 +124,7 @@ IsStored _ stored n = stored ≡ None
 pub record IsDriven (m : Watched) (e : Entry) (n : Watched) : Type 0 where
   pub next : n ≡ driven m
   pub stored : Option (ℕ × ℕ)
-  pub is : e.happening ≡ Driver (driven_step m) stored
+  pub is : e.happening ≡ Driver (driver_row (parts_of m)) stored
   pub word : IsStored (driver_row (parts_of m)) stored n
   pub index : e.frame_index ≡ n.registers.frame_index
 

@@ -3,13 +3,13 @@ ghost use Rattle.std.specs.Prelude.{◌≡◌, ◌≤◌, ◌++◌, IfOk, length
 ghost use Rattle.std.specs.List.{list_any};
 ghost use Rattle.app_trace_lines.specs.declared.entries.Happening.TheVariants.{Began};
 ghost use Rattle.bus_wire.specs.Fates.{is_same_way, is_same_name};
-ghost use Rattle.app_trace.specs.Chosen.{is_idle, is_rest, is_quiet, is_exchange_of, is_work_of, is_about, is_wanted, is_chosen, told_as, chosen_line, head_of};
+ghost use Rattle.app_trace.specs.Chosen.{is_idle, is_active, is_rest, is_quiet, is_exchange_of, is_work_of, is_about, is_wanted, is_chosen, told_as, chosen_line, head_of};
 
 use crate::captured::put_entry_packets;
 use app_trace_lines::{Entry, Happening, Work, put_entry};
 use bus_capture::file_header;
 use bus_packets::Exchange;
-use drv_table::DriverStep;
+use drv_table::{DriverRow, Found};
 use hc_core::HcStep;
 use std::alloc::Global;
 use usb_base::{EpName, Memory, Way};
@@ -36,10 +36,12 @@ pub struct Choice {
     pub from: u32,
     /// Up to this microframe.
     pub to: u32,
-    /// Only events that move something.
+    /// Only events that move something, or find it moved.
     pub quiet: bool,
     /// Whether a long run says on standard error that it goes on.
     pub progress: bool,
+    /// Whether the driver finishes the command under way before the next is offered.
+    pub wait: bool,
 }
 
 fn are_same_ways(a: Way, b: Way) -> bool
@@ -66,13 +68,27 @@ fn is_idle(step: HcStep) -> bool
     }
 }
 
-fn is_rest(step: DriverStep) -> bool
-    ensures { result ≡ is_rest step }
+fn is_active(found: Found) -> bool
+    ensures { result ≡ is_active found }
 {
-    match step {
-        DriverStep::Register | DriverStep::Rest => true,
-        DriverStep::Lend | DriverStep::Store | DriverStep::Harvest | DriverStep::Release => false,
-        DriverStep::Reset(_) | DriverStep::ResetDisk(_) => false,
+    match found {
+        Found::Active => true,
+        Found::Moved(_) | Found::Ended(_, _) | Found::Served(_) => false,
+    }
+}
+
+fn is_rest(row: DriverRow) -> bool
+    ensures { result ≡ is_rest row }
+{
+    match row {
+        DriverRow::Lend | DriverRow::LendDescriptors => false,
+        DriverRow::ReleaseRemoved(_)
+        | DriverRow::ReleaseTransfer(_)
+        | DriverRow::ReleaseEndpoint(_) => false,
+        DriverRow::Harvest(_, _, found) => is_active(found),
+        DriverRow::Store(_, _, _) | DriverRow::Mend(_) | DriverRow::Unlink(_) => true,
+        DriverRow::Frames | DriverRow::ReadFrame(_) | DriverRow::ReadStatus(_) => true,
+        DriverRow::ClearAdvance | DriverRow::RingBell | DriverRow::Rest => true,
     }
 }
 
@@ -92,7 +108,7 @@ fn is_quiet(happening: &Happening, works: &[Work]) -> bool
     match happening {
         Happening::Began(allowed) => is_quiet_begin(*allowed, works),
         Happening::Controller { step, .. } => is_idle(*step),
-        Happening::Driver { step, .. } => is_rest(*step),
+        Happening::Driver { row, .. } => is_rest(*row),
         Happening::Offered(_, _) => false,
     }
 }

@@ -2,7 +2,7 @@
 ghost use Rattle.std.specs.Prelude.{◌≡◌, ◌≤◌, IfOk, IfSome, IfNone, length};
 ghost use Rattle.hc_core.specs.Controller.{either_address};
 ghost use Rattle.script_fits.specs.Fits.{IsFit, IsFitCommand};
-ghost use Rattle.app_trace.specs.Watched.{told_address, is_begin, price_in, told_with, Tells, Steps, step_next, IsControlled, parts_of, driven, driven_step, IsStored, IsDriven, answer_to, refusal_of, with_offered, IsCommanded, IsOpening};
+ghost use Rattle.app_trace.specs.Watched.{told_address, is_begin, price_in, told_with, Tells, Steps, step_next, IsControlled, parts_of, driven, IsStored, IsDriven, answer_to, refusal_of, with_offered, IsCommanded, IsOpening};
 ghost use Rattle.drv_table.specs.Offers.{IsOffered};
 ghost use Rattle.drv_table.specs.Rows.{driver_row};
 
@@ -12,7 +12,7 @@ use app_trace_lines::{Entry, Happening, Work};
 use bandwidth::Plan;
 use bus_packets::Exchange;
 use bus_recorder::Recorder;
-use drv_table::{DriverRow, DriverStep, Endpoint};
+use drv_table::{DriverRow, Endpoint};
 use ehci_driver::Driver;
 use hc_core::{Controller, HcStep};
 use op_registers::Registers;
@@ -150,6 +150,11 @@ impl Host {
     /// The microframe that began last, counted from 1; 0 before the first.
     pub fn microframe(&self) -> u32 {
         self.microframe
+    }
+
+    /// Whether the driver is at work on a command.
+    pub fn is_busy(&self) -> bool {
+        self.driver.busy()
     }
 
     /// The endpoints that were opened.
@@ -296,11 +301,10 @@ impl Host {
 
     /// The next event of the driver.
     #[tactic(auto, unfolding(crate::specs::Watched::driven))]
-    fn drive(&mut self) -> DriverStep
-        ensures kind { result ≡ driven_step self.old }
-        ensures next { self.new ≡ driven self.old }
+    fn drive(&mut self)
+        ensures { self.new ≡ driven self.old }
     {
-        self.driver.step(&mut self.registers, &mut self.mem)
+        let _step = self.driver.step(&mut self.registers, &mut self.mem);
     }
 
     /// The word that an event of the driver stored, by its row.
@@ -329,9 +333,9 @@ impl Host {
         self.clear();
         let row = self.next_row();
         self.keep_words(row);
-        let step = self.drive();
+        self.drive();
         let stored = self.stored(row);
-        self.entry(Happening::Driver { step, stored })
+        self.entry(Happening::Driver { row, stored })
     }
 
     /// The bytes that the host sent in the transaction that was made last.

@@ -16,6 +16,10 @@ use usb_base::{Cmd, Memory, OfferError};
 /// The most turns of one microframe.
 const MOST_TURNS: u32 = 67_108_864;
 
+/// The most events of the driver for which a command waits. The one under way has at most 255 of its own, and a store for each of 1,024
+/// frames.
+const MOST_WAITED: u32 = 4096;
+
 /// A long run says that it goes on each time that so many microframes have ended.
 const PROGRESS: u32 = 1024;
 
@@ -112,11 +116,50 @@ impl Run {
         }
     }
 
-    /// A command.
-    #[tactic(auto, using(crate::proofs::Going::goes_commanded))]
+    /// Lets the driver finish the command under way.
+    #[tactic(auto, using(crate::proofs::Going::goes_on, crate::proofs::Going::goes_none))]
+    fn wait(&mut self) -> Result<(), Memory>
+        ensures { IfOk result (λ _. Goes self.old.choice self.old.host self.old.text.items
+            self.new.choice self.new.host self.new.text.items) }
+    {
+        for _event in 0..MOST_WAITED {
+            if !self.host.is_busy() {
+                return Ok(());
+            }
+            self.driver()?;
+        }
+        Ok(())
+    }
+
+    /// Lets the driver finish the command under way, where that is wanted.
+    #[tactic(auto, using(crate::proofs::Going::goes_none))]
+    fn prepare(&mut self) -> Result<(), Memory>
+        ensures { IfOk result (λ _. Goes self.old.choice self.old.host self.old.text.items
+            self.new.choice self.new.host self.new.text.items) }
+    {
+        if self.choice.wait {
+            return self.wait();
+        }
+        Ok(())
+    }
+
+    /// A command, once the driver is ready for it.
+    #[tactic(auto, using(crate::proofs::Going::goes_on))]
     fn command(&mut self, line: u32, cmd: &Cmd) -> Result<(), Memory>
         requires { IsFitCommand cmd.now }
         ensures { IfOk result (λ _. Goes self.old.choice self.old.host self.old.text.items self.new.choice self.new.host self.new.text.items) }
+    {
+        self.prepare()?;
+        self.offer(line, cmd)?;
+        Ok(())
+    }
+
+    /// Offers a command.
+    #[tactic(auto, using(crate::proofs::Going::goes_commanded))]
+    fn offer(&mut self, line: u32, cmd: &Cmd) -> Result<(), Memory>
+        requires { IsFitCommand cmd.now }
+        ensures { IfOk result (λ _. Goes self.old.choice self.old.host self.old.text.items
+            self.new.choice self.new.host self.new.text.items) }
     {
         match self.host.offer(line, cmd) {
             Some(answer) => {

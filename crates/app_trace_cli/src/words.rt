@@ -90,6 +90,9 @@ fn option(choice: &mut Choice, word: &[u8]) -> Option<WordPlace> {
     } else if word == b"--progress".as_slice() {
         choice.progress = true;
         Some(WordPlace::Option)
+    } else if word == b"--wait".as_slice() {
+        choice.wait = true;
+        Some(WordPlace::Option)
     } else {
         None
     }
@@ -105,6 +108,7 @@ pub fn choice_of(words: &[String]) -> Option<Choice> {
         to: u32::MAX,
         quiet: false,
         progress: false,
+        wait: false,
     };
     let mut place = WordPlace::Option;
     for word in words {

@@ -12,7 +12,8 @@ use Rattle.usb_base.specs.declared.packets.Split.TheVariants as splits
 use Rattle.usb_base.specs.declared.reports.OfferError.{OfferError}
 use Rattle.report_text.specs.ReportText.{ep_word, why_words}
 use Rattle.hc_core.specs.declared.controller.HcStep.{HcStep}
-use Rattle.drv_table.specs.declared.rows.DriverStep.{DriverStep}
+use Rattle.drv_table.specs.declared.rows.DriverRow.{DriverRow}
+use Rattle.drv_table.specs.Rows.{step_of}
 use Rattle.bus_packets.specs.declared.exchanges.Answer.{Answer}
 use Rattle.bus_packets.specs.declared.exchanges.Answer.TheVariants as answers
 use Rattle.bus_packets.specs.declared.exchanges.Exchange.{Exchange}
@@ -98,8 +99,8 @@ unfoldable pub stored_text : Option (ℕ × ℕ) → List ℕ
 stored_text None = []
 stored_text (Some s) = word_stored_text s.0 s.1
 
-unfoldable pub driver_line : DriverStep → Option (ℕ × ℕ) → List ℕ
-driver_line step stored = codes "driver " ++ driver_word step ++ stored_text stored
+unfoldable pub driver_line : DriverRow → Option (ℕ × ℕ) → List ℕ
+driver_line row stored = codes "driver " ++ driver_word (step_of row) ++ stored_text stored
 
 unfoldable pub refusal_text : Option OfferError → List ℕ
 refusal_text None = codes " accepted"
@@ -123,7 +124,7 @@ controller_text step at exchange price left = codes "controller " ++ step_word s
 unfoldable pub happening_text : Happening → List ℕ
 happening_text (happenings.Began allowed) = began_text allowed
 happening_text (happenings.Controller step at exchange price left) = controller_text step at exchange price left
-happening_text (happenings.Driver step stored) = driver_line step stored
+happening_text (happenings.Driver row stored) = driver_line row stored
 happening_text (happenings.Offered line refused) = offered_text line refused
 
 -- the number of the microframe, and FRINDEX as frame and microframe

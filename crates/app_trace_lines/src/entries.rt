@@ -1,5 +1,5 @@
 use bus_packets::Exchange;
-use drv_table::DriverStep;
+use drv_table::DriverRow;
 use hc_core::HcStep;
 use usb_base::{EpName, OfferError};
 
@@ -36,8 +36,8 @@ pub enum Happening {
     },
     /// An event of the driver.
     Driver {
-        /// Its kind.
-        step: DriverStep,
+        /// Its row.
+        row: DriverRow,
         /// The byte address and the word of a store.
         stored: Option<(u32, u32)>,
     },

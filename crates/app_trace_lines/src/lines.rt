@@ -9,7 +9,7 @@ use crate::pieces::{
     step_text,
 };
 use bus_packets::{Answer, Exchange, has_answer, is_acknowledged, is_heard, sends_data};
-use drv_table::DriverStep;
+use drv_table::DriverRow;
 use hc_core::HcStep;
 use usb_base::{Ask, DataPart, Memory, OfferError, Pid, Split};
 
@@ -223,15 +223,11 @@ fn put_stored(text: &mut Vec<u8>, stored: Option<(u32, u32)>) -> Result<(), Memo
 
 /// Appends an event of the driver.
 #[tactic(auto, unfolding(crate::specs::Lines::driver_line))]
-fn put_driver(
-    text: &mut Vec<u8>,
-    step: DriverStep,
-    stored: Option<(u32, u32)>,
-) -> Result<(), Memory>
-    ensures { IfOk result (λ _. text.new.items ≡ text.old.items ++ driver_line step stored) }
+fn put_driver(text: &mut Vec<u8>, row: DriverRow, stored: Option<(u32, u32)>) -> Result<(), Memory>
+    ensures { IfOk result (λ _. text.new.items ≡ text.old.items ++ driver_line row stored) }
 {
     put(text, "driver ")?;
-    put(text, driver_text(step))?;
+    put(text, driver_text(row.step()))?;
     put_stored(text, stored)
 }
 
@@ -314,7 +310,7 @@ fn put_happening(text: &mut Vec<u8>, happening: &Happening) -> Result<(), Memory
             price,
             left,
         } => put_controller(text, *step, *at, exchange, *price, *left),
-        Happening::Driver { step, stored } => put_driver(text, *step, *stored),
+        Happening::Driver { row, stored } => put_driver(text, *row, *stored),
         Happening::Offered(line, refused) => put_offered(text, *line, *refused),
     }
 }

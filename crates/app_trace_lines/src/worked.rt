@@ -4,7 +4,7 @@ ghost use Rattle.usb_base.specs.declared.packets.Pid.TheVariants as pids;
 ghost use Rattle.usb_base.specs.declared.packets.Split.TheVariants as splits;
 ghost use Rattle.usb_base.specs.declared.packets.DataPart.TheVariants as parts;
 ghost use Rattle.hc_core.specs.declared.controller.HcStep.TheVariants as steps;
-ghost use Rattle.drv_table.specs.declared.rows.DriverStep.TheVariants as turns;
+ghost use Rattle.drv_table.specs.declared.rows.DriverRow.TheVariants as rows;
 ghost use Rattle.app_trace_lines.specs.declared.entries.Happening.TheVariants as happenings;
 ghost use Rattle.app_trace_lines.specs.Words.{hex};
 ghost use Rattle.app_trace_lines.specs.Lines.{token_text, packet_text, moment_text, happening_text, entry_line};
@@ -19,7 +19,7 @@ pub fn tokens()
 /// Whole lines.
 pub fn lines()
     ensures began { entry_line (record { microframe = 9; frame_index = 17; happening = happenings.Began false }) [] ≡ codes "9 2.1 controller begin held" ++ 10 ∷ [] }
-    ensures stored { entry_line (record { microframe = 0; frame_index = 0; happening = happenings.Driver turns.Store (Some (0x1040, 0x80008d80)) }) []
+    ensures stored { entry_line (record { microframe = 0; frame_index = 0; happening = happenings.Driver (rows.Store 130 0x1040 0x80008d80) (Some (0x1040, 0x80008d80)) }) []
         ≡ codes "0 0.0 driver store 00001040 becomes 80008d80" ++ 10 ∷ [] }
     ensures fetched { entry_line (record { microframe = 1; frame_index = 1; happening = happenings.Controller steps.Fetch (Some 0x1000) None 0 5 }) []
         ≡ codes "1 0.1 controller fetch 00001000" ++ 10 ∷ [] }

@@ -1,12 +1,12 @@
 -- Where all isochronous endpoints of a script are of high speed, no transaction of the periodic part is skipped for want of time, but in a
--- held microframe or where a complete-split was made again; and none is where all periodic ones are (USB 2.0, 5.9 and 5.11.3; EHCI 1.0,
--- 4.4, 4.6, 4.10.3 and 4.12.2.4).
+-- held microframe or where more than 4 microseconds went for complete-splits that were made again; and none is where all periodic ones are
+-- (USB 2.0, 5.9 and 5.11.3; EHCI 1.0, 4.4, 4.6, 4.10.3 and 4.12.2.4).
 --     is_late p            the next event of the visit skips a transaction, which its price is too high for
---     IsInTime fixed n w   in the periodic part of a microframe that isn't held, where nothing was made again, a fifth of it is left, and
---                          the walk's next event skips no transaction for want of time
+--     IsInTime fixed n w   in the periodic part of a microframe that isn't held a fifth of it is left, but for what was made again; and
+--                          while that is no more than 4 microseconds the walk's next event skips no transaction for want of time
 --     ArriveInTime s       where its isochronous endpoints are of high speed, so it is at each moment of the run of a script; and where its
 --                          periodic ones are, nothing is made again
-use Rattle.std.specs.Prelude.{◌≡◌, ℕ, ◌≤◌, Bool, ◌&&◌, false, nat_lt, Option, Some, None}
+use Rattle.std.specs.Prelude.{◌≡◌, ℕ, ◌+◌, ◌≤◌, Bool, ◌&&◌, false, nat_lt, Option, Some, None}
 use Rattle.script_types.specs.declared.scripts.Script.{Script}
 use Rattle.toggle_error.specs.declared.host.Outcome.{Outcome}
 use Rattle.itd_sitd.specs.declared.sitd.Sitd.{Sitd}
@@ -67,10 +67,11 @@ is_late_at p (Some (hands.Sitd h)) = is_late_sitd p.walk.left (microframe_of p.w
 abbrev pub is_late : FramePlace → Bool
 is_late p = is_late_at p p.walk.hand
 
--- 25,000,000 of the 125,000,000 ps
+-- 25,000,000 of the 125,000,000 ps; a transaction costs at most 21,000,000
 pub record IsInTime (fixed : Fixed) (n : ℕ) (w : World) : Type 0 where
-  pub fifth : w.control.part ≡ Periodic → is_held_now fixed w ≡ false → n ≡ 0 → 25000000 ≤ w.control.frame.left
-  pub in_time : controller_row w ≡ rows.Frame → is_held_now fixed w ≡ false → n ≡ 0 → is_late (frame_place (controller_parts w)) ≡ false
+  pub fifth : w.control.part ≡ Periodic → is_held_now fixed w ≡ false → 25000000 ≤ w.control.frame.left + n
+  pub in_time : controller_row w ≡ rows.Frame → is_held_now fixed w ≡ false → n ≤ 4000000
+      → is_late (frame_place (controller_parts w)) ≡ false
 
 pub record ArriveInTime (s : Script) : Type 0 where
   pub each : HighIsochronousOnly s → (k : ℕ) → IsInTime (fixed_of s) (repeats s k) (moment s k).world

@@ -15,7 +15,7 @@ use std::{env, io};
 use usb_base::{Sink, Source};
 
 const USAGE: &str =
-    "usage: ehci-trace [--endpoint EP] [--from N] [--to N] [--quiet] [--pcap] [--schedule] [--progress] < SCRIPT";
+    "usage: ehci-trace [--endpoint EP] [--from N] [--to N] [--quiet] [--wait] [--pcap] [--schedule] [--progress] < SCRIPT";
 
 const HELP: &str = "\
 ehci-trace: what happens in the run of a script, a line an event
@@ -24,7 +24,8 @@ ehci-trace: what happens in the run of a script, a line an event
     --endpoint 3.1.in  only transactions with this endpoint, and its packets below a hub
     --from N           only from microframe N on
     --to N             only up to microframe N
-    --quiet            only events that move something
+    --quiet            only events that move something, or find it moved
+    --wait             before each command the driver finishes the one under way
     --pcap             the packets on the high-speed bus as a capture, in the place of lines
     --schedule         where periodic endpoints stand once the run has ended, and what they cost, in the place of lines
     --progress         a line on standard error each 1,024 microframes

@@ -1,3 +1,5 @@
 mod Going
 mod Words
 pub mod Telling
+mod Ringing
+mod Placing

@@ -17,6 +17,6 @@ pub mod worked;
 
 pub use answers::{Answer, AskWords, Wanted, ask_words};
 pub use desk::Desk;
-pub use laws::words_keep_registers;
+pub use laws::{place_is_kept, words_keep_registers};
 pub use running::{Ran, microframe};
 pub use state::{State, interrupts, read, registers_of, reset, state_of, write};

@@ -19,7 +19,8 @@ use Rattle.claims_driver.specs.Leaving.{leaves_frames, HasOwners}
 use Rattle.law_driver.proofs.lemmas.run_owners.Orders.{endpoint_first}
 use Rattle.law_driver.proofs.lemmas.run_owners.Released.{set_there, AreUntouched, cancel_same}
 use Rattle.law_frames.specs.Met.{Kind}
-use Rattle.claims_driver.specs.Unlinked.{IsOpenAt, IsRemovedAt, a_descriptor, a_queue, a_waiting, IsRemovedSince, IsUnchainedNow}
+use Rattle.claims_driver.specs.Unlinked.{IsOpenAt}
+use Rattle.law_descriptors.specs.Removed.{IsRemovedAt, a_descriptor, a_queue, a_waiting, IsRemovedSince, IsUnchainedNow}
 use Rattle.law_descriptors.specs.Recent.{AreRecent}
 use Rattle.law_descriptors.specs.Returned.{IsGivenBack}
 use Rattle.law_descriptors.specs.Given.{EndpointLeavesRecent}

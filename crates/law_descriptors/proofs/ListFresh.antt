@@ -13,7 +13,7 @@ use Rattle.drv_table.specs.DriverContent.{DriverContent, waits_for}
 use Rattle.claims_driver.specs.Owners.{Described, is_descriptor, runs_of_transfer, runs_of_endpoint, views_of}
 use Rattle.claims_driver.specs.Leaving.{times, transfers_in, endpoints_in, owes, leaves_frames, HasOwners}
 use Rattle.law_frames.specs.Met.{Kind}
-use Rattle.claims_driver.specs.Unlinked.{IsRemovedAt, a_descriptor, a_queue, a_waiting, IsRemovedSince, IsUnchainedNow}
+use Rattle.law_descriptors.specs.Removed.{IsRemovedAt, a_descriptor, a_queue, a_waiting, IsRemovedSince, IsUnchainedNow}
 use Rattle.law_descriptors.specs.Recent.{AreRecent}
 use Rattle.law_descriptors.specs.ListRows.{WaitingIsFresh}
 use Rattle.law_descriptors.proofs.Returning.{same_transfer, no_descriptor, same_blocks, owed_by, frames_owed, transfer_counts, endpoint_counts}

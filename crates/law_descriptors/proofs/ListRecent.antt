@@ -24,7 +24,7 @@ use Rattle.drv_table.specs.Kinds.{is_iso}
 use Rattle.claims_driver.specs.FrameListMembers.{Framed, IsUnderWay, IsUnchaining, IsWaitingOf, AreLeaving, IsListed}
 use Rattle.law_driver.proofs.lemmas.listed_members.Standing.{IsSeen, seen, IsFramed, framed}
 use Rattle.law_frames.specs.Met.{Kind}
-use Rattle.claims_driver.specs.Unlinked.{IsRemovedAt, a_queue, a_waiting, IsRemovedSince, IsUnchainedNow}
+use Rattle.law_descriptors.specs.Removed.{IsRemovedAt, a_queue, a_waiting, IsRemovedSince, IsUnchainedNow}
 use Rattle.law_descriptors.specs.Recent.{AreRecent}
 use Rattle.law_descriptors.specs.ListRows.{leaves_now, recent_with, LeavesChained}
 use Rattle.law_descriptors.proofs.Finding.{begins_at}

@@ -9,6 +9,7 @@ use Rattle.qh_qtd.specs.declared.queue_head.Qh.{Qh}
 use Rattle.hc_copy.specs.Overlay.{advanced, moved}
 use Rattle.hc_copy.specs.WriteBack.{moved_by}
 use Rattle.async_walk.specs.declared.state.WalkStep.{WalkStep}
+use Rattle.async_walk.specs.Naks.{planned}
 use Rattle.async_walk.specs.Rows.{WalkPlace}
 use Rattle.claims_driver.specs.Owners.{Views}
 use Rattle.law_structures.specs.lent_structures.Structures.{Structure, QueueHead, Element, Buffer, Structures, StructureSets, with_structure, put}
@@ -51,7 +52,7 @@ module _ (v : Views) (descs parts : StructureSets) (k : AreDescribed v descs) wh
   on_now now n on = ap (λ (b : Bool). if b then parts n else now n) on
 
   -- nothing changes
-  parts_same : (now : StructureSets) → now ≡ both descs parts → parts_now descs parts now ≡ parts
+  pub parts_same : (now : StructureSets) → now ≡ both descs parts → parts_now descs parts now ≡ parts
   parts_same now same = λ i n. at n (owns descs n) refl i
     where
       at : (n : ℕ) (b : Bool) → owns descs n ≡ b → parts_now descs parts now n ≡ parts n
@@ -120,7 +121,8 @@ module _ (v : Views) (descs parts : StructureSets) (k : AreDescribed v descs) wh
           in_hand = r.in_hand;
           works = r.works;
           out = r.out;
-          sent = subst (λ (part : Structures). AreSent part r.copy.queue r.out) (both_off descs parts r.copy.at off) r.sent;
+          sent = subst (λ (part : Structures). AreSent part r.copy.queue (planned r.copy.queue).bytes r.out)
+              (both_off descs parts r.copy.at off) r.sent;
           reply = r.reply;
           made = r.made;
           later_is = r.later_is;

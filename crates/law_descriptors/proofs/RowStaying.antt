@@ -19,7 +19,8 @@ use Rattle.drv_table.specs.Commands.{finished, leave_frames, no_command, removal
 use Rattle.claims_driver.specs.Owners.{is_descriptor}
 use Rattle.law_driver.proofs.lemmas.run_owners.Released.{set_here, set_there}
 use Rattle.law_frames.specs.Met.{Kind}
-use Rattle.claims_driver.specs.Unlinked.{IsOpenAt, IsRemovedAt, a_descriptor, a_queue, a_waiting, IsRemovedSince, IsUnchainedNow}
+use Rattle.claims_driver.specs.Unlinked.{IsOpenAt}
+use Rattle.law_descriptors.specs.Removed.{IsRemovedAt, a_descriptor, a_queue, a_waiting, IsRemovedSince, IsUnchainedNow}
 use Rattle.law_descriptors.specs.Recent.{AreRecent}
 use Rattle.law_descriptors.specs.Returned.{IsGivenBack}
 use Rattle.law_descriptors.specs.Staying.{also}

@@ -39,7 +39,8 @@ use Rattle.law_controller.proofs.lemmas.frame_stores.Beside.{both_further, both_
 use Rattle.law_descriptors.specs.Described.{HasDescriptor}
 use Rattle.law_descriptors.specs.Meeting.{kind_of_descriptor, standing, met}
 use Rattle.law_descriptors.specs.Both.{both}
-use Rattle.claims_driver.specs.Unlinked.{IsOpenAt, IsRemovedSince}
+use Rattle.claims_driver.specs.Unlinked.{IsOpenAt}
+use Rattle.law_descriptors.specs.Removed.{IsRemovedSince}
 use Rattle.law_descriptors.specs.Recent.{DrivesFrames, content_after}
 use Rattle.law_descriptors.specs.RowLaws.{HasFrames}
 use Rattle.law_descriptors.specs.Rows.{DrivesAfter, IsMetBeside}

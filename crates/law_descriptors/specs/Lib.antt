@@ -1,3 +1,4 @@
+pub mod Removed
 pub mod Described
 pub mod Both
 pub mod PartLaws

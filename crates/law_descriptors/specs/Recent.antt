@@ -21,7 +21,7 @@ use Rattle.law_controller.specs.frame_control.Both.{RunsBoth}
 use Rattle.law_descriptors.specs.Described.{AreDescribed}
 use Rattle.law_descriptors.specs.Both.{both}
 use Rattle.law_descriptors.specs.Meeting.{met}
-use Rattle.claims_driver.specs.Unlinked.{IsRemovedSince, IsUnchainedNow}
+use Rattle.law_descriptors.specs.Removed.{IsRemovedSince, IsUnchainedNow}
 
 abbrev pub AreRecent : DriverContent → ℕ → (ℕ → Option Kind) → Type 0
 AreRecent d index recent =

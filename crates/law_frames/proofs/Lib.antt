@@ -38,4 +38,7 @@ pub mod SitdStepSampled
 pub mod Walking
 pub mod Leaving
 pub mod Going
+pub mod Telling
+pub mod FrameOrder
+pub mod StreamSampled
 pub mod WalkSampled

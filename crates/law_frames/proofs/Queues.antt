@@ -5,6 +5,7 @@ use Rattle.law_structures.specs.lent_structures.Structures.{QueueHead, Structure
 use Rattle.law_structures.specs.lent_structures.Sound.{buffer_name, IsSoundQueue, AreOwn, IsMember}
 use Rattle.law_structures.specs.lent_structures.Alters.{Alters}
 use Rattle.law_structures.proofs.lemmas.lent_structures.Members.{element_still, name_after}
+use Rattle.law_ring.proofs.QueueParts.{member_part}
 use Rattle.law_frames.specs.Met.{IsQueuePart, IsLinkedPart}
 
 own_still : (part now : Structures) → Alters part now → AreOwn part → AreOwn now
@@ -25,8 +26,9 @@ queue_still n part now new old alters here sound = record {
 }
 
 pub linked_part : (member : ℕ → Bool) (n : ℕ) (part : Structures) → IsMember member n part → IsLinkedPart member n part
+unfolding member_part
 linked_part member n part k = record {
-  part_is = record { queue = k.queue; here = k.here; sound = k.sound; elements = k.elements; own = k.own };
+  part_is = member_part member n part k;
   link = k.link;
 }
 

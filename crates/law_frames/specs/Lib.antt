@@ -2,6 +2,7 @@ pub mod Met
 pub mod FrameHand
 pub mod Frame
 pub mod FrameEffects
+pub mod FrameStreams
 pub mod PartSamples
 pub mod Visits
 pub mod QueueVisitLaws

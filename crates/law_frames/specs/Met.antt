@@ -2,7 +2,7 @@
 -- and 4.6): links lead to structures of the kind that they tell, and whatever is active has its bytes. Nothing is said of the order of frames.
 --     Kind                        a queue head of an interrupt endpoint, an iTD, or a siTD
 --     LeadsTo met l               the link l ends the chain, or leads to one that is met, of the kind that it tells; a frame span traversal node isn't met
---     IsQueuePart n part          the queue head at n stands in its part, which is sound
+--     IsQueuePart n part          the queue head at n stands in its part, which is sound (law_ring)
 --     IsLinkedPart member n part  .. and its link leads to a queue head of a ring
 --     IsBuffered part pages from n  the n bytes from byte `from` of these pages on lie in one buffer
 --     IsMetQueue, IsMetItd, IsMetSitd  what is owed to each kind of structure that is met
@@ -11,16 +11,15 @@ use Rattle.std.specs.Prelude.{◌≡◌, ℕ, ◌+◌, ◌<◌, ◌≤◌, Bool,
 use Rattle.link_words.specs.declared.kinds.Link.{Link}
 use Rattle.link_words.specs.declared.kinds.Link.TheVariants as links
 use Rattle.link_words.specs.Links.{link_of}
-use Rattle.qh_qtd.specs.declared.qtd.Qtd.{Qtd}
-use Rattle.qh_qtd.specs.declared.queue_head.Qh.{Qh}
 use Rattle.itd_sitd.specs.declared.itd.Itd.{Itd}
 use Rattle.itd_sitd.specs.declared.sitd.Sitd.{Sitd}
 use Rattle.itd_sitd.specs.Itd.{slot_of}
 use Rattle.mem_bytes.specs.Bytes.{place}
 use Rattle.hc_iso.specs.Sitd.{sitd_place}
 use Rattle.hc_iso.specs.WriteBack.{itd_pages, slot_place, sitd_pages}
-use Rattle.law_structures.specs.lent_structures.Structures.{QueueHead, Element, Buffer, Isochronous, SplitIsochronous, Structures}
-use Rattle.law_structures.specs.lent_structures.Sound.{IsSoundElement, IsSoundQueue, AreOwn, LeadsAmong}
+use Rattle.law_structures.specs.lent_structures.Structures.{Buffer, Isochronous, SplitIsochronous, Structures}
+use Rattle.law_structures.specs.lent_structures.Sound.{LeadsAmong}
+pub use Rattle.law_ring.specs.QueueParts.{IsQueuePart}
 
 pub data Kind : Type 0 where
   AQueue : Kind
@@ -36,14 +35,6 @@ LeadsTo met (links.Sitd a) = met a ≡ Some ASitd
 LeadsTo met (links.Fstn a) = ⊥
 
 -- ---- a queue head (3.5, 3.6 and 4.10)
-
--- its link may lead anywhere
-pub record IsQueuePart (n : ℕ) (part : Structures) : Type 0 where
-  pub queue : Qh
-  pub here : part n ≡ Some (QueueHead queue)
-  pub sound : IsSoundQueue part queue
-  pub elements : (a : ℕ) (t : Qtd) → part a ≡ Some (Element t) → IsSoundElement part t
-  pub own : AreOwn part
 
 pub record IsLinkedPart (member : ℕ → Bool) (n : ℕ) (part : Structures) : Type 0 where
   pub part_is : IsQueuePart n part

@@ -6,6 +6,7 @@
 --     waiting             the copy after its write-back
 --     heard, ended        two bytes, and what the complete-split in microframe 2 comes to
 --     fetched, begun      the walk in that frame with the copy in hand, and after the start-split
+--     completing          the walk in microframe 2 with the copy in hand that waits
 --     missed              what it comes to where no complete-split was made in microframe 2
 --     is_silent           a wire on which nothing is heard, whose count of transactions steps
 --     hears               one on which two bytes are heard
@@ -24,7 +25,7 @@ use Rattle.op_registers.specs.RegisterFile.{reset_file}
 use Rattle.qh_qtd.specs.declared.queue_head.Qh.{Qh}
 use Rattle.hc_interrupt.specs.Turns.{planned}
 use Rattle.periodic_walk.specs.declared.state.Hand.TheVariants as hands
-use Rattle.periodic_walk.specs.Walk.{new_walk, begun as microframe, stopped}
+use Rattle.periodic_walk.specs.Walk.{Walk, new_walk, begun as microframe, stopped}
 use Rattle.periodic_walk.specs.Place.{FramePlace, place}
 use Rattle.periodic_walk.specs.Chain.{fetched_queue}
 use Rattle.periodic_walk.specs.Queue.{queue_left_by, wrote}
@@ -71,6 +72,15 @@ fetched = place (record new_walk { cursor = links.Qh 0; index = 40; hand = Some 
 
 abbrev pub begun : FramePlace
 begun = queue_left_by (planned split_queue) [] (record { copy = held_copy copy; made = 0 }) fetched Silent
+
+abbrev pub completing : Walk
+completing = record new_walk {
+  cursor = links.Qh 0;
+  index = 42;
+  hand = Some
+      (hands.Queue (record { copy = held_copy waiting; made = 0 }));
+  left = 125000000;
+}
 
 abbrev pub missed : QueueSettlement
 missed = missed_settlement waiting.queue

@@ -21,6 +21,9 @@
 //!   siTD's transaction, or writes back what the transaction came to or that a microframe was missed. No fault is one.
 //! - `split_worked`: A split transaction of a full-speed interrupt endpoint, computed (EHCI 1.0, 4.12.2): its start-split, a complete-split, and a missed one.
 //! - `step_laws`, `step_worked`: One event of the walk of the frames over the structures in memory (EHCI 1.0, 4.6): what is claimed of it, whatever is in hand.
+//! - `stream_laws`, `stream_worked`: The streams of interrupt endpoints in the frames (EHCI 1.0, 4.6, 4.10 and 4.12.2): memory and the
+//!   copy in hand tell of each qTD which bytes of its buffer were moved, as in a ring. Each event is one transaction of one endpoint, by
+//!   which the bytes of its current qTD grow, or nothing is told otherwise.
 //! - `walk_laws`, `walk_worked`: The walk of the frames over the structures in memory (EHCI 1.0, 4.6, 4.7.1, 4.10 and 4.12.3): over any frames whose structures
 //!   are sound, wherever the walk is and whatever it has in hand, each of its events reads one structure, passes on, takes a qTD, makes one transaction, or
 //!   writes one back; it changes that structure's part alone, as told, and is never the fault. So it is for however many events.
@@ -48,6 +51,8 @@ mod sitd_step_worked;
 mod split_worked;
 mod step_laws;
 mod step_worked;
+pub mod stream_laws;
+pub mod stream_worked;
 mod walk_laws;
 mod walk_worked;
 

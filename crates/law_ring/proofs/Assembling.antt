@@ -10,11 +10,11 @@ use Rattle.qh_qtd.specs.declared.qtd.Qtd.{Qtd}
 use Rattle.qh_qtd.specs.declared.queue_head.Qh.{Qh}
 use Rattle.transactions.specs.Asks.{pinged}
 use Rattle.hc_copy.specs.Overlay.{settled_queue, buffer_place, moved, advanced}
-use Rattle.hc_copy.specs.Planning.{pid_at}
+use Rattle.hc_copy.specs.Planning.{pid_at, transaction_of}
 use Rattle.hc_copy.specs.Transacting.{call_in}
 use Rattle.hc_copy.specs.WriteBack.{moved_by}
 use Rattle.async_walk.specs.declared.state.WalkStep.{WalkStep}
-use Rattle.async_walk.specs.Naks.{kind_at, planned}
+use Rattle.async_walk.specs.Naks.{kind_at}
 use Rattle.law_structures.specs.lent_structures.Settles.{is_moved}
 use Rattle.law_structures.specs.lent_structures.Structures.{QueueHead, Element, Structures, StructureSets, put, with_structure}
 use Rattle.law_structures.specs.lent_structures.Changes.{relinked}
@@ -28,12 +28,13 @@ use Rattle.law_structures.proofs.lemmas.lent_structures.Altering.{found_queue, f
 use Rattle.law_structures.proofs.lemmas.lent_structures.Members.{still_active}
 use Rattle.law_ring.specs.Hand.{Copy, Settlement, settled_queue_of, Hand, Empty, Copied, Settled}
 use Rattle.law_ring.specs.Ring.{IsCopied, IsSettled, IsInHand}
-use Rattle.law_ring.specs.Effects.{bytes_in, buffer_of, AreSent, received_into, settlement, counted, taken, Takes, Makes, WritesBack, Effect}
+use Rattle.law_ring.specs.Effects.{bytes_in, buffer_of, AreSent, received_into, settlement, counted, taken, Takes, Makes, WritesBack, Effect, Asks, came_to}
+use Rattle.law_ring.specs.QueueParts.{IsQueuePart}
 use Rattle.law_ring.specs.Effects.Effect.{reads, passes, ends, takes, makes, writes_back}
 use Rattle.law_ring.proofs.Writing.{settled_copy, settled_range, is_written, queue_written}
 use Rattle.law_ring.specs.Told.{hand_toggle, HasToggle, Endpoint, endpoint_of, HasEndpoint, SameTold}
-use Rattle.law_ring.specs.Streams.{AreMembers, moved_bytes, Grows, StreamEffect}
-use Rattle.law_ring.specs.Streams.StreamEffect.{same, grows}
+use Rattle.law_ring.specs.Streams.{AreMembers, moved_bytes, Grows, NoneBeside, StreamEffect}
+use Rattle.law_ring.specs.Streams.StreamEffect.{same, aside, grows}
 use Rattle.law_ring.proofs.Keeping.{copied_unsettled, unsettled_toggle, bytes_beside_head}
 use Rattle.law_ring.proofs.Altered.{effect_alters}
 use Rattle.law_ring.specs.Order.{bytes_of_effect}
@@ -148,7 +149,8 @@ module _ {W : Type 0} (transacts : W → Ask → List ℕ → Reply → W → Ty
       let here : parts n n ≡ Some (QueueHead k.copy.queue) = ap (λ (i : ℕ). parts i i) (sym is) ∙ copied.here in
       let before : pipe.toggle ≡ k.copy.queue.token.toggle = pipe.expects.is ∙ unsettled_toggle hand n pipe.expects.queue (copied_unsettled hand k.copy k.in_hand) ∙ ap (λ (q : Qh). q.token.toggle) (found_queue (parts n n) pipe.expects.queue k.copy.queue pipe.expects.head here) in
       let behind : pipe.toggle ≡ z.host.toggle = t.is ∙ ap (λ (l : Hand). hand_toggle l n t.queue) k.later_is ∙ ap (λ (b : Bool). if b then z.host.toggle else t.queue.token.toggle) (eq-eqb k.copy.at n is) in
-      unmoved_made (counted k.copy k.out k.reply) k.copy.queue k.out k.reply n k.works k.sent.all (sym behind ∙ before) is in
+      unmoved_made (kind_at k.copy.queue.dtc) false (counted k.copy k.out k.reply) k.copy.queue k.out k.reply n k.works k.sent.all
+      (sym behind ∙ before) is in
       still (ap (λ (ps : StructureSets). ps n) all) (unmoved_at (Settled (counted k.copy k.out k.reply) z) k.later_is un) t
 
   -- ---- a write-back
@@ -198,8 +200,9 @@ module _ {W : Type 0} (transacts : W → Ask → List ℕ → Reply → W → Ty
   agreed kind (makes k all) t = agreed_making k all t
   agreed kind (writes_back k quiet) t = agreed_writing k (effect_alters transacts member parts hand reply wire after now later kind in_hand (writes_back k quiet) n) t
 
-  quiet_pipe : (kind : WalkStep) → Effect transacts parts hand wire after now later kind → SameTold hand parts later now → after ≡ wire → IsOutPipe (taker after x.addr x.ep) (known ++ []) now later n x
-  quiet_pipe kind effect told quiet =
+  quiet_pipe : (kind : WalkStep) → Effect transacts parts hand wire after now later kind → SameTold hand parts later now
+      → taker after x.addr x.ep ≡ Some s → IsOutPipe (taker after x.addr x.ep) (known ++ []) now later n x
+  quiet_pipe kind effect told taken =
       let t : HasToggle later now n pipe.toggle = told.toggle n pipe.toggle pipe.expects in
       record {
         named = told.endpoint n x pipe.named;
@@ -207,7 +210,7 @@ module _ {W : Type 0} (transacts : W → Ask → List ℕ → Reply → W → Ty
         toggle = pipe.toggle;
         expects = t;
         taker = s;
-        is = ap (λ (w : W). taker w x.addr x.ep) quiet ∙ pipe.is;
+        is = taken;
         agrees = subst (λ (xs : List ℕ). OutAgrees (now n) later n t.queue pipe.toggle xs s) (sym (append-nil known)) (agreed kind effect t);
       }
 
@@ -219,27 +222,33 @@ module _ {W : Type 0} (transacts : W → Ask → List ℕ → Reply → W → Ty
   outs_now : now ≡ parts → IsOut (now n)
   outs_now all = subst (λ (ps : StructureSets). IsOut (ps n)) (sym all) pipe.outs
 
-  abbrev grown : Makes transacts parts hand wire after later → List ℕ
-  grown m = moved_bytes m.copy.queue m.sent.element (settlement m.copy.queue m.out m.reply) (buffer_of (parts m.copy.at) m.sent.element)
+  abbrev grown : Asks transacts parts hand wire after later → List ℕ
+  grown m = moved_bytes m.copy.queue m.sent.element (came_to m) (buffer_of (parts m.copy.at) m.sent.element)
 
-  own_pipe : (m : Makes transacts parts hand wire after later) → now ≡ parts → Grows hand parts later m.copy (settlement m.copy.queue m.out m.reply) m.sent.element → n ≡ m.copy.at → IsOutPipe (taker after x.addr x.ep) (known ++ (if m.copy.at == n then grown m else [])) now later n x
+  asked_member : (m : Asks transacts parts hand wire after later) → member m.copy.at ≡ true
+  asked_member m = let copied : IsCopied member parts m.copy = subst (IsInHand member parts reply) m.in_hand in_hand in copied.on
+
+  own_pipe : (m : Asks transacts parts hand wire after later) → now ≡ parts → Grows hand parts later m.copy (came_to m) m.sent.element
+      → n ≡ m.copy.at → IsOutPipe (taker after x.addr x.ep) (known ++ (if m.copy.at == n then grown m else [])) now later n x
   own_pipe m all g is =
-      let copied : IsCopied member parts m.copy = subst (IsInHand member parts reply) m.in_hand in_hand in
       let q : Qh = m.copy.queue in
-      let z : Settlement = settlement q m.out m.reply in
-      let head : parts n n ≡ Some (QueueHead q) = ap (λ (i : ℕ). parts i i) is ∙ copied.here in
+      let z : Settlement = came_to m in
+      let head : parts n n ≡ Some (QueueHead q) = ap (λ (i : ℕ). parts i i) is ∙ m.here in
       let before : (pipe.toggle ≡ q.token.toggle) × HasToggle later parts m.copy.at z.host.toggle = g.toggle pipe.toggle (subst (λ (i : ℕ). HasToggle hand parts i pipe.toggle) is pipe.expects) in
       let has : HasToggle later now n z.host.toggle = subst (λ (ps : StructureSets). HasToggle later ps n z.host.toggle) (sym all) (subst (λ (i : ℕ). HasToggle later parts i z.host.toggle) (sym is) before.1) in
       let is_x : x ≡ endpoint_of q = pipe.named.is ∙ ap endpoint_of (found_queue (parts n n) pipe.named.queue q pipe.named.head head) in
       let w0 : IsWorking (parts n) q = (subst (IsSoundQueue (parts n)) (found_queue (parts n n) (members n only.on).queue q (members n only.on).here head) (members n only.on).sound).work m.works in
       let pid : q.token.pid ≡ 0 = w0.pid ∙ pipe.outs q.current w0.element w0.here w0.published in
-      let sent : AreSent (parts n) q m.out = record {
+      let sent : AreSent (parts n) q (transaction_of m.kind q).bytes m.out = record {
         element = m.sent.element;
         here = ap (λ (i : ℕ). parts i q.current) is ∙ m.sent.here;
-        are = m.sent.are ∙ ap (λ (i : ℕ). take (planned q).bytes (drop (buffer_place q - m.sent.element.offset) (buffer_of (parts i) m.sent.element))) (sym is);
+        are = m.sent.are ∙ ap (λ (i : ℕ). take (transaction_of m.kind q).bytes
+            (drop (buffer_place q - m.sent.element.offset) (buffer_of (parts i) m.sent.element))) (sym is);
         all = m.sent.all;
       } in
-      let made = made_by transacts stream taker bus wire after (parts n) hand later n (counted m.copy m.out m.reply) q x is_x pipe.toggle known s pipe.is (sym (ap (λ (e : Endpoint). e.speed) is_x) ∙ only.high) pid m.works before.0 only.streamed m.out sent m.reply m.made m.later_is q.token.ping refl
+      let made = made_by transacts stream taker bus wire after (parts n) hand later n m.held q x is_x pipe.toggle known s pipe.is
+      (sym (ap (λ (e : Endpoint). e.speed) is_x) ∙ only.high) pid m.works before.0 only.streamed m.kind m.last m.asked_as m.out sent
+      m.reply m.made m.later_is q.token.ping refl
       (subst (λ (y : Qh). OutAgrees (parts n) hand n y pipe.toggle known s) (found_queue (parts n n) pipe.expects.queue q pipe.expects.head head) pipe.agrees) in
       record {
         named = named_now all;
@@ -253,11 +262,11 @@ module _ {W : Type 0} (transacts : W → Ask → List ℕ → Reply → W → Ty
             (subst (λ (part : Structures). OutAgrees part later n q z.host.toggle (known ++ moved_bytes q m.sent.element z (buffer_of (parts n) m.sent.element)) made.taker_now) (sym (ap (λ (ps : StructureSets). ps n) all)) made.agrees));
       }
 
-  other_pipe : (m : Makes transacts parts hand wire after later) → now ≡ parts → Grows hand parts later m.copy (settlement m.copy.queue m.out m.reply) m.sent.element → n ≢ m.copy.at → IsOutPipe (taker after x.addr x.ep) (known ++ (if m.copy.at == n then grown m else [])) now later n x
+  other_pipe : (m : Asks transacts parts hand wire after later) → now ≡ parts → Grows hand parts later m.copy (came_to m) m.sent.element
+      → n ≢ m.copy.at → IsOutPipe (taker after x.addr x.ep) (known ++ (if m.copy.at == n then grown m else [])) now later n x
   other_pipe m all g differs =
-      let copied : IsCopied member parts m.copy = subst (IsInHand member parts reply) m.in_hand in_hand in
       let q : Qh = m.copy.queue in
-      let beside : IsBeside parts m.copy.at x = only.others m.copy.at copied.on (λ (e : m.copy.at ≡ n). differs (sym e)) in
+      let beside : IsBeside parts m.copy.at x = only.others m.copy.at (asked_member m) (λ (e : m.copy.at ≡ n). differs (sym e)) in
       let has : HasToggle later now n pipe.toggle = subst (λ (ps : StructureSets). HasToggle later ps n pipe.toggle) (sym all) (g.other_toggles n pipe.toggle differs pipe.expects) in
       record {
         named = named_now all;
@@ -265,27 +274,48 @@ module _ {W : Type 0} (transacts : W → Ask → List ℕ → Reply → W → Ty
         toggle = pipe.toggle;
         expects = has;
         taker = s;
-        is = bus.others wire (call_in (planned q) m.out false).ask (call_in (planned q) m.out false).out m.reply after x.addr x.ep s m.made only.streamed pipe.is (unasked copied beside beside.apart);
+        is = bus.others wire (call_in (transaction_of m.kind q) m.out m.last).ask
+            (call_in (transaction_of m.kind q) m.out m.last).out m.reply after x.addr x.ep s m.made only.streamed pipe.is
+            (unasked beside beside.apart);
         agrees = subst (λ (xs : List ℕ). OutAgrees (now n) later n has.queue pipe.toggle xs s) (sym (append-nil known) ∙ ap (λ (xs : List ℕ). known ++ xs) (sym (ap (λ (b : Bool). if b then grown m else []) (not_same m.copy.at n (λ (e : m.copy.at ≡ n). differs (sym e))))))
-            (still (ap (λ (ps : StructureSets). ps n) all) (unmoved_at (Settled (counted m.copy m.out m.reply) (settlement q m.out m.reply)) m.later_is (λ (e : m.copy.at ≡ n). absurd (differs (sym e)))) has);
+            (still (ap (λ (ps : StructureSets). ps n) all)
+            (unmoved_at (Settled m.held (came_to m)) m.later_is (λ (e : m.held.at ≡ n). absurd (differs (sym e ∙ m.at_same)))) has);
       }
     where
-      unasked : IsCopied member parts m.copy → (b : IsBeside parts m.copy.at x) → ((x.addr ≡ b.endpoint.addr → x.ep ≡ b.endpoint.ep → ⊥)) ⊎ SendsNone (parts m.copy.at) → IsOutAsk stream (call_in (planned m.copy.queue) m.out false).ask
-          → (x.addr ≡ (call_in (planned m.copy.queue) m.out false).ask.addr) × (x.ep ≡ (call_in (planned m.copy.queue) m.out false).ask.ep) → ⊥
-      unasked copied b (inl apart) asked e =
-          let is : endpoint_of m.copy.queue ≡ b.endpoint = sym (b.named.is ∙ ap endpoint_of (found_queue (parts m.copy.at m.copy.at) b.named.queue m.copy.queue b.named.head copied.here)) in
+      unasked : (b : IsBeside parts m.copy.at x) → ((x.addr ≡ b.endpoint.addr → x.ep ≡ b.endpoint.ep → ⊥)) ⊎ SendsNone (parts m.copy.at)
+          → IsOutAsk stream (call_in (transaction_of m.kind m.copy.queue) m.out m.last).ask
+          → (x.addr ≡ (call_in (transaction_of m.kind m.copy.queue) m.out m.last).ask.addr) ×
+          (x.ep ≡ (call_in (transaction_of m.kind m.copy.queue) m.out m.last).ask.ep) → ⊥
+      unasked b (inl apart) asked e =
+          let is : endpoint_of m.copy.queue ≡ b.endpoint = sym
+          (b.named.is ∙ ap endpoint_of (found_queue (parts m.copy.at m.copy.at) b.named.queue m.copy.queue b.named.head m.here)) in
           apart (e.0 ∙ ap (λ (y : Endpoint). y.addr) is) (e.1 ∙ ap (λ (y : Endpoint). y.ep) is)
-      unasked copied b (inr none) asked e =
-          let mk : IsMember member m.copy.at (parts m.copy.at) = members m.copy.at copied.on in
-          let w0 : IsWorking (parts m.copy.at) m.copy.queue = (subst (IsSoundQueue (parts m.copy.at)) (found_queue (parts m.copy.at m.copy.at) mk.queue m.copy.queue mk.here copied.here) mk.sound).work m.works in
-          out_only m.copy.queue.token.pid false (m.copy.queue.token.pid == 1) (planned m.copy.queue).split (pinged (kind_at m.copy.queue.dtc) m.copy.queue.token.ping) (not_same m.copy.queue.token.pid 0 (λ (i : m.copy.queue.token.pid ≡ 0). none m.copy.queue.current w0.element w0.here w0.published (sym w0.pid ∙ i))) refl refl asked.token
+      unasked b (inr none) asked e =
+          let mk : IsQueuePart m.copy.at (parts m.copy.at) = m.part_is in
+          let w0 : IsWorking (parts m.copy.at) m.copy.queue =
+          (subst (IsSoundQueue (parts m.copy.at)) (found_queue (parts m.copy.at m.copy.at) mk.queue m.copy.queue mk.here m.here)
+          mk.sound).work m.works in
+          out_only m.copy.queue.token.pid false (m.copy.queue.token.pid == 1) (transaction_of m.kind m.copy.queue).split
+          (pinged m.kind m.copy.queue.token.ping)
+          (not_same m.copy.queue.token.pid 0 (λ (i : m.copy.queue.token.pid ≡ 0). none m.copy.queue.current w0.element w0.here
+          w0.published (sym w0.pid ∙ i))) refl refl asked.token
 
-  kept : (kind : WalkStep) → Effect transacts parts hand wire after now later kind → (z : StreamEffect transacts parts hand wire after now later) → IsOutPipe (taker after x.addr x.ep) (known ++ bytes_of_effect n z) now later n x
-  kept kind effect (same told quiet) = quiet_pipe kind effect told quiet
-  kept kind effect (grows m all g) = ⊎_elim (λ (is : n ≡ m.copy.at). own_pipe m all g is) (λ (differs : n ≢ m.copy.at). other_pipe m all g differs) (cases_eq n m.copy.at)
+  -- those that are beside the queue heads ask no such endpoint
+  module _ {Beside : Ask → Type 0} (misses : (ask : Ask) → Beside ask → IsOutAsk stream ask → ⊥) where
+    pub kept : (kind : WalkStep) → Effect transacts parts hand wire after now later kind
+        → (z : StreamEffect Beside transacts parts hand wire after now later)
+        → IsOutPipe (taker after x.addr x.ep) (known ++ bytes_of_effect n z) now later n x
+    kept kind effect (same told quiet) = quiet_pipe kind effect told (ap (λ (w : W). taker w x.addr x.ep) quiet ∙ pipe.is)
+    kept kind effect (aside told ask out answer beside made) =
+        quiet_pipe kind effect told (bus.others wire ask out answer after x.addr x.ep s made only.streamed pipe.is
+        (λ asked both. misses ask beside asked))
+    kept kind effect (grows m all g) = ⊎_elim (λ (is : n ≡ m.copy.at). own_pipe m all g is)
+        (λ (differs : n ≢ m.copy.at). other_pipe m all g differs) (cases_eq n m.copy.at)
 
 pub event_keeps : {W : Type 0} (transacts : W → Ask → List ℕ → Reply → W → Type 0) (stream : ℕ → ℕ → Bool) (taker : W → ℕ → ℕ → Option Taker) (member : ℕ → Bool) (parts : StructureSets) (hand : Hand) (reply : Reply) (wire after : W) (now : StructureSets) (later : Hand) (kind : WalkStep) (n : ℕ) (x : Endpoint) (known : List ℕ)
-    → IsOutBus transacts stream taker → AreMembers member parts → AreMembers member now → IsInHand member parts reply hand → Effect transacts parts hand wire after now later kind → (z : StreamEffect transacts parts hand wire after now later)
+    → IsOutBus transacts stream taker → AreMembers member parts → AreMembers member now → IsInHand member parts reply hand
+    → Effect transacts parts hand wire after now later kind → (z : StreamEffect NoneBeside transacts parts hand wire after now later)
     → IsOnlyEndpoint stream member parts n x → IsOutPipe (taker wire x.addr x.ep) known parts hand n x → IsOutPipe (taker after x.addr x.ep) (known ++ bytes_of_effect n z) now later n x
 event_keeps transacts stream taker member parts hand reply wire after now later kind n x known bus members members_now in_hand effect z only pipe =
-    kept transacts stream taker bus member parts hand reply wire after now later n x known members members_now in_hand only pipe kind effect z
+    kept transacts stream taker bus member parts hand reply wire after now later n x known members members_now in_hand only pipe
+    {Beside = NoneBeside} (λ ask none asked. none) kind effect z

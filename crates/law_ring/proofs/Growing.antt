@@ -20,9 +20,11 @@ use Rattle.law_structures.proofs.lemmas.lent_structures.Names.{not_same}
 use Rattle.law_structures.specs.lent_structures.Sound.{HasBuffer, IsReady, IsWorking, IsSoundQueue, IsMember}
 use Rattle.law_structures.proofs.lemmas.lent_structures.Altering.{found_queue, found_element}
 use Rattle.law_ring.specs.Hand.{Copy, Settlement, Hand, Settled}
-use Rattle.law_ring.specs.Effects.{bytes_in, buffer_of, settlement, Makes}
+use Rattle.law_ring.specs.Effects.{bytes_in, buffer_of, settlement, counted, Makes, in_ring, Asks, came_to}
+use Rattle.law_ring.specs.QueueParts.{IsQueuePart}
 use Rattle.law_ring.specs.Told.{works_on, told_bytes, settled_bytes, hand_bytes, Told, hand_toggle}
 use Rattle.law_ring.specs.Streams.{moved_bytes, Grows}
+use Rattle.law_ring.proofs.QueueParts.{member_part}
 use Rattle.law_ring.proofs.Keeping.{copied_unsettled, unsettled_bytes, unsettled_toggle}
 
 -- ---- lists
@@ -130,20 +132,23 @@ hand_here at n b same = ap (λ (x : Bool). x && b) (eq-eqb at n same)
 pub hand_not : (at n : ℕ) (b : Bool) → at ≢ n → (at == n && b) ≡ false
 hand_not at n b differs = ap (λ (x : Bool). x && b) (not_same at n differs)
 
-module _ {W : Type 0} (transacts : W → Ask → List ℕ → Reply → W → Type 0) (member : ℕ → Bool) (parts : StructureSets) (hand : Hand) (wire after : W) (later : Hand) (m : Makes transacts parts hand wire after later) where
+module _ {W : Type 0} (transacts : W → Ask → List ℕ → Reply → W → Type 0) (parts : StructureSets) (hand : Hand) (wire after : W)
+    (later : Hand) (m : Asks transacts parts hand wire after later) where
   abbrev made : Settlement
-  made = settlement m.copy.queue m.out m.reply
+  made = came_to m
 
   un : (c : Copy) (z : Settlement) → hand ≢ Settled c z
   un = copied_unsettled hand m.copy m.in_hand
 
   -- before it words tell
-  told_here : (parts m.copy.at m.copy.at ≡ Some (QueueHead m.copy.queue)) → (xs : List ℕ) → Told hand parts m.copy.at m.copy.queue.current xs → xs ≡ take (length (buffer_of (parts m.copy.at) m.sent.element) - m.copy.queue.token.total) (buffer_of (parts m.copy.at) m.sent.element)
-  told_here here xs told =
+  told_here : (xs : List ℕ) → Told hand parts m.copy.at m.copy.queue.current xs
+      → xs ≡ take (length (buffer_of (parts m.copy.at) m.sent.element) - m.copy.queue.token.total)
+      (buffer_of (parts m.copy.at) m.sent.element)
+  told_here xs told =
       let q : Qh = m.copy.queue in
       let e : ℕ = q.current in
       let part : Structures = parts m.copy.at in
-      let same : told.queue ≡ q = found_queue (part m.copy.at) told.queue q told.head here in
+      let same : told.queue ≡ q = found_queue (part m.copy.at) told.queue q told.head m.here in
       let element : told.qtd ≡ m.sent.element = found_element (part e) told.qtd m.sent.element told.here m.sent.here in
       let bs : List ℕ = buffer_of part m.sent.element in
       told.are ∙ unsettled_bytes hand m.copy.at told.queue e told.qtd (buffer_of part told.qtd) un
@@ -151,59 +156,69 @@ module _ {W : Type 0} (transacts : W → Ask → List ℕ → Reply → W → Ty
       ∙ ap (λ (t : Qtd). told_bytes q e t (buffer_of part t)) element
       ∙ ap (λ (b : Bool). take (length bs - (if b then q.token.total else m.sent.element.token.total)) bs) (works_here q m.works)
 
-  made_bytes : IsMember member m.copy.at (parts m.copy.at) → (here : parts m.copy.at m.copy.at ≡ Some (QueueHead m.copy.queue)) → (xs : List ℕ) → Told hand parts m.copy.at m.copy.queue.current xs → Told later parts m.copy.at m.copy.queue.current (xs ++ moved_bytes m.copy.queue m.sent.element made (buffer_of (parts m.copy.at) m.sent.element))
-  made_bytes k here xs told =
+  made_bytes : (xs : List ℕ) → Told hand parts m.copy.at m.copy.queue.current xs
+      → Told later parts m.copy.at m.copy.queue.current
+      (xs ++ moved_bytes m.copy.queue m.sent.element made (buffer_of (parts m.copy.at) m.sent.element))
+  made_bytes xs told =
+      let k : IsQueuePart m.copy.at (parts m.copy.at) = m.part_is in
       let q : Qh = m.copy.queue in
       let part : Structures = parts m.copy.at in
       let t : Qtd = m.sent.element in
       let bs : List ℕ = buffer_of part t in
-      let s : Settles (kind_at q.dtc) q m.out false m.reply = settles (kind_at q.dtc) q m.out false m.reply m.sent.all in
-      let same : k.queue ≡ q = found_queue (part m.copy.at) k.queue q k.here here in
+      let s : Settles m.kind q m.out m.last m.reply = settles m.kind q m.out m.last m.reply m.sent.all in
+      let same : k.queue ≡ q = found_queue (part m.copy.at) k.queue q k.here m.here in
       let sound : IsSoundQueue part q = subst (IsSoundQueue part) same k.sound in
       let w : IsWorking part q = sound.work m.works in
       let element : w.element ≡ t = found_element (part q.current) w.element t w.here m.sent.here in
       let size : IsSized q t bs = subst (λ (x : Qtd). IsSized q x (buffer_of part x)) element (sized part q w ((k.elements q.current w.element w.here).work w.published)) in
       record {
         queue = q;
-        head = here;
+        head = m.here;
         qtd = t;
         here = m.sent.here;
-        are = ap (λ (ys : List ℕ). ys ++ moved_bytes q t made bs) (told_here here xs told)
+        are = ap (λ (ys : List ℕ). ys ++ moved_bytes q t made bs) (told_here xs told)
             ∙ sym (grown_by q t made bs (q.token.pid == 1) refl size s.host s.bytes)
             ∙ sym (ap (λ (h : Hand). hand_bytes h m.copy.at q q.current t bs) m.later_is
-            ∙ ap (λ (b : Bool). if b then settled_bytes q t made bs else told_bytes q q.current t bs) (hand_here m.copy.at m.copy.at (works_on q q.current) refl ∙ works_here q m.works));
+            ∙ ap (λ (b : Bool). if b then settled_bytes q t made bs else told_bytes q q.current t bs)
+            (hand_here m.held.at m.copy.at (works_on q q.current) m.at_same ∙ works_here q m.works));
       }
 
   -- the hand tells nothing of other qTDs
-  not_told : (n : ℕ) (q : Qh) (e : ℕ) (t : Qtd) (bs : List ℕ) → (m.copy.at == n && works_on q e) ≡ false → hand_bytes later n q e t bs ≡ hand_bytes hand n q e t bs
+  not_told : (n : ℕ) (q : Qh) (e : ℕ) (t : Qtd) (bs : List ℕ) → (m.held.at == n && works_on q e) ≡ false
+      → hand_bytes later n q e t bs ≡ hand_bytes hand n q e t bs
   not_told n q e t bs off =
       ap (λ (h : Hand). hand_bytes h n q e t bs) m.later_is ∙ ap (λ (b : Bool). if b then settled_bytes q t made bs else told_bytes q e t bs) off ∙ sym (unsettled_bytes hand n q e t bs un)
 
-  other_made : (here : parts m.copy.at m.copy.at ≡ Some (QueueHead m.copy.queue)) (n e : ℕ) (xs : List ℕ) → (((n ≡ m.copy.at) × (e ≡ m.copy.queue.current)) → ⊥) → Told hand parts n e xs → Told later parts n e xs
-  other_made here n e xs other told = record {
+  other_made : (n e : ℕ) (xs : List ℕ) → (((n ≡ m.copy.at) × (e ≡ m.copy.queue.current)) → ⊥) → Told hand parts n e xs
+      → Told later parts n e xs
+  other_made n e xs other told = record {
     queue = told.queue;
     head = told.head;
     qtd = told.qtd;
     here = told.here;
     are = told.are ∙ sym (not_told n told.queue e told.qtd (buffer_of (parts n) told.qtd)
         (⊎_elim (λ (same : m.copy.at ≡ n).
-        let queue : told.queue ≡ m.copy.queue = found_queue (parts n n) told.queue m.copy.queue told.head (ap (λ (i : ℕ). parts i i) (sym same) ∙ here) in
-        hand_here m.copy.at n (works_on told.queue e) same ∙ ap (λ (x : Qh). works_on x e) queue ∙ works_not m.copy.queue e (λ is. other (sym same, sym is)))
-        (λ (differs : m.copy.at ≢ n). hand_not m.copy.at n (works_on told.queue e) differs) (cases_eq m.copy.at n)));
+        let queue : told.queue ≡ m.copy.queue = found_queue (parts n n) told.queue m.copy.queue told.head
+        (ap (λ (i : ℕ). parts i i) (sym same) ∙ m.here) in
+        hand_here m.held.at n (works_on told.queue e) (m.at_same ∙ same) ∙ ap (λ (x : Qh). works_on x e) queue ∙ works_not m.copy.queue e
+        (λ is. other (sym same, sym is)))
+        (λ (differs : m.copy.at ≢ n). hand_not m.held.at n (works_on told.queue e) (λ is. differs (sym m.at_same ∙ is)))
+        (cases_eq m.copy.at n)));
   }
 
-  pub transaction_grows : IsMember member m.copy.at (parts m.copy.at) → (here : parts m.copy.at m.copy.at ≡ Some (QueueHead m.copy.queue)) → Grows hand parts later m.copy (settlement m.copy.queue m.out m.reply) m.sent.element
-  transaction_grows k here = record {
-    bytes = made_bytes k here;
-    other_bytes = other_made here;
+  pub asked_grows : Grows hand parts later m.copy (came_to m) m.sent.element
+  asked_grows = record {
+    bytes = made_bytes;
+    other_bytes = other_made;
     toggle = λ b has.
-        let same : has.queue ≡ m.copy.queue = found_queue (parts m.copy.at m.copy.at) has.queue m.copy.queue has.head here in (
+        let same : has.queue ≡ m.copy.queue = found_queue (parts m.copy.at m.copy.at) has.queue m.copy.queue has.head m.here in (
           has.is ∙ unsettled_toggle hand m.copy.at has.queue un ∙ ap (λ (x : Qh). x.token.toggle) same,
           record {
             queue = has.queue;
             head = has.head;
             own = has.own;
-            is = sym (ap (λ (h : Hand). hand_toggle h m.copy.at has.queue) m.later_is ∙ ap (λ (x : Bool). if x then made.host.toggle else has.queue.token.toggle) (eq-eqb m.copy.at m.copy.at refl));
+            is = sym (ap (λ (h : Hand). hand_toggle h m.copy.at has.queue) m.later_is ∙ ap
+                (λ (x : Bool). if x then made.host.toggle else has.queue.token.toggle) (eq-eqb m.held.at m.copy.at m.at_same));
           },
         );
     other_toggles = λ n b differs has. record {
@@ -211,6 +226,41 @@ module _ {W : Type 0} (transacts : W → Ask → List ℕ → Reply → W → Ty
       head = has.head;
       own = has.own;
       is = has.is ∙ unsettled_toggle hand n has.queue un
-          ∙ sym (ap (λ (h : Hand). hand_toggle h n has.queue) m.later_is ∙ ap (λ (x : Bool). if x then made.host.toggle else has.queue.token.toggle) (not_same m.copy.at n (λ e. differs (sym e))));
+          ∙ sym (ap (λ (h : Hand). hand_toggle h n has.queue) m.later_is ∙ ap
+          (λ (x : Bool). if x then made.host.toggle else has.queue.token.toggle)
+          (not_same m.held.at n (λ e. differs (sym e ∙ m.at_same))));
     };
   }
+
+-- ---- in a ring
+
+abbrev pub ring_asks : {W : Type 0} (transacts : W → Ask → List ℕ → Reply → W → Type 0) (parts : StructureSets) (hand : Hand)
+    (wire after : W) (later : Hand) (m : Makes transacts parts hand wire after later)
+    → IsQueuePart m.copy.at (parts m.copy.at) → parts m.copy.at m.copy.at ≡ Some (QueueHead m.copy.queue)
+    → Asks transacts parts hand wire after later
+ring_asks transacts parts hand wire after later m k here = record {
+  copy = m.copy;
+  in_hand = m.in_hand;
+  here = here;
+  part_is = k;
+  works = m.works;
+  kind = kind_at m.copy.queue.dtc;
+  last = false;
+  asked_as = in_ring;
+  out = m.out;
+  sent = m.sent;
+  reply = m.reply;
+  made = m.made;
+  held = counted m.copy m.out m.reply;
+  at_same = refl;
+  queue_same = refl;
+  later_is = m.later_is;
+}
+
+pub transaction_grows : {W : Type 0} (transacts : W → Ask → List ℕ → Reply → W → Type 0) (member : ℕ → Bool) (parts : StructureSets)
+    (hand : Hand) (wire after : W) (later : Hand) (m : Makes transacts parts hand wire after later)
+    → IsMember member m.copy.at (parts m.copy.at) → parts m.copy.at m.copy.at ≡ Some (QueueHead m.copy.queue)
+    → Grows hand parts later m.copy (settlement m.copy.queue m.out m.reply) m.sent.element
+transaction_grows transacts member parts hand wire after later m k here =
+    asked_grows transacts parts hand wire after later
+    (ring_asks transacts parts hand wire after later m (member_part member m.copy.at (parts m.copy.at) k) here)

@@ -1,4 +1,5 @@
 pub mod lemmas
+pub mod QueueParts
 pub mod Ringing
 pub mod Fetching
 pub mod Visiting

@@ -1,8 +1,11 @@
 -- Each event keeps both sides of the pipe of an OUT endpoint agreed.
-use Rattle.std.proofs.Common.{◌≡◌, ◌≢◌, ℕ, ◌-◌, ◌==◌, min, Bool, true, false, not, if◌then◌else◌, List, [], ◌++◌, length, take, drop, None, ap, refl, sym, subst, ◌∙◌}
+use Rattle.std.proofs.Common.{◌≡◌, ◌≢◌, ℕ, ◌-◌, ◌==◌, min, Bool, true, false, not, if◌then◌else◌, List, [], ◌++◌, length, take, drop, None, ap, refl, sym, subst, ◌∙◌, inl, inr}
+use Rattle.std.specs.Prelude.{◌⊎◌}
 use Rattle.std.proofs.lemmas.Bool.{eq-eqb, false≢true}
 use Rattle.std.proofs.lemmas.List.{append-nil}
 use Rattle.usb_base.specs.declared.packets.Ask.{Ask}
+use Rattle.usb_base.specs.declared.packets.EpKind.{EpKind}
+use Rattle.usb_base.specs.declared.packets.EpKind.TheVariants as Kinds
 use Rattle.usb_base.specs.declared.packets.Pid.TheVariants as Packets
 use Rattle.usb_base.specs.declared.packets.Reply.{Reply}
 use Rattle.usb_base.specs.declared.packets.Speed.TheVariants.{High}
@@ -17,16 +20,16 @@ use Rattle.toggle_error.specs.Columns.{expected_pid, limit_of, out_token}
 use Rattle.transactions.specs.declared.pipe.Pipe.{Pipe}
 use Rattle.transactions.specs.Asks.{pinged, token_pid}
 use Rattle.hc_copy.specs.Overlay.{buffer_place}
-use Rattle.hc_copy.specs.Planning.{pid_at, speed_at, split_at, host_in, carries}
+use Rattle.hc_copy.specs.Planning.{pid_at, speed_at, split_at, host_in, carries, transaction_of}
 use Rattle.hc_copy.specs.Transacting.{call_in}
 use Rattle.hc_copy.specs.WriteBack.{moved_by}
-use Rattle.async_walk.specs.Naks.{kind_at, planned}
+use Rattle.async_walk.specs.Naks.{kind_at}
 use Rattle.law_structures.specs.lent_structures.Settles.{is_moved}
 use Rattle.law_structures.proofs.lemmas.lent_structures.Moving.{Moves}
 use Rattle.law_structures.specs.lent_structures.Structures.{Structures}
 use Rattle.law_structures.proofs.lemmas.lent_structures.Altering.{found_element}
 use Rattle.law_ring.specs.Hand.{Hand}
-use Rattle.law_ring.specs.Effects.{buffer_of}
+use Rattle.law_ring.specs.Effects.{buffer_of, IsAskedAs, in_ring, in_frames}
 use Rattle.law_ring.specs.OutBus.{Taker, is_acknowledgement, took, Takes, nothing_taken, all_taken, all_dropped}
 use Rattle.law_ring.specs.OutPipes.{IsNext, IsUnmoved, OutAgrees, level, ahead, ended}
 
@@ -96,9 +99,10 @@ module _ (part : Structures) (hand later : Hand) (n : ℕ) (q : Qh) (h now : Boo
 
   -- ---- by what the host heard
 
-  pub out_step : (ask : Ask) (reply : Reply) (after : Taker) (b : Bool) → is_acknowledgement reply ≡ b → ask.toggle ≡ expected_pid h → now ≡ (if b then not h else h) → moved ≡ (if b then out else []) → Takes ask out s reply after
+  pub out_step : (ask : Ask) (reply : Reply) (after : Taker) (b : Bool) → (b ≡ true → is_acknowledgement reply ≡ true)
+      → ask.toggle ≡ expected_pid h → now ≡ (if b then not h else h) → moved ≡ (if b then out else []) → Takes ask out s reply after
       → OutAgrees part hand n q h known s → OutAgrees part later n q now (known ++ moved) after
-  out_step ask reply after true acked toggle turned is (nothing_taken r off) k = absurd (false≢true (sym off ∙ acked))
+  out_step ask reply after true acked toggle turned is (nothing_taken r off) k = absurd (false≢true (sym off ∙ acked refl))
   out_step ask reply after true acked toggle turned is (all_taken r expected) k = taken_heard turned is (sym (pid_same h s.expects (sym toggle ∙ expected))) k
   out_step ask reply after true acked toggle turned is (all_dropped r other) k = dropped_heard turned is (the_other h s.expects (λ (e : h ≡ s.expects). other (toggle ∙ ap expected_pid e))) k
   out_step ask reply after false acked toggle turned is (all_taken r expected) k = taken_unheard turned is (sym (pid_same h s.expects (sym toggle ∙ expected))) k
@@ -116,9 +120,24 @@ pinged_by true false = refl
 pinged_by false true = refl
 pinged_by false false = refl
 
+pinged_as : (q : Qh) (kind : EpKind) (last : Bool) → IsAskedAs q kind last
+    → pinged kind q.token.ping ≡ (if q.token.ping then Packets.Ping else Packets.Out)
+pinged_as q _ _ in_ring = pinged_by q.dtc q.token.ping
+pinged_as q _ _ (in_frames last) = by q.token.ping
+  where
+    by : (b : Bool) → pinged Kinds.Interrupt b ≡ (if b then Packets.Ping else Packets.Out)
+    by true = refl
+    by false = refl
+
+-- whether there is a ping state
 pub out_token_by : (dtc : Bool) → out_token High (kind_at dtc) ≡ tokens.PingedOut
 out_token_by true = refl
 out_token_by false = refl
+
+pub out_token_as : (q : Qh) (kind : EpKind) (last : Bool) → IsAskedAs q kind last
+    → (out_token High kind ≡ tokens.PingedOut) ⊎ (out_token High kind ≡ tokens.Out)
+out_token_as q _ _ in_ring = inl (out_token_by q.dtc)
+out_token_as q _ _ (in_frames last) = inr refl
 
 unmoved_by : (o : Outcome) → Moves o None → is_moved o ≡ false
 unmoved_by o m = m.1
@@ -128,24 +147,27 @@ moved_none (outcomes.Moved n) e = absurd (false≢true (sym e))
 moved_none _ e = refl
 
 -- what is known of the transaction
-pub record IsOutCall (q : Qh) (out : List ℕ) : Type 0 where
-  pub plain : (call_in (planned q) out false).ask.split ≡ Splits.Plain
-  pub pid : (call_in (planned q) out false).ask.pid ≡ (if q.token.ping then Packets.Ping else Packets.Out)
-  pub speed : (call_in (planned q) out false).ask.speed ≡ High
+pub record IsOutCall (kind : EpKind) (q : Qh) (out : List ℕ) (last : Bool) : Type 0 where
+  pub plain : (call_in (transaction_of kind q) out last).ask.split ≡ Splits.Plain
+  pub pid : (call_in (transaction_of kind q) out last).ask.pid ≡ (if q.token.ping then Packets.Ping else Packets.Out)
+  pub speed : (call_in (transaction_of kind q) out last).ask.speed ≡ High
 
-pub out_call : (q : Qh) (out : List ℕ) → q.eps ≡ 2 → q.token.pid ≡ 0 → IsOutCall q out
-out_call q out high is =
-    let plain : (planned q).split ≡ Splits.Plain = plain_split q.eps q.token.split_state (planned q).pipe high in
+pub out_call : (kind : EpKind) (q : Qh) (out : List ℕ) (last : Bool) → IsAskedAs q kind last → q.eps ≡ 2 → q.token.pid ≡ 0
+    → IsOutCall kind q out last
+out_call kind q out last asked_as high is =
+    let plain : (transaction_of kind q).split ≡ Splits.Plain = plain_split q.eps q.token.split_state (transaction_of kind q).pipe high in
     record {
       plain = plain;
-      pid = ap (λ (s : Split). token_pid s (pid_at q.token.pid) (pinged (kind_at q.dtc) q.token.ping)) plain ∙ ap (λ (c : ℕ). token_pid Splits.Plain (pid_at c) (pinged (kind_at q.dtc) q.token.ping)) is ∙ pinged_by q.dtc q.token.ping;
+      pid = ap (λ (s : Split). token_pid s (pid_at q.token.pid) (pinged kind q.token.ping)) plain ∙ ap
+          (λ (c : ℕ). token_pid Splits.Plain (pid_at c) (pinged kind q.token.ping)) is ∙ pinged_as q kind last asked_as;
       speed = ap speed_at high;
     }
 
 -- an OUT that isn't pinged carries the whole next packet
-pub bytes_are : (q : Qh) (out : List ℕ) → q.eps ≡ 2 → q.token.pid ≡ 0 → q.token.ping ≡ false → (planned q).bytes ≡ min q.max q.token.total
-bytes_are q out high is off =
-    let plain : (planned q).split ≡ Splits.Plain = plain_split q.eps q.token.split_state (planned q).pipe high in
+pub bytes_are : (kind : EpKind) (q : Qh) → q.eps ≡ 2 → q.token.pid ≡ 0 → q.token.ping ≡ false
+    → (transaction_of kind q).bytes ≡ min q.max q.token.total
+bytes_are kind q high is off =
+    let plain : (transaction_of kind q).split ≡ Splits.Plain = plain_split q.eps q.token.split_state (transaction_of kind q).pipe high in
     ap (λ (s : Split). if carries s (pid_at q.token.pid) q.token.ping then limit_of (host_in q) else 0) plain
     ∙ ap (λ (c : ℕ). if carries Splits.Plain (pid_at c) q.token.ping then limit_of (host_in q) else 0) is
     ∙ ap (λ (b : Bool). if not b then limit_of (host_in q) else 0) off

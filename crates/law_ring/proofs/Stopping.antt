@@ -9,6 +9,7 @@ use Rattle.usb_base.specs.declared.packets.Reply.TheVariants.{Silent, Bytes, Han
 use Rattle.usb_base.specs.declared.packets.Split.{Split}
 use Rattle.usb_base.specs.declared.packets.Split.TheVariants as Splits
 use Rattle.toggle_error.specs.declared.host.HostSide.{HostSide}
+use Rattle.toggle_error.specs.declared.host.Outcome.{Outcome}
 use Rattle.toggle_error.specs.declared.rows.AskToken.{AskToken}
 use Rattle.toggle_error.specs.declared.rows.AskToken.TheVariants as tokens
 use Rattle.toggle_error.specs.declared.rows.CompleteRow.{CompleteRow}
@@ -71,6 +72,40 @@ out_moves ask sent last reply host plain token =
     (subst (λ (k : AskToken). Moves (outcome_of_row (Rows.Plain (plain_row k (heard_of host reply) sent)) host) (if is_acknowledgement reply then Some sent else None)) (sym token)
     (subst (Moves (outcome_of_row (Rows.Plain (plain_row tokens.PingedOut (heard_of host reply) sent)) host)) (pinged_moves (heard_of host reply) sent ∙ ap (λ (b : Bool). if b then Some sent else None) (heard_acks host reply))
     (row_is (Rows.Plain (plain_row tokens.PingedOut (heard_of host reply) sent)) host)))
+
+-- without a ping state a NYET is no acknowledgement (USB 2.0, 8.5.1)
+abbrev acks_plain : Heard → Bool
+acks_plain Heards.Ack = true
+acks_plain _ = false
+
+plain_out_moves : (h : Heard) (sent : ℕ) → plain_moves (plain_row tokens.Out h sent) ≡ (if acks_plain h then Some sent else None)
+plain_out_moves Heards.Ack sent = refl
+plain_out_moves _ sent = refl
+
+acks_both : (h : Heard) → acks_plain h ≡ true → acks h ≡ true
+acks_both Heards.Ack e = refl
+acks_both _ e = absurd (false≢true e)
+
+-- what an OUT moved, where it was heard: only what was acknowledged
+pub record OutMoves (o : Outcome) (sent : ℕ) (reply : Reply) : Type 0 where
+  pub heard : Bool
+  pub moves : Moves o (if heard then Some sent else None)
+  pub acked : heard ≡ true → is_acknowledgement reply ≡ true
+
+pub unpinged_moves : (ask : Ask) (sent : ℕ) (last : Bool) (reply : Reply) (host : HostSide) → ask.split ≡ Splits.Plain
+    → token_of ask ≡ tokens.Out → OutMoves (outcome_of ask sent last reply host) sent reply
+unpinged_moves ask sent last reply host plain token = record {
+  heard = acks_plain (heard_of host reply);
+  moves = subst (λ (s : Split). Moves (outcome_of_row
+      (row_at s ask.kind last (heard_of host reply) (plain_row (token_of ask) (heard_of host reply) sent)) host)
+      (if acks_plain (heard_of host reply) then Some sent else None)) (sym plain)
+      (subst (λ (k : AskToken). Moves (outcome_of_row (Rows.Plain (plain_row k (heard_of host reply) sent)) host)
+      (if acks_plain (heard_of host reply) then Some sent else None)) (sym token)
+      (subst (Moves (outcome_of_row (Rows.Plain (plain_row tokens.Out (heard_of host reply) sent)) host))
+      (plain_out_moves (heard_of host reply) sent)
+      (row_is (Rows.Plain (plain_row tokens.Out (heard_of host reply) sent)) host)));
+  acked = λ e. sym (heard_acks host reply) ∙ acks_both (heard_of host reply) e;
+}
 
 -- a PING moves nothing
 pub ping_none : (ask : Ask) (sent : ℕ) (last : Bool) (reply : Reply) (host : HostSide) → ask.split ≡ Splits.Plain → token_of ask ≡ tokens.Ping → Moves (outcome_of ask sent last reply host) None

@@ -2,10 +2,14 @@
 -- a qTD, makes one transaction, or writes one back. Nothing else changes, and of one queue head's structures alone.
 --     Reads, Passes, Takes, Makes, WritesBack
 --                              each of them
+--     Asks                     one transaction of a queue head, whichever walk makes it; Makes is that of a ring
+--     came_to m                what it came to
 --     Effect .. kind           which of them an event of this kind is
 --     Happens ..               the ring after an event, with its effect
 use Rattle.std.specs.Prelude.{◌≡◌, ◌≢◌, ℕ, ◌-◌, ◌<◌, Bool, true, false, List, [], ◌∷◌, length, take, drop, slice_index, Option, Some}
 use Rattle.usb_base.specs.declared.packets.Ask.{Ask}
+use Rattle.usb_base.specs.declared.packets.EpKind.{EpKind}
+use Rattle.usb_base.specs.declared.packets.EpKind.TheVariants.{Interrupt}
 use Rattle.usb_base.specs.declared.packets.Pid.{Pid}
 use Rattle.usb_base.specs.declared.packets.Reply.{Reply}
 use Rattle.usb_base.specs.declared.packets.Reply.TheVariants.{Bytes}
@@ -15,11 +19,12 @@ use Rattle.qh_qtd.specs.declared.qtd.Qtd.{Qtd}
 use Rattle.qh_qtd.specs.declared.queue_head.Qh.{Qh}
 use Rattle.hc_copy.specs.Visits.{next_pointer}
 use Rattle.hc_copy.specs.Overlay.{advanced, buffer_place}
+use Rattle.hc_copy.specs.Planning.{transaction_of}
 use Rattle.hc_copy.specs.Transacting.{call_in, outcome_in, host_after}
 use Rattle.hc_copy.specs.WriteBack.{moved_by, received}
 use Rattle.async_walk.specs.declared.state.WalkStep.{WalkStep}
 use Rattle.async_walk.specs.declared.state.WalkStep.TheVariants as steps
-use Rattle.async_walk.specs.Naks.{planned, counts, naks_after}
+use Rattle.async_walk.specs.Naks.{kind_at, planned, counts, naks_after}
 use Rattle.async_walk.specs.Rows.{WalkPlace}
 use Rattle.law_structures.specs.lent_structures.Structures.{Structure, QueueHead, Element, Buffer, Structures, StructureSets, put}
 use Rattle.law_structures.specs.lent_structures.Sound.{element_pages, buffer_name}
@@ -27,6 +32,7 @@ use Rattle.law_structures.specs.lent_structures.WriteBack.{Received, Nothing, In
 use Rattle.law_ring.specs.Hand.{Copy, copied_queue, Settlement, settled_queue_of, Hand, Empty, Copied, Settled}
 use Rattle.claims_base.specs.Controller.{Base}
 use Rattle.law_ring.specs.Ring.{IsRing}
+use Rattle.law_ring.specs.QueueParts.{IsQueuePart}
 
 -- the bytes of a buffer
 abbrev pub bytes_in : Option Structure → List ℕ
@@ -70,20 +76,25 @@ pub record Takes (parts : StructureSets) (hand : Hand) (now : StructureSets) (la
 
 -- ---- a transaction is made
 
--- these are the bytes that go out with it: those of the current qTD's buffer from the place on
-pub record AreSent (part : Structures) (q : Qh) (out : List ℕ) : Type 0 where
+-- these are the n bytes that go out with it: those of the current qTD's buffer from the place on
+pub record AreSent (part : Structures) (q : Qh) (n : ℕ) (out : List ℕ) : Type 0 where
   pub element : Qtd
   pub here : part q.current ≡ Some (Element element)
-  pub are : out ≡ take (planned q).bytes (drop (buffer_place q - element.offset) (buffer_of part element))
-  pub all : length out ≡ (planned q).bytes
+  pub are : out ≡ take n (drop (buffer_place q - element.offset) (buffer_of part element))
+  pub all : length out ≡ n
 
--- what the transaction of a queue head came to
-abbrev pub settlement : Qh → List ℕ → Reply → Settlement
-settlement q out reply = record {
-  host = host_after (planned q) out false reply;
-  outcome = outcome_in (planned q) out false reply;
-  got = received q (outcome_in (planned q) out false reply) reply;
+-- what the transaction of a queue head came to, whose endpoint is of this kind; `last` tells a complete-split that is the last of its
+-- frame (4.12.2)
+abbrev pub settlement_as : EpKind → Qh → List ℕ → Bool → Reply → Settlement
+settlement_as kind q out last reply = record {
+  host = host_after (transaction_of kind q) out last reply;
+  outcome = outcome_in (transaction_of kind q) out last reply;
+  got = received q (outcome_in (transaction_of kind q) out last reply) reply;
 }
+
+-- .. in a ring
+abbrev pub settlement : Qh → List ℕ → Reply → Settlement
+settlement q out reply = settlement_as (kind_at q.dtc) q out false reply
 
 abbrev pub counted : Copy → List ℕ → Reply → Copy
 counted c out reply = record c { naks = naks_after (counts (outcome_in (planned c.queue) out false reply) reply) (copied_queue c) }
@@ -93,10 +104,43 @@ pub record Makes {W : Type 0} (transacts : W → Ask → List ℕ → Reply → 
   pub in_hand : hand ≡ Copied copy
   pub works : copy.queue.token.active ≡ true
   pub out : List ℕ
-  pub sent : AreSent (parts copy.at) copy.queue out
+  pub sent : AreSent (parts copy.at) copy.queue (planned copy.queue).bytes out
   pub reply : Reply
   pub made : transacts wire (call_in (planned copy.queue) out false).ask (call_in (planned copy.queue) out false).out reply after
   pub later_is : later ≡ Settled (counted copy out reply) (settlement copy.queue out reply)
+
+-- ---- a transaction, whichever walk makes it
+
+-- Of which kind an endpoint is, its schedule tells: in the ring DTC (3.6.2), and no complete-split is the last of its frame; in the
+-- frames it is an interrupt endpoint.
+pub data IsAskedAs (q : Qh) : EpKind → Bool → Type 0 where
+  in_ring : IsAskedAs q (kind_at q.dtc) false
+  in_frames : (last : Bool) → IsAskedAs q Interrupt last
+
+-- the queue head stands there, and its part is sound; what is in hand after it is a copy of the same one, whose count of NAKs may differ
+pub record Asks {W : Type 0} (transacts : W → Ask → List ℕ → Reply → W → Type 0) (parts : StructureSets) (hand : Hand) (wire after : W)
+    (later : Hand) : Type 0 where
+  pub copy : Copy
+  pub in_hand : hand ≡ Copied copy
+  pub here : parts copy.at copy.at ≡ Some (QueueHead copy.queue)
+  pub part_is : IsQueuePart copy.at (parts copy.at)
+  pub works : copy.queue.token.active ≡ true
+  pub kind : EpKind
+  pub last : Bool
+  pub asked_as : IsAskedAs copy.queue kind last
+  pub out : List ℕ
+  pub sent : AreSent (parts copy.at) copy.queue (transaction_of kind copy.queue).bytes out
+  pub reply : Reply
+  pub made : transacts wire (call_in (transaction_of kind copy.queue) out last).ask
+      (call_in (transaction_of kind copy.queue) out last).out reply after
+  pub held : Copy
+  pub at_same : held.at ≡ copy.at
+  pub queue_same : held.queue ≡ copy.queue
+  pub later_is : later ≡ Settled held (settlement_as kind copy.queue out last reply)
+
+abbrev pub came_to : {W : Type 0} {transacts : W → Ask → List ℕ → Reply → W → Type 0} {parts : StructureSets} {hand : Hand}
+    {wire after : W} {later : Hand} → Asks transacts parts hand wire after later → Settlement
+came_to m = settlement_as m.kind m.copy.queue m.out m.last m.reply
 
 -- ---- a transaction is written back
 

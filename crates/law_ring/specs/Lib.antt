@@ -1,5 +1,6 @@
 pub mod Hand
 pub mod Ring
+pub mod QueueParts
 pub mod Effects
 pub mod Stores
 pub mod Doorbell

@@ -18,10 +18,10 @@ use Rattle.qh_qtd.specs.declared.qtd.Qtd.{Qtd}
 use Rattle.qh_qtd.specs.declared.queue_head.Qh.{Qh}
 use Rattle.law_structures.specs.lent_structures.Structures.{QueueHead, Element, Structures, StructureSets}
 use Rattle.law_ring.specs.Hand.{Hand}
-use Rattle.law_ring.specs.Effects.{buffer_of, settlement}
+use Rattle.law_ring.specs.Effects.{buffer_of, came_to}
 use Rattle.law_ring.specs.Told.{Told}
 use Rattle.law_ring.specs.Streams.{moved_bytes, StreamEffect}
-use Rattle.law_ring.specs.Streams.StreamEffect.{same, grows}
+use Rattle.law_ring.specs.Streams.StreamEffect.{same, aside, grows}
 
 -- ---- the order
 
@@ -66,11 +66,13 @@ pub record Accounts (order : ℕ → ℕ) (place : ℕ) (out : List ℕ) (hand :
 
 -- ---- an event
 
-abbrev pub bytes_of_effect : {W : Type 0} {transacts : W → Ask → List ℕ → Reply → W → Type 0} {parts : StructureSets} {hand : Hand} {wire after : W} {now : StructureSets} {later : Hand} → ℕ
-    → StreamEffect transacts parts hand wire after now later → List ℕ
+abbrev pub bytes_of_effect : {W : Type 0} {Beside : Ask → Type 0} {transacts : W → Ask → List ℕ → Reply → W → Type 0}
+    {parts : StructureSets} {hand : Hand} {wire after : W} {now : StructureSets}
+    {later : Hand} → ℕ → StreamEffect Beside transacts parts hand wire after now later → List ℕ
 bytes_of_effect n (same s quiet) = []
-bytes_of_effect {parts = parts} n (grows m all g) =
-    if m.copy.at == n then moved_bytes m.copy.queue m.sent.element (settlement m.copy.queue m.out m.reply) (buffer_of (parts m.copy.at) m.sent.element) else []
+bytes_of_effect n (aside s ask out reply beside made) = []
+bytes_of_effect {parts = parts} n (grows m all g) = if m.copy.at == n then moved_bytes m.copy.queue m.sent.element (came_to m)
+    (buffer_of (parts m.copy.at) m.sent.element) else []
 
 pub record GoesOnInOrder (order : ℕ → ℕ) (out : List ℕ) (later : Hand) (now : StructureSets) (n : ℕ) (xs more : List ℕ) : Type 0 where
   pub place : ℕ

@@ -18,10 +18,10 @@ use Rattle.async_walk.specs.Rows.{WalkPlace}
 use Rattle.law_structures.specs.lent_structures.Structures.{Element, Structures, StructureSets}
 use Rattle.law_ring.specs.Hand.{Hand}
 use Rattle.claims_base.specs.Controller.{Base}
-use Rattle.law_ring.specs.Effects.{buffer_of, settlement}
+use Rattle.law_ring.specs.Effects.{buffer_of, came_to}
 use Rattle.law_ring.specs.Told.{HasToggle, Endpoint, HasEndpoint}
 use Rattle.law_ring.specs.Streams.{moved_bytes, StreamEffect, Streams}
-use Rattle.law_ring.specs.Streams.StreamEffect.{same, grows}
+use Rattle.law_ring.specs.Streams.StreamEffect.{same, aside, grows}
 use Rattle.law_pipe.specs.Pipe.{Pipe, PipeAgrees}
 use Rattle.law_ring.specs.Bus.{Sender}
 
@@ -75,11 +75,14 @@ abbrev pub grown : (ℕ → List (List ℕ)) → ℕ → List (List ℕ) → ℕ
 grown acc at more k = if k == at then acc k ++ more else acc k
 
 -- what was told of the packets taken: of a queue head with a stream the current qTD grew by their bytes, and else there are none
-abbrev pub IsToldBy : {W : Type 0} {transacts : W → Ask → List ℕ → Reply → W → Type 0} {parts : StructureSets} {hand : Hand} {wire after : W} {now : StructureSets} {later : Hand} → (ℕ → Bool) → ℕ
-    → List (List ℕ) → StreamEffect transacts parts hand wire after now later → Type 0
+abbrev pub IsToldBy : {W : Type 0} {Beside : Ask → Type 0} {transacts : W → Ask → List ℕ → Reply → W → Type 0} {parts : StructureSets}
+    {hand : Hand} {wire after : W} {now : StructureSets}
+    {later : Hand} → (ℕ → Bool) → ℕ → List (List ℕ) → StreamEffect Beside transacts parts hand wire after now later → Type 0
 IsToldBy streams at more (same s quiet) = more ≡ []
+IsToldBy streams at more (aside s ask out reply beside made) = more ≡ []
 IsToldBy {parts = parts} streams at more (grows m all g) =
-    (streams m.copy.at ≡ true → (at ≡ m.copy.at) × (moved_bytes m.copy.queue m.sent.element (settlement m.copy.queue m.out m.reply) (buffer_of (parts m.copy.at) m.sent.element) ≡ concat more))
+    (streams m.copy.at ≡ true → (at ≡ m.copy.at) ×
+    (moved_bytes m.copy.queue m.sent.element (came_to m) (buffer_of (parts m.copy.at) m.sent.element) ≡ concat more))
     × (streams m.copy.at ≡ false → more ≡ [])
 
 pub record GoesOn {W : Type 0} (transacts : W → Ask → List ℕ → Reply → W → Type 0) (stream : ℕ → ℕ → Bool) (packets : ℕ → ℕ → List (List ℕ)) (sender : W → ℕ → ℕ → Option Sender) (base : Base)

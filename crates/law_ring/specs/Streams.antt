@@ -1,8 +1,10 @@
--- What an event of the walk does to the streams of the ring's endpoints (EHCI 1.0, 4.10): nothing, or it makes one transaction of one endpoint, by
--- which the current qTD of that endpoint grows.
+-- What an event of a walk does to the streams of the endpoints of queue heads (EHCI 1.0, 4.10): nothing, or it makes one transaction of
+-- one endpoint, by which the current qTD of that endpoint grows; or one of an isochronous descriptor, which is beside all of them.
 --     moved_bytes q t z bs      the bytes that a transaction moved: received with an IN, else those of the buffer that were sent
 --     Grows ..                  what is told after a transaction: the current qTD's bytes have grown by these, and nothing else has
---     StreamEffect ..           nothing is told otherwise and nothing was asked, or one transaction was made
+--     StreamEffect Beside ..    nothing is told otherwise and nothing was asked; or one transaction was made, which is that of a queue
+--                               head or one of those beside them
+--     NoneBeside ask            in a ring there are none beside
 --     Streams ..                an event of the walk with its effect on streams
 use Rattle.std.specs.Prelude.{◌≡◌, ◌≢◌, ℕ, ◌-◌, Bool, true, ◌==◌, List, ◌++◌, take, drop, if◌then◌else◌}
 use Rattle.usb_base.specs.declared.packets.Ask.{Ask}
@@ -17,7 +19,7 @@ use Rattle.law_structures.specs.lent_structures.Structures.{StructureSets}
 use Rattle.law_structures.specs.lent_structures.Sound.{IsMember}
 use Rattle.law_ring.specs.Hand.{Copy, Settlement, Hand}
 use Rattle.claims_base.specs.Controller.{Base}
-use Rattle.law_ring.specs.Effects.{buffer_of, settlement, Makes, Happens}
+use Rattle.law_ring.specs.Effects.{buffer_of, Asks, came_to, Happens}
 use Rattle.law_ring.specs.Told.{Told, HasToggle, SameTold}
 
 abbrev pub AreMembers : (ℕ → Bool) → StructureSets → Type 0
@@ -33,12 +35,19 @@ pub record Grows (hand : Hand) (parts : StructureSets) (later : Hand) (c : Copy)
   pub toggle : (b : Bool) → HasToggle hand parts c.at b → (b ≡ c.queue.token.toggle) × HasToggle later parts c.at z.host.toggle
   pub other_toggles : (n : ℕ) (b : Bool) → n ≢ c.at → HasToggle hand parts n b → HasToggle later parts n b
 
-pub data StreamEffect {W : Type 0} (transacts : W → Ask → List ℕ → Reply → W → Type 0) (parts : StructureSets) (hand : Hand) (wire after : W) (now : StructureSets) (later : Hand) : Type 0 where
-  same : SameTold hand parts later now → after ≡ wire → StreamEffect transacts parts hand wire after now later
-  grows : (m : Makes transacts parts hand wire after later) → now ≡ parts → Grows hand parts later m.copy (settlement m.copy.queue m.out m.reply) m.sent.element
-      → StreamEffect transacts parts hand wire after now later
+abbrev pub NoneBeside : Ask → Type 0
+NoneBeside ask = ⊥
+
+pub data StreamEffect {W : Type 0} (Beside : Ask → Type 0) (transacts : W → Ask → List ℕ → Reply → W → Type 0) (parts : StructureSets)
+    (hand : Hand) (wire after : W) (now : StructureSets)
+    (later : Hand) : Type 0 where
+  same : SameTold hand parts later now → after ≡ wire → StreamEffect Beside transacts parts hand wire after now later
+  aside : SameTold hand parts later now → (ask : Ask) (out : List ℕ) (reply : Reply) → Beside ask → transacts wire ask out reply after
+      → StreamEffect Beside transacts parts hand wire after now later
+  grows : (m : Asks transacts parts hand wire after later) → now ≡ parts → Grows hand parts later m.copy (came_to m) m.sent.element
+      → StreamEffect Beside transacts parts hand wire after now later
 
 pub record Streams {W : Type 0} (transacts : W → Ask → List ℕ → Reply → W → Type 0) (base : Base) (member : ℕ → Bool) (parts : StructureSets) (hand : Hand) (wire after : W) (new : WalkPlace)
     (kind : WalkStep) : Type 0 where
   pub happens : Happens transacts base member parts hand wire after new kind
-  pub streams : StreamEffect transacts parts hand wire after happens.now happens.later
+  pub streams : StreamEffect NoneBeside transacts parts hand wire after happens.now happens.later

@@ -8,7 +8,7 @@ ghost use Rattle.law_ring.specs.Hand.{Hand};
 ghost use Rattle.law_ring.specs.Ring.{IsInHand};
 ghost use Rattle.law_ring.specs.Effects.{buffer_of, Effect};
 ghost use Rattle.law_ring.specs.Told.{Told};
-ghost use Rattle.law_ring.specs.Streams.{AreMembers, StreamEffect};
+ghost use Rattle.law_ring.specs.Streams.{AreMembers, NoneBeside, StreamEffect};
 ghost use Rattle.law_ring.specs.Order.{Accounts, bytes_of_effect, GoesOnInOrder};
 
 use usb_base::Wire;
@@ -18,7 +18,7 @@ pub fn each_event_adds_to_the_end<W: Wire>()
     ensures { (member : ℕ → Bool) (parts : StructureSets) (hand : Hand) (reply : Reply) (wire after : W) (now : StructureSets) (later : Hand) (kind : WalkStep)
         (order : ℕ → ℕ) (place : ℕ) (out : List ℕ) (n : ℕ) (xs : List ℕ)
         → AreMembers member parts → IsInHand member parts reply hand → Effect W.transacts parts hand wire after now later kind
-        → (z : StreamEffect W.transacts parts hand wire after now later) → Accounts order place out hand parts n xs
+        → (z : StreamEffect NoneBeside W.transacts parts hand wire after now later) → Accounts order place out hand parts n xs
         → GoesOnInOrder order out later now n xs (bytes_of_effect n z) }
 {}
 

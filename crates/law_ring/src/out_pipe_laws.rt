@@ -9,7 +9,7 @@ ghost use Rattle.law_ring.specs.Hand.{Hand};
 ghost use Rattle.law_ring.specs.Ring.{IsInHand};
 ghost use Rattle.law_ring.specs.Effects.{Effect};
 ghost use Rattle.law_ring.specs.Told.{Endpoint};
-ghost use Rattle.law_ring.specs.Streams.{AreMembers, StreamEffect};
+ghost use Rattle.law_ring.specs.Streams.{AreMembers, NoneBeside, StreamEffect};
 ghost use Rattle.law_ring.specs.Order.{bytes_of_effect};
 ghost use Rattle.law_ring.specs.OutBus.{Taker, IsOutBus};
 ghost use Rattle.law_ring.specs.OutPipes.{IsOutPipe};
@@ -22,7 +22,8 @@ pub fn each_event_keeps_an_out_pipe<W: Wire>()
     ensures { (stream : ℕ → ℕ → Bool) (taker : W → ℕ → ℕ → Option Taker)
         (member : ℕ → Bool) (parts : StructureSets) (hand : Hand) (reply : Heard) (wire after : W) (now : StructureSets) (later : Hand) (kind : WalkStep) (n : ℕ) (x : Endpoint) (known : List ℕ)
         → IsOutBus W.transacts stream taker → AreMembers member parts → AreMembers member now → IsInHand member parts reply hand
-        → Effect W.transacts parts hand wire after now later kind → (z : StreamEffect W.transacts parts hand wire after now later)
+        → Effect W.transacts parts hand wire after now later kind
+        → (z : StreamEffect NoneBeside W.transacts parts hand wire after now later)
         → IsOnlyEndpoint stream member parts n x → IsOutPipe (taker wire x.addr x.ep) known parts hand n x
         → IsOutPipe (taker after x.addr x.ep) (known ++ bytes_of_effect n z) now later n x }
 {}

@@ -159,7 +159,7 @@ module _ (s : Standing) (w : World) (k : IsMixedAt s w) (t : IsChainToLend w.dri
   way_on =
       subst (IsUnderWay (driver_next w).driver (driver_next w).memory s.member s.recent parts) (sym (ap (λ (g : DriverContent). g.command) driver_is ∙ on)) (inr next_there)
 
-  step_on : QueueStep s w (record s { parts = parts })
+  step_on : QueueStep s w (driver_next w) (record s { parts = parts })
   step_on = begins lending row_is (subst (λ (g : DriverContent). QueuesAlike lent (queued g)) (sym driver_is) queues_on)
 
   pub lend_world : IsMixedNext s w (driver_next w)

@@ -29,7 +29,7 @@ use Rattle.law_driver.proofs.lemmas.queued_drivers.RowOwners.{queued_owners}
 use Rattle.bus_world.specs.World.{World, driver_parts, controller_parts, driver_next}
 use Rattle.law_world_memory.specs.Mixed.{QueuesGoOn, IsChainToLend, IsChainThere, IsUnderWay, Standing, IsMixedAt}
 use Rattle.law_world_memory.specs.SameQueues.{IsSameQueue}
-use Rattle.law_world_memory.specs.Steps.{AreTold, QueueStep, stays, opens, IsMixedNext}
+use Rattle.law_world_memory.specs.Steps.{AreTold, left_alike, QueueStep, stays, opens, IsMixedNext}
 use Rattle.law_world_memory.proofs.Unfinished.{none_unfinished}
 use Rattle.law_world_memory.proofs.Next.{mixed_next}
 use Rattle.law_world_memory.proofs.Stepping.{told_stored}
@@ -148,8 +148,10 @@ module _ (s : Standing) (w : World) (k : IsMixedAt s w) (t : IsChainThere w.driv
     abbrev after_it : Standing
     after_it = record s { recent = recent; descs = descs_now s.descs e.event.now; parts = parts; frame = e.event.frame_later }
 
-    step_on : QueueStep s w after_it
-    step_on = stays after_it (record { near = refl; streams = refl; ends = refl; order = refl; out = refl; told = told_then })
+    step_on : QueueStep s w (driver_next w) after_it
+    step_on =
+        stays after_it (left_alike (subst (λ (g : DriverContent). QueuesAlike (queued d) (queued g)) (sym driver_is) leaves.queues))
+        (record { near = refl; streams = refl; ends = refl; order = refl; out = refl; told = told_then })
 
     world_on : IsMixedNext s w (driver_next w)
     world_on =
@@ -180,7 +182,7 @@ module _ (s : Standing) (w : World) (k : IsMixedAt s w) (t : IsChainThere w.driv
       out = with_none s.out (32 * there.endpoint.queue);
     }
 
-    step_over : QueueStep s w opened
+    step_over : QueueStep s w (driver_next w) opened
     step_over =
         opens t.there opened (subst (λ (g : DriverContent). QueuesAlike (open_finished (queued d)) (queued g)) (sym driver_is) ended.queues)
         (record {

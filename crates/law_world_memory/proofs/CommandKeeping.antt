@@ -14,7 +14,7 @@ use Rattle.claims_world.specs.Memory.{IsWalking}
 use Rattle.law_world_steps.proofs.lemmas.controlled_walks.Worlds.{command_walks}
 use Rattle.bus_world.specs.World.{World, name_in, commanded_by}
 use Rattle.law_world_memory.specs.Mixed.{QueuesGoOn, Standing, IsMixedAt}
-use Rattle.law_world_memory.specs.Steps.{stays}
+use Rattle.law_world_memory.specs.Steps.{left_by_command, stays}
 use Rattle.law_world_memory.specs.Laws.{OpensMixed, CommandKeepsMixed, CommandKeepsStanding, CommandTellsStep}
 use Rattle.law_world_memory.proofs.Stepping.{still_same}
 use Rattle.law_world_memory.proofs.CommandRefused.{refused_mixed}
@@ -68,7 +68,11 @@ command_keeps_standing s w line cmd fits room k =
 
 pub command_tells_step : CommandTellsStep
 command_tells_step s w line cmd fits room k =
-    record { standing = s; step = stays s (still_same s); mixed = command_keeps_standing s w line cmd fits room k }
+    record {
+      standing = s;
+      step = stays s (left_by_command line cmd fits room refl) (still_same s);
+      mixed = command_keeps_standing s w line cmd fits room k;
+    }
 
 pub command_keeps_mixed : CommandKeepsMixed
 command_keeps_mixed w line cmd fits room k =

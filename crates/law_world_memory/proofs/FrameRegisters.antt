@@ -19,8 +19,10 @@ use Rattle.law_world_memory.proofs.lemmas.framed_memory.Now.{registers_now}
 use Rattle.claims_base.specs.Controller.{opening_base}
 use Rattle.bus_world.specs.World.{World, driver_parts, controller_parts, with_parts, driver_next}
 use Rattle.law_world_memory.specs.Mixed.{QueuesGoOn, Standing, IsMixedAt}
-use Rattle.law_world_memory.specs.Steps.{stays, IsMixedNext}
+use Rattle.law_world_memory.specs.Steps.{HasNoStep, left_alike, left_by_bell, left_by_status, stays, IsMixedNext}
 use Rattle.law_world_memory.specs.Laws.{RowKeepsMixed}
+use Rattle.law_driver.proofs.lemmas.queued_drivers.RowFrames.{queues_same}
+use Rattle.law_world_memory.proofs.RingBasis.{told_row}
 use Rattle.law_world_memory.proofs.Next.{mixed_next}
 use Rattle.law_world_memory.proofs.Stepping.{told_same, still_same}
 use Rattle.law_world_memory.proofs.Alike.{ring_near, goes_on_near}
@@ -31,7 +33,7 @@ use Rattle.law_world_memory.proofs.FrameNext.{EndsStay, same, idle_frames, none_
 pub rest_mixed : RowKeepsMixed rows.Rest
 rest_mixed s w k is =
     subst (λ (row : DriverRow). IsMixedNext s w (with_parts w (after_driver_row row (driver_parts w)))) (sym is)
-    (record { standing = s; step = stays s (still_same s); mixed = k })
+    (record { standing = s; step = stays s (left_alike (queues_same (queued w.driver))) (still_same s); mixed = k })
 
 -- ---- FRINDEX is read
 
@@ -63,9 +65,9 @@ module _ (s : Standing) (w : World) (k : IsMixedAt s w) (row : DriverRow) (is : 
   abbrev after : DriverRow → DriverContent
   after r = (after_driver_row r (driver_parts w)).driver
 
-  bell_mixed : AreMet (after row) s.member → QueuesGoOn (queued (after row)) s.near s.streams s.ends s.parts s.order s.out → IsFramesCommand (after row).command → IsMixedNext s w (driver_next w)
-  bell_mixed ring queues later =
-      mixed_next s w k s (stays s (still_same s))
+  bell_mixed : HasNoStep w (driver_next w) → AreMet (after row) s.member → QueuesGoOn (queued (after row)) s.near s.streams s.ends s.parts s.order s.out → IsFramesCommand (after row).command → IsMixedNext s w (driver_next w)
+  bell_mixed none ring queues later =
+      mixed_next s w k s (stays s none (still_same s))
       (registers_now opening_base s.member s.recent s.descs s.parts s.hand s.frame (controller_parts w) w.driver k.now (ap reads_alone is ∙ reads))
       (subst (λ (r : DriverRow). AreMet (after r) s.member) (sym is) ring) (subst (λ (r : DriverRow). QueuesGoOn (queued (after r)) s.near s.streams s.ends s.parts s.order s.out) (sym is) queues)
       (none_under_way (driver_next w).driver (driver_next w).memory s.member s.recent s.parts (driver_next w).driver.command (subst (λ (r : DriverRow). IsFramesCommand (after r).command) (sym is) later))
@@ -77,7 +79,8 @@ status_read_mixed heard s w k is =
     let due : IsDue p row = subst (IsDue p) is (each_is_due p) in
     let frames : IsFramesCommand w.driver.command = idle_frames w.driver.command due.0 in
     let f : DriverContent = (after_driver_row row p).driver in
-    bell_mixed s w k row is refl frames (ring_near w.driver (after_driver_row (rows.ReadStatus heard) p).driver (λ e x here. refl) s.member k.ring)
+    bell_mixed s w k row is refl frames (left_by_status heard (told_row s w k (rows.ReadStatus heard) is tt))
+    (ring_near w.driver (after_driver_row (rows.ReadStatus heard) p).driver (λ e x here. refl) s.member k.ring)
     (goes_on_near (queued w.driver) (queued (after_driver_row (rows.ReadStatus heard) p).driver) (λ e x here. refl) (λ e x here kept lent. lent) s.near s.streams s.ends s.parts s.order s.out k.queues) frames
 
 pub doorbell_mixed : RowKeepsMixed rows.RingBell
@@ -85,7 +88,7 @@ doorbell_mixed s w k is =
     let p : Parts = driver_parts w in
     let due : IsDue p rows.RingBell = subst (IsDue p) is (each_is_due p) in
     let frames : IsFramesCommand w.driver.command = idle_frames w.driver.command due.0 in
-    bell_mixed s w k rows.RingBell is refl frames
+    bell_mixed s w k rows.RingBell is refl frames (left_by_bell (told_row s w k rows.RingBell is tt))
     (ring_near w.driver (after_driver_row rows.RingBell p).driver (λ e x here. rung_near e x w.driver.waiting w.driver.rung) s.member k.ring)
     (goes_on_near (queued w.driver) (queued (after_driver_row rows.RingBell p).driver) (λ e x here. rung_near e x w.driver.waiting w.driver.rung) (λ e x here kept lent. lent) s.near s.streams
     s.ends s.parts s.order s.out k.queues) frames

@@ -61,7 +61,7 @@ module _ (s : Standing) (w : World) (k : IsMixedAt s w) where
 -- ---- what it leaves
 
 pub record IsIdleNext (s t : Standing) (w : World) : Type 0 where
-  pub step : QueueStep s w t
+  pub step : QueueStep s w (driver_next w) t
   pub idle : (driver_next w).driver.command ≡ None
   pub now : IsFramedNow opening_base t.member t.recent t.descs t.parts t.hand t.frame (controller_parts (driver_next w)) (driver_next w).driver
   pub ring : AreMet (driver_next w).driver t.member

@@ -23,7 +23,7 @@ module _ (s : Standing) (w : World) (k : IsMixedAt s w) where
   owners : HasOwners w.driver
   owners = k.now.framed.place.sound.owners
 
-  pub mixed_next : (new : Standing) → QueueStep s w new → IsFramedNow opening_base new.member new.recent new.descs new.parts new.hand new.frame (controller_parts (driver_next w)) (driver_next w).driver
+  pub mixed_next : (new : Standing) → QueueStep s w (driver_next w) new → IsFramedNow opening_base new.member new.recent new.descs new.parts new.hand new.frame (controller_parts (driver_next w)) (driver_next w).driver
       → AreMet (driver_next w).driver new.member → QueuesGoOn (queued (driver_next w).driver) new.near new.streams new.ends new.parts new.order new.out
       → IsUnderWay (driver_next w).driver (driver_next w).memory new.member new.recent new.parts (driver_next w).driver.command → IsMixedNext s w (driver_next w)
   mixed_next new step now ring queues under = record {

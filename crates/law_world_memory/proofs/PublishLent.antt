@@ -161,7 +161,7 @@ module _ (s : Standing) (w : World) (b : ℕ) (words : List ℕ) (k : IsMixedAt 
   abbrev after_lend : Standing
   after_lend = record s { parts = now; order = leaves.order; out = leaves.out }
 
-  its_step : QueueStep s w after_lend
+  its_step : QueueStep s w (driver_next w) after_lend
   its_step =
       let l = leaves.stands in
       lends b words get leaves.order leaves.out (told_row s w k rows.Lend row_here (not_chained w.driver b words command))

@@ -216,7 +216,7 @@ module _ (s : Standing) (w : World) (b : ℕ) (words : List ℕ) (k : IsMixedAt 
   abbrev after_store : Standing
   after_store = record s { parts = now; out = later }
 
-  its_step : QueueStep s w after_store
+  its_step : QueueStep s w (driver_next w) after_store
   its_step = stores b words g (record { command = at.command; made = at.made; next = row_here; told = same })
 
   pub publish_stored : IsMixedNext s w (driver_next w)

@@ -465,7 +465,7 @@ module _ (s : Standing) (w : World) (k : IsMixedAt s w) (e : ℕ) (is : driver_r
   abbrev after_it : Standing
   after_it = record s { near = fewer_near; streams = met_streams s.streams fewer_near; parts = parts }
 
-  its_step : QueueStep s w after_it
+  its_step : QueueStep s w (driver_next w) after_it
   its_step =
       step_goes e out_y (out_of_frames q e) after_it
       (record {

@@ -87,5 +87,5 @@ module _ (s : Standing) (w : World) (k : IsMixedAt s w) where
   pub queued_next : (row : DriverRow) → driver_row (driver_parts w) ≡ row → IsOfQueues (driver_parts w) row → (after_driver_row row (queued_parts (driver_parts w))).driver ≡ queued (driver_next w).driver
   queued_next row is of = sym (ap (λ (q : Parts). q.driver) (row_alike row is of).same) ∙ ap (λ (r : DriverRow). queued (after_driver_row r p).driver) (sym is)
 
-  pub told_row : (row : DriverRow) → driver_row (driver_parts w) ≡ row → IsOfQueues (driver_parts w) row → IsToldRow w row
+  pub told_row : (row : DriverRow) → driver_row (driver_parts w) ≡ row → IsOfQueues (driver_parts w) row → IsToldRow w (driver_next w) row
   told_row row is of = record { next = is; told = sym (queued_next row is of) }

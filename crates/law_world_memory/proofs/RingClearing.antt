@@ -182,7 +182,7 @@ module _ (s : Standing) (w : World) (k : IsMixedAt s w) (row : driver_row (drive
   abbrev after_it : Standing
   after_it = record s { member = narrower; near = nearer; streams = met_streams s.streams nearer }
 
-  its_step : QueueStep s w after_it
+  its_step : QueueStep s w (driver_next w) after_it
   its_step =
       narrows narrower nearer (told_row s w k rows.ClearAdvance row tt) (λ n. refl)
       (narrow_fewer (queued_parts p) false (queued_owners d owners k.turns) told_idle s.near k.queues.queues.met)

@@ -145,7 +145,7 @@ module _ (s : Standing) (w : World) (k : IsMixedAt s w) (r : IsOpenReady w.drive
   go : QueuesGoOn (open_lent q w.memory) s.near s.streams s.ends now s.order s.out
   go = record { queues = whole.queues; sound = sound; tails = whole.tails k.queues.tails; controls = whole.controls k.queues.controls }
 
-  its_step : QueueStep s w (record s { parts = now })
+  its_step : QueueStep s w (driver_next w) (record s { parts = now })
   unfolding lend
   its_step = begins lend row_is (queues_are (open_lent q w.memory) (queued (driver_next w).driver) next_is)
 

@@ -220,7 +220,7 @@ module _ (s : Standing) (w : World) (k : IsMixedAt s w) (l : IsOpenLent w.driver
   abbrev after_link : Standing
   after_link = record s { member = wider; near = near; streams = streams; ends = ends; parts = now; hand = hand_then s.hand x; out = out }
 
-  its_step : QueueStep s w after_link
+  its_step : QueueStep s w (driver_next w) after_link
   unfolding there
   its_step =
       step_opens there after_link (queues_are f (queued (driver_next w).driver) next_is)

@@ -294,7 +294,7 @@ module _ (s : Standing) (w : World) (k : IsMixedAt s w) (e : ℕ) (row : driver_
     controls = release_controls (queued_parts p) e z s.parts s.order s.out told_idle (given_owes_none p (ap gives_back row)) refl told_leaves k.queues.controls;
   }
 
-  its_step : QueueStep s w (record s { parts = now })
+  its_step : QueueStep s w (driver_next w) (record s { parts = now })
   its_step =
       let u = k.queues.queues in
       let off : s.near n ≡ false = cleared_unmet q s.near 0 e z told_owners turns u.met told_leaves.first told_here in

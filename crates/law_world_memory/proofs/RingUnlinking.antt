@@ -209,7 +209,7 @@ module _ (s : Standing) (w : World) (k : IsMixedAt s w) (at : IsAtUnlink w.drive
   abbrev after_unlink : Standing
   after_unlink = record s { parts = now; hand = hand_unlinked s.hand at.before at.after }
 
-  its_step : QueueStep s w after_unlink
+  its_step : QueueStep s w (driver_next w) after_unlink
   unfolding told
   its_step = unlinks told (told_by s w k store real.row of_queues)
 

@@ -15,7 +15,7 @@ use Rattle.law_world_memory.specs.Mixed.{Standing}
 use Rattle.law_world_memory.specs.Steps.{told_parts, harvested_by, IsToldRow, AreStill, passes, QueueStep, harvests}
 use Rattle.law_world_memory.specs.StepSamples.{key_get, key_world, key_found, with_nothing}
 
-pub key_row : IsToldRow key_world (rows.Harvest 1 3 key_found)
+pub key_row : IsToldRow key_world (driver_next key_world) (rows.Harvest 1 3 key_found)
 unfolding token_at
 key_row = record { next = refl; told = refl }
 
@@ -47,7 +47,7 @@ pub key_beside : out_now (queued (driver_next key_world).driver) 0 ≡ 4224 ∷ 
 unfolding token_at
 key_beside = refl
 
-pub key_step : (s : Standing) → QueueStep s key_world (with_nothing s)
+pub key_step : (s : Standing) → QueueStep s key_world (driver_next key_world) (with_nothing s)
 unfolding key_due key_harvested
 key_step s = harvests 1 3 key_found key_due (with_nothing s).out key_row (passes (λ same. cc) (λ stall. false≢true stall.0) key_harvested)
 
@@ -57,7 +57,7 @@ key_moves s was still = never (ap (λ (out : ℕ → List ℕ). out 4352) still.
     never : ◌≡◌ {A = List ℕ} [] (4736 ∷ []) → ⊥
     never same = cc
 
-pub key_no_other : IsToldRow key_world (rows.Harvest 0 0 founds.Active) → ⊥
+pub key_no_other : IsToldRow key_world (driver_next key_world) (rows.Harvest 0 0 founds.Active) → ⊥
 key_no_other told = never (sym key_row.next ∙ told.next)
   where
     never : ◌≡◌ {A = DriverRow} (rows.Harvest 1 3 key_found) (rows.Harvest 0 0 founds.Active) → ⊥

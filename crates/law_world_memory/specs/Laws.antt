@@ -5,14 +5,11 @@
 --     RowKeepsMixed row          so does the driver's event where it is this row, by a step of its queues
 --     DriverTellsStep            .. and so each event of the driver
 --     DriverKeepsMixed           .. which leaves it one
---     OpensMixed cmd             what the command opens, if anything, has numbers that fit their fields and a way that fits its kind
 --     CommandKeepsMixed          each command that opens nothing else leaves it one, accepted or refused
 --     CommandKeepsStanding       .. with the standing that it had
 --     CommandTellsStep           .. so that no queue has a step
 use Rattle.std.specs.Prelude.{◌≡◌, ℕ}
 use Rattle.usb_base.specs.declared.commands.Cmd.{Cmd}
-use Rattle.usb_base.specs.declared.commands.Cmd.TheVariants as commands
-use Rattle.usb_base.specs.declared.endpoints.EpDesc.{EpDesc}
 use Rattle.script_types.specs.declared.scripts.Script.{Script}
 use Rattle.script_fits.specs.Fits.{IsFit}
 use Rattle.law_scripts.specs.byte_answers.Bytes.{IsByteScript}
@@ -20,11 +17,10 @@ use Rattle.bus_wire.specs.Bus.{Fixed}
 use Rattle.drv_table.specs.declared.rows.DriverRow.{DriverRow}
 use Rattle.drv_table.specs.Offers.{IsOffered}
 use Rattle.drv_table.specs.Rows.{driver_row}
-use Rattle.law_world_memory.specs.framed_memory.Isochronous.{NumbersFit}
-use Rattle.law_driver.specs.queued_drivers.Queued.{FitsKind}
 use Rattle.bus_world.specs.World.{World, driver_parts, driver_next, controller_next, commanded}
 use Rattle.bus_world.specs.Opening.{opening_world}
 use Rattle.law_world_memory.specs.Mixed.{Standing, IsMixedAt, IsMixedWorld}
+pub use Rattle.law_world_memory.specs.Opens.{IsMixed, OpensMixed}
 use Rattle.law_world_memory.specs.Steps.{IsMixedNext, IsMixedControlled}
 
 abbrev pub NewWorldIsMixed : Type 0
@@ -44,14 +40,6 @@ DriverTellsStep = (s : Standing) (w : World) → IsMixedAt s w → IsMixedNext s
 
 abbrev pub DriverKeepsMixed : Type 0
 DriverKeepsMixed = (w : World) → IsMixedWorld w → IsMixedWorld (driver_next w)
-
-pub record IsMixed (x : EpDesc) : Type 0 where
-  pub numbers : NumbersFit x
-  pub kind : FitsKind x
-
-abbrev pub OpensMixed : Cmd → Type 0
-OpensMixed (commands.OpenEp x) = IsMixed x
-OpensMixed _ = Unit {0}
 
 abbrev pub CommandKeepsMixed : Type 0
 CommandKeepsMixed = (w : World) (line : ℕ) (cmd : Cmd) → OpensMixed cmd → IsOffered w.driver.room cmd → IsMixedWorld w → IsMixedWorld (commanded w line cmd)

@@ -1,6 +1,7 @@
 pub mod owned_blocks
 pub mod Mixed
 pub mod SameQueues
+pub mod Opens
 pub mod Steps
 pub mod StepLaws
 pub mod StepSamples

@@ -3,8 +3,8 @@
 -- frames, goes on along its qTDs, which are given back only behind its front.
 --     QueuesGoOn ..            what is told of the queues: fed, in their order, sound where a walk may meet them, their fronts no further than their tails; what is halted
 --                              stops, and what a halted queue head is owed is still to be stored
---     IsChainToLend d m        an interrupt endpoint's open is still to lend its structures, and to link its queue head in frames then; and the
---                              endpoint is the newest
+--     IsChainToLend d m        an interrupt endpoint's open is still to lend its structures, and to link its queue head in frames then; and
+--                              the endpoint is the newest
 --     IsChainThere ..          .. or they are lent: whatever the walk of the frames has met of them by now, the queue rests at its inactive qTD, its only one
 --     IsUnderWay ..            what the unfinished command has still to lend stands ready, or is lent
 --     Standing                 which queue heads the walk of the ring may meet (`member`), and which have their queue (`near`); what was unlinked in this microframe; the

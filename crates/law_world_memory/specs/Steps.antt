@@ -2,7 +2,7 @@
 -- 3.6, 4.6, 4.8 and 4.10; USB 2.0, 5.5 to 5.8): one step of one queue, told as the queues tell the driver, or none. What memory has of the
 -- queues, what either walk has in hand of them, their order and what is out of them can so be followed through each event.
 --     told_parts w             the driver of w, its registers and memory, as its queues tell it
---     IsToldRow w row          the next event of the driver is this row, and so do its queues tell it
+--     IsToldRow w new row      the next event of the driver is this row, and in `new` its queues are what they tell of it
 --     HandStays, FrameStays    what a walk has in hand is as it was, or a link was stored in what stands there now
 --     AreTold s t              each queue stands in t as in s, but for links of queue heads, and so does what either walk has in hand
 --     AreStill s t             .. and the same queues are met, with the same endpoints, and the same is out of them
@@ -13,13 +13,16 @@
 --     HasOpened s t x          the queue of endpoint x is one of those that are met, and nothing of it is out
 --     IsWithout s t n          nothing is told any more of the queue of the queue head at n
 --     LeftBy w e d             endpoint e is given back, and d is what the queues tell before: it left the ring, or its frames
---     IsGivenBack w e x d      .. and x is that endpoint, so told
---     QueueStep s w t          the step from the standing s of the world w to t
+--     IsGivenBack w new e x d  .. and x is that endpoint, so told
+--     HasNoStep w new          no queue has a step: the queues of the driver are the same, the doorbell was rung or its answer read, or it was
+--                              a command
+--     QueueStep s w new t      the step from the standing s of the world w to t, that of `new`
 --     IsMixedNext s w new      the world `new` is one with endpoints of every kind, and comes of w by a step
 --     IsEventOf fixed s w      what the next event of the controller does to the structures that are told, and to what is in hand
 --     standing_then s w a      the standing after it
 --     IsMixedControlled fixed s w     the world after it is one with endpoints of every kind
 use Rattle.std.specs.Prelude.{◌≡◌, ◌≢◌, ℕ, ◌-◌, ◌*◌, ◌==◌, ◌&&◌, ◌≤◌, Bool, not, false, List, ◌++◌, Some}
+use Rattle.usb_base.specs.declared.commands.Cmd.{Cmd}
 use Rattle.link_words.specs.declared.fields.LinkBits.{LinkBits}
 use Rattle.qh_qtd.specs.declared.qtd.Qtd.{Qtd}
 use Rattle.bus_wire.specs.Bus.{Fixed}
@@ -32,6 +35,7 @@ use Rattle.drv_table.specs.declared.rows.DriverRow.TheVariants as rows
 use Rattle.drv_table.specs.declared.rows.Found.{Found}
 use Rattle.drv_table.specs.declared.rows.Found.TheVariants as founds
 use Rattle.drv_table.specs.DriverContent.{DriverContent}
+use Rattle.drv_table.specs.Offers.{IsOffered}
 use Rattle.drv_table.specs.Parts.{Parts}
 use Rattle.drv_table.specs.Rows.{driver_row, after_driver_row}
 use Rattle.drv_table.specs.Words.{queue_head_link}
@@ -71,16 +75,17 @@ use Rattle.law_world_steps.specs.left_queues.Standing.{met_streams}
 use Rattle.law_world_steps.specs.unlinked_streams.Unlinks.{IsAtUnlink, parts_unlinked, hand_unlinked}
 use Rattle.law_descriptors.specs.Both.{descs_now, parts_now}
 use Rattle.law_world_memory.specs.framed_memory.Now.{recent_then, FramedNowAfter}
-use Rattle.bus_world.specs.World.{World, driver_parts, driver_next, controller_parts, controller_row, controller_next}
+use Rattle.bus_world.specs.World.{World, driver_parts, controller_parts, controller_row, controller_next, commanded}
 use Rattle.law_world_memory.specs.Mixed.{Standing, IsMixedAt}
+use Rattle.law_world_memory.specs.Opens.{OpensMixed}
 use Rattle.law_world_memory.specs.SameQueues.{IsSameQueue}
 
 abbrev pub told_parts : World → Parts
 told_parts w = queued_parts (driver_parts w)
 
-pub record IsToldRow (w : World) (row : DriverRow) : Type 0 where
+pub record IsToldRow (w new : World) (row : DriverRow) : Type 0 where
   pub next : driver_row (driver_parts w) ≡ row
-  pub told : queued (driver_next w).driver ≡ (after_driver_row row (told_parts w)).driver
+  pub told : queued new.driver ≡ (after_driver_row row (told_parts w)).driver
 
 -- ---- nothing is told otherwise
 
@@ -128,12 +133,12 @@ pub record HasBehind (s : Standing) (w : World) (b : ℕ) (words : List ℕ) (ge
   pub elements : (n a : ℕ) (u : Qtd) → s.parts n a ≡ Some (Element u) → SparesElement s.parts (parts_with get s.parts) n a
 
 -- .. and its first qTD is published, one word after the other
-pub record IsNextStore (s : Standing) (w : World) (b : ℕ) (words : List ℕ) (g : IsPublished (queued w.driver) s.parts b words) : Type 0
-  where
-    pub command : (queued w.driver).command ≡ Some (unfinished.Publish b words)
-    pub made : 1 ≤ (queued w.driver).made
-    pub next : driver_row (driver_parts w) ≡ publish_row b g.qtd ((queued w.driver).made - 1)
-    pub told : queued (driver_next w).driver ≡ (next_of (told_parts w)).driver
+pub record IsNextStore (s : Standing) (w new : World) (b : ℕ) (words : List ℕ) (g : IsPublished (queued w.driver) s.parts b words)
+    : Type 0 where
+  pub command : (queued w.driver).command ≡ Some (unfinished.Publish b words)
+  pub made : 1 ≤ (queued w.driver).made
+  pub next : driver_row (driver_parts w) ≡ publish_row b g.qtd ((queued w.driver).made - 1)
+  pub told : queued new.driver ≡ (next_of (told_parts w)).driver
 
 -- ---- an endpoint is opened
 
@@ -166,52 +171,57 @@ pub data LeftBy (w : World) (e : ℕ) : DriverContent → Type 0 where
 abbrev pub given_by : Parts → ℕ → DriverContent → DriverContent
 given_by p e d = (after_driver_row (rows.ReleaseEndpoint e) (record p { driver = d })).driver
 
-pub record IsGivenBack (w : World) (e : ℕ) (x : Endpoint) (d : DriverContent) : Type 0 where
+pub record IsGivenBack (w new : World) (e : ℕ) (x : Endpoint) (d : DriverContent) : Type 0 where
   pub left : LeftBy w e d
   pub leaves : IsToLeave d e x
-  pub told : QueuesAlike (given_by (told_parts w) e d) (queued (driver_next w).driver)
+  pub told : QueuesAlike (given_by (told_parts w) e d) (queued new.driver)
 
 -- ---- the step
 
-pub data QueueStep (s : Standing) (w : World) : Standing → Type 0 where
-  -- by a row of the frame list, of descriptors or of registers, or by a command
-  stays : (t : Standing) → AreStill s t → QueueStep s w t
+pub data HasNoStep (w new : World) : Type 0 where
+  left_alike : QueuesAlike (queued w.driver) (queued new.driver) → HasNoStep w new
+  left_by_bell : IsToldRow w new rows.RingBell → HasNoStep w new
+  left_by_status : (heard : Bool) → IsToldRow w new (rows.ReadStatus heard) → HasNoStep w new
+  left_by_command : (line : ℕ) (cmd : Cmd) → OpensMixed cmd → IsOffered w.driver.room cmd → new ≡ commanded w line cmd → HasNoStep w new
+
+pub data QueueStep (s : Standing) (w new : World) : Standing → Type 0 where
+  stays : (t : Standing) → HasNoStep w new → AreStill s t → QueueStep s w new t
   harvests : (e t : ℕ) (found : Found) (due : IsHarvestDue (told_parts w) e t found) (later : ℕ → List ℕ)
-      → IsToldRow w (rows.Harvest e t found) → OutAfter (told_parts w) e t found due s.out later
-      → QueueStep s w (record s { out = later })
-  returns : (t : ℕ) (y : Transfer) (x : Endpoint) → IsToldRow w (rows.ReleaseTransfer t) → IsReturning (queued w.driver) t y x
-      → QueueStep s w (record s {
+      → IsToldRow w new (rows.Harvest e t found) → OutAfter (told_parts w) e t found due s.out later
+      → QueueStep s w new (record s { out = later })
+  returns : (t : ℕ) (y : Transfer) (x : Endpoint) → IsToldRow w new (rows.ReleaseTransfer t) → IsReturning (queued w.driver) t y x
+      → QueueStep s w new (record s {
         parts = without_those s.parts (32 * x.queue) (goes_of w.driver y);
         out = staying_of (32 * x.queue) (goes_of w.driver y) s.out;
       })
   lends : (b : ℕ) (words : List ℕ) (get : IsToBeLent (queued w.driver) w.memory b words) (order : ℕ → ℕ → ℕ) (out : ℕ → List ℕ)
-      → IsToldRow w rows.Lend → HasBehind s w b words get order out
-      → QueueStep s w (record s { parts = parts_with get s.parts; order = order; out = out })
-  stores : (b : ℕ) (words : List ℕ) (g : IsPublished (queued w.driver) s.parts b words) → IsNextStore s w b words g
-      → QueueStep s w (record s { parts = parts_stored g; out = out_stored s.out (next_of (told_parts w)).driver g })
-  mends : (k : IsAtMend (driver_parts w) s.parts s.out) → IsToldRow w (rows.Mend (store_due k.stalled))
-      → QueueStep s w (record s { parts = parts_mended k; hand = hand_mended k s.hand })
+      → IsToldRow w new rows.Lend → HasBehind s w b words get order out
+      → QueueStep s w new (record s { parts = parts_with get s.parts; order = order; out = out })
+  stores : (b : ℕ) (words : List ℕ) (g : IsPublished (queued w.driver) s.parts b words) → IsNextStore s w new b words g
+      → QueueStep s w new (record s { parts = parts_stored g; out = out_stored s.out (next_of (told_parts w)).driver g })
+  mends : (k : IsAtMend (driver_parts w) s.parts s.out) → IsToldRow w new (rows.Mend (store_due k.stalled))
+      → QueueStep s w new (record s { parts = parts_mended k; hand = hand_mended k s.hand })
   -- a queue head that the ring is to lead to, or frames
   begins : (k : IsOpenToLend (queued w.driver) w.memory) → driver_row (driver_parts w) ≡ rows.Lend
-      → QueuesAlike (open_lent (queued w.driver) w.memory) (queued (driver_next w).driver)
-      → QueueStep s w (record s { parts = parts_opened k s.parts })
+      → QueuesAlike (open_lent (queued w.driver) w.memory) (queued new.driver)
+      → QueueStep s w new (record s { parts = parts_opened k s.parts })
   opens : (k : IsOpenThere (queued w.driver) s.parts) (t : Standing)
-      → QueuesAlike (open_finished (queued w.driver)) (queued (driver_next w).driver) → HasOpened s t k.endpoint → QueueStep s w t
+      → QueuesAlike (open_finished (queued w.driver)) (queued new.driver) → HasOpened s t k.endpoint → QueueStep s w new t
   unlinks : (k : IsAtUnlink (queued w.driver) s.near s.parts)
-      → IsToldRow w (rows.Store k.before (32 * k.before) (queue_head_link k.after))
-      → QueueStep s w (record s {
+      → IsToldRow w new (rows.Store k.before (32 * k.before) (queue_head_link k.after))
+      → QueueStep s w new (record s {
         parts = parts_unlinked s.parts k.before k.queue k.after;
         hand = hand_unlinked s.hand k.before k.after;
       })
-  narrows : (member near : ℕ → Bool) → IsToldRow w rows.ClearAdvance
+  narrows : (member near : ℕ → Bool) → IsToldRow w new rows.ClearAdvance
       → ((n : ℕ) → near n ≡ is_reached (after_driver_row rows.ClearAdvance (told_parts w)).driver false n) → IsWider near s.near
-      → QueueStep s w (record s { member = member; near = near; streams = met_streams s.streams near })
-  goes : (e : ℕ) (x : Endpoint) (d : DriverContent) (t : Standing) → IsGivenBack w e x d → IsWithout s t (32 * x.queue)
-      → QueueStep s w t
+      → QueueStep s w new (record s { member = member; near = near; streams = met_streams s.streams near })
+  goes : (e : ℕ) (x : Endpoint) (d : DriverContent) (t : Standing) → IsGivenBack w new e x d → IsWithout s t (32 * x.queue)
+      → QueueStep s w new t
 
 pub record IsMixedNext (s : Standing) (w new : World) : Type 0 where
   pub standing : Standing
-  pub step : QueueStep s w standing
+  pub step : QueueStep s w new standing
   pub mixed : IsMixedAt standing new
 
 -- ---- an event of the controller

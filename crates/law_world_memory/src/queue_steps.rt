@@ -19,15 +19,15 @@ pub fn stays_tells_the_same()
 /// The get of an interrupt endpoint was done: its harvest is the driver's next event, and so do its queues tell it, as of a bulk endpoint.
 /// Its qTD was out before and isn't after it, and that of the bulk endpoint still is; so that is the step.
 pub fn harvest_takes_a_get()
-    ensures row { IsToldRow key_world (rows.Harvest 1 3 key_found) }
+    ensures row { IsToldRow key_world (driver_next key_world) (rows.Harvest 1 3 key_found) }
     ensures before { out_now (queued key_world.driver) 1 ≡ 4736 ∷ [] }
     ensures after { out_now (queued (driver_next key_world).driver) 1 ≡ [] }
     ensures beside { out_now (queued (driver_next key_world).driver) 0 ≡ 4224 ∷ [] }
-    ensures step { (s : Standing) → QueueStep s key_world (with_nothing s) }
+    ensures step { (s : Standing) → QueueStep s key_world (driver_next key_world) (with_nothing s) }
 {}
 
 /// Where the qTD was out, the queues don't stay by it; and no harvest of the bulk endpoint is the row.
 pub fn harvest_takes_no_other()
     ensures stays { (s : Standing) → s.out 4352 ≡ 4736 ∷ [] → AreStill s (with_nothing s) → ⊥ }
-    ensures other { IsToldRow key_world (rows.Harvest 0 0 founds.Active) → ⊥ }
+    ensures other { IsToldRow key_world (driver_next key_world) (rows.Harvest 0 0 founds.Active) → ⊥ }
 {}

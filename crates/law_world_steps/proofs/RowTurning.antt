@@ -7,7 +7,7 @@ use Rattle.usb_base.specs.declared.packets.Reply.{Reply}
 use Rattle.qh_qtd.specs.declared.qtd.Qtd.{Qtd}
 use Rattle.transactions.specs.Asks.{pinged}
 use Rattle.hc_copy.specs.Transacting.{call_in}
-use Rattle.async_walk.specs.Naks.{kind_at, planned}
+use Rattle.hc_copy.specs.Planning.{transaction_of}
 use Rattle.hc_core.specs.Controller.{Content, walk_place}
 use Rattle.law_structures.specs.lent_structures.Structures.{Structures, StructureSets}
 use Rattle.law_structures.proofs.lemmas.lent_structures.Names.{not_same}
@@ -18,10 +18,10 @@ use Rattle.law_structures.proofs.lemmas.lent_structures.Members.{still_active}
 use Rattle.law_ring.specs.Hand.{Hand}
 use Rattle.claims_base.specs.Controller.{Base}
 use Rattle.law_ring.specs.Ring.{IsCopied, IsInHand, IsRing}
-use Rattle.law_ring.specs.Effects.{Makes}
+use Rattle.law_ring.specs.Effects.{Asks}
 use Rattle.law_ring.specs.Told.{Endpoint, endpoint_of, HasEndpoint}
-use Rattle.law_ring.specs.Streams.{StreamEffect}
-use Rattle.law_ring.specs.Streams.StreamEffect.{same, grows}
+use Rattle.law_ring.specs.Streams.{NoneBeside, StreamEffect}
+use Rattle.law_ring.specs.Streams.StreamEffect.{same, aside, grows}
 use Rattle.law_ring.proofs.Altered.{effect_alters}
 use Rattle.law_controller.specs.controlled_streams.Control.{IsControlled, BeginsMicroframe, WalksRing, ControlEffect, a_microframe, a_step}
 use Rattle.law_ring.specs.Pipes.{AreEndpoints}
@@ -49,8 +49,11 @@ none_still part now alters none a u here on =
     let kept : u ≡ had.qtd = still_active had.qtd u had.after on in
     subst (λ (t : Qtd). t.token.pid ≢ 0) (sym kept) (none a had.qtd had.here (ap (λ (t : Qtd). t.token.active) (sym kept) ∙ on))
 
-named_still : {W : Type 0} {transacts : W → Ask → List ℕ → Reply → W → Type 0} {parts : StructureSets} {hand : Hand} {wire after : W} {now : StructureSets} {later : Hand} (n : ℕ) (x : Endpoint) → StreamEffect transacts parts hand wire after now later → HasEndpoint parts n x → HasEndpoint now n x
+named_still : {W : Type 0} {Beside : Ask → Type 0} {transacts : W → Ask → List ℕ → Reply → W → Type 0} {parts : StructureSets}
+    {hand : Hand} {wire after : W} {now : StructureSets} {later : Hand} (n : ℕ) (x : Endpoint)
+    → StreamEffect Beside transacts parts hand wire after now later → HasEndpoint parts n x → HasEndpoint now n x
 named_still n x (same told quiet) has = told.endpoint n x has
+named_still n x (aside told ask out reply beside made) has = told.endpoint n x has
 named_still n x (grows m all g) has = subst (λ (ps : StructureSets). HasEndpoint ps n x) (sym all) has
 
 aside_still : (stream : ℕ → ℕ → Bool) (parts now : StructureSets) (n : ℕ) (x : Endpoint) → (HasEndpoint parts n x → HasEndpoint now n x) → Alters (parts n) (now n) → IsAside stream parts n x → IsAside stream now n x
@@ -114,9 +117,9 @@ module _ {W : Type 0} (begins : W → ℕ → Bool → W → Type 0) (transacts 
   goes_on : taker after addr ep ≡ Some k.taker → IsUntaken (taker after addr ep)
   goes_on is = record { taker = k.taker; is = is; none = k.none; first = k.first }
 
-  module _ (m : Makes transacts parts hand wire after later) where
+  module _ (m : Asks transacts parts hand wire after later) where
     abbrev asked : Ask
-    asked = (call_in (planned m.copy.queue) m.out false).ask
+    asked = (call_in (transaction_of m.kind m.copy.queue) m.out m.last).ask
 
     copied : IsCopied member parts m.copy
     copied =
@@ -135,7 +138,8 @@ module _ {W : Type 0} (begins : W → ℕ → Bool → W → Type 0) (transacts 
     not_by (has, inl none) s = false≢true (sym none ∙ ap (λ (x : Endpoint). stream x.addr x.ep) (asked_is (ends m.copy.at) has) ∙ s.on)
     not_by (has, inr none) s =
         let w : IsWorking (parts m.copy.at) m.copy.queue = working in
-        out_only m.copy.queue.token.pid false (m.copy.queue.token.pid == 1) (planned m.copy.queue).split (pinged (kind_at m.copy.queue.dtc) m.copy.queue.token.ping)
+        out_only m.copy.queue.token.pid false (m.copy.queue.token.pid == 1) (transaction_of m.kind m.copy.queue).split
+        (pinged m.kind m.copy.queue.token.ping)
         (not_same m.copy.queue.token.pid 0 (λ (i : m.copy.queue.token.pid ≡ 0). none m.copy.queue.current w.element w.here w.published (sym w.pid ∙ i))) refl refl s.token
 
     never : (b : Bool) → outs m.copy.at ≡ b → IsOutAsk stream asked → (addr ≡ asked.addr) × (ep ≡ asked.ep) → ⊥
@@ -145,10 +149,12 @@ module _ {W : Type 0} (begins : W → ℕ → Bool → W → Type 0) (transacts 
     never false off s both = not_by (others m.copy.at copied.on off) s
 
     asked_on : IsUntaken (taker after addr ep)
-    asked_on = goes_on (bus.others wire asked (call_in (planned m.copy.queue) m.out false).out m.reply after addr ep k.taker m.made on k.is (λ s both. never (outs m.copy.at) refl s both))
+    asked_on = goes_on (bus.others wire asked (call_in (transaction_of m.kind m.copy.queue) m.out m.last).out m.reply after addr ep
+        k.taker m.made on k.is (λ s both. never (outs m.copy.at) refl s both))
 
-  by_stream : StreamEffect transacts parts hand wire after now later → IsUntaken (taker after addr ep)
+  by_stream : StreamEffect NoneBeside transacts parts hand wire after now later → IsUntaken (taker after addr ep)
   by_stream (same told quiet) = goes_on (ap (λ (w : W). taker w addr ep) quiet ∙ k.is)
+  by_stream (aside told ask out reply none made) = absurd none
   by_stream (grows m all g) = asked_on m
 
   by_control : ControlEffect begins transacts parts hand wire after now later → IsUntaken (taker after addr ep)

@@ -16,9 +16,9 @@ use Rattle.law_structures.proofs.lemmas.lent_structures.Names.{not_same}
 use Rattle.hc_core.specs.Controller.{walk_place}
 use Rattle.law_ring.specs.Hand.{Hand}
 use Rattle.law_ring.specs.Ring.{IsCopied, IsInHand}
-use Rattle.law_ring.specs.Effects.{Makes, buffer_of, settlement}
-use Rattle.law_ring.specs.Streams.{moved_bytes, StreamEffect}
-use Rattle.law_ring.specs.Streams.StreamEffect.{same, grows}
+use Rattle.law_ring.specs.Effects.{Asks, came_to, buffer_of}
+use Rattle.law_ring.specs.Streams.{moved_bytes, NoneBeside, StreamEffect}
+use Rattle.law_ring.specs.Streams.StreamEffect.{same, aside, grows}
 use Rattle.law_ring.specs.Order.{bytes_of_effect}
 use Rattle.law_ring.specs.Pipes.{IsIn, grown}
 use Rattle.law_ring.specs.OutPipeLaws.{SendsNone}
@@ -108,14 +108,17 @@ module _ (fixed : Fixed) (takes : ℕ → ℕ → Bool) (member : ℕ → Bool) 
 
   -- ---- nothing is moved of a queue head that isn't met
 
-  copied : (m : Makes transacts_by s.parts s.hand (wired fixed w) (wired fixed new) later) → IsCopied member s.parts m.copy
+  copied : (m : Asks transacts_by s.parts s.hand (wired fixed w) (wired fixed new) later) → IsCopied member s.parts m.copy
   copied m = subst (IsInHand member s.parts (walk_place (controller_parts w)).walk.reply) m.in_hand controlled.ring.in_hand
 
-  no_bytes_of : (n : ℕ) → member n ≡ false → (z : StreamEffect transacts_by s.parts s.hand (wired fixed w) (wired fixed new) now later) → bytes_of_effect n z ≡ []
+  no_bytes_of : (n : ℕ) → member n ≡ false → (z : StreamEffect NoneBeside transacts_by s.parts s.hand (wired fixed w)
+      (wired fixed new) now later) → bytes_of_effect n z ≡ []
   no_bytes_of n unmet (same told quiet) = refl
+  no_bytes_of n unmet (aside told ask out reply none made) = refl
   no_bytes_of n unmet (grows m all goes) =
       let differs : m.copy.at ≢ n = λ is. false≢true (sym unmet ∙ ap member (sym is) ∙ (copied m).on) in
-      ap (λ (b : Bool). if b then moved_bytes m.copy.queue m.sent.element (settlement m.copy.queue m.out m.reply) (buffer_of (s.parts m.copy.at) m.sent.element) else []) (not_same m.copy.at n differs)
+      ap (λ (b : Bool). if b then moved_bytes m.copy.queue m.sent.element (came_to m)
+      (buffer_of (s.parts m.copy.at) m.sent.element) else []) (not_same m.copy.at n differs)
 
   no_bytes : (n : ℕ) → member n ≡ false → (z : ControlEffect begins_by transacts_by s.parts s.hand (wired fixed w) (wired fixed new) now later) → bytes_of_event n z ≡ []
   no_bytes n unmet (a_microframe b) = refl
@@ -192,8 +195,8 @@ module _ (fixed : Fixed) (takes : ℕ → ℕ → Bool) (member : ℕ → Bool) 
       by_kind kinds.Bulk on named = λ none. let least = named.least in absurd (omega (arith, least, none))
       by_kind kinds.Interrupt on named = λ none. let least = named.least in absurd (omega (arith, least, none))
 
-  aside : AreAside closed member (λ n. false) x.endpoint s.parts
-  aside n met every = by_out (outs_of member x.streams x.endpoint n) refl
+  all_aside : AreAside closed member (λ n. false) x.endpoint s.parts
+  all_aside n met every = by_out (outs_of member x.streams x.endpoint n) refl
     where
       by_dtc : outs_of member x.streams x.endpoint n ≡ false → x.streams n ≡ false → (h : HasHead d n) → (b : Bool) → is_control h.endpoint.desc.kind ≡ b → (closed (x.endpoint n).addr (x.endpoint n).ep ≡ false) ⊎ SendsNone (s.parts n)
       by_dtc off none h true on =
@@ -222,7 +225,7 @@ module _ (fixed : Fixed) (takes : ℕ → ℕ → Bool) (member : ℕ → Bool) 
   pub taker_stays : (addr ep : ℕ) (t : Taker) → takes addr ep ≡ false → ep ≢ 0 → taker_of (wired fixed w) addr ep ≡ Some t → taker_of (wired fixed new) addr ep ≡ Some t
   taker_stays addr ep t shut some is =
       aside_takers begins_by transacts_by closed taker_of opening_base member x.endpoint s.parts s.hand (controller_parts w) (wired fixed w) (wired fixed new) now later (scripted_out_bus closed)
-      (scripted_out_begins closed) controlled aside moves addr ep t
+      (scripted_out_begins closed) controlled all_aside moves addr ep t
       (and_from (not (takes addr ep)) (not (ep == 0)) (not_from_false (takes addr ep) shut) (not_from_false (ep == 0) (not_same ep 0 some))) is
 
   -- what begins what a taker had taken begins what it has taken

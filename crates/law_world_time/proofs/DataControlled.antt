@@ -1,5 +1,5 @@
 -- Each event of the controller leaves the queues of interrupt endpoints with data alone: it ends a qTD, and makes none active.
-use Rattle.std.proofs.Common.{◌≡◌, ℕ, ◌+◌, ◌*◌, ◌/◌, ◌<◌, ◌≤◌, true, false, slice_get, Some, ap, refl, sym, subst, ◌∙◌, arith}
+use Rattle.std.proofs.Common.{◌≡◌, ℕ, ◌+◌, ◌*◌, ◌/◌, ◌<◌, true, false, slice_get, Some, ap, refl, sym, subst, ◌∙◌, arith}
 use Rattle.bus_wire.specs.Bus.{Fixed}
 use Rattle.usb_base.specs.declared.packets.Dir.{Dir}
 use Rattle.usb_base.specs.declared.packets.EpKind.TheVariants.{Interrupt}

@@ -1,5 +1,5 @@
 -- Each event of the driver leaves the queues of interrupt endpoints with data alone: what it publishes is a qTD of a get or a put.
-use Rattle.std.proofs.Common.{◌≡◌, ◌≢◌, ℕ, ◌+◌, ◌*◌, ◌<◌, ◌≤◌, false, slice_get, slice_index, Some, option_map, ap, sym, subst, ◌∙◌, ⊎_elim}
+use Rattle.std.proofs.Common.{◌≡◌, ◌≢◌, ℕ, ◌+◌, ◌*◌, ◌<◌, false, slice_get, slice_index, Some, option_map, ap, sym, subst, ◌∙◌, ⊎_elim}
 use Rattle.std.proofs.lemmas.Bool.{cases_eq}
 use Rattle.std.proofs.lemmas.Option.{same_Some}
 use Rattle.usb_base.specs.declared.packets.EpKind.TheVariants.{Interrupt}
@@ -27,7 +27,7 @@ use Rattle.law_driver.proofs.lemmas.queued_drivers.RowOwners.{queued_owners}
 use Rattle.bus_world.specs.World.{World, driver_parts, driver_next}
 use Rattle.law_world_memory.specs.Mixed.{Standing, IsMixedAt}
 use Rattle.law_world_visits.proofs.BelongSeen.{Seen, IsSeenIn, seen_there, row_seen}
-use Rattle.law_world_time.specs.DataQueues.{qtd_in, pid_of, way_of, SendsData, DriverKeepsData}
+use Rattle.law_world_time.specs.DataQueues.{qtd_in, way_of, SendsData, DriverKeepsData}
 use Rattle.law_world_time.proofs.DataWords.{same_sends, word_sends}
 use Rattle.law_world_time.proofs.DataRows.{IsTokenStored, row_leaves}
 use Rattle.law_world_time.proofs.DataTransfers.{WasThere, row_were, row_notes}

@@ -1,5 +1,5 @@
 -- What the walk of the frames reads of the queues of interrupt endpoints are data alone.
-use Rattle.std.proofs.Common.{◌≡◌, ℕ, ◌*◌, ◌<◌, ◌≤◌, Bool, true, false, nat_lt, if◌then◌else◌, List, slice_get, Option, Some, None, option_map, ap, refl, sym, subst, ◌∙◌, arith}
+use Rattle.std.proofs.Common.{◌≡◌, ℕ, ◌*◌, ◌<◌, Bool, true, false, nat_lt, if◌then◌else◌, List, slice_get, Option, Some, None, option_map, ap, refl, sym, subst, ◌∙◌, arith}
 use Rattle.std.specs.Prelude.{◌||◌}
 use Rattle.std.proofs.lemmas.Bool.{false≢true}
 use Rattle.std.proofs.lemmas.Option.{same_Some}
@@ -51,7 +51,6 @@ use Rattle.bus_world.specs.World.{World, controller_parts}
 use Rattle.law_world_memory.specs.Mixed.{Standing, IsMixedAt}
 use Rattle.law_world_memory.proofs.QueueViews.{queues_told}
 use Rattle.law_world_visits.specs.Belonging.{IsQueueAt}
-use Rattle.law_world_visits.proofs.BelongQueues.{queue_belongs}
 use Rattle.law_world_time.specs.DataQueues.{pid_of, GoesBy, qtd_in, SendsData, QueuesSendData, HeadsSendData, CopiesSendData, TakesSendData}
 use Rattle.law_world_time.proofs.DataWords.{told_qtd}
 

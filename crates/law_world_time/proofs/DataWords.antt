@@ -1,5 +1,5 @@
 -- What the words of a qTD tell of its token.
-use Rattle.std.proofs.Common.{◌≡◌, ℕ, zero, suc, ◌+◌, ◌*◌, ◌/◌, ◌≤◌, ◌⊎◌, true, List, [], ◌∷◌, get_or, set, slice_index, ap, refl, sym, subst, ◌∙◌, inl, inr, arith}
+use Rattle.std.proofs.Common.{◌≡◌, ℕ, zero, suc, ◌+◌, ◌*◌, ◌/◌, ◌⊎◌, true, List, [], ◌∷◌, get_or, set, slice_index, ap, refl, sym, subst, ◌∙◌, inl, inr, arith}
 use Rattle.usb_base.specs.declared.packets.Dir.{Dir}
 use Rattle.word_mem.specs.Memory.{Mem, word_at}
 use Rattle.word_mem.specs.Views.{words_at, words_in}

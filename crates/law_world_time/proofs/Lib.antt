@@ -45,6 +45,8 @@ pub mod PriceTaken
 pub mod SplitMasked
 pub mod SplitHeads
 pub mod SplitCharged
+pub mod SitdParts
+pub mod SitdCharged
 pub mod PaymentRemovals
 pub mod PaymentIsochronous
 pub mod PaymentFrames

@@ -113,13 +113,13 @@ owner_short b d now f a x short (by_descriptor e i is active) = subst (λ (z : P
 
 -- ---- the walk's next event
 
-fits_in : (price left : ℕ) → price ≤ 25000000 → 25000000 ≤ left → price ≤ left
+fits_in : (price left : ℕ) → price ≤ 21000000 → 21000000 ≤ left → price ≤ left
 fits_in price left few enough = omega (arith, few, enough)
 
 passing_time : (left : ℕ) (h : HeldItd) → h.ended ≡ None → h.slot.active ≡ false → is_late_itd left h h.ended ≡ false
 passing_time left h goes_on off = ap (is_late_itd left h) goes_on ∙ ap (λ (b : Bool). b && nat_lt left (itd_transaction h).price.0) off
 
-module _ (b : World) (d : DriverContent) (now index : ℕ) (p : FramePlace) (same : p.walk.index ≡ index) (ps : List (ℕ × ℕ)) (short : AreShort d) (enough : 25000000 ≤ p.walk.left) where
+module _ (b : World) (d : DriverContent) (now index : ℕ) (p : FramePlace) (same : p.walk.index ≡ index) (ps : List (ℕ × ℕ)) (short : AreShort d) (enough : 21000000 ≤ p.walk.left) where
   paid_time : (x : Placed) (paid : ℕ) (hand : Hand) → x.want.max ≤ 1024 → p.walk.hand ≡ Some hand → IsPaidFor x p.walk.index hand paid
       → is_late p ≡ false
   paid_time x paid hand few is (at_high held) =
@@ -238,25 +238,28 @@ none_kept fixed = record {
 
 -- ---- a moment
 
-fifth_left : (left paid again whole : ℕ) → left + (paid + again) ≡ whole → again ≡ 0 → whole ≡ 125000000 → paid ≤ 100000000
-    → 25000000 ≤ left
-fifth_left left paid again whole is none all few = omega (arith, is, none, all, few)
+fifth_left : (left paid again whole : ℕ) → left + (paid + again) ≡ whole → whole ≡ 125000000 → paid ≤ 100000000
+    → 25000000 ≤ left + again
+fifth_left left paid again whole is all few = omega (arith, is, all, few)
+
+enough_for_one : (left again : ℕ) → 25000000 ≤ left + again → again ≤ 4000000 → 21000000 ≤ left
+enough_for_one left again fifth few = omega (arith, fifth, few)
 
 module _ (fixed : Fixed) (b w : World) (ps : List (ℕ × ℕ)) (again : ℕ) (short : AreShort w.driver) (paid : ArePaidIn b w ps)
     (load : IsWithinLoad w ps)
     (rest : LeavesTheRest fixed w ps again) where
-  enough_left : w.control.part ≡ Periodic → is_held_now fixed w ≡ false → again ≡ 0 → 25000000 ≤ w.control.frame.left
-  enough_left on free none =
-      fifth_left w.control.frame.left (paid_by_all ps) again (time_of (not (is_held_now fixed w))) (rest on) none
+  enough_left : w.control.part ≡ Periodic → is_held_now fixed w ≡ false → 25000000 ≤ w.control.frame.left + again
+  enough_left on free =
+      fifth_left w.control.frame.left (paid_by_all ps) again (time_of (not (is_held_now fixed w))) (rest on)
       (ap (λ (h : Bool). time_of (not h)) free) load.fifth
 
   is_in_time : IsInTime fixed again w
   is_in_time = record {
     fifth = enough_left;
-    in_time = λ is free none.
+    in_time = λ is free few.
         let on : w.control.part ≡ Periodic = frame_periodic w.registers.run w.registers w.control.frame w.control.part is in
         hand_time b w.driver w.registers.frame_index w.control.frame.index (frame_place (controller_parts w)) refl ps short
-        (enough_left on free none) w.control.frame.hand refl (paid.hand on);
+        (enough_for_one w.control.frame.left again (enough_left on free) few) w.control.frame.hand refl (paid.hand on);
   }
 
 -- ---- a run

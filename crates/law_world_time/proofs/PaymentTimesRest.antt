@@ -11,7 +11,7 @@ use Rattle.periodic_walk.specs.declared.chain.ChainRow.TheVariants as chains
 use Rattle.periodic_walk.specs.Walk.{Walk}
 use Rattle.periodic_walk.specs.Chain.{chain_row, chain_walk}
 use Rattle.periodic_walk.specs.Place.{FramePlace, HasEffect}
-use Rattle.periodic_walk.specs.Rows.{step_of, effect_at, effect_of, Leads}
+use Rattle.periodic_walk.specs.Rows.{step_of, effect_at, Leads}
 use Rattle.hc_core.specs.declared.controller.MicroframePart.TheVariants.{Over, Periodic}
 use Rattle.hc_core.specs.declared.controller.ControllerRow.{ControllerRow}
 use Rattle.hc_core.specs.declared.controller.ControllerRow.TheVariants as rows

@@ -331,18 +331,17 @@ module _ {W : Type 0} (begins_with : W → ℕ → Bool → W → Type 0) (trans
   then_held : (h : Hand) (o : IsHandPaid b d c.registers.frame_index c.control.frame.index h ps) (more : ℕ) (to : Option Hand)
       → IsPaidStill o.of c.control.frame.index h (o.paid + more) to
       → ArePaidByHand b d c.registers.frame_index c.control.frame.index to ((o.address, o.paid + more) ∷ o.rest)
-  then_held h o more None kept = tt
-  then_held h o more (Some next) kept =
+  then_held h o plus None kept = tt
+  then_held h o plus (Some next) kept =
       inl (record {
         address = o.address;
-        paid = o.paid + more;
+        paid = o.paid + plus;
         rest = o.rest;
         are = refl;
         of = o.of;
         owned = o.owned;
         held = kept.0;
-        at =
-            kept.1 ∙ o.at;
+        at = kept.1 ∙ o.at;
         active = o.active;
       })
 

@@ -7,7 +7,6 @@ use Rattle.usb_base.specs.declared.packets.Dir.TheVariants as ways
 use Rattle.usb_base.specs.declared.packets.EpKind.TheVariants.{Interrupt, Iso}
 use Rattle.usb_base.specs.declared.packets.Reply.{Reply}
 use Rattle.usb_base.specs.declared.packets.Speed.TheVariants.{High}
-use Rattle.qh_qtd.specs.declared.qtd.Qtd.{Qtd}
 use Rattle.qh_qtd.specs.declared.queue_head.Qh.{Qh}
 use Rattle.itd_sitd.specs.declared.sitd.Sitd.{Sitd}
 use Rattle.toggle_error.specs.declared.host.Outcome.{Outcome}
@@ -29,7 +28,6 @@ use Rattle.hc_iso.specs.declared.held.SitdTurn.TheVariants as turns
 use Rattle.hc_iso.specs.Itd.{itd_transaction}
 use Rattle.hc_iso.specs.Sitd.{sitd_turn, sitd_transaction, missed_copy}
 use Rattle.hc_iso.specs.WriteBack.{itd_sending, itd_written, sitd_sending}
-use Rattle.async_walk.specs.declared.state.WalkStep.{WalkStep}
 use Rattle.async_walk.specs.declared.state.WalkStep.TheVariants as steps
 use Rattle.periodic_walk.specs.declared.itd.ItdRow.TheVariants as itds
 use Rattle.periodic_walk.specs.declared.queue.QueueRow.{QueueRow}

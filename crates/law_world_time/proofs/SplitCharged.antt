@@ -368,17 +368,17 @@ splits_priced x p h paid is held way =
 -- ---- in time
 
 pub split_short : (x : Placed) (h : HeldQueue) (u paid : ℕ) → IsSplitInHand x h u paid → h.copy.queue_head.token.active ≡ true
-    → x.want.max ≤ 1024 → price_of (hands.Queue h) ≤ 25000000
+    → x.want.max ≤ 1024 → price_of (hands.Queue h) ≤ 21000000
 split_short x h u paid held active few =
     short_by h.copy.queue_head x.want.dir h.copy.queue_head.token.split_state refl held.head.below (held.pid active)
     (omega (arith, few, held.head.max))
   where
-    short : (n : ℕ) → n ≤ 1024 → bus_time High Interrupt ways.In n ≤ 25000000
+    short : (n : ℕ) → n ≤ 1024 → bus_time High Interrupt ways.In n ≤ 21000000
     short n small = omega (arith, small)
 
     short_by : (q : Qh) (dir : Dir) (split : Bool) → q.token.split_state ≡ split → (q.eps == 2) ≡ false → q.token.pid ≡ pid_of dir
         → q.max ≤ 1024
-        → bus_time High Interrupt ways.In (queue_bytes q) ≤ 25000000
+        → bus_time High Interrupt ways.In (queue_bytes q) ≤ 21000000
     short_by q ways.In true is below pid small =
         short (queue_bytes q) (let same : queue_bytes q ≡ q.max = rw (below, is, pid) refl in omega (arith, same, small))
     short_by q ways.In false is below pid small =
@@ -390,11 +390,11 @@ split_short x h u paid held active few =
         (let same : queue_bytes q ≡ min q.max q.token.total = rw (below, is, pid) refl in
         omega (arith, same, small, few_left q.max q.token.total))
 
-late_at : (left price cost : ℕ) → price ≡ cost → cost ≤ 25000000 → 25000000 ≤ left → nat_lt left price ≡ false
+late_at : (left price cost : ℕ) → price ≡ cost → cost ≤ 21000000 → 21000000 ≤ left → nat_lt left price ≡ false
 late_at left price cost is few enough = let least : price ≤ left = omega (arith, is, few, enough) in grind (arith, nat_tests, least)
 
 module _ (x : Placed) (p : FramePlace) (h : HeldQueue) (paid : ℕ) (held : IsSplitInHand x h p.walk.index paid) (few : x.want.max ≤ 1024)
-    (enough : 25000000 ≤ p.walk.left) where
+    (enough : 21000000 ≤ p.walk.left) where
   work_in_time : h.copy.queue_head.token.active ≡ true → nat_lt p.walk.left (planned h.copy.queue_head).price.0 ≡ false
   work_in_time active =
       late_at p.walk.left (planned h.copy.queue_head).price.0 (price_of (hands.Queue h)) (queue_price h.copy.queue_head)

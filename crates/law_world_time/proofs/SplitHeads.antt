@@ -26,7 +26,7 @@ use Rattle.law_world_time.specs.SplitCharges.{IsSplitHeadOf}
 
 -- ---- the prices
 
-some_times : (c m cost : ℕ) → 1 ≤ m → cost ≡ m * c → c ≤ cost
+pub some_times : (c m cost : ℕ) → 1 ≤ m → cost ≡ m * c → c ≤ cost
 some_times c m cost some is = let more : 1 * c ≤ m * c = mul-le-mul_right c some in omega (arith, is, more)
 
 dearer : (n m : ℕ) → n ≤ m → bus_time High Interrupt ways.In n ≤ bus_time High Interrupt ways.In m

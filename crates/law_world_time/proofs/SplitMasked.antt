@@ -1,8 +1,7 @@
 -- All that is placed is one of the allowed placements of its endpoint; below a hub their masks are of one form.
-use Rattle.std.proofs.Common.{◌≡◌, ℕ, zero, suc, ◌+◌, ◌/◌, ◌<◌, ◌≤◌, Bool, true, false, List, [], ◌∷◌, map, filter, slice_get, Option, Some, None, Result, Ok, Err, refl, sym, subst, ◌∙◌, arith}
+use Rattle.std.proofs.Common.{◌≡◌, ℕ, zero, suc, ◌+◌, ◌/◌, ◌<◌, ◌≤◌, Bool, true, false, List, [], ◌∷◌, map, slice_get, Option, Some, None, Result, Ok, Err, refl, sym, subst, ◌∙◌, arith}
 use Rattle.std.specs.Prelude.{◌&&◌, nat_le, nat_lt, if◌then◌else◌}
 use Rattle.std.specs.List.{AllByRecursion, flat_map}
-use Rattle.std.proofs.lemmas.Bool.{true≢false}
 use Rattle.std.proofs.lemmas.Bool.Decides.{nat_tests}
 use Rattle.usb_base.specs.declared.commands.Cmd.{Cmd}
 use Rattle.usb_base.specs.declared.commands.Cmd.TheVariants as commands
@@ -15,10 +14,8 @@ use Rattle.usb_base.specs.declared.reports.OfferError.{OfferError}
 use Rattle.script_types.specs.declared.scripts.Line.{Line}
 use Rattle.script_types.specs.declared.scripts.Line.TheVariants as lines
 use Rattle.script_types.specs.declared.scripts.Script.{Script}
-use Rattle.script_fits.specs.Fits.{IsFit}
 use Rattle.bandwidth.specs.declared.placements.Want.{Want}
 use Rattle.bandwidth.specs.declared.placements.Placement.{Placement}
-use Rattle.bandwidth.specs.declared.placements.Placed.{Placed}
 use Rattle.bandwidth.specs.Placements.{has, first_in, run, below, frame_period, is_classic, PlacementRow, interrupt_row, iso_in_row, iso_out_row, classic_row, high_row, placement_row, placement_at, in_phase, allowed}
 use Rattle.bandwidth.proofs.Microframes.{first_is}
 use Rattle.bandwidth.proofs.Spans.{has_mask}
@@ -43,7 +40,6 @@ use Rattle.law_world_steps.proofs.lemmas.receiving_runs.Runs.{holds_throughout}
 use Rattle.law_world_memory.proofs.lemmas.framed_memory.Masking.{one_of_all}
 use Rattle.bus_wire.specs.Bus.{fixed_of}
 use Rattle.bus_world.specs.World.{World, driver_parts, name_in, commanded, commanded_by}
-use Rattle.bus_world.specs.Budgets.{moment}
 use Rattle.claims_world.specs.FrameHeads.{IsAllowed, AreAllowed}
 use Rattle.law_world_time.specs.SplitMasks.{HasSplitMasks, AllowedAreSplit, NewIsAllowed, EventsKeepAllowed, CommandsKeepAllowed, ScriptsKeepAllowed}
 

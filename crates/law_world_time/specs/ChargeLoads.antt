@@ -5,7 +5,7 @@
 --     ArePaidOf placed vs       the visits are of placed endpoints, no two of one
 --     paid_in vs                all that was paid in them
 --     IsLeftAfter placed p vs   of the microframe there is left what these visits didn't cost
-use Rattle.std.specs.Prelude.{◌≡◌, ◌≢◌, ℕ, ◌+◌, ◌*◌, ◌/◌, ◌<◌, ◌≤◌, true, false, Some, List, [], ◌∷◌, sum_by}
+use Rattle.std.specs.Prelude.{◌≡◌, ◌≢◌, ℕ, ◌+◌, ◌/◌, ◌<◌, ◌≤◌, true, false, Some, List, [], ◌∷◌, sum_by}
 use Rattle.std.specs.List.{AllByRecursion}
 use Rattle.bandwidth.specs.declared.placements.Want.{Want}
 use Rattle.bandwidth.specs.declared.placements.Placed.{Placed}
@@ -55,9 +55,9 @@ PaidIsWithinLoad = (placed : List Placed) (u : ℕ) (vs : List PaidVisit) → Ar
 abbrev pub PaidLeavesAFifth : Type 0
 PaidLeavesAFifth = (placed : List Placed) (u : ℕ) (vs : List PaidVisit) → Fits placed → u < 8192 → ArePaidOf placed vs → AllByRecursion (IsPaidIn u) vs → paid_in vs ≤ 100000000
 
--- no transaction of a packet of up to 1,024 bytes costs more than that
+-- no transaction of a packet of up to 1,024 bytes costs more than 21 microseconds
 abbrev pub TransactionsAreShort : Type 0
-TransactionsAreShort = (w : Want) → w.max ≤ 1024 → largest w ≤ 25000000
+TransactionsAreShort = (w : Want) → w.max ≤ 1024 → largest w ≤ 21000000
 
 -- so none is skipped for want of time, whatever was visited before in the microframe
 abbrev pub PaidVisitsAreInTime : Type 0

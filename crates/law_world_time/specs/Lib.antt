@@ -21,3 +21,4 @@ pub mod PaymentTimes
 pub mod DataQueues
 pub mod SplitMasks
 pub mod SplitCharges
+pub mod SitdParts

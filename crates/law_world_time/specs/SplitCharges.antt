@@ -9,7 +9,7 @@
 --     GoesOnPaid x u hand paid more q    an event leaves q, and added so much; where the visit is over, nothing
 --     PaysBy .. e                 so it is whatever the bus replies
 --     SplitsArePriced             the law
-use Rattle.std.specs.Prelude.{◌≡◌, ℕ, ◌+◌, ◌/◌, ◌%◌, ◌≤◌, ◌==◌, true, false, Option, Some, None, if◌then◌else◌}
+use Rattle.std.specs.Prelude.{◌≡◌, ℕ, ◌+◌, ◌%◌, ◌≤◌, ◌==◌, true, false, Option, Some, None, if◌then◌else◌}
 use Rattle.usb_base.specs.declared.packets.EpKind.TheVariants.{Interrupt}
 use Rattle.usb_base.specs.declared.packets.Reply.{Reply}
 use Rattle.qh_qtd.specs.declared.qtd.Qtd.{Qtd}

@@ -81,7 +81,7 @@ pub fn paid_visits_leave_a_fifth()
     ensures { PaidLeavesAFifth }
 {}
 
-/// .. and no transaction of a packet of up to 1,024 bytes costs more than that, ..
+/// .. and no transaction of a packet of up to 1,024 bytes costs more than 21,000,000, ..
 pub fn no_transaction_costs_more_than_a_fifth()
     ensures { TransactionsAreShort }
 {}

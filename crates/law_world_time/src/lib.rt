@@ -14,8 +14,8 @@
 //! - `payments`: What the visits of a microframe cost together along a run, where the isochronous endpoints are of high speed: no more than its load.
 //! - `ring_splices`: The two stores of the ring by the links before and after them, and what every other event of the driver and each command leaves of the ring.
 //! - `rounds`, `round_samples`: What was visited since the head was read, as the run tells it: links lead from higher queue heads to lower ones, at each event of the controller.
-//! - `splits`: What the split transactions of an interrupt endpoint cost, and the masks by which they are made: each placement of the plan
-//!   is allowed.
+//! - `splits`: What the split transactions of queue heads and of siTDs cost, and the masks by which they are made: each placement of the
+//!   plan is allowed.
 //! - `steps`: With a copy in hand each event of the walk of the ring leaves fewer events of the visit: at most three after a fetch.
 //! - `turns_end`, `turn_samples`: So each microframe of a run ends, and each run carries out all the lines of its script.
 //!

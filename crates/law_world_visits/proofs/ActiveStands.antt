@@ -31,7 +31,8 @@ use Rattle.law_structures.specs.lent_structures.Structures.{Structure, QueueHead
 use Rattle.law_frames.specs.Met.{Kind, AQueue, AnItd, ASitd, IsMetAs}
 use Rattle.law_descriptors.specs.Both.{owns, both}
 use Rattle.law_descriptors.specs.Meeting.{standing, or_recent, met}
-use Rattle.claims_driver.specs.Unlinked.{led, IsRemovedAt, a_descriptor, a_queue, a_waiting, IsRemovedSince, IsUnchainedNow}
+use Rattle.claims_driver.specs.Unlinked.{led}
+use Rattle.law_descriptors.specs.Removed.{IsRemovedAt, a_descriptor, a_queue, a_waiting, IsRemovedSince, IsUnchainedNow}
 use Rattle.law_descriptors.specs.ListRows.{HasPart}
 use Rattle.law_descriptors.specs.Recent.{AreRecent}
 use Rattle.law_descriptors.proofs.Standing.{both_off, IsAtOwner, on_owner}

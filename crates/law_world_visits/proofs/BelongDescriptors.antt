@@ -30,7 +30,8 @@ use Rattle.law_frames.specs.Met.{Kind, AQueue, AnItd, ASitd, IsMetAs}
 use Rattle.law_descriptors.specs.Described.{AreDescribed}
 use Rattle.law_descriptors.specs.Both.{owns, both}
 use Rattle.law_descriptors.specs.Meeting.{kind_at, standing, or_recent, met}
-use Rattle.claims_driver.specs.Unlinked.{led_by, IsRemovedAt, a_descriptor, a_queue, a_waiting, IsRemovedSince, IsUnchainedNow}
+use Rattle.claims_driver.specs.Unlinked.{led_by}
+use Rattle.law_descriptors.specs.Removed.{IsRemovedAt, a_descriptor, a_queue, a_waiting, IsRemovedSince, IsUnchainedNow}
 use Rattle.law_descriptors.proofs.Standing.{both_off, IsAtOwner, on_owner}
 use Rattle.law_descriptors.proofs.Finding.{begins_at, member_kind, member_at}
 use Rattle.law_descriptors.proofs.Leading.{led_linked, led_spread}

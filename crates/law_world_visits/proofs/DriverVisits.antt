@@ -35,7 +35,8 @@ use Rattle.law_driver.proofs.lemmas.ring_members.Freed.{lent_words}
 use Rattle.law_driver.proofs.lemmas.run_owners.Reasons.{each_is_due}
 use Rattle.claims_driver.specs.FrameWords.{HasMember}
 use Rattle.law_frames.specs.Met.{Kind}
-use Rattle.claims_driver.specs.Unlinked.{is_led, led_by, led, IsOpenAt, IsRemovedSince, IsUnchainedNow}
+use Rattle.claims_driver.specs.Unlinked.{is_led, led_by, led, IsOpenAt}
+use Rattle.law_descriptors.specs.Removed.{IsRemovedSince, IsUnchainedNow}
 use Rattle.law_descriptors.specs.Meeting.{met}
 use Rattle.law_descriptors.specs.Recent.{AreRecent}
 use Rattle.law_descriptors.specs.RowLaws.{HasFrames}

@@ -29,7 +29,7 @@ use Rattle.claims_driver.specs.DueMembers.{framed_to}
 use Rattle.claims_driver.specs.FrameListMembers.{framed_of, framed_in, is_chained, IsDescribing, IsStanding, IsQueueOf, IsListed, IsUnderWay}
 use Rattle.claims_driver.specs.Leaving.{leaves_frames, HasOwners}
 use Rattle.claims_driver.specs.Owners.{HasRun, is_descriptor, runs_of_transfer, views_of}
-use Rattle.claims_driver.specs.Unlinked.{IsRemovedAt, a_descriptor, a_queue, a_waiting, IsRemovedSince, IsUnchainedNow}
+use Rattle.law_descriptors.specs.Removed.{IsRemovedAt, a_descriptor, a_queue, a_waiting, IsRemovedSince, IsUnchainedNow}
 use Rattle.law_driver.proofs.lemmas.chained_transfers.Harvesting.{waits_is}
 use Rattle.law_driver.proofs.lemmas.listed_members.Standing.{IsSeen, seen, standing_block}
 use Rattle.law_driver.proofs.lemmas.listed_members.Owned.{queue_owned}

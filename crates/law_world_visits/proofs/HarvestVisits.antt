@@ -30,7 +30,7 @@ use Rattle.law_driver.proofs.lemmas.run_owners.Stays.{harvest_stays}
 use Rattle.law_frames.specs.Met.{Kind}
 use Rattle.law_descriptors.proofs.Returning.{none_some}
 use Rattle.law_world_memory.proofs.lemmas.framed_memory.Ended.{owners_ended}
-use Rattle.claims_driver.specs.Unlinked.{IsRemovedAt, a_descriptor, a_queue, a_waiting, IsRemovedSince, IsUnchainedNow}
+use Rattle.law_descriptors.specs.Removed.{IsRemovedAt, a_descriptor, a_queue, a_waiting, IsRemovedSince, IsUnchainedNow}
 use Rattle.law_descriptors.specs.Recent.{AreRecent}
 use Rattle.bus_world.specs.World.{World, driver_parts, driver_next}
 use Rattle.law_world_memory.specs.Mixed.{Standing, IsMixedAt}

@@ -18,7 +18,7 @@ use Rattle.law_driver.proofs.lemmas.planned_endpoints.Laws.{command_planned}
 use Rattle.law_driver.proofs.lemmas.queued_drivers.CommandReasons.{IsNew, in_ring, in_frames, bare, IsReasonOf, reason_of}
 use Rattle.law_frames.specs.Met.{Kind, AQueue, AnItd, ASitd}
 use Rattle.law_descriptors.specs.Meeting.{standing, or_recent, met}
-use Rattle.claims_driver.specs.Unlinked.{IsRemovedAt, a_descriptor, a_queue, a_waiting, IsRemovedSince, IsUnchainedNow}
+use Rattle.law_descriptors.specs.Removed.{IsRemovedAt, a_descriptor, a_queue, a_waiting, IsRemovedSince, IsUnchainedNow}
 use Rattle.law_descriptors.specs.Recent.{AreRecent}
 use Rattle.law_descriptors.proofs.Returning.{none_some}
 use Rattle.law_budgets.specs.visit_prices.Spent.{IsAmong}

@@ -18,7 +18,7 @@ use Rattle.law_driver.proofs.lemmas.listed_members.Standing.{IsFramed, framed, o
 use Rattle.law_driver.proofs.lemmas.listed_members.Owned.{queue_owned}
 use Rattle.law_frame_list.proofs.lemmas.list_spread.Spreading.{queue_there}
 use Rattle.law_frames.specs.Met.{Kind}
-use Rattle.claims_driver.specs.Unlinked.{IsRemovedAt, a_descriptor, a_queue, a_waiting, IsRemovedSince, IsUnchainedNow}
+use Rattle.law_descriptors.specs.Removed.{IsRemovedAt, a_descriptor, a_queue, a_waiting, IsRemovedSince, IsUnchainedNow}
 use Rattle.law_descriptors.specs.Recent.{AreRecent}
 use Rattle.law_descriptors.proofs.Returning.{no_descriptor, same_blocks, owed_by, frames_owed, transfer_counts, endpoint_counts}
 use Rattle.law_world_visits.proofs.BelongQueues.{waiting_held}

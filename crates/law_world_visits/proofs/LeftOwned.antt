@@ -33,7 +33,8 @@ use Rattle.law_frame_list.proofs.lemmas.list_spread.Spreading.{IsHis, his, slot_
 use Rattle.law_frame_list.proofs.lemmas.list_aside.Aside.{IsOther, IsOwn, own}
 use Rattle.law_frames.specs.Met.{Kind}
 use Rattle.law_descriptors.specs.Meeting.{standing, or_recent, met}
-use Rattle.claims_driver.specs.Unlinked.{led, IsRemovedAt, a_descriptor, a_queue, a_waiting, IsRemovedSince, IsUnchainedNow}
+use Rattle.claims_driver.specs.Unlinked.{led}
+use Rattle.law_descriptors.specs.Removed.{IsRemovedAt, a_descriptor, a_queue, a_waiting, IsRemovedSince, IsUnchainedNow}
 use Rattle.law_descriptors.specs.Recent.{AreRecent}
 use Rattle.law_descriptors.proofs.Finding.{IsMemberAt}
 use Rattle.law_descriptors.proofs.Leading.{led_linked}

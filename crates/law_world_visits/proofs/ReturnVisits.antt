@@ -35,7 +35,8 @@ use Rattle.law_world_memory.proofs.lemmas.framed_memory.LeavingRuns.{still_remov
 use Rattle.drv_members.specs.Members.{is_linked}
 use Rattle.drv_chains.specs.Chains.{Schedule}
 use Rattle.law_frames.specs.Met.{Kind}
-use Rattle.claims_driver.specs.Unlinked.{led, led_in, IsRemovedAt, a_descriptor, a_queue, a_waiting, IsRemovedSince, IsUnchainedNow}
+use Rattle.claims_driver.specs.Unlinked.{led, led_in}
+use Rattle.law_descriptors.specs.Removed.{IsRemovedAt, a_descriptor, a_queue, a_waiting, IsRemovedSince, IsUnchainedNow}
 use Rattle.law_descriptors.specs.Recent.{AreRecent}
 use Rattle.law_descriptors.proofs.ListRows.{either_if}
 use Rattle.law_descriptors.proofs.GivenRow.{row_is_given_back}

@@ -16,7 +16,7 @@ use Rattle.law_frames.specs.FrameHand.{FrameHand, Nothing, OfSettled, frame_held
 use Rattle.law_frames.specs.Frame.{IsInFrame, IsFrameWalk}
 use Rattle.law_descriptors.specs.Both.{both}
 use Rattle.law_descriptors.specs.Meeting.{standing, or_recent, met}
-use Rattle.claims_driver.specs.Unlinked.{IsRemovedSince, IsUnchainedNow}
+use Rattle.law_descriptors.specs.Removed.{IsRemovedSince, IsUnchainedNow}
 use Rattle.law_descriptors.specs.Recent.{AreRecent}
 use Rattle.bus_world.specs.World.{World}
 use Rattle.law_world_memory.specs.Mixed.{Standing, IsMixedAt}

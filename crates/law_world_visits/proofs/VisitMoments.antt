@@ -14,7 +14,8 @@ use Rattle.drv_table.specs.Kinds.{is_iso}
 use Rattle.drv_periodic_table.specs.Periodic.{is_periodic}
 use Rattle.claims_driver.specs.Leaving.{HasOwners}
 use Rattle.claims_driver.specs.Owners.{is_descriptor}
-use Rattle.claims_driver.specs.Unlinked.{led, IsOpenAt, IsRemovedAt, a_descriptor, a_queue, a_waiting, IsRemovedSince, IsUnchainedNow}
+use Rattle.claims_driver.specs.Unlinked.{led, IsOpenAt}
+use Rattle.law_descriptors.specs.Removed.{IsRemovedAt, a_descriptor, a_queue, a_waiting, IsRemovedSince, IsUnchainedNow}
 use Rattle.law_descriptors.specs.Meeting.{or_recent, standing}
 use Rattle.law_descriptors.proofs.Finding.{IsMemberAt, member_at}
 use Rattle.law_frames.specs.Met.{Kind}

@@ -28,7 +28,8 @@ use Rattle.claims_driver.specs.LentRuns.{IsLent}
 use Rattle.claims_driver.specs.DueMembers.{framed_to}
 use Rattle.law_frames.specs.Met.{Kind}
 use Rattle.law_descriptors.specs.Meeting.{standing, met}
-use Rattle.claims_driver.specs.Unlinked.{led, IsRemovedAt}
+use Rattle.claims_driver.specs.Unlinked.{led}
+use Rattle.law_descriptors.specs.Removed.{IsRemovedAt}
 use Rattle.law_descriptors.specs.Recent.{AreRecent}
 use Rattle.bus_world.specs.World.{World}
 use Rattle.bus_world.specs.Budgets.{moment}

@@ -3,7 +3,7 @@
 //!
 //! `schedule` tells first the classes of frames that have an endpoint, with the microframes of each endpoint there: `S` has its transaction or its
 //! start-split, `C` a complete-split. Then come the loads of the first 64 microframes, and below each hub with an endpoint the byte-times of its
-//! translator, each as a number and as a bar.
+//! translator, each as a number, as per cent of the budget and as a bar; microframes behind each other that have none have one line.
 //!
 //! `put_refusal` tells of an endpoint that found no placement which budgets its first allowed placements break.
 #![tactic(auto)]

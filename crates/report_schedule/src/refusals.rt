@@ -6,11 +6,12 @@ ghost use Rattle.drv_periodic_table.specs.Periodic.{is_periodic, want_of};
 
 use crate::breaches::{Breach, first_breach};
 use crate::classes::put_letters;
-use crate::loads::neighbour_of;
+use crate::loads::{neighbour_of, put_share};
 use crate::options::{placement_of, starts};
 use app_trace_lines::{put, put_endpoint, put_number};
 use bandwidth::{Placement, Plan, Want};
 use drv_table::Endpoint;
+use usb_base::limits::{BYTE_TIMES_OF_MICROFRAME, FRAME_BUDGET, MICROFRAME_BUDGET};
 use usb_base::{Dir, EpDesc, EpKind, Memory, Way};
 
 /// The most placements that are told of a refusal.
@@ -61,19 +62,23 @@ fn put_breach(text: &mut Vec<u8>, breach: Option<Breach>) -> Result<(), Memory> 
     // (`MICROFRAME_BUDGET`, `BYTE_TIMES_OF_MICROFRAME` and `FRAME_BUDGET`)
     match breach {
         Some(Breach::Load(at, sum)) => {
-            put_sum(text, ": bus time of microframe ", at, sum, " of 100000000")
-        }
-        Some(Breach::Bytes(at, sum)) => {
-            put_sum(text, ": byte-times of microframe ", at, sum, " of 188")
-        }
-        Some(Breach::Frame(at, sum)) => {
             put_sum(
                 text,
-                ": bus time of frame ",
+                ": bus time of microframe ",
                 at,
                 sum,
-                " below the hub of 900000000",
-            )
+                " of 100000000, ",
+            )?;
+            put_share(text, sum, MICROFRAME_BUDGET)
+        }
+        Some(Breach::Bytes(at, sum)) => {
+            put_sum(text, ": byte-times of microframe ", at, sum, " of 188, ")?;
+            put_share(text, sum, BYTE_TIMES_OF_MICROFRAME as u64)
+        }
+        Some(Breach::Frame(at, sum)) => {
+            let budget = " below the hub of 900000000, ";
+            put_sum(text, ": bus time of frame ", at, sum, budget)?;
+            put_share(text, sum, FRAME_BUDGET)
         }
         None => Ok(()),
     }

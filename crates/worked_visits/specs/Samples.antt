@@ -22,6 +22,7 @@
 --     paid_with hand u n   what was paid after its event, where so much was paid in the visit before
 --     again_with hand u    the price of what it made again
 --     placed_keyboard      a keyboard below a hub, polled in each frame: a start-split in microframe 0, complete-splits in 2, 3 and 4
+--     placed_speaker       a full-speed isochronous OUT endpoint of packets of 400 bytes below a hub: parts in the microframes 1, 2 and 3
 --     sensor               a high-speed interrupt IN endpoint of packets of 64 bytes that is polled in each microframe
 --     sensor_and_disk      a script that opens it and the disk's bulk IN endpoint, asks it for 64 bytes and lets three microframes pass
 use Rattle.std.specs.Prelude.{ℕ, true, false, List, [], ◌∷◌, slice_set, Option, Some, None, map}
@@ -37,7 +38,7 @@ use Rattle.script_types.specs.declared.scripts.Line.TheVariants as lines
 use Rattle.script_types.specs.declared.scripts.Script.{Script}
 use Rattle.word_mem.specs.Memory.{Mem}
 use Rattle.bandwidth.specs.declared.placements.Placed.{Placed}
-use Rattle.bandwidth.specs.Worked.{keyboard, placed}
+use Rattle.bandwidth.specs.Worked.{keyboard, speaker, placed}
 use Rattle.hc_interrupt.specs.declared.turns.Turn.{Turn}
 use Rattle.hc_interrupt.specs.Turns.{turn_of}
 use Rattle.periodic_walk.specs.declared.state.Hand.{Hand}
@@ -157,6 +158,9 @@ again_with hand u = repeats_after rows.Frame (kind_of rows.Frame (with_hand hand
 
 abbrev pub placed_keyboard : Placed
 placed_keyboard = record { want = keyboard; placement = placed 8 0 0x01 0x1C }
+
+abbrev pub placed_speaker : Placed
+placed_speaker = record { want = record speaker { max = 400 }; placement = placed 8 0 0x0E 0 }
 
 abbrev pub sensor : EpDesc
 sensor = record { name = record { addr = 4; num = 1; way = ways.In }; speed = speeds.High; kind = kinds.Interrupt; max = 64; period = 1; multi = 1; hub = None; port = 0; tt = 0 }

@@ -1,5 +1,5 @@
 //! Worked rows of what split transactions cost: frame 5 has the microframes 40 to 47 of FRINDEX.
-ghost use Rattle.std.specs.Prelude.{◌≡◌, true, false, [], ◌∷◌, None};
+ghost use Rattle.std.specs.Prelude.{◌≡◌, true, false, [], ◌∷◌, map, None};
 ghost use Rattle.bandwidth.specs.Sums.{cost_in};
 ghost use Rattle.bandwidth.specs.Worked.{keyboard, placed};
 ghost use Rattle.hc_interrupt.specs.Samples.{split_in, erred, high_in};
@@ -13,7 +13,8 @@ ghost use Rattle.claims_world.specs.InTime.{is_late};
 ghost use Rattle.claims_world.specs.Prices.{price_of};
 ghost use Rattle.claims_world.specs.WithinLoad.{is_again};
 ghost use Rattle.law_world_time.specs.SplitCharges.{IsSplitHeadOf, IsSplitInHand};
-ghost use Rattle.worked_visits.specs.Samples.{placed_keyboard, paid_with, again_with};
+ghost use Rattle.law_world_time.specs.SitdParts.{IsInParts, IsSitdOf};
+ghost use Rattle.worked_visits.specs.Samples.{placed_keyboard, placed_speaker, paid_with, again_with};
 
 /// A keyboard below a hub may have its start-split in microframe 0 and its complete-splits in 2, 3 and 4, but not without a start-split,
 /// nor with one in a microframe of the C-mask.
@@ -48,7 +49,7 @@ pub fn a_keyboard_is_paid()
     ensures in_time { is_late (at_hand (Queue (queue (split_in true 0) 0 None)) 42 125000000) ≡ false }
 {}
 
-/// Where that complete-split was lost it is made again: the same price, but the payments are as they were.
+/// Where that complete-split was lost it is made again: the same price, less than 4 microseconds, but the payments are as they were.
 pub fn a_lost_complete_split_is_made_again()
     ensures paid { paid_with (Queue (queue (erred true 4) 1 None)) 42 2171320 ≡ (0x2000, 2171320) ∷ [] }
     ensures again { again_with (Queue (queue (erred true 4) 1 None)) 42 ≡ 2171320 }
@@ -72,4 +73,22 @@ pub fn three_parts_are_paid()
         × (price_of (Sitd (record { at = 0x2000; sitd = split_out 24 1 3; settled = None })) ≡ 1111073) }
     ensures over { (after_part 3 (record (split_out 24 1 3) { c_prog = 6 })).active ≡ false }
     ensures missed { sitd_turn 3 (record (split_out 24 1 3) { c_prog = 2 }) ≡ Miss }
+{}
+
+/// The siTD is that of a placed endpoint of packets of 400 bytes; before the first part and before the second the bytes that are left stand
+/// in the microframes of the placement, but not where one was marked and nothing sent. The placement has the price of a part of 188 bytes
+/// for the microframes 1 and 2, that of one of 24 for 3, and nothing for 0.
+pub fn a_speaker_has_its_parts()
+    ensures descriptor { IsSitdOf placed_speaker (split_out 400 3 1) }
+    ensures fresh { IsInParts (split_out 400 3 1) 400 }
+    ensures second { IsInParts (record (split_out 212 2 2) { c_prog = 2 }) 400 }
+    ensures marked { IsInParts (record (split_out 400 3 1) { c_prog = 2 }) 400 → ⊥ }
+    ensures costs { map (cost_in placed_speaker.want placed_speaker.placement) (0 ∷ 1 ∷ 2 ∷ 3 ∷ []) ≡ 0 ∷ 4298063 ∷ 4298063 ∷ 1111073 ∷ [] }
+{}
+
+/// In microframe 1, where its first part comes, that part is late where less time is left than its price; in microframe 0 nothing is.
+pub fn a_part_is_late()
+    ensures late { is_late (at_hand (Sitd (record { at = 0x2000; sitd = split_out 400 3 1; settled = None })) 41 4000000) ≡ true }
+    ensures in_time { is_late (at_hand (Sitd (record { at = 0x2000; sitd = split_out 400 3 1; settled = None })) 41 5000000) ≡ false }
+    ensures rests { is_late (at_hand (Sitd (record { at = 0x2000; sitd = split_out 400 3 1; settled = None })) 40 4000000) ≡ false }
 {}

@@ -1,4 +1,5 @@
 pub mod Frameless
 pub mod Staying
 pub mod Running
+pub mod Joining
 pub mod Sampled

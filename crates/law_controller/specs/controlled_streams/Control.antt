@@ -21,7 +21,7 @@ use Rattle.law_ring.specs.Hand.{Hand, Empty}
 use Rattle.claims_base.specs.Controller.{Base}
 use Rattle.law_ring.specs.Ring.{IsRing}
 use Rattle.law_ring.specs.Effects.{Effect}
-use Rattle.law_ring.specs.Streams.{StreamEffect}
+use Rattle.law_ring.specs.Streams.{NoneBeside, StreamEffect}
 
 pub record IsOn (base : Base) : Type 0 where
   pub run : base.run ≡ true
@@ -63,7 +63,7 @@ pub record BeginsMicroframe {W : Type 0} (begins : W → ℕ → Bool → W → 
 pub record WalksRing {W : Type 0} (transacts : W → Ask → List ℕ → Reply → W → Type 0) (parts : StructureSets) (hand : Hand) (wire after : W) (now : StructureSets) (later : Hand) : Type 0 where
   pub kind : WalkStep
   pub effect : Effect transacts parts hand wire after now later kind
-  pub streams : StreamEffect transacts parts hand wire after now later
+  pub streams : StreamEffect NoneBeside transacts parts hand wire after now later
 
 pub data ControlEffect {W : Type 0} (begins : W → ℕ → Bool → W → Type 0) (transacts : W → Ask → List ℕ → Reply → W → Type 0) (parts : StructureSets) (hand : Hand) (wire after : W)
     (now : StructureSets) (later : Hand) : Type 0 where

@@ -5,12 +5,13 @@
 --     AreApart member met          nothing that is met is of the ring
 --     RunsBoth base member met parts hand frame c
 --                                  the walk of the ring is over a ring, and the walk of the frames over those that are met; `hand` is in the ring's hand in
---                                  the asynchronous part alone, `frame` in the frames' hand in the periodic part alone
+--                                  the asynchronous part alone, `frame` in the frames' hand in the periodic part alone, while its
+--                                  schedule is on
 --     WalksFrames ..                an event is one of the walk of the frames
---     BothEffect ..                an event begins a microframe or is one of the ring's walk, with nothing in the frames' hand after it; or it is one of
---                                  the walk of the frames
+--     BothEffect ..                an event begins a microframe or is one of the ring's walk, with nothing in the frames' hand; or it is
+--                                  one of the walk of the frames
 --     ControlsBoth ..              an event of the controller with its effect
-use Rattle.std.specs.Prelude.{◌≡◌, ◌≢◌, ℕ, ◌<◌, Bool, false, List, slice_index, Option, Some}
+use Rattle.std.specs.Prelude.{◌≡◌, ◌≢◌, ℕ, ◌<◌, ◌⊎◌, Bool, false, List, slice_index, Option, Some}
 use Rattle.usb_base.specs.declared.packets.Ask.{Ask}
 use Rattle.usb_base.specs.declared.packets.Reply.{Reply}
 use Rattle.link_words.specs.Links.{link_read}
@@ -48,7 +49,7 @@ pub record RunsBoth (base : Base) (member : ℕ → Bool) (met : ℕ → Option 
   pub members : AreMet met parts
   pub apart : AreApart member met
   pub walk : c.control.part ≡ Periodic → IsFrameWalk met parts frame (frame_place c)
-  pub outside : c.control.part ≢ Periodic → frame ≡ Nothing
+  pub outside : (c.control.part ≢ Periodic) ⊎ (base.periodic_enable ≡ false) → frame ≡ Nothing
 
 -- ---- an event, where the controller's content was `old` before it
 
@@ -62,7 +63,7 @@ pub record WalksFrames {W : Type 0} (transacts : W → Ask → List ℕ → Repl
 
 pub data BothEffect {W : Type 0} (begins : W → ℕ → Bool → W → Type 0) (transacts : W → Ask → List ℕ → Reply → W → Type 0) (parts : StructureSets) (old : Control) (hand : Hand)
     (frame : FrameHand) (wire after : W) (now : StructureSets) (later : Hand) (frame_later : FrameHand) : Type 0 where
-  of_ring : ControlEffect begins transacts parts hand wire after now later → frame_later ≡ Nothing
+  of_ring : ControlEffect begins transacts parts hand wire after now later → (frame ≡ Nothing) × (frame_later ≡ Nothing)
       → BothEffect begins transacts parts old hand frame wire after now later frame_later
   of_frame : WalksFrames transacts parts old hand frame wire after now later frame_later → BothEffect begins transacts parts old hand frame wire after now later frame_later
 

@@ -6,7 +6,10 @@
 --     member, met               whom the walk of the ring meets, and whom the walk of the frames
 --     base, registers           both schedules are on
 --     opening                   the controller before its first microframe
-use Rattle.std.specs.Prelude.{ℕ, Bool, true, false, ◌==◌, if◌then◌else◌, List, ◌++◌, replicate, Option, Some, None}
+--     steps_on, is_deaf         a wire that counts microframes, and on which nothing is asked
+use Rattle.std.specs.Prelude.{◌≡◌, ℕ, ◌+◌, Bool, true, false, ◌==◌, if◌then◌else◌, List, ◌++◌, replicate, Option, Some, None}
+use Rattle.usb_base.specs.declared.packets.Ask.{Ask}
+use Rattle.usb_base.specs.declared.packets.Reply.{Reply}
 use Rattle.word_mem.specs.Memory.{Mem}
 use Rattle.word_mem.specs.declared.blocks.BlockState.TheVariants.{Lent}
 use Rattle.op_registers.specs.RegisterFile.{RegisterFile, reset_file}
@@ -60,3 +63,9 @@ registers = record reset_file { run = true; async_enable = true; periodic_enable
 
 abbrev pub opening : Content
 opening = content new_control registers memory
+
+abbrev pub steps_on : ℕ → ℕ → Bool → ℕ → Type 0
+steps_on n index allowed later = later ≡ n + 1
+
+abbrev pub is_deaf : ℕ → Ask → List ℕ → Reply → ℕ → Type 0
+is_deaf n ask out reply later = ⊥

@@ -9,6 +9,7 @@ ghost use Rattle.law_frames.specs.Met.{Kind};
 ghost use Rattle.law_frames.specs.FrameHand.{FrameHand, Nothing};
 ghost use Rattle.law_frames.specs.FrameSteps.{EventHappens};
 ghost use Rattle.law_controller.specs.frame_control.Both.{RunsBoth, BothEffect, ControlsBoth};
+ghost use Rattle.law_controller.specs.frame_control.Joined.{WalksMoveStreams, JoinedIsAsked};
 
 use usb_base::Wire;
 
@@ -38,4 +39,15 @@ pub fn what_neither_walk_meets_stays<W: Wire>()
     ensures { (base : Base) (member : ℕ → Bool) (met : ℕ → Option Kind) (parts : StructureSets) (hand : Hand) (frame : FrameHand) (c : Content) (wire after : W) (now : StructureSets)
         (later : Hand) (frame_later : FrameHand) (n : ℕ) → RunsBoth base member met parts hand frame c
         → BothEffect W.begins W.transacts parts c.control hand frame wire after now later frame_later → member n ≡ false → met n ≡ None → now n ≡ parts n }
+{}
+
+/// What either walk has in hand of a queue head is one hand, in which each event moves one stream, of the ring or of the frames; or
+/// nothing is told otherwise.
+pub fn each_event_moves_one_stream<W: Wire>()
+    ensures { WalksMoveStreams W.begins W.transacts }
+{}
+
+/// A copy in that hand is one of a queue head of the ring, or of one that the walk of the frames meets.
+pub fn a_copy_in_hand_is_of_either()
+    ensures { JoinedIsAsked }
 {}

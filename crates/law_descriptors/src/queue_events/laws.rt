@@ -1,5 +1,7 @@
 //! The laws.
 ghost use Rattle.law_descriptors.specs.queue_events.Events.{BothKeepsStructures, BothKeepsFed, BothKeepsLast, BothKeepsLinks, BothKeepsFronts, BothKeepsReaches, BothKeepsHalts, BothLeavesHalted, BothKeepsMends, BothKeepsParts};
+ghost use Rattle.law_descriptors.specs.queue_events.Streams.{BothStreams, BothAdds, SendsWhole};
+ghost use Rattle.law_descriptors.specs.queue_events.Pipes.{BothKeepPipes};
 
 use usb_base::Wire;
 
@@ -21,4 +23,21 @@ pub fn each_event_leaves_fronts<W: Wire>()
     ensures halted { BothLeavesHalted W.begins W.transacts }
     ensures mends { BothKeepsMends W.begins W.transacts }
     ensures parts { BothKeepsParts W.begins W.transacts }
+{}
+
+/// Each event moves one stream at most: the bytes of one qTD of one queue head grow, of the ring or of the frames, by what its
+/// transaction moved; or nothing is told otherwise. Those bytes are added to the end of all that was moved of the queue's published qTDs.
+pub fn each_event_moves_one_stream<W: Wire>()
+    ensures streams { BothStreams W.begins W.transacts }
+    ensures adds { BothAdds W.begins W.transacts }
+{}
+
+/// Each event keeps it that the qTDs of an OUT endpoint, in the ring or in the frames, are sent whole and in turn.
+pub fn each_event_sends_whole<W: Wire>()
+    ensures { SendsWhole W.begins W.transacts }
+{}
+
+/// Each event keeps both sides of each pipe of an IN endpoint at high speed agreed, in the ring and in the frames.
+pub fn each_event_keeps_the_pipes<W: Wire>()
+    ensures { BothKeepPipes W.begins W.transacts }
 {}

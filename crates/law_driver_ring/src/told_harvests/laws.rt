@@ -4,7 +4,7 @@ ghost use Rattle.qh_qtd.specs.declared.qtd.Qtd.{Qtd};
 ghost use Rattle.law_structures.specs.lent_structures.Structures.{Element, StructureSets};
 ghost use Rattle.law_ring.specs.Hand.{Hand};
 ghost use Rattle.law_ring.specs.Ring.{IsInHand};
-ghost use Rattle.law_ring.specs.Streams.{AreMembers, StreamEffect};
+ghost use Rattle.law_ring.specs.Streams.{AreMembers, NoneBeside, StreamEffect};
 ghost use Rattle.law_driver_ring.specs.told_harvests.Held.{IsDone};
 ghost use Rattle.law_driver_ring.specs.told_harvests.Laws.{FoundIsDone, FoundIsNoted, HeldGrows, HeldIsNoted, HeldStays, SparedIsDone, ReportIsRead, FirstIsHarvested};
 
@@ -28,7 +28,7 @@ pub fn what_is_held_grows_and_stays()
 pub fn events_keep_what_is_done<W: Wire>()
     ensures { (member : ℕ → Bool) (parts : StructureSets) (hand : Hand) (reply : Reply) (wire after : W) (now : StructureSets) (later : Hand) (n b k : ℕ) (x : List ℕ)
         → AreMembers member parts → IsInHand member parts reply hand → ((a : ℕ) (t : Qtd) → parts n a ≡ Some (Element t) → t.token.active ≡ false → now n a ≡ Some (Element t))
-        → StreamEffect W.transacts parts hand wire after now later → IsDone hand parts n b k x → IsDone later now n b k x }
+        → StreamEffect NoneBeside W.transacts parts hand wire after now later → IsDone hand parts n b k x → IsDone later now n b k x }
 {}
 
 /// The report of a transfer tells what was held back of it, all of it and nothing else.

@@ -37,7 +37,7 @@ use Rattle.law_ring.specs.Effects.{Effect}
 use Rattle.law_ring.specs.Stores.{hand_linked, hand_stale}
 use Rattle.law_ring.specs.Fewer.{without_those}
 use Rattle.law_ring.specs.Told.{Endpoint}
-use Rattle.law_ring.specs.Streams.{AreMembers, StreamEffect}
+use Rattle.law_ring.specs.Streams.{AreMembers, NoneBeside, StreamEffect}
 use Rattle.law_ring.specs.Order.{IsFresh, IsSorted, IsAmong, Accounts, bytes_of_effect}
 use Rattle.law_ring.specs.Front.{HadRest, LinksWithin, HasFront, HasTail}
 use Rattle.law_controller.specs.controlled_streams.Control.{ControlEffect}
@@ -169,7 +169,8 @@ WalkKeepsBuffers {W} transacts = (member : ℕ → Bool) (parts : StructureSets)
 abbrev pub IdleTakesNothing : {W : Type 0} → (W → Ask → List ℕ → Reply → W → Type 0) → Type 0
 IdleTakesNothing {W} transacts = (stream : ℕ → ℕ → Bool) (taker : W → ℕ → ℕ → Option Taker) (member : ℕ → Bool) (parts : StructureSets) (hand : Hand) (reply : Reply) (wire after : W)
     (now : StructureSets) (later : Hand) (n : ℕ) (x : Endpoint) (s : Taker) (q : Qh) → IsOutBus transacts stream taker → AreMembers member parts → IsInHand member parts reply hand
-    → (z : StreamEffect transacts parts hand wire after now later) → IsOnlyEndpoint stream member parts n x → taker wire x.addr x.ep ≡ Some s → parts n n ≡ Some (QueueHead q)
+    → (z : StreamEffect NoneBeside transacts parts hand wire after now later) → IsOnlyEndpoint stream member parts n x
+    → taker wire x.addr x.ep ≡ Some s → parts n n ≡ Some (QueueHead q)
     → q.token.active ≡ false → (taker after x.addr x.ep ≡ Some s) × (bytes_of_effect n z ≡ [])
 
 -- the queue head is halted

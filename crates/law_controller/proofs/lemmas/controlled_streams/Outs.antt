@@ -20,7 +20,7 @@ use Rattle.law_ring.specs.Ring.{IsRing}
 use Rattle.law_ring.specs.Effects.{buffer_of, AreBytesHeard}
 use Rattle.law_ring.specs.Told.{HasToggle, Endpoint, HasEndpoint}
 use Rattle.law_ring.specs.Streams.{StreamEffect}
-use Rattle.law_ring.specs.Streams.StreamEffect.{same, grows}
+use Rattle.law_ring.specs.Streams.StreamEffect.{same, aside, grows}
 use Rattle.law_ring.proofs.Altered.{effect_alters}
 use Rattle.law_ring.specs.Order.{bytes_of_effect, GoesOnInOrder}
 use Rattle.law_ring.proofs.Adding.{event_adds}
@@ -44,8 +44,11 @@ none_still part now alters none a u here on =
     let kept : u ≡ had.qtd = still_active had.qtd u had.after on in
     subst (λ (t : Qtd). t.token.pid ≢ 0) (sym kept) (none a had.qtd had.here (ap (λ (t : Qtd). t.token.active) (sym kept) ∙ on))
 
-named_still : {W : Type 0} {transacts : W → Ask → List ℕ → Reply → W → Type 0} {parts : StructureSets} {hand : Hand} {wire after : W} {now : StructureSets} {later : Hand} (n : ℕ) (x : Endpoint) → StreamEffect transacts parts hand wire after now later → HasEndpoint parts n x → HasEndpoint now n x
+named_still : {W : Type 0} {Beside : Ask → Type 0} {transacts : W → Ask → List ℕ → Reply → W → Type 0} {parts : StructureSets}
+    {hand : Hand} {wire after : W} {now : StructureSets} {later : Hand} (n : ℕ) (x : Endpoint)
+    → StreamEffect Beside transacts parts hand wire after now later → HasEndpoint parts n x → HasEndpoint now n x
 named_still n x (same told quiet) has = told.endpoint n x has
+named_still n x (aside told ask out reply beside made) has = told.endpoint n x has
 named_still n x (grows m all g) has = subst (λ (ps : StructureSets). HasEndpoint ps n x) (sym all) has
 
 apart_still : (part now : Structures) (x y : Endpoint) → Alters part now → ((x.addr ≡ y.addr → x.ep ≡ y.ep → ⊥)) ⊎ SendsNone part → ((x.addr ≡ y.addr → x.ep ≡ y.ep → ⊥)) ⊎ SendsNone now

@@ -13,7 +13,7 @@ use Rattle.law_controller.specs.controlled_streams.Control.{IsOn, IsControlled, 
 use Rattle.law_controller.proofs.lemmas.controlled_streams.Controlling.{event_controls}
 use Rattle.law_ring.specs.Bus.{Sender, IsBus, KeepsSenders}
 use Rattle.law_ring.specs.Pipes.{IsHalf, AreEndpoints, ArePiped, grown}
-use Rattle.law_ring.proofs.PipeAgreeing.{grown_none, rest_by}
+use Rattle.law_ring.proofs.PipeAgreeing.{grown_none, ring_rest}
 use Rattle.law_controller.specs.controlled_streams.Events.{IsControlToldBy, ControlGoesOn}
 
 module _ {W : Type 0} (begins : W → ℕ → Bool → W → Type 0) (transacts : W → Ask → List ℕ → Reply → W → Type 0) (stream : ℕ → ℕ → Bool) (packets : ℕ → ℕ → List (List ℕ)) (sender : W → ℕ → ℕ → Option Sender) (base : Base) (member streams : ℕ → Bool) (endpoint : ℕ → Endpoint) (ends : AreEndpoints stream member streams endpoint) (bus : IsBus transacts stream sender) (keeps : KeepsSenders begins stream sender) (acc : ℕ → List (List ℕ)) (parts : StructureSets) (hand : Hand) (c : Content) (wire : W) (controlled : IsControlled base member parts hand c) (piped : ArePiped stream packets sender member streams endpoint acc parts hand wire) (after : W) (now : StructureSets) (later : Hand) where
@@ -51,7 +51,8 @@ module _ {W : Type 0} (begins : W → ℕ → Bool → W → Type 0) (transacts 
   }
   rest_of (a_step k) =
       let ring : IsRing base member parts hand (walk_place c) = controlled.ring in
-      let r = rest_by transacts stream packets sender member streams endpoint ends bus acc parts hand (walk_place c).walk.reply wire ring.members ring.in_hand piped after now later k.kind k.effect k.streams in
+      let r = ring_rest transacts stream packets sender member streams endpoint ends bus acc parts hand
+      (walk_place c).walk.reply wire ring.in_hand piped after now later k.kind k.effect k.streams in
       record { at = r.at; more = r.more; few = r.few; all = r.all; told = r.told }
 
 pub control_pipes : {W : Type 0} (begins : W → ℕ → Bool → W → Type 0) (transacts : W → Ask → List ℕ → Reply → W → Type 0) (stream : ℕ → ℕ → Bool) (packets : ℕ → ℕ → List (List ℕ)) (sender : W → ℕ → ℕ → Option Sender) (base : Base) (member streams : ℕ → Bool) (endpoint : ℕ → Endpoint) (acc : ℕ → List (List ℕ)) (parts : StructureSets) (hand : Hand) (c : Content) (wire : W) (new : Content) (after : W)

@@ -15,10 +15,10 @@ use Rattle.law_structures.proofs.lemmas.lent_structures.Altering.{found_element}
 use Rattle.law_ring.specs.Hand.{Hand}
 use Rattle.claims_base.specs.Controller.{Base}
 use Rattle.law_ring.specs.Ring.{IsRing}
-use Rattle.law_ring.specs.Effects.{buffer_of, settlement}
+use Rattle.law_ring.specs.Effects.{buffer_of, came_to}
 use Rattle.law_ring.specs.Told.{Told, Endpoint}
 use Rattle.law_ring.specs.Streams.{moved_bytes, StreamEffect}
-use Rattle.law_ring.specs.Streams.StreamEffect.{same, grows}
+use Rattle.law_ring.specs.Streams.StreamEffect.{same, aside, grows}
 use Rattle.law_controller.specs.controlled_streams.Control.{IsControlled, BeginsMicroframe, WalksRing, ControlEffect, a_microframe, a_step}
 use Rattle.law_ring.specs.Order.{IsAmong, AllTold, one_out, bytes_of_effect, GoesOnInOrder}
 use Rattle.law_ring.proofs.Ordering.{done_told}
@@ -42,11 +42,15 @@ grown_empty : (acc : ℕ → List (List ℕ)) (at : ℕ) (more : List (List ℕ)
 grown_empty acc at more n is = ap (λ (xs : List (List ℕ)). grown acc at xs n) is ∙ grown_none acc at n
 
 -- what an event moved of a queue head with a stream is what was taken of it
-sum_after : {W : Type 0} {transacts : W → Ask → List ℕ → Reply → W → Type 0} {parts : StructureSets} {hand : Hand} {wire after : W} {now : StructureSets} {later : Hand} (streams : ℕ → Bool) (acc : ℕ → List (List ℕ)) (at : ℕ) (more : List (List ℕ)) (n : ℕ) (reported told : List ℕ) (z : StreamEffect transacts parts hand wire after now later)
+sum_after : {W : Type 0} {Beside : Ask → Type 0} {transacts : W → Ask → List ℕ → Reply → W → Type 0} {parts : StructureSets} {hand : Hand}
+    {wire after : W} {now : StructureSets} {later : Hand} (streams : ℕ → Bool) (acc : ℕ → List (List ℕ)) (at : ℕ) (more : List (List ℕ))
+    (n : ℕ) (reported told : List ℕ) (z : StreamEffect Beside transacts parts hand wire after now later)
     → streams n ≡ true → IsToldBy streams at more z → reported ++ told ≡ concat (acc n) → reported ++ (told ++ bytes_of_effect n z) ≡ concat (grown acc at more n)
 sum_after streams acc at more n reported told (same s quiet) on is sum = none_more reported told (acc n) (grown acc at more n) (grown_empty acc at more n is) sum
+sum_after streams acc at more n reported told (aside s ask out reply beside made) on is sum = none_more reported told (acc n)
+    (grown acc at more n) (grown_empty acc at more n is) sum
 sum_after {parts = parts} streams acc at more n reported told (grows m all g) on is sum =
-    let moved : List ℕ = moved_bytes m.copy.queue m.sent.element (settlement m.copy.queue m.out m.reply) (buffer_of (parts m.copy.at) m.sent.element) in
+    let moved : List ℕ = moved_bytes m.copy.queue m.sent.element (came_to m) (buffer_of (parts m.copy.at) m.sent.element) in
     ⊎_elim (λ (here : m.copy.at ≡ n).
     let k = is.0 (ap streams here ∙ on) in
     ap (λ (b : Bool). reported ++ (told ++ (if b then moved else []))) (eq-eqb m.copy.at n here)

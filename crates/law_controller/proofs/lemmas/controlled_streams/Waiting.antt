@@ -4,7 +4,7 @@ use Rattle.std.proofs.lemmas.Bool.{false≢true}
 use Rattle.usb_base.specs.declared.packets.Ask.{Ask}
 use Rattle.usb_base.specs.declared.packets.Reply.{Reply}
 use Rattle.hc_copy.specs.Transacting.{call_in}
-use Rattle.async_walk.specs.Naks.{kind_at, planned}
+use Rattle.hc_copy.specs.Planning.{transaction_of}
 use Rattle.hc_core.specs.Controller.{Content, walk_place}
 use Rattle.law_structures.specs.lent_structures.Structures.{StructureSets}
 use Rattle.law_structures.specs.lent_structures.Sound.{IsSoundQueue, IsMember}
@@ -12,10 +12,10 @@ use Rattle.law_structures.proofs.lemmas.lent_structures.Altering.{found_queue}
 use Rattle.law_ring.specs.Hand.{Hand}
 use Rattle.claims_base.specs.Controller.{Base}
 use Rattle.law_ring.specs.Ring.{IsCopied, IsInHand, IsRing}
-use Rattle.law_ring.specs.Effects.{Makes}
+use Rattle.law_ring.specs.Effects.{Asks}
 use Rattle.law_ring.specs.Told.{Endpoint, endpoint_of, HasEndpoint}
-use Rattle.law_ring.specs.Streams.{StreamEffect}
-use Rattle.law_ring.specs.Streams.StreamEffect.{same, grows}
+use Rattle.law_ring.specs.Streams.{NoneBeside, StreamEffect}
+use Rattle.law_ring.specs.Streams.StreamEffect.{same, aside, grows}
 use Rattle.law_controller.specs.controlled_streams.Control.{IsControlled, ControlEffect, a_microframe, a_step}
 use Rattle.law_ring.specs.Bus.{Sender, IsStreamAsk, IsBus, KeepsSenders}
 use Rattle.law_ring.specs.Pipes.{IsElsewhere, ArePiped}
@@ -26,9 +26,9 @@ module _ {W : Type 0} (begins : W → ℕ → Bool → W → Type 0) (transacts 
   goes_on : sender after addr ep ≡ Some k.sender → IsUntouched (packets addr ep) (sender after addr ep)
   goes_on is = record { sender = k.sender; is = is; left = k.left; sends = k.sends }
 
-  module _ (m : Makes transacts parts hand wire after later) where
+  module _ (m : Asks transacts parts hand wire after later) where
     abbrev asked : Ask
-    asked = (call_in (planned m.copy.queue) m.out false).ask
+    asked = (call_in (transaction_of m.kind m.copy.queue) m.out m.last).ask
 
     copied : IsCopied member parts m.copy
     copied =
@@ -46,7 +46,8 @@ module _ {W : Type 0} (begins : W → ℕ → Bool → W → Type 0) (transacts 
     not_by : IsElsewhere stream parts m.copy.at (endpoint m.copy.at) → IsStreamAsk stream asked → ⊥
     not_by (has, inl none) s = false≢true (sym none ∙ ap (λ (x : Endpoint). stream x.addr x.ep) (asked_is (endpoint m.copy.at) has) ∙ s.on)
     not_by (has, inr nots) s =
-        other_asked m.copy.queue.token.pid (planned m.copy.queue).split (kind_at m.copy.queue.dtc) m.copy.queue.token.ping (works_not_in (parts m.copy.at) m.copy.queue sound m.works nots) s.token
+        other_asked m.copy.queue.token.pid (transaction_of m.kind m.copy.queue).split m.kind m.copy.queue.token.ping
+        (works_not_in (parts m.copy.at) m.copy.queue sound m.works nots) s.token
 
     never : (b : Bool) → streams m.copy.at ≡ b → IsStreamAsk stream asked → (addr ≡ asked.addr) × (ep ≡ asked.ep) → ⊥
     never true streamed s both =
@@ -55,10 +56,12 @@ module _ {W : Type 0} (begins : W → ℕ → Bool → W → Type 0) (transacts 
     never false off s both = not_by (piped.others m.copy.at copied.on off) s
 
     asked_on : IsUntouched (packets addr ep) (sender after addr ep)
-    asked_on = goes_on (bus.others wire asked (call_in (planned m.copy.queue) m.out false).out m.reply after addr ep k.sender m.made on k.is (λ s both. never (streams m.copy.at) refl s both))
+    asked_on = goes_on (bus.others wire asked (call_in (transaction_of m.kind m.copy.queue) m.out m.last).out m.reply after addr ep
+        k.sender m.made on k.is (λ s both. never (streams m.copy.at) refl s both))
 
-  by_stream : StreamEffect transacts parts hand wire after now later → IsUntouched (packets addr ep) (sender after addr ep)
+  by_stream : StreamEffect NoneBeside transacts parts hand wire after now later → IsUntouched (packets addr ep) (sender after addr ep)
   by_stream (same told quiet) = goes_on (ap (λ (w : W). sender w addr ep) quiet ∙ k.is)
+  by_stream (aside told ask out reply none made) = absurd none
   by_stream (grows m all g) = asked_on m
 
   pub by_control : ControlEffect begins transacts parts hand wire after now later → IsUntouched (packets addr ep) (sender after addr ep)

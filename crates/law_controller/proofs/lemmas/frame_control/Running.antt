@@ -1,10 +1,11 @@
 -- Each event of the controller over a ring and the frames.
-use Rattle.std.proofs.Common.{◌≡◌, ◌≢◌, ℕ, ◌+◌, ◌*◌, ◌/◌, ◌%◌, ◌<◌, Bool, true, false, not, ◌&&◌, if◌then◌else◌, List, length, get_or, slice_index, Option, Some, None, ap, refl, sym, subst, ◌∙◌, arith}
-use Rattle.std.proofs.lemmas.Bool.{true≢false}
+use Rattle.std.proofs.Common.{◌≡◌, ◌≢◌, ℕ, ◌+◌, ◌*◌, ◌/◌, ◌%◌, ◌<◌, Bool, true, false, not, ◌&&◌, if◌then◌else◌, List, length, get_or, slice_index, Option, Some, None, ap, refl, sym, subst, ◌∙◌, ⊎_elim, inl, inr, arith}
+use Rattle.std.proofs.lemmas.Bool.{and_parts, true≢false}
 use Rattle.usb_base.specs.declared.packets.Ask.{Ask}
 use Rattle.usb_base.specs.declared.packets.Reply.{Reply}
 use Rattle.word_mem.specs.Memory.{Mem, word_at, reaches}
 use Rattle.word_mem.proofs.Words.{get_or-words_in}
+use Rattle.link_words.specs.declared.kinds.Link.{Link}
 use Rattle.link_words.specs.Links.{link_read}
 use Rattle.qh_qtd.specs.declared.queue_head.Qh.{Qh}
 use Rattle.itd_sitd.specs.declared.itd.Itd.{Itd}
@@ -14,7 +15,8 @@ use Rattle.op_registers.specs.Events.{after_begin, next_index}
 use Rattle.async_walk.specs.declared.state.WalkStep.{WalkStep}
 use Rattle.async_walk.specs.declared.state.WalkStep.TheVariants as walks
 use Rattle.async_walk.specs.Walk.{Walk}
-use Rattle.periodic_walk.specs.Walk.{Walk as FrameWalk, is_over}
+use Rattle.periodic_walk.specs.declared.state.Hand.{Hand as Held}
+use Rattle.periodic_walk.specs.Walk.{Walk as FrameWalk, over_at, is_over}
 use Rattle.hc_core.specs.declared.controller.MicroframePart.{MicroframePart}
 use Rattle.hc_core.specs.declared.controller.MicroframePart.TheVariants.{Over, Periodic, Asynchronous}
 use Rattle.hc_core.specs.declared.controller.ControllerRow.{ControllerRow}
@@ -31,7 +33,7 @@ use Rattle.law_ring.specs.Streams.{Streams}
 use Rattle.law_ring.proofs.StreamEvents.{event_streams}
 use Rattle.law_controller.specs.controlled_streams.Control.{IsOn, FrameList, a_microframe, a_step}
 use Rattle.law_frames.specs.Met.{Kind, AQueue, AnItd, ASitd, LeadsTo, IsMetQueue, IsMetItd, IsMetSitd, IsMetAs}
-use Rattle.law_frames.specs.FrameHand.{FrameHand, Nothing}
+use Rattle.law_frames.specs.FrameHand.{FrameHand, Nothing, OfQueue, OfSettled, OfItd, OfSitd, frame_held}
 use Rattle.law_frames.specs.Frame.{IsFrameWalk}
 use Rattle.law_frames.specs.FrameEffects.{FrameHappens}
 use Rattle.law_frames.specs.FrameEffects as effects
@@ -108,10 +110,11 @@ later_empty transacts parts hand wire after now later _ part (takes r quiet) is 
 later_empty transacts parts hand wire after now later _ part (makes r same) is over = absurd (over is)
 later_empty transacts parts hand wire after now later _ part (writes_back r quiet) is over = absurd (over is)
 
--- .. from the contents at which it begins; what was in the frames' hand before the event is of no account
+-- .. from the contents at which it begins; there is nothing in the frames' hand
 ring_goes : {W : Type 0} (begins : W → ℕ → Bool → W → Type 0) (transacts : W → Ask → List ℕ → Reply → W → Type 0) (base : Base) (member : ℕ → Bool) (met : ℕ → Option Kind) (parts : StructureSets) (hand : Hand) (frame before : FrameHand) (c : Content) (old : Control) (wire : W) (new : Content) (after : W)
-    → RunsBoth base member met parts hand frame c → AreBytesHeard transacts wire after → Walks transacts c wire new after → ControlsBoth begins transacts base member met parts hand before old wire after new
-ring_goes begins transacts base member met parts hand frame before c old wire new after k heard walk =
+    → before ≡ Nothing → RunsBoth base member met parts hand frame c → AreBytesHeard transacts wire after
+    → Walks transacts c wire new after → ControlsBoth begins transacts base member met parts hand before old wire after new
+ring_goes begins transacts base member met parts hand frame before c old wire new after free k heard walk =
     let s : Streams transacts base member parts hand wire after (walk_place new) (walk_step c) = event_streams transacts base member parts hand (walk_place c) wire (walk_place new) after k.ring heard walk.walked in
     let h = s.happens in
     let over : new.control.part ≢ Periodic = not_periodic (walk_step c) new.control.part walk.part in
@@ -130,7 +133,7 @@ ring_goes begins transacts base member met parts hand frame before c old wire ne
         walk = λ part. absurd (over part);
         outside = λ part. refl;
       };
-      effect = of_ring (a_step (record { kind = walk_step c; effect = h.effect; streams = s.streams })) refl;
+      effect = of_ring (a_step (record { kind = walk_step c; effect = h.effect; streams = s.streams })) (free, refl);
     }
 
 -- the asynchronous part begins, whatever was in the frames' hand
@@ -171,8 +174,10 @@ ring_rests base member parts now hand c new k nothing same registers tells stays
 }
 
 frames_go : {W : Type 0} (begins : W → ℕ → Bool → W → Type 0) (transacts : W → Ask → List ℕ → Reply → W → Type 0) (base : Base) (member : ℕ → Bool) (met : ℕ → Option Kind) (parts : StructureSets) (hand : Hand) (frame : FrameHand) (c : Content) (wire : W) (new : Content) (after : W)
-    → EventHappens transacts met parts frame → RunsBoth base member met parts hand frame c → c.control.part ≡ Periodic → AreBytesHeard transacts wire after → WalksFrame transacts c wire new after → ControlsBoth begins transacts base member met parts hand frame c.control wire after new
-frames_go begins transacts base member met parts hand frame c wire new after law k part heard walk =
+    → EventHappens transacts met parts frame → RunsBoth base member met parts hand frame c → c.control.part ≡ Periodic
+    → c.registers.periodic_enable ≡ true → AreBytesHeard transacts wire after → WalksFrame transacts c wire new after
+    → ControlsBoth begins transacts base member met parts hand frame c.control wire after new
+frames_go begins transacts base member met parts hand frame c wire new after law k part enabled heard walk =
     let at : IsFrameWalk met parts frame (frame_place c) = k.walk part in
     let h : FrameHappens transacts met parts frame wire after (frame_place c) (frame_place new) (frame_step c) =
     law (frame_place c) wire (frame_place new) after (record { tells = k.ring.tells; members = k.members; walk = at }) heard walk.walked in
@@ -191,7 +196,10 @@ frames_go begins transacts base member met parts hand frame c wire new after law
         members = h.frame.members;
         apart = k.apart;
         walk = λ on. h.frame.walk;
-        outside = λ over. later_nothing transacts parts c.control.frame frame wire after h.now h.later (frame_step c) new.control.part h.effect walk.part over;
+        outside = ⊎_elim (λ (over : new.control.part ≢ Periodic). later_nothing transacts parts c.control.frame frame wire after h.now
+            h.later (frame_step c) new.control.part h.effect walk.part over)
+            (λ (off : base.periodic_enable ≡ false). absurd
+            (true≢false (sym enabled ∙ ap (λ (b : Base). b.periodic_enable) k.ring.registers ∙ off)));
       };
       effect = of_frame (record { part = part; kind = frame_step c; effect = h.effect; nothing = nothing; hand_stays = refl });
     }
@@ -263,15 +271,42 @@ part_says base c registers on = ap (λ (b : Bool). if b then part_row c.register
 ring_on : (base : Base) (r : RegisterFile) → base_of r ≡ base → IsOn base → r.async_enable ≡ true
 ring_on base r registers on = ap (λ (b : Base). b.async_enable) registers ∙ on.async_enable
 
+-- where the chain is over, or the periodic schedule is off, the frames have nothing in hand
+over_nothing : (frame : FrameHand) (o : Option Held) (l : Link) → o ≡ frame_held frame → over_at o l ≡ true → frame ≡ Nothing
+over_nothing Nothing o l is over = refl
+over_nothing (OfQueue c count) o l is over = absurd (true≢false (sym over ∙ ap (λ (h : Option Held). over_at h l) is))
+over_nothing (OfSettled c s count) o l is over = absurd (true≢false (sym over ∙ ap (λ (h : Option Held). over_at h l) is))
+over_nothing (OfItd c) o l is over = absurd (true≢false (sym over ∙ ap (λ (h : Option Held). over_at h l) is))
+over_nothing (OfSitd c) o l is over = absurd (true≢false (sym over ∙ ap (λ (h : Option Held). over_at h l) is))
+
+over_free : (base : Base) (member : ℕ → Bool) (met : ℕ → Option Kind) (parts : StructureSets) (hand : Hand) (frame : FrameHand)
+    (c : Content) → RunsBoth base member met parts hand frame c → c.control.part ≡ Periodic
+    → (b : Bool) → c.registers.periodic_enable ≡ b → (c.registers.periodic_enable && not (is_over c.control.frame)) ≡ false
+    → frame ≡ Nothing
+over_free base member met parts hand frame c k part false off is = k.outside
+    (inr (sym (ap (λ (b : Base). b.periodic_enable) k.ring.registers) ∙ off))
+over_free base member met parts hand frame c k part true on is =
+    over_nothing frame c.control.frame.hand c.control.frame.cursor (k.walk part).held (by (is_over c.control.frame) refl)
+  where
+    by : (b : Bool) → is_over c.control.frame ≡ b → is_over c.control.frame ≡ true
+    by true over = over
+    by false over = absurd (true≢false (ap (λ (x : Bool). true && not x) (sym over) ∙ ap
+        (λ (x : Bool). x && not (is_over c.control.frame)) (sym on) ∙ is))
+
 -- in the periodic part, by whether its chain goes on
 by_chain : {W : Type 0} (begins : W → ℕ → Bool → W → Type 0) (transacts : W → Ask → List ℕ → Reply → W → Type 0) (base : Base) (member : ℕ → Bool) (met : ℕ → Option Kind) (parts : StructureSets) (hand : Hand) (frame : FrameHand) (c : Content) (wire : W) (new : Content) (after : W) (goes : Bool)
-    → EventHappens transacts met parts frame → RunsBoth base member met parts hand frame c → IsOn base → c.control.part ≡ Periodic → AreBytesHeard transacts wire after
+    → (c.registers.periodic_enable && not (is_over c.control.frame)) ≡ goes → EventHappens transacts met parts frame
+    → RunsBoth base member met parts hand frame c → IsOn base → c.control.part ≡ Periodic → AreBytesHeard transacts wire after
     → HasRow begins transacts (if goes then rows.Frame else enter_row c.registers.async_enable) c wire new after → ControlsBoth begins transacts base member met parts hand frame c.control wire after new
-by_chain begins transacts base member met parts hand frame c wire new after true law k on part heard row = frames_go begins transacts base member met parts hand frame c wire new after law k part heard row
-by_chain begins transacts base member met parts hand frame c wire new after false law k on part heard row =
+by_chain begins transacts base member met parts hand frame c wire new after true is law k on part heard row =
+    frames_go begins transacts base member met parts hand frame c wire new after law k part
+    (and_parts c.registers.periodic_enable (not (is_over c.control.frame)) is).0 heard row
+by_chain begins transacts base member met parts hand frame c wire new after false is law k on part heard row =
     let nothing : hand ≡ Empty = k.between (λ same. periodic_not_asynchronous (sym part ∙ same)) in
     subst (λ (h : Hand). ControlsBoth begins transacts base member met parts h frame c.control wire after new) (sym nothing)
-    (ring_goes begins transacts base member met parts Empty Nothing frame (entered c) c.control wire new after (enters base member met parts hand frame c k) heard
+    (ring_goes begins transacts base member met parts Empty Nothing frame (entered c) c.control wire new after
+    (over_free base member met parts hand frame c k part c.registers.periodic_enable refl is)
+    (enters base member met parts hand frame c k) heard
     (subst (λ (r : ControllerRow). HasRow begins transacts r c wire new after) (ap enter_row (ring_on base c.registers k.ring.registers on)) row))
 
 by_part : {W : Type 0} (begins : W → ℕ → Bool → W → Type 0) (transacts : W → Ask → List ℕ → Reply → W → Type 0) (base : Base) (member : ℕ → Bool) (met : ℕ → Option Kind) (parts : StructureSets) (hand : Hand) (frame : FrameHand) (c : Content) (wire : W) (new : Content) (after : W) (part : MicroframePart)
@@ -285,12 +320,22 @@ by_part begins transacts base member met parts hand frame c wire new after Over 
       later = hand;
       frame_later = Nothing;
       runs = begun_runs base member met parts hand frame c row.allowed k part;
-      effect = of_ring (a_microframe (record { index = next_index c.registers.frame_index; allowed = row.allowed; asked = row.asked; parts_stay = refl; hand_stays = refl })) refl;
+      effect = of_ring (a_microframe (record {
+        index = next_index c.registers.frame_index;
+        allowed = row.allowed;
+        asked =
+            row.asked;
+        parts_stay = refl;
+        hand_stays = refl;
+      }))
+          (k.outside (inl (λ same. over_not_periodic (sym part ∙ same))), refl);
     })
 by_part begins transacts base member met parts hand frame c wire new after Periodic part law k on heard row =
-    by_chain begins transacts base member met parts hand frame c wire new after (c.registers.periodic_enable && not (is_over c.control.frame)) law k on part heard row
+    by_chain begins transacts base member met parts hand frame c wire new after
+    (c.registers.periodic_enable && not (is_over c.control.frame)) refl law k on part heard row
 by_part begins transacts base member met parts hand frame c wire new after Asynchronous part law k on heard row =
-    ring_goes begins transacts base member met parts hand frame frame c c.control wire new after k heard
+    ring_goes begins transacts base member met parts hand frame frame c c.control wire new after
+    (k.outside (inl (λ same. asynchronous_not_periodic (sym part ∙ same)))) k heard
     (subst (λ (r : ControllerRow). HasRow begins transacts r c wire new after) (ap ring_row (ring_on base c.registers k.ring.registers on)) row)
 
 pub event_runs : {W : Type 0} (begins : W → ℕ → Bool → W → Type 0) (transacts : W → Ask → List ℕ → Reply → W → Type 0) (base : Base) (member : ℕ → Bool) (met : ℕ → Option Kind) (parts : StructureSets) (hand : Hand) (frame : FrameHand) (c : Content) (wire : W) (new : Content) (after : W)

@@ -18,8 +18,12 @@ use Rattle.law_structures.specs.lent_structures.Sound.{IsMember}
 use Rattle.law_ring.specs.Hand.{Empty}
 use Rattle.law_frames.specs.Met.{Kind, AQueue, LeadsTo, IsMetQueue, IsMetAs}
 use Rattle.law_frames.specs.FrameHand.{Nothing}
-use Rattle.law_controller.specs.frame_control.Both.{LeadToMet, RunsBoth}
-use Rattle.law_controller.specs.frame_control.Samples.{head, queue, elements, front, memory, nothing, parts, member, met, base, opening}
+use Rattle.law_frames.specs.FrameStreams.{IsIsoAsk}
+use Rattle.law_controller.specs.controlled_streams.Control.{a_microframe}
+use Rattle.law_controller.specs.frame_control.Both.{LeadToMet, RunsBoth, BothEffect, of_ring}
+use Rattle.law_controller.specs.frame_control.Joined.{BothStreamEffect}
+use Rattle.law_controller.specs.frame_control.Samples.{head, queue, elements, front, memory, nothing, parts, member, met, base, opening, steps_on, is_deaf}
+use Rattle.law_controller.proofs.lemmas.frame_control.Joining.{walks_move_streams}
 
 -- ---- the structures stand in memory
 
@@ -238,3 +242,11 @@ both_run = record {
   walk = λ part. absurd (over_not_periodic part);
   outside = λ part. refl;
 }
+
+-- ---- its first microframe begins
+
+pub begins_so : BothEffect steps_on is_deaf parts opening.control Empty Nothing 0 1 parts Empty Nothing
+begins_so = of_ring (a_microframe (record { index = 0; allowed = true; asked = refl; parts_stay = refl; hand_stays = refl })) (refl, refl)
+
+pub begun_streams : BothStreamEffect steps_on (IsIsoAsk parts) is_deaf parts Empty 0 1 parts Empty
+begun_streams = walks_move_streams steps_on is_deaf base member met parts Empty Nothing opening 0 1 parts Empty Nothing both_run begins_so

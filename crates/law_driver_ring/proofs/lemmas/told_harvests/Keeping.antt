@@ -11,14 +11,15 @@ use Rattle.law_ring.specs.Hand.{Hand}
 use Rattle.law_ring.specs.Ring.{IsCopied, IsInHand}
 use Rattle.law_ring.specs.Told.{Told}
 use Rattle.law_ring.specs.Streams.{AreMembers, StreamEffect}
-use Rattle.law_ring.specs.Streams.StreamEffect.{same, grows}
+use Rattle.law_ring.specs.Streams.StreamEffect.{same, aside, grows}
 use Rattle.law_ring.specs.Sparing.{SameHand, SparesHead, SparesElement}
 use Rattle.law_ring.proofs.SparedSparing.{spared_told}
 use Rattle.law_driver_ring.specs.told_harvests.Held.{IsDone}
 
-pub done_kept : {W : Type 0} (transacts : W → Ask → List ℕ → Reply → W → Type 0) (member : ℕ → Bool) (parts : StructureSets) (hand : Hand) (reply : Reply) (wire after : W) (now : StructureSets) (later : Hand) (n b k : ℕ) (x : List ℕ)
+pub done_kept : {W : Type 0} {Beside : Ask → Type 0} (transacts : W → Ask → List ℕ → Reply → W → Type 0) (member : ℕ → Bool)
+    (parts : StructureSets) (hand : Hand) (reply : Reply) (wire after : W) (now : StructureSets) (later : Hand) (n b k : ℕ) (x : List ℕ)
     → AreMembers member parts → IsInHand member parts reply hand → ((a : ℕ) (t : Qtd) → parts n a ≡ Some (Element t) → t.token.active ≡ false → now n a ≡ Some (Element t))
-    → StreamEffect transacts parts hand wire after now later → IsDone hand parts n b k x → IsDone later now n b k x
+    → StreamEffect Beside transacts parts hand wire after now later → IsDone hand parts n b k x → IsDone later now n b k x
 done_kept transacts member parts hand reply wire after now later n b k x members in_hand idle (same s quiet) d = record {
   qtd = d.qtd;
   here = idle (32 * b) d.qtd d.here d.off;
@@ -26,6 +27,14 @@ done_kept transacts member parts hand reply wire after now later n b k x members
   told = s.bytes n (32 * b) x d.told;
   count = d.count;
 }
+done_kept transacts member parts hand reply wire after now later n b k x members in_hand idle (aside s ask out answer beside made) d =
+    record {
+      qtd = d.qtd;
+      here = idle (32 * b) d.qtd d.here d.off;
+      off = d.off;
+      told = s.bytes n (32 * b) x d.told;
+      count = d.count;
+    }
 done_kept transacts member parts hand reply wire after now later n b k x members in_hand idle (grows m all g) d = record {
   qtd = d.qtd;
   here = idle (32 * b) d.qtd d.here d.off;

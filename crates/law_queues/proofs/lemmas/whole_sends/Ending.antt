@@ -29,10 +29,9 @@ use Rattle.toggle_error.specs.SplitRows.{start_row, after_start, answered, compl
 use Rattle.toggle_error.specs.Settle.{row_at, after_settle_row}
 use Rattle.transactions.specs.Asks.{pinged, token_pid}
 use Rattle.transactions.specs.Calls.{moving_of}
-use Rattle.hc_copy.specs.Planning.{pid_at, host_in}
+use Rattle.hc_copy.specs.Planning.{pid_at, host_in, transaction_of}
 use Rattle.hc_copy.specs.Transacting.{call_in}
-use Rattle.async_walk.specs.Naks.{kind_at, planned}
-use Rattle.law_ring.specs.Effects.{settlement}
+use Rattle.law_ring.specs.Effects.{settlement_as}
 
 -- ---- only an IN receives
 
@@ -111,11 +110,10 @@ token_no_in Packets.In out differs other e = differs refl
 token_no_in Packets.Out out differs other e = other e
 token_no_in _ out differs other e = cc
 
-pinged_no_in : (dtc ping : Bool) → pinged (kind_at dtc) ping ≢ Packets.In
-pinged_no_in true true e = cc
-pinged_no_in true false e = cc
-pinged_no_in false true e = cc
-pinged_no_in false false e = cc
+pinged_no_in : (kind : EpKind) (ping : Bool) → pinged kind ping ≢ Packets.In
+pinged_no_in Kinds.Iso ping e = cc
+pinged_no_in _ true e = cc
+pinged_no_in _ false e = cc
 
 pid_no_in : (split : Split) (plain : Pid) → plain ≢ Packets.In → token_pid split Packets.Out plain ≢ Packets.In
 pid_no_in Splits.Plain plain differs e = differs e
@@ -123,18 +121,23 @@ pid_no_in _ plain differs e = cc
 
 -- ---- a transaction
 
-abbrev asked : Qh → List ℕ → Ask
-asked q out = (call_in (planned q) out false).ask
+-- as an endpoint of this kind
+module _ (kind : EpKind) (q : Qh) (out : List ℕ) (last : Bool) where
+  abbrev asked : Ask
+  asked = (call_in (transaction_of kind q) out last).ask
 
-abbrev sent : Qh → List ℕ → ℕ
-sent q out = moving_of (planned q).split (planned q).pipe.pid (host_in q) (length out)
+  abbrev sent : ℕ
+  sent = moving_of (transaction_of kind q).split (transaction_of kind q).pipe.pid (host_in q) (length out)
 
-asks_no_in : (q : Qh) (out : List ℕ) → q.token.pid ≡ 0 → (asked q out).pid ≢ Packets.In
-asks_no_in q out pid e =
-    pid_no_in (planned q).split (pinged (kind_at q.dtc) q.token.ping) (pinged_no_in q.dtc q.token.ping)
-    (sym (ap (λ (c : ℕ). token_pid (planned q).split (pid_at c) (pinged (kind_at q.dtc) q.token.ping)) pid) ∙ e)
+  asks_no_in : q.token.pid ≡ 0 → asked.pid ≢ Packets.In
+  asks_no_in pid e =
+      pid_no_in (transaction_of kind q).split (pinged kind q.token.ping) (pinged_no_in kind q.token.ping)
+      (sym (ap (λ (c : ℕ). token_pid (transaction_of kind q).split (pid_at c) (pinged kind q.token.ping)) pid) ∙ e)
 
-pub ends_whole : (q : Qh) (out : List ℕ) (reply : Reply) → q.token.active ≡ true → q.token.pid ≡ 0 → (settlement q out reply).host.active ≡ false → (settlement q out reply).host.halted ≡ false → (settlement q out reply).host.left ≡ 0
-ends_whole q out reply on pid off goes =
-    row_ends (asked q out).split (asked q out).kind false (heard_of (host_in q) reply) (plain_row (token_of (asked q out)) (heard_of (host_in q) reply) (sent q out)) (host_in q)
-    (plain_no_in (token_of (asked q out)) (heard_of (host_in q) reply) (sent q out) (token_no_in (asked q out).pid (out_token (asked q out).speed (asked q out).kind) (asks_no_in q out pid) (out_no_in (asked q out).speed (asked q out).kind))) on off goes
+  pub ends_whole : (reply : Reply) → q.token.active ≡ true → q.token.pid ≡ 0 → (settlement_as kind q out last reply).host.active ≡ false
+      → (settlement_as kind q out last reply).host.halted ≡ false → (settlement_as kind q out last reply).host.left ≡ 0
+  ends_whole reply on pid off goes =
+      row_ends asked.split asked.kind last (heard_of (host_in q) reply) (plain_row (token_of asked) (heard_of (host_in q) reply) sent)
+      (host_in q)
+      (plain_no_in (token_of asked) (heard_of (host_in q) reply) sent
+      (token_no_in asked.pid (out_token asked.speed asked.kind) (asks_no_in pid) (out_no_in asked.speed asked.kind))) on off goes

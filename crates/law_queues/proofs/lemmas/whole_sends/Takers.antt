@@ -9,17 +9,17 @@ use Rattle.usb_base.specs.declared.packets.Reply.{Reply}
 use Rattle.qh_qtd.specs.declared.queue_head.Qh.{Qh}
 use Rattle.transactions.specs.Asks.{pinged}
 use Rattle.hc_copy.specs.Transacting.{call_in}
-use Rattle.async_walk.specs.Naks.{kind_at, planned}
+use Rattle.hc_copy.specs.Planning.{transaction_of}
 use Rattle.law_structures.specs.lent_structures.Structures.{QueueHead, StructureSets}
 use Rattle.law_structures.proofs.lemmas.lent_structures.Names.{not_same}
 use Rattle.law_structures.specs.lent_structures.Sound.{IsWorking, IsSoundQueue, IsMember}
 use Rattle.law_structures.proofs.lemmas.lent_structures.Altering.{found_queue}
 use Rattle.law_ring.specs.Hand.{Hand}
 use Rattle.law_ring.specs.Ring.{IsCopied, IsInHand}
-use Rattle.law_ring.specs.Effects.{buffer_of, settlement, Makes}
+use Rattle.law_ring.specs.Effects.{buffer_of, Asks, came_to}
 use Rattle.law_ring.specs.Told.{Endpoint, endpoint_of}
 use Rattle.law_ring.specs.Streams.{AreMembers, moved_bytes}
-use Rattle.law_ring.specs.Streams.StreamEffect.{same, grows}
+use Rattle.law_ring.specs.Streams.StreamEffect.{same, aside, grows}
 use Rattle.law_ring.specs.OutBus.{Taker, IsOutAsk}
 use Rattle.law_ring.specs.OutPipes.{IsNext, IsUnmoved, OutAgrees, level, ahead, ended}
 use Rattle.law_ring.specs.OutPipeLaws.{SendsNone, IsBeside}
@@ -29,27 +29,36 @@ use Rattle.law_queues.specs.whole_sends.Laws.{IdleTakesNothing, IsStopped, Taken
 use Rattle.law_queues.proofs.lemmas.whole_sends.Telling.{told_in_order, next_in_order, told_ahead, next_ahead}
 
 -- the transaction of another queue head asks another endpoint, or is no OUT
-unasked : {W : Type 0} (transacts : W → Ask → List ℕ → Reply → W → Type 0) (stream : ℕ → ℕ → Bool) (member : ℕ → Bool) (parts : StructureSets) (hand later : Hand) (wire after : W) (x : Endpoint) → AreMembers member parts → (m : Makes transacts parts hand wire after later) → IsCopied member parts m.copy
-    → (b : IsBeside parts m.copy.at x) → ((x.addr ≡ b.endpoint.addr → x.ep ≡ b.endpoint.ep → ⊥)) ⊎ SendsNone (parts m.copy.at) → IsOutAsk stream (call_in (planned m.copy.queue) m.out false).ask
-    → (x.addr ≡ (call_in (planned m.copy.queue) m.out false).ask.addr) × (x.ep ≡ (call_in (planned m.copy.queue) m.out false).ask.ep) → ⊥
+unasked : {W : Type 0} (transacts : W → Ask → List ℕ → Reply → W → Type 0) (stream : ℕ → ℕ → Bool) (member : ℕ → Bool)
+    (parts : StructureSets) (hand later : Hand) (wire after : W) (x : Endpoint) → AreMembers member parts
+    → (m : Asks transacts parts hand wire after later) → IsCopied member parts m.copy
+    → (b : IsBeside parts m.copy.at x) → ((x.addr ≡ b.endpoint.addr → x.ep ≡ b.endpoint.ep → ⊥)) ⊎ SendsNone (parts m.copy.at)
+    → IsOutAsk stream (call_in (transaction_of m.kind m.copy.queue) m.out m.last).ask
+    → (x.addr ≡ (call_in (transaction_of m.kind m.copy.queue) m.out m.last).ask.addr) ×
+    (x.ep ≡ (call_in (transaction_of m.kind m.copy.queue) m.out m.last).ask.ep) → ⊥
 unasked transacts stream member parts hand later wire after x members m copied b (inl apart) asked e =
     let is : endpoint_of m.copy.queue ≡ b.endpoint = sym (b.named.is ∙ ap endpoint_of (found_queue (parts m.copy.at m.copy.at) b.named.queue m.copy.queue b.named.head copied.here)) in
     apart (e.0 ∙ ap (λ (y : Endpoint). y.addr) is) (e.1 ∙ ap (λ (y : Endpoint). y.ep) is)
 unasked transacts stream member parts hand later wire after x members m copied b (inr none) asked e =
     let k : IsMember member m.copy.at (parts m.copy.at) = members m.copy.at copied.on in
     let w : IsWorking (parts m.copy.at) m.copy.queue = (subst (IsSoundQueue (parts m.copy.at)) (found_queue (parts m.copy.at m.copy.at) k.queue m.copy.queue k.here copied.here) k.sound).work m.works in
-    out_only m.copy.queue.token.pid false (m.copy.queue.token.pid == 1) (planned m.copy.queue).split (pinged (kind_at m.copy.queue.dtc) m.copy.queue.token.ping)
+    out_only m.copy.queue.token.pid false (m.copy.queue.token.pid == 1) (transaction_of m.kind m.copy.queue).split
+    (pinged m.kind m.copy.queue.token.ping)
     (not_same m.copy.queue.token.pid 0 (λ (i : m.copy.queue.token.pid ≡ 0). none m.copy.queue.current w.element w.here w.published (sym w.pid ∙ i))) refl refl asked.token
 
 pub idle_takes_nothing : {W : Type 0} (transacts : W → Ask → List ℕ → Reply → W → Type 0) → IdleTakesNothing transacts
 idle_takes_nothing transacts stream taker member parts hand reply wire after now later n x s q bus members in_hand (same told quiet) only is head idle = (ap (λ w. taker w x.addr x.ep) quiet ∙ is, refl)
+idle_takes_nothing transacts stream taker member parts hand reply wire after now later n x s q bus members in_hand
+    (aside told ask out answer none made) only is head idle = absurd none
 idle_takes_nothing transacts stream taker member parts hand reply wire after now later n x s q bus members in_hand (grows m all g) only is head idle =
     let copied : IsCopied member parts m.copy = subst (IsInHand member parts reply) m.in_hand in_hand in
     let other : m.copy.at ≢ n = λ at. true≢false (sym m.works ∙ ap (λ (r : Qh). r.token.active) (found_queue (parts n n) m.copy.queue q (ap (λ (i : ℕ). parts i i) (sym at) ∙ copied.here) head) ∙ idle) in
     let beside : IsBeside parts m.copy.at x = only.others m.copy.at copied.on other in (
-      bus.others wire (call_in (planned m.copy.queue) m.out false).ask (call_in (planned m.copy.queue) m.out false).out m.reply after x.addr x.ep s m.made only.streamed is
+      bus.others wire (call_in (transaction_of m.kind m.copy.queue) m.out m.last).ask
+          (call_in (transaction_of m.kind m.copy.queue) m.out m.last).out m.reply after x.addr x.ep s m.made only.streamed is
           (unasked transacts stream member parts hand later wire after x members m copied beside beside.apart),
-      ap (λ (b : Bool). if b then moved_bytes m.copy.queue m.sent.element (settlement m.copy.queue m.out m.reply) (buffer_of (parts m.copy.at) m.sent.element) else []) (not_same m.copy.at n other),
+      ap (λ (b : Bool). if b then moved_bytes m.copy.queue m.sent.element (came_to m)
+          (buffer_of (parts m.copy.at) m.sent.element) else []) (not_same m.copy.at n other),
     )
 
 -- ---- what the device took

@@ -37,7 +37,7 @@ use Rattle.law_frames.specs.Met.{Kind}
 use Rattle.law_frames.specs.FrameHand.{FrameHand}
 use Rattle.law_descriptors.specs.Both.{both}
 use Rattle.law_descriptors.specs.Meeting.{standing}
-use Rattle.claims_driver.specs.Unlinked.{IsRemovedAt, a_descriptor, a_queue, a_waiting, IsRemovedSince, IsUnchainedNow}
+use Rattle.law_descriptors.specs.Removed.{IsRemovedAt, a_descriptor, a_queue, a_waiting, IsRemovedSince, IsUnchainedNow}
 use Rattle.law_descriptors.specs.Recent.{AreRecent, driver_after}
 use Rattle.law_descriptors.proofs.Others.{rows_told}
 use Rattle.law_descriptors.proofs.Returning.{none_some}

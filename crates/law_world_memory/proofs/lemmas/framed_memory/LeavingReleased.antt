@@ -31,7 +31,7 @@ use Rattle.law_controller.specs.frame_control.Both.{RunsBoth}
 use Rattle.law_descriptors.specs.Both.{both}
 use Rattle.law_descriptors.specs.Told.{with_memory}
 use Rattle.law_descriptors.specs.Meeting.{standing_in, or_recent, met}
-use Rattle.claims_driver.specs.Unlinked.{IsRemovedSince, IsUnchainedNow}
+use Rattle.law_descriptors.specs.Removed.{IsRemovedSince, IsUnchainedNow}
 use Rattle.law_descriptors.specs.Recent.{AreRecent}
 use Rattle.law_world_memory.specs.framed_memory.Now.{IsFramedNow}
 use Rattle.law_world_memory.proofs.lemmas.framed_memory.Now.{RowLeaves, next_now}

@@ -32,7 +32,7 @@ use Rattle.law_descriptors.specs.Both.{both}
 use Rattle.law_descriptors.specs.PartLaws.{IsDescribing}
 use Rattle.law_descriptors.specs.Told.{IsToldBy, with_memory}
 use Rattle.law_descriptors.specs.Meeting.{met}
-use Rattle.claims_driver.specs.Unlinked.{IsRemovedAt, a_descriptor, a_queue, a_waiting}
+use Rattle.law_descriptors.specs.Removed.{IsRemovedAt, a_descriptor, a_queue, a_waiting}
 use Rattle.law_descriptors.proofs.Rings.{ring_of_queues}
 use Rattle.law_descriptors.proofs.Telling.{descriptor_found}
 use Rattle.law_world_memory.specs.framed_memory.Now.{IsFramedNow}

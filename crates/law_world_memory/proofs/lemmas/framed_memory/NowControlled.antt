@@ -1,5 +1,5 @@
 -- Each event of the controller keeps a driver framed with what was unlinked in this microframe; where a microframe begins, nothing was.
-use Rattle.std.proofs.Common.{◌≡◌, ℕ, Bool, true, false, ◌&&◌, not, if◌then◌else◌, List, Option, Some, None, ap, refl, sym, subst}
+use Rattle.std.proofs.Common.{◌≡◌, ℕ, Bool, true, false, ◌&&◌, not, if◌then◌else◌, List, Option, Some, None, ap, refl, sym, subst, ◌∙◌, inl}
 use Rattle.usb_base.specs.declared.packets.Ask.{Ask}
 use Rattle.usb_base.specs.declared.packets.Reply.{Reply}
 use Rattle.op_registers.specs.RegisterFile.{RegisterFile}
@@ -60,6 +60,9 @@ begins_over : (runs : Bool) (r : RegisterFile) (frame : FrameWalk) (part : Micro
 begins_over true r frame part is = part_over r frame part is
 begins_over false r frame part is = absurd (not_idle is)
 
+over_not_periodic : Over ≡ Periodic → ⊥
+over_not_periodic is = cc
+
 none_some : (kind : Kind) → None ≡ Some kind → ⊥
 none_some kind e = cc
 
@@ -99,7 +102,15 @@ module _ {W : Type 0} (begins : W → ℕ → Bool → W → Type 0) (transacts 
         now = all;
         later = hand;
         frame_later = Nothing;
-        effect = of_ring (a_microframe (record { index = next_index c.registers.frame_index; allowed = row.allowed; asked = row.asked; parts_stay = refl; hand_stays = refl })) refl;
+        effect = of_ring (a_microframe (record {
+          index = next_index c.registers.frame_index;
+          allowed = row.allowed;
+          asked =
+              row.asked;
+          parts_stay = refl;
+          hand_stays = refl;
+        }))
+            (k.framed.runs.outside (inl (λ same. over_not_periodic (sym over ∙ same))), refl);
         framed = record {
           framed = record {
             operating = f.operating;

@@ -51,7 +51,8 @@ use Rattle.law_descriptors.specs.PartLaws.{IsDescribing}
 use Rattle.law_descriptors.specs.Told.{IsToldBy}
 use Rattle.law_descriptors.specs.Meeting.{met}
 use Rattle.law_descriptors.specs.Growing.{AreApartFrom}
-use Rattle.claims_driver.specs.Unlinked.{IsRemovedAt, a_descriptor as removed_descriptor, a_queue, a_waiting, IsRemovedSince, IsUnchainedNow}
+use Rattle.claims_driver.specs.Unlinked.{a_descriptor as removed_descriptor}
+use Rattle.law_descriptors.specs.Removed.{IsRemovedAt, a_queue, a_waiting, IsRemovedSince, IsUnchainedNow}
 use Rattle.law_descriptors.specs.Recent.{AreRecent}
 use Rattle.law_descriptors.proofs.Owned.{descriptor_owner, one_owner, IsOfDescriptors, descriptor_lies}
 use Rattle.law_descriptors.proofs.Rings.{ring_of_queues}

@@ -26,7 +26,7 @@ use Rattle.law_world_steps.proofs.lemmas.unlinked_streams.Standing.{unlink_stand
 use Rattle.law_queues.specs.shared_memory.Shared.{parts_of}
 use Rattle.law_frames.specs.Met.{Kind}
 use Rattle.law_frames.specs.FrameHand.{FrameHand}
-use Rattle.claims_driver.specs.Unlinked.{IsRemovedSince, IsUnchainedNow}
+use Rattle.law_descriptors.specs.Removed.{IsRemovedSince, IsUnchainedNow}
 use Rattle.law_descriptors.specs.Recent.{AreRecent}
 use Rattle.law_world_memory.specs.framed_memory.Now.{IsFramedNow, FramedNext}
 use Rattle.law_world_memory.proofs.lemmas.framed_memory.StillStanding.{recent_still, set_still}

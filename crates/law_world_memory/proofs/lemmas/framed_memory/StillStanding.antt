@@ -39,7 +39,8 @@ use Rattle.law_driver.specs.listed_members.Listed.{IsOwnedAs}
 use Rattle.claims_driver.specs.FrameListMembers.{IsUnderWay, IsListed}
 use Rattle.law_driver.proofs.lemmas.listed_members.Owned.{members_owned}
 use Rattle.law_descriptors.specs.Meeting.{kind_of_descriptor, queue_begins, descriptor_begins, kind_by, kind_at, standing_in, standing, or_recent, met}
-use Rattle.claims_driver.specs.Unlinked.{led, IsRemovedAt, a_descriptor, a_queue, a_waiting, IsRemovedSince, IsUnchainedNow}
+use Rattle.claims_driver.specs.Unlinked.{led}
+use Rattle.law_descriptors.specs.Removed.{IsRemovedAt, a_descriptor, a_queue, a_waiting, IsRemovedSince, IsUnchainedNow}
 use Rattle.law_descriptors.specs.Recent.{AreRecent}
 use Rattle.law_descriptors.proofs.Accepted.{made, all_transfers, notes_other}
 use Rattle.law_descriptors.proofs.ListRows.{idle_led, unlinking_led}

@@ -5,7 +5,7 @@ use Rattle.usb_base.specs.declared.packets.Ask.{Ask}
 use Rattle.usb_base.specs.declared.packets.Reply.{Reply}
 use Rattle.transactions.specs.Asks.{pinged}
 use Rattle.hc_copy.specs.Transacting.{call_in}
-use Rattle.async_walk.specs.Naks.{kind_at, planned}
+use Rattle.hc_copy.specs.Planning.{transaction_of}
 use Rattle.hc_core.specs.Controller.{Content, walk_place}
 use Rattle.law_structures.specs.lent_structures.Structures.{StructureSets}
 use Rattle.law_structures.proofs.lemmas.lent_structures.Names.{not_same}
@@ -14,10 +14,10 @@ use Rattle.law_structures.proofs.lemmas.lent_structures.Altering.{found_queue}
 use Rattle.law_ring.specs.Hand.{Hand}
 use Rattle.claims_base.specs.Controller.{Base}
 use Rattle.law_ring.specs.Ring.{IsCopied, IsInHand, IsRing}
-use Rattle.law_ring.specs.Effects.{Makes}
+use Rattle.law_ring.specs.Effects.{Asks}
 use Rattle.law_ring.specs.Told.{Endpoint, endpoint_of, HasEndpoint}
-use Rattle.law_ring.specs.Streams.{StreamEffect}
-use Rattle.law_ring.specs.Streams.StreamEffect.{same, grows}
+use Rattle.law_ring.specs.Streams.{NoneBeside, StreamEffect}
+use Rattle.law_ring.specs.Streams.StreamEffect.{same, aside, grows}
 use Rattle.law_controller.specs.controlled_streams.Control.{IsControlled, ControlEffect, a_microframe, a_step}
 use Rattle.law_ring.specs.Bus.{Sender, IsStreamAsk, IsBus, KeepsSenders}
 use Rattle.law_ring.specs.Pipes.{IsElsewhere}
@@ -29,9 +29,11 @@ use Rattle.law_world_steps.specs.closed_streams.Aside.{AreElsewhere, AsideSender
 
 -- ---- a transaction
 
-module _ {W : Type 0} (transacts : W → Ask → List ℕ → Reply → W → Type 0) (closed : ℕ → ℕ → Bool) (base : Base) (member : ℕ → Bool) (ends : ℕ → Endpoint) (parts : StructureSets) (hand : Hand) (c : Content) (wire after : W) (later : Hand) (controlled : IsControlled base member parts hand c) (m : Makes transacts parts hand wire after later) where
+module _ {W : Type 0} (transacts : W → Ask → List ℕ → Reply → W → Type 0) (closed : ℕ → ℕ → Bool) (base : Base) (member : ℕ → Bool)
+    (ends : ℕ → Endpoint) (parts : StructureSets) (hand : Hand) (c : Content) (wire after : W) (later : Hand)
+    (controlled : IsControlled base member parts hand c) (m : Asks transacts parts hand wire after later) where
   abbrev asked : Ask
-  asked = (call_in (planned m.copy.queue) m.out false).ask
+  asked = (call_in (transaction_of m.kind m.copy.queue) m.out m.last).ask
 
   copied : IsCopied member parts m.copy
   copied =
@@ -52,27 +54,31 @@ module _ {W : Type 0} (transacts : W → Ask → List ℕ → Reply → W → Ty
   in_not : IsElsewhere closed parts m.copy.at (ends m.copy.at) → IsStreamAsk closed asked → ⊥
   in_not (has, inl none) s = asked_off has none s.on
   in_not (has, inr nots) s =
-      other_asked m.copy.queue.token.pid (planned m.copy.queue).split (kind_at m.copy.queue.dtc) m.copy.queue.token.ping (works_not_in (parts m.copy.at) m.copy.queue sound m.works nots) s.token
+      other_asked m.copy.queue.token.pid (transaction_of m.kind m.copy.queue).split m.kind m.copy.queue.token.ping
+      (works_not_in (parts m.copy.at) m.copy.queue sound m.works nots) s.token
 
   out_not : IsAside closed parts m.copy.at (ends m.copy.at) → IsOutAsk closed asked → ⊥
   out_not (has, inl none) s = asked_off has none s.on
   out_not (has, inr none) s =
       let w : IsWorking (parts m.copy.at) m.copy.queue = sound.work m.works in
-      out_only m.copy.queue.token.pid false (m.copy.queue.token.pid == 1) (planned m.copy.queue).split (pinged (kind_at m.copy.queue.dtc) m.copy.queue.token.ping)
+      out_only m.copy.queue.token.pid false (m.copy.queue.token.pid == 1) (transaction_of m.kind m.copy.queue).split
+      (pinged m.kind m.copy.queue.token.ping)
       (not_same m.copy.queue.token.pid 0 (λ (i : m.copy.queue.token.pid ≡ 0). none m.copy.queue.current w.element w.here w.published (sym w.pid ∙ i))) refl refl s.token
 
 -- ---- senders
 
 module _ {W : Type 0} (begins : W → ℕ → Bool → W → Type 0) (transacts : W → Ask → List ℕ → Reply → W → Type 0) (closed : ℕ → ℕ → Bool) (sender : W → ℕ → ℕ → Option Sender) (base : Base) (member : ℕ → Bool) (ends : ℕ → Endpoint) (parts : StructureSets) (hand : Hand) (c : Content) (wire after : W) (now : StructureSets) (later : Hand) (bus : IsBus transacts closed sender) (keeps : KeepsSenders begins closed sender) (controlled : IsControlled base member parts hand c) (others : AreElsewhere closed member ends parts) (addr ep : ℕ) (s : Sender) (on : closed addr ep ≡ true) (is : sender wire addr ep ≡ Some s) where
-  sender_beside : (m : Makes transacts parts hand wire after later) → sender after addr ep ≡ Some s
+  sender_beside : (m : Asks transacts parts hand wire after later) → sender after addr ep ≡ Some s
   sender_beside m =
-      bus.others wire (asked transacts closed base member ends parts hand c wire after later controlled m) (call_in (planned m.copy.queue) m.out false).out m.reply after addr ep s m.made on is
+      bus.others wire (asked transacts closed base member ends parts hand c wire after later controlled m)
+      (call_in (transaction_of m.kind m.copy.queue) m.out m.last).out m.reply after addr ep s m.made on is
       (λ ask both.
       in_not transacts closed base member ends parts hand c wire after later controlled m
       (others m.copy.at (copied transacts closed base member ends parts hand c wire after later controlled m).on) ask)
 
-  sender_by_stream : StreamEffect transacts parts hand wire after now later → sender after addr ep ≡ Some s
+  sender_by_stream : StreamEffect NoneBeside transacts parts hand wire after now later → sender after addr ep ≡ Some s
   sender_by_stream (same told quiet) = ap (λ (w : W). sender w addr ep) quiet ∙ is
+  sender_by_stream (aside told ask out reply none made) = absurd none
   sender_by_stream (grows m all g) = sender_beside m
 
   sender_by_control : ControlEffect begins transacts parts hand wire after now later → sender after addr ep ≡ Some s
@@ -86,15 +92,17 @@ aside_senders begins transacts closed sender base member ends parts hand c wire 
 -- ---- takers
 
 module _ {W : Type 0} (begins : W → ℕ → Bool → W → Type 0) (transacts : W → Ask → List ℕ → Reply → W → Type 0) (closed : ℕ → ℕ → Bool) (taker : W → ℕ → ℕ → Option Taker) (base : Base) (member : ℕ → Bool) (ends : ℕ → Endpoint) (parts : StructureSets) (hand : Hand) (c : Content) (wire after : W) (now : StructureSets) (later : Hand) (bus : IsOutBus transacts closed taker) (keeps : KeepsTakers begins closed taker) (controlled : IsControlled base member parts hand c) (others : AreAside closed member (λ n. false) ends parts) (addr ep : ℕ) (t : Taker) (on : closed addr ep ≡ true) (is : taker wire addr ep ≡ Some t) where
-  taker_beside : (m : Makes transacts parts hand wire after later) → taker after addr ep ≡ Some t
+  taker_beside : (m : Asks transacts parts hand wire after later) → taker after addr ep ≡ Some t
   taker_beside m =
-      bus.others wire (asked transacts closed base member ends parts hand c wire after later controlled m) (call_in (planned m.copy.queue) m.out false).out m.reply after addr ep t m.made on is
+      bus.others wire (asked transacts closed base member ends parts hand c wire after later controlled m)
+      (call_in (transaction_of m.kind m.copy.queue) m.out m.last).out m.reply after addr ep t m.made on is
       (λ ask both.
       out_not transacts closed base member ends parts hand c wire after later controlled m
       (others m.copy.at (copied transacts closed base member ends parts hand c wire after later controlled m).on refl) ask)
 
-  taker_by_stream : StreamEffect transacts parts hand wire after now later → taker after addr ep ≡ Some t
+  taker_by_stream : StreamEffect NoneBeside transacts parts hand wire after now later → taker after addr ep ≡ Some t
   taker_by_stream (same told quiet) = ap (λ (w : W). taker w addr ep) quiet ∙ is
+  taker_by_stream (aside told ask out reply none made) = absurd none
   taker_by_stream (grows m all g) = taker_beside m
 
   taker_by_control : ControlEffect begins transacts parts hand wire after now later → taker after addr ep ≡ Some t
