@@ -5,6 +5,12 @@
 --     typed_qtd k b        the qTD in block b, after so many
 --     kinds_of d           the kinds of the driver's endpoints
 --     owners_of d          the numbers of the endpoints of its transfers; firsts_of d: the blocks of their first qTDs
+--     waiting_from         the world 25 events and commands after that open, but that FRINDEX is 1,025, and the overlay of the keyboard's
+--                          queue head has eight bytes to receive and waits for its complete-splits, as after the start-split of frame 128
+--                          (3.6 and 4.12.2); and five events of the controller
+--     waiting_at k         its world after k of them: microframe 2 of frame 128 begins
+--     waiting_visits k     what was visited in the microframe then
+--     turn_in hand f       what there is to do at the queue head in hand, in the microframe f of FRINDEX
 --     unlinked_keyboard    the keyboard's endpoint, cancelled, with its queue head in block 130
 --     its_removal          it left the frame list, and frame 128 was read since
 --     without_keyboard     a driver's content with this endpoint and this removal alone
@@ -19,7 +25,7 @@
 --     placed_speaker       a full-speed isochronous OUT endpoint of packets of 400 bytes below a hub: parts in the microframes 1, 2 and 3
 --     sensor               a high-speed interrupt IN endpoint of packets of 64 bytes that is polled in each microframe
 --     sensor_and_disk      a script that opens it and the disk's bulk IN endpoint, asks it for 64 bytes and lets three microframes pass
-use Rattle.std.specs.Prelude.{ℕ, true, false, List, [], ◌∷◌, Some, None, map}
+use Rattle.std.specs.Prelude.{ℕ, true, false, List, [], ◌∷◌, slice_set, Option, Some, None, map}
 use Rattle.usb_base.specs.declared.commands.Cmd.TheVariants as commands
 use Rattle.usb_base.specs.declared.endpoints.EpDesc.{EpDesc}
 use Rattle.usb_base.specs.declared.packets.EpKind.{EpKind}
@@ -30,9 +36,13 @@ use Rattle.script_types.specs.declared.devices.Item.TheVariants as items
 use Rattle.script_types.specs.declared.scripts.Event.TheVariants as events
 use Rattle.script_types.specs.declared.scripts.Line.TheVariants as lines
 use Rattle.script_types.specs.declared.scripts.Script.{Script}
+use Rattle.word_mem.specs.Memory.{Mem}
 use Rattle.bandwidth.specs.declared.placements.Placed.{Placed}
 use Rattle.bandwidth.specs.Worked.{keyboard, speaker, placed}
+use Rattle.hc_interrupt.specs.declared.turns.Turn.{Turn}
+use Rattle.hc_interrupt.specs.Turns.{turn_of}
 use Rattle.periodic_walk.specs.declared.state.Hand.{Hand}
+use Rattle.periodic_walk.specs.declared.state.Hand.TheVariants as hands
 use Rattle.periodic_walk.specs.Place.{FramePlace}
 use Rattle.periodic_walk.specs.Samples.{at_hand}
 use Rattle.hc_core.specs.declared.controller.MicroframePart.TheVariants.{Periodic}
@@ -52,6 +62,7 @@ use Rattle.law_world_memory.specs.Samples.{disk, keyboard as polled_keyboard, ke
 use Rattle.law_world_memory.specs.MicrophoneSamples.{one_microphone, heard_at}
 use Rattle.claims_world.specs.Carried.{carried_from}
 use Rattle.law_world_visits.specs.Began.{began_by}
+use Rattle.law_world_visits.specs.Visited.{visited_from}
 use Rattle.law_world_time.specs.ChargeSamples.{itd_at}
 use Rattle.law_world_time.specs.DataQueues.{qtd_in}
 use Rattle.claims_world.specs.WithinLoad.{payments_after, repeats_after}
@@ -77,6 +88,25 @@ owners_of d = map (λ y. y.endpoint) d.transfers
 
 abbrev pub firsts_of : DriverContent → List ℕ
 firsts_of d = map (λ y. y.first) d.transfers
+
+-- bytes 24 to 27 of the queue head: active, to receive, with three errors left, in Do-Complete
+abbrev pub waiting_memory : Mem
+waiting_memory = record (typed_at 25).memory { words = slice_set (typed_at 25).memory.words 1046 0x80D82 }
+
+abbrev pub waiting_from : OrderedWorld
+waiting_from = at_place
+    (record (typed_at 25) { registers = record (typed_at 25).registers { frame_index = 1025 }; memory = waiting_memory })
+    (Events events.C 5 ∷ [])
+
+abbrev pub waiting_at : ℕ → World
+waiting_at k = (ticks (fixed_of keyboard_and_disk) waiting_from k).world
+
+abbrev pub waiting_visits : ℕ → List ℕ
+waiting_visits k = visited_from (fixed_of keyboard_and_disk) waiting_from [] k
+
+abbrev pub turn_in : Option Hand → ℕ → Option Turn
+turn_in (Some (hands.Queue h)) f = Some (turn_of f h.copy.queue_head)
+turn_in _ f = None
 
 abbrev pub unlinked_keyboard : Endpoint
 unlinked_keyboard = record {

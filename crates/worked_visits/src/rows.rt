@@ -1,6 +1,7 @@
 //! The rows.
 ghost use Rattle.std.specs.Prelude.{◌≡◌, ℕ, suc, ◌+◌, ◌==◌, true, false, [], ◌∷◌, Some};
 ghost use Rattle.word_mem.specs.Memory.{word_at};
+ghost use Rattle.hc_interrupt.specs.declared.turns.Turn.TheVariants.{Work};
 ghost use Rattle.law_world_memory.specs.Samples.{keyboard, keyboard_and_disk, keyboard_place, typed_at};
 ghost use Rattle.law_world_memory.specs.MicrophoneSamples.{one_microphone};
 ghost use Rattle.hc_core.specs.declared.controller.ControllerRow.TheVariants as rows;
@@ -25,7 +26,7 @@ ghost use Rattle.usb_base.specs.declared.packets.Pid.TheVariants.{Data2};
 ghost use Rattle.usb_base.specs.declared.packets.Reply.TheVariants.{Bytes};
 ghost use Rattle.bandwidth.specs.Sums.{load};
 ghost use Rattle.law_world_time.specs.ChargeSamples.{iso_in, itd_at};
-ghost use Rattle.worked_visits.specs.Samples.{typed_payments, typed_began, typed_place, typed_qtd, kinds_of, owners_of, firsts_of, due_at, due_payments, paid_at, sensor_and_disk, without_keyboard};
+ghost use Rattle.worked_visits.specs.Samples.{typed_payments, typed_began, typed_place, typed_qtd, kinds_of, owners_of, firsts_of, due_at, due_payments, paid_at, sensor_and_disk, waiting_at, waiting_visits, turn_in, without_keyboard};
 
 /// Where a microframe begins nothing was paid; the queue head of the keyboard's endpoint is fetched, which costs nothing, and passed, since it is inactive.
 pub fn a_keyboard_is_passed()
@@ -100,6 +101,18 @@ pub fn a_keyboard_is_not_left_out()
     ensures still { IsInChain (typed_at 30) 0 4160 }
     ensures over { IsPastFrames (typed_at 30) }
     ensures visited { HasVisited 4160 (typed_visits 30) }
+{}
+
+/// In microframe 2 of frame 128 the keyboard's queue head waits for a complete-split. It is linked where the microframe begins; the walk
+/// hasn't visited it then, and isn't over. Then it is visited, and is linked still, and there is a complete-split to
+/// make.
+pub fn a_keyboard_is_visited_at_its_complete_split()
+    ensures linked { IsInChain (waiting_at 0) 128 4160 }
+    ensures goes_on { IsPastFrames (waiting_at 1) → ⊥ }
+    ensures none { HasVisited 4160 (waiting_visits 1) → ⊥ }
+    ensures still { IsInChain (waiting_at 2) 128 4160 }
+    ensures visited { HasVisited 4160 (waiting_visits 2) }
+    ensures turn { turn_in (waiting_at 2).control.frame.hand 1026 ≡ Some Work }
 {}
 
 /// Where the keyboard's endpoint was unlinked, its queue head was of frame 128, not of frame 129, and nothing else was. In microframe 2 of
