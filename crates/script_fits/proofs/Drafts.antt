@@ -333,4 +333,5 @@ after_fits w n (says.Iso l) t said h =
     cond_both (is_slots l) _ w IsFitDraft
     (λ e. where_fits w l.name _ h (commanded_fits w n (commands.Iso (name_of l.name) l.count l.len l.seed) (some_slots l e) h))
     (λ _. h)
+after_fits w n says.Unbuilt t said h = h
 after_fits w n _ t said h = record { words = h.words; hubs = h.hubs; devices = h.devices; lines = all_append (λ x. IsFitLine x.1) w.lines _ h.lines tt }

@@ -32,6 +32,7 @@ IsSaid (says.Control c) = Unit {0}
 IsSaid (says.Iso l) = Unit {0}
 IsSaid (says.Order event n) = Unit {0}
 IsSaid (says.Micro n) = Unit {0}
+IsSaid says.Unbuilt = Unit {0}
 
 pub form_said : (f : Form) (ws : List (List ℕ)) → IsRanged f ws → IsSaid (statement_of f ws)
 unfolding statement_of

@@ -13,7 +13,7 @@ use Rattle.script_forms.specs.declared.causes.TextWhy.TheVariants as C
 use Rattle.script_forms.specs.declared.table.FirstWord.{FirstWord}
 use Rattle.script_forms.specs.declared.table.Form.{Form}
 use Rattle.script_forms.specs.declared.statements.Statement.{Statement}
-use Rattle.script_forms.specs.Table.{first_of}
+use Rattle.script_forms.specs.Table.{first_in}
 use Rattle.script_forms.specs.Fitting.{form_of}
 use Rattle.script_forms.specs.Values.{statement_of}
 use Rattle.script_world.specs.Draft.{Draft, Placed, empty, script_of, device_text}
@@ -64,7 +64,8 @@ first_fits w n more (Some first) h =
 words_fit : (w : Draft) (n : ℕ) (ws : List (List ℕ)) → IsFitDraft w → Fits (words_read w n ws)
 words_fit w n [] h = tt
 words_fit w n (first ∷ more) h =
-    cond_both (list_any no_bytes (first ∷ more)) (Err C.Word) (first_read w n more (first_of first)) Fits (λ _. tt) (λ _. first_fits w n more (first_of first) h)
+    cond_both (list_any no_bytes (first ∷ more)) (Err C.Word) (first_read w n more (first_in w.version first)) Fits
+    (λ _. tt) (λ _. first_fits w n more (first_in w.version first) h)
 
 version_fits : (w : Draft) (line : List ℕ) → IsFitDraft w → Fits (version_read w line)
 version_fits w line h =

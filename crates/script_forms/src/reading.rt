@@ -275,5 +275,6 @@ pub fn statement(alloc: Global, form: Form, words: &[Word]) -> Result<Statement,
         Form::OrderD => Ok(Statement::Order(Event::D, number_at(1, words))),
         Form::OrderC => Ok(Statement::Order(Event::C, number_at(1, words))),
         Form::OrderM => Ok(Statement::Micro(number_at(1, words))),
+        _ => Ok(Statement::Unbuilt),
     }
 }

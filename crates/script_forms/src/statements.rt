@@ -123,4 +123,6 @@ pub enum Statement {
     Order(Event, u32),
     /// Turns until so many microframes have ended.
     Micro(u32),
+    /// Nothing: the form is one that no version has yet.
+    Unbuilt,
 }

@@ -2,6 +2,7 @@
 ghost use Rattle.std.specs.Prelude.{◌≡◌, ℕ, ◌<◌, ◌↔◌, List, [], ◌∷◌, Some, None, Ok, Err, codes};
 ghost use Rattle.std.specs.Fmt.{decimal};
 ghost use Rattle.script_forms.specs.Syntax.{number_of, hex_of};
+ghost use Rattle.script_forms.specs.Table.{first_in};
 ghost use Rattle.script_forms.specs.Fitting.{form_of};
 ghost use Rattle.script_forms.specs.Values.{statement_of};
 
@@ -45,6 +46,15 @@ pub fn forms_of_words()
     ensures number { form_of FirstWord.Put (codes "3" ∷ codes "1" ∷ codes "out" ∷ codes "fill" ∷ codes "x" ∷ codes "7" ∷ []) ≡ Err TextWhy.Number }
     ensures by { form_of FirstWord.Put (codes "3" ∷ codes "1" ∷ codes "out" ∷ codes "00" ∷ codes "7" ∷ codes "7" ∷ []) ≡ Err TextWhy.Word }
     ensures setup { form_of FirstWord.Control (codes "3" ∷ codes "80060001" ∷ []) ≡ Err TextWhy.Hex }
+{}
+
+/// The first words of a version.
+pub fn versions()
+    ensures first { first_in 1 (codes "mem") ≡ Some FirstWord.Mem }
+    ensures second { first_in 2 (codes "mem") ≡ Some FirstWord.Mem }
+    ensures later { first_in 2 (codes "clear") ≡ None }
+    ensures never { first_in 1 (codes "clear") ≡ None }
+    ensures unknown { first_in 2 (codes "device") ≡ None }
 {}
 
 /// What words say.

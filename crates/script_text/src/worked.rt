@@ -28,6 +28,8 @@ pub const VERSION: &[u8] = b"ehci 3\n";
 
 pub const WORD: &[u8] = b"ehci 1\n\n# a device\ndevice 3 high\n";
 
+pub const UNBUILT: &[u8] = b"ehci 2\nclear 3 1 in\n";
+
 pub const LATE: &[u8] = b"ehci 1\norder d 1\nmem 1\n";
 
 pub const COUNT: &[u8] = b"ehci 1\ndev 3";
@@ -49,6 +51,7 @@ pub fn causes()
     ensures byte { first_fault BYTE.now ≡ Some (2, TextWhy.Byte) }
     ensures version { first_fault VERSION.now ≡ Some (1, TextWhy.Version) }
     ensures word { first_fault WORD.now ≡ Some (4, TextWhy.Word) }
+    ensures unbuilt { first_fault UNBUILT.now ≡ Some (2, TextWhy.Word) }
     ensures late { first_fault LATE.now ≡ Some (3, TextWhy.Late) }
     ensures count { first_fault COUNT.now ≡ Some (2, TextWhy.Count) }
     ensures number { first_fault NUMBER.now ≡ Some (2, TextWhy.Number) }

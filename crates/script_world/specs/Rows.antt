@@ -121,6 +121,7 @@ has_room w (says.Control c) = may_command w && may_script w (bytes_len c.bytes)
 has_room w (says.Iso l) = may_command w
 has_room w (says.Order event n) = nat_le n 1000000 && nat_le (w.steps + n) 4000000
 has_room w (says.Micro n) = nat_le (w.microframes + n) 16384
+has_room w says.Unbuilt = true
 
 -- the first cause of a line whose words fit a form
 abbrev pub cause_of : Draft → Statement → Option TextWhy
@@ -290,6 +291,7 @@ after w n (says.Control c) = after_control w n c
 after w n (says.Iso l) = after_iso w n l
 after w n (says.Order event k) = record w { acting = true; steps = counted w.steps k; lines = w.lines ++ (n, line.Order event k) ∷ [] }
 after w n (says.Micro k) = record w { acting = true; microframes = counted w.microframes k; lines = w.lines ++ (n, line.Micro k) ∷ [] }
+after w n says.Unbuilt = w
 
 -- the script after line n, whose words fit a form: as it was where the line has a cause
 abbrev pub taken : Draft → ℕ → Statement → Draft

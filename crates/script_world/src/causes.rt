@@ -228,6 +228,7 @@ impl Draft {
                 *n <= 1_000_000 && self.steps as u64 + *n as u64 <= 4_000_000
             }
             Statement::Micro(n) => self.microframes as u64 + *n as u64 <= 16_384,
+            Statement::Unbuilt => true,
         }
     }
 

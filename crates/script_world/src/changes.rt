@@ -420,6 +420,7 @@ impl Draft {
             Statement::Iso(iso) => self.add_iso(line, &iso),
             Statement::Order(event, n) => self.add_order(line, event, n),
             Statement::Micro(n) => self.add_micro(line, n),
+            Statement::Unbuilt => Ok(()),
         }
     }
 

@@ -77,6 +77,13 @@ impl Draft {
         }
     }
 
+    /// The version of the language.
+    pub fn version(&self) -> u8
+        ensures { result ≡ self.now.version }
+    {
+        self.version
+    }
+
     /// The text is of this version of the language.
     pub fn set_version(&mut self, version: u8)
         ensures { self.new ≡ record self.old { version = version } }

@@ -253,3 +253,4 @@ after_told w n (says.Iso l) t said h =
     cond_both (is_slots l) _ w IsToldDraft (λ _. where_told w l.name _ h (commanded_told w n (cmd.Iso (name_of l.name) l.count l.len l.seed) tt h)) (λ _. h)
 after_told w n (says.Order event k) t said h = record { devices = h.devices; lines = told_more w.hubs w.devices w.lines n (line.Order event k) tt h.lines }
 after_told w n (says.Micro k) t said h = record { devices = h.devices; lines = told_more w.hubs w.devices w.lines n (line.Micro k) tt h.lines }
+after_told w n says.Unbuilt t said h = h

@@ -37,6 +37,7 @@ IsEight (says.Control c) = length c.setup ≡ 8
 IsEight (says.Iso l) = Unit {0}
 IsEight (says.Order event n) = Unit {0}
 IsEight (says.Micro n) = Unit {0}
+IsEight says.Unbuilt = Unit {0}
 
 eight : (bytes : List ℕ) → length (eight_of bytes) ≡ 8
 eight bytes = cond_both (length bytes == 8) bytes (replicate 8 0) (λ xs. length xs ≡ 8) (λ e. eqb-true (length bytes) 8 e) (λ _. refl)

@@ -45,6 +45,7 @@ IsByteStatement (says.Control c) = AreBytes c.setup × Holds AreBytes c.bytes
 IsByteStatement (says.Iso l) = Unit {0}
 IsByteStatement (says.Order event n) = Unit {0}
 IsByteStatement (says.Micro n) = Unit {0}
+IsByteStatement says.Unbuilt = Unit {0}
 
 -- bytes that a word spells, or none
 read_bytes : (w : List ℕ) (o : Option (List ℕ)) → hex_of w ≡ o → AreBytes (unwrap_or o [])

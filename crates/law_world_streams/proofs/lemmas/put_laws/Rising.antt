@@ -18,7 +18,7 @@ use Rattle.script_forms.specs.declared.table.Form.{Form}
 use Rattle.script_forms.specs.declared.statements.Name.{Name}
 use Rattle.script_forms.specs.declared.statements.Statement.{Statement}
 use Rattle.script_forms.specs.declared.statements.Statement.TheVariants as says_to
-use Rattle.script_forms.specs.Table.{first_of}
+use Rattle.script_forms.specs.Table.{first_in}
 use Rattle.script_forms.specs.Fitting.{form_of}
 use Rattle.script_forms.specs.Values.{statement_of}
 use Rattle.script_world.specs.Draft.{Draft, device_of, known, empty}
@@ -121,7 +121,8 @@ first_before n w more (Some first) h =
 words_before : (n : ℕ) (w : Draft) (ws : List (List ℕ)) → AreBefore n w → NextRead n (words_read w n ws)
 words_before n w [] h = tt
 words_before n w (first ∷ more) h =
-    cond_both (list_any no_bytes (first ∷ more)) (Err C.Word) (first_read w n more (first_of first)) (Read (AreBefore (n + 1))) (λ _. tt) (λ _. first_before n w more (first_of first) h)
+    cond_both (list_any no_bytes (first ∷ more)) (Err C.Word) (first_read w n more (first_in w.version first)) (Read (AreBefore (n + 1)))
+    (λ _. tt) (λ _. first_before n w more (first_in w.version first) h)
 
 version_before : (n : ℕ) (w : Draft) (line : List ℕ) → AreBefore n w → Read (AreBefore n) (version_read w line)
 version_before n w line h =

@@ -18,6 +18,10 @@ pub returns-clause-word : goal.returns-clause-word
 unfolding script_read form_of number_of hex_of statement_of digits
 returns-clause-word c = refl
 
+pub returns-clause-unbuilt : goal.returns-clause-unbuilt
+unfolding script_read form_of number_of hex_of statement_of digits
+returns-clause-unbuilt c = refl
+
 pub returns-clause-late : goal.returns-clause-late
 unfolding script_read form_of number_of hex_of statement_of digits
 returns-clause-late c = refl
