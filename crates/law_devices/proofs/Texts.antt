@@ -59,7 +59,8 @@ module _ (P : Draft → Type 0) (at_first : P empty) (second : (w : Draft) → P
   first_kept : (w : Draft) (n : ℕ) (more : List (List ℕ)) (first : Option FirstWord) → P w → Read (first_read w n more first)
   first_kept w n more None h = tt
   first_kept w n more (Some first) h =
-      cond_both (is_late w first) (Err C.Late) (form_read w n more (form_of first more)) Read (λ _. tt) (λ _. form_kept w n more (form_of first more) h)
+      cond_both (is_late w first) (Err C.Late) (form_read w n more (form_of w.version first more)) Read
+      (λ _. tt) (λ _. form_kept w n more (form_of w.version first more) h)
 
   words_kept : (w : Draft) (n : ℕ) (ws : List (List ℕ)) → P w → Read (words_read w n ws)
   words_kept w n [] h = tt

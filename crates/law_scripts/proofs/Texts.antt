@@ -39,7 +39,8 @@ module _ (P : Draft → Type 0) (second : (w : Draft) → P w → P (record w { 
   first_keeps : (w : Draft) (n : ℕ) (more : List (List ℕ)) (first : Option FirstWord) → P w → Keeps P (first_read w n more first)
   first_keeps w n more None h = tt
   first_keeps w n more (Some first) h =
-      cond_both (is_late w first) (Err C.Late) (form_read w n more (form_of first more)) (Keeps P) (λ _. tt) (λ _. form_keeps w n more (form_of first more) h)
+      cond_both (is_late w first) (Err C.Late) (form_read w n more (form_of w.version first more)) (Keeps P)
+      (λ _. tt) (λ _. form_keeps w n more (form_of w.version first more) h)
 
   words_keep : (w : Draft) (n : ℕ) (ws : List (List ℕ)) → P w → Keeps P (words_read w n ws)
   words_keep w n [] h = tt

@@ -52,14 +52,17 @@ answer_fits (Some why) v h = tt
 said_fits : (w : Draft) (n : ℕ) (s : Statement) → IsSaid s → IsFitDraft w → Fits (said w n s)
 said_fits w n s is h = answer_fits (cause_of w s) (after w n s) (λ e. after_fits w n s (is_taken w s e) is h)
 
-form_fits : (w : Draft) (n : ℕ) (first : FirstWord) (more : List (List ℕ)) (form : Result Form TextWhy) → form_of first more ≡ form → IsFitDraft w → Fits (form_read w n more form)
-form_fits w n first more (Ok form) e h = said_fits w n (statement_of form more) (form_said form more (form_is_ranged first more form e)) h
+form_fits : (w : Draft) (n : ℕ) (first : FirstWord) (more : List (List ℕ)) (form : Result Form TextWhy)
+    → form_of w.version first more ≡ form → IsFitDraft w → Fits (form_read w n more form)
+form_fits w n first more (Ok form) e h =
+    said_fits w n (statement_of form more) (form_said form more (form_is_ranged w.version first more form e)) h
 form_fits w n first more (Err why) e h = tt
 
 first_fits : (w : Draft) (n : ℕ) (more : List (List ℕ)) (first : Option FirstWord) → IsFitDraft w → Fits (first_read w n more first)
 first_fits w n more None h = tt
 first_fits w n more (Some first) h =
-    cond_both (is_late w first) (Err C.Late) (form_read w n more (form_of first more)) Fits (λ _. tt) (λ _. form_fits w n first more (form_of first more) refl h)
+    cond_both (is_late w first) (Err C.Late) (form_read w n more (form_of w.version first more)) Fits
+    (λ _. tt) (λ _. form_fits w n first more (form_of w.version first more) refl h)
 
 words_fit : (w : Draft) (n : ℕ) (ws : List (List ℕ)) → IsFitDraft w → Fits (words_read w n ws)
 words_fit w n [] h = tt

@@ -1,5 +1,5 @@
 -- The lines of a script: for each first word the forms of what follows it, and for each form its slots.
-use Rattle.std.specs.Prelude.{ℕ, Bool, true, false, if◌then◌else◌, List, [], ◌∷◌, Option, Some, None, codes}
+use Rattle.std.specs.Prelude.{ℕ, ◌==◌, Bool, true, false, if◌then◌else◌, List, [], ◌∷◌, Option, Some, None, codes}
 use Rattle.std.specs.List.{find}
 use Rattle.std.specs.Str.{bytes_eq}
 use Rattle.usb_base.specs.Limits.{longest_qtd, most_memory}
@@ -62,7 +62,7 @@ first_of w = find (λ f. bytes_eq w (first_text f)) first_words
 -- a version of the language has the lines of a first word; those of version 2 are false until they are built
 abbrev pub is_built : ℕ → FirstWord → Bool
 is_built version F.Frames = false
-is_built version F.Stuff = false
+is_built version F.Stuff = version == 2
 is_built version F.Epoch = false
 is_built version F.Clear = false
 is_built version F.Park = false
@@ -111,6 +111,7 @@ keyword_word K.By = codes "by"
 keyword_word K.D = codes "d"
 keyword_word K.C = codes "c"
 keyword_word K.M = codes "m"
+keyword_word K.Multi = codes "multi"
 
 -- a number of any value
 abbrev pub any : Slot
@@ -157,6 +158,7 @@ second_slots_of _ = []
 abbrev pub slots_of : Form → List Slot
 slots_of form.Mem = Number 2048 most_memory ∷ []
 slots_of form.Hub = address ∷ Number 1 15 ∷ []
+slots_of form.HubMulti = address ∷ Number 1 15 ∷ Key K.Multi ∷ []
 slots_of form.DevHigh = address ∷ Key K.High ∷ []
 slots_of form.DevFull = address ∷ Key K.Full ∷ any ∷ any ∷ []
 slots_of form.DevLow = address ∷ Key K.Low ∷ any ∷ any ∷ []
@@ -189,34 +191,40 @@ slots_of form.OrderC = Key K.C ∷ any ∷ []
 slots_of form.OrderM = Key K.M ∷ any ∷ []
 slots_of f = second_slots_of f
 
--- the forms of each first word
-abbrev pub forms_of : FirstWord → List Form
-forms_of F.Mem = form.Mem ∷ []
-forms_of F.Hub = form.Hub ∷ []
-forms_of F.Dev = form.DevHigh ∷ form.DevFull ∷ form.DevLow ∷ []
-forms_of F.Ep = form.EpControl ∷ form.EpBulk ∷ form.EpInterrupt ∷ form.EpIso ∷ []
-forms_of F.Reply = form.ReplyData ∷ form.ReplyFill ∷ form.ReplyNak ∷ form.ReplyNyet ∷ form.ReplyStall ∷ form.ReplyRequest ∷ []
-forms_of F.Fate = form.Fate ∷ []
-forms_of F.Hold = form.Hold ∷ []
-forms_of F.Open = form.Open ∷ []
-forms_of F.Cancel = form.Cancel ∷ []
-forms_of F.Get = form.Get ∷ form.GetBy ∷ []
-forms_of F.Put = form.Put ∷ form.PutBy ∷ form.PutFill ∷ form.PutFillBy ∷ []
-forms_of F.Control = form.Control ∷ form.ControlData ∷ []
-forms_of F.Iso = form.IsoIn ∷ form.IsoOut ∷ []
-forms_of F.Order = form.OrderD ∷ form.OrderC ∷ form.OrderM ∷ []
-forms_of F.Frames = form.Frames ∷ []
-forms_of F.Stuff = form.Stuff ∷ []
-forms_of F.Epoch = form.Epoch ∷ []
-forms_of F.Clear = form.Clear ∷ []
-forms_of F.Park = form.Park ∷ []
-forms_of F.Root = form.Root ∷ []
-forms_of F.Classic = form.ClassicFull ∷ form.ClassicLow ∷ []
-forms_of F.Plug = form.Plug ∷ []
-forms_of F.Unplug = form.Unplug ∷ []
-forms_of F.Reset = form.Reset ∷ []
-forms_of F.Give = form.Give ∷ []
-forms_of F.Disk = form.Disk ∷ []
-forms_of F.Read = form.Read ∷ []
-forms_of F.Write = form.Write ∷ form.WriteFill ∷ []
-forms_of F.Revive = form.Revive ∷ []
+-- a hub's lines; version 2 has those of a hub with a translator for each port (USB 2.0, 11.14)
+abbrev pub hub_forms : Bool → List Form
+hub_forms false = form.Hub ∷ []
+hub_forms true = form.Hub ∷ form.HubMulti ∷ []
+
+-- the forms of each first word in a version of the language
+abbrev pub forms_of : ℕ → FirstWord → List Form
+forms_of version F.Mem = form.Mem ∷ []
+forms_of version F.Hub = hub_forms (version == 2)
+forms_of version F.Dev = form.DevHigh ∷ form.DevFull ∷ form.DevLow ∷ []
+forms_of version F.Ep = form.EpControl ∷ form.EpBulk ∷ form.EpInterrupt ∷ form.EpIso ∷ []
+forms_of version F.Reply =
+    form.ReplyData ∷ form.ReplyFill ∷ form.ReplyNak ∷ form.ReplyNyet ∷ form.ReplyStall ∷ form.ReplyRequest ∷ []
+forms_of version F.Fate = form.Fate ∷ []
+forms_of version F.Hold = form.Hold ∷ []
+forms_of version F.Open = form.Open ∷ []
+forms_of version F.Cancel = form.Cancel ∷ []
+forms_of version F.Get = form.Get ∷ form.GetBy ∷ []
+forms_of version F.Put = form.Put ∷ form.PutBy ∷ form.PutFill ∷ form.PutFillBy ∷ []
+forms_of version F.Control = form.Control ∷ form.ControlData ∷ []
+forms_of version F.Iso = form.IsoIn ∷ form.IsoOut ∷ []
+forms_of version F.Order = form.OrderD ∷ form.OrderC ∷ form.OrderM ∷ []
+forms_of version F.Frames = form.Frames ∷ []
+forms_of version F.Stuff = form.Stuff ∷ []
+forms_of version F.Epoch = form.Epoch ∷ []
+forms_of version F.Clear = form.Clear ∷ []
+forms_of version F.Park = form.Park ∷ []
+forms_of version F.Root = form.Root ∷ []
+forms_of version F.Classic = form.ClassicFull ∷ form.ClassicLow ∷ []
+forms_of version F.Plug = form.Plug ∷ []
+forms_of version F.Unplug = form.Unplug ∷ []
+forms_of version F.Reset = form.Reset ∷ []
+forms_of version F.Give = form.Give ∷ []
+forms_of version F.Disk = form.Disk ∷ []
+forms_of version F.Read = form.Read ∷ []
+forms_of version F.Write = form.Write ∷ form.WriteFill ∷ []
+forms_of version F.Revive = form.Revive ∷ []

@@ -1,6 +1,6 @@
 //! The rows of the table.
 ghost use Rattle.std.specs.Prelude.{◌≡◌};
-ghost use Rattle.script_forms.specs.Table.{first_of, keyword_word, slots_of, second_slots_of, forms_of};
+ghost use Rattle.script_forms.specs.Table.{first_of, keyword_word, slots_of, second_slots_of, hub_forms, forms_of};
 
 use usb_base::limits::{LONGEST_QTD, MOST_MEMORY};
 
@@ -64,6 +64,7 @@ pub enum Keyword {
     D,
     C,
     M,
+    Multi,
 }
 
 /// What may stand in one place of a form.
@@ -92,6 +93,8 @@ pub enum Form {
     Mem,
     /// `hub <addr> <ports>`
     Hub,
+    /// `hub <addr> <ports> multi`
+    HubMulti,
     /// `dev <addr> high`
     DevHigh,
     /// `dev <addr> full <hub> <port>`
@@ -238,6 +241,7 @@ pub fn slots(form: Form) -> &'static [Slot]
     match form {
         Form::Mem => &[Slot::Number(2048, MOST_MEMORY)],
         Form::Hub => &[ADDRESS, Slot::Number(1, 15)],
+        Form::HubMulti => &[ADDRESS, Slot::Number(1, 15), Slot::Key(Keyword::Multi)],
         Form::DevHigh => &[ADDRESS, Slot::Key(Keyword::High)],
         Form::DevFull => &[ADDRESS, Slot::Key(Keyword::Full), ANY, ANY],
         Form::DevLow => &[ADDRESS, Slot::Key(Keyword::Low), ANY, ANY],
@@ -350,13 +354,23 @@ pub fn slots(form: Form) -> &'static [Slot]
     }
 }
 
-/// The forms of the lines with a first word.
-pub fn forms(first: FirstWord) -> &'static [Form]
-    ensures { result.now ≡ forms_of first }
+/// The forms of a hub's lines: version 2 has those of a hub with a translator for each port.
+fn hub_forms(second: bool) -> &'static [Form]
+    ensures { result.now ≡ hub_forms second }
+{
+    if second {
+        return &[Form::Hub, Form::HubMulti];
+    }
+    &[Form::Hub]
+}
+
+/// The forms of the lines with a first word, in a version of the language.
+pub fn forms(version: u8, first: FirstWord) -> &'static [Form]
+    ensures { result.now ≡ forms_of version first }
 {
     match first {
         FirstWord::Mem => &[Form::Mem],
-        FirstWord::Hub => &[Form::Hub],
+        FirstWord::Hub => hub_forms(version == 2),
         FirstWord::Dev => &[Form::DevHigh, Form::DevFull, Form::DevLow],
         FirstWord::Ep => &[
             Form::EpControl,
@@ -478,5 +492,6 @@ pub fn keyword_text(keyword: Keyword) -> &'static [u8]
         Keyword::D => b"d",
         Keyword::C => b"c",
         Keyword::M => b"m",
+        Keyword::Multi => b"multi",
     }
 }

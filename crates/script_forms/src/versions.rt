@@ -12,7 +12,7 @@ fn is_built(version: u8, first: FirstWord) -> bool
 {
     match first {
         FirstWord::Frames => false,
-        FirstWord::Stuff => false,
+        FirstWord::Stuff => version == 2,
         FirstWord::Epoch => false,
         FirstWord::Clear => false,
         FirstWord::Park => false,

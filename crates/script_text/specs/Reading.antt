@@ -52,7 +52,7 @@ form_read w n more (Err why) = Err why
 -- the first word is one of the version, or isn't
 abbrev pub first_read : Draft → ℕ → List (List ℕ) → Option FirstWord → Result Draft TextWhy
 first_read w n more None = Err C.Word
-first_read w n more (Some first) = if is_late w first then Err C.Late else form_read w n more (form_of first more)
+first_read w n more (Some first) = if is_late w first then Err C.Late else form_read w n more (form_of w.version first more)
 
 -- the words of line n; a space too many makes an empty word
 abbrev pub words_read : Draft → ℕ → List (List ℕ) → Result Draft TextWhy

@@ -61,9 +61,9 @@ fn read_form(
     first: FirstWord,
     words: &[Word],
 ) -> Result<Option<TextWhy>, Memory>
-    ensures { IfOk result (λ why. form_read draft.old n words.now (form_of first words.now) ≡ answer why draft.new) }
+    ensures { IfOk result (λ why. form_read draft.old n words.now (form_of draft.old.version first words.now) ≡ answer why draft.new) }
 {
-    match form_of(first, words) {
+    match form_of(draft.version(), first, words) {
         Err(why) => Ok(Some(why)),
         Ok(form) => match statement(alloc, form, words) {
             Ok(statement) => read_statement(alloc, draft, n, statement),

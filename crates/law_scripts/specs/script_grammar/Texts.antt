@@ -20,7 +20,7 @@ pub record Tells (w : Draft) (n : ℕ) (line : List ℕ) (v : Draft) : Type 0 wh
   pub whole : list_any no_bytes (first_text first ∷ more) ≡ false  -- no word is empty
   pub built : is_built w.version first ≡ true  -- the version has such lines
   pub early : is_late w first ≡ false
-  pub spelled : IsForm first form more
+  pub spelled : IsForm w.version first form more
   pub allowed : cause_of w (statement_of form more) ≡ None
   pub new : v ≡ after w n (statement_of form more)
 

@@ -22,12 +22,13 @@ pub record IsMeasured (setup bytes : List ℕ) : Type 0 where
 
 abbrev pub IsEight : Statement → Type 0
 IsEight (says.Mem n) = Unit {0}
-IsEight (says.Hub addr ports) = Unit {0}
+IsEight (says.Hub addr ports multi) = Unit {0}
 IsEight (says.DevHigh addr) = Unit {0}
 IsEight (says.DevBelow b) = Unit {0}
 IsEight (says.Ep l) = Unit {0}
 IsEight (says.Reply name a) = Unit {0}
 IsEight (says.Fate f) = Unit {0}
+IsEight (says.Stuff name p) = Unit {0}
 IsEight (says.Hold first last) = Unit {0}
 IsEight (says.Open name) = Unit {0}
 IsEight (says.Cancel name) = Unit {0}

@@ -44,7 +44,8 @@ form_read_bytes w n more (Err why) h = tt
 first_bytes : (w : Draft) (n : ℕ) (more : List (List ℕ)) (first : Option FirstWord) → IsByteDraft w → IsByteRead (first_read w n more first)
 first_bytes w n more None h = tt
 first_bytes w n more (Some first) h =
-    cond_both (is_late w first) (Err C.Late) (form_read w n more (form_of first more)) IsByteRead (λ _. tt) (λ _. form_read_bytes w n more (form_of first more) h)
+    cond_both (is_late w first) (Err C.Late) (form_read w n more (form_of w.version first more)) IsByteRead
+    (λ _. tt) (λ _. form_read_bytes w n more (form_of w.version first more) h)
 
 words_bytes : (w : Draft) (n : ℕ) (ws : List (List ℕ)) → IsByteDraft w → IsByteRead (words_read w n ws)
 words_bytes w n [] h = tt

@@ -61,7 +61,7 @@ record FirstRead (w : Draft) (n : ℕ) (more : List (List ℕ)) (o : Option Firs
   first : FirstWord
   is : o ≡ Some first
   early : is_late w first ≡ false
-  read : form_read w n more (form_of first more) ≡ Ok v
+  read : form_read w n more (form_of w.version first more) ≡ Ok v
 
 first_ok : (w : Draft) (n : ℕ) (more : List (List ℕ)) (o : Option FirstWord) (v : Draft) → first_read w n more o ≡ Ok v → FirstRead w n more o v
 first_ok w n more None v e = cc
@@ -76,7 +76,7 @@ words_ok w n line (x ∷ more) v i e = elim (cases_Bool (list_any no_bytes (x �
   | inl t ↦ let k = rw t at e in cc
   | inr t ↦ let r = first_ok w n more (first_in w.version x) v (rw t at e) in
       let first = built_is w.version (first_of x) r.first r.is in
-      let d = form_ok w n more (form_of r.first more) v r.read in
+      let d = form_ok w n more (form_of w.version r.first more) v r.read in
       let s : x ≡ first_text r.first = first_is x r.first first.0 in
       record {
         first = r.first;
@@ -86,7 +86,7 @@ words_ok w n line (x ∷ more) v i e = elim (cases_Bool (list_any no_bytes (x �
         whole = ap (λ y. list_any no_bytes (y ∷ more)) (sym s) ∙ t;
         built = first.1;
         early = r.early;
-        spelled = read_is_form r.first more d.form d.is;
+        spelled = read_is_form w.version r.first more d.form d.is;
         allowed = d.allowed;
         new = d.new;
       }
@@ -95,7 +95,7 @@ words_ok w n line (x ∷ more) v i e = elim (cases_Bool (list_any no_bytes (x �
 tells_read : (w : Draft) (n : ℕ) (line : List ℕ) (v : Draft) → Tells w n line v → words_read w n (words_in line) ≡ Ok v
 tells_read w n line v t =
     ap (words_read w n) t.words
-    ∙ rw (t.whole, built_back w.version t.first t.built, t.early, form_is_read t.first t.more t.form t.spelled, t.allowed)
+    ∙ rw (t.whole, built_back w.version t.first t.built, t.early, form_is_read w.version t.first t.more t.form t.spelled, t.allowed)
     (ap Ok (sym t.new))
 
 version_ok : (w : Draft) (line : List ℕ) (v : Draft) → version_read w line ≡ Ok v → SaysVersion w line v
