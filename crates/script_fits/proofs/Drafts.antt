@@ -114,7 +114,7 @@ device_ep_fits w name h =
     (found IsFitDevice (λ d. d.addr == name.addr) w.devices h.devices)
 
 hub_fits : (a : ℕ) → IsFitDesc (hub_desc a)
-hub_fits a = record { max = omega arith; port = omega arith; suited = record { size = refl; pace = refl; below = refl } }
+hub_fits a = record { max = omega arith; port = omega arith; suited = record { size = refl; pace = refl; below = refl; tt = omega arith } }
 
 always : {X : Type 0} (x : Option X) → Holds (λ _. Unit {0}) x
 always None = tt
@@ -207,7 +207,7 @@ suits_at w l d b e at = subst (λ (x : Option Placed). option_map_or (suits l) (
 desc_fits : (l : EpLine) (d : Placed) → l.max ≤ 1024 → suits l d.speed ≡ true → IsFitDevice d → IsFitDesc (desc_of l d)
 desc_fits l d max e h =
     let p = and_parts (is_size l.kind d.speed l.max) (is_paced l.kind d.speed l.period l.multi) e in
-    record { max = max; port = h.port; suited = record { size = p.0; pace = p.1; below = h.below } }
+    record { max = max; port = h.port; suited = record { size = p.0; pace = p.1; below = h.below; tt = omega arith } }
 
 with_ep_fits : (l : EpLine) (d : Placed) → l.max ≤ 1024 → suits l d.speed ≡ true → IsFitDevice d → IsFitDevice (with_ep l d)
 with_ep_fits l d max e h = record {

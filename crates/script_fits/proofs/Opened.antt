@@ -92,4 +92,5 @@ can_be_opened x h p =
       some_multi = pace.some;
       multi = pace.most;
       hub = h.below ∙ classic x.speed;
+      tt = h.tt;
     }

@@ -20,11 +20,13 @@ use Rattle.script_world.specs.Ranges.{is_size, is_paced}
 abbrev pub IsPiece : ℕ → Type 0
 IsPiece by = (1 ≤ by) × (by ≤ longest_qtd)
 
--- an endpoint has the packets and the pace of its speed, and stands behind a hub exactly where it isn't a high-speed one (USB 2.0, 5.5 to 5.8)
+-- an endpoint has the packets and the pace of its speed, and stands behind a hub exactly where it isn't a high-speed one (USB 2.0, 5.5 to 5.8);
+-- a hub has 15 ports at most
 pub record IsSuited (x : EpDesc) : Type 0 where
   pub size : is_size x.kind x.speed x.max ≡ true
   pub pace : is_paced x.kind x.speed x.period x.multi ≡ true
   pub below : is_some x.hub ≡ not (is_high x.speed)
+  pub tt : x.tt < 16
 
 abbrev pub IsFitCommand : Cmd → Type 0
 IsFitCommand (commands.OpenEp x) = (x.max ≤ 1024) × (x.port ≤ 127) × IsSuited x
