@@ -2,11 +2,11 @@ use Rattle.std.proofs.Common.{sym, arith}
 use Rattle.bandwidth.proofs.Cells.{more_turns}
 use Rattle.bandwidth.proofs.Pools.{within_at, none_below}
 use Rattle.bandwidth.proofs.Spans.{shape_bytes, laid_bound}
-use Rattle.bandwidth.proofs.accounts.Accounts.hub_keeps.Goals as goal
+use Rattle.bandwidth.proofs.accounts.Accounts.translator_keeps.Goals as goal
 
 pub keep-requires-clause-within : goal.keep-requires-clause-within
 keep-requires-clause-within g c =
-    within_at c.args.self.now.placed c.args.self.now.pool c.args.hub _ c.in-Some.ensures.hub
+    within_at c.args.self.now.placed c.args.self.now.pool c.args.translator _ c.in-Some.ensures.number
     c.in-Some.ensures.book.fits c.in-Some.ensures.book.pool (sym c.in-Some.ensures.tables)
 
 pub returns-in-Some-clause-fits : goal.returns-in-Some-clause-fits
