@@ -60,9 +60,11 @@ cursor_is (cursors.At link) e = link_is link e
 
 walk_again : (w : Walk) → IsWalk w.cursor w.held → walk_from (ring_parts w) w.reply ≡ Some w
 walk_again w is =
-    ap (λ (b : Bool). if b then walk_at (hand_from (option_map held_parts w.held)) (ring_parts w) w.reply else None) (place_is w.cursor is.place)
+    ap (λ (b : Bool). if b then walk_at (hand_from (option_map held_parts w.held)) (ring_parts w) w.reply else None)
+    (place_is w.cursor is.place)
     ∙ ap (λ h. walk_at h (ring_parts w) w.reply) (hand_again w.held is.copy)
 
 -- a walk is read from its parts
-pub walk_back : (p : RingParts) (reply : Reply) (w : Walk) → IsWalk w.cursor w.held → ring_parts w ≡ p → w.reply ≡ reply → walk_from p reply ≡ Some w
+pub walk_back : (p : RingParts) (reply : Reply) (w : Walk) → IsWalk w.cursor w.held → ring_parts w ≡ p → w.reply ≡ reply
+    → walk_from p reply ≡ Some w
 walk_back p reply w is e heard = ap (λ q. walk_from q reply) (sym e) ∙ ap (walk_from (ring_parts w)) (sym heard) ∙ walk_again w is

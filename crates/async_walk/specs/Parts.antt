@@ -34,14 +34,21 @@ hand_from (Some p) = option_map Some (held_from p)
 -- ---- the walk
 
 abbrev pub ring_parts : Walk → RingParts
-ring_parts w = record { cursor = w.cursor; held = option_map held_parts w.held; left = record { 0 = w.left }; mode = w.mode; first = w.first }
+ring_parts w = record {
+  cursor = w.cursor;
+  held = option_map held_parts w.held;
+  left = record { 0 = w.left };
+  mode = w.mode;
+  first = w.first;
+}
 
 abbrev pub is_cursor : Cursor → Bool
 is_cursor c = cursor_address c % 32 == 0
 
 abbrev pub walk_at : Option (Option Held) → RingParts → Reply → Option Walk
 walk_at None p reply = None
-walk_at (Some held) p reply = Some (record { cursor = p.cursor; held = held; reply = reply; left = p.left.0; mode = p.mode; first = p.first })
+walk_at (Some held) p reply =
+    Some (record { cursor = p.cursor; held = held; reply = reply; left = p.left.0; mode = p.mode; first = p.first })
 
 abbrev pub walk_from : RingParts → Reply → Option Walk
 walk_from p reply = if is_cursor p.cursor then walk_at (hand_from p.held) p reply else None

@@ -8,9 +8,11 @@ ghost use Rattle.async_walk.specs.Samples.{in_hand};
 ghost use Rattle.async_walk.specs.Parts.{ring_parts, walk_from};
 
 /// A copy in hand and its walk are got back. A cursor or a copy that isn't at a multiple of 32 is no walk's.
-#[tactic(auto, unfolding(qh_qtd::specs::QueueHead::qh_read, qh_qtd::specs::QueueHead::qh_words, qh_qtd::specs::QueueHead::qh_bad, qh_qtd::specs::QueueHead::qh_at, link_words::specs::Layout::first_bad_bit))]
+#[tactic(auto, unfolding(qh_qtd::specs::QueueHead::qh_words))]
 pub fn parts_of_a_walk()
-    ensures none { walk_from (record (ring_parts (in_hand bulk_in 5).walk) { held = None }) Silent ≡ Some (record (in_hand bulk_in 5).walk { held = None }) }
+    ensures none { let w = record (in_hand bulk_in 5).walk { held = None } in
+        walk_from (ring_parts w) Silent ≡ Some w }
     ensures cursor { walk_from (record (ring_parts (in_hand bulk_in 5).walk) { cursor = cursors.At (links.Qh 0x1048) }) Silent ≡ None }
-    ensures copy { walk_from (record (ring_parts (in_hand bulk_in 5).walk) { held = Some (record { at = 0x1048; words = []; settled = None }) }) Silent ≡ None }
+    ensures copy { let p = ring_parts (in_hand bulk_in 5).walk in
+        walk_from (record p { held = Some (record { at = 0x1048; words = []; settled = None }) }) Silent ≡ None }
 {}

@@ -41,8 +41,14 @@ is_going (Some x) rest going = refl
 -- a copy whose numbers are in their ranges
 itd_is : (h : HeldItd) → IsItdInRange h.itd → IsWordInRange slot_rows h.slot → is_counted h ≡ true → IsItdHeld h
 itd_is h range slot counted =
-    let f = and_parts (h.at % 32 == 0 && nat_lt h.number 8 && nat_le (h.made + h.rest) 3 && (is_some h.ended || nat_le 1 h.rest) && nat_le h.moved (1024 * h.made)) (nat_le h.moved h.slot.length) counted in
-    let e = and_parts (h.at % 32 == 0 && nat_lt h.number 8 && nat_le (h.made + h.rest) 3 && (is_some h.ended || nat_le 1 h.rest)) (nat_le h.moved (1024 * h.made)) f.0 in
+    let f =
+    and_parts
+    (h.at % 32 == 0 && nat_lt h.number 8 && nat_le (h.made + h.rest) 3 && (is_some h.ended || nat_le 1 h.rest)
+    && nat_le h.moved (1024 * h.made))
+    (nat_le h.moved h.slot.length) counted in
+    let e =
+    and_parts (h.at % 32 == 0 && nat_lt h.number 8 && nat_le (h.made + h.rest) 3 && (is_some h.ended || nat_le 1 h.rest))
+    (nat_le h.moved (1024 * h.made)) f.0 in
     let d = and_parts (h.at % 32 == 0 && nat_lt h.number 8 && nat_le (h.made + h.rest) 3) (is_some h.ended || nat_le 1 h.rest) e.0 in
     let c = and_parts (h.at % 32 == 0 && nat_lt h.number 8) (nat_le (h.made + h.rest) 3) d.0 in
     let b = and_parts (h.at % 32 == 0) (nat_lt h.number 8) c.0 in
@@ -58,7 +64,9 @@ itd_is h range slot counted =
     }
 
 -- what has these parts is made of them
-pub itd_whole : (p : ItdParts) (v : Itd) → p.slot < 2 ^ 32 → IsItdInRange v → itd_words v ≡ p.words → first_bad_bit (ranges_of slot_rows) p.slot ≡ None → is_counted (itd_of p v) ≡ true → IsItdHeld (itd_of p v) × (itd_parts (itd_of p v) ≡ p)
+pub itd_whole : (p : ItdParts) (v : Itd) → p.slot < 2 ^ 32 → IsItdInRange v → itd_words v ≡ p.words
+    → first_bad_bit (ranges_of slot_rows) p.slot ≡ None → is_counted (itd_of p v) ≡ true
+    → IsItdHeld (itd_of p v) × (itd_parts (itd_of p v) ≡ p)
 itd_whole p v small range words free counted =
     let slot = slot_whole p.slot small free in
     (itd_is (itd_of p v) range slot.1 counted, λ i. let q : ItdParts = record p { words = words i; slot = slot.0 i } in q)
@@ -68,9 +76,16 @@ counted_is : (h : HeldItd) → IsItdHeld h → is_counted h ≡ true
 counted_is h is =
     let b = and_from (h.at % 32 == 0) (nat_lt h.number 8) (eq-eqb (h.at % 32) 0 is.aligned) (lt-ltb h.number 8 is.number) in
     let c = and_from (h.at % 32 == 0 && nat_lt h.number 8) (nat_le (h.made + h.rest) 3) b (le-leb (h.made + h.rest) 3 is.packets) in
-    let d = and_from (h.at % 32 == 0 && nat_lt h.number 8 && nat_le (h.made + h.rest) 3) (is_some h.ended || nat_le 1 h.rest) c (is_going h.ended h.rest is.going) in
-    let e = and_from (h.at % 32 == 0 && nat_lt h.number 8 && nat_le (h.made + h.rest) 3 && (is_some h.ended || nat_le 1 h.rest)) (nat_le h.moved (1024 * h.made)) d (le-leb h.moved (1024 * h.made) is.bytes) in
-    and_from (h.at % 32 == 0 && nat_lt h.number 8 && nat_le (h.made + h.rest) 3 && (is_some h.ended || nat_le 1 h.rest) && nat_le h.moved (1024 * h.made)) (nat_le h.moved h.slot.length) e (le-leb h.moved h.slot.length is.within)
+    let d =
+    and_from (h.at % 32 == 0 && nat_lt h.number 8 && nat_le (h.made + h.rest) 3) (is_some h.ended || nat_le 1 h.rest) c
+    (is_going h.ended h.rest is.going) in
+    let e =
+    and_from (h.at % 32 == 0 && nat_lt h.number 8 && nat_le (h.made + h.rest) 3 && (is_some h.ended || nat_le 1 h.rest))
+    (nat_le h.moved (1024 * h.made)) d (le-leb h.moved (1024 * h.made) is.bytes) in
+    and_from
+    (h.at % 32 == 0 && nat_lt h.number 8 && nat_le (h.made + h.rest) 3 && (is_some h.ended || nat_le 1 h.rest)
+    && nat_le h.moved (1024 * h.made))
+    (nat_le h.moved h.slot.length) e (le-leb h.moved h.slot.length is.within)
 
 itd_same : (h : HeldItd) → IsItdHeld h → itd_of (itd_parts h) h.itd ≡ h
 itd_same h is = ap (λ s. let q : HeldItd = record h { slot = s } in q) (slot_back h.slot is.slot).1
@@ -107,6 +122,7 @@ hand_back got (hands.Itd h) is =
 hand_back got (hands.Sitd h) is = ap (option_map hands.Sitd) (sitd_again h is)
 
 -- what is in hand is read from its parts
-pub in_hand_back : (got : List ℕ) (hand : Option Hand) → IfSome hand (IsInHand got) → in_hand_from (length got) (option_map hand_parts hand) ≡ Some hand
+pub in_hand_back : (got : List ℕ) (hand : Option Hand) → IfSome hand (IsInHand got)
+    → in_hand_from (length got) (option_map hand_parts hand) ≡ Some hand
 in_hand_back got None is = refl
 in_hand_back got (Some h) is = ap (option_map Some) (hand_back got h is)

@@ -29,12 +29,15 @@ place_is (links.Fstn a) e = eqb-true (a % 32) 0 e
 
 walk_again : (w : Walk) → IsWalk w.cursor w.hand w.got → length w.got ≤ 3072 → walk_from (frame_parts w) w.reply w.got ≡ Some w
 walk_again w is fits =
-    ap (λ (b : Bool). if b then walk_at (in_hand_from (length w.got) (option_map hand_parts w.hand)) (frame_parts w) w.reply w.got else None)
+    ap
+    (λ (b : Bool).
+    if b then walk_at (in_hand_from (length w.got) (option_map hand_parts w.hand)) (frame_parts w) w.reply w.got else None)
     (and_from (nat_le (length w.got) 3072) (is_place w.cursor) (le-leb (length w.got) 3072 fits) (is_at w.cursor is.place))
     ∙ ap (λ h. walk_at h (frame_parts w) w.reply w.got) (in_hand_back w.got w.hand is.copy)
 
 -- a walk is read from its parts
-pub walk_back : (p : FrameParts) (reply : Reply) (got : List ℕ) (w : Walk) → IsWalk w.cursor w.hand w.got → length w.got ≤ 3072 → frame_parts w ≡ p → w.reply ≡ reply → w.got ≡ got → walk_from p reply got ≡ Some w
+pub walk_back : (p : FrameParts) (reply : Reply) (got : List ℕ) (w : Walk) → IsWalk w.cursor w.hand w.got → length w.got ≤ 3072
+    → frame_parts w ≡ p → w.reply ≡ reply → w.got ≡ got → walk_from p reply got ≡ Some w
 walk_back p reply got w is fits e heard received =
     ap (λ q. walk_from q reply got) (sym e)
     ∙ ap (λ r. walk_from (frame_parts w) r got) (sym heard)

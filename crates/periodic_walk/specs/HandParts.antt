@@ -51,7 +51,8 @@ itd_of p v = record {
 -- its numbers are in their ranges
 abbrev pub is_counted : HeldItd → Bool
 is_counted h =
-    h.at % 32 == 0 && nat_lt h.number 8 && nat_le (h.made + h.rest) 3 && (is_some h.ended || nat_le 1 h.rest) && nat_le h.moved (1024 * h.made) && nat_le h.moved h.slot.length
+    h.at % 32 == 0 && nat_lt h.number 8 && nat_le (h.made + h.rest) 3 && (is_some h.ended || nat_le 1 h.rest)
+    && nat_le h.moved (1024 * h.made) && nat_le h.moved h.slot.length
 
 abbrev pub itd_if : Bool → HeldItd → Option HeldItd
 itd_if true h = Some h

@@ -73,7 +73,8 @@ impl PeriodicState {
     #[tactic(auto, using(crate::proofs::Whole::place_is))]
     fn read_parts(parts: &FrameParts, reply: Reply, got: &[u8]) -> Option<PeriodicState>
         ensures exact { result ≡ walk_from parts.now reply got.now }
-        ensures whole { IfSome result (λ w. IsWalk w.cursor w.hand w.got × (frame_parts w ≡ parts.now) × (w.reply ≡ reply) × (w.got ≡ got.now)) }
+        ensures whole { IfSome result (λ w. IsWalk w.cursor w.hand w.got × (frame_parts w ≡ parts.now) × (w.reply ≡ reply)
+            × (w.got ≡ got.now)) }
     {
         if got.len() > 3072 || !is_place(parts.cursor) {
             return None;
@@ -97,8 +98,10 @@ impl PeriodicState {
         ensures exact { result ≡ walk_from parts.now reply got.now }
 
         // A walk has the parts that it is made of, and what has parts is made of them.
-        ensures whole { IfSome result (λ w. IsWalk w.cursor w.hand w.got × (frame_parts w ≡ parts.now) × (w.reply ≡ reply) × (w.got ≡ got.now)) }
-        ensures back { (w : Walk) → IsWalk w.cursor w.hand w.got → length w.got ≤ 3072 → frame_parts w ≡ parts.now → w.reply ≡ reply → w.got ≡ got.now → result ≡ Some w }
+        ensures whole { IfSome result (λ w. IsWalk w.cursor w.hand w.got × (frame_parts w ≡ parts.now) × (w.reply ≡ reply)
+            × (w.got ≡ got.now)) }
+        ensures back { (w : Walk) → IsWalk w.cursor w.hand w.got → length w.got ≤ 3072 → frame_parts w ≡ parts.now → w.reply ≡ reply
+            → w.got ≡ got.now → result ≡ Some w }
     {
         Self::read_parts(parts, reply, got)
     }
