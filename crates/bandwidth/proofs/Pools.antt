@@ -382,29 +382,28 @@ or_true false b h = h
 
 own_joined : (placed : List Placed) (w : Want) (p : Placement) (number : ℕ) (t u : HubTables) → is_at w number ≡ true
     → AreHubSums placed number t → Adds (time_of w) (laid_in w p) p t u → HubStands (joined placed w p) number (Some u)
-own_joined placed w p number t u own sums adds =
-     (
-      serves_joined placed w p number ∙ or_true (serves placed number) _ own,
-      record {
-        cells = adds.cells;
-        frames = λ f k.
-            omega (
-              arith,
-              adds.frames f k,
-              sums.frames f k,
-              frame_joined placed w p (number / 16) (number % 16) f,
-              taken (is_at w number) (frame_share (time_of w) p f) own,
-            );
-        bytes = λ m k.
-            omega (
-              arith,
-              adds.bytes m k,
-              sums.bytes m k,
-              bytes_joined placed w p (number / 16) (number % 16) m,
-              taken (is_at w number) (byte_share (laid_in w p) p m) own,
-            );
-      },
-    )
+own_joined placed w p number t u own sums adds = (
+  serves_joined placed w p number ∙ or_true (serves placed number) _ own,
+  record {
+    cells = adds.cells;
+    frames = λ f k.
+        omega (
+          arith,
+          adds.frames f k,
+          sums.frames f k,
+          frame_joined placed w p (number / 16) (number % 16) f,
+          taken (is_at w number) (frame_share (time_of w) p f) own,
+        );
+    bytes = λ m k.
+        omega (
+          arith,
+          adds.bytes m k,
+          sums.bytes m k,
+          bytes_joined placed w p (number / 16) (number % 16) m,
+          taken (is_at w number) (byte_share (laid_in w p) p m) own,
+        );
+  },
+)
 
 other_at : (w : Want) (number h : ℕ) → is_at w number ≡ true → h ≢ number → is_at w h ≡ false
 other_at w number h own ne = off_of (is_at w h) (λ here. ne (same_number w h number here own))

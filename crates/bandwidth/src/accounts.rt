@@ -22,8 +22,8 @@ use bandwidth_steps::Steps;
 use std::alloc::Global;
 use std::marker::Model;
 use std::sync::ledger::Ledger;
-use usb_base::limits::FRAME_BUDGET;
 use usb_base::Memory;
+use usb_base::limits::FRAME_BUDGET;
 
 /// 16 translators for each of the 128 addresses of hubs.
 const TRANSLATORS: u32 = 2048;

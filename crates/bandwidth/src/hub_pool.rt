@@ -145,7 +145,13 @@ impl HubPool {
     }
 
     /// Takes a placement out of the tables of its translator.
-    pub(crate) fn sub(&mut self, translator: Translator, placement: &Placement, time: u64, bytes: &[u64; 8])
+    pub(crate) fn sub(
+        &mut self,
+        translator: Translator,
+        placement: &Placement,
+        time: u64,
+        bytes: &[u64; 8],
+    )
         requires some { is_some (tables_of self.old translator) ≡ true }
         requires place { IsPlace placement.now }
         requires holds { IfSome (tables_of self.old translator) (Holds time (slice_index bytes.now) placement.now) }

@@ -42,7 +42,11 @@ impl Hub {
         ensures { IfOk result (λ h. h ≡ opening text.now) }
     {
         let ports = Ports::build(alloc, text.attached.as_slice())?;
-        let translators = Translators::build(alloc, text.attached.as_slice().len() as u8, text.multi)?;
+        let translators = Translators::build(
+            alloc,
+            text.attached.as_slice().len() as u8,
+            text.multi,
+        )?;
         Ok(Hub {
             addr: text.addr,
             ports,

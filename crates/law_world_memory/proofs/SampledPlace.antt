@@ -41,7 +41,7 @@ its_time : (hub port f : ℕ) → frame_sum (joined [] (want_of 0 keyboard) keyb
 its_time hub port f =
     let sum = frame_joined [] (want_of 0 keyboard) keyboard_place hub port f in
     let own : (if is_translator (want_of 0 keyboard) hub port then time_at f (record { want = want_of 0 keyboard; placement = keyboard_place }) else 0)
-        ≤ 900000000 =
+    ≤ 900000000 =
     either_within (is_translator (want_of 0 keyboard) hub port) _ 0 900000000
     (either_within (is_active keyboard_place f) (time_of (want_of 0 keyboard)) 0 900000000 (lit≤ tt) (lit≤ tt)) (lit≤ tt) in
     let none : frame_sum [] hub port f ≡ 0 = refl in

@@ -117,8 +117,17 @@ pub fn translators()
         addr = 3;
         speed = Speed.Full;
         eps = record {
-          desc = record { name = record { addr = 3; num = 1; way = Way.In }; speed = Speed.Full; kind = EpKind.Iso; max = 512; period = 8;
-            multi = 1; hub = Some 9; port = 2; tt = 2 };
+          desc = record {
+            name = record { addr = 3; num = 1; way = Way.In };
+            speed = Speed.Full;
+            kind = EpKind.Iso;
+            max = 512;
+            period = 8;
+            multi = 1;
+            hub = Some 9;
+            port = 2;
+            tt = 2;
+          };
           items = [];
           room = 0;
           stuff = 6;

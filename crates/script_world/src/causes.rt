@@ -40,7 +40,9 @@ fn is_fated(line: &FateLine, fate: &FateText) -> bool
 fn has_name(name: &Name, ep: &EpName) -> bool
     ensures { result ≡ has_name name.now ep.now }
 {
-    ep.addr.get() as u32 == name.addr && ep.num.get() as u32 == name.num && same_way(ep.way, name.way)
+    ep.addr.get() as u32 == name.addr
+        && ep.num.get() as u32 == name.num
+        && same_way(ep.way, name.way)
 }
 
 /// Whether a device is attached to a port, counted from 1.

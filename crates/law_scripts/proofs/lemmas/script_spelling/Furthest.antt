@@ -132,7 +132,7 @@ best_is version first ws f (Some m) h a (b, z) =
     let full : m.at ≡ length ws = omega (arith, r.1, a, s, h.reached) in
     let reached : reach (slots_of m.form) ws ≡ length ws = sym h.reached ∙ full in
     let same : m.form ≡ f =
-        one_form version first m.form f ws h.among b (all_fit (slots_of m.form) ws h.count reached) (stand_fit (slots_of f) ws z) in
+    one_form version first m.form f ws h.among b (all_fit (slots_of m.form) ws h.count reached) (stand_fit (slots_of f) ws z) in
     let ranged : all_ranged (slots_of m.form) ws ≡ true = ap (λ x. all_ranged (slots_of x) ws) same ∙ all_in_range (slots_of f) ws z in
     full_verdict ws m full ranged ∙ ap Ok same
 
