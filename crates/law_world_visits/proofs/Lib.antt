@@ -82,3 +82,4 @@ pub mod AheadStores
 pub mod AheadWalking
 pub mod AheadMoments
 pub mod AskedHeads
+pub mod WorldPipes

@@ -17,3 +17,4 @@ pub mod OneDescriptor
 pub mod Began
 pub mod ActiveFrames
 pub mod AskedHeads
+pub mod WorldPipes
