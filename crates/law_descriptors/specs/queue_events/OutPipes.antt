@@ -3,7 +3,7 @@
 --     OutPipeGoesOn ..       no other of the queue heads that are told sends to the endpoint, and both sides of its pipe agree
 --     BothKeepOutPipes       so it is after each event, with the bytes that it moved more known to be taken, where the queue head that is
 --                            asked is among those told, and isochronous transactions send to none of the streams
-use Rattle.std.specs.Prelude.{◌≡◌, ℕ, Bool, true, List, ◌++◌, Option}
+use Rattle.std.specs.Prelude.{ℕ, Bool, List, ◌++◌, Option}
 use Rattle.usb_base.specs.declared.packets.Ask.{Ask}
 use Rattle.usb_base.specs.declared.packets.Reply.{Reply}
 use Rattle.drv_table.specs.DriverContent.{DriverContent}

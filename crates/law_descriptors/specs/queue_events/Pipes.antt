@@ -7,7 +7,6 @@
 use Rattle.std.specs.Prelude.{◌≡◌, ℕ, ◌≤◌, Bool, true, List, [], length, Option, Some}
 use Rattle.usb_base.specs.declared.packets.Ask.{Ask}
 use Rattle.usb_base.specs.declared.packets.Reply.{Reply}
-use Rattle.drv_table.specs.DriverContent.{DriverContent}
 use Rattle.hc_core.specs.Controller.{Content}
 use Rattle.law_structures.specs.lent_structures.Structures.{QueueHead, StructureSets}
 use Rattle.law_ring.specs.Hand.{Copy, Hand, Copied}
@@ -21,7 +20,6 @@ use Rattle.law_frames.specs.FrameStreams.{IsIsoAsk}
 use Rattle.law_controller.specs.frame_control.Both.{RunsBoth, BothEffect}
 use Rattle.law_controller.specs.frame_control.Joined.{joined, BothStreamEffect, begun, moved}
 use Rattle.law_descriptors.specs.Both.{both, parts_now}
-use Rattle.law_descriptors.specs.PartLaws.{IsDescribing}
 
 abbrev pub IsBothToldBy : {W : Type 0} {begins : W → ℕ → Bool → W → Type 0} {Beside : Ask → Type 0}
     {transacts : W → Ask → List ℕ → Reply → W → Type 0} {parts : StructureSets} {hand : Hand}

@@ -29,7 +29,6 @@ use Rattle.law_ring.specs.Effects.{bytes_in, buffer_of, received_into, Takes, Ef
 use Rattle.law_ring.specs.QueueParts.{IsQueuePart}
 use Rattle.law_ring.proofs.QueueParts.{member_part}
 use Rattle.law_ring.specs.Told.{hand_toggle, HasToggle, Endpoint}
-use Rattle.law_ring.specs.Streams.{AreMembers}
 use Rattle.law_ring.proofs.Keeping.{IsUnsettled, empty_unsettled, copied_unsettled, unsettled_toggle}
 use Rattle.law_ring.proofs.Growing.{ring_asks}
 use Rattle.law_ring.proofs.Written.{WritesCopy, can, beside, head_now, ring_writes}
@@ -44,7 +43,7 @@ use Rattle.law_frames.specs.FrameHand.{QueueSettlement, came, settled_in, FrameH
 use Rattle.law_frames.specs.Frame.{IsCopiedQueue, IsQueueSettled, IsFrame}
 use Rattle.law_frames.specs.FrameEffects.{MakesOne, missed_settlement, IsSettledFrom, was_worked, was_missed, WritesQueue, WritesOne, of_queue, of_itd, of_sitd, FrameEffect}
 use Rattle.law_frames.proofs.QueueBacks.{hand_settled}
-use Rattle.law_frames.proofs.Telling.{passed_unsettled, empty_is, fetched_unsettled, taken_there, asked, writes_copy, itd_leaves, sitd_leaves}
+use Rattle.law_frames.proofs.Telling.{empty_is, fetched_unsettled, taken_there, asked, writes_copy, itd_leaves, sitd_leaves}
 use Rattle.law_controller.specs.frame_control.Both.{RunsBoth, WalksFrames, BothEffect, of_ring, of_frame}
 use Rattle.law_controller.specs.frame_control.Joined.{joined}
 use Rattle.law_controller.proofs.lemmas.frame_control.Joining.{joined_frame}

@@ -11,13 +11,13 @@ use Rattle.transactions.specs.Asks.{pinged}
 use Rattle.hc_copy.specs.Overlay.{buffer_place}
 use Rattle.hc_copy.specs.Planning.{transaction_of}
 use Rattle.hc_copy.specs.Transacting.{call_in}
-use Rattle.law_structures.specs.lent_structures.Structures.{QueueHead, Element, Structures, StructureSets}
+use Rattle.law_structures.specs.lent_structures.Structures.{QueueHead, Structures, StructureSets}
 use Rattle.law_structures.proofs.lemmas.lent_structures.Names.{not_same}
 use Rattle.law_structures.specs.lent_structures.Sound.{IsWorking, IsSoundQueue}
 use Rattle.law_structures.specs.lent_structures.Alters.{HadElement, Alters}
 use Rattle.law_structures.proofs.lemmas.lent_structures.Altering.{found_queue}
 use Rattle.law_structures.proofs.lemmas.lent_structures.Members.{still_active}
-use Rattle.law_ring.specs.Hand.{Settlement, Hand, Settled}
+use Rattle.law_ring.specs.Hand.{Settlement, Hand}
 use Rattle.law_ring.specs.QueueParts.{IsQueuePart}
 use Rattle.law_ring.specs.Effects.{buffer_of, AreSent, Asks, came_to}
 use Rattle.law_ring.specs.Told.{HasToggle, Endpoint, endpoint_of, HasEndpoint, SameTold}

@@ -1,27 +1,19 @@
 -- Both sides of the pipe of an OUT endpoint agree after an event of either walk.
-use Rattle.std.proofs.Common.{◌≡◌, ℕ, Bool, true, false, if◌then◌else◌, List, [], ◌++◌, Option, Some, ap, refl, sym, subst, ◌∙◌}
+use Rattle.std.proofs.Common.{◌≡◌, ℕ, Bool, true, false, if◌then◌else◌, List, ◌++◌, Option, ap, refl, sym, subst, ◌∙◌}
 use Rattle.usb_base.specs.declared.packets.Ask.{Ask}
 use Rattle.usb_base.specs.declared.packets.Reply.{Reply}
-use Rattle.qh_qtd.specs.declared.queue_head.Qh.{Qh}
-use Rattle.drv_table.specs.DriverContent.{DriverContent}
-use Rattle.hc_core.specs.Controller.{Content}
 use Rattle.law_structures.specs.lent_structures.Structures.{QueueHead, Structures, StructureSets}
 use Rattle.law_structures.specs.lent_structures.Alters.{Alters}
 use Rattle.law_ring.specs.Hand.{Hand}
-use Rattle.claims_base.specs.Controller.{Base}
 use Rattle.law_ring.specs.QueueParts.{IsQueuePart}
-use Rattle.law_ring.specs.Told.{HasToggle, Endpoint, SameTold}
+use Rattle.law_ring.specs.Told.{HasToggle, Endpoint}
 use Rattle.law_ring.specs.Streams.StreamEffect.{same}
-use Rattle.law_ring.specs.OutBus.{Taker, IsOutAsk, IsOutBus, KeepsTakers}
+use Rattle.law_ring.specs.OutBus.{Taker, KeepsTakers}
 use Rattle.law_ring.specs.OutPipes.{IsOut, OutAgrees, IsOutPipe}
 use Rattle.law_controller.specs.controlled_streams.Kept.{KeepsEach}
-use Rattle.law_frames.specs.Met.{Kind}
-use Rattle.law_frames.specs.FrameHand.{FrameHand}
 use Rattle.law_frames.specs.FrameStreams.{IsIsoAsk}
-use Rattle.law_controller.specs.frame_control.Both.{RunsBoth, BothEffect}
 use Rattle.law_controller.specs.frame_control.Joined.{joined, BothStreamEffect, begun, moved}
 use Rattle.law_descriptors.specs.Both.{owns, both, parts_now}
-use Rattle.law_descriptors.specs.PartLaws.{IsDescribing}
 use Rattle.law_descriptors.proofs.Standing.{both_off}
 use Rattle.law_descriptors.proofs.Telling.{queue_off}
 use Rattle.law_descriptors.specs.queue_events.Streams.{bytes_of_both}

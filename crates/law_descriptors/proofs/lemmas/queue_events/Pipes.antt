@@ -1,26 +1,20 @@
 -- Both sides of each pipe agree after an event of either walk.
-use Rattle.std.proofs.Common.{ℕ, Bool, List, [], Option, refl}
+use Rattle.std.proofs.Common.{ℕ, Bool, List, Option, refl}
 use Rattle.usb_base.specs.declared.packets.Ask.{Ask}
 use Rattle.usb_base.specs.declared.packets.Reply.{Reply}
-use Rattle.hc_core.specs.Controller.{Content}
 use Rattle.law_structures.specs.lent_structures.Structures.{StructureSets}
 use Rattle.law_structures.specs.lent_structures.Alters.{Alters}
 use Rattle.law_ring.specs.Hand.{Hand}
-use Rattle.claims_base.specs.Controller.{Base}
-use Rattle.law_ring.specs.Told.{Endpoint, SameTold}
-use Rattle.law_ring.specs.Streams.{StreamEffect}
+use Rattle.law_ring.specs.Told.{Endpoint}
 use Rattle.law_ring.specs.Streams.StreamEffect.{same}
-use Rattle.law_ring.specs.Bus.{Sender, IsStreamAsk, IsBus, KeepsSenders}
+use Rattle.law_ring.specs.Bus.{Sender, KeepsSenders}
 use Rattle.law_ring.specs.Pipes.{AreEndpoints, ArePiped}
 use Rattle.law_ring.proofs.PipeAgreeing.{PipesGoOn, rest_by}
 use Rattle.law_controller.specs.controlled_streams.Kept.{KeepsEach}
-use Rattle.law_frames.specs.Met.{Kind}
-use Rattle.law_frames.specs.FrameHand.{FrameHand}
 use Rattle.law_frames.specs.FrameStreams.{IsIsoAsk}
-use Rattle.law_controller.specs.frame_control.Both.{RunsBoth, BothEffect}
 use Rattle.law_controller.specs.frame_control.Joined.{joined, BothStreamEffect, begun, moved}
 use Rattle.law_descriptors.specs.Both.{both, parts_now}
-use Rattle.law_descriptors.specs.queue_events.Pipes.{IsBothToldBy, BothPipes, BothKeepPipes}
+use Rattle.law_descriptors.specs.queue_events.Pipes.{BothPipes, BothKeepPipes}
 use Rattle.law_descriptors.proofs.lemmas.queue_events.Events.{both_keeps_structures}
 
 -- a microframe begins, and no sender goes on
