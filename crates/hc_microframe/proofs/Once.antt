@@ -1,5 +1,5 @@
 -- A row of the controller's table asks at most once.
-use Rattle.std.proofs.Common.{◌≡◌, ℕ, Bool, true, false, List, ◌∷◌, Option, None, Some, ap, ◌∙◌}
+use Rattle.std.proofs.Common.{◌≡◌, ℕ, Bool, true, false, List, ◌∷◌, Option, None, Some, ap}
 use Rattle.hc_copy.specs.Buffer.{Reading}
 use Rattle.hc_copy.specs.declared.held.Held.{Held}
 use Rattle.hc_copy.specs.declared.held.Transaction.{Transaction}

@@ -1,11 +1,10 @@
 -- An event that was made, and one that is held up.
-use Rattle.std.proofs.Common.{◌≡◌, ℕ, Bool, true, false, List, Option, None, Some, refl, ap, sym, subst, ◌∙◌}
+use Rattle.std.proofs.Common.{◌≡◌, ℕ, Bool, true, false, List, Option, Some, ap, sym, subst, ◌∙◌}
 use Rattle.std.specs.Prelude.{is_some}
 use Rattle.word_mem.specs.Memory.{Mem, all_lent}
 use Rattle.op_registers.specs.RegisterFile.{RegisterFile}
 use Rattle.hc_core.specs.declared.controller.HcStep.{HcStep}
 use Rattle.hc_core.specs.Controller.{Content, Control, content, microframe_row, kind_of}
-use Rattle.hc_microframe.specs.declared.stepping.Stepped.{Stepped}
 use Rattle.hc_microframe.specs.declared.stepping.Stepped.TheVariants as came
 use Rattle.hc_microframe.specs.declared.whole.Whole.{Whole}
 use Rattle.hc_microframe.specs.Answers.{Told}

@@ -4,7 +4,7 @@
 --     queue_in q, itd_in v, sitd_in v, hand_in h      copies in hand
 --     ring_in w                  the walk of the ring that has these numbers, if one has; frame_in w of the frame's chain
 --     control_of w               the controller that has these numbers, if one has
-use Rattle.std.specs.Prelude.{ℕ, ◌==◌, ◌&&◌, nat_le, if◌then◌else◌, List, take, Option, Some, None}
+use Rattle.std.specs.Prelude.{ℕ, ◌==◌, ◌&&◌, nat_le, if◌then◌else◌, take, Option, Some, None}
 use Rattle.usb_base.specs.declared.endpoints.EndCause.TheVariants as causes
 use Rattle.usb_base.specs.declared.packets.Reply.{Reply}
 use Rattle.usb_base.specs.declared.packets.Reply.TheVariants.{Silent}

@@ -1,4 +1,4 @@
-use Rattle.std.proofs.Common.{subst, refl, arith}
+use Rattle.std.proofs.Common.{subst}
 use Rattle.hc_microframe.specs.Answers.{Told}
 use Rattle.hc_microframe.specs.Stepping.{IsStepped, IsHeldUp}
 use Rattle.hc_microframe.proofs.Telling.{holds_up}
