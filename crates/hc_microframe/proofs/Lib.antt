@@ -6,3 +6,6 @@ mod Placing
 pub mod Wholes
 mod Once
 mod OneEvent
+mod RingShapes
+mod FrameShapes
+mod KeptRegisters

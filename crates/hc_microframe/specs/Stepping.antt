@@ -4,7 +4,8 @@
 --     IsHeldUp s words desk t          the row asks what has no answer
 --     control_after_write at word c    the controller after a driver's write
 --     AsksOnce                         with an answer at hand no row is held up
-use Rattle.std.specs.Prelude.{◌≡◌, ℕ, ◌/◌, ◌%◌, ◌==◌, ◌&&◌, true, is_some, if◌then◌else◌, List, ◌∷◌, None, Some}
+--     RegistersAreKept                 the next call has the registers that this one left
+use Rattle.std.specs.Prelude.{◌≡◌, ℕ, ◌/◌, ◌%◌, ◌^◌, ◌<◌, ◌==◌, ◌&&◌, true, is_some, if◌then◌else◌, List, ◌∷◌, None, Some}
 use Rattle.word_mem.specs.Memory.{all_lent}
 use Rattle.async_walk.specs.Walk.{new_walk}
 use Rattle.hc_core.specs.declared.controller.HcStep.{HcStep}
@@ -47,3 +48,9 @@ control_after_write at word c =
 abbrev pub AsksOnce : Type 0
 AsksOnce = (old : Content) (a : Answer) (rest : List Answer) (bytes : List ℕ) (new : Content) (after : Told)
     → IsEvent old (told (a ∷ rest) bytes) new after → after.wanted ≡ None
+
+-- the words that a call leaves tell the registers after its row
+abbrev pub RegistersAreKept : Type 0
+RegistersAreKept = (s : Whole) (words : List ℕ) (desk : Told) (kind : HcStep) (new : Whole) (left : List ℕ) (after : Told)
+    → s.registers.list < 2 ^ 32 → s.registers.ring < 2 ^ 32 → (m : IsStepped s words desk kind new left after)
+    → file_of new.registers ≡ m.end.registers

@@ -2,7 +2,7 @@
 
 ghost use Rattle.hc_microframe.specs.State.{WordsKeepRegisters};
 ghost use Rattle.hc_microframe.specs.Places.{PlaceIsKept};
-ghost use Rattle.hc_microframe.specs.Stepping.{AsksOnce};
+ghost use Rattle.hc_microframe.specs.Stepping.{AsksOnce, RegistersAreKept};
 
 /// The words of registers tell all that they hold: from the words the registers are got back.
 pub fn words_keep_registers()
@@ -17,4 +17,9 @@ pub fn place_is_kept()
 /// A row of the controller's table asks at most once: with an answer at hand no event is held up.
 pub fn asks_once()
     ensures { AsksOnce }
+{}
+
+/// The words that a call for one event leaves tell the registers after its row: the next call goes on with them.
+pub fn registers_are_kept()
+    ensures { RegistersAreKept }
 {}

@@ -25,7 +25,7 @@ pub mod worked_events;
 
 pub use answers::{Answer, AskWords, Wanted, ask_words};
 pub use desk::Desk;
-pub use laws::{asks_once, place_is_kept, words_keep_registers};
+pub use laws::{asks_once, place_is_kept, registers_are_kept, words_keep_registers};
 pub use numbers::{HeardWords, ItdWords, QueueWords, SitdWords};
 pub use running::{Ran, microframe};
 pub use state::{State, interrupts, read, registers_of, reset, state_of, write};
