@@ -278,25 +278,40 @@ fn act(alloc: Global, host: &mut Host, act: &Act) -> Result<String, AllocError> 
     }
 }
 
-/// What a row gives: its name with the blocks at the opening, and then a line an act.
-pub(crate) fn describe(alloc: Global, case: &Case) -> Result<String, AllocError> {
-    let words = if case.words < 2048 || case.words > 262_144 || case.words % 1024 != 0 {
-        2048
-    } else {
-        case.words
-    };
-    let Ok(mut host) = Host::build(alloc, words, &ROOM) else {
-        return format!(in alloc; "no memory");
-    };
-    let opening = Shot::of(alloc, &host)?;
-    let mut text = format!(in alloc;
-        "{}:{}",
-        case.name,
-        blocks(alloc, opening.blocks())?.as_str()
-    )?;
+/// The words of memory that a row asks for, or 2,048 where it asks for none that a host has.
+fn words_of(case: &Case) -> u32 {
+    if case.words < 2048 || case.words > 262_144 || case.words % 1024 != 0 {
+        return 2048;
+    }
+    case.words
+}
+
+/// The name of a row, with the blocks at the opening.
+fn title(alloc: Global, host: &Host, case: &Case) -> Result<String, AllocError> {
+    let opening = Shot::of(alloc, host)?;
+    let counted = blocks(alloc, opening.blocks())?;
+    format!(in alloc; "{}:{}", case.name, counted.as_str())
+}
+
+/// Appends a line: what an act gives.
+fn append(alloc: Global, text: &mut String, host: &mut Host, one: &Act) -> Result<(), AllocError> {
+    let told = act(alloc, host, one)?;
+    text.push_str("\n  ")?;
+    text.push_str(told.as_str())
+}
+
+fn told(alloc: Global, host: &mut Host, case: &Case) -> Result<String, AllocError> {
+    let mut text = title(alloc, host, case)?;
     for one in case.acts {
-        text.push_str("\n  ")?;
-        text.push_str(act(alloc, &mut host, one)?.as_str())?;
+        append(alloc, &mut text, host, one)?;
     }
     Ok(text)
+}
+
+/// What a row gives: its name with the blocks at the opening, and then a line an act.
+pub(crate) fn describe(alloc: Global, case: &Case) -> Result<String, AllocError> {
+    match Host::build(alloc, words_of(case), &ROOM) {
+        Ok(mut host) => told(alloc, &mut host, case),
+        Err(_) => format!(in alloc; "no memory"),
+    }
 }

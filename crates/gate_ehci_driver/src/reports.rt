@@ -40,22 +40,51 @@ pub(crate) fn refusal(alloc: Global, why: OfferError) -> Result<String, AllocErr
     }
 }
 
-fn what(alloc: Global, what: What) -> Result<String, AllocError> {
+/// The text of a line that is one word.
+fn word(what: What) -> Option<&'static str> {
     match what {
-        What::Done => format!(in alloc; "done"),
-        What::Halt(first) => format!(in alloc; "halt {}", cause(first)),
-        What::Miss => format!(in alloc; "miss"),
-        What::Cancel => format!(in alloc; "cancel"),
-        What::Clear => format!(in alloc; "clear"),
-        What::ClearFailed(first) => format!(in alloc; "clear failed {}", cause(first)),
+        What::Done => Some("done"),
+        What::Miss => Some("miss"),
+        What::Cancel => Some("cancel"),
+        What::Clear => Some("clear"),
+        What::DiskReset => Some("reset"),
+        _ => None,
+    }
+}
+
+/// The text of a line that has a cause.
+fn caused(what: What) -> Option<(&'static str, EndCause)> {
+    match what {
+        What::Halt(first) => Some(("halt", first)),
+        What::ClearFailed(first) => Some(("clear failed", first)),
+        _ => None,
+    }
+}
+
+/// A refused command, with the line of its script.
+fn refused(alloc: Global, line: u32, why: OfferError) -> Result<String, AllocError> {
+    let text = refusal(alloc, why)?;
+    format!(in alloc; "line {line} refused {}", text.as_str())
+}
+
+/// The text of a line that has numbers.
+fn counted(alloc: Global, what: What) -> Result<String, AllocError> {
+    match what {
         What::Port { port, value } => format!(in alloc; "port {port} {value:08x}"),
         What::Disk { tag, passed } => format!(in alloc; "disk {tag} {passed}"),
-        What::DiskReset => format!(in alloc; "reset"),
         What::Iso { errors } => format!(in alloc; "iso {errors}"),
-        What::Refused { line, why } => {
-            let text = refusal(alloc, why)?;
-            format!(in alloc; "line {line} refused {}", text.as_str())
-        }
+        What::Refused { line, why } => refused(alloc, line, why),
+        _ => Ok(String::new(alloc)),
+    }
+}
+
+fn what(alloc: Global, what: What) -> Result<String, AllocError> {
+    if let Some(text) = word(what) {
+        return format!(in alloc; "{text}");
+    }
+    match caused(what) {
+        Some((text, first)) => format!(in alloc; "{text} {}", cause(first)),
+        None => counted(alloc, what),
     }
 }
 

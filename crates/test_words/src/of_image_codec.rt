@@ -54,9 +54,7 @@ fn opening_image_both_ways(rt: HostRuntime) -> Result<(), Fail> {
         (0, 0, 0x1000)
     );
     let words = image.words.as_slice();
-    assert_eq!(rt; words.len(), 2048);
-    assert_eq!(rt; words[0], 1);
-    assert_eq!(rt; words[1023], 1);
+    assert_eq!(rt; (words.len(), words[0], words[1023]), (2048, 1, 1));
     assert_eq!(rt;
         &words[1024..1032],
         [0x1002, 0x40a000, 0x40000000, 0, 1, 1, 0x40, 0].as_slice()

@@ -16,13 +16,16 @@ fn link_words_of_an_image(rt: HostRuntime) {
         assert_eq!(rt; read(word), link, "at {word}");
     }
     assert_eq!(rt; read(0x0000_1003), Link::End);
-    assert_eq!(rt; read_qtd(0x0000_2041), QtdLink::End);
-    assert_eq!(rt; read_qtd(0x0000_2040), QtdLink::To(0x2040));
-    assert_eq!(rt; write(Link::End), 1);
-    assert_eq!(rt; write(Link::Qh(0x1000)), 0x1002);
-    assert_eq!(rt; write(Link::Fstn(0xFFFF_FFE0)), 0xFFFF_FFE6);
-    assert_eq!(rt; write_qtd(QtdLink::End), 1);
-    assert_eq!(rt; write_qtd(QtdLink::To(0x2040)), 0x2040);
+    let queues = [read_qtd(0x0000_2041), read_qtd(0x0000_2040)];
+    assert_eq!(rt; queues, [QtdLink::End, QtdLink::To(0x2040)]);
+    let words = [
+        write(Link::End),
+        write(Link::Qh(0x1000)),
+        write(Link::Fstn(0xFFFF_FFE0)),
+        write_qtd(QtdLink::End),
+        write_qtd(QtdLink::To(0x2040)),
+    ];
+    assert_eq!(rt; words, [1, 0x1002, 0xFFFF_FFE6, 1, 0x2040]);
 }
 
 #[test]
@@ -60,19 +63,38 @@ fn fields_of_words(rt: HostRuntime) {
         .to_word(),
         0x1001
     );
-    assert_eq!(rt; LinkBits::bad_bit(0x0000_1006), None);
-    assert_eq!(rt; LinkBits::bad_bit(0x0000_1016), Some(4));
-    assert_eq!(rt; ShortLink::bad_bit(0x0000_1016), Some(1));
-    assert_eq!(rt; ShortLink::bad_bit(0x0000_1001), None);
-    assert_eq!(rt; first_set(0x00F0_0000, 31, 12), Some(20));
-    assert_eq!(rt; first_set(0x00F0_0000, 19, 0), None);
-    assert_eq!(rt; first_set(0x8000_0000, 31, 0), Some(31));
-    assert_eq!(rt; field(0x0040_A000, 26, 16), 0x40);
-    assert_eq!(rt; address(0x0000_2041), 0x2040);
-    assert!(rt; bit(0x0040_A000, 15));
-    assert!(rt; !bit(0x0040_A000, 14));
-    assert_eq!(rt; page_word(0x12345), 0x1234_5000);
-    assert_eq!(rt; page_bad_bit(0x1234_5000), None);
-    assert_eq!(rt; page_bad_bit(0x1234_5A00), Some(9));
     worked_words();
+}
+
+#[test]
+fn bits_of_words(rt: HostRuntime) {
+    let links = [
+        LinkBits::bad_bit(0x0000_1006),
+        LinkBits::bad_bit(0x0000_1016),
+    ];
+    assert_eq!(rt; links, [None, Some(4)]);
+    let shorts = [
+        ShortLink::bad_bit(0x0000_1016),
+        ShortLink::bad_bit(0x0000_1001),
+    ];
+    assert_eq!(rt; shorts, [Some(1), None]);
+    let firsts = [
+        first_set(0x00F0_0000, 31, 12),
+        first_set(0x00F0_0000, 19, 0),
+        first_set(0x8000_0000, 31, 0),
+    ];
+    assert_eq!(rt; firsts, [Some(20), None, Some(31)]);
+    assert_eq!(rt; [bit(0x0040_A000, 15), bit(0x0040_A000, 14)], [true, false]);
+}
+
+#[test]
+fn parts_of_words(rt: HostRuntime) {
+    let parts = [
+        field(0x0040_A000, 26, 16),
+        address(0x0000_2041),
+        page_word(0x12345),
+    ];
+    assert_eq!(rt; parts, [0x40, 0x2040, 0x1234_5000]);
+    let pages = [page_bad_bit(0x1234_5000), page_bad_bit(0x1234_5A00)];
+    assert_eq!(rt; pages, [None, Some(9)]);
 }

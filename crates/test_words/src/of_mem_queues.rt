@@ -1,8 +1,9 @@
-ghost use Rattle.std.specs.Prelude.{IfSome};
+ghost use Rattle.std.specs.Prelude.{◌≡◌, length, IfOk, IfSome};
 ghost use Rattle.qh_qtd.specs.QueueHead.{IsQhInRange};
 
 use mem_queues::{laws, read_qtd, read_queue_head, write_overlay, write_token};
 use qh_qtd::{Qh, Token};
+use std::alloc::Global;
 use std::test::Fail;
 use word_mem::WordMem;
 
@@ -39,61 +40,68 @@ fn a_queue_head_is_read_and_written_back(rt: HostRuntime) -> Result<(), Fail> {
     }
     let mut mem = WordMem::from_words(rt.alloc(), &words)?;
     let head = read_queue_head(&mut mem, 32).ok_or("no queue head")?;
-    assert_eq!(rt; head.addr, 0x13);
-    assert_eq!(rt; head.nak_cnt, 0xB);
-    assert_eq!(rt; head.page2, 0x6789A);
-    assert_eq!(rt; head.page4, 1);
+    assert_eq!(rt; (head.addr, head.nak_cnt), (0x13, 0xB));
+    assert_eq!(rt; (head.page2, head.page4), (0x6789A, 1));
     let stepped = Qh {
         nak_cnt: 3,
         page4: 2,
         ..head
     };
     assert!(rt; write_overlay(&mut mem, 32, &stepped));
-    assert_eq!(rt; mem.word(32), 0x0001_2344);
-    assert_eq!(rt; mem.word(36), 0xA2BC_DB93);
-    assert_eq!(rt; mem.word(40), 0xCB96_3C81);
-    assert_eq!(rt; mem.word(44), 0x0002_0040);
-    assert_eq!(rt; mem.word(52), 0x0004_0086);
-    assert_eq!(rt; mem.word(56), 0x9234_9E35);
-    assert_eq!(rt; mem.word(60), 0xABCD_E123);
-    assert_eq!(rt; mem.word(64), 0x1234_50A5);
-    assert_eq!(rt; mem.word(76), 0x0000_2000);
+    let kept = [mem.word(32), mem.word(36), mem.word(40), mem.word(44)];
+    assert_eq!(rt; kept, [0x0001_2344, 0xA2BC_DB93, 0xCB96_3C81, 0x0002_0040]);
+    let overlay = [
+        mem.word(52),
+        mem.word(56),
+        mem.word(60),
+        mem.word(64),
+        mem.word(76),
+    ];
+    assert_eq!(rt;
+        overlay,
+        [
+            0x0004_0086,
+            0x9234_9E35,
+            0xABCD_E123,
+            0x1234_50A5,
+            0x0000_2000
+        ]
+    );
     assert_eq!(rt; mem.word(80), 0);
     assert_eq!(rt; read_queue_head(&mut mem, 32), Some(stepped));
     assert_eq!(rt; mem.foreign(), 0);
     Ok(())
 }
 
+/// Memory of which block 0 alone is Lent.
+fn first_is_lent(alloc: Global) -> Result<WordMem, Fail>
+    ensures { IfOk result (λ mem. length mem.words ≡ 1024) }
+{
+    let mut mem = WordMem::build(alloc, 1024)?;
+    let run = mem.take(1).ok_or("no run of 1")?;
+    let _lent = mem.lend(run);
+    Ok(mem)
+}
+
 /// Of the blocks 0 and 1 only the first is Lent.
 #[test]
 fn the_second_block_is_refused(rt: HostRuntime) -> Result<(), Fail> {
     let head = head_of(&SPLIT).ok_or("reserved bits")?;
-    let mut mem = WordMem::build(rt.alloc(), 1024)?;
-    let run = mem.take(1).ok_or("no run of 1")?;
-    assert_eq!(rt; run.first(), 0);
-    let _lent = mem.lend(run);
+    let mut mem = first_is_lent(rt.alloc())?;
     assert_eq!(rt; read_queue_head(&mut mem, 0), None);
-    assert_eq!(rt; mem.foreign(), 1);
     assert!(rt; read_qtd(&mut mem, 0).is_some());
     assert_eq!(rt; mem.foreign(), 1);
     assert!(rt; !write_overlay(&mut mem, 0, &head));
-    assert_eq!(rt; mem.foreign(), 2);
-    assert_eq!(rt; mem.word(8), 0);
-    assert_eq!(rt; mem.word(12), 0x0002_0040);
-    assert_eq!(rt; mem.word(28), 0xABCD_E123);
-    assert_eq!(rt; mem.word(32), 0);
+    let written = [mem.word(8), mem.word(12), mem.word(28), mem.word(32)];
+    assert_eq!(rt; written, [0, 0x0002_0040, 0xABCD_E123, 0]);
     assert!(rt; !write_overlay(&mut mem, 32, &head));
-    assert_eq!(rt; mem.word(44), 0);
-    assert_eq!(rt; mem.foreign(), 3);
+    assert_eq!(rt; (mem.word(44), mem.foreign()), (0, 3));
     Ok(())
 }
 
 #[test]
 fn a_token_is_written(rt: HostRuntime) -> Result<(), Fail> {
-    let mut mem = WordMem::build(rt.alloc(), 1024)?;
-    let run = mem.take(1).ok_or("no run of 1")?;
-    assert_eq!(rt; run.first(), 0);
-    let _lent = mem.lend(run);
+    let mut mem = first_is_lent(rt.alloc())?;
     let before = read_qtd(&mut mem, 0).ok_or("no qTD")?;
     let token = Token {
         active: true,
@@ -103,15 +111,14 @@ fn a_token_is_written(rt: HostRuntime) -> Result<(), Fail> {
         ..before.token
     };
     assert!(rt; write_token(&mut mem, 0, &token));
-    assert_eq!(rt; mem.word(4), 0);
-    assert_eq!(rt; mem.word(8), 0x0200_0D80);
-    assert_eq!(rt; mem.word(12), 0);
+    assert_eq!(rt;
+        [mem.word(4), mem.word(8), mem.word(12)],
+        [0, 0x0200_0D80, 0]
+    );
     let after = read_qtd(&mut mem, 0).ok_or("no qTD")?;
-    assert_eq!(rt; after.token, token);
-    assert_eq!(rt; after.page4, before.page4);
+    assert_eq!(rt; (after.token, after.page4), (token, before.page4));
     assert!(rt; !write_token(&mut mem, 32, &token));
-    assert_eq!(rt; mem.word(40), 0);
-    assert_eq!(rt; mem.foreign(), 1);
+    assert_eq!(rt; (mem.word(40), mem.foreign()), (0, 1));
     assert_eq!(rt; read_qtd(&mut mem, 4096), None);
     assert_eq!(rt; mem.foreign(), 2);
     Ok(())

@@ -158,33 +158,26 @@ fn every_field_of_a_descriptor(rt: HostRuntime) {
 }
 
 #[test]
-fn first_reserved_bits(rt: HostRuntime) {
-    assert_eq!(rt;
-        Qtd::read(&[1, 1, 0x300, 0, 0, 0, 0, 0]),
-        Err(Bad { word: 2, bit: 8 })
-    );
-    assert_eq!(rt;
-        Qtd::read(&[1, 1, 0x5001_0000, 0, 0, 0, 0, 0x800]),
-        Err(Bad { word: 2, bit: 16 })
-    );
-    assert_eq!(rt;
-        Qtd::read(&[1, 1, 0x5000, 0xFFF, 0, 0, 0, 0]),
-        Err(Bad { word: 2, bit: 12 })
-    );
-    assert_eq!(rt;
-        Qtd::read(&[0x1E, 1, 0, 0, 0, 0, 0, 0]),
-        Err(Bad { word: 0, bit: 1 })
-    );
-    assert_eq!(rt;
-        Qtd::read(&[1, 1, 0, 0, 0, 0, 0x0C00, 1]),
-        Err(Bad { word: 6, bit: 10 })
-    );
+fn first_reserved_bits_of_a_descriptor(rt: HostRuntime) {
+    for (words, word, bit) in [
+        ([1, 1, 0x300, 0, 0, 0, 0, 0], 2, 8),
+        ([1, 1, 0x5001_0000, 0, 0, 0, 0, 0x800], 2, 16),
+        ([1, 1, 0x5000, 0xFFF, 0, 0, 0, 0], 2, 12),
+        ([0x1E, 1, 0, 0, 0, 0, 0, 0], 0, 1),
+        ([1, 1, 0, 0, 0, 0, 0x0C00, 1], 6, 10),
+    ] {
+        assert_eq!(rt; Qtd::read(&words), Err(Bad { word, bit }));
+    }
+}
+
+#[test]
+fn first_reserved_bits_of_a_queue_head(rt: HostRuntime) {
     let mut words = [0; 12];
     words[1] = 0x3003;
     assert_eq!(rt; Qh::read(&words), Err(Bad { word: 1, bit: 12 }));
     words[0] = 0x18;
     assert_eq!(rt; Qh::read(&words), Err(Bad { word: 0, bit: 3 }));
-    assert_eq!(rt; Token::bad_bit(0x300), Some(8));
-    assert_eq!(rt; Token::bad_bit(0x5000_4E7F), None);
+    let tokens = [Token::bad_bit(0x300), Token::bad_bit(0x5000_4E7F)];
+    assert_eq!(rt; tokens, [Some(8), None]);
     worked_layouts();
 }

@@ -5,20 +5,18 @@ use word_mem::{BlockState, WordMem};
 #[test]
 fn runs_stay_in_a_page(rt: HostRuntime) -> Result<(), Fail> {
     let mut mem = WordMem::build(rt.alloc(), 2048)?;
-    assert_eq!(rt; mem.words(), 2048);
-    assert_eq!(rt; mem.largest_free(), 128);
+    assert_eq!(rt; (mem.words(), mem.largest_free()), (2048, 128));
     let front = mem.take(100).ok_or("no run of 100")?;
-    assert_eq!(rt; front.first(), 0);
     let next_page = mem.take(29).ok_or("no run of 29")?;
-    assert_eq!(rt; next_page.first(), 128);
     let rest = mem.take(28).ok_or("no run of 28")?;
-    assert_eq!(rt; rest.first(), 100);
-    assert_eq!(rt; rest.blocks(), 28);
-    assert_eq!(rt; mem.largest_free(), 99);
+    assert_eq!(rt;
+        [front.first(), next_page.first(), rest.first()],
+        [0, 128, 100]
+    );
+    assert_eq!(rt; (rest.blocks(), mem.largest_free()), (28, 99));
     assert!(rt; mem.take(100).is_none());
     let last = mem.take(99).ok_or("no run of 99")?;
-    assert_eq!(rt; last.first(), 157);
-    assert_eq!(rt; mem.largest_free(), 0);
+    assert_eq!(rt; (last.first(), mem.largest_free()), (157, 0));
     assert!(rt; mem.take(1).is_none());
     Ok(())
 }
@@ -28,19 +26,19 @@ fn runs_stay_in_a_page(rt: HostRuntime) -> Result<(), Fail> {
 fn a_lent_run_is_shared(rt: HostRuntime) -> Result<(), Fail> {
     let mut mem = WordMem::build(rt.alloc(), 1024)?;
     let run = mem.take(2).ok_or("no run of 2")?;
-    assert_eq!(rt; run.first(), 0);
-    assert_eq!(rt; run.blocks(), 2);
+    assert_eq!(rt; (run.first(), run.blocks()), (0, 2));
     mem.kept_write(&run, 36, 7);
-    assert_eq!(rt; mem.kept_read(&run, 36), 7);
-    assert_eq!(rt; mem.hc_read(36), None);
+    assert_eq!(rt; (mem.kept_read(&run, 36), mem.hc_read(36)), (7, None));
     assert_eq!(rt; mem.foreign(), 1);
     let run = mem.lend(run);
-    assert_eq!(rt; run.first(), 0);
-    assert_eq!(rt; run.blocks(), 2);
+    assert_eq!(rt; (run.first(), run.blocks()), (0, 2));
     assert_eq!(rt; mem.hc_read(36), Some(7));
-    assert!(rt; mem.hc_write(60, 9));
-    assert!(rt; !mem.hc_write(64, 9));
-    assert!(rt; !mem.hc_write(4096, 9));
+    let written = [
+        mem.hc_write(60, 9),
+        mem.hc_write(64, 9),
+        mem.hc_write(4096, 9),
+    ];
+    assert_eq!(rt; written, [true, false, false]);
     assert_eq!(rt; mem.foreign(), 3);
     Ok(())
 }
@@ -49,12 +47,12 @@ fn a_lent_run_is_shared(rt: HostRuntime) -> Result<(), Fail> {
 fn given_words_are_lent(rt: HostRuntime) -> Result<(), Fail> {
     let words = vec![in rt.alloc(); 5; 1024]?;
     let mut mem = WordMem::from_words(rt.alloc(), &words)?;
-    assert_eq!(rt; mem.words(), 1024);
-    assert_eq!(rt; mem.word(4092), 5);
+    assert_eq!(rt;
+        (mem.words(), mem.word(4092), mem.largest_free()),
+        (1024, 5, 0)
+    );
     assert_eq!(rt; mem.state(127), BlockState::Lent);
-    assert_eq!(rt; mem.largest_free(), 0);
-    assert_eq!(rt; mem.hc_read(4092), Some(5));
-    assert_eq!(rt; mem.hc_read(4096), None);
+    assert_eq!(rt; [mem.hc_read(4092), mem.hc_read(4096)], [Some(5), None]);
     assert_eq!(rt; mem.foreign(), 1);
     Ok(())
 }
