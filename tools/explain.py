@@ -58,7 +58,12 @@ FORMS = {
     "iso": [EP[:2] + [word("in"), COUNT], EP[:2] + [word("out"), COUNT, number("number of bytes", 0, 3072), SEED]],
     "order": [[word(it), number("number of " + ("microframes" if it == "m" else "steps"), 0, ANY)] for it in "dcm"],
 }
-WORLD = ("hub", "dev", "ep", "reply", "fate", "hold")
+WORLD = ("hub", "dev", "ep", "stuff", "reply", "fate", "hold")
+# what version 2 has beside that
+SECOND = {
+    "hub": FORMS["hub"] + [FORMS["hub"][0] + [word("multi")]],
+    "stuff": [EP + [number("number of stuffed bytes in 36", 0, 6)]],
+}
 ACTIONS = ("open", "cancel", "get", "put", "control", "iso", "order")
 SIZES = {
     "control": {"high": (64,), "full": (8, 16, 32, 64), "low": (8,)},
@@ -194,7 +199,7 @@ def why_range(draft, words):
         if slot[0] == "number" and not slot[2] <= int(text) <= slot[3]:
             yield at, f"{text} is no {slot[1]}: {slot[2]}" + ("" if slot[2] == slot[3] else f" to {slot[3]}")
             return
-    rule = {"mem": mem_range, "ep": ep_range, "reply": reply_range, "hold": hold_range, "control": control_range, "iso": iso_range}
+    rule = {"mem": mem_range, "ep": ep_range, "stuff": stuff_range, "reply": reply_range, "hold": hold_range, "control": control_range, "iso": iso_range}
     yield from rule.get(words[0], by_range)(draft, words)
 
 
@@ -241,6 +246,11 @@ def reply_range(draft, words):
     else:
         kind = f", and {shown(name)} is {'an' if known[0][0] == 'i' else 'a'} {known[0]} endpoint" if known else ""
         yield 4, f"`{what}` is of {'another kind than iso' if what == 'nak' else 'a bulk or interrupt endpoint'}{kind}"
+
+
+def stuff_range(draft, words):
+    where = "the control endpoint of a hub" if int(words[1]) in draft.hubs else "of a high-speed device"
+    yield 1, f"{shown(name_of(words))} is {where}, and stuffed bits count behind a hub alone"
 
 
 def hold_range(draft, words):
@@ -302,7 +312,7 @@ def why_twice(draft, words):
         yield 1, f"address {address} is taken already, by line {line}"
         return
     else:
-        same = 4 if words[0] == "ep" else 6
+        same = 4 if words[0] in ("ep", "stuff") else 6
         line = before(lambda it: it[:same] == words[:same])
     yield 0, f"line {line} says so already"
 
@@ -352,6 +362,8 @@ def fault(raw, line, cause):
     text = text.decode("ascii")
     if cause == "version":
         return [(1, f"`{text[:40]}` is no version: line 1 is `ehci 1`")]
+    if lines[0] == b"ehci 2":
+        FORMS.update(SECOND)
     words = text.split(" ")
     if cause == "word" and "" in words:
         return list(why_spaces(text))

@@ -3,3 +3,4 @@ pub mod Naks
 pub mod Rows
 pub mod Causes
 pub mod Samples
+pub mod Parts

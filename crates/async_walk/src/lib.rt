@@ -7,10 +7,13 @@
 mod events;
 pub mod laws;
 mod naks;
+mod parts;
 mod rows;
 mod state;
 pub mod worked;
+pub mod worked_parts;
 
 pub use events::step;
+pub use parts::{HeldParts, RingParts};
 pub use rows::WalkRow;
 pub use state::{AsyncState, Cursor, ReloadMode, WalkStep};

@@ -11,13 +11,13 @@ use Rattle.std.proofs.lemmas.List.Quantifiers.{all_pairs_push}
 use Rattle.bandwidth.specs.declared.placements.Want.{Want}
 use Rattle.bandwidth.specs.declared.placements.Placement.{Placement}
 use Rattle.bandwidth.specs.declared.placements.Placed.{Placed}
-use Rattle.bandwidth.specs.Sums.{cost_at, cost_in, is_active, is_hub, Fits}
-use Rattle.bandwidth.specs.Admission.{hub_of, joined, keeps}
+use Rattle.bandwidth.specs.Sums.{cost_at, cost_in, is_active, is_at, translator_of, Fits}
+use Rattle.bandwidth.specs.Admission.{translator_in, joined, keeps}
 use Rattle.bandwidth.specs.Tables.{Book, Pool, IsBook, IsPool, IsLess, HubTables, AreZero, HubStands, IsPlaced, AreSums, LoadsFit, Tells, serves, tables_of, pool_size, sheet_at}
 use Rattle.bandwidth.specs.declared.shapes.Shape.{Shape}
 use Rattle.bandwidth.specs.Shapes.{IsShape, IsOf}
 use Rattle.bandwidth.proofs.Spans.{shape_costs}
-use Rattle.bandwidth.proofs.Budgets.{load_joined, is_own_hub, fits_fewer, fits_none, fits_fact, frames_out, bytes_out, keeps_alone, keeps_all, taken}
+use Rattle.bandwidth.proofs.Budgets.{load_joined, own_at, fits_fewer, fits_none, fits_fact, frames_out, bytes_out, keeps_alone, keeps_all, taken}
 use Rattle.bandwidth.proofs.Ids.{none_has, of_id, on_or_off, taken_out}
 use Rattle.bandwidth.proofs.Pools.{sums_or_none, no_hubs, or_true}
 
@@ -29,12 +29,12 @@ sums_for b None book = record {
   frames = λ h f e k l. absurd cc;
   bytes = λ h u e k l. absurd cc;
 }
-sums_for b (Some hub) book = record {
+sums_for b (Some number) book = record {
   loads = book.loads;
   frames = λ h f e k l.
-      let s : hub ≡ h = cc in rw s ((sums_or_none b.placed h (tables_of b.pool h) (book.pool.hubs h k)).0 f l);
+      let s : number ≡ h = cc in rw s ((sums_or_none b.placed h (tables_of b.pool h) (book.pool.hubs h k)).0 f l);
   bytes = λ h u e k l.
-      let s : hub ≡ h = cc in rw s ((sums_or_none b.placed h (tables_of b.pool h) (book.pool.hubs h k)).1 u l);
+      let s : number ≡ h = cc in rw s ((sums_or_none b.placed h (tables_of b.pool h) (book.pool.hubs h k)).1 u l);
 }
 
 pub loads_small : (b : Book) → IsBook b → (u : ℕ) → u < 8192 → slice_index b.loads u ≤ 1000000000000
@@ -58,19 +58,19 @@ zero_tables t f b = record {
 pub pool_size_of : (pool : Pool) (n : ℕ) → All (λ (o : Option HubTables). o ≡ None) pool.hubs → length pool.free ≡ n → pool_size pool ≡ n
 pool_size_of pool n e f = omega (arith, no_hubs pool.hubs e, f)
 
-pub pool_opening : (pool : Pool) → length pool.hubs ≡ 128 → All (λ (o : Option HubTables). o ≡ None) pool.hubs → IsPool [] pool
+pub pool_opening : (pool : Pool) → length pool.hubs ≡ 2048 → All (λ (o : Option HubTables). o ≡ None) pool.hubs → IsPool [] pool
 pool_opening pool count none = record {
   count = count;
-  hubs = λ hub h.
-      subst (λ (o : Option HubTables). HubStands [] hub o) (sym (none hub None (omega (arith, count)))) refl;
+  hubs = λ number h.
+      subst (λ (o : Option HubTables). HubStands [] number o) (sym (none number None (omega (arith, count)))) refl;
 }
 
-pub book_opening : (room : ℕ) (table : List ℕ) (pool : Pool) → table ≡ replicate 8192 0 → length pool.hubs ≡ 128 → All (λ (o : Option HubTables). o ≡ None) pool.hubs → length pool.free ≡ min room 128 → IsBook (record { room = room; placed = []; loads = table; pool = pool })
+pub book_opening : (room : ℕ) (table : List ℕ) (pool : Pool) → table ≡ replicate 8192 0 → length pool.hubs ≡ 2048 → All (λ (o : Option HubTables). o ≡ None) pool.hubs → length pool.free ≡ min room 2048 → IsBook (record { room = room; placed = []; loads = table; pool = pool })
 book_opening room table pool zeros count none size = record {
   cells = zero_count 8192 table zeros;
   loads = zero_at 8192 table zeros;
   pool = pool_opening pool count none;
-  size = pool_size_of pool (min room 128) none size;
+  size = pool_size_of pool (min room 2048) none size;
   room = omega arith;
   placed = All-nil IsPlaced;
   fits = fits_none;
@@ -106,19 +106,20 @@ or_swap true true c = refl
 or_swap true false c = refl
 or_swap false b c = refl
 
-serves_removed : (placed : List Placed) (i : ℕ) (x : Placed) (hub : ℕ) → i < length placed → x ≡ get_or placed i x → serves placed hub ≡ (is_hub x.want.hub hub || serves (remove placed i) hub)
-serves_removed [] i x hub h e = absurd (omega arith)
-serves_removed (y ∷ ys) zero x hub h e = ap (λ (z : Placed). is_hub z.want.hub hub || serves ys hub) (sym e)
-serves_removed (y ∷ ys) (suc i) x hub h e =
-    ap (λ b. is_hub y.want.hub hub || b) (serves_removed ys i x hub (omega arith) e)
-    ∙ or_swap (is_hub y.want.hub hub) (is_hub x.want.hub hub) (serves (remove ys i) hub)
+serves_removed : (placed : List Placed) (i : ℕ) (x : Placed) (number : ℕ) → i < length placed → x ≡ get_or placed i x
+    → serves placed number ≡ (is_at x.want number || serves (remove placed i) number)
+serves_removed [] i x number h e = absurd (omega arith)
+serves_removed (y ∷ ys) zero x number h e = ap (λ (z : Placed). is_at z.want number || serves ys number) (sym e)
+serves_removed (y ∷ ys) (suc i) x number h e =
+    ap (λ b. is_at y.want number || b) (serves_removed ys i x number (omega arith) e)
+    ∙ or_swap (is_at y.want number) (is_at x.want number) (serves (remove ys i) number)
 
 pub less_removed : (placed : List Placed) (i : ℕ) (x : Placed) → i < length placed → x ≡ get_or placed i x → IsLess x placed (remove placed i)
 less_removed placed i x inside e = record {
   sums = λ f.
       sym
       (ap (λ (y : Placed). sum_by f (remove placed i) + f y) e ∙ sum_by-remove f placed i x inside);
-  serves = λ hub. serves_removed placed i x hub inside e;
+  serves = λ number. serves_removed placed i x number inside e;
 }
 
 abbrev pub left_of : List Placed → ℕ → List Placed
@@ -154,38 +155,41 @@ book_left b i id x loads pool book inside e at goes =
       ids = rw left (AllPairs-filter (λ x y. x.want.id ≢ y.want.id) (λ x. not (of_id id x)) b.placed book.ids);
     }
 
--- ---- what a placement has to keep below its hub
+-- ---- what a placement has to keep below its translator
 
-sums_below : (b : Book) (hub : ℕ) (o : Option ℕ) → o ≡ Some hub → IsBook b → AreSums (sheet_at b (Some hub)) o
-sums_below b hub o e book = subst (λ (x : Option ℕ). AreSums (sheet_at b x) o) e (sums_for b o book)
+sums_below : (b : Book) (number : ℕ) (o : Option ℕ) → o ≡ Some number → IsBook b → AreSums (sheet_at b (Some number)) o
+sums_below b number o e book = subst (λ (x : Option ℕ). AreSums (sheet_at b x) o) e (sums_for b o book)
 
 sums_alone : (b : Book) (o : Option ℕ) → o ≡ None → IsBook b → AreSums (sheet_at b None) o
 sums_alone b o e book = subst (λ (x : Option ℕ). AreSums (sheet_at b x) o) e (sums_for b o book)
 
-needed_by : (b : Book) (w : Want) (p : Placement) (r : Bool) (o : Option ℕ) → w.hub ≡ o → IsBook b → Tells b w p r → keeps b.placed w p ≡ true → r ≡ true
-needed_by b w p r None e book tells kept = tells.alone e
-needed_by b w p r (Some hub) e book tells kept =
-    let s = sheet_at b (Some hub) in
+needed_by : (b : Book) (w : Want) (p : Placement) (r : Bool) (o : Option ℕ) → translator_of w ≡ o → w.tt < 16 → IsBook b
+    → Tells b w p r → keeps b.placed w p ≡ true → r ≡ true
+needed_by b w p r None e few book tells kept = tells.alone e
+needed_by b w p r (Some number) e few book tells kept =
+    let s = sheet_at b (Some number) in
     let fit = fits_fact (joined b.placed w p) kept in
-    let sums = sums_below b hub w.hub e book in
-    (tells.fits hub e).1
+    let sums = sums_below b number (translator_of w) e book in
+    (tells.fits number e).1
     (record {
-      frames = frames_out s w p hub (tells.small hub e) e sums fit;
-      bytes = bytes_out s w p hub (tells.small hub e) e sums fit;
+      frames = frames_out s w p number (tells.small number e) few e sums fit;
+      bytes = bytes_out s w p number (tells.small number e) few e sums fit;
     })
 
-pub below_needed : (b : Book) (w : Want) (p : Placement) (r : Bool) → IsBook b → Tells b w p r → keeps b.placed w p ≡ true → r ≡ true
-below_needed b w p r book tells kept = needed_by b w p r w.hub refl book tells kept
+pub below_needed : (b : Book) (w : Want) (p : Placement) (r : Bool) → w.tt < 16 → IsBook b → Tells b w p r
+    → keeps b.placed w p ≡ true → r ≡ true
+below_needed b w p r few book tells kept = needed_by b w p r (translator_of w) refl few book tells kept
 
-enough_by : (b : Book) (w : Want) (p : Placement) (r : Bool) (o : Option ℕ) → w.hub ≡ o → IsBook b → Tells b w p r → LoadsFit b.loads (cost_in w p) p → r ≡ true → keeps b.placed w p ≡ true
+enough_by : (b : Book) (w : Want) (p : Placement) (r : Bool) (o : Option ℕ) → translator_of w ≡ o → IsBook b → Tells b w p r
+    → LoadsFit b.loads (cost_in w p) p → r ≡ true → keeps b.placed w p ≡ true
 enough_by b w p r None e book tells loads on =
-    keeps_alone (sheet_at b None) w p e (sums_alone b w.hub e book) book.fits loads
-enough_by b w p r (Some hub) e book tells loads on =
-    let below = (tells.fits hub e).0 on in
-    keeps_all (sheet_at b (Some hub)) w p (sums_below b hub w.hub e book) book.fits loads below.frames below.bytes
+    keeps_alone (sheet_at b None) w p e (sums_alone b (translator_of w) e book) book.fits loads
+enough_by b w p r (Some number) e book tells loads on =
+    let below = (tells.fits number e).0 on in
+    keeps_all (sheet_at b (Some number)) w p (sums_below b number (translator_of w) e book) book.fits loads below.frames below.bytes
 
 pub below_enough : (b : Book) (w : Want) (p : Placement) (r : Bool) → IsBook b → Tells b w p r → LoadsFit b.loads (cost_in w p) p → r ≡ true → keeps b.placed w p ≡ true
-below_enough b w p r book tells loads on = enough_by b w p r w.hub refl book tells loads on
+below_enough b w p r book tells loads on = enough_by b w p r (translator_of w) refl book tells loads on
 
 -- ---- the amounts of a shape are the costs of its placements
 
@@ -200,19 +204,23 @@ costs_left table next amounts w p same sums u h =
     let small : u % 8 < 8 = omega arith in
     sums u h ∙ ap (λ n. slice_index next u + cond (is_active p (u / 8)) n 0) (same (u % 8) small)
 
--- ---- the hub of a placement has tables
+-- ---- the translator of a placement has tables
 
-hub_served : (placed : List Placed) (id hub : ℕ) → hub_of placed id ≡ Some hub → serves placed hub ≡ true
-hub_served [] id hub e = absurd cc
-hub_served (x ∷ xs) id hub e =
+served_in : (placed : List Placed) (id number : ℕ) → All IsPlaced placed → translator_in placed id ≡ Some number
+    → serves placed number ≡ true
+served_in [] id number are e = absurd cc
+served_in (x ∷ xs) id number are e =
     elim (on_or_off (of_id id x)) [
-      | inl t ↦ let own : x.want.hub ≡ Some hub = rw t at e in rw (is_own_hub x.want.hub hub own) refl
+      | inl t ↦
+          let own : translator_of x.want ≡ Some number = rw t at e in
+          let first : IsPlaced x = are 0 x (omega arith) in rw (own_at x.want number first.want.tt own) refl
       | inr f ↦
-          let rest : hub_of xs id ≡ Some hub = rw f at e in
-          or_true (is_hub x.want.hub hub) (serves xs hub) (hub_served xs id hub rest)
+          let rest : translator_in xs id ≡ Some number = rw f at e in
+          or_true (is_at x.want number) (serves xs number) (served_in xs id number (λ k d l. are (suc k) d (omega arith)) rest)
     ]
 
-pub hub_stands : (placed : List Placed) (pool : Pool) (id hub : ℕ) → IsPool placed pool → hub < 128 → hub_of placed id ≡ Some hub → tables_of pool hub ≡ None → ⊥
-hub_stands placed pool id hub is h e none =
-    let on = hub_served placed id hub e in
-    let off : serves placed hub ≡ false = subst (λ (o : Option HubTables). HubStands placed hub o) none (is.hubs hub h) in cc
+pub translator_stands : (placed : List Placed) (pool : Pool) (id number : ℕ) → All IsPlaced placed → IsPool placed pool
+    → number < 2048 → translator_in placed id ≡ Some number → tables_of pool number ≡ None → ⊥
+translator_stands placed pool id number are is h e none =
+    let on = served_in placed id number are e in
+    let off : serves placed number ≡ false = subst (λ (o : Option HubTables). HubStands placed number o) none (is.hubs number h) in cc

@@ -1,4 +1,4 @@
--- The tables of hubs: one hub at most for each placement has some, and their cells are its sums, also after one placement comes or goes.
+-- The tables of hubs: one translator at most for each placement has some, and their cells are its sums, also after one placement comes or goes.
 use Rattle.std.proofs.Common.{◌≡◌, ◌≢◌, ℕ, ◌+◌, ◌/◌, ◌%◌, ◌<◌, ◌≤◌, Bool, true, false, cond, List, [], ◌∷◌, refl, ap, sym, ◌∙◌, subst, arith, inl, inr, ◌⊎◌, length, length-set, get_or, set, nat_eq, nat_le, ◌*◌, ◌↔◌, eq-eqb, get_or-set_other, get_or-set_same, set-set}
 use Rattle.std.specs.Prelude.{zero, suc, ◌||◌, sum_by, is_some, All, Option, Some, None, IfSome, IsSome, slice_index, option_to_list}
 use Rattle.std.specs.List.{count_by}
@@ -9,10 +9,10 @@ use borrow.Author.Tests.{eqb-true}
 use Rattle.bandwidth.specs.declared.placements.Want.{Want}
 use Rattle.bandwidth.specs.declared.placements.Placement.{Placement}
 use Rattle.bandwidth.specs.declared.placements.Placed.{Placed}
-use Rattle.bandwidth.specs.Sums.{frame_sum, tt_sum, laid_at, time_at, laid_in, time_of, is_active, is_hub, Fits}
+use Rattle.bandwidth.specs.Sums.{frame_sum, tt_sum, laid_at, time_at, laid_in, time_of, is_active, is_at, translator_of, Fits}
 use Rattle.bandwidth.specs.Admission.{joined}
 use Rattle.bandwidth.specs.Tables.{HubTables, Pool, Book, AreCells, AreZero, AreHubSums, AreWithin, Adds, Holds, Had, Gives, AddsAt, TakesAt, BelowFits, HubStands, IsPool, IsBook, IsLess, serves, tables_of, tables_or_none, pool_size, frame_share, byte_share}
-use Rattle.bandwidth.proofs.Budgets.{frame_joined, bytes_joined, is_own_hub, taken}
+use Rattle.bandwidth.proofs.Budgets.{frame_joined, bytes_joined, none_at, number_at, same_number, off_of, taken}
 use Rattle.bandwidth.specs.Placements.{IsPlace, frame_period}
 use Rattle.bandwidth.proofs.Turns.{whole_of, active_of}
 
@@ -23,9 +23,6 @@ or_false false = refl
 or_assoc : (a b c : Bool) → (a || (b || c)) ≡ ((a || b) || c)
 or_assoc true b c = refl
 or_assoc false b c = refl
-
-off_eq : (x h : ℕ) → h ≢ x → nat_eq x h ≡ false
-off_eq x h ne = grind (arith, nat_tests, ne)
 
 left_out : (b : Bool) (x : ℕ) → b ≡ false → cond b x 0 ≡ 0
 left_out true x h = cc
@@ -100,23 +97,35 @@ along_same x a (y ∷ xs) =
     one_cell (nat_eq x a) _ (along_same x (a + 1) xs)
     (λ t. let e : x ≡ a = eqb-true x a t in along_past x (a + 1) xs (omega arith))
 
-along_one : (o : Option ℕ) (xs : List (Option HubTables)) → along (is_hub o) 0 xs ≤ 1
-along_one None xs = omega (arith, along_none 0 xs)
-along_one (Some x) xs = along_same x 0 xs
+cell_more : (p q : Bool) (x y : ℕ) → (p ≡ true → q ≡ true) → x ≤ y → cond p (1 + x) x ≤ cond q (1 + y) y
+cell_more true q x y h k = rw (h refl) (omega (arith, k))
+cell_more false true x y h k = omega (arith, k)
+cell_more false false x y h k = k
+
+along_more : (p q : ℕ → Bool) (a : ℕ) (xs : List (Option HubTables)) → ((n : ℕ) → p n ≡ true → q n ≡ true) → along p a xs ≤ along q a xs
+unfolding along
+along_more p q a [] h = omega arith
+along_more p q a (x ∷ xs) h = cell_more (p a) (q a) _ _ (h a) (along_more p q (a + 1) xs h)
+
+along_one : (o : Option ℕ) (w : Want) (xs : List (Option HubTables)) → translator_of w ≡ o → along (is_at w) 0 xs ≤ 1
+along_one None w xs e =
+    omega (arith, along_more (is_at w) (λ h. false) 0 xs (λ n t. absurd (none_at w n e t)), along_none 0 xs)
+along_one (Some x) w xs e =
+    omega (arith, along_more (is_at w) (λ h. nat_eq x h) 0 xs (λ n t. number_at w n x e t), along_same x 0 xs)
 
 serves_count : (placed : List Placed) (xs : List (Option HubTables)) → along (serves placed) 0 xs ≤ length placed
 serves_count [] xs = omega (arith, along_none 0 xs)
 serves_count (x ∷ ps) xs =
     omega (
       arith,
-      along_either (is_hub x.want.hub) (serves ps) 0 xs,
-      along_one x.want.hub xs,
+      along_either (is_at x.want) (serves ps) 0 xs,
+      along_one (translator_of x.want) x.want xs refl,
       serves_count ps xs,
     )
 
-stands_some : (placed : List Placed) (hub : ℕ) (t : Option HubTables) → HubStands placed hub t → is_some t ≡ serves placed hub
-stands_some placed hub None h = sym h
-stands_some placed hub (Some t) h = sym h.0
+stands_some : (placed : List Placed) (number : ℕ) (t : Option HubTables) → HubStands placed number t → is_some t ≡ serves placed number
+stands_some placed number None h = sym h
+stands_some placed number (Some t) h = sym h.0
 
 few_hubs : (placed : List Placed) (pool : Pool) → IsPool placed pool → count_some pool.hubs ≤ length placed
 few_hubs placed pool p =
@@ -145,15 +154,16 @@ one_short (x ∷ xs) zero h e =
 one_short (x ∷ xs) (suc i) h e =
     omega (arith, count_step (is_some x) (count_some xs), one_short xs i (omega arith) e)
 
--- a hub without tables finds some as long as there is room
-pub free_left : (b : Book) (hub : ℕ) → IsBook b → length b.placed < b.room → hub < 128 → tables_of b.pool hub ≡ None → 1 ≤ length b.pool.free
-free_left b hub book room h none =
+-- a translator without tables finds some as long as there is room
+pub free_left : (b : Book) (number : ℕ) → IsBook b → length b.placed < b.room → number < 2048 → tables_of b.pool number ≡ None
+    → 1 ≤ length b.pool.free
+free_left b number book room h none =
     omega (
       arith,
       book.size,
       room,
       few_hubs b.placed b.pool book.pool,
-      one_short b.pool.hubs hub (omega (arith, book.pool.count)) none,
+      one_short b.pool.hubs number (omega (arith, book.pool.count)) none,
       book.pool.count,
       count_same b.pool.hubs,
     )
@@ -173,11 +183,12 @@ no_hubs xs all = sym (count_same xs) ∙ none_some xs all
 cell : Option HubTables → ℕ
 cell o = cond (is_some o) 1 0
 
-count_set : (xs ys : List (Option HubTables)) (hub : ℕ) (v : Option HubTables) → ys ≡ set xs hub v → hub < length xs → count_by is_some ys + cell (get_or xs hub None) ≡ count_by is_some xs + cell v
+count_set : (xs ys : List (Option HubTables)) (number : ℕ) (v : Option HubTables) → ys ≡ set xs number v → number < length xs
+    → count_by is_some ys + cell (get_or xs number None) ≡ count_by is_some xs + cell v
 unfolding cell
-count_set xs ys hub v e inside =
-    ap (λ (zs : List (Option HubTables)). count_by is_some zs + cond (is_some (get_or xs hub None)) 1 0) e
-    ∙ sum_by-set (λ (o : Option HubTables). cond (is_some o) 1 0) xs hub v None inside
+count_set xs ys number v e inside =
+    ap (λ (zs : List (Option HubTables)). count_by is_some zs + cond (is_some (get_or xs number None)) 1 0) e
+    ∙ sum_by-set (λ (o : Option HubTables). cond (is_some o) 1 0) xs number v None inside
 
 cell_some : (o : Option HubTables) → is_some o ≡ true → cell o ≡ 1
 unfolding cell
@@ -189,45 +200,50 @@ popped None = refl
 popped (Some t) = refl
 
 -- tables stay where they were
-pub size_kept : (old new : Pool) (hub : ℕ) (t : HubTables) → length old.hubs ≡ 128 → hub < 128 → is_some (tables_of old hub) ≡ true → new.hubs ≡ set old.hubs hub (Some t) → new.free ≡ old.free → pool_size new ≡ pool_size old
+pub size_kept : (old new : Pool) (number : ℕ) (t : HubTables) → length old.hubs ≡ 2048 → number < 2048
+    → is_some (tables_of old number) ≡ true → new.hubs ≡ set old.hubs number (Some t) → new.free ≡ old.free → pool_size new ≡ pool_size old
 unfolding cell
-size_kept old new hub t count h some e same =
+size_kept old new number t count h some e same =
     omega (
       arith,
-      count_set old.hubs new.hubs hub (Some t) e (omega (arith, count)),
-      cell_some (tables_of old hub) some,
+      count_set old.hubs new.hubs number (Some t) e (omega (arith, count)),
+      cell_some (tables_of old number) some,
       ap length same,
     )
 
--- the last of the free goes to a hub that had none
-pub size_given : (old new : Pool) (hub : ℕ) (r : Option HubTables) → length old.hubs ≡ 128 → hub < 128 → tables_of old hub ≡ None → new.hubs ≡ set old.hubs hub r → length new.free + length (option_to_list r) ≡ length old.free → pool_size new ≡ pool_size old
-size_given old new hub r count h none e popped_is =
+-- the last of the free goes to a translator that had none
+pub size_given : (old new : Pool) (number : ℕ) (r : Option HubTables) → length old.hubs ≡ 2048 → number < 2048
+    → tables_of old number ≡ None → new.hubs ≡ set old.hubs number r → length new.free + length (option_to_list r) ≡ length old.free
+    → pool_size new ≡ pool_size old
+size_given old new number r count h none e popped_is =
     omega (
       arith,
-      count_set old.hubs new.hubs hub r e (omega (arith, count)),
+      count_set old.hubs new.hubs number r e (omega (arith, count)),
       ap cell none,
       popped None,
       popped r,
       popped_is,
     )
 
--- a hub's go back to the free
-pub size_back : (old new : Pool) (hub : ℕ) → length old.hubs ≡ 128 → hub < 128 → is_some (tables_of old hub) ≡ true → new.hubs ≡ set old.hubs hub None → length new.free ≡ length old.free + 1 → pool_size new ≡ pool_size old
-size_back old new hub count h some e more =
+-- a translator's go back to the free
+pub size_back : (old new : Pool) (number : ℕ) → length old.hubs ≡ 2048 → number < 2048 → is_some (tables_of old number) ≡ true
+    → new.hubs ≡ set old.hubs number None → length new.free ≡ length old.free + 1 → pool_size new ≡ pool_size old
+size_back old new number count h some e more =
     omega (
       arith,
-      count_set old.hubs new.hubs hub None e (omega (arith, count)),
-      cell_some (tables_of old hub) some,
+      count_set old.hubs new.hubs number None e (omega (arith, count)),
+      cell_some (tables_of old number) some,
       popped None,
       more,
     )
 
--- a hub with tables that were just given
-pub added_given : (old mid new : Pool) (hub time : ℕ) (laid : ℕ → ℕ) (p : Placement) → length old.hubs ≡ 128 → hub < 128 → tables_of old hub ≡ None → Gives old mid hub → AddsAt mid new hub time laid p → AddsAt old new hub time laid p
-added_given old mid new hub time laid p count h none gives adds =
-    let at : tables_of mid hub ≡ Some gives.given =
-    ap (λ (xs : List (Option HubTables)). get_or xs hub None) gives.hubs
-    ∙ get_or-set_same old.hubs hub (Some gives.given) None (omega (arith, count)) in
+-- a translator with tables that were just given
+pub added_given : (old mid new : Pool) (number time : ℕ) (laid : ℕ → ℕ) (p : Placement) → length old.hubs ≡ 2048 → number < 2048
+    → tables_of old number ≡ None → Gives old mid number → AddsAt mid new number time laid p → AddsAt old new number time laid p
+added_given old mid new number time laid p count h none gives adds =
+    let at : tables_of mid number ≡ Some gives.given =
+    ap (λ (xs : List (Option HubTables)). get_or xs number None) gives.hubs
+    ∙ get_or-set_same old.hubs number (Some gives.given) None (omega (arith, count)) in
     let same : gives.given ≡ adds.was = subst (λ (o : Option HubTables). Had o adds.was) at adds.had in
     record {
       was = adds.was;
@@ -236,14 +252,15 @@ added_given old mid new hub time laid p count h none gives adds =
       adds = adds.adds;
       hubs =
           adds.hubs
-          ∙ ap (λ (xs : List (Option HubTables)). set xs hub (Some adds.now)) gives.hubs
-          ∙ set-set old.hubs hub (Some gives.given) (Some adds.now);
+          ∙ ap (λ (xs : List (Option HubTables)). set xs number (Some adds.now)) gives.hubs
+          ∙ set-set old.hubs number (Some gives.given) (Some adds.now);
     }
 
-pub at_given : (old mid : Pool) (hub : ℕ) → length old.hubs ≡ 128 → hub < 128 → (g : Gives old mid hub) → tables_of mid hub ≡ Some g.given
-at_given old mid hub count h g =
-    ap (λ (xs : List (Option HubTables)). get_or xs hub None) g.hubs
-    ∙ get_or-set_same old.hubs hub (Some g.given) None (omega (arith, count))
+pub at_given : (old mid : Pool) (number : ℕ) → length old.hubs ≡ 2048 → number < 2048 → (g : Gives old mid number)
+    → tables_of mid number ≡ Some g.given
+at_given old mid number count h g =
+    ap (λ (xs : List (Option HubTables)). get_or xs number None) g.hubs
+    ∙ get_or-set_same old.hubs number (Some g.given) None (omega (arith, count))
 
 pub zero_within : (t : HubTables) → AreZero t → AreWithin t
 zero_within t z = record {
@@ -258,9 +275,10 @@ if_at P o t e h = subst (λ (x : Option HubTables). IfSome x P) (sym e) h
 pub some_at : (o : Option HubTables) (t : HubTables) → o ≡ Some t → is_some o ≡ true
 some_at o t e = ap is_some e
 
-pub gives_by : (old new : Pool) (hub : ℕ) (r : Option HubTables) → IsSome r → IfSome r AreZero → new.hubs ≡ set old.hubs hub r → Gives old new hub
-gives_by old new hub None some zeros e = cc
-gives_by old new hub (Some t) some zeros e = record { given = t; zero = zeros; hubs = e }
+pub gives_by : (old new : Pool) (number : ℕ) (r : Option HubTables) → IsSome r → IfSome r AreZero → new.hubs ≡ set old.hubs number r
+    → Gives old new number
+gives_by old new number None some zeros e = cc
+gives_by old new number (Some t) some zeros e = record { given = t; zero = zeros; hubs = e }
 
 -- the same amounts, written otherwise
 pub adds_as : (time other : ℕ) (laid amounts : ℕ → ℕ) (p : Placement) (t u : HubTables) → other ≡ time → ((m : ℕ) → m < 8 → amounts m ≡ laid m) → Adds other amounts p t u → Adds time laid p t u
@@ -283,164 +301,178 @@ pub holds_if_as : (time other : ℕ) (laid amounts : ℕ → ℕ) (p : Placement
 holds_if_as time other laid amounts p None e same h = h
 holds_if_as time other laid amounts p (Some t) e same h = holds_as time other laid amounts p t e same h
 
--- ---- the sums of a hub below which nothing is placed
+-- ---- the sums of a translator below which nothing is placed
 
 neither : (a b : Bool) → (a || b) ≡ false → (a ≡ false) × (b ≡ false)
 neither true b h = cc
 neither false b h = (refl, h)
 
-unserved : (f : Placed → ℕ) (placed : List Placed) (hub : ℕ) → serves placed hub ≡ false → sum_by (λ x. cond (is_hub x.want.hub hub) (f x) 0) placed ≡ 0
-unserved f [] hub h = refl
-unserved f (x ∷ xs) hub h =
-    let n = neither (is_hub x.want.hub hub) (serves xs hub) h in rw n.0 (unserved f xs hub n.1)
+unserved : (f : Placed → ℕ) (placed : List Placed) (number : ℕ) → serves placed number ≡ false
+    → sum_by (λ x. cond (is_at x.want number) (f x) 0) placed ≡ 0
+unserved f [] number h = refl
+unserved f (x ∷ xs) number h =
+    let n = neither (is_at x.want number) (serves xs number) h in rw n.0 (unserved f xs number n.1)
 
-pub no_frames : (placed : List Placed) (hub f : ℕ) → serves placed hub ≡ false → frame_sum placed hub f ≡ 0
-no_frames placed hub f h = unserved (time_at f) placed hub h
+pub no_frames : (placed : List Placed) (number f : ℕ) → serves placed number ≡ false → frame_sum placed (number / 16) (number % 16) f ≡ 0
+no_frames placed number f h = unserved (time_at f) placed number h
 
-pub no_bytes : (placed : List Placed) (hub u : ℕ) → serves placed hub ≡ false → tt_sum placed hub u ≡ 0
-no_bytes placed hub u h = unserved (laid_at u) placed hub h
+pub no_bytes : (placed : List Placed) (number u : ℕ) → serves placed number ≡ false → tt_sum placed (number / 16) (number % 16) u ≡ 0
+no_bytes placed number u h = unserved (laid_at u) placed number h
 
--- what a hub has, or an empty table, has its sums
-pub sums_or_none : (placed : List Placed) (hub : ℕ) (t : Option HubTables) → HubStands placed hub t → ((f : ℕ) → f < 1024 → slice_index (tables_or_none t).frames f ≡ frame_sum placed hub f) × ((u : ℕ) → u < 8192 → slice_index (tables_or_none t).bytes u ≡ tt_sum placed hub u)
-sums_or_none placed hub None h = (λ f k. sym (no_frames placed hub f h), λ u k. sym (no_bytes placed hub u h))
-sums_or_none placed hub (Some t) h = (λ f k. h.1.frames f k, λ u k. h.1.bytes u k)
+-- what a translator has, or an empty table, has its sums
+pub sums_or_none : (placed : List Placed) (number : ℕ) (t : Option HubTables) → HubStands placed number t
+    → ((f : ℕ) → f < 1024 → slice_index (tables_or_none t).frames f ≡ frame_sum placed (number / 16) (number % 16) f) × ((u : ℕ) → u < 8192 → slice_index (tables_or_none t).bytes u ≡ tt_sum placed (number / 16) (number % 16) u)
+sums_or_none placed number None h = (λ f k. sym (no_frames placed number f h), λ u k. sym (no_bytes placed number u h))
+sums_or_none placed number (Some t) h = (λ f k. h.1.frames f k, λ u k. h.1.bytes u k)
 
-within_of : (placed : List Placed) (hub : ℕ) (t : HubTables) → hub < 128 → Fits placed → AreHubSums placed hub t → AreWithin t
-within_of placed hub t h fit sums = record {
+within_of : (placed : List Placed) (number : ℕ) (t : HubTables) → number < 2048 → Fits placed → AreHubSums placed number t → AreWithin t
+within_of placed number t h fit sums = record {
   cells = sums.cells;
-  frames = λ f k. omega (arith, sums.frames f k, fit.frames hub f h k);
-  bytes = λ u k. omega (arith, sums.bytes u k, fit.bytes hub u h k);
+  frames = λ f k. omega (arith, sums.frames f k, fit.frames (number / 16) (number % 16) f (omega (arith, h)) (omega arith) k);
+  bytes = λ u k. omega (arith, sums.bytes u k, fit.bytes (number / 16) (number % 16) u (omega (arith, h)) (omega arith) k);
 }
 
-within_if : (placed : List Placed) (hub : ℕ) (t : Option HubTables) → hub < 128 → Fits placed → HubStands placed hub t → IfSome t AreWithin
-within_if placed hub None h fit stands = tt
-within_if placed hub (Some t) h fit stands = within_of placed hub t h fit stands.1
+within_if : (placed : List Placed) (number : ℕ) (t : Option HubTables) → number < 2048 → Fits placed → HubStands placed number t
+    → IfSome t AreWithin
+within_if placed number None h fit stands = tt
+within_if placed number (Some t) h fit stands = within_of placed number t h fit stands.1
 
-pub hub_within : (placed : List Placed) (pool : Pool) (hub : ℕ) → hub < 128 → Fits placed → IsPool placed pool → IfSome (tables_of pool hub) AreWithin
-hub_within placed pool hub h fit p = within_if placed hub (tables_of pool hub) h fit (p.hubs hub h)
+pub hub_within : (placed : List Placed) (pool : Pool) (number : ℕ) → number < 2048 → Fits placed → IsPool placed pool
+    → IfSome (tables_of pool number) AreWithin
+hub_within placed pool number h fit p = within_if placed number (tables_of pool number) h fit (p.hubs number h)
 
-pub within_at : (placed : List Placed) (pool : Pool) (hub : ℕ) (t : HubTables) → hub < 128 → Fits placed → IsPool placed pool → tables_of pool hub ≡ Some t → AreWithin t
-within_at placed pool hub t h fit p e =
-    within_of placed hub t h fit (subst (λ (o : Option HubTables). HubStands placed hub o) e (p.hubs hub h)).1
+pub within_at : (placed : List Placed) (pool : Pool) (number : ℕ) (t : HubTables) → number < 2048 → Fits placed → IsPool placed pool
+    → tables_of pool number ≡ Some t → AreWithin t
+within_at placed pool number t h fit p e =
+    within_of placed number t h fit (subst (λ (o : Option HubTables). HubStands placed number o) e (p.hubs number h)).1
 
 -- ---- one more
 
-serves_joined : (placed : List Placed) (w : Want) (p : Placement) (hub : ℕ) → serves (joined placed w p) hub ≡ (serves placed hub || is_hub w.hub hub)
-serves_joined [] w p hub = or_false (is_hub w.hub hub)
-serves_joined (x ∷ xs) w p hub =
-    ap (λ b. is_hub x.want.hub hub || b) (serves_joined xs w p hub)
-    ∙ or_assoc (is_hub x.want.hub hub) (serves xs hub) (is_hub w.hub hub)
+serves_joined : (placed : List Placed) (w : Want) (p : Placement) (number : ℕ)
+    → serves (joined placed w p) number ≡ (serves placed number || is_at w number)
+serves_joined [] w p number = or_false (is_at w number)
+serves_joined (x ∷ xs) w p number =
+    ap (λ b. is_at x.want number || b) (serves_joined xs w p number)
+    ∙ or_assoc (is_at x.want number) (serves xs number) (is_at w number)
 
-stands_joined : (placed : List Placed) (w : Want) (p : Placement) (hub : ℕ) (t : Option HubTables) → is_hub w.hub hub ≡ false → HubStands placed hub t → HubStands (joined placed w p) hub t
-stands_joined placed w p hub None off h = serves_joined placed w p hub ∙ rw (h, off) refl
-stands_joined placed w p hub (Some t) off h = (
-  serves_joined placed w p hub ∙ rw h.0 refl,
+stands_joined : (placed : List Placed) (w : Want) (p : Placement) (number : ℕ) (t : Option HubTables) → is_at w number ≡ false
+    → HubStands placed number t → HubStands (joined placed w p) number t
+stands_joined placed w p number None off h = serves_joined placed w p number ∙ rw (h, off) refl
+stands_joined placed w p number (Some t) off h = (
+  serves_joined placed w p number ∙ rw h.0 refl,
   record {
     cells = h.1.cells;
-    frames = λ f k. h.1.frames f k ∙ sym (frame_joined placed w p hub f ∙ rw off (omega arith));
-    bytes = λ u k. h.1.bytes u k ∙ sym (bytes_joined placed w p hub u ∙ rw off (omega arith));
+    frames = λ f k. h.1.frames f k ∙ sym (frame_joined placed w p (number / 16) (number % 16) f ∙ rw off (omega arith));
+    bytes = λ u k. h.1.bytes u k ∙ sym (bytes_joined placed w p (number / 16) (number % 16) u ∙ rw off (omega arith));
   },
 )
 
-had_sums : (placed : List Placed) (hub : ℕ) (o : Option HubTables) (t : HubTables) → HubStands placed hub o → Had o t → AreHubSums placed hub t
-had_sums placed hub None t h zero_t = record {
+had_sums : (placed : List Placed) (number : ℕ) (o : Option HubTables) (t : HubTables) → HubStands placed number o → Had o t
+    → AreHubSums placed number t
+had_sums placed number None t h zero_t = record {
   cells = zero_t.cells;
-  frames = λ f k. zero_t.frames f k ∙ sym (no_frames placed hub f h);
-  bytes = λ u k. zero_t.bytes u k ∙ sym (no_bytes placed hub u h);
+  frames = λ f k. zero_t.frames f k ∙ sym (no_frames placed number f h);
+  bytes = λ u k. zero_t.bytes u k ∙ sym (no_bytes placed number u h);
 }
-had_sums placed hub (Some s) t h e = subst (λ (x : HubTables). AreHubSums placed hub x) e h.1
+had_sums placed number (Some s) t h e = subst (λ (x : HubTables). AreHubSums placed number x) e h.1
 
 pub or_true : (a b : Bool) → b ≡ true → (a || b) ≡ true
 or_true true b h = refl
 or_true false b h = h
 
-own_joined : (placed : List Placed) (w : Want) (p : Placement) (hub : ℕ) (t u : HubTables) → w.hub ≡ Some hub → AreHubSums placed hub t → Adds (time_of w) (laid_in w p) p t u → HubStands (joined placed w p) hub (Some u)
-own_joined placed w p hub t u e sums adds =
-    let own : is_hub w.hub hub ≡ true = is_own_hub w.hub hub e in (
-      serves_joined placed w p hub ∙ or_true (serves placed hub) _ own,
-      record {
-        cells = adds.cells;
-        frames = λ f k.
-            omega (
-              arith,
-              adds.frames f k,
-              sums.frames f k,
-              frame_joined placed w p hub f,
-              taken (is_hub w.hub hub) (frame_share (time_of w) p f) own,
-            );
-        bytes = λ m k.
-            omega (
-              arith,
-              adds.bytes m k,
-              sums.bytes m k,
-              bytes_joined placed w p hub m,
-              taken (is_hub w.hub hub) (byte_share (laid_in w p) p m) own,
-            );
-      },
-    )
+own_joined : (placed : List Placed) (w : Want) (p : Placement) (number : ℕ) (t u : HubTables) → is_at w number ≡ true
+    → AreHubSums placed number t → Adds (time_of w) (laid_in w p) p t u → HubStands (joined placed w p) number (Some u)
+own_joined placed w p number t u own sums adds = (
+  serves_joined placed w p number ∙ or_true (serves placed number) _ own,
+  record {
+    cells = adds.cells;
+    frames = λ f k.
+        omega (
+          arith,
+          adds.frames f k,
+          sums.frames f k,
+          frame_joined placed w p (number / 16) (number % 16) f,
+          taken (is_at w number) (frame_share (time_of w) p f) own,
+        );
+    bytes = λ m k.
+        omega (
+          arith,
+          adds.bytes m k,
+          sums.bytes m k,
+          bytes_joined placed w p (number / 16) (number % 16) m,
+          taken (is_at w number) (byte_share (laid_in w p) p m) own,
+        );
+  },
+)
 
-other_hub : (o : Option ℕ) (hub h : ℕ) → o ≡ Some hub → h ≢ hub → is_hub o h ≡ false
-other_hub o hub h e ne = rw e (off_eq hub h ne)
+other_at : (w : Want) (number h : ℕ) → is_at w number ≡ true → h ≢ number → is_at w h ≡ false
+other_at w number h own ne = off_of (is_at w h) (λ here. ne (same_number w h number here own))
 
-pub pool_alone : (placed : List Placed) (pool : Pool) (w : Want) (p : Placement) → w.hub ≡ None → IsPool placed pool → IsPool (joined placed w p) pool
+pub pool_alone : (placed : List Placed) (pool : Pool) (w : Want) (p : Placement) → translator_of w ≡ None → IsPool placed pool
+    → IsPool (joined placed w p) pool
 pool_alone placed pool w p e is = record {
   count = is.count;
-  hubs = λ h k. stands_joined placed w p h (tables_of pool h) (rw e refl) (is.hubs h k);
+  hubs = λ h k. stands_joined placed w p h (tables_of pool h) (off_of (is_at w h) (none_at w h e)) (is.hubs h k);
 }
 
-at_or_off : (P : ℕ → Type 0) (h hub : ℕ) → P hub → (h ≢ hub → P h) → P h
-at_or_off P h hub here off =
-    elim (same_or_not h hub) [ inl e ↦ subst P (sym e) here | inr ne ↦ off ne ]
+at_or_off : (P : ℕ → Type 0) (h number : ℕ) → P number → (h ≢ number → P h) → P h
+at_or_off P h number here off =
+    elim (same_or_not h number) [ inl e ↦ subst P (sym e) here | inr ne ↦ off ne ]
 
 -- what stands where one entry is written
-written : (P : ℕ → Option HubTables → Type 0) (xs ys : List (Option HubTables)) (hub : ℕ) (v : Option HubTables) → ys ≡ set xs hub v → hub < length xs → P hub v → ((h : ℕ) → h ≢ hub → P h (get_or xs h None)) → (h : ℕ) → P h (get_or ys h None)
-written P xs ys hub v e inside here off h =
+written : (P : ℕ → Option HubTables → Type 0) (xs ys : List (Option HubTables)) (number : ℕ) (v : Option HubTables)
+    → ys ≡ set xs number v → number < length xs → P number v → ((h : ℕ) → h ≢ number → P h (get_or xs h None)) → (h : ℕ)
+    → P h (get_or ys h None)
+written P xs ys number v e inside here off h =
     rw e
-    (at_or_off (λ (k : ℕ). P k (get_or (set xs hub v) k None)) h hub
-    (rw (get_or-set_same xs hub v None inside) here)
-    (λ ne. rw (get_or-set_other xs hub h v None ne) (off h ne)))
+    (at_or_off (λ (k : ℕ). P k (get_or (set xs number v) k None)) h number
+    (rw (get_or-set_same xs number v None inside) here)
+    (λ ne. rw (get_or-set_other xs number h v None ne) (off h ne)))
 
-pub pool_joined : (placed : List Placed) (pool new : Pool) (w : Want) (p : Placement) (hub : ℕ) (t u : HubTables) → w.hub ≡ Some hub → hub < 128 → IsPool placed pool → Had (tables_of pool hub) t → Adds (time_of w) (laid_in w p) p t u → new.hubs ≡ set pool.hubs hub (Some u) → IsPool (joined placed w p) new
-pool_joined placed pool new w p hub t u e h is had adds hubs =
-    let sums = had_sums placed hub (tables_of pool hub) t (is.hubs hub h) had in
-    let count : length new.hubs ≡ 128 = ap length hubs ∙ length-set pool.hubs hub (Some u) ∙ is.count in
+pub pool_joined : (placed : List Placed) (pool new : Pool) (w : Want) (p : Placement) (number : ℕ) (t u : HubTables)
+    → is_at w number ≡ true → number < 2048 → IsPool placed pool → Had (tables_of pool number) t
+    → Adds (time_of w) (laid_in w p) p t u → new.hubs ≡ set pool.hubs number (Some u) → IsPool (joined placed w p) new
+pool_joined placed pool new w p number t u own h is had adds hubs =
+    let sums = had_sums placed number (tables_of pool number) t (is.hubs number h) had in
+    let count : length new.hubs ≡ 2048 = ap length hubs ∙ length-set pool.hubs number (Some u) ∙ is.count in
     record {
       count = count;
       hubs =
-          written (λ k o. k < 128 → HubStands (joined placed w p) k o) pool.hubs new.hubs hub (Some u) hubs
+          written (λ k o. k < 2048 → HubStands (joined placed w p) k o) pool.hubs new.hubs number (Some u) hubs
           (omega (arith, is.count))
-          (λ k. own_joined placed w p hub t u e sums adds)
-          (λ k ne l. stands_joined placed w p k (tables_of pool k) (other_hub w.hub hub k e ne) (is.hubs k l));
+          (λ k. own_joined placed w p number t u own sums adds)
+          (λ k ne l. stands_joined placed w p k (tables_of pool k) (other_at w number k own ne) (is.hubs k l));
     }
 
 -- ---- one less
 
-stands_less : (x : Placed) (all left : List Placed) (hub : ℕ) (t : Option HubTables) → is_hub x.want.hub hub ≡ false → IsLess x all left → HubStands all hub t → HubStands left hub t
-stands_less x all left hub None off less h = sym (less.serves hub ∙ rw off refl) ∙ h
-stands_less x all left hub (Some t) off less h = (
-  sym (less.serves hub ∙ rw off refl) ∙ h.0,
+stands_less : (x : Placed) (all left : List Placed) (number : ℕ) (t : Option HubTables) → is_at x.want number ≡ false
+    → IsLess x all left → HubStands all number t → HubStands left number t
+stands_less x all left number None off less h = sym (less.serves number ∙ rw off refl) ∙ h
+stands_less x all left number (Some t) off less h = (
+  sym (less.serves number ∙ rw off refl) ∙ h.0,
   record {
     cells = h.1.cells;
     frames = λ f k.
         omega (
           arith,
           h.1.frames f k,
-          less.sums (λ y. cond (is_hub y.want.hub hub) (time_at f y) 0),
-          left_out (is_hub x.want.hub hub) (time_at f x) off,
+          less.sums (λ y. cond (is_at y.want number) (time_at f y) 0),
+          left_out (is_at x.want number) (time_at f x) off,
         );
     bytes = λ u k.
         omega (
           arith,
           h.1.bytes u k,
-          less.sums (λ y. cond (is_hub y.want.hub hub) (laid_at u y) 0),
-          left_out (is_hub x.want.hub hub) (laid_at u x) off,
+          less.sums (λ y. cond (is_at y.want number) (laid_at u y) 0),
+          left_out (is_at x.want number) (laid_at u x) off,
         );
   },
 )
 
-own_left : (x : Placed) (all left : List Placed) (hub : ℕ) (t u : HubTables) → x.want.hub ≡ Some hub → IsLess x all left → AreHubSums all hub t → AreCells u → Adds (time_of x.want) (laid_in x.want x.placement) x.placement u t → AreHubSums left hub u
-own_left x all left hub t u e less sums cells adds =
-    let own : is_hub x.want.hub hub ≡ true = is_own_hub x.want.hub hub e in
+own_left : (x : Placed) (all left : List Placed) (number : ℕ) (t u : HubTables) → is_at x.want number ≡ true → IsLess x all left
+    → AreHubSums all number t → AreCells u → Adds (time_of x.want) (laid_in x.want x.placement) x.placement u t → AreHubSums left number u
+own_left x all left number t u own less sums cells adds =
     record {
       cells = cells;
       frames = λ f k.
@@ -448,103 +480,117 @@ own_left x all left hub t u e less sums cells adds =
             arith,
             adds.frames f k,
             sums.frames f k,
-            less.sums (λ y. cond (is_hub y.want.hub hub) (time_at f y) 0),
-            taken (is_hub x.want.hub hub) (time_at f x) own,
+            less.sums (λ y. cond (is_at y.want number) (time_at f y) 0),
+            taken (is_at x.want number) (time_at f x) own,
           );
       bytes = λ m k.
           omega (
             arith,
             adds.bytes m k,
             sums.bytes m k,
-            less.sums (λ y. cond (is_hub y.want.hub hub) (laid_at m y) 0),
-            taken (is_hub x.want.hub hub) (laid_at m x) own,
+            less.sums (λ y. cond (is_at y.want number) (laid_at m y) 0),
+            taken (is_at x.want number) (laid_at m x) own,
           );
     }
 
-pub less_alone : (x : Placed) (all left : List Placed) (pool : Pool) → x.want.hub ≡ None → IsLess x all left → IsPool all pool → IsPool left pool
+pub less_alone : (x : Placed) (all left : List Placed) (pool : Pool) → translator_of x.want ≡ None → IsLess x all left
+    → IsPool all pool → IsPool left pool
 less_alone x all left pool e less is = record {
   count = is.count;
-  hubs = λ h k. stands_less x all left h (tables_of pool h) (rw e refl) less (is.hubs h k);
+  hubs = λ h k. stands_less x all left h (tables_of pool h) (off_of (is_at x.want h) (none_at x.want h e)) less (is.hubs h k);
 }
 
--- the hub of what goes has tables, and they hold what it added
-pub less_some : (x : Placed) (all left : List Placed) (pool : Pool) (hub : ℕ) → x.want.hub ≡ Some hub → hub < 128 → IsLess x all left → IsPool all pool → is_some (tables_of pool hub) ≡ true
-less_some x all left pool hub e h less is =
-    stands_some all hub (tables_of pool hub) (is.hubs hub h)
-    ∙ less.serves hub ∙ rw (is_own_hub x.want.hub hub e) refl
+-- the translator of what goes has tables, and they hold what it added
+pub less_some : (x : Placed) (all left : List Placed) (pool : Pool) (number : ℕ) → is_at x.want number ≡ true → number < 2048
+    → IsLess x all left → IsPool all pool → is_some (tables_of pool number) ≡ true
+less_some x all left pool number own h less is =
+    stands_some all number (tables_of pool number) (is.hubs number h)
+    ∙ less.serves number ∙ rw own refl
 
-sums_at : (placed : List Placed) (hub : ℕ) (o : Option HubTables) (t : HubTables) → o ≡ Some t → HubStands placed hub o → AreHubSums placed hub t
-sums_at placed hub o t e h = (subst (λ (x : Option HubTables). HubStands placed hub x) e h).1
+sums_at : (placed : List Placed) (number : ℕ) (o : Option HubTables) (t : HubTables) → o ≡ Some t → HubStands placed number o
+    → AreHubSums placed number t
+sums_at placed number o t e h = (subst (λ (x : Option HubTables). HubStands placed number x) e h).1
 
-holds_of : (x : Placed) (all left : List Placed) (hub : ℕ) (t : HubTables) → x.want.hub ≡ Some hub → IsLess x all left → AreHubSums all hub t → Holds (time_of x.want) (laid_in x.want x.placement) x.placement t
-holds_of x all left hub t e less sums =
-    let own : is_hub x.want.hub hub ≡ true = is_own_hub x.want.hub hub e in
+holds_of : (x : Placed) (all left : List Placed) (number : ℕ) (t : HubTables) → is_at x.want number ≡ true → IsLess x all left
+    → AreHubSums all number t → Holds (time_of x.want) (laid_in x.want x.placement) x.placement t
+holds_of x all left number t own less sums =
     record {
       cells = sums.cells;
       frames = λ f k a.
           omega (
             arith,
             sums.frames f k,
-            less.sums (λ y. cond (is_hub y.want.hub hub) (time_at f y) 0),
-            taken (is_hub x.want.hub hub) (time_at f x) own,
+            less.sums (λ y. cond (is_at y.want number) (time_at f y) 0),
+            taken (is_at x.want number) (time_at f x) own,
             taken (is_active x.placement f) (time_of x.want) a,
           );
       bytes = λ m k a.
           omega (
             arith,
             sums.bytes m k,
-            less.sums (λ y. cond (is_hub y.want.hub hub) (laid_at m y) 0),
-            taken (is_hub x.want.hub hub) (laid_at m x) own,
+            less.sums (λ y. cond (is_at y.want number) (laid_at m y) 0),
+            taken (is_at x.want number) (laid_at m x) own,
             taken (is_active x.placement (m / 8)) (laid_in x.want x.placement (m % 8)) a,
           );
     }
 
-holds_if : (x : Placed) (all left : List Placed) (hub : ℕ) (o : Option HubTables) → x.want.hub ≡ Some hub → IsLess x all left → HubStands all hub o → IfSome o (Holds (time_of x.want) (laid_in x.want x.placement) x.placement)
-holds_if x all left hub None e less h = tt
-holds_if x all left hub (Some t) e less h = holds_of x all left hub t e less h.1
+holds_if : (x : Placed) (all left : List Placed) (number : ℕ) (o : Option HubTables) → is_at x.want number ≡ true → IsLess x all left
+    → HubStands all number o → IfSome o (Holds (time_of x.want) (laid_in x.want x.placement) x.placement)
+holds_if x all left number None own less h = tt
+holds_if x all left number (Some t) own less h = holds_of x all left number t own less h.1
 
-pub less_holds : (x : Placed) (all left : List Placed) (pool : Pool) (hub : ℕ) → x.want.hub ≡ Some hub → hub < 128 → IsLess x all left → IsPool all pool → IfSome (tables_of pool hub) (Holds (time_of x.want) (laid_in x.want x.placement) x.placement)
-less_holds x all left pool hub e h less is = holds_if x all left hub (tables_of pool hub) e less (is.hubs hub h)
+pub less_holds : (x : Placed) (all left : List Placed) (pool : Pool) (number : ℕ) → is_at x.want number ≡ true → number < 2048
+    → IsLess x all left → IsPool all pool → IfSome (tables_of pool number) (Holds (time_of x.want) (laid_in x.want x.placement) x.placement)
+less_holds x all left pool number own h less is = holds_if x all left number (tables_of pool number) own less (is.hubs number h)
 
--- what is written for the hub: its sums where something is left below it, else nothing
-less_written : (x : Placed) (all left : List Placed) (pool new : Pool) (hub : ℕ) (v : Option HubTables) → x.want.hub ≡ Some hub → hub < 128 → IsLess x all left → IsPool all pool → new.hubs ≡ set pool.hubs hub v → HubStands left hub v → IsPool left new
-less_written x all left pool new hub v e h less is hubs stands =
-    let count : length new.hubs ≡ 128 = ap length hubs ∙ length-set pool.hubs hub v ∙ is.count in
+-- what is written for the translator: its sums where something is left below it, else nothing
+less_written : (x : Placed) (all left : List Placed) (pool new : Pool) (number : ℕ) (v : Option HubTables)
+    → is_at x.want number ≡ true → number < 2048 → IsLess x all left → IsPool all pool → new.hubs ≡ set pool.hubs number v
+    → HubStands left number v → IsPool left new
+less_written x all left pool new number v own h less is hubs stands =
+    let count : length new.hubs ≡ 2048 = ap length hubs ∙ length-set pool.hubs number v ∙ is.count in
     record {
       count = count;
       hubs =
-          written (λ k o. k < 128 → HubStands left k o) pool.hubs new.hubs hub v hubs
+          written (λ k o. k < 2048 → HubStands left k o) pool.hubs new.hubs number v hubs
           (omega (arith, is.count))
           (λ k. stands)
-          (λ k ne l. stands_less x all left k (tables_of pool k) (other_hub x.want.hub hub k e ne) less (is.hubs k l));
+          (λ k ne l. stands_less x all left k (tables_of pool k) (other_at x.want number k own ne) less (is.hubs k l));
     }
 
-pub less_kept : (x : Placed) (all left : List Placed) (pool new : Pool) (hub : ℕ) (t u : HubTables) → x.want.hub ≡ Some hub → hub < 128 → IsLess x all left → IsPool all pool → tables_of pool hub ≡ Some t → AreCells u → Adds (time_of x.want) (laid_in x.want x.placement) x.placement u t → new.hubs ≡ set pool.hubs hub (Some u) → serves left hub ≡ true → IsPool left new
-less_kept x all left pool new hub t u e h less is had cells adds hubs on =
-    let sums = sums_at all hub (tables_of pool hub) t had (is.hubs hub h) in
-    less_written x all left pool new hub (Some u) e h less is hubs (on, own_left x all left hub t u e less sums cells adds)
+pub less_kept : (x : Placed) (all left : List Placed) (pool new : Pool) (number : ℕ) (t u : HubTables) → is_at x.want number ≡ true
+    → number < 2048 → IsLess x all left → IsPool all pool → tables_of pool number ≡ Some t → AreCells u
+    → Adds (time_of x.want) (laid_in x.want x.placement) x.placement u t → new.hubs ≡ set pool.hubs number (Some u)
+    → serves left number ≡ true → IsPool left new
+less_kept x all left pool new number t u own h less is had cells adds hubs on =
+    let sums = sums_at all number (tables_of pool number) t had (is.hubs number h) in
+    less_written x all left pool new number (Some u) own h less is hubs (on, own_left x all left number t u own less sums cells adds)
 
-pub less_freed : (x : Placed) (all left : List Placed) (pool new : Pool) (hub : ℕ) → x.want.hub ≡ Some hub → hub < 128 → IsLess x all left → IsPool all pool → new.hubs ≡ set pool.hubs hub None → serves left hub ≡ false → IsPool left new
-less_freed x all left pool new hub e h less is hubs off =
-    less_written x all left pool new hub None e h less is hubs off
+pub less_freed : (x : Placed) (all left : List Placed) (pool new : Pool) (number : ℕ) → is_at x.want number ≡ true → number < 2048
+    → IsLess x all left → IsPool all pool → new.hubs ≡ set pool.hubs number None → serves left number ≡ false → IsPool left new
+less_freed x all left pool new number own h less is hubs off =
+    less_written x all left pool new number None own h less is hubs off
 
--- the tables of a hub below which nothing is left are 0
-pub less_zero : (x : Placed) (all left : List Placed) (pool : Pool) (hub : ℕ) (t u : HubTables) → x.want.hub ≡ Some hub → hub < 128 → IsLess x all left → IsPool all pool → tables_of pool hub ≡ Some t → AreCells u → Adds (time_of x.want) (laid_in x.want x.placement) x.placement u t → serves left hub ≡ false → AreZero u
-less_zero x all left pool hub t u e h less is had cells adds off =
-    let sums = sums_at all hub (tables_of pool hub) t had (is.hubs hub h) in
-    let left_sums = own_left x all left hub t u e less sums cells adds in
+-- the tables of a translator below which nothing is left are 0
+pub less_zero : (x : Placed) (all left : List Placed) (pool : Pool) (number : ℕ) (t u : HubTables) → is_at x.want number ≡ true
+    → number < 2048 → IsLess x all left → IsPool all pool → tables_of pool number ≡ Some t → AreCells u
+    → Adds (time_of x.want) (laid_in x.want x.placement) x.placement u t → serves left number ≡ false → AreZero u
+less_zero x all left pool number t u own h less is had cells adds off =
+    let sums = sums_at all number (tables_of pool number) t had (is.hubs number h) in
+    let left_sums = own_left x all left number t u own less sums cells adds in
     record {
       cells = cells;
-      frames = λ f k. left_sums.frames f k ∙ no_frames left hub f off;
-      bytes = λ m k. left_sums.bytes m k ∙ no_bytes left hub m off;
+      frames = λ f k. left_sums.frames f k ∙ no_frames left number f off;
+      bytes = λ m k. left_sums.bytes m k ∙ no_bytes left number m off;
     }
 
--- ---- the budgets below a hub
+-- ---- the budgets below a translator
 
-pub at_taken : (old mid : Pool) (hub time : ℕ) (laid : ℕ → ℕ) (p : Placement) → length old.hubs ≡ 128 → hub < 128 → (g : TakesAt old mid hub time laid p) → tables_of mid hub ≡ Some g.now
-at_taken old mid hub time laid p count h g =
-    ap (λ (xs : List (Option HubTables)). get_or xs hub None) g.hubs
-    ∙ get_or-set_same old.hubs hub (Some g.now) None (omega (arith, count))
+pub at_taken : (old mid : Pool) (number time : ℕ) (laid : ℕ → ℕ) (p : Placement) → length old.hubs ≡ 2048 → number < 2048
+    → (g : TakesAt old mid number time laid p) → tables_of mid number ≡ Some g.now
+at_taken old mid number time laid p count h g =
+    ap (λ (xs : List (Option HubTables)). get_or xs number None) g.hubs
+    ∙ get_or-set_same old.hubs number (Some g.now) None (omega (arith, count))
 
 below_to : (time other : ℕ) (laid amounts : ℕ → ℕ) (t : HubTables) (p : Placement) → other ≡ time → ((m : ℕ) → m < 8 → amounts m ≡ laid m) → BelowFits t other amounts p → BelowFits t time laid p
 below_to time other laid amounts t p e same fits = record {

@@ -4,7 +4,7 @@
 --     peak P w p              the greatest microframe sum over the microframes of p, with it included
 --     best P w                the allowed placement that keeps every budget with the least peak, the first of these
 --     answer a w, admitted    the answer to a want, and the plan after it
---     is_placed, hub_of       an id is placed; its hub
+--     is_placed, translator_in    an id is placed; the number of its translator
 --     without                 the plan without an id
 use Rattle.std.specs.Prelude.{◌≡◌, ◌≢◌, ℕ, ◌/◌, ◌%◌, ◌<◌, ◌≤◌, max, zero, suc, Bool, ◌&&◌, ◌||◌, not, nat_eq, nat_lt, if◌then◌else◌}
 use Rattle.std.specs.Prelude.{List, [], ◌∷◌, ◌++◌, length, filter, slice_get, AllPairs, Option, Some, None, Result, Ok, Err}
@@ -15,7 +15,7 @@ use Rattle.bandwidth.specs.declared.placements.Placed.{Placed}
 use Rattle.bandwidth.specs.declared.placements.Refused.{Refused}
 use Rattle.bandwidth.specs.declared.placements.Refused.TheVariants.{NoPlacement, Room}
 use Rattle.bandwidth.specs.Placements.{has, allowed}
-use Rattle.bandwidth.specs.Sums.{is_active, load, Fits, fits}
+use Rattle.bandwidth.specs.Sums.{is_active, load, translator_of, Fits, fits}
 
 pub record Admissions : Type 0 where
   pub placed : List Placed
@@ -72,10 +72,10 @@ AreDistinct placed = AllPairs (λ x y. x.want.id ≢ y.want.id) placed
 abbrev pub is_placed : Admissions → ℕ → Bool
 is_placed a id = list_any (λ x. nat_eq x.want.id id) a.placed
 
--- the hub of the one with this id, if it is placed and has one
-abbrev pub hub_of : List Placed → ℕ → Option ℕ
-hub_of [] id = None
-hub_of (x ∷ xs) id = if nat_eq x.want.id id then x.want.hub else hub_of xs id
+-- the number of the translator of the one with this id, if it is placed and has one
+abbrev pub translator_in : List Placed → ℕ → Option ℕ
+translator_in [] id = None
+translator_in (x ∷ xs) id = if nat_eq x.want.id id then translator_of x.want else translator_in xs id
 
 abbrev pub without : Admissions → ℕ → Admissions
 without a id = record a { placed = filter (λ x. not (nat_eq x.want.id id)) a.placed }

@@ -84,6 +84,7 @@ pub record IsWant (w : Want) : Type 0 where
   pub some_multi : 1 ≤ w.multi
   pub multi : w.multi ≤ most_multi w.speed
   pub hub : is_some w.hub ≡ is_classic w.speed
+  pub tt : w.tt < 16
 
 -- how many first microframes there are, and the masks from each on
 pub record PlacementRow : Type 0 where

@@ -3,10 +3,13 @@
 --     cost_in w p m            the bus time, in picoseconds, of microframe m of an active frame
 --     laid_in w p m            the byte-times laid in the translator in microframe m of an active frame
 --     load P u                 the bus time of microframe u
---     frame_sum P hub f        the classic bus time below the hub in frame f, in picoseconds
---     tt_sum P hub u           the byte-times in the hub's translator in microframe u
+--     is_translator w hub port  the translator of this hub that serves this port, 0 for all, serves it
+--     translator_of w          the number of its translator, if one serves it: 16 for each address of a hub, and its port
+--     is_at w n                the translator with this number serves it
+--     frame_sum P hub port f   the classic bus time below the translator in frame f, in picoseconds
+--     tt_sum P hub port u      the byte-times in the translator in microframe u
 --     Fits P, fits P           each sum is within its budget: as a fact, as a test
-use Rattle.std.specs.Prelude.{ℕ, zero, suc, ◌-◌, ◌*◌, ◌/◌, ◌%◌, ◌<◌, ◌≤◌, min, Bool, true, false, ◌&&◌, nat_eq, nat_le, if◌then◌else◌, List, sum_by, Option, Some, None}
+use Rattle.std.specs.Prelude.{ℕ, zero, suc, ◌+◌, ◌-◌, ◌*◌, ◌/◌, ◌%◌, ◌<◌, ◌≤◌, min, Bool, true, false, ◌&&◌, nat_eq, nat_le, if◌then◌else◌, List, sum_by, Option, Some, None, option_map}
 use Rattle.usb_base.specs.declared.packets.Speed.TheVariants.{High}
 use Rattle.usb_base.specs.declared.packets.EpKind.{EpKind}
 use Rattle.usb_base.specs.declared.packets.EpKind.TheVariants.{Iso}
@@ -71,20 +74,30 @@ abbrev pub is_hub : Option ℕ → ℕ → Bool
 is_hub None hub = false
 is_hub (Some h) hub = nat_eq h hub
 
+-- a hub has one translator for all its ports, here 0, or one for each port (USB 2.0, 11.14)
+abbrev pub is_translator : Want → ℕ → ℕ → Bool
+is_translator w hub port = is_hub w.hub hub && nat_eq w.tt port
+
+abbrev pub translator_of : Want → Option ℕ
+translator_of w = option_map (λ hub. 16 * hub + w.tt) w.hub
+
+abbrev pub is_at : Want → ℕ → Bool
+is_at w n = is_translator w (n / 16) (n % 16)
+
 abbrev pub load : List Placed → ℕ → ℕ
 load placed u = sum_by (cost_at u) placed
 
-abbrev pub frame_sum : List Placed → ℕ → ℕ → ℕ
-frame_sum placed hub f = sum_by (λ x. if is_hub x.want.hub hub then time_at f x else 0) placed
+abbrev pub frame_sum : List Placed → ℕ → ℕ → ℕ → ℕ
+frame_sum placed hub port f = sum_by (λ x. if is_translator x.want hub port then time_at f x else 0) placed
 
-abbrev pub tt_sum : List Placed → ℕ → ℕ → ℕ
-tt_sum placed hub u = sum_by (λ x. if is_hub x.want.hub hub then laid_at u x else 0) placed
+abbrev pub tt_sum : List Placed → ℕ → ℕ → ℕ → ℕ
+tt_sum placed hub port u = sum_by (λ x. if is_translator x.want hub port then laid_at u x else 0) placed
 
--- 8,192 microframes, 1,024 frames, 128 addresses of hubs
+-- 8,192 microframes, 1,024 frames, 128 addresses of hubs, each with 16 translators at most
 pub record Fits (placed : List Placed) : Type 0 where
   pub loads : (u : ℕ) → u < 8192 → load placed u ≤ microframe_budget
-  pub frames : (hub f : ℕ) → hub < 128 → f < frame_list_length → frame_sum placed hub f ≤ frame_budget
-  pub bytes : (hub u : ℕ) → hub < 128 → u < 8192 → tt_sum placed hub u ≤ byte_times_of_microframe
+  pub frames : (hub port f : ℕ) → hub < 128 → port < 16 → f < frame_list_length → frame_sum placed hub port f ≤ frame_budget
+  pub bytes : (hub port u : ℕ) → hub < 128 → port < 16 → u < 8192 → tt_sum placed hub port u ≤ byte_times_of_microframe
 
 -- each number below n passes
 unfoldable pub each_below : ℕ → (ℕ → Bool) → Bool
@@ -94,5 +107,7 @@ each_below (suc n) test = each_below n test && test n
 unfoldable pub fits : List Placed → Bool
 fits placed =
     each_below 8192 (λ u. nat_le (load placed u) microframe_budget)
-    && (each_below 128 (λ hub. each_below frame_list_length (λ f. nat_le (frame_sum placed hub f) frame_budget))
-    && each_below 128 (λ hub. each_below 8192 (λ u. nat_le (tt_sum placed hub u) byte_times_of_microframe)))
+    && (each_below 128
+    (λ hub. each_below 16 (λ port. each_below frame_list_length (λ f. nat_le (frame_sum placed hub port f) frame_budget)))
+    && each_below 128
+    (λ hub. each_below 16 (λ port. each_below 8192 (λ u. nat_le (tt_sum placed hub port u) byte_times_of_microframe))))

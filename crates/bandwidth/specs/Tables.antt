@@ -1,13 +1,13 @@
 -- What a plan keeps beside its list: a table for each sum that an admission asks for (USB 2.0, 5.11.3 and 11.18).
---     HubTables             the tables of one hub: the classic bus time of each frame and the byte-times of each microframe
---     Pool                  the tables that hubs have, by address, and those that no hub has
+--     HubTables             the tables of one translator: the classic bus time of each frame and the byte-times of each microframe
+--     Pool                  the tables that translators have, by their numbers, and those that no translator has
 --     Book                  the list, its room, the bus time of each microframe, and the pool
 --     IsPlaced x            what is placed was asked for rightly and has a place
---     serves P hub          something is placed below the hub
---     HubStands P hub t     a hub has tables exactly where something is placed below it, and their cells are its sums
+--     serves P n               something is placed below the translator
+--     HubStands P n t          a translator has tables exactly where something is placed below it, and their cells are its sums
 --     IsLess x P Q          Q is P without one x
 --     IsBook b              every cell is its sum, and what is placed keeps every budget
---     sheet_at b hub        what an admission below this hub, if there is one, sees of the tables
+--     sheet_at b n             what an admission below this translator, if there is one, sees of the tables
 --     LoadsFit, FramesFit, BytesFit      the cells of a placement's own frames keep their budget with it
 --     CellsWithin, FrameWithin           the cells that a placement adds to are at most so much with it
 use Rattle.std.specs.Prelude.{◌≡◌, ◌↔◌, ℕ, ◌+◌, ◌*◌, ◌/◌, ◌%◌, ◌<◌, ◌≤◌, min, Bool, true, false, ◌||◌, if◌then◌else◌}
@@ -19,7 +19,7 @@ use Rattle.bandwidth.specs.declared.placements.Placement.{Placement}
 use Rattle.bandwidth.specs.declared.placements.Placed.{Placed}
 use Rattle.bandwidth.specs.Placements.{IsWant, IsPlace}
 use Rattle.bandwidth.specs.Admission.{AreDistinct}
-use Rattle.bandwidth.specs.Sums.{load, frame_sum, tt_sum, Fits, is_active, is_hub, laid_in, time_of}
+use Rattle.bandwidth.specs.Sums.{load, frame_sum, tt_sum, Fits, is_active, is_at, translator_of, laid_in, time_of}
 
 -- 1,024 frames and 8,192 microframes
 pub record HubTables : Type 0 where
@@ -27,7 +27,7 @@ pub record HubTables : Type 0 where
   pub bytes : List ℕ
 
 pub record Pool : Type 0 where
-  pub hubs : List (Option HubTables)  -- by address
+  pub hubs : List (Option HubTables)  -- by the number of the translator
   pub free : List HubTables
 
 pub record Book : Type 0 where
@@ -37,7 +37,7 @@ pub record Book : Type 0 where
   pub pool : Pool
 
 abbrev pub tables_of : Pool → ℕ → Option HubTables
-tables_of pool hub = slice_index_or pool.hubs hub None
+tables_of pool number = slice_index_or pool.hubs number None
 
 -- how many tables there are
 abbrev pub pool_size : Pool → ℕ
@@ -52,31 +52,31 @@ pub record AreZero (t : HubTables) : Type 0 where
   pub frames : (f : ℕ) → f < frame_list_length → slice_index t.frames f ≡ 0
   pub bytes : (u : ℕ) → u < 8192 → slice_index t.bytes u ≡ 0
 
-pub record AreHubSums (placed : List Placed) (hub : ℕ) (t : HubTables) : Type 0 where
+pub record AreHubSums (placed : List Placed) (number : ℕ) (t : HubTables) : Type 0 where
   pub cells : AreCells t
-  pub frames : (f : ℕ) → f < frame_list_length → slice_index t.frames f ≡ frame_sum placed hub f
-  pub bytes : (u : ℕ) → u < 8192 → slice_index t.bytes u ≡ tt_sum placed hub u
+  pub frames : (f : ℕ) → f < frame_list_length → slice_index t.frames f ≡ frame_sum placed (number / 16) (number % 16) f
+  pub bytes : (u : ℕ) → u < 8192 → slice_index t.bytes u ≡ tt_sum placed (number / 16) (number % 16) u
 
 pub record IsPlaced (x : Placed) : Type 0 where
   pub want : IsWant x.want
   pub place : IsPlace x.placement
 
 abbrev pub serves : List Placed → ℕ → Bool
-serves placed hub = list_any (λ x. is_hub x.want.hub hub) placed
+serves placed number = list_any (λ x. is_at x.want number) placed
 
 abbrev pub HubStands : List Placed → ℕ → Option HubTables → Type 0
-HubStands placed hub None = serves placed hub ≡ false
-HubStands placed hub (Some t) = (serves placed hub ≡ true) × AreHubSums placed hub t
+HubStands placed number None = serves placed number ≡ false
+HubStands placed number (Some t) = (serves placed number ≡ true) × AreHubSums placed number t
 
 -- left is all without one x
 pub record IsLess (x : Placed) (all left : List Placed) : Type 0 where
   pub sums : (f : Placed → ℕ) → sum_by f all ≡ sum_by f left + f x
-  pub serves : (hub : ℕ) → serves all hub ≡ (is_hub x.want.hub hub || serves left hub)
+  pub serves : (number : ℕ) → serves all number ≡ (is_at x.want number || serves left number)
 
--- 128 addresses
+-- 2,048 translators
 pub record IsPool (placed : List Placed) (pool : Pool) : Type 0 where
-  pub count : length pool.hubs ≡ 128
-  pub hubs : (hub : ℕ) → hub < 128 → HubStands placed hub (tables_of pool hub)
+  pub count : length pool.hubs ≡ 2048
+  pub hubs : (number : ℕ) → number < 2048 → HubStands placed number (tables_of pool number)
 
 -- the pool stands for a list that has one x more
 pub record HadMore (x : Placed) (left : List Placed) (next : Pool) : Type 0 where
@@ -84,9 +84,9 @@ pub record HadMore (x : Placed) (left : List Placed) (next : Pool) : Type 0 wher
   pub less : IsLess x all left
   pub pool : IsPool all next
 
--- what no hub has is 0, and there is room for all of it
+-- what no translator has is 0, and there is room for all of it
 pub record IsRoomy (pool : Pool) (room : ℕ) : Type 0 where
-  pub count : length pool.hubs ≡ 128
+  pub count : length pool.hubs ≡ 2048
   pub free : All AreZero pool.free
   pub fits : pool_size pool ≤ room
 
@@ -95,13 +95,13 @@ pub record IsBook (b : Book) : Type 0 where
   pub cells : length b.loads ≡ 8192
   pub loads : (u : ℕ) → u < 8192 → slice_index b.loads u ≡ load b.placed u
   pub pool : IsPool b.placed b.pool
-  pub size : pool_size b.pool ≡ min b.room 128
+  pub size : pool_size b.pool ≡ min b.room 2048
   pub room : length b.placed ≤ b.room
   pub placed : All IsPlaced b.placed
   pub fits : Fits b.placed
   pub ids : AreDistinct b.placed
 
--- ---- what a placement below a hub adds to its tables, by its classic time and its byte-times in a frame
+-- ---- what a placement below a translator adds to its tables, by its classic time and its byte-times in a frame
 
 abbrev pub frame_share : ℕ → Placement → ℕ → ℕ
 frame_share time p f = if is_active p f then time else 0
@@ -127,33 +127,33 @@ pub record AreWithin (t : HubTables) : Type 0 where
   pub frames : (f : ℕ) → f < frame_list_length → slice_index t.frames f ≤ frame_budget
   pub bytes : (m : ℕ) → m < 8192 → slice_index t.bytes m ≤ byte_times_of_microframe
 
--- the tables that a hub has, or new ones
+-- the tables that a translator has, or new ones
 abbrev pub Had : Option HubTables → HubTables → Type 0
 Had None t = AreZero t
 Had (Some s) t = s ≡ t
 
--- the hub without tables gets some
-pub record Gives (old new : Pool) (hub : ℕ) : Type 0 where
+-- the translator without tables gets some
+pub record Gives (old new : Pool) (number : ℕ) : Type 0 where
   pub given : HubTables
   pub zero : AreZero given
-  pub hubs : new.hubs ≡ slice_set old.hubs hub (Some given)
+  pub hubs : new.hubs ≡ slice_set old.hubs number (Some given)
 
--- a placement more stands in the tables of the hub
-pub record AddsAt (old new : Pool) (hub time : ℕ) (laid : ℕ → ℕ) (p : Placement) : Type 0 where
+-- a placement more stands in the tables of the translator
+pub record AddsAt (old new : Pool) (number time : ℕ) (laid : ℕ → ℕ) (p : Placement) : Type 0 where
   pub was : HubTables
   pub now : HubTables
-  pub had : Had (tables_of old hub) was
+  pub had : Had (tables_of old number) was
   pub adds : Adds time laid p was now
-  pub hubs : new.hubs ≡ slice_set old.hubs hub (Some now)
+  pub hubs : new.hubs ≡ slice_set old.hubs number (Some now)
 
 -- a placement less
-pub record TakesAt (old new : Pool) (hub time : ℕ) (laid : ℕ → ℕ) (p : Placement) : Type 0 where
+pub record TakesAt (old new : Pool) (number time : ℕ) (laid : ℕ → ℕ) (p : Placement) : Type 0 where
   pub was : HubTables
   pub now : HubTables
-  pub had : tables_of old hub ≡ Some was
+  pub had : tables_of old number ≡ Some was
   pub cells : AreCells now
   pub adds : Adds time laid p now was
-  pub hubs : new.hubs ≡ slice_set old.hubs hub (Some now)
+  pub hubs : new.hubs ≡ slice_set old.hubs number (Some now)
 
 -- ---- what an admission sees
 
@@ -163,23 +163,27 @@ pub record Sheet : Type 0 where
   pub frames : List ℕ
   pub bytes : List ℕ
 
--- a hub without tables has no sum above 0, as an empty table
+-- a translator without tables has no sum above 0, as an empty table
 abbrev pub tables_or_none : Option HubTables → HubTables
 tables_or_none None = record { frames = []; bytes = [] }
 tables_or_none (Some t) = t
 
 abbrev pub tables_at : Pool → Option ℕ → HubTables
 tables_at pool None = record { frames = []; bytes = [] }
-tables_at pool (Some hub) = tables_or_none (tables_of pool hub)
+tables_at pool (Some number) = tables_or_none (tables_of pool number)
 
 abbrev pub sheet_at : Book → Option ℕ → Sheet
-sheet_at b hub =
-    record { placed = b.placed; loads = b.loads; frames = (tables_at b.pool hub).frames; bytes = (tables_at b.pool hub).bytes }
+sheet_at b number =
+    record { placed = b.placed; loads = b.loads; frames = (tables_at b.pool number).frames; bytes = (tables_at b.pool number).bytes }
 
-pub record AreSums (s : Sheet) (hub : Option ℕ) : Type 0 where
+pub record AreSums (s : Sheet) (number : Option ℕ) : Type 0 where
   pub loads : (u : ℕ) → u < 8192 → slice_index s.loads u ≡ load s.placed u
-  pub frames : (h f : ℕ) → hub ≡ Some h → h < 128 → f < frame_list_length → slice_index s.frames f ≡ frame_sum s.placed h f
-  pub bytes : (h u : ℕ) → hub ≡ Some h → h < 128 → u < 8192 → slice_index s.bytes u ≡ tt_sum s.placed h u
+  pub frames :
+      (h f : ℕ) → number ≡ Some h → h < 2048 → f < frame_list_length
+      → slice_index s.frames f ≡ frame_sum s.placed (h / 16) (h % 16) f
+  pub bytes :
+      (h u : ℕ) → number ≡ Some h → h < 2048 → u < 8192
+      → slice_index s.bytes u ≡ tt_sum s.placed (h / 16) (h % 16) u
 
 -- what must stay within the budgets in the placement's own frames
 
@@ -207,8 +211,10 @@ pub record BelowFits (t : HubTables) (time : ℕ) (laid : ℕ → ℕ) (p : Plac
   pub frames : FramesFit t.frames time p
   pub bytes : BytesFit t.bytes laid p
 
--- what the answer r of a test of the budgets below the hub, if there is one, says
+-- what the answer r of a test of the budgets below the translator, if there is one, says
 pub record Tells (b : Book) (w : Want) (p : Placement) (r : Bool) : Type 0 where
-  pub alone : w.hub ≡ None → r ≡ true
-  pub fits : (hub : ℕ) → w.hub ≡ Some hub → (r ≡ true) ↔ (BelowFits (tables_at b.pool (Some hub)) (time_of w) (laid_in w p) p)
-  pub small : (hub : ℕ) → w.hub ≡ Some hub → hub < 128
+  pub alone : translator_of w ≡ None → r ≡ true
+  pub fits :
+      (number : ℕ) → translator_of w ≡ Some number
+      → (r ≡ true) ↔ (BelowFits (tables_at b.pool (Some number)) (time_of w) (laid_in w p) p)
+  pub small : (number : ℕ) → translator_of w ≡ Some number → number < 2048

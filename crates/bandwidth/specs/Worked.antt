@@ -5,6 +5,7 @@ use Rattle.usb_base.specs.declared.packets.EpKind.TheVariants.{Iso, Interrupt}
 use Rattle.usb_base.specs.declared.packets.Dir.TheVariants.{In, Out}
 use Rattle.bandwidth.specs.declared.placements.Want.{Want}
 use Rattle.bandwidth.specs.declared.placements.Placement.{Placement}
+use Rattle.bandwidth.specs.declared.placements.Placed.{Placed}
 
 -- a high-speed interrupt IN endpoint of 8 bytes
 abbrev pub mouse : ℕ → Want
@@ -22,3 +23,7 @@ speaker = record { id = 4; speed = Full; kind = Iso; dir = Out; max = 1023; mult
 
 abbrev pub placed : ℕ → ℕ → ℕ → ℕ → Placement
 placed period phase smask cmask = record { period = period; phase = phase; smask = smask; cmask = cmask }
+
+-- the keyboard at the translator of this port
+abbrev pub at_port : ℕ → Placed
+at_port port = record { want = record keyboard { tt = port }; placement = placed 8 0 1 28 }

@@ -4,12 +4,12 @@ ghost use Rattle.std.specs.List.{list_any, position};
 ghost use Rattle.std.specs.Option.{option_copied};
 ghost use Rattle.usb_base.specs.Limits.{microframe_budget};
 ghost use Rattle.bandwidth.specs.Placements.{IsWant, IsPlace};
-ghost use Rattle.bandwidth.specs.Sums.{Fits};
+ghost use Rattle.bandwidth.specs.Sums.{Fits, translator_of};
 ghost use Rattle.bandwidth.specs.Admission.{joined, keeps, peak};
 ghost use Rattle.bandwidth.specs.Shapes.{turns, cells, cost_cells, laid_cells, IsShape, IsOf};
 ghost use Rattle.bandwidth.specs.Tables.{IsPool, HadMore, AreWithin, serves, tables_of, pool_size};
 
-use crate::asks::{byte_times_of, costs_of, is_below, time_in_frame};
+use crate::asks::{byte_times_of, costs_of, is_served_by, time_in_frame, translator_for};
 use crate::hub_pool::HubPool;
 use crate::hub_sums::HubSums;
 use crate::limits::{first_sum, least_cost, peak_within};
@@ -17,15 +17,16 @@ use crate::placements::{Placed, Placement, Want};
 use crate::shapes::Shape;
 use crate::table::Table;
 use crate::tables::{add_microframes, sub_microframes};
+use crate::translators::Translator;
 use bandwidth_steps::Steps;
 use std::alloc::Global;
 use std::marker::Model;
 use std::sync::ledger::Ledger;
+use usb_base::Memory;
 use usb_base::limits::FRAME_BUDGET;
-use usb_base::{DevAddr, Memory};
 
-/// The addresses of hubs.
-const ADDRESSES: u32 = 128;
+/// 16 translators for each of the 128 addresses of hubs.
+const TRANSLATORS: u32 = 2048;
 
 /// What is placed, with a table for each sum that an admission asks for.
 #[derive(Debug, Drop)]
@@ -50,13 +51,13 @@ impl Model for Accounts {
 impl Accounts {
     ghost use Rattle.bandwidth.specs.Tables.{IsBook, BelowFits, Tells, tables_at};
 
-    /// An empty book with room for so many, and with tables for as many hubs as may need them at once.
+    /// An empty book with room for so many, and with tables for as many translators as may need them at once.
     pub(crate) fn build(alloc: Global, room: u32) -> Result<Accounts, Memory>
         ensures { IfOk result (λ a. (a.room ≡ room) × (a.placed ≡ [])) }
     {
         let placed = Vec::with_capacity(alloc, room as usize)?;
         let loads = Table::zeros(alloc, 8192)?;
-        let pool = HubPool::build(alloc, room.min(ADDRESSES))?;
+        let pool = HubPool::build(alloc, room.min(TRANSLATORS))?;
         Ok(Accounts {
             room,
             placed,
@@ -89,20 +90,20 @@ impl Accounts {
         &self.loads
     }
 
-    /// The tables of a hub, if something is placed below it.
-    pub(crate) fn below(&self, hub: DevAddr) -> Option<&HubSums>
-        ensures tables { option_copied result ≡ tables_of self.now.pool hub }
-        ensures hub { hub < 128 }
+    /// The tables of a translator, if something is placed below it.
+    pub(crate) fn below(&self, translator: Translator) -> Option<&HubSums>
+        ensures tables { option_copied result ≡ tables_of self.now.pool translator }
+        ensures number { translator < 2048 }
         ensures book { IsBook self.now }
     {
-        self.pool.below(hub)
+        self.pool.below(translator)
     }
 
-    /// Whether a placement keeps the budgets below a hub.
+    /// Whether a placement keeps the budgets below a translator.
     #[inline(always)]
-    fn hub_keeps<L: Ledger>(
+    fn translator_keeps<L: Ledger>(
         &self,
-        hub: DevAddr,
+        translator: Translator,
         want: &Want,
         placement: &Placement,
         shape: &Shape,
@@ -110,18 +111,18 @@ impl Accounts {
     ) -> bool
         requires shape { IsShape want.now shape.now }
         requires place { IsOf shape.now placement.now }
-        ensures fits { (IsTrue result) ↔ (BelowFits (tables_at self.now.pool (Some hub)) shape.now.time (slice_index shape.now.bytes.each) placement.now) }
-        ensures hub { hub < 128 }
+        ensures fits { (IsTrue result) ↔ (BelowFits (tables_at self.now.pool (Some translator)) shape.now.time (slice_index shape.now.bytes.each) placement.now) }
+        ensures number { translator < 2048 }
         ensures book { IsBook self.now }
         ensures steps { steps.new ≤ steps.old + turns placement.now.period * (laid_cells want.now + 1) }
     {
-        match self.below(hub) {
+        match self.below(translator) {
             Some(sums) => sums.keep(placement, shape.time, &shape.bytes, steps),
             None => shape.time <= FRAME_BUDGET,
         }
     }
 
-    /// Whether a placement keeps the budgets below its hub, if it has one.
+    /// Whether a placement keeps the budgets below its translator, if it has one.
     #[inline(always)]
     fn below_keeps<L: Ledger>(
         &self,
@@ -130,6 +131,7 @@ impl Accounts {
         shape: &Shape,
         steps: &mut Steps<L>,
     ) -> bool
+        requires want { IsWant want.now }
         requires shape { IsShape want.now shape.now }
         requires place { IsOf shape.now placement.now }
         ensures tells { Tells self.now want.now placement.now result }
@@ -138,10 +140,10 @@ impl Accounts {
         ensures alone { is_some want.now.hub ≡ false → steps.new ≡ steps.old }
     {
         let _room = self.room;
-        let Some(hub) = want.hub else {
+        let Some(translator) = translator_for(want) else {
             return true;
         };
-        self.hub_keeps(hub, want, placement, shape, steps)
+        self.translator_keeps(translator, want, placement, shape, steps)
     }
 
     /// A bus time, in picoseconds, that the greatest microframe sum over a placement's own microframes isn't below. At high speed it is the
@@ -249,7 +251,7 @@ impl Accounts {
     }
 }
 
-/// Adds a placement to the tables of its hub, if it has one.
+/// Adds a placement to the tables of its translator, if it has one.
 fn add_below<L: Ledger>(
     pool: &mut HubPool,
     want: &Want,
@@ -257,30 +259,31 @@ fn add_below<L: Ledger>(
     shape: &Shape,
     steps: &mut Steps<L>,
 )
+    requires want { IsWant want.now }
     requires shape { IsShape want.now shape.now }
     requires place { IsOf shape.now placement.now }
-    requires free { (hub : ℕ) → hub < 128 → want.now.hub ≡ Some hub → tables_of pool.old hub ≡ None → 1 ≤ length pool.old.free }
-    requires within { (hub : ℕ) → hub < 128 → want.now.hub ≡ Some hub → IfSome (tables_of pool.old hub) AreWithin }
+    requires free { (n : ℕ) → n < 2048 → translator_of want.now ≡ Some n → tables_of pool.old n ≡ None → 1 ≤ length pool.old.free }
+    requires within { (n : ℕ) → n < 2048 → translator_of want.now ≡ Some n → IfSome (tables_of pool.old n) AreWithin }
     ensures pool { (placed : List Placed) → IsPool placed pool.old → IsPool (joined placed want.now placement.now) pool.new }
     ensures size { pool_size pool.new ≡ pool_size pool.old }
     ensures steps { steps.new ≤ steps.old + turns placement.now.period * (laid_cells want.now + 1) }
 {
-    let Some(hub) = want.hub else {
+    let Some(translator) = translator_for(want) else {
         return;
     };
-    let _address = hub.get();
-    pool.add(hub, placement, shape.time, &shape.bytes, steps);
+    let _number = translator.get();
+    pool.add(translator, placement, shape.time, &shape.bytes, steps);
 }
 
-/// Whether something is placed below a hub.
-fn is_served(placed: &[Placed], hub: DevAddr) -> bool
-    ensures served { result ≡ serves placed.now hub }
-    ensures hub { hub < 128 }
+/// Whether something is placed below a translator.
+fn is_served(placed: &[Placed], translator: Translator) -> bool
+    ensures served { result ≡ serves placed.now translator }
+    ensures number { translator < 2048 }
 {
-    placed.iter().any(|x| is_below(&x.want, hub))
+    placed.iter().any(|x| is_served_by(&x.want, translator))
 }
 
-/// Takes a placement out of the tables of its hub, if it has one, and frees them if nothing else is placed below it.
+/// Takes a placement out of the tables of its translator, if it has one, and frees them if nothing else is placed below it.
 fn sub_below(pool: &mut HubPool, placed: &[Placed], want: &Want, placement: &Placement)
     requires want { IsWant want.now }
     requires place { IsPlace placement.now }
@@ -288,12 +291,12 @@ fn sub_below(pool: &mut HubPool, placed: &[Placed], want: &Want, placement: &Pla
     ensures pool { IsPool placed.now pool.new }
     ensures size { pool_size pool.new ≡ pool_size pool.old }
 {
-    let Some(hub) = want.hub else {
+    let Some(translator) = translator_for(want) else {
         return;
     };
-    let served = is_served(placed, hub);
+    let served = is_served(placed, translator);
     pool.sub(
-        hub,
+        translator,
         placement,
         time_in_frame(want),
         &byte_times_of(want, placement),
@@ -301,5 +304,5 @@ fn sub_below(pool: &mut HubPool, placed: &[Placed], want: &Want, placement: &Pla
     if served {
         return;
     }
-    pool.give_back(hub);
+    pool.give_back(translator);
 }

@@ -2,12 +2,13 @@ ghost use Rattle.std.specs.Prelude.{◌≡◌, ◌≢◌, ℕ, ◌+◌, ◌*◌,
 ghost use Rattle.usb_base.specs.Cost.{bus_time, byte_times};
 ghost use Rattle.usb_base.specs.Limits.{byte_times_of_microframe};
 ghost use Rattle.bandwidth.specs.Placements.{is_classic, IsWant};
-ghost use Rattle.bandwidth.specs.Sums.{start_bytes, complete_bytes, sent_bytes, price, cost_in, laid_in, time_of, is_hub};
+ghost use Rattle.bandwidth.specs.Sums.{start_bytes, complete_bytes, sent_bytes, price, cost_in, laid_in, time_of, translator_of, is_at};
 
 use crate::masks::{first_bit, has_bit};
 use crate::placements::{Placement, Want};
+use crate::translators::Translator;
 use usb_base::limits::BYTE_TIMES_OF_MICROFRAME;
-use usb_base::{DevAddr, Dir, EpKind, Speed, cost, tt_bytes};
+use usb_base::{Dir, EpKind, Speed, cost, tt_bytes};
 
 /// Whether a translator serves endpoints of this speed.
 pub(crate) fn classic(speed: Speed) -> bool
@@ -136,12 +137,23 @@ pub(crate) fn byte_times_of(want: &Want, placement: &Placement) -> [u64; 8]
     bytes
 }
 
-/// Whether the translator of this hub serves it.
-pub(crate) fn is_below(want: &Want, hub: DevAddr) -> bool
-    ensures { result ≡ is_hub want.now.hub hub }
+/// The translator that serves it, for a full- or low-speed endpoint alone.
+pub(crate) fn translator_for(want: &Want) -> Option<Translator>
+    requires { IsWant want.now }
+    ensures { result ≡ translator_of want.now }
 {
     match want.hub {
-        Some(own) => own.get() == hub.get(),
+        Some(hub) => Some(Translator::new(hub, want.tt)),
+        None => None,
+    }
+}
+
+/// Whether this translator serves it.
+pub(crate) fn is_served_by(want: &Want, translator: Translator) -> bool
+    ensures { result ≡ is_at want.now translator }
+{
+    match want.hub {
+        Some(hub) => translator.is(hub, want.tt),
         None => false,
     }
 }

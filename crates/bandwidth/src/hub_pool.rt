@@ -7,13 +7,14 @@ ghost use Rattle.bandwidth.specs.Tables.{AreZero};
 use crate::hub_sums::HubSums;
 use crate::placements::Placement;
 use crate::shapes::Amounts;
+use crate::translators::Translator;
 use bandwidth_steps::Steps;
 use std::alloc::Global;
 use std::marker::Model;
 use std::sync::ledger::Ledger;
-use usb_base::{DevAddr, Memory};
+use usb_base::Memory;
 
-/// The tables that hubs have, by address, and those that no hub has, whose cells are all 0.
+/// The tables that translators have, by their numbers, and those that none has, whose cells are all 0.
 #[derive(Debug, Drop)]
 pub(crate) struct HubPool {
     hubs: Vec<Option<HubSums>>,
@@ -45,13 +46,13 @@ fn zero_tables(alloc: Global, size: usize) -> Result<Vec<HubSums>, Memory>
     Ok(free)
 }
 
-/// No tables at any of the 128 addresses.
+/// No tables at any of the 2,048 translators.
 fn no_tables(alloc: Global) -> Result<Vec<Option<HubSums>>, Memory>
-    ensures count { IfOk result (λ v. length v.items ≡ 128) }
+    ensures count { IfOk result (λ v. length v.items ≡ 2048) }
     ensures none { IfOk result (λ v. All (λ o. o ≡ None) v.items) }
 {
-    let mut hubs = Vec::with_capacity(alloc, 128)?;
-    for _k in 0..128usize {
+    let mut hubs = Vec::with_capacity(alloc, 2048)?;
+    for _k in 0..2048usize {
         hubs.push_reserved(None);
     }
     Ok(hubs)
@@ -60,9 +61,9 @@ fn no_tables(alloc: Global) -> Result<Vec<Option<HubSums>>, Memory>
 impl HubPool {
     ghost use Rattle.bandwidth.specs.Tables.{AreWithin, Holds, Gives, AddsAt, TakesAt, tables_of, pool_size};
 
-    /// So many tables, and no hub that has any.
+    /// So many tables, and no translator that has any.
     pub(crate) fn build(alloc: Global, size: u32) -> Result<HubPool, Memory>
-        ensures count { IfOk result (λ p. length p.hubs ≡ 128) }
+        ensures count { IfOk result (λ p. length p.hubs ≡ 2048) }
         ensures none { IfOk result (λ p. All (λ o. o ≡ None) p.hubs) }
         ensures size { IfOk result (λ p. length p.free ≡ size) }
     {
@@ -71,99 +72,105 @@ impl HubPool {
         Ok(HubPool { hubs, free })
     }
 
-    /// The tables of a hub, if it has any.
+    /// The tables of a translator, if it has any.
     #[inline(always)]
-    pub(crate) fn below(&self, hub: DevAddr) -> Option<&HubSums>
-        ensures tables { option_copied result ≡ tables_of self.now hub }
-        ensures hub { hub < 128 }
-        ensures count { length self.now.hubs ≡ 128 }
+    pub(crate) fn below(&self, translator: Translator) -> Option<&HubSums>
+        ensures tables { option_copied result ≡ tables_of self.now translator }
+        ensures number { translator < 2048 }
+        ensures count { length self.now.hubs ≡ 2048 }
     {
-        self.hubs[hub.get() as usize].as_ref()
+        self.hubs[translator.get() as usize].as_ref()
     }
 
-    /// Gives a hub without tables those that were freed last.
-    fn give(&mut self, hub: DevAddr)
-        requires none { tables_of self.old hub ≡ None }
+    /// Gives a translator without tables those that were freed last.
+    fn give(&mut self, translator: Translator)
+        requires none { tables_of self.old translator ≡ None }
         requires free { 1 ≤ length self.old.free }
-        ensures gives { Gives self.old self.new hub }
+        ensures gives { Gives self.old self.new translator }
         ensures size { pool_size self.new ≡ pool_size self.old }
     {
         let sums = self.free.pop();
-        self.hubs[hub.get() as usize] = sums;
+        self.hubs[translator.get() as usize] = sums;
     }
 
-    /// Adds a placement to the tables that its hub has.
+    /// Adds a placement to the tables that its translator has.
     fn add_to<L: Ledger>(
         &mut self,
-        hub: DevAddr,
+        translator: Translator,
         placement: &Placement,
         time: u64,
         bytes: &Amounts,
         steps: &mut Steps<L>,
     )
-        requires some { is_some (tables_of self.old hub) ≡ true }
-        requires within { IfSome (tables_of self.old hub) AreWithin }
+        requires some { is_some (tables_of self.old translator) ≡ true }
+        requires within { IfSome (tables_of self.old translator) AreWithin }
         requires place { IsPlace placement.now }
         requires time { time ≤ 1000000000000 }
         requires bytes { IsAmounts bytes.now }
-        ensures adds { AddsAt self.old self.new hub time (slice_index bytes.now.each) placement.now }
-        ensures hub { hub < 128 }
+        ensures adds { AddsAt self.old self.new translator time (slice_index bytes.now.each) placement.now }
+        ensures number { translator < 2048 }
         ensures size { pool_size self.new ≡ pool_size self.old }
         ensures steps { steps.new ≤ steps.old + turns placement.now.period * (bytes.now.to - bytes.now.from + 1) }
     {
-        if let Some(sums) = &mut self.hubs[hub.get() as usize] {
+        if let Some(sums) = &mut self.hubs[translator.get() as usize] {
             sums.add(placement, time, bytes, steps);
         }
     }
 
-    /// Adds a placement to the tables of its hub, which gets some if it has none.
+    /// Adds a placement to the tables of its translator, which gets some if it has none.
     pub(crate) fn add<L: Ledger>(
         &mut self,
-        hub: DevAddr,
+        translator: Translator,
         placement: &Placement,
         time: u64,
         bytes: &Amounts,
         steps: &mut Steps<L>,
     )
-        requires free { tables_of self.old hub ≡ None → 1 ≤ length self.old.free }
-        requires within { IfSome (tables_of self.old hub) AreWithin }
+        requires free { tables_of self.old translator ≡ None → 1 ≤ length self.old.free }
+        requires within { IfSome (tables_of self.old translator) AreWithin }
         requires place { IsPlace placement.now }
         requires time { time ≤ 1000000000000 }
         requires bytes { IsAmounts bytes.now }
-        ensures adds { AddsAt self.old self.new hub time (slice_index bytes.now.each) placement.now }
-        ensures hub { hub < 128 }
+        ensures adds { AddsAt self.old self.new translator time (slice_index bytes.now.each) placement.now }
+        ensures number { translator < 2048 }
         ensures size { pool_size self.new ≡ pool_size self.old }
         ensures steps { steps.new ≤ steps.old + turns placement.now.period * (bytes.now.to - bytes.now.from + 1) }
     {
-        if self.below(hub).is_some() {
-            self.add_to(hub, placement, time, bytes, steps);
+        if self.below(translator).is_some() {
+            self.add_to(translator, placement, time, bytes, steps);
             return;
         }
-        self.give(hub);
-        self.add_to(hub, placement, time, bytes, steps);
+        self.give(translator);
+        self.add_to(translator, placement, time, bytes, steps);
     }
 
-    /// Takes a placement out of the tables of its hub.
-    pub(crate) fn sub(&mut self, hub: DevAddr, placement: &Placement, time: u64, bytes: &[u64; 8])
-        requires some { is_some (tables_of self.old hub) ≡ true }
+    /// Takes a placement out of the tables of its translator.
+    pub(crate) fn sub(
+        &mut self,
+        translator: Translator,
+        placement: &Placement,
+        time: u64,
+        bytes: &[u64; 8],
+    )
+        requires some { is_some (tables_of self.old translator) ≡ true }
         requires place { IsPlace placement.now }
-        requires holds { IfSome (tables_of self.old hub) (Holds time (slice_index bytes.now) placement.now) }
-        ensures takes { TakesAt self.old self.new hub time (slice_index bytes.now) placement.now }
+        requires holds { IfSome (tables_of self.old translator) (Holds time (slice_index bytes.now) placement.now) }
+        ensures takes { TakesAt self.old self.new translator time (slice_index bytes.now) placement.now }
         ensures size { pool_size self.new ≡ pool_size self.old }
     {
-        if let Some(sums) = &mut self.hubs[hub.get() as usize] {
+        if let Some(sums) = &mut self.hubs[translator.get() as usize] {
             sums.sub(placement, time, bytes);
         }
     }
 
-    /// Frees the tables of a hub, whose cells are all 0.
-    pub(crate) fn give_back(&mut self, hub: DevAddr)
-        requires some { is_some (tables_of self.old hub) ≡ true }
-        requires zero { IfSome (tables_of self.old hub) AreZero }
-        ensures hubs { self.new.hubs ≡ slice_set self.old.hubs hub None }
+    /// Frees the tables of a translator, whose cells are all 0.
+    pub(crate) fn give_back(&mut self, translator: Translator)
+        requires some { is_some (tables_of self.old translator) ≡ true }
+        requires zero { IfSome (tables_of self.old translator) AreZero }
+        ensures hubs { self.new.hubs ≡ slice_set self.old.hubs translator None }
         ensures size { pool_size self.new ≡ pool_size self.old }
     {
-        if let Some(sums) = self.hubs[hub.get() as usize].take() {
+        if let Some(sums) = self.hubs[translator.get() as usize].take() {
             self.free.push_reserved(sums);
         }
     }

@@ -14,7 +14,7 @@ use std::sync::ledger::Ledger;
 use usb_base::Memory;
 use usb_base::limits::{BYTE_TIMES_OF_MICROFRAME, FRAME_BUDGET, FRAME_LIST_LENGTH};
 
-/// The tables of one hub: the classic bus time of each of the 1,024 frames, in picoseconds, and the byte-times of each of the 8,192
+/// The tables of one translator: the classic bus time of each of the 1,024 frames, in picoseconds, and the byte-times of each of the 8,192
 /// microframes.
 #[derive(Debug, Drop)]
 pub(crate) struct HubSums {

@@ -19,6 +19,7 @@ mod search;
 mod shapes;
 mod table;
 mod tables;
+mod translators;
 pub mod worked;
 
 pub use placements::{Placed, Placement, Refused, Want};

@@ -1,22 +1,24 @@
-ghost use Rattle.std.specs.Prelude.{◌≡◌, ℕ, ◌+◌, ◌<◌, ◌≤◌, ◌↔◌, false, true, List, [], length, slice_index, Some, None, IfOk, IfSome, Result};
+ghost use Rattle.std.specs.Prelude.{◌≡◌, ℕ, ◌+◌, ◌/◌, ◌%◌, ◌<◌, ◌≤◌, ◌↔◌, false, true, List, [], length, slice_index, Some, None, IfOk, IfSome, Result};
 ghost use Rattle.std.specs.Bool.{OnTrue, OnFalse};
 ghost use Rattle.usb_base.specs.Limits.{frame_list_length};
 ghost use Rattle.bandwidth.specs.declared.placements.Refused.TheVariants.{NoPlacement, Room};
 ghost use Rattle.bandwidth.specs.Placements.{IsWant};
 ghost use Rattle.bandwidth.specs.Sums.{Fits, load, frame_sum, tt_sum};
-ghost use Rattle.bandwidth.specs.Admission.{answer, admitted, is_placed, hub_of, without, AreDistinct, HasNone, IsBest};
+ghost use Rattle.bandwidth.specs.Admission.{answer, admitted, is_placed, translator_in, without, AreDistinct, HasNone, IsBest};
 
 use crate::accounts::Accounts;
+use crate::asks::translator_for;
 use crate::masks::first_bit;
 use crate::placements::{Placement, Refused, Want};
 use crate::search::best_placement;
 use crate::shapes::shapes_of;
 use crate::table::Table;
+use crate::translators::Translator;
 use bandwidth_steps::Steps;
 use std::alloc::Global;
 use std::marker::{Brand, Model};
 use std::sync::ledger::{Blank, Ledger};
-use usb_base::{DevAddr, Memory, Ps};
+use usb_base::{Memory, Ps};
 
 /// The periodic endpoints that are placed, in the order of admission, and how many may be. What is placed keeps every
 /// budget, and no two have one id.
@@ -140,41 +142,41 @@ impl Plan {
         self.accounts.loads()
     }
 
-    /// The classic bus time of each of the 1,024 frames below the hub of a placement, in picoseconds; `None` exactly where the id isn't
-    /// placed or its endpoint has no hub.
+    /// The classic bus time of each of the 1,024 frames below the translator of a placement, in picoseconds; `None` exactly where the
+    /// id isn't placed or no translator serves its endpoint.
     pub fn frame_sums(&self, id: u32) -> Option<&Table>
-        ensures none { (result ≡ None) ↔ (hub_of self.now.placed id ≡ None) }
+        ensures none { (result ≡ None) ↔ (translator_in self.now.placed id ≡ None) }
         ensures cells { IfSome result (λ t. length t.now ≡ frame_list_length) }
-        ensures sums { IfSome result (λ t. (hub f : ℕ) → hub_of self.now.placed id ≡ Some hub → f < frame_list_length → slice_index t.now f ≡ frame_sum self.now.placed hub f) }
+        ensures sums { IfSome result (λ t. (n f : ℕ) → translator_in self.now.placed id ≡ Some n → f < frame_list_length → slice_index t.now f ≡ frame_sum self.now.placed (n / 16) (n % 16) f) }
     {
-        let hub = self.hub(id)?;
-        match self.accounts.below(hub) {
+        let translator = self.translator(id)?;
+        match self.accounts.below(translator) {
             Some(sums) => Some(&sums.frames),
             None => None,
         }
     }
 
-    /// The byte-times of each of the 8,192 microframes in the translator of the hub of a placement; `None` exactly where the id isn't
-    /// placed or its endpoint has no hub.
+    /// The byte-times of each of the 8,192 microframes in the translator of a placement; `None` exactly where the id isn't placed or no
+    /// translator serves its endpoint.
     pub fn byte_sums(&self, id: u32) -> Option<&Table>
-        ensures none { (result ≡ None) ↔ (hub_of self.now.placed id ≡ None) }
+        ensures none { (result ≡ None) ↔ (translator_in self.now.placed id ≡ None) }
         ensures cells { IfSome result (λ t. length t.now ≡ 8192) }
-        ensures sums { IfSome result (λ t. (hub u : ℕ) → hub_of self.now.placed id ≡ Some hub → u < 8192 → slice_index t.now u ≡ tt_sum self.now.placed hub u) }
+        ensures sums { IfSome result (λ t. (n u : ℕ) → translator_in self.now.placed id ≡ Some n → u < 8192 → slice_index t.now u ≡ tt_sum self.now.placed (n / 16) (n % 16) u) }
     {
-        let hub = self.hub(id)?;
-        match self.accounts.below(hub) {
+        let translator = self.translator(id)?;
+        match self.accounts.below(translator) {
             Some(sums) => Some(&sums.bytes),
             None => None,
         }
     }
 
-    /// The hub of a placement.
-    fn hub(&self, id: u32) -> Option<DevAddr>
-        ensures { result ≡ hub_of self.now.placed id }
+    /// The translator of a placement.
+    fn translator(&self, id: u32) -> Option<Translator>
+        ensures { result ≡ translator_in self.now.placed id }
     {
         for x in self.accounts.placed() {
             if x.want.id == id {
-                return x.want.hub;
+                return translator_for(&x.want);
             }
         }
         None

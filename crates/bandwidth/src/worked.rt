@@ -1,8 +1,8 @@
 //! Worked values of the definitions, which the check computes.
-ghost use Rattle.std.specs.Prelude.{◌≡◌, length, [], ◌∷◌, true, false};
+ghost use Rattle.std.specs.Prelude.{◌≡◌, length, [], ◌∷◌, true, false, Some, None};
 ghost use Rattle.bandwidth.specs.Placements.{allowed, run, every, first_in, frame_period, is_period};
-ghost use Rattle.bandwidth.specs.Sums.{cost_in, laid_in, time_of, cost_at, is_active};
-ghost use Rattle.bandwidth.specs.Worked.{mouse, keyboard, camera, speaker, placed};
+ghost use Rattle.bandwidth.specs.Sums.{cost_in, laid_in, time_of, cost_at, is_active, is_translator, translator_of, frame_sum, tt_sum};
+ghost use Rattle.bandwidth.specs.Worked.{mouse, keyboard, camera, speaker, placed, at_port};
 
 /// Masks of microframes.
 #[tactic(auto, unfolding(crate::specs::Placements::mask, crate::specs::Placements::first_in))]
@@ -57,4 +57,18 @@ pub fn costs()
     ensures part { cost_in speaker (placed 8 0 63 0) 4 ≡ 4298063 }
     ensures last_part { cost_in speaker (placed 8 0 63 0) 5 ≡ 2256723 }
     ensures last_laid { laid_in speaker (placed 8 0 63 0) 5 ≡ 92 }
+{}
+
+/// The translator of an endpoint, and its sums: a port that has one of its own takes none of another's.
+#[tactic(auto, unfolding(crate::specs::Placements::first_in))]
+pub fn translators()
+    ensures all { is_translator keyboard 9 0 ≡ true }
+    ensures other_port { is_translator keyboard 9 1 ≡ false }
+    ensures other_hub { is_translator keyboard 8 0 ≡ false }
+    ensures high { is_translator (mouse 8) 9 0 ≡ false }
+    ensures number { translator_of (at_port 3).want ≡ Some 147 }
+    ensures no_number { translator_of (mouse 8) ≡ None }
+    ensures one { tt_sum (at_port 1 ∷ at_port 2 ∷ []) 9 1 0 ≡ 77 }
+    ensures together { tt_sum (at_port 1 ∷ at_port 1 ∷ []) 9 1 0 ≡ 154 }
+    ensures times { frame_sum (at_port 1 ∷ at_port 2 ∷ []) 9 2 0 ≡ 60231000 }
 {}

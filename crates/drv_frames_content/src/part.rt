@@ -95,8 +95,7 @@ fn want(e: u32, desc: &EpDesc) -> Want
         multi: desc.multi,
         period: desc.period,
         hub: desc.hub,
-        // a hub has one translator
-        tt: 0,
+        tt: desc.tt,
     }
 }
 

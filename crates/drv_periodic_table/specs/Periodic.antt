@@ -74,7 +74,7 @@ want_of e x = record {
   multi = x.multi;
   period = x.period;
   hub = x.hub;
-  tt = 0;
+  tt = x.tt;
 }
 
 -- ---- members of the frame list

@@ -1,2 +1,3 @@
 pub mod Going
 pub mod Sampled
+pub mod StreamSampled

@@ -4,8 +4,13 @@
 
 mod laws;
 mod runs;
+mod streams;
 mod worked;
 
 pub use laws::each_event_leaves_both;
 pub use runs::{event, run};
+pub use streams::{
+    a_complete_split_is_in_one_hand, a_complete_split_tells_more, a_missed_split_tells_the_same,
+    a_nyet_leaves_the_device_ahead, a_turned_toggle_breaks_the_pipe,
+};
 pub use worked::both_are_under_way;

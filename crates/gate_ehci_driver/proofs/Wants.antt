@@ -19,8 +19,8 @@ most _ n p h = h
 pub in_ring : (x : EpDesc) → is_periodic x.kind ≡ false → IsOpened x
 in_ring x e = λ p. absurd (cc)
 
-pub wanted : (x : EpDesc) → x.speed ≡ High → is_some x.hub ≡ false → is_period x.period ≡ true → 1 ≤ x.period → 1 ≤ x.max → x.max ≤ 1024 → 1 ≤ x.multi → x.multi ≤ 3 → IsOpened x
-wanted x speed hub period some a b c d = λ p. record {
+pub wanted : (x : EpDesc) → x.speed ≡ High → is_some x.hub ≡ false → x.tt ≡ 0 → is_period x.period ≡ true → 1 ≤ x.period → 1 ≤ x.max → x.max ≤ 1024 → 1 ≤ x.multi → x.multi ≤ 3 → IsOpened x
+wanted x speed hub port period some a b c d = λ p. record {
   period = period;
   frames = subst (λ (s : Speed). least_period s ≤ x.period) (sym speed) some;
   some_bytes = a;
@@ -28,10 +28,11 @@ wanted x speed hub period some a b c d = λ p. record {
   some_multi = c;
   multi = subst (λ (s : Speed). x.multi ≤ most_multi s) (sym speed) d;
   hub = hub ∙ sym (ap (λ (s : Speed). is_classic s) speed);
+  tt = omega (arith, port);
 }
 
-pub wanted_behind : (x : EpDesc) → x.speed ≡ Full → x.kind ≡ kinds.Iso → is_some x.hub ≡ true → is_period x.period ≡ true → 8 ≤ x.period → 1 ≤ x.max → x.max ≤ 1023 → 1 ≤ x.multi → x.multi ≤ 1 → IsOpened x
-wanted_behind x speed kind hub period some a b c d = λ p. record {
+pub wanted_behind : (x : EpDesc) → x.speed ≡ Full → x.kind ≡ kinds.Iso → is_some x.hub ≡ true → x.tt ≡ 0 → is_period x.period ≡ true → 8 ≤ x.period → 1 ≤ x.max → x.max ≤ 1023 → 1 ≤ x.multi → x.multi ≤ 1 → IsOpened x
+wanted_behind x speed kind hub port period some a b c d = λ p. record {
   period = period;
   frames = subst (λ (s : Speed). least_period s ≤ x.period) (sym speed) some;
   some_bytes = a;
@@ -39,4 +40,5 @@ wanted_behind x speed kind hub period some a b c d = λ p. record {
   some_multi = c;
   multi = subst (λ (s : Speed). x.multi ≤ most_multi s) (sym speed) d;
   hub = hub ∙ sym (ap (λ (s : Speed). is_classic s) speed);
+  tt = omega (arith, port);
 }

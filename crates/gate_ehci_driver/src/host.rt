@@ -149,7 +149,7 @@ fn is_wanted(desc: &EpDesc) -> bool
     requires { desc.now.speed ≡ Speed.High }
     ensures { IsTrue result → IsOpened desc.now }
 {
-    if desc.hub.is_some() || !is_power(desc.period) {
+    if desc.hub.is_some() || desc.tt != 0 || !is_power(desc.period) {
         return false;
     }
     desc.period >= 1 && desc.max >= 1 && desc.max <= 1024 && desc.multi >= 1 && desc.multi <= 3
@@ -162,7 +162,7 @@ fn is_wanted_behind(desc: &EpDesc) -> bool
     requires kind { desc.now.kind ≡ EpKind.Iso }
     ensures { IsTrue result → IsOpened desc.now }
 {
-    if desc.hub.is_none() || !is_power(desc.period) {
+    if desc.hub.is_none() || desc.tt != 0 || !is_power(desc.period) {
         return false;
     }
     desc.period >= 8 && desc.max >= 1 && desc.max <= 1023 && desc.multi >= 1 && desc.multi <= 1

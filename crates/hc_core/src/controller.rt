@@ -64,9 +64,9 @@ pub enum ControllerRow {
 /// The host controller: where in the microframe it is, and its walks of the frame's chain and of the ring.
 #[derive(Debug, Drop)]
 pub struct Controller {
-    part: MicroframePart,
-    frame: PeriodicState,
-    walk: AsyncState,
+    pub(crate) part: MicroframePart,
+    pub(crate) frame: PeriodicState,
+    pub(crate) walk: AsyncState,
 }
 
 impl Model for Controller {

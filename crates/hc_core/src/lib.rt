@@ -5,5 +5,6 @@
 #![tactic(auto)]
 
 mod controller;
+mod parts;
 
 pub use controller::{Controller, ControllerRow, HcStep, MicroframePart};

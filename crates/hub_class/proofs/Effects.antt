@@ -5,19 +5,19 @@ use Rattle.dev_control.specs.Stages.{Stages, stages_after}
 use Rattle.hub_ports.specs.declared.rows.HubRequest.{HubRequest}
 use Rattle.hub_ports.specs.declared.rows.HubRequest.TheVariants.{HubStatus}
 use Rattle.hub_ports.specs.Requests.{request_of}
-use Rattle.hub_class.specs.declared.translator.SplitRow.{SplitRow}
-use Rattle.hub_class.specs.declared.translator.SplitRow.TheVariants.{BulkStart}
+use Rattle.usb_base.specs.declared.packets.Split.{Split}
+use Rattle.usb_base.specs.declared.packets.Split.TheVariants.{Plain}
 use Rattle.hub_class.specs.HubContent.{HubContent}
 use Rattle.hub_class.specs.Requesting.{effect_if, request_at, requested}
 use Rattle.hub_class.specs.EndpointZero.{acts_on, row_at, reply_under, acted_with, suits, hub_answered}
 use Rattle.hub_class.specs.Translating.{after_split}
 
-pub split_ports : (row : SplitRow) (ask : Ask) (out : List ℕ) (stuff : ℕ) (h : HubContent) → (after_split row ask out stuff h).ports ≡ h.ports
-split_ports BulkStart ask out stuff h = refl
+pub split_ports : (split : Split) (ask : Ask) (out : List ℕ) (stuff : ℕ) (h : HubContent) → (after_split split ask out stuff h).ports ≡ h.ports
+split_ports Plain ask out stuff h = refl
 split_ports _ ask out stuff h = refl
 
-pub split_control : (row : SplitRow) (ask : Ask) (out : List ℕ) (stuff : ℕ) (h : HubContent) → (after_split row ask out stuff h).control ≡ h.control
-split_control BulkStart ask out stuff h = refl
+pub split_control : (split : Split) (ask : Ask) (out : List ℕ) (stuff : ℕ) (h : HubContent) → (after_split split ask out stuff h).control ≡ h.control
+split_control Plain ask out stuff h = refl
 split_control _ ask out stuff h = refl
 
 -- endpoint 0's own state has no part in an effect
@@ -33,7 +33,7 @@ one_acted : (b : Bool) (o : Option (List ℕ)) (setup : List ℕ) (c : Stages) (
 one_acted b o setup c h e f =
     subst (λ v. (if v then acted_with o (record h { control = c }) else h).ports ≡ (requested setup h).ports) (sym e)
     (subst (λ x. (acted_with x (record h { control = c })).ports ≡ (requested setup h).ports) (sym f)
-    (effect_ports (request_of (length h.ports) setup) c h))
+    (effect_ports (request_of h.translators.multi (length h.ports) setup) c h))
 
 pub nothing_acted : (ask : Ask) (out : List ℕ) (h : HubContent) → acts_on (row_at ask out h) h.control.request ≡ None → (hub_answered ask out h).ports ≡ h.ports
 nothing_acted ask out h e = none_acted (suits ask h) (acts_on (row_at ask out h) h.control.request) (stages_after (reply_under h) h.control ask out) h e

@@ -10,9 +10,11 @@ use Rattle.tt_pipeline.specs.declared.entry.Entry.{Entry}
 use Rattle.tt_pipeline.specs.Work as Piped
 use Rattle.tt_pipeline.specs.Work.{moved, is_due, sent_of, answered}
 use Rattle.tt_pipeline.specs.Working.{budget, kept, used_at, Works, turned, reply_at, wire_at, wire_turned, entries_after, wire_worked}
+use Rattle.multi_tt.specs.Translators.{Translator}
+use Rattle.multi_tt.specs.Single.{room_left, TranslatorWorks, AllWork}
 use Rattle.hub_class.specs.HubContent.{HubContent}
 use Rattle.hub_class.specs.Translating.{HubWorks}
-use Rattle.hub_class.specs.Microframe.{turn_hears, wire_tried, wire_half, buffers_worked, wire_of_buffers, wire_between, room_left, hub_worked, wire_left}
+use Rattle.hub_class.specs.Microframe.{turn_hears, wire_tried, wire_half, buffers_worked, wire_of_buffers, wire_between, translator_worked, wire_of_translator, translators_worked, wire_of_translators, hub_worked, wire_left}
 
 -- the buffers after their turns depend on what was heard by the turns alone
 joined : (room : ℕ) (b : TwoBuffers) (e e' l l' : Reply) → after_turn (earlier_turn room b) e (buffer_content (other b.latest) b) ≡ after_turn (earlier_turn room b) e' (buffer_content (other b.latest) b) → after_turn (later_turn room b) l (buffer_content b.latest b) ≡ after_turn (later_turn room b) l' (buffer_content b.latest b) → worked room e l b ≡ worked room e' l' b
@@ -68,16 +70,42 @@ module _ {W : Type 0} (transacts : W → Ask → List ℕ → Reply → W → Ty
         v ∙ ap (λ (x : W). wire_tried reply_of wire_after second x) w,
       )
 
+  -- ---- translators, one after the other
+
+  translator_told : (frindex : ℕ) (old : Translator) (before : W) (new : Translator) (after : W)
+      → TranslatorWorks transacts frindex old before new after
+      → (new ≡ translator_worked reply_of wire_after frindex old before) × (after ≡ wire_of_translator reply_of wire_after old before)
+  translator_told frindex old before new after s =
+      let p = pipeline_told budget old.pipeline before s.between s.pipeline.worked s.pipeline.works in
+      let b = buffers_told (room_left old) old.bulk s.between new.bulk after s.bulk in
+      let b0 = subst (λ (v : W). new.bulk ≡ buffers_worked reply_of wire_after (room_left old) old.bulk v) p.1 b.0 in
+      let b1 = subst (λ (v : W). after ≡ wire_of_buffers reply_of wire_after (room_left old) old.bulk v) p.1 b.1 in
+      let entries : List Entry = kept frindex (entries_after reply_of wire_after budget old.pipeline before) in
+      let e : new.pipeline ≡ entries = s.pipeline.stays ∙ ap (kept frindex) p.0 in (
+        ap (λ (es : List Entry). record { bulk = new.bulk; pipeline = es }) e
+            ∙ ap (λ (x : TwoBuffers). record { bulk = x; pipeline = entries }) b0,
+        b1,
+      )
+
+  all_told : (frindex : ℕ) (ts : List Translator) (before after : W) (new : List Translator) → AllWork transacts frindex ts before after new
+      → (new ≡ translators_worked reply_of wire_after frindex ts before) × (after ≡ wire_of_translators reply_of wire_after ts before)
+  all_told frindex [] before after new (same, none) = (none, same)
+  all_told frindex (t ∷ ts) before after new (mid, first, rest, one, more, is) =
+      let f = translator_told frindex t before first mid one in
+      let r = all_told frindex ts mid after rest more in
+      let r0 = subst (λ (v : W). rest ≡ translators_worked reply_of wire_after frindex ts v) f.1 r.0 in
+      let r1 = subst (λ (v : W). after ≡ wire_of_translators reply_of wire_after ts v) f.1 r.1 in
+      let first_is : Translator = translator_worked reply_of wire_after frindex t before in
+      (is ∙ (ap (λ (x : Translator). x ∷ rest) f.0 ∙ ap (λ (xs : List Translator). first_is ∷ xs) r0), r1)
+
   -- ---- the hub
 
-  pub work_told : (frindex : ℕ) (old : HubContent) (before : W) (new : HubContent) (after : W) → HubWorks transacts frindex old before new after → (new ≡ hub_worked reply_of wire_after frindex old before) × (after ≡ wire_left reply_of wire_after old before)
+  pub work_told : (frindex : ℕ) (old : HubContent) (before : W) (new : HubContent) (after : W)
+      → HubWorks transacts frindex old before new after
+      → (new ≡ hub_worked reply_of wire_after frindex old before) × (after ≡ wire_left reply_of wire_after old before)
   work_told frindex old before new after s =
-      let p = pipeline_told budget old.pipeline before s.between s.pipeline.worked s.pipeline.works in
-      let b = buffers_told (room_left reply_of wire_after old) old.bulk s.between new.bulk after s.bulk in
-      let b0 = subst (λ (v : W). new.bulk ≡ buffers_worked reply_of wire_after (room_left reply_of wire_after old) old.bulk v) p.1 b.0 in
-      let b1 = subst (λ (v : W). after ≡ wire_of_buffers reply_of wire_after (room_left reply_of wire_after old) old.bulk v) p.1 b.1 in
-      let e : new.pipeline ≡ kept frindex (entries_after reply_of wire_after budget old.pipeline before) = s.pipeline.stays ∙ ap (kept frindex) p.0 in
-      (s.same ∙ (ap (λ (es : List Entry). record old { pipeline = es; bulk = new.bulk }) e ∙ ap (λ (x : TwoBuffers). record old { pipeline = kept frindex (entries_after reply_of wire_after budget old.pipeline before); bulk = x }) b0), b1)
+      let r = all_told frindex old.translators.all before after new.translators.all s.work in
+      (s.same ∙ ap (λ (ts : List Translator). record old { translators = record old.translators { all = ts } }) r.0, r.1)
 
 -- ---- what a bus keeps
 
@@ -95,9 +123,16 @@ module _ {W : Type 0} (reply_of : W → Ask → List ℕ → Reply) (wire_after 
   tried_keeps (Tries taken) w h = keeps w (classic_of taken.ask) taken.packet h
   tried_keeps Rests w h = h
 
+  pub translator_keeps : (t : Translator) (w : W) → P w → P (wire_of_translator reply_of wire_after t w)
+  translator_keeps t w p =
+      let between : W = wire_between reply_of wire_after t w in
+      let room : ℕ = room_left t in
+      tried_keeps (later_turn room t.bulk) (wire_half reply_of wire_after room t.bulk between)
+      (tried_keeps (earlier_turn room t.bulk) between (pipeline_keeps budget t.pipeline w p))
+
+  translators_keep : (ts : List Translator) (w : W) → P w → P (wire_of_translators reply_of wire_after ts w)
+  translators_keep [] w p = p
+  translators_keep (t ∷ ts) w p = translators_keep ts (wire_of_translator reply_of wire_after t w) (translator_keeps t w p)
+
   pub work_keeps : (h : HubContent) (w : W) → P w → P (wire_left reply_of wire_after h w)
-  work_keeps h w p =
-      let between : W = wire_between reply_of wire_after h w in
-      let room : ℕ = room_left reply_of wire_after h in
-      tried_keeps (later_turn room h.bulk) (wire_half reply_of wire_after room h.bulk between)
-      (tried_keeps (earlier_turn room h.bulk) between (pipeline_keeps budget h.pipeline w p))
+  work_keeps h w p = translators_keep h.translators.all w p

@@ -2,34 +2,29 @@ ghost use Rattle.std.specs.Prelude.{◌≡◌, ◌≤◌, length, IfOk};
 ghost use Rattle.dev_control.specs.Stages.{stages_reply};
 ghost use Rattle.hub_ports.specs.Ports.{is_enabled};
 ghost use Rattle.hub_class.specs.HubContent.{opening};
-ghost use Rattle.hub_class.specs.Requesting.{requested, request_answer, effect};
+ghost use Rattle.hub_class.specs.Requesting.{requested, request_at, request_answer, effect};
 ghost use Rattle.hub_class.specs.EndpointZero.{suits, reply_bytes, reply_under, acted_with, hub_reply, hub_answered, hub_answered_at, hub_acked};
 ghost use Rattle.hub_class.specs.Translating.{transact_reply, transacted, HubWorks};
 
 use crate::endpoint_zero::{acting, bytes, is_token_pid};
-use crate::translator::{SplitRow, split_row};
 use dev_control::ControlStages;
-use hub_keys::Key;
 use hub_ports::{HubReply, HubRequest, Ports};
+use multi_tt::Translators;
 use script_types::HubText;
 use std::alloc::Global;
 use std::marker::Model;
-use tt_bulk::Buffers;
-use tt_pipeline::Pipeline;
-use usb_base::limits::BYTE_TIMES_OF_MICROFRAME;
-use usb_base::{Ask, DevAddr, Memory, Reply, Wire};
+use usb_base::{Ask, DevAddr, Memory, Reply, Split, Wire};
 
 /// The maximum packet size of endpoint 0, in bytes.
 const PACKET: u16 = 64;
 
-/// A hub. A contract sees its address, its ports, its endpoint 0 and its translator.
+/// A hub. A contract sees its address, its ports, its endpoint 0 and its translators.
 #[derive(Drop)]
 pub struct Hub {
     addr: DevAddr,
     ports: Ports,
     control: ControlStages,
-    bulk: Buffers,
-    pipeline: Pipeline,
+    translators: Translators,
 }
 
 impl Model for Hub {
@@ -37,7 +32,7 @@ impl Model for Hub {
 
     ghost Value = { HubContent };
 
-    ghost view = { λ h. record { address = h.addr; ports = h.ports; control = h.control; bulk = h.bulk; pipeline = h.pipeline } };
+    ghost view = { λ h. record { address = h.addr; ports = h.ports; control = h.control; translators = h.translators } };
 }
 
 impl Hub {
@@ -47,14 +42,16 @@ impl Hub {
         ensures { IfOk result (λ h. h ≡ opening text.now) }
     {
         let ports = Ports::build(alloc, text.attached.as_slice())?;
-        let bulk = Buffers::build(alloc)?;
-        let pipeline = Pipeline::build(alloc)?;
+        let translators = Translators::build(
+            alloc,
+            text.attached.as_slice().len() as u8,
+            text.multi,
+        )?;
         Ok(Hub {
             addr: text.addr,
             ports,
             control: ControlStages::new(PACKET, 0),
-            bulk,
-            pipeline,
+            translators,
         })
     }
 
@@ -71,7 +68,7 @@ impl Hub {
         ensures answer { result ≡ request_answer setup self.old }
         ensures after { self.new ≡ requested setup self.old }
     {
-        match self.ports.request(&setup) {
+        match self.known(&setup) {
             Some(request) => {
                 let reply = self.ports.reply(&request);
                 self.make(&request);
@@ -81,15 +78,19 @@ impl Hub {
         }
     }
 
+    /// The request of eight setup bytes, if the hub knows it.
+    fn known(&self, setup: &[u8; 8]) -> Option<HubRequest>
+        ensures { result ≡ request_at setup.now self.now }
+    {
+        self.ports.request(self.translators.is_multi(), setup)
+    }
+
     fn make(&mut self, request: &HubRequest)
         ensures { self.new ≡ effect request.now self.old }
     {
         match request {
-            HubRequest::ClearBuffer(key) => self.bulk.clear(key),
-            HubRequest::ResetTranslator => {
-                self.bulk.clear_all();
-                self.pipeline.clear();
-            }
+            HubRequest::ClearBuffer(port, key) => self.translators.clear(*port, key),
+            HubRequest::ResetTranslator(port) => self.translators.reset(*port),
             request => self.ports.make(request),
         }
     }
@@ -98,7 +99,7 @@ impl Hub {
     fn reply(&self, setup: &[u8; 8]) -> HubReply
         ensures { result ≡ request_answer setup.now self.now }
     {
-        match self.ports.request(setup) {
+        match self.known(setup) {
             Some(request) => self.ports.reply(&request),
             None => HubReply::Stall,
         }
@@ -143,32 +144,27 @@ impl Hub {
     }
 
     /// Takes a split ask for a full- or low-speed device below, with the bytes that it sends, at most 1,024, and answers it
-    /// (USB 2.0, 11.17 to 11.21). Stuffed bits make the transaction below longer by `stuff` bytes in 36 (7.1.9). An ask that
-    /// isn't split is answered by silence, and changes nothing.
+    /// by the translator of its port (USB 2.0, 11.14 and 11.17 to 11.21). Stuffed bits make the transaction below longer by
+    /// `stuff` bytes in 36 (7.1.9). An ask that isn't split, or for whose port there is no translator, is answered by silence, and
+    /// changes nothing.
     pub fn transact(&mut self, ask: &Ask, out: &[u8], stuff: u8) -> Reply
         requires { length out.now ≤ 1024 }
         ensures answer { result ≡ transact_reply ask.now self.old }
         ensures after { self.new ≡ transacted ask.now out.now stuff self.old }
     {
-        match split_row(&ask.split, ask.kind) {
-            SplitRow::BulkStart => self.bulk.start(ask, out, stuff),
-            SplitRow::BulkComplete => self.bulk.complete(&Key::of(ask)),
-            SplitRow::PeriodicStart => {
-                self.pipeline.start(ask, out, stuff);
-                Reply::Silent
-            }
-            SplitRow::PeriodicComplete => self.pipeline.complete(&Key::of(ask)),
-            SplitRow::NoSplit => Reply::Silent,
+        match ask.split {
+            Split::Plain => Reply::Silent,
+            Split::Start { .. } => self.translators.start(ask, out, stuff),
+            Split::Complete { .. } => self.translators.complete(ask),
         }
     }
 
-    /// Works on the bus below for the microframe that ended, at the begin of the one with this frame index (0 to 16,383): the
-    /// pipeline first, then the buffers with the byte-times that are left of 188 (USB 2.0, 11.18).
+    /// Works on the bus below for the microframe that ended, at the begin of the one with this frame index (0 to 16,383): each
+    /// translator in the order of the ports, with 188 byte-times (USB 2.0, 11.18).
     pub fn microframe<W: Wire>(&mut self, frindex: u16, down: &mut W)
         ensures { HubWorks W.transacts frindex self.old down.old self.new down.new }
     {
-        let used = self.pipeline.microframe(frindex, down);
-        self.bulk.work(down, BYTE_TIMES_OF_MICROFRAME as u32 - used);
+        self.translators.microframe(frindex, down);
     }
 
     fn suits(&self, ask: &Ask) -> bool

@@ -9,7 +9,7 @@ ghost use Rattle.hub_ports.specs.Ports.{opened_port, is_enabled};
 ghost use Rattle.hub_class.specs.Requesting.{requested, request_answer};
 ghost use Rattle.hub_class.specs.EndpointZero.{hub_reply, hub_answered, hub_acked};
 ghost use Rattle.hub_class.specs.Translating.{transact_reply, transacted};
-ghost use Rattle.hub_class.specs.Worked.{hub, ask, setup_ask, in_ask, status_ask, start, complete, get_status, set_reset, power_off, reset_translator, get_descriptor, told};
+ghost use Rattle.hub_class.specs.Worked.{hub, ask, setup_ask, in_ask, status_ask, multi_hub, both_started, start, complete, second, pipeline_at, get_status, set_reset, power_off, reset_translator, reset_second, clear_first, get_descriptor, told};
 
 /// The status of a port is read in the data stage, and its status stage acts once.
 pub fn status_is_read()
@@ -40,7 +40,7 @@ pub fn unknown_is_stalled()
     ensures answer { request_answer get_descriptor hub ≡ Answers.Stall }
 {}
 
-/// Split asks go into the buffers or the pipeline; a reset of the translator empties both.
+/// Split asks go into the buffers or the pipeline of the one translator, whatever their port; its reset empties both.
 pub fn splits()
     ensures bulk_start { transact_reply (start Bulk) hub ≡ Replies.Hand Pids.Ack }
     ensures bulk_pending { transact_reply (complete Bulk) (transacted (start Bulk) [] 0 hub) ≡ Replies.Hand Pids.Nyet }
@@ -49,6 +49,18 @@ pub fn splits()
     ensures interrupt_pending { transact_reply (complete Interrupt) (transacted (start Interrupt) [] 0 hub) ≡ Replies.Hand Pids.Nyet }
     ensures interrupt_unknown { transact_reply (complete Interrupt) hub ≡ Replies.Hand Pids.Nyet }
     ensures emptied { requested reset_translator (transacted (start Interrupt) [] 0 (transacted (start Bulk) [] 0 hub)) ≡ hub }
-    ensures stuffed { used_by 188 (worked_with 1 [] (transacted (start Interrupt) [] 6 hub).pipeline) ≡ 89 }
+    ensures stuffed { used_by 188 (worked_with 1 [] (pipeline_at 1 (transacted (start Interrupt) [] 6 hub))) ≡ 89 }
+    ensures one_for_all { transact_reply (second (complete Bulk)) (transacted (second (start Bulk)) [] 0 hub) ≡ Replies.Hand Pids.Nyet }
+    ensures one_wire_index { requested reset_second (transacted (start Bulk) [] 0 hub) ≡ transacted (start Bulk) [] 0 hub }
     ensures ports_stay { (transacted (start Bulk) [] 0 hub).ports ≡ hub.ports }
+{}
+
+/// Where each port has a translator, a split and a request go to that of their port.
+pub fn splits_by_port()
+    ensures first { transact_reply (complete Bulk) (transacted (start Bulk) [] 0 multi_hub) ≡ Replies.Hand Pids.Nyet }
+    ensures second { transact_reply (second (complete Bulk)) (transacted (start Bulk) [] 0 multi_hub) ≡ Replies.Silent }
+    ensures second_reset { requested reset_second (transacted (start Bulk) [] 0 multi_hub) ≡ transacted (start Bulk) [] 0 multi_hub }
+    ensures first_reset { requested reset_translator (transacted (start Bulk) [] 0 multi_hub) ≡ multi_hub }
+    ensures first_cleared { transact_reply (complete Bulk) (requested clear_first both_started) ≡ Replies.Silent }
+    ensures second_kept { transact_reply (second (complete Bulk)) (requested clear_first both_started) ≡ Replies.Hand Pids.Nyet }
 {}

@@ -95,8 +95,8 @@ abbrev pub reply_of : HubRequest → List Port → HubReply
 reply_of HubStatus ports = Bytes (0 ∷ 0 ∷ 0 ∷ 0 ∷ [])
 reply_of (PortStatus port) ports = status_of (port_at port ports)
 reply_of (ChangePort _ _) ports = Done
-reply_of (ClearBuffer _) ports = Done
-reply_of ResetTranslator ports = Done
+reply_of (ClearBuffer _ _) ports = Done
+reply_of (ResetTranslator _) ports = Done
 
 -- what it leaves of the ports
 abbrev pub ports_after : HubRequest → List Port → List Port

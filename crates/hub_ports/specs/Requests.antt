@@ -1,5 +1,5 @@
 -- The requests that a hub knows, by their setup bytes (USB 2.0, 9.3 and 11.24.2).
-use Rattle.std.specs.Prelude.{ℕ, ◌+◌, ◌*◌, ◌/◌, ◌%◌, ◌==◌, ◌&&◌, nat_le, List, slice_index, Option, Some, None, if◌then◌else◌}
+use Rattle.std.specs.Prelude.{ℕ, ◌+◌, ◌*◌, ◌/◌, ◌%◌, ◌==◌, Bool, ◌&&◌, nat_le, List, slice_index, Option, Some, None, if◌then◌else◌}
 use Rattle.usb_base.specs.declared.packets.Dir.{Dir}
 use Rattle.usb_base.specs.declared.packets.Dir.TheVariants as Directions
 use Rattle.usb_base.specs.declared.packets.EpKind.{EpKind}
@@ -69,7 +69,7 @@ key_with value (Some kind) = Some (record { addr = value / 16 % 128; ep = value 
 abbrev pub buffer_key : ℕ → Option Key
 buffer_key value = if value / 8192 % 4 == 0 then key_with value (buffer_kind (value / 2048 % 4)) else None
 
--- wIndex: 0 for the hub, a port from 1 on, and 1 for the one translator
+-- wIndex: 0 for the hub, a port from 1 on; for a translator that of its port, and 1 where there is one for all ports
 abbrev pub at_port : ℕ → ℕ → HubRequest → Option HubRequest
 at_port ports index request = if nat_le 1 index && nat_le index ports then Some request else None
 
@@ -77,27 +77,31 @@ abbrev pub change_at : ℕ → ℕ → Option PortChange → Option HubRequest
 change_at ports index None = None
 change_at ports index (Some change) = at_port ports index (ChangePort index change)
 
-abbrev pub clear_of : Option Key → Option HubRequest
-clear_of None = None
-clear_of (Some key) = Some (ClearBuffer key)
+-- how many translators a hub with so many ports has (11.14)
+abbrev pub translators_of : Bool → ℕ → ℕ
+translators_of multi ports = if multi then ports else 1
+
+abbrev pub clear_at : ℕ → ℕ → Option Key → Option HubRequest
+clear_at translators index None = None
+clear_at translators index (Some key) = at_port translators index (ClearBuffer index key)
 
 -- wValue and wIndex of each
-abbrev pub request_by : ClassRequest → ℕ → ℕ → ℕ → Option HubRequest
-request_by GetHubStatus ports value index = if value == 0 && index == 0 then Some HubStatus else None
-request_by GetPortStatus ports value index = if value == 0 then at_port ports index (PortStatus index) else None
-request_by SetPortFeature ports value index = change_at ports index (set_feature value)
-request_by ClearPortFeature ports value index = change_at ports index (clear_feature value)
-request_by ClearTtBuffer ports value index = if index == 1 then clear_of (buffer_key value) else None
-request_by ResetTt ports value index = if value == 0 && index == 1 then Some ResetTranslator else None
+abbrev pub request_by : ClassRequest → Bool → ℕ → ℕ → ℕ → Option HubRequest
+request_by GetHubStatus multi ports value index = if value == 0 && index == 0 then Some HubStatus else None
+request_by GetPortStatus multi ports value index = if value == 0 then at_port ports index (PortStatus index) else None
+request_by SetPortFeature multi ports value index = change_at ports index (set_feature value)
+request_by ClearPortFeature multi ports value index = change_at ports index (clear_feature value)
+request_by ClearTtBuffer multi ports value index = clear_at (translators_of multi ports) index (buffer_key value)
+request_by ResetTt multi ports value index = if value == 0 then at_port (translators_of multi ports) index (ResetTranslator index) else None
 
-abbrev pub request_with : Option ClassRequest → ℕ → SetupFields → Option HubRequest
-request_with None ports f = None
-request_with (Some r) ports f = if f.length == length_of r then request_by r ports f.value f.index else None
+abbrev pub request_with : Option ClassRequest → Bool → ℕ → SetupFields → Option HubRequest
+request_with None multi ports f = None
+request_with (Some r) multi ports f = if f.length == length_of r then request_by r multi ports f.value f.index else None
 
--- the request of these fields, to a hub with so many ports; every other is stalled
-abbrev pub request_of_fields : ℕ → SetupFields → Option HubRequest
-request_of_fields ports f = request_with (class_request f.kind f.request) ports f
+-- the request of these fields, to a hub with so many ports, which has a translator for each or one for all; every other is stalled
+abbrev pub request_of_fields : Bool → ℕ → SetupFields → Option HubRequest
+request_of_fields multi ports f = request_with (class_request f.kind f.request) multi ports f
 
 -- the request of these setup bytes
-abbrev pub request_of : ℕ → List ℕ → Option HubRequest
-request_of ports setup = request_of_fields ports (fields_of setup)
+abbrev pub request_of : Bool → ℕ → List ℕ → Option HubRequest
+request_of multi ports setup = request_of_fields multi ports (fields_of setup)

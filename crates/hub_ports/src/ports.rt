@@ -49,11 +49,12 @@ impl Ports {
         }
     }
 
-    /// The request of eight setup bytes; `None` exactly where the hub knows none such, and stalls.
-    pub fn request(&self, setup: &[u8; 8]) -> Option<HubRequest>
-        ensures { result ≡ request_of_setup (length self.now) setup.now }
+    /// The request of eight setup bytes, where the hub has a translator for each port (`multi`) or one for all; `None` exactly
+    /// where the hub knows none such, and stalls.
+    pub fn request(&self, multi: bool, setup: &[u8; 8]) -> Option<HubRequest>
+        ensures { result ≡ request_of_setup multi (length self.now) setup.now }
     {
-        request_of(self.ports.len() as u16, setup)
+        request_of(multi, self.ports.len() as u16, setup)
     }
 
     /// What a request answers.

@@ -1,5 +1,5 @@
 ghost use Rattle.std.specs.Prelude.{◌≡◌, ◌+◌, ◌*◌, ◌<◌};
-ghost use Rattle.hub_ports.specs.Requests.{fields_of, class_request, length_of, set_feature, clear_feature, buffer_kind, buffer_direction, buffer_key, at_port, change_at, request_by, request_of_fields, request_of as request_of_setup};
+ghost use Rattle.hub_ports.specs.Requests.{fields_of, class_request, length_of, set_feature, clear_feature, buffer_kind, buffer_direction, buffer_key, at_port, change_at, translators_of, clear_at, request_by, request_of_fields, request_of as request_of_setup};
 
 use crate::rows::{ClassRequest, HubRequest, PortChange};
 use hub_keys::Key;
@@ -142,20 +142,30 @@ fn change_at(ports: u16, index: u16, change: Option<PortChange>) -> Option<HubRe
     }
 }
 
-fn clear(value: u16, index: u16) -> Option<HubRequest>
-    ensures { result ≡ request_by ClassRequest.ClearTtBuffer 0 value index }
+/// How many translators a hub with so many ports has.
+fn translators(multi: bool, ports: u16) -> u16
+    ensures { result ≡ translators_of multi ports }
 {
-    if index != 1 {
-        return None;
-    }
-    match buffer_key(value) {
-        Some(key) => Some(HubRequest::ClearBuffer(key)),
+    if multi { ports } else { 1 }
+}
+
+fn clear_at(translators: u16, index: u16, key: Option<Key>) -> Option<HubRequest>
+    ensures { result ≡ clear_at translators index key }
+{
+    match key {
+        Some(key) => at_port(translators, index, HubRequest::ClearBuffer(index, key)),
         None => None,
     }
 }
 
-fn request_by(request: ClassRequest, ports: u16, value: u16, index: u16) -> Option<HubRequest>
-    ensures { result ≡ request_by request ports value index }
+fn request_by(
+    request: ClassRequest,
+    multi: bool,
+    ports: u16,
+    value: u16,
+    index: u16,
+) -> Option<HubRequest>
+    ensures { result ≡ request_by request multi ports value index }
 {
     match request {
         ClassRequest::GetHubStatus => match (value, index) {
@@ -168,16 +178,22 @@ fn request_by(request: ClassRequest, ports: u16, value: u16, index: u16) -> Opti
         },
         ClassRequest::SetPortFeature => change_at(ports, index, set_feature(value)),
         ClassRequest::ClearPortFeature => change_at(ports, index, clear_feature(value)),
-        ClassRequest::ClearTtBuffer => clear(value, index),
-        ClassRequest::ResetTt => match (value, index) {
-            (0, 1) => Some(HubRequest::ResetTranslator),
+        ClassRequest::ClearTtBuffer => {
+            clear_at(translators(multi, ports), index, buffer_key(value))
+        }
+        ClassRequest::ResetTt => match value {
+            0 => at_port(
+                translators(multi, ports),
+                index,
+                HubRequest::ResetTranslator(index),
+            ),
             _ => None,
         },
     }
 }
 
-fn request_of_fields(ports: u16, fields: SetupFields) -> Option<HubRequest>
-    ensures { result ≡ request_of_fields ports fields }
+fn request_of_fields(multi: bool, ports: u16, fields: SetupFields) -> Option<HubRequest>
+    ensures { result ≡ request_of_fields multi ports fields }
 {
     let Some(request) = class_request(fields.kind, fields.request) else {
         return None;
@@ -185,12 +201,13 @@ fn request_of_fields(ports: u16, fields: SetupFields) -> Option<HubRequest>
     if fields.length != length(request) {
         return None;
     }
-    request_by(request, ports, fields.value, fields.index)
+    request_by(request, multi, ports, fields.value, fields.index)
 }
 
-/// The request of eight setup bytes to a hub with so many ports; `None` exactly where it knows none such, and stalls.
-pub fn request_of(ports: u16, setup: &[u8; 8]) -> Option<HubRequest>
-    ensures { result ≡ request_of_setup ports setup.now }
+/// The request of eight setup bytes to a hub with so many ports, which has a translator for each of them (`multi`) or one for
+/// all; `None` exactly where it knows none such, and stalls.
+pub fn request_of(multi: bool, ports: u16, setup: &[u8; 8]) -> Option<HubRequest>
+    ensures { result ≡ request_of_setup multi ports setup.now }
 {
-    request_of_fields(ports, fields(setup))
+    request_of_fields(multi, ports, fields(setup))
 }

@@ -39,10 +39,10 @@ pub enum HubRequest {
     PortStatus(u16),
     /// A feature of this port, from 1, is set or cleared.
     ChangePort(u16, PortChange),
-    /// ClearTTBuffer of this key.
-    ClearBuffer(Key),
-    /// ResetTT.
-    ResetTranslator,
+    /// ClearTTBuffer of this key, in the translator of this port, from 1.
+    ClearBuffer(u16, Key),
+    /// ResetTT of the translator of this port, from 1.
+    ResetTranslator(u16),
 }
 
 /// The answer to a request.

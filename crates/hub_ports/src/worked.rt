@@ -11,34 +11,44 @@ ghost use Rattle.hub_ports.specs.Worked.{setup, full, low, empty, four};
 
 /// The requests to a hub of four ports.
 pub fn requests()
-    ensures hub_status { request_of 4 (setup 160 0 0 0 0 4) ≡ Some HubStatus }
-    ensures port_status { request_of 4 (setup 163 0 0 0 1 4) ≡ Some (PortStatus 1) }
-    ensures power_on { request_of 4 (setup 35 3 8 0 4 0) ≡ Some (ChangePort 4 PowerOn) }
-    ensures reset { request_of 4 (setup 35 3 4 0 2 0) ≡ Some (ChangePort 2 Reset) }
-    ensures disable { request_of 4 (setup 35 1 1 0 2 0) ≡ Some (ChangePort 2 Disable) }
-    ensures power_off { request_of 4 (setup 35 1 8 0 2 0) ≡ Some (ChangePort 2 PowerOff) }
-    ensures forget_connection { request_of 4 (setup 35 1 16 0 2 0) ≡ Some (ChangePort 2 ForgetConnection) }
-    ensures forget_enable { request_of 4 (setup 35 1 17 0 2 0) ≡ Some (ChangePort 2 ForgetEnable) }
-    ensures forget_reset { request_of 4 (setup 35 1 20 0 2 0) ≡ Some (ChangePort 2 ForgetReset) }
+    ensures hub_status { request_of false 4 (setup 160 0 0 0 0 4) ≡ Some HubStatus }
+    ensures port_status { request_of false 4 (setup 163 0 0 0 1 4) ≡ Some (PortStatus 1) }
+    ensures power_on { request_of false 4 (setup 35 3 8 0 4 0) ≡ Some (ChangePort 4 PowerOn) }
+    ensures reset { request_of false 4 (setup 35 3 4 0 2 0) ≡ Some (ChangePort 2 Reset) }
+    ensures disable { request_of false 4 (setup 35 1 1 0 2 0) ≡ Some (ChangePort 2 Disable) }
+    ensures power_off { request_of false 4 (setup 35 1 8 0 2 0) ≡ Some (ChangePort 2 PowerOff) }
+    ensures forget_connection { request_of false 4 (setup 35 1 16 0 2 0) ≡ Some (ChangePort 2 ForgetConnection) }
+    ensures forget_enable { request_of false 4 (setup 35 1 17 0 2 0) ≡ Some (ChangePort 2 ForgetEnable) }
+    ensures forget_reset { request_of false 4 (setup 35 1 20 0 2 0) ≡ Some (ChangePort 2 ForgetReset) }
     // endpoint 1 IN of device 3, bulk: 3 * 16 + 1, type 2, bit 15
-    ensures clear_bulk { request_of 4 (setup 35 8 49 144 1 0) ≡ Some (ClearBuffer (record { addr = 3; ep = 1; dir = Directions.In; kind = Bulk })) }
-    ensures clear_control { request_of 4 (setup 35 8 48 0 1 0) ≡ Some (ClearBuffer (record { addr = 3; ep = 0; dir = Directions.Out; kind = Control })) }
-    ensures reset_translator { request_of 4 (setup 35 9 0 0 1 0) ≡ Some ResetTranslator }
+    ensures clear_bulk { request_of false 4 (setup 35 8 49 144 1 0) ≡ Some (ClearBuffer 1 (record { addr = 3; ep = 1; dir = Directions.In; kind = Bulk })) }
+    ensures clear_control { request_of false 4 (setup 35 8 48 0 1 0) ≡ Some (ClearBuffer 1 (record { addr = 3; ep = 0; dir = Directions.Out; kind = Control })) }
+    ensures reset_translator { request_of false 4 (setup 35 9 0 0 1 0) ≡ Some (ResetTranslator 1) }
+{}
+
+/// Where a hub has a translator for each port, wIndex names the port.
+pub fn requests_by_port()
+    ensures clear { request_of true 4 (setup 35 8 49 144 3 0)
+        ≡ Some (ClearBuffer 3 (record { addr = 3; ep = 1; dir = Directions.In; kind = Bulk })) }
+    ensures reset { request_of true 4 (setup 35 9 0 0 4 0) ≡ Some (ResetTranslator 4) }
+    ensures no_clear { request_of false 4 (setup 35 8 49 144 3 0) ≡ None }
+    ensures port_0 { request_of true 4 (setup 35 9 0 0 0 0) ≡ None }
+    ensures port_5 { request_of true 4 (setup 35 8 49 144 5 0) ≡ None }
 {}
 
 /// Everything else is stalled.
 pub fn refusals()
-    ensures descriptor { request_of 4 (160 ∷ 6 ∷ 0 ∷ 41 ∷ 0 ∷ 0 ∷ 9 ∷ 0 ∷ []) ≡ None }
-    ensures port_0 { request_of 4 (setup 163 0 0 0 0 4) ≡ None }
-    ensures port_5 { request_of 4 (setup 163 0 0 0 5 4) ≡ None }
-    ensures high_index { request_of 4 (163 ∷ 0 ∷ 0 ∷ 0 ∷ 1 ∷ 1 ∷ 4 ∷ 0 ∷ []) ≡ None }
-    ensures short_read { request_of 4 (setup 163 0 0 0 1 2) ≡ None }
-    ensures long_write { request_of 4 (setup 35 3 8 0 1 1) ≡ None }
-    ensures no_feature { request_of 4 (setup 35 3 2 0 1 0) ≡ None }
-    ensures isochronous_buffer { request_of 4 (setup 35 8 49 8 1 0) ≡ None }
-    ensures interrupt_buffer { request_of 4 (setup 35 8 49 24 1 0) ≡ None }
-    ensures reserved_bits { request_of 4 (setup 35 8 49 48 1 0) ≡ None }
-    ensures second_translator { request_of 4 (setup 35 9 0 0 2 0) ≡ None }
+    ensures descriptor { request_of false 4 (160 ∷ 6 ∷ 0 ∷ 41 ∷ 0 ∷ 0 ∷ 9 ∷ 0 ∷ []) ≡ None }
+    ensures port_0 { request_of false 4 (setup 163 0 0 0 0 4) ≡ None }
+    ensures port_5 { request_of false 4 (setup 163 0 0 0 5 4) ≡ None }
+    ensures high_index { request_of false 4 (163 ∷ 0 ∷ 0 ∷ 0 ∷ 1 ∷ 1 ∷ 4 ∷ 0 ∷ []) ≡ None }
+    ensures short_read { request_of false 4 (setup 163 0 0 0 1 2) ≡ None }
+    ensures long_write { request_of false 4 (setup 35 3 8 0 1 1) ≡ None }
+    ensures no_feature { request_of false 4 (setup 35 3 2 0 1 0) ≡ None }
+    ensures isochronous_buffer { request_of false 4 (setup 35 8 49 8 1 0) ≡ None }
+    ensures interrupt_buffer { request_of false 4 (setup 35 8 49 24 1 0) ≡ None }
+    ensures reserved_bits { request_of false 4 (setup 35 8 49 48 1 0) ≡ None }
+    ensures second_translator { request_of false 4 (setup 35 9 0 0 2 0) ≡ None }
 {}
 
 /// The changes of a port.

@@ -52,8 +52,8 @@ one_load u =
 one_fits : Fits (joined [] (want_of 0 (camera 1)) each_microframe)
 one_fits = record {
   loads = λ u h. omega (arith, one_load u);
-  frames = λ hub f h k. lit≤ tt;
-  bytes = λ hub u h k. lit≤ tt;
+  frames = λ hub port f h t k. lit≤ tt;
+  bytes = λ hub port u h t k. lit≤ tt;
 }
 
 -- ---- the first

@@ -1,3 +1,4 @@
 pub mod Events
 pub mod Streams
 pub mod Pipes
+pub mod OutPipes

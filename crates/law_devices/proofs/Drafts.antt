@@ -21,7 +21,9 @@ use Rattle.script_forms.specs.declared.statements.Statement.{Statement}
 use Rattle.script_forms.specs.declared.statements.Statement.TheVariants as says
 use Rattle.script_world.specs.Draft.{Draft, Placed, device_of, hub_of, hub_ep, hub_desc, ep_of, device_ep, known, is_name, same_way, is_named, change}
 use Rattle.script_world.specs.Ranges.{within, is_endpoint, is_slots}
-use Rattle.script_world.specs.Rows.{is_known, is_twice, is_used, is_attached, answered, counted, roomier, at_ep, name_of, desc_of, with_ep, content_bytes, content_len, bytes_len, commanded, where_known, put_room, control_name, attach, by_of, after}
+use Rattle.script_world.specs.Rows.{is_known, is_twice, is_used, is_attached, answered, counted, roomier, stuffed, at_ep, name_of}
+use Rattle.script_world.specs.Rows.{desc_of, with_ep, content_bytes, content_len, bytes_len, commanded, where_known, put_room}
+use Rattle.script_world.specs.Rows.{control_name, attach, by_of, after}
 use Rattle.bus_wire.specs.Fates.{is_same_way, is_same_name}
 use Rattle.law_devices.proofs.Lists.{Holds, all_append, all_more, all_change, none_each, each_none, map_change, any_more, any_later, or_left, then_append, then_change, map_append, map_find_change}
 
@@ -307,7 +309,7 @@ ordered_declared w v n l k devices hubs endpoints lines h =
     (record { apart = h.apart; no_hub = h.no_hub; own = h.own; opened = all_append (λ l. IsKnownLine w.devices l.1) w.lines ((n, l) ∷ []) h.opened (k, tt) })
 
 pub after_declared : (w : Draft) (n : ℕ) (s : Statement) → is_twice w s ≡ false → IsDeclaredDraft w → IsDeclaredDraft (after w n s)
-after_declared w n (says.Hub addr ports) new h =
+after_declared w n (says.Hub addr ports multi) new h =
     cond_both (within 1 127 addr && within 1 15 ports) _ w IsDeclaredDraft (λ _. hub_declared w _ (unused w addr new) h) (λ _. h)
 after_declared w n (says.DevHigh addr) new h =
     cond_both (within 1 127 addr) _ w IsDeclaredDraft (λ _. device_declared w w.hubs _ refl (unused w addr new) (λ a e. e) h) (λ _. h)
@@ -320,6 +322,9 @@ after_declared w n (says.Ep l) new h =
     cond_both (is_endpoint l && is_some (device_of w.devices l.name.addr)) _ w IsDeclaredDraft (λ _. ep_declared w l h) (λ _. h)
 after_declared w n (says.Reply name a) new h = changed_declared w name (answered a) _ (λ e. refl) refl refl refl refl h
 after_declared w n (says.Fate f) new h = where_declared w f.name _ h (same_declared w _ refl refl refl refl h)
+after_declared w n (says.Stuff name p) new h =
+    cond_both (nat_le p 6) _ w IsDeclaredDraft
+    (λ _. where_declared w name _ h (changed_declared w name (stuffed p) _ (λ e. refl) refl refl refl refl h)) (λ _. h)
 after_declared w n (says.Open name) new h = opened_declared w n (known w name) (known_is w name) h
 after_declared w n (says.Cancel name) new h = where_declared w name _ h (commanded_declared w n (cmd.Cancel (name_of name)) tt h)
 after_declared w n (says.Get l) new h =

@@ -10,7 +10,7 @@ use Rattle.script_forms.specs.declared.causes.TextWhy.TheVariants as C
 use Rattle.script_forms.specs.declared.table.FirstWord.{FirstWord}
 use Rattle.script_forms.specs.declared.table.Form.{Form}
 use Rattle.script_forms.specs.declared.statements.Statement.{Statement}
-use Rattle.script_forms.specs.Table.{first_of}
+use Rattle.script_forms.specs.Table.{first_in}
 use Rattle.script_forms.specs.Fitting.{form_of}
 use Rattle.script_forms.specs.Values.{statement_of}
 use Rattle.script_world.specs.Draft.{Draft, empty, script_of}
@@ -59,12 +59,14 @@ module _ (P : Draft → Type 0) (at_first : P empty) (second : (w : Draft) → P
   first_kept : (w : Draft) (n : ℕ) (more : List (List ℕ)) (first : Option FirstWord) → P w → Read (first_read w n more first)
   first_kept w n more None h = tt
   first_kept w n more (Some first) h =
-      cond_both (is_late w first) (Err C.Late) (form_read w n more (form_of first more)) Read (λ _. tt) (λ _. form_kept w n more (form_of first more) h)
+      cond_both (is_late w first) (Err C.Late) (form_read w n more (form_of w.version first more)) Read
+      (λ _. tt) (λ _. form_kept w n more (form_of w.version first more) h)
 
   words_kept : (w : Draft) (n : ℕ) (ws : List (List ℕ)) → P w → Read (words_read w n ws)
   words_kept w n [] h = tt
   words_kept w n (first ∷ more) h =
-      cond_both (list_any no_bytes (first ∷ more)) (Err C.Word) (first_read w n more (first_of first)) Read (λ _. tt) (λ _. first_kept w n more (first_of first) h)
+      cond_both (list_any no_bytes (first ∷ more)) (Err C.Word) (first_read w n more (first_in w.version first)) Read
+      (λ _. tt) (λ _. first_kept w n more (first_in w.version first) h)
 
   version_kept : (w : Draft) (line : List ℕ) → P w → Read (version_read w line)
   version_kept w line h =

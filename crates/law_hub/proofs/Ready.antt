@@ -2,6 +2,8 @@
 use Rattle.std.proofs.Common.{◌≡◌, ℕ, Bool, true, false, List, Option, Some, None, sym, subst, if◌then◌else◌, arith}
 use Rattle.usb_base.specs.declared.packets.Ask.{Ask}
 use Rattle.usb_base.specs.declared.packets.Reply.{Reply}
+use Rattle.usb_base.specs.declared.packets.Split.{Split}
+use Rattle.usb_base.specs.declared.packets.Split.TheVariants.{Plain}
 use Rattle.dev_control.specs.declared.control.Request.{Request}
 use Rattle.dev_control.specs.declared.rows.Stage.{Stage}
 use Rattle.dev_control.specs.declared.rows.Stage.TheVariants.{Refusing, Reading, AllRead, Writing, AllWritten, NoData}
@@ -11,12 +13,10 @@ use Rattle.dev_control.specs.Stages.{Stages, stage_of, acted_at, after_stage_row
 use Rattle.dev_control.specs.Stages as Staging
 use Rattle.hub_ports.specs.declared.rows.HubRequest.{HubRequest}
 use Rattle.hub_ports.specs.declared.rows.HubRequest.TheVariants.{ChangePort, ClearBuffer, ResetTranslator}
-use Rattle.hub_class.specs.declared.translator.SplitRow.{SplitRow}
-use Rattle.hub_class.specs.declared.translator.SplitRow.TheVariants.{NoSplit}
 use Rattle.hub_class.specs.HubContent.{HubContent}
 use Rattle.hub_class.specs.Requesting.{effect_if, request_at, requested}
 use Rattle.hub_class.specs.EndpointZero.{reply_under, suits, acts_on, acted_with, row_at, hub_answered, hub_acked}
-use Rattle.hub_class.specs.Translating.{HubWorks, split_row, after_split, transacted}
+use Rattle.hub_class.specs.Translating.{HubWorks, after_split, transacted}
 use Rattle.law_hub.specs.Stages.{IsReady}
 
 record Steady (c : Stages) : Type 0 where
@@ -33,20 +33,20 @@ steady_of h r = record { max = r.max; naks = r.naks }
 
 effect_ready : (request : Option HubRequest) (h : HubContent) → IsReady h → IsReady (effect_if request h)
 effect_ready (Some (ChangePort port change)) h r = record { max = r.max; naks = r.naks }
-effect_ready (Some (ClearBuffer key)) h r = record { max = r.max; naks = r.naks }
-effect_ready (Some ResetTranslator) h r = record { max = r.max; naks = r.naks }
+effect_ready (Some (ClearBuffer port key)) h r = record { max = r.max; naks = r.naks }
+effect_ready (Some (ResetTranslator port)) h r = record { max = r.max; naks = r.naks }
 effect_ready _ h r = r
 
 pub requested_ready : (setup : List ℕ) (h : HubContent) → IsReady h → IsReady (requested setup h)
 requested_ready setup h r = effect_ready (request_at setup h) h r
 
-split_ready : (row : SplitRow) (ask : Ask) (out : List ℕ) (stuff : ℕ) (h : HubContent) → IsReady h
-    → IsReady (after_split row ask out stuff h)
-split_ready NoSplit ask out stuff h r = r
+split_ready : (split : Split) (ask : Ask) (out : List ℕ) (stuff : ℕ) (h : HubContent) → IsReady h
+    → IsReady (after_split split ask out stuff h)
+split_ready Plain ask out stuff h r = r
 split_ready _ ask out stuff h r = record { max = r.max; naks = r.naks }
 
 pub transacted_ready : (ask : Ask) (out : List ℕ) (stuff : ℕ) (h : HubContent) → IsReady h → IsReady (transacted ask out stuff h)
-transacted_ready ask out stuff h r = split_ready (split_row ask.split ask.kind) ask out stuff h r
+transacted_ready ask out stuff h r = split_ready ask.split ask out stuff h r
 
 pub worked_ready : {W : Type 0} (transacts : W → Ask → List ℕ → Reply → W → Type 0) (frindex : ℕ) (old : HubContent) (before : W) (new : HubContent) (after : W) → HubWorks transacts frindex old before new after → IsReady old → IsReady new
 worked_ready transacts frindex old before new after works r = subst IsReady (sym works.same) (record { max = r.max; naks = r.naks })

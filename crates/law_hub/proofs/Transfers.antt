@@ -145,8 +145,8 @@ acknowledges c setup bytes h ready e hears t =
 
 read_leaves : (request : Option HubRequest) (h : HubContent) (bytes : List ℕ) → reply_if request h ≡ Answers.Bytes bytes → effect_if request h ≡ h
 read_leaves (Some (ChangePort port change)) h bytes e = absurd cc
-read_leaves (Some (ClearBuffer key)) h bytes e = absurd cc
-read_leaves (Some ResetTranslator) h bytes e = absurd cc
+read_leaves (Some (ClearBuffer port key)) h bytes e = absurd cc
+read_leaves (Some (ResetTranslator port)) h bytes e = absurd cc
 read_leaves _ h bytes e = refl
 
 pub read_status : (c : Ask) (setup bytes : List ℕ) (h : HubContent) → IsReady h → request_answer setup h ≡ Answers.Bytes bytes → Hears Tokens.Out c h → c.toggle ≡ Pids.Data1 → hub_reply c [] (under (read_of setup) h) ≡ Hand Pids.Ack

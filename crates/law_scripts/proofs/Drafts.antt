@@ -17,7 +17,8 @@ use Rattle.script_forms.specs.declared.statements.Statement.{Statement}
 use Rattle.script_forms.specs.declared.statements.Statement.TheVariants as says
 use Rattle.script_world.specs.Draft.{Draft, Placed, device_ep, hub_ep, hub_desc, hub_of, device_of, ep_of, is_name, known, same_way, is_named, change}
 use Rattle.script_world.specs.Ranges.{within, is_endpoint, is_slots}
-use Rattle.script_world.specs.Rows.{is_known, answered, counted, roomier, at_ep, attach, name_of, with_ep, content_len, bytes_len, commanded, where_known, put_room, control_name, after_hub, after_below, after}
+use Rattle.script_world.specs.Rows.{is_known, answered, counted, roomier, stuffed, at_ep, attach, name_of, with_ep, content_len}
+use Rattle.script_world.specs.Rows.{bytes_len, commanded, where_known, put_room, control_name, after_hub, after_below, after}
 use Rattle.claims_driver.specs.Walk.{IsNumbered}
 use Rattle.law_driver_ring.specs.walk_members.Reached.{OpensNumbered}
 use Rattle.law_scripts.proofs.lemmas.byte_answers.Lists.{Holds, all_append, found}
@@ -99,8 +100,8 @@ put_room_numbers : (name : Name) (n : ℕ) (ds : List Placed) → AllByRecursion
 put_room_numbers name n ds h =
     cond_both (same_way name.way way.Out) (at_ep name (roomier n) ds) ds (AllByRecursion IsNumberedDevice) (λ _. at_ep_numbers name (roomier n) ds (λ e k. k) h) (λ _. h)
 
-hub_numbers : (w : Draft) (addr ports : ℕ) → IsNumberedDraft w → IsNumberedDraft (after_hub w addr ports)
-hub_numbers w addr ports h =
+hub_numbers : (w : Draft) (addr ports : ℕ) (multi : Bool) → IsNumberedDraft w → IsNumberedDraft (after_hub w addr ports multi)
+hub_numbers w addr ports multi h =
     cond_both (within 1 127 addr && within 1 15 ports) _ w IsNumberedDraft
     (λ e. record { hubs = all_append IsNumberedHub w.hubs _ h.hubs (low addr (and_parts (within 1 127 addr) (within 1 15 ports) e).0, tt); devices = h.devices; lines = h.lines })
     (λ _. h)
@@ -132,7 +133,7 @@ opened_numbers w n (Some d) k h = commanded_numbers w n (cmd.OpenEp d) k h
 -- ---- any line
 
 pub after_numbers : (w : Draft) (n : ℕ) (s : Statement) → IsNumberedDraft w → IsNumberedDraft (after w n s)
-after_numbers w n (says.Hub addr ports) h = hub_numbers w addr ports h
+after_numbers w n (says.Hub addr ports multi) h = hub_numbers w addr ports multi h
 after_numbers w n (says.DevHigh addr) h =
     cond_both (within 1 127 addr) _ w IsNumberedDraft
     (λ e. record { hubs = h.hubs; devices = all_append IsNumberedDevice w.devices _ h.devices (record { addr = low addr e; eps = tt }, tt); lines = h.lines }) (λ _. h)
@@ -148,6 +149,10 @@ after_numbers w n (says.Ep l) h =
     }) (λ _. h)
 after_numbers w n (says.Reply name a) h = record { hubs = h.hubs; devices = at_ep_numbers name (answered a) w.devices (λ e k. k) h.devices; lines = h.lines }
 after_numbers w n (says.Fate f) h = where_numbers w f.name _ h (record { hubs = h.hubs; devices = h.devices; lines = h.lines })
+after_numbers w n (says.Stuff name p) h =
+    cond_both (nat_le p 6) _ w IsNumberedDraft
+    (λ _. where_numbers w name _ h (record { hubs = h.hubs; devices = at_ep_numbers name (stuffed p) w.devices (λ e k. k) h.devices; lines = h.lines }))
+    (λ _. h)
 after_numbers w n (says.Open name) h = opened_numbers w n (known w name) (known_numbers w name h) h
 after_numbers w n (says.Cancel name) h = where_numbers w name _ h (commanded_numbers w n (cmd.Cancel (name_of name)) tt h)
 after_numbers w n (says.Get l) h =

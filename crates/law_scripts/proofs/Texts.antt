@@ -10,7 +10,7 @@ use Rattle.script_forms.specs.declared.causes.TextWhy.TheVariants as C
 use Rattle.script_forms.specs.declared.table.FirstWord.{FirstWord}
 use Rattle.script_forms.specs.declared.table.Form.{Form}
 use Rattle.script_forms.specs.declared.statements.Statement.{Statement}
-use Rattle.script_forms.specs.Table.{first_of}
+use Rattle.script_forms.specs.Table.{first_in}
 use Rattle.script_forms.specs.Fitting.{form_of}
 use Rattle.script_forms.specs.Values.{statement_of}
 use Rattle.script_world.specs.Draft.{Draft, empty}
@@ -39,12 +39,14 @@ module _ (P : Draft → Type 0) (second : (w : Draft) → P w → P (record w { 
   first_keeps : (w : Draft) (n : ℕ) (more : List (List ℕ)) (first : Option FirstWord) → P w → Keeps P (first_read w n more first)
   first_keeps w n more None h = tt
   first_keeps w n more (Some first) h =
-      cond_both (is_late w first) (Err C.Late) (form_read w n more (form_of first more)) (Keeps P) (λ _. tt) (λ _. form_keeps w n more (form_of first more) h)
+      cond_both (is_late w first) (Err C.Late) (form_read w n more (form_of w.version first more)) (Keeps P)
+      (λ _. tt) (λ _. form_keeps w n more (form_of w.version first more) h)
 
   words_keep : (w : Draft) (n : ℕ) (ws : List (List ℕ)) → P w → Keeps P (words_read w n ws)
   words_keep w n [] h = tt
   words_keep w n (first ∷ more) h =
-      cond_both (list_any no_bytes (first ∷ more)) (Err C.Word) (first_read w n more (first_of first)) (Keeps P) (λ _. tt) (λ _. first_keeps w n more (first_of first) h)
+      cond_both (list_any no_bytes (first ∷ more)) (Err C.Word) (first_read w n more (first_in w.version first)) (Keeps P)
+      (λ _. tt) (λ _. first_keeps w n more (first_in w.version first) h)
 
   version_keeps : (w : Draft) (line : List ℕ) → P w → Keeps P (version_read w line)
   version_keeps w line h =

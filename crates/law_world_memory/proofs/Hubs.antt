@@ -19,7 +19,8 @@ use Rattle.script_forms.specs.declared.statements.Statement.{Statement}
 use Rattle.script_forms.specs.declared.statements.Statement.TheVariants as says
 use Rattle.script_world.specs.Draft.{Draft, Placed, device_ep, hub_ep, hub_desc, hub_of, device_of, ep_of, is_name, known, same_way, is_named, change}
 use Rattle.script_world.specs.Ranges.{within, is_endpoint, is_slots}
-use Rattle.script_world.specs.Rows.{is_known, answered, counted, roomier, at_ep, name_of, with_ep, content_len, bytes_len, commanded, where_known, put_room, control_name, after_hub, after_below, after}
+use Rattle.script_world.specs.Rows.{is_known, answered, counted, roomier, stuffed, at_ep, name_of, with_ep, content_len, bytes_len}
+use Rattle.script_world.specs.Rows.{commanded, where_known, put_room, control_name, after_hub, after_below, after}
 use Rattle.law_scripts.proofs.lemmas.byte_answers.Lists.{Holds, all_append, found}
 
 abbrev pub IsBelow : EpDesc → Type 0
@@ -98,8 +99,9 @@ put_room_below : (name : Name) (n : ℕ) (ds : List Placed) → AllByRecursion I
 put_room_below name n ds h =
     cond_both (same_way name.way way.Out) (at_ep name (roomier n) ds) ds (AllByRecursion IsBelowDevice) (λ _. at_ep_below name (roomier n) ds (λ e k. k) h) (λ _. h)
 
-hub_below : (w : Draft) (addr ports : ℕ) → IsBelowDraft w → IsBelowDraft (after_hub w addr ports)
-hub_below w addr ports h = cond_both (within 1 127 addr && within 1 15 ports) _ w IsBelowDraft (λ _. record { devices = h.devices; lines = h.lines }) (λ _. h)
+hub_below : (w : Draft) (addr ports : ℕ) (multi : Bool) → IsBelowDraft w → IsBelowDraft (after_hub w addr ports multi)
+hub_below w addr ports multi h =
+    cond_both (within 1 127 addr && within 1 15 ports) _ w IsBelowDraft (λ _. record { devices = h.devices; lines = h.lines }) (λ _. h)
 
 low : (addr : ℕ) → nat_le addr 127 ≡ true → addr < 128
 low addr e = let most = leb-true addr 127 e in omega (arith, most)
@@ -135,7 +137,7 @@ opened_below w n (Some d) k h = commanded_below w n (cmd.OpenEp d) k h
 -- ---- any line
 
 pub after_below_hubs : (w : Draft) (n : ℕ) (s : Statement) → IsBelowDraft w → IsBelowDraft (after w n s)
-after_below_hubs w n (says.Hub addr ports) h = hub_below w addr ports h
+after_below_hubs w n (says.Hub addr ports multi) h = hub_below w addr ports multi h
 after_below_hubs w n (says.DevHigh addr) h =
     cond_both (within 1 127 addr) _ w IsBelowDraft
     (λ e. record { devices = all_append IsBelowDevice w.devices _ h.devices (record { hub = omega arith; eps = tt }, tt); lines = h.lines }) (λ _. h)
@@ -148,6 +150,10 @@ after_below_hubs w n (says.Ep l) h =
     }) (λ _. h)
 after_below_hubs w n (says.Reply name a) h = record { devices = at_ep_below name (answered a) w.devices (λ e k. k) h.devices; lines = h.lines }
 after_below_hubs w n (says.Fate f) h = where_below w f.name _ h (record { devices = h.devices; lines = h.lines })
+after_below_hubs w n (says.Stuff name p) h =
+    cond_both (nat_le p 6) _ w IsBelowDraft
+    (λ _. where_below w name _ h (record { devices = at_ep_below name (stuffed p) w.devices (λ e k. k) h.devices; lines = h.lines }))
+    (λ _. h)
 after_below_hubs w n (says.Open name) h = opened_below w n (known w name) (known_below w name h) h
 after_below_hubs w n (says.Cancel name) h = where_below w name _ h (commanded_below w n (cmd.Cancel (name_of name)) tt h)
 after_below_hubs w n (says.Get l) h = where_below w l.name _ h (commanded_below (record w { asked = counted w.asked l.len }) n _ tt (record { devices = h.devices; lines = h.lines }))

@@ -49,7 +49,7 @@ its_load u =
     omega (arith, sum, own, none)
 
 it_fits : Fits (joined [] (want_of 0 microphone) each_microframe)
-it_fits = record { loads = λ u h. its_load u; frames = λ hub f h k. lit≤ tt; bytes = λ hub u h k. lit≤ tt }
+it_fits = record { loads = λ u h. its_load u; frames = λ hub port f h t k. lit≤ tt; bytes = λ hub port u h t k. lit≤ tt }
 
 -- ---- it is accepted
 

@@ -32,7 +32,7 @@ microphone_fits = record {
   devices = refl;
   hubs = refl;
   rooms = ((omega arith, tt), tt);
-  lines = ((omega arith, omega arith, record { size = refl; pace = refl; below = refl }), (omega arith, (tt, (tt, tt))));
+  lines = ((omega arith, omega arith, record { size = refl; pace = refl; below = refl; translator = omega arith }), (omega arith, (tt, (tt, tt))));
 }
 
 pub microphone_bytes : IsByteScript one_microphone

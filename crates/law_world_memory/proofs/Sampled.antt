@@ -29,11 +29,11 @@ two_fit = record {
   hubs = refl;
   rooms = ((omega arith, tt), ((omega arith, tt), tt));
   lines = (
-    (omega arith, omega arith, record { size = refl; pace = refl; below = refl }),
+    (omega arith, omega arith, record { size = refl; pace = refl; below = refl; translator = omega arith }),
     (
       tt,
       (
-        (omega arith, omega arith, record { size = refl; pace = refl; below = refl }),
+        (omega arith, omega arith, record { size = refl; pace = refl; below = refl; translator = omega arith }),
         (tt, ((omega arith, omega arith), (tt, (tt, tt)))),
       ),
     ),

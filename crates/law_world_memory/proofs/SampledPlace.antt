@@ -5,7 +5,7 @@ use Rattle.std.proofs.lemmas.Bool.Decides.{nat_tests}
 use Rattle.std.proofs.lemmas.Option.{same_Some}
 use Rattle.bandwidth.specs.declared.placements.Placement.{Placement}
 use Rattle.bandwidth.specs.Placements.{IsWant, allowed, mask, has, first_in, frame_period, run, placement_at}
-use Rattle.bandwidth.specs.Sums.{Fits, load, price, cost_in, cost_at, laid_in, laid_at, time_of, time_at, frame_sum, tt_sum, is_active, is_hub}
+use Rattle.bandwidth.specs.Sums.{Fits, load, price, cost_in, cost_at, laid_in, laid_at, time_of, time_at, frame_sum, tt_sum, is_active, is_translator}
 use Rattle.bandwidth.specs.Admission.{IsBest, is_own, joined, best, peak, chosen}
 use Rattle.bandwidth.proofs.Admits.{IsOption, best_is, best_none, best_option}
 use Rattle.bandwidth.proofs.Budgets.{load_joined, frame_joined, bytes_joined, below_greatest, greatest_below, own_sum}
@@ -13,7 +13,7 @@ use Rattle.drv_periodic_table.specs.Periodic.{want_of}
 use Rattle.law_world_memory.specs.Samples.{keyboard, keyboard_place, PlansFirst}
 
 its_want : IsWant (want_of 0 keyboard)
-its_want = record { period = refl; frames = omega arith; some_bytes = omega arith; bytes = omega arith; some_multi = omega arith; multi = omega arith; hub = refl }
+its_want = record { period = refl; frames = omega arith; some_bytes = omega arith; bytes = omega arith; some_multi = omega arith; multi = omega arith; hub = refl; tt = omega arith }
 
 first_at : slice_get (allowed (want_of 0 keyboard)) 0 ≡ Some keyboard_place
 unfolding allowed mask
@@ -37,28 +37,35 @@ its_load u =
     let none : load [] u ≡ 0 = refl in
     omega (arith, sum, own, none)
 
-its_time : (hub f : ℕ) → frame_sum (joined [] (want_of 0 keyboard) keyboard_place) hub f ≤ 900000000
-its_time hub f =
-    let sum = frame_joined [] (want_of 0 keyboard) keyboard_place hub f in
-    let own : (if is_hub (Some 9) hub then time_at f (record { want = want_of 0 keyboard; placement = keyboard_place }) else 0) ≤ 900000000 =
-    either_within (is_hub (Some 9) hub) _ 0 900000000 (either_within (is_active keyboard_place f) (time_of (want_of 0 keyboard)) 0 900000000 (lit≤ tt) (lit≤ tt)) (lit≤ tt) in
-    let none : frame_sum [] hub f ≡ 0 = refl in
+its_time : (hub port f : ℕ) → frame_sum (joined [] (want_of 0 keyboard) keyboard_place) hub port f ≤ 900000000
+its_time hub port f =
+    let sum = frame_joined [] (want_of 0 keyboard) keyboard_place hub port f in
+    let own : (if is_translator (want_of 0 keyboard) hub port then time_at f (record { want = want_of 0 keyboard; placement = keyboard_place }) else 0)
+    ≤ 900000000 =
+    either_within (is_translator (want_of 0 keyboard) hub port) _ 0 900000000
+    (either_within (is_active keyboard_place f) (time_of (want_of 0 keyboard)) 0 900000000 (lit≤ tt) (lit≤ tt)) (lit≤ tt) in
+    let none : frame_sum [] hub port f ≡ 0 = refl in
     omega (arith, sum, own, none)
 
 least_of : (x : ℕ) → min 188 x ≤ 188
 least_of x = omega arith
 
-its_bytes : (hub u : ℕ) → tt_sum (joined [] (want_of 0 keyboard) keyboard_place) hub u ≤ 188
-its_bytes hub u =
-    let sum = bytes_joined [] (want_of 0 keyboard) keyboard_place hub u in
+its_bytes : (hub port u : ℕ) → tt_sum (joined [] (want_of 0 keyboard) keyboard_place) hub port u ≤ 188
+its_bytes hub port u =
+    let sum = bytes_joined [] (want_of 0 keyboard) keyboard_place hub port u in
     let laid : laid_in (want_of 0 keyboard) keyboard_place (u % 8) ≤ 188 = either_within _ _ 0 188 (least_of _) (lit≤ tt) in
-    let own : (if is_hub (Some 9) hub then laid_at u (record { want = want_of 0 keyboard; placement = keyboard_place }) else 0) ≤ 188 =
-    either_within (is_hub (Some 9) hub) _ 0 188 (either_within (is_active keyboard_place (u / 8)) (laid_in (want_of 0 keyboard) keyboard_place (u % 8)) 0 188 laid (lit≤ tt)) (lit≤ tt) in
-    let none : tt_sum [] hub u ≡ 0 = refl in
+    let own : (if is_translator (want_of 0 keyboard) hub port then laid_at u (record { want = want_of 0 keyboard; placement = keyboard_place }) else 0) ≤ 188 =
+    either_within (is_translator (want_of 0 keyboard) hub port) _ 0 188
+    (either_within (is_active keyboard_place (u / 8)) (laid_in (want_of 0 keyboard) keyboard_place (u % 8)) 0 188 laid (lit≤ tt)) (lit≤ tt) in
+    let none : tt_sum [] hub port u ≡ 0 = refl in
     omega (arith, sum, own, none)
 
 it_fits : Fits (joined [] (want_of 0 keyboard) keyboard_place)
-it_fits = record { loads = λ u h. omega (arith, its_load u); frames = λ hub f h k. its_time hub f; bytes = λ hub u h k. its_bytes hub u }
+it_fits = record {
+  loads = λ u h. omega (arith, its_load u);
+  frames = λ hub port f h t k. its_time hub port f;
+  bytes = λ hub port u h t k. its_bytes hub port u;
+}
 
 -- ---- no other has a lesser peak
 

@@ -52,7 +52,7 @@ module _ (parts now : StructureSets) (same : (n : ℕ) → IsSameQueue n (parts 
       let h : IsRelinked (now n) n k.queue = (same n).head k.queue k.head in
       record { queue = record k.queue { link = h.link }; head = h.here; is = k.is }
 
-  tells_same : (hand later : Hand) → SameHand hand later → SameTold hand parts later now
+  pub tells_same : (hand later : Hand) → SameHand hand later → SameTold hand parts later now
   tells_same hand later k = record {
     bytes = λ n e xs told. spared_told hand later parts now n e xs k (spares_head n) (spares_element n e) told;
     toggle = λ n b has. spared_toggle hand later parts now n b k (spares_head n) has;

@@ -6,6 +6,8 @@
 //! - `microphone`: A worked script, of one isochronous endpoint.
 //! - `owned_blocks`: No run of blocks leaks (EHCI 1.0, 3, 4.8.2 and 4.10): each run that a driver has is that of the frame list, of the head of the ring, of a
 //!   queue head or an inactive qTD of an endpoint that wasn't given back, or of a qTD, an isochronous descriptor or a buffer of a transfer that wasn't.
+//! - `pipe_steps`: What steps of the queues leave of the streams of endpoints at high speed, beside all others (EHCI 1.0, 4.6, 4.8 and
+//!   4.10; USB 2.0, 5.7, 5.8 and 8.6).
 //! - `reach`: All that the controller can come to from where it stands is Lent (EHCI 1.0, 3, 4.6, 4.8, 4.10 and 4.12), at each moment of each script that a text spells.
 //! - `releases`: What left the ring or the frame list is given back only after the controller has shown that it let go of it (EHCI 1.0, 2.3.2, 2.3.4, 4.6 and 4.8.2).
 //! - `queue_steps`: What steps of the queues leave to be told, and a worked step, the harvest of an interrupt endpoint's get.
@@ -27,6 +29,7 @@ pub mod framed_memory;
 pub mod linked_rings;
 pub mod microphone;
 pub mod owned_blocks;
+pub mod pipe_steps;
 pub mod queue_steps;
 pub mod reach;
 pub mod releases;

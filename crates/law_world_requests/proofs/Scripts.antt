@@ -101,7 +101,7 @@ room_addressed name n ds h =
 -- ---- any line
 
 pub after_counted : (w : Draft) (n : ℕ) (s : Statement) → cause_of w s ≡ None → IsCounted w → IsCounted (after w n s)
-after_counted w n (says.Hub addr ports) e h =
+after_counted w n (says.Hub addr ports multi) e h =
     cond_both (within 1 127 addr && within 1 15 ports) _ w IsCounted (λ _. record { addressed = h.addressed; commands = h.commands; few = h.few }) (λ _. h)
 after_counted w n (says.DevHigh addr) e h =
     cond_both (within 1 127 addr) _ w IsCounted (λ in_field. record { addressed = all_append IsAddressed w.devices _ h.addressed (above addr in_field, tt); commands = h.commands; few = h.few }) (λ _. h)
@@ -120,6 +120,14 @@ after_counted w n (says.Ep l) e h =
     (λ _. record { addressed = all_change IsAddressed (λ d. d.addr == l.name.addr) (with_ep l) w.devices (λ d at k. k) h.addressed; commands = h.commands; few = h.few }) (λ _. h)
 after_counted w n (says.Reply name a) e h = record { addressed = all_change IsAddressed (λ d. d.addr == name.addr) _ w.devices (λ d at k. k) h.addressed; commands = h.commands; few = h.few }
 after_counted w n (says.Fate f) e h = where_counted w f.name _ h (record { addressed = h.addressed; commands = h.commands; few = h.few })
+after_counted w n (says.Stuff name p) e h =
+    cond_both (nat_le p 6) _ w IsCounted
+    (λ _. where_counted w name _ h (record {
+      addressed = all_change IsAddressed (λ d. d.addr == name.addr) _ w.devices (λ d at k. k) h.addressed;
+      commands = h.commands;
+      few = h.few;
+    }))
+    (λ _. h)
 after_counted w n (says.Open name) e h = opened_counted w n (known w name) (has_its_room w (says.Open name) e) h
 after_counted w n (says.Cancel name) e h = where_counted w name _ h (commanded_counted w n (cmd.Cancel (name_of name)) (has_its_room w (says.Cancel name) e) h)
 after_counted w n (says.Get l) e h =

@@ -26,7 +26,7 @@ get_fits = record {
   devices = refl;
   hubs = refl;
   rooms = ((omega arith, (omega arith, tt)), tt);
-  lines = ((omega arith, omega arith, record { size = refl; pace = refl; below = refl }), ((omega arith, omega arith), (tt, tt)));
+  lines = ((omega arith, omega arith, record { size = refl; pace = refl; below = refl; translator = omega arith }), ((omega arith, omega arith), (tt, tt)));
 }
 
 get_bytes : IsByteScript one_get

@@ -25,7 +25,7 @@ use Rattle.script_forms.specs.declared.statements.Statement.{Statement}
 use Rattle.script_forms.specs.declared.statements.Statement.TheVariants as says
 use Rattle.script_world.specs.Draft.{Draft, Placed, empty, script_of, device_of, device_ep, ep_of, hub_ep, hub_of, hub_desc, is_name, known, same_way, is_named, change}
 use Rattle.script_world.specs.Ranges.{in_range, is_slots, is_endpoint, within}
-use Rattle.script_world.specs.Rows.{cause_of, is_known, answered, roomier, at_ep, name_of, desc_of, with_ep, commanded, where_known, put_room, control_name, after}
+use Rattle.script_world.specs.Rows.{cause_of, is_known, answered, roomier, stuffed, at_ep, name_of, desc_of, with_ep, commanded, where_known, put_room, control_name, after}
 use Rattle.script_text.specs.Faults.{Spells}
 use Rattle.drv_table.specs.DriverContent.{is_same_way, is_same_name}
 use Rattle.drv_table.specs.Kinds.{is_iso}
@@ -162,7 +162,7 @@ module _ (w : Draft) (l : IsoLine) (ranged : option_map_or (λ d. nat_le l.len (
 
 goes : (w : Draft) (n : ℕ) (s : Statement) → in_range w s ≡ true → Goes w (after w n s)
 goes w n (says.Mem words) t = same_goes w _ refl refl
-goes w n (says.Hub addr ports) t = cond_both (within 1 127 addr && within 1 15 ports) _ w (Goes w) (λ _. same_goes w _ refl refl)
+goes w n (says.Hub addr ports multi) t = cond_both (within 1 127 addr && within 1 15 ports) _ w (Goes w) (λ _. same_goes w _ refl refl)
     (λ _. same_goes w w refl refl)
 goes w n (says.DevHigh addr) t = cond_both (within 1 127 addr) _ w (Goes w) (λ _. eps_go w _ (eps_appended w.devices _) refl)
     (λ _. same_goes w w refl refl)
@@ -174,6 +174,9 @@ goes w n (says.Ep l) t =
     (λ _. same_goes w w refl refl)
 goes w n (says.Reply name a) t = eps_go w _ (eps_changed name (answered a) w.devices (λ e. refl)) refl
 goes w n (says.Fate f) t = where_goes w f.name _ (λ _. same_goes w _ refl refl)
+goes w n (says.Stuff name p) t =
+    cond_both (nat_le p 6) _ w (Goes w) (λ _. where_goes w name _ (λ _. eps_go w _ (eps_changed name (stuffed p) w.devices (λ e. refl)) refl))
+    (λ _. same_goes w w refl refl)
 goes w n (says.Hold first last) t = same_goes w _ refl refl
 goes w n (says.Open name) t = opened_goes w n (known w name)
 goes w n (says.Cancel name) t = where_goes w name _
@@ -189,6 +192,7 @@ goes w n (says.Iso l) t =
     (λ _. same_goes w w refl refl)
 goes w n (says.Order event k) t = more_lines w _ n (line.Order event k) (same_eps w.devices) refl tt
 goes w n (says.Micro k) t = more_lines w _ n (line.Micro k) (same_eps w.devices) refl tt
+goes w n says.Unbuilt t = same_goes w w refl refl
 
 line_slots : (w : Draft) (n : ℕ) (s : Statement) → cause_of w s ≡ None → IsSlotDraft w → IsSlotDraft (after w n s)
 line_slots w n s taken h =

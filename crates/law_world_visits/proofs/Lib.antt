@@ -81,3 +81,5 @@ pub mod NewFirst
 pub mod AheadStores
 pub mod AheadWalking
 pub mod AheadMoments
+pub mod AskedHeads
+pub mod WorldPipes

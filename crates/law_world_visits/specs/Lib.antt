@@ -16,3 +16,5 @@ pub mod InFrames
 pub mod OneDescriptor
 pub mod Began
 pub mod ActiveFrames
+pub mod AskedHeads
+pub mod WorldPipes

@@ -1,6 +1,8 @@
 //! The visits of both walks in a microframe, along the run of each script (EHCI 1.0, 4.4, 4.6 to 4.10 and 4.12; USB 2.0, 5.11.3): the walk of the frames visits each
 //! structure at most once, while members are linked and unlinked; and why a visit has no transaction.
 //!
+//! - `asked_heads`: Whom either walk asks next: a queue head that has its queue, and none that is being opened.
+//! - `world_pipes`: An event of the controller keeps both sides of the pipes at high speed.
 //! - `belonging`, `itds`: To whom belongs what the walk of the frames may meet: to endpoints whose placements are in the plan, with their fields in memory.
 //! - `descriptors`, `active_descriptors`: Of an isochronous endpoint and a frame at most one descriptor has something active; and such a one stands in its frame alone.
 //! - `coverage`: It leaves out none that was linked in its frame as the microframe began, and is linked there still.
@@ -16,6 +18,7 @@
 #![tactic(auto)]
 
 pub mod active_descriptors;
+pub mod asked_heads;
 pub mod belonging;
 pub mod coverage;
 pub mod descriptors;
@@ -29,3 +32,4 @@ pub mod splices;
 pub mod visit_samples;
 pub mod visits;
 pub mod worked_reasons;
+pub mod world_pipes;

@@ -119,6 +119,13 @@ impl Translators {
         Ok(Translators { multi, all })
     }
 
+    /// Whether there is one for each port.
+    pub fn is_multi(&self) -> bool
+        ensures { result ≡ self.now.multi }
+    {
+        self.multi
+    }
+
     /// Hands a start-split, with at most 1,024 bytes, to the translator of its port. Stuffed bits make its transaction longer
     /// by `stuff` bytes in 36 (USB 2.0, 7.1.9). Where the hub doesn't have this port it is answered by silence, and nothing
     /// changes.

@@ -7,3 +7,5 @@ pub mod Sitd
 pub mod Rows
 pub mod Causes
 pub mod Samples
+pub mod HandParts
+pub mod Parts

@@ -7,7 +7,9 @@
 
 mod chain;
 mod events;
+mod hand_parts;
 mod itd;
+mod parts;
 mod queue;
 mod sitd;
 mod state;
@@ -15,7 +17,9 @@ pub mod worked;
 
 pub use chain::ChainRow;
 pub use events::step;
+pub use hand_parts::{HandParts, ItdParts, QueueParts, SitdParts};
 pub use itd::ItdRow;
+pub use parts::FrameParts;
 pub use queue::QueueRow;
 pub use sitd::SitdRow;
 pub use state::{Hand, HeldQueue, PeriodicState};

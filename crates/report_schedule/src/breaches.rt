@@ -17,9 +17,9 @@ use usb_base::limits::{
 pub(crate) enum Breach {
     /// The bus time of a microframe.
     Load(u16, u64),
-    /// The byte-times of the hub's translator in a microframe.
+    /// The byte-times of its translator in a microframe.
     Bytes(u16, u64),
-    /// The bus time of a frame below the hub.
+    /// The bus time of a frame below its translator.
     Frame(u16, u64),
 }
 
@@ -33,7 +33,7 @@ fn bytes_at(plan: &Plan, neighbour: Option<u32>, microframe: u16) -> u64
     }
 }
 
-/// The bus time of a frame below the hub of the endpoint of this number.
+/// The bus time of a frame below the translator that serves the endpoint of this number.
 fn time_at(plan: &Plan, neighbour: Option<u32>, frame: u16) -> u64
     requires { frame < frame_list_length }
 {
@@ -91,7 +91,7 @@ fn in_frame(
     None
 }
 
-/// The first budget that a placement breaks, by its active frames. The endpoint of the number `neighbour` is placed below the same hub, if there is one.
+/// The first budget that a placement breaks, by its active frames. The endpoint of the number `neighbour` is placed below the same translator, if there is one.
 pub(crate) fn first_breach(
     plan: &Plan,
     neighbour: Option<u32>,

@@ -31,6 +31,6 @@ pub fn schedule(alloc: Global, endpoints: &[Endpoint], plan: &Plan) -> Result<Ve
     let mut text = Vec::new(alloc);
     classes::put_classes(&mut text, endpoints, plan)?;
     loads::put_loads(&mut text, plan)?;
-    loads::put_hubs(&mut text, endpoints, plan)?;
+    loads::put_translators(&mut text, endpoints, plan)?;
     Ok(text)
 }

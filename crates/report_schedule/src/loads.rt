@@ -9,7 +9,7 @@ use drv_table::Endpoint;
 use std::marker::Brand;
 use std::sync::ledger::{Blank, Ledger};
 use usb_base::limits::{BYTE_TIMES_OF_MICROFRAME, MICROFRAME_BUDGET};
-use usb_base::{DevAddr, Memory};
+use usb_base::{DevAddr, EpDesc, Memory};
 
 /// The microframes that are told.
 const MICROFRAMES: usize = 64;
@@ -125,8 +125,11 @@ pub(crate) fn cell<L: Ledger>(table: &Table, at: u32, blank: Blank) -> u64
     table.get(at, &mut steps)
 }
 
-/// Appends the byte-times of a hub's translator in each microframe.
-fn put_hub(text: &mut Vec<u8>, hub: DevAddr, sums: &Table) -> Result<(), Memory>
+/// A translator: its hub, and the port that it serves alone, 0 where it serves all.
+type Translator = (DevAddr, u8);
+
+/// Appends the byte-times of a translator in each microframe.
+fn put_translator(text: &mut Vec<u8>, translator: Translator, sums: &Table) -> Result<(), Memory>
     requires { length sums.now ≡ 8192 }
 {
     let mut amounts = [0u64; MICROFRAMES];
@@ -134,37 +137,42 @@ fn put_hub(text: &mut Vec<u8>, hub: DevAddr, sums: &Table) -> Result<(), Memory>
         amounts[microframe] = cell::<Brand>(sums, microframe as u32, Blank::new(1));
     }
     put(text, "byte-times of hub ")?;
-    put_number(text, hub.get() as u64)?;
+    put_number(text, translator.0.get() as u64)?;
+    if translator.1 > 0 {
+        put(text, " port ")?;
+        put_number(text, translator.1 as u64)?;
+    }
     // (`BYTE_TIMES_OF_MICROFRAME`)
     put(text, " in microframes, of 188\n")?;
     put_amounts(text, &amounts, BYTE_TIMES_OF_MICROFRAME as u64, MARK_BYTES)
 }
 
-/// The hub of the endpoint of this number, if it is placed below one.
-fn hub_of(endpoints: &[Endpoint], plan: &Plan, number: usize) -> Option<DevAddr> {
-    placed(endpoints, plan, number)?;
-    endpoints.get(number)?.desc.hub
+/// The translator that serves an endpoint, if one does.
+fn translator_for(desc: &EpDesc) -> Option<Translator> {
+    Some((desc.hub?, desc.tt))
 }
 
-/// The number of an endpoint that is placed below the hub.
-pub(crate) fn neighbour_of(
-    endpoints: &[Endpoint],
-    plan: &Plan,
-    hub: Option<DevAddr>,
-) -> Option<u32> {
-    let hub = hub?;
+/// The translator that serves the endpoint of this number, if it is placed below one.
+fn translator_of(endpoints: &[Endpoint], plan: &Plan, number: usize) -> Option<Translator> {
+    placed(endpoints, plan, number)?;
+    translator_for(&endpoints.get(number)?.desc)
+}
+
+/// The number of an endpoint that is placed below the translator of one so described.
+pub(crate) fn neighbour_of(endpoints: &[Endpoint], plan: &Plan, desc: &EpDesc) -> Option<u32> {
+    let translator = translator_for(desc)?;
     for number in 0..endpoints.len() {
-        if hub_of(endpoints, plan, number) == Some(hub) {
+        if translator_of(endpoints, plan, number) == Some(translator) {
             return u32::try_from(number).ok();
         }
     }
     None
 }
 
-/// Whether an endpoint below this number is placed below the hub.
-fn is_told(endpoints: &[Endpoint], plan: &Plan, below: usize, hub: DevAddr) -> bool {
+/// Whether an endpoint below this number is placed below the translator.
+fn is_told(endpoints: &[Endpoint], plan: &Plan, below: usize, translator: Translator) -> bool {
     for number in 0..below {
-        if hub_of(endpoints, plan, number) == Some(hub) {
+        if translator_of(endpoints, plan, number) == Some(translator) {
             return true;
         }
     }
@@ -178,17 +186,17 @@ fn sums_of(plan: &Plan, number: usize) -> Option<&Table>
     plan.byte_sums(u32::try_from(number).ok()?)
 }
 
-/// Appends the byte-times of each hub that has a placed endpoint, by its first one.
-pub(crate) fn put_hubs(
+/// Appends the byte-times of each translator that has a placed endpoint, by its first one.
+pub(crate) fn put_translators(
     text: &mut Vec<u8>,
     endpoints: &[Endpoint],
     plan: &Plan,
 ) -> Result<(), Memory> {
     for number in 0..endpoints.len() {
-        if let Some(hub) = hub_of(endpoints, plan, number) {
-            if !is_told(endpoints, plan, number, hub) {
+        if let Some(translator) = translator_of(endpoints, plan, number) {
+            if !is_told(endpoints, plan, number, translator) {
                 if let Some(sums) = sums_of(plan, number) {
-                    put_hub(text, hub, sums)?;
+                    put_translator(text, translator, sums)?;
                 }
             }
         }

@@ -33,8 +33,7 @@ fn want_by(desc: &EpDesc) -> Want
         multi: desc.multi,
         period: desc.period,
         hub: desc.hub,
-        // a hub has one translator
-        tt: 0,
+        tt: desc.tt,
     }
 }
 
@@ -145,6 +144,6 @@ pub fn put_refusal(
     put(text, ": ")?;
     put_endpoint(text, &desc.name)?;
     put(text, "\n")?;
-    let neighbour = neighbour_of(endpoints, plan, desc.hub);
+    let neighbour = neighbour_of(endpoints, plan, desc);
     put_placements(text, &want_by(desc), neighbour, plan)
 }

@@ -29,7 +29,7 @@ use Rattle.script_forms.specs.declared.statements.Statement.TheVariants as says
 use Rattle.script_world.specs.Draft.{Draft, Placed, speed_of, known, device_ep, hub_ep, hub_desc, hub_of, device_of, ep_of, is_name, is_named, same_way, change, packet_count, filled}
 use Rattle.script_world.specs.Ranges.{in_range, within, is_size, is_paced, suits, is_slots, is_endpoint, is_placed, can_answer, some_answer, kinds_of, reply_ranged}
 use Rattle.script_world.specs.Rows.{name_of, after, answered, items_of, at_ep, with_ep, desc_of, commanded, where_known, by_of, put_room, roomier, counted}
-use Rattle.script_world.specs.Rows.{content_len, bytes_len, control_name, is_known, attach, after_hub, after_below}
+use Rattle.script_world.specs.Rows.{content_len, bytes_len, control_name, is_known, stuffed, translator_of, attach, after_hub, after_below}
 use Rattle.endpoint_script.specs.Items.{is_short, is_packet}
 use Rattle.drv_table.specs.Words.{is_high}
 use Rattle.script_fits.specs.Fits.{IsPiece, IsSuited, IsFitCommand, IsFitLine, IsFitRoom}
@@ -47,6 +47,7 @@ pub record IsFitEp (e : EpText) : Type 0 where
 
 pub record IsFitDevice (d : Placed) : Type 0 where
   pub port : d.port ≤ 127
+  pub translator : d.tt ≤ 15
   pub below : is_some d.hub ≡ not (is_high d.speed)
   pub eps : AllByRecursion IsFitEp d.eps
 
@@ -114,7 +115,11 @@ device_ep_fits w name h =
     (found IsFitDevice (λ d. d.addr == name.addr) w.devices h.devices)
 
 hub_fits : (a : ℕ) → IsFitDesc (hub_desc a)
-hub_fits a = record { max = omega arith; port = omega arith; suited = record { size = refl; pace = refl; below = refl } }
+hub_fits a = record {
+  max = omega arith;
+  port = omega arith;
+  suited = record { size = refl; pace = refl; below = refl; translator = omega arith };
+}
 
 always : {X : Type 0} (x : Option X) → Holds (λ _. Unit {0}) x
 always None = tt
@@ -180,7 +185,8 @@ answered_fits a e short h = record {
 at_ep_fits : (name : Name) (f : EpText → EpText) (ds : List Placed) → ((e : EpText) → IsFitEp e → IsFitEp (f e)) → AllByRecursion IsFitDevice ds → AllByRecursion IsFitDevice (at_ep name f ds)
 at_ep_fits name f ds g h =
     all_change IsFitDevice (λ d. d.addr == name.addr) (λ d. record d { eps = change (is_named name) f d.eps }) ds
-    (λ d k. record { port = k.port; below = k.below; eps = all_change IsFitEp (is_named name) f d.eps g k.eps }) h
+    (λ d k. record { port = k.port; translator = k.translator; below = k.below; eps = all_change IsFitEp (is_named name) f d.eps g k.eps })
+    h
 
 counted_fits : (a n : ℕ) → counted a n ≤ 4294967295
 counted_fits a n = omega arith
@@ -207,28 +213,31 @@ suits_at w l d b e at = subst (λ (x : Option Placed). option_map_or (suits l) (
 desc_fits : (l : EpLine) (d : Placed) → l.max ≤ 1024 → suits l d.speed ≡ true → IsFitDevice d → IsFitDesc (desc_of l d)
 desc_fits l d max e h =
     let p = and_parts (is_size l.kind d.speed l.max) (is_paced l.kind d.speed l.period l.multi) e in
-    record { max = max; port = h.port; suited = record { size = p.0; pace = p.1; below = h.below } }
+    record { max = max; port = h.port; suited = record { size = p.0; pace = p.1; below = h.below; translator = h.translator } }
 
 with_ep_fits : (l : EpLine) (d : Placed) → l.max ≤ 1024 → suits l d.speed ≡ true → IsFitDevice d → IsFitDevice (with_ep l d)
 with_ep_fits l d max e h = record {
   port = h.port;
+  translator = h.translator;
   below = h.below;
   eps = all_append IsFitEp d.eps _ h.eps (record { desc = desc_fits l d max e h; items = refl; room = omega arith });
 }
 
 -- ---- hubs
 
-new_hub_fits : (addr ports : ℕ) → ports ≤ 15 → IsFitHub (record { addr = addr; ports = ports; attached = replicate ports None; multi = false })
-new_hub_fits addr ports le =
+new_hub_fits : (addr ports : ℕ) (multi : Bool) → ports ≤ 15
+    → IsFitHub (record { addr = addr; ports = ports; attached = replicate ports None; multi = multi })
+new_hub_fits addr ports multi le =
     let nobody : Option Speed = None in
     record { ports = le; attached = omega (arith, length-replicate ports nobody, le) }
 
-hub_line_fits : (w : Draft) (addr ports : ℕ) → IsFitDraft w → IsFitDraft (after_hub w addr ports)
-hub_line_fits w addr ports h =
+hub_line_fits : (w : Draft) (addr ports : ℕ) (multi : Bool) → IsFitDraft w → IsFitDraft (after_hub w addr ports multi)
+hub_line_fits w addr ports multi h =
     cond_both (within 1 127 addr && within 1 15 ports) _ w IsFitDraft
     (λ e. record {
       words = h.words;
-      hubs = all_append IsFitHub w.hubs _ h.hubs (new_hub_fits addr ports (leb-true ports 15 (and_parts (nat_le 1 ports) (nat_le ports 15) (and_parts (within 1 127 addr) (within 1 15 ports) e).1).1));
+      hubs = all_append IsFitHub w.hubs _ h.hubs (new_hub_fits addr ports multi
+          (leb-true ports 15 (and_parts (nat_le 1 ports) (nat_le ports 15) (and_parts (within 1 127 addr) (within 1 15 ports) e).1).1));
       devices = h.devices;
       lines = h.lines;
     })
@@ -241,6 +250,14 @@ below_port : (x : Option HubText) (port : ℕ) → Holds IsFitHub x → option_m
 below_port None port h e = cc
 below_port (Some x) port h e = omega (arith, h.ports, leb-true port x.ports (and_parts (nat_le 1 port) (nat_le port x.ports) e).1)
 
+-- a hub has at most 15 translators
+translator_fits : (x : Option HubText) (port : ℕ) → Holds IsFitHub x → option_map_or (λ h. within 1 h.ports port) x false ≡ true
+    → option_map_or (λ h. translator_of h.multi port) x 0 ≤ 15
+translator_fits None port h e = cc
+translator_fits (Some x) port h e =
+    cond_both x.multi port 0 (λ n. n ≤ 15)
+    (λ _. omega (arith, h.ports, leb-true port x.ports (and_parts (nat_le 1 port) (nat_le port x.ports) e).1)) (λ _. omega arith)
+
 -- a device behind a hub isn't a high-speed one
 device_below_fits : (w : Draft) (b : Below) → is_high b.speed ≡ false → IsFitDraft w → IsFitDraft (after_below w b)
 device_below_fits w b slow h =
@@ -252,6 +269,8 @@ device_below_fits w b slow h =
           all_append IsFitDevice w.devices _ h.devices
           (record {
             port = below_port (hub_of w.hubs b.hub) b.port (found IsFitHub (λ x. x.addr == b.hub) w.hubs h.hubs)
+                (and_parts (within 1 127 b.addr && nat_le b.hub 127) (is_known w (says.DevBelow b)) e).1;
+            translator = translator_fits (hub_of w.hubs b.hub) b.port (found IsFitHub (λ x. x.addr == b.hub) w.hubs h.hubs)
                 (and_parts (within 1 127 b.addr && nat_le b.hub 127) (is_known w (says.DevBelow b)) e).1;
             below = ap not (sym slow);
             eps = tt;
@@ -291,10 +310,15 @@ after_fits w n (says.Mem words) t said h =
     let a = and_parts (within 2048 262144 words) (words % 1024 == 0) t in
     let b = and_parts (nat_le 2048 words) (nat_le words 262144) a.0 in
     record { words = (leb-true 2048 words b.0, (leb-true words 262144 b.1, eqb-true (words % 1024) 0 a.1)); hubs = h.hubs; devices = h.devices; lines = h.lines }
-after_fits w n (says.Hub addr ports) t said h = hub_line_fits w addr ports h
+after_fits w n (says.Hub addr ports multi) t said h = hub_line_fits w addr ports multi h
 after_fits w n (says.DevHigh addr) t said h =
     cond_both (within 1 127 addr) _ w IsFitDraft
-    (λ _. record { words = h.words; hubs = h.hubs; devices = all_append IsFitDevice w.devices _ h.devices (record { port = omega arith; below = refl; eps = tt }); lines = h.lines })
+    (λ _. record {
+      words = h.words;
+      hubs = h.hubs;
+      devices = all_append IsFitDevice w.devices _ h.devices (record { port = omega arith; translator = omega arith; below = refl; eps = tt });
+      lines = h.lines;
+    })
     (λ _. h)
 after_fits w n (says.DevBelow b) t said h = device_below_fits w b said h
 after_fits w n (says.Ep l) t said h =
@@ -317,6 +341,15 @@ after_fits w n (says.Reply name a) t said h = record {
   lines = h.lines;
 }
 after_fits w n (says.Fate f) t said h = where_fits w f.name _ h (record { words = h.words; hubs = h.hubs; devices = h.devices; lines = h.lines })
+after_fits w n (says.Stuff name p) t said h =
+    cond_both (nat_le p 6) _ w IsFitDraft
+    (λ _. where_fits w name _ h (record {
+      words = h.words;
+      hubs = h.hubs;
+      devices = at_ep_fits name (stuffed p) w.devices (λ e k. record { desc = k.desc; items = k.items; room = k.room }) h.devices;
+      lines = h.lines;
+    }))
+    (λ _. h)
 after_fits w n (says.Hold first last) t said h = record { words = h.words; hubs = h.hubs; devices = h.devices; lines = h.lines }
 after_fits w n (says.Open name) t said h = opened_fits w n (known w name) (known_fits w name h) h
 after_fits w n (says.Cancel name) t said h = where_fits w name _ h (commanded_fits w n (commands.Cancel (name_of name)) tt h)
@@ -333,4 +366,5 @@ after_fits w n (says.Iso l) t said h =
     cond_both (is_slots l) _ w IsFitDraft
     (λ e. where_fits w l.name _ h (commanded_fits w n (commands.Iso (name_of l.name) l.count l.len l.seed) (some_slots l e) h))
     (λ _. h)
+after_fits w n says.Unbuilt t said h = h
 after_fits w n _ t said h = record { words = h.words; hubs = h.hubs; devices = h.devices; lines = all_append (λ x. IsFitLine x.1) w.lines _ h.lines tt }

@@ -54,12 +54,14 @@ verdict_ranged ws (Some m) h =
     (λ _. cond_both (all_ranged (slots_of m.form) ws) (Ok m.form) (Err _) (IsRangedIf ws) (λ e. record { ranged = e; long = h }) (λ _. tt))
     (λ _. tt)
 
-pub form_ranged : (first : FirstWord) (ws : List (List ℕ)) → IsRangedIf ws (form_of first ws)
+pub form_ranged : (version : ℕ) (first : FirstWord) (ws : List (List ℕ)) → IsRangedIf ws (form_of version first ws)
 unfolding form_of
-form_ranged first ws = verdict_ranged ws (fold (held ws) None (forms_of first)) (folded_long ws None (forms_of first) tt)
+form_ranged version first ws =
+    verdict_ranged ws (fold (held ws) None (forms_of version first)) (folded_long ws None (forms_of version first) tt)
 
-pub form_is_ranged : (first : FirstWord) (ws : List (List ℕ)) (form : Form) → form_of first ws ≡ Ok form → IsRanged form ws
-form_is_ranged first ws form e = subst (IsRangedIf ws) e (form_ranged first ws)
+pub form_is_ranged : (version : ℕ) (first : FirstWord) (ws : List (List ℕ)) (form : Form) → form_of version first ws ≡ Ok form
+    → IsRanged form ws
+form_is_ranged version first ws form e = subst (IsRangedIf ws) e (form_ranged version first ws)
 
 -- ---- the number in a slot
 

@@ -1,5 +1,5 @@
 -- An endpoint with the packets and the pace of its speed can be asked of a plan.
-use Rattle.std.proofs.Common.{◌≡◌, ℕ, zero, suc, ◌≤◌, Bool, true, false, List, [], ◌∷◌, refl, sym, subst, ◌∙◌, inl, inr, arith}
+use Rattle.std.proofs.Common.{◌≡◌, ℕ, zero, suc, ◌≤◌, ◌<◌, Bool, true, false, List, [], ◌∷◌, refl, sym, subst, ◌∙◌, inl, inr, arith}
 use Rattle.std.specs.Prelude.{nat_eq, nat_le, ◌==◌, ◌&&◌, ◌||◌, not}
 use Rattle.std.specs.List.{list_any}
 use Rattle.std.proofs.lemmas.Bool.{and_parts, or_cases, eqb-true, eq-eqb, leb-true}
@@ -80,6 +80,9 @@ classic : (speed : Speed) → not (is_high speed) ≡ is_classic speed
 classic High = refl
 classic _ = refl
 
+below_sixteen : (n : ℕ) → n ≤ 15 → n < 16
+below_sixteen n h = omega (arith, h)
+
 pub can_be_opened : (x : EpDesc) → IsSuited x → IsOpened x
 can_be_opened x h p =
     let size = sized x.kind x.speed x.max p h.size in
@@ -92,4 +95,5 @@ can_be_opened x h p =
       some_multi = pace.some;
       multi = pace.most;
       hub = h.below ∙ classic x.speed;
+      tt = below_sixteen x.tt h.translator;
     }

@@ -17,12 +17,13 @@ IsPieceIf (Some by) = IsPiece by
 
 abbrev pub IsSaid : Statement → Type 0
 IsSaid (says.Mem n) = Unit {0}
-IsSaid (says.Hub addr ports) = Unit {0}
+IsSaid (says.Hub addr ports multi) = Unit {0}
 IsSaid (says.DevHigh addr) = Unit {0}
 IsSaid (says.DevBelow b) = is_high b.speed ≡ false
 IsSaid (says.Ep l) = Unit {0}
 IsSaid (says.Reply name a) = Unit {0}
 IsSaid (says.Fate f) = Unit {0}
+IsSaid (says.Stuff name p) = Unit {0}
 IsSaid (says.Hold first last) = Unit {0}
 IsSaid (says.Open name) = Unit {0}
 IsSaid (says.Cancel name) = Unit {0}
@@ -32,6 +33,7 @@ IsSaid (says.Control c) = Unit {0}
 IsSaid (says.Iso l) = Unit {0}
 IsSaid (says.Order event n) = Unit {0}
 IsSaid (says.Micro n) = Unit {0}
+IsSaid says.Unbuilt = Unit {0}
 
 pub form_said : (f : Form) (ws : List (List ℕ)) → IsRanged f ws → IsSaid (statement_of f ws)
 unfolding statement_of

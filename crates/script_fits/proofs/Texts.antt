@@ -13,7 +13,7 @@ use Rattle.script_forms.specs.declared.causes.TextWhy.TheVariants as C
 use Rattle.script_forms.specs.declared.table.FirstWord.{FirstWord}
 use Rattle.script_forms.specs.declared.table.Form.{Form}
 use Rattle.script_forms.specs.declared.statements.Statement.{Statement}
-use Rattle.script_forms.specs.Table.{first_of}
+use Rattle.script_forms.specs.Table.{first_in}
 use Rattle.script_forms.specs.Fitting.{form_of}
 use Rattle.script_forms.specs.Values.{statement_of}
 use Rattle.script_world.specs.Draft.{Draft, Placed, empty, script_of, device_text}
@@ -52,19 +52,23 @@ answer_fits (Some why) v h = tt
 said_fits : (w : Draft) (n : ℕ) (s : Statement) → IsSaid s → IsFitDraft w → Fits (said w n s)
 said_fits w n s is h = answer_fits (cause_of w s) (after w n s) (λ e. after_fits w n s (is_taken w s e) is h)
 
-form_fits : (w : Draft) (n : ℕ) (first : FirstWord) (more : List (List ℕ)) (form : Result Form TextWhy) → form_of first more ≡ form → IsFitDraft w → Fits (form_read w n more form)
-form_fits w n first more (Ok form) e h = said_fits w n (statement_of form more) (form_said form more (form_is_ranged first more form e)) h
+form_fits : (w : Draft) (n : ℕ) (first : FirstWord) (more : List (List ℕ)) (form : Result Form TextWhy)
+    → form_of w.version first more ≡ form → IsFitDraft w → Fits (form_read w n more form)
+form_fits w n first more (Ok form) e h =
+    said_fits w n (statement_of form more) (form_said form more (form_is_ranged w.version first more form e)) h
 form_fits w n first more (Err why) e h = tt
 
 first_fits : (w : Draft) (n : ℕ) (more : List (List ℕ)) (first : Option FirstWord) → IsFitDraft w → Fits (first_read w n more first)
 first_fits w n more None h = tt
 first_fits w n more (Some first) h =
-    cond_both (is_late w first) (Err C.Late) (form_read w n more (form_of first more)) Fits (λ _. tt) (λ _. form_fits w n first more (form_of first more) refl h)
+    cond_both (is_late w first) (Err C.Late) (form_read w n more (form_of w.version first more)) Fits
+    (λ _. tt) (λ _. form_fits w n first more (form_of w.version first more) refl h)
 
 words_fit : (w : Draft) (n : ℕ) (ws : List (List ℕ)) → IsFitDraft w → Fits (words_read w n ws)
 words_fit w n [] h = tt
 words_fit w n (first ∷ more) h =
-    cond_both (list_any no_bytes (first ∷ more)) (Err C.Word) (first_read w n more (first_of first)) Fits (λ _. tt) (λ _. first_fits w n more (first_of first) h)
+    cond_both (list_any no_bytes (first ∷ more)) (Err C.Word) (first_read w n more (first_in w.version first)) Fits
+    (λ _. tt) (λ _. first_fits w n more (first_in w.version first) h)
 
 version_fits : (w : Draft) (line : List ℕ) → IsFitDraft w → Fits (version_read w line)
 version_fits w line h =

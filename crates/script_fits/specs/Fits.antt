@@ -25,6 +25,7 @@ pub record IsSuited (x : EpDesc) : Type 0 where
   pub size : is_size x.kind x.speed x.max ≡ true
   pub pace : is_paced x.kind x.speed x.period x.multi ≡ true
   pub below : is_some x.hub ≡ not (is_high x.speed)
+  pub translator : x.tt ≤ 15  -- the number of a port where the hub has a translator for each (11.14), else 0
 
 abbrev pub IsFitCommand : Cmd → Type 0
 IsFitCommand (commands.OpenEp x) = (x.max ≤ 1024) × (x.port ≤ 127) × IsSuited x

@@ -85,5 +85,5 @@ verdict ws (Some m) = if m.at == length ws then (if all_ranged (slots_of m.form)
 
 -- the form of the words behind a first word. Each word is held against those forms of this first word and this number
 -- of words that the words before it fit, so the first word that is amiss stands where the furthest form ends
-unfoldable pub form_of : FirstWord → List (List ℕ) → Result Form TextWhy
-form_of first ws = verdict ws (fold (held ws) None (forms_of first))
+unfoldable pub form_of : ℕ → FirstWord → List (List ℕ) → Result Form TextWhy
+form_of version first ws = verdict ws (fold (held ws) None (forms_of version first))

@@ -1,5 +1,5 @@
 -- What the words of a form say.
-use Rattle.std.specs.Prelude.{ℕ, Bool, if◌then◌else◌, List, [], Some, None, unwrap_or, slice_index_or, length, replicate, ◌==◌}
+use Rattle.std.specs.Prelude.{ℕ, Bool, true, false, if◌then◌else◌, List, [], Some, None, unwrap_or, slice_index_or, length, replicate, ◌==◌}
 use Rattle.std.specs.Str.{bytes_eq}
 use Rattle.usb_base.specs.declared.packets.Way.{Way}
 use Rattle.usb_base.specs.declared.packets.Way.TheVariants as way
@@ -68,7 +68,8 @@ periodic_ep kind ws = record { name = named ws; kind = kind; max = number_at 4 w
 -- what the words behind the first say
 unfoldable pub statement_of : Form → List (List ℕ) → Statement
 statement_of form.Mem ws = says.Mem (number_at 0 ws)
-statement_of form.Hub ws = says.Hub (number_at 0 ws) (number_at 1 ws)
+statement_of form.Hub ws = says.Hub (number_at 0 ws) (number_at 1 ws) false
+statement_of form.HubMulti ws = says.Hub (number_at 0 ws) (number_at 1 ws) true
 statement_of form.DevHigh ws = says.DevHigh (number_at 0 ws)
 statement_of form.DevFull ws = says.DevBelow (record { addr = number_at 0 ws; speed = speed.Full; hub = number_at 2 ws; port = number_at 3 ws })
 statement_of form.DevLow ws = says.DevBelow (record { addr = number_at 0 ws; speed = speed.Low; hub = number_at 2 ws; port = number_at 3 ws })
@@ -99,3 +100,5 @@ statement_of form.IsoOut ws = says.Iso (record { name = named ws; count = number
 statement_of form.OrderD ws = says.Order event.D (number_at 1 ws)
 statement_of form.OrderC ws = says.Order event.C (number_at 1 ws)
 statement_of form.OrderM ws = says.Micro (number_at 1 ws)
+statement_of form.Stuff ws = says.Stuff (named ws) (number_at 3 ws)
+statement_of _ ws = says.Unbuilt

@@ -5,7 +5,7 @@ pub enum TextWhy {
     Long,
     /// It has a byte that no line may have.
     Byte,
-    /// It is the first line, and isn't `ehci 1`.
+    /// It is the first line, and names no version of the language.
     Version,
     /// Its first word is unknown, or a word stands where another must, or spaces are amiss.
     Word,

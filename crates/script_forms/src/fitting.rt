@@ -161,14 +161,14 @@ fn verdict(words: &[Word], best: Option<Mark>) -> Result<Form, TextWhy>
     Err(TextWhy::Range)
 }
 
-/// The form that the words behind a first word fit. `Count`: no form has this number of words. `Number`, `Hex` or
-/// `Word`: a word fits no form that the words before it fit. `Range`: a number is outside the range of its slot.
+/// The form that the words behind a first word fit in a version of the language. `Count`: no form has this number of words.
+/// `Number`, `Hex` or `Word`: a word fits no form that the words before it fit. `Range`: a number is outside the range of its slot.
 #[tactic(auto, unfolding(crate::specs::Fitting::form_of))]
-pub fn form_of(first: FirstWord, words: &[Word]) -> Result<Form, TextWhy>
-    ensures { result ≡ form_of first words.now }
+pub fn form_of(version: u8, first: FirstWord, words: &[Word]) -> Result<Form, TextWhy>
+    ensures { result ≡ form_of version first words.now }
 {
     let mut best = None;
-    for form in forms(first) {
+    for form in forms(version, first) {
         best = held(words, best, *form);
     }
     verdict(words, best)

@@ -84,6 +84,13 @@ fn named(words: &[Word]) -> Name
     }
 }
 
+/// A hub.
+fn hub(words: &[Word], multi: bool) -> Statement
+    ensures { result ≡ Statement.Hub (number_at 0 words.now) (number_at 1 words.now) multi }
+{
+    Statement::Hub(number_at(0, words), number_at(1, words), multi)
+}
+
 /// A control or bulk endpoint.
 fn plain_ep(kind: EpKind, words: &[Word]) -> Statement
     ensures { result ≡ Statement.Ep (plain_ep kind words.now) }
@@ -244,7 +251,8 @@ pub fn statement(alloc: Global, form: Form, words: &[Word]) -> Result<Statement,
 {
     match form {
         Form::Mem => Ok(Statement::Mem(number_at(0, words))),
-        Form::Hub => Ok(Statement::Hub(number_at(0, words), number_at(1, words))),
+        Form::Hub => Ok(hub(words, false)),
+        Form::HubMulti => Ok(hub(words, true)),
         Form::DevHigh => Ok(Statement::DevHigh(number_at(0, words))),
         Form::DevFull => Ok(below(Speed::Full, words)),
         Form::DevLow => Ok(below(Speed::Low, words)),
@@ -275,5 +283,7 @@ pub fn statement(alloc: Global, form: Form, words: &[Word]) -> Result<Statement,
         Form::OrderD => Ok(Statement::Order(Event::D, number_at(1, words))),
         Form::OrderC => Ok(Statement::Order(Event::C, number_at(1, words))),
         Form::OrderM => Ok(Statement::Micro(number_at(1, words))),
+        Form::Stuff => Ok(Statement::Stuff(named(words), number_at(3, words))),
+        _ => Ok(Statement::Unbuilt),
     }
 }

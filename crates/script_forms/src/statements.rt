@@ -103,14 +103,16 @@ pub struct IsoLine {
 pub enum Statement {
     /// The words of memory.
     Mem(u32),
-    /// A hub's address and the number of its ports.
-    Hub(u32, u32),
+    /// A hub's address, the number of its ports, and whether each has a translator of its own (USB 2.0, 11.14).
+    Hub(u32, u32, bool),
     /// The address of a high-speed device.
     DevHigh(u32),
     DevBelow(Below),
     Ep(EpLine),
     Reply(Name, Answer),
     Fate(FateLine),
+    /// An endpoint, and how many bytes in 36 stuffed bits make its packets longer (USB 2.0, 7.1.9).
+    Stuff(Name, u32),
     /// The first and the last microframe in which the bus may not be used.
     Hold(u32, u32),
     Open(Name),
@@ -123,4 +125,6 @@ pub enum Statement {
     Order(Event, u32),
     /// Turns until so many microframes have ended.
     Micro(u32),
+    /// Nothing: the form is one that no version has yet.
+    Unbuilt,
 }

@@ -1,6 +1,6 @@
 //! The rows of the table.
 ghost use Rattle.std.specs.Prelude.{◌≡◌};
-ghost use Rattle.script_forms.specs.Table.{first_of, keyword_word, slots_of, forms_of};
+ghost use Rattle.script_forms.specs.Table.{first_of, keyword_word, slots_of, second_slots_of, hub_forms, forms_of};
 
 use usb_base::limits::{LONGEST_QTD, MOST_MEMORY};
 
@@ -21,6 +21,21 @@ pub enum FirstWord {
     Control,
     Iso,
     Order,
+    Frames,
+    Stuff,
+    Epoch,
+    Clear,
+    Park,
+    Root,
+    Classic,
+    Plug,
+    Unplug,
+    Reset,
+    Give,
+    Disk,
+    Read,
+    Write,
+    Revive,
 }
 
 /// A word that stands for itself.
@@ -49,6 +64,7 @@ pub enum Keyword {
     D,
     C,
     M,
+    Multi,
 }
 
 /// What may stand in one place of a form.
@@ -77,6 +93,8 @@ pub enum Form {
     Mem,
     /// `hub <addr> <ports>`
     Hub,
+    /// `hub <addr> <ports> multi`
+    HubMulti,
     /// `dev <addr> high`
     DevHigh,
     /// `dev <addr> full <hub> <port>`
@@ -137,6 +155,40 @@ pub enum Form {
     OrderC,
     /// `order m <n>`
     OrderM,
+    /// `frames <n>`
+    Frames,
+    /// `stuff <ep> <p>`
+    Stuff,
+    /// `epoch <ep>`
+    Epoch,
+    /// `clear <ep>`
+    Clear,
+    /// `park <k>`
+    Park,
+    /// `root <port> <addr>`
+    Root,
+    /// `classic <port> full`
+    ClassicFull,
+    /// `classic <port> low`
+    ClassicLow,
+    /// `plug <port>`
+    Plug,
+    /// `unplug <port>`
+    Unplug,
+    /// `reset <port>`
+    Reset,
+    /// `give <port>`
+    Give,
+    /// `disk <addr> <in> <out> <blocks>`
+    Disk,
+    /// `read <addr> <lba> <count>`
+    Read,
+    /// `write <addr> <lba> <hex>`
+    Write,
+    /// `write <addr> <lba> fill <n> <seed>`
+    WriteFill,
+    /// `revive <addr>`
+    Revive,
 }
 
 /// A number of any value.
@@ -145,8 +197,42 @@ const ANY: Slot = Slot::Number(0, 4_294_967_295);
 const ADDRESS: Slot = Slot::Number(1, 127);
 /// The bytes of a qTD, at most five pages of 4,096 (EHCI 1.0, 3.5.4).
 const BY: Slot = Slot::Number(1, LONGEST_QTD);
+/// A root port (EHCI 1.0, 2.2.3).
+const PORT: Slot = Slot::Number(1, 15);
 /// The first byte of bytes that each are one more.
 const SEED: Slot = Slot::Number(0, 255);
+
+/// The slots of a form that version 2 alone has, none for another.
+fn second_slots(form: Form) -> &'static [Slot]
+    ensures { result.now ≡ second_slots_of form }
+{
+    match form {
+        Form::Frames => &[Slot::Number(256, 1024)],
+        Form::Stuff => &[ANY, ANY, Slot::Way, Slot::Number(0, 6)],
+        Form::Epoch => &[ANY, ANY, Slot::Way],
+        Form::Clear => &[ANY, ANY, Slot::Way],
+        Form::Park => &[Slot::Number(1, 3)],
+        Form::Root => &[PORT, ANY],
+        Form::ClassicFull => &[PORT, Slot::Key(Keyword::Full)],
+        Form::ClassicLow => &[PORT, Slot::Key(Keyword::Low)],
+        Form::Plug => &[ANY],
+        Form::Unplug => &[ANY],
+        Form::Reset => &[ANY],
+        Form::Give => &[ANY],
+        Form::Disk => &[ANY, ANY, ANY, Slot::Number(1, 1024)],
+        Form::Read => &[ANY, ANY, Slot::Number(1, 40)],
+        Form::Write => &[ANY, ANY, Slot::Hex],
+        Form::WriteFill => &[
+            ANY,
+            ANY,
+            Slot::Key(Keyword::Fill),
+            Slot::Number(512, LONGEST_QTD),
+            SEED,
+        ],
+        Form::Revive => &[ANY],
+        _ => &[],
+    }
+}
 
 /// The slots of a form.
 pub fn slots(form: Form) -> &'static [Slot]
@@ -155,6 +241,7 @@ pub fn slots(form: Form) -> &'static [Slot]
     match form {
         Form::Mem => &[Slot::Number(2048, MOST_MEMORY)],
         Form::Hub => &[ADDRESS, Slot::Number(1, 15)],
+        Form::HubMulti => &[ADDRESS, Slot::Number(1, 15), Slot::Key(Keyword::Multi)],
         Form::DevHigh => &[ADDRESS, Slot::Key(Keyword::High)],
         Form::DevFull => &[ADDRESS, Slot::Key(Keyword::Full), ANY, ANY],
         Form::DevLow => &[ADDRESS, Slot::Key(Keyword::Low), ANY, ANY],
@@ -263,16 +350,27 @@ pub fn slots(form: Form) -> &'static [Slot]
         Form::OrderD => &[Slot::Key(Keyword::D), ANY],
         Form::OrderC => &[Slot::Key(Keyword::C), ANY],
         Form::OrderM => &[Slot::Key(Keyword::M), ANY],
+        _ => second_slots(form),
     }
 }
 
-/// The forms of the lines with a first word.
-pub fn forms(first: FirstWord) -> &'static [Form]
-    ensures { result.now ≡ forms_of first }
+/// The forms of a hub's lines: version 2 has those of a hub with a translator for each port.
+fn hub_forms(second: bool) -> &'static [Form]
+    ensures { result.now ≡ hub_forms second }
+{
+    if second {
+        return &[Form::Hub, Form::HubMulti];
+    }
+    &[Form::Hub]
+}
+
+/// The forms of the lines with a first word, in a version of the language.
+pub fn forms(version: u8, first: FirstWord) -> &'static [Form]
+    ensures { result.now ≡ forms_of version first }
 {
     match first {
         FirstWord::Mem => &[Form::Mem],
-        FirstWord::Hub => &[Form::Hub],
+        FirstWord::Hub => hub_forms(version == 2),
         FirstWord::Dev => &[Form::DevHigh, Form::DevFull, Form::DevLow],
         FirstWord::Ep => &[
             Form::EpControl,
@@ -297,12 +395,27 @@ pub fn forms(first: FirstWord) -> &'static [Form]
         FirstWord::Control => &[Form::Control, Form::ControlData],
         FirstWord::Iso => &[Form::IsoIn, Form::IsoOut],
         FirstWord::Order => &[Form::OrderD, Form::OrderC, Form::OrderM],
+        FirstWord::Frames => &[Form::Frames],
+        FirstWord::Stuff => &[Form::Stuff],
+        FirstWord::Epoch => &[Form::Epoch],
+        FirstWord::Clear => &[Form::Clear],
+        FirstWord::Park => &[Form::Park],
+        FirstWord::Root => &[Form::Root],
+        FirstWord::Classic => &[Form::ClassicFull, Form::ClassicLow],
+        FirstWord::Plug => &[Form::Plug],
+        FirstWord::Unplug => &[Form::Unplug],
+        FirstWord::Reset => &[Form::Reset],
+        FirstWord::Give => &[Form::Give],
+        FirstWord::Disk => &[Form::Disk],
+        FirstWord::Read => &[Form::Read],
+        FirstWord::Write => &[Form::Write, Form::WriteFill],
+        FirstWord::Revive => &[Form::Revive],
     }
 }
 
 impl FirstWord {
     /// The first word with these bytes.
-    pub fn of(word: &[u8]) -> Option<FirstWord>
+    pub(crate) fn of(word: &[u8]) -> Option<FirstWord>
         ensures { result ≡ first_of word.now }
     {
         if word == b"mem".as_slice() {
@@ -347,7 +460,7 @@ impl FirstWord {
         if word == b"order".as_slice() {
             return Some(FirstWord::Order);
         }
-        None
+        FirstWord::second(word)
     }
 }
 
@@ -379,5 +492,6 @@ pub fn keyword_text(keyword: Keyword) -> &'static [u8]
         Keyword::D => b"d",
         Keyword::C => b"c",
         Keyword::M => b"m",
+        Keyword::Multi => b"multi",
     }
 }

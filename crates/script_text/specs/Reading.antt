@@ -8,7 +8,7 @@ use Rattle.script_forms.specs.declared.causes.TextWhy.TheVariants as C
 use Rattle.script_forms.specs.declared.table.FirstWord.{FirstWord}
 use Rattle.script_forms.specs.declared.table.Form.{Form}
 use Rattle.script_forms.specs.declared.statements.Statement.{Statement}
-use Rattle.script_forms.specs.Table.{first_of}
+use Rattle.script_forms.specs.Table.{first_in}
 use Rattle.script_forms.specs.Fitting.{form_of}
 use Rattle.script_forms.specs.Values.{statement_of}
 use Rattle.script_world.specs.Draft.{Draft, empty, script_of}
@@ -49,15 +49,15 @@ abbrev pub form_read : Draft → ℕ → List (List ℕ) → Result Form TextWhy
 form_read w n more (Ok form) = said w n (statement_of form more)
 form_read w n more (Err why) = Err why
 
--- the first word is known, or isn't
+-- the first word is one of the version, or isn't
 abbrev pub first_read : Draft → ℕ → List (List ℕ) → Option FirstWord → Result Draft TextWhy
 first_read w n more None = Err C.Word
-first_read w n more (Some first) = if is_late w first then Err C.Late else form_read w n more (form_of first more)
+first_read w n more (Some first) = if is_late w first then Err C.Late else form_read w n more (form_of w.version first more)
 
 -- the words of line n; a space too many makes an empty word
 abbrev pub words_read : Draft → ℕ → List (List ℕ) → Result Draft TextWhy
 words_read w n [] = Err C.Word
-words_read w n (first ∷ more) = if list_any no_bytes (first ∷ more) then Err C.Word else first_read w n more (first_of first)
+words_read w n (first ∷ more) = if list_any no_bytes (first ∷ more) then Err C.Word else first_read w n more (first_in w.version first)
 
 -- the first line is the version alone
 abbrev pub version_read : Draft → List ℕ → Result Draft TextWhy

@@ -3,7 +3,7 @@ ghost use Rattle.std.specs.Prelude.{◌≡◌, ℕ, ◌≤◌, ◌<◌, ◌+◌,
 ghost use Rattle.std.specs.List.{list_all, list_any};
 ghost use Rattle.script_types.specs.declared.scripts.Script.{Script as Told};
 ghost use Rattle.script_forms.specs.declared.causes.TextWhy.{TextWhy as Why};
-ghost use Rattle.script_forms.specs.Table.{first_of};
+ghost use Rattle.script_forms.specs.Table.{first_in};
 ghost use Rattle.script_forms.specs.Fitting.{form_of};
 ghost use Rattle.script_world.specs.Draft.{empty, script_of};
 ghost use Rattle.script_text.specs.Reading.{lines_in, words_in, says, may_stand, no_bytes, answer, said, form_read, first_read, words_read, version_read, line_read, lines_read, outcome, script_after, text_read, script_read};
@@ -61,9 +61,9 @@ fn read_form(
     first: FirstWord,
     words: &[Word],
 ) -> Result<Option<TextWhy>, Memory>
-    ensures { IfOk result (λ why. form_read draft.old n words.now (form_of first words.now) ≡ answer why draft.new) }
+    ensures { IfOk result (λ why. form_read draft.old n words.now (form_of draft.old.version first words.now) ≡ answer why draft.new) }
 {
-    match form_of(first, words) {
+    match form_of(draft.version(), first, words) {
         Err(why) => Ok(Some(why)),
         Ok(form) => match statement(alloc, form, words) {
             Ok(statement) => read_statement(alloc, draft, n, statement),
@@ -80,9 +80,9 @@ fn read_first(
     first: &[u8],
     words: &[Word],
 ) -> Result<Option<TextWhy>, Memory>
-    ensures { IfOk result (λ why. first_read draft.old n words.now (first_of first.now) ≡ answer why draft.new) }
+    ensures { IfOk result (λ why. first_read draft.old n words.now (first_in draft.old.version first.now) ≡ answer why draft.new) }
 {
-    let Some(first) = FirstWord::of(first) else {
+    let Some(first) = FirstWord::of_version(draft.version(), first) else {
         return Ok(Some(TextWhy::Word));
     };
     if draft.is_late(first) {

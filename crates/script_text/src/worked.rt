@@ -1,5 +1,5 @@
 //! Laws of the definitions, and worked texts, which the check computes.
-ghost use Rattle.std.specs.Prelude.{◌≡◌, ℕ, ◌<◌, ◌⊎◌, List, [], ◌∷◌, Some, None, length};
+ghost use Rattle.std.specs.Prelude.{◌≡◌, ℕ, ◌<◌, ◌⊎◌, List, [], ◌∷◌, Some, None, true, length};
 ghost use Rattle.script_types.specs.declared.scripts.Script.{Script as Told};
 ghost use Rattle.script_text.specs.Faults.{Spells, first_fault, HasScript, HasFault};
 
@@ -28,9 +28,15 @@ pub const VERSION: &[u8] = b"ehci 3\n";
 
 pub const WORD: &[u8] = b"ehci 1\n\n# a device\ndevice 3 high\n";
 
+pub const UNBUILT: &[u8] = b"ehci 2\nclear 3 1 in\n";
+
+pub const BEFORE: &[u8] = b"ehci 1\nstuff 3 1 in 6\n";
+
 pub const LATE: &[u8] = b"ehci 1\norder d 1\nmem 1\n";
 
 pub const COUNT: &[u8] = b"ehci 1\ndev 3";
+
+pub const ONE_TRANSLATOR: &[u8] = b"ehci 1\nhub 9 4 multi\n";
 
 pub const NUMBER: &[u8] = b"ehci 1\ndev 03 high\n";
 
@@ -49,8 +55,11 @@ pub fn causes()
     ensures byte { first_fault BYTE.now ≡ Some (2, TextWhy.Byte) }
     ensures version { first_fault VERSION.now ≡ Some (1, TextWhy.Version) }
     ensures word { first_fault WORD.now ≡ Some (4, TextWhy.Word) }
+    ensures unbuilt { first_fault UNBUILT.now ≡ Some (2, TextWhy.Word) }
+    ensures before { first_fault BEFORE.now ≡ Some (2, TextWhy.Word) }
     ensures late { first_fault LATE.now ≡ Some (3, TextWhy.Late) }
     ensures count { first_fault COUNT.now ≡ Some (2, TextWhy.Count) }
+    ensures one_translator { first_fault ONE_TRANSLATOR.now ≡ Some (2, TextWhy.Count) }
     ensures number { first_fault NUMBER.now ≡ Some (2, TextWhy.Number) }
     ensures hex { first_fault HEX.now ≡ Some (2, TextWhy.Hex) }
     ensures range { first_fault RANGE.now ≡ Some (2, TextWhy.Range) }
@@ -87,6 +96,49 @@ pub fn one_device()
           ∷ (9, Line.Micro 20)
           ∷ [];
       version = 1;
+      frames = 1024;
+      park = 0;
+      roots = [];
+      classics = [];
+      disks = [];
+    }) }
+{}
+
+/// A script of a hub with a translator for each port, and of stuffed bits behind it.
+pub const TRANSLATORS: &[u8] =
+    b"ehci 2\nmem 2048\nhub 9 2 multi\ndev 3 full 9 2\nep 3 1 in iso 512 8 1\nstuff 3 1 in 6\n";
+
+/// What it spells.
+pub fn translators()
+    ensures { Spells TRANSLATORS.now (record {
+      words = 2048;
+      hubs = record { addr = 9; ports = 2; attached = None ∷ Some Speed.Full ∷ []; multi = true } ∷ [];
+      devices = record {
+        addr = 3;
+        speed = Speed.Full;
+        eps = record {
+          desc = record {
+            name = record { addr = 3; num = 1; way = Way.In };
+            speed = Speed.Full;
+            kind = EpKind.Iso;
+            max = 512;
+            period = 8;
+            multi = 1;
+            hub = Some 9;
+            port = 2;
+            tt = 2;
+          };
+          items = [];
+          room = 0;
+          stuff = 6;
+          clears = 0;
+        } ∷ [];
+      } ∷ [];
+      endpoints = record { addr = 3; num = 1; way = Way.In } ∷ [];
+      fates = [];
+      holds = [];
+      lines = [];
+      version = 2;
       frames = 1024;
       park = 0;
       roots = [];

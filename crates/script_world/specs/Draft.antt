@@ -26,6 +26,7 @@ pub record Placed : Type 0 where
   pub speed : Speed
   pub hub : Option ℕ
   pub port : ℕ
+  pub tt : ℕ  -- its port where the hub has a translator for each, else 0 (USB 2.0, 11.14)
   pub eps : List EpText
 
 pub record Draft : Type 0 where
@@ -36,6 +37,7 @@ pub record Draft : Type 0 where
   pub hubs : List HubText
   pub devices : List Placed
   pub endpoints : List EpName  -- the endpoints of all devices in the order of their lines
+  pub stuffed : List EpName  -- the endpoints with a number of stuffed bits, in the order of their lines
   pub fates : List FateText
   pub holds : List (ℕ × ℕ)
   pub lines : List (ℕ × Line)
@@ -55,6 +57,7 @@ empty = record {
   hubs = [];
   devices = [];
   endpoints = [];
+  stuffed = [];
   fates = [];
   holds = [];
   lines = [];

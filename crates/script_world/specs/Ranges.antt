@@ -121,14 +121,19 @@ is_slots l = within 1 8 l.count && nat_le l.len 3072 && nat_le l.seed 255
 abbrev pub iso_ranged : Draft → IsoLine → Bool
 iso_ranged w l = is_slots l && option_map_or (λ d. nat_le l.len (d.max * d.multi)) (known w l.name) true
 
+-- stuffed bits count below a hub alone; an endpoint that isn't declared may be there (USB 2.0, 7.1.9)
+abbrev pub stuff_ranged : Draft → Name → Bool
+stuff_ranged w name = not (is_some (hub_ep w name)) && option_map_or (λ d. is_some d.hub) (device_ep w name) true
+
 -- what the line says is in range
 abbrev pub in_range : Draft → Statement → Bool
 in_range w (says.Mem n) = within 2048 most_memory n && n % 1024 == 0
-in_range w (says.Hub addr ports) = within 1 127 addr && within 1 15 ports
+in_range w (says.Hub addr ports multi) = within 1 127 addr && within 1 15 ports
 in_range w (says.DevHigh addr) = within 1 127 addr
 in_range w (says.DevBelow b) = within 1 127 b.addr
 in_range w (says.Ep l) = ep_ranged w l
 in_range w (says.Reply name a) = reply_ranged w name a
+in_range w (says.Stuff name p) = nat_le p 6 && stuff_ranged w name
 in_range w (says.Hold first last) = nat_le first last
 in_range w (says.Get l) = by_ranged w l.name l.by
 in_range w (says.Put l) = by_ranged w l.name l.by

@@ -47,6 +47,7 @@ is_known w (says.DevBelow b) = option_map_or (λ h. within 1 h.ports b.port) (hu
 is_known w (says.Ep l) = is_some (speed_of w l.name.addr)
 is_known w (says.Reply name a) = is_some (known w name)
 is_known w (says.Fate f) = is_some (known w f.name)
+is_known w (says.Stuff name p) = is_some (known w name)
 is_known w (says.Open name) = is_some (known w name)
 is_known w (says.Cancel name) = is_some (known w name)
 is_known w (says.Get l) = is_some (known w l.name)
@@ -71,14 +72,19 @@ same_bus false b = not b
 abbrev pub is_fated : FateLine → FateText → Bool
 is_fated f t = t.k == f.k && same_bus t.down f.down && t.name.addr == f.name.addr && t.name.num == f.name.num && same_way t.name.way f.name.way
 
+-- the endpoint has this name
+abbrev pub has_name : Name → EpName → Bool
+has_name name e = e.addr == name.addr && e.num == name.num && same_way e.way name.way
+
 -- the line says again what was said
 abbrev pub is_twice : Draft → Statement → Bool
 is_twice w (says.Mem n) = is_some w.words
-is_twice w (says.Hub addr ports) = is_used w addr
+is_twice w (says.Hub addr ports multi) = is_used w addr
 is_twice w (says.DevHigh addr) = is_used w addr
 is_twice w (says.DevBelow b) = is_used w b.addr || is_attached w b.hub b.port
 is_twice w (says.Ep l) = is_some (device_ep w l.name)
 is_twice w (says.Fate f) = list_any (is_fated f) w.fates
+is_twice w (says.Stuff name p) = list_any (has_name name) w.stuffed
 is_twice w _ = false
 
 -- how many bytes a line scripts
@@ -106,12 +112,13 @@ may_script w n = nat_le (w.scripted + n) 4194304
 -- the limits of a whole script leave room for the line
 abbrev pub has_room : Draft → Statement → Bool
 has_room w (says.Mem n) = true
-has_room w (says.Hub addr ports) = nat_lt (length w.hubs) 8
+has_room w (says.Hub addr ports multi) = nat_lt (length w.hubs) 8
 has_room w (says.DevHigh addr) = nat_lt (length w.devices) 127
 has_room w (says.DevBelow b) = nat_lt (length w.devices) 127
 has_room w (says.Ep l) = nat_lt (length w.endpoints) 256
 has_room w (says.Reply name a) = may_script w (answer_len a)
 has_room w (says.Fate f) = nat_lt (length w.fates) 4096
+has_room w (says.Stuff name p) = true
 has_room w (says.Hold first last) = nat_lt (length w.holds) 256
 has_room w (says.Open name) = may_command w
 has_room w (says.Cancel name) = may_command w
@@ -121,6 +128,7 @@ has_room w (says.Control c) = may_command w && may_script w (bytes_len c.bytes)
 has_room w (says.Iso l) = may_command w
 has_room w (says.Order event n) = nat_le n 1000000 && nat_le (w.steps + n) 4000000
 has_room w (says.Micro n) = nat_le (w.microframes + n) 16384
+has_room w says.Unbuilt = true
 
 -- the first cause of a line whose words fit a form
 abbrev pub cause_of : Draft → Statement → Option TextWhy
@@ -139,6 +147,7 @@ is_world F.Ep = true
 is_world F.Reply = true
 is_world F.Fate = true
 is_world F.Hold = true
+is_world F.Stuff = true
 is_world _ = false
 
 -- the line comes too late: the world after an action, the memory after anything of the world
@@ -165,6 +174,10 @@ counted a n = min (a + n) 4294967295
 abbrev pub roomier : ℕ → EpText → EpText
 roomier n e = record e { room = counted e.room n }
 
+-- stuffed bits make the packets of an endpoint longer by p bytes in 36
+abbrev pub stuffed : ℕ → EpText → EpText
+stuffed p e = record e { stuff = p }
+
 -- an endpoint is changed
 abbrev pub at_ep : Name → (EpText → EpText) → List Placed → List Placed
 at_ep name f ds = change (λ d. d.addr == name.addr) (λ d. record d { eps = change (is_named name) f d.eps }) ds
@@ -177,8 +190,8 @@ abbrev pub attach : ℕ → Speed → HubText → HubText
 attach port s h = record h { attached = slice_set h.attached (port - 1) (Some s) }
 
 -- a device with no endpoints yet
-abbrev pub device : ℕ → Speed → Option ℕ → ℕ → Placed
-device addr s hub port = record { addr = addr; speed = s; hub = hub; port = port; eps = [] }
+abbrev pub device : ℕ → Speed → Option ℕ → ℕ → ℕ → Placed
+device addr s hub port tt = record { addr = addr; speed = s; hub = hub; port = port; tt = tt; eps = [] }
 
 abbrev pub desc_of : EpLine → Placed → EpDesc
 desc_of l d = record {
@@ -190,7 +203,7 @@ desc_of l d = record {
   multi = l.multi;
   hub = d.hub;
   port = d.port;
-  tt = 0;
+  tt = d.tt;
 }
 
 abbrev pub with_ep : EpLine → Placed → Placed
@@ -216,25 +229,38 @@ by_of by = unwrap_or by longest_qtd
 abbrev pub put_room : Name → ℕ → List Placed → List Placed
 put_room name n ds = if same_way name.way way.Out then at_ep name (roomier n) ds else ds
 
-abbrev pub after_hub : Draft → ℕ → ℕ → Draft
-after_hub w addr ports =
+abbrev pub after_hub : Draft → ℕ → ℕ → Bool → Draft
+after_hub w addr ports multi =
     if within 1 127 addr && within 1 15 ports then
-    record w { declaring = true; hubs = w.hubs ++ record { addr = addr; ports = ports; attached = replicate ports None; multi = false } ∷ [] }
+    record w {
+      declaring = true;
+      hubs = w.hubs ++ record { addr = addr; ports = ports; attached = replicate ports None; multi = multi } ∷ [];
+    }
     else w
 
 abbrev pub after_high : Draft → ℕ → Draft
-after_high w addr = if within 1 127 addr then record w { declaring = true; devices = w.devices ++ device addr speed.High None 0 ∷ [] } else w
+after_high w addr =
+    if within 1 127 addr then record w { declaring = true; devices = w.devices ++ device addr speed.High None 0 0 ∷ [] } else w
 
--- a device on a port of a hub of these addresses
-abbrev pub placed_below : ℕ → ℕ → Below → Draft → Draft
-placed_below addr hub b w = record w {
+-- the translator of a port: the port where the hub has one for each, else 0
+abbrev pub translator_of : Bool → ℕ → ℕ
+translator_of multi port = if multi then port else 0
+
+-- the translator of a device on a port of a declared hub
+abbrev pub translator_below : Draft → Below → ℕ
+translator_below w b = option_map_or (λ h. translator_of h.multi b.port) (hub_of w.hubs b.hub) 0
+
+-- a device on a port of a hub of these addresses, behind a translator
+abbrev pub placed_below : ℕ → ℕ → ℕ → Below → Draft → Draft
+placed_below addr hub tt b w = record w {
   declaring = true;
   hubs = change (λ h. h.addr == b.hub) (attach b.port b.speed) w.hubs;
-  devices = w.devices ++ device addr b.speed (Some hub) b.port ∷ [];
+  devices = w.devices ++ device addr b.speed (Some hub) b.port tt ∷ [];
 }
 
 abbrev pub after_below : Draft → Below → Draft
-after_below w b = if within 1 127 b.addr && nat_le b.hub 127 && is_known w (says.DevBelow b) then placed_below b.addr b.hub b w else w
+after_below w b =
+    if within 1 127 b.addr && nat_le b.hub 127 && is_known w (says.DevBelow b) then placed_below b.addr b.hub (translator_below w b) b w else w
 
 abbrev pub after_ep : Draft → EpLine → Draft
 after_ep w l =
@@ -247,6 +273,12 @@ after_reply w name a = record w { declaring = true; scripted = counted w.scripte
 
 abbrev pub after_fate : Draft → FateLine → Draft
 after_fate w f = where_known w f.name (record w { declaring = true; fates = w.fates ++ record { name = name_of f.name; down = f.down; k = f.k; fate = f.fate } ∷ [] })
+
+abbrev pub after_stuff : Draft → Name → ℕ → Draft
+after_stuff w name p =
+    if nat_le p 6 then
+    where_known w name (record w { declaring = true; stuffed = w.stuffed ++ name_of name ∷ []; devices = at_ep name (stuffed p) w.devices })
+    else w
 
 abbrev pub after_open : Draft → ℕ → Name → Draft
 after_open w n name = option_map_or (λ d. commanded w n (cmd.OpenEp d)) (known w name) w
@@ -275,12 +307,13 @@ after_iso w n l = if is_slots l then where_known w l.name (commanded w n (cmd.Is
 -- the script after line n, where the line has no cause
 abbrev pub after : Draft → ℕ → Statement → Draft
 after w n (says.Mem words) = record w { words = Some words }
-after w n (says.Hub addr ports) = after_hub w addr ports
+after w n (says.Hub addr ports multi) = after_hub w addr ports multi
 after w n (says.DevHigh addr) = after_high w addr
 after w n (says.DevBelow b) = after_below w b
 after w n (says.Ep l) = after_ep w l
 after w n (says.Reply name a) = after_reply w name a
 after w n (says.Fate f) = after_fate w f
+after w n (says.Stuff name p) = after_stuff w name p
 after w n (says.Hold first last) = record w { declaring = true; holds = w.holds ++ (first, last) ∷ [] }
 after w n (says.Open name) = after_open w n name
 after w n (says.Cancel name) = after_cancel w n name
@@ -290,6 +323,7 @@ after w n (says.Control c) = after_control w n c
 after w n (says.Iso l) = after_iso w n l
 after w n (says.Order event k) = record w { acting = true; steps = counted w.steps k; lines = w.lines ++ (n, line.Order event k) ∷ [] }
 after w n (says.Micro k) = record w { acting = true; microframes = counted w.microframes k; lines = w.lines ++ (n, line.Micro k) ∷ [] }
+after w n says.Unbuilt = w
 
 -- the script after line n, whose words fit a form: as it was where the line has a cause
 abbrev pub taken : Draft → ℕ → Statement → Draft

@@ -3,10 +3,13 @@
 --     iso_line addr num way     the line of an isochronous endpoint
 --     two_devices               a script with the devices 3 and 4
 --     behind_a_hub              a script with the full-speed device 3 behind hub 9
-use Rattle.std.specs.Prelude.{ℕ}
+--     behind_its_own            .. on port 2 of the hub 9 with a translator for each port, where it has an isochronous endpoint
+--     stuff_line addr num way p the line of an endpoint's stuffed bits
+use Rattle.std.specs.Prelude.{ℕ, true, false}
 use Rattle.usb_base.specs.declared.packets.EpKind.TheVariants as kind
 use Rattle.usb_base.specs.declared.packets.Speed.TheVariants.{Full}
 use Rattle.usb_base.specs.declared.packets.Way.{Way}
+use Rattle.usb_base.specs.declared.packets.Way.TheVariants as way
 use Rattle.script_forms.specs.declared.statements.Statement.{Statement}
 use Rattle.script_forms.specs.declared.statements.Statement.TheVariants as says
 use Rattle.script_world.specs.Draft.{Draft, empty}
@@ -22,4 +25,12 @@ abbrev pub iso_line : ℕ → ℕ → Way → Statement
 iso_line addr num way = says.Ep (record { name = record { addr = addr; num = num; way = way }; kind = kind.Iso; max = 512; period = 8; multi = 1 })
 
 abbrev pub behind_a_hub : Draft
-behind_a_hub = after (after empty 2 (says.Hub 9 4)) 3 (says.DevBelow (record { addr = 3; speed = Full; hub = 9; port = 1 }))
+behind_a_hub = after (after empty 2 (says.Hub 9 4 false)) 3 (says.DevBelow (record { addr = 3; speed = Full; hub = 9; port = 1 }))
+
+abbrev pub stuff_line : ℕ → ℕ → Way → ℕ → Statement
+stuff_line addr num way p = says.Stuff (record { addr = addr; num = num; way = way }) p
+
+abbrev pub behind_its_own : Draft
+behind_its_own =
+    after (after (after empty 2 (says.Hub 9 4 true)) 3 (says.DevBelow (record { addr = 3; speed = Full; hub = 9; port = 2 }))) 4
+    (iso_line 3 1 way.In)

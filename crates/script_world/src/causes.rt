@@ -1,15 +1,18 @@
 //! Why a line is refused whose words fit a form.
 ghost use Rattle.std.specs.Prelude.{◌≡◌, ℕ, ◌<◌, ◌==◌, not, length, Option, is_some, slice_get, ◌-◌};
+ghost use Rattle.std.specs.List.{list_any};
 ghost use Rattle.std.specs.Option.{option_flatten};
 ghost use Rattle.script_world.specs.Draft.{known};
-ghost use Rattle.script_world.specs.Rows.{control_name, is_known, is_used, is_attached, same_bus, is_fated, is_twice, answer_len, content_len, bytes_len, may_command, may_script, has_room, cause_of, is_world, is_late};
+ghost use Rattle.script_world.specs.Rows.{control_name, is_known, is_used, is_attached, same_bus, is_fated, has_name, is_twice};
+ghost use Rattle.script_world.specs.Rows.{answer_len, content_len, bytes_len, may_command, may_script, has_room, cause_of, is_world};
+ghost use Rattle.script_world.specs.Rows.{is_late};
 
 use crate::draft::Draft;
 use crate::endpoints::same_way;
 use crate::ranges::within;
 use script_forms::{Answer, Below, Content, FateLine, FirstWord, Name, Statement, TextWhy};
 use script_types::FateText;
-use usb_base::{ListOf, Speed, Way};
+use usb_base::{EpName, ListOf, Speed, Way};
 
 /// The endpoint of a request to a device.
 pub fn control_name(addr: u32) -> Name
@@ -31,6 +34,15 @@ fn is_fated(line: &FateLine, fate: &FateText) -> bool
         && fate.name.addr.get() as u32 == line.name.addr
         && fate.name.num.get() as u32 == line.name.num
         && same_way(fate.name.way, line.name.way)
+}
+
+/// Whether an endpoint has this name.
+fn has_name(name: &Name, ep: &EpName) -> bool
+    ensures { result ≡ has_name name.now ep.now }
+{
+    ep.addr.get() as u32 == name.addr
+        && ep.num.get() as u32 == name.num
+        && same_way(ep.way, name.way)
 }
 
 /// Whether a device is attached to a port, counted from 1.
@@ -87,6 +99,7 @@ fn is_world(first: FirstWord) -> bool
         FirstWord::Reply => true,
         FirstWord::Fate => true,
         FirstWord::Hold => true,
+        FirstWord::Stuff => true,
         _ => false,
     }
 }
@@ -129,6 +142,7 @@ impl Draft {
             Statement::Ep(line) => self.speed_of(line.name.addr).is_some(),
             Statement::Reply(name, _) => self.is_ep(name),
             Statement::Fate(line) => self.is_ep(&line.name),
+            Statement::Stuff(name, _) => self.is_ep(name),
             Statement::Open(name) => self.is_ep(name),
             Statement::Cancel(name) => self.is_ep(name),
             Statement::Get(line) => self.is_ep(&line.name),
@@ -164,13 +178,14 @@ impl Draft {
     {
         match statement {
             Statement::Mem(_) => self.words.is_some(),
-            Statement::Hub(addr, _) => self.is_used(*addr),
+            Statement::Hub(addr, _, _) => self.is_used(*addr),
             Statement::DevHigh(addr) => self.is_used(*addr),
             Statement::DevBelow(below) => {
                 self.is_used(below.addr) || self.is_attached(below.hub, below.port)
             }
             Statement::Ep(line) => self.device_ep(&line.name).is_some(),
             Statement::Fate(line) => self.was_fated(line),
+            Statement::Stuff(name, _) => self.was_stuffed(name),
             _ => false,
         }
     }
@@ -180,6 +195,13 @@ impl Draft {
         ensures { result ≡ is_twice self.now (Statement.Fate line.now) }
     {
         self.fates.iter().any(|fate| is_fated(line, fate))
+    }
+
+    /// Whether an endpoint has its number of stuffed bits.
+    fn was_stuffed(&self, name: &Name) -> bool
+        ensures { result ≡ list_any (has_name name.now) self.now.stuffed }
+    {
+        self.stuffed.iter().any(|ep| has_name(name, ep))
     }
 
     /// Whether there is room for one more command.
@@ -205,12 +227,13 @@ impl Draft {
     {
         match statement {
             Statement::Mem(_) => true,
-            Statement::Hub(_, _) => self.hubs.len() < 8,
+            Statement::Hub(_, _, _) => self.hubs.len() < 8,
             Statement::DevHigh(_) => self.devices.len() < 127,
             Statement::DevBelow(_) => self.devices.len() < 127,
             Statement::Ep(_) => self.endpoints.len() < 256,
             Statement::Reply(_, answer) => self.may_script(answer_len(answer)),
             Statement::Fate(_) => self.fates.len() < 4_096,
+            Statement::Stuff(_, _) => true,
             Statement::Hold(_, _) => self.holds.len() < 256,
             Statement::Open(_) => self.may_command(),
             Statement::Cancel(_) => self.may_command(),
@@ -228,6 +251,7 @@ impl Draft {
                 *n <= 1_000_000 && self.steps as u64 + *n as u64 <= 4_000_000
             }
             Statement::Micro(n) => self.microframes as u64 + *n as u64 <= 16_384,
+            Statement::Unbuilt => true,
         }
     }
 

@@ -3,7 +3,11 @@ ghost use Rattle.std.specs.Prelude.{◌≡◌, ℕ, ◌<◌, ◌≤◌, ◌==◌
 ghost use Rattle.std.specs.List.{position};
 ghost use Rattle.script_types.specs.declared.devices.HubText.{HubText as Hub};
 ghost use Rattle.script_world.specs.Draft.{change, known, filled};
-ghost use Rattle.script_world.specs.Rows.{name_of, counted, answered, roomier, at_ep, attach, device, with_ep, desc_of, content_len, content_bytes, bytes_len, commanded, by_of, put_room, after_hub, after_high, placed_below, after_below, after_ep, after_reply, after_fate, after_open, after_cancel, after_get, after_put, after_control, after_iso, after, taken, cause_of};
+ghost use Rattle.script_world.specs.Rows.{name_of, counted, answered, roomier, stuffed, at_ep, attach, device, translator_of};
+ghost use Rattle.script_world.specs.Rows.{translator_below, with_ep, desc_of, content_len, content_bytes, bytes_len, commanded, by_of};
+ghost use Rattle.script_world.specs.Rows.{put_room, after_hub, after_high, placed_below, after_below, after_ep, after_reply, after_fate};
+ghost use Rattle.script_world.specs.Rows.{after_stuff, after_open, after_cancel, after_get, after_put, after_control, after_iso, after};
+ghost use Rattle.script_world.specs.Rows.{taken, cause_of};
 
 use crate::bytes::{counted, filled, push};
 use crate::causes::{answer_len, bytes_len, content_len, control_name};
@@ -82,6 +86,16 @@ fn attach(alloc: Global, hub: &mut HubText, port: u32, speed: Speed) -> Result<(
     Ok(())
 }
 
+/// The translator of a port: the port where the hub has one for each, else 0.
+fn translator_of(multi: bool, port: u8) -> u8
+    ensures { result ≡ translator_of multi port }
+{
+    if multi {
+        return port;
+    }
+    0
+}
+
 /// The bytes of a qTD.
 fn by_of(by: Option<u32>) -> u32
     ensures { result ≡ by_of by }
@@ -101,8 +115,8 @@ impl Draft {
     }
 
     /// A hub with nothing on its ports.
-    fn add_hub(&mut self, alloc: Global, addr: u32, ports: u32) -> Result<(), Memory>
-        ensures { IfOk result (λ _. self.new ≡ after_hub self.old addr ports) }
+    fn add_hub(&mut self, alloc: Global, addr: u32, ports: u32, multi: bool) -> Result<(), Memory>
+        ensures { IfOk result (λ _. self.new ≡ after_hub self.old addr ports multi) }
     {
         if !(within(1, 127, addr) && within(1, 15, ports)) {
             return Ok(());
@@ -115,7 +129,7 @@ impl Draft {
             addr,
             ports: ports as u8,
             attached: ListOf::of(attached),
-            multi: false,
+            multi,
         };
         push(&mut self.hubs, hub)?;
         self.declaring = true;
@@ -132,13 +146,13 @@ impl Draft {
         let Some(addr) = DevAddr::new(addr as u8) else {
             return Ok(());
         };
-        let device = DeviceDraft::new(alloc, addr, Speed::High, None, 0);
+        let device = DeviceDraft::new(alloc, addr, Speed::High, None, 0, 0);
         push(&mut self.devices, device)?;
         self.declaring = true;
         Ok(())
     }
 
-    /// A device on a port of a hub, which stands at a place.
+    /// A device on a port of a hub, which stands at a place, behind a translator.
     #[tactic(auto, using(crate::proofs::Places::change_at))]
     fn place_below(
         &mut self,
@@ -147,15 +161,16 @@ impl Draft {
         below: &Below,
         addr: DevAddr,
         hub: DevAddr,
+        tt: u8,
     ) -> Result<(), Memory>
         requires port { below.now.port ≤ 255 }
         requires found { position (λ h. h.addr == below.now.hub) self.old.hubs ≡ Some place }
-        ensures { IfOk result (λ _. self.new ≡ placed_below addr hub below.now self.old) }
+        ensures { IfOk result (λ _. self.new ≡ placed_below addr hub tt below.now self.old) }
     {
         let attached = &mut self.hubs[place];
         attach(alloc, attached, below.port, below.speed)?;
         let port = below.port as u8;
-        let device = DeviceDraft::new(alloc, addr, below.speed, Some(hub), port);
+        let device = DeviceDraft::new(alloc, addr, below.speed, Some(hub), port, tt);
         push(&mut self.devices, device)?;
         self.declaring = true;
         Ok(())
@@ -182,7 +197,8 @@ impl Draft {
         let Some(hub) = DevAddr::new(below.hub as u8) else {
             return Ok(());
         };
-        self.place_below(alloc, place, below, addr, hub)
+        let tt = translator_of(self.hubs[place].multi, below.port as u8);
+        self.place_below(alloc, place, below, addr, hub, tt)
     }
 
     /// The name of an endpoint whose device stands at a place.
@@ -259,6 +275,34 @@ impl Draft {
         };
         push(&mut self.fates, fate)?;
         self.declaring = true;
+        Ok(())
+    }
+
+    /// Stuffed bits make the packets of an endpoint longer.
+    #[tactic(auto, using(crate::proofs::Places::change_at, crate::proofs::Places::change_nowhere))]
+    fn set_stuff(&mut self, name: &Name, p: u8)
+        ensures { self.new ≡ record self.old { devices = at_ep name.now (stuffed p) self.old.devices } }
+    {
+        let Some(place) = self.device_place(name.addr) else {
+            return;
+        };
+        let device = &mut self.devices[place];
+        device.set_stuff(name, p);
+    }
+
+    /// A line on the stuffed bits of an endpoint.
+    fn add_stuff(&mut self, name: &Name, p: u32) -> Result<(), Memory>
+        ensures { IfOk result (λ _. self.new ≡ after_stuff self.old name.now p) }
+    {
+        if p > 6 {
+            return Ok(());
+        }
+        let Some(named) = self.name_in(name) else {
+            return Ok(());
+        };
+        push(&mut self.stuffed, named)?;
+        self.declaring = true;
+        self.set_stuff(name, p as u8);
         Ok(())
     }
 
@@ -405,12 +449,13 @@ impl Draft {
                 self.words = Some(words);
                 Ok(())
             }
-            Statement::Hub(addr, ports) => self.add_hub(alloc, addr, ports),
+            Statement::Hub(addr, ports, multi) => self.add_hub(alloc, addr, ports, multi),
             Statement::DevHigh(addr) => self.add_high(alloc, addr),
             Statement::DevBelow(below) => self.add_below(alloc, &below),
             Statement::Ep(ep) => self.add_ep(alloc, &ep),
             Statement::Reply(name, answer) => self.add_reply(alloc, &name, answer),
             Statement::Fate(fate) => self.add_fate(&fate),
+            Statement::Stuff(name, p) => self.add_stuff(&name, p),
             Statement::Hold(first, last) => self.add_hold(first, last),
             Statement::Open(name) => self.add_open(line, &name),
             Statement::Cancel(name) => self.add_cancel(line, &name),
@@ -420,6 +465,7 @@ impl Draft {
             Statement::Iso(iso) => self.add_iso(line, &iso),
             Statement::Order(event, n) => self.add_order(line, event, n),
             Statement::Micro(n) => self.add_micro(line, n),
+            Statement::Unbuilt => Ok(()),
         }
     }
 

@@ -2,7 +2,7 @@
 ghost use Rattle.std.specs.Prelude.{◌≡◌, ℕ, ◌<◌, ◌≤◌, ◌++◌, ◌∷◌, IfOk, [], length, ◌==◌};
 ghost use Rattle.std.specs.List.{position};
 ghost use Rattle.script_world.specs.Draft.{is_named, ep_of, change, device_text};
-ghost use Rattle.script_world.specs.Rows.{answered, roomier, device, with_ep};
+ghost use Rattle.script_world.specs.Rows.{answered, roomier, stuffed, device, with_ep};
 
 use crate::bytes::push;
 use crate::endpoints::EpDraft;
@@ -19,6 +19,7 @@ pub struct DeviceDraft {
     speed: Speed,
     hub: Option<DevAddr>,
     port: u8,
+    tt: u8,
     eps: Vec<EpDraft>,
 }
 
@@ -27,7 +28,7 @@ impl Model for DeviceDraft {
 
     ghost Value = { Placed };
 
-    ghost view = { λ d. record { addr = d.addr; speed = d.speed; hub = d.hub; port = d.port; eps = d.eps.items } };
+    ghost view = { λ d. record { addr = d.addr; speed = d.speed; hub = d.hub; port = d.port; tt = d.tt; eps = d.eps.items } };
 }
 
 impl DeviceDraft {
@@ -38,14 +39,16 @@ impl DeviceDraft {
         speed: Speed,
         hub: Option<DevAddr>,
         port: u8,
+        tt: u8,
     ) -> DeviceDraft
-        ensures { result ≡ device addr speed hub port }
+        ensures { result ≡ device addr speed hub port tt }
     {
         DeviceDraft {
             addr,
             speed,
             hub,
             port,
+            tt,
             eps: Vec::new(alloc),
         }
     }
@@ -107,7 +110,7 @@ impl DeviceDraft {
             multi: line.multi as u8,
             hub: self.hub,
             port: self.port,
-            tt: 0,
+            tt: self.tt,
         };
         push(&mut self.eps, EpDraft::new(alloc, desc))
     }
@@ -134,6 +137,18 @@ impl DeviceDraft {
         };
         let ep = &mut self.eps[place];
         ep.make_room(len);
+    }
+
+    /// Stuffed bits make the packets of an endpoint longer.
+    #[tactic(auto, using(crate::proofs::Places::change_at, crate::proofs::Places::change_nowhere))]
+    pub fn set_stuff(&mut self, name: &Name, p: u8)
+        ensures { self.new ≡ record self.old { eps = change (is_named name.now) (stuffed p) self.old.eps } }
+    {
+        let Some(place) = self.place_of(name) else {
+            return;
+        };
+        let ep = &mut self.eps[place];
+        ep.set_stuff(p);
     }
 
     /// Its text.

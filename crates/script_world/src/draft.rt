@@ -19,6 +19,7 @@ pub struct Draft {
     pub(crate) hubs: Vec<HubText>,
     pub(crate) devices: Vec<DeviceDraft>,
     pub(crate) endpoints: Vec<EpName>,
+    pub(crate) stuffed: Vec<EpName>,
     pub(crate) fates: Vec<FateText>,
     pub(crate) holds: Vec<(u32, u32)>,
     pub(crate) lines: Vec<(u32, Line)>,
@@ -42,6 +43,7 @@ impl Model for Draft {
       hubs = w.hubs.items;
       devices = w.devices.items;
       endpoints = w.endpoints.items;
+      stuffed = w.stuffed.items;
       fates = w.fates.items;
       holds = w.holds.items;
       lines = w.lines.items;
@@ -66,6 +68,7 @@ impl Draft {
             hubs: Vec::new(alloc),
             devices: Vec::new(alloc),
             endpoints: Vec::new(alloc),
+            stuffed: Vec::new(alloc),
             fates: Vec::new(alloc),
             holds: Vec::new(alloc),
             lines: Vec::new(alloc),
@@ -75,6 +78,13 @@ impl Draft {
             scripted: 0,
             asked: 0,
         }
+    }
+
+    /// The version of the language.
+    pub fn version(&self) -> u8
+        ensures { result ≡ self.now.version }
+    {
+        self.version
     }
 
     /// The text is of this version of the language.

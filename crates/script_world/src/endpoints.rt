@@ -2,7 +2,7 @@
 ghost use Rattle.std.specs.Prelude.{◌≡◌, ℕ, ◌<◌, IfOk, [], length};
 ghost use Rattle.script_forms.specs.declared.statements.Name.{Name as Named};
 ghost use Rattle.script_world.specs.Draft.{way_number, same_way, is_named};
-ghost use Rattle.script_world.specs.Rows.{answered, roomier};
+ghost use Rattle.script_world.specs.Rows.{answered, roomier, stuffed};
 
 use crate::bytes::{counted, filled, push, push_packets};
 use script_forms::{Answer, Name};
@@ -17,6 +17,7 @@ pub struct EpDraft {
     desc: EpDesc,
     items: Vec<Item>,
     room: u32,
+    stuff: u8,
 }
 
 impl Model for EpDraft {
@@ -25,7 +26,7 @@ impl Model for EpDraft {
 
     ghost Value = { Told };
 
-    ghost view = { λ e. record { desc = e.desc; items = e.items.items; room = e.room; stuff = 0; clears = 0 } };
+    ghost view = { λ e. record { desc = e.desc; items = e.items.items; room = e.room; stuff = e.stuff; clears = 0 } };
 
     ghost invariant = { λ e. 0 < e.desc.max };
 }
@@ -58,6 +59,7 @@ impl EpDraft {
             desc,
             items: Vec::new(alloc),
             room: 0,
+            stuff: 0,
         }
     }
 
@@ -102,6 +104,13 @@ impl EpDraft {
         self.room = counted(self.room, len);
     }
 
+    /// Stuffed bits make its packets longer by `p` bytes in 36 (USB 2.0, 7.1.9).
+    pub fn set_stuff(&mut self, p: u8)
+        ensures { self.new ≡ stuffed p self.old }
+    {
+        self.stuff = p;
+    }
+
     /// Its text.
     pub fn into_text(self) -> EpText
         ensures { result ≡ self }
@@ -110,7 +119,7 @@ impl EpDraft {
             desc: self.desc,
             items: ListOf::of(self.items),
             room: self.room,
-            stuff: 0,
+            stuff: self.stuff,
             clears: 0,
         }
     }

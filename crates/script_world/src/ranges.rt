@@ -1,7 +1,9 @@
 //! The ranges of what lines say, beyond those of their numbers alone.
 ghost use Rattle.std.specs.Prelude.{◌≡◌, ℕ, ◌<◌, ◌==◌, not, length, Option};
 ghost use Rattle.script_forms.specs.declared.statements.Answer.{Answer as Answered};
-ghost use Rattle.script_world.specs.Ranges.{within, is_size, is_period, is_rate, is_paced, is_placed, suits, is_endpoint, ep_ranged, is_stream, is_iso, can_answer, some_answer, reply_ranged, by_ranged, out_len, control_ranged, is_slots, iso_ranged, in_range};
+ghost use Rattle.script_world.specs.Ranges.{within, is_size, is_period, is_rate, is_paced, is_placed, suits, is_endpoint, ep_ranged};
+ghost use Rattle.script_world.specs.Ranges.{is_stream, is_iso, can_answer, some_answer, reply_ranged, by_ranged, out_len, control_ranged};
+ghost use Rattle.script_world.specs.Ranges.{is_slots, iso_ranged, stuff_ranged, in_range};
 
 use crate::draft::Draft;
 use crate::endpoints::same_way;
@@ -240,17 +242,31 @@ impl Draft {
         }
     }
 
+    /// Whether stuffed bits count for an endpoint, which is so below a hub alone.
+    fn stuff_ranged(&self, name: &Name) -> bool
+        ensures { result ≡ stuff_ranged self.now name.now }
+    {
+        if self.hub_ep(name).is_some() {
+            return false;
+        }
+        match self.device_ep(name) {
+            Some(desc) => desc.hub.is_some(),
+            None => true,
+        }
+    }
+
     /// Whether what a line says is in range.
     pub(crate) fn in_range(&self, statement: &Statement) -> bool
         ensures { result ≡ in_range self.now statement.now }
     {
         match statement {
             Statement::Mem(words) => within(2_048, MOST_MEMORY, *words) && *words % 1_024 == 0,
-            Statement::Hub(addr, ports) => within(1, 127, *addr) && within(1, 15, *ports),
+            Statement::Hub(addr, ports, _) => within(1, 127, *addr) && within(1, 15, *ports),
             Statement::DevHigh(addr) => within(1, 127, *addr),
             Statement::DevBelow(below) => within(1, 127, below.addr),
             Statement::Ep(line) => self.ep_ranged(line),
             Statement::Reply(name, answer) => self.reply_ranged(name, answer),
+            Statement::Stuff(name, p) => *p <= 6 && self.stuff_ranged(name),
             Statement::Hold(first, last) => *first <= *last,
             Statement::Get(line) => self.by_ranged(&line.name, line.by),
             Statement::Put(line) => self.by_ranged(&line.name, line.by),

@@ -1,9 +1,10 @@
 //! Worked values, which the check computes.
 ghost use Rattle.std.specs.Prelude.{◌≡◌, ℕ, List, [], ◌∷◌, Some, None, true, false};
-ghost use Rattle.script_world.specs.Draft.{empty, filled, packets};
+ghost use Rattle.std.specs.Option.{option_map};
+ghost use Rattle.script_world.specs.Draft.{empty, filled, packets, device_ep};
 ghost use Rattle.script_world.specs.Ranges.{is_size, is_rate, out_len};
 ghost use Rattle.script_world.specs.Rows.{cause_of, after};
-ghost use Rattle.script_world.specs.Samples.{bulk_line, iso_line, two_devices, behind_a_hub};
+ghost use Rattle.script_world.specs.Samples.{bulk_line, iso_line, stuff_line, two_devices, behind_a_hub, behind_its_own};
 
 use script_forms::{Statement, TextWhy};
 use script_types::Item;
@@ -37,11 +38,29 @@ pub fn causes()
     ensures limit { cause_of empty (Statement.Micro 16385) ≡ Some TextWhy.Limit }
     ensures translator { cause_of behind_a_hub (iso_line 3 1 Way.In) ≡ None }
     ensures fine { cause_of empty (Statement.DevHigh 3) ≡ None }
-    ensures hub { cause_of empty (Statement.Hub 9 4) ≡ None }
+    ensures hub { cause_of empty (Statement.Hub 9 4 false) ≡ None }
 {}
 
 /// Endpoints of two devices keep the order of their lines.
 pub fn order()
     ensures { (after (after (after two_devices 4 (bulk_line 4 2 Way.Out)) 5 (bulk_line 3 1 Way.In)) 6 (bulk_line 4 1 Way.In)).endpoints
         ≡ record { addr = 4; num = 2; way = Way.Out } ∷ record { addr = 3; num = 1; way = Way.In } ∷ record { addr = 4; num = 1; way = Way.In } ∷ [] }
+{}
+
+/// Stuffed bits are said once for an endpoint below a hub, from 0 to 6 bytes in 36.
+pub fn stuffed_bits()
+    ensures fine { cause_of behind_its_own (stuff_line 3 1 Way.In 6) ≡ None }
+    ensures many { cause_of behind_its_own (stuff_line 3 1 Way.In 7) ≡ Some TextWhy.Range }
+    ensures hub { cause_of behind_its_own (stuff_line 9 0 Way.Ctl 0) ≡ Some TextWhy.Range }
+    ensures high { cause_of (after two_devices 4 (bulk_line 3 1 Way.In)) (stuff_line 3 1 Way.In 0) ≡ Some TextWhy.Range }
+    ensures unknown { cause_of behind_its_own (stuff_line 3 2 Way.In 6) ≡ Some TextWhy.Unknown }
+    ensures twice { cause_of (after behind_its_own 5 (stuff_line 3 1 Way.In 0)) (stuff_line 3 1 Way.In 6) ≡ Some TextWhy.Twice }
+    ensures said { (after behind_its_own 5 (stuff_line 3 1 Way.In 6)).stuffed ≡ record { addr = 3; num = 1; way = Way.In } ∷ [] }
+{}
+
+/// The translator of an endpoint: its port where the hub has one for each, else 0.
+pub fn translators()
+    ensures each { option_map (λ d. d.tt) (device_ep behind_its_own (record { addr = 3; num = 1; way = Way.In })) ≡ Some 2 }
+    ensures one { option_map (λ d. d.tt) (device_ep (after behind_a_hub 4 (iso_line 3 1 Way.In))
+        (record { addr = 3; num = 1; way = Way.In })) ≡ Some 0 }
 {}

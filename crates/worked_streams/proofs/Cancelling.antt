@@ -25,7 +25,7 @@ cancel_fits = record {
   devices = refl;
   hubs = refl;
   rooms = ((omega arith, tt), tt);
-  lines = ((omega arith, omega arith, record { size = refl; pace = refl; below = refl }), (tt, ((omega arith, omega arith), (tt, (tt, (tt, (tt, (tt, tt))))))));
+  lines = ((omega arith, omega arith, record { size = refl; pace = refl; below = refl; translator = omega arith }), (tt, ((omega arith, omega arith), (tt, (tt, (tt, (tt, (tt, tt))))))));
 }
 
 cancel_bytes : IsByteScript one_cancel

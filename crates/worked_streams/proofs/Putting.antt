@@ -26,7 +26,7 @@ put_fits = record {
   devices = refl;
   hubs = refl;
   rooms = ((omega arith, tt), tt);
-  lines = ((omega arith, omega arith, record { size = refl; pace = refl; below = refl }), (tt, ((omega arith, omega arith), (tt, (tt, tt)))));
+  lines = ((omega arith, omega arith, record { size = refl; pace = refl; below = refl; translator = omega arith }), (tt, ((omega arith, omega arith), (tt, (tt, tt)))));
 }
 
 put_bytes : IsByteScript one_put

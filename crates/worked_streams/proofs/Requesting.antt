@@ -27,8 +27,8 @@ its_fits = record {
   hubs = refl;
   rooms = ((omega arith, (omega arith, tt)), tt);
   lines = (
-    (omega arith, omega arith, record { size = refl; pace = refl; below = refl }),
-    ((omega arith, omega arith, record { size = refl; pace = refl; below = refl }), ((omega arith, omega arith, record { size = refl; pace = refl; below = refl }), (tt, (tt, tt)))),
+    (omega arith, omega arith, record { size = refl; pace = refl; below = refl; translator = omega arith }),
+    ((omega arith, omega arith, record { size = refl; pace = refl; below = refl; translator = omega arith }), ((omega arith, omega arith, record { size = refl; pace = refl; below = refl; translator = omega arith }), (tt, (tt, tt)))),
   );
 }
 

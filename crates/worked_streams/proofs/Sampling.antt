@@ -27,7 +27,7 @@ it_fits = record {
   devices = refl;
   hubs = refl;
   rooms = ((omega arith, tt), tt);
-  lines = ((omega arith, omega arith, record { size = refl; pace = refl; below = refl }), (tt, ((omega arith, omega arith), (tt, (tt, tt)))));
+  lines = ((omega arith, omega arith, record { size = refl; pace = refl; below = refl; translator = omega arith }), (tt, ((omega arith, omega arith), (tt, (tt, tt)))));
 }
 
 its_bytes : IsByteScript receiver

@@ -4,3 +4,6 @@ pub mod Events
 pub mod Streams
 pub mod Sending
 pub mod Pipes
+pub mod Carrying
+pub mod OutGoing
+pub mod OutPipes

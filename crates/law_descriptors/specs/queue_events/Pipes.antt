@@ -2,15 +2,14 @@
 -- 2.0, 8.6).
 --     IsBothToldBy ..        what was told of the packets taken: none where a microframe began, else as the event of the walk tells
 --     BothPipes ..           at most one packet more of one of the streams, and both sides of each pipe agree
---     BothKeepPipes          each event does so, where the queue heads that are asked are among those told, and isochronous transactions
---                            ask none of the streams
-use Rattle.std.specs.Prelude.{◌≡◌, ℕ, ◌≤◌, Bool, true, List, [], length, Option}
+--     AskedAreNear ..        the queue head that a walk may ask next is among those told: the copy of one that works
+--     BothKeepPipes          each event does so, where that is so, and isochronous transactions ask none of the streams
+use Rattle.std.specs.Prelude.{◌≡◌, ℕ, ◌≤◌, Bool, true, List, [], length, Option, Some}
 use Rattle.usb_base.specs.declared.packets.Ask.{Ask}
 use Rattle.usb_base.specs.declared.packets.Reply.{Reply}
-use Rattle.drv_table.specs.DriverContent.{DriverContent}
 use Rattle.hc_core.specs.Controller.{Content}
-use Rattle.law_structures.specs.lent_structures.Structures.{StructureSets}
-use Rattle.law_ring.specs.Hand.{Copy, Hand}
+use Rattle.law_structures.specs.lent_structures.Structures.{QueueHead, StructureSets}
+use Rattle.law_ring.specs.Hand.{Copy, Hand, Copied}
 use Rattle.claims_base.specs.Controller.{Base}
 use Rattle.law_ring.specs.Told.{Endpoint}
 use Rattle.law_ring.specs.Bus.{Sender, IsStreamAsk, IsBus, KeepsSenders}
@@ -19,9 +18,8 @@ use Rattle.law_frames.specs.Met.{Kind}
 use Rattle.law_frames.specs.FrameHand.{FrameHand}
 use Rattle.law_frames.specs.FrameStreams.{IsIsoAsk}
 use Rattle.law_controller.specs.frame_control.Both.{RunsBoth, BothEffect}
-use Rattle.law_controller.specs.frame_control.Joined.{joined, BothStreamEffect, begun, moved, IsAsked}
+use Rattle.law_controller.specs.frame_control.Joined.{joined, BothStreamEffect, begun, moved}
 use Rattle.law_descriptors.specs.Both.{both, parts_now}
-use Rattle.law_descriptors.specs.PartLaws.{IsDescribing}
 
 abbrev pub IsBothToldBy : {W : Type 0} {begins : W → ℕ → Bool → W → Type 0} {Beside : Ask → Type 0}
     {transacts : W → Ask → List ℕ → Reply → W → Type 0} {parts : StructureSets} {hand : Hand}
@@ -42,6 +40,10 @@ pub record BothPipes {W : Type 0} {begins : W → ℕ → Bool → W → Type 0}
   pub all : ArePiped stream packets sender near streams endpoint (grown acc at more) now later after
   pub told : IsBothToldBy streams at more z
 
+abbrev pub AskedAreNear : (ℕ → Bool) → StructureSets → Hand → Type 0
+AskedAreNear near parts hand = (copy : Copy) → hand ≡ Copied copy → parts copy.at copy.at ≡ Some (QueueHead copy.queue)
+    → copy.queue.token.active ≡ true → near copy.at ≡ true
+
 abbrev pub BothKeepPipes : {W : Type 0} → (W → ℕ → Bool → W → Type 0) → (W → Ask → List ℕ → Reply → W → Type 0) → Type 0
 BothKeepPipes {W} begins transacts = (stream : ℕ → ℕ → Bool) (packets : ℕ → ℕ → List (List ℕ)) (sender : W → ℕ → ℕ → Option Sender)
     (near streams : ℕ → Bool) (endpoint : ℕ → Endpoint)
@@ -51,7 +53,7 @@ BothKeepPipes {W} begins transacts = (stream : ℕ → ℕ → Bool) (packets : 
     → IsBus transacts stream sender
     → KeepsSenders begins stream sender → RunsBoth base member met (both descs parts) hand frame c
     → BothEffect begins transacts (both descs parts) c.control hand frame wire after now later frame_later
-    → ((copy : Copy) → IsAsked member met copy → near copy.at ≡ true)
+    → AskedAreNear near parts (joined hand frame)
     → ((ask : Ask) → IsIsoAsk (both descs parts) ask → IsStreamAsk stream ask → ⊥)
     → (z : BothStreamEffect begins (IsIsoAsk (both descs parts)) transacts parts (joined hand frame) wire after
     (parts_now descs parts now) (joined later frame_later))

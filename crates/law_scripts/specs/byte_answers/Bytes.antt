@@ -1,11 +1,12 @@
 -- Numbers that are bytes, in all that a bus can be heard to say (USB 2.0, 8.3.4): the data that a script gives its endpoints, and those that a
--- device, a hub and its translator hold.
+-- device, a hub and its translators hold.
 --     IsByteReply, IsByteAnswer       an answer's data are bytes
 --     IsByteItem, IsByteText          what a script gives an endpoint to say is bytes
 --     IsByteCommand, IsByteLine       what the host is told to send is bytes
 --     IsByteScript s                  .. and so for every endpoint and line of the script
 --     IsByteRole, IsByteEndpoint, IsByteDevice     what a device has left to say is bytes
 --     IsByteBuffer, AreByteBuffers, IsByteEntry    what a translator heard below, and still holds, is bytes
+--     IsByteTranslator                .. and all that it holds is bytes
 --     IsByteHub, IsByteBus            all that a hub, and a bus, holds to be said is bytes
 use Rattle.std.specs.List.{AllByRecursion}
 use Rattle.usb_base.specs.declared.commands.Cmd.{Cmd}
@@ -31,6 +32,7 @@ use Rattle.tt_bulk.specs.Contents.{BufferContent, Free, Pending, Ready, Old, Two
 use Rattle.tt_pipeline.specs.declared.entry.Entry.{Entry}
 use Rattle.tt_pipeline.specs.declared.entry.Exchange.{Exchange}
 use Rattle.tt_pipeline.specs.declared.entry.Exchange.TheVariants.{Ahead, Made}
+use Rattle.multi_tt.specs.Translators.{Translator}
 use Rattle.hub_class.specs.HubContent.{HubContent}
 use Rattle.bus_wire.specs.Bus.{Bus}
 
@@ -118,9 +120,12 @@ pub record AreByteBuffers (b : TwoBuffers) : Type 0 where
   pub first : IsByteBuffer b.first
   pub second : IsByteBuffer b.second
 
+pub record IsByteTranslator (t : Translator) : Type 0 where
+  pub bulk : AreByteBuffers t.bulk
+  pub pipeline : AllByRecursion IsByteEntry t.pipeline
+
 pub record IsByteHub (h : HubContent) : Type 0 where
-  pub bulk : AreByteBuffers h.bulk
-  pub pipeline : AllByRecursion IsByteEntry h.pipeline
+  pub translators : AllByRecursion IsByteTranslator h.translators.all
 
 -- ---- a bus
 

@@ -4,22 +4,23 @@ use Rattle.std.specs.List.{list_all, list_any}
 use Rattle.script_types.specs.declared.scripts.Script.{Script}
 use Rattle.script_forms.specs.declared.table.FirstWord.{FirstWord}
 use Rattle.script_forms.specs.declared.table.Form.{Form}
-use Rattle.script_forms.specs.Table.{first_text}
+use Rattle.script_forms.specs.Table.{first_text, is_built}
 use Rattle.script_forms.specs.Values.{statement_of}
 use Rattle.law_scripts.specs.script_spelling.Spelling.{IsForm}
 use Rattle.script_world.specs.Draft.{Draft, empty, script_of}
 use Rattle.script_world.specs.Rows.{cause_of, is_late, after}
 use Rattle.script_text.specs.Reading.{lines_in, words_in, says, may_stand, no_bytes}
 
--- line n says something: its words are a first word's and those of one of its forms, and the script before it allows it
+-- line n says something: its words are a first word that the version has and those of one of its forms, and the script before it allows it
 pub record Tells (w : Draft) (n : ℕ) (line : List ℕ) (v : Draft) : Type 0 where
   pub first : FirstWord
   pub more : List (List ℕ)
   pub form : Form
   pub words : words_in line ≡ first_text first ∷ more
   pub whole : list_any no_bytes (first_text first ∷ more) ≡ false  -- no word is empty
+  pub built : is_built w.version first ≡ true  -- the version has such lines
   pub early : is_late w first ≡ false
-  pub spelled : IsForm first form more
+  pub spelled : IsForm w.version first form more
   pub allowed : cause_of w (statement_of form more) ≡ None
   pub new : v ≡ after w n (statement_of form more)
 

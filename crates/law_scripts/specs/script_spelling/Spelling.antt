@@ -39,6 +39,6 @@ abbrev pub Among : Form → List Form → Type 0
 Among f [] = ⊥
 Among f (g ∷ gs) = (f ≡ g) ⊎ Among f gs
 
--- each word stands in its slot, and the form is one of the first word's
-abbrev pub IsForm : FirstWord → Form → List (List ℕ) → Type 0
-IsForm first f ws = Among f (forms_of first) × AllZip Stands (slots_of f) ws
+-- each word stands in its slot, and the form is one of the first word's in a version of the language
+abbrev pub IsForm : ℕ → FirstWord → Form → List (List ℕ) → Type 0
+IsForm version first f ws = Among f (forms_of version first) × AllZip Stands (slots_of f) ws

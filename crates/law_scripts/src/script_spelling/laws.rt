@@ -8,9 +8,12 @@ ghost use Rattle.law_scripts.specs.script_spelling.Spelling.{AreBytes, IsForm};
 
 /// Words are read as a form exactly where each stands in its slot; so no words are those of two forms.
 pub fn forms_are_spelled()
-    ensures reads { (first : First) (ws : List (List ℕ)) (f : Shape) → form_of first ws ≡ Ok f → IsForm first f ws }
-    ensures spells { (first : First) (ws : List (List ℕ)) (f : Shape) → IsForm first f ws → form_of first ws ≡ Ok f }
-    ensures one { (first : First) (ws : List (List ℕ)) (f g : Shape) → IsForm first f ws → IsForm first g ws → f ≡ g }
+    ensures reads { (version : ℕ) (first : First) (ws : List (List ℕ)) (f : Shape)
+        → form_of version first ws ≡ Ok f → IsForm version first f ws }
+    ensures spells { (version : ℕ) (first : First) (ws : List (List ℕ)) (f : Shape)
+        → IsForm version first f ws → form_of version first ws ≡ Ok f }
+    ensures one { (version : ℕ) (first : First) (ws : List (List ℕ)) (f g : Shape)
+        → IsForm version first f ws → IsForm version first g ws → f ≡ g }
 {}
 
 /// A word is read as bytes exactly where they spell it.

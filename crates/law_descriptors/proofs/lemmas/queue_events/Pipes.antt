@@ -1,28 +1,20 @@
 -- Both sides of each pipe agree after an event of either walk.
-use Rattle.std.proofs.Common.{◌≡◌, ℕ, Bool, true, List, [], Option, Some, refl}
+use Rattle.std.proofs.Common.{ℕ, Bool, List, Option, refl}
 use Rattle.usb_base.specs.declared.packets.Ask.{Ask}
 use Rattle.usb_base.specs.declared.packets.Reply.{Reply}
-use Rattle.hc_core.specs.Controller.{Content}
 use Rattle.law_structures.specs.lent_structures.Structures.{StructureSets}
 use Rattle.law_structures.specs.lent_structures.Alters.{Alters}
-use Rattle.law_ring.specs.Hand.{Copy, Hand, Copied}
-use Rattle.claims_base.specs.Controller.{Base}
-use Rattle.law_ring.specs.Effects.{Asks}
-use Rattle.law_ring.specs.Told.{Endpoint, SameTold}
-use Rattle.law_ring.specs.Streams.{StreamEffect}
+use Rattle.law_ring.specs.Hand.{Hand}
+use Rattle.law_ring.specs.Told.{Endpoint}
 use Rattle.law_ring.specs.Streams.StreamEffect.{same}
-use Rattle.law_ring.specs.Bus.{Sender, IsStreamAsk, IsBus, KeepsSenders}
+use Rattle.law_ring.specs.Bus.{Sender, KeepsSenders}
 use Rattle.law_ring.specs.Pipes.{AreEndpoints, ArePiped}
 use Rattle.law_ring.proofs.PipeAgreeing.{PipesGoOn, rest_by}
 use Rattle.law_controller.specs.controlled_streams.Kept.{KeepsEach}
-use Rattle.law_frames.specs.Met.{Kind}
-use Rattle.law_frames.specs.FrameHand.{FrameHand}
 use Rattle.law_frames.specs.FrameStreams.{IsIsoAsk}
-use Rattle.law_controller.specs.frame_control.Both.{RunsBoth, BothEffect}
-use Rattle.law_controller.specs.frame_control.Joined.{joined, BothStreamEffect, begun, moved, IsAsked}
-use Rattle.law_controller.proofs.lemmas.frame_control.Joining.{joined_is_asked}
+use Rattle.law_controller.specs.frame_control.Joined.{joined, BothStreamEffect, begun, moved}
 use Rattle.law_descriptors.specs.Both.{both, parts_now}
-use Rattle.law_descriptors.specs.queue_events.Pipes.{IsBothToldBy, BothPipes, BothKeepPipes}
+use Rattle.law_descriptors.specs.queue_events.Pipes.{BothPipes, BothKeepPipes}
 use Rattle.law_descriptors.proofs.lemmas.queue_events.Events.{both_keeps_structures}
 
 -- a microframe begins, and no sender goes on
@@ -58,9 +50,6 @@ both_keep_pipes {W} begins transacts stream packets sender near streams endpoint
         both_keeps_structures begins transacts base member met descs parts hand frame c wire after now later frame_later runs effect in
         (kept n).alters
 
-    met_one : (copy : Copy) → joined hand frame ≡ Copied copy → near copy.at ≡ true
-    met_one copy is = asked copy (joined_is_asked base member met (both descs parts) hand frame c copy runs is)
-
     by : (z : BothStreamEffect begins (IsIsoAsk (both descs parts)) transacts parts (joined hand frame) wire after
         (parts_now descs parts now) (joined later frame_later))
         → ArePiped stream packets sender near streams endpoint acc parts (joined hand frame) wire
@@ -70,10 +59,11 @@ both_keep_pipes {W} begins transacts stream packets sender near streams endpoint
         (joined hand frame) after
         (begun_pipes begins stream packets sender near streams endpoint acc parts
         (joined hand frame) wire after index allowed ends keeps begins_so piped)
-        after (parts_now descs parts now) (joined later frame_later) alters (λ m. met_one m.copy m.in_hand) misses (same told refl) in
+        after (parts_now descs parts now) (joined later frame_later) alters (λ m. asked m.copy m.in_hand m.here m.works) misses
+        (same told refl) in
         record { at = r.at; more = r.more; few = r.few; all = r.all; told = r.told }
     by (moved z) piped =
         let r : PipesGoOn stream packets sender near streams endpoint acc z =
         rest_by transacts stream packets sender near streams endpoint ends bus acc parts (joined hand frame) wire piped after
-        (parts_now descs parts now) (joined later frame_later) alters (λ m. met_one m.copy m.in_hand) misses z in
+        (parts_now descs parts now) (joined later frame_later) alters (λ m. asked m.copy m.in_hand m.here m.works) misses z in
         record { at = r.at; more = r.more; few = r.few; all = r.all; told = r.told }

@@ -19,7 +19,8 @@ use Rattle.script_forms.specs.declared.statements.Statement.{Statement}
 use Rattle.script_forms.specs.declared.statements.Statement.TheVariants as says
 use Rattle.script_world.specs.Draft.{Draft, Placed, speed_of, device_of, hub_of, hub_ep, hub_desc, ep_of, device_ep, known, is_name, same_way, is_named, change}
 use Rattle.script_world.specs.Ranges.{in_range, within, is_endpoint, is_placed, is_slots, suits}
-use Rattle.script_world.specs.Rows.{is_known, answered, counted, roomier, at_ep, name_of, desc_of, with_ep, content_bytes, content_len, bytes_len, commanded, where_known, put_room, control_name, attach, by_of, after}
+use Rattle.script_world.specs.Rows.{is_known, answered, counted, roomier, stuffed, at_ep, name_of, desc_of, with_ep, content_bytes}
+use Rattle.script_world.specs.Rows.{content_len, bytes_len, commanded, where_known, put_room, control_name, attach, by_of, after}
 use Rattle.law_devices.proofs.Lists.{Holds, all_append, all_more, all_change, any_more, all_find, found_passes, or_left, or_right, then_append, then_change, map_append, map_find_change}
 use Rattle.law_devices.proofs.Drafts.{IsNamedIn, KeepsEps}
 use Rattle.law_devices.specs.declared_controls.Names.{IsZero, HasItsName}
@@ -223,7 +224,7 @@ put_told w name k scripted h = record {
 
 pub after_told : (w : Draft) (n : ℕ) (s : Statement) → in_range w s ≡ true → IsEight s → IsToldDraft w → IsToldDraft (after w n s)
 after_told w n (says.Mem words) t said h = record { devices = h.devices; lines = h.lines }
-after_told w n (says.Hub addr ports) t said h =
+after_told w n (says.Hub addr ports multi) t said h =
     cond_both (within 1 127 addr && within 1 15 ports) _ w IsToldDraft
     (λ _. record { devices = h.devices; lines = told_keeps w.hubs _ w.devices w.devices w.lines (λ a e. any_more (λ (x : HubText). x.addr == a) w.hubs _ e) (same_eps w.devices) h.lines }) (λ _. h)
 after_told w n (says.DevHigh addr) t said h = cond_both (within 1 127 addr) _ w IsToldDraft (λ _. device_told w w.hubs _ refl (same_hubs w.hubs) h) (λ _. h)
@@ -236,6 +237,14 @@ after_told w n (says.Reply name a) t said h = record {
   lines = told_keeps w.hubs w.hubs w.devices (at_ep name (answered a) w.devices) w.lines (same_hubs w.hubs) (eps_keep name (answered a) w.devices (λ e. refl)) h.lines;
 }
 after_told w n (says.Fate f) t said h = where_told w f.name _ h (record { devices = h.devices; lines = h.lines })
+after_told w n (says.Stuff name p) t said h =
+    cond_both (nat_le p 6) _ w IsToldDraft
+    (λ _. where_told w name _ h (record {
+      devices = eps_named name (stuffed p) w.devices (λ e. refl) h.devices;
+      lines = told_keeps w.hubs w.hubs w.devices (at_ep name (stuffed p) w.devices) w.lines (same_hubs w.hubs)
+          (eps_keep name (stuffed p) w.devices (λ e. refl)) h.lines;
+    }))
+    (λ _. h)
 after_told w n (says.Hold first last) t said h = record { devices = h.devices; lines = h.lines }
 after_told w n (says.Open name) t said h = opened_told w n (known w name) (known_told w name h.devices) h
 after_told w n (says.Cancel name) t said h = where_told w name _ h (commanded_told w n (cmd.Cancel (name_of name)) tt h)
@@ -253,3 +262,4 @@ after_told w n (says.Iso l) t said h =
     cond_both (is_slots l) _ w IsToldDraft (λ _. where_told w l.name _ h (commanded_told w n (cmd.Iso (name_of l.name) l.count l.len l.seed) tt h)) (λ _. h)
 after_told w n (says.Order event k) t said h = record { devices = h.devices; lines = told_more w.hubs w.devices w.lines n (line.Order event k) tt h.lines }
 after_told w n (says.Micro k) t said h = record { devices = h.devices; lines = told_more w.hubs w.devices w.lines n (line.Micro k) tt h.lines }
+after_told w n says.Unbuilt t said h = h

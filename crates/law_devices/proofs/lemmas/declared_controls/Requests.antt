@@ -22,12 +22,13 @@ pub record IsMeasured (setup bytes : List ℕ) : Type 0 where
 
 abbrev pub IsEight : Statement → Type 0
 IsEight (says.Mem n) = Unit {0}
-IsEight (says.Hub addr ports) = Unit {0}
+IsEight (says.Hub addr ports multi) = Unit {0}
 IsEight (says.DevHigh addr) = Unit {0}
 IsEight (says.DevBelow b) = Unit {0}
 IsEight (says.Ep l) = Unit {0}
 IsEight (says.Reply name a) = Unit {0}
 IsEight (says.Fate f) = Unit {0}
+IsEight (says.Stuff name p) = Unit {0}
 IsEight (says.Hold first last) = Unit {0}
 IsEight (says.Open name) = Unit {0}
 IsEight (says.Cancel name) = Unit {0}
@@ -37,6 +38,7 @@ IsEight (says.Control c) = length c.setup ≡ 8
 IsEight (says.Iso l) = Unit {0}
 IsEight (says.Order event n) = Unit {0}
 IsEight (says.Micro n) = Unit {0}
+IsEight says.Unbuilt = Unit {0}
 
 eight : (bytes : List ℕ) → length (eight_of bytes) ≡ 8
 eight bytes = cond_both (length bytes == 8) bytes (replicate 8 0) (λ xs. length xs ≡ 8) (λ e. eqb-true (length bytes) 8 e) (λ _. refl)

@@ -1,5 +1,5 @@
 -- A microframe begins: the hubs work on the bus below them, and no control endpoint of the high-speed bus goes on.
-use Rattle.std.proofs.Common.{◌≡◌, ◌≢◌, ℕ, ◌-◌, Bool, true, false, if◌then◌else◌, List, [], ◌∷◌, map, slice_get, slice_set, Option, Some, None, ap, refl, sym, subst, ◌∙◌, ⊎_elim}
+use Rattle.std.proofs.Common.{◌≡◌, ◌≢◌, ℕ, Bool, true, false, if◌then◌else◌, List, [], ◌∷◌, map, slice_get, slice_set, Option, Some, None, ap, refl, sym, subst, ◌∙◌, ⊎_elim}
 use Rattle.std.specs.Option.{option_and_then, option_map}
 use Rattle.std.specs.List.{position_or_len}
 use Rattle.std.proofs.lemmas.Bool.{cases_eq}
@@ -9,13 +9,9 @@ use Rattle.usb_base.specs.declared.packets.Ask.{Ask}
 use Rattle.usb_base.specs.declared.packets.Pid.{Pid}
 use Rattle.usb_base.specs.declared.packets.Way.{Way}
 use Rattle.usb_base.specs.declared.packets.Way.TheVariants as Ways
-use Rattle.hub_keys.specs.Asks.{classic_of}
-use Rattle.tt_bulk.specs.Work.{Turn, Tries, Rests, earlier_turn, later_turn}
-use Rattle.tt_pipeline.specs.declared.entry.Entry.{Entry}
-use Rattle.tt_pipeline.specs.Work.{moved, is_due, sent_of}
-use Rattle.tt_pipeline.specs.Working.{budget, used_at, wire_at, wire_turned, wire_worked}
 use Rattle.hub_class.specs.HubContent.{HubContent}
-use Rattle.hub_class.specs.Microframe.{wire_tried, wire_half, wire_between, wire_left, room_left}
+use Rattle.hub_class.specs.Microframe.{wire_left}
+use Rattle.hub_class.proofs.Microframe.{work_keeps}
 use Rattle.endpoint_script.specs.declared.endpoint.Endpoint.{Endpoint}
 use Rattle.endpoint_script.specs.declared.endpoint.Role.{Role}
 use Rattle.endpoint_script.specs.Device.{Device, is_named, place_named, endpoint_asked, part_begun, endpoint_begun, begun}
@@ -133,23 +129,8 @@ module _ (fixed : Fixed) (addr ep : ℕ) (s : Side) (place : ℕ) (found : (pid 
 
   -- ---- and so does the work of a hub
 
-  tried_kept : (t : Turn) (w : Below) → Keeps w → Keeps (wire_tried below_reply below_after t w)
-  tried_kept (Tries taken) w k = below_kept w (classic_of taken.ask) taken.packet k
-  tried_kept Rests w k = k
-
-  entry_kept : (b : Bool) (e : Entry) (w : Below) → Keeps w → Keeps (wire_at below_reply below_after b e w)
-  entry_kept true e w k = below_kept w (classic_of e.ask) (sent_of e) k
-  entry_kept false e w k = k
-
-  entries_kept : (room : ℕ) (es : List Entry) (w : Below) → Keeps w → Keeps (wire_worked below_reply below_after room es w)
-  entries_kept room [] w k = k
-  entries_kept room (e ∷ es) w k = entries_kept (room - used_at room e) es (wire_turned below_reply below_after room e w) (entry_kept (is_due (moved room e)) (moved room e) w k)
-
   hub_kept : (h : HubContent) (w : Below) → Keeps w → Keeps (wire_left below_reply below_after h w)
-  hub_kept h w k =
-      let between : Below = wire_between below_reply below_after h w in
-      tried_kept (later_turn (room_left below_reply below_after h) h.bulk) (wire_half below_reply below_after (room_left below_reply below_after h) h.bulk between)
-      (tried_kept (earlier_turn (room_left below_reply below_after h) h.bulk) between (entries_kept budget h.pipeline w k))
+  hub_kept h w k = work_keeps below_reply below_after Keeps below_kept h w k
 
   floor_kept : (hubs : List HubContent) (floor : Floor) → control_of_device addr ep (slice_get floor.devices n) ≡ Some s → control_of_device addr ep (slice_get (floor_worked fixed hubs floor).devices n) ≡ Some s
   floor_kept [] floor k = k

@@ -110,7 +110,7 @@ place_places d m x p _ option h = chain_places d x p (take_runs (holding d.book 
 plan_places : (d : DriverContent) (m : Mem) (x : EpDesc) (r : Result Placement Refused) → answer d.periodic.plan (want_of (length d.endpoints) x) ≡ r → IsWant (want_of 0 x) → ArePlaces d.periodic.plan.placed → IfOk (planned_open d m x r) Places
 plan_places d m x (Err why) is want h = tt
 plan_places d m x (Ok p) is want h =
-    let w : IsWant (want_of (length d.endpoints) x) = record { period = want.period; frames = want.frames; some_bytes = want.some_bytes; bytes = want.bytes; some_multi = want.some_multi; multi = want.multi; hub = want.hub } in
+    let w : IsWant (want_of (length d.endpoints) x) = record { period = want.period; frames = want.frames; some_bytes = want.some_bytes; bytes = want.bytes; some_multi = want.some_multi; multi = want.multi; hub = want.hub; tt = want.tt } in
     place_places d m x p x.kind (answered_option d.periodic.plan (want_of (length d.endpoints) x) p w is) h
 
 new_places : (d : DriverContent) (m : Mem) (x : EpDesc) (b : Bool) → is_periodic x.kind ≡ b → IsOpened x → ArePlaces d.periodic.plan.placed

@@ -234,7 +234,7 @@ placed_queues d m x p o _ kind idle stands has listed place some old f = chain_t
 planned_queues : (d : DriverContent) (m : Mem) (x : EpDesc) (o : Offered) (r : Result Placement Refused) → answer d.periodic.plan (want_of (length d.endpoints) x) ≡ r → IsWant (want_of 0 x) → d.command ≡ None → Stands (holding d.book m) → HasOwners d → IsListed d → 1 ≤ d.room.endpoints → HasQueues d → planned_open d m x r ≡ Ok o → HasQueues o.driver
 planned_queues d m x o (Err why) is want idle stands has listed some old f = absurd (cc)
 planned_queues d m x o (Ok p) is want idle stands has listed some old f =
-    let w : IsWant (want_of (length d.endpoints) x) = record { period = want.period; frames = want.frames; some_bytes = want.some_bytes; bytes = want.bytes; some_multi = want.some_multi; multi = want.multi; hub = want.hub } in
+    let w : IsWant (want_of (length d.endpoints) x) = record { period = want.period; frames = want.frames; some_bytes = want.some_bytes; bytes = want.bytes; some_multi = want.some_multi; multi = want.multi; hub = want.hub; tt = want.tt } in
     placed_queues d m x p o x.kind refl idle stands has listed (answered_place d.periodic.plan (want_of (length d.endpoints) x) p w is) some old f
 
 new_queues : (d : DriverContent) (m : Mem) (x : EpDesc) (o : Offered) (b : Bool) → is_periodic x.kind ≡ b → IsOpened x → d.command ≡ None → Stands (holding d.book m) → HasOwners d → IsListed d → 1 ≤ d.room.endpoints → HasQueues d

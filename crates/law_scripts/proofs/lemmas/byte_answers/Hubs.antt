@@ -1,13 +1,16 @@
 -- What a hub and its translator have to say is bytes, and stays so, whatever they are asked; over a bus below that says bytes their work leaves it so.
-use Rattle.std.proofs.Common.{ℕ, ◌+◌, ◌-◌, ◌≤◌, Bool, true, false, List, [], ◌∷◌, length, drop, Option, Some, None, arith}
+use Rattle.std.proofs.Common.{ℕ, zero, suc, ◌+◌, ◌-◌, ◌≤◌, Bool, true, false, if◌then◌else◌, List, [], ◌∷◌, length, drop, replicate, slice_get, Option, Some, None, arith}
 use Rattle.std.specs.Prelude.{◌==◌, ◌%◌}
 use Rattle.std.specs.List.{AllByRecursion, find}
+use Rattle.std.specs.Option.{option_and_then, option_map_or}
 use Rattle.std.proofs.lemmas.Bool.{cond_both}
 use Rattle.usb_base.specs.declared.packets.Ask.{Ask}
 use Rattle.usb_base.specs.declared.packets.Pid.{Pid}
 use Rattle.usb_base.specs.declared.packets.Pid.TheVariants as Pids
 use Rattle.usb_base.specs.declared.packets.Reply.{Reply}
 use Rattle.usb_base.specs.declared.packets.Reply.TheVariants as replies
+use Rattle.usb_base.specs.declared.packets.Split.{Split}
+use Rattle.usb_base.specs.declared.packets.Split.TheVariants.{Plain, Start, Complete}
 use Rattle.script_types.specs.declared.devices.HubText.{HubText}
 use Rattle.law_scripts.specs.script_spelling.Spelling.{AreBytes}
 use Rattle.dev_control.specs.Stages.{setup_of, stages_reply, stages_after, stages_acked}
@@ -41,15 +44,17 @@ use Rattle.hub_ports.specs.declared.port.Port.{Port}
 use Rattle.hub_ports.specs.declared.rows.HubRequest.{HubRequest}
 use Rattle.hub_ports.specs.declared.rows.HubRequest.TheVariants.{HubStatus, PortStatus, ChangePort, ClearBuffer, ResetTranslator}
 use Rattle.hub_ports.specs.Ports.{bit_at, is_low, status_bytes, port_at, status_of, reply_of as ports_reply}
-use Rattle.hub_class.specs.declared.translator.SplitRow.{SplitRow}
-use Rattle.hub_class.specs.declared.translator.SplitRow.TheVariants.{BulkStart, BulkComplete, PeriodicStart, PeriodicComplete, NoSplit}
+use Rattle.multi_tt.specs.Translators.{Translator, opening as new_translator, place_of, translator_at, put_if, changed_place, changed_at}
+use Rattle.multi_tt.specs.Single.{is_buffered, start_answer_by, start_answer, started_by, started, complete_answer_by, complete_answer, completed_by, completed, cleared, room_left}
+use Rattle.multi_tt.specs.Calls.{port_of}
 use Rattle.hub_class.specs.HubContent.{HubContent, opening}
 use Rattle.hub_class.specs.Requesting.{request_at, effect, effect_if, reply_if}
 use Rattle.hub_class.specs.EndpointZero.{reply_bytes as hub_reply_bytes, reply_to, reply_under, suits, acts_on, acted_with, row_at, hub_reply, hub_answered_at, hub_answered, hub_acked}
-use Rattle.hub_class.specs.Translating.{split_row, split_reply, after_split, transact_reply, transacted}
-use Rattle.hub_class.specs.Microframe.{turn_hears, wire_tried, wire_half, buffers_worked, wire_between, room_left, hub_worked}
-use Rattle.law_scripts.specs.byte_answers.Bytes.{IsByteReply, IsByteAnswer, IsByteBuffer, AreByteBuffers, IsByteExchange, IsByteEntry, IsByteHub}
-use Rattle.law_scripts.proofs.lemmas.byte_answers.Lists.{Holds, all_append, all_drop, all_take, found}
+use Rattle.hub_class.specs.Translating.{split_reply, after_split, transact_reply, transacted}
+use Rattle.hub_class.specs.Microframe.{turn_hears, wire_tried, wire_half, buffers_worked, wire_between, translator_worked, wire_of_translator, translators_worked, hub_worked}
+use Rattle.hub_class.proofs.Microframe.{translator_keeps}
+use Rattle.law_scripts.specs.byte_answers.Bytes.{IsByteReply, IsByteAnswer, IsByteBuffer, AreByteBuffers, IsByteExchange, IsByteEntry, IsByteTranslator, IsByteHub}
+use Rattle.law_scripts.proofs.lemmas.byte_answers.Lists.{Holds, all_append, all_drop, all_get, all_set, all_take, found}
 use Rattle.law_scripts.proofs.lemmas.byte_answers.Devices.{stages_bytes}
 
 -- ---- the two buffers
@@ -185,31 +190,93 @@ from_bytes : (e : Option Entry) → Holds IsByteEntry e → IsByteReply (answer_
 from_bytes None h = tt
 from_bytes (Some e) h = answer_row_bytes (answer_row e) e h
 
+-- ---- one translator
+
+start_by_bytes : (buffered : Bool) (ask : Ask) (t : Translator) → IsByteReply (start_answer_by buffered ask t)
+start_by_bytes true ask t = start_bytes (start_row_of (key_of ask) t.bulk)
+start_by_bytes false ask t = tt
+
+complete_by_bytes : (buffered : Bool) (ask : Ask) (t : Translator) → IsByteTranslator t → IsByteReply (complete_answer_by buffered ask t)
+complete_by_bytes true ask t h = complete_bytes (complete_row_of (key_of ask) t.bulk) t.bulk h.bulk
+complete_by_bytes false ask t h = from_bytes (find (has_key (key_of ask)) t.pipeline) (found IsByteEntry (has_key (key_of ask)) t.pipeline h.pipeline)
+
+started_left : (buffered : Bool) (ask : Ask) (out : List ℕ) (stuff : ℕ) (t : Translator) → IsByteTranslator t
+    → IsByteTranslator (started_by buffered ask out stuff t)
+started_left true ask out stuff t h =
+    record { bulk = bulk_started (start_row_of (key_of ask) t.bulk) _ t.bulk h.bulk; pipeline = h.pipeline }
+started_left false ask out stuff t h =
+    record { bulk = h.bulk; pipeline = entry_started (start_row ask (length out) t.pipeline) ask out stuff t.pipeline h.pipeline }
+
+completed_left : (buffered : Bool) (ask : Ask) (t : Translator) → IsByteTranslator t → IsByteTranslator (completed_by buffered ask t)
+completed_left true ask t h =
+    record { bulk = bulk_completed (complete_row_of (key_of ask) t.bulk) t.bulk h.bulk; pipeline = h.pipeline }
+completed_left false ask t h =
+    record { bulk = h.bulk; pipeline = first_changed (has_key (key_of ask)) given t.pipeline (λ e k. given_row_bytes (answer_row e) e k) h.pipeline }
+
+cleared_left : (key : Key) (t : Translator) → IsByteTranslator t → IsByteTranslator (cleared key t)
+cleared_left key t h = record {
+  bulk = record { first = cleared_bytes key t.bulk.first h.bulk.first; second = cleared_bytes key t.bulk.second h.bulk.second };
+  pipeline = h.pipeline;
+}
+
+new_bytes : IsByteTranslator new_translator
+new_bytes = record { bulk = record { first = tt; second = tt }; pipeline = tt }
+
+-- ---- those of a hub
+
+abbrev AreByteTranslators : List Translator → Type 0
+AreByteTranslators ts = AllByRecursion IsByteTranslator ts
+
+there_bytes : (place : Option ℕ) (ts : List Translator) → AreByteTranslators ts
+    → Holds IsByteTranslator (option_and_then (λ n. slice_get ts n) place)
+there_bytes None ts h = tt
+there_bytes (Some place) ts h = all_get IsByteTranslator ts place h
+
+by_one_bytes : (answer : Translator → Reply) (o : Option Translator) → ((t : Translator) → IsByteTranslator t → IsByteReply (answer t))
+    → Holds IsByteTranslator o → IsByteReply (option_map_or answer o replies.Silent)
+by_one_bytes answer None g h = tt
+by_one_bytes answer (Some t) g h = g t h
+
+put_bytes : (o : Option Translator) (place : ℕ) (f : Translator → Translator) (ts : List Translator)
+    → ((t : Translator) → IsByteTranslator t → IsByteTranslator (f t)) → AreByteTranslators ts → Holds IsByteTranslator o
+    → AreByteTranslators (put_if o place f ts)
+put_bytes None place f ts g h k = h
+put_bytes (Some t) place f ts g h k = all_set IsByteTranslator ts place (f t) h (g t k)
+
+place_bytes : (place : Option ℕ) (f : Translator → Translator) (ts : List Translator)
+    → ((t : Translator) → IsByteTranslator t → IsByteTranslator (f t)) → AreByteTranslators ts
+    → AreByteTranslators (changed_place place f ts)
+place_bytes None f ts g h = h
+place_bytes (Some place) f ts g h = put_bytes (slice_get ts place) place f ts g h (all_get IsByteTranslator ts place h)
+
+port_left : (port : ℕ) (f : Translator → Translator) (x : HubContent) → ((t : Translator) → IsByteTranslator t → IsByteTranslator (f t))
+    → IsByteHub x → IsByteHub (record x { translators = changed_at port f x.translators })
+port_left port f x g h = record { translators = place_bytes (place_of x.translators.multi port) f x.translators.all g h.translators }
+
 -- ---- a split transaction
 
-split_bytes : (row : SplitRow) (ask : Ask) (x : HubContent) → IsByteHub x → IsByteReply (split_reply row ask x)
-split_bytes BulkStart ask x h = start_bytes (start_row_of (key_of ask) x.bulk)
-split_bytes BulkComplete ask x h = complete_bytes (complete_row_of (key_of ask) x.bulk) x.bulk h.bulk
-split_bytes PeriodicComplete ask x h = from_bytes (find (has_key (key_of ask)) x.pipeline) (found IsByteEntry (has_key (key_of ask)) x.pipeline h.pipeline)
-split_bytes _ ask x h = tt
+split_bytes : (split : Split) (ask : Ask) (x : HubContent) → IsByteHub x → IsByteReply (split_reply split ask x)
+split_bytes (Start hub port part) ask x h =
+    by_one_bytes (start_answer ask) (translator_at (port_of ask.split) x.translators) (λ t k. start_by_bytes (is_buffered ask.kind) ask t)
+    (there_bytes (place_of x.translators.multi (port_of ask.split)) x.translators.all h.translators)
+split_bytes (Complete hub port) ask x h =
+    by_one_bytes (complete_answer ask) (translator_at (port_of ask.split) x.translators) (complete_by_bytes (is_buffered ask.kind) ask)
+    (there_bytes (place_of x.translators.multi (port_of ask.split)) x.translators.all h.translators)
+split_bytes Plain ask x h = tt
 
-split_left : (row : SplitRow) (ask : Ask) (out : List ℕ) (stuff : ℕ) (x : HubContent) → IsByteHub x
-    → IsByteHub (after_split row ask out stuff x)
-split_left BulkStart ask out stuff x h =
-    record { bulk = bulk_started (start_row_of (key_of ask) x.bulk) _ x.bulk h.bulk; pipeline = h.pipeline }
-split_left BulkComplete ask out stuff x h =
-    record { bulk = bulk_completed (complete_row_of (key_of ask) x.bulk) x.bulk h.bulk; pipeline = h.pipeline }
-split_left PeriodicStart ask out stuff x h =
-    record { bulk = h.bulk; pipeline = entry_started (start_row ask (length out) x.pipeline) ask out stuff x.pipeline h.pipeline }
-split_left PeriodicComplete ask out stuff x h =
-    record { bulk = h.bulk; pipeline = first_changed (has_key (key_of ask)) given x.pipeline (λ e k. given_row_bytes (answer_row e) e k) h.pipeline }
-split_left NoSplit ask out stuff x h = h
+split_left : (split : Split) (ask : Ask) (out : List ℕ) (stuff : ℕ) (x : HubContent) → IsByteHub x
+    → IsByteHub (after_split split ask out stuff x)
+split_left (Start hub port part) ask out stuff x h =
+    port_left (port_of ask.split) (started ask out stuff) x (started_left (is_buffered ask.kind) ask out stuff) h
+split_left (Complete hub port) ask out stuff x h =
+    port_left (port_of ask.split) (completed ask) x (completed_left (is_buffered ask.kind) ask) h
+split_left Plain ask out stuff x h = h
 
 pub translator_bytes : (ask : Ask) (x : HubContent) → IsByteHub x → IsByteReply (transact_reply ask x)
-translator_bytes ask x h = split_bytes (split_row ask.split ask.kind) ask x h
+translator_bytes ask x h = split_bytes ask.split ask x h
 
 pub translator_left : (ask : Ask) (out : List ℕ) (stuff : ℕ) (x : HubContent) → IsByteHub x → IsByteHub (transacted ask out stuff x)
-translator_left ask out stuff x h = split_left (split_row ask.split ask.kind) ask out stuff x h
+translator_left ask out stuff x h = split_left ask.split ask out stuff x h
 
 -- ---- endpoint 0
 
@@ -250,9 +317,9 @@ hub_bytes ask out x =
     (λ _. stages_bytes (reply_under x) x.control ask out (reply_to_bytes (setup_of x.control.request) x)) (λ _. tt)
 
 effect_left : (request : HubRequest) (x : HubContent) → IsByteHub x → IsByteHub (effect request x)
-effect_left (ChangePort port change) x h = record { bulk = h.bulk; pipeline = h.pipeline }
-effect_left (ClearBuffer key) x h = record { bulk = record { first = cleared_bytes key x.bulk.first h.bulk.first; second = cleared_bytes key x.bulk.second h.bulk.second }; pipeline = h.pipeline }
-effect_left ResetTranslator x h = record { bulk = record { first = tt; second = tt }; pipeline = tt }
+effect_left (ChangePort port change) x h = record { translators = h.translators }
+effect_left (ClearBuffer port key) x h = port_left port (cleared key) x (cleared_left key) h
+effect_left (ResetTranslator port) x h = port_left port (λ t. new_translator) x (λ t k. new_bytes) h
 effect_left _ x h = h
 
 effect_if_left : (request : Option HubRequest) (x : HubContent) → IsByteHub x → IsByteHub (effect_if request x)
@@ -266,15 +333,19 @@ acted_left (Some setup) x h = effect_if_left (request_at setup x) x h
 pub hub_left : (ask : Ask) (out : List ℕ) (x : HubContent) → IsByteHub x → IsByteHub (hub_answered ask out x)
 hub_left ask out x h =
     cond_both (suits ask x) (hub_answered_at ask out x) x IsByteHub
-    (λ _. acted_left (acts_on (row_at ask out x) x.control.request) (record x { control = stages_after (reply_under x) x.control ask out }) (record { bulk = h.bulk; pipeline = h.pipeline }))
+    (λ _. acted_left (acts_on (row_at ask out x) x.control.request) (record x { control = stages_after (reply_under x) x.control ask out }) (record { translators = h.translators }))
     (λ _. h)
 
 pub hub_acked_left : (ask : Ask) (x : HubContent) → IsByteHub x → IsByteHub (hub_acked ask x)
 hub_acked_left ask x h =
-    cond_both (suits ask x) (record x { control = stages_acked (reply_under x) x.control }) x IsByteHub (λ _. record { bulk = h.bulk; pipeline = h.pipeline }) (λ _. h)
+    cond_both (suits ask x) (record x { control = stages_acked (reply_under x) x.control }) x IsByteHub (λ _. record { translators = h.translators }) (λ _. h)
+
+new_ones : (n : ℕ) → AreByteTranslators (replicate n new_translator)
+new_ones zero = tt
+new_ones (suc n) = (new_bytes, new_ones n)
 
 pub hub_opens : (text : HubText) → IsByteHub (opening text)
-hub_opens text = record { bulk = record { first = tt; second = tt }; pipeline = tt }
+hub_opens text = record { translators = new_ones (if text.multi then length text.attached else 1) }
 
 -- ---- the work of a microframe
 
@@ -319,8 +390,18 @@ module _ {W : Type 0} (reply_of : W → Ask → List ℕ → Reply) (wire_after 
       (tried_hears (earlier_turn room b) w p)
       (tried_hears (later_turn room b) (wire_half reply_of wire_after room b w) (tried_keeps (earlier_turn room b) w p)) h
 
-  pub work_bytes : (frindex : ℕ) (x : HubContent) (w : W) → P w → IsByteHub x → IsByteHub (hub_worked reply_of wire_after frindex x w)
-  work_bytes frindex x w p h = record {
-    bulk = buffers_bytes (room_left reply_of wire_after x) x.bulk (wire_between reply_of wire_after x w) (pipeline_keeps budget x.pipeline w p) h.bulk;
-    pipeline = kept_bytes frindex (entries_after reply_of wire_after budget x.pipeline w) (entries_worked budget x.pipeline w p h.pipeline);
+  one_worked : (frindex : ℕ) (t : Translator) (w : W) → P w → IsByteTranslator t → IsByteTranslator (translator_worked reply_of wire_after frindex t w)
+  one_worked frindex t w p h = record {
+    bulk = buffers_bytes (room_left t) t.bulk (wire_between reply_of wire_after t w) (pipeline_keeps budget t.pipeline w p) h.bulk;
+    pipeline = kept_bytes frindex (entries_after reply_of wire_after budget t.pipeline w) (entries_worked budget t.pipeline w p h.pipeline);
   }
+
+  all_worked : (frindex : ℕ) (ts : List Translator) (w : W) → P w → AreByteTranslators ts → AreByteTranslators (translators_worked reply_of wire_after frindex ts w)
+  all_worked frindex [] w p h = tt
+  all_worked frindex (t ∷ ts) w p h = (
+    one_worked frindex t w p h.0,
+    all_worked frindex ts (wire_of_translator reply_of wire_after t w) (translator_keeps reply_of wire_after P keeps t w p) h.1,
+  )
+
+  pub work_bytes : (frindex : ℕ) (x : HubContent) (w : W) → P w → IsByteHub x → IsByteHub (hub_worked reply_of wire_after frindex x w)
+  work_bytes frindex x w p h = record { translators = all_worked frindex x.translators.all w p h.translators }

@@ -21,7 +21,8 @@ use Rattle.script_forms.specs.declared.statements.Statement.TheVariants as says
 use Rattle.law_scripts.specs.script_spelling.Spelling.{AreBytes}
 use Rattle.script_world.specs.Draft.{Draft, Placed, device_of, known, same_way, is_named, change, filled, packet_count}
 use Rattle.script_world.specs.Ranges.{within, is_endpoint, is_slots}
-use Rattle.script_world.specs.Rows.{is_known, items_of, answered, counted, roomier, at_ep, name_of, with_ep, content_bytes, content_len, bytes_len, commanded, where_known, put_room, control_name, after}
+use Rattle.script_world.specs.Rows.{is_known, items_of, answered, counted, roomier, stuffed, at_ep, name_of, with_ep, content_bytes}
+use Rattle.script_world.specs.Rows.{content_len, bytes_len, commanded, where_known, put_room, control_name, after}
 use Rattle.law_scripts.specs.byte_answers.Bytes.{IsByteItem, IsByteText, IsByteCommand, IsByteLine}
 use Rattle.law_scripts.proofs.lemmas.byte_answers.Lists.{Holds, all_append, all_map, all_take, all_drop}
 use Rattle.law_scripts.proofs.lemmas.script_bytes.Statements.{IsByteAnswered, IsByteContent, IsByteStatement}
@@ -91,7 +92,7 @@ given_bytes (Some bytes) h = h
 -- ---- any line
 
 pub after_bytes : (w : Draft) (n : ℕ) (s : Statement) → IsByteStatement s → IsByteDraft w → IsByteDraft (after w n s)
-after_bytes w n (says.Hub addr ports) said h =
+after_bytes w n (says.Hub addr ports multi) said h =
     cond_both (within 1 127 addr && within 1 15 ports) _ w IsByteDraft (λ _. record { devices = h.devices; lines = h.lines }) (λ _. h)
 after_bytes w n (says.DevHigh addr) said h =
     cond_both (within 1 127 addr) _ w IsByteDraft (λ _. record { devices = all_append IsBytePlaced w.devices _ h.devices (tt, tt); lines = h.lines }) (λ _. h)
@@ -104,6 +105,10 @@ after_bytes w n (says.Ep l) said h =
 after_bytes w n (says.Reply name a) said h =
     record { devices = at_ep_bytes name (answered a) w.devices (λ e k. answered_bytes a e said k) h.devices; lines = h.lines }
 after_bytes w n (says.Fate f) said h = where_bytes w f.name _ h (record { devices = h.devices; lines = h.lines })
+after_bytes w n (says.Stuff name p) said h =
+    cond_both (nat_le p 6) _ w IsByteDraft
+    (λ _. where_bytes w name _ h (record { devices = at_ep_bytes name (stuffed p) w.devices (λ e k. k) h.devices; lines = h.lines }))
+    (λ _. h)
 after_bytes w n (says.Open name) said h = opened_bytes w n (known w name) h
 after_bytes w n (says.Cancel name) said h = where_bytes w name _ h (commanded_bytes w n (cmd.Cancel (name_of name)) tt h)
 after_bytes w n (says.Get l) said h =

@@ -30,12 +30,13 @@ IsByteContent (content.Fill n seed) = Unit {0}
 
 abbrev pub IsByteStatement : Statement → Type 0
 IsByteStatement (says.Mem n) = Unit {0}
-IsByteStatement (says.Hub addr ports) = Unit {0}
+IsByteStatement (says.Hub addr ports multi) = Unit {0}
 IsByteStatement (says.DevHigh addr) = Unit {0}
 IsByteStatement (says.DevBelow b) = Unit {0}
 IsByteStatement (says.Ep l) = Unit {0}
 IsByteStatement (says.Reply name a) = IsByteAnswered a
 IsByteStatement (says.Fate f) = Unit {0}
+IsByteStatement (says.Stuff name p) = Unit {0}
 IsByteStatement (says.Hold first last) = Unit {0}
 IsByteStatement (says.Open name) = Unit {0}
 IsByteStatement (says.Cancel name) = Unit {0}
@@ -45,6 +46,7 @@ IsByteStatement (says.Control c) = AreBytes c.setup × Holds AreBytes c.bytes
 IsByteStatement (says.Iso l) = Unit {0}
 IsByteStatement (says.Order event n) = Unit {0}
 IsByteStatement (says.Micro n) = Unit {0}
+IsByteStatement says.Unbuilt = Unit {0}
 
 -- bytes that a word spells, or none
 read_bytes : (w : List ℕ) (o : Option (List ℕ)) → hex_of w ≡ o → AreBytes (unwrap_or o [])

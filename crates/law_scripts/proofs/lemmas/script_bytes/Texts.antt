@@ -11,7 +11,7 @@ use Rattle.script_forms.specs.declared.causes.TextWhy.TheVariants as C
 use Rattle.script_forms.specs.declared.table.FirstWord.{FirstWord}
 use Rattle.script_forms.specs.declared.table.Form.{Form}
 use Rattle.script_forms.specs.declared.statements.Statement.{Statement}
-use Rattle.script_forms.specs.Table.{first_of}
+use Rattle.script_forms.specs.Table.{first_in}
 use Rattle.script_forms.specs.Fitting.{form_of}
 use Rattle.script_forms.specs.Values.{statement_of}
 use Rattle.script_world.specs.Draft.{Draft, empty, script_of, device_text}
@@ -44,12 +44,14 @@ form_read_bytes w n more (Err why) h = tt
 first_bytes : (w : Draft) (n : ℕ) (more : List (List ℕ)) (first : Option FirstWord) → IsByteDraft w → IsByteRead (first_read w n more first)
 first_bytes w n more None h = tt
 first_bytes w n more (Some first) h =
-    cond_both (is_late w first) (Err C.Late) (form_read w n more (form_of first more)) IsByteRead (λ _. tt) (λ _. form_read_bytes w n more (form_of first more) h)
+    cond_both (is_late w first) (Err C.Late) (form_read w n more (form_of w.version first more)) IsByteRead
+    (λ _. tt) (λ _. form_read_bytes w n more (form_of w.version first more) h)
 
 words_bytes : (w : Draft) (n : ℕ) (ws : List (List ℕ)) → IsByteDraft w → IsByteRead (words_read w n ws)
 words_bytes w n [] h = tt
 words_bytes w n (first ∷ more) h =
-    cond_both (list_any no_bytes (first ∷ more)) (Err C.Word) (first_read w n more (first_of first)) IsByteRead (λ _. tt) (λ _. first_bytes w n more (first_of first) h)
+    cond_both (list_any no_bytes (first ∷ more)) (Err C.Word) (first_read w n more (first_in w.version first)) IsByteRead
+    (λ _. tt) (λ _. first_bytes w n more (first_in w.version first) h)
 
 version_bytes : (w : Draft) (line : List ℕ) → IsByteDraft w → IsByteRead (version_read w line)
 version_bytes w line h =

@@ -10,7 +10,7 @@ use Rattle.script_forms.specs.declared.causes.TextWhy.{TextWhy}
 use Rattle.script_forms.specs.declared.table.FirstWord.{FirstWord}
 use Rattle.script_forms.specs.declared.table.FirstWord.TheVariants as F
 use Rattle.script_forms.specs.declared.table.Form.{Form}
-use Rattle.script_forms.specs.Table.{first_text, first_words, first_of}
+use Rattle.script_forms.specs.Table.{first_text, first_words, first_of, is_built, built, first_in}
 use Rattle.script_forms.specs.Fitting.{form_of}
 use Rattle.script_forms.specs.Values.{statement_of}
 use Rattle.law_scripts.proofs.lemmas.script_spelling.Furthest.{read_is_form, form_is_read}
@@ -33,6 +33,16 @@ first_read_back : (f : FirstWord) → first_of (first_text f) ≡ Some f
 first_read_back F.Mem = refl
 first_read_back _ = refl
 
+built_is : (version : ℕ) (o : Option FirstWord) (f : FirstWord) → built version o ≡ Some f → (o ≡ Some f) × (is_built version f ≡ true)
+built_is version None f e = cc
+built_is version (Some g) f e = elim (cases_Bool (is_built version g)) [
+  | inl t ↦ let k = rw t at e in let s : g ≡ f = cc in (ap Some s, ap (is_built version) (sym s) ∙ t)
+  | inr t ↦ let k = rw t at e in cc
+]
+
+built_back : (version : ℕ) (f : FirstWord) → is_built version f ≡ true → first_in version (first_text f) ≡ Some f
+built_back version f e = ap (built version) (first_read_back f) ∙ rw e refl
+
 answer_ok : (c : Option TextWhy) (a v : Draft) → answer c a ≡ Ok v → (c ≡ None) × (v ≡ a)
 answer_ok None a v e = (refl, cc)
 answer_ok (Some why) a v e = cc
@@ -51,7 +61,7 @@ record FirstRead (w : Draft) (n : ℕ) (more : List (List ℕ)) (o : Option Firs
   first : FirstWord
   is : o ≡ Some first
   early : is_late w first ≡ false
-  read : form_read w n more (form_of first more) ≡ Ok v
+  read : form_read w n more (form_of w.version first more) ≡ Ok v
 
 first_ok : (w : Draft) (n : ℕ) (more : List (List ℕ)) (o : Option FirstWord) (v : Draft) → first_read w n more o ≡ Ok v → FirstRead w n more o v
 first_ok w n more None v e = cc
@@ -64,17 +74,19 @@ words_ok : (w : Draft) (n : ℕ) (line : List ℕ) (ws : List (List ℕ)) (v : D
 words_ok w n line [] v i e = cc
 words_ok w n line (x ∷ more) v i e = elim (cases_Bool (list_any no_bytes (x ∷ more))) [
   | inl t ↦ let k = rw t at e in cc
-  | inr t ↦ let r = first_ok w n more (first_of x) v (rw t at e) in
-      let d = form_ok w n more (form_of r.first more) v r.read in
-      let s : x ≡ first_text r.first = first_is x r.first r.is in
+  | inr t ↦ let r = first_ok w n more (first_in w.version x) v (rw t at e) in
+      let first = built_is w.version (first_of x) r.first r.is in
+      let d = form_ok w n more (form_of w.version r.first more) v r.read in
+      let s : x ≡ first_text r.first = first_is x r.first first.0 in
       record {
         first = r.first;
         more = more;
         form = d.form;
         words = i ∙ ap (λ y. y ∷ more) s;
         whole = ap (λ y. list_any no_bytes (y ∷ more)) (sym s) ∙ t;
+        built = first.1;
         early = r.early;
-        spelled = read_is_form r.first more d.form d.is;
+        spelled = read_is_form w.version r.first more d.form d.is;
         allowed = d.allowed;
         new = d.new;
       }
@@ -83,7 +95,8 @@ words_ok w n line (x ∷ more) v i e = elim (cases_Bool (list_any no_bytes (x �
 tells_read : (w : Draft) (n : ℕ) (line : List ℕ) (v : Draft) → Tells w n line v → words_read w n (words_in line) ≡ Ok v
 tells_read w n line v t =
     ap (words_read w n) t.words
-    ∙ rw (t.whole, first_read_back t.first, t.early, form_is_read t.first t.more t.form t.spelled, t.allowed) (ap Ok (sym t.new))
+    ∙ rw (t.whole, built_back w.version t.first t.built, t.early, form_is_read w.version t.first t.more t.form t.spelled, t.allowed)
+    (ap Ok (sym t.new))
 
 version_ok : (w : Draft) (line : List ℕ) (v : Draft) → version_read w line ≡ Ok v → SaysVersion w line v
 version_ok w line v e = elim (cases_Bool (bytes_eq line (codes "ehci 1"))) [

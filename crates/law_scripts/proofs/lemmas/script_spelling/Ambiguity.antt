@@ -1,5 +1,5 @@
 -- No words are those of two forms of one first word.
-use Rattle.std.proofs.Common.{◌≡◌, ℕ, true, false, ◌||◌, List, [], ◌∷◌, refl, ap, sym, ◌∙◌, subst, inl, inr}
+use Rattle.std.proofs.Common.{◌≡◌, ℕ, Bool, true, false, ◌==◌, ◌||◌, List, [], ◌∷◌, refl, ap, sym, ◌∙◌, subst, inl, inr}
 use Rattle.std.specs.List.{AllZip, list_all}
 use Rattle.std.specs.Fmt.{digits}
 use Rattle.std.proofs.lemmas.Bool.{and_parts, or_cases, not-true, both_ways}
@@ -8,7 +8,7 @@ use Rattle.script_forms.specs.declared.table.FirstWord.TheVariants as F
 use Rattle.script_forms.specs.declared.table.Form.{Form}
 use Rattle.script_forms.specs.declared.table.Slot.{Slot}
 use Rattle.script_forms.specs.declared.table.Slot.TheVariants.{Key}
-use Rattle.script_forms.specs.Table.{keyword_word, slots_of, forms_of}
+use Rattle.script_forms.specs.Table.{keyword_word, slots_of, hub_forms, forms_of}
 use Rattle.script_forms.specs.Syntax.{number_of, hex_of}
 use Rattle.script_forms.specs.Fitting.{fits}
 use Rattle.law_scripts.specs.script_spelling.Spelling.{Among}
@@ -54,10 +54,16 @@ one_of f g (x ∷ xs) ws d (inr a) (inl i) h k = let p = and_parts (list_all (λ
 one_of f g (x ∷ xs) ws d (inr a) (inr b) h k = let p = and_parts (list_all (λ g. differ (slots_of x) (slots_of g)) xs) (all_differ xs) d in one_of f g xs ws p.1 a b h k
 
 -- the table's forms differ
-table_differs : (first : FirstWord) → all_differ (forms_of first) ≡ true
+hubs_differ : (second : Bool) → all_differ (hub_forms second) ≡ true
 unfolding number_of hex_of digits
-table_differs F.Mem = refl
-table_differs _ = refl
+hubs_differ false = refl
+hubs_differ true = refl
 
-pub one_form : (first : FirstWord) (f g : Form) (ws : List (List ℕ)) → Among f (forms_of first) → Among g (forms_of first) → AllZip Fits (slots_of f) ws → AllZip Fits (slots_of g) ws → f ≡ g
-one_form first f g ws a b h k = one_of f g (forms_of first) ws (table_differs first) a b h k
+table_differs : (version : ℕ) (first : FirstWord) → all_differ (forms_of version first) ≡ true
+unfolding number_of hex_of digits
+table_differs version F.Hub = hubs_differ (version == 2)
+table_differs version _ = refl
+
+pub one_form : (version : ℕ) (first : FirstWord) (f g : Form) (ws : List (List ℕ)) → Among f (forms_of version first)
+    → Among g (forms_of version first) → AllZip Fits (slots_of f) ws → AllZip Fits (slots_of g) ws → f ≡ g
+one_form version first f g ws a b h k = one_of f g (forms_of version first) ws (table_differs version first) a b h k

@@ -116,25 +116,31 @@ full_verdict : (ws : List (List ℕ)) (m : Mark) → m.at ≡ length ws → all_
 full_verdict ws m a r = rw (eq-eqb m.at (length ws) a, r) refl
 
 -- the words that are read as a form are spelled by it
-pub read_is_form : (first : FirstWord) (ws : List (List ℕ)) (f : Form) → form_of first ws ≡ Ok f → IsForm first f ws
+pub read_is_form : (version : ℕ) (first : FirstWord) (ws : List (List ℕ)) (f : Form) → form_of version first ws ≡ Ok f
+    → IsForm version first f ws
 unfolding form_of
-read_is_form first ws f e = ok_verdict (forms_of first) ws (fold (held ws) None (forms_of first)) f (fold_best (forms_of first) (forms_of first) ws None (λ g a. a) tt) e
+read_is_form version first ws f e =
+    let fs = forms_of version first in
+    ok_verdict fs ws (fold (held ws) None fs) f (fold_best fs fs ws None (λ g a. a) tt) e
 
-best_is : (first : FirstWord) (ws : List (List ℕ)) (f : Form) (best : Option Mark) → BestOf (forms_of first) ws best → AsFar (reach (slots_of f) ws) best → IsForm first f ws → verdict ws best ≡ Ok f
-best_is first ws f None h a (b, z) = absurd a
-best_is first ws f (Some m) h a (b, z) =
+best_is : (version : ℕ) (first : FirstWord) (ws : List (List ℕ)) (f : Form) (best : Option Mark)
+    → BestOf (forms_of version first) ws best → AsFar (reach (slots_of f) ws) best → IsForm version first f ws → verdict ws best ≡ Ok f
+best_is version first ws f None h a (b, z) = absurd a
+best_is version first ws f (Some m) h a (b, z) =
     let r = all_reach (slots_of f) ws z in
     let s = reach_short (slots_of m.form) ws in
     let full : m.at ≡ length ws = omega (arith, r.1, a, s, h.reached) in
     let reached : reach (slots_of m.form) ws ≡ length ws = sym h.reached ∙ full in
-    let same : m.form ≡ f = one_form first m.form f ws h.among b (all_fit (slots_of m.form) ws h.count reached) (stand_fit (slots_of f) ws z) in
+    let same : m.form ≡ f =
+    one_form version first m.form f ws h.among b (all_fit (slots_of m.form) ws h.count reached) (stand_fit (slots_of f) ws z) in
     let ranged : all_ranged (slots_of m.form) ws ≡ true = ap (λ x. all_ranged (slots_of x) ws) same ∙ all_in_range (slots_of f) ws z in
     full_verdict ws m full ranged ∙ ap Ok same
 
 -- the words that a form spells are read as it
-pub form_is_read : (first : FirstWord) (ws : List (List ℕ)) (f : Form) → IsForm first f ws → form_of first ws ≡ Ok f
+pub form_is_read : (version : ℕ) (first : FirstWord) (ws : List (List ℕ)) (f : Form) → IsForm version first f ws
+    → form_of version first ws ≡ Ok f
 unfolding form_of
-form_is_read first ws f h =
-    best_is first ws f (fold (held ws) None (forms_of first))
-    (fold_best (forms_of first) (forms_of first) ws None (λ g a. a) tt)
-    (fold_new f (forms_of first) ws None h.0 (all_reach (slots_of f) ws h.1).0) h
+form_is_read version first ws f h =
+    best_is version first ws f (fold (held ws) None (forms_of version first))
+    (fold_best (forms_of version first) (forms_of version first) ws None (λ g a. a) tt)
+    (fold_new f (forms_of version first) ws None h.0 (all_reach (slots_of f) ws h.1).0) h

@@ -18,7 +18,7 @@ use Rattle.script_forms.specs.declared.table.Form.{Form}
 use Rattle.script_forms.specs.declared.statements.Name.{Name}
 use Rattle.script_forms.specs.declared.statements.Statement.{Statement}
 use Rattle.script_forms.specs.declared.statements.Statement.TheVariants as says_to
-use Rattle.script_forms.specs.Table.{first_of}
+use Rattle.script_forms.specs.Table.{first_in}
 use Rattle.script_forms.specs.Fitting.{form_of}
 use Rattle.script_forms.specs.Values.{statement_of}
 use Rattle.script_world.specs.Draft.{Draft, device_of, known, empty}
@@ -50,11 +50,14 @@ open_added w n None = inl refl
 open_added w n (Some d) = command_added w w n (cmd.OpenEp d) refl
 
 after_added : (w : Draft) (n : ℕ) (s : Statement) → AddsAtMost w n (after w n s)
-after_added w n (says_to.Hub addr ports) = cond_both (within 1 127 addr && within 1 15 ports) _ w (AddsAtMost w n) (λ _. inl refl) (λ _. inl refl)
+after_added w n (says_to.Hub addr ports multi) =
+    cond_both (within 1 127 addr && within 1 15 ports) _ w (AddsAtMost w n) (λ _. inl refl) (λ _. inl refl)
 after_added w n (says_to.DevHigh addr) = cond_both (within 1 127 addr) _ w (AddsAtMost w n) (λ _. inl refl) (λ _. inl refl)
 after_added w n (says_to.DevBelow b) = cond_both (within 1 127 b.addr && nat_le b.hub 127 && is_known w (says_to.DevBelow b)) _ w (AddsAtMost w n) (λ _. inl refl) (λ _. inl refl)
 after_added w n (says_to.Ep l) = cond_both (is_endpoint l && is_some (device_of w.devices l.name.addr)) _ w (AddsAtMost w n) (λ _. inl refl) (λ _. inl refl)
 after_added w n (says_to.Fate f) = where_added w n f.name _ (inl refl)
+after_added w n (says_to.Stuff name p) =
+    cond_both (nat_le p 6) _ w (AddsAtMost w n) (λ _. where_added w n name _ (inl refl)) (λ _. inl refl)
 after_added w n (says_to.Open name) = open_added w n (known w name)
 after_added w n (says_to.Cancel name) = where_added w n name _ (command_added w w n (cmd.Cancel (name_of name)) refl)
 after_added w n (says_to.Get l) = where_added w n l.name _ (command_added w (record w { asked = counted w.asked l.len }) n _ refl)
@@ -116,12 +119,14 @@ form_before n w more (Err why) h = tt
 first_before : (n : ℕ) (w : Draft) (more : List (List ℕ)) (first : Option FirstWord) → AreBefore n w → NextRead n (first_read w n more first)
 first_before n w more None h = tt
 first_before n w more (Some first) h =
-    cond_both (is_late w first) (Err C.Late) (form_read w n more (form_of first more)) (Read (AreBefore (n + 1))) (λ _. tt) (λ _. form_before n w more (form_of first more) h)
+    cond_both (is_late w first) (Err C.Late) (form_read w n more (form_of w.version first more)) (Read (AreBefore (n + 1)))
+    (λ _. tt) (λ _. form_before n w more (form_of w.version first more) h)
 
 words_before : (n : ℕ) (w : Draft) (ws : List (List ℕ)) → AreBefore n w → NextRead n (words_read w n ws)
 words_before n w [] h = tt
 words_before n w (first ∷ more) h =
-    cond_both (list_any no_bytes (first ∷ more)) (Err C.Word) (first_read w n more (first_of first)) (Read (AreBefore (n + 1))) (λ _. tt) (λ _. first_before n w more (first_of first) h)
+    cond_both (list_any no_bytes (first ∷ more)) (Err C.Word) (first_read w n more (first_in w.version first)) (Read (AreBefore (n + 1)))
+    (λ _. tt) (λ _. first_before n w more (first_in w.version first) h)
 
 version_before : (n : ℕ) (w : Draft) (line : List ℕ) → AreBefore n w → Read (AreBefore n) (version_read w line)
 version_before n w line h =

@@ -36,3 +36,23 @@ returns-clause-by c = refl
 pub returns-clause-setup : goal.returns-clause-setup
 unfolding number_of hex_of form_of statement_of digits
 returns-clause-setup c = refl
+
+pub returns-clause-multi : goal.returns-clause-multi
+unfolding number_of hex_of form_of statement_of digits
+returns-clause-multi c = refl
+
+pub returns-clause-single : goal.returns-clause-single
+unfolding number_of hex_of form_of statement_of digits
+returns-clause-single c = refl
+
+pub returns-clause-one_translator : goal.returns-clause-one_translator
+unfolding number_of hex_of form_of statement_of digits
+returns-clause-one_translator c = refl
+
+pub returns-clause-no_ports : goal.returns-clause-no_ports
+unfolding number_of hex_of form_of statement_of digits
+returns-clause-no_ports c = refl
+
+pub returns-clause-stuffed : goal.returns-clause-stuffed
+unfolding number_of hex_of form_of statement_of digits
+returns-clause-stuffed c = refl

@@ -12,3 +12,7 @@ returns-clause-micro c = refl
 pub returns-clause-hold : goal.returns-clause-hold
 unfolding number_of hex_of form_of statement_of digits
 returns-clause-hold c = refl
+
+pub returns-clause-multi : goal.returns-clause-multi
+unfolding number_of hex_of form_of statement_of digits
+returns-clause-multi c = refl

@@ -18,6 +18,10 @@ pub returns-clause-word : goal.returns-clause-word
 unfolding script_read form_of number_of hex_of statement_of digits
 returns-clause-word c = refl
 
+pub returns-clause-unbuilt : goal.returns-clause-unbuilt
+unfolding script_read form_of number_of hex_of statement_of digits
+returns-clause-unbuilt c = refl
+
 pub returns-clause-late : goal.returns-clause-late
 unfolding script_read form_of number_of hex_of statement_of digits
 returns-clause-late c = refl
@@ -49,3 +53,11 @@ returns-clause-twice c = refl
 pub returns-clause-limit : goal.returns-clause-limit
 unfolding script_read form_of number_of hex_of statement_of digits
 returns-clause-limit c = refl
+
+pub returns-clause-before : goal.returns-clause-before
+unfolding script_read form_of number_of hex_of statement_of digits
+returns-clause-before c = refl
+
+pub returns-clause-one_translator : goal.returns-clause-one_translator
+unfolding script_read form_of number_of hex_of statement_of digits
+returns-clause-one_translator c = refl

@@ -8,12 +8,12 @@ pub add_microframes-requires-clause-room : goal.add_microframes-requires-clause-
 add_microframes-requires-clause-room g c = loads_small _ c.self.invariant.0
 
 pub add_below-requires-clause-free : goal.add_below-requires-clause-free
-add_below-requires-clause-free g c hub h e none =
-    let req = rw (← c.self.view_is) at c.requires in free_left _ hub c.self.invariant.0 req.room h none
+add_below-requires-clause-free g c n h e none =
+    let req = rw (← c.self.view_is) at c.requires in free_left _ n c.self.invariant.0 req.room h none
 
 pub add_below-requires-clause-within : goal.add_below-requires-clause-within
-add_below-requires-clause-within g c hub h e =
-    hub_within _ _ hub h c.self.invariant.0.fits c.self.invariant.0.pool
+add_below-requires-clause-within g c n h e =
+    hub_within _ _ n h c.self.invariant.0.fits c.self.invariant.0.pool
 
 pub invariant_of-self : goal.invariant_of-self
 invariant_of-self g c =

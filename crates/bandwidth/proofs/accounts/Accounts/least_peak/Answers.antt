@@ -1,3 +1,4 @@
+use Rattle.bandwidth.specs.Sums.{translator_of}
 use Rattle.bandwidth.specs.Tables.{sheet_at}
 use Rattle.bandwidth.proofs.Budgets.{cells_peak, cells_out}
 use Rattle.bandwidth.proofs.Books.{sums_for, loads_small}
@@ -20,4 +21,4 @@ returns-clause-peak g c =
     (c.first_sum.ensures.least _
     (first_frame _ _ p _ c.requires.place.place
     (cells_out _ w x p _ c.requires.shape c.requires.place
-    (cells_peak (sheet_at (record { room = c.self.inside.room; placed = c.self.inside.placed.items; loads = c.self.inside.loads; pool = c.self.inside.pool }) w.hub) w p (sums_for _ w.hub c.self.invariant.0)))))
+    (cells_peak (sheet_at (record { room = c.self.inside.room; placed = c.self.inside.placed.items; loads = c.self.inside.loads; pool = c.self.inside.pool }) (translator_of w)) w p (sums_for _ (translator_of w) c.self.invariant.0)))))

@@ -3,10 +3,11 @@ use Rattle.law_scripts.proofs.lemmas.script_spelling.Furthest.{read_is_form, for
 use Rattle.law_scripts.proofs.script_spelling.laws.forms_are_spelled.Goals as goal
 
 pub returns-clause-reads : goal.returns-clause-reads
-returns-clause-reads c = λ first ws f e. read_is_form first ws f e
+returns-clause-reads c = λ version first ws f e. read_is_form version first ws f e
 
 pub returns-clause-spells : goal.returns-clause-spells
-returns-clause-spells c = λ first ws f h. form_is_read first ws f h
+returns-clause-spells c = λ version first ws f h. form_is_read version first ws f h
 
 pub returns-clause-one : goal.returns-clause-one
-returns-clause-one c = λ first ws f g h k. let e : Ok f ≡ Ok g = sym (form_is_read first ws f h) ∙ form_is_read first ws g k in cc
+returns-clause-one c = λ version first ws f g h k.
+    let e : Ok f ≡ Ok g = sym (form_is_read version first ws f h) ∙ form_is_read version first ws g k in cc

@@ -1,0 +1,14 @@
+pub mod Sparing
+pub mod Hands
+pub mod Narrowing
+pub mod Stays
+pub mod Mends
+pub mod Returns
+pub mod Lends
+pub mod Stores
+pub mod Begins
+pub mod Packets
+pub mod Opens
+pub mod StepPipes
+pub mod Events
+pub mod Sampled

@@ -1,0 +1,4 @@
+pub mod Pipes
+pub mod Laws
+pub mod Events
+pub mod Samples
