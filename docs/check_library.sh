@@ -22,10 +22,10 @@ else
   left "the sanitizers" "compiler that has them"
 fi
 
-for name in emulator edges compare; do
+for name in emulator events edges compare; do
   cc "${flags[@]}" "examples/library/$name.c" "$library" -o "$room/$name" || failed "$name.c isn't built"
 done
-for name in emulator edges; do
+for name in emulator events edges; do
   "$room/$name" >"$room/c.out" || failed "$name.c ended with $?"
   diff "examples/library/$name.expected" "$room/c.out" || failed "$name.c differs"
 done
@@ -54,10 +54,12 @@ if [ ! -x "$ehci" ] || [ ! -x "$trace" ]; then left "the comparison" "built prog
 script=examples/library/compare.ehci
 "$ehci" image <"$script" >"$room/start" && { cat "$script"; echo "order c 20000"; } | "$trace" --pcap >"$room/capture" &&
   python3 -B examples/library/answers.py "$room/capture" "$room/answers" || failed "no image or capture of $script"
-for microframes in 1 4 17 40 100; do
-  read -r events differ < <("$room/compare" "$room/start" "$room/answers" "$microframes" "$room/words")
+compare() {
+  read -r events differ < <("$room/compare" "$room/start" "$room/answers" "$1" "$2" "$room/words")
   { cat "$script"; echo "order c ${events:-0}"; } | "$ehci" image | tail -c +25 >"$room/program"
-  [ "${differ:-1}" = 0 ] || failed "${differ:-all} transactions of $microframes microframes aren't those of the program"
-  cmp "$room/words" "$room/program" || failed "the words after $microframes microframes differ from the program's after ${events:-no} events"
-done
+  [ "${differ:-1}" = 0 ] || failed "${differ:-all} transactions of $2 $1 aren't those of the program"
+  cmp "$room/words" "$room/program" || failed "the words after $2 $1 differ from the program's after ${events:-no} events"
+}
+for count in 1 4 17 40 100; do compare microframes $count; done
+for count in 1 2 3 5 8 13 21 34 55 89 144 233 377 610 987 1597 2584; do compare events $count; done
 exit $status

@@ -1,4 +1,5 @@
-/* ehci.h: a verified EHCI host controller (Enhanced Host Controller Interface 1.0) for emulators, a microframe a call.
+/* ehci.h: a verified EHCI host controller (Enhanced Host Controller Interface 1.0) for emulators, a microframe or
+ * an event a call.
  *
  * All state is plain data of the caller: copy it, compare it, save it, restore it. No call calls back, none keeps a pointer, none
  * touches anything but what it is passed, and each ends, whatever words stand in memory. What is said of a call here is proved of its
@@ -90,6 +91,110 @@ enum {
  * bytes or more. No two of what is passed overlap; `answers`, `bytes` and `ask` are never null. */
 uint32_t ehci_microframe(struct ehci *, uint32_t *words, size_t n, const struct ehci_answer *answers, size_t count, const uint8_t *bytes,
                          size_t len, uint32_t *events, struct ehci_ask *ask, uint8_t *out, size_t room);
+
+/* ---- One event a call ---- */
+
+/* What follows is the state in the middle of a microframe, as words that a chip holds and numbers. A caller copies it, saves it, restores
+ * it; what it has to look at is `registers`, with the calls above. A number that names nothing counts as 0. */
+
+/* What was heard in the last transaction, as in struct ehci_answer, with its bytes. */
+struct ehci_heard {
+    uint8_t kind, pid;
+    uint16_t len;
+    uint8_t bytes[1024];
+};
+
+/* The copy of a queue head (3.6): its address, its words, what its transaction came to (1 bytes moved, 2 a repetition, 3 NAK, 4 a wait, 5 an
+ * error, 6 a halt by STALL, 7 by errors, 8 by a babble, 9 by a miss, 10 by a cancel; 0 it wasn't made), how many were made in this visit. */
+struct ehci_queue {
+    uint32_t at, words[12];
+    uint8_t settled, made;
+    uint16_t moved;
+};
+
+/* The copy of an iTD (3.3): its address, its words, the word of the microframe with what was recorded; the number of the microframe, the
+ * transactions made, the packets to come; 1 whole, 2 ended by an error, 0 it goes on; the bytes moved. */
+struct ehci_itd {
+    uint32_t at, words[16], slot;
+    uint8_t number, made, rest, ended;
+    uint16_t moved, spare;
+};
+
+/* The copy of a siTD (3.4): its address, its words; 1 bytes moved, 2 none, 3 an error, 0 its transaction wasn't made. */
+struct ehci_sitd {
+    uint32_t at, words[7];
+    uint16_t settled, moved;
+};
+
+/* What is in hand of a frame's chain: 1 a queue head, 2 an iTD, 3 a siTD, 0 nothing. */
+struct ehci_hand {
+    uint32_t kind;
+    struct ehci_queue queue;
+    struct ehci_itd itd;
+    struct ehci_sitd sitd;
+};
+
+/* The walk of a frame's chain (4.6): the time left in picoseconds, the link that comes next or is in hand, FRINDEX of the microframe, the
+ * bytes that an iTD in hand received. */
+struct ehci_frame {
+    uint64_t left;
+    uint32_t cursor;
+    uint16_t index, got_len;
+    struct ehci_hand hand;
+    struct ehci_heard heard;
+    uint8_t got[3072];
+};
+
+/* The walk of the ring (4.8): the time left, the link that comes next or is in hand, which counts where `begun` is 1 (else that is
+ * ASYNCLISTADDR); when NAKs are counted anew (4.9): 0 from the head of the ring on, 1 now, 2 in the next microframe; whether this is the
+ * first event of the part; whether a queue head is in hand. */
+struct ehci_ring {
+    uint64_t left;
+    uint32_t cursor;
+    uint8_t begun, mode, first, holds;
+    struct ehci_queue queue;
+    struct ehci_heard heard;
+};
+
+/* All of a controller between two events: its registers, of which `cursor` counts for nothing, and the walks. `part` is 0 between two
+ * microframes, 1 in the periodic part, 2 in the asynchronous part. ehci_read and ehci_interrupts take `&whole.registers`. */
+struct ehci_whole {
+    struct ehci registers;
+    uint32_t part;
+    struct ehci_frame frame;
+    struct ehci_ring ring;
+};
+
+/* A controller after a reset: halted, between two microframes. */
+void ehci_whole_reset(struct ehci_whole *);
+
+/* A driver's write between two events, as ehci_write's: HCReset has all begin anew, a write of ASYNCLISTADDR the walk of the ring. */
+void ehci_whole_write(struct ehci_whole *, uint32_t offset, uint32_t word);
+
+enum {
+    EHCI_IDLE,              /* Run is 0: nothing changed */
+    EHCI_BEGIN_MICROFRAME,  /* a microframe began (4.6) */
+    EHCI_FETCH,             /* a structure was read into the copy in hand (4.10.1) */
+    EHCI_ADVANCE,           /* the overlay was made from a qTD and written (4.10.2) */
+    EHCI_TRANSACT,          /* one transaction was made (4.10.3) */
+    EHCI_WRITE_BACK,        /* what it came to was written (4.10.4) */
+    EHCI_SKIP,              /* there was nothing to do at the structure in hand */
+    EHCI_END,               /* the microframe is over, or a host system error ended it */
+    EHCI_STEP_WANTS_BUS,    /* a transaction is asked that has no answer */
+    EHCI_STEP_UNFIT,        /* as EHCI_UNFIT; or no controller has this state */
+    EHCI_STEP_NO_MEMORY     /* there was no memory for a copy of the words */
+};
+
+/* Makes one event: the row of the controller's table over the registers and the words that are passed. `answers` has no answer or one; a
+ * row asks at most once.
+ *
+ * Up to EHCI_END: the event was made, the state is that of the controller after it, and the words are those that the row leaves.
+ * EHCI_STEP_WANTS_BUS: the row asks `*ask`, and sends the first `ask->out_len` bytes of `out`. Call again with the answer, at once or later:
+ * the state is the whole of it, so what asks may wait, and be saved, as long as it likes.
+ *
+ * From EHCI_STEP_WANTS_BUS on the state and the words stay as they were. What is said of words and pointers at ehci_microframe holds. */
+uint32_t ehci_step(struct ehci_whole *, uint32_t *words, size_t n, const struct ehci_answer *answers, size_t count, const uint8_t *bytes,
+                   size_t len, struct ehci_ask *ask, uint8_t *out, size_t room);
 
 #ifdef __cplusplus
 }

@@ -1,9 +1,9 @@
 //! A safe wrapper over libehci.a: `#[path = ".../include/ehci.rs"] mod ehci;`. include/ehci.h says what each call does.
 //!
-//! All state is plain data, and no call keeps a pointer, so the only unsafe blocks are the five calls.
+//! All state is plain data, and no call keeps a pointer, so the only unsafe blocks are the calls.
 
 mod c {
-    use super::{Answer, Ask, Ehci};
+    use super::{Answer, Ask, Ehci, Whole};
     unsafe extern "C" {
         pub fn ehci_reset(state: *mut Ehci);
         pub fn ehci_read(state: *const Ehci, offset: u32) -> u32;
@@ -18,6 +18,20 @@ mod c {
             bytes: *const u8,
             len: usize,
             events: *mut u32,
+            ask: *mut Ask,
+            out: *mut u8,
+            room: usize,
+        ) -> u32;
+        pub fn ehci_whole_reset(whole: *mut Whole);
+        pub fn ehci_whole_write(whole: *mut Whole, offset: u32, word: u32);
+        pub fn ehci_step(
+            whole: *mut Whole,
+            words: *mut u32,
+            n: usize,
+            answers: *const Answer,
+            count: usize,
+            bytes: *const u8,
+            len: usize,
             ask: *mut Ask,
             out: *mut u8,
             room: usize,
@@ -37,6 +51,93 @@ pub struct Ehci {
     pub ring: u32,
     pub configured: u32,
     pub cursor: u32,
+}
+
+/// What the last transaction heard; include/ehci.h tells these words.
+#[repr(C)]
+#[derive(Clone, Copy, Debug, PartialEq, Eq)]
+pub struct HeardWords {
+    pub kind: u8,
+    pub pid: u8,
+    pub len: u16,
+    pub bytes: [u8; 1024],
+}
+
+#[repr(C)]
+#[derive(Clone, Copy, Debug, PartialEq, Eq)]
+pub struct QueueWords {
+    pub at: u32,
+    pub words: [u32; 12],
+    pub settled: u8,
+    pub made: u8,
+    pub moved: u16,
+}
+
+#[repr(C)]
+#[derive(Clone, Copy, Debug, PartialEq, Eq)]
+pub struct ItdWords {
+    pub at: u32,
+    pub words: [u32; 16],
+    pub slot: u32,
+    pub number: u8,
+    pub made: u8,
+    pub rest: u8,
+    pub ended: u8,
+    pub moved: u16,
+    pub spare: u16,
+}
+
+#[repr(C)]
+#[derive(Clone, Copy, Debug, PartialEq, Eq)]
+pub struct SitdWords {
+    pub at: u32,
+    pub words: [u32; 7],
+    pub settled: u16,
+    pub moved: u16,
+}
+
+#[repr(C)]
+#[derive(Clone, Copy, Debug, PartialEq, Eq)]
+pub struct HandWords {
+    pub kind: u32,
+    pub queue: QueueWords,
+    pub itd: ItdWords,
+    pub sitd: SitdWords,
+}
+
+#[repr(C)]
+#[derive(Clone, Copy, Debug, PartialEq, Eq)]
+pub struct FrameWords {
+    pub left: u64,
+    pub cursor: u32,
+    pub index: u16,
+    pub got_len: u16,
+    pub hand: HandWords,
+    pub heard: HeardWords,
+    pub got: [u8; 3072],
+}
+
+#[repr(C)]
+#[derive(Clone, Copy, Debug, PartialEq, Eq)]
+pub struct RingWords {
+    pub left: u64,
+    pub cursor: u32,
+    pub begun: u8,
+    pub mode: u8,
+    pub first: u8,
+    pub holds: u8,
+    pub queue: QueueWords,
+    pub heard: HeardWords,
+}
+
+/// All of a controller between two events; a copy is a snapshot.
+#[repr(C)]
+#[derive(Clone, Copy, Debug, PartialEq, Eq)]
+pub struct Whole {
+    pub registers: Ehci,
+    pub part: u32,
+    pub frame: FrameWords,
+    pub ring: RingWords,
 }
 
 /// One transaction that the controller asks of the bus.
@@ -163,6 +264,74 @@ impl Ehci {
                 4 => return Ran::Unfit,
                 _ => return Ran::NoMemory,
             }
+        }
+    }
+}
+
+/// What came of a call for one event.
+#[derive(Clone, Copy, Debug, PartialEq, Eq)]
+pub enum Stepped {
+    Idle,
+    Begin,
+    Fetch,
+    Advance,
+    Transact,
+    WriteBack,
+    Skip,
+    End,
+    /// Nothing changed: this is asked, with so many bytes of `out`.
+    WantsBus(Ask),
+    Unfit,
+    NoMemory,
+}
+
+impl Whole {
+    pub fn reset() -> Whole {
+        let mut whole = std::mem::MaybeUninit::<Whole>::zeroed();
+        // SAFETY: a struct of numbers as include/ehci.h has it, lent for the call, which fills it.
+        unsafe {
+            c::ehci_whole_reset(whole.as_mut_ptr());
+            whole.assume_init()
+        }
+    }
+
+    pub fn write(&mut self, offset: u32, word: u32) {
+        // SAFETY: as above.
+        unsafe { c::ehci_whole_write(self, offset, word) }
+    }
+
+    /// Makes one event over these words, with this answer or none.
+    pub fn step(&mut self, words: &mut [u32], heard: Option<Heard>, out: &mut [u8; 1024]) -> Stepped {
+        let mut bytes = Vec::new();
+        let answers: Vec<Answer> = heard.map(|it| answer(it, &mut bytes)).into_iter().collect();
+        let mut ask = Ask::default();
+        // SAFETY: each pointer and length is of one slice that is borrowed for the call, and none of them overlaps another.
+        let stepped = unsafe {
+            c::ehci_step(
+                self,
+                words.as_mut_ptr(),
+                words.len(),
+                answers.as_ptr(),
+                answers.len(),
+                bytes.as_ptr(),
+                bytes.len(),
+                &mut ask,
+                out.as_mut_ptr(),
+                out.len(),
+            )
+        };
+        match stepped {
+            0 => Stepped::Idle,
+            1 => Stepped::Begin,
+            2 => Stepped::Fetch,
+            3 => Stepped::Advance,
+            4 => Stepped::Transact,
+            5 => Stepped::WriteBack,
+            6 => Stepped::Skip,
+            7 => Stepped::End,
+            8 => Stepped::WantsBus(ask),
+            9 => Stepped::Unfit,
+            _ => Stepped::NoMemory,
         }
     }
 }

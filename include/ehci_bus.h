@@ -50,4 +50,18 @@ static inline uint32_t ehci_microframe_on(struct ehci *hc, uint32_t *words, size
     }
 }
 
+/* Makes one event of a bus that answers at once, and answers as ehci_step does. */
+static inline uint32_t ehci_step_on(struct ehci_whole *hc, uint32_t *words, size_t n, ehci_bus *bus, void *user) {
+    struct ehci_answer answer = ehci_silent();
+    uint8_t bytes[1024], out[1024];
+    struct ehci_ask ask;
+    memset(&ask, 0, sizeof ask);
+    uint32_t kind = ehci_step(hc, words, n, &answer, 0, bytes, 0, &ask, out, sizeof out);
+    if (kind != EHCI_STEP_WANTS_BUS)
+        return kind;
+    answer = bus(user, &ask, out, bytes);
+    answer.start = 0;
+    return ehci_step(hc, words, n, &answer, 1, bytes, sizeof bytes, &ask, out, sizeof out);
+}
+
 #endif

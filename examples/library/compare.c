@@ -1,5 +1,6 @@
-/* compare IMAGE ANSWERS MICROFRAMES OUT: makes microframes over the words of a memory image (docs/FORMATS.md) and a bus that gives the
- * answers of a file, each where the transaction that it answers is asked, writes the words to OUT, and prints how many events that were.
+/* compare IMAGE ANSWERS microframes|events N OUT: makes N microframes, or N events a call each, over the words of a memory image
+ * (docs/FORMATS.md) and a bus that gives the answers of a file, each where the transaction that it answers is asked, writes the words to OUT,
+ * and prints how many events that were, and how many transactions no record answers.
  *
  * ANSWERS has a record for each transaction, numbers with the low byte first: the token's packet identifier, address and endpoint (a byte
  * each), 0 plain, 1 start-split or 2 complete-split, the answer's kind and packet identifier, two bytes of its length, and its bytes. */
@@ -43,33 +44,52 @@ static struct ehci_answer bus(void *user, const struct ehci_ask *ask, const uint
     return it[4] == EHCI_HANDSHAKE ? ehci_handshake(it[5]) : ehci_silent();
 }
 
+/* A controller as the program's after the stores: it runs, and both schedules are on. */
+static void set_registers(struct ehci_whole *hc, const uint8_t *image) {
+    ehci_whole_reset(hc);
+    ehci_whole_write(hc, 0x0c, word_of(image + 8));
+    ehci_whole_write(hc, 0x14, word_of(image + 12));
+    ehci_whole_write(hc, 0x18, word_of(image + 16));
+    ehci_whole_write(hc, 0x00, 0x00080031);
+}
+
+static unsigned long make_microframes(struct ehci *hc, uint32_t *words, uint32_t n, struct records *records, int count) {
+    unsigned long total = 0;
+    for (int i = 0; i < count; i++) {
+        uint32_t events;
+        if (ehci_microframe_on(hc, words, n, bus, records, &events) != EHCI_MADE)
+            exit(1);
+        total += events;
+    }
+    return total;
+}
+
+static unsigned long make_events(struct ehci_whole *hc, uint32_t *words, uint32_t n, struct records *records, int count) {
+    for (int i = 0; i < count; i++)
+        if (ehci_step_on(hc, words, n, bus, records) > EHCI_END)
+            exit(1);
+    return (unsigned long)count;
+}
+
 int main(int argc, char **argv) {
     size_t len;
     struct records records = {0, 0, 0, 0};
-    struct ehci hc;
-    unsigned long total = 0;
-    if (argc != 5)
+    struct ehci_whole hc;
+    if (argc != 6)
         return 2;
     uint8_t *image = file_of(argv[1], &len);
     records.bytes = file_of(argv[2], &records.len);
     uint32_t n = word_of(image + 20);
     uint32_t *words = malloc(4 * (size_t)n);
-    FILE *file = fopen(argv[4], "wb");
+    FILE *file = fopen(argv[5], "wb");
     if (!words || !file || len != 24 + 4 * (size_t)n)
         return 2;
     for (uint32_t i = 0; i < n; i++)
         words[i] = word_of(image + 24 + 4 * (size_t)i);
-    ehci_reset(&hc);
-    ehci_write(&hc, 0x0c, word_of(image + 8));
-    ehci_write(&hc, 0x14, word_of(image + 12));
-    ehci_write(&hc, 0x18, word_of(image + 16));
-    ehci_write(&hc, 0x00, 0x00080031);
-    for (int i = 0; i < atoi(argv[3]); i++) {
-        uint32_t events;
-        if (ehci_microframe_on(&hc, words, n, bus, &records, &events) != EHCI_MADE)
-            return 1;
-        total += events;
-    }
+    set_registers(&hc, image);
+    int count = atoi(argv[4]);
+    unsigned long total = strcmp(argv[3], "events") == 0 ? make_events(&hc, words, n, &records, count)
+                                                         : make_microframes(&hc.registers, words, n, &records, count);
     for (uint32_t i = 0; i < n; i++)
         for (int j = 0; j < 4; j++)
             fputc(words[i] >> 8 * j & 0xff, file);

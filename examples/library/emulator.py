@@ -8,10 +8,43 @@ U8, U16, U32 = ctypes.c_uint8, ctypes.c_uint16, ctypes.c_uint32
 OUT, IN, SETUP, PING, DATA0, DATA1, ACK, NAK, STALL, NYET = 1, 9, 13, 4, 3, 11, 2, 10, 14, 6
 HANDSHAKE, DATA = 1, 2
 MADE, WANTS_BUS = 1, 2
+END, STEP_WANTS_BUS = 7, 8
 
 
 class Ehci(ctypes.Structure):
     _fields_ = [(name, U32) for name in "command status interrupt_enable frame_index list ring configured cursor".split()]
+
+
+class Heard(ctypes.Structure):
+    _fields_ = [("kind", U8), ("pid", U8), ("len", U16), ("bytes", U8 * 1024)]
+
+
+class Queue(ctypes.Structure):
+    _fields_ = [("at", U32), ("words", U32 * 12), ("settled", U8), ("made", U8), ("moved", U16)]
+
+
+class Itd(ctypes.Structure):
+    _fields_ = [("at", U32), ("words", U32 * 16), ("slot", U32)] + [(it, U8) for it in "number made rest ended".split()] + [("moved", U16), ("spare", U16)]
+
+
+class Sitd(ctypes.Structure):
+    _fields_ = [("at", U32), ("words", U32 * 7), ("settled", U16), ("moved", U16)]
+
+
+class Hand(ctypes.Structure):
+    _fields_ = [("kind", U32), ("queue", Queue), ("itd", Itd), ("sitd", Sitd)]
+
+
+class Frame(ctypes.Structure):
+    _fields_ = [("left", ctypes.c_uint64), ("cursor", U32), ("index", U16), ("got_len", U16), ("hand", Hand), ("heard", Heard), ("got", U8 * 3072)]
+
+
+class Ring(ctypes.Structure):
+    _fields_ = [("left", ctypes.c_uint64), ("cursor", U32)] + [(it, U8) for it in "begun mode first holds".split()] + [("queue", Queue), ("heard", Heard)]
+
+
+class Whole(ctypes.Structure):
+    _fields_ = [("registers", Ehci), ("part", U32), ("frame", Frame), ("ring", Ring)]
 
 
 class Ask(ctypes.Structure):
@@ -24,7 +57,9 @@ class Answer(ctypes.Structure):
 
 lib = ctypes.CDLL(sys.argv[1])
 lib.ehci_interrupts.restype = ctypes.c_bool
-lib.ehci_read.restype = lib.ehci_microframe.restype = U32
+lib.ehci_read.restype = lib.ehci_microframe.restype = lib.ehci_step.restype = U32
+lib.ehci_step.argtypes = [ctypes.c_void_p, ctypes.c_void_p, ctypes.c_size_t, ctypes.c_void_p, ctypes.c_size_t, ctypes.c_void_p, ctypes.c_size_t,
+                          ctypes.c_void_p, ctypes.c_void_p, ctypes.c_size_t]
 lib.ehci_microframe.argtypes = [ctypes.c_void_p, ctypes.c_void_p, ctypes.c_size_t, ctypes.c_void_p, ctypes.c_size_t, ctypes.c_void_p,
                                 ctypes.c_size_t, ctypes.c_void_p, ctypes.c_void_p, ctypes.c_void_p, ctypes.c_size_t]
 
@@ -130,6 +165,51 @@ def run(hc, world, last, done):
             lib.ehci_write(ctypes.byref(hc), 4, lib.ehci_read(ctypes.byref(hc), 4) & 0x3f)
 
 
+REGISTERS = (0x08, 0x3f), (0x14, 0), (0x18, 0x1000), (0x40, 1), (0x00, 0x00080031)
+
+
+def write_schedule():
+    ctypes.memset(ram, 0, ctypes.sizeof(ram))
+    put(0, struct.pack("<I", 0x1102) * 1024)
+    queue_head(0x1000, 0x1042, 0x0040a000, 0x40000000, 1)
+    queue_head(0x1040, 0x1082, 0x40406003, 0x40000000, 0x1200)
+    queue_head(0x1080, 0x10c2, 0x42002103, 0x40000000, 0x1260)
+    queue_head(0x10c0, 0x1002, 0x42002203, 0x40000000, 0x1280)
+    queue_head(0x1100, 1, 0x00080105, 0x40821c01, 0x12a0)
+    qtd(0x1200, 0x1220, 8 << 16 | 0x0e80, 0x1480)
+    qtd(0x1220, 0x1240, 0x80000d80 | 18 << 16, 0x1400)
+    qtd(0x1240, 1, 0x80008c80, 0)
+    qtd(0x1260, 1, 600 << 16 | 0x8d80, 0x2000)
+    qtd(0x1280, 1, 700 << 16 | 0x0c80, 0x3000)
+    qtd(0x12a0, 1, 8 << 16 | 0x8d80, 0x1440)
+    put(0x1480, setup)
+    put(0x3000, bytes((200 + i) % 256 for i in range(700)))
+
+
+def by_events():
+    """Makes it all again, an event a call: the words that it ends with."""
+    write_schedule()
+    hc, world, ask, out, answers, data = Whole(), World(), Ask(), (U8 * 1024)(), [], b""
+    lib.ehci_whole_reset(ctypes.byref(hc))
+    for at, value in REGISTERS:
+        lib.ehci_whole_write(ctypes.byref(hc), at, value)
+    world.microframe = 1
+    while world.microframe <= 16:
+        given = (Answer * 1)(*answers)
+        kind = lib.ehci_step(ctypes.byref(hc), ram, len(ram), given, len(answers), data, len(data), ctypes.byref(ask), out, len(out))
+        answers, data = [], b""
+        if kind == 0 or kind > STEP_WANTS_BUS:
+            break
+        if kind == STEP_WANTS_BUS:
+            how, pid, data = world.answer(ask, bytes(out[:ask.out_len]))
+            answers = [Answer(how, pid, len(data), 0)]
+        if kind == END:
+            world.microframe += 1
+            if lib.ehci_interrupts(ctypes.byref(hc.registers)):
+                lib.ehci_whole_write(ctypes.byref(hc), 4, lib.ehci_read(ctypes.byref(hc.registers), 4) & 0x3f)
+    return bytes(ram)
+
+
 def copy_of(world):
     copy = World()
     copy.__dict__.update(world.__dict__, toggles=dict(world.toggles))
@@ -145,23 +225,10 @@ def token(at):
 
 
 def main():
-    put(0, struct.pack("<I", 0x1102) * 1024)
-    queue_head(0x1000, 0x1042, 0x0040a000, 0x40000000, 1)
-    queue_head(0x1040, 0x1082, 0x40406003, 0x40000000, 0x1200)
-    queue_head(0x1080, 0x10c2, 0x42002103, 0x40000000, 0x1260)
-    queue_head(0x10c0, 0x1002, 0x42002203, 0x40000000, 0x1280)
-    queue_head(0x1100, 1, 0x00080105, 0x40821c01, 0x12a0)
-    qtd(0x1200, 0x1220, 8 << 16 | 0x0e80, 0x1480)
-    qtd(0x1220, 0x1240, 0x80000d80 | 18 << 16, 0x1400)
-    qtd(0x1240, 1, 0x80008c80, 0)
-    qtd(0x1260, 1, 600 << 16 | 0x8d80, 0x2000)
-    qtd(0x1280, 1, 700 << 16 | 0x0c80, 0x3000)
-    qtd(0x12a0, 1, 8 << 16 | 0x8d80, 0x1440)
-    put(0x1480, setup)
-    put(0x3000, bytes((200 + i) % 256 for i in range(700)))
+    write_schedule()
     hc, world, done = Ehci(), World(), {}
     lib.ehci_reset(ctypes.byref(hc))
-    for at, value in (0x08, 0x3f), (0x14, 0), (0x18, 0x1000), (0x40, 1), (0x00, 0x00080031):
+    for at, value in REGISTERS:
         lib.ehci_write(ctypes.byref(hc), at, value)
     run(hc, world, 2, done)
     hc_then, world_then, ram_then = Ehci.from_buffer_copy(hc), copy_of(world), bytes(ram)
@@ -176,6 +243,7 @@ def main():
     put(0, ram_then)
     run(hc_then, world_then, 16, {})
     print(f"from a snapshot of microframe 2: {word(bytes(ram) == end and bytes(hc) == bytes(hc_then))}")
+    print(f"an event a call: {word(by_events() == end)}")
     print(f"FRINDEX {lib.ehci_read(ctypes.byref(hc), 0x0c):04x} USBSTS {lib.ehci_read(ctypes.byref(hc), 4):04x}")
 
 

@@ -4,7 +4,7 @@
 #[path = "../../include/ehci.rs"]
 mod ehci;
 
-use ehci::{Ask, Bus, Ehci, Heard, Ran};
+use ehci::{Ask, Bus, Ehci, Heard, Ran, Stepped, Whole};
 
 const DESCRIPTOR: usize = 0x1400;
 const REPORT: usize = 0x1440;
@@ -83,6 +83,9 @@ fn other(toggle: u8) -> u8 {
 }
 
 impl World {
+    fn new() -> World {
+        World { microframe: 0, toggle_in: ehci::DATA0, toggle_out: ehci::DATA0, sent: 0, got: Vec::new(), asked: false, started: 0 }
+    }
     fn control(&mut self, ask: &Ask, out: &[u8]) -> Heard {
         match ask.pid {
             ehci::SETUP => {
@@ -160,13 +163,40 @@ fn word(same: bool) -> &'static str {
     if same { "same" } else { "different" }
 }
 
+const REGISTERS: [(u32, u32); 5] = [(0x08, 0x3f), (0x14, 0), (0x18, 0x1000), (0x40, 1), (0x00, 0x0008_0031)];
+
+/// Makes it all again, an event a call: the words that it ends with.
+fn by_events() -> Ram {
+    let mut ram = Ram::with_schedule();
+    let mut world = World::new();
+    let mut hc = Whole::reset();
+    for (at, word) in REGISTERS {
+        hc.write(at, word);
+    }
+    let (mut heard, mut out) = (None, [0; 1024]);
+    world.microframe = 1;
+    while world.microframe <= 16 {
+        match hc.step(&mut ram.0, heard.take(), &mut out) {
+            Stepped::WantsBus(ask) => heard = Some(world.transact(&ask, &out[..ask.out_len as usize])),
+            Stepped::End => {
+                world.microframe += 1;
+                if hc.registers.interrupts() {
+                    hc.write(0x04, hc.registers.read(0x04) & 0x3f);
+                }
+            }
+            Stepped::Idle | Stepped::Unfit | Stepped::NoMemory => return ram,
+            _ => {}
+        }
+    }
+    ram
+}
+
 fn main() {
     let mut ram = Ram::with_schedule();
-    let mut world =
-        World { microframe: 0, toggle_in: ehci::DATA0, toggle_out: ehci::DATA0, sent: 0, got: Vec::new(), asked: false, started: 0 };
+    let mut world = World::new();
     let mut done = [0; 4];
     let mut hc = Ehci::reset();
-    for (at, word) in [(0x08, 0x3f), (0x14, 0), (0x18, 0x1000), (0x40, 1), (0x00, 0x0008_0031)] {
+    for (at, word) in REGISTERS {
         hc.write(at, word);
     }
     run(&mut hc, &mut world, &mut ram, 2, &mut done);
@@ -181,5 +211,6 @@ fn main() {
     let went = world.got.len() == 700 && world.got.iter().enumerate().all(|(i, it)| *it == (200 + i) as u8);
     println!("bytes of both bulk endpoints: {}", word(came && went));
     println!("from a snapshot of microframe 2: {}", word(hc == hc_then && ram == ram_then));
+    println!("an event a call: {}", word(by_events() == ram));
     println!("FRINDEX {:04x} USBSTS {:04x}", hc.read(0x0c), hc.read(0x04));
 }

@@ -11,6 +11,7 @@ pub mod Prices
 pub mod WithinLoad
 pub mod InTime
 pub mod Streams
+pub mod Ends
 pub mod Requests
 pub mod Reach
 pub mod Releases

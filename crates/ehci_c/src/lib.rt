@@ -3,6 +3,8 @@
 //! No call calls back, and none keeps a pointer. Whatever C passes, a call ends, and touches nothing but what it is lent.
 #![tactic(auto)]
 
+mod events;
+
 ghost use Rattle.std.specs.Prelude.{◌≡◌, ◌≢◌, ◌≤◌, false, length, unwrap_or, IfSome};
 ghost use Rattle.op_registers.specs.RegisterFile.{reset_file};
 ghost use Rattle.op_registers.specs.Table.{word_at, after_write};
@@ -11,6 +13,7 @@ ghost use Rattle.hc_microframe.specs.Answers.{told};
 ghost use Rattle.hc_microframe.specs.Microframe.{IsFit, IsLong};
 ghost use Rattle.hc_microframe.specs.Calls.{IsTold, Makes, Asks};
 
+pub use events::{ehci_step, ehci_whole_reset, ehci_whole_write};
 use hc_microframe::{Answer, AskWords, Desk, Ran, State, Wanted, ask_words, microframe};
 use std::alloc::Global;
 
@@ -58,7 +61,7 @@ fn tell(wanted: &Wanted, ask: &mut AskWords, out: &mut [u8])
 }
 
 /// Writes down what the desk was asked when no answer was left, if something was.
-fn tell_asked(desk: &Desk<'_, '_>, ask: &mut AskWords, out: &mut [u8])
+pub(crate) fn tell_asked(desk: &Desk<'_, '_>, ask: &mut AskWords, out: &mut [u8])
     requires { 1024 ≤ length out.old }
     ensures { IfSome desk.now.wanted (λ wanted. IsTold wanted ask.new out.new) }
 {

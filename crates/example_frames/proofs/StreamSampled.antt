@@ -1,5 +1,5 @@
 -- The streams of interrupt endpoints in the frames, event by event.
-use Rattle.std.proofs.Common.{◌≡◌, ◌≢◌, ℕ, ◌<◌, ◌==◌, Bool, true, false, if◌then◌else◌, List, [], ◌∷◌, ◌++◌, Option, Some, None, ap, refl, sym, subst, ◌∙◌}
+use Rattle.std.proofs.Common.{◌≡◌, ℕ, ◌==◌, Bool, true, false, if◌then◌else◌, List, [], ◌∷◌, Some, None, ap, refl, sym, subst, ◌∙◌}
 use Rattle.std.proofs.lemmas.Bool.{eqb-true, false≢true}
 use Rattle.std.proofs.lemmas.Option.{same_Some}
 use Rattle.usb_base.specs.declared.packets.Pid.TheVariants.{Ack, Nyet}
@@ -13,15 +13,15 @@ use Rattle.periodic_walk.specs.Place.{FramePlace, place}
 use Rattle.law_structures.proofs.lemmas.lent_structures.Altering.{found_queue, found_element}
 use Rattle.law_structures.specs.lent_structures.Settles.{is_moved}
 use Rattle.law_structures.specs.lent_structures.Structures.{StructureSets}
-use Rattle.law_ring.specs.Hand.{Copy, Settlement, Hand, Empty, Copied, Settled}
+use Rattle.law_ring.specs.Hand.{Hand, Empty, Copied, Settled}
 use Rattle.law_ring.specs.Effects.{buffer_of, Asks, came_to}
-use Rattle.law_ring.specs.OutBus.{Taker, Takes, all_taken, all_dropped, took}
+use Rattle.law_ring.specs.OutBus.{Takes, all_taken, all_dropped, took}
 use Rattle.law_ring.specs.OutPipes.{IsNext, IsUnmoved, OutAgrees, level, ahead, ended as ended_pipe}
 use Rattle.law_ring.specs.Streams.{StreamEffect}
 use Rattle.law_ring.specs.Streams.StreamEffect.{same, aside, grows}
 use Rattle.law_ring.specs.Told.{hand_bytes, Told, SameTold}
 use Rattle.law_frames.specs.Met.{Kind, AQueue, IsMetQueue, IsMetAs}
-use Rattle.law_frames.specs.FrameHand.{Nothing, OfQueue, OfSettled, queue_hand}
+use Rattle.law_frames.specs.FrameHand.{Nothing, OfQueue, OfSettled}
 use Rattle.law_frames.specs.Frame.{IsFrame}
 use Rattle.law_frames.specs.FrameEffects.{FrameEffect, writes, of_queue, was_missed}
 use Rattle.law_frames.specs.FrameStreams.{IsIsoAsk}
@@ -34,7 +34,7 @@ use Rattle.law_frames.proofs.SplitSampled.{misses_it}
 use Rattle.law_controller.specs.frame_control.Both.{BothEffect, of_frame}
 use Rattle.law_controller.specs.frame_control.Joined.{joined, BothStreamEffect, moved}
 use Rattle.law_controller.specs.frame_control.Samples.{steps_on}
-use Rattle.example_frames.specs.StreamSamples.{in_frames, late, out_token, out_queue, out_element, out_part, out_copy, sent, as_interrupt, as_bulk, refused, acknowledged, moved_then, out_ask, none_taken, both_taken}
+use Rattle.example_frames.specs.StreamSamples.{in_frames, late, out_queue, out_element, out_part, out_copy, sent, as_interrupt, as_bulk, refused, acknowledged, moved_then, out_ask, none_taken, both_taken}
 
 -- what is told is told once
 told_once : (hand : Hand) (ps : StructureSets) (n e : ℕ) (xs ys : List ℕ) → Told hand ps n e xs → Told hand ps n e ys → xs ≡ ys

@@ -15,7 +15,7 @@ use Rattle.hc_microframe.specs.State.{shown, file_of}
 use Rattle.hc_microframe.specs.Microframe.{entered_at, opening, IsEvent, is_end, is_last, Goes, IsOver, cursor_after, IsMade}
 use Rattle.hc_microframe.specs.Microframe.Goes.{next}
 
-nothing_wanted : (wanted : Option Wanted) → is_some wanted ≡ false → wanted ≡ None
+pub nothing_wanted : (wanted : Option Wanted) → is_some wanted ≡ false → wanted ≡ None
 nothing_wanted None is = refl
 nothing_wanted (Some w) is = absurd cc
 

@@ -3,3 +3,6 @@ mod Words
 pub mod Telling
 mod Ringing
 mod Placing
+pub mod Wholes
+mod Once
+mod OneEvent

@@ -8,6 +8,9 @@ use Rattle.hc_microframe.specs.declared.state.State.{State}
 use Rattle.hc_microframe.specs.Answers.{Told, told}
 use Rattle.hc_microframe.specs.Microframe.{IsWanted}
 use Rattle.hc_microframe.specs.Calls.{IsTold, Asks}
+use Rattle.hc_microframe.specs.declared.whole.Whole.{Whole}
+use Rattle.hc_microframe.specs.Stepping.{IsHeldUp}
+use Rattle.hc_microframe.specs.EventCalls.{HoldsUp}
 
 asks_this : (s : State) (words : List ℕ) (answers : List Answer) (bytes : List ℕ) (n : ℕ) (after : Told) (ask : AskWords) (out : List ℕ)
     (wanted : Option Wanted) → IsWanted s words (told answers bytes) n after → after.wanted ≡ wanted → is_some wanted ≡ true
@@ -20,3 +23,15 @@ pub asks : (s : State) (words : List ℕ) (answers : List Answer) (bytes : List 
     → IsWanted s words (told answers bytes) n after → IfSome after.wanted (λ w. IsTold w ask out) → Asks s words answers bytes n ask out
 asks s words answers bytes n after ask out made tells =
     asks_this s words answers bytes n after ask out after.wanted made refl made.wanted tells
+
+holds_this : (s : Whole) (words : List ℕ) (answers : List Answer) (bytes : List ℕ) (after : Told) (ask : AskWords) (out : List ℕ)
+    (wanted : Option Wanted) → IsHeldUp s words (told answers bytes) after → after.wanted ≡ wanted → is_some wanted ≡ true
+    → IfSome wanted (λ w. IsTold w ask out) → HoldsUp s words answers bytes ask out
+holds_this s words answers bytes after ask out None made is some tells = absurd cc
+holds_this s words answers bytes after ask out (Some w) made is some tells =
+    record { after = after; wanted = w; made = made; first = is; is_told = tells }
+
+pub holds_up : (s : Whole) (words : List ℕ) (answers : List Answer) (bytes : List ℕ) (after : Told) (ask : AskWords) (out : List ℕ)
+    → IsHeldUp s words (told answers bytes) after → IfSome after.wanted (λ w. IsTold w ask out) → HoldsUp s words answers bytes ask out
+holds_up s words answers bytes after ask out made tells =
+    holds_this s words answers bytes after ask out after.wanted made refl made.wanted tells

@@ -4,3 +4,6 @@ pub mod Microframe
 pub mod Calls
 pub mod Places
 pub mod Samples
+pub mod Numbers
+pub mod Stepping
+pub mod EventCalls

@@ -22,7 +22,7 @@ impl<'a, 'b> Model for Desk<'a, 'b> {
     ghost view = { λ d. record { answers = d.answers.now; bytes = d.bytes.now; wanted = d.wanted } };
 }
 
-fn set_hand(reply: &mut Reply, bits: u8)
+pub(crate) fn set_hand(reply: &mut Reply, bits: u8)
     ensures { reply.new ≡ hand (pid_named bits) }
 {
     match pid_of(bits) {
@@ -31,7 +31,7 @@ fn set_hand(reply: &mut Reply, bits: u8)
     }
 }
 
-fn set_packet(reply: &mut Reply, bits: u8, bytes: &[u8])
+pub(crate) fn set_packet(reply: &mut Reply, bits: u8, bytes: &[u8])
     requires { length bytes.now ≤ 1024 }
     ensures { reply.new ≡ packet (pid_named bits) bytes.now }
 {

@@ -1,8 +1,12 @@
-//! Whole microframes of the controller (EHCI 1.0, 4.1 and 4.6 to 4.12) for callers that keep all state themselves, as emulators do.
+//! Whole microframes of the controller (EHCI 1.0, 4.1 and 4.6 to 4.12), and single events, for callers that keep all state themselves, as
+//! emulators do.
 //!
 //! Between two microframes the controller is eight words, which are plain data. A microframe is made over words that are lent for the call.
 //! What it asks of the bus it gets from answers that the caller wrote down beforehand; where they don't suffice, `microframe` changes
 //! nothing and tells what is asked next, and the caller calls again with one answer more. So no call calls back, and none keeps anything.
+//!
+//! `step` makes one event. Its state, `Whole`, is all of a controller between two events, with the copies in hand as words; a transaction
+//! that has no answer yet leaves it as it was.
 //!
 //! `ehci_c` exports these calls to C.
 #![tactic(auto)]
@@ -11,12 +15,19 @@ mod answers;
 mod desk;
 mod laws;
 mod making;
+mod numbers;
 mod running;
 mod state;
+mod stepping;
+mod whole;
 pub mod worked;
+pub mod worked_events;
 
 pub use answers::{Answer, AskWords, Wanted, ask_words};
 pub use desk::Desk;
-pub use laws::{place_is_kept, words_keep_registers};
+pub use laws::{asks_once, place_is_kept, words_keep_registers};
+pub use numbers::{HeardWords, ItdWords, QueueWords, SitdWords};
 pub use running::{Ran, microframe};
 pub use state::{State, interrupts, read, registers_of, reset, state_of, write};
+pub use stepping::{Stepped, kind_number, step, write_between};
+pub use whole::{FrameWords, HandWords, RingWords, Whole, reset_whole};

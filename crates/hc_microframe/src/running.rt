@@ -32,7 +32,7 @@ pub enum Ran {
 }
 
 /// Whether a controller's memory has so many words.
-fn is_fit(words: usize) -> bool
+pub(crate) fn is_fit(words: usize) -> bool
     ensures { IsTrue result ↔ IsFit words }
 {
     words >= 1024 && words <= MOST_MEMORY as usize && words % 1024 == 0

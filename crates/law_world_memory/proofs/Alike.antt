@@ -250,7 +250,7 @@ module _ (n : ℕ) (part now : Structures) (k : IsSameQueue n part now) where
         };
   }
 
-  queue_part : IsQueuePart n part → IsQueuePart n now
+  pub queue_part : IsQueuePart n part → IsQueuePart n now
   queue_part s =
       let h = k.head s.queue s.here in
       record {

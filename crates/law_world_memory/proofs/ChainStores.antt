@@ -23,7 +23,7 @@ use Rattle.law_world_memory.proofs.lemmas.framed_memory.ChainedRuns.{chain_goes_
 use Rattle.law_queues.specs.open_laws.Opens.{end_then, streams_then}
 use Rattle.law_queues.specs.open_laws.Queues.{IsOpenThere, open_finished}
 use Rattle.law_driver.specs.queued_drivers.Queued.{queued_made, queued}
-use Rattle.law_driver.specs.queued_drivers.Rows.{QueuesAlike, LeavesQueues, IsFinishedAlike}
+use Rattle.law_driver.specs.queued_drivers.Rows.{QueuesAlike, TellsAlike, LeavesQueues, IsFinishedAlike}
 use Rattle.law_driver.proofs.lemmas.queued_drivers.RowFrames.{frames_leave, chain_finishes}
 use Rattle.law_driver.proofs.lemmas.queued_drivers.RowOwners.{queued_owners}
 use Rattle.bus_world.specs.World.{World, driver_parts, controller_parts, driver_next}
@@ -150,7 +150,9 @@ module _ (s : Standing) (w : World) (k : IsMixedAt s w) (t : IsChainThere w.driv
 
     step_on : QueueStep s w (driver_next w) after_it
     step_on =
-        stays after_it (left_alike (subst (λ (g : DriverContent). QueuesAlike (queued d) (queued g)) (sym driver_is) leaves.queues))
+        stays after_it
+        (left_alike (subst (λ (g : DriverContent). QueuesAlike (queued d) (queued g)) (sym driver_is) leaves.queues)
+        (subst (λ (g : DriverContent). TellsAlike (queued d) (queued g)) (sym driver_is) (leaves.tells refl)))
         (record { near = refl; streams = refl; ends = refl; order = refl; out = refl; told = told_then })
 
     world_on : IsMixedNext s w (driver_next w)

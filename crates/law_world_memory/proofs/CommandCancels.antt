@@ -55,7 +55,7 @@ module _ (s : Standing) (w : World) (line : ℕ) (name : EpName) (o : Offered) (
   left : IsAsBefore d c.driver × NearSame d c.driver
   left = cancel_as_before d w.memory c a.mixed.turns.turns k.cancels
 
-  before : IsAsBefore d g
+  pub before : IsAsBefore d g
   before =
       let b = left.0 in
       record {

@@ -41,7 +41,7 @@ use Rattle.law_world_memory.specs.framed_memory.Now.{IsFramedNow}
 use Rattle.law_world_memory.specs.framed_memory.Isochronous.{IsFramesCommand}
 use Rattle.bus_world.specs.World.{World, driver_parts, controller_parts, driver_next}
 use Rattle.law_world_memory.specs.Mixed.{QueuesGoOn, IsUnderWay, Standing, IsMixedAt}
-use Rattle.law_world_memory.specs.Steps.{AreTold, left_alike, stays as step_stays, IsMixedNext}
+use Rattle.law_world_memory.specs.Steps.{AreTold, left_by_frames, stays as step_stays, IsMixedNext}
 use Rattle.law_world_memory.proofs.Unfinished.{none_unfinished}
 use Rattle.law_world_memory.proofs.Next.{mixed_next}
 use Rattle.law_world_memory.proofs.Alike.{DummiesWereLent, same_lent, goes_on_alike}
@@ -220,7 +220,7 @@ module _ (s : Standing) (w : World) (k : IsMixedAt s w) where
       let alike : QueuesAlike (queued d) (queued f) = (frames_leave (driver_row p) p its_owners k.turns (each_is_due p) of).queues in
       let frames_now = frames_still d f alike frames in
       let t : Standing = record s { recent = recent; descs = descs; parts = parts; hand = hand; frame = frame } in
-      mixed_next s w k t (step_stays t (left_alike alike) (record { near = refl; streams = refl; ends = refl; order = refl; out = refl; told = told })) now
+      mixed_next s w k t (step_stays t (left_by_frames alike of refl) (record { near = refl; streams = refl; ends = refl; order = refl; out = refl; told = told })) now
       (ring_stays d f its_owners alike.waiting alike.rung frames frames_now s.member stay k.ring)
       (goes_on_alike (queued d) (queued f) s.near s.streams s.ends parts s.order s.out alike dummies queues)
       (none_under_way f (driver_next w).memory s.member recent parts f.command frames_now)

@@ -33,7 +33,11 @@ use Rattle.law_world_memory.proofs.FrameNext.{EndsStay, same, idle_frames, none_
 pub rest_mixed : RowKeepsMixed rows.Rest
 rest_mixed s w k is =
     subst (λ (row : DriverRow). IsMixedNext s w (with_parts w (after_driver_row row (driver_parts w)))) (sym is)
-    (record { standing = s; step = stays s (left_alike (queues_same (queued w.driver))) (still_same s); mixed = k })
+    (record {
+      standing = s;
+      step = stays s (left_alike (queues_same (queued w.driver)) (record { reports = refl; store = refl })) (still_same s);
+      mixed = k;
+    })
 
 -- ---- FRINDEX is read
 

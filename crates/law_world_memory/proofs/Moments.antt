@@ -22,7 +22,7 @@ line_can : (l : Line) → MixedLine l → KindOfLine OpensMixed l
 line_can (lines.Command cmd) fits = fits
 line_can _ fits = tt
 
-lines_can : (xs : List (ℕ × Line)) → AllByRecursion (λ x. MixedLine x.1) xs → AllByRecursion (λ x. KindOfLine OpensMixed x.1) xs
+pub lines_can : (xs : List (ℕ × Line)) → AllByRecursion (λ x. MixedLine x.1) xs → AllByRecursion (λ x. KindOfLine OpensMixed x.1) xs
 lines_can [] fits = tt
 lines_can (x ∷ xs) fits = (line_can x.1 fits.0, lines_can xs fits.1)
 

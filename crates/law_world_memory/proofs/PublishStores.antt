@@ -83,12 +83,12 @@ module _ (p : DriverParts) (member streams : ℕ → Bool) (ends : ℕ → Told)
   now = stored_parts parts n (32 * b) (partly g.qtd (suc i))
 
   -- the structures are told by the number of stores
-  parts_are : (P : StructureSets → Type 0) → P now → P (parts_then g)
+  pub parts_are : (P : StructureSets → Type 0) → P now → P (parts_then g)
   parts_are P is = subst (λ (j : ℕ). P (stored_parts parts n (32 * b) (partly g.qtd j))) (sym made_is) is
 
   -- ---- its qTDs
 
-  some : 1 ≤ y.qtds
+  pub some : 1 ≤ y.qtds
   some = k.turns.chained.some g.number (runs_of_transfer y) (ap (option_map runs_of_transfer) g.there) g.fresh.1
 
   qtds_are : suc q ≡ y.qtds
@@ -103,7 +103,7 @@ module _ (p : DriverParts) (member streams : ℕ → Bool) (ends : ℕ → Told)
   pub sorted : IsSorted (order n) (split.before ++ (32 * b) ∷ split.after)
   sorted = subst (IsSorted (order n)) split.all (k.queues.last.sorted b words g.number y g.endpoint k.command k.made g.newest g.there g.place.0 g.here)
 
-  element : IsPlaced (slot_of d.book.slots) k.owners.owner b (PieceOf g.number)
+  pub element : IsPlaced (slot_of d.book.slots) k.owners.owner b (PieceOf g.number)
   element = subst (λ (c : ℕ). IsPlaced (slot_of d.book.slots) k.owners.owner c (PieceOf g.number)) g.place.0 (piece_placed d k.owners g.number 0 y g.there g.fresh.1 some)
 
   dummy_is : (e : ℕ) (x : Endpoint) → slice_get d.endpoints e ≡ Some x → x.gone ≡ false → IsPlaced (slot_of d.book.slots) k.owners.owner x.dummy (Dummy e)
@@ -168,7 +168,7 @@ module _ (p : DriverParts) (member streams : ℕ → Bool) (ends : ℕ → Told)
   pub met_now : IsMet d y.endpoint g.endpoint
   met_now = stands_met d y.endpoint g.endpoint standing g.going (never_opens g.endpoint.queue)
 
-  there_now : (x : Endpoint) → x.gone ≡ false → IsThere d x
+  pub there_now : (x : Endpoint) → x.gone ≡ false → IsThere d x
   there_now x kept = record { linked = never_opens x.queue; kept = kept }
 
   queues_more : SameQueues d (more d parts b words g i here k.queues.fed)
@@ -210,7 +210,7 @@ module _ (p : DriverParts) (member streams : ℕ → Bool) (ends : ℕ → Told)
   pub out_is : (e : ℕ) → out_now d e ≡ out_of note e (Some (unfinished.Publish b words)) (suc i) d.transfers
   out_is e = ap (λ (o : Option Command). out_of note e o d.made d.transfers) k.command ∙ ap (λ (j : ℕ). out_of note e (Some (unfinished.Publish b words)) j d.transfers) made_is
 
-  out_more : (e : ℕ) → out_now (more d parts b words g i here k.queues.fed) e ≡ out_now d e
+  pub out_more : (e : ℕ) → out_now (more d parts b words g i here k.queues.fed) e ≡ out_now d e
   out_more e = ap (λ (o : Option Command). out_of note e o (suc (suc i)) d.transfers) k.command ∙ same_out note e b words d.transfers (suc i) i ∙ sym (out_is e)
 
   out_done : (e : ℕ) → y.endpoint ≢ e → out_now (done d parts b words g i here k.queues.fed) e ≡ out_now d e
@@ -251,7 +251,7 @@ module _ (p : DriverParts) (member streams : ℕ → Bool) (ends : ℕ → Told)
   pub then_done : suc i ≡ 8 → (next_of p).driver ≡ done d parts b words g i here k.queues.fed
   then_done eighth = after_is p member parts n b g.qtd i being ∙ ap (counted d) eighth
 
-  eighth_by : 8 ≤ suc i → suc i ≡ 8
+  pub eighth_by : 8 ≤ suc i → suc i ≡ 8
   eighth_by over = let low = below in omega (arith, over, low)
 
   -- ---- the laws

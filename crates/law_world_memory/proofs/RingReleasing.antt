@@ -76,10 +76,10 @@ module _ (p : Parts) (e : ℕ) (x : Endpoint) (here : slice_get p.driver.endpoin
   f_is : f ≡ (after_endpoint p e (Some x)).driver
   f_is = ap (λ (o : Option Endpoint). (after_endpoint p e o).driver) here
 
-  ends : f.endpoints ≡ set old.endpoints e gone
+  pub ends : f.endpoints ≡ set old.endpoints e gone
   ends = ap (λ (g : DriverContent). g.endpoints) f_is ∙ ap (λ (xs : List Endpoint). set xs e gone) (told_same (λ (g : DriverContent). g.endpoints) _ old (is_told x) refl)
 
-  command_same : f.command ≡ old.command
+  pub command_same : f.command ≡ old.command
   command_same = ap (λ (g : DriverContent). g.command) f_is ∙ told_same (λ (g : DriverContent). g.command) _ old (is_told x) refl
 
   waiting_same : f.waiting ≡ old.waiting
@@ -88,12 +88,12 @@ module _ (p : Parts) (e : ℕ) (x : Endpoint) (here : slice_get p.driver.endpoin
   rung_same : f.rung ≡ old.rung
   rung_same = ap (λ (g : DriverContent). g.rung) f_is ∙ told_same (λ (g : DriverContent). g.rung) _ old (is_told x) refl
 
-  other_by : (i : ℕ) (y : Endpoint) → slice_get f.endpoints i ≡ Some y → y.gone ≡ false → i ≢ e
+  pub other_by : (i : ℕ) (y : Endpoint) → slice_get f.endpoints i ≡ Some y → y.gone ≡ false → i ≢ e
   other_by i y at kept own =
       let is : y ≡ gone = same_Some y gone (sym at ∙ ap (λ (xs : List Endpoint). slice_get xs i) ends ∙ ap (slice_get (set old.endpoints e gone)) own ∙ set_here old.endpoints e x gone here) in
       false≢true (sym kept ∙ ap (λ (u : Endpoint). u.gone) is)
 
-  was : (i : ℕ) (y : Endpoint) → slice_get f.endpoints i ≡ Some y → i ≢ e → slice_get old.endpoints i ≡ Some y
+  pub was : (i : ℕ) (y : Endpoint) → slice_get f.endpoints i ≡ Some y → i ≢ e → slice_get old.endpoints i ≡ Some y
   was i y at other = sym (set_there old.endpoints e i gone other) ∙ ap (λ (xs : List Endpoint). slice_get xs i) (sym ends) ∙ at
 
   is_now : (i : ℕ) (y : Endpoint) → slice_get old.endpoints i ≡ Some y → i ≢ e → slice_get f.endpoints i ≡ Some y

@@ -44,7 +44,7 @@ line_fits : (l : Line) → FitsLine l → FittingLine l → MixedLine l
 line_fits (lines.Command cmd) numbers kind = opens_mixed cmd numbers kind
 line_fits _ numbers kind = tt
 
-lines_fit : (xs : List (ℕ × Line)) → AllByRecursion (λ x. FitsLine x.1) xs → AllByRecursion (λ x. FittingLine x.1) xs → AllByRecursion (λ x. MixedLine x.1) xs
+pub lines_fit : (xs : List (ℕ × Line)) → AllByRecursion (λ x. FitsLine x.1) xs → AllByRecursion (λ x. FittingLine x.1) xs → AllByRecursion (λ x. MixedLine x.1) xs
 lines_fit [] numbers kinds = tt
 lines_fit (x ∷ xs) numbers kinds = (line_fits x.1 numbers.0 kinds.0, lines_fit xs numbers.1 kinds.1)
 

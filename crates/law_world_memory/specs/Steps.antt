@@ -14,8 +14,8 @@
 --     IsWithout s t n          nothing is told any more of the queue of the queue head at n
 --     LeftBy w e d             endpoint e is given back, and d is what the queues tell before: it left the ring, or its frames
 --     IsGivenBack w new e x d  .. and x is that endpoint, so told
---     HasNoStep w new          no queue has a step: the queues of the driver are the same, the doorbell was rung or its answer read, or it was
---                              a command
+--     HasNoStep w new          no queue has a step: the queues of the driver are the same, and so is its report, or it was an event of the
+--                              frames; the doorbell was rung or its answer read; or it was a command
 --     QueueStep s w new t      the step from the standing s of the world w to t, that of `new`
 --     IsMixedNext s w new      the world `new` is one with endpoints of every kind, and comes of w by a step
 --     IsEventOf fixed s w      what the next event of the controller does to the structures that are told, and to what is in hand
@@ -55,7 +55,7 @@ use Rattle.law_driver_ring.specs.Published.{publish_row}
 use Rattle.law_driver_ring.specs.Released.{goes_of}
 use Rattle.law_driver_ring.specs.fed_queues.Fed.{IsPublished}
 use Rattle.law_driver.specs.queued_drivers.Queued.{queued, queued_parts}
-use Rattle.law_driver.specs.queued_drivers.Rows.{QueuesAlike, out_of_frames}
+use Rattle.law_driver.specs.queued_drivers.Rows.{QueuesAlike, TellsAlike, IsOfFrames, out_of_frames}
 use Rattle.law_queues.specs.fed_harvests.Harvests.{Harvested, with_out}
 use Rattle.law_queues.specs.fed_harvests.Stalls.{Stalled}
 use Rattle.law_queues.specs.fed_lends.ToLend.{IsToBeLent}
@@ -75,7 +75,7 @@ use Rattle.law_world_steps.specs.left_queues.Standing.{met_streams}
 use Rattle.law_world_steps.specs.unlinked_streams.Unlinks.{IsAtUnlink, parts_unlinked, hand_unlinked}
 use Rattle.law_descriptors.specs.Both.{descs_now, parts_now}
 use Rattle.law_world_memory.specs.framed_memory.Now.{recent_then, FramedNowAfter}
-use Rattle.bus_world.specs.World.{World, driver_parts, controller_parts, controller_row, controller_next, commanded}
+use Rattle.bus_world.specs.World.{World, driver_parts, driver_next, controller_parts, controller_row, controller_next, commanded}
 use Rattle.law_world_memory.specs.Mixed.{Standing, IsMixedAt}
 use Rattle.law_world_memory.specs.Opens.{OpensMixed}
 use Rattle.law_world_memory.specs.SameQueues.{IsSameQueue}
@@ -179,7 +179,9 @@ pub record IsGivenBack (w new : World) (e : ℕ) (x : Endpoint) (d : DriverConte
 -- ---- the step
 
 pub data HasNoStep (w new : World) : Type 0 where
-  left_alike : QueuesAlike (queued w.driver) (queued new.driver) → HasNoStep w new
+  left_alike : QueuesAlike (queued w.driver) (queued new.driver) → TellsAlike (queued w.driver) (queued new.driver) → HasNoStep w new
+  left_by_frames : QueuesAlike (queued w.driver) (queued new.driver) → IsOfFrames (driver_parts w) (driver_row (driver_parts w))
+      → new ≡ driver_next w → HasNoStep w new
   left_by_bell : IsToldRow w new rows.RingBell → HasNoStep w new
   left_by_status : (heard : Bool) → IsToldRow w new (rows.ReadStatus heard) → HasNoStep w new
   left_by_command : (line : ℕ) (cmd : Cmd) → OpensMixed cmd → IsOffered w.driver.room cmd → new ≡ commanded w line cmd → HasNoStep w new

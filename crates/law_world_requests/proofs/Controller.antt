@@ -7,7 +7,7 @@ use Rattle.usb_base.specs.declared.packets.Ask.{Ask}
 use Rattle.usb_base.specs.declared.packets.Reply.{Reply}
 use Rattle.bus_wire.specs.Bus.{Fixed}
 use Rattle.claims_driver.specs.Owners.{runs_of_transfer, runs_of_endpoint}
-use Rattle.hc_core.specs.Controller.{Content, walk_place}
+use Rattle.hc_core.specs.Controller.{Content}
 use Rattle.drv_table.specs.declared.content.Command.{Command}
 use Rattle.drv_table.specs.declared.content.Command.TheVariants as unfinished
 use Rattle.drv_table.specs.declared.content.Endpoint.{Endpoint as DriverEndpoint}
@@ -95,7 +95,7 @@ module _ {W : Type 0} (begins : W → ℕ → Bool → W → Type 0) (transacts 
   done_still n b i xs (a_microframe m) keeps k =
       subst (λ (h : Hand). IsDone h now n b i xs) (sym m.hand_stays) (subst (λ (ps : StructureSets). IsDone hand ps n b i xs) (sym m.parts_stay) k)
   done_still n b i xs (a_step k) keeps done =
-      done_kept transacts member parts hand (walk_place c).walk.reply wire after now later n b i xs controlled.ring.members controlled.ring.in_hand (λ a t there off. (keeps n).idle a t there off) k.streams done
+      done_kept transacts parts hand wire after now later n b i xs (λ a t there off. (keeps n).idle a t there off) k.streams done
 
 -- ---- no microframe is missed
 

@@ -32,6 +32,7 @@ use Rattle.claims_report.specs.ControlSides.{Device}
 use Rattle.law_ring.specs.Hand.{Hand}
 use Rattle.law_ring.specs.Effects.{buffer_of}
 use Rattle.law_ring.specs.Told.{Told, hand_bytes}
+use Rattle.law_ring.proofs.QueueParts.{member_part}
 use Rattle.law_devices.specs.ring_requests.Laid.{Places}
 use Rattle.law_devices.specs.ring_requests.Windows.{Queue, Lines, sent_at, IsWindow, IsFinished, IsQueue}
 use Rattle.law_world_requests.specs.request_bytes.Fresh.{next_of}
@@ -112,7 +113,7 @@ unmoved_here note b i c j same is k = subst (λ (a : ℕ). AreUnmoved note a j) 
 
 module _ (member : ℕ → Bool) (m : Mem) (parts : StructureSets) (hand : Hand) (n : ℕ) (tells : Tells m parts) (on : IsMember member n (parts n)) (notes : List QtdNote) where
   none_told : (b k most : ℕ) → AreUnmoved (note_at notes) b k → told_of (note_at notes) b k ≤ most → take most (moved_bytes notes m b k) ≡ []
-  none_told b k most unmoved within = report_read member m parts hand n tells on notes b 0 b k k most [] (let e : k ≡ 0 + k = omega arith in e) (none_held b) tt unmoved within
+  none_told b k most unmoved within = report_read m parts hand n tells (member_part member n (parts n) on) notes b 0 b k k most [] (let e : k ≡ 0 + k = omega arith in e) (none_held b) tt unmoved within
 
   data_told : (b most : ℕ) (xs : List ℕ) → (note_at notes b).moved ≡ 0 → IsDone hand parts n (note_at notes b).next (note_at notes (note_at notes b).next).moved xs
       → IsRead (parts n) (note_at notes (note_at notes b).next) (note_at notes b).next → (note_at notes (note_at notes (note_at notes b).next).next).moved ≡ 0 → told_of (note_at notes) b 3 ≤ most
@@ -121,7 +122,7 @@ module _ (member : ℕ → Bool) (m : Mem) (parts : StructureSets) (hand : Hand)
       let c : ℕ = (note_at notes b).next in
       let z : ℕ = (note_at notes c).next in
       ap (take most) (first_none notes m b 2 setup)
-      ∙ report_read member m parts hand n tells on notes c 1 z 1 2 most xs refl
+      ∙ report_read m parts hand n tells (member_part member n (parts n) on) notes c 1 z 1 2 most xs refl
       (subst (AreHeld hand parts n (note_at notes) c 1 z) (append-nil xs) (one_held c 0 z xs [] done (none_held z)))
       (read, tt) (status, tt) (let less = within in omega (arith, less))
 
@@ -254,7 +255,7 @@ module _ (member : ℕ → Bool) (p : Parts) (e t n : ℕ) (found : Found) (due 
         let off : (token_in p.memory at_data).active ≡ false = subst (λ (b : ℕ). (token_in p.memory b).active ≡ false) place counted.off in
         let count : (now at_data).moved ≡ moved_of (note at_data).told (token_in p.memory at_data).total =
         ap (λ (b : ℕ). (now b).moved) (sym place) ∙ ap (λ (z : QtdNote). z.moved) moves.here ∙ counted.count ∙ ap (λ (b : ℕ). moved_of (note b).told (token_in p.memory b).total) place in
-        subst (λ (i : ℕ). IsDone hand parts q at_data i told_now) (sym count) (found_done member p.memory parts hand q at_data told_now (note at_data) k.tells k.on read_data off told)
+        subst (λ (i : ℕ). IsDone hand parts q at_data i told_now) (sym count) (found_done p.memory parts hand q at_data told_now (note at_data) k.tells (member_part member q (parts q) k.on) read_data off told)
 
     -- the notes of the others are as they were
     beside_data : y.left ≡ 2 → (a : ℕ) → a ≢ at_data → now a ≡ note a

@@ -9,6 +9,7 @@ use Rattle.law_structures.specs.lent_structures.Sound.{IsWorking, IsSoundQueue, 
 use Rattle.law_structures.proofs.lemmas.lent_structures.Altering.{found_queue, found_element}
 use Rattle.law_ring.specs.Hand.{Hand}
 use Rattle.law_ring.specs.Told.{Endpoint}
+use Rattle.law_ring.proofs.QueueParts.{member_part}
 use Rattle.law_ring.specs.Streams.{AreMembers}
 use Rattle.law_ring.specs.Order.{IsFresh}
 use Rattle.law_ring.specs.Pipes.{AreEndpoints}
@@ -122,7 +123,7 @@ last_here taker stream member outs ends order out harvested parts hand wire n e 
     let known : List ℕ = harvested m ++ was.told in
     record {
       known = known;
-      reported = last_reports member (λ i. i == m) order out hand parts (λ i. known ∷ []) (λ i. harvested m) n e old new s active fresh (members n (ends_are.members n one))
+      reported = last_reports (λ i. i == m) order out hand parts (λ i. known ∷ []) (λ i. harvested m) n e old new s active fresh (member_part member n (parts n) (members n (ends_are.members n one)))
           (at_one (λ (i : ℕ). IsReported (order i) (out i) hand parts i (known ∷ []) (harvested m)) m (reported_in stream o member (order m) (out m) parts hand m (ends m) (harvested m) was)) m (one_here m);
       pipe = pipe_after parts n e old new s.here s.idle member outs m (ends m) o known hand (members m (ends_are.members m on)) on (λ a. way) was.pipe;
     })

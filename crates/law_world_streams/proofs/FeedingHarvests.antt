@@ -63,6 +63,7 @@ use Rattle.law_world_streams.proofs.Told.{HasBulkThere, there_by, bulk_there, st
 use Rattle.law_world_streams.proofs.Heads.{queue_reported, rising, right_of, control_head}
 use Rattle.law_queues.proofs.lemmas.standing_fronts.Rows.{harvest_keeps}
 use Rattle.claims_driver.specs.Leaving.{HasOwners}
+use Rattle.law_ring.proofs.QueueParts.{member_part}
 
 -- ---- an endpoint whose queue and description are told alike
 
@@ -266,7 +267,7 @@ module _ (fixed : Fixed) (member : ℕ → Bool) (x : Streams) (s : Standing) (w
 
     reports : found ≢ founds.Active → HarvestReports (s.order (32 * due.endpoint.queue)) w.driver new.driver s.hand s.parts e due.endpoint (s.acc (32 * due.endpoint.queue)) s.reported
     reports differs =
-        row_told member (s.order (32 * due.endpoint.queue)) (driver_parts w) s.parts s.hand e t found (s.acc (32 * due.endpoint.queue)) s.reported due differs owners f.turns kind f.queues.fed f.working.streaming.controlled.ring.tells on
+        row_told (s.order (32 * due.endpoint.queue)) (driver_parts w) s.parts s.hand e t found (s.acc (32 * due.endpoint.queue)) s.reported due differs owners f.turns kind f.queues.fed f.working.streaming.controlled.ring.tells (member_part member (32 * due.endpoint.queue) (s.parts (32 * due.endpoint.queue)) on)
         (λ a z earlier of_it. passed_untold w.driver s.parts s.hand s.order s.out e t due.endpoint a z due.idle f.turns.turns f.queues.out_are fronts due.here met due.goes_on due.next earlier of_it) told right_now
 
     bulk_done : found ≢ founds.Active → Leaves fixed member x s new

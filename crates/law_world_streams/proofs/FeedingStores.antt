@@ -12,6 +12,7 @@ use Rattle.claims_driver.specs.Leaving.{HasOwners}
 use Rattle.claims_driver.specs.Owners.{FrameList, QueueHead, runs_of_endpoint}
 use Rattle.law_driver.proofs.lemmas.run_owners.Released.{other_number}
 use Rattle.law_structures.specs.lent_structures.Structures.{Structure, Element, StructureSets, with_structure, put}
+use Rattle.law_ring.proofs.QueueParts.{member_part}
 use Rattle.law_controller.specs.controlled_streams.Reported.{AreReported}
 use Rattle.claims_base.specs.Controller.{opening_base}
 use Rattle.law_driver_ring.specs.Driven.{DrivesRing}
@@ -87,7 +88,7 @@ module _ (fixed : Fixed) (member : ℕ → Bool) (x : Streams) (s : Standing) (w
   queues_then = store_stands p member x.streams x.endpoint s.parts s.order s.out b words at
 
   counted_then : AreReported (there_of w.driver) s.order (out_then s.out (next_of p).driver stored) s.hand (parts_then stored) s.acc s.reported
-  counted_then = store_reports s.acc s.reported s.hand (there_of w.driver) p member x.streams x.endpoint s.parts s.order s.out b words at k.streaming.controlled.ring.members f.counted
+  counted_then = store_reports s.acc s.reported s.hand (there_of w.driver) p member x.streams x.endpoint s.parts s.order s.out b words at (λ n on. member_part member n (s.parts n) (k.streaming.controlled.ring.members n on)) f.counted
 
   -- the endpoints that are there were so before
   stored_there : (n : ℕ) → there_of (next_of p).driver n ≡ true → there_of p.driver n ≡ true

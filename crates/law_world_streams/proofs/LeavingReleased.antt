@@ -13,7 +13,6 @@ use Rattle.drv_table.specs.Releases.{after_endpoint, is_told}
 use Rattle.law_driver.specs.run_owners.Due.{IsDue, IsEndpointDue}
 use Rattle.law_driver.proofs.lemmas.run_owners.Reasons.{each_is_due}
 use Rattle.law_driver.specs.chained_transfers.Out.{out_now}
-use Rattle.claims_base.specs.Controller.{opening_base}
 use Rattle.law_controller.specs.controlled_streams.Reported.{IsReported}
 use Rattle.law_driver_ring.specs.fed_queues.Places.{IsThere}
 use Rattle.law_queues.proofs.lemmas.open_names.Apart.{events_apart}
@@ -24,6 +23,7 @@ use Rattle.law_queues.specs.leaving_drivers.Before.{UnlinksAtMost}
 use Rattle.law_world_steps.proofs.lemmas.left_queues.Unmet.{cleared_unmet}
 use Rattle.law_world_streams.specs.left_reports.Leaver.{IsLeaver}
 use Rattle.law_world_streams.proofs.lemmas.left_reports.Gone.{release_is_told}
+use Rattle.law_world_streams.proofs.lemmas.left_reports.Leaver.{elsewhere}
 use Rattle.law_world_streams.specs.Releases.{released, IsGivenBack}
 use Rattle.law_world_streams.proofs.FedReleasing.{endpoint_release_feeds}
 use Rattle.bus_world.specs.World.{World, driver_parts, driver_next}
@@ -91,16 +91,18 @@ module _ (fixed : Fixed) (takes : ℕ → ℕ → Bool) (member : ℕ → Bool) 
   there : IsThere w.driver z
   there = record { linked = λ opens. no_open w.driver.command z.queue due.idle opens; kept = leaver.leaves.held }
 
-  leaves : IsLeaver opening_base member s.parts s.hand w.control.walk p e z
+  leaves : IsLeaver s.parts s.hand p e z
   leaves = record {
     idle = due.idle;
     leaves = leaver.leaves;
     unlinked = leaver.unlinked;
-    unmet = cleared_unmet w.driver member 0 e z f.working.place.sound.owners f.turns f.queues.met leaver.leaves.first leaver.leaves.here;
     owners = f.working.place.sound.owners;
     turns = f.turns;
     fed = f.queues.fed;
-    ring = f.working.streaming.controlled.ring;
+    tells = f.working.streaming.controlled.ring.tells;
+    settled = elsewhere member s.parts w.control.walk.reply s.hand (32 * z.queue)
+        (cleared_unmet w.driver member 0 e z f.working.place.sound.owners f.turns f.queues.met leaver.leaves.first leaver.leaves.here)
+        f.working.streaming.controlled.ring.in_hand;
   }
 
   reports : has_stream z.desc.kind ≡ true → IsReported (s.order (32 * z.queue)) (out_now w.driver e) s.hand s.parts (32 * z.queue) (s.acc (32 * z.queue)) (s.reported (32 * z.queue))
@@ -111,7 +113,7 @@ module _ (fixed : Fixed) (takes : ℕ → ℕ → Bool) (member : ℕ → Bool) 
   told : ToldStands new s.hand (without_queue s.parts (32 * z.queue)) s.reported
   told =
       by_row (λ (d : DriverContent). ToldStands d s.hand (without_queue s.parts (32 * z.queue)) s.reported)
-      (release_is_told opening_base member (s.order (32 * z.queue)) s.parts s.hand w.control.walk p e z (s.acc (32 * z.queue)) s.reported leaves reports k.told).0
+      (release_is_told (s.order (32 * z.queue)) s.parts s.hand p e z (s.acc (32 * z.queue)) s.reported leaves reports k.told).0
 
   -- ---- the whole
 

@@ -20,7 +20,6 @@ use Rattle.law_driver.specs.run_owners.Due.{IsDue, IsEndpointDue}
 use Rattle.law_driver.proofs.lemmas.run_owners.Reasons.{each_is_due}
 use Rattle.law_driver.proofs.lemmas.run_owners.Released.{set_here, set_there}
 use Rattle.law_controller.specs.controlled_streams.Reported.{IsReported}
-use Rattle.claims_base.specs.Controller.{opening_base}
 use Rattle.claims_driver.specs.Scripts.{receives, comes_in, IsAsynchronous}
 use Rattle.law_driver_ring.specs.fed_queues.Places.{IsThere}
 use Rattle.law_queues.specs.told_endpoints.Telling.{named_of, IsToldTo}
@@ -35,6 +34,7 @@ use Rattle.law_queues.proofs.lemmas.leaving_drivers.Owing.{event_owed}
 use Rattle.law_queues.proofs.lemmas.leaving_drivers.Telling.{events_only}
 use Rattle.law_world_streams.specs.left_reports.Leaver.{IsLeaver, IsToldGone}
 use Rattle.law_world_streams.proofs.lemmas.left_reports.Gone.{release_is_told}
+use Rattle.law_world_streams.proofs.lemmas.left_reports.Leaver.{elsewhere}
 use Rattle.claims_world.specs.Memory.{IsWalking}
 use Rattle.law_world_steps.proofs.lemmas.controlled_walks.Worlds.{driver_walks}
 use Rattle.law_devices.specs.scripted_takers.Takers.{taker_of}
@@ -123,21 +123,23 @@ module _ (fixed : Fixed) (takes : ℕ → ℕ → Bool) (member : ℕ → Bool) 
   counted : has_stream z.desc.kind ≡ true → IsReported (s.order n) (s.out n) s.hand s.parts n (s.acc n) (s.reported n)
   counted stream = f.counted n (there_on d e z leaver.leaves.here there stream)
 
-  leaves : IsLeaver opening_base member s.parts s.hand w.control.walk p e z
+  leaves : IsLeaver s.parts s.hand p e z
   leaves = record {
     idle = due.idle;
     leaves = leaver.leaves;
     unlinked = leaver.unlinked;
-    unmet = cleared_unmet d member 0 e z f.working.place.sound.owners f.turns f.queues.met leaver.leaves.first leaver.leaves.here;
     owners = f.working.place.sound.owners;
     turns = f.turns;
     fed = f.queues.fed;
-    ring = f.working.streaming.controlled.ring;
+    tells = f.working.streaming.controlled.ring.tells;
+    settled = elsewhere member s.parts w.control.walk.reply s.hand n
+        (cleared_unmet d member 0 e z f.working.place.sound.owners f.turns f.queues.met leaver.leaves.first leaver.leaves.here)
+        f.working.streaming.controlled.ring.in_hand;
   }
 
   told_gone : IsToldGone d then e z (s.acc n)
   told_gone =
-      (release_is_told opening_base member (s.order n) s.parts s.hand w.control.walk p e z (s.acc n) s.reported leaves
+      (release_is_told (s.order n) s.parts s.hand p e z (s.acc n) s.reported leaves
       (λ stream. subst (λ (out : List ℕ). IsReported (s.order n) out s.hand s.parts n (s.acc n) (s.reported n)) (f.queues.out_are e z leaver.leaves.here there) (counted stream)) k).1
 
   told_before : has_stream z.desc.kind ≡ true → IsToldTo d.reports d.store (named_of z) (k.held e) (k.told e)

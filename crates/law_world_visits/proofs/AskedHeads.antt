@@ -1,5 +1,5 @@
 -- A queue head that works is met, or will be given back: one that is being opened isn't there yet, or rests.
-use Rattle.std.proofs.Common.{◌≡◌, ◌≢◌, ℕ, suc, ◌-◌, ◌*◌, ◌||◌, not, Bool, true, false, List, length, slice_get, Option, Some, None, option_map, if◌then◌else◌, ap, refl, sym, subst, ◌∙◌, ⊎_elim, arith}
+use Rattle.std.proofs.Common.{◌≡◌, ◌≢◌, ℕ, suc, ◌-◌, ◌*◌, ◌||◌, not, Bool, true, false, length, slice_get, Option, Some, None, option_map, if◌then◌else◌, ap, refl, sym, subst, ◌∙◌, ⊎_elim, arith}
 use Rattle.std.specs.Prelude.{◌⊎◌}
 use Rattle.std.proofs.lemmas.Bool.{false≢true}
 use Rattle.usb_base.specs.declared.packets.EpKind.{EpKind}
@@ -24,7 +24,7 @@ use Rattle.law_structures.specs.lent_structures.Structures.{Structure, QueueHead
 use Rattle.law_structures.proofs.lemmas.lent_structures.Names.{with_here, with_there}
 use Rattle.law_structures.proofs.lemmas.lent_structures.Altering.{found_queue}
 use Rattle.law_ring.specs.Hand.{Copy}
-use Rattle.law_controller.specs.frame_control.Joined.{joined, IsAsked}
+use Rattle.law_controller.specs.frame_control.Joined.{IsAsked}
 use Rattle.law_controller.proofs.lemmas.frame_control.Joining.{joined_is_asked}
 use Rattle.law_driver_ring.specs.LendOpened.{IsOpened}
 use Rattle.law_driver_ring.specs.Linked.{no_part, opened_part}

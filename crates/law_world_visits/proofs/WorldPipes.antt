@@ -1,11 +1,10 @@
 -- The premises of each event's law, of a world with endpoints of every kind.
-use Rattle.std.proofs.Common.{◌≡◌, ℕ, ◌*◌, Bool, true, false, Some, ap, sym, subst, ◌∙◌, ⊎_elim}
+use Rattle.std.proofs.Common.{◌≡◌, ℕ, ◌*◌, true, ap, sym, subst, ◌∙◌, ⊎_elim}
 use Rattle.std.proofs.lemmas.Bool.{false≢true}
 use Rattle.drv_table.specs.Words.{head_block}
 use Rattle.claims_base.specs.Controller.{opening_base}
 use Rattle.law_driver.specs.queued_drivers.Queued.{queued}
 use Rattle.law_ring.specs.QueueParts.{IsQueuePart}
-use Rattle.law_controller.specs.frame_control.Joined.{joined}
 use Rattle.law_driver_ring.specs.fed_queues.Places.{HasHead}
 use Rattle.law_descriptors.specs.Meeting.{met}
 use Rattle.law_descriptors.specs.PartLaws.{IsDescribing}

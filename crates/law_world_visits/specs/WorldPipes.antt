@@ -3,7 +3,7 @@
 --     IsIsoBeside s sends takes    isochronous transactions ask none of the streams
 --     EventOf fixed s w a          the event, as the streams tell it
 --     ControllerKeepsPipes         so it is after the event, where the bus answers as its senders and takers do
-use Rattle.std.specs.Prelude.{◌≡◌, ℕ, ◌*◌, Bool, true, false, List, Option}
+use Rattle.std.specs.Prelude.{ℕ, Bool, List, Option}
 use Rattle.usb_base.specs.declared.packets.Ask.{Ask}
 use Rattle.bus_wire.specs.Bus.{Wired, Fixed}
 use Rattle.law_ring.specs.Told.{Endpoint as Told}

@@ -4,7 +4,7 @@
 use Rattle.std.specs.Prelude.{◌≡◌, ◌≢◌, ℕ, ◌⊎◌, Bool, true, false, List, Option, Some}
 use Rattle.qh_qtd.specs.declared.qtd.Qtd.{Qtd}
 use Rattle.law_structures.specs.lent_structures.Structures.{Element, StructureSets}
-use Rattle.law_structures.specs.lent_structures.Sound.{IsMember}
+use Rattle.law_ring.specs.QueueParts.{IsQueuePart}
 use Rattle.law_ring.specs.Hand.{Hand}
 use Rattle.law_ring.specs.Told.{Endpoint}
 use Rattle.law_ring.specs.Order.{IsFresh}
@@ -21,8 +21,8 @@ IdleStoreLeavesReports = (streams : ℕ → Bool) (order : ℕ → ℕ → ℕ) 
 
 -- once it is, it is out too, and nothing was moved of it
 abbrev pub LastStoreLeavesReports : Type 0
-LastStoreLeavesReports = (member streams : ℕ → Bool) (order : ℕ → ℕ → ℕ) (out : ℕ → List ℕ) (hand : Hand) (parts : StructureSets) (acc : ℕ → List (List ℕ)) (reported : ℕ → List ℕ)
-    (n e : ℕ) (old new : Qtd) → (s : IsStore (order n) (out n) parts n e old new) → new.token.active ≡ true → IsFresh (parts n) new → IsMember member n (parts n)
+LastStoreLeavesReports = (streams : ℕ → Bool) (order : ℕ → ℕ → ℕ) (out : ℕ → List ℕ) (hand : Hand) (parts : StructureSets) (acc : ℕ → List (List ℕ)) (reported : ℕ → List ℕ)
+    (n e : ℕ) (old new : Qtd) → (s : IsStore (order n) (out n) parts n e old new) → new.token.active ≡ true → IsFresh (parts n) new → IsQueuePart n (parts n)
     → AreReported streams order out hand parts acc reported → AreReported streams order (with_out out n (out_with s)) hand (stored_parts parts n e new) acc reported
 
 -- where it becomes active it is an IN, if its queue head has a stream, and else it is none

@@ -1,10 +1,10 @@
 -- Laws of what is held back of a transfer, and of what its report tells (EHCI 1.0, 3.5.4 and 4.10).
-use Rattle.std.specs.Prelude.{◌≡◌, ℕ, suc, ◌+◌, ◌*◌, ◌≤◌, Bool, false, List, ◌∷◌, ◌++◌, take, Some}
+use Rattle.std.specs.Prelude.{◌≡◌, ℕ, suc, ◌+◌, ◌*◌, ◌≤◌, false, List, ◌∷◌, ◌++◌, take, Some}
 use Rattle.word_mem.specs.Memory.{Mem}
 use Rattle.qh_qtd.specs.declared.qtd.Qtd.{Qtd}
 use Rattle.law_structures.specs.lent_structures.Structures.{Element, StructureSets, Tells}
-use Rattle.law_structures.specs.lent_structures.Sound.{IsMember}
 use Rattle.law_ring.specs.Hand.{Hand}
+use Rattle.law_ring.specs.QueueParts.{IsQueuePart}
 use Rattle.law_ring.specs.Told.{Told}
 use Rattle.law_ring.specs.Order.{Accounts}
 use Rattle.law_ring.specs.Sparing.{SameHand, SparesHead, SparesElement}
@@ -15,7 +15,7 @@ use Rattle.law_driver_ring.specs.told_harvests.Passed.{IsNoneTold, HarvestsFirst
 
 -- a qTD that is found done, and what is then noted of it
 abbrev pub FoundIsDone : Type 0
-FoundIsDone = (member : ℕ → Bool) (m : Mem) (parts : StructureSets) (hand : Hand) (n b : ℕ) (x : List ℕ) (note : QtdNote) → Tells m parts → IsMember member n (parts n)
+FoundIsDone = (m : Mem) (parts : StructureSets) (hand : Hand) (n b : ℕ) (x : List ℕ) (note : QtdNote) → Tells m parts → IsQueuePart n (parts n)
     → IsRead (parts n) note b → (token_in m b).active ≡ false
     → Told hand parts n (32 * b) x → IsDone hand parts n b (moved_of note.told (token_in m b).total) x
 
@@ -45,7 +45,7 @@ SparedIsDone = (hand later : Hand) (parts now : StructureSets) (n b k : ℕ) (x 
 
 -- the report of a transfer of k qTDs, of which the first i are harvested and nothing is noted of the others
 abbrev pub ReportIsRead : Type 0
-ReportIsRead = (member : ℕ → Bool) (m : Mem) (parts : StructureSets) (hand : Hand) (n : ℕ) → Tells m parts → IsMember member n (parts n)
+ReportIsRead = (m : Mem) (parts : StructureSets) (hand : Hand) (n : ℕ) → Tells m parts → IsQueuePart n (parts n)
     → (notes : List QtdNote) (b i c l k most : ℕ) (xs : List ℕ) → k ≡ i + l
     → AreHeld hand parts n (note_at notes) b i c xs → AreRead (parts n) (note_at notes) b i → AreUnmoved (note_at notes) c l → told_of (note_at notes) b k ≤ most
     → take most (moved_bytes notes m b k) ≡ xs

@@ -1,10 +1,8 @@
-ghost use Rattle.std.specs.Prelude.{◌≡◌, ℕ, Bool, false, List, Some};
-ghost use Rattle.usb_base.specs.declared.packets.Reply.{Reply};
+ghost use Rattle.std.specs.Prelude.{◌≡◌, ℕ, false, List, Some};
 ghost use Rattle.qh_qtd.specs.declared.qtd.Qtd.{Qtd};
 ghost use Rattle.law_structures.specs.lent_structures.Structures.{Element, StructureSets};
 ghost use Rattle.law_ring.specs.Hand.{Hand};
-ghost use Rattle.law_ring.specs.Ring.{IsInHand};
-ghost use Rattle.law_ring.specs.Streams.{AreMembers, NoneBeside, StreamEffect};
+ghost use Rattle.law_ring.specs.Streams.{NoneBeside, StreamEffect};
 ghost use Rattle.law_driver_ring.specs.told_harvests.Held.{IsDone};
 ghost use Rattle.law_driver_ring.specs.told_harvests.Laws.{FoundIsDone, FoundIsNoted, HeldGrows, HeldIsNoted, HeldStays, SparedIsDone, ReportIsRead, FirstIsHarvested};
 
@@ -26,8 +24,8 @@ pub fn what_is_held_grows_and_stays()
 
 /// An event of the walk leaves what is done, and what is told of it.
 pub fn events_keep_what_is_done<W: Wire>()
-    ensures { (member : ℕ → Bool) (parts : StructureSets) (hand : Hand) (reply : Reply) (wire after : W) (now : StructureSets) (later : Hand) (n b k : ℕ) (x : List ℕ)
-        → AreMembers member parts → IsInHand member parts reply hand → ((a : ℕ) (t : Qtd) → parts n a ≡ Some (Element t) → t.token.active ≡ false → now n a ≡ Some (Element t))
+    ensures { (parts : StructureSets) (hand : Hand) (wire after : W) (now : StructureSets) (later : Hand) (n b k : ℕ) (x : List ℕ)
+        → ((a : ℕ) (t : Qtd) → parts n a ≡ Some (Element t) → t.token.active ≡ false → now n a ≡ Some (Element t))
         → StreamEffect NoneBeside W.transacts parts hand wire after now later → IsDone hand parts n b k x → IsDone later now n b k x }
 {}
 

@@ -11,7 +11,7 @@ use Rattle.drv_table.specs.DriverContent.{DriverContent}
 use Rattle.drv_table.specs.Harvests.{note_at}
 use Rattle.claims_driver.specs.Owners.{EndpointRuns, TransferRuns, note_in}
 use Rattle.law_structures.specs.lent_structures.Structures.{StructureSets}
-use Rattle.law_structures.specs.lent_structures.Sound.{IsMember}
+use Rattle.law_ring.specs.QueueParts.{IsQueuePart}
 use Rattle.law_ring.specs.Hand.{Hand}
 use Rattle.law_ring.specs.Told.{Endpoint}
 use Rattle.law_ring.specs.Bus.{Sender}
@@ -34,9 +34,9 @@ abbrev pub new_out : DriverContent → TransferRuns → List Stage → List ℕ
 new_out d y ss = pieces_from (note_in d.notes) (second d y) (length ss)
 
 abbrev pub LendLeavesReports : Type 0
-LendLeavesReports = (d : DriverContent) (m : Mem) (t : ℕ) (y : TransferRuns) (x : EndpointRuns) (s : Stage) (ss : List Stage) (slot : ℕ → Slot) (member : ℕ → Bool) (parts now : StructureSets)
+LendLeavesReports = (d : DriverContent) (m : Mem) (t : ℕ) (y : TransferRuns) (x : EndpointRuns) (s : Stage) (ss : List Stage) (slot : ℕ → Slot) (parts now : StructureSets)
     (order : ℕ → ℕ) (out : List ℕ) (hand : Hand) (acc : List (List ℕ)) (reported : List ℕ) (k : ℕ) → AwaitsLend d m t y x s ss → HasPieces d slot parts now y x s ss
-    → IsMember member (32 * x.queue) (parts (32 * x.queue)) → IsLast order (parts (32 * x.queue)) (32 * y.first) → order (32 * y.first) < k
+    → IsQueuePart (32 * x.queue) (parts (32 * x.queue)) → IsLast order (parts (32 * x.queue)) (32 * y.first) → order (32 * y.first) < k
     → (old : IsReported order out hand parts (32 * x.queue) acc reported) → old.place ≤ k
     → IsReported (new_order d y ss k order) (out ++ new_out d y ss) hand now (32 * x.queue) acc reported
 

@@ -2,12 +2,12 @@
 --     IsFoundDone ..       the qTD that is read is done, and these bytes were moved of it
 --     ReadsOn d y z        the transfer after it
 --     HarvestTells ..      they are told of the endpoint behind what was told before, at once or held back
-use Rattle.std.specs.Prelude.{◌≡◌, ℕ, ◌-◌, ◌*◌, Bool, true, false, List, slice_get, slice_set, Some}
+use Rattle.std.specs.Prelude.{◌≡◌, ℕ, ◌-◌, ◌*◌, true, false, List, slice_get, slice_set, Some}
 use Rattle.word_mem.specs.Memory.{Mem}
 use Rattle.usb_base.specs.declared.packets.EpKind.TheVariants as kinds
 use Rattle.law_structures.specs.lent_structures.Structures.{StructureSets, Tells}
-use Rattle.law_structures.specs.lent_structures.Sound.{IsMember}
 use Rattle.law_ring.specs.Hand.{Hand}
+use Rattle.law_ring.specs.QueueParts.{IsQueuePart}
 use Rattle.law_ring.specs.Told.{Told}
 use Rattle.drv_table.specs.declared.content.Endpoint.{Endpoint}
 use Rattle.drv_table.specs.declared.content.Transfer.{Transfer}
@@ -19,12 +19,12 @@ use Rattle.law_queues.specs.told_endpoints.Steps.{Grows}
 use Rattle.law_driver_ring.specs.told_harvests.Held.{AreRead}
 use Rattle.law_queues.specs.harvest_laws.Holds.{HoldsEach}
 
-pub record IsFoundDone (member : ℕ → Bool) (d : DriverContent) (m : Mem) (parts : StructureSets) (hand : Hand) (x : Endpoint) (y : Transfer) (bytes : List ℕ) : Type 0 where
+pub record IsFoundDone (d : DriverContent) (m : Mem) (parts : StructureSets) (hand : Hand) (x : Endpoint) (y : Transfer) (bytes : List ℕ) : Type 0 where
   pub bulk : x.desc.kind ≡ kinds.Bulk
   pub queued : is_descriptor y.sort ≡ false
   pub kept : y.released ≡ false
   pub tells : Tells m parts
-  pub on : IsMember member (32 * x.queue) (parts (32 * x.queue))
+  pub on : IsQueuePart (32 * x.queue) (parts (32 * x.queue))
   pub read : AreRead (parts (32 * x.queue)) (note_at d.notes) y.first y.qtds
   pub off : (token_in m y.place).active ≡ false
   pub told : Told hand parts (32 * x.queue) (32 * y.place) bytes

@@ -2,12 +2,12 @@
 --     IsReadNext d e t x y     transfer t is the next of endpoint e, and no other transfer has the qTD that is read
 --     CanBeRead ..             the qTDs of the transfer and their buffers are as they were noted, and the one that is read is done
 --     HarvestGoesOn ..         what its row leaves: the bytes that were moved of it are told, and the other qTDs are out still
-use Rattle.std.specs.Prelude.{◌≡◌, ◌≢◌, ℕ, ◌-◌, ◌*◌, Bool, true, false, List, [], ◌++◌, slice_get, Some, None}
+use Rattle.std.specs.Prelude.{◌≡◌, ◌≢◌, ℕ, ◌-◌, ◌*◌, true, false, List, [], ◌++◌, slice_get, Some, None}
 use Rattle.word_mem.specs.Memory.{Mem}
 use Rattle.usb_base.specs.declared.packets.EpKind.TheVariants as kinds
 use Rattle.law_structures.specs.lent_structures.Structures.{StructureSets, Tells}
-use Rattle.law_structures.specs.lent_structures.Sound.{IsMember}
 use Rattle.law_ring.specs.Hand.{Hand}
+use Rattle.law_ring.specs.QueueParts.{IsQueuePart}
 use Rattle.law_ring.specs.Told.{Told}
 use Rattle.law_ring.specs.Order.{Accounts}
 use Rattle.claims_report.specs.Streams.{has_stream}
@@ -37,11 +37,11 @@ pub record IsReadNext (d : DriverContent) (e t : ℕ) (x : Endpoint) (y : Transf
   pub others : (u : ℕ) (z : Transfer) → slice_get d.transfers u ≡ Some z → z.reported ≡ false → z.released ≡ false → u ≢ t → IsOneFrom (note_at d.notes) z.first z.qtds y.place → ⊥
 
 -- nothing is told of those that were passed over
-pub record CanBeRead (member : ℕ → Bool) (d : DriverContent) (m : Mem) (parts : StructureSets) (hand : Hand) (e t : ℕ) (x : Endpoint) (y : Transfer) : Type 0 where
+pub record CanBeRead (d : DriverContent) (m : Mem) (parts : StructureSets) (hand : Hand) (e t : ℕ) (x : Endpoint) (y : Transfer) : Type 0 where
   pub bulk : x.desc.kind ≡ kinds.Bulk
   pub queued : is_descriptor y.sort ≡ false
   pub tells : Tells m parts
-  pub on : IsMember member (32 * x.queue) (parts (32 * x.queue))
+  pub on : IsQueuePart (32 * x.queue) (parts (32 * x.queue))
   pub read : AreRead (parts (32 * x.queue)) (note_at d.notes) y.first y.qtds
   pub off : (token_in m y.place).active ≡ false
   pub none : (p : ℕ) (z : List ℕ) → IsOutEarlier (note_in d.notes) e t d.transfers p → Told hand parts (32 * x.queue) p z → z ≡ []
@@ -56,9 +56,9 @@ pub record HarvestGoesOn (order : ℕ → ℕ) (place : ℕ) (d new : DriverCont
   pub beside : (k : ℕ) → k ≢ e → out_now new k ≡ out_now d k
 
 abbrev pub HarvestIsTold : Type 0
-HarvestIsTold = (member : ℕ → Bool) (order : ℕ → ℕ) (place : ℕ) (d : DriverContent) (m : Mem) (parts : StructureSets) (hand : Hand) (e t : ℕ) (x : Endpoint) (y : Transfer) (xs : List ℕ)
+HarvestIsTold = (order : ℕ → ℕ) (place : ℕ) (d : DriverContent) (m : Mem) (parts : StructureSets) (hand : Hand) (e t : ℕ) (x : Endpoint) (y : Transfer) (xs : List ℕ)
     (held told : ℕ → List ℕ) (found : Found)
-    → IsReadNext d e t x y → CanBeRead member d m parts hand e t x y → HoldsEach d hand parts held → TellsEach d.reports d.store (named_in d.endpoints) held told
+    → IsReadNext d e t x y → CanBeRead d m parts hand e t x y → HoldsEach d hand parts held → TellsEach d.reports d.store (named_in d.endpoints) held told
     → Accounts order place (out_now d e) hand parts (32 * x.queue) xs → found ≡ found_of d m y y.sort
     → HarvestGoesOn order place d (after_harvest d m e t found (Some x) (Some y)) hand parts e t x y xs held told
 

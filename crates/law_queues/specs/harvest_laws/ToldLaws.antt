@@ -1,5 +1,5 @@
 -- Laws of what a driver's report tells of each queue that has a stream.
-use Rattle.std.specs.Prelude.{◌≡◌, ◌≢◌, ℕ, ◌-◌, ◌*◌, Bool, true, List, [], ◌∷◌, ◌++◌, length, slice_get, slice_set, Some, None, false}
+use Rattle.std.specs.Prelude.{◌≡◌, ◌≢◌, ℕ, ◌-◌, ◌*◌, true, List, [], ◌∷◌, ◌++◌, length, slice_get, slice_set, Some, None, false}
 use Rattle.usb_base.specs.declared.reports.Report.{Report}
 use Rattle.word_mem.specs.Memory.{Mem}
 use Rattle.mem_runs.specs.Book.{holding, Stands}
@@ -105,8 +105,8 @@ pub record HarvestReports (order : ℕ → ℕ) (d new : DriverContent) (hand : 
   pub beside : (k : ℕ) → k ≢ e → out_now new k ≡ out_now d k
 
 abbrev pub HarvestedIsTold : Type 0
-HarvestedIsTold = (member : ℕ → Bool) (order : ℕ → ℕ) (d : DriverContent) (m : Mem) (parts : StructureSets) (hand : Hand) (e t : ℕ) (x : Endpoint) (y : Transfer) (found : Found)
+HarvestedIsTold = (order : ℕ → ℕ) (d : DriverContent) (m : Mem) (parts : StructureSets) (hand : Hand) (e t : ℕ) (x : Endpoint) (y : Transfer) (found : Found)
     (acc : List (List ℕ)) (reported : ℕ → List ℕ)
-    → IsReadNext d e t x y → CanBeRead member d m parts hand e t x y → ((k : ℕ) (z : Endpoint) → slice_get d.endpoints k ≡ Some z → z.gone ≡ false → z.queue ≡ x.queue → k ≡ e)
+    → IsReadNext d e t x y → CanBeRead d m parts hand e t x y → ((k : ℕ) (z : Endpoint) → slice_get d.endpoints k ≡ Some z → z.gone ≡ false → z.queue ≡ x.queue → k ≡ e)
     → found ≡ found_of d m y y.sort → ToldStands d hand parts reported → IsReported order (out_now d e) hand parts (32 * x.queue) acc (reported (32 * x.queue))
     → HarvestReports order d (after_harvest d m e t found (Some x) (Some y)) hand parts e x acc reported

@@ -14,7 +14,7 @@ use Rattle.drv_table.specs.Rows.{driver_row, after_driver_row}
 use Rattle.claims_driver.specs.LentRuns.{AreLent}
 use Rattle.claims_driver.specs.Ring.{IsSound}
 use Rattle.law_structures.specs.lent_structures.Structures.{StructureSets}
-use Rattle.law_structures.specs.lent_structures.Sound.{IsMember}
+use Rattle.law_ring.specs.QueueParts.{IsQueuePart}
 use Rattle.law_ring.specs.Hand.{Hand}
 use Rattle.claims_base.specs.Controller.{Base}
 use Rattle.law_ring.specs.Told.{Endpoint as Told}
@@ -78,7 +78,7 @@ StorePipes {W} sender = (stream : ℕ → ℕ → Bool) (packets : ℕ → ℕ �
 abbrev pub StoreReports : Type 0
 StoreReports = (acc : ℕ → List (List ℕ)) (reported : ℕ → List ℕ) (hand : Hand) (heads : ℕ → Bool) (p : DriverParts) (member streams : ℕ → Bool) (ends : ℕ → Told) (parts : StructureSets)
     (order : ℕ → ℕ → ℕ) (out : ℕ → List ℕ) (b : ℕ) (words : List ℕ) → (k : IsAtStore p.driver p.memory member streams ends parts order out b words)
-    → ((n : ℕ) → member n ≡ true → IsMember member n (parts n)) → AreReported heads order out hand parts acc reported
+    → ((n : ℕ) → member n ≡ true → IsQueuePart n (parts n)) → AreReported heads order out hand parts acc reported
     → AreReported heads order (out_then out (next_of p).driver (published_by k)) hand (parts_then (published_by k)) acc reported
 
 abbrev pub StoreStands : Type 0

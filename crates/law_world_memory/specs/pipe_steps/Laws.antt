@@ -7,7 +7,6 @@
 --                             one, an OUT one, or none
 --     OpenBeginsPipes         so it is once an endpoint was opened
 use Rattle.std.specs.Prelude.{◌≡◌, ◌≢◌, ℕ, ◌*◌, Bool, true, false, List, [], Option}
-use Rattle.law_structures.specs.lent_structures.Structures.{StructureSets}
 use Rattle.law_ring.specs.Told.{Endpoint as Told, HasToggle, HasEndpoint, SameTold}
 use Rattle.law_ring.specs.Bus.{Sender}
 use Rattle.law_ring.specs.OutBus.{Taker}

@@ -5,7 +5,7 @@
 --     ends                         the endpoints of these queue heads
 --     key_end, key_packets         the interrupt endpoint, and what its device has to send
 --     waits, takes_none            a device with an endpoint that sent nothing yet; none that takes anything
-use Rattle.std.specs.Prelude.{ℕ, ◌==◌, ◌&&◌, ◌||◌, Bool, true, false, List, [], ◌∷◌, Option, Some, None, if◌then◌else◌}
+use Rattle.std.specs.Prelude.{ℕ, ◌==◌, ◌&&◌, ◌||◌, Bool, false, List, [], ◌∷◌, Option, Some, None, if◌then◌else◌}
 use Rattle.law_ring.specs.Bus.{Sender}
 use Rattle.law_ring.specs.OutBus.{Taker}
 use Rattle.law_ring.specs.Told.{Endpoint as Told}

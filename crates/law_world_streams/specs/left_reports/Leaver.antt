@@ -1,18 +1,15 @@
 -- What a driver's report tells of an endpoint that leaves the ring (EHCI 1.0, 4.8.2 and 4.10; USB 2.0, 8.6).
 --     LeavesAreTold             the steps of its leave, up to the one that gives it back, leave what is told of each queue that has a stream
---     IsLeaver ..               endpoint e, which is x, is the next that is given back; no command is unfinished, and the walk doesn't meet its queue head
+--     IsLeaver ..               endpoint e, which is x, is the next that is given back; no command is unfinished, and no transaction of its queue head waits
+--                               for its write-back
 --     LeaverCanBeTold           then all is known of it that its line needs, if it has a stream
 --     IsToldGone ..             it was given back, and the lines of one that has a stream tell the bytes of these packets, where its cancel is told; where it had
 --                               ended by an error they tell what they told before; of a cancelled control endpoint nothing is said
 --     EndpointReleaseIsTold     so it is after the row that gives it back, and of each other queue is told what was told before
-use Rattle.std.specs.Prelude.{◌≡◌, ℕ, ◌*◌, Bool, true, false, List, slice_get, Some, None}
+use Rattle.std.specs.Prelude.{◌≡◌, ℕ, ◌*◌, true, false, List, slice_get, Some, None}
 use Rattle.std.specs.List.{concat}
-use Rattle.async_walk.specs.Walk.{Walk}
-use Rattle.async_walk.specs.Rows.{place}
-use Rattle.law_structures.specs.lent_structures.Structures.{StructureSets}
+use Rattle.law_structures.specs.lent_structures.Structures.{StructureSets, Tells}
 use Rattle.law_ring.specs.Hand.{Hand}
-use Rattle.claims_base.specs.Controller.{Base}
-use Rattle.law_ring.specs.Ring.{IsRing}
 use Rattle.claims_report.specs.Streams.{has_stream}
 use Rattle.drv_table.specs.declared.content.Endpoint.{Endpoint}
 use Rattle.drv_table.specs.DriverContent.{DriverContent}
@@ -27,7 +24,7 @@ use Rattle.law_controller.specs.controlled_streams.Reported.{IsReported}
 use Rattle.law_queues.specs.harvest_laws.Told.{ToldStands}
 use Rattle.law_queues.specs.leaving_drivers.Before.{IsAsBefore}
 use Rattle.law_queues.specs.leaving_drivers.Told.{told_to}
-use Rattle.law_queues.specs.cancelled_bytes.Cancelled.{CanBeTold}
+use Rattle.law_queues.specs.cancelled_bytes.Cancelled.{SettlesElsewhere, CanBeTold}
 use Rattle.law_world_steps.specs.endpoint_releases.Released.{without_queue, IsToLeave, endpoint_row}
 
 -- an accepted cancel, the store that unlinks, the doorbell with the readings, and the clear of Async Advance
@@ -37,20 +34,20 @@ LeavesAreTold = (d f : DriverContent) (hand : Hand) (parts : StructureSets) (rep
 -- ---- the endpoint that is given back
 
 -- nothing that was harvested is left to give back before it
-pub record IsLeaver (base : Base) (member : ℕ → Bool) (parts : StructureSets) (hand : Hand) (w : Walk) (p : Parts) (e : ℕ) (x : Endpoint) : Type 0 where
+pub record IsLeaver (parts : StructureSets) (hand : Hand) (p : Parts) (e : ℕ) (x : Endpoint) : Type 0 where
   pub idle : p.driver.command ≡ None
   pub leaves : IsToLeave p.driver e x
   pub unlinked : x.linked ≡ false
-  pub unmet : member (32 * x.queue) ≡ false
   pub owners : HasOwners p.driver
   pub turns : AsynchronousTakesTurns p.driver
   pub fed : AreFed p.driver parts
-  pub ring : IsRing base member parts hand (place w p.registers p.memory)
+  pub tells : Tells p.memory parts
+  pub settled : SettlesElsewhere hand (32 * x.queue)
 
 -- what was held back of it is known
 abbrev pub LeaverCanBeTold : Type 0
-LeaverCanBeTold = (base : Base) (member : ℕ → Bool) (parts : StructureSets) (hand : Hand) (w : Walk) (p : Parts) (e : ℕ) (x : Endpoint) (reported : ℕ → List ℕ)
-    → IsLeaver base member parts hand w p e x → has_stream x.desc.kind ≡ true → is_told x ≡ true → (k : ToldStands p.driver hand parts reported) → CanBeTold p.driver p.memory parts hand e x (k.held e)
+LeaverCanBeTold = (parts : StructureSets) (hand : Hand) (p : Parts) (e : ℕ) (x : Endpoint) (reported : ℕ → List ℕ)
+    → IsLeaver parts hand p e x → has_stream x.desc.kind ≡ true → is_told x ≡ true → (k : ToldStands p.driver hand parts reported) → CanBeTold p.driver p.memory parts hand e x (k.held e)
 
 pub record IsToldGone (d new : DriverContent) (e : ℕ) (x : Endpoint) (acc : List (List ℕ)) : Type 0 where
   pub gone : slice_get new.endpoints e ≡ Some (record x { gone = true })
@@ -60,9 +57,9 @@ pub record IsToldGone (d new : DriverContent) (e : ℕ) (x : Endpoint) (acc : Li
 
 -- the bytes that were reported of it and those that are moved but not harvested are those of the packets taken
 abbrev pub EndpointReleaseIsTold : Type 0
-EndpointReleaseIsTold = (base : Base) (member : ℕ → Bool) (order : ℕ → ℕ) (parts : StructureSets) (hand : Hand) (w : Walk) (p : Parts) (e : ℕ) (x : Endpoint) (acc : List (List ℕ))
+EndpointReleaseIsTold = (order : ℕ → ℕ) (parts : StructureSets) (hand : Hand) (p : Parts) (e : ℕ) (x : Endpoint) (acc : List (List ℕ))
     (reported : ℕ → List ℕ)
-    → IsLeaver base member parts hand w p e x → (has_stream x.desc.kind ≡ true → IsReported order (out_now p.driver e) hand parts (32 * x.queue) acc (reported (32 * x.queue)))
+    → IsLeaver parts hand p e x → (has_stream x.desc.kind ≡ true → IsReported order (out_now p.driver e) hand parts (32 * x.queue) acc (reported (32 * x.queue)))
     → ToldStands p.driver hand parts reported
     → ToldStands (after_driver_row (endpoint_row e) p).driver hand (without_queue parts (32 * x.queue)) reported
     × IsToldGone p.driver (after_driver_row (endpoint_row e) p).driver e x acc

@@ -5,10 +5,11 @@ use Rattle.qh_qtd.specs.declared.qtd.Qtd.{Qtd}
 use Rattle.qh_qtd.specs.declared.queue_head.Qh.{Qh}
 use Rattle.law_structures.specs.lent_structures.Structures.{QueueHead, Element, StructureSets}
 use Rattle.law_structures.proofs.lemmas.lent_structures.Names.{not_same, put_same}
-use Rattle.law_structures.specs.lent_structures.Sound.{buffer_name, IsWorking, IsSoundQueue, IsMember}
+use Rattle.law_structures.specs.lent_structures.Sound.{buffer_name, IsWorking, IsSoundQueue}
 use Rattle.law_structures.proofs.lemmas.lent_structures.Altering.{found_queue, found_element}
 use Rattle.law_ring.specs.Hand.{Hand}
 use Rattle.law_ring.specs.Effects.{buffer_of}
+use Rattle.law_ring.specs.QueueParts.{IsQueuePart}
 use Rattle.law_ring.specs.Told.{works_on, Told}
 use Rattle.law_ring.proofs.Growing.{works_not}
 use Rattle.law_ring.specs.Order.{IsFresh, IsOrdered, IsSorted, IsAmong, AllTold, one_out}
@@ -74,16 +75,16 @@ module _ (parts : StructureSets) (n e : ℕ) (old new : Qtd) (here : parts n e �
   works_by q false off differs = ap (λ (b : Bool). b && q.current == e) off
 
   -- the overlay doesn't work on it
-  unworked : (member : ℕ → Bool) (q : Qh) → old.token.active ≡ false → IsMember member n (parts n) → parts n n ≡ Some (QueueHead q) → works_on q e ≡ false
-  unworked member q off m head =
+  unworked : (q : Qh) → old.token.active ≡ false → IsQueuePart n (parts n) → parts n n ≡ Some (QueueHead q) → works_on q e ≡ false
+  unworked q off m head =
       works_by q q.token.active refl (λ on same.
       let is : m.queue ≡ q = found_queue (parts n n) m.queue q m.here head in
       let sound : IsSoundQueue (parts n) q = subst (IsSoundQueue (parts n)) is m.sound in
       let w : IsWorking (parts n) q = sound.work on in
       false≢true (sym off ∙ ap (λ (x : Qtd). x.token.active) (found_element (parts n e) old w.element here (ap (parts n) (sym same) ∙ w.here)) ∙ w.published))
 
-  told_new : (member : ℕ → Bool) → old.token.active ≡ false → IsFresh (now n) new → (m : IsMember member n (parts n)) → Told hand now n e []
-  told_new member off fresh m =
+  told_new : old.token.active ≡ false → IsFresh (now n) new → (m : IsQueuePart n (parts n)) → Told hand now n e []
+  told_new off fresh m =
       let bs : List ℕ = buffer_of (now n) new in
       let none : length bs - new.token.total ≡ 0 = omega (arith, fresh) in
       record {
@@ -91,16 +92,16 @@ module _ (parts : StructureSets) (n e : ℕ) (old new : Qtd) (here : parts n e �
         head = head_stays parts n e old new here n n m.queue m.here;
         qtd = new;
         here = put_same parts n e (Element new);
-        are = sym (not_worked hand n m.queue e new bs (unworked member m.queue off m m.here) ∙ ap (λ (i : ℕ). take i bs) none);
+        are = sym (not_worked hand n m.queue e new bs (unworked m.queue off m m.here) ∙ ap (λ (i : ℕ). take i bs) none);
       }
 
   all_with : (before after xs : List ℕ) → Told hand now n e [] → AllTold hand now n (before ++ after) xs → AllTold hand now n (before ++ e ∷ after) xs
   all_with [] after xs told all = one_out e after [] xs told all
   all_with (b ∷ bs) after _ told (one_out b2 bs2 x ys first rest) = one_out b (bs ++ e ∷ after) x ys first (all_with bs after ys told rest)
 
-  last_here : (member : ℕ → Bool) (order : ℕ → ℕ) (before after : List ℕ) (acc : List (List ℕ)) (reported : List ℕ) → IsSorted order (before ++ e ∷ after) → LeadsLater order e new → old.token.active ≡ false → new.token.active ≡ true → IsFresh (parts n) new → IsMember member n (parts n)
+  last_here : (order : ℕ → ℕ) (before after : List ℕ) (acc : List (List ℕ)) (reported : List ℕ) → IsSorted order (before ++ e ∷ after) → LeadsLater order e new → old.token.active ≡ false → new.token.active ≡ true → IsFresh (parts n) new → IsQueuePart n (parts n)
       → IsReported order (before ++ after) hand parts n acc reported → IsReported order (before ++ e ∷ after) hand now n acc reported
-  last_here member order before after acc reported sorted later off on fresh m k =
+  last_here order before after acc reported sorted later off on fresh m k =
       let ordered : IsOrdered order k.place n (now n) = ordered_here parts n e old new here order k.place later (λ active. fresh) k.accounts.ordered in
       let spared : AllTold hand now n (before ++ after) k.told =
       all_spared hand hand parts now n (before ++ after) k.told (same_hand hand) (spares_head parts n e old new here n)
@@ -119,7 +120,7 @@ module _ (parts : StructureSets) (n e : ℕ) (old new : Qtd) (here : parts n e �
           complete = λ a u is active.
               ⊎_elim (λ (put_there : (n ≡ n) × (a ≡ e) × (u ≡ new)). subst (λ (i : ℕ). IsAmong i (before ++ e ∷ after)) (sym put_there.1) (among_new e before after))
               (λ (was : parts n a ≡ Some (Element u)). among_with e before after a (k.accounts.complete a u was active)) (element_found parts n e old new here n a u is);
-          told = all_with before after k.told (told_new member off (fresh ∙ ap length (sym (bytes_stay parts n e old new here n (buffer_name new)))) m) spared;
+          told = all_with before after k.told (told_new off (fresh ∙ ap length (sym (bytes_stay parts n e old new here n (buffer_name new)))) m) spared;
         };
         sum = k.sum;
       }
@@ -142,12 +143,12 @@ pub out_beside : (out : ℕ → List ℕ) (n : ℕ) (now : List ℕ) (m : ℕ) �
 out_beside out n now m differs = ap (λ (b : Bool). if b then now else out m) (not_same m n differs)
 
 pub last_reports : LastStoreLeavesReports
-last_reports member streams order out hand parts acc reported n e old new s on fresh mem k m streamed =
+last_reports streams order out hand parts acc reported n e old new s on fresh mem k m streamed =
     let new_out : ℕ → List ℕ = with_out out n (out_with s) in
     ⊎_elim (λ (same : m ≡ n).
     subst (λ (i : ℕ). IsReported (order i) (new_out i) hand (stored_parts parts n e new) i (acc i) (reported i)) (sym same)
     (subst (λ (xs : List ℕ). IsReported (order n) xs hand (stored_parts parts n e new) n (acc n) (reported n)) (sym (out_here out n (out_with s)))
-    (last_here parts n e old new s.here hand member (order n) s.before s.after (acc n) (reported n) s.sorted s.later s.idle on fresh mem
+    (last_here parts n e old new s.here hand (order n) s.before s.after (acc n) (reported n) s.sorted s.later s.idle on fresh mem
     (subst (λ (xs : List ℕ). IsReported (order n) xs hand parts n (acc n) (reported n)) s.out_is (k n (ap streams (sym same) ∙ streamed))))))
     (λ (differs : m ≢ n).
     subst (λ (xs : List ℕ). IsReported (order m) xs hand (stored_parts parts n e new) m (acc m) (reported m)) (sym (out_beside out n (out_with s) m differs))

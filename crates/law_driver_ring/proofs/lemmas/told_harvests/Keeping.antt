@@ -1,33 +1,30 @@
 -- What is done stays done, and so does what is told of it.
-use Rattle.std.proofs.Common.{◌≡◌, ◌≢◌, ℕ, ◌*◌, Bool, true, false, List, Some, ap, sym, subst, ◌∙◌}
-use Rattle.std.proofs.lemmas.Bool.{false≢true}
+use Rattle.std.proofs.Common.{◌≡◌, ℕ, ◌*◌, false, List, Some, ap, sym, subst, ◌∙◌}
 use Rattle.usb_base.specs.declared.packets.Ask.{Ask}
 use Rattle.usb_base.specs.declared.packets.Reply.{Reply}
 use Rattle.qh_qtd.specs.declared.qtd.Qtd.{Qtd}
 use Rattle.law_structures.specs.lent_structures.Structures.{Element, StructureSets}
-use Rattle.law_structures.specs.lent_structures.Sound.{IsWorking, IsSoundQueue, IsMember}
-use Rattle.law_structures.proofs.lemmas.lent_structures.Altering.{found_element, found_queue}
 use Rattle.law_ring.specs.Hand.{Hand}
-use Rattle.law_ring.specs.Ring.{IsCopied, IsInHand}
 use Rattle.law_ring.specs.Told.{Told}
-use Rattle.law_ring.specs.Streams.{AreMembers, StreamEffect}
+use Rattle.law_ring.specs.Streams.{StreamEffect}
 use Rattle.law_ring.specs.Streams.StreamEffect.{same, aside, grows}
 use Rattle.law_ring.specs.Sparing.{SameHand, SparesHead, SparesElement}
 use Rattle.law_ring.proofs.SparedSparing.{spared_told}
 use Rattle.law_driver_ring.specs.told_harvests.Held.{IsDone}
+use Rattle.law_driver_ring.proofs.lemmas.told_harvests.Done.{apart_from_done}
 
-pub done_kept : {W : Type 0} {Beside : Ask → Type 0} (transacts : W → Ask → List ℕ → Reply → W → Type 0) (member : ℕ → Bool)
-    (parts : StructureSets) (hand : Hand) (reply : Reply) (wire after : W) (now : StructureSets) (later : Hand) (n b k : ℕ) (x : List ℕ)
-    → AreMembers member parts → IsInHand member parts reply hand → ((a : ℕ) (t : Qtd) → parts n a ≡ Some (Element t) → t.token.active ≡ false → now n a ≡ Some (Element t))
+pub done_kept : {W : Type 0} {Beside : Ask → Type 0} (transacts : W → Ask → List ℕ → Reply → W → Type 0)
+    (parts : StructureSets) (hand : Hand) (wire after : W) (now : StructureSets) (later : Hand) (n b k : ℕ) (x : List ℕ)
+    → ((a : ℕ) (t : Qtd) → parts n a ≡ Some (Element t) → t.token.active ≡ false → now n a ≡ Some (Element t))
     → StreamEffect Beside transacts parts hand wire after now later → IsDone hand parts n b k x → IsDone later now n b k x
-done_kept transacts member parts hand reply wire after now later n b k x members in_hand idle (same s quiet) d = record {
+done_kept transacts parts hand wire after now later n b k x idle (same s quiet) d = record {
   qtd = d.qtd;
   here = idle (32 * b) d.qtd d.here d.off;
   off = d.off;
   told = s.bytes n (32 * b) x d.told;
   count = d.count;
 }
-done_kept transacts member parts hand reply wire after now later n b k x members in_hand idle (aside s ask out answer beside made) d =
+done_kept transacts parts hand wire after now later n b k x idle (aside s ask out answer beside made) d =
     record {
       qtd = d.qtd;
       here = idle (32 * b) d.qtd d.here d.off;
@@ -35,23 +32,19 @@ done_kept transacts member parts hand reply wire after now later n b k x members
       told = s.bytes n (32 * b) x d.told;
       count = d.count;
     }
-done_kept transacts member parts hand reply wire after now later n b k x members in_hand idle (grows m all g) d = record {
+done_kept transacts parts hand wire after now later n b k x idle (grows m all g) d = record {
   qtd = d.qtd;
   here = idle (32 * b) d.qtd d.here d.off;
   off = d.off;
-  told = subst (λ (ps : StructureSets). Told later ps n (32 * b) x) (sym all) (g.other_bytes n (32 * b) x (λ both. not_current both.0 both.1) d.told);
+  told = subst (λ (ps : StructureSets). Told later ps n (32 * b) x) (sym all)
+      (g.other_bytes n (32 * b) x (λ both. not_current both.0 both.1) d.told);
   count = d.count;
 }
   where
     not_current : n ≡ m.copy.at → 32 * b ≡ m.copy.queue.current → ⊥
     not_current at current =
-        let copied : IsCopied member parts m.copy = subst (IsInHand member parts reply) m.in_hand in_hand in
-        let one : IsMember member m.copy.at (parts m.copy.at) = members m.copy.at copied.on in
-        let head = found_queue (parts m.copy.at m.copy.at) one.queue m.copy.queue one.here copied.here in
-        let sound : IsSoundQueue (parts m.copy.at) m.copy.queue = subst (IsSoundQueue (parts m.copy.at)) head one.sound in
-        let w : IsWorking (parts m.copy.at) m.copy.queue = sound.work m.works in
-        let there : parts m.copy.at m.copy.queue.current ≡ Some (Element d.qtd) = ap (λ (i : ℕ). parts i m.copy.queue.current) (sym at) ∙ ap (parts n) (sym current) ∙ d.here in
-        false≢true (sym d.off ∙ ap (λ (t : Qtd). t.token.active) (found_element (parts m.copy.at m.copy.queue.current) d.qtd w.element there w.here) ∙ w.published)
+        apart_from_done m.copy.at (parts m.copy.at) m.copy.queue (32 * b) d.qtd m.part_is m.here
+        (ap (λ (i : ℕ). parts i (32 * b)) (sym at) ∙ d.here) d.off m.works (sym current)
 
 pub done_spared : (hand later : Hand) (parts now : StructureSets) (n b k : ℕ) (x : List ℕ) → SameHand hand later → SparesHead parts now n → SparesElement parts now n (32 * b) → IsDone hand parts n b k x → IsDone later now n b k x
 done_spared hand later parts now n b k x alike head element d = record {

@@ -4,16 +4,16 @@ use Rattle.std.proofs.lemmas.Bool.{leb-false}
 use Rattle.word_mem.specs.Memory.{Mem}
 use Rattle.qh_qtd.specs.declared.token.Token.{Token}
 use Rattle.law_structures.specs.lent_structures.Structures.{StructureSets, Tells}
-use Rattle.law_structures.specs.lent_structures.Sound.{IsMember}
 use Rattle.law_ring.specs.Hand.{Hand}
 use Rattle.law_ring.specs.Effects.{buffer_of}
 use Rattle.law_ring.specs.Told.{Told}
-use Rattle.law_ring.proofs.Ordering.{done_told}
+use Rattle.law_ring.specs.QueueParts.{IsQueuePart}
 use Rattle.drv_table.specs.declared.content.QtdNote.{QtdNote}
 use Rattle.drv_table.specs.DriverContent.{no_note}
 use Rattle.drv_table.specs.Harvests.{note_at, noted, token_in, moved_of}
 use Rattle.law_driver_ring.proofs.lemmas.harvested_streams.Harvesting.{token_read}
 use Rattle.law_driver_ring.specs.told_harvests.Held.{IsDone, IsRead, NotesMoved}
+use Rattle.law_driver_ring.proofs.lemmas.told_harvests.Done.{done_in_part}
 
 moved_by : (told left : ℕ) (b : Bool) → nat_le left told ≡ b → (if b then told - left else 0) ≡ told - left
 moved_by told left true is = refl
@@ -27,9 +27,9 @@ length_of_taken zero xs within = refl
 length_of_taken (suc k) [] within = absurd (omega (arith, within))
 length_of_taken (suc k) (x ∷ xs) within = let z = length_of_taken k xs (omega (arith, within)) in omega (arith, z)
 
-pub found_done : (member : ℕ → Bool) (m : Mem) (parts : StructureSets) (hand : Hand) (n b : ℕ) (x : List ℕ) (note : QtdNote) → Tells m parts → IsMember member n (parts n) → IsRead (parts n) note b → (token_in m b).active ≡ false
+pub found_done : (m : Mem) (parts : StructureSets) (hand : Hand) (n b : ℕ) (x : List ℕ) (note : QtdNote) → Tells m parts → IsQueuePart n (parts n) → IsRead (parts n) note b → (token_in m b).active ≡ false
     → Told hand parts n (32 * b) x → IsDone hand parts n b (moved_of note.told (token_in m b).total) x
-found_done member m parts hand n b x note tells k r off told =
+found_done m parts hand n b x note tells k r off told =
     let token : token_in m b ≡ r.qtd.token = token_read m parts n b r.qtd tells r.here in
     let idle : r.qtd.token.active ≡ false = ap (λ (z : Token). z.active) (sym token) ∙ off in
     record {
@@ -37,7 +37,7 @@ found_done member m parts hand n b x note tells k r off told =
       here = r.here;
       off = idle;
       told = told;
-      count = ap length (done_told member parts hand n (32 * b) r.qtd x k r.here idle told) ∙ length_of_taken (length (buffer_of (parts n) r.qtd) - r.qtd.token.total) (buffer_of (parts n) r.qtd) (omega arith)
+      count = ap length (done_in_part parts hand n (32 * b) r.qtd x k r.here idle told) ∙ length_of_taken (length (buffer_of (parts n) r.qtd) - r.qtd.token.total) (buffer_of (parts n) r.qtd) (omega arith)
           ∙ ap (λ (i : ℕ). i - r.qtd.token.total) r.long ∙ ap (λ (z : Token). note.told - z.total) (sym token) ∙ sym (moved_is note.told (token_in m b).total);
     }
 

@@ -1,17 +1,18 @@
 -- What the report of a transfer tells: the bytes that were moved of each of its qTDs.
-use Rattle.std.proofs.Common.{◌≡◌, ℕ, zero, suc, ◌+◌, ◌-◌, ◌*◌, ◌≤◌, ◌<◌, Bool, List, [], ◌∷◌, ◌++◌, length, take, ap, refl, sym, ◌∙◌, arith}
+use Rattle.std.proofs.Common.{◌≡◌, ℕ, zero, suc, ◌+◌, ◌-◌, ◌*◌, ◌≤◌, ◌<◌, List, [], ◌∷◌, ◌++◌, length, take, ap, refl, sym, ◌∙◌, arith}
 use Rattle.std.proofs.lemmas.List.{append_assoc, append-nil, length-append, take_all, nil_from_length}
 use Rattle.word_mem.specs.Memory.{Mem}
 use Rattle.qh_qtd.specs.declared.qtd.Qtd.{Qtd}
 use Rattle.law_structures.specs.lent_structures.Structures.{StructureSets, Tells}
-use Rattle.law_structures.specs.lent_structures.Sound.{HasBuffer, IsMember}
+use Rattle.law_structures.specs.lent_structures.Sound.{HasBuffer}
 use Rattle.law_structures.proofs.lemmas.lent_structures.Altering.{found_element}
 use Rattle.law_ring.specs.Hand.{Hand}
 use Rattle.law_ring.specs.Effects.{bytes_in, buffer_of}
-use Rattle.law_ring.proofs.Ordering.{done_told}
+use Rattle.law_ring.specs.QueueParts.{IsQueuePart}
 use Rattle.drv_table.specs.declared.content.QtdNote.{QtdNote}
 use Rattle.drv_table.specs.Harvests.{note_at, buffer_bytes, moved_bytes}
 use Rattle.law_driver_ring.specs.harvested_streams.Harvested.{IsNoted}
+use Rattle.law_driver_ring.proofs.lemmas.told_harvests.Done.{done_in_part}
 use Rattle.law_driver_ring.proofs.lemmas.harvested_streams.Harvesting.{bytes_read}
 use Rattle.law_driver_ring.specs.told_harvests.Held.{IsDone, AreHeld, none_held, one_held, AreUnmoved, told_of, IsRead, AreRead}
 
@@ -31,11 +32,11 @@ take_again zero xs = refl
 take_again (suc k) [] = refl
 take_again (suc k) (x ∷ xs) = ap (λ (ys : List ℕ). x ∷ ys) (take_again k xs)
 
-module _ (member : ℕ → Bool) (m : Mem) (parts : StructureSets) (hand : Hand) (n : ℕ) (tells : Tells m parts) (at : IsMember member n (parts n)) where
+module _ (m : Mem) (parts : StructureSets) (hand : Hand) (n : ℕ) (tells : Tells m parts) (at : IsQueuePart n (parts n)) where
   -- a done qTD's bytes are the first of its buffer
   done_is : (b k : ℕ) (x : List ℕ) (note : QtdNote) → (d : IsDone hand parts n b k x) → (r : IsRead (parts n) note b) → x ≡ take (length (buffer_of (parts n) r.qtd) - r.qtd.token.total) (buffer_of (parts n) r.qtd)
   done_is b k x note d r =
-      done_told member parts hand n (32 * b) r.qtd x at r.here (ap (λ (t : Qtd). t.token.active) (found_element (parts n (32 * b)) r.qtd d.qtd r.here d.here) ∙ d.off) d.told
+      done_in_part parts hand n (32 * b) r.qtd x at r.here (ap (λ (t : Qtd). t.token.active) (found_element (parts n (32 * b)) r.qtd d.qtd r.here d.here) ∙ d.off) d.told
 
   pub done_long : (b k : ℕ) (x : List ℕ) (note : QtdNote) → IsDone hand parts n b k x → IsRead (parts n) note b → length x ≤ note.told
   done_long b k x note d r =

@@ -18,7 +18,8 @@ use Rattle.drv_table.specs.Harvests.{note_at}
 use Rattle.drv_table.specs.Offers.{is_last}
 use Rattle.claims_driver.specs.Owners.{EndpointRuns, TransferRuns, note_in}
 use Rattle.law_structures.specs.lent_structures.Structures.{Structure, QueueHead, Element, Buffer, Structures, StructureSets}
-use Rattle.law_structures.specs.lent_structures.Sound.{IsElement, LeadsOn, buffer_name, HasBuffer, IsSoundQueue, IsMember}
+use Rattle.law_structures.specs.lent_structures.Sound.{IsElement, LeadsOn, buffer_name, HasBuffer, IsSoundQueue}
+use Rattle.law_ring.specs.QueueParts.{IsQueuePart}
 use Rattle.law_structures.proofs.lemmas.lent_structures.Altering.{found_queue, found_element}
 use Rattle.law_ring.specs.Hand.{Hand}
 use Rattle.law_ring.specs.Effects.{bytes_in, buffer_of}
@@ -98,9 +99,9 @@ fresh_new slot part notes dummy (s ∷ ss) b a u noted buffered none (inl new) o
     subst (IsFresh part) (sym new.1) (sym (long_new slot part notes s b dummy (is_last ss) noted.0 buffered.0 none))
 fresh_new slot part notes dummy (s ∷ ss) b a u noted buffered none (inr new) on = fresh_new slot part notes dummy ss (note_at notes b).next a u noted.1 buffered.1 none new on
 
-ordered_on : (d : DriverContent) (m : Mem) (t : ℕ) (y : TransferRuns) (x : EndpointRuns) (s : Stage) (ss : List Stage) (slot : ℕ → Slot) (member : ℕ → Bool) (parts now : StructureSets) (order : ℕ → ℕ) (place k : ℕ) → AwaitsLend d m t y x s ss → HasPieces d slot parts now y x s ss → IsMember member (32 * x.queue) (parts (32 * x.queue)) → place ≤ k
+ordered_on : (d : DriverContent) (m : Mem) (t : ℕ) (y : TransferRuns) (x : EndpointRuns) (s : Stage) (ss : List Stage) (slot : ℕ → Slot) (parts now : StructureSets) (order : ℕ → ℕ) (place k : ℕ) → AwaitsLend d m t y x s ss → HasPieces d slot parts now y x s ss → IsQueuePart (32 * x.queue) (parts (32 * x.queue)) → place ≤ k
     → IsOrdered order place (32 * x.queue) (parts (32 * x.queue)) → IsOrdered (new_order d y ss k order) place (32 * x.queue) (now (32 * x.queue))
-ordered_on d m t y x s ss slot member parts now order place k r has on most old =
+ordered_on d m t y x s ss slot parts now order place k r has on most old =
     let n = 32 * x.queue in
     let b = second d y in
     let f = new_order d y ss k order in
@@ -235,14 +236,14 @@ old_low order part first k e u last less here =
     ⊎_elim (λ (same : e ≡ first). let g = ap order same in omega (arith, g, less)) (λ (differs : e ≢ first). let g = last e u here differs in omega (arith, g, less)) (cases_eq e first)
 
 pub lend_leaves_reports : LendLeavesReports
-lend_leaves_reports d m t y x s ss slot member parts now order out hand acc reported k r has on last less old most =
+lend_leaves_reports d m t y x s ss slot parts now order out hand acc reported k r has on last less old most =
     let n = 32 * x.queue in
     let b = second d y in
     let f = new_order d y ss k order in
     let new = new_out d y ss in
     let a = old.accounts in
     let are = numbers d m t y x s ss k order r in
-    let ordered = ordered_on d m t y x s ss slot member parts now order old.place k r has on most a.ordered in
+    let ordered = ordered_on d m t y x s ss slot parts now order old.place k r has on most a.ordered in
     let same : (e : ℕ) → IsAmong e out → f e ≡ order e = λ e among. let z = all_there hand parts n out old.told e a.told among in old_number d y x s ss slot parts now k order e (Element z.qtd) has z.here in
     record {
       place = old.place;

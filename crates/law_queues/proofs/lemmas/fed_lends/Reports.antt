@@ -12,7 +12,7 @@ use Rattle.drv_table.specs.DriverContent.{DriverContent}
 use Rattle.drv_table.specs.Words.{dummy_qtd}
 use Rattle.claims_driver.specs.Owners.{EndpointRuns, TransferRuns}
 use Rattle.law_structures.specs.lent_structures.Structures.{Element, Structures, StructureSets}
-use Rattle.law_structures.specs.lent_structures.Sound.{IsMember}
+use Rattle.law_ring.specs.QueueParts.{IsQueuePart}
 use Rattle.law_ring.specs.Hand.{Hand}
 use Rattle.law_ring.specs.Order.{IsOrdered, AreAfter, IsSorted, IsAmong}
 use Rattle.law_ring.proofs.SparedSparing.{spared_accounts}
@@ -99,10 +99,10 @@ first_last {b = b} {words = words} {parts = parts} {order = order} o =
 abbrev pub IsReportedBelow : (ℕ → ℕ) → List ℕ → Hand → StructureSets → ℕ → List (List ℕ) → List ℕ → ℕ → Type 0
 IsReportedBelow order out hand parts n acc reported from = (r : IsReported order out hand parts n acc reported) × (r.place ≤ from)
 
-pub all_reported : {d : DriverContent} {m : Mem} {b : ℕ} {words : List ℕ} {parts now : StructureSets} {order : ℕ → ℕ → ℕ} {out : ℕ → List ℕ} (member heads : ℕ → Bool) (hand : Hand) (acc : ℕ → List (List ℕ)) (reported : ℕ → List ℕ) → (o : IsOrdering d m b words parts now order out) → IsMember member (queue_of o.lending.ready) (parts (queue_of o.lending.ready))
+pub all_reported : {d : DriverContent} {m : Mem} {b : ℕ} {words : List ℕ} {parts now : StructureSets} {order : ℕ → ℕ → ℕ} {out : ℕ → List ℕ} (heads : ℕ → Bool) (hand : Hand) (acc : ℕ → List (List ℕ)) (reported : ℕ → List ℕ) → (o : IsOrdering d m b words parts now order out) → IsQueuePart (queue_of o.lending.ready) (parts (queue_of o.lending.ready))
     → (heads (queue_of o.lending.ready) ≡ true → IsReportedBelow (order (queue_of o.lending.ready)) (out (queue_of o.lending.ready)) hand parts (queue_of o.lending.ready) (acc (queue_of o.lending.ready)) (reported (queue_of o.lending.ready)) o.from)
     → AreReported heads order out hand parts acc reported → AreReported heads (order_lent o.lending.ready o.from order) (out_lent o.lending.ready out) hand now acc reported
-all_reported {d = d} {m = m} {parts = parts} {now = now} {order = order} {out = out} member heads hand acc reported o on its others i counted =
+all_reported {d = d} {m = m} {parts = parts} {now = now} {order = order} {out = out} heads hand acc reported o on its others i counted =
     let l = o.lending in
     let k = l.ready in
     let n = 32 * k.endpoint.queue in
@@ -116,7 +116,7 @@ all_reported {d = d} {m = m} {parts = parts} {now = now} {order = order} {out = 
     subst (λ (j : ℕ). IsReported (order_lent k from order j) (out_lent k out j) hand now j (acc j) (reported j)) (sym same)
     (subst (λ (g : ℕ → ℕ). IsReported g (out_lent k out n) hand now n (acc n) (reported n)) (sym (at_here order n f))
     (subst (λ (es : List ℕ). IsReported f es hand now n (acc n) (reported n)) (sym (at_here out n more))
-    (lend_leaves_reports d m k.number (y_of k) (x_of k) k.stage k.further slot member parts now (order n) (out n) hand (acc n) (reported n) from k.awaits l.pieces on (first_last o) o.above mine.0 mine.1))))
+    (lend_leaves_reports d m k.number (y_of k) (x_of k) k.stage k.further slot parts now (order n) (out n) hand (acc n) (reported n) from k.awaits l.pieces on (first_last o) o.above mine.0 mine.1))))
     (λ (differs : i ≢ n).
     subst (λ (g : ℕ → ℕ). IsReported g (out_lent k out i) hand now i (acc i) (reported i)) (sym (at_else order n f i differs))
     (subst (λ (es : List ℕ). IsReported (order i) es hand now i (acc i) (reported i)) (sym (at_else out n more i differs))

@@ -33,6 +33,7 @@ use Rattle.law_queues.specs.fed_lends.ToLend.{IsToBeLent, lent_now}
 use Rattle.law_queues.specs.fed_lends.LendLaws.{GoesOnLent, LendRowGoesOn}
 use Rattle.law_queues.proofs.lemmas.fed_lends.Stages.{data_by}
 use Rattle.law_queues.proofs.lemmas.fed_lends.Piping.{lend_leaves_pipes}
+use Rattle.law_ring.proofs.QueueParts.{member_part}
 use Rattle.law_queues.proofs.lemmas.fed_lends.Names.{names_lent}
 use Rattle.law_queues.proofs.lemmas.fed_lends.Fed.{y_of, x_of, IsLending, queues_fed}
 use Rattle.law_queues.proofs.lemmas.fed_lends.Reports.{IsOrdering, it_is_met, order_lent, out_lent, all_reported, place_by, reported_below, sorted_by, all_out, all_last}
@@ -134,7 +135,7 @@ lend_row_goes_on sender base stream packets member streams heads ends acc report
       out = out_lent k out;
       drives = subst (DrivesRing base member now hand (place w p.registers (lent_memory d m))) (advance_is d m b words k) both.0;
       piped = lend_leaves_pipes sender d m k.number y x k.stage k.further (slot_of (lent_driver d m).book.slots) parts now stream packets member streams ends acc hand wire k.awaits both.1 (its_asks stream only k have apart) piped;
-      reports = all_reported member heads hand acc reported o (drives.ring.members n on) (reported_below reports n (heads n) refl from (omega arith)) reports;
+      reports = all_reported heads hand acc reported o (member_part member n (parts n) (drives.ring.members n on)) (reported_below reports n (heads n) refl from (omega arith)) reports;
       fed = queues_fed d m b words parts now l;
       last = all_last o;
       still_out = all_out o;

@@ -68,7 +68,7 @@ not_found false i is = refl
 is_less : (a b : ℕ) → a < b → nat_lt a b ≡ true
 is_less a b less = grind arith
 
-none_passes : (p : Endpoint → Bool) (xs : List Endpoint) → position p xs ≡ None → (k : ℕ) (y : Endpoint) → slice_get xs k ≡ Some y → p y ≡ false
+pub none_passes : (p : Endpoint → Bool) (xs : List Endpoint) → position p xs ≡ None → (k : ℕ) (y : Endpoint) → slice_get xs k ≡ Some y → p y ≡ false
 none_passes p xs none k y here = by_pass (p y) refl
   where
     by_pass : (b : Bool) → p y ≡ b → b ≡ false
@@ -78,7 +78,7 @@ none_passes p xs none k y here = by_pass (p y) refl
 
 -- ---- what is told depends on the endpoints that there are
 
-tells_like : (reports : List Report) (store : List ℕ) (named : ℕ → Option Named) (held later told now : ℕ → List ℕ) → ((e : ℕ) (x : Named) → named e ≡ Some x → (later e ≡ held e) × (now e ≡ told e)) → TellsEach reports store named held told
+pub tells_like : (reports : List Report) (store : List ℕ) (named : ℕ → Option Named) (held later told now : ℕ → List ℕ) → ((e : ℕ) (x : Named) → named e ≡ Some x → (later e ≡ held e) × (now e ≡ told e)) → TellsEach reports store named held told
     → TellsEach reports store named later now
 tells_like reports store named held later told now same k = record {
   stored = k.stored;
@@ -88,7 +88,7 @@ tells_like reports store named held later told now same k = record {
   apart = k.apart;
 }
 
-named_there : (xs : List Endpoint) (e : ℕ) (x : Named) → named_in xs e ≡ Some x → (y : Endpoint) × (slice_get xs e ≡ Some y) × (named_of y ≡ x)
+pub named_there : (xs : List Endpoint) (e : ℕ) (x : Named) → named_in xs e ≡ Some x → (y : Endpoint) × (slice_get xs e ≡ Some y) × (named_of y ≡ x)
 named_there xs e x is = by_end (slice_get xs e) refl is
   where
     by_end : (o : Option Endpoint) → slice_get xs e ≡ o → option_map named_of o ≡ Some x → (y : Endpoint) × (slice_get xs e ≡ Some y) × (named_of y ≡ x)

@@ -4,7 +4,7 @@ use Rattle.std.proofs.lemmas.Bool.{false≢true, eqb-true}
 use Rattle.std.proofs.lemmas.Option.{same_Some}
 use Rattle.mem_runs.specs.Book.{slot_of}
 use Rattle.law_structures.specs.lent_structures.Structures.{Structures, StructureSets, Tells}
-use Rattle.law_structures.specs.lent_structures.Sound.{IsMember}
+use Rattle.law_ring.specs.QueueParts.{IsQueuePart}
 use Rattle.law_ring.specs.Hand.{Hand}
 use Rattle.law_ring.specs.Told.{Told}
 use Rattle.usb_base.specs.declared.packets.EpKind.{EpKind}
@@ -178,14 +178,14 @@ pub after_is : (p : Parts) (e t : ℕ) (found : Found) (due : IsHarvestDue p e t
 after_is p e t found due =
     ap (λ (o : Option Endpoint). after_harvest p.driver p.memory e t found o (slice_get p.driver.transfers t)) due.here ∙ ap (after_harvest p.driver p.memory e t found (Some due.endpoint)) due.there
 
-pub row_told : (member : ℕ → Bool) (order : ℕ → ℕ) (p : Parts) (parts : StructureSets) (hand : Hand) (e t : ℕ) (found : Found) (acc : List (List ℕ)) (reported : ℕ → List ℕ) → (due : IsHarvestDue p e t found) → found ≢ founds.Active
-    → HasOwners p.driver → AsynchronousTakesTurns p.driver → due.endpoint.desc.kind ≡ kinds.Bulk → AreFed p.driver parts → Tells p.memory parts → IsMember member (32 * due.endpoint.queue) (parts (32 * due.endpoint.queue))
+pub row_told : (order : ℕ → ℕ) (p : Parts) (parts : StructureSets) (hand : Hand) (e t : ℕ) (found : Found) (acc : List (List ℕ)) (reported : ℕ → List ℕ) → (due : IsHarvestDue p e t found) → found ≢ founds.Active
+    → HasOwners p.driver → AsynchronousTakesTurns p.driver → due.endpoint.desc.kind ≡ kinds.Bulk → AreFed p.driver parts → Tells p.memory parts → IsQueuePart (32 * due.endpoint.queue) (parts (32 * due.endpoint.queue))
     → ((a : ℕ) (z : List ℕ) → IsOutEarlier (note_in p.driver.notes) e t p.driver.transfers a → Told hand parts (32 * due.endpoint.queue) a z → z ≡ [])
     → ToldStands p.driver hand parts reported → IsReported order (out_now p.driver e) hand parts (32 * due.endpoint.queue) acc (reported (32 * due.endpoint.queue))
     → HarvestReports order p.driver (after_driver_row (rows.Harvest e t found) p).driver hand parts e due.endpoint acc reported
-row_told member order p parts hand e t found acc reported due differs owners turns bulk fed tells on none told r =
+row_told order p parts hand e t found acc reported due differs owners turns bulk fed tells on none told r =
     subst (λ (d : DriverContent). HarvestReports order p.driver d hand parts e due.endpoint acc reported) (sym (after_is p e t found due))
-    (harvested_told member order p.driver p.memory parts hand e t due.endpoint due.transfer found acc reported (read_next p e t found due owners turns)
+    (harvested_told order p.driver p.memory parts hand e t due.endpoint due.transfer found acc reported (read_next p e t found due owners turns)
     (record {
       bulk = bulk;
       queued = its_sort p e t found due owners turns;

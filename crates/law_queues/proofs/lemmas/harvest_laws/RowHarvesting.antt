@@ -56,10 +56,10 @@ out_new d new k ts none command notes transfers =
 
 -- ---- the harvest
 
-pub harvest_is_told : (member : ℕ → Bool) (order : ℕ → ℕ) (place : ℕ) (d : DriverContent) (m : Mem) (parts : StructureSets) (hand : Hand) (e t : ℕ) (x : Endpoint) (y : Transfer) (xs : List ℕ) (held told : ℕ → List ℕ) (found : Found)
-    → IsReadNext d e t x y → CanBeRead member d m parts hand e t x y → HoldsEach d hand parts held → TellsEach d.reports d.store (named_in d.endpoints) held told
+pub harvest_is_told : (order : ℕ → ℕ) (place : ℕ) (d : DriverContent) (m : Mem) (parts : StructureSets) (hand : Hand) (e t : ℕ) (x : Endpoint) (y : Transfer) (xs : List ℕ) (held told : ℕ → List ℕ) (found : Found)
+    → IsReadNext d e t x y → CanBeRead d m parts hand e t x y → HoldsEach d hand parts held → TellsEach d.reports d.store (named_in d.endpoints) held told
     → Accounts order place (out_now d e) hand parts (32 * x.queue) xs → found ≡ found_of d m y y.sort → HarvestGoesOn order place d (after_harvest d m e t found (Some x) (Some y)) hand parts e t x y xs held told
-harvest_is_told member order place d m parts hand e t x y xs held told found n c holds tells acc is = record {
+harvest_is_told order place d m parts hand e t x y xs held told found n c holds tells acc is = record {
   bytes = hf.bytes;
   others = hf.others;
   sum = hf.sum;
@@ -111,11 +111,11 @@ harvest_is_told member order place d m parts hand e t x y xs held told found n c
         first_harvested order place (32 * y.place) s.passed (pieces_from (note_in d.notes) (note_at d.notes y.place).next (y.left - 1) ++ s.rest) hand parts (32 * x.queue) xs reads.qtd reads.here
         (ap (λ (z : Token). z.active) (sym (token_read m parts (32 * x.queue) y.place reads.qtd c.tells reads.here)) ∙ c.off) (λ p z among of_it. c.none p z (s.earlier p among) of_it) split
 
-    f : IsFoundDone member d m parts hand x y hf.bytes
+    f : IsFoundDone d m parts hand x y hf.bytes
     f = record { bulk = c.bulk; queued = c.queued; kept = n.kept; tells = c.tells; on = c.on; read = c.read; off = c.off; told = hf.told }
 
     ht : HarvestTells d (after_harvest d m e t found (Some x) (Some y)) hand parts e t y hf.bytes held told
-    ht = harvest_tells member d m parts hand e t x y h hf.bytes f held told holds tells found is
+    ht = harvest_tells d m parts hand e t x y h hf.bytes f held told holds tells found is
 
 -- ---- one that isn't done
 

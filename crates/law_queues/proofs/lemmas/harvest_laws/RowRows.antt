@@ -96,7 +96,7 @@ names_at xs e x w here = record {
 
 -- ---- the row
 
-module _ (member : ℕ → Bool) (d : DriverContent) (m : Mem) (parts : StructureSets) (hand : Hand) (e t : ℕ) (x : Endpoint) (y : Transfer) (h : Harvests d e t x y) (bytes : List ℕ) (f : IsFoundDone member d m parts hand x y bytes) (held told : ℕ → List ℕ) (holds : HoldsEach d hand parts held) (tells : TellsEach d.reports d.store (named_in d.endpoints) held told) where
+module _ (d : DriverContent) (m : Mem) (parts : StructureSets) (hand : Hand) (e t : ℕ) (x : Endpoint) (y : Transfer) (h : Harvests d e t x y) (bytes : List ℕ) (f : IsFoundDone d m parts hand x y bytes) (held told : ℕ → List ℕ) (holds : HoldsEach d hand parts held) (tells : TellsEach d.reports d.store (named_in d.endpoints) held told) where
   abbrev count : ℕ
   count = moved_of (note_at d.notes y.place).told (token_in m y.place).total
 
@@ -113,7 +113,7 @@ module _ (member : ℕ → Bool) (d : DriverContent) (m : Mem) (parts : Structur
       subst (λ (b : ℕ). IsRead (parts (32 * x.queue)) (note_at d.notes b) b) (sym at.place) (read_at (parts (32 * x.queue)) d.notes y.first (y.qtds - y.left) y.qtds (omega (arith, some, most)) f.read)
 
   it_done : IsDone hand parts (32 * x.queue) y.place count bytes
-  it_done = found_done member m parts hand (32 * x.queue) y.place bytes (note_at d.notes y.place) f.tells f.on it_reads f.off f.told
+  it_done = found_done m parts hand (32 * x.queue) y.place bytes (note_at d.notes y.place) f.tells f.on it_reads f.off f.told
 
   it_noted : NotesMoved (note_at d.notes) (note_at notes_now) y.place count
   it_noted = is_noted d.notes y.place (token_in m y.place).total
@@ -147,7 +147,7 @@ module _ (member : ℕ → Bool) (d : DriverContent) (m : Mem) (parts : Structur
   report_is =
       let some = h.some in
       let most = h.most in
-      report_read member m parts hand (32 * x.queue) f.tells f.on notes_now y.first (suc (y.qtds - y.left)) (note_at d.notes y.place).next (y.left - 1) y.qtds y.most (held e ++ bytes) (omega (arith, some, most))
+      report_read m parts hand (32 * x.queue) f.tells f.on notes_now y.first (suc (y.qtds - y.left)) (note_at d.notes y.place).next (y.left - 1) y.qtds y.most (held e ++ bytes) (omega (arith, some, most))
       (done_more d e t x y h count bytes hand parts held holds it_done notes_now it_noted)
       (read_fewer (parts (32 * x.queue)) (note_at notes_now) y.first (suc (y.qtds - y.left)) y.qtds (omega (arith, some, most)) (read_noted (parts (32 * x.queue)) (note_at d.notes) (note_at notes_now) y.place count it_noted y.first y.qtds f.read))
       (rest_less d e t x y h count bytes hand parts held holds it_done notes_now it_noted)

@@ -7,8 +7,7 @@ use Rattle.usb_base.specs.declared.reports.Report.{Report}
 use Rattle.law_structures.specs.lent_structures.Structures.{StructureSets}
 use Rattle.law_ring.specs.Hand.{Hand}
 use Rattle.claims_base.specs.Controller.{Base}
-use Rattle.law_ring.specs.Ring.{IsRing}
-use Rattle.hc_core.specs.Controller.{Content, walk_place}
+use Rattle.hc_core.specs.Controller.{Content}
 use Rattle.law_controller.specs.controlled_streams.Control.{IsControlled, ControlEffect, a_microframe, a_step}
 use Rattle.law_ring.specs.Sparing.{SameHand}
 use Rattle.claims_report.specs.Reports.{is_refusal}
@@ -74,10 +73,9 @@ module _ {W : Type 0} (begins : W → ℕ → Bool → W → Type 0) (transacts 
   beside_told controlled (a_microframe b) keeps k =
       subst (λ (h : Hand). ToldStands d h now reported) (sym b.hand_stays) (subst (λ (ps : StructureSets). ToldStands d hand ps reported) (sym b.parts_stay) k)
   beside_told controlled (a_step s) keeps k =
-      let ring : IsRing base member parts hand (walk_place c) = controlled.ring in
       still_told d hand later parts now reported
       (λ e t x y a i z is on one done.
-      done_kept transacts member parts hand (walk_place c).walk.reply wire after now later (32 * x.queue) a i z ring.members ring.in_hand (λ b t there off. (keeps (32 * x.queue)).idle b t there off) s.streams done) k
+      done_kept transacts parts hand wire after now later (32 * x.queue) a i z (λ b t there off. (keeps (32 * x.queue)).idle b t there off) s.streams done) k
 
 -- ---- content
 

@@ -1,5 +1,5 @@
 -- What is told of each queue after a harvest.
-use Rattle.std.proofs.Common.{◌≡◌, ◌≢◌, ℕ, ◌*◌, Bool, if◌then◌else◌, ◌==◌, List, ◌++◌, slice_get, Some, None, ap, sym, ◌∙◌, ⊎_elim, arith, false}
+use Rattle.std.proofs.Common.{◌≡◌, ◌≢◌, ℕ, ◌*◌, if◌then◌else◌, ◌==◌, List, ◌++◌, slice_get, Some, None, ap, sym, ◌∙◌, ⊎_elim, arith, false}
 use Rattle.std.proofs.lemmas.Bool.{cases_eq}
 use Rattle.std.proofs.lemmas.Option.{same_Some}
 use Rattle.std.proofs.lemmas.List.{append_assoc}
@@ -22,11 +22,11 @@ use Rattle.law_queues.specs.harvest_laws.Told.{ToldStands}
 use Rattle.law_queues.specs.harvest_laws.ToldLaws.{HarvestReports}
 use Rattle.law_driver_ring.specs.fed_queues.Places.{IsThere}
 
-pub harvested_told : (member : ℕ → Bool) (order : ℕ → ℕ) (d : DriverContent) (m : Mem) (parts : StructureSets) (hand : Hand) (e t : ℕ) (x : Endpoint) (y : Transfer) (found : Found) (acc : List (List ℕ)) (reported : ℕ → List ℕ)
-    → IsReadNext d e t x y → CanBeRead member d m parts hand e t x y → ((k : ℕ) (z : Endpoint) → slice_get d.endpoints k ≡ Some z → z.gone ≡ false → z.queue ≡ x.queue → k ≡ e)
+pub harvested_told : (order : ℕ → ℕ) (d : DriverContent) (m : Mem) (parts : StructureSets) (hand : Hand) (e t : ℕ) (x : Endpoint) (y : Transfer) (found : Found) (acc : List (List ℕ)) (reported : ℕ → List ℕ)
+    → IsReadNext d e t x y → CanBeRead d m parts hand e t x y → ((k : ℕ) (z : Endpoint) → slice_get d.endpoints k ≡ Some z → z.gone ≡ false → z.queue ≡ x.queue → k ≡ e)
     → found ≡ found_of d m y y.sort → ToldStands d hand parts reported → IsReported order (out_now d e) hand parts (32 * x.queue) acc (reported (32 * x.queue))
     → HarvestReports order d (after_harvest d m e t found (Some x) (Some y)) hand parts e x acc reported
-harvested_told member order d m parts hand e t x y found acc reported n c alone is k r = record {
+harvested_told order d m parts hand e t x y found acc reported n c alone is k r = record {
   bytes = h.bytes;
   stands = λ now here beside. record {
     held = h.tells.later;
@@ -55,7 +55,7 @@ harvested_told member order d m parts hand e t x y found acc reported n c alone 
 }
   where
     h : HarvestGoesOn order r.place d (after_harvest d m e t found (Some x) (Some y)) hand parts e t x y r.told k.held k.told
-    h = harvest_is_told member order r.place d m parts hand e t x y r.told k.held k.told found n c k.holds k.tells r.accounts is
+    h = harvest_is_told order r.place d m parts hand e t x y r.told k.held k.told found n c k.holds k.tells r.accounts is
 
     told_now : ℕ → List ℕ
     told_now f = if f == e then k.told f ++ h.bytes else k.told f

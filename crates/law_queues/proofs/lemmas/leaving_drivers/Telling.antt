@@ -62,7 +62,7 @@ line_not : (name : EpName) (line : Report) → is_same_name line.name name ≡ f
 line_not name line other = ap (λ (b : Bool). b && not (is_refusal line.what)) other
 
 -- lines of another endpoint
-lines_not : (name other : EpName) (reports lines : List Report) → AllByRecursion (λ (line : Report). line.name ≡ other) lines → is_same_name other name ≡ false → lines_in name (reports ++ lines) ≡ lines_in name reports
+pub lines_not : (name other : EpName) (reports lines : List Report) → AllByRecursion (λ (line : Report). line.name ≡ other) lines → is_same_name other name ≡ false → lines_in name (reports ++ lines) ≡ lines_in name reports
 lines_not name other reports [] named differs = ap (lines_in name) (append-nil reports)
 lines_not name other reports (line ∷ rest) named differs =
     ap (lines_in name) (sym (append_assoc reports (line ∷ []) rest))

@@ -11,6 +11,7 @@ use Rattle.law_structures.specs.lent_structures.Structures.{Element, StructureSe
 use Rattle.law_ring.specs.Bus.{Sender}
 use Rattle.law_ring.specs.Order.{IsSorted}
 use Rattle.law_ring.specs.Told.{Endpoint}
+use Rattle.law_ring.proofs.QueueParts.{member_part}
 use Rattle.law_driver.specs.chained_transfers.Asynchronous.{OnlyAsynchronous}
 use Rattle.law_driver.specs.chained_transfers.Turns.{AreInTurn}
 use Rattle.law_driver_ring.specs.Driven.{DrivesRing}
@@ -174,7 +175,7 @@ lend_row_leaves_fronts sender base stream packets member streams heads ends acc 
       out = out_lent k out;
       drives = subst (DrivesRing base member now hand (place w p.registers (lent_memory d m))) (advance_is d m b words k) ring;
       piped = lend_leaves_pipes sender d m k.number (y_of k) (x_of k) k.stage k.further (slot_of (lent_driver d m).book.slots) parts now stream packets member streams ends acc hand wire k.awaits o.lending.pieces (its_asks stream only k queues.streams_are apart) piped;
-      reports = all_reported member heads hand acc reported o on (reported_below reports n (heads n) refl o.from (let e : least ≤ o.from = omega arith in e)) reports;
+      reports = all_reported heads hand acc reported o (member_part member n (parts n) on) (reported_below reports n (heads n) refl o.from (let e : least ≤ o.from = omega arith in e)) reports;
       queues = s.queues;
       fronts = s.fronts;
       runs = s.runs;

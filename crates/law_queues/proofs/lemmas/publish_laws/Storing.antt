@@ -16,7 +16,7 @@ use Rattle.async_walk.specs.Walk.{Walk}
 use Rattle.law_ring.specs.Pipes.{ArePiped}
 use Rattle.claims_driver.specs.Owners.{Dummy, Element as PieceOf, NoteRuns, IsPlaced, runs_of_transfer, note_in}
 use Rattle.law_structures.specs.lent_structures.Structures.{Element, StructureSets}
-use Rattle.law_structures.specs.lent_structures.Sound.{IsMember}
+use Rattle.law_ring.specs.QueueParts.{IsQueuePart}
 use Rattle.law_ring.specs.Hand.{Hand}
 use Rattle.claims_base.specs.Controller.{Base}
 use Rattle.law_ring.specs.Told.{Endpoint as Told}
@@ -319,7 +319,7 @@ module _ (p : DriverParts) (member streams : ℕ → Bool) (ends : ℕ → Told)
     later = partly_later (order n) (32 * b) g.qtd (suc i) links;
   }
 
-  module _ (hand : Hand) (heads : ℕ → Bool) (acc : ℕ → List (List ℕ)) (reported : ℕ → List ℕ) (members : (m : ℕ) → member m ≡ true → IsMember member m (parts m)) (right : AreReported heads order out hand parts acc reported) where
+  module _ (hand : Hand) (heads : ℕ → Bool) (acc : ℕ → List (List ℕ)) (reported : ℕ → List ℕ) (members : (m : ℕ) → member m ≡ true → IsQueuePart m (parts m)) (right : AreReported heads order out hand parts acc reported) where
     out_stays : (m : ℕ) → with_out out n (out_now (more d parts b words g i here k.fed) y.endpoint) m ≡ out m
     out_stays m =
         ⊎_elim (λ (same : m ≡ n).
@@ -339,7 +339,7 @@ module _ (p : DriverParts) (member streams : ℕ → Bool) (ends : ℕ → Told)
     unfolding split store
     reports_done eighth =
         subst (λ (xs : List ℕ). AreReported heads order (with_out out n xs) hand now acc reported) (sym split.all)
-        (last_reports member heads order out hand parts acc reported n (32 * b) (partly g.qtd i) (partly g.qtd (suc i)) store (ap (λ (j : ℕ). (partly g.qtd j).token.active) eighth ∙ g.active) (fresh_last eighth)
+        (last_reports heads order out hand parts acc reported n (32 * b) (partly g.qtd i) (partly g.qtd (suc i)) store (ap (λ (j : ℕ). (partly g.qtd j).token.active) eighth ∙ g.active) (fresh_last eighth)
         (members n (k.met.each y.endpoint g.endpoint g.here met_now)) right)
 
     pub reports_by : AreReported heads order (out_then out (next_of p).driver g) hand (parts_then g) acc reported

@@ -54,9 +54,10 @@ refusal_added reports store named held told line refusal from none k =
 
 -- ---- one more endpoint
 
-pub endpoint_added : (reports : List Report) (store : List ℕ) (named now : ℕ → Option Named) (held told : ℕ → List ℕ) (e : ℕ) (x : Named) → named e ≡ None → NamesAt e x named now → x.ended ≡ None
-    → ((k : ℕ) (y : Named) → named k ≡ Some y → is_same_name y.name x.name ≡ false) → held e ≡ [] → told e ≡ [] → TellsEach reports store named held told → TellsEach reports store now held told
-endpoint_added reports store named now held told e x new at still others none nothing k = record {
+pub endpoint_more : (reports : List Report) (store : List ℕ) (named now : ℕ → Option Named) (held told : ℕ → List ℕ) (e : ℕ) (x : Named)
+    → named e ≡ None → NamesAt e x named now → ((k : ℕ) (y : Named) → named k ≡ Some y → is_same_name y.name x.name ≡ false)
+    → held e ≡ [] → told e ≡ [] → TellsEach reports store named held told → TellsEach reports store now held told
+endpoint_more reports store named now held told e x new at others none nothing k = record {
   stored = k.stored;
   each = λ i y there on.
       ⊎_elim (λ (is : i ≡ e).
@@ -65,7 +66,7 @@ endpoint_added reports store named now held told e x new at still others none no
       (record {
         sum = ap (λ (lines : List Report). told_in store lines ++ held i) no_lines ∙ ap held is ∙ none ∙ sym nothing ∙ ap told (sym is);
         going = λ going. ap has_end no_lines;
-        over = λ cause ended. absurd (no_end cause (sym still ∙ ended));
+        over = λ cause ended. (ap held is ∙ none, ap ends_once no_lines);
       }))
       (λ (differs : i ≢ e). k.each i y (sym (at.beside i differs) ∙ there) on) (cases_eq i e);
   only = λ name unlike. k.only name (λ i y there. unlike i y (at.beside i (λ is. absent i y is there) ∙ there));
@@ -87,14 +88,17 @@ endpoint_added reports store named now held told e x new at still others none no
     no_lines : lines_in x.name reports ≡ []
     no_lines = k.only x.name others
 
-    no_end : (cause : EndCause) → None ≡ Some cause → ⊥
-    no_end cause e = cc
-
     absent : (i : ℕ) (y : Named) → i ≡ e → named i ≡ Some y → ⊥
     absent i y is there = no_name (sym new ∙ ap named (sym is) ∙ there)
       where
         no_name : None ≡ Some y → ⊥
         no_name z = cc
+
+-- .. that goes on
+pub endpoint_added : (reports : List Report) (store : List ℕ) (named now : ℕ → Option Named) (held told : ℕ → List ℕ) (e : ℕ) (x : Named) → named e ≡ None → NamesAt e x named now → x.ended ≡ None
+    → ((k : ℕ) (y : Named) → named k ≡ Some y → is_same_name y.name x.name ≡ false) → held e ≡ [] → told e ≡ [] → TellsEach reports store named held told → TellsEach reports store now held told
+endpoint_added reports store named now held told e x new at still others none nothing k =
+    endpoint_more reports store named now held told e x new at others none nothing k
 
 -- ---- more bytes are held back
 
@@ -130,7 +134,7 @@ record WasNamed (named : ℕ → Option Named) (i : ℕ) (u : Named) : Type 0 wh
   was : named i ≡ Some named_before
   same : named_before.name ≡ u.name
 
-line_by : (name : EpName) (line : Report) (a : Bool) → is_same_name line.name name ≡ a → is_refusal line.what ≡ false → is_line_of name line ≡ a
+pub line_by : (name : EpName) (line : Report) (a : Bool) → is_same_name line.name name ≡ a → is_refusal line.what ≡ false → is_line_of name line ≡ a
 line_by name line a is tells = ap (λ (b : Bool). b && not (is_refusal line.what)) is ∙ ap (λ (b : Bool). a && not b) tells ∙ and_true a
   where
     and_true : (b : Bool) → (b && true) ≡ b
@@ -142,7 +146,7 @@ not_same a b true is never = absurd (never is)
 not_same a b false is never = refl
 
 -- what it leaves of the others
-line_placed : (reports : List Report) (store bytes : List ℕ) (named after : ℕ → Option Named) (held later told now : ℕ → List ℕ) (e : ℕ) (x y : Named) (line : Report) → named e ≡ Some x → NamesAt e y named after
+pub line_placed : (reports : List Report) (store bytes : List ℕ) (named after : ℕ → Option Named) (held later told now : ℕ → List ℕ) (e : ℕ) (x y : Named) (line : Report) → named e ≡ Some x → NamesAt e y named after
     → y.name ≡ x.name → line.name ≡ x.name → is_refusal line.what ≡ false → line.from ≡ length store → line.len ≡ length bytes → ((i : ℕ) → i ≢ e → later i ≡ held i) → ((i : ℕ) → i ≢ e → now i ≡ told i)
     → (y.stream ≡ true → IsToldTo (reports ++ line ∷ []) (store ++ bytes) y (later e) (now e)) → TellsEach reports store named held told → TellsEach (reports ++ line ∷ []) (store ++ bytes) after later now
 line_placed reports store bytes named after held later told now e x y line there at name line_name tells from len held_beside told_beside told_here k = record {

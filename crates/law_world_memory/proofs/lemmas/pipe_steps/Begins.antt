@@ -1,6 +1,5 @@
 -- The structures of an endpoint that is being opened are lent: no queue head that is met has them.
-use Rattle.std.proofs.Common.{◌≡◌, ◌≢◌, ℕ, ◌*◌, Bool, true, false, List, slice_get, Option, Some, ap, refl, sym, subst, ◌∙◌, ⊎_elim, inl}
-use Rattle.drv_table.specs.declared.content.Command.{Command}
+use Rattle.std.proofs.Common.{◌≡◌, ◌≢◌, ℕ, ◌*◌, Bool, true, slice_get, Some, ap, sym, ◌∙◌, ⊎_elim, inl}
 use Rattle.drv_table.specs.declared.content.Command.TheVariants as unfinished
 use Rattle.drv_table.specs.declared.content.Endpoint.{Endpoint}
 use Rattle.drv_table.specs.DriverContent.{DriverContent}
@@ -9,10 +8,10 @@ use Rattle.claims_driver.specs.Leaving.{HasOwners}
 use Rattle.law_driver.specs.queued_drivers.Queued.{queued}
 use Rattle.law_driver.proofs.lemmas.queued_drivers.RowOwners.{queued_owners}
 use Rattle.law_driver.proofs.lemmas.ring_members.Placed.{in_ring_alive, queue_off_head}
-use Rattle.law_structures.specs.lent_structures.Structures.{QueueHead, Element, Structures, StructureSets, put}
+use Rattle.law_structures.specs.lent_structures.Structures.{QueueHead, Element, Structures, put}
 use Rattle.law_structures.proofs.lemmas.lent_structures.Names.{put_beside}
 use Rattle.law_ring.specs.Hand.{Hand}
-use Rattle.law_ring.specs.Told.{Endpoint as Told, HasEndpoint}
+use Rattle.law_ring.specs.Told.{Endpoint as Told}
 use Rattle.law_driver_ring.specs.fed_queues.Places.{HasHead, AreMet}
 use Rattle.law_queues.specs.open_laws.Queues.{IsOpenToLend, parts_opened}
 use Rattle.law_queues.proofs.lemmas.publish_laws.Apart.{thirty_two}

@@ -1,6 +1,5 @@
 -- Both sides of each pipe agree after an event of either walk, with the packets that it moved.
-use Rattle.std.proofs.Common.{◌≡◌, ◌≢◌, ℕ, ◌==◌, Bool, true, false, if◌then◌else◌, List, [], ◌∷◌, ◌++◌, Option, Some, ap, refl, sym, subst, ◌∙◌, ⊎_elim, inl, inr}
-use Rattle.std.specs.Prelude.{◌⊎◌}
+use Rattle.std.proofs.Common.{◌≡◌, ◌≢◌, ℕ, ◌==◌, Bool, true, false, if◌then◌else◌, List, [], ◌∷◌, ◌++◌, Option, ap, refl, sym, subst, ◌∙◌, ⊎_elim, inl, inr}
 use Rattle.std.specs.List.{concat}
 use Rattle.std.proofs.lemmas.Bool.{cases_eq, eq-eqb, false≢true}
 use Rattle.std.proofs.lemmas.List.{append_assoc, append-nil}
@@ -16,10 +15,10 @@ use Rattle.claims_base.specs.Controller.{Base}
 use Rattle.law_ring.specs.Effects.{came_to, buffer_of}
 use Rattle.law_ring.specs.QueueParts.{IsQueuePart}
 use Rattle.law_ring.specs.Told.{Endpoint as Told, HasEndpoint}
-use Rattle.law_ring.specs.Streams.{moved_bytes, Grows, StreamEffect}
+use Rattle.law_ring.specs.Streams.{moved_bytes}
 use Rattle.law_ring.specs.Streams.StreamEffect.{same, aside, grows}
 use Rattle.law_ring.specs.Bus.{Sender, IsStreamAsk, IsBus, KeepsSenders}
-use Rattle.law_ring.specs.Pipes.{IsHalf, IsPipe, ArePiped, grown}
+use Rattle.law_ring.specs.Pipes.{IsPipe, ArePiped, grown}
 use Rattle.law_ring.specs.OutBus.{Taker, IsOutAsk, IsOutBus, KeepsTakers}
 use Rattle.law_ring.specs.OutPipes.{IsOutPipe}
 use Rattle.law_ring.specs.OutPipeLaws.{SendsNone, IsOnlyEndpoint}
@@ -38,7 +37,7 @@ use Rattle.law_descriptors.proofs.lemmas.queue_events.Events.{both_keeps_structu
 use Rattle.law_descriptors.proofs.lemmas.queue_events.OutGoing.{none_still}
 use Rattle.law_descriptors.proofs.lemmas.queue_events.OutPipes.{both_keep_out_pipes}
 use Rattle.law_descriptors.proofs.lemmas.queue_events.Pipes.{both_keep_pipes}
-use Rattle.law_world_steps.specs.Outs.{IsAside, AreOutPiped}
+use Rattle.law_world_steps.specs.Outs.{IsAside}
 use Rattle.law_world_steps.proofs.Joining.{only_at}
 use Rattle.law_world_memory.specs.pipe_steps.Pipes.{PipesStand}
 use Rattle.law_world_memory.specs.pipe_steps.Events.{PipesGoOn, EventKeepsPipes}

@@ -1,5 +1,5 @@
 -- The store that a stalled control endpoint is owed leaves the pipes: its queue head has no stream.
-use Rattle.std.proofs.Common.{◌≡◌, ◌≢◌, ℕ, ◌*◌, ◌||◌, Bool, true, false, List, slice_get, Option, Some, ap, refl, sym, subst, ◌∙◌, ⊎_elim, inl, inr}
+use Rattle.std.proofs.Common.{◌≡◌, ◌≢◌, ℕ, ◌*◌, ◌||◌, Bool, true, false, slice_get, Some, ap, refl, sym, subst, ◌∙◌, ⊎_elim, inl, inr}
 use Rattle.std.specs.Prelude.{◌⊎◌}
 use Rattle.std.proofs.lemmas.Bool.{cases_eq, false≢true}
 use Rattle.std.proofs.lemmas.Option.{same_Some}
@@ -7,7 +7,6 @@ use Rattle.usb_base.specs.declared.packets.EpKind.{EpKind}
 use Rattle.usb_base.specs.declared.packets.EpKind.TheVariants as kinds
 use Rattle.usb_base.specs.declared.packets.Way.{Way}
 use Rattle.usb_base.specs.declared.packets.Way.TheVariants as ways
-use Rattle.qh_qtd.specs.declared.qtd.Qtd.{Qtd}
 use Rattle.drv_table.specs.declared.content.Endpoint.{Endpoint}
 use Rattle.drv_table.specs.DriverContent.{DriverContent}
 use Rattle.drv_table.specs.Kinds.{is_iso}
@@ -17,16 +16,12 @@ use Rattle.claims_driver.specs.Scripts.{IsKindOf}
 use Rattle.law_driver.specs.queued_drivers.Queued.{IsOfWay, with_queue, queued}
 use Rattle.law_driver.proofs.lemmas.queued_drivers.RowLists.{queue_at}
 use Rattle.law_driver.proofs.lemmas.queued_drivers.RowOwners.{queued_owners}
-use Rattle.law_driver.proofs.lemmas.ring_members.Placed.{has_queue, queue_off_head, queues_apart}
-use Rattle.law_structures.specs.lent_structures.Structures.{Element, StructureSets}
-use Rattle.law_ring.specs.Hand.{Hand}
+use Rattle.law_driver.proofs.lemmas.ring_members.Placed.{has_queue, queues_apart}
 use Rattle.law_ring.specs.Told.{Endpoint as Told}
-use Rattle.law_ring.specs.Sparing.{SameHand}
-use Rattle.law_ring.specs.OutPipes.{IsUnmoved}
 use Rattle.law_ring.proofs.SparedSparing.{stale_same}
 use Rattle.law_controller.proofs.lemmas.controlled_streams.Outs.{stale_unmoved}
 use Rattle.law_controller.specs.frame_control.Joined.{joined}
-use Rattle.law_driver_ring.specs.fed_queues.Places.{IsMet, HasHead}
+use Rattle.law_driver_ring.specs.fed_queues.Places.{HasHead}
 use Rattle.law_queues.specs.mended_heads.Mended.{IsAtMend, parts_then, hand_then, head_at, mended}
 use Rattle.law_queues.specs.mended_heads.Owed.{IsOwed}
 use Rattle.law_queues.proofs.lemmas.mended_heads.Lent.{not_iso}

@@ -6,11 +6,10 @@ use Rattle.link_words.specs.declared.kinds.QtdLink.TheVariants as qtd_links
 use Rattle.link_words.specs.Links.{qtd_link_of}
 use Rattle.qh_qtd.specs.declared.qtd.Qtd.{Qtd}
 use Rattle.qh_qtd.specs.declared.queue_head.Qh.{Qh}
-use Rattle.drv_table.specs.DriverContent.{DriverContent}
 use Rattle.drv_table.specs.Words.{dummy_qtd}
 use Rattle.law_driver.specs.queued_drivers.Queued.{queued}
 use Rattle.law_driver.proofs.lemmas.queued_drivers.RowOwners.{queued_owners}
-use Rattle.law_structures.specs.lent_structures.Structures.{QueueHead, Element, Structures, StructureSets}
+use Rattle.law_structures.specs.lent_structures.Structures.{Element}
 use Rattle.law_structures.proofs.lemmas.lent_structures.Altering.{found_element}
 use Rattle.law_structures.proofs.lemmas.lent_structures.Names.{not_same}
 use Rattle.law_ring.specs.Hand.{Hand}
@@ -26,7 +25,7 @@ use Rattle.law_controller.proofs.lemmas.controlled_streams.Storing.{same_hand}
 use Rattle.law_controller.specs.frame_control.Joined.{joined}
 use Rattle.law_driver_ring.specs.Linked.{with_member}
 use Rattle.law_queues.specs.open_laws.Queues.{IsOpenThere}
-use Rattle.law_world_steps.specs.Outs.{IsAside, AreOutPiped, IsUntaken}
+use Rattle.law_world_steps.specs.Outs.{AreOutPiped, IsUntaken}
 use Rattle.law_world_steps.specs.Opens.{IsOneMoreHead}
 use Rattle.law_world_steps.proofs.Opening.{out_pipes_with_one, out_pipes_with_another}
 use Rattle.bus_world.specs.World.{World}

@@ -1,5 +1,5 @@
 -- A harvested transfer's blocks are given back: no queue head works on them.
-use Rattle.std.proofs.Common.{◌≡◌, ℕ, ◌*◌, Bool, false, List, Option, Some, sym, ◌∙◌}
+use Rattle.std.proofs.Common.{◌≡◌, ℕ, ◌*◌, Bool, false, List, Option, sym, ◌∙◌}
 use Rattle.std.specs.List.{concat}
 use Rattle.qh_qtd.specs.declared.queue_head.Qh.{Qh}
 use Rattle.drv_table.specs.declared.content.Command.TheVariants as unfinished
@@ -7,7 +7,6 @@ use Rattle.drv_table.specs.declared.content.Endpoint.{Endpoint}
 use Rattle.drv_table.specs.declared.content.Transfer.{Transfer}
 use Rattle.law_driver.proofs.lemmas.chained_transfers.Holding.{held_alive}
 use Rattle.law_driver.specs.queued_drivers.Queued.{queued, queued_parts}
-use Rattle.law_structures.specs.lent_structures.Structures.{QueueHead, StructureSets}
 use Rattle.law_ring.specs.Fewer.{without_those}
 use Rattle.law_ring.specs.QueueParts.{IsQueuePart}
 use Rattle.law_ring.specs.Told.{Endpoint as Told}

@@ -1,6 +1,6 @@
 -- What a step of one queue leaves of all pipes, where it spares the queue heads with streams and what they work on, and each qTD that it
 -- brings asks the way of its endpoint.
-use Rattle.std.proofs.Common.{◌≡◌, ◌≢◌, ℕ, Bool, true, false, List, Option, Some, ap, refl, sym, subst, ◌∙◌, ⊎_elim, inl, inr, arith}
+use Rattle.std.proofs.Common.{◌≡◌, ◌≢◌, ℕ, Bool, true, false, List, Option, Some, refl, sym, ◌∙◌, ⊎_elim, inl, inr, arith}
 use Rattle.std.specs.Prelude.{◌⊎◌}
 use Rattle.std.specs.List.{concat}
 use Rattle.std.proofs.lemmas.Bool.{false≢true}
@@ -14,12 +14,12 @@ use Rattle.law_ring.specs.Hand.{Hand}
 use Rattle.law_ring.specs.Told.{Endpoint as Told, HasEndpoint}
 use Rattle.law_ring.specs.Sparing.{SameHand, SparesHead, SparesElement}
 use Rattle.law_ring.specs.Bus.{Sender}
-use Rattle.law_ring.specs.Pipes.{IsIn, IsNotIn, IsElsewhere, ArePiped}
+use Rattle.law_ring.specs.Pipes.{IsIn, IsNotIn, IsElsewhere}
 use Rattle.law_ring.proofs.SparedSparing.{spared_pipes}
 use Rattle.law_ring.specs.OutBus.{Taker}
 use Rattle.law_ring.specs.OutPipes.{IsOut, IsUnmoved}
 use Rattle.law_ring.specs.OutPipeLaws.{SendsNone}
-use Rattle.law_world_steps.specs.Outs.{IsAside, AreOutPiped}
+use Rattle.law_world_steps.specs.Outs.{IsAside}
 use Rattle.law_world_steps.proofs.Spared.{out_pipes_spared}
 use Rattle.law_world_memory.specs.pipe_steps.Pipes.{PipesStand, AsksTheWay}
 

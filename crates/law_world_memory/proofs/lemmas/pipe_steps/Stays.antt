@@ -1,10 +1,10 @@
 -- Steps that change links alone.
-use Rattle.std.proofs.Common.{◌≡◌, ◌≢◌, ℕ, ◌*◌, Bool, true, List, Option, Some, subst, sym, ⊎_elim, inl}
+use Rattle.std.proofs.Common.{◌≡◌, ℕ, ◌*◌, Bool, Some, ⊎_elim, inl}
 use Rattle.qh_qtd.specs.declared.qtd.Qtd.{Qtd}
 use Rattle.qh_qtd.specs.declared.queue_head.Qh.{Qh}
 use Rattle.drv_table.specs.DriverContent.{DriverContent}
 use Rattle.drv_table.specs.Words.{to_queue_head}
-use Rattle.law_structures.specs.lent_structures.Structures.{QueueHead, Element, StructureSets, put}
+use Rattle.law_structures.specs.lent_structures.Structures.{QueueHead, Element, StructureSets}
 use Rattle.law_structures.proofs.lemmas.lent_structures.Names.{put_found}
 use Rattle.law_ring.specs.Hand.{Hand}
 use Rattle.law_ring.specs.Told.{Endpoint as Told}

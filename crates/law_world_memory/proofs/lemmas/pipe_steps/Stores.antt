@@ -1,8 +1,7 @@
 -- A word of a transfer's first qTD is stored: no queue head works on it, and once it is active it asks the way of its endpoint.
-use Rattle.std.proofs.Common.{◌≡◌, ◌≢◌, ℕ, ◌-◌, ◌*◌, ◌<◌, ◌≤◌, Bool, true, false, List, Option, Some, ap, refl, sym, subst, ◌∙◌, ⊎_elim, inl, inr, arith}
+use Rattle.std.proofs.Common.{◌≡◌, ℕ, ◌-◌, ◌*◌, ◌<◌, ◌≤◌, Bool, true, false, List, Option, Some, ap, sym, subst, ◌∙◌, ⊎_elim, inl, inr, arith}
 use Rattle.std.specs.Prelude.{◌⊎◌}
 use Rattle.std.proofs.lemmas.Bool.{cases_lt, false≢true}
-use Rattle.usb_base.specs.declared.packets.Way.{Way}
 use Rattle.qh_qtd.specs.declared.qtd.Qtd.{Qtd}
 use Rattle.qh_qtd.specs.declared.queue_head.Qh.{Qh}
 use Rattle.drv_table.specs.declared.content.Command.{Command}
@@ -10,7 +9,7 @@ use Rattle.drv_table.specs.declared.content.Command.TheVariants as unfinished
 use Rattle.drv_table.specs.DriverContent.{DriverContent}
 use Rattle.law_driver.specs.chained_transfers.Bulk.{pid_by}
 use Rattle.law_driver.specs.queued_drivers.Queued.{queued}
-use Rattle.law_structures.specs.lent_structures.Structures.{QueueHead, Element, StructureSets}
+use Rattle.law_structures.specs.lent_structures.Structures.{QueueHead, Element}
 use Rattle.law_structures.specs.lent_structures.Sound.{IsWorking, IsSoundQueue}
 use Rattle.law_structures.proofs.lemmas.lent_structures.Altering.{found_queue, found_element}
 use Rattle.law_ring.specs.Hand.{Hand}
@@ -27,7 +26,7 @@ use Rattle.law_queues.specs.publish_laws.Stores.{parts_then}
 use Rattle.bus_world.specs.World.{World}
 use Rattle.law_world_memory.specs.Mixed.{Standing, IsMixedAt}
 use Rattle.law_world_memory.specs.Steps.{IsNextStore}
-use Rattle.law_world_memory.specs.pipe_steps.Pipes.{AsksTheWay, AreByWay}
+use Rattle.law_world_memory.specs.pipe_steps.Pipes.{AreByWay}
 use Rattle.law_world_memory.proofs.lemmas.pipe_steps.Hands.{TellsAlike, alike_itself}
 use Rattle.law_world_memory.proofs.lemmas.pipe_steps.Sparing.{AsksRight, asks_right, Spares}
 

@@ -6,10 +6,8 @@ use Rattle.std.proofs.lemmas.List.{append-nil}
 use Rattle.usb_base.specs.declared.endpoints.EndCause.{EndCause}
 use Rattle.usb_base.specs.declared.reports.Report.{Report}
 use Rattle.usb_base.specs.declared.reports.What.TheVariants as lines
-use Rattle.async_walk.specs.Walk.{Walk}
 use Rattle.law_structures.specs.lent_structures.Structures.{StructureSets}
 use Rattle.law_ring.specs.Hand.{Hand}
-use Rattle.claims_base.specs.Controller.{Base}
 use Rattle.mem_runs.specs.Book.{Book, holding}
 use Rattle.claims_report.specs.Streams.{has_stream}
 use Rattle.drv_table.specs.declared.content.Endpoint.{Endpoint}
@@ -186,7 +184,7 @@ module _ (d new : DriverContent) (e : ℕ) (x : Endpoint) (cut : Bool) (g : IsGi
 
 -- ---- the row
 
-module _ (base : Base) (member : ℕ → Bool) (order : ℕ → ℕ) (parts : StructureSets) (hand : Hand) (w : Walk) (p : Parts) (e : ℕ) (x : Endpoint) (acc : List (List ℕ)) (reported : ℕ → List ℕ) (l : IsLeaver base member parts hand w p e x) (reports_it : has_stream x.desc.kind ≡ true → IsReported order (out_now p.driver e) hand parts (32 * x.queue) acc (reported (32 * x.queue))) (k : ToldStands p.driver hand parts reported) where
+module _ (order : ℕ → ℕ) (parts : StructureSets) (hand : Hand) (p : Parts) (e : ℕ) (x : Endpoint) (acc : List (List ℕ)) (reported : ℕ → List ℕ) (l : IsLeaver parts hand p e x) (reports_it : has_stream x.desc.kind ≡ true → IsReported order (out_now p.driver e) hand parts (32 * x.queue) acc (reported (32 * x.queue))) (k : ToldStands p.driver hand parts reported) where
   abbrev d : DriverContent
   d = p.driver
 
@@ -274,7 +272,7 @@ module _ (base : Base) (member : ℕ → Bool) (order : ℕ → ℕ) (parts : St
             goes_on = λ goes. absurd (no_end d (after true book) e x true g goes);
             from = refl;
             long = refl;
-            bytes_are = cancel_tells order r.place d p.memory parts hand e x (k.held e) r.told (leaver_can_be_told base member parts hand w p e x reported l on told k) r.accounts;
+            bytes_are = cancel_tells order r.place d p.memory parts hand e x (k.held e) r.told (leaver_can_be_told parts hand p e x reported l on told k) r.accounts;
           }) clears grows k.tells
 
       one : IsToldTo (after true book).reports (after true book).store (named_of (gone_of x)) (later e) (now e)

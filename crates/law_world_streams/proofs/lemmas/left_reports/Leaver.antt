@@ -2,10 +2,8 @@
 use Rattle.std.proofs.Common.{◌≡◌, ℕ, zero, suc, ◌+◌, ◌*◌, ◌<◌, ◌==◌, ◌&&◌, not, nat_eq, Bool, true, false, if◌then◌else◌, List, [], ◌∷◌, drop, length, slice_get, Option, Some, None, option_map, ap, refl, sym, subst, ◌∙◌, arith}
 use Rattle.std.proofs.lemmas.Bool.{false≢true, eqb-true, and_parts}
 use Rattle.std.proofs.lemmas.Option.{same_Some}
-use Rattle.async_walk.specs.Walk.{Walk}
 use Rattle.law_structures.specs.lent_structures.Structures.{Structures, StructureSets}
 use Rattle.law_ring.specs.Hand.{Hand, Settled}
-use Rattle.claims_base.specs.Controller.{Base}
 use Rattle.law_ring.specs.Ring.{IsInHand}
 use Rattle.law_ring.specs.Order.{IsAmong}
 use Rattle.usb_base.specs.declared.packets.EpKind.{EpKind}
@@ -39,7 +37,7 @@ use Rattle.law_world_streams.specs.left_reports.Leaver.{IsLeaver}
 
 -- ---- what is in hand
 
-elsewhere : (member : ℕ → Bool) (parts : StructureSets) (reply : Reply) (hand : Hand) (n : ℕ) → member n ≡ false → IsInHand member parts reply hand → SettlesElsewhere hand n
+pub elsewhere : (member : ℕ → Bool) (parts : StructureSets) (reply : Reply) (hand : Hand) (n : ℕ) → member n ≡ false → IsInHand member parts reply hand → SettlesElsewhere hand n
 elsewhere member parts reply (Settled c z) n off is = λ same. false≢true (sym off ∙ ap member (sym same) ∙ is.0.on)
 elsewhere member parts reply _ n off is = tt
 
@@ -90,12 +88,12 @@ data_way _ kind is on = tt
 pub goes_untold : (x : Endpoint) → is_told x ≡ true → told_end x ≡ None
 goes_untold x told = ap (λ (b : Bool). if b then None else x.ended) told
 
-pub leaver_can_be_told : (base : Base) (member : ℕ → Bool) (parts : StructureSets) (hand : Hand) (w : Walk) (p : Parts) (e : ℕ) (x : Endpoint) (reported : ℕ → List ℕ) → IsLeaver base member parts hand w p e x → has_stream x.desc.kind ≡ true → is_told x ≡ true
+pub leaver_can_be_told : (parts : StructureSets) (hand : Hand) (p : Parts) (e : ℕ) (x : Endpoint) (reported : ℕ → List ℕ) → IsLeaver parts hand p e x → has_stream x.desc.kind ≡ true → is_told x ≡ true
     → (k : ToldStands p.driver hand parts reported) → CanBeTold p.driver p.memory parts hand e x (k.held e)
-leaver_can_be_told base member parts hand w p e x reported l on told k = record {
+leaver_can_be_told parts hand p e x reported l on told k = record {
   command = l.idle;
-  tells = l.ring.tells;
-  settled = elsewhere member parts w.reply hand (32 * x.queue) l.unmet l.ring.in_hand;
+  tells = l.tells;
+  settled = l.settled;
   reported = l.turns.turns.turns.next e x l.leaves.here goes;
   waiting = λ t y here own waits.
       let held = kept t y here own waits in

@@ -11,6 +11,7 @@ use Rattle.law_structures.proofs.lemmas.lent_structures.Altering.{found_element,
 use Rattle.law_ring.specs.Hand.{Hand}
 use Rattle.law_ring.specs.Effects.{buffer_of}
 use Rattle.law_ring.specs.Told.{Told, hand_bytes}
+use Rattle.law_ring.proofs.QueueParts.{member_part}
 use Rattle.law_ring.specs.Order.{AllTold, none_out, one_out}
 use Rattle.usb_base.specs.declared.endpoints.EndCause.{EndCause}
 use Rattle.claims_report.specs.Streams.{told_in, has_stream}
@@ -142,7 +143,7 @@ bytes_are member m parts hand n b bytes note tells on read off told = ⊎_elim s
 
     none : note.told ≤ 0 → bytes ≡ buffer_bytes m note (moved_of note.told (token_in m b).total)
     none low =
-        let done : IsDone hand parts n b (moved_of note.told (token_in m b).total) bytes = found_done member m parts hand n b bytes note tells on read off told in
+        let done : IsDone hand parts n b (moved_of note.told (token_in m b).total) bytes = found_done m parts hand n b bytes note tells (member_part member n (parts n) on) read off told in
         let few = moved_few note.told (token_in m b).total in
         let zero_is : moved_of note.told (token_in m b).total ≡ 0 = omega (arith, few, low) in
         nil_from_length bytes (done.count ∙ zero_is) ∙ sym (no_bytes m note) ∙ ap (buffer_bytes m note) (sym zero_is)

@@ -15,6 +15,7 @@ use Rattle.law_structures.specs.lent_structures.Structures.{StructureSets, Tells
 use Rattle.law_structures.specs.lent_structures.Sound.{IsMember}
 use Rattle.law_ring.specs.Hand.{Hand}
 use Rattle.law_ring.specs.Told.{Told}
+use Rattle.law_ring.proofs.QueueParts.{member_part}
 use Rattle.law_ring.specs.Order.{AllTold, Accounts}
 use Rattle.qh_qtd.specs.declared.token.Token.{Token}
 use Rattle.drv_table.specs.declared.content.Command.{Command}
@@ -143,7 +144,7 @@ module _ (member : ℕ → Bool) (order : ℕ → ℕ) (p : Parts) (parts : Stru
   next_now = next_then p e t found due turns
 
   hr : HarvestReports order d new hand parts e x acc reported
-  hr = row_told member order p parts hand e t found acc reported due differs owners turns bulk fed tells on_it none before r
+  hr = row_told order p parts hand e t found acc reported due differs owners turns bulk fed tells (member_part member (32 * due.endpoint.queue) (parts (32 * due.endpoint.queue)) on_it) none before r
 
   -- ---- what is reported then
 

@@ -1,0 +1,111 @@
+ghost use Rattle.std.specs.Prelude.{◌≡◌, ◌≢◌, ◌≤◌, length, None, Some};
+ghost use Rattle.async_walk.specs.Walk.{new_walk};
+ghost use Rattle.hc_core.specs.Controller.{Control};
+ghost use Rattle.op_registers.specs.Table.{after_write};
+ghost use Rattle.hc_microframe.specs.Microframe.{IsFit};
+ghost use Rattle.hc_microframe.specs.Numbers.{control_of};
+ghost use Rattle.hc_microframe.specs.State.{shown, file_of};
+ghost use Rattle.hc_microframe.specs.Stepping.{IsStepped, IsHeldUp, control_after_write};
+ghost use Rattle.hc_microframe.specs.EventCalls.{kind_number};
+
+use crate::desk::Desk;
+use crate::making::copy_back;
+use crate::running::is_fit;
+use crate::state::{registers_of, state_of};
+use crate::whole::{RingWords, Whole};
+use hc_core::HcStep;
+use std::alloc::Global;
+use word_mem::WordMem;
+
+/// What came of a call for one event.
+#[derive(Clone, Copy, Debug, PartialEq, Eq)]
+pub enum Stepped {
+    /// An event of this kind was made.
+    Event(HcStep),
+    /// Nothing changed: the event asks what has no answer, and the desk tells what.
+    WantsBus,
+    /// Nothing changed: the words are no memory of a controller, or the numbers are no controller's.
+    Unfit,
+    /// Nothing changed: there was no memory for a copy of the words.
+    NoMemory,
+}
+
+/// Makes one event, over these words, all of which the controller may reach, and the bus of this desk.
+pub fn step(alloc: Global, whole: &mut Whole, words: &mut [u32], desk: &mut Desk<'_, '_>) -> Stepped
+    requires { desk.old.wanted ≡ None }
+    ensures event { (kind : HcStep) → result ≡ Stepped.Event kind
+        → IsStepped whole.old words.old desk.old kind whole.new words.new desk.new }
+    ensures wants { result ≡ Stepped.WantsBus → IsHeldUp whole.old words.old desk.old desk.new }
+    ensures unfit { result ≡ Stepped.Unfit → IsFit (length words.old) → (c : Control) → control_of whole.old ≢ Some c }
+    ensures stays { ((kind : HcStep) → result ≢ Stepped.Event kind) → (whole.new ≡ whole.old) × (words.new ≡ words.old) }
+    ensures length { length words.new ≡ length words.old }
+{
+    if !is_fit(words.len()) {
+        return Stepped::Unfit;
+    }
+    let Some(mut controller) = whole.controller() else {
+        return Stepped::Unfit;
+    };
+    let Ok(mut mem) = WordMem::from_words(alloc, words) else {
+        return Stepped::NoMemory;
+    };
+    let mut regs = registers_of(&whole.registers);
+    let kind = controller.step(&mut regs, &mut mem, desk);
+    if desk.is_asked() {
+        return Stepped::WantsBus;
+    }
+    *whole = Whole::of(&controller, &regs);
+    copy_back(&mem, words);
+    Stepped::Event(kind)
+}
+
+/// The walk of the ring begins anew.
+fn begin_ring(whole: &mut Whole)
+    ensures registers { whole.new.registers ≡ whole.old.registers }
+    ensures control { (c : Control) → control_of whole.old ≡ Some c → control_of whole.new ≡ Some (record c { walk = new_walk }) }
+{
+    whole.ring = RingWords::new();
+}
+
+/// Where a driver's write leaves the controller.
+fn turn_back(whole: &mut Whole, at: u32, word: u32)
+    ensures registers { whole.new.registers ≡ whole.old.registers }
+    ensures control { (c : Control) → control_of whole.old ≡ Some c → control_of whole.new ≡ Some (control_after_write at word c) }
+{
+    if at == 0x18 {
+        begin_ring(whole);
+        return;
+    }
+    if at == 0x00 && word / 2 % 2 == 1 {
+        whole.begin_anew();
+    }
+}
+
+/// A driver's write at an offset in bytes from the first operational register, between two events. A reset has the controller begin anew
+/// (EHCI 1.0, 2.3.1), and a new ASYNCLISTADDR the walk of the ring (2.3.7).
+pub fn write_between(whole: &mut Whole, at: u32, word: u32)
+    ensures registers { whole.new.registers ≡ shown (after_write (file_of whole.old.registers) at word) 0 }
+    ensures control { (c : Control) → control_of whole.old ≡ Some c → control_of whole.new ≡ Some (control_after_write at word c) }
+{
+    turn_back(whole, at, word);
+    let mut regs = registers_of(&whole.registers);
+    regs.driver_write(at, word);
+    whole.registers = state_of(&regs, 0);
+}
+
+/// The number of a kind of event: 0 idle, 1 begin, 2 fetch, 3 advance, 4 transact, 5 write-back, 6 skip, 7 end.
+pub fn kind_number(kind: HcStep) -> u32
+    ensures number { result ≡ kind_number kind }
+    ensures known { result ≤ 7 }
+{
+    match kind {
+        HcStep::Idle => 0,
+        HcStep::Begin => 1,
+        HcStep::Fetch => 2,
+        HcStep::Advance => 3,
+        HcStep::Transact => 4,
+        HcStep::WriteBack => 5,
+        HcStep::Skip => 6,
+        HcStep::End => 7,
+    }
+}

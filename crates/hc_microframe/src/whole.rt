@@ -1,0 +1,331 @@
+ghost use Rattle.std.specs.Prelude.{◌≡◌, ◌≤◌, ◌==◌, None, Some, length, take};
+ghost use Rattle.op_registers.specs.RegisterFile.{reset_file};
+ghost use Rattle.hc_core.specs.Controller.{new_control};
+ghost use Rattle.async_walk.specs.Walk.{IsCursor, new_walk};
+ghost use Rattle.link_words.specs.Links.{IsAligned};
+ghost use Rattle.hc_microframe.specs.State.{shown};
+ghost use Rattle.hc_microframe.specs.Numbers.{heard_in, hand_in, cursor_in, held_in, ring_parts_in, ring_in, frame_parts_in, frame_in, control_of};
+
+use crate::numbers::{
+    HeardWords, ItdWords, QueueWords, SitdWords, mode_number, mode_of, part_number, part_of,
+};
+use crate::state::{State, state_of};
+use async_walk::{AsyncState, Cursor, HeldParts, RingParts};
+use hc_core::Controller;
+use link_words::{read, write};
+use op_registers::Registers;
+use periodic_walk::{FrameParts, HandParts, PeriodicState, QueueParts};
+use usb_base::{Ps, Reply};
+
+/// The copy in hand of the walk of a frame's chain, in numbers.
+#[repr(C)]
+#[derive(Clone, Copy, Debug, PartialEq, Eq)]
+pub struct HandWords {
+    /// 1: of a queue head; 2: of an iTD; 3: of a siTD; else nothing is in hand.
+    pub kind: u32,
+    pub queue: QueueWords,
+    pub itd: ItdWords,
+    pub sitd: SitdWords,
+}
+
+/// The walk of a frame's chain, in numbers.
+#[repr(C)]
+#[derive(Clone, Copy, Debug, PartialEq, Eq)]
+pub struct FrameWords {
+    /// The time left in the microframe, in picoseconds.
+    pub left: u64,
+    /// The word of the link that is read next, or is in hand.
+    pub cursor: u32,
+    /// FRINDEX of the microframe.
+    pub index: u16,
+    /// How many bytes an iTD in hand received.
+    pub got_len: u16,
+    /// The copy in hand.
+    pub hand: HandWords,
+    /// What was heard in the last transaction.
+    pub heard: HeardWords,
+    /// The bytes that an iTD in hand received.
+    pub got: [u8; 3072],
+}
+
+/// The walk of the ring, in numbers.
+#[repr(C)]
+#[derive(Clone, Copy, Debug, PartialEq, Eq)]
+pub struct RingWords {
+    /// The time left in the microframe, in picoseconds.
+    pub left: u64,
+    /// The word of the link that is read next, or is in hand.
+    pub cursor: u32,
+    /// 1: the cursor is there; else it is at the start of the ring.
+    pub begun: u8,
+    /// When the count of NAKs is reloaded (EHCI 1.0, 4.9): 1 now, 2 in the next microframe, else at the head of the ring.
+    pub mode: u8,
+    /// 1: the next event is the first of its microframe.
+    pub first: u8,
+    /// 1: a copy is in hand.
+    pub holds: u8,
+    /// That copy.
+    pub queue: QueueWords,
+    /// What was heard in the last transaction.
+    pub heard: HeardWords,
+}
+
+/// All of a controller between two events.
+#[repr(C)]
+#[derive(Clone, Copy, Debug, PartialEq, Eq)]
+pub struct Whole {
+    /// The words of its registers; the place in the ring counts for nothing.
+    pub registers: State,
+    /// 1: in the periodic part of a microframe; 2: in the asynchronous part; else between two microframes.
+    pub part: u32,
+    /// The walk of the frame's chain.
+    pub frame: FrameWords,
+    /// The walk of the ring.
+    pub ring: RingWords,
+}
+
+impl HandWords {
+    fn none() -> HandWords
+        ensures { hand_in result ≡ None }
+    {
+        HandWords {
+            kind: 0,
+            queue: QueueWords::none(),
+            itd: ItdWords::none(),
+            sitd: SitdWords::none(),
+        }
+    }
+
+    fn parts(&self) -> Option<HandParts>
+        ensures { result ≡ hand_in self.now }
+    {
+        match self.kind {
+            1 => Some(HandParts::Queue(QueueParts {
+                copy: self.queue.parts(),
+                made: self.queue.made,
+            })),
+            2 => Some(HandParts::Itd(self.itd.parts())),
+            3 => Some(HandParts::Sitd(self.sitd.parts())),
+            _ => None,
+        }
+    }
+
+    fn of(hand: &Option<HandParts>) -> HandWords
+        ensures { hand_in result ≡ hand.now }
+    {
+        let none = Self::none();
+        match hand {
+            None => none,
+            Some(HandParts::Queue(parts)) => HandWords {
+                kind: 1,
+                queue: QueueWords::of(&parts.copy, parts.made),
+                ..none
+            },
+            Some(HandParts::Itd(parts)) => HandWords {
+                kind: 2,
+                itd: ItdWords::of(parts),
+                ..none
+            },
+            Some(HandParts::Sitd(parts)) => HandWords {
+                kind: 3,
+                sitd: SitdWords::of(parts),
+                ..none
+            },
+        }
+    }
+}
+
+fn got(words: &FrameWords) -> &[u8]
+    ensures { result.now ≡ take words.now.got_len words.now.got }
+{
+    &words.got[..words.got_len.min(3072) as usize]
+}
+
+impl FrameWords {
+    /// The walk that has these numbers; None where none has.
+    pub(crate) fn walk(&self) -> Option<PeriodicState>
+        ensures { result ≡ frame_in self.now }
+    {
+        let parts = FrameParts {
+            cursor: read(self.cursor),
+            index: self.index,
+            hand: self.hand.parts(),
+            left: Ps(self.left),
+        };
+        PeriodicState::from_parts(&parts, self.heard.reply(), got(self))
+    }
+
+    #[tactic(auto, using(link_words::proofs::LinkLaws::link_laws))]
+    fn numbers(parts: &FrameParts, reply: &Reply, received: &[u8]) -> FrameWords
+        requires cursor { IsAligned parts.now.cursor }
+        requires room { length received.now ≤ 3072 }
+        ensures parts { frame_parts_in result ≡ parts.now }
+        ensures heard { heard_in result.heard ≡ reply.now }
+        ensures got { take result.got_len result.got ≡ received.now }
+    {
+        let mut got = [0; 3072];
+        got[..received.len()].copy_from_slice(received);
+        FrameWords {
+            left: parts.left.0,
+            cursor: write(parts.cursor),
+            index: parts.index,
+            got_len: received.len() as u16,
+            hand: HandWords::of(&parts.hand),
+            heard: HeardWords::of(reply),
+            got,
+        }
+    }
+
+    /// The numbers of a walk.
+    #[tactic(auto, using(crate::proofs::Wholes::frame_whole))]
+    pub(crate) fn of(walk: &PeriodicState) -> FrameWords
+        ensures { frame_in result ≡ Some walk.now }
+    {
+        let parts = walk.parts();
+        Self::numbers(&parts, walk.reply(), walk.got())
+    }
+}
+
+fn cursor_of(begun: u8, word: u32) -> Cursor
+    ensures { result ≡ cursor_in begun word }
+{
+    if begun == 1 {
+        Cursor::At(read(word))
+    } else {
+        Cursor::Start
+    }
+}
+
+#[tactic(auto, using(link_words::proofs::LinkLaws::link_laws))]
+fn cursor_numbers(cursor: Cursor) -> (u8, u32)
+    requires { IsCursor cursor }
+    ensures { cursor_in result.0 result.1 ≡ cursor }
+{
+    match cursor {
+        Cursor::Start => (0, 0),
+        Cursor::At(link) => (1, write(link)),
+    }
+}
+
+fn flag_number(flag: bool) -> u8
+    ensures { (result == 1) ≡ flag }
+{
+    if flag { 1 } else { 0 }
+}
+
+fn held_of(holds: u8, queue: &QueueWords) -> Option<HeldParts>
+    ensures { result ≡ held_in holds queue.now }
+{
+    if holds == 1 {
+        Some(queue.parts())
+    } else {
+        None
+    }
+}
+
+fn held_numbers(held: &Option<HeldParts>) -> (u8, QueueWords)
+    ensures { held_in result.0 result.1 ≡ held.now }
+{
+    match held {
+        None => (0, QueueWords::none()),
+        Some(parts) => (1, QueueWords::of(parts, 0)),
+    }
+}
+
+impl RingWords {
+    /// A walk that has begun no microframe.
+    pub(crate) fn new() -> RingWords
+        ensures { ring_in result ≡ Some new_walk }
+    {
+        Self::of(&AsyncState::new())
+    }
+
+    /// The walk that has these numbers; None where none has.
+    pub(crate) fn walk(&self) -> Option<AsyncState>
+        ensures { result ≡ ring_in self.now }
+    {
+        let parts = RingParts {
+            cursor: cursor_of(self.begun, self.cursor),
+            held: held_of(self.holds, &self.queue),
+            left: Ps(self.left),
+            mode: mode_of(self.mode),
+            first: self.first == 1,
+        };
+        AsyncState::from_parts(&parts, self.heard.reply())
+    }
+
+    fn numbers(parts: &RingParts, reply: &Reply) -> RingWords
+        requires { IsCursor parts.now.cursor }
+        ensures parts { ring_parts_in result ≡ parts.now }
+        ensures heard { heard_in result.heard ≡ reply.now }
+    {
+        let (begun, cursor) = cursor_numbers(parts.cursor);
+        let (holds, queue) = held_numbers(&parts.held);
+        RingWords {
+            left: parts.left.0,
+            cursor,
+            begun,
+            mode: mode_number(parts.mode),
+            first: flag_number(parts.first),
+            holds,
+            queue,
+            heard: HeardWords::of(reply),
+        }
+    }
+
+    /// The numbers of a walk.
+    #[tactic(auto, using(crate::proofs::Wholes::ring_whole))]
+    pub(crate) fn of(walk: &AsyncState) -> RingWords
+        ensures { ring_in result ≡ Some walk.now }
+    {
+        let parts = walk.parts();
+        Self::numbers(&parts, walk.reply())
+    }
+}
+
+impl Whole {
+    /// The controller that has these numbers; None where none has.
+    pub(crate) fn controller(&self) -> Option<Controller>
+        ensures { result ≡ control_of self.now }
+    {
+        match self.frame.walk() {
+            None => None,
+            Some(frame) => match self.ring.walk() {
+                None => None,
+                Some(ring) => Some(Controller::from_parts(part_of(self.part), frame, ring)),
+            },
+        }
+    }
+
+    /// The controller begins anew; its registers stay.
+    pub(crate) fn begin_anew(&mut self)
+        ensures control { control_of self.new ≡ Some new_control }
+        ensures registers { self.new.registers ≡ self.old.registers }
+    {
+        let new = reset_whole();
+        self.part = new.part;
+        self.frame = new.frame;
+        self.ring = new.ring;
+    }
+
+    /// The numbers of a controller and its registers.
+    pub(crate) fn of(controller: &Controller, regs: &Registers) -> Whole
+        ensures control { control_of result ≡ Some controller.now }
+        ensures registers { result.registers ≡ shown regs.now 0 }
+    {
+        Whole {
+            registers: state_of(regs, 0),
+            part: part_number(controller.part()),
+            frame: FrameWords::of(controller.frame()),
+            ring: RingWords::of(controller.walk()),
+        }
+    }
+}
+
+/// A controller after a reset: halted, between two microframes.
+pub fn reset_whole() -> Whole
+    ensures control { control_of result ≡ Some new_control }
+    ensures registers { result.registers ≡ shown reset_file 0 }
+{
+    Whole::of(&Controller::new(), &Registers::reset())
+}

@@ -1,0 +1,4 @@
+pub mod Lined
+pub mod TellingLaws
+pub mod TellingSteps
+pub mod LineSamples
