@@ -1,11 +1,11 @@
--- Where all isochronous endpoints of a script are of high speed, no transaction of the periodic part is skipped for want of time, but in a
--- held microframe or where more than 4 microseconds went for complete-splits that were made again; and none is where all periodic ones are
--- (USB 2.0, 5.9 and 5.11.3; EHCI 1.0, 4.4, 4.6, 4.10.3 and 4.12.2.4).
+-- No transaction of the periodic part is skipped for want of time, but in a held microframe or where more than 4 microseconds went for
+-- complete-splits that were made again; and none is where all periodic endpoints of a script are of high speed (USB 2.0, 5.9 and 5.11.3;
+-- EHCI 1.0, 4.4, 4.6, 4.10.3, 4.12.2.4 and 4.12.3).
 --     is_late p            the next event of the visit skips a transaction, which its price is too high for
 --     IsInTime fixed n w   in the periodic part of a microframe that isn't held a fifth of it is left, but for what was made again; and
 --                          while that is no more than 4 microseconds the walk's next event skips no transaction for want of time
---     ArriveInTime s       where its isochronous endpoints are of high speed, so it is at each moment of the run of a script; and where its
---                          periodic ones are, nothing is made again
+--     ArriveInTime s       so it is at each moment of the run of a script; and where its periodic endpoints are of high speed, nothing is
+--                          made again
 use Rattle.std.specs.Prelude.{◌≡◌, ℕ, ◌+◌, ◌≤◌, Bool, ◌&&◌, false, nat_lt, Option, Some, None}
 use Rattle.script_types.specs.declared.scripts.Script.{Script}
 use Rattle.toggle_error.specs.declared.host.Outcome.{Outcome}
@@ -30,7 +30,7 @@ use Rattle.hc_core.specs.Controller.{frame_place}
 use Rattle.bus_wire.specs.Bus.{Fixed, fixed_of}
 use Rattle.bus_world.specs.Budgets.{moment}
 use Rattle.bus_world.specs.World.{World, controller_parts, controller_row}
-use Rattle.claims_world.specs.Scripts.{HighPeriodicsOnly, HighIsochronousOnly}
+use Rattle.claims_world.specs.Scripts.{HighPeriodicsOnly}
 use Rattle.claims_world.specs.Visits.{is_held_now}
 use Rattle.claims_world.specs.WithinLoad.{repeats}
 
@@ -74,5 +74,5 @@ pub record IsInTime (fixed : Fixed) (n : ℕ) (w : World) : Type 0 where
       → is_late (frame_place (controller_parts w)) ≡ false
 
 pub record ArriveInTime (s : Script) : Type 0 where
-  pub each : HighIsochronousOnly s → (k : ℕ) → IsInTime (fixed_of s) (repeats s k) (moment s k).world
+  pub each : (k : ℕ) → IsInTime (fixed_of s) (repeats s k) (moment s k).world
   pub once : HighPeriodicsOnly s → (k : ℕ) → repeats s k ≡ 0

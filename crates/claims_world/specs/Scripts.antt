@@ -1,6 +1,5 @@
 -- What is so of each script that the bytes of a source spell, where the source tells its bytes; and the scripts of which the clauses speak.
 --     HighPeriodicsOnly s                each periodic endpoint that the script opens is of high speed
---     HighIsochronousOnly s              each isochronous endpoint that the script opens is of high speed
 --     OpensNoHub s                       no control endpoint that the script opens is a hub's: a hub answers by its own state, and not by
 --                                        lines of the script
 --     AsynchronousOfDevices s            the endpoints that it opens are high-speed bulk and control endpoints of devices
@@ -18,7 +17,6 @@ use Rattle.script_types.specs.declared.scripts.Line.TheVariants as lines
 use Rattle.script_types.specs.declared.scripts.Script.{Script}
 use Rattle.app_ends.specs.Input.{input_of}
 use Rattle.drv_periodic_table.specs.Periodic.{is_periodic}
-use Rattle.drv_table.specs.Kinds.{is_iso}
 use Rattle.drv_table.specs.Words.{is_control}
 use Rattle.claims_report.specs.Controls.{is_of_hub}
 use Rattle.script_text.specs.Faults.{Spells}
@@ -36,17 +34,6 @@ HighPeriodicsLine _ = Unit {0}
 
 abbrev pub HighPeriodicsOnly : Script → Type 0
 HighPeriodicsOnly s = AllByRecursion (λ line. HighPeriodicsLine line.1) s.lines
-
-abbrev pub OpensHighIsochronous : Cmd → Type 0
-OpensHighIsochronous (commands.OpenEp x) = is_iso x.kind ≡ true → x.speed ≡ High
-OpensHighIsochronous _ = Unit {0}
-
-abbrev pub HighIsochronousLine : Line → Type 0
-HighIsochronousLine (lines.Command cmd) = OpensHighIsochronous cmd
-HighIsochronousLine _ = Unit {0}
-
-abbrev pub HighIsochronousOnly : Script → Type 0
-HighIsochronousOnly s = AllByRecursion (λ line. HighIsochronousLine line.1) s.lines
 
 -- ---- a script
 

@@ -1,7 +1,7 @@
--- The time that the walk of the frames takes of a microframe is the sum of the prices of its transactions. Where all isochronous endpoints
--- of a script are of high speed, those of its transactions but for complete-splits that are made again come to no more than the plan's load
--- there, nor to more than 100 microseconds, at each moment of its run, also while endpoints are opened and cancelled (USB 2.0, 5.9, 5.11.3
--- and 11.18; EHCI 1.0, 3.3, 3.6, 4.6, 4.7, 4.10.3 and 4.12).
+-- The time that the walk of the frames takes of a microframe is the sum of the prices of its transactions. Those of its transactions but
+-- for complete-splits that are made again come to no more than the plan's load there, nor to more than 100 microseconds, at each moment
+-- of the run of a script, also while endpoints are opened and cancelled (USB 2.0, 5.9, 5.11.3 and 11.18; EHCI 1.0, 3.3, 3.4, 3.6, 4.6,
+-- 4.7, 4.10.3 and 4.12).
 --     is_again hand                  a complete-split of the queue head in hand was made in this visit, and is made again at once, since
 --                                    nothing that the host can use was heard (4.12.2.4.2)
 --     begun_too o ps                 one more visit, to the structure that is fetched so, if any
@@ -36,7 +36,6 @@ use Rattle.bus_world.specs.World.{World, controller_parts, controller_row, kind_
 use Rattle.claims_world.specs.Carried.{carried}
 use Rattle.claims_world.specs.FrameHeads.{FrameHeadsStand}
 use Rattle.claims_world.specs.Prices.{cost_of}
-use Rattle.claims_world.specs.Scripts.{HighIsochronousOnly}
 use Rattle.claims_world.specs.Visits.{fetched_by, is_held_now}
 
 abbrev pub is_again : Hand → Bool
@@ -113,4 +112,4 @@ LeavesTheRest fixed w ps n = w.control.part ≡ Periodic → w.control.frame.lef
 pub record PaysWithinLoad (s : Script) : Type 0 where
   pub heads : (k : ℕ) → FrameHeadsStand (moment s k).world.memory (moment s k).world.driver
   pub taken : (k : ℕ) → LeavesTheRest (fixed_of s) (moment s k).world (payments s k) (repeats s k)
-  pub load : HighIsochronousOnly s → (k : ℕ) → IsWithinLoad (moment s k).world (payments s k)
+  pub load : (k : ℕ) → IsWithinLoad (moment s k).world (payments s k)

@@ -70,10 +70,9 @@ use usb_base::{Sink, Source};
 ///
 /// Words 1 and 2 of the queue head of each interrupt endpoint that wasn't given back are those of its description and of its placement, and
 /// each placement is one that its endpoint may have. What is deducted for the transactions of the walk of the frames in a microframe is the
-/// sum of their prices. Where all isochronous endpoints of the script are of high speed it comes, but for complete-splits that are made
-/// again at once, to no more than the plan's load there, nor to more than 100 microseconds; so no transaction of the periodic part is
-/// skipped for want of time, but in a held microframe or where more than 4 microseconds went for those made again. None is made again where
-/// all periodic endpoints are of high speed.
+/// sum of their prices. It comes, but for complete-splits that are made again at once, to no more than the plan's load there, nor to more
+/// than 100 microseconds; so no transaction of the periodic part is skipped for want of time, but in a held microframe or where more than 4
+/// microseconds went for those made again. None is made again where all periodic endpoints are of high speed.
 ///
 /// Where the script opens high-speed bulk and control endpoints only, cancelled or not, the bytes that the report tells of each bulk IN
 /// endpoint begin its stream, each once and in order, and nothing follows its end; those that it tells of each bulk OUT endpoint begin

@@ -73,18 +73,18 @@ paid_leaves placed u vs fits small of paid =
 
 -- ---- in time
 
-short : (k : EpKind) (d : Dir) (n : ℕ) → n ≤ 1024 → bus_time High k d n ≤ 21000000
-short kinds.Control directions.In n few = omega (arith, few)
-short kinds.Control directions.Out n few = omega (arith, few)
-short kinds.Iso directions.In n few = omega (arith, few)
-short kinds.Iso directions.Out n few = omega (arith, few)
-short kinds.Bulk directions.In n few = omega (arith, few)
-short kinds.Bulk directions.Out n few = omega (arith, few)
-short kinds.Interrupt directions.In n few = omega (arith, few)
-short kinds.Interrupt directions.Out n few = omega (arith, few)
+pub bus_short : (k : EpKind) (d : Dir) (n : ℕ) → n ≤ 1024 → bus_time High k d n ≤ 21000000
+bus_short kinds.Control directions.In n few = omega (arith, few)
+bus_short kinds.Control directions.Out n few = omega (arith, few)
+bus_short kinds.Iso directions.In n few = omega (arith, few)
+bus_short kinds.Iso directions.Out n few = omega (arith, few)
+bus_short kinds.Bulk directions.In n few = omega (arith, few)
+bus_short kinds.Bulk directions.Out n few = omega (arith, few)
+bus_short kinds.Interrupt directions.In n few = omega (arith, few)
+bus_short kinds.Interrupt directions.Out n few = omega (arith, few)
 
 pub transactions_short : (w : Want) → w.max ≤ 1024 → largest w ≤ 21000000
-transactions_short w few = short w.kind w.dir w.max few
+transactions_short w few = bus_short w.kind w.dir w.max few
 
 pub paid_in_time : (placed : List Placed) (vs : List PaidVisit) (x : Placed) (p : FramePlace) (hand : Hand) → IsLeftAfter placed p vs → p.walk.hand ≡ Some hand → IsInHandOf x p.walk.index hand → x.want.max ≤ 1024
     → is_late p ≡ false

@@ -47,6 +47,16 @@ pub mod SplitHeads
 pub mod SplitCharged
 pub mod SitdParts
 pub mod SitdCharged
+pub mod SitdStable
+pub mod SitdEvents
+pub mod SitdWords
+pub mod SitdWorlds
+pub mod SitdDriven
+pub mod SitdNew
+pub mod SitdCommands
+pub mod SitdMoments
+pub mod SlotTexts
+pub mod RepeatAnswers
 pub mod PaymentRemovals
 pub mod PaymentIsochronous
 pub mod PaymentFrames

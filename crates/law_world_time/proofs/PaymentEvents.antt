@@ -45,7 +45,8 @@ use Rattle.law_world_time.proofs.PaymentReading.{reads_structures}
 pub controller_keeps_paying : ControllerKeepsPaying
 controller_keeps_paying fixed b w ps g in_frames =
     paid_next begins_by transacts_by w b w.driver (controller_parts w) (wired fixed w) (controller_parts (controller_next fixed w)) (wired fixed (controller_next fixed w)) ps
-    (reads_structures b w (names_in ps) g.visiting g.heads g.itds g.high g.allowed g.reads g.within) g.paid (controller_row w)
+    (reads_structures b w (names_in ps) g.visiting g.heads g.itds g.sitds g.served g.periodics g.allowed g.reads g.within) g.paid
+    (controller_row w)
     (λ is. begins_over w.registers.run w.registers w.control.frame w.control.part is)
     (λ is. frame_periodic w.registers.run w.registers w.control.frame w.control.part is) in_frames (world_has_row fixed w)
 

@@ -24,6 +24,7 @@ use Rattle.law_world_visits.specs.Visited.{IsVisiting}
 use Rattle.law_world_visits.specs.Belonging.{HeadsHaveFields}
 use Rattle.law_world_visits.specs.DescriptorFields.{ItdsStand}
 use Rattle.law_world_visits.specs.InFrames.{AreInTheirFrames}
+use Rattle.law_world_visits.specs.OneDescriptor.{AreServed}
 use Rattle.claims_world.specs.Carried.{carried}
 use Rattle.law_world_visits.specs.Began.{began_by, began}
 use Rattle.law_world_visits.proofs.ActiveFrames.{scripts_go_on_in_frame}
@@ -34,17 +35,19 @@ use Rattle.law_world_visits.proofs.VisitControlling.{controller_keeps_visiting}
 use Rattle.law_world_memory.proofs.Carrying.{KeepsCarried, carrying, both, both_carried}
 use Rattle.law_world_visits.proofs.BelongMoments.{scripts_keep_fields}
 use Rattle.law_world_visits.proofs.BelongItdMoments.{scripts_keep_itds}
+use Rattle.law_world_visits.proofs.OneDescriptorMoments.{each_moment_has_one_active}
 use Rattle.law_world_time.specs.DataQueues.{ReadsData}
 use Rattle.claims_world.specs.FrameHeads.{AreAllowed}
 use Rattle.claims_world.specs.Prices.{cost_of}
 use Rattle.claims_world.specs.WithinLoad.{is_again, begun_too, paid_more, payments_at, payments_after, payments_next, payments}
 use Rattle.law_world_time.specs.Payments.{names_in}
-use Rattle.claims_world.specs.Scripts.{HighIsochronousOnly}
-use Rattle.law_world_time.specs.PaymentLaws.{HasHighIsochronous, ArePaid, IsWithin, GoesOnPaying, ScriptsPayWithinLoad}
+use Rattle.law_world_time.specs.SitdFields.{SitdsStand, SlotsFit}
+use Rattle.law_world_time.specs.PaymentLaws.{HasPeriodics, ArePaid, IsWithin, GoesOnPaying, ScriptsPayWithinLoad}
 use Rattle.law_world_time.proofs.DataHeads.{scripts_read_data}
 use Rattle.law_world_time.proofs.PaymentEvents.{controller_keeps_paying, driver_keeps_paying, command_keeps_paying}
 use Rattle.law_world_time.proofs.PaymentSums.{within_load}
-use Rattle.law_world_time.proofs.PaymentOpens.{scripts_have_high}
+use Rattle.law_world_time.proofs.PaymentOpens.{scripts_have_periodics}
+use Rattle.law_world_time.proofs.SitdMoments.{scripts_keep_sitds}
 use Rattle.law_world_time.proofs.SplitMasked.{scripts_keep_allowed}
 
 -- ---- payments are those of the visits
@@ -91,7 +94,9 @@ pub record HoldsAt (b w : World) (vs : List ℕ) : Type 0 where
   pub visiting : IsVisiting b w vs
   pub heads : HeadsHaveFields w.driver w.memory
   pub itds : ItdsStand w.driver w.memory
-  pub high : HasHighIsochronous w.driver
+  pub sitds : SitdsStand w.driver w.memory w.control
+  pub served : AreServed w.driver w.memory
+  pub periodics : HasPeriodics w.driver
   pub allowed : AreAllowed w.driver
   pub reads : ReadsData w
   pub within : IsWithin b w
@@ -104,7 +109,9 @@ going b w ps h k = record {
   visiting = h.visiting;
   heads = h.heads;
   itds = h.itds;
-  high = h.high;
+  sitds = h.sitds;
+  served = h.served;
+  periodics = h.periodics;
   allowed = h.allowed;
   reads = h.reads;
   within = h.within;
@@ -137,24 +144,26 @@ pays_within s holds k =
     (subst (λ (vs : List ℕ). HoldsAt (began s j) (moment s j).world vs) (sym (payments_are_of_visits s j)) (holds j)))
     (record { entries = tt; hand = λ on. absurd (over_no on) }) k)
 
-pub scripts_are_paid : (s : Script) → IsFit s → IsByteScript s → FitsMixed s → HighIsochronousOnly s → (k : ℕ)
+pub scripts_are_paid : (s : Script) → IsFit s → IsByteScript s → FitsMixed s → SlotsFit s → (k : ℕ)
     → ArePaidIn (began s k) (moment s k).world (payments s k)
-scripts_are_paid s fit bytes opens only k =
+scripts_are_paid s fit bytes opens slots k =
     pays_within s
     (λ j.
     record {
       visiting = scripts_visit_all s fit bytes opens j;
       heads = scripts_keep_fields s fit bytes opens j;
       itds = scripts_keep_itds s fit bytes opens j;
-      high = scripts_have_high s fit bytes opens only j;
+      sitds = scripts_keep_sitds s fit bytes opens slots j;
+      served = (each_moment_has_one_active s fit bytes opens j).one.served;
+      periodics = scripts_have_periodics s fit bytes opens j;
       allowed = scripts_keep_allowed s fit j;
       reads = scripts_read_data s fit bytes opens j;
       within = record { began = began_is_mixed s fit bytes opens j; old = scripts_go_on s fit bytes opens j; in_frame = scripts_go_on_in_frame s fit bytes opens j };
     }) k
 
 pub scripts_pay : ScriptsPayWithinLoad
-scripts_pay s fit bytes opens only k =
+scripts_pay s fit bytes opens slots k =
     let visiting : IsVisiting (began s k) (moment s k).world (visited s k) = scripts_visit_all s fit bytes opens k in
     within_load (began s k) (moment s k).world (payments s k) (began_is_mixed s fit bytes opens k) (script_admits s fit k).fits
     (subst AreOnce (sym (payments_are_of_visits s k)) visiting.visits.behind.once)
-    (scripts_are_paid s fit bytes opens only k)
+    (scripts_are_paid s fit bytes opens slots k)

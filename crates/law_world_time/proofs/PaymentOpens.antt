@@ -1,7 +1,6 @@
--- Where a script opens no other isochronous endpoints than such of high speed, its driver has no others at each moment, and no siTD; and the descriptors of an endpoint that left its frames have
--- frames of its placement (EHCI 1.0, 3.3, 3.4, 4.6 and 4.7).
-use Rattle.std.proofs.Common.{◌≡◌, ℕ, ◌⊎◌, Bool, true, false, List, [], ◌∷◌, ◌++◌, length, slice_get, Option, Some, None, Result, Ok, Err, option_map, ap, refl, sym, subst, ◌∙◌, ⊎_elim, inl, inr, arith}
-use Rattle.std.specs.List.{AllByRecursion}
+-- At each moment of a script the descriptors of an endpoint that left its frames have frames of its placement, and each periodic endpoint
+-- has a transaction (EHCI 1.0, 3.3, 3.4, 4.6 and 4.7).
+use Rattle.std.proofs.Common.{◌≡◌, ℕ, ◌≤◌, ◌⊎◌, Bool, true, false, List, [], ◌∷◌, ◌++◌, length, slice_get, Option, Some, None, Result, Ok, Err, option_map, ap, refl, sym, subst, ◌∙◌, ⊎_elim, inl, inr, arith}
 use Rattle.std.proofs.lemmas.Bool.{true≢false}
 use Rattle.std.proofs.lemmas.Option.{same_Some, slice_get_within}
 use Rattle.usb_base.specs.declared.commands.Cmd.{Cmd}
@@ -9,14 +8,9 @@ use Rattle.usb_base.specs.declared.commands.Cmd.TheVariants as commands
 use Rattle.usb_base.specs.declared.endpoints.EpDesc.{EpDesc}
 use Rattle.usb_base.specs.declared.endpoints.EpName.{EpName}
 use Rattle.usb_base.specs.declared.reports.OfferError.{OfferError}
-use Rattle.usb_base.specs.declared.packets.Speed.{Speed}
-use Rattle.usb_base.specs.declared.packets.Speed.TheVariants as speeds
-use Rattle.script_types.specs.declared.scripts.Line.{Line}
-use Rattle.script_types.specs.declared.scripts.Line.TheVariants as lines
 use Rattle.script_types.specs.declared.scripts.Script.{Script}
 use Rattle.script_fits.specs.Fits.{IsFit}
 use Rattle.law_scripts.specs.byte_answers.Bytes.{IsByteScript}
-use Rattle.bandwidth.specs.Placements.{is_classic}
 use Rattle.bandwidth.specs.Sums.{is_active}
 use Rattle.bandwidth.specs.declared.placements.Placement.{Placement}
 use Rattle.drv_periodic_table.specs.declared.content.DescriptorNote.{DescriptorNote}
@@ -33,16 +27,16 @@ use Rattle.drv_table.specs.Rows.{driver_row}
 use Rattle.claims_driver.specs.Owners.{is_descriptor}
 use Rattle.claims_driver.specs.Leaving.{HasOwners}
 use Rattle.law_driver.proofs.lemmas.run_owners.Reasons.{each_is_due}
-use Rattle.law_driver.proofs.lemmas.run_owners.Ordered.{pushed, iso_periodic}
+use Rattle.law_driver.proofs.lemmas.run_owners.Ordered.{pushed}
 use Rattle.law_driver.proofs.lemmas.run_owners.Stays.{begun_notes}
 use Rattle.claims_driver.specs.FrameListMembers.{framed_of, is_chained}
 use Rattle.claims_driver.specs.DueMembers.{framed_to}
 use Rattle.law_driver.proofs.lemmas.queued_drivers.CommandReasons.{IsNew, in_ring, in_frames, bare, IsTakenOn, IsLeft, from_ring, from_frames, reason_of}
-use Rattle.law_world_steps.specs.receiving_runs.Runs.{KindOfLine, IsKeptBy}
+use Rattle.law_world_steps.specs.receiving_runs.Runs.{IsKeptBy}
 use Rattle.law_world_steps.proofs.lemmas.receiving_runs.Runs.{holds_throughout}
 use Rattle.law_world_memory.specs.Mixed.{IsMixedWorld}
 use Rattle.law_world_memory.specs.Laws.{OpensMixed}
-use Rattle.law_world_memory.specs.PlacedLaws.{MixedLine, FitsMixed}
+use Rattle.law_world_memory.specs.PlacedLaws.{FitsMixed}
 use Rattle.law_world_memory.proofs.Opening.{new_world_is_mixed}
 use Rattle.law_world_memory.proofs.Controller.{controller_keeps_mixed}
 use Rattle.law_world_memory.proofs.Driving.{driver_keeps_mixed}
@@ -57,16 +51,13 @@ use Rattle.law_world_visits.proofs.BelongCommands.{taken_same, left_same}
 use Rattle.law_world_visits.proofs.OneDescriptorRows.{From, or_notes}
 use Rattle.law_world_visits.proofs.OneDescriptorDriven.{Follows, row_follows}
 use Rattle.law_world_visits.proofs.BelongTold.{or_left}
-use Rattle.claims_world.specs.Scripts.{OpensHighIsochronous, HighIsochronousLine, HighIsochronousOnly}
-use Rattle.law_world_time.specs.PaymentLaws.{IsWholeAndSome, HasHighIsochronous}
+use Rattle.law_world_visits.proofs.OneDescriptorMoments.{lines_can}
+use Rattle.law_world_time.specs.PaymentLaws.{HasPeriodics}
 use Rattle.law_world_time.proofs.PaymentFrames.{chained_active}
 use Rattle.law_world_time.proofs.PaymentIsoCommands.{IsTaken, IsOld, seen_same, each_taken}
 
-abbrev IsHigh : EpDesc → Option Placement → Type 0
-IsHigh x o = is_periodic x.kind ≡ true → IsWholeAndSome x
-
-abbrev AreWhole : DriverContent → Type 0
-AreWhole d = (t : ℕ) (y : Transfer) → slice_get d.transfers t ≡ Some y → is_descriptor y.sort ≡ true → y.released ≡ false → (note_at d.periodic.notes y.first).split ≡ false
+abbrev IsSome : EpDesc → Option Placement → Type 0
+IsSome x o = is_periodic x.kind ≡ true → 1 ≤ x.multi
 
 abbrev AreActiveOutside : DriverContent → Type 0
 AreActiveOutside d = (t : ℕ) (y : Transfer) (x : Endpoint) (p : Placement) → slice_get d.transfers t ≡ Some y → is_descriptor y.sort ≡ true → y.released ≡ false → y.reported ≡ false
@@ -74,7 +65,7 @@ AreActiveOutside d = (t : ℕ) (y : Transfer) (x : Endpoint) (p : Placement) →
 
 -- ---- one that was there before
 
-module _ (w : World) (k : IsMixedWorld w) (h : HasHighIsochronous w.driver) where
+module _ (w : World) (k : IsMixedWorld w) (h : HasPeriodics w.driver) where
   abbrev d : DriverContent
   d = w.driver
 
@@ -102,11 +93,6 @@ module _ (w : World) (k : IsMixedWorld w) (h : HasHighIsochronous w.driver) wher
   -- ---- an event of the driver
 
   module _ (new : DriverContent) (follows : Follows w.driver w.memory new) (same : (e : ℕ) → seen_in new.endpoints e ≡ seen_in w.driver.endpoints e) where
-    whole_then : AreWhole new
-    whole_then t z there sort held =
-        let f : From w.driver w.memory t z = follows.back t z there sort held in
-        follows.split z.first ∙ ap (λ (i : ℕ). (note_at d.periodic.notes i).split) (sym f.first) ∙ h.whole t f.transfer f.here f.descriptor f.held
-
     outside_then : AreActiveOutside new
     outside_then t z x p there sort held untold here placed off =
         let f : From w.driver w.memory t z = follows.back t z there sort held in
@@ -122,14 +108,13 @@ module _ (w : World) (k : IsMixedWorld w) (h : HasHighIsochronous w.driver) wher
         ap (is_active p) (frame ∙ ap (λ (i : ℕ). (note_at d.periodic.notes i).frame) (sym f.first))
         ∙ was_active t f.transfer of.endpoint p f.here f.descriptor f.held (f.untold untold) here_then (ap (λ (s : Seen). s.placement) of.same ∙ placed) was
 
-  driver_high : HasHighIsochronous (driver_next w).driver
-  driver_high =
+  driver_periodics : HasPeriodics (driver_next w).driver
+  driver_periodics =
       let parts = driver_parts w in
       let row = driver_row parts in
       let follows : Follows w.driver w.memory (driver_next w).driver = row_follows row parts (each_is_due parts) k.mixed.now.framed.place.sound in
       record {
-        endpoints = after_row IsHigh row parts h.endpoints;
-        whole = whole_then (driver_next w).driver follows (λ e. row_seen e row parts);
+        some = after_row IsSome row parts h.some;
         outside = outside_then (driver_next w).driver follows (λ e. row_seen e row parts);
       }
 
@@ -138,14 +123,11 @@ module _ (w : World) (k : IsMixedWorld w) (h : HasHighIsochronous w.driver) wher
   -- its descriptors were there, or are iTDs of an endpoint that is in its frames; and its endpoints were, or have no placement, or are in their frames
   record Carries (o : Offered) : Type 0 where
     idle : w.driver.command ≡ None
-    each : (t : ℕ) (z : Transfer) → slice_get o.driver.transfers t ≡ Some z → is_descriptor z.sort ≡ true → z.released ≡ false → IsOld w.driver o t z ⊎ IsTaken o z false
+    each : (t : ℕ) (z : Transfer) → slice_get o.driver.transfers t ≡ Some z → is_descriptor z.sort ≡ true → z.released ≡ false
+        → IsOld w.driver o t z ⊎ IsTaken o z
     ends : (e : ℕ) (x : Endpoint) (p : Placement) → slice_get o.driver.endpoints e ≡ Some x → x.placement ≡ Some p → IsSeenIn w.driver.endpoints e x ⊎ (x.chained ≡ true)
 
   module _ (o : Offered) (c : Carries o) where
-    whole_by : AreWhole o.driver
-    whole_by t z there sort held =
-        ⊎_elim (λ (old : IsOld w.driver o t z). ap (λ (n : DescriptorNote). n.split) old.1 ∙ h.whole t z old.0 sort held) (λ (new : IsTaken o z false). new.noted) (c.each t z there sort held)
-
     outside_by : AreActiveOutside o.driver
     outside_by t z x p there sort held untold here placed off =
         ⊎_elim {C = is_active p (note_at o.driver.periodic.notes z.first).frame ≡ true}
@@ -155,7 +137,7 @@ module _ (w : World) (k : IsMixedWorld w) (h : HasHighIsochronous w.driver) wher
         ap (λ (n : DescriptorNote). is_active p n.frame) old.1
         ∙ was_active t z of.endpoint p old.0 sort held untold of.here (ap (λ (s : Seen). s.placement) of.same ∙ placed) (inr (ap (λ (q : Option Command). framed_to q d.made (length d.transfers)) c.idle)))
         (λ (on : x.chained ≡ true). absurd (true≢false (sym on ∙ off))) (c.ends z.endpoint x p here placed))
-        (λ (new : IsTaken o z false).
+        (λ (new : IsTaken o z).
         absurd (true≢false (sym new.chained ∙ ap (λ (y : Endpoint). y.chained) (same_Some new.endpoint x (sym new.here ∙ here)) ∙ off))) (c.each t z there sort held)
 
   same_ends : (o : Offered) → ((e : ℕ) → seen_in o.driver.endpoints e ≡ seen_in w.driver.endpoints e) → (e : ℕ) (x : Endpoint) (p : Placement) → slice_get o.driver.endpoints e ≡ Some x
@@ -176,7 +158,7 @@ module _ (w : World) (k : IsMixedWorld w) (h : HasHighIsochronous w.driver) wher
   ok_is e = cc
 
   same_old : (o : Offered) → o.driver.transfers ≡ w.driver.transfers → o.driver.periodic.notes ≡ w.driver.periodic.notes → (t : ℕ) (z : Transfer) → slice_get o.driver.transfers t ≡ Some z
-      → is_descriptor z.sort ≡ true → z.released ≡ false → IsOld w.driver o t z ⊎ IsTaken o z false
+      → is_descriptor z.sort ≡ true → z.released ≡ false → IsOld w.driver o t z ⊎ IsTaken o z
   same_old o moves notes t z there sort held = inl (ap (λ (ts : List Transfer). slice_get ts t) (sym moves) ∙ there, ap (λ ns. note_at ns z.first) notes)
 
   opened_carries : (o : Offered) (x : EpDesc) → IsNew w.driver w.memory o x → Carries o
@@ -202,7 +184,7 @@ module _ (w : World) (k : IsMixedWorld w) (h : HasHighIsochronous w.driver) wher
       record {
         idle = why.idle;
         each = λ t z there sort held.
-            ⊎_elim {C = IsOld w.driver o t z ⊎ IsTaken o z false}
+            ⊎_elim {C = IsOld w.driver o t z ⊎ IsTaken o z}
             (λ (was : slice_get d.transfers t ≡ Some z). inl (was, ap (λ (g : Offered). note_at g.driver.periodic.notes z.first) is))
             (λ (new : (t ≡ length d.transfers) × (z ≡ new_transfer why.number a why.endpoint.dummy)).
             absurd (true≢false (sym sort ∙ ap (λ (c : Transfer). is_descriptor c.sort) new.1 ∙ queued)))
@@ -226,19 +208,12 @@ module _ (w : World) (k : IsMixedWorld w) (h : HasHighIsochronous w.driver) wher
         ends = same_ends o (left_same d w.memory o name (from_frames why named));
       }
 
-  high_is_whole : (v : Speed) → v ≡ speeds.High → is_classic v ≡ false
-  high_is_whole v is = ap is_classic is
-
   iso_carries : (o : Offered) → IsIsoAccepted w.driver w.memory o → Carries o
-  iso_carries o i =
-      let high : is_classic i.endpoint.desc.speed ≡ false =
-      high_is_whole i.endpoint.desc.speed
-      ((h.endpoints i.number i.endpoint i.here (iso_periodic i.endpoint.desc.kind i.iso)).speed i.iso) in
-      record {
-        idle = i.idle;
-        each = λ t z there sort held. subst (λ (c : Bool). IsOld w.driver o t z ⊎ IsTaken o z c) high (each_taken d w.memory o k.mixed.now.framed.place i t z there sort held);
-        ends = same_ends o (seen_same d w.memory o k.mixed.now.framed.place i);
-      }
+  iso_carries o i = record {
+    idle = i.idle;
+    each = each_taken d w.memory o k.mixed.now.framed.place i;
+    ends = same_ends o (seen_same d w.memory o k.mixed.now.framed.place i);
+  }
 
   carries : (cmd : Cmd) (o : Offered) → offered w.driver w.memory cmd ≡ Ok o → Carries o
   carries (commands.OpenEp x) o is = opened_carries o x (reason_of d w.memory (commands.OpenEp x) o is)
@@ -254,53 +229,42 @@ module _ (w : World) (k : IsMixedWorld w) (h : HasHighIsochronous w.driver) wher
   carries (commands.DiskWrite addr lba bytes) o is = absurd (reason_of d w.memory (commands.DiskWrite addr lba bytes) o is)
   carries (commands.Revive addr) o is = absurd (reason_of d w.memory (commands.Revive addr) o is)
 
-  opened : (cmd : Cmd) → OpensHighIsochronous cmd → IsOffered w.driver.room cmd → IsOfOpened IsHigh cmd
-  opened (commands.OpenEp x) only room = λ o on. record { speed = only; some = (room.3 on).some_multi }
-  opened _ only room = tt
+  opened : (cmd : Cmd) → IsOffered w.driver.room cmd → IsOfOpened IsSome cmd
+  opened (commands.OpenEp x) room = λ o on. (room.3 on).some_multi
+  opened _ room = tt
 
-  command_high : (n : ℕ) (cmd : Cmd) → OpensHighIsochronous cmd → IsOffered w.driver.room cmd
-      → HasHighIsochronous (commanded w n cmd).driver
-  command_high n cmd only room = by (offered w.driver w.memory cmd) refl
+  command_periodics : (n : ℕ) (cmd : Cmd) → IsOffered w.driver.room cmd → HasPeriodics (commanded w n cmd).driver
+  command_periodics n cmd room = by (offered w.driver w.memory cmd) refl
     where
       by : (r : Result Offered OfferError) → offered w.driver w.memory cmd ≡ r
-          → HasHighIsochronous (commanded_by w n (name_in cmd) r).driver
-      by (Err why) is = record { endpoints = h.endpoints; whole = h.whole; outside = h.outside }
+          → HasPeriodics (commanded_by w n (name_in cmd) r).driver
+      by (Err why) is = record { some = h.some; outside = h.outside }
       by (Ok o) is =
           let c : Carries o = carries cmd o is in
-          record { endpoints = after_command IsHigh w.driver w.memory cmd o (opened cmd only room) h.endpoints is; whole = whole_by o c; outside = outside_by o c }
+          record { some = after_command IsSome w.driver w.memory cmd o (opened cmd room) h.some is; outside = outside_by o c }
 
 -- ---- along a run
 
-record IsMixedAndHigh (w : World) : Type 0 where
+record IsMixedWithPeriodics (w : World) : Type 0 where
   mixed : IsMixedWorld w
-  high : HasHighIsochronous w.driver
+  periodics : HasPeriodics w.driver
 
-record Can (cmd : Cmd) : Type 0 where
-  mixed : OpensMixed cmd
-  high : OpensHighIsochronous cmd
-
-line_can : (l : Line) → MixedLine l → HighIsochronousLine l → KindOfLine Can l
-line_can (lines.Command cmd) fits only = record { mixed = fits; high = only }
-line_can _ fits only = tt
-
-lines_can : (xs : List (ℕ × Line)) → AllByRecursion (λ x. MixedLine x.1) xs → AllByRecursion (λ x. HighIsochronousLine x.1) xs
-    → AllByRecursion (λ x. KindOfLine Can x.1) xs
-lines_can [] fits only = tt
-lines_can (x ∷ xs) fits only = (line_can x.1 fits.0 only.0, lines_can xs fits.1 only.1)
-
-is_kept : (s : Script) → IsKeptBy (fixed_of s) Can IsMixedAndHigh
+is_kept : (s : Script) → IsKeptBy (fixed_of s) OpensMixed IsMixedWithPeriodics
 is_kept s = record {
-  driver = λ w k. record { mixed = driver_keeps_mixed w k.mixed; high = driver_high w k.mixed k.high };
-  controller = λ w k. record { mixed = controller_keeps_mixed (fixed_of s) w k.mixed; high = k.high };
-  command = λ w line cmd can room k. record { mixed = command_keeps_mixed w line cmd can.mixed room k.mixed; high = command_high w k.mixed k.high line cmd can.high room };
+  driver = λ w k. record { mixed = driver_keeps_mixed w k.mixed; periodics = driver_periodics w k.mixed k.periodics };
+  controller = λ w k. record { mixed = controller_keeps_mixed (fixed_of s) w k.mixed; periodics = k.periodics };
+  command = λ w line cmd can room k. record {
+    mixed = command_keeps_mixed w line cmd can room k.mixed;
+    periodics =
+        command_periodics w k.mixed k.periodics line cmd room;
+  };
 }
 
-pub scripts_have_high : (s : Script) → IsFit s → IsByteScript s → FitsMixed s → HighIsochronousOnly s → (k : ℕ)
-    → HasHighIsochronous (moment s k).world.driver
-scripts_have_high s fit bytes opens only k =
-    (holds_throughout Can IsMixedAndHigh s fit (lines_can s.lines opens only)
+pub scripts_have_periodics : (s : Script) → IsFit s → IsByteScript s → FitsMixed s → (k : ℕ) → HasPeriodics (moment s k).world.driver
+scripts_have_periodics s fit bytes opens k =
+    (holds_throughout OpensMixed IsMixedWithPeriodics s fit (lines_can s.lines opens)
     (record {
       mixed = new_world_is_mixed s fit bytes;
-      high = record { endpoints = λ e x there. absurd (cc); whole = λ t y there. absurd (cc); outside = λ t y x p there. absurd (cc) };
-    })
-    (is_kept s) k).high
+      periodics =
+          record { some = λ e x there. absurd (cc); outside = λ t y x p there. absurd (cc) };
+    }) (is_kept s) k).periodics

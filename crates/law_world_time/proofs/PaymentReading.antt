@@ -1,5 +1,6 @@
--- Where periodic endpoints are of high speed, the walk of the frames reads their queue heads and iTDs alone; and an iTD with something active in this microframe is one that was active as the
--- microframe began, of a placed isochronous endpoint in a frame of its placement (EHCI 1.0, 3.1, 3.3, 3.6, 4.6, 4.7 and 4.10).
+-- The walk of the frames reads queue heads of placed interrupt endpoints; and a descriptor with something active in this microframe is one
+-- that was active as the microframe began, of a placed isochronous endpoint in a frame of its placement (EHCI 1.0, 3.1, 3.3, 3.4, 3.6, 4.6,
+-- 4.7, 4.10 and 4.12.3).
 use Rattle.std.proofs.Common.{◌≡◌, ℕ, ◌+◌, ◌*◌, ◌%◌, ◌<◌, ◌≤◌, Bool, true, false, List, length, slice_get, Option, Some, None, option_map, ap, refl, sym, subst, ◌∙◌, ⊎_elim, arith}
 use Rattle.std.specs.Prelude.{max, ◌==◌}
 use Rattle.std.proofs.lemmas.Bool.{true≢false}
@@ -20,6 +21,7 @@ use Rattle.bandwidth.specs.declared.placements.Placed.{Placed}
 use Rattle.bandwidth.specs.Placements.{is_classic}
 use Rattle.bandwidth.specs.Sums.{is_active}
 use Rattle.drv_periodic_table.specs.Periodic.{is_periodic, note_at}
+use Rattle.drv_periodic_table.specs.Descriptors.{is_served, sitd_in}
 use Rattle.periodic_walk.specs.declared.state.Hand.{Hand}
 use Rattle.periodic_walk.specs.declared.state.Hand.TheVariants as hands
 use Rattle.periodic_walk.specs.declared.chain.ChainRow.TheVariants as chains
@@ -33,7 +35,7 @@ use Rattle.claims_driver.specs.Owners.{views_of}
 use Rattle.claims_driver.specs.Leaving.{HasOwners}
 use Rattle.law_driver_ring.specs.Inventory.{OfSplitIsochronous, sort_of, sorts_of, IsDriven}
 use Rattle.law_driver.proofs.lemmas.chained_transfers.Harvesting.{waits_is}
-use Rattle.law_structures.specs.lent_structures.Structures.{Isochronous, SplitIsochronous, Structures, StructureSets, HoldsIsochronous}
+use Rattle.law_structures.specs.lent_structures.Structures.{Isochronous, SplitIsochronous, Structures, StructureSets, HoldsIsochronous, HoldsSplitIsochronous}
 use Rattle.claims_driver.specs.DueMembers.{framed_to}
 use Rattle.law_frames.specs.Met.{AQueue, AnItd, ASitd, LeadsTo}
 use Rattle.law_descriptors.specs.Described.{HasDescriptor, AreDescribed}
@@ -50,24 +52,27 @@ use Rattle.claims_world.specs.Visits.{frame_in}
 use Rattle.law_world_visits.specs.Visited.{link_ahead, IsVisiting}
 use Rattle.law_world_visits.specs.Belonging.{placed_of, IsQueueAt, IsDescriptorAt, IsHarvestedAt, HaveFields, HeadsHaveFields}
 use Rattle.law_world_visits.specs.DescriptorFields.{IsReadItd, ItdsStand}
-use Rattle.law_world_visits.specs.OneDescriptor.{IsActiveDescriptor, IsActiveSome}
+use Rattle.law_world_visits.specs.OneDescriptor.{IsActiveDescriptor, IsActiveSome, AreServed}
 use Rattle.law_world_visits.specs.Began.{IsAhead}
 use Rattle.law_world_visits.proofs.ActiveStands.{active_is_framed}
 use Rattle.law_world_visits.proofs.BelongReads.{HasReadFields, read_fields, head_is_read}
 use Rattle.law_world_visits.proofs.BelongQueues.{queue_belongs}
 use Rattle.law_world_visits.proofs.BelongDescriptors.{descriptor_belongs, not_driven}
 use Rattle.law_world_visits.proofs.BelongItds.{read_is, itd_is_read, harvested_is_read, told_is}
-use Rattle.law_world_visits.proofs.OneDescriptorMet.{met_is_active}
+use Rattle.law_world_visits.proofs.OneDescriptorMet.{met_is_active, met_split_is_active}
 use Rattle.claims_world.specs.FrameHeads.{IsAllowed, AreAllowed}
 use Rattle.law_world_memory.proofs.lemmas.framed_memory.Masking.{one_of_all}
 use Rattle.law_world_time.specs.DataQueues.{pid_of, ReadsData}
+use Rattle.law_world_time.specs.SitdParts.{is_in}
+use Rattle.law_world_time.specs.SitdFields.{IsSitdAs, HaveSitdFields, SplitTransfer, SitdsStand}
 use Rattle.law_world_time.specs.SplitCharges.{IsPaidFor, at_high, at_split}
 use Rattle.law_world_time.proofs.DataTold.{pid_low}
 use Rattle.law_world_time.proofs.SplitMasked.{allowed_split}
-use Rattle.law_world_time.specs.PaymentLaws.{by_descriptor, IsWholeAndSome, HasHighIsochronous, IsWithin}
+use Rattle.law_world_time.specs.PaymentLaws.{by_descriptor, HasPeriodics, IsWithin}
 use Rattle.law_world_time.proofs.PaymentFrames.{chained_active}
 use Rattle.law_world_time.proofs.PaymentIsochronous.{one_transfer, iso_now}
-use Rattle.law_world_time.proofs.PaymentWalking.{IsHeadThere, IsItdThere, ReadsStructures}
+use Rattle.law_world_time.proofs.PaymentWalking.{IsHeadThere, IsItdThere, IsSitdThere, ReadsStructures}
+use Rattle.law_world_time.proofs.SitdWords.{read_as, read_one}
 
 -- ---- what a fetch reads
 
@@ -111,9 +116,9 @@ itd_cursor m (links.Qh b) a v is = absurd (queue_no_itd b a v (queue_head_at_add
 itd_cursor m (links.Sitd b) a v is = absurd (sitd_no_itd b a v (sitd_at_address m b) is)
 itd_cursor m _ a v is = absurd (cc)
 
-sitd_fetched : (b a : ℕ) (v : Sitd) (o : Option Sitd) → sitd_fetch b o ≡ chains.Sitd a v → b ≡ a
+sitd_fetched : (b a : ℕ) (v : Sitd) (o : Option Sitd) → sitd_fetch b o ≡ chains.Sitd a v → (b ≡ a) × (o ≡ Some v)
 sitd_fetched b a v None is = absurd (cc)
-sitd_fetched b a v (Some p) is = cc
+sitd_fetched b a v (Some p) is = (cc, ap Some (cc))
 
 queue_no_sitd : (b a : ℕ) (v : Sitd) (o : Option Qh) → queue_fetch b o ≡ chains.Sitd a v → ⊥
 queue_no_sitd b a v None is = cc
@@ -123,10 +128,13 @@ itd_no_sitd : (b a : ℕ) (v : Sitd) (o : Option Itd) → itd_fetch b o ≡ chai
 itd_no_sitd b a v None is = cc
 itd_no_sitd b a v (Some q) is = cc
 
-sitd_cursor : (m : Mem) (cursor : Link) (a : ℕ) (v : Sitd) → chain_row m cursor ≡ chains.Sitd a v → cursor ≡ links.Sitd a
+sitd_cursor : (m : Mem) (cursor : Link) (a : ℕ) (v : Sitd) → chain_row m cursor ≡ chains.Sitd a v
+    → (cursor ≡ links.Sitd a) × (sitd_at_address m a ≡ Some v)
 sitd_cursor m (links.Itd b) a v is = absurd (itd_no_sitd b a v (itd_at_address m b) is)
 sitd_cursor m (links.Qh b) a v is = absurd (queue_no_sitd b a v (queue_head_at_address m b) is)
-sitd_cursor m (links.Sitd b) a v is = ap links.Sitd (sitd_fetched b a v (sitd_at_address m b) is)
+sitd_cursor m (links.Sitd b) a v is =
+    let f = sitd_fetched b a v (sitd_at_address m b) is in
+    (ap links.Sitd f.0, subst (λ (i : ℕ). sitd_at_address m i ≡ Some v) f.0 f.1)
 sitd_cursor m _ a v is = absurd (cc)
 
 -- ---- in a world
@@ -139,7 +147,7 @@ not_high Low classic = refl
 few_transactions : (mult multi w : ℕ) → mult ≡ bits 31 30 w → max 1 mult ≡ multi → multi ≤ 3
 few_transactions mult multi w is most = omega (arith, is, most)
 
--- ---- no siTD is met
+-- ---- where a siTD stands its note tells one
 
 no_sitd_there : (split : Bool) (part : Structures) (n : ℕ) (v : Sitd) → split ≡ false → part n ≡ Some (SplitIsochronous v) → HasDescriptor split part n → ⊥
 no_sitd_there false part n v whole here h = let e : SplitIsochronous v ≡ Isochronous h.itd = same_Some (SplitIsochronous v) (Isochronous h.itd) (sym here ∙ h.here) in cc
@@ -164,9 +172,11 @@ module _ (d : DriverContent) (has : HasOwners d) (descs parts : StructureSets) (
 -- ---- a world
 
 module _ (b : World) (s : Standing) (w : World) (k : IsMixedAt s w) (heads : HeadsHaveFields w.driver w.memory) (itds : ItdsStand w.driver w.memory)
-    (high : HasHighIsochronous w.driver) (allowed : AreAllowed w.driver) (data_alone : ReadsData w) (within : IsWithin b w) where
-  its : {a : ℕ} (q : IsQueueAt w.driver a) → IsWholeAndSome q.belongs.endpoint.desc
-  its q = high.endpoints q.belongs.number q.belongs.endpoint q.belongs.here (ap is_periodic q.kind)
+    (sitds : SitdsStand w.driver w.memory w.control) (served : AreServed w.driver w.memory) (periodics : HasPeriodics w.driver)
+    (allowed : AreAllowed w.driver) (data_alone : ReadsData w)
+    (within : IsWithin b w) where
+  its : {a : ℕ} (q : IsQueueAt w.driver a) → 1 ≤ q.belongs.endpoint.desc.multi
+  its q = periodics.some q.belongs.number q.belongs.endpoint q.belongs.here (ap is_periodic q.kind)
 
   leads : w.control.part ≡ Periodic → LeadsTo (met w.driver s.recent) w.control.frame.cursor
   leads periodic = (k.now.framed.runs.walk periodic).cursor
@@ -192,7 +202,7 @@ module _ (b : World) (s : Standing) (w : World) (k : IsMixedAt s w) (heads : Hea
     begins_high : (u : ℕ) → h.belongs.endpoint.desc.speed ≡ High → IsPaidFor x u (hands.Queue (queue_copy a q)) 0
     begins_high u speed =
         let of : IsHeadOf x q = head_is_read w a q h heads speed reads in
-        let some = (its h).some in
+        let some = its h in
         let pid : q.token.active ≡ true → q.token.pid ≤ 1 = λ on. let is = sends on in let low = pid_low x.want.dir in
         omega (arith, is, low) in
         at_high (record {
@@ -214,7 +224,7 @@ module _ (b : World) (s : Standing) (w : World) (k : IsMixedAt s w) (heads : Hea
           head = record {
             classic = classic;
             kind = h.kind;
-            some = (its h).some;
+            some = its h;
             masks = allowed_split x all classic;
             below = ap (λ (n : ℕ). n == 2) (read.eps ∙ have.speed) ∙ not_high h.belongs.endpoint.desc.speed classic;
             max = read.longest ∙ have.longest;
@@ -241,16 +251,60 @@ module _ (b : World) (s : Standing) (w : World) (k : IsMixedAt s w) (heads : Hea
       let h : IsQueueAt w.driver a = queue_belongs s w a k on in
       record { queue = h; begins = begins a q h c.1 }
 
-  no_sitd_met : (n : ℕ) → met w.driver s.recent n ≡ Some ASitd → ⊥
-  no_sitd_met n is =
-      let f = k.now.framed in
-      let m = f.runs.members n ASitd is in
-      ⊎_elim
-      (λ (q : IsDescriptorAt w.driver n).
-      not_whole w.driver f.place.sound.owners s.descs s.parts f.driven f.described n q.transfer.first m.sitd m.here q.name (high.whole q.number q.transfer q.there q.sort q.held))
-      (λ (q : IsHarvestedAt w.driver n).
-      not_whole w.driver f.place.sound.owners s.descs s.parts f.driven f.described n q.transfer.first m.sitd m.here q.name (high.whole q.number q.transfer q.there q.sort q.held))
-      (descriptor_belongs s w n ASitd k is (λ same. cc))
+  -- the frame of what is active is one of its placement
+  active_in : (a e : ℕ) (q : IsDescriptorAt w.driver a) → (i : IsActiveDescriptor w.driver w.memory e (frame_in w.control.frame.index) a)
+      → i.transfer ≡ q.transfer
+      → (c : Bool) → q.belongs.endpoint.chained ≡ c → is_active q.belongs.placement (frame_in w.control.frame.index) ≡ true
+  active_in a e q i same c is_c =
+      let told = waits_is q.belongs.number q.transfer q.waits in
+      let here : slice_get w.driver.endpoints i.transfer.endpoint ≡ Some q.belongs.endpoint
+      = ap (slice_get w.driver.endpoints) (ap (λ (z : Transfer). z.endpoint) same ∙ told.0) ∙ q.belongs.here in
+      let low = active_is_framed s w e (frame_in w.control.frame.index) a k i in
+      ap (is_active q.belongs.placement) (sym i.frame) ∙ by c is_c here (ap (λ (z : Transfer). z.reported) same ∙ told.1) low
+    where
+      by : (c : Bool) → q.belongs.endpoint.chained ≡ c → slice_get w.driver.endpoints i.transfer.endpoint ≡ Some q.belongs.endpoint
+          → i.transfer.reported ≡ false
+          → i.number < framed_to w.driver.command w.driver.made (length w.driver.transfers)
+          → is_active q.belongs.placement (note_at w.driver.periodic.notes i.transfer.first).frame ≡ true
+      by true chained here off low =
+          chained_active w.driver i.number i.transfer q.belongs.endpoint q.belongs.placement k.now.in_frames i.here i.descriptor off here
+          (ap is_iso q.kind) q.belongs.placed chained low
+      by false out here off low = periodics.outside i.number i.transfer q.belongs.endpoint q.belongs.placement i.here i.descriptor i.held
+          off here q.belongs.placed out
+
+  -- what goes on to a descriptor that waits, where something of it is active
+  pub record IsActiveNow (a : ℕ) (q : IsDescriptorAt w.driver a) : Type 0 where
+    pub was : IsActiveDescriptor b.driver b.memory q.belongs.number (frame_in w.control.frame.index) a
+    pub active : is_active q.belongs.placement (frame_in w.control.frame.index) ≡ true
+
+  active_now : (a : ℕ) (q : IsDescriptorAt w.driver a) → IsAhead w a → IsActiveSome w.driver w.memory a → IsActiveNow a q
+  active_now a q ahead one =
+      let i = one.is in
+      let told = waits_is q.belongs.number q.transfer q.waits in
+      let same : i.transfer ≡ q.transfer = one_transfer s w a k q i.number i.transfer i.here i.descriptor i.held i.at in
+      let at_e : one.endpoint ≡ q.belongs.number = sym i.endpoint ∙ ap (λ (z : Transfer). z.endpoint) same ∙ told.0 in
+      let at_f : one.frame ≡ frame_in w.control.frame.index = within.in_frame one.endpoint one.frame a ahead i in
+      record {
+        was = subst (λ (f : ℕ). IsActiveDescriptor b.driver b.memory q.belongs.number f a) at_f
+            (subst (λ (e : ℕ). IsActiveDescriptor b.driver b.memory e one.frame a) at_e (within.old one.endpoint one.frame a ahead i));
+        active = in_frame one.endpoint one.frame at_f i same;
+      }
+    where
+      in_frame : (e f : ℕ) → f ≡ frame_in w.control.frame.index → (i : IsActiveDescriptor w.driver w.memory e f a) → i.transfer ≡ q.transfer
+          → is_active q.belongs.placement (frame_in w.control.frame.index) ≡ true
+      in_frame e f at i same =
+          active_in a e q (record {
+            number = i.number;
+            transfer = i.transfer;
+            here = i.here;
+            descriptor = i.descriptor;
+            held = i.held;
+            lent = i.lent;
+            endpoint = i.endpoint;
+            frame = i.frame ∙ at;
+            at = i.at;
+            active = i.active;
+          }) same q.belongs.endpoint.chained refl
 
   -- ---- an iTD with something active in this microframe
 
@@ -283,42 +337,20 @@ module _ (b : World) (s : Standing) (w : World) (k : IsMixedAt s w) (heads : Hea
 
     there_by : (q : IsDescriptorAt w.driver a) → IsItdThere b w.driver (controller_parts w) a v
     there_by q =
-        let one = is_active_one in
-        let i = one.is in
-        let told = waits_is q.belongs.number q.transfer q.waits in
-        let same : i.transfer ≡ q.transfer = one_transfer s w a k q i.number i.transfer i.here i.descriptor i.held i.at in
-        let at_e : one.endpoint ≡ q.belongs.number = sym i.endpoint ∙ ap (λ (z : Transfer). z.endpoint) same ∙ told.0 in
-        let at_f : one.frame ≡ frame_in w.control.frame.index = within.in_frame one.endpoint one.frame a ahead i in
-        let was : IsActiveDescriptor b.driver b.memory q.belongs.number (frame_in w.control.frame.index) a
-        = subst (λ (f : ℕ). IsActiveDescriptor b.driver b.memory q.belongs.number f a) at_f
-        (subst (λ (e : ℕ). IsActiveDescriptor b.driver b.memory e one.frame a) at_e (within.old one.endpoint one.frame a ahead i)) in
+        let now = active_now a q ahead is_active_one in
         let n = iso_now s w a k q AnItd is_met in
         let read : IsReadItd (placed_of q.belongs) v = itd_is_read s w a v q k is_met itds.fields reads in
-        let periodic_kind = ap is_periodic q.kind in
-        let some : 1 ≤ q.belongs.endpoint.desc.multi = (high.endpoints q.belongs.number q.belongs.endpoint q.belongs.here periodic_kind).some in
+        let some : 1 ≤ q.belongs.endpoint.desc.multi =
+        periodics.some q.belongs.number q.belongs.endpoint q.belongs.here (ap is_periodic q.kind) in
         record {
           of = placed_of q.belongs;
-          owned = by_descriptor q.belongs.number n.its n.same was;
+          owned = by_descriptor q.belongs.number n.its n.same now.was;
           descriptor = read.of;
           some = (let m = read.multi in omega (arith, some, m));
           multi = (let m = read.multi in omega (arith, m));
           own = read.own (w.control.frame.index % 8) small on;
-          active = active_by i same at_f told.0 told.1 q.belongs.endpoint.chained refl;
+          active = now.active;
         }
-      where
-        active_by : {e f : ℕ} (i : IsActiveDescriptor w.driver w.memory e f a) → i.transfer ≡ q.transfer → f ≡ frame_in w.control.frame.index → q.transfer.endpoint ≡ q.belongs.number → q.transfer.reported ≡ false
-            → (c : Bool) → q.belongs.endpoint.chained ≡ c → is_active q.belongs.placement (frame_in w.control.frame.index) ≡ true
-        active_by {e} {f} i same at_f told untold c is_c =
-            let here : slice_get w.driver.endpoints i.transfer.endpoint ≡ Some q.belongs.endpoint
-            = ap (slice_get w.driver.endpoints) (ap (λ (z : Transfer). z.endpoint) same ∙ told) ∙ q.belongs.here in
-            let low = active_is_framed s w e f a k i in
-            ap (is_active q.belongs.placement) (sym (i.frame ∙ at_f)) ∙ by c is_c here (ap (λ (z : Transfer). z.reported) same ∙ untold) low
-          where
-            by : (c : Bool) → q.belongs.endpoint.chained ≡ c → slice_get w.driver.endpoints i.transfer.endpoint ≡ Some q.belongs.endpoint → i.transfer.reported ≡ false
-                → i.number < framed_to w.driver.command w.driver.made (length w.driver.transfers) → is_active q.belongs.placement (note_at w.driver.periodic.notes i.transfer.first).frame ≡ true
-            by true chained here off low =
-                chained_active w.driver i.number i.transfer q.belongs.endpoint q.belongs.placement k.now.in_frames i.here i.descriptor off here (ap is_iso q.kind) q.belongs.placed chained low
-            by false out here off low = high.outside i.number i.transfer q.belongs.endpoint q.belongs.placement i.here i.descriptor i.held off here q.belongs.placed out
 
     itd_there : IsItdThere b w.driver (controller_parts w) a v
     itd_there =
@@ -326,18 +358,106 @@ module _ (b : World) (s : Standing) (w : World) (k : IsMixedAt s w) (heads : Hea
         (λ (h : IsHarvestedAt w.driver a). absurd (true≢false (sym on ∙ harvested_is_read s w a v h k is_met itds.served reads (w.control.frame.index % 8) small)))
         (descriptor_belongs s w a AnItd k is_met (λ same. cc))
 
+  -- ---- a siTD that is active
+
+  module _ (a : ℕ) (v : Sitd) (periodic : w.control.part ≡ Periodic) (free : w.control.frame.hand ≡ None)
+      (is : chain_row w.memory w.control.frame.cursor ≡ chains.Sitd a v)
+      (on : v.active ≡ true) where
+    sitd_at_it : w.control.frame.cursor ≡ links.Sitd a
+    sitd_at_it = (sitd_cursor w.memory w.control.frame.cursor a v is).0
+
+    sitd_reads : sitd_at_address w.memory a ≡ Some v
+    sitd_reads = (sitd_cursor w.memory w.control.frame.cursor a v is).1
+
+    sitd_met : met w.driver s.recent a ≡ Some ASitd
+    sitd_met = subst (LeadsTo (met w.driver s.recent)) sitd_at_it (leads periodic)
+
+    sitd_ahead : IsAhead w a
+    sitd_ahead = record {
+      periodic = periodic;
+      next = ap (λ (o : Option Hand). name_of (link_ahead o w.control.frame.cursor)) free
+          ∙ ap name_of sitd_at_it;
+    }
+
+    sitd_active : IsActiveSome w.driver w.memory a
+    sitd_active =
+        let m = k.now.framed.runs.members a ASitd sitd_met in
+        let holds : HoldsSplitIsochronous w.memory a m.sitd = k.now.framed.runs.ring.tells.each a a (SplitIsochronous m.sitd) m.here in
+        let same : v ≡ m.sitd = read_one w.memory a v m.sitd sitd_reads holds in
+        met_split_is_active s w a m.sitd k m.here (ap (λ (z : Sitd). z.active) (sym same) ∙ on)
+
+    split_noted : (q : IsDescriptorAt w.driver a) (c : Bool) → (note_at w.driver.periodic.notes q.transfer.first).split ≡ c
+        → (note_at w.driver.periodic.notes q.transfer.first).split ≡ true
+    split_noted q true is = is
+    split_noted q false whole =
+        let f = k.now.framed in
+        let m = f.runs.members a ASitd sitd_met in
+        absurd (not_whole w.driver f.place.sound.owners s.descs s.parts f.driven f.described a q.transfer.first m.sitd m.here q.name whole)
+
+    of_split : IsDescriptorAt w.driver a → SplitTransfer w.driver
+    of_split q = record {
+      number = q.number;
+      transfer = q.transfer;
+      endpoint = q.belongs.endpoint;
+      placement = q.belongs.placement;
+      there = q.there;
+      sort = q.sort;
+      held = q.held;
+      split = split_noted q (note_at w.driver.periodic.notes q.transfer.first).split refl;
+      here = ap (slice_get w.driver.endpoints) (waits_is q.belongs.number q.transfer q.waits).0 ∙ q.belongs.here;
+      placed = q.belongs.placed;
+    }
+
+    split_there : (q : IsDescriptorAt w.driver a) → IsSitdThere b w.driver (controller_parts w) a v
+    unfolding of_split
+    split_there q =
+        let now = active_now a q sitd_ahead sitd_active in
+        let n = iso_now s w a k q ASitd sitd_met in
+        let x : Placed = placed_of q.belongs in
+        let have : HaveSitdFields (sitd_in w.memory q.transfer.first) q.belongs.endpoint.desc q.belongs.placement =
+        sitds.fields (of_split q) in
+        let read : IsSitdAs (is_in x.want.dir) x.placement.smask x.placement.cmask x.want.max v =
+        read_as _ _ _ _ w.memory q.transfer.first a v q.name sitd_reads have.has in
+        let all : IsAllowed x = one_of_all IsAllowed w.driver.periodic.plan.placed q.belongs.planned.place x allowed
+        q.belongs.planned.there in
+        record {
+          of = x;
+          owned = by_descriptor q.belongs.number n.its n.same now.was;
+          descriptor = record {
+            classic = have.classic;
+            kind = q.kind;
+            some = periodics.some q.belongs.number q.belongs.endpoint q.belongs.here (ap is_periodic q.kind);
+            masks = allowed_split x all have.classic;
+            way = read.way;
+            smask = read.smask;
+            cmask = read.cmask;
+            prog = read.prog;
+          };
+          parts = read.parts;
+          active = now.active;
+        }
+
+    sitd_there : IsSitdThere b w.driver (controller_parts w) a v
+    sitd_there =
+        ⊎_elim {C = IsSitdThere b w.driver (controller_parts w) a v} split_there
+        (λ (h : IsHarvestedAt w.driver a).
+        let i = sitd_active.is in
+        let same : i.transfer.first ≡ h.transfer.first = same_blocks i.transfer.first h.transfer.first (sym i.at ∙ h.name) in
+        absurd (true≢false (sym (served h.number h.transfer h.there h.sort h.reported h.held)
+        ∙ ap (λ (n : ℕ). is_served (note_at w.driver.periodic.notes n) w.memory n) (sym same) ∙ i.active)))
+        (descriptor_belongs s w a ASitd k sitd_met (λ same. cc))
+
   structures : ReadsStructures b w.driver (controller_parts w)
   structures = record {
     heads = λ a q periodic free is. head a q periodic is;
     itds = λ a v periodic free is on. itd_there a v periodic free is on;
-    no_sitd = λ a v periodic free is.
-        no_sitd_met a (subst (LeadsTo (met w.driver s.recent)) (sitd_cursor w.memory w.control.frame.cursor a v is) (leads periodic));
+    sitds = λ a v periodic free is on. sitd_there a v periodic free is on;
     takes = λ h dir by periodic held a t is. data_alone.takes h a t dir by periodic held is;
   }
 
 pub reads_structures : (b w : World) (vs : List ℕ) → IsVisiting b w vs → HeadsHaveFields w.driver w.memory → ItdsStand w.driver w.memory
-    → HasHighIsochronous w.driver → AreAllowed w.driver → ReadsData w
+    → SitdsStand w.driver w.memory w.control → AreServed w.driver w.memory → HasPeriodics w.driver → AreAllowed w.driver → ReadsData w
     → IsWithin b w
     → ReadsStructures b w.driver (controller_parts w)
-reads_structures b w vs g heads itds high allowed data_alone within =
-    structures b g.mixed.standing w g.mixed.mixed heads itds high allowed data_alone within
+reads_structures b w vs g heads itds sitds served periodics allowed data_alone within =
+    structures b g.mixed.standing w g.mixed.mixed heads itds sitds served periodics allowed data_alone within

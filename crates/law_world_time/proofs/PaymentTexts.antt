@@ -8,11 +8,12 @@ use Rattle.law_world_memory.proofs.Texts.{texts_fit}
 use Rattle.law_world_memory.proofs.FittingTexts.{texts_open_fitting}
 use Rattle.bus_world.specs.Budgets.{moment}
 use Rattle.claims_world.specs.WithinLoad.{payments, IsWithinLoad}
-use Rattle.claims_world.specs.Scripts.{HighIsochronousOnly}
 use Rattle.law_world_visits.proofs.VisitTexts.{lines_fit}
 use Rattle.law_world_time.proofs.PaymentMoments.{scripts_pay}
+use Rattle.law_world_time.proofs.SlotTexts.{texts_fit_slots}
 
-pub texts_load : (text : List ℕ) (s : Script) → Spells text s → HighIsochronousOnly s → (k : ℕ)
+pub texts_load : (text : List ℕ) (s : Script) → Spells text s → (k : ℕ)
     → IsWithinLoad (moment s k).world (payments s k)
-texts_load text s spelled only =
-    scripts_pay s (spelled_fits text s spelled) (spelled_bytes text s spelled) (lines_fit s.lines (texts_fit text s spelled) (texts_open_fitting text s spelled)) only
+texts_load text s spelled =
+    scripts_pay s (spelled_fits text s spelled) (spelled_bytes text s spelled)
+    (lines_fit s.lines (texts_fit text s spelled) (texts_open_fitting text s spelled)) (texts_fit_slots text s spelled)

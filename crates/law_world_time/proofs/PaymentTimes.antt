@@ -19,9 +19,21 @@ use Rattle.bandwidth.specs.declared.placements.Placed.{Placed}
 use Rattle.bandwidth.specs.declared.placements.Placement.{Placement}
 use Rattle.bandwidth.specs.Placements.{is_classic}
 use Rattle.drv_periodic_table.specs.Periodic.{is_periodic}
+use Rattle.usb_base.specs.declared.packets.DataPart.TheVariants.{All}
+use Rattle.usb_base.specs.declared.packets.Dir.TheVariants as ways
+use Rattle.usb_base.specs.declared.packets.EpKind.TheVariants as kinds
+use Rattle.usb_base.specs.declared.packets.Pid.TheVariants.{In}
+use Rattle.usb_base.specs.declared.packets.Split.TheVariants.{Start, Complete}
+use Rattle.itd_sitd.specs.declared.sitd.Sitd.{Sitd}
+use Rattle.hc_interrupt.specs.Turns.{microframe_of}
 use Rattle.hc_iso.specs.declared.held.HeldItd.{HeldItd}
+use Rattle.hc_iso.specs.declared.held.SplitOutcome.{SplitOutcome}
+use Rattle.hc_iso.specs.declared.held.SitdTurn.{SitdTurn}
+use Rattle.hc_iso.specs.declared.held.SitdTurn.TheVariants as sitd_turns
 use Rattle.hc_iso.specs.Itd.{itd_transaction}
+use Rattle.hc_iso.specs.Sitd.{sitd_missed, comes, turn_at, sitd_turn, part_bytes, sitd_ask, sitd_with, sitd_out, sitd_transaction}
 use Rattle.periodic_walk.specs.declared.state.Hand.{Hand}
+use Rattle.periodic_walk.specs.declared.state.Hand.TheVariants as hands
 use Rattle.periodic_walk.specs.Place.{FramePlace}
 use Rattle.hc_core.specs.declared.controller.MicroframePart.TheVariants.{Periodic}
 use Rattle.hc_core.specs.declared.controller.ControllerRow.{ControllerRow}
@@ -33,10 +45,9 @@ use Rattle.drv_table.specs.DriverContent.{DriverContent}
 use Rattle.drv_table.specs.Accepting.{Offered}
 use Rattle.drv_table.specs.Offers.{offered, IsOffered}
 use Rattle.drv_table.specs.Rows.{driver_row}
-use Rattle.law_driver.proofs.lemmas.run_owners.Ordered.{iso_periodic}
 use Rattle.law_world_steps.specs.receiving_runs.Runs.{KindOfLine, IsKeptBy}
 use Rattle.law_world_steps.proofs.lemmas.receiving_runs.Runs.{holds_throughout}
-use Rattle.claims_world.specs.InTime.{is_late, is_late_at, is_late_itd, IsInTime}
+use Rattle.claims_world.specs.InTime.{is_late, is_late_at, is_late_itd, is_late_split, is_late_sitd, IsInTime}
 use Rattle.bus_wire.specs.Bus.{Fixed, fixed_of}
 use Rattle.bus_world.specs.World.{World, driver_parts, controller_parts, controller_row, kind_next, name_in, commanded, commanded_by}
 use Rattle.bus_world.specs.Budgets.{moment}
@@ -51,19 +62,21 @@ use Rattle.law_world_visits.proofs.ReasonHeld.{texts_keep_held_time}
 use Rattle.law_world_visits.proofs.ReasonParts.{InPart, row_in}
 use Rattle.law_world_visits.proofs.VisitControlling.{frame_periodic}
 use Rattle.law_world_visits.proofs.VisitTexts.{lines_fit}
-use Rattle.law_world_time.specs.SplitCharges.{IsPaidFor, at_high, at_split}
+use Rattle.law_world_time.specs.SplitCharges.{IsPaidFor, at_high, at_split, at_sitd}
 use Rattle.claims_world.specs.Prices.{cost_of}
 use Rattle.claims_world.specs.WithinLoad.{is_again, payments, repeats_at, repeats_after, repeats_next, repeats, paid_by_all, IsWithinLoad, LeavesTheRest}
 use Rattle.claims_world.specs.FrameHeads.{FrameHeadsStand}
-use Rattle.claims_world.specs.Scripts.{OpensHighPeriodics, HighPeriodicsLine, HighPeriodicsOnly, OpensHighIsochronous, HighIsochronousLine, HighIsochronousOnly}
-use Rattle.law_world_time.specs.PaymentLaws.{TextsPayWithinLoad, IsOwnedBy, by_queue, by_descriptor, IsHandPaid, IsPassing, ArePaidByHand}
+use Rattle.claims_world.specs.Scripts.{OpensHighPeriodics, HighPeriodicsLine, HighPeriodicsOnly}
+use Rattle.law_world_time.specs.PaymentLaws.{TextsPayWithinLoad, IsOwnedBy, by_queue, by_descriptor, IsHandPaid, IsIdle, IsPassing, ArePaidByHand}
 use Rattle.law_world_time.specs.PaymentTimes.{TextsLeaveTheRest, TextsAreInTime}
 use Rattle.law_world_time.proofs.ChargeEvents.{event_in_time}
-use Rattle.law_world_time.proofs.ChargeLoads.{transactions_short}
+use Rattle.law_budgets.proofs.lemmas.visit_prices.Queues.{not_late}
+use Rattle.law_world_time.proofs.ChargeLoads.{bus_short, transactions_short}
 use Rattle.law_world_time.proofs.PaymentMoments.{ArePaidIn, scripts_are_paid}
 use Rattle.law_world_time.proofs.PaymentTexts.{texts_load}
 use Rattle.law_world_time.proofs.PaymentTimesRest.{rest_along}
-use Rattle.law_world_time.proofs.PaymentWalking.{in_hand_once}
+use Rattle.law_world_time.proofs.PaymentWalking.{in_hand_once, idle_once}
+use Rattle.law_world_time.proofs.SlotTexts.{texts_fit_slots}
 use Rattle.law_world_time.proofs.SplitCharged.{split_in_time}
 use Rattle.law_world_time.proofs.SplitMasked.{scripts_keep_allowed}
 
@@ -119,12 +132,46 @@ fits_in price left few enough = omega (arith, few, enough)
 passing_time : (left : ℕ) (h : HeldItd) → h.ended ≡ None → h.slot.active ≡ false → is_late_itd left h h.ended ≡ false
 passing_time left h goes_on off = ap (is_late_itd left h) goes_on ∙ ap (λ (b : Bool). b && nat_lt left (itd_transaction h).price.0) off
 
+idle_time : (p : FramePlace) (hand : Hand) → IsIdle hand → is_late_at p (Some hand) ≡ false
+idle_time p (hands.Queue h) idle = absurd idle
+idle_time p (hands.Itd h) idle = passing_time p.walk.left h idle.0 idle.1
+idle_time p (hands.Sitd h) idle =
+    ap (is_late_sitd p.walk.left (microframe_of p.walk.index) h.sitd) idle.0
+    ∙ ap (λ (b : Bool). is_late_split p.walk.left h.sitd
+    (turn_at b (sitd_missed (microframe_of p.walk.index) h.sitd) (comes (microframe_of p.walk.index) h.sitd))) idle.1
+
+-- a part of at most 188 bytes
+sitd_short : (v : Sitd) → (sitd_transaction v).price.0 ≤ 21000000
+sitd_short v = by v.dir_in v.split_state
+  where
+    part : part_bytes v ≤ 1024
+    part = omega arith
+
+    by : (way split : Bool)
+        → (if way then (if split then sitd_with (sitd_ask v (Complete v.hub v.port) In) ways.In 0 (part_bytes v) else sitd_with
+        (sitd_ask v (Start v.hub v.port All) In) ways.In 0 0)
+        else sitd_out v).price.0 ≤ 21000000
+    by true true = bus_short kinds.Iso ways.In (part_bytes v) part
+    by true false = bus_short kinds.Iso ways.In 0 (omega arith)
+    by false split = bus_short kinds.Iso ways.Out (part_bytes v) part
+
+sitd_time : (left u : ℕ) (v : Sitd) (o : Option SplitOutcome) → 21000000 ≤ left → is_late_sitd left u v o ≡ false
+sitd_time left u v (Some outcome) enough = refl
+sitd_time left u v None enough = by (sitd_turn u v)
+  where
+    by : (turn : SitdTurn) → is_late_split left v turn ≡ false
+    by sitd_turns.Rest = refl
+    by sitd_turns.Miss = refl
+    by sitd_turns.Work = let few = sitd_short v in not_late left (sitd_transaction v).price.0 (omega (arith, few, enough))
+
 module _ (b : World) (d : DriverContent) (now index : ℕ) (p : FramePlace) (same : p.walk.index ≡ index) (ps : List (ℕ × ℕ)) (short : AreShort d) (enough : 21000000 ≤ p.walk.left) where
   paid_time : (x : Placed) (paid : ℕ) (hand : Hand) → x.want.max ≤ 1024 → p.walk.hand ≡ Some hand → IsPaidFor x p.walk.index hand paid
       → is_late p ≡ false
   paid_time x paid hand few is (at_high held) =
       event_in_time x p hand is held.of (fits_in _ p.walk.left (transactions_short x.want few) enough)
   paid_time x paid hand few is (at_split h own held) = ap (is_late_at p) (is ∙ ap Some own) ∙ split_in_time x p h paid held few enough
+  paid_time x paid hand few is (at_sitd h own held) =
+      ap (is_late_at p) (is ∙ ap Some own) ∙ sitd_time p.walk.left (microframe_of p.walk.index) h.sitd h.settled enough
 
   held_time : (hand : Hand) → p.walk.hand ≡ Some hand → IsHandPaid b d now index hand ps → is_late p ≡ false
   held_time hand is k =
@@ -132,7 +179,7 @@ module _ (b : World) (d : DriverContent) (now index : ℕ) (p : FramePlace) (sam
       (subst (λ (i : ℕ). IsPaidFor k.of i hand k.paid) (sym same) k.held)
 
   passed_time : (hand : Hand) → p.walk.hand ≡ Some hand → IsPassing hand ps → is_late p ≡ false
-  passed_time hand is k = ap (is_late_at p) (is ∙ ap Some k.is) ∙ passing_time p.walk.left k.copy k.goes_on k.off
+  passed_time hand is k = ap (is_late_at p) is ∙ idle_time p hand k.idle
 
   hand_time : (o : Option Hand) → p.walk.hand ≡ o → ArePaidByHand b d now index o ps → is_late p ≡ false
   hand_time None is k = ap (is_late_at p) is
@@ -177,19 +224,6 @@ scripts_are_high : (s : Script) → IsFit s → HighPeriodicsOnly s → (k : ℕ
 scripts_are_high s fit only k = holds_throughout OpensHighPeriodics (λ w. AreHigh w.driver) s fit (high_lines s.lines only)
     (λ e x there. absurd (cc)) (stays_high s) k
 
--- so are the isochronous ones
-iso_line : (l : Line) → HighPeriodicsLine l → HighIsochronousLine l
-iso_line (lines.Command cmd) only = iso_command cmd only
-  where
-    iso_command : (cmd : Cmd) → OpensHighPeriodics cmd → OpensHighIsochronous cmd
-    iso_command (commands.OpenEp x) only = λ iso. only (iso_periodic x.kind iso)
-    iso_command _ only = tt
-iso_line _ only = tt
-
-iso_lines : (xs : List (ℕ × Line)) → AllByRecursion (λ x. HighPeriodicsLine x.1) xs → AllByRecursion (λ x. HighIsochronousLine x.1) xs
-iso_lines [] only = tt
-iso_lines (x ∷ xs) only = (iso_line x.1 only.0, iso_lines xs only.1)
-
 owner_high : (b : World) (d : DriverContent) (now f a : ℕ) (x : Placed) → AreHigh d → IsOwnedBy b d now f a x → x.want.speed ≡ High
 owner_high b d now f a x high (by_queue q is) =
     subst (λ (z : Placed). z.want.speed ≡ High) is (high q.belongs.number q.belongs.endpoint q.belongs.here (ap is_periodic q.kind))
@@ -199,6 +233,7 @@ owner_high b d now f a x high (by_descriptor e i is active) =
 paid_once : (x : Placed) (u : ℕ) (hand : Hand) (paid : ℕ) → x.want.speed ≡ High → IsPaidFor x u hand paid → is_again hand ≡ false
 paid_once x u hand paid high (at_high held) = in_hand_once x u hand held.of
 paid_once x u hand paid high (at_split h is held) = absurd (true≢false (sym held.head.classic ∙ ap is_classic high))
+paid_once x u hand paid high (at_sitd h is held) = ap is_again is
 
 hand_once : (b : World) (d : DriverContent) (now index : ℕ) (hand : Hand) (ps : List (ℕ × ℕ)) → AreHigh d
     → ArePaidByHand b d now index (Some hand) ps → is_again hand ≡ false
@@ -206,7 +241,7 @@ hand_once b d now index hand ps high k =
     ⊎_elim {C = is_again hand ≡ false}
     (λ (h : IsHandPaid b d now index hand ps). paid_once h.of index hand h.paid
     (owner_high b d now (frame_in index) h.address h.of high h.owned) h.held)
-    (λ (h : IsPassing hand ps). ap is_again h.is) k
+    (λ (h : IsPassing hand ps). idle_once hand h.idle) k
 
 none_at : (b : World) (d : DriverContent) (now index : ℕ) (o : Option Hand) (ps : List (ℕ × ℕ)) (step : HcStep) (n : ℕ) → AreHigh d
     → ArePaidByHand b d now index o ps → n ≡ 0
@@ -264,10 +299,12 @@ module _ (fixed : Fixed) (b w : World) (ps : List (ℕ × ℕ)) (again : ℕ) (s
 
 -- ---- a run
 
-texts_are_paid : (text : List ℕ) (s : Script) → Spells text s → HighIsochronousOnly s → (k : ℕ)
+texts_are_paid : (text : List ℕ) (s : Script) → Spells text s → (k : ℕ)
     → ArePaidIn (began s k) (moment s k).world (payments s k)
-texts_are_paid text s spelled only k =
-    scripts_are_paid s (spelled_fits text s spelled) (spelled_bytes text s spelled) (lines_fit s.lines (texts_fit text s spelled) (texts_open_fitting text s spelled)) only k
+texts_are_paid text s spelled k =
+    scripts_are_paid s (spelled_fits text s spelled) (spelled_bytes text s spelled)
+    (lines_fit s.lines (texts_fit text s spelled) (texts_open_fitting text s spelled))
+    (texts_fit_slots text s spelled) k
 
 texts_make_none_again : (text : List ℕ) (s : Script) → Spells text s → HighPeriodicsOnly s → (k : ℕ) → repeats s k ≡ 0
 texts_make_none_again text s spelled only k =
@@ -276,7 +313,7 @@ texts_make_none_again text s spelled only k =
     record {
       began = began s j;
       paid = payments s j;
-      are = texts_are_paid text s spelled (iso_lines s.lines only) j;
+      are = texts_are_paid text s spelled j;
       high = scripts_are_high s (spelled_fits text s spelled) only j;
     }) refl k
 
@@ -285,10 +322,10 @@ texts_leave_rest text s spelled k = rest_along s (λ j. (texts_keep_held_time te
 
 pub texts_in_time : TextsAreInTime
 texts_in_time text s spelled = record {
-  each = λ only k.
+  each = λ k.
       is_in_time (fixed_of s) (began s k) (moment s k).world (payments s k) (repeats s k)
-      (scripts_are_short s (spelled_fits text s spelled) k) (texts_are_paid text s spelled only k)
-      (texts_load text s spelled only k) (texts_leave_rest text s spelled k);
+      (scripts_are_short s (spelled_fits text s spelled) k) (texts_are_paid text s spelled k)
+      (texts_load text s spelled k) (texts_leave_rest text s spelled k);
   once = texts_make_none_again text s spelled;
 }
 

@@ -10,8 +10,13 @@ use Rattle.usb_base.specs.declared.packets.Reply.{Reply}
 use Rattle.usb_base.specs.declared.packets.Reply.TheVariants.{Silent}
 use Rattle.word_mem.specs.Memory.{reaches}
 use Rattle.op_registers.specs.Events.{after_begin}
+use Rattle.hc_interrupt.specs.Turns.{microframe_of}
 use Rattle.hc_iso.specs.declared.held.HeldItd.{HeldItd}
+use Rattle.hc_iso.specs.declared.held.HeldSitd.{HeldSitd}
 use Rattle.hc_iso.specs.declared.held.IsoEnd.{IsoEnd}
+use Rattle.hc_iso.specs.declared.held.SplitOutcome.{SplitOutcome}
+use Rattle.hc_iso.specs.Sitd.{sitd_missed, comes, turn_at}
+use Rattle.link_words.specs.declared.fields.LinkBits.{LinkBits}
 use Rattle.hc_iso.specs.Itd.{itd_transaction, fetched_itd}
 use Rattle.qh_qtd.specs.declared.qtd.Qtd.{Qtd}
 use Rattle.qh_qtd.specs.declared.queue_head.Qh.{Qh}
@@ -27,6 +32,8 @@ use Rattle.periodic_walk.specs.declared.chain.ChainRow.{ChainRow}
 use Rattle.periodic_walk.specs.declared.chain.ChainRow.TheVariants as chains
 use Rattle.periodic_walk.specs.declared.itd.ItdRow.{ItdRow}
 use Rattle.periodic_walk.specs.declared.itd.ItdRow.TheVariants as itds
+use Rattle.periodic_walk.specs.declared.sitd.SitdRow.{SitdRow}
+use Rattle.periodic_walk.specs.declared.sitd.SitdRow.TheVariants as sitds
 use Rattle.periodic_walk.specs.declared.state.HeldQueue.{HeldQueue}
 use Rattle.periodic_walk.specs.declared.queue.QueueRow.TheVariants as queue_rows
 use Rattle.periodic_walk.specs.Walk.{Walk as FrameWalk, hand_address}
@@ -34,6 +41,7 @@ use Rattle.periodic_walk.specs.Place.{FramePlace, Effect, passing, HasEffect}
 use Rattle.periodic_walk.specs.Place.Effect.{Leaves, Asks}
 use Rattle.periodic_walk.specs.Queue.{queue_row}
 use Rattle.periodic_walk.specs.Itd.{timed_row, ended_row, itd_row, itd_effect}
+use Rattle.periodic_walk.specs.Sitd.{turn_row, settled_row, sitd_effect}
 use Rattle.periodic_walk.specs.Chain.{chain_row, chain_walk, chain_step}
 use Rattle.periodic_walk.specs.Rows.{step_at, step_of, effect_at, effect_of}
 use Rattle.hc_core.specs.declared.controller.MicroframePart.TheVariants.{Over, Periodic}
@@ -50,18 +58,20 @@ use Rattle.law_world_visits.specs.Began.{began_at}
 use Rattle.claims_world.specs.Visits.{fetched_by, visits_after, visits_at, frame_in}
 use Rattle.law_world_time.specs.Charges.{charge, IsInHandOf, TakesData, GoesOnOrEnds, IsCharging, IsHeldFor, IsHeldStill, IsSummed, Begins}
 use Rattle.law_world_time.specs.DataQueues.{pid_of, GoesBy}
-use Rattle.law_world_time.specs.SplitCharges.{IsSplitInHand, IsPaidFor, at_high, at_split, TakesWay, added, IsPaidStill, GoesOnPaid, PaysBy}
+use Rattle.law_world_time.specs.SitdParts.{IsInParts, IsSitdOf, IsSitdInHand, IsSitdStill, GoesOnInParts, PartsBy}
+use Rattle.law_world_time.specs.SplitCharges.{IsSplitInHand, IsPaidFor, at_high, at_split, at_sitd, TakesWay, added, IsPaidStill, GoesOnPaid, PaysBy}
 use Rattle.law_world_time.specs.ChargeLoads.{IsPaidIn}
 use Rattle.law_world_visits.specs.Belonging.{placed_of, IsQueueAt}
 use Rattle.law_world_visits.proofs.VisitWalking.{over_no, async_no}
 use Rattle.claims_world.specs.Prices.{cost_of}
 use Rattle.claims_world.specs.WithinLoad.{is_again, begun_too, paid_more, payments_at, payments_after, microframe_in}
 use Rattle.law_world_time.specs.Payments.{names_in}
-use Rattle.law_world_time.specs.PaymentLaws.{IsOwnedBy, by_queue, by_descriptor, IsPayment, IsHandPaid, IsPassing, ArePaidByHand, ArePaid}
+use Rattle.law_world_time.specs.PaymentLaws.{IsOwnedBy, by_queue, by_descriptor, IsPayment, IsHandPaid, IsIdle, IsPassing, ArePaidByHand, ArePaid}
 use Rattle.law_world_time.proofs.ChargeEvents.{leads_charged}
 use Rattle.law_world_time.proofs.ChargeSums.{charges_summed, itd_begins}
 use Rattle.law_world_time.proofs.ChargeLoads.{held_placed}
 use Rattle.law_world_time.proofs.DataTold.{pid_low}
+use Rattle.law_world_time.proofs.SitdCharged.{sitds_priced}
 use Rattle.law_world_time.proofs.SplitCharged.{splits_priced}
 use Rattle.law_world_time.proofs.PriceTaken.{leads_cost}
 
@@ -91,18 +101,25 @@ in_hand_of x u v (hands.Sitd h) same held = absurd held
 held_in : (x : Placed) (index : ℕ) (hand : Hand) (paid : ℕ) → IsHeldFor x index hand paid → IsHeldFor x (microframe_in index) hand paid
 held_in x index hand paid held = record { of = in_hand_of x index (microframe_in index) hand (same_part index) held.of; charged = held.charged }
 
+-- .. below a hub
+classic_in : (x : Placed) (index paid : ℕ) → paid ≤ cost_in x.want x.placement (index % 8)
+    → is_active x.placement (microframe_in index / 8) ≡ true
+    → IsPaidIn (microframe_in index) (record { of = x; paid = paid })
+classic_in x index paid one on = record {
+  within =
+      let same : cost_at (microframe_in index) x ≡ cost_in x.want x.placement (microframe_in index % 8)
+      = ap (λ (b : Bool). if b then cost_in x.want x.placement (microframe_in index % 8) else 0) on in
+      subst (λ (n : ℕ). paid ≤ n) (sym (same ∙ ap (cost_in x.want x.placement) (same_part index))) one;
+}
+
 -- no more is paid than the placement has for the microframe
 pub paid_in : (x : Placed) (index : ℕ) (hand : Hand) (paid : ℕ) → IsPaidFor x index hand paid
     → is_active x.placement (microframe_in index / 8) ≡ true
     → IsPaidIn (microframe_in index) (record { of = x; paid = paid })
 paid_in x index hand paid (at_high held) on =
     record { within = held_placed x (microframe_in index) hand paid (held_in x index hand paid held) on }
-paid_in x index hand paid (at_split h is held) on = record {
-  within =
-      let same : cost_at (microframe_in index) x ≡ cost_in x.want x.placement (microframe_in index % 8)
-      = ap (λ (b : Bool). if b then cost_in x.want x.placement (microframe_in index % 8) else 0) on in
-      subst (λ (n : ℕ). paid ≤ n) (sym (same ∙ ap (cost_in x.want x.placement) (same_part index))) held.one;
-}
+paid_in x index hand paid (at_split h is held) on = classic_in x index paid held.one on
+paid_in x index hand paid (at_sitd h is held) on = classic_in x index paid held.one on
 
 -- nothing is made again at high speed
 pub in_hand_once : (x : Placed) (u : ℕ) (hand : Hand) → IsInHandOf x u hand → is_again hand ≡ false
@@ -132,6 +149,20 @@ effect_pays transacts x p q before later hand paid more (Leaves new) pays has =
     subst (GoesOnPaid x p.walk.index hand paid more) (sym has.0) pays
 effect_pays transacts x p q before later hand paid more (Asks ask out by) pays has =
     subst (GoesOnPaid x p.walk.index hand paid more) (sym has.place) (pays has.reply)
+
+parts_pay : {W : Type 0} (transacts : W → Ask → List ℕ → Reply → W → Type 0) (x : Placed) (p q : FramePlace) (before later : W)
+    (h : HeldSitd) (paid more : ℕ) (e : Effect)
+    → PartsBy x p h paid more e → HasEffect transacts e before q later → GoesOnInParts x p.walk.index h paid more q
+parts_pay transacts x p q before later h paid more (Leaves new) pays has =
+    subst (GoesOnInParts x p.walk.index h paid more) (sym has.0) pays
+parts_pay transacts x p q before later h paid more (Asks ask out by) pays has =
+    subst (GoesOnInParts x p.walk.index h paid more) (sym has.place) (pays has.reply)
+
+still_sitd : (x : Placed) (u n : ℕ) (h : HeldSitd) (o : Option Hand) → IsSitdStill x u h n o → IsPaidStill x u (hands.Sitd h) n o
+still_sitd x u n h None held = tt
+still_sitd x u n h (Some (hands.Sitd k)) held = (at_sitd k refl held.0, held.1)
+still_sitd x u n h (Some (hands.Queue k)) held = absurd held
+still_sitd x u n h (Some (hands.Itd k)) held = absurd held
 
 module _ {W : Type 0} (transacts : W → Ask → List ℕ → Reply → W → Type 0) (x : Placed) (p q : FramePlace) (before later : W) (hand : Hand)
     (paid : ℕ) (is : p.walk.hand ≡ Some hand)
@@ -165,9 +196,19 @@ module _ {W : Type 0} (transacts : W → Ask → List ℕ → Reply → W → Ty
       (effect_pays transacts x p q before later (hands.Queue h) paid (added (hc_step (step_of p)) (hands.Queue h)) (effect_of p)
       (splits_priced x p h paid (is ∙ ap Some same) held (subst (TakesWay x p) same way)) leads)
 
+  sitd_goes_on : (h : HeldSitd) → hand ≡ hands.Sitd h → IsSitdInHand x h p.walk.index paid
+      → GoesOnPaid x p.walk.index hand paid (added (hc_step (step_of p)) hand) q
+  sitd_goes_on h same held =
+      let cost = cost_of (hc_step (step_of p)) (hands.Sitd h) in
+      let g : GoesOnInParts x p.walk.index h paid cost q
+      = parts_pay transacts x p q before later h paid cost (effect_of p) (sitds_priced x p h paid (is ∙ ap Some same) held) leads in
+      subst (λ (z : Hand). GoesOnPaid x p.walk.index z paid (added (hc_step (step_of p)) z) q) (sym same)
+      (record { index = g.index; held = still_sitd x p.walk.index (paid + cost) h q.walk.hand g.held; ends = g.ends })
+
   goes_on_paid : IsPaidFor x p.walk.index hand paid → GoesOnPaid x p.walk.index hand paid (added (hc_step (step_of p)) hand) q
   goes_on_paid (at_high held) = high_goes_on held
   goes_on_paid (at_split h same held) = split_goes_on h same held
+  goes_on_paid (at_sitd h same held) = sitd_goes_on h same held
 
 -- ---- what is told of the place where the walk is
 
@@ -186,30 +227,62 @@ pub record IsItdThere (b : World) (d : DriverContent) (c : Content) (a : ℕ) (v
   pub own : has of.placement.smask (c.control.frame.index % 8) ≡ true
   pub active : is_active of.placement (frame_in c.control.frame.index) ≡ true
 
--- no siTD is read, and a qTD that is taken is of its endpoint's way
+-- a siTD that is active is so too
+pub record IsSitdThere (b : World) (d : DriverContent) (c : Content) (a : ℕ) (v : Sitd) : Type 0 where
+  pub of : Placed
+  pub owned : IsOwnedBy b d c.registers.frame_index (frame_in c.control.frame.index) a of
+  pub descriptor : IsSitdOf of v
+  pub parts : IsInParts v of.want.max
+  pub active : is_active of.placement (frame_in c.control.frame.index) ≡ true
+
+-- and a qTD that is taken is of its endpoint's way
 pub record ReadsStructures (b : World) (d : DriverContent) (c : Content) : Type 0 where
   pub heads : (a : ℕ) (q : Qh) → c.control.part ≡ Periodic → c.control.frame.hand ≡ None → chain_row c.memory c.control.frame.cursor ≡ chains.Queue a q → IsHeadThere d a q
   pub itds : (a : ℕ) (v : Itd) → c.control.part ≡ Periodic → c.control.frame.hand ≡ None → chain_row c.memory c.control.frame.cursor ≡ chains.Itd a v
       → (slot_of (c.control.frame.index % 8) v).active ≡ true → IsItdThere b d c a v
-  pub no_sitd : (a : ℕ) (v : Sitd) → c.control.part ≡ Periodic → c.control.frame.hand ≡ None → chain_row c.memory c.control.frame.cursor ≡ chains.Sitd a v → ⊥
+  pub sitds : (a : ℕ) (v : Sitd) → c.control.part ≡ Periodic → c.control.frame.hand ≡ None
+      → chain_row c.memory c.control.frame.cursor ≡ chains.Sitd a v
+      → v.active ≡ true → IsSitdThere b d c a v
   pub takes : (h : HeldQueue) (dir : Dir) → GoesBy d h.copy.at dir → c.control.part ≡ Periodic → c.control.frame.hand ≡ Some (hands.Queue h)
       → (a : ℕ) (t : Qtd) → queue_row (frame_place c) h ≡ queue_rows.Advance a t → t.token.pid ≡ pid_of dir
 
 abbrev InFrame : DriverContent → ℕ → ℕ → Type 0
 InFrame d index v = (b : IsQueueAt d v) → is_active b.belongs.placement (frame_in index) ≡ true
 
--- ---- an iTD of which nothing is active in this microframe
+-- ---- a descriptor of which nothing is active in this microframe
 
-passing_copy : (a u : ℕ) (v : Itd) (ps : List (ℕ × ℕ)) → (slot_of u v).active ≡ false → IsPassing (hands.Itd (fetched_itd a u v)) ((a, 0) ∷ ps)
+idle_itd : (a u : ℕ) (v : Itd) → (slot_of u v).active ≡ false → IsIdle (hands.Itd (fetched_itd a u v))
 unfolding fetched_itd
-passing_copy a u v ps off = record { copy = fetched_itd a u v; is = refl; goes_on = refl; off = off; address = a; rest = ps; are = refl }
+idle_itd a u v off = (refl, off)
 
 itd_at : (a u : ℕ) (v : Itd) → (fetched_itd a u v).at ≡ a
 unfolding fetched_itd
 itd_at a u v = refl
 
+-- the link that comes next
+abbrev link_of_hand : Hand → LinkBits
+link_of_hand (hands.Queue h) = h.copy.queue_head.link
+link_of_hand (hands.Itd h) = h.itd.link
+link_of_hand (hands.Sitd h) = h.sitd.link
+
 skips : (left : ℕ) (h : HeldItd) → h.ended ≡ None → h.slot.active ≡ false → itd_row left h ≡ itds.Skip
 skips left h goes_on off = ap (λ (o : Option IsoEnd). ended_row left h o) goes_on ∙ ap (λ (b : Bool). if b then timed_row left (itd_transaction h) else itds.Skip) off
+
+skips_sitd : (left u : ℕ) (h : HeldSitd) → h.settled ≡ None → h.sitd.active ≡ false → settled_row left u h.sitd h.settled ≡ sitds.Skip
+skips_sitd left u h goes_on off =
+    ap (λ (o : Option SplitOutcome). settled_row left u h.sitd o) goes_on
+    ∙ ap (λ (b : Bool). turn_row left h.sitd (turn_at b (sitd_missed u h.sitd) (comes u h.sitd))) off
+
+idle_passes : (p : FramePlace) (hand : Hand) → IsIdle hand → effect_at p (Some hand) ≡ Leaves (passing (link_of_hand hand) p)
+idle_passes p (hands.Queue h) idle = absurd idle
+idle_passes p (hands.Itd h) idle = ap (λ (r : ItdRow). itd_effect r h p) (skips p.walk.left h idle.0 idle.1)
+idle_passes p (hands.Sitd h) idle = ap (λ (r : SitdRow). sitd_effect r h p)
+    (skips_sitd p.walk.left (microframe_of p.walk.index) h idle.0 idle.1)
+
+pub idle_once : (hand : Hand) → IsIdle hand → is_again hand ≡ false
+idle_once (hands.Queue h) idle = absurd idle
+idle_once (hands.Itd h) idle = refl
+idle_once (hands.Sitd h) idle = refl
 
 -- ---- an event
 
@@ -259,7 +332,8 @@ module _ {W : Type 0} (begins_with : W → ℕ → Bool → W → Type 0) (trans
 
   itd_by : (a : ℕ) (v : Itd) (active : Bool) → (slot_of (c.control.frame.index % 8) v).active ≡ active → c.control.part ≡ Periodic → c.control.frame.hand ≡ None
       → chain_row c.memory c.control.frame.cursor ≡ chains.Itd a v → ByItd a v
-  itd_by a v false off periodic free is = inr (passing_copy a (c.control.frame.index % 8) v ps off)
+  itd_by a v false off periodic free is = inr
+      (record { idle = idle_itd a (c.control.frame.index % 8) v off; address = a; rest = ps; are = refl })
   itd_by a v true on periodic free is =
       let there : IsItdThere b d c a v = reads.itds a v periodic free is on in
       let begins : Begins there.of (frame_place c) (hands.Itd (itd_copy (frame_place c) a v)) (after (frame_place c) Silent)
@@ -290,12 +364,51 @@ module _ {W : Type 0} (begins_with : W → ℕ → Bool → W → Type 0) (trans
             (itd_by a v (slot_of (c.control.frame.index % 8) v).active refl periodic free is));
       }
 
+  -- a siTD is
+  abbrev BySitd : ℕ → Sitd → Type 0
+  BySitd a v = ArePaidByHand b d c.registers.frame_index c.control.frame.index
+      (Some (hands.Sitd (record { at = a; sitd = v; settled = None }))) ((a, 0) ∷ ps)
+
+  sitd_by : (a : ℕ) (v : Sitd) (active : Bool) → v.active ≡ active → c.control.part ≡ Periodic → c.control.frame.hand ≡ None
+      → chain_row c.memory c.control.frame.cursor ≡ chains.Sitd a v → BySitd a v
+  sitd_by a v false off periodic free is = inr (record { idle = (refl, off); address = a; rest = ps; are = refl })
+  sitd_by a v true on periodic free is =
+      let there : IsSitdThere b d c a v = reads.sitds a v periodic free is on in
+      inl (record {
+        address = a;
+        paid = 0;
+        rest = ps;
+        are = refl;
+        of = there.of;
+        owned = there.owned;
+        held = at_sitd (record { at = a; sitd = v; settled = None }) refl
+            (record { descriptor = there.descriptor; parts = there.parts; none = λ made. refl; one = omega arith });
+        at = refl;
+        active = ap (is_active there.of.placement) (same_frame c.control.frame.index) ∙ there.active;
+      })
+
+  sitd_fetched : (a : ℕ) (v : Sitd) → c.control.part ≡ Periodic → c.control.frame.hand ≡ None
+      → chain_row c.memory c.control.frame.cursor ≡ chains.Sitd a v
+      → n.control.frame ≡ chain_walk (chains.Sitd a v) c.control.frame → Paid n.control ((a, 0) ∷ ps)
+  sitd_fetched a v periodic free is walk =
+      let same : n.control.frame.index ≡ c.control.frame.index = ap (λ (w : FrameWalk). w.index) walk in
+      let hand_is : n.control.frame.hand ≡ Some (hands.Sitd (record { at = a; sitd = v; settled = None })) =
+      ap (λ (w : FrameWalk). w.hand) walk in
+      record {
+        entries = (inl refl, subst (λ (i : ℕ). Entries i ps) (sym same) k.entries);
+        hand = λ on.
+            subst (λ (o : Option Hand). ArePaidByHand b d c.registers.frame_index n.control.frame.index o ((a, 0) ∷ ps)) (sym hand_is)
+            (subst (λ (i : ℕ). ArePaidByHand b d c.registers.frame_index i
+            (Some (hands.Sitd (record { at = a; sitd = v; settled = None }))) ((a, 0) ∷ ps)) (sym same)
+            (sitd_by a v v.active refl periodic free is));
+      }
+
   by_chain : (r : ChainRow) → chain_row c.memory c.control.frame.cursor ≡ r → c.control.part ≡ Periodic → c.control.frame.hand ≡ None → n.control.frame ≡ chain_walk r c.control.frame
       → n.control.part ≡ part_after Periodic (chain_step r)
       → AllByRecursion (InFrame d n.control.frame.index) (visits_at None r (names_in ps)) → Paid n.control (begun_too (fetched_by r) ps)
   by_chain (chains.Queue a q) is periodic free walk part in_frames = fetched a q periodic free is walk in_frames.0
   by_chain (chains.Itd a v) is periodic free walk part in_frames = itd_fetched a v periodic free is walk
-  by_chain (chains.Sitd a v) is periodic free walk part in_frames = absurd (reads.no_sitd a v periodic free is)
+  by_chain (chains.Sitd a v) is periodic free walk part in_frames = sitd_fetched a v periodic free is walk
   by_chain _ is periodic free walk part in_frames = over n.control (λ on. over_no (sym part ∙ on)) (ap (λ (w : FrameWalk). w.index) walk)
 
   -- ---- an event with a copy in hand
@@ -304,6 +417,7 @@ module _ {W : Type 0} (begins_with : W → ℕ → Bool → W → Type 0) (trans
   its_kind : (x : Placed) (u paid : ℕ) (h : HeldQueue) → IsPaidFor x u (hands.Queue h) paid → x.want.kind ≡ Interrupt
   its_kind x u paid h (at_high held) = held.of.head.kind
   its_kind x u paid h (at_split g same held) = held.head.kind
+  its_kind x u paid h (at_sitd g same held) = cc
 
   no_iso : (x : Placed) (v : Placed) → v ≡ x → v.want.kind ≡ Iso → x.want.kind ≡ Interrupt → ⊥
   no_iso x v same iso kind = let e : Interrupt ≡ Iso = sym kind ∙ ap (λ (z : Placed). z.want.kind) (sym same) ∙ iso in cc
@@ -371,11 +485,11 @@ module _ {W : Type 0} (begins_with : W → ℕ → Bool → W → Type 0) (trans
   passed_by : (hand : Hand) → c.control.frame.hand ≡ Some hand → HasEffect transacts (effect_of (frame_place c)) wire (frame_place n) after_wire
       → IsPassing hand ps → Paid n.control (paid_more (c.control.frame.left - n.control.frame.left) ps)
   passed_by hand held made o =
-      let at_copy : HasEffect transacts (itd_effect (itd_row c.control.frame.left o.copy) o.copy (frame_place c)) wire (frame_place n) after_wire
-      = subst (λ (h : Option Hand). HasEffect transacts (effect_at (frame_place c) h) wire (frame_place n) after_wire) (held ∙ ap Some o.is) made in
-      let at_skip : HasEffect transacts (itd_effect itds.Skip o.copy (frame_place c)) wire (frame_place n) after_wire
-      = subst (λ (r : ItdRow). HasEffect transacts (itd_effect r o.copy (frame_place c)) wire (frame_place n) after_wire) (skips c.control.frame.left o.copy o.goes_on o.off) at_copy in
-      let is : frame_place n ≡ passing o.copy.itd.link (frame_place c) = at_skip.0 in
+      let at_copy : HasEffect transacts (effect_at (frame_place c) (Some hand)) wire (frame_place n) after_wire
+      = subst (λ (h : Option Hand). HasEffect transacts (effect_at (frame_place c) h) wire (frame_place n) after_wire) held made in
+      let at_skip : HasEffect transacts (Leaves (passing (link_of_hand hand) (frame_place c))) wire (frame_place n) after_wire
+      = subst (λ (e : Effect). HasEffect transacts e wire (frame_place n) after_wire) (idle_passes (frame_place c) hand o.idle) at_copy in
+      let is : frame_place n ≡ passing (link_of_hand hand) (frame_place c) = at_skip.0 in
       let same : n.control.frame.index ≡ c.control.frame.index = ap (λ (p : FramePlace). p.walk.index) is in
       let left : n.control.frame.left ≡ c.control.frame.left = ap (λ (p : FramePlace). p.walk.left) is in
       let none : n.control.frame.hand ≡ None = ap (λ (p : FramePlace). p.walk.hand) is in
@@ -413,7 +527,7 @@ module _ {W : Type 0} (begins_with : W → ℕ → Bool → W → Type 0) (trans
       subst (Paid n.control) (or_again (is_again hand) (cost_of (hc_step (frame_step c)) hand))
       (⊎_elim {C = Paid n.control (paid_more (added (hc_step (frame_step c)) hand) ps)} (charged hand held periodic made)
       (λ (o : IsPassing hand ps).
-      subst (λ (i : ℕ). Paid n.control (paid_more i ps)) (passed_cost hand held made (ap is_again o.is)) (passed_by hand held made o))
+      subst (λ (i : ℕ). Paid n.control (paid_more i ps)) (passed_cost hand held made (idle_once hand o.idle)) (passed_by hand held made o))
       (subst (λ (h : Option Hand). ArePaidByHand b d c.registers.frame_index c.control.frame.index h ps) held (k.hand periodic)))
 
   by_hand : (o : Option Hand) → c.control.frame.hand ≡ o → c.control.part ≡ Periodic → n.control.part ≡ part_after Periodic (step_at (frame_place c) o)

@@ -22,3 +22,5 @@ pub mod DataQueues
 pub mod SplitMasks
 pub mod SplitCharges
 pub mod SitdParts
+pub mod SitdFields
+pub mod Repeats

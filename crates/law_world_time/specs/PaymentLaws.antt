@@ -1,26 +1,25 @@
--- Laws of what the visits of the walk of the frames cost along a run (USB 2.0, 5.9 and 5.11.3; EHCI 1.0, 3.3, 3.6, 4.6, 4.7, 4.10.3 and 4.12), where each isochronous endpoint is of
--- high speed.
---     IsWholeAndSome x        it is of high speed, if it is isochronous, and has at least one transaction
---     HasHighIsochronous d    each periodic endpoint of the driver is so, and no descriptor is a siTD; an endpoint that left its frames has in memory descriptors of frames of its placement
---                             alone
+-- Laws of what the visits of the walk of the frames cost along a run (USB 2.0, 5.9 and 5.11.3; EHCI 1.0, 3.3, 3.4, 3.6, 4.6, 4.7, 4.10.3
+-- and 4.12).
+--     HasPeriodics d          each periodic endpoint of the driver has at least one transaction; and one that left its frames has in memory
+--                             descriptors of frames of its placement alone
 --     IsOfIsochronous d now e an isochronous endpoint which isn't given back as long as FRINDEX has the frame number that it has now, with its placement in the plan
 --     IsOwnedBy b d now f a x at byte address a stands the queue head of the endpoint that is placed as x; or as the microframe began a descriptor was active there, of such an
 --                             isochronous endpoint in this frame
 --     IsPayment b d now index entry     nothing was paid in this visit; or it was a visit to a placed endpoint, and cost no more than the placement
 --     IsHandPaid .. hand ps   the copy in hand is that of the newest visit, to a placed endpoint, and so much was paid
---     IsPassing hand ps       .. or it is that of an iTD of which nothing is active in this microframe, and nothing was paid
+--     IsIdle hand             the copy is that of a descriptor of which nothing is active in this microframe
+--     IsPassing hand ps       .. or it is so, and nothing was paid
 --     ArePaid b d now c ps    both are so
 --     GoesOnInFrame w         where something is active of a descriptor to which the walk goes on, its frame is that of the microframe
 --     IsWithin b w            as the microframe began of an endpoint and a frame at most one descriptor was active; and what is active of one to which the walk goes on was active then
 --     ControllerKeepsPaying, DriverKeepsPaying, CommandKeepsPaying     each event and each command leaves them so
---     ScriptsPayWithinLoad    the law, of each script that fits
+--     ScriptsPayWithinLoad    the law, of each script that fits, and that asks for no more bytes in a slot than its endpoint's packets can
+--                             have
 --     TextsPayWithinLoad      .. and so of each that a text spells, where nothing else takes time
 use Rattle.std.specs.Prelude.{◌≡◌, ℕ, ◌/◌, ◌≤◌, ◌⊎◌, true, false, List, ◌∷◌, Option, Some, None, slice_get}
 use Rattle.std.specs.List.{AllByRecursion}
 use Rattle.usb_base.specs.declared.commands.Cmd.{Cmd}
-use Rattle.usb_base.specs.declared.endpoints.EpDesc.{EpDesc}
 use Rattle.usb_base.specs.declared.packets.EpKind.TheVariants.{Iso}
-use Rattle.usb_base.specs.declared.packets.Speed.TheVariants.{High}
 use Rattle.script_types.specs.declared.scripts.Script.{Script}
 use Rattle.script_text.specs.Faults.{Spells}
 use Rattle.script_fits.specs.Fits.{IsFit}
@@ -34,13 +33,11 @@ use Rattle.drv_periodic_table.specs.Periodic.{is_periodic, note_at}
 use Rattle.periodic_walk.specs.declared.state.Hand.{Hand}
 use Rattle.periodic_walk.specs.declared.state.Hand.TheVariants as hands
 use Rattle.periodic_walk.specs.Walk.{hand_address}
-use Rattle.hc_iso.specs.declared.held.HeldItd.{HeldItd}
 use Rattle.hc_core.specs.declared.controller.MicroframePart.TheVariants.{Periodic}
 use Rattle.hc_core.specs.Controller.{Control}
 use Rattle.drv_table.specs.declared.content.Endpoint.{Endpoint}
 use Rattle.drv_table.specs.declared.content.Transfer.{Transfer}
 use Rattle.drv_table.specs.DriverContent.{DriverContent}
-use Rattle.drv_table.specs.Kinds.{is_iso}
 use Rattle.claims_world.specs.FrameHeads.{AreAllowed}
 use Rattle.claims_driver.specs.Owners.{is_descriptor}
 use Rattle.claims_driver.specs.Unlinked.{IsOpenAt}
@@ -53,7 +50,7 @@ use Rattle.law_world_visits.specs.Visited.{IsVisiting}
 use Rattle.law_world_visits.specs.InFrames.{AreInTheirFrames}
 use Rattle.law_world_visits.specs.Belonging.{placed_of, IsQueueAt, HeadsHaveFields}
 use Rattle.law_world_visits.specs.DescriptorFields.{ItdsStand}
-use Rattle.law_world_visits.specs.OneDescriptor.{IsActiveDescriptor, IsMixedOnce}
+use Rattle.law_world_visits.specs.OneDescriptor.{IsActiveDescriptor, AreServed, IsMixedOnce}
 use Rattle.law_world_visits.specs.Began.{began_at, IsAhead, GoesOnToOld}
 use Rattle.law_world_time.specs.ChargeLoads.{IsPaidIn}
 use Rattle.law_world_time.specs.DataQueues.{ReadsData}
@@ -61,17 +58,12 @@ use Rattle.law_world_time.specs.SplitCharges.{IsPaidFor}
 use Rattle.bus_world.specs.Budgets.{moment}
 use Rattle.claims_world.specs.WithinLoad.{payments_after, payments, microframe_in, IsWithinLoad, PaysWithinLoad}
 use Rattle.law_world_time.specs.Payments.{names_in}
-use Rattle.claims_world.specs.Scripts.{HighIsochronousOnly}
+use Rattle.law_world_time.specs.SitdFields.{SitdsStand, SlotsFit}
 
 -- ---- a moment
 
-pub record IsWholeAndSome (x : EpDesc) : Type 0 where
-  pub speed : is_iso x.kind ≡ true → x.speed ≡ High
-  pub some : 1 ≤ x.multi
-
-pub record HasHighIsochronous (d : DriverContent) : Type 0 where
-  pub endpoints : (e : ℕ) (x : Endpoint) → slice_get d.endpoints e ≡ Some x → is_periodic x.desc.kind ≡ true → IsWholeAndSome x.desc
-  pub whole : (t : ℕ) (y : Transfer) → slice_get d.transfers t ≡ Some y → is_descriptor y.sort ≡ true → y.released ≡ false → (note_at d.periodic.notes y.first).split ≡ false
+pub record HasPeriodics (d : DriverContent) : Type 0 where
+  pub some : (e : ℕ) (x : Endpoint) → slice_get d.endpoints e ≡ Some x → is_periodic x.desc.kind ≡ true → 1 ≤ x.desc.multi
   pub outside : (t : ℕ) (y : Transfer) (x : Endpoint) (p : Placement) → slice_get d.transfers t ≡ Some y → is_descriptor y.sort ≡ true → y.released ≡ false → y.reported ≡ false
       → slice_get d.endpoints y.endpoint ≡ Some x → x.placement ≡ Some p → x.chained ≡ false → is_active p (note_at d.periodic.notes y.first).frame ≡ true
 
@@ -108,11 +100,13 @@ pub record IsHandPaid (b : World) (d : DriverContent) (now index : ℕ) (hand : 
   pub at : hand_address hand ≡ address
   pub active : is_active of.placement (microframe_in index / 8) ≡ true
 
+abbrev pub IsIdle : Hand → Type 0
+IsIdle (hands.Queue h) = ⊥
+IsIdle (hands.Itd h) = (h.ended ≡ None) × (h.slot.active ≡ false)
+IsIdle (hands.Sitd h) = (h.settled ≡ None) × (h.sitd.active ≡ false)
+
 pub record IsPassing (hand : Hand) (ps : List (ℕ × ℕ)) : Type 0 where
-  pub copy : HeldItd
-  pub is : hand ≡ hands.Itd copy
-  pub goes_on : copy.ended ≡ None
-  pub off : copy.slot.active ≡ false
+  pub idle : IsIdle hand
   pub address : ℕ
   pub rest : List (ℕ × ℕ)
   pub are : ps ≡ (address, 0) ∷ rest
@@ -139,7 +133,9 @@ pub record GoesOnPaying (b w : World) (ps : List (ℕ × ℕ)) : Type 0 where
   pub visiting : IsVisiting b w (names_in ps)
   pub heads : HeadsHaveFields w.driver w.memory
   pub itds : ItdsStand w.driver w.memory
-  pub high : HasHighIsochronous w.driver
+  pub sitds : SitdsStand w.driver w.memory w.control
+  pub served : AreServed w.driver w.memory
+  pub periodics : HasPeriodics w.driver
   pub allowed : AreAllowed w.driver
   pub reads : ReadsData w
   pub within : IsWithin b w
@@ -162,7 +158,7 @@ CommandKeepsPaying = (b w : World) (line : ℕ) (cmd : Cmd) (ps : List (ℕ × �
 -- ---- a run
 
 abbrev pub ScriptsPayWithinLoad : Type 0
-ScriptsPayWithinLoad = (s : Script) → IsFit s → IsByteScript s → FitsMixed s → HighIsochronousOnly s → (k : ℕ)
+ScriptsPayWithinLoad = (s : Script) → IsFit s → IsByteScript s → FitsMixed s → SlotsFit s → (k : ℕ)
     → IsWithinLoad (moment s k).world (payments s k)
 
 abbrev pub TextsPayWithinLoad : Type 0

@@ -1,5 +1,5 @@
 -- The transactions of the periodic part have the time that they need in each microframe that isn't held (USB 2.0, 5.9 and 5.11.3; EHCI 1.0,
--- 4.4, 4.6 and 4.10.3), where each isochronous endpoint is of high speed, while no more than 4 microseconds went for what was made again.
+-- 4.4, 4.6 and 4.10.3), while no more than 4 microseconds went for what was made again.
 --     LeaveTheRest s              at each moment of the run of a script nothing but the transactions of the periodic part takes time of it
 --     TextsLeaveTheRest           the law, of each script that a text spells
 --     TextsAreInTime              the law, of each script that a text spells

@@ -2,7 +2,7 @@
 -- complete-split costs no more than the placement has for its microframe; one that is made again at once counts apart.
 --     IsSplitHeadOf x q           the queue head of a placed interrupt endpoint below a hub
 --     IsSplitInHand x h u paid    its copy is in hand in microframe u, and so much was paid: nothing before its transaction, and no more than the placement has for it
---     IsPaidFor x u hand paid     so it is, or the copy is that of a placed high-speed endpoint
+--     IsPaidFor x u hand paid     so it is, or the copy is that of a placed high-speed endpoint, or of a siTD of a placed isochronous one
 --     TakesWay x p hand           a qTD that the event takes is of the endpoint's way
 --     added step hand             what an event of this kind adds to what was paid: nothing, where the transaction is made again
 --     IsPaidStill x u hand n o    what is in hand, if anything is, is a copy of the same structure, and so much was paid
@@ -14,6 +14,7 @@ use Rattle.usb_base.specs.declared.packets.EpKind.TheVariants.{Interrupt}
 use Rattle.usb_base.specs.declared.packets.Reply.{Reply}
 use Rattle.qh_qtd.specs.declared.qtd.Qtd.{Qtd}
 use Rattle.qh_qtd.specs.declared.queue_head.Qh.{Qh}
+use Rattle.hc_iso.specs.declared.held.HeldSitd.{HeldSitd}
 use Rattle.bandwidth.specs.declared.placements.Placed.{Placed}
 use Rattle.bandwidth.specs.Placements.{is_classic}
 use Rattle.bandwidth.specs.Sums.{cost_in}
@@ -32,6 +33,7 @@ use Rattle.claims_world.specs.Prices.{cost_of}
 use Rattle.claims_world.specs.WithinLoad.{is_again}
 use Rattle.law_world_time.specs.Charges.{IsHeldFor}
 use Rattle.law_world_time.specs.DataQueues.{pid_of}
+use Rattle.law_world_time.specs.SitdParts.{IsSitdInHand}
 use Rattle.law_world_time.specs.SplitMasks.{HasSplitMasks}
 
 -- ---- what is in hand
@@ -55,6 +57,7 @@ pub record IsSplitInHand (x : Placed) (h : HeldQueue) (u paid : ℕ) : Type 0 wh
 pub data IsPaidFor (x : Placed) (u : ℕ) (hand : Hand) (paid : ℕ) : Type 0 where
   at_high : IsHeldFor x u hand paid → IsPaidFor x u hand paid
   at_split : (h : HeldQueue) → hand ≡ hands.Queue h → IsSplitInHand x h u paid → IsPaidFor x u hand paid
+  at_sitd : (h : HeldSitd) → hand ≡ hands.Sitd h → IsSitdInHand x h u paid → IsPaidFor x u hand paid
 
 abbrev pub TakesWay : Placed → FramePlace → Hand → Type 0
 TakesWay x p (hands.Queue h) = (a : ℕ) (t : Qtd) → queue_row p h ≡ queue_rows.Advance a t → t.token.pid ≡ pid_of x.want.dir

@@ -11,9 +11,12 @@
 //! - `driver_rounds`: So they do at each event and command of the driver; so in no round of any run a queue head is visited twice.
 //! - `heads`, `head_samples`: Without a transaction between, the walk of the ring reads its head at most once while the asynchronous part goes on; the next read ends it.
 //! - `payment_times`: So no transaction of the periodic part is skipped for want of time, but in a held microframe or after one made again.
-//! - `payments`: What the visits of a microframe cost together along a run, where the isochronous endpoints are of high speed: no more than its load.
+//! - `payments`: What the visits of a microframe cost together along a run: no more than its load.
+//! - `repeats`: A complete-split of an interrupt endpoint is made again at once after silence, or what no translator says; after each word
+//!   of a translator it isn't.
 //! - `ring_splices`: The two stores of the ring by the links before and after them, and what every other event of the driver and each command leaves of the ring.
 //! - `rounds`, `round_samples`: What was visited since the head was read, as the run tells it: links lead from higher queue heads to lower ones, at each event of the controller.
+//! - `sitds`: The words of siTDs tell of their endpoints, in memory and in hand, and what is left of a packet is in parts, along a run.
 //! - `splits`: What the split transactions of queue heads and of siTDs cost, and the masks by which they are made: each placement of the
 //!   plan is allowed.
 //! - `steps`: With a copy in hand each event of the walk of the ring leaves fewer events of the visit: at most three after a fetch.
@@ -31,9 +34,11 @@ pub mod head_samples;
 pub mod heads;
 pub mod payment_times;
 pub mod payments;
+pub mod repeats;
 pub mod ring_splices;
 pub mod round_samples;
 pub mod rounds;
+pub mod sitds;
 pub mod splits;
 pub mod steps;
 pub mod turn_samples;

@@ -7,9 +7,9 @@ pub fn visits_leave_the_rest()
     ensures { TextsLeaveTheRest }
 {}
 
-/// So where the isochronous endpoints are of high speed and the microframe isn't held a fifth of it is left, but for what was made again,
-/// and while that is no more than 4 microseconds no transaction of the periodic part is skipped for want of time. Where the interrupt
-/// endpoints are of high speed too, nothing is ever made again.
+/// So where the microframe isn't held a fifth of it is left, but for what was made again, and while that is no more than 4 microseconds no
+/// transaction of the periodic part is skipped for want of time. Where the periodic endpoints are of high speed, nothing is ever made
+/// again.
 pub fn visits_are_in_time()
     ensures { TextsAreInTime }
 {}

@@ -17,8 +17,8 @@ pub fn a_command_leaves_what_was_paid()
 {}
 
 /// All that the visits of a microframe cost is no more than the load of the microframe, nor than four fifths of it, at each moment of the
-/// run of a script whose isochronous endpoints are of high speed; what they cost are the prices of their transactions, but for those made
-/// again at once, which are summed apart, and just both was taken of the time.
+/// run of a script; what they cost are the prices of their transactions, but for those made again at once, which are summed apart, and just
+/// both was taken of the time.
 pub fn visits_cost_no_more_than_the_load()
     ensures scripts { ScriptsPayWithinLoad }
     ensures texts { TextsPayWithinLoad }

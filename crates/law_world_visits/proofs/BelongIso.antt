@@ -2,9 +2,11 @@
 use Rattle.std.proofs.Common.{◌≡◌, ◌≢◌, ℕ, zero, suc, ◌+◌, ◌*◌, ◌%◌, ◌<◌, ◌≤◌, Bool, true, false, cond, List, [], ◌∷◌, ◌++◌, length, drop, get_or, set, slice_get, Option, Some, None, Result, Ok, Err, option_map, ap, refl, sym, subst, ◌∙◌, ⊎_elim, inl, inr, arith, if◌then◌else◌}
 use Rattle.std.specs.Prelude.{◌⊎◌, ◌||◌, not, is_some, unwrap_or, option_and_then, count_by, IfOk}
 use Rattle.std.proofs.lemmas.Bool.{true≢false, false≢true}
-use Rattle.std.proofs.lemmas.Option.{same_Some}
+use Rattle.std.proofs.lemmas.Option.{same_Some, get_or_from_slice_get}
 use Rattle.std.proofs.lemmas.Result.{IfOk-at_ok}
+use Rattle.std.specs.List.{position}
 use Rattle.std.proofs.lemmas.List.{get_or-set_same, get_or-drop, length-append, length-drop, length-set}
+use Rattle.std.proofs.lemmas.List.Quantifiers.{position-Some}
 use Rattle.usb_base.specs.declared.commands.Cmd.TheVariants as commands
 use Rattle.usb_base.specs.declared.endpoints.EpName.{EpName}
 use Rattle.usb_base.specs.declared.endpoints.EpDesc.{EpDesc}
@@ -33,7 +35,7 @@ use Rattle.drv_table.specs.declared.content.Endpoint.{Endpoint}
 use Rattle.drv_table.specs.declared.content.Slots.{Slots}
 use Rattle.drv_table.specs.declared.content.Transfer.{Transfer}
 use Rattle.drv_table.specs.declared.content.Command.{Command}
-use Rattle.drv_table.specs.DriverContent.{DriverContent, endpoint_of, endpoint_named, waits_for}
+use Rattle.drv_table.specs.DriverContent.{DriverContent, is_same_name, endpoint_of, endpoint_named, waits_for}
 use Rattle.drv_table.specs.Words.{buffer_needs}
 use Rattle.drv_table.specs.Kinds.{is_iso}
 use Rattle.drv_table.specs.Accepting.{Offered, take_runs, new_runs}
@@ -70,49 +72,93 @@ pub record IsIsoAccepted (d : DriverContent) (m : Mem) (o : Offered) : Type 0 wh
   pub is : o ≡ entered_iso d number endpoint count (total_of (slots_of endpoint len)) after.book
       (all_descriptors after.book number endpoint.desc (slots_of endpoint len) count seed (new_runs d after) (record { notes = d.periodic.notes; transfers = d.transfers; memory = after.memory }))
 
+-- .. at the endpoint of this name, with this many bytes in a slot
+pub record IsIsoOf (d : DriverContent) (m : Mem) (name : EpName) (len : ℕ) (o : Offered) : Type 0 where
+  pub accepted : IsIsoAccepted d m o
+  pub named : is_same_name accepted.endpoint.desc.name name ≡ true
+  pub same : accepted.len ≡ len
+
 or_else : (P : Offered → Type 0) (b : Bool) (x y : Result Offered OfferError) → IfOk x P → IfOk y P → IfOk (if b then x else y) P
 or_else P true x y one two = one
 or_else P false x y one two = two
 
-module _ (d : DriverContent) (m : Mem) (idle : d.command ≡ None) where
-  iso_taken : (e : ℕ) (x : Endpoint) (len n seed : ℕ) (r : Result Holding OfferError) → slice_get d.endpoints e ≡ Some x → is_iso x.desc.kind ≡ true → x.ended ≡ None
-      → take_runs (holding d.book m) (iso_needs (slots_of x len) n) ≡ r → IfOk (taken_iso d e x (slots_of x len) n seed r) (IsIsoAccepted d m)
-  iso_taken e x len n seed (Err why) here iso goes is = tt
-  iso_taken e x len n seed (Ok h) here iso goes is =
-      record { number = e; endpoint = x; len = len; count = n; seed = seed; after = h; idle = idle; here = here; iso = iso; goes_on = goes; runs = is; is = refl }
+module _ (d : DriverContent) (m : Mem) (idle : d.command ≡ None) (name : EpName) where
+  iso_taken : (e : ℕ) (x : Endpoint) (len n seed : ℕ) (r : Result Holding OfferError) → slice_get d.endpoints e ≡ Some x
+      → is_same_name x.desc.name name ≡ true → is_iso x.desc.kind ≡ true → x.ended ≡ None
+      → take_runs (holding d.book m) (iso_needs (slots_of x len) n) ≡ r
+      → IfOk (taken_iso d e x (slots_of x len) n seed r) (IsIsoOf d m name len)
+  iso_taken e x len n seed (Err why) here named iso goes is = tt
+  iso_taken e x len n seed (Ok h) here named iso goes is = record {
+    accepted = record {
+      number = e;
+      endpoint = x;
+      len = len;
+      count = n;
+      seed = seed;
+      after = h;
+      idle = idle;
+      here = here;
+      iso =
+          iso;
+      goes_on = goes;
+      runs = is;
+      is = refl;
+    };
+    named = named;
+    same = refl;
+  }
 
-  iso_ended : (e : ℕ) (x : Endpoint) (len n seed : ℕ) (c : Option EndCause) → slice_get d.endpoints e ≡ Some x → is_iso x.desc.kind ≡ true → x.ended ≡ c
-      → IfOk (open_iso d m e x (slots_of x len) n seed c) (IsIsoAccepted d m)
-  iso_ended e x len n seed (Some cause) here iso goes = tt
-  iso_ended e x len n seed None here iso goes =
-      or_else (IsIsoAccepted d m) (spans_too_long x (n + count_by (waits_for e) d.transfers) || not (has_slots x (slots_of x len))) (Err errors.TooLong)
+  iso_ended : (e : ℕ) (x : Endpoint) (len n seed : ℕ) (c : Option EndCause) → slice_get d.endpoints e ≡ Some x
+      → is_same_name x.desc.name name ≡ true → is_iso x.desc.kind ≡ true → x.ended ≡ c
+      → IfOk (open_iso d m e x (slots_of x len) n seed c) (IsIsoOf d m name len)
+  iso_ended e x len n seed (Some cause) here named iso goes = tt
+  iso_ended e x len n seed None here named iso goes =
+      or_else (IsIsoOf d m name len) (spans_too_long x (n + count_by (waits_for e) d.transfers) || not (has_slots x (slots_of x len)))
+      (Err errors.TooLong)
       (taken_iso d e x (slots_of x len) n seed (take_runs (holding d.book m) (iso_needs (slots_of x len) n))) tt
-      (iso_taken e x len n seed (take_runs (holding d.book m) (iso_needs (slots_of x len) n)) here iso goes refl)
+      (iso_taken e x len n seed (take_runs (holding d.book m) (iso_needs (slots_of x len) n)) here named iso goes refl)
 
   iso_kind : (e n len seed : ℕ) (x : Endpoint) (b : Bool) → is_iso x.desc.kind ≡ b → slice_get d.endpoints e ≡ Some x
-      → IfOk (if b then open_iso d m e x (slots_of x len) n seed x.ended else Err errors.NoEndpoint) (IsIsoAccepted d m)
-  iso_kind e n len seed x true iso here = iso_ended e x len n seed x.ended here iso refl
-  iso_kind e n len seed x false iso here = tt
+      → is_same_name x.desc.name name ≡ true
+      → IfOk (if b then open_iso d m e x (slots_of x len) n seed x.ended else Err errors.NoEndpoint) (IsIsoOf d m name len)
+  iso_kind e n len seed x true iso here named = iso_ended e x len n seed x.ended here named iso refl
+  iso_kind e n len seed x false iso here named = tt
 
-  iso_found : (e n len seed : ℕ) (q : Option Endpoint) → ((x : Endpoint) → q ≡ Some x → slice_get d.endpoints e ≡ Some x) → IfOk (offered_iso d m e n len seed q) (IsIsoAccepted d m)
+  iso_found : (e n len seed : ℕ) (q : Option Endpoint)
+      → ((x : Endpoint) → q ≡ Some x → (slice_get d.endpoints e ≡ Some x) × (is_same_name x.desc.name name ≡ true))
+      → IfOk (offered_iso d m e n len seed q) (IsIsoOf d m name len)
   iso_found e n len seed None here = tt
-  iso_found e n len seed (Some x) here = iso_kind e n len seed x (is_iso x.desc.kind) refl (here x refl)
+  iso_found e n len seed (Some x) here = let at = here x refl in iso_kind e n len seed x (is_iso x.desc.kind) refl at.0 at.1
 
-there_by : (xs : List Endpoint) (o : Option ℕ) (x : Endpoint) → option_and_then (λ e. slice_get xs e) o ≡ Some x → slice_get xs (unwrap_or o 0) ≡ Some x
-there_by xs None x e = absurd (cc)
-there_by xs (Some k) x e = e
+-- the endpoint of a name stands at its number, and has the name
+there_by : (xs : List Endpoint) (name : EpName) (o : Option ℕ) (x : Endpoint)
+    → position (λ (e : Endpoint). is_same_name e.desc.name name) xs ≡ o → option_and_then (λ e. slice_get xs e) o ≡ Some x
+    → (slice_get xs (unwrap_or o 0) ≡ Some x) × (is_same_name x.desc.name name ≡ true)
+there_by xs name None x at e = absurd (cc)
+there_by xs name (Some k) x at e = (
+  e,
+  ap (λ (z : Endpoint). is_same_name z.desc.name name) (sym (get_or_from_slice_get xs k x x e))
+      ∙ (position-Some (λ (z : Endpoint). is_same_name z.desc.name name) xs k x at).1,
+)
 
-pub is_iso_accepted : (d : DriverContent) (m : Mem) (name : EpName) (n len seed : ℕ) (o : Offered) → offered d m (commands.Iso name n len seed) ≡ Ok o → IsIsoAccepted d m o
-is_iso_accepted d m name n len seed o is = IfOk-at_ok (IsIsoAccepted d m) is (by d.command refl)
+pub is_iso_of : (d : DriverContent) (m : Mem) (name : EpName) (n len seed : ℕ) (o : Offered)
+    → offered d m (commands.Iso name n len seed) ≡ Ok o → IsIsoOf d m name len o
+is_iso_of d m name n len seed o is = IfOk-at_ok (IsIsoOf d m name len) is (by d.command refl)
   where
-    by : (c : Option Command) → d.command ≡ c → IfOk (cond (is_some c) (Err errors.Busy) (offered_next d m (commands.Iso name n len seed))) (IsIsoAccepted d m)
+    by : (c : Option Command) → d.command ≡ c
+        → IfOk (cond (is_some c) (Err errors.Busy) (offered_next d m (commands.Iso name n len seed))) (IsIsoOf d m name len)
     by (Some c) idle = tt
-    by None idle = iso_found d m idle (unwrap_or (endpoint_of d name) 0) n len seed (endpoint_named d name) (λ x e. there_by d.endpoints (endpoint_of d name) x e)
+    by None idle = iso_found d m idle name (unwrap_or (endpoint_of d name) 0) n len seed (endpoint_named d name)
+        (λ x e. there_by d.endpoints name (endpoint_of d name) x refl e)
+
+pub is_iso_accepted : (d : DriverContent) (m : Mem) (name : EpName) (n len seed : ℕ) (o : Offered)
+    → offered d m (commands.Iso name n len seed) ≡ Ok o → IsIsoAccepted d m o
+is_iso_accepted d m name n len seed o is = (is_iso_of d m name n len seed o is).accepted
 
 -- ---- what is noted of the new ones
 
 abbrev pub Noted : Slots → DescriptorNote → Type 0
-Noted s note = (note.smask ≡ s.smask) × (note.split ≡ s.split)
+Noted s note = (note.smask ≡ s.smask) × (note.split ≡ s.split) × (note.cmask ≡ s.cmask) × (note.slot ≡ s.slot)
 
 module _ (k : Book) (e : ℕ) (x : EpDesc) (s : Slots) where
   abbrev All : ℕ → ℕ → List ℕ → Descriptors → Descriptors
@@ -130,7 +176,7 @@ module _ (k : Book) (e : ℕ) (x : EpDesc) (s : Slots) where
   stays_noted zero seed rs a c old = old
   stays_noted (suc n) seed rs a c old =
       stays_noted n ((seed + total_of s) % 256) (drop (suc (slot_runs s)) rs) (one_descriptor k e x s seed rs a) c
-      (set_noted a.notes (get_or rs 0 0) c (descriptor_note s (drop 1 rs)) (refl, refl) old)
+      (set_noted a.notes (get_or rs 0 0) c (descriptor_note s (drop 1 rs)) (refl, refl, refl, refl) old)
 
   new_noted : (n seed : ℕ) (rs : List ℕ) (a : Descriptors) (i : ℕ) (y : Transfer) → length (iso_needs s n) ≤ length rs → ((j : ℕ) → j < length rs → get_or rs j 0 < length a.notes)
       → slice_get (made e s n rs) i ≡ Some y → Noted s (note_at (All n seed rs a).notes y.first)
@@ -141,7 +187,8 @@ module _ (k : Book) (e : ℕ) (x : EpDesc) (s : Slots) where
       let note = descriptor_note s (drop 1 rs) in
       let same : note_at (set a.notes b note) b ≡ note = get_or-set_same a.notes b note no_descriptor (within 0 (omega (arith, enough))) in
       subst (λ (t : Transfer). Noted s (note_at (All n ((seed + total_of s) % 256) (drop (suc (slot_runs s)) rs) (one_descriptor k e x s seed rs a)).notes t.first)) (same_Some (descriptor_transfer e s b) y there)
-      (stays_noted n ((seed + total_of s) % 256) (drop (suc (slot_runs s)) rs) (one_descriptor k e x s seed rs a) b (subst (Noted s) (sym same) (refl, refl)))
+      (stays_noted n ((seed + total_of s) % 256) (drop (suc (slot_runs s)) rs) (one_descriptor k e x s seed rs a) b
+      (subst (Noted s) (sym same) (refl, refl, refl, refl)))
   new_noted (suc n) seed rs a (suc i) y enough within there =
       let long = length-append (buffer_needs (total_of s)) (iso_needs s n) in
       let left = length-drop (suc (slot_runs s)) rs in

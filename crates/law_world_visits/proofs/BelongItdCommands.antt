@@ -6,7 +6,7 @@ use Rattle.usb_base.specs.declared.commands.Cmd.TheVariants as commands
 use Rattle.usb_base.specs.declared.endpoints.EpName.{EpName}
 use Rattle.usb_base.specs.declared.endpoints.EpDesc.{EpDesc}
 use Rattle.usb_base.specs.declared.reports.OfferError.{OfferError}
-use Rattle.word_mem.specs.Memory.{Mem, IsShaped, is_lent, reaches}
+use Rattle.word_mem.specs.Memory.{Mem, IsShaped, is_lent, word_at}
 use Rattle.word_mem.proofs.Words.{words_in_same}
 use Rattle.mem_runs.specs.declared.slots.Slot.{Slot}
 use Rattle.mem_runs.specs.declared.slots.Slot.TheVariants as slots
@@ -96,7 +96,7 @@ leaves_lent d m o (describes why) place = describes_leaves d m o why place.sound
 leaves_lent d m o (cancels why) place = subst (λ (f : Offered). Leaves m f.memory) (sym why.is) (leaves_itself m place.sound.shape)
 leaves_lent d m o (unchains why) place = subst (λ (f : Offered). Leaves m f.memory) (sym why.is) (leaves_itself m place.sound.shape)
 
-idle_by : (d : DriverContent) (m : Mem) (o : Offered) → Accepts d m o → d.command ≡ None
+pub idle_by : (d : DriverContent) (m : Mem) (o : Offered) → Accepts d m o → d.command ≡ None
 idle_by d m o (opens why) = why.idle
 idle_by d m o (chains why) = why.idle
 idle_by d m o (places why) = why.idle
@@ -106,34 +106,41 @@ idle_by d m o (cancels why) = why.idle
 idle_by d m o (unchains why) = why.idle
 
 -- while no command is unfinished each descriptor is lent, and its words stay
-pub old_stays : (d : DriverContent) (m new : Mem) (t : ℕ) (y : Transfer) → IsInPlace m d → d.command ≡ None → Leaves m new → slice_get d.transfers t ≡ Some y → is_descriptor y.sort ≡ true → y.released ≡ false
-    → (note_at d.periodic.notes y.first).split ≡ false → itd_in new y.first ≡ itd_in m y.first
-old_stays d m new t y place idle leaves there sort held split = by (slot_of d.book.slots y.first) refl
+pub old_words : (d : DriverContent) (m new : Mem) (b n i : ℕ) → IsInPlace m d → d.command ≡ None → Leaves m new
+    → HasBlocks n (slot_of d.book.slots b) → i < 8 * n
+    → word_at new (32 * b + 4 * i) ≡ word_at m (32 * b + 4 * i)
+old_words d m new b n i place idle leaves run small = by (slot_of d.book.slots b) refl
   where
-    run : HasBlocks 2 (slot_of d.book.slots y.first)
-    run = subst (λ (c : Bool). HasBlocks (if c then 1 else 2) (slot_of d.book.slots y.first)) split
-        (place.sound.owners.owned.each.described t (runs_of_transfer y) (ap (option_map runs_of_transfer) there) sort held).descriptor.run
-
-    by : (c : Slot) → slot_of d.book.slots y.first ≡ c → itd_in new y.first ≡ itd_in m y.first
-    by slots.Empty is = absurd (subst (HasBlocks 2) is run)
+    by : (c : Slot) → slot_of d.book.slots b ≡ c → word_at new (32 * b + 4 * i) ≡ word_at m (32 * b + 4 * i)
+    by slots.Empty is = absurd (subst (HasBlocks n) is run)
     by (slots.Keeps r) is =
         let none : d.book.taken ≡ [] = place.lent.lent (ap (λ (c : Option Command). still_lends c d.made) idle) in
-        absurd (true≢false (sym (place.lent.kept y.first r is) ∙ ap (begins_in y.first) none))
+        absurd (true≢false (sym (place.lent.kept b r is) ∙ ap (begins_in b) none))
     by (slots.Lends r) is =
         let h = holding d.book m in
-        let first = (lends_at h y.first r place.sound.stands is).0 in
-        let two : r.blocks ≡ 2 = subst (HasBlocks 2) is run in
-        let on : (i : ℕ) → i < 16 → reaches m (32 * y.first + 4 * i) ≡ true = λ i small.
-        ap is_lent (lends_all h y.first r place.sound.stands is ((32 * y.first + 4 * i) / 32) (omega (arith, first)) (omega (arith, first, two, small))) in
-        ap itd_at (words_in_same m.words new.words (32 * y.first) 16 (λ i small. leaves.words (32 * y.first + 4 * i) (on i small)))
+        let first = (lends_at h b r place.sound.stands is).0 in
+        let blocks : r.blocks ≡ n = subst (HasBlocks n) is run in
+        leaves.words (32 * b + 4 * i) (ap is_lent
+        (lends_all h b r place.sound.stands is ((32 * b + 4 * i) / 32) (omega (arith, first)) (omega (arith, first, blocks, small))))
+
+pub old_stays : (d : DriverContent) (m new : Mem) (t : ℕ) (y : Transfer) → IsInPlace m d → d.command ≡ None → Leaves m new
+    → slice_get d.transfers t ≡ Some y → is_descriptor y.sort ≡ true → y.released ≡ false
+    → (note_at d.periodic.notes y.first).split ≡ false → itd_in new y.first ≡ itd_in m y.first
+old_stays d m new t y place idle leaves there sort held split =
+    let run : HasBlocks 2 (slot_of d.book.slots y.first) =
+    subst (λ (c : Bool). HasBlocks (if c then 1 else 2) (slot_of d.book.slots y.first)) split
+    (place.sound.owners.owned.each.described t (runs_of_transfer y) (ap (option_map runs_of_transfer) there) sort held).descriptor.run in
+    ap itd_at (words_in_same m.words new.words (32 * y.first) 16
+    (λ i small. old_words d m new y.first 2 i place idle leaves run (omega (arith, small))))
 
 -- ---- what is told of transfers, of descriptors and of their endpoints
 
 -- the descriptors are those that there were, of the same endpoints
-record IsTold (d : DriverContent) (o : Offered) : Type 0 where
-  transfers_are : (t : ℕ) (z : Transfer) → slice_get o.driver.transfers t ≡ Some z → is_descriptor z.sort ≡ true → slice_get d.transfers t ≡ Some z
-  splits : (b : ℕ) → (note_at o.driver.periodic.notes b).split ≡ (note_at d.periodic.notes b).split
-  endpoints_are : (e : ℕ) (x : Endpoint) → e < length d.endpoints → slice_get o.driver.endpoints e ≡ Some x → IsSeenIn d.endpoints e x
+pub record IsTold (d : DriverContent) (o : Offered) : Type 0 where
+  pub transfers_are : (t : ℕ) (z : Transfer) → slice_get o.driver.transfers t ≡ Some z → is_descriptor z.sort ≡ true
+      → slice_get d.transfers t ≡ Some z
+  pub splits : (b : ℕ) → (note_at o.driver.periodic.notes b).split ≡ (note_at d.periodic.notes b).split
+  pub endpoints_are : (e : ℕ) (x : Endpoint) → e < length d.endpoints → slice_get o.driver.endpoints e ≡ Some x → IsSeenIn d.endpoints e x
 
 module _ (d : DriverContent) (m : Mem) (o : Offered) where
   seen_same : SeesSame d o → (e : ℕ) (x : Endpoint) → e < length d.endpoints → slice_get o.driver.endpoints e ≡ Some x → IsSeenIn d.endpoints e x
@@ -197,7 +204,7 @@ module _ (d : DriverContent) (m : Mem) (o : Offered) where
         endpoints_are = seen_same (left_same d m o name (from_frames why named));
       }
 
-told_by : (d : DriverContent) (m : Mem) (cmd : Cmd) (o : Offered) → HasNoDescriptors cmd → IsReasonOf d m o cmd → IsTold d o
+pub told_by : (d : DriverContent) (m : Mem) (cmd : Cmd) (o : Offered) → HasNoDescriptors cmd → IsReasonOf d m o cmd → IsTold d o
 told_by d m (commands.OpenEp x) o other why = opened_told d m o x why
 told_by d m (commands.Get name len by) o other why = taken_told d m o name _ _ refl why
 told_by d m (commands.Put name bytes by) o other why = taken_told d m o name _ _ refl why

@@ -124,7 +124,8 @@ first_stalled parts out d (s ∷ ss) w owed waits is = by s.made owed.0.some is
     by (suc (suc (suc n))) small at = absurd (omega (arith, small))
 
 module _ (s : Standing) (w : World) (k : IsMixedAt s w) where
-  not_mended : (t : ℕ) (y : Transfer) → slice_get w.driver.transfers t ≡ Some y → is_descriptor y.sort ≡ true → y.released ≡ false → IsMendedAt (driver_parts w) y.first → ⊥
+  pub not_mended : (t : ℕ) (y : Transfer) → slice_get w.driver.transfers t ≡ Some y → is_descriptor y.sort ≡ true → y.released ≡ false
+      → IsMendedAt (driver_parts w) y.first → ⊥
   not_mended t y there sort held at =
       let d = w.driver in
       let f = k.now.framed in

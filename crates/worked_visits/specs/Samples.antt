@@ -23,11 +23,20 @@
 --     again_with hand u    the price of what it made again
 --     placed_keyboard      a keyboard below a hub, polled in each frame: a start-split in microframe 0, complete-splits in 2, 3 and 4
 --     placed_speaker       a full-speed isochronous OUT endpoint of packets of 400 bytes below a hub: parts in the microframes 1, 2 and 3
+--     placed_microphone    a full-speed isochronous IN endpoint of packets of 300 bytes below a hub: a start-split in microframe 0,
+--                          complete-splits in 2, 3 and 4, of which two bring parts
+--     speaker_desc         the speaker's endpoint, as it is described
+--     speaker_part t k p c   the copy of its siTD, with t bytes and k parts left, in the position p, where the microframes c are marked;
+--                            its
+--                          buffer begins at byte 0 of memory
+--     lent_memory          the controller may touch all 16 blocks
+--     paid_over hand u     what was paid after the event of a copy in hand in microframe u, over this memory
 --     sensor               a high-speed interrupt IN endpoint of packets of 64 bytes that is polled in each microframe
 --     sensor_and_disk      a script that opens it and the disk's bulk IN endpoint, asks it for 64 bytes and lets three microframes pass
-use Rattle.std.specs.Prelude.{ℕ, true, false, List, [], ◌∷◌, slice_set, Option, Some, None, map}
+use Rattle.std.specs.Prelude.{ℕ, true, false, List, [], ◌∷◌, replicate, slice_set, Option, Some, None, map}
 use Rattle.usb_base.specs.declared.commands.Cmd.TheVariants as commands
 use Rattle.usb_base.specs.declared.endpoints.EpDesc.{EpDesc}
+use Rattle.usb_base.specs.declared.packets.Dir.TheVariants as dirs
 use Rattle.usb_base.specs.declared.packets.EpKind.{EpKind}
 use Rattle.usb_base.specs.declared.packets.EpKind.TheVariants as kinds
 use Rattle.usb_base.specs.declared.packets.Speed.TheVariants as speeds
@@ -37,10 +46,12 @@ use Rattle.script_types.specs.declared.scripts.Event.TheVariants as events
 use Rattle.script_types.specs.declared.scripts.Line.TheVariants as lines
 use Rattle.script_types.specs.declared.scripts.Script.{Script}
 use Rattle.word_mem.specs.Memory.{Mem}
+use Rattle.word_mem.specs.declared.blocks.BlockState.TheVariants.{Lent}
 use Rattle.bandwidth.specs.declared.placements.Placed.{Placed}
 use Rattle.bandwidth.specs.Worked.{keyboard, speaker, placed}
 use Rattle.hc_interrupt.specs.declared.turns.Turn.{Turn}
 use Rattle.hc_interrupt.specs.Turns.{turn_of}
+use Rattle.hc_iso.specs.Samples.{split_out}
 use Rattle.periodic_walk.specs.declared.state.Hand.{Hand}
 use Rattle.periodic_walk.specs.declared.state.Hand.TheVariants as hands
 use Rattle.periodic_walk.specs.Place.{FramePlace}
@@ -161,6 +172,40 @@ placed_keyboard = record { want = keyboard; placement = placed 8 0 0x01 0x1C }
 
 abbrev pub placed_speaker : Placed
 placed_speaker = record { want = record speaker { max = 400 }; placement = placed 8 0 0x0E 0 }
+
+abbrev pub placed_microphone : Placed
+placed_microphone = record { want = record speaker { dir = dirs.In; max = 300 }; placement = placed 8 0 0x01 0x1C }
+
+abbrev pub speaker_desc : EpDesc
+speaker_desc = record {
+  name = record { addr = 5; num = 3; way = ways.Out };
+  speed = speeds.Full;
+  kind = kinds.Iso;
+  max = 400;
+  period =
+      8;
+  multi = 1;
+  hub = Some 9;
+  port = 2;
+  tt = 0;
+}
+
+abbrev pub speaker_part : ℕ → ℕ → ℕ → ℕ → Hand
+speaker_part t k p c = hands.Sitd (record {
+  at = 0x2000;
+  sitd = record (split_out t k p) { page0 = 0; offset = 0; c_prog = c };
+  settled =
+      None;
+})
+
+abbrev pub lent_memory : Mem
+lent_memory = record { words = replicate 128 0; states = replicate 16 Lent; foreign = 0 }
+
+abbrev pub over_lent : Hand → ℕ → Content
+over_lent hand u = content_at (record (at_hand hand u 125000000) { memory = lent_memory })
+
+abbrev pub paid_over : Hand → ℕ → List (ℕ × ℕ)
+paid_over hand u = payments_after rows.Frame (kind_of rows.Frame (over_lent hand u)) (over_lent hand u) ((0x2000, 0) ∷ [])
 
 abbrev pub sensor : EpDesc
 sensor = record { name = record { addr = 4; num = 1; way = ways.In }; speed = speeds.High; kind = kinds.Interrupt; max = 64; period = 1; multi = 1; hub = None; port = 0; tt = 0 }

@@ -3,5 +3,7 @@
 //! The crate has no code of its own: each function is a law over the definitions of `law_world_visits`, and its body is empty.
 #![tactic(auto)]
 
+pub mod again;
+pub mod parts;
 pub mod rows;
 pub mod splits;
