@@ -300,7 +300,7 @@ fn append(alloc: Global, text: &mut String, host: &mut Host, one: &Act) -> Resul
     text.push_str(told.as_str())
 }
 
-fn told(alloc: Global, host: &mut Host, case: &Case) -> Result<String, AllocError> {
+fn row(alloc: Global, host: &mut Host, case: &Case) -> Result<String, AllocError> {
     let mut text = title(alloc, host, case)?;
     for one in case.acts {
         append(alloc, &mut text, host, one)?;
@@ -311,7 +311,7 @@ fn told(alloc: Global, host: &mut Host, case: &Case) -> Result<String, AllocErro
 /// What a row gives: its name with the blocks at the opening, and then a line an act.
 pub(crate) fn describe(alloc: Global, case: &Case) -> Result<String, AllocError> {
     match Host::build(alloc, words_of(case), &ROOM) {
-        Ok(mut host) => told(alloc, &mut host, case),
+        Ok(mut host) => row(alloc, &mut host, case),
         Err(_) => format!(in alloc; "no memory"),
     }
 }
