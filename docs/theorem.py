@@ -39,6 +39,7 @@ SAYS = {
     "in_time": "In a microframe that isn't held, while no more than 4 microseconds went for complete-splits made again, no transaction of the periodic part is skipped for want of time; where all periodic endpoints are of high speed, none is made again.",
     "streams": "Where a script opens high-speed bulk and control endpoints alone: at each moment, and after the run, the bytes told of each bulk IN endpoint that was opened begin its stream; those told of "
                "each bulk OUT endpoint as moved begin what its device took, and these begin what was put to it. In mid-run they are compared with all puts that weren't refused so far; after the run with all of the script that weren't.",
+    "ends": "Whatever a script opens: at each moment, and after the run, no line follows the one that tells the end of a bulk, interrupt or isochronous endpoint, and nothing of it is pending then.",
     "requests": "Where a script opens high-speed bulk and control endpoints alone, none a hub's own: at each moment a device acted on each control request at most once, and on nothing but its setup bytes; "
                 "of an endpoint that isn't cancelled a request that is told done was acted on exactly once, with all its data, and one that halted tells a beginning of them.",
     "words": "The status is `Words` exactly where the words have none of the forms.",

@@ -13,7 +13,9 @@ use Rattle.bus_world.specs.Budgets.{moment}
 use Rattle.law_world_streams.proofs.lemmas.sending_worlds.Moments.{texts_keep_streams}
 use Rattle.app_ends.specs.Input.{input_of}
 use Rattle.bus_world.specs.Runs.{IsWholeRunOf}
-use Rattle.claims_world.specs.Scripts.{OfEachAsynchronousScript}
+use Rattle.claims_world.specs.Ends.{IsEndedOnce, EndsOnceThroughout, EndsOnce}
+use Rattle.claims_world.specs.Scripts.{OfEachScript, OfEachAsynchronousScript}
+use Rattle.law_world_lines.proofs.Ended.{texts_end_once}
 
 -- what is so of the report of each moment with no order left is so of that after the run
 module _ (so : WholeReport → Type 0) where
@@ -35,3 +37,11 @@ keeps s k = record {
 pub source_keeps_streams : (left : Option (List ℕ)) → OfEachAsynchronousScript KeepsStreams left
 source_keeps_streams None = tt
 source_keeps_streams (Some xs) = λ s spelled only. keeps s (texts_keep_streams (input_of xs) s spelled only)
+
+-- no line follows an end, whatever the script opens
+ends : (s : Script) → EndsOnceThroughout s → EndsOnce s
+ends s k = record { throughout = k; after = λ w ran name other. at_end (λ r. IsEndedOnce r name) s (λ j none. k j name other) w ran }
+
+pub source_ends_once : (left : Option (List ℕ)) → OfEachScript EndsOnce left
+source_ends_once None = tt
+source_ends_once (Some xs) = λ s spelled. ends s (texts_end_once (input_of xs) s spelled)

@@ -18,6 +18,7 @@ ghost use Rattle.claims_world.specs.Microframes.{MicroframesEnd};
 ghost use Rattle.claims_world.specs.Requests.{KeepsRequests};
 ghost use Rattle.claims_world.specs.Scripts.{OfEachScript, OfEachAsynchronousScript, OfEachScriptOfDevices};
 ghost use Rattle.claims_world.specs.Streams.{KeepsStreams};
+ghost use Rattle.claims_world.specs.Ends.{EndsOnce};
 
 use app_ends::{Status, Unread, read_input};
 use app_forms::{Form, check, dump, form_of, image, load, run};
@@ -80,11 +81,14 @@ use usb_base::{Sink, Source};
 /// weren't refused so far; whatever is lost, damaged or held, and whatever control endpoints are asked and answer, STALL too. After the
 /// run these are all its streams.
 ///
+/// Whatever the script opens, no line follows the one that tells the end of a bulk, interrupt or isochronous endpoint, and nothing of it is
+/// pending then, at each moment and after the run.
+///
 /// Where these endpoints are of devices, none a hub's own control endpoint, at each moment the device acted at most once on each
 /// control request, and only on its setup bytes; of an endpoint that isn't cancelled the report tells of its requests in their order: a
 /// request that is done was acted on exactly once, and the bytes told of it are those of its data; those of one that halted begin its
 /// data; and `acted` is told as the number of requests that were acted on. After the run these are all its requests.
-#[tactic(auto, using(crate::proofs::Admitted::source_admits, crate::proofs::Admitted::source_keeps_to_lent, crate::proofs::Admitted::source_owns, crate::proofs::Admitted::source_keeps_schedule, crate::proofs::Streams::source_keeps_streams, crate::proofs::Requests::source_keeps_requests, crate::proofs::Memory::source_keeps_memory, crate::proofs::Memory::source_reaches_lent, crate::proofs::Memory::source_gives_back_last, crate::proofs::Visits::source_keeps_visits, crate::proofs::Visits::source_pays_within_load, crate::proofs::Visits::source_is_in_time, crate::proofs::Visits::source_ends_microframes))]
+#[tactic(auto, using(crate::proofs::Admitted::source_admits, crate::proofs::Admitted::source_keeps_to_lent, crate::proofs::Admitted::source_owns, crate::proofs::Admitted::source_keeps_schedule, crate::proofs::Streams::source_keeps_streams, crate::proofs::Streams::source_ends_once, crate::proofs::Requests::source_keeps_requests, crate::proofs::Memory::source_keeps_memory, crate::proofs::Memory::source_reaches_lent, crate::proofs::Memory::source_gives_back_last, crate::proofs::Visits::source_keeps_visits, crate::proofs::Visits::source_pays_within_load, crate::proofs::Visits::source_is_in_time, crate::proofs::Visits::source_ends_microframes))]
 pub fn ehci<S: Source, K: Sink>(
     alloc: Global,
     words: &[String],
@@ -108,6 +112,7 @@ pub fn ehci<S: Source, K: Sink>(
     ensures within_load { OfEachScript PaysWithinLoad (S.left source.old) }
     ensures in_time { OfEachScript ArriveInTime (S.left source.old) }
     ensures streams { OfEachAsynchronousScript KeepsStreams (S.left source.old) }
+    ensures ends { OfEachScript EndsOnce (S.left source.old) }
     ensures requests { OfEachScriptOfDevices KeepsRequests (S.left source.old) }
     ensures left { IfSome (S.left source.old) (λ xs. Leaves (map string_bytes words.now) result xs (S.left source.new)) }
     ensures nothing { WritesNothing result → sink.new ≡ sink.old }
