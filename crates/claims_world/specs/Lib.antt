@@ -14,3 +14,4 @@ pub mod Streams
 pub mod Requests
 pub mod Reach
 pub mod Releases
+pub mod Links

@@ -15,3 +15,4 @@ pub mod running_worlds
 pub mod framed_memory
 pub mod Reach
 pub mod Releases
+pub mod Links
