@@ -7,8 +7,8 @@ pub fn mixed_holds_links()
     ensures { MixedHoldsLinks }
 {}
 
-/// So it is at each moment of each script that a text spells; and while the doorbell is pending, and until its Async Advance is cleared, one
-/// batch is rung, all of which left the ring before.
+/// So it is at each moment of each script that a text spells; and while the doorbell is pending, and until its Async Advance is cleared,
+/// one batch is rung, all of which left the ring before.
 pub fn texts_keep_links()
     ensures { TextsKeepLinks }
 {}
