@@ -33,6 +33,9 @@ SAYS = {
              "works the qTDs and each byte of its buffer; no link leads to a frame span traversal node.",
     "releases": "What left the ring is given back only after the doorbell was rung since its unlinking and Async Advance was then read; what left the frame list only after two readings of FRINDEX since then "
                 "with different frame numbers.",
+    "links": "At each moment the link of each live queue head of the ring leads to a live one, and each link of the frame list and of its members is the end or leads to a live member, also between the stores by which "
+             "one is linked or unlinked; the link of a queue head that left the ring leads to a live one, or to one that left later, until Async Advance is cleared after the doorbell that was rung for it; and while the "
+             "doorbell is pending, and until then, one batch is rung: all of it left before that ringing, and what waits left since.",
     "visits": "In one microframe the walk of the frames visits no structure twice, and each in its frame, or in one from which it was unlinked in this microframe, and once it is over it has visited each to which the links of the frame led as "
               "the microframe began, and to which they lead still; in a held microframe no time is left; the asynchronous part ends for one of the standard's reasons, and a structure that is visited has its transaction, or is passed without it for one of the standard's reasons alone.",
     "within_load": "What the walk of the frames has deducted in a microframe are the prices of its transactions, and words 1 and 2 of the queue heads in the frames are those of descriptions and allowed placements. These prices, but for complete-splits that are made again, come at each moment to at most the plan's load there, and at most 100 microseconds.",

@@ -15,3 +15,4 @@ pub mod Ends
 pub mod Requests
 pub mod Reach
 pub mod Releases
+pub mod Links

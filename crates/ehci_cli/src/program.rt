@@ -9,6 +9,7 @@ ghost use Rattle.app_forms.specs.Form.{AreWordsOf, AreNoForm};
 ghost use Rattle.bus_world.specs.Runs.{IsRunOf, IsWholeRunOf};
 ghost use Rattle.app_forms.specs.Output.{IsAnswer, IsLoad, IsProgram, LeavesAs, Leaves};
 ghost use Rattle.claims_world.specs.Memory.{KeepsMemory};
+ghost use Rattle.claims_world.specs.Links.{KeepsLinks};
 ghost use Rattle.claims_world.specs.Reach.{ReachesLentThroughout};
 ghost use Rattle.claims_world.specs.Releases.{GivesBackLast};
 ghost use Rattle.claims_world.specs.Visits.{KeepsVisits};
@@ -62,6 +63,11 @@ use usb_base::{Sink, Source};
 /// What left the ring is given back only after the doorbell was rung since its unlinking and Async Advance was then read, and what left the
 /// frame list only after FRINDEX was read twice since then with different frame numbers.
 ///
+/// The link of each live queue head of the ring leads to a live one, and each link of the frame list and of its members to a member or to
+/// the end, also while one is linked or unlinked. The link of a queue head that left the ring leads to a live one, or to one that left
+/// later, until Async Advance is cleared after the doorbell that was rung for it; and while the doorbell is pending, and until then, one
+/// batch is rung: all of it left before the one ringing, and what waits left since.
+///
 /// In one microframe the walk of the frames visits no structure twice, and each in its frame, or, where it was unlinked in this
 /// microframe, in a frame from which it was, while members are linked and unlinked; and once it is over, it has visited each to which
 /// the links of the frame led as the microframe began, and to which they lead still.
@@ -88,7 +94,7 @@ use usb_base::{Sink, Source};
 /// control request, and only on its setup bytes; of an endpoint that isn't cancelled the report tells of its requests in their order: a
 /// request that is done was acted on exactly once, and the bytes told of it are those of its data; those of one that halted begin its
 /// data; and `acted` is told as the number of requests that were acted on. After the run these are all its requests.
-#[tactic(auto, using(crate::proofs::Admitted::source_admits, crate::proofs::Admitted::source_keeps_to_lent, crate::proofs::Admitted::source_owns, crate::proofs::Admitted::source_keeps_schedule, crate::proofs::Streams::source_keeps_streams, crate::proofs::Streams::source_ends_once, crate::proofs::Requests::source_keeps_requests, crate::proofs::Memory::source_keeps_memory, crate::proofs::Memory::source_reaches_lent, crate::proofs::Memory::source_gives_back_last, crate::proofs::Visits::source_keeps_visits, crate::proofs::Visits::source_pays_within_load, crate::proofs::Visits::source_is_in_time, crate::proofs::Visits::source_ends_microframes))]
+#[tactic(auto, using(crate::proofs::Admitted::source_admits, crate::proofs::Admitted::source_keeps_to_lent, crate::proofs::Admitted::source_owns, crate::proofs::Admitted::source_keeps_schedule, crate::proofs::Streams::source_keeps_streams, crate::proofs::Streams::source_ends_once, crate::proofs::Requests::source_keeps_requests, crate::proofs::Memory::source_keeps_memory, crate::proofs::Memory::source_reaches_lent, crate::proofs::Memory::source_gives_back_last, crate::proofs::Memory::source_keeps_links, crate::proofs::Visits::source_keeps_visits, crate::proofs::Visits::source_pays_within_load, crate::proofs::Visits::source_is_in_time, crate::proofs::Visits::source_ends_microframes))]
 pub fn ehci<S: Source, K: Sink>(
     alloc: Global,
     words: &[String],
@@ -107,6 +113,7 @@ pub fn ehci<S: Source, K: Sink>(
     ensures memory { OfEachScript KeepsMemory (S.left source.old) }
     ensures reach { OfEachScript ReachesLentThroughout (S.left source.old) }
     ensures releases { OfEachScript GivesBackLast (S.left source.old) }
+    ensures links { OfEachScript KeepsLinks (S.left source.old) }
     ensures visits { OfEachScript KeepsVisits (S.left source.old) }
     ensures microframes { OfEachScript MicroframesEnd (S.left source.old) }
     ensures within_load { OfEachScript PaysWithinLoad (S.left source.old) }

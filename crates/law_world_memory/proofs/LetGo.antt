@@ -52,7 +52,7 @@ ticks_then fixed p zero = refl
 ticks_then fixed p (suc k) = ticks_then fixed (tick fixed p) k
 
 module _ (s : Script) where
-  moment_then : (k : ℕ) → moment s (suc k) ≡ tick (fixed_of s) (moment s k)
+  pub moment_then : (k : ℕ) → moment s (suc k) ≡ tick (fixed_of s) (moment s k)
   moment_then k = ticks_then (fixed_of s) (at_place (opening_world s) (orders_of s.lines)) k
 
   -- ---- what was so is so later
@@ -249,7 +249,7 @@ module _ (s : Script) where
       (offered (moment s k).world.driver (moment s k).world.memory cmd) refl
   stepped k _ are next h = stays k (moment s k).world.driver h
 
-  history : (k : ℕ) → IsHistory s k (moment s k).world.driver
+  pub history : (k : ℕ) → IsHistory s k (moment s k).world.driver
   unfolding ticks
   history zero = record { waiting = tt; rung = tt; heard = λ is. tt; cleared = tt; removals = tt }
   history (suc k) =

@@ -84,3 +84,7 @@ pub mod ReachSamples
 pub mod ReleaseRows
 pub mod ReleaseCommands
 pub mod LetGo
+pub mod RingLeads
+pub mod FrameLeads
+pub mod OneBatch
+pub mod LinksHeld

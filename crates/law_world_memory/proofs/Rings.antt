@@ -65,7 +65,7 @@ taken_distinct n xs distinct = record {
   apart = λ i j x y here there on also differ. distinct.apart i j x y (taken_there n xs i x here) (taken_there n xs j y there) on also differ;
 }
 
-without_last : (xs : List Endpoint) (y : Endpoint) → take (length (xs ++ y ∷ []) - 1) (xs ++ y ∷ []) ≡ xs
+pub without_last : (xs : List Endpoint) (y : Endpoint) → take (length (xs ++ y ∷ []) - 1) (xs ++ y ∷ []) ≡ xs
 without_last xs y =
     let n : length (xs ++ y ∷ []) ≡ length xs + 1 = length-append xs (y ∷ []) in
     let e : length (xs ++ y ∷ []) - 1 ≡ length xs = omega (arith, n) in
@@ -73,7 +73,7 @@ without_last xs y =
 
 -- ---- the ring as it is read
 
-linked_now : (word : ℕ → ℕ) (xs : List Endpoint) (ts : List Transfer) (o : Option Command) → StandsFor word xs ts o → AreLinked word head_block (linked_to o xs)
+pub linked_now : (word : ℕ → ℕ) (xs : List Endpoint) (ts : List Transfer) (o : Option Command) → StandsFor word xs ts o → AreLinked word head_block (linked_to o xs)
 linked_now word xs ts (Some (unfinished.Open queue)) s =
     subst (λ (ys : List Endpoint). AreLinked word head_block (take (length ys - 1) ys)) (sym s.all) (subst (λ (ys : List Endpoint). AreLinked word head_block ys) (sym (without_last s.older s.new)) s.ring)
 linked_now word xs ts (Some (unfinished.Publish b words)) s = s.ring

@@ -16,3 +16,4 @@ pub mod framed_memory
 pub mod Reach
 pub mod Releases
 pub mod pipe_steps
+pub mod Links

@@ -3,6 +3,7 @@
 //! - `framed_memory`: A driver and a controller over one memory, where the controller walks a ring and the frames (EHCI 1.0, 3, 4.6 to 4.10 and 4.12.3): each
 //!   of its events leaves the driver all that it has to find again, its frame list, and its structures, and goes on over both.
 //! - `linked_rings`: Worked rings of two queue heads.
+//! - `links`: Where the links of structures lead (EHCI 1.0, 3.1, 3.6.1, 4.6, 4.8 and 4.8.2), and for whom the doorbell was rung.
 //! - `microphone`: A worked script, of one isochronous endpoint.
 //! - `owned_blocks`: No run of blocks leaks (EHCI 1.0, 3, 4.8.2 and 4.10): each run that a driver has is that of the frame list, of the head of the ring, of a
 //!   queue head or an inactive qTD of an endpoint that wasn't given back, or of a qTD, an isochronous descriptor or a buffer of a transfer that wasn't.
@@ -27,6 +28,7 @@
 
 pub mod framed_memory;
 pub mod linked_rings;
+pub mod links;
 pub mod microphone;
 pub mod owned_blocks;
 pub mod pipe_steps;

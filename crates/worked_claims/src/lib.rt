@@ -4,3 +4,4 @@
 #![tactic(auto)]
 
 pub mod broken;
+pub mod left_queues;

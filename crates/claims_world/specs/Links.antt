@@ -1,0 +1,103 @@
+-- Where the links of structures lead, as memory has them (EHCI 1.0, 3.1, 3.6.1, 4.6, 4.8 and 4.8.2): those of live structures to live ones,
+-- and those of queue heads that left the ring to the head, to a live one, or to one that left later; and for whom the doorbell was rung.
+--     IsLive d b              in block b begins the head of the ring, or the queue head of an endpoint in the ring; one whose open is
+--                             unfinished is in it only from its last store on
+--     LeadsTo P v             the link word v is that to a queue head, in a block that is so (3.6.1)
+--     IsLiveOrLater d es b    in block b begins a live queue head, or that of one of these endpoints
+--     HasLeftBefore m d es e  endpoint e has left the ring, these left later, and its link leads to a live queue head or to one of these
+--     AreLeft m d es          so it is of these endpoints, in this order
+--     EndsOrLeads d v         the link word v is the end of a frame, or leads to a member of the driver's list that is live: a store has
+--                             led to it, and the last one that unlinks it wasn't made (3.1)
+--     HoldsLinks m d          all links in the words of memory are so: of the ring, of what left it, of the frame list, and of its members
+--     LeftWithin s from n e   endpoint e left the ring at an event of the run, from this one on and before event n
+--     IsOneBatch s k d        before event k the doorbell was rung for all that is rung, which left before; and what waits left since
+--     IsPending w             the doorbell is pending, or its Async Advance isn't cleared yet (2.3.1, 2.3.2)
+--     KeepsLinks s            so it is at each moment of the run of a script: the links hold, and meanwhile one batch is rung
+use Rattle.std.specs.List.{AllByRecursion}
+use Rattle.std.specs.Prelude.{◌≡◌, ◌≢◌, ℕ, suc, ◌<◌, ◌≤◌, ◌⊎◌, true, false, List, [], ◌++◌, ◌∷◌, slice_get, Some}
+use Rattle.script_types.specs.declared.scripts.Script.{Script}
+use Rattle.word_mem.specs.Memory.{Mem, word_at}
+use Rattle.drv_chains.specs.declared.members.Member.{Member}
+use Rattle.drv_chains.specs.declared.members.Predecessor.TheVariants.{Element, After}
+use Rattle.drv_chains.specs.Chains.{id_of}
+use Rattle.drv_members.specs.Members.{is_linked}
+use Rattle.drv_periodic.specs.Periodic.{address_of}
+use Rattle.drv_table.specs.declared.content.Endpoint.{Endpoint}
+use Rattle.drv_table.specs.declared.rows.DriverRow.TheVariants as rows
+use Rattle.drv_table.specs.DriverContent.{DriverContent}
+use Rattle.drv_table.specs.Words.{head_block, queue_head_link}
+use Rattle.bus_world.specs.Budgets.{moment}
+use Rattle.bus_world.specs.World.{World}
+use Rattle.claims_driver.specs.Ring.{IsAmong, IsQueueOf, link_in}
+use Rattle.claims_driver.specs.Unlinked.{led}
+use Rattle.claims_world.specs.Memory.{linked_to}
+use Rattle.claims_world.specs.Releases.{Does, LeavesRing}
+
+-- ---- the ring (4.8)
+
+pub data IsLive (d : DriverContent) (b : ℕ) : Type 0 where
+  the_head : b ≡ head_block → IsLive d b
+  a_queue : (e : ℕ) (x : Endpoint) → slice_get (linked_to d.command d.endpoints) e ≡ Some x → x.linked ≡ true → b ≡ x.queue → IsLive d b
+
+pub record LeadsTo (P : ℕ → Type 0) (v : ℕ) : Type 0 where
+  pub block : ℕ
+  pub link : v ≡ queue_head_link block
+  pub is : P block
+
+pub data IsLiveOrLater (d : DriverContent) (es : List ℕ) (b : ℕ) : Type 0 where
+  live : IsLive d b → IsLiveOrLater d es b
+  left_later : (e : ℕ) → IsAmong e es → IsQueueOf d.endpoints e b → IsLiveOrLater d es b
+
+-- endpoint e has left, and these left later
+pub record HasLeftBefore (m : Mem) (d : DriverContent) (es : List ℕ) (e : ℕ) : Type 0 where
+  pub endpoint : Endpoint
+  pub here : slice_get d.endpoints e ≡ Some endpoint
+  pub out : endpoint.linked ≡ false
+  pub leads : LeadsTo (IsLiveOrLater d es) (link_in m endpoint.queue)
+
+abbrev pub AreLeft : Mem → DriverContent → List ℕ → Type 0
+AreLeft m d [] = Unit {0}
+AreLeft m d (e ∷ es) = HasLeftBefore m d es e × AreLeft m d es
+
+-- ---- the frame list (4.6)
+
+pub data EndsOrLeads (d : DriverContent) (v : ℕ) : Type 0 where
+  ends : v ≡ 1 → EndsOrLeads d v
+  leads : (x : Member) → is_linked (led d) x ≡ true → v ≡ id_of x → EndsOrLeads d v
+
+-- ---- all links
+
+pub record HoldsLinks (m : Mem) (d : DriverContent) : Type 0 where
+  pub ring : (b : ℕ) → IsLive d b → LeadsTo (IsLive d) (link_in m b)
+  -- until Async Advance is cleared after the doorbell that was rung for them (4.8.2)
+  pub left : AreLeft m d (d.rung ++ d.waiting)
+  pub elements : (f : ℕ) → f < 1024 → EndsOrLeads d (word_at m (address_of d.periodic.list.list (Element f)))
+  pub members : (x : Member) → is_linked (led d) x ≡ true → EndsOrLeads d (word_at m (address_of d.periodic.list.list (After x)))
+
+-- ---- the doorbell (4.8.2)
+
+pub record LeftWithin (s : Script) (from n e : ℕ) : Type 0 where
+  pub unlinking : ℕ
+  pub left : LeavesRing (moment s unlinking).world.driver.endpoints (moment s (suc unlinking)).world.driver.endpoints e
+  pub since : from ≤ unlinking
+  pub before : unlinking < n
+
+pub record IsOneBatch (s : Script) (k : ℕ) (d : DriverContent) : Type 0 where
+  pub ringing : ℕ
+  pub rang : Does s ringing rows.RingBell
+  pub past : ringing < k
+  pub some : d.rung ≢ []
+  pub rung : AllByRecursion (LeftWithin s 0 ringing) d.rung
+  pub waiting : AllByRecursion (LeftWithin s ringing k) d.waiting
+
+abbrev pub IsPending : World → Type 0
+IsPending w = (w.registers.doorbell ≡ true) ⊎ (w.registers.async_advance ≡ true)
+
+-- ---- the whole
+
+pub record LinksAreKept (s : Script) (k : ℕ) (w : World) : Type 0 where
+  pub links : HoldsLinks w.memory w.driver
+  pub batch : IsPending w → IsOneBatch s k w.driver
+
+abbrev pub KeepsLinks : Script → Type 0
+KeepsLinks s = (k : ℕ) → LinksAreKept s k (moment s k).world
