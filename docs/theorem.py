@@ -31,6 +31,8 @@ SAYS = {
               "rung; and the controller runs, meets no fault and is refused no word. Of what qTDs, overlays and the words of isochronous descriptors other than links hold it says nothing.",
     "reach": "At each moment all that the controller can come to from where it stands is Lent: the frame list and the ring's head, what either walk is at or holds a copy of, what links lead to, and of what "
              "works the qTDs and each byte of its buffer; no link leads to a frame span traversal node.",
+    "owners": "From each moment to the next: each word that an event of the controller changes is one of its own, and none that an event of the driver, or a command, changes is one. Of what it can come to these are its own: "
+              "words 3 to 11 of a queue head that isn't halted, the token of an active qTD, the word of an active microframe of an iTD, words 3 to 5 of an active siTD, and the words of the bytes that are still to come into a buffer.",
     "releases": "What left the ring is given back only after the doorbell was rung since its unlinking and Async Advance was then read; what left the frame list only after two readings of FRINDEX since then "
                 "with different frame numbers.",
     "links": "At each moment the link of each live queue head of the ring leads to a live one, and each link of the frame list and of its members is the end or leads to a live member, also between the stores by which "

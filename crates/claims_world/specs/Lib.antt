@@ -16,3 +16,4 @@ pub mod Requests
 pub mod Reach
 pub mod Releases
 pub mod Links
+pub mod Owners

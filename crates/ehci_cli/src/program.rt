@@ -11,6 +11,7 @@ ghost use Rattle.app_forms.specs.Output.{IsAnswer, IsLoad, IsProgram, LeavesAs, 
 ghost use Rattle.claims_world.specs.Memory.{KeepsMemory};
 ghost use Rattle.claims_world.specs.Links.{KeepsLinks};
 ghost use Rattle.claims_world.specs.Reach.{ReachesLentThroughout};
+ghost use Rattle.claims_world.specs.Owners.{KeepsToOwnersThroughout};
 ghost use Rattle.claims_world.specs.Releases.{GivesBackLast};
 ghost use Rattle.claims_world.specs.Visits.{KeepsVisits};
 ghost use Rattle.claims_world.specs.WithinLoad.{PaysWithinLoad};
@@ -60,6 +61,10 @@ use usb_base::{Sink, Source};
 /// the frame list, the ring, its cursors and copies, by links, and by what works to qTDs and bytes of buffers, is Lent. Of what overlays and
 /// qTDs hold this says nothing else.
 ///
+/// From each such moment to the next the controller writes words of its own alone, and no one else writes one of these. Of what it can
+/// come to these are its own: words 3 to 11 of a queue head that isn't halted, the token of an active qTD, the word of an active
+/// microframe of an iTD, words 3 to 5 of an active siTD, and the words of the bytes that are still to come into a buffer.
+///
 /// What left the ring is given back only after the doorbell was rung since its unlinking and Async Advance was then read, and what left the
 /// frame list only after FRINDEX was read twice since then with different frame numbers.
 ///
@@ -94,7 +99,7 @@ use usb_base::{Sink, Source};
 /// control request, and only on its setup bytes; of an endpoint that isn't cancelled the report tells of its requests in their order: a
 /// request that is done was acted on exactly once, and the bytes told of it are those of its data; those of one that halted begin its
 /// data; and `acted` is told as the number of requests that were acted on. After the run these are all its requests.
-#[tactic(auto, using(crate::proofs::Admitted::source_admits, crate::proofs::Admitted::source_keeps_to_lent, crate::proofs::Admitted::source_owns, crate::proofs::Admitted::source_keeps_schedule, crate::proofs::Streams::source_keeps_streams, crate::proofs::Streams::source_ends_once, crate::proofs::Requests::source_keeps_requests, crate::proofs::Memory::source_keeps_memory, crate::proofs::Memory::source_reaches_lent, crate::proofs::Memory::source_gives_back_last, crate::proofs::Memory::source_keeps_links, crate::proofs::Visits::source_keeps_visits, crate::proofs::Visits::source_pays_within_load, crate::proofs::Visits::source_is_in_time, crate::proofs::Visits::source_ends_microframes))]
+#[tactic(auto, using(crate::proofs::Admitted::source_admits, crate::proofs::Admitted::source_keeps_to_lent, crate::proofs::Admitted::source_owns, crate::proofs::Admitted::source_keeps_schedule, crate::proofs::Streams::source_keeps_streams, crate::proofs::Streams::source_ends_once, crate::proofs::Requests::source_keeps_requests, crate::proofs::Memory::source_keeps_memory, crate::proofs::Memory::source_reaches_lent, crate::proofs::Memory::source_keeps_to_owners, crate::proofs::Memory::source_gives_back_last, crate::proofs::Memory::source_keeps_links, crate::proofs::Visits::source_keeps_visits, crate::proofs::Visits::source_pays_within_load, crate::proofs::Visits::source_is_in_time, crate::proofs::Visits::source_ends_microframes))]
 pub fn ehci<S: Source, K: Sink>(
     alloc: Global,
     words: &[String],
@@ -112,6 +117,7 @@ pub fn ehci<S: Source, K: Sink>(
     ensures schedule { OfEachScript KeepsScheduleThroughout (S.left source.old) }
     ensures memory { OfEachScript KeepsMemory (S.left source.old) }
     ensures reach { OfEachScript ReachesLentThroughout (S.left source.old) }
+    ensures owners { OfEachScript KeepsToOwnersThroughout (S.left source.old) }
     ensures releases { OfEachScript GivesBackLast (S.left source.old) }
     ensures links { OfEachScript KeepsLinks (S.left source.old) }
     ensures visits { OfEachScript KeepsVisits (S.left source.old) }

@@ -127,18 +127,18 @@ module _ (d : DriverContent) (m : Mem) (e t : ℕ) (has : HasOwners d) (lent : A
 
 -- ---- the row is that of a command with descriptors
 
-record IsIsoLend (c : Command) (made : ℕ) : Type 0 where
-  endpoint : ℕ
-  first : ℕ
-  count : ℕ
-  is : c ≡ unfinished.Iso endpoint first count
-  at : made ≡ 1
+pub record IsIsoLend (c : Command) (made : ℕ) : Type 0 where
+  pub endpoint : ℕ
+  pub first : ℕ
+  pub count : ℕ
+  pub is : c ≡ unfinished.Iso endpoint first count
+  pub at : made ≡ 1
 
 stores_only : (b : ℕ) (words : List ℕ) (o : Option ℕ) → option_map (λ i. rows.Store b (32 * b + 4 * i) (slice_index words i)) o ≡ Some rows.LendDescriptors → ⊥
 stores_only b words None is = cc
 stores_only b words (Some i) is = cc
 
-lends_iso : (c : Command) (made : ℕ) → slice_get (events_of c) made ≡ Some rows.LendDescriptors → IsIsoLend c made
+pub lends_iso : (c : Command) (made : ℕ) → slice_get (events_of c) made ≡ Some rows.LendDescriptors → IsIsoLend c made
 lends_iso (unfinished.Open queue) zero is = absurd (cc)
 lends_iso (unfinished.Open queue) (suc zero) is = absurd (cc)
 lends_iso (unfinished.Open queue) (suc (suc n)) is = absurd (cc)

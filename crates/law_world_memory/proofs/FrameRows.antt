@@ -39,7 +39,7 @@ use Rattle.law_world_memory.proofs.FrameEnds.{advance_ends, framed_ends, unlink_
 
 -- ---- what a row is of is there
 
-unlinked_there : (p : Parts) (t : ℕ) → HasOwners p.driver → IsUnlinkDue p t → IsOwed p.driver.transfers t
+pub unlinked_there : (p : Parts) (t : ℕ) → HasOwners p.driver → IsUnlinkDue p t → IsOwed p.driver.transfers t
 unlinked_there p t has due =
     let most = has.orderly.harvests t in
     let first = times_first t t p.driver.periodic.unlinks due.first in

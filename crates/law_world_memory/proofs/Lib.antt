@@ -88,3 +88,15 @@ pub mod RingLeads
 pub mod FrameLeads
 pub mod OneBatch
 pub mod LinksHeld
+pub mod LeavesLent
+pub mod OwnPlaces
+pub mod OwnRing
+pub mod OwnFrames
+pub mod OwnHands
+pub mod OwnTold
+pub mod OwnStores
+pub mod OwnControl
+pub mod OwnEnded
+pub mod OwnFreed
+pub mod OwnDriver
+pub mod OwnMoments

@@ -100,6 +100,9 @@ module _ (s : Standing) (w : World) (k : IsMixedAt s w) (m : Mend) (row : driver
     onward = at.onward;
   }
 
+  pub mend_there : IsAtMend (driver_parts w) s.parts s.out
+  mend_there = own_at
+
   abbrev n : ℕ
   n = 32 * at.stalled.queue
 

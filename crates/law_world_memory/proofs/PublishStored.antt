@@ -47,6 +47,15 @@ same_command a b same = cc
 
 -- ---- what stands before it
 
+-- which word of which qTD comes next
+pub record IsPublishPlace (w : World) (parts : StructureSets) (b : ℕ) : Type 0 where
+  pub owner : ℕ
+  pub qtd : Qtd
+  pub number : ℕ
+  pub low : number < 8
+  pub here : parts owner (32 * b) ≡ Some (Element (partly qtd number))
+  pub row : driver_row (driver_parts w) ≡ publish_row b qtd number
+
 module _ (s : Standing) (w : World) (b : ℕ) (words : List ℕ) (k : IsMixedAt s w) (command : w.driver.command ≡ Some (unfinished.Publish b words)) (made : 1 ≤ w.driver.made) where
   abbrev p : DriverParts
   p = driver_parts w
@@ -111,6 +120,9 @@ module _ (s : Standing) (w : World) (b : ℕ) (words : List ℕ) (k : IsMixedAt 
 
   row_here : driver_row p ≡ publish_row b g.qtd i
   row_here = row_is p s.member s.parts n b g.qtd i being_here
+
+  pub publish_place : IsPublishPlace w s.parts b
+  publish_place = record { owner = n; qtd = g.qtd; number = i; low = low_now; here = g.stored; row = row_here }
 
   row_of_queues : driver_row q ≡ publish_row b g.qtd i
   row_of_queues = row_is q s.near s.parts n b g.qtd i (being q s.near s.streams s.ends s.parts s.order s.out b words at)

@@ -51,14 +51,14 @@ use Rattle.law_controller.specs.frame_control.Both.{RunsBoth}
 use Rattle.law_world_memory.specs.Reach.{RunsReachLent}
 
 -- a qTD of a queue head of which all is sound
-record IsToldQtd (parts : StructureSets) (a : ℕ) : Type 0 where
-  owner : ℕ
-  part_is : IsQueuePart owner (parts owner)
-  qtd : Qtd
-  here : parts owner a ≡ Some (Element qtd)
+pub record IsToldQtd (parts : StructureSets) (a : ℕ) : Type 0 where
+  pub owner : ℕ
+  pub part_is : IsQueuePart owner (parts owner)
+  pub qtd : Qtd
+  pub here : parts owner a ≡ Some (Element qtd)
 
 -- what is the same as a read one has what that has
-read_is : {X : Type 0} (P : X → Type 0) (o : Option X) (x y : X) → o ≡ Some x → o ≡ Some y → P x → P y
+pub read_is : {X : Type 0} (P : X → Type 0) (o : Option X) (x y : X) → o ≡ Some x → o ≡ Some y → P x → P y
 read_is P o x y one other has = subst (λ p. IfSome p P) other (subst (λ p. IfSome p P) (sym one) has)
 
 module _ (base : Base) (member : ℕ → Bool) (met : ℕ → Option Kind) (parts : StructureSets) (hand : Hand) (frame : FrameHand)
@@ -66,7 +66,7 @@ module _ (base : Base) (member : ℕ → Bool) (met : ℕ → Option Kind) (part
   tells : Tells c.memory parts
   tells = k.ring.tells
 
-  abbrev IsTold : Reached → Type 0
+  abbrev pub IsTold : Reached → Type 0
   IsTold TheList = Unit {0}
   IsTold (QueueAt a) = (member a ≡ true) ⊎ (met a ≡ Some AQueue)
   IsTold (QtdAt a) = IsToldQtd parts a
@@ -93,9 +93,9 @@ module _ (base : Base) (member : ℕ → Bool) (met : ℕ → Option Kind) (part
   -- ---- queue heads
 
   -- its part is sound, and its link leads to what is told
-  record IsToldQueue (a : ℕ) : Type 0 where
-    part_is : IsQueuePart a (parts a)
-    link : IfSome (leads_to (link_of part_is.queue.link)) IsTold
+  pub record IsToldQueue (a : ℕ) : Type 0 where
+    pub part_is : IsQueuePart a (parts a)
+    pub link : IfSome (leads_to (link_of part_is.queue.link)) IsTold
 
   of_member : (a : ℕ) → IsMember member a (parts a) → IsToldQueue a
   of_member a m = record {
@@ -106,7 +106,7 @@ module _ (base : Base) (member : ℕ → Bool) (met : ℕ → Option Kind) (part
   of_met : (a : ℕ) → IsMetQueue met a (parts a) → IsToldQueue a
   of_met a m = record { part_is = m.part_is; link = met_lead (link_of m.part_is.queue.link) m.link }
 
-  queue_told : (a : ℕ) → IsTold (QueueAt a) → IsToldQueue a
+  pub queue_told : (a : ℕ) → IsTold (QueueAt a) → IsToldQueue a
   queue_told a told = ⊎_elim (λ (on : member a ≡ true). of_member a (k.ring.members a on))
       (λ (on : met a ≡ Some AQueue). of_met a (k.members a AQueue on)) told
 
@@ -191,7 +191,7 @@ module _ (base : Base) (member : ℕ → Bool) (met : ℕ → Option Kind) (part
   told_parts : (a : ℕ) (x : IsToldQueue a) → HasParts x.part_is.queue
   told_parts a x = queue_part a x.part_is x.part_is.queue x.part_is.sound
 
-  told_read : (a : ℕ) (x : IsToldQueue a) → queue_head_at_address c.memory a ≡ Some x.part_is.queue
+  pub told_read : (a : ℕ) (x : IsToldQueue a) → queue_head_at_address c.memory a ≡ Some x.part_is.queue
   told_read a x = head_read c.memory parts a a x.part_is.queue tells x.part_is.here
 
   read_parts : (a : ℕ) (q : Qh) → IsTold (QueueAt a) → queue_head_at_address c.memory a ≡ Some q → HasParts q
@@ -360,7 +360,7 @@ module _ (base : Base) (member : ℕ → Bool) (met : ℕ → Option Kind) (part
 
   -- ---- the way
 
-  told : (t : Reached) → Reaches c t → IsTold t
+  pub told : (t : Reached) → Reaches c t → IsTold t
   told t reach.list = tt
   told t reach.head = inl head_on
   told t (reach.element f u low is) = led (element_at c f) u (element_leads f low) is

@@ -17,3 +17,4 @@ pub mod Reach
 pub mod Releases
 pub mod pipe_steps
 pub mod Links
+pub mod Owners

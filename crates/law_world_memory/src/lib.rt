@@ -11,6 +11,7 @@
 //!   4.10; USB 2.0, 5.7, 5.8 and 8.6).
 //! - `reach`: All that the controller can come to from where it stands is Lent (EHCI 1.0, 3, 4.6, 4.8, 4.10 and 4.12), at each moment of each script that a text spells.
 //! - `releases`: What left the ring or the frame list is given back only after the controller has shown that it let go of it (EHCI 1.0, 2.3.2, 2.3.4, 4.6 and 4.8.2).
+//! - `owners`: Whose the words of memory are (EHCI 1.0, 3.3, 3.4, 3.5, 3.6, 4.7.1, 4.10 and 4.12.3).
 //! - `queue_steps`: What steps of the queues leave to be told, and a worked step, the harvest of an interrupt endpoint's get.
 //! - `running_worlds`: Worlds whose controller runs, whatever the script opens (EHCI 1.0, 2.3.1, 2.3.2 and 4.15.2.4): meanwhile Host System Error is 0, and no
 //!   refusal is counted.
@@ -32,6 +33,7 @@ pub mod links;
 pub mod microphone;
 pub mod owned_blocks;
 pub mod pipe_steps;
+pub mod owners;
 pub mod queue_steps;
 pub mod reach;
 pub mod releases;

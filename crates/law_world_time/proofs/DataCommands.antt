@@ -66,7 +66,7 @@ use Rattle.law_world_memory.specs.Mixed.{Standing, IsMixedAt, IsMixedWorld, IsUn
 use Rattle.law_world_memory.proofs.CommandKeeping.{command_keeps_mixed}
 use Rattle.law_world_memory.proofs.QueueViews.{queues_told}
 use Rattle.law_world_visits.proofs.BelongSeen.{Seen, seen_in, IsSeenIn, seen_set, seen_there, or_done}
-use Rattle.law_world_visits.proofs.BelongItdCommands.{leaves_lent}
+use Rattle.law_world_memory.proofs.LeavesLent.{leaves_lent}
 use Rattle.law_world_visits.proofs.BelongTold.{or_left}
 use Rattle.law_world_time.specs.DataQueues.{qtd_in, pid_of, way_of, SendsData, QueuesSendData, CommandKeepsData}
 use Rattle.law_world_time.proofs.DataWords.{told_qtd, of_words, same_sends}

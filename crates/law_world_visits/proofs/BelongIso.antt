@@ -53,7 +53,8 @@ use Rattle.law_descriptors.proofs.Accepted.{drop_old, made, all_transfers, notes
 use Rattle.law_world_memory.specs.framed_memory.Isochronous.{AwaitsLend, AreAwaiting}
 use Rattle.law_world_visits.specs.DescriptorFields.{itd_in, HaveItdFields, IsServed, ItdsStand}
 use Rattle.law_world_visits.proofs.BelongSeen.{Seen, seen_in, IsSeenIn, seen_set, seen_there}
-use Rattle.law_world_visits.proofs.BelongItdCommands.{leaves_lent, old_stays}
+use Rattle.law_world_memory.proofs.LeavesLent.{leaves_lent}
+use Rattle.law_world_visits.proofs.BelongItdCommands.{old_stays}
 
 -- ---- what was accepted
 

@@ -1,32 +1,28 @@
 -- Each command that takes on no isochronous descriptors leaves the iTDs as they stand.
-use Rattle.std.proofs.Common.{◌≡◌, ℕ, ◌+◌, ◌*◌, ◌/◌, ◌<◌, Bool, true, false, List, [], ◌∷◌, length, drop, get_or, slice_get, slice_index, Option, Some, None, Result, Ok, Err, option_map, ap, refl, sym, subst, ◌∙◌, ⊎_elim, arith, if◌then◌else◌}
+use Rattle.std.proofs.Common.{◌≡◌, ℕ, ◌+◌, ◌*◌, ◌/◌, ◌<◌, Bool, true, false, List, [], ◌∷◌, length, slice_get, Option, Some, None, Result, Ok, Err, option_map, ap, refl, sym, subst, ◌∙◌, ⊎_elim, arith}
 use Rattle.std.proofs.lemmas.Bool.{true≢false}
 use Rattle.usb_base.specs.declared.commands.Cmd.{Cmd}
 use Rattle.usb_base.specs.declared.commands.Cmd.TheVariants as commands
 use Rattle.usb_base.specs.declared.endpoints.EpName.{EpName}
 use Rattle.usb_base.specs.declared.endpoints.EpDesc.{EpDesc}
 use Rattle.usb_base.specs.declared.reports.OfferError.{OfferError}
-use Rattle.word_mem.specs.Memory.{Mem, IsShaped, is_lent, word_at}
+use Rattle.word_mem.specs.Memory.{Mem, is_lent, word_at}
 use Rattle.word_mem.proofs.Words.{words_in_same}
 use Rattle.mem_runs.specs.declared.slots.Slot.{Slot}
 use Rattle.mem_runs.specs.declared.slots.Slot.TheVariants as slots
-use Rattle.mem_runs.specs.Book.{Holding, holding, slot_of, store_words, Stands}
+use Rattle.mem_runs.specs.Book.{holding, slot_of}
 use Rattle.mem_runs.proofs.Standing.{lends_at, lends_all}
 use Rattle.qh_qtd.specs.declared.queue_head.Qh.{Qh}
-use Rattle.qh_qtd.specs.Qtd.{qtd_words}
-use Rattle.qh_qtd.specs.QueueHead.{qh_words}
 use Rattle.itd_sitd.specs.Itd.{itd_at}
 use Rattle.bandwidth.specs.declared.placements.Placement.{Placement}
-use Rattle.drv_periodic_table.specs.Linking.{new_link}
-use Rattle.drv_periodic_table.specs.Periodic.{note_at, queue_member}
+use Rattle.drv_periodic_table.specs.Periodic.{note_at}
 use Rattle.drv_table.specs.declared.content.Endpoint.{Endpoint}
 use Rattle.drv_table.specs.declared.content.Transfer.{Transfer}
 use Rattle.drv_table.specs.declared.content.Command.{Command}
 use Rattle.drv_table.specs.declared.content.Command.TheVariants as unfinished
 use Rattle.drv_table.specs.DriverContent.{DriverContent}
-use Rattle.drv_table.specs.Words.{interrupt_head, dummy_qtd}
-use Rattle.drv_table.specs.Accepting.{Offered, new_runs}
-use Rattle.drv_table.specs.Offers.{Asked, offered, new_transfer, accepted_open, accepted_chain}
+use Rattle.drv_table.specs.Accepting.{Offered}
+use Rattle.drv_table.specs.Offers.{Asked, offered, new_transfer}
 use Rattle.drv_table.specs.CancelOffers.{with_cancel, endpoint_members}
 use Rattle.law_driver.specs.run_owners.Accepts.{Accepts, opens, chains, places, transfers, describes, cancels, unchains}
 use Rattle.claims_driver.specs.Owners.{HasBlocks, DescriptorRuns, is_descriptor, runs_of_transfer}
@@ -35,18 +31,11 @@ use Rattle.claims_driver.specs.InPlace.{IsInPlace}
 use Rattle.law_driver.proofs.lemmas.run_owners.Commands.{accepted_for_a_reason}
 use Rattle.law_driver.proofs.lemmas.run_owners.Ordered.{pushed}
 use Rattle.law_driver.proofs.lemmas.run_owners.Stays.{or_done, begun_notes}
-use Rattle.law_driver.proofs.lemmas.run_owners.Taking.{AreTaken, runs_taken}
-use Rattle.law_driver.proofs.lemmas.run_owners.Accepted.{drop_first, fresh_differs}
-use Rattle.law_driver.proofs.lemmas.ring_members.Stores.{slots_apart, words_elsewhere}
-use Rattle.law_driver_ring.proofs.PartAccepting.{IsAsLarge, words_large, open_leaves}
-use Rattle.law_driver_ring.proofs.PartSlots.{taken_leaves}
-use Rattle.law_driver_ring.proofs.Sending.{transfer_leaves}
-use Rattle.law_driver_ring.proofs.Lent.{leaves_itself}
-use Rattle.law_descriptors.proofs.CommandAccepting.{describes_leaves}
 use Rattle.law_structures.specs.lent_structures.Changes.{Leaves}
 use Rattle.law_driver.proofs.lemmas.queued_drivers.CommandReasons.{IsNew, in_ring, in_frames, bare, IsTakenOn, IsLeft, from_ring, from_frames, IsReasonOf, reason_of}
 use Rattle.bus_world.specs.World.{World, name_in, commanded_by, commanded}
 use Rattle.law_world_memory.specs.Mixed.{IsMixedWorld}
+use Rattle.law_world_memory.proofs.LeavesLent.{leaves_lent}
 use Rattle.law_world_visits.specs.DescriptorFields.{itd_in, HaveItdFields, IsServed, ItdsStand}
 use Rattle.law_world_visits.proofs.BelongSeen.{Seen, IsSeenIn, seen_there}
 use Rattle.law_world_visits.proofs.BelongCommands.{SeesSame, HasPushed, taken_same, left_same, opened_new}
@@ -58,43 +47,6 @@ HasNoDescriptors (commands.Iso name count len seed) = ⊥
 HasNoDescriptors _ = Unit {0}
 
 -- ---- what is lent stays
-
-chain_leaves : (d : DriverContent) (m : Mem) (x : EpDesc) (p : Placement) (g : Holding) (bs : List ℕ) → Stands (holding d.book m) → IsShaped m → AreTaken (holding d.book m) g (2 ∷ 1 ∷ []) bs
-    → Leaves m (accepted_chain d x p g (get_or bs 0 0) (get_or bs 1 0)).memory
-chain_leaves d m x p g bs stands shape taken =
-    let queue = get_or bs 0 0 in
-    let dummy = get_or bs 1 0 in
-    let head : Qh = interrupt_head x p.smask p.cmask (new_link d.periodic.list (queue_member queue p)) dummy in
-    let mid = store_words g.book g.memory queue (32 * queue) (qh_words head) in
-    let after = store_words g.book mid dummy (32 * dummy) (qtd_words dummy_qtd) in
-    let one : IsAsLarge g.memory mid = words_large g.book g.memory queue (32 * queue) (qh_words head) in
-    let other : IsAsLarge mid after = words_large g.book mid dummy (32 * dummy) (qtd_words dummy_qtd) in
-    let two : 1 < length bs = omega (arith, taken.long) in
-    let apart = slots_apart g taken.stands in
-    taken_leaves after stands shape taken (other.size ∙ one.size) (other.states ∙ one.states)
-    (λ c other there here.
-    words_elsewhere g.book mid dummy c (32 * dummy) other (qtd_words dummy_qtd) apart (λ is. fresh_differs 1 c taken two there (sym is)) here
-    ∙ words_elsewhere g.book g.memory queue c (32 * queue) other (qh_words head) apart (λ is. fresh_differs 0 c taken (omega (arith, two)) there (sym is)) here
-    ∙ ap (λ ws. slice_index ws (other / 4)) taken.words)
-
-pub leaves_lent : (d : DriverContent) (m : Mem) (o : Offered) → Accepts d m o → IsInPlace m d → Leaves m o.memory
-leaves_lent d m o (opens why) place =
-    let all = runs_taken (holding d.book m) why.holding_after (2 ∷ 1 ∷ []) place.sound.stands why.runs in
-    let new : new_runs d why.holding_after ≡ all.blocks = ap (drop (length d.book.taken)) all.are.taken ∙ drop_first d.book.taken all.blocks in
-    subst (λ (f : Offered). Leaves m f.memory) (sym why.is)
-    (subst (λ (rs : List ℕ). Leaves m (accepted_open d why.desc why.holding_after (get_or rs 0 0) (get_or rs 1 0)).memory) (sym new)
-    (open_leaves d m why.desc why.holding_after all.blocks place.sound.stands place.sound.shape all.are))
-leaves_lent d m o (chains why) place =
-    let all = runs_taken (holding d.book m) why.holding_after (2 ∷ 1 ∷ []) place.sound.stands why.runs in
-    let new : new_runs d why.holding_after ≡ all.blocks = ap (drop (length d.book.taken)) all.are.taken ∙ drop_first d.book.taken all.blocks in
-    subst (λ (f : Offered). Leaves m f.memory) (sym why.is)
-    (subst (λ (rs : List ℕ). Leaves m (accepted_chain d why.desc why.placement why.holding_after (get_or rs 0 0) (get_or rs 1 0)).memory) (sym new)
-    (chain_leaves d m why.desc why.placement why.holding_after all.blocks place.sound.stands place.sound.shape all.are))
-leaves_lent d m o (places why) place = subst (λ (f : Offered). Leaves m f.memory) (sym why.is) (leaves_itself m place.sound.shape)
-leaves_lent d m o (transfers why) place = transfer_leaves d m o why place.sound.owners place.sound.stands place.sound.shape
-leaves_lent d m o (describes why) place = describes_leaves d m o why place.sound.stands place.sound.shape
-leaves_lent d m o (cancels why) place = subst (λ (f : Offered). Leaves m f.memory) (sym why.is) (leaves_itself m place.sound.shape)
-leaves_lent d m o (unchains why) place = subst (λ (f : Offered). Leaves m f.memory) (sym why.is) (leaves_itself m place.sound.shape)
 
 pub idle_by : (d : DriverContent) (m : Mem) (o : Offered) → Accepts d m o → d.command ≡ None
 idle_by d m o (opens why) = why.idle

@@ -1,2 +1,4 @@
 pub mod Breaking
 pub mod LeftQueues
+pub mod Owning
+pub mod OwningBytes

@@ -5,3 +5,4 @@
 
 pub mod broken;
 pub mod left_queues;
+pub mod owners;

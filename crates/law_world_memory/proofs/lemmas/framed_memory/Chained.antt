@@ -46,7 +46,7 @@ use Rattle.law_world_memory.proofs.lemmas.framed_memory.Steps.{linking_led}
 
 -- ---- memory
 
-chain_leaves : (d : DriverContent) (m : Mem) (x : EpDesc) (p : Placement) (g : Holding) (bs : List ℕ) → Stands (holding d.book m) → IsShaped m → AreTaken (holding d.book m) g (2 ∷ 1 ∷ []) bs → Leaves m (accepted_chain d x p g (get_or bs 0 0) (get_or bs 1 0)).memory
+pub chain_leaves : (d : DriverContent) (m : Mem) (x : EpDesc) (p : Placement) (g : Holding) (bs : List ℕ) → Stands (holding d.book m) → IsShaped m → AreTaken (holding d.book m) g (2 ∷ 1 ∷ []) bs → Leaves m (accepted_chain d x p g (get_or bs 0 0) (get_or bs 1 0)).memory
 chain_leaves d m x p g bs stands shape taken =
     let queue = get_or bs 0 0 in
     let dummy = get_or bs 1 0 in

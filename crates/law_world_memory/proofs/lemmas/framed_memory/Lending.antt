@@ -183,7 +183,7 @@ module _ (base : Base) (member : ℕ → Bool) (recent : ℕ → Option Kind) (d
   abbrev lent : StructureSets
   lent = descs_after p t x descs
 
-  lending : IsLending p t x
+  pub lending : IsLending p t x
   lending = record {
     await = a.await;
     links = links_are d k.framed.place.sound.listed k.framed.list.list.order;
