@@ -9,7 +9,7 @@ use drv_table::Endpoint;
 use std::marker::Brand;
 use std::sync::ledger::{Blank, Ledger};
 use usb_base::limits::{BYTE_TIMES_OF_MICROFRAME, MICROFRAME_BUDGET};
-use usb_base::{DevAddr, EpDesc, Memory};
+use usb_base::{EpDesc, Memory};
 
 /// The microframes that are told.
 const MICROFRAMES: usize = 64;
@@ -125,11 +125,12 @@ pub(crate) fn cell<L: Ledger>(table: &Table, at: u32, blank: Blank) -> u64
     table.get(at, &mut steps)
 }
 
-/// A translator: its hub, and the port that it serves alone, 0 where it serves all.
-type Translator = (DevAddr, u8);
+/// The port of a translator is told in a number of its own below this one.
+const PORTS: u32 = 16;
 
-/// Appends the byte-times of a translator in each microframe.
-fn put_translator(text: &mut Vec<u8>, translator: Translator, sums: &Table) -> Result<(), Memory>
+/// Appends the byte-times of a translator in each microframe: 16 times the address of its hub, and the port that it serves alone, 0 where it
+/// serves all.
+fn put_translator(text: &mut Vec<u8>, translator: u32, sums: &Table) -> Result<(), Memory>
     requires { length sums.now ≡ 8192 }
 {
     let mut amounts = [0u64; MICROFRAMES];
@@ -137,10 +138,10 @@ fn put_translator(text: &mut Vec<u8>, translator: Translator, sums: &Table) -> R
         amounts[microframe] = cell::<Brand>(sums, microframe as u32, Blank::new(1));
     }
     put(text, "byte-times of hub ")?;
-    put_number(text, translator.0.get() as u64)?;
-    if translator.1 > 0 {
+    put_number(text, (translator / PORTS) as u64)?;
+    if translator % PORTS > 0 {
         put(text, " port ")?;
-        put_number(text, translator.1 as u64)?;
+        put_number(text, (translator % PORTS) as u64)?;
     }
     // (`BYTE_TIMES_OF_MICROFRAME`)
     put(text, " in microframes, of 188\n")?;
@@ -148,12 +149,13 @@ fn put_translator(text: &mut Vec<u8>, translator: Translator, sums: &Table) -> R
 }
 
 /// The translator that serves an endpoint, if one does.
-fn translator_for(desc: &EpDesc) -> Option<Translator> {
-    Some((desc.hub?, desc.tt))
+fn translator_for(desc: &EpDesc) -> Option<u32> {
+    let hub = desc.hub?;
+    Some(PORTS * hub.get() as u32 + (desc.tt as u32) % PORTS)
 }
 
 /// The translator that serves the endpoint of this number, if it is placed below one.
-fn translator_of(endpoints: &[Endpoint], plan: &Plan, number: usize) -> Option<Translator> {
+fn translator_of(endpoints: &[Endpoint], plan: &Plan, number: usize) -> Option<u32> {
     placed(endpoints, plan, number)?;
     translator_for(&endpoints.get(number)?.desc)
 }
@@ -170,7 +172,7 @@ pub(crate) fn neighbour_of(endpoints: &[Endpoint], plan: &Plan, desc: &EpDesc) -
 }
 
 /// Whether an endpoint below this number is placed below the translator.
-fn is_told(endpoints: &[Endpoint], plan: &Plan, below: usize, translator: Translator) -> bool {
+fn is_told(endpoints: &[Endpoint], plan: &Plan, below: usize, translator: u32) -> bool {
     for number in 0..below {
         if translator_of(endpoints, plan, number) == Some(translator) {
             return true;
