@@ -128,8 +128,8 @@ pub(crate) fn cell<L: Ledger>(table: &Table, at: u32, blank: Blank) -> u64
 /// The port of a translator is told in a number of its own below this one.
 const PORTS: u32 = 16;
 
-/// Appends the byte-times of a translator in each microframe: 16 times the address of its hub, and the port that it serves alone, 0 where it
-/// serves all.
+/// Appends the byte-times of a translator in each microframe. Its number is 16 times the address of its hub, and the port that it serves
+/// alone, or 0 where it serves all.
 fn put_translator(text: &mut Vec<u8>, translator: u32, sums: &Table) -> Result<(), Memory>
     requires { length sums.now ≡ 8192 }
 {
