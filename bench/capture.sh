@@ -1,7 +1,7 @@
 #!/usr/bin/env bash
 # Shows the packets of a script's run as Wireshark decodes them: tokens, SPLITs, data and handshakes, with their checks.
 # Usage: bench/capture.sh SCRIPT [OPTION ..]     such as: bench/capture.sh examples/lost-acknowledgement.ehci --endpoint 3.1.in
-# It wants tshark 3.6 or later (link type 288); without it the capture is left for another program to read. Nothing of the gate runs it.
+# It wants tshark 4.0 or later (link types 293 to 295); without it the capture is left for another program to read. Nothing of the gate runs it.
 set -eu
 top=$(cd "$(dirname "$0")/.." && pwd)
 script=$1

@@ -116,6 +116,30 @@ def check_wrapper(room):
         amiss("./ehci -h is another text than --help")
 
 
+def check_captures(room):
+    """The stored captures are of the form that FORMATS says, and have one packet that is damaged in all; tshark warns of that one alone."""
+    damaged = 0
+    for path in sorted((TOP / "crates/gate_trace/data").glob("capture-*.out")):
+        got = run(sys.executable, str(TOOLS / "read_capture.py"), str(path))
+        if got.returncode or not got.stdout:
+            amiss(f"{path.name}: {got.stderr.decode()}")
+        here = got.stdout.decode().count(" damaged\n")
+        damaged += here
+        if shutil.which("tshark"):
+            told = run("tshark", "-r", str(path), "-q", "-z", "expert,warn").stdout.decode()
+            warned = sum(int(it) for it in re.findall(r"^ +(\d+) +\w+ ", told, re.M))
+            if warned != here:
+                amiss(f"{path.name}: tshark warns of {warned} packets, and {here} are damaged")
+    if damaged != 1:
+        amiss(f"the captures have {damaged} damaged packets")
+    if not shutil.which("tshark"):
+        print("left out: tshark isn't installed")
+    cut = room / "cut"
+    cut.write_bytes(path.read_bytes()[:-4])
+    if run(sys.executable, str(TOOLS / "read_capture.py"), str(cut)).returncode != 1:
+        amiss("read_capture.py takes a capture that is cut")
+
+
 def check_machine():
     """The program over the machine alone says of itself what the other says, and stands on no crate of claims."""
     texts = [(TOP / f"crates/{name}/src/main.rt").read_text().split("/// The words behind")[0].split("const USAGE")[1] for name in ("ehci", "ehci_machine")]
@@ -144,6 +168,7 @@ def main():
         check_rows(room, program)
         check_fold()
         check_machine()
+        check_captures(room)
         check_pictures(program, trace)
         if program:
             check_wrapper(room)

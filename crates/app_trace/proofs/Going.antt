@@ -2,6 +2,7 @@
 use Rattle.std.proofs.Common.{◌≡◌, ℕ, List, [], ◌∷◌, ◌++◌, refl, ap, sym, subst, ◌∙◌, inl, inr, Result, Ok, Err, IfOk}
 use Rattle.app_trace_lines.specs.declared.entries.Entry.{Entry}
 use Rattle.app_trace_lines.specs.declared.entries.Work.{Work}
+use Rattle.bus_packets.specs.declared.exchanges.Passed.{Passed}
 use Rattle.std.specs.List.{flat_map}
 use Rattle.std.proofs.lemmas.Grind.{flat_map-append}
 use Rattle.std.proofs.lemmas.List.{append_assoc, append-nil}
@@ -47,15 +48,16 @@ goes_on c d f m n o old between new a b = record {
 -- ---- one event, and its line
 
 -- what is told of an event that leaves the host as n
-told_at : (m n o : Watched) (e : Entry) (works : List Work) → IsEvent m e n → o ≡ n → IsEvent m e o × HasBytes (record { entry = e; works = works; sent = n.recorded.sent; got = n.recorded.got }) o
-told_at m n o e works event same = (subst (λ x. IsEvent m e x) (sym same) event, record { sent = ap (λ (x : Watched). x.recorded.sent) (sym same); got = ap (λ (x : Watched). x.recorded.got) (sym same) })
+told_at : (m n o : Watched) (e : Entry) (works : List Work) (passed : List Passed) → IsEvent m e n → o ≡ n
+    → IsEvent m e o × HasBytes (record { entry = e; works = works; passed = passed; sent = n.recorded.sent; got = n.recorded.got }) o
+told_at m n o e works passed event same = (subst (λ x. IsEvent m e x) (sym same) event, record { sent = ap (λ (x : Watched). x.recorded.sent) (sym same); got = ap (λ (x : Watched). x.recorded.got) (sym same) })
 
 pub goes_event : (c d : Choice) (m n o : Watched) (old new : List ℕ) (e : Entry) → IsEvent m e n → Puts c n old e d o new → Goes c m old d o new
 goes_event c d m n o old new e event puts =
-    let at = told_at m n o e puts.works event puts.host in
+    let at = told_at m n o e puts.works puts.passed event puts.host in
     record {
       same = puts.same;
-      traces = traces_one c m o (record { entry = e; works = puts.works; sent = n.recorded.sent; got = n.recorded.got }) old new at.0 at.1 puts.text;
+      traces = traces_one c m o (record { entry = e; works = puts.works; passed = puts.passed; sent = n.recorded.sent; got = n.recorded.got }) old new at.0 at.1 puts.text;
     }
 
 pub goes_controlled : (c d : Choice) (m n o : Watched) (old new : List ℕ) (e : Entry) → IsControlled m e n → Puts c n old e d o new → Goes c m old d o new

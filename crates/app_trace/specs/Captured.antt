@@ -1,9 +1,12 @@
 -- The packets of an event in a capture.
 --     begin_of k                 when microframe k began, in picoseconds from the begin of the first
---     entry_packets e sent got   the packets that went in an event, behind their headers
-use Rattle.std.specs.Prelude.{ℕ, ◌+◌, ◌-◌, ◌*◌, Bool, true, false, List, [], Option, Some, None}
+--     entry_packets e passed sent got   the packets that went in an event, each in its block
+use Rattle.std.specs.Prelude.{ℕ, ◌+◌, ◌-◌, ◌*◌, Bool, true, false, List, [], ◌++◌, Option, Some, None}
+use Rattle.std.specs.List.{flat_map}
 use Rattle.usb_base.specs.Limits.{microframe_time}
+use Rattle.bus_wire.specs.WhoHeard.{later}
 use Rattle.bus_packets.specs.declared.exchanges.Exchange.{Exchange}
+use Rattle.bus_packets.specs.declared.exchanges.Passed.{Passed}
 use Rattle.bus_packets.specs.Packets.{exchange_record, frame_record}
 use Rattle.app_trace_lines.specs.declared.entries.Entry.{Entry}
 use Rattle.app_trace_lines.specs.declared.entries.Happening.{Happening}
@@ -32,5 +35,11 @@ happening_packets k index (Controller step at exchange price left) sent got = ma
 happening_packets k index (Driver row stored) sent got = []
 happening_packets k index (Offered line refused) sent got = []
 
-unfoldable pub entry_packets : Entry → List ℕ → List ℕ → List ℕ
-entry_packets e sent got = happening_packets e.microframe e.frame_index e.happening sent got
+-- those of a transaction below a translator in a microframe that began at this time
+unfoldable pub passed_packets : ℕ → Passed → List ℕ
+passed_packets ps p = exchange_record (later ps p.time) p.exchange p.sent p.got
+
+-- those of the microframe that ended below come first
+unfoldable pub entry_packets : Entry → List Passed → List ℕ → List ℕ → List ℕ
+entry_packets e passed sent got =
+    flat_map (passed_packets (begin_of (e.microframe - 1))) passed ++ happening_packets e.microframe e.frame_index e.happening sent got

@@ -93,8 +93,8 @@ is_chosen c e works =
 
 -- what is told of it: a line, its packets, or nothing
 abbrev pub told_as : Form → Told → List ℕ
-told_as Lines t = entry_line t.entry t.works
-told_as Capture t = entry_packets t.entry t.sent t.got
+told_as Lines t = entry_line t.entry t.works t.passed
+told_as Capture t = entry_packets t.entry t.passed t.sent t.got
 told_as Schedule t = []
 
 -- the same, if it isn't left out

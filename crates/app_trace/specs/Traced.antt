@@ -3,6 +3,7 @@ use Rattle.std.specs.Prelude.{◌≡◌, ◌≢◌, ℕ, List, [], ◌∷◌, �
 use Rattle.std.specs.List.{flat_map}
 use Rattle.app_trace_lines.specs.declared.entries.Entry.{Entry}
 use Rattle.app_trace_lines.specs.declared.entries.Work.{Work}
+use Rattle.bus_packets.specs.declared.exchanges.Passed.{Passed}
 use Rattle.app_trace.specs.declared.choice.Choice.{Choice}
 use Rattle.app_trace.specs.declared.choice.Form.TheVariants.{Schedule}
 use Rattle.script_types.specs.declared.scripts.Script.{Script}
@@ -25,7 +26,9 @@ pub record Puts (choice : Choice) (m : Watched) (old : List ℕ) (e : Entry) (la
   pub same : later ≡ choice
   pub host : n ≡ m
   pub works : List Work
-  pub text : new ≡ old ++ chosen_line choice (record { entry = e; works = works; sent = m.recorded.sent; got = m.recorded.got })
+  pub passed : List Passed
+  pub text : new ≡ old ++ chosen_line choice
+      (record { entry = e; works = works; passed = passed; sent = m.recorded.sent; got = m.recorded.got })
 
 -- the text traces events, and the choice stays
 pub record Goes (choice : Choice) (m : Watched) (old : List ℕ) (later : Choice) (n : Watched) (new : List ℕ) : Type 0 where

@@ -22,6 +22,7 @@ use Rattle.drv_table.specs.Parts.{Parts}
 use Rattle.drv_table.specs.Rows.{driver_row, after_driver_row as after_driver}
 use Rattle.bus_recorder.specs.Recorded.{Recorded, BeginsIn, TransactsIn, forgotten}
 use Rattle.bus_packets.specs.declared.exchanges.Exchange.{Exchange}
+use Rattle.bus_packets.specs.declared.exchanges.Passed.{Passed}
 use Rattle.app_trace_lines.specs.declared.entries.Entry.{Entry}
 use Rattle.app_trace_lines.specs.declared.entries.Work.{Work}
 use Rattle.app_trace_lines.specs.declared.entries.Happening.{Happening}
@@ -34,10 +35,12 @@ pub record Watched : Type 0 where
   pub driver : DriverContent
   pub recorded : Recorded
 
--- what is told of an event or command: its entry, what translators did below, and the bytes of the data that went in a transaction
+-- what is told of an event or command: its entry, the packets of endpoints and the transactions below translators, and the bytes of the
+-- data that went in a transaction
 pub record Told : Type 0 where
   pub entry : Entry
   pub works : List Work
+  pub passed : List Passed
   pub sent : List ℕ
   pub got : List ℕ
 

@@ -1,9 +1,10 @@
 //! The packets of an event.
-ghost use Rattle.std.specs.Prelude.{◌≡◌, ◌≤◌, ◌++◌, IfOk, length};
-ghost use Rattle.app_trace.specs.Captured.{begin_of, time_of, began_packets, made_packets, happening_packets, entry_packets};
+ghost use Rattle.std.specs.Prelude.{◌≡◌, ◌≤◌, ◌-◌, ◌++◌, IfOk, length};
+ghost use Rattle.app_trace.specs.Captured.{begin_of, time_of, began_packets, made_packets, happening_packets, passed_packets, entry_packets};
+ghost use Rattle.std.specs.List.{flat_map};
 
 use app_trace_lines::{Entry, Happening};
-use bus_packets::{Exchange, put_frame, put_packets};
+use bus_packets::{Exchange, Passed, put_frame, put_packets};
 use usb_base::Memory;
 use usb_base::limits::MICROFRAME_TIME;
 
@@ -85,7 +86,30 @@ fn put_happening(
     }
 }
 
-/// Appends the packets that went in an event, each behind its header. The bytes are those of the data that went in its transaction.
+/// Appends the packets of a transaction below a translator, in a microframe that began at this time.
+#[tactic(auto, unfolding(crate::specs::Captured::passed_packets))]
+fn put_passed(text: &mut Vec<u8>, ps: u64, passed: &Passed) -> Result<(), Memory>
+    ensures { IfOk result (λ _. text.new.items ≡ text.old.items ++ passed_packets ps passed.now) }
+{
+    put_packets(
+        text,
+        ps.saturating_add(passed.time),
+        &passed.exchange,
+        passed.sent.as_slice(),
+        passed.got.as_slice(),
+    )
+}
+
+fn put_all_passed(text: &mut Vec<u8>, ps: u64, all: &[Passed]) -> Result<(), Memory>
+    ensures { IfOk result (λ _. text.new.items ≡ text.old.items ++ flat_map (passed_packets ps) all.now) }
+{
+    for passed in all {
+        put_passed(text, ps, passed)?;
+    }
+    Ok(())
+}
+
+/// Appends the packets that went in an event, each in its block, and before them those that went below in the microframe that ended. The bytes are those of the data that went in its transaction.
 ///
 /// # Errors
 ///
@@ -94,13 +118,15 @@ fn put_happening(
 pub fn put_entry_packets(
     text: &mut Vec<u8>,
     entry: &Entry,
+    passed: &[Passed],
     sent: &[u8],
     got: &[u8],
 ) -> Result<(), Memory>
     requires sent { length sent.now ≤ 1024 }
     requires got { length got.now ≤ 1024 }
-    ensures { IfOk result (λ _. text.new.items ≡ text.old.items ++ entry_packets entry.now sent.now got.now) }
+    ensures { IfOk result (λ _. text.new.items ≡ text.old.items ++ entry_packets entry.now passed.now sent.now got.now) }
 {
+    put_all_passed(text, begin_of(entry.microframe.saturating_sub(1)), passed)?;
     put_happening(
         text,
         entry.microframe,

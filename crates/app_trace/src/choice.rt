@@ -8,7 +8,7 @@ ghost use Rattle.app_trace.specs.Chosen.{is_idle, is_active, is_rest, is_quiet, 
 use crate::captured::put_entry_packets;
 use app_trace_lines::{Entry, Happening, Work, put_entry};
 use bus_capture::file_header;
-use bus_packets::Exchange;
+use bus_packets::{Exchange, Passed};
 use drv_table::{DriverRow, Found};
 use hc_core::HcStep;
 use std::alloc::Global;
@@ -19,7 +19,7 @@ use usb_base::{EpName, Memory, Way};
 pub enum Form {
     /// A line.
     Lines,
-    /// Its packets, behind their headers.
+    /// Its packets, each in its block.
     Capture,
     /// Nothing of an event: where periodic endpoints stand once the run has ended, and what they cost.
     Schedule,
@@ -174,16 +174,18 @@ impl Choice {
         text: &mut Vec<u8>,
         entry: &Entry,
         works: &[Work],
+        passed: &[Passed],
         sent: &[u8],
         got: &[u8],
     ) -> Result<(), Memory>
         requires sent { length sent.now ≤ 1024 }
         requires got { length got.now ≤ 1024 }
-        ensures { IfOk result (λ _. text.new.items ≡ text.old.items ++ told_as self.now.form (record { entry = entry.now; works = works.now; sent = sent.now; got = got.now })) }
+        ensures { IfOk result (λ _. text.new.items ≡ text.old.items ++ told_as self.now.form
+            (record { entry = entry.now; works = works.now; passed = passed.now; sent = sent.now; got = got.now })) }
     {
         match self.form {
-            Form::Lines => put_entry(text, entry, works),
-            Form::Capture => put_entry_packets(text, entry, sent, got),
+            Form::Lines => put_entry(text, entry, works, passed),
+            Form::Capture => put_entry_packets(text, entry, passed, sent, got),
             Form::Schedule => Ok(()),
         }
     }
@@ -194,15 +196,17 @@ impl Choice {
         text: &mut Vec<u8>,
         entry: &Entry,
         works: &[Work],
+        passed: &[Passed],
         sent: &[u8],
         got: &[u8],
     ) -> Result<(), Memory>
         requires sent { length sent.now ≤ 1024 }
         requires got { length got.now ≤ 1024 }
-        ensures { IfOk result (λ _. text.new.items ≡ text.old.items ++ chosen_line self.now (record { entry = entry.now; works = works.now; sent = sent.now; got = got.now })) }
+        ensures { IfOk result (λ _. text.new.items ≡ text.old.items ++ chosen_line self.now
+            (record { entry = entry.now; works = works.now; passed = passed.now; sent = sent.now; got = got.now })) }
     {
         if self.is_chosen(entry, works) {
-            return self.put_told(text, entry, works, sent, got);
+            return self.put_told(text, entry, works, passed, sent, got);
         }
         Ok(())
     }

@@ -10,8 +10,8 @@ use crate::reserve::{can_offer, reserve_of};
 use crate::shadow::Shadow;
 use app_trace_lines::{Entry, Happening, Work};
 use bandwidth::Plan;
-use bus_packets::Exchange;
-use bus_recorder::Recorder;
+use bus_packets::{Exchange, Passed};
+use bus_recorder::{BelowRecorder, Recorder};
 use drv_table::{DriverRow, Endpoint};
 use ehci_driver::Driver;
 use hc_core::{Controller, HcStep};
@@ -30,6 +30,7 @@ pub struct Host {
     controller: Controller,
     driver: Driver,
     wire: Recorder,
+    hubs: BelowRecorder,
     shadow: Shadow,
     below: Vec<u64>,
     works: Vec<Work>,
@@ -124,6 +125,7 @@ impl Host {
             return Err(Memory);
         };
         let wire = Recorder::build(alloc, script)?;
+        let hubs = BelowRecorder::build(alloc, script, wire.seats())?;
         let below = vec![in alloc; 0u64; wire.seats().len()]?;
         let shadow = Shadow::build(alloc, script.words)?;
         let mut mem = WordMem::build(alloc, script.words)?;
@@ -135,6 +137,7 @@ impl Host {
             controller: Controller::new(),
             driver,
             wire,
+            hubs,
             shadow,
             below,
             works: Vec::new(alloc),
@@ -142,7 +145,12 @@ impl Host {
         })
     }
 
-    /// What translators did below for the microframe that ended last.
+    /// The transactions below of translators for the microframe that ended last.
+    pub fn passed(&self) -> &[Passed] {
+        self.hubs.passed()
+    }
+
+    /// The packets of endpoints below translators in the microframe that ended last.
     pub fn works(&self) -> &[Work] {
         self.works.as_slice()
     }
@@ -233,9 +241,19 @@ impl Host {
         let before = self.controller.held();
         let time = self.controller.left().0;
         let step = self.step();
-        self.works.clear();
+        self.clear();
+        self.follow();
         let happening = self.happening(step, before, time);
         self.entry(happening)
+    }
+
+    /// Lets the hubs follow that are told of each transaction.
+    fn follow(&mut self)
+        ensures { self.new ≡ self.old }
+    {
+        if let Some(exchange) = self.wire.exchange() {
+            self.hubs.follow(&exchange, self.wire.sent());
+        }
     }
 
     /// Notes what translators did below, behind a Begin.
@@ -246,6 +264,7 @@ impl Host {
     pub fn note_works(&mut self) -> Result<(), Memory>
         ensures { self.new ≡ self.old }
     {
+        self.hubs.begin(self.registers.frame_index())?;
         for place in 0..self.below.len() {
             self.note_work(place)?;
         }
@@ -324,6 +343,7 @@ impl Host {
         ensures { self.new ≡ self.old }
     {
         self.works.clear();
+        self.hubs.forget();
     }
 
     /// One event of the driver, with the word that it stores.
@@ -376,7 +396,7 @@ impl Host {
         if !can_offer(&self.driver.room(), cmd) {
             return None;
         }
-        self.works.clear();
+        self.clear();
         let refused = self.command(cmd);
         Some(self.entry(Happening::Offered(line, refused)))
     }

@@ -55,6 +55,7 @@ impl Run {
             &mut self.text,
             entry,
             self.host.works(),
+            self.host.passed(),
             self.host.sent(),
             self.host.got(),
         )

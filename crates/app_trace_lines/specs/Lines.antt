@@ -1,7 +1,7 @@
 -- The line of an event: its moment, what happened, and what translators did below. Two packets of a transaction have a comma between them.
 --     packets_text x         the packets of a transaction, in the order in which they went (USB 2.0, 8.5)
 --     happening_text h       what happened
---     entry_line e works     the line, with its line feed
+--     entry_line e works passed   the line, with its line feed
 use Rattle.std.specs.Prelude.{ℕ, ◌/◌, ◌%◌, Bool, true, false, List, [], ◌∷◌, ◌++◌, Option, Some, None, if◌then◌else◌, codes, decimal}
 use Rattle.std.specs.List.{flat_map, join_with_byte}
 use Rattle.usb_base.specs.declared.packets.DataPart.{DataPart}
@@ -17,6 +17,7 @@ use Rattle.drv_table.specs.Rows.{step_of}
 use Rattle.bus_packets.specs.declared.exchanges.Answer.{Answer}
 use Rattle.bus_packets.specs.declared.exchanges.Answer.TheVariants as answers
 use Rattle.bus_packets.specs.declared.exchanges.Exchange.{Exchange}
+use Rattle.bus_packets.specs.declared.exchanges.Passed.{Passed}
 use Rattle.bus_packets.specs.Heard.{sends_data, has_answer, is_heard, is_acknowledged}
 use Rattle.app_trace_lines.specs.declared.entries.Work.{Work}
 use Rattle.app_trace_lines.specs.declared.entries.Happening.{Happening}
@@ -145,5 +146,13 @@ span_text first end unheard = codes " packets from " ++ decimal first ++ end_tex
 unfoldable pub work_text : Work → List ℕ
 work_text w = codes "; below " ++ ep_word w.name ++ span_text w.first w.end w.unheard
 
-unfoldable pub entry_line : Entry → List Work → List ℕ
-entry_line e works = moment_text e.microframe e.frame_index ++ happening_text e.happening ++ flat_map work_text works ++ 10 ∷ []
+-- a transaction below a translator, with its time from the begin of the microframe that ended
+unfoldable pub passed_text : Passed → List ℕ
+passed_text p = codes "; below at " ++ decimal p.time ++ exchange_text p.exchange
+
+-- what translators did below
+unfoldable pub below_text : List Work → List Passed → List ℕ
+below_text works passed = flat_map work_text works ++ flat_map passed_text passed
+
+unfoldable pub entry_line : Entry → List Work → List Passed → List ℕ
+entry_line e works passed = moment_text e.microframe e.frame_index ++ happening_text e.happening ++ below_text works passed ++ 10 ∷ []

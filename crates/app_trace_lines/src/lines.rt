@@ -1,14 +1,14 @@
 //! The line of an event.
 ghost use Rattle.std.specs.Prelude.{◌≡◌, ◌++◌, IfOk, codes};
 ghost use Rattle.std.specs.List.{flat_map};
-ghost use Rattle.app_trace_lines.specs.Lines.{port_text, part_text, start_text, complete_text, token_text, packet_text, data_text, answer_text, reply_text, acknowledgement_text, heard_text, packets_text, exchange_text, made_text, address_text, at_text, time_text, word_stored_text, stored_text, driver_line, refusal_text, offered_text, began_text, subject_text, controller_text, happening_text, moment_text, unheard_text, end_text, span_text, work_text, entry_line};
+ghost use Rattle.app_trace_lines.specs.Lines.{port_text, part_text, start_text, complete_text, token_text, packet_text, data_text, answer_text, reply_text, acknowledgement_text, heard_text, packets_text, exchange_text, made_text, address_text, at_text, time_text, word_stored_text, stored_text, driver_line, refusal_text, offered_text, began_text, subject_text, controller_text, happening_text, moment_text, unheard_text, end_text, span_text, work_text, passed_text, below_text, entry_line};
 
 use crate::entries::{Entry, Happening, Work};
 use crate::pieces::{
     driver_text, fate_text, part_words, pid_text, put, put_endpoint, put_number, put_why, put_word,
     step_text,
 };
-use bus_packets::{Answer, Exchange, has_answer, is_acknowledged, is_heard, sends_data};
+use bus_packets::{Answer, Exchange, Passed, has_answer, is_acknowledged, is_heard, sends_data};
 use drv_table::DriverRow;
 use hc_core::HcStep;
 use usb_base::{Ask, DataPart, Memory, OfferError, Pid, Split};
@@ -373,17 +373,51 @@ fn put_works(text: &mut Vec<u8>, works: &[Work]) -> Result<(), Memory>
     Ok(())
 }
 
-/// Appends the line of an event or command, with what translators did below (`works`), in their order.
+/// Appends a transaction below a translator.
+#[tactic(auto, unfolding(crate::specs::Lines::passed_text))]
+fn put_passed(text: &mut Vec<u8>, passed: &Passed) -> Result<(), Memory>
+    ensures { IfOk result (λ _. text.new.items ≡ text.old.items ++ passed_text passed.now) }
+{
+    put(text, "; below at ")?;
+    put_number(text, passed.time)?;
+    put_exchange(text, &passed.exchange)
+}
+
+fn put_all_passed(text: &mut Vec<u8>, all: &[Passed]) -> Result<(), Memory>
+    ensures { IfOk result (λ _. text.new.items ≡ text.old.items ++ flat_map passed_text all.now) }
+{
+    for passed in all {
+        put_passed(text, passed)?;
+    }
+    Ok(())
+}
+
+/// Appends what translators did below.
+#[tactic(auto, unfolding(crate::specs::Lines::below_text))]
+fn put_below(text: &mut Vec<u8>, works: &[Work], passed: &[Passed]) -> Result<(), Memory>
+    ensures { IfOk result (λ _. text.new.items ≡ text.old.items ++ below_text works.now passed.now) }
+{
+    put_works(text, works)?;
+    put_all_passed(text, passed)
+}
+
+/// Appends the line of an event or command, with what translators did below: the packets of each endpoint (`works`), and the transactions
+/// (`passed`), in their order.
 ///
 /// # Errors
 ///
 /// `Memory` where the line finds no room; then a front part of it may have been appended.
 #[tactic(auto, unfolding(crate::specs::Lines::entry_line))]
-pub fn put_entry(text: &mut Vec<u8>, entry: &Entry, works: &[Work]) -> Result<(), Memory>
-    ensures { IfOk result (λ _. text.new.items ≡ text.old.items ++ entry_line entry.now works.now) }
+pub fn put_entry(
+    text: &mut Vec<u8>,
+    entry: &Entry,
+    works: &[Work],
+    passed: &[Passed],
+) -> Result<(), Memory>
+    ensures { IfOk result (λ _. text.new.items ≡ text.old.items ++ entry_line entry.now works.now passed.now) }
 {
     put_moment(text, entry.microframe, entry.frame_index)?;
     put_happening(text, &entry.happening)?;
-    put_works(text, works)?;
+    put_below(text, works, passed)?;
     put(text, "\n")
 }

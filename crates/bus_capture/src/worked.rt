@@ -1,6 +1,7 @@
 //! Worked values, which the check computes. The packets of the request are those that any host sends first.
 ghost use Rattle.std.specs.Prelude.{◌≡◌, [], ◌∷◌};
 ghost use Rattle.usb_base.specs.declared.packets.Pid.TheVariants as pids;
+ghost use Rattle.bus_capture.specs.Capture.{packet_header, packet_tail};
 ghost use Rattle.bus_capture.specs.Checks.{check5, check16};
 ghost use Rattle.bus_capture.specs.Packets.{token_bytes, data_bytes, handshake_bytes};
 
@@ -26,4 +27,12 @@ pub fn whole_packets()
     ensures request { data_bytes pids.Data0 (0x80 ∷ 6 ∷ 0 ∷ 1 ∷ 0 ∷ 0 ∷ 0x40 ∷ 0 ∷ []) ≡ 0xc3 ∷ 0x80 ∷ 6 ∷ 0 ∷ 1 ∷ 0 ∷ 0 ∷ 0x40 ∷ 0 ∷ 0xdd ∷ 0x94 ∷ [] }
     ensures ack { handshake_bytes pids.Ack ≡ 0xd2 ∷ [] }
     ensures empty { data_bytes pids.Data1 [] ≡ 0x4b ∷ 0 ∷ 0 ∷ [] }
+{}
+
+/// The block of a packet of three bytes at high speed, 1,000 nanoseconds after the first, but for the packet itself.
+pub fn blocks()
+    ensures header { packet_header 0 1000 3
+        ≡ 6 ∷ 0 ∷ 0 ∷ 0 ∷ 36 ∷ 0 ∷ 0 ∷ 0 ∷ 0 ∷ 0 ∷ 0 ∷ 0 ∷ 0 ∷ 0 ∷ 0 ∷ 0 ∷ 0xe8 ∷ 3 ∷ 0 ∷ 0 ∷ 3 ∷ 0 ∷ 0 ∷ 0 ∷ 3 ∷ 0 ∷ 0 ∷ 0 ∷ [] }
+    ensures tail { packet_tail 3 ≡ 0 ∷ 36 ∷ 0 ∷ 0 ∷ 0 ∷ [] }
+    ensures whole { packet_tail 4 ≡ 36 ∷ 0 ∷ 0 ∷ 0 ∷ [] }
 {}

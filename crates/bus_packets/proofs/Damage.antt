@@ -5,6 +5,8 @@ use Rattle.usb_base.specs.declared.packets.Pid.{Pid}
 use Rattle.bus_capture.specs.Checks.{check16}
 use Rattle.bus_capture.specs.Packets.{data_bytes, pid_byte, low_byte, check_bytes, handshake_bytes}
 use Rattle.bus_packets.specs.Packets.{turned, turned_last, damaged_check, header_at, record_at}
+use Rattle.usb_base.specs.declared.packets.Speed.{Speed}
+use Rattle.bus_capture.specs.Capture.{packet_tail}
 
 -- of bytes with two more behind them the second of these is turned
 turned_behind : (x : ℕ) (xs : List ℕ) (a b : ℕ) → turned_last (x ∷ (xs ++ (a ∷ b ∷ []))) ≡ x ∷ (xs ++ (a ∷ turned b ∷ []))
@@ -27,10 +29,11 @@ pub in_three : (t0 t1 t2 t3 x y z w : List ℕ) → t1 ≡ t0 ++ x → t2 ≡ t1
 in_three t0 t1 t2 t3 x y z w a b c e =
     c ∙ ap (λ t. t ++ z) b ∙ ap (λ t. t ++ y ++ z) a ∙ append_assoc (t0 ++ x) y z ∙ append_assoc t0 x (y ++ z) ∙ ap (λ t. t0 ++ t) (sym e)
 
--- a header was appended, and then the packet if that went well
-pub behind_header : {T E : Type 0} (r : Result T E) (ps n : ℕ) (t0 t1 t2 x : List ℕ) → t1 ≡ t0 ++ header_at ps n → length x ≡ n → IfOk r (λ _. t2 ≡ t1 ++ x)
-    → IfOk r (λ _. t2 ≡ t0 ++ record_at ps x)
+-- what stands before a packet was appended, then the packet, and what stands behind it if that went well
+pub in_block : {T E : Type 0} (r : Result T E) (speed : Speed) (ps n : ℕ) (t0 t1 t2 t3 x : List ℕ) → t1 ≡ t0 ++ header_at speed ps n → length x ≡ n → t2 ≡ t1 ++ x
+    → IfOk r (λ _. t3 ≡ t2 ++ packet_tail n) → IfOk r (λ _. t3 ≡ t0 ++ record_at speed ps x)
 unfolding record_at
-behind_header (Err e) ps n t0 t1 t2 x a b c = tt
-behind_header (Ok u) ps n t0 t1 t2 x a b c =
-    c ∙ ap (λ t. t ++ x) (a ∙ ap (λ k. t0 ++ header_at ps k) (sym b)) ∙ append_assoc t0 (header_at ps (length x)) x
+in_block (Err e) speed ps n t0 t1 t2 t3 x a b c d = tt
+in_block (Ok u) speed ps n t0 t1 t2 t3 x a b c d =
+    in_three t0 t1 t2 t3 (header_at speed ps (length x)) x (packet_tail (length x)) _ (a ∙ ap (λ k. t0 ++ header_at speed ps k) (sym b)) c
+    (d ∙ ap (λ k. t2 ++ packet_tail k) (sym b)) refl

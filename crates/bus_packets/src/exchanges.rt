@@ -1,5 +1,5 @@
 use bus_wire::Told;
-use usb_base::{Ask, Fate, Pid};
+use usb_base::{Ask, Fate, Packet, Pid};
 
 /// What was answered in a transaction, whether the host heard it or not.
 #[derive(Clone, Copy, Debug, PartialEq, Eq)]
@@ -25,12 +25,12 @@ pub struct Fates {
     pub acknowledgement: Fate,
 }
 
-/// One transaction on the high-speed bus (USB 2.0, 8.5).
+/// One transaction on the high-speed bus or below a translator (USB 2.0, 8.5).
 #[derive(Clone, Copy, Debug, PartialEq, Eq)]
 pub struct Exchange {
-    /// What the host asked.
+    /// What was asked, by the host or by a translator.
     pub ask: Ask,
-    /// How many bytes it sent, at most 1,024.
+    /// How many bytes were sent with it, at most 1,024.
     pub sent: u16,
     /// Which endpoint was asked, and who heard what.
     pub told: Told,
@@ -38,4 +38,21 @@ pub struct Exchange {
     pub answer: Answer,
     /// What became of the packets.
     pub fates: Fates,
+}
+
+/// One transaction below a translator, for the microframe that ended.
+#[derive(Debug, Drop)]
+pub struct Passed {
+    /// The address of the hub.
+    pub hub: u8,
+    /// The port of the hub that the translator serves; 0 where it serves them all.
+    pub port: u8,
+    /// When it began, in picoseconds from the begin of that microframe.
+    pub time: u64,
+    /// What went.
+    pub exchange: Exchange,
+    /// The bytes that the translator sent in it.
+    pub sent: Packet,
+    /// The bytes of the data that came in answer, heard or not.
+    pub got: Packet,
 }

@@ -7,6 +7,7 @@ ghost use Rattle.bus_packets.specs.Packets.{fated, is_low, carries_part, begins,
 use crate::exchanges::{Answer, Exchange};
 use crate::heard::{has_answer, is_acknowledged, sends_data};
 use crate::records::{put_data_record, put_record, turned};
+use crate::times::{acknowledgement_time, answer_time, bus_speed, data_time, token_time};
 use bus_capture::{SplitPacket, handshake_bytes, split_bytes, token_bytes};
 use usb_base::{Ask, DataPart, EpKind, Fate, Memory, Pid, Speed, Split};
 
@@ -104,40 +105,53 @@ fn split_of(ask: &Ask) -> Option<SplitPacket>
 #[tactic(auto, unfolding(crate::specs::Packets::split_record))]
 fn put_split(
     to: &mut Vec<u8>,
+    speed: Speed,
     ps: u64,
     fate: Fate,
     split: Option<SplitPacket>,
 ) -> Result<(), Memory>
-    ensures { IfOk result (λ _. to.new.items ≡ to.old.items ++ split_record ps fate split) }
+    ensures { IfOk result (λ _. to.new.items ≡ to.old.items ++ split_record speed ps fate split) }
 {
     match (fate, split) {
         (_, None) | (Fate::Lost, Some(_)) => Ok(()),
-        (Fate::Good | Fate::Damaged, Some(x)) => put_record(to, ps, &split_bytes(&x)),
+        (Fate::Good | Fate::Damaged, Some(x)) => put_record(to, speed, ps, &split_bytes(&x)),
     }
 }
 
 /// Appends a packet of three bytes as it went.
 #[tactic(auto, unfolding(crate::specs::Packets::fated, crate::specs::Packets::turned_last))]
-fn put_three(to: &mut Vec<u8>, ps: u64, fate: Fate, bytes: [u8; 3]) -> Result<(), Memory>
-    ensures { IfOk result (λ _. to.new.items ≡ to.old.items ++ fated ps fate bytes) }
+fn put_three(
+    to: &mut Vec<u8>,
+    speed: Speed,
+    ps: u64,
+    fate: Fate,
+    bytes: [u8; 3],
+) -> Result<(), Memory>
+    ensures { IfOk result (λ _. to.new.items ≡ to.old.items ++ fated speed ps fate bytes) }
 {
     match fate {
         Fate::Lost => Ok(()),
-        Fate::Good => put_record(to, ps, &bytes),
-        Fate::Damaged => put_record(to, ps, &[bytes[0], bytes[1], turned(bytes[2])]),
+        Fate::Good => put_record(to, speed, ps, &bytes),
+        Fate::Damaged => put_record(to, speed, ps, &[bytes[0], bytes[1], turned(bytes[2])]),
     }
 }
 
 /// Appends a handshake as it went.
 #[tactic(auto, unfolding(crate::specs::Packets::fated, crate::specs::Packets::turned_last))]
-fn put_handshake(to: &mut Vec<u8>, ps: u64, fate: Fate, pid: Pid) -> Result<(), Memory>
-    ensures { IfOk result (λ _. to.new.items ≡ to.old.items ++ fated ps fate (handshake_bytes pid)) }
+fn put_handshake(
+    to: &mut Vec<u8>,
+    speed: Speed,
+    ps: u64,
+    fate: Fate,
+    pid: Pid,
+) -> Result<(), Memory>
+    ensures { IfOk result (λ _. to.new.items ≡ to.old.items ++ fated speed ps fate (handshake_bytes pid)) }
 {
     let bytes = handshake_bytes(pid);
     match fate {
         Fate::Lost => Ok(()),
-        Fate::Good => put_record(to, ps, &bytes),
-        Fate::Damaged => put_record(to, ps, &[turned(bytes[0])]),
+        Fate::Good => put_record(to, speed, ps, &bytes),
+        Fate::Damaged => put_record(to, speed, ps, &[turned(bytes[0])]),
     }
 }
 
@@ -147,16 +161,18 @@ fn put_token(to: &mut Vec<u8>, ps: u64, x: &Exchange) -> Result<(), Memory>
     ensures { IfOk result (λ _. to.new.items ≡ to.old.items ++ token_record ps x.now) }
 {
     let ask = &x.ask;
-    put_split(to, ps, x.fates.token, split_of(ask))?;
+    let speed = bus_speed(ask);
+    put_split(to, speed, ps, x.fates.token, split_of(ask))?;
     put_three(
         to,
-        ps,
+        speed,
+        token_time(ps, x),
         x.fates.token,
         token_bytes(ask.pid, ask.addr.get(), ask.ep.get()),
     )
 }
 
-/// Appends the data that the host sent, if it sent some.
+/// Appends the data that were sent behind the token, if some were.
 #[tactic(auto, unfolding(crate::specs::Packets::data_record))]
 fn put_sent(to: &mut Vec<u8>, ps: u64, x: &Exchange, sent: &[u8]) -> Result<(), Memory>
     requires { length sent.now ≤ 1024 }
@@ -165,24 +181,32 @@ fn put_sent(to: &mut Vec<u8>, ps: u64, x: &Exchange, sent: &[u8]) -> Result<(), 
     if !sends_data(&x.ask) {
         return Ok(());
     }
-    put_data_record(to, ps, x.fates.data, x.ask.toggle, sent)
+    put_data_record(
+        to,
+        bus_speed(&x.ask),
+        data_time(ps, x),
+        x.fates.data,
+        x.ask.toggle,
+        sent,
+    )
 }
 
 #[tactic(auto, unfolding(crate::specs::Packets::answer_in))]
 fn put_answer(
     to: &mut Vec<u8>,
+    speed: Speed,
     ps: u64,
     fate: Fate,
     answer: Answer,
     got: &[u8],
 ) -> Result<(), Memory>
     requires { length got.now ≤ 1024 }
-    ensures { IfOk result (λ _. to.new.items ≡ to.old.items ++ answer_in ps fate answer got.now) }
+    ensures { IfOk result (λ _. to.new.items ≡ to.old.items ++ answer_in speed ps fate answer got.now) }
 {
     match answer {
         Answer::Nothing => Ok(()),
-        Answer::Data(pid, _) => put_data_record(to, ps, fate, pid, got),
-        Answer::Handshake(pid) => put_handshake(to, ps, fate, pid),
+        Answer::Data(pid, _) => put_data_record(to, speed, ps, fate, pid, got),
+        Answer::Handshake(pid) => put_handshake(to, speed, ps, fate, pid),
     }
 }
 
@@ -195,10 +219,17 @@ fn put_reply(to: &mut Vec<u8>, ps: u64, x: &Exchange, got: &[u8]) -> Result<(), 
     if !has_answer(x.told.row) {
         return Ok(());
     }
-    put_answer(to, ps, x.fates.answer, x.answer, got)
+    put_answer(
+        to,
+        bus_speed(&x.ask),
+        answer_time(ps, x),
+        x.fates.answer,
+        x.answer,
+        got,
+    )
 }
 
-/// Appends the host's acknowledgement, if it sent one.
+/// Appends the acknowledgement of the answer, if one was sent.
 #[tactic(auto, unfolding(crate::specs::Packets::acknowledgement_record))]
 fn put_acknowledgement(to: &mut Vec<u8>, ps: u64, x: &Exchange) -> Result<(), Memory>
     ensures { IfOk result (λ _. to.new.items ≡ to.old.items ++ acknowledgement_record ps x.now) }
@@ -206,11 +237,17 @@ fn put_acknowledgement(to: &mut Vec<u8>, ps: u64, x: &Exchange) -> Result<(), Me
     if !is_acknowledged(x.told.row) {
         return Ok(());
     }
-    put_handshake(to, ps, x.fates.acknowledgement, Pid::Ack)
+    put_handshake(
+        to,
+        bus_speed(&x.ask),
+        acknowledgement_time(ps, x),
+        x.fates.acknowledgement,
+        Pid::Ack,
+    )
 }
 
-/// Appends the packets of a transaction that began at this time in picoseconds, each behind its header. The host sent the bytes `sent`, and
-/// `got` came in answer.
+/// Appends the packets of a transaction that began at this time in picoseconds, each in its block. The bytes `sent` went behind the token,
+/// and `got` came in answer.
 ///
 /// # Errors
 ///
@@ -244,6 +281,7 @@ pub fn put_frame(to: &mut Vec<u8>, ps: u64, index: u16) -> Result<(), Memory>
 {
     put_record(
         to,
+        Speed::High,
         ps,
         &token_bytes(Pid::Sof, (index / 8 % 128) as u8, (index / 1024) as u8),
     )

@@ -1,42 +1,46 @@
-//! A packet behind its header.
+//! A packet in its block.
 ghost use Rattle.std.specs.Prelude.{◌≡◌, ◌≤◌, ◌+◌, ◌++◌, IfOk, length};
+ghost use Rattle.bus_capture.specs.Capture.{packet_tail};
 ghost use Rattle.bus_capture.specs.Packets.{data_bytes};
-ghost use Rattle.bus_packets.specs.Packets.{micros_of, header_at, record_at, turned, turned_last, damaged_check, fated};
+ghost use Rattle.bus_packets.specs.Packets.{nanos_of, interface_of, header_at, record_at, turned, turned_last, damaged_check, fated};
 
-use bus_capture::{check16, handshake_bytes, put_data, record_header};
-use usb_base::{Fate, Memory, Pid};
+use bus_capture::{check16, handshake_bytes, put_data, put_packet_header, put_packet_tail};
+use usb_base::{Fate, Memory, Pid, Speed};
 
-/// The nearest number of microseconds.
-fn micros_of(ps: u64) -> u64
-    ensures value { result ≡ micros_of ps }
-    ensures few { result ≤ 18_446_744_073_710 }
+/// The nearest number of nanoseconds.
+fn nanos_of(ps: u64) -> u64
+    ensures { result ≡ nanos_of ps }
 {
-    ps / 1_000_000 + (ps % 1_000_000 + 500_000) / 1_000_000
+    ps / 1000 + (ps % 1000 + 500) / 1000
 }
 
-/// Appends the header of a packet of so many bytes, at a time in picoseconds.
-fn put_header(to: &mut Vec<u8>, ps: u64, bytes: u32) -> Result<(), Memory>
-    ensures { IfOk result (λ _. to.new.items ≡ to.old.items ++ header_at ps bytes) }
+fn interface_of(speed: Speed) -> u32
+    ensures { result ≡ interface_of speed }
 {
-    let micros = micros_of(ps);
-    let header = record_header(
-        (micros / 1_000_000) as u32,
-        (micros % 1_000_000) as u32,
-        bytes,
-    );
-    to.extend_from_slice(&header)?;
-    Ok(())
+    match speed {
+        Speed::High => 0,
+        Speed::Full => 1,
+        Speed::Low => 2,
+    }
 }
 
-/// Appends a packet behind its header.
+/// Appends what stands before a packet of so many bytes, at a time in picoseconds.
+fn put_header(to: &mut Vec<u8>, speed: Speed, ps: u64, bytes: u32) -> Result<(), Memory>
+    requires { bytes ≤ 1027 }
+    ensures { IfOk result (λ _. to.new.items ≡ to.old.items ++ header_at speed ps bytes) }
+{
+    put_packet_header(to, interface_of(speed), nanos_of(ps), bytes)
+}
+
+/// Appends a packet in its block.
 #[tactic(auto, unfolding(crate::specs::Packets::record_at))]
-pub fn put_record(to: &mut Vec<u8>, ps: u64, bytes: &[u8]) -> Result<(), Memory>
+pub fn put_record(to: &mut Vec<u8>, speed: Speed, ps: u64, bytes: &[u8]) -> Result<(), Memory>
     requires { length bytes.now ≤ 1024 }
-    ensures { IfOk result (λ _. to.new.items ≡ to.old.items ++ record_at ps bytes.now) }
+    ensures { IfOk result (λ _. to.new.items ≡ to.old.items ++ record_at speed ps bytes.now) }
 {
-    put_header(to, ps, bytes.len() as u32)?;
+    put_header(to, speed, ps, bytes.len() as u32)?;
     to.extend_from_slice(bytes)?;
-    Ok(())
+    put_packet_tail(to, bytes.len() as u32)
 }
 
 /// A byte with its highest bit turned round.
@@ -64,47 +68,70 @@ fn put_damaged(to: &mut Vec<u8>, pid: Pid, bytes: &[u8]) -> Result<(), Memory>
     Ok(())
 }
 
-/// Appends the header of a data packet with these bytes, which has three more.
-fn put_data_header(to: &mut Vec<u8>, ps: u64, bytes: &[u8]) -> Result<(), Memory>
+/// Appends what stands before a data packet with these bytes, which has three more.
+fn put_data_header(to: &mut Vec<u8>, speed: Speed, ps: u64, bytes: &[u8]) -> Result<(), Memory>
     requires { length bytes.now ≤ 1024 }
-    ensures { IfOk result (λ _. to.new.items ≡ to.old.items ++ header_at ps (length bytes.now + 3)) }
+    ensures { IfOk result (λ _. to.new.items ≡ to.old.items ++ header_at speed ps (length bytes.now + 3)) }
 {
-    put_header(to, ps, bytes.len() as u32 + 3)
+    put_header(to, speed, ps, bytes.len() as u32 + 3)
 }
 
-/// Appends a data packet behind its header.
-fn put_good_record(to: &mut Vec<u8>, ps: u64, pid: Pid, bytes: &[u8]) -> Result<(), Memory>
+/// Appends what stands behind it.
+fn put_data_tail(to: &mut Vec<u8>, bytes: &[u8]) -> Result<(), Memory>
     requires { length bytes.now ≤ 1024 }
-    ensures { IfOk result (λ _. to.new.items ≡ to.old.items ++ record_at ps (data_bytes pid bytes.now)) }
+    ensures { IfOk result (λ _. to.new.items ≡ to.old.items ++ packet_tail (length bytes.now + 3)) }
 {
-    put_data_header(to, ps, bytes)?;
-    put_data(to, pid, bytes)
+    put_packet_tail(to, bytes.len() as u32 + 3)
 }
 
-/// Appends a data packet as it was damaged, behind its header.
-fn put_damaged_record(to: &mut Vec<u8>, ps: u64, pid: Pid, bytes: &[u8]) -> Result<(), Memory>
+/// Appends a data packet in its block.
+fn put_good_record(
+    to: &mut Vec<u8>,
+    speed: Speed,
+    ps: u64,
+    pid: Pid,
+    bytes: &[u8],
+) -> Result<(), Memory>
     requires { length bytes.now ≤ 1024 }
-    ensures { IfOk result (λ _. to.new.items ≡ to.old.items ++ record_at ps (turned_last (data_bytes pid bytes.now))) }
+    ensures { IfOk result (λ _. to.new.items ≡ to.old.items ++ record_at speed ps (data_bytes pid bytes.now)) }
 {
-    put_data_header(to, ps, bytes)?;
-    put_damaged(to, pid, bytes)
+    put_data_header(to, speed, ps, bytes)?;
+    put_data(to, pid, bytes)?;
+    put_data_tail(to, bytes)
 }
 
-/// Appends a data packet as it went, behind its header.
+/// Appends a damaged data packet in its block.
+fn put_damaged_record(
+    to: &mut Vec<u8>,
+    speed: Speed,
+    ps: u64,
+    pid: Pid,
+    bytes: &[u8],
+) -> Result<(), Memory>
+    requires { length bytes.now ≤ 1024 }
+    ensures { IfOk result (λ _. to.new.items ≡ to.old.items ++ record_at speed ps (turned_last (data_bytes pid bytes.now))) }
+{
+    put_data_header(to, speed, ps, bytes)?;
+    put_damaged(to, pid, bytes)?;
+    put_data_tail(to, bytes)
+}
+
+/// Appends a data packet as it went, in its block.
 #[tactic(auto, unfolding(crate::specs::Packets::fated))]
 pub fn put_data_record(
     to: &mut Vec<u8>,
+    speed: Speed,
     ps: u64,
     fate: Fate,
     pid: Pid,
     bytes: &[u8],
 ) -> Result<(), Memory>
     requires { length bytes.now ≤ 1024 }
-    ensures { IfOk result (λ _. to.new.items ≡ to.old.items ++ fated ps fate (data_bytes pid bytes.now)) }
+    ensures { IfOk result (λ _. to.new.items ≡ to.old.items ++ fated speed ps fate (data_bytes pid bytes.now)) }
 {
     match fate {
         Fate::Lost => Ok(()),
-        Fate::Good => put_good_record(to, ps, pid, bytes),
-        Fate::Damaged => put_damaged_record(to, ps, pid, bytes),
+        Fate::Good => put_good_record(to, speed, ps, pid, bytes),
+        Fate::Damaged => put_damaged_record(to, speed, ps, pid, bytes),
     }
 }

@@ -37,24 +37,24 @@ bytes_in replies.Silent = []
 bytes_in (replies.Bytes pid bytes) = bytes
 bytes_in (replies.Hand pid) = []
 
--- what the script says of packet k of an endpoint on the high-speed bus; an endpoint has at most one line a packet
-unfoldable pub speaks_of : EpName → ℕ → FateText → Bool
-speaks_of name k f = is_against name false f && f.k == k
+-- what the script says of packet k of an endpoint, below a translator or on the high-speed bus; an endpoint has at most one line a packet
+unfoldable pub speaks_of : EpName → Bool → ℕ → FateText → Bool
+speaks_of name below k f = is_against name below f && f.k == k
 
 abbrev pub fate_by : Option FateText → Fate
 fate_by None = Good
 fate_by (Some f) = f.fate
 
-abbrev pub fate_of : List FateText → EpName → ℕ → Fate
-fate_of fates name k = fate_by (find (speaks_of name k) fates)
+abbrev pub fate_of : List FateText → EpName → Bool → ℕ → Fate
+fate_of fates name below k = fate_by (find (speaks_of name below k) fates)
 
 -- what becomes of the packets of a transaction, of which so many are sent before the answer
-abbrev pub fates_of : List FateText → EpName → ℕ → ℕ → Fates
-fates_of fates name k sent = record {
-  token = fate_of fates name k;
-  «data» = fate_of fates name (later k (sent - 1));
-  answer = fate_of fates name (later k sent);
-  acknowledgement = fate_of fates name (later k (sent + 1));
+abbrev pub fates_of : List FateText → EpName → Bool → ℕ → ℕ → Fates
+fates_of fates name below k sent = record {
+  token = fate_of fates name below k;
+  «data» = fate_of fates name below (later k (sent - 1));
+  answer = fate_of fates name below (later k sent);
+  acknowledgement = fate_of fates name below (later k (sent + 1));
 }
 
 abbrev pub exchange_in : List FateText → Ask → List ℕ → Reply → Told → Exchange
@@ -63,7 +63,7 @@ exchange_in fates ask out answer told = record {
   sent = length out;
   told = told;
   answer = answer_in answer;
-  fates = fates_of fates told.asked.name told.asked.packet (packets_before ask);
+  fates = fates_of fates told.asked.name false told.asked.packet (packets_before ask);
 }
 
 abbrev pub exchange_of : Wired → Ask → List ℕ → Option Exchange

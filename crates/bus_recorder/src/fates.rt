@@ -1,5 +1,7 @@
 ghost use Rattle.std.specs.Prelude.{◌≡◌, ◌≤◌, find};
+ghost use Rattle.std.specs.List.{list_any};
 ghost use Rattle.std.specs.Option.{option_copied};
+ghost use Rattle.bus_wire.specs.Fates.{is_unheard};
 ghost use Rattle.bus_wire.specs.Fates.{is_bad, is_same_way, is_same_name, is_against};
 ghost use Rattle.bus_wire.specs.WhoHeard.{packets_sent, later};
 ghost use Rattle.bus_recorder.specs.Recorded.{speaks_of, fate_by, fate_of, fates_of};
@@ -32,19 +34,36 @@ fn is_bad(fate: Fate) -> bool
     }
 }
 
-/// Whether a line of the script is against packet `k` of an endpoint on the high-speed bus.
+/// Whether a line of the script is against packet `k` of an endpoint, below a translator or on the high-speed bus.
 #[tactic(auto, unfolding(crate::specs::Recorded::speaks_of))]
-fn speaks_of(fate: &FateText, name: &EpName, k: u64) -> bool
-    ensures { result ≡ speaks_of name.now k fate.now }
+fn speaks_of(fate: &FateText, name: &EpName, below: bool, k: u64) -> bool
+    ensures { result ≡ speaks_of name.now below k fate.now }
 {
-    !fate.down && is_bad(fate.fate) && are_same_names(&fate.name, name) && fate.k as u64 == k
+    fate.down == below
+        && is_bad(fate.fate)
+        && are_same_names(&fate.name, name)
+        && fate.k as u64 == k
+}
+
+/// Whether some line of the script is against packet `k` of an endpoint.
+fn has_line(fates: &[FateText], name: &EpName, below: bool, k: u64) -> bool
+    ensures { result ≡ list_any (speaks_of name.now below k) fates.now }
+{
+    fates.iter().any(|fate| speaks_of(fate, name, below, k))
+}
+
+/// Whether packet `k` of an endpoint is lost or damaged, below a translator or on the high-speed bus.
+pub fn is_unheard(fates: &[FateText], name: &EpName, below: bool, k: u64) -> bool
+    ensures { result ≡ is_unheard fates.now name.now below k }
+{
+    has_line(fates, name, below, k)
 }
 
 /// The line of the script that is against it.
-fn line_of<'a>(fates: &'a [FateText], name: &EpName, k: u64) -> Option<&'a FateText>
-    ensures { option_copied result ≡ find (speaks_of name.now k) fates.now }
+fn line_of<'a>(fates: &'a [FateText], name: &EpName, below: bool, k: u64) -> Option<&'a FateText>
+    ensures { option_copied result ≡ find (speaks_of name.now below k) fates.now }
 {
-    fates.iter().find(|fate| speaks_of(fate, name, k))
+    fates.iter().find(|fate| speaks_of(fate, name, below, k))
 }
 
 fn fate_by(line: Option<&FateText>) -> Fate
@@ -56,14 +75,14 @@ fn fate_by(line: Option<&FateText>) -> Fate
     }
 }
 
-/// What the script says of packet `k` of an endpoint on the high-speed bus.
-fn fate_of(fates: &[FateText], name: &EpName, k: u64) -> Fate
-    ensures { result ≡ fate_of fates.now name.now k }
+/// What the script says of packet `k` of an endpoint, below a translator or on the high-speed bus.
+fn fate_of(fates: &[FateText], name: &EpName, below: bool, k: u64) -> Fate
+    ensures { result ≡ fate_of fates.now name.now below k }
 {
-    fate_by(line_of(fates, name, k))
+    fate_by(line_of(fates, name, below, k))
 }
 
-fn later(k: u64, n: u64) -> u64
+pub fn later(k: u64, n: u64) -> u64
     ensures { result ≡ later k n }
 {
     k.saturating_add(n)
@@ -83,15 +102,15 @@ pub fn packets_sent(split: &Split, pid: Pid) -> u64
 }
 
 /// What becomes of the packets of a transaction whose first has number `k`, and of which so many are sent before the answer.
-pub fn fates_of(fates: &[FateText], name: &EpName, k: u64, sent: u64) -> Fates
+pub fn fates_of(fates: &[FateText], name: &EpName, below: bool, k: u64, sent: u64) -> Fates
     requires some { 1 ≤ sent }
     requires few { sent ≤ 2 }
-    ensures { result ≡ fates_of fates.now name.now k sent }
+    ensures { result ≡ fates_of fates.now name.now below k sent }
 {
     Fates {
-        token: fate_of(fates, name, k),
-        data: fate_of(fates, name, later(k, sent - 1)),
-        answer: fate_of(fates, name, later(k, sent)),
-        acknowledgement: fate_of(fates, name, later(k, sent + 1)),
+        token: fate_of(fates, name, below, k),
+        data: fate_of(fates, name, below, later(k, sent - 1)),
+        answer: fate_of(fates, name, below, later(k, sent)),
+        acknowledgement: fate_of(fates, name, below, later(k, sent + 1)),
     }
 }

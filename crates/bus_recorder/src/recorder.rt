@@ -35,7 +35,8 @@ impl Model for Recorder {
     ghost invariant = { λ r. r.fates.items ≡ r.bus.fixed.fates };
 }
 
-fn answer_in(reply: &Reply) -> Answer
+/// What came in answer.
+pub fn answer_in(reply: &Reply) -> Answer
     ensures { result ≡ answer_in reply.now }
 {
     match reply {
@@ -46,7 +47,7 @@ fn answer_in(reply: &Reply) -> Answer
 }
 
 /// The bytes of an answer's data.
-fn bytes_in(reply: &Reply) -> &[u8]
+pub fn bytes_in(reply: &Reply) -> &[u8]
     ensures bytes { result.now ≡ bytes_in reply.now }
     ensures few { length result.now ≤ 1024 }
 {
@@ -70,6 +71,7 @@ fn exchange(fates: &[FateText], ask: &Ask, out: &[u8], answer: &Reply, told: &To
         fates: fates_of(
             fates,
             &asked.name,
+            false,
             asked.packet,
             packets_sent(&ask.split, ask.pid),
         ),
