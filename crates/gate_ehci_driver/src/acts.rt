@@ -1,3 +1,5 @@
+ghost use Rattle.std.specs.Prelude.{◌≡◌, ◌≤◌, ◌%◌};
+
 use crate::cases::{Act, Case};
 use crate::events::{blocks, differences, events, run};
 use crate::host::Host;
@@ -279,7 +281,11 @@ fn act(alloc: Global, host: &mut Host, act: &Act) -> Result<String, AllocError> 
 }
 
 /// The words of memory that a row asks for, or 2,048 where it asks for none that a host has.
-fn words_of(case: &Case) -> u32 {
+fn words_of(case: &Case) -> u32
+    ensures at_least { 2048 ≤ result }
+    ensures at_most { result ≤ 262144 }
+    ensures whole_pages { result % 1024 ≡ 0 }
+{
     if case.words < 2048 || case.words > 262_144 || case.words % 1024 != 0 {
         return 2048;
     }
