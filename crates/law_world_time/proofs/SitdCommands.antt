@@ -56,7 +56,8 @@ use Rattle.law_world_memory.specs.Mixed.{IsMixedWorld}
 use Rattle.law_world_visits.specs.Belonging.{IsDescriptorAt, IsHarvestedAt}
 use Rattle.law_world_visits.proofs.BelongDescriptors.{descriptor_belongs}
 use Rattle.law_world_visits.proofs.BelongIso.{IsIsoAccepted, IsIsoOf, is_iso_of, IsLater, made_is, IsByRuns, Noted, transfer_there, note_was, noted, by_runs}
-use Rattle.law_world_visits.proofs.BelongItdCommands.{HasNoDescriptors, leaves_lent, idle_by, old_words, IsTold, told_by}
+use Rattle.law_world_memory.proofs.LeavesLent.{leaves_lent}
+use Rattle.law_world_visits.proofs.BelongItdCommands.{HasNoDescriptors, idle_by, old_words, IsTold, told_by}
 use Rattle.law_world_visits.proofs.BelongSeen.{Seen, IsSeenIn, seen_there}
 use Rattle.law_world_time.specs.SitdParts.{is_in}
 use Rattle.law_world_time.specs.SitdFields.{IsSitdAs, HaveSitdFields, SplitTransfer, SitdsStand}
