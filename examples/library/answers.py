@@ -9,13 +9,15 @@ HANDSHAKES = (2, 10, 14, 6, 12)
 
 
 def packets(capture):
-    """The packets behind the header, each as its packet identifier and its bytes."""
-    at = 24
+    """The packets of the high-speed bus, interface 0 of the capture (pcapng), each as its packet identifier and its bytes."""
+    at = 0
     while at < len(capture):
-        length = struct.unpack_from("<I", capture, at + 8)[0]
-        packet = capture[at + 16:at + 16 + length]
-        yield packet[0] & 15, packet
-        at += 16 + length
+        kind, size, interface = struct.unpack_from("<III", capture, at)
+        if kind == 6 and interface == 0:
+            length = struct.unpack_from("<I", capture, at + 20)[0]
+            packet = capture[at + 28:at + 28 + length]
+            yield packet[0] & 15, packet
+        at += size
 
 
 def records(found):
