@@ -1,19 +1,15 @@
 -- Whose the words are (EHCI 1.0, 3.3.2, 3.4.3, 3.5.3, 3.6.3, 4.7.1, 4.10 and 4.12.3), over the words of memory alone: of what the
--- controller can
--- come to from where it stands these words are the controller's, and it writes no others; no one else writes these.
---     IsReceiving c b          byte b is still to come into a buffer: it is left in the buffer of an overlay that works, of an active qTD,
--- of an
---                              active microframe of an iTD or of an active siTD, and the data come in
---     IsControllers c at       the word at the byte address `at` is the controller's: words 3 to 11 of a queue head that isn't halted, the
--- token of an
---                              active qTD, the word of an active microframe of an iTD, words 3 to 5 of an active siTD, and those of such
--- bytes
---     WritesItsOwn c new       each word that differs in this memory is one of these
---     LeavesControllers c new  .. and here no one is
---     is_controllers orders    the next event is one of the controller
---     KeepsToOwners b c new    by whose event it was
---     KeepsToOwnersThroughout s  so it is from each moment of the run of a script to the next: of the controller, of the driver, of a
--- command or a plug
+-- controller can come to from where it stands these words are the controller's, and it writes no others; no one else writes these.
+--     IsReceiving c b            byte b is still to come into a buffer: it is left in the buffer of an overlay that works, of an active
+--                                qTD, of an active microframe of an iTD or of an active siTD, and the data come in
+--     IsControllers c at         the word at the byte address `at` is the controller's: words 3 to 11 of a queue head that isn't halted,
+--                                the token of an active qTD, the word of an active microframe of an iTD, words 3 to 5 of an active
+--                                siTD, and those of such bytes
+--     WritesItsOwn c new         each word that differs in this memory is one of these
+--     LeavesControllers c new    .. and here no one is
+--     is_controllers orders      the next event is one of the controller
+--     KeepsToOwners b c new      by whose event it was
+--     KeepsToOwnersThroughout s  so it is from each moment of the run of a script to the next, whose event it is
 use Rattle.std.specs.Prelude.{◌≡◌, ◌≢◌, ℕ, suc, ◌+◌, ◌*◌, ◌/◌, ◌%◌, ◌<◌, ◌≤◌, Bool, true, false, List, [], ◌∷◌, Some}
 use Rattle.script_types.specs.declared.scripts.Event.TheVariants as events
 use Rattle.script_types.specs.declared.scripts.Script.{Script}
