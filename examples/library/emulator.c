@@ -70,13 +70,7 @@ int main(void) {
     then = hc, world_then = world;
     memcpy(ram_then, ram, sizeof ram);
     run(&hc, &world, MICROFRAMES, done);
-    printf("bulk out done in microframe %u: token %08x\n", done[2], get(0x1288));
-    printf("bulk in done in microframe %u: token %08x\n", done[1], get(0x1268));
-    printf("control done in microframe %u:", done[0]);
-    print_bytes(DESCRIPTOR, 18);
-    printf("interrupt done in microframe %u:", done[3]);
-    print_bytes(REPORT, 8);
-    printf("bytes of both bulk endpoints: %s\n", is_same(&world) ? "same" : "different");
+    print_done(done, &world);
     printf("from a snapshot of microframe 2: %s\n", comes_again(&hc, then, world_then, ram_then) ? "same" : "different");
     printf("an event a call: %s\n", comes_by_events() ? "same" : "different");
     printf("FRINDEX %04x USBSTS %04x\n", ehci_read(&hc, 0x0c), ehci_read(&hc, 0x04));

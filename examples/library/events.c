@@ -68,13 +68,7 @@ int main(void) {
     ehci_whole_write(&hc, 0x40, 1);          /* CONFIGFLAG */
     ehci_whole_write(&hc, 0x00, 0x00080031); /* USBCMD: Run, both schedules */
     run();
-    printf("bulk out done in microframe %u: token %08x\n", done[2], get(0x1288));
-    printf("bulk in done in microframe %u: token %08x\n", done[1], get(0x1268));
-    printf("control done in microframe %u:", done[0]);
-    print_bytes(DESCRIPTOR, 18);
-    printf("interrupt done in microframe %u:", done[3]);
-    print_bytes(REPORT, 8);
-    printf("bytes of both bulk endpoints: %s\n", is_same(&world) ? "same" : "different");
+    print_done(done, &world);
     printf("transactions that waited: %s, each over a snapshot: %s\n", waits > 0 ? "some" : "none", waits == snapshots ? "yes" : "no");
     return 0;
 }

@@ -136,4 +136,15 @@ static inline bool is_same(const struct world *world) {
     return same;
 }
 
+/* In which microframe each transfer was done, and what was moved. */
+static inline void print_done(const unsigned done[4], const struct world *world) {
+    printf("bulk out done in microframe %u: token %08x\n", done[2], get(0x1288));
+    printf("bulk in done in microframe %u: token %08x\n", done[1], get(0x1268));
+    printf("control done in microframe %u:", done[0]);
+    print_bytes(DESCRIPTOR, 18);
+    printf("interrupt done in microframe %u:", done[3]);
+    print_bytes(REPORT, 8);
+    printf("bytes of both bulk endpoints: %s\n", is_same(world) ? "same" : "different");
+}
+
 #endif
