@@ -5,7 +5,7 @@
                                            since the begin, then the processor seconds of each crate, by kind
     docs/gate_cost.py table LOG [ROWS]     prints the tables of that LOG, with the ROWS dearest crates (none: 25)
 
-On two processors, with nothing kept: `taskset -c 0,1 docs/gate_cost.py run LOG --anew`.
+On two processors: `RT_JOBS=2 taskset -c 0,1 docs/gate_cost.py run LOG`.
 
 The kinds are reading (the text of all crates, by rt itself), proofs, tests (their proofs and their build), edits, and programs
 (what is built and run beside). Times are read from /proc twice a second, so a process loses half a second at most.

@@ -11,6 +11,8 @@ use Rattle.bus_world.specs.Opening.{opening_world}
 use Rattle.bus_world.specs.Orders.{OrderedWorld, Leads, at_place, orders_of}
 use Rattle.bus_world.specs.Budgets.{moment}
 use Rattle.law_world_streams.proofs.lemmas.sending_worlds.Moments.{texts_keep_streams}
+use Rattle.claims_streams.specs.HighStreams.{KeepsHighStreams}
+use Rattle.law_world_pipes.proofs.lemmas.high_streams.AfterRuns.{texts_keep_high_streams}
 use Rattle.app_ends.specs.Input.{input_of}
 use Rattle.bus_world.specs.Runs.{IsWholeRunOf}
 use Rattle.claims_world.specs.Ends.{IsEndedOnce, EndsOnceThroughout, EndsOnce}
@@ -45,3 +47,7 @@ ends s k = record { throughout = k; after = λ w ran name other. at_end (λ r. I
 pub source_ends_once : (left : Option (List ℕ)) → OfEachScript EndsOnce left
 source_ends_once None = tt
 source_ends_once (Some xs) = λ s spelled. ends s (texts_end_once (input_of xs) s spelled)
+
+pub source_keeps_high_streams : (left : Option (List ℕ)) → OfEachScript KeepsHighStreams left
+source_keeps_high_streams None = tt
+source_keeps_high_streams (Some xs) = λ s spelled. texts_keep_high_streams (input_of xs) s spelled

@@ -4,6 +4,14 @@ use Rattle.claims_world.specs.Visits.{KeepsVisits}
 use Rattle.claims_world.specs.WithinLoad.{PaysWithinLoad}
 use Rattle.claims_world.specs.InTime.{ArriveInTime}
 use Rattle.law_world_visits.proofs.Together.{texts_keep_visits}
+use Rattle.claims_due.specs.Due.{KeepsDue}
+use Rattle.claims_due.specs.Losses.{RepeatAfterLosses}
+use Rattle.law_due.proofs.lemmas.repeats.RepeatMoments.{texts_repeat_after_losses}
+use Rattle.claims_due.specs.Slots.{SlotsAreDone}
+use Rattle.claims_due.specs.Unfinished.{KeepsToWork}
+use Rattle.law_due.proofs.Together.{texts_keep_due}
+use Rattle.law_due.proofs.lemmas.slots.Moments.{texts_serve_slots}
+use Rattle.law_world_queues.proofs.Copies.{texts_keep_to_work}
 use Rattle.law_world_time.proofs.PaymentTimes.{texts_pay, texts_in_time}
 use Rattle.claims_world.specs.Microframes.{MicroframesEnd}
 use Rattle.law_world_time.proofs.TurnTexts.{texts_end}
@@ -25,3 +33,19 @@ source_is_in_time (Some xs) = λ s spelled. texts_in_time (input_of xs) s spelle
 pub source_ends_microframes : (left : Option (List ℕ)) → OfEachScript MicroframesEnd left
 source_ends_microframes None = tt
 source_ends_microframes (Some xs) = λ s spelled. texts_end (input_of xs) s spelled
+
+pub source_keeps_due : (left : Option (List ℕ)) → OfEachScript KeepsDue left
+source_keeps_due None = tt
+source_keeps_due (Some xs) = λ s spelled. texts_keep_due (input_of xs) s spelled
+
+pub source_does_slots : (left : Option (List ℕ)) → OfEachScript SlotsAreDone left
+source_does_slots None = tt
+source_does_slots (Some xs) = λ s spelled. texts_serve_slots (input_of xs) s spelled
+
+pub source_keeps_to_work : (left : Option (List ℕ)) → OfEachScript KeepsToWork left
+source_keeps_to_work None = tt
+source_keeps_to_work (Some xs) = λ s spelled. texts_keep_to_work (input_of xs) s spelled
+
+pub source_repeats_after_losses : (left : Option (List ℕ)) → OfEachScript RepeatAfterLosses left
+source_repeats_after_losses None = tt
+source_repeats_after_losses (Some xs) = λ s spelled. texts_repeat_after_losses (input_of xs) s spelled

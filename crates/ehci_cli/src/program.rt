@@ -1,4 +1,4 @@
-ghost use Rattle.std.specs.Prelude.{◌≡◌, ◌≢◌, ℕ, ◌≤◌, ◌↔◌, map, string_bytes, IfSome};
+ghost use Rattle.std.specs.Prelude.{◌≡◌, ℕ, ◌≤◌, ◌↔◌, map, string_bytes, IfSome};
 ghost use Rattle.bus_world.specs.Budgets.{AdmitsThroughout};
 ghost use Rattle.claims_world.specs.Schedule.{KeepsScheduleThroughout};
 ghost use Rattle.claims_world.specs.Lent.{KeepsToLentThroughout};
@@ -6,8 +6,8 @@ ghost use Rattle.claims_world.specs.Owned.{OwnsItsBlocksThroughout};
 ghost use Rattle.app_ends.specs.Ends.{IsFault, IsWriteFault, WritesNothing};
 ghost use Rattle.app_ends.specs.Input.{input_of};
 ghost use Rattle.app_forms.specs.Form.{AreWordsOf, AreNoForm};
-ghost use Rattle.bus_world.specs.Runs.{IsRunOf, IsWholeRunOf};
-ghost use Rattle.app_forms.specs.Output.{IsAnswer, IsLoad, IsProgram, LeavesAs, Leaves};
+ghost use Rattle.bus_world.specs.Runs.{IsWholeRunOf};
+ghost use Rattle.app_forms.specs.Output.{IsLoad, IsProgram, Leaves};
 ghost use Rattle.claims_world.specs.Memory.{KeepsMemory};
 ghost use Rattle.claims_world.specs.Links.{KeepsLinks};
 ghost use Rattle.claims_world.specs.Reach.{ReachesLentThroughout};
@@ -16,14 +16,25 @@ ghost use Rattle.claims_world.specs.Releases.{GivesBackLast};
 ghost use Rattle.claims_world.specs.Visits.{KeepsVisits};
 ghost use Rattle.claims_world.specs.WithinLoad.{PaysWithinLoad};
 ghost use Rattle.claims_world.specs.InTime.{ArriveInTime};
+ghost use Rattle.claims_due.specs.Due.{KeepsDue};
+ghost use Rattle.claims_due.specs.Losses.{RepeatAfterLosses};
+ghost use Rattle.claims_due.specs.Slots.{SlotsAreDone};
+ghost use Rattle.claims_due.specs.Unfinished.{KeepsToWork};
 ghost use Rattle.claims_world.specs.Microframes.{MicroframesEnd};
 ghost use Rattle.claims_world.specs.Requests.{KeepsRequests};
 ghost use Rattle.claims_world.specs.Scripts.{OfEachScript, OfEachAsynchronousScript, OfEachScriptOfDevices};
 ghost use Rattle.claims_world.specs.Streams.{KeepsStreams};
+ghost use Rattle.claims_streams.specs.HighStreams.{KeepsHighStreams};
 ghost use Rattle.claims_world.specs.Ends.{EndsOnce};
+ghost use Rattle.claims_world_answers.specs.Heard.{HearsThroughout};
+ghost use Rattle.claims_world_answers.specs.Pending.{PendingIsCounted};
+ghost use Rattle.claims_world_answers.specs.Refused.{CommandsHaveCauses};
+ghost use Rattle.claims_world_answers.specs.Rests.{RestsThroughout};
+ghost use Rattle.claims_world_answers.specs.Told.{LinesHaveReasons};
 
-use app_ends::{Status, Unread, read_input};
-use app_forms::{Form, check, dump, form_of, image, load, run};
+use app_ends::Status;
+use app_forms::Form;
+use app_machine::ehci_machine;
 use std::alloc::Global;
 use usb_base::{Sink, Source};
 
@@ -84,7 +95,18 @@ use usb_base::{Sink, Source};
 /// each placement is one that its endpoint may have. What is deducted for the transactions of the walk of the frames in a microframe is the
 /// sum of their prices. It comes, but for complete-splits that are made again at once, to no more than the plan's load there, nor to more
 /// than 100 microseconds; so no transaction of the periodic part is skipped for want of time, but in a held microframe or where more than 4
-/// microseconds went for those made again. None is made again where all periodic endpoints are of high speed.
+/// microseconds went for those made again. None is made again where all periodic endpoints are of high speed, nor
+/// while no packet of the walk of the frames was lost or damaged in the microframe.
+///
+/// Once the walk of the frames is over in a microframe, it came to the queue head of each interrupt endpoint that has this frame, was in
+/// the frame list as the microframe began and is in it still; and of each of high speed that had a transfer then, in a microframe of its S-mask
+/// that isn't held, with its device ready and none of the transaction's packets lost, the packet moved and was written back, where no more
+/// than 4 microseconds went for complete-splits made again. So is each slot of an iTD to which the walk came while it was active: it is
+/// written back in its microframe. And at each moment the queue head of a bulk or interrupt endpoint that goes on and isn't halted, with a
+/// transfer that is stored and isn't done, works on an active qTD or goes on to one; so does its copy in the hand of either walk.
+///
+/// Whatever the script opens, the bytes that the report tells of each bulk and interrupt IN endpoint at high speed begin its stream, each
+/// once and in order, and those that it tells of each such OUT endpoint begin what its device took: at each moment, and after the run.
 ///
 /// Where the script opens high-speed bulk and control endpoints only, cancelled or not, the bytes that the report tells of each bulk IN
 /// endpoint begin its stream, each once and in order, and nothing follows its end; those that it tells of each bulk OUT endpoint begin
@@ -99,7 +121,18 @@ use usb_base::{Sink, Source};
 /// control request, and only on its setup bytes; of an endpoint that isn't cancelled the report tells of its requests in their order: a
 /// request that is done was acted on exactly once, and the bytes told of it are those of its data; those of one that halted begin its
 /// data; and `acted` is told as the number of requests that were acted on. After the run these are all its requests.
-#[tactic(auto, using(crate::proofs::Admitted::source_admits, crate::proofs::Admitted::source_keeps_to_lent, crate::proofs::Admitted::source_owns, crate::proofs::Admitted::source_keeps_schedule, crate::proofs::Streams::source_keeps_streams, crate::proofs::Streams::source_ends_once, crate::proofs::Requests::source_keeps_requests, crate::proofs::Memory::source_keeps_memory, crate::proofs::Memory::source_reaches_lent, crate::proofs::Memory::source_keeps_to_owners, crate::proofs::Memory::source_gives_back_last, crate::proofs::Memory::source_keeps_links, crate::proofs::Visits::source_keeps_visits, crate::proofs::Visits::source_pays_within_load, crate::proofs::Visits::source_is_in_time, crate::proofs::Visits::source_ends_microframes))]
+///
+/// Each command of a script is refused for the first cause that stands, of busy, no endpoint, closed, already open, too long, no
+/// placement and no blocks, and its line tells this one; where none stands it is accepted. Each ask of the controller is heard as the
+/// script's lines on lost packets, its holds and the ports of its hubs say: by its endpoint alone, or by none.
+///
+/// The driver rests only where no command is unfinished, each cancelled endpoint is given back, and of each that hasn't ended all that was
+/// asked for has its line, and its blocks are given back. Each line that it writes has its reason in the token or the descriptor that it
+/// reads there, in the STALL of a request before, or in the cancel; and it tells as many bytes as were moved: of each qTD its length less
+/// what its token left, or, at a cancel, what the active overlay leaves. Each line leaves one transfer less of its endpoint without a
+/// line, that of a cancel none; and `pending` is told after the run just of each endpoint that hasn't ended and has such transfers, with
+/// their number.
+#[tactic(auto, using(crate::proofs::Whole::whole_load, crate::proofs::Whole::whole_program, crate::proofs::Admitted::source_admits, crate::proofs::Admitted::source_keeps_to_lent, crate::proofs::Admitted::source_owns, crate::proofs::Admitted::source_keeps_schedule, crate::proofs::Streams::source_keeps_streams, crate::proofs::Streams::source_keeps_high_streams, crate::proofs::Streams::source_ends_once, crate::proofs::Requests::source_keeps_requests, crate::proofs::Memory::source_keeps_memory, crate::proofs::Memory::source_reaches_lent, crate::proofs::Memory::source_keeps_to_owners, crate::proofs::Memory::source_gives_back_last, crate::proofs::Memory::source_keeps_links, crate::proofs::Visits::source_keeps_visits, crate::proofs::Visits::source_pays_within_load, crate::proofs::Visits::source_is_in_time, crate::proofs::Visits::source_repeats_after_losses, crate::proofs::Visits::source_keeps_due, crate::proofs::Visits::source_does_slots, crate::proofs::Visits::source_keeps_to_work, crate::proofs::Visits::source_ends_microframes, crate::proofs::Causes::source_has_causes, crate::proofs::Causes::source_is_heard, crate::proofs::Causes::source_rests_when_done, crate::proofs::Causes::source_tells_for_reasons, crate::proofs::Causes::source_counts_pending))]
 pub fn ehci<S: Source, K: Sink>(
     alloc: Global,
     words: &[String],
@@ -124,56 +157,23 @@ pub fn ehci<S: Source, K: Sink>(
     ensures microframes { OfEachScript MicroframesEnd (S.left source.old) }
     ensures within_load { OfEachScript PaysWithinLoad (S.left source.old) }
     ensures in_time { OfEachScript ArriveInTime (S.left source.old) }
+    ensures repeats { OfEachScript RepeatAfterLosses (S.left source.old) }
+    ensures due { OfEachScript KeepsDue (S.left source.old) }
+    ensures slots { OfEachScript SlotsAreDone (S.left source.old) }
+    ensures goes_on { OfEachScript KeepsToWork (S.left source.old) }
     ensures streams { OfEachAsynchronousScript KeepsStreams (S.left source.old) }
+    ensures high_streams { OfEachScript KeepsHighStreams (S.left source.old) }
     ensures ends { OfEachScript EndsOnce (S.left source.old) }
     ensures requests { OfEachScriptOfDevices KeepsRequests (S.left source.old) }
+    ensures answers { OfEachScript CommandsHaveCauses (S.left source.old) }
+    ensures hears { OfEachScript HearsThroughout (S.left source.old) }
+    ensures works { OfEachScript RestsThroughout (S.left source.old) }
+    ensures lines { OfEachScript LinesHaveReasons (S.left source.old) }
+    ensures pending { OfEachScript PendingIsCounted (S.left source.old) }
     ensures left { IfSome (S.left source.old) (λ xs. Leaves (map string_bytes words.now) result xs (S.left source.new)) }
     ensures nothing { WritesNothing result → sink.new ≡ sink.old }
     ensures read { IsFault result (S.faults source.old) (S.faults source.new) }
     ensures write { IsWriteFault result (K.faults sink.old) (K.faults sink.new) }
 {
-    match form_of(words) {
-        None => Status::Words,
-        Some(Form::Load(n)) => load(alloc, n, sink),
-        Some(form) => read_and_answer(alloc, form, source, sink),
-    }
-}
-
-/// The answer of a form that reads to all that the source has, or to its first 1,048,601 bytes.
-fn read_and_answer<S: Source, K: Sink>(
-    alloc: Global,
-    form: Form,
-    source: &mut S,
-    sink: &mut K,
-) -> Status
-    requires { (n : ℕ) → form ≢ Form.Load n }
-    ensures answer { IfSome (S.left source.old) (λ xs. IsAnswer IsRunOf form result (input_of xs) (K.written sink.old) (K.written sink.new)) }
-    ensures left { IfSome (S.left source.old) (λ xs. LeavesAs form result xs (S.left source.new)) }
-    ensures end { result ≢ Status.Words }
-    ensures nothing { WritesNothing result → sink.new ≡ sink.old }
-    ensures read { IsFault result (S.faults source.old) (S.faults source.new) }
-    ensures write { IsWriteFault result (K.faults sink.old) (K.faults sink.new) }
-{
-    let input = match read_input(alloc, source) {
-        Ok(input) => input,
-        Err(Unread::Fault) => return Status::ReadFault,
-        Err(Unread::Memory) => return Status::Memory,
-    };
-    answer(alloc, form, input.as_slice(), sink)
-}
-
-/// The answer of a form to an input.
-fn answer<K: Sink>(alloc: Global, form: Form, input: &[u8], sink: &mut K) -> Status
-    ensures answer { IsAnswer IsRunOf form result input.now (K.written sink.old) (K.written sink.new) }
-    ensures end { (result ≢ Status.Words) × (result ≢ Status.ReadFault) }
-    ensures nothing { WritesNothing result → sink.new ≡ sink.old }
-    ensures fault { IsWriteFault result (K.faults sink.old) (K.faults sink.new) }
-{
-    match form {
-        Form::Run => run(alloc, input, sink),
-        Form::Image => image(alloc, input, sink),
-        Form::Check => check(alloc, input, sink),
-        Form::Dump => dump(alloc, input, sink),
-        Form::Load(n) => load(alloc, n, sink),
-    }
+    ehci_machine(alloc, words, source, sink)
 }

@@ -6,7 +6,7 @@
 #![tactic(auto)]
 
 use app_ends::Status;
-use ehci_cli::ehci;
+use app_machine::ehci_machine;
 use std::alloc::Global;
 use std::rt::Files;
 use std::{fs, io};
@@ -26,7 +26,7 @@ struct Ending {
 fn ending_of(alloc: Global, words: &[String], input: &[u8]) -> io::Result<Ending> {
     let mut source = MemSource::build(alloc, input, &[]).map_err(|_| io::ErrorKind::OutOfMemory)?;
     let mut sink = MemSink::build(alloc, ROOM, &[]).map_err(|_| io::ErrorKind::OutOfMemory)?;
-    let status = ehci(alloc, words, &mut source, &mut sink);
+    let status = ehci_machine(alloc, words, &mut source, &mut sink);
     let written = Vec::from_slice(alloc, sink.written())?;
     Ok(Ending { status, written })
 }

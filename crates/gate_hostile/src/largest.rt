@@ -2,7 +2,7 @@ ghost use Rattle.std.specs.Prelude.{None};
 
 use crate::images::opening_byte;
 use app_ends::Status;
-use ehci_cli::ehci;
+use app_machine::ehci_machine;
 use std::alloc::{AllocError, Global};
 use usb_base::{Failed, Sink, Source};
 
@@ -232,7 +232,7 @@ pub fn of(alloc: Global, row: &Row) -> Result<&'static str, AllocError> {
         offset: 0,
         alike: true,
     };
-    let status = ehci(alloc, words.as_slice(), &mut source, &mut sink);
+    let status = ehci_machine(alloc, words.as_slice(), &mut source, &mut sink);
     if status == row.status && sink.alike && sink.offset as usize == row.written {
         Ok("as it must be")
     } else {

@@ -1,6 +1,6 @@
 use crate::ends::{SlowSink, SlowSource};
 use app_ends::Status;
-use ehci_cli::ehci;
+use app_machine::ehci_machine;
 use std::alloc::{AllocError, Global};
 use usb_base::{MemSink, MemSource};
 
@@ -53,7 +53,7 @@ pub fn run(alloc: Global, word: &str, input: &[u8], ends: Ends<'_>) -> Result<En
         most: ends.most,
         calls: 0,
     };
-    let status = ehci(alloc, words.as_slice(), &mut source, &mut sink);
+    let status = ehci_machine(alloc, words.as_slice(), &mut source, &mut sink);
     Ok(Ending {
         status,
         written: Vec::from_slice(alloc, sink.sink.written())?,

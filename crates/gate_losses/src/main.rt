@@ -5,7 +5,7 @@
 mod model;
 
 use app_ends::Status;
-use ehci_cli::ehci;
+use app_machine::ehci_machine;
 use model::{Ending, model_of};
 use std::alloc::{AllocError, Global};
 use std::io;
@@ -59,7 +59,7 @@ fn agrees(alloc: Global, words: &[String], lost: u32) -> Result<bool, AllocError
     let wanted = report(alloc, model_of(lost))?;
     let mut source = MemSource::build(alloc, text.as_slice(), &[]).map_err(|_| AllocError)?;
     let mut sink = MemSink::build(alloc, 4096, &[]).map_err(|_| AllocError)?;
-    let status = ehci(alloc, words, &mut source, &mut sink);
+    let status = ehci_machine(alloc, words, &mut source, &mut sink);
     Ok(status == Status::Ok && sink.written() == wanted.as_slice())
 }
 

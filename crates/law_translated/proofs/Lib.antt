@@ -1,4 +1,14 @@
 pub mod Lifting
+pub mod Keys
+pub mod BufferStarts
+pub mod BufferCompletes
+pub mod BufferWork
+pub mod EntryTurns
+pub mod PipelineCalls
+pub mod PipelineWork
+pub mod TranslatorCalls
+pub mod HubCalls
+pub mod KeyEvents
 pub mod Streams
 pub mod Receiving
 pub mod Sending
@@ -6,6 +16,7 @@ pub mod Requesting
 pub mod Reading
 pub mod Writing
 pub mod Settling
+pub mod WorkedSlots
 pub mod WorkedPipes
 pub mod WorkedRequests
 pub mod WorkedWindows

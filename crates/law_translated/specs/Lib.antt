@@ -1,4 +1,9 @@
 pub mod Lift
+pub mod KeySlots
+pub mod KeySteps
+pub mod KeyLaws
+pub mod KeyHubs
+pub mod KeyEvents
 pub mod InPipes
 pub mod OutPipes
 pub mod Requests
@@ -6,6 +11,7 @@ pub mod Reads
 pub mod Writes
 pub mod Windows
 pub mod Samples
+pub mod WorkedSlots
 pub mod WorkedPipes
 pub mod WorkedRequests
 pub mod WorkedWindows

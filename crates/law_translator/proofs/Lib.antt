@@ -4,7 +4,14 @@ pub mod Numbers
 pub mod Owing
 pub mod Work
 pub mod Starts
+pub mod Holds
+pub mod Replans
+pub mod Results
 pub mod Keeps
+pub mod Fronts
+pub mod Stuffed
+pub mod KeepsStuffed
+pub mod Answered
 pub mod Watching
 pub mod Works
 pub mod Stays

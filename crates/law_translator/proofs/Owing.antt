@@ -32,20 +32,26 @@ before_gaps w = w.gaps + gap_of w.entry
 abbrev pub came_gaps : Watched → ℕ
 came_gaps w = w.gaps + gap_of w.entry + gap_between w.entry.before w.entry.came
 
-pub record Owing (p : Plan) (now : ℕ) (w : Watched) : Type 0 where
+-- what came of an entry, of at most so many stuffed bits in 36; its classic transaction isn't due
+pub record Coming (most : ℕ) (p : Plan) (now : ℕ) (w : Watched) : Type 0 where
   pub heard : Came p w.entry.key w.entry.ask w.entry.heard w.gaps (now - 1)
   pub before : Came p w.entry.key w.entry.ask w.entry.before (before_gaps w) now
   pub came : Came p w.entry.key w.entry.ask w.entry.came (came_gaps w) (now + 1)
   pub seen : Seen w.entry.came
   pub grew : Grew p w.entry.key w.entry.ask w.entry.heard w.entry.before (before_gaps w)
   pub grows : Grew p w.entry.key w.entry.ask w.entry.before w.entry.came (came_gaps w)
-  pub below : w.entry.done ≤ called_unstuffed w.entry
-  pub kept : min (laid p w.entry.key (now - 1)) (called_unstuffed w.entry + 188 * w.gaps) ≤ w.entry.done + 188 * w.gaps
-  pub even : w.entry.heard.whole ≡ false → w.entry.done ≡ called_unstuffed w.entry
-  pub unstuffed : w.entry.stuff ≡ 0
+  pub within : called w.entry.ask w.entry.came ≤ p.times w.entry.key
+  pub bits : w.entry.stuff ≤ most
   pub plain : 0 < w.entry.came.parts → (n : ℕ) → work_of w.entry.ask n ≡ n + 9
   pub classic : w.entry.ask.speed ≡ High → ⊥
   pub asked : is_due w.entry ≡ false
+
+-- and what was worked for it, where there are no stuffed bits
+pub record Owing (p : Plan) (now : ℕ) (w : Watched) : Type 0 where
+  pub comes : Coming 0 p now w
+  pub below : w.entry.done ≤ called_unstuffed w.entry
+  pub kept : min (laid p w.entry.key (now - 1)) (called_unstuffed w.entry + 188 * w.gaps) ≤ w.entry.done + 188 * w.gaps
+  pub even : w.entry.heard.whole ≡ false → w.entry.done ≡ called_unstuffed w.entry
 
 -- ---- small facts
 
@@ -71,10 +77,17 @@ no_bits times = omega arith
 pub unstuffed_same : (times stuff : ℕ) → stuff ≡ 0 → stuffed times stuff ≡ times
 unstuffed_same times stuff none = subst (λ (n : ℕ). stuffed times n ≡ times) (sym none) (no_bits times)
 
+pub no_stuff : (p : Plan) (now : ℕ) (w : Watched) → Coming 0 p now w → w.entry.stuff ≡ 0
+no_stuff p now w o = omega (arith, o.bits)
+
 pub not_both : (b : Brought) → b.whole ≡ true → b.whole ≡ false → ⊥
 not_both b h i = cc
 
 module _ (p : Plan) (k : Key) (ask : Ask) where
+  pub calls_more : (a b : Brought) (g : ℕ) → Grew p k ask a b g → called ask a ≤ called ask b
+  calls_more a b g (same is) = let e : called ask b ≡ called ask a = ap (λ (x : Brought). called ask x) is in omega arith
+  calls_more a b g (more lacked fits rises no_gap) = rises
+
   -- a microframe in which nothing came
   pub once_more : (b : Brought) (g u : ℕ) → Seen b → Came p k ask b g u → Came p k ask b (g + gap_between b b) (u + 1)
   once_more b g u seen (unseen is none ahead) =
@@ -87,7 +100,8 @@ module _ (p : Plan) (k : Key) (ask : Ask) where
       rw (gap_whole b b whole) (ended whole (omega arith) (omega arith))
 
   -- what came in the microframe that is worked now
-  ready_more : (a b : Brought) (g now d : ℕ) → Came p k ask a g (now - 1) → a.whole ≡ false → called ask b + 188 * g ≤ p.times k → called ask a ≤ called ask b → d ≡ called ask a → Ready (p.times k) (p.first k) now (called ask b) d g
+  ready_more : (a b : Brought) (g now d : ℕ) → Came p k ask a g (now - 1) → a.whole ≡ false → called ask b + 188 * g ≤ p.times k
+      → called ask a ≤ called ask b → d ≡ called ask a → Ready (p.times k) (p.first k) now (called ask b) d g
   ready_more a b g now d (unseen is none ahead) lacked fits rises even = record {
     below = omega arith;
     kept = omega arith;
@@ -98,7 +112,9 @@ module _ (p : Plan) (k : Key) (ask : Ask) where
       record { below = omega arith; kept = omega arith; fits = λ _. fits }
   ready_more a b g now d (ended whole _ _) lacked fits rises even = absurd (not_both a whole lacked)
 
-  ready_same : (a : Brought) (g now d : ℕ) → Came p k ask a g (now - 1) → d ≤ called ask a → min (laid p k (now - 1)) (called ask a + 188 * g) ≤ d + 188 * g → (a.whole ≡ false → d ≡ called ask a) → Ready (p.times k) (p.first k) now (called ask a) d (g + gap_between a a)
+  ready_same : (a : Brought) (g now d : ℕ) → Came p k ask a g (now - 1) → d ≤ called ask a
+      → min (laid p k (now - 1)) (called ask a + 188 * g) ≤ d + 188 * g → (a.whole ≡ false → d ≡ called ask a)
+      → Ready (p.times k) (p.first k) now (called ask a) d (g + gap_between a a)
   ready_same a g now d (unseen is none ahead) below kept even =
       ready_even _ _ _ _ _ _ (even (ap (λ (x : Brought). x.whole) is))
   ready_same a g now d (partial lacks some count bytes begun) below kept even = ready_even _ _ _ _ _ _ (even lacks)
@@ -106,7 +122,9 @@ module _ (p : Plan) (k : Key) (ask : Ask) where
       let c = called_ended ask a whole in
       rw (gap_whole a a whole) (record { below = below; kept = omega arith; fits = λ _. omega arith })
 
-  pub ready : (a b : Brought) (g now d : ℕ) → Came p k ask a g (now - 1) → Grew p k ask a b (g + gap_between a b) → d ≤ called ask a → min (laid p k (now - 1)) (called ask a + 188 * g) ≤ d + 188 * g → (a.whole ≡ false → d ≡ called ask a) → Ready (p.times k) (p.first k) now (called ask b) d (g + gap_between a b)
+  pub ready : (a b : Brought) (g now d : ℕ) → Came p k ask a g (now - 1) → Grew p k ask a b (g + gap_between a b) → d ≤ called ask a
+      → min (laid p k (now - 1)) (called ask a + 188 * g) ≤ d + 188 * g → (a.whole ≡ false → d ≡ called ask a)
+      → Ready (p.times k) (p.first k) now (called ask b) d (g + gap_between a b)
   ready a b g now d came (same is) below kept even =
       subst (λ (x : Brought). Ready (p.times k) (p.first k) now (called ask x) d (g + gap_between a x)) (sym is) (ready_same a g now d came below kept even)
   ready a b g now d came (more lacked fits rises no_gap) below kept even =
@@ -114,7 +132,9 @@ module _ (p : Plan) (k : Key) (ask : Ask) where
       rw e (ready_more a b g now d came lacked (rw e at fits) rises (even lacked))
 
   -- an entry that lacks its last has had all that it calls for
-  pub even_after : (a b : Brought) (g g' now d room : ℕ) → Grew p k ask a b g' → Came p k ask b g' now → (a.whole ≡ false → d ≡ called ask a) → Done (p.times k) (p.first k) now (called ask b) (d + min room (called ask b - d)) g' → b.whole ≡ false → d + min room (called ask b - d) ≡ called ask b
+  pub even_after : (a b : Brought) (g g' now d room : ℕ) → Grew p k ask a b g' → Came p k ask b g' now
+      → (a.whole ≡ false → d ≡ called ask a) → Done (p.times k) (p.first k) now (called ask b) (d + min room (called ask b - d)) g'
+      → b.whole ≡ false → d + min room (called ask b - d) ≡ called ask b
   even_after a b g g' now d room (same is) came even done lacks =
       let e : called ask b ≡ called ask a = ap (λ (x : Brought). called ask x) is in
       let w : a.whole ≡ false = sym (ap (λ (x : Brought). x.whole) is) ∙ lacks in

@@ -16,9 +16,9 @@ use Rattle.tt_pipeline.specs.Working.{used_at, first_reply, later_replies}
 use Rattle.law_translator.specs.Plans.{Plan, Fits}
 use Rattle.law_translator.specs.Frames.{Event, Watched, worked_one, worked_all, run, opening}
 use Rattle.law_translator.specs.Premises.{FairAll, Stays, AllStay}
-use Rattle.law_translator.proofs.Owing.{Grew, same, more, Owing, not_both}
-use Rattle.law_translator.proofs.Work.{AllOwe}
-use Rattle.law_translator.proofs.Keeps.{keeps_all, opening_holds}
+use Rattle.law_translator.proofs.Owing.{Grew, same, more, Coming, not_both}
+use Rattle.law_translator.proofs.Work.{All}
+use Rattle.law_translator.proofs.KeepsStuffed.{stuffed_keeps_all, stuffed_opening}
 
 is_made : (x : Exchange) (e : Entry) → row_at x e ≡ Result → is_ahead x ≡ false
 is_made (Ahead sent) e h = absurd cc
@@ -32,7 +32,8 @@ worked_out : (x : Exchange) (e : Entry) → e.ask.kind ≡ Interrupt → row_at 
 worked_out (Ahead sent) e kind h = absurd cc
 worked_out (Made reply) e kind h = rw kind (only _ (rw kind at h))
 
-there : (x : Exchange) (e : Entry) → is_ahead x ≡ false → e.ask.kind ≡ Interrupt → nat_le (called_for e) e.done ≡ true → row_at x e ≡ Result
+there : (x : Exchange) (e : Entry) → is_ahead x ≡ false → e.ask.kind ≡ Interrupt → nat_le (called_for e) e.done ≡ true
+    → row_at x e ≡ Result
 there (Ahead sent) e made kind all = absurd cc
 there (Made reply) e made kind all = let all' = rw kind at all in rw (kind, all') refl
 
@@ -40,7 +41,8 @@ unchanged : (a b : Brought) (p : Plan) (w : Watched) (g : ℕ) → a.whole ≡ t
 unchanged a b p w g whole (same is) = is
 unchanged a b p w g whole (more lacked _ _ _) = absurd (not_both a whole lacked)
 
-stay_moved : (b : Bool) (reply : Reply) (m e : Entry) → b ≡ false → answer_row m ≡ Result → answer_row e ≡ Result → m.exchange ≡ e.exchange → (answer_row (answered b reply m) ≡ Result) × (answer_of (answered b reply m) ≡ answer_of e)
+stay_moved : (b : Bool) (reply : Reply) (m e : Entry) → b ≡ false → answer_row m ≡ Result → answer_row e ≡ Result
+    → m.exchange ≡ e.exchange → (answer_row (answered b reply m) ≡ Result) × (answer_of (answered b reply m) ≡ answer_of e)
 stay_moved true reply m e off row before alike = absurd cc
 stay_moved false reply m e off row before alike =
     (row, rw (row, before) (ap (λ (x : Exchange). result_at x) alike))
@@ -49,7 +51,7 @@ not_due : (x y : Bool) → x ≡ false → (x && y) ≡ false
 not_due true y h = absurd cc
 not_due false y h = refl
 
-stay_one : (p : Plan) (now room : ℕ) (reply : Reply) (w : Watched) → Owing p now w → Stays w (worked_one room reply w)
+stay_one : (p : Plan) (now room : ℕ) (reply : Reply) (w : Watched) → Coming 6 p now w → Stays w (worked_one room reply w)
 stay_one p now room reply w o = λ kind whole row.
     let m : Entry = moved room w.entry in
     let made : is_ahead w.entry.exchange ≡ false = is_made w.entry.exchange w.entry row in
@@ -59,11 +61,13 @@ stay_one p now room reply w o = λ kind whole row.
     let all : nat_le (called_for m) m.done ≡ true = le-leb _ _ (omega arith) in
     stay_moved (is_due m) reply m w.entry (not_due (is_ahead w.entry.exchange) _ made) (there w.entry.exchange m made kind all) row refl
 
-stay_all : (p : Plan) (now room : ℕ) (replies : List Reply) (ws : List Watched) → AllOwe p now ws → AllStay ws (worked_all room replies ws)
+stay_all : (p : Plan) (now room : ℕ) (replies : List Reply) (ws : List Watched) → All (Coming 6 p now) ws
+    → AllStay ws (worked_all room replies ws)
 stay_all p now room replies [] owe = tt
 stay_all p now room replies (w ∷ ws) owe =
     (stay_one p now room (first_reply replies) w owe.0, stay_all p now (room - used_at room w.entry) (later_replies replies) ws owe.1)
 
-pub answers_stay : (plan : Plan) → Fits plan → (events : List Event) → FairAll events (opening plan) → (replies : List Reply) → AllStay (run events (opening plan)).watched (worked_all 188 replies (run events (opening plan)).watched)
+pub answers_stay : (plan : Plan) → Fits plan → (events : List Event) → FairAll 6 events (opening plan) → (replies : List Reply)
+    → AllStay (run events (opening plan)).watched (worked_all 188 replies (run events (opening plan)).watched)
 answers_stay plan fits events fair replies =
-    stay_all _ _ 188 replies _ (keeps_all events (opening plan) (opening_holds plan fits) fair).owe
+    stay_all _ _ 188 replies _ (stuffed_keeps_all events (opening plan) (stuffed_opening plan fits) fair).comes

@@ -1,5 +1,5 @@
 -- Sums over some of the keys of a plan, and what follows where the plan fits.
-use Rattle.std.proofs.Common.{◌≡◌, ℕ, ◌+◌, ◌-◌, ◌*◌, ◌<◌, ◌≤◌, min, List, [], ◌∷◌, ◌++◌, refl, sym, ◌∙◌, inl, inr, ◌⊎◌, arith, ap}
+use Rattle.std.proofs.Common.{◌≡◌, ℕ, zero, suc, length, ◌+◌, ◌-◌, ◌*◌, ◌<◌, ◌≤◌, min, List, [], ◌∷◌, ◌++◌, refl, sym, ◌∙◌, inl, inr, ◌⊎◌, arith, ap}
 use Rattle.std.proofs.lemmas.Bool.{cases_lt}
 use Rattle.hub_keys.specs.declared.key.Key.{Key}
 use Rattle.law_translator.specs.Plans.{Plan, laid, laid_at, sum_at, Fits}
@@ -65,11 +65,14 @@ pub due_fits : (p : Plan) → Fits p → (v : ℕ) (ks : List Key) → AllIn ks 
 due_fits p fits v ks all d =
     chain _ _ _ (subset (λ k. due_at p k v) ks p.keys all d) (total_due p v p.keys) (fits (v - 1))
 
-filled : (a s b t v : ℕ) → s ≤ t → (min a (188 * (v - s)) - min a (188 * (v - 1 - s))) + ((min b (188 * (v - t)) - min b (188 * (v - 1 - t))) + 0) ≤ 188 → 0 < min b (188 * (v - t)) - min b (188 * (v - 1 - t)) → a ≤ min a (188 * (v - s))
+filled : (a s b t v : ℕ) → s ≤ t
+    → (min a (188 * (v - s)) - min a (188 * (v - 1 - s))) + ((min b (188 * (v - t)) - min b (188 * (v - 1 - t))) + 0) ≤ 188
+    → 0 < min b (188 * (v - t)) - min b (188 * (v - 1 - t)) → a ≤ min a (188 * (v - s))
 filled a s b t v before fits some = omega arith
 
 -- where a later one has something due, an earlier one is laid whole
-pub whole_before : (p : Plan) → Fits p → (v : ℕ) (k x : Key) → In k p.keys → In x p.keys → (k ≡ x → ⊥) → p.first k ≤ p.first x → 0 < due_at p x v → p.times k ≤ laid p k v
+pub whole_before : (p : Plan) → Fits p → (v : ℕ) (k x : Key) → In k p.keys → In x p.keys → (k ≡ x → ⊥) → p.first k ≤ p.first x
+    → 0 < due_at p x v → p.times k ≤ laid p k v
 whole_before p fits v k x mk mx apart before some =
     let none : In k (x ∷ []) → ⊥ = λ m. elim m [ inl e ↦ apart e | inr n ↦ n ] in
     let two = due_fits p fits v (k ∷ x ∷ []) (mk, (mx, tt)) (none, (λ n. n, tt)) in
@@ -87,7 +90,8 @@ some_or_none : (n : ℕ) → (0 < n) ⊎ (n ≡ 0)
 some_or_none n = elim (cases_lt 0 n) [ inl l ↦ inl l | inr m ↦ inr (omega arith) ]
 
 -- either the later ones have nothing due, or this one is laid whole
-pub later : (p : Plan) → Fits p → (v : ℕ) (k : Key) (ks : List Key) → In k p.keys → AllIn ks p.keys → (In k ks → ⊥) → AllLater p k ks → (total (λ j. due_at p j v) ks ≡ 0) ⊎ (p.times k ≤ laid p k v)
+pub later : (p : Plan) → Fits p → (v : ℕ) (k : Key) (ks : List Key) → In k p.keys → AllIn ks p.keys → (In k ks → ⊥) → AllLater p k ks
+    → (total (λ j. due_at p j v) ks ≡ 0) ⊎ (p.times k ≤ laid p k v)
 later p fits v k [] mk all not sorted = inl refl
 later p fits v k (x ∷ xs) mk all not sorted =
     elim (some_or_none (due_at p x v)) [
@@ -116,3 +120,51 @@ sorted_snoc p u x [] sorted all e = (tt, tt)
 sorted_snoc p u x (y ∷ ys) sorted all e =
     let le : p.first y ≤ p.first x = omega (arith, all.0) in
     (all_later_snoc p y x ys sorted.0 le, sorted_snoc p u x ys sorted.1 all.1 e)
+
+-- ---- what is laid in all
+
+one_more : (a b c d e f : ℕ) → a ≡ b + c → d ≡ e + f → a + d ≡ b + e + (c + f)
+one_more a b c d e f h i = omega (arith, h, i)
+
+rises_by : (p : Plan) (k : Key) (u : ℕ) → laid p k (suc u) ≡ laid p k u + laid_at p k u
+rises_by p k u = omega arith
+
+laid_step : (p : Plan) (u : ℕ) (ks : List Key) → total (λ k. laid p k (suc u)) ks ≡ total (λ k. laid p k u) ks + sum_at p u ks
+laid_step p u [] = refl
+laid_step p u (k ∷ ks) = one_more _ _ _ _ _ _ (rises_by p k u) (laid_step p u ks)
+
+laid_none : (p : Plan) (ks : List Key) → total (λ k. laid p k 0) ks ≡ 0
+laid_none p [] = refl
+laid_none p (k ∷ ks) = omega (arith, laid_none p ks)
+
+laid_all : (p : Plan) → Fits p → (u : ℕ) → total (λ k. laid p k u) p.keys ≤ 188 * u
+laid_all p fits zero = omega (arith, laid_none p p.keys)
+laid_all p fits (suc u) = risen _ _ _ u (laid_step p u p.keys) (fits u) (laid_all p fits u)
+  where
+    risen : (a b c u : ℕ) → a ≡ b + c → c ≤ 188 → b ≤ 188 * u → a ≤ 188 * suc u
+    risen a b c u h i j = omega arith
+
+-- in the first microframes at most 188 each
+pub laid_fits : (p : Plan) → Fits p → (u : ℕ) (ks : List Key) → AllIn ks p.keys → Distinct ks → total (λ k. laid p k u) ks ≤ 188 * u
+laid_fits p fits u ks all d = within _ _ _ (subset (λ k. laid p k u) ks p.keys all d) (laid_all p fits u)
+  where
+    within : (a b c : ℕ) → a ≤ b → b ≤ c → a ≤ c
+    within a b c h i = omega arith
+
+-- there are few: each has nine byte-times or more, and eight microframes have 1,504
+abbrev pub AreSome : Plan → List Key → Type 0
+AreSome p [] = Unit {0}
+AreSome p (k ∷ ks) = (9 ≤ p.times k) × (p.first k < 8) × AreSome p ks
+
+each_nine : (p : Plan) (ks : List Key) → AreSome p ks → 9 * length ks ≤ total (λ k. laid p k 8) ks
+each_nine p [] some = omega arith
+each_nine p (k ∷ ks) some = let rest = each_nine p ks some.2 in let t = some.0 in let f = some.1 in nine (p.times k) (p.first k) (length ks) _ t f rest
+  where
+    nine : (t f n r : ℕ) → 9 ≤ t → f < 8 → 9 * n ≤ r → 9 * suc n ≤ min t (188 * (8 - f)) + r
+    nine t f n r a b c = omega arith
+
+pub few : (p : Plan) → Fits p → (ks : List Key) → AllIn ks p.keys → Distinct ks → AreSome p ks → length ks < 256
+few p fits ks all d some = few_keys _ _ (each_nine p ks some) (laid_fits p fits 8 ks all d)
+  where
+    few_keys : (n a : ℕ) → 9 * n ≤ a → a ≤ 188 * 8 → n < 256
+    few_keys n a h i = omega arith

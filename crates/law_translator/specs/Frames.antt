@@ -22,6 +22,7 @@ pub data Event : Type 0 where
   Complete : (key : Key) → Event  -- a complete-split comes
   Work : (replies : List Reply) → Event  -- the next microframe begins: the pipeline works for the one that ended
   Drop : (plan : Plan) → Event  -- after the work at a frame's begin the entries are dropped; the frame has this plan
+  Replan : (plan : Plan) → Event  -- endpoints are placed, or given back, in mid-frame: the rest of the frame has this plan
   Clear : Event  -- the pipeline is emptied
 
 -- an entry, and how many microframes after its first brought it no part while it lacked its last
@@ -73,6 +74,7 @@ next f (Start ask bytes stuff) =
 next f (Complete key) = record f { watched = with_first (is_of key) (changed given) f.watched }
 next f (Work replies) = record f { now = f.now + 1; watched = worked_all budget replies f.watched }
 next f (Drop plan) = record { plan = plan; now = 0; watched = [] }
+next f (Replan plan) = record f { plan = plan }
 next f Clear = record f { watched = [] }
 
 abbrev pub run : List Event → Frame → Frame
@@ -85,6 +87,7 @@ contents_after (Start ask bytes stuff) es = started ask bytes stuff es
 contents_after (Complete key) es = completed key es
 contents_after (Work replies) es = turned_all budget replies es
 contents_after (Drop plan) es = []
+contents_after (Replan plan) es = es
 contents_after Clear es = []
 
 -- a frame begins with an empty pipeline

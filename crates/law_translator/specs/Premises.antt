@@ -1,7 +1,8 @@
 -- Starts that come from a plan that fits, and what the translator has done for them.
 --     Follows p now ask ..    a start is one that the plan calls for
---     FairAll                 each start of a run is, no endpoint has stuffed bits, and each plan fits
---     KeepsUp, IsThere        the work that is laid is done; what is laid whole is answered
+--     FairAll most            each start of a run is, of at most so many stuffed bits in 36, and each plan fits
+--     KeepsUp                 the work that is laid is done; what is laid whole is answered
+--     KeepsUpStuffed          the same with stuffed bits: one microframe later
 use Rattle.std.specs.Prelude.{◌≡◌, ◌⊎◌, ℕ, ◌+◌, ◌-◌, ◌*◌, ◌≤◌, ◌<◌, min, true, false, List, [], ◌∷◌, length, Option, Some, None}
 use Rattle.std.specs.List.{find}
 use Rattle.usb_base.specs.declared.packets.Ask.{Ask}
@@ -20,7 +21,7 @@ use Rattle.tt_pipeline.specs.Answers.{answer_row, answer_of}
 use Rattle.tt_pipeline.specs.Starting.{has_key, start_row}
 use Rattle.tt_pipeline.specs.Work.{asked_part, called_for}
 use Rattle.law_translator.specs.Plans.{Plan, laid, Fits}
-use Rattle.law_translator.specs.Frames.{Event, Start, Complete, Work, Drop, Clear, Watched, Frame, entries_of, next}
+use Rattle.law_translator.specs.Frames.{Event, Start, Complete, Work, Drop, Replan, Clear, Watched, Frame, entries_of, next}
 
 -- k is one of the keys
 abbrev pub In : Key → List Key → Type 0
@@ -68,17 +69,29 @@ FollowsRow Forgotten p now ask n es = Unit {0}
 abbrev pub Follows : Plan → ℕ → Ask → ℕ → List Entry → Type 0
 Follows p now ask n es = FollowsRow (start_row ask n es) p now ask n es
 
-abbrev pub Fair : Event → Frame → Type 0
-Fair (Start ask bytes stuff) f = (stuff ≡ 0) × Follows f.plan f.now ask (length bytes) (entries_of f.watched)
-Fair (Complete key) f = Unit {0}
-Fair (Work replies) f = Unit {0}
-Fair (Drop plan) f = Fits plan
-Fair Clear f = Unit {0}
+-- the key is laid in q as it is in p
+pub record IsLaidAs (p q : Plan) (k : Key) : Type 0 where
+  pub there : In k q.keys
+  pub first : q.first k ≡ p.first k
+  pub times : q.times k ≡ p.times k
 
--- each start of the run is one that the plan of its frame calls for, with no stuffed bits, and each plan fits
-abbrev pub FairAll : List Event → Frame → Type 0
-FairAll [] f = Unit {0}
-FairAll (event ∷ events) f = Fair event f × FairAll events (next f event)
+abbrev pub AllLaidAs : Plan → Plan → List Watched → Type 0
+AllLaidAs p q [] = Unit {0}
+AllLaidAs p q (w ∷ ws) = IsLaidAs p q w.entry.key × AllLaidAs p q ws
+
+abbrev pub Fair : ℕ → Event → Frame → Type 0
+Fair most (Start ask bytes stuff) f = (stuff ≤ most) × Follows f.plan f.now ask (length bytes) (entries_of f.watched)
+Fair most (Complete key) f = Unit {0}
+Fair most (Work replies) f = Unit {0}
+Fair most (Drop plan) f = Fits plan
+Fair most (Replan plan) f = Fits plan × AllLaidAs f.plan plan f.watched
+Fair most Clear f = Unit {0}
+
+-- each start of the run is one that the plan calls for, of an endpoint whose stuffed bits make 36 bytes longer by at most so
+-- many; each plan fits, and a plan that changes in mid-frame lays what has an entry as before
+abbrev pub FairAll : ℕ → List Event → Frame → Type 0
+FairAll most [] f = Unit {0}
+FairAll most (event ∷ events) f = Fair most event f × FairAll most events (next f event)
 
 -- ---- what is promised
 
@@ -95,6 +108,20 @@ pub record KeepsUp (p : Plan) (now : ℕ) (w : Watched) : Type 0 where
 abbrev pub AllKeepUp : Plan → ℕ → List Watched → Type 0
 AllKeepUp p now [] = Unit {0}
 AllKeepUp p now (w ∷ ws) = KeepsUp p now w × AllKeepUp p now ws
+
+-- with stuffed bits, up to one in six: an entry of which all is laid up to the last microframe but two has had all that its
+-- starts call for (7.1.9, 11.18)
+pub record KeepsUpStuffed (p : Plan) (now : ℕ) (w : Watched) : Type 0 where
+  pub no_more : w.entry.done ≤ called_for w.entry
+  pub whole : now ≤ 8 → p.times w.entry.key ≤ laid p w.entry.key (now - 2) → w.entry.done ≡ called_for w.entry
+  -- and an interrupt's answer is there
+  pub answered :
+      w.entry.ask.kind ≡ Interrupt → w.entry.heard.whole ≡ true → now ≤ 8 → p.times w.entry.key ≤ laid p w.entry.key (now - 2)
+      → answer_row w.entry ≡ Result
+
+abbrev pub AllKeepUpStuffed : Plan → ℕ → List Watched → Type 0
+AllKeepUpStuffed p now [] = Unit {0}
+AllKeepUpStuffed p now (w ∷ ws) = KeepsUpStuffed p now w × AllKeepUpStuffed p now ws
 
 -- an interrupt's answer that was there is there, and the same
 abbrev pub Stays : Watched → Watched → Type 0

@@ -4,7 +4,7 @@ ghost use Rattle.usb_base.specs.declared.packets.Reply.{Reply};
 ghost use Rattle.tt_pipeline.specs.Working.{Works, turned_all};
 ghost use Rattle.tt_pipeline.specs.declared.entry.Entry.{Entry};
 ghost use Rattle.law_translator.specs.Frames.{Event, Frame, entries_of, run, run_contents};
-ghost use Rattle.law_translator.specs.Laws.{KeepsUpWithPlans, AnswersStay, WorksByFunctions};
+ghost use Rattle.law_translator.specs.Laws.{KeepsUpWithPlans, KeepsUpWithBits, AnswersInTime, AnswersStay, WorksByFunctions};
 
 use usb_base::Wire;
 
@@ -13,6 +13,23 @@ use usb_base::Wire;
 /// byte-times in a microframe, each entry has had what is laid for it. An interrupt that is laid whole has its answer there.
 pub fn a_plan_that_fits_is_done()
     ensures { KeepsUpWithPlans }
+{}
+
+/// With stuffed bits, at most one in six: an entry of which all is laid up to the last microframe but two has had all
+/// that its starts call for, and an interrupt has its answer (7.1.9).
+pub fn a_stuffed_plan_is_done_one_microframe_later()
+    ensures { KeepsUpWithBits }
+{}
+
+/// Where no endpoint has stuffed bits, the result of an interrupt is there from the second microframe after its last
+/// laid one on, and so are the last bytes of an isochronous IN.
+pub fn answers_are_there()
+    ensures { AnswersInTime 0 1 }
+{}
+
+/// With stuffed bits they are there one microframe later: by the last complete-split that a plan has for them.
+pub fn stuffed_answers_are_there()
+    ensures { AnswersInTime 6 2 }
 {}
 
 /// The answer of an interrupt that is there stays: the work of a microframe leaves it as it is, until the entries are

@@ -50,7 +50,7 @@ use Rattle.law_descriptors.specs.Meeting.{met}
 use Rattle.law_descriptors.proofs.Rings.{other_off}
 use Rattle.law_descriptors.proofs.Standing.{both_off}
 use Rattle.law_world_streams.specs.Feeding.{there_of}
-use Rattle.law_world_streams.specs.left_reports.Leaver.{IsLeaver}
+use Rattle.law_world_streams.specs.left_reports.Leaver.{IsLeaver, IsToldGone}
 use Rattle.law_world_streams.proofs.Told.{HasBulkThere, there_on, there_by, bulk_there, there_same}
 use Rattle.law_world_streams.proofs.lemmas.left_reports.Before.{before_told}
 use Rattle.law_world_streams.proofs.lemmas.left_reports.Gone.{release_is_told}
@@ -373,6 +373,18 @@ module _ (s : Standing) (m : Lines) (w : World) (k : IsMixedAt s w) (g : IsTelli
 
   abbrev At : StructureSets → Hand → Type 0
   At ps h = ToldStands (queued (driver_next w).driver) h ps m.reported
+
+  -- what is told of the one that is given back
+  pub gone_told : IsToldGone d (given_by (told_parts w) e d) e x (m.acc (32 * x.queue))
+  gone_told =
+      (release_is_told (s.order n) s.parts (in_hand s) (record (told_parts w) { driver = d }) e x (m.acc n) m.reported leaver reports_it
+      (before_told (queued w.driver) d (in_hand s) s.parts m.reported what.before g.told)).1
+
+  pub gone_tells : TellsAlike (given_by (told_parts w) e d) (queued (driver_next w).driver)
+  gone_tells = what.tells
+
+  pub gone_before : IsAsBefore (queued w.driver) d
+  gone_before = what.before
 
   same_in_hand : in_hand t ≡ in_hand s
   same_in_hand = ap (λ (h : Hand). joined h t.frame) without.hand ∙ ap (λ (f : FrameHand). joined s.hand f) without.frame

@@ -1,4 +1,4 @@
-use crate::of_ehci_cli::program;
+use crate::of_app_machine::program;
 use app_ends::Status;
 use std::alloc::Global;
 use std::process::Abort;

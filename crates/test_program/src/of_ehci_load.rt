@@ -1,4 +1,4 @@
-use crate::of_ehci_cli::program_of;
+use crate::of_app_machine::program_of;
 use app_ends::Status;
 use std::alloc::Global;
 use std::test::Fail;

@@ -1,0 +1,4 @@
+pub mod Refusals
+pub mod Hearing
+pub mod Resting
+pub mod Telling

@@ -1,0 +1,5 @@
+pub mod Refused
+pub mod Heard
+pub mod Rests
+pub mod Told
+pub mod Pending

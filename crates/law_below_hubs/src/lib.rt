@@ -1,0 +1,16 @@
+//! Pipes below hubs, on the bus of a script (USB 2.0, 8.6, 11.14 and 11.18).
+//!
+//! - `buses`: the bus below a hub is one of the same laws as the high-speed bus (`law_ring`, `law_devices`); an endpoint keeps to them on
+//!   both, wherever its device is.
+//! - `splitting`: each split transaction of the host is a step of what the named hub has of its key.
+//! - `work`: where a microframe begins, the work of all hubs is a few events of the machine of a pipe or of a request
+//!   (`law_translated`).
+//! - `worked`: start-splits and the microframes after them, computed.
+//!
+//! The crate has no code of its own: each function is a law, and its body is empty.
+#![tactic(auto)]
+
+pub mod buses;
+pub mod splitting;
+pub mod work;
+pub mod worked;

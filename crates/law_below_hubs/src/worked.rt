@@ -1,0 +1,54 @@
+//! Worked starts below a hub, which the check computes.
+ghost use Rattle.std.specs.Prelude.{◌≡◌, [], ◌∷◌, Some, None};
+ghost use Rattle.law_below_hubs.specs.InWork.{sender_of_line};
+ghost use Rattle.law_below_hubs.specs.Raised.{sender_below};
+ghost use Rattle.law_below_hubs.specs.Seated.{sender_at, sender_on};
+ghost use Rattle.law_below_hubs.specs.WorkedBelow.{StartIsTaken, ResultIsThere, OtherKindBreaks, NamesTheHub, wrong, before, after, enabled_below, disabled_below};
+ghost use Rattle.law_below_hubs.specs.WorkedControl as read;
+ghost use Rattle.law_below_hubs.specs.WorkedPut as put;
+ghost use Rattle.bus_wire.specs.Samples.{opened, stepped, Begins};
+
+/// A start that is taken, and the result that is there a microframe later; one of another kind breaks the premises, and the device sends.
+pub fn a_start_comes_true()
+    ensures taken { StartIsTaken }
+    ensures there { ResultIsThere }
+    ensures names { NamesTheHub }
+    ensures breaks { OtherKindBreaks }
+    ensures sends { sender_at (stepped wrong (Begins 1)) 3 1 ≡ Some (sender_of_line after) }
+{}
+
+/// An endpoint behind an enabled port is on the bus below, and behind a disabled one it isn't, though it has what it had.
+pub fn a_port_is_disabled()
+    ensures enabled { sender_below enabled_below 3 1 ≡ Some (sender_of_line before) }
+    ensures disabled { sender_below disabled_below 3 1 ≡ None }
+    ensures has { sender_on disabled_below 3 1 ≡ Some (sender_of_line before) }
+{}
+
+/// A start that brings a byte is taken, and the device has the byte a microframe later; data without a toggle break the premises.
+pub fn a_put_comes_true()
+    ensures taken { put.StartIsTaken }
+    ensures there { put.ResultIsThere }
+    ensures breaks { put.NoToggleBreaks }
+{}
+
+/// The SETUP, the data and the status of a read: each is taken, and its result is there a microframe later. A start of another kind breaks
+/// the premises, and one that names a hub which isn't there does nothing.
+pub fn a_read_comes_true()
+    ensures setup { read.SetupComesTrue }
+    ensures moved { read.DataComeTrue }
+    ensures status { read.StatusComesTrue }
+    ensures hears { read.HostHears }
+    ensures breaks { read.OtherKindBreaks }
+    ensures no_hub { read.NoHubHears }
+{}
+
+/// The premises of the work of a control endpoint, at the SETUP and at the data of a read; an IN that is asked while the SETUP still is
+/// breaks them, and so do a host that has no room for the data, and one that asks something else.
+pub fn a_read_is_in_turn()
+    ensures setup { read.SetupIsInTurn }
+    ensures moved { read.DataAreInTurn }
+    ensures breaks { read.OutOfTurnBreaks }
+    ensures too_long { read.TooLongBreaks }
+    ensures stands { read.SetupStands }
+    ensures wrong { read.WrongAskBreaks }
+{}

@@ -1,0 +1,15 @@
+pub mod lemmas
+pub mod Answering
+pub mod Visiting
+pub mod Fields
+pub mod Turning
+pub mod Held
+pub mod Linked
+pub mod FetchedKinds
+pub mod Fetched
+pub mod Aside
+pub mod Stages
+pub mod Moments
+pub mod Coming
+pub mod Together
+pub mod Sampled

@@ -1,0 +1,2 @@
+pub mod slots
+pub mod repeats

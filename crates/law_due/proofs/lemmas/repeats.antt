@@ -1,0 +1,15 @@
+pub mod Lists
+pub mod DeviceWords
+pub mod PipelineWords
+pub mod HubWords
+pub mod Heard
+pub mod Alike
+pub mod SaidTexts
+pub mod HubDrafts
+pub mod Opening
+pub mod Once
+pub mod BusMoments
+pub mod Endpoints
+pub mod AskedHeads
+pub mod RepeatMoments
+pub mod Sampled

@@ -1,0 +1,4 @@
+pub mod Laws
+pub mod Samples
+pub mod slots
+pub mod repeats

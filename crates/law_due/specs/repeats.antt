@@ -1,0 +1,5 @@
+pub mod Words
+pub mod Hearing
+pub mod WordLaws
+pub mod RepeatLaws
+pub mod Samples

@@ -1,0 +1,5 @@
+pub mod Asked
+pub mod Heard
+pub mod HeardBelow
+pub mod Determined
+pub mod Samples

@@ -1,0 +1,3 @@
+pub mod HubPlans
+pub mod Laws
+pub mod Samples

@@ -1,0 +1,12 @@
+pub mod Counting
+pub mod Gone
+pub mod Harvested
+pub mod Reading
+pub mod Events
+pub mod Described
+pub mod Commands
+pub mod Making
+pub mod Words
+pub mod Storing
+pub mod Resting
+pub mod Samples

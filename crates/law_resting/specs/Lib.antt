@@ -1,0 +1,4 @@
+pub mod Counted
+pub mod Making
+pub mod Storing
+pub mod Worked

@@ -1,0 +1,5 @@
+pub mod Ready
+pub mod Counting
+pub mod Closings
+pub mod Moments
+pub mod Texts

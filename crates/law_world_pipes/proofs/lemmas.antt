@@ -1,0 +1,2 @@
+pub mod high_streams
+pub mod puts

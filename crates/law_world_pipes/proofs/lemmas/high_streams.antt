@@ -1,0 +1,9 @@
+pub mod AfterRuns
+pub mod Joining
+pub mod Kept
+pub mod Names
+pub mod Opened
+pub mod Lives
+pub mod Reporting
+pub mod Older
+pub mod Sampling

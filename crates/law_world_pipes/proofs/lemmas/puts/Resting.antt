@@ -1,0 +1,65 @@
+-- A transaction that waits for its write-back is one of a queue head that works, whichever walk made it: so of one that rests nothing is in
+-- hand.
+use Rattle.std.proofs.Common.{◌≡◌, ◌≢◌, ℕ, Bool, true, Option, Some, ap, refl, sym, subst, ◌∙◌, inl}
+use Rattle.qh_qtd.specs.declared.queue_head.Qh.{Qh}
+use Rattle.hc_core.specs.declared.controller.MicroframePart.{MicroframePart}
+use Rattle.hc_core.specs.declared.controller.MicroframePart.TheVariants.{Over, Periodic, Asynchronous}
+use Rattle.hc_core.specs.Controller.{Content, walk_place, frame_place}
+use Rattle.claims_base.specs.Controller.{Base}
+use Rattle.law_structures.specs.lent_structures.Structures.{QueueHead, StructureSets}
+use Rattle.law_ring.specs.Hand.{Copy, Hand, Empty, Copied, Settled, Stale}
+use Rattle.law_ring.specs.Ring.{IsInHand}
+use Rattle.law_frames.specs.FrameHand.{FrameHand, Nothing, OfQueue, OfSettled, OfItd, OfSitd, QueueSettlement}
+use Rattle.law_frames.specs.Frame.{IsInFrame, IsFrameWalk}
+use Rattle.law_frames.specs.Met.{Kind}
+use Rattle.law_controller.specs.frame_control.Both.{RunsBoth}
+use Rattle.law_controller.specs.frame_control.Joined.{joined}
+use Rattle.law_queues.specs.whole_sends.Whole.{EndsWhole}
+
+over_not_periodic : Over ≡ Periodic → ⊥
+over_not_periodic e = cc
+
+asynchronous_not_periodic : Asynchronous ≡ Periodic → ⊥
+asynchronous_not_periodic e = cc
+
+module _ (base : Base) (member : ℕ → Bool) (met : ℕ → Option Kind) (parts : StructureSets) (hand : Hand) (frame : FrameHand) (c : Content)
+    (k : RunsBoth base member met parts hand frame c) (n : ℕ)
+    (rests : (q : Qh) → parts n n ≡ Some (QueueHead q) → q.token.active ≡ true → ⊥) where
+  away : (copy : Copy) → parts copy.at copy.at ≡ Some (QueueHead copy.queue) → copy.queue.token.active ≡ true → copy.at ≢ n
+  away copy here works same = rests copy.queue (ap (λ (i : ℕ). parts i i) (sym same) ∙ here) works
+
+  of_ring : (h : Hand) → hand ≡ h → EndsWhole h n
+  of_ring Empty is = tt
+  of_ring (Copied copy) is = tt
+  of_ring (Settled copy z) is =
+      let both = subst (IsInHand member parts (walk_place c).walk.reply) is k.ring.in_hand in
+      λ at off goes. absurd (away copy both.0.here both.1.works at)
+  of_ring (Stale at q) is = tt
+
+  -- outside the periodic part the frames have none
+  in_periodic : (copy : Copy) (z : QueueSettlement) (made : ℕ) → frame ≡ OfSettled copy z made → (part : MicroframePart)
+      → c.control.part ≡ part
+      → c.control.part ≡ Periodic
+  in_periodic copy z made is Periodic part = part
+  in_periodic copy z made is Over part = absurd (some (sym is ∙ k.outside (inl (λ periodic. over_not_periodic (sym part ∙ periodic)))))
+    where
+      some : OfSettled copy z made ≡ Nothing → ⊥
+      some e = cc
+  in_periodic copy z made is Asynchronous part = absurd (some (sym is ∙ k.outside
+      (inl (λ periodic. asynchronous_not_periodic (sym part ∙ periodic)))))
+    where
+      some : OfSettled copy z made ≡ Nothing → ⊥
+      some e = cc
+
+  of_frame : (f : FrameHand) → frame ≡ f → EndsWhole (joined hand f) n
+  of_frame Nothing is = of_ring hand refl
+  of_frame (OfQueue copy made) is = tt
+  of_frame (OfSettled copy z made) is =
+      let walk : IsFrameWalk met parts frame (frame_place c) = k.walk (in_periodic copy z made is c.control.part refl) in
+      let both = subst (IsInFrame met parts (frame_place c).walk.got (frame_place c).walk.reply) is walk.in_hand in
+      λ at off goes. absurd (away copy both.0.here both.1.came_to.works at)
+  of_frame (OfItd copy) is = of_ring hand refl
+  of_frame (OfSitd copy) is = of_ring hand refl
+
+  pub resting_ends : EndsWhole (joined hand frame) n
+  resting_ends = of_frame frame refl

@@ -1,0 +1,7 @@
+pub mod Keeping
+pub mod Names
+pub mod Opened
+pub mod Whole
+pub mod Reports
+pub mod Older
+pub mod Samples

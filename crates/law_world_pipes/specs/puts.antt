@@ -1,0 +1,4 @@
+pub mod Sent
+pub mod SentLaws
+pub mod Takers
+pub mod Samples

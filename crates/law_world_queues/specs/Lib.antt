@@ -1,0 +1,3 @@
+pub mod Onward
+pub mod OnwardLaws
+pub mod Samples
