@@ -17,3 +17,15 @@ pub mod Reach
 pub mod Releases
 pub mod Links
 pub mod Owners
+pub mod SoFar
+pub mod Coming
+pub mod Due
+pub mod Unfinished
+pub mod Slots
+pub mod Losses
+pub mod HighStreams
+pub mod Refused
+pub mod Heard
+pub mod Rests
+pub mod Told
+pub mod Pending

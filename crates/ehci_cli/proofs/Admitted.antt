@@ -4,11 +4,11 @@ use Rattle.script_fits.proofs.Texts.{spelled_fits}
 use Rattle.bus_world.specs.Budgets.{AdmitsThroughout}
 use Rattle.bus_world.proofs.Budgeted.{script_admits}
 use Rattle.claims_world.specs.Lent.{KeepsToLentThroughout}
-use Rattle.law_world_memory.proofs.lemmas.worlds_keep_to_lent.Moments.{script_keeps}
+use Rattle.law_world.proofs.lemmas.memory.lemmas.worlds_keep_to_lent.Moments.{script_keeps}
 use Rattle.claims_world.specs.Owned.{OwnsItsBlocksThroughout}
-use Rattle.law_world_memory.proofs.lemmas.owned_blocks.Worlds.{script_owns}
+use Rattle.law_world.proofs.lemmas.memory.lemmas.owned_blocks.Worlds.{script_owns}
 use Rattle.claims_world.specs.Schedule.{KeepsScheduleThroughout}
-use Rattle.law_world_memory.proofs.lemmas.world_frames.Moments.{script_scheduled}
+use Rattle.law_world.proofs.lemmas.memory.lemmas.world_frames.Moments.{script_scheduled}
 use Rattle.app_ends.specs.Input.{input_of}
 use Rattle.claims_world.specs.Scripts.{OfEachScript}
 

@@ -2,12 +2,12 @@
 -- lines, and what is pending.
 use Rattle.std.proofs.Common.{ℕ, List, Option, Some, None}
 use Rattle.claims_world.specs.Scripts.{OfEachScript}
-use Rattle.claims_world_answers.specs.Heard.{HearsThroughout}
-use Rattle.claims_world_answers.specs.Pending.{PendingIsCounted}
-use Rattle.claims_world_answers.specs.Refused.{CommandsHaveCauses}
-use Rattle.claims_world_answers.specs.Rests.{RestsThroughout}
-use Rattle.claims_world_answers.specs.Told.{LinesHaveReasons}
-use Rattle.law_world_answers.proofs.Texts.{texts_have_causes, texts_are_heard, texts_rest_when_done, texts_tell_for_reasons, texts_count_pending}
+use Rattle.claims_world.specs.Heard.{HearsThroughout}
+use Rattle.claims_world.specs.Pending.{PendingIsCounted}
+use Rattle.claims_world.specs.Refused.{CommandsHaveCauses}
+use Rattle.claims_world.specs.Rests.{RestsThroughout}
+use Rattle.claims_world.specs.Told.{LinesHaveReasons}
+use Rattle.law_reports.proofs.lemmas.answers.Texts.{texts_have_causes, texts_are_heard, texts_rest_when_done, texts_tell_for_reasons, texts_count_pending}
 use Rattle.app_ends.specs.Input.{input_of}
 
 pub source_has_causes : (left : Option (List ℕ)) → OfEachScript CommandsHaveCauses left

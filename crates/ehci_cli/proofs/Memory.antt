@@ -6,11 +6,11 @@ use Rattle.claims_world.specs.Links.{KeepsLinks}
 use Rattle.claims_world.specs.Reach.{ReachesLentThroughout}
 use Rattle.claims_world.specs.Owners.{KeepsToOwnersThroughout}
 use Rattle.claims_world.specs.Releases.{GivesBackLast}
-use Rattle.law_world_memory.proofs.Together.{texts_keep_memory}
-use Rattle.law_world_memory.proofs.ReachMoments.{texts_reach_lent}
-use Rattle.law_world_memory.proofs.OwnMoments.{texts_keep_to_owners}
-use Rattle.law_world_memory.proofs.LetGo.{scripts_give_back_last}
-use Rattle.law_world_memory.proofs.LinksHeld.{texts_keep_links}
+use Rattle.law_world.proofs.lemmas.memory.Together.{texts_keep_memory}
+use Rattle.law_world.proofs.lemmas.memory.ReachMoments.{texts_reach_lent}
+use Rattle.law_world.proofs.lemmas.memory.OwnMoments.{texts_keep_to_owners}
+use Rattle.law_world.proofs.lemmas.memory.LetGo.{scripts_give_back_last}
+use Rattle.law_world.proofs.lemmas.memory.LinksHeld.{texts_keep_links}
 use Rattle.app_ends.specs.Input.{input_of}
 use Rattle.claims_world.specs.Scripts.{OfEachScript}
 

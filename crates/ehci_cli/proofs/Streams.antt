@@ -4,20 +4,20 @@ use Rattle.script_types.specs.declared.scripts.Script.{Script}
 use Rattle.claims_world.specs.Streams.{report_of, AreTakenStreams, AreSentStreams, KeepsStreamsThroughout, KeepsStreams}
 use Rattle.claims_report.specs.Reports.{WholeReport}
 use Rattle.claims_report.specs.Streams.{AreRightStreams}
-use Rattle.law_world_streams.proofs.lemmas.right_reports.Printed.{report_printed}
+use Rattle.law_world.proofs.lemmas.streams.lemmas.right_reports.Printed.{report_printed}
 use Rattle.bus_wire.specs.Bus.{fixed_of}
 use Rattle.bus_world.specs.World.{Standing}
 use Rattle.bus_world.specs.Opening.{opening_world}
 use Rattle.bus_world.specs.Orders.{OrderedWorld, Leads, at_place, orders_of}
 use Rattle.bus_world.specs.Budgets.{moment}
-use Rattle.law_world_streams.proofs.lemmas.sending_worlds.Moments.{texts_keep_streams}
-use Rattle.claims_streams.specs.HighStreams.{KeepsHighStreams}
-use Rattle.law_world_pipes.proofs.lemmas.high_streams.AfterRuns.{texts_keep_high_streams}
+use Rattle.law_world.proofs.lemmas.streams.lemmas.sending_worlds.Moments.{texts_keep_streams}
+use Rattle.claims_world.specs.HighStreams.{KeepsHighStreams}
+use Rattle.law_reports.proofs.lemmas.pipes.lemmas.high_streams.AfterRuns.{texts_keep_high_streams}
 use Rattle.app_ends.specs.Input.{input_of}
 use Rattle.bus_world.specs.Runs.{IsWholeRunOf}
 use Rattle.claims_world.specs.Ends.{IsEndedOnce, EndsOnceThroughout, EndsOnce}
 use Rattle.claims_world.specs.Scripts.{OfEachScript, OfEachAsynchronousScript}
-use Rattle.law_world_lines.proofs.Ended.{texts_end_once}
+use Rattle.law_reports.proofs.lemmas.lines.Ended.{texts_end_once}
 
 -- what is so of the report of each moment with no order left is so of that after the run
 module _ (so : WholeReport → Type 0) where

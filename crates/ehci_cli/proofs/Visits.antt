@@ -3,18 +3,18 @@ use Rattle.std.proofs.Common.{ℕ, List, Option, Some, None}
 use Rattle.claims_world.specs.Visits.{KeepsVisits}
 use Rattle.claims_world.specs.WithinLoad.{PaysWithinLoad}
 use Rattle.claims_world.specs.InTime.{ArriveInTime}
-use Rattle.law_world_visits.proofs.Together.{texts_keep_visits}
-use Rattle.claims_due.specs.Due.{KeepsDue}
-use Rattle.claims_due.specs.Losses.{RepeatAfterLosses}
-use Rattle.law_due.proofs.lemmas.repeats.RepeatMoments.{texts_repeat_after_losses}
-use Rattle.claims_due.specs.Slots.{SlotsAreDone}
-use Rattle.claims_due.specs.Unfinished.{KeepsToWork}
-use Rattle.law_due.proofs.Together.{texts_keep_due}
-use Rattle.law_due.proofs.lemmas.slots.Moments.{texts_serve_slots}
-use Rattle.law_world_queues.proofs.Copies.{texts_keep_to_work}
-use Rattle.law_world_time.proofs.PaymentTimes.{texts_pay, texts_in_time}
+use Rattle.law_microframes.proofs.lemmas.visits.Together.{texts_keep_visits}
+use Rattle.claims_world.specs.Due.{KeepsDue}
+use Rattle.claims_world.specs.Losses.{RepeatAfterLosses}
+use Rattle.law_microframes.proofs.lemmas.due.lemmas.repeats.RepeatMoments.{texts_repeat_after_losses}
+use Rattle.claims_world.specs.Slots.{SlotsAreDone}
+use Rattle.claims_world.specs.Unfinished.{KeepsToWork}
+use Rattle.law_microframes.proofs.lemmas.due.Together.{texts_keep_due}
+use Rattle.law_microframes.proofs.lemmas.due.lemmas.slots.Moments.{texts_serve_slots}
+use Rattle.law_reports.proofs.lemmas.queues.Copies.{texts_keep_to_work}
+use Rattle.law_microframes.proofs.lemmas.time.PaymentTimes.{texts_pay, texts_in_time}
 use Rattle.claims_world.specs.Microframes.{MicroframesEnd}
-use Rattle.law_world_time.proofs.TurnTexts.{texts_end}
+use Rattle.law_microframes.proofs.lemmas.time.TurnTexts.{texts_end}
 use Rattle.app_ends.specs.Input.{input_of}
 use Rattle.claims_world.specs.Scripts.{OfEachScript}
 

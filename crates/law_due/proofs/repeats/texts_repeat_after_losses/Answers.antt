@@ -1,5 +1,0 @@
-use Rattle.law_due.proofs.lemmas.repeats.RepeatMoments.{texts_repeat_after_losses}
-use Rattle.law_due.proofs.repeats.texts_repeat_after_losses.Goals as goal
-
-pub returns : goal.returns
-returns c = texts_repeat_after_losses

@@ -1,8 +1,0 @@
-use Rattle.law_due.proofs.lemmas.repeats.Alike.{begins_keep_translator, asks_keep_translator}
-use Rattle.law_due.proofs.words.hubs_keep_translators.Goals as goal
-
-pub returns-clause-begins : goal.returns-clause-begins
-returns-clause-begins c = begins_keep_translator
-
-pub returns-clause-asks : goal.returns-clause-asks
-returns-clause-asks c = asks_keep_translator

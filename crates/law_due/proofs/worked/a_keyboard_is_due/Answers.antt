@@ -1,8 +1,0 @@
-use Rattle.law_due.proofs.Sampled.{keyboard_is_due, keyboard_is_found}
-use Rattle.law_due.proofs.worked.a_keyboard_is_due.Goals as goal
-
-pub returns-clause-due : goal.returns-clause-due
-returns-clause-due c = keyboard_is_due
-
-pub returns-clause-found : goal.returns-clause-found
-returns-clause-found c = keyboard_is_found

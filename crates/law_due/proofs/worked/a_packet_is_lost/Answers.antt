@@ -1,8 +1,0 @@
-use Rattle.law_due.proofs.Sampled.{none_is_lost, one_is_lost}
-use Rattle.law_due.proofs.worked.a_packet_is_lost.Goals as goal
-
-pub returns-clause-kept : goal.returns-clause-kept
-returns-clause-kept c = none_is_lost
-
-pub returns-clause-lost : goal.returns-clause-lost
-returns-clause-lost c = one_is_lost

@@ -1,0 +1,5 @@
+pub mod visits
+pub mod time
+pub mod due
+pub mod plans
+pub mod worked_visits

@@ -1,0 +1,10 @@
+-- How often the head of the ring was read in the script with a keyboard and a disk of `law_world_memory` (EHCI 1.0, 4.8 and 4.8.3).
+--     typed_heads k        the count, k events and commands after the open of the keyboard's endpoint was accepted
+use Rattle.std.specs.Prelude.{ℕ}
+use Rattle.bus_wire.specs.Bus.{fixed_of}
+use Rattle.bus_world.specs.Orders.{at_place, orders_of}
+use Rattle.law_world.specs.memory.Samples.{keyboard_and_disk, after_the_open, opened}
+use Rattle.law_microframes.specs.time.HeadReads.{heads_from}
+
+abbrev pub typed_heads : ℕ → ℕ
+typed_heads k = heads_from (fixed_of keyboard_and_disk) (at_place opened (orders_of after_the_open)) 0 k

@@ -1,0 +1,292 @@
+-- Each event of a driver leaves as many transfers less without a line as it wrote lines; a cancel leaves none.
+use Rattle.std.proofs.Common.{◌≡◌, ◌≢◌, ℕ, zero, suc, ◌+◌, ◌-◌, Bool, true, false, cond, not, ◌||◌, ◌&&◌, ◌==◌, List, [], ◌∷◌, ◌++◌, length, map, set, slice_get, Option, Some, None, ap, sym, ◌∙◌, refl, arith, append_assoc}
+use Rattle.std.specs.List.{AllByRecursion}
+use Rattle.std.specs.Prelude.{count_by}
+use Rattle.std.proofs.lemmas.List.{append-nil, length-append}
+use Rattle.std.proofs.lemmas.List.Sums.{sum_by-cons}
+use Rattle.usb_base.specs.declared.endpoints.EndCause.{EndCause}
+use Rattle.usb_base.specs.declared.endpoints.EndCause.TheVariants.{Stall}
+use Rattle.usb_base.specs.declared.endpoints.EpName.{EpName}
+use Rattle.usb_base.specs.declared.reports.Report.{Report}
+use Rattle.usb_base.specs.declared.reports.What.TheVariants.{Halt, Cancel}
+use Rattle.word_mem.specs.Memory.{Mem}
+use Rattle.mem_runs.specs.Book.{holding}
+use Rattle.drv_periodic_table.specs.declared.content.Removed.TheVariants as removed
+use Rattle.drv_table.specs.declared.content.Endpoint.{Endpoint}
+use Rattle.drv_table.specs.declared.content.Transfer.{Transfer}
+use Rattle.drv_table.specs.declared.rows.DriverRow.{DriverRow}
+use Rattle.drv_table.specs.declared.rows.DriverRow.TheVariants as rows
+use Rattle.drv_table.specs.declared.rows.Found.{Found}
+use Rattle.drv_table.specs.declared.rows.Found.TheVariants as founds
+use Rattle.drv_table.specs.DriverContent.{DriverContent, waits_for}
+use Rattle.drv_table.specs.Harvests.{reported, noted, is_stall, end_of}
+use Rattle.drv_table.specs.Harvesting.{told_with, stalled, mends_of, behind, behind_one, after_end, harvested_as, after_harvest, served}
+use Rattle.drv_table.specs.Kinds.{is_iso}
+use Rattle.drv_table.specs.Parts.{Parts}
+use Rattle.drv_table.specs.Releases.{cancelled_bytes, is_told, let_go, gone_with, after_endpoint, free_endpoint}
+use Rattle.drv_table.specs.Removals.{let_go_waiting, let_go_placed, removed_with, after_placed, free_placed}
+use Rattle.drv_table.specs.Rows.{driver_row, after_driver_row}
+use Rattle.claims_world.specs.Pending.{without_line, IsOf, IsFewer, one_each, cancelled, IsCountedDown}
+use Rattle.law_reports.specs.requests.told_requests.Rows.{adds_lines}
+use Rattle.law_reports.proofs.lemmas.requests.lemmas.told_requests.Quiet.{quiet_rows}
+use Rattle.law_reports.proofs.lemmas.requests.lemmas.told_requests.Waiting.{quiet_waiting, set_same, set_less, map_same}
+use Rattle.law_reports.proofs.lemmas.requests.lemmas.told_requests.WaitingHarvests.{other_harvest_waits, other_returns_wait}
+use Rattle.law_reports.specs.answers.Counting.{EventsCountDown}
+
+-- ---- lines of one name, one for each transfer less
+
+record Wrote (e : ℕ) (name : EpName) (d new : DriverContent) : Type 0 where
+  lines : List Report
+  are : new.reports ≡ d.reports ++ lines
+  named : AllByRecursion (λ (l : Report). l.name ≡ name) lines
+  fewer : without_line new e + length lines ≡ without_line d e
+
+none_wrote : (e : ℕ) (name : EpName) (d new : DriverContent) → new.reports ≡ d.reports → without_line new e ≡ without_line d e
+    → Wrote e name d new
+none_wrote e name d new same waits =
+    record { lines = []; are = same ∙ sym (append-nil d.reports); named = tt; fewer = omega (arith, waits) }
+
+one_wrote : (e : ℕ) (name : EpName) (d new : DriverContent) (line : Report) → new.reports ≡ d.reports ++ line ∷ [] → line.name ≡ name
+    → suc (without_line new e) ≡ without_line d e → Wrote e name d new
+one_wrote e name d new line are is less = record { lines = line ∷ []; are = are; named = (is, tt); fewer = omega (arith, less) }
+
+all_named : (name : EpName) (xs ys : List Report) → AllByRecursion (λ (l : Report). l.name ≡ name) xs
+    → AllByRecursion (λ (l : Report). l.name ≡ name) ys → AllByRecursion (λ (l : Report). l.name ≡ name) (xs ++ ys)
+all_named name [] ys one two = two
+all_named name (x ∷ xs) ys one two = (one.0, all_named name xs ys one.1 two)
+
+both_wrote : (e : ℕ) (name : EpName) (a b c : DriverContent) → Wrote e name a b → Wrote e name b c → Wrote e name a c
+both_wrote e name a b c one two = record {
+  lines = one.lines ++ two.lines;
+  are = two.are ∙ ap (λ (ls : List Report). ls ++ two.lines) one.are ∙ append_assoc a.reports one.lines two.lines;
+  named = all_named name one.lines two.lines one.named two.named;
+  fewer =
+      let all = length-append one.lines two.lines in omega (arith, all, one.fewer, two.fewer);
+}
+
+and_off : (a : Bool) → (a && false) ≡ false
+and_off true = refl
+and_off false = refl
+
+-- ---- a harvest
+
+one_behind : (d : DriverContent) (e k : ℕ) (name : EpName) (o : Option Transfer) → slice_get d.transfers k ≡ o
+    → Wrote e name d (behind_one d e name k o)
+one_behind d e k name None here = none_wrote e name d d refl refl
+one_behind d e k name (Some y) here = at (waits_for e y) refl
+  where
+    at : (b : Bool) → waits_for e y ≡ b
+        → Wrote e name d (cond b (record (reported d (Halt Stall) name []) {
+          transfers = set d.transfers k (record y { reported = true });
+          harvested = d.harvested ++ k ∷ [];
+        }) d)
+    at true on = one_wrote e name d _ _ refl refl (set_less e d.transfers k y (record y { reported = true }) here on
+        (and_off (y.endpoint == e)))
+    at false off = none_wrote e name d d refl refl
+
+all_behind : (d : DriverContent) (e k n : ℕ) (name : EpName) → Wrote e name d (behind d e name k n)
+unfolding behind
+all_behind d e k zero name = none_wrote e name d d refl refl
+all_behind d e k (suc n) name =
+    let next : DriverContent = behind_one d e name k (slice_get d.transfers k) in
+    both_wrote e name d next (behind next e name (suc k) n) (one_behind d e k name (slice_get d.transfers k) refl)
+    (all_behind next e (suc k) n name)
+
+end_wrote : (d : DriverContent) (e t : ℕ) (x : Endpoint) (stall : Bool) (cause : Option EndCause)
+    → Wrote e x.desc.name d (after_end d e t x stall cause)
+end_wrote d e t x stall (Some cause) = none_wrote e x.desc.name d _ refl refl
+end_wrote d e t x false None = none_wrote e x.desc.name d _ refl refl
+end_wrote d e t x true None =
+    let first : DriverContent = record d {
+      harvested = d.harvested ++ t ∷ [];
+      endpoints = set d.endpoints e (record x { next = None });
+      mends = d.mends ++ mends_of x;
+    } in
+    both_wrote e x.desc.name d first (stalled d e t x) (none_wrote e x.desc.name d first refl refl)
+    (all_behind first e (suc t) (length d.transfers - suc t) x.desc.name)
+
+found_wrote : (d : DriverContent) (m : Mem) (e t : ℕ) (x : Endpoint) (y : Transfer) (found : Found) → slice_get d.transfers t ≡ Some y
+    → waits_for e y ≡ true → Wrote e x.desc.name d (harvested_as d m e t x y found)
+found_wrote d m e t x y founds.Active here on = none_wrote e x.desc.name d d refl refl
+found_wrote d m e t x y (founds.Moved n) here on = none_wrote e x.desc.name d _ refl (set_same e d.transfers t y _ here refl)
+found_wrote d m e t x y (founds.Served errors) here on =
+    one_wrote e x.desc.name d _ _ refl refl (set_less e d.transfers t y (record y { reported = true }) here on (and_off (y.endpoint == e)))
+found_wrote d m e t x y (founds.Ended n what) here on =
+    let told : DriverContent = told_with d m t y what x.desc.name (noted d.notes y.place n) in
+    both_wrote e x.desc.name d told (after_end told e t x (is_stall what) (end_of x.desc.kind what))
+    (one_wrote e x.desc.name d told _ refl refl
+    (set_less e d.transfers t y (record y { reported = true }) here on (and_off (y.endpoint == e))))
+    (end_wrote told e t x (is_stall what) (end_of x.desc.kind what))
+
+-- ---- as the clause says it
+
+-- of the endpoint with this number, where it is there
+record Down (d new : DriverContent) (e : ℕ) : Type 0 where
+  lines : List Report
+  are : new.reports ≡ d.reports ++ lines
+  of : AllByRecursion (IsOf d e) lines
+  fewer : IsFewer d new e lines
+
+all_of : (d : DriverContent) (e : ℕ) (x : Endpoint) (ls : List Report) → slice_get d.endpoints e ≡ Some x
+    → AllByRecursion (λ (l : Report). l.name ≡ x.desc.name) ls → AllByRecursion (IsOf d e) ls
+all_of d e x [] here all = tt
+all_of d e x (l ∷ ls) here all = (record { endpoint = x; here = here; name = all.0 }, all_of d e x ls here all.1)
+
+wrote_down : (d new : DriverContent) (e : ℕ) (x : Endpoint) → slice_get d.endpoints e ≡ Some x → Wrote e x.desc.name d new → Down d new e
+wrote_down d new e x here w =
+    record { lines = w.lines; are = w.are; of = all_of d e x w.lines here w.named; fewer = one_each w.fewer }
+
+still_down : (d new : DriverContent) (e : ℕ) → new.reports ≡ d.reports → without_line new e ≡ without_line d e → Down d new e
+still_down d new e same waits =
+    record { lines = []; are = same ∙ sym (append-nil d.reports); of = tt; fewer = one_each (omega (arith, waits)) }
+
+harvest_down : (d : DriverContent) (m : Mem) (e t : ℕ) (found : Found) (o : Option Endpoint) (q : Option Transfer)
+    → slice_get d.endpoints e ≡ o → slice_get d.transfers t ≡ q → Down d (after_harvest d m e t found o q) e
+harvest_down d m e t found None None here there = still_down d d e refl refl
+harvest_down d m e t found None (Some y) here there = still_down d d e refl refl
+harvest_down d m e t found (Some x) None here there = still_down d d e refl refl
+harvest_down d m e t found (Some x) (Some y) here there = at (waits_for e y) refl
+  where
+    at : (b : Bool) → waits_for e y ≡ b → Down d (cond b (served (harvested_as d m e t x y found) e) d) e
+    at true on =
+        let w = found_wrote d m e t x y found there on in
+        wrote_down d (served (harvested_as d m e t x y found) e) e x here
+        (record { lines = w.lines; are = w.are; named = w.named; fewer = w.fewer })
+    at false off = still_down d d e refl refl
+
+-- ---- the return of an endpoint
+
+-- what a cancel tells leaves none
+none_counted : (e : ℕ) (f : Transfer → Transfer) (ys : List Transfer) → ((y : Transfer) → waits_for e (f y) ≡ false)
+    → count_by (waits_for e) (map f ys) ≡ 0
+none_counted e f [] each = refl
+none_counted e f (y ∷ ys) each = count_none e (f y) (map f ys) (each y) ∙ none_counted e f ys each
+  where
+    count_none : (i : ℕ) (z : Transfer) (zs : List Transfer) → waits_for i z ≡ false
+        → count_by (waits_for i) (z ∷ zs) ≡ count_by (waits_for i) zs
+    count_none i z zs off =
+        let sum = sum_by-cons (λ u. cond (waits_for i u) 1 0) z zs in
+        let zero_more : ◌≡◌ {A = ℕ} (cond (waits_for i z) 1 0) 0 = ap (λ (b : Bool). cond b 1 0) off in omega (arith, sum, zero_more)
+
+or_true : (a : Bool) → (a || true) ≡ true
+or_true true = refl
+or_true false = refl
+
+or_false : (a : Bool) → (a || false) ≡ a
+or_false true = refl
+or_false false = refl
+
+go_none : (e : ℕ) (y : Transfer) → waits_for e (let_go e true y) ≡ false
+go_none e y = at (y.endpoint == e) refl
+  where
+    at : (b : Bool) → (y.endpoint == e) ≡ b → waits_for e (cond b (record y { reported = y.reported || true; released = true }) y) ≡ false
+    at true own = ap (λ (r : Bool). (y.endpoint == e) && not r) (or_true y.reported) ∙ and_off (y.endpoint == e)
+    at false other = ap (λ (b : Bool). b && not y.reported) other
+
+go_same : (e : ℕ) (y : Transfer) → waits_for e (let_go e false y) ≡ waits_for e y
+go_same e y = at (y.endpoint == e)
+  where
+    at : (b : Bool) → waits_for e (cond b (record y { reported = y.reported || false; released = true }) y) ≡ waits_for e y
+    at true = ap (λ (r : Bool). (y.endpoint == e) && not r) (or_false y.reported)
+    at false = refl
+
+waiting_none : (e : ℕ) (y : Transfer) → waits_for e (let_go_waiting e true y) ≡ false
+waiting_none e y = at (waits_for e y) refl
+  where
+    at : (b : Bool) → waits_for e y ≡ b → waits_for e (cond b (record y { reported = y.reported || true; released = true }) y) ≡ false
+    at true own = ap (λ (r : Bool). (y.endpoint == e) && not r) (or_true y.reported) ∙ and_off (y.endpoint == e)
+    at false other = other
+
+waiting_same : (e : ℕ) (y : Transfer) → waits_for e (let_go_waiting e false y) ≡ waits_for e y
+waiting_same e y = at (waits_for e y)
+  where
+    at : (b : Bool) → waits_for e (cond b (record y { reported = y.reported || false; released = true }) y) ≡ waits_for e y
+    at true = ap (λ (r : Bool). (y.endpoint == e) && not r) (or_false y.reported)
+    at false = refl
+
+placed_none : (iso : Bool) (e : ℕ) (y : Transfer) → waits_for e (let_go_placed iso e true y) ≡ false
+placed_none true e y = waiting_none e y
+placed_none false e y = go_none e y
+
+placed_same : (iso : Bool) (e : ℕ) (y : Transfer) → waits_for e (let_go_placed iso e false y) ≡ waits_for e y
+placed_same true e y = waiting_same e y
+placed_same false e y = go_same e y
+
+cancel_down : (d new : DriverContent) (e : ℕ) (x : Endpoint) (line : Report) → slice_get d.endpoints e ≡ Some x
+    → new.reports ≡ d.reports ++ line ∷ [] → line.what ≡ Cancel → line.name ≡ x.desc.name → without_line new e ≡ 0 → Down d new e
+cancel_down d new e x line here are what name none =
+    record {
+      lines = line ∷ [];
+      are = are;
+      of = (record { endpoint = x; here = here; name = name }, tt);
+      fewer = cancelled line
+          refl what none;
+    }
+
+endpoint_down : (p : Parts) (e : ℕ) (o : Option Endpoint) → slice_get p.driver.endpoints e ≡ o
+    → Down p.driver (after_endpoint p e o).driver e
+endpoint_down p e None here = still_down p.driver p.driver e refl refl
+endpoint_down p e (Some x) here = at (is_told x)
+  where
+    at : (b : Bool)
+        → Down p.driver
+        (gone_with (cond b (reported p.driver Cancel x.desc.name
+        (cancelled_bytes p.driver.notes p.memory e x.queue p.driver.transfers)) p.driver) e
+        x b (free_endpoint p.driver e x (holding p.driver.book p.memory)).book) e
+    at true = cancel_down p.driver _ e x _ here refl refl refl (none_counted e (let_go e true) p.driver.transfers (go_none e))
+    at false = still_down p.driver _ e refl (map_same e (let_go e false) p.driver.transfers (go_same e))
+
+removed_down : (p : Parts) (e : ℕ) (o : Option Endpoint) → slice_get p.driver.endpoints e ≡ o → Down p.driver (after_placed p e o).driver e
+removed_down p e None here = still_down p.driver p.driver e refl refl
+removed_down p e (Some x) here = at (is_told x)
+  where
+    at : (b : Bool)
+        → Down p.driver
+        (removed_with (cond b (reported p.driver Cancel x.desc.name
+        (cancelled_bytes p.driver.notes p.memory e x.queue p.driver.transfers)) p.driver)
+        e x b (free_placed p.driver e x (holding p.driver.book p.memory)).book) e
+    at true =
+        cancel_down p.driver _ e x _ here refl refl refl
+        (none_counted e (let_go_placed (is_iso x.desc.kind) e true) p.driver.transfers (placed_none (is_iso x.desc.kind) e))
+    at false =
+        still_down p.driver _ e refl
+        (map_same e (let_go_placed (is_iso x.desc.kind) e false) p.driver.transfers (placed_same (is_iso x.desc.kind) e))
+
+-- ---- any row
+
+whole : (d new : DriverContent) (e : ℕ) → Down d new e → ((k : ℕ) → e ≢ k → without_line new k ≡ without_line d k) → IsCountedDown d new
+whole d new e down others = record { number = e; lines = down.lines; are = down.are; of = down.of; fewer = down.fewer; others = others }
+
+quiet_down : (row : DriverRow) (p : Parts) → adds_lines row ≡ false → IsCountedDown p.driver (after_driver_row row p).driver
+quiet_down row p quiet =
+    whole p.driver (after_driver_row row p).driver 0
+    (still_down p.driver (after_driver_row row p).driver 0 (quiet_rows row p quiet).reports (quiet_waiting row p 0 quiet))
+    (λ k differs. quiet_waiting row p k quiet)
+
+row_down : (row : DriverRow) (p : Parts) → IsCountedDown p.driver (after_driver_row row p).driver
+row_down (rows.Harvest e t found) p =
+    whole p.driver (after_driver_row (rows.Harvest e t found) p).driver e
+    (harvest_down p.driver p.memory e t found (slice_get p.driver.endpoints e) (slice_get p.driver.transfers t) refl refl)
+    (λ k differs. other_harvest_waits p e t found k differs)
+row_down (rows.ReleaseEndpoint e) p =
+    whole p.driver (after_driver_row (rows.ReleaseEndpoint e) p).driver e (endpoint_down p e (slice_get p.driver.endpoints e) refl)
+    (λ k differs. (other_returns_wait p e k differs).0)
+row_down (rows.ReleaseRemoved (removed.Endpoint e)) p =
+    whole p.driver (after_driver_row (rows.ReleaseRemoved (removed.Endpoint e)) p).driver e
+    (removed_down p e (slice_get p.driver.endpoints e) refl) (λ k differs. (other_returns_wait p e k differs).1)
+row_down (rows.ReleaseRemoved (removed.Descriptor t)) p = quiet_down (rows.ReleaseRemoved (removed.Descriptor t)) p refl
+row_down rows.Lend p = quiet_down rows.Lend p refl
+row_down (rows.Store b at v) p = quiet_down (rows.Store b at v) p refl
+row_down (rows.Mend w) p = quiet_down (rows.Mend w) p refl
+row_down rows.Frames p = quiet_down rows.Frames p refl
+row_down rows.LendDescriptors p = quiet_down rows.LendDescriptors p refl
+row_down (rows.Unlink t) p = quiet_down (rows.Unlink t) p refl
+row_down (rows.ReleaseTransfer t) p = quiet_down (rows.ReleaseTransfer t) p refl
+row_down rows.ClearAdvance p = quiet_down rows.ClearAdvance p refl
+row_down rows.RingBell p = quiet_down rows.RingBell p refl
+row_down (rows.ReadStatus heard) p = quiet_down (rows.ReadStatus heard) p refl
+row_down (rows.ReadFrame n) p = quiet_down (rows.ReadFrame n) p refl
+row_down rows.Rest p = quiet_down rows.Rest p refl
+
+pub events_count_down : EventsCountDown
+events_count_down p = row_down (driver_row p) p

@@ -1,0 +1,259 @@
+-- Each event of the controller leaves the streams so, where isochronous transactions ask none of them.
+use Rattle.std.proofs.Common.{◌≡◌, ℕ, ◌*◌, true, false, List, ◌++◌, slice_get, Some, ap, sym, subst, ◌∙◌}
+use Rattle.std.specs.List.{concat}
+use Rattle.std.proofs.lemmas.Bool.{true≢false}
+use Rattle.std.proofs.lemmas.List.{append-nil}
+use Rattle.std.proofs.lemmas.Option.{same_Some}
+use Rattle.usb_base.specs.declared.packets.Way.TheVariants as ways
+use Rattle.bus_wire.specs.Bus.{Wired, Fixed}
+use Rattle.claims_base.specs.Controller.{opening_base}
+use Rattle.claims_base.specs.Prefix.{IsPrefix}
+use Rattle.claims_report.specs.Streams.{told_in}
+use Rattle.claims_driver.specs.Leaving.{HasOwners}
+use Rattle.drv_table.specs.declared.content.Command.TheVariants as unfinished
+use Rattle.drv_table.specs.declared.content.Endpoint.{Endpoint}
+use Rattle.drv_table.specs.DriverContent.{DriverContent}
+use Rattle.law_driver.specs.endpoint_lives.Lives.{may_meet}
+use Rattle.law_driver.specs.queued_drivers.Queued.{queued_endpoint, queued}
+use Rattle.law_driver.proofs.lemmas.queued_drivers.CommandFields.{of_queue}
+use Rattle.law_ring.specs.Bus.{Sender}
+use Rattle.law_ring.specs.OutBus.{Taker}
+use Rattle.law_controller.specs.controlled_streams.Unopened.{IsUntouched, IsUnopened}
+use Rattle.law_controller.specs.frame_control.Joined.{joined}
+use Rattle.law_driver_ring.specs.fed_queues.Places.{IsMet, AreMet}
+use Rattle.law_queues.specs.told_endpoints.Telling.{lines_in}
+use Rattle.law_devices.specs.Senders.{sender_of}
+use Rattle.law_devices.specs.scripted_takers.Takers.{taker_of}
+use Rattle.law_devices.proofs.Asking.{scripted_bus}
+use Rattle.law_devices.proofs.Beginning.{scripted_begins}
+use Rattle.law_devices.proofs.lemmas.scripted_takers.Asking.{scripted_out_bus}
+use Rattle.law_devices.proofs.lemmas.scripted_takers.Beginning.{scripted_out_begins}
+use Rattle.law_descriptors.specs.Both.{both, parts_now}
+use Rattle.law_descriptors.specs.Meeting.{met}
+use Rattle.law_descriptors.specs.PartLaws.{IsDescribing}
+use Rattle.law_descriptors.specs.queue_events.Pipes.{AskedAreNear}
+use Rattle.law_descriptors.proofs.lemmas.queue_events.Streams.{both_streams}
+use Rattle.law_frames.specs.FrameStreams.{IsIsoAsk}
+use Rattle.law_world.specs.steps.Outs.{IsUntaken}
+use Rattle.law_world.specs.steps.Streaming.{begins_by, transacts_by, wired}
+use Rattle.law_world.specs.memory.Mixed.{Standing}
+use Rattle.law_world.specs.memory.Steps.{standing_then, IsMixedControlled}
+use Rattle.law_world.specs.memory.pipe_steps.Events.{PipesGoOn}
+use Rattle.law_world.proofs.lemmas.memory.Controller.{controller_tells_event}
+use Rattle.law_reports.specs.lines.Lined.{in_hand, Lines}
+use Rattle.law_reports.proofs.lemmas.lines.IsoGoing.{told_apart}
+use Rattle.law_reports.proofs.lemmas.lines.ToldEvents.{controller_keeps_telling}
+use Rattle.law_microframes.specs.visits.WorldPipes.{IsIsoBeside, EventOf}
+use Rattle.law_microframes.proofs.lemmas.visits.AskedHeads.{asked_is_near}
+use Rattle.law_microframes.proofs.lemmas.visits.WorldPipes.{controller_keeps_pipes}
+use Rattle.bus_world.specs.World.{World, controller_parts, controller_next}
+use Rattle.law_reports.specs.pipes.Declared.{Sides}
+use Rattle.law_reports.specs.pipes.Piped.{Heads, asked_as, IsOpening, AreFresh, IsNewHead, HaveNewHeads, HasTakenAtLeast, HasBegun}
+use Rattle.law_reports.specs.pipes.Piped.{AreLeft, IsPiped, IsFollowed}
+use Rattle.law_reports.proofs.lemmas.pipes.IsoBeside.{names_keep_beside}
+use Rattle.law_reports.proofs.lemmas.pipes.NamesKept.{controller_keeps_names}
+use Rattle.law_reports.proofs.lemmas.pipes.Names.{queue_same, kept_as, unasked, unmet_off, name_is}
+use Rattle.law_reports.proofs.lemmas.pipes.Waiting.{sender_waits, taker_waits, none_moved, named_still, toggle_still}
+
+module _ (fixed : Fixed) (x : Sides) (s : Standing) (m : Lines) (h : Heads) (w : World) (k : IsPiped fixed x s m h w) where
+  abbrev d : DriverContent
+  d = w.driver
+
+  abbrev new : World
+  new = controller_next fixed w
+
+  abbrev wire : Wired
+  wire = wired fixed w
+
+  abbrev after : Wired
+  after = wired fixed (controller_next fixed w)
+
+  iso : IsIsoBeside s x.sends x.takes
+  iso = names_keep_beside x s w k.mixed k.declared k.descriptors
+
+  pub c : IsMixedControlled fixed s w
+  c = controller_tells_event fixed s w k.mixed
+
+  pub z : EventOf fixed s w c.event
+  z =
+      let f = k.mixed.now.framed in
+      let describing : IsDescribing w.driver s.descs s.parts =
+      record { owners = f.place.sound.owners; driven = f.driven; described = f.described } in
+      both_streams begins_by transacts_by opening_base s.member (met w.driver s.recent) w.driver s.descs s.parts s.hand s.frame
+      (controller_parts w) (wired fixed w) (wired fixed (controller_next fixed w)) c.event.now c.event.later c.event.frame_later describing
+      f.runs c.event.effect
+
+  pub goes : PipesGoOn x.sends x.takes x.packets sender_of taker_of s.near h.ins h.outs h.ends m.acc z
+  goes = controller_keeps_pipes x.sends x.takes x.packets sender_of taker_of h.ins h.outs h.ends m.acc fixed s w (scripted_bus x.sends)
+      (scripted_begins x.sends) (scripted_out_bus x.takes) (scripted_out_begins x.takes) k.mixed c k.by_way iso z k.pipes
+
+  abbrev pub lines_then : Lines
+  lines_then = record { acc = goes.moved; reported = m.reported }
+
+  owners : HasOwners w.driver
+  owners = k.mixed.now.framed.place.sound.owners
+
+  near_are : AreMet (queued w.driver) s.near
+  near_are = k.mixed.queues.queues.met
+
+  asked : AskedAreNear s.near s.parts (joined s.hand s.frame)
+  asked = asked_is_near s w k.mixed
+
+  -- ---- names
+
+  ins_unasked : (addr ep : ℕ) → ((e : ℕ) (y : Endpoint) → slice_get w.driver.endpoints e ≡ Some y → y.desc.name.way ≡ ways.In
+      → y.desc.name.addr ≡ addr → y.desc.name.num ≡ ep → IsMet (queued w.driver) e (queued_endpoint y) → ⊥)
+      → IsUnopened h.ins h.ends addr ep
+  ins_unasked addr ep unmet =
+      unasked w.driver s.near x.sends x.takes h.ins h.outs h.ends near_are k.by_way k.named ways.In addr ep
+      (λ n on. k.pipes.in_ends.members n on) unmet
+
+  outs_unasked : (addr ep : ℕ) → ((e : ℕ) (y : Endpoint) → slice_get w.driver.endpoints e ≡ Some y → y.desc.name.way ≡ ways.Out
+      → y.desc.name.addr ≡ addr → y.desc.name.num ≡ ep → IsMet (queued w.driver) e (queued_endpoint y) → ⊥)
+      → IsUnopened h.outs h.ends addr ep
+  outs_unasked addr ep unmet =
+      unasked w.driver s.near x.sends x.takes h.ins h.outs h.ends near_are k.by_way k.named ways.Out addr ep
+      (λ n on. k.pipes.out_ends.members n on) unmet
+
+  sender_stays : (addr ep : ℕ) → x.sends addr ep ≡ true → IsUnopened h.ins h.ends addr ep → (u : Sender)
+      → sender_of (wired fixed w) addr ep ≡ Some u → sender_of (wired fixed (controller_next fixed w)) addr ep ≡ Some u
+  sender_stays addr ep on unopened u is =
+      sender_waits begins_by (IsIsoAsk (both s.descs s.parts)) transacts_by s.near h.ends s.parts (joined s.hand s.frame) wire after
+      (parts_now s.descs s.parts c.event.now) (joined c.event.later c.event.frame_later) asked x.sends x.packets sender_of h.ins m.acc
+      (scripted_bus x.sends) (scripted_begins x.sends) k.pipes.in_pipes iso.ins addr ep on unopened u is z
+
+  taker_stays : (addr ep : ℕ) → x.takes addr ep ≡ true → IsUnopened h.outs h.ends addr ep → (u : Taker)
+      → taker_of (wired fixed w) addr ep ≡ Some u → taker_of (wired fixed (controller_next fixed w)) addr ep ≡ Some u
+  taker_stays addr ep on unopened u is =
+      taker_waits begins_by (IsIsoAsk (both s.descs s.parts)) transacts_by s.near h.ends s.parts (joined s.hand s.frame) wire after
+      (parts_now s.descs s.parts c.event.now) (joined c.event.later c.event.frame_later) asked x.takes taker_of h.outs
+      (λ n. concat (m.acc n)) (scripted_out_bus x.takes) (scripted_out_begins x.takes) k.pipes.out_pipes iso.outs addr ep on unopened u is z
+
+  -- ---- endpoints that aren't met
+
+  off : (e : ℕ) (y : Endpoint) → slice_get w.driver.endpoints e ≡ Some y → (queued_endpoint y).gone ≡ false
+      → (IsMet (queued w.driver) e (queued_endpoint y) → ⊥) → s.near (32 * y.queue) ≡ false
+  off e y here kept unmet = unmet_off w.driver s.near owners near_are e y here kept unmet
+
+  moved_same : (n : ℕ) → s.near n ≡ false → concat (goes.moved n) ≡ concat (m.acc n)
+  moved_same n none =
+      goes.adds n ∙ ap (λ (bs : List ℕ). concat (m.acc n) ++ bs)
+      (none_moved begins_by (IsIsoAsk (both s.descs s.parts)) transacts_by s.near h.ends s.parts (joined s.hand s.frame) wire after
+      (parts_now s.descs s.parts c.event.now) (joined c.event.later c.event.frame_later) asked n none z) ∙ append-nil (concat (m.acc n))
+
+  -- while it is opened
+  unopened_met : (e : ℕ) (y : Endpoint) → IsOpening w.driver y → IsMet (queued w.driver) e (queued_endpoint y) → ⊥
+  unopened_met e y opening met =
+      met.there.linked (opening.command ∙ ap (λ (q : ℕ). Some (unfinished.Open q)) (sym (queue_same y)))
+
+  new_heads : HaveNewHeads w.driver (standing_then s w c.event)
+  new_heads e y here opening made =
+      let q : IsNewHead s (32 * y.queue) (asked_as y.desc) = k.new_heads e y here opening made in
+      let none : s.near (32 * y.queue) ≡ false =
+      off e y here (ap (λ (v : Endpoint). v.gone) (of_queue y opening.queue) ∙ opening.kept) (unopened_met e y opening) in
+      record {
+        named = named_still begins_by (IsIsoAsk (both s.descs s.parts)) transacts_by s.near h.ends s.parts (joined s.hand s.frame) wire
+            after (parts_now s.descs s.parts c.event.now) (joined c.event.later c.event.frame_later) asked (32 * y.queue) none
+            (asked_as y.desc) z q.named;
+        first = λ own. toggle_still begins_by (IsIsoAsk (both s.descs s.parts)) transacts_by s.near h.ends s.parts (joined s.hand s.frame)
+            wire after (parts_now s.descs s.parts c.event.now) (joined c.event.later c.event.frame_later) asked (32 * y.queue) none false z
+            (q.first own);
+      }
+
+  -- ---- names that weren't opened yet
+
+  fresh_ins : AreFresh w.driver ways.In x.sends (λ addr ep. IsUntouched (x.packets addr ep) (sender_of (wired fixed new) addr ep))
+  fresh_ins addr ep on unused =
+      let was : IsUntouched (x.packets addr ep) (sender_of (wired fixed w) addr ep) = k.fresh_ins addr ep on unused in
+      record {
+        sender = was.sender;
+        is = sender_stays addr ep on (ins_unasked addr ep (λ e y here way same also. unopened_met e y (unused e y here way same also)))
+            was.sender was.is;
+        left = was.left;
+        sends = was.sends;
+      }
+
+  fresh_outs : AreFresh w.driver ways.Out x.takes (λ addr ep. IsUntaken (taker_of (wired fixed new) addr ep))
+  fresh_outs addr ep on unused =
+      let was : IsUntaken (taker_of (wired fixed w) addr ep) = k.fresh_outs addr ep on unused in
+      record {
+        taker = was.taker;
+        is = taker_stays addr ep on (outs_unasked addr ep (λ e y here way same also. unopened_met e y (unused e y here way same also)))
+            was.taker was.is;
+        none = was.none;
+        first = was.first;
+      }
+
+  -- ---- endpoints that left
+
+  unmet_by : (e : ℕ) (y : Endpoint) → may_meet (queued w.driver) e (queued_endpoint y) ≡ false
+      → IsMet (queued w.driver) e (queued_endpoint y) → ⊥
+  unmet_by e y unmet met = true≢false (sym met.near ∙ unmet)
+
+  -- .. and no other endpoint has its name
+  alone : (e : ℕ) (y : Endpoint) → slice_get w.driver.endpoints e ≡ Some y → (IsMet (queued w.driver) e (queued_endpoint y) → ⊥)
+      → (f : ℕ) (v : Endpoint) → slice_get w.driver.endpoints f ≡ Some v → v.desc.name.way ≡ y.desc.name.way
+      → v.desc.name.addr ≡ y.desc.name.addr → v.desc.name.num ≡ y.desc.name.num → IsMet (queued w.driver) f (queued_endpoint v) → ⊥
+  alone e y here unmet f v there way same also met =
+      let one : f ≡ e = told_apart w.driver (in_hand s) s.parts m.reported k.telling.told f e v y there here
+      (name_is v.desc.name y.desc.name same also way) in
+      let is : v ≡ y = same_Some v y (sym there ∙ ap (slice_get w.driver.endpoints) one ∙ here) in
+      unmet (subst (λ (i : ℕ). IsMet (queued w.driver) i (queued_endpoint y)) one
+      (subst (λ (u : Endpoint). IsMet (queued w.driver) f (queued_endpoint u)) is met))
+
+  taken_still : (e : ℕ) (y : Endpoint) → slice_get w.driver.endpoints e ≡ Some y → y.desc.name.way ≡ ways.Out
+      → x.takes y.desc.name.addr y.desc.name.num ≡ true → (IsMet (queued w.driver) e (queued_endpoint y) → ⊥) → (bytes : List ℕ)
+      → HasTakenAtLeast (taker_of (wired fixed w) y.desc.name.addr y.desc.name.num) bytes
+      → HasTakenAtLeast (taker_of (wired fixed new) y.desc.name.addr y.desc.name.num) bytes
+  taken_still e y here way on unmet bytes was = record {
+    taker = was.taker;
+    is = taker_stays y.desc.name.addr y.desc.name.num on
+        (outs_unasked y.desc.name.addr y.desc.name.num
+        (λ f v there its same also met. alone e y here unmet f v there (its ∙ sym way) same also met)) was.taker was.is;
+    begins = was.begins;
+  }
+
+  -- ---- the whole
+
+  pub controlled : IsPiped fixed x (standing_then s w c.event) (record { acc = goes.moved; reported = m.reported }) h
+      (controller_next fixed w)
+  controlled = record {
+    mixed = c.mixed;
+    telling = controller_keeps_telling fixed s m w k.mixed c z goes.moved goes.adds k.telling;
+    going = k.going;
+    declared = k.declared;
+    descriptors = controller_keeps_names fixed s w k.mixed k.descriptors;
+    named = k.named;
+    by_way = k.by_way;
+    pipes = goes.pipes;
+    new_heads = new_heads;
+    fresh_ins = fresh_ins;
+    fresh_outs = fresh_outs;
+  }
+
+  -- ---- with those that left
+
+  module _ (ins : AreLeft w.driver m.acc ways.In x.sends (HasBegun x (wired fixed w) ways.In))
+      (outs : AreLeft w.driver m.acc ways.Out x.takes (HasBegun x (wired fixed w) ways.Out)) where
+    left_ins : AreLeft w.driver goes.moved ways.In x.sends (HasBegun x (wired fixed new) ways.In)
+    left_ins = record {
+      unmet = λ e y here way on there unmet.
+          subst (λ (bs : List ℕ). IsPrefix bs (concat (x.packets y.desc.name.addr y.desc.name.num)))
+          (sym (moved_same (32 * y.queue) (off e y here there.kept (unmet_by e y unmet)))) (ins.unmet e y here way on there unmet);
+      gone = ins.gone;
+    }
+
+    left_outs : AreLeft w.driver goes.moved ways.Out x.takes (HasBegun x (wired fixed new) ways.Out)
+    left_outs = record {
+      unmet = λ e y here way on there unmet.
+          subst (λ (bs : List ℕ). HasTakenAtLeast (taker_of (wired fixed new) y.desc.name.addr y.desc.name.num) bs)
+          (sym (moved_same (32 * y.queue) (off e y here there.kept (unmet_by e y unmet))))
+          (taken_still e y here way on (unmet_by e y unmet) (concat (m.acc (32 * y.queue))) (outs.unmet e y here way on there unmet));
+      gone = λ e y here way on gone.
+          taken_still e y here way on (λ met. true≢false (sym gone ∙ (kept_as y met.there.kept).0))
+          (told_in w.driver.store (lines_in y.desc.name w.driver.reports)) (outs.gone e y here way on gone);
+    }
+
+    pub controlled_followed : IsFollowed fixed x (standing_then s w c.event) (record { acc = goes.moved; reported = m.reported }) h
+        (controller_next fixed w)
+    controlled_followed = record { piped = controlled; left_ins = left_ins; left_outs = left_outs }

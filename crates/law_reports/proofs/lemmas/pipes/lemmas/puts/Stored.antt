@@ -1,0 +1,220 @@
+-- The stores by which the first qTD of a transfer is published: until the last of them it has nothing to send, and then those behind it
+-- come next.
+use Rattle.std.proofs.Common.{◌≡◌, ◌≢◌, ℕ, zero, suc, ◌-◌, ◌*◌, ◌<◌, ◌≤◌, Bool, true, false, List, [], ◌∷◌, ◌++◌, take, drop, Option, Some}
+use Rattle.std.proofs.Common.{None, ap, refl, sym, subst, ◌∙◌, ⊎_elim, inl, inr, arith}
+use Rattle.std.proofs.lemmas.Bool.{cases_eq}
+use Rattle.link_words.specs.declared.kinds.QtdLink.TheVariants as qtd_links
+use Rattle.link_words.specs.Links.{qtd_link_of}
+use Rattle.qh_qtd.specs.declared.token.Token.{Token}
+use Rattle.qh_qtd.specs.declared.qtd.Qtd.{Qtd}
+use Rattle.drv_table.specs.declared.content.Transfer.{Transfer}
+use Rattle.drv_table.specs.declared.content.Command.{Command}
+use Rattle.drv_table.specs.declared.content.Command.TheVariants as unfinished
+use Rattle.drv_table.specs.DriverContent.{DriverContent}
+use Rattle.drv_table.specs.Harvests.{note_at}
+use Rattle.drv_table.specs.Parts.{Parts as DriverParts}
+use Rattle.drv_table.specs.Words.{dummy_qtd}
+use Rattle.claims_driver.specs.Owners.{NoteRuns, note_in}
+use Rattle.law_structures.specs.lent_structures.Structures.{Element, Structures, StructureSets}
+use Rattle.law_structures.proofs.lemmas.lent_structures.Names.{put_beside}
+use Rattle.law_ring.specs.Hand.{Hand}
+use Rattle.law_ring.specs.Order.{AreAfter, IsSorted, IsAmong}
+use Rattle.law_ring.specs.Front.{HasFront}
+use Rattle.law_ring.specs.Told.{Endpoint as Told}
+use Rattle.law_controller.specs.controlled_streams.Storing.{with_out, stored_parts}
+use Rattle.law_controller.proofs.lemmas.controlled_streams.Streams.{out_here, out_beside}
+use Rattle.law_driver.specs.chained_transfers.Out.{pieces_from, unpublished, out_of, out_now}
+use Rattle.law_driver_ring.specs.Published.{partly}
+use Rattle.law_driver_ring.proofs.Publishing.{idle}
+use Rattle.law_driver_ring.specs.fed_queues.Fed.{IsPublished}
+use Rattle.law_driver_ring.specs.fed_queues.Places.{IsMet}
+use Rattle.law_queues.specs.publish_laws.Stores.{parts_then, out_then, next_of}
+use Rattle.law_queues.specs.standing_fronts.Reaching.{Reaches}
+use Rattle.law_queues.specs.standing_fronts.Tails.{TailsStand}
+use Rattle.law_queues.specs.whole_sends.Whole.{AreSentWhole}
+use Rattle.law_queues.proofs.lemmas.fed_lends.Outs.{last_apart, out_apart, its_out}
+use Rattle.law_queues.proofs.lemmas.publish_laws.Outs.{same_out}
+use Rattle.law_queues.proofs.lemmas.whole_sends.Keeping.{idle_store_whole, last_store_whole}
+use Rattle.law_world.proofs.lemmas.memory.PublishStores.{IsStoring, published_by, below, some, met_now, out_is, by_store, one_more, finished}
+use Rattle.law_world.proofs.lemmas.memory.PublishTails.{tail_here}
+
+-- ---- the qTD before its last store
+
+token_is : (t : Qtd) (k : ℕ) → k < 8 → (partly t k).token ≡ dummy_qtd.token
+token_is t (suc (suc (suc (suc (suc (suc (suc (suc k)))))))) below = absurd (omega (arith, below))
+token_is t _ below = refl
+
+-- ---- those behind it
+
+lower_one : (order : ℕ → ℕ) (e a : ℕ) (es : List ℕ) → AreAfter order e es → IsAmong a es → order e < order a
+lower_one order e a [] after among = absurd among
+lower_one order e a (d ∷ ds) after (inl same) = let less = after.0 in let at = ap order same in omega (arith, less, at)
+lower_one order e a (d ∷ ds) after (inr among) = lower_one order e a ds after.1 among
+
+sorted_behind : (order : ℕ → ℕ) (e : ℕ) (before behind : List ℕ) → IsSorted order (before ++ e ∷ behind) → IsSorted order behind
+sorted_behind order e [] behind sorted = sorted.1
+sorted_behind order e (d ∷ ds) behind sorted = sorted_behind order e ds behind sorted.1
+
+-- the first of them has the least number
+first_least : (order : ℕ → ℕ) (note : ℕ → NoteRuns) (b n a : ℕ) → IsSorted order (pieces_from note b n) → IsAmong a
+    (pieces_from note b n) → order (32 * b) ≤ order a
+first_least order note b zero a sorted among = absurd among
+first_least order note b (suc n) a sorted (inl same) = let at = ap order same in omega (arith, at)
+first_least order note b (suc n) a sorted (inr among) = let less = lower_one order (32 * b) a (pieces_from note
+    (note b).next n) sorted.0 among in omega (arith, less)
+
+same_target : (b c : ℕ) → qtd_links.To b ≡ qtd_links.To c → b ≡ c
+same_target b c same = cc
+
+-- ---- the store
+
+module _ (p : DriverParts) (member streams : ℕ → Bool) (ends : ℕ → Told) (parts : StructureSets) (order : ℕ → ℕ → ℕ) (out : ℕ → List ℕ)
+    (b : ℕ) (words : List ℕ) (k : IsStoring p.driver member streams ends parts order out b words) where
+  abbrev d : DriverContent
+  d = p.driver
+
+  abbrev g : IsPublished p.driver parts b words
+  g = published_by k
+
+  abbrev y : Transfer
+  y = g.transfer
+
+  abbrev n : ℕ
+  n = 32 * g.endpoint.queue
+
+  abbrev i : ℕ
+  i = d.made - 1
+
+  abbrev q : ℕ
+  q = y.qtds - 1
+
+  abbrev note : ℕ → NoteRuns
+  note = note_in d.notes
+
+  abbrev old : Qtd
+  old = partly g.qtd i
+
+  abbrev new : Qtd
+  new = partly g.qtd d.made
+
+  abbrev more : DriverContent
+  more = one_more p member streams ends parts order out b words k
+
+  abbrev done : DriverContent
+  done = finished p member streams ends parts order out b words k
+
+  old_idle : old.token.active ≡ false
+  old_idle = idle g.qtd i (below p member streams ends parts order out b words k)
+
+  met : IsMet p.driver y.endpoint g.endpoint
+  met = met_now p member streams ends parts order out b words k
+
+  -- ---- what is out
+
+  all : suc q ≡ y.qtds
+  all = let least = some p member streams ends parts order out b words k in omega (arith, least)
+
+  before : List ℕ
+  before = out_of note y.endpoint None 0 (take g.number d.transfers)
+
+  abbrev behind : List ℕ
+  behind = pieces_from note (note b).next q
+
+  -- those of its endpoint's older transfers, and then its own
+  parted : (c : Option Command) (made : ℕ) → out_of note y.endpoint c made d.transfers
+      ≡ before ++ drop (unpublished c made y.qtds) (32 * b ∷ behind)
+  unfolding before
+  parted c made =
+      let older : List Transfer = take g.number d.transfers in
+      let j : ℕ = unpublished c made y.qtds in
+      ap (out_of note y.endpoint c made) (last_apart d.transfers g.number y g.newest g.there) ∙ out_apart note y.endpoint c made older y
+      ∙ ap (λ (es : List ℕ). out_of note y.endpoint None 0 older ++ es)
+      (its_out note y.endpoint j y refl g.fresh.1 g.fresh.0 ∙ ap (λ (l : ℕ). drop j (pieces_from note l y.left)) g.place.1
+      ∙ ap (λ (l : ℕ). drop j (pieces_from note b l)) (g.place.2 ∙ sym all))
+
+  sorted : IsSorted (order n) (before ++ 32 * b ∷ behind)
+  sorted = subst (IsSorted (order n)) (parted None 0)
+      (k.queues.last.sorted b words g.number y g.endpoint k.command k.made g.newest g.there g.place.0 g.here)
+
+  out_split : out n ≡ before ++ behind
+  out_split = k.queues.out_are y.endpoint g.endpoint g.here met.there ∙ out_is p member streams ends parts order out b words k y.endpoint
+      ∙ parted (Some (unfinished.Publish b words)) (suc i)
+
+  -- one store more changes nothing of it
+  out_more : (m : ℕ) → out_then out more g m ≡ out m
+  out_more m =
+      ⊎_elim (λ (same : m ≡ n).
+      ap (with_out out n (out_now more y.endpoint)) same ∙ out_here out n (out_now more y.endpoint)
+      ∙ ap (λ (c : Option Command). out_of note y.endpoint c (suc d.made) d.transfers) k.command
+      ∙ same_out note y.endpoint b words d.transfers d.made i ∙ sym (out_is p member streams ends parts order out b words k y.endpoint)
+      ∙ sym (k.queues.out_are y.endpoint g.endpoint g.here met.there) ∙ ap out (sym same))
+      (λ (differs : m ≢ n). out_beside out n (out_now more y.endpoint) m differs) (cases_eq m n)
+
+  out_done : out_then out done g n ≡ before ++ 32 * b ∷ behind
+  out_done = out_here out n (out_now done y.endpoint) ∙ parted None 0
+
+  -- the link of it leads to the first of those behind it
+  leads : d.made ≡ 8 → (a c : ℕ) → qtd_link_of new.next ≡ qtd_links.To c → IsAmong a behind → order n c ≤ order n a
+  leads eighth a c to among =
+      let next : ℕ = (note_at d.notes b).next in
+      let link : qtd_link_of new.next ≡ qtd_links.To (32 * next) =
+      ap (λ (j : ℕ). qtd_link_of (partly g.qtd j).next) eighth ∙ ap qtd_link_of g.noted.next in
+      let at : 32 * next ≡ c = same_target (32 * next) c (sym link ∙ to) in
+      let those : IsSorted (order n) (pieces_from note next q) = sorted_behind (order n) (32 * b) before behind sorted in
+      subst (λ (j : ℕ). order n j ≤ order n a) at (first_least (order n) note next q a those among)
+
+  module _ (hand : Hand) (m : ℕ) (tails : TailsStand p.driver parts order out)
+      (complete : (a : ℕ) (t : Qtd) → parts m a ≡ Some (Element t) → t.token.active ≡ true → IsAmong a (out m))
+      (was : AreSentWhole (order m) (out m) hand m (parts m)) where
+    abbrev Sent : DriverContent → Type 0
+    Sent f = AreSentWhole (order m) (out_then out f g m) hand m (parts_then g m)
+
+    reach : Reaches p.driver (parts n) (order n) (out n) y.endpoint g.endpoint (32 * b)
+    reach = subst (λ (a : ℕ). Reaches p.driver (parts n) (order n) (out n) y.endpoint g.endpoint a)
+        (tail_here p member streams ends parts order out b words k) (tails y.endpoint g.endpoint g.here met)
+
+    -- ---- of another queue
+
+    beside : (f : DriverContent) → m ≢ n → AreSentWhole (order m) (out_then out f g m) hand m (parts_then g m)
+    beside f differs =
+        subst (λ (xs : List ℕ). AreSentWhole (order m) xs hand m (parts_then g m)) (sym (out_beside out n (out_now f y.endpoint) m differs))
+        (subst (λ (part : Structures). AreSentWhole (order m) (out m) hand m part)
+        (sym (put_beside parts n (32 * b) (Element new) m differs)) was)
+
+    -- ---- a store before the last one
+
+    stored_idle : d.made < 8 → m ≡ n → AreSentWhole (order m) (out m) hand m (parts_then g m)
+    stored_idle low same =
+        let token : new.token ≡ dummy_qtd.token = token_is g.qtd d.made low in
+        subst (λ (j : ℕ). AreSentWhole (order m) (out m) hand m (stored_parts parts j (32 * b) new m)) same
+        (idle_store_whole (order m) (out m) hand m parts (32 * b) old new (ap (λ (j : ℕ). parts j (32 * b)) same ∙ g.stored) old_idle
+        (ap (λ (z : Token). z.active) token) (ap (λ (z : Token). z.halted) token) (ap (λ (z : Token). z.total) token) was)
+
+    sent_more : d.made < 8 → Sent more
+    sent_more low =
+        ⊎_elim (λ (same : m ≡ n).
+        subst (λ (xs : List ℕ). AreSentWhole (order m) xs hand m (parts_then g m)) (sym (out_more m)) (stored_idle low same))
+        (λ (differs : m ≢ n). beside more differs) (cases_eq m n)
+
+    -- ---- the last one
+
+    published : d.made ≡ 8 → m ≡ n → AreSentWhole (order n) (out_then out done g n) hand n (parts_then g n)
+    published eighth same =
+        let full = subst (λ (j : ℕ). (a : ℕ) (t : Qtd) → parts j a ≡ Some (Element t) → t.token.active ≡ true → IsAmong a (out j)) same
+        complete in
+        subst (λ (xs : List ℕ). AreSentWhole (order n) xs hand n (parts_then g n)) (sym out_done)
+        (last_store_whole (order n) reach.stands.front before behind hand n parts (32 * b) old new g.stored old_idle
+        (ap (λ (j : ℕ). (partly g.qtd j).token.active) eighth ∙ g.active) sorted
+        (subst (λ (xs : List ℕ). HasFront (order n) reach.stands.front xs n (parts n)) out_split reach.stands.has) reach.within reach.tail
+        (λ a t here on. subst (IsAmong a) out_split (full a t here on)) (leads eighth)
+        (subst (λ (xs : List ℕ). AreSentWhole (order n) xs hand n (parts n)) out_split
+        (subst (λ (j : ℕ). AreSentWhole (order j) (out j) hand j (parts j)) same was)))
+
+    sent_done : d.made ≡ 8 → Sent done
+    sent_done eighth =
+        ⊎_elim (λ (same : m ≡ n).
+        subst (λ (j : ℕ). AreSentWhole (order j) (out_then out done g j) hand j (parts_then g j)) (sym same) (published eighth same))
+        (λ (differs : m ≢ n). beside done differs) (cases_eq m n)
+
+    pub sent_stored : AreSentWhole (order m) (out_then out (next_of p).driver g m) hand m (parts_then g m)
+    sent_stored = by_store p member streams ends parts order out b words k Sent sent_more sent_done

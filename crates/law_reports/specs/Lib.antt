@@ -1,0 +1,5 @@
+pub mod queues
+pub mod lines
+pub mod pipes
+pub mod requests
+pub mod answers

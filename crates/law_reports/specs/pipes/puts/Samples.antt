@@ -1,0 +1,42 @@
+-- Samples of what is sent: a world whose one OUT endpoint at high speed has its queue head at 64.
+--     standing_of parts       its standing over these structures, with the qTDs at 128, 192 and 256 published, and nothing in hand
+--     cut_short               the second qTD, done with three bytes left
+--     lone_world              a world without devices, whose driver has the OUT endpoint of number 2 of device 2
+use Rattle.std.specs.Prelude.{false, [], ◌∷◌, ◌++◌, None}
+use Rattle.qh_qtd.specs.Blank.{blank_token}
+use Rattle.qh_qtd.specs.declared.qtd.Qtd.{Qtd}
+use Rattle.law_structures.specs.lent_structures.Structures.{StructureSets}
+use Rattle.law_ring.specs.Hand.{Empty}
+use Rattle.law_ring.specs.Told.{endpoint_of}
+use Rattle.law_frames.specs.FrameHand.{Nothing}
+use Rattle.law_queues.specs.whole_sends.Samples.{order, ahead, behind, second, working, member}
+use Rattle.bus_world.specs.Opening.{opening_world}
+use Rattle.bus_world.specs.World.{World}
+use Rattle.law_driver.specs.queued_drivers.CommandsWorked.{second as its_endpoint}
+use Rattle.law_driver.specs.run_owners.Worked.{busy_driver}
+use Rattle.law_opened.specs.Samples.{sink}
+use Rattle.law_reports.specs.pipes.Samples.{alone}
+use Rattle.law_world.specs.memory.Mixed.{Standing}
+
+abbrev pub standing_of : StructureSets → Standing
+standing_of parts = record {
+  member = member;
+  near = member;
+  streams = λ n. false;
+  ends = λ n. endpoint_of working;
+  recent = λ n. None;
+  descs = λ n a. None;
+  parts = parts;
+  hand = Empty;
+  frame = Nothing;
+  order = λ n. order;
+  out = λ n. ahead ++ behind;
+}
+
+abbrev pub cut_short : Qtd
+cut_short = record second { token = record blank_token { cerr = 3; total = 3 } }
+
+abbrev pub lone_world : World
+lone_world = record (opening_world alone) {
+  driver = record busy_driver { endpoints = record its_endpoint { desc = sink } ∷ [] };
+}

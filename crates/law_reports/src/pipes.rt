@@ -1,0 +1,21 @@
+//! The streams of the endpoints at high speed of a world with endpoints of every kind (EHCI 1.0, 4.6 to 4.11; USB 2.0, 5.7, 5.8, 8.5 and
+//! 8.6): both sides of the pipe of each bulk and interrupt endpoint agree, whatever else is open; and the streams of the report are right.
+//!
+//! - `keeping`: The streams of the report are right at each moment of each script, and after its run.
+//! - `piped_events`: Both sides of each pipe agree at each moment of each script: it stays at each event and at each command.
+//! - `reports`, `reports_worked`: Where their pipes agree the streams of the report are right (EHCI 1.0, 4.6, 4.8 and 4.10; USB 2.0, 5.7,
+//!   5.8, 8.5 and 8.6).
+//! - `sent_events`: The qTDs of each OUT endpoint are sent whole and in turn, so too.
+//! - `takers`: Each OUT endpoint has its taker on the bus; and where what it took begins what was put, so it is in the report.
+//! - `worked`, `puts_worked`: Worked rows.
+//!
+//! The module has no code of its own: each function is a law, and its body is empty.
+
+pub mod keeping;
+pub mod piped_events;
+pub mod puts_worked;
+pub mod reports;
+pub mod reports_worked;
+pub mod sent_events;
+pub mod takers;
+pub mod worked;

@@ -1,0 +1,37 @@
+-- A mixed world is at work, and so is each of a run that stays mixed.
+use Rattle.std.proofs.Common.{◌≡◌, ℕ, true, ap}
+use Rattle.claims_base.specs.Controller.{Base, base_of, opening_base}
+use Rattle.bus_wire.specs.Bus.{fixed_of}
+use Rattle.bus_world.specs.World.{World, controller_next}
+use Rattle.bus_world.specs.Budgets.{moment}
+use Rattle.law_world.proofs.lemmas.memory.lemmas.running_worlds.Errors.{goes_on, no_error}
+use Rattle.law_world.proofs.lemmas.memory.lemmas.running_worlds.Counting.{counts_nothing}
+use Rattle.law_world.specs.memory.Mixed.{IsMixedWorld}
+use Rattle.law_world.specs.memory.Laws.{ControllerKeepsMixed}
+use Rattle.claims_world.specs.Memory.{IsAtWork}
+use Rattle.law_world.specs.memory.PlacedLaws.{MixedIsAtWork, KeepsMemoryWhileMixed}
+use Rattle.law_world.proofs.lemmas.memory.Rings.{reads_ring}
+use Rattle.law_world.proofs.lemmas.memory.Working.{works}
+
+registers_are : (w : World) → IsMixedWorld w → base_of w.registers ≡ opening_base
+registers_are w k = k.mixed.now.framed.runs.ring.registers
+
+pub mixed_works : ControllerKeepsMixed → MixedIsAtWork
+mixed_works controller fixed w k =
+    let f = k.mixed.now.framed in
+    let before : base_of w.registers ≡ opening_base = registers_are w k in
+    let after : base_of (controller_next fixed w).registers ≡ opening_base = registers_are (controller_next fixed w) (controller fixed w k) in
+    record {
+      place = f.place;
+      ring = reads_ring w.memory w.driver f.place.sound k.mixed.turns;
+      list = f.list;
+      registers = before;
+      works = works w (ap (λ (b : Base). b.run) before);
+      goes_on = goes_on fixed w (ap (λ (b : Base). b.run) after);
+    }
+
+pub keeps_while_mixed : ControllerKeepsMixed → KeepsMemoryWhileMixed
+keeps_while_mixed controller s mixed k =
+    let works_at : (j : ℕ) → IsAtWork (fixed_of s) (moment s j).world = λ j. mixed_works controller (fixed_of s) (moment s j).world (mixed j) in
+    let runs : (j : ℕ) → (moment s j).world.registers.run ≡ true = λ j. ap (λ (b : Base). b.run) (works_at j).registers in
+    record { at_work = works_at k; walking = (mixed k).mixed.walking; no_error = no_error s runs k; unrefused = counts_nothing s runs k }

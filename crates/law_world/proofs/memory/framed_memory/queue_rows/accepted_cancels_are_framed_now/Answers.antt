@@ -1,0 +1,5 @@
+use Rattle.law_world.proofs.lemmas.memory.lemmas.framed_memory.QueueAccepting.{cancel_now, unchain_now}
+use Rattle.law_world.proofs.memory.framed_memory.queue_rows.accepted_cancels_are_framed_now.Goals as goal
+
+pub returns : goal.returns
+returns c = record { ring = cancel_now; frames = unchain_now }

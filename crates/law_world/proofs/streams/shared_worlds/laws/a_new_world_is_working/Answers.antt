@@ -1,0 +1,5 @@
+use Rattle.law_world.proofs.lemmas.streams.lemmas.shared_worlds.Worlds.{new_working}
+use Rattle.law_world.proofs.streams.shared_worlds.laws.a_new_world_is_working.Goals as goal
+
+pub returns : goal.returns
+returns c = new_working

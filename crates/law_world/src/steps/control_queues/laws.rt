@@ -1,0 +1,57 @@
+//! What stands of control queues is left by everything that happens.
+ghost use Rattle.law_world.specs.steps.control_queues.Beside.{NewDriverControls, ControllerKeepsControls, SameKeepControls, CommandsKeepControls, SilentKeepsControls};
+ghost use Rattle.law_world.specs.steps.control_queues.Queues.{LendKeepsQueues, OpenLendIsWhole, OpenIsWhole, LinkKeepsControls};
+ghost use Rattle.law_world.specs.steps.control_queues.Rows.{LendKeepsControls, StoreKeepsControls, OpenLendKeepsControls, OpenLinkKeepsControls, HarvestKeepsControls, ReleaseKeepsControls, MendKeepsControls, UnlinkKeepsControls, LeaverKeepsControls};
+
+use usb_base::Wire;
+
+/// It stands of a driver that was just built.
+pub fn a_new_driver_has_none()
+    ensures { NewDriverControls }
+{}
+
+/// Each event of the controller leaves it.
+pub fn the_controller_leaves_control_queues<W: Wire>()
+    ensures { ControllerKeepsControls W.begins W.transacts }
+{}
+
+/// So do commands, accepted or refused, and rows that touch no structure.
+pub fn commands_leave_control_queues()
+    ensures same { SameKeepControls }
+    ensures commands { CommandsKeepControls }
+    ensures silent { SilentKeepsControls }
+{}
+
+/// And so do the lend of a transfer, and the stores by which its first qTD is published.
+pub fn a_lend_leaves_control_queues()
+    ensures lend { LendKeepsControls }
+    ensures store { StoreKeepsControls }
+{}
+
+/// An endpoint that is opened has a queue of which this stands.
+pub fn an_open_leaves_control_queues()
+    ensures lend { OpenLendKeepsControls }
+    ensures link { OpenLinkKeepsControls }
+{}
+
+/// A harvest leaves it, where a control endpoint answered STALL too; then the three stores that its queue head is owed leave it.
+pub fn a_stall_leaves_control_queues()
+    ensures harvest { HarvestKeepsControls }
+    ensures mend { MendKeepsControls }
+{}
+
+/// So does the row that gives back what was harvested, and those by which an endpoint leaves.
+pub fn returns_leave_control_queues()
+    ensures release { ReleaseKeepsControls }
+    ensures unlink { UnlinkKeepsControls }
+    ensures leaver { LeaverKeepsControls }
+{}
+
+/// All this is so of queues of any kind, whatever leads to their queue heads: the lend of a transfer, the lend of a new endpoint's structures, and the end of its
+/// open, from where on its front stands at its tail.
+pub fn lends_and_opens_of_any_queue()
+    ensures lend { LendKeepsQueues }
+    ensures opened { OpenLendIsWhole }
+    ensures finished { OpenIsWhole }
+    ensures link { LinkKeepsControls }
+{}

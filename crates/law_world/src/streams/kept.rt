@@ -1,0 +1,18 @@
+//! The laws of new worlds, of commands, and of the rows of the driver by which no endpoint leaves and none is given back.
+ghost use Rattle.law_world.specs.streams.LeftLaws.{NewWorldLeft, CommandKeepsLeft};
+ghost use Rattle.law_world.specs.streams.LeftLaws.{RowKeepsLeft};
+
+/// No endpoint has left a new world: there is none.
+pub fn nothing_has_left_a_new_world()
+    ensures { NewWorldLeft }
+{}
+
+/// A command, accepted or refused, leaves what is known of the endpoints that have left.
+pub fn commands_leave_what_has_left()
+    ensures { CommandKeepsLeft }
+{}
+
+/// So does each row of the driver but those by which Async Advance is cleared and endpoints are given back, where no two endpoints have one name.
+pub fn rows_leave_what_has_left()
+    ensures { RowKeepsLeft }
+{}

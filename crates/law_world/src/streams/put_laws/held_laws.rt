@@ -1,0 +1,48 @@
+//! The laws.
+ghost use Rattle.law_world.specs.streams.put_laws.Rings.{WalkLeavesBuffers, EventLeavesBuffers, OutsAskNone};
+ghost use Rattle.law_world.specs.streams.put_laws.HeldLaws.{NewDriverHoldsPuts, EventHoldsPuts, OpenHoldsPuts, GetHoldsPuts, PutHoldsPuts, CommandHoldsPuts, DriverHoldsPuts, HarvestReadsPuts, ReportIsOfPuts, NewDriverMovesFew, CommandMovesFew, DriverMovesFew};
+
+use usb_base::Wire;
+
+/// A driver that was just built has no put.
+pub fn a_new_driver_has_no_put()
+    ensures { NewDriverHoldsPuts }
+{}
+
+/// An event of the walk, and so of the controller, leaves the buffers of a queue head that asks for no data; one that has only OUTs asks for none.
+pub fn the_walk_leaves_what_it_sends<W: Wire>()
+    ensures walk { WalkLeavesBuffers W.transacts }
+    ensures event { EventLeavesBuffers W.begins W.transacts }
+    ensures outs { OutsAskNone }
+{}
+
+/// Each event of the controller leaves the bytes of each put: those that are still to be lent, and those that are lent.
+pub fn the_controller_leaves_the_bytes_of_puts<W: Wire>()
+    ensures { EventHoldsPuts W.begins W.transacts }
+{}
+
+/// A command that is accepted leaves them, and the buffers of an accepted put hold the bytes of its command.
+pub fn an_accepted_put_holds_its_bytes()
+    ensures open { OpenHoldsPuts }
+    ensures get { GetHoldsPuts }
+    ensures put { PutHoldsPuts }
+    ensures command { CommandHoldsPuts }
+{}
+
+/// Each event of the driver leaves them: its lends, its stores, its harvests, and where it gives the blocks of another transfer back.
+pub fn the_driver_leaves_the_bytes_of_puts()
+    ensures { DriverHoldsPuts }
+{}
+
+/// Of a qTD of a put a harvest reads the first bytes that the put asked it to send, and so the report tells the first ones of each qTD.
+pub fn what_is_reported_of_a_put_was_asked()
+    ensures read { HarvestReadsPuts }
+    ensures report { ReportIsOfPuts }
+{}
+
+/// At each moment no more is noted as moved of a qTD than it asked for.
+pub fn no_more_is_moved_than_asked()
+    ensures opening { NewDriverMovesFew }
+    ensures command { CommandMovesFew }
+    ensures driver { DriverMovesFew }
+{}

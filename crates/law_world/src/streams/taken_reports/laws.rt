@@ -1,0 +1,38 @@
+//! The laws.
+ghost use Rattle.law_world.specs.streams.taken_reports.Laws.{ClosingTellsTaker, ReportIsTaken};
+ghost use Rattle.law_world.specs.streams.taken_reports.Turns.{TextIsSeated, MicroframeKeepsAddresses, TransactionKeepsAddresses, EventKeepsSeats, CommandKeepsSeats, RunKeepsSeats, MomentIsSeated};
+ghost use Rattle.law_world.specs.streams.taken_reports.Worlds.{WorldIsTaken};
+
+/// What a closing line says that a device took is what the taker of its endpoint took.
+pub fn a_closing_line_tells_what_was_taken()
+    ensures { ClosingTellsTaker }
+{}
+
+/// Where its lines, and what is held back behind them, begin what the taker of each OUT endpoint took, they begin what its closing lines tell.
+pub fn what_a_report_tells_was_taken()
+    ensures { ReportIsTaken }
+{}
+
+/// So it is in a world whose OUT pipes agree, and where what is told of each queue that has a stream is what was harvested of it.
+pub fn what_a_world_reports_was_taken()
+    ensures { WorldIsTaken }
+{}
+
+/// Each IN and OUT endpoint that a text opens has its seat, and no two of its devices have one address.
+pub fn the_bus_of_a_text_is_seated()
+    ensures { TextIsSeated }
+{}
+
+/// No event of a bus changes the address of a device.
+pub fn each_event_keeps_addresses()
+    ensures microframe { MicroframeKeepsAddresses }
+    ensures transaction { TransactionKeepsAddresses }
+{}
+
+/// So the bus of a world stays seated, at each event and command.
+pub fn each_moment_is_seated()
+    ensures event { EventKeepsSeats }
+    ensures command { CommandKeepsSeats }
+    ensures run { RunKeepsSeats }
+    ensures moment { MomentIsSeated }
+{}

@@ -1,8 +1,0 @@
-use Rattle.law_world_lines.proofs.ToldOpens.{begin_telling, open_tells}
-use Rattle.law_world_lines.proofs.telling_steps.an_open_tells_a_new_queue.Goals as goal
-
-pub returns-clause-begins : goal.returns-clause-begins
-returns-clause-begins c = begin_telling
-
-pub returns-clause-opens : goal.returns-clause-opens
-returns-clause-opens c = open_tells

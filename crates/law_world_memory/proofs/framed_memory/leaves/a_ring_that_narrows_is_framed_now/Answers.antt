@@ -1,5 +1,0 @@
-use Rattle.law_world_memory.proofs.lemmas.framed_memory.LeavingRing.{narrow_now, clear_narrows_now}
-use Rattle.law_world_memory.proofs.framed_memory.leaves.a_ring_that_narrows_is_framed_now.Goals as goal
-
-pub returns : goal.returns
-returns c = record { ring = narrow_now; cleared = clear_narrows_now }

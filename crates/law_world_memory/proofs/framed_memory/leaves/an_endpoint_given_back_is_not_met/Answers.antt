@@ -1,5 +1,0 @@
-use Rattle.law_world_memory.proofs.lemmas.framed_memory.LeavingUnmet.{interrupt_unmet, ring_unmet}
-use Rattle.law_world_memory.proofs.framed_memory.leaves.an_endpoint_given_back_is_not_met.Goals as goal
-
-pub returns : goal.returns
-returns c = record { frames = interrupt_unmet; ring = ring_unmet }

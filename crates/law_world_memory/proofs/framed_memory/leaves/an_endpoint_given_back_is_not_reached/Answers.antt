@@ -1,5 +1,0 @@
-use Rattle.law_world_memory.proofs.lemmas.framed_memory.LeavingReached.{interrupt_unreached, cleared_unreached}
-use Rattle.law_world_memory.proofs.framed_memory.leaves.an_endpoint_given_back_is_not_reached.Goals as goal
-
-pub returns : goal.returns
-returns c = record { interrupt = interrupt_unreached; cleared = cleared_unreached }

@@ -1,6 +1,0 @@
-use Rattle.law_world_memory.proofs.lemmas.framed_memory.Awaiting.{events_await, writes_await}
-use Rattle.law_world_memory.proofs.lemmas.framed_memory.TakenOn.{commands_await}
-use Rattle.law_world_memory.proofs.framed_memory.lend_laws.descriptors_await_their_lend.Goals as goal
-
-pub returns : goal.returns
-returns c = record { commands = commands_await; events = events_await; writes = writes_await }

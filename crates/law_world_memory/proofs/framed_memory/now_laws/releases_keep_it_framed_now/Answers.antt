@@ -1,5 +1,0 @@
-use Rattle.law_world_memory.proofs.lemmas.framed_memory.NowRows.{release_now, waiting_now}
-use Rattle.law_world_memory.proofs.framed_memory.now_laws.releases_keep_it_framed_now.Goals as goal
-
-pub returns : goal.returns
-returns c = record { descriptor = release_now; waiting = waiting_now }

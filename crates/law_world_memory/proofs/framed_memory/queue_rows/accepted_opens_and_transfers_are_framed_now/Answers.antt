@@ -1,5 +1,0 @@
-use Rattle.law_world_memory.proofs.lemmas.framed_memory.QueueAccepting.{open_now, transfer_now}
-use Rattle.law_world_memory.proofs.framed_memory.queue_rows.accepted_opens_and_transfers_are_framed_now.Goals as goal
-
-pub returns : goal.returns
-returns c = record { opening = open_now; transfer = transfer_now }

@@ -1,5 +1,0 @@
-use Rattle.law_world_memory.proofs.lemmas.framed_memory.ChainedLent.{chain_becomes_ready, chain_ready_stays}
-use Rattle.law_world_memory.proofs.framed_memory.queue_rows.an_interrupt_open_is_to_be_lent.Goals as goal
-
-pub returns : goal.returns
-returns c = record { ready = chain_becomes_ready; stays = chain_ready_stays }

@@ -1,5 +1,0 @@
-use Rattle.law_world_memory.proofs.lemmas.framed_memory.ChainedLent.{chain_lends, chain_comes_first, chain_links_on}
-use Rattle.law_world_memory.proofs.framed_memory.queue_rows.an_interrupt_queue_comes_to_its_frames.Goals as goal
-
-pub returns : goal.returns
-returns c = record { lent = chain_lends; first = chain_comes_first; further = chain_links_on }

@@ -1,6 +1,0 @@
-use Rattle.law_world_memory.proofs.lemmas.framed_memory.RingLinksOpen.{open_link_now}
-use Rattle.law_world_memory.proofs.lemmas.framed_memory.RingLinksMet.{head_is_met, open_link_meets}
-use Rattle.law_world_memory.proofs.framed_memory.ring_links.a_linked_queue_is_framed_now.Goals as goal
-
-pub returns : goal.returns
-returns c = record { head = head_is_met; framed = open_link_now; meets = open_link_meets }

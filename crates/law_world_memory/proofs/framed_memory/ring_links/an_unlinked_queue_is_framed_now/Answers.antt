@@ -1,6 +1,0 @@
-use Rattle.law_world_memory.proofs.lemmas.framed_memory.RingLinksLeave.{unlink_is_due, unlink_now}
-use Rattle.law_world_memory.proofs.lemmas.framed_memory.RingLinksMet.{unlink_meets}
-use Rattle.law_world_memory.proofs.framed_memory.ring_links.an_unlinked_queue_is_framed_now.Goals as goal
-
-pub returns : goal.returns
-returns c = record { due = unlink_is_due; framed = unlink_now; meets = unlink_meets }

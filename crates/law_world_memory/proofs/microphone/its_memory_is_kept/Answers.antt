@@ -1,5 +1,0 @@
-use Rattle.law_world_memory.proofs.MicrophoneScript.{microphone_keeps_memory}
-use Rattle.law_world_memory.proofs.microphone.its_memory_is_kept.Goals as goal
-
-pub returns : goal.returns
-returns c = microphone_keeps_memory

@@ -1,5 +1,0 @@
-use Rattle.law_world_memory.proofs.lemmas.owned_blocks.Lent.{command_owns}
-use Rattle.law_world_memory.proofs.owned_blocks.laws.commands_own_all.Goals as goal
-
-pub returns : goal.returns
-returns c = command_owns

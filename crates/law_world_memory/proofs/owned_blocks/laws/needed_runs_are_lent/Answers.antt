@@ -1,5 +1,0 @@
-use Rattle.law_world_memory.proofs.lemmas.owned_blocks.Lent.{needed_lent}
-use Rattle.law_world_memory.proofs.owned_blocks.laws.needed_runs_are_lent.Goals as goal
-
-pub returns : goal.returns
-returns c = needed_lent

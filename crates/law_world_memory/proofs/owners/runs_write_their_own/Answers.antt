@@ -1,5 +1,0 @@
-use Rattle.law_world_memory.proofs.OwnControl.{runs_write_their_own}
-use Rattle.law_world_memory.proofs.owners.runs_write_their_own.Goals as goal
-
-pub returns : goal.returns
-returns g c = runs_write_their_own g.W.Wire.begins g.W.Wire.transacts

@@ -1,5 +1,0 @@
-use Rattle.law_world_memory.proofs.lemmas.pipe_steps.Opens.{open_begins_pipes}
-use Rattle.law_world_memory.proofs.pipe_steps.laws.an_open_begins_pipes.Goals as goal
-
-pub returns : goal.returns
-returns g c = open_begins_pipes

@@ -1,5 +1,0 @@
-use Rattle.law_world_memory.proofs.lemmas.pipe_steps.Events.{event_keeps_pipes}
-use Rattle.law_world_memory.proofs.pipe_steps.laws.each_event_keeps_pipes.Goals as goal
-
-pub returns : goal.returns
-returns g c = event_keeps_pipes g.W.Wire.begins g.W.Wire.transacts

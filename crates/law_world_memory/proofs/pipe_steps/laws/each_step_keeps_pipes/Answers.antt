@@ -1,5 +1,0 @@
-use Rattle.law_world_memory.proofs.lemmas.pipe_steps.StepPipes.{step_keeps_pipes}
-use Rattle.law_world_memory.proofs.pipe_steps.laws.each_step_keeps_pipes.Goals as goal
-
-pub returns : goal.returns
-returns g c = step_keeps_pipes

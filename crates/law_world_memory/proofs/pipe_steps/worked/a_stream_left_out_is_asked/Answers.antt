@@ -1,5 +1,0 @@
-use Rattle.law_world_memory.proofs.lemmas.pipe_steps.Sampled.{left_out, turned}
-use Rattle.law_world_memory.proofs.pipe_steps.worked.a_stream_left_out_is_asked.Goals as goal
-
-pub returns : goal.returns
-returns c = record { left = left_out; turned = turned }

@@ -1,5 +1,0 @@
-use Rattle.law_world_memory.proofs.Reasons.{mixed_has_reasons, texts_keep_reasons}
-use Rattle.law_world_memory.proofs.runs.parts_end_and_queue_heads_are_passed_for_a_reason.Goals as goal
-
-pub returns : goal.returns
-returns c = record { world = mixed_has_reasons; texts = texts_keep_reasons }

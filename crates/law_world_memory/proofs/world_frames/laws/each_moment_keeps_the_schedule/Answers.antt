@@ -1,5 +1,0 @@
-use Rattle.law_world_memory.proofs.lemmas.world_frames.Moments.{script_scheduled, text_scheduled}
-use Rattle.law_world_memory.proofs.world_frames.laws.each_moment_keeps_the_schedule.Goals as goal
-
-pub returns : goal.returns
-returns c = record { script = script_scheduled; text = text_scheduled }

@@ -1,5 +1,0 @@
-use Rattle.law_world_memory.proofs.lemmas.worlds_keep_to_lent.Moments.{script_keeps}
-use Rattle.law_world_memory.proofs.worlds_keep_to_lent.laws.each_moment_keeps_to_lent_blocks.Goals as goal
-
-pub returns : goal.returns
-returns c = script_keeps

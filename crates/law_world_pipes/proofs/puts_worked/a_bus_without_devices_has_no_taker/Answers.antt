@@ -1,5 +1,0 @@
-use Rattle.law_world_pipes.proofs.lemmas.puts.Sampled.{lone_takers}
-use Rattle.law_world_pipes.proofs.puts_worked.a_bus_without_devices_has_no_taker.Goals as goal
-
-pub returns : goal.returns
-returns c = lone_takers

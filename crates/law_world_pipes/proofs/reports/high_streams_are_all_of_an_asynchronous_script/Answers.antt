@@ -1,5 +1,0 @@
-use Rattle.law_world_pipes.proofs.lemmas.high_streams.Older.{high_says_as_much}
-use Rattle.law_world_pipes.proofs.reports.high_streams_are_all_of_an_asynchronous_script.Goals as goal
-
-pub returns : goal.returns
-returns c = high_says_as_much

@@ -1,8 +1,0 @@
-use Rattle.law_world_pipes.proofs.Sampled.{script_declares, none_declares}
-use Rattle.law_world_pipes.proofs.worked.opens_are_declared.Goals as goal
-
-pub returns-clause-script : goal.returns-clause-script
-returns-clause-script c = script_declares
-
-pub returns-clause-alone : goal.returns-clause-alone
-returns-clause-alone c = none_declares

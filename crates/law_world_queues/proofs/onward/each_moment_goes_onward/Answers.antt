@@ -1,8 +1,0 @@
-use Rattle.law_world_queues.proofs.Moments.{new_world_goes_onward, scripts_go_onward}
-use Rattle.law_world_queues.proofs.onward.each_moment_goes_onward.Goals as goal
-
-pub returns-clause-opening : goal.returns-clause-opening
-returns-clause-opening c = new_world_goes_onward
-
-pub returns-clause-scripts : goal.returns-clause-scripts
-returns-clause-scripts c = scripts_go_onward

@@ -1,6 +1,0 @@
-use Rattle.law_world_requests.proofs.Still.{still_asking}
-use Rattle.law_world_requests.proofs.Refused.{refused_asking}
-use Rattle.law_world_requests.proofs.asking_laws.still_rows_and_refusals_leave_the_requests.Goals as goal
-
-pub returns : goal.returns
-returns c = record { still = still_asking; refused = refused_asking }

@@ -1,5 +1,0 @@
-use Rattle.law_world_requests.proofs.lemmas.driver_requests.Behind.{none_earlier, first_goes, rows_leave, accepted_behind, accepted_beside_behind, told_behind}
-use Rattle.law_world_requests.proofs.driver_requests.laws.requests_stay_behind_earlier_ones.Goals as goal
-
-pub returns : goal.returns
-returns c = record { none = none_earlier; goes = first_goes; rows = rows_leave; grows = accepted_behind; others = accepted_beside_behind; told = told_behind }

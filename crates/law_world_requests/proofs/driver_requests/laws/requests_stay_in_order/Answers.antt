@@ -1,5 +1,0 @@
-use Rattle.law_world_requests.proofs.lemmas.driver_requests.Ordering.{accepted_in_order, accepted_beside}
-use Rattle.law_world_requests.proofs.driver_requests.laws.requests_stay_in_order.Goals as goal
-
-pub returns : goal.returns
-returns c = record { grows = accepted_in_order; others = accepted_beside }

@@ -1,5 +1,0 @@
-use Rattle.law_world_requests.proofs.Reading.{read_moved, moved_read, moved_begin, moved_all}
-use Rattle.law_world_requests.proofs.harvests.a_harvest_reads_what_was_moved.Goals as goal
-
-pub returns : goal.returns
-returns c = record { read = read_moved; goes_on = moved_read; begins = moved_begin; all = moved_all }

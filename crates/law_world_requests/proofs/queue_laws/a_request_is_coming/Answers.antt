@@ -1,5 +1,0 @@
-use Rattle.law_world_requests.proofs.Coming.{lent_coming, store_coming, event_coming, coming_is_published}
-use Rattle.law_world_requests.proofs.queue_laws.a_request_is_coming.Goals as goal
-
-pub returns : goal.returns
-returns g c = record { lent = lent_coming; store = store_coming; event = event_coming g.W.Wire.begins g.W.Wire.transacts; published = coming_is_published }

@@ -1,5 +1,0 @@
-use Rattle.law_world_requests.proofs.QueueEvents.{event_keeps, event_leaves}
-use Rattle.law_world_requests.proofs.queue_laws.an_event_keeps_the_queues.Goals as goal
-
-pub returns : goal.returns
-returns g c = record { queues = event_keeps g.W.Wire.begins g.W.Wire.transacts; device = event_leaves g.W.Wire.begins g.W.Wire.transacts }

@@ -1,6 +1,0 @@
-use Rattle.law_world_requests.proofs.Beginning.{course_begins}
-use Rattle.law_world_requests.proofs.QueueChanging.{course_leaves, members_change}
-use Rattle.law_world_requests.proofs.queue_laws.endpoints_come_and_go.Goals as goal
-
-pub returns : goal.returns
-returns g c = record { begins = course_begins; leaves = course_leaves; members = members_change }

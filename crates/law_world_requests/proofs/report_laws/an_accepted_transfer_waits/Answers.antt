@@ -1,5 +1,0 @@
-use Rattle.law_world_requests.proofs.Telling.{accepted_keeps, other_accepted_keeps}
-use Rattle.law_world_requests.proofs.report_laws.an_accepted_transfer_waits.Goals as goal
-
-pub returns : goal.returns
-returns c = record { own = accepted_keeps; other = other_accepted_keeps }

@@ -1,5 +1,0 @@
-use Rattle.law_world_requests.proofs.Right.{asking_right, gone_once}
-use Rattle.law_world_requests.proofs.report_laws.requests_are_right_at_each_moment.Goals as goal
-
-pub returns : goal.returns
-returns c = record { asking = asking_right; gone = gone_once }

@@ -1,6 +1,0 @@
-use Rattle.std.proofs.Common.{refl}
-use Rattle.law_world_requests.proofs.ReportSampled.{none_told, first_told, both_told}
-use Rattle.law_world_requests.proofs.report_worked.lines_tell_of_two_requests.Goals as goal
-
-pub returns : goal.returns
-returns c = record { none = none_told; first = first_told; both = both_told; bytes = refl }

@@ -1,6 +1,0 @@
-use Rattle.law_world_requests.proofs.Silent.{row_silent}
-use Rattle.law_world_requests.proofs.SilentCommands.{command_silent}
-use Rattle.law_world_requests.proofs.told_data.bytes_are_told_of_data_alone.Goals as goal
-
-pub returns : goal.returns
-returns c = record { row = row_silent; command = command_silent }

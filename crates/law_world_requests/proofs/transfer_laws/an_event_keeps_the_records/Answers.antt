@@ -1,5 +1,0 @@
-use Rattle.law_world_requests.proofs.TransferEvents.{records_follow, closed_follow}
-use Rattle.law_world_requests.proofs.transfer_laws.an_event_keeps_the_records.Goals as goal
-
-pub returns : goal.returns
-returns c = record { records = records_follow; closed = closed_follow }

@@ -1,6 +1,0 @@
-use Rattle.law_world_requests.proofs.Counts.{counts_are_acts}
-use Rattle.law_world_requests.proofs.TransferEvents.{counts_follow}
-use Rattle.law_world_requests.proofs.transfer_laws.devices_count_their_acts.Goals as goal
-
-pub returns : goal.returns
-returns c = record { event = counts_follow; acts = counts_are_acts }

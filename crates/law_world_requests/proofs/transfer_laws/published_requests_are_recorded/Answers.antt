@@ -1,5 +1,0 @@
-use Rattle.law_world_requests.proofs.TransferChanging.{course_recorded, behind_published, first_published, halted_published, mended_recorded}
-use Rattle.law_world_requests.proofs.transfer_laws.published_requests_are_recorded.Goals as goal
-
-pub returns : goal.returns
-returns c = record { course = course_recorded; behind = behind_published; first = first_published; halted = halted_published; mended = mended_recorded }

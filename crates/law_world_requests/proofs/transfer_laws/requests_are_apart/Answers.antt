@@ -1,5 +1,0 @@
-use Rattle.law_world_requests.proofs.Apart.{laid_apart, laid_others}
-use Rattle.law_world_requests.proofs.transfer_laws.requests_are_apart.Goals as goal
-
-pub returns : goal.returns
-returns c = record { own = laid_apart; others = laid_others }

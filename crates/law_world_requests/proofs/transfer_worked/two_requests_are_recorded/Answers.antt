@@ -1,5 +1,0 @@
-use Rattle.law_world_requests.proofs.TransferSampled.{begun_recorded, done_recorded, next_recorded, closed_recorded}
-use Rattle.law_world_requests.proofs.transfer_worked.two_requests_are_recorded.Goals as goal
-
-pub returns : goal.returns
-returns c = record { begun = begun_recorded; done = done_recorded; next = next_recorded; closed = closed_recorded }

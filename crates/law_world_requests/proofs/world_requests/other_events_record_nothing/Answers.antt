@@ -1,6 +1,0 @@
-use Rattle.std.proofs.Common.{refl}
-use Rattle.law_world_requests.proofs.lemmas.world_requests.Queues.{quiet_acts, open_acts}
-use Rattle.law_world_requests.proofs.world_requests.other_events_record_nothing.Goals as goal
-
-pub returns : goal.returns
-returns c = record { opened = λ d acted v e. refl; quiet = quiet_acts; acts = open_acts }

@@ -1,5 +1,0 @@
-use Rattle.law_world_steps.proofs.lemmas.closed_streams.Aside.{aside_senders, aside_takers}
-use Rattle.law_world_steps.proofs.closed_streams.laws.the_closed_stay.Goals as goal
-
-pub returns : goal.returns
-returns g c = record { senders = aside_senders g.W.Wire.begins g.W.Wire.transacts; takers = aside_takers g.W.Wire.begins g.W.Wire.transacts }

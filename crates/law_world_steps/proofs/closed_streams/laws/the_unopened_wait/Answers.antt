@@ -1,5 +1,0 @@
-use Rattle.law_world_steps.proofs.lemmas.closed_streams.Closing.{unopened_still, close_unopened, close_untaken}
-use Rattle.law_world_steps.proofs.closed_streams.laws.the_unopened_wait.Goals as goal
-
-pub returns : goal.returns
-returns g c = record { still = unopened_still; unopened = close_unopened; untaken = close_untaken }

@@ -1,6 +1,0 @@
-use Rattle.law_world_steps.proofs.lemmas.control_queues.OpenLends.{open_lend_keeps_controls}
-use Rattle.law_world_steps.proofs.lemmas.control_queues.Opens.{open_link_keeps_controls}
-use Rattle.law_world_steps.proofs.control_queues.laws.an_open_leaves_control_queues.Goals as goal
-
-pub returns : goal.returns
-returns c = record { lend = open_lend_keeps_controls; link = open_link_keeps_controls }

@@ -1,5 +1,0 @@
-use Rattle.law_world_steps.proofs.lemmas.control_queues.Sampled.{stands}
-use Rattle.law_world_steps.proofs.control_queues.worked.a_halted_queue_stands.Goals as goal
-
-pub returns : goal.returns
-returns c = stands

@@ -1,5 +1,0 @@
-use Rattle.law_world_steps.proofs.lemmas.controlled_walks.Worlds.{new_walks, controller_walks, driver_walks, command_walks}
-use Rattle.law_world_steps.proofs.controlled_walks.laws.a_world_keeps_its_walk.Goals as goal
-
-pub returns : goal.returns
-returns c = record { new = new_walks; controller = controller_walks; driver = driver_walks; command = command_walks }

@@ -1,5 +1,0 @@
-use Rattle.law_world_steps.proofs.lemmas.endpoint_releases.Releasing.{due_leaves, queues_differ}
-use Rattle.law_world_steps.proofs.endpoint_releases.laws.the_endpoint_that_is_due.Goals as goal
-
-pub returns : goal.returns
-returns c = record { due = due_leaves; differ = queues_differ }

@@ -1,5 +1,0 @@
-use Rattle.law_world_steps.proofs.Opening.{out_pipes_with_one, outs_with_one, untaken_less_one}
-use Rattle.law_world_steps.proofs.row_laws.an_out_stream_begins.Goals as goal
-
-pub returns : goal.returns
-returns g c = record { pipes = out_pipes_with_one; streams = outs_with_one; others = untaken_less_one }

@@ -1,5 +1,0 @@
-use Rattle.law_world_steps.proofs.Spared.{out_pipes_spared}
-use Rattle.law_world_steps.proofs.row_laws.spared_out_pipes_agree.Goals as goal
-
-pub returns : goal.returns
-returns g c = out_pipes_spared

@@ -1,5 +1,0 @@
-use Rattle.law_world_steps.proofs.lemmas.worlds_in_place.Worlds.{new_placed}
-use Rattle.law_world_steps.proofs.worlds_in_place.laws.a_new_world_is_in_place.Goals as goal
-
-pub returns : goal.returns
-returns c = new_placed

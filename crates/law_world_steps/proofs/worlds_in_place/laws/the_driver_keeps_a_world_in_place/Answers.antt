@@ -1,5 +1,0 @@
-use Rattle.law_world_steps.proofs.lemmas.worlds_in_place.Worlds.{event_placed}
-use Rattle.law_world_steps.proofs.worlds_in_place.laws.the_driver_keeps_a_world_in_place.Goals as goal
-
-pub returns : goal.returns
-returns c = event_placed

@@ -1,5 +1,0 @@
-use Rattle.law_world_streams.proofs.lemmas.left_puts.Leaving.{leave_taken}
-use Rattle.law_world_streams.proofs.left_puts.laws.a_leave_keeps_what_was_taken.Goals as goal
-
-pub returns : goal.returns
-returns g c = leave_taken

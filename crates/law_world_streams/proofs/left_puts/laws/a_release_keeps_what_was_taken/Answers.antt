@@ -1,5 +1,0 @@
-use Rattle.law_world_streams.proofs.lemmas.left_puts.Released.{release_taken}
-use Rattle.law_world_streams.proofs.left_puts.laws.a_release_keeps_what_was_taken.Goals as goal
-
-pub returns : goal.returns
-returns g c = release_taken

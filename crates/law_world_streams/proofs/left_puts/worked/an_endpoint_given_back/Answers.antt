@@ -1,6 +1,0 @@
-use Rattle.std.proofs.Common.{refl}
-use Rattle.law_world_streams.proofs.lemmas.left_puts.Sampled.{release_rest}
-use Rattle.law_world_streams.proofs.left_puts.worked.an_endpoint_given_back.Goals as goal
-
-pub returns : goal.returns
-returns g = record { leaves = record { here = refl; queued = refl; held = refl; first = refl; none_before = refl }; rest = release_rest; first = refl; second = refl }

@@ -1,5 +1,0 @@
-use Rattle.law_world_streams.proofs.lemmas.put_laws.Cuts.{puts_filled}
-use Rattle.law_world_streams.proofs.put_laws.byte_laws.puts_are_filled.Goals as goal
-
-pub returns : goal.returns
-returns c = puts_filled

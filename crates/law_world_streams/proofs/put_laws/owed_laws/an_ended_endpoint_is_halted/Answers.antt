@@ -1,5 +1,0 @@
-use Rattle.law_world_streams.proofs.lemmas.put_laws.TakenStopped.{spared_stopped, alike_stopped, harvest_stops}
-use Rattle.law_world_streams.proofs.put_laws.owed_laws.an_ended_endpoint_is_halted.Goals as goal
-
-pub returns : goal.returns
-returns c = record { spared = spared_stopped; alike = alike_stopped; harvest = harvest_stops }

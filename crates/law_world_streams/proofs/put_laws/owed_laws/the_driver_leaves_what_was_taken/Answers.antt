@@ -1,5 +1,0 @@
-use Rattle.law_world_streams.proofs.lemmas.put_laws.TakenRows.{driver_taken, command_taken}
-use Rattle.law_world_streams.proofs.put_laws.owed_laws.the_driver_leaves_what_was_taken.Goals as goal
-
-pub returns : goal.returns
-returns g c = record { row = driver_taken; command = command_taken }

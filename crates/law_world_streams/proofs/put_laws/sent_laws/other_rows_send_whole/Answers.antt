@@ -1,5 +1,0 @@
-use Rattle.law_world_streams.proofs.lemmas.put_laws.SentAlike.{fewer_sent, accepted_sends, quiet_sends, harvest_sends, release_sends}
-use Rattle.law_world_streams.proofs.put_laws.sent_laws.other_rows_send_whole.Goals as goal
-
-pub returns : goal.returns
-returns c = record { fewer = fewer_sent; command = accepted_sends; quiet = quiet_sends; harvest = harvest_sends; release = release_sends }

@@ -1,5 +1,0 @@
-use Rattle.law_world_streams.proofs.lemmas.put_laws.Ends.{moment_streams}
-use Rattle.law_world_streams.proofs.put_laws.taken_laws.streams_are_of_puts.Goals as goal
-
-pub returns : goal.returns
-returns c = moment_streams

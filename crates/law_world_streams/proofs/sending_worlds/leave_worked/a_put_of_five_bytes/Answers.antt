@@ -1,5 +1,0 @@
-use Rattle.law_world_streams.proofs.lemmas.sending_worlds.LeaveSampled.{going_sent, cancelled_sent, told_otherwise, took_another, took_more}
-use Rattle.law_world_streams.proofs.sending_worlds.leave_worked.a_put_of_five_bytes.Goals as goal
-
-pub returns : goal.returns
-returns c = record { going = going_sent; cancelled = cancelled_sent; told = told_otherwise; taken = took_another; more = took_more }

@@ -1,5 +1,0 @@
-use Rattle.law_world_streams.proofs.lemmas.shared_worlds.Worlds.{new_working}
-use Rattle.law_world_streams.proofs.shared_worlds.laws.a_new_world_is_working.Goals as goal
-
-pub returns : goal.returns
-returns c = new_working

@@ -1,5 +1,0 @@
-use Rattle.law_world_streams.proofs.lemmas.shared_worlds.Runs.{run_working}
-use Rattle.law_world_streams.proofs.shared_worlds.laws.a_run_stays_working.Goals as goal
-
-pub returns : goal.returns
-returns c = run_working

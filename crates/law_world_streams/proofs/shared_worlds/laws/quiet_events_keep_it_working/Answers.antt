@@ -1,5 +1,0 @@
-use Rattle.law_world_streams.proofs.lemmas.shared_worlds.Worlds.{quiet_working}
-use Rattle.law_world_streams.proofs.shared_worlds.laws.quiet_events_keep_it_working.Goals as goal
-
-pub returns : goal.returns
-returns c = quiet_working

@@ -1,5 +1,0 @@
-use Rattle.law_world_streams.proofs.lemmas.shared_worlds.Worlds.{controller_working}
-use Rattle.law_world_streams.proofs.shared_worlds.laws.the_controller_keeps_it_working.Goals as goal
-
-pub returns : goal.returns
-returns c = controller_working

@@ -1,5 +1,0 @@
-use Rattle.law_world_time.proofs.CountPrices.{prices_are_at_least, paid_where_made, made_few}
-use Rattle.law_world_time.proofs.counts.transactions_take_their_time.Goals as goal
-
-pub returns : goal.returns
-returns c = record { prices = prices_are_at_least; paid = paid_where_made; few = made_few }

@@ -1,5 +1,0 @@
-use Rattle.law_world_time.proofs.DataHeads.{mixed_read_data, scripts_read_data}
-use Rattle.law_world_time.proofs.data_queues.each_moment_reads_data.Goals as goal
-
-pub returns : goal.returns
-returns c = record { mixed = mixed_read_data; scripts = scripts_read_data }

@@ -1,5 +1,0 @@
-use Rattle.law_world_time.proofs.DataControlled.{new_data, controller_keeps_data}
-use Rattle.law_world_time.proofs.data_queues.the_controller_leaves_queues_of_data.Goals as goal
-
-pub returns : goal.returns
-returns c = record { new = new_data; controller = controller_keeps_data }

@@ -1,5 +1,0 @@
-use Rattle.law_world_time.proofs.RoundsTogether.{scripts_round_once, texts_round_once}
-use Rattle.law_world_time.proofs.driver_rounds.no_queue_head_is_visited_twice.Goals as goal
-
-pub returns : goal.returns
-returns c = record { scripts = scripts_round_once; texts = texts_round_once }

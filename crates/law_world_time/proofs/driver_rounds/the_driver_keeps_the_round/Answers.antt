@@ -1,5 +1,0 @@
-use Rattle.law_world_time.proofs.RoundsTogether.{driver_keeps_rounds, command_keeps_rounds}
-use Rattle.law_world_time.proofs.driver_rounds.the_driver_keeps_the_round.Goals as goal
-
-pub returns : goal.returns
-returns c = record { driver = driver_keeps_rounds; commands = command_keeps_rounds }

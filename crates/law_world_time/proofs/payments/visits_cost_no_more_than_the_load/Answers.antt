@@ -1,6 +1,0 @@
-use Rattle.law_world_time.proofs.PaymentMoments.{scripts_pay}
-use Rattle.law_world_time.proofs.PaymentTimes.{texts_pay}
-use Rattle.law_world_time.proofs.payments.visits_cost_no_more_than_the_load.Goals as goal
-
-pub returns : goal.returns
-returns c = record { scripts = scripts_pay; texts = texts_pay }

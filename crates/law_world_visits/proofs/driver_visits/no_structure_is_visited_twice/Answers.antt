@@ -1,5 +1,0 @@
-use Rattle.law_world_visits.proofs.VisitsKept.{scripts_visit_all, texts_visit_once}
-use Rattle.law_world_visits.proofs.driver_visits.no_structure_is_visited_twice.Goals as goal
-
-pub returns : goal.returns
-returns c = record { scripts = scripts_visit_all; texts = texts_visit_once }

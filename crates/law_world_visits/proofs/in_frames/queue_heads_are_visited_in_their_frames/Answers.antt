@@ -1,5 +1,0 @@
-use Rattle.law_world_visits.proofs.InFramesMoments.{scripts_stay, scripts_go}
-use Rattle.law_world_visits.proofs.in_frames.queue_heads_are_visited_in_their_frames.Goals as goal
-
-pub returns : goal.returns
-returns c = record { frames = scripts_stay; visits = scripts_go }

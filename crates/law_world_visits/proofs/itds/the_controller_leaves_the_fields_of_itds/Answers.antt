@@ -1,5 +1,0 @@
-use Rattle.law_world_visits.proofs.BelongItds.{new_itds, controller_keeps_itds}
-use Rattle.law_world_visits.proofs.itds.the_controller_leaves_the_fields_of_itds.Goals as goal
-
-pub returns : goal.returns
-returns c = record { new = new_itds; controller = controller_keeps_itds }

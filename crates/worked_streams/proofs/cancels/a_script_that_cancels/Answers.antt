@@ -1,8 +1,0 @@
-use Rattle.worked_streams.proofs.Cancelling.{a_cancel_is_asynchronous, cancel_owns}
-use Rattle.worked_streams.proofs.cancels.a_script_that_cancels.Goals as goal
-
-pub returns-clause-asynchronous : goal.returns-clause-asynchronous
-returns-clause-asynchronous c = a_cancel_is_asynchronous
-
-pub returns-clause-own : goal.returns-clause-own
-returns-clause-own c = cancel_owns

@@ -1,8 +1,0 @@
-use Rattle.worked_streams.proofs.Cancelling.{cancel_stays_whole, cancel_streams_are_right}
-use Rattle.worked_streams.proofs.cancels.its_world_is_whole.Goals as goal
-
-pub returns-clause-whole : goal.returns-clause-whole
-returns-clause-whole c = cancel_stays_whole
-
-pub returns-clause-right : goal.returns-clause-right
-returns-clause-right c = cancel_streams_are_right

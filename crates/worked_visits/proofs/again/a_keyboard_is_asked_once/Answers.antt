@@ -1,5 +1,0 @@
-use Rattle.std.proofs.Common.{refl}
-use Rattle.worked_visits.proofs.again.a_keyboard_is_asked_once.Goals as goal
-
-pub returns-clause-complete : goal.returns-clause-complete
-returns-clause-complete c = record { hub = 9; port = 1; split = refl; kind = refl; pid = refl }

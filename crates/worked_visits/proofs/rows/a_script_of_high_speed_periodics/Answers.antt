@@ -1,8 +1,0 @@
-use Rattle.worked_visits.proofs.Sampled.{high_sensor, high_microphone}
-use Rattle.worked_visits.proofs.rows.a_script_of_high_speed_periodics.Goals as goal
-
-pub returns-clause-interrupt : goal.returns-clause-interrupt
-returns-clause-interrupt c = high_sensor
-
-pub returns-clause-isochronous : goal.returns-clause-isochronous
-returns-clause-isochronous c = high_microphone

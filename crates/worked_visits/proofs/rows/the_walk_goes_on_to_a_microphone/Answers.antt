@@ -1,8 +1,0 @@
-use Rattle.worked_visits.proofs.DueSampled.{due_ahead, due_active}
-use Rattle.worked_visits.proofs.rows.the_walk_goes_on_to_a_microphone.Goals as goal
-
-pub returns-clause-ahead : goal.returns-clause-ahead
-returns-clause-ahead c = due_ahead
-
-pub returns-clause-active : goal.returns-clause-active
-returns-clause-active c = due_active
