@@ -12,6 +12,7 @@ run python3 -B docs/laws.py --check
 run python3 -B docs/crates.py --check
 run python3 -B docs/footprints.py --check
 run python3 -B docs/lines.py
+run python3 -B docs/ways.py
 run python3 -B docs/check_tools.py
 run examples/same.sh
 exit "$first"
