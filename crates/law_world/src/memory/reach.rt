@@ -7,7 +7,7 @@ pub fn runs_reach_lent()
 {}
 
 /// So it is at each moment of each script that a text spells.
-#[tactic(auto, using(crate::proofs::ReachMoments::texts_reach_lent))]
+#[tactic(auto, using(crate::proofs::lemmas::memory::ReachMoments::texts_reach_lent))]
 pub fn texts_reach_lent()
     ensures { TextsReachLent }
 {}

@@ -78,7 +78,7 @@ pub fn the_controller_meets_the_keyboard()
 
 /// Once a get of the keyboard's is published its queue head is reached by the frame list, and by the queue head the qTD that it takes next; over a memory
 /// of no block the frame list is reached, and isn't Lent.
-#[tactic(auto, using(crate::proofs::ReachSamples::by_the_list, crate::proofs::ReachSamples::by_the_queue, crate::proofs::ReachSamples::over_no_block))]
+#[tactic(auto, using(crate::proofs::lemmas::memory::ReachSamples::by_the_list, crate::proofs::lemmas::memory::ReachSamples::by_the_queue, crate::proofs::lemmas::memory::ReachSamples::over_no_block))]
 pub fn the_keyboard_is_reached()
     ensures queue { Reaches (controller_parts (typed_at 24)) (QueueAt 4160) }
     ensures qtd { Reaches (controller_parts (typed_at 24)) (QtdAt 4224) }
