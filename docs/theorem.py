@@ -80,7 +80,7 @@ Written by docs/theorem.py; the checks of `.ci/run` compare it with the sources.
 
 The theorem of this repository is the contract of one function, `ehci` in crates/ehci_cli/src/program.rt, which the program `ehci` calls with its words, standard input and standard output. A clause holds for every input, every list of lost packets and every order of steps.
 
-Most clauses speak of **the table machine** over the script that the input spells: contents of driver, controller, registers, memory, hubs and devices, and the row that each event is. Clause `output` ties it to what is printed: the report is that of the machine's whole run. Each clause below is given in its own words, then in English, then come the definitions beside the machine that it reaches, which one has to read to know what it says. "At each moment" is: before the run, and after each of its events and commands.
+Most clauses speak of **the table machine** over the script that the input spells, and for `load` over the one that is drawn from its number: contents of driver, controller, registers, memory, hubs and devices, and the row that each event is. Clause `output` ties it to what is printed: the report is that of the machine's whole run. Each clause below is given in its own words, then in English, then come the definitions beside the machine that it reaches, which one has to read to know what it says. "At each moment" is: before the run, and after each of its events and commands.
 
 Where a clause's English says less than its name, the definitions count. [NOT_PROVED.md](NOT_PROVED.md) has what no clause says. **Lent, Kept, Free**: a block of memory that the controller may touch too, that the driver has alone, that nobody has. A **run** of blocks is some blocks in a row.
 """

@@ -1,25 +1,21 @@
--- What is so of each script that the bytes of a source spell, where the source tells its bytes; and the scripts of which the clauses speak.
+-- The scripts of which clauses speak that aren't of every script.
 --     HighPeriodicsOnly s                each periodic endpoint that the script opens is of high speed
 --     OpensNoHub s                       no control endpoint that the script opens is a hub's: a hub answers by its own state, and not by
 --                                        lines of the script
 --     AsynchronousOfDevices s            the endpoints that it opens are high-speed bulk and control endpoints of devices
---     OfEachScript so left               of each script
---     OfEachAsynchronousScript so left   of each whose endpoints are high-speed bulk and control ones; it may cancel them
---     OfEachScriptOfDevices so left      of each whose endpoints are high-speed bulk and control ones of devices, none a hub's own; it may
---                                        cancel them
+--     WhereAsynchronous so s             so, where its endpoints are high-speed bulk and control ones; it may cancel them
+--     WhereOfDevices so s                so, where these are of devices, none a hub's own
 use Rattle.std.specs.List.{AllByRecursion}
-use Rattle.std.specs.Prelude.{◌≡◌, ℕ, true, false, List, Option, IfSome}
+use Rattle.std.specs.Prelude.{◌≡◌, true, false}
 use Rattle.usb_base.specs.declared.commands.Cmd.{Cmd}
 use Rattle.usb_base.specs.declared.commands.Cmd.TheVariants as commands
 use Rattle.usb_base.specs.declared.packets.Speed.TheVariants.{High}
 use Rattle.script_types.specs.declared.scripts.Line.{Line}
 use Rattle.script_types.specs.declared.scripts.Line.TheVariants as lines
 use Rattle.script_types.specs.declared.scripts.Script.{Script}
-use Rattle.app_ends.specs.Input.{input_of}
 use Rattle.drv_periodic_table.specs.Periodic.{is_periodic}
 use Rattle.drv_table.specs.Words.{is_control}
 use Rattle.claims_report.specs.Controls.{is_of_hub}
-use Rattle.script_text.specs.Faults.{Spells}
 use Rattle.claims_driver.specs.Scripts.{AsynchronousOnly}
 
 -- ---- scripts
@@ -48,11 +44,8 @@ pub record AsynchronousOfDevices (s : Script) : Type 0 where
   pub only : AsynchronousOnly s
   pub devices : OpensNoHub s
 
-abbrev pub OfEachScript : (Script → Type 0) → Option (List ℕ) → Type 0
-OfEachScript so left = IfSome left (λ xs. (s : Script) → Spells (input_of xs) s → so s)
+abbrev pub WhereAsynchronous : (Script → Type 0) → Script → Type 0
+WhereAsynchronous so s = AsynchronousOnly s → so s
 
-abbrev pub OfEachAsynchronousScript : (Script → Type 0) → Option (List ℕ) → Type 0
-OfEachAsynchronousScript so left = IfSome left (λ xs. (s : Script) → Spells (input_of xs) s → AsynchronousOnly s → so s)
-
-abbrev pub OfEachScriptOfDevices : (Script → Type 0) → Option (List ℕ) → Type 0
-OfEachScriptOfDevices so left = IfSome left (λ xs. (s : Script) → Spells (input_of xs) s → AsynchronousOfDevices s → so s)
+abbrev pub WhereOfDevices : (Script → Type 0) → Script → Type 0
+WhereOfDevices so s = AsynchronousOfDevices s → so s

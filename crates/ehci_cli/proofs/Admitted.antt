@@ -1,5 +1,5 @@
 -- Each script that an input spells keeps its budgets and its frames throughout, and its controller keeps to Lent blocks.
-use Rattle.std.proofs.Common.{ℕ, List, Option, Some, None}
+use Rattle.std.proofs.Common.{ℕ, List, Option}
 use Rattle.script_fits.proofs.Texts.{spelled_fits}
 use Rattle.bus_world.specs.Budgets.{AdmitsThroughout}
 use Rattle.bus_world.proofs.Budgeted.{script_admits}
@@ -9,21 +9,17 @@ use Rattle.claims_world.specs.Owned.{OwnsItsBlocksThroughout}
 use Rattle.law_world.proofs.lemmas.memory.lemmas.owned_blocks.Worlds.{script_owns}
 use Rattle.claims_world.specs.Schedule.{KeepsScheduleThroughout}
 use Rattle.law_world.proofs.lemmas.memory.lemmas.world_frames.Moments.{script_scheduled}
-use Rattle.app_ends.specs.Input.{input_of}
-use Rattle.claims_world.specs.Scripts.{OfEachScript}
+use Rattle.app_forms.specs.Scripts.{OfEachScript}
+use Rattle.ehci_cli.proofs.Each.{of_each}
 
-pub source_admits : (left : Option (List ℕ)) → OfEachScript AdmitsThroughout left
-source_admits None = tt
-source_admits (Some xs) = λ s spelled. script_admits s (spelled_fits (input_of xs) s spelled)
+pub source_admits : (words : List (List ℕ)) (left : Option (List ℕ)) → OfEachScript AdmitsThroughout words left
+source_admits = of_each AdmitsThroughout (λ text s spelled. script_admits s (spelled_fits text s spelled))
 
-pub source_keeps_to_lent : (left : Option (List ℕ)) → OfEachScript KeepsToLentThroughout left
-source_keeps_to_lent None = tt
-source_keeps_to_lent (Some xs) = λ s spelled. script_keeps s (spelled_fits (input_of xs) s spelled)
+pub source_keeps_to_lent : (words : List (List ℕ)) (left : Option (List ℕ)) → OfEachScript KeepsToLentThroughout words left
+source_keeps_to_lent = of_each KeepsToLentThroughout (λ text s spelled. script_keeps s (spelled_fits text s spelled))
 
-pub source_owns : (left : Option (List ℕ)) → OfEachScript OwnsItsBlocksThroughout left
-source_owns None = tt
-source_owns (Some xs) = λ s spelled. script_owns s (spelled_fits (input_of xs) s spelled)
+pub source_owns : (words : List (List ℕ)) (left : Option (List ℕ)) → OfEachScript OwnsItsBlocksThroughout words left
+source_owns = of_each OwnsItsBlocksThroughout (λ text s spelled. script_owns s (spelled_fits text s spelled))
 
-pub source_keeps_schedule : (left : Option (List ℕ)) → OfEachScript KeepsScheduleThroughout left
-source_keeps_schedule None = tt
-source_keeps_schedule (Some xs) = λ s spelled. script_scheduled s (spelled_fits (input_of xs) s spelled)
+pub source_keeps_schedule : (words : List (List ℕ)) (left : Option (List ℕ)) → OfEachScript KeepsScheduleThroughout words left
+source_keeps_schedule = of_each KeepsScheduleThroughout (λ text s spelled. script_scheduled s (spelled_fits text s spelled))

@@ -1,3 +1,4 @@
+pub mod Each
 pub mod Admitted
 pub mod Streams
 pub mod Memory

@@ -1,6 +1,6 @@
 -- At each moment of a script's run everything of the driver is in place in memory, the controller goes on, all that it can come to is Lent,
 -- each word is written by its owner, what left is given back once it was let go, and links lead to live structures or to what left later.
-use Rattle.std.proofs.Common.{ℕ, List, Option, Some, None}
+use Rattle.std.proofs.Common.{ℕ, List, Option}
 use Rattle.claims_world.specs.Memory.{KeepsMemory}
 use Rattle.claims_world.specs.Links.{KeepsLinks}
 use Rattle.claims_world.specs.Reach.{ReachesLentThroughout}
@@ -11,25 +11,20 @@ use Rattle.law_world.proofs.lemmas.memory.ReachMoments.{texts_reach_lent}
 use Rattle.law_world.proofs.lemmas.memory.OwnMoments.{texts_keep_to_owners}
 use Rattle.law_world.proofs.lemmas.memory.LetGo.{scripts_give_back_last}
 use Rattle.law_world.proofs.lemmas.memory.LinksHeld.{texts_keep_links}
-use Rattle.app_ends.specs.Input.{input_of}
-use Rattle.claims_world.specs.Scripts.{OfEachScript}
+use Rattle.app_forms.specs.Scripts.{OfEachScript}
+use Rattle.ehci_cli.proofs.Each.{of_each}
 
-pub source_keeps_memory : (left : Option (List ℕ)) → OfEachScript KeepsMemory left
-source_keeps_memory None = tt
-source_keeps_memory (Some xs) = λ s spelled. texts_keep_memory (input_of xs) s spelled
+pub source_keeps_memory : (words : List (List ℕ)) (left : Option (List ℕ)) → OfEachScript KeepsMemory words left
+source_keeps_memory = of_each KeepsMemory texts_keep_memory
 
-pub source_reaches_lent : (left : Option (List ℕ)) → OfEachScript ReachesLentThroughout left
-source_reaches_lent None = tt
-source_reaches_lent (Some xs) = λ s spelled. texts_reach_lent (input_of xs) s spelled
+pub source_reaches_lent : (words : List (List ℕ)) (left : Option (List ℕ)) → OfEachScript ReachesLentThroughout words left
+source_reaches_lent = of_each ReachesLentThroughout texts_reach_lent
 
-pub source_keeps_to_owners : (left : Option (List ℕ)) → OfEachScript KeepsToOwnersThroughout left
-source_keeps_to_owners None = tt
-source_keeps_to_owners (Some xs) = λ s spelled. texts_keep_to_owners (input_of xs) s spelled
+pub source_keeps_to_owners : (words : List (List ℕ)) (left : Option (List ℕ)) → OfEachScript KeepsToOwnersThroughout words left
+source_keeps_to_owners = of_each KeepsToOwnersThroughout texts_keep_to_owners
 
-pub source_gives_back_last : (left : Option (List ℕ)) → OfEachScript GivesBackLast left
-source_gives_back_last None = tt
-source_gives_back_last (Some xs) = λ s spelled. scripts_give_back_last s
+pub source_gives_back_last : (words : List (List ℕ)) (left : Option (List ℕ)) → OfEachScript GivesBackLast words left
+source_gives_back_last = of_each GivesBackLast (λ text s spelled. scripts_give_back_last s)
 
-pub source_keeps_links : (left : Option (List ℕ)) → OfEachScript KeepsLinks left
-source_keeps_links None = tt
-source_keeps_links (Some xs) = λ s spelled. texts_keep_links (input_of xs) s spelled
+pub source_keeps_links : (words : List (List ℕ)) (left : Option (List ℕ)) → OfEachScript KeepsLinks words left
+source_keeps_links = of_each KeepsLinks texts_keep_links

@@ -13,10 +13,11 @@ use Rattle.bus_world.specs.Budgets.{moment}
 use Rattle.law_world.proofs.lemmas.streams.lemmas.sending_worlds.Moments.{texts_keep_streams}
 use Rattle.claims_world.specs.HighStreams.{KeepsHighStreams}
 use Rattle.law_reports.proofs.lemmas.pipes.lemmas.high_streams.AfterRuns.{texts_keep_high_streams}
-use Rattle.app_ends.specs.Input.{input_of}
 use Rattle.bus_world.specs.Runs.{IsWholeRunOf}
 use Rattle.claims_world.specs.Ends.{IsEndedOnce, EndsOnceThroughout, EndsOnce}
-use Rattle.claims_world.specs.Scripts.{OfEachScript, OfEachAsynchronousScript}
+use Rattle.claims_world.specs.Scripts.{WhereAsynchronous}
+use Rattle.app_forms.specs.Scripts.{OfEachScript}
+use Rattle.ehci_cli.proofs.Each.{of_each}
 use Rattle.law_reports.proofs.lemmas.lines.Ended.{texts_end_once}
 
 -- what is so of the report of each moment with no order left is so of that after the run
@@ -36,18 +37,15 @@ keeps s k = record {
   printed = λ w. report_printed w.fixed w.world;
 }
 
-pub source_keeps_streams : (left : Option (List ℕ)) → OfEachAsynchronousScript KeepsStreams left
-source_keeps_streams None = tt
-source_keeps_streams (Some xs) = λ s spelled only. keeps s (texts_keep_streams (input_of xs) s spelled only)
+pub source_keeps_streams : (words : List (List ℕ)) (left : Option (List ℕ)) → OfEachScript (WhereAsynchronous KeepsStreams) words left
+source_keeps_streams = of_each (WhereAsynchronous KeepsStreams) (λ text s spelled only. keeps s (texts_keep_streams text s spelled only))
 
 -- no line follows an end, whatever the script opens
 ends : (s : Script) → EndsOnceThroughout s → EndsOnce s
 ends s k = record { throughout = k; after = λ w ran name other. at_end (λ r. IsEndedOnce r name) s (λ j none. k j name other) w ran }
 
-pub source_ends_once : (left : Option (List ℕ)) → OfEachScript EndsOnce left
-source_ends_once None = tt
-source_ends_once (Some xs) = λ s spelled. ends s (texts_end_once (input_of xs) s spelled)
+pub source_ends_once : (words : List (List ℕ)) (left : Option (List ℕ)) → OfEachScript EndsOnce words left
+source_ends_once = of_each EndsOnce (λ text s spelled. ends s (texts_end_once text s spelled))
 
-pub source_keeps_high_streams : (left : Option (List ℕ)) → OfEachScript KeepsHighStreams left
-source_keeps_high_streams None = tt
-source_keeps_high_streams (Some xs) = λ s spelled. texts_keep_high_streams (input_of xs) s spelled
+pub source_keeps_high_streams : (words : List (List ℕ)) (left : Option (List ℕ)) → OfEachScript KeepsHighStreams words left
+source_keeps_high_streams = of_each KeepsHighStreams texts_keep_high_streams

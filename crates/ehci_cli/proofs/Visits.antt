@@ -1,5 +1,5 @@
 -- At each moment of a script's run both walks visit as the standard has it, and each microframe ends.
-use Rattle.std.proofs.Common.{ℕ, List, Option, Some, None}
+use Rattle.std.proofs.Common.{ℕ, List, Option}
 use Rattle.claims_world.specs.Visits.{KeepsVisits}
 use Rattle.claims_world.specs.WithinLoad.{PaysWithinLoad}
 use Rattle.claims_world.specs.InTime.{ArriveInTime}
@@ -15,37 +15,29 @@ use Rattle.law_reports.proofs.lemmas.queues.Copies.{texts_keep_to_work}
 use Rattle.law_microframes.proofs.lemmas.time.PaymentTimes.{texts_pay, texts_in_time}
 use Rattle.claims_world.specs.Microframes.{MicroframesEnd}
 use Rattle.law_microframes.proofs.lemmas.time.TurnTexts.{texts_end}
-use Rattle.app_ends.specs.Input.{input_of}
-use Rattle.claims_world.specs.Scripts.{OfEachScript}
+use Rattle.app_forms.specs.Scripts.{OfEachScript}
+use Rattle.ehci_cli.proofs.Each.{of_each}
 
-pub source_keeps_visits : (left : Option (List ℕ)) → OfEachScript KeepsVisits left
-source_keeps_visits None = tt
-source_keeps_visits (Some xs) = λ s spelled. texts_keep_visits (input_of xs) s spelled
+pub source_keeps_visits : (words : List (List ℕ)) (left : Option (List ℕ)) → OfEachScript KeepsVisits words left
+source_keeps_visits = of_each KeepsVisits texts_keep_visits
 
-pub source_pays_within_load : (left : Option (List ℕ)) → OfEachScript PaysWithinLoad left
-source_pays_within_load None = tt
-source_pays_within_load (Some xs) = λ s spelled. texts_pay (input_of xs) s spelled
+pub source_pays_within_load : (words : List (List ℕ)) (left : Option (List ℕ)) → OfEachScript PaysWithinLoad words left
+source_pays_within_load = of_each PaysWithinLoad texts_pay
 
-pub source_is_in_time : (left : Option (List ℕ)) → OfEachScript ArriveInTime left
-source_is_in_time None = tt
-source_is_in_time (Some xs) = λ s spelled. texts_in_time (input_of xs) s spelled
+pub source_is_in_time : (words : List (List ℕ)) (left : Option (List ℕ)) → OfEachScript ArriveInTime words left
+source_is_in_time = of_each ArriveInTime texts_in_time
 
-pub source_ends_microframes : (left : Option (List ℕ)) → OfEachScript MicroframesEnd left
-source_ends_microframes None = tt
-source_ends_microframes (Some xs) = λ s spelled. texts_end (input_of xs) s spelled
+pub source_ends_microframes : (words : List (List ℕ)) (left : Option (List ℕ)) → OfEachScript MicroframesEnd words left
+source_ends_microframes = of_each MicroframesEnd texts_end
 
-pub source_keeps_due : (left : Option (List ℕ)) → OfEachScript KeepsDue left
-source_keeps_due None = tt
-source_keeps_due (Some xs) = λ s spelled. texts_keep_due (input_of xs) s spelled
+pub source_keeps_due : (words : List (List ℕ)) (left : Option (List ℕ)) → OfEachScript KeepsDue words left
+source_keeps_due = of_each KeepsDue texts_keep_due
 
-pub source_does_slots : (left : Option (List ℕ)) → OfEachScript SlotsAreDone left
-source_does_slots None = tt
-source_does_slots (Some xs) = λ s spelled. texts_serve_slots (input_of xs) s spelled
+pub source_does_slots : (words : List (List ℕ)) (left : Option (List ℕ)) → OfEachScript SlotsAreDone words left
+source_does_slots = of_each SlotsAreDone texts_serve_slots
 
-pub source_keeps_to_work : (left : Option (List ℕ)) → OfEachScript KeepsToWork left
-source_keeps_to_work None = tt
-source_keeps_to_work (Some xs) = λ s spelled. texts_keep_to_work (input_of xs) s spelled
+pub source_keeps_to_work : (words : List (List ℕ)) (left : Option (List ℕ)) → OfEachScript KeepsToWork words left
+source_keeps_to_work = of_each KeepsToWork texts_keep_to_work
 
-pub source_repeats_after_losses : (left : Option (List ℕ)) → OfEachScript RepeatAfterLosses left
-source_repeats_after_losses None = tt
-source_repeats_after_losses (Some xs) = λ s spelled. texts_repeat_after_losses (input_of xs) s spelled
+pub source_repeats_after_losses : (words : List (List ℕ)) (left : Option (List ℕ)) → OfEachScript RepeatAfterLosses words left
+source_repeats_after_losses = of_each RepeatAfterLosses texts_repeat_after_losses

@@ -22,7 +22,8 @@ ghost use Rattle.claims_world.specs.Slots.{SlotsAreDone};
 ghost use Rattle.claims_world.specs.Unfinished.{KeepsToWork};
 ghost use Rattle.claims_world.specs.Microframes.{MicroframesEnd};
 ghost use Rattle.claims_world.specs.Requests.{KeepsRequests};
-ghost use Rattle.claims_world.specs.Scripts.{OfEachScript, OfEachAsynchronousScript, OfEachScriptOfDevices};
+ghost use Rattle.app_forms.specs.Scripts.{OfEachScript};
+ghost use Rattle.claims_world.specs.Scripts.{WhereAsynchronous, WhereOfDevices};
 ghost use Rattle.claims_world.specs.Streams.{KeepsStreams};
 ghost use Rattle.claims_world.specs.HighStreams.{KeepsHighStreams};
 ghost use Rattle.claims_world.specs.Ends.{EndsOnce};
@@ -51,8 +52,9 @@ use usb_base::{Sink, Source};
 ///   the output is written.
 /// - `Memory` only before the first write.
 ///
-/// What the clauses after `output` say is said of the table machine over the script that the input spells; `output` says that what is
-/// printed is its report, after the whole run. docs/THEOREM.md has each clause with its definitions.
+/// What the clauses after `output` say is said of the table machine over the script that the input spells, and, for `load`, over the
+/// one that is drawn from the number; `output` and `load` say that what is printed is the report of its whole run, or what that counts.
+/// docs/THEOREM.md has each clause with its definitions.
 ///
 /// Each microframe of a script's run ends, after at most 17,957,823 events of the controller, each followed by one of the driver; so
 /// every line is carried out, and what is reported stands after the whole run.
@@ -144,32 +146,32 @@ pub fn ehci<S: Source, K: Sink>(
     ensures unread { (n : ℕ) → AreWordsOf (map string_bytes words.now) (Form.Load n) → source.new ≡ source.old }
     ensures load { IsLoad IsWholeRunOf (map string_bytes words.now) result (K.written sink.old) (K.written sink.new) }
     ensures output { IfSome (S.left source.old) (λ xs. IsProgram IsWholeRunOf (map string_bytes words.now) result (input_of xs) (K.written sink.old) (K.written sink.new)) }
-    ensures budgets { OfEachScript AdmitsThroughout (S.left source.old) }
-    ensures lent { OfEachScript KeepsToLentThroughout (S.left source.old) }
-    ensures owned { OfEachScript OwnsItsBlocksThroughout (S.left source.old) }
-    ensures schedule { OfEachScript KeepsScheduleThroughout (S.left source.old) }
-    ensures memory { OfEachScript KeepsMemory (S.left source.old) }
-    ensures reach { OfEachScript ReachesLentThroughout (S.left source.old) }
-    ensures owners { OfEachScript KeepsToOwnersThroughout (S.left source.old) }
-    ensures releases { OfEachScript GivesBackLast (S.left source.old) }
-    ensures links { OfEachScript KeepsLinks (S.left source.old) }
-    ensures visits { OfEachScript KeepsVisits (S.left source.old) }
-    ensures microframes { OfEachScript MicroframesEnd (S.left source.old) }
-    ensures within_load { OfEachScript PaysWithinLoad (S.left source.old) }
-    ensures in_time { OfEachScript ArriveInTime (S.left source.old) }
-    ensures repeats { OfEachScript RepeatAfterLosses (S.left source.old) }
-    ensures due { OfEachScript KeepsDue (S.left source.old) }
-    ensures slots { OfEachScript SlotsAreDone (S.left source.old) }
-    ensures goes_on { OfEachScript KeepsToWork (S.left source.old) }
-    ensures streams { OfEachAsynchronousScript KeepsStreams (S.left source.old) }
-    ensures high_streams { OfEachScript KeepsHighStreams (S.left source.old) }
-    ensures ends { OfEachScript EndsOnce (S.left source.old) }
-    ensures requests { OfEachScriptOfDevices KeepsRequests (S.left source.old) }
-    ensures answers { OfEachScript CommandsHaveCauses (S.left source.old) }
-    ensures hears { OfEachScript HearsThroughout (S.left source.old) }
-    ensures works { OfEachScript RestsThroughout (S.left source.old) }
-    ensures lines { OfEachScript LinesHaveReasons (S.left source.old) }
-    ensures pending { OfEachScript PendingIsCounted (S.left source.old) }
+    ensures budgets { OfEachScript AdmitsThroughout (map string_bytes words.now) (S.left source.old) }
+    ensures lent { OfEachScript KeepsToLentThroughout (map string_bytes words.now) (S.left source.old) }
+    ensures owned { OfEachScript OwnsItsBlocksThroughout (map string_bytes words.now) (S.left source.old) }
+    ensures schedule { OfEachScript KeepsScheduleThroughout (map string_bytes words.now) (S.left source.old) }
+    ensures memory { OfEachScript KeepsMemory (map string_bytes words.now) (S.left source.old) }
+    ensures reach { OfEachScript ReachesLentThroughout (map string_bytes words.now) (S.left source.old) }
+    ensures owners { OfEachScript KeepsToOwnersThroughout (map string_bytes words.now) (S.left source.old) }
+    ensures releases { OfEachScript GivesBackLast (map string_bytes words.now) (S.left source.old) }
+    ensures links { OfEachScript KeepsLinks (map string_bytes words.now) (S.left source.old) }
+    ensures visits { OfEachScript KeepsVisits (map string_bytes words.now) (S.left source.old) }
+    ensures microframes { OfEachScript MicroframesEnd (map string_bytes words.now) (S.left source.old) }
+    ensures within_load { OfEachScript PaysWithinLoad (map string_bytes words.now) (S.left source.old) }
+    ensures in_time { OfEachScript ArriveInTime (map string_bytes words.now) (S.left source.old) }
+    ensures repeats { OfEachScript RepeatAfterLosses (map string_bytes words.now) (S.left source.old) }
+    ensures due { OfEachScript KeepsDue (map string_bytes words.now) (S.left source.old) }
+    ensures slots { OfEachScript SlotsAreDone (map string_bytes words.now) (S.left source.old) }
+    ensures goes_on { OfEachScript KeepsToWork (map string_bytes words.now) (S.left source.old) }
+    ensures streams { OfEachScript (WhereAsynchronous KeepsStreams) (map string_bytes words.now) (S.left source.old) }
+    ensures high_streams { OfEachScript KeepsHighStreams (map string_bytes words.now) (S.left source.old) }
+    ensures ends { OfEachScript EndsOnce (map string_bytes words.now) (S.left source.old) }
+    ensures requests { OfEachScript (WhereOfDevices KeepsRequests) (map string_bytes words.now) (S.left source.old) }
+    ensures answers { OfEachScript CommandsHaveCauses (map string_bytes words.now) (S.left source.old) }
+    ensures hears { OfEachScript HearsThroughout (map string_bytes words.now) (S.left source.old) }
+    ensures works { OfEachScript RestsThroughout (map string_bytes words.now) (S.left source.old) }
+    ensures lines { OfEachScript LinesHaveReasons (map string_bytes words.now) (S.left source.old) }
+    ensures pending { OfEachScript PendingIsCounted (map string_bytes words.now) (S.left source.old) }
     ensures left { IfSome (S.left source.old) (λ xs. Leaves (map string_bytes words.now) result xs (S.left source.new)) }
     ensures nothing { WritesNothing result → sink.new ≡ sink.old }
     ensures read { IsFault result (S.faults source.old) (S.faults source.new) }
