@@ -134,7 +134,7 @@ use usb_base::{Sink, Source};
 /// what its token left, or, at a cancel, what the active overlay leaves. Each line leaves one transfer less of its endpoint without a
 /// line, that of a cancel none; and `pending` is told after the run just of each endpoint that hasn't ended and has such transfers, with
 /// their number.
-#[tactic(auto, using(crate::proofs::Whole::whole_load, crate::proofs::Whole::whole_program, crate::proofs::Admitted::source_admits, crate::proofs::Admitted::source_keeps_to_lent, crate::proofs::Admitted::source_owns, crate::proofs::Admitted::source_keeps_schedule, crate::proofs::Streams::source_keeps_streams, crate::proofs::Streams::source_keeps_high_streams, crate::proofs::Streams::source_ends_once, crate::proofs::Requests::source_keeps_requests, crate::proofs::Memory::source_keeps_memory, crate::proofs::Memory::source_reaches_lent, crate::proofs::Memory::source_keeps_to_owners, crate::proofs::Memory::source_gives_back_last, crate::proofs::Memory::source_keeps_links, crate::proofs::Visits::source_keeps_visits, crate::proofs::Visits::source_pays_within_load, crate::proofs::Visits::source_is_in_time, crate::proofs::Visits::source_repeats_after_losses, crate::proofs::Visits::source_keeps_due, crate::proofs::Visits::source_does_slots, crate::proofs::Visits::source_keeps_to_work, crate::proofs::Visits::source_ends_microframes, crate::proofs::Causes::source_has_causes, crate::proofs::Causes::source_is_heard, crate::proofs::Causes::source_rests_when_done, crate::proofs::Causes::source_tells_for_reasons, crate::proofs::Causes::source_counts_pending))]
+#[tactic(auto, using(crate::proofs::Whole::whole_load, crate::proofs::Whole::whole_program))]
 pub fn ehci<S: Source, K: Sink>(
     alloc: Global,
     words: &[String],

@@ -1,5 +1,89 @@
+use Rattle.ehci_cli.proofs.Admitted.{source_admits, source_keeps_to_lent, source_owns, source_keeps_schedule}
+use Rattle.ehci_cli.proofs.Causes.{source_has_causes, source_is_heard, source_rests_when_done, source_tells_for_reasons, source_counts_pending}
+use Rattle.ehci_cli.proofs.Memory.{source_keeps_memory, source_reaches_lent, source_keeps_to_owners, source_gives_back_last, source_keeps_links}
+use Rattle.ehci_cli.proofs.Requests.{source_keeps_requests}
+use Rattle.ehci_cli.proofs.Streams.{source_keeps_streams, source_ends_once, source_keeps_high_streams}
+use Rattle.ehci_cli.proofs.Visits.{source_keeps_visits, source_pays_within_load, source_is_in_time, source_ends_microframes, source_keeps_due, source_does_slots, source_keeps_to_work, source_repeats_after_losses}
 use Rattle.ehci_cli.proofs.Whole.{whole_load}
 use Rattle.ehci_cli.proofs.program.ehci.Goals as goal
 
 pub returns-clause-load : goal.returns-clause-load
 returns-clause-load g c = whole_load _ _ _ _ c.ehci_machine.ensures.load
+
+pub returns-clause-budgets : goal.returns-clause-budgets
+returns-clause-budgets g c = source_admits _ _
+
+pub returns-clause-lent : goal.returns-clause-lent
+returns-clause-lent g c = source_keeps_to_lent _ _
+
+pub returns-clause-owned : goal.returns-clause-owned
+returns-clause-owned g c = source_owns _ _
+
+pub returns-clause-schedule : goal.returns-clause-schedule
+returns-clause-schedule g c = source_keeps_schedule _ _
+
+pub returns-clause-memory : goal.returns-clause-memory
+returns-clause-memory g c = source_keeps_memory _ _
+
+pub returns-clause-reach : goal.returns-clause-reach
+returns-clause-reach g c = source_reaches_lent _ _
+
+pub returns-clause-owners : goal.returns-clause-owners
+returns-clause-owners g c = source_keeps_to_owners _ _
+
+pub returns-clause-releases : goal.returns-clause-releases
+returns-clause-releases g c = source_gives_back_last _ _
+
+pub returns-clause-links : goal.returns-clause-links
+returns-clause-links g c = source_keeps_links _ _
+
+pub returns-clause-visits : goal.returns-clause-visits
+returns-clause-visits g c = source_keeps_visits _ _
+
+pub returns-clause-microframes : goal.returns-clause-microframes
+returns-clause-microframes g c = source_ends_microframes _ _
+
+pub returns-clause-within_load : goal.returns-clause-within_load
+returns-clause-within_load g c = source_pays_within_load _ _
+
+pub returns-clause-in_time : goal.returns-clause-in_time
+returns-clause-in_time g c = source_is_in_time _ _
+
+pub returns-clause-repeats : goal.returns-clause-repeats
+returns-clause-repeats g c = source_repeats_after_losses _ _
+
+pub returns-clause-due : goal.returns-clause-due
+returns-clause-due g c = source_keeps_due _ _
+
+pub returns-clause-slots : goal.returns-clause-slots
+returns-clause-slots g c = source_does_slots _ _
+
+pub returns-clause-goes_on : goal.returns-clause-goes_on
+returns-clause-goes_on g c = source_keeps_to_work _ _
+
+pub returns-clause-streams : goal.returns-clause-streams
+returns-clause-streams g c = source_keeps_streams _ _
+
+pub returns-clause-high_streams : goal.returns-clause-high_streams
+returns-clause-high_streams g c = source_keeps_high_streams _ _
+
+pub returns-clause-ends : goal.returns-clause-ends
+returns-clause-ends g c = source_ends_once _ _
+
+pub returns-clause-requests : goal.returns-clause-requests
+returns-clause-requests g c = source_keeps_requests _ _
+
+pub returns-clause-answers : goal.returns-clause-answers
+returns-clause-answers g c = source_has_causes _ _
+
+pub returns-clause-hears : goal.returns-clause-hears
+returns-clause-hears g c = source_is_heard _ _
+
+pub returns-clause-works : goal.returns-clause-works
+returns-clause-works g c = source_rests_when_done _ _
+
+pub returns-clause-lines : goal.returns-clause-lines
+returns-clause-lines g c = source_tells_for_reasons _ _
+
+pub returns-clause-pending : goal.returns-clause-pending
+returns-clause-pending g c = source_counts_pending _ _
