@@ -1,4 +1,9 @@
 pub mod Refusals
 pub mod Hearing
 pub mod Resting
+pub mod Slots
 pub mod Telling
+pub mod Adding
+pub mod Passing
+pub mod Turns
+pub mod Seating

@@ -3,33 +3,35 @@
 --     HasReason get last t what   the token t of a qTD tells this of its transfer
 --     less long left         a buffer of so many bytes of which so many are left
 --     qtds_of notes b n      the blocks of n qTDs from block b on
+--     bytes_in m blocks n    the bytes of a buffer
 --     bytes_read ..          the bytes that were moved in qTDs whose tokens were read
 --     left_in m q b          how many bytes are left of the qTD in block b, of the queue head in block q, until now
 --     bytes_now ..           the bytes that were moved until now in qTDs of which the first were read
 --     Reason p notes line bytes   why the line tells these bytes
 --     AreTold p notes reports store   lines with reasons stand behind those of before
-use Rattle.std.specs.Prelude.{◌≡◌, ◌≢◌, ℕ, zero, suc, ◌+◌, ◌-◌, ◌*◌, ◌<◌, ◌⊎◌, ◌==◌, Bool, true, false, not, ◌&&◌, nat_eq, nat_le}
-use Rattle.std.specs.Prelude.{List, [], ◌∷◌, ◌++◌, length, take, drop, slice_get, Some, None, if◌then◌else◌}
-use Rattle.std.specs.List.{flat_map}
+use Rattle.std.specs.Prelude.{◌≡◌, ◌≢◌, ℕ, zero, suc, ◌+◌, ◌-◌, ◌*◌, ◌/◌, ◌%◌, ◌<◌, ◌⊎◌, ◌==◌, Bool, true, false, not, ◌&&◌, nat_eq, nat_le}
+use Rattle.std.specs.Prelude.{List, [], ◌∷◌, ◌++◌, length, map, take, drop, slice_get, slice_index, Some, None, if◌then◌else◌}
+use Rattle.std.specs.List.{flat_map, range_with_len}
 use Rattle.usb_base.specs.declared.endpoints.EndCause.TheVariants as causes
 use Rattle.usb_base.specs.declared.reports.Report.{Report}
 use Rattle.usb_base.specs.declared.reports.What.{What}
 use Rattle.usb_base.specs.declared.reports.What.TheVariants as lines
 use Rattle.word_mem.specs.Memory.{Mem, word_at}
+use Rattle.word_mem.specs.Views.{byte_at}
 use Rattle.link_words.specs.Layout.{high_bits}
 use Rattle.qh_qtd.specs.declared.token.Token.{Token}
 use Rattle.qh_qtd.specs.Token.{token_at}
-use Rattle.drv_periodic_table.specs.Descriptors.{is_served, errors_in, told_bytes}
 use Rattle.drv_periodic_table.specs.Periodic.{note_at as descriptor_at}
 use Rattle.drv_table.specs.declared.content.Endpoint.{Endpoint}
 use Rattle.drv_table.specs.declared.content.QtdNote.{QtdNote}
 use Rattle.drv_table.specs.declared.content.Sort.{Sort}
 use Rattle.drv_table.specs.declared.content.Sort.TheVariants as sorts
 use Rattle.drv_table.specs.declared.content.Transfer.{Transfer}
-use Rattle.drv_table.specs.Harvests.{note_at, buffer_bytes}
+use Rattle.drv_table.specs.Harvests.{note_at}
 use Rattle.drv_table.specs.Parts.{Parts}
 use Rattle.drv_table.specs.Words.{is_control}
 use Rattle.claims_driver.specs.Owners.{is_descriptor}
+use Rattle.claims_answers.specs.Slots.{is_done, bad_slots, bytes_of_slots}
 
 -- ---- the token of a qTD (3.5.3 and 4.15.1)
 
@@ -62,9 +64,13 @@ abbrev pub qtds_of : List QtdNote → ℕ → ℕ → List ℕ
 qtds_of notes b zero = []
 qtds_of notes b (suc n) = b ∷ qtds_of notes (note_at notes b).next n
 
+-- the first n bytes of a buffer, which begins in these blocks, each with 4,096 bytes of it but for the last (3.5.4)
+abbrev pub bytes_in : Mem → List ℕ → ℕ → List ℕ
+bytes_in m blocks n = map (λ j. byte_at m (32 * slice_index blocks (j / 4096) + j % 4096)) (range_with_len 0 n)
+
 -- as many as were noted when their tokens were read
 abbrev pub bytes_read : List QtdNote → Mem → List ℕ → List ℕ
-bytes_read notes m blocks = flat_map (λ b. buffer_bytes m (note_at notes b) (note_at notes b).moved) blocks
+bytes_read notes m blocks = flat_map (λ b. bytes_in m (note_at notes b).buffer (note_at notes b).moved) blocks
 
 -- while the overlay of the queue head is active, its total stands for that of its current qTD (3.6.3)
 abbrev pub overlay_of : Mem → ℕ → Token
@@ -76,7 +82,8 @@ left_in m q b =
     (token_of m b).total
 
 abbrev pub bytes_under_way : List QtdNote → Mem → ℕ → List ℕ → List ℕ
-bytes_under_way notes m q blocks = flat_map (λ b. buffer_bytes m (note_at notes b) (less (note_at notes b).told (left_in m q b))) blocks
+bytes_under_way notes m q blocks =
+    flat_map (λ b. bytes_in m (note_at notes b).buffer (less (note_at notes b).told (left_in m q b))) blocks
 
 -- `left` of the n qTDs from block b on aren't read yet
 abbrev pub bytes_until_now : List QtdNote → Mem → ℕ → ℕ → ℕ → ℕ → List ℕ
@@ -127,10 +134,10 @@ pub record IsToldBehind (p : Parts) (line : Report) (bytes : List ℕ) : Type 0 
 pub record IsToldBySlots (p : Parts) (line : Report) (bytes : List ℕ) : Type 0 where
   pub of : IsUntold p line
   pub descriptor : is_descriptor of.transfer.sort ≡ true
-  pub served : is_served (descriptor_at p.driver.periodic.notes of.transfer.first) p.memory of.transfer.first ≡ true
-  pub what : line.what ≡ lines.Iso (errors_in (descriptor_at p.driver.periodic.notes of.transfer.first) p.memory of.transfer.first)
+  pub served : is_done (descriptor_at p.driver.periodic.notes of.transfer.first) p.memory of.transfer.first ≡ true
+  pub what : line.what ≡ lines.Iso (bad_slots (descriptor_at p.driver.periodic.notes of.transfer.first) p.memory of.transfer.first)
   pub bytes_are : bytes ≡ take of.transfer.most
-      (told_bytes (descriptor_at p.driver.periodic.notes of.transfer.first) p.memory of.transfer.first)
+      (bytes_of_slots (descriptor_at p.driver.periodic.notes of.transfer.first) p.memory of.transfer.first)
 
 -- what was moved until now of a transfer of endpoint e that has no line
 abbrev pub bytes_of_untold : Parts → ℕ → ℕ → Transfer → List ℕ

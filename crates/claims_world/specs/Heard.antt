@@ -4,7 +4,7 @@
 --     asking w               what the controller's next event asks; None where it asks nothing
 --     IsHeardAs fixed w a new    a reply is heard of the ask, and the world goes on with it
 --     HearsRightly s k       event k of the run of a script, where it is the controller's
---     HearsThroughout s      .. each
+--     HearsThroughout s      .. each, by the script's own lines and endpoints
 use Rattle.std.specs.Prelude.{◌≡◌, ℕ, suc, ◌&&◌, not, nat_le, Bool, true, false, List, ◌∷◌, length, Option, Some, None}
 use Rattle.std.specs.List.{list_any}
 use Rattle.usb_base.specs.declared.packets.Ask.{Ask}
@@ -33,6 +33,7 @@ use Rattle.bus_world.specs.Budgets.{moment}
 use Rattle.bus_world.specs.Orders.{Left, Events, Microframes}
 use Rattle.bus_world.specs.World.{World, framed, walked, with_turned, controller_row, controller_parts}
 use Rattle.claims_answers.specs.Hearing.{IsHeard, IsHeardBelow}
+use Rattle.claims_answers.specs.Seating.{AreSeats}
 
 -- ---- what is asked
 
@@ -103,6 +104,8 @@ pub record HearsRightly (s : Script) (k : ℕ) : Type 0 where
 
 -- .. and what the translators of hubs ask below them as a microframe begins
 pub record HearsThroughout (s : Script) : Type 0 where
+  pub fates : (fixed_of s).fates ≡ s.fates
+  pub seats : AreSeats s (fixed_of s).seats
   pub each : (k : ℕ) → is_controllers (moment s k).orders ≡ true → HearsRightly s k
   pub below :
       (h : HubContent) (floor : Floor) (ask : Ask) (out : List ℕ) → length floor.numbers ≡ length (seats_of s)

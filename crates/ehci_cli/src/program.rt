@@ -125,15 +125,20 @@ use usb_base::{Sink, Source};
 /// data; and `acted` is told as the number of requests that were acted on. After the run these are all its requests.
 ///
 /// Each command of a script is refused for the first cause that stands, of busy, no endpoint, closed, already open, too long, no
-/// placement and no blocks, and its line tells this one; where none stands it is accepted. Each ask of the controller is heard as the
-/// script's lines on lost packets, its holds and the ports of its hubs say: by its endpoint alone, or by none.
+/// placement and no blocks, and its line tells this one; where none stands it is accepted, and adds what it asks for: an endpoint, a
+/// transfer whose qTDs have just its bytes, isochronous transfers, or the end of its endpoint. Each ask of the controller is heard as the
+/// script's lines on lost packets, its holds and the ports of its hubs say: by its endpoint alone, or by none; and its endpoints, and no
+/// fewer, stand on the bus.
 ///
-/// The driver rests only where no command is unfinished, each cancelled endpoint is given back, and of each that hasn't ended all that was
-/// asked for has its line, and its blocks are given back. Each line that it writes has its reason in the token or the descriptor that it
-/// reads there, in the STALL of a request before, or in the cancel; and it tells as many bytes as were moved: of each qTD its length less
-/// what its token left, or, at a cancel, what the active overlay leaves. Each line leaves one transfer less of its endpoint without a
-/// line, that of a cancel none; and `pending` is told after the run just of each endpoint that hasn't ended and has such transfers, with
-/// their number.
+/// The driver rests only where no command is unfinished, each cancelled endpoint is given back, and of each that hasn't ended all that
+/// was asked for has its line, and its blocks are given back; until then, and with no command unfinished, at every second event at the
+/// latest it does something of what can be given back, and reads a transfer that has no line. What was moved in a qTD it notes as it
+/// reads its token, and it leaves none unread but while it is active. Each line that it writes has its reason in the token or the
+/// descriptor that it reads there, in the STALL of a request before, or in the cancel; and it tells as many bytes as were moved: of each
+/// qTD its length less what its token left, or, at a cancel, what the active overlay leaves. Each line leaves one transfer less of its
+/// endpoint without a line, that of a cancel none; at each moment the accepted transfers of an endpoint of which no line tells a cancel
+/// are those that have a line and those that have none yet; and `pending` is told after the run just of each endpoint that hasn't ended
+/// and has such transfers, with their number.
 #[tactic(auto, using(crate::proofs::Whole::whole_load, crate::proofs::Whole::whole_program))]
 pub fn ehci<S: Source, K: Sink>(
     alloc: Global,

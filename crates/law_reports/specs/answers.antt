@@ -1,2 +1,4 @@
 pub mod Laws
+pub mod Adding
+pub mod Seated
 pub mod Counting

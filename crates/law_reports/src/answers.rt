@@ -4,16 +4,49 @@
 //! The module has no code of its own: each function is a law over the definitions of `bus_world`, and its body is empty.
 
 ghost use Rattle.law_reports.specs.answers.Laws.{TextsHaveCauses, TextsAreHeard, TextsRestWhenDone, TextsTellForReasons, TextsCountPending};
-ghost use Rattle.law_reports.specs.answers.Counting.{EventsCountDown, ClosingsTellPending, OneLineForOneGet, TwoLinesForOneGet};
+ghost use Rattle.law_reports.specs.answers.Adding.{CommandsAddWhatTheyAsk, AGetAddsItsBytes, NoBytesAddedIsWrong, NothingAddedIsWrong};
+ghost use Rattle.law_reports.specs.answers.Seated.{BusHasEndpoints, AHubIsSeated, NoEndpointsIsWrong};
+ghost use Rattle.law_reports.specs.answers.Counting.{EventsCountDown, ClosingsTellPending, OneLineForOneGet, TwoLinesForOneGet, AGetAddsUp, ALineIsMissing};
 
 /// Each command of a script is refused for the first cause that stands, or none stands, and it is accepted.
 pub fn each_command_has_its_cause()
     ensures { TextsHaveCauses }
 {}
 
+/// A command that is accepted adds what it asks for: an endpoint, a transfer whose qTDs have its bytes, descriptors, or a cancel.
+pub fn commands_add_what_they_ask_for()
+    ensures { CommandsAddWhatTheyAsk }
+{}
+
+/// A get adds a transfer of its bytes.
+pub fn a_get_adds_a_transfer()
+    ensures { AGetAddsItsBytes }
+{}
+
+/// A transfer of which no byte may be told isn't what a get adds; nor is none.
+pub fn adding_is_broken_by_no_bytes_and_by_no_transfer()
+    ensures bytes { NoBytesAddedIsWrong }
+    ensures transfer { NothingAddedIsWrong }
+{}
+
 /// Each ask of the controller is heard as the lines of the script and the ports of its hubs say.
 pub fn each_ask_is_heard_as_the_script_says()
     ensures { TextsAreHeard }
+{}
+
+/// The endpoints that stand on the bus are those of the script.
+pub fn the_bus_has_the_endpoints_of_the_script()
+    ensures { BusHasEndpoints }
+{}
+
+/// With a hub and a device below it both are asked.
+pub fn a_hub_and_a_device_below_it_are_seated()
+    ensures { AHubIsSeated }
+{}
+
+/// A bus with no endpoints isn't that of a script with a hub.
+pub fn endpoints_are_broken_by_an_empty_bus()
+    ensures { NoEndpointsIsWrong }
 {}
 
 /// The driver rests only where all that it was asked for is done.
@@ -33,12 +66,14 @@ pub fn what_has_no_line_is_pending()
     ensures texts { TextsCountPending }
 {}
 
-/// The line of a get leaves one less.
+/// The line of a get leaves one less; a get has one line, or none yet.
 pub fn one_line_counts_one_get()
-    ensures { OneLineForOneGet }
+    ensures less { OneLineForOneGet }
+    ensures adds_up { AGetAddsUp }
 {}
 
-/// Two lines of one get don't.
-pub fn counting_is_broken_by_two_lines()
-    ensures { TwoLinesForOneGet }
+/// Two lines of one get don't; nor does it add up that a get was told without a line.
+pub fn counting_is_broken_by_two_lines_and_by_none()
+    ensures two { TwoLinesForOneGet }
+    ensures none { ALineIsMissing }
 {}

@@ -9,4 +9,5 @@ pub mod Making
 pub mod Words
 pub mod Storing
 pub mod Resting
+pub mod Turns
 pub mod Samples

@@ -258,7 +258,7 @@ reads p e w old is = never (found_of p.driver p.memory f.transfer f.transfer.sor
         ∙ ap (reading_row p.driver p.memory e next.0) f.here
         ∙ ap (λ (b : Bool). cond b (Some (rows.Harvest e next.0 (found_of p.driver p.memory f.transfer f.transfer.sort))) None) waits
 
-none_works : (p : Parts) → harvest_row p.driver p.memory ≡ None → IsCounted p.driver → (e : ℕ) (x : Endpoint)
+pub none_works : (p : Parts) → harvest_row p.driver p.memory ≡ None → IsCounted p.driver → (e : ℕ) (x : Endpoint)
     → slice_get p.driver.endpoints e ≡ Some x → works x ≡ false
 none_works p is old e x here = by (worker_from p.driver.endpoints p.driver.place) (worker_from p.driver.endpoints 0) refl refl is
   where
@@ -279,7 +279,7 @@ none_works p is old e x here = by (worker_from p.driver.endpoints p.driver.place
 
 -- ---- all is done
 
-not_working : (x : Endpoint) → works x ≡ false → x.ended ≡ None → x.next ≡ None
+pub not_working : (x : Endpoint) → works x ≡ false → x.ended ≡ None → x.next ≡ None
 not_working x off goes = at x.next (sym (ap (λ (o : Option EndCause). is_some x.next && is_none o) goes) ∙ off)
   where
     at : (o : Option ℕ) → is_some o && true ≡ false → o ≡ None

@@ -2,3 +2,4 @@ pub mod Counted
 pub mod Making
 pub mod Storing
 pub mod Worked
+pub mod Turns

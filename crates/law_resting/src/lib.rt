@@ -7,6 +7,7 @@ pub mod worked;
 
 ghost use Rattle.law_resting.specs.Counted.{NewDriverIsCounted, EventsKeepCounts, CommandsKeepCounts};
 ghost use Rattle.law_resting.specs.Making.{NewDriverIsMaking, EventsKeepMaking, CommandsKeepMaking, DriversRestWhenDone};
+ghost use Rattle.law_resting.specs.Turns.{DriversTakeTurns};
 ghost use Rattle.law_resting.specs.Storing.{NewDriverIsStoring, EventsKeepStoring, CommandsKeepStoring, LinkedHasWords, WorkHasStore};
 
 /// A driver that was just built forgets nothing.
@@ -43,4 +44,9 @@ pub fn a_linking_command_has_a_store()
 /// A driver rests only where all that it was asked for is done.
 pub fn drivers_rest_when_done()
     ensures { DriversRestWhenDone }
+{}
+
+/// While something is owed, or a transfer has no line, this event or the next one sees to it.
+pub fn drivers_take_turns()
+    ensures { DriversTakeTurns }
 {}

@@ -1,4 +1,5 @@
 //! Worked rows of resting: a driver with a bulk endpoint, and a get of it.
+ghost use Rattle.law_resting.specs.Turns.{WaitingIsNoTurn};
 ghost use Rattle.law_resting.specs.Worked.{NewDriverMayRest, KeepingIsNoRest, LeavingUnreadIsNoRest, HoldingOnIsNoRest, WaitsMayRest, LinkingIsNoRest};
 
 /// A driver that was just built may rest, and so may one whose get was told and given back.
@@ -21,4 +22,9 @@ pub fn resting_is_broken_by_never_harvesting()
 /// Nor one with an unfinished command, though no store of the frame list is left.
 pub fn resting_is_broken_by_an_unfinished_command()
     ensures { LinkingIsNoRest }
+{}
+
+/// Nor does one that keeps blocks that it can give back.
+pub fn turns_are_broken_by_waiting()
+    ensures { WaitingIsNoTurn }
 {}

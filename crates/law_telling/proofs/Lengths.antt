@@ -1,6 +1,6 @@
 -- How long a line is, and what breaks that.
-use Rattle.std.proofs.Common.{◌≡◌, ℕ, ◌+◌, ◌-◌, ◌<◌, ◌≤◌, Bool, true, false, List, [], ◌∷◌, length, refl, ap, sym, ◌∙◌, arith}
-use Rattle.std.specs.Prelude.{min, nat_le, if◌then◌else◌}
+use Rattle.std.proofs.Common.{◌≡◌, ℕ, ◌+◌, ◌-◌, ◌*◌, ◌/◌, ◌%◌, ◌<◌, ◌≤◌, Bool, true, false, List, [], ◌∷◌, length, refl, ap, sym, ◌∙◌, arith}
+use Rattle.std.specs.Prelude.{slice_index, min, nat_le, if◌then◌else◌}
 use Rattle.std.specs.List.{range_with_len, sum_by}
 use Rattle.std.proofs.lemmas.Bool.{false≢true}
 use Rattle.std.proofs.lemmas.Bool.Decides.{nat_tests}
@@ -15,27 +15,28 @@ use Rattle.word_mem.specs.Memory.{Mem}
 use Rattle.word_mem.specs.Views.{byte_at}
 use Rattle.qh_qtd.specs.declared.token.Token.{Token}
 use Rattle.drv_table.specs.declared.content.QtdNote.{QtdNote}
-use Rattle.drv_table.specs.Harvests.{note_at, buffer_bytes, buffer_address}
-use Rattle.claims_answers.specs.Telling.{token_of, HasReason, done, failed, stalled, less, qtds_of, bytes_read}
+use Rattle.drv_table.specs.Harvests.{note_at}
+use Rattle.claims_answers.specs.Telling.{token_of, HasReason, done, failed, stalled, less, qtds_of, bytes_in, bytes_read}
 use Rattle.law_telling.specs.Lengths.{LengthsAddUp, OneQtdTells, NoBytesIsWrong, three_errors, a_stall, ErrorIsToldAsError, StallIsToldAsStall, ErrorAsStallIsWrong, StallAsErrorIsWrong, ErrorAsDoneIsWrong}
 
-buffer_long : (m : Mem) (note : QtdNote) (n : ℕ) → length (buffer_bytes m note n) ≡ n
-unfolding buffer_bytes
-buffer_long m note n = length-map (range_with_len 0 n) (λ j. byte_at m (buffer_address note j)) ∙ length-range_with_len 0 n
+buffer_long : (m : Mem) (blocks : List ℕ) (n : ℕ) → length (bytes_in m blocks n) ≡ n
+buffer_long m blocks n =
+    length-map (range_with_len 0 n) (λ j. byte_at m (32 * slice_index blocks (j / 4096) + j % 4096)) ∙ length-range_with_len 0 n
 
 sums : (notes : List QtdNote) (m : Mem) (blocks : List ℕ)
-    → sum_by (λ b. length (buffer_bytes m (note_at notes b) (note_at notes b).moved)) blocks ≡ sum_by (λ b. (note_at notes b).moved) blocks
+    → sum_by (λ b. length (bytes_in m (note_at notes b).buffer (note_at notes b).moved)) blocks ≡ sum_by
+    (λ b. (note_at notes b).moved) blocks
 sums notes m [] = refl
 sums notes m (b ∷ bs) =
-    sum_by-cons (λ c. length (buffer_bytes m (note_at notes c) (note_at notes c).moved)) b bs
-    ∙ ap (λ (n : ℕ). n + sum_by (λ c. length (buffer_bytes m (note_at notes c) (note_at notes c).moved)) bs)
-    (buffer_long m (note_at notes b) (note_at notes b).moved)
+    sum_by-cons (λ c. length (bytes_in m (note_at notes c).buffer (note_at notes c).moved)) b bs
+    ∙ ap (λ (n : ℕ). n + sum_by (λ c. length (bytes_in m (note_at notes c).buffer (note_at notes c).moved)) bs)
+    (buffer_long m (note_at notes b).buffer (note_at notes b).moved)
     ∙ ap (λ (n : ℕ). (note_at notes b).moved + n) (sums notes m bs)
     ∙ sym (sum_by-cons (λ c. (note_at notes c).moved) b bs)
 
 read_long : (notes : List QtdNote) (m : Mem) (blocks : List ℕ)
     → length (bytes_read notes m blocks) ≡ sum_by (λ b. (note_at notes b).moved) blocks
-read_long notes m blocks = length-flat_map (λ b. buffer_bytes m (note_at notes b) (note_at notes b).moved) blocks ∙ sums notes m blocks
+read_long notes m blocks = length-flat_map (λ b. bytes_in m (note_at notes b).buffer (note_at notes b).moved) blocks ∙ sums notes m blocks
 
 pub lengths_add_up : LengthsAddUp
 lengths_add_up p notes line bytes told =

@@ -35,7 +35,7 @@ use Rattle.law_footprints.specs.Footprint.{footprint}
 use Rattle.law_telling.specs.Laws.{DriversTellForReasons}
 use Rattle.claims_answers.specs.Telling.{token_of, is_get, HasReason, IsUntold, Reason, by_token, behind as told_behind, by_slots, by_cancel, AreTold, nothing, one_more}
 use Rattle.law_telling.proofs.Tokens.{IsEndedIn, IsServedIn, found_ends, found_served}
-use Rattle.law_telling.proofs.Bytes.{moved_is, cancelled_is}
+use Rattle.law_telling.proofs.Bytes.{moved_is, cancelled_is, slots_are}
 
 -- ---- a harvest
 
@@ -236,7 +236,8 @@ module _ (p : Parts) (e t : ℕ) (found : Found) (due : IsHarvestDue p e t found
         descriptor = s.descriptor;
         served = s.served;
         what = ap lines.Iso s.count;
-        bytes_are = refl;
+        bytes_are = ap (take due.transfer.most)
+            (slots_are (descriptor_at p.driver.periodic.notes due.transfer.first) p.memory due.transfer.first);
       })) refl refl
 
   found_told : (z : Found) → found ≡ z → ToldIn (harvested_as p.driver p.memory e t due.endpoint due.transfer z)

@@ -8,6 +8,7 @@ pub mod worked;
 
 ghost use Rattle.law_telling.specs.Laws.{DriversTellForReasons};
 ghost use Rattle.law_telling.specs.Lengths.{LengthsAddUp, OneQtdTells};
+ghost use Rattle.law_telling.specs.Passing.{EventsKeepTransfers};
 
 /// Each line that an event of the driver writes has its reason in the words that the driver reads.
 pub fn drivers_tell_for_reasons()
@@ -18,4 +19,9 @@ pub fn drivers_tell_for_reasons()
 pub fn lines_are_as_long_as_what_was_moved()
     ensures all { LengthsAddUp }
     ensures one { OneQtdTells }
+{}
+
+/// An event keeps what was asked of each transfer, and notes of a qTD whose token it reads the bytes that were moved.
+pub fn events_keep_transfers()
+    ensures { EventsKeepTransfers }
 {}

@@ -1,5 +1,11 @@
+pub mod Seated
+pub mod Tallied
 pub mod Ready
+pub mod Sizes
+pub mod Adding
+pub mod AddingSamples
 pub mod Counting
 pub mod Closings
 pub mod Moments
+pub mod AddingUp
 pub mod Texts

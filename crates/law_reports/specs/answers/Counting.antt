@@ -3,6 +3,8 @@
 --     ClosingsTellPending     so the lines that close a report do, of each world
 --     OneLineForOneGet        the line of a get leaves one transfer less
 --     TwoLinesForOneGet       two lines of it don't count down
+--     AGetAddsUp              a get without a line adds up
+--     ALineIsMissing          one that was told without a line doesn't
 use Rattle.std.specs.Prelude.{true, [], ◌∷◌}
 use Rattle.usb_base.specs.declared.reports.Report.{Report}
 use Rattle.usb_base.specs.declared.reports.What.TheVariants.{Done}
@@ -11,7 +13,7 @@ use Rattle.drv_table.specs.Parts.{Parts}
 use Rattle.drv_table.specs.Rows.{driver_row, after_driver_row}
 use Rattle.bus_wire.specs.Bus.{Fixed}
 use Rattle.bus_world.specs.World.{World}
-use Rattle.claims_world.specs.Pending.{IsCountedDown, TellsAllPending}
+use Rattle.claims_world.specs.Pending.{IsCountedDown, TellsAllPending, AddsUp}
 use Rattle.law_footprints.specs.Worked.{a_get, working}
 use Rattle.law_resting.specs.Worked.{with_one}
 
@@ -37,3 +39,9 @@ TwoLinesForOneGet =
     (room : Reserve)
     → IsCountedDown (with_one room working a_get)
     (record (with_one room working (record a_get { reported = true })) { reports = a_line ∷ a_line ∷ [] }) → ⊥
+
+abbrev pub AGetAddsUp : Type 0
+AGetAddsUp = (room : Reserve) → AddsUp (with_one room working a_get)
+
+abbrev pub ALineIsMissing : Type 0
+ALineIsMissing = (room : Reserve) → AddsUp (with_one room working (record a_get { reported = true })) → ⊥

@@ -1,5 +1,5 @@
 -- The lines that close a report tell what is pending.
-use Rattle.std.proofs.Common.{◌≡◌, ◌≢◌, ℕ, zero, suc, ◌+◌, ◌≤◌, Bool, true, false, cond, nat_lt, nat_eq, ◌||◌, ◌&&◌, List, [], ◌∷◌, ◌++◌, length, slice_get, Option, Some, None, ap, sym, ◌∙◌, refl, arith}
+use Rattle.std.proofs.Common.{◌≡◌, ℕ, zero, suc, ◌+◌, ◌≤◌, Bool, true, false, cond, nat_lt, nat_eq, ◌||◌, ◌&&◌, List, [], ◌∷◌, ◌++◌, length, slice_get, Option, Some, None, ap, sym, ◌∙◌, refl, arith}
 use Rattle.std.specs.List.{AllByRecursion, list_any, flat_map}
 use Rattle.std.specs.Prelude.{find, is_some, is_none, ◌==◌, count_by}
 use Rattle.std.proofs.lemmas.Bool.{false≢true, eq-eqb, and_from, lt-ltb}
@@ -26,7 +26,7 @@ use Rattle.law_footprints.specs.Worked.{a_get, working}
 use Rattle.law_queues.proofs.lemmas.told_endpoints.Names.{name_is_same}
 use Rattle.law_resting.specs.Worked.{with_one}
 use Rattle.law_reports.proofs.lemmas.requests.lemmas.told_requests.Waiting.{set_same, other_waits}
-use Rattle.law_reports.specs.answers.Counting.{ClosingsTellPending, a_line, OneLineForOneGet, TwoLinesForOneGet}
+use Rattle.law_reports.specs.answers.Counting.{ClosingsTellPending, a_line, OneLineForOneGet, TwoLinesForOneGet, AGetAddsUp, ALineIsMissing}
 
 -- ---- each line tells what is pending
 
@@ -144,7 +144,7 @@ one_line_for_one_get room = record {
   lines = a_line ∷ [];
   are = refl;
   of = (record { endpoint = working; here = refl; name = refl }, tt);
-  fewer = one_each refl;
+  fewer = one_each refl (refl, tt);
   others = λ k differs.
       set_same k (a_get ∷ []) 0 a_get (record a_get { reported = true }) refl
       (other_waits 0 k 0 true refl differs ∙ sym (other_waits 0 k 0 false refl differs));
@@ -165,5 +165,12 @@ two_lines_for_one_get room down = at down.fewer
 
     at : IsFewer (with_one room working a_get)
         (record (with_one room working (record a_get { reported = true })) { reports = a_line ∷ a_line ∷ [] }) down.number down.lines → ⊥
-    at (one_each less) = let few = at_most_one down.number in omega (arith, less, two, few)
-    at (cancelled line one what none) = let alone : length down.lines ≡ 1 = ap length one in omega (arith, two, alone)
+    at (one_each less whats) = let few = at_most_one down.number in omega (arith, less, two, few)
+    at (cancelled line one what none gone) = let alone : length down.lines ≡ 1 = ap length one in omega (arith, two, alone)
+
+pub a_get_adds_up : AGetAddsUp
+a_get_adds_up room zero x here none = refl
+a_get_adds_up room (suc e) x here none = absurd (cc)
+
+pub a_line_is_missing : ALineIsMissing
+a_line_is_missing room adds = let none : 0 ≡ 1 = adds 0 working refl refl in omega (arith, none)

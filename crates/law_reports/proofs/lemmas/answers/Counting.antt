@@ -4,10 +4,12 @@ use Rattle.std.specs.List.{AllByRecursion}
 use Rattle.std.specs.Prelude.{count_by}
 use Rattle.std.proofs.lemmas.List.{append-nil, length-append}
 use Rattle.std.proofs.lemmas.List.Sums.{sum_by-cons}
+use Rattle.std.proofs.lemmas.Option.{same_Some}
 use Rattle.usb_base.specs.declared.endpoints.EndCause.{EndCause}
 use Rattle.usb_base.specs.declared.endpoints.EndCause.TheVariants.{Stall}
 use Rattle.usb_base.specs.declared.endpoints.EpName.{EpName}
 use Rattle.usb_base.specs.declared.reports.Report.{Report}
+use Rattle.usb_base.specs.declared.reports.What.{What}
 use Rattle.usb_base.specs.declared.reports.What.TheVariants.{Halt, Cancel}
 use Rattle.word_mem.specs.Memory.{Mem}
 use Rattle.mem_runs.specs.Book.{holding}
@@ -26,7 +28,13 @@ use Rattle.drv_table.specs.Parts.{Parts}
 use Rattle.drv_table.specs.Releases.{cancelled_bytes, is_told, let_go, gone_with, after_endpoint, free_endpoint}
 use Rattle.drv_table.specs.Removals.{let_go_waiting, let_go_placed, removed_with, after_placed, free_placed}
 use Rattle.drv_table.specs.Rows.{driver_row, after_driver_row}
-use Rattle.claims_world.specs.Pending.{without_line, IsOf, IsFewer, one_each, cancelled, IsCountedDown}
+use Rattle.qh_qtd.specs.declared.token.Token.{Token}
+use Rattle.claims_answers.specs.Telling.{HasReason, done, missed, babbled, failed, stalled as stalled_so}
+use Rattle.law_driver.specs.run_owners.Due.{IsDue, IsHarvestDue}
+use Rattle.law_driver.proofs.lemmas.run_owners.Reasons.{each_is_due}
+use Rattle.law_driver.proofs.lemmas.run_owners.Released.{set_here}
+use Rattle.law_telling.proofs.Tokens.{found_ends}
+use Rattle.claims_world.specs.Pending.{without_line, IsOf, is_of_transfer, IsGivenBack, IsFewer, one_each, cancelled, IsCountedDown}
 use Rattle.law_reports.specs.requests.told_requests.Rows.{adds_lines}
 use Rattle.law_reports.proofs.lemmas.requests.lemmas.told_requests.Quiet.{quiet_rows}
 use Rattle.law_reports.proofs.lemmas.requests.lemmas.told_requests.Waiting.{quiet_waiting, set_same, set_less, map_same}
@@ -39,27 +47,29 @@ record Wrote (e : ℕ) (name : EpName) (d new : DriverContent) : Type 0 where
   lines : List Report
   are : new.reports ≡ d.reports ++ lines
   named : AllByRecursion (λ (l : Report). l.name ≡ name) lines
+  whats : AllByRecursion (λ (l : Report). is_of_transfer l.what ≡ true) lines
   fewer : without_line new e + length lines ≡ without_line d e
 
 none_wrote : (e : ℕ) (name : EpName) (d new : DriverContent) → new.reports ≡ d.reports → without_line new e ≡ without_line d e
     → Wrote e name d new
 none_wrote e name d new same waits =
-    record { lines = []; are = same ∙ sym (append-nil d.reports); named = tt; fewer = omega (arith, waits) }
+    record { lines = []; are = same ∙ sym (append-nil d.reports); named = tt; whats = tt; fewer = omega (arith, waits) }
 
 one_wrote : (e : ℕ) (name : EpName) (d new : DriverContent) (line : Report) → new.reports ≡ d.reports ++ line ∷ [] → line.name ≡ name
-    → suc (without_line new e) ≡ without_line d e → Wrote e name d new
-one_wrote e name d new line are is less = record { lines = line ∷ []; are = are; named = (is, tt); fewer = omega (arith, less) }
+    → is_of_transfer line.what ≡ true → suc (without_line new e) ≡ without_line d e → Wrote e name d new
+one_wrote e name d new line are is what less =
+    record { lines = line ∷ []; are = are; named = (is, tt); whats = (what, tt); fewer = omega (arith, less) }
 
-all_named : (name : EpName) (xs ys : List Report) → AllByRecursion (λ (l : Report). l.name ≡ name) xs
-    → AllByRecursion (λ (l : Report). l.name ≡ name) ys → AllByRecursion (λ (l : Report). l.name ≡ name) (xs ++ ys)
-all_named name [] ys one two = two
-all_named name (x ∷ xs) ys one two = (one.0, all_named name xs ys one.1 two)
+all_both : (R : Report → Type 0) (xs ys : List Report) → AllByRecursion R xs → AllByRecursion R ys → AllByRecursion R (xs ++ ys)
+all_both R [] ys one two = two
+all_both R (x ∷ xs) ys one two = (one.0, all_both R xs ys one.1 two)
 
 both_wrote : (e : ℕ) (name : EpName) (a b c : DriverContent) → Wrote e name a b → Wrote e name b c → Wrote e name a c
 both_wrote e name a b c one two = record {
   lines = one.lines ++ two.lines;
   are = two.are ∙ ap (λ (ls : List Report). ls ++ two.lines) one.are ∙ append_assoc a.reports one.lines two.lines;
-  named = all_named name one.lines two.lines one.named two.named;
+  named = all_both (λ (l : Report). l.name ≡ name) one.lines two.lines one.named two.named;
+  whats = all_both (λ (l : Report). is_of_transfer l.what ≡ true) one.lines two.lines one.whats two.whats;
   fewer =
       let all = length-append one.lines two.lines in omega (arith, all, one.fewer, two.fewer);
 }
@@ -80,7 +90,7 @@ one_behind d e k name (Some y) here = at (waits_for e y) refl
           transfers = set d.transfers k (record y { reported = true });
           harvested = d.harvested ++ k ∷ [];
         }) d)
-    at true on = one_wrote e name d _ _ refl refl (set_less e d.transfers k y (record y { reported = true }) here on
+    at true on = one_wrote e name d _ _ refl refl refl (set_less e d.transfers k y (record y { reported = true }) here on
         (and_off (y.endpoint == e)))
     at false off = none_wrote e name d d refl refl
 
@@ -105,16 +115,22 @@ end_wrote d e t x true None =
     both_wrote e x.desc.name d first (stalled d e t x) (none_wrote e x.desc.name d first refl refl)
     (all_behind first e (suc t) (length d.transfers - suc t) x.desc.name)
 
-found_wrote : (d : DriverContent) (m : Mem) (e t : ℕ) (x : Endpoint) (y : Transfer) (found : Found) → slice_get d.transfers t ≡ Some y
-    → waits_for e y ≡ true → Wrote e x.desc.name d (harvested_as d m e t x y found)
-found_wrote d m e t x y founds.Active here on = none_wrote e x.desc.name d d refl refl
-found_wrote d m e t x y (founds.Moved n) here on = none_wrote e x.desc.name d _ refl (set_same e d.transfers t y _ here refl)
-found_wrote d m e t x y (founds.Served errors) here on =
-    one_wrote e x.desc.name d _ _ refl refl (set_less e d.transfers t y (record y { reported = true }) here on (and_off (y.endpoint == e)))
-found_wrote d m e t x y (founds.Ended n what) here on =
+-- what is told of a transfer that ends
+abbrev IsOfTransfer : Found → Type 0
+IsOfTransfer (founds.Ended n what) = is_of_transfer what ≡ true
+IsOfTransfer _ = Unit {0}
+
+found_wrote : (d : DriverContent) (m : Mem) (e t : ℕ) (x : Endpoint) (y : Transfer) (found : Found) → IsOfTransfer found
+    → slice_get d.transfers t ≡ Some y → waits_for e y ≡ true → Wrote e x.desc.name d (harvested_as d m e t x y found)
+found_wrote d m e t x y founds.Active its here on = none_wrote e x.desc.name d d refl refl
+found_wrote d m e t x y (founds.Moved n) its here on = none_wrote e x.desc.name d _ refl (set_same e d.transfers t y _ here refl)
+found_wrote d m e t x y (founds.Served errors) its here on =
+    one_wrote e x.desc.name d _ _ refl refl refl (set_less e d.transfers t y (record y { reported = true }) here on
+    (and_off (y.endpoint == e)))
+found_wrote d m e t x y (founds.Ended n what) its here on =
     let told : DriverContent = told_with d m t y what x.desc.name (noted d.notes y.place n) in
     both_wrote e x.desc.name d told (after_end told e t x (is_stall what) (end_of x.desc.kind what))
-    (one_wrote e x.desc.name d told _ refl refl
+    (one_wrote e x.desc.name d told _ refl refl its
     (set_less e d.transfers t y (record y { reported = true }) here on (and_off (y.endpoint == e))))
     (end_wrote told e t x (is_stall what) (end_of x.desc.kind what))
 
@@ -134,24 +150,24 @@ all_of d e x (l ∷ ls) here all = (record { endpoint = x; here = here; name = a
 
 wrote_down : (d new : DriverContent) (e : ℕ) (x : Endpoint) → slice_get d.endpoints e ≡ Some x → Wrote e x.desc.name d new → Down d new e
 wrote_down d new e x here w =
-    record { lines = w.lines; are = w.are; of = all_of d e x w.lines here w.named; fewer = one_each w.fewer }
+    record { lines = w.lines; are = w.are; of = all_of d e x w.lines here w.named; fewer = one_each w.fewer w.whats }
 
 still_down : (d new : DriverContent) (e : ℕ) → new.reports ≡ d.reports → without_line new e ≡ without_line d e → Down d new e
 still_down d new e same waits =
-    record { lines = []; are = same ∙ sym (append-nil d.reports); of = tt; fewer = one_each (omega (arith, waits)) }
+    record { lines = []; are = same ∙ sym (append-nil d.reports); of = tt; fewer = one_each (omega (arith, waits)) tt }
 
-harvest_down : (d : DriverContent) (m : Mem) (e t : ℕ) (found : Found) (o : Option Endpoint) (q : Option Transfer)
+harvest_down : (d : DriverContent) (m : Mem) (e t : ℕ) (found : Found) (o : Option Endpoint) (q : Option Transfer) → IsOfTransfer found
     → slice_get d.endpoints e ≡ o → slice_get d.transfers t ≡ q → Down d (after_harvest d m e t found o q) e
-harvest_down d m e t found None None here there = still_down d d e refl refl
-harvest_down d m e t found None (Some y) here there = still_down d d e refl refl
-harvest_down d m e t found (Some x) None here there = still_down d d e refl refl
-harvest_down d m e t found (Some x) (Some y) here there = at (waits_for e y) refl
+harvest_down d m e t found None None its here there = still_down d d e refl refl
+harvest_down d m e t found None (Some y) its here there = still_down d d e refl refl
+harvest_down d m e t found (Some x) None its here there = still_down d d e refl refl
+harvest_down d m e t found (Some x) (Some y) its here there = at (waits_for e y) refl
   where
     at : (b : Bool) → waits_for e y ≡ b → Down d (cond b (served (harvested_as d m e t x y found) e) d) e
     at true on =
-        let w = found_wrote d m e t x y found there on in
+        let w = found_wrote d m e t x y found its there on in
         wrote_down d (served (harvested_as d m e t x y found) e) e x here
-        (record { lines = w.lines; are = w.are; named = w.named; fewer = w.fewer })
+        (record { lines = w.lines; are = w.are; named = w.named; whats = w.whats; fewer = w.fewer })
     at false off = still_down d d e refl refl
 
 -- ---- the return of an endpoint
@@ -213,15 +229,22 @@ placed_same true e y = waiting_same e y
 placed_same false e y = go_same e y
 
 cancel_down : (d new : DriverContent) (e : ℕ) (x : Endpoint) (line : Report) → slice_get d.endpoints e ≡ Some x
-    → new.reports ≡ d.reports ++ line ∷ [] → line.what ≡ Cancel → line.name ≡ x.desc.name → without_line new e ≡ 0 → Down d new e
-cancel_down d new e x line here are what name none =
+    → new.reports ≡ d.reports ++ line ∷ [] → line.what ≡ Cancel → line.name ≡ x.desc.name → without_line new e ≡ 0 → IsGivenBack new e
+    → Down d new e
+cancel_down d new e x line here are what name none gone =
     record {
       lines = line ∷ [];
       are = are;
       of = (record { endpoint = x; here = here; name = name }, tt);
       fewer = cancelled line
-          refl what none;
+          refl what none gone;
     }
+
+now_gone : (xs : List Endpoint) (e : ℕ) (x : Endpoint) → slice_get xs e ≡ Some x → (z : Endpoint)
+    → slice_get (set xs e (record x { gone = true })) e ≡ Some z → z.gone ≡ true
+now_gone xs e x here z there =
+    ap (λ (v : Endpoint). v.gone) (sym (same_Some (record x { gone = true }) z
+    (sym (set_here xs e x (record x { gone = true }) here) ∙ there)))
 
 endpoint_down : (p : Parts) (e : ℕ) (o : Option Endpoint) → slice_get p.driver.endpoints e ≡ o
     → Down p.driver (after_endpoint p e o).driver e
@@ -234,6 +257,7 @@ endpoint_down p e (Some x) here = at (is_told x)
         (cancelled_bytes p.driver.notes p.memory e x.queue p.driver.transfers)) p.driver) e
         x b (free_endpoint p.driver e x (holding p.driver.book p.memory)).book) e
     at true = cancel_down p.driver _ e x _ here refl refl refl (none_counted e (let_go e true) p.driver.transfers (go_none e))
+        (now_gone p.driver.endpoints e x here)
     at false = still_down p.driver _ e refl (map_same e (let_go e false) p.driver.transfers (go_same e))
 
 removed_down : (p : Parts) (e : ℕ) (o : Option Endpoint) → slice_get p.driver.endpoints e ≡ o → Down p.driver (after_placed p e o).driver e
@@ -248,6 +272,7 @@ removed_down p e (Some x) here = at (is_told x)
     at true =
         cancel_down p.driver _ e x _ here refl refl refl
         (none_counted e (let_go_placed (is_iso x.desc.kind) e true) p.driver.transfers (placed_none (is_iso x.desc.kind) e))
+        (now_gone p.driver.endpoints e x here)
     at false =
         still_down p.driver _ e refl
         (map_same e (let_go_placed (is_iso x.desc.kind) e false) p.driver.transfers (placed_same (is_iso x.desc.kind) e))
@@ -263,30 +288,47 @@ quiet_down row p quiet =
     (still_down p.driver (after_driver_row row p).driver 0 (quiet_rows row p quiet).reports (quiet_waiting row p 0 quiet))
     (λ k differs. quiet_waiting row p k quiet)
 
-row_down : (row : DriverRow) (p : Parts) → IsCountedDown p.driver (after_driver_row row p).driver
-row_down (rows.Harvest e t found) p =
+-- a token that ends its transfer tells of it
+reason_of : (get last : Bool) (t : Token) (what : What) → HasReason get last t what → is_of_transfer what ≡ true
+reason_of get last t _ (done off up why) = refl
+reason_of get last t _ (missed off on m) = refl
+reason_of get last t _ (babbled off on m b) = refl
+reason_of get last t _ (failed off on m b c) = refl
+reason_of get last t _ (stalled_so off on m b c) = refl
+
+found_of_transfer : (p : Parts) (e t : ℕ) (found : Found) → IsHarvestDue p e t found → IsOfTransfer found
+found_of_transfer p e t founds.Active due = tt
+found_of_transfer p e t (founds.Moved n) due = tt
+found_of_transfer p e t (founds.Served errors) due = tt
+found_of_transfer p e t (founds.Ended n what) due =
+    reason_of _ _ _ what (found_ends p due.transfer n what due.transfer.sort refl (sym due.tells)).reason
+
+row_down : (row : DriverRow) (p : Parts) → IsDue p row → IsCountedDown p.driver (after_driver_row row p).driver
+row_down (rows.Harvest e t found) p due =
     whole p.driver (after_driver_row (rows.Harvest e t found) p).driver e
-    (harvest_down p.driver p.memory e t found (slice_get p.driver.endpoints e) (slice_get p.driver.transfers t) refl refl)
+    (harvest_down p.driver p.memory e t found (slice_get p.driver.endpoints e) (slice_get p.driver.transfers t)
+    (found_of_transfer p e t found due)
+    refl refl)
     (λ k differs. other_harvest_waits p e t found k differs)
-row_down (rows.ReleaseEndpoint e) p =
+row_down (rows.ReleaseEndpoint e) p due =
     whole p.driver (after_driver_row (rows.ReleaseEndpoint e) p).driver e (endpoint_down p e (slice_get p.driver.endpoints e) refl)
     (λ k differs. (other_returns_wait p e k differs).0)
-row_down (rows.ReleaseRemoved (removed.Endpoint e)) p =
+row_down (rows.ReleaseRemoved (removed.Endpoint e)) p due =
     whole p.driver (after_driver_row (rows.ReleaseRemoved (removed.Endpoint e)) p).driver e
     (removed_down p e (slice_get p.driver.endpoints e) refl) (λ k differs. (other_returns_wait p e k differs).1)
-row_down (rows.ReleaseRemoved (removed.Descriptor t)) p = quiet_down (rows.ReleaseRemoved (removed.Descriptor t)) p refl
-row_down rows.Lend p = quiet_down rows.Lend p refl
-row_down (rows.Store b at v) p = quiet_down (rows.Store b at v) p refl
-row_down (rows.Mend w) p = quiet_down (rows.Mend w) p refl
-row_down rows.Frames p = quiet_down rows.Frames p refl
-row_down rows.LendDescriptors p = quiet_down rows.LendDescriptors p refl
-row_down (rows.Unlink t) p = quiet_down (rows.Unlink t) p refl
-row_down (rows.ReleaseTransfer t) p = quiet_down (rows.ReleaseTransfer t) p refl
-row_down rows.ClearAdvance p = quiet_down rows.ClearAdvance p refl
-row_down rows.RingBell p = quiet_down rows.RingBell p refl
-row_down (rows.ReadStatus heard) p = quiet_down (rows.ReadStatus heard) p refl
-row_down (rows.ReadFrame n) p = quiet_down (rows.ReadFrame n) p refl
-row_down rows.Rest p = quiet_down rows.Rest p refl
+row_down (rows.ReleaseRemoved (removed.Descriptor t)) p due = quiet_down (rows.ReleaseRemoved (removed.Descriptor t)) p refl
+row_down rows.Lend p due = quiet_down rows.Lend p refl
+row_down (rows.Store b at v) p due = quiet_down (rows.Store b at v) p refl
+row_down (rows.Mend w) p due = quiet_down (rows.Mend w) p refl
+row_down rows.Frames p due = quiet_down rows.Frames p refl
+row_down rows.LendDescriptors p due = quiet_down rows.LendDescriptors p refl
+row_down (rows.Unlink t) p due = quiet_down (rows.Unlink t) p refl
+row_down (rows.ReleaseTransfer t) p due = quiet_down (rows.ReleaseTransfer t) p refl
+row_down rows.ClearAdvance p due = quiet_down rows.ClearAdvance p refl
+row_down rows.RingBell p due = quiet_down rows.RingBell p refl
+row_down (rows.ReadStatus heard) p due = quiet_down (rows.ReadStatus heard) p refl
+row_down (rows.ReadFrame n) p due = quiet_down (rows.ReadFrame n) p refl
+row_down rows.Rest p due = quiet_down rows.Rest p refl
 
 pub events_count_down : EventsCountDown
-events_count_down p = row_down (driver_row p) p
+events_count_down p = row_down (driver_row p) p (each_is_due p)

@@ -8,7 +8,7 @@ use Rattle.usb_base.specs.declared.commands.Cmd.TheVariants as commands
 use Rattle.usb_base.specs.declared.reports.OfferError.{OfferError}
 use Rattle.script_types.specs.declared.scripts.Event.TheVariants as events
 use Rattle.script_types.specs.declared.scripts.Script.{Script}
-use Rattle.script_fits.specs.Fits.{IsFit}
+use Rattle.script_fits.specs.Fits.{IsFit, IsFitCommand}
 use Rattle.word_mem.specs.Memory.{Mem}
 use Rattle.hc_copy.specs.Buffer.{sending}
 use Rattle.hc_copy.specs.declared.held.Held.{Held}
@@ -38,17 +38,20 @@ use Rattle.law_answers.proofs.Causes.{commands_are_answered}
 use Rattle.law_hearing.proofs.Heard.{asks_are_heard}
 use Rattle.law_hearing.proofs.HeardBelow.{asks_are_heard_below}
 use Rattle.law_world.specs.memory.Mixed.{IsMixedWorld}
+use Rattle.law_world.proofs.lemmas.memory.lemmas.owned_blocks.Worlds.{script_owns}
 use Rattle.law_resting.proofs.Resting.{drivers_rest_when_done}
+use Rattle.law_resting.proofs.Turns.{drivers_take_turns}
 use Rattle.law_telling.proofs.Lines.{drivers_tell_for_reasons}
+use Rattle.law_telling.proofs.Passing.{events_keep_transfers}
+use Rattle.claims_world.specs.Owned.{OwnsItsBlocks}
 use Rattle.claims_world.specs.Releases.{is_drivers}
-use Rattle.claims_world.specs.Pending.{IsCountedDown, PendingIsCounted}
-use Rattle.claims_world.specs.Told.{WritesForReasons, LinesHaveReasons}
+use Rattle.claims_world.specs.Told.{WritesForReasons, ReadsRightly, LinesHaveReasons}
 use Rattle.claims_world.specs.Heard.{Asking, frame_asking, sent_asking, held_asking, walk_asking, asking_by, is_controllers, HearsRightly, HearsThroughout}
 use Rattle.claims_world.specs.Refused.{IsRefused, IsAccepted, CommandsHaveCauses}
-use Rattle.claims_world.specs.Rests.{RestsThroughout}
-use Rattle.law_reports.proofs.lemmas.answers.Closings.{closings_tell}
-use Rattle.law_reports.proofs.lemmas.answers.Counting.{events_count_down}
-use Rattle.law_reports.proofs.lemmas.answers.Ready.{script_ready}
+use Rattle.claims_world.specs.Rests.{WorksOn, RestsThroughout}
+use Rattle.law_reports.proofs.lemmas.answers.Adding.{commands_add}
+use Rattle.law_reports.proofs.lemmas.answers.Seated.{seats_are}
+use Rattle.law_reports.proofs.lemmas.answers.Ready.{script_ready, script_fits_next}
 
 -- ---- the next moment
 
@@ -57,7 +60,7 @@ unfolding ticks
 last_tick fixed p zero = refl
 last_tick fixed p (suc k) = last_tick fixed (tick fixed p) k
 
-next_moment : (s : Script) (k : ℕ) → moment s (suc k) ≡ tick (fixed_of s) (moment s k)
+pub next_moment : (s : Script) (k : ℕ) → moment s (suc k) ≡ tick (fixed_of s) (moment s k)
 next_moment s k = last_tick (fixed_of s) (at_place (opening_world s) (orders_of s.lines)) k
 
 -- ---- commands
@@ -81,11 +84,15 @@ same_reports d m cmd o is =
     ap (λ (f : DriverContent). f.reports) (accept_frame d m cmd o is)
     ∙ ap (λ (b : Bool). if b then o.driver.reports else d.reports) (untold cmd)
 
-by_answer : (w : World) (n : ℕ) (cmd : Cmd) (r : Result Offered OfferError) → offered w.driver w.memory cmd ≡ r
-    → IsAnswered w.driver w.memory cmd r
+by_answer : (w : World) (n : ℕ) (cmd : Cmd) (r : Result Offered OfferError) → OwnsItsBlocks w → IsFitCommand cmd
+    → offered w.driver w.memory cmd ≡ r → IsAnswered w.driver w.memory cmd r
     → IsRefused w n cmd (commanded_by w n (name_in cmd) r) ⊎ IsAccepted w cmd (commanded_by w n (name_in cmd) r)
-by_answer w n cmd (Err why) is cause = inl (record { why = why; cause = cause; told = refl })
-by_answer w n cmd (Ok o) is causes = inr (record { causes = causes; untold = same_reports w.driver w.memory cmd o is })
+by_answer w n cmd (Err why) owns fit is cause = inl (record { why = why; cause = cause; told = refl })
+by_answer w n cmd (Ok o) owns fit is causes = inr (record {
+  causes = causes;
+  untold = same_reports w.driver w.memory cmd o is;
+  added = commands_add w.driver w.memory cmd o owns.owners owns.stands fit is;
+})
 
 plans : (s : Script) → IsFit s → (k n : ℕ) (cmd : Cmd) (rest : List Left) → (moment s k).orders ≡ Command n cmd ∷ rest
     → PlansExactly (moment s k).world.driver (moment s k).world.memory cmd
@@ -98,7 +105,8 @@ script_has_causes s fit k n cmd rest is =
     let new : (moment s (suc k)).world ≡ commanded w n cmd =
     ap (λ (p : OrderedWorld). p.world) (next_moment s k) ∙ ap (λ (os : List Left). (tick_at (fixed_of s) w os).world) is in
     subst (λ (v : World). IsRefused w n cmd v ⊎ IsAccepted w cmd v) (sym new)
-    (by_answer w n cmd (offered w.driver w.memory cmd) refl (commands_are_answered w.driver w.memory cmd (plans s fit k n cmd rest is)))
+    (by_answer w n cmd (offered w.driver w.memory cmd) (script_owns s fit k) (script_fits_next s fit k n cmd rest is) refl
+    (commands_are_answered w.driver w.memory cmd (plans s fit k n cmd rest is)))
 
 -- ---- what is heard
 
@@ -200,23 +208,35 @@ hears s fit k turn =
     }
 
 pub script_hears : (s : Script) → IsFit s → HearsThroughout s
-script_hears s fit = record { each = hears s fit; below = λ h floor ask out sizes. asks_are_heard_below (fixed_of s) h floor ask out sizes }
+script_hears s fit = record {
+  fates = refl;
+  seats = seats_are s;
+  each = hears s fit;
+  below = λ h floor ask out sizes. asks_are_heard_below (fixed_of s) h floor ask out sizes;
+}
 
 -- ---- the driver rests
 
-pub script_rests : (s : Script) → IsFit s → ((k : ℕ) → IsMixedWorld (moment s k).world) → RestsThroughout s
-script_rests s fit stay k turn =
-    let r = script_ready s fit k in
-    drivers_rest_when_done (driver_parts (moment s k).world) r.order r.counted r.making r.storing (stay k).mixed.now.framed.list.list.order
-
--- ---- its lines
-
 -- an event of the driver comes next
-drivers_next : (fixed : Fixed) (w : World) (orders : List Left) → is_drivers orders ≡ true → (tick_at fixed w orders).world ≡ driver_next w
+pub drivers_next : (fixed : Fixed) (w : World) (orders : List Left) → is_drivers orders ≡ true
+    → (tick_at fixed w orders).world ≡ driver_next w
 drivers_next fixed w [] is = absurd (false≢true is)
 drivers_next fixed w (Events events.D (suc n) ∷ rest) is = refl
 drivers_next fixed w (Answer ended n ∷ rest) is = refl
 drivers_next fixed w (_ ∷ rest) is = absurd (false≢true is)
+
+pub script_rests : (s : Script) → IsFit s → ((k : ℕ) → IsMixedWorld (moment s k).world) → RestsThroughout s
+script_rests s fit stay k turn =
+    let r = script_ready s fit k in
+    let w = (moment s k).world in
+    let new : (moment s (suc k)).world ≡ driver_next w =
+    ap (λ (p : OrderedWorld). p.world) (next_moment s k) ∙ drivers_next (fixed_of s) w (moment s k).orders turn in
+    subst (λ (v : World). WorksOn w v.driver) (sym new) (record {
+      rests = drivers_rest_when_done (driver_parts w) r.order r.counted r.making r.storing (stay k).mixed.now.framed.list.list.order;
+      turns = drivers_take_turns (driver_parts w) r.order r.counted;
+    })
+
+-- ---- its lines
 
 pub script_tells : (s : Script) → IsFit s → LinesHaveReasons s
 script_tells s fit = record {
@@ -225,20 +245,13 @@ script_tells s fit = record {
       let new : (moment s (suc k)).world ≡ driver_next w =
       ap (λ (p : OrderedWorld). p.world) (next_moment s k) ∙ drivers_next (fixed_of s) w (moment s k).orders turn in
       subst (λ (v : World). WritesForReasons w v.driver) (sym new) (drivers_tell_for_reasons (driver_parts w));
+  kept = λ k turn.
+      let w = (moment s k).world in
+      let new : (moment s (suc k)).world ≡ driver_next w =
+      ap (λ (p : OrderedWorld). p.world) (next_moment s k) ∙ drivers_next (fixed_of s) w (moment s k).orders turn in
+      subst (λ (v : World). ReadsRightly w v.driver) (sym new) (events_keep_transfers (driver_parts w));
   controller = λ k turn.
       let w = (moment s k).world in
       ap (λ (p : OrderedWorld). p.world.driver) (next_moment s k) ∙ ap (λ (v : World). v.driver)
       (controllers_next (fixed_of s) w (moment s k).orders turn);
-}
-
--- ---- what is pending
-
-pub script_counts : (s : Script) → PendingIsCounted s
-script_counts s = record {
-  counted = λ k turn.
-      let w = (moment s k).world in
-      let new : (moment s (suc k)).world ≡ driver_next w =
-      ap (λ (p : OrderedWorld). p.world) (next_moment s k) ∙ drivers_next (fixed_of s) w (moment s k).orders turn in
-      subst (λ (v : World). IsCountedDown w.driver v.driver) (sym new) (events_count_down (driver_parts w));
-  told = λ w run. closings_tell w.fixed w.world;
 }

@@ -1,7 +1,7 @@
 -- What holds at each moment of a run: the driver's lists are in order and nothing is forgotten, each endpoint has the number of its next
 -- packet, and what is
 -- still ordered is in its ranges.
-use Rattle.std.proofs.Common.{◌≡◌, ℕ, zero, suc, Bool, true, false, List, [], ◌∷◌, length, Option, Some, None, Result, Ok, Err, refl, ◌∙◌}
+use Rattle.std.proofs.Common.{◌≡◌, ℕ, zero, suc, Bool, true, false, List, [], ◌∷◌, length, Option, Some, None, Result, Ok, Err, refl, subst, ◌∙◌}
 use Rattle.std.specs.List.{AllByRecursion}
 use Rattle.std.proofs.lemmas.List.{length-set}
 use Rattle.std.proofs.lemmas.List.{length-replicate}
@@ -193,9 +193,9 @@ lines_fit : (xs : List (ℕ × Line)) → AllByRecursion (λ x. IsFitLine x.1) x
 lines_fit [] h = tt
 lines_fit (x ∷ xs) h = (line_fits x.1 x.0 h.0, lines_fit xs h.1)
 
-pub script_ready : (s : Script) → IsFit s → (k : ℕ) → IsReady (length (seats_of s)) (moment s k).world
-script_ready s fit k =
-    (all_ready (fixed_of s) (length (seats_of s)) (at_place (opening_world s) (orders_of s.lines)) k
+script_ready_at : (s : Script) → IsFit s → (k : ℕ) → IsReadyAt (length (seats_of s)) (moment s k)
+script_ready_at s fit k =
+    all_ready (fixed_of s) (length (seats_of s)) (at_place (opening_world s) (orders_of s.lines)) k
     (record {
       ready = record {
         order = (opening_owned s.words (reserve_of s.lines) fit.least).orderly;
@@ -205,4 +205,12 @@ script_ready s fit k =
         numbers = length-replicate (length (seats_of s)) 0;
       };
       fits = lines_fit s.lines fit.lines;
-    })).ready
+    })
+
+pub script_ready : (s : Script) → IsFit s → (k : ℕ) → IsReady (length (seats_of s)) (moment s k).world
+script_ready s fit k = (script_ready_at s fit k).ready
+
+-- a command that comes next is in its ranges
+pub script_fits_next : (s : Script) → IsFit s → (k n : ℕ) (cmd : Cmd) (rest : List Left) → (moment s k).orders ≡ Command n cmd ∷ rest
+    → IsFitCommand cmd
+script_fits_next s fit k n cmd rest is = (subst (AllByRecursion FitsLeft) is (script_ready_at s fit k).fits).0
