@@ -5,7 +5,7 @@ use crate::events::{blocks, differences, events, run};
 use crate::host::Host;
 use crate::image::words_from;
 use crate::pipes::{Pipe, desc_of, name_of};
-use crate::reports::{cause, name, refusal, since};
+use crate::reports::{after, cause, name, put, refusal, since};
 use crate::shot::Shot;
 use ehci_driver::Reserve;
 use std::alloc::{AllocError, Global};
@@ -41,28 +41,40 @@ fn sent(alloc: Global, len: u32) -> Result<ListOf<u8>, AllocError> {
     Ok(ListOf::of(bytes))
 }
 
-/// Offers a command, and tells the answer and what differs: of a refusal, whether anything does.
-fn offer(alloc: Global, host: &mut Host, cmd: &Cmd) -> Result<String, AllocError> {
+/// Offers a command: the answer, and whether nothing differs.
+fn tried(
+    alloc: Global,
+    host: &mut Host,
+    cmd: &Cmd,
+) -> Result<(Option<Result<(), OfferError>>, bool), AllocError> {
     let before = Shot::of(alloc, host)?;
     let room = host.driver().room();
     let answer = host.offer(cmd);
     let now = Shot::of(alloc, host)?;
+    let same = before.is_same(&now) && room == host.driver().room();
+    Ok((answer, same))
+}
+
+/// How many blocks are Free, Kept and Lent now.
+fn counted(alloc: Global, host: &Host) -> Result<String, AllocError> {
+    let now = Shot::of(alloc, host)?;
+    blocks(alloc, now.blocks())
+}
+
+/// A refusal, and whether nothing differs after it.
+fn refused(alloc: Global, why: OfferError, same: bool) -> Result<String, AllocError> {
+    let what = if same { "nothing" } else { "something" };
+    let text = refusal(alloc, why)?;
+    format!(in alloc; "refused {}, {what} differs", text.as_str())
+}
+
+/// Offers a command, and tells the answer and what differs: of a refusal, whether anything does.
+fn offer(alloc: Global, host: &mut Host, cmd: &Cmd) -> Result<String, AllocError> {
+    let (answer, same) = tried(alloc, host, cmd)?;
     match answer {
         None => format!(in alloc; "not offered"),
-        Some(Ok(())) => format!(in alloc; "accepted{}", blocks(alloc, now.blocks())?.as_str()),
-        Some(Err(why)) => {
-            let text = refusal(alloc, why)?;
-            let same = before.is_same(&now) && room == host.driver().room();
-            format!(in alloc;
-                "refused {}, {}",
-                text.as_str(),
-                if same {
-                    "nothing differs"
-                } else {
-                    "something differs"
-                }
-            )
-        }
+        Some(Ok(())) => after(alloc, "accepted", counted(alloc, host)),
+        Some(Err(why)) => refused(alloc, why, same),
     }
 }
 
@@ -74,9 +86,15 @@ fn offered(
     named: &EpName,
     cmd: &Cmd,
 ) -> Result<String, AllocError> {
+    let mut text = after(alloc, verb, spaced(alloc, named))?;
+    put(&mut text, offer(alloc, host, cmd))?;
+    Ok(text)
+}
+
+/// The name of an endpoint, as it stands in a line.
+fn spaced(alloc: Global, named: &EpName) -> Result<String, AllocError> {
     let to = name(alloc, named)?;
-    let answer = offer(alloc, host, cmd)?;
-    format!(in alloc; "{verb} {}: {}", to.as_str(), answer.as_str())
+    format!(in alloc; " {}: ", to.as_str())
 }
 
 /// The controller writes a word, or the same word at several places: how often it may.
@@ -102,7 +120,7 @@ fn answer(alloc: Global, host: &mut Host) -> Result<String, AllocError> {
     let before = Shot::of(alloc, host)?;
     host.answer();
     let now = Shot::of(alloc, host)?;
-    format!(in alloc; "controller{}", differences(alloc, &before, &now)?.as_str())
+    after(alloc, "controller", differences(alloc, &before, &now))
 }
 
 /// So many microframes begin: what FRINDEX is then.
@@ -116,7 +134,7 @@ fn begin(alloc: Global, host: &mut Host, count: u32) -> Result<String, AllocErro
 /// So many words from a byte address on, those that aren't 0.
 fn image(alloc: Global, host: &Host, at: u32, count: u32) -> Result<String, AllocError> {
     let shot = Shot::of(alloc, host)?;
-    format!(in alloc; "image{}", words_from(alloc, &shot, at, count)?.as_str())
+    after(alloc, "image", words_from(alloc, &shot, at, count))
 }
 
 /// All registers, by their offsets.
@@ -124,8 +142,7 @@ fn registers(alloc: Global, host: &Host) -> Result<String, AllocError> {
     let mut text = format!(in alloc; "registers")?;
     for offset in [0x00, 0x04, 0x08, 0x0c, 0x10, 0x14, 0x18, 0x40, 0x44] {
         let word = host.regs().driver_read(offset).unwrap_or(0);
-        let one = format!(in alloc; " {offset:x}={word:x}")?;
-        text.push_str(one.as_str())?;
+        put(&mut text, format!(in alloc; " {offset:x}={word:x}"))?;
     }
     Ok(text)
 }
@@ -163,7 +180,7 @@ fn refuse(
 ) -> Result<String, AllocError> {
     let lines = host.driver().reports().len();
     host.refuse(named, why);
-    format!(in alloc; "report{}", since(alloc, host, lines)?.as_str())
+    after(alloc, "report", since(alloc, host, lines))
 }
 
 /// The command that opens an endpoint.
@@ -294,16 +311,14 @@ fn words_of(case: &Case) -> u32
 
 /// The name of a row, with the blocks at the opening.
 fn title(alloc: Global, host: &Host, case: &Case) -> Result<String, AllocError> {
-    let opening = Shot::of(alloc, host)?;
-    let counted = blocks(alloc, opening.blocks())?;
+    let counted = counted(alloc, host)?;
     format!(in alloc; "{}:{}", case.name, counted.as_str())
 }
 
 /// Appends a line: what an act gives.
 fn append(alloc: Global, text: &mut String, host: &mut Host, one: &Act) -> Result<(), AllocError> {
-    let told = act(alloc, host, one)?;
     text.push_str("\n  ")?;
-    text.push_str(told.as_str())
+    put(text, act(alloc, host, one))
 }
 
 fn row(alloc: Global, host: &mut Host, case: &Case) -> Result<String, AllocError> {

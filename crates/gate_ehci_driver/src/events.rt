@@ -1,6 +1,6 @@
 use crate::host::Host;
 use crate::image::changes;
-use crate::reports::since;
+use crate::reports::{put, since};
 use crate::shot::{Blocks, Shot};
 use ehci_driver::DriverStep;
 use std::alloc::{AllocError, Global};
@@ -23,21 +23,34 @@ pub(crate) fn blocks(alloc: Global, blocks: Blocks) -> Result<String, AllocError
     format!(in alloc; " {}/{}/{}", blocks.free, blocks.kept, blocks.lent)
 }
 
+/// The blocks, where they differ.
+fn blocks_since(alloc: Global, before: &Shot, now: &Shot) -> Result<String, AllocError> {
+    if before.blocks() != now.blocks() {
+        return blocks(alloc, now.blocks());
+    }
+    Ok(String::new(alloc))
+}
+
+/// A register, where it differs.
+fn register(alloc: Global, name: &str, before: u32, now: u32) -> Result<String, AllocError> {
+    if before != now {
+        return format!(in alloc; " {name} {now:x}");
+    }
+    Ok(String::new(alloc))
+}
+
 /// Blocks, words and registers that differ.
 pub(crate) fn differences(alloc: Global, before: &Shot, now: &Shot) -> Result<String, AllocError> {
-    let mut text = String::new(alloc);
-    if before.blocks() != now.blocks() {
-        text.push_str(blocks(alloc, now.blocks())?.as_str())?;
-    }
-    text.push_str(changes(alloc, before, now)?.as_str())?;
-    if before.command != now.command {
-        let one = format!(in alloc; " usbcmd {:x}", now.command)?;
-        text.push_str(one.as_str())?;
-    }
-    if before.status != now.status {
-        let one = format!(in alloc; " usbsts {:x}", now.status)?;
-        text.push_str(one.as_str())?;
-    }
+    let mut text = blocks_since(alloc, before, now)?;
+    put(&mut text, changes(alloc, before, now))?;
+    put(
+        &mut text,
+        register(alloc, "usbcmd", before.command, now.command),
+    )?;
+    put(
+        &mut text,
+        register(alloc, "usbsts", before.status, now.status),
+    )?;
     Ok(text)
 }
 
@@ -50,60 +63,91 @@ fn event(
     now: &Shot,
 ) -> Result<String, AllocError> {
     let mut text = format!(in alloc; "{}", kind(step))?;
-    text.push_str(differences(alloc, before, now)?.as_str())?;
-    text.push_str(since(alloc, host, before.lines)?.as_str())?;
+    put(&mut text, differences(alloc, before, now))?;
+    put(&mut text, since(alloc, host, before.lines))?;
     Ok(text)
 }
 
-/// Adds what was made so many times.
-fn add(alloc: Global, text: &mut String, made: &str, times: u32) -> Result<(), AllocError> {
-    if times == 0 {
-        return Ok(());
+/// The next event of the driver.
+fn next(alloc: Global, host: &mut Host) -> Result<String, AllocError> {
+    let before = Shot::of(alloc, host)?;
+    let step = host.step();
+    let now = Shot::of(alloc, host)?;
+    event(alloc, host, step, &before, &now)
+}
+
+/// So many events of the driver: the last one.
+fn last_of(host: &mut Host, count: u32) -> DriverStep {
+    let mut last = DriverStep::Rest;
+    for _event in 0..count {
+        last = host.step();
     }
-    text.push_str("\n    ")?;
-    text.push_str(made)?;
-    if times > 1 {
-        let many = format!(in alloc; " *{times}")?;
-        text.push_str(many.as_str())?;
-    }
-    Ok(())
+    last
+}
+
+/// What differs after several events: the blocks, and the new lines of the report.
+fn changed(alloc: Global, host: &Host, before: &Shot) -> Result<String, AllocError> {
+    let now = Shot::of(alloc, host)?;
+    let mut text = blocks_since(alloc, before, &now)?;
+    put(&mut text, since(alloc, host, before.lines))?;
+    Ok(text)
 }
 
 /// So many events of the driver: the last one, and what differs after all of them.
 pub(crate) fn run(alloc: Global, host: &mut Host, count: u32) -> Result<String, AllocError> {
     let before = Shot::of(alloc, host)?;
-    let mut last = DriverStep::Rest;
-    for _event in 0..count {
-        last = host.step();
-    }
-    let now = Shot::of(alloc, host)?;
+    let last = last_of(host, count);
     let mut text = format!(in alloc; "{count} events, the last {}", kind(last))?;
-    if before.blocks() != now.blocks() {
-        text.push_str(blocks(alloc, now.blocks())?.as_str())?;
-    }
-    text.push_str(since(alloc, host, before.lines)?.as_str())?;
+    put(&mut text, changed(alloc, host, &before))?;
     Ok(text)
+}
+
+/// Lines of events: their text, and behind it the last one, which was made so many times in a row.
+#[derive(Drop)]
+struct Lines {
+    text: String,
+    last: String,
+    times: u32,
+}
+
+impl Lines {
+    /// Adds the last one to the text.
+    fn end(&mut self, alloc: Global) -> Result<(), AllocError> {
+        if self.times == 0 {
+            return Ok(());
+        }
+        self.text.push_str("\n    ")?;
+        self.text.push_str(self.last.as_str())?;
+        if self.times > 1 {
+            let times = self.times;
+            put(&mut self.text, format!(in alloc; " *{times}"))?;
+        }
+        Ok(())
+    }
+
+    /// Notes an event.
+    fn note(&mut self, alloc: Global, made: String) -> Result<(), AllocError> {
+        if made.as_str() == self.last.as_str() {
+            self.times = self.times.saturating_add(1);
+            return Ok(());
+        }
+        self.end(alloc)?;
+        self.last = made;
+        self.times = 1;
+        Ok(())
+    }
 }
 
 /// So many events of the driver, a line each; equal ones in a row on one line.
 pub(crate) fn events(alloc: Global, host: &mut Host, count: u32) -> Result<String, AllocError> {
-    let mut text = format!(in alloc; "events")?;
-    let mut last = String::new(alloc);
-    let mut times = 0u32;
-    let mut before = Shot::of(alloc, host)?;
+    let mut lines = Lines {
+        text: format!(in alloc; "events")?,
+        last: String::new(alloc),
+        times: 0,
+    };
     for _event in 0..count {
-        let step = host.step();
-        let now = Shot::of(alloc, host)?;
-        let made = event(alloc, host, step, &before, &now)?;
-        before = now;
-        if made.as_str() == last.as_str() {
-            times = times.saturating_add(1);
-        } else {
-            add(alloc, &mut text, last.as_str(), times)?;
-            last = made;
-            times = 1;
-        }
+        lines.note(alloc, next(alloc, host)?)?;
     }
-    add(alloc, &mut text, last.as_str(), times)?;
-    Ok(text)
+    lines.end(alloc)?;
+    Ok(lines.text)
 }

@@ -1,3 +1,4 @@
+use crate::reports::put;
 use crate::shot::Shot;
 use std::alloc::{AllocError, Global};
 
@@ -7,6 +8,11 @@ fn length_of_run(words: &[u32], word: u32) -> usize {
         Some(long) => long,
         None => words.len(),
     }
+}
+
+/// A word with its address.
+fn pair(alloc: Global, number: usize, word: u32) -> Result<String, AllocError> {
+    format!(in alloc; " {:x}={word:x}", number.saturating_mul(4))
 }
 
 /// The words from a byte address on, at most so many, that aren't 0, each with its address; several equal ones in a row as one, with
@@ -28,11 +34,9 @@ pub(crate) fn words_from(
         }
         let long = length_of_run(&words[number..], word);
         after = number.saturating_add(long);
-        let one = format!(in alloc; " {:x}={word:x}", number.saturating_mul(4))?;
-        text.push_str(one.as_str())?;
+        put(&mut text, pair(alloc, number, word))?;
         if long > 1 {
-            let times = format!(in alloc; "*{long}")?;
-            text.push_str(times.as_str())?;
+            put(&mut text, format!(in alloc; "*{long}"))?;
         }
     }
     Ok(text)
@@ -44,8 +48,7 @@ pub(crate) fn changes(alloc: Global, before: &Shot, now: &Shot) -> Result<String
     let mut number = 0;
     for (old, new) in before.words.iter().zip(now.words.iter()) {
         if *old != *new && !(*new == 0 && now.is_free(number)) {
-            let one = format!(in alloc; " {:x}={:x}", number.saturating_mul(4), *new)?;
-            text.push_str(one.as_str())?;
+            put(&mut text, pair(alloc, number, *new))?;
         }
         number = number.saturating_add(1);
     }

@@ -25,6 +25,22 @@ pub(crate) fn name(alloc: Global, name: &EpName) -> Result<String, AllocError> {
     format!(in alloc; "{}.{}.{}", name.addr.get(), name.num.get(), way(name.way))
 }
 
+/// Adds a text that was made.
+pub(crate) fn put(text: &mut String, made: Result<String, AllocError>) -> Result<(), AllocError> {
+    let more = made?;
+    text.push_str(more.as_str())
+}
+
+/// A word, and behind it a text that was made.
+pub(crate) fn after(
+    alloc: Global,
+    word: &str,
+    made: Result<String, AllocError>,
+) -> Result<String, AllocError> {
+    let more = made?;
+    format!(in alloc; "{word}{}", more.as_str())
+}
+
 /// Why a command is refused.
 pub(crate) fn refusal(alloc: Global, why: OfferError) -> Result<String, AllocError> {
     match why {
@@ -88,19 +104,23 @@ fn what(alloc: Global, what: What) -> Result<String, AllocError> {
     }
 }
 
-/// A line of the report: the number of its bytes, and those of them that aren't 0, with their places.
-fn line(alloc: Global, report: &Report, store: &[u8]) -> Result<String, AllocError> {
+/// What a line of the report begins with: its kind, its endpoint, and the number of its bytes.
+fn head(alloc: Global, report: &Report) -> Result<String, AllocError> {
     let told = what(alloc, report.what)?;
     let named = name(alloc, &report.name)?;
-    let mut text = format!(in alloc; "{} {} {}", told.as_str(), named.as_str(), report.len)?;
+    format!(in alloc; "{} {} {}", told.as_str(), named.as_str(), report.len)
+}
+
+/// A line of the report: the number of its bytes, and those of them that aren't 0, with their places.
+fn line(alloc: Global, report: &Report, store: &[u8]) -> Result<String, AllocError> {
+    let mut text = head(alloc, report)?;
     for place in 0..report.len {
         let byte = match store.get(report.from as usize + place as usize) {
             Some(byte) => *byte,
             None => 0,
         };
         if byte != 0 {
-            let one = format!(in alloc; " {place}={byte:x}")?;
-            text.push_str(one.as_str())?;
+            put(&mut text, format!(in alloc; " {place}={byte:x}"))?;
         }
     }
     Ok(text)
@@ -111,9 +131,11 @@ pub(crate) fn since(alloc: Global, host: &Host, before: usize) -> Result<String,
     let mut text = String::new(alloc);
     let reports = host.driver().reports();
     for number in before..reports.len() {
-        let one = line(alloc, &reports[number], host.driver().store())?;
         text.push_str("; ")?;
-        text.push_str(one.as_str())?;
+        put(
+            &mut text,
+            line(alloc, &reports[number], host.driver().store()),
+        )?;
     }
     Ok(text)
 }

@@ -1,6 +1,6 @@
 use crate::host::Host;
 use std::alloc::{AllocError, Global};
-use word_mem::BlockState;
+use word_mem::{BlockState, WordMem};
 
 /// What registers, memory and report show at a moment.
 #[derive(Drop)]
@@ -21,19 +21,29 @@ pub(crate) struct Blocks {
     pub(crate) lent: usize,
 }
 
+fn words_of(alloc: Global, mem: &WordMem) -> Result<Vec<u32>, AllocError> {
+    let count = mem.words();
+    let mut words = Vec::with_capacity(alloc, count as usize)?;
+    for i in 0..count {
+        words.push(mem.word(4 * i))?;
+    }
+    Ok(words)
+}
+
+fn states_of(alloc: Global, mem: &WordMem) -> Result<Vec<BlockState>, AllocError> {
+    let count = mem.words() / 8;
+    let mut states = Vec::with_capacity(alloc, count as usize)?;
+    for block in 0..count {
+        states.push(mem.state(block))?;
+    }
+    Ok(states)
+}
+
 impl Shot {
     /// How it is now.
     pub(crate) fn of(alloc: Global, host: &Host) -> Result<Shot, AllocError> {
-        let mem = host.mem();
-        let count = mem.words();
-        let mut words = Vec::with_capacity(alloc, count as usize)?;
-        let mut states = Vec::with_capacity(alloc, (count / 8) as usize)?;
-        for i in 0..count {
-            words.push(mem.word(4 * i))?;
-        }
-        for block in 0..count / 8 {
-            states.push(mem.state(block))?;
-        }
+        let words = words_of(alloc, host.mem())?;
+        let states = states_of(alloc, host.mem())?;
         Ok(Shot {
             command: host.regs().driver_read(0x00).unwrap_or(0),
             status: host.regs().driver_read(0x04).unwrap_or(0),

@@ -56,10 +56,14 @@ fn admit(rt: &impl Abort, plan: &mut Plan, want: Want) -> Result<Placement, Refu
     plan.admit(&want)
 }
 
-fn smask_of(rt: &impl Abort, plan: &mut Plan, want: Want) -> u8
+/// The masks of a placement.
+fn masks_of(rt: &impl Abort, plan: &mut Plan, want: Want) -> Result<(u8, u8), Refused>
     requires { IsWant want }
 {
-    admit(rt, plan, want).expect(rt, "placed").smask
+    match admit(rt, plan, want) {
+        Ok(placed) => Ok((placed.smask, placed.cmask)),
+        Err(why) => Err(why),
+    }
 }
 
 #[test]
@@ -76,14 +80,13 @@ fn five_fill_a_bus(rt: HostRuntime) -> Result<(), Fail> {
         assert_eq!(rt; admit(&rt, &mut plan, want), Ok(all));
     }
     assert_eq!(rt; plan.load(0).0, 83_340_000);
-    assert_eq!(rt;
+    let more = [
         admit(&rt, &mut plan, high_interrupt(4, 1024, 1)),
-        Err(Refused::NoPlacement)
-    );
-    assert_eq!(rt; plan.load(0).0, 83_340_000);
-    assert_eq!(rt;
         admit(&rt, &mut plan, high_interrupt(4, 1024, 2)),
-        Err(Refused::NoPlacement)
+    ];
+    assert_eq!(rt;
+        (more, plan.load(0).0),
+        ([Err(Refused::NoPlacement); 2], 83_340_000)
     );
     Ok(())
 }
@@ -91,12 +94,14 @@ fn five_fill_a_bus(rt: HostRuntime) -> Result<(), Fail> {
 #[test]
 fn two_periods_share(rt: HostRuntime) -> Result<(), Fail> {
     let mut plan = Plan::build(rt.alloc(), 16)?;
-    assert_eq!(rt; smask_of(&rt, &mut plan, high_interrupt(0, 1024, 2)), 0x55);
-    assert_eq!(rt; smask_of(&rt, &mut plan, high_interrupt(1, 1024, 2)), 0xaa);
-    assert_eq!(rt; smask_of(&rt, &mut plan, high_interrupt(2, 1024, 2)), 0x55);
-    assert_eq!(rt; smask_of(&rt, &mut plan, high_interrupt(3, 1024, 2)), 0xaa);
-    assert_eq!(rt; smask_of(&rt, &mut plan, high_interrupt(4, 1024, 1)), 0xff);
-    assert_eq!(rt; plan.load(0).0, 62_505_000);
+    for (id, smask) in [(0, 0x55), (1, 0xaa), (2, 0x55), (3, 0xaa)] {
+        assert_eq!(rt;
+            masks_of(&rt, &mut plan, high_interrupt(id, 1024, 2)),
+            Ok((smask, 0))
+        );
+    }
+    let last = masks_of(&rt, &mut plan, high_interrupt(4, 1024, 1));
+    assert_eq!(rt; (last, plan.load(0).0), (Ok((0xff, 0)), 62_505_000));
     Ok(())
 }
 
@@ -104,17 +109,14 @@ fn two_periods_share(rt: HostRuntime) -> Result<(), Fail> {
 fn a_translator_holds_eight(rt: HostRuntime) -> Result<(), Fail> {
     let hub = DevAddr::new(9).ok_or("an address")?;
     let mut plan = Plan::build(rt.alloc(), 16)?;
-    let mut smasks = [0u8; 8];
+    let mut counts = [0u8; 16];
     for id in 0..8 {
-        smasks[id as usize] = smask_of(
-            &rt,
-            &mut plan,
-            full(id, EpKind::Interrupt, Dir::In, 64, hub),
-        );
+        let want = full(id, EpKind::Interrupt, Dir::In, 64, hub);
+        let (smask, _) = masks_of(&rt, &mut plan, want).expect(&rt, "placed");
+        assert!(rt; smask < 16);
+        counts[smask as usize] = counts[smask as usize].wrapping_add(1);
     }
-    for mask in [1u8, 2, 4, 8] {
-        assert_eq!(rt; smasks.iter().filter(|smask| **smask == mask).count(), 2);
-    }
+    assert_eq!(rt; counts, [0, 2, 2, 0, 2, 0, 0, 0, 2, 0, 0, 0, 0, 0, 0, 0]);
     let ninth = full(8, EpKind::Interrupt, Dir::In, 64, hub);
     assert_eq!(rt; admit(&rt, &mut plan, ninth), Err(Refused::NoPlacement));
     Ok(())
@@ -123,35 +125,36 @@ fn a_translator_holds_eight(rt: HostRuntime) -> Result<(), Fail> {
 #[test]
 fn isochronous_below_hubs(rt: HostRuntime) -> Result<(), Fail> {
     let mut plan = Plan::build(rt.alloc(), 16)?;
-    let first = DevAddr::new(9).ok_or("an address")?;
-    let second = DevAddr::new(10).ok_or("an address")?;
-    let third = DevAddr::new(11).ok_or("an address")?;
-    let into = admit(&rt, &mut plan, full(1, EpKind::Iso, Dir::In, 931, first)).expect(
-        &rt, "placed",
+    let first = DevAddr::new(9).unwrap();
+    let second = DevAddr::new(10).unwrap();
+    let third = DevAddr::new(11).unwrap();
+    let masks = [
+        masks_of(&rt, &mut plan, full(1, EpKind::Iso, Dir::In, 931, first)),
+        masks_of(&rt, &mut plan, full(2, EpKind::Iso, Dir::In, 932, second)),
+        masks_of(&rt, &mut plan, full(3, EpKind::Iso, Dir::Out, 1023, third)),
+    ];
+    assert_eq!(rt;
+        masks,
+        [Ok((0x01, 0xfc)), Err(Refused::NoPlacement), Ok((0x3f, 0))]
     );
-    assert_eq!(rt; (into.smask, into.cmask), (0x01, 0xfc));
-    let too_long = full(2, EpKind::Iso, Dir::In, 932, second);
-    assert_eq!(rt; admit(&rt, &mut plan, too_long), Err(Refused::NoPlacement));
-    let out = admit(&rt, &mut plan, full(3, EpKind::Iso, Dir::Out, 1023, third)).expect(
-        &rt, "placed",
-    );
-    assert_eq!(rt; (out.smask, out.cmask), (0x3f, 0));
     Ok(())
 }
 
 #[test]
 fn room_for_one(rt: HostRuntime) -> Result<(), Fail> {
     let mut plan = Plan::build(rt.alloc(), 1)?;
-    let placed = admit(&rt, &mut plan, high_interrupt(1, 8, 8)).expect(&rt, "placed");
-    assert_eq!(rt; (placed.phase, placed.smask), (0, 1));
-    assert_eq!(rt;
-        admit(&rt, &mut plan, high_interrupt(2, 8, 8)),
-        Err(Refused::Room)
-    );
-    assert!(rt; !plan.remove(2));
-    assert!(rt; plan.remove(1));
-    assert!(rt; !plan.remove(1));
-    assert_eq!(rt; plan.load(0).0, 0);
-    assert_eq!(rt; admit(&rt, &mut plan, high_interrupt(2, 8, 8)), Ok(placed));
+    let placed = admit(&rt, &mut plan, high_interrupt(1, 8, 8));
+    let second = admit(&rt, &mut plan, high_interrupt(2, 8, 8));
+    assert_eq!(rt; second, Err(Refused::Room));
+    let removed = [plan.remove(2), plan.remove(1), plan.remove(1)];
+    assert_eq!(rt; (removed, plan.load(0).0), ([false, true, false], 0));
+    let first = Placement {
+        period: 8,
+        phase: 0,
+        smask: 1,
+        cmask: 0,
+    };
+    let last = admit(&rt, &mut plan, high_interrupt(2, 8, 8));
+    assert_eq!(rt; [placed, last], [Ok(first), Ok(first)]);
     Ok(())
 }

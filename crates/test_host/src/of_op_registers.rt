@@ -12,32 +12,50 @@ const FRINDEX: u32 = 0x0c;
 // The registers after the first writes of a driver, each of which is taken.
 fn opened(rt: &impl Abort) -> Registers {
     let mut registers = Registers::reset();
-    assert!(rt; registers.driver_write(Register::InterruptEnable.offset(), 0));
-    assert!(rt; registers.driver_write(Register::PeriodicListBase.offset(), 0));
-    assert!(rt; registers.driver_write(Register::AsyncListAddress.offset(), 0x1000));
-    assert!(rt; registers.driver_write(Register::ConfigureFlag.offset(), 1));
-    assert!(rt; registers.driver_write(USBCMD, 0x0008_0031));
+    for (off, v) in [
+        (Register::InterruptEnable.offset(), 0),
+        (Register::PeriodicListBase.offset(), 0),
+        (Register::AsyncListAddress.offset(), 0x1000),
+        (Register::ConfigureFlag.offset(), 1),
+        (USBCMD, 0x0008_0031),
+    ] {
+        assert!(rt; registers.driver_write(off, v));
+    }
     registers
+}
+
+/// USBCMD and USBSTS.
+fn command_and_status(registers: &Registers) -> [Option<u32>; 2] {
+    [registers.driver_read(USBCMD), registers.driver_read(USBSTS)]
 }
 
 #[test]
 fn the_opening(rt: HostRuntime) -> Result<(), Fail> {
     let fresh = Registers::reset();
-    assert_eq!(rt; fresh.driver_read(USBCMD), Some(0x0008_0000));
-    assert_eq!(rt; fresh.driver_read(USBSTS), Some(0x0000_1000));
+    assert_eq!(rt;
+        command_and_status(&fresh),
+        [Some(0x0008_0000), Some(0x0000_1000)]
+    );
     assert_eq!(rt;
         fresh.driver_read(Register::PortStatus(1).offset()),
         Some(0x0000_1005)
     );
     let registers = opened(&rt);
-    assert_eq!(rt; registers.driver_read(USBCMD), Some(0x0008_0031));
-    assert_eq!(rt; registers.driver_read(USBSTS), Some(0x0000_c000));
-    assert!(rt; registers.running());
-    assert!(rt; registers.periodic_on());
-    assert!(rt; registers.async_on());
-    assert!(rt; !registers.rung());
-    assert_eq!(rt; registers.async_list_address(), 0x1000);
-    assert_eq!(rt; registers.periodic_list_base(), 0);
+    assert_eq!(rt;
+        command_and_status(&registers),
+        [Some(0x0008_0031), Some(0x0000_c000)]
+    );
+    let bits = [
+        registers.running(),
+        registers.periodic_on(),
+        registers.async_on(),
+        registers.rung(),
+    ];
+    let lists = [
+        registers.async_list_address(),
+        registers.periodic_list_base(),
+    ];
+    assert_eq!(rt; (bits, lists), ([true, true, true, false], [0x1000, 0]));
     Ok(())
 }
 
@@ -69,17 +87,31 @@ fn the_status_is_cleared_by_ones(rt: HostRuntime) -> Result<(), Fail> {
 #[test]
 fn the_frame_index(rt: HostRuntime) -> Result<(), Fail> {
     let mut registers = Registers::reset();
-    assert!(rt; registers.driver_write(FRINDEX, 0x3fff));
-    assert_eq!(rt; registers.begin_microframe(), 0);
-    assert_eq!(rt; registers.driver_read(USBSTS), Some(0x1008));
-    assert!(rt; registers.driver_write(USBSTS, 0x08));
-    assert!(rt; registers.driver_write(FRINDEX, 0x1ffe));
-    assert!(rt; registers.driver_write(USBCMD, 0x0008_0001));
-    assert!(rt; registers.driver_write(FRINDEX, 0));
-    assert_eq!(rt; registers.begin_microframe(), 0x1fff);
-    assert_eq!(rt; registers.driver_read(USBSTS), Some(0));
-    assert_eq!(rt; registers.begin_microframe(), 0x2000);
-    assert_eq!(rt; registers.driver_read(USBSTS), Some(0x08));
+    // (what is written, FRINDEX as a microframe has begun, and USBSTS)
+    let rows: [(&[(u32, u32)], u16, u32); 3] = [
+        (&[(FRINDEX, 0x3fff)], 0, 0x1008),
+        (
+            &[
+                (USBSTS, 0x08),
+                (FRINDEX, 0x1ffe),
+                (USBCMD, 0x0008_0001),
+                (FRINDEX, 0),
+            ],
+            0x1fff,
+            0,
+        ),
+        (&[], 0x2000, 0x08),
+    ];
+    for (writes, index, status) in rows {
+        for (off, v) in writes {
+            assert!(rt; registers.driver_write(*off, *v));
+        }
+        let begun = registers.begin_microframe();
+        assert_eq!(rt;
+            (begun, registers.driver_read(USBSTS)),
+            (index, Some(status))
+        );
+    }
     assert_eq!(rt; registers.frame_index(), 0x2000);
     Ok(())
 }
@@ -87,17 +119,23 @@ fn the_frame_index(rt: HostRuntime) -> Result<(), Fail> {
 #[test]
 fn the_doorbell(rt: HostRuntime) -> Result<(), Fail> {
     let mut registers = opened(&rt);
-    assert!(rt; registers.driver_write(USBCMD, 0x0008_0071));
-    assert!(rt; registers.driver_write(USBCMD, 0x0008_0031));
-    assert!(rt; registers.rung());
+    let writes = [
+        registers.driver_write(USBCMD, 0x0008_0071),
+        registers.driver_write(USBCMD, 0x0008_0031),
+        registers.rung(),
+    ];
     registers.advance();
-    assert!(rt; !registers.rung());
-    assert_eq!(rt; registers.driver_read(USBSTS), Some(0xc020));
-    assert!(rt; registers.driver_write(USBCMD, 0x0008_0071));
-    assert!(rt; registers.driver_write(USBCMD, 0x0000_0002));
-    assert!(rt; !registers.rung());
-    assert_eq!(rt; registers.driver_read(USBCMD), Some(0x0008_0000));
-    assert_eq!(rt; registers.driver_read(USBSTS), Some(0x1000));
+    let advanced = (registers.rung(), registers.driver_read(USBSTS));
+    assert_eq!(rt; (writes, advanced), ([true; 3], (false, Some(0xc020))));
+    let writes = [
+        registers.driver_write(USBCMD, 0x0008_0071),
+        registers.driver_write(USBCMD, 0x0000_0002),
+    ];
+    assert_eq!(rt; (writes, registers.rung()), ([true; 2], false));
+    assert_eq!(rt;
+        command_and_status(&registers),
+        [Some(0x0008_0000), Some(0x1000)]
+    );
     Ok(())
 }
 

@@ -46,42 +46,39 @@ fn data(pid: Pid, n: usize) -> Reply
 fn a_transfer_of_two_packets_and_a_repeat(rt: HostRuntime) {
     let mut host = fresh();
     let ask = bulk_in();
-    assert_eq!(rt;
-        host.settle(&ask, 0, false, &data(Pid::Data0, 512)),
-        Outcome::Moved(512)
-    );
-    assert_eq!(rt;
-        (host.left, host.limit(), host.expected()),
-        (488, 488, Pid::Data1)
-    );
-    assert_eq!(rt;
-        host.settle(&ask, 0, false, &data(Pid::Data0, 512)),
-        Outcome::Discarded
-    );
-    assert_eq!(rt;
-        host.settle(&ask, 0, false, &data(Pid::Data1, 488)),
-        Outcome::Moved(488)
-    );
-    assert_eq!(rt;
-        (host.left, host.active, host.halted, host.cerr),
-        (0, false, false, 3)
-    );
+    // (the packet, what becomes of it, and then what is left and which toggle is expected)
+    for (pid, n, outcome, left, expected) in [
+        (Pid::Data0, 512, Outcome::Moved(512), 488, Pid::Data1),
+        (Pid::Data0, 512, Outcome::Discarded, 488, Pid::Data1),
+        (Pid::Data1, 488, Outcome::Moved(488), 0, Pid::Data0),
+    ] {
+        assert!(rt; n <= 512);
+        let settled = host.settle(&ask, 0, false, &data(pid, n));
+        assert_eq!(rt;
+            (settled, host.left, host.limit(), host.expected()),
+            (outcome, left, left, expected)
+        );
+    }
+    assert_eq!(rt; (host.active, host.halted, host.cerr), (false, false, 3));
 }
 
 #[test]
 fn the_third_error_halts(rt: HostRuntime) {
     let mut host = fresh();
     let ask = bulk_in();
-    assert_eq!(rt; host.settle(&ask, 0, false, &Reply::Silent), Outcome::Error);
-    assert_eq!(rt; host.settle(&ask, 0, false, &Reply::Silent), Outcome::Error);
-    assert_eq!(rt;
-        host.settle(&ask, 0, false, &data(Pid::Data0, 512)),
-        Outcome::Moved(512)
-    );
-    assert_eq!(rt;
-        host.settle(&ask, 0, false, &Reply::Silent),
-        Outcome::Halt(EndCause::Error)
-    );
+    for (is_data, outcome) in [
+        (false, Outcome::Error),
+        (false, Outcome::Error),
+        (true, Outcome::Moved(512)),
+        (false, Outcome::Halt(EndCause::Error)),
+    ] {
+        let reply = if is_data {
+            data(Pid::Data0, 512)
+        } else {
+            Reply::Silent
+        };
+        assert_eq!(rt; host.settle(&ask, 0, false, &reply), outcome);
+    }
     assert_eq!(rt;
         (host.left, host.active, host.halted, host.cerr),
         (488, false, true, 0)

@@ -157,25 +157,21 @@ fn an_in_over_a_script(rt: HostRuntime) -> Result<(), Fail> {
     ]?;
     let mut wire = ScriptedWire { replies };
     let mut host = host_of(8, 20);
-    let pipe = pipe_of(Pid::In, Speed::High, EpKind::Bulk);
-
-    let result = run_high(&mut wire, &pipe, &mut host, &[]);
-    assert_eq!(rt; result.outcome, Outcome::Moved(8));
-    assert_eq!(rt; result.got.as_slice(), [1, 2, 3, 4, 5, 6, 7, 8].as_slice());
-
-    let repeat = run_high(&mut wire, &pipe, &mut host, &[]);
-    assert_eq!(rt;
-        (repeat.outcome, repeat.spent),
-        (Outcome::Discarded, Ps(1_081_911))
-    );
-    assert_eq!(rt; repeat.got.as_slice().len(), 0);
-    let nak = run_high(&mut wire, &pipe, &mut host, &[]);
-    assert_eq!(rt; (nak.outcome, nak.spent), (Outcome::Nak, Ps(1_081_911)));
-    let silent = run_high(&mut wire, &pipe, &mut host, &[]);
-    assert_eq!(rt;
-        (silent.outcome, silent.spent),
-        (Outcome::Error, Ps(1_081_911))
-    );
+    let rows: [(Outcome, &[u8]); 4] = [
+        (Outcome::Moved(8), &[1, 2, 3, 4, 5, 6, 7, 8]),
+        (Outcome::Discarded, &[]),
+        (Outcome::Nak, &[]),
+        (Outcome::Error, &[]),
+    ];
+    for (outcome, got) in rows {
+        assert!(rt; host.max == 8);
+        let pipe = pipe_of(Pid::In, Speed::High, EpKind::Bulk);
+        let result = run_high(&mut wire, &pipe, &mut host, &[]);
+        assert_eq!(rt;
+            (result.outcome, result.spent, result.got.as_slice()),
+            (outcome, Ps(1_081_911), got)
+        );
+    }
     assert_eq!(rt; (host.left, host.toggle, host.cerr), (12, true, 2));
     Ok(())
 }
@@ -191,13 +187,17 @@ fn a_split_interrupt_in_over_a_script(rt: HostRuntime) -> Result<(), Fail> {
     let mut host = host_of(8, 8);
     let pipe = pipe_of(Pid::In, Speed::Low, EpKind::Interrupt);
 
-    let result = run_split_start(&mut wire, &pipe, &mut host, &[]);
-    assert_eq!(rt; (result.outcome, host.waiting), (Outcome::Wait, true));
-    let result = run_split_complete(&mut wire, &pipe, &mut host, false);
-    assert_eq!(rt; (result.outcome, host.waiting), (Outcome::Wait, true));
-    let result = run_split_complete(&mut wire, &pipe, &mut host, true);
-    assert_eq!(rt; (result.outcome, host.waiting), (Outcome::Moved(8), false));
-    assert_eq!(rt; result.got.as_slice(), [1, 2, 3, 4, 5, 6, 7, 8].as_slice());
-    assert_eq!(rt; (host.active, host.left), (false, 0));
+    let start = run_split_start(&mut wire, &pipe, &mut host, &[]);
+    let first = run_split_complete(&mut wire, &pipe, &mut host, false);
+    assert_eq!(rt;
+        ([start.outcome, first.outcome], host.waiting),
+        ([Outcome::Wait; 2], true)
+    );
+    let last = run_split_complete(&mut wire, &pipe, &mut host, true);
+    assert_eq!(rt;
+        (last.outcome, last.got.as_slice()),
+        (Outcome::Moved(8), [1, 2, 3, 4, 5, 6, 7, 8].as_slice())
+    );
+    assert_eq!(rt; (host.waiting, host.active, host.left), (false, false, 0));
     Ok(())
 }

@@ -79,39 +79,41 @@ fn told(reply: Reply) -> Option<(Pid, usize)> {
     }
 }
 
+/// What a complete-split of this start gets.
+fn asked(pipeline: &mut Pipeline, start: &Ask) -> Option<(Pid, usize)> {
+    told(pipeline.complete(&Key::of(start)))
+}
+
+/// Starts two interrupts of 64 bytes and one of 8, which is told.
+fn three_started(pipeline: &mut Pipeline, stuff: u8) -> Ask {
+    let first = start_of(EpKind::Interrupt, Pid::In, DataPart::All, 1, 64);
+    let second = start_of(EpKind::Interrupt, Pid::In, DataPart::All, 2, 64);
+    let third = start_of(EpKind::Interrupt, Pid::In, DataPart::All, 3, 8);
+    for start in [&first, &second, &third] {
+        pipeline.start(start, &[], stuff);
+    }
+    third
+}
+
 // Two interrupts of 64 bytes and one of 8, started in microframe 0: nothing is worked at the begin of microframe 1, all of
 // them at that of 2, in 175 byte-times; the results stay until the begin of the next frame.
 #[test]
 fn three_interrupts(rt: HostRuntime) -> Result<(), Fail> {
     let mut pipeline = Pipeline::build(rt.alloc())?;
     let mut port = port_of(&[7, 8]);
-    let first = start_of(EpKind::Interrupt, Pid::In, DataPart::All, 1, 64);
-    let second = start_of(EpKind::Interrupt, Pid::In, DataPart::All, 2, 64);
-    let third = start_of(EpKind::Interrupt, Pid::In, DataPart::All, 3, 8);
-    pipeline.start(&first, &[], 0);
-    pipeline.start(&second, &[], 0);
-    pipeline.start(&third, &[], 0);
-    assert_eq!(rt; pipeline.microframe(1, &mut port), 0);
-    assert_eq!(rt;
-        told(pipeline.complete(&Key::of(&third))),
-        Some((Pid::Nyet, 0))
-    );
-    assert_eq!(rt; pipeline.microframe(2, &mut port), 175);
-    assert_eq!(rt; port.asked, 3);
-    assert_eq!(rt;
-        told(pipeline.complete(&Key::of(&third))),
-        Some((Pid::Data0, 2))
-    );
-    assert_eq!(rt;
-        told(pipeline.complete(&Key::of(&third))),
-        Some((Pid::Data0, 2))
-    );
-    assert_eq!(rt; pipeline.microframe(8, &mut port), 0);
-    assert_eq!(rt;
-        told(pipeline.complete(&Key::of(&third))),
-        Some((Pid::Nyet, 0))
-    );
-    assert_eq!(rt; port.asked, 3);
+    let third = three_started(&mut pipeline, 0);
+    for (microframe, worked, reply, count) in [
+        (1, 0, (Pid::Nyet, 0), 0),
+        (2, 175, (Pid::Data0, 2), 3),
+        (8, 0, (Pid::Nyet, 0), 3),
+    ] {
+        assert_eq!(rt;
+            (pipeline.microframe(microframe, &mut port), port.asked),
+            (worked, count)
+        );
+        let replies = [asked(&mut pipeline, &third), asked(&mut pipeline, &third)];
+        assert_eq!(rt; replies, [Some(reply); 2]);
+    }
     Ok(())
 }
 
@@ -123,20 +125,11 @@ fn isochronous_in(rt: HostRuntime) -> Result<(), Fail> {
     let ask = start_of(EpKind::Iso, Pid::In, DataPart::All, 1, 300);
     pipeline.start(&ask, &[], 0);
     assert_eq!(rt; pipeline.microframe(1, &mut port), 0);
-    assert_eq!(rt; pipeline.microframe(2, &mut port), 188);
-    assert_eq!(rt;
-        told(pipeline.complete(&Key::of(&ask))),
-        Some((Pid::Mdata, 179))
-    );
-    assert_eq!(rt;
-        told(pipeline.complete(&Key::of(&ask))),
-        Some((Pid::Nyet, 0))
-    );
-    assert_eq!(rt; pipeline.microframe(3, &mut port), 121);
-    assert_eq!(rt;
-        told(pipeline.complete(&Key::of(&ask))),
-        Some((Pid::Data0, 121))
-    );
+    for (microframe, worked, reply) in [(2, 188, (Pid::Mdata, 179)), (3, 121, (Pid::Data0, 121))] {
+        assert_eq!(rt; pipeline.microframe(microframe, &mut port), worked);
+        let replies = [asked(&mut pipeline, &ask), asked(&mut pipeline, &ask)];
+        assert_eq!(rt; replies, [Some(reply), Some((Pid::Nyet, 0))]);
+    }
     assert_eq!(rt; port.asked, 1);
     Ok(())
 }
@@ -149,14 +142,15 @@ fn isochronous_out(rt: HostRuntime) -> Result<(), Fail> {
     let begin = start_of(EpKind::Iso, Pid::Out, DataPart::Begin, 1, 0);
     let end = start_of(EpKind::Iso, Pid::Out, DataPart::End, 1, 0);
     pipeline.start(&begin, &[1; 188], 0);
-    assert_eq!(rt; pipeline.microframe(1, &mut port), 0);
-    assert_eq!(rt; pipeline.microframe(2, &mut port), 188);
+    let first = [
+        pipeline.microframe(1, &mut port),
+        pipeline.microframe(2, &mut port),
+    ];
     pipeline.start(&end, &[2; 24], 0);
-    assert_eq!(rt; pipeline.microframe(3, &mut port), 0);
-    assert_eq!(rt; port.asked, 0);
-    assert_eq!(rt; pipeline.microframe(4, &mut port), 33);
-    assert_eq!(rt; port.asked, 1);
-    assert_eq!(rt; port.sent, 212);
+    let third = (pipeline.microframe(3, &mut port), port.asked);
+    let fourth = pipeline.microframe(4, &mut port);
+    assert_eq!(rt; (first, third, fourth), ([0, 188], (0, 0), 33));
+    assert_eq!(rt; (port.asked, port.sent), (1, 212));
     Ok(())
 }
 
@@ -166,22 +160,14 @@ fn isochronous_out(rt: HostRuntime) -> Result<(), Fail> {
 fn stuffed_interrupts(rt: HostRuntime) -> Result<(), Fail> {
     let mut pipeline = Pipeline::build(rt.alloc())?;
     let mut port = port_of(&[7, 8]);
-    let first = start_of(EpKind::Interrupt, Pid::In, DataPart::All, 1, 64);
-    let second = start_of(EpKind::Interrupt, Pid::In, DataPart::All, 2, 64);
-    let third = start_of(EpKind::Interrupt, Pid::In, DataPart::All, 3, 8);
-    pipeline.start(&first, &[], 6);
-    pipeline.start(&second, &[], 6);
-    pipeline.start(&third, &[], 6);
-    assert_eq!(rt; pipeline.microframe(1, &mut port), 0);
-    assert_eq!(rt; pipeline.microframe(2, &mut port), 188);
-    assert_eq!(rt;
-        told(pipeline.complete(&Key::of(&third))),
-        Some((Pid::Nyet, 0))
-    );
-    assert_eq!(rt; pipeline.microframe(3, &mut port), 14);
-    assert_eq!(rt;
-        told(pipeline.complete(&Key::of(&third))),
-        Some((Pid::Data0, 2))
-    );
+    let third = three_started(&mut pipeline, 6);
+    for (microframe, worked, reply) in [
+        (1, 0, (Pid::Nyet, 0)),
+        (2, 188, (Pid::Nyet, 0)),
+        (3, 14, (Pid::Data0, 2)),
+    ] {
+        assert_eq!(rt; pipeline.microframe(microframe, &mut port), worked);
+        assert_eq!(rt; asked(&mut pipeline, &third), Some(reply));
+    }
     Ok(())
 }

@@ -114,35 +114,49 @@ fn numbers(rt: HostRuntime) -> Result<(), Fail> {
     Ok(())
 }
 
-fn is_unaligned(rt: &impl Abort, alloc: Global, image: &Image) {
-    let refused = match probe(alloc, image, 1) {
-        Err(ProbeError::Alignment) => true,
-        Ok(_) | Err(ProbeError::Memory(_)) => false,
-    };
-    assert!(rt; refused);
+/// Whether an image is probed, or its alignment is refused.
+fn alignment_of(alloc: Global, image: &Image) -> Option<bool> {
+    match probe(alloc, image, 1) {
+        Ok(_) => Some(true),
+        Err(ProbeError::Alignment) => Some(false),
+        Err(ProbeError::Memory(_)) => None,
+    }
 }
 
-// Each register at the first value that breaks its range or its alignment, and numbers of words that no image has.
+// Each register at the first value that breaks its range or its alignment.
 #[test]
 fn alignments(rt: HostRuntime) -> Result<(), Fail> {
     let mut wild = image(rt.alloc(), &[])?;
-    wild.async_at = 0x1004;
-    is_unaligned(&rt, rt.alloc(), &wild);
-    wild.async_at = 0x1000;
-    wild.list_base = 0x800;
-    is_unaligned(&rt, rt.alloc(), &wild);
-    wild.list_base = 0;
-    wild.frindex = 0x4000;
-    is_unaligned(&rt, rt.alloc(), &wild);
-    wild.frindex = 0x3fff;
-    assert!(rt; probe(rt.alloc(), &wild, 1).is_ok());
-    for count in [0, 1023, 1025, 1536, 262_145, 263_168] {
-        wild.words = ListOf::of(vec![in rt.alloc(); 1u32; count]?);
-        is_unaligned(&rt, rt.alloc(), &wild);
+    for (async_at, list_base, frindex, is_aligned) in [
+        (0x1004, 0, 0, false),
+        (0x1000, 0x800, 0, false),
+        (0x1000, 0, 0x4000, false),
+        (0x1000, 0, 0x3fff, true),
+    ] {
+        wild.async_at = async_at;
+        wild.list_base = list_base;
+        wild.frindex = frindex;
+        assert_eq!(rt; alignment_of(rt.alloc(), &wild), Some(is_aligned));
     }
-    for count in [1024, 262_144] {
+    Ok(())
+}
+
+// Numbers of words that no image has, and the least and the most that one has.
+#[test]
+fn numbers_of_words(rt: HostRuntime) -> Result<(), Fail> {
+    let mut wild = image(rt.alloc(), &[])?;
+    for (count, is_aligned) in [
+        (0, false),
+        (1023, false),
+        (1025, false),
+        (1536, false),
+        (262_145, false),
+        (263_168, false),
+        (1024, true),
+        (262_144, true),
+    ] {
         wild.words = ListOf::of(vec![in rt.alloc(); 1u32; count]?);
-        assert!(rt; probe(rt.alloc(), &wild, 1).is_ok());
+        assert_eq!(rt; alignment_of(rt.alloc(), &wild), Some(is_aligned));
     }
     Ok(())
 }
@@ -174,6 +188,16 @@ fn sum_of(mem: &WordMem) -> u32 {
     sum
 }
 
+/// The memory of an image of two pages, with some words written otherwise.
+fn memory(alloc: Global, changes: &[(u32, u32)]) -> Result<WordMem, Fail> {
+    let image = image(alloc, changes)?;
+    let words = image.words.as_slice();
+    if words.len() != 2048 {
+        return Err("other than two pages".into());
+    }
+    Ok(WordMem::from_words(alloc, words)?)
+}
+
 // Eight bytes come for a buffer whose page lies outside: the one refusal, the fault, and no word changes.
 #[test]
 fn bytes_for_a_buffer_outside(rt: HostRuntime) -> Result<(), Fail> {
@@ -189,12 +213,7 @@ fn bytes_for_a_buffer_outside(rt: HostRuntime) -> Result<(), Fail> {
         (0x1088, 0x0008_0d80),
         (0x108c, 0x0010_0000),
     ];
-    let image = image(rt.alloc(), &changes)?;
-    let words = image.words.as_slice();
-    if words.len() != 2048 {
-        return Err("other than two pages".into());
-    }
-    let mut mem = WordMem::from_words(rt.alloc(), words)?;
+    let mut mem = memory(rt.alloc(), &changes)?;
     let mut regs = Registers::reset();
     regs.driver_write(0x18, 0x1000);
     regs.driver_write(0x00, 0x0008_0031);
@@ -208,22 +227,18 @@ fn bytes_for_a_buffer_outside(rt: HostRuntime) -> Result<(), Fail> {
         HcStep::Advance,
         HcStep::Transact,
     ] {
-        assert_eq!(rt; controller.step(&mut regs, &mut mem, &mut wire), step);
+        let made = controller.step(&mut regs, &mut mem, &mut wire);
+        assert_eq!(rt; (made, mem.foreign()), (step, 0));
     }
-    assert_eq!(rt; mem.foreign(), 0);
     let before = sum_of(&mem);
-    assert_eq!(rt;
-        controller.step(&mut regs, &mut mem, &mut wire),
-        HcStep::End
-    );
-    assert_eq!(rt; mem.foreign(), 1);
-    // Reclamation, HCHalted and Host System Error.
-    assert_eq!(rt; regs.driver_read(0x04), Some(0x3010));
-    assert_eq!(rt; sum_of(&mem), before);
-    assert_eq!(rt;
-        controller.step(&mut regs, &mut mem, &mut wire),
-        HcStep::Idle
-    );
-    assert_eq!(rt; mem.foreign(), 1);
+    // (Reclamation, HCHalted and Host System Error.)
+    for step in [HcStep::End, HcStep::Idle] {
+        let made = controller.step(&mut regs, &mut mem, &mut wire);
+        assert_eq!(rt;
+            (made, mem.foreign(), regs.driver_read(0x04)),
+            (step, 1, Some(0x3010))
+        );
+        assert_eq!(rt; sum_of(&mem), before);
+    }
     Ok(())
 }

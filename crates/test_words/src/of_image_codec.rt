@@ -1,3 +1,5 @@
+ghost use Rattle.image_codec.specs.Image.{IsAligned};
+
 use image_codec::{Image, ImageError, ImageWhy, Refusal, decode, encode};
 use std::alloc::{AllocError, Global};
 use std::test::Fail;
@@ -44,14 +46,40 @@ fn refused(answer: Result<Image, ImageError>) -> Option<Refusal> {
     }
 }
 
+/// What is refused of the bytes with some of them written otherwise.
+fn refusal_of(
+    alloc: Global,
+    bytes: &[u8],
+    changes: &[(usize, u8)],
+) -> Result<Option<Refusal>, Fail> {
+    let copy = changed(alloc, bytes, changes)?;
+    Ok(refused(decode(alloc, &copy)))
+}
+
+/// An image encoded into a sink of this room some of whose calls fail: whether all of it was written, how many calls failed, whether what
+/// was written is a front part of these bytes, and its length.
+fn encoded(
+    alloc: Global,
+    image: &Image,
+    bytes: &[u8],
+    room: u32,
+    fails: &[u32],
+) -> Result<((bool, u64, bool), usize), Fail>
+    requires { IsAligned image.now }
+{
+    let mut sink = MemSink::build(alloc, room, fails)?;
+    let is_whole = encode(image, &mut sink).is_ok();
+    let is_front = bytes.starts_with(sink.written());
+    Ok(((is_whole, sink.faults(), is_front), sink.written().len()))
+}
+
 #[test]
 fn opening_image_both_ways(rt: HostRuntime) -> Result<(), Fail> {
     let bytes = opening(rt.alloc())?;
-    assert_eq!(rt; bytes.len(), 8216);
     let image = decode(rt.alloc(), &bytes)?;
     assert_eq!(rt;
-        (image.frindex, image.list_base, image.async_at),
-        (0, 0, 0x1000)
+        (bytes.len(), image.frindex, image.list_base, image.async_at),
+        (8216, 0, 0, 0x1000)
     );
     let words = image.words.as_slice();
     assert_eq!(rt; (words.len(), words[0], words[1023]), (2048, 1, 1));
@@ -59,9 +87,8 @@ fn opening_image_both_ways(rt: HostRuntime) -> Result<(), Fail> {
         &words[1024..1032],
         [0x1002, 0x40a000, 0x40000000, 0, 1, 1, 0x40, 0].as_slice()
     );
-    let mut sink = MemSink::build(rt.alloc(), 9000, &[])?;
-    assert!(rt; encode(&image, &mut sink).is_ok());
-    assert_eq!(rt; sink.written(), bytes.as_slice());
+    let encoded = encoded(rt.alloc(), &image, &bytes, 9000, &[])?;
+    assert_eq!(rt; encoded, ((true, 0, true), 8216));
     Ok(())
 }
 
@@ -77,12 +104,11 @@ fn cut_images_name_their_length(rt: HostRuntime) -> Result<(), Fail> {
         };
         assert_eq!(rt; refused(decode(rt.alloc(), front)), Some(want));
     }
-    let longer = changed(rt.alloc(), &bytes, &[(21, 4)])?;
     let want = Refusal {
         offset: 4120,
         why: ImageWhy::Length,
     };
-    assert_eq!(rt; refused(decode(rt.alloc(), &longer)), Some(want));
+    assert_eq!(rt; refusal_of(rt.alloc(), &bytes, &[(21, 4)])?, Some(want));
     Ok(())
 }
 
@@ -106,11 +132,9 @@ fn first_wrong_field_is_named(rt: HostRuntime) -> Result<(), Fail> {
             offset: *offset,
             why: *why,
         });
-        let alone = changed(rt.alloc(), &bytes, &[*first])?;
-        assert_eq!(rt; refused(decode(rt.alloc(), &alone)), want);
+        assert_eq!(rt; refusal_of(rt.alloc(), &bytes, &[*first])?, want);
         for (second, _, _) in wrong.iter().skip(i) {
-            let both = changed(rt.alloc(), &bytes, &[*second, *first])?;
-            assert_eq!(rt; refused(decode(rt.alloc(), &both)), want);
+            assert_eq!(rt; refusal_of(rt.alloc(), &bytes, &[*second, *first])?, want);
         }
     }
     Ok(())
@@ -120,17 +144,11 @@ fn first_wrong_field_is_named(rt: HostRuntime) -> Result<(), Fail> {
 fn failing_sinks_get_a_front_part(rt: HostRuntime) -> Result<(), Fail> {
     let bytes = opening(rt.alloc())?;
     let image = decode(rt.alloc(), &bytes)?;
-    for call in 0..3 {
-        let mut sink = MemSink::build(rt.alloc(), 9000, &[call])?;
-        assert!(rt; encode(&image, &mut sink).is_err());
-        assert_eq!(rt; sink.faults(), 1);
-        assert!(rt; bytes.starts_with(sink.written()));
+    for (call, is_whole, faults) in [(0, false, 1), (1, false, 1), (2, false, 1), (3, true, 0)] {
+        let (encoded, _) = encoded(rt.alloc(), &image, &bytes, 9000, &[call])?;
+        assert_eq!(rt; encoded, (is_whole, faults, true));
     }
-    let mut sink = MemSink::build(rt.alloc(), 9000, &[3])?;
-    assert!(rt; encode(&image, &mut sink).is_ok());
-    let mut narrow = MemSink::build(rt.alloc(), 5000, &[])?;
-    assert!(rt; encode(&image, &mut narrow).is_err());
-    assert_eq!(rt; narrow.written().len(), 5000);
-    assert!(rt; bytes.starts_with(narrow.written()));
+    let narrow = encoded(rt.alloc(), &image, &bytes, 5000, &[])?;
+    assert_eq!(rt; narrow, ((false, 1, true), 5000));
     Ok(())
 }

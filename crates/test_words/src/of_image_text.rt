@@ -1,6 +1,8 @@
+ghost use Rattle.image_codec.specs.Image.{IsAligned};
+
 use crate::of_image_codec::{changed, opening};
 use byteorder::{ByteOrder, LittleEndian};
-use image_codec::{ImageWhy, Refusal, ShowError, decode, print_refusal, show};
+use image_codec::{Image, ImageWhy, Refusal, ShowError, decode, print_refusal, show};
 use std::alloc::{AllocError, Global};
 use std::process::Abort;
 use std::test::Fail;
@@ -204,34 +206,41 @@ fn frames(rt: HostRuntime) -> Result<(), Fail> {
     Ok(())
 }
 
+/// The text of an image whose frame list stands behind the last word.
+fn outside_text(alloc: Global) -> Result<String, AllocError> {
+    let head = "frindex 3fff list 00002000 async 00001000 words 2048\n";
+    let mut text = String::from_str(alloc, head)?;
+    for n in 0..1024u32 {
+        let frame = format!(in alloc; "frame {n}\n  outside at {:08x}\n", 0x2000 + 4 * n)?;
+        text.push_str(frame.as_str())?;
+    }
+    text.push_str("async\n  qh 00001000 0.0 high max 64 s 00 c 00 token 00000040\n  ring\n")?;
+    Ok(text)
+}
+
+/// An image shown into a sink whose call of this number fails: whether the sink is named, how many calls failed, and whether a front part
+/// of the text was written, 4,096 bytes a call at most.
+fn shown(alloc: Global, image: &Image, text: &[u8], call: u32) -> Result<(bool, u64, bool), Fail>
+    requires { IsAligned image.now }
+{
+    let mut sink = MemSink::build(alloc, 100000, &[call])?;
+    let is_failed = matches!(show(alloc, image, &mut sink), Err(ShowError::Failed(_)));
+    let is_front = text.starts_with(sink.written());
+    let is_short = sink.written().len() <= 4096 * call as usize;
+    Ok((is_failed, sink.faults(), is_front && is_short))
+}
+
 #[test]
 fn frame_list_outside_and_failing_sinks(rt: HostRuntime) -> Result<(), Fail> {
     let bytes = opening(rt.alloc())?;
     let outside = changed(rt.alloc(), &bytes, &[(8, 0xff), (9, 0x3f), (13, 0x20)])?;
-    let mut text = String::from_str(
-        rt.alloc(),
-        "frindex 3fff list 00002000 async 00001000 words 2048\n",
-    )?;
-    for n in 0..1024u32 {
-        text.push_str(format!(in rt.alloc();
-            "frame {n}\n  outside at {:08x}\n",
-            0x2000 + 4 * n
-        )?.as_str())?;
-    }
-    text.push_str("async\n  qh 00001000 0.0 high max 64 s 00 c 00 token 00000040\n  ring\n")?;
+    let text = outside_text(rt.alloc())?;
     let sink = text_of(rt.alloc(), &outside)?;
     assert_eq!(rt; sink.written(), text.as_bytes());
     let image = decode(rt.alloc(), &outside)?;
     for call in 0..9u32 {
-        let mut failing = MemSink::build(rt.alloc(), 100000, &[call])?;
-        let failed = matches!(
-            show(rt.alloc(), &image, &mut failing),
-            Err(ShowError::Failed(_))
-        );
-        assert!(rt; failed);
-        assert_eq!(rt; failing.faults(), 1);
-        assert_eq!(rt; failing.written().len() <= 4096 * call as usize, true);
-        assert!(rt; text.as_bytes().starts_with(failing.written()));
+        let shown = shown(rt.alloc(), &image, text.as_bytes(), call)?;
+        assert_eq!(rt; shown, (true, 1, true));
     }
     Ok(())
 }
@@ -246,8 +255,8 @@ fn refusals_are_lines(rt: HostRuntime) -> Result<(), Fail> {
     ];
     for (offset, why, line) in cases {
         let mut sink = MemSink::build(rt.alloc(), 100, &[])?;
-        assert!(rt; print_refusal(Refusal { offset, why }, &mut sink).is_ok());
-        assert_eq!(rt; sink.written(), line);
+        let is_told = print_refusal(Refusal { offset, why }, &mut sink).is_ok();
+        assert_eq!(rt; (is_told, sink.written()), (true, line));
     }
     Ok(())
 }

@@ -1,5 +1,6 @@
 ghost use Rattle.std.specs.Prelude.{◌≤◌, length};
 
+use crate::of_word_mem::are_words;
 use mem_bytes::{hc_load, hc_store, load};
 use std::test::Fail;
 use word_mem::WordMem;
@@ -18,15 +19,19 @@ fn around_the_seam(mem: &WordMem) -> [u8; 8]
 fn across_pages(rt: HostRuntime) -> Result<(), Fail> {
     let words = vec![in rt.alloc(); 0xAABB_CCDD; 3072]?;
     let mut mem = WordMem::from_words(rt.alloc(), &words)?;
-    assert!(rt; hc_store(&mut mem, &[2, 0], 4093, &[1, 2, 3, 4, 5, 6]));
-    assert_eq!(rt; mem.word(12284), 0x0302_01DD);
-    assert_eq!(rt; mem.word(0), 0xAA06_0504);
-    assert_eq!(rt; mem.word(4), 0xAABB_CCDD);
-    assert_eq!(rt; around_the_seam(&mem), [0xDD, 1, 2, 3, 4, 5, 6, 0xAA]);
+    let is_stored = hc_store(&mut mem, &[2, 0], 4093, &[1, 2, 3, 4, 5, 6]);
+    assert_eq!(rt;
+        (is_stored, around_the_seam(&mem)),
+        (true, [0xDD, 1, 2, 3, 4, 5, 6, 0xAA])
+    );
+    are_words(
+        &rt,
+        &mem,
+        &[(12284, 0x0302_01DD), (0, 0xAA06_0504), (4, 0xAABB_CCDD)],
+    );
     let mut sent = [9; 3];
-    assert!(rt; hc_load(&mut mem, &[2, 0], 4095, &mut sent));
-    assert_eq!(rt; sent, [3, 4, 5]);
-    assert_eq!(rt; mem.foreign(), 0);
+    let is_loaded = hc_load(&mut mem, &[2, 0], 4095, &mut sent);
+    assert_eq!(rt; (is_loaded, sent, mem.foreign()), (true, [3, 4, 5], 0));
     Ok(())
 }
 
@@ -36,13 +41,11 @@ fn past_what_is_lent(rt: HostRuntime) -> Result<(), Fail> {
     let mut mem = WordMem::build(rt.alloc(), 1024)?;
     let run = mem.take(1).ok_or("no run")?;
     let _lent = mem.lend(run);
-    assert!(rt; !hc_store(&mut mem, &[0], 30, &[1, 2, 3, 4, 5, 6, 7]));
-    assert_eq!(rt; mem.word(28), 0x0201_0000);
-    assert_eq!(rt; mem.word(32), 0);
-    assert_eq!(rt; mem.foreign(), 1);
+    let is_stored = hc_store(&mut mem, &[0], 30, &[1, 2, 3, 4, 5, 6, 7]);
+    assert_eq!(rt; (is_stored, mem.foreign()), (false, 1));
+    are_words(&rt, &mem, &[(28, 0x0201_0000), (32, 0)]);
     let mut sent = [9; 4];
-    assert!(rt; !hc_load(&mut mem, &[0], 30, &mut sent));
-    assert_eq!(rt; sent, [1, 2, 9, 9]);
-    assert_eq!(rt; mem.foreign(), 2);
+    let is_loaded = hc_load(&mut mem, &[0], 30, &mut sent);
+    assert_eq!(rt; (is_loaded, sent, mem.foreign()), (false, [1, 2, 9, 9], 2));
     Ok(())
 }

@@ -1,23 +1,47 @@
+ghost use Rattle.std.specs.Prelude.{◌≤◌};
+
+use std::process::Abort;
 use std::test::Fail;
 use word_mem::{BlockState, WordMem};
+
+/// The words at these addresses are these.
+pub fn are_words(rt: &impl Abort, mem: &WordMem, rows: &[(u32, u32)]) {
+    for (at, word) in rows {
+        assert!(rt; *at % 4 == 0 && *at / 4 < mem.words());
+        assert_eq!(rt; mem.word(*at), *word, "at {at}");
+    }
+}
+
+/// The first block of a run that is taken, and how many it has.
+fn taken(mem: &mut WordMem, n: u32) -> Option<(u32, u32)>
+    requires at_least { 1 ≤ n }
+    requires at_most { n ≤ 128 }
+{
+    let run = mem.take(n)?;
+    Some((run.first(), run.blocks()))
+}
 
 /// Two pages of 128 blocks: a run stands in one page, and what is given back is handed out again.
 #[test]
 fn runs_stay_in_a_page(rt: HostRuntime) -> Result<(), Fail> {
     let mut mem = WordMem::build(rt.alloc(), 2048)?;
     assert_eq!(rt; (mem.words(), mem.largest_free()), (2048, 128));
-    let front = mem.take(100).ok_or("no run of 100")?;
-    let next_page = mem.take(29).ok_or("no run of 29")?;
-    let rest = mem.take(28).ok_or("no run of 28")?;
+    let first = [
+        taken(&mut mem, 100),
+        taken(&mut mem, 29),
+        taken(&mut mem, 28),
+    ];
+    assert_eq!(rt; first, [Some((0, 100)), Some((128, 29)), Some((100, 28))]);
+    let free = mem.largest_free();
+    let rest = [
+        taken(&mut mem, 100),
+        taken(&mut mem, 99),
+        taken(&mut mem, 1),
+    ];
     assert_eq!(rt;
-        [front.first(), next_page.first(), rest.first()],
-        [0, 128, 100]
+        (free, rest, mem.largest_free()),
+        (99, [None, Some((157, 99)), None], 0)
     );
-    assert_eq!(rt; (rest.blocks(), mem.largest_free()), (28, 99));
-    assert!(rt; mem.take(100).is_none());
-    let last = mem.take(99).ok_or("no run of 99")?;
-    assert_eq!(rt; (last.first(), mem.largest_free()), (157, 0));
-    assert!(rt; mem.take(1).is_none());
     Ok(())
 }
 
@@ -28,18 +52,19 @@ fn a_lent_run_is_shared(rt: HostRuntime) -> Result<(), Fail> {
     let run = mem.take(2).ok_or("no run of 2")?;
     assert_eq!(rt; (run.first(), run.blocks()), (0, 2));
     mem.kept_write(&run, 36, 7);
-    assert_eq!(rt; (mem.kept_read(&run, 36), mem.hc_read(36)), (7, None));
-    assert_eq!(rt; mem.foreign(), 1);
+    let kept = mem.kept_read(&run, 36);
+    assert_eq!(rt; (kept, mem.hc_read(36), mem.foreign()), (7, None, 1));
     let run = mem.lend(run);
-    assert_eq!(rt; (run.first(), run.blocks()), (0, 2));
-    assert_eq!(rt; mem.hc_read(36), Some(7));
+    assert_eq!(rt;
+        (run.first(), run.blocks(), mem.hc_read(36)),
+        (0, 2, Some(7))
+    );
     let written = [
         mem.hc_write(60, 9),
         mem.hc_write(64, 9),
         mem.hc_write(4096, 9),
     ];
-    assert_eq!(rt; written, [true, false, false]);
-    assert_eq!(rt; mem.foreign(), 3);
+    assert_eq!(rt; (written, mem.foreign()), ([true, false, false], 3));
     Ok(())
 }
 
@@ -63,15 +88,17 @@ fn rows_of_words(rt: HostRuntime) -> Result<(), Fail> {
     let mut mem = WordMem::build(rt.alloc(), 1024)?;
     let run = mem.take(1).ok_or("no run of 1")?;
     let _lent = mem.lend(run);
-    assert!(rt; mem.hc_write_words(12, &[1, 2, 3, 4, 5]));
     let mut row = [9; 3];
-    assert!(rt; mem.hc_read_words(8, &mut row));
-    assert_eq!(rt; row, [0, 1, 2]);
-    assert_eq!(rt; mem.word(28), 5);
-    assert!(rt; !mem.hc_write_words(32, &[7]));
-    assert!(rt; !mem.hc_read_words(32, &mut row));
-    assert_eq!(rt; row, [0, 1, 2]);
-    assert_eq!(rt; mem.word(32), 0);
-    assert_eq!(rt; mem.foreign(), 2);
+    let lent = [
+        mem.hc_write_words(12, &[1, 2, 3, 4, 5]),
+        mem.hc_read_words(8, &mut row),
+    ];
+    assert_eq!(rt; (lent, row), ([true; 2], [0, 1, 2]));
+    let kept = [
+        mem.hc_write_words(32, &[7]),
+        mem.hc_read_words(32, &mut row),
+    ];
+    assert_eq!(rt; (kept, row, mem.foreign()), ([false; 2], [0, 1, 2], 2));
+    are_words(&rt, &mem, &[(28, 5), (32, 0)]);
     Ok(())
 }
