@@ -3,6 +3,7 @@
 //!
 //! - `due`: What is due at high speed is done in its microframe.
 //! - `plans`: The driver's plan of each translator fits in each frame.
+//! - `translators`: The translators keep up with their plans, along a run.
 //! - `time`: What visits cost, and how many events may still come.
 //! - `visits`: What the walks visit, and whom they leave out.
 //! - `worked_visits`: Worked rows of `time` and `visits`.
@@ -13,5 +14,6 @@
 pub mod due;
 pub mod plans;
 pub mod time;
+pub mod translators;
 pub mod visits;
 pub mod worked_visits;

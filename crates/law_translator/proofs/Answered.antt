@@ -22,7 +22,7 @@ owed_answered p now w o =
           (laid_by_end (p.times w.entry.key) (p.first w.entry.key) now 1 late)) h;
     }
 
-all_owed : (p : Plan) (now : ℕ) (ws : List Watched) → AllOwe p now ws → AllAnswered 1 p now ws
+pub all_owed : (p : Plan) (now : ℕ) (ws : List Watched) → AllOwe p now ws → AllAnswered 1 p now ws
 all_owed p now [] owe = tt
 all_owed p now (w ∷ ws) owe = (owed_answered p now w owe.0, all_owed p now ws owe.1)
 
@@ -39,7 +39,7 @@ settled_answered p now w o s =
       last = λ pid bytes h late when. last_is_there w pid bytes (done late when) h;
     }
 
-all_settled : (p : Plan) (now : ℕ) (ws : List Watched) → All (Coming 6 p now) ws → All (Settles p now) ws → AllAnswered 2 p now ws
+pub all_settled : (p : Plan) (now : ℕ) (ws : List Watched) → All (Coming 6 p now) ws → All (Settles p now) ws → AllAnswered 2 p now ws
 all_settled p now [] comes settles = tt
 all_settled p now (w ∷ ws) comes settles = (settled_answered p now w comes.0 settles.0, all_settled p now ws comes.1 settles.1)
 

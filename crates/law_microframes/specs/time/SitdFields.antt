@@ -1,6 +1,6 @@
 -- What the words of a driver's siTDs tell of their endpoints, in memory and in the copy in hand, at each moment (EHCI 1.0, 3.4 and 4.12.3;
 -- USB 2.0, 11.18.4): its way and its masks are those of its endpoint as it is placed, and what is left of its bytes stands in parts.
---     IsSitdAs way s c n v    the siTD v has this way and these masks, and is in parts of a packet of n bytes
+--     IsSitdAs name s c n v   the siTD v asks so, has these masks, and is in parts of a packet of n bytes
 --     IsStableSitd P          what so becomes of a siTD by a transaction, a miss and a write-back is as before
 --     SitdsAreStable          it is, of each way, of masks and of a packet
 --     HaveSitdFields v x p    v is so for an endpoint so described, at this placement
@@ -12,9 +12,8 @@
 --     TextsFitSlots           .. and of each script that a text spells
 --     ControllerKeepsSitds, DriverKeepsSitds     each event leaves them so
 --     ScriptsKeepSitds        so it is at each moment of the run of a script that fits
-use Rattle.std.specs.Prelude.{◌≡◌, ℕ, ◌*◌, ◌<◌, ◌≤◌, Bool, true, false, List, Some, slice_get}
+use Rattle.std.specs.Prelude.{◌≡◌, ℕ, ◌*◌, ◌<◌, ◌≤◌, Bool, true, false, List, Some, slice_get, unwrap_or}
 use Rattle.std.specs.List.{AllByRecursion}
-use Rattle.usb_base.specs.declared.commands.Cmd.{Cmd}
 use Rattle.usb_base.specs.declared.commands.Cmd.TheVariants as commands
 use Rattle.usb_base.specs.declared.endpoints.EpDesc.{EpDesc}
 use Rattle.usb_base.specs.declared.packets.Reply.{Reply}
@@ -51,8 +50,24 @@ use Rattle.law_microframes.specs.time.SitdParts.{is_in, IsInParts}
 
 -- ---- a siTD
 
-pub record IsSitdAs (inward : Bool) (s c n : ℕ) (v : Sitd) : Type 0 where
-  pub way : v.dir_in ≡ inward
+-- whom it asks for, by which hub's port
+pub record SitdName : Type 0 where
+  pub inward : Bool
+  pub addr : ℕ
+  pub ep : ℕ
+  pub hub : ℕ
+  pub port : ℕ
+
+abbrev pub IsSitdNamed : SitdName → Sitd → Type 0
+IsSitdNamed x v = (v.addr ≡ x.addr) × ((v.ep ≡ x.ep) × ((v.hub ≡ x.hub) × (v.port ≡ x.port)))
+
+abbrev pub sitd_name : EpDesc → SitdName
+sitd_name x =
+    record { inward = is_in (dir_of x.name.way); addr = x.name.addr; ep = x.name.num; hub = unwrap_or x.hub 0; port = x.port }
+
+pub record IsSitdAs (name : SitdName) (s c n : ℕ) (v : Sitd) : Type 0 where
+  pub way : v.dir_in ≡ name.inward
+  pub named : IsSitdNamed name v
   pub smask : v.smask ≡ s
   pub cmask : v.cmask ≡ c
   pub prog : v.c_prog < 256
@@ -65,13 +80,13 @@ pub record IsStableSitd (P : Sitd → Type 0) : Type 0 where
   pub missed : (v : Sitd) → P v → P (missed_sitd v)
 
 abbrev pub SitdsAreStable : Type 0
-SitdsAreStable = (way : Bool) (s c n : ℕ) → IsStableSitd (IsSitdAs way s c n)
+SitdsAreStable = (name : SitdName) (s c n : ℕ) → IsStableSitd (IsSitdAs name s c n)
 
 -- ---- of an endpoint
 
 pub record HaveSitdFields (v : Sitd) (x : EpDesc) (p : Placement) : Type 0 where
   pub classic : is_classic x.speed ≡ true
-  pub has : IsSitdAs (is_in (dir_of x.name.way)) p.smask p.cmask x.max v
+  pub has : IsSitdAs (sitd_name x) p.smask p.cmask x.max v
 
 pub record SplitTransfer (d : DriverContent) : Type 0 where
   pub number : ℕ

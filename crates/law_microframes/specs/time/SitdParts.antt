@@ -2,7 +2,7 @@
 -- 5.11.3 and 11.18.4): no part is dearer than the placement has for its microframe.
 --     marks c               how many microframes of a progress mask are marked
 --     IsInParts v most      while the siTD is active its bytes are no more than so many; of an OUT as many parts are left as they need,
---                           and with 188 more for each that is marked they are no more either
+--                           and with 188 more for each that is marked they are no more either; its position is that of the next part
 --     IsSitdOf x v          it is one of the endpoint
 --     IsSitdInHand x h u paid   its copy is in hand in microframe u, and so much was paid
 --     IsSitdStill x u h n o     what is in hand, if anything is, is a copy of the same siTD, and so much was paid
@@ -11,7 +11,7 @@
 --     PartsStay                 a transaction leaves it so
 --     PartsAreWithin            .. and costs no more than the placement has for its microframe
 --     SitdsArePriced            each event costs its price, and the visit stays within the placement, whatever the bus replies
-use Rattle.std.specs.Prelude.{◌≡◌, ℕ, ◌+◌, ◌*◌, ◌/◌, ◌%◌, ◌<◌, ◌≤◌, Bool, true, false, Option, Some, None}
+use Rattle.std.specs.Prelude.{◌≡◌, ℕ, ◌+◌, ◌*◌, ◌/◌, ◌%◌, ◌<◌, ◌≤◌, ◌==◌, nat_le, if◌then◌else◌, Bool, true, false, Option, Some, None}
 use Rattle.usb_base.specs.declared.packets.Dir.{Dir}
 use Rattle.usb_base.specs.declared.packets.Dir.TheVariants as ways
 use Rattle.usb_base.specs.declared.packets.EpKind.TheVariants.{Iso}
@@ -36,10 +36,16 @@ use Rattle.law_microframes.specs.time.SplitMasks.{HasSplitMasks}
 abbrev pub marks : ℕ → ℕ
 marks c = c % 2 + (c / 2 % 2 + (c / 4 % 2 + (c / 8 % 2 + (c / 16 % 2 + (c / 32 % 2 + (c / 64 % 2 + c / 128 % 2))))))
 
+-- 0 is all, 1 the beginning, 2 the middle, 3 the end (3.4.4): by whether none was sent, and how many are left
+abbrev pub position_of : Bool → ℕ → ℕ
+position_of true left = if nat_le left 1 then 0 else 1
+position_of false left = if nat_le left 1 then 3 else 2
+
 pub record IsInParts (v : Sitd) (most : ℕ) : Type 0 where
   pub fits : v.active ≡ true → v.total ≤ most
   pub count : v.active ≡ true → v.dir_in ≡ false → v.t_count ≡ parts_of v.total
   pub within : v.active ≡ true → v.dir_in ≡ false → v.total + 188 * marks v.c_prog ≤ most
+  pub position : v.active ≡ true → v.dir_in ≡ false → v.tp ≡ position_of (v.c_prog == 0) v.t_count
 
 abbrev pub is_in : Dir → Bool
 is_in ways.In = true

@@ -12,6 +12,8 @@ use Rattle.usb_base.specs.declared.packets.Speed.{Speed}
 use Rattle.usb_base.specs.declared.packets.Speed.TheVariants as speeds
 use Rattle.usb_base.specs.declared.packets.Way.{Way}
 use Rattle.usb_base.specs.declared.packets.Way.TheVariants as ways
+use Rattle.script_types.specs.declared.scripts.Script.{Script}
+use Rattle.script_text.specs.Faults.{Spells}
 use Rattle.script_fits.proofs.Texts.{spelled_fits}
 use Rattle.hub_keys.specs.Keys.{is_same_key, is_same_direction, is_same_kind}
 use Rattle.hub_keys.specs.declared.key.Key.{Key}
@@ -175,7 +177,7 @@ kept_others key y test (z ∷ ys) all = by (test z) (kept_others key y test ys a
     by true rest = (all.0, rest)
     by false rest = rest
 
-kept_apart : (key : Placed → Key) (test : Placed → Bool) (ys : List Placed) → AreKeysApart key ys → AreKeysApart key (filter test ys)
+pub kept_apart : (key : Placed → Key) (test : Placed → Bool) (ys : List Placed) → AreKeysApart key ys → AreKeysApart key (filter test ys)
 kept_apart key test [] apart = tt
 kept_apart key test (y ∷ ys) apart = by (test y) (kept_apart key test ys apart.1)
   where
@@ -198,8 +200,9 @@ its_own d i y is kinds_fit right at =
 
 -- ---- a moment
 
-pub texts_plan_hubs : TextsPlanHubs
-texts_plan_hubs text s spelled k hub port f address number frame =
+pub texts_plan_apart : (text : List ℕ) (s : Script) → Spells text s → (k : ℕ)
+    → AreKeysApart (key_at (moment s k).world.driver) (moment s k).world.driver.periodic.plan.placed
+texts_plan_apart text s spelled k =
     let fit = spelled_fits text s spelled in
     let d : DriverContent = (moment s k).world.driver in
     let mixed : IsMixedWorld (moment s k).world = texts_stay_mixed text s spelled k in
@@ -209,6 +212,11 @@ texts_plan_hubs text s spelled k hub port f address number frame =
     all_of (IsOwn d) d.periodic.plan.placed (λ i y at. its_own d i y is mixed.mixed.turns.kinds_fit right at) in
     let ys : List Placed = d.periodic.plan.placed in
     let up : Increase ys = subst Increase (sym is) (planned_grows 0 d.endpoints).increase in
-    let apart : AreKeysApart (key_at d) ys = keys_apart d ys (scripts_apart s fit k) own up in
-    hub_plans_fit (key_at d) ys hub port f address number frame (script_admits s fit k).fits right
-    (kept_apart (key_at d) (is_below hub port f) ys apart)
+    keys_apart d ys (scripts_apart s fit k) own up
+
+pub texts_plan_hubs : TextsPlanHubs
+texts_plan_hubs text s spelled k hub port f address number frame =
+    let fit = spelled_fits text s spelled in
+    let d : DriverContent = (moment s k).world.driver in
+    hub_plans_fit (key_at d) d.periodic.plan.placed hub port f address number frame (script_admits s fit k).fits (scripts_right s fit k)
+    (kept_apart (key_at d) (is_below hub port f) d.periodic.plan.placed (texts_plan_apart text s spelled k))

@@ -72,7 +72,7 @@ fewer : (e : ℕ) (w : Removed) (ms : List Removal) → times e (endpoints_in ms
 fewer e (removed.Descriptor t) ms = omega arith
 fewer e (removed.Endpoint f) ms = omega arith
 
-one_removal : (e : ℕ) (rs : List Removal) (i j : ℕ) (r q : Removal) → slice_get rs i ≡ Some r → slice_get rs j ≡ Some q → r.what ≡ removed.Endpoint e → q.what ≡ removed.Endpoint e
+pub one_removal : (e : ℕ) (rs : List Removal) (i j : ℕ) (r q : Removal) → slice_get rs i ≡ Some r → slice_get rs j ≡ Some q → r.what ≡ removed.Endpoint e → q.what ≡ removed.Endpoint e
     → times e (endpoints_in rs) ≤ 1 → r ≡ q
 one_removal e [] i j r q here there one two most = absurd (cc)
 one_removal e (m ∷ ms) zero zero r q here there one two most = sym (same_Some m r here) ∙ same_Some m q there
@@ -88,7 +88,7 @@ one_removal e (m ∷ ms) (suc i) zero r q here there one two most =
     absurd (omega (arith, first, counts, later, most))
 one_removal e (m ∷ ms) (suc i) (suc j) r q here there one two most = let less = fewer e m.what ms in one_removal e ms i j r q here there one two (omega (arith, less, most))
 
-out_owed : (c g p : Bool) → 1 ≤ (if c || g || not p then 0 else 1) → c ≡ false
+pub out_owed : (c g p : Bool) → 1 ≤ (if c || g || not p then 0 else 1) → c ≡ false
 out_owed true g p one = absurd (omega (arith, one))
 out_owed false g p one = refl
 
@@ -316,12 +316,12 @@ driver_iso w e i =
 -- ---- a command
 
 -- it is seen as it was, and what was placed is
-record IsSeenAndPlaced (d : DriverContent) (o : Offered) (e : ℕ) (y : Placed) : Type 0 where
-  seen_too : seen_in o.driver.endpoints e ≡ seen_in d.endpoints e
-  placed_too : IsAmong o.driver.periodic.plan.placed y
+pub record IsSeenAndPlaced (d : DriverContent) (o : Offered) (e : ℕ) (y : Placed) : Type 0 where
+  pub seen_too : seen_in o.driver.endpoints e ≡ seen_in d.endpoints e
+  pub placed_too : IsAmong o.driver.periodic.plan.placed y
 
 module _ (w : World) (o : Offered) (e : ℕ) (x : Endpoint) (y : Placed) (here : slice_get w.driver.endpoints e ≡ Some x) (planned : IsAmong w.driver.periodic.plan.placed y) where
-  accepted_sees : (cmd : Cmd) → offered w.driver w.memory cmd ≡ Ok o → IsReasonOf w.driver w.memory o cmd → IsSeenAndPlaced w.driver o e y
+  pub accepted_sees : (cmd : Cmd) → offered w.driver w.memory cmd ≡ Ok o → IsReasonOf w.driver w.memory o cmd → IsSeenAndPlaced w.driver o e y
   accepted_sees (commands.OpenEp v) is why = record {
     seen_too = pushed_seen w.driver o e x (opened_new w.driver w.memory o v why) here;
     placed_too = open_plan w.driver v o (is_periodic v.kind) (account_of_command w.driver w.memory (commands.OpenEp v) o is) y planned;
@@ -338,7 +338,7 @@ module _ (w : World) (o : Offered) (e : ℕ) (x : Endpoint) (y : Placed) (here :
       record { seen_too = left_same w.driver w.memory o name why e; placed_too = same_plan w.driver o (account_of_command w.driver w.memory (commands.Cancel name) o is) y planned }
   accepted_sees _ is why = absurd why
 
-accepted_open : (w : World) (o : Offered) (now e : ℕ) → Accepts w.driver w.memory o → AreOpen now e w.driver.periodic.removals → AreOpen now e o.driver.periodic.removals
+pub accepted_open : (w : World) (o : Offered) (now e : ℕ) → Accepts w.driver w.memory o → AreOpen now e w.driver.periodic.removals → AreOpen now e o.driver.periodic.removals
 accepted_open w o now e (opens why) all = subst (λ (f : Offered). AreOpen now e f.driver.periodic.removals) (sym why.is) all
 accepted_open w o now e (chains why) all = subst (λ (f : Offered). AreOpen now e f.driver.periodic.removals) (sym why.is) all
 accepted_open w o now e (places why) all = subst (λ (f : Offered). AreOpen now e f.driver.periodic.removals) (sym why.is) all

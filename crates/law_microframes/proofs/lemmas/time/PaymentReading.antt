@@ -63,8 +63,7 @@ use Rattle.law_microframes.proofs.lemmas.visits.OneDescriptorMet.{met_is_active,
 use Rattle.claims_world.specs.FrameHeads.{IsAllowed, AreAllowed}
 use Rattle.law_world.proofs.lemmas.memory.lemmas.framed_memory.Masking.{one_of_all}
 use Rattle.law_microframes.specs.time.DataQueues.{pid_of, ReadsData}
-use Rattle.law_microframes.specs.time.SitdParts.{is_in}
-use Rattle.law_microframes.specs.time.SitdFields.{IsSitdAs, HaveSitdFields, SplitTransfer, SitdsStand}
+use Rattle.law_microframes.specs.time.SitdFields.{sitd_name, IsSitdAs, HaveSitdFields, SplitTransfer, SitdsStand}
 use Rattle.law_microframes.specs.time.SplitCharges.{IsPaidFor, at_high, at_split}
 use Rattle.law_microframes.proofs.lemmas.time.DataTold.{pid_low}
 use Rattle.law_microframes.proofs.lemmas.time.SplitMasked.{allowed_split}
@@ -154,7 +153,7 @@ no_sitd_there false part n v whole here h = let e : SplitIsochronous v ≡ Isoch
 no_sitd_there true part n v whole here h = true≢false whole
 
 module _ (d : DriverContent) (has : HasOwners d) (descs parts : StructureSets) (driven : IsDriven (views_of d) (sorts_of parts)) (described : AreDescribed (views_of d) descs) where
-  not_whole : (n first : ℕ) (v : Sitd) → both descs parts n n ≡ Some (SplitIsochronous v) → n ≡ 32 * first → (note_at d.periodic.notes first).split ≡ false → ⊥
+  pub not_whole : (n first : ℕ) (v : Sitd) → both descs parts n n ≡ Some (SplitIsochronous v) → n ≡ 32 * first → (note_at d.periodic.notes first).split ≡ false → ⊥
   not_whole n first v here at whole = by (owns descs n) refl
     where
       by : (c : Bool) → owns descs n ≡ c → ⊥
@@ -416,7 +415,7 @@ module _ (b : World) (s : Standing) (w : World) (k : IsMixedAt s w) (heads : Hea
         let x : Placed = placed_of q.belongs in
         let have : HaveSitdFields (sitd_in w.memory q.transfer.first) q.belongs.endpoint.desc q.belongs.placement =
         sitds.fields (of_split q) in
-        let read : IsSitdAs (is_in x.want.dir) x.placement.smask x.placement.cmask x.want.max v =
+        let read : IsSitdAs (sitd_name q.belongs.endpoint.desc) x.placement.smask x.placement.cmask x.want.max v =
         read_as _ _ _ _ w.memory q.transfer.first a v q.name sitd_reads have.has in
         let all : IsAllowed x = one_of_all IsAllowed w.driver.periodic.plan.placed q.belongs.planned.place x allowed
         q.belongs.planned.there in

@@ -1,8 +1,6 @@
 -- Each command leaves the fields of the driver's siTDs, in memory and in hand, and what it takes on is written with them (EHCI 1.0, 3.4 and
 -- 4.12.3).
-use Rattle.std.proofs.Common.{◌≡◌, ◌≢◌, ℕ, zero, suc, ◌+◌, ◌*◌, ◌<◌, ◌≤◌, Bool, true, false, cond, List, [], ◌∷◌, length, drop, get_or, slice_get, Option, Some, None, Result, Ok, Err, option_map, ap, refl, sym, subst, ◌∙◌, ⊎_elim, inl, inr, arith, if◌then◌else◌}
-use Rattle.std.specs.Prelude.{◌⊎◌}
-use Rattle.std.proofs.lemmas.Bool.{true≢false}
+use Rattle.std.proofs.Common.{◌≡◌, ℕ, zero, suc, ◌+◌, ◌*◌, ◌<◌, ◌≤◌, Bool, true, false, List, length, drop, get_or, slice_get, Some, Result, Ok, Err, option_map, ap, refl, sym, subst, ◌∙◌, ⊎_elim, arith, if◌then◌else◌}
 use Rattle.std.proofs.lemmas.Option.{same_Some}
 use Rattle.std.proofs.lemmas.List.{get_or-drop, length-append, length-drop}
 use Rattle.usb_base.specs.declared.commands.Cmd.{Cmd}
@@ -10,10 +8,10 @@ use Rattle.usb_base.specs.declared.commands.Cmd.TheVariants as commands
 use Rattle.usb_base.specs.declared.endpoints.EpDesc.{EpDesc}
 use Rattle.usb_base.specs.declared.endpoints.EpName.{EpName}
 use Rattle.usb_base.specs.declared.reports.OfferError.{OfferError}
-use Rattle.word_mem.specs.Memory.{Mem, word_at}
+use Rattle.word_mem.specs.Memory.{Mem}
 use Rattle.word_mem.specs.Views.{words_at}
 use Rattle.mem_runs.specs.declared.slots.Slot.TheVariants.{Empty}
-use Rattle.mem_runs.specs.Book.{holding, slot_of}
+use Rattle.mem_runs.specs.Book.{slot_of}
 use Rattle.itd_sitd.specs.declared.sitd.Sitd.{Sitd}
 use Rattle.itd_sitd.specs.Itd.{itd_words}
 use Rattle.itd_sitd.specs.Sitd.{sitd_words}
@@ -21,7 +19,7 @@ use Rattle.hc_iso.specs.declared.held.HeldSitd.{HeldSitd}
 use Rattle.bandwidth.specs.declared.placements.Placement.{Placement}
 use Rattle.bandwidth.specs.Placements.{is_classic}
 use Rattle.drv_periodic_table.specs.declared.content.DescriptorNote.{DescriptorNote}
-use Rattle.drv_periodic_table.specs.Periodic.{dir_of, note_at}
+use Rattle.drv_periodic_table.specs.Periodic.{note_at}
 use Rattle.drv_periodic_table.specs.Descriptors.{is_in as goes_in, slot_bytes, new_itd, new_sitd, descriptor_words, sitd_in}
 use Rattle.periodic_walk.specs.declared.state.Hand.TheVariants as hands
 use Rattle.hc_core.specs.declared.controller.MicroframePart.TheVariants.{Periodic}
@@ -59,8 +57,7 @@ use Rattle.law_microframes.proofs.lemmas.visits.BelongIso.{IsIsoAccepted, IsIsoO
 use Rattle.law_world.proofs.lemmas.memory.LeavesLent.{leaves_lent}
 use Rattle.law_microframes.proofs.lemmas.visits.BelongItdCommands.{HasNoDescriptors, idle_by, old_words, IsTold, told_by}
 use Rattle.law_microframes.proofs.lemmas.visits.BelongSeen.{Seen, IsSeenIn, seen_there}
-use Rattle.law_microframes.specs.time.SitdParts.{is_in}
-use Rattle.law_microframes.specs.time.SitdFields.{IsSitdAs, HaveSitdFields, SplitTransfer, SitdsStand}
+use Rattle.law_microframes.specs.time.SitdFields.{sitd_name, IsSitdAs, HaveSitdFields, SplitTransfer, SitdsStand}
 use Rattle.law_microframes.proofs.lemmas.time.PaymentIsoCommands.{seen_same}
 use Rattle.law_microframes.proofs.lemmas.time.SitdNew.{new_sitd_as}
 use Rattle.law_microframes.proofs.lemmas.time.SitdWords.{words_stay}
@@ -328,9 +325,9 @@ module _ (w : World) (name : EpName) (count len seed : ℕ) (o : Offered) (mixed
           (record {
             classic = classic;
             has =
-                subst (λ (c : ℕ). IsSitdAs (is_in (dir_of k.endpoint.desc.name.way)) j.placement.smask c k.endpoint.desc.max
+                subst (λ (c : ℕ). IsSitdAs (sitd_name k.endpoint.desc) j.placement.smask c k.endpoint.desc.max
                 (sitd_in o.memory j.transfer.first)) completes
-                (subst (λ (s : ℕ). IsSitdAs (is_in (dir_of k.endpoint.desc.name.way)) s note.cmask k.endpoint.desc.max
+                (subst (λ (s : ℕ). IsSitdAs (sitd_name k.endpoint.desc) s note.cmask k.endpoint.desc.max
                 (sitd_in o.memory j.transfer.first)) starts has);
           })
 

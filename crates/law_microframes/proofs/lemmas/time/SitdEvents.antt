@@ -1,6 +1,6 @@
 -- An event of the controller leaves the siTDs in memory and the copy in hand of their endpoints (EHCI 1.0, 4.6 and 4.12.3): it reads one,
 -- makes a transaction of it, or writes it back, and of the others it changes nothing.
-use Rattle.std.proofs.Common.{◌≡◌, ◌≢◌, ℕ, ◌*◌, ◌%◌, ◌<◌, Bool, true, false, List, Option, Some, None, option_map, refl, ap, sym, subst, ◌∙◌, ⊎_elim, arith, if◌then◌else◌}
+use Rattle.std.proofs.Common.{◌≡◌, ◌≢◌, ℕ, ◌<◌, Bool, true, false, List, Option, Some, refl, ap, sym, subst, ◌∙◌, ⊎_elim, arith, if◌then◌else◌}
 use Rattle.std.proofs.lemmas.Bool.{true≢false, cases_eq}
 use Rattle.std.proofs.lemmas.Option.{same_Some}
 use Rattle.usb_base.specs.declared.packets.Ask.{Ask}
@@ -16,7 +16,7 @@ use Rattle.hc_iso.specs.WriteBack.{sitd_received, moved_by as sitd_moved_by}
 use Rattle.async_walk.specs.declared.state.WalkStep.{WalkStep}
 use Rattle.periodic_walk.specs.Walk.{Walk}
 use Rattle.hc_core.specs.Controller.{Content, walk_place}
-use Rattle.law_structures.specs.lent_structures.Structures.{Structure, QueueHead, Isochronous, SplitIsochronous, Structures, StructureSets}
+use Rattle.law_structures.specs.lent_structures.Structures.{QueueHead, Isochronous, SplitIsochronous, Structures, StructureSets}
 use Rattle.law_structures.specs.lent_structures.WriteBack.{received_parts}
 use Rattle.law_structures.proofs.lemmas.lent_structures.Names.{put_beside, put_same}
 use Rattle.law_structures.proofs.lemmas.lent_structures.Found.{received_beside, back_beside}
@@ -27,11 +27,11 @@ use Rattle.law_controller.specs.controlled_streams.Control.{ControlEffect, a_mic
 use Rattle.law_controller.specs.frame_control.Both.{RunsBoth, BothEffect, of_ring, of_frame}
 use Rattle.law_controller.proofs.lemmas.frame_control.Staying.{ring_leaves}
 use Rattle.law_frames.specs.Met.{Kind}
-use Rattle.law_frames.specs.FrameHand.{QueueSettlement, settled_in, ItdCopy, SitdCopy, FrameHand, Nothing, OfQueue, OfSettled, OfItd, OfSitd, fetched_sitd_copy}
+use Rattle.law_frames.specs.FrameHand.{settled_in, SitdCopy, FrameHand, Nothing, OfQueue, OfSettled, OfItd, OfSitd, fetched_sitd_copy}
 use Rattle.law_frames.specs.Frame.{IsCopiedQueue, IsCopiedItd, IsInFrame}
 use Rattle.law_frames.specs.FrameEffects.{Fetches, MakesOne, TakesOne, itd_back, sitd_back, WritesQueue, WritesItd, WritesSitd, IsWrittenFrom, made as was_made, missed as was_missed, WritesOne, FrameEffect, fetches, passes, ends, takes, makes, writes}
 use Rattle.law_frames.proofs.QueueBacks.{hand_settled}
-use Rattle.law_microframes.specs.time.SitdFields.{IsSitdAs}
+use Rattle.law_microframes.specs.time.SitdFields.{SitdName, IsSitdAs}
 use Rattle.law_microframes.proofs.lemmas.time.SitdStable.{sitds_stable}
 
 -- ---- what is in hand
@@ -62,7 +62,7 @@ address (Stale n q) = n
 
 -- ---- one siTD
 
-module _ (way : Bool) (s c most n : ℕ) where
+module _ (way : SitdName) (s c most n : ℕ) where
   -- what stands at n, and a copy of it in hand
   pub record AreSitdsAs (parts : StructureSets) (hand : FrameHand) : Type 0 where
     pub there : (v : Sitd) → parts n n ≡ Some (SplitIsochronous v) → IsSitdAs way s c most v

@@ -24,7 +24,7 @@ use Rattle.bandwidth.proofs.Microframes.{first_is}
 use Rattle.bandwidth.specs.Sums.{cost_in}
 use Rattle.drv_periodic_table.specs.Descriptors.{parts_of}
 use Rattle.claims_world.specs.Prices.{sitd_bytes}
-use Rattle.law_microframes.specs.time.SitdParts.{marks, is_in, IsInParts, IsSitdOf, PartsStay, PartsAreWithin}
+use Rattle.law_microframes.specs.time.SitdParts.{marks, position_of, is_in, IsInParts, IsSitdOf, PartsStay, PartsAreWithin}
 use Rattle.law_microframes.proofs.lemmas.time.SplitHeads.{some_times}
 
 -- ---- marks
@@ -205,24 +205,24 @@ twice_not : (b : Bool) → not (not b) ≡ true → b ≡ true
 twice_not true is = refl
 twice_not false is = absurd (true≢false (sym is))
 
-first_here : (m u : ℕ) → u < 8 → is_first m u ≡ true → (has m u ≡ true) × (u ≡ first_in m)
+pub first_here : (m u : ℕ) → u < 8 → is_first m u ≡ true → (has m u ≡ true) × (u ≡ first_in m)
 first_here m u small is =
     let parts = and_parts (has m u) (not (is_after_first m u)) is in
     (parts.0, first_is m u small (λ k less. not_true (has m k) (no_lower m u k small less (twice_not (m % 2 ^ u == 0) parts.1))) parts.0)
 
 -- ---- what there is to do
 
-works : (a m c : Bool) → turn_at a m c ≡ Work → (a ≡ true) × (m ≡ false) × (c ≡ true)
+pub works : (a m c : Bool) → turn_at a m c ≡ Work → (a ≡ true) × (m ≡ false) × (c ≡ true)
 works true false true is = (refl, refl, refl)
 works true false false is = absurd (cc)
 works true true c is = absurd (cc)
 works false m c is = absurd (cc)
 
-so_in : (d a b : Bool) → d ≡ true → (if d then a else b) ≡ true → a ≡ true
+pub so_in : (d a b : Bool) → d ≡ true → (if d then a else b) ≡ true → a ≡ true
 so_in true a b is on = on
 so_in false a b is on = absurd (true≢false (sym is))
 
-so_out : (d a b : Bool) → d ≡ false → (if d then a else b) ≡ true → b ≡ true
+pub so_out : (d a b : Bool) → d ≡ false → (if d then a else b) ≡ true → b ≡ true
 so_out true a b is on = absurd (true≢false is)
 so_out false a b is on = on
 
@@ -266,7 +266,7 @@ iso_part w p m own classic kind dir some =
 on_mark : (c i : ℕ) → has c i ≡ true → c / 2 ^ i % 2 ≡ 1
 on_mark c i on = eqb-true (c / 2 ^ i % 2) 1 on
 
-parts_behind : (mask done u : ℕ) (b : Bool) → ((i : ℕ) → first_in mask ≤ i → i < u → has mask u ≡ true → has mask i ≡ true) → u < 8
+pub parts_behind : (mask done u : ℕ) (b : Bool) → ((i : ℕ) → first_in mask ≤ i → i < u → has mask u ≡ true → has mask i ≡ true) → u < 8
     → (not b && lacks mask done u) ≡ false
     → (if b then is_first mask u else has mask u) ≡ true
     → (has mask u ≡ true) × (u - first_in mask ≤ marks done)
@@ -352,6 +352,42 @@ still active count is =
     let parts = and_parts active (not (nat_le count 1)) is in
     (parts.0, grind (arith, nat_tests, parts.1))
 
+not_last : (n : ℕ) → 2 ≤ n → (n == 2) ≡ false → nat_le (n - 1) 1 ≡ false
+not_last n h k = grind (arith, nat_tests)
+
+-- behind a part that isn't the last
+next_part : (tp count done : ℕ) → 2 ≤ count → (done == 0) ≡ false
+    → (if nat_le count 1 then tp else if count == 2 then 3 else 2) ≡ position_of (done == 0) (count - 1)
+next_part tp count done some marked =
+    let more : nat_le count 1 ≡ false = grind (arith, nat_tests) in
+    rw (more, marked) (by (count == 2) refl)
+  where
+    by : (b : Bool) → (count == 2) ≡ b → ◌≡◌ {A = ℕ} (if b then 3 else 2) (if nat_le (count - 1) 1 then 3 else 2)
+    by true two = let e : count ≡ 2 = eqb-true count 2 two in rw e refl
+    by false two = let later : nat_le (count - 1) 1 ≡ false = not_last count some two in rw later refl
+
+no_mark : (u : ℕ) → u < 8 → has 0 u ≡ true → ⊥
+no_mark zero small on = cc
+no_mark (suc zero) small on = cc
+no_mark (suc (suc zero)) small on = cc
+no_mark (suc (suc (suc zero))) small on = cc
+no_mark (suc (suc (suc (suc zero)))) small on = cc
+no_mark (suc (suc (suc (suc (suc zero))))) small on = cc
+no_mark (suc (suc (suc (suc (suc (suc zero)))))) small on = cc
+no_mark (suc (suc (suc (suc (suc (suc (suc zero))))))) small on = cc
+no_mark (suc (suc (suc (suc (suc (suc (suc (suc u)))))))) small on = omega (arith, small)
+
+some_power : (u : ℕ) → 1 ≤ 2 ^ u
+some_power zero = omega arith
+some_power (suc u) = let p = some_power u in omega (arith, p)
+
+-- a microframe that is marked leaves a mark
+some_mark : (c u : ℕ) (b : Bool) → u < 8 → has c u ≡ b → ((if b then c else c + 2 ^ u) == 0) ≡ false
+some_mark c u true small on =
+    not_true (c == 0) (λ none. no_mark u small (subst (λ (n : ℕ). has n u ≡ true) (eqb-true c 0 none) on))
+some_mark c u false small off =
+    not_true (c + 2 ^ u == 0) (λ none. let e = eqb-true (c + 2 ^ u) 0 none in let p = some_power u in omega (arith, e, p))
+
 out_stays : (v : Sitd) (most u : ℕ) → IsInParts v most → v.c_prog < 256 → u < 8 → v.dir_in ≡ false → IsInParts (after_part u v) most
 unfolding after_part
 out_stays v most u parts small low way = record {
@@ -367,6 +403,9 @@ out_stays v most u parts small low way = record {
       let was = still v.active v.t_count active in
       (fewer_parts v.total v.t_count most (marks v.c_prog) (marks (with_bit v.c_prog u)) (parts.count was.0 way) (parts.within was.0 way)
       (marks_more v.c_prog u small low) was.1).1;
+  position = λ active dir.
+      let was = still v.active v.t_count active in
+      next_part v.tp v.t_count (with_bit v.c_prog u) was.1 (some_mark v.c_prog u (has v.c_prog u) low refl);
 }
 
 heard_fits : (heard : SplitHeard) (v : Sitd) (most : ℕ) → (v.active ≡ true → v.total ≤ most) → (after_split_heard heard v).active ≡ true
@@ -394,11 +433,12 @@ complete_stays v most u heard parts way = record {
   fits = λ active. heard_fits heard v most parts.fits active;
   count = λ active dir. absurd (true≢false (sym way ∙ sym (heard_way heard v) ∙ dir));
   within = λ active dir. absurd (true≢false (sym way ∙ sym (heard_way heard v) ∙ dir));
+  position = λ active dir. absurd (true≢false (sym way ∙ sym (heard_way heard v) ∙ dir));
 }
 
 start_stays : (v : Sitd) (most : ℕ) → IsInParts v most → IsInParts (after_start v) most
 unfolding after_start
-start_stays v most parts = record { fits = parts.fits; count = parts.count; within = parts.within }
+start_stays v most parts = record { fits = parts.fits; count = parts.count; within = parts.within; position = parts.position }
 
 in_stays : (v : Sitd) (most u : ℕ) (reply : Reply) (split : Bool) → IsInParts v most → v.dir_in ≡ true
     → IsInParts (if split then after_complete u (heard_by u v reply) v else after_start v) most

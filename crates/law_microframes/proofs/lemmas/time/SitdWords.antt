@@ -1,5 +1,5 @@
 -- A siTD by its words: words 1, 2, 3 and 5 tell all that is said of it (EHCI 1.0, 3.4).
-use Rattle.std.proofs.Common.{◌≡◌, ℕ, ◌+◌, ◌*◌, ◌/◌, ◌<◌, ◌≤◌, Bool, true, false, List, [], ◌∷◌, slice_index, Option, Some, None, Ok, refl, ap, sym, subst, ◌∙◌, arith, if◌then◌else◌}
+use Rattle.std.proofs.Common.{◌≡◌, ℕ, ◌+◌, ◌*◌, ◌<◌, ◌≤◌, Bool, true, false, List, [], ◌∷◌, slice_index, Some, None, Ok, ap, sym, subst, ◌∙◌, arith, if◌then◌else◌}
 use Rattle.std.specs.Result.{result_ok}
 use Rattle.word_mem.specs.Memory.{Mem, word_at, reaches}
 use Rattle.word_mem.specs.Views.{words_at}
@@ -10,7 +10,7 @@ use Rattle.itd_sitd.proofs.SitdLaws.{sitd_read-words, sitd_read-is}
 use Rattle.mem_descriptors.specs.Descriptors.{sitd_at_address}
 use Rattle.drv_periodic_table.specs.Descriptors.{sitd_in}
 use Rattle.law_structures.specs.lent_structures.Structures.{HoldsSplitIsochronous}
-use Rattle.law_microframes.specs.time.SitdFields.{IsSitdAs}
+use Rattle.law_microframes.specs.time.SitdFields.{SitdName, IsSitdAs}
 use Rattle.law_microframes.proofs.lemmas.visits.BelongReads.{ok_is}
 
 -- a structure that stands there is what its words are
@@ -22,7 +22,7 @@ read_ok : (m : Mem) (a : ℕ) (v : Sitd) (b : Bool) → (if b then result_ok (si
 read_ok m a v true is = ok_is (sitd_read (words_at m a 7)) v is
 read_ok m a v false is = absurd (cc)
 
-module _ (way : Bool) (s c n : ℕ) where
+module _ (way : SitdName) (s c n : ℕ) where
   abbrev pub AreWordsAs : ℕ → ℕ → ℕ → ℕ → Type 0
   AreWordsAs one two three five = IsSitdAs way s c n (sitd_at (0 ∷ one ∷ two ∷ three ∷ 0 ∷ five ∷ []))
 
@@ -31,10 +31,11 @@ module _ (way : Bool) (s c n : ℕ) where
   unfolding sitd_at
   list_as ws k = record {
     way = k.way;
+    named = k.named;
     smask = k.smask;
     cmask = k.cmask;
     prog = k.prog;
-    parts = record { fits = k.parts.fits; count = k.parts.count; within = k.parts.within };
+    parts = record { fits = k.parts.fits; count = k.parts.count; within = k.parts.within; position = k.parts.position };
   }
 
   pub as_list : (ws : List ℕ) → AreWordsAs (slice_index ws 1) (slice_index ws 2) (slice_index ws 3) (slice_index ws 5)
@@ -42,10 +43,11 @@ module _ (way : Bool) (s c n : ℕ) where
   unfolding sitd_at
   as_list ws k = record {
     way = k.way;
+    named = k.named;
     smask = k.smask;
     cmask = k.cmask;
     prog = k.prog;
-    parts = record { fits = k.parts.fits; count = k.parts.count; within = k.parts.within };
+    parts = record { fits = k.parts.fits; count = k.parts.count; within = k.parts.within; position = k.parts.position };
   }
 
   -- ---- in memory

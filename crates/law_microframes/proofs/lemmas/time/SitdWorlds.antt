@@ -10,23 +10,20 @@ use Rattle.mem_runs.specs.Book.{holding, slot_of}
 use Rattle.mem_runs.proofs.Standing.{keeps_at, keeps_all}
 use Rattle.itd_sitd.specs.declared.sitd.Sitd.{Sitd}
 use Rattle.hc_iso.specs.declared.held.HeldSitd.{HeldSitd}
-use Rattle.drv_periodic_table.specs.Periodic.{dir_of, note_at}
 use Rattle.drv_periodic_table.specs.Descriptors.{sitd_in}
-use Rattle.periodic_walk.specs.declared.state.Hand.{Hand}
 use Rattle.periodic_walk.specs.declared.state.Hand.TheVariants as hands
 use Rattle.hc_core.specs.declared.controller.MicroframePart.{MicroframePart}
 use Rattle.hc_core.specs.declared.controller.MicroframePart.TheVariants as parts
 use Rattle.hc_core.specs.Controller.{frame_place}
 use Rattle.claims_driver.specs.Owners.{HasBlocks, runs_of_transfer, views_of}
 use Rattle.claims_base.specs.Controller.{opening_base}
-use Rattle.law_structures.specs.lent_structures.Structures.{Structure, SplitIsochronous, Structures, StructureSets, HoldsSplitIsochronous}
+use Rattle.law_structures.specs.lent_structures.Structures.{Structure, SplitIsochronous, Structures, StructureSets}
 use Rattle.law_driver_ring.specs.Inventory.{IsLent, sort_of}
 use Rattle.law_ring.specs.walk_writes.Writes.{WritesLent}
 use Rattle.law_controller.proofs.lemmas.lent_writes.Controlling.{controller_writes_lent}
 use Rattle.law_controller.proofs.lemmas.aligned_copies.Controlling.{aligned_placed}
 use Rattle.law_frames.specs.FrameHand.{SitdCopy, FrameHand, Nothing, OfQueue, OfSettled, OfItd, OfSitd, frame_held}
 use Rattle.law_frames.specs.Frame.{IsFrameWalk, IsCopiedSitd, IsInFrame}
-use Rattle.law_frames.specs.Met.{ASitd}
 use Rattle.law_descriptors.specs.Described.{IsDescriptorLent, HasDescriptor, HasSitd}
 use Rattle.law_descriptors.specs.Both.{owns, both}
 use Rattle.law_descriptors.specs.Meeting.{met}
@@ -39,8 +36,7 @@ use Rattle.bus_wire.specs.Bus.{Fixed}
 use Rattle.bus_world.specs.World.{World, controller_parts, controller_next}
 use Rattle.law_world.specs.memory.Mixed.{Standing, IsMixedAt}
 use Rattle.law_microframes.proofs.lemmas.visits.BelongFields.{event_of}
-use Rattle.law_microframes.specs.time.SitdParts.{is_in}
-use Rattle.law_microframes.specs.time.SitdFields.{IsSitdAs, HaveSitdFields, SplitTransfer, SitdsStand, ControllerKeepsSitds}
+use Rattle.law_microframes.specs.time.SitdFields.{sitd_name, IsSitdAs, HaveSitdFields, SplitTransfer, SitdsStand, ControllerKeepsSitds}
 use Rattle.law_microframes.proofs.lemmas.time.SitdWords.{words_stay, structure_as, as_structure}
 use Rattle.law_microframes.proofs.lemmas.time.SitdEvents.{AreSitdsAs, event_as}
 
@@ -90,10 +86,10 @@ module _ (fixed : Fixed) (w : World) (s : Standing) (k : IsMixedAt s w) (old : S
   n = 32 * i.transfer.first
 
   abbrev As : Sitd → Type 0
-  As v = IsSitdAs (is_in (dir_of i.endpoint.desc.name.way)) i.placement.smask i.placement.cmask i.endpoint.desc.max v
+  As v = IsSitdAs (sitd_name i.endpoint.desc) i.placement.smask i.placement.cmask i.endpoint.desc.max v
 
   abbrev AreAs : StructureSets → FrameHand → Type 0
-  AreAs ps f = AreSitdsAs (is_in (dir_of i.endpoint.desc.name.way)) i.placement.smask i.placement.cmask i.endpoint.desc.max
+  AreAs ps f = AreSitdsAs (sitd_name i.endpoint.desc) i.placement.smask i.placement.cmask i.endpoint.desc.max
       (32 * i.transfer.first) ps f
 
   abbrev all : StructureSets
@@ -132,7 +128,7 @@ module _ (fixed : Fixed) (w : World) (s : Standing) (k : IsMixedAt s w) (old : S
       → AreAs (event_of fixed w s k).now (event_of fixed w s k).frame_later
   after_one v here =
       let e = event_of fixed w s k in
-      event_as (is_in (dir_of i.endpoint.desc.name.way)) i.placement.smask i.placement.cmask i.endpoint.desc.max n begins_by transacts_by
+      event_as (sitd_name i.endpoint.desc) i.placement.smask i.placement.cmask i.endpoint.desc.max n begins_by transacts_by
       (met w.driver s.recent) opening_base s.member all e.now s.hand e.later s.frame e.frame_later (controller_parts w) (wired fixed w)
       (wired fixed new) v k.now.framed.runs e.effect here are_before
 

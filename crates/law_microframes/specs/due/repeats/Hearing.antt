@@ -2,8 +2,8 @@
 --     HasTranslator hubs hub port    the hub with this address has a translator for this port
 --     CanBeHeard fixed b ask         the ask is a complete-split for an endpoint of the bus, by a translator of its
 --     AsksFor fixed b q              the queue head is that of such an endpoint
---     IsHeardOn fixed b x            the endpoint so described stands on the bus, below a hub that has a translator for it
-use Rattle.std.specs.Prelude.{◌≡◌, ℕ, ◌==◌, Bool, true, false, List, slice_get, Some}
+--     IsHeardOn fixed b x            the endpoint so described stands on the bus, below a hub that has a translator for it, which it names
+use Rattle.std.specs.Prelude.{◌≡◌, ℕ, ◌==◌, Bool, true, false, if◌then◌else◌, List, slice_get, Some}
 use Rattle.std.specs.List.{position}
 use Rattle.usb_base.specs.declared.packets.Ask.{Ask}
 use Rattle.usb_base.specs.declared.endpoints.EpDesc.{EpDesc}
@@ -55,6 +55,10 @@ abbrev pub is_control_way : Way → Bool
 is_control_way ways.Ctl = true
 is_control_way _ = false
 
+-- .. and is told by the number of that translator: the port where the hub has one for each, else 0 (11.14)
+abbrev pub number_of : Bool → ℕ → ℕ
+number_of multi port = if multi then port else 0
+
 -- the endpoint so described stands on the bus, below a hub that has a translator for its port
 pub record IsHeardOn (fixed : Fixed) (b : Bus) (x : EpDesc) : Type 0 where
   pub place : ℕ
@@ -65,6 +69,7 @@ pub record IsHeardOn (fixed : Fixed) (b : Bus) (x : EpDesc) : Type 0 where
   pub hub : ℕ
   pub behind : x.hub ≡ Some hub
   pub translator : HasTranslator b.hubs hub x.port
+  pub served : x.tt ≡ number_of translator.content.translators.multi x.port
 
 -- an endpoint below a hub that is no control endpoint
 pub record IsBelowHub (x : EpDesc) : Type 0 where

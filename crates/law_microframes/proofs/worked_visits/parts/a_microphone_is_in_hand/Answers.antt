@@ -1,9 +1,9 @@
-use Rattle.std.specs.Prelude.{◌≡◌, true}
+use Rattle.std.specs.Prelude.{true}
 use Rattle.std.proofs.Common.{refl, arith}
 use Rattle.bandwidth.specs.Placements.{allowed, mask}
 use Rattle.hc_iso.specs.Samples.{split_in}
 use Rattle.claims_world.specs.FrameHeads.{IsAllowed}
-use Rattle.law_microframes.specs.time.SitdParts.{IsInParts, IsSitdOf}
+use Rattle.law_microframes.specs.time.SitdParts.{IsInParts}
 use Rattle.law_microframes.proofs.lemmas.time.SplitMasked.{allowed_split}
 use Rattle.law_microframes.specs.worked_visits.Samples.{placed_microphone}
 use Rattle.law_microframes.proofs.worked_visits.parts.a_microphone_is_in_hand.Goals as goal
@@ -36,7 +36,7 @@ returns-clause-held c = record {
     cmask = refl;
     prog = omega arith;
   };
-  parts = record { fits = λ on. omega arith; count = λ on out. absurd (cc); within = λ on out. absurd (cc) };
+  parts = record { fits = λ on. omega arith; count = λ on out. absurd (cc); within = λ on out. absurd (cc); position = λ on out. absurd (cc) };
   none = λ made. refl;
   one = omega arith;
 }

@@ -1,4 +1,4 @@
-use Rattle.std.specs.Prelude.{◌≡◌, []}
+use Rattle.std.specs.Prelude.{[]}
 use Rattle.std.proofs.Common.{refl, arith}
 use Rattle.drv_periodic_table.specs.Descriptors.{new_sitd}
 use Rattle.law_microframes.specs.time.SitdFields.{HaveSitdFields}
@@ -10,10 +10,11 @@ returns-clause-fields c = record {
   classic = refl;
   has = record {
     way = refl;
+    named = (refl, (refl, (refl, refl)));
     smask = refl;
     cmask = refl;
     prog = omega arith;
-    parts = record { fits = λ on. omega arith; count = λ on out. refl; within = λ on out. omega arith };
+    parts = record { fits = λ on. omega arith; count = λ on out. refl; within = λ on out. omega arith; position = λ on out. refl };
   };
 }
 

@@ -1,4 +1,3 @@
-use Rattle.std.specs.Prelude.{◌≡◌}
 use Rattle.std.proofs.Common.{refl, arith}
 use Rattle.bandwidth.specs.Placements.{allowed, mask, first_in}
 use Rattle.claims_world.specs.FrameHeads.{IsAllowed}
@@ -25,10 +24,10 @@ returns-clause-descriptor c = record {
 }
 
 pub returns-clause-fresh : goal.returns-clause-fresh
-returns-clause-fresh c = record { fits = λ on. omega arith; count = λ on way. refl; within = λ on way. omega arith }
+returns-clause-fresh c = record { fits = λ on. omega arith; count = λ on way. refl; within = λ on way. omega arith; position = λ on way. refl }
 
 pub returns-clause-second : goal.returns-clause-second
-returns-clause-second c = record { fits = λ on. omega arith; count = λ on way. refl; within = λ on way. omega arith }
+returns-clause-second c = record { fits = λ on. omega arith; count = λ on way. refl; within = λ on way. omega arith; position = λ on way. refl }
 
 pub returns-clause-marked : goal.returns-clause-marked
 returns-clause-marked c = λ (is : IsInParts (record (split_out 400 3 1) { c_prog = 2 }) 400). let many = is.within refl refl in

@@ -234,6 +234,11 @@ keeps_translator hs ks hub port all h =
       serves = ap (λ (m : Bool). option_and_then (λ place. slice_get k.0.translators.all place) (place_of m port)) k.2.multi ∙ u.1;
     }
 
+keeps_multi : (hs ks : List HubContent) (hub port : ℕ) (all : AreAlike hs ks) (h : HasTranslator hs hub port)
+    → (keeps_translator hs ks hub port all h).content.translators.multi ≡ h.content.translators.multi
+unfolding keeps_translator
+keeps_multi hs ks hub port all h = (at_alike hs ks h.place h.content all h.here).2.multi
+
 pub begins_keep_translator : (fixed : Fixed) (frindex : ℕ) (b : Bus) (hub port : ℕ) → HasTranslator b.hubs hub port
     → HasTranslator (begin_after fixed frindex b).hubs hub port
 begins_keep_translator fixed frindex b hub port h = keeps_translator b.hubs _ hub port (worked_alike fixed frindex b.hubs (floor_of b)) h
@@ -242,6 +247,17 @@ pub asks_keep_translator : (fixed : Fixed) (b : Bus) (ask : Ask) (out : List ℕ
     → HasTranslator (transact_after fixed b ask out).hubs hub port
 asks_keep_translator fixed b ask out hub port h =
     keeps_translator b.hubs _ hub port (asks_alike_at fixed b ask out (asked_of fixed b ask)) h
+
+pub begins_keep_multi : (fixed : Fixed) (frindex : ℕ) (b : Bus) (hub port : ℕ) (h : HasTranslator b.hubs hub port)
+    → (begins_keep_translator fixed frindex b hub port h).content.translators.multi ≡ h.content.translators.multi
+unfolding begins_keep_translator
+begins_keep_multi fixed frindex b hub port h = keeps_multi b.hubs _ hub port (worked_alike fixed frindex b.hubs (floor_of b)) h
+
+pub asks_keep_multi : (fixed : Fixed) (b : Bus) (ask : Ask) (out : List ℕ) (hub port : ℕ) (h : HasTranslator b.hubs hub port)
+    → (asks_keep_translator fixed b ask out hub port h).content.translators.multi ≡ h.content.translators.multi
+unfolding asks_keep_translator
+asks_keep_multi fixed b ask out hub port h =
+    keeps_multi b.hubs _ hub port (asks_alike_at fixed b ask out (asked_of fixed b ask)) h
 
 number_at : (fixed : Fixed) (b : Bus) (ask : Ask) (out : List ℕ) (place : ℕ) (o : Option Asked) → HasNumber b place
     → HasNumber (after_at fixed b ask out o) place

@@ -55,12 +55,12 @@ use Rattle.law_microframes.proofs.lemmas.due.lemmas.repeats.Endpoints.{Stands, A
 
 -- ---- the fields of what is read
 
-record HasPlace (first second : ℕ) (q : Qh) : Type 0 where
-  addr : q.addr ≡ bits 6 0 first
-  ep : q.ep ≡ bits 11 8 first
-  eps : q.eps ≡ bits 13 12 first
-  hub : q.hub ≡ bits 22 16 second
-  port : q.port ≡ bits 29 23 second
+pub record HasPlace (first second : ℕ) (q : Qh) : Type 0 where
+  pub addr : q.addr ≡ bits 6 0 first
+  pub ep : q.ep ≡ bits 11 8 first
+  pub eps : q.eps ≡ bits 13 12 first
+  pub hub : q.hub ≡ bits 22 16 second
+  pub port : q.port ≡ bits 29 23 second
 
 place_at : (ws : List ℕ) → HasPlace (slice_index ws 1) (slice_index ws 2) (qh_at ws)
 unfolding qh_at
@@ -74,7 +74,7 @@ read_ok : (m : Mem) (a : ℕ) (q : Qh) (b : Bool) → (if b then result_ok (qh_r
 read_ok m a q true is = ok_is (qh_read (words_at m a 12)) q is
 read_ok m a q false is = absurd (cc)
 
-places_read : (m : Mem) (a : ℕ) (q : Qh) → queue_head_at_address m a ≡ Some q → HasPlace (word_at m (a + 4)) (word_at m (a + 8)) q
+pub places_read : (m : Mem) (a : ℕ) (q : Qh) → queue_head_at_address m a ≡ Some q → HasPlace (word_at m (a + 4)) (word_at m (a + 8)) q
 places_read m a q is =
     subst (λ (second : ℕ). HasPlace (word_at m (a + 4)) second q) (word_two m.words a)
     (subst (λ (first : ℕ). HasPlace first (slice_index (words_at m a 12) 2) q) (word_one m.words a)
@@ -82,16 +82,16 @@ places_read m a q is =
 
 -- ---- those of an endpoint
 
-abbrev no_masks : Placement → Placement
+abbrev pub no_masks : Placement → Placement
 no_masks p = record p { smask = 0; cmask = 0 }
 
-written : (q : Qh) → IsQhInRange q → HasPlace (slice_index (qh_words q) 1) (slice_index (qh_words q) 2) q
+pub written : (q : Qh) → IsQhInRange q → HasPlace (slice_index (qh_words q) 1) (slice_index (qh_words q) 2) q
 written q range = place_read (qh_words q) q (qh_read-words q range)
 
-few_more : (n second : ℕ) → max 1 (bits 31 30 second) ≡ n → n ≤ 3
+pub few_more : (n second : ℕ) → max 1 (bits 31 30 second) ≡ n → n ≤ 3
 few_more n second is = omega (arith, is)
 
-low_field : (s : Speed) → (speed_field s == 2) ≡ false → is_high s ≡ false
+pub low_field : (s : Speed) → (speed_field s == 2) ≡ false → is_high s ≡ false
 low_field speeds.Full is = refl
 low_field speeds.Low is = refl
 low_field speeds.High is = absurd (true≢false is)
@@ -102,7 +102,7 @@ way_token ways.In is = (true, refl, refl)
 way_token ways.Out is = (false, refl, refl)
 way_token ways.Ctl is = absurd (true≢false is)
 
-no_control : (x : EpDesc) → FitsKind x → x.kind ≡ kinds.Interrupt → is_control_way x.name.way ≡ false
+pub no_control : (x : EpDesc) → FitsKind x → x.kind ≡ kinds.Interrupt → is_control_way x.name.way ≡ false
 no_control x fits kind = by x.name.way x.kind fits kind
   where
     by : (w : Way) (k : EpKind) → IsOfWay w k → k ≡ kinds.Interrupt → is_control_way w ≡ false
@@ -116,7 +116,7 @@ works_active q _ t is = absurd cc
 
 -- ---- what is in hand
 
-same_hand : (h g : HeldQueue) → Some (hands.Queue g) ≡ Some (hands.Queue h) → g ≡ h
+pub same_hand : (h g : HeldQueue) → Some (hands.Queue g) ≡ Some (hands.Queue h) → g ≡ h
 same_hand h g same = cc
 
 module _ (s : Script) (st : Standing) (w : World) (k : IsMixedAt st w) (fields : HeadsHaveFields w.driver w.memory) (reads : ReadsData w)

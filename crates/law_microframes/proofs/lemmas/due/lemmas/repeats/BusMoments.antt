@@ -1,5 +1,5 @@
 -- What each event of the bus keeps holds of it at each moment of a script's run.
-use Rattle.std.proofs.Common.{ℕ, Bool, true, false, List, Option, Some, None, sym, subst}
+use Rattle.std.proofs.Common.{ℕ, Bool, true, false, List, Option, Some, None, ap, sym, subst, ◌∙◌}
 use Rattle.usb_base.specs.declared.endpoints.EpDesc.{EpDesc}
 use Rattle.usb_base.specs.declared.packets.Ask.{Ask}
 use Rattle.script_types.specs.declared.scripts.Script.{Script}
@@ -22,9 +22,9 @@ use Rattle.bus_world.specs.World.{controller_parts, controller_row, frame_by, se
 use Rattle.bus_world.specs.Budgets.{moment}
 use Rattle.law_world.proofs.lemmas.memory.Carrying.{carrying}
 use Rattle.law_microframes.proofs.lemmas.visits.ReasonParts.{command_bus}
-use Rattle.law_microframes.specs.due.repeats.Hearing.{IsHeardOn}
+use Rattle.law_microframes.specs.due.repeats.Hearing.{number_of, IsHeardOn}
 use Rattle.law_microframes.specs.due.repeats.Words.{BusSaysWords}
-use Rattle.law_microframes.proofs.lemmas.due.lemmas.repeats.Alike.{begins_keep_translator, asks_keep_translator, asks_keep_number}
+use Rattle.law_microframes.proofs.lemmas.due.lemmas.repeats.Alike.{begins_keep_translator, asks_keep_translator, begins_keep_multi, asks_keep_multi, asks_keep_number}
 use Rattle.law_microframes.proofs.lemmas.due.lemmas.repeats.HubWords.{begins_keep, asks_keep}
 
 module _ (P : Bus → Type 0) (fixed : Fixed) (begins : (frindex : ℕ) (b : Bus) → P b → P (begin_after fixed frindex b))
@@ -84,6 +84,7 @@ begins_heard fixed x frindex b h = record {
   hub = h.hub;
   behind = h.behind;
   translator = begins_keep_translator fixed frindex b h.hub x.port h.translator;
+  served = h.served ∙ ap (λ (m : Bool). number_of m x.port) (sym (begins_keep_multi fixed frindex b h.hub x.port h.translator));
 }
 
 asks_heard : (fixed : Fixed) (x : EpDesc) (b : Bus) (ask : Ask) (out : List ℕ) → IsHeardOn fixed b x
@@ -97,6 +98,7 @@ asks_heard fixed x b ask out h = record {
   hub = h.hub;
   behind = h.behind;
   translator = asks_keep_translator fixed b ask out h.hub x.port h.translator;
+  served = h.served ∙ ap (λ (m : Bool). number_of m x.port) (sym (asks_keep_multi fixed b ask out h.hub x.port h.translator));
 }
 
 pub each_bus_hears : (s : Script) (x : EpDesc) → IsHeardOn (fixed_of s) (opening_bus s) x → (k : ℕ)

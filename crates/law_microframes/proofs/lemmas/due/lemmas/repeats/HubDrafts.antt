@@ -19,21 +19,23 @@ use Rattle.script_forms.specs.declared.statements.Statement.{Statement}
 use Rattle.script_forms.specs.declared.statements.Statement.TheVariants as says
 use Rattle.script_world.specs.Draft.{Draft, Placed, empty, device_of, hub_of, is_named, known, change, same_way}
 use Rattle.script_world.specs.Ranges.{within, is_endpoint, is_slots}
-use Rattle.script_world.specs.Rows.{is_known, answered, roomier, stuffed, at_ep, with_ep, desc_of, attach, where_known, put_room, control_name, translator_below, device, commanded, counted, content_len, after}
+use Rattle.script_world.specs.Rows.{translator_of, is_known, answered, roomier, stuffed, at_ep, with_ep, desc_of, attach, where_known, put_room, control_name, translator_below, device, commanded, counted, content_len, after}
 use Rattle.law_devices.proofs.Lists.{all_append, all_more, all_change, find_append}
 use Rattle.law_microframes.proofs.lemmas.due.lemmas.repeats.Lists.{all_found}
 
 -- ---- a port of a hub
 
-pub record HasPort (hubs : List HubText) (a port : ℕ) : Type 0 where
+-- .. whose translator has this number
+pub record HasPort (hubs : List HubText) (a port number : ℕ) : Type 0 where
   pub hub : HubText
   pub found : hub_of hubs a ≡ Some hub
   pub low : 1 ≤ port
   pub high : port ≤ length hub.attached
+  pub served : number ≡ translator_of hub.multi port
 
 pub record IsPlugged (hubs : List HubText) (d : Placed) : Type 0 where
-  pub ports : AllByRecursion (λ (e : EpText). e.desc.port ≡ d.port) d.eps
-  pub behind : (a : ℕ) → d.hub ≡ Some a → HasPort hubs a d.port
+  pub ports : AllByRecursion (λ (e : EpText). (e.desc.port ≡ d.port) × (e.desc.tt ≡ d.tt)) d.eps
+  pub behind : (a : ℕ) → d.hub ≡ Some a → HasPort hubs a d.port d.tt
 
 abbrev pub HasItsPorts : HubText → Type 0
 HasItsPorts h = length h.attached ≡ h.ports
@@ -44,14 +46,20 @@ pub record ArePlugged (w : Draft) : Type 0 where
 
 -- ---- hubs
 
-more_hubs : (hubs : List HubText) (x : HubText) (a port : ℕ) → HasPort hubs a port → HasPort (hubs ++ x ∷ []) a port
-more_hubs hubs x a port h =
-    record { hub = h.hub; found = find_append (λ y. y.addr == a) hubs (x ∷ []) h.hub h.found; low = h.low; high = h.high }
+more_hubs : (hubs : List HubText) (x : HubText) (a port n : ℕ) → HasPort hubs a port n → HasPort (hubs ++ x ∷ []) a port n
+more_hubs hubs x a port n h = record {
+  hub = h.hub;
+  found = find_append (λ y. y.addr == a) hubs (x ∷ []) h.hub h.found;
+  low = h.low;
+  high = h.high;
+  served = h.served;
+}
 
 record IsFoundAs (a : ℕ) (hubs : List HubText) (h : HubText) : Type 0 where
   hub : HubText
   found : hub_of hubs a ≡ Some hub
   count : length hub.attached ≡ length h.attached
+  multi : hub.multi ≡ h.multi
 
 found_changed : (p : HubText → Bool) (port : ℕ) (s : Speed) (hubs : List HubText) (a : ℕ) (h : HubText) → hub_of hubs a ≡ Some h
     → IsFoundAs a (change p (attach port s) hubs) h
@@ -64,8 +72,9 @@ found_changed p port s (x ∷ xs) a h found =
           found = cond-true _ _ _ t;
           count = length-set x.attached (port - 1) (Some s) ∙ ap
               (λ (y : HubText). length y.attached) (same_Some x h (sym (cond-true _ _ _ t) ∙ found));
+          multi = ap (λ (y : HubText). y.multi) (same_Some x h (sym (cond-true _ _ _ t) ∙ found));
         }
-        | inr f ↦ record { hub = h; found = cond-false _ _ _ f ∙ (sym (cond-false _ _ _ f) ∙ found); count = refl }
+        | inr f ↦ record { hub = h; found = cond-false _ _ _ f ∙ (sym (cond-false _ _ _ f) ∙ found); count = refl; multi = refl }
       ])
       | inr off ↦ rw off (elim (cases_Bool (x.addr == a)) [
         | inl t ↦ record {
@@ -73,27 +82,34 @@ found_changed p port s (x ∷ xs) a h found =
           found = cond-true _ _ _ t;
           count = ap (λ (y : HubText). length y.attached)
               (same_Some x h (sym (cond-true _ _ _ t) ∙ found));
+          multi = ap (λ (y : HubText). y.multi) (same_Some x h (sym (cond-true _ _ _ t) ∙ found));
         }
         | inr f ↦
             let k = found_changed p port s xs a h (sym (cond-false _ _ _ f) ∙ found) in
-            record { hub = k.hub; found = cond-false _ _ _ f ∙ k.found; count = k.count }
+            record { hub = k.hub; found = cond-false _ _ _ f ∙ k.found; count = k.count; multi = k.multi }
       ])
     ]
 
-changed_hubs : (p : HubText → Bool) (at : ℕ) (s : Speed) (hubs : List HubText) (a port : ℕ) → HasPort hubs a port
-    → HasPort (change p (attach at s) hubs) a port
-changed_hubs p at s hubs a port h =
+changed_hubs : (p : HubText → Bool) (at : ℕ) (s : Speed) (hubs : List HubText) (a port n : ℕ) → HasPort hubs a port n
+    → HasPort (change p (attach at s) hubs) a port n
+changed_hubs p at s hubs a port n h =
     let k = found_changed p at s hubs a h.hub h.found in
-    record { hub = k.hub; found = k.found; low = h.low; high = omega (arith, h.high, k.count) }
+    record {
+      hub = k.hub;
+      found = k.found;
+      low = h.low;
+      high = omega (arith, h.high, k.count);
+      served = h.served ∙ ap (λ (m : Bool). translator_of m port) (sym k.multi);
+    }
 
 ports_attached : (p : HubText → Bool) (at : ℕ) (s : Speed) (hubs : List HubText) → AllByRecursion HasItsPorts hubs
     → AllByRecursion HasItsPorts (change p (attach at s) hubs)
 ports_attached p at s hubs all = all_change HasItsPorts p (attach at s) hubs (λ h _ k. length-set h.attached (at - 1) (Some s) ∙ k) all
 
-plugged_with : (hubs later : List HubText) (ds : List Placed) → ((a port : ℕ) → HasPort hubs a port → HasPort later a port)
+plugged_with : (hubs later : List HubText) (ds : List Placed) → ((a port n : ℕ) → HasPort hubs a port n → HasPort later a port n)
     → AllByRecursion (IsPlugged hubs) ds → AllByRecursion (IsPlugged later) ds
 plugged_with hubs later ds more all =
-    all_more (IsPlugged hubs) (IsPlugged later) ds (λ d k. record { ports = k.ports; behind = λ a is. more a d.port (k.behind a is) }) all
+    all_more (IsPlugged hubs) (IsPlugged later) ds (λ d k. record { ports = k.ports; behind = λ a is. more a d.port d.tt (k.behind a is) }) all
 
 -- ---- endpoints
 
@@ -102,7 +118,8 @@ at_ep_plugged : (hubs : List HubText) (name : Name) (f : EpText → EpText) (ds 
 at_ep_plugged hubs name f ds same all =
     all_change (IsPlugged hubs) (λ d. d.addr == name.addr) (λ d. record d { eps = change (is_named name) f d.eps }) ds
     (λ d _ k. record {
-      ports = all_change (λ (e : EpText). e.desc.port ≡ d.port) (is_named name) f d.eps (λ e _ z. ap (λ x. x.port) (same e) ∙ z) k.ports;
+      ports = all_change (λ (e : EpText). (e.desc.port ≡ d.port) × (e.desc.tt ≡ d.tt)) (is_named name) f d.eps
+          (λ e _ z. (ap (λ x. x.port) (same e) ∙ z.0, ap (λ x. x.tt) (same e) ∙ z.1)) k.ports;
       behind = k.behind;
     }) all
 
@@ -126,39 +143,46 @@ same_plugged w v hubs devices h = record {
 new_ep : (hubs : List HubText) (l : EpLine) (d : Placed) → IsPlugged hubs d → IsPlugged hubs (with_ep l d)
 new_ep hubs l d k = record {
   ports =
-      all_append (λ (e : EpText). e.desc.port ≡ d.port) d.eps (record {
+      all_append (λ (e : EpText). (e.desc.port ≡ d.port) × (e.desc.tt ≡ d.tt)) d.eps (record {
         desc = desc_of l d;
         items = [];
         room = 0;
         stuff = 0;
         clears = 0;
-      } ∷ []) k.ports (refl, tt);
+      } ∷ []) k.ports ((refl, refl), tt);
   behind = k.behind;
 }
 
 -- ---- a device below a hub
 
 known_port : (hubs : List HubText) (b : Below) (o : Option HubText) → hub_of hubs b.hub ≡ o → AllByRecursion HasItsPorts hubs
-    → option_map_or (λ h. within 1 h.ports b.port) o false ≡ true → HasPort hubs b.hub b.port
+    → option_map_or (λ h. within 1 h.ports b.port) o false ≡ true
+    → HasPort hubs b.hub b.port (option_map_or (λ h. translator_of h.multi b.port) o 0)
 known_port hubs b None found all is = cc
 known_port hubs b (Some h) found all is =
     let p = and_parts (nat_le 1 b.port) (nat_le b.port h.ports) is in
     let k = (all_found HasItsPorts (λ y. y.addr == b.hub) hubs h all found).0 in
-    record { hub = h; found = found; low = leb-true 1 b.port p.0; high = let le = leb-true b.port h.ports p.1 in omega (arith, k) }
+    record {
+      hub = h;
+      found = found;
+      low = leb-true 1 b.port p.0;
+      high = let le = leb-true b.port h.ports p.1 in omega (arith, k);
+      served = refl;
+    }
 
-same_address : (x y port : ℕ) (hubs : List HubText) → Some x ≡ Some y → HasPort hubs x port → HasPort hubs y port
-same_address x y port hubs e h = subst (λ (a : ℕ). HasPort hubs a port) (same_Some x y e) h
+same_address : (x y port n : ℕ) (hubs : List HubText) → Some x ≡ Some y → HasPort hubs x port n → HasPort hubs y port n
+same_address x y port n hubs e h = subst (λ (a : ℕ). HasPort hubs a port n) (same_Some x y e) h
 
 below_plugged : (w : Draft) (b : Below) (tt_ : ℕ) (v : Draft) → v.hubs ≡ change (λ h. h.addr == b.hub) (attach b.port b.speed) w.hubs
-    → v.devices ≡ w.devices ++ device b.addr b.speed (Some b.hub) b.port tt_ ∷ [] → HasPort w.hubs b.hub b.port → ArePlugged w
+    → v.devices ≡ w.devices ++ device b.addr b.speed (Some b.hub) b.port tt_ ∷ [] → HasPort w.hubs b.hub b.port tt_ → ArePlugged w
     → ArePlugged v
 below_plugged w b tt_ v hubs devices has h =
     let later : List HubText = change (λ (h : HubText). h.addr == b.hub) (attach b.port b.speed) w.hubs in
     let new : IsPlugged later (device b.addr b.speed (Some b.hub) b.port tt_) = record {
       ports = tt;
       behind =
-          λ a is. same_address b.hub a b.port later is (changed_hubs (λ (h : HubText). h.addr == b.hub) b.port b.speed w.hubs b.hub
-          b.port has);
+          λ a is. same_address b.hub a b.port tt_ later is (changed_hubs (λ (h : HubText). h.addr == b.hub) b.port b.speed w.hubs b.hub
+          b.port tt_ has);
     } in
     record {
       hubs =
@@ -167,8 +191,8 @@ below_plugged w b tt_ v hubs devices has h =
           (subst (λ (hs : List HubText). AllByRecursion (IsPlugged hs) (w.devices ++ device b.addr b.speed (Some b.hub) b.port tt_ ∷ []))
           (sym hubs)
           (all_append (IsPlugged later) w.devices (device b.addr b.speed (Some b.hub) b.port tt_ ∷ [])
-          (plugged_with w.hubs later w.devices (λ a port k. changed_hubs (λ (h : HubText). h.addr == b.hub) b.port b.speed w.hubs a port
-          k) h.devices) (new, tt)));
+          (plugged_with w.hubs later w.devices (λ a port n k. changed_hubs (λ (h : HubText). h.addr == b.hub) b.port b.speed w.hubs a port
+          n k) h.devices) (new, tt)));
     }
 
 -- ---- any line
@@ -201,7 +225,7 @@ after_plugged w n (says.Hub addr ports multi) h =
       hubs =
           all_append HasItsPorts w.hubs (record { addr = addr; ports = ports; attached = replicate ports None; multi = multi } ∷ [])
           h.hubs (length-replicate ports _, tt);
-      devices = plugged_with w.hubs _ w.devices (λ a port k. more_hubs w.hubs _ a port k) h.devices;
+      devices = plugged_with w.hubs _ w.devices (λ a port n k. more_hubs w.hubs _ a port n k) h.devices;
     }) (λ _. h)
 after_plugged w n (says.DevHigh addr) h =
     cond_both (within 1 127 addr) _ w ArePlugged (λ _.

@@ -41,7 +41,7 @@ use Rattle.law_devices.proofs.Drafts.{IsEpOf, HasOwn, IsKnownDesc, IsKnownLine, 
 use Rattle.law_devices.proofs.Seats.{has_seat}
 use Rattle.law_devices.proofs.Senders.{IsDeclaredAt, empty_declared, second_declared}
 use Rattle.law_devices.proofs.lemmas.declared_takers.Seats.{has_out_seat}
-use Rattle.law_microframes.specs.due.repeats.Hearing.{HasTranslator, token_of_way, is_control_way, IsHeardOn, IsBelowHub}
+use Rattle.law_microframes.specs.due.repeats.Hearing.{HasTranslator, number_of, token_of_way, is_control_way, IsHeardOn, IsBelowHub}
 use Rattle.law_microframes.specs.due.repeats.Words.{FitsWay, HasItsWay, IsPlain, ArePlainBelow, TranslatorSaysWords, HubSaysWords, BusSaysWords}
 use Rattle.law_microframes.proofs.lemmas.due.lemmas.repeats.HubDrafts.{HasPort, IsPlugged, ArePlugged, empty_plugged, after_plugged}
 use Rattle.law_microframes.proofs.lemmas.due.lemmas.repeats.SaidTexts.{IsTaken, IsScriptOf, spelled_said}
@@ -91,8 +91,8 @@ served count port true low high =
     let le : nat_le 1 port ≡ true = le-leb 1 port low in
     record { translator = opening_translator; serves = rw le (replicated count (port - 1) opening_translator (omega (arith, low, high))) }
 
-opened_translator : (hubs : List HubText) (a port : ℕ) → HasPort hubs a port → HasTranslator (map Hubs.opening hubs) a port
-opened_translator hubs a port h =
+opened_translator : (hubs : List HubText) (a port n : ℕ) → HasPort hubs a port n → HasTranslator (map Hubs.opening hubs) a port
+opened_translator hubs a port n h =
     let found : find (λ (x : HubContent). x.address == a) (map Hubs.opening hubs) ≡ Some (Hubs.opening h.hub) =
     find_map (λ (x : HubContent). x.address == a) Hubs.opening hubs ∙ ap (option_map Hubs.opening) h.found
     in
@@ -106,6 +106,11 @@ opened_translator hubs a port h =
       translator = s.translator;
       serves = s.serves;
     }
+
+opened_multi : (hubs : List HubText) (a port n : ℕ) (h : HasPort hubs a port n)
+    → (opened_translator hubs a port n h).content.translators.multi ≡ h.hub.multi
+unfolding opened_translator
+opened_multi hubs a port n h = refl
 
 no_entries : (n : ℕ) → AllByRecursion TranslatorSaysWords (replicate n opening_translator)
 no_entries zero = tt
@@ -236,10 +241,27 @@ module _ (w : Draft) (h : IsWhole w) (name : Name) (x : EpDesc) (k : IsDeclaredA
   plugged =
       subst (Holds (IsPlugged w.hubs)) k.device_is (all_find (IsPlugged w.hubs) (λ d. d.addr == name.addr) w.devices h.plugged.devices)
 
+  its_ports : (k.text.desc.port ≡ k.device.port) × (k.text.desc.tt ≡ k.device.tt)
+  its_ports =
+      subst (Holds (λ (e : EpText). (e.desc.port ≡ k.device.port) × (e.desc.tt ≡ k.device.tt))) k.text_is
+      (all_find (λ (e : EpText). (e.desc.port ≡ k.device.port) × (e.desc.tt ≡ k.device.tt)) (is_named name) k.device.eps plugged.ports)
+
   its_port : k.text.desc.port ≡ k.device.port
-  its_port =
-      subst (Holds (λ (e : EpText). e.desc.port ≡ k.device.port)) k.text_is
-      (all_find (λ (e : EpText). e.desc.port ≡ k.device.port) (is_named name) k.device.eps plugged.ports)
+  its_port = its_ports.0
+
+  -- the translator of its port, and its number
+  record IsServedAt (hub : ℕ) (port number : ℕ) : Type 0 where
+    translator : HasTranslator (map Hubs.opening w.hubs) hub port
+    served : number ≡ number_of translator.content.translators.multi port
+
+  served_at : (hub : ℕ) → k.device.hub ≡ Some hub → IsServedAt hub k.device.port k.device.tt
+  served_at hub is =
+      let h = plugged.behind hub is in
+      record {
+        translator = opened_translator w.hubs hub k.device.port k.device.tt h;
+        served = h.served
+            ∙ ap (λ (m : Bool). number_of m k.device.port) (sym (opened_multi w.hubs hub k.device.port k.device.tt h));
+      }
 
   any_seat : (v : Way) → k.text.desc.name.way ≡ v → is_control_way v ≡ false
       → list_any (λ s. suits s.name k.text.desc.name.addr k.text.desc.name.num (token_of_way v)) (seats_of (script_of w)) ≡ true
@@ -259,6 +281,10 @@ module _ (w : Draft) (h : IsWhole w) (name : Name) (x : EpDesc) (k : IsDeclaredA
       let found = any_found test (seats_of (script_of w)) (any_seat k.text.desc.name.way refl below.carries) in
       let z = found_first test (seats_of (script_of w)) found.first found.is in
       let long = slice_get_within (seats_of (script_of w)) z.place found.first z.here in
+      let served : IsServedAt below.hub k.text.desc.port k.text.desc.tt =
+      subst (λ (p : ℕ). IsServedAt below.hub p k.text.desc.tt) (sym its_port)
+      (subst (λ (n : ℕ). IsServedAt below.hub k.device.port n) (sym its_ports.1)
+      (served_at below.hub (sym text.behind ∙ below.behind))) in
       record {
         place = z.place;
         found = z.at;
@@ -267,8 +293,8 @@ module _ (w : Draft) (h : IsWhole w) (name : Name) (x : EpDesc) (k : IsDeclaredA
         number = record { number = 0; is = replicated (length (seats_of (script_of w))) z.place 0 long };
         hub = below.hub;
         behind = below.behind;
-        translator = subst (λ (p : ℕ). HasTranslator (map Hubs.opening w.hubs) below.hub p) (sym its_port)
-            (opened_translator w.hubs below.hub k.device.port (plugged.behind below.hub (sym text.behind ∙ below.behind)));
+        translator = served.translator;
+        served = served.served;
       }
 
 open_heard : (w : Draft) (x : EpDesc) → IsWhole w → IsKnownDesc w.devices x → IsBelowHub x

@@ -1,0 +1,41 @@
+//! The same of each script that a text spells: each start-split follows its plan.
+ghost use Rattle.law_translator.specs.Premises.{AllKeepUp, AllKeepUpStuffed};
+ghost use Rattle.law_translator.specs.Results.{AllAnswered};
+ghost use Rattle.law_microframes.specs.translators.Short.{AlongShortTexts, AlongPlainShortTexts};
+ghost use Rattle.law_microframes.specs.translators.Laws.{AlongTexts, AlongPlainTexts, TextsAreFew, InterruptsFollow, SitdsFollowToo};
+
+/// Each start-split of a queue head is one that the plan of its translator calls for, and its endpoint isn't given back in the frame.
+pub fn interrupts_follow()
+    ensures { InterruptsFollow }
+{}
+
+/// So it is of a siTD: of an IN, and of the first part of an OUT; of a later part where the entry of its key lacks its last part, and had
+/// none in this microframe.
+pub fn sitds_follow()
+    ensures { SitdsFollowToo }
+{}
+
+/// No endpoint below a hub has more than six stuffed bits in 36.
+pub fn texts_have_few_stuffed_bits()
+    ensures { TextsAreFew }
+{}
+
+/// So the translators keep up, as far as the parts of isochronous OUTs come in turn.
+pub fn texts_keep_up()
+    ensures work { AlongPlainTexts AllKeepUp }
+    ensures answers { AlongPlainTexts (AllAnswered 1) }
+{}
+
+/// .. and with stuffed bits one microframe later.
+pub fn stuffed_texts_keep_up()
+    ensures work { AlongTexts AllKeepUpStuffed }
+    ensures answers { AlongTexts (AllAnswered 2) }
+{}
+
+/// Where isochronous OUTs below hubs have packets of less than 188 bytes, the translators keep up along each run, with nothing asked of it.
+pub fn short_texts_keep_up()
+    ensures work { AlongPlainShortTexts AllKeepUp }
+    ensures answers { AlongPlainShortTexts (AllAnswered 1) }
+    ensures stuffed { AlongShortTexts AllKeepUpStuffed }
+    ensures stuffed_answers { AlongShortTexts (AllAnswered 2) }
+{}
