@@ -20,6 +20,7 @@ pub mod Owners
 pub mod SoFar
 pub mod Coming
 pub mod Due
+pub mod DueAtBegin
 pub mod Unfinished
 pub mod Slots
 pub mod Losses

@@ -1,23 +1,36 @@
--- Where the links of structures lead, as memory has them (EHCI 1.0, 3.1, 3.6.1, 4.6, 4.8 and 4.8.2): those of live structures to live ones,
--- and those of queue heads that left the ring to the head, to a live one, or to one that left later; and for whom the doorbell was rung.
+-- Where the links of structures lead, as memory has them (EHCI 1.0, 3.1, 3.6.1, 4.6, 4.8 and 4.8.2): those of live structures to live ones;
+-- those of queue heads that left the ring to the head, to a live one, or to one that left later; those of queue heads that left the frame
+-- list to the end of a frame, to a live member, or to one that left later; and for whom the doorbell was rung.
 --     IsLive d b              in block b begins the head of the ring, or the queue head of an endpoint in the ring; one whose open is
 --                             unfinished is in it only from its last store on
 --     LeadsTo P v             the link word v is that to a queue head, in a block that is so (3.6.1)
 --     IsLiveOrLater d es b    in block b begins a live queue head, or that of one of these endpoints
 --     HasLeftBefore m d es e  endpoint e has left the ring, these left later, and its link leads to a live queue head or to one of these
 --     AreLeft m d es          so it is of these endpoints, in this order
+--     left_ring d             those that left the ring and aren't given back, in the order in which they left: Async Advance was cleared
+--                             for the first of them, then come those that are rung, and those that wait
 --     EndsOrLeads d v         the link word v is the end of a frame, or leads to a member of the driver's list that is live: a store has
 --                             led to it, and the last one that unlinks it wasn't made (3.1)
 --     HoldsLinks m d          all links in the words of memory are so: of the ring, of what left it, of the frame list, and of its members
+--     IsUnlinkedBy s j x      event j of the run unlinks member x: before it a word may lead to x, and after it none does
+--     IsUnlinkedWithin s j k x
+--                             an event of the run unlinks member x that is behind event j and before event k
+--     EndsOrLeadsLater d L v  the link word v is the end of a frame, or leads to a member that is live, or to one that left later, as L
+--                             tells
+--     LeadsOnUntilGone s j q  so does the link of queue head q after event j, until its endpoint is given back
+--     LeavesFramesLeading s   so it is of each queue head that leaves the frame list
 --     LeftWithin s from n e   endpoint e left the ring at an event of the run, from this one on and before event n
 --     IsOneBatch s k d        before event k the doorbell was rung for all that is rung, which left before; and what waits left since
 --     IsPending w             the doorbell is pending, or its Async Advance isn't cleared yet (2.3.1, 2.3.2)
---     KeepsLinks s            so it is at each moment of the run of a script: the links hold, and meanwhile one batch is rung
+--     KeepsLinks s            so it is at each moment of the run of a script: the links hold, and meanwhile one batch is rung; and so it
+--                             is of the links of what leaves the frame list
 use Rattle.std.specs.List.{AllByRecursion}
-use Rattle.std.specs.Prelude.{◌≡◌, ◌≢◌, ℕ, suc, ◌<◌, ◌≤◌, ◌⊎◌, true, false, List, [], ◌++◌, ◌∷◌, slice_get, Some}
+use Rattle.std.specs.Prelude.{◌≡◌, ◌≢◌, ℕ, suc, ◌/◌, ◌<◌, ◌≤◌, ◌⊎◌, true, false, List, [], ◌++◌, ◌∷◌, slice_get, Some}
 use Rattle.script_types.specs.declared.scripts.Script.{Script}
 use Rattle.word_mem.specs.Memory.{Mem, word_at}
 use Rattle.drv_chains.specs.declared.members.Member.{Member}
+use Rattle.drv_chains.specs.declared.members.Member.TheVariants.{Each}
+use Rattle.drv_chains.specs.declared.members.QueueHead.{QueueHead as Queue}
 use Rattle.drv_chains.specs.declared.members.Predecessor.TheVariants.{Element, After}
 use Rattle.drv_chains.specs.Chains.{id_of}
 use Rattle.drv_members.specs.Members.{is_linked}
@@ -59,6 +72,10 @@ abbrev pub AreLeft : Mem → DriverContent → List ℕ → Type 0
 AreLeft m d [] = Unit {0}
 AreLeft m d (e ∷ es) = HasLeftBefore m d es e × AreLeft m d es
 
+-- until they are given back (4.8.2)
+abbrev pub left_ring : DriverContent → List ℕ
+left_ring d = d.cleared ++ (d.rung ++ d.waiting)
+
 -- ---- the frame list (4.6)
 
 pub data EndsOrLeads (d : DriverContent) (v : ℕ) : Type 0 where
@@ -69,10 +86,36 @@ pub data EndsOrLeads (d : DriverContent) (v : ℕ) : Type 0 where
 
 pub record HoldsLinks (m : Mem) (d : DriverContent) : Type 0 where
   pub ring : (b : ℕ) → IsLive d b → LeadsTo (IsLive d) (link_in m b)
-  -- until Async Advance is cleared after the doorbell that was rung for them (4.8.2)
-  pub left : AreLeft m d (d.rung ++ d.waiting)
+  pub left : AreLeft m d (left_ring d)
   pub elements : (f : ℕ) → f < 1024 → EndsOrLeads d (word_at m (address_of d.periodic.list.list (Element f)))
   pub members : (x : Member) → is_linked (led d) x ≡ true → EndsOrLeads d (word_at m (address_of d.periodic.list.list (After x)))
+
+-- ---- what left the frame list (4.6)
+
+pub record IsUnlinkedBy (s : Script) (j : ℕ) (x : Member) : Type 0 where
+  pub before : is_linked (led (moment s j).world.driver) x ≡ true
+  pub after : is_linked (led (moment s (suc j)).world.driver) x ≡ false
+
+pub record IsUnlinkedWithin (s : Script) (j k : ℕ) (x : Member) : Type 0 where
+  pub event : ℕ
+  pub behind : j < event
+  pub earlier : event < k
+  pub unlinked : IsUnlinkedBy s event x
+
+pub data EndsOrLeadsLater (d : DriverContent) (Later : Member → Type 0) (v : ℕ) : Type 0 where
+  now : EndsOrLeads d v → EndsOrLeadsLater d Later v
+  unlinked_later : (x : Member) → Later x → v ≡ id_of x → EndsOrLeadsLater d Later v
+
+pub record LeadsOnUntilGone (s : Script) (j : ℕ) (q : Queue) : Type 0 where
+  pub endpoint : ℕ
+  pub queue : IsQueueOf (moment s j).world.driver.endpoints endpoint (q.id / 32)
+  pub stands : queue.endpoint.chained ≡ true
+  pub leads :
+      (k : ℕ) (x : Endpoint) → j < k → slice_get (moment s k).world.driver.endpoints endpoint ≡ Some x → x.gone ≡ false
+      → EndsOrLeadsLater (moment s k).world.driver (IsUnlinkedWithin s j k) (link_in (moment s k).world.memory (q.id / 32))
+
+abbrev pub LeavesFramesLeading : Script → Type 0
+LeavesFramesLeading s = (j : ℕ) (q : Queue) → IsUnlinkedBy s j (Each q) → LeadsOnUntilGone s j q
 
 -- ---- the doorbell (4.8.2)
 
@@ -99,5 +142,6 @@ pub record LinksAreKept (s : Script) (k : ℕ) (w : World) : Type 0 where
   pub links : HoldsLinks w.memory w.driver
   pub batch : IsPending w → IsOneBatch s k w.driver
 
-abbrev pub KeepsLinks : Script → Type 0
-KeepsLinks s = (k : ℕ) → LinksAreKept s k (moment s k).world
+pub record KeepsLinks (s : Script) : Type 0 where
+  pub moments : (k : ℕ) → LinksAreKept s k (moment s k).world
+  pub left_frames : LeavesFramesLeading s

@@ -1,6 +1,6 @@
 -- What left the ring or the frame list is given back only after the controller has shown that it let go of it (EHCI 1.0, 2.3.2, 2.3.4, 4.6 and 4.8.2): a
 -- queue head of the ring after the doorbell was rung since its unlinking and USBSTS was then read with Async Advance; what stood in the frame list after two
--- readings of FRINDEX since then, with different frame numbers. That the controller touches none of it afterwards, until it is lent again, is the clause `lent`.
+-- readings of FRINDEX since then, with different frame numbers. What is given back the controller touches no more until it is lent again.
 --     is_drivers orders       the next event is one of the driver
 --     Does s k row            event k of the run of a script is this row of the driver
 --     LeavesRing xs ys e      endpoint e of these is linked in the ring before an event, and not after it
@@ -12,9 +12,17 @@
 --     SawTwoFrames s what k   before event k this left the frame list, and then two frame numbers were read that differ
 --     IsLetGo s k             what event k of the run gives back was let go so
 --     GivesBackLast s         so it is at each event of the run of a script
-use Rattle.std.specs.Prelude.{◌≡◌, ◌≢◌, ℕ, suc, ◌<◌, Bool, true, false, List, [], ◌∷◌, slice_get, Option, Some, None}
+--     IsGivenBack s k b       event k gives block b back: it is Lent before, and Free after
+--     IsUnlentSince s k i b   block b isn't Lent at any moment behind event k, up to moment i
+--     IsSameBut b m n         the memories agree in all but the words of block b
+--     LeavesBlock fixed w b   the controller's next event writes no word of block b, and whatever these words are, it leaves the same
+--     StaysUntouched s        so it leaves what a script's run gave back, until it is lent again
+use Rattle.std.specs.Prelude.{◌≡◌, ◌≢◌, ℕ, suc, ◌+◌, ◌*◌, ◌/◌, ◌<◌, ◌≤◌, Bool, true, false, List, [], ◌∷◌, length, slice_get, slice_index}
+use Rattle.std.specs.Prelude.{Option, Some, None}
 use Rattle.script_types.specs.declared.scripts.Event.TheVariants as events
 use Rattle.script_types.specs.declared.scripts.Script.{Script}
+use Rattle.word_mem.specs.declared.blocks.BlockState.TheVariants.{Free, Lent}
+use Rattle.word_mem.specs.Memory.{Mem, state_at, word_at}
 use Rattle.drv_chains.specs.Boundary.{frame_number}
 use Rattle.drv_periodic_table.specs.declared.content.Removed.{Removed}
 use Rattle.drv_periodic_table.specs.declared.content.Removed.TheVariants as removed
@@ -24,8 +32,10 @@ use Rattle.drv_table.specs.declared.rows.DriverRow.TheVariants as rows
 use Rattle.drv_table.specs.Parts.{Parts}
 use Rattle.drv_table.specs.Rows.{driver_row}
 use Rattle.bus_world.specs.Orders.{Left, Events, Microframes, Answer, Command, Plugs}
-use Rattle.bus_world.specs.World.{driver_parts}
+use Rattle.bus_world.specs.World.{World, controller_next, driver_parts}
 use Rattle.bus_world.specs.Budgets.{moment}
+use Rattle.bus_wire.specs.Bus.{Fixed, fixed_of}
+use Rattle.claims_world.specs.Lent.{AreSameWhereLent}
 
 -- each event of the controller in a microframe is followed by one of the driver
 abbrev pub is_drivers : List Left → Bool
@@ -106,3 +116,27 @@ pub record IsLetGo (s : Script) (k : ℕ) : Type 0 where
 
 abbrev pub GivesBackLast : Script → Type 0
 GivesBackLast s = (k : ℕ) → IsLetGo s k
+
+-- ---- afterwards
+
+pub record IsGivenBack (s : Script) (k b : ℕ) : Type 0 where
+  pub lent : state_at (moment s k).world.memory b ≡ Some Lent
+  pub free : state_at (moment s (suc k)).world.memory b ≡ Some Free
+
+abbrev pub IsUnlentSince : Script → ℕ → ℕ → ℕ → Type 0
+IsUnlentSince s k i b = (j : ℕ) → k < j → j ≤ i → state_at (moment s j).world.memory b ≢ Some Lent
+
+pub record IsSameBut (b : ℕ) (m n : Mem) : Type 0 where
+  pub states : n.states ≡ m.states
+  pub size : length n.words ≡ length m.words
+  pub refusals : n.foreign ≡ m.foreign
+  pub words : (at : ℕ) → at / 32 ≢ b → word_at n at ≡ word_at m at
+
+pub record LeavesBlock (fixed : Fixed) (w : World) (b : ℕ) : Type 0 where
+  pub writes : (i : ℕ) → i < 8 → slice_index (controller_next fixed w).memory.words (8 * b + i) ≡ slice_index w.memory.words (8 * b + i)
+  pub reads :
+      (m : Mem) → IsSameBut b w.memory m
+      → AreSameWhereLent (controller_next fixed w) (controller_next fixed (record w { memory = m }))
+
+abbrev pub StaysUntouched : Script → Type 0
+StaysUntouched s = (k b i : ℕ) → IsGivenBack s k b → k < i → IsUnlentSince s k i b → LeavesBlock (fixed_of s) (moment s i).world b

@@ -83,8 +83,9 @@ use usb_base::{Sink, Source};
 ///
 /// The link of each live queue head of the ring leads to a live one, and each link of the frame list and of its members to a member or to
 /// the end, also while one is linked or unlinked. The link of a queue head that left the ring leads to a live one, or to one that left
-/// later, until Async Advance is cleared after the doorbell that was rung for it; and while the doorbell is pending, and until then, one
-/// batch is rung: all of it left before the one ringing, and what waits left since.
+/// later, and that of a queue head that left the frame list to the end of a frame, to a live member, or to one that left later, each until
+/// it is given back; and while the doorbell is pending, and until Async Advance is cleared after it, one batch is rung: all of it left
+/// before the one ringing, and what waits left since.
 ///
 /// In one microframe the walk of the frames visits no structure twice, and each in its frame, or, where it was unlinked in this
 /// microframe, in a frame from which it was, while members are linked and unlinked; and once it is over, it has visited each to which

@@ -2,6 +2,7 @@
 //! what is told of each queue, that streams and requests are right, and why each line and each refusal stands.
 //!
 //! - `answers`: Why each line and each refusal stands.
+//! - `due_at_begin`: What is due at high speed as its microframe begins is done in it.
 //! - `lines`: What is told of a queue is what was moved of it, in order.
 //! - `pipes`: Both sides of each pipe at high speed agree, so the streams of the report are right.
 //! - `queues`: What queue heads come to.
@@ -11,6 +12,7 @@
 #![tactic(auto)]
 
 pub mod answers;
+pub mod due_at_begin;
 pub mod lines;
 pub mod pipes;
 pub mod queues;

@@ -17,4 +17,5 @@ pub mod Reach
 pub mod Releases
 pub mod pipe_steps
 pub mod Links
+pub mod Aside
 pub mod Owners

@@ -30,34 +30,39 @@ later_leads m d x = (
 )
 
 -- none of them is in the ring
-out_of_ring : (d : DriverContent) (x : Endpoint) (e : ℕ) (y : Endpoint) → slice_get (two d x).endpoints e ≡ Some y → y.linked ≡ false
-out_of_ring d x zero y here = ap (λ (z : Endpoint). z.linked) (sym (same_Some (out_at x 0) y here))
-out_of_ring d x (suc zero) y here = ap (λ (z : Endpoint). z.linked) (sym (same_Some (out_at x 1) y here))
-out_of_ring d x (suc (suc e)) y here = absurd (cc)
+module _ (d : DriverContent) (x : Endpoint) (es fs : List ℕ) where
+  out_of_ring : (e : ℕ) (y : Endpoint) → slice_get (two d x es fs).endpoints e ≡ Some y → y.linked ≡ false
+  out_of_ring zero y here = ap (λ (z : Endpoint). z.linked) (sym (same_Some (out_at x 0) y here))
+  out_of_ring (suc zero) y here = ap (λ (z : Endpoint). z.linked) (sym (same_Some (out_at x 1) y here))
+  out_of_ring (suc (suc e)) y here = absurd (cc)
 
-head_alone : (d : DriverContent) (x : Endpoint) (b : ℕ) → IsLive (two d x) b → b ≡ head_block
-head_alone d x b (the_head is) = is
-head_alone d x b (a_queue e y here on is) = absurd (true≢false (sym on ∙ out_of_ring d x e y here))
+  head_alone : (b : ℕ) → IsLive (two d x es fs) b → b ≡ head_block
+  head_alone b (the_head is) = is
+  head_alone b (a_queue e y here on is) = absurd (true≢false (sym on ∙ out_of_ring e y here))
 
-none_later : (d : DriverContent) (x : Endpoint) (b : ℕ) → IsLiveOrLater (two d x) [] b → b ≡ head_block
-none_later d x b (live l) = head_alone d x b l
-none_later d x b (left_later e among place) = elim among [ ]
+  none_later : (b : ℕ) → IsLiveOrLater (two d x es fs) [] b → b ≡ head_block
+  none_later b (live l) = head_alone b l
+  none_later b (left_later e among place) = elim among [ ]
 
-first_place : (m : Mem) (d : DriverContent) (x : Endpoint) (h : HasLeftBefore m (two d x) [] 0) → h.endpoint.queue ≡ 0
-first_place m d x h = ap (λ (z : Endpoint). z.queue) (sym (same_Some (out_at x 0) h.endpoint h.here))
+  first_place : (m : Mem) (h : HasLeftBefore m (two d x es fs) [] 0) → h.endpoint.queue ≡ 0
+  first_place m h = ap (λ (z : Endpoint). z.queue) (sym (same_Some (out_at x 0) h.endpoint h.here))
 
 pub earlier_breaks : EarlierBreaks
 earlier_breaks m d x all =
+    let es : List ℕ = 1 ∷ [] in
+    let fs : List ℕ = 0 ∷ [] in
     let now : Mem = record m { words = two_words } in
     let h = all.1.0 in
-    let back : h.leads.block ≡ 128 = none_later d x h.leads.block h.leads.is in
-    let link : 34 ≡ 32 * h.leads.block + 2 = sym (ap (λ (q : ℕ). word_at now (32 * q)) (first_place now d x h)) ∙ h.leads.link in
+    let back : h.leads.block ≡ 128 = none_later d x es fs h.leads.block h.leads.is in
+    let link : 34 ≡ 32 * h.leads.block + 2 = sym (ap (λ (q : ℕ). word_at now (32 * q)) (first_place d x es fs now h)) ∙ h.leads.link in
     omega (arith, link, back)
 
 pub itself_breaks : ItselfBreaks
 itself_breaks m d x all =
+    let es : List ℕ = 0 ∷ [] in
+    let fs : List ℕ = [] in
     let now : Mem = record m { words = 2 ∷ [] } in
     let h = all.0 in
-    let back : h.leads.block ≡ 128 = none_later d x h.leads.block h.leads.is in
-    let link : 2 ≡ 32 * h.leads.block + 2 = sym (ap (λ (q : ℕ). word_at now (32 * q)) (first_place now d x h)) ∙ h.leads.link in
+    let back : h.leads.block ≡ 128 = none_later d x es fs h.leads.block h.leads.is in
+    let link : 2 ≡ 32 * h.leads.block + 2 = sym (ap (λ (q : ℕ). word_at now (32 * q)) (first_place d x es fs now h)) ∙ h.leads.link in
     omega (arith, link, back)

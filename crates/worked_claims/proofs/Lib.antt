@@ -1,4 +1,6 @@
 pub mod Breaking
+pub mod GivenBack
+pub mod LeftFrames
 pub mod LeftQueues
 pub mod Owning
 pub mod OwningBytes

@@ -1,3 +1,5 @@
 pub mod Broken
+pub mod GivenBack
+pub mod LeftFrames
 pub mod LeftQueues
 pub mod OwnerRows

@@ -4,5 +4,7 @@
 #![tactic(auto)]
 
 pub mod broken;
+pub mod given_back;
+pub mod left_frames;
 pub mod left_queues;
 pub mod owners;

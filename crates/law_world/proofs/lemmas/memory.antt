@@ -100,3 +100,13 @@ pub mod OwnEnded
 pub mod OwnFreed
 pub mod OwnDriver
 pub mod OwnMoments
+pub mod LinkWords
+pub mod LinkLent
+pub mod RingGoes
+pub mod LeftLinks
+pub mod LeftCommands
+pub mod Untouched
+pub mod FrameFlips
+pub mod FrameLeft
+pub mod FrameEndpoints
+pub mod FrameQueues

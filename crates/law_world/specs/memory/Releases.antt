@@ -5,7 +5,10 @@
 --     HasGone s k r           before event k this was unlinked from the frame list, and FRINDEX was read so since then
 --     IsHistory s k d         so it is of each that waits, that is rung or cleared, and of each removal; once Async Advance was heard, of each that is rung
 --     ScriptsGiveBackLast     the clause `releases` of every script
-use Rattle.std.specs.Prelude.{◌≡◌, ◌≢◌, ℕ, suc, ◌<◌, List, Option, Some}
+--     KeptToLentStaysUntouched, ScriptsLeaveWhatIsBack
+--                             what is given back is left alone until it is lent again, where words of Lent blocks alone are touched: in the
+--                             run of each script that fits
+use Rattle.std.specs.Prelude.{◌≡◌, ◌≢◌, ℕ, suc, ◌<◌}
 use Rattle.std.specs.List.{AllByRecursion}
 use Rattle.script_types.specs.declared.scripts.Script.{Script}
 use Rattle.drv_chains.specs.Boundary.{frame_number}
@@ -16,7 +19,9 @@ use Rattle.drv_table.specs.declared.content.Bell.TheVariants as bells
 use Rattle.drv_table.specs.declared.rows.DriverRow.TheVariants as rows
 use Rattle.drv_table.specs.DriverContent.{DriverContent}
 use Rattle.bus_world.specs.Budgets.{moment}
-use Rattle.claims_world.specs.Releases.{Does, LeavesRing, IsUnlinkedAt, Reads, HeardAdvance, GivesBackLast}
+use Rattle.claims_world.specs.Releases.{Does, LeavesRing, IsUnlinkedAt, Reads, HeardAdvance, GivesBackLast, StaysUntouched}
+use Rattle.claims_world.specs.Lent.{KeepsToLentThroughout}
+use Rattle.script_fits.specs.Fits.{IsFit}
 
 pub record HasLeft (s : Script) (k e : ℕ) : Type 0 where
   pub unlinking : ℕ
@@ -66,3 +71,9 @@ pub record IsHistory (s : Script) (k : ℕ) (d : DriverContent) : Type 0 where
 
 abbrev pub ScriptsGiveBackLast : Type 0
 ScriptsGiveBackLast = (s : Script) → GivesBackLast s
+
+abbrev pub KeptToLentStaysUntouched : Type 0
+KeptToLentStaysUntouched = (s : Script) → KeepsToLentThroughout s → StaysUntouched s
+
+abbrev pub ScriptsLeaveWhatIsBack : Type 0
+ScriptsLeaveWhatIsBack = (s : Script) → IsFit s → StaysUntouched s

@@ -42,7 +42,7 @@ module _ (fixed : Fixed) (x : Sides) (s : Standing) (m : Lines) (h : Heads) (w :
 
   module _ (e : ℕ) (y : Endpoint) (here : slice_get w.driver.endpoints e ≡ Some y)
       (met : IsMet (queued w.driver) e (queued_endpoint y)) where
-    named : h.ends (32 * y.queue) ≡ asked_as y.desc
+    pub named : h.ends (32 * y.queue) ≡ asked_as y.desc
     named = k.named e y here met
 
     asks : (way : Way) → y.desc.name.way ≡ way → AsksTheWay x.sends x.takes h.ins h.outs h.ends (32 * y.queue) way
@@ -50,13 +50,13 @@ module _ (fixed : Fixed) (x : Sides) (s : Standing) (m : Lines) (h : Heads) (w :
         subst (AsksTheWay x.sends x.takes h.ins h.outs h.ends (32 * y.queue)) is
         (by_real w.driver x.sends x.takes h.ins h.outs h.ends k.by_way e y here met)
 
-    on_ins : y.desc.name.way ≡ ways.In → x.sends y.desc.name.addr y.desc.name.num ≡ true → h.ins (32 * y.queue) ≡ true
+    pub on_ins : y.desc.name.way ≡ ways.In → x.sends y.desc.name.addr y.desc.name.num ≡ true → h.ins (32 * y.queue) ≡ true
     on_ins is on =
         ⊎_elim (λ (its : h.ins (32 * y.queue) ≡ true). its)
         (λ (none : x.sends (h.ends (32 * y.queue)).addr (h.ends (32 * y.queue)).ep ≡ false).
         absurd (true≢false (sym on ∙ ap (λ (u : Told). x.sends u.addr u.ep) (sym named) ∙ none))) (asks ways.In is).1
 
-    on_outs : y.desc.name.way ≡ ways.Out → x.takes y.desc.name.addr y.desc.name.num ≡ true → h.outs (32 * y.queue) ≡ true
+    pub on_outs : y.desc.name.way ≡ ways.Out → x.takes y.desc.name.addr y.desc.name.num ≡ true → h.outs (32 * y.queue) ≡ true
     on_outs is on =
         ⊎_elim (λ (its : h.outs (32 * y.queue) ≡ true). its)
         (λ (none : x.takes (h.ends (32 * y.queue)).addr (h.ends (32 * y.queue)).ep ≡ false).

@@ -81,12 +81,12 @@ no_in x d ways.Ctl iso is k = absurd (false≢true is)
 -- ---- whose it is
 
 -- an isochronous endpoint of the driver, with this name
-record IsNamedIso (d : DriverContent) (addr ep : ℕ) (dir_in : Bool) : Type 0 where
-  number : ℕ
-  endpoint : Endpoint
-  here : slice_get d.endpoints number ≡ Some endpoint
-  iso : is_iso endpoint.desc.kind ≡ true
-  named : TellsName addr ep dir_in endpoint.desc
+pub record IsNamedIso (d : DriverContent) (addr ep : ℕ) (dir_in : Bool) : Type 0 where
+  pub number : ℕ
+  pub endpoint : Endpoint
+  pub here : slice_get d.endpoints number ≡ Some endpoint
+  pub iso : is_iso endpoint.desc.kind ≡ true
+  pub named : TellsName addr ep dir_in endpoint.desc
 
 module _ (x : Sides) (s : Standing) (w : World) (k : IsMixedAt s w) (declared : AreDeclared x w.driver)
     (names : AreDescriptorsNamed w.driver w.memory) where
@@ -176,7 +176,7 @@ module _ (x : Sides) (s : Standing) (w : World) (k : IsMixedAt s w) (declared : 
       (k.now.framed.driven.only n n OfSplitIsochronous (ap (λ (part : Structures). option_map sort_of (part n))
       (sym (both_off s.descs s.parts n off)) ∙ ap (option_map sort_of) here)) refl)
 
-  itd_named : (n : ℕ) (v : Itd) → both s.descs s.parts n n ≡ Some (Isochronous v) → IsNamedIso w.driver v.addr v.ep v.dir_in
+  pub itd_named : (n : ℕ) (v : Itd) → both s.descs s.parts n n ≡ Some (Isochronous v) → IsNamedIso w.driver v.addr v.ep v.dir_in
   itd_named n v here =
       let on : owns s.descs n ≡ true = owned_itd n v here (owns s.descs n) refl in
       let i : IsDescriptorOf n = descriptor_at n on in
@@ -187,7 +187,7 @@ module _ (x : Sides) (s : Standing) (w : World) (k : IsMixedAt s w) (declared : 
       (λ y h. subst (λ (u : Itd). TellsName u.addr u.ep u.dir_in y.desc) (told_is w.memory n v holds)
       (subst (λ (a : ℕ). ItdTells (words_at w.memory a 16) y.desc) (sym i.at) h))
 
-  sitd_named : (n : ℕ) (v : Sitd) → both s.descs s.parts n n ≡ Some (SplitIsochronous v) → IsNamedIso w.driver v.addr v.ep v.dir_in
+  pub sitd_named : (n : ℕ) (v : Sitd) → both s.descs s.parts n n ≡ Some (SplitIsochronous v) → IsNamedIso w.driver v.addr v.ep v.dir_in
   sitd_named n v here =
       let on : owns s.descs n ≡ true = owned_sitd n v here (owns s.descs n) refl in
       let i : IsDescriptorOf n = descriptor_at n on in

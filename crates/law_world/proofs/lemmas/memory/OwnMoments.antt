@@ -26,7 +26,7 @@ use Rattle.law_world.proofs.lemmas.memory.OwnControl.{runs_write_their_own}
 use Rattle.law_world.proofs.lemmas.memory.OwnDriver.{driver_leaves_controllers, command_leaves_controllers}
 use Rattle.law_world.proofs.lemmas.memory.OwnEnded.{next_active}
 
-controller_writes : (fixed : Fixed) (w : World) → IsMixedWorld w → EndsActive w.control
+pub controller_writes : (fixed : Fixed) (w : World) → IsMixedWorld w → EndsActive w.control
     → WritesItsOwn (controller_parts w) (controller_next fixed w).memory
 controller_writes fixed w k ends =
     let s : Standing = k.standing in
@@ -70,7 +70,7 @@ module _ (text : List ℕ) (s : Script) (spelled : Spells text s) where
   mixed : (k : ℕ) → IsMixedWorld (moment s k).world
   mixed k = texts_stay_mixed text s spelled k
 
-  ends_active : (k : ℕ) → EndsActive (moment s k).world.control
+  pub ends_active : (k : ℕ) → EndsActive (moment s k).world.control
   unfolding ticks
   ends_active zero = λ h e part held ended. absurd (cc held)
   ends_active (suc k) =

@@ -86,6 +86,16 @@ store_leaves k m parts b st v tells x at low changed o =
     let is : o.structure ≡ x.structure = some_one o.structure x.structure (sym there ∙ x.here) in
     x.not_own at low same (subst (λ (s : Structure). IsOwnIn at x.name s) is (subst (λ (a : ℕ). IsOwnIn at a o.structure) one.1 o.own))
 
+-- a word that is none of the controller's there is none of its own
+pub told_elsewhere : (m : Mem) (parts : StructureSets) (st : ℕ) → Tells m parts → IsStoreIn parts st → st % 4 ≡ 0 → IsToldOwn parts st → ⊥
+told_elsewhere m parts st tells x low o =
+    let has : Has o.name o.structure (st / 32) = own_block m st o.name o.structure (tells.each o.owner o.name o.structure o.here) o.own in
+    let one = tells.alone x.owner x.name o.owner o.name x.structure o.structure (st / 32) x.here o.here x.has has in
+    let there : parts x.owner x.name ≡ Some o.structure =
+    sym (ap (λ (j : ℕ). parts j o.name) one.0 ∙ ap (parts x.owner) one.1) ∙ o.here in
+    let is : o.structure ≡ x.structure = some_one o.structure x.structure (sym there ∙ x.here) in
+    x.not_own st low refl (subst (λ (s : Structure). IsOwnIn st x.name s) is (subst (λ (a : ℕ). IsOwnIn st a o.structure) one.1 o.own))
+
 -- ---- a link, an element of the frame list, a qTD that isn't active, an overlay that is halted
 
 link_off : (at a : ℕ) (s : Structure) → HasLink s → at ≡ a → IsOwnIn at a s → ⊥

@@ -4,7 +4,8 @@ use Rattle.std.proofs.Common.{Option, Some, ap, sym, subst, ◌∙◌, ⊎_elim,
 use Rattle.std.specs.Prelude.{◌⊎◌, ◌-◌, slice_index}
 use Rattle.std.proofs.lemmas.Bool.{false≢true, cases_eq}
 use Rattle.std.proofs.lemmas.Option.{same_Some}
-use Rattle.word_mem.specs.Memory.{Mem, word_at}
+use Rattle.word_mem.specs.declared.blocks.BlockState.TheVariants.{Lent}
+use Rattle.word_mem.specs.Memory.{Mem, word_at, state_at}
 use Rattle.word_mem.specs.Views.{words_at}
 use Rattle.word_mem.proofs.Words.{get_or-words_in}
 use Rattle.link_words.specs.declared.kinds.Link.TheVariants as links
@@ -37,6 +38,7 @@ use Rattle.law_driver_ring.proofs.lemmas.walk_members.Decoding.{link_decoded}
 use Rattle.law_driver_ring.specs.fed_queues.Places.{IsMet, HasHead}
 use Rattle.law_queues.proofs.lemmas.reached_rings.Computing.{among_one}
 use Rattle.law_structures.specs.lent_structures.Structures.{QueueHead, HoldsQueueHead}
+use Rattle.law_structures.proofs.lemmas.lent_structures.Telling.{told_lent}
 use Rattle.law_structures.specs.lent_structures.Sound.{IsMember}
 use Rattle.law_descriptors.specs.Both.{both}
 use Rattle.law_descriptors.specs.Meeting.{met}
@@ -163,6 +165,17 @@ module _ (s : Standing) (w : World) (k : IsMixedAt s w) where
       let same : links.Qh member.link.to ≡ links.Qh (32 * to)
       = sym member.link.leads ∙ held_link m (32 * b) member.queue holds ∙ ap link_read link ∙ read_as to in
       subst (λ (n : ℕ). s.member n ≡ true) (same_to member.link.to (32 * to) same) member.link.on
+
+  -- and it is Lent
+  pub left_lent : (e : ℕ) (x : Endpoint) → IsAmong e (w.driver.rung ++ w.driver.waiting) → slice_get w.driver.endpoints e ≡ Some x
+      → state_at w.memory x.queue ≡ Some Lent
+  left_lent e x among here =
+      let on : s.member (32 * x.queue) ≡ true = k.ring.each e x here (met_there d has m e x stands among here) in
+      let member : IsMember s.member (32 * x.queue) (both s.descs s.parts (32 * x.queue)) = runs.ring.members (32 * x.queue) on in
+      let at : 32 * x.queue / 32 ≡ x.queue = omega arith in
+      subst (λ (b : ℕ). state_at m b ≡ Some Lent) at
+      (told_lent m (both s.descs s.parts) (32 * x.queue) (32 * x.queue) (QueueHead member.queue) (32 * x.queue / 32) runs.ring.tells
+      member.here (inl refl))
 
   same_block : (a b : ℕ) → 32 * a ≡ 32 * b → a ≡ b
   same_block a b same = omega (arith, same)

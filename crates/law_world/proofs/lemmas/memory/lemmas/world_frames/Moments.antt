@@ -149,10 +149,13 @@ opening_ready s fit = record {
 
 -- ---- what that says of frames
 
+pub script_whole : (s : Script) → IsFit s → (k : ℕ) → IsWhole (moment s k).world.driver
+script_whole s fit k = (all_ready (fixed_of s) (at_place (opening_world s) (orders_of s.lines)) k (opening_ready s fit)).whole
+
 pub script_scheduled : (s : Script) → IsFit s → KeepsScheduleThroughout s
 script_scheduled s fit k f =
     let p : OrderedWorld = moment s k in
-    let h : IsWhole p.world.driver = (all_ready (fixed_of s) (at_place (opening_world s) (orders_of s.lines)) k (opening_ready s fit)).whole in
+    let h : IsWhole p.world.driver = script_whole s fit k in
     record {
       queues = are_due p.world.driver f h.owners h.listed h.planned h.ordered;
       all = due_is_there p.world.driver f h.owners h.queues h.ordered;

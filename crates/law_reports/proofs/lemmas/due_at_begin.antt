@@ -1,0 +1,14 @@
+pub mod Beside
+pub mod Reached
+pub mod Apart
+pub mod Asking
+pub mod Ahead
+pub mod Walked
+pub mod Aside
+pub mod Stages
+pub mod Uncancelled
+pub mod Idle
+pub mod InFrames
+pub mod Moments
+pub mod Own
+pub mod Sampled

@@ -1,0 +1,10 @@
+-- The law of what is due as its microframe begins.
+--     TextsDoWhatIsDueAtBegin     of each script that a text spells: what was due as the microframe began is done once the walk of the
+--                                 frames is over
+use Rattle.std.specs.Prelude.{ℕ, List}
+use Rattle.script_types.specs.declared.scripts.Script.{Script}
+use Rattle.script_text.specs.Faults.{Spells}
+use Rattle.claims_world.specs.DueAtBegin.{DueAtBeginIsDone}
+
+abbrev pub TextsDoWhatIsDueAtBegin : Type 0
+TextsDoWhatIsDueAtBegin = (text : List ℕ) (s : Script) → Spells text s → DueAtBeginIsDone s

@@ -1,0 +1,10 @@
+//! What is due at high speed as its microframe begins is done in it, along the run of each script (EHCI 1.0, 3.6.2, 4.4, 4.6, 4.7 and 4.10;
+//! USB 2.0, 5.7.4 and 8.6).
+//!
+//! - `due`: What was due of a high-speed interrupt endpoint as its microframe began is done once the walk of the frames is over.
+//! - `worked`: Worked rows of a keyboard.
+//!
+//! The module has no code of its own: each function is a law, and its body is empty.
+
+pub mod due;
+pub mod worked;
