@@ -35,6 +35,7 @@ SAYS = {
               "words 3 to 11 of a queue head that isn't halted, the token of an active qTD, the word of an active microframe of an iTD, words 3 to 5 of an active siTD, and the words of the bytes that are still to come into a buffer.",
     "releases": "What left the ring is given back only after the doorbell was rung since its unlinking and Async Advance was then read; what left the frame list only after two readings of FRINDEX since then "
                 "with different frame numbers.",
+    "given_back": "What was given back each later event of the controller leaves alone until it is lent again: it writes none of it, and it leaves the same whatever stands there.",
     "links": "At each moment the link of each live queue head of the ring leads to a live one, and each link of the frame list and of its members is the end or leads to a live member, also between the stores by which "
              "one is linked or unlinked; the link of a queue head that left the ring leads to a live one, or to one that left later, and that of a queue head that left the frame list to the end of a frame, to a live "
              "member, or to one that left later, each until it is given back; and while the doorbell is pending, and until Async Advance is cleared after it, one batch is rung: all of it left before that ringing, and what waits left since.",

@@ -5,12 +5,14 @@ use Rattle.claims_world.specs.Memory.{KeepsMemory}
 use Rattle.claims_world.specs.Links.{KeepsLinks}
 use Rattle.claims_world.specs.Reach.{ReachesLentThroughout}
 use Rattle.claims_world.specs.Owners.{KeepsToOwnersThroughout}
-use Rattle.claims_world.specs.Releases.{GivesBackLast}
+use Rattle.claims_world.specs.Releases.{GivesBackLast, StaysUntouched}
 use Rattle.law_world.proofs.lemmas.memory.Together.{texts_keep_memory}
 use Rattle.law_world.proofs.lemmas.memory.ReachMoments.{texts_reach_lent}
 use Rattle.law_world.proofs.lemmas.memory.OwnMoments.{texts_keep_to_owners}
 use Rattle.law_world.proofs.lemmas.memory.LetGo.{scripts_give_back_last}
 use Rattle.law_world.proofs.lemmas.memory.LinksHeld.{texts_keep_links}
+use Rattle.law_world.proofs.lemmas.memory.Untouched.{scripts_leave_what_is_back}
+use Rattle.script_fits.proofs.Texts.{spelled_fits}
 use Rattle.app_forms.specs.Scripts.{OfEachScript}
 use Rattle.ehci_cli.proofs.Each.{of_each}
 
@@ -25,6 +27,9 @@ source_keeps_to_owners = of_each KeepsToOwnersThroughout texts_keep_to_owners
 
 pub source_gives_back_last : (words : List (List ℕ)) (left : Option (List ℕ)) → OfEachScript GivesBackLast words left
 source_gives_back_last = of_each GivesBackLast (λ text s spelled. scripts_give_back_last s)
+
+pub source_leaves_what_is_back : (words : List (List ℕ)) (left : Option (List ℕ)) → OfEachScript StaysUntouched words left
+source_leaves_what_is_back = of_each StaysUntouched (λ text s spelled. scripts_leave_what_is_back s (spelled_fits text s spelled))
 
 pub source_keeps_links : (words : List (List ℕ)) (left : Option (List ℕ)) → OfEachScript KeepsLinks words left
 source_keeps_links = of_each KeepsLinks texts_keep_links

@@ -12,7 +12,7 @@ ghost use Rattle.claims_world.specs.Memory.{KeepsMemory};
 ghost use Rattle.claims_world.specs.Links.{KeepsLinks};
 ghost use Rattle.claims_world.specs.Reach.{ReachesLentThroughout};
 ghost use Rattle.claims_world.specs.Owners.{KeepsToOwnersThroughout};
-ghost use Rattle.claims_world.specs.Releases.{GivesBackLast};
+ghost use Rattle.claims_world.specs.Releases.{GivesBackLast, StaysUntouched};
 ghost use Rattle.claims_world.specs.Visits.{KeepsVisits};
 ghost use Rattle.claims_world.specs.WithinLoad.{PaysWithinLoad};
 ghost use Rattle.claims_world.specs.InTime.{ArriveInTime};
@@ -79,7 +79,8 @@ use usb_base::{Sink, Source};
 /// microframe of an iTD, words 3 to 5 of an active siTD, and the words of the bytes that are still to come into a buffer.
 ///
 /// What left the ring is given back only after the doorbell was rung since its unlinking and Async Advance was then read, and what left the
-/// frame list only after FRINDEX was read twice since then with different frame numbers.
+/// frame list only after FRINDEX was read twice since then with different frame numbers. What was given back each later event of the
+/// controller leaves alone until it is lent again: it writes none of it, and it leaves the same whatever stands there.
 ///
 /// The link of each live queue head of the ring leads to a live one, and each link of the frame list and of its members to a member or to
 /// the end, also while one is linked or unlinked. The link of a queue head that left the ring leads to a live one, or to one that left
@@ -160,6 +161,7 @@ pub fn ehci<S: Source, K: Sink>(
     ensures reach { OfEachScript ReachesLentThroughout (map string_bytes words.now) (S.left source.old) }
     ensures owners { OfEachScript KeepsToOwnersThroughout (map string_bytes words.now) (S.left source.old) }
     ensures releases { OfEachScript GivesBackLast (map string_bytes words.now) (S.left source.old) }
+    ensures given_back { OfEachScript StaysUntouched (map string_bytes words.now) (S.left source.old) }
     ensures links { OfEachScript KeepsLinks (map string_bytes words.now) (S.left source.old) }
     ensures visits { OfEachScript KeepsVisits (map string_bytes words.now) (S.left source.old) }
     ensures microframes { OfEachScript MicroframesEnd (map string_bytes words.now) (S.left source.old) }

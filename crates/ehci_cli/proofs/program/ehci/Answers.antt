@@ -1,6 +1,7 @@
 use Rattle.ehci_cli.proofs.Admitted.{source_admits, source_keeps_to_lent, source_owns, source_keeps_schedule}
 use Rattle.ehci_cli.proofs.Causes.{source_has_causes, source_is_heard, source_rests_when_done, source_tells_for_reasons, source_counts_pending}
-use Rattle.ehci_cli.proofs.Memory.{source_keeps_memory, source_reaches_lent, source_keeps_to_owners, source_gives_back_last, source_keeps_links}
+use Rattle.ehci_cli.proofs.Memory.{source_keeps_memory, source_reaches_lent, source_keeps_to_owners, source_gives_back_last, source_leaves_what_is_back}
+use Rattle.ehci_cli.proofs.Memory.{source_keeps_links}
 use Rattle.ehci_cli.proofs.Requests.{source_keeps_requests}
 use Rattle.ehci_cli.proofs.Streams.{source_keeps_streams, source_ends_once, source_keeps_high_streams}
 use Rattle.ehci_cli.proofs.Visits.{source_keeps_visits, source_pays_within_load, source_is_in_time, source_ends_microframes, source_keeps_due, source_does_slots, source_keeps_to_work, source_repeats_after_losses}
@@ -33,6 +34,9 @@ returns-clause-owners g c = source_keeps_to_owners _ _
 
 pub returns-clause-releases : goal.returns-clause-releases
 returns-clause-releases g c = source_gives_back_last _ _
+
+pub returns-clause-given_back : goal.returns-clause-given_back
+returns-clause-given_back g c = source_leaves_what_is_back _ _
 
 pub returns-clause-links : goal.returns-clause-links
 returns-clause-links g c = source_keeps_links _ _
