@@ -47,6 +47,8 @@ SAYS = {
     "due": "Once the walk of the frames is over in a microframe, it came to the queue head of each interrupt endpoint that has this frame, was in the frame list as the microframe began and is in it still; and what was due of one "
            "of high speed as the walk came to it (a transfer, a microframe of its S-mask that isn't held, a device that is ready, none of the three packets lost) moved its packet and was written back, where no more than 4 microseconds went for "
            "complete-splits made again.",
+    "due_at_begin": "Once the walk of the frames is over in a microframe, what was due of an interrupt endpoint of high speed as the microframe began (a transfer, a microframe of its S-mask that isn't held, a device that is ready, "
+                    "none of the next three packets lost) moved its packet and was written back, unless a cancel of it was accepted since, and where no more than 4 microseconds went for complete-splits made again.",
     "slots": "Once the walk of the frames is over in a microframe that isn't held, where no more than 4 microseconds went for complete-splits made again: the iTDs to which it came with the slot of this microframe active are those that were "
              "written back in it.",
     "goes_on": "At each moment: a bulk or interrupt endpoint that goes on, whose queue head isn't halted, and which has a transfer that is stored and of which a qTD is still active, has a queue head whose overlay is active or goes on to an "

@@ -17,6 +17,7 @@ ghost use Rattle.claims_world.specs.Visits.{KeepsVisits};
 ghost use Rattle.claims_world.specs.WithinLoad.{PaysWithinLoad};
 ghost use Rattle.claims_world.specs.InTime.{ArriveInTime};
 ghost use Rattle.claims_world.specs.Due.{KeepsDue};
+ghost use Rattle.claims_world.specs.DueAtBegin.{DueAtBeginIsDone};
 ghost use Rattle.claims_world.specs.Losses.{RepeatAfterLosses};
 ghost use Rattle.claims_world.specs.Slots.{SlotsAreDone};
 ghost use Rattle.claims_world.specs.Unfinished.{KeepsToWork};
@@ -103,11 +104,13 @@ use usb_base::{Sink, Source};
 /// while no packet of the walk of the frames was lost or damaged in the microframe.
 ///
 /// Once the walk of the frames is over in a microframe, it came to the queue head of each interrupt endpoint that has this frame, was in
-/// the frame list as the microframe began and is in it still; and of each of high speed that had a transfer then, in a microframe of its S-mask
-/// that isn't held, with its device ready and none of the transaction's packets lost, the packet moved and was written back, where no more
-/// than 4 microseconds went for complete-splits made again. So is each slot of an iTD to which the walk came while it was active: it is
-/// written back in its microframe. And at each moment the queue head of a bulk or interrupt endpoint that goes on and isn't halted, with a
-/// transfer that is stored and isn't done, works on an active qTD or goes on to one; so does its copy in the hand of either walk.
+/// the frame list as the microframe began and is in it still; and of each of high speed that had a transfer then, in a microframe of its
+/// S-mask that isn't held, with its device ready and none of the transaction's packets lost, the packet moved and was written back, where
+/// no more than 4 microseconds went for complete-splits made again. So it was of each of high speed for which all this stood as the
+/// microframe began, whatever the walk came to before, but of one of which a cancel was accepted since. So is each slot of an iTD to
+/// which the walk came while it was active: it is written back in its microframe. And at each moment the queue head of a bulk or
+/// interrupt endpoint that goes on and isn't halted, with a transfer that is stored and isn't done, works on an active qTD or goes on to
+/// one; so does its copy in the hand of either walk.
 ///
 /// Whatever the script opens, the bytes that the report tells of each bulk and interrupt IN endpoint at high speed begin its stream, each
 /// once and in order, and those that it tells of each such OUT endpoint begin what its device took: at each moment, and after the run.
@@ -169,6 +172,7 @@ pub fn ehci<S: Source, K: Sink>(
     ensures in_time { OfEachScript ArriveInTime (map string_bytes words.now) (S.left source.old) }
     ensures repeats { OfEachScript RepeatAfterLosses (map string_bytes words.now) (S.left source.old) }
     ensures due { OfEachScript KeepsDue (map string_bytes words.now) (S.left source.old) }
+    ensures due_at_begin { OfEachScript DueAtBeginIsDone (map string_bytes words.now) (S.left source.old) }
     ensures slots { OfEachScript SlotsAreDone (map string_bytes words.now) (S.left source.old) }
     ensures goes_on { OfEachScript KeepsToWork (map string_bytes words.now) (S.left source.old) }
     ensures streams { OfEachScript (WhereAsynchronous KeepsStreams) (map string_bytes words.now) (S.left source.old) }

@@ -5,6 +5,7 @@ use Rattle.ehci_cli.proofs.Memory.{source_keeps_links}
 use Rattle.ehci_cli.proofs.Requests.{source_keeps_requests}
 use Rattle.ehci_cli.proofs.Streams.{source_keeps_streams, source_ends_once, source_keeps_high_streams}
 use Rattle.ehci_cli.proofs.Visits.{source_keeps_visits, source_pays_within_load, source_is_in_time, source_ends_microframes, source_keeps_due, source_does_slots, source_keeps_to_work, source_repeats_after_losses}
+use Rattle.ehci_cli.proofs.Visits.{source_does_what_is_due_at_begin}
 use Rattle.ehci_cli.proofs.Whole.{whole_load}
 use Rattle.ehci_cli.proofs.program.ehci.Goals as goal
 
@@ -58,6 +59,9 @@ returns-clause-repeats g c = source_repeats_after_losses _ _
 
 pub returns-clause-due : goal.returns-clause-due
 returns-clause-due g c = source_keeps_due _ _
+
+pub returns-clause-due_at_begin : goal.returns-clause-due_at_begin
+returns-clause-due_at_begin g c = source_does_what_is_due_at_begin _ _
 
 pub returns-clause-slots : goal.returns-clause-slots
 returns-clause-slots g c = source_does_slots _ _
