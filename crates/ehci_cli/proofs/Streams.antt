@@ -11,8 +11,8 @@ use Rattle.bus_world.specs.Opening.{opening_world}
 use Rattle.bus_world.specs.Orders.{OrderedWorld, Leads, at_place, orders_of}
 use Rattle.bus_world.specs.Budgets.{moment}
 use Rattle.law_world.proofs.lemmas.streams.lemmas.sending_worlds.Moments.{texts_keep_streams}
-use Rattle.claims_world.specs.HighStreams.{KeepsHighStreams}
-use Rattle.law_reports.proofs.lemmas.pipes.lemmas.high_streams.AfterRuns.{texts_keep_high_streams}
+use Rattle.claims_world.specs.HighStreams.{KeepsAllHighStreams}
+use Rattle.law_reports.proofs.lemmas.pipes.lemmas.puts.PaidMoments.{texts_keep_all_high_streams}
 use Rattle.bus_world.specs.Runs.{IsWholeRunOf}
 use Rattle.claims_world.specs.Ends.{IsEndedOnce, EndsOnceThroughout, EndsOnce}
 use Rattle.claims_world.specs.Scripts.{WhereAsynchronous}
@@ -47,5 +47,5 @@ ends s k = record { throughout = k; after = λ w ran name other. at_end (λ r. I
 pub source_ends_once : (words : List (List ℕ)) (left : Option (List ℕ)) → OfEachScript EndsOnce words left
 source_ends_once = of_each EndsOnce (λ text s spelled. ends s (texts_end_once text s spelled))
 
-pub source_keeps_high_streams : (words : List (List ℕ)) (left : Option (List ℕ)) → OfEachScript KeepsHighStreams words left
-source_keeps_high_streams = of_each KeepsHighStreams texts_keep_high_streams
+pub source_keeps_high_streams : (words : List (List ℕ)) (left : Option (List ℕ)) → OfEachScript KeepsAllHighStreams words left
+source_keeps_high_streams = of_each KeepsAllHighStreams texts_keep_all_high_streams

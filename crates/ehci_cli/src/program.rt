@@ -26,7 +26,7 @@ ghost use Rattle.claims_world.specs.Requests.{KeepsRequests};
 ghost use Rattle.app_forms.specs.Scripts.{OfEachScript};
 ghost use Rattle.claims_world.specs.Scripts.{WhereAsynchronous, WhereOfDevices};
 ghost use Rattle.claims_world.specs.Streams.{KeepsStreams};
-ghost use Rattle.claims_world.specs.HighStreams.{KeepsHighStreams};
+ghost use Rattle.claims_world.specs.HighStreams.{KeepsAllHighStreams};
 ghost use Rattle.claims_world.specs.Ends.{EndsOnce};
 ghost use Rattle.claims_world.specs.Heard.{HearsThroughout};
 ghost use Rattle.claims_world.specs.Pending.{PendingIsCounted};
@@ -176,7 +176,7 @@ pub fn ehci<S: Source, K: Sink>(
     ensures slots { OfEachScript SlotsAreDone (map string_bytes words.now) (S.left source.old) }
     ensures goes_on { OfEachScript KeepsToWork (map string_bytes words.now) (S.left source.old) }
     ensures streams { OfEachScript (WhereAsynchronous KeepsStreams) (map string_bytes words.now) (S.left source.old) }
-    ensures high_streams { OfEachScript KeepsHighStreams (map string_bytes words.now) (S.left source.old) }
+    ensures high_streams { OfEachScript KeepsAllHighStreams (map string_bytes words.now) (S.left source.old) }
     ensures ends { OfEachScript EndsOnce (map string_bytes words.now) (S.left source.old) }
     ensures requests { OfEachScript (WhereOfDevices KeepsRequests) (map string_bytes words.now) (S.left source.old) }
     ensures answers { OfEachScript CommandsHaveCauses (map string_bytes words.now) (S.left source.old) }

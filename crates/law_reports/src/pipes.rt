@@ -7,6 +7,7 @@
 //!   5.8, 8.5 and 8.6).
 //! - `sent_events`: The qTDs of each OUT endpoint are sent whole and in turn, so too.
 //! - `takers`: Each OUT endpoint has its taker on the bus; and where what it took begins what was put, so it is in the report.
+//! - `what_was_put`: What each device took begins what was put, so the OUT streams are right too.
 //! - `worked`, `puts_worked`: Worked rows.
 //!
 //! The module has no code of its own: each function is a law, and its body is empty.
@@ -18,4 +19,5 @@ pub mod reports;
 pub mod reports_worked;
 pub mod sent_events;
 pub mod takers;
+pub mod what_was_put;
 pub mod worked;

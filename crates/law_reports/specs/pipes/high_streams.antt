@@ -1,7 +1,6 @@
 pub mod Keeping
 pub mod Names
 pub mod Opened
-pub mod Whole
 pub mod Reports
 pub mod Older
 pub mod Samples

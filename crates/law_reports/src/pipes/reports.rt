@@ -1,5 +1,5 @@
 //! What the report of a world tells of the streams of bulk and interrupt endpoints at high speed (EHCI 1.0, 4.10; USB 2.0, 8.5 and 8.6).
-ghost use Rattle.law_reports.specs.pipes.high_streams.Older.{HighSaysAsMuch};
+ghost use Rattle.law_reports.specs.pipes.high_streams.Older.{HighKeepsAll, HighSaysAsMuch};
 ghost use Rattle.law_reports.specs.pipes.high_streams.Names.{TextsHaveNames};
 ghost use Rattle.law_reports.specs.pipes.high_streams.Opened.{MomentsAreOpened};
 ghost use Rattle.law_reports.specs.pipes.high_streams.Reports.{
@@ -31,5 +31,6 @@ pub fn a_report_tells_the_streams()
 
 /// Of a script whose endpoints are high-speed bulk and control ones the streams at high speed are all its streams of data.
 pub fn high_streams_are_all_of_an_asynchronous_script()
-    ensures { HighSaysAsMuch }
+    ensures each { HighSaysAsMuch }
+    ensures whole { HighKeepsAll }
 {}

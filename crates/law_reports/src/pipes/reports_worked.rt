@@ -3,7 +3,7 @@
 ghost use Rattle.std.specs.Prelude.{◌≡◌, true, false, [], ◌∷◌};
 ghost use Rattle.claims_driver.specs.Scripts.{AsynchronousOnly};
 ghost use Rattle.claims_world.specs.HighStreams.{claimed, KeepsHighThroughout, AreHighInStreams, AreHighTakenStreams};
-ghost use Rattle.law_reports.specs.pipes.high_streams.Whole.{AreHighSentStreams, AreHighStreams};
+ghost use Rattle.claims_world.specs.HighStreams.{AreHighSentStreams, AreHighStreams};
 ghost use Rattle.law_opened.specs.Samples.{key, sink, board, beside_split};
 ghost use Rattle.law_world.specs.memory.Samples.{IsMixedScript};
 ghost use Rattle.law_reports.specs.pipes.high_streams.Names.{HasItsNames};

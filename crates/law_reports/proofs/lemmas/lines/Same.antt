@@ -75,7 +75,7 @@ module _ (parts now : StructureSets) (n : ℕ) (same : IsSameQueue n (parts n) (
   pub relinked_element : (e : ℕ) → SparesElement parts now n e
   relinked_element e = record { element = λ t here. same.elements e t here; bytes = λ t here. same.bytes (buffer_name t) }
 
-  relinked_order : (order : ℕ → ℕ) (place : ℕ) → IsOrdered order place n (parts n) → IsOrdered order place n (now n)
+  pub relinked_order : (order : ℕ → ℕ) (place : ℕ) → IsOrdered order place n (parts n) → IsOrdered order place n (now n)
   relinked_order order place o = record {
     next = λ a t b here leads. o.next a t b (same.elements_were a t here) leads;
     alternate = λ a t b here leads. o.alternate a t b (same.elements_were a t here) leads;

@@ -57,7 +57,7 @@ use Rattle.law_world.proofs.lemmas.streams.lemmas.left_reports.Gone.{release_is_
 use Rattle.law_world.specs.memory.Mixed.{Standing, IsMixedAt}
 use Rattle.law_world.specs.memory.Steps.{told_parts, LeftBy, left_the_ring, left_its_frames, IsGivenBack, given_by, IsWithout}
 use Rattle.law_world.proofs.lemmas.memory.HarvestKept.{owners_of, tells_of, describes}
-use Rattle.law_world.proofs.lemmas.memory.RingBasis.{due_is, queued_next}
+use Rattle.law_world.proofs.lemmas.memory.RingBasis.{due_is, queued_next, row_alike}
 use Rattle.law_world.proofs.lemmas.memory.RingReleasing.{other_by, was}
 use Rattle.law_world.proofs.lemmas.memory.Unfinished.{none_unfinished}
 use Rattle.bus_world.specs.World.{World, driver_parts, controller_parts, driver_next}
@@ -153,13 +153,14 @@ out_as_before d e idle (Some x) here = record {
 
 -- ---- who is given back
 
-record IsKnown (w : World) (e : ℕ) (x : Endpoint) (d : DriverContent) : Type 0 where
-  before : IsAsBefore (queued w.driver) d
-  idle : d.command ≡ None
-  unlinked : x.linked ≡ false
-  owners : HasOwners d
-  turns : AsynchronousTakesTurns d
-  tells : TellsAlike (given_by (told_parts w) e d) (queued (driver_next w).driver)
+pub record IsKnown (w : World) (e : ℕ) (x : Endpoint) (d : DriverContent) : Type 0 where
+  pub before : IsAsBefore (queued w.driver) d
+  pub idle : d.command ≡ None
+  pub unlinked : x.linked ≡ false
+  pub owners : HasOwners d
+  pub turns : AsynchronousTakesTurns d
+  pub tells : TellsAlike (given_by (told_parts w) e d) (queued (driver_next w).driver)
+  pub memory : (driver_next w).memory ≡ (after_driver_row (rows.ReleaseEndpoint e) (record (told_parts w) { driver = d })).memory
 
 no_end : (x : Endpoint) → ◌≡◌ {A = Option Endpoint} None (Some x) → ⊥
 no_end x e = cc
@@ -183,6 +184,9 @@ module _ (s : Standing) (w : World) (k : IsMixedAt s w) (e : ℕ) (x : Endpoint)
         tells = subst (TellsAlike (after_driver_row (rows.ReleaseEndpoint e) (told_parts w)).driver)
             (queued_next s w k (rows.ReleaseEndpoint e) row tt)
             (record { reports = refl; store = refl });
+        memory = ap (λ (r : DriverRow). (after_driver_row r (driver_parts w)).memory) row
+            ∙ ap (λ (q : Parts). q.memory)
+            (row_alike s w k (rows.ReleaseEndpoint e) row tt).same;
       }
 
   -- an interrupt endpoint
@@ -240,9 +244,10 @@ module _ (s : Standing) (w : World) (k : IsMixedAt s w) (e : ℕ) (x : Endpoint)
                 tells = subst (λ (r : DriverRow). TellsAlike (given_by (told_parts w) e (out_of_frames (queued w.driver) e))
                     (queued (after_driver_row r (driver_parts w)).driver))
                     (sym row) back_alike.tells;
+                memory = ap (λ (r : DriverRow). (after_driver_row r (driver_parts w)).memory) row ∙ back_alike.memory;
               }
 
-  known : (d : DriverContent) → LeftBy w e d → IsToLeave d e x → IsKnown w e x d
+  pub known : (d : DriverContent) → LeftBy w e d → IsToLeave d e x → IsKnown w e x d
   known _ (left_the_ring row) leaves = of_ring row leaves
   known _ (left_its_frames row) leaves = of_frames row leaves
 

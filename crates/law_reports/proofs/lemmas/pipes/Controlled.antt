@@ -1,5 +1,6 @@
 -- Each event of the controller leaves the streams so, where isochronous transactions ask none of them.
 use Rattle.std.proofs.Common.{◌≡◌, ℕ, ◌*◌, true, false, List, ◌++◌, slice_get, Some, ap, sym, subst, ◌∙◌}
+use Rattle.std.specs.Prelude.{◌⊎◌}
 use Rattle.std.specs.List.{concat}
 use Rattle.std.proofs.lemmas.Bool.{true≢false}
 use Rattle.std.proofs.lemmas.List.{append-nil}
@@ -16,6 +17,8 @@ use Rattle.drv_table.specs.DriverContent.{DriverContent}
 use Rattle.law_driver.specs.endpoint_lives.Lives.{may_meet}
 use Rattle.law_driver.specs.queued_drivers.Queued.{queued_endpoint, queued}
 use Rattle.law_driver.proofs.lemmas.queued_drivers.CommandFields.{of_queue}
+use Rattle.qh_qtd.specs.declared.queue_head.Qh.{Qh}
+use Rattle.law_structures.specs.lent_structures.Structures.{QueueHead}
 use Rattle.law_ring.specs.Bus.{Sender}
 use Rattle.law_ring.specs.OutBus.{Taker}
 use Rattle.law_controller.specs.controlled_streams.Unopened.{IsUntouched, IsUnopened}
@@ -53,7 +56,8 @@ use Rattle.law_reports.specs.pipes.Piped.{AreLeft, IsPiped, IsFollowed}
 use Rattle.law_reports.proofs.lemmas.pipes.IsoBeside.{names_keep_beside}
 use Rattle.law_reports.proofs.lemmas.pipes.NamesKept.{controller_keeps_names}
 use Rattle.law_reports.proofs.lemmas.pipes.Names.{queue_same, kept_as, unasked, unmet_off, name_is}
-use Rattle.law_reports.proofs.lemmas.pipes.Waiting.{sender_waits, taker_waits, none_moved, named_still, toggle_still}
+use Rattle.law_reports.proofs.lemmas.pipes.Waiting.{sender_waits, taker_waits, idle_waits, taker_or_parts}
+use Rattle.law_reports.proofs.lemmas.pipes.Waiting.{none_moved, named_still, toggle_still}
 
 module _ (fixed : Fixed) (x : Sides) (s : Standing) (m : Lines) (h : Heads) (w : World) (k : IsPiped fixed x s m h w) where
   abbrev d : DriverContent
@@ -108,7 +112,7 @@ module _ (fixed : Fixed) (x : Sides) (s : Standing) (m : Lines) (h : Heads) (w :
       unasked w.driver s.near x.sends x.takes h.ins h.outs h.ends near_are k.by_way k.named ways.In addr ep
       (λ n on. k.pipes.in_ends.members n on) unmet
 
-  outs_unasked : (addr ep : ℕ) → ((e : ℕ) (y : Endpoint) → slice_get w.driver.endpoints e ≡ Some y → y.desc.name.way ≡ ways.Out
+  pub outs_unasked : (addr ep : ℕ) → ((e : ℕ) (y : Endpoint) → slice_get w.driver.endpoints e ≡ Some y → y.desc.name.way ≡ ways.Out
       → y.desc.name.addr ≡ addr → y.desc.name.num ≡ ep → IsMet (queued w.driver) e (queued_endpoint y) → ⊥)
       → IsUnopened h.outs h.ends addr ep
   outs_unasked addr ep unmet =
@@ -122,12 +126,31 @@ module _ (fixed : Fixed) (x : Sides) (s : Standing) (m : Lines) (h : Heads) (w :
       (parts_now s.descs s.parts c.event.now) (joined c.event.later c.event.frame_later) asked x.sends x.packets sender_of h.ins m.acc
       (scripted_bus x.sends) (scripted_begins x.sends) k.pipes.in_pipes iso.ins addr ep on unopened u is z
 
-  taker_stays : (addr ep : ℕ) → x.takes addr ep ≡ true → IsUnopened h.outs h.ends addr ep → (u : Taker)
+  pub taker_stays : (addr ep : ℕ) → x.takes addr ep ≡ true → IsUnopened h.outs h.ends addr ep → (u : Taker)
       → taker_of (wired fixed w) addr ep ≡ Some u → taker_of (wired fixed (controller_next fixed w)) addr ep ≡ Some u
   taker_stays addr ep on unopened u is =
       taker_waits begins_by (IsIsoAsk (both s.descs s.parts)) transacts_by s.near h.ends s.parts (joined s.hand s.frame) wire after
       (parts_now s.descs s.parts c.event.now) (joined c.event.later c.event.frame_later) asked x.takes taker_of h.outs
-      (λ n. concat (m.acc n)) (scripted_out_bus x.takes) (scripted_out_begins x.takes) k.pipes.out_pipes iso.outs addr ep on unopened u is z
+      (λ n. concat (m.acc n)) (scripted_out_bus x.takes) (scripted_out_begins x.takes) k.pipes.out_pipes iso.outs addr ep on u is unopened z
+
+  -- .. nor one that is idle
+  pub idle_taker_stays : (addr ep : ℕ) → x.takes addr ep ≡ true → (u : Taker) → taker_of (wired fixed w) addr ep ≡ Some u → (n : ℕ) (q : Qh)
+      → s.parts n n ≡ Some (QueueHead q) → q.token.active ≡ false
+      → ((i : ℕ) → h.outs i ≡ true → (h.ends i).addr ≡ addr → (h.ends i).ep ≡ ep → i ≡ n)
+      → taker_of (wired fixed (controller_next fixed w)) addr ep ≡ Some u
+  idle_taker_stays addr ep on u is n q head idle alone_at =
+      idle_waits begins_by (IsIsoAsk (both s.descs s.parts)) transacts_by s.near h.ends s.parts (joined s.hand s.frame) wire after
+      (parts_now s.descs s.parts c.event.now) (joined c.event.later c.event.frame_later) asked x.takes taker_of h.outs
+      (λ n. concat (m.acc n)) (scripted_out_bus x.takes) (scripted_out_begins x.takes) k.pipes.out_pipes iso.outs addr ep on u is n q head
+      idle alone_at z
+
+  -- a device changes in an event that leaves memory as it is
+  pub taker_or_parts_stay : (addr ep : ℕ) → x.takes addr ep ≡ true → (u : Taker) → taker_of (wired fixed w) addr ep ≡ Some u
+      → (taker_of (wired fixed (controller_next fixed w)) addr ep ≡ Some u) ⊎ (parts_now s.descs s.parts c.event.now ≡ s.parts)
+  taker_or_parts_stay addr ep on u is =
+      taker_or_parts begins_by (IsIsoAsk (both s.descs s.parts)) transacts_by s.near h.ends s.parts (joined s.hand s.frame) wire after
+      (parts_now s.descs s.parts c.event.now) (joined c.event.later c.event.frame_later) asked x.takes taker_of h.outs
+      (λ n. concat (m.acc n)) (scripted_out_bus x.takes) (scripted_out_begins x.takes) k.pipes.out_pipes iso.outs addr ep on u is z
 
   -- ---- endpoints that aren't met
 
@@ -191,7 +214,7 @@ module _ (fixed : Fixed) (x : Sides) (s : Standing) (m : Lines) (h : Heads) (w :
   unmet_by e y unmet met = true≢false (sym met.near ∙ unmet)
 
   -- .. and no other endpoint has its name
-  alone : (e : ℕ) (y : Endpoint) → slice_get w.driver.endpoints e ≡ Some y → (IsMet (queued w.driver) e (queued_endpoint y) → ⊥)
+  pub alone : (e : ℕ) (y : Endpoint) → slice_get w.driver.endpoints e ≡ Some y → (IsMet (queued w.driver) e (queued_endpoint y) → ⊥)
       → (f : ℕ) (v : Endpoint) → slice_get w.driver.endpoints f ≡ Some v → v.desc.name.way ≡ y.desc.name.way
       → v.desc.name.addr ≡ y.desc.name.addr → v.desc.name.num ≡ y.desc.name.num → IsMet (queued w.driver) f (queued_endpoint v) → ⊥
   alone e y here unmet f v there way same also met =

@@ -1,13 +1,15 @@
 -- A device's endpoint that no queue head asks stays as it is at each event of either walk.
 use Rattle.std.proofs.Common.{◌≡◌, ◌≢◌, ℕ, ◌==◌, Bool, true, false, if◌then◌else◌, List, [], Option, Some, ap, refl, sym, subst, ◌∙◌, inl}
 use Rattle.std.proofs.Common.{inr}
+use Rattle.std.specs.Prelude.{◌⊎◌}
 use Rattle.std.proofs.lemmas.Bool.{false≢true}
 use Rattle.usb_base.specs.declared.packets.Ask.{Ask}
 use Rattle.usb_base.specs.declared.packets.Reply.{Reply}
 use Rattle.transactions.specs.Asks.{pinged}
 use Rattle.hc_copy.specs.Planning.{transaction_of}
 use Rattle.hc_copy.specs.Transacting.{call_in}
-use Rattle.law_structures.specs.lent_structures.Structures.{StructureSets}
+use Rattle.qh_qtd.specs.declared.queue_head.Qh.{Qh}
+use Rattle.law_structures.specs.lent_structures.Structures.{QueueHead, StructureSets}
 use Rattle.law_structures.specs.lent_structures.Sound.{IsWorking, IsSoundQueue}
 use Rattle.law_structures.proofs.lemmas.lent_structures.Altering.{found_queue}
 use Rattle.law_structures.proofs.lemmas.lent_structures.Names.{not_same}
@@ -85,8 +87,7 @@ module _ {W : Type 0} (begins : W → ℕ → Bool → W → Type 0) (Beside : A
   module _ (takes : ℕ → ℕ → Bool) (taker : W → ℕ → ℕ → Option Taker) (outs : ℕ → Bool) (known : ℕ → List ℕ)
       (bus : IsOutBus transacts takes taker) (keeps : KeepsTakers begins takes taker)
       (piped : AreOutPiped takes taker near outs ends known parts hand wire)
-      (misses : (ask : Ask) → Beside ask → IsOutAsk takes ask → ⊥) (addr ep : ℕ) (on : takes addr ep ≡ true)
-      (unopened : IsUnopened outs ends addr ep) (u : Taker) (is : taker wire addr ep ≡ Some u) where
+      (misses : (ask : Ask) → Beside ask → IsOutAsk takes ask → ⊥) where
     aside_of : (m : Asks transacts parts hand wire after later) → IsAside takes parts m.copy.at (ends m.copy.at)
         → IsOutAsk takes (call_in (transaction_of m.kind m.copy.queue) m.out m.last).ask → ⊥
     aside_of m (has, inl none) s =
@@ -98,24 +99,51 @@ module _ {W : Type 0} (begins : W → ℕ → Bool → W → Type 0) (Beside : A
         (not_same q.token.pid 0 (λ (i : q.token.pid ≡ 0). none q.current w0.element w0.here w0.published (sym w0.pid ∙ i))) refl refl
         s.token
 
-    out_beside : (m : Asks transacts parts hand wire after later) (b : Bool) → outs m.copy.at ≡ b
-        → IsOutAsk takes (call_in (transaction_of m.kind m.copy.queue) m.out m.last).ask
-        → (addr ≡ (call_in (transaction_of m.kind m.copy.queue) m.out m.last).ask.addr)
-        × (ep ≡ (call_in (transaction_of m.kind m.copy.queue) m.out m.last).ask.ep) → ⊥
-    out_beside m true streamed s both =
-        let its : ends m.copy.at ≡ endpoint_of m.copy.queue = asked_is m (ends m.copy.at) (piped.pipes m.copy.at streamed).named in
-        unopened m.copy.at streamed (ap (λ (x : Endpoint). x.addr) its ∙ sym both.0) (ap (λ (x : Endpoint). x.ep) its ∙ sym both.1)
-    out_beside m false off s both = aside_of m (piped.others m.copy.at (met m) off) s
+    module _ (addr ep : ℕ) (on : takes addr ep ≡ true) (u : Taker) (is : taker wire addr ep ≡ Some u) where
+      -- no queue head asks it but one that makes no transaction now
+      module _ (unasked : (m : Asks transacts parts hand wire after later) → outs m.copy.at ≡ true → (ends m.copy.at).addr ≡ addr
+          → (ends m.copy.at).ep ≡ ep → ⊥) where
+        out_beside : (m : Asks transacts parts hand wire after later) (b : Bool) → outs m.copy.at ≡ b
+            → IsOutAsk takes (call_in (transaction_of m.kind m.copy.queue) m.out m.last).ask
+            → (addr ≡ (call_in (transaction_of m.kind m.copy.queue) m.out m.last).ask.addr)
+            × (ep ≡ (call_in (transaction_of m.kind m.copy.queue) m.out m.last).ask.ep) → ⊥
+        out_beside m true streamed s both =
+            let its : ends m.copy.at ≡ endpoint_of m.copy.queue = asked_is m (ends m.copy.at) (piped.pipes m.copy.at streamed).named in
+            unasked m streamed (ap (λ (x : Endpoint). x.addr) its ∙ sym both.0) (ap (λ (x : Endpoint). x.ep) its ∙ sym both.1)
+        out_beside m false off s both = aside_of m (piped.others m.copy.at (met m) off) s
 
-    pub taker_waits : BothStreamEffect begins Beside transacts parts hand wire after now later → taker after addr ep ≡ Some u
-    taker_waits (begun index allowed begins_so told) = keeps wire index allowed after addr ep u begins_so on is
-    taker_waits (moved (same told quiet)) = ap (λ (v : W). taker v addr ep) quiet ∙ is
-    taker_waits (moved (aside told ask out reply other made)) =
-        bus.others wire ask out reply after addr ep u made on is (λ s both. misses ask other s)
-    taker_waits (moved (grows m all g)) =
-        bus.others wire (call_in (transaction_of m.kind m.copy.queue) m.out m.last).ask
-        (call_in (transaction_of m.kind m.copy.queue) m.out m.last).out m.reply after addr ep u m.made on is
-        (λ s both. out_beside m (outs m.copy.at) refl s both)
+        pub taker_still : BothStreamEffect begins Beside transacts parts hand wire after now later → taker after addr ep ≡ Some u
+        taker_still (begun index allowed begins_so told) = keeps wire index allowed after addr ep u begins_so on is
+        taker_still (moved (same told quiet)) = ap (λ (v : W). taker v addr ep) quiet ∙ is
+        taker_still (moved (aside told ask out reply other made)) =
+            bus.others wire ask out reply after addr ep u made on is (λ s both. misses ask other s)
+        taker_still (moved (grows m all g)) =
+            bus.others wire (call_in (transaction_of m.kind m.copy.queue) m.out m.last).ask
+            (call_in (transaction_of m.kind m.copy.queue) m.out m.last).out m.reply after addr ep u m.made on is
+            (λ s both. out_beside m (outs m.copy.at) refl s both)
+
+      -- the device stays as it is, or memory does
+      pub taker_or_parts : BothStreamEffect begins Beside transacts parts hand wire after now later
+          → (taker after addr ep ≡ Some u) ⊎ (now ≡ parts)
+      taker_or_parts (begun index allowed begins_so told) = inl (keeps wire index allowed after addr ep u begins_so on is)
+      taker_or_parts (moved (same told quiet)) = inl (ap (λ (v : W). taker v addr ep) quiet ∙ is)
+      taker_or_parts (moved (aside told ask out reply other made)) =
+          inl (bus.others wire ask out reply after addr ep u made on is (λ s both. misses ask other s))
+      taker_or_parts (moved (grows m all g)) = inr all
+
+      pub taker_waits : IsUnopened outs ends addr ep → BothStreamEffect begins Beside transacts parts hand wire after now later
+          → taker after addr ep ≡ Some u
+      taker_waits unopened = taker_still (λ m streamed. unopened m.copy.at streamed)
+
+      -- the queue head that asks it is idle
+      pub idle_waits : (n : ℕ) (q : Qh) → parts n n ≡ Some (QueueHead q) → q.token.active ≡ false
+          → ((i : ℕ) → outs i ≡ true → (ends i).addr ≡ addr → (ends i).ep ≡ ep → i ≡ n)
+          → BothStreamEffect begins Beside transacts parts hand wire after now later → taker after addr ep ≡ Some u
+      idle_waits n q head idle alone =
+          taker_still (λ m streamed same also.
+          let at : m.copy.at ≡ n = alone m.copy.at streamed same also in
+          let its : m.copy.queue ≡ q = found_queue (parts n n) m.copy.queue q (ap (λ (i : ℕ). parts i i) (sym at) ∙ m.here) head in
+          false≢true (sym idle ∙ ap (λ (r : Qh). r.token.active) (sym its) ∙ m.works))
 
   -- ---- a queue head that isn't met
 

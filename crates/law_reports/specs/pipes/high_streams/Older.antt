@@ -1,11 +1,12 @@
 -- Of a script whose endpoints are high-speed bulk and control ones, the streams that are claimed at high speed are all streams of data.
+--     HighKeepsAll       and where all of it is kept at high speed, all is kept that was said of such a script: also after its run
 --     HighSaysAsMuch     so what is said of the streams at high speed says as much of such a script as what is said of all its streams
 use Rattle.script_types.specs.declared.scripts.Script.{Script}
 use Rattle.claims_driver.specs.Scripts.{AsynchronousOnly}
 use Rattle.claims_world.specs.Streams.{InStreamsAreRightThroughout, OutStreamsAreTakenThroughout, OutStreamsAreSentThroughout}
-use Rattle.claims_world.specs.Streams.{StreamsAreRightAtTheEnd}
+use Rattle.claims_world.specs.Streams.{StreamsAreRightAtTheEnd, KeepsStreams}
 use Rattle.claims_world.specs.HighStreams.{HighInsAreRight, HighOutsAreTaken}
-use Rattle.law_reports.specs.pipes.high_streams.Whole.{HighOutsAreSent, HighStreamsEndRight}
+use Rattle.claims_world.specs.HighStreams.{HighOutsAreSent, HighStreamsEndRight, KeepsAllHighStreams}
 
 pub record HighSaysAll (s : Script) : Type 0 where
   pub ins : HighInsAreRight s → InStreamsAreRightThroughout s
@@ -15,3 +16,6 @@ pub record HighSaysAll (s : Script) : Type 0 where
 
 abbrev pub HighSaysAsMuch : Type 0
 HighSaysAsMuch = (s : Script) → AsynchronousOnly s → HighSaysAll s
+
+abbrev pub HighKeepsAll : Type 0
+HighKeepsAll = (s : Script) → AsynchronousOnly s → KeepsAllHighStreams s → KeepsStreams s

@@ -39,7 +39,7 @@ use Rattle.bus_world.specs.World.{World}
 use Rattle.law_reports.specs.lines.Lined.{Lines}
 use Rattle.law_reports.specs.lines.TellingLaws.{IsToldWorld}
 use Rattle.claims_world.specs.HighStreams.{claimed, AreHighInStreams, AreHighTakenStreams}
-use Rattle.law_reports.specs.pipes.high_streams.Whole.{AreHighSentStreams, AreHighStreams}
+use Rattle.claims_world.specs.HighStreams.{AreHighSentStreams, AreHighStreams}
 use Rattle.law_opened.specs.Opened.{OpensOnce, OpensFit}
 use Rattle.law_reports.specs.pipes.high_streams.Opened.{AreOpened}
 

@@ -24,7 +24,7 @@ use Rattle.bus_world.specs.World.{World}
 use Rattle.law_reports.specs.pipes.Declared.{sides_of}
 use Rattle.law_reports.specs.pipes.Piped.{HasFollowed}
 use Rattle.law_reports.specs.pipes.high_streams.Reports.{IsHigh}
-use Rattle.law_reports.specs.pipes.high_streams.Whole.{HighOutsAreSent, HighStreamsEndRight}
+use Rattle.claims_world.specs.HighStreams.{HighOutsAreSent, HighStreamsEndRight}
 
 abbrev pub HaveHighTakers : Script → World → Type 0
 HaveHighTakers s w = (e : ℕ) (x : Endpoint) → slice_get w.driver.endpoints e ≡ Some x → IsHigh s x.desc → receives x.desc.name.way ≡ false

@@ -10,7 +10,7 @@
 --     IsMovedWhole d m y   where the qTD of y that is read next isn't halted, all its bytes were moved
 --     HarvestOwes          a harvest of one that is done: its bytes are reported
 --     WaitOwes             .. and of one that isn't
-use Rattle.std.specs.Prelude.{◌≡◌, ◌≢◌, ℕ, ◌*◌, ◌<◌, Bool, true, false, List, [], length, slice_get, slice_set, Some, None, Ok}
+use Rattle.std.specs.Prelude.{◌≡◌, ◌≢◌, ℕ, ◌*◌, ◌<◌, true, false, List, [], length, slice_get, slice_set, Some, None, Ok}
 use Rattle.usb_base.specs.declared.commands.Cmd.{Cmd}
 use Rattle.word_mem.specs.Memory.{Mem}
 use Rattle.mem_runs.specs.Book.{holding, Stands}
@@ -37,7 +37,7 @@ use Rattle.claims_driver.specs.Scripts.{receives, OpensAsynchronous}
 use Rattle.law_driver.specs.chained_transfers.AsynchronousTurns.{AsynchronousTakesTurns}
 use Rattle.law_driver.specs.chained_transfers.Out.{out_now}
 use Rattle.law_structures.specs.lent_structures.Structures.{StructureSets, Tells}
-use Rattle.law_structures.specs.lent_structures.Sound.{IsMember}
+use Rattle.law_ring.specs.QueueParts.{IsQueuePart}
 use Rattle.law_ring.specs.Hand.{Hand}
 use Rattle.law_ring.specs.Told.{Told}
 use Rattle.claims_report.specs.Streams.{has_stream}
@@ -111,9 +111,9 @@ IsMovedWhole d m y = (token_in m y.place).halted ≡ false → moved_of (note_at
 
 -- both before and after it the report tells what was harvested; a control endpoint has no stream, of which something is reported
 abbrev pub HarvestOwes : Type 0
-HarvestOwes = (member : ℕ → Bool) (order : ℕ → ℕ) (p : Parts) (parts : StructureSets) (hand : Hand) (e t : ℕ) (found : Found) (acc : List (List ℕ)) (puts reported told : ℕ → List ℕ)
+HarvestOwes = (order : ℕ → ℕ) (p : Parts) (parts : StructureSets) (hand : Hand) (e t : ℕ) (found : Found) (acc : List (List ℕ)) (puts reported told : ℕ → List ℕ)
     → (due : IsHarvestDue p e t found) → found ≢ founds.Active
-    → HasOwners p.driver → AsynchronousTakesTurns p.driver → AreFed p.driver parts → Tells p.memory parts → IsMember member (32 * due.endpoint.queue) (parts (32 * due.endpoint.queue))
+    → HasOwners p.driver → AsynchronousTakesTurns p.driver → AreFed p.driver parts → Tells p.memory parts → IsQueuePart (32 * due.endpoint.queue) (parts (32 * due.endpoint.queue))
     → (has_stream due.endpoint.desc.kind ≡ true → (a : ℕ) (z : List ℕ) → IsOutEarlier (note_in p.driver.notes) e t p.driver.transfers a → Told hand parts (32 * due.endpoint.queue) a z → z ≡ [])
     → (has_stream due.endpoint.desc.kind ≡ true → IsReported order (out_now p.driver e) hand parts (32 * due.endpoint.queue) acc (reported (32 * due.endpoint.queue)))
     → (receives due.endpoint.desc.name.way ≡ false → IsMovedWhole p.driver p.memory due.transfer)

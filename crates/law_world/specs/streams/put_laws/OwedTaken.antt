@@ -33,6 +33,7 @@ use Rattle.law_driver.specs.chained_transfers.Out.{out_now}
 use Rattle.law_structures.specs.lent_structures.Structures.{StructureSets, Tells}
 use Rattle.law_structures.specs.lent_structures.Sound.{IsMember}
 use Rattle.law_ring.specs.Hand.{Hand}
+use Rattle.law_ring.specs.QueueParts.{IsQueuePart}
 use Rattle.claims_base.specs.Controller.{Base}
 use Rattle.law_ring.specs.Ring.{IsInHand}
 use Rattle.law_ring.specs.Told.{Endpoint as Told, endpoint_of}
@@ -145,7 +146,7 @@ AlikeStayStopped = (p : Parts) (parts : StructureSets) → AsynchronousTakesTurn
     → EndedAreStopped (after_driver_row (driver_row p) p).driver parts
 
 abbrev pub HarvestStops : Type 0
-HarvestStops = (member : ℕ → Bool) (order : ℕ → ℕ) (out : List ℕ) (p : Parts) (parts : StructureSets) (hand : Hand) (e t : ℕ) (found : Found) → (due : IsHarvestDue p e t found)
-    → HasOwners p.driver → AsynchronousTakesTurns p.driver → AreFed p.driver parts → Tells p.memory parts → IsMember member (32 * due.endpoint.queue) (parts (32 * due.endpoint.queue))
+HarvestStops = (order : ℕ → ℕ) (out : List ℕ) (p : Parts) (parts : StructureSets) (hand : Hand) (e t : ℕ) (found : Found) → (due : IsHarvestDue p e t found)
+    → HasOwners p.driver → AsynchronousTakesTurns p.driver → AreFed p.driver parts → Tells p.memory parts → IsQueuePart (32 * due.endpoint.queue) (parts (32 * due.endpoint.queue))
     → (receives due.endpoint.desc.name.way ≡ false → AreSentWhole order out hand (32 * due.endpoint.queue) (parts (32 * due.endpoint.queue)))
     → EndedAreStopped p.driver parts → EndedAreStopped (after_driver_row (rows.Harvest e t found) p).driver parts

@@ -1,5 +1,5 @@
 -- The report after a script's run is that of the moment with no order left.
-use Rattle.std.proofs.Common.{ℕ, [], ap, sym, subst, refl}
+use Rattle.std.proofs.Common.{◌≡◌, ℕ, [], ap, sym, subst, refl}
 use Rattle.script_types.specs.declared.scripts.Script.{Script}
 use Rattle.bus_wire.specs.Bus.{fixed_of}
 use Rattle.bus_world.specs.Budgets.{moment}
@@ -16,12 +16,22 @@ use Rattle.law_reports.proofs.lemmas.pipes.lemmas.high_streams.Joining.{texts_ke
 
 -- what is so of the report of each moment is so of that after the run
 module _ (so : WholeReport → Type 0) where
-  after_run : (s : Script) → ((k : ℕ) → so (report_of (fixed_of s) (moment s k).world)) → (w : Standing) → IsWholeRunOf s w
+  pub after_run : (s : Script) → ((k : ℕ) → so (report_of (fixed_of s) (moment s k).world)) → (w : Standing) → IsWholeRunOf s w
       → so (report_of w.fixed w.world)
   after_run s each w ran =
       let led = subst (λ f. Leads f (at_place (opening_world s) (orders_of s.lines)) (at_place w.world [])) refl ran.led in
       subst (λ f. so (report_of f w.world)) (sym ran.fixed)
       (subst (λ v. so (report_of (fixed_of s) v)) (ap (λ (p : OrderedWorld). p.world) led.there) (each led.count))
+
+-- .. and so is what is so of that with no order left
+module _ (so : WholeReport → Type 0) where
+  pub at_end : (s : Script) → ((k : ℕ) → (moment s k).orders ≡ [] → so (report_of (fixed_of s) (moment s k).world)) → (w : Standing)
+      → IsWholeRunOf s w → so (report_of w.fixed w.world)
+  at_end s each w ran =
+      let led = subst (λ f. Leads f (at_place (opening_world s) (orders_of s.lines)) (at_place w.world [])) refl ran.led in
+      subst (λ f. so (report_of f w.world)) (sym ran.fixed)
+      (subst (λ v. so (report_of (fixed_of s) v)) (ap (λ (p : OrderedWorld). p.world) led.there)
+      (each led.count (ap (λ (p : OrderedWorld). p.orders) led.there)))
 
 pub keeps_after : (s : Script) → KeepsHighThroughout s → KeepsHighStreams s
 keeps_after s k = record {

@@ -18,7 +18,11 @@ use Rattle.drv_table.specs.Words.{is_high}
 use Rattle.law_world.proofs.lemmas.streams.lemmas.right_reports.Right.{all_mapped}
 use Rattle.bus_world.specs.Budgets.{moment}
 use Rattle.claims_world.specs.HighStreams.{claimed}
-use Rattle.law_reports.specs.pipes.high_streams.Older.{HighSaysAsMuch}
+use Rattle.claims_world.specs.Streams.{AreTakenStreams, AreSentStreams, KeepsStreamsThroughout}
+use Rattle.claims_report.specs.Streams.{AreRightStreams}
+use Rattle.claims_world.specs.HighStreams.{KeepsAllHighStreams}
+use Rattle.law_reports.specs.pipes.high_streams.Older.{HighSaysAll, HighSaysAsMuch, HighKeepsAll}
+use Rattle.law_reports.proofs.lemmas.pipes.lemmas.high_streams.AfterRuns.{after_run, at_end}
 
 accepted_by : (b : Bool) (l : Line) (cmd : Cmd) → AsynchronousLine l → (if b then None else command_in l) ≡ Some cmd → OpensAsynchronous cmd
 accepted_by true l cmd k is = absurd cc
@@ -83,3 +87,26 @@ high_says_as_much s only = record {
       all_kept s only (report_of (fixed_of s) (moment s i).world)
       (λ x. IsRightStream s (report_of (fixed_of s) (moment s i).world) x.name) (k i none);
 }
+
+-- ---- all of the older clause
+
+older_throughout : (s : Script) → AsynchronousOnly s → KeepsAllHighStreams s → KeepsStreamsThroughout s
+older_throughout s only k =
+    let says : HighSaysAll s = high_says_as_much s only in
+    record {
+      ins = says.ins k.kept.throughout.ins;
+      taken = says.taken k.kept.throughout.taken;
+      sent = says.sent k.sent_throughout;
+      at_the_end = says.all k.at_the_end;
+    }
+
+pub high_keeps_all : HighKeepsAll
+high_keeps_all s only k =
+    let older : KeepsStreamsThroughout s = older_throughout s only k in
+    record {
+      throughout = older;
+      taken = after_run (AreTakenStreams s) s older.taken;
+      sent = after_run (AreSentStreams s) s older.sent;
+      all = at_end (AreRightStreams s) s older.at_the_end;
+      printed = k.kept.printed;
+    }

@@ -52,6 +52,14 @@ out_way : (way : Way) → receives way ≡ false → way ≡ ways.Out
 out_way ways.Out is = refl
 out_way _ is = absurd (false≢true (sym is))
 
+-- its devices have a taker for each that was opened
+pub high_takes : (s : Script) (t : Standing) (m : Lines) (h : Heads) (w : World) → IsPiped (fixed_of s) (sides_of s) t m h w → (e : ℕ)
+    (y : Endpoint) → slice_get w.driver.endpoints e ≡ Some y → IsHigh s y.desc → receives y.desc.name.way ≡ false
+    → (sides_of s).takes y.desc.name.addr y.desc.name.num ≡ true
+high_takes s t m h w k e y here high leaves =
+    subst (λ (v : Way). IsDeclaredBy (sides_of s) y.desc v) (out_way y.desc.name.way leaves) (k.declared e y here)
+    ∙ and_from (has_stream y.desc.kind) (is_high y.desc.speed) high.stream (ap is_high high.speed)
+
 module _ (s : Script) (t : Standing) (m : Lines) (h : Heads) (w : World) (f : IsFollowed (fixed_of s) (sides_of s) t m h w) (e : ℕ)
     (y : Endpoint) (here : slice_get w.driver.endpoints e ≡ Some y) (high : IsHigh s y.desc)
     (leaves : receives y.desc.name.way ≡ false) where
@@ -62,8 +70,7 @@ module _ (s : Script) (t : Standing) (m : Lines) (h : Heads) (w : World) (f : Is
   way = out_way y.desc.name.way leaves
 
   takes : (sides_of s).takes y.desc.name.addr y.desc.name.num ≡ true
-  takes = subst (λ (v : Way). IsDeclaredBy (sides_of s) y.desc v) way (k.declared e y here)
-      ∙ and_from (has_stream y.desc.kind) (is_high y.desc.speed) high.stream (ap is_high high.speed)
+  takes = high_takes s t m h w f.piped e y here high leaves
 
   its_queue : is_iso y.desc.kind ≡ false
   its_queue = no_iso y.desc.kind high.stream

@@ -51,10 +51,24 @@ use Rattle.law_reports.proofs.lemmas.pipes.Opening.{new_world_is_piped}
 use Rattle.law_reports.specs.pipes.puts.Sent.{AreSent, HasSent}
 use Rattle.law_reports.specs.pipes.puts.SentLaws.{NewWorldIsSent, ControllerKeepsSent, DriverKeepsSent, CommandKeepsSent, ScriptsAreSent}
 use Rattle.law_reports.specs.pipes.puts.SentLaws.{TextsAreSent}
-use Rattle.law_reports.proofs.lemmas.pipes.lemmas.puts.Steps.{out_reported, out_part, step_sends, opened_sends}
+use Rattle.law_reports.proofs.lemmas.pipes.lemmas.puts.Steps.{IsThereOut, reported_at, part_at, step_sends, opened_sends}
 
 module _ (fixed : Fixed) (x : Sides) (s : Standing) (m : Lines) (h : Heads) (w : World) (k : IsPiped fixed x s m h w)
     (sent : AreSent s h.outs) where
+  out_head : (n : ℕ) → h.outs n ≡ true → IsThereOut w.driver n
+  out_head n on =
+      let is : IsHeadOf w.driver ways.Out n =
+      head_of w.driver s.near x.sends x.takes h.ins h.outs h.ends k.mixed.queues.queues.met k.by_way ways.Out n on
+      (k.pipes.out_ends.members n on) in
+      record {
+        number = is.head.number;
+        endpoint = is.head.endpoint;
+        here = is.head.here;
+        there = is.head.met.there;
+        way_is = is.way_is;
+        at = is.head.at;
+      }
+
   -- ---- an event of the controller
 
   pub controlled_sends : AreSent (standing_then s w (c fixed x s m h w k).event) h.outs
@@ -63,10 +77,11 @@ module _ (fixed : Fixed) (x : Sides) (s : Standing) (m : Lines) (h : Heads) (w :
       let is : IsMixedControlled fixed s w = c fixed x s m h w k in
       let describing : IsDescribing w.driver s.descs s.parts =
       record { owners = f.place.sound.owners; driven = f.driven; described = f.described } in
-      let r = out_reported fixed x s m h w k sent n on in
+      let o : IsThereOut w.driver n = out_head n on in
+      let r = reported_at s m w k.mixed k.telling n o in
       sends_whole begins_by transacts_by opening_base s.member (met w.driver s.recent) w.driver s.descs s.parts s.hand s.frame
       (controller_parts w) (wired fixed w) (wired fixed (controller_next fixed w)) is.event.now is.event.later is.event.frame_later
-      describing f.runs is.event.effect (s.order n) r.place (s.out n) n r.told (out_part fixed x s m h w k sent n on)
+      describing f.runs is.event.effect (s.order n) r.place (s.out n) n r.told (part_at s m w k.mixed k.telling n o)
       (k.pipes.out_pipes.pipes n on).outs r.accounts (sent n on)
 
   -- ---- an endpoint was opened
@@ -121,7 +136,9 @@ module _ (fixed : Fixed) (x : Sides) (s : Standing) (m : Lines) (h : Heads) (w :
     lines = next.lines;
     heads = heads_left fixed x s m h w k t;
     piped = driven fixed x s m h w k t step other mixed next;
-    sent = λ n on. step_sends fixed x s m h w k sent n (and_parts (h.outs n) (t.near n) on).0 (driver_next w) t step other;
+    sent = λ n on.
+        let was : h.outs n ≡ true = (and_parts (h.outs n) (t.near n) on).0 in
+        step_sends s m w k.mixed k.telling n (out_head n was) (sent n was) (driver_next w) t step other;
   }
 
   by_step : (t : Standing) (step : QueueStep s w (driver_next w) t) → IsMixedAt t (driver_next w)
@@ -132,8 +149,7 @@ module _ (fixed : Fixed) (x : Sides) (s : Standing) (m : Lines) (h : Heads) (w :
     heads = heads_opened fixed x s m h w k at t alike opened mixed next;
     piped = opened_piped fixed x s m h w k at t alike opened mixed next;
     sent = λ n on.
-        opened_sends fixed x s m h w k sent at t opened n
-        (λ differs. outs_were at t alike opened mixed next n differs on);
+        opened_sends s w k.mixed at t opened n (λ differs. sent n (outs_were at t alike opened mixed next n differs on));
   }
   by_step t (stays _ none still) mixed next = by_other t (stays t none still) tt mixed next
   by_step t (harvests e u found due later row out) mixed next = by_other t (harvests e u found due later row out) tt mixed next

@@ -1,5 +1,14 @@
 -- The worked rows.
-use Rattle.std.proofs.Common.{◌≡◌, ℕ, zero, suc, ◌++◌, slice_get, Option, Some, None, true, ap, refl, sym, subst, ◌∙◌}
+use Rattle.std.proofs.Common.{◌≡◌, ℕ, zero, suc, List, [], ◌∷◌, ◌++◌, slice_get, Option, Some, None, true, ap, refl, sym, subst, ◌∙◌}
+use Rattle.std.proofs.Common.{inr}
+use Rattle.claims_base.specs.Prefix.{IsPrefix}
+use Rattle.drv_table.specs.declared.content.Endpoint.{Endpoint}
+use Rattle.drv_table.specs.declared.content.Transfer.{Transfer}
+use Rattle.law_driver_ring.specs.fed_queues.Places.{IsThere}
+use Rattle.law_world.specs.streams.put_laws.OwedTaken.{TakenBegin}
+use Rattle.law_world.specs.streams.put_laws.TakenPuts.{puts_at}
+use Rattle.law_reports.specs.pipes.puts.Paid.{HasPaid}
+use Rattle.law_reports.proofs.lemmas.pipes.lemmas.puts.PaidMoments.{scripts_are_paid, paid_begins}
 use Rattle.std.proofs.lemmas.Bool.{eqb-true, true≢false}
 use Rattle.usb_base.specs.declared.commands.Cmd.TheVariants as commands
 use Rattle.std.proofs.lemmas.Option.{same_Some}
@@ -33,7 +42,7 @@ use Rattle.law_reports.proofs.lemmas.pipes.FollowedMoments.{scripts_are_followed
 use Rattle.law_reports.proofs.lemmas.pipes.lemmas.high_streams.Names.{beside_mixed}
 use Rattle.law_reports.proofs.lemmas.pipes.lemmas.high_streams.Opened.{moments_are_opened}
 use Rattle.law_reports.specs.pipes.puts.Sent.{AreSent, HasSent}
-use Rattle.law_reports.specs.pipes.puts.Samples.{standing_of, cut_short, lone_world}
+use Rattle.law_reports.specs.pipes.puts.Samples.{standing_of, cut_short, lone_world, took_seven, with_puts, one_put}
 use Rattle.law_reports.specs.pipes.puts.Takers.{HaveHighTakers, TakenBeginsPuts}
 use Rattle.law_reports.proofs.lemmas.pipes.lemmas.puts.HighTakers.{followed_have_takers}
 use Rattle.law_reports.proofs.lemmas.pipes.lemmas.puts.Moments.{scripts_are_sent}
@@ -60,6 +69,12 @@ beside_declares = (refl, (refl, (refl, (tt, (tt, (tt, (tt, tt)))))))
 
 pub beside_moments : (k : ℕ) → HasSent (fixed_of beside_split) (sides_of beside_split) (moment beside_split k).world
 beside_moments k = scripts_are_sent beside_split beside_mixed.fits beside_mixed.bytes beside_mixed.opens beside_declares k
+
+pub beside_paid : (k : ℕ) → HasPaid (fixed_of beside_split) (sides_of beside_split) (puts_at beside_split k) (moment beside_split k).world
+beside_paid k = scripts_are_paid beside_split beside_mixed.fits beside_mixed.bytes beside_mixed.opens beside_declares k
+
+pub beside_begins : TakenBeginsPuts beside_split
+beside_begins k = paid_begins beside_split (puts_at beside_split k) (moment beside_split k).world (beside_paid k)
 
 pub beside_takers : (k : ℕ) → HaveHighTakers beside_split (moment beside_split k).world
 beside_takers k =
@@ -119,3 +134,37 @@ pub no_puts_begin : TakenBeginsPuts keyboard_and_disk
 no_puts_begin k e x t here high leaves is =
     let o : IsOpened keyboard_and_disk x.desc = moments_are_opened keyboard_and_disk two_are_mixed.fits k e x here in
     absurd (true≢false (sym (opens_in x.desc o.place o.number o.here) ∙ leaves))
+
+-- ---- a device that took a byte
+
+is_seven : (t : Taker) → took_seven 0 0 0 ≡ Some t → t.taken ≡ 7 ∷ []
+is_seven t is = ap (λ (u : Taker). u.taken) (same_Some t (record { taken = 7 ∷ []; expects = true }) (sym is))
+
+none_past_it : (e : ℕ) (x : Endpoint) (ts : List Transfer) → slice_get (with_puts ts).endpoints (suc e) ≡ Some x → ⊥
+none_past_it zero x ts is = cc
+none_past_it (suc e) x ts is = cc
+
+pub put_seven : TakenBegin took_seven (with_puts (one_put ∷ [])) (λ t. 7 ∷ 8 ∷ []) 0
+put_seven zero x t here life sends is = (8 ∷ [], ap (λ (bytes : List ℕ). bytes ++ 8 ∷ []) (is_seven t is))
+put_seven (suc e) x t here life sends is = absurd (none_past_it e x (one_put ∷ []) here)
+
+is_there : (ts : List Transfer) → IsThere (with_puts ts) (record second { desc = sink })
+is_there ts = record { linked = λ is. cc; kept = refl }
+
+seven_eight : (rest : List ℕ) → (7 ∷ []) ++ rest ≡ 8 ∷ [] → ⊥
+seven_eight rest is = cc
+
+seven_none : (rest : List ℕ) → (7 ∷ []) ++ rest ≡ [] → ⊥
+seven_none rest is = cc
+
+pub put_other : TakenBegin took_seven (with_puts (one_put ∷ [])) (λ t. 8 ∷ []) 0 → ⊥
+put_other k =
+    let begins : IsPrefix (7 ∷ []) (8 ∷ []) =
+    k 0 (record second { desc = sink }) (record { taken = 7 ∷ []; expects = true }) refl (inr (is_there (one_put ∷ []))) refl refl in
+    seven_eight begins.0 begins.1
+
+pub put_nothing : TakenBegin took_seven (with_puts []) (λ t. 7 ∷ []) 0 → ⊥
+put_nothing k =
+    let begins : IsPrefix (7 ∷ []) [] =
+    k 0 (record second { desc = sink }) (record { taken = 7 ∷ []; expects = true }) refl (inr (is_there [])) refl refl in
+    seven_none begins.0 begins.1

@@ -1,14 +1,31 @@
 -- Each step of a queue leaves the qTDs of OUT endpoints at high speed sent whole and in turn.
-use Rattle.std.proofs.Common.{◌≡◌, ◌≢◌, ℕ, ◌*◌, Bool, true, false, if◌then◌else◌, List, [], ◌∷◌, ◌++◌, slice_get, Option, Some, None, ap}
+use Rattle.std.proofs.Common.{◌≡◌, ◌≢◌, ℕ, ◌*◌, Bool, true, false, if◌then◌else◌, List, [], ◌∷◌, ◌++◌}
+use Rattle.std.proofs.Common.{slice_get, Option, Some, None, ap, ◌==◌}
 use Rattle.std.proofs.Common.{refl, sym, subst, ◌∙◌, ⊎_elim, inl, inr}
 use Rattle.std.proofs.lemmas.Bool.{cases_eq, eq-eqb, true≢false}
+use Rattle.claims_driver.specs.Leaving.{HasOwners}
+use Rattle.drv_table.specs.Kinds.{is_iso}
+use Rattle.law_ring.specs.OutPipes.{IsOut}
+use Rattle.law_ring.proofs.Returning.{those_found}
+use Rattle.law_driver.proofs.lemmas.ring_members.Placed.{has_queue, queue_off_head}
+use Rattle.law_queues.proofs.lemmas.publish_laws.Apart.{thirty_two}
+use Rattle.law_world.specs.memory.pipe_steps.Pipes.{AsksTheWay, AreByWay}
+use Rattle.law_world.proofs.lemmas.memory.lemmas.pipe_steps.Sparing.{AsksRight}
+use Rattle.law_world.proofs.lemmas.memory.lemmas.pipe_steps.Lends.{lend_spares}
+use Rattle.law_world.proofs.lemmas.memory.lemmas.pipe_steps.Stores.{store_spares}
+use Rattle.usb_base.specs.declared.endpoints.EpName.{EpName}
+use Rattle.law_world.specs.memory.Mixed.{IsMixedAt}
+use Rattle.law_reports.specs.lines.Lined.{IsTelling}
+use Rattle.std.proofs.lemmas.Option.{same_Some}
+use Rattle.law_driver_ring.specs.fed_queues.Places.{IsMet}
+use Rattle.std.specs.Prelude.{◌⊎◌}
+use Rattle.drv_table.specs.declared.content.Endpoint.{Endpoint}
 use Rattle.qh_qtd.specs.declared.qtd.Qtd.{Qtd}
 use Rattle.qh_qtd.specs.declared.queue_head.Qh.{Qh}
 use Rattle.usb_base.specs.declared.endpoints.EpDesc.{EpDesc}
 use Rattle.usb_base.specs.declared.packets.Way.{Way}
 use Rattle.usb_base.specs.declared.packets.Way.TheVariants as ways
 use Rattle.mem_runs.specs.Book.{slot_of}
-use Rattle.bus_wire.specs.Bus.{Fixed}
 use Rattle.claims_base.specs.Controller.{opening_base}
 use Rattle.claims_report.specs.Streams.{has_stream}
 use Rattle.drv_table.specs.declared.content.Command.{Command}
@@ -16,13 +33,13 @@ use Rattle.drv_table.specs.declared.content.Command.TheVariants as unfinished
 use Rattle.drv_table.specs.declared.rows.Found.{Found}
 use Rattle.drv_table.specs.DriverContent.{DriverContent}
 use Rattle.drv_table.specs.Parts.{Parts as DriverParts}
-use Rattle.drv_table.specs.Words.{to_queue_head, dummy_qtd, is_control}
+use Rattle.drv_table.specs.Words.{to_queue_head, dummy_qtd, is_control, head_block}
 use Rattle.law_driver.specs.queued_drivers.Queued.{queued_kind, queued_endpoint, queued_command, with_queue, queued}
 use Rattle.law_driver.specs.run_owners.Due.{IsHarvestDue}
 use Rattle.law_driver.specs.chained_transfers.Out.{out_now}
-use Rattle.law_driver.proofs.lemmas.queued_drivers.CommandFields.{desc_same, get_queued}
+use Rattle.law_driver.proofs.lemmas.queued_drivers.CommandFields.{desc_same, name_same, get_queued}
 use Rattle.law_driver.proofs.lemmas.queued_drivers.RowLists.{queue_at}
-use Rattle.law_driver.proofs.lemmas.queued_drivers.RowOwners.{queued_owners, queued_lent}
+use Rattle.law_driver.proofs.lemmas.queued_drivers.RowOwners.{queued_lent}
 use Rattle.law_structures.specs.lent_structures.Structures.{QueueHead, Element, Structures, StructureSets, put}
 use Rattle.law_structures.proofs.lemmas.lent_structures.Names.{not_same, put_beside}
 use Rattle.law_structures.proofs.lemmas.lent_structures.Altering.{found_queue, found_element}
@@ -41,7 +58,7 @@ use Rattle.law_descriptors.proofs.Telling.{queue_off}
 use Rattle.law_descriptors.specs.PartLaws.{IsDescribing}
 use Rattle.law_driver_ring.specs.TransferLaws.{lent_driver}
 use Rattle.law_driver_ring.specs.fed_queues.Fed.{IsPublished}
-use Rattle.law_driver_ring.specs.fed_queues.Places.{AreMet, IsThere}
+use Rattle.law_driver_ring.specs.fed_queues.Places.{IsThere}
 use Rattle.law_driver_ring.proofs.lemmas.fed_queues.Places.{stands_met}
 use Rattle.law_frames.specs.FrameHand.{FrameHand}
 use Rattle.law_queues.specs.fed_harvests.Harvests.{with_out}
@@ -66,16 +83,12 @@ use Rattle.law_world.specs.memory.pipe_steps.Laws.{IsNoOpening}
 use Rattle.law_world.proofs.lemmas.memory.HarvestKept.{owners_of}
 use Rattle.law_world.proofs.lemmas.memory.PublishStores.{IsStoring, published_by}
 use Rattle.law_world.proofs.lemmas.memory.Unfinished.{none_unfinished}
-use Rattle.law_world.proofs.lemmas.memory.lemmas.pipe_steps.Begins.{opening_apart}
 use Rattle.law_reports.specs.lines.Lined.{in_hand, Lines, counted}
 use Rattle.law_reports.proofs.lemmas.lines.Heads.{there_alone, control_told, control_queue}
 use Rattle.law_reports.proofs.lemmas.lines.Same.{relinked_put}
 use Rattle.law_reports.proofs.lemmas.lines.ToldStores.{one_parts, one_out}
 use Rattle.bus_world.specs.World.{World, driver_parts, controller_parts}
-use Rattle.law_reports.specs.pipes.Declared.{Sides}
-use Rattle.law_reports.specs.pipes.Piped.{Heads, IsPiped}
-use Rattle.law_reports.proofs.lemmas.pipes.Names.{queue_same, IsHeadOf, IsMetHead, head_of}
-use Rattle.law_reports.specs.pipes.puts.Sent.{AreSent}
+use Rattle.law_reports.proofs.lemmas.pipes.Names.{WasQueued, was_queued, queue_same, kept_as, same_number}
 use Rattle.law_reports.proofs.lemmas.pipes.lemmas.puts.Whole.{ring_ends, told_ends, relinked_whole, fewer_whole, staying_among}
 use Rattle.law_reports.proofs.lemmas.pipes.lemmas.puts.Lent.{sends_on}
 use Rattle.law_reports.proofs.lemmas.pipes.lemmas.puts.Resting.{resting_ends}
@@ -90,41 +103,44 @@ among_fewer (x ∷ xs) ys zs fewer b (inr is) = inr (among_fewer xs ys zs fewer 
 none_opens : (b : ℕ) → ◌≡◌ {A = Option Command} None (Some (unfinished.Open b)) → ⊥
 none_opens b is = cc
 
-module _ (fixed : Fixed) (x : Sides) (s : Standing) (m : Lines) (h : Heads) (w : World) (k : IsPiped fixed x s m h w)
-    (sent : AreSent s h.outs) where
+-- an OUT endpoint that is there has its queue head at n
+pub record IsThereOut (d : DriverContent) (n : ℕ) : Type 0 where
+  pub number : ℕ
+  pub endpoint : Endpoint
+  pub here : slice_get d.endpoints number ≡ Some endpoint
+  pub there : IsThere (queued d) (queued_endpoint endpoint)
+  pub way_is : endpoint.desc.name.way ≡ ways.Out
+  pub at : n ≡ 32 * endpoint.queue
+
+module _ (s : Standing) (m : Lines) (w : World) (mixed : IsMixedAt s w) (telling : IsTelling s m w) (n : ℕ)
+    (is_out : IsThereOut w.driver n) where
   abbrev d : DriverContent
   d = queued w.driver
 
-  near_are : AreMet (queued w.driver) s.near
-  near_are = k.mixed.queues.queues.met
+  -- ---- what is known of its queue
 
-  -- ---- what is known of an OUT endpoint's queue
+  pub counts : counted w.driver n ≡ true
+  counts =
+      let v : Endpoint = is_out.endpoint in
+      let streams : has_stream (queued_endpoint v).desc.kind ≡ true =
+      ap (λ (c : EpDesc). has_stream c.kind) (desc_same v) ∙ ap (λ (way : Way). has_stream (queued_kind way)) is_out.way_is in
+      ap (counted w.driver) is_out.at ∙ ap (λ (q : ℕ). counted w.driver (32 * q)) (sym (queue_same v))
+      ∙ there_on (queued w.driver) is_out.number (queued_endpoint v) (get_queued w.driver.endpoints is_out.number v is_out.here)
+      is_out.there streams
 
-  pub out_counted : (n : ℕ) → h.outs n ≡ true → counted w.driver n ≡ true
-  out_counted n on =
-      let is : IsHeadOf w.driver ways.Out n =
-      head_of w.driver s.near x.sends x.takes h.ins h.outs h.ends near_are k.by_way ways.Out n on (k.pipes.out_ends.members n on) in
-      let v : IsMetHead w.driver n = is.head in
-      let streams : has_stream (queued_endpoint v.endpoint).desc.kind ≡ true =
-      ap (λ (c : EpDesc). has_stream c.kind) (desc_same v.endpoint) ∙ ap (λ (way : Way). has_stream (queued_kind way)) is.way_is in
-      ap (counted w.driver) v.at ∙ ap (λ (q : ℕ). counted w.driver (32 * q)) (sym (queue_same v.endpoint))
-      ∙ there_on (queued w.driver) v.number (queued_endpoint v.endpoint) (get_queued w.driver.endpoints v.number v.endpoint v.here)
-      v.met.there streams
+  pub reported_at : IsReported (s.order n) (s.out n) (in_hand s) s.parts n (m.acc n) (m.reported n)
+  reported_at = telling.moved n counts
 
-  pub out_reported : (n : ℕ) → h.outs n ≡ true
-      → IsReported (s.order n) (s.out n) (in_hand s) s.parts n (m.acc n) (m.reported n)
-  out_reported n on = k.telling.moved n (out_counted n on)
+  pub part_at : IsQueuePart n (s.parts n)
+  part_at = telling.sound n counts
 
-  pub out_part : (n : ℕ) → h.outs n ≡ true → IsQueuePart n (s.parts n)
-  out_part n on = k.telling.sound n (out_counted n on)
+  -- it isn't the queue head of an endpoint that is opened
+  pub opening_beside : (q : ℕ) → (queued w.driver).command ≡ Some (unfinished.Open q) → n ≢ 32 * q
+  opening_beside q opening same =
+      is_out.there.linked (opening ∙ ap (λ (b : ℕ). Some (unfinished.Open b))
+      (thirty_two q is_out.endpoint.queue (sym same ∙ is_out.at) ∙ sym (queue_same is_out.endpoint)))
 
-  module _ (n : ℕ) (on : h.outs n ≡ true) where
-    was : AreSentWhole (s.order n) (s.out n) (in_hand s) n (s.parts n)
-    was = sent n on
-
-    near : s.near n ≡ true
-    near = k.pipes.out_ends.members n on
-
+  module _ (was : AreSentWhole (s.order n) (s.out n) (in_hand s) n (s.parts n)) where
     still_sent : (t : Standing) → AreStill s t → AreSentWhole (t.order n) (t.out n) (in_hand t) n (t.parts n)
     still_sent t still =
         subst (λ (o : ℕ → ℕ → ℕ). AreSentWhole (o n) (t.out n) (in_hand t) n (t.parts n)) (sym still.order)
@@ -136,7 +152,7 @@ module _ (fixed : Fixed) (x : Sides) (s : Standing) (m : Lines) (h : Heads) (w :
 
     module _ (e t : ℕ) (found : Found) (due : IsHarvestDue (told_parts w) e t found) where
       there : IsThere (queued w.driver) due.endpoint
-      there = (stands_met (queued w.driver) e due.endpoint (k.mixed.turns.turns.asynchronous.endpoints e due.endpoint due.here)
+      there = (stands_met (queued w.driver) e due.endpoint (mixed.turns.turns.asynchronous.endpoints e due.endpoint due.here)
           due.goes_on (λ is. none_opens due.endpoint.queue (sym due.idle ∙ is))).there
 
       less : (left : List ℕ) → ((b : ℕ) → IsAmong b left → IsAmong b (out_now (queued w.driver) e)) → (b : ℕ)
@@ -144,7 +160,7 @@ module _ (fixed : Fixed) (x : Sides) (s : Standing) (m : Lines) (h : Heads) (w :
       less left fewer b among =
           ⊎_elim
           (λ (same : n ≡ 32 * due.endpoint.queue).
-          subst (IsAmong b) (sym (k.mixed.queues.queues.out_are e due.endpoint due.here there) ∙ ap s.out (sym same))
+          subst (IsAmong b) (sym (mixed.queues.queues.out_are e due.endpoint due.here there) ∙ ap s.out (sym same))
           (fewer b (subst (IsAmong b)
           (ap (λ (c : Bool). if c then left else s.out n) (eq-eqb n (32 * due.endpoint.queue) same)) among)))
           (λ (differs : n ≢ 32 * due.endpoint.queue).
@@ -179,13 +195,17 @@ module _ (fixed : Fixed) (x : Sides) (s : Standing) (m : Lines) (h : Heads) (w :
 
       lent_own : n ≡ 32 * l.endpoint.queue → AreSentWhole (order own) (out own) (in_hand s) own (now own)
       lent_own same =
-          let its : h.outs own ≡ true = ap h.outs (sym same) ∙ on in
+          let reported_own : IsReported (s.order own) (s.out own) (in_hand s) s.parts own (m.acc own) (m.reported own) =
+          subst (λ (j : ℕ). IsReported (s.order j) (s.out j) (in_hand s) s.parts j (m.acc j) (m.reported j)) same reported_at in
+          let part_own : IsQueuePart own (s.parts own) = subst (λ (j : ℕ). IsQueuePart j (s.parts j)) same part_at in
+          let was_own : AreSentWhole (s.order own) (s.out own) (in_hand s) own (s.parts own) =
+          subst (λ (j : ℕ). AreSentWhole (s.order j) (s.out j) (in_hand s) j (s.parts j)) same was in
           subst (λ (o : ℕ → ℕ). AreSentWhole o (out own) (in_hand s) own (now own)) (sym l.order_is)
           (subst (λ (es : List ℕ). AreSentWhole (new_order (queued w.driver) l.transfer l.further l.place (s.order own)) es (in_hand s) own
           (now own)) (sym l.out_is)
           (sends_on (queued w.driver) w.memory l.number l.transfer l.endpoint l.stage l.further
           (slot_of (lent_driver (queued w.driver) w.memory).book.slots) s.parts now (s.order own) (s.out own) (in_hand s) (m.acc own)
-          (m.reported own) l.place l.awaits l.pieces (out_part own its) l.last l.above (out_reported own its) (sent own its)))
+          (m.reported own) l.place l.awaits l.pieces part_own l.last l.above reported_own was_own))
 
       lent : AreSentWhole (order n) (out n) (in_hand s) n (parts_with get s.parts n)
       lent =
@@ -209,10 +229,10 @@ module _ (fixed : Fixed) (x : Sides) (s : Standing) (m : Lines) (h : Heads) (w :
       storing = record {
         command = is.command;
         made = is.made;
-        owners = owners_of s w k.mixed;
-        lent = queued_lent w.driver k.mixed.now.framed.place.lent (λ e t count iso. absurd (not_iso e t count iso));
-        turns = k.mixed.turns.turns;
-        queues = k.mixed.queues.queues;
+        owners = owners_of s w mixed;
+        lent = queued_lent w.driver mixed.now.framed.place.lent (λ e t count iso. absurd (not_iso e t count iso));
+        turns = mixed.turns.turns;
+        queues = mixed.queues.queues;
       }
 
       abbrev q : DriverParts
@@ -228,8 +248,8 @@ module _ (fixed : Fixed) (x : Sides) (s : Standing) (m : Lines) (h : Heads) (w :
           (one_parts (queued w.driver) s.parts b words its p)
           (subst (λ (es : ℕ → List ℕ). AreSentWhole (s.order n) (es n) (in_hand s) n (parts_stored its n))
           (one_out (queued w.driver) s.parts b words its p s.out (next_of q).driver)
-          (sent_stored q s.near s.streams s.ends s.parts s.order s.out b words storing (in_hand s) n k.mixed.queues.tails
-          (λ a t here active. (out_reported n on).accounts.complete a t here active) was))
+          (sent_stored q s.near s.streams s.ends s.parts s.order s.out b words storing (in_hand s) n mixed.queues.tails
+          (λ a t here active. reported_at.accounts.complete a t here active) was))
 
     -- ---- a stalled control endpoint is mended
 
@@ -242,21 +262,21 @@ module _ (fixed : Fixed) (x : Sides) (s : Standing) (m : Lines) (h : Heads) (w :
 
       control : is_control (with_queue owed.endpoint).desc.kind ≡ true
       control =
-          control_told owed.endpoint.desc.name.way owed.endpoint.desc.kind (k.mixed.turns.kinds_fit owed.number owed.endpoint owed.here)
+          control_told owed.endpoint.desc.name.way owed.endpoint.desc.kind (mixed.turns.kinds_fit owed.number owed.endpoint owed.here)
           owed.control
 
-      apart : n ≢ 32 * at.stalled.queue
-      apart same =
-          there_alone (queued w.driver) owed.number (with_queue owed.endpoint) (owners_of s w k.mixed) k.mixed.turns.turns.asynchronous
+      pub mend_apart : n ≢ 32 * at.stalled.queue
+      mend_apart same =
+          there_alone (queued w.driver) owed.number (with_queue owed.endpoint) (owners_of s w mixed) mixed.turns.turns.asynchronous
           its_own owed.kept control
-          (ap (λ (b : ℕ). counted w.driver (32 * b)) owed.queue ∙ ap (counted w.driver) (sym same) ∙ out_counted n on)
+          (ap (λ (b : ℕ). counted w.driver (32 * b)) owed.queue ∙ ap (counted w.driver) (sym same) ∙ counts)
 
       mended_sent : AreSentWhole (s.order n) (s.out n) (joined (hand_mended at s.hand) s.frame) n (parts_mended at n)
       mended_sent =
           let own : ℕ = 32 * at.stalled.queue in
           let later : Hand = joined (hand_mended at s.hand) s.frame in
           subst (λ (part : Structures). AreSentWhole (s.order n) (s.out n) later n part)
-          (sym (put_beside s.parts own own (QueueHead (mended at.stalled (head_at at))) n apart))
+          (sym (put_beside s.parts own own (QueueHead (mended at.stalled (head_at at))) n mend_apart))
           (with_hand (s.order n) (s.out n) (in_hand s) later n (s.parts n)
           (ring_ends n s.hand (hand_mended at s.hand) s.frame (stale_ends own s.hand n) was.ends) was)
 
@@ -266,8 +286,7 @@ module _ (fixed : Fixed) (x : Sides) (s : Standing) (m : Lines) (h : Heads) (w :
         → AreSentWhole (s.order n) (s.out n) (in_hand s) n (parts_opened at s.parts n)
     begun at =
         let own : ℕ = 32 * at.endpoint.queue in
-        let differs : n ≢ own = opening_apart (queued w.driver) s.near at.number at.endpoint
-        (queued_owners w.driver k.mixed.now.framed.place.sound.owners k.mixed.turns) near_are at.here at.command at.fresh n near in
+        let differs : n ≢ own = opening_beside at.endpoint.queue at.command in
         subst (λ (part : Structures). AreSentWhole (s.order n) (s.out n) (in_hand s) n part)
         (sym (put_beside (put s.parts own own (QueueHead at.queue)) own (32 * at.endpoint.dummy) (Element dummy_qtd) n differs
         ∙ put_beside s.parts own own (QueueHead at.queue) n differs)) was
@@ -313,60 +332,168 @@ module _ (fixed : Fixed) (x : Sides) (s : Standing) (m : Lines) (h : Heads) (w :
     step_sends new _ (narrows member fewer row are wider) other = was
     step_sends new _ (goes e y d t back is) other = without t (32 * y.queue) is
 
-  -- ---- the end of an open
+    -- ---- its qTDs are OUTs
 
-  module _ (at : IsOpenThere (queued w.driver) s.parts) where
-    abbrev new : ℕ
-    new = 32 * at.endpoint.queue
+    abbrev none : ℕ → ℕ → Bool
+    none addr ep = false
 
-    is_dummy : (a : ℕ) (u : Qtd) → s.parts (32 * at.endpoint.queue) a ≡ Some (Element u) → dummy_qtd ≡ u
-    is_dummy a u here =
-        found_element (s.parts new (32 * at.endpoint.dummy)) dummy_qtd u at.part.dummy
-        (ap (s.parts new) (sym (at.part.only a u here)) ∙ here)
+    abbrev off : ℕ → Bool
+    off i = false
 
-    resting : (q : Qh) → s.parts (32 * at.endpoint.queue) (32 * at.endpoint.queue) ≡ Some (QueueHead q) → q.token.active ≡ false
-    resting q here =
-        ap (λ (r : Qh). r.token.active) (sym (found_queue (s.parts new new) at.part.queue q at.part.here here)) ∙ at.part.rests.idle
+    abbrev single : ℕ → Bool
+    single i = i == n
 
-    none_of : owns s.descs new ≡ false
-    none_of =
-        let f = k.mixed.now.framed in
-        let describing : IsDescribing w.driver s.descs s.parts =
-        record { owners = f.place.sound.owners; driven = f.driven; described = f.described } in
-        queue_off w.driver s.descs s.parts describing new new (QueueHead at.part.queue) at.part.here
+    owners : HasOwners w.driver
+    owners = mixed.now.framed.place.sound.owners
 
-    ends : EndsWhole (in_hand s) (32 * at.endpoint.queue)
-    ends =
-        resting_ends opening_base s.member (met w.driver s.recent) (both s.descs s.parts) s.hand s.frame (controller_parts w)
-        k.mixed.now.framed.runs new
-        (λ q here works.
-        true≢false (sym works ∙ resting q (ap (λ (part : Structures). part new) (sym (both_off s.descs s.parts new none_of)) ∙ here)))
+    its_kept : (is_out.endpoint.gone ≡ false) × (is_iso is_out.endpoint.desc.kind ≡ false)
+    its_kept = kept_as is_out.endpoint is_out.there.kept
 
-    new_sent : AreSentWhole (s.order new) [] (in_hand s) new (s.parts new)
-    new_sent =
-        beginning_whole (s.order new) (in_hand s) new (s.parts new) ends resting
-        (λ a u here.
-        let same : dummy_qtd ≡ u = is_dummy a u here in (
-          ap (λ (v : Qtd). v.token.active) (sym same),
-          ap (λ (v : Qtd). v.token.halted) (sym same),
-          ap (λ (v : Qtd). v.token.total) (sym same),
-        ))
+    -- no other endpoint that is met has its queue head
+    its_way : (e : ℕ) (u : Endpoint) → slice_get (queued w.driver).endpoints e ≡ Some u → IsMet (queued w.driver) e u → 32 * u.queue ≡ n
+        → u.desc.name.way ≡ ways.Out
+    its_way e u here is_met same =
+        let v : WasQueued w.driver.endpoints e u = was_queued w.driver.endpoints e u here in
+        let kept = kept_as v.endpoint (ap (λ (y : Endpoint). y.gone) (sym v.is) ∙ is_met.there.kept) in
+        let place : 32 * v.endpoint.queue ≡ 32 * is_out.endpoint.queue =
+        ap (λ (q : ℕ). 32 * q) (sym (queue_same v.endpoint)) ∙ ap (λ (y : Endpoint). 32 * y.queue) (sym v.is) ∙ same ∙ is_out.at in
+        let one : e ≡ is_out.number =
+        same_number w.driver owners e is_out.number v.endpoint is_out.endpoint v.here is_out.here kept its_kept place in
+        let is : v.endpoint ≡ is_out.endpoint =
+        same_Some v.endpoint is_out.endpoint (sym v.here ∙ ap (slice_get w.driver.endpoints) one ∙ is_out.here) in
+        ap (λ (y : Endpoint). y.desc.name.way) v.is ∙ ap (λ (name : EpName). name.way) (name_same v.endpoint)
+        ∙ ap (λ (y : Endpoint). y.desc.name.way) is ∙ is_out.way_is
 
-    module _ (t : Standing) (opened : HasOpened s t at.endpoint) (n : ℕ) (before : n ≢ 32 * at.endpoint.queue → h.outs n ≡ true) where
-      told_before : AreSentWhole (s.order n) (with_none s.out new n) (in_hand s) n (s.parts n)
-      told_before =
-          ⊎_elim
-          (λ (same : n ≡ new).
-          subst (λ (j : ℕ). AreSentWhole (s.order j) (with_none s.out new j) (in_hand s) j (s.parts j)) (sym same)
-          (subst (λ (es : List ℕ). AreSentWhole (s.order new) es (in_hand s) new (s.parts new))
-          (sym (ap (λ (b : Bool). if b then [] else s.out new) (eq-eqb new new refl))) new_sent))
-          (λ (differs : n ≢ new).
-          subst (λ (es : List ℕ). AreSentWhole (s.order n) es (in_hand s) n (s.parts n))
-          (sym (ap (λ (b : Bool). if b then [] else s.out n) (not_same n new differs))) (sent n (before differs))) (cases_eq n new)
+    in_out : ways.In ≡ ways.Out → ⊥
+    in_out e = cc
 
-      pub opened_sends : AreSentWhole (t.order n) (t.out n) (in_hand t) n (t.parts n)
-      opened_sends =
-          subst (λ (o : ℕ → ℕ → ℕ). AreSentWhole (o n) (t.out n) (in_hand t) n (t.parts n)) (sym opened.order)
-          (subst (λ (o : ℕ → List ℕ). AreSentWhole (s.order n) (o n) (in_hand t) n (t.parts n)) (sym opened.out)
-          (relinked_whole (s.order n) (with_none s.out new n) (in_hand s) (in_hand t) n (s.parts n) (t.parts n) (opened.told.parts n)
-          (told_ends s t n opened.told) told_before))
+    control_out : ways.Ctl ≡ ways.Out → ⊥
+    control_out e = cc
+
+    asks_its_way : (e : ℕ) (u : Endpoint) → slice_get (queued w.driver).endpoints e ≡ Some u → IsMet (queued w.driver) e u
+        → (way : Way) → u.desc.name.way ≡ way → AsksTheWay none none off single s.ends (32 * u.queue) way
+    asks_its_way e u here is_met ways.Out is = (refl, inr refl)
+    asks_its_way e u here is_met ways.In is =
+        (not_same (32 * u.queue) n (λ same. in_out (sym is ∙ its_way e u here is_met same)), inr refl)
+    asks_its_way e u here is_met ways.Ctl is =
+        (refl, not_same (32 * u.queue) n (λ same. control_out (sym is ∙ its_way e u here is_met same)), refl, refl)
+
+    by_way : AreByWay (queued w.driver) none none off single s.ends
+    by_way = record {
+      each = λ e u here is_met. asks_its_way e u here is_met u.desc.name.way refl;
+      head = (
+        refl,
+        not_same (32 * head_block) n (λ same.
+            queue_off_head w.driver is_out.number is_out.endpoint owners is_out.here (has_queue is_out.endpoint its_kept.1 its_kept.0)
+            (thirty_two is_out.endpoint.queue head_block (sym is_out.at ∙ sym same))),
+      );
+    }
+
+    single_here : (n == n) ≡ true
+    single_here = eq-eqb n n refl
+
+    module _ (outs : IsOut (s.parts n)) where
+      either : (a : ℕ) (u : Qtd) → u.token.active ≡ true
+          → (s.parts n a ≡ Some (Element u)) ⊎ AsksRight none none off single s.ends n u.token.pid → u.token.pid ≡ 0
+      either a u on asks =
+          ⊎_elim (λ (was_there : s.parts n a ≡ Some (Element u)). outs a u was_there on)
+          (λ (right : AsksRight none none off single s.ends n u.token.pid). right.out_one single_here) asks
+
+      pub step_outs : (new : World) (t : Standing) (step : QueueStep s w new t) → IsNoOpening step → IsOut (t.parts n)
+      step_outs new _ (stays t none_of still) other = λ a u here on. outs a u ((still.told.parts n).elements_were a u here) on
+      step_outs new _ (harvests e t found due later row after) other = outs
+      step_outs new _ (returns t y z row r) other =
+          λ a u here on. outs a u (those_found s.parts (32 * z.queue) _ n a (Element u) here) on
+      step_outs new _ (lends b words get order out row behind) other =
+          λ a u here on.
+          either a u on
+          ((lend_spares s w mixed b words get none none off single s.ends by_way order out behind (λ i. true) (in_hand s)).asks n a u refl
+          here on)
+      step_outs new _ (stores b words p is) other =
+          λ a u here on.
+          either a u on
+          ((store_spares s w new mixed b words p is none none off single s.ends by_way (λ i. true) (in_hand s)).asks n a u refl here on)
+      step_outs new _ (mends at row) other =
+          let own : ℕ = 32 * at.stalled.queue in
+          subst IsOut (sym (put_beside s.parts own own (QueueHead (mended at.stalled (head_at at))) n (mend_apart at))) outs
+      step_outs new _ (begins at row alike) other =
+          let own : ℕ = 32 * at.endpoint.queue in
+          let differs : n ≢ own = opening_beside at.endpoint.queue at.command in
+          subst IsOut (sym (put_beside (put s.parts own own (QueueHead at.queue)) own (32 * at.endpoint.dummy) (Element dummy_qtd) n differs
+          ∙ put_beside s.parts own own (QueueHead at.queue) n differs)) outs
+      step_outs new _ (opens at t alike opened) other = absurd other
+      step_outs new _ (unlinks at row) other =
+          λ a u here on.
+          outs a u ((relinked_put s.parts (32 * at.before) at.queue (to_queue_head at.after) at.head n).elements_were a u here) on
+      step_outs new _ (narrows member fewer row are wider) other = outs
+      step_outs new _ (goes e y d t back is) other =
+          subst (λ (ps : StructureSets). IsOut (ps n)) (sym is.parts)
+          (λ a u here on. outs a u (those_found s.parts (32 * y.queue) (λ b. true) n a (Element u) here) on)
+
+-- ---- the end of an open
+
+module _ (s : Standing) (w : World) (mixed : IsMixedAt s w) (at : IsOpenThere (queued w.driver) s.parts) where
+  abbrev new : ℕ
+  new = 32 * at.endpoint.queue
+
+  is_dummy : (a : ℕ) (u : Qtd) → s.parts (32 * at.endpoint.queue) a ≡ Some (Element u) → dummy_qtd ≡ u
+  is_dummy a u here =
+      found_element (s.parts new (32 * at.endpoint.dummy)) dummy_qtd u at.part.dummy
+      (ap (s.parts new) (sym (at.part.only a u here)) ∙ here)
+
+  resting : (q : Qh) → s.parts (32 * at.endpoint.queue) (32 * at.endpoint.queue) ≡ Some (QueueHead q) → q.token.active ≡ false
+  resting q here =
+      ap (λ (r : Qh). r.token.active) (sym (found_queue (s.parts new new) at.part.queue q at.part.here here)) ∙ at.part.rests.idle
+
+  none_of : owns s.descs new ≡ false
+  none_of =
+      let f = mixed.now.framed in
+      let describing : IsDescribing w.driver s.descs s.parts =
+      record { owners = f.place.sound.owners; driven = f.driven; described = f.described } in
+      queue_off w.driver s.descs s.parts describing new new (QueueHead at.part.queue) at.part.here
+
+  ends : EndsWhole (in_hand s) (32 * at.endpoint.queue)
+  ends =
+      resting_ends opening_base s.member (met w.driver s.recent) (both s.descs s.parts) s.hand s.frame (controller_parts w)
+      mixed.now.framed.runs new
+      (λ q here works.
+      true≢false (sym works ∙ resting q (ap (λ (part : Structures). part new) (sym (both_off s.descs s.parts new none_of)) ∙ here)))
+
+  new_sent : AreSentWhole (s.order new) [] (in_hand s) new (s.parts new)
+  new_sent =
+      beginning_whole (s.order new) (in_hand s) new (s.parts new) ends resting
+      (λ a u here.
+      let same : dummy_qtd ≡ u = is_dummy a u here in (
+        ap (λ (v : Qtd). v.token.active) (sym same),
+        ap (λ (v : Qtd). v.token.halted) (sym same),
+        ap (λ (v : Qtd). v.token.total) (sym same),
+      ))
+
+  module _ (t : Standing) (opened : HasOpened s t at.endpoint) (n : ℕ) (before : n ≢ 32 * at.endpoint.queue
+      → AreSentWhole (s.order n) (s.out n) (in_hand s) n (s.parts n)) where
+    told_before : AreSentWhole (s.order n) (with_none s.out new n) (in_hand s) n (s.parts n)
+    told_before =
+        ⊎_elim
+        (λ (same : n ≡ new).
+        subst (λ (j : ℕ). AreSentWhole (s.order j) (with_none s.out new j) (in_hand s) j (s.parts j)) (sym same)
+        (subst (λ (es : List ℕ). AreSentWhole (s.order new) es (in_hand s) new (s.parts new))
+        (sym (ap (λ (b : Bool). if b then [] else s.out new) (eq-eqb new new refl))) new_sent))
+        (λ (differs : n ≢ new).
+        subst (λ (es : List ℕ). AreSentWhole (s.order n) es (in_hand s) n (s.parts n))
+        (sym (ap (λ (b : Bool). if b then [] else s.out n) (not_same n new differs))) (before differs)) (cases_eq n new)
+
+    pub opened_sends : AreSentWhole (t.order n) (t.out n) (in_hand t) n (t.parts n)
+    opened_sends =
+        subst (λ (o : ℕ → ℕ → ℕ). AreSentWhole (o n) (t.out n) (in_hand t) n (t.parts n)) (sym opened.order)
+        (subst (λ (o : ℕ → List ℕ). AreSentWhole (s.order n) (o n) (in_hand t) n (t.parts n)) (sym opened.out)
+        (relinked_whole (s.order n) (with_none s.out new n) (in_hand s) (in_hand t) n (s.parts n) (t.parts n) (opened.told.parts n)
+        (told_ends s t n opened.told) told_before))
+
+    outs_before : IsOut (s.parts new)
+    outs_before a u here on = absurd (true≢false (sym on ∙ ap (λ (v : Qtd). v.token.active) (sym (is_dummy a u here))))
+
+    pub opened_outs : (n ≢ 32 * at.endpoint.queue → IsOut (s.parts n)) → IsOut (t.parts n)
+    opened_outs others a u here on =
+        let was : s.parts n a ≡ Some (Element u) = (opened.told.parts n).elements_were a u here in
+        ⊎_elim (λ (same : n ≡ new). outs_before a u (ap (λ (i : ℕ). s.parts i a) (sym same) ∙ was) on)
+        (λ (differs : n ≢ new). others differs a u was on) (cases_eq n new)

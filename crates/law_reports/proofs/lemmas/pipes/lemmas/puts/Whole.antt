@@ -113,7 +113,7 @@ module _ (n : ℕ) (part : Structures) (p : IsQueuePart n part) where
   leads : LeadsAmong all link
   leads = record { to = 64; leads = refl; on = refl }
 
-  member : IsMember (λ m. true) n (put (λ m. part) n n (QueueHead (record p.queue { link = link })) n)
+  pub member : IsMember (λ m. true) n (put (λ m. part) n n (QueueHead (record p.queue { link = link })) n)
   member =
       let q : IsQueuePart n ringed = queue_part n part ringed same p in
       let is : record p.queue { link = link } ≡ q.queue =

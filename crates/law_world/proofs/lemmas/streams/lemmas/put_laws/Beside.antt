@@ -72,7 +72,7 @@ IsOut d t = suc t ≡ length d.transfers → (b : ℕ) (words : List ℕ) → d.
 publish_is : (c : Option Command) (b : ℕ) (words : List ℕ) → c ≡ None → c ≡ Some (unfinished.Publish b words) → ⊥
 publish_is c b words none is = let e : ◌≡◌ {A = Option Command} None (Some (unfinished.Publish b words)) = sym none ∙ is in cc
 
-waits_or_out : (d : DriverContent) (m : Mem) (t : ℕ) (o : Option Command) → d.command ≡ o → IsPublishing d m → Waits d m t ⊎ IsOut d t
+pub waits_or_out : (d : DriverContent) (m : Mem) (t : ℕ) (o : Option Command) → d.command ≡ o → IsPublishing d m → Waits d m t ⊎ IsOut d t
 waits_or_out d m t None is publishing = inr (λ newest b words publish. absurd (publish_is d.command b words is publish))
 waits_or_out d m t (Some (unfinished.Publish b words)) is publishing =
     ⊎_elim
@@ -92,7 +92,7 @@ waits_or_out d m t (Some (unfinished.Unchain e)) is publishing =
     inr (λ newest b words publish. let f : ◌≡◌ {A = Option Command} (Some (unfinished.Unchain e)) (Some (unfinished.Publish b words)) = sym is ∙ publish in absurd (cc))
 
 -- the runs of its buffers are kept, and their words stay
-waiting_held : (d : DriverContent) (m new : Mem) (t : ℕ) (y : Transfer) (b : ℕ) (words : List ℕ) (k : IsToBeLent d m b words) → t ≡ k.number → slice_get d.transfers t ≡ Some y → y.sort ≡ sorts.Put → Stands (holding d.book m)
+pub waiting_held : (d : DriverContent) (m new : Mem) (t : ℕ) (y : Transfer) (b : ℕ) (words : List ℕ) (k : IsToBeLent d m b words) → t ≡ k.number → slice_get d.transfers t ≡ Some y → y.sort ≡ sorts.Put → Stands (holding d.book m)
     → ((at : ℕ) → reaches m at ≡ false → word_at new at ≡ word_at m at) → held_bytes new d.notes y.first y.qtds ≡ held_bytes m d.notes y.first y.qtds
 waiting_held d m new t y b words k number there put stands same =
     let is : y ≡ k.transfer = same_Some y k.transfer (sym there ∙ ap (slice_get d.transfers) number ∙ k.there) in

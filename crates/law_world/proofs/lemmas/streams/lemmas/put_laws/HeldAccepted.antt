@@ -49,7 +49,7 @@ use Rattle.law_world.proofs.lemmas.streams.lemmas.put_laws.Stored.{IsStored, pie
 -- ---- words of what is lent
 
 -- where no command is unfinished each of them is lent
-idle_bytes : (d : DriverContent) (m new : Mem) (parts : StructureSets) (t i : ℕ) (y : Transfer) → d.command ≡ None → AsynchronousTakesTurns d → Tells m parts → AreFed d parts → Leaves m new → slice_get d.transfers t ≡ Some y → y.sort ≡ sorts.Put → y.released ≡ false → i < y.qtds
+pub idle_bytes : (d : DriverContent) (m new : Mem) (parts : StructureSets) (t i : ℕ) (y : Transfer) → d.command ≡ None → AsynchronousTakesTurns d → Tells m parts → AreFed d parts → Leaves m new → slice_get d.transfers t ≡ Some y → y.sort ≡ sorts.Put → y.released ≡ false → i < y.qtds
     → SameBytes m new (note_at d.notes (piece_at (note_in d.notes) y.first i))
 idle_bytes d m new parts t i y idle turns tells fed leaves there put held below =
     let moves : MovesAs d y = turns.asynchronous.moves t y there in

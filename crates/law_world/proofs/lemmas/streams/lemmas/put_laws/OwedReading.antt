@@ -1,17 +1,18 @@
 -- What the report tells of a queue, and what a harvest adds to it, is one list of bytes.
-use Rattle.std.proofs.Common.{◌≡◌, ℕ, zero, suc, ◌-◌, ◌*◌, ◌<◌, ◌≤◌, Bool, true, false, List, [], ◌∷◌, ◌++◌, slice_get, Option, Some, None, option_map, ap, refl, sym, subst, ◌∙◌, ⊎_elim, arith}
+use Rattle.std.proofs.Common.{◌≡◌, ℕ, zero, suc, ◌-◌, ◌*◌, ◌<◌, ◌≤◌, true, false, List, [], ◌∷◌, ◌++◌, length, take, slice_get, Option, Some, None, option_map, ap, refl, sym, subst, ◌∙◌, ⊎_elim, arith}
 use Rattle.std.proofs.lemmas.Bool.{cases_lt}
 use Rattle.std.proofs.lemmas.List.{append_assoc, append_cancel_left, append_cancel_right, nil_from_length}
 use Rattle.word_mem.specs.Memory.{Mem}
 use Rattle.qh_qtd.specs.declared.qtd.Qtd.{Qtd}
+use Rattle.qh_qtd.specs.declared.token.Token.{Token}
 use Rattle.qh_qtd.specs.declared.queue_head.Qh.{Qh}
 use Rattle.law_structures.specs.lent_structures.Structures.{StructureSets, Tells}
-use Rattle.law_structures.specs.lent_structures.Sound.{IsMember, HasBuffer}
+use Rattle.law_structures.specs.lent_structures.Sound.{HasBuffer}
 use Rattle.law_structures.proofs.lemmas.lent_structures.Altering.{found_element, found_queue}
 use Rattle.law_ring.specs.Hand.{Hand}
-use Rattle.law_ring.specs.Effects.{buffer_of}
+use Rattle.law_ring.specs.Effects.{bytes_in, buffer_of}
 use Rattle.law_ring.specs.Told.{Told, hand_bytes}
-use Rattle.law_ring.proofs.QueueParts.{member_part}
+use Rattle.law_ring.specs.QueueParts.{IsQueuePart}
 use Rattle.law_ring.specs.Order.{AllTold, none_out, one_out}
 use Rattle.usb_base.specs.declared.endpoints.EndCause.{EndCause}
 use Rattle.claims_report.specs.Streams.{told_in, has_stream}
@@ -24,9 +25,10 @@ use Rattle.law_driver.specs.chained_transfers.Turns.{AreInTurn, AreReportedTo, t
 use Rattle.law_driver.proofs.lemmas.chained_transfers.Harvesting.{turn_at}
 use Rattle.law_queues.specs.told_endpoints.Telling.{named_of, lines_in}
 use Rattle.law_driver_ring.specs.told_harvests.Held.{IsDone, AreHeld, none_held, one_held, IsRead}
-use Rattle.law_driver_ring.proofs.lemmas.told_harvests.Noting.{found_done}
+use Rattle.law_driver_ring.proofs.lemmas.told_harvests.Done.{done_in_part}
+use Rattle.law_driver_ring.proofs.lemmas.told_harvests.Noting.{moved_is, found_done}
 use Rattle.law_driver_ring.specs.harvested_streams.Harvested.{IsNoted}
-use Rattle.law_driver_ring.proofs.lemmas.harvested_streams.Harvesting.{done_harvested}
+use Rattle.law_driver_ring.proofs.lemmas.harvested_streams.Harvesting.{token_read, bytes_read}
 use Rattle.law_queues.specs.harvest_laws.Holds.{IsNextOf}
 use Rattle.law_driver_ring.specs.fed_queues.Places.{IsThere}
 use Rattle.law_queues.specs.harvest_laws.Told.{ToldStands}
@@ -128,9 +130,10 @@ more_is reported more bytes others told all one two same =
 
 -- ---- the bytes that are read
 
-pub bytes_are : (member : ℕ → Bool) (m : Mem) (parts : StructureSets) (hand : Hand) (n b : ℕ) (bytes : List ℕ) (note : QtdNote) → Tells m parts → IsMember member n (parts n) → IsRead (parts n) note b → (token_in m b).active ≡ false
+pub bytes_are : (m : Mem) (parts : StructureSets) (hand : Hand) (n b : ℕ) (bytes : List ℕ) (note : QtdNote) → Tells m parts
+    → IsQueuePart n (parts n) → IsRead (parts n) note b → (token_in m b).active ≡ false
     → Told hand parts n (32 * b) bytes → bytes ≡ buffer_bytes m note (moved_of note.told (token_in m b).total)
-bytes_are member m parts hand n b bytes note tells on read off told = ⊎_elim some none (cases_lt 0 note.told)
+bytes_are m parts hand n b bytes note tells on read off told = ⊎_elim some none (cases_lt 0 note.told)
   where
     moved : ℕ
     moved = moved_of note.told (token_in m b).total
@@ -139,11 +142,19 @@ bytes_are member m parts hand n b bytes note tells on read off told = ⊎_elim s
     some few =
         let has : HasBuffer (parts n) read.qtd note.told = read.buffer few in
         let noted : IsNoted note read.qtd has.bytes = record { told = sym has.size; places = λ j below. let size = has.size in read.places j (omega (arith, below, size)) } in
-        sym (done_harvested member m parts hand n b read.qtd has.bytes note bytes tells on read.here has.here noted off told)
+        let token : token_in m b ≡ read.qtd.token = token_read m parts n b read.qtd tells read.here in
+        let idle : read.qtd.token.active ≡ false = ap (λ (z : Token). z.active) (sym token) ∙ off in
+        let count : moved_of note.told (token_in m b).total ≡ length has.bytes - read.qtd.token.total =
+        moved_is note.told (token_in m b).total ∙ ap (λ (i : ℕ). i - (token_in m b).total) noted.told
+        ∙ ap (λ (z : Token). length has.bytes - z.total) token in
+        done_in_part parts hand n (32 * b) read.qtd bytes on read.here idle told
+        ∙ ap (λ (xs : List ℕ). take (length xs - read.qtd.token.total) xs) (ap bytes_in has.here)
+        ∙ sym (bytes_read m parts n read.qtd has.bytes note (length has.bytes - read.qtd.token.total) tells has.here noted (omega arith))
+        ∙ ap (buffer_bytes m note) (sym count)
 
     none : note.told ≤ 0 → bytes ≡ buffer_bytes m note (moved_of note.told (token_in m b).total)
     none low =
-        let done : IsDone hand parts n b (moved_of note.told (token_in m b).total) bytes = found_done m parts hand n b bytes note tells (member_part member n (parts n) on) read off told in
+        let done : IsDone hand parts n b (moved_of note.told (token_in m b).total) bytes = found_done m parts hand n b bytes note tells on read off told in
         let few = moved_few note.told (token_in m b).total in
         let zero_is : moved_of note.told (token_in m b).total ≡ 0 = omega (arith, few, low) in
         nil_from_length bytes (done.count ∙ zero_is) ∙ sym (no_bytes m note) ∙ ap (buffer_bytes m note) (sym zero_is)

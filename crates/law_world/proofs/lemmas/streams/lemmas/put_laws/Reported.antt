@@ -12,10 +12,9 @@ use Rattle.usb_base.specs.declared.packets.Way.TheVariants as ways
 use Rattle.claims_report.specs.Streams.{has_stream}
 use Rattle.word_mem.specs.Memory.{Mem}
 use Rattle.law_structures.specs.lent_structures.Structures.{StructureSets, Tells}
-use Rattle.law_structures.specs.lent_structures.Sound.{IsMember}
 use Rattle.law_ring.specs.Hand.{Hand}
 use Rattle.law_ring.specs.Told.{Told}
-use Rattle.law_ring.proofs.QueueParts.{member_part}
+use Rattle.law_ring.specs.QueueParts.{IsQueuePart}
 use Rattle.law_ring.specs.Order.{AllTold, Accounts}
 use Rattle.qh_qtd.specs.declared.token.Token.{Token}
 use Rattle.drv_table.specs.declared.content.Command.{Command}
@@ -92,7 +91,7 @@ next_then p e t found due turns =
 out_streams : (x : Endpoint) → StandsAsynchronous x → receives x.desc.name.way ≡ false → has_stream x.desc.kind ≡ true
 out_streams x s sends = ap has_stream (subst (λ (w : Way). IsKindOf w x.desc.kind) (way_sends x.desc.name.way sends) s.asynchronous.kind)
 
-module _ (member : ℕ → Bool) (order : ℕ → ℕ) (p : Parts) (parts : StructureSets) (hand : Hand) (e t : ℕ) (found : Found) (acc : List (List ℕ)) (puts reported told : ℕ → List ℕ) (due : IsHarvestDue p e t found) (differs : found ≢ founds.Active) (owners : HasOwners p.driver) (turns : AsynchronousTakesTurns p.driver) (bulk : due.endpoint.desc.kind ≡ kinds.Bulk) (fed : AreFed p.driver parts) (tells : Tells p.memory parts) (on_it : IsMember member (32 * due.endpoint.queue) (parts (32 * due.endpoint.queue)))
+module _ (order : ℕ → ℕ) (p : Parts) (parts : StructureSets) (hand : Hand) (e t : ℕ) (found : Found) (acc : List (List ℕ)) (puts reported told : ℕ → List ℕ) (due : IsHarvestDue p e t found) (differs : found ≢ founds.Active) (owners : HasOwners p.driver) (turns : AsynchronousTakesTurns p.driver) (bulk : due.endpoint.desc.kind ≡ kinds.Bulk) (fed : AreFed p.driver parts) (tells : Tells p.memory parts) (on_it : IsQueuePart (32 * due.endpoint.queue) (parts (32 * due.endpoint.queue)))
     (none : (a : ℕ) (z : List ℕ) → IsOutEarlier (note_in p.driver.notes) e t p.driver.transfers a → Told hand parts (32 * due.endpoint.queue) a z → z ≡ []) (r : IsReported order (out_now p.driver e) hand parts (32 * due.endpoint.queue) acc (reported (32 * due.endpoint.queue))) (whole : receives due.endpoint.desc.name.way ≡ false → IsMovedWhole p.driver p.memory due.transfer)
     (before : ToldStands p.driver hand parts reported) (after : ToldStands (after_driver_row (rows.Harvest e t found) p).driver hand parts told) (owes : Owes p.driver p.memory puts reported) where
   abbrev d : DriverContent
@@ -144,7 +143,7 @@ module _ (member : ℕ → Bool) (order : ℕ → ℕ) (p : Parts) (parts : Stru
   next_now = next_then p e t found due turns
 
   hr : HarvestReports order d new hand parts e x acc reported
-  hr = row_told order p parts hand e t found acc reported due differs owners turns bulk fed tells (member_part member (32 * due.endpoint.queue) (parts (32 * due.endpoint.queue)) on_it) none before r
+  hr = row_told order p parts hand e t found acc reported due differs owners turns bulk fed tells on_it none before r
 
   -- ---- what is reported then
 
@@ -219,7 +218,7 @@ module _ (member : ℕ → Bool) (order : ℕ → ℕ) (p : Parts) (parts : Stru
       all_once hand parts (32 * due.endpoint.queue) (s.before ++ s.behind) hr.right.told hf.others
       (subst (λ (out : List ℕ). AllTold hand parts (32 * due.endpoint.queue) out hr.right.told) (out_is ∙ s.is) hr.right.accounts.told) hf.accounts.told in
       more_is (reported (32 * due.endpoint.queue)) hr.bytes hf.bytes hf.others hr.right.told (concat acc) (ap (λ (us : List ℕ). reported (32 * due.endpoint.queue) ++ us) (sym hf.sum) ∙ r.sum) hr.right.sum same
-      ∙ bytes_are member m parts hand (32 * due.endpoint.queue) y.place hf.bytes (note_at d.notes y.place) tells on_it is_read off hf.told
+      ∙ bytes_are m parts hand (32 * due.endpoint.queue) y.place hf.bytes (note_at d.notes y.place) tells on_it is_read off hf.told
 
   pub row_owes : Owes (after_driver_row (rows.Harvest e t found) p).driver p.memory puts told
   row_owes = paid_owes d new m e t x y turns due.idle due.here due.goes_on due.next due.there due.waits k puts reported told hr.bytes bytes_is whole told_here told_beside owes
@@ -244,8 +243,8 @@ kinds_of ways.Ctl kind is = inr is
 kinds_of _ kind is = inl is
 
 pub harvest_owes : HarvestOwes
-harvest_owes member order p parts hand e t found acc puts reported told due differs owners turns fed tells on_it none r whole before after owes =
-    ⊎_elim (λ (bulk : due.endpoint.desc.kind ≡ kinds.Bulk). row_owes member order p parts hand e t found acc puts reported told due differs owners turns bulk fed tells on_it (none (ap has_stream bulk)) (r (ap has_stream bulk)) whole before after owes)
+harvest_owes order p parts hand e t found acc puts reported told due differs owners turns fed tells on_it none r whole before after owes =
+    ⊎_elim (λ (bulk : due.endpoint.desc.kind ≡ kinds.Bulk). row_owes order p parts hand e t found acc puts reported told due differs owners turns bulk fed tells on_it (none (ap has_stream bulk)) (r (ap has_stream bulk)) whole before after owes)
     (λ (control : due.endpoint.desc.kind ≡ kinds.Control). other_owes p e t found due control turns puts reported told (nothing_told p e t found parts hand reported told due owners turns control before after) owes)
     (kinds_of due.endpoint.desc.name.way due.endpoint.desc.kind (turns.asynchronous.endpoints e due.endpoint due.here).asynchronous.kind)
 

@@ -87,7 +87,7 @@ slot_words : (h : Holding) (b : ℕ) (s : Slot) → (lend_slot h b s).memory.wor
 slot_words h b Empty = refl
 slot_words h b _ = refl
 
-runs_words : (h : Holding) (bs : List ℕ) → (lend_runs h bs).memory.words ≡ h.memory.words
+pub runs_words : (h : Holding) (bs : List ℕ) → (lend_runs h bs).memory.words ≡ h.memory.words
 unfolding lend_runs
 runs_words h [] = refl
 runs_words h (b ∷ bs) = runs_words (lend_slot h b (slot_at h b)) bs ∙ slot_words h b (slot_at h b)

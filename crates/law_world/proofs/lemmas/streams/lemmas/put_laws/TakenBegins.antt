@@ -34,7 +34,7 @@ use Rattle.law_ring.specs.Ring.{IsInHand}
 use Rattle.law_ring.specs.Effects.{Effect}
 use Rattle.law_ring.specs.Effects.Effect.{reads, passes, ends, takes, makes, writes_back}
 use Rattle.law_ring.specs.Order.{AreAfter, IsSorted, IsAmong, Accounts}
-use Rattle.law_ring.specs.Front.{HasFront}
+use Rattle.law_ring.specs.Front.{HasFront, HasTail}
 use Rattle.law_ring.specs.Told.{Endpoint as Told}
 use Rattle.law_ring.specs.Pipes.{AreEndpoints}
 use Rattle.law_ring.specs.OutBus.{Taker, IsOutBus, KeepsTakers}
@@ -65,17 +65,17 @@ after_one order e c [] after among = absurd among
 after_one order e c (b ∷ bs) after (inl same) = let less = after.0 in let at = ap order same in omega (arith, less, at)
 after_one order e c (b ∷ bs) after (inr among) = after_one order e c bs after.1 among
 
-after_that : (order : ℕ → ℕ) (e c : ℕ) (ahead behind : List ℕ) → IsSorted order (ahead ++ e ∷ behind) → IsAmong c behind → order e < order c
+pub after_that : (order : ℕ → ℕ) (e c : ℕ) (ahead behind : List ℕ) → IsSorted order (ahead ++ e ∷ behind) → IsAmong c behind → order e < order c
 after_that order e c [] behind sorted among = after_one order e c behind sorted.0 among
 after_that order e c (a ∷ ahead) behind sorted among = after_that order e c ahead behind sorted.1 among
 
 -- ---- whether something is published to the endpoint
 
-record Publishes (d : DriverContent) (e : ℕ) : Type 0 where
-  block : ℕ
-  is : IsPublishingTo d e block
+pub record Publishes (d : DriverContent) (e : ℕ) : Type 0 where
+  pub block : ℕ
+  pub is : IsPublishingTo d e block
 
-same_newest : (d : DriverContent) (t u : ℕ) (y z : Transfer) → suc t ≡ length d.transfers → suc u ≡ length d.transfers → slice_get d.transfers t ≡ Some y → slice_get d.transfers u ≡ Some z → y ≡ z
+pub same_newest : (d : DriverContent) (t u : ℕ) (y z : Transfer) → suc t ≡ length d.transfers → suc u ≡ length d.transfers → slice_get d.transfers t ≡ Some y → slice_get d.transfers u ≡ Some z → y ≡ z
 same_newest d t u y z first second there here =
     let same : t ≡ u = omega (arith, first, second) in
     same_Some y z (sym there ∙ ap (slice_get d.transfers) same ∙ here)
@@ -83,7 +83,7 @@ same_newest d t u y z first second there here =
 not_published : (d : DriverContent) (e : ℕ) (o : Option Command) → d.command ≡ o → ((b : ℕ) (words : List ℕ) → o ≢ Some (unfinished.Publish b words)) → (b : ℕ) → IsPublishingTo d e b → ⊥
 not_published d e o is differs b k = differs b k.words (sym is ∙ k.command)
 
-publishes_or : (d : DriverContent) (parts : StructureSets) (e : ℕ) → AreFed d parts → Publishes d e ⊎ ((b : ℕ) → IsPublishingTo d e b → ⊥)
+pub publishes_or : (d : DriverContent) (parts : StructureSets) (e : ℕ) → AreFed d parts → Publishes d e ⊎ ((b : ℕ) → IsPublishingTo d e b → ⊥)
 publishes_or d parts e fed = by d.command refl
   where
     by : (o : Option Command) → d.command ≡ o → Publishes d e ⊎ ((b : ℕ) → IsPublishingTo d e b → ⊥)
@@ -102,7 +102,7 @@ publishes_or d parts e fed = by d.command refl
 
 -- ---- whether the queue head is halted
 
-stopped_or : (member : ℕ → Bool) (parts : StructureSets) (n : ℕ) → IsMember member n (parts n) → IsStopped parts n ⊎ (IsStopped parts n → ⊥)
+pub stopped_or : (member : ℕ → Bool) (parts : StructureSets) (n : ℕ) → IsMember member n (parts n) → IsStopped parts n ⊎ (IsStopped parts n → ⊥)
 stopped_or member parts n mem = by mem.queue.token.active mem.queue.token.halted refl refl
   where
     its : (k : IsStopped parts n) → k.0 ≡ mem.queue
@@ -144,10 +144,40 @@ gone_unmet d e x owners turns here gone =
       rung = not_listed d e x d.rung owners (omega arith) here gone;
     })
 
+-- ---- what was sent, in turn
+
+-- of a queue head that isn't halted: what its device took begins the bytes that were harvested and those of the qTDs that are out; while
+-- the one at e is published, of those ahead of it
+pub record IsToldInTurn (o : Option Taker) (z : Told) (parts : StructureSets) (hand : Hand) (n : ℕ) (order : ℕ → ℕ) (place : ℕ)
+    (told harvested : List ℕ) : Type 0 where
+  pub ordered : (out : List ℕ) → Accounts order place out hand parts n told → AreFresh out (parts n) → AreSentWhole order out hand n (parts n)
+      → (p : IsOutPipe o (harvested ++ told) parts hand n z) → IsPrefix p.taker.taken (harvested ++ buffers_of (parts n) out)
+  pub around : (front e : ℕ) (ahead behind : List ℕ) → Accounts order place (ahead ++ behind) hand parts n told
+      → HasFront order front (ahead ++ behind) n (parts n) → HasTail order e front n (parts n)
+      → ((c : ℕ) → IsAmong c behind → order e < order c) → AreSentWhole order (ahead ++ behind) hand n (parts n)
+      → (p : IsOutPipe o (harvested ++ told) parts hand n z) → IsPrefix p.taker.taken (harvested ++ buffers_of (parts n) ahead)
+
+pub told_in_turn : (member : ℕ → Bool) (parts : StructureSets) (hand : Hand) (reply : Reply) (n : ℕ) (order : ℕ → ℕ) (place : ℕ)
+    (told harvested : List ℕ) (o : Option Taker) (z : Told) → IsMember member n (parts n) → IsInHand member parts reply hand
+    → (IsStopped parts n → ⊥) → IsToldInTurn o z parts hand n order place told harvested
+told_in_turn member parts hand reply n order place told harvested o z mem in_hand goes_on = record {
+  ordered = λ out accounts fresh whole p.
+      taken_in_order member parts hand reply order place out n told harvested o z mem in_hand accounts fresh whole p
+      (λ stopped. absurd (goes_on stopped));
+  around = λ front e ahead behind accounts fronts tail below whole p.
+      taken_ahead member parts hand reply order place front ahead behind n e told harvested o z mem in_hand accounts fronts tail below whole p
+      (λ stopped. absurd (goes_on stopped));
+}
+
 -- ---- at a moment
 
 module _ (rest : BuffersAreRest) (before : BuffersBeforeLend) (around : BuffersAround) where
-  module _ (member : ℕ → Bool) (parts : StructureSets) (hand : Hand) (reply : Reply) (order : ℕ → ℕ → ℕ) (acc : List (List ℕ)) (d : DriverContent) (m : Mem) (puts reported : ℕ → List ℕ) (e : ℕ) (x : Endpoint) (o : Option Taker) (z : Told) (turns : AsynchronousTakesTurns d) (tells : Tells m parts) (fed : AreFed d parts) (last : AreLast d parts order) (owes : Owes d m puts reported) (here : slice_get d.endpoints e ≡ Some x) (meets : IsMet d e x) (sends : receives x.desc.name.way ≡ false) (goes : told_end x ≡ None) (mem : IsMember member (32 * x.queue) (parts (32 * x.queue))) (in_hand : IsInHand member parts reply hand) (rep : IsReported (order (32 * x.queue)) (out_now d e) hand parts (32 * x.queue) acc (reported (32 * x.queue))) (whole : AreSentWhole (order (32 * x.queue)) (out_now d e) hand (32 * x.queue) (parts (32 * x.queue))) (reaches : (b : ℕ) → IsPublishingTo d e b → Reaches d (parts (32 * x.queue)) (order (32 * x.queue)) (out_now d e) e x (32 * b)) (goes_on : IsStopped parts (32 * x.queue) → ⊥) where
+  -- however the bytes that were sent are told, they begin those of the qTDs that are out
+  module _ (parts : StructureSets) (hand : Hand) (order : ℕ → ℕ → ℕ) (acc : List (List ℕ)) (d : DriverContent) (m : Mem) (puts reported : ℕ → List ℕ) (e : ℕ) (x : Endpoint) (o : Option Taker) (z : Told) (turns : AsynchronousTakesTurns d) (tells : Tells m parts) (fed : AreFed d parts) (last : AreLast d parts order) (owes : Owes d m puts reported) (here : slice_get d.endpoints e ≡ Some x) (meets : IsMet d e x) (sends : receives x.desc.name.way ≡ false) (goes : told_end x ≡ None)
+      (rep : IsReported (order (32 * x.queue)) (out_now d e) hand parts (32 * x.queue) acc (reported (32 * x.queue)))
+      (whole : AreSentWhole (order (32 * x.queue)) (out_now d e) hand (32 * x.queue) (parts (32 * x.queue)))
+      (reaches : (b : ℕ) → IsPublishingTo d e b → Reaches d (parts (32 * x.queue)) (order (32 * x.queue)) (out_now d e) e x (32 * b))
+      (told : IsToldInTurn o z parts hand (32 * x.queue) (order (32 * x.queue)) rep.place rep.told (reported (32 * x.queue))) where
     abbrev n : ℕ
     n = 32 * x.queue
 
@@ -160,7 +190,7 @@ module _ (rest : BuffersAreRest) (before : BuffersBeforeLend) (around : BuffersA
     -- those that are out
     in_order : AreFresh (out_now d e) (parts n) → (p : IsOutPipe o (reported n ++ rep.told) parts hand n z) → IsPrefix p.taker.taken (reported n ++ buffers_of (parts n) (out_now d e))
     in_order fresh p =
-        taken_in_order member parts hand reply (order n) rep.place (out_now d e) n rep.told (reported n) o z mem in_hand rep.accounts fresh whole p (λ stopped. absurd (goes_on stopped))
+        told.ordered (out_now d e) rep.accounts fresh whole p
 
     at_rest : ((b : ℕ) → IsPublishingTo d e b → ⊥) → (p : IsOutPipe o (reported n ++ rep.told) parts hand n z) → IsPrefix p.taker.taken all
     at_rest none p =
@@ -197,8 +227,8 @@ module _ (rest : BuffersAreRest) (before : BuffersBeforeLend) (around : BuffersA
           let fronts : HasFront (order n) reach.stands.front (r.ahead ++ r.behind) n (parts n) = subst (λ (xs : List ℕ). HasFront (order n) reach.stands.front xs n (parts n)) r.out_are reach.stands.has in
           let sent : AreSentWhole (order n) (r.ahead ++ r.behind) hand n (parts n) = subst (λ (xs : List ℕ). AreSentWhole (order n) xs hand n (parts n)) r.out_are whole in
           behind_them (buffers_of (parts n) r.ahead) (buffer_bytes m (note_at d.notes b) (note_at d.notes b).told ++ buffers_of (parts n) r.behind) p.taker.taken r.rest_is
-          (taken_ahead member parts hand reply (order n) rep.place reach.stands.front r.ahead r.behind n (32 * b) rep.told (reported n) o z mem in_hand accounts fronts reach.tail
-          (λ c among. after_that (order n) (32 * b) c r.ahead r.behind sorted_so among) sent p (λ stopped. absurd (goes_on stopped)))
+          (told.around reach.stands.front (32 * b) r.ahead r.behind accounts fronts reach.tail
+          (λ c among. after_that (order n) (32 * b) c r.ahead r.behind sorted_so among) sent p)
 
       by_made : (made : ℕ) → d.made ≡ made → (p : IsOutPipe o (reported n ++ rep.told) parts hand n z) → IsPrefix p.taker.taken all
       by_made zero is p = to_be_lent is p
@@ -215,7 +245,9 @@ module _ (rest : BuffersAreRest) (before : BuffersBeforeLend) (around : BuffersA
   taken_begins member parts hand reply order acc d m puts reported e x o z turns tells fed last owes here meets sends goes mem in_hand rep whole reaches p stopped =
       ⊎_elim (λ (is : IsStopped parts (32 * x.queue)). stopped is)
       (λ (goes_on : IsStopped parts (32 * x.queue) → ⊥).
-      known_so member parts hand reply order acc d m puts reported e x o z turns tells fed last owes here meets sends goes mem in_hand rep whole reaches goes_on p) (stopped_or member parts (32 * x.queue) mem)
+      known_so parts hand order acc d m puts reported e x o z turns tells fed last owes here meets sends goes rep whole reaches
+      (told_in_turn member parts hand reply (32 * x.queue) (order (32 * x.queue)) rep.place rep.told (reported (32 * x.queue)) o z mem in_hand goes_on)
+      p) (stopped_or member parts (32 * x.queue) mem)
 
   -- ---- an event of the controller
 
@@ -260,13 +292,15 @@ module _ (rest : BuffersAreRest) (before : BuffersBeforeLend) (around : BuffersA
         let p = stand.piped.pipes k head.out in
         let out_is : out k ≡ out_now d e = stand.out_are e x here meets.there in
         let p_is : taker after x.desc.name.addr x.desc.name.num ≡ Some p.taker = ap (λ (a : ℕ). taker after a x.desc.name.num) (sym addressed.0) ∙ ap (taker after (ends_are k).addr) (sym addressed.1) ∙ p.is in
+        let rep : IsReported (order k) (out_now d e) later now k (acc k) (reported k) =
+        subst (λ (xs : List ℕ). IsReported (order k) xs later now k (acc k) (reported k)) out_is (stand.reports k head.counted) in
         subst (λ (t : Taker). IsPrefix t.taken (concat (puts_of d puts e))) (same_Some p.taker s (sym p_is ∙ is))
-        (known_so member now later (walk_place new).walk.reply order (acc k) d new.memory puts reported e x (taker after (ends_are k).addr (ends_are k).ep) (ends_are k) stand.turns controlled_now.ring.tells stand.fed stand.last stand.owes here meets sends goes
-        (controlled_now.ring.members k (endpoints.members k head.out)) controlled_now.ring.in_hand
-        (subst (λ (xs : List ℕ). IsReported (order k) xs later now k (acc k) (reported k)) out_is (stand.reports k head.counted))
+        (known_so now later order (acc k) d new.memory puts reported e x (taker after (ends_are k).addr (ends_are k).ep) (ends_are k) stand.turns controlled_now.ring.tells stand.fed stand.last stand.owes here meets sends goes rep
         (subst (λ (xs : List ℕ). AreSentWhole (order k) xs later k (now k)) out_is (stand.sent e x here meets sends))
         (λ b publishing. subst (λ (xs : List ℕ). Reaches d (now k) (order k) xs e x (32 * b)) out_is (stand.tails e b x here meets sends publishing))
-        (λ stopped. goes_on (subst (λ (ps : StructureSets). IsStopped ps k) unchanged stopped)) p)
+        (told_in_turn member now later (walk_place new).walk.reply k (order k) rep.place rep.told (reported k) (taker after (ends_are k).addr (ends_are k).ep) (ends_are k)
+        (controlled_now.ring.members k (endpoints.members k head.out)) controlled_now.ring.in_hand
+        (λ stopped. goes_on (subst (λ (ps : StructureSets). IsStopped ps k) unchanged stopped))) p)
       where
         goes : told_end x ≡ None
         goes = by (told_end x) refl

@@ -31,7 +31,7 @@ use Rattle.law_world.specs.streams.put_laws.OwedTaken.{TakenBegin, DriverKeepsTa
 use Rattle.law_world.proofs.lemmas.streams.lemmas.put_laws.Rests.{prefix_to, prefix_more, puts_kept, puts_push}
 use Rattle.law_world.proofs.lemmas.streams.lemmas.put_laws.Same.{life_or, idle_life}
 
-begins_all : (xs ys : List ℕ) → xs ≡ [] → IsPrefix xs ys
+pub begins_all : (xs ys : List ℕ) → xs ≡ [] → IsPrefix xs ys
 begins_all xs ys none = (ys, ap (λ (zs : List ℕ). zs ++ ys) none)
 
 -- ---- a row of the driver
@@ -51,7 +51,7 @@ driver_taken taker p puts wire opened k e x s here life sends is =
 -- ---- a command
 
 module _ {W : Type 0} (taker : W → ℕ → ℕ → Option Taker) (d : DriverContent) (m : Mem) (o : Offered) (puts now : ℕ → List ℕ) (wire : W) (keeps : KeepsPuts d puts now) (k : TakenBegin taker d puts wire) where
-  opened_taken : Opens d m o → TakenBegin taker o.driver now wire
+  pub opened_taken : Opens d m o → TakenBegin taker o.driver now wire
   opened_taken w e x s here life sends is =
       let new : Endpoint = new_endpoint w.desc (get_or (new_runs d w.holding_after) 0 0) (get_or (new_runs d w.holding_after) 1 0) in
       let same : concat (puts_of o.driver now e) ≡ concat (puts_of d puts e) =
@@ -93,7 +93,7 @@ module _ {W : Type 0} (taker : W → ℕ → ℕ → Option Taker) (d : DriverCo
         (set_which d.endpoints i.number e to _ x i.here (ap (λ (g : Offered). slice_get g.driver.endpoints e) (sym i.is) ∙ here))
 
   -- a cancel changes no transfer
-  cancelled_taken : Cancels d m o → TakenBegin taker o.driver now wire
+  pub cancelled_taken : Cancels d m o → TakenBegin taker o.driver now wire
   cancelled_taken i e x s here life sends is =
       let same : concat (puts_of d puts e) ≡ concat (puts_of o.driver now e) =
       sym (ap (λ (g : Offered). concat (puts_from now e 0 g.driver.transfers)) i.is ∙ ap concat (puts_kept puts now e d.transfers keeps)) in

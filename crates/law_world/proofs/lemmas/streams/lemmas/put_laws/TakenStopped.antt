@@ -45,7 +45,7 @@ use Rattle.law_driver_ring.proofs.lemmas.harvested_streams.Harvesting.{token_rea
 use Rattle.law_structures.specs.lent_structures.Structures.{QueueHead, Element, StructureSets, Tells}
 use Rattle.law_structures.proofs.lemmas.lent_structures.Names.{put_beside}
 use Rattle.law_structures.proofs.lemmas.lent_structures.Found.{back_beside}
-use Rattle.law_structures.specs.lent_structures.Sound.{IsMember}
+use Rattle.law_ring.specs.QueueParts.{IsQueuePart}
 use Rattle.law_structures.proofs.lemmas.lent_structures.Altering.{found_queue}
 use Rattle.law_ring.specs.Hand.{Hand, settled_queue_of}
 use Rattle.law_ring.specs.Ring.{IsCopied, IsSettled, IsInHand}
@@ -106,7 +106,7 @@ event_stopped begins transacts base member parts hand c wire after now later d c
 
 -- ---- rows of the driver by which no endpoint ends
 
-were_ended : (d f : DriverContent) (parts : StructureSets) → WereEnds d f → EndedAreStopped d parts → EndedAreStopped f parts
+pub were_ended : (d f : DriverContent) (parts : StructureSets) → WereEnds d f → EndedAreStopped d parts → EndedAreStopped f parts
 were_ended d f parts were ended e z cause here alive sends over =
     let w : WasEnd d e z = were e z here in
     subst (λ (q : ℕ). IsStopped parts (32 * q)) (sym w.queue) (ended e w.endpoint cause w.here (sym w.gone ∙ alive) (ap (λ (r : EpDesc). receives r.name.way) (sym w.desc) ∙ sends) (sym w.ends ∙ over))
@@ -190,7 +190,7 @@ module _ (d : DriverContent) (m : Mem) (e t : ℕ) (x : Endpoint) (y : Transfer)
   found_as false true last n tok halts = ended_as n (halt_of tok) (λ some. halts refl refl)
   found_as false false last n tok halts = done_as last n
 
-module _ (member : ℕ → Bool) (order : ℕ → ℕ) (out : List ℕ) (p : Parts) (parts : StructureSets) (hand : Hand) (e t : ℕ) (found : Found) (due : IsHarvestDue p e t found) (turns : AsynchronousTakesTurns p.driver) (fed : AreFed p.driver parts) where
+module _ (order : ℕ → ℕ) (out : List ℕ) (p : Parts) (parts : StructureSets) (hand : Hand) (e t : ℕ) (found : Found) (due : IsHarvestDue p e t found) (turns : AsynchronousTakesTurns p.driver) (fed : AreFed p.driver parts) where
   abbrev d : DriverContent
   d = p.driver
 
@@ -251,7 +251,7 @@ module _ (member : ℕ → Bool) (order : ℕ → ℕ) (out : List ℕ) (p : Par
       ∙ ap (λ (o : Option Transfer). (after_harvest d p.memory e t found (Some x) o).endpoints) due.there
       ∙ ap (λ (b : Bool). (if b then served (harvested_as d p.memory e t x y found) e else d).endpoints) due.waits
 
-  module _ (tells : Tells p.memory parts) (mem : IsMember member n (parts n)) (k : AreSentWhole order out hand n (parts n)) (halts : Halts) where
+  module _ (tells : Tells p.memory parts) (mem : IsQueuePart n (parts n)) (k : AreSentWhole order out hand n (parts n)) (halts : Halts) where
     token_is : token_in p.memory y.place ≡ piece.qtd.token
     token_is = token_read p.memory parts n y.place piece.qtd tells here
 
@@ -274,9 +274,9 @@ module _ (member : ℕ → Bool) (order : ℕ → ℕ) (out : List ℕ) (p : Par
     stopped = (mem.queue, mem.here, idle, halted)
 
 pub harvest_stops : HarvestStops
-harvest_stops member order out p parts hand e t found due owners turns fed tells mem sent ended i z cause there still sends over =
+harvest_stops order out p parts hand e t found due owners turns fed tells mem sent ended i z cause there still sends over =
     ⊎_elim (λ (was : slice_get p.driver.endpoints i ≡ Some z). ended i z cause was still sends over)
-    (λ (now : (z.queue ≡ due.endpoint.queue) × (z.desc ≡ due.endpoint.desc) × Halts member order out p parts hand e t found due turns fed).
+    (λ (now : (z.queue ≡ due.endpoint.queue) × (z.desc ≡ due.endpoint.desc) × Halts order out p parts hand e t found due turns fed).
     subst (λ (q : ℕ). IsStopped parts (32 * q)) (sym now.0)
-    (stopped member order out p parts hand e t found due turns fed tells mem (sent (ap (λ (r : EpDesc). receives r.name.way) (sym now.1) ∙ sends)) now.2))
-    ((ends_at member order out p parts hand e t found due turns fed).was i z cause (ap (λ (xs : List Endpoint). slice_get xs i) (sym (endpoints member order out p parts hand e t found due turns fed)) ∙ there) (told_some z cause over).ended)
+    (stopped order out p parts hand e t found due turns fed tells mem (sent (ap (λ (r : EpDesc). receives r.name.way) (sym now.1) ∙ sends)) now.2))
+    ((ends_at order out p parts hand e t found due turns fed).was i z cause (ap (λ (xs : List Endpoint). slice_get xs i) (sym (endpoints order out p parts hand e t found due turns fed)) ∙ there) (told_some z cause over).ended)

@@ -55,14 +55,14 @@ module _ (d : DriverContent) (line : ℕ) (name : EpName) (why : OfferError) (m 
   abbrev f : DriverContent
   f = refused_line d line name why
 
-  refused_held : HoldsPuts d m puts → HoldsPuts f m now
+  pub refused_held : HoldsPuts d m puts → HoldsPuts f m now
   refused_held held = record { each = λ t y there put kept. held.each t y there put kept ∙ sym (keeps t (slice_get_within d.transfers t y there)) }
 
-  refused_owes : AsynchronousTakesTurns d → HoldsPuts d m puts → Owes d m puts reported → Owes f m now reported
+  pub refused_owes : AsynchronousTakesTurns d → HoldsPuts d m puts → Owes d m puts reported → Owes f m now reported
   refused_owes turns held owes =
       alike_owes d f m m puts now reported turns (record { endpoints = refl; transfers = refl; notes = refl }) (λ x meets. record { linked = meets.linked; kept = meets.kept }) (λ x is. is) keeps held (refused_held held) owes
 
-  refused_begin : {W : Type 0} (taker : W → ℕ → ℕ → Option Taker) (wire : W) → TakenBegin taker d puts wire → TakenBegin taker f now wire
+  pub refused_begin : {W : Type 0} (taker : W → ℕ → ℕ → Option Taker) (wire : W) → TakenBegin taker d puts wire → TakenBegin taker f now wire
   refused_begin taker wire begin e z s here life sends is =
       prefix_to s.taken (concat (puts_of d puts e)) (concat (puts_of f now e)) (sym (ap concat (puts_kept puts now e d.transfers keeps)))
       (begin e z s here (⊎_elim (λ (gone : z.gone ≡ true). inl gone) (λ (there : IsThere f z). inr (record { linked = there.linked; kept = there.kept })) life) sends is)
@@ -101,7 +101,7 @@ comes_to d m o (commands.Cancel name) kept k = absurd kept
 comes_to d m o _ kept k = absurd k
 
 -- an endpoint that is opened or asked goes on
-accepted_ended : (d : DriverContent) (m : Mem) (o : Offered) (parts : StructureSets) → Opens d m o ⊎ Transfers d m o → EndedAreStopped d parts → EndedAreStopped o.driver parts
+pub accepted_ended : (d : DriverContent) (m : Mem) (o : Offered) (parts : StructureSets) → Opens d m o ⊎ Transfers d m o → EndedAreStopped d parts → EndedAreStopped o.driver parts
 accepted_ended d m o parts (inl opened) ended e z cause here kept sends over =
     let why : Opens d m o = opened in
     let new : Endpoint = new_endpoint why.desc (get_or (new_runs d why.holding_after) 0 0) (get_or (new_runs d why.holding_after) 1 0) in

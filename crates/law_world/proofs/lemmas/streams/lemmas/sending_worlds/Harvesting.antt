@@ -4,7 +4,8 @@ use Rattle.std.specs.List.{concat}
 use Rattle.bus_wire.specs.Bus.{Fixed}
 use Rattle.word_mem.specs.Memory.{Mem}
 use Rattle.law_structures.specs.lent_structures.Structures.{Tells}
-use Rattle.law_structures.specs.lent_structures.Sound.{IsMember}
+use Rattle.law_ring.specs.QueueParts.{IsQueuePart}
+use Rattle.law_ring.proofs.QueueParts.{member_part}
 use Rattle.law_ring.specs.Told.{Told}
 use Rattle.drv_table.specs.declared.content.Command.{Command}
 use Rattle.drv_table.specs.declared.content.Command.TheVariants as unfinished
@@ -102,8 +103,10 @@ module _ (fixed : Fixed) (takes : ℕ → ℕ → Bool) (member : ℕ → Bool) 
   its_met : IsMet w.driver e read.endpoint
   its_met = stands_met w.driver e read.endpoint (f.turns.asynchronous.endpoints e read.endpoint read.here) read.goes_on (λ is. no_open read.endpoint.queue (sym read.idle ∙ is))
 
-  on_it : IsMember member (32 * read.endpoint.queue) (s.parts (32 * read.endpoint.queue))
-  on_it = f.working.streaming.controlled.ring.members (32 * read.endpoint.queue) (f.queues.met.each e read.endpoint read.here its_met)
+  its_part : IsQueuePart (32 * read.endpoint.queue) (s.parts (32 * read.endpoint.queue))
+  its_part =
+      member_part member (32 * read.endpoint.queue) (s.parts (32 * read.endpoint.queue))
+      (f.working.streaming.controlled.ring.members (32 * read.endpoint.queue) (f.queues.met.each e read.endpoint read.here its_met))
 
   -- ---- what was sent
 
@@ -116,7 +119,7 @@ module _ (fixed : Fixed) (takes : ℕ → ℕ → Bool) (member : ℕ → Bool) 
   ended_then : EndedAreStopped (driver_next w).driver s.parts
   ended_then =
       to_next (λ (d : DriverContent). EndedAreStopped d s.parts)
-      (harvest_stops member (s.order (32 * read.endpoint.queue)) (s.out (32 * read.endpoint.queue)) (driver_parts w) s.parts s.hand e t found read owners f.turns f.queues.fed tells on_it
+      (harvest_stops (s.order (32 * read.endpoint.queue)) (s.out (32 * read.endpoint.queue)) (driver_parts w) s.parts s.hand e t found read owners f.turns f.queues.fed tells its_part
       (λ sends. k.sent e read.endpoint read.here its_met sends) k.ended)
 
   -- ---- what is still to be sent
@@ -141,7 +144,7 @@ module _ (fixed : Fixed) (takes : ℕ → ℕ → Bool) (member : ℕ → Bool) 
 
   pays : found ≢ founds.Active → Owes new w.memory puts left.reported
   pays differs =
-      harvest_owes member (s.order (32 * read.endpoint.queue)) (driver_parts w) s.parts s.hand e t found (s.acc (32 * read.endpoint.queue)) puts s.reported left.reported read differs owners f.turns f.queues.fed tells on_it
+      harvest_owes (s.order (32 * read.endpoint.queue)) (driver_parts w) s.parts s.hand e t found (s.acc (32 * read.endpoint.queue)) puts s.reported left.reported read differs owners f.turns f.queues.fed tells its_part
       (λ streams. untold) right_now (moved_whole differs) k.whole.told told_after k.owes
 
   -- where it isn't done the report is as it was
