@@ -53,11 +53,9 @@ SAYS = {
              "written back in it.",
     "goes_on": "At each moment: a bulk or interrupt endpoint that goes on, whose queue head isn't halted, and which has a transfer that is stored and of which a qTD is still active, has a queue head whose overlay is active or goes on to an "
             "active qTD; and so has its copy in the hand of either walk before its transaction. So no such queue head is passed for want of work.",
-    "high_streams": "Whatever a script opens and cancels: at each moment, and after the run, the bytes told of each bulk and interrupt IN endpoint at high speed that was opened begin its stream, each once and in order; those told of each such OUT "
+    "streams": "Whatever a script opens and cancels: at each moment, and after the run, the bytes told of each bulk and interrupt IN endpoint at high speed that was opened begin its stream, each once and in order; those told of each such OUT "
                     "endpoint begin what its device took, and these begin what was put to it. No line follows its end, and nothing is pending then. In mid-run they are compared with all puts "
                     "that weren't refused so far; after the run with all of the script that weren't.",
-    "streams": "Where a script opens high-speed bulk and control endpoints alone: at each moment, and after the run, the bytes told of each bulk IN endpoint that was opened begin its stream; those told of "
-               "each bulk OUT endpoint as moved begin what its device took, and these begin what was put to it. In mid-run they are compared with all puts that weren't refused so far; after the run with all of the script that weren't.",
     "ends": "Whatever a script opens: at each moment, and after the run, no line follows the one that tells the end of a bulk, interrupt or isochronous endpoint, and nothing of it is pending then.",
     "requests": "Where a script opens high-speed bulk and control endpoints alone, none a hub's own: at each moment a device acted on each control request at most once, and on nothing but its setup bytes; "
                 "of an endpoint that isn't cancelled a request that is told done was acted on exactly once, with all its data, and one that halted tells a beginning of them.",

@@ -1,5 +1,6 @@
--- Scripts and reports of worked rows: one device with one endpoint.
-use Rattle.std.specs.Prelude.{ℕ, List, [], ◌∷◌, None}
+-- Scripts and reports of worked rows: one device with one endpoint; and what is so of all streams of such a report.
+use Rattle.std.specs.List.{AllByRecursion}
+use Rattle.std.specs.Prelude.{ℕ, List, [], ◌∷◌, filter, None}
 use Rattle.usb_base.specs.declared.commands.Cmd.{Cmd}
 use Rattle.usb_base.specs.declared.commands.Cmd.TheVariants as commands
 use Rattle.usb_base.specs.declared.endpoints.EpDesc.{EpDesc}
@@ -21,6 +22,7 @@ use Rattle.script_types.specs.declared.scripts.Line.TheVariants as lines
 use Rattle.script_types.specs.declared.scripts.Script.{Script}
 use Rattle.claims_report.specs.Reports.{WholeReport, Closing, Acted}
 use Rattle.claims_report.specs.Requests.{Window}
+use Rattle.claims_report.specs.Streams.{IsRightStream, has_stream, opened}
 
 abbrev pub endpoint : ℕ → Way → EpName
 endpoint num way = record { addr = 3; num = num; way = way }
@@ -93,3 +95,7 @@ two_lines k = report_of (line_of control Done 0 2 ∷ line_of control (Halt Stal
 
 abbrev pub window : List ℕ → List (List ℕ) → Window
 window setup acts = record { request = record { setup = setup; bytes = [] }; acts = acts }
+
+-- each bulk and interrupt endpoint that was opened has a right stream
+abbrev pub AreRightStreams : Script → WholeReport → Type 0
+AreRightStreams s r = AllByRecursion (λ desc. IsRightStream s r desc.name) (filter (λ desc. has_stream desc.kind) (opened s r))

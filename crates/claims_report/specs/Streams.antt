@@ -3,9 +3,8 @@
 --     accepted s r             the commands of the script that the report doesn't refuse, in order
 --     stream s r name          the bytes that an endpoint has to move
 --     told r name              the bytes that the report tells of it, up to its end
---     AreRightStreams s r      the streams of the report are right
-use Rattle.std.specs.Prelude.{◌≡◌, ⊤, ℕ, ◌==◌, ◌&&◌, not, Bool, true, false, List, [], ◌∷◌, ◌++◌, filter, filter_map, find, Option, Some, None, if◌then◌else◌}
-use Rattle.std.specs.List.{AllByRecursion, concat, flat_map, list_any}
+use Rattle.std.specs.Prelude.{◌≡◌, ⊤, ℕ, ◌==◌, ◌&&◌, not, Bool, true, false, List, [], ◌∷◌, ◌++◌, filter_map, find, Option, Some, None, if◌then◌else◌}
+use Rattle.std.specs.List.{concat, flat_map, list_any}
 use Rattle.usb_base.specs.declared.commands.Cmd.{Cmd}
 use Rattle.usb_base.specs.declared.commands.Cmd.TheVariants as commands
 use Rattle.usb_base.specs.declared.endpoints.EpDesc.{EpDesc}
@@ -121,7 +120,3 @@ abbrev pub has_stream : EpKind → Bool
 has_stream Bulk = true
 has_stream Interrupt = true
 has_stream _ = false
-
--- each bulk and interrupt endpoint that was opened has a right stream
-abbrev pub AreRightStreams : Script → WholeReport → Type 0
-AreRightStreams s r = AllByRecursion (λ desc. IsRightStream s r desc.name) (filter (λ desc. has_stream desc.kind) (opened s r))

@@ -4,7 +4,8 @@ ghost use Rattle.script_types.specs.declared.devices.Item.TheVariants.{Bytes, Na
 ghost use Rattle.usb_base.specs.declared.commands.Cmd.TheVariants.{Get, Put};
 ghost use Rattle.usb_base.specs.declared.reports.OfferError.TheVariants.{Busy};
 ghost use Rattle.claims_report.specs.Reports.{Taken, whole_text, taken};
-ghost use Rattle.claims_report.specs.Streams.{stream, told, AreRightStreams};
+ghost use Rattle.claims_report.specs.Streams.{stream, told};
+ghost use Rattle.claims_report.specs.Samples.{AreRightStreams};
 ghost use Rattle.claims_report.specs.Samples.{script_of, commanded, line_of, halted_lines, report_of, sender, receiver, bulk};
 
 use usb_base::{EndCause, What};

@@ -3,8 +3,8 @@
 --     OpensNoHub s                       no control endpoint that the script opens is a hub's: a hub answers by its own state, and not by
 --                                        lines of the script
 --     AsynchronousOfDevices s            the endpoints that it opens are high-speed bulk and control endpoints of devices
---     WhereAsynchronous so s             so, where its endpoints are high-speed bulk and control ones; it may cancel them
---     WhereOfDevices so s                so, where these are of devices, none a hub's own
+--     WhereOfDevices so s                so, where its endpoints are high-speed bulk and control ones of devices, none a hub's own; it may
+--                                        cancel them
 use Rattle.std.specs.List.{AllByRecursion}
 use Rattle.std.specs.Prelude.{◌≡◌, true, false}
 use Rattle.usb_base.specs.declared.commands.Cmd.{Cmd}
@@ -43,9 +43,6 @@ OpensNoHub s = AllByRecursion (λ line. OpensOfDevice s line.1) s.lines
 pub record AsynchronousOfDevices (s : Script) : Type 0 where
   pub only : AsynchronousOnly s
   pub devices : OpensNoHub s
-
-abbrev pub WhereAsynchronous : (Script → Type 0) → Script → Type 0
-WhereAsynchronous so s = AsynchronousOnly s → so s
 
 abbrev pub WhereOfDevices : (Script → Type 0) → Script → Type 0
 WhereOfDevices so s = AsynchronousOfDevices s → so s

@@ -1,21 +1,17 @@
 -- The report after a script's run is that of the moment with no order left.
-use Rattle.std.proofs.Common.{◌≡◌, ℕ, List, [], Option, Some, None, ap, sym, subst, refl}
+use Rattle.std.proofs.Common.{◌≡◌, ℕ, List, [], Option, ap, sym, subst, refl}
 use Rattle.script_types.specs.declared.scripts.Script.{Script}
-use Rattle.claims_world.specs.Streams.{report_of, AreTakenStreams, AreSentStreams, KeepsStreamsThroughout, KeepsStreams}
+use Rattle.claims_world.specs.Streams.{report_of}
 use Rattle.claims_report.specs.Reports.{WholeReport}
-use Rattle.claims_report.specs.Streams.{AreRightStreams}
-use Rattle.law_world.proofs.lemmas.streams.lemmas.right_reports.Printed.{report_printed}
 use Rattle.bus_wire.specs.Bus.{fixed_of}
 use Rattle.bus_world.specs.World.{Standing}
 use Rattle.bus_world.specs.Opening.{opening_world}
 use Rattle.bus_world.specs.Orders.{OrderedWorld, Leads, at_place, orders_of}
 use Rattle.bus_world.specs.Budgets.{moment}
-use Rattle.law_world.proofs.lemmas.streams.lemmas.sending_worlds.Moments.{texts_keep_streams}
 use Rattle.claims_world.specs.HighStreams.{KeepsAllHighStreams}
 use Rattle.law_reports.proofs.lemmas.pipes.lemmas.puts.PaidMoments.{texts_keep_all_high_streams}
 use Rattle.bus_world.specs.Runs.{IsWholeRunOf}
 use Rattle.claims_world.specs.Ends.{IsEndedOnce, EndsOnceThroughout, EndsOnce}
-use Rattle.claims_world.specs.Scripts.{WhereAsynchronous}
 use Rattle.app_forms.specs.Scripts.{OfEachScript}
 use Rattle.ehci_cli.proofs.Each.{of_each}
 use Rattle.law_reports.proofs.lemmas.lines.Ended.{texts_end_once}
@@ -28,18 +24,6 @@ module _ (so : WholeReport → Type 0) where
       subst (λ f. so (report_of f w.world)) (sym ran.fixed)
       (subst (λ v. so (report_of (fixed_of s) v)) (ap (λ (p : OrderedWorld). p.world) led.there) (each led.count (ap (λ (p : OrderedWorld). p.orders) led.there)))
 
-keeps : (s : Script) → KeepsStreamsThroughout s → KeepsStreams s
-keeps s k = record {
-  throughout = k;
-  taken = at_end (AreTakenStreams s) s (λ j none. k.taken j);
-  sent = at_end (AreSentStreams s) s (λ j none. k.sent j);
-  all = at_end (AreRightStreams s) s k.at_the_end;
-  printed = λ w. report_printed w.fixed w.world;
-}
-
-pub source_keeps_streams : (words : List (List ℕ)) (left : Option (List ℕ)) → OfEachScript (WhereAsynchronous KeepsStreams) words left
-source_keeps_streams = of_each (WhereAsynchronous KeepsStreams) (λ text s spelled only. keeps s (texts_keep_streams text s spelled only))
-
 -- no line follows an end, whatever the script opens
 ends : (s : Script) → EndsOnceThroughout s → EndsOnce s
 ends s k = record { throughout = k; after = λ w ran name other. at_end (λ r. IsEndedOnce r name) s (λ j none. k j name other) w ran }
@@ -47,5 +31,5 @@ ends s k = record { throughout = k; after = λ w ran name other. at_end (λ r. I
 pub source_ends_once : (words : List (List ℕ)) (left : Option (List ℕ)) → OfEachScript EndsOnce words left
 source_ends_once = of_each EndsOnce (λ text s spelled. ends s (texts_end_once text s spelled))
 
-pub source_keeps_high_streams : (words : List (List ℕ)) (left : Option (List ℕ)) → OfEachScript KeepsAllHighStreams words left
-source_keeps_high_streams = of_each KeepsAllHighStreams texts_keep_all_high_streams
+pub source_keeps_streams : (words : List (List ℕ)) (left : Option (List ℕ)) → OfEachScript KeepsAllHighStreams words left
+source_keeps_streams = of_each KeepsAllHighStreams texts_keep_all_high_streams

@@ -24,8 +24,7 @@ ghost use Rattle.claims_world.specs.Unfinished.{KeepsToWork};
 ghost use Rattle.claims_world.specs.Microframes.{MicroframesEnd};
 ghost use Rattle.claims_world.specs.Requests.{KeepsRequests};
 ghost use Rattle.app_forms.specs.Scripts.{OfEachScript};
-ghost use Rattle.claims_world.specs.Scripts.{WhereAsynchronous, WhereOfDevices};
-ghost use Rattle.claims_world.specs.Streams.{KeepsStreams};
+ghost use Rattle.claims_world.specs.Scripts.{WhereOfDevices};
 ghost use Rattle.claims_world.specs.HighStreams.{KeepsAllHighStreams};
 ghost use Rattle.claims_world.specs.Ends.{EndsOnce};
 ghost use Rattle.claims_world.specs.Heard.{HearsThroughout};
@@ -112,19 +111,15 @@ use usb_base::{Sink, Source};
 /// interrupt endpoint that goes on and isn't halted, with a transfer that is stored and isn't done, works on an active qTD or goes on to
 /// one; so does its copy in the hand of either walk.
 ///
-/// Whatever the script opens, the bytes that the report tells of each bulk and interrupt IN endpoint at high speed begin its stream, each
-/// once and in order, and those that it tells of each such OUT endpoint begin what its device took: at each moment, and after the run.
-///
-/// Where the script opens high-speed bulk and control endpoints only, cancelled or not, the bytes that the report tells of each bulk IN
-/// endpoint begin its stream, each once and in order, and nothing follows its end; those that it tells of each bulk OUT endpoint begin
-/// what its device took, and these begin what was put to it: after the run, and at each moment of it, when the puts are those that
-/// weren't refused so far; whatever is lost, damaged or held, and whatever control endpoints are asked and answer, STALL too. After the
-/// run these are all its streams.
+/// Whatever the script opens and cancels, the bytes that the report tells of each bulk and interrupt IN endpoint at high speed begin its
+/// stream, each once and in order, and nothing follows its end; those that it tells of each such OUT endpoint begin what its device took,
+/// and these begin what was put to it: after the run, and at each moment of it, when the puts are those that weren't refused so far;
+/// whatever is lost, damaged or held, and whatever else is asked and answers. After the run these are all its streams at high speed.
 ///
 /// Whatever the script opens, no line follows the one that tells the end of a bulk, interrupt or isochronous endpoint, and nothing of it is
 /// pending then, at each moment and after the run.
 ///
-/// Where these endpoints are of devices, none a hub's own control endpoint, at each moment the device acted at most once on each
+/// Where the script opens high-speed bulk and control endpoints of devices only, none a hub's own, at each moment the device acted at most once on each
 /// control request, and only on its setup bytes; of an endpoint that isn't cancelled the report tells of its requests in their order: a
 /// request that is done was acted on exactly once, and the bytes told of it are those of its data; those of one that halted begin its
 /// data; and `acted` is told as the number of requests that were acted on. After the run these are all its requests.
@@ -175,8 +170,7 @@ pub fn ehci<S: Source, K: Sink>(
     ensures due_at_begin { OfEachScript DueAtBeginIsDone (map string_bytes words.now) (S.left source.old) }
     ensures slots { OfEachScript SlotsAreDone (map string_bytes words.now) (S.left source.old) }
     ensures goes_on { OfEachScript KeepsToWork (map string_bytes words.now) (S.left source.old) }
-    ensures streams { OfEachScript (WhereAsynchronous KeepsStreams) (map string_bytes words.now) (S.left source.old) }
-    ensures high_streams { OfEachScript KeepsAllHighStreams (map string_bytes words.now) (S.left source.old) }
+    ensures streams { OfEachScript KeepsAllHighStreams (map string_bytes words.now) (S.left source.old) }
     ensures ends { OfEachScript EndsOnce (map string_bytes words.now) (S.left source.old) }
     ensures requests { OfEachScript (WhereOfDevices KeepsRequests) (map string_bytes words.now) (S.left source.old) }
     ensures answers { OfEachScript CommandsHaveCauses (map string_bytes words.now) (S.left source.old) }

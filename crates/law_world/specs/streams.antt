@@ -30,3 +30,4 @@ pub mod Laws
 pub mod Harvested
 pub mod Moments
 pub mod sending_worlds
+pub mod Asynchronous

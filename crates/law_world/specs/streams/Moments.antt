@@ -24,7 +24,7 @@ use Rattle.claims_driver.specs.Scripts.{AsynchronousOnly}
 use Rattle.law_world.specs.steps.Takers.{takes_of}
 use Rattle.law_world.specs.streams.Feeding.{streams_of}
 use Rattle.law_world.specs.streams.Whole.{HasWhole}
-use Rattle.claims_world.specs.Streams.{InStreamsAreRightThroughout, OutStreamsAreTakenThroughout}
+use Rattle.law_world.specs.streams.Asynchronous.{InStreamsAreRightThroughout, OutStreamsAreTakenThroughout}
 
 pub record IsAsynchronousScript (s : Script) : Type 0 where
   pub fits : IsFit s

@@ -14,7 +14,7 @@ ghost use Rattle.claims_driver.specs.Leaving.{owes};
 ghost use Rattle.law_driver.specs.run_owners.Worked.{busy_driver, get_out};
 ghost use Rattle.law_devices.specs.opening_senders.Own.{HasOwnDevices};
 ghost use Rattle.law_world.specs.streams.Moments.{IsAsynchronousScript, IsWholeThroughout};
-ghost use Rattle.claims_world.specs.Streams.{InStreamsAreRightThroughout};
+ghost use Rattle.law_world.specs.streams.Asynchronous.{InStreamsAreRightThroughout};
 ghost use Rattle.law_world.specs.streams.FeedingSamples.{one_get};
 
 /// The get ends with 3 bytes: they are noted of its qTD.

@@ -19,7 +19,7 @@ ghost use Rattle.law_world.specs.streams.Feeding.{streams_of, IsFeeding};
 ghost use Rattle.law_world.specs.streams.FeedingLaws.{is_still};
 ghost use Rattle.law_world.specs.streams.Moments.{IsAsynchronousScript, IsWholeThroughout};
 ghost use Rattle.claims_world.specs.Releases.{HeardAdvance};
-ghost use Rattle.claims_world.specs.Streams.{InStreamsAreRightThroughout};
+ghost use Rattle.law_world.specs.streams.Asynchronous.{InStreamsAreRightThroughout};
 ghost use Rattle.law_world.specs.worked_streams.small_receiver.Samples.{desc, one_cancel, cancel_at, cancel_row};
 ghost use Rattle.law_world.specs.worked_streams.Due.{IsAtUnlinkIn};
 

@@ -2,7 +2,7 @@
 ghost use Rattle.law_devices.specs.opening_senders.Own.{HasOwnDevices};
 ghost use Rattle.law_devices.specs.declared_controls.Samples.{beside_bulk};
 ghost use Rattle.law_world.specs.streams.Moments.{IsAsynchronousScript, IsWholeThroughout};
-ghost use Rattle.claims_world.specs.Streams.{InStreamsAreRightThroughout};
+ghost use Rattle.law_world.specs.streams.Asynchronous.{InStreamsAreRightThroughout};
 
 /// A script that opens a control endpoint, a bulk IN endpoint and a hub's own endpoint, and makes a read and a write, meets the premises of the laws of runs.
 pub fn a_script_with_requests()

@@ -9,7 +9,7 @@ ghost use Rattle.law_queues.specs.fed_lends.ToLend.{IsToBeLent};
 ghost use Rattle.law_queues.specs.open_laws.Lends.{IsOpenReady};
 ghost use Rattle.law_world.specs.streams.FeedingLaws.{is_still};
 ghost use Rattle.law_world.specs.streams.Moments.{IsAsynchronousScript, IsWholeThroughout};
-ghost use Rattle.claims_world.specs.Streams.{InStreamsAreRightThroughout};
+ghost use Rattle.law_world.specs.streams.Asynchronous.{InStreamsAreRightThroughout};
 ghost use Rattle.law_world.specs.worked_streams.small_receiver.Samples.{receiver, words, world_at, row_at, one_put, put_words, put_at, put_row};
 ghost use Rattle.law_world.specs.worked_streams.Due.{IsOpenLentIn};
 

@@ -3,7 +3,7 @@ use Rattle.ehci_cli.proofs.Causes.{source_has_causes, source_is_heard, source_re
 use Rattle.ehci_cli.proofs.Memory.{source_keeps_memory, source_reaches_lent, source_keeps_to_owners, source_gives_back_last, source_leaves_what_is_back}
 use Rattle.ehci_cli.proofs.Memory.{source_keeps_links}
 use Rattle.ehci_cli.proofs.Requests.{source_keeps_requests}
-use Rattle.ehci_cli.proofs.Streams.{source_keeps_streams, source_ends_once, source_keeps_high_streams}
+use Rattle.ehci_cli.proofs.Streams.{source_ends_once, source_keeps_streams}
 use Rattle.ehci_cli.proofs.Visits.{source_keeps_visits, source_pays_within_load, source_is_in_time, source_ends_microframes, source_keeps_due, source_does_slots, source_keeps_to_work, source_repeats_after_losses}
 use Rattle.ehci_cli.proofs.Visits.{source_does_what_is_due_at_begin}
 use Rattle.ehci_cli.proofs.Whole.{whole_load}
@@ -71,9 +71,6 @@ returns-clause-goes_on g c = source_keeps_to_work _ _
 
 pub returns-clause-streams : goal.returns-clause-streams
 returns-clause-streams g c = source_keeps_streams _ _
-
-pub returns-clause-high_streams : goal.returns-clause-high_streams
-returns-clause-high_streams g c = source_keeps_high_streams _ _
 
 pub returns-clause-ends : goal.returns-clause-ends
 returns-clause-ends g c = source_ends_once _ _

@@ -3,8 +3,8 @@
 --     HighSaysAsMuch     so what is said of the streams at high speed says as much of such a script as what is said of all its streams
 use Rattle.script_types.specs.declared.scripts.Script.{Script}
 use Rattle.claims_driver.specs.Scripts.{AsynchronousOnly}
-use Rattle.claims_world.specs.Streams.{InStreamsAreRightThroughout, OutStreamsAreTakenThroughout, OutStreamsAreSentThroughout}
-use Rattle.claims_world.specs.Streams.{StreamsAreRightAtTheEnd, KeepsStreams}
+use Rattle.law_world.specs.streams.Asynchronous.{InStreamsAreRightThroughout, OutStreamsAreTakenThroughout, OutStreamsAreSentThroughout}
+use Rattle.law_world.specs.streams.Asynchronous.{StreamsAreRightAtTheEnd, KeepsStreams}
 use Rattle.claims_world.specs.HighStreams.{HighInsAreRight, HighOutsAreTaken}
 use Rattle.claims_world.specs.HighStreams.{HighOutsAreSent, HighStreamsEndRight, KeepsAllHighStreams}
 

@@ -15,7 +15,7 @@ use Rattle.law_devices.proofs.lemmas.declared_controls.Sampled.{sample_names}
 use Rattle.law_scripts.specs.Numbers.{NumbersOpens}
 use Rattle.claims_driver.specs.Scripts.{AsynchronousOnly}
 use Rattle.law_world.specs.streams.Moments.{IsAsynchronousScript, IsWholeThroughout}
-use Rattle.claims_world.specs.Streams.{InStreamsAreRightThroughout}
+use Rattle.law_world.specs.streams.Asynchronous.{InStreamsAreRightThroughout}
 use Rattle.law_world.proofs.lemmas.streams.Running.{scripts_stay_whole, streams_are_right}
 
 its_fits : IsFit beside_bulk

@@ -15,7 +15,7 @@ use Rattle.law_devices.specs.declared_controls.Names.{HasItsName, NamesEndpoints
 use Rattle.law_devices.specs.declared_controls.Zero.{AreZeroesAlone}
 use Rattle.claims_driver.specs.Scripts.{AsynchronousOnly}
 use Rattle.law_world.specs.streams.Moments.{IsAsynchronousScript, IsWholeThroughout}
-use Rattle.claims_world.specs.Streams.{InStreamsAreRightThroughout}
+use Rattle.law_world.specs.streams.Asynchronous.{InStreamsAreRightThroughout}
 use Rattle.law_world.proofs.lemmas.streams.Running.{scripts_stay_whole, streams_are_right}
 use Rattle.law_world.specs.worked_streams.small_receiver.Samples.{desc, receiver}
 

@@ -2,9 +2,9 @@
 --     InsAreAll                  of a script that only receives these are all
 use Rattle.script_types.specs.declared.scripts.Script.{Script}
 use Rattle.claims_report.specs.Reports.{WholeReport}
-use Rattle.claims_report.specs.Streams.{AreRightStreams}
+use Rattle.claims_report.specs.Samples.{AreRightStreams}
 use Rattle.law_driver.specs.chained_transfers.Receives.{ReceivesOnly}
-use Rattle.claims_world.specs.Streams.{AreRightInStreams}
+use Rattle.law_world.specs.streams.Asynchronous.{AreRightInStreams}
 
 abbrev pub InsAreAll : Type 0
 InsAreAll = (s : Script) (r : WholeReport) → ReceivesOnly s → AreRightInStreams s r → AreRightStreams s r

@@ -13,7 +13,8 @@ use Rattle.law_driver.specs.chained_transfers.Asynchronous.{OnlyAsynchronous}
 use Rattle.law_queues.specs.told_endpoints.Telling.{named_in, TellsEach}
 use Rattle.bus_world.specs.World.{World}
 use Rattle.bus_world.specs.Closing.{world_text}
-use Rattle.claims_world.specs.Streams.{report_of, AreRightInStreams}
+use Rattle.claims_world.specs.Streams.{report_of}
+use Rattle.law_world.specs.streams.Asynchronous.{AreRightInStreams}
 
 -- the report is what is printed of it
 abbrev pub ReportIsPrinted : Type 0

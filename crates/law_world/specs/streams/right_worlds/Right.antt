@@ -23,7 +23,8 @@ use Rattle.law_driver.specs.chained_transfers.Asynchronous.{OnlyAsynchronous}
 use Rattle.law_driver_ring.specs.fed_queues.Places.{HaveStreams, IsThere}
 use Rattle.law_queues.specs.harvest_laws.Told.{ToldStands}
 use Rattle.law_devices.specs.opening_senders.Own.{HasOwnDevices}
-use Rattle.claims_world.specs.Streams.{report_of, AreRightInStreams}
+use Rattle.claims_world.specs.Streams.{report_of}
+use Rattle.law_world.specs.streams.Asynchronous.{AreRightInStreams}
 
 pub record AreOfScript (s : Script) (packets : ℕ → ℕ → List (List ℕ)) : Type 0 where
   pub some : (addr ep : ℕ) (x : Sender) → sender_of (opening_wired s) addr ep ≡ Some x → packets addr ep ≡ x.left

@@ -12,7 +12,7 @@ use Rattle.law_world.specs.streams.put_laws.TakenPuts.{puts_at}
 use Rattle.law_world.specs.streams.Feeding.{streams_of}
 use Rattle.law_world.specs.streams.Moments.{IsAsynchronousScript}
 use Rattle.law_world.specs.streams.sending_worlds.Sending.{HasSending}
-use Rattle.claims_world.specs.Streams.{OutStreamsAreSentThroughout, StreamsAreRightAtTheEnd}
+use Rattle.law_world.specs.streams.Asynchronous.{OutStreamsAreSentThroughout, StreamsAreRightAtTheEnd}
 
 abbrev pub IsSendingThroughout : Script → Type 0
 IsSendingThroughout s = (k : ℕ) → HasSending (fixed_of s) (takes_of s) (streams_of s).stream (streams_of s).packets (puts_at s k) (moment s k).world

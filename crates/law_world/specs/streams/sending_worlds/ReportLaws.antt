@@ -13,14 +13,15 @@ use Rattle.claims_base.specs.Prefix.{IsPrefix}
 use Rattle.bus_wire.specs.Bus.{Fixed, fixed_of}
 use Rattle.law_ring.specs.OutBus.{Taker}
 use Rattle.law_devices.specs.scripted_takers.Takers.{taker_of}
-use Rattle.claims_report.specs.Streams.{AreRightStreams}
+use Rattle.claims_report.specs.Samples.{AreRightStreams}
 use Rattle.drv_table.specs.declared.content.Endpoint.{Endpoint}
 use Rattle.claims_driver.specs.Scripts.{receives, AsynchronousOnly}
 use Rattle.law_driver.specs.chained_transfers.Asynchronous.{OnlyAsynchronous}
 use Rattle.bus_world.specs.World.{World}
 use Rattle.bus_world.specs.Orders.{OrderedWorld}
 use Rattle.law_world.specs.steps.Streaming.{wired}
-use Rattle.claims_world.specs.Streams.{report_of, AreRightInStreams, AreTakenStreams, AreSentStreams}
+use Rattle.claims_world.specs.Streams.{report_of}
+use Rattle.law_world.specs.streams.Asynchronous.{AreRightInStreams, AreTakenStreams, AreSentStreams}
 use Rattle.law_world.specs.streams.taken_reports.Seats.{IsSeatedBus}
 use Rattle.law_world.specs.streams.put_laws.TakenPuts.{puts_of}
 use Rattle.law_world.specs.streams.put_laws.TakenLaws.{StreamsArePuts}

@@ -18,7 +18,8 @@ use Rattle.law_driver.specs.chained_transfers.Asynchronous.{OnlyAsynchronous}
 use Rattle.law_queues.specs.told_endpoints.Telling.{named_in, TellsEach}
 use Rattle.bus_world.specs.World.{World}
 use Rattle.law_world.specs.steps.Streaming.{wired}
-use Rattle.claims_world.specs.Streams.{report_of, IsToldTaken, AreTakenStreams}
+use Rattle.claims_world.specs.Streams.{report_of, IsToldTaken}
+use Rattle.law_world.specs.streams.Asynchronous.{AreTakenStreams}
 use Rattle.law_world.specs.streams.taken_reports.Seats.{HasSeat, AreApart, IsSeatedBus}
 
 abbrev pub ClosingTellsTaker : Type 0

@@ -26,7 +26,8 @@ use Rattle.claims_driver.specs.Scripts.{receives}
 use Rattle.law_driver.specs.chained_transfers.Asynchronous.{OnlyAsynchronous}
 use Rattle.law_driver_ring.specs.fed_queues.Places.{IsMet, IsThere}
 use Rattle.law_queues.specs.harvest_laws.Told.{ToldStands}
-use Rattle.claims_world.specs.Streams.{report_of, IsToldTaken, AreTakenStreams}
+use Rattle.claims_world.specs.Streams.{report_of, IsToldTaken}
+use Rattle.law_world.specs.streams.Asynchronous.{AreTakenStreams}
 use Rattle.law_world.specs.streams.taken_reports.Seats.{IsSeatedBus}
 use Rattle.law_world.specs.streams.taken_reports.Laws.{bytes_taken}
 

@@ -3,12 +3,13 @@ ghost use Rattle.std.specs.Prelude.{◌≡◌, List, [], ◌∷◌};
 ghost use Rattle.script_types.specs.declared.devices.Item.TheVariants.{Bytes};
 ghost use Rattle.claims_report.specs.Reports.{Pending};
 ghost use Rattle.claims_report.specs.Samples.{script_of, sender, bulk};
-ghost use Rattle.claims_report.specs.Streams.{AreRightStreams};
+ghost use Rattle.claims_report.specs.Samples.{AreRightStreams};
 ghost use Rattle.bus_wire.specs.Bus.{fixed_of};
 ghost use Rattle.law_driver.specs.chained_transfers.Bulk.{BulkOnly};
 ghost use Rattle.law_driver.specs.chained_transfers.Receives.{ReceivesOnly};
 ghost use Rattle.bus_world.specs.Opening.{opening_world};
-ghost use Rattle.claims_world.specs.Streams.{waiting_closing, report_of, AreRightInStreams};
+ghost use Rattle.claims_world.specs.Streams.{waiting_closing, report_of};
+ghost use Rattle.law_world.specs.streams.Asynchronous.{AreRightInStreams};
 ghost use Rattle.law_world.specs.streams.right_reports.Samples.{both_ways, told_by, cancelling, halted_by};
 
 /// A line tells what is pending, and none tells nothing.

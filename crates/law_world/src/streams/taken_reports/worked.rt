@@ -7,7 +7,8 @@ ghost use Rattle.law_devices.specs.scripted_takers.Takers.{taker_of_device, take
 ghost use Rattle.claims_report.specs.Reports.{Pending, Taken};
 ghost use Rattle.claims_report.specs.Samples.{receiver, bulk, report_of as report_with};
 ghost use Rattle.bus_world.specs.Opening.{opening_world};
-ghost use Rattle.claims_world.specs.Streams.{device_closing, report_of, IsToldTaken, AreTakenStreams};
+ghost use Rattle.claims_world.specs.Streams.{device_closing, report_of, IsToldTaken};
+ghost use Rattle.law_world.specs.streams.Asynchronous.{AreTakenStreams};
 ghost use Rattle.law_world.specs.streams.right_reports.Samples.{both_ways};
 ghost use Rattle.law_world.specs.streams.taken_reports.Seats.{HasSeat, IsSeatedBus};
 ghost use Rattle.law_world.specs.streams.taken_reports.Samples.{told_with, ended_with, took};

@@ -18,8 +18,8 @@ use Rattle.drv_table.specs.Words.{is_high}
 use Rattle.law_world.proofs.lemmas.streams.lemmas.right_reports.Right.{all_mapped}
 use Rattle.bus_world.specs.Budgets.{moment}
 use Rattle.claims_world.specs.HighStreams.{claimed}
-use Rattle.claims_world.specs.Streams.{AreTakenStreams, AreSentStreams, KeepsStreamsThroughout}
-use Rattle.claims_report.specs.Streams.{AreRightStreams}
+use Rattle.law_world.specs.streams.Asynchronous.{AreTakenStreams, AreSentStreams, KeepsStreamsThroughout}
+use Rattle.claims_report.specs.Samples.{AreRightStreams}
 use Rattle.claims_world.specs.HighStreams.{KeepsAllHighStreams}
 use Rattle.law_reports.specs.pipes.high_streams.Older.{HighSaysAll, HighSaysAsMuch, HighKeepsAll}
 use Rattle.law_reports.proofs.lemmas.pipes.lemmas.high_streams.AfterRuns.{after_run, at_end}

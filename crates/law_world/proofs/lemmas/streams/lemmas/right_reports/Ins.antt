@@ -9,10 +9,11 @@ use Rattle.script_types.specs.declared.scripts.Line.{Line}
 use Rattle.script_types.specs.declared.scripts.Line.TheVariants as lines
 use Rattle.script_types.specs.declared.scripts.Script.{Script}
 use Rattle.claims_report.specs.Reports.{WholeReport}
-use Rattle.claims_report.specs.Streams.{is_refused, command_in, accepted_in, open_in, opened, has_stream, IsRightStream, AreRightStreams}
+use Rattle.claims_report.specs.Streams.{is_refused, command_in, accepted_in, open_in, opened, has_stream, IsRightStream}
+use Rattle.claims_report.specs.Samples.{AreRightStreams}
 use Rattle.claims_driver.specs.Scripts.{comes_in}
 use Rattle.law_driver.specs.chained_transfers.Receives.{IsReceiving, OpensReceiving, ReceivesLine, ReceivesOnly}
-use Rattle.claims_world.specs.Streams.{AreRightInStreams}
+use Rattle.law_world.specs.streams.Asynchronous.{AreRightInStreams}
 use Rattle.law_world.proofs.lemmas.streams.lemmas.right_reports.Right.{all_mapped}
 
 accepted_by : (b : Bool) (l : Line) (cmd : Cmd) → ReceivesLine l → (if b then None else command_in l) ≡ Some cmd → OpensReceiving cmd

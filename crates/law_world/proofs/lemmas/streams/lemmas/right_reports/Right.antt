@@ -24,7 +24,8 @@ use Rattle.law_queues.proofs.lemmas.told_endpoints.Lines.{once_without}
 use Rattle.law_driver.specs.endpoint_lives.Lives.{told_end}
 use Rattle.law_driver.proofs.lemmas.endpoint_lives.Lives.{told_some, told_gone}
 use Rattle.bus_world.specs.World.{World}
-use Rattle.claims_world.specs.Streams.{closings_of, report_of, AreRightInStreams}
+use Rattle.claims_world.specs.Streams.{closings_of, report_of}
+use Rattle.law_world.specs.streams.Asynchronous.{AreRightInStreams}
 use Rattle.law_world.specs.streams.right_reports.Laws.{BeginsEach}
 use Rattle.law_world.proofs.lemmas.streams.lemmas.right_reports.Named.{HasNamed, NoneNamed, search, named_is, none_pending}
 use Rattle.claims_driver.specs.Scripts.{comes_in, IsKindOf}

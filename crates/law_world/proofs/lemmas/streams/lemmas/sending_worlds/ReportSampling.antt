@@ -18,7 +18,8 @@ use Rattle.claims_report.specs.Samples.{receiver}
 use Rattle.claims_driver.specs.Scripts.{receives}
 use Rattle.bus_world.specs.Orders.{ticks}
 use Rattle.law_world.specs.steps.Streaming.{wired}
-use Rattle.claims_world.specs.Streams.{report_of, AreSentStreams}
+use Rattle.claims_world.specs.Streams.{report_of}
+use Rattle.law_world.specs.streams.Asynchronous.{AreSentStreams}
 use Rattle.law_world.specs.streams.put_laws.TakenPuts.{puts_of, puts_at}
 use Rattle.law_world.specs.streams.put_laws.TakenSamples.{two_puts, report_after}
 use Rattle.law_world.specs.streams.sending_worlds.ReportLaws.{HaveTheirTakers, TakesPuts}

@@ -18,7 +18,8 @@ use Rattle.bus_wire.specs.declared.seats.Seat.{Seat}
 use Rattle.bus_wire.specs.Bus.{fixed_of}
 use Rattle.law_devices.specs.scripted_takers.Takers.{taker_of}
 use Rattle.claims_report.specs.Reports.{WholeReport, taken}
-use Rattle.claims_report.specs.Streams.{is_refused, command_in, accepted_in, open_in, opened as opened_by, has_stream, stream, told, AreBytesRight, IsRightOut, IsRightStream, AreRightStreams}
+use Rattle.claims_report.specs.Streams.{is_refused, command_in, accepted_in, open_in, opened as opened_by, has_stream, stream, told, AreBytesRight, IsRightOut, IsRightStream}
+use Rattle.claims_report.specs.Samples.{AreRightStreams}
 use Rattle.drv_table.specs.DriverContent.{opened}
 use Rattle.bus_world.specs.Orders.{OrderedWorld}
 use Rattle.law_world.specs.steps.Streaming.{wired}
@@ -26,7 +27,8 @@ use Rattle.law_driver.specs.chained_transfers.Bulk.{IsDataWay}
 use Rattle.claims_driver.specs.Scripts.{receives, comes_in, IsAsynchronous, OpensAsynchronous, AsynchronousLine, AsynchronousOnly}
 use Rattle.law_driver.specs.chained_transfers.Asynchronous.{OnlyAsynchronous}
 use Rattle.law_driver.proofs.lemmas.chained_transfers.Ways.{way_sends, data_comes_in}
-use Rattle.claims_world.specs.Streams.{report_of, AreRightInStreams, IsToldTaken, IsTakenStream, AreTakenStreams, IsTakenSent, AreSentStreams}
+use Rattle.claims_world.specs.Streams.{report_of, IsToldTaken, IsTakenStream, IsTakenSent}
+use Rattle.law_world.specs.streams.Asynchronous.{AreRightInStreams, AreTakenStreams, AreSentStreams}
 use Rattle.law_world.proofs.lemmas.streams.lemmas.right_reports.Named.{HasNamed}
 use Rattle.law_world.proofs.lemmas.streams.lemmas.right_reports.Right.{all_mapped}
 use Rattle.law_world.specs.streams.taken_reports.Seats.{HasSeat, OpensItsSeat, OpensSeats, IsSeatedBus}

@@ -36,7 +36,8 @@ use Rattle.law_world.specs.steps.Streaming.{wired}
 use Rattle.claims_driver.specs.Scripts.{IsKindOf, receives}
 use Rattle.law_driver.specs.chained_transfers.Asynchronous.{OnlyAsynchronous}
 use Rattle.law_driver.specs.chained_transfers.Bulk.{IsDataWay}
-use Rattle.claims_world.specs.Streams.{closings_of, report_of, IsToldTaken, IsTakenStream, AreTakenStreams}
+use Rattle.claims_world.specs.Streams.{closings_of, report_of, IsToldTaken, IsTakenStream}
+use Rattle.law_world.specs.streams.Asynchronous.{AreTakenStreams}
 use Rattle.law_world.proofs.lemmas.streams.lemmas.right_reports.Named.{HasNamed, NoneNamed, search, named_is, none_pending}
 use Rattle.law_world.proofs.lemmas.streams.lemmas.right_reports.Right.{all_mapped}
 use Rattle.law_world.specs.streams.taken_reports.Seats.{HasSeat, OpensItsSeat, OpensSeats, IsSeatedBus}
