@@ -1,9 +1,12 @@
 //! The host of a script, event by event, with what is told of each.
-ghost use Rattle.std.specs.Prelude.{◌≡◌, ◌≤◌, IfOk, IfSome, IfNone, length};
+ghost use Rattle.std.specs.Prelude.{◌≡◌, ◌≤◌, IfOk, IfSome, IfNone, length, None, [], true};
 ghost use Rattle.hc_core.specs.Controller.{either_address};
 ghost use Rattle.script_fits.specs.Fits.{IsFit, IsFitCommand};
 ghost use Rattle.app_trace.specs.Watched.{told_address, is_begin, price_in, told_with, Tells, Steps, step_next, IsControlled, parts_of, driven, IsStored, IsDriven, answer_to, refusal_of, with_offered, IsCommanded, IsOpening};
 ghost use Rattle.drv_table.specs.Offers.{IsOffered};
+ghost use Rattle.drv_table.specs.Opening.{opening};
+ghost use Rattle.mem_runs.specs.Book.{holding, Stands};
+ghost use Rattle.bus_wire.specs.Bus.{opening_wired};
 ghost use Rattle.drv_table.specs.Rows.{driver_row};
 
 use crate::reserve::{can_offer, reserve_of};
@@ -13,7 +16,7 @@ use bandwidth::Plan;
 use bus_packets::{Exchange, Passed};
 use bus_recorder::{BelowRecorder, Recorder};
 use drv_table::{DriverRow, Endpoint};
-use ehci_driver::Driver;
+use ehci_driver::{Driver, Reserve};
 use hc_core::{Controller, HcStep};
 use op_registers::Registers;
 use script_types::Script;
@@ -111,6 +114,33 @@ fn push(works: &mut Vec<Work>, work: Work) -> Result<(), Memory> {
     }
 }
 
+/// The recorded bus of a script, the hubs that follow its hubs, and how many packets of each endpoint went below.
+fn recorders(alloc: Global, script: &Script) -> Result<(Recorder, BelowRecorder, Vec<u64>), Memory>
+    requires { IsFit script.now }
+    ensures { IfOk result (λ r. r.0 ≡ record { wired = opening_wired script.now; exchange = None; sent = []; got = []; allowed = true }) }
+{
+    let wire = Recorder::build(alloc, script)?;
+    let below = vec![in alloc; 0u64; wire.seats().len()]?;
+    let hubs = BelowRecorder::build(alloc, script, wire.seats())?;
+    Ok((wire, hubs, below))
+}
+
+/// The driver of a script with its memory and its registers.
+fn machine(
+    alloc: Global,
+    script: &Script,
+    reserve: &Reserve,
+) -> Result<(Driver, WordMem, Registers), Memory>
+    requires { IsFit script.now }
+    ensures parts { IfOk result (λ r. record { driver = r.0; registers = r.2; memory = r.1 } ≡ opening script.now.words reserve.now) }
+    ensures stands { IfOk result (λ r. Stands (holding r.0.book r.1)) }
+{
+    let mut mem = WordMem::build(alloc, script.words)?;
+    let mut registers = Registers::reset();
+    let driver = Driver::build(alloc, reserve, &mut registers, &mut mem)?;
+    Ok((driver, mem, registers))
+}
+
 impl Host {
     /// The host of a script, at the end of microframe 0.
     ///
@@ -124,13 +154,9 @@ impl Host {
         let Some(reserve) = reserve_of(script) else {
             return Err(Memory);
         };
-        let wire = Recorder::build(alloc, script)?;
-        let hubs = BelowRecorder::build(alloc, script, wire.seats())?;
-        let below = vec![in alloc; 0u64; wire.seats().len()]?;
         let shadow = Shadow::build(alloc, script.words)?;
-        let mut mem = WordMem::build(alloc, script.words)?;
-        let mut registers = Registers::reset();
-        let driver = Driver::build(alloc, &reserve, &mut registers, &mut mem)?;
+        let (wire, hubs, below) = recorders(alloc, script)?;
+        let (driver, mem, registers) = machine(alloc, script, &reserve)?;
         Ok(Host {
             registers,
             mem,

@@ -6,7 +6,7 @@ use bus_packets::{Exchange, Passed};
 use bus_wire::{Answerer, Seat, WhoHeard};
 use endpoint_script::{Device, is_scripted};
 use hub_class::Hub;
-use script_types::{DeviceText, HubText, Script};
+use script_types::{DeviceText, FateText, HubText, Script};
 use std::alloc::Global;
 use std::marker::Model;
 use usb_base::Memory;
@@ -80,6 +80,25 @@ fn hubs_of(alloc: Global, texts: &[HubText]) -> Result<Vec<HubBelow>, Memory> {
     Ok(hubs)
 }
 
+/// The endpoints, the lines against packets, and the number of each endpoint's next packet.
+fn tables_of(
+    alloc: Global,
+    script: &Script,
+    seats: &[Seat],
+) -> Result<(Vec<Seat>, Vec<FateText>, Vec<u64>), Memory> {
+    let numbers = vec![in alloc; 0u64; seats.len()]?;
+    let seats = Vec::from_slice(alloc, seats)?;
+    let fates = Vec::from_slice(alloc, script.fates.as_slice())?;
+    Ok((seats, fates, numbers))
+}
+
+/// The devices of a script with these endpoints, below no hub yet.
+fn below_of(alloc: Global, script: &Script, seats: &[Seat]) -> Result<BelowBus, Memory> {
+    let devices = devices_of(alloc, script.devices.as_slice())?;
+    let (seats, fates, numbers) = tables_of(alloc, script, seats)?;
+    Ok(BelowBus::new(seats, fates, devices, numbers, Vec::new(alloc)))
+}
+
 impl HubBelow {
     /// A transaction of the host with its endpoint 0 was heard.
     fn answer(&mut self, exchange: &Exchange, sent: &[u8])
@@ -112,18 +131,9 @@ impl BelowRecorder {
     ///
     /// `Memory` where a part of it finds no room.
     pub fn build(alloc: Global, script: &Script, seats: &[Seat]) -> Result<BelowRecorder, Memory> {
-        let devices = devices_of(alloc, script.devices.as_slice())?;
-        let numbers = vec![in alloc; 0u64; seats.len()]?;
-        Ok(BelowRecorder {
-            hubs: hubs_of(alloc, script.hubs.as_slice())?,
-            below: BelowBus::new(
-                Vec::from_slice(alloc, seats)?,
-                Vec::from_slice(alloc, script.fates.as_slice())?,
-                devices,
-                numbers,
-                Vec::new(alloc),
-            ),
-        })
+        let below = below_of(alloc, script, seats)?;
+        let hubs = hubs_of(alloc, script.hubs.as_slice())?;
+        Ok(BelowRecorder { hubs, below })
     }
 
     /// The host made this transaction, in which it sent these bytes.
