@@ -4,3 +4,4 @@ pub mod Laws
 pub mod Short
 pub mod Samples
 pub mod Parts
+pub mod Turns

@@ -18,3 +18,11 @@ pub mod ShortOuts
 pub mod SitdHands
 pub mod SitdFollowing
 pub mod ShortTexts
+pub mod Turns
+pub mod TurnsNew
+pub mod TurnsDriven
+pub mod TurnsCommands
+pub mod TurnsPipelines
+pub mod TurnsBegin
+pub mod TurnsAsks
+pub mod TurnsEnds

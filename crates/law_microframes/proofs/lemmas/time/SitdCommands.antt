@@ -1,6 +1,6 @@
 -- Each command leaves the fields of the driver's siTDs, in memory and in hand, and what it takes on is written with them (EHCI 1.0, 3.4 and
 -- 4.12.3).
-use Rattle.std.proofs.Common.{◌≡◌, ℕ, zero, suc, ◌+◌, ◌*◌, ◌<◌, ◌≤◌, Bool, true, false, List, length, drop, get_or, slice_get, Some, Result, Ok, Err, option_map, ap, refl, sym, subst, ◌∙◌, ⊎_elim, arith, if◌then◌else◌}
+use Rattle.std.proofs.Common.{◌≡◌, ℕ, zero, suc, ◌+◌, ◌*◌, ◌<◌, ◌≤◌, ◌⊎◌, Bool, true, false, List, length, drop, get_or, slice_get, Some, Result, Ok, Err, option_map, ap, refl, sym, subst, ◌∙◌, ⊎_elim, inl, inr, arith, if◌then◌else◌}
 use Rattle.std.proofs.lemmas.Option.{same_Some}
 use Rattle.std.proofs.lemmas.List.{get_or-drop, length-append, length-drop}
 use Rattle.usb_base.specs.declared.commands.Cmd.{Cmd}
@@ -65,11 +65,12 @@ use Rattle.law_microframes.proofs.lemmas.time.SitdWorlds.{IsSitdFrame, sitd_in_h
 
 -- ---- one that was there before
 
-record IsOldSplit (d : DriverContent) (new : DriverContent) (j : SplitTransfer new) : Type 0 where
-  before : SplitTransfer d
-  first : before.transfer.first ≡ j.transfer.first
-  desc : before.endpoint.desc ≡ j.endpoint.desc
-  placement : before.placement ≡ j.placement
+pub record IsOldSplit (d : DriverContent) (new : DriverContent) (j : SplitTransfer new) : Type 0 where
+  pub before : SplitTransfer d
+  pub number : before.number ≡ j.number
+  pub first : before.transfer.first ≡ j.transfer.first
+  pub desc : before.endpoint.desc ≡ j.endpoint.desc
+  pub placement : before.placement ≡ j.placement
 
 module _ (d : DriverContent) (m : Mem) (c : Control) (o : Offered) (place : IsInPlace m d) (reason : Accepts d m o)
     (old : SitdsStand d m c) (j : SplitTransfer o.driver) (k : IsOldSplit d o.driver j) where
@@ -98,9 +99,17 @@ module _ (d : DriverContent) (m : Mem) (c : Control) (o : Offered) (place : IsIn
       → HaveSitdFields h.sitd j.endpoint.desc j.placement
   old_hand h on is at = of_old h.sitd (old.hand k.before h on is (at ∙ ap (λ (b : ℕ). 32 * b) (sym k.first)))
 
+-- one that a command takes on
+pub record IsNewSplit (new : DriverContent) (m : Mem) (j : SplitTransfer new) : Type 0 where
+  pub number : ℕ
+  pub first : ℕ
+  pub awaits : AwaitsLend new m number first
+  pub index : ℕ
+  pub there : slice_get (drop first new.transfers) index ≡ Some j.transfer
+
 -- ---- a refused command
 
-abbrev refused_split : (w : World) (line : ℕ) (name : EpName) (why : OfferError) → SplitTransfer (commanded_by w line name (Err why)).driver
+abbrev pub refused_split : (w : World) (line : ℕ) (name : EpName) (why : OfferError) → SplitTransfer (commanded_by w line name (Err why)).driver
     → SplitTransfer w.driver
 refused_split w line name why j = record {
   number = j.number;
@@ -124,7 +133,7 @@ refused_stand w line name why old = record {
 
 -- ---- a command that takes on no descriptors
 
-told_old : (d : DriverContent) (m : Mem) (o : Offered) → IsInPlace m d → IsTold d o → (j : SplitTransfer o.driver) → IsOldSplit d o.driver j
+pub told_old : (d : DriverContent) (m : Mem) (o : Offered) → IsInPlace m d → IsTold d o → (j : SplitTransfer o.driver) → IsOldSplit d o.driver j
 told_old d m o place told j =
     let was = told.transfers_are j.number j.transfer j.there j.sort in
     let of : IsSeenIn d.endpoints j.transfer.endpoint j.endpoint =
@@ -142,6 +151,7 @@ told_old d m o place told j =
         here = of.here;
         placed = ap (λ (s : Seen). s.placement) of.same ∙ j.placed;
       };
+      number = refl;
       first = refl;
       desc = ap (λ (s : Seen). s.desc) of.same;
       placement = refl;
@@ -190,7 +200,7 @@ slot_fits x len one most = by (goes_in x.name.way)
     by true = subst (λ (n : ℕ). n ≤ x.max) (sym all) (omega arith)
     by false = subst (λ (n : ℕ). len ≤ n) all most
 
-split_words : (x : EpDesc) (note : DescriptorNote) (m : Mem) (b : ℕ) → note.split ≡ true
+pub split_words : (x : EpDesc) (note : DescriptorNote) (m : Mem) (b : ℕ) → note.split ≡ true
     → words_at m (32 * b) (words_of_descriptor note.split) ≡ descriptor_words x note
     → words_at m (32 * b) 7 ≡ sitd_words (new_sitd x note.smask note.cmask note.slot note.buffer)
 split_words x note m b split words =
@@ -246,6 +256,7 @@ module _ (w : World) (name : EpName) (count len seed : ℕ) (o : Offered) (mixed
             here = of.here;
             placed = ap (λ (s : Seen). s.placement) of.same ∙ j.placed;
           };
+          number = refl;
           first = refl;
           desc = ap (λ (s : Seen). s.desc) of.same;
           placement = refl;
@@ -361,6 +372,14 @@ module _ (w : World) (name : EpName) (count len seed : ℕ) (o : Offered) (mixed
               ∙ taken_first (λ (b : ℕ). slot_of d.book.slots b ≡ Empty) k.number
               (slots_of k.endpoint k.len) k.count bs new.index j.transfer enough (λ q below. by.taken.fresh q below) new.there)
 
+    each_split : (j : SplitTransfer o.driver) → IsOldSplit w.driver o.driver j ⊎ IsNewSplit o.driver o.memory j
+    each_split j =
+        ⊎_elim {C = IsOldSplit w.driver o.driver j ⊎ IsNewSplit o.driver o.memory j}
+        (λ (was : slice_get d.transfers j.number ≡ Some j.transfer). inl (was_old j was))
+        (λ (new : IsLater (made k.number (slots_of k.endpoint k.len) k.count bs) j.transfer).
+        inr (record { number = k.number; first = length d.transfers; awaits = awaited j new; index = new.index; there = dropped j new }))
+        (transfer_there d m o place k bs by j.number j.transfer j.there)
+
     iso_stand : SitdsStand o.driver o.memory w.control
     iso_stand = record {
       fields = λ j.
@@ -375,6 +394,10 @@ module _ (w : World) (name : EpName) (count len seed : ℕ) (o : Offered) (mixed
           (λ (new : IsLater (made k.number (slots_of k.endpoint k.len) k.count bs) j.transfer). absurd (other_hand j new h on in_hand at))
           (transfer_there d m o place k bs by j.number j.transfer j.there);
     }
+
+  -- each is one or the other
+  pub iso_split : (j : SplitTransfer o.driver) → IsOldSplit w.driver o.driver j ⊎ IsNewSplit o.driver o.memory j
+  iso_split = each_split _ (by_runs d m o place k)
 
   iso_keeps : SitdsStand o.driver o.memory w.control
   iso_keeps = iso_stand _ (by_runs d m o place k)

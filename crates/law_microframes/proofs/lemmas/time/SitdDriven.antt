@@ -43,7 +43,7 @@ module _ (w : World) (mixed : IsMixedWorld w) (old : SitdsStand w.driver w.memor
   later : IsInPlace (driver_next w).memory (driver_next w).driver
   later = event_in_place p place
 
-  follows : Follows w.driver w.memory (driver_next w).driver
+  pub follows : Follows w.driver w.memory (driver_next w).driver
   follows = row_follows (driver_row p) p (each_is_due p) place.sound
 
   from : From w.driver w.memory j.number j.transfer
@@ -54,7 +54,7 @@ module _ (w : World) (mixed : IsMixedWorld w) (old : SitdsStand w.driver w.memor
       (sym (row_seen j.transfer.endpoint (driver_row p) p)) j.here
 
   -- as it was before
-  before : SplitTransfer w.driver
+  pub before : SplitTransfer w.driver
   before = record {
     number = j.number;
     transfer = from.transfer;
@@ -102,6 +102,19 @@ module _ (w : World) (mixed : IsMixedWorld w) (old : SitdsStand w.driver w.memor
       row_leaves p b j.number i ((views_of w.driver).descriptor b).split sound.stands sound.shape sound.owners sound.ring
       (list_apart w.driver w.memory sound.stands sound.shape sound.owners sound.listed) o.descriptor (inside i small) some (driver_row p)
       (each_is_due p) no_mend (inside_then i small)
+
+  pub was_first : before.transfer.first ≡ j.transfer.first
+  unfolding before
+  was_first = from.first
+
+  pub was_number : before.number ≡ j.number
+  unfolding before
+  was_number = refl
+
+  pub was_word : (i : ℕ) → 1 ≤ i → i < 7
+      → word_at (driver_next w).memory (32 * before.transfer.first + 4 * i) ≡ word_at w.memory (32 * before.transfer.first + 4 * i)
+  unfolding before
+  was_word i some small = word i some small
 
   of_before : (v : Sitd) → HaveSitdFields v of.endpoint.desc j.placement → HaveSitdFields v j.endpoint.desc j.placement
   of_before v h = subst (λ (x : EpDesc). HaveSitdFields v x j.placement) (ap (λ (s : Seen). s.desc) of.same) h

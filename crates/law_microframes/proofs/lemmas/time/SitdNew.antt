@@ -45,7 +45,7 @@ module _ (x : EpDesc) (smask cmask slot : ℕ) where
     };
   }
 
-  bare_range : HasFields x → smask < 256 → cmask < 256 → slot ≤ 1023
+  pub bare_range : HasFields x → smask < 256 → cmask < 256 → slot ≤ 1023
       → IsSitdInRange (record (new_sitd x smask cmask slot []) { link = link_at 0 })
   bare_range fits starts completes few = sitd_range x smask cmask slot [] 0 fits starts completes few (λ i. omega arith)
 

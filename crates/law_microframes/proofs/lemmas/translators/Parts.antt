@@ -80,7 +80,7 @@ begins ask bytes stuff es is once =
     (λ _. ap (λ (part : DataPart). (brought_by part (length bytes) nothing_brought).whole) is))
     (λ none. none_each Lacks k es (or_parts (is_there k es) (nat_lt (length es) 256) none).0))
 
-goes : (ask : Ask) (bytes : List ℕ) (stuff : ℕ) (es : List Entry) → asked_part ask ≡ parts.Middle → EachOf Lacks (key_of ask) es
+pub goes : (ask : Ask) (bytes : List ℕ) (stuff : ℕ) (es : List Entry) → asked_part ask ≡ parts.Middle → EachOf Lacks (key_of ask) es
     → EachOf Lacks (key_of ask) (started ask bytes stuff es)
 goes ask bytes stuff es is all =
     let k : Key = key_of ask in
@@ -107,7 +107,7 @@ more_left b n h = by (nat_le n 1) (and_parts b (not (nat_le n 1)) h).1
     by true e = absurd (true≢false (sym e))
     by false e = refl
 
-part_of : (first : Bool) (v : Sitd) → v.tp ≡ position_of first v.t_count → nat_le v.t_count 1 ≡ false
+pub part_of : (first : Bool) (v : Sitd) → v.tp ≡ position_of first v.t_count → nat_le v.t_count 1 ≡ false
     → sent_part v.tp ≡ (if first then parts.Begin else parts.Middle)
 part_of true v tp more = let p : v.tp ≡ 1 = tp ∙ rw more refl in ap sent_part p
 part_of false v tp more = let p : v.tp ≡ 2 = tp ∙ rw more refl in ap sent_part p
@@ -123,7 +123,7 @@ own_part v most stuff bytes es of active way more once lacks =
           goes (out_ask v) bytes stuff es (part_of false v (at ∙ ap (λ (b : Bool). position_of b v.t_count) some) more) (lacks some)
     ]
 
-still_left : (v : Sitd) (u : ℕ) (reply : Reply) → v.dir_in ≡ false → (sitd_after u reply v).active ≡ true → nat_le v.t_count 1 ≡ false
+pub still_left : (v : Sitd) (u : ℕ) (reply : Reply) → v.dir_in ≡ false → (sitd_after u reply v).active ≡ true → nat_le v.t_count 1 ≡ false
 unfolding after_part
 still_left v u reply way on = more_left v.active v.t_count (rw way at on)
 

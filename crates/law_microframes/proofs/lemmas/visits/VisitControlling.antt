@@ -135,7 +135,7 @@ part_over_by r frame part row is past on periodic =
     (ap (λ (b : Bool). if b && not (is_over frame) then rows.Frame else enter_row r.async_enable) (sym on)
     ∙ ap (part_row r frame) (sym periodic) ∙ is) past
 
-past_over : (runs : Bool) (r : RegisterFile) (frame : FrameWalk) (part : MicroframePart) (row : ControllerRow)
+pub past_over : (runs : Bool) (r : RegisterFile) (frame : FrameWalk) (part : MicroframePart) (row : ControllerRow)
     → (if runs then part_row r frame part else rows.Idle) ≡ row → IsPast row
     → r.periodic_enable ≡ true → part ≡ Periodic → is_over frame ≡ true
 past_over true r frame part row is past on periodic = part_over_by r frame part row is past on periodic

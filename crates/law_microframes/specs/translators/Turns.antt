@@ -1,0 +1,155 @@
+-- The isochronous OUTs below hubs at a moment of a run: what a siTD has sent of the packet of its frame, its entry has had (USB 2.0,
+-- 11.18.4; EHCI 1.0, 3.4.4, 4.6 and 4.12.3).
+--     pipeline_for hs hub port   the entries of the translator by which the hub with this address serves this port
+--     EntriesAre P hs v       where the siTD v of an OUT is still active after a part, P holds of each entry of its key
+--     IsInHand c n            a copy of the siTD at n is in hand
+--     IsInFrame w i           the frame of descriptor i is this one
+--     HasNoFrame d i          it wasn't chosen yet
+--     OutsGoOn w vs           such an entry lacks its last part, by the siTD in memory, if it is of this frame and not in hand, and by the
+--                             copy in hand; none came to it in this microframe, if the siTD isn't among the visited `vs` or its copy waits
+--                             for its turn
+--     OutsAreLacked           so the entry of the siTD in hand lacks its last part, and none came to it in this microframe
+--     UnframedIsNew           of one that has no frame yet no part was sent
+--     DriverKeepsOuts         each event of the driver goes on with it; CommandKeepsOuts: and each command
+--     BeginKeepsOuts          .. and a microframe that begins; EndKeepsOuts: one that ends; IdleKeepsOuts: an event of
+--                             nothing. NewOutsGoOn: so it begins
+--     OtherAsksLeave P        P stays of the entries of a key where the host starts none of it; LaterPartsLeave: so does an
+--                             OUT's part that isn't its first nor its last, of its own key
+use Rattle.std.specs.Prelude.{◌≡◌, ℕ, ◌*◌, ◌≤◌, ◌==◌, position, true, false, List, [], length, slice_get, Option, Some, None}
+use Rattle.std.specs.Option.{option_map_or}
+use Rattle.usb_base.specs.declared.commands.Cmd.{Cmd}
+use Rattle.usb_base.specs.declared.packets.Ask.{Ask}
+use Rattle.usb_base.specs.declared.packets.DataPart.{DataPart}
+use Rattle.usb_base.specs.declared.packets.Split.TheVariants.{Start}
+use Rattle.hub_keys.specs.Keys.{key_of, is_same_key}
+use Rattle.hub_keys.specs.declared.key.Key.{Key}
+use Rattle.multi_tt.specs.Single.{is_buffered}
+use Rattle.usb_base.specs.declared.commands.Cmd.TheVariants as commands
+use Rattle.itd_sitd.specs.declared.sitd.Sitd.{Sitd}
+use Rattle.tt_pipeline.specs.declared.entry.Entry.{Entry}
+use Rattle.multi_tt.specs.Translators.{place_of}
+use Rattle.hub_class.specs.HubContent.{HubContent}
+use Rattle.usb_base.specs.declared.packets.Reply.{Reply}
+use Rattle.hc_iso.specs.declared.held.HeldSitd.{HeldSitd}
+use Rattle.hc_iso.specs.Sitd.{sitd_after, sitd_transaction}
+use Rattle.law_microframes.specs.time.SitdParts.{IsInParts}
+use Rattle.periodic_walk.specs.declared.state.Hand.TheVariants as hands
+use Rattle.hc_core.specs.declared.controller.MicroframePart.TheVariants.{Periodic}
+use Rattle.hc_core.specs.Controller.{Control}
+use Rattle.drv_periodic_table.specs.Descriptors.{sitd_in}
+use Rattle.drv_periodic_table.specs.Periodic.{note_at}
+use Rattle.drv_table.specs.declared.content.Endpoint.{Endpoint}
+use Rattle.drv_table.specs.DriverContent.{DriverContent, is_same_name}
+use Rattle.drv_table.specs.Kinds.{is_iso}
+use Rattle.bandwidth.specs.Placements.{is_classic}
+use Rattle.claims_driver.specs.DueMembers.{framed_to}
+use Rattle.hc_core.specs.declared.controller.ControllerRow.TheVariants as rows
+use Rattle.bus_wire.specs.Bus.{Bus, Fixed, transact_after}
+use Rattle.script_types.specs.declared.scripts.Script.{Script}
+use Rattle.bus_world.specs.Opening.{opening_world}
+use Rattle.bus_world.specs.World.{World, controller_row, controller_next, driver_next, commanded}
+use Rattle.claims_world.specs.Visits.{frame_in, HasVisited}
+use Rattle.law_world.specs.memory.Mixed.{IsMixedWorld}
+use Rattle.law_microframes.specs.time.SitdFields.{SplitTransfer, SitdsStand}
+use Rattle.law_microframes.specs.translators.Watching.{pipeline_in}
+use Rattle.law_microframes.specs.translators.Keeping.{PartsAreLacked}
+use Rattle.law_microframes.specs.translators.Parts.{EachOf, Lacks, IsEven, key_asked}
+
+-- ---- the entries that a siTD means
+
+abbrev pub entries_at : Option ℕ → HubContent → List Entry
+entries_at o h = option_map_or (pipeline_in h.translators.all) o []
+
+abbrev pub entries_of_hub : Option HubContent → ℕ → List Entry
+entries_of_hub o port = option_map_or (λ h. entries_at (place_of h.translators.multi port) h) o []
+
+abbrev pub entries_by : List HubContent → Option ℕ → ℕ → List Entry
+entries_by hs o port = option_map_or (λ i. entries_of_hub (slice_get hs i) port) o []
+
+abbrev pub pipeline_for : List HubContent → ℕ → ℕ → List Entry
+pipeline_for hs hub port = entries_by hs (position (λ x. x.address == hub) hs) port
+
+-- ---- one siTD
+
+abbrev pub EntriesAre : (Entry → Type 0) → List HubContent → Sitd → Type 0
+EntriesAre P hs v =
+    v.active ≡ true → v.dir_in ≡ false → (v.c_prog == 0) ≡ false → EachOf P (key_asked v) (pipeline_for hs v.hub v.port)
+
+-- ---- those of a world
+
+pub record IsInHand (c : Control) (n : ℕ) : Type 0 where
+  pub copy : HeldSitd
+  pub part : c.part ≡ Periodic
+  pub held : c.frame.hand ≡ Some (hands.Sitd copy)
+  pub at : copy.at ≡ n
+
+abbrev pub HasNoFrame : (d : DriverContent) → SplitTransfer d → Type 0
+HasNoFrame d i = framed_to d.command d.made (length d.transfers) ≤ i.number
+
+abbrev pub IsInFrame : (w : World) → SplitTransfer w.driver → Type 0
+IsInFrame w i = (note_at w.driver.periodic.notes i.transfer.first).frame ≡ frame_in w.registers.frame_index
+
+pub record OutsGoOn (w : World) (vs : List ℕ) : Type 0 where
+  pub there : (i : SplitTransfer w.driver) → IsInFrame w i → (IsInHand w.control (32 * i.transfer.first) → ⊥)
+      → EntriesAre Lacks w.bus.hubs (sitd_in w.memory i.transfer.first)
+  pub even : (i : SplitTransfer w.driver) → IsInFrame w i → (HasVisited (32 * i.transfer.first) vs → ⊥)
+      → EntriesAre IsEven w.bus.hubs (sitd_in w.memory i.transfer.first)
+  pub held : (h : HeldSitd) → w.control.part ≡ Periodic → w.control.frame.hand ≡ Some (hands.Sitd h) → EntriesAre Lacks w.bus.hubs h.sitd
+  pub held_even : (h : HeldSitd) → w.control.part ≡ Periodic → w.control.frame.hand ≡ Some (hands.Sitd h) → h.settled ≡ None
+      → EntriesAre IsEven w.bus.hubs h.sitd
+
+-- ---- the laws
+
+abbrev pub OutsAreLacked : Type 0
+OutsAreLacked = (w : World) (vs : List ℕ) → OutsGoOn w vs → PartsAreLacked w
+
+abbrev pub UnframedIsNew : Type 0
+UnframedIsNew = (w : World) → IsMixedWorld w → (i : SplitTransfer w.driver) → HasNoFrame w.driver i
+    → (sitd_in w.memory i.transfer.first).c_prog ≡ 0
+
+abbrev pub DriverKeepsOuts : Type 0
+DriverKeepsOuts = (w : World) (vs : List ℕ) → IsMixedWorld w → SitdsStand w.driver w.memory w.control → OutsGoOn w vs
+    → OutsGoOn (driver_next w) vs
+
+-- a command that takes on isochronous descriptors: below a hub they have one transaction in a microframe, of a packet at most
+abbrev pub TakesSlots : DriverContent → Cmd → Type 0
+TakesSlots d (commands.Iso name count len seed) =
+    (e : ℕ) (v : Endpoint) → slice_get d.endpoints e ≡ Some v → is_iso v.desc.kind ≡ true
+    → is_classic v.desc.speed ≡ true → is_same_name v.desc.name name ≡ true
+    → (v.desc.multi ≡ 1) × (len ≤ v.desc.max * v.desc.multi)
+TakesSlots d _ = Unit {0}
+
+abbrev pub CommandKeepsOuts : Type 0
+CommandKeepsOuts = (w : World) (line : ℕ) (cmd : Cmd) (vs : List ℕ) → TakesSlots w.driver cmd → IsMixedWorld w
+    → SitdsStand w.driver w.memory w.control → OutsGoOn w vs → OutsGoOn (commanded w line cmd) vs
+
+-- a microframe begins: nothing was visited in it
+abbrev pub BeginKeepsOuts : Type 0
+BeginKeepsOuts = (fixed : Fixed) (w : World) (vs : List ℕ) → controller_row w ≡ rows.Begin → OutsGoOn w vs
+    → OutsGoOn (controller_next fixed w) []
+
+-- a transaction of the host that starts none of this key leaves what is told of its entries
+abbrev pub OtherAsksLeave : (Entry → Type 0) → Type 0
+OtherAsksLeave P = (k : Key) (fixed : Fixed) (b : Bus) (ask : Ask) (out : List ℕ)
+    → ((hub port : ℕ) (part : DataPart) → ask.split ≡ Start hub port part → is_buffered ask.kind ≡ false
+    → is_same_key (key_of ask) k ≡ false)
+    → (hub port : ℕ) → EachOf P k (pipeline_for b.hubs hub port) → EachOf P k (pipeline_for (transact_after fixed b ask out).hubs hub port)
+
+abbrev pub EndKeepsOuts : Type 0
+EndKeepsOuts = (fixed : Fixed) (w : World) (vs : List ℕ) → IsMixedWorld w → controller_row w ≡ rows.End → OutsGoOn w vs
+    → OutsGoOn (controller_next fixed w) vs
+
+abbrev pub IdleKeepsOuts : Type 0
+IdleKeepsOuts = (fixed : Fixed) (w : World) (vs : List ℕ) → controller_row w ≡ rows.Idle → OutsGoOn w vs
+    → OutsGoOn (controller_next fixed w) vs
+
+-- before the first line
+abbrev pub NewOutsGoOn : Type 0
+NewOutsGoOn = (s : Script) → OutsGoOn (opening_world s) []
+
+-- a part of an OUT that has some before it and some behind it leaves its entry lacking its last
+abbrev pub LaterPartsLeave : Type 0
+LaterPartsLeave = (v : Sitd) (most u : ℕ) (reply : Reply) (fixed : Fixed) (b : Bus) (out : List ℕ) → IsInParts v most → v.active ≡ true
+    → v.dir_in ≡ false → (v.c_prog == 0) ≡ false → (sitd_after u reply v).active ≡ true → (hub port : ℕ)
+    → EachOf Lacks (key_asked v) (pipeline_for b.hubs hub port)
+    → EachOf Lacks (key_asked v) (pipeline_for (transact_after fixed b (sitd_transaction v).ask out).hubs hub port)
