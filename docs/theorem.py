@@ -37,7 +37,7 @@ SAYS = {
                 "with different frame numbers.",
     "given_back": "What was given back each later event of the controller leaves alone until it is lent again: it writes none of it, and it leaves the same whatever stands there.",
     "links": "At each moment the link of each live queue head of the ring leads to a live one, and each link of the frame list and of its members is the end or leads to a live member, also between the stores by which "
-             "one is linked or unlinked; the link of a queue head that left the ring leads to a live one, or to one that left later, and that of a queue head that left the frame list to the end of a frame, to a live "
+             "one is linked or unlinked; the link of a queue head that left the ring leads to a live one, or to one that left later, and that of a queue head or an isochronous descriptor that left the frame list to the end of a frame, to a live "
              "member, or to one that left later, each until it is given back; and while the doorbell is pending, and until Async Advance is cleared after it, one batch is rung: all of it left before that ringing, and what waits left since.",
     "visits": "In one microframe the walk of the frames visits no structure twice, and each in its frame, or in one from which it was unlinked in this microframe, and once it is over it has visited each to which the links of the frame led as "
               "the microframe began, and to which they lead still; in a held microframe no time is left; the asynchronous part ends for one of the standard's reasons, and a structure that is visited has its transaction, or is passed without it for one of the standard's reasons alone.",

@@ -1,6 +1,7 @@
 -- Where the links of structures lead, as memory has them (EHCI 1.0, 3.1, 3.6.1, 4.6, 4.8 and 4.8.2): those of live structures to live ones;
--- those of queue heads that left the ring to the head, to a live one, or to one that left later; those of queue heads that left the frame
--- list to the end of a frame, to a live member, or to one that left later; and for whom the doorbell was rung.
+-- those of queue heads that left the ring to the head, to a live one, or to one that left later; those of queue heads and isochronous
+-- descriptors that left the frame list to the end of a frame, to a live member, or to one that left later; and for whom the doorbell was
+-- rung.
 --     IsLive d b              in block b begins the head of the ring, or the queue head of an endpoint in the ring; one whose open is
 --                             unfinished is in it only from its last store on
 --     LeadsTo P v             the link word v is that to a queue head, in a block that is so (3.6.1)
@@ -18,7 +19,10 @@
 --     EndsOrLeadsLater d L v  the link word v is the end of a frame, or leads to a member that is live, or to one that left later, as L
 --                             tells
 --     LeadsOnUntilGone s j q  so does the link of queue head q after event j, until its endpoint is given back
---     LeavesFramesLeading s   so it is of each queue head that leaves the frame list
+--     IsDescriptorOf ts t b   transfer t of these has an isochronous descriptor, an iTD or a siTD, which begins in block b (3.3, 3.4)
+--     LeadsOnUntilReleased s j c
+--                             .. that of descriptor c, until its transfer is given back
+--     LeavesFramesLeading s   so it is of each queue head and of each descriptor that leaves the frame list
 --     LeftWithin s from n e   endpoint e left the ring at an event of the run, from this one on and before event n
 --     IsOneBatch s k d        before event k the doorbell was rung for all that is rung, which left before; and what waits left since
 --     IsPending w             the doorbell is pending, or its Async Advance isn't cleared yet (2.3.1, 2.3.2)
@@ -28,19 +32,22 @@ use Rattle.std.specs.List.{AllByRecursion}
 use Rattle.std.specs.Prelude.{◌≡◌, ◌≢◌, ℕ, suc, ◌/◌, ◌<◌, ◌≤◌, ◌⊎◌, true, false, List, [], ◌++◌, ◌∷◌, slice_get, Some}
 use Rattle.script_types.specs.declared.scripts.Script.{Script}
 use Rattle.word_mem.specs.Memory.{Mem, word_at}
+use Rattle.drv_chains.specs.declared.members.Descriptor.{Descriptor}
 use Rattle.drv_chains.specs.declared.members.Member.{Member}
-use Rattle.drv_chains.specs.declared.members.Member.TheVariants.{Each}
+use Rattle.drv_chains.specs.declared.members.Member.TheVariants.{Once, Each}
 use Rattle.drv_chains.specs.declared.members.QueueHead.{QueueHead as Queue}
 use Rattle.drv_chains.specs.declared.members.Predecessor.TheVariants.{Element, After}
 use Rattle.drv_chains.specs.Chains.{id_of}
 use Rattle.drv_members.specs.Members.{is_linked}
 use Rattle.drv_periodic.specs.Periodic.{address_of}
 use Rattle.drv_table.specs.declared.content.Endpoint.{Endpoint}
+use Rattle.drv_table.specs.declared.content.Transfer.{Transfer}
 use Rattle.drv_table.specs.declared.rows.DriverRow.TheVariants as rows
 use Rattle.drv_table.specs.DriverContent.{DriverContent}
 use Rattle.drv_table.specs.Words.{head_block, queue_head_link}
 use Rattle.bus_world.specs.Budgets.{moment}
 use Rattle.bus_world.specs.World.{World}
+use Rattle.claims_driver.specs.Owners.{is_descriptor}
 use Rattle.claims_driver.specs.Ring.{IsAmong, IsQueueOf, link_in}
 use Rattle.claims_driver.specs.Unlinked.{led}
 use Rattle.claims_world.specs.Memory.{linked_to}
@@ -114,8 +121,23 @@ pub record LeadsOnUntilGone (s : Script) (j : ℕ) (q : Queue) : Type 0 where
       (k : ℕ) (x : Endpoint) → j < k → slice_get (moment s k).world.driver.endpoints endpoint ≡ Some x → x.gone ≡ false
       → EndsOrLeadsLater (moment s k).world.driver (IsUnlinkedWithin s j k) (link_in (moment s k).world.memory (q.id / 32))
 
-abbrev pub LeavesFramesLeading : Script → Type 0
-LeavesFramesLeading s = (j : ℕ) (q : Queue) → IsUnlinkedBy s j (Each q) → LeadsOnUntilGone s j q
+pub record IsDescriptorOf (ts : List Transfer) (t b : ℕ) : Type 0 where
+  pub transfer : Transfer
+  pub here : slice_get ts t ≡ Some transfer
+  pub sort : is_descriptor transfer.sort ≡ true
+  pub block : transfer.first ≡ b
+
+pub record LeadsOnUntilReleased (s : Script) (j : ℕ) (c : Descriptor) : Type 0 where
+  pub number : ℕ
+  pub descriptor : IsDescriptorOf (moment s j).world.driver.transfers number (c.id / 32)
+  pub held : descriptor.transfer.released ≡ false
+  pub leads :
+      (k : ℕ) (y : Transfer) → j < k → slice_get (moment s k).world.driver.transfers number ≡ Some y → y.released ≡ false
+      → EndsOrLeadsLater (moment s k).world.driver (IsUnlinkedWithin s j k) (link_in (moment s k).world.memory (c.id / 32))
+
+pub record LeavesFramesLeading (s : Script) : Type 0 where
+  pub queues : (j : ℕ) (q : Queue) → IsUnlinkedBy s j (Each q) → LeadsOnUntilGone s j q
+  pub descriptors : (j : ℕ) (c : Descriptor) → IsUnlinkedBy s j (Once c) → LeadsOnUntilReleased s j c
 
 -- ---- the doorbell (4.8.2)
 

@@ -108,5 +108,8 @@ pub mod LeftCommands
 pub mod Untouched
 pub mod FrameFlips
 pub mod FrameLeft
+pub mod FrameNew
 pub mod FrameEndpoints
+pub mod FrameTransfers
 pub mod FrameQueues
+pub mod FrameOnce

@@ -11,7 +11,8 @@
 --     TextsKeepLinks       so links lead at each moment of each script that a text spells; and while the doorbell is pending one batch is
 --                          rung
 --     TextsLeaveFramesLeading
---                          and there so leads the link of each queue head that left the frame list, until its endpoint is given back
+--                          and there so leads the link of each queue head and of each isochronous descriptor that left the frame list,
+--                          until its endpoint, or its transfer, is given back
 use Rattle.std.specs.Prelude.{◌≡◌, ℕ, ◌<◌, true, List, [], ◌∷◌, ◌++◌, Some}
 use Rattle.usb_base.specs.declared.commands.Cmd.{Cmd}
 use Rattle.script_types.specs.declared.scripts.Script.{Script}

@@ -39,8 +39,8 @@ pub fn cleared_queues_lead_on()
     ensures controller { ControllerKeepsCleared }
 {}
 
-/// At each moment of each script that a text spells, the link of a queue head that left the frame list leads to the end of a frame, to a
-/// member that is live, or to one that left later, until its endpoint is given back.
+/// At each moment of each script that a text spells, the link of a queue head or of an isochronous descriptor that left the frame list
+/// leads to the end of a frame, to a member that is live, or to one that left later, until its endpoint, or its transfer, is given back.
 pub fn texts_leave_frames_leading()
     ensures { TextsLeaveFramesLeading }
 {}

@@ -91,7 +91,7 @@ frames_list : (d : DriverContent) (e : ℕ) (o : Option Endpoint) → list_of (l
 frames_list d e None = refl
 frames_list d e (Some x) = either_if (λ (f : DriverContent). list_of f ≡ list_of d) x.chained _ d (λ on. refl) (λ on. refl)
 
-finished_list : (d : DriverContent) (c : Command) → list_of (finished d c) ≡ list_of d
+pub finished_list : (d : DriverContent) (c : Command) → list_of (finished d c) ≡ list_of d
 finished_list d (unfinished.Unlink e b link) = ring_list (no_command d) e (slice_get d.endpoints e)
 finished_list d (unfinished.Unchain e) = frames_list (no_command d) e (slice_get d.endpoints e)
 finished_list d _ = refl

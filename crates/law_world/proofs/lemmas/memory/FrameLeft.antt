@@ -1,6 +1,7 @@
--- Right behind the last store that unlinks a queue head its link leads to the end of the frame, or to a member that is live.
+-- Right behind the last store that unlinks a member its link leads to the end of the frame, or to a member that is live.
 use Rattle.std.proofs.Common.{◌≡◌, ◌≢◌, ℕ, ◌+◌, ◌*◌, ◌/◌, ◌<◌, ◌≤◌, Bool, true, false, List, [], ◌∷◌, slice_get}
 use Rattle.std.proofs.Common.{is_none, ◌&&◌, Option, Some, None, if◌then◌else◌, ap, refl, sym, subst, ◌∙◌, ⊎_elim, arith}
+use Rattle.std.specs.Prelude.{option_and_then}
 use Rattle.std.specs.List.{AllByRecursion, list_any}
 use Rattle.std.proofs.lemmas.Bool.{true≢false, eqb-true, cases_Bool, and_parts}
 use Rattle.std.proofs.lemmas.Option.{same_Some}
@@ -11,13 +12,13 @@ use Rattle.drv_chains.specs.declared.members.Member.{Member}
 use Rattle.drv_chains.specs.declared.members.Member.TheVariants.{Once, Each}
 use Rattle.drv_chains.specs.declared.members.Predecessor.{Predecessor}
 use Rattle.drv_chains.specs.declared.members.Predecessor.TheVariants.{Element as AtElement, After}
-use Rattle.drv_chains.specs.declared.members.QueueHead.{QueueHead as Queue}
 use Rattle.drv_chains.specs.Chains.{Schedule, id_of, successor}
 use Rattle.drv_chains.specs.Stores.{is_word}
 use Rattle.drv_members.specs.Members.{IsKept, Members, is_linked, without_member, with_schedule, frame_of, is_member}
 use Rattle.drv_periodic.specs.declared.work.Work.{Work}
 use Rattle.drv_periodic.specs.declared.work.Store.{Store}
-use Rattle.drv_periodic.specs.Periodic.{Periodic, address_of, link_to, words_of, value_of, after_work, after_store, is_more}
+use Rattle.drv_periodic.specs.Periodic.{Periodic, address_of, link_to, words_of, value_of, next_store, store_of, after_work, after_store}
+use Rattle.drv_periodic.specs.Periodic.{is_more}
 use Rattle.drv_periodic.specs.Periodic.{members_after, removing}
 use Rattle.drv_periodic.specs.Periodic.{begun as begun_work}
 use Rattle.drv_periodic_table.specs.Linking.{unlinking, may_unlink, begun_next, with_first}
@@ -30,7 +31,7 @@ use Rattle.drv_table.specs.declared.rows.DriverRow.TheVariants as rows
 use Rattle.drv_table.specs.DriverContent.{DriverContent}
 use Rattle.drv_table.specs.Commands.{removes_members}
 use Rattle.drv_table.specs.Parts.{Parts}
-use Rattle.drv_table.specs.Removals.{after_unlink}
+use Rattle.drv_table.specs.Removals.{after_unlink, stored_link}
 use Rattle.drv_table.specs.Rows.{driver_row, after_driver_row}
 use Rattle.bus_world.specs.World.{World, driver_parts, controller_parts, driver_next}
 use Rattle.claims_base.specs.Controller.{opening_base}
@@ -50,16 +51,18 @@ use Rattle.law_driver.specs.run_owners.Due.{IsDue, IsLinkOf, IsUnlinkDue}
 use Rattle.law_frame_list.proofs.lemmas.list_closed.Chained.{still_linked, successor_is, other_words}
 use Rattle.law_frame_list.proofs.lemmas.list_steps.Stepping.{goes_on_list}
 use Rattle.law_frame_list.specs.list_closed.Closed.{IsNext}
+use Rattle.law_frame_words.proofs.lemmas.frame_words.Begins.{remove_stands}
 use Rattle.law_frame_words.proofs.lemmas.frame_words.Decoded.{IsWordOf}
-use Rattle.law_frame_words.proofs.lemmas.frame_words.InChains.{words_in, this_itself}
+use Rattle.law_frame_words.proofs.lemmas.frame_words.InChains.{words_in, that_itself, this_itself}
 use Rattle.law_frame_words.proofs.lemmas.frame_words.Order.{store_in_order}
 use Rattle.law_world.specs.memory.Mixed.{Standing, IsMixedAt}
 use Rattle.law_world.proofs.lemmas.memory.FrameFlips.{LedThen, same, a_link, an_unlink, row_led, next_led, either_if, successor_apart}
 use Rattle.law_world.proofs.lemmas.memory.LinkWords.{NextWord, next_word, nth_all, stored_off}
 use Rattle.law_world.proofs.lemmas.memory.lemmas.framed_memory.Now.{has_frames}
 
-itself_word : (q : Queue) → is_word (After (Each q)) (After (Each q)) ≡ true
-itself_word q = this_itself q
+itself_word : (x : Member) → is_word (After x) (After x) ≡ true
+itself_word (Once c) = that_itself c
+itself_word (Each q) = this_itself q
 
 way_by : (s : Schedule) (o : Option Work) (w : Work) → o ≡ Some w → HasMember s o → is_linked s w.member ≡ true
 way_by s None w is has = absurd (cc)
@@ -98,13 +101,13 @@ first_members : (q : PeriodicContent) (ms : List Member) → (with_first true q 
 first_members q [] = refl
 first_members q (x ∷ xs) = (begun_members q.list x).1
 
-next_members : (q : PeriodicContent) → (begun_next true q).list.members ≡ q.list.members
+pub next_members : (q : PeriodicContent) → (begun_next true q).list.members ≡ q.list.members
 next_members q =
     either_if (λ (r : PeriodicContent). r.list.members ≡ q.list.members) (is_none q.list.work) (with_first true q q.queued) q
     (λ e. first_members q q.queued) (λ e. refl)
 
-module _ (s : Standing) (w : World) (k : IsMixedAt s w) (q : Queue) (on : is_linked (led w.driver) (Each q) ≡ true)
-    (out : is_linked (led (driver_next w).driver) (Each q) ≡ false) where
+module _ (s : Standing) (w : World) (k : IsMixedAt s w) (x : Member) (on : is_linked (led w.driver) x ≡ true)
+    (out : is_linked (led (driver_next w).driver) x ≡ false) where
   abbrev p : Parts
   p = driver_parts w
 
@@ -126,199 +129,244 @@ module _ (s : Standing) (w : World) (k : IsMixedAt s w) (q : Queue) (on : is_lin
   kept : IsKept w.driver.periodic.list.members.schedule
   kept = frames.list.order.kept
 
-  linked : is_linked w.driver.periodic.list.members.schedule (Each q) ≡ true
-  linked = led_linked schedule list.work (Each q) on
+  linked : is_linked w.driver.periodic.list.members.schedule x ≡ true
+  linked = led_linked schedule list.work x on
 
   -- ---- which store it is
 
   row_of : IsDue (driver_parts w) (driver_row (driver_parts w))
   row_of = each_is_due p
 
+  -- the store is the last of this work
   pub record IsLast : Type 0 where
-    pub link : IsLinkOf (driver_parts w) (driver_row (driver_parts w))
-    pub next : NextWord w.driver.periodic.list link.store
-    pub leaves : IsLeftOut w.driver.periodic.list next.work (Each q)
+    pub work : Work
+    pub leaves : IsLeftOut w.driver.periodic.list work x
+    pub way : is_linked w.driver.periodic.list.members.schedule work.member ≡ true
+    pub begun : Begun w.driver.periodic.list.list w.driver.periodic.list.members.schedule work (word_at w.memory)
+    pub led_then : led (driver_next w).driver ≡ without_member w.driver.periodic.list.members.schedule work.member
+    pub members_then : (driver_next w).driver.periodic.list.members.schedule
+        ≡ without_member w.driver.periodic.list.members.schedule work.member
+    pub under : (c : Command) → w.driver.command ≡ Some c → removes_members c ≡ true
+    pub memory : (driver_next w).memory
+        ≡ stored_link w.driver.book w.memory (store_of w.driver.periodic.list.list w.driver.periodic.list.members.schedule work)
 
-  led_next : (why : IsLinkOf (driver_parts w) (driver_row (driver_parts w)))
-      → led (driver_next w).driver ≡ led_in (after_store w.driver.periodic.list)
-  led_next why =
-      ap (λ (r : DriverRow). led (after_driver_row r p).driver) why.is
-      ∙ ap led_in (goes_on_list d why.command why.unfinished why.links why.late)
-      ∙ next_led (removes_members why.command) (record d.periodic { list = after_store list }) (store_in_order list frames.list.order).kept
+  -- ---- a store of a command
+
+  module _ (why : IsLinkOf (driver_parts w) (driver_row (driver_parts w))) where
+    n : NextWord w.driver.periodic.list why.store
+    n = next_word list why.store list.work refl why.next
+
+    led_next : led (driver_next w).driver ≡ led_in (after_store w.driver.periodic.list)
+    led_next =
+        ap (λ (r : DriverRow). led (after_driver_row r p).driver) why.is
+        ∙ ap led_in (goes_on_list d why.command why.unfinished why.links why.late)
+        ∙ next_led (removes_members why.command) (record d.periodic { list = after_store list })
+        (store_in_order list frames.list.order).kept
+
+    leaves_it : IsLeftOut w.driver.periodic.list n.work x
+    leaves_it =
+        ⊎_elim
+        (λ (still : is_linked (led_in (after_store list)) x ≡ true).
+        absurd (true≢false (sym still ∙ ap (λ (z : Schedule). is_linked z x) (sym led_next) ∙ out)))
+        (λ (o : IsLeftOut list n.work x). o) (members_kept list n.work x n.under_way on)
+
+    removes : removes_members why.command ≡ true
+    removes = unchains_by d d.command frames.listed.way n.work n.under_way leaves_it.removes why.command why.unfinished
+
+    abbrev then_content : PeriodicContent
+    then_content = record w.driver.periodic { list = after_store w.driver.periodic.list }
+
+    of_link : IsLast
+    of_link = record {
+      work = n.work;
+      leaves = leaves_it;
+      way = way_by schedule list.work n.work n.under_way frames.list.order.member;
+      begun = subst (λ (o : Option Work). StandsBy list.list schedule o (word_at m)) n.under_way frames.list.words;
+      led_then = led_next ∙ led_out list n.work n.under_way leaves_it.last leaves_it.removes;
+      members_then =
+          ap (λ (r : DriverRow). (after_driver_row r p).driver.periodic.list.members.schedule) why.is
+          ∙ ap (λ (l : Periodic). l.members.schedule) (goes_on_list d why.command why.unfinished why.links why.late)
+          ∙ ap (λ (b : Bool). (begun_next b then_content).list.members.schedule) removes
+          ∙ ap (λ (ms : Members). ms.schedule) (next_members then_content)
+          ∙ schedule_out list n.work n.under_way leaves_it.last leaves_it.removes;
+      under = λ c is. ap removes_members (same_Some c why.command (sym is ∙ why.unfinished)) ∙ removes;
+      memory =
+          ap (λ (r : DriverRow). (after_driver_row r p).memory) why.is
+          ∙ ap (stored_link d.book m)
+          (sym why.next ∙ ap (λ (o : Option Work). option_and_then (store_of list.list schedule) o) n.under_way);
+    }
+
+  -- ---- the one store that unlinks a descriptor
+
+  module _ (t : ℕ) (is : driver_row (driver_parts w) ≡ rows.Unlink t) (y : Transfer) (there : slice_get w.driver.transfers t ≡ Some y) where
+    abbrev leaving : Periodic → Type 0
+    leaving r = (led (driver_next w).driver ≡ led_in (after_store r))
+        × (((driver_next w).driver.periodic.list.members.schedule ≡ (after_store r).members.schedule)
+        × ((driver_next w).memory ≡ stored_link w.driver.book w.memory (next_store r)))
+
+    abbrev this : Member
+    this = descriptor_member w.driver.periodic.notes y.first
+
+    done : leaving (unlinking w.driver.periodic.list (descriptor_member w.driver.periodic.notes y.first))
+    done = (
+      ap (λ (r : DriverRow). led (after_driver_row r p).driver) is ∙ ap (λ (o : Option Transfer). led (after_unlink p t o).driver) there,
+      (
+        ap (λ (r : DriverRow). (after_driver_row r p).driver.periodic.list.members.schedule) is
+            ∙ ap (λ (o : Option Transfer). (after_unlink p t o).driver.periodic.list.members.schedule) there,
+        ap (λ (r : DriverRow). (after_driver_row r p).memory) is ∙ ap (λ (o : Option Transfer). (after_unlink p t o).memory) there,
+      ),
+    )
+
+    unlink_due : IsUnlinkDue (driver_parts w) t
+    unlink_due = subst (IsDue p) is row_of
+
+    none_begun : w.driver.periodic.list.work ≡ None
+    none_begun = (subst (IsUnderWay d) unlink_due.idle frames.listed.way).work
+
+    of_removing : (c : Descriptor) → c.frame < 1024 → may_unlink w.driver.periodic.list (Once c) ≡ true
+        → leaving (unlinking w.driver.periodic.list (Once c)) → IsLast
+    of_removing c small may old =
+        let r : Periodic = removing list (Once c) in
+        let v : Work = begun_work (Once c) true in
+        let eq : unlinking list (Once c) ≡ r = ap (λ (b : Bool). if b then removing list (Once c) else list) may in
+        let after : leaving r = subst leaving eq old in
+        let here : is_linked (led_in r) x ≡ true
+        = ap (λ (z : Periodic). is_linked (led_in z) x) (sym eq)
+        ∙ ap (λ (z : Schedule). is_linked z x) (unlinking_led list (Once c)) ∙ on in
+        let gone : is_linked (led_in (after_store r)) x ≡ false = ap (λ (z : Schedule). is_linked z x) (sym after.0) ∙ out in
+        let both = and_parts (is_none list.work) (is_member (Once c) && is_linked schedule (Once c)) may in
+        let linked_too = (and_parts (is_member (Once c)) (is_linked schedule (Once c)) both.1).1 in
+        let o : IsLeftOut r v x = ⊎_elim {C = IsLeftOut r v x}
+        (λ (still : is_linked (led_in (after_store r)) x ≡ true). absurd (true≢false (sym still ∙ gone))) (λ (o : IsLeftOut r v x). o)
+        (members_kept r v x refl here) in
+        record {
+          work = v;
+          leaves = record { removes = refl; last = o.last; is = o.is };
+          way = linked_too;
+          begun = remove_stands list (Once c) (word_at m) kept small linked_too none_begun frames.list.words;
+          led_then = after.0 ∙ led_out r v refl o.last refl;
+          members_then = after.1.0 ∙ schedule_out r v refl o.last refl;
+          under = λ c is. let bad = sym unlink_due.idle ∙ is in absurd (cc);
+          memory = after.1.1;
+        }
+
+    of_none : may_unlink w.driver.periodic.list (descriptor_member w.driver.periodic.notes y.first) ≡ false → ⊥
+    of_none none =
+        let eq : unlinking list this ≡ list = ap (λ (b : Bool). if b then removing list this else list) none in
+        true≢false (sym on ∙ sym (ap (λ (z : Schedule). is_linked z x)
+        (done.0 ∙ ap (λ (z : Periodic). led_in (after_store z)) eq ∙ ap (λ (o : Option Work). led_in (after_work list o)) none_begun))
+        ∙ out)
+
+    of_unlink : IsLast
+    of_unlink =
+        ⊎_elim {C = IsLast} (λ (may : may_unlink list this ≡ true). of_removing _ (frames.listed.list.frames y.first) may done)
+        (λ (none : may_unlink list this ≡ false). absurd (of_none none)) (cases_Bool (may_unlink list this))
+
+  unlinks_none : (t : ℕ) → driver_row (driver_parts w) ≡ rows.Unlink t → slice_get w.driver.transfers t ≡ None → ⊥
+  unlinks_none t is there =
+      true≢false (sym on ∙ sym (ap (λ (z : Schedule). is_linked z x)
+      (ap (λ (r : DriverRow). led (after_driver_row r p).driver) is ∙ ap (λ (o : Option Transfer). led (after_unlink p t o).driver) there))
+      ∙ out)
+
+  unlinks_by : (t : ℕ) → driver_row (driver_parts w) ≡ rows.Unlink t → (o : Option Transfer) → slice_get w.driver.transfers t ≡ o → IsLast
+  unlinks_by t is None there = absurd (unlinks_none t is there)
+  unlinks_by t is (Some y) there = of_unlink t is y there
+
+  last_by : LedThen (driver_parts w) (driver_row (driver_parts w)) → IsLast
+  last_by (same is) = absurd (true≢false (sym on ∙ ap (λ (z : Schedule). is_linked z x) (sym is) ∙ out))
+  last_by (a_link why) = of_link why
+  last_by (an_unlink t is) = unlinks_by t is (slice_get d.transfers t) refl
 
   last_store : IsLast
-  last_store = by (row_led p kept (driver_row p) row_of)
-    where
-      of_link : IsLinkOf (driver_parts w) (driver_row (driver_parts w)) → IsLast
-      of_link why =
-          let n : NextWord list why.store = next_word list why.store list.work refl why.next in
-          record {
-            link = why;
-            next = n;
-            leaves = ⊎_elim
-                (λ (still : is_linked (led_in (after_store list)) (Each q) ≡ true).
-                absurd (true≢false (sym still ∙ ap (λ (x : Schedule). is_linked x (Each q)) (sym (led_next why)) ∙ out)))
-                (λ (o : IsLeftOut list n.work (Each q)). o) (members_kept list n.work (Each q) n.under_way on);
-          }
-
-      -- a descriptor is unlinked
-      of_unlink : (t : ℕ) → driver_row (driver_parts w) ≡ rows.Unlink t → (o : Option Transfer) → slice_get w.driver.transfers t ≡ o
-          → IsLast
-      of_unlink t is None there =
-          absurd (true≢false (sym on ∙ sym (ap (λ (x : Schedule). is_linked x (Each q))
-          (ap (λ (r : DriverRow). led (after_driver_row r p).driver) is ∙ ap (λ (o : Option Transfer). led (after_unlink p t o).driver)
-          there))
-          ∙ out))
-      of_unlink t is (Some y) there =
-          let x : Member = descriptor_member d.periodic.notes y.first in
-          let due : IsUnlinkDue p t = subst (IsDue p) is row_of in
-          let after : led (driver_next w).driver ≡ led_in (after_store (unlinking list x))
-          = ap (λ (r : DriverRow). led (after_driver_row r p).driver) is ∙ ap (λ (o : Option Transfer). led (after_unlink p t o).driver)
-          there in
-          absurd (⊎_elim (λ (may : may_unlink list x ≡ true). of_removing _ may after)
-          (λ (none : may_unlink list x ≡ false). of_none x none due after)
-          (cases_Bool (may_unlink list x)))
-        where
-          of_removing : (c : Descriptor) → may_unlink w.driver.periodic.list (Once c) ≡ true
-              → led (driver_next w).driver ≡ led_in (after_store (unlinking w.driver.periodic.list (Once c))) → ⊥
-          of_removing c may after =
-              let r : Periodic = removing list (Once c) in
-              let eq : unlinking list (Once c) ≡ r = ap (λ (b : Bool). if b then removing list (Once c) else list) may in
-              let here : is_linked (led_in r) (Each q) ≡ true
-              = ap (λ (z : Periodic). is_linked (led_in z) (Each q)) (sym eq)
-              ∙ ap (λ (z : Schedule). is_linked z (Each q)) (unlinking_led list (Once c)) ∙ on in
-              let gone : is_linked (led_in (after_store r)) (Each q) ≡ false
-              = ap (λ (z : Periodic). is_linked (led_in (after_store z)) (Each q)) (sym eq)
-              ∙ ap (λ (z : Schedule). is_linked z (Each q)) (sym after) ∙ out in
-              let both = and_parts (is_none list.work) (is_member (Once c) && is_linked schedule (Once c)) may in
-              let linked_too = (and_parts (is_member (Once c)) (is_linked schedule (Once c)) both.1).1 in
-              ⊎_elim (λ (still : is_linked (led_in (after_store r)) (Each q) ≡ true). true≢false (sym still ∙ gone))
-              (λ (o : IsLeftOut r (begun_work (Once c) true) (Each q)).
-              let id : q.id ≡ c.id = eqb-true q.id c.id o.is in
-              let one : Each q ≡ Once c = frames.spread.once (Each q) (Once c) linked linked_too (ap (λ (n : ℕ). n / 32) id) in
-              cc one)
-              (members_kept r (begun_work (Once c) true) (Each q) refl here)
-
-          of_none : (x : Member) → may_unlink w.driver.periodic.list x ≡ false → IsUnlinkDue (driver_parts w) t
-              → led (driver_next w).driver ≡ led_in (after_store (unlinking w.driver.periodic.list x)) → ⊥
-          of_none x none due after =
-              let eq : unlinking list x ≡ list = ap (λ (b : Bool). if b then removing list x else list) none in
-              let idle : list.work ≡ None = (subst (IsUnderWay d) due.idle frames.listed.way).work in
-              true≢false (sym on ∙ sym (ap (λ (z : Schedule). is_linked z (Each q))
-              (after ∙ ap (λ (z : Periodic). led_in (after_store z)) eq ∙ ap (λ (o : Option Work). led_in (after_work list o)) idle)) ∙ out)
-
-      by : LedThen (driver_parts w) (driver_row (driver_parts w)) → IsLast
-      by (same is) = absurd (true≢false (sym on ∙ ap (λ (x : Schedule). is_linked x (Each q)) (sym is) ∙ out))
-      by (a_link why) = of_link why
-      by (an_unlink t is) = of_unlink t is (slice_get d.transfers t) refl
+  last_store = last_by (row_led p kept (driver_row p) row_of)
 
   -- ---- where it leads
 
-  way : is_linked w.driver.periodic.list.members.schedule last_store.next.work.member ≡ true
-  way = way_by schedule list.work last_store.next.work last_store.next.under_way frames.list.order.member
-
-  itself : Each q ≡ last_store.next.work.member
+  itself : x ≡ last_store.work.member
   itself =
-      frames.spread.once (Each q) last_store.next.work.member linked way
-      (ap (λ (n : ℕ). n / 32) (eqb-true q.id (id_of last_store.next.work.member) last_store.leaves.is))
+      frames.spread.once x last_store.work.member linked last_store.way
+      (ap (λ (n : ℕ). n / 32) (eqb-true (id_of x) (id_of last_store.work.member) last_store.leaves.is))
 
-  led_then : led (driver_next w).driver ≡ without_member w.driver.periodic.list.members.schedule (Each q)
-  led_then =
-      led_next last_store.link ∙ led_out list last_store.next.work last_store.next.under_way last_store.leaves.last
-      last_store.leaves.removes
-      ∙ ap (without_member schedule) (sym itself)
+  led_after : led (driver_next w).driver ≡ without_member w.driver.periodic.list.members.schedule x
+  led_after = last_store.led_then ∙ ap (without_member schedule) (sym itself)
 
-  abbrev behind : Option Member
-  behind = successor w.driver.periodic.list.members.schedule (Each q) q.phase
-
-  value_is : value_of w.driver.periodic.list.members.schedule last_store.next.work
-      ≡ link_to (successor w.driver.periodic.list.members.schedule (Each q) q.phase)
+  value_is : value_of w.driver.periodic.list.members.schedule last_store.work
+      ≡ link_to (successor w.driver.periodic.list.members.schedule x (frame_of x))
   value_is =
-      ap (λ (b : Bool). if b then link_to (successor schedule last_store.next.work.member (frame_of last_store.next.work.member))
-      else id_of last_store.next.work.member) last_store.leaves.removes
-      ∙ ap (λ (x : Member). link_to (successor schedule x (frame_of x))) (sym itself)
-
-  begun : Begun w.driver.periodic.list.list w.driver.periodic.list.members.schedule last_store.next.work (word_at w.memory)
-  begun = subst (λ (o : Option Work). StandsBy list.list schedule o (word_at m)) last_store.next.under_way frames.list.words
+      ap (λ (b : Bool). if b then link_to (successor schedule last_store.work.member (frame_of last_store.work.member))
+      else id_of last_store.work.member) last_store.leaves.removes
+      ∙ ap (λ (y : Member). link_to (successor schedule y (frame_of y))) (sym itself)
 
   own_by : (b : Bool)
-      → list_any (is_at w.driver.periodic.list.list (address_of w.driver.periodic.list.list (After (Each q))))
-      (made_of w.driver.periodic.list.members.schedule last_store.next.work) ≡ b
-      → (if b then value_of w.driver.periodic.list.members.schedule last_store.next.work
-      else begun.before (address_of w.driver.periodic.list.list (After (Each q))))
-      ≡ link_to (successor w.driver.periodic.list.members.schedule (Each q) q.phase)
+      → list_any (is_at w.driver.periodic.list.list (address_of w.driver.periodic.list.list (After x)))
+      (made_of w.driver.periodic.list.members.schedule last_store.work) ≡ b
+      → (if b then value_of w.driver.periodic.list.members.schedule last_store.work
+      else last_store.begun.before (address_of w.driver.periodic.list.list (After x)))
+      ≡ link_to (successor w.driver.periodic.list.members.schedule x (frame_of x))
   own_by true is = value_is
   own_by false is =
-      ap (λ (x : Member). begun.before (address_of list.list (After x))) itself ∙ begun.own
-      ∙ ap (λ (x : Member). link_to (successor schedule x (frame_of x))) (sym itself)
+      ap (λ (y : Member). last_store.begun.before (address_of list.list (After y))) itself ∙ last_store.begun.own
+      ∙ ap (λ (y : Member). link_to (successor schedule y (frame_of y))) (sym itself)
 
-  own_word : word_at w.memory (q.id / 32 * 32) ≡ link_to (successor w.driver.periodic.list.members.schedule (Each q) q.phase)
+  own_word : word_at w.memory (id_of x / 32 * 32) ≡ link_to (successor w.driver.periodic.list.members.schedule x (frame_of x))
   own_word =
-      begun.since (q.id / 32 * 32)
-      ∙ own_by (list_any (is_at list.list (address_of list.list (After (Each q)))) (made_of schedule last_store.next.work)) refl
+      last_store.begun.since (id_of x / 32 * 32)
+      ∙ own_by (list_any (is_at list.list (address_of list.list (After x))) (made_of schedule last_store.work)) refl
 
-  leads_by : (o : Option Member) → successor w.driver.periodic.list.members.schedule (Each q) q.phase ≡ o
+  leads_by : (o : Option Member) → successor w.driver.periodic.list.members.schedule x (frame_of x) ≡ o
       → EndsOrLeads (driver_next w).driver (link_to o)
   leads_by None is = ends refl
   leads_by (Some y) is =
-      let next : IsNext schedule q.phase (Some y) = subst (IsNext schedule q.phase) is (successor_is schedule (Each q) q.phase kept) in
+      let next : IsNext schedule (frame_of x) (Some y)
+      = subst (IsNext schedule (frame_of x)) is (successor_is schedule x (frame_of x) kept) in
       leads y
-      (ap (λ (z : Schedule). is_linked z y) led_then
-      ∙ still_linked schedule (Each q) y (successor_apart schedule (Each q) y q.phase kept is) next.0) refl
+      (ap (λ (z : Schedule). is_linked z y) led_after
+      ∙ still_linked schedule x y (successor_apart schedule x y (frame_of x) kept is) next.0) refl
 
   -- ---- .. and it is as before
 
-  word_off : (word : Predecessor) → IsWordOf w.driver.periodic.list.members.schedule word → is_word word (After (Each q)) ≡ false
-      → address_of 0 word / 4 ≢ 8 * (q.id / 32)
+  word_off : (word : Predecessor) → IsWordOf w.driver.periodic.list.members.schedule word → is_word word (After x) ≡ false
+      → address_of 0 word / 4 ≢ 8 * (id_of x / 32)
   word_off (AtElement f) of apart at =
-      ⊎_elim (λ (low : q.id / 32 < list.list). let first = frames.listed.list.list in omega (arith, low, first))
-      (λ (far : list.list + 128 ≤ q.id / 32). omega (arith, far, of, at)) (frames.spread.apart (Each q) linked)
-  word_off (After x) of apart at =
-      let block : id_of x / 32 ≡ q.id / 32 = omega (arith, at) in
-      let one : x ≡ Each q = frames.spread.once x (Each q) of linked block in
-      true≢false (sym (itself_word q) ∙ ap (λ (y : Member). is_word (After y) (After (Each q))) (sym one) ∙ apart)
+      ⊎_elim (λ (low : id_of x / 32 < list.list). let first = frames.listed.list.list in omega (arith, low, first))
+      (λ (far : list.list + 128 ≤ id_of x / 32). omega (arith, far, of, at)) (frames.spread.apart x linked)
+  word_off (After y) of apart at =
+      let block : id_of y / 32 ≡ id_of x / 32 = omega (arith, at) in
+      let one : y ≡ x = frames.spread.once y x of linked block in
+      true≢false (sym (itself_word x) ∙ ap (λ (z : Member). is_word (After z) (After x)) (sym one) ∙ apart)
 
-  pub queue_leads : EndsOrLeads (driver_next w).driver (link_in (driver_next w).memory (q.id / 32))
-  queue_leads =
-      let st : Store = last_store.link.store in
-      let n : NextWord list st = last_store.next in
+  stays_by : (o : Option Store) → store_of w.driver.periodic.list.list w.driver.periodic.list.members.schedule last_store.work ≡ o
+      → link_in (stored_link w.driver.book w.memory o) (id_of x / 32) ≡ link_in w.memory (id_of x / 32)
+  stays_by None is = refl
+  stays_by (Some st) is =
+      let r : Periodic = record list { work = Some last_store.work } in
+      let n : NextWord r st = next_word r st (Some last_store.work) refl is in
+      let this : x ≡ n.work.member = itself ∙ ap (λ (v : Work). v.member) (same_Some last_store.work n.work n.under_way) in
       let all = words_in schedule n.work.member kept in
-      let others = subst (λ (x : Member). AllByRecursion (λ v. is_word v (After x) ≡ false) (words_of schedule n.work)) (sym itself)
+      let others = subst (λ (y : Member). AllByRecursion (λ v. is_word v (After y) ≡ false) (words_of schedule n.work)) (sym this)
       (other_words schedule n.work.member) in
       let at : st.at ≡ address_of 0 n.word
-      = ap (λ (x : Store). x.at) (sym n.is) ∙ ap (λ (l : ℕ). address_of l n.word) frames.listed.list.list in
-      let off : st.at / 4 ≢ 8 * (q.id / 32)
-      = λ bad. word_off n.word (nth_all (IsWordOf schedule) (words_of schedule n.work) n.work.made n.word all n.here)
-      (nth_all (λ v. is_word v (After (Each q)) ≡ false) (words_of schedule n.work) n.work.made n.word others n.here)
-      (ap (λ (a : ℕ). a / 4) (sym at) ∙ bad) in
-      let memory : (driver_next w).memory ≡ store d.book m st.block st.at st.value
-      = ap (λ (r : DriverRow). (after_driver_row r p).memory) last_store.link.is in
-      let stays : link_in (driver_next w).memory (q.id / 32) ≡ link_in m (q.id / 32)
-      = ap (λ (x : Mem). link_in x (q.id / 32)) memory
-      ∙ stored_off m (can_store (slot_of d.book.slots st.block) st.at) st.at st.value (q.id / 32) off in
-      let turned : 32 * (q.id / 32) ≡ q.id / 32 * 32 = omega arith in
-      subst (EndsOrLeads (driver_next w).driver) (sym (stays ∙ ap (word_at m) turned ∙ own_word)) (leads_by behind refl)
+      = ap (λ (z : Store). z.at) (sym n.is) ∙ ap (λ (l : ℕ). address_of l n.word) frames.listed.list.list in
+      stored_off m (can_store (slot_of d.book.slots st.block) st.at) st.at st.value (id_of x / 32)
+      (λ bad. word_off n.word (nth_all (IsWordOf schedule) (words_of schedule n.work) n.work.made n.word all n.here)
+      (nth_all (λ v. is_word v (After x) ≡ false) (words_of schedule n.work) n.work.made n.word others n.here)
+      (ap (λ (a : ℕ). a / 4) (sym at) ∙ bad))
+
+  pub member_leads : EndsOrLeads (driver_next w).driver (link_in (driver_next w).memory (id_of x / 32))
+  member_leads =
+      let stays : link_in (driver_next w).memory (id_of x / 32) ≡ link_in m (id_of x / 32)
+      = ap (λ (z : Mem). link_in z (id_of x / 32)) last_store.memory
+      ∙ stays_by (store_of list.list schedule last_store.work) refl in
+      let turned : 32 * (id_of x / 32) ≡ id_of x / 32 * 32 = omega arith in
+      subst (EndsOrLeads (driver_next w).driver) (sym (stays ∙ ap (word_at m) turned ∙ own_word))
+      (leads_by (successor schedule x (frame_of x)) refl)
 
   -- ---- and it is out of the list
 
-  removes : removes_members last_store.link.command ≡ true
-  removes =
-      unchains_by d d.command frames.listed.way last_store.next.work last_store.next.under_way last_store.leaves.removes
-      last_store.link.command
-      last_store.link.unfinished
+  pub schedule_gone : is_linked (driver_next w).driver.periodic.list.members.schedule x ≡ false
+  schedule_gone = ap (λ (z : Schedule). is_linked z x) (last_store.members_then ∙ sym last_store.led_then) ∙ out
 
-  abbrev then_content : PeriodicContent
-  then_content = record w.driver.periodic { list = after_store w.driver.periodic.list }
+  -- ---- the command, if one is unfinished, unlinks
 
-  pub schedule_gone : is_linked (driver_next w).driver.periodic.list.members.schedule (Each q) ≡ false
-  schedule_gone =
-      let why = last_store.link in
-      ap (λ (r : DriverRow). is_linked (after_driver_row r p).driver.periodic.list.members.schedule (Each q)) why.is
-      ∙ ap (λ (l : Periodic). is_linked l.members.schedule (Each q)) (goes_on_list d why.command why.unfinished why.links why.late)
-      ∙ ap (λ (b : Bool). is_linked (begun_next b then_content).list.members.schedule (Each q)) removes
-      ∙ ap (λ (ms : Members). is_linked ms.schedule (Each q)) (next_members then_content)
-      ∙ ap (λ (z : Schedule). is_linked z (Each q))
-      (schedule_out list last_store.next.work last_store.next.under_way last_store.leaves.last last_store.leaves.removes
-      ∙ sym (led_out list last_store.next.work last_store.next.under_way last_store.leaves.last last_store.leaves.removes)
-      ∙ sym (led_next last_store.link))
-      ∙ out
+  pub unlinking_now : (c : Command) → w.driver.command ≡ Some c → removes_members c ≡ true
+  unlinking_now = last_store.under

@@ -55,11 +55,10 @@ use Rattle.law_descriptors.specs.Meeting.{met, or_recent}
 use Rattle.law_descriptors.specs.RowLaws.{HasFrames}
 use Rattle.law_frame_list.proofs.lemmas.list_spread.Spreading.{queue_there, standing_there}
 use Rattle.law_world.specs.memory.Aside.{IsAside}
-use Rattle.law_world.specs.memory.Links.{TextsLeaveFramesLeading}
 use Rattle.law_world.specs.memory.Mixed.{Standing, IsMixedWorld}
 use Rattle.law_world.specs.memory.Owners.{EndsActive}
 use Rattle.law_world.proofs.lemmas.memory.Driving.{driver_keeps_mixed}
-use Rattle.law_world.proofs.lemmas.memory.FrameLeft.{queue_leads, schedule_gone}
+use Rattle.law_world.proofs.lemmas.memory.FrameLeft.{member_leads, schedule_gone}
 use Rattle.law_world.proofs.lemmas.memory.LetGo.{moment_then}
 use Rattle.law_world.proofs.lemmas.memory.LinkLent.{queue_told, command_leaves_aside, controller_leaves_aside, driver_leaves_lent}
 use Rattle.law_world.proofs.lemmas.memory.LinkWords.{driver_leaves_aside}
@@ -207,6 +206,20 @@ module _ (fixed : Fixed) (w : World) (k : IsMixedWorld w) (active : EndsActive w
   by_orders (Command n cmd ∷ rest) = command_off w n cmd k e b o
   by_orders _ = record { off = o; alive = λ a. a; keeps = λ alive lent. (refl, lent) }
 
+-- no command unlinks a member
+pub command_led : (w : World) → IsMixedWorld w → (line : ℕ) (cmd : Cmd) → led (commanded w line cmd).driver ≡ led w.driver
+command_led w k line cmd = answered (offered w.driver w.memory cmd) refl
+  where
+    frames : HasFrames w.memory w.driver
+    frames =
+        let s : Standing = k.standing in
+        has_frames opening_base s.member s.recent s.descs s.parts s.hand s.frame (controller_parts w) w.driver k.mixed.now
+
+    answered : (r : Result Offered OfferError) → offered w.driver w.memory cmd ≡ r
+        → led (commanded_by w line (name_in cmd) r).driver ≡ led w.driver
+    answered (Ok g) is = accepted_led w.driver w.memory g (accepted_for_a_reason w.driver w.memory cmd g is) frames.list.order.kept
+    answered (Err why) is = refl
+
 -- ---- the event by which it leaves
 
 record First (w v : World) (q : Queue) : Type 0 where
@@ -290,7 +303,7 @@ module _ (w : World) (k : IsMixedWorld w) (q : Queue) (on : is_linked (led w.dri
         let same : Each (queue_of y its.place) ≡ Each q
         = ap (λ (b : ℕ). queue_member b its.place) (next.keeps.queue ∙ ap (λ (z : Framed). z.queue) (sym x_of)) ∙ sym its.is in
         absurd (true≢false (sym there ∙ ap (λ (m : Member). is_linked new.periodic.list.members.schedule m) same
-        ∙ schedule_gone s w k.mixed q on out))
+        ∙ schedule_gone s w k.mixed (Each q) on out))
 
     driver_first : First w (driver_next w) q
     driver_first = record {
@@ -313,17 +326,8 @@ module _ (w : World) (k : IsMixedWorld w) (q : Queue) (on : is_linked (led w.dri
           let at : z.queue ≡ q.id / 32 = ap (λ (y : Endpoint). y.queue) (sym same) ∙ next.keeps.queue ∙ block in
           driver_leaves_lent s w k.mixed (q.id / 32) block_lent
           (subst (λ (c : ℕ). HasRun (slot_of new.book.slots c)) at (run_of new has its.number z here (has_queue z iso alive)));
-      leads = queue_leads s w k.mixed q on out;
+      leads = member_leads s w k.mixed (Each q) on out;
     }
-
-  command_led : (line : ℕ) (cmd : Cmd) → led (commanded w line cmd).driver ≡ led w.driver
-  command_led line cmd = answered (offered w.driver w.memory cmd) refl
-    where
-      answered : (r : Result Offered OfferError) → offered w.driver w.memory cmd ≡ r
-          → led (commanded_by w line (name_in cmd) r).driver ≡ led w.driver
-      answered (Ok g) is =
-          accepted_led w.driver w.memory g (accepted_for_a_reason w.driver w.memory cmd g is) frames.list.order.kept
-      answered (Err why) is = refl
 
   first_by : (fixed : Fixed) (orders : List Left) → is_linked (led (tick_at fixed w orders).world.driver) (Each q) ≡ false
       → First w (tick_at fixed w orders).world q
@@ -332,7 +336,7 @@ module _ (w : World) (k : IsMixedWorld w) (q : Queue) (on : is_linked (led w.dri
   first_by fixed (Microframes (suc n) ∷ rest) out = absurd (true≢false (sym on ∙ out))
   first_by fixed (Answer ended n ∷ rest) out = driver_first out
   first_by fixed (Command n cmd ∷ rest) out =
-      absurd (true≢false (sym on ∙ sym (ap (λ (z : Schedule). is_linked z (Each q)) (command_led n cmd)) ∙ out))
+      absurd (true≢false (sym on ∙ sym (ap (λ (z : Schedule). is_linked z (Each q)) (command_led w k n cmd)) ∙ out))
   first_by fixed _ out = absurd (true≢false (sym on ∙ out))
 
 -- ---- along the run
@@ -345,7 +349,7 @@ module _ (text : List ℕ) (script : Script) (spelled : Spells text script) wher
       e b o
       (moment script k).orders)
 
-  abbrev LeadsLater : ℕ → ℕ → ℕ → Type 0
+  abbrev pub LeadsLater : ℕ → ℕ → ℕ → Type 0
   LeadsLater j k v = EndsOrLeadsLater (moment script k).world.driver (IsUnlinkedWithin script j k) v
 
   -- what it leads to stays live, or leaves now
@@ -355,7 +359,7 @@ module _ (text : List ℕ) (script : Script) (spelled : Spells text script) wher
   later_by j k v x past on is false gone =
       unlinked_later x (record { event = k; behind = past; earlier = omega arith; unlinked = record { before = on; after = gone } }) is
 
-  later : (j k v : ℕ) → j < k → LeadsLater j k v → LeadsLater j (suc k) v
+  pub later : (j k v : ℕ) → j < k → LeadsLater j k v → LeadsLater j (suc k) v
   later j k v past (now (ends is)) = now (ends is)
   later j k v past (now (leads x on is)) =
       later_by j k v x past on is (is_linked (led (moment script (suc k)).world.driver) x) refl
@@ -403,7 +407,7 @@ module _ (text : List ℕ) (script : Script) (spelled : Spells text script) wher
     stood_at : (i : ℕ) → j < i → Stood i
     stood_at i past = stood_from (i - suc j) i (omega (arith, past))
 
-    leads_on : LeadsOnUntilGone script j q
+    pub leads_on : LeadsOnUntilGone script j q
     leads_on = record {
       endpoint = first.endpoint;
       queue = first.queue;
@@ -413,6 +417,3 @@ module _ (text : List ℕ) (script : Script) (spelled : Spells text script) wher
           let same : x ≡ h.off.endpoint = same_Some x h.off.endpoint (sym here ∙ h.off.here) in
           (h.then (ap (λ (y : Endpoint). y.gone) (sym same) ∙ alive)).1;
     }
-
-pub texts_leave_frames_leading : TextsLeaveFramesLeading
-texts_leave_frames_leading = λ text s spelled j q u. leads_on text s spelled j q u

@@ -17,7 +17,7 @@ use Rattle.law_world.specs.memory.Links.{HoldsLiveLinks, MixedHoldsLinks, AreOut
 use Rattle.law_world.specs.memory.Mixed.{Standing, IsMixedWorld}
 use Rattle.law_world.specs.memory.Owners.{EndsActive}
 use Rattle.law_world.proofs.lemmas.memory.FrameLeads.{element_ends, member_ends}
-use Rattle.law_world.proofs.lemmas.memory.FrameQueues.{texts_leave_frames_leading}
+use Rattle.law_world.proofs.lemmas.memory.FrameOnce.{texts_leave_frames_leading}
 use Rattle.law_world.proofs.lemmas.memory.LeftCommands.{command_keeps_cleared, controller_keeps_cleared}
 use Rattle.law_world.proofs.lemmas.memory.LeftLinks.{driver_keeps_cleared}
 use Rattle.law_world.proofs.lemmas.memory.LetGo.{moment_then}
