@@ -12,3 +12,6 @@ pub mod InFrames
 pub mod Moments
 pub mod Own
 pub mod Sampled
+pub mod SlotAhead
+pub mod SlotMoments
+pub mod SlotSampled

@@ -1,10 +1,15 @@
 -- The law of what is due as its microframe begins.
 --     TextsDoWhatIsDueAtBegin     of each script that a text spells: what was due as the microframe began is done once the walk of the
 --                                 frames is over
+--     TextsDoSlotsAtBegin         .. each slot of an iTD that was due as the microframe began is done, while it stays linked
 use Rattle.std.specs.Prelude.{ℕ, List}
 use Rattle.script_types.specs.declared.scripts.Script.{Script}
 use Rattle.script_text.specs.Faults.{Spells}
 use Rattle.claims_world.specs.DueAtBegin.{DueAtBeginIsDone}
+use Rattle.law_reports.specs.due_at_begin.SlotsAtBegin.{SlotsAtBeginAreDone}
 
 abbrev pub TextsDoWhatIsDueAtBegin : Type 0
 TextsDoWhatIsDueAtBegin = (text : List ℕ) (s : Script) → Spells text s → DueAtBeginIsDone s
+
+abbrev pub TextsDoSlotsAtBegin : Type 0
+TextsDoSlotsAtBegin = (text : List ℕ) (s : Script) → Spells text s → SlotsAtBeginAreDone s

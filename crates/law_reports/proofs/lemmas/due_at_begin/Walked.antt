@@ -128,7 +128,7 @@ ended_row (chains.Sitd a v) is = absurd (cc is)
 
 -- ---- what a fetch leaves in hand
 
-fetched_hand : (r : ChainRow) (w : Walk) → held_address (chain_walk r w).hand ≡ fetched_by r
+pub fetched_hand : (r : ChainRow) (w : Walk) → held_address (chain_walk r w).hand ≡ fetched_by r
 unfolding fetched_itd
 fetched_hand chains.Fault w = refl
 fetched_hand chains.Ends w = refl
