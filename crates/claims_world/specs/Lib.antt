@@ -21,6 +21,7 @@ pub mod SoFar
 pub mod Coming
 pub mod Due
 pub mod DueAtBegin
+pub mod SlotsAtBegin
 pub mod Unfinished
 pub mod Slots
 pub mod Losses

@@ -10,6 +10,8 @@ use Rattle.law_reports.proofs.lemmas.due_at_begin.Moments.{texts_do_what_is_due_
 use Rattle.claims_world.specs.Losses.{RepeatAfterLosses}
 use Rattle.law_microframes.proofs.lemmas.due.lemmas.repeats.RepeatMoments.{texts_repeat_after_losses}
 use Rattle.claims_world.specs.Slots.{SlotsAreDone}
+use Rattle.claims_world.specs.SlotsAtBegin.{SlotsAtBeginAreDone}
+use Rattle.law_reports.proofs.lemmas.due_at_begin.SlotMoments.{texts_do_slots_at_begin}
 use Rattle.claims_world.specs.Unfinished.{KeepsToWork}
 use Rattle.law_microframes.proofs.lemmas.due.Together.{texts_keep_due}
 use Rattle.law_microframes.proofs.lemmas.due.lemmas.slots.Moments.{texts_serve_slots}
@@ -46,3 +48,6 @@ source_repeats_after_losses = of_each RepeatAfterLosses texts_repeat_after_losse
 
 pub source_does_what_is_due_at_begin : (words : List (List ℕ)) (left : Option (List ℕ)) → OfEachScript DueAtBeginIsDone words left
 source_does_what_is_due_at_begin = of_each DueAtBeginIsDone texts_do_what_is_due_at_begin
+
+pub source_does_slots_at_begin : (words : List (List ℕ)) (left : Option (List ℕ)) → OfEachScript SlotsAtBeginAreDone words left
+source_does_slots_at_begin = of_each SlotsAtBeginAreDone texts_do_slots_at_begin

@@ -20,6 +20,7 @@ ghost use Rattle.claims_world.specs.Due.{KeepsDue};
 ghost use Rattle.claims_world.specs.DueAtBegin.{DueAtBeginIsDone};
 ghost use Rattle.claims_world.specs.Losses.{RepeatAfterLosses};
 ghost use Rattle.claims_world.specs.Slots.{SlotsAreDone};
+ghost use Rattle.claims_world.specs.SlotsAtBegin.{SlotsAtBeginAreDone};
 ghost use Rattle.claims_world.specs.Unfinished.{KeepsToWork};
 ghost use Rattle.claims_world.specs.Microframes.{MicroframesEnd};
 ghost use Rattle.claims_world.specs.Requests.{KeepsRequests};
@@ -107,7 +108,8 @@ use usb_base::{Sink, Source};
 /// S-mask that isn't held, with its device ready and none of the transaction's packets lost, the packet moved and was written back, where
 /// no more than 4 microseconds went for complete-splits made again. So it was of each of high speed for which all this stood as the
 /// microframe began, whatever the walk came to before, but of one of which a cancel was accepted since. So is each slot of an iTD to
-/// which the walk came while it was active: it is written back in its microframe. And at each moment the queue head of a bulk or
+/// which the walk came while it was active: it is written back in its microframe; and each that was active as the microframe began, in an
+/// iTD that stays linked. And at each moment the queue head of a bulk or
 /// interrupt endpoint that goes on and isn't halted, with a transfer that is stored and isn't done, works on an active qTD or goes on to
 /// one; so does its copy in the hand of either walk.
 ///
@@ -169,6 +171,7 @@ pub fn ehci<S: Source, K: Sink>(
     ensures due { OfEachScript KeepsDue (map string_bytes words.now) (S.left source.old) }
     ensures due_at_begin { OfEachScript DueAtBeginIsDone (map string_bytes words.now) (S.left source.old) }
     ensures slots { OfEachScript SlotsAreDone (map string_bytes words.now) (S.left source.old) }
+    ensures slots_at_begin { OfEachScript SlotsAtBeginAreDone (map string_bytes words.now) (S.left source.old) }
     ensures goes_on { OfEachScript KeepsToWork (map string_bytes words.now) (S.left source.old) }
     ensures streams { OfEachScript KeepsAllHighStreams (map string_bytes words.now) (S.left source.old) }
     ensures ends { OfEachScript EndsOnce (map string_bytes words.now) (S.left source.old) }

@@ -6,7 +6,7 @@ use Rattle.std.specs.Prelude.{ℕ, List}
 use Rattle.script_types.specs.declared.scripts.Script.{Script}
 use Rattle.script_text.specs.Faults.{Spells}
 use Rattle.claims_world.specs.DueAtBegin.{DueAtBeginIsDone}
-use Rattle.law_reports.specs.due_at_begin.SlotsAtBegin.{SlotsAtBeginAreDone}
+use Rattle.claims_world.specs.SlotsAtBegin.{SlotsAtBeginAreDone}
 
 abbrev pub TextsDoWhatIsDueAtBegin : Type 0
 TextsDoWhatIsDueAtBegin = (text : List ℕ) (s : Script) → Spells text s → DueAtBeginIsDone s

@@ -4,7 +4,7 @@ ghost use Rattle.std.specs.Prelude.{◌≡◌};
 ghost use Rattle.hc_core.specs.declared.controller.ControllerRow.TheVariants.{Begin};
 ghost use Rattle.bus_world.specs.World.{controller_row};
 ghost use Rattle.law_microframes.specs.due.slots.Samples.{due_at};
-ghost use Rattle.law_reports.specs.due_at_begin.SlotsAtBegin.{IsSlotDueAtBegin};
+ghost use Rattle.claims_world.specs.SlotsAtBegin.{IsSlotDueAtBegin};
 
 /// The Begin of its microframe leaves a world in which its slot is due.
 pub fn a_slot_is_due_at_begin()

@@ -48,7 +48,7 @@ use Rattle.law_microframes.proofs.lemmas.visits.NoneLeftWorlds.{frame_low, in_ch
 use Rattle.law_microframes.proofs.lemmas.visits.ReasonParts.{command_control}
 use Rattle.law_microframes.proofs.lemmas.visits.VisitsKept.{texts_visit_each}
 use Rattle.law_reports.specs.due_at_begin.Laws.{TextsDoSlotsAtBegin}
-use Rattle.law_reports.specs.due_at_begin.SlotsAtBegin.{IsLinkedItd, IsSlotDueAtBegin, StaysLinked, SlotsAtBeginAreDone}
+use Rattle.claims_world.specs.SlotsAtBegin.{IsLinkedItd, IsSlotDueAtBegin, StaysLinked, SlotsAtBeginAreDone}
 use Rattle.law_reports.proofs.lemmas.due_at_begin.SlotAhead.{IsActiveThere, its_part, active_read, active_there, aside_active}
 use Rattle.law_reports.proofs.lemmas.due_at_begin.SlotAhead.{fetched_there, walked_active, slot_apart_then}
 use Rattle.law_reports.proofs.lemmas.due_at_begin.Stages.{past_frames}

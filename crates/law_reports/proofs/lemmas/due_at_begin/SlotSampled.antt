@@ -29,7 +29,7 @@ use Rattle.claims_world.specs.Reach.{ItdAt}
 use Rattle.claims_world.specs.Reach.Reaches.{element}
 use Rattle.claims_world.specs.Visits.{is_there, frame_in}
 use Rattle.law_microframes.specs.due.slots.Samples.{due_at}
-use Rattle.law_reports.specs.due_at_begin.SlotsAtBegin.{IsSlotDueAtBegin}
+use Rattle.claims_world.specs.SlotsAtBegin.{IsSlotDueAtBegin}
 
 pub slot_begins : controller_row (due_at 0) ≡ Begin
 unfolding ticks lowest_run filled words_in with_words_in store_words lend_runs qh_words all_descriptors with_frames
