@@ -47,8 +47,8 @@ setup = 128 ∷ 6 ∷ 0 ∷ 1 ∷ 0 ∷ 0 ∷ 3 ∷ 0 ∷ []
 abbrev pub reply : List ℕ
 reply = 1 ∷ 2 ∷ 3 ∷ []
 
-abbrev pub request : Request
-request = record { setup = setup; bytes = [] }
+abbrev pub reading : Request
+reading = record { setup = setup; bytes = [] }
 
 abbrev pub endpoint : EpText
 endpoint = record classic {
@@ -125,7 +125,7 @@ at_request moved toggle done acted = Some (record {
 pub record SetupComesTrue : Type 0 where
   pub before : HubsHave Buffered (key Directions.Out) 0 0 set_up.bus.hubs (Asked (taken Pids.Setup Pids.Data0 setup))
   pub aside : HubsHave Buffered (key Directions.In) 0 0 set_up.bus.hubs Empty
-  pub right : AreRightHubs (IsRequestAsk request 3 0) set_up.bus.hubs
+  pub right : AreRightHubs (IsRequestAsk reading 3 0) set_up.bus.hubs
   pub unset : stages_at set_up ≡ Some (record { max = 64; naks = 0; request = None; acted = 0 })
   pub after : HubsHave Buffered (key Directions.Out) 0 0 after_setup.bus.hubs (There (taken Pids.Setup Pids.Data0 setup) (Hand Pids.Ack))
   pub stages : stages_at after_setup ≡ at_request 0 true false 0
@@ -133,13 +133,13 @@ pub record SetupComesTrue : Type 0 where
 pub record DataComeTrue : Type 0 where
   pub before : HubsHave Buffered (key Directions.In) 0 0 asked_data.bus.hubs (Asked (taken Pids.In Pids.Data1 []))
   pub aside : HubsHave Buffered (key Directions.Out) 0 0 asked_data.bus.hubs (Told (taken Pids.Setup Pids.Data0 setup) (Hand Pids.Ack))
-  pub right : AreRightHubs (IsRequestAsk request 3 0) asked_data.bus.hubs
+  pub right : AreRightHubs (IsRequestAsk reading 3 0) asked_data.bus.hubs
   pub after : HubsHave Buffered (key Directions.In) 0 0 after_data.bus.hubs (There (taken Pids.In Pids.Data1 []) (Bytes Pids.Data1 reply))
   pub stages : stages_at after_data ≡ at_request 64 false false 0
 
 pub record StatusComesTrue : Type 0 where
   pub before : HubsHave Buffered (key Directions.Out) 0 0 asked_status.bus.hubs (Asked (taken Pids.Out Pids.Data1 []))
-  pub right : AreRightHubs (IsRequestAsk request 3 0) asked_status.bus.hubs
+  pub right : AreRightHubs (IsRequestAsk reading 3 0) asked_status.bus.hubs
   pub after : HubsHave Buffered (key Directions.Out) 0 0 after_status.bus.hubs (There (taken Pids.Out Pids.Data1 []) (Hand Pids.Ack))
   pub stages : stages_at after_status ≡ at_request 64 false true 1
 
@@ -156,7 +156,7 @@ abbrev pub other_kind : Wired
 other_kind = stepped opened (Asks (record (ask_by (Start 9 1 All) Pids.Setup Pids.Data0) { kind = Kinds.Bulk }) setup)
 
 pub record OtherKindBreaks : Type 0 where
-  pub wrong : AreRightHubs (IsRequestAsk request 3 0) other_kind.bus.hubs → ⊥
+  pub wrong : AreRightHubs (IsRequestAsk reading 3 0) other_kind.bus.hubs → ⊥
   pub none : HubsHave Buffered (key Directions.Out) 0 0 other_kind.bus.hubs Empty
   pub stages : stages_at (stepped other_kind (Begins 1)) ≡ at_request 0 true false 0
 
@@ -188,7 +188,7 @@ under_way = record {
 
 -- the request's window while the device is so
 abbrev pub line_with : Stages → Line
-line_with c = goes_on (line_at own request false c)
+line_with c = goes_on (line_at own reading false c)
 
 -- the premises of the law, at the SETUP and at the data
 pub record SetupIsInTurn : Type 0 where
@@ -218,9 +218,9 @@ TooLongBreaks = AnswerFits own (Asked for_two) (line_with under_way) → ⊥
 -- ---- how they stand
 
 pub record SetupStands : Type 0 where
-  pub is : IsRequest request
-  pub holds : RequestHolds own request (line_with unset) Waits (Asked (taken Pids.Setup Pids.Data0 setup)) Empty
+  pub is : IsRequest reading
+  pub holds : RequestHolds own reading (line_with unset) Waits (Asked (taken Pids.Setup Pids.Data0 setup)) Empty
 
 -- an IN isn't what this host asks at its SETUP
 abbrev pub WrongAskBreaks : Type 0
-WrongAskBreaks = RequestHolds own request (line_with unset) Waits (Asked (taken Pids.In Pids.Data1 [])) Empty → ⊥
+WrongAskBreaks = RequestHolds own reading (line_with unset) Waits (Asked (taken Pids.In Pids.Data1 [])) Empty → ⊥
