@@ -26,7 +26,8 @@ def main():
         print(f"{found[crate]:9,} {crate}")
     total = sum(found.values())
     if total > MOST:
-        print(f"{total:,} ways through crates.txt, and at most {MOST:,} are read in time: a crate of laws that stands on others of its subject is a module there")
+        print(f"{total:,} ways through crates.txt, and at most {MOST:,} are read in time: "
+              "a crate of laws that stands on others of its subject is a module there")
     return int(total > MOST)
 
 
