@@ -89,12 +89,10 @@ prove() {
 build() {
   local crates
   has_sources || return
-  crates=$(crates_below "$1" | grep -vx "$1")
-  echo "$me: proves $(wc -w <<<"$crates") crates; each has a line once it is proved" >&2
+  crates=$(crates_below "$1")
+  echo "$me: proves $(wc -w <<<"$crates") crates; a first pass over their sources takes a minute, then each crate has a line" >&2
   : >"$log"
-  awk '{ sub(/#.*/, "") } /:/ { sub(/:$/, "", $1); print $1 }' "$top/crates.txt" | grep -Fx "$crates" |
-    xargs -P "$(nproc)" -I{} sh -c 'said=$(cd "$0/crates/{}" && rt lib 2>&1 </dev/null); printf "== %s\n%s\n" {} "$said"' "$top" |
-    tell_progress "$(wc -w <<<"$crates")"
+  (cd "$top/crates/$1" && rt all check --jobs "$(nproc)") 2>&1 </dev/null | tell_progress "$(wc -w <<<"$crates")"
   build_program "$1"
 }
 
