@@ -21,7 +21,7 @@ SAYS = {
     "microframes": "Each microframe that a script lets pass ends after at most 17,957,823 events of the controller, each followed by one of the driver; so each line of the script is carried "
                    "out, and the report that `output` speaks of stands after the whole run.",
     "budgets": "At each moment what is placed keeps every budget of bus time; and the open of a periodic endpoint that passes the checks before is refused for want of a "
-               "placement exactly where each placement that it may have breaks a budget beside what is placed.",
+               "placement exactly where each placement that it may have, in version 2 of a script one that leaves time for stuffed bits, breaks a budget beside what is placed.",
     "lent": "At each moment the controller's next event reads and writes words of Lent blocks alone, the blocks that the driver's next event gives back are Free right after that event, and each word of a Free block is 0.",
     "owned": "At each moment the Lent blocks are those that the driver still needs, each run of blocks with one owner, but for those that the unfinished command has still to lend.",
     "schedule": "At each moment the driver's list has in each frame the queue heads of the interrupt endpoints that are placed there and not cancelled, each once and no others, and of each isochronous "

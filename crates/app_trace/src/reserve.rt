@@ -105,7 +105,17 @@ pub fn reserve_of(script: &Script) -> Option<Reserve> {
             all = joined(&all, &room_of(cmd))?;
         }
     }
-    Some(all)
+    Some(Reserve {
+        endpoints: all.endpoints,
+        transfers: all.transfers,
+        reports: all.reports,
+        report_bytes: all.report_bytes,
+        rules: Rules {
+            frames: 1024,
+            stuffed: script.version == 2,
+            park: 0,
+        },
+    })
 }
 
 /// Whether there is room for a transfer of this length.

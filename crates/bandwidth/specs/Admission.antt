@@ -1,8 +1,8 @@
 -- What a plan answers.
---     Admissions              what is placed, in the order of admission, and how many may be
+--     Admissions              what is placed, in the order of admission, how many may be, and what the placements follow
 --     keeps P w p             the placement p for the want w keeps every budget beside P
 --     peak P w p              the greatest microframe sum over the microframes of p, with it included
---     best P w                the allowed placement that keeps every budget with the least peak, the first of these
+--     best rules P w          the allowed placement that keeps every budget with the least peak, the first of these
 --     answer a w, admitted    the answer to a want, and the plan after it
 --     is_placed, translator_in    an id is placed; the number of its translator
 --     without                 the plan without an id
@@ -14,12 +14,14 @@ use Rattle.bandwidth.specs.declared.placements.Placement.{Placement}
 use Rattle.bandwidth.specs.declared.placements.Placed.{Placed}
 use Rattle.bandwidth.specs.declared.placements.Refused.{Refused}
 use Rattle.bandwidth.specs.declared.placements.Refused.TheVariants.{NoPlacement, Room}
-use Rattle.bandwidth.specs.Placements.{has, allowed}
+use Rattle.usb_base.specs.declared.rules.Rules.{Rules}
+use Rattle.bandwidth.specs.Placements.{has, allowed_by}
 use Rattle.bandwidth.specs.Sums.{is_active, load, translator_of, Fits, fits}
 
 pub record Admissions : Type 0 where
   pub placed : List Placed
   pub room : ℕ
+  pub rules : Rules
 
 -- with one more
 abbrev pub joined : List Placed → Want → Placement → List Placed
@@ -50,15 +52,15 @@ unfoldable pub least_by : {A : Type 0} → (A → ℕ) → List A → Option A
 least_by number [] = None
 least_by number (x ∷ xs) = Some (least_from number x xs)
 
-unfoldable pub best : List Placed → Want → Option Placement
-best placed w = least_by (peak placed w) (filter (keeps placed w) (allowed w))
+unfoldable pub best : Rules → List Placed → Want → Option Placement
+best rules placed w = least_by (peak placed w) (filter (keeps placed w) (allowed_by rules w))
 
 abbrev pub chosen : Option Placement → Result Placement Refused
 chosen None = Err NoPlacement
 chosen (Some p) = Ok p
 
 abbrev pub answer : Admissions → Want → Result Placement Refused
-answer a w = if nat_lt (length a.placed) a.room then chosen (best a.placed w) else Err Room
+answer a w = if nat_lt (length a.placed) a.room then chosen (best a.rules a.placed w) else Err Room
 
 -- a refusal changes nothing
 abbrev pub admitted : Admissions → Want → Result Placement Refused → Admissions
@@ -81,17 +83,17 @@ abbrev pub without : Admissions → ℕ → Admissions
 without a id = record a { placed = filter (λ x. not (nat_eq x.want.id id)) a.placed }
 
 -- among the allowed placements that keep every budget none has a lesser peak, and no earlier one an equal peak
-pub record IsBest (placed : List Placed) (w : Want) (p : Placement) : Type 0 where
+pub record IsBest (rules : Rules) (placed : List Placed) (w : Want) (p : Placement) : Type 0 where
   pub place : ℕ
-  pub at : slice_get (allowed w) place ≡ Some p
+  pub at : slice_get (allowed_by rules w) place ≡ Some p
   pub fits : Fits (joined placed w p)
   pub least :
-      (i : ℕ) (q : Placement) → slice_get (allowed w) i ≡ Some q → Fits (joined placed w q)
+      (i : ℕ) (q : Placement) → slice_get (allowed_by rules w) i ≡ Some q → Fits (joined placed w q)
       → peak placed w p ≤ peak placed w q
   pub first :
-      (i : ℕ) (q : Placement) → i < place → slice_get (allowed w) i ≡ Some q → Fits (joined placed w q)
+      (i : ℕ) (q : Placement) → i < place → slice_get (allowed_by rules w) i ≡ Some q → Fits (joined placed w q)
       → peak placed w p < peak placed w q
 
 -- no allowed placement keeps every budget
-abbrev pub HasNone : List Placed → Want → Type 0
-HasNone placed w = (i : ℕ) (p : Placement) → slice_get (allowed w) i ≡ Some p → Fits (joined placed w p) → ⊥
+abbrev pub HasNone : Rules → List Placed → Want → Type 0
+HasNone rules placed w = (i : ℕ) (p : Placement) → slice_get (allowed_by rules w) i ≡ Some p → Fits (joined placed w p) → ⊥

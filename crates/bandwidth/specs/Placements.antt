@@ -5,8 +5,10 @@
 --     frame_period p       how many frames a period of p microframes has, 1 below 8
 --     IsWant w             what may be asked of a plan
 --     placement_row w             the row of the table of placements that the endpoint has
---     allowed w            each allowed placement, by phase and then by first microframe
-use Rattle.std.specs.Prelude.{◌≡◌, ℕ, ◌+◌, ◌-◌, ◌/◌, ◌%◌, ◌^◌, ◌<◌, ◌≤◌, max, Bool, true, false, ◌&&◌, nat_eq, nat_lt, nat_le, if◌then◌else◌, List, [], ◌∷◌, map, sum_by, is_some}
+--     allowed w            each placement of the table, by phase and then by first microframe
+--     is_slack rules w p   where bits are stuffed, an isochronous OUT below a hub leaves the translator time for them
+--     allowed_by rules w   each allowed placement, in the same order
+use Rattle.std.specs.Prelude.{◌≡◌, ℕ, ◌+◌, ◌-◌, ◌/◌, ◌%◌, ◌^◌, ◌<◌, ◌≤◌, max, Bool, true, false, ◌&&◌, ◌||◌, not, filter, nat_eq, nat_lt, nat_le, if◌then◌else◌, List, [], ◌∷◌, map, sum_by, is_some}
 use Rattle.std.specs.List.{range_with_len, flat_map, list_any, position_or_len}
 use Rattle.usb_base.specs.declared.packets.Speed.{Speed}
 use Rattle.usb_base.specs.declared.packets.Speed.TheVariants.{Full, Low, High}
@@ -15,6 +17,7 @@ use Rattle.usb_base.specs.declared.packets.EpKind.TheVariants.{Iso, Interrupt}
 use Rattle.usb_base.specs.declared.packets.Dir.{Dir}
 use Rattle.usb_base.specs.declared.packets.Dir.TheVariants.{In, Out}
 use Rattle.usb_base.specs.Limits.{byte_times_of_microframe}
+use Rattle.usb_base.specs.declared.rules.Rules.{Rules}
 use Rattle.bandwidth.specs.declared.placements.Want.{Want}
 use Rattle.bandwidth.specs.declared.placements.Placement.{Placement}
 
@@ -128,6 +131,21 @@ in_phase w phase = map (placement_at w phase) (below (placement_row w).starts)
 
 unfoldable pub allowed : Want → List Placement
 allowed w = flat_map (in_phase w) (below (frame_period w.period))
+
+-- from first microframe s on, where bits are stuffed: the bytes and the 9 byte-times beside them are laid before microframe 6
+abbrev pub ends_by_sixth : Rules → EpKind → Dir → ℕ → ℕ → Bool
+ends_by_sixth rules Iso Out bytes s =
+    not rules.stuffed || nat_le (s + (bytes + 9 + (byte_times_of_microframe - 1)) / byte_times_of_microframe) 6
+ends_by_sixth rules _ _ bytes s = true
+
+abbrev pub is_slack_from : Rules → Want → ℕ → Bool
+is_slack_from rules w s = if is_classic w.speed then ends_by_sixth rules w.kind w.dir w.max s else true
+
+abbrev pub is_slack : Rules → Want → Placement → Bool
+is_slack rules w p = is_slack_from rules w (first_in p.smask)
+
+unfoldable pub allowed_by : Rules → Want → List Placement
+allowed_by rules w = filter (is_slack rules w) (allowed w)
 
 -- a place in the period: one of its frames
 pub record IsPlace (p : Placement) : Type 0 where

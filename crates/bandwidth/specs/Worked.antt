@@ -1,8 +1,10 @@
--- Endpoints for worked rows.
-use Rattle.std.specs.Prelude.{ℕ, Some, None}
+-- Endpoints and rules for worked rows.
+use Rattle.std.specs.Prelude.{ℕ, true, Some, None}
 use Rattle.usb_base.specs.declared.packets.Speed.TheVariants.{Full, High}
 use Rattle.usb_base.specs.declared.packets.EpKind.TheVariants.{Iso, Interrupt}
 use Rattle.usb_base.specs.declared.packets.Dir.TheVariants.{In, Out}
+use Rattle.usb_base.specs.declared.rules.Rules.{Rules}
+use Rattle.usb_base.specs.Rules.{first_rules}
 use Rattle.bandwidth.specs.declared.placements.Want.{Want}
 use Rattle.bandwidth.specs.declared.placements.Placement.{Placement}
 use Rattle.bandwidth.specs.declared.placements.Placed.{Placed}
@@ -18,11 +20,15 @@ keyboard = record { id = 2; speed = Full; kind = Interrupt; dir = In; max = 64; 
 abbrev pub camera : ℕ → Want
 camera bytes = record { id = 3; speed = Full; kind = Iso; dir = In; max = bytes; multi = 1; period = 8; hub = Some 9; tt = 0 }
 
-abbrev pub speaker : Want
-speaker = record { id = 4; speed = Full; kind = Iso; dir = Out; max = 1023; multi = 1; period = 8; hub = Some 9; tt = 0 }
+abbrev pub speaker : ℕ → Want
+speaker bytes = record { id = 4; speed = Full; kind = Iso; dir = Out; max = bytes; multi = 1; period = 8; hub = Some 9; tt = 0 }
 
 abbrev pub placed : ℕ → ℕ → ℕ → ℕ → Placement
 placed period phase smask cmask = record { period = period; phase = phase; smask = smask; cmask = cmask }
+
+-- the worst case of bit stuffing counts
+abbrev pub stuffed_rules : Rules
+stuffed_rules = record first_rules { stuffed = true }
 
 -- the keyboard at the translator of this port
 abbrev pub at_port : ℕ → Placed

@@ -1,12 +1,12 @@
 ghost use Rattle.std.specs.Prelude.{◌≡◌, ◌+◌, ◌-◌, ◌/◌, ◌<◌, ◌≤◌};
 ghost use Rattle.usb_base.specs.Limits.{byte_times_of_microframe};
-ghost use Rattle.bandwidth.specs.Placements.{IsWant, IsPlace, frame_period, high_row, classic_row, is_classic, placement_row, placement_at};
+ghost use Rattle.bandwidth.specs.Placements.{IsWant, IsPlace, frame_period, high_row, classic_row, is_classic, is_slack_from, placement_row, placement_at};
 
 use crate::asks::classic;
 use crate::masks::{every_of, run_of};
 use crate::placements::{Placement, Want};
 use usb_base::limits::BYTE_TIMES_OF_MICROFRAME;
-use usb_base::{Dir, EpKind};
+use usb_base::{Dir, EpKind, Rules};
 
 /// How many microframes of 188 byte-times so many byte-times fill.
 pub(crate) fn microframes(bytes: u16) -> u8
@@ -34,6 +34,21 @@ pub(crate) fn starts(want: &Want) -> u8
         (EpKind::Iso, Dir::In) => 6 - microframes(want.max + 9),
         (EpKind::Iso, Dir::Out) => 7 - microframes(want.max),
         (_, _) => 4,
+    }
+}
+
+/// Whether a placement from a first microframe on leaves the translator time for stuffed bits.
+pub(crate) fn is_slack(rules: Rules, want: &Want, first: u8) -> bool
+    requires want { IsWant want.now }
+    requires first { first < (placement_row want.now).starts }
+    ensures { result ≡ is_slack_from rules want.now first }
+{
+    if !classic(want.speed) {
+        return true;
+    }
+    match (want.kind, want.dir) {
+        (EpKind::Iso, Dir::Out) => !rules.stuffed || first + microframes(want.max + 9) <= 6,
+        (_, _) => true,
     }
 }
 

@@ -2,13 +2,14 @@ ghost use Rattle.std.specs.Prelude.{◌≡◌, ℕ, ◌+◌, ◌/◌, ◌%◌, �
 ghost use Rattle.std.specs.Bool.{OnTrue, OnFalse};
 ghost use Rattle.usb_base.specs.Limits.{frame_list_length};
 ghost use Rattle.bandwidth.specs.declared.placements.Refused.TheVariants.{NoPlacement, Room};
-ghost use Rattle.bandwidth.specs.Placements.{IsWant};
+ghost use Rattle.bandwidth.specs.Placements.{IsWant, is_slack_from, placement_row};
 ghost use Rattle.bandwidth.specs.Sums.{Fits, load, frame_sum, tt_sum};
 ghost use Rattle.bandwidth.specs.Admission.{answer, admitted, is_placed, translator_in, without, AreDistinct, HasNone, IsBest};
 
 use crate::accounts::Accounts;
 use crate::asks::translator_for;
 use crate::masks::first_bit;
+use crate::options::is_slack;
 use crate::placements::{Placement, Refused, Want};
 use crate::search::best_placement;
 use crate::shapes::shapes_of;
@@ -18,13 +19,14 @@ use bandwidth_steps::Steps;
 use std::alloc::Global;
 use std::marker::{Brand, Model};
 use std::sync::ledger::{Blank, Ledger};
-use usb_base::{Memory, Ps};
+use usb_base::{Memory, Ps, Rules};
 
-/// The periodic endpoints that are placed, in the order of admission, and how many may be. What is placed keeps every
-/// budget, and no two have one id.
+/// The periodic endpoints that are placed, in the order of admission, how many may be, and what the placements follow. What is placed
+/// keeps every budget, and no two have one id.
 #[derive(Debug, Drop)]
 pub struct Plan {
     accounts: Accounts,
+    rules: Rules,
 }
 
 impl Model for Plan {
@@ -32,16 +34,16 @@ impl Model for Plan {
 
     ghost Value = { Admissions };
 
-    ghost view = { λ p. record { placed = p.accounts.placed; room = p.accounts.room } };
+    ghost view = { λ p. record { placed = p.accounts.placed; room = p.accounts.room; rules = p.rules } };
 }
 
 impl Plan {
-    /// An empty plan with room for so many endpoints. Nothing else takes memory.
-    pub fn build(alloc: Global, room: u32) -> Result<Plan, Memory>
-        ensures { IfOk result (λ p. p ≡ record { placed = []; room = room }) }
+    /// An empty plan with room for so many endpoints, each of which is placed by these rules. Nothing else takes memory.
+    pub fn build(alloc: Global, room: u32, rules: Rules) -> Result<Plan, Memory>
+        ensures { IfOk result (λ p. p ≡ record { placed = []; room = room; rules = rules }) }
     {
         let accounts = Accounts::build(alloc, room)?;
-        Ok(Plan { accounts })
+        Ok(Plan { accounts, rules })
     }
 
     /// Places an endpoint where it keeps every budget with the least greatest microframe sum, the first of these by phase and
@@ -55,8 +57,8 @@ impl Plan {
         ensures answer { result ≡ answer self.old want.now }
         ensures plan { self.new ≡ admitted self.old want.now result }
         ensures room { (result ≡ Err Room) ↔ (length self.old.placed ≡ self.old.room) }
-        ensures no_placement { (result ≡ Err NoPlacement) ↔ ((length self.old.placed < self.old.room) × HasNone self.old.placed want.now) }
-        ensures placed { IfOk result (λ p. IsBest self.old.placed want.now p) }
+        ensures no_placement { (result ≡ Err NoPlacement) ↔ ((length self.old.placed < self.old.room) × HasNone self.old.rules self.old.placed want.now) }
+        ensures placed { IfOk result (λ p. IsBest self.old.rules self.old.placed want.now p) }
         ensures fits { Fits self.new.placed }
     {
         self.admit_blank::<Brand>(want, Blank::new(1))
@@ -72,8 +74,8 @@ impl Plan {
         ensures answer { result ≡ answer self.old want.now }
         ensures plan { self.new ≡ admitted self.old want.now result }
         ensures room { (result ≡ Err Room) ↔ (length self.old.placed ≡ self.old.room) }
-        ensures no_placement { (result ≡ Err NoPlacement) ↔ ((length self.old.placed < self.old.room) × HasNone self.old.placed want.now) }
-        ensures placed { IfOk result (λ p. IsBest self.old.placed want.now p) }
+        ensures no_placement { (result ≡ Err NoPlacement) ↔ ((length self.old.placed < self.old.room) × HasNone self.old.rules self.old.placed want.now) }
+        ensures placed { IfOk result (λ p. IsBest self.old.rules self.old.placed want.now p) }
         ensures fits { Fits self.new.placed }
     {
         let mut steps = Steps::<L>::begin(blank);
@@ -91,8 +93,8 @@ impl Plan {
         ensures answer { result ≡ answer self.old want.now }
         ensures plan { self.new ≡ admitted self.old want.now result }
         ensures room { (result ≡ Err Room) ↔ (length self.old.placed ≡ self.old.room) }
-        ensures no_placement { (result ≡ Err NoPlacement) ↔ ((length self.old.placed < self.old.room) × HasNone self.old.placed want.now) }
-        ensures placed { IfOk result (λ p. IsBest self.old.placed want.now p) }
+        ensures no_placement { (result ≡ Err NoPlacement) ↔ ((length self.old.placed < self.old.room) × HasNone self.old.rules self.old.placed want.now) }
+        ensures placed { IfOk result (λ p. IsBest self.old.rules self.old.placed want.now p) }
         ensures fits { Fits self.new.placed }
         ensures steps { steps.new ≤ steps.old + 40960 }
     {
@@ -100,7 +102,7 @@ impl Plan {
             return Err(Refused::Room);
         }
         let shapes = shapes_of(want);
-        match best_placement(&self.accounts, want, &shapes, steps) {
+        match best_placement(&self.accounts, self.rules, want, &shapes, steps) {
             Some(placement) => {
                 let first = first_bit(placement.smask);
                 self.accounts
@@ -180,6 +182,15 @@ impl Plan {
             }
         }
         None
+    }
+
+    /// Whether a placement of this endpoint from a first microframe on leaves the translator time for stuffed bits.
+    pub fn is_slack(&self, want: &Want, first: u8) -> bool
+        requires want { IsWant want.now }
+        requires first { first < (placement_row want.now).starts }
+        ensures { result ≡ is_slack_from self.now.rules want.now first }
+    {
+        is_slack(self.rules, want, first)
     }
 
     /// Whether an endpoint with this id is placed.

@@ -7,11 +7,12 @@ ghost use Rattle.bandwidth.specs.Choice.{lesser, limit, better, choice, place_in
 use crate::accounts::Accounts;
 use crate::choice::Candidate;
 use crate::frames::frames_of;
-use crate::options::starts;
+use crate::options::{is_slack, starts};
 use crate::placements::{Placement, Want};
 use crate::shapes::Shape;
 use bandwidth_steps::Steps;
 use std::sync::ledger::Ledger;
+use usb_base::Rules;
 use usb_base::limits::MICROFRAME_BUDGET;
 
 /// The one with the lesser peak, the one so far where they are equal.
@@ -56,6 +57,7 @@ fn limit_of(so_far: &Option<Candidate>) -> u64
 #[inline(always)]
 fn better_of<L: Ledger>(
     accounts: &Accounts,
+    rules: Rules,
     want: &Want,
     shape: &Shape,
     phase: u16,
@@ -65,9 +67,12 @@ fn better_of<L: Ledger>(
     requires want { IsWant want.now }
     requires shape { IsShape want.now shape.now }
     requires phase { phase < frame_period want.now.period }
-    ensures better { result ≡ better accounts.now.placed want.now so_far (placement_at want.now phase shape.now.costs.from) }
+    ensures better { result ≡ better rules accounts.now.placed want.now so_far (placement_at want.now phase shape.now.costs.from) }
     ensures steps { steps.new ≤ steps.old + turns want.now.period * cells want.now }
 {
+    if !is_slack(rules, want, shape.costs.from) {
+        return so_far;
+    }
     let placement = shape.placed(want.period, phase);
     let limit = limit_of(&so_far);
     let least = accounts.least_peak(want, &placement, shape, steps);
@@ -84,6 +89,7 @@ fn better_of<L: Ledger>(
 #[inline(always)]
 fn best_in_phase<L: Ledger>(
     accounts: &Accounts,
+    rules: Rules,
     want: &Want,
     shapes: &[Shape; 8],
     phase: u16,
@@ -93,12 +99,20 @@ fn best_in_phase<L: Ledger>(
     requires want { IsWant want.now }
     requires phase { phase < frame_period want.now.period }
     requires shapes { AreShapes want.now shapes.now }
-    ensures best { result ≡ choice accounts.now.placed want.now so_far (in_phase want.now phase) }
+    ensures best { result ≡ choice rules accounts.now.placed want.now so_far (in_phase want.now phase) }
     ensures steps { steps.new ≤ steps.old + (placement_row want.now).starts * (turns want.now.period * cells want.now) }
 {
     let mut best = so_far;
     for first in 0..starts(want) {
-        best = better_of(accounts, want, &shapes[first as usize], phase, best, steps);
+        best = better_of(
+            accounts,
+            rules,
+            want,
+            &shapes[first as usize],
+            phase,
+            best,
+            steps,
+        );
     }
     best
 }
@@ -106,18 +120,19 @@ fn best_in_phase<L: Ledger>(
 /// The allowed placement that keeps every budget with the least peak, the first of these.
 pub(crate) fn best_placement<L: Ledger>(
     accounts: &Accounts,
+    rules: Rules,
     want: &Want,
     shapes: &[Shape; 8],
     steps: &mut Steps<L>,
 ) -> Option<Placement>
     requires want { IsWant want.now }
     requires shapes { AreShapes want.now shapes.now }
-    ensures best { result ≡ best accounts.now.placed want.now }
+    ensures best { result ≡ best rules accounts.now.placed want.now }
     ensures steps { steps.new ≤ steps.old + frame_period want.now.period * ((placement_row want.now).starts * (turns want.now.period * cells want.now)) }
 {
     let mut best = None;
     for phase in 0..frames_of(want.period) {
-        best = best_in_phase(accounts, want, shapes, phase, best, steps);
+        best = best_in_phase(accounts, rules, want, shapes, phase, best, steps);
     }
     placement_in(best)
 }

@@ -1,8 +1,9 @@
 //! Worked values of the definitions, which the check computes.
 ghost use Rattle.std.specs.Prelude.{◌≡◌, length, [], ◌∷◌, true, false, Some, None};
-ghost use Rattle.bandwidth.specs.Placements.{allowed, run, every, first_in, frame_period, is_period};
+ghost use Rattle.usb_base.specs.Rules.{first_rules};
+ghost use Rattle.bandwidth.specs.Placements.{allowed, allowed_by, run, every, first_in, frame_period, is_period};
 ghost use Rattle.bandwidth.specs.Sums.{cost_in, laid_in, time_of, cost_at, is_active, is_translator, translator_of, frame_sum, tt_sum};
-ghost use Rattle.bandwidth.specs.Worked.{mouse, keyboard, camera, speaker, placed, at_port};
+ghost use Rattle.bandwidth.specs.Worked.{mouse, keyboard, camera, speaker, stuffed_rules, placed, at_port};
 
 /// Masks of microframes.
 #[tactic(auto, unfolding(crate::specs::Placements::mask, crate::specs::Placements::first_in))]
@@ -38,7 +39,21 @@ pub fn placements()
     ensures splits { allowed keyboard ≡ placed 8 0 1 28 ∷ placed 8 0 2 56 ∷ placed 8 0 4 112 ∷ placed 8 0 8 224 ∷ [] }
     ensures longest { allowed (camera 931) ≡ placed 8 0 1 252 ∷ [] }
     ensures too_long { allowed (camera 932) ≡ [] }
-    ensures out { allowed speaker ≡ placed 8 0 63 0 ∷ [] }
+    ensures out { allowed (speaker 1023) ≡ placed 8 0 63 0 ∷ [] }
+{}
+
+/// Allowed placements by the rules: where the worst case of bit stuffing counts, an isochronous OUT of 188 bytes has five first
+/// microframes for six, and one of 940 bytes one for two; every other endpoint has as many as before.
+#[tactic(auto, unfolding(crate::specs::Placements::mask, crate::specs::Placements::first_in, crate::specs::Placements::allowed, crate::specs::Placements::allowed_by))]
+pub fn stuffed_placements()
+    ensures six { length (allowed_by first_rules (speaker 188)) ≡ 6 }
+    ensures five { length (allowed_by stuffed_rules (speaker 188)) ≡ 5 }
+    ensures two { allowed_by first_rules (speaker 940) ≡ placed 8 0 31 0 ∷ placed 8 0 62 0 ∷ [] }
+    ensures one { allowed_by stuffed_rules (speaker 940) ≡ placed 8 0 31 0 ∷ [] }
+    ensures most { allowed_by stuffed_rules (speaker 1023) ≡ placed 8 0 63 0 ∷ [] }
+    ensures input { allowed_by stuffed_rules (camera 931) ≡ placed 8 0 1 252 ∷ [] }
+    ensures interrupt { length (allowed_by stuffed_rules keyboard) ≡ 4 }
+    ensures high { length (allowed_by stuffed_rules (mouse 8)) ≡ 8 }
 {}
 
 /// What placements cost.
@@ -54,9 +69,9 @@ pub fn costs()
     ensures iso_complete { cost_in (camera 931) (placed 8 0 1 252) 7 ≡ 4298063 }
     ensures iso_laid { laid_in (camera 931) (placed 8 0 1 252) 4 ≡ 188 }
     ensures iso_no_more { laid_in (camera 931) (placed 8 0 1 252) 5 ≡ 0 }
-    ensures part { cost_in speaker (placed 8 0 63 0) 4 ≡ 4298063 }
-    ensures last_part { cost_in speaker (placed 8 0 63 0) 5 ≡ 2256723 }
-    ensures last_laid { laid_in speaker (placed 8 0 63 0) 5 ≡ 92 }
+    ensures part { cost_in (speaker 1023) (placed 8 0 63 0) 4 ≡ 4298063 }
+    ensures last_part { cost_in (speaker 1023) (placed 8 0 63 0) 5 ≡ 2256723 }
+    ensures last_laid { laid_in (speaker 1023) (placed 8 0 63 0) 5 ≡ 92 }
 {}
 
 /// The translator of an endpoint, and its sums: a port that has one of its own takes none of another's.

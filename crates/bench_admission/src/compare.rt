@@ -2,7 +2,7 @@
 ghost use Rattle.std.specs.Prelude.{◌≡◌, ◌<◌, length, slice_index};
 ghost use Rattle.bandwidth.specs.Placements.{IsWant};
 
-use crate::draws::{Draws, any_want};
+use crate::draws::{Draws, FIRST_RULES, any_want};
 use crate::sums::Sums;
 use bandwidth::{Placement, Plan, Refused, Table, Want};
 use bandwidth_steps::Steps;
@@ -60,7 +60,7 @@ fn cell<L: Ledger>(table: &Table, at: u32, blank: Blank) -> u64
 
 impl Pair {
     fn build(alloc: Global, room: u32) -> Result<Pair, Memory> {
-        let plan = Plan::build(alloc, room)?;
+        let plan = Plan::build(alloc, room, FIRST_RULES)?;
         let sums = Sums::build(alloc, room)?;
         Ok(Pair {
             plan,

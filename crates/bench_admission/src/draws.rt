@@ -2,7 +2,14 @@ ghost use Rattle.std.specs.Prelude.{◌≡◌, ◌<◌, ◌≤◌, true};
 ghost use Rattle.bandwidth.specs.Placements.{IsWant, is_period};
 
 use bandwidth::Want;
-use usb_base::{DevAddr, Dir, EpKind, Speed};
+use usb_base::{DevAddr, Dir, EpKind, Rules, Speed};
+
+/// A frame list of 1,024 elements, without the worst case of bit stuffing and without park mode.
+pub(crate) const FIRST_RULES: Rules = Rules {
+    frames: 1024,
+    stuffed: false,
+    park: 0,
+};
 
 /// Numbers drawn one after another.
 #[derive(Drop)]

@@ -1,6 +1,6 @@
 ghost use Rattle.std.specs.Prelude.{◌≤◌, IfOk};
 
-use crate::draws::{Draws, want};
+use crate::draws::{Draws, FIRST_RULES, want};
 use bandwidth::Plan;
 use std::alloc::{AllocError, Global};
 use usb_base::Memory;
@@ -12,7 +12,7 @@ const ROOM: u32 = 256;
 fn fill_one(alloc: Global, draws: &mut Draws, wants: u32) -> Result<u32, Memory>
     ensures { IfOk result (λ n. n ≤ wants) }
 {
-    let mut plan = Plan::build(alloc, wants)?;
+    let mut plan = Plan::build(alloc, wants, FIRST_RULES)?;
     let mut placed = 0;
     for id in 0..wants {
         let want = want(id, draws);

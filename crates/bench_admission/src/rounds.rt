@@ -2,7 +2,7 @@
 ghost use Rattle.std.specs.Prelude.{◌≤◌};
 ghost use Rattle.bandwidth.specs.Placements.{IsWant};
 
-use crate::draws::{Draws, any_want, long_high, long_in, long_out, small};
+use crate::draws::{Draws, FIRST_RULES, any_want, long_high, long_in, long_out, small};
 use bandwidth::{Plan, Want};
 use std::alloc::{AllocError, Global};
 use usb_base::Memory;
@@ -29,7 +29,7 @@ pub(crate) enum Guests {
 
 /// A plan with so many small endpoints.
 fn filled(alloc: Global, placed: u32) -> Result<Plan, Memory> {
-    let mut plan = Plan::build(alloc, placed.saturating_add(1))?;
+    let mut plan = Plan::build(alloc, placed.saturating_add(1), FIRST_RULES)?;
     for id in 0..placed {
         let want = small(id);
         if !plan.has(want.id) {

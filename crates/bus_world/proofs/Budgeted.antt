@@ -6,6 +6,7 @@ use Rattle.usb_base.specs.declared.commands.Cmd.TheVariants.{OpenEp}
 use Rattle.usb_base.specs.declared.endpoints.EpDesc.{EpDesc}
 use Rattle.usb_base.specs.declared.endpoints.EpName.{EpName}
 use Rattle.usb_base.specs.declared.reports.OfferError.{OfferError}
+use Rattle.usb_base.specs.declared.rules.Rules.{Rules}
 use Rattle.script_types.specs.declared.scripts.Event.{Event}
 use Rattle.script_types.specs.declared.scripts.Event.TheVariants as events
 use Rattle.script_types.specs.declared.scripts.Line.{Line}
@@ -17,15 +18,15 @@ use Rattle.drv_table.specs.Accepting.{Offered}
 use Rattle.drv_table.specs.Offers.{IsOffered, offered}
 use Rattle.script_fits.specs.Fits.{IsFit, IsFitCommand, IsFitLine}
 use Rattle.law_admission.specs.Budgets.{account_of, KeepsBudgets}
-use Rattle.law_admission.proofs.Budgets.{opening_kept, command_kept, event_kept}
+use Rattle.law_admission.proofs.Budgets.{opening_kept, command_kept, event_kept, command_rules, event_rules}
 use Rattle.law_admission.proofs.Refusals.{refused_exactly}
 use Rattle.bus_world.specs.World.{World, next, driver_parts, commanded, commanded_by, name_in}
 use Rattle.bus_world.specs.Opening.{opening_world}
 use Rattle.bus_world.specs.Orders.{Left, Events, Microframes, Answer, Command, Plugs, OrderedWorld, at_place, left_of, orders_of, fewer, tick, tick_by, tick_at, ticks}
-use Rattle.bus_world.specs.Rooms.{needs, needs_line, no_room, with_room, reserve_of, HasRoomFor}
+use Rattle.bus_world.specs.Rooms.{needs, needs_line, no_room, with_room, reserve_of, room_of_script, HasRoomFor}
 use Rattle.bus_world.specs.Budgets.{AdmitsExactly, AdmitsThroughout}
 use Rattle.bus_world.proofs.Ways.{next_room}
-use Rattle.bus_world.proofs.Rooming.{less_room, rest_room, room_itself, can_offer, command_leaves}
+use Rattle.bus_world.proofs.Rooming.{less_room, rest_room, room_of_all, can_offer, command_leaves}
 
 -- ---- one event or command
 
@@ -40,6 +41,16 @@ answered_kept w n name cmd (Err why) ok old is = old
 
 pub commanded_kept : (w : World) (n : ℕ) (cmd : Cmd) → IsOffered w.driver.room cmd → KeepsBudgets (account_of w.driver) → KeepsBudgets (account_of (commanded w n cmd).driver)
 commanded_kept w n cmd ok old = answered_kept w n (name_in cmd) cmd (offered w.driver w.memory cmd) ok old refl
+
+-- placements follow the same rules
+next_rules : (fixed : Fixed) (w : World) (event : Event) → (next fixed w event).driver.periodic.plan.rules ≡ w.driver.periodic.plan.rules
+next_rules fixed w events.D = event_rules (driver_parts w)
+next_rules fixed w events.C = refl
+
+answered_rules : (w : World) (n : ℕ) (name : EpName) (cmd : Cmd) (r : Result Offered OfferError) → offered w.driver w.memory cmd ≡ r
+    → (commanded_by w n name r).driver.periodic.plan.rules ≡ w.driver.periodic.plan.rules
+answered_rules w n name cmd (Ok o) is = command_rules w.driver w.memory cmd o is
+answered_rules w n name cmd (Err why) is = refl
 
 -- ---- what is left of the orders
 
@@ -58,23 +69,26 @@ FitsLeft (Answer ended n) = Unit {0}
 FitsLeft (Command n cmd) = IsFitCommand cmd
 FitsLeft (Plugs there port) = Unit {0}
 
-record IsReady (w : World) (orders : List Left) : Type 0 where
+record IsReady (rules : Rules) (w : World) (orders : List Left) : Type 0 where
+  rules_stand : w.driver.periodic.plan.rules ≡ rules
   budgets : KeepsBudgets (account_of w.driver)
   room : HasRoomFor w.driver.room (reserve_left orders)
   fits : AllByRecursion FitsLeft orders
 
 -- an order that needs no room ends, or goes on after an event
-ends : (w : World) (x : Left) (rest : List Left) → needs_left x ≡ no_room → IsReady w (x ∷ rest) → IsReady w rest
+ends : (rules : Rules) (w : World) (x : Left) (rest : List Left) → needs_left x ≡ no_room → IsReady rules w (x ∷ rest) → IsReady rules w rest
 unfolding reserve_left
-ends w x rest none h = record {
+ends rules w x rest none h = record {
+  rules_stand = h.rules_stand;
   budgets = h.budgets;
   room = rest_room w.driver.room (reserve_left rest) (subst (λ r. HasRoomFor w.driver.room (with_room r (reserve_left rest))) none h.room);
   fits = h.fits.1;
 }
 
-goes_on : (fixed : Fixed) (w : World) (event : Event) (x y : Left) (rest : List Left) → needs_left x ≡ no_room → needs_left y ≡ no_room → FitsLeft y → IsReady w (x ∷ rest) → IsReady (next fixed w event) (y ∷ rest)
+goes_on : (rules : Rules) (fixed : Fixed) (w : World) (event : Event) (x y : Left) (rest : List Left) → needs_left x ≡ no_room → needs_left y ≡ no_room → FitsLeft y → IsReady rules w (x ∷ rest) → IsReady rules (next fixed w event) (y ∷ rest)
 unfolding reserve_left
-goes_on fixed w event x y rest one two fit h = record {
+goes_on rules fixed w event x y rest one two fit h = record {
+  rules_stand = next_rules fixed w event ∙ h.rules_stand;
   budgets = next_kept fixed w event h.budgets;
   room =
       subst (λ r. HasRoomFor r (with_room (needs_left y) (reserve_left rest))) (sym (next_room fixed w event))
@@ -82,47 +96,49 @@ goes_on fixed w event x y rest one two fit h = record {
   fits = (fit, h.fits.1);
 }
 
-command_ready : (w : World) (n : ℕ) (cmd : Cmd) (rest : List Left) → IsReady w (Command n cmd ∷ rest) → IsReady (commanded w n cmd) rest
+command_ready : (rules : Rules) (w : World) (n : ℕ) (cmd : Cmd) (rest : List Left) → IsReady rules w (Command n cmd ∷ rest) → IsReady rules (commanded w n cmd) rest
 unfolding reserve_left
-command_ready w n cmd rest h = record {
+command_ready rules w n cmd rest h = record {
+  rules_stand = answered_rules w n (name_in cmd) cmd (offered w.driver w.memory cmd) refl ∙ h.rules_stand;
   budgets = commanded_kept w n cmd (can_offer w.driver.room cmd h.fits.0 (less_room w.driver.room (needs cmd) (reserve_left rest) h.room)) h.budgets;
   room = command_leaves w n cmd (reserve_left rest) h.fits.0 h.room;
   fits = h.fits.1;
 }
 
-abbrev IsReadyAt : OrderedWorld → Type 0
-IsReadyAt p = IsReady p.world p.orders
+abbrev IsReadyAt : Rules → OrderedWorld → Type 0
+IsReadyAt rules p = IsReady rules p.world p.orders
 
-by_ready : (fixed : Fixed) (w : World) (x : Left) (rest : List Left) → IsReady w (x ∷ rest) → IsReadyAt (tick_by fixed w x rest)
-by_ready fixed w (Events event zero) rest h = ends w (Events event zero) rest refl h
-by_ready fixed w (Events event (suc n)) rest h = goes_on fixed w event (Events event (suc n)) (Events event n) rest refl refl tt h
-by_ready fixed w (Microframes zero) rest h = ends w (Microframes zero) rest refl h
-by_ready fixed w (Microframes (suc n)) rest h = goes_on fixed w events.C (Microframes (suc n)) (Answer _ (suc n)) rest refl refl tt h
-by_ready fixed w (Answer ended n) rest h = goes_on fixed w events.D (Answer ended n) (Microframes (fewer ended n)) rest refl refl tt h
-by_ready fixed w (Command n cmd) rest h = command_ready w n cmd rest h
-by_ready fixed w (Plugs there port) rest h = ends w (Plugs there port) rest refl h
+by_ready : (rules : Rules) (fixed : Fixed) (w : World) (x : Left) (rest : List Left) → IsReady rules w (x ∷ rest) → IsReadyAt rules (tick_by fixed w x rest)
+by_ready rules fixed w (Events event zero) rest h = ends rules w (Events event zero) rest refl h
+by_ready rules fixed w (Events event (suc n)) rest h = goes_on rules fixed w event (Events event (suc n)) (Events event n) rest refl refl tt h
+by_ready rules fixed w (Microframes zero) rest h = ends rules w (Microframes zero) rest refl h
+by_ready rules fixed w (Microframes (suc n)) rest h = goes_on rules fixed w events.C (Microframes (suc n)) (Answer _ (suc n)) rest refl refl tt h
+by_ready rules fixed w (Answer ended n) rest h = goes_on rules fixed w events.D (Answer ended n) (Microframes (fewer ended n)) rest refl refl tt h
+by_ready rules fixed w (Command n cmd) rest h = command_ready rules w n cmd rest h
+by_ready rules fixed w (Plugs there port) rest h = ends rules w (Plugs there port) rest refl h
 
-at_ready : (fixed : Fixed) (w : World) (orders : List Left) → IsReady w orders → IsReadyAt (tick_at fixed w orders)
-at_ready fixed w [] h = h
-at_ready fixed w (x ∷ rest) h = by_ready fixed w x rest h
+at_ready : (rules : Rules) (fixed : Fixed) (w : World) (orders : List Left) → IsReady rules w orders → IsReadyAt rules (tick_at fixed w orders)
+at_ready rules fixed w [] h = h
+at_ready rules fixed w (x ∷ rest) h = by_ready rules fixed w x rest h
 
-all_ready : (fixed : Fixed) (p : OrderedWorld) (k : ℕ) → IsReadyAt p → IsReadyAt (ticks fixed p k)
+all_ready : (rules : Rules) (fixed : Fixed) (p : OrderedWorld) (k : ℕ) → IsReadyAt rules p → IsReadyAt rules (ticks fixed p k)
 unfolding ticks
-all_ready fixed p zero h = h
-all_ready fixed p (suc k) h = all_ready fixed (tick fixed p) k (at_ready fixed p.world p.orders h)
+all_ready rules fixed p zero h = h
+all_ready rules fixed p (suc k) h = all_ready rules fixed (tick fixed p) k (at_ready rules fixed p.world p.orders h)
 
 -- ---- what that says of opens
 
-open_room : (w : World) (orders : List Left) (n : ℕ) (x : EpDesc) (rest : List Left) → orders ≡ Command n (OpenEp x) ∷ rest → IsReady w orders → 1 ≤ w.driver.room.endpoints
+open_room : (rules : Rules) (w : World) (orders : List Left) (n : ℕ) (x : EpDesc) (rest : List Left) → orders ≡ Command n (OpenEp x) ∷ rest → IsReady rules w orders → 1 ≤ w.driver.room.endpoints
 unfolding reserve_left
-open_room w orders n x rest is h =
+open_room rules w orders n x rest is h =
     let room : HasRoomFor w.driver.room (with_room (needs (OpenEp x)) (reserve_left rest)) = subst (λ (os : List Left). HasRoomFor w.driver.room (reserve_left os)) is h.room in
     (less_room w.driver.room (needs (OpenEp x)) (reserve_left rest) room).endpoints
 
-admits : (w : World) (orders : List Left) → IsReady w orders → AdmitsExactly (at_place w orders)
-admits w orders h = record {
+admits : (rules : Rules) (w : World) (orders : List Left) → IsReady rules w orders → AdmitsExactly rules (at_place w orders)
+admits rules w orders h = record {
+  rules_stand = h.rules_stand;
   fits = h.budgets.fits;
-  refused = λ n x rest is passes. refused_exactly w.driver w.memory x h.budgets (open_room w orders n x rest is h) passes;
+  refused = λ n x rest is passes. refused_exactly w.driver w.memory x h.budgets (open_room rules w orders n x rest is h) passes;
 }
 
 -- ---- the lines of a script
@@ -147,10 +163,12 @@ lines_fit [] h = tt
 lines_fit (x ∷ xs) h = (line_fits x.1 x.0 h.0, lines_fit xs h.1)
 
 pub run_admits : (fixed : Fixed) (w : World) (xs : List (ℕ × Line)) → KeepsBudgets (account_of w.driver) → HasRoomFor w.driver.room (reserve_of xs) → AllByRecursion (λ x. IsFitLine x.1) xs
-    → (k : ℕ) → AdmitsExactly (ticks fixed (at_place w (orders_of xs)) k)
+    → (k : ℕ) → AdmitsExactly w.driver.periodic.plan.rules (ticks fixed (at_place w (orders_of xs)) k)
 run_admits fixed w xs budgets room fits k =
     let p : OrderedWorld = ticks fixed (at_place w (orders_of xs)) k in
-    admits p.world p.orders (all_ready fixed (at_place w (orders_of xs)) k (record {
+    let rules : Rules = w.driver.periodic.plan.rules in
+    admits rules p.world p.orders (all_ready rules fixed (at_place w (orders_of xs)) k (record {
+      rules_stand = refl;
       budgets = budgets;
       room = subst (HasRoomFor w.driver.room) (sym (lines_need xs)) room;
       fits = lines_fit xs fits;
@@ -159,4 +177,4 @@ run_admits fixed w xs budgets room fits k =
 -- each moment of the run of a script that fits
 pub script_admits : (s : Script) → IsFit s → AdmitsThroughout s
 script_admits s fit k =
-    run_admits (fixed_of s) (opening_world s) s.lines (opening_kept s.words (reserve_of s.lines)) (room_itself (reserve_of s.lines) (reserve_of s.lines) refl) fit.lines k
+    run_admits (fixed_of s) (opening_world s) s.lines (opening_kept s.words (room_of_script s)) (room_of_all s) fit.lines k

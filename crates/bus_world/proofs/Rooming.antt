@@ -19,6 +19,7 @@ use Rattle.usb_base.specs.declared.reports.OfferError.TheVariants as errors
 use Rattle.usb_base.specs.declared.rules.Rules.{Rules}
 use Rattle.usb_base.specs.Rules.{first_rules}
 use Rattle.script_types.specs.declared.scripts.Line.{Line}
+use Rattle.script_types.specs.declared.scripts.Script.{Script}
 use Rattle.script_types.specs.declared.scripts.Line.TheVariants as lines
 use Rattle.word_mem.specs.Memory.{Mem}
 use Rattle.mem_runs.specs.Book.{Holding, holding}
@@ -40,7 +41,7 @@ use Rattle.drv_table.specs.IsoOffers.{total_of, offered_iso, open_iso, taken_iso
 use Rattle.drv_table.specs.CancelOffers.{offered_cancel, cancelled_by}
 use Rattle.script_fits.specs.Fits.{IsFitCommand}
 use Rattle.script_fits.proofs.Opened.{can_be_opened}
-use Rattle.bus_world.specs.Rooms.{needs, needs_line, no_room, transfer_room, iso_room, with_room, HasRoomFor, reserve_of}
+use Rattle.bus_world.specs.Rooms.{needs, needs_line, no_room, transfer_room, iso_room, with_room, HasRoomFor, reserve_of, room_of_script}
 use Rattle.bus_world.specs.World.{World, commanded, commanded_by}
 use Rattle.bus_world.proofs.Offering.{get_asked, put_asked, request_asked, is_cancelled}
 
@@ -296,9 +297,9 @@ line_rules : (l : Line) → (needs_line l).rules ≡ first_rules
 line_rules (lines.Command cmd) = needs_rules cmd
 line_rules _ = refl
 
-rules_of : (xs : List (ℕ × Line)) → (reserve_of xs).rules ≡ first_rules
-rules_of [] = refl
-rules_of (x ∷ xs) = line_rules x.1
+lines_rules : (xs : List (ℕ × Line)) → (reserve_of xs).rules ≡ first_rules
+lines_rules [] = refl
+lines_rules (x ∷ xs) = line_rules x.1
 
 abbrev ruled : Reserve → Rules → Reserve
 ruled r x = record r { rules = x }
@@ -327,7 +328,7 @@ drop_next xs i x h =
 
 -- the room so far, and that of the lines that are left
 pub rooms_begin : (xs left : List (ℕ × Line)) → left ≡ xs → with_room no_room (reserve_of left) ≡ reserve_of xs
-rooms_begin xs left e = with_none (reserve_of left) (rules_of left) ∙ ap reserve_of e
+rooms_begin xs left e = with_none (reserve_of left) (lines_rules left) ∙ ap reserve_of e
 
 pub rooms_more : (all next : Reserve) (xs : List (ℕ × Line)) (i : ℕ) (x : ℕ × Line) → i < length xs → x ≡ get_or xs i x → next ≡ with_room all (needs_line x.1)
     → with_room all (reserve_of (drop i xs)) ≡ reserve_of xs → with_room next (reserve_of (drop (i + 1) xs)) ≡ reserve_of xs
@@ -341,10 +342,5 @@ rooms_more all next xs i x h e is so_far =
 pub rooms_end : (all : Reserve) (xs left : List (ℕ × Line)) → left ≡ [] → with_room all (reserve_of left) ≡ reserve_of xs → all ≡ reserve_of xs
 rooms_end all xs left z so_far = sym (none_with all) ∙ sym (ap (λ ys. with_room all (reserve_of ys)) z) ∙ so_far
 
-pub room_itself : (room r : Reserve) → room ≡ r → HasRoomFor room r
-room_itself room r e = record {
-  endpoints = omega (arith, ap (λ (x : Reserve). x.endpoints) e);
-  transfers = omega (arith, ap (λ (x : Reserve). x.transfers) e);
-  reports = omega (arith, ap (λ (x : Reserve). x.reports) e);
-  report_bytes = omega (arith, ap (λ (x : Reserve). x.report_bytes) e);
-}
+pub room_of_all : (s : Script) → HasRoomFor (room_of_script s) (reserve_of s.lines)
+room_of_all s = record { endpoints = omega arith; transfers = omega arith; reports = omega arith; report_bytes = omega arith }

@@ -4,7 +4,7 @@ use Rattle.hc_core.specs.Controller.{new_control}
 use Rattle.drv_table.specs.Parts.{Parts}
 use Rattle.drv_table.specs.Opening.{opening}
 use Rattle.bus_wire.specs.Bus.{fixed_of, opening_bus}
-use Rattle.bus_world.specs.Rooms.{reserve_of}
+use Rattle.bus_world.specs.Rooms.{room_of_script}
 use Rattle.bus_world.specs.World.{World, Standing}
 
 abbrev pub opening_with : Parts → Script → World
@@ -12,7 +12,7 @@ opening_with p s = record { registers = p.registers; memory = p.memory; control 
 
 -- the driver has room for every command of the script
 abbrev pub opening_world : Script → World
-opening_world s = opening_with (opening s.words (reserve_of s.lines)) s
+opening_world s = opening_with (opening s.words (room_of_script s)) s
 
 abbrev pub opening_standing : Script → Standing
 opening_standing s = record { fixed = fixed_of s; world = opening_world s }

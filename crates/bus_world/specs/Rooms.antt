@@ -1,8 +1,10 @@
 -- The room that a driver needs for the commands of a script: what each command uses, accepted or refused.
 --     needs cmd             what a command uses
 --     reserve_of lines      the room for all commands of these lines
+--     rules_of s            what the frame list, the placements and the visits follow, by the version of the language
+--     room_of_script s      the room for all commands of a script
 --     HasRoomFor room r     there is as much room as r, in each of its numbers
-use Rattle.std.specs.Prelude.{ℕ, ◌+◌, ◌*◌, ◌≤◌, nat_le, List, [], ◌∷◌, length, if◌then◌else◌}
+use Rattle.std.specs.Prelude.{ℕ, ◌+◌, ◌*◌, ◌≤◌, nat_eq, nat_le, List, [], ◌∷◌, length, if◌then◌else◌}
 use Rattle.usb_base.specs.declared.commands.Cmd.{Cmd}
 use Rattle.usb_base.specs.declared.commands.Cmd.TheVariants as commands
 use Rattle.usb_base.specs.Limits.{longest_qtd}
@@ -10,7 +12,9 @@ use Rattle.script_types.specs.declared.scripts.Line.{Line}
 use Rattle.script_types.specs.declared.scripts.Line.TheVariants as lines
 use Rattle.drv_table.specs.declared.content.Reserve.{Reserve}
 use Rattle.drv_table.specs.Words.{request_length}
+use Rattle.usb_base.specs.declared.rules.Rules.{Rules}
 use Rattle.usb_base.specs.Rules.{first_rules}
+use Rattle.script_types.specs.declared.scripts.Script.{Script}
 
 abbrev pub no_room : Reserve
 no_room = record { endpoints = 0; transfers = 0; reports = 0; report_bytes = 0; rules = first_rules }
@@ -48,6 +52,13 @@ with_room a b = record {
 abbrev pub reserve_of : List (ℕ × Line) → Reserve
 reserve_of [] = no_room
 reserve_of (x ∷ xs) = with_room (needs_line x.1) (reserve_of xs)
+
+-- in version 2 the worst case of bit stuffing counts
+abbrev pub rules_of : Script → Rules
+rules_of s = record first_rules { stuffed = nat_eq s.version 2 }
+
+abbrev pub room_of_script : Script → Reserve
+room_of_script s = record (reserve_of s.lines) { rules = rules_of s }
 
 pub record HasRoomFor (room r : Reserve) : Type 0 where
   pub endpoints : r.endpoints ≤ room.endpoints

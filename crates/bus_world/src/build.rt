@@ -2,7 +2,7 @@ ghost use Rattle.std.specs.Prelude.{◌≡◌, nat_le, if◌then◌else◌, IfOk
 ghost use Rattle.usb_base.specs.Limits.{longest_qtd};
 ghost use Rattle.drv_table.specs.Words.{request_length};
 ghost use Rattle.script_fits.specs.Fits.{IsFit};
-ghost use Rattle.bus_world.specs.Rooms.{needs, needs_line, transfer_room, with_room, reserve_of, HasRoomFor};
+ghost use Rattle.bus_world.specs.Rooms.{needs, needs_line, transfer_room, with_room, reserve_of, rules_of, room_of_script, HasRoomFor};
 ghost use Rattle.bus_world.specs.Opening.{opening_standing};
 
 use crate::world::World;
@@ -141,6 +141,31 @@ fn reserve_of(lines: &[(u32, Line)]) -> Option<Reserve>
     Some(all)
 }
 
+/// What the frame list, the placements and the visits follow in a script.
+fn rules_of(script: &Script) -> Rules
+    ensures { result ≡ rules_of script.now }
+{
+    Rules {
+        frames: 1024,
+        stuffed: script.version == 2,
+        park: 0,
+    }
+}
+
+/// The room for all commands of a script.
+fn room_of_script(script: &Script) -> Option<Reserve>
+    ensures { IfSome result (λ r. r ≡ room_of_script script.now) }
+{
+    let room = reserve_of(script.lines.as_slice())?;
+    Some(Reserve {
+        endpoints: room.endpoints,
+        transfers: room.transfers,
+        reports: room.reports,
+        report_bytes: room.report_bytes,
+        rules: rules_of(script),
+    })
+}
+
 impl World {
     /// The world of a script at the end of microframe 0: the driver was built with room for every command line, and nothing was offered
     /// or stepped.
@@ -153,7 +178,7 @@ impl World {
         ensures world { IfOk result (λ w. w ≡ opening_standing script.now) }
         ensures room { IfOk result (λ w. HasRoomFor w.world.driver.room (reserve_of script.now.lines)) }
     {
-        let Some(reserve) = reserve_of(script.lines.as_slice()) else {
+        let Some(reserve) = room_of_script(script) else {
             return Err(Memory);
         };
         let bus = UsbBus::build(alloc, script)?;

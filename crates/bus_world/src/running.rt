@@ -126,7 +126,7 @@ impl World {
         requires room { HasRoomFor self.old.world.driver.room (reserve_of script.now.lines) }
         ensures fixed { self.new.fixed ≡ self.old.fixed }
         ensures run { IsRun self.old.fixed self.old.world (orders_of script.now.lines) self.new.world }
-        ensures budgets { (k : ℕ) → AdmitsExactly (ticks self.old.fixed (at_place self.old.world (orders_of script.now.lines)) k) }
+        ensures budgets { (k : ℕ) → AdmitsExactly self.old.world.driver.periodic.plan.rules (ticks self.old.fixed (at_place self.old.world (orders_of script.now.lines)) k) }
     {
         let _driver = self.driver();
         self.lines(script.lines.as_slice());

@@ -140,7 +140,7 @@ is_too_long d _ = false
 -- ---- bus time (USB 2.0, 5.11.3)
 
 abbrev pub HasNoPlacement : DriverContent → Cmd → Type 0
-HasNoPlacement d (commands.OpenEp x) = (is_periodic x.kind ≡ true) × HasNone d.periodic.plan.placed (want_of (length d.endpoints) x)
+HasNoPlacement d (commands.OpenEp x) = (is_periodic x.kind ≡ true) × HasNone d.periodic.plan.rules d.periodic.plan.placed (want_of (length d.endpoints) x)
 HasNoPlacement d _ = ⊥
 
 -- ---- blocks of 32 bytes

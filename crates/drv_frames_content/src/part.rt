@@ -12,7 +12,7 @@ use drv_periodic_table::{DescriptorNote, Removal};
 use std::alloc::Global;
 use std::collections::VecDeque;
 use std::marker::Model;
-use usb_base::{Dir, EpDesc, EpKind, Memory, Way};
+use usb_base::{Dir, EpDesc, EpKind, Memory, Rules, Way};
 
 /// Nothing known of a descriptor.
 pub(crate) const NO_DESCRIPTOR: DescriptorNote = DescriptorNote {
@@ -100,7 +100,7 @@ fn want(e: u32, desc: &EpDesc) -> Want
 }
 
 impl PeriodicPart {
-    /// A part with nothing in it, for a memory of so many blocks, with room for so many endpoints and descriptors.
+    /// A part with nothing in it, for a memory of so many blocks, with room for so many endpoints and descriptors, placed by these rules.
     ///
     /// # Errors
     ///
@@ -110,8 +110,9 @@ impl PeriodicPart {
         blocks: u32,
         endpoints: u32,
         transfers: u32,
+        rules: Rules,
     ) -> Result<PeriodicPart, Memory>
-        ensures none { IfOk result (λ h. h.periodic ≡ new_periodic blocks endpoints transfers) }
+        ensures none { IfOk result (λ h. h.periodic ≡ new_periodic blocks endpoints transfers rules) }
         ensures queued { IfOk result (λ h. transfers + 1 ≤ h.queued_room) }
         ensures unlinks { IfOk result (λ h. transfers ≤ h.unlink_room) }
         ensures removals { IfOk result (λ h. endpoints + transfers ≤ h.removal_room) }
@@ -119,7 +120,7 @@ impl PeriodicPart {
         let waiting = transfers as usize;
         let removals = endpoints as usize + waiting;
         Ok(PeriodicPart {
-            plan: Plan::build(alloc, endpoints)?,
+            plan: Plan::build(alloc, endpoints, rules)?,
             list: PeriodicList::build(alloc, FRAME_LIST, endpoints, transfers)?,
             queued: VecDeque::with_capacity(alloc, waiting + 1)?,
             notes: vec![in alloc; NO_DESCRIPTOR; blocks as usize]?,

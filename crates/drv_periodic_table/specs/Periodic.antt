@@ -1,7 +1,7 @@
 -- What the driver has of its periodic endpoints (EHCI 1.0, 3.1, 4.6 and 4.7). A member of the frame list has as its name the word of a link
 -- to it (3.1): 32 times the block in which it begins, and its type in bits 2:1, 0 for an iTD, 1 for a queue head, 2 for a siTD.
 --     PeriodicContent        the content
---     new_periodic n e d     what it has when it was built, for a memory of n blocks, with room for e endpoints and d descriptors
+--     new_periodic n e d rules     what it has when it was built, for a memory of n blocks, with room for e endpoints and d descriptors
 --     is_periodic kind       the endpoint has a place in the frame list, and not in the ring
 --     want_of e x            what endpoint e, so described, asks of the plan
 --     itd_name, sitd_name, queue_name   the names of the structure that begins in a block
@@ -17,6 +17,7 @@ use Rattle.usb_base.specs.declared.packets.Way.{Way}
 use Rattle.usb_base.specs.declared.packets.Way.TheVariants as ways
 use Rattle.usb_base.specs.declared.packets.Dir.{Dir}
 use Rattle.usb_base.specs.declared.packets.Dir.TheVariants as dirs
+use Rattle.usb_base.specs.declared.rules.Rules.{Rules}
 use Rattle.bandwidth.specs.declared.placements.Want.{Want}
 use Rattle.bandwidth.specs.declared.placements.Placement.{Placement}
 use Rattle.bandwidth.specs.Admission.{Admissions}
@@ -40,9 +41,9 @@ abbrev pub no_descriptor : DescriptorNote
 no_descriptor = record { frame = 0; split = false; smask = 0; cmask = 0; slot = 0; buffer = 0 ∷ 0 ∷ 0 ∷ 0 ∷ 0 ∷ 0 ∷ []; runs = 0 }
 
 -- the frame list begins at byte address 0
-abbrev pub new_periodic : ℕ → ℕ → ℕ → PeriodicContent
-new_periodic n endpoints descriptors = record {
-  plan = record { placed = []; room = endpoints };
+abbrev pub new_periodic : ℕ → ℕ → ℕ → Rules → PeriodicContent
+new_periodic n endpoints descriptors rules = record {
+  plan = record { placed = []; room = endpoints; rules = rules };
   list = new_list 0 endpoints descriptors;
   queued = [];
   notes = replicate n no_descriptor;

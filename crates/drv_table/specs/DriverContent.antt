@@ -71,7 +71,7 @@ new_driver book n room = record {
   reports = [];
   store = [];
   room = room;
-  periodic = new_periodic n room.endpoints room.transfers;
+  periodic = new_periodic n room.endpoints room.transfers room.rules;
 }
 
 -- ---- endpoints by name

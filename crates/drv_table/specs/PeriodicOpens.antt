@@ -19,4 +19,4 @@ pub record PassesBefore (d : DriverContent) (x : EpDesc) : Type 0 where
 
 -- each allowed placement breaks a budget beside what is placed
 abbrev pub BreaksBudgets : DriverContent → EpDesc → Type 0
-BreaksBudgets d x = HasNone d.periodic.plan.placed (asked d x)
+BreaksBudgets d x = HasNone d.periodic.plan.rules d.periodic.plan.placed (asked d x)

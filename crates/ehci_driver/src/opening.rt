@@ -80,7 +80,13 @@ impl Driver {
             reports: Vec::with_capacity(alloc, reserve.reports as usize)?,
             store: Vec::with_capacity(alloc, reserve.report_bytes as usize)?,
             room: *reserve,
-            periodic: PeriodicPart::build(alloc, blocks, reserve.endpoints, reserve.transfers)?,
+            periodic: PeriodicPart::build(
+                alloc,
+                blocks,
+                reserve.endpoints,
+                reserve.transfers,
+                reserve.rules,
+            )?,
         })
     }
 }

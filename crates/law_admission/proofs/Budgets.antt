@@ -1,5 +1,5 @@
 -- The budgets hold at the opening, and each command and each event keeps them.
-use Rattle.std.proofs.Common.{◌≡◌, ℕ, ◌+◌, ◌≤◌, Bool, true, false, List, [], ◌∷◌, ◌++◌, length, slice_get, Option, Some, None, Ok, subst, sym, refl, arith}
+use Rattle.std.proofs.Common.{◌≡◌, ℕ, ◌+◌, ◌≤◌, Bool, true, false, List, [], ◌∷◌, ◌++◌, length, slice_get, Option, Some, None, Ok, subst, sym, refl, ap, ◌∙◌, arith}
 use Rattle.std.specs.Prelude.{filter, not, nat_eq}
 use Rattle.std.proofs.lemmas.List.{length-append}
 use Rattle.std.proofs.lemmas.List.Filters.{length-filter_both}
@@ -23,7 +23,7 @@ use Rattle.drv_table.specs.Parts.{Parts}
 use Rattle.drv_table.specs.Rows.{driver_row, after_driver_row}
 use Rattle.law_admission.specs.Budgets.{Account, account_of, KeepsBudgets, taken_out, account_after}
 use Rattle.drv_table.specs.PeriodicOpens.{asked}
-use Rattle.law_admission.specs.Opens.{OpenAfter}
+use Rattle.law_admission.specs.Opens.{OpenAfter, AccountAfter}
 use Rattle.law_admission.proofs.Events.{account_of_event}
 use Rattle.law_admission.proofs.Commands.{account_of_command}
 
@@ -89,3 +89,27 @@ after_kept _ d old = old
 
 pub event_kept : (p : Parts) → KeepsBudgets (account_of p.driver) → KeepsBudgets (account_of (after_driver_row (driver_row p) p).driver)
 event_kept p old = subst KeepsBudgets (sym (account_of_event (driver_row p) p)) (after_kept (driver_row p) p.driver old)
+
+-- ---- placements follow the same rules
+
+open_rules : (d : DriverContent) (x : EpDesc) (o : Offered) (b : Bool) → OpenAfter d x o b → o.driver.periodic.plan.rules ≡ d.periodic.plan.rules
+open_rules d x o true why = ap (λ (a : Account). a.plan.rules) why.account
+open_rules d x o false why = ap (λ (a : Account). a.plan.rules) why
+
+after_rules : (d : DriverContent) (cmd : Cmd) (o : Offered) → AccountAfter d cmd o → o.driver.periodic.plan.rules ≡ d.periodic.plan.rules
+after_rules d (commands.OpenEp x) o why = open_rules d x o (is_periodic x.kind) why
+after_rules d _ o why = ap (λ (a : Account). a.plan.rules) why
+
+pub command_rules : (d : DriverContent) (m : Mem) (cmd : Cmd) (o : Offered) → offered d m cmd ≡ Ok o → o.driver.periodic.plan.rules ≡ d.periodic.plan.rules
+command_rules d m cmd o is = after_rules d cmd o (account_of_command d m cmd o is)
+
+out_rules : (a : Account) (e : ℕ) (o : Option Endpoint) → (taken_out a e o).plan.rules ≡ a.plan.rules
+out_rules a e None = refl
+out_rules a e (Some x) = refl
+
+row_rules : (row : DriverRow) (d : DriverContent) → (account_after row d).plan.rules ≡ d.periodic.plan.rules
+row_rules (rows.ReleaseRemoved (removed.Endpoint e)) d = out_rules (account_of d) e (slice_get d.endpoints e)
+row_rules _ d = refl
+
+pub event_rules : (p : Parts) → (after_driver_row (driver_row p) p).driver.periodic.plan.rules ≡ p.driver.periodic.plan.rules
+event_rules p = ap (λ (a : Account). a.plan.rules) (account_of_event (driver_row p) p) ∙ row_rules (driver_row p) p.driver

@@ -4,8 +4,9 @@ use Rattle.std.specs.Prelude.{if◌then◌else◌}
 use Rattle.usb_base.specs.declared.commands.Cmd.TheVariants.{OpenEp}
 use Rattle.usb_base.specs.declared.reports.OfferError.TheVariants.{NoPlacement}
 use Rattle.word_mem.specs.Memory.{Mem}
+use Rattle.usb_base.specs.declared.rules.Rules.{Rules}
 use Rattle.bandwidth.specs.declared.placements.Placement.{Placement}
-use Rattle.bandwidth.specs.Placements.{allowed, mask, has}
+use Rattle.bandwidth.specs.Placements.{allowed, allowed_by, mask, has}
 use Rattle.bandwidth.specs.Sums.{Fits, load, price, cost_in, cost_at, is_active}
 use Rattle.bandwidth.specs.Admission.{joined, best, chosen}
 use Rattle.bandwidth.proofs.Admits.{best_is, best_none}
@@ -20,16 +21,16 @@ use Rattle.law_admission.specs.Worked.{camera, each_microframe}
 use Rattle.law_admission.proofs.Budgets.{opening_kept}
 use Rattle.law_admission.proofs.Refusals.{asks_best, refused_exactly}
 
-one_place : (e num : ℕ) → allowed (want_of e (camera num)) ≡ each_microframe ∷ []
-unfolding allowed mask
-one_place e num = refl
+one_place : (rules : Rules) (e num : ℕ) → allowed_by rules (want_of e (camera num)) ≡ each_microframe ∷ []
+unfolding allowed_by allowed mask
+one_place rules e num = refl
 
 in_one : (i : ℕ) (p : Placement) → slice_get (each_microframe ∷ []) i ≡ Some p → p ≡ each_microframe
 in_one zero p e = cc
 in_one (suc i) p e = absurd (cc)
 
-its_place : (e num i : ℕ) (p : Placement) → slice_get (allowed (want_of e (camera num))) i ≡ Some p → p ≡ each_microframe
-its_place e num i p at = in_one i p (subst (λ (ps : List Placement). slice_get ps i ≡ Some p) (one_place e num) at)
+its_place : (rules : Rules) (e num i : ℕ) (p : Placement) → slice_get (allowed_by rules (want_of e (camera num))) i ≡ Some p → p ≡ each_microframe
+its_place rules e num i p at = in_one i p (subst (λ (ps : List Placement). slice_get ps i ≡ Some p) (one_place rules e num) at)
 
 -- ---- one fits
 
@@ -61,16 +62,16 @@ one_fits = record {
 opened_new : (n : ℕ) (room : Reserve) → PassesBefore (opening n room).driver (camera 1)
 opened_new n room = record { idle = refl; name = refl; kind = refl }
 
-first_of : (b : Option Placement) → best [] (want_of 0 (camera 1)) ≡ b → b ≡ Some each_microframe
-first_of None is =
-    absurd (best_none [] (want_of 0 (camera 1)) is 0 each_microframe (ap (λ (ps : List Placement). slice_get ps 0) (one_place 0 1)) one_fits)
-first_of (Some p) is =
-    let good = best_is [] (want_of 0 (camera 1)) p is in ap Some (its_place 0 1 good.place p good.at)
+first_of : (rules : Rules) (b : Option Placement) → best rules [] (want_of 0 (camera 1)) ≡ b → b ≡ Some each_microframe
+first_of rules None is =
+    absurd (best_none rules [] (want_of 0 (camera 1)) is 0 each_microframe (ap (λ (ps : List Placement). slice_get ps 0) (one_place rules 0 1)) one_fits)
+first_of rules (Some p) is =
+    let good = best_is rules [] (want_of 0 (camera 1)) p is in ap Some (its_place rules 0 1 good.place p good.at)
 
 pub first_accepted : (n : ℕ) (room : Reserve) (m : Mem) → 1 ≤ room.endpoints → offered (opening n room).driver m (OpenEp (camera 1)) ≡ Ok (record { driver = accepted_iso (opening n room).driver (camera 1) each_microframe; memory = m })
 first_accepted n room m some =
     asks_best (opening n room).driver m (camera 1) (opening_kept n room) some (opened_new n room)
-    ∙ ap (λ (b : Option Placement). planned_open (opening n room).driver m (camera 1) (chosen b)) (first_of (best [] (want_of 0 (camera 1))) refl)
+    ∙ ap (λ (b : Option Placement). planned_open (opening n room).driver m (camera 1) (chosen b)) (first_of room.rules (best room.rules [] (want_of 0 (camera 1))) refl)
 
 -- ---- the second
 
@@ -95,4 +96,4 @@ breaks p is fit =
 pub second_refused : (n : ℕ) (room : Reserve) (m : Mem) → 2 ≤ room.endpoints → offered (accepted_iso (opening n room).driver (camera 1) each_microframe) m (OpenEp (camera 2)) ≡ Err NoPlacement
 second_refused n room m two =
     (refused_exactly (accepted_iso (opening n room).driver (camera 1) each_microframe) m (camera 2) (first_kept n room (omega (arith, two))) (one_left room two) (second_new n room)).1
-    (λ i p at fit. breaks p (its_place 1 2 i p at) fit)
+    (λ i p at fit. breaks p (its_place room.rules 1 2 i p at) fit)

@@ -100,20 +100,20 @@ open_taken : (d : DriverContent) (x : EpDesc) (r : Result Holding OfferError) �
 open_taken d x (Err why) = tt
 open_taken d x (Ok h) = refl
 
-chain_taken : (d : DriverContent) (x : EpDesc) (p : Placement) (r : Result Holding OfferError) → IsBest d.periodic.plan.placed (asked d x) p → IfOk (taken_chain d x p r) (IsPlaced d x)
+chain_taken : (d : DriverContent) (x : EpDesc) (p : Placement) (r : Result Holding OfferError) → IsBest d.periodic.plan.rules d.periodic.plan.placed (asked d x) p → IfOk (taken_chain d x p r) (IsPlaced d x)
 chain_taken d x p (Err why) good = tt
 chain_taken d x p (Ok h) good = record { placement = p; queue = slice_index (new_runs d h) 0; dummy = slice_index (new_runs d h) 1; best = good; account = refl; endpoints = refl }
 
-pub placed_there : (d : DriverContent) (m : Mem) (x : EpDesc) (p : Placement) (k : EpKind) → IsBest d.periodic.plan.placed (asked d x) p → IfOk (placed_open d m x p k) (IsPlaced d x)
+pub placed_there : (d : DriverContent) (m : Mem) (x : EpDesc) (p : Placement) (k : EpKind) → IsBest d.periodic.plan.rules d.periodic.plan.placed (asked d x) p → IfOk (placed_open d m x p k) (IsPlaced d x)
 placed_there d m x p kinds.Iso good = record { placement = p; queue = 0; dummy = 0; best = good; account = refl; endpoints = refl }
 placed_there d m x p _ good = chain_taken d x p (take_runs (holding d.book m) (2 ∷ 1 ∷ [])) good
 
-chosen_open : (d : DriverContent) (m : Mem) (x : EpDesc) (b : Option Placement) → best d.periodic.plan.placed (asked d x) ≡ b → IfOk (planned_open d m x (chosen b)) (IsPlaced d x)
+chosen_open : (d : DriverContent) (m : Mem) (x : EpDesc) (b : Option Placement) → best d.periodic.plan.rules d.periodic.plan.placed (asked d x) ≡ b → IfOk (planned_open d m x (chosen b)) (IsPlaced d x)
 chosen_open d m x None is = tt
-chosen_open d m x (Some p) is = placed_there d m x p x.kind (best_is d.periodic.plan.placed (asked d x) p is)
+chosen_open d m x (Some p) is = placed_there d m x p x.kind (best_is d.periodic.plan.rules d.periodic.plan.placed (asked d x) p is)
 
-answered_open : (d : DriverContent) (m : Mem) (x : EpDesc) (b : Bool) → IfOk (planned_open d m x (if b then chosen (best d.periodic.plan.placed (asked d x)) else Err Room)) (IsPlaced d x)
-answered_open d m x true = chosen_open d m x (best d.periodic.plan.placed (asked d x)) refl
+answered_open : (d : DriverContent) (m : Mem) (x : EpDesc) (b : Bool) → IfOk (planned_open d m x (if b then chosen (best d.periodic.plan.rules d.periodic.plan.placed (asked d x)) else Err Room)) (IsPlaced d x)
+answered_open d m x true = chosen_open d m x (best d.periodic.plan.rules d.periodic.plan.placed (asked d x)) refl
 answered_open d m x false = tt
 
 kind_open : (d : DriverContent) (m : Mem) (x : EpDesc) (b : Bool) → IfOk (if b then planned_open d m x (answer d.periodic.plan (asked d x)) else taken_open d x (take_runs (holding d.book m) (2 ∷ 1 ∷ []))) (λ o. OpenAfter d x o b)

@@ -33,12 +33,12 @@ has_room : (d : DriverContent) (x : EpDesc) → KeepsBudgets (account_of d) → 
 has_room d x kept some new = lt_test (length d.periodic.plan.placed) d.periodic.plan.room (omega (arith, kept.room, some))
 
 -- it comes down to the best placement
-pub asks_best : (d : DriverContent) (m : Mem) (x : EpDesc) → KeepsBudgets (account_of d) → 1 ≤ d.room.endpoints → PassesBefore d x → offered d m (OpenEp x) ≡ planned_open d m x (chosen (best d.periodic.plan.placed (asked d x)))
+pub asks_best : (d : DriverContent) (m : Mem) (x : EpDesc) → KeepsBudgets (account_of d) → 1 ≤ d.room.endpoints → PassesBefore d x → offered d m (OpenEp x) ≡ planned_open d m x (chosen (best d.periodic.plan.rules d.periodic.plan.placed (asked d x)))
 asks_best d m x kept some new =
     ap (λ (c : Option Command). if is_some c then Err errors.Busy else offered_next d m (OpenEp x)) new.idle
     ∙ ap (λ (q : Option Endpoint). offered_open d m x q) new.name
     ∙ ap (λ (b : Bool). if b then planned_open d m x (answer d.periodic.plan (asked d x)) else taken_open d x (take_runs (holding d.book m) (2 ∷ 1 ∷ []))) new.kind
-    ∙ ap (λ (b : Bool). planned_open d m x (if b then chosen (best d.periodic.plan.placed (asked d x)) else Err Room)) (has_room d x kept some new)
+    ∙ ap (λ (b : Bool). planned_open d m x (if b then chosen (best d.periodic.plan.rules d.periodic.plan.placed (asked d x)) else Err Room)) (has_room d x kept some new)
 
 -- runs that aren't found are refused for themselves
 or_run : (h : Holding) (n : ℕ) (ns : List ℕ) (o : Option Holding) → ((more : Holding) → IfErr (take_runs more ns) (λ why. why ≢ errors.NoPlacement)) → IfErr (elim o [ None ↦ Err (errors.NoBlocks n (longest_run h.memory.states)) | Some more ↦ take_runs more ns ]) (λ why. why ≢ errors.NoPlacement)
@@ -60,14 +60,14 @@ placed_refused : (d : DriverContent) (m : Mem) (x : EpDesc) (p : Placement) (k :
 placed_refused d m x p kinds.Iso e = absurd (cc)
 placed_refused d m x p _ e = chain_refused d x p (take_runs (holding d.book m) (2 ∷ 1 ∷ [])) (runs_refused (2 ∷ 1 ∷ []) (holding d.book m)) e
 
-chosen_refused : (d : DriverContent) (m : Mem) (x : EpDesc) (b : Option Placement) → best d.periodic.plan.placed (asked d x) ≡ b → planned_open d m x (chosen b) ≡ Err errors.NoPlacement → BreaksBudgets d x
-chosen_refused d m x None is e = best_none d.periodic.plan.placed (asked d x) is
+chosen_refused : (d : DriverContent) (m : Mem) (x : EpDesc) (b : Option Placement) → best d.periodic.plan.rules d.periodic.plan.placed (asked d x) ≡ b → planned_open d m x (chosen b) ≡ Err errors.NoPlacement → BreaksBudgets d x
+chosen_refused d m x None is e = best_none d.periodic.plan.rules d.periodic.plan.placed (asked d x) is
 chosen_refused d m x (Some p) is e = absurd (placed_refused d m x p x.kind e)
 
 pub refused_exactly : (d : DriverContent) (m : Mem) (x : EpDesc) → KeepsBudgets (account_of d) → 1 ≤ d.room.endpoints → PassesBefore d x → (offered d m (OpenEp x) ≡ Err errors.NoPlacement) ↔ BreaksBudgets d x
 refused_exactly d m x kept some new = (
-  λ e. chosen_refused d m x (best d.periodic.plan.placed (asked d x)) refl (sym (asks_best d m x kept some new) ∙ e),
-  λ all. asks_best d m x kept some new ∙ ap (λ (b : Option Placement). planned_open d m x (chosen b)) (none_best d.periodic.plan.placed (asked d x) all),
+  λ e. chosen_refused d m x (best d.periodic.plan.rules d.periodic.plan.placed (asked d x)) refl (sym (asks_best d m x kept some new) ∙ e),
+  λ all. asks_best d m x kept some new ∙ ap (λ (b : Option Placement). planned_open d m x (chosen b)) (none_best d.periodic.plan.rules d.periodic.plan.placed (asked d x) all),
 )
 
 pub accepted_best : (d : DriverContent) (m : Mem) (x : EpDesc) (o : Offered) → is_periodic x.kind ≡ true → offered d m (OpenEp x) ≡ Ok o → IsPlaced d x o

@@ -18,7 +18,7 @@ pub record IsPlaced (d : DriverContent) (x : EpDesc) (o : Offered) : Type 0 wher
   pub placement : Placement
   pub queue : ℕ
   pub dummy : ℕ
-  pub best : IsBest d.periodic.plan.placed (asked d x) placement
+  pub best : IsBest d.periodic.plan.rules d.periodic.plan.placed (asked d x) placement
   pub account : account_of o.driver ≡ record { plan = with_placement d x placement; endpoints = d.room.endpoints - 1 }
   pub endpoints : o.driver.endpoints ≡ d.endpoints ++ placed_endpoint x placement queue dummy ∷ []
 

@@ -57,6 +57,13 @@ pub fn events_keep_budgets()
     ensures { (p : Parts) → KeepsBudgets (account_of p.driver) → KeepsBudgets (account_of (after_driver_row (driver_row p) p).driver) }
 {}
 
+/// Each accepted command and each event leaves what placements follow as it was.
+#[tactic(auto, using(crate::proofs::Budgets::command_rules, crate::proofs::Budgets::event_rules))]
+pub fn placements_follow_the_same_rules()
+    ensures commands { (d : DriverContent) (m : Mem) (cmd : Cmd) (o : Offered) → offered d m cmd ≡ Ok o → o.driver.periodic.plan.rules ≡ d.periodic.plan.rules }
+    ensures events { (p : Parts) → (after_driver_row (driver_row p) p).driver.periodic.plan.rules ≡ p.driver.periodic.plan.rules }
+{}
+
 /// A periodic endpoint that passes the checks before, and for which there is room, is refused for want of a placement exactly where each
 /// allowed one breaks a budget beside what is placed.
 #[tactic(auto, using(crate::proofs::Refusals::refused_exactly))]

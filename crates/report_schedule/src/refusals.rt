@@ -112,6 +112,9 @@ fn put_placements(
             if told >= MOST {
                 return Ok(());
             }
+            if !plan.is_slack(want, first) {
+                continue;
+            }
             told += 1;
             let placement = placement_of(want, phase, first);
             let breach = first_breach(plan, neighbour, want, &placement);

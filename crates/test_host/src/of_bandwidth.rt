@@ -5,7 +5,21 @@ ghost use Rattle.bandwidth.specs.Placements.{IsWant, is_period, most_bytes};
 use bandwidth::{Placement, Plan, Refused, Want};
 use std::process::Abort;
 use std::test::Fail;
-use usb_base::{DevAddr, Dir, EpKind, Speed};
+use usb_base::{DevAddr, Dir, EpKind, Rules, Speed};
+
+/// What placements follow in version 1 of the script language.
+const FIRST_RULES: Rules = Rules {
+    frames: 1024,
+    stuffed: false,
+    park: 0,
+};
+
+/// In version 2 the worst case of bit stuffing counts.
+const STUFFED_RULES: Rules = Rules {
+    frames: 1024,
+    stuffed: true,
+    park: 0,
+};
 
 /// A high-speed interrupt IN endpoint.
 fn high_interrupt(id: u32, max: u16, period: u16) -> Want
@@ -68,7 +82,7 @@ fn masks_of(rt: &impl Abort, plan: &mut Plan, want: Want) -> Result<(u8, u8), Re
 
 #[test]
 fn five_fill_a_bus(rt: HostRuntime) -> Result<(), Fail> {
-    let mut plan = Plan::build(rt.alloc(), 16)?;
+    let mut plan = Plan::build(rt.alloc(), 16, FIRST_RULES)?;
     for id in 0..4 {
         let want = high_interrupt(id, 1024, 1);
         let all = Placement {
@@ -93,7 +107,7 @@ fn five_fill_a_bus(rt: HostRuntime) -> Result<(), Fail> {
 
 #[test]
 fn two_periods_share(rt: HostRuntime) -> Result<(), Fail> {
-    let mut plan = Plan::build(rt.alloc(), 16)?;
+    let mut plan = Plan::build(rt.alloc(), 16, FIRST_RULES)?;
     for (id, smask) in [(0, 0x55), (1, 0xaa), (2, 0x55), (3, 0xaa)] {
         assert_eq!(rt;
             masks_of(&rt, &mut plan, high_interrupt(id, 1024, 2)),
@@ -108,7 +122,7 @@ fn two_periods_share(rt: HostRuntime) -> Result<(), Fail> {
 #[test]
 fn a_translator_holds_eight(rt: HostRuntime) -> Result<(), Fail> {
     let hub = DevAddr::new(9).ok_or("an address")?;
-    let mut plan = Plan::build(rt.alloc(), 16)?;
+    let mut plan = Plan::build(rt.alloc(), 16, FIRST_RULES)?;
     let mut counts = [0u8; 16];
     for id in 0..8 {
         let want = full(id, EpKind::Interrupt, Dir::In, 64, hub);
@@ -124,7 +138,7 @@ fn a_translator_holds_eight(rt: HostRuntime) -> Result<(), Fail> {
 
 #[test]
 fn isochronous_below_hubs(rt: HostRuntime) -> Result<(), Fail> {
-    let mut plan = Plan::build(rt.alloc(), 16)?;
+    let mut plan = Plan::build(rt.alloc(), 16, FIRST_RULES)?;
     let first = DevAddr::new(9).unwrap();
     let second = DevAddr::new(10).unwrap();
     let third = DevAddr::new(11).unwrap();
@@ -141,8 +155,26 @@ fn isochronous_below_hubs(rt: HostRuntime) -> Result<(), Fail> {
 }
 
 #[test]
+fn six_or_five_first_microframes(rt: HostRuntime) -> Result<(), Fail> {
+    let hub = DevAddr::new(9).ok_or("an address")?;
+    for (rules, last) in [
+        (FIRST_RULES, Ok((0x20, 0))),
+        (STUFFED_RULES, Err(Refused::NoPlacement)),
+    ] {
+        let mut plan = Plan::build(rt.alloc(), 16, rules)?;
+        for (id, smask) in [(1, 1), (2, 2), (3, 4), (4, 8), (5, 16)] {
+            let want = full(id, EpKind::Iso, Dir::Out, 179, hub);
+            assert_eq!(rt; masks_of(&rt, &mut plan, want), Ok((smask, 0)));
+        }
+        let want = full(6, EpKind::Iso, Dir::Out, 188, hub);
+        assert_eq!(rt; masks_of(&rt, &mut plan, want), last);
+    }
+    Ok(())
+}
+
+#[test]
 fn room_for_one(rt: HostRuntime) -> Result<(), Fail> {
-    let mut plan = Plan::build(rt.alloc(), 1)?;
+    let mut plan = Plan::build(rt.alloc(), 1, FIRST_RULES)?;
     let placed = admit(&rt, &mut plan, high_interrupt(1, 8, 8));
     let second = admit(&rt, &mut plan, high_interrupt(2, 8, 8));
     assert_eq!(rt; second, Err(Refused::Room));

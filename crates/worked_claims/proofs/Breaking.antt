@@ -42,4 +42,4 @@ pub breaks_in_time : BreaksInTime
 breaks_in_time = λ fixed w k. let is : 25000000 ≤ 0 = k.fifth refl refl in omega (arith, is)
 
 pub breaks_budgets : BreaksBudgets
-breaks_budgets = λ p k. let is : 125010000 ≤ 100000000 = k.fits.loads 0 (omega arith) in omega (arith, is)
+breaks_budgets = λ rules p k. let is : 125010000 ≤ 100000000 = k.fits.loads 0 (omega arith) in omega (arith, is)

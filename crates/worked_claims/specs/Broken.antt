@@ -11,6 +11,7 @@ use Rattle.std.specs.Prelude.{◌≡◌, ℕ, false, List, [], ◌∷◌, Some, 
 use Rattle.usb_base.specs.declared.packets.Speed.TheVariants.{High}
 use Rattle.usb_base.specs.declared.packets.EpKind.TheVariants.{Interrupt}
 use Rattle.usb_base.specs.declared.packets.Dir.TheVariants.{Out}
+use Rattle.usb_base.specs.declared.rules.Rules.{Rules}
 use Rattle.script_types.specs.declared.scripts.Script.{Script}
 use Rattle.word_mem.specs.declared.blocks.BlockState.TheVariants.{Free}
 use Rattle.word_mem.specs.Memory.{Mem}
@@ -81,4 +82,4 @@ abbrev pub with_placed : DriverContent → List Placed → DriverContent
 with_placed d placed = record d { periodic = record d.periodic { plan = record d.periodic.plan { placed = placed } } }
 
 abbrev pub BreaksBudgets : Type 0
-BreaksBudgets = (p : OrderedWorld) → AdmitsExactly (record p { world = record p.world { driver = with_placed p.world.driver twice } }) → ⊥
+BreaksBudgets = (rules : Rules) (p : OrderedWorld) → AdmitsExactly rules (record p { world = record p.world { driver = with_placed p.world.driver twice } }) → ⊥

@@ -8,7 +8,7 @@ use Rattle.bandwidth.proofs.search.best_in_phase.Goals as goal
 
 pub loop-first-init : goal.loop-first-init
 loop-first-init g c = record {
-  best = choice_none c.args.accounts.now.placed c.args.want.now c.args.so_far;
+  best = choice_none c.args.rules c.args.accounts.now.placed c.args.want.now c.args.so_far;
   steps = omega arith;
 }
 
@@ -22,9 +22,9 @@ loop-first-preserved g c =
     record {
       best =
           c.better_of-best.ensures.better
-          ∙ ap (λ s. better c.args.accounts.now.placed w c.loop-first.best (placement_at w phase s)) at
-          ∙ ap (λ b. better c.args.accounts.now.placed w b (placement_at w phase first)) c.loop-first.invariant.best
-          ∙ sym (choice_more c.args.accounts.now.placed w c.args.so_far (placement_at w phase) first);
+          ∙ ap (λ s. better c.args.rules c.args.accounts.now.placed w c.loop-first.best (placement_at w phase s)) at
+          ∙ ap (λ b. better c.args.rules c.args.accounts.now.placed w b (placement_at w phase first)) c.loop-first.invariant.best
+          ∙ sym (choice_more c.args.rules c.args.accounts.now.placed w c.args.so_far (placement_at w phase) first);
       steps =
           omega (
             arith,
@@ -43,4 +43,4 @@ pub returns-clause-best : goal.returns-clause-best
 returns-clause-best g c =
     let end : c.loop-first.first ≡ (placement_row c.args.want.now).starts = omega (arith, c.starts-first-end.ensures.value) in
     c.loop-first.invariant.best
-    ∙ ap (λ n. choice c.args.accounts.now.placed c.args.want.now c.args.so_far (map (placement_at c.args.want.now c.args.phase) (below n))) end
+    ∙ ap (λ n. choice c.args.rules c.args.accounts.now.placed c.args.want.now c.args.so_far (map (placement_at c.args.want.now c.args.phase) (below n))) end

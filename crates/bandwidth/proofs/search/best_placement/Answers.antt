@@ -9,7 +9,7 @@ use Rattle.bandwidth.proofs.search.best_placement.Goals as goal
 
 pub loop-phase-init : goal.loop-phase-init
 loop-phase-init g c = record {
-  best = choice_none c.args.accounts.now.placed c.args.want.now None;
+  best = choice_none c.args.rules c.args.accounts.now.placed c.args.want.now None;
   steps = omega arith;
 }
 
@@ -19,8 +19,8 @@ loop-phase-preserved g c =
     record {
       best =
           c.best_in_phase-best.ensures.best
-          ∙ ap (λ b. choice c.args.accounts.now.placed w b (in_phase w c.loop-phase.phase)) c.loop-phase.invariant.best
-          ∙ sym (choice_phase c.args.accounts.now.placed w None (in_phase w) c.loop-phase.phase);
+          ∙ ap (λ b. choice c.args.rules c.args.accounts.now.placed w b (in_phase w c.loop-phase.phase)) c.loop-phase.invariant.best
+          ∙ sym (choice_phase c.args.rules c.args.accounts.now.placed w None (in_phase w) c.loop-phase.phase);
       steps =
           omega (
             arith,
@@ -37,5 +37,5 @@ returns-clause-best g c =
     c.placement_in.ensures
     ∙ ap place_in
     (c.loop-phase.invariant.best
-    ∙ ap (λ n. choice c.args.accounts.now.placed w None (flat_map (in_phase w) (below n))) end)
-    ∙ best_of c.args.accounts.now.placed w
+    ∙ ap (λ n. choice c.args.rules c.args.accounts.now.placed w None (flat_map (in_phase w) (below n))) end)
+    ∙ best_of c.args.rules c.args.accounts.now.placed w

@@ -7,6 +7,6 @@ use Rattle.bandwidth.proofs.search.best_placement.Given as goal
 
 abbrev pub invariant-loop-phase : goal.invariant-loop-phase
 invariant-loop-phase g l = record {
-  best : l.best ≡ choice l.accounts.placed l.want None (flat_map (in_phase l.want) (below l.phase));
+  best : l.best ≡ choice l.rules l.accounts.placed l.want None (flat_map (in_phase l.want) (below l.phase));
   steps : l.steps ≤ l.initial.steps + l.phase * ((placement_row l.want).starts * (turns l.want.period * cells l.want));
 }

@@ -98,12 +98,12 @@ chosen_is (Some q) p f = ap Some (same q p f)
     same : (q p : Placement) → ◌≡◌ {A = Result Placement Refused} (Ok q) (Ok p) → q ≡ p
     same q p f = cc
 
-answered_best : (a : Admissions) (w : Want) (p : Placement) (b : Bool) → cond b (chosen (best a.placed w)) (Err refusals.Room) ≡ Ok p → best a.placed w ≡ Some p
-answered_best a w p true f = chosen_is (best a.placed w) p f
+answered_best : (a : Admissions) (w : Want) (p : Placement) (b : Bool) → cond b (chosen (best a.rules a.placed w)) (Err refusals.Room) ≡ Ok p → best a.rules a.placed w ≡ Some p
+answered_best a w p true f = chosen_is (best a.rules a.placed w) p f
 answered_best a w p false f = absurd (cc)
 
 answered_place : (a : Admissions) (w : Want) (p : Placement) → IsWant w → answer a w ≡ Ok p → IsPlace p
-answered_place a w p want f = (best_option a.placed w p want (answered_best a w p (nat_lt (length a.placed) a.room) f)).place
+answered_place a w p want f = (best_option a.rules a.placed w p want (answered_best a w p (nat_lt (length a.placed) a.room) f)).place
 
 -- ---- a queue head with a new name
 

@@ -11,6 +11,7 @@ use Rattle.script_types.specs.declared.scripts.Script.{Script}
 use Rattle.word_mem.specs.Memory.{Mem}
 use Rattle.bandwidth.specs.declared.placements.Placed.{Placed}
 use Rattle.bandwidth.specs.Placements.{IsWant}
+use Rattle.bandwidth.proofs.Admits.{allowed_of_table}
 use Rattle.drv_periodic_table.specs.Periodic.{is_periodic, want_of}
 use Rattle.drv_periodic_table.specs.declared.content.Removed.TheVariants as removed
 use Rattle.drv_table.specs.declared.content.Endpoint.{Endpoint}
@@ -79,9 +80,10 @@ its_want d x want = record {
 open_right : (d : DriverContent) (x : EpDesc) (o : Offered) (b : Bool) → is_periodic x.kind ≡ b
     → (is_periodic x.kind ≡ true → IsWant (want_of 0 x)) → PlacesAreRight d → OpenAfter d x o b → PlacesAreRight o.driver
 open_right d x o true periodic want all why =
+    let here = allowed_of_table d.periodic.plan.rules (asked d x) why.best.place why.placement why.best.at in
     subst InAccount (sym why.account)
     (all_joined d.periodic.plan.placed (record { want = asked d x; placement = why.placement } ∷ []) all
-    (record { want = its_want d x (want periodic); place = why.best.place; at = why.best.at }, tt))
+    (record { want = its_want d x (want periodic); place = here.place; at = here.at }, tt))
 open_right d x o false periodic want all why = subst InAccount (sym why) all
 
 same_plan : (d : DriverContent) (o : Offered) → PlacesAreRight d → account_of o.driver ≡ account_of d → PlacesAreRight o.driver

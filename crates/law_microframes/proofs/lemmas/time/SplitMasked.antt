@@ -19,6 +19,7 @@ use Rattle.bandwidth.specs.declared.placements.Placement.{Placement}
 use Rattle.bandwidth.specs.Placements.{has, first_in, run, below, frame_period, is_classic, PlacementRow, interrupt_row, iso_in_row, iso_out_row, classic_row, high_row, placement_row, placement_at, in_phase, allowed}
 use Rattle.bandwidth.proofs.Microframes.{first_is}
 use Rattle.bandwidth.proofs.Spans.{has_mask}
+use Rattle.bandwidth.proofs.Admits.{allowed_of_table}
 use Rattle.drv_periodic_table.specs.Periodic.{is_periodic}
 use Rattle.drv_periodic_table.specs.declared.content.Removed.TheVariants as removed
 use Rattle.drv_table.specs.declared.content.Endpoint.{Endpoint}
@@ -166,9 +167,10 @@ events_allowed p all = subst InAccount (sym (account_of_event (driver_row p) p))
 
 open_allowed : (d : DriverContent) (x : EpDesc) (o : Offered) (b : Bool) → AreAllowed d → OpenAfter d x o b → AreAllowed o.driver
 open_allowed d x o true all why =
+    let here = allowed_of_table d.periodic.plan.rules (asked d x) why.best.place why.placement why.best.at in
     subst InAccount (sym why.account)
     (all_joined IsAllowed d.periodic.plan.placed (record { want = asked d x; placement = why.placement } ∷ []) all
-    (record { place = why.best.place; at = why.best.at }, tt))
+    (record { place = here.place; at = here.at }, tt))
 open_allowed d x o false all why = subst InAccount (sym why) all
 
 same_plan : (d : DriverContent) (o : Offered) → AreAllowed d → account_of o.driver ≡ account_of d → AreAllowed o.driver

@@ -37,7 +37,7 @@ use Rattle.bus_wire.specs.Seats.{seats_of}
 use Rattle.bus_world.specs.Budgets.{moment}
 use Rattle.bus_world.specs.Opening.{opening_world}
 use Rattle.bus_world.specs.Orders.{Left, Events, Microframes, Answer, Command, Plugs, OrderedWorld, at_place, left_of, orders_of, tick, tick_by, tick_at, ticks}
-use Rattle.bus_world.specs.Rooms.{reserve_of}
+use Rattle.bus_world.specs.Rooms.{room_of_script}
 use Rattle.bus_world.specs.World.{World, frame_by, sent_by, sends_by, walk_by, turned_by, controller_row, controller_parts, driver_parts, next, commanded, commanded_by, name_in}
 use Rattle.claims_driver.specs.Leaving.{IsOrderly}
 use Rattle.law_driver.proofs.lemmas.run_owners.Commands.{accepted_for_a_reason}
@@ -198,10 +198,10 @@ script_ready_at s fit k =
     all_ready (fixed_of s) (length (seats_of s)) (at_place (opening_world s) (orders_of s.lines)) k
     (record {
       ready = record {
-        order = (opening_owned s.words (reserve_of s.lines) fit.least).orderly;
-        counted = a_new_driver_is_counted s.words (reserve_of s.lines);
-        making = a_new_driver_is_making s.words (reserve_of s.lines);
-        storing = a_new_driver_is_storing s.words (reserve_of s.lines);
+        order = (opening_owned s.words (room_of_script s) fit.least).orderly;
+        counted = a_new_driver_is_counted s.words (room_of_script s);
+        making = a_new_driver_is_making s.words (room_of_script s);
+        storing = a_new_driver_is_storing s.words (room_of_script s);
         numbers = length-replicate (length (seats_of s)) 0;
       };
       fits = lines_fit s.lines fit.lines;

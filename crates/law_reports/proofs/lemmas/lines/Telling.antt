@@ -11,7 +11,7 @@ use Rattle.drv_table.specs.DriverContent.{DriverContent}
 use Rattle.drv_table.specs.Offers.{offered, IsOffered}
 use Rattle.drv_table.specs.Opening.{opening}
 use Rattle.bus_world.specs.Opening.{opening_world}
-use Rattle.bus_world.specs.Rooms.{reserve_of}
+use Rattle.bus_world.specs.Rooms.{room_of_script}
 use Rattle.claims_base.specs.Controller.{opening_base}
 use Rattle.bus_world.specs.World.{World, controller_parts, driver_next, controller_next, name_in, commanded}
 use Rattle.law_descriptors.specs.Meeting.{met}
@@ -55,7 +55,7 @@ no_lines = record { acc = λ n. []; reported = λ n. [] }
 
 new_telling : (s : Script) (t : Standing) → IsTelling t no_lines (opening_world s)
 new_telling s t =
-    let d : DriverContent = (opening s.words (reserve_of s.lines)).driver in
+    let d : DriverContent = (opening s.words (room_of_script s)).driver in
     let none : (n : ℕ) → there_of (queued (opening_world s).driver) n ≡ true → ⊥ =
     λ n on. let b : HasBulkThere (queued (opening_world s).driver) n = bulk_there (queued (opening_world s).driver) n on in
     nothing_at b.has.number b.has.endpoint b.has.here in
@@ -63,7 +63,7 @@ new_telling s t =
       told = alike_told d (queued (opening_world s).driver) (in_hand t) t.parts (λ n. [])
           (record { reports = refl; store = refl; endpoints = refl; transfers = refl; notes = refl })
           (λ x there. record { linked = there.linked; kept = there.kept }) (λ x is. is)
-          (new_told s.words (reserve_of s.lines) (in_hand t) t.parts (λ n. []));
+          (new_told s.words (room_of_script s) (in_hand t) t.parts (λ n. []));
       moved = λ n on. absurd (none n on);
       sound = λ n on. absurd (none n on);
     }

@@ -6,7 +6,7 @@ use Rattle.script_fits.specs.Fits.{IsFit}
 use Rattle.drv_table.specs.DriverContent.{DriverContent}
 use Rattle.drv_table.specs.Opening.{opening}
 use Rattle.drv_table.specs.Words.{opening_head}
-use Rattle.bus_world.specs.Rooms.{reserve_of}
+use Rattle.bus_world.specs.Rooms.{room_of_script}
 use Rattle.bus_world.specs.Opening.{opening_world}
 use Rattle.law_scripts.specs.byte_answers.Bytes.{IsByteScript}
 use Rattle.law_structures.specs.lent_structures.Structures.{QueueHead, Element}
@@ -61,8 +61,8 @@ no_heads = record { ins = λ n. false; outs = λ n. false; ends = λ n. endpoint
 
 new_mixed : (s : Script) → IsFit s → IsByteScript s → IsMixedAt new_standing (opening_world s)
 new_mixed s fit bytes = record {
-  now = new_now s.words (reserve_of s.lines) fit.least fit.most fit.whole_pages;
-  turns = new_driver_queues s.words (reserve_of s.lines);
+  now = new_now s.words (room_of_script s) fit.least fit.most fit.whole_pages;
+  turns = new_driver_queues s.words (room_of_script s);
   ring = record { head = refl; each = λ e x here. absurd (cc); only = λ n on. inl (eqb-true n 4096 on) };
   queues = record {
     queues = record {
@@ -87,9 +87,9 @@ new_mixed s fit bytes = record {
   };
   under_way = tt;
   walking = new_walks s;
-  numbers = new_numbered s.words (reserve_of s.lines);
-  masks = new_masked s.words (reserve_of s.lines);
-  awaiting = new_awaits s.words (reserve_of s.lines) (opening_world s).memory;
+  numbers = new_numbered s.words (room_of_script s);
+  masks = new_masked s.words (room_of_script s);
+  awaiting = new_awaits s.words (room_of_script s) (opening_world s).memory;
   bytes = opened_bytes s bytes;
   owed = λ i t y x at. absurd (cc);
 }
@@ -99,7 +99,7 @@ nothing_at i z e = cc
 
 new_telling : (s : Script) → IsTelling new_standing no_lines (opening_world s)
 new_telling s =
-    let d : DriverContent = (opening s.words (reserve_of s.lines)).driver in
+    let d : DriverContent = (opening s.words (room_of_script s)).driver in
     let none : (n : ℕ) → there_of (queued (opening_world s).driver) n ≡ true → ⊥ =
     λ n on. let b : HasBulkThere (queued (opening_world s).driver) n = bulk_there (queued (opening_world s).driver) n on in
     nothing_at b.has.number b.has.endpoint b.has.here in
@@ -107,7 +107,7 @@ new_telling s =
       told = alike_told d (queued (opening_world s).driver) (in_hand new_standing) opening_parts (λ n. [])
           (record { reports = refl; store = refl; endpoints = refl; transfers = refl; notes = refl })
           (λ x there. record { linked = there.linked; kept = there.kept }) (λ x is. is)
-          (new_told s.words (reserve_of s.lines) (in_hand new_standing) opening_parts (λ n. []));
+          (new_told s.words (room_of_script s) (in_hand new_standing) opening_parts (λ n. []));
       moved = λ n on. absurd (none n on);
       sound = λ n on. absurd (none n on);
     }

@@ -17,7 +17,7 @@ use Rattle.law_driver_ring.specs.Extents.{AreInRuns}
 use Rattle.law_queues.proofs.lemmas.harvest_laws.Standing.{new_told}
 use Rattle.law_queues.proofs.lemmas.open_names.Apart.{new_apart}
 use Rattle.law_world.proofs.lemmas.steps.lemmas.world_bytes.Turning.{opened_bytes}
-use Rattle.bus_world.specs.Rooms.{reserve_of}
+use Rattle.bus_world.specs.Rooms.{room_of_script}
 use Rattle.law_world.specs.streams.shared_worlds.Working.{at_opening}
 use Rattle.law_world.proofs.lemmas.streams.FeedingOpening.{new_world_feeds}
 use Rattle.law_world.proofs.lemmas.streams.FedOpening.{new_world_left}
@@ -113,14 +113,14 @@ new_whole : (s : Script) → IsFit s → IsByteScript s → IsWhole (fixed_of s)
 new_whole s fit bytes = record {
   feeding = new_world_feeds s fit;
   under_way = tt;
-  names = new_apart s.words (reserve_of s.lines);
+  names = new_apart s.words (room_of_script s);
   senders = λ e x here. absurd (no_endpoint e x here);
   takers = λ e x here. absurd (no_endpoint e x here);
   controls_apart = λ e x here. absurd (no_endpoint e x here);
   taking = new_world_taking s fit;
-  runs = opening_runs s.words (reserve_of s.lines);
+  runs = opening_runs s.words (room_of_script s);
   tails = λ e x here met. absurd (no_endpoint e x here);
-  told = new_told s.words (reserve_of s.lines) at_opening.hand at_opening.parts at_opening.reported;
+  told = new_told s.words (room_of_script s) at_opening.hand at_opening.parts at_opening.reported;
   bytes = opened_bytes s bytes;
   left = new_world_left s fit;
 }

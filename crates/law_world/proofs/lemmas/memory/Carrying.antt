@@ -17,7 +17,7 @@ use Rattle.bus_world.specs.Orders.{Left, Events, Microframes, Answer, Command, P
 use Rattle.bus_world.specs.Budgets.{moment}
 use Rattle.bus_world.specs.Rooms.{needs, needs_line, no_room, with_room, reserve_of, HasRoomFor}
 use Rattle.bus_world.proofs.Ways.{next_room}
-use Rattle.bus_world.proofs.Rooming.{less_room, rest_room, room_itself, can_offer, command_leaves}
+use Rattle.bus_world.proofs.Rooming.{less_room, rest_room, room_of_all, can_offer, command_leaves}
 use Rattle.law_world.specs.memory.Laws.{OpensMixed}
 use Rattle.law_world.specs.memory.PlacedLaws.{MixedLine, FitsMixed}
 use Rattle.claims_world.specs.Carried.{carried_next, carried_by, carried_in, carried_from, carried}
@@ -212,5 +212,5 @@ lines_fit (x ∷ xs) fit only = (line_fits x.1 x.0 fit.0 only.0, lines_fit xs fi
 pub next_is_offered : (s : Script) → IsFit s → FitsMixed s → (k : ℕ) → NextIsOffered (moment s k).world (moment s k).orders
 next_is_offered s fit opens k =
     offered_after (fixed_of s) (opening_world s) (orders_of s.lines) k
-    (subst (HasRoomFor (opening_world s).driver.room) (sym (lines_need s.lines)) (room_itself (reserve_of s.lines) (reserve_of s.lines) refl))
+    (subst (HasRoomFor (opening_world s).driver.room) (sym (lines_need s.lines)) (room_of_all s))
     (lines_fit s.lines fit.lines opens)

@@ -3,8 +3,9 @@ use Rattle.std.proofs.Common.{◌≡◌, ℕ, zero, suc, ◌/◌, ◌%◌, ◌�
 use Rattle.std.specs.Prelude.{if◌then◌else◌}
 use Rattle.usb_base.specs.declared.commands.Cmd.TheVariants.{OpenEp}
 use Rattle.word_mem.specs.Memory.{Mem}
+use Rattle.usb_base.specs.declared.rules.Rules.{Rules}
 use Rattle.bandwidth.specs.declared.placements.Placement.{Placement}
-use Rattle.bandwidth.specs.Placements.{allowed, mask, has}
+use Rattle.bandwidth.specs.Placements.{allowed, allowed_by, mask, has}
 use Rattle.bandwidth.specs.Sums.{Fits, load, price, cost_in, cost_at, is_active}
 use Rattle.bandwidth.specs.Admission.{joined, best, chosen}
 use Rattle.bandwidth.proofs.Admits.{best_is, best_none}
@@ -19,16 +20,16 @@ use Rattle.law_admission.proofs.Budgets.{opening_kept}
 use Rattle.law_admission.proofs.Refusals.{asks_best}
 use Rattle.law_world.specs.memory.MicrophoneSamples.{microphone}
 
-one_place : allowed (want_of 0 microphone) ≡ each_microframe ∷ []
-unfolding allowed mask
-one_place = refl
+one_place : (rules : Rules) → allowed_by rules (want_of 0 microphone) ≡ each_microframe ∷ []
+unfolding allowed_by allowed mask
+one_place rules = refl
 
 in_one : (i : ℕ) (p : Placement) → slice_get (each_microframe ∷ []) i ≡ Some p → p ≡ each_microframe
 in_one zero p e = cc
 in_one (suc i) p e = absurd (cc)
 
-its_place : (i : ℕ) (p : Placement) → slice_get (allowed (want_of 0 microphone)) i ≡ Some p → p ≡ each_microframe
-its_place i p at = in_one i p (subst (λ (ps : List Placement). slice_get ps i ≡ Some p) one_place at)
+its_place : (rules : Rules) (i : ℕ) (p : Placement) → slice_get (allowed_by rules (want_of 0 microphone)) i ≡ Some p → p ≡ each_microframe
+its_place rules i p at = in_one i p (subst (λ (ps : List Placement). slice_get ps i ≡ Some p) (one_place rules) at)
 
 -- ---- it fits
 
@@ -53,9 +54,9 @@ it_fits = record { loads = λ u h. its_load u; frames = λ hub port f h t k. lit
 
 -- ---- it is accepted
 
-its_best : (b : Option Placement) → best [] (want_of 0 microphone) ≡ b → b ≡ Some each_microframe
-its_best None is = absurd (best_none [] (want_of 0 microphone) is 0 each_microframe (ap (λ (ps : List Placement). slice_get ps 0) one_place) it_fits)
-its_best (Some p) is = let good = best_is [] (want_of 0 microphone) p is in ap Some (its_place good.place p good.at)
+its_best : (rules : Rules) (b : Option Placement) → best rules [] (want_of 0 microphone) ≡ b → b ≡ Some each_microframe
+its_best rules None is = absurd (best_none rules [] (want_of 0 microphone) is 0 each_microframe (ap (λ (ps : List Placement). slice_get ps 0) (one_place rules)) it_fits)
+its_best rules (Some p) is = let good = best_is rules [] (want_of 0 microphone) p is in ap Some (its_place rules good.place p good.at)
 
 it_passes : (n : ℕ) (room : Reserve) → PassesBefore (opening n room).driver microphone
 it_passes n room = record { idle = refl; name = refl; kind = refl }
@@ -63,4 +64,4 @@ it_passes n room = record { idle = refl; name = refl; kind = refl }
 pub is_accepted : (n : ℕ) (room : Reserve) (m : Mem) → 1 ≤ room.endpoints → offered (opening n room).driver m (OpenEp microphone) ≡ Ok (record { driver = accepted_iso (opening n room).driver microphone each_microframe; memory = m })
 is_accepted n room m some =
     asks_best (opening n room).driver m microphone (opening_kept n room) some (it_passes n room)
-    ∙ ap (λ (b : Option Placement). planned_open (opening n room).driver m microphone (chosen b)) (its_best (best [] (want_of 0 microphone)) refl)
+    ∙ ap (λ (b : Option Placement). planned_open (opening n room).driver m microphone (chosen b)) (its_best room.rules (best room.rules [] (want_of 0 microphone)) refl)

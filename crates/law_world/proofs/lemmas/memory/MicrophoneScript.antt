@@ -9,7 +9,7 @@ use Rattle.drv_table.specs.Accepting.{Offered}
 use Rattle.drv_table.specs.Offers.{offered, accepted_iso}
 use Rattle.law_admission.specs.Worked.{each_microframe}
 use Rattle.bus_wire.specs.Bus.{Fixed, fixed_of}
-use Rattle.bus_world.specs.Rooms.{reserve_of}
+use Rattle.bus_world.specs.Rooms.{room_of_script}
 use Rattle.bus_world.specs.World.{World, name_in, commanded_by}
 use Rattle.bus_world.specs.Opening.{opening_world}
 use Rattle.bus_world.specs.Orders.{Left, Command, OrderedWorld, at_place, orders_of, ticks}
@@ -53,7 +53,7 @@ answered fixed w n cmd rest r k is = ap (λ (x : Result Offered OfferError). tic
 
 accepted : offered (opening_world one_microphone).driver (opening_world one_microphone).memory (commands.OpenEp microphone)
     ≡ Ok (record { driver = accepted_iso (opening_world one_microphone).driver microphone each_microframe; memory = (opening_world one_microphone).memory })
-accepted = is_accepted 2048 (reserve_of one_microphone.lines) (opening_world one_microphone).memory (omega arith)
+accepted = is_accepted 2048 (room_of_script one_microphone) (opening_world one_microphone).memory (omega arith)
 
 pub microphone_moment : (k : ℕ) → (moment one_microphone (suc k)).world ≡ heard_at k
 microphone_moment k =

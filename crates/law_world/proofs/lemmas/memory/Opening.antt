@@ -13,7 +13,7 @@ use Rattle.law_world.proofs.lemmas.memory.lemmas.framed_memory.Now.{new_now}
 use Rattle.law_world.proofs.lemmas.memory.lemmas.framed_memory.Awaiting.{new_awaits}
 use Rattle.law_world.proofs.lemmas.memory.lemmas.framed_memory.Masking.{new_masked}
 use Rattle.law_world.proofs.lemmas.memory.lemmas.framed_memory.Numbering.{new_numbered}
-use Rattle.bus_world.specs.Rooms.{reserve_of}
+use Rattle.bus_world.specs.Rooms.{room_of_script}
 use Rattle.bus_world.specs.Opening.{opening_world}
 use Rattle.law_world.proofs.lemmas.steps.lemmas.world_bytes.Turning.{opened_bytes}
 use Rattle.law_world.specs.memory.Laws.{NewWorldIsMixed}
@@ -34,8 +34,8 @@ new_world_is_mixed s fit bytes = record {
     out = λ n. [];
   };
   mixed = record {
-    now = new_now s.words (reserve_of s.lines) fit.least fit.most fit.whole_pages;
-    turns = new_driver_queues s.words (reserve_of s.lines);
+    now = new_now s.words (room_of_script s) fit.least fit.most fit.whole_pages;
+    turns = new_driver_queues s.words (room_of_script s);
     ring = record { head = refl; each = λ e x here. absurd (cc); only = λ n on. inl (eqb-true n 4096 on) };
     queues = record {
       queues = record {
@@ -56,9 +56,9 @@ new_world_is_mixed s fit bytes = record {
     };
     under_way = tt;
     walking = new_walks s;
-    numbers = new_numbered s.words (reserve_of s.lines);
-    masks = new_masked s.words (reserve_of s.lines);
-    awaiting = new_awaits s.words (reserve_of s.lines) (opening_world s).memory;
+    numbers = new_numbered s.words (room_of_script s);
+    masks = new_masked s.words (room_of_script s);
+    awaiting = new_awaits s.words (room_of_script s) (opening_world s).memory;
     bytes = opened_bytes s bytes;
     owed = λ i t y x at. absurd (cc);
   };

@@ -3,8 +3,9 @@ use Rattle.std.proofs.Common.{◌≡◌, ℕ, zero, suc, ◌+◌, ◌/◌, ◌%�
 use Rattle.std.specs.Prelude.{◌*◌, ◌&&◌, ◌||◌, nat_eq, if◌then◌else◌}
 use Rattle.std.proofs.lemmas.Bool.Decides.{nat_tests}
 use Rattle.std.proofs.lemmas.Option.{same_Some}
+use Rattle.usb_base.specs.Rules.{first_rules}
 use Rattle.bandwidth.specs.declared.placements.Placement.{Placement}
-use Rattle.bandwidth.specs.Placements.{IsWant, allowed, mask, has, first_in, frame_period, run, placement_at}
+use Rattle.bandwidth.specs.Placements.{IsWant, allowed, allowed_by, mask, has, first_in, frame_period, run, placement_at}
 use Rattle.bandwidth.specs.Sums.{Fits, load, price, cost_in, cost_at, laid_in, laid_at, time_of, time_at, frame_sum, tt_sum, is_active, is_translator}
 use Rattle.bandwidth.specs.Admission.{IsBest, is_own, joined, best, peak, chosen}
 use Rattle.bandwidth.proofs.Admits.{IsOption, best_is, best_none, best_option}
@@ -15,8 +16,8 @@ use Rattle.law_world.specs.memory.Samples.{keyboard, keyboard_place, PlansFirst}
 its_want : IsWant (want_of 0 keyboard)
 its_want = record { period = refl; frames = omega arith; some_bytes = omega arith; bytes = omega arith; some_multi = omega arith; multi = omega arith; hub = refl; tt = omega arith }
 
-first_at : slice_get (allowed (want_of 0 keyboard)) 0 ≡ Some keyboard_place
-unfolding allowed mask
+first_at : slice_get (allowed_by first_rules (want_of 0 keyboard)) 0 ≡ Some keyboard_place
+unfolding allowed_by allowed mask
 first_at = refl
 
 -- ---- it fits
@@ -127,18 +128,18 @@ each_peak p o =
 
 -- ---- it is chosen
 
-at_first : (p : Placement) (good : IsBest [] (want_of 0 keyboard) p) → IsOption (want_of 0 keyboard) p → (i : ℕ) → good.place ≡ i → p ≡ keyboard_place
+at_first : (p : Placement) (good : IsBest first_rules [] (want_of 0 keyboard) p) → IsOption (want_of 0 keyboard) p → (i : ℕ) → good.place ≡ i → p ≡ keyboard_place
 at_first p good o zero is =
-    sym (same_Some keyboard_place p (sym first_at ∙ subst (λ (j : ℕ). slice_get (allowed (want_of 0 keyboard)) j ≡ Some p) is good.at))
+    sym (same_Some keyboard_place p (sym first_at ∙ subst (λ (j : ℕ). slice_get (allowed_by first_rules (want_of 0 keyboard)) j ≡ Some p) is good.at))
 at_first p good o (suc i) is =
     let lesser : peak [] (want_of 0 keyboard) p < peak [] (want_of 0 keyboard) keyboard_place = good.first 0 keyboard_place (omega (arith, is)) first_at it_fits in
     let least = each_peak p o in
     let most = its_peak in
     absurd (omega (arith, lesser, least, most))
 
-its_best : (b : Option Placement) → best [] (want_of 0 keyboard) ≡ b → b ≡ Some keyboard_place
-its_best None is = absurd (best_none [] (want_of 0 keyboard) is 0 keyboard_place first_at it_fits)
-its_best (Some p) is = let good = best_is [] (want_of 0 keyboard) p is in ap Some (at_first p good (best_option [] (want_of 0 keyboard) p its_want is) good.place refl)
+its_best : (b : Option Placement) → best first_rules [] (want_of 0 keyboard) ≡ b → b ≡ Some keyboard_place
+its_best None is = absurd (best_none first_rules [] (want_of 0 keyboard) is 0 keyboard_place first_at it_fits)
+its_best (Some p) is = let good = best_is first_rules [] (want_of 0 keyboard) p is in ap Some (at_first p good (best_option first_rules [] (want_of 0 keyboard) p its_want is) good.place refl)
 
 pub plans_first : PlansFirst
-plans_first = ap chosen (its_best (best [] (want_of 0 keyboard)) refl)
+plans_first = ap chosen (its_best (best first_rules [] (want_of 0 keyboard)) refl)

@@ -29,7 +29,7 @@ use Rattle.std.proofs.lemmas.Option.{same_Some, slice_get-map}
 use Rattle.law_devices.specs.Senders.{sender_of_part, sender_of_endpoint, sender_of_device, sender_of_owner, sender_of_seat, sender_of_place, sender_of}
 use Rattle.claims_base.specs.Controller.{opening_base}
 use Rattle.law_driver_ring.specs.PartOpened.{opening_parts, is_head}
-use Rattle.bus_world.specs.Rooms.{reserve_of}
+use Rattle.bus_world.specs.Rooms.{room_of_script}
 use Rattle.law_queues.specs.shared_memory.Shared.{IsShared}
 use Rattle.law_queues.proofs.lemmas.shared_memory.Sharing.{opening_shared}
 use Rattle.law_controller.specs.controlled_streams.Unopened.{IsUntouched}
@@ -106,8 +106,8 @@ untouched (Some z) k on = record { sender = z; is = refl; left = refl; sends = k
 
 pub new_world_feeds : NewWorldFeeds
 new_world_feeds s fit =
-    let k : IsShared opening_base is_head opening_parts Empty (content new_control (opening s.words (reserve_of s.lines)).registers (opening s.words (reserve_of s.lines)).memory) (opening s.words (reserve_of s.lines)).driver =
-    opening_shared s.words (reserve_of s.lines) fit.least fit.most fit.whole_pages in
+    let k : IsShared opening_base is_head opening_parts Empty (content new_control (opening s.words (room_of_script s)).registers (opening s.words (room_of_script s)).memory) (opening s.words (room_of_script s)).driver =
+    opening_shared s.words (room_of_script s) fit.least fit.most fit.whole_pages in
     record {
       working = record {
         operating = k.operating;
@@ -126,7 +126,7 @@ new_world_feeds s fit =
         place = k.place;
         driven = k.driven;
       };
-      turns = new_queues s.words (reserve_of s.lines);
+      turns = new_queues s.words (room_of_script s);
       queues = record {
         met = record { head = refl; each = λ e x here. absurd (cc); only = λ n on. inl (eqb-true n 4096 on) };
         streams_are = record { each = λ e x here. absurd (cc); only = λ n on. absurd (false≢true on) };
@@ -135,7 +135,7 @@ new_world_feeds s fit =
         out_are = λ e x here. absurd (cc);
       };
       counted = λ n on. absurd (false≢true on);
-      controls = new_driver_controls s.words (reserve_of s.lines) opening_parts (λ n i. 0) (λ n. []);
+      controls = new_driver_controls s.words (room_of_script s) opening_parts (λ n i. 0) (λ n. []);
       controls_apart = λ e x here. absurd (cc);
       unopened = λ addr ep on free. untouched (sender_of (opening_wired s) addr ep) (unsent_place s addr ep (place_for (opening_wired s).fixed.seats addr ep In)) on;
     }

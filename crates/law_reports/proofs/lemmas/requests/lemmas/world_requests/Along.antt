@@ -18,7 +18,7 @@ use Rattle.bus_world.specs.Budgets.{moment}
 use Rattle.bus_world.specs.Rooms.{needs, needs_line, no_room, with_room, reserve_of, HasRoomFor}
 use Rattle.bus_world.proofs.Ticks.{ticks_more}
 use Rattle.bus_world.proofs.Ways.{next_room}
-use Rattle.bus_world.proofs.Rooming.{less_room, rest_room, room_itself, can_offer, command_leaves}
+use Rattle.bus_world.proofs.Rooming.{less_room, rest_room, room_of_all, can_offer, command_leaves}
 use Rattle.claims_world.specs.Requests.{Windows, no_windows, after_one, after_order, windows_tick, windows_at, no_asks, asks_then, asks_by, asks_next, asks_at}
 use Rattle.law_reports.specs.requests.world_requests.Along.{KindOfLine, IsKeptWithWindows, HoldsWithWindows}
 
@@ -144,7 +144,7 @@ holds_with_windows can holds s fit only held kept k =
     (each_moment s (IsReadyAt (fixed_of s) can holds kept)
     (record {
       held = held;
-      room = subst (HasRoomFor (opening_world s).driver.room) (sym (lines_need s.lines)) (room_itself (reserve_of s.lines) (reserve_of s.lines) refl);
+      room = subst (HasRoomFor (opening_world s).driver.room) (sym (lines_need s.lines)) (room_of_all s);
       fits = lines_fit can s.lines fit.lines only;
     })
     (tick_ready (fixed_of s) can holds kept) k).held

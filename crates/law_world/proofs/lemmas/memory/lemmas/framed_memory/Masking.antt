@@ -9,11 +9,13 @@ use Rattle.usb_base.specs.declared.packets.EpKind.{EpKind}
 use Rattle.usb_base.specs.declared.packets.EpKind.TheVariants as kinds
 use Rattle.usb_base.specs.declared.endpoints.EpDesc.{EpDesc}
 use Rattle.usb_base.specs.declared.commands.Cmd.TheVariants as commands
+use Rattle.usb_base.specs.declared.rules.Rules.{Rules}
 use Rattle.bandwidth.specs.declared.placements.Want.{Want}
 use Rattle.bandwidth.specs.declared.placements.Placement.{Placement}
 use Rattle.bandwidth.specs.declared.placements.Placed.{Placed}
 use Rattle.bandwidth.specs.Placements.{mask, run, every, below, frame_period, is_classic, PlacementRow, high_row, interrupt_row, iso_in_row, iso_out_row, classic_row, placement_row, placement_at, in_phase, allowed}
 use Rattle.bandwidth.specs.Admission.{IsBest}
+use Rattle.bandwidth.proofs.Admits.{allowed_of_table}
 use Rattle.bandwidth.proofs.Microframes.{mask_whole, mask_bound}
 use Rattle.drv_periodic_table.specs.Periodic.{is_periodic}
 use Rattle.drv_periodic_table.specs.declared.content.Removed.TheVariants as removed
@@ -96,8 +98,9 @@ allowed_masked : (w : Want) → AllByRecursion HasMasks (allowed w)
 unfolding allowed
 allowed_masked w = phases_masked w (below (frame_period w.period))
 
-best_masked : (placed : List Placed) (w : Want) (p : Placement) → IsBest placed w p → HasMasks p
-best_masked placed w p k = one_of_all HasMasks (allowed w) k.place p (allowed_masked w) k.at
+best_masked : (rules : Rules) (placed : List Placed) (w : Want) (p : Placement) → IsBest rules placed w p → HasMasks p
+best_masked rules placed w p k =
+    let here = allowed_of_table rules w k.place p k.at in one_of_all HasMasks (allowed w) here.place p (allowed_masked w) here.at
 
 -- ---- the driver
 
@@ -125,7 +128,7 @@ open_masked : (d : DriverContent) (x : EpDesc) (o : Offered) (b : Bool) → AreM
 open_masked d x o true all why =
     subst InAccount (sym why.account)
     (all_joined Masked d.periodic.plan.placed (record { want = asked d x; placement = why.placement } ∷ []) all
-    (best_masked d.periodic.plan.placed (asked d x) why.placement why.best, tt))
+    (best_masked d.periodic.plan.rules d.periodic.plan.placed (asked d x) why.placement why.best, tt))
 open_masked d x o false all why = subst InAccount (sym why) all
 
 same_plan : (d : DriverContent) (o : Offered) → AreMasked d → account_of o.driver ≡ account_of d → AreMasked o.driver

@@ -16,7 +16,7 @@ use Rattle.law_driver.proofs.lemmas.run_owners.Opened.{opening_owned}
 use Rattle.bus_wire.specs.Bus.{Fixed, fixed_of}
 use Rattle.bus_world.specs.World.{World, driver_parts, next, name_in, commanded, commanded_by, refused_line}
 use Rattle.bus_world.specs.Opening.{opening_world}
-use Rattle.bus_world.specs.Rooms.{reserve_of}
+use Rattle.bus_world.specs.Rooms.{room_of_script}
 use Rattle.bus_world.specs.Orders.{Left, Events, Microframes, Answer, Command, OrderedWorld, at_place, orders_of, tick, tick_by, tick_at, ticks}
 use Rattle.bus_world.specs.Budgets.{moment}
 use Rattle.law_world.proofs.lemmas.memory.lemmas.worlds_keep_to_lent.Standing.{IsStanding, next_stands, commanded_stands, opening_stands}
@@ -76,8 +76,8 @@ commanded_has w n cmd k = answered_has w n (name_in cmd) cmd (offered w.driver w
 opening_has : (s : Script) → IsFit s → HasItsBlocks (opening_world s)
 opening_has s fit = record {
   standing = opening_stands s fit;
-  owners = opening_owned s.words (reserve_of s.lines) fit.least;
-  owns = opening_owns s.words (reserve_of s.lines) fit.least;
+  owners = opening_owned s.words (room_of_script s) fit.least;
+  owns = opening_owns s.words (room_of_script s) fit.least;
 }
 
 -- ---- along a run

@@ -22,10 +22,10 @@ use Rattle.law_driver.proofs.lemmas.in_place.Opened.{opening_in_place}
 use Rattle.bus_world.specs.World.{World, next, driver_parts, commanded, commanded_by, name_in}
 use Rattle.bus_world.specs.Opening.{opening_world}
 use Rattle.bus_world.specs.Orders.{Left, Events, Microframes, Answer, Command, Plugs, OrderedWorld, at_place, left_of, orders_of, fewer, tick, tick_by, tick_at, ticks}
-use Rattle.bus_world.specs.Rooms.{needs, needs_line, no_room, with_room, reserve_of, HasRoomFor}
+use Rattle.bus_world.specs.Rooms.{needs, needs_line, no_room, with_room, reserve_of, room_of_script, HasRoomFor}
 use Rattle.bus_world.specs.Budgets.{moment}
 use Rattle.bus_world.proofs.Ways.{next_room}
-use Rattle.bus_world.proofs.Rooming.{less_room, rest_room, room_itself, can_offer, command_leaves}
+use Rattle.bus_world.proofs.Rooming.{less_room, rest_room, room_of_all, can_offer, command_leaves}
 use Rattle.bus_world.proofs.Budgeted.{script_admits}
 use Rattle.law_world.proofs.lemmas.memory.lemmas.worlds_keep_to_lent.Standing.{IsStanding, next_stands, commanded_stands, opening_stands}
 use Rattle.claims_world.specs.Schedule.{KeepsScheduleThroughout}
@@ -142,8 +142,8 @@ lines_fit (x ∷ xs) h = (line_fits x.1 x.0 h.0, lines_fit xs h.1)
 opening_ready : (s : Script) → IsFit s → IsReady (opening_world s) (orders_of s.lines)
 opening_ready s fit = record {
   stands = opening_stands s fit;
-  whole = opening_whole s.words (reserve_of s.lines) (opening_in_place s.words (reserve_of s.lines) fit.least fit.most fit.whole_pages).sound.owners;
-  room = subst (HasRoomFor (opening_world s).driver.room) (sym (lines_need s.lines)) (room_itself (reserve_of s.lines) (reserve_of s.lines) refl);
+  whole = opening_whole s.words (room_of_script s) (opening_in_place s.words (room_of_script s) fit.least fit.most fit.whole_pages).sound.owners;
+  room = subst (HasRoomFor (opening_world s).driver.room) (sym (lines_need s.lines)) (room_of_all s);
   fits = lines_fit s.lines fit.lines;
 }
 

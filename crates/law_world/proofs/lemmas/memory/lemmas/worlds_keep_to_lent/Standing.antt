@@ -37,7 +37,7 @@ use Rattle.law_controller.proofs.lemmas.lent_reads.Controlling.{reads_lent}
 use Rattle.law_driver.proofs.lemmas.released_blocks.Releasing.{released_free}
 use Rattle.bus_world.specs.World.{World, Turned, turned_by, with_turned, driver_parts, driver_next, controller_row, controller_parts, controller_next, next, name_in, commanded, commanded_by, refused_line}
 use Rattle.bus_world.specs.Opening.{opening_world}
-use Rattle.bus_world.specs.Rooms.{reserve_of}
+use Rattle.bus_world.specs.Rooms.{room_of_script}
 use Rattle.bus_world.proofs.Wire.{begins_in, transacts_in, IsTurned, turned_is}
 use Rattle.claims_world.specs.Lent.{WritesLentOnly, AreSameWhereLent, KeepsToLent}
 use Rattle.law_world.proofs.lemmas.memory.lemmas.worlds_keep_to_lent.Turning.{at_bus, world_has_row}
@@ -162,7 +162,7 @@ commanded_stands w n cmd k = answered_stands w n (name_in cmd) cmd (offered w.dr
 
 pub opening_stands : (s : Script) → IsFit s → IsStanding (opening_world s)
 opening_stands s fit =
-    let place = opening_in_place s.words (reserve_of s.lines) fit.least fit.most fit.whole_pages in
+    let place = opening_in_place s.words (room_of_script s) fit.least fit.most fit.whole_pages in
     record {
       aligned = new_aligned (opening_world s).registers (opening_world s).memory refl;
       good = record { stands = place.sound.stands; shape = place.sound.shape };

@@ -13,7 +13,7 @@ use Rattle.law_driver_ring.proofs.lemmas.walk_members.Driving.{walk_mapped, driv
 use Rattle.law_driver_ring.proofs.lemmas.walk_members.Offering.{command_walk}
 use Rattle.law_driver_ring.proofs.lemmas.walk_members.Ringing.{bell_kept, driver_bell}
 use Rattle.law_driver_ring.proofs.lemmas.walk_members.Descriptions.{no_heads, command_numbers, event_numbers}
-use Rattle.bus_world.specs.Rooms.{reserve_of}
+use Rattle.bus_world.specs.Rooms.{room_of_script}
 use Rattle.bus_world.specs.World.{World, controller_parts, driver_parts, controller_next, name_in, refused_line, commanded_by}
 use Rattle.law_world.specs.steps.Streaming.{begins_by, transacts_by, wired}
 use Rattle.law_world.proofs.lemmas.steps.StreamTurning.{world_has_row}
@@ -25,8 +25,8 @@ use Rattle.law_world.proofs.lemmas.steps.lemmas.controlled_walks.Offering.{comma
 pub new_walks : NewWorldWalks
 new_walks s = record {
   numbered = λ e x here. absurd (cc);
-  walk = opening_in s.words (reserve_of s.lines);
-  bell = opening_bell s.words (reserve_of s.lines);
+  walk = opening_in s.words (room_of_script s);
+  bell = opening_bell s.words (room_of_script s);
 }
 
 pub controller_walks : ControllerKeepsWalking

@@ -14,7 +14,7 @@ use Rattle.bus_world.specs.Opening.{opening_world}
 use Rattle.bus_world.specs.Orders.{Left, Events, Microframes, Answer, Command, Plugs, OrderedWorld, at_place, left_of, orders_of, fewer, tick, tick_by, tick_at, ticks}
 use Rattle.bus_world.specs.Rooms.{needs, needs_line, no_room, with_room, reserve_of, HasRoomFor}
 use Rattle.bus_world.proofs.Ways.{next_room}
-use Rattle.bus_world.proofs.Rooming.{less_room, rest_room, room_itself, can_offer, command_leaves}
+use Rattle.bus_world.proofs.Rooming.{less_room, rest_room, room_of_all, can_offer, command_leaves}
 use Rattle.law_world.specs.steps.receiving_runs.Runs.{KindOfLine, IsKeptBy, HoldsThroughout}
 
 -- ---- what is left of the orders
@@ -122,5 +122,5 @@ module _ (can : Cmd → Type 0) where
 pub holds_throughout : (can : Cmd → Type 0) (holds : World → Type 0) → HoldsThroughout can holds
 holds_throughout can holds s fit only held kept k =
     holds_after (fixed_of s) can holds kept (opening_world s) (orders_of s.lines) k held
-    (subst (HasRoomFor (opening_world s).driver.room) (sym (lines_need s.lines)) (room_itself (reserve_of s.lines) (reserve_of s.lines) refl))
+    (subst (HasRoomFor (opening_world s).driver.room) (sym (lines_need s.lines)) (room_of_all s))
     (lines_fit can s.lines fit.lines only)

@@ -8,14 +8,14 @@ use Rattle.drv_table.specs.Accepting.{Offered}
 use Rattle.drv_table.specs.Offers.{offered, IsOffered}
 use Rattle.law_driver.proofs.lemmas.in_place.Opened.{opening_in_place}
 use Rattle.law_driver.proofs.lemmas.in_place.Laws.{command_in_place, event_in_place}
-use Rattle.bus_world.specs.Rooms.{reserve_of}
+use Rattle.bus_world.specs.Rooms.{room_of_script}
 use Rattle.bus_world.specs.World.{World, name_in, driver_parts, driver_next, commanded, commanded_by}
 use Rattle.bus_world.specs.Opening.{opening_world}
 use Rattle.law_world.specs.steps.worlds_in_place.Placed.{IsPlacedWorld}
 use Rattle.law_world.proofs.lemmas.steps.lemmas.worlds_in_place.Refused.{refused_in_place}
 
 pub new_placed : (s : Script) → IsFit s → IsPlacedWorld (opening_world s)
-new_placed s fit = opening_in_place s.words (reserve_of s.lines) fit.least fit.most fit.whole_pages
+new_placed s fit = opening_in_place s.words (room_of_script s) fit.least fit.most fit.whole_pages
 
 commanded_placed : (w : World) (line : ℕ) (cmd : Cmd) (r : Result Offered OfferError) → IsOffered w.driver.room cmd → IsPlacedWorld w → offered w.driver w.memory cmd ≡ r → IsPlacedWorld (commanded_by w line (name_in cmd) r)
 commanded_placed w line cmd (Ok o) room old is = command_in_place w.driver w.memory cmd o room old is

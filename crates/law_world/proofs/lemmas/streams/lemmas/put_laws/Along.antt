@@ -14,7 +14,7 @@ use Rattle.bus_world.specs.Opening.{opening_world}
 use Rattle.bus_world.specs.Orders.{Left, Events, Microframes, Answer, Command, Plugs, OrderedWorld, left_of, orders_of, fewer, tick, tick_by, tick_at}
 use Rattle.bus_world.specs.Rooms.{needs, needs_line, no_room, with_room, reserve_of, HasRoomFor}
 use Rattle.bus_world.proofs.Ways.{next_room}
-use Rattle.bus_world.proofs.Rooming.{less_room, rest_room, room_itself, can_offer, command_leaves}
+use Rattle.bus_world.proofs.Rooming.{less_room, rest_room, room_of_all, can_offer, command_leaves}
 use Rattle.law_world.specs.steps.receiving_runs.Runs.{KindOfLine}
 use Rattle.law_world.specs.streams.put_laws.HeldPuts.{puts_then}
 use Rattle.law_world.specs.streams.put_laws.TakenPuts.{puts_by, puts_next, puts_tick}
@@ -124,7 +124,7 @@ holds_with_puts can holds s fit only held kept k =
     (each_moment s (IsReadyAt (fixed_of s) can holds kept)
     (record {
       held = held;
-      room = subst (HasRoomFor (opening_world s).driver.room) (sym (lines_need s.lines)) (room_itself (reserve_of s.lines) (reserve_of s.lines) refl);
+      room = subst (HasRoomFor (opening_world s).driver.room) (sym (lines_need s.lines)) (room_of_all s);
       fits = lines_fit can s.lines fit.lines only;
     })
     (tick_ready (fixed_of s) can holds kept) k).held

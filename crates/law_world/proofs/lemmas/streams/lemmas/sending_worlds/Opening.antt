@@ -5,7 +5,7 @@ use Rattle.drv_table.specs.declared.content.Endpoint.{Endpoint}
 use Rattle.drv_table.specs.declared.content.Transfer.{Transfer}
 use Rattle.bus_wire.specs.Bus.{fixed_of}
 use Rattle.law_devices.specs.scripted_takers.Takers.{taker_of}
-use Rattle.bus_world.specs.Rooms.{reserve_of}
+use Rattle.bus_world.specs.Rooms.{room_of_script}
 use Rattle.bus_world.specs.World.{World}
 use Rattle.bus_world.specs.Opening.{opening_world}
 use Rattle.law_world.specs.steps.Streaming.{Standing, wired}
@@ -36,13 +36,13 @@ module _ (s : Script) where
 
   module _ (at : Standing) where
     sent_then : SentStand w.driver at.order at.out at.hand at.parts
-    sent_then = new_driver_sends s.words (reserve_of s.lines) at.order at.out at.hand at.parts
+    sent_then = new_driver_sends s.words (room_of_script s) at.order at.out at.hand at.parts
 
     ended_then : EndedAreStopped w.driver at.parts
     ended_then e x cause here kept sends over = absurd (no_endpoint e x here)
 
     owes_then : Owes w.driver w.memory no_puts at.reported
-    owes_then = new_owes s.words (reserve_of s.lines) w.memory no_puts at.reported
+    owes_then = new_owes s.words (room_of_script s) w.memory no_puts at.reported
 
   held_then : HoldsPuts w.driver w.memory no_puts
   held_then = record { each = λ t y there put held. absurd (no_transfer t y there) }

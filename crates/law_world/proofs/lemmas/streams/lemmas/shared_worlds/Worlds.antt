@@ -23,7 +23,7 @@ use Rattle.law_driver_ring.specs.Driven.{is_quiet}
 use Rattle.law_driver_ring.specs.PartOpened.{opening_parts, is_head}
 use Rattle.law_driver_ring.proofs.Sorts.{driven_same}
 use Rattle.law_driver.proofs.lemmas.in_place.Elsewhere.{elsewhere_in_place}
-use Rattle.bus_world.specs.Rooms.{reserve_of}
+use Rattle.bus_world.specs.Rooms.{room_of_script}
 use Rattle.bus_world.specs.World.{World, controller_parts, driver_parts, driver_next, controller_next}
 use Rattle.bus_world.specs.Opening.{opening_world}
 use Rattle.law_world.specs.steps.Streaming.{begins_by, transacts_by, wired, Streams, Standing, HearsBytesNow}
@@ -39,8 +39,8 @@ head_elsewhere n on = subst (λ (i : ℕ). IsElsewhere no_streams.stream opening
 
 pub new_working : (s : Script) → IsFit s → IsWorking (fixed_of s) opening_base is_head no_streams at_opening (opening_world s)
 new_working s fit =
-    let k : IsShared opening_base is_head opening_parts Empty (content new_control (opening s.words (reserve_of s.lines)).registers (opening s.words (reserve_of s.lines)).memory) (opening s.words (reserve_of s.lines)).driver =
-    opening_shared s.words (reserve_of s.lines) fit.least fit.most fit.whole_pages in
+    let k : IsShared opening_base is_head opening_parts Empty (content new_control (opening s.words (room_of_script s)).registers (opening s.words (room_of_script s)).memory) (opening s.words (room_of_script s)).driver =
+    opening_shared s.words (room_of_script s) fit.least fit.most fit.whole_pages in
     record {
       operating = k.operating;
       streaming = record {
