@@ -1,4 +1,4 @@
-ghost use Rattle.std.specs.Prelude.{◌≡◌, ℕ, ◌+◌, ◌*◌, ◌<◌, ◌≤◌, List, [], length, not, nat_eq};
+ghost use Rattle.std.specs.Prelude.{◌≡◌, ℕ, ◌+◌, ◌*◌, ◌<◌, ◌≤◌, List, [], length, not, nat_eq, nat_le};
 ghost use Rattle.std.specs.Prelude.{true, false, filter, slice_index, Some, None, is_some, IfOk, IfSome, IfNone, IsTrue, ◌↔◌};
 ghost use Rattle.std.specs.List.{list_any, position};
 ghost use Rattle.std.specs.Option.{option_copied};
@@ -18,7 +18,7 @@ use crate::shapes::Shape;
 use crate::table::Table;
 use crate::tables::{add_microframes, sub_microframes};
 use crate::translators::Translator;
-use bandwidth_steps::Steps;
+use bandwidth_steps::{AnyLedger, CountedBy, Steps};
 use std::alloc::Global;
 use std::marker::Model;
 use std::sync::ledger::Ledger;
@@ -30,14 +30,14 @@ const TRANSLATORS: u32 = 2048;
 
 /// What is placed, with a table for each sum that an admission asks for.
 #[derive(Debug, Drop)]
-pub(crate) struct Accounts {
+pub(crate) struct Accounts<C = AnyLedger> {
     room: u32,
     placed: Vec<Placed>,
-    loads: Table,
-    pool: HubPool,
+    loads: Table<C>,
+    pool: HubPool<C>,
 }
 
-impl Model for Accounts {
+impl<C> Model for Accounts<C> {
     ghost use Rattle.std.specs.Prelude.{◌≤◌, vec_capacity};
     ghost use Rattle.bandwidth.specs.Tables.{Book, IsBook};
 
@@ -49,7 +49,7 @@ impl Model for Accounts {
 }
 
 impl Accounts {
-    ghost use Rattle.bandwidth.specs.Tables.{IsBook, BelowFits, Tells, tables_at};
+    ghost use Rattle.bandwidth.specs.Tables.{IsBook};
 
     /// An empty book with room for so many, and with tables for as many translators as may need them at once.
     pub(crate) fn build(alloc: Global, room: u32) -> Result<Accounts, Memory>
@@ -66,24 +66,28 @@ impl Accounts {
         })
     }
 
-    /// The placed endpoints, in the order of admission.
+    /// The placed endpoints, in the order of admission. What is counted on a ledger doesn't go through them.
     pub(crate) fn placed(&self) -> &[Placed]
         ensures same { result.now ≡ self.now.placed }
         ensures book { IsBook self.now }
     {
         self.placed.as_slice()
     }
+}
 
-    /// How many endpoints may be placed.
-    pub(crate) fn room(&self) -> u32
-        ensures same { result ≡ self.now.room }
+impl<C> Accounts<C> {
+    ghost use Rattle.bandwidth.specs.Tables.{IsBook, BelowFits, Tells, tables_at};
+
+    /// Whether as many are placed as there is room for.
+    pub(crate) fn is_full(&self) -> bool
+        ensures full { result ≡ nat_le self.now.room (length self.now.placed) }
         ensures book { IsBook self.now }
     {
-        self.room
+        self.placed.len() >= self.room as usize
     }
 
     /// The bus time of each of the 8,192 microframes, in picoseconds.
-    pub(crate) fn loads(&self) -> &Table
+    pub(crate) fn loads(&self) -> &Table<C>
         ensures same { result.now ≡ self.now.loads }
         ensures book { IsBook self.now }
     {
@@ -91,7 +95,7 @@ impl Accounts {
     }
 
     /// The tables of a translator, if something is placed below it.
-    pub(crate) fn below(&self, translator: Translator) -> Option<&HubSums>
+    pub(crate) fn below(&self, translator: Translator) -> Option<&HubSums<C>>
         ensures tables { option_copied result ≡ tables_of self.now.pool translator }
         ensures number { translator < 2048 }
         ensures book { IsBook self.now }
@@ -109,6 +113,8 @@ impl Accounts {
         shape: &Shape,
         steps: &mut Steps<L>,
     ) -> bool
+    where
+        C: CountedBy<L>,
         requires shape { IsShape want.now shape.now }
         requires place { IsOf shape.now placement.now }
         ensures fits { (IsTrue result) ↔ (BelowFits (tables_at self.now.pool (Some translator)) shape.now.time (slice_index shape.now.bytes.each) placement.now) }
@@ -131,6 +137,8 @@ impl Accounts {
         shape: &Shape,
         steps: &mut Steps<L>,
     ) -> bool
+    where
+        C: CountedBy<L>,
         requires want { IsWant want.now }
         requires shape { IsShape want.now shape.now }
         requires place { IsOf shape.now placement.now }
@@ -156,6 +164,8 @@ impl Accounts {
         shape: &Shape,
         steps: &mut Steps<L>,
     ) -> u64
+    where
+        C: CountedBy<L>,
         requires shape { IsShape want.now shape.now }
         requires place { IsOf shape.now placement.now }
         ensures peak { result ≤ peak self.now.placed want.now placement.now }
@@ -179,6 +189,8 @@ impl Accounts {
         limit: u64,
         steps: &mut Steps<L>,
     ) -> Option<u64>
+    where
+        C: CountedBy<L>,
         requires want { IsWant want.now }
         requires shape { IsShape want.now shape.now }
         requires place { IsOf shape.now placement.now }
@@ -206,6 +218,8 @@ impl Accounts {
         shape: &Shape,
         steps: &mut Steps<L>,
     )
+    where
+        C: CountedBy<L>,
         requires room { length self.old.placed < self.old.room }
         requires want { IsWant want.now }
         requires shape { IsShape want.now shape.now }
@@ -223,6 +237,10 @@ impl Accounts {
             placement: *placement,
         });
     }
+}
+
+impl Accounts {
+    ghost use Rattle.bandwidth.specs.Tables.{IsBook};
 
     /// Where an id stands in the list.
     fn place(&self, id: u32) -> Option<usize>
@@ -252,8 +270,8 @@ impl Accounts {
 }
 
 /// Adds a placement to the tables of its translator, if it has one.
-fn add_below<L: Ledger>(
-    pool: &mut HubPool,
+fn add_below<L: Ledger, C: CountedBy<L>>(
+    pool: &mut HubPool<C>,
     want: &Want,
     placement: &Placement,
     shape: &Shape,

@@ -8,7 +8,7 @@ use crate::hub_sums::HubSums;
 use crate::placements::Placement;
 use crate::shapes::Amounts;
 use crate::translators::Translator;
-use bandwidth_steps::Steps;
+use bandwidth_steps::{AnyLedger, CountedBy, Steps};
 use std::alloc::Global;
 use std::marker::Model;
 use std::sync::ledger::Ledger;
@@ -16,12 +16,12 @@ use usb_base::Memory;
 
 /// The tables that translators have, by their numbers, and those that none has, whose cells are all 0.
 #[derive(Debug, Drop)]
-pub(crate) struct HubPool {
-    hubs: Vec<Option<HubSums>>,
-    free: Vec<HubSums>,
+pub(crate) struct HubPool<C = AnyLedger> {
+    hubs: Vec<Option<HubSums<C>>>,
+    free: Vec<HubSums<C>>,
 }
 
-impl Model for HubPool {
+impl<C> Model for HubPool<C> {
     ghost use Rattle.std.specs.Prelude.{vec_capacity};
     ghost use Rattle.bandwidth.specs.Tables.{Pool, IsRoomy};
 
@@ -59,8 +59,6 @@ fn no_tables(alloc: Global) -> Result<Vec<Option<HubSums>>, Memory>
 }
 
 impl HubPool {
-    ghost use Rattle.bandwidth.specs.Tables.{AreWithin, Holds, Gives, AddsAt, TakesAt, tables_of, pool_size};
-
     /// So many tables, and no translator that has any.
     pub(crate) fn build(alloc: Global, size: u32) -> Result<HubPool, Memory>
         ensures count { IfOk result (λ p. length p.hubs ≡ 2048) }
@@ -71,10 +69,14 @@ impl HubPool {
         let hubs = no_tables(alloc)?;
         Ok(HubPool { hubs, free })
     }
+}
+
+impl<C> HubPool<C> {
+    ghost use Rattle.bandwidth.specs.Tables.{AreWithin, Gives, AddsAt, tables_of, pool_size};
 
     /// The tables of a translator, if it has any.
     #[inline(always)]
-    pub(crate) fn below(&self, translator: Translator) -> Option<&HubSums>
+    pub(crate) fn below(&self, translator: Translator) -> Option<&HubSums<C>>
         ensures tables { option_copied result ≡ tables_of self.now translator }
         ensures number { translator < 2048 }
         ensures count { length self.now.hubs ≡ 2048 }
@@ -102,6 +104,8 @@ impl HubPool {
         bytes: &Amounts,
         steps: &mut Steps<L>,
     )
+    where
+        C: CountedBy<L>,
         requires some { is_some (tables_of self.old translator) ≡ true }
         requires within { IfSome (tables_of self.old translator) AreWithin }
         requires place { IsPlace placement.now }
@@ -126,6 +130,8 @@ impl HubPool {
         bytes: &Amounts,
         steps: &mut Steps<L>,
     )
+    where
+        C: CountedBy<L>,
         requires free { tables_of self.old translator ≡ None → 1 ≤ length self.old.free }
         requires within { IfSome (tables_of self.old translator) AreWithin }
         requires place { IsPlace placement.now }
@@ -143,6 +149,10 @@ impl HubPool {
         self.give(translator);
         self.add_to(translator, placement, time, bytes, steps);
     }
+}
+
+impl HubPool {
+    ghost use Rattle.bandwidth.specs.Tables.{Holds, TakesAt, tables_of, pool_size};
 
     /// Takes a placement out of the tables of its translator.
     pub(crate) fn sub(

@@ -7,7 +7,7 @@ use crate::placements::Placement;
 use crate::shapes::Amounts;
 use crate::table::Table;
 use crate::tables::{add_frames, add_microframes, sub_frames, sub_microframes};
-use bandwidth_steps::Steps;
+use bandwidth_steps::{AnyLedger, CountedBy, Steps};
 use std::alloc::Global;
 use std::marker::Model;
 use std::sync::ledger::Ledger;
@@ -17,12 +17,12 @@ use usb_base::limits::{BYTE_TIMES_OF_MICROFRAME, FRAME_BUDGET, FRAME_LIST_LENGTH
 /// The tables of one translator: the classic bus time of each of the 1,024 frames, in picoseconds, and the byte-times of each of the 8,192
 /// microframes.
 #[derive(Debug, Drop)]
-pub(crate) struct HubSums {
-    pub(crate) frames: Table,
-    pub(crate) bytes: Table,
+pub(crate) struct HubSums<C = AnyLedger> {
+    pub(crate) frames: Table<C>,
+    pub(crate) bytes: Table<C>,
 }
 
-impl Model for HubSums {
+impl<C> Model for HubSums<C> {
     ghost use Rattle.bandwidth.specs.Tables.{HubTables};
 
     ghost Value = { HubTables };
@@ -31,7 +31,7 @@ impl Model for HubSums {
 }
 
 impl HubSums {
-    ghost use Rattle.bandwidth.specs.Tables.{AreCells, AreZero, AreWithin, Adds, Holds, BelowFits};
+    ghost use Rattle.bandwidth.specs.Tables.{AreZero};
 
     /// Tables whose cells are all 0.
     pub(crate) fn zeros(alloc: Global) -> Result<HubSums, Memory>
@@ -41,6 +41,10 @@ impl HubSums {
         let bytes = Table::zeros(alloc, 8192)?;
         Ok(HubSums { frames, bytes })
     }
+}
+
+impl<C> HubSums<C> {
+    ghost use Rattle.bandwidth.specs.Tables.{AreWithin, Adds};
 
     /// Adds a placement with so much classic time in each frame, and these byte-times.
     pub(crate) fn add<L: Ledger>(
@@ -50,6 +54,8 @@ impl HubSums {
         bytes: &Amounts,
         steps: &mut Steps<L>,
     )
+    where
+        C: CountedBy<L>,
         requires within { AreWithin self.old }
         requires place { IsPlace placement.now }
         requires time { time ≤ 1000000000000 }
@@ -60,6 +66,10 @@ impl HubSums {
         add_frames(&mut self.frames, placement, time, steps);
         add_microframes(&mut self.bytes, placement, bytes, steps);
     }
+}
+
+impl HubSums {
+    ghost use Rattle.bandwidth.specs.Tables.{AreCells, Adds, Holds};
 
     /// Takes out a placement with so much classic time in each frame, and these byte-times.
     pub(crate) fn sub(&mut self, placement: &Placement, time: u64, bytes: &[u64; 8])
@@ -71,6 +81,10 @@ impl HubSums {
         sub_frames(&mut self.frames, placement, time);
         sub_microframes(&mut self.bytes, placement, bytes);
     }
+}
+
+impl<C> HubSums<C> {
+    ghost use Rattle.bandwidth.specs.Tables.{AreWithin, BelowFits};
 
     /// Whether a placement keeps the budgets of frames and of byte-times.
     #[inline(always)]
@@ -81,6 +95,8 @@ impl HubSums {
         bytes: &Amounts,
         steps: &mut Steps<L>,
     ) -> bool
+    where
+        C: CountedBy<L>,
         requires within { AreWithin self.now }
         requires place { IsPlace placement.now }
         requires time { time ≤ 1000000000000 }

@@ -9,13 +9,13 @@ use crate::frames::{active_frame, turns};
 use crate::placements::Placement;
 use crate::shapes::Amounts;
 use crate::table::Table;
-use bandwidth_steps::Steps;
+use bandwidth_steps::{CountedBy, Steps};
 use std::sync::ledger::Ledger;
 
 /// Whether each of the eight microframes of one frame stays within the limit with its amount, where the cells alone do.
 #[inline(always)]
-fn frame_fits<L: Ledger>(
-    table: &Table,
+fn frame_fits<L: Ledger, C: CountedBy<L>>(
+    table: &Table<C>,
     frame: u32,
     amounts: &Amounts,
     limit: u64,
@@ -39,8 +39,8 @@ fn frame_fits<L: Ledger>(
 
 /// Whether each microframe of each active frame of a placement stays within the limit with its amount, where the cells alone do.
 #[inline(always)]
-pub(crate) fn microframes_fit<L: Ledger>(
-    table: &Table,
+pub(crate) fn microframes_fit<L: Ledger, C: CountedBy<L>>(
+    table: &Table<C>,
     placement: &Placement,
     amounts: &Amounts,
     limit: u64,
@@ -64,8 +64,8 @@ pub(crate) fn microframes_fit<L: Ledger>(
 
 /// Whether each active frame of a placement stays within the limit with an amount.
 #[inline(always)]
-pub(crate) fn frames_fit<L: Ledger>(
-    table: &Table,
+pub(crate) fn frames_fit<L: Ledger, C: CountedBy<L>>(
+    table: &Table<C>,
     placement: &Placement,
     amount: u64,
     limit: u64,
@@ -115,8 +115,8 @@ pub(crate) fn least_cost(amounts: &Amounts) -> u64
 
 /// The sum of the first microframe of a frame that may have an amount, with it; 0 where it has none.
 #[inline(always)]
-pub(crate) fn first_sum<L: Ledger>(
-    table: &Table,
+pub(crate) fn first_sum<L: Ledger, C: CountedBy<L>>(
+    table: &Table<C>,
     frame: u16,
     amounts: &Amounts,
     steps: &mut Steps<L>,
@@ -137,8 +137,8 @@ pub(crate) fn first_sum<L: Ledger>(
 
 /// The greatest of `so_far` and the sums of one frame's microframes that have an amount, with it.
 #[inline(always)]
-fn frame_peak<L: Ledger>(
-    table: &Table,
+fn frame_peak<L: Ledger, C: CountedBy<L>>(
+    table: &Table<C>,
     frame: u32,
     amounts: &Amounts,
     so_far: u64,
@@ -164,8 +164,8 @@ fn frame_peak<L: Ledger>(
 /// The greatest sum of the microframes that have an amount, with it, over a placement's active frames; `None` exactly where one passes
 /// the limit.
 #[inline(always)]
-pub(crate) fn peak_within<L: Ledger>(
-    table: &Table,
+pub(crate) fn peak_within<L: Ledger, C: CountedBy<L>>(
+    table: &Table<C>,
     placement: &Placement,
     amounts: &Amounts,
     limit: u64,

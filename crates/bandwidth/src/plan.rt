@@ -15,7 +15,7 @@ use crate::search::best_placement;
 use crate::shapes::shapes_of;
 use crate::table::Table;
 use crate::translators::Translator;
-use bandwidth_steps::Steps;
+use bandwidth_steps::{AnyLedger, CountedBy, Steps};
 use std::alloc::Global;
 use std::marker::{Brand, Model};
 use std::sync::ledger::{Blank, Ledger};
@@ -24,12 +24,12 @@ use usb_base::{Memory, Ps, Rules};
 /// The periodic endpoints that are placed, in the order of admission, how many may be, and what the placements follow. What is placed
 /// keeps every budget, and no two have one id.
 #[derive(Debug, Drop)]
-pub struct Plan {
-    accounts: Accounts,
+pub struct Plan<C = AnyLedger> {
+    accounts: Accounts<C>,
     rules: Rules,
 }
 
-impl Model for Plan {
+impl<C> Model for Plan<C> {
     ghost use Rattle.bandwidth.specs.Admission.{Admissions};
 
     ghost Value = { Admissions };
@@ -81,13 +81,18 @@ impl Plan {
         let mut steps = Steps::<L>::begin(blank);
         self.admit_counted(want, &mut steps)
     }
+}
 
-    /// As `admit`, in at most 40,960 readings and writings of cells of the tables, whatever number is placed.
+impl<C> Plan<C> {
+    /// As `admit`, in at most 40,960 readings and writings of cells of the tables, whatever number is placed. Each is counted on the
+    /// ledger that is handed down: no other may count those of the tables.
     pub fn admit_counted<L: Ledger>(
         &mut self,
         want: &Want,
         steps: &mut Steps<L>,
     ) -> Result<Placement, Refused>
+    where
+        C: CountedBy<L>,
         requires fresh { is_placed self.old want.now.id ≡ false }
         requires want { IsWant want.now }
         ensures answer { result ≡ answer self.old want.now }
@@ -98,7 +103,7 @@ impl Plan {
         ensures fits { Fits self.new.placed }
         ensures steps { steps.new ≤ steps.old + 40960 }
     {
-        if self.accounts.placed().len() >= self.accounts.room() as usize {
+        if self.accounts.is_full() {
             return Err(Refused::Room);
         }
         let shapes = shapes_of(want);
@@ -112,7 +117,9 @@ impl Plan {
             None => Err(Refused::NoPlacement),
         }
     }
+}
 
+impl Plan {
     /// Takes out the endpoint with this id; false exactly where it isn't placed, and then nothing changes.
     pub fn remove(&mut self, id: u32) -> bool
         ensures found { result ≡ is_placed self.old id }

@@ -10,7 +10,7 @@ use crate::frames::frames_of;
 use crate::options::{is_slack, starts};
 use crate::placements::{Placement, Want};
 use crate::shapes::Shape;
-use bandwidth_steps::Steps;
+use bandwidth_steps::{CountedBy, Steps};
 use std::sync::ledger::Ledger;
 use usb_base::Rules;
 use usb_base::limits::MICROFRAME_BUDGET;
@@ -55,8 +55,8 @@ fn limit_of(so_far: &Option<Candidate>) -> u64
 
 /// The better of the candidate so far and a placement.
 #[inline(always)]
-fn better_of<L: Ledger>(
-    accounts: &Accounts,
+fn better_of<L: Ledger, C: CountedBy<L>>(
+    accounts: &Accounts<C>,
     rules: Rules,
     want: &Want,
     shape: &Shape,
@@ -87,8 +87,8 @@ fn better_of<L: Ledger>(
 
 /// The best of the candidate so far and the placements of one phase.
 #[inline(always)]
-fn best_in_phase<L: Ledger>(
-    accounts: &Accounts,
+fn best_in_phase<L: Ledger, C: CountedBy<L>>(
+    accounts: &Accounts<C>,
     rules: Rules,
     want: &Want,
     shapes: &[Shape; 8],
@@ -118,8 +118,8 @@ fn best_in_phase<L: Ledger>(
 }
 
 /// The allowed placement that keeps every budget with the least peak, the first of these.
-pub(crate) fn best_placement<L: Ledger>(
-    accounts: &Accounts,
+pub(crate) fn best_placement<L: Ledger, C: CountedBy<L>>(
+    accounts: &Accounts<C>,
     rules: Rules,
     want: &Want,
     shapes: &[Shape; 8],

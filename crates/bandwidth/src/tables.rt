@@ -8,11 +8,16 @@ use crate::frames::{active_frame, turns};
 use crate::placements::Placement;
 use crate::shapes::Amounts;
 use crate::table::Table;
-use bandwidth_steps::Steps;
+use bandwidth_steps::{CountedBy, Steps};
 use std::sync::ledger::Ledger;
 
 /// Adds the amounts of the eight microframes to those of one frame.
-fn add_in_frame<L: Ledger>(table: &mut Table, frame: u32, amounts: &Amounts, steps: &mut Steps<L>)
+fn add_in_frame<L: Ledger, C: CountedBy<L>>(
+    table: &mut Table<C>,
+    frame: u32,
+    amounts: &Amounts,
+    steps: &mut Steps<L>,
+)
     requires cells { length table.old ≡ 8192 }
     requires frame { frame < frame_list_length }
     requires room { (m : ℕ) → m < 8 → slice_index table.old (8 * frame + m) ≤ 1000000000000 }
@@ -27,8 +32,8 @@ fn add_in_frame<L: Ledger>(table: &mut Table, frame: u32, amounts: &Amounts, ste
 }
 
 /// Adds the amounts of the eight microframes of a frame to each active frame of a placement.
-pub(crate) fn add_microframes<L: Ledger>(
-    table: &mut Table,
+pub(crate) fn add_microframes<L: Ledger, C: CountedBy<L>>(
+    table: &mut Table<C>,
     placement: &Placement,
     amounts: &Amounts,
     steps: &mut Steps<L>,
@@ -47,8 +52,8 @@ pub(crate) fn add_microframes<L: Ledger>(
 }
 
 /// Adds an amount to each active frame of a placement.
-pub(crate) fn add_frames<L: Ledger>(
-    table: &mut Table,
+pub(crate) fn add_frames<L: Ledger, C: CountedBy<L>>(
+    table: &mut Table<C>,
     placement: &Placement,
     amount: u64,
     steps: &mut Steps<L>,

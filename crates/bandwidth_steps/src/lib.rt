@@ -2,12 +2,24 @@
 //! takes at most. Which calls are steps, the crate says that counts them.
 //!
 //! `Steps::take` counts one step, `Steps::begin` opens a count at none.
+//!
+//! What takes steps names by a type who may count them (`CountedBy`). Code that leaves this type open knows of one ledger alone, the one
+//! that it was handed: no count that it begins itself serves there.
 #![tactic(auto)]
 
 ghost use Rattle.std.specs.Prelude.{◌≡◌, ◌+◌, ◌<◌};
 
 use std::marker::Model;
 use std::sync::ledger::{Blank, Book, Ledger, Share};
+
+/// A step of what has this mark may be counted on the ledger.
+pub trait CountedBy<L: Ledger> {}
+
+/// The mark of what any ledger may count.
+#[derive(Clone, Copy, Debug)]
+pub struct AnyLedger;
+
+impl<L: Ledger> CountedBy<L> for AnyLedger {}
 
 /// How many steps were taken. Only `take` changes it.
 #[derive(Drop)]

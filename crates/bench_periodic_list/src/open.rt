@@ -1,6 +1,5 @@
 use drv_chains::{Member, QueueHead};
 use drv_periodic::PeriodicList;
-use drv_search::Reads;
 use std::alloc::{AllocError, Global};
 use usb_base::Memory;
 
@@ -28,12 +27,11 @@ fn link(list: &mut PeriodicList, member: &Member) -> u32 {
     if !list.takes(member) {
         return 0;
     }
-    let mut reads = Reads::none();
-    list.begin_insert(member, &mut reads);
+    list.begin_insert(member);
     let mut made = 0u32;
     for _store in 0..1024u32 {
         if list.next_store().is_some() {
-            let _ = list.advance(&mut reads);
+            let _ = list.advance();
             made = made.saturating_add(1);
         }
     }

@@ -9,7 +9,6 @@ use bandwidth::Placement;
 use drv_chains::{Descriptor, Member, QueueHead};
 use drv_periodic::{PeriodicList, Store};
 use drv_periodic_table::DescriptorNote;
-use drv_search::Reads;
 
 /// The queue head in this block as a member of the frame list.
 fn member_in(queue: u16, placement: &Placement) -> Member
@@ -47,7 +46,7 @@ fn begin_link(list: &mut PeriodicList, member: &Member)
     ensures { list.new ≡ linking list.old member.now }
 {
     if list.takes(member) {
-        list.begin_insert(member, &mut Reads::none());
+        list.begin_insert(member);
     }
 }
 
@@ -56,7 +55,7 @@ fn begin_unlink(list: &mut PeriodicList, member: &Member)
     ensures { list.new ≡ unlinking list.old member.now }
 {
     if list.may_remove(member) {
-        list.begin_remove(member, &mut Reads::none());
+        list.begin_remove(member);
     }
 }
 
@@ -167,7 +166,7 @@ impl PeriodicPart {
         ensures { self.new ≡ with_list self.old (after_store self.old.periodic.list) }
     {
         if !self.list.is_idle() {
-            self.list.advance(&mut Reads::none());
+            self.list.advance();
         }
     }
 }

@@ -1,5 +1,5 @@
-ghost use Rattle.std.specs.Prelude.{◌≡◌, ◌≤◌, ◌<◌, ◌^◌, nat_eq, true, false, List, [], ◌∷◌, map, take, drop, length, IfOk, IsTrue, option_map};
-ghost use Rattle.std.specs.List.{list_any, last_or, find};
+ghost use Rattle.std.specs.Prelude.{◌≡◌, ℕ, ◌+◌, ◌≤◌, ◌<◌, ◌^◌, nat_eq, true, false, List, [], ◌∷◌, map, take, drop, length, IfOk, IsTrue, option_map};
+ghost use Rattle.std.specs.List.{list_any, last_or, find, count_by};
 ghost use Rattle.drv_chains.specs.declared.members.Descriptor.{Descriptor as One};
 ghost use Rattle.drv_chains.specs.declared.members.Member.TheVariants.{Once, Each};
 ghost use Rattle.drv_chains.specs.declared.members.Predecessor.TheVariants.{Element as InList};
@@ -11,22 +11,26 @@ ghost use Rattle.drv_members.specs.Members.{word_in_frame};
 use crate::checks::may_be_member;
 use crate::order::{highest_of, lowest_of, rank_of_queue};
 use crate::{descriptors, queues};
+use bandwidth_steps::{AnyLedger, CountedBy, Steps};
 use drv_chains::{Descriptor, Member, Predecessor, QueueHead};
-use drv_search::{Classes, Reads};
+use drv_search::Classes;
 use std::alloc::Global;
-use std::marker::Model;
+use std::marker::{Model, PhantomData};
+use std::sync::ledger::Ledger;
 use usb_base::Memory;
 
-/// The members of the frame list: queue heads by period and phase, descriptors by frame. No two have one name.
+/// The members of the frame list: queue heads by period and phase, descriptors by frame. No two have one name. A step is
+/// one reading of a class, on a ledger that may count them.
 #[derive(Drop)]
-pub struct FrameMembers {
+pub struct FrameMembers<C = AnyLedger> {
     queues: Vec<QueueHead>,
     descriptors: Vec<Descriptor>,
     queue_room: u32,
     descriptor_room: u32,
+    counted: PhantomData<C>,
 }
 
-impl Model for FrameMembers {
+impl<C> Model for FrameMembers<C> {
     ghost use Rattle.std.specs.Prelude.{◌≤◌, vec_capacity};
     ghost use Rattle.drv_chains.specs.Chains.{of_lists};
     ghost use Rattle.drv_members.specs.Members.{Members, IsKept};
@@ -38,11 +42,11 @@ impl Model for FrameMembers {
     ghost invariant = { λ m. IsKept (of_lists m.descriptors.items m.queues.items) × ((m.queue_room ≤ vec_capacity m.queues) × (m.descriptor_room ≤ vec_capacity m.descriptors)) };
 }
 
-impl Classes for FrameMembers {
+impl<L: Ledger, C: CountedBy<L>> Classes<L> for FrameMembers<C> {
     ghost schedule = { λ m. m.schedule };
 
-    fn last(&self, level: u8, phase: u16, reads: &mut Reads) -> Option<QueueHead> {
-        reads.count_one();
+    fn last(&self, level: u8, phase: u16, reads: &mut Steps<L>) -> Option<QueueHead> {
+        reads.take();
         queues::last_between(
             &self.queues,
             lowest_of(level, phase),
@@ -52,8 +56,7 @@ impl Classes for FrameMembers {
 }
 
 impl FrameMembers {
-    ghost use Rattle.drv_members.specs.Ranks.{is_queue};
-    ghost use Rattle.drv_members.specs.Members.{IsKept, IsMember, HasRoom, has_room, takes, with_member, without_member, with_schedule, frame_of, is_linked, words_ahead, first_of_both};
+    ghost use Rattle.drv_members.specs.Ranks.{is_named};
 
     /// No member yet, with room for so many of each kind.
     ///
@@ -68,8 +71,28 @@ impl FrameMembers {
             descriptors: Vec::with_capacity(alloc, descriptors as usize)?,
             queue_room: queues,
             descriptor_room: descriptors,
+            counted: PhantomData,
         })
     }
+
+    /// The queue heads of a class, in the order of the chain, each once.
+    pub fn class(&self, level: u8, phase: u16) -> &[QueueHead]
+        requires level { level ≤ 10 }
+        requires phase { phase < 2 ^ level }
+        ensures class { result.now ≡ members self.now.schedule level phase }
+        ensures once { (id : ℕ) → count_by (is_named id) result.now ≤ 1 }
+    {
+        queues::between(
+            &self.queues,
+            lowest_of(level, phase),
+            highest_of(level, phase),
+        )
+    }
+}
+
+impl<C> FrameMembers<C> {
+    ghost use Rattle.drv_members.specs.Ranks.{is_queue};
+    ghost use Rattle.drv_members.specs.Members.{IsKept, IsMember, HasRoom, has_room, takes, with_member, without_member, with_schedule, frame_of, is_linked, words_ahead, first_of_both};
 
     /// Whether a member may be put in: it is in range, its name is new, and there is room.
     pub fn takes(&self, member: &Member) -> bool
@@ -137,21 +160,15 @@ impl FrameMembers {
         }
     }
 
-    /// The queue heads of a class, in the order of the chain.
-    pub fn class(&self, level: u8, phase: u16) -> &[QueueHead]
-        requires level { level ≤ 10 }
-        requires phase { phase < 2 ^ level }
-        ensures { result.now ≡ members self.now.schedule level phase }
-    {
-        queues::between(
-            &self.queues,
-            lowest_of(level, phase),
-            highest_of(level, phase),
-        )
-    }
-
-    /// The queue head right before this one in its class, which has this level.
-    pub fn ahead_in_class(&self, level: u8, queue: &QueueHead) -> Option<QueueHead>
+    /// The queue head right before this one in its class, which has this level: one class is read.
+    pub fn ahead_in_class<L: Ledger>(
+        &self,
+        level: u8,
+        queue: &QueueHead,
+        reads: &mut Steps<L>,
+    ) -> Option<QueueHead>
+    where
+        C: CountedBy<L>,
         requires level { level ≤ 10 }
         requires phase { queue.now.phase < 2 ^ level }
         requires class { list_any (λ p. nat_eq queue.now.period p) (periods_of level) ≡ true }
@@ -159,7 +176,9 @@ impl FrameMembers {
         requires linked { is_linked self.now.schedule (Each queue.now) ≡ true }
         ensures ahead { (others : List Word) → last_of (before_the (Each queue.now) (map Each (members self.now.schedule level queue.now.phase))) others ≡ words_ahead result others }
         ensures kept { IsKept self.now.schedule }
+        ensures reads { reads.new ≡ reads.old + 1 }
     {
+        reads.take();
         queues::last_ahead(&self.queues, queue.id, lowest_of(level, queue.phase))
     }
 

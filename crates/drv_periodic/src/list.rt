@@ -1,27 +1,29 @@
-ghost use Rattle.std.specs.Prelude.{◌≡◌, ◌+◌, ◌%◌, ◌^◌, ◌<◌, ◌≤◌, ◌↔◌, ◌&&◌, true, false, Some, None, IfOk, IfSome, IsSome, IsTrue, is_none};
+ghost use Rattle.std.specs.Prelude.{◌≡◌, ℕ, ◌+◌, ◌%◌, ◌^◌, ◌<◌, ◌≤◌, ◌↔◌, ◌&&◌, true, false, Some, None, IfOk, IfSome, IsSome, IsTrue, is_none, count_by};
 ghost use Rattle.drv_chains.specs.Classes.{members};
 ghost use Rattle.drv_chains.specs.Chains.{has_name, id_of, successor};
+ghost use Rattle.drv_members.specs.Ranks.{is_named};
 ghost use Rattle.drv_members.specs.Members.{IsMember, HasRoom, is_member, takes, with_member, frame_of, is_linked};
 
 use crate::start::{start, word_found};
 use crate::stores::{finish, link_word, name_of, next_task, store_of};
 use crate::work::{Progress, Store, Task, Work};
+use bandwidth_steps::{AnyLedger, CountedBy, Steps};
 use drv_chains::{Member, QueueHead};
 use drv_members::{FrameMembers, may_be_member};
-use drv_search::Reads;
 use std::alloc::Global;
-use std::marker::Model;
+use std::marker::{Brand, Model};
+use std::sync::ledger::{Blank, Ledger};
 use usb_base::Memory;
 
 /// The members of the frame list, and the one that is linked or unlinked. A member's name is the link word that leads to it.
 #[derive(Drop)]
-pub struct PeriodicList {
+pub struct PeriodicList<C = AnyLedger> {
     list: u16,
-    members: FrameMembers,
+    members: FrameMembers<C>,
     task: Option<Task>,
 }
 
-impl Model for PeriodicList {
+impl<C> Model for PeriodicList<C> {
     ghost use Rattle.drv_periodic.specs.Periodic.{Periodic};
     ghost use Rattle.drv_periodic.specs.Tasks.{AreTasks, works_of};
 
@@ -33,7 +35,7 @@ impl Model for PeriodicList {
 }
 
 impl PeriodicList {
-    ghost use Rattle.drv_periodic.specs.Periodic.{Periodic, new_list, link_to, next_store, inserting, removing, begun, value_of, after_store, progress_of};
+    ghost use Rattle.drv_periodic.specs.Periodic.{new_list, link_to, next_store, inserting, removing, after_store, progress_of};
 
     /// A list with no member, which begins in the block `list`, with room for so many queue heads and descriptors.
     ///
@@ -55,12 +57,13 @@ impl PeriodicList {
         })
     }
 
-    /// The queue heads of the class of this level and phase, in the order of the chain: those that are linked, and the one that is linked
-    /// or unlinked just now.
+    /// The queue heads of the class of this level and phase, in the order of the chain, each once: those that are linked, and the one that
+    /// is linked or unlinked just now.
     pub fn members(&self, level: u8, phase: u16) -> &[QueueHead]
         requires level { level ≤ 10 }
         requires phase { phase < 2 ^ level }
-        ensures { result.now ≡ members self.now.members.schedule level phase }
+        ensures class { result.now ≡ members self.now.members.schedule level phase }
+        ensures once { (id : ℕ) → count_by (is_named id) result.now ≤ 1 }
     {
         self.members.class(level, phase)
     }
@@ -102,32 +105,6 @@ impl PeriodicList {
         link_word(self.members.behind_new(member))
     }
 
-    /// Begins to link a member. It reads at most eleven classes.
-    pub fn begin_insert(&mut self, member: &Member, reads: &mut Reads)
-        requires idle { self.old.work ≡ None }
-        requires member { IsMember member.now }
-        requires new { has_name self.old.members.schedule (id_of member.now) ≡ false }
-        requires room { HasRoom self.old.members member.now }
-        ensures list { self.new ≡ inserting self.old member.now }
-        ensures reads { reads.new ≤ reads.old + 11 }
-    {
-        self.members.insert(member);
-        let value = name_of(member);
-        self.begin(member, false, value, reads);
-    }
-
-    /// Begins to unlink a member. It reads at most eleven classes.
-    pub fn begin_remove(&mut self, member: &Member, reads: &mut Reads)
-        requires idle { self.old.work ≡ None }
-        requires member { IsMember member.now }
-        requires linked { is_linked self.old.members.schedule member.now ≡ true }
-        ensures list { self.new ≡ removing self.old member.now }
-        ensures reads { reads.new ≤ reads.old + 11 }
-    {
-        let value = link_word(self.members.behind(member));
-        self.begin(member, true, value, reads);
-    }
-
     /// The next store; `None` exactly where nothing is under way.
     pub fn next_store(&self) -> Option<Store>
         ensures store { result ≡ next_store self.now }
@@ -140,8 +117,116 @@ impl PeriodicList {
         }
     }
 
-    /// The next store was made. It reads at most eleven classes.
-    pub fn advance(&mut self, reads: &mut Reads) -> Progress
+    /// Begins to link a member.
+    pub fn begin_insert(&mut self, member: &Member)
+        requires idle { self.old.work ≡ None }
+        requires member { IsMember member.now }
+        requires new { has_name self.old.members.schedule (id_of member.now) ≡ false }
+        requires room { HasRoom self.old.members member.now }
+        ensures { self.new ≡ inserting self.old member.now }
+    {
+        self.insert_blank::<Brand>(member, Blank::new(1));
+    }
+
+    /// Begins to link a member with a count of its own.
+    fn insert_blank<L: Ledger>(&mut self, member: &Member, blank: Blank)
+        requires name { blank.name ≡ L.name }
+        requires parts { blank.parts ≡ L.parts }
+        requires some { 0 < L.parts }
+        requires idle { self.old.work ≡ None }
+        requires member { IsMember member.now }
+        requires new { has_name self.old.members.schedule (id_of member.now) ≡ false }
+        requires room { HasRoom self.old.members member.now }
+        ensures { self.new ≡ inserting self.old member.now }
+    {
+        let mut reads = Steps::<L>::begin(blank);
+        self.begin_insert_counted(member, &mut reads);
+    }
+
+    /// Begins to unlink a member.
+    pub fn begin_remove(&mut self, member: &Member)
+        requires idle { self.old.work ≡ None }
+        requires member { IsMember member.now }
+        requires linked { is_linked self.old.members.schedule member.now ≡ true }
+        ensures { self.new ≡ removing self.old member.now }
+    {
+        self.remove_blank::<Brand>(member, Blank::new(1));
+    }
+
+    /// Begins to unlink a member with a count of its own.
+    fn remove_blank<L: Ledger>(&mut self, member: &Member, blank: Blank)
+        requires name { blank.name ≡ L.name }
+        requires parts { blank.parts ≡ L.parts }
+        requires some { 0 < L.parts }
+        requires idle { self.old.work ≡ None }
+        requires member { IsMember member.now }
+        requires linked { is_linked self.old.members.schedule member.now ≡ true }
+        ensures { self.new ≡ removing self.old member.now }
+    {
+        let mut reads = Steps::<L>::begin(blank);
+        self.begin_remove_counted(member, &mut reads);
+    }
+
+    /// The next store was made.
+    pub fn advance(&mut self) -> Progress
+        requires { IsSome self.old.work }
+        ensures list { self.new ≡ after_store self.old }
+        ensures progress { result ≡ progress_of self.old }
+    {
+        self.advance_blank::<Brand>(Blank::new(1))
+    }
+
+    /// The next store was made, with a count of its own.
+    fn advance_blank<L: Ledger>(&mut self, blank: Blank) -> Progress
+        requires name { blank.name ≡ L.name }
+        requires parts { blank.parts ≡ L.parts }
+        requires some { 0 < L.parts }
+        requires work { IsSome self.old.work }
+        ensures list { self.new ≡ after_store self.old }
+        ensures progress { result ≡ progress_of self.old }
+    {
+        let mut reads = Steps::<L>::begin(blank);
+        self.advance_counted(&mut reads)
+    }
+}
+
+impl<C> PeriodicList<C> {
+    ghost use Rattle.drv_periodic.specs.Periodic.{Periodic, inserting, removing, begun, value_of, after_store, progress_of};
+
+    /// As `begin_insert`, in at most eleven readings of classes.
+    pub fn begin_insert_counted<L: Ledger>(&mut self, member: &Member, reads: &mut Steps<L>)
+    where
+        C: CountedBy<L>,
+        requires idle { self.old.work ≡ None }
+        requires member { IsMember member.now }
+        requires new { has_name self.old.members.schedule (id_of member.now) ≡ false }
+        requires room { HasRoom self.old.members member.now }
+        ensures list { self.new ≡ inserting self.old member.now }
+        ensures reads { reads.new ≤ reads.old + 11 }
+    {
+        self.members.insert(member);
+        let value = name_of(member);
+        self.begin(member, false, value, reads);
+    }
+
+    /// As `begin_remove`, in at most eleven readings of classes.
+    pub fn begin_remove_counted<L: Ledger>(&mut self, member: &Member, reads: &mut Steps<L>)
+    where
+        C: CountedBy<L>,
+        requires idle { self.old.work ≡ None }
+        requires member { IsMember member.now }
+        requires linked { is_linked self.old.members.schedule member.now ≡ true }
+        ensures list { self.new ≡ removing self.old member.now }
+        ensures reads { reads.new ≤ reads.old + 11 }
+    {
+        let value = link_word(self.members.behind(member));
+        self.begin(member, true, value, reads);
+    }
+
+    /// As `advance`, in at most eleven readings of classes.
+    pub fn advance_counted<L: Ledger>(&mut self, reads: &mut Steps<L>) -> Progress
+    where
+        C: CountedBy<L>,
         requires { IsSome self.old.work }
         ensures list { self.new ≡ after_store self.old }
         ensures progress { result ≡ progress_of self.old }
@@ -166,7 +251,9 @@ impl PeriodicList {
     }
 
     /// Begins to link or unlink a member that stands in the schedule.
-    fn begin(&mut self, member: &Member, removes: bool, value: u32, reads: &mut Reads)
+    fn begin<L: Ledger>(&mut self, member: &Member, removes: bool, value: u32, reads: &mut Steps<L>)
+    where
+        C: CountedBy<L>,
         requires idle { self.old.work ≡ None }
         requires member { IsMember member.now }
         requires linked { is_linked self.old.members.schedule member.now ≡ true }

@@ -6,9 +6,11 @@ ghost use Rattle.drv_search.specs.Search.{words_left, word_of, IsSearch};
 ghost use Rattle.drv_members.specs.Ranks.{is_queue};
 ghost use Rattle.drv_members.specs.Members.{IsKept, IsMember, is_linked};
 
+use bandwidth_steps::{CountedBy, Steps};
 use drv_chains::{Descriptor, Member, Predecessor, QueueHead};
 use drv_members::{FrameMembers, level_of};
-use drv_search::{Found, Reads, Search};
+use drv_search::{Found, Search};
+use std::sync::ledger::Ledger;
 
 /// The first word to store, and where the search goes on.
 #[derive(Clone, Copy, Debug, PartialEq, Eq)]
@@ -18,7 +20,7 @@ pub(crate) struct FirstWord {
 }
 
 /// The word that was found.
-pub(crate) fn word_found(members: &FrameMembers, found: Found) -> Predecessor
+pub(crate) fn word_found<C>(members: &FrameMembers<C>, found: Found) -> Predecessor
     ensures { result ≡ word_of members.now.schedule found }
 {
     match found {
@@ -28,7 +30,11 @@ pub(crate) fn word_found(members: &FrameMembers, found: Found) -> Predecessor
 }
 
 /// The words of a member that stands in the list.
-pub(crate) fn start(members: &FrameMembers, member: &Member, reads: &mut Reads) -> FirstWord
+pub(crate) fn start<L: Ledger, C: CountedBy<L>>(
+    members: &FrameMembers<C>,
+    member: &Member,
+    reads: &mut Steps<L>,
+) -> FirstWord
     requires member { IsMember member.now }
     requires linked { is_linked members.now.schedule member.now ≡ true }
     ensures words { predecessors members.now.schedule member.now (frames 10) ≡ result.word ∷ map (word_of members.now.schedule) (words_left members.now.schedule result.search) }
@@ -42,7 +48,7 @@ pub(crate) fn start(members: &FrameMembers, member: &Member, reads: &mut Reads) 
 }
 
 /// The one word of a descriptor.
-fn start_once(members: &FrameMembers, descriptor: &Descriptor) -> FirstWord
+fn start_once<C>(members: &FrameMembers<C>, descriptor: &Descriptor) -> FirstWord
     requires frame { IsMember (Once descriptor.now) }
     requires linked { is_linked members.now.schedule (Once descriptor.now) ≡ true }
     ensures words { predecessors members.now.schedule (Once descriptor.now) (frames 10) ≡ result.word ∷ map (word_of members.now.schedule) (words_left members.now.schedule result.search) }
@@ -55,7 +61,11 @@ fn start_once(members: &FrameMembers, descriptor: &Descriptor) -> FirstWord
 }
 
 /// The words of a queue head: that of the one before it in its class, or those that a search below the class finds.
-fn start_each(members: &FrameMembers, queue: &QueueHead, reads: &mut Reads) -> FirstWord
+fn start_each<L: Ledger, C: CountedBy<L>>(
+    members: &FrameMembers<C>,
+    queue: &QueueHead,
+    reads: &mut Steps<L>,
+) -> FirstWord
     requires queue { is_queue queue.now ≡ true }
     requires linked { is_linked members.now.schedule (Each queue.now) ≡ true }
     ensures words { predecessors members.now.schedule (Each queue.now) (frames 10) ≡ result.word ∷ map (word_of members.now.schedule) (words_left members.now.schedule result.search) }
@@ -63,7 +73,7 @@ fn start_each(members: &FrameMembers, queue: &QueueHead, reads: &mut Reads) -> F
     ensures reads { reads.new ≤ reads.old + 11 }
 {
     let level = level_of(queue);
-    if let Some(before) = members.ahead_in_class(level, queue) {
+    if let Some(before) = members.ahead_in_class(level, queue, reads) {
         return FirstWord {
             word: Predecessor::After(Member::Each(before)),
             search: Search::nothing(),

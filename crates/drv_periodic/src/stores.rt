@@ -67,7 +67,7 @@ pub(crate) fn next_task(task: &Task, word: Predecessor, search: Search) -> Task
 }
 
 /// The last store was made: a member that left is out of the schedule.
-pub(crate) fn finish(members: &mut FrameMembers, work: &Work)
+pub(crate) fn finish<C>(members: &mut FrameMembers<C>, work: &Work)
     ensures { members.new ≡ members_after members.old work.now }
 {
     if work.removes {

@@ -3,22 +3,22 @@ ghost use Rattle.std.specs.List.{last_or};
 ghost use Rattle.drv_chains.specs.Chains.{Schedule};
 ghost use Rattle.drv_chains.specs.Classes.{members};
 ghost use Rattle.drv_search.specs.Search.{found_below, found_from, found_then, pending, words_left, IsSearch};
-ghost use Rattle.drv_search.specs.Reads.{after_read};
 
-use crate::reads::Reads;
+use bandwidth_steps::Steps;
 use drv_chains::QueueHead;
+use std::sync::ledger::Ledger;
 
-/// What holds the classes of queue heads.
-pub trait Classes {
+/// What holds the classes of queue heads, and has each reading of one counted on this ledger.
+pub trait Classes<L: Ledger> {
     // The members of the frame list.
     ghost schedule: { Self → Schedule };
 
     /// The last member of the class of this level and phase: one class is read.
-    fn last(&self, level: u8, phase: u16, reads: &mut Reads) -> Option<QueueHead>
+    fn last(&self, level: u8, phase: u16, reads: &mut Steps<L>) -> Option<QueueHead>
         requires level { level ≤ 10 }
         requires phase { phase < 2 ^ level }
         ensures last { result ≡ last_or None (members (schedule self.now) level phase) }
-        ensures reads { reads.new ≡ after_read reads.old };
+        ensures reads { reads.new ≡ reads.old + 1 };
 }
 
 /// What stands right before a class in some of its frames.
@@ -67,7 +67,12 @@ fn frames_of(level: u8) -> u16
 
 /// From a class down to the first that has a member, or to the frame.
 #[tactic(auto, using(crate::proofs::Steps::deeper))]
-fn first_found<C: Classes>(classes: &C, level: u8, phase: u16, reads: &mut Reads) -> Met
+fn first_found<L: Ledger, C: Classes<L>>(
+    classes: &C,
+    level: u8,
+    phase: u16,
+    reads: &mut Steps<L>,
+) -> Met
     requires level { level ≤ 10 }
     requires phase { phase < 2 ^ level }
     ensures not_above { level ≤ result.level }
@@ -139,6 +144,7 @@ impl Search {
         requires phase { phase < 2 ^ level }
         ensures left { (s : Schedule) → words_left s result ≡ found_below s (10 - level) level phase }
         ensures some { (s : Schedule) → 1 ≤ length (words_left s result) }
+        ensures deeper { 1 ≤ result.level }
         ensures valid { IsSearch result }
     {
         if level >= 10 {
@@ -157,13 +163,18 @@ impl Search {
         }
     }
 
-    /// The next that stands right before the class; `None` exactly where all is found. It reads at most eleven classes.
-    pub fn next<C: Classes>(&mut self, classes: &C, reads: &mut Reads) -> Option<Found>
+    /// The next that stands right before the class; `None` exactly where all is found. It reads at most eleven classes, each counted on
+    /// the ledger that is handed down: no other may count what this one holds.
+    pub fn next<L: Ledger, C: Classes<L>>(
+        &mut self,
+        classes: &C,
+        reads: &mut Steps<L>,
+    ) -> Option<Found>
         requires { IsSearch self.old }
         ensures left { words_left (C.schedule classes.now) self.old ≡ option_to_list result ++ words_left (C.schedule classes.now) self.new }
         ensures end { result ≡ None → words_left (C.schedule classes.now) self.old ≡ [] }
         ensures valid { IsSearch self.new }
-        ensures reads { reads.new ≤ reads.old + 11 }
+        ensures reads { reads.new + self.old.level ≤ reads.old + 11 }
     {
         match self.stage {
             Stage::Ended => None,

@@ -1,6 +1,5 @@
 use drv_chains::{Descriptor, Member, QueueHead};
 use drv_periodic::{Leaving, PeriodicList};
-use drv_search::Reads;
 use std::alloc::{AllocError, Global};
 use usb_base::Memory;
 use word_mem::WordMem;
@@ -103,8 +102,7 @@ impl Play {
         }
         let behind = self.list.link_behind(member);
         self.mem.hc_write(name_of(member) / 32 * 32, behind);
-        let mut reads = Reads::none();
-        self.list.begin_insert(member, &mut reads);
+        self.list.begin_insert(member);
         let made = self.stores(most);
         format!(in alloc; "{made} stores")
     }
@@ -113,8 +111,7 @@ impl Play {
         if !self.list.may_remove(member) {
             return format!(in alloc; "refused");
         }
-        let mut reads = Reads::none();
-        self.list.begin_remove(member, &mut reads);
+        self.list.begin_remove(member);
         let made = self.stores(most);
         if self.list.is_idle() && self.leaving.has_room() {
             self.leaving.leave(name_of(member) / 32);
@@ -128,8 +125,7 @@ impl Play {
         for _store in 0..most {
             if let Some(store) = self.list.next_store() {
                 self.mem.hc_write(store.at, store.value);
-                let mut reads = Reads::none();
-                let _ = self.list.advance(&mut reads);
+                let _ = self.list.advance();
                 made = made.saturating_add(1);
             }
         }

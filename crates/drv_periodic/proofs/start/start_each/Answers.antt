@@ -8,7 +8,7 @@ use Rattle.drv_periodic.proofs.Words.{each_words}
 use Rattle.drv_periodic.proofs.start.start_each.Goals as goal
 
 pub returns-in-Some-clause-words : goal.returns-in-Some-clause-words
-returns-in-Some-clause-words c =
+returns-in-Some-clause-words g c =
     let s = c.args.members.now.schedule in
     let level = c.level_of-level.result in
     let q = c.args.queue.now in
@@ -16,7 +16,7 @@ returns-in-Some-clause-words c =
     ∙ ap (λ o. words_ahead o (map (word_of s) (found_below s (10 - level) level q.phase))) c.in-Some.is ∙ ap (λ ws. After (Each c.in-Some.before) ∷ map (word_of s) ws) (sym (c.nothing.ensures.left s))
 
 pub returns-in-Some-next-clause-words : goal.returns-in-Some-next-clause-words
-returns-in-Some-next-clause-words c =
+returns-in-Some-next-clause-words g c =
     let s = c.args.members.now.schedule in
     let level = c.level_of-level.result in
     let q = c.args.queue.now in

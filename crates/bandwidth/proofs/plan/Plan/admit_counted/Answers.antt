@@ -1,4 +1,5 @@
 use Rattle.std.proofs.Common.{◌<◌, sym, refl, arith, ◌∙◌}
+use Rattle.std.proofs.lemmas.Bool.{leb-false}
 use Rattle.bandwidth.specs.Placements.{placement_row}
 use Rattle.bandwidth.proofs.Admits.{best_option, option_is_of, option_turns, all_steps, best_fits, best_is, best_none, some_not_none}
 use Rattle.bandwidth.proofs.Spans.{few_starts}
@@ -48,7 +49,7 @@ returns-in-Some-clause-steps g c =
 
 pub returns-in-None-clause-no_placement : goal.returns-in-None-clause-no_placement
 returns-in-None-clause-no_placement g c =
-    let free = rw (c.placed.ensures.same, c.room.ensures.same) at c.if-placed-room.false in
+    let free = leb-false _ _ (sym c.is_full.ensures.full ∙ c.if-is_full.false) in
     rw (← c.self.view_is) (λ e. (free, best_none _ _ c.args.want.now (sym c.in-None.ensures.best)), λ h. refl)
 
 pub returns-in-None-clause-steps : goal.returns-in-None-clause-steps

@@ -8,7 +8,7 @@ use Rattle.drv_members.proofs.Around.{ahead_queue}
 use Rattle.drv_members.proofs.members.FrameMembers.ahead_in_class.Goals as goal
 
 pub returns-clause-ahead : goal.returns-clause-ahead
-returns-clause-ahead c = λ others.
+returns-clause-ahead g c = λ others.
     let s = c.args.self.now.schedule in
     let q = c.args.queue.now in
     let kept : IsKept s = subst (λ m. IsKept m.schedule) c.self.view_is c.self.invariant.0 in

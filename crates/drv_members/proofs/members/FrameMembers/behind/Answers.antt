@@ -12,7 +12,7 @@ use Rattle.drv_members.proofs.Around.{behind_queue, behind_descriptor}
 use Rattle.drv_members.proofs.members.FrameMembers.behind.Goals as goal
 
 pub returns-in-Once-clause-behind : goal.returns-in-Once-clause-behind
-returns-in-Once-clause-behind c =
+returns-in-Once-clause-behind g c =
     let s = c.args.self.now.schedule in
     let d = c.in-Once.descriptor in
     let kept : IsKept s = subst (λ m. IsKept m.schedule) c.self.view_is c.self.invariant.0 in
@@ -24,7 +24,7 @@ returns-in-Once-clause-behind c =
     ∙ sym (behind_descriptor s d kept at) ∙ ap (λ m. successor s m (frame_of m)) (sym c.in-Once.is)
 
 pub returns-in-Each-clause-behind : goal.returns-in-Each-clause-behind
-returns-in-Each-clause-behind c =
+returns-in-Each-clause-behind g c =
     let s = c.args.self.now.schedule in
     let q = c.in-Each.queue in
     let kept : IsKept s = subst (λ m. IsKept m.schedule) c.self.view_is c.self.invariant.0 in

@@ -9,7 +9,7 @@ use Rattle.drv_members.proofs.Around.{behind_new_queue, behind_new_descriptor}
 use Rattle.drv_members.proofs.members.FrameMembers.behind_new.Goals as goal
 
 pub returns-in-Once-clause-behind : goal.returns-in-Once-clause-behind
-returns-in-Once-clause-behind c =
+returns-in-Once-clause-behind g c =
     let s = c.args.self.now.schedule in
     let d = c.in-Once.descriptor in
     let kept : IsKept s = subst (λ m. IsKept m.schedule) c.self.view_is c.self.invariant.0 in
@@ -22,7 +22,7 @@ returns-in-Once-clause-behind c =
     ∙ ap (λ m. successor (with_member s m) m (frame_of m)) (sym c.in-Once.is)
 
 pub returns-in-Each-clause-behind : goal.returns-in-Each-clause-behind
-returns-in-Each-clause-behind c =
+returns-in-Each-clause-behind g c =
     let s = c.args.self.now.schedule in
     let q = c.in-Each.queue in
     let kept : IsKept s = subst (λ m. IsKept m.schedule) c.self.view_is c.self.invariant.0 in

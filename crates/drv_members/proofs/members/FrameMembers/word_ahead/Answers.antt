@@ -8,7 +8,7 @@ use Rattle.drv_members.proofs.Around.{ahead_descriptor}
 use Rattle.drv_members.proofs.members.FrameMembers.word_ahead.Goals as goal
 
 pub returns-clause-word : goal.returns-clause-word
-returns-clause-word c =
+returns-clause-word g c =
     let s = c.args.self.now.schedule in
     let d = c.args.descriptor.now in
     let kept : IsKept s = subst (λ m. IsKept m.schedule) c.self.view_is c.self.invariant.0 in

@@ -7,7 +7,7 @@ use Rattle.drv_members.proofs.Around.{last_once}
 use Rattle.drv_members.proofs.members.FrameMembers.word_in.Goals as goal
 
 pub returns : goal.returns
-returns c =
+returns g c =
     let s = c.args.self.now.schedule in
     let f = c.args.frame in
     let ds = c.deref.ensures.value ∙ ap (λ m. m.schedule.descriptors) c.self.view_is in

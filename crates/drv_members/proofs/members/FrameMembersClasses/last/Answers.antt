@@ -7,7 +7,7 @@ use Rattle.drv_members.proofs.Classes.{class_is}
 use Rattle.drv_members.proofs.members.FrameMembersClasses.last.Goals as goal
 
 pub returns-clause-last : goal.returns-clause-last
-returns-clause-last c =
+returns-clause-last g c =
     let s = c.args.self.now.schedule in
     let kept : IsKept s = subst (λ m. IsKept m.schedule) c.self.view_is c.self.invariant.0 in
     let qs = c.deref.ensures.value ∙ ap (λ m. m.schedule.queues) c.self.view_is in

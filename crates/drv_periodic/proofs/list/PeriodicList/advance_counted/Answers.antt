@@ -4,10 +4,10 @@ use Rattle.drv_search.specs.Search.{words_left}
 use Rattle.drv_periodic.specs.Periodic.{after_store, progress_of, progress_by}
 use Rattle.drv_periodic.specs.Tasks.{IsTask, AreTasks, works_of}
 use Rattle.drv_periodic.proofs.Steps.{more_left, none_left, made_few, after_more, after_last, progress_more, progress_last, next_is_task}
-use Rattle.drv_periodic.proofs.list.PeriodicList.advance.Goals as goal
+use Rattle.drv_periodic.proofs.list.PeriodicList.advance_counted.Goals as goal
 
 pub next_task-requires : goal.next_task-requires
-next_task-requires c =
+next_task-requires g c =
     let s = c.self.inside.members.schedule in
     let t = c.in-Some.task in
     let k : IsTask s t = subst (λ o. AreTasks s o) c.in-Some.is c.self.invariant in
@@ -15,7 +15,7 @@ next_task-requires c =
     omega (arith, few)
 
 pub invariant_of-self : goal.invariant_of-self
-invariant_of-self c =
+invariant_of-self g c =
     let s = c.self.inside.members.schedule in
     let t = c.in-Some.task in
     let k : IsTask s t = subst (λ o. AreTasks s o) c.in-Some.is c.self.invariant in
@@ -24,7 +24,7 @@ invariant_of-self c =
     (next_is_task s t c.in-Some-next.found c.word_found-word.result c.next.new.self k e c.word_found-word.ensures c.next.ensures.valid)
 
 pub returns-in-Some-next-clause-list : goal.returns-in-Some-next-clause-list
-returns-in-Some-next-clause-list c =
+returns-in-Some-next-clause-list g c =
     let s = c.self.inside.members.schedule in
     let t = c.in-Some.task in
     let k : IsTask s t = subst (λ o. AreTasks s o) c.in-Some.is c.self.invariant in
@@ -34,7 +34,7 @@ returns-in-Some-next-clause-list c =
     ∙ ap (λ o. after_store (record { list = c.self.inside.list; members = c.self.inside.members; work = works_of o })) (sym c.in-Some.is) ∙ ap after_store c.self.view_is
 
 pub returns-in-Some-next-clause-progress : goal.returns-in-Some-next-clause-progress
-returns-in-Some-next-clause-progress c =
+returns-in-Some-next-clause-progress g c =
     let s = c.self.inside.members.schedule in
     let t = c.in-Some.task in
     let k : IsTask s t = subst (λ o. AreTasks s o) c.in-Some.is c.self.invariant in
@@ -42,7 +42,7 @@ returns-in-Some-next-clause-progress c =
     progress_more s t.work (more_left s t c.in-Some-next.found (words_left s c.next.new.self) k e) ∙ ap (λ o. progress_by s (works_of o)) (sym c.in-Some.is) ∙ ap progress_of c.self.view_is
 
 pub returns-in-None-clause-list : goal.returns-in-None-clause-list
-returns-in-None-clause-list c =
+returns-in-None-clause-list g c =
     let s = c.self.inside.members.schedule in
     let t = c.in-Some.task in
     let k : IsTask s t = subst (λ o. AreTasks s o) c.in-Some.is c.self.invariant in
@@ -52,7 +52,7 @@ returns-in-None-clause-list c =
     ∙ ap (λ o. after_store (record { list = c.self.inside.list; members = c.self.inside.members; work = works_of o })) (sym c.in-Some.is) ∙ ap after_store c.self.view_is
 
 pub returns-in-None-clause-progress : goal.returns-in-None-clause-progress
-returns-in-None-clause-progress c =
+returns-in-None-clause-progress g c =
     let s = c.self.inside.members.schedule in
     let t = c.in-Some.task in
     let k : IsTask s t = subst (λ o. AreTasks s o) c.in-Some.is c.self.invariant in
