@@ -11,6 +11,7 @@
 --     HasMembers Q S s         the schedule s has queue heads that are Q alone, and of descriptors exactly those that are S
 --     is_linked_by c n q t y   the unfinished command c, of which n events were made, has linked the descriptor y of transfer t, or hasn't
 --                              unlinked it yet
+--     LinksWaiting d           each descriptor that waits in a frame is linked
 --     IsQueueOf d q            q is the queue head of an interrupt endpoint that is in its frames
 --     IsStanding d m           m is the descriptor of a transfer that stands in its frame
 --     IsUnderWay d c           what the unfinished command has still to link or to unlink
@@ -125,6 +126,13 @@ pub record IsQueueOf (d : DriverContent) (q : Queue) : Type 0 where
   pub placed : framed.placement ≡ Some place
   pub is : Each q ≡ queue_member framed.queue place
   pub valid : is_queue q ≡ true
+
+-- where no command is unfinished, a descriptor that waits in a frame is linked
+abbrev pub LinksWaiting : DriverContent → Type 0
+LinksWaiting d =
+    (t : ℕ) (x : Endpoint) (y : Transfer) → d.command ≡ None → slice_get d.transfers t ≡ Some y → is_descriptor y.sort ≡ true
+    → slice_get d.endpoints y.endpoint ≡ Some x → x.chained ≡ true → y.reported ≡ false
+    → is_linked d.periodic.list.members.schedule (descriptor_member d.periodic.notes y.first) ≡ true
 
 -- ---- the unfinished command
 
