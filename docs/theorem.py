@@ -26,9 +26,10 @@ SAYS = {
     "owned": "At each moment the Lent blocks are those that the driver still needs, each run of blocks with one owner, but for those that the unfinished command has still to lend.",
     "schedule": "At each moment the driver's list has in each frame the queue heads of the interrupt endpoints that are placed there and not cancelled, each once and no others, and of each isochronous "
                 "endpoint at most one waiting descriptor, due in that frame. An endpoint that is being cancelled keeps its placement, and with it its bus time, until it is given back, though no frame need have its queue head.",
-    "memory": "At each moment the runs of the driver's blocks, the frame list and its links, the ring and words 1 and 2 of the queue heads stand in memory as the driver's "
-              "content says, also between two stores of a link; the walk of the ring stands at queue heads of the ring or at those that left since the last answered doorbell was "
-              "rung; and the controller runs, meets no fault and is refused no word. Of what qTDs, overlays and the words of isochronous descriptors other than links hold it says nothing.",
+    "memory": "At each moment, read from the words of memory, the ring is the head and the queue head of each live bulk and control endpoint, each once, with words 1 and 2 of its endpoint; and each frame's links lead "
+              "through its members of the driver's list, also between the stores by which one is opened, linked or unlinked. An endpoint that isn't cancelled is in the ring or in its frames, and a descriptor that waits is "
+              "linked once no command is unfinished. The walk of the ring stands at queue heads of the ring or at those that left since the last answered doorbell was rung; and the controller runs, meets no fault and is "
+              "refused no word. Of what qTDs, overlays and the words of isochronous descriptors other than links hold it says nothing.",
     "reach": "At each moment all that the controller can come to from where it stands is Lent: the frame list and the ring's head, what either walk is at or holds a copy of, what links lead to, and of what "
              "works the qTDs and each byte of its buffer; no link leads to a frame span traversal node.",
     "owners": "From each moment to the next: each word that an event of the controller changes is one of its own, and none that an event of the driver, or a command, changes is one. Of what it can come to these are its own: "

@@ -1,20 +1,22 @@
--- At each moment of a script's run, whatever endpoints it opens and cancels, the driver's runs of blocks, its members of the frame list
--- and words 1 and 2 of its queue heads are in place (of qTDs, overlays and buffers nothing is said); the words of the ring stand for the
--- queue heads that are linked in it, each once, and those of the frame list and of its members for the driver's list, also while one is
--- linked or unlinked; the walk of the ring stands at these queue heads alone, or at those that left since the last answered doorbell was
--- rung; and the controller runs with both schedules on, meets no fault and is refused no word (EHCI 1.0, 2.3.1, 2.3.2, 3, 4.6, 4.8 and
--- 4.15.2.4).
---     IsWalking w            the numbers of each endpoint fit their fields; the walk is among the queue heads that it may reach; and
---                            content and registers agree on the doorbell
+-- At each moment of a script's run, whatever endpoints it opens and cancels, the words of the ring stand for the queue heads that are
+-- linked in it, each once, and those of the frame list and of its members for the driver's list, also while one is linked or unlinked; each
+-- endpoint that was opened and isn't cancelled is in the ring or in its frames; words 1 and 2 of the queue heads that the walk of the ring
+-- may meet are those of their endpoints; this walk stands at queue heads of the ring alone, or at those that left since the last answered
+-- doorbell was rung; and the controller runs with both schedules on, over this ring and this frame list, meets no fault and is refused no
+-- word (EHCI 1.0, 2.3.1, 2.3.2, 2.3.6, 2.3.7, 3.1, 3.6.2, 4.6, 4.8 and 4.15.2.4).
 --     linked_to command xs   the endpoints of which the queue heads are in the ring that memory shows: the newest isn't until its open's
 --                            last store
 --     AreOnce bs             no block is twice among these
 --     ReadsRing m d          as the words of memory tell it, the ring is the head and the queue head of each endpoint that is linked there,
 --                            each once, but for one whose open is unfinished; a bulk or control endpoint that was opened and isn't
 --                            cancelled is linked
---     IsAtWork fixed w       all that `IsInPlace` has is in place, the ring reads so, the words of memory stand for the driver's frame
---                            list, also while one of its members is linked or unlinked, and the controller runs: its next event isn't Idle,
---                            and isn't the fault
+--     ReadsFrameList m d     as the words of memory tell it, each frame has its members of the driver's list, in order, also while one is
+--                            linked or unlinked; it begins in block 0; a periodic endpoint that was opened and isn't cancelled is in its
+--                            frames; and each isochronous descriptor that waits for its harvest is linked, while no command is unfinished
+--     IsWalking w            the numbers of each endpoint fit their fields; the walk is among the queue heads that it may reach; and
+--                            content and registers agree on the doorbell
+--     IsAtWork fixed w       ring and frame list read so, queue heads have the words of their endpoints, and the controller runs: its next
+--                            event isn't Idle, and isn't the fault
 --     KeepsMemory s          so it is at each moment of the run of a script; the walk of the ring stands at queue heads of it alone, or at
 --                            those that have left since the last answered doorbell was rung (4.8.2); Host System Error is 0, and no refusal
 --                            is counted
@@ -32,15 +34,11 @@ use Rattle.bus_wire.specs.Bus.{Fixed, fixed_of}
 use Rattle.bus_world.specs.Budgets.{moment}
 use Rattle.bus_world.specs.World.{World, controller_next, kind_next}
 use Rattle.claims_base.specs.Controller.{GoesOn, base_of, opening_base}
-use Rattle.claims_driver.specs.FrameWords.{KeepsItsList}
-use Rattle.claims_driver.specs.InPlace.{IsInPlace}
+use Rattle.claims_driver.specs.FrameListMembers.{LinksWaiting}
+use Rattle.claims_driver.specs.FrameWords.{ListStands}
+use Rattle.claims_driver.specs.InPlace.{AreFixed}
 use Rattle.claims_driver.specs.Ring.{IsChain, link_in, members}
 use Rattle.claims_driver.specs.Walk.{AreNumbered, IsBellIn, IsWalkIn}
-
-pub record IsWalking (w : World) : Type 0 where
-  pub numbered : AreNumbered w.driver
-  pub walk : IsWalkIn w.driver w.registers w.control.walk
-  pub bell : IsBellIn w.driver w.registers
 
 -- ---- the ring in memory (4.8.1)
 
@@ -64,13 +62,30 @@ pub record ReadsRing (m : Mem) (d : DriverContent) : Type 0 where
   pub chain : IsChain (link_in m) head_block (ring_blocks d)
   pub once : AreOnce (head_block ∷ ring_blocks d)
 
+-- ---- the frame list in memory (3.1, 4.6)
+
+pub record ReadsFrameList (m : Mem) (d : DriverContent) : Type 0 where
+  pub begins : d.periodic.list.list ≡ 0
+  pub all :
+      (e : ℕ) (x : Endpoint) → slice_get d.endpoints e ≡ Some x → is_periodic x.desc.kind ≡ true → x.cancelled ≡ false
+      → x.chained ≡ true
+  pub waiting : LinksWaiting d
+  pub words : ListStands m d
+
+-- ---- the walk of the ring (4.8)
+
+pub record IsWalking (w : World) : Type 0 where
+  pub numbered : AreNumbered w.driver
+  pub walk : IsWalkIn w.driver w.registers w.control.walk
+  pub bell : IsBellIn w.driver w.registers
+
 -- ---- the whole
 
 pub record IsAtWork (fixed : Fixed) (w : World) : Type 0 where
-  pub place : IsInPlace w.memory w.driver
   pub ring : ReadsRing w.memory w.driver
-  -- each element of the frame list, each queue head and each descriptor in it leads on as the driver has it, also while one is linked or unlinked (3.1, 3.3.1, 3.4.1, 3.6)
-  pub list : KeepsItsList w.memory w.driver
+  pub list : ReadsFrameList w.memory w.driver
+  -- words 1 and 2 of queue heads are those of their endpoints (3.6.2)
+  pub queue_heads : AreFixed w.memory w.driver
   -- it runs, with both schedules enabled, over the frame list and the ring that the driver built
   pub registers : base_of w.registers ≡ opening_base
   pub works : kind_next w ≢ steps.Idle

@@ -1,5 +1,6 @@
--- At each moment of a script's run everything of the driver is in place in memory, the controller goes on, all that it can come to is Lent,
--- each word is written by its owner, what left is given back once it was let go, and links lead to live structures or to what left later.
+-- At each moment of a script's run the words of ring and frame list stand for the live endpoints, the controller goes on, all that it can
+-- come to is Lent, each word is written by its owner, what left is given back once it was let go, and links lead to live structures or to
+-- what left later.
 use Rattle.std.proofs.Common.{ℕ, List, Option}
 use Rattle.claims_world.specs.Memory.{KeepsMemory}
 use Rattle.claims_world.specs.Links.{KeepsLinks}

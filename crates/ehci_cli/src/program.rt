@@ -68,12 +68,12 @@ use usb_base::{Sink, Source};
 /// unlinked, and of each isochronous endpoint at most one descriptor that waits. A cancelled endpoint stays placed until it is given
 /// back.
 ///
-/// And at each such moment, whatever endpoints it opens and cancels, the runs of the driver's blocks, its frame list, the links of its
-/// members, the ring and words 1 and 2 of queue heads stand in memory for the driver's content, also while a structure is linked or
-/// unlinked; the walk of the ring stands at queue heads of the ring, or at those that left since the last answered doorbell was rung;
-/// and the controller runs with both schedules on, meets no fault and is refused no word. All that it can come to from where it stands, by
-/// the frame list, the ring, its cursors and copies, by links, and by what works to qTDs and bytes of buffers, is Lent. Of what overlays and
-/// qTDs hold this says nothing else.
+/// And at each such moment, whatever endpoints it opens and cancels, the words of the ring stand for its live queue heads, each once, and
+/// those of the frame list and of its members for the driver's list, also while a structure is linked or unlinked; words 1 and 2 of the
+/// ring's queue heads are those of their endpoints; the walk of the ring stands at queue heads of the ring, or at those that left since
+/// the last answered doorbell was rung; and the controller runs with both schedules on, meets no fault and is refused no word. All that
+/// it can come to from where it stands, by the frame list, the ring, its cursors and copies, by links, and by what works to qTDs and
+/// bytes of buffers, is Lent. Of what overlays and qTDs hold this says nothing else.
 ///
 /// From each such moment to the next the controller writes words of its own alone, and no one else writes one of these. Of what it can
 /// come to these are its own: words 3 to 11 of a queue head that isn't halted, the token of an active qTD, the word of an active

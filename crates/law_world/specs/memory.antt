@@ -9,6 +9,7 @@ pub mod Laws
 pub mod Scripts
 pub mod MicrophoneSamples
 pub mod PlacedLaws
+pub mod InPlace
 pub mod Samples
 pub mod Reasons
 pub mod running_worlds

@@ -4,3 +4,4 @@ pub mod LeftFrames
 pub mod LeftQueues
 pub mod Owning
 pub mod OwningBytes
+pub mod Reading

@@ -3,3 +3,4 @@ pub mod GivenBack
 pub mod LeftFrames
 pub mod LeftQueues
 pub mod OwnerRows
+pub mod Structures

@@ -8,3 +8,4 @@ pub mod given_back;
 pub mod left_frames;
 pub mod left_queues;
 pub mod owners;
+pub mod structures;

@@ -1,4 +1,5 @@
 //! What is so of the memory of each script at each moment of its run, whatever endpoints it opens and cancels (EHCI 1.0, 2.3.1, 2.3.2, 3, 4.6, 4.8 and 4.15.2.4).
+ghost use Rattle.law_world.specs.memory.InPlace.{MixedHasAllInPlace, TextsKeepAllInPlace};
 ghost use Rattle.law_world.specs.memory.Reasons.{MixedHasReasons, TextsKeepReasons};
 ghost use Rattle.law_world.specs.memory.PlacedLaws.{MixedIsAtWork, ScriptsStayMixed, TextsKeepMemory};
 ghost use Rattle.law_world.specs.memory.Scripts.{TextsFit, TextsOpenFitting};
@@ -18,8 +19,19 @@ pub fn each_moment_is_mixed()
     ensures { ScriptsStayMixed }
 {}
 
-/// In a mixed world the driver's runs, members and fixed words are in place, the words of the ring and of the frame list stand for the driver's, and the controller runs: its next event isn't
-/// Idle, and isn't the fault.
+/// In a mixed world the driver's runs, members and fixed words are in place; the words of memory stand for its frame list, and what is still
+/// to be stored keeps to it.
+pub fn a_mixed_world_has_all_in_place()
+    ensures { MixedHasAllInPlace }
+{}
+
+/// So it is at each moment of each script that a text spells.
+pub fn each_text_keeps_all_in_place()
+    ensures { TextsKeepAllInPlace }
+{}
+
+/// In a mixed world the words of the ring and of the frame list stand for the driver's, queue heads have the words of their endpoints, and
+/// the controller runs: its next event isn't Idle, and isn't the fault.
 pub fn a_mixed_world_is_at_work()
     ensures { MixedIsAtWork }
 {}

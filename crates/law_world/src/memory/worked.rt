@@ -9,6 +9,7 @@ ghost use Rattle.bus_world.specs.Budgets.{moment};
 ghost use Rattle.claims_world.specs.Memory.{KeepsMemory, ring_blocks};
 ghost use Rattle.bus_world.specs.World.{controller_parts};
 ghost use Rattle.claims_world.specs.Reach.{Reaches, IsLentAt, TheList, QueueAt, QtdAt};
+ghost use Rattle.law_world.specs.memory.InPlace.{HasAllInPlace, BreaksInPlace};
 ghost use Rattle.law_world.specs.memory.Samples.{unlent, IsMixedScript, PlansFirst, keyboard_and_disk, typed_at, typed_row};
 
 /// A script that opens an interrupt endpoint behind a hub and a bulk one beside it, and asks the first for eight bytes, meets the premises: it fits, says bytes, and what it
@@ -20,6 +21,12 @@ pub fn a_script_with_a_keyboard_and_a_disk()
 /// So its memory is kept at each moment.
 pub fn it_keeps_its_memory()
     ensures { KeepsMemory keyboard_and_disk }
+{}
+
+/// So all that its driver has is in place at each moment. A driver whose book has no run hasn't its frame list in place.
+pub fn its_structures_are_in_place()
+    ensures holds { (k : ℕ) → HasAllInPlace (moment keyboard_and_disk k).world }
+    ensures breaks { BreaksInPlace }
 {}
 
 /// The keyboard's endpoint is given the first of its placements.

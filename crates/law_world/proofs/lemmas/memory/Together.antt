@@ -11,6 +11,7 @@ use Rattle.law_driver.specs.queued_drivers.Commands.{OpensFitting}
 use Rattle.law_world.specs.memory.framed_memory.IsochronousLaws.{OpensNumbered}
 use Rattle.law_world.specs.memory.Laws.{OpensMixed}
 use Rattle.law_world.specs.memory.Scripts.{FitsLine, FittingLine}
+use Rattle.law_world.specs.memory.InPlace.{TextsKeepAllInPlace}
 use Rattle.law_world.specs.memory.PlacedLaws.{MixedLine, MixedIsAtWork, ScriptsStayMixed, TextsKeepMemory}
 use Rattle.law_world.proofs.lemmas.memory.Texts.{texts_fit}
 use Rattle.law_world.proofs.lemmas.memory.FittingTexts.{texts_open_fitting}
@@ -18,7 +19,7 @@ use Rattle.law_world.proofs.lemmas.memory.Opening.{new_world_is_mixed}
 use Rattle.law_world.proofs.lemmas.memory.Controller.{controller_keeps_mixed}
 use Rattle.law_world.proofs.lemmas.memory.Driving.{driver_keeps_mixed}
 use Rattle.law_world.proofs.lemmas.memory.CommandKeeping.{command_keeps_mixed}
-use Rattle.law_world.proofs.lemmas.memory.AtWork.{mixed_works, keeps_while_mixed}
+use Rattle.law_world.proofs.lemmas.memory.AtWork.{mixed_has_all_in_place, mixed_works, keeps_while_mixed}
 use Rattle.law_world.proofs.lemmas.memory.Moments.{StaysMixed, stay_mixed}
 use Rattle.script_types.specs.declared.scripts.Script.{Script}
 use Rattle.script_text.specs.Faults.{Spells}
@@ -54,3 +55,6 @@ texts_stay_mixed text s spelled =
 
 pub texts_keep_memory : TextsKeepMemory
 texts_keep_memory text s spelled = keeps_while_mixed controller_keeps_mixed s (texts_stay_mixed text s spelled)
+
+pub texts_keep_all_in_place : TextsKeepAllInPlace
+texts_keep_all_in_place text s spelled k = mixed_has_all_in_place (moment s k).world (texts_stay_mixed text s spelled k)
