@@ -11,26 +11,17 @@
 --     StandFor p word          the words stand for the list: each frame's lead to its chain, or what is under way has begun so
 --     ListStands m d           its members are kept in order, and the words of memory stand for it, also while a member is linked or
 --                              unlinked
---     MendsAside d             none of them goes into the run of the frame list, which begins in block 0
---     LeadsOn word p x         the link of x leads to what stands first in its frame
---     AreLeading m d           once they were lent, so does that of each one that is still to be linked
---     IsToLink d first         before that nothing is under way, and once they have their frames each of them is to be linked
---     AreToLink d              so it is of an unfinished command with such descriptors
---     KeepsItsList m d         the words of memory stand for it; what a stalled endpoint is owed goes elsewhere; and isochronous
---                              descriptors that are still to be linked lead to what stands first in their frames
-use Rattle.std.specs.List.{AllByRecursion, list_any}
-use Rattle.std.specs.Prelude.{◌≡◌, ℕ, ◌<◌, ◌≤◌, Bool, true, nat_eq, List, [], ◌∷◌, take, Option, Some, if◌then◌else◌, None}
+use Rattle.std.specs.List.{list_any}
+use Rattle.std.specs.Prelude.{◌≡◌, ℕ, ◌<◌, Bool, true, nat_eq, List, [], ◌∷◌, take, Option, Some, if◌then◌else◌, None}
 use Rattle.word_mem.specs.Memory.{Mem, word_at}
 use Rattle.drv_chains.specs.declared.members.Member.{Member}
 use Rattle.drv_chains.specs.declared.members.Predecessor.{Predecessor}
 use Rattle.drv_chains.specs.declared.members.Predecessor.TheVariants.{Element, After}
-use Rattle.drv_chains.specs.Chains.{Schedule, first_of, id_of, chain, successor}
+use Rattle.drv_chains.specs.Chains.{Schedule, id_of, chain, successor}
 use Rattle.drv_members.specs.Members.{IsKept, IsMember, without_member, is_linked, frame_of}
 use Rattle.drv_periodic.specs.declared.work.Work.{Work}
 use Rattle.drv_periodic.specs.Periodic.{Periodic, link_to, words_of, address_of, value_of}
-use Rattle.drv_table.specs.declared.content.Command.TheVariants as unfinished
 use Rattle.drv_table.specs.DriverContent.{DriverContent}
-use Rattle.claims_driver.specs.FrameListMembers.{Placed, is_in_names, member_of, placed_in}
 
 unfoldable pub Leads : ℕ → (ℕ → ℕ) → Predecessor → List Member → Type 0
 Leads list word p [] = word (address_of list p) ≡ 1
@@ -76,27 +67,3 @@ pub record IsInOrder (p : Periodic) : Type 0 where
 pub record ListStands (m : Mem) (d : DriverContent) : Type 0 where
   pub order : IsInOrder d.periodic.list
   pub words : StandFor d.periodic.list (word_at m)
-
-abbrev pub MendsAside : DriverContent → Type 0
-MendsAside d = AllByRecursion (λ w. 1 ≤ w.queue) d.mends
-
-abbrev pub LeadsOn : (ℕ → ℕ) → Periodic → Member → Type 0
-LeadsOn word p x = word (address_of p.list (After x)) ≡ link_to (first_of (chain p.members.schedule (frame_of x)))
-
-abbrev pub AreLeading : Mem → DriverContent → Type 0
-AreLeading m d =
-    (e first count : ℕ) → d.command ≡ Some (unfinished.Iso e first count) → 2 ≤ d.made
-    → AllByRecursion (LeadsOn (word_at m) d.periodic.list) d.periodic.queued
-
-pub record IsToLink (d : DriverContent) (first : ℕ) : Type 0 where
-  pub idle : d.periodic.list.work ≡ None
-  pub all : d.made ≡ 1 → (t : ℕ) → (y : Placed) → first ≤ t → placed_in d.endpoints d.transfers t ≡ Some y → is_in_names (id_of (member_of d.periodic y)) d.periodic.queued ≡ true
-
-abbrev pub AreToLink : DriverContent → Type 0
-AreToLink d = (e first count : ℕ) → d.command ≡ Some (unfinished.Iso e first count) → d.made ≤ 1 → IsToLink d first
-
-pub record KeepsItsList (m : Mem) (d : DriverContent) : Type 0 where
-  pub list : ListStands m d
-  pub mends : MendsAside d
-  pub to_link : AreToLink d
-  pub leading : AreLeading m d

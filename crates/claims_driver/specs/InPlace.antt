@@ -1,12 +1,8 @@
--- The runs and members of a driver are in place (EHCI 1.0, 3, 4.6 and 4.8), and the words of a queue head that no event writes are those
--- of its endpoint (3.6.2).
+-- The words of a queue head that no event writes are those of its endpoint (EHCI 1.0, 3.6.2).
 --     characteristics x, capabilities x   these words of the endpoint x
 --     IsMet d e x                         a walk may meet its queue head: it is in the ring, or has left since the last answered doorbell
 --                                         was rung
 --     AreFixed m d                        the words stand
---     IsInPlace m d                       each structure stands in a run of its own; runs are lent, but those that the command has still to
---                                         lend; the frame list and the ring have their members, and each endpoint in its frames its queue
---                                         head there; and the fixed words of queue heads are those of their endpoints
 use Rattle.std.specs.Prelude.{◌≡◌, ℕ, ◌+◌, ◌*◌, ◌⊎◌, true, ◌++◌, slice_get, slice_index, Some}
 use Rattle.usb_base.specs.declared.endpoints.EpDesc.{EpDesc}
 use Rattle.word_mem.specs.Memory.{Mem, word_at}
@@ -14,9 +10,7 @@ use Rattle.qh_qtd.specs.QueueHead.{qh_words}
 use Rattle.drv_table.specs.declared.content.Endpoint.{Endpoint}
 use Rattle.drv_table.specs.DriverContent.{DriverContent}
 use Rattle.drv_table.specs.Words.{head_block, queue_head, opening_head}
-use Rattle.claims_driver.specs.FrameListMembers.{HasQueues}
-use Rattle.claims_driver.specs.LentRuns.{AreLent}
-use Rattle.claims_driver.specs.Ring.{IsAmong, IsSound}
+use Rattle.claims_driver.specs.Ring.{IsAmong}
 
 -- they are the same whatever the queue head leads to
 abbrev pub characteristics : EpDesc → ℕ
@@ -35,9 +29,3 @@ pub record IsFixed (m : Mem) (b first second : ℕ) : Type 0 where
 pub record AreFixed (m : Mem) (d : DriverContent) : Type 0 where
   pub each : (e : ℕ) (x : Endpoint) → slice_get d.endpoints e ≡ Some x → IsMet d e x → IsFixed m x.queue (characteristics x.desc) (capabilities x.desc)
   pub head : IsFixed m head_block (slice_index (qh_words opening_head) 1) (slice_index (qh_words opening_head) 2)
-
-pub record IsInPlace (m : Mem) (d : DriverContent) : Type 0 where
-  pub sound : IsSound m d
-  pub lent : AreLent d
-  pub queues : HasQueues d
-  pub fixed : AreFixed m d

@@ -6,7 +6,7 @@
 //! - specs/FrameListMembers.antt, specs/DueMembers.antt, specs/FrameWords.antt: what stands in the frame list, what is due in a frame, and the words of both.
 //! - specs/Unlinked.antt: what may still be met of those that left the frame list.
 //! - specs/Ring.antt, specs/Walk.antt: the ring of queue heads, and where its walk stands.
-//! - specs/InPlace.antt: a driver's runs, members and fixed words are in place.
+//! - specs/InPlace.antt: the fixed words of queue heads are in place.
 //! - specs/Scripts.antt: scripts whose endpoints are high-speed bulk and control ones.
 //!
 //! There is no code, and no proof.

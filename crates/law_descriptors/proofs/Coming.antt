@@ -18,7 +18,8 @@ use Rattle.drv_table.specs.declared.content.Endpoint.{Endpoint}
 use Rattle.drv_periodic_table.specs.Periodic.{note_at, descriptor_member}
 use Rattle.drv_chains.specs.declared.members.Member.{Member}
 use Rattle.drv_chains.specs.Chains.{id_of}
-use Rattle.claims_driver.specs.FrameListMembers.{framed_of, is_chained, IsWaitingOf}
+use Rattle.claims_driver.specs.FrameListMembers.{framed_of, is_chained}
+use Rattle.law_driver.specs.listed_members.Members.{IsWaitingOf}
 use Rattle.law_driver.proofs.lemmas.listed_members.Standing.{IsSeen, seen, descriptor_block}
 use Rattle.law_structures.specs.lent_structures.Structures.{StructureSets}
 use Rattle.law_frames.specs.Met.{Kind}

@@ -15,7 +15,7 @@ use Rattle.mem_runs.proofs.Standing.{stands_taken, stands_lent, stands_word, len
 use Rattle.link_words.specs.Links.{link_read}
 use Rattle.itd_sitd.specs.Itd.{itd_words}
 use Rattle.drv_table.specs.Opening.{opening_memory, list_run, head_run}
-use Rattle.claims_driver.specs.InPlace.{IsInPlace}
+use Rattle.law_driver.specs.in_place.InPlace.{IsInPlace}
 use Rattle.law_driver.proofs.lemmas.in_place.Opened.{opening_in_place}
 use Rattle.law_structures.specs.lent_structures.Structures.{Isochronous, Structures, StructureSets, put, Has, Holds}
 use Rattle.law_structures.specs.lent_structures.Changes.{Leaves, IsNew}

@@ -10,7 +10,8 @@ use Rattle.drv_table.specs.Kinds.{is_iso}
 use Rattle.claims_driver.specs.Owners.{Owner, FrameList, Head, Described, EndpointRuns, TransferRuns, runs_of_endpoint, runs_of_transfer, endpoint_in, transfer_in, is_descriptor, ArePieces, IsDescribed, views_of}
 use Rattle.claims_driver.specs.Leaving.{IsSteady, owes, HasOwners}
 use Rattle.law_structures.proofs.lemmas.lent_structures.Names.{not_same}
-use Rattle.claims_driver.specs.FrameListMembers.{Placed, placed_in, StandsAs, IsListed}
+use Rattle.claims_driver.specs.FrameListMembers.{Placed, placed_in}
+use Rattle.law_driver.specs.listed_members.Members.{StandsAs, IsListed}
 use Rattle.law_driver.proofs.lemmas.listed_members.Opening.{opening_listed}
 use Rattle.op_registers.specs.RegisterFile.{RegisterFile}
 use Rattle.word_mem.specs.Memory.{Mem}

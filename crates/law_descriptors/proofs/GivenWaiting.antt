@@ -22,7 +22,7 @@ use Rattle.claims_driver.specs.Owners.{TransferRuns, Views, is_descriptor, runs_
 use Rattle.claims_driver.specs.Leaving.{leaves_frames, HasOwners}
 use Rattle.law_driver.proofs.lemmas.run_owners.Freeing.{descriptors_freed}
 use Rattle.law_driver.proofs.lemmas.run_owners.Released.{set_here, set_there, AreUntouched, cancel_same}
-use Rattle.claims_driver.specs.FrameListMembers.{IsListed}
+use Rattle.law_driver.specs.listed_members.Members.{IsListed}
 use Rattle.hc_core.specs.Controller.{Content}
 use Rattle.law_structures.specs.lent_structures.Structures.{StructureSets, Tells}
 use Rattle.law_ring.specs.Hand.{Hand}

@@ -21,7 +21,8 @@ use Rattle.drv_table.specs.declared.content.Command.TheVariants as unfinished
 use Rattle.drv_table.specs.DriverContent.{DriverContent}
 use Rattle.drv_table.specs.Commands.{removes_members, events_of, links, advance, advanced_by, or_finished, finished, no_command}
 use Rattle.drv_table.specs.Kinds.{is_iso}
-use Rattle.claims_driver.specs.FrameListMembers.{Framed, IsUnderWay, IsUnchaining, IsWaitingOf, AreLeaving, IsListed}
+use Rattle.claims_driver.specs.FrameListMembers.{Framed}
+use Rattle.law_driver.specs.listed_members.Members.{IsUnderWay, IsUnchaining, IsWaitingOf, AreLeaving, IsListed}
 use Rattle.law_driver.proofs.lemmas.listed_members.Standing.{IsSeen, seen, IsFramed, framed}
 use Rattle.law_frames.specs.Met.{Kind}
 use Rattle.law_descriptors.specs.Removed.{IsRemovedAt, a_queue, a_waiting, IsRemovedSince, IsUnchainedNow}

@@ -26,7 +26,7 @@ use Rattle.drv_table.specs.Commands.{removes_members, events_of, links, advance,
 use Rattle.claims_driver.specs.Leaving.{HasOwners}
 use Rattle.law_driver.specs.run_owners.Due.{IsLinkOf}
 use Rattle.law_driver.proofs.lemmas.run_owners.Rows.{due_owned, due_orderly}
-use Rattle.claims_driver.specs.FrameListMembers.{IsListed}
+use Rattle.law_driver.specs.listed_members.Members.{IsListed}
 use Rattle.law_driver.proofs.lemmas.listed_members.Events.{row_listed}
 use Rattle.law_frame_list.proofs.lemmas.list_spread.Spreading.{members_spread}
 use Rattle.law_frame_list.proofs.lemmas.list_stores.Making.{store_written, store_stands}

@@ -23,7 +23,7 @@ use Rattle.law_frame_words.proofs.lemmas.frame_words.InChains.{fewer_in, words_i
 use Rattle.law_frame_list.specs.list_closed.Closed.{IsNext}
 use Rattle.law_frame_list.proofs.lemmas.list_closed.Chained.{still_linked, successor_is, other_words}
 use Rattle.law_frame_list.proofs.lemmas.list_spread.Spreading.{queue_there, standing_there}
-use Rattle.claims_driver.specs.FrameListMembers.{IsListed, IsQueueOf, IsStanding}
+use Rattle.law_driver.specs.listed_members.Members.{IsListed, IsQueueOf, IsStanding}
 use Rattle.drv_periodic.specs.declared.work.Work.{Work}
 use Rattle.drv_periodic.specs.declared.work.Store.{Store}
 use Rattle.drv_periodic.specs.Periodic.{Periodic, link_to, address_of, words_of, value_of, store_at, store_of, is_more, after_work, after_store}

@@ -26,7 +26,7 @@ use Rattle.drv_table.specs.Parts.{Parts}
 use Rattle.drv_table.specs.Removals.{after_unlink, stored_link, descriptor_leaving}
 use Rattle.claims_driver.specs.Leaving.{HasOwners}
 use Rattle.law_driver.proofs.lemmas.run_owners.Rows.{due_owned, due_orderly}
-use Rattle.claims_driver.specs.FrameListMembers.{IsUnderWay, IsListed}
+use Rattle.law_driver.specs.listed_members.Members.{IsUnderWay, IsListed}
 use Rattle.law_driver.proofs.lemmas.listed_members.Events.{row_listed}
 use Rattle.law_driver.proofs.lemmas.listed_members.Unlinks.{below_frames}
 use Rattle.law_frame_list.proofs.lemmas.list_spread.Spreading.{members_spread}

@@ -37,7 +37,8 @@ use Rattle.law_driver.proofs.lemmas.run_owners.Reasons.{each_is_due}
 use Rattle.law_driver.proofs.lemmas.run_owners.Stays.{begun_notes}
 use Rattle.drv_table.specs.declared.content.Transfer.{Transfer}
 use Rattle.drv_periodic_table.specs.declared.content.DescriptorNote.{DescriptorNote}
-use Rattle.claims_driver.specs.FrameListMembers.{placed_in, IsWaitingOf, IsUnderWay, IsListed}
+use Rattle.claims_driver.specs.FrameListMembers.{placed_in}
+use Rattle.law_driver.specs.listed_members.Members.{IsWaitingOf, IsUnderWay, IsListed}
 use Rattle.law_descriptors.specs.Queued.{LinksQueued, DescriptorsComeFirst, LeavingComeFirst}
 use Rattle.law_descriptors.proofs.Coming.{members_come}
 use Rattle.law_descriptors.proofs.Chained.{transfer_command, unlink_command, endpoint_command, removed_command, harvest_command, out_of_ring}

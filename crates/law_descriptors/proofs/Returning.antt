@@ -21,7 +21,8 @@ use Rattle.drv_table.specs.Parts.{Parts}
 use Rattle.claims_driver.specs.Owners.{Owner, QueueHead, Dummy, Element, Described, Buffer, is_descriptor, runs_of_transfer, runs_of_endpoint, views_of}
 use Rattle.claims_driver.specs.Leaving.{times, transfers_in, transfer_before, endpoints_in, endpoint_before, owes, leaves_frames, HasOwners}
 use Rattle.law_driver.proofs.lemmas.run_owners.Orders.{removed_first}
-use Rattle.claims_driver.specs.FrameListMembers.{Placed, placed_of, placed_in, is_chained, framed_in, is_among, IsStanding, IsQueueOf, IsListed}
+use Rattle.claims_driver.specs.FrameListMembers.{Placed, placed_of, placed_in, is_chained, framed_in, is_among}
+use Rattle.law_driver.specs.listed_members.Members.{IsStanding, IsQueueOf, IsListed}
 use Rattle.law_driver.proofs.lemmas.listed_members.Standing.{descriptor_placed, standing_block, why_stands, times_among}
 use Rattle.law_driver.proofs.lemmas.listed_members.Owned.{queue_owned}
 use Rattle.law_frame_list.proofs.lemmas.list_spread.Spreading.{queue_there, standing_there}

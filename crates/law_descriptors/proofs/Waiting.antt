@@ -19,7 +19,8 @@ use Rattle.drv_table.specs.Kinds.{is_iso}
 use Rattle.claims_driver.specs.Owners.{Described, is_descriptor, runs_of_transfer, runs_of_endpoint, views_of}
 use Rattle.claims_driver.specs.Leaving.{times, transfers_in, endpoints_in, owes, leaves_frames, HasOwners}
 use Rattle.law_driver.proofs.lemmas.run_owners.Orders.{endpoint_first}
-use Rattle.claims_driver.specs.FrameListMembers.{Placed, framed_of, placed_of, placed_in, is_chained, framed_in, is_among, IsStanding, IsQueueOf, IsListed}
+use Rattle.claims_driver.specs.FrameListMembers.{Placed, framed_of, placed_of, placed_in, is_chained, framed_in, is_among}
+use Rattle.law_driver.specs.listed_members.Members.{IsStanding, IsQueueOf, IsListed}
 use Rattle.law_driver.proofs.lemmas.listed_members.Standing.{descriptor_placed, standing_block, why_stands, times_among}
 use Rattle.law_driver.proofs.lemmas.listed_members.Owned.{queue_owned}
 use Rattle.law_frame_list.proofs.lemmas.list_spread.Spreading.{queue_there, standing_there}

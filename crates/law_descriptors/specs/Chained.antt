@@ -14,7 +14,7 @@ use Rattle.drv_table.specs.Offers.{offered}
 use Rattle.drv_table.specs.Parts.{Parts}
 use Rattle.drv_table.specs.Rows.{driver_row, after_driver_row}
 use Rattle.claims_driver.specs.Leaving.{HasOwners}
-use Rattle.claims_driver.specs.FrameListMembers.{IsListed}
+use Rattle.law_driver.specs.listed_members.Members.{IsListed}
 use Rattle.law_descriptors.specs.ListRows.{LeavesChained}
 
 abbrev pub NewDriverLeavesChained : Type 0

@@ -18,7 +18,7 @@ use Rattle.claims_driver.specs.Leaving.{HasOwners}
 use Rattle.claims_driver.specs.LentRuns.{still_lends, AreLent}
 use Rattle.drv_chains.specs.declared.members.Member.{Member}
 use Rattle.drv_chains.specs.Chains.{id_of}
-use Rattle.claims_driver.specs.FrameListMembers.{IsWaitingOf}
+use Rattle.law_driver.specs.listed_members.Members.{IsWaitingOf}
 use Rattle.hc_core.specs.Controller.{Content}
 use Rattle.law_structures.specs.lent_structures.Structures.{StructureSets}
 use Rattle.law_ring.specs.Hand.{Hand}

@@ -29,7 +29,7 @@ use Rattle.law_descriptors.specs.Described.{AreDescribed}
 use Rattle.law_descriptors.specs.Both.{both}
 use Rattle.law_descriptors.specs.Recent.{AreRecent}
 use Rattle.law_descriptors.specs.ListRows.{ComesFirst}
-use Rattle.claims_driver.specs.FrameListMembers.{IsWaitingOf, IsListed}
+use Rattle.law_driver.specs.listed_members.Members.{IsWaitingOf, IsListed}
 
 abbrev pub LinksQueued : DriverContent → Type 0
 LinksQueued d = (e t count : ℕ) (w : Work) → d.command ≡ Some (unfinished.Iso e t count) → d.periodic.list.work ≡ Some w → (2 ≤ d.made) × IsWaitingOf d e t w.member

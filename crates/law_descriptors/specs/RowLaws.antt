@@ -10,7 +10,7 @@ use Rattle.drv_periodic.specs.Periodic.{address_of}
 use Rattle.law_frame_words.specs.frame_words.InWords.{IsSpread}
 use Rattle.link_words.specs.Links.{link_read}
 use Rattle.drv_table.specs.DriverContent.{DriverContent}
-use Rattle.claims_driver.specs.FrameListMembers.{IsListed}
+use Rattle.law_driver.specs.listed_members.Members.{IsListed}
 use Rattle.claims_driver.specs.FrameWords.{ListStands}
 use Rattle.hc_core.specs.declared.controller.MicroframePart.TheVariants.{Over}
 use Rattle.hc_core.specs.Controller.{Content, began}

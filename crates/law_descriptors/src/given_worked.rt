@@ -6,7 +6,7 @@ ghost use Rattle.drv_table.specs.declared.rows.DriverRow.TheVariants as rows;
 ghost use Rattle.drv_table.specs.Rows.{driver_row};
 ghost use Rattle.claims_driver.specs.Owners.{views_of};
 ghost use Rattle.claims_driver.specs.Leaving.{HasOwners};
-ghost use Rattle.claims_driver.specs.FrameListMembers.{IsListed};
+ghost use Rattle.law_driver.specs.listed_members.Members.{IsListed};
 ghost use Rattle.law_structures.specs.lent_structures.Structures.{Isochronous};
 ghost use Rattle.law_ring.specs.Hand.{Empty};
 ghost use Rattle.claims_base.specs.Controller.{opening_base};

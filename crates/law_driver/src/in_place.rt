@@ -16,7 +16,7 @@ ghost use Rattle.drv_table.specs.Offers.{offered, IsOffered};
 ghost use Rattle.drv_table.specs.Opening.{opening};
 ghost use Rattle.drv_table.specs.Parts.{Parts};
 ghost use Rattle.drv_table.specs.Rows.{driver_row, after_driver_row};
-ghost use Rattle.claims_driver.specs.InPlace.{IsInPlace};
+ghost use Rattle.law_driver.specs.in_place.InPlace.{IsInPlace};
 ghost use Rattle.law_driver.specs.in_place.Run.{IsElsewhere, Move, StaysInPlace};
 
 /// A driver that was just built, over a memory of whole pages, has everything in place.

@@ -20,7 +20,8 @@ ghost use Rattle.drv_table.specs.Parts.{Parts};
 ghost use Rattle.drv_table.specs.Rows.{driver_row, after_driver_row};
 ghost use Rattle.claims_driver.specs.Leaving.{HasOwners};
 ghost use Rattle.law_driver.specs.listed_members.Listed.{HaveRuns};
-ghost use Rattle.claims_driver.specs.FrameListMembers.{LinksWaiting, IsListed};
+ghost use Rattle.claims_driver.specs.FrameListMembers.{LinksWaiting};
+ghost use Rattle.law_driver.specs.listed_members.Members.{IsListed};
 
 /// When the driver was built nothing is in the frame list.
 pub fn opening_list_has_its_members()

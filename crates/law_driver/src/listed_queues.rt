@@ -17,8 +17,8 @@ ghost use Rattle.drv_table.specs.Opening.{opening};
 ghost use Rattle.drv_table.specs.Parts.{Parts};
 ghost use Rattle.drv_table.specs.Rows.{driver_row, after_driver_row};
 ghost use Rattle.claims_driver.specs.Leaving.{HasOwners};
-ghost use Rattle.claims_driver.specs.FrameListMembers.{IsListed, HasQueues};
-ghost use Rattle.law_driver.specs.listed_queues.Queues.{LinksQueues, KeepsQueues};
+ghost use Rattle.law_driver.specs.listed_members.Members.{IsListed};
+ghost use Rattle.law_driver.specs.listed_queues.Queues.{HasQueues, LinksQueues, KeepsQueues};
 
 /// When the driver was built there is no endpoint, and room for the queue heads of all that may be opened.
 pub fn opening_has_queue_heads()

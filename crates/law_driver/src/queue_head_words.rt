@@ -18,7 +18,7 @@ ghost use Rattle.drv_table.specs.Offers.{offered};
 ghost use Rattle.drv_table.specs.Opening.{opening};
 ghost use Rattle.drv_table.specs.Parts.{Parts};
 ghost use Rattle.drv_table.specs.Rows.{driver_row, after_driver_row};
-ghost use Rattle.claims_driver.specs.Ring.{IsSound};
+ghost use Rattle.law_driver.specs.in_place.InPlace.{IsSound};
 ghost use Rattle.claims_driver.specs.InPlace.{AreFixed};
 ghost use Rattle.law_driver.specs.queue_head_words.Fixed.{KeepsFixed};
 

@@ -20,7 +20,9 @@ ghost use Rattle.drv_table.specs.Parts.{Parts};
 ghost use Rattle.drv_table.specs.Rows.{driver_row, after_driver_row};
 ghost use Rattle.drv_table.specs.Words.{head_block};
 ghost use Rattle.claims_driver.specs.Leaving.{HasOwners};
-ghost use Rattle.claims_driver.specs.Ring.{link_in, members, IsChain, IsRing, IsSound};
+ghost use Rattle.claims_driver.specs.Ring.{link_in, members, IsChain};
+ghost use Rattle.law_driver.specs.ring_members.Words.{IsRing};
+ghost use Rattle.law_driver.specs.in_place.InPlace.{IsSound};
 ghost use Rattle.law_driver.specs.ring_members.Ring.{HasQueue, KeepsRing};
 
 /// When the driver was built the head leads to itself.

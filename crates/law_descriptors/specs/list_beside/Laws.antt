@@ -18,9 +18,9 @@ use Rattle.law_ring.specs.Hand.{Hand}
 use Rattle.claims_base.specs.Controller.{Base}
 use Rattle.law_controller.specs.controlled_streams.Control.{FrameList}
 use Rattle.law_driver_ring.specs.Inventory.{SameSorts}
-use Rattle.claims_driver.specs.InPlace.{IsInPlace}
+use Rattle.law_driver.specs.in_place.InPlace.{IsInPlace}
 use Rattle.law_driver.specs.in_place.Run.{IsElsewhere}
-use Rattle.claims_driver.specs.FrameWords.{KeepsItsList}
+use Rattle.law_frame_list.specs.list_driver.Keeping.{KeepsItsList}
 use Rattle.law_frames.specs.Met.{Kind}
 use Rattle.law_frames.specs.FrameHand.{FrameHand}
 use Rattle.law_controller.specs.frame_control.Both.{RunsBoth, ControlsBoth}

@@ -23,7 +23,7 @@ use Rattle.law_structures.specs.lent_structures.Structures.{Structure, QueueHead
 use Rattle.claims_base.specs.Controller.{Base}
 use Rattle.law_controller.specs.controlled_streams.Control.{FrameList}
 use Rattle.law_driver_ring.specs.Inventory.{sorts_of, IsLent, IsDriven}
-use Rattle.claims_driver.specs.InPlace.{IsInPlace}
+use Rattle.law_driver.specs.in_place.InPlace.{IsInPlace}
 use Rattle.law_descriptors.specs.frame_keeps.Leaving.{IsWithin}
 
 pub data IsDescriptor (o : Option Structure) : Type 0 where

@@ -1,7 +1,7 @@
 //! The laws.
 ghost use Rattle.drv_table.specs.DriverContent.{DriverContent};
 ghost use Rattle.claims_driver.specs.FrameWords.{IsInOrder};
-ghost use Rattle.claims_driver.specs.FrameListMembers.{IsListed};
+ghost use Rattle.law_driver.specs.listed_members.Members.{IsListed};
 ghost use Rattle.law_descriptors.specs.Written.{AreLinks};
 
 /// Where the members of the frame list are in order, and are those of the driver, the link that a descriptor is given is a link word: the word of what stands

@@ -12,7 +12,7 @@ use Rattle.law_admission.specs.Budgets.{KeepsBudgets, account_of}
 use Rattle.law_driver.specs.planned_endpoints.Planned.{IsPlanned}
 use Rattle.claims_driver.specs.DueMembers.{AreDue, HasAllDue}
 use Rattle.law_driver.specs.ordered_list.Ordered.{IsOrdered}
-use Rattle.claims_driver.specs.InPlace.{IsInPlace}
+use Rattle.law_driver.specs.in_place.InPlace.{IsInPlace}
 use Rattle.law_driver.specs.in_place.Run.{Move, run, AreAllowed}
 
 pub record IsScheduled (m : Mem) (d : DriverContent) : Type 0 where

@@ -19,7 +19,7 @@ use Rattle.drv_table.specs.Offers.{offered, IsOffered}
 use Rattle.drv_table.specs.Parts.{Parts}
 use Rattle.drv_table.specs.Rows.{driver_row, after_driver_row}
 use Rattle.law_driver.specs.queue_head_words.Overlay.{HasQueueHead}
-use Rattle.claims_driver.specs.InPlace.{IsInPlace}
+use Rattle.law_driver.specs.in_place.InPlace.{IsInPlace}
 
 pub record IsElsewhere (d : DriverContent) (m new : Mem) : Type 0 where
   pub states : new.states ≡ m.states

@@ -8,7 +8,8 @@ use Rattle.drv_table.specs.DriverContent.{DriverContent}
 use Rattle.drv_table.specs.Kinds.{is_iso}
 use Rattle.drv_table.specs.Accepting.{Offered}
 use Rattle.claims_driver.specs.Leaving.{HasOwners}
-use Rattle.claims_driver.specs.Ring.{link_in, IsRing}
+use Rattle.claims_driver.specs.Ring.{link_in}
+use Rattle.law_driver.specs.ring_members.Words.{IsRing}
 
 -- an endpoint with a queue, which wasn't given back
 pub record HasQueue (d : DriverContent) (e : ℕ) (x : Endpoint) : Type 0 where

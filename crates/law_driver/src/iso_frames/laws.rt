@@ -14,7 +14,7 @@ ghost use Rattle.drv_table.specs.Opening.{opening};
 ghost use Rattle.drv_table.specs.Parts.{Parts};
 ghost use Rattle.drv_table.specs.Rows.{driver_row, after_driver_row};
 ghost use Rattle.claims_driver.specs.Leaving.{HasOwners};
-ghost use Rattle.claims_driver.specs.FrameListMembers.{IsListed};
+ghost use Rattle.law_driver.specs.listed_members.Members.{IsListed};
 ghost use Rattle.law_driver.specs.planned_endpoints.Planned.{IsPlanned};
 ghost use Rattle.law_driver.specs.iso_frames.Steps.{AreInStep, AreApart};
 ghost use Rattle.law_driver.specs.iso_frames.Frames.{AreInFrames};

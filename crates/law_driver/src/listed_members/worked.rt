@@ -3,7 +3,8 @@ ghost use Rattle.std.specs.Prelude.{◌≡◌, true, false, [], ◌∷◌, Some,
 ghost use Rattle.drv_members.specs.Members.{is_linked};
 ghost use Rattle.drv_table.specs.declared.content.Command.TheVariants as unfinished;
 ghost use Rattle.law_driver.specs.run_owners.Worked.{busy_endpoints, busy_transfers, busy_schedule, busy_driver};
-ghost use Rattle.claims_driver.specs.FrameListMembers.{framed_in, is_chained, placed_in, is_among, is_in_names, member_of, is_linked_by, to_come};
+ghost use Rattle.claims_driver.specs.FrameListMembers.{framed_in, is_chained, placed_in, is_among, member_of};
+ghost use Rattle.law_driver.specs.listed_members.Members.{is_in_names, is_linked_by, to_come};
 
 /// Endpoints and descriptors as the frame list has them: the harvested descriptor waits no more, a transfer with qTDs is none.
 pub fn placed_rows()

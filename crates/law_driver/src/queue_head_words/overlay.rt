@@ -13,7 +13,7 @@ ghost use Rattle.drv_table.specs.Parts.{Parts};
 ghost use Rattle.drv_table.specs.Commands.{events_of};
 ghost use Rattle.drv_table.specs.Harvesting.{mends_of};
 ghost use Rattle.drv_table.specs.Rows.{driver_row, after_driver_row};
-ghost use Rattle.claims_driver.specs.Ring.{IsSound};
+ghost use Rattle.law_driver.specs.in_place.InPlace.{IsSound};
 ghost use Rattle.law_driver.specs.queue_head_words.Overlay.{HasQueueHead, stored_address, StoresAt, LeavesWord, LeaveQueueHeads};
 
 /// A row of the driver that stores into a queue head that wasn't given back (its twelve words: 48 bytes) stores its link, word 0, or is one

@@ -2,7 +2,8 @@
 //! in no ring.
 ghost use Rattle.std.specs.Prelude.{◌≡◌, ℕ, ◌==◌, if◌then◌else◌, [], ◌∷◌};
 ghost use Rattle.drv_table.specs.Accepting.{newest_of, oldest_of};
-ghost use Rattle.claims_driver.specs.Ring.{members, IsChain, AreLinked};
+ghost use Rattle.claims_driver.specs.Ring.{members, IsChain};
+ghost use Rattle.law_driver.specs.ring_members.Words.{AreLinked};
 ghost use Rattle.law_driver.specs.ring_members.Links.{newest_from};
 ghost use Rattle.law_driver.specs.ring_members.Worked.{ring_endpoints, ring_word};
 

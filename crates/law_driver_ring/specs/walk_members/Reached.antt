@@ -10,7 +10,8 @@ use Rattle.link_words.specs.Layout.{is_set}
 use Rattle.async_walk.specs.Rows.{WalkPlace}
 use Rattle.drv_table.specs.declared.content.Endpoint.{Endpoint}
 use Rattle.drv_table.specs.DriverContent.{DriverContent}
-use Rattle.claims_driver.specs.Ring.{link_in, IsRing}
+use Rattle.claims_driver.specs.Ring.{link_in}
+use Rattle.law_driver.specs.ring_members.Words.{IsRing}
 use Rattle.claims_driver.specs.InPlace.{characteristics, AreFixed}
 use Rattle.claims_driver.specs.Walk.{IsWalkIn, IsNumbered}
 

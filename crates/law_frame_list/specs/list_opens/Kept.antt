@@ -5,7 +5,7 @@ use Rattle.mem_runs.specs.Book.{holding, Stands}
 use Rattle.drv_table.specs.DriverContent.{DriverContent}
 use Rattle.drv_table.specs.Accepting.{Offered}
 use Rattle.claims_driver.specs.Leaving.{HasOwners}
-use Rattle.claims_driver.specs.FrameListMembers.{IsListed}
+use Rattle.law_driver.specs.listed_members.Members.{IsListed}
 use Rattle.claims_driver.specs.FrameWords.{ListStands}
 
 abbrev pub KeepsList : DriverContent → Mem → Offered → Type 0

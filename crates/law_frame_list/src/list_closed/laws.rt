@@ -1,7 +1,7 @@
 ghost use Rattle.word_mem.specs.Memory.{Mem};
 ghost use Rattle.drv_table.specs.DriverContent.{DriverContent};
 ghost use Rattle.law_frame_words.specs.frame_words.InWords.{IsSpread};
-ghost use Rattle.claims_driver.specs.FrameListMembers.{IsListed};
+ghost use Rattle.law_driver.specs.listed_members.Members.{IsListed};
 ghost use Rattle.claims_driver.specs.FrameWords.{ListStands};
 ghost use Rattle.law_frame_list.specs.list_closed.Closed.{ListIsClosed, MembersAreClosed, MeetsMembersAlone, HaveFrames, TellStructures};
 

@@ -3,7 +3,7 @@ ghost use Rattle.mem_runs.specs.Book.{holding, Stands};
 ghost use Rattle.drv_table.specs.DriverContent.{DriverContent};
 ghost use Rattle.drv_table.specs.Accepting.{Offered};
 ghost use Rattle.claims_driver.specs.Leaving.{HasOwners};
-ghost use Rattle.claims_driver.specs.FrameListMembers.{IsListed};
+ghost use Rattle.law_driver.specs.listed_members.Members.{IsListed};
 ghost use Rattle.claims_driver.specs.FrameWords.{ListStands};
 ghost use Rattle.law_frame_list.specs.list_commands.Kinds.{OpensOrCancels};
 

@@ -8,9 +8,9 @@ ghost use Rattle.drv_table.specs.Accepting.{Offered};
 ghost use Rattle.drv_table.specs.Offers.{offered};
 ghost use Rattle.drv_table.specs.Parts.{Parts};
 ghost use Rattle.drv_table.specs.Rows.{driver_row, after_driver_row};
-ghost use Rattle.claims_driver.specs.Ring.{IsSound};
+ghost use Rattle.law_driver.specs.in_place.InPlace.{IsSound};
 ghost use Rattle.law_driver.specs.iso_frames.Frames.{AreInFrames};
-ghost use Rattle.claims_driver.specs.FrameWords.{KeepsItsList};
+ghost use Rattle.law_frame_list.specs.list_driver.Keeping.{KeepsItsList};
 
 /// A driver that was just built.
 pub fn a_new_driver_keeps_its_list()

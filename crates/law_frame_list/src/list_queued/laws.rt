@@ -3,9 +3,10 @@ ghost use Rattle.drv_table.specs.declared.content.Command.TheVariants as unfinis
 ghost use Rattle.drv_table.specs.declared.rows.DriverRow.TheVariants as rows;
 ghost use Rattle.drv_table.specs.Parts.{Parts};
 ghost use Rattle.drv_table.specs.Rows.{driver_row, after_driver_row};
-ghost use Rattle.claims_driver.specs.Ring.{IsSound};
+ghost use Rattle.law_driver.specs.in_place.InPlace.{IsSound};
 ghost use Rattle.claims_driver.specs.DueMembers.{HasOneEach};
-ghost use Rattle.claims_driver.specs.FrameWords.{ListStands, AreLeading, AreToLink};
+ghost use Rattle.claims_driver.specs.FrameWords.{ListStands};
+ghost use Rattle.law_frame_list.specs.list_driver.Keeping.{AreLeading, AreToLink};
 ghost use Rattle.law_frame_list.specs.list_steps.Steps.{IsLinkingStep};
 
 /// Descriptors are lent with their links, and the first begins to be linked: the list stands, and each of the others leads on.

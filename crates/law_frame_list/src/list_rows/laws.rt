@@ -11,8 +11,9 @@ ghost use Rattle.drv_table.specs.Offers.{offered};
 ghost use Rattle.drv_table.specs.Parts.{Parts};
 ghost use Rattle.drv_table.specs.Rows.{driver_row, after_driver_row};
 ghost use Rattle.claims_driver.specs.Leaving.{HasOwners};
-ghost use Rattle.claims_driver.specs.Ring.{IsSound};
-ghost use Rattle.claims_driver.specs.FrameWords.{ListStands, MendsAside};
+ghost use Rattle.law_driver.specs.in_place.InPlace.{IsSound};
+ghost use Rattle.claims_driver.specs.FrameWords.{ListStands};
+ghost use Rattle.law_frame_list.specs.list_driver.Keeping.{MendsAside};
 
 /// A store that a stalled endpoint is owed leaves the frame list standing.
 pub fn mends_keep_it_standing()

@@ -6,7 +6,7 @@ ghost use Rattle.drv_table.specs.Parts.{Parts};
 ghost use Rattle.drv_table.specs.Rows.{driver_row, after_driver_row};
 ghost use Rattle.drv_table.specs.Commands.{removes_members};
 ghost use Rattle.claims_driver.specs.Leaving.{HasOwners};
-ghost use Rattle.claims_driver.specs.FrameListMembers.{IsListed};
+ghost use Rattle.law_driver.specs.listed_members.Members.{IsListed};
 ghost use Rattle.claims_driver.specs.FrameWords.{ListStands};
 ghost use Rattle.law_frame_list.specs.list_steps.Steps.{IsLinkingStep, NextLeads, IsOfInterrupt};
 

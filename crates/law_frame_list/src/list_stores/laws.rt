@@ -5,7 +5,7 @@ ghost use Rattle.drv_periodic.specs.declared.work.Store.{Store};
 ghost use Rattle.drv_periodic.specs.Periodic.{next_store};
 ghost use Rattle.drv_table.specs.DriverContent.{DriverContent};
 ghost use Rattle.claims_driver.specs.Leaving.{HasOwners};
-ghost use Rattle.claims_driver.specs.FrameListMembers.{IsListed};
+ghost use Rattle.law_driver.specs.listed_members.Members.{IsListed};
 ghost use Rattle.claims_driver.specs.FrameWords.{ListStands};
 ghost use Rattle.law_frame_list.specs.list_stores.Storing.{IsStoredFor};
 

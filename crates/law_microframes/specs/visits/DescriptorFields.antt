@@ -42,7 +42,7 @@ use Rattle.drv_table.specs.DriverContent.{DriverContent}
 use Rattle.drv_table.specs.Parts.{Parts}
 use Rattle.drv_table.specs.Rows.{driver_row, after_driver_row}
 use Rattle.claims_driver.specs.Owners.{is_descriptor}
-use Rattle.claims_driver.specs.InPlace.{IsInPlace}
+use Rattle.law_driver.specs.in_place.InPlace.{IsInPlace}
 use Rattle.law_frames.specs.Met.{AnItd}
 use Rattle.law_descriptors.specs.Meeting.{met}
 use Rattle.law_budgets.specs.visit_prices.Spent.{IsItdOf}

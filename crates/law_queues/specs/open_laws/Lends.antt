@@ -20,7 +20,7 @@ use Rattle.drv_table.specs.DriverContent.{DriverContent}
 use Rattle.drv_table.specs.Parts.{Parts as DriverParts}
 use Rattle.drv_table.specs.Words.{queue_head}
 use Rattle.claims_driver.specs.Owners.{runs_of_endpoint, Views}
-use Rattle.claims_driver.specs.Ring.{IsSound}
+use Rattle.law_driver.specs.in_place.InPlace.{IsSound}
 use Rattle.law_structures.specs.lent_structures.Structures.{QueueHead, StructureSets}
 use Rattle.law_ring.specs.Hand.{Hand}
 use Rattle.claims_base.specs.Controller.{Base}

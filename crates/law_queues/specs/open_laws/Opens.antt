@@ -17,7 +17,7 @@ use Rattle.drv_table.specs.Parts.{Parts as DriverParts}
 use Rattle.drv_table.specs.Rows.{driver_row, after_driver_row}
 use Rattle.drv_table.specs.Words.{to_queue_head, queue_head}
 use Rattle.claims_driver.specs.Owners.{runs_of_endpoint}
-use Rattle.claims_driver.specs.Ring.{IsSound}
+use Rattle.law_driver.specs.in_place.InPlace.{IsSound}
 use Rattle.law_structures.specs.lent_structures.Structures.{QueueHead, StructureSets, put}
 use Rattle.law_ring.specs.Hand.{Hand}
 use Rattle.claims_base.specs.Controller.{Base}

@@ -12,7 +12,7 @@ use Rattle.drv_table.specs.DriverContent.{DriverContent}
 use Rattle.drv_table.specs.Parts.{Parts as DriverParts}
 use Rattle.drv_table.specs.Rows.{driver_row, after_driver_row}
 use Rattle.claims_driver.specs.LentRuns.{AreLent}
-use Rattle.claims_driver.specs.Ring.{IsSound}
+use Rattle.law_driver.specs.in_place.InPlace.{IsSound}
 use Rattle.law_structures.specs.lent_structures.Structures.{StructureSets}
 use Rattle.law_ring.specs.QueueParts.{IsQueuePart}
 use Rattle.law_ring.specs.Hand.{Hand}

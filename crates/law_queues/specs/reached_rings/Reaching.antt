@@ -24,7 +24,8 @@ use Rattle.drv_table.specs.DriverContent.{DriverContent}
 use Rattle.drv_table.specs.Words.{head_block}
 use Rattle.law_driver.specs.endpoint_lives.Lives.{any_at, is_one_of}
 use Rattle.claims_driver.specs.Leaving.{HasOwners}
-use Rattle.claims_driver.specs.Ring.{link_in, IsRing as IsRingOf}
+use Rattle.claims_driver.specs.Ring.{link_in}
+use Rattle.law_driver.specs.ring_members.Words.{IsRing as IsRingOf}
 use Rattle.claims_driver.specs.InPlace.{AreFixed}
 use Rattle.law_driver.specs.queue_head_words.Overlay.{HasQueueHead}
 use Rattle.law_structures.specs.lent_structures.Structures.{StructureSets}

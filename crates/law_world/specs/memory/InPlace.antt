@@ -12,8 +12,8 @@ use Rattle.script_types.specs.declared.scripts.Script.{Script}
 use Rattle.script_text.specs.Faults.{Spells}
 use Rattle.bus_world.specs.Budgets.{moment}
 use Rattle.bus_world.specs.World.{World}
-use Rattle.claims_driver.specs.FrameWords.{KeepsItsList}
-use Rattle.claims_driver.specs.InPlace.{IsInPlace}
+use Rattle.law_frame_list.specs.list_driver.Keeping.{KeepsItsList}
+use Rattle.law_driver.specs.in_place.InPlace.{IsInPlace}
 use Rattle.law_world.specs.memory.Mixed.{IsMixedWorld}
 
 pub record HasAllInPlace (w : World) : Type 0 where

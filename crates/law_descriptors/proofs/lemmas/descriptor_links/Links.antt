@@ -12,7 +12,7 @@ use Rattle.drv_periodic_table.specs.declared.content.DescriptorNote.{DescriptorN
 use Rattle.drv_periodic_table.specs.Periodic.{note_at, descriptor_name}
 use Rattle.drv_periodic_table.specs.Linking.{may_link}
 use Rattle.drv_table.specs.DriverContent.{DriverContent}
-use Rattle.claims_driver.specs.FrameListMembers.{IsListed, IsQueueOf, IsStanding}
+use Rattle.law_driver.specs.listed_members.Members.{IsListed, IsQueueOf, IsStanding}
 use Rattle.law_frame_list.proofs.lemmas.list_spread.Spreading.{queue_there, standing_there}
 use Rattle.law_frame_list.specs.list_closed.Closed.{IsInFrame, IsNext}
 use Rattle.law_frame_list.proofs.lemmas.list_closed.Chained.{chain_in_frame}

@@ -23,7 +23,8 @@ use Rattle.drv_table.specs.declared.content.Transfer.{Transfer}
 use Rattle.drv_table.specs.DriverContent.{DriverContent}
 use Rattle.claims_driver.specs.Owners.{QueueHead as QueueHeadOf, HasBlocks, IsPlaced, runs_of_endpoint, runs_of_transfer, IsDescribed, descriptor_in, views_of, IsQueueIn}
 use Rattle.claims_driver.specs.Leaving.{HasOwners}
-use Rattle.claims_driver.specs.FrameListMembers.{Framed, Placed, placed_in, is_chained, framed_in, is_among, IsStanding, IsQueueOf, IsWaitingOf, IsDescribing, IsListed}
+use Rattle.claims_driver.specs.FrameListMembers.{Framed, Placed, placed_in, is_chained, framed_in, is_among}
+use Rattle.law_driver.specs.listed_members.Members.{IsStanding, IsQueueOf, IsWaitingOf, IsDescribing, IsListed}
 use Rattle.law_driver.proofs.lemmas.listed_members.Standing.{IsSeen, seen, in_frames, unlinks_reported, IsFramed, framed, descriptor_block, queue_block, standing_block, why_stands}
 use Rattle.law_structures.specs.lent_structures.Structures.{Structure, QueueHead, Structures, StructureSets}
 use Rattle.claims_base.specs.Controller.{Base}
@@ -34,7 +35,7 @@ use Rattle.law_queues.proofs.lemmas.shared_memory.Elsewhere.{leaves_elsewhere}
 use Rattle.law_frame_words.specs.list_words.Spared.{LeavesList}
 use Rattle.law_frame_list.proofs.lemmas.list_spread.Spreading.{queue_there, standing_there}
 use Rattle.law_frame_list.proofs.lemmas.list_stands.Listing.{stands_left}
-use Rattle.claims_driver.specs.FrameWords.{LeadsOn, AreLeading}
+use Rattle.law_frame_list.specs.list_driver.Keeping.{LeadsOn, AreLeading}
 use Rattle.law_frame_list.proofs.lemmas.list_queued.Apart.{way_of}
 use Rattle.law_descriptors.specs.frame_keeps.Kept.{HasItdAfter, HasSitdAfter, KeepsPart}
 use Rattle.law_descriptors.specs.frame_keeps.Leaving.{LeavesStructures}

@@ -20,11 +20,13 @@ use Rattle.drv_table.specs.Parts.{Parts}
 use Rattle.claims_driver.specs.Leaving.{IsOrderly}
 use Rattle.law_driver.proofs.lemmas.run_owners.Rows.{not_iso}
 use Rattle.law_driver.proofs.lemmas.run_owners.Orders.{times_both}
-use Rattle.claims_driver.specs.Ring.{link_in, IsAmong, IsOpening, StandsFor, IsRing}
+use Rattle.claims_driver.specs.Ring.{link_in, IsAmong}
+use Rattle.law_driver.specs.ring_members.Words.{IsOpening, StandsFor, IsRing}
 use Rattle.law_driver.proofs.lemmas.ring_members.Links.{linked_kept}
 use Rattle.law_driver.proofs.lemmas.ring_members.Placed.{left_ring, linked_alive}
 use Rattle.law_driver.proofs.lemmas.ring_members.Events.{KeepsRing, linked_apart, leaving_apart, command_apart, older_get, newest_get}
-use Rattle.claims_driver.specs.InPlace.{IsMet, IsFixed, IsInPlace}
+use Rattle.claims_driver.specs.InPlace.{IsMet, IsFixed}
+use Rattle.law_driver.specs.in_place.InPlace.{IsInPlace}
 use Rattle.law_driver.specs.queue_head_words.Overlay.{HasQueueHead, of_ring, of_endpoint}
 use Rattle.law_driver.specs.in_place.Run.{IsElsewhere, Move, Offer, Event, Controller, accepted, moved, IsAllowed, run, AreAllowed}
 use Rattle.law_driver.proofs.lemmas.in_place.Opened.{opening_in_place}

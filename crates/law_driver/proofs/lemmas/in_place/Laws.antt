@@ -19,7 +19,7 @@ use Rattle.law_driver.proofs.lemmas.ring_members.Accepted.{accepted_ring}
 use Rattle.law_driver.proofs.lemmas.ring_members.Events.{event_ring}
 use Rattle.law_driver.proofs.lemmas.queue_head_words.Accepted.{accepted_fixed}
 use Rattle.law_driver.proofs.lemmas.queue_head_words.Events.{event_fixed}
-use Rattle.claims_driver.specs.InPlace.{IsInPlace}
+use Rattle.law_driver.specs.in_place.InPlace.{IsInPlace}
 use Rattle.law_driver.proofs.lemmas.in_place.Rows.{event_good}
 use Rattle.law_driver.proofs.lemmas.in_place.Offers.{accepted_good}
 

@@ -25,8 +25,7 @@ use Rattle.law_driver.proofs.lemmas.listed_members.Opening.{opening_listed}
 use Rattle.law_driver.proofs.lemmas.ring_members.Opened.{opening_ring}
 use Rattle.law_driver.proofs.lemmas.listed_queues.Commands.{opening_queues}
 use Rattle.law_driver.proofs.lemmas.queue_head_words.Opened.{opening_fixed}
-use Rattle.law_driver.specs.in_place.InPlace.{IsGood}
-use Rattle.claims_driver.specs.InPlace.{IsInPlace}
+use Rattle.law_driver.specs.in_place.InPlace.{IsGood, IsInPlace}
 use Rattle.law_driver.proofs.lemmas.in_place.Good.{lend_good}
 
 -- ---- a run that is taken and lent

@@ -30,7 +30,8 @@ use Rattle.drv_table.specs.Accepting.{Offered}
 use Rattle.drv_table.specs.Offers.{offered, IsOffered}
 use Rattle.claims_driver.specs.Leaving.{HasOwners}
 use Rattle.law_driver.proofs.lemmas.run_owners.Ordered.{iso_periodic}
-use Rattle.claims_driver.specs.FrameListMembers.{framed_of, framed_in, is_chained, Placed, placed_in, is_among, is_in_names, member_of, is_linked_by, IsStanding, IsUnderWay, IsListed}
+use Rattle.claims_driver.specs.FrameListMembers.{framed_of, framed_in, is_chained, Placed, placed_in, is_among, member_of}
+use Rattle.law_driver.specs.listed_members.Members.{is_in_names, is_linked_by, IsStanding, IsUnderWay, IsListed}
 use Rattle.law_driver.proofs.lemmas.listed_members.Standing.{seen, in_frames}
 use Rattle.law_driver.proofs.lemmas.listed_members.Framing.{not_below, or_none}
 use Rattle.law_driver.specs.planned_endpoints.Planned.{IsPlanned}

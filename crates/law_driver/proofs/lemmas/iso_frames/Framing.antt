@@ -26,7 +26,8 @@ use Rattle.claims_driver.specs.Owners.{HasRun, Described, is_descriptor}
 use Rattle.claims_driver.specs.Leaving.{HasOwners}
 use Rattle.law_driver.proofs.lemmas.run_owners.Runs.{placed_run}
 use Rattle.law_driver.proofs.lemmas.run_owners.Harvest.{waits_is}
-use Rattle.claims_driver.specs.FrameListMembers.{Framed, framed_of, framed_in, is_chained, Placed, placed_of, placed_in, IsDescribing, IsUnderWay, IsListed}
+use Rattle.claims_driver.specs.FrameListMembers.{Framed, framed_of, framed_in, is_chained, Placed, placed_of, placed_in}
+use Rattle.law_driver.specs.listed_members.Members.{IsDescribing, IsUnderWay, IsListed}
 use Rattle.law_driver.proofs.lemmas.listed_members.Standing.{seen, framed, Owns, owns, transfer_of, descriptor_placed}
 use Rattle.law_driver.specs.iso_frames.Steps.{StepsTo, AreInStep}
 use Rattle.law_driver.specs.iso_frames.Frames.{mark, before, waiting_from, frame_in, frames_of, IsStepped, AreStepped}

@@ -32,7 +32,8 @@ use Rattle.law_driver.proofs.lemmas.run_owners.Reasons.{each_is_due}
 use Rattle.law_driver.proofs.lemmas.run_owners.Released.{other_number, cancel_same}
 use Rattle.law_driver.proofs.lemmas.run_owners.Leaves.{first_left, first_removed}
 use Rattle.law_driver.proofs.lemmas.run_owners.Rows.{not_iso}
-use Rattle.claims_driver.specs.FrameListMembers.{Framed, framed_in, placed_of, placed_in, AreKept, IsListed}
+use Rattle.claims_driver.specs.FrameListMembers.{Framed, framed_in, placed_of, placed_in}
+use Rattle.law_driver.specs.listed_members.Members.{AreKept, IsListed}
 use Rattle.law_driver.proofs.lemmas.listed_members.Stays.{all_endpoints, all_transfers, endpoint_set, transfer_set}
 use Rattle.law_driver.specs.iso_frames.Frames.{mark, next_in, AreStepped}
 use Rattle.claims_driver.specs.DueMembers.{framed_to}

@@ -41,7 +41,8 @@ use Rattle.law_driver.proofs.lemmas.run_owners.Ordered.{pushed_below}
 use Rattle.law_driver.proofs.lemmas.run_owners.Released.{same_number, set_here}
 use Rattle.law_driver.proofs.lemmas.run_owners.Runs.{placed_run}
 use Rattle.law_driver.proofs.lemmas.run_owners.Taking.{AreTaken, runs_taken}
-use Rattle.claims_driver.specs.FrameListMembers.{framed_of, framed_in, is_chained, Placed, placed_of, placed_in, is_among, is_in_names, AreOnce, member_of, under_way, is_linked_by, IsStanding, IsWaitingOf, IsIdle, HasList, IsListed}
+use Rattle.claims_driver.specs.FrameListMembers.{framed_of, framed_in, is_chained, Placed, placed_of, placed_in, is_among, member_of}
+use Rattle.law_driver.specs.listed_members.Members.{is_in_names, AreOnce, under_way, is_linked_by, IsStanding, IsWaitingOf, IsIdle, HasList, IsListed}
 use Rattle.law_driver.proofs.lemmas.listed_members.Schedules.{same_members}
 use Rattle.law_driver.proofs.lemmas.listed_members.Standing.{seen, unlinks_reported, descriptor_placed, Owns, owns, transfer_of, descriptor_block, why_stands}
 use Rattle.law_driver.proofs.lemmas.listed_members.Stays.{is_still, still_linked, none_to_come, moved, SameEndpoints, placed_by, endpoint_set, same_queue}

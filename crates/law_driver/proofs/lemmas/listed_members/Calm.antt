@@ -24,7 +24,8 @@ use Rattle.claims_driver.specs.Owners.{is_descriptor}
 use Rattle.law_driver.proofs.lemmas.run_owners.Released.{same_by_test}
 use Rattle.law_driver.proofs.lemmas.run_owners.Orders.{set_case}
 use Rattle.law_driver.proofs.lemmas.run_owners.Harvest.{is_served_found}
-use Rattle.claims_driver.specs.FrameListMembers.{framed_in, is_chained, placed_of, IsIdle, IsUnderWay, IsListed}
+use Rattle.claims_driver.specs.FrameListMembers.{framed_in, is_chained, placed_of}
+use Rattle.law_driver.specs.listed_members.Members.{IsIdle, IsUnderWay, IsListed}
 use Rattle.law_driver.proofs.lemmas.listed_members.Stays.{is_still, SameEndpoints, SameTransfers, SameTables, tables, all_endpoints, all_transfers, both_endpoints, both_transfers, endpoint_set, transfer_set, tables_list}
 
 -- ---- commands that aren't of the frame list

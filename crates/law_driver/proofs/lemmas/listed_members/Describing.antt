@@ -19,7 +19,8 @@ use Rattle.drv_table.specs.declared.content.Command.{Command}
 use Rattle.drv_table.specs.declared.content.Command.TheVariants as unfinished
 use Rattle.drv_table.specs.DriverContent.{DriverContent}
 use Rattle.drv_table.specs.Commands.{no_command, list_after, or_finished, linked_on, advanced_by}
-use Rattle.claims_driver.specs.FrameListMembers.{Placed, placed_in, is_among, is_in_names, AreOnce, HasMembers, member_of, is_linked_by, IsStanding, IsQueueOf, IsWaitingOf, IsDescribing, IsUnderWay, to_come, IsListed}
+use Rattle.claims_driver.specs.FrameListMembers.{Placed, placed_in, is_among, member_of}
+use Rattle.law_driver.specs.listed_members.Members.{is_in_names, AreOnce, HasMembers, is_linked_by, IsStanding, IsQueueOf, IsWaitingOf, IsDescribing, IsUnderWay, to_come, IsListed}
 use Rattle.law_driver.proofs.lemmas.listed_members.Schedules.{all_more, unnamed, name_differs, one_longer, same_members, with_linked}
 use Rattle.law_driver.proofs.lemmas.listed_members.Standing.{Owns, transfer_of, descriptor_block, one_number, queue_named_not}
 use Rattle.law_driver.proofs.lemmas.listed_members.Stays.{moved}

@@ -27,7 +27,7 @@ use Rattle.law_driver.proofs.lemmas.run_owners.Reasons.{each_is_due}
 use Rattle.law_driver.proofs.lemmas.run_owners.Ordered.{iso_periodic}
 use Rattle.law_driver.proofs.lemmas.run_owners.Harvest.{Waits, waits_is, is_served_found}
 use Rattle.law_driver.proofs.lemmas.run_owners.Rows.{served_is}
-use Rattle.claims_driver.specs.FrameListMembers.{IsWaitingOf, IsUnderWay, IsListed}
+use Rattle.law_driver.specs.listed_members.Members.{IsWaitingOf, IsUnderWay, IsListed}
 use Rattle.law_driver.proofs.lemmas.listed_members.Schedules.{all_more, same_members}
 use Rattle.law_driver.proofs.lemmas.listed_members.Standing.{Owns, owns}
 use Rattle.law_driver.proofs.lemmas.listed_members.Stays.{moved, same_queue, all_endpoints, all_transfers, tables}

@@ -21,7 +21,8 @@ use Rattle.drv_table.specs.DriverContent.{DriverContent}
 use Rattle.drv_table.specs.Commands.{linked_on, advanced_by}
 use Rattle.drv_table.specs.FrameChoice.{with_frames, last_frame, framed_notes, with_notes, placement_at, framed_by}
 use Rattle.law_driver.proofs.lemmas.run_owners.Stays.{same_item}
-use Rattle.claims_driver.specs.FrameListMembers.{Placed, placed_in, is_among, is_in_names, member_of, is_linked_by, IsStanding, IsQueueOf, IsWaitingOf, IsDescribing, IsUnderWay, to_come, IsListed}
+use Rattle.claims_driver.specs.FrameListMembers.{Placed, placed_in, is_among, member_of}
+use Rattle.law_driver.specs.listed_members.Members.{is_in_names, is_linked_by, IsStanding, IsQueueOf, IsWaitingOf, IsDescribing, IsUnderWay, to_come, IsListed}
 use Rattle.law_driver.proofs.lemmas.listed_members.Schedules.{same_members}
 use Rattle.law_driver.proofs.lemmas.listed_members.Standing.{seen, Owns, transfer_of, descriptor_block}
 use Rattle.law_driver.proofs.lemmas.listed_members.Stays.{moved}

@@ -22,7 +22,8 @@ use Rattle.drv_table.specs.declared.content.Command.{Command}
 use Rattle.drv_table.specs.declared.content.Command.TheVariants as unfinished
 use Rattle.drv_table.specs.DriverContent.{DriverContent}
 use Rattle.drv_table.specs.Commands.{finished, or_finished, linked_on, advanced_by}
-use Rattle.claims_driver.specs.FrameListMembers.{Framed, framed_in, Placed, placed_in, is_among, is_in_names, AreOnce, HasMembers, member_of, under_way, is_linked_by, IsStanding, IsQueueOf, IsWaitingOf, IsUnchaining, IsUnderWay, HasList, IsListed}
+use Rattle.claims_driver.specs.FrameListMembers.{Framed, framed_in, Placed, placed_in, is_among, member_of}
+use Rattle.law_driver.specs.listed_members.Members.{is_in_names, AreOnce, HasMembers, under_way, is_linked_by, IsStanding, IsQueueOf, IsWaitingOf, IsUnchaining, IsUnderWay, HasList, IsListed}
 use Rattle.law_driver.proofs.lemmas.listed_members.Schedules.{all_more, any_none, name_differs, no_longer, this_same, same_members, without_unlinked, without_queue}
 use Rattle.law_driver.proofs.lemmas.listed_members.Standing.{Owns, one_number}
 use Rattle.law_driver.proofs.lemmas.listed_members.Stays.{moved, same_queue}

@@ -26,7 +26,8 @@ use Rattle.claims_driver.specs.Owners.{is_descriptor}
 use Rattle.claims_driver.specs.Leaving.{IsOrderly}
 use Rattle.law_driver.specs.run_owners.Accepts.{Opens, Chains, Places, Transfers, Cancels}
 use Rattle.law_driver.proofs.lemmas.run_owners.Ordered.{pushed, pushed_below}
-use Rattle.claims_driver.specs.FrameListMembers.{Framed, framed_of, framed_in, is_chained, Placed, placed_of, placed_in, HasMembers, IsStanding, IsQueueOf, IsIdle, AreKept, to_come, IsListed}
+use Rattle.claims_driver.specs.FrameListMembers.{Framed, framed_of, framed_in, is_chained, Placed, placed_of, placed_in}
+use Rattle.law_driver.specs.listed_members.Members.{HasMembers, IsStanding, IsQueueOf, IsIdle, AreKept, to_come, IsListed}
 use Rattle.law_driver.proofs.lemmas.listed_members.Schedules.{same_members, with_queue_linked}
 use Rattle.law_driver.proofs.lemmas.listed_members.Stays.{is_still, still_linked, none_to_come, moved, SameEndpoints, SameTables, placed_by, all_transfers, endpoint_set, tables, same_queue}
 use Rattle.law_driver.proofs.lemmas.listed_members.Calm.{is_calm, calm_listed, calm_idle}

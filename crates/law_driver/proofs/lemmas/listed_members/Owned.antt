@@ -10,7 +10,8 @@ use Rattle.drv_table.specs.DriverContent.{DriverContent}
 use Rattle.mem_runs.specs.Book.{slot_of}
 use Rattle.claims_driver.specs.Owners.{QueueHead, Described, IsPlaced}
 use Rattle.claims_driver.specs.Leaving.{HasOwners}
-use Rattle.claims_driver.specs.FrameListMembers.{framed_in, is_chained, IsStanding, IsQueueOf, LinksWaiting, IsListed}
+use Rattle.claims_driver.specs.FrameListMembers.{framed_in, is_chained, LinksWaiting}
+use Rattle.law_driver.specs.listed_members.Members.{IsStanding, IsQueueOf, IsListed}
 use Rattle.law_driver.specs.listed_members.Listed.{IsOwnedAs, HaveRuns}
 use Rattle.law_driver.proofs.lemmas.listed_members.Schedules.{all_more}
 use Rattle.law_driver.proofs.lemmas.listed_members.Standing.{descriptor_placed, frames_placed, standing_block, queue_block, why_stands}

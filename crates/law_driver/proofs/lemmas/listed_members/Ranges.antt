@@ -8,7 +8,7 @@ use Rattle.std.proofs.lemmas.Option.{same_Some}
 use Rattle.drv_chains.specs.declared.members.Member.{Member}
 use Rattle.drv_chains.specs.Chains.{id_of}
 use Rattle.drv_table.specs.declared.content.Transfer.{Transfer}
-use Rattle.claims_driver.specs.FrameListMembers.{is_in_names, AreOnce}
+use Rattle.law_driver.specs.listed_members.Members.{is_in_names, AreOnce}
 use Rattle.law_driver.proofs.lemmas.listed_members.Schedules.{all_more, none_any, name_differs}
 
 pub or_first : (a b : Bool) → a ≡ true → a || b ≡ true

@@ -21,7 +21,8 @@ use Rattle.law_driver.specs.run_owners.Due.{IsRemovalDue}
 use Rattle.law_driver.proofs.lemmas.run_owners.Released.{same_by_test, cancel_same}
 use Rattle.law_driver.proofs.lemmas.run_owners.Leaves.{first_left, first_removed}
 use Rattle.law_driver.proofs.lemmas.run_owners.Rows.{not_iso}
-use Rattle.claims_driver.specs.FrameListMembers.{framed_of, framed_in, is_chained, placed_of, placed_in, IsListed}
+use Rattle.claims_driver.specs.FrameListMembers.{framed_of, framed_in, is_chained, placed_of, placed_in}
+use Rattle.law_driver.specs.listed_members.Members.{IsListed}
 use Rattle.law_driver.proofs.lemmas.listed_members.Stays.{SameTransfers, SameTables, tables, all_endpoints, all_transfers, endpoint_set, transfer_set}
 use Rattle.law_driver.proofs.lemmas.listed_members.Calm.{is_calm, calm_listed, IsQuiet, quiet, both, either, quiet_listed}
 

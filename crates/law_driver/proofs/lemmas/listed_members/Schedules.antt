@@ -14,7 +14,7 @@ use Rattle.drv_chains.proofs.Words.{all_kept}
 use Rattle.drv_chains.proofs.Orders.{both_parts}
 use Rattle.drv_members.specs.Ranks.{rank_of, is_named, is_called}
 use Rattle.drv_members.specs.Members.{is_up_to, is_below, with_descriptor, with_member, without_member, is_that, is_this, is_linked}
-use Rattle.claims_driver.specs.FrameListMembers.{HasMembers}
+use Rattle.law_driver.specs.listed_members.Members.{HasMembers}
 
 -- ---- lists
 

@@ -15,7 +15,8 @@ use Rattle.drv_table.specs.DriverContent.{DriverContent}
 use Rattle.claims_driver.specs.Owners.{Owner, QueueHead, Described, IsPlaced, is_descriptor, runs_of_endpoint, runs_of_transfer}
 use Rattle.claims_driver.specs.Leaving.{times, IsOrderly, HasOwners}
 use Rattle.law_driver.proofs.lemmas.run_owners.Orders.{owed}
-use Rattle.claims_driver.specs.FrameListMembers.{Framed, framed_of, framed_in, is_chained, Placed, placed_of, placed_in, is_among, member_of, IsStanding, IsQueueOf}
+use Rattle.claims_driver.specs.FrameListMembers.{Framed, framed_of, framed_in, is_chained, Placed, placed_of, placed_in, is_among, member_of}
+use Rattle.law_driver.specs.listed_members.Members.{IsStanding, IsQueueOf}
 
 -- ---- a descriptor is that of its transfer
 

@@ -17,7 +17,8 @@ use Rattle.drv_table.specs.DriverContent.{DriverContent}
 use Rattle.claims_driver.specs.Owners.{is_descriptor}
 use Rattle.law_driver.proofs.lemmas.run_owners.Stays.{same_view}
 use Rattle.law_driver.proofs.lemmas.run_owners.Orders.{set_case}
-use Rattle.claims_driver.specs.FrameListMembers.{Framed, framed_of, framed_in, is_chained, Placed, placed_of, placed_in, is_among, HasMembers, member_of, is_linked_by, IsStanding, IsQueueOf, to_come, AreKept, HasList}
+use Rattle.claims_driver.specs.FrameListMembers.{Framed, framed_of, framed_in, is_chained, Placed, placed_of, placed_in, is_among, member_of}
+use Rattle.law_driver.specs.listed_members.Members.{HasMembers, is_linked_by, IsStanding, IsQueueOf, to_come, AreKept, HasList}
 use Rattle.law_driver.proofs.lemmas.listed_members.Schedules.{same_members}
 
 -- ---- one that stands goes on standing

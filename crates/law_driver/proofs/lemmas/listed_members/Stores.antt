@@ -12,7 +12,7 @@ use Rattle.drv_table.specs.declared.content.Command.{Command}
 use Rattle.drv_table.specs.declared.content.Command.TheVariants as unfinished
 use Rattle.drv_table.specs.DriverContent.{DriverContent}
 use Rattle.drv_table.specs.Commands.{events_of, no_command, list_after, or_finished, linked_on, advanced_by}
-use Rattle.claims_driver.specs.FrameListMembers.{Links, IsUnderWay, IsListed}
+use Rattle.law_driver.specs.listed_members.Members.{Links, IsUnderWay, IsListed}
 use Rattle.law_driver.proofs.lemmas.listed_members.Stays.{SameTables, all_endpoints, all_transfers, tables, tables_list, is_still}
 
 pub no_work : (o : Option Work) → is_none o ≡ true → o ≡ None

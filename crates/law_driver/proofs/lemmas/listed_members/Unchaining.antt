@@ -23,7 +23,8 @@ use Rattle.drv_table.specs.Commands.{no_command, removal_of, leave_frames, finis
 use Rattle.drv_periodic_table.specs.declared.content.Removed.TheVariants as removed
 use Rattle.law_driver.proofs.lemmas.run_owners.Released.{same_number, other_number, set_here, set_there}
 use Rattle.law_driver.proofs.lemmas.run_owners.Orders.{set_case}
-use Rattle.claims_driver.specs.FrameListMembers.{Framed, framed_of, framed_in, is_chained, Placed, placed_in, is_among, is_in_names, AreOnce, member_of, under_way, is_linked_by, IsStanding, IsQueueOf, IsWaitingOf, AreLeaving, IsUnderWay, AreKept, to_come, HasList, IsListed}
+use Rattle.claims_driver.specs.FrameListMembers.{Framed, framed_of, framed_in, is_chained, Placed, placed_in, is_among, member_of}
+use Rattle.law_driver.specs.listed_members.Members.{is_in_names, AreOnce, under_way, is_linked_by, IsStanding, IsQueueOf, IsWaitingOf, AreLeaving, IsUnderWay, AreKept, to_come, HasList, IsListed}
 use Rattle.law_driver.proofs.lemmas.listed_members.Schedules.{all_more, all_two, same_members}
 use Rattle.law_driver.proofs.lemmas.listed_members.Standing.{seen, Owns}
 use Rattle.law_driver.proofs.lemmas.listed_members.Stays.{moved, same_queue}

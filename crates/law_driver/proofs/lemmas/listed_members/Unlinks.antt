@@ -27,7 +27,8 @@ use Rattle.claims_driver.specs.Owners.{is_descriptor}
 use Rattle.claims_driver.specs.Leaving.{times, owes, transfers_in, IsOrderly}
 use Rattle.law_driver.proofs.lemmas.run_owners.Released.{same_by_test, same_number, other_number, set_here, set_there}
 use Rattle.law_driver.proofs.lemmas.run_owners.Orders.{times_first, one_same}
-use Rattle.claims_driver.specs.FrameListMembers.{framed_of, framed_in, is_chained, Placed, placed_of, placed_in, is_among, HasMembers, IsStanding, IsQueueOf, IsIdle, IsListed}
+use Rattle.claims_driver.specs.FrameListMembers.{framed_of, framed_in, is_chained, Placed, placed_of, placed_in, is_among}
+use Rattle.law_driver.specs.listed_members.Members.{HasMembers, IsStanding, IsQueueOf, IsIdle, IsListed}
 use Rattle.law_driver.proofs.lemmas.listed_members.Schedules.{no_longer, same_members, without_unlinked}
 use Rattle.law_driver.proofs.lemmas.listed_members.OneWord.{one_word}
 use Rattle.law_driver.proofs.lemmas.listed_members.Standing.{seen, Owns, one_number, unlinks_wait_not, times_among}

@@ -33,7 +33,9 @@ use Rattle.law_driver.specs.run_owners.Accepts.{Unchains, Accepts, opens, chains
 use Rattle.claims_driver.specs.Leaving.{HasOwners}
 use Rattle.law_driver.proofs.lemmas.run_owners.Commands.{accepted_for_a_reason}
 use Rattle.law_driver.proofs.lemmas.run_owners.Released.{set_here}
-use Rattle.claims_driver.specs.FrameListMembers.{Framed, framed_of, framed_in, is_chained, IsListed, is_in_queues, HasQueues}
+use Rattle.claims_driver.specs.FrameListMembers.{Framed, framed_of, framed_in, is_chained}
+use Rattle.law_driver.specs.listed_members.Members.{IsListed}
+use Rattle.law_driver.specs.listed_queues.Queues.{is_in_queues, HasQueues}
 use Rattle.law_driver.proofs.lemmas.listed_members.Stays.{SameEndpoints, endpoint_set}
 use Rattle.law_driver.proofs.lemmas.listed_queues.Same.{same_queues, same_by}
 use Rattle.law_driver.proofs.lemmas.listed_queues.Goes.{KeepsHeads, next_unlinked, done_queues}

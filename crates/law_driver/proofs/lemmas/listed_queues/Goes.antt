@@ -19,7 +19,9 @@ use Rattle.drv_table.specs.declared.content.Command.{Command}
 use Rattle.drv_table.specs.declared.content.Command.TheVariants as unfinished
 use Rattle.drv_table.specs.DriverContent.{DriverContent}
 use Rattle.drv_table.specs.Commands.{no_command, finished, list_after, or_finished, linked_on, advanced_by}
-use Rattle.claims_driver.specs.FrameListMembers.{Framed, framed_in, is_chained, Links, IsWaitingOf, IsDescribing, IsUnchaining, IsUnderWay, IsListed, queue_of, is_in_queues, HasQueues}
+use Rattle.claims_driver.specs.FrameListMembers.{Framed, framed_in, is_chained}
+use Rattle.law_driver.specs.listed_members.Members.{Links, IsWaitingOf, IsDescribing, IsUnchaining, IsUnderWay, IsListed}
+use Rattle.law_driver.specs.listed_queues.Queues.{queue_of, is_in_queues, HasQueues}
 use Rattle.law_driver.proofs.lemmas.listed_members.Schedules.{all_more, any_left, name_differs}
 use Rattle.law_driver.proofs.lemmas.listed_members.Standing.{Owns, one_endpoint}
 use Rattle.law_driver.proofs.lemmas.listed_members.Stores.{KeepsMembers, list_kept, begun_none}

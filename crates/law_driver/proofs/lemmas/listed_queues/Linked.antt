@@ -7,8 +7,8 @@ use Rattle.drv_members.specs.Members.{is_linked}
 use Rattle.drv_periodic_table.specs.Periodic.{queue_member}
 use Rattle.drv_table.specs.DriverContent.{DriverContent}
 use Rattle.claims_driver.specs.Leaving.{HasOwners}
-use Rattle.claims_driver.specs.FrameListMembers.{framed_of, HasQueues}
-use Rattle.law_driver.specs.listed_queues.Queues.{LinksQueues}
+use Rattle.claims_driver.specs.FrameListMembers.{framed_of}
+use Rattle.law_driver.specs.listed_queues.Queues.{HasQueues, LinksQueues}
 
 pub queues_linked : (d : DriverContent) → HasOwners d → HasQueues d → LinksQueues d
 queues_linked d has old e x here on queued =

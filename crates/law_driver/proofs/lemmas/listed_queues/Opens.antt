@@ -39,7 +39,9 @@ use Rattle.drv_table.specs.Offers.{new_endpoint, placed_endpoint, accepted_chain
 use Rattle.claims_driver.specs.Owners.{FrameList, QueueHead}
 use Rattle.claims_driver.specs.Leaving.{HasOwners}
 use Rattle.law_driver.proofs.lemmas.run_owners.Taking.{runs_taken, blocks_some}
-use Rattle.claims_driver.specs.FrameListMembers.{Framed, framed_of, framed_in, IsStanding, IsQueueOf, HasList, IsListed, queue_of, is_in_queues, HasQueues}
+use Rattle.claims_driver.specs.FrameListMembers.{Framed, framed_of, framed_in}
+use Rattle.law_driver.specs.listed_members.Members.{IsStanding, IsQueueOf, HasList, IsListed}
+use Rattle.law_driver.specs.listed_queues.Queues.{queue_of, is_in_queues, HasQueues}
 use Rattle.law_driver.proofs.lemmas.listed_members.Schedules.{all_more, any_around, any_here, this_same, unnamed}
 use Rattle.law_driver.proofs.lemmas.listed_members.Standing.{frames_placed}
 use Rattle.law_driver.proofs.lemmas.listed_members.Framing.{is_below}

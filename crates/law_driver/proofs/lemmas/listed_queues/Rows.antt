@@ -31,7 +31,8 @@ use Rattle.claims_driver.specs.Leaving.{IsOrderly, HasOwners}
 use Rattle.law_driver.specs.run_owners.Due.{IsHarvestDue, IsDue}
 use Rattle.law_driver.proofs.lemmas.run_owners.Reasons.{each_is_due}
 use Rattle.law_driver.proofs.lemmas.run_owners.Harvest.{Waits, waits_is, is_served_found}
-use Rattle.claims_driver.specs.FrameListMembers.{IsListed, HasQueues}
+use Rattle.law_driver.specs.listed_members.Members.{IsListed}
+use Rattle.law_driver.specs.listed_queues.Queues.{HasQueues}
 use Rattle.law_driver.proofs.lemmas.listed_members.Standing.{Owns, owns}
 use Rattle.law_driver.proofs.lemmas.listed_members.Stays.{endpoint_set}
 use Rattle.law_driver.proofs.lemmas.listed_members.Calm.{is_calm, calm_idle, is_ended_found, ended_plain, harvest_quiet}

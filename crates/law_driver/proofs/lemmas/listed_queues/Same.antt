@@ -14,7 +14,8 @@ use Rattle.drv_table.specs.declared.content.Command.TheVariants as unfinished
 use Rattle.drv_table.specs.DriverContent.{DriverContent}
 use Rattle.drv_table.specs.Commands.{no_command, removal_of, leave_frames}
 use Rattle.law_driver.proofs.lemmas.run_owners.Released.{set_here, set_there}
-use Rattle.claims_driver.specs.FrameListMembers.{Framed, framed_of, framed_in, is_chained, is_in_queues, HasQueues}
+use Rattle.claims_driver.specs.FrameListMembers.{Framed, framed_of, framed_in, is_chained}
+use Rattle.law_driver.specs.listed_queues.Queues.{is_in_queues, HasQueues}
 use Rattle.law_driver.proofs.lemmas.listed_members.Calm.{is_calm, IsQuiet}
 
 pub record SameQueues (d e : DriverContent) : Type 0 where

@@ -14,7 +14,9 @@ use Rattle.drv_periodic_table.specs.Periodic.{queue_name}
 use Rattle.drv_table.specs.declared.content.Endpoint.{Endpoint}
 use Rattle.drv_table.specs.DriverContent.{DriverContent}
 use Rattle.claims_driver.specs.Leaving.{HasOwners}
-use Rattle.claims_driver.specs.FrameListMembers.{framed_of, framed_in, IsListed, HasQueues}
+use Rattle.claims_driver.specs.FrameListMembers.{framed_of, framed_in}
+use Rattle.law_driver.specs.listed_members.Members.{IsListed}
+use Rattle.law_driver.specs.listed_queues.Queues.{HasQueues}
 use Rattle.law_driver.specs.planned_endpoints.Planned.{IsPlanned}
 use Rattle.claims_driver.specs.DueMembers.{IsPlacedQueue, IsDueIn, AreDue, HasAllDue}
 use Rattle.law_driver.proofs.lemmas.planned_endpoints.Queues.{same_test, queues_placed}

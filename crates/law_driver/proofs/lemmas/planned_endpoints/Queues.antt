@@ -14,7 +14,8 @@ use Rattle.drv_periodic_table.specs.Periodic.{queue_name, queue_member}
 use Rattle.drv_table.specs.declared.content.Endpoint.{Endpoint}
 use Rattle.drv_table.specs.DriverContent.{DriverContent}
 use Rattle.claims_driver.specs.Leaving.{HasOwners}
-use Rattle.claims_driver.specs.FrameListMembers.{Framed, framed_of, IsQueueOf, IsListed}
+use Rattle.claims_driver.specs.FrameListMembers.{Framed, framed_of}
+use Rattle.law_driver.specs.listed_members.Members.{IsQueueOf, IsListed}
 use Rattle.law_driver.specs.planned_endpoints.Planned.{IsPlanned}
 use Rattle.claims_driver.specs.DueMembers.{IsPlacedQueue}
 use Rattle.law_driver.proofs.lemmas.planned_endpoints.Laws.{some_is, endpoint_planned}

@@ -42,7 +42,9 @@ use Rattle.law_driver.proofs.lemmas.run_owners.Released.{cancel_same, set_here, 
 use Rattle.law_driver.proofs.lemmas.run_owners.Reasons.{each_is_due}
 use Rattle.law_driver.proofs.lemmas.run_owners.Laws.{event_owned}
 use Rattle.law_driver.proofs.lemmas.run_owners.Runs.{placed_run}
-use Rattle.claims_driver.specs.Ring.{link_in, IsAmong, first, later, IsPublishing, IsMending, IsRing, IsSound}
+use Rattle.claims_driver.specs.Ring.{link_in, IsAmong, first, later}
+use Rattle.law_driver.specs.ring_members.Words.{IsPublishing, IsMending, IsRing}
+use Rattle.law_driver.specs.in_place.InPlace.{IsSound}
 use Rattle.law_driver.proofs.lemmas.ring_members.Links.{RingOf, SameRing}
 use Rattle.law_driver.proofs.lemmas.ring_members.Stores.{slots_apart, store_elsewhere}
 use Rattle.law_driver.proofs.lemmas.ring_members.Freed.{LeavesRest, lent_words, rest_qtds, rest_endpoint, rest_descriptor, rest_placed}

@@ -41,7 +41,8 @@ use Rattle.law_driver.proofs.lemmas.run_owners.Chains.{buffers_of}
 use Rattle.law_driver.proofs.lemmas.run_owners.Accepted.{drop_first, fresh_differs, within_slots}
 use Rattle.law_driver.proofs.lemmas.run_owners.Transferred.{are_new, goes_on_alive}
 use Rattle.law_driver.proofs.lemmas.run_owners.Ordered.{pushed, iso_periodic}
-use Rattle.claims_driver.specs.Ring.{link_in, step_to, LeadsFrom, AreLinked, AreLeaving, IsDescribing, StandsFor, IsRing}
+use Rattle.claims_driver.specs.Ring.{link_in}
+use Rattle.law_driver.specs.ring_members.Words.{step_to, LeadsFrom, AreLinked, AreLeaving, IsDescribing, StandsFor, IsRing}
 use Rattle.law_driver.proofs.lemmas.ring_members.Links.{linked_kept, linked_same}
 use Rattle.law_driver.proofs.lemmas.ring_members.Stores.{AreNotAt, AreApart, slots_apart, store_elsewhere, words_elsewhere, stages_elsewhere, sends_elsewhere, first_stored}
 use Rattle.law_driver.proofs.lemmas.ring_members.Leaving.{GoOn, same_go_on, leaving_kept}

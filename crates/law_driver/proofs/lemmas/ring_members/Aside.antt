@@ -22,7 +22,8 @@ use Rattle.law_driver.proofs.lemmas.run_owners.Apart.{has_within}
 use Rattle.law_driver.proofs.lemmas.run_owners.Runs.{placed_run}
 use Rattle.law_driver.proofs.lemmas.run_owners.Rows.{not_iso}
 use Rattle.drv_chains.specs.declared.members.Member.TheVariants.{Once}
-use Rattle.claims_driver.specs.FrameListMembers.{Framed, IsStanding, IsQueueOf, IsListed}
+use Rattle.claims_driver.specs.FrameListMembers.{Framed}
+use Rattle.law_driver.specs.listed_members.Members.{IsStanding, IsQueueOf, IsListed}
 use Rattle.law_driver.proofs.lemmas.listed_members.Schedules.{all_more}
 use Rattle.law_driver.proofs.lemmas.listed_members.Standing.{framed, one_endpoint}
 use Rattle.law_driver.proofs.lemmas.listed_members.Owned.{descriptor_owned, queue_owned}

@@ -43,7 +43,9 @@ use Rattle.law_driver.proofs.lemmas.run_owners.Orders.{times_both}
 use Rattle.law_driver.proofs.lemmas.run_owners.Released.{set_here, set_there, cancel_same}
 use Rattle.law_driver.proofs.lemmas.run_owners.Laws.{event_owned}
 use Rattle.law_driver.proofs.lemmas.run_owners.Reasons.{each_is_due}
-use Rattle.claims_driver.specs.Ring.{link_in, AreLinked, AreLeaving, IsOpening, IsUnlinking, IsPublishing, IsDescribing, StandsFor, IsMending, IsRing, IsSound}
+use Rattle.claims_driver.specs.Ring.{link_in}
+use Rattle.law_driver.specs.ring_members.Words.{AreLinked, AreLeaving, IsOpening, IsUnlinking, IsPublishing, IsDescribing, StandsFor, IsMending, IsRing}
+use Rattle.law_driver.specs.in_place.InPlace.{IsSound}
 use Rattle.law_driver.proofs.lemmas.ring_members.Aside.{IsOffRing, AreApart as ListApart, IsListApart, list_apart}
 use Rattle.law_driver.proofs.lemmas.ring_members.Lists.{store_is_apart}
 use Rattle.law_driver.proofs.lemmas.ring_members.Links.{RingOf, ring_of, SameRing, LeadsTo, linked_kept, linked_same, passed, joined, oldest_is, oldest_not, dropped}

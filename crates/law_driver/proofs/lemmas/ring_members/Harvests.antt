@@ -14,7 +14,7 @@ use Rattle.drv_table.specs.Harvests.{noted, is_stall, end_of}
 use Rattle.drv_table.specs.Harvesting.{served, told_with, goes_on, behind_one, behind, stalled, mends_of, after_end, harvested_as, after_harvest}
 use Rattle.drv_table.specs.Releases.{cancel_told, is_told}
 use Rattle.law_driver.proofs.lemmas.run_owners.Stays.{same_view}
-use Rattle.claims_driver.specs.Ring.{IsMending}
+use Rattle.law_driver.specs.ring_members.Words.{IsMending}
 use Rattle.law_driver.proofs.lemmas.ring_members.Links.{ring_of, SameRing}
 
 pub record StaysRing (d e : DriverContent) : Type 0 where

@@ -8,7 +8,8 @@ use Rattle.drv_table.specs.Accepting.{Offered}
 use Rattle.drv_table.specs.Offers.{offered}
 use Rattle.drv_table.specs.Words.{head_block}
 use Rattle.law_driver.proofs.lemmas.run_owners.Commands.{accepted_for_a_reason}
-use Rattle.claims_driver.specs.Ring.{members, IsChain, StandsFor, IsRing}
+use Rattle.claims_driver.specs.Ring.{members, IsChain}
+use Rattle.law_driver.specs.ring_members.Words.{StandsFor, IsRing}
 use Rattle.law_driver.specs.ring_members.Ring.{KeepsRing}
 use Rattle.law_driver.proofs.lemmas.ring_members.Links.{ring_is_read}
 use Rattle.law_driver.proofs.lemmas.ring_members.Accepted.{accepted_ring}

@@ -7,7 +7,8 @@ use Rattle.drv_table.specs.Words.{head_block, queue_head_link}
 use Rattle.claims_driver.specs.Leaving.{times}
 use Rattle.law_driver.proofs.lemmas.run_owners.Orders.{one_same}
 use Rattle.law_driver.specs.ring_members.Links.{newest_from}
-use Rattle.claims_driver.specs.Ring.{LeadsFrom, AreLinked, step_to, IsQueueOf, IsAmong, first, later, IsTarget, to_head, to_member, to_later, Leaves, AreLeaving}
+use Rattle.claims_driver.specs.Ring.{IsQueueOf, IsAmong, first, later}
+use Rattle.law_driver.specs.ring_members.Words.{LeadsFrom, AreLinked, step_to, IsTarget, to_head, to_member, to_later, Leaves, AreLeaving}
 use Rattle.law_driver.proofs.lemmas.ring_members.Links.{RingOf, ring_of, SameRing, LeadsTo, newest_is}
 
 -- ---- endpoints that stay where they are, and in the ring if they were

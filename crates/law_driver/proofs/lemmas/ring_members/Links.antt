@@ -6,7 +6,8 @@ use Rattle.usb_base.specs.declared.endpoints.EpDesc.{EpDesc}
 use Rattle.drv_table.specs.declared.content.Endpoint.{Endpoint}
 use Rattle.drv_table.specs.Words.{head_block, queue_head_link}
 use Rattle.drv_table.specs.Accepting.{oldest_of}
-use Rattle.claims_driver.specs.Ring.{step_to, members_from, members, IsChain, LeadsFrom, AreLinked}
+use Rattle.claims_driver.specs.Ring.{members_from, members, IsChain}
+use Rattle.law_driver.specs.ring_members.Words.{step_to, LeadsFrom, AreLinked}
 use Rattle.law_driver.specs.ring_members.Links.{newest_from}
 
 -- ---- the words of the ring stay

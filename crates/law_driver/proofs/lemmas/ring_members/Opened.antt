@@ -7,7 +7,8 @@ use Rattle.qh_qtd.specs.QueueHead.{qh_words}
 use Rattle.drv_table.specs.declared.content.Reserve.{Reserve}
 use Rattle.drv_table.specs.Words.{head_block, queue_head_link, opening_head}
 use Rattle.drv_table.specs.Opening.{opening}
-use Rattle.claims_driver.specs.Ring.{link_in, IsRing}
+use Rattle.claims_driver.specs.Ring.{link_in}
+use Rattle.law_driver.specs.ring_members.Words.{IsRing}
 
 head_many : length (qh_words opening_head) ≡ 12
 unfolding qh_words

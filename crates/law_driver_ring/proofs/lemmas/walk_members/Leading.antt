@@ -10,7 +10,8 @@ use Rattle.drv_table.specs.DriverContent.{DriverContent}
 use Rattle.drv_table.specs.Words.{head_block, queue_head_link}
 use Rattle.law_driver.proofs.lemmas.run_owners.Ordered.{pushed}
 use Rattle.law_driver.specs.ring_members.Links.{newest_from}
-use Rattle.claims_driver.specs.Ring.{step_to, AreLinked, IsAmong, first, later, IsTarget, to_head, to_member, to_later, AreLeaving, StandsFor, IsRing}
+use Rattle.claims_driver.specs.Ring.{IsAmong, first, later}
+use Rattle.law_driver.specs.ring_members.Words.{step_to, AreLinked, IsTarget, to_head, to_member, to_later, AreLeaving, StandsFor, IsRing}
 use Rattle.law_driver.proofs.lemmas.ring_members.Links.{LeadsTo, newest_is}
 use Rattle.law_driver.proofs.lemmas.ring_members.Leaving.{link_at, get_take, leaving_rest}
 use Rattle.law_driver.proofs.lemmas.ring_members.Events.{older_get}

@@ -40,7 +40,8 @@ use Rattle.async_walk.specs.Naks.{may_work, planned, mode_after, reloaded, count
 use Rattle.async_walk.specs.Rows.{WalkPlace, started, at_event, event_row, fetch_row, ring_row, work_row, taken_row, visit_row, held_row, cursor_link, row_at, fetched_registers, passed_walk, faulted, took, wrote, wrote_settled, wrote_place, writing, Sends, SentAt, Leads, ring_copy}
 use Rattle.drv_table.specs.DriverContent.{DriverContent}
 use Rattle.drv_table.specs.Words.{head_block}
-use Rattle.claims_driver.specs.Ring.{link_in, IsRing}
+use Rattle.claims_driver.specs.Ring.{link_in}
+use Rattle.law_driver.specs.ring_members.Words.{IsRing}
 use Rattle.claims_driver.specs.InPlace.{AreFixed}
 use Rattle.claims_driver.specs.Walk.{IsReached, at_head, at_member, at_waiting, at_rung, LeadsOn, IsCopyIn, IsWalkIn}
 use Rattle.law_driver_ring.specs.walk_members.Reached.{AreNoHeads}

@@ -15,7 +15,8 @@ use Rattle.drv_table.specs.declared.content.Endpoint.{Endpoint}
 use Rattle.drv_table.specs.DriverContent.{DriverContent}
 use Rattle.claims_driver.specs.Owners.{Owner, FrameList, Head, QueueHead, Element, Described, SlotHas}
 use Rattle.claims_driver.specs.Leaving.{HasOwners}
-use Rattle.claims_driver.specs.FrameListMembers.{Framed, IsQueueOf, IsStanding, IsListed}
+use Rattle.claims_driver.specs.FrameListMembers.{Framed}
+use Rattle.law_driver.specs.listed_members.Members.{IsQueueOf, IsStanding, IsListed}
 use Rattle.law_driver.proofs.lemmas.listed_members.Standing.{framed, one_endpoint}
 use Rattle.law_driver.proofs.lemmas.listed_members.Owned.{descriptor_owned, queue_owned}
 use Rattle.law_driver.proofs.lemmas.ring_members.Stores.{slots_apart, store_elsewhere}

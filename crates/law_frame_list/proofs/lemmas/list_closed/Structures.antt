@@ -9,7 +9,7 @@ use Rattle.link_words.specs.Links.{link_read, link_word}
 use Rattle.link_words.proofs.LinkLaws.{link_read-word}
 use Rattle.drv_periodic_table.specs.Periodic.{note_at}
 use Rattle.drv_table.specs.DriverContent.{DriverContent}
-use Rattle.claims_driver.specs.FrameListMembers.{IsListed, IsQueueOf, IsStanding}
+use Rattle.law_driver.specs.listed_members.Members.{IsListed, IsQueueOf, IsStanding}
 use Rattle.law_driver.proofs.lemmas.listed_members.Standing.{standing_block}
 use Rattle.law_frame_list.proofs.lemmas.list_spread.Spreading.{queue_there, standing_there}
 use Rattle.law_frame_list.specs.list_closed.Closed.{IsNext, structure, TellStructures}

@@ -25,7 +25,7 @@ use Rattle.claims_driver.specs.Owners.{HasRun, SlotHas}
 use Rattle.law_driver.specs.run_owners.Accepts.{Opens, Places, Cancels, Unchains}
 use Rattle.claims_driver.specs.Leaving.{HasOwners}
 use Rattle.law_driver.proofs.lemmas.run_owners.Taking.{AreTaken, runs_taken}
-use Rattle.claims_driver.specs.FrameListMembers.{IsListed}
+use Rattle.law_driver.specs.listed_members.Members.{IsListed}
 use Rattle.law_driver.proofs.lemmas.ring_members.Stores.{slots_apart, words_elsewhere}
 use Rattle.law_frame_words.specs.list_words.Spared.{LeavesList}
 use Rattle.law_frame_list.proofs.lemmas.list_stands.Listing.{stands_left}

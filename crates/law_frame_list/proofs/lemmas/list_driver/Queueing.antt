@@ -24,11 +24,13 @@ use Rattle.drv_table.specs.Rows.{driver_row, after_driver_row, row_for}
 use Rattle.drv_table.specs.Commands.{command_row, link_row, advanced_by, linked_on, or_finished, finished, no_command}
 use Rattle.drv_table.specs.FrameChoice.{framed_by, framed_notes, placement_at, with_notes, linked_by}
 use Rattle.law_driver.specs.run_owners.Accepts.{Accepts, opens, chains, places, transfers, describes, cancels, unchains}
-use Rattle.claims_driver.specs.Ring.{IsSound}
-use Rattle.claims_driver.specs.FrameListMembers.{Placed, placed_in, is_in_names, IsDescribing, IsUnderWay, IsListed}
+use Rattle.law_driver.specs.in_place.InPlace.{IsSound}
+use Rattle.claims_driver.specs.FrameListMembers.{Placed, placed_in}
+use Rattle.law_driver.specs.listed_members.Members.{is_in_names, IsDescribing, IsUnderWay, IsListed}
 use Rattle.law_driver.proofs.lemmas.listed_members.Standing.{IsSeen, seen}
 use Rattle.claims_driver.specs.DueMembers.{HasOneEach}
-use Rattle.claims_driver.specs.FrameWords.{ListStands, AreLeading, AreToLink}
+use Rattle.claims_driver.specs.FrameWords.{ListStands}
+use Rattle.law_frame_list.specs.list_driver.Keeping.{AreLeading, AreToLink}
 use Rattle.law_frame_list.specs.list_steps.Steps.{IsLinkingStep}
 use Rattle.law_frame_list.proofs.lemmas.list_queued.Apart.{way_of}
 use Rattle.law_frame_list.proofs.lemmas.list_queued.Linked.{goes_on as stored_on, link_leads}

@@ -19,12 +19,13 @@ use Rattle.drv_table.specs.Commands.{events_of, links}
 use Rattle.law_driver.specs.run_owners.Due.{IsDue}
 use Rattle.law_driver.proofs.lemmas.run_owners.Commands.{accepted_for_a_reason}
 use Rattle.law_driver.proofs.lemmas.run_owners.Reasons.{each_is_due}
-use Rattle.claims_driver.specs.Ring.{IsSound}
+use Rattle.law_driver.specs.in_place.InPlace.{IsSound}
 use Rattle.law_driver.proofs.lemmas.ring_members.Events.{chain_never, iso_never, unchain_never}
 use Rattle.law_driver.specs.iso_frames.Frames.{AreInFrames}
 use Rattle.claims_driver.specs.DueMembers.{HasOneEach}
 use Rattle.law_driver.proofs.lemmas.iso_frames.Due.{one_each}
-use Rattle.claims_driver.specs.FrameWords.{ListStands, KeepsItsList}
+use Rattle.claims_driver.specs.FrameWords.{ListStands}
+use Rattle.law_frame_list.specs.list_driver.Keeping.{KeepsItsList}
 use Rattle.law_frame_list.proofs.lemmas.list_stands.Listing.{opening_stands}
 use Rattle.law_frame_list.specs.list_aside.Elsewhere.{links_now, is_elsewhere}
 use Rattle.law_frame_list.proofs.lemmas.list_aside.Elsewhere.{elsewhere_stands}

@@ -19,7 +19,7 @@ use Rattle.law_driver.proofs.lemmas.run_owners.Taking.{AreTaken, runs_taken}
 use Rattle.law_driver.proofs.lemmas.run_owners.Chains.{few_runs}
 use Rattle.law_driver.proofs.lemmas.run_owners.Accepted.{drop_first, fresh_differs}
 use Rattle.law_driver.proofs.lemmas.ring_members.Stores.{AreApart, slots_apart, words_elsewhere}
-use Rattle.claims_driver.specs.FrameListMembers.{IsListed}
+use Rattle.law_driver.specs.listed_members.Members.{IsListed}
 use Rattle.claims_driver.specs.FrameWords.{ListStands}
 use Rattle.law_frame_list.proofs.lemmas.list_stands.Listing.{stands_left}
 use Rattle.law_frame_list.proofs.lemmas.list_aside.Aside.{rest_leaves}

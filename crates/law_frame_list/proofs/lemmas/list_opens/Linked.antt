@@ -39,7 +39,7 @@ use Rattle.law_driver.proofs.lemmas.run_owners.Accepted.{drop_first, fresh_diffe
 use Rattle.law_driver.proofs.lemmas.ring_members.Stores.{slots_apart, words_elsewhere, first_stored}
 use Rattle.law_driver.proofs.lemmas.ring_members.Placed.{has_word, can_begin, word_inside}
 use Rattle.law_driver.proofs.lemmas.ring_members.Accepted.{shaped_taken}
-use Rattle.claims_driver.specs.FrameListMembers.{IsQueueOf, IsUnderWay, IsListed}
+use Rattle.law_driver.specs.listed_members.Members.{IsQueueOf, IsUnderWay, IsListed}
 use Rattle.law_driver.proofs.lemmas.listed_members.Schedules.{all_more}
 use Rattle.law_frame_words.specs.list_words.Spared.{LeavesList}
 use Rattle.law_frame_list.proofs.lemmas.list_stands.Listing.{stands_left}

@@ -28,7 +28,7 @@ use Rattle.law_driver.proofs.lemmas.run_owners.Accepted.{drop_first, fresh_diffe
 use Rattle.law_driver.proofs.lemmas.run_owners.Transferred.{are_new, goes_on_alive}
 use Rattle.law_driver.proofs.lemmas.ring_members.Stores.{AreNotAt, slots_apart, words_elsewhere, stages_elsewhere}
 use Rattle.law_driver.proofs.lemmas.ring_members.Placed.{has_queue}
-use Rattle.claims_driver.specs.FrameListMembers.{IsListed}
+use Rattle.law_driver.specs.listed_members.Members.{IsListed}
 use Rattle.law_driver.proofs.lemmas.listed_members.Owned.{descriptor_owned, queue_owned}
 use Rattle.law_frame_list.proofs.lemmas.list_spread.Spreading.{IsHis, his, slot_has, queue_there, standing_there}
 use Rattle.law_frame_words.specs.list_words.Spared.{LeavesList}

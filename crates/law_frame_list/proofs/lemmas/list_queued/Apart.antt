@@ -17,7 +17,8 @@ use Rattle.drv_table.specs.DriverContent.{DriverContent}
 use Rattle.claims_driver.specs.Owners.{Owner, FrameList, QueueHead, Described, IsPlaced}
 use Rattle.mem_runs.specs.Book.{slot_of}
 use Rattle.claims_driver.specs.Leaving.{HasOwners}
-use Rattle.claims_driver.specs.FrameListMembers.{Placed, placed_in, is_among, is_in_names, AreOnce, member_of, IsStanding, IsQueueOf, IsWaitingOf, IsDescribing, IsUnderWay, IsListed}
+use Rattle.claims_driver.specs.FrameListMembers.{Placed, placed_in, is_among, member_of}
+use Rattle.law_driver.specs.listed_members.Members.{is_in_names, AreOnce, IsStanding, IsQueueOf, IsWaitingOf, IsDescribing, IsUnderWay, IsListed}
 use Rattle.law_driver.proofs.lemmas.listed_members.Standing.{seen, owns, descriptor_placed, descriptor_block, standing_owner, transfer_of}
 use Rattle.law_driver.proofs.lemmas.listed_members.Owned.{queue_owned}
 use Rattle.law_driver.proofs.lemmas.listed_members.Describing.{linked_as}

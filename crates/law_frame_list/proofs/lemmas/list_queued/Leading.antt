@@ -14,7 +14,7 @@ use Rattle.law_frame_words.proofs.lemmas.frame_words.Opening.{newest_first}
 use Rattle.drv_periodic.specs.Periodic.{Periodic, link_to, address_of, inserting}
 use Rattle.drv_periodic_table.specs.Periodic.{PeriodicContent}
 use Rattle.drv_periodic_table.specs.Linking.{may_link, linking, with_first, begun_next}
-use Rattle.claims_driver.specs.FrameWords.{LeadsOn}
+use Rattle.law_frame_list.specs.list_driver.Keeping.{LeadsOn}
 
 added_first : (ds : List Descriptor) (k : Descriptor) (qs : List Queue) → chain (of_lists (k ∷ ds) qs) k.frame ≡ Once k ∷ chain (of_lists ds qs) k.frame
 added_first ds k qs =

@@ -33,19 +33,21 @@ use Rattle.claims_driver.specs.Owners.{Described, HasRun, SlotHas}
 use Rattle.law_driver.specs.run_owners.Due.{IsDue, IsNextOf}
 use Rattle.law_driver.proofs.lemmas.run_owners.Reasons.{each_is_due}
 use Rattle.law_driver.proofs.lemmas.run_owners.Runs.{placed_run}
-use Rattle.claims_driver.specs.Ring.{IsSound}
+use Rattle.law_driver.specs.in_place.InPlace.{IsSound}
 use Rattle.law_driver.proofs.lemmas.ring_members.Stores.{AreApart, slots_apart, store_elsewhere}
 use Rattle.law_driver.proofs.lemmas.ring_members.Placed.{has_word, can_begin, word_inside}
 use Rattle.law_driver.proofs.lemmas.ring_members.Events.{dropped_get}
 use Rattle.law_driver.proofs.lemmas.ring_members.Freed.{lent_words}
-use Rattle.claims_driver.specs.FrameListMembers.{is_in_names, member_of, to_come, IsStanding, IsQueueOf, IsWaitingOf, IsDescribing}
+use Rattle.claims_driver.specs.FrameListMembers.{member_of}
+use Rattle.law_driver.specs.listed_members.Members.{is_in_names, to_come, IsStanding, IsQueueOf, IsWaitingOf, IsDescribing}
 use Rattle.law_driver.proofs.lemmas.listed_members.Standing.{IsSeen, seen, descriptor_placed, descriptor_block}
 use Rattle.law_driver.proofs.lemmas.listed_members.Schedules.{all_more, unnamed}
 use Rattle.law_driver.proofs.lemmas.listed_members.Unlinks.{seen_block, below_frames}
 use Rattle.claims_driver.specs.DueMembers.{HasOneEach}
 use Rattle.law_frame_list.proofs.lemmas.list_spread.Spreading.{IsHis, his, slot_has}
 use Rattle.law_frame_words.specs.list_words.Spared.{LeavesList}
-use Rattle.claims_driver.specs.FrameWords.{ListStands, LeadsOn, AreLeading, IsToLink, AreToLink}
+use Rattle.claims_driver.specs.FrameWords.{ListStands}
+use Rattle.law_frame_list.specs.list_driver.Keeping.{LeadsOn, AreLeading, IsToLink, AreToLink}
 use Rattle.law_frame_list.proofs.lemmas.list_stands.Listing.{stands_left}
 use Rattle.law_frame_list.proofs.lemmas.list_steps.Stepping.{PeriodicStands, next_stands}
 use Rattle.law_frame_list.proofs.lemmas.list_queued.Leading.{AreOnces, new_next, leads_by, next_leads}

@@ -21,13 +21,14 @@ use Rattle.drv_table.specs.Rows.{driver_row, after_driver_row, row_for}
 use Rattle.drv_table.specs.Commands.{command_row, link_row, advance, advanced_by, linked_on, or_finished, no_command}
 use Rattle.claims_driver.specs.Owners.{Described, SlotHas}
 use Rattle.law_driver.proofs.lemmas.run_owners.Runs.{placed_run}
-use Rattle.claims_driver.specs.Ring.{IsSound}
+use Rattle.law_driver.specs.in_place.InPlace.{IsSound}
 use Rattle.law_driver.proofs.lemmas.ring_members.Stores.{slots_apart, store_elsewhere}
 use Rattle.law_driver.proofs.lemmas.ring_members.Placed.{has_first}
-use Rattle.claims_driver.specs.FrameListMembers.{is_in_names, IsWaitingOf, IsDescribing}
+use Rattle.law_driver.specs.listed_members.Members.{is_in_names, IsWaitingOf, IsDescribing}
 use Rattle.law_driver.proofs.lemmas.listed_members.Stores.{linked_store}
 use Rattle.claims_driver.specs.DueMembers.{HasOneEach}
-use Rattle.claims_driver.specs.FrameWords.{ListStands, LeadsOn, AreLeading}
+use Rattle.claims_driver.specs.FrameWords.{ListStands}
+use Rattle.law_frame_list.specs.list_driver.Keeping.{LeadsOn, AreLeading}
 use Rattle.law_frame_list.specs.list_steps.Steps.{IsLinkingStep, NextLeads}
 use Rattle.law_frame_list.proofs.lemmas.list_steps.Stepping.{step_stands}
 use Rattle.law_frame_list.proofs.lemmas.list_rows.Storing.{GoesInto, the_list, a_member, store_into}

@@ -17,12 +17,14 @@ use Rattle.drv_table.specs.Rows.{driver_row, after_driver_row}
 use Rattle.law_driver.specs.run_owners.Due.{IsDue}
 use Rattle.claims_driver.specs.Leaving.{HasOwners}
 use Rattle.law_driver.proofs.lemmas.run_owners.Reasons.{each_is_due}
-use Rattle.claims_driver.specs.FrameListMembers.{IsListed}
-use Rattle.claims_driver.specs.Ring.{IsMending, IsSound}
+use Rattle.law_driver.specs.listed_members.Members.{IsListed}
+use Rattle.law_driver.specs.ring_members.Words.{IsMending}
+use Rattle.law_driver.specs.in_place.InPlace.{IsSound}
 use Rattle.law_driver.proofs.lemmas.ring_members.Stores.{slots_apart, store_elsewhere}
 use Rattle.law_driver.proofs.lemmas.ring_members.Events.{first_mend}
 use Rattle.law_frame_words.specs.list_words.Spared.{LeavesList}
-use Rattle.claims_driver.specs.FrameWords.{ListStands, MendsAside}
+use Rattle.claims_driver.specs.FrameWords.{ListStands}
+use Rattle.law_frame_list.specs.list_driver.Keeping.{MendsAside}
 use Rattle.law_frame_list.proofs.lemmas.list_stands.Listing.{stands_left}
 use Rattle.law_frame_list.proofs.lemmas.list_spread.Spreading.{slot_has}
 

@@ -49,7 +49,7 @@ use Rattle.law_driver.proofs.lemmas.run_owners.Commands.{accepted_for_a_reason}
 use Rattle.law_driver.proofs.lemmas.run_owners.Reasons.{each_is_due}
 use Rattle.law_driver.proofs.lemmas.run_owners.Transferred.{goes_on_alive}
 use Rattle.law_driver.proofs.lemmas.ring_members.Placed.{has_queue, queue_placed}
-use Rattle.claims_driver.specs.FrameWords.{MendsAside}
+use Rattle.law_frame_list.specs.list_driver.Keeping.{MendsAside}
 
 either_if : {A : Type 0} (P : A → Type 0) (b : Bool) (x y : A) → P x → P y → P (if b then x else y)
 either_if P true x y one other = one

@@ -35,9 +35,10 @@ use Rattle.law_driver.specs.run_owners.Due.{IsDue, IsUnlinkDue}
 use Rattle.claims_driver.specs.Leaving.{HasOwners}
 use Rattle.law_driver.proofs.lemmas.run_owners.Orders.{times_first, one_same}
 use Rattle.law_driver.proofs.lemmas.run_owners.Reasons.{each_is_due}
-use Rattle.claims_driver.specs.FrameListMembers.{is_chained, framed_in, is_among as is_in, IsUnderWay, IsListed}
+use Rattle.claims_driver.specs.FrameListMembers.{is_chained, framed_in, is_among as is_in}
+use Rattle.law_driver.specs.listed_members.Members.{IsUnderWay, IsListed}
 use Rattle.law_driver.proofs.lemmas.listed_members.Unlinks.{placed_here, below_frames}
-use Rattle.claims_driver.specs.Ring.{IsSound}
+use Rattle.law_driver.specs.in_place.InPlace.{IsSound}
 use Rattle.law_frame_list.proofs.lemmas.list_rows.Storing.{IsStored, store_made}
 
 -- ---- a linked descriptor has a word before it

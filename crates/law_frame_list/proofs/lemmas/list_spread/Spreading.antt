@@ -23,7 +23,8 @@ use Rattle.drv_table.specs.DriverContent.{DriverContent}
 use Rattle.claims_driver.specs.Owners.{Owner, FrameList, QueueHead, Dummy, Element, Described, Buffer, HasBlocks, SlotHas, IsRunFor, IsPlaced}
 use Rattle.claims_driver.specs.Leaving.{HasOwners}
 use Rattle.law_driver.proofs.lemmas.run_owners.Laws.{owners_apart}
-use Rattle.claims_driver.specs.FrameListMembers.{Framed, framed_in, Placed, placed_in, member_of, IsStanding, IsQueueOf, IsListed}
+use Rattle.claims_driver.specs.FrameListMembers.{Framed, framed_in, Placed, placed_in, member_of}
+use Rattle.law_driver.specs.listed_members.Members.{IsStanding, IsQueueOf, IsListed}
 use Rattle.law_driver.specs.listed_members.Listed.{IsOwnedAs}
 use Rattle.law_driver.proofs.lemmas.listed_members.Owned.{descriptor_owned, queue_owned}
 use Rattle.law_driver.proofs.lemmas.listed_members.Standing.{descriptor_placed, standing_block, why_stands}

@@ -26,7 +26,7 @@ use Rattle.drv_table.specs.Parts.{Parts}
 use Rattle.drv_table.specs.Rows.{driver_row, after_driver_row, row_for}
 use Rattle.drv_table.specs.Commands.{next_row, command_row, link_row, events_of, links, removes_members, advance, advanced_by, or_finished, finished, no_command, leave_ring, leave_frames}
 use Rattle.claims_driver.specs.Leaving.{HasOwners}
-use Rattle.claims_driver.specs.FrameListMembers.{IsUnderWay, IsListed}
+use Rattle.law_driver.specs.listed_members.Members.{IsUnderWay, IsListed}
 use Rattle.law_frame_list.specs.list_stores.Storing.{IsStoredFor}
 use Rattle.law_frame_list.proofs.lemmas.list_stores.Making.{store_stands}
 use Rattle.law_frame_list.specs.list_steps.Steps.{IsLinkingStep, NextLeads, IsOfInterrupt}

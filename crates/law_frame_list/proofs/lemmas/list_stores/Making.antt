@@ -28,7 +28,7 @@ use Rattle.law_frame_words.proofs.lemmas.frame_words.Order.{store_in_order}
 use Rattle.drv_table.specs.DriverContent.{DriverContent}
 use Rattle.claims_driver.specs.Owners.{HasBlocks}
 use Rattle.claims_driver.specs.Leaving.{HasOwners}
-use Rattle.claims_driver.specs.FrameListMembers.{IsListed}
+use Rattle.law_driver.specs.listed_members.Members.{IsListed}
 use Rattle.law_frame_words.proofs.lemmas.list_words.Sparing.{stands_where_left}
 use Rattle.law_frame_list.proofs.lemmas.list_spread.Spreading.{IsHis, his, members_spread}
 use Rattle.law_frame_list.specs.list_stores.Storing.{IsStoredFor}

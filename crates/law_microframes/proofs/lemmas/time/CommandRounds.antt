@@ -19,7 +19,8 @@ use Rattle.claims_base.specs.Controller.{opening_base}
 use Rattle.law_driver.proofs.lemmas.run_owners.Commands.{accepted_for_a_reason}
 use Rattle.law_driver.proofs.lemmas.run_owners.Orders.{times_both}
 use Rattle.law_driver.proofs.lemmas.run_owners.Released.{set_here, set_there}
-use Rattle.claims_driver.specs.Ring.{link_in, IsQueueOf, IsAmong, IsOpening}
+use Rattle.claims_driver.specs.Ring.{link_in, IsQueueOf, IsAmong}
+use Rattle.law_driver.specs.ring_members.Words.{IsOpening}
 use Rattle.law_driver.proofs.lemmas.ring_members.Events.{stands_as}
 use Rattle.law_driver.proofs.lemmas.ring_members.Accepted.{one_more_on}
 use Rattle.law_driver.proofs.lemmas.ring_members.Leaving.{GoOn}

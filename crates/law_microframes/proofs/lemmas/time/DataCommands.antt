@@ -43,7 +43,7 @@ use Rattle.law_driver_ring.specs.Pieces.{stage_qtd}
 use Rattle.law_driver.specs.chained_transfers.Bulk.{stage_by}
 use Rattle.law_driver.specs.chained_transfers.Chains.{piece_at}
 use Rattle.law_driver_ring.specs.fed_queues.Fed.{IsPublished}
-use Rattle.claims_driver.specs.InPlace.{IsInPlace}
+use Rattle.law_driver.specs.in_place.InPlace.{IsInPlace}
 use Rattle.law_driver_ring.proofs.Holding.{qtd_range, blocks_low}
 use Rattle.law_driver.proofs.lemmas.chained_transfers.Chained.{piece_same, pieces_same}
 use Rattle.law_driver.proofs.lemmas.chained_transfers.Queued.{not_dummy}

@@ -32,7 +32,8 @@ use Rattle.drv_table.specs.Removals.{stored_link, descriptor_leaving, after_unli
 use Rattle.claims_driver.specs.Owners.{FrameList, Element, HasRun, SlotHas, IsPlaced}
 use Rattle.law_driver.specs.run_owners.Due.{IsDue}
 use Rattle.claims_driver.specs.Leaving.{HasOwners}
-use Rattle.claims_driver.specs.Ring.{link_in, IsMending, IsRing}
+use Rattle.claims_driver.specs.Ring.{link_in}
+use Rattle.law_driver.specs.ring_members.Words.{IsMending, IsRing}
 use Rattle.law_driver.proofs.lemmas.ring_members.Stores.{slots_apart, store_elsewhere}
 use Rattle.law_driver.proofs.lemmas.ring_members.Freed.{lent_words, rest_qtds, rest_endpoint, rest_descriptor, rest_placed}
 use Rattle.law_driver.proofs.lemmas.ring_members.Events.{open_store, unlink_store, publish_store, chain_never, iso_never, unchain_never, begun_members}

@@ -13,7 +13,7 @@ use Rattle.law_driver.specs.run_owners.Due.{IsDue, IsNextOf, IsLinkOf}
 use Rattle.claims_driver.specs.Leaving.{HasOwners}
 use Rattle.law_driver.proofs.lemmas.run_owners.Laws.{event_owned}
 use Rattle.law_driver.proofs.lemmas.run_owners.Reasons.{each_is_due}
-use Rattle.claims_driver.specs.Ring.{IsSound}
+use Rattle.law_driver.specs.in_place.InPlace.{IsSound}
 use Rattle.law_driver.proofs.lemmas.ring_members.Events.{chain_never, iso_never, unchain_never}
 use Rattle.law_driver_ring.proofs.lemmas.walk_members.Driving.{Reaches, row_reach}
 use Rattle.law_world.proofs.lemmas.steps.lemmas.controlled_walks.Worlds.{driver_walks}

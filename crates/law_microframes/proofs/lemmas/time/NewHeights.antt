@@ -24,7 +24,8 @@ use Rattle.drv_table.specs.Kinds.{is_iso}
 use Rattle.claims_driver.specs.Leaving.{HasOwners}
 use Rattle.law_driver.proofs.lemmas.run_owners.Ordered.{pushed}
 use Rattle.law_driver.proofs.lemmas.run_owners.Rows.{not_iso}
-use Rattle.claims_driver.specs.Ring.{link_in, IsQueueOf, IsAmong, first, later, AreLeaving, IsOpening, IsRing}
+use Rattle.claims_driver.specs.Ring.{link_in, IsQueueOf, IsAmong, first, later}
+use Rattle.law_driver.specs.ring_members.Words.{AreLeaving, IsOpening, IsRing}
 use Rattle.law_driver.specs.ring_members.Links.{newest_from}
 use Rattle.law_driver.proofs.lemmas.ring_members.Links.{LeadsTo, newest_is}
 use Rattle.law_driver.proofs.lemmas.ring_members.Placed.{has_queue, in_ring_alive, queue_off_head, queues_apart}

@@ -10,7 +10,7 @@ use Rattle.drv_table.specs.DriverContent.{DriverContent}
 use Rattle.drv_table.specs.Accepting.{Offered, first_waiting}
 use Rattle.drv_table.specs.IsoOffers.{slots_of}
 use Rattle.claims_driver.specs.Owners.{is_descriptor}
-use Rattle.claims_driver.specs.InPlace.{IsInPlace}
+use Rattle.law_driver.specs.in_place.InPlace.{IsInPlace}
 use Rattle.law_driver.proofs.lemmas.listed_members.Events.{in_frames}
 use Rattle.law_driver.proofs.lemmas.run_owners.Released.{set_here}
 use Rattle.law_descriptors.proofs.Accepted.{made}

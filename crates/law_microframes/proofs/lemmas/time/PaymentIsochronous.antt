@@ -39,7 +39,8 @@ use Rattle.law_driver.specs.run_owners.Accepts.{Accepts, opens, chains, places, 
 use Rattle.law_driver.proofs.lemmas.run_owners.Reasons.{each_is_due}
 use Rattle.law_driver.proofs.lemmas.run_owners.Commands.{accepted_for_a_reason}
 use Rattle.law_driver.proofs.lemmas.run_owners.Orders.{endpoint_first}
-use Rattle.claims_driver.specs.FrameListMembers.{framed_in, is_chained, is_among, IsStanding, IsListed}
+use Rattle.claims_driver.specs.FrameListMembers.{framed_in, is_chained, is_among}
+use Rattle.law_driver.specs.listed_members.Members.{IsStanding, IsListed}
 use Rattle.law_driver.proofs.lemmas.listed_members.Standing.{IsSeen, seen, IsIn, in_frames, IsReported, unlinks_reported, standing_block, why_stands}
 use Rattle.law_driver.proofs.lemmas.listed_members.Owned.{queue_owned}
 use Rattle.law_driver.proofs.lemmas.chained_transfers.Harvesting.{waits_is}

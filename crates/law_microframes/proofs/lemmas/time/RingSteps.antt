@@ -14,7 +14,9 @@ use Rattle.drv_table.specs.Words.{head_block, queue_head_link}
 use Rattle.drv_table.specs.Accepting.{newest_of, oldest_of}
 use Rattle.drv_table.specs.Parts.{Parts}
 use Rattle.drv_table.specs.Commands.{events_of, advance}
-use Rattle.claims_driver.specs.Ring.{link_in, step_to, LeadsFrom, AreLinked, IsOpening, IsUnlinking, IsSound}
+use Rattle.claims_driver.specs.Ring.{link_in}
+use Rattle.law_driver.specs.ring_members.Words.{step_to, LeadsFrom, AreLinked, IsOpening, IsUnlinking}
+use Rattle.law_driver.specs.in_place.InPlace.{IsSound}
 use Rattle.law_driver.specs.ring_members.Links.{newest_from}
 use Rattle.law_driver.proofs.lemmas.ring_members.Leaving.{link_at}
 use Rattle.law_driver.proofs.lemmas.ring_members.Placed.{in_ring_alive, stored_here, stored_there, queue_off_head}

@@ -35,7 +35,9 @@ use Rattle.law_driver.specs.run_owners.Due.{IsDue, IsLinkOf}
 use Rattle.law_driver.proofs.lemmas.run_owners.Runs.{placed_run}
 use Rattle.law_driver.proofs.lemmas.run_owners.Rows.{not_iso}
 use Rattle.law_driver.proofs.lemmas.run_owners.Orders.{times_both}
-use Rattle.claims_driver.specs.Ring.{link_in, IsQueueOf, IsAmong, IsPublishing, IsDescribing, IsMending, IsRing, IsSound}
+use Rattle.claims_driver.specs.Ring.{link_in, IsQueueOf, IsAmong}
+use Rattle.law_driver.specs.ring_members.Words.{IsPublishing, IsDescribing, IsMending, IsRing}
+use Rattle.law_driver.specs.in_place.InPlace.{IsSound}
 use Rattle.law_driver.proofs.lemmas.ring_members.Aside.{IsOffRing, AreApart as ListApart, IsListApart, list_apart}
 use Rattle.law_driver.proofs.lemmas.ring_members.Lists.{store_is_apart}
 use Rattle.law_driver.proofs.lemmas.ring_members.Stores.{AreApart, slots_apart, store_elsewhere}

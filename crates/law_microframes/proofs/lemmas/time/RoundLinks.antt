@@ -14,7 +14,8 @@ use Rattle.drv_table.specs.Accepting.{newest_of}
 use Rattle.drv_table.specs.Words.{queue_head_link}
 use Rattle.claims_driver.specs.Leaving.{IsOrderly}
 use Rattle.law_driver.proofs.lemmas.run_owners.Orders.{times_both}
-use Rattle.claims_driver.specs.Ring.{link_in, IsQueueOf, IsAmong, StandsFor, IsRing}
+use Rattle.claims_driver.specs.Ring.{link_in, IsQueueOf, IsAmong}
+use Rattle.law_driver.specs.ring_members.Words.{StandsFor, IsRing}
 use Rattle.law_driver.proofs.lemmas.ring_members.Placed.{left_ring, linked_alive}
 use Rattle.claims_driver.specs.Walk.{IsReached, at_head, at_member, at_waiting, at_rung}
 use Rattle.law_driver_ring.proofs.lemmas.walk_members.Leading.{among_later, among_front}

@@ -8,7 +8,8 @@ use Rattle.link_words.specs.Links.{link_of, link_read}
 use Rattle.link_words.specs.Fields.{link_at}
 use Rattle.drv_table.specs.DriverContent.{DriverContent}
 use Rattle.drv_table.specs.Words.{head_block}
-use Rattle.claims_driver.specs.Ring.{link_in, IsRing}
+use Rattle.claims_driver.specs.Ring.{link_in}
+use Rattle.law_driver.specs.ring_members.Words.{IsRing}
 use Rattle.claims_driver.specs.Walk.{at_head}
 use Rattle.law_driver_ring.proofs.lemmas.walk_members.Leading.{WordLeads, reached_leads}
 use Rattle.law_driver_ring.proofs.lemmas.walk_members.Decoding.{link_decoded}

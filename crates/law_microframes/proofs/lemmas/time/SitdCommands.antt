@@ -34,7 +34,7 @@ use Rattle.drv_table.specs.Accepting.{Offered}
 use Rattle.drv_table.specs.IsoOffers.{iso_needs, slots_of, slot_runs, total_of, smask_of, cmask_of, descriptor_transfer}
 use Rattle.drv_table.specs.Offers.{offered}
 use Rattle.claims_driver.specs.Owners.{HasBlocks, HasRun, is_descriptor, runs_of_transfer}
-use Rattle.claims_driver.specs.InPlace.{IsInPlace}
+use Rattle.law_driver.specs.in_place.InPlace.{IsInPlace}
 use Rattle.law_driver.specs.run_owners.Accepts.{Accepts}
 use Rattle.law_driver.proofs.lemmas.run_owners.Commands.{accepted_for_a_reason}
 use Rattle.law_driver.proofs.lemmas.run_owners.Runs.{placed_run}

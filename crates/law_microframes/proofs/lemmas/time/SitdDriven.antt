@@ -13,7 +13,7 @@ use Rattle.drv_table.specs.DriverContent.{DriverContent}
 use Rattle.drv_table.specs.Parts.{Parts}
 use Rattle.drv_table.specs.Rows.{driver_row, after_driver_row}
 use Rattle.claims_driver.specs.Owners.{SlotHas, runs_of_transfer, views_of}
-use Rattle.claims_driver.specs.InPlace.{IsInPlace}
+use Rattle.law_driver.specs.in_place.InPlace.{IsInPlace}
 use Rattle.law_driver.proofs.lemmas.in_place.Laws.{event_in_place}
 use Rattle.law_driver.proofs.lemmas.ring_members.Aside.{list_apart}
 use Rattle.law_driver.proofs.lemmas.ring_members.Placed.{has_first}

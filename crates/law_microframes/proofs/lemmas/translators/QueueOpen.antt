@@ -18,7 +18,8 @@ use Rattle.drv_table.specs.DriverContent.{DriverContent}
 use Rattle.drv_table.specs.Kinds.{is_iso}
 use Rattle.claims_driver.specs.Owners.{QueueHead, is_descriptor, runs_of_transfer, runs_of_endpoint, views_of}
 use Rattle.claims_driver.specs.Leaving.{times, endpoints_in, leaves_frames, HasOwners}
-use Rattle.claims_driver.specs.FrameListMembers.{Framed, framed_of, framed_in, IsStanding, IsQueueOf, IsListed}
+use Rattle.claims_driver.specs.FrameListMembers.{Framed, framed_of, framed_in}
+use Rattle.law_driver.specs.listed_members.Members.{IsStanding, IsQueueOf, IsListed}
 use Rattle.claims_driver.specs.Unlinked.{led_by, IsOpenAt}
 use Rattle.law_driver.proofs.lemmas.listed_members.Standing.{descriptor_placed, standing_block, why_stands}
 use Rattle.law_driver.proofs.lemmas.listed_members.Owned.{queue_owned}

@@ -16,7 +16,7 @@ use Rattle.drv_table.specs.Offers.{offered}
 use Rattle.hub_class.specs.HubContent.{HubContent}
 use Rattle.tt_pipeline.specs.declared.entry.Entry.{Entry}
 use Rattle.claims_driver.specs.DueMembers.{framed_to}
-use Rattle.claims_driver.specs.InPlace.{IsInPlace}
+use Rattle.law_driver.specs.in_place.InPlace.{IsInPlace}
 use Rattle.claims_driver.specs.Owners.{HasBlocks, runs_of_transfer}
 use Rattle.law_driver.specs.run_owners.Accepts.{Accepts}
 use Rattle.law_driver.proofs.lemmas.run_owners.Commands.{accepted_for_a_reason}

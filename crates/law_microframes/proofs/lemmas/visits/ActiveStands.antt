@@ -21,7 +21,7 @@ use Rattle.law_driver_ring.specs.Inventory.{sort_of}
 use Rattle.claims_driver.specs.Owners.{is_descriptor, runs_of_transfer, runs_of_endpoint, views_of, QueueHead as HeadOf}
 use Rattle.claims_driver.specs.Leaving.{HasOwners}
 use Rattle.claims_driver.specs.LentRuns.{IsLent}
-use Rattle.claims_driver.specs.FrameListMembers.{IsStanding, IsQueueOf, IsListed}
+use Rattle.law_driver.specs.listed_members.Members.{IsStanding, IsQueueOf, IsListed}
 use Rattle.law_driver.specs.listed_members.Listed.{IsOwnedAs}
 use Rattle.law_driver.proofs.lemmas.listed_members.Standing.{standing_block}
 use Rattle.law_driver.proofs.lemmas.listed_members.Owned.{queue_owned}

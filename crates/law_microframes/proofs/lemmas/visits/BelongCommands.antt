@@ -28,7 +28,7 @@ use Rattle.drv_table.specs.Accepting.{Offered, new_runs}
 use Rattle.drv_table.specs.Offers.{Asked, offered, IsOffered, new_endpoint, placed_endpoint}
 use Rattle.drv_table.specs.CancelOffers.{with_cancel, endpoint_members}
 use Rattle.law_driver.specs.run_owners.Accepts.{Accepts, Chains}
-use Rattle.claims_driver.specs.InPlace.{IsInPlace}
+use Rattle.law_driver.specs.in_place.InPlace.{IsInPlace}
 use Rattle.law_driver.specs.queue_head_words.Overlay.{HasQueueHead, of_endpoint}
 use Rattle.law_driver.proofs.lemmas.run_owners.Commands.{accepted_for_a_reason}
 use Rattle.law_driver.proofs.lemmas.run_owners.Ordered.{pushed}

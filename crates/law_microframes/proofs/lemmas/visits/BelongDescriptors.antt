@@ -20,7 +20,8 @@ use Rattle.drv_table.specs.DriverContent.{DriverContent, waits_for}
 use Rattle.drv_table.specs.Kinds.{is_iso}
 use Rattle.claims_driver.specs.Owners.{is_descriptor, runs_of_endpoint, views_of}
 use Rattle.claims_driver.specs.Leaving.{HasOwners}
-use Rattle.claims_driver.specs.FrameListMembers.{framed_in, is_chained, is_among, IsStanding, IsListed}
+use Rattle.claims_driver.specs.FrameListMembers.{framed_in, is_chained, is_among}
+use Rattle.law_driver.specs.listed_members.Members.{IsStanding, IsListed}
 use Rattle.law_driver.proofs.lemmas.listed_members.Standing.{IsSeen, seen, IsIn, in_frames, IsReported, unlinks_reported, standing_block, why_stands}
 use Rattle.law_driver.specs.planned_endpoints.Planned.{IsPlanned}
 use Rattle.law_frame_list.proofs.lemmas.list_spread.Spreading.{standing_there, members_spread}

@@ -42,7 +42,7 @@ use Rattle.drv_table.specs.Accepting.{Offered, take_runs, new_runs}
 use Rattle.drv_table.specs.IsoOffers.{Descriptors, offered_iso, open_iso, taken_iso, iso_needs, slots_of, slot_runs, total_of, spans_too_long, has_slots, descriptor_note, descriptor_transfer, one_descriptor, all_descriptors, entered_iso, smask_of}
 use Rattle.drv_table.specs.Offers.{offered, offered_next}
 use Rattle.claims_driver.specs.Owners.{HasRun, is_descriptor, runs_of_transfer}
-use Rattle.claims_driver.specs.InPlace.{IsInPlace}
+use Rattle.law_driver.specs.in_place.InPlace.{IsInPlace}
 use Rattle.law_driver_ring.proofs.Lists.{IsOneOf}
 use Rattle.law_driver.proofs.lemmas.run_owners.Taking.{AreTaken, runs_taken, run_some, blocks_some}
 use Rattle.law_driver.specs.run_owners.Accepts.{Accepts}

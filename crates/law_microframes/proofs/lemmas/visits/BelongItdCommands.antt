@@ -27,7 +27,7 @@ use Rattle.drv_table.specs.CancelOffers.{with_cancel, endpoint_members}
 use Rattle.law_driver.specs.run_owners.Accepts.{Accepts, opens, chains, places, transfers, describes, cancels, unchains}
 use Rattle.claims_driver.specs.Owners.{HasBlocks, DescriptorRuns, is_descriptor, runs_of_transfer}
 use Rattle.claims_driver.specs.LentRuns.{still_lends, begins_in}
-use Rattle.claims_driver.specs.InPlace.{IsInPlace}
+use Rattle.law_driver.specs.in_place.InPlace.{IsInPlace}
 use Rattle.law_driver.proofs.lemmas.run_owners.Commands.{accepted_for_a_reason}
 use Rattle.law_driver.proofs.lemmas.run_owners.Ordered.{pushed}
 use Rattle.law_driver.proofs.lemmas.run_owners.Stays.{or_done, begun_notes}

@@ -21,7 +21,8 @@ use Rattle.drv_table.specs.DriverContent.{DriverContent, waits_for}
 use Rattle.drv_table.specs.Kinds.{is_iso}
 use Rattle.claims_driver.specs.Owners.{Head, Described, is_descriptor, runs_of_transfer, views_of}
 use Rattle.claims_driver.specs.Leaving.{owes, leaves_frames, HasOwners}
-use Rattle.claims_driver.specs.FrameListMembers.{IsQueueOf, IsListed, HasQueues}
+use Rattle.law_driver.specs.listed_members.Members.{IsQueueOf, IsListed}
+use Rattle.law_driver.specs.listed_queues.Queues.{HasQueues}
 use Rattle.law_driver.proofs.lemmas.listed_members.Standing.{IsIn, in_frames, IsFramed, framed, queue_block}
 use Rattle.law_driver.specs.planned_endpoints.Planned.{IsPlanned}
 use Rattle.law_driver.proofs.lemmas.planned_endpoints.Laws.{endpoint_planned}

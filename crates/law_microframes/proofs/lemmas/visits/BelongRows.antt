@@ -30,14 +30,15 @@ use Rattle.drv_table.specs.Removals.{stored_link, descriptor_leaving, after_unli
 use Rattle.claims_driver.specs.Owners.{FrameList, Described, HasBlocks, HasRun, SlotHas, IsPlaced, is_descriptor, runs_of_transfer, views_of}
 use Rattle.law_driver.specs.run_owners.Due.{IsDue}
 use Rattle.claims_driver.specs.Leaving.{HasOwners}
-use Rattle.claims_driver.specs.Ring.{link_in, IsPublishing, IsRing}
+use Rattle.claims_driver.specs.Ring.{link_in}
+use Rattle.law_driver.specs.ring_members.Words.{IsPublishing, IsRing}
 use Rattle.law_driver.proofs.lemmas.ring_members.Stores.{slots_apart, store_elsewhere}
 use Rattle.law_driver.proofs.lemmas.ring_members.Freed.{lent_words, rest_qtds, rest_endpoint, rest_descriptor, rest_placed}
 use Rattle.law_driver.proofs.lemmas.ring_members.Events.{open_store, unlink_store, publish_store, stands_as, block_of, is_element, not_element, chain_never, iso_never, unchain_never, begun_members}
 use Rattle.law_driver.proofs.lemmas.ring_members.Aside.{AreApart as ListApart, IsListApart, list_apart}
 use Rattle.law_driver.proofs.lemmas.run_owners.Reasons.{each_is_due}
 use Rattle.law_driver.proofs.lemmas.queue_head_words.Stored.{in_two}
-use Rattle.claims_driver.specs.InPlace.{IsInPlace}
+use Rattle.law_driver.specs.in_place.InPlace.{IsInPlace}
 use Rattle.law_driver.proofs.lemmas.in_place.Laws.{event_in_place}
 use Rattle.law_microframes.specs.visits.DescriptorFields.{IsMendedAt, ItdWordsStay}
 use Rattle.law_driver.proofs.lemmas.ring_members.Lists.{IsApartStore, store_is_apart}

@@ -27,7 +27,7 @@ use Rattle.drv_table.specs.Parts.{Parts}
 use Rattle.drv_table.specs.Commands.{events_of, no_command, store_order, advanced_by}
 use Rattle.drv_table.specs.FrameChoice.{with_notes, framed_notes, framed_by, placement_at, linked_by}
 use Rattle.drv_table.specs.Rows.{driver_row, after_driver_row}
-use Rattle.claims_driver.specs.Ring.{IsMending}
+use Rattle.law_driver.specs.ring_members.Words.{IsMending}
 use Rattle.law_driver.specs.run_owners.Due.{IsDue, IsNextOf}
 use Rattle.claims_base.specs.Controller.{opening_base}
 use Rattle.law_driver.proofs.lemmas.ring_members.Events.{first_mend}

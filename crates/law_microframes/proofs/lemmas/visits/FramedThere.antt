@@ -26,7 +26,8 @@ use Rattle.drv_table.specs.Offers.{new_transfer}
 use Rattle.drv_table.specs.Rows.{driver_row, after_driver_row}
 use Rattle.mem_runs.specs.Book.{slot_of}
 use Rattle.claims_driver.specs.DueMembers.{framed_to}
-use Rattle.claims_driver.specs.FrameListMembers.{framed_of, framed_in, is_chained, IsDescribing, IsStanding, IsQueueOf, IsListed, IsUnderWay}
+use Rattle.claims_driver.specs.FrameListMembers.{framed_of, framed_in, is_chained}
+use Rattle.law_driver.specs.listed_members.Members.{IsDescribing, IsStanding, IsQueueOf, IsListed, IsUnderWay}
 use Rattle.claims_driver.specs.Leaving.{leaves_frames, HasOwners}
 use Rattle.claims_driver.specs.Owners.{HasRun, is_descriptor, runs_of_transfer, views_of}
 use Rattle.law_descriptors.specs.Removed.{IsRemovedAt, a_descriptor, a_queue, a_waiting, IsRemovedSince, IsUnchainedNow}

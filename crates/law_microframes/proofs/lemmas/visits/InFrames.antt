@@ -20,7 +20,8 @@ use Rattle.drv_table.specs.Parts.{Parts}
 use Rattle.drv_table.specs.Rows.{after_driver_row}
 use Rattle.claims_driver.specs.Owners.{QueueHead, is_descriptor, runs_of_transfer, views_of}
 use Rattle.claims_driver.specs.Leaving.{HasOwners}
-use Rattle.claims_driver.specs.FrameListMembers.{Framed, IsQueueOf, IsListed}
+use Rattle.claims_driver.specs.FrameListMembers.{Framed}
+use Rattle.law_driver.specs.listed_members.Members.{IsQueueOf, IsListed}
 use Rattle.law_driver.proofs.lemmas.listed_members.Owned.{queue_owned, descriptor_owned}
 use Rattle.law_driver.proofs.lemmas.listed_members.Standing.{IsFramed, framed, one_endpoint}
 use Rattle.law_driver.proofs.lemmas.ring_members.Placed.{queue_placed, has_queue}

@@ -19,12 +19,14 @@ use Rattle.drv_table.specs.Accepting.{oldest_of}
 use Rattle.drv_table.specs.Parts.{Parts}
 use Rattle.drv_table.specs.Commands.{events_of}
 use Rattle.drv_table.specs.Words.{head_block}
-use Rattle.claims_driver.specs.Ring.{link_in, IsUnlinking, IsPublishing, IsSound}
+use Rattle.claims_driver.specs.Ring.{link_in}
+use Rattle.law_driver.specs.ring_members.Words.{IsUnlinking, IsPublishing}
+use Rattle.law_driver.specs.in_place.InPlace.{IsSound}
 use Rattle.law_driver.proofs.lemmas.ring_members.Placed.{in_ring_alive, linked_alive, queue_placed}
 use Rattle.link_words.specs.Links.{link_read}
 use Rattle.claims_driver.specs.Owners.{Owner, QueueHead, Described, SlotHas, HasBlocks, is_descriptor, runs_of_transfer, runs_of_endpoint, views_of}
 use Rattle.claims_driver.specs.Leaving.{times, endpoints_in, owes, leaves_frames, HasOwners}
-use Rattle.claims_driver.specs.FrameListMembers.{IsListed}
+use Rattle.law_driver.specs.listed_members.Members.{IsListed}
 use Rattle.law_driver.proofs.lemmas.ring_members.Links.{LeadsTo, oldest_is, dropped}
 use Rattle.law_driver.proofs.lemmas.ring_members.Events.{open_store, unlink_store, publish_store, chain_never, iso_never, unchain_never, stands_as, block_of}
 use Rattle.law_driver.proofs.lemmas.ring_members.Stores.{slots_apart, store_elsewhere}

@@ -14,7 +14,8 @@ use Rattle.drv_table.specs.declared.content.Command.TheVariants as unfinished
 use Rattle.drv_table.specs.DriverContent.{DriverContent}
 use Rattle.claims_driver.specs.Leaving.{HasOwners}
 use Rattle.claims_driver.specs.LentRuns.{IsLent}
-use Rattle.claims_driver.specs.FrameListMembers.{Placed, placed_of, framed_in, is_chained, IsListed}
+use Rattle.claims_driver.specs.FrameListMembers.{Placed, placed_of, framed_in, is_chained}
+use Rattle.law_driver.specs.listed_members.Members.{IsListed}
 use Rattle.law_driver.proofs.lemmas.listed_members.Standing.{descriptor_block}
 use Rattle.claims_driver.specs.DueMembers.{framed_to, IsWaitingFor}
 use Rattle.law_driver.specs.iso_frames.Frames.{AreInFrames}

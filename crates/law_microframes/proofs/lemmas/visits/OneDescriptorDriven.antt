@@ -39,8 +39,11 @@ use Rattle.claims_driver.specs.Owners.{Described, Element, FrameList, IsPlaced, 
 use Rattle.law_driver.specs.run_owners.Due.{IsNextOf, IsLinkOf, IsDue}
 use Rattle.claims_driver.specs.Leaving.{HasOwners}
 use Rattle.law_driver.proofs.lemmas.run_owners.Stays.{framed}
-use Rattle.claims_driver.specs.Ring.{link_in, IsSound, IsDescribing as AreDescribedNow, StandsFor}
-use Rattle.claims_driver.specs.FrameListMembers.{framed_in, is_chained, IsDescribing, IsUnderWay}
+use Rattle.claims_driver.specs.Ring.{link_in}
+use Rattle.law_driver.specs.in_place.InPlace.{IsSound}
+use Rattle.law_driver.specs.ring_members.Words.{IsDescribing as AreDescribedNow, StandsFor}
+use Rattle.claims_driver.specs.FrameListMembers.{framed_in, is_chained}
+use Rattle.law_driver.specs.listed_members.Members.{IsDescribing, IsUnderWay}
 use Rattle.law_driver.proofs.lemmas.listed_members.Standing.{seen}
 use Rattle.law_driver.proofs.lemmas.listed_members.Stays.{endpoint_set}
 use Rattle.law_admission.proofs.Events.{either}

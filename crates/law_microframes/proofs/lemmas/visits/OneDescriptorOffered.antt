@@ -34,7 +34,7 @@ use Rattle.law_driver.proofs.lemmas.run_owners.Accepted.{drop_first, fresh_diffe
 use Rattle.law_driver.proofs.lemmas.run_owners.Commands.{accepted_for_a_reason}
 use Rattle.law_driver.proofs.lemmas.run_owners.Stays.{begun_notes}
 use Rattle.claims_driver.specs.LentRuns.{begins_in, still_lends, AreLent}
-use Rattle.claims_driver.specs.Ring.{IsSound}
+use Rattle.law_driver.specs.in_place.InPlace.{IsSound}
 use Rattle.claims_driver.specs.FrameListMembers.{framed_of, framed_in, is_chained}
 use Rattle.law_driver.proofs.lemmas.listed_members.Stays.{endpoint_set}
 use Rattle.law_driver.proofs.lemmas.listed_members.Events.{in_frames}

@@ -18,9 +18,10 @@ use Rattle.drv_table.specs.Rows.{driver_row, after_driver_row}
 use Rattle.claims_driver.specs.Owners.{Head, QueueHead as HeadOf, Described, IsPlaced, is_descriptor, runs_of_transfer, views_of}
 use Rattle.claims_driver.specs.Leaving.{HasOwners}
 use Rattle.law_driver.proofs.lemmas.run_owners.Reasons.{each_is_due}
-use Rattle.claims_driver.specs.Ring.{IsSound}
+use Rattle.law_driver.specs.in_place.InPlace.{IsSound}
 use Rattle.law_driver_ring.specs.Inventory.{Sort, OfQueueHead, sort_of, IsDriverOwned, the_list, the_head, a_queue, a_dummy, a_piece, a_buffer}
-use Rattle.claims_driver.specs.FrameListMembers.{Placed, placed_of, framed_in, is_chained, IsListed}
+use Rattle.claims_driver.specs.FrameListMembers.{Placed, placed_of, framed_in, is_chained}
+use Rattle.law_driver.specs.listed_members.Members.{IsListed}
 use Rattle.law_driver.proofs.lemmas.listed_members.Standing.{descriptor_block}
 use Rattle.law_driver.proofs.lemmas.listed_members.Schedules.{all_more}
 use Rattle.claims_driver.specs.DueMembers.{framed_to, IsWaitingFor}

@@ -21,7 +21,7 @@ use Rattle.drv_table.specs.Removals.{after_descriptor, after_placed, after_remov
 use Rattle.drv_table.specs.Rows.{driver_row, after_driver_row}
 use Rattle.law_driver.specs.run_owners.Due.{IsDue, IsEndpointDue}
 use Rattle.claims_driver.specs.Leaving.{HasOwners}
-use Rattle.claims_driver.specs.FrameListMembers.{IsListed}
+use Rattle.law_driver.specs.listed_members.Members.{IsListed}
 use Rattle.op_registers.specs.RegisterFile.{RegisterFile}
 use Rattle.claims_driver.specs.Owners.{SlotHas, is_descriptor}
 use Rattle.claims_base.specs.Controller.{opening_base}

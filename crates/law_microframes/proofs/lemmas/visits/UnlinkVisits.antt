@@ -17,7 +17,7 @@ use Rattle.drv_table.specs.declared.rows.DriverRow.{DriverRow}
 use Rattle.drv_table.specs.declared.rows.DriverRow.TheVariants as rows
 use Rattle.drv_table.specs.Removals.{after_unlink, descriptor_leaving}
 use Rattle.drv_table.specs.Rows.{driver_row, after_driver_row}
-use Rattle.claims_driver.specs.FrameListMembers.{IsUnderWay}
+use Rattle.law_driver.specs.listed_members.Members.{IsUnderWay}
 use Rattle.law_driver.specs.run_owners.Due.{IsDue, IsUnlinkDue}
 use Rattle.claims_base.specs.Controller.{opening_base}
 use Rattle.law_driver.proofs.lemmas.run_owners.Reasons.{each_is_due}

@@ -22,7 +22,8 @@ use Rattle.drv_table.specs.Commands.{command_row, advanced_by}
 use Rattle.drv_table.specs.Words.{head_block, to_queue_head, queue_head_link, queue_head}
 use Rattle.claims_driver.specs.Owners.{Head, runs_of_endpoint}
 use Rattle.law_driver.proofs.lemmas.run_owners.Runs.{placed_run}
-use Rattle.claims_driver.specs.Ring.{link_in, step_to, AreLinked, IsOpening, StandsFor}
+use Rattle.claims_driver.specs.Ring.{link_in}
+use Rattle.law_driver.specs.ring_members.Words.{step_to, AreLinked, IsOpening, StandsFor}
 use Rattle.law_driver.specs.ring_members.Links.{newest_from}
 use Rattle.law_driver.proofs.lemmas.ring_members.Placed.{can_begin}
 use Rattle.async_walk.specs.Walk.{Walk}

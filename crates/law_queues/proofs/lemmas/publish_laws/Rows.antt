@@ -17,7 +17,9 @@ use Rattle.drv_table.specs.Parts.{Parts as DriverParts}
 use Rattle.drv_table.specs.Rows.{row_for, driver_row, after_driver_row}
 use Rattle.drv_table.specs.Commands.{command_row, advanced_by, advance}
 use Rattle.claims_driver.specs.Owners.{HasBlocks, Owner, NoteRuns, ArePieces, runs_of_transfer, note_in}
-use Rattle.claims_driver.specs.Ring.{link_in, IsSound, StandsFor, IsPublishing}
+use Rattle.claims_driver.specs.Ring.{link_in}
+use Rattle.law_driver.specs.in_place.InPlace.{IsSound}
+use Rattle.law_driver.specs.ring_members.Words.{StandsFor, IsPublishing}
 use Rattle.law_structures.specs.lent_structures.Structures.{Element, Buffer, Structures, StructureSets, with_structure}
 use Rattle.law_structures.proofs.lemmas.lent_structures.Names.{put_here, put_same, with_there, with_here}
 use Rattle.law_structures.specs.lent_structures.Sound.{LeadsOn, HasBuffer, element_pages, buffer_name}

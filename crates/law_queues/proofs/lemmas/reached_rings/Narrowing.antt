@@ -14,7 +14,8 @@ use Rattle.async_walk.specs.Rows.{WalkPlace, at_event, event_row, step_of, curso
 use Rattle.drv_table.specs.DriverContent.{DriverContent}
 use Rattle.drv_table.specs.Words.{head_block}
 use Rattle.claims_driver.specs.Owners.{views_of}
-use Rattle.claims_driver.specs.Ring.{link_in, IsRing as IsRingOf}
+use Rattle.claims_driver.specs.Ring.{link_in}
+use Rattle.law_driver.specs.ring_members.Words.{IsRing as IsRingOf}
 use Rattle.law_structures.specs.lent_structures.Structures.{QueueHead, StructureSets, Tells}
 use Rattle.law_structures.proofs.lemmas.lent_structures.Reading.{head_read}
 use Rattle.law_structures.specs.lent_structures.Sound.{LeadsAmong}

@@ -17,7 +17,7 @@ use Rattle.law_driver.specs.queue_head_words.Overlay.{HasQueueHead, of_ring, of_
 use Rattle.law_structures.specs.lent_structures.Structures.{Structure, QueueHead, StructureSets}
 use Rattle.law_controller.specs.controller_writes.Leaving.{LeavesRest}
 use Rattle.law_driver_ring.specs.Inventory.{OfQueueHead, sort_of, sorts_of, IsLent, IsDriven}
-use Rattle.claims_driver.specs.InPlace.{IsInPlace}
+use Rattle.law_driver.specs.in_place.InPlace.{IsInPlace}
 use Rattle.law_driver.specs.in_place.Run.{IsElsewhere}
 
 -- ---- a structure of that kind is a queue head

@@ -24,7 +24,8 @@ use Rattle.drv_table.specs.DriverContent.{DriverContent}
 use Rattle.drv_table.specs.Kinds.{is_iso}
 use Rattle.drv_table.specs.Parts.{Parts}
 use Rattle.drv_table.specs.Rows.{row_for, driver_row, after_driver_row}
-use Rattle.claims_driver.specs.FrameListMembers.{Framed, framed_of, IsWaitingOf, IsUnchaining, IsUnderWay}
+use Rattle.claims_driver.specs.FrameListMembers.{Framed, framed_of}
+use Rattle.law_driver.specs.listed_members.Members.{IsWaitingOf, IsUnchaining, IsUnderWay}
 use Rattle.bus_world.specs.World.{World, driver_parts, driver_next}
 use Rattle.law_world.specs.memory.Mixed.{IsMixedWorld}
 use Rattle.law_microframes.proofs.lemmas.due.FetchedKinds.{begins_there}

@@ -12,7 +12,7 @@ use Rattle.word_mem.specs.Views.{words_at}
 use Rattle.mem_runs.specs.Book.{slot_of}
 use Rattle.itd_sitd.specs.Itd.{itd_words}
 use Rattle.itd_sitd.specs.Sitd.{sitd_words}
-use Rattle.claims_driver.specs.InPlace.{IsInPlace}
+use Rattle.law_driver.specs.in_place.InPlace.{IsInPlace}
 use Rattle.claims_driver.specs.Owners.{HasBlocks, is_descriptor, runs_of_transfer}
 use Rattle.drv_periodic_table.specs.declared.content.DescriptorNote.{DescriptorNote}
 use Rattle.drv_periodic_table.specs.Periodic.{note_at}

@@ -16,7 +16,7 @@ use Rattle.itd_sitd.specs.declared.sitd.Sitd.{Sitd}
 use Rattle.itd_sitd.specs.Sitd.{sitd_at, sitd_words}
 use Rattle.itd_sitd.proofs.SitdLaws.{sitd_read-words, sitd_read-is}
 use Rattle.claims_base.specs.Controller.{opening_base}
-use Rattle.claims_driver.specs.InPlace.{IsInPlace}
+use Rattle.law_driver.specs.in_place.InPlace.{IsInPlace}
 use Rattle.claims_driver.specs.Owners.{HasBlocks, SlotHas, is_descriptor, runs_of_transfer, views_of}
 use Rattle.drv_periodic_table.specs.Periodic.{note_at}
 use Rattle.drv_table.specs.declared.content.Endpoint.{Endpoint}

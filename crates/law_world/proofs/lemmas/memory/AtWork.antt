@@ -6,8 +6,8 @@ use Rattle.drv_table.specs.DriverContent.{DriverContent}
 use Rattle.bus_wire.specs.Bus.{fixed_of}
 use Rattle.bus_world.specs.World.{World, controller_next}
 use Rattle.bus_world.specs.Budgets.{moment}
-use Rattle.claims_driver.specs.FrameListMembers.{IsListed}
-use Rattle.claims_driver.specs.FrameWords.{KeepsItsList}
+use Rattle.law_driver.specs.listed_members.Members.{IsListed}
+use Rattle.law_frame_list.specs.list_driver.Keeping.{KeepsItsList}
 use Rattle.law_driver.proofs.lemmas.listed_members.Owned.{waiting_linked}
 use Rattle.law_world.proofs.lemmas.memory.lemmas.running_worlds.Errors.{goes_on, no_error}
 use Rattle.law_world.proofs.lemmas.memory.lemmas.running_worlds.Counting.{counts_nothing}

@@ -15,8 +15,10 @@ use Rattle.drv_table.specs.declared.content.Endpoint.{Endpoint}
 use Rattle.drv_table.specs.DriverContent.{DriverContent}
 use Rattle.drv_table.specs.Accepting.{Offered, new_runs}
 use Rattle.drv_table.specs.Offers.{placed_endpoint}
-use Rattle.claims_driver.specs.FrameListMembers.{Framed, framed_of, framed_in, queue_of, IsQueueOf}
-use Rattle.claims_driver.specs.InPlace.{IsInPlace}
+use Rattle.claims_driver.specs.FrameListMembers.{Framed, framed_of, framed_in}
+use Rattle.law_driver.specs.listed_queues.Queues.{queue_of}
+use Rattle.law_driver.specs.listed_members.Members.{IsQueueOf}
+use Rattle.law_driver.specs.in_place.InPlace.{IsInPlace}
 use Rattle.claims_driver.specs.Leaving.{HasOwners}
 use Rattle.claims_driver.specs.Owners.{Owner, QueueHead}
 use Rattle.law_driver.specs.run_owners.Accepts.{Chains}

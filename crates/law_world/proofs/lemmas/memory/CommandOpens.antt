@@ -24,7 +24,7 @@ use Rattle.drv_table.specs.Kinds.{is_iso}
 use Rattle.drv_table.specs.Accepting.{Offered, new_runs, newest_of}
 use Rattle.drv_table.specs.Offers.{new_endpoint, placed_endpoint, accepted_open}
 use Rattle.law_driver.specs.run_owners.Accepts.{Opens, Chains}
-use Rattle.claims_driver.specs.InPlace.{IsInPlace}
+use Rattle.law_driver.specs.in_place.InPlace.{IsInPlace}
 use Rattle.claims_driver.specs.Leaving.{HasOwners}
 use Rattle.claims_driver.specs.Owners.{QueueHead, runs_of_endpoint}
 use Rattle.law_driver.proofs.lemmas.run_owners.Laws.{command_owned}

@@ -7,7 +7,7 @@ use Rattle.drv_table.specs.declared.content.Command.{Command}
 use Rattle.drv_table.specs.declared.content.Command.TheVariants as unfinished
 use Rattle.drv_table.specs.DriverContent.{DriverContent}
 use Rattle.law_driver.specs.iso_frames.Frames.{AreInFrames}
-use Rattle.claims_driver.specs.FrameWords.{AreToLink, KeepsItsList}
+use Rattle.law_frame_list.specs.list_driver.Keeping.{AreToLink, KeepsItsList}
 use Rattle.hc_core.specs.Controller.{Content}
 use Rattle.law_structures.specs.lent_structures.Structures.{StructureSets}
 use Rattle.law_ring.specs.Hand.{Hand}

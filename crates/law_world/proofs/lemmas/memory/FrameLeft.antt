@@ -35,7 +35,7 @@ use Rattle.drv_table.specs.Removals.{after_unlink, stored_link}
 use Rattle.drv_table.specs.Rows.{driver_row, after_driver_row}
 use Rattle.bus_world.specs.World.{World, driver_parts, controller_parts, driver_next}
 use Rattle.claims_base.specs.Controller.{opening_base}
-use Rattle.claims_driver.specs.FrameListMembers.{IsUnderWay}
+use Rattle.law_driver.specs.listed_members.Members.{IsUnderWay}
 use Rattle.claims_driver.specs.FrameWords.{Begun, HasMember, StandsBy, is_at, made_of}
 use Rattle.claims_driver.specs.Ring.{link_in}
 use Rattle.claims_driver.specs.Unlinked.{led_in, led}

@@ -34,10 +34,12 @@ use Rattle.bus_world.specs.Budgets.{moment}
 use Rattle.bus_world.specs.Orders.{Left, Events, Microframes, Answer, Command as Commands, OrderedWorld, tick_at}
 use Rattle.bus_world.specs.World.{World, controller_parts, driver_parts, driver_next, controller_next, commanded, commanded_by, name_in}
 use Rattle.claims_base.specs.Controller.{opening_base}
-use Rattle.claims_driver.specs.FrameListMembers.{IsListed, IsUnderWay, IsStanding, IsWaitingOf, framed_in, is_chained, is_among}
+use Rattle.claims_driver.specs.FrameListMembers.{framed_in, is_chained, is_among}
+use Rattle.law_driver.specs.listed_members.Members.{IsListed, IsUnderWay, IsStanding, IsWaitingOf}
 use Rattle.claims_driver.specs.Leaving.{HasOwners}
 use Rattle.claims_driver.specs.Owners.{Owner, Described, HasRun, IsDescribed, descriptor_in, is_descriptor, runs_of_transfer}
-use Rattle.claims_driver.specs.Ring.{link_in, IsSound}
+use Rattle.claims_driver.specs.Ring.{link_in}
+use Rattle.law_driver.specs.in_place.InPlace.{IsSound}
 use Rattle.claims_driver.specs.Unlinked.{led}
 use Rattle.claims_world.specs.Links.{EndsOrLeads, IsUnlinkedBy, now, LeadsOnUntilReleased}
 use Rattle.law_structures.proofs.lemmas.lent_structures.Telling.{told_lent}

@@ -31,11 +31,13 @@ use Rattle.bus_world.specs.Budgets.{moment}
 use Rattle.bus_world.specs.Orders.{Left, Events, Microframes, Answer, Command, OrderedWorld, tick_at}
 use Rattle.bus_world.specs.World.{World, controller_parts, driver_parts, driver_next, controller_next, commanded, commanded_by, name_in}
 use Rattle.claims_base.specs.Controller.{opening_base}
-use Rattle.claims_driver.specs.FrameListMembers.{IsListed, HasQueues, Framed, framed_of, queue_of}
-use Rattle.claims_driver.specs.FrameListMembers.{IsQueueOf as IsQueueIn, IsStanding}
+use Rattle.claims_driver.specs.FrameListMembers.{Framed, framed_of}
+use Rattle.law_driver.specs.listed_members.Members.{IsListed, IsQueueOf as IsQueueIn, IsStanding}
+use Rattle.law_driver.specs.listed_queues.Queues.{HasQueues, queue_of}
 use Rattle.claims_driver.specs.Leaving.{HasOwners}
 use Rattle.claims_driver.specs.Owners.{QueueHead, HasRun}
-use Rattle.claims_driver.specs.Ring.{link_in, IsQueueOf, IsSound}
+use Rattle.claims_driver.specs.Ring.{link_in, IsQueueOf}
+use Rattle.law_driver.specs.in_place.InPlace.{IsSound}
 use Rattle.claims_driver.specs.Unlinked.{led}
 use Rattle.claims_world.specs.Links.{EndsOrLeads, ends, leads, IsUnlinkedBy, IsUnlinkedWithin, EndsOrLeadsLater, now, unlinked_later}
 use Rattle.claims_world.specs.Links.{LeadsOnUntilGone}

@@ -9,7 +9,7 @@ use Rattle.law_structures.specs.lent_structures.Structures.{Tells}
 use Rattle.law_driver_ring.specs.Inventory.{sorts_of, IsDriven}
 use Rattle.law_driver_ring.specs.Extents.{AreInRuns}
 use Rattle.claims_base.specs.Controller.{opening_base}
-use Rattle.claims_driver.specs.InPlace.{IsInPlace}
+use Rattle.law_driver.specs.in_place.InPlace.{IsInPlace}
 use Rattle.law_driver_ring.specs.fed_queues.Places.{AreMet}
 use Rattle.law_queues.specs.fed_lends.Commands.{QueuesStand}
 use Rattle.law_queues.specs.released_queues.Fronts.{FrontsStand}

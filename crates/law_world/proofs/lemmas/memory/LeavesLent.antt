@@ -6,7 +6,7 @@ use Rattle.drv_table.specs.DriverContent.{DriverContent}
 use Rattle.drv_table.specs.Accepting.{Offered, new_runs}
 use Rattle.drv_table.specs.Offers.{accepted_open, accepted_chain}
 use Rattle.law_driver.specs.run_owners.Accepts.{Accepts, opens, chains, places, transfers, describes, cancels, unchains}
-use Rattle.claims_driver.specs.InPlace.{IsInPlace}
+use Rattle.law_driver.specs.in_place.InPlace.{IsInPlace}
 use Rattle.law_driver.proofs.lemmas.run_owners.Taking.{AreTaken, runs_taken}
 use Rattle.law_driver.proofs.lemmas.run_owners.Accepted.{drop_first}
 use Rattle.law_driver_ring.proofs.PartAccepting.{open_leaves}

@@ -19,8 +19,9 @@ use Rattle.drv_table.specs.Rows.{driver_row}
 use Rattle.bus_world.specs.World.{World, driver_parts, driver_next}
 use Rattle.claims_driver.specs.Leaving.{HasOwners, times}
 use Rattle.claims_driver.specs.Owners.{QueueHead, HasRun}
-use Rattle.claims_driver.specs.FrameListMembers.{IsListed}
-use Rattle.claims_driver.specs.Ring.{link_in, IsAmong, first, later, IsQueueOf, IsSound}
+use Rattle.law_driver.specs.listed_members.Members.{IsListed}
+use Rattle.claims_driver.specs.Ring.{link_in, IsAmong, first, later, IsQueueOf}
+use Rattle.law_driver.specs.in_place.InPlace.{IsSound}
 use Rattle.claims_world.specs.Memory.{linked_to}
 use Rattle.claims_world.specs.Links.{IsLive, the_head, a_queue, IsLiveOrLater, live, left_later, HasLeftBefore, AreLeft}
 use Rattle.law_driver.proofs.lemmas.listed_members.Standing.{one_endpoint}

@@ -38,7 +38,9 @@ use Rattle.drv_table.specs.Rows.{driver_row, after_driver_row}
 use Rattle.bus_world.specs.World.{World, driver_parts, controller_parts}
 use Rattle.claims_base.specs.Controller.{opening_base}
 use Rattle.claims_driver.specs.Owners.{Owner, Head, QueueHead, Element, HasRun}
-use Rattle.claims_driver.specs.Ring.{link_in, IsMending, IsPublishing, IsSound, IsUnlinking}
+use Rattle.claims_driver.specs.Ring.{link_in}
+use Rattle.law_driver.specs.ring_members.Words.{IsMending, IsPublishing, IsUnlinking}
+use Rattle.law_driver.specs.in_place.InPlace.{IsSound}
 use Rattle.law_descriptors.proofs.Lends.{lend_leaves}
 use Rattle.law_descriptors.specs.Lent.{IsLending}
 use Rattle.law_driver.proofs.lemmas.queue_head_words.Events.{past_list}

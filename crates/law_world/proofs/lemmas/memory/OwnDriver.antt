@@ -58,7 +58,7 @@ use Rattle.law_descriptors.proofs.Lends.{lend_leaves}
 use Rattle.law_descriptors.proofs.Telling.{queue_found}
 use Rattle.bus_world.specs.World.{World, driver_parts, controller_parts, driver_next, commanded, commanded_by, name_in}
 use Rattle.claims_driver.specs.Owners.{views_of}
-use Rattle.claims_driver.specs.InPlace.{IsInPlace}
+use Rattle.law_driver.specs.in_place.InPlace.{IsInPlace}
 use Rattle.claims_world.specs.Owners.{IsControllers, LeavesControllers}
 use Rattle.law_world.specs.memory.Mixed.{IsChainToLend, IsChainThere, IsUnderWay, Standing, IsMixedAt, IsMixedWorld}
 use Rattle.law_world.specs.memory.Owners.{IsToldOwn, DriverLeavesControllers, CommandLeavesControllers}

@@ -21,8 +21,8 @@ use Rattle.drv_table.specs.Words.{head_block, queue_head_link}
 use Rattle.bus_world.specs.World.{World, controller_parts}
 use Rattle.claims_base.specs.Controller.{opening_base}
 use Rattle.claims_driver.specs.Leaving.{HasOwners, times}
-use Rattle.claims_driver.specs.Ring.{link_in, AreLinked, step_to, IsAmong, first, later, IsQueueOf, IsTarget, to_head, to_member, to_later}
-use Rattle.claims_driver.specs.Ring.{AreLeaving, IsOpening, StandsFor}
+use Rattle.claims_driver.specs.Ring.{link_in, IsAmong, first, later, IsQueueOf}
+use Rattle.law_driver.specs.ring_members.Words.{AreLinked, step_to, IsTarget, to_head, to_member, to_later, AreLeaving, IsOpening, StandsFor}
 use Rattle.claims_world.specs.Memory.{linked_to}
 use Rattle.claims_world.specs.Links.{IsLive, the_head, a_queue, LeadsTo, IsLiveOrLater, live, left_later, AreLeft}
 use Rattle.law_driver.specs.ring_members.Links.{newest_from}

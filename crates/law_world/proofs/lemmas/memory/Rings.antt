@@ -13,7 +13,9 @@ use Rattle.drv_table.specs.declared.content.Command.{Command}
 use Rattle.drv_table.specs.declared.content.Command.TheVariants as unfinished
 use Rattle.drv_table.specs.DriverContent.{DriverContent}
 use Rattle.drv_table.specs.Words.{head_block}
-use Rattle.claims_driver.specs.Ring.{link_in, members_from, members, AreLinked, StandsFor, IsSound}
+use Rattle.claims_driver.specs.Ring.{link_in, members_from, members}
+use Rattle.law_driver.specs.ring_members.Words.{AreLinked, StandsFor}
+use Rattle.law_driver.specs.in_place.InPlace.{IsSound}
 use Rattle.law_driver.proofs.lemmas.ring_members.Links.{AreDistinct, rest_distinct, ring_is_read}
 use Rattle.law_driver.proofs.lemmas.ring_members.Placed.{ring_distinct}
 use Rattle.law_driver.specs.chained_transfers.Asynchronous.{StandsAsynchronous}

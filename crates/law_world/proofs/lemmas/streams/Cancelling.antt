@@ -19,7 +19,7 @@ use Rattle.claims_base.specs.Controller.{opening_base}
 use Rattle.law_driver_ring.specs.Driven.{DrivesRing}
 use Rattle.law_driver_ring.proofs.Commanding.{cancel_drives}
 use Rattle.law_controller.specs.controlled_streams.Control.{IsFrameless, off, empty}
-use Rattle.claims_driver.specs.InPlace.{IsInPlace}
+use Rattle.law_driver.specs.in_place.InPlace.{IsInPlace}
 use Rattle.law_driver.proofs.lemmas.in_place.Laws.{command_in_place}
 use Rattle.law_world.proofs.lemmas.steps.lemmas.worlds_in_place.Refused.{refused_in_place}
 use Rattle.bus_world.specs.World.{World, controller_parts, refused_line, commanded_by}

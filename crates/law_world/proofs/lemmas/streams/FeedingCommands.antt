@@ -15,7 +15,7 @@ use Rattle.law_driver.specs.run_owners.Accepts.{Opens, Transfers}
 use Rattle.claims_base.specs.Controller.{opening_base}
 use Rattle.law_driver_ring.specs.Driven.{DrivesRing}
 use Rattle.law_driver_ring.proofs.Commanding.{open_drives, transfer_drives}
-use Rattle.claims_driver.specs.InPlace.{IsInPlace}
+use Rattle.law_driver.specs.in_place.InPlace.{IsInPlace}
 use Rattle.law_driver.proofs.lemmas.in_place.Laws.{command_in_place}
 use Rattle.bus_world.specs.World.{World, name_in, commanded_by}
 use Rattle.law_world.specs.steps.Streaming.{Streams, Standing}

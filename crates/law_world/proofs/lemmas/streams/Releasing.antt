@@ -20,7 +20,7 @@ use Rattle.law_controller.specs.controlled_streams.Returned.{staying_of}
 use Rattle.law_controller.proofs.lemmas.controlled_streams.Returning.{pipes_returned, reported_stay}
 use Rattle.claims_base.specs.Controller.{opening_base}
 use Rattle.law_driver_ring.specs.Released.{goes_of, release_row}
-use Rattle.claims_driver.specs.InPlace.{IsInPlace}
+use Rattle.law_driver.specs.in_place.InPlace.{IsInPlace}
 use Rattle.law_driver.proofs.lemmas.in_place.Laws.{event_in_place}
 use Rattle.law_driver.specs.chained_transfers.AsynchronousTurns.{AsynchronousTakesTurns}
 use Rattle.law_driver.proofs.lemmas.chained_transfers.Events.{event_queues}

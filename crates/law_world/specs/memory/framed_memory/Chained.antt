@@ -50,7 +50,7 @@ use Rattle.law_ring.specs.Hand.{Hand}
 use Rattle.claims_base.specs.Controller.{Base}
 use Rattle.law_driver_ring.specs.LendOpened.{IsOpened, opened_parts}
 use Rattle.law_driver_ring.specs.Linked.{opened_part}
-use Rattle.claims_driver.specs.InPlace.{IsInPlace}
+use Rattle.law_driver.specs.in_place.InPlace.{IsInPlace}
 use Rattle.law_queues.specs.shared_memory.Shared.{parts_of, next_parts}
 use Rattle.law_frames.specs.Met.{Kind}
 use Rattle.law_frames.specs.FrameHand.{FrameHand}

@@ -24,10 +24,10 @@ use Rattle.law_driver_ring.specs.Inventory.{sorts_of, IsDriven}
 use Rattle.law_driver_ring.specs.Driven.{IsOperating, is_quiet}
 use Rattle.law_driver_ring.specs.PartOpened.{no_parts, opening_parts, is_head}
 use Rattle.law_driver_ring.specs.Extents.{AreInRuns}
-use Rattle.claims_driver.specs.InPlace.{IsInPlace}
+use Rattle.law_driver.specs.in_place.InPlace.{IsInPlace}
 use Rattle.law_queues.specs.shared_memory.Shared.{parts_of, next_parts, after_driver}
 use Rattle.law_driver.specs.iso_frames.Frames.{AreInFrames}
-use Rattle.claims_driver.specs.FrameWords.{KeepsItsList}
+use Rattle.law_frame_list.specs.list_driver.Keeping.{KeepsItsList}
 use Rattle.law_frames.specs.Met.{Kind}
 use Rattle.law_frames.specs.FrameHand.{FrameHand, Nothing}
 use Rattle.law_controller.specs.frame_control.Both.{RunsBoth, ControlsBoth}

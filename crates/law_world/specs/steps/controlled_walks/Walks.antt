@@ -21,7 +21,8 @@ use Rattle.drv_table.specs.DriverContent.{DriverContent}
 use Rattle.drv_table.specs.Accepting.{Offered}
 use Rattle.drv_table.specs.Offers.{offered}
 use Rattle.drv_table.specs.Opening.{opening}
-use Rattle.claims_driver.specs.Ring.{link_in, IsRing}
+use Rattle.claims_driver.specs.Ring.{link_in}
+use Rattle.law_driver.specs.ring_members.Words.{IsRing}
 use Rattle.claims_driver.specs.InPlace.{AreFixed}
 use Rattle.claims_driver.specs.Walk.{IsWalkIn, IsBellIn}
 use Rattle.law_driver_ring.specs.walk_members.Reached.{AreNoHeads}

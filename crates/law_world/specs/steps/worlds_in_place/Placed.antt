@@ -1,6 +1,6 @@
 -- A world in which nothing of the driver is out of place (EHCI 1.0, 3, 4.6 and 4.8).
 --     IsPlacedWorld w     everything of its driver is in place in its memory
-use Rattle.claims_driver.specs.InPlace.{IsInPlace}
+use Rattle.law_driver.specs.in_place.InPlace.{IsInPlace}
 use Rattle.bus_world.specs.World.{World}
 
 abbrev pub IsPlacedWorld : World → Type 0

@@ -14,7 +14,7 @@ use Rattle.law_ring.specs.Told.{endpoint_of}
 use Rattle.law_driver_ring.specs.Inventory.{sorts_of, IsDriven}
 use Rattle.law_driver_ring.specs.Driven.{IsOperating}
 use Rattle.law_driver_ring.specs.PartOpened.{opening_parts}
-use Rattle.claims_driver.specs.InPlace.{IsInPlace}
+use Rattle.law_driver.specs.in_place.InPlace.{IsInPlace}
 use Rattle.bus_world.specs.World.{World}
 use Rattle.law_world.specs.steps.Streaming.{Streams, Standing, IsStreaming}
 

@@ -2,7 +2,7 @@
 use Rattle.std.proofs.Common.{◌≡◌, ◌≢◌, ℕ, suc, ◌+◌, ◌*◌, ◌/◌, ◌⊎◌, Bool, true, false, ◌&&◌, cond, List, [], ◌∷◌, ◌++◌, length, get_or, slice_get, Option, Some, None, option_map, nat_le, nat_lt, ap, refl, sym, subst, ◌∙◌, ⊎_elim, inl, inr, arith}
 use Rattle.std.specs.Prelude.{not}
 use Rattle.word_mem.specs.Memory.{Mem}
-use Rattle.claims_driver.specs.InPlace.{IsInPlace}
+use Rattle.law_driver.specs.in_place.InPlace.{IsInPlace}
 use Rattle.qh_qtd.specs.QueueHead.{IsQhInRange}
 use Rattle.law_driver.specs.run_owners.Accepts.{Chains}
 use Rattle.std.proofs.lemmas.Bool.{true≢false}

@@ -35,7 +35,7 @@ use Rattle.hc_core.specs.Controller.{Content}
 use Rattle.law_structures.specs.lent_structures.Structures.{StructureSets}
 use Rattle.law_ring.specs.Hand.{Hand}
 use Rattle.claims_base.specs.Controller.{Base}
-use Rattle.claims_driver.specs.FrameListMembers.{IsUnderWay}
+use Rattle.law_driver.specs.listed_members.Members.{IsUnderWay}
 use Rattle.law_queues.specs.shared_memory.Shared.{parts_of, next_parts}
 use Rattle.law_frames.specs.Met.{Kind}
 use Rattle.law_frames.specs.FrameHand.{FrameHand}

@@ -14,11 +14,12 @@ use Rattle.drv_table.specs.declared.content.Command.TheVariants as unfinished
 use Rattle.drv_table.specs.DriverContent.{DriverContent}
 use Rattle.drv_table.specs.Parts.{Parts}
 use Rattle.drv_table.specs.Commands.{removes_members}
-use Rattle.claims_driver.specs.Ring.{IsSound}
+use Rattle.law_driver.specs.in_place.InPlace.{IsSound}
 use Rattle.law_driver.proofs.lemmas.ring_members.Stores.{slots_apart, store_elsewhere}
-use Rattle.claims_driver.specs.FrameListMembers.{is_in_names, IsWaitingOf, IsDescribing, IsUnderWay}
+use Rattle.law_driver.specs.listed_members.Members.{is_in_names, IsWaitingOf, IsDescribing, IsUnderWay}
 use Rattle.law_driver.proofs.lemmas.listed_members.Stores.{linked_store}
-use Rattle.claims_driver.specs.FrameWords.{ListStands, LeadsOn, AreLeading, KeepsItsList}
+use Rattle.claims_driver.specs.FrameWords.{ListStands}
+use Rattle.law_frame_list.specs.list_driver.Keeping.{LeadsOn, AreLeading, KeepsItsList}
 use Rattle.law_frame_list.specs.list_steps.Steps.{IsLinkingStep, NextLeads}
 use Rattle.law_frame_list.proofs.lemmas.list_rows.Storing.{GoesInto, the_list, a_member, store_into}
 use Rattle.law_frame_list.proofs.lemmas.list_queued.Leading.{AreOnces, leads_by}

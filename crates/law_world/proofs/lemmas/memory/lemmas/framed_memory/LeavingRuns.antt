@@ -21,7 +21,7 @@ use Rattle.claims_base.specs.Controller.{Base}
 use Rattle.law_ring.specs.Ring.{IsRing}
 use Rattle.law_world.specs.steps.endpoint_releases.Released.{without_queue}
 use Rattle.law_world.proofs.lemmas.steps.lemmas.endpoint_releases.Owning.{queue_beside}
-use Rattle.claims_driver.specs.InPlace.{IsInPlace}
+use Rattle.law_driver.specs.in_place.InPlace.{IsInPlace}
 use Rattle.law_frames.specs.Met.{Kind, AQueue, IsMetQueue}
 use Rattle.law_frames.specs.FrameHand.{FrameHand}
 use Rattle.law_controller.specs.frame_control.Both.{RunsBoth}

@@ -20,7 +20,8 @@ use Rattle.claims_driver.specs.Leaving.{times, endpoints_in, owes, leaves_frames
 use Rattle.law_driver.proofs.lemmas.run_owners.Orders.{endpoint_first, IsRemoved}
 use Rattle.law_driver.proofs.lemmas.run_owners.Leaves.{first_removed}
 use Rattle.law_driver.proofs.lemmas.run_owners.Rows.{not_iso}
-use Rattle.claims_driver.specs.FrameListMembers.{Framed, framed_of, framed_in, IsStanding, IsQueueOf, IsListed}
+use Rattle.claims_driver.specs.FrameListMembers.{Framed, framed_of, framed_in}
+use Rattle.law_driver.specs.listed_members.Members.{IsStanding, IsQueueOf, IsListed}
 use Rattle.law_driver.proofs.lemmas.listed_members.Standing.{descriptor_placed, standing_block, why_stands}
 use Rattle.law_driver.proofs.lemmas.listed_members.Owned.{queue_owned}
 use Rattle.law_frame_list.proofs.lemmas.list_spread.Spreading.{queue_there, standing_there}

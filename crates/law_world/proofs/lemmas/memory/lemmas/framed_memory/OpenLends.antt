@@ -34,7 +34,7 @@ use Rattle.law_driver_ring.proofs.LendLending.{both_lend, other_slot}
 use Rattle.law_driver_ring.proofs.LendOpening.{lent_content, two_lent, lend_opens_drives}
 use Rattle.law_driver_ring.proofs.LendOwning.{none_there, queue_no_dummy, apart_from}
 use Rattle.law_driver_ring.proofs.Viewing.{advance_views}
-use Rattle.claims_driver.specs.InPlace.{IsInPlace}
+use Rattle.law_driver.specs.in_place.InPlace.{IsInPlace}
 use Rattle.law_driver.proofs.lemmas.in_place.Laws.{event_in_place}
 use Rattle.law_queues.specs.shared_memory.Shared.{parts_of}
 use Rattle.law_frames.specs.Met.{Kind, IsMetQueue}

@@ -18,7 +18,9 @@ use Rattle.drv_table.specs.Parts.{Parts}
 use Rattle.drv_table.specs.Rows.{driver_row, after_driver_row}
 use Rattle.drv_table.specs.Commands.{advance}
 use Rattle.claims_driver.specs.Owners.{HasBlocks, Owner, NoteRuns, ArePieces, runs_of_transfer, note_in, views_of}
-use Rattle.claims_driver.specs.Ring.{link_in, IsSound, StandsFor, IsPublishing}
+use Rattle.claims_driver.specs.Ring.{link_in}
+use Rattle.law_driver.specs.in_place.InPlace.{IsSound, IsInPlace}
+use Rattle.law_driver.specs.ring_members.Words.{StandsFor, IsPublishing}
 use Rattle.hc_core.specs.Controller.{Content, walk_place}
 use Rattle.law_structures.specs.lent_structures.Structures.{Structure, QueueHead, Element, Table, Structures, StructureSets, put, Holds}
 use Rattle.law_structures.specs.lent_structures.Changes.{Changes}
@@ -36,7 +38,6 @@ use Rattle.law_driver_ring.specs.Published.{partly, place_in, publish_row, IsPub
 use Rattle.law_driver_ring.proofs.Extending.{extents_stay, element_put}
 use Rattle.law_driver_ring.proofs.Publishing.{publish_store_drives, places_below, idle}
 use Rattle.law_driver_ring.proofs.Storing.{store_made}
-use Rattle.claims_driver.specs.InPlace.{IsInPlace}
 use Rattle.law_driver.proofs.lemmas.in_place.Laws.{event_in_place}
 use Rattle.law_queues.specs.shared_memory.Shared.{parts_of}
 use Rattle.law_frames.specs.Met.{Kind, AQueue, IsMetQueue}

@@ -39,7 +39,7 @@ use Rattle.law_driver_ring.specs.Released.{blocks_of, goes_of, IsToGo}
 use Rattle.law_driver_ring.proofs.Blocks.{all_one, is_not_named, mine, all_mine, none_mine, qtds_are_runs}
 use Rattle.law_driver_ring.proofs.Freeing.{HaveNone, all_told}
 use Rattle.law_driver_ring.proofs.Releasing.{release_drives}
-use Rattle.claims_driver.specs.InPlace.{IsInPlace}
+use Rattle.law_driver.specs.in_place.InPlace.{IsInPlace}
 use Rattle.law_driver.proofs.lemmas.in_place.Laws.{event_in_place}
 use Rattle.law_queues.specs.shared_memory.Shared.{parts_of}
 use Rattle.law_frames.specs.Met.{Kind, AQueue, IsMetQueue}

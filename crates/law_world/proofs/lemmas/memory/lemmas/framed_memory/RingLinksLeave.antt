@@ -12,7 +12,7 @@ use Rattle.drv_table.specs.Parts.{Parts}
 use Rattle.drv_table.specs.Rows.{row_for, driver_row, after_driver_row}
 use Rattle.drv_table.specs.Commands.{command_row}
 use Rattle.drv_table.specs.Words.{to_queue_head, queue_head_link}
-use Rattle.claims_driver.specs.Ring.{IsSound}
+use Rattle.law_driver.specs.in_place.InPlace.{IsSound}
 use Rattle.law_driver.proofs.lemmas.ring_members.Placed.{linked_alive}
 use Rattle.law_driver.proofs.lemmas.endpoint_lives.Lives.{linked_met}
 use Rattle.hc_core.specs.Controller.{Content, walk_place}

@@ -19,7 +19,9 @@ use Rattle.drv_table.specs.Rows.{row_for, driver_row, after_driver_row}
 use Rattle.drv_table.specs.Commands.{command_row}
 use Rattle.drv_table.specs.Words.{head_block, to_queue_head, queue_head_link, queue_head, dummy_qtd}
 use Rattle.claims_driver.specs.Owners.{QueueHead as QueueOf, Dummy, runs_of_endpoint}
-use Rattle.claims_driver.specs.Ring.{link_in, IsOpening, StandsFor, IsSound}
+use Rattle.claims_driver.specs.Ring.{link_in}
+use Rattle.law_driver.specs.ring_members.Words.{IsOpening, StandsFor}
+use Rattle.law_driver.specs.in_place.InPlace.{IsSound}
 use Rattle.law_driver.proofs.lemmas.ring_members.Placed.{can_begin, head_run_there, in_ring_alive, queue_placed}
 use Rattle.hc_core.specs.Controller.{Content, walk_place}
 use Rattle.law_structures.specs.lent_structures.Structures.{Structure, QueueHead, Element, Isochronous, SplitIsochronous, Structures, StructureSets, with_structure}

@@ -36,7 +36,7 @@ use Rattle.law_driver.proofs.lemmas.run_owners.Released.{set_here, set_there}
 use Rattle.law_driver_ring.proofs.Lists.{IsOneOf}
 use Rattle.law_frames.specs.Met.{Kind}
 use Rattle.law_driver.specs.listed_members.Listed.{IsOwnedAs}
-use Rattle.claims_driver.specs.FrameListMembers.{IsUnderWay, IsListed}
+use Rattle.law_driver.specs.listed_members.Members.{IsUnderWay, IsListed}
 use Rattle.law_driver.proofs.lemmas.listed_members.Owned.{members_owned}
 use Rattle.law_descriptors.specs.Meeting.{kind_of_descriptor, queue_begins, descriptor_begins, kind_by, kind_at, standing_in, standing, or_recent, met}
 use Rattle.claims_driver.specs.Unlinked.{led}

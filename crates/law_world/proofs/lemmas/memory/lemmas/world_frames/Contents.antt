@@ -17,7 +17,8 @@ use Rattle.drv_table.specs.Parts.{Parts}
 use Rattle.drv_table.specs.Rows.{driver_row, after_driver_row}
 use Rattle.claims_driver.specs.Leaving.{HasOwners}
 use Rattle.law_driver.proofs.lemmas.run_owners.Laws.{command_owned, event_owned}
-use Rattle.claims_driver.specs.FrameListMembers.{IsWaitingOf, IsUnderWay, IsListed, HasQueues}
+use Rattle.law_driver.specs.listed_members.Members.{IsWaitingOf, IsUnderWay, IsListed}
+use Rattle.law_driver.specs.listed_queues.Queues.{HasQueues}
 use Rattle.law_driver.proofs.lemmas.listed_members.Schedules.{all_more, same_members}
 use Rattle.law_driver.proofs.lemmas.listed_members.Stays.{moved, same_queue}
 use Rattle.law_driver.proofs.lemmas.listed_members.Opening.{opening_listed}

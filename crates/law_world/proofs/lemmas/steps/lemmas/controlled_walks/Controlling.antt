@@ -12,7 +12,8 @@ use Rattle.hc_core.specs.Controller.{Content, microframe_row, element_address, b
 use Rattle.drv_table.specs.declared.content.Reserve.{Reserve}
 use Rattle.drv_table.specs.DriverContent.{DriverContent}
 use Rattle.drv_table.specs.Opening.{opening}
-use Rattle.claims_driver.specs.Ring.{link_in, IsRing}
+use Rattle.claims_driver.specs.Ring.{link_in}
+use Rattle.law_driver.specs.ring_members.Words.{IsRing}
 use Rattle.claims_driver.specs.InPlace.{AreFixed}
 use Rattle.claims_driver.specs.Walk.{IsReached, IsWalkIn, IsBellIn}
 use Rattle.law_driver_ring.specs.walk_members.Reached.{AreNoHeads}

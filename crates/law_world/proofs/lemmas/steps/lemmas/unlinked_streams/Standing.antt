@@ -18,7 +18,9 @@ use Rattle.drv_table.specs.DriverContent.{DriverContent}
 use Rattle.drv_table.specs.Words.{head_block, to_queue_head, queue_head_link}
 use Rattle.drv_table.specs.Accepting.{newest_of, oldest_of}
 use Rattle.claims_driver.specs.Owners.{HasRun}
-use Rattle.claims_driver.specs.Ring.{link_in, step_to, LeadsFrom, AreLinked, IsUnlinking, StandsFor, IsSound}
+use Rattle.claims_driver.specs.Ring.{link_in}
+use Rattle.law_driver.specs.ring_members.Words.{step_to, LeadsFrom, AreLinked, IsUnlinking, StandsFor}
+use Rattle.law_driver.specs.in_place.InPlace.{IsSound}
 use Rattle.law_driver.proofs.lemmas.ring_members.Links.{dropped, LeadsTo, oldest_is}
 use Rattle.law_driver.proofs.lemmas.ring_members.Leaving.{link_at as word_from}
 use Rattle.law_driver.proofs.lemmas.ring_members.Placed.{can_begin, in_ring_alive, queue_run, head_run_there}

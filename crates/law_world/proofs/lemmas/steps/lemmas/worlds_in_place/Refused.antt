@@ -12,10 +12,13 @@ use Rattle.drv_table.specs.declared.content.Command.TheVariants as unfinished
 use Rattle.drv_table.specs.DriverContent.{DriverContent}
 use Rattle.claims_driver.specs.Leaving.{HasOwners}
 use Rattle.claims_driver.specs.LentRuns.{AreLent}
-use Rattle.claims_driver.specs.FrameListMembers.{Framed, IsStanding, IsQueueOf, IsWaitingOf, IsDescribing, AreLeaving, IsUnchaining, IsUnderWay, IsListed, HasQueues}
+use Rattle.claims_driver.specs.FrameListMembers.{Framed}
+use Rattle.law_driver.specs.listed_members.Members.{IsStanding, IsQueueOf, IsWaitingOf, IsDescribing, AreLeaving, IsUnchaining, IsUnderWay, IsListed}
+use Rattle.law_driver.specs.listed_queues.Queues.{HasQueues}
 use Rattle.law_driver.proofs.lemmas.listed_members.Schedules.{all_more}
-use Rattle.claims_driver.specs.Ring.{IsRing}
-use Rattle.claims_driver.specs.InPlace.{AreFixed, IsInPlace}
+use Rattle.law_driver.specs.ring_members.Words.{IsRing}
+use Rattle.claims_driver.specs.InPlace.{AreFixed}
+use Rattle.law_driver.specs.in_place.InPlace.{IsInPlace}
 use Rattle.bus_world.specs.World.{refused_line}
 
 module _ (d : DriverContent) (line : ℕ) (name : EpName) (why : OfferError) where
