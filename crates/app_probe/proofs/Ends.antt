@@ -16,7 +16,7 @@ use Rattle.law_refusals.specs.Refusals.{IsOnce, Stops}
 use Rattle.claims_base.specs.Controller.{GoesOn}
 use Rattle.app_probe.specs.Probe.{opening, counted, IsSilentEvent, Events, IsProbe, EndsSo}
 use Rattle.app_probe.specs.Probe.Events.{none, next}
-use Rattle.law_refusals.proofs.Events.{each_counts_once}
+use Rattle.law_refusals.proofs.Events.{each_event_counts_once}
 
 -- ---- an event is a step exactly where the controller runs
 
@@ -93,7 +93,7 @@ runs_on n steps old new s e =
     inl (record { run = c.run ∙ s.run; error = c.error ∙ s.error; foreign = c.count ∙ s.foreign; each = omega (arith, one, each) }))
     (λ (c : Stops old.memory new.registers new.memory).
     inr (record { run = c.run; error = c.error; foreign = first_once old.memory.foreign new.memory.foreign s.foreign c.count; few = omega (arith, one, each); some = omega (arith, one) }))
-    (each_counts_once may_be_used is_silent old new e.before e.after e.event)
+    (each_event_counts_once may_be_used is_silent old new e.before e.after e.event)
 
 stays_halted : (n steps : ℕ) (old new : Content) → Halted n steps old → IsSilentEvent old new → Stands (n + 1) (steps + counted (kind_of (microframe_row old.registers old.control) old)) new
 stays_halted n steps old new s e =

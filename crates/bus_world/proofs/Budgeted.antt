@@ -18,8 +18,8 @@ use Rattle.drv_table.specs.Accepting.{Offered}
 use Rattle.drv_table.specs.Offers.{IsOffered, offered}
 use Rattle.script_fits.specs.Fits.{IsFit, IsFitCommand, IsFitLine}
 use Rattle.law_admission.specs.Budgets.{account_of, KeepsBudgets}
-use Rattle.law_admission.proofs.Budgets.{opening_kept, command_kept, event_kept, command_rules, event_rules}
-use Rattle.law_admission.proofs.Refusals.{refused_exactly}
+use Rattle.law_admission.proofs.Budgets.{opening_keeps_budgets, commands_keep_budgets, events_keep_budgets, command_rules, event_rules}
+use Rattle.law_admission.proofs.Refusals.{refused_where_none_fits}
 use Rattle.bus_world.specs.World.{World, next, driver_parts, commanded, commanded_by, name_in}
 use Rattle.bus_world.specs.Opening.{opening_world}
 use Rattle.bus_world.specs.Orders.{Left, Events, Microframes, Answer, Command, Plugs, OrderedWorld, at_place, left_of, orders_of, fewer, tick, tick_by, tick_at, ticks}
@@ -31,12 +31,12 @@ use Rattle.bus_world.proofs.Rooming.{less_room, rest_room, room_of_all, can_offe
 -- ---- one event or command
 
 next_kept : (fixed : Fixed) (w : World) (event : Event) → KeepsBudgets (account_of w.driver) → KeepsBudgets (account_of (next fixed w event).driver)
-next_kept fixed w events.D old = event_kept (driver_parts w) old
+next_kept fixed w events.D old = events_keep_budgets (driver_parts w) old
 next_kept fixed w events.C old = old
 
 answered_kept : (w : World) (n : ℕ) (name : EpName) (cmd : Cmd) (r : Result Offered OfferError) → IsOffered w.driver.room cmd → KeepsBudgets (account_of w.driver)
     → offered w.driver w.memory cmd ≡ r → KeepsBudgets (account_of (commanded_by w n name r).driver)
-answered_kept w n name cmd (Ok o) ok old is = command_kept w.driver w.memory cmd o ok old is
+answered_kept w n name cmd (Ok o) ok old is = commands_keep_budgets w.driver w.memory cmd o ok old is
 answered_kept w n name cmd (Err why) ok old is = old
 
 pub commanded_kept : (w : World) (n : ℕ) (cmd : Cmd) → IsOffered w.driver.room cmd → KeepsBudgets (account_of w.driver) → KeepsBudgets (account_of (commanded w n cmd).driver)
@@ -138,7 +138,7 @@ admits : (rules : Rules) (w : World) (orders : List Left) → IsReady rules w or
 admits rules w orders h = record {
   rules_stand = h.rules_stand;
   fits = h.budgets.fits;
-  refused = λ n x rest is passes. refused_exactly w.driver w.memory x h.budgets (open_room rules w orders n x rest is h) passes;
+  refused = λ n x rest is passes. refused_where_none_fits w.driver w.memory x h.budgets (open_room rules w orders n x rest is h) passes;
 }
 
 -- ---- the lines of a script
@@ -177,4 +177,4 @@ run_admits fixed w xs budgets room fits k =
 -- each moment of the run of a script that fits
 pub script_admits : (s : Script) → IsFit s → AdmitsThroughout s
 script_admits s fit k =
-    run_admits (fixed_of s) (opening_world s) s.lines (opening_kept s.words (room_of_script s)) (room_of_all s) fit.lines k
+    run_admits (fixed_of s) (opening_world s) s.lines (opening_keeps_budgets s.words (room_of_script s)) (room_of_all s) fit.lines k

@@ -29,7 +29,7 @@ use Rattle.drv_table.specs.Rows.{driver_row, after_driver_row}
 use Rattle.drv_table.specs.Offers.{IsOffered, offered}
 use Rattle.bandwidth.proofs.Budgets.{fits_none}
 use Rattle.law_admission.specs.Budgets.{account_of, KeepsBudgets}
-use Rattle.law_admission.proofs.Budgets.{command_kept, event_kept}
+use Rattle.law_admission.proofs.Budgets.{commands_keep_budgets, events_keep_budgets}
 use Rattle.bus_wire.specs.Bus.{Fixed, Bus}
 use Rattle.bus_world.specs.World.{Standing, World, controller_row, controller_parts, controller_next, turned_by, frame_by, walk_by, sends_by, sent_by, refused_line}
 use Rattle.bus_world.specs.Sound.{IsSound, IsRoomyDevice}
@@ -45,7 +45,7 @@ driver_sound p new m b h stands e = record {
   stands = stands;
   stored = subst (λ (d : DriverContent). AreStored d.reports (length d.store)) (sym e) ((row_keeps (driver_row p) p).stored h.stored);
   roomy = h.roomy;
-  budgets = subst (λ (d : DriverContent). KeepsBudgets (account_of d)) (sym e) (event_kept p h.budgets);
+  budgets = subst (λ (d : DriverContent). KeepsBudgets (account_of d)) (sym e) (events_keep_budgets p h.budgets);
 }
 
 -- ---- the controller
@@ -100,7 +100,7 @@ accepted_sound d m b cmd new n ok h e stands = record {
   stands = stands;
   stored = same_stored d new (subst (Lines d) e (offer_lines d m cmd)) h.stored;
   roomy = h.roomy;
-  budgets = command_kept d m cmd (record { driver = new; memory = n }) ok h.budgets e;
+  budgets = commands_keep_budgets d m cmd (record { driver = new; memory = n }) ok h.budgets e;
 }
 
 pub refused_sound : (d : DriverContent) (m : Mem) (b : Bus) (n : ℕ) (name : EpName) (why : OfferError) → IsSound d m b → IsSound (refused_line d n name why) m b

@@ -4,9 +4,9 @@ use Rattle.script_fits.proofs.Texts.{spelled_fits}
 use Rattle.bus_world.specs.Budgets.{AdmitsThroughout}
 use Rattle.bus_world.proofs.Budgeted.{script_admits}
 use Rattle.claims_world.specs.Lent.{KeepsToLentThroughout}
-use Rattle.law_world.proofs.lemmas.memory.lemmas.worlds_keep_to_lent.Moments.{script_keeps}
+use Rattle.law_world.proofs.lemmas.memory.lemmas.worlds_keep_to_lent.Moments.{each_moment_keeps_to_lent_blocks}
 use Rattle.claims_world.specs.Owned.{OwnsItsBlocksThroughout}
-use Rattle.law_world.proofs.lemmas.memory.lemmas.owned_blocks.Worlds.{script_owns}
+use Rattle.law_world.proofs.lemmas.memory.lemmas.owned_blocks.Worlds.{each_moment_owns_its_blocks}
 use Rattle.claims_world.specs.Schedule.{KeepsScheduleThroughout}
 use Rattle.law_world.proofs.lemmas.memory.lemmas.world_frames.Moments.{script_scheduled}
 use Rattle.app_forms.specs.Scripts.{OfEachScript}
@@ -16,10 +16,10 @@ pub source_admits : (words : List (List ℕ)) (left : Option (List ℕ)) → OfE
 source_admits = of_each AdmitsThroughout (λ text s spelled. script_admits s (spelled_fits text s spelled))
 
 pub source_keeps_to_lent : (words : List (List ℕ)) (left : Option (List ℕ)) → OfEachScript KeepsToLentThroughout words left
-source_keeps_to_lent = of_each KeepsToLentThroughout (λ text s spelled. script_keeps s (spelled_fits text s spelled))
+source_keeps_to_lent = of_each KeepsToLentThroughout (λ text s spelled. each_moment_keeps_to_lent_blocks s (spelled_fits text s spelled))
 
 pub source_owns : (words : List (List ℕ)) (left : Option (List ℕ)) → OfEachScript OwnsItsBlocksThroughout words left
-source_owns = of_each OwnsItsBlocksThroughout (λ text s spelled. script_owns s (spelled_fits text s spelled))
+source_owns = of_each OwnsItsBlocksThroughout (λ text s spelled. each_moment_owns_its_blocks s (spelled_fits text s spelled))
 
 pub source_keeps_schedule : (words : List (List ℕ)) (left : Option (List ℕ)) → OfEachScript KeepsScheduleThroughout words left
 source_keeps_schedule = of_each KeepsScheduleThroughout (λ text s spelled. script_scheduled s (spelled_fits text s spelled))

@@ -16,9 +16,9 @@ use Rattle.claims_world.specs.Unfinished.{KeepsToWork}
 use Rattle.law_microframes.proofs.lemmas.due.Together.{texts_keep_due}
 use Rattle.law_microframes.proofs.lemmas.due.lemmas.slots.Moments.{texts_serve_slots}
 use Rattle.law_reports.proofs.lemmas.queues.Copies.{texts_keep_to_work}
-use Rattle.law_microframes.proofs.lemmas.time.PaymentTimes.{texts_pay, texts_in_time}
+use Rattle.law_microframes.proofs.lemmas.time.PaymentTimes.{texts_pay_within_load, texts_are_in_time}
 use Rattle.claims_world.specs.Microframes.{MicroframesEnd}
-use Rattle.law_microframes.proofs.lemmas.time.TurnTexts.{texts_end}
+use Rattle.law_microframes.proofs.lemmas.time.TurnTexts.{texts_end_microframes}
 use Rattle.app_forms.specs.Scripts.{OfEachScript}
 use Rattle.ehci_cli.proofs.Each.{of_each}
 
@@ -26,13 +26,13 @@ pub source_keeps_visits : (words : List (List ℕ)) (left : Option (List ℕ)) �
 source_keeps_visits = of_each KeepsVisits texts_keep_visits
 
 pub source_pays_within_load : (words : List (List ℕ)) (left : Option (List ℕ)) → OfEachScript PaysWithinLoad words left
-source_pays_within_load = of_each PaysWithinLoad texts_pay
+source_pays_within_load = of_each PaysWithinLoad texts_pay_within_load
 
 pub source_is_in_time : (words : List (List ℕ)) (left : Option (List ℕ)) → OfEachScript ArriveInTime words left
-source_is_in_time = of_each ArriveInTime texts_in_time
+source_is_in_time = of_each ArriveInTime texts_are_in_time
 
 pub source_ends_microframes : (words : List (List ℕ)) (left : Option (List ℕ)) → OfEachScript MicroframesEnd words left
-source_ends_microframes = of_each MicroframesEnd texts_end
+source_ends_microframes = of_each MicroframesEnd texts_end_microframes
 
 pub source_keeps_due : (words : List (List ℕ)) (left : Option (List ℕ)) → OfEachScript KeepsDue words left
 source_keeps_due = of_each KeepsDue texts_keep_due

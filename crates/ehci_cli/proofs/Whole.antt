@@ -5,7 +5,7 @@ use Rattle.script_text.specs.Faults.{Spells}
 use Rattle.bus_world.specs.World.{Standing}
 use Rattle.bus_world.specs.Opening.{opening_world}
 use Rattle.bus_world.specs.Orders.{IsRun, orders_of}
-use Rattle.law_microframes.proofs.lemmas.time.TurnTexts.{texts_carry_out}
+use Rattle.law_microframes.proofs.lemmas.time.TurnTexts.{texts_carry_out_all}
 use Rattle.app_ends.specs.Input.{input_of}
 use Rattle.app_ends.specs.declared.status.Status.{Status}
 use Rattle.bus_world.specs.Runs.{IsRunOf, IsWholeRunOf}
@@ -15,7 +15,7 @@ use Rattle.app_forms.proofs.Whole.{load_follows, program_follows}
 whole_run : (text : List ℕ) (s : Script) (w : Standing) → Spells text s → IsRunOf s w → IsWholeRunOf s w
 whole_run text s w spelled ran = record {
   fixed = ran.fixed;
-  led = texts_carry_out text s spelled w.world (subst (λ f. IsRun f (opening_world s) (orders_of s.lines) w.world) refl ran.ran);
+  led = texts_carry_out_all text s spelled w.world (subst (λ f. IsRun f (opening_world s) (orders_of s.lines) w.world) refl ran.ran);
 }
 
 pub whole_program : (left : Option (List ℕ)) (words : List (List ℕ)) (status : Status) (old new : Option (List ℕ)) → IfSome left (λ xs. IsProgram IsRunOf words status (input_of xs) old new)

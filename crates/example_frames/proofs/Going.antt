@@ -11,13 +11,13 @@ use Rattle.claims_base.specs.Controller.{Base}
 use Rattle.example_ring.specs.Runs.{made_by}
 use Rattle.law_frames.specs.Met.{Kind}
 use Rattle.law_controller.specs.frame_control.Both.{ControlsBoth}
-use Rattle.law_controller.proofs.lemmas.frame_control.Running.{event_runs}
+use Rattle.law_controller.proofs.lemmas.frame_control.Running.{each_event_of_the_controller_over_both}
 use Rattle.law_frames.proofs.Walking.{event_happens}
 use Rattle.example_frames.specs.Runs.{BothAreTold, AreRunning, BothStay, AllAreMadeOverBoth, NothingIsRefused}
 
 pub both_told : {W : Type 0} (begins : W → ℕ → Bool → W → Type 0) (transacts : W → Ask → List ℕ → Reply → W → Type 0) (old : Content) (before : W) (new : Content) (after : W) → HasRow begins transacts (microframe_row old.registers old.control) old before new after → BothAreTold begins transacts old before new after
 both_told begins transacts old before new after row base member met parts hand frame on heard k =
-    event_runs begins transacts base member met parts hand frame old before new after (event_happens transacts met parts frame) k on heard row
+    each_event_of_the_controller_over_both begins transacts base member met parts hand frame old before new after (event_happens transacts met parts frame) k on heard row
 
 pub both_stay : {W : Type 0} (begins : W → ℕ → Bool → W → Type 0) (transacts : W → Ask → List ℕ → Reply → W → Type 0) (old : Content) (before : W) (new : Content) (after : W) → HasRow begins transacts (microframe_row old.registers old.control) old before new after → BothStay transacts old new
 both_stay begins transacts old before new after row base member met running =

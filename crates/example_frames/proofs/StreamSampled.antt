@@ -28,7 +28,7 @@ use Rattle.law_frames.specs.FrameStreams.{IsIsoAsk}
 use Rattle.law_frames.specs.Visits.{IsWrittenBack, back_of}
 use Rattle.law_frames.specs.QueueVisitSamples.{met}
 use Rattle.law_frames.specs.SplitSamples.{memory, parts, copy, started, waiting, ended, missed, hears, is_silent, completing}
-use Rattle.law_frames.proofs.Telling.{frame_streams}
+use Rattle.law_frames.proofs.Telling.{frame_moves_streams}
 use Rattle.law_frames.proofs.StreamSampled.{completes_so, streams_so, before_told, after_told}
 use Rattle.law_frames.proofs.SplitSampled.{misses_it}
 use Rattle.law_controller.specs.frame_control.Both.{BothEffect, of_frame}
@@ -114,7 +114,7 @@ module _ (v : IsWrittenBack met memory parts copy started) where
 
     pub missed_same : SameTold (joined Empty (OfQueue waiting 0)) v.now (joined Empty Nothing) w.now
     missed_same =
-        by (frame_streams is_silent met v.now (OfQueue waiting 0) there 1 1 w.now Nothing steps.WriteBack frame_there misses_so)
+        by (frame_moves_streams is_silent met v.now (OfQueue waiting 0) there 1 1 w.now Nothing steps.WriteBack frame_there misses_so)
       where
         none : (m : Asks is_silent v.now (Copied waiting) 1 1 Empty) → ⊥
         none m = let e : ◌≡◌ {A = Hand} Empty (Settled m.held (came_to m)) = m.later_is in cc

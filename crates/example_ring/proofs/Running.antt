@@ -7,17 +7,17 @@ use Rattle.hc_core.specs.declared.controller.HcStep.{HcStep}
 use Rattle.hc_core.specs.declared.controller.HcStep.TheVariants as steps
 use Rattle.hc_core.specs.Controller.{Content, microframe_row, HasRow}
 use Rattle.claims_base.specs.Controller.{Base}
-use Rattle.law_controller.proofs.lemmas.controlled_streams.Controlling.{event_controls}
+use Rattle.law_controller.proofs.lemmas.controlled_streams.Controlling.{each_event_of_the_controller}
 use Rattle.example_ring.specs.Runs.{EventIsTold, IsRunning, StaysUnderWay, made_by, AllAreMade}
 
 pub event_told : {W : Type 0} (begins : W → ℕ → Bool → W → Type 0) (transacts : W → Ask → List ℕ → Reply → W → Type 0) (old : Content) (before : W) (new : Content) (after : W) → HasRow begins transacts (microframe_row old.registers old.control) old before new after → EventIsTold begins transacts old before new after
 event_told begins transacts old before new after row base member parts hand on heard k =
-    event_controls begins transacts base member parts hand old before new after k on heard row
+    each_event_of_the_controller begins transacts base member parts hand old before new after k on heard row
 
 pub event_stays : {W : Type 0} (begins : W → ℕ → Bool → W → Type 0) (transacts : W → Ask → List ℕ → Reply → W → Type 0) (old : Content) (before : W) (new : Content) (after : W) → HasRow begins transacts (microframe_row old.registers old.control) old before new after → StaysUnderWay transacts old new
 event_stays begins transacts old before new after row base member runs =
     let u = runs.under_way in
-    let c = event_controls begins transacts base member u.parts u.hand old before new after u.controlled runs.on (runs.hears before after) row in
+    let c = each_event_of_the_controller begins transacts base member u.parts u.hand old before new after u.controlled runs.on (runs.hears before after) row in
     record { on = runs.on; hears = runs.hears; under_way = record { parts = c.now; hand = c.later; controlled = c.controlled } }
 
 -- the controller runs

@@ -24,11 +24,11 @@ use Rattle.drv_table.specs.Rows.{driver_row, after_driver_row}
 use Rattle.law_admission.specs.Budgets.{Account, account_of, KeepsBudgets, taken_out, account_after}
 use Rattle.drv_table.specs.PeriodicOpens.{asked}
 use Rattle.law_admission.specs.Opens.{OpenAfter, AccountAfter}
-use Rattle.law_admission.proofs.Events.{account_of_event}
-use Rattle.law_admission.proofs.Commands.{account_of_command}
+use Rattle.law_admission.proofs.Events.{events_take_out_what_left}
+use Rattle.law_admission.proofs.Commands.{commands_place_the_best}
 
-pub opening_kept : (n : ℕ) (room : Reserve) → KeepsBudgets (account_of (opening n room).driver)
-opening_kept n room = record { fits = fits_none; room = omega arith }
+pub opening_keeps_budgets : (n : ℕ) (room : Reserve) → KeepsBudgets (account_of (opening n room).driver)
+opening_keeps_budgets n room = record { fits = fits_none; room = omega arith }
 
 -- ---- a command
 
@@ -45,31 +45,31 @@ open_kept d x o true some old why =
 open_kept d x o false some old why =
     subst KeepsBudgets (sym why) (record { fits = old.fits; room = omega (arith, old.room, some) })
 
-pub command_kept : (d : DriverContent) (m : Mem) (cmd : Cmd) (o : Offered) → IsOffered d.room cmd → KeepsBudgets (account_of d) → offered d m cmd ≡ Ok o → KeepsBudgets (account_of o.driver)
-command_kept d m (commands.OpenEp x) o ok old is =
-    open_kept d x o (is_periodic x.kind) ok.0 old (account_of_command d m (commands.OpenEp x) o is)
-command_kept d m (commands.Get name len by) o ok old is =
-    subst KeepsBudgets (sym (account_of_command d m (commands.Get name len by) o is)) old
-command_kept d m (commands.Put name bytes by) o ok old is =
-    subst KeepsBudgets (sym (account_of_command d m (commands.Put name bytes by) o is)) old
-command_kept d m (commands.Control name setup bytes) o ok old is =
-    subst KeepsBudgets (sym (account_of_command d m (commands.Control name setup bytes) o is)) old
-command_kept d m (commands.Iso name count len seed) o ok old is =
-    subst KeepsBudgets (sym (account_of_command d m (commands.Iso name count len seed) o is)) old
-command_kept d m (commands.Cancel name) o ok old is =
-    subst KeepsBudgets (sym (account_of_command d m (commands.Cancel name) o is)) old
-command_kept d m (commands.Clear name) o ok old is =
-    subst KeepsBudgets (sym (account_of_command d m (commands.Clear name) o is)) old
-command_kept d m (commands.Reset port) o ok old is =
-    subst KeepsBudgets (sym (account_of_command d m (commands.Reset port) o is)) old
-command_kept d m (commands.Give port) o ok old is =
-    subst KeepsBudgets (sym (account_of_command d m (commands.Give port) o is)) old
-command_kept d m (commands.DiskRead addr lba count) o ok old is =
-    subst KeepsBudgets (sym (account_of_command d m (commands.DiskRead addr lba count) o is)) old
-command_kept d m (commands.DiskWrite addr lba bytes) o ok old is =
-    subst KeepsBudgets (sym (account_of_command d m (commands.DiskWrite addr lba bytes) o is)) old
-command_kept d m (commands.Revive addr) o ok old is =
-    subst KeepsBudgets (sym (account_of_command d m (commands.Revive addr) o is)) old
+pub commands_keep_budgets : (d : DriverContent) (m : Mem) (cmd : Cmd) (o : Offered) → IsOffered d.room cmd → KeepsBudgets (account_of d) → offered d m cmd ≡ Ok o → KeepsBudgets (account_of o.driver)
+commands_keep_budgets d m (commands.OpenEp x) o ok old is =
+    open_kept d x o (is_periodic x.kind) ok.0 old (commands_place_the_best d m (commands.OpenEp x) o is)
+commands_keep_budgets d m (commands.Get name len by) o ok old is =
+    subst KeepsBudgets (sym (commands_place_the_best d m (commands.Get name len by) o is)) old
+commands_keep_budgets d m (commands.Put name bytes by) o ok old is =
+    subst KeepsBudgets (sym (commands_place_the_best d m (commands.Put name bytes by) o is)) old
+commands_keep_budgets d m (commands.Control name setup bytes) o ok old is =
+    subst KeepsBudgets (sym (commands_place_the_best d m (commands.Control name setup bytes) o is)) old
+commands_keep_budgets d m (commands.Iso name count len seed) o ok old is =
+    subst KeepsBudgets (sym (commands_place_the_best d m (commands.Iso name count len seed) o is)) old
+commands_keep_budgets d m (commands.Cancel name) o ok old is =
+    subst KeepsBudgets (sym (commands_place_the_best d m (commands.Cancel name) o is)) old
+commands_keep_budgets d m (commands.Clear name) o ok old is =
+    subst KeepsBudgets (sym (commands_place_the_best d m (commands.Clear name) o is)) old
+commands_keep_budgets d m (commands.Reset port) o ok old is =
+    subst KeepsBudgets (sym (commands_place_the_best d m (commands.Reset port) o is)) old
+commands_keep_budgets d m (commands.Give port) o ok old is =
+    subst KeepsBudgets (sym (commands_place_the_best d m (commands.Give port) o is)) old
+commands_keep_budgets d m (commands.DiskRead addr lba count) o ok old is =
+    subst KeepsBudgets (sym (commands_place_the_best d m (commands.DiskRead addr lba count) o is)) old
+commands_keep_budgets d m (commands.DiskWrite addr lba bytes) o ok old is =
+    subst KeepsBudgets (sym (commands_place_the_best d m (commands.DiskWrite addr lba bytes) o is)) old
+commands_keep_budgets d m (commands.Revive addr) o ok old is =
+    subst KeepsBudgets (sym (commands_place_the_best d m (commands.Revive addr) o is)) old
 
 -- ---- an event
 
@@ -87,8 +87,9 @@ after_kept : (row : DriverRow) (d : DriverContent) → KeepsBudgets (account_of 
 after_kept (rows.ReleaseRemoved (removed.Endpoint e)) d old = out_kept (account_of d) e (slice_get d.endpoints e) old
 after_kept _ d old = old
 
-pub event_kept : (p : Parts) → KeepsBudgets (account_of p.driver) → KeepsBudgets (account_of (after_driver_row (driver_row p) p).driver)
-event_kept p old = subst KeepsBudgets (sym (account_of_event (driver_row p) p)) (after_kept (driver_row p) p.driver old)
+pub events_keep_budgets : (p : Parts) → KeepsBudgets (account_of p.driver)
+    → KeepsBudgets (account_of (after_driver_row (driver_row p) p).driver)
+events_keep_budgets p old = subst KeepsBudgets (sym (events_take_out_what_left (driver_row p) p)) (after_kept (driver_row p) p.driver old)
 
 -- ---- placements follow the same rules
 
@@ -101,7 +102,7 @@ after_rules d (commands.OpenEp x) o why = open_rules d x o (is_periodic x.kind) 
 after_rules d _ o why = ap (λ (a : Account). a.plan.rules) why
 
 pub command_rules : (d : DriverContent) (m : Mem) (cmd : Cmd) (o : Offered) → offered d m cmd ≡ Ok o → o.driver.periodic.plan.rules ≡ d.periodic.plan.rules
-command_rules d m cmd o is = after_rules d cmd o (account_of_command d m cmd o is)
+command_rules d m cmd o is = after_rules d cmd o (commands_place_the_best d m cmd o is)
 
 out_rules : (a : Account) (e : ℕ) (o : Option Endpoint) → (taken_out a e o).plan.rules ≡ a.plan.rules
 out_rules a e None = refl
@@ -112,4 +113,4 @@ row_rules (rows.ReleaseRemoved (removed.Endpoint e)) d = out_rules (account_of d
 row_rules _ d = refl
 
 pub event_rules : (p : Parts) → (after_driver_row (driver_row p) p).driver.periodic.plan.rules ≡ p.driver.periodic.plan.rules
-event_rules p = ap (λ (a : Account). a.plan.rules) (account_of_event (driver_row p) p) ∙ row_rules (driver_row p) p.driver
+event_rules p = ap (λ (a : Account). a.plan.rules) (events_take_out_what_left (driver_row p) p) ∙ row_rules (driver_row p) p.driver

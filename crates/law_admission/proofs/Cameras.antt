@@ -18,8 +18,8 @@ use Rattle.drv_table.specs.Offers.{offered, planned_open, accepted_iso}
 use Rattle.law_admission.specs.Budgets.{account_of, KeepsBudgets}
 use Rattle.drv_table.specs.PeriodicOpens.{PassesBefore}
 use Rattle.law_admission.specs.Worked.{camera, each_microframe}
-use Rattle.law_admission.proofs.Budgets.{opening_kept}
-use Rattle.law_admission.proofs.Refusals.{asks_best, refused_exactly}
+use Rattle.law_admission.proofs.Budgets.{opening_keeps_budgets}
+use Rattle.law_admission.proofs.Refusals.{asks_best, refused_where_none_fits}
 
 one_place : (rules : Rules) (e num : ℕ) → allowed_by rules (want_of e (camera num)) ≡ each_microframe ∷ []
 unfolding allowed_by allowed mask
@@ -70,7 +70,7 @@ first_of rules (Some p) is =
 
 pub first_accepted : (n : ℕ) (room : Reserve) (m : Mem) → 1 ≤ room.endpoints → offered (opening n room).driver m (OpenEp (camera 1)) ≡ Ok (record { driver = accepted_iso (opening n room).driver (camera 1) each_microframe; memory = m })
 first_accepted n room m some =
-    asks_best (opening n room).driver m (camera 1) (opening_kept n room) some (opened_new n room)
+    asks_best (opening n room).driver m (camera 1) (opening_keeps_budgets n room) some (opened_new n room)
     ∙ ap (λ (b : Option Placement). planned_open (opening n room).driver m (camera 1) (chosen b)) (first_of room.rules (best room.rules [] (want_of 0 (camera 1))) refl)
 
 -- ---- the second
@@ -95,5 +95,5 @@ breaks p is fit =
 
 pub second_refused : (n : ℕ) (room : Reserve) (m : Mem) → 2 ≤ room.endpoints → offered (accepted_iso (opening n room).driver (camera 1) each_microframe) m (OpenEp (camera 2)) ≡ Err NoPlacement
 second_refused n room m two =
-    (refused_exactly (accepted_iso (opening n room).driver (camera 1) each_microframe) m (camera 2) (first_kept n room (omega (arith, two))) (one_left room two) (second_new n room)).1
+    (refused_where_none_fits (accepted_iso (opening n room).driver (camera 1) each_microframe) m (camera 2) (first_kept n room (omega (arith, two))) (one_left room two) (second_new n room)).1
     (λ i p at fit. breaks p (its_place room.rules 1 2 i p at) fit)

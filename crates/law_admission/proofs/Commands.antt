@@ -142,5 +142,5 @@ next_offered d m _ = tt
 pub command_account : (d : DriverContent) (m : Mem) (cmd : Cmd) → IfOk (offered d m cmd) (λ o. AccountAfter d cmd o)
 command_account d m cmd = or_else (λ o. AccountAfter d cmd o) (busy d) (Err errors.Busy) (offered_next d m cmd) tt (next_offered d m cmd)
 
-pub account_of_command : (d : DriverContent) (m : Mem) (cmd : Cmd) (o : Offered) → offered d m cmd ≡ Ok o → AccountAfter d cmd o
-account_of_command d m cmd o is = IfOk-at_ok (λ o. AccountAfter d cmd o) is (command_account d m cmd)
+pub commands_place_the_best : (d : DriverContent) (m : Mem) (cmd : Cmd) (o : Offered) → offered d m cmd ≡ Ok o → AccountAfter d cmd o
+commands_place_the_best d m cmd o is = IfOk-at_ok (λ o. AccountAfter d cmd o) is (command_account d m cmd)

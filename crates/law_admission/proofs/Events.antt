@@ -144,15 +144,15 @@ harvested d m e t found (Some x) (Some y) =
 
 -- ---- any event
 
-pub account_of_event : (row : DriverRow) (p : Parts) → account_of (after_driver_row row p).driver ≡ account_after row p.driver
-account_of_event rows.Lend p = advanced (record p.driver { book = (lend_taken (holding p.driver.book p.memory)).book })
-account_of_event (rows.Store b at v) p = advanced p.driver
-account_of_event (rows.ReleaseTransfer t) p = transfer_let_go p t (slice_get p.driver.transfers t) _
-account_of_event (rows.ReleaseEndpoint e) p = endpoint_let_go p e (slice_get p.driver.endpoints e)
-account_of_event rows.Frames p = framed p.driver p.registers.frame_index p.driver.command
-account_of_event rows.LendDescriptors p =
+pub events_take_out_what_left : (row : DriverRow) (p : Parts) → account_of (after_driver_row row p).driver ≡ account_after row p.driver
+events_take_out_what_left rows.Lend p = advanced (record p.driver { book = (lend_taken (holding p.driver.book p.memory)).book })
+events_take_out_what_left (rows.Store b at v) p = advanced p.driver
+events_take_out_what_left (rows.ReleaseTransfer t) p = transfer_let_go p t (slice_get p.driver.transfers t) _
+events_take_out_what_left (rows.ReleaseEndpoint e) p = endpoint_let_go p e (slice_get p.driver.endpoints e)
+events_take_out_what_left rows.Frames p = framed p.driver p.registers.frame_index p.driver.command
+events_take_out_what_left rows.LendDescriptors p =
     advanced (record p.driver { book = (lend_taken (holding p.driver.book (linked_by p.driver p.memory p.driver.command))).book })
-account_of_event (rows.Unlink t) p = unlinked p t (slice_get p.driver.transfers t)
-account_of_event (rows.ReleaseRemoved what) p = removed_let_go p what
-account_of_event (rows.Harvest e t found) p = harvested p.driver p.memory e t found (slice_get p.driver.endpoints e) (slice_get p.driver.transfers t)
-account_of_event _ p = refl
+events_take_out_what_left (rows.Unlink t) p = unlinked p t (slice_get p.driver.transfers t)
+events_take_out_what_left (rows.ReleaseRemoved what) p = removed_let_go p what
+events_take_out_what_left (rows.Harvest e t found) p = harvested p.driver p.memory e t found (slice_get p.driver.endpoints e) (slice_get p.driver.transfers t)
+events_take_out_what_left _ p = refl

@@ -24,7 +24,7 @@ use Rattle.drv_table.specs.Offers.{taken_open, taken_chain, placed_open, planned
 use Rattle.law_admission.specs.Budgets.{account_of, KeepsBudgets}
 use Rattle.drv_table.specs.PeriodicOpens.{asked, PassesBefore, BreaksBudgets}
 use Rattle.law_admission.specs.Opens.{IsPlaced, OpenAfter}
-use Rattle.law_admission.proofs.Commands.{account_of_command}
+use Rattle.law_admission.proofs.Commands.{commands_place_the_best}
 
 lt_test : (a b : ℕ) → a < b → nat_lt a b ≡ true
 lt_test a b h = grind (arith, nat_tests)
@@ -64,11 +64,11 @@ chosen_refused : (d : DriverContent) (m : Mem) (x : EpDesc) (b : Option Placemen
 chosen_refused d m x None is e = best_none d.periodic.plan.rules d.periodic.plan.placed (asked d x) is
 chosen_refused d m x (Some p) is e = absurd (placed_refused d m x p x.kind e)
 
-pub refused_exactly : (d : DriverContent) (m : Mem) (x : EpDesc) → KeepsBudgets (account_of d) → 1 ≤ d.room.endpoints → PassesBefore d x → (offered d m (OpenEp x) ≡ Err errors.NoPlacement) ↔ BreaksBudgets d x
-refused_exactly d m x kept some new = (
+pub refused_where_none_fits : (d : DriverContent) (m : Mem) (x : EpDesc) → KeepsBudgets (account_of d) → 1 ≤ d.room.endpoints → PassesBefore d x → (offered d m (OpenEp x) ≡ Err errors.NoPlacement) ↔ BreaksBudgets d x
+refused_where_none_fits d m x kept some new = (
   λ e. chosen_refused d m x (best d.periodic.plan.rules d.periodic.plan.placed (asked d x)) refl (sym (asks_best d m x kept some new) ∙ e),
   λ all. asks_best d m x kept some new ∙ ap (λ (b : Option Placement). planned_open d m x (chosen b)) (none_best d.periodic.plan.rules d.periodic.plan.placed (asked d x) all),
 )
 
-pub accepted_best : (d : DriverContent) (m : Mem) (x : EpDesc) (o : Offered) → is_periodic x.kind ≡ true → offered d m (OpenEp x) ≡ Ok o → IsPlaced d x o
-accepted_best d m x o kind is = subst (λ (b : Bool). OpenAfter d x o b) kind (account_of_command d m (OpenEp x) o is)
+pub accepted_where_it_fits : (d : DriverContent) (m : Mem) (x : EpDesc) (o : Offered) → is_periodic x.kind ≡ true → offered d m (OpenEp x) ≡ Ok o → IsPlaced d x o
+accepted_where_it_fits d m x o kind is = subst (λ (b : Bool). OpenAfter d x o b) kind (commands_place_the_best d m (OpenEp x) o is)

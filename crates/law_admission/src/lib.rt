@@ -29,25 +29,25 @@ ghost use Rattle.law_admission.specs.Opens.{IsPlaced, AccountAfter};
 pub mod worked;
 
 /// A driver that was just built has nothing placed, and room for each endpoint that may be opened.
-#[tactic(auto, using(crate::proofs::Budgets::opening_kept))]
+#[tactic(auto, using(crate::proofs::Budgets::opening_keeps_budgets))]
 pub fn opening_keeps_budgets()
     ensures { (n : ℕ) (room : Reserve) → KeepsBudgets (account_of (opening n room).driver) }
 {}
 
 /// Each accepted command leaves the plan as it was, but for the open of a periodic endpoint: that adds the best placement that fits.
-#[tactic(auto, using(crate::proofs::Commands::account_of_command))]
+#[tactic(auto, using(crate::proofs::Commands::commands_place_the_best))]
 pub fn commands_place_the_best()
     ensures { (d : DriverContent) (m : Mem) (cmd : Cmd) (o : Offered) → offered d m cmd ≡ Ok o → AccountAfter d cmd o }
 {}
 
 /// Each event leaves the plan as it was, but for the release of what a cancelled periodic endpoint had: that takes its placement out.
-#[tactic(auto, using(crate::proofs::Events::account_of_event))]
+#[tactic(auto, using(crate::proofs::Events::events_take_out_what_left))]
 pub fn events_take_out_what_left()
     ensures { (row : DriverRow) (p : Parts) → account_of (after_driver_row row p).driver ≡ account_after row p.driver }
 {}
 
 /// A command that is accepted keeps the budgets.
-#[tactic(auto, using(crate::proofs::Budgets::command_kept))]
+#[tactic(auto, using(crate::proofs::Budgets::commands_keep_budgets))]
 pub fn commands_keep_budgets()
     ensures { (d : DriverContent) (m : Mem) (cmd : Cmd) (o : Offered) → IsOffered d.room cmd → KeepsBudgets (account_of d) → offered d m cmd ≡ Ok o → KeepsBudgets (account_of o.driver) }
 {}
@@ -66,14 +66,14 @@ pub fn placements_follow_the_same_rules()
 
 /// A periodic endpoint that passes the checks before, and for which there is room, is refused for want of a placement exactly where each
 /// allowed one breaks a budget beside what is placed.
-#[tactic(auto, using(crate::proofs::Refusals::refused_exactly))]
+#[tactic(auto, using(crate::proofs::Refusals::refused_where_none_fits))]
 pub fn refused_where_none_fits()
     ensures { (d : DriverContent) (m : Mem) (x : EpDesc) → KeepsBudgets (account_of d) → 1 ≤ d.room.endpoints → PassesBefore d x → (offered d m (OpenEp x) ≡ Err NoPlacement) ↔ BreaksBudgets d x }
 {}
 
 /// A periodic endpoint that is accepted has an allowed placement that fits beside what was placed, with the least greatest microframe sum,
 /// the first of these.
-#[tactic(auto, using(crate::proofs::Refusals::accepted_best))]
+#[tactic(auto, using(crate::proofs::Refusals::accepted_where_it_fits))]
 pub fn accepted_where_it_fits()
     ensures { (d : DriverContent) (m : Mem) (x : EpDesc) (o : Offered) → is_periodic x.kind ≡ true → offered d m (OpenEp x) ≡ Ok o → IsPlaced d x o }
 {}

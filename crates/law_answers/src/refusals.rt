@@ -3,6 +3,6 @@ ghost use Rattle.law_answers.specs.RefusalLaws.{CommandsAreAnswered};
 
 /// A command is refused for the first cause that stands, and one for which none stands is accepted.
 #[tactic(auto, using(crate::proofs::Causes::commands_are_answered))]
-pub fn commands_are_refused_for_the_first_cause()
+pub fn commands_are_answered()
     ensures { CommandsAreAnswered }
 {}

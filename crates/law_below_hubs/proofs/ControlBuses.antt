@@ -22,10 +22,10 @@ use Rattle.claims_report.specs.Controls.{control_of_device, control_of_owner, co
 use Rattle.law_request.specs.Host.{Endpoint}
 use Rattle.law_devices.specs.request_calls.Bus.{device_of, IsAnswered, IsAskFor}
 use Rattle.law_devices.specs.scripted_requests.Controls.{transacts_by}
-use Rattle.law_devices.proofs.lemmas.scripted_requests.Asking.{place_kind, scripted_control}
+use Rattle.law_devices.proofs.lemmas.scripted_requests.Asking.{place_kind, a_scripted_bus_answers_by_stages}
 use Rattle.law_below_hubs.specs.Raised.{raised_to, raised_seat, raised_bus, raised, transacts_below, control_below}
 use Rattle.law_below_hubs.specs.SeatedControls.{control_in, control_at, control_on, ControlsOn, ControlsAt}
-use Rattle.law_below_hubs.proofs.Raising.{place_same, slice_map, controls_below}
+use Rattle.law_below_hubs.proofs.Raising.{place_same, slice_map, controls_answer_below}
 use Rattle.law_below_hubs.proofs.Moves.{DevicesMove, moves_below, IsSameBelow, unheard_below, moves_high, unheard_high}
 use Rattle.law_below_hubs.proofs.LowBuses.{asked_or_not, heard_same, same_below}
 use Rattle.law_below_hubs.proofs.HighBuses.{high_or_not, split_keeps}
@@ -95,7 +95,7 @@ control_asked w ask out reply v e c made k is = by (asked_or_not w h.seat.owner 
         control_there e.addr e.num (device_of e c) w v h stays.fixed
         ∙ sym (control_raised e.addr e.num (device_of e c) w v h stays.fixed
         (heard_same w v h.seat.owner stays.hub stays.enabled ∙ heard)) in
-        subst (IsAnswered e ask out c reply) (sym later) (controls_below.asked w ask out reply v e c made k here)
+        subst (IsAnswered e ask out c reply) (sym later) (controls_answer_below.asked w ask out reply v e c made k here)
     by (inr none) =
         let at : Wired = record { fixed = w.fixed; bus = raised_bus w } in
         let u = unheard_below w ask out h.place h.seat (place_asked at e h.place ask k h.found h.found_in h.found_out) h.there none in
@@ -149,7 +149,7 @@ control_asked_at w ask out reply v e c made k is = by (high_or_not h.seat.owner 
         let same : (b : Bus) → control_at (record w { bus = b }) e.addr e.num ≡ control_of (record w { bus = b }) e.addr e.num =
         λ b. there b ∙ sym (control_through_bus w e.addr e.num (device_of e c) h b high) in
         let answered : IsAnswered e ask out c reply (control_of v e.addr e.num) =
-        scripted_control.asked w ask out reply v e c made k (sym (same w.bus) ∙ is) in
+        a_scripted_bus_answers_by_stages.asked w ask out reply v e c made k (sym (same w.bus) ∙ is) in
         let later : control_at v e.addr e.num ≡ control_of v e.addr e.num =
         ap (λ (x : Wired). control_at x e.addr e.num) made.1 ∙ same (transact_after w.fixed w.bus ask out)
         ∙ sym (ap (λ (x : Wired). control_of x e.addr e.num) made.1) in

@@ -28,7 +28,7 @@ use Rattle.law_request.specs.Line.{reply_under, answer_of}
 use Rattle.law_request.specs.Standing.{sight_of, ComesIn, Moves, StandsAt, Stands}
 use Rattle.law_translated.specs.Windows.{Line, Is}
 use Rattle.law_below_hubs.specs.ControlWork.{control_call}
-use Rattle.law_below_hubs.specs.ControlFits.{StandingFits}
+use Rattle.law_below_hubs.specs.ControlFits.{AnswersFit}
 
 -- ---- tests
 
@@ -199,5 +199,5 @@ module _ (e : Endpoint) (r : Request) (a : Taken) (l : Line) (room : e.max ≤ 1
       (sends_reading (c.naks == 0) (stage_of known c)
       (sym (ap (λ (p : Pid). row_by (token_of p) (stage_of known c) c a.ask.toggle a.packet) pid) ∙ sends)))
 
-pub standing_fits : StandingFits
-standing_fits e r a l room is stands = answer_told e r a l room is stands _ refl
+pub answers_fit : AnswersFit
+answers_fit e r a l room is stands = answer_told e r a l room is stands _ refl

@@ -11,7 +11,7 @@ use Rattle.law_translated.proofs.Settling.{window_keeps}
 use Rattle.law_below_hubs.specs.ControlWork.{control_call, control_answer, AnswerFits}
 use Rattle.law_below_hubs.specs.ControlStands.{RequestGoesOn}
 use Rattle.law_below_hubs.proofs.ControlTurns.{request_work_is_events}
-use Rattle.law_below_hubs.proofs.ControlFits.{standing_fits}
+use Rattle.law_below_hubs.proofs.ControlFits.{answers_fit}
 
 quiet_before : (s : KeySlot) → IsQuiet (mapped control_call control_answer s) → IsQuiet s
 quiet_before Empty q = tt
@@ -24,8 +24,8 @@ module _ (e : Endpoint) (r : Request) (room : e.max ≤ 1024) where
   fits_so : (s : KeySlot) (u : Wait) (l : Line)
       → At (window_halves e r) (window_claims e r) Buffered (mapped control_call control_answer s) u l → AnswerFits e s l
   fits_so Empty u l at = tt
-  fits_so (Asked a) Idle l at = standing_fits e r a l room at.0 at.1
-  fits_so (Asked a) Waits l at = standing_fits e r a l room at.0 at.1
+  fits_so (Asked a) Idle l at = answers_fit e r a l room at.0 at.1
+  fits_so (Asked a) Waits l at = answers_fit e r a l room at.0 at.1
   fits_so (Asked a) Late l at = absurd at
   fits_so (Hidden a reply) u l at = tt
   fits_so (There a reply) u l at = tt

@@ -24,8 +24,8 @@ use Rattle.law_ring.specs.OutBus.{Taker, IsOutAsk, HasTaken, nothing_taken}
 use Rattle.law_devices.specs.Senders.{sender_of_device, sender_of}
 use Rattle.law_devices.specs.scripted_takers.Takers.{taker_of_device, taker_of}
 use Rattle.law_devices.specs.scripted_requests.Controls.{transacts_by}
-use Rattle.law_devices.proofs.Asking.{scripted_bus, sender_through, who_place, plain_only}
-use Rattle.law_devices.proofs.lemmas.scripted_takers.Asking.{scripted_out_bus, taker_through}
+use Rattle.law_devices.proofs.Asking.{a_scripted_bus_sends_its_streams, sender_through, who_place, plain_only}
+use Rattle.law_devices.proofs.lemmas.scripted_takers.Asking.{a_scripted_bus_takes_its_streams, taker_through}
 use Rattle.law_below_hubs.specs.Seated.{device_place, end_in, sender_at, taker_at}
 use Rattle.law_below_hubs.specs.Buses.{SendersAbove, TakersAbove}
 use Rattle.law_below_hubs.proofs.Moves.{DevicesMove, moves_high, unheard_high}
@@ -74,7 +74,7 @@ sender_asked stream w ask out reply v s made k sent = by (high_or_not h.seat.own
         let same : (b : Bus) → sender_at (record w { bus = b }) ask.addr ask.ep ≡ sender_of (record w { bus = b }) ask.addr ask.ep =
         λ b. there b ∙ sym (sender_through w ask.addr ask.ep h.place h.seat h.n b h.found h.there high) in
         let answered : HasAnswered ask s reply (sender_of v ask.addr ask.ep) =
-        (scripted_bus stream).asked w ask out reply v s made k (sym (same w.bus) ∙ sent) in
+        (a_scripted_bus_sends_its_streams stream).asked w ask out reply v s made k (sym (same w.bus) ∙ sent) in
         let later : sender_at v ask.addr ask.ep ≡ sender_of v ask.addr ask.ep =
         ap (λ (x : Wired). sender_at x ask.addr ask.ep) made.1 ∙ same (transact_after w.fixed w.bus ask out)
         ∙ sym (ap (λ (x : Wired). sender_of x ask.addr ask.ep) made.1) in
@@ -115,8 +115,8 @@ sender_beside stream w ask out addr ep s on sent other =
         ap (λ (ds : List Device). end_in sender_of_device Tokens.In w.fixed ds addr ep)
         (split_keeps w.fixed w.bus ask out (λ plain. let z = sym split ∙ plain in cc)) ∙ sent
 
-pub all_senders_above : SendersAbove
-all_senders_above stream = record {
+pub senders_above : SendersAbove
+senders_above stream = record {
   asked = sender_asked stream;
   others = λ w ask out reply v addr ep s made on sent other. ap (λ (x : Wired). sender_at x addr ep) made.1
       ∙ sender_beside stream w ask out addr ep s on sent other;
@@ -141,7 +141,7 @@ taker_asked stream w ask out reply v s made k sent = by (high_or_not h.seat.owne
         let same : (b : Bus) → taker_at (record w { bus = b }) ask.addr ask.ep ≡ taker_of (record w { bus = b }) ask.addr ask.ep =
         λ b. there b ∙ sym (taker_through w ask.addr ask.ep h.place h.seat h.n b h.found h.there high) in
         let answered : HasTaken ask out s reply (taker_of v ask.addr ask.ep) =
-        (scripted_out_bus stream).asked w ask out reply v s made k (sym (same w.bus) ∙ sent) in
+        (a_scripted_bus_takes_its_streams stream).asked w ask out reply v s made k (sym (same w.bus) ∙ sent) in
         let later : taker_at v ask.addr ask.ep ≡ taker_of v ask.addr ask.ep =
         ap (λ (x : Wired). taker_at x ask.addr ask.ep) made.1 ∙ same (transact_after w.fixed w.bus ask out)
         ∙ sym (ap (λ (x : Wired). taker_of x ask.addr ask.ep) made.1) in
@@ -182,8 +182,8 @@ taker_beside stream w ask out addr ep s on sent other =
         ap (λ (ds : List Device). end_in taker_of_device Tokens.Out w.fixed ds addr ep)
         (split_keeps w.fixed w.bus ask out (λ plain. let z = sym split ∙ plain in cc)) ∙ sent
 
-pub all_takers_above : TakersAbove
-all_takers_above stream = record {
+pub takers_above : TakersAbove
+takers_above stream = record {
   asked = taker_asked stream;
   others = λ w ask out reply v addr ep s made on sent other. ap (λ (x : Wired). taker_at x addr ep) made.1
       ∙ taker_beside stream w ask out addr ep s on sent other;

@@ -29,9 +29,9 @@ use Rattle.law_ring.specs.Bus.{IsBus}
 use Rattle.law_ring.specs.OutBus.{IsOutBus}
 use Rattle.law_devices.specs.request_calls.Bus.{IsControlBus}
 use Rattle.law_devices.specs.scripted_requests.Controls.{transacts_by}
-use Rattle.law_devices.proofs.Asking.{scripted_bus}
-use Rattle.law_devices.proofs.lemmas.scripted_takers.Asking.{scripted_out_bus}
-use Rattle.law_devices.proofs.lemmas.scripted_requests.Asking.{scripted_control}
+use Rattle.law_devices.proofs.Asking.{a_scripted_bus_sends_its_streams}
+use Rattle.law_devices.proofs.lemmas.scripted_takers.Asking.{a_scripted_bus_takes_its_streams}
+use Rattle.law_devices.proofs.lemmas.scripted_requests.Asking.{a_scripted_bus_answers_by_stages}
 use Rattle.law_below_hubs.specs.Raised.{raised_to, raised_seat, raised_fate, raised_fixed, raised_bus, raised, transacts_below, sender_below, taker_below, control_below}
 
 -- ---- lists
@@ -205,24 +205,28 @@ raised_transacts w ask out reply v t = (t.heard ∙ sym (reply_same w ask out t.
 pub senders_below : (stream : ℕ → ℕ → Bool) → IsBus transacts_below stream sender_below
 senders_below stream = record {
   asked = λ w ask out reply v s made k sent.
-      (scripted_bus stream).asked (raised w) ask out reply (raised v) s (raised_transacts w ask out reply v made) k sent;
+      (a_scripted_bus_sends_its_streams stream).asked (raised w) ask out reply (raised v) s (raised_transacts w ask out reply v made) k
+      sent;
   others = λ w ask out reply v addr ep s made on sent other.
-      (scripted_bus stream).others (raised w) ask out reply (raised v) addr ep s (raised_transacts w ask out reply v made) on sent other;
+      (a_scripted_bus_sends_its_streams stream).others (raised w) ask out reply (raised v) addr ep s
+      (raised_transacts w ask out reply v made) on sent other;
 }
 
 pub takers_below : (stream : ℕ → ℕ → Bool) → IsOutBus transacts_below stream taker_below
 takers_below stream = record {
   asked = λ w ask out reply v s made k sent.
-      (scripted_out_bus stream).asked (raised w) ask out reply (raised v) s (raised_transacts w ask out reply v made) k sent;
+      (a_scripted_bus_takes_its_streams stream).asked (raised w) ask out reply (raised v) s (raised_transacts w ask out reply v made) k
+      sent;
   others = λ w ask out reply v addr ep s made on sent other.
-      (scripted_out_bus stream).others (raised w) ask out reply (raised v) addr ep s
+      (a_scripted_bus_takes_its_streams stream).others (raised w) ask out reply (raised v) addr ep s
       (raised_transacts w ask out reply v made) on sent other;
 }
 
-pub controls_below : IsControlBus transacts_below control_below
-controls_below = record {
-  asked = λ w ask out reply v e c made k here. scripted_control.asked (raised w) ask out reply (raised v) e c
+pub controls_answer_below : IsControlBus transacts_below control_below
+controls_answer_below = record {
+  asked = λ w ask out reply v e c made k here. a_scripted_bus_answers_by_stages.asked (raised w) ask out reply (raised v) e c
       (raised_transacts w ask out reply v made) k here;
   others = λ w ask out reply v addr num d made here other.
-      scripted_control.others (raised w) ask out reply (raised v) addr num d (raised_transacts w ask out reply v made) here other;
+      a_scripted_bus_answers_by_stages.others (raised w) ask out reply (raised v) addr num d (raised_transacts w ask out reply v made) here
+      other;
 }

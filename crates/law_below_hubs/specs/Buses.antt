@@ -1,6 +1,6 @@
 -- The bus below a hub, and the high-speed bus, as buses of the same laws for each end of a pipe wherever its seat is: what isn't on the bus
 -- that is asked hears nothing (USB 2.0, 8.6 and 11.14).
---     SendersBelow .. ControlsBelow       the bus below a hub
+--     SendersBelow .. ControlsAnswerBelow       the bus below a hub
 --     SendersAbove, TakersAbove           the high-speed bus
 use Rattle.std.specs.Prelude.{ℕ, Bool}
 use Rattle.law_ring.specs.Bus.{IsBus}
@@ -16,8 +16,8 @@ SendersBelow = (stream : ℕ → ℕ → Bool) → IsBus transacts_below stream 
 abbrev pub TakersBelow : Type 0
 TakersBelow = (stream : ℕ → ℕ → Bool) → IsOutBus transacts_below stream taker_on
 
-abbrev pub ControlsBelow : Type 0
-ControlsBelow = IsControlBus transacts_below control_below
+abbrev pub ControlsAnswerBelow : Type 0
+ControlsAnswerBelow = IsControlBus transacts_below control_below
 
 abbrev pub SendersAbove : Type 0
 SendersAbove = (stream : ℕ → ℕ → Bool) → IsBus transacts_by stream sender_at

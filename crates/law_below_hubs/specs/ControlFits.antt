@@ -8,6 +8,6 @@ use Rattle.law_request.specs.Standing.{Stands}
 use Rattle.law_translated.specs.Windows.{Line, Is}
 use Rattle.law_below_hubs.specs.ControlWork.{control_call, IsFit}
 
-abbrev pub StandingFits : Type 0
-StandingFits = (e : Endpoint) (r : Request) (a : Taken) (l : Line) → e.max ≤ 1024 → Is e r l (control_call a)
+abbrev pub AnswersFit : Type 0
+AnswersFit = (e : Endpoint) (r : Request) (a : Taken) (l : Line) → e.max ≤ 1024 → Is e r l (control_call a)
     → Stands e r l.window → IsFit e a l

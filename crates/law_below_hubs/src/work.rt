@@ -3,7 +3,7 @@ ghost use Rattle.std.specs.Prelude.{ℕ};
 ghost use Rattle.hub_keys.specs.declared.key.Key.{Key};
 ghost use Rattle.claims_report.specs.Requests.{Request};
 ghost use Rattle.law_below_hubs.specs.ControlAsks.{IsRequestAsk, RequestStartsAreRight};
-ghost use Rattle.law_below_hubs.specs.ControlFits.{StandingFits};
+ghost use Rattle.law_below_hubs.specs.ControlFits.{AnswersFit};
 ghost use Rattle.law_below_hubs.specs.ControlStands.{RequestGoesOn};
 ghost use Rattle.law_below_hubs.specs.ControlTurns.{QuietIsInTurn, RequestWorkIsEvents};
 ghost use Rattle.law_below_hubs.specs.ControlWork.{ControlWorkIsEvents};
@@ -62,7 +62,7 @@ pub fn request_work_is_events()
 /// Where the host of a request asks and the device stands to it as it must, the device's answer fits: a translator acknowledges it where
 /// the host would.
 pub fn answers_fit()
-    ensures { StandingFits }
+    ensures { AnswersFit }
 {}
 
 /// Where host and device of a request stand to each other as they must, with what the translator has of both directions, the work of all

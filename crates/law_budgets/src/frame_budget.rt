@@ -19,13 +19,13 @@ pub fn visits_of_a_frame_are_of_placed_endpoints()
 {}
 
 /// So in one microframe they cost at most what the plan has for it.
-#[tactic(auto, using(crate::proofs::lemmas::frame_budget::Visited::frame_within))]
+#[tactic(auto, using(crate::proofs::lemmas::frame_budget::Visited::visits_of_a_frame_cost_at_most_the_load))]
 pub fn visits_of_a_frame_cost_at_most_the_load()
     ensures { (d : DriverContent) (f u : ℕ) (vs : List Visit) → AreDue d f → VisitsDue d f vs → AllByRecursion (IsVisit u) vs → spent vs ≤ load d.periodic.plan.placed u }
 {}
 
 /// That is 100 microseconds at most, where the plan fits.
-#[tactic(auto, using(crate::proofs::lemmas::frame_budget::Visited::frame_leaves))]
+#[tactic(auto, using(crate::proofs::lemmas::frame_budget::Visited::visits_of_a_frame_leave_a_fifth))]
 pub fn visits_of_a_frame_leave_a_fifth()
     ensures { (d : DriverContent) (f u : ℕ) (vs : List Visit) → AreDue d f → VisitsDue d f vs → AllByRecursion (IsVisit u) vs → Fits d.periodic.plan.placed → u < 8192 → spent vs ≤ 100000000 }
 {}

@@ -40,25 +40,25 @@ pub fn descriptor_visits_cost_their_placement()
 {}
 
 /// Visits of one microframe to different placed endpoints cost together at most its load.
-#[tactic(auto, using(crate::proofs::lemmas::visit_prices::Joined::visits_within))]
+#[tactic(auto, using(crate::proofs::lemmas::visit_prices::Joined::visits_cost_at_most_the_load))]
 pub fn visits_cost_at_most_the_load()
     ensures { (placed : List Placed) (u : ℕ) (vs : List Visit) → AreOfPlaced placed vs → AllByRecursion (IsVisit u) vs → spent vs ≤ load placed u }
 {}
 
 /// Where what is placed fits they leave a fifth of the microframe, 25,000,000 picoseconds.
-#[tactic(auto, using(crate::proofs::lemmas::visit_prices::Joined::visits_leave))]
+#[tactic(auto, using(crate::proofs::lemmas::visit_prices::Joined::visits_leave_a_fifth))]
 pub fn visits_leave_a_fifth()
     ensures { (placed : List Placed) (u : ℕ) (vs : List Visit) → Fits placed → u < 8192 → AreOfPlaced placed vs → AllByRecursion (IsVisit u) vs → spent vs ≤ 100000000 }
 {}
 
 /// Such a visit takes of the time left what its transactions cost, and nothing else.
-#[tactic(auto, using(crate::proofs::lemmas::visit_prices::Joined::queue_takes))]
+#[tactic(auto, using(crate::proofs::lemmas::visit_prices::Joined::queue_visits_take_their_prices))]
 pub fn queue_visits_take_their_prices()
     ensures { (x : Placed) (p : FramePlace) (h : HeldQueue) (rs : List Reply) → MeetsHead x p h → total (prices p rs) + (ending p rs).walk.left ≡ p.walk.left }
 {}
 
 /// The same of a descriptor.
-#[tactic(auto, using(crate::proofs::lemmas::visit_prices::Joined::itd_takes))]
+#[tactic(auto, using(crate::proofs::lemmas::visit_prices::Joined::descriptor_visits_take_their_prices))]
 pub fn descriptor_visits_take_their_prices()
     ensures { (x : Placed) (p : FramePlace) (h : HeldItd) (rs : List Reply) → MeetsDescriptor x p h → total (prices p rs) + (ending p rs).walk.left ≡ p.walk.left }
 {}
@@ -75,13 +75,13 @@ pub fn descriptor_visits_are_in_time()
 {}
 
 /// The queue head that the driver writes for a high-speed interrupt endpoint at its placement is that of the placed endpoint.
-#[tactic(auto, using(crate::proofs::lemmas::visit_prices::Written::written_head))]
+#[tactic(auto, using(crate::proofs::lemmas::visit_prices::Written::written_heads_are_of_their_placement))]
 pub fn written_heads_are_of_their_placement()
     ensures { (e link dummy : ℕ) (x : EpDesc) (p : Placement) → x.speed ≡ High → x.kind ≡ Interrupt → 1 ≤ x.multi → IsHeadOf (placed_as e x p) (interrupt_head x p.smask p.cmask link dummy) }
 {}
 
 /// The descriptor that it writes for a high-speed isochronous endpoint is, too.
-#[tactic(auto, using(crate::proofs::lemmas::visit_prices::Written::written_itd))]
+#[tactic(auto, using(crate::proofs::lemmas::visit_prices::Written::written_descriptors_are_of_their_placement))]
 pub fn written_descriptors_are_of_their_placement()
     ensures { (e slot : ℕ) (runs : List ℕ) (x : EpDesc) (p : Placement) → x.speed ≡ High → x.kind ≡ Iso → IsItdOf (placed_as e x p) (new_itd x p.smask slot runs) }
 {}

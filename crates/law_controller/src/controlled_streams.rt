@@ -35,7 +35,7 @@ pub mod return_worked;
 
 pub use out_pipe_laws::{
     a_harvest_keeps_an_out_stream, a_spared_out_pipe_agrees, an_event_keeps_an_out_stream,
-    what_is_known_begins_what_was_taken,
+    known_begins_taken,
 };
 pub use pipe_laws::an_event_keeps_the_pipes;
 pub use report_laws::{

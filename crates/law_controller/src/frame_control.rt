@@ -7,8 +7,8 @@ mod laws;
 mod worked;
 
 pub use laws::{
-    a_copy_in_hand_is_of_either, a_frameless_list_has_nothing_met, each_event_moves_one_stream,
-    each_event_of_the_controller_over_both, frames_without_structures_are_frameless,
+    a_frameless_list_has_nothing_met, each_event_of_the_controller_over_both,
+    frames_without_structures_are_frameless, joined_is_asked, walks_move_streams,
     what_neither_walk_meets_stays,
 };
 pub use worked::{a_microframe_moves_nothing, both_are_run, the_link_of_an_element};

@@ -8,9 +8,9 @@ mod laws;
 mod worked;
 
 pub use both::{
-    a_microframe_begins_with_fewer, fewer_are_met_beside_a_ring, lends_and_returns_leave_both,
-    more_are_met_beside_a_ring, other_owners_leave_a_ring, stores_leave_both,
-    the_walk_begins_at_an_element,
+    begin_is_at_element, begin_meets_fewer, fewer_are_met_beside_a_ring,
+    lends_and_returns_leave_both, more_are_met_beside_ring, other_owners_leave_ring,
+    stores_leave_both,
 };
 pub use laws::{
     fewer_are_met, lends_and_returns_leave_the_frames, more_are_met, stores_leave_the_frames,

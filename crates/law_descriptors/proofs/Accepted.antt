@@ -290,8 +290,8 @@ entered_await d m e x s n seed g bs fields fit has lent idle stands shape short 
         let as_many = has.owned.as_many in
         omega (arith, below, many, as_many)
 
-pub accepted_await : AcceptedAwaitLend
-accepted_await d m o why fields fit has lent stands shape =
+pub accepted_await_lend : AcceptedAwaitLend
+accepted_await_lend d m o why fields fit has lent stands shape =
     let g = why.holding_after in
     let ns = iso_needs why.slots why.count in
     let all = runs_taken (holding d.book m) g ns stands why.runs in

@@ -9,19 +9,19 @@ use Rattle.claims_driver.specs.Owners.{views_of}
 use Rattle.claims_driver.specs.Leaving.{HasOwners}
 use Rattle.hc_core.specs.Controller.{Content}
 use Rattle.law_structures.specs.lent_structures.Structures.{Structure, QueueHead, Table, Isochronous, SplitIsochronous, Structures, StructureSets, Tells}
-use Rattle.law_structures.proofs.lemmas.lent_structures.Telling.{told_still}
+use Rattle.law_structures.proofs.lemmas.lent_structures.Telling.{rest_is_told}
 use Rattle.law_structures.specs.lent_structures.Sound.{IsMember}
 use Rattle.law_ring.specs.Hand.{Hand}
 use Rattle.claims_base.specs.Controller.{Base}
 use Rattle.law_frames.specs.Met.{Kind, AQueue, AnItd, ASitd, IsMetAs}
 use Rattle.law_frames.specs.FrameHand.{FrameHand}
 use Rattle.law_controller.specs.frame_control.Both.{RunsBoth}
-use Rattle.law_controller.proofs.lemmas.frame_stores.Beside.{both_left}
+use Rattle.law_controller.proofs.lemmas.frame_stores.Beside.{unmet_parts_leave_both}
 use Rattle.law_descriptors.specs.Described.{AreHeld}
 use Rattle.law_descriptors.specs.Both.{owns, both}
 use Rattle.law_descriptors.specs.PartLaws.{IsDescribing}
 use Rattle.law_descriptors.proofs.Standing.{both_on, both_off}
-use Rattle.law_descriptors.proofs.Telling.{both_told, each_told, queue_off}
+use Rattle.law_descriptors.proofs.Telling.{both_are_told, each_is_told, queue_off}
 use Rattle.law_descriptors.specs.Lent.{after_lend, descs_after, IsLending}
 use Rattle.law_descriptors.proofs.Lends.{lend_leaves}
 use Rattle.law_descriptors.proofs.Told.{descs_stay, lend_describes}
@@ -50,7 +50,7 @@ module _ (base : Base) (member : ℕ → Bool) (met : ℕ → Option Kind) (desc
   before = record { owners = k.owners; driven = told.driven; described = told.described }
 
   stood : AreHeld c.memory descs
-  stood = (each_told d c.memory descs parts before runs.ring.tells).1
+  stood = (each_is_told d c.memory descs parts before runs.ring.tells).1
 
   now_told : IsToldBy (views_of (after_lend p).driver) new parts
   now_told = lend_told p t x descs parts k stood told
@@ -60,8 +60,9 @@ module _ (base : Base) (member : ℕ → Bool) (met : ℕ → Option Kind) (desc
 
   tells : Tells (after_lend p).memory (both new parts)
   tells =
-      both_told (after_lend p).driver (after_lend p).memory new parts after now_told.extents stands
-      (told_still c.memory (after_lend p).memory parts (lend_leaves p t x k) (each_told d c.memory descs parts before runs.ring.tells).0)
+      both_are_told (after_lend p).driver (after_lend p).memory new parts after now_told.extents stands
+      (rest_is_told c.memory (after_lend p).memory parts (lend_leaves p t x k)
+      (each_is_told d c.memory descs parts before runs.ring.tells).0)
       (lend_describes p t x descs k told.described stood).1
 
   -- an owner of the queues stays
@@ -82,7 +83,7 @@ module _ (base : Base) (member : ℕ → Bool) (met : ℕ → Option Kind) (desc
 
   pub runs_on : RunsBoth base member met (both new parts) hand frame (record c { memory = (after_lend p).memory })
   runs_on =
-      both_left base member met (both descs parts) (both new parts) hand frame c (after_lend p).memory runs tells
+      unmet_parts_leave_both base member met (both descs parts) (both new parts) hand frame c (after_lend p).memory runs tells
       (λ n on. let m : IsMember member n (both descs parts n) = runs.ring.members n on in there_same n (QueueHead m.queue) m.here)
       (λ n kind on. let at : IsThere n (both descs parts n) = met_there met n (both descs parts n) kind (runs.members n kind on) in there_same n at.structure at.here)
       (ap (λ (part : Structures). part base.periodic_list_base) (there_same base.periodic_list_base (Table runs.list.words) runs.list.here))

@@ -38,8 +38,8 @@ use Rattle.drv_table.specs.Rows.{driver_row, after_driver_row}
 use Rattle.law_driver.specs.run_owners.Accepts.{Accepts, opens, chains, places, transfers, describes, cancels, unchains, Unchains}
 use Rattle.law_driver.specs.run_owners.Due.{IsDue}
 use Rattle.claims_driver.specs.Leaving.{HasOwners}
-use Rattle.law_driver.proofs.lemmas.run_owners.Commands.{accepted_for_a_reason}
-use Rattle.law_driver.proofs.lemmas.run_owners.Reasons.{each_is_due}
+use Rattle.law_driver.proofs.lemmas.run_owners.Commands.{each_command_has_its_reason}
+use Rattle.law_driver.proofs.lemmas.run_owners.Reasons.{each_event_is_due}
 use Rattle.law_driver.proofs.lemmas.run_owners.Released.{set_here}
 use Rattle.law_driver.specs.listed_members.Members.{IsListed}
 use Rattle.law_descriptors.specs.ListRows.{LeavesChained}
@@ -185,8 +185,8 @@ row_chained (rows.Harvest e t found) p due old =
     idle_row (rows.Harvest e t found) p (harvest_command p.driver p.memory e t found (slice_get p.driver.endpoints e) (slice_get p.driver.transfers t)) due.idle
 row_chained rows.Rest p due old = old
 
-pub event_chained : (p : Parts) → LeavesChained p.driver → LeavesChained (after_driver_row (driver_row p) p).driver
-event_chained p old = row_chained (driver_row p) p (each_is_due p) old
+pub events_leave_chained : (p : Parts) → LeavesChained p.driver → LeavesChained (after_driver_row (driver_row p) p).driver
+events_leave_chained p old = row_chained (driver_row p) p (each_event_is_due p) old
 
 -- ---- an accepted command
 
@@ -221,8 +221,8 @@ accepted_chained d m o has listed (describes why) = other_command o.driver _ (ap
 accepted_chained d m o has listed (cancels why) = other_command o.driver _ (ap (λ (f : Offered). f.driver.command) why.is) (λ e is. cc)
 accepted_chained d m o has listed (unchains why) = unchained d m o has listed why
 
-pub command_chained : (d : DriverContent) (m : Mem) (cmd : Cmd) (o : Offered) → HasOwners d → IsListed d → offered d m cmd ≡ Ok o → LeavesChained o.driver
-command_chained d m cmd o has listed is = accepted_chained d m o has listed (accepted_for_a_reason d m cmd o is)
+pub commands_leave_chained : (d : DriverContent) (m : Mem) (cmd : Cmd) (o : Offered) → HasOwners d → IsListed d → offered d m cmd ≡ Ok o → LeavesChained o.driver
+commands_leave_chained d m cmd o has listed is = accepted_chained d m o has listed (each_command_has_its_reason d m cmd o is)
 
-pub new_chained : (n : ℕ) (room : Reserve) → LeavesChained (opening n room).driver
-new_chained n room = none_chained (opening n room).driver refl
+pub new_driver_leaves_chained : (n : ℕ) (room : Reserve) → LeavesChained (opening n room).driver
+new_driver_leaves_chained n room = none_chained (opening n room).driver refl

@@ -25,10 +25,10 @@ use Rattle.law_frames.specs.FrameHand.{FrameHand, Nothing}
 use Rattle.law_controller.specs.frame_control.Both.{LeadToMet, RunsBoth}
 use Rattle.law_controller.specs.frame_stores.Stores.{link_in, IsMetFurther, AreMetAmong}
 use Rattle.law_controller.proofs.lemmas.frame_stores.Framing.{leads_further}
-use Rattle.law_controller.proofs.lemmas.frame_stores.Beside.{begin_narrowed}
+use Rattle.law_controller.proofs.lemmas.frame_stores.Beside.{begin_meets_fewer}
 use Rattle.law_descriptors.specs.Meeting.{standing, no_recent, or_recent, met}
 use Rattle.law_descriptors.specs.RowLaws.{HasFrames}
-use Rattle.law_descriptors.proofs.Leading.{element_leads, member_leads}
+use Rattle.law_descriptors.proofs.Leading.{elements_lead_to_standing, members_lead_to_standing}
 
 -- ---- the first word of a structure is its link
 
@@ -52,19 +52,20 @@ leads_as met m a (SplitIsochronous v) h leads =
     subst (LeadsTo met) (sym is) leads
 leads_as met m a _ h leads = tt
 
-pub standing_closed : (m : Mem) (d : DriverContent) (parts : StructureSets) → HasFrames m d → Tells m parts → AreMetAmong (standing d) parts
-standing_closed m d parts frames told n kind s on here = leads_as (standing d) m n s (told.each n n s here) (member_leads m d n kind frames on)
+pub standing_are_closed : (m : Mem) (d : DriverContent) (parts : StructureSets) → HasFrames m d → Tells m parts
+    → AreMetAmong (standing d) parts
+standing_are_closed m d parts frames told n kind s on here = leads_as (standing d) m n s (told.each n n s here) (members_lead_to_standing m d n kind frames on)
 
 word_there : (m : Mem) (base : Base) (parts : StructureSets) (i : ℕ) → Tells m parts → (list : FrameList parts base) → i < 1024 → word_at m (base.periodic_list_base + 4 * i) ≡ slice_index list.words i
 word_there m base parts i told list below =
     let table : HoldsTable m base.periodic_list_base list.words = told.each base.periodic_list_base base.periodic_list_base (Table list.words) list.here in
     sym (get_or-words_in m.words base.periodic_list_base (length list.words) i (let size = list.size in omega (arith, below, size))) ∙ ap (λ ws. get_or ws i 0) table.words
 
-pub list_leads : (m : Mem) (d : DriverContent) (parts : StructureSets) (base : Base) → HasFrames m d → Tells m parts → base.periodic_list_base ≡ 32 * d.periodic.list.list → (list : FrameList parts base) → LeadToMet (standing d) list.words
-list_leads m d parts base frames told is list i below =
+pub list_leads_to_standing : (m : Mem) (d : DriverContent) (parts : StructureSets) (base : Base) → HasFrames m d → Tells m parts → base.periodic_list_base ≡ 32 * d.periodic.list.list → (list : FrameList parts base) → LeadToMet (standing d) list.words
+list_leads_to_standing m d parts base frames told is list i below =
     let at : word_at m (address_of d.periodic.list.list (Element i)) ≡ slice_index list.words i
     = ap (λ (a : ℕ). word_at m (a + 4 * i)) (sym is) ∙ word_there m base parts i told list below in
-    subst (λ (w : ℕ). LeadsTo (standing d) (link_read w)) at (element_leads m d i frames below)
+    subst (λ (w : ℕ). LeadsTo (standing d) (link_read w)) at (elements_lead_to_standing m d i frames below)
 
 -- ---- at the begin of a microframe
 
@@ -87,9 +88,9 @@ none_closed d parts closed n kind s on here = leads_further (standing d) (met d 
 pub none_listed : (d : DriverContent) (words : List ℕ) → LeadToMet (standing d) words → LeadToMet (met d no_recent) words
 none_listed d words leads i below = leads_further (standing d) (met d no_recent) (link_read (slice_index words i)) (standing_met d no_recent) (leads i below)
 
-pub begin_standing : (base : Base) (member : ℕ → Bool) (recent : ℕ → Option Kind) (parts : StructureSets) (hand : Hand) (frame : FrameHand) (c : Content) (d : DriverContent) (allowed : Bool) → RunsBoth base member (met d recent) parts hand frame c → c.control.part ≡ Over → HasFrames c.memory d → base.periodic_list_base ≡ 32 * d.periodic.list.list → RunsBoth base member (met d no_recent) parts hand Nothing (began allowed c)
-begin_standing base member recent parts hand frame c d allowed runs over frames is =
-    begin_narrowed base member (met d recent) (met d no_recent) parts hand frame c allowed runs over
+pub begin_meets_members : (base : Base) (member : ℕ → Bool) (recent : ℕ → Option Kind) (parts : StructureSets) (hand : Hand) (frame : FrameHand) (c : Content) (d : DriverContent) (allowed : Bool) → RunsBoth base member (met d recent) parts hand frame c → c.control.part ≡ Over → HasFrames c.memory d → base.periodic_list_base ≡ 32 * d.periodic.list.list → RunsBoth base member (met d no_recent) parts hand Nothing (began allowed c)
+begin_meets_members base member recent parts hand frame c d allowed runs over frames is =
+    begin_meets_fewer base member (met d recent) (met d no_recent) parts hand frame c allowed runs over
     (λ n kind on. standing_met d recent n kind (met_standing d n kind on))
-    (none_closed d parts (standing_closed c.memory d parts frames runs.ring.tells)) runs.list
-    (none_listed d runs.list.words (list_leads c.memory d parts base frames runs.ring.tells is runs.list))
+    (none_closed d parts (standing_are_closed c.memory d parts frames runs.ring.tells)) runs.list
+    (none_listed d runs.list.words (list_leads_to_standing c.memory d parts base frames runs.ring.tells is runs.list))

@@ -30,7 +30,7 @@ use Rattle.claims_driver.specs.LentRuns.{begins_in, is_lending, still_lends, Are
 use Rattle.law_driver_ring.specs.Inventory.{IsLent}
 use Rattle.law_descriptors.specs.Coming.{IsWaiting, DescriptorsAreLent, LinkingLendsNothing, WaitingAreLent, WaitingComes, WaitingMembersCome}
 use Rattle.law_descriptors.proofs.ListComing.{lent_comes}
-use Rattle.law_descriptors.proofs.ListFresh.{waiting_fresh}
+use Rattle.law_descriptors.proofs.ListFresh.{waiting_is_fresh}
 
 -- ---- what is lent
 
@@ -42,8 +42,8 @@ slot_lent d b lent none has = by (slot_of d.book.slots b) refl has
     by (Lends r) is has = tt
     by (Keeps r) is has = let k = lent.kept b r is in let e : begins_in b d.book.taken ≡ false = ap (begins_in b) none in absurd (false≢true (sym e ∙ k))
 
-pub descriptor_lent : DescriptorsAreLent
-descriptor_lent d t y has lent done there sort held =
+pub descriptors_are_lent : DescriptorsAreLent
+descriptors_are_lent d t y has lent done there sort held =
     let here : (views_of d).transfer t ≡ Some (runs_of_transfer y) = ap (option_map runs_of_transfer) there in
     let o = has.owned.each.described t (runs_of_transfer y) here sort held in
     record {
@@ -62,8 +62,8 @@ none_left f n [] late = by n
 none_left f zero (x ∷ xs) late = absurd (omega (arith, late))
 none_left f (suc n) (x ∷ xs) late = none_left f n xs (omega (arith, late))
 
-pub lends_nothing : LinkingLendsNothing
-lends_nothing c made late = none_left is_lending made (events_of c) late
+pub linking_lends_nothing : LinkingLendsNothing
+linking_lends_nothing c made late = none_left is_lending made (events_of c) late
 
 -- ---- one that waits
 
@@ -76,9 +76,9 @@ kept_back d t y has w true is =
 waiting_held : (d : DriverContent) (t : ℕ) (y : Transfer) → HasOwners d → IsWaiting d t y → y.released ≡ false
 waiting_held d t y has w = kept_back d t y has w y.released refl
 
-pub waiting_lent : WaitingAreLent
-waiting_lent d c t y has lent is late w =
-    descriptor_lent d t y has lent (ap (λ (o : Option Command). still_lends o d.made) is ∙ lends_nothing c d.made late) w.here w.sort (waiting_held d t y has w)
+pub waiting_are_lent : WaitingAreLent
+waiting_are_lent d c t y has lent is late w =
+    descriptors_are_lent d t y has lent (ap (λ (o : Option Command). still_lends o d.made) is ∙ linking_lends_nothing c d.made late) w.here w.sort (waiting_held d t y has w)
 
 no_unchain : (d : DriverContent) (c : Command) → d.command ≡ Some c → removes_members c ≡ false → (e : ℕ) → d.command ≡ Some (unfinished.Unchain e) → ⊥
 no_unchain d c is keeps e now =
@@ -87,8 +87,8 @@ no_unchain d c is keeps e now =
 
 pub waiting_comes : WaitingComes
 waiting_comes base member met recent descs parts hand frame c d index command t y runs described are has lent is links late w =
-    lent_comes base member met recent descs parts hand frame c d t (runs_of_transfer y) runs described (waiting_lent d command t y has lent is late w)
-    (waiting_fresh d recent index t y w.endpoint has are w.here w.sort w.unreported (waiting_held d t y has w) w.its w.chained (no_unchain d command is links))
+    lent_comes base member met recent descs parts hand frame c d t (runs_of_transfer y) runs described (waiting_are_lent d command t y has lent is late w)
+    (waiting_is_fresh d recent index t y w.endpoint has are w.here w.sort w.unreported (waiting_held d t y has w) w.its w.chained (no_unchain d command is links))
 
 -- ---- a member that waits
 
@@ -112,8 +112,8 @@ comes_as : (d : DriverContent) (member : ℕ → Bool) (recent : ℕ → Option 
 comes_as d member recent parts b k =
     subst (λ (n : ℕ). Comes member recent parts (32 * n) (kind_of_descriptor (note_at d.periodic.notes n).split)) (sym (descriptor_block d.periodic b)) k
 
-pub members_come : WaitingMembersCome
-members_come base member met recent descs parts hand frame c d index command e first m runs described are has lent is links late w =
+pub waiting_members_come : WaitingMembersCome
+waiting_members_come base member met recent descs parts hand frame c d index command e first m runs described are has lent is links late w =
     let s = seen d.endpoints d.transfers w.number w.placed w.here in
     let k = waiting_comes base member met recent descs parts hand frame c d index command w.number s.transfer runs described are has lent is links late (waiting_of d e first m w s) in
     subst (λ (n : Member). Comes member recent (both descs parts) (32 * (id_of n / 32)) (kind_of d.periodic n))

@@ -25,7 +25,7 @@ use Rattle.law_ring.specs.Effects.{received_into, Effect, reads, passes, ends, t
 use Rattle.law_driver_ring.specs.Inventory.{OfBuffer, sort_of, SameSorts}
 use Rattle.law_driver_ring.proofs.Sorts.{same_put, effect_same}
 use Rattle.law_driver_ring.specs.Extents.{KeepExtents}
-use Rattle.law_driver_ring.proofs.Extending.{walk_keeps}
+use Rattle.law_driver_ring.proofs.Extending.{walk_keeps_extents}
 use Rattle.law_frames.specs.Met.{IsBuffered}
 use Rattle.law_descriptors.specs.Described.{HasDescriptor}
 use Rattle.law_descriptors.specs.Both.{KeepDescriptors}
@@ -181,6 +181,6 @@ ring_descriptors transacts base member parts hand p wire after now later _ k (wr
 pub ring_keeps : {W : Type 0} (transacts : W → Ask → List ℕ → Reply → W → Type 0) → RingKeeps transacts
 ring_keeps transacts base member parts hand p wire after now later kind k effect = record {
   sorts = effect_same transacts base member parts hand p wire after now later kind k effect;
-  extents = walk_keeps transacts member parts hand p.walk.reply wire after now later kind k.in_hand effect;
+  extents = walk_keeps_extents transacts member parts hand p.walk.reply wire after now later kind k.in_hand effect;
   descriptors = ring_descriptors transacts base member parts hand p wire after now later kind k effect;
 }

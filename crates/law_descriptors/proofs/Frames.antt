@@ -36,8 +36,8 @@ use Rattle.law_frames.specs.Frame.{IsQueueSettled, IsCopiedQueue, IsCopiedItd, I
 use Rattle.law_frames.specs.FrameEffects.{AreReceivedAt, itd_back, itd_parts, sitd_back, sitd_parts, IsWrittenFrom, made, missed, WritesQueue, WritesItd, WritesSitd, WritesOne, TakesOne}
 use Rattle.law_frames.specs.FrameEffects.WritesOne.{of_queue, of_itd, of_sitd}
 use Rattle.law_frames.specs.FrameEffects.FrameEffect.{fetches, passes, ends, takes, makes, writes}
-use Rattle.law_frames.proofs.QueueBacks.{hand_settled}
-use Rattle.law_frames.proofs.PartTurning.{place_moved}
+use Rattle.law_frames.proofs.QueueBacks.{hand_is_settled}
+use Rattle.law_frames.proofs.PartTurning.{its_place_moves_on}
 use Rattle.law_descriptors.specs.Described.{HasItd, HasSitd, HasDescriptor}
 use Rattle.law_descriptors.specs.Both.{Keeps}
 use Rattle.law_descriptors.specs.PartLaws.{FramesKeep}
@@ -82,7 +82,7 @@ settled_current c s = refl
 
 queue_written_keeps : (met : ℕ → Option Kind) (parts : StructureSets) (walk : Walk) (hand : FrameHand) (now : StructureSets) (later : FrameHand) → IsInFrame met parts walk.got walk.reply hand → WritesQueue parts walk hand now later → Keeps parts now
 queue_written_keeps met parts walk hand now later k w =
-    let c : IsCopiedQueue met parts w.copy × IsQueueSettled w.copy.queue walk.reply w.settled = hand_settled met parts walk hand w.copy w.settled w.made k w.from in
+    let c : IsCopiedQueue met parts w.copy × IsQueueSettled w.copy.queue walk.reply w.settled = hand_is_settled met parts walk hand w.copy w.settled w.made k w.from in
     let q : Qh = settled_in w.copy w.settled in
     let n : ℕ = queue_moved_by w.settled.outcome in
     let into : Received = received_into (parts w.copy.at) w.copy.queue w.element w.settled.got in
@@ -260,7 +260,7 @@ sitd_still p parts now c o told sorts extents moves was is has = record {
         (has.bytes (ap (λ (v : Sitd). v.active) same ∙ k.works) (subst (λ (v : Sitd). 0 < v.total) (sym same) all)) in
         let rest = rest_buffered p parts c.held.at c.sitd n c.held.sitd.total c.sitd.total told left more before in
         let below : sitd_place c.held.sitd + n < 8192 = subst (λ (x : ℕ). x + n < 8192) (sym (moved_place c p.walk.reply o k)) rest.1 in
-        let at : sitd_place (sitd_back c n) ≡ sitd_place c.sitd + n = place_moved n c.held.sitd below ∙ ap (λ (x : ℕ). x + n) (moved_place c p.walk.reply o k) in
+        let at : sitd_place (sitd_back c n) ≡ sitd_place c.sitd + n = its_place_moves_on n c.held.sitd below ∙ ap (λ (x : ℕ). x + n) (moved_place c p.walk.reply o k) in
         let after : IsBuffered (now c.held.at) (sitd_pages c.sitd) (sitd_place c.sitd + n) c.held.sitd.total =
         buffered_still parts now c.held.at (sitd_pages c.sitd) (sitd_place c.sitd + n) c.held.sitd.total sorts extents rest.0 in
         subst (λ (pages : List ℕ). IsBuffered (now c.held.at) pages (sitd_place (sitd_back c n)) (sitd_back c n).total) (sym (back_pages c n ∙ moved_pages c p.walk.reply o k))

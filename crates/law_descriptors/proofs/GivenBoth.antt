@@ -26,7 +26,7 @@ use Rattle.law_descriptors.specs.Meeting.{met}
 use Rattle.law_descriptors.specs.Returned.{IsGivenBack}
 use Rattle.law_descriptors.specs.Given.{without_owners, begins_at, ReleaseTold, ReleaseRunsBoth}
 use Rattle.law_descriptors.proofs.Owned.{descriptor_owner, is_described}
-use Rattle.law_descriptors.proofs.Returning.{owed_by, transfer_counts, descriptor_unmet}
+use Rattle.law_descriptors.proofs.Returning.{owed_by, transfer_counts, descriptors_are_unmet}
 use Rattle.law_descriptors.proofs.GivenViews.{goes_with, DescriptorsGo, told_without}
 use Rattle.law_descriptors.proofs.GivenTold.{IsGoneRun, freed_told, runs_without}
 
@@ -138,4 +138,4 @@ release_runs_both base member recent descs parts hand frame c index d t y has li
     (after_descriptor p t (Some y)).memory runs
     (freed_told d c.memory descs parts k told.extents stands (views_of (after_descriptor p t (Some y)).driver) (gone p t y has why here) (begins_at y.first) go (blocks p t y has why here)
     (run_gone p t y has why here) runs.ring.tells)
-    (λ n on. ap (met d recent) (eqb-true n (32 * y.first) on) ∙ descriptor_unmet p recent index t y has listed are why here))
+    (λ n on. ap (met d recent) (eqb-true n (32 * y.first) on) ∙ descriptors_are_unmet p recent index t y has listed are why here))

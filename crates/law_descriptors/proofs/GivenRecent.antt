@@ -101,8 +101,8 @@ with_told p index e x go f same n s =
     (subst (λ (ts : List Transfer). IsRemovedSince (set p.driver.endpoints e (record x { gone = true })) (map go ts) (drop 1 f.periodic.removals) index n) (sym same.transfers)
     (subst (λ (q : PeriodicContent). IsRemovedSince (set p.driver.endpoints e (record x { gone = true })) (map go p.driver.transfers) (drop 1 q.removals) index n) (sym same.periodic) s))
 
-pub endpoint_recent : EndpointLeavesRecent
-endpoint_recent p recent index e x has why there are =
+pub endpoint_leaves_recent : EndpointLeavesRecent
+endpoint_leaves_recent p recent index e x has why there are =
     subst (λ (o : Option Endpoint). AreRecent (after_placed p e o).driver index recent) (sym there)
     (λ n kind on.
     inl

@@ -20,8 +20,8 @@ use Rattle.drv_table.specs.Rows.{turn_row, row_for}
 use Rattle.op_registers.specs.RegisterFile.{RegisterFile}
 use Rattle.word_mem.specs.Memory.{Mem}
 use Rattle.law_driver.specs.run_owners.Due.{IsRemovalDue, IsDue}
-use Rattle.law_driver.proofs.lemmas.run_owners.Reasons.{each_is_due}
-use Rattle.law_descriptors.specs.Given.{RowIsGivenBack}
+use Rattle.law_driver.proofs.lemmas.run_owners.Reasons.{each_event_is_due}
+use Rattle.law_descriptors.specs.Given.{RowGivesBackPassed}
 
 -- where it gives back what was unlinked, the first of these was seen
 abbrev SaysSeen : List Removal → DriverRow → Type 0
@@ -110,8 +110,8 @@ turn_says p turns.Harvest =
     two_say p.driver.periodic.removals (harvest_row p.driver p.memory) (leaving_row p.driver p.registers)
     (harvest_says p.driver p.memory p.driver.periodic.removals (next_worker p.driver)) (leaving_says p.driver p.registers)
 
-pub row_is_given_back : RowIsGivenBack
-row_is_given_back p what is =
-    let due : IsRemovalDue p what = subst (IsDue p) is (each_is_due p) in
+pub row_gives_back_passed : RowGivesBackPassed
+row_gives_back_passed p what is =
+    let due : IsRemovalDue p what = subst (IsDue p) is (each_event_is_due p) in
     let says : SaysSeen p.driver.periodic.removals (rows.ReleaseRemoved what) = subst (SaysSeen p.driver.periodic.removals) (sym (ap (row_for p) due.idle) ∙ is) (turn_says p p.driver.turn) in
     record { due = due; seen = says due.removal due.first }

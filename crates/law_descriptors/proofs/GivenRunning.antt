@@ -16,7 +16,7 @@ use Rattle.link_words.specs.Links.{link_read}
 use Rattle.itd_sitd.specs.Itd.{itd_words}
 use Rattle.drv_table.specs.Opening.{opening_memory, list_run, head_run}
 use Rattle.law_driver.specs.in_place.InPlace.{IsInPlace}
-use Rattle.law_driver.proofs.lemmas.in_place.Opened.{opening_in_place}
+use Rattle.law_driver.proofs.lemmas.in_place.Opened.{opening_is_in_place}
 use Rattle.law_structures.specs.lent_structures.Structures.{Isochronous, Structures, StructureSets, put, Has, Holds}
 use Rattle.law_structures.specs.lent_structures.Changes.{Leaves, IsNew}
 use Rattle.law_descriptors.specs.Written.{HasFields}
@@ -33,8 +33,8 @@ use Rattle.claims_base.specs.Controller.{opening_base}
 use Rattle.law_driver_ring.proofs.PartOpening.{opening_drives}
 use Rattle.law_frames.specs.FrameHand.{Nothing}
 use Rattle.law_controller.specs.frame_control.Both.{RunsBoth}
-use Rattle.law_controller.proofs.lemmas.frame_control.Frameless.{controlled_runs}
-use Rattle.law_controller.proofs.lemmas.frame_stores.Beside.{both_lent}
+use Rattle.law_controller.proofs.lemmas.frame_control.Frameless.{a_frameless_list_has_nothing_met}
+use Rattle.law_controller.proofs.lemmas.frame_stores.Beside.{lend_leaves_both}
 use Rattle.law_descriptors.specs.Both.{both}
 use Rattle.law_descriptors.specs.Meeting.{no_recent, met}
 use Rattle.law_descriptors.proofs.Standing.{both_off}
@@ -47,7 +47,7 @@ abbrev lent : Mem
 lent = with_states first run Lent
 
 in_place : IsInPlace first new
-in_place = opening_in_place 2048 room (omega arith) (omega arith) refl
+in_place = opening_is_in_place 2048 room (omega arith) (omega arith) refl
 
 stood : Stands (holding new.book first)
 stood = in_place.sound.stands
@@ -199,7 +199,7 @@ unfolding link_read
 all_end i below = ap link_read (get_or-replicate 1024 i 1 0 below)
 
 runs_before : RunsBoth opening_base is_head (λ n. None) opening_parts Empty Nothing before
-runs_before = controlled_runs opening_base is_head opening_parts Empty before refl (record {
+runs_before = a_frameless_list_has_nothing_met opening_base is_head opening_parts Empty before refl (record {
   ring = (opening_drives 2048 room (omega arith) (omega arith) refl).ring;
   between = λ part. refl;
   list = record { words = empty_list; here = refl; size = length-replicate {A = ℕ} 1024 1 };
@@ -210,7 +210,7 @@ runs_before = controlled_runs opening_base is_head opening_parts Empty before re
     over_is_not_periodic same = cc
 
 runs_put : RunsBoth opening_base is_head (λ n. None) (put opening_parts 4160 4160 (Isochronous itd)) Empty Nothing controller
-runs_put = both_lent opening_base is_head (λ n. None) opening_parts Empty Nothing before 4160 4160 (Isochronous itd) memory runs_before leaves is_new refl refl refl
+runs_put = lend_leaves_both opening_base is_head (λ n. None) opening_parts Empty Nothing before 4160 4160 (Isochronous itd) memory runs_before leaves is_new refl refl refl
 
 same_part : (n : ℕ) → put opening_parts 4160 4160 (Isochronous itd) n ≡ both descs opening_parts n
 same_part n =

@@ -12,7 +12,7 @@ use Rattle.claims_driver.specs.Leaving.{IsSteady, owes, HasOwners}
 use Rattle.law_structures.proofs.lemmas.lent_structures.Names.{not_same}
 use Rattle.claims_driver.specs.FrameListMembers.{Placed, placed_in}
 use Rattle.law_driver.specs.listed_members.Members.{StandsAs, IsListed}
-use Rattle.law_driver.proofs.lemmas.listed_members.Opening.{opening_listed}
+use Rattle.law_driver.proofs.lemmas.listed_members.Opening.{opening_list_has_its_members}
 use Rattle.op_registers.specs.RegisterFile.{RegisterFile}
 use Rattle.word_mem.specs.Memory.{Mem}
 use Rattle.law_frames.specs.Met.{Kind}
@@ -20,7 +20,7 @@ use Rattle.law_descriptors.specs.Meeting.{no_recent}
 use Rattle.law_descriptors.specs.Recent.{AreRecent}
 use Rattle.law_descriptors.specs.Returned.{IsGivenBack}
 use Rattle.law_descriptors.specs.GivenWorked.{room, endpoint, transfer, driver}
-use Rattle.law_descriptors.proofs.GivenRow.{row_is_given_back}
+use Rattle.law_descriptors.proofs.GivenRow.{row_gives_back_passed}
 
 -- ---- there is one endpoint, and one transfer
 
@@ -104,7 +104,7 @@ is_listed = record {
   list = record {
     list = refl;
     members = record { queues = tt; descriptors = tt; each = λ m s. absurd (none s.number s.placed s.here s.stands) };
-    frames = λ b. (opening_listed 2048 room).list.frames b;
+    frames = λ b. (opening_list_has_its_members 2048 room).list.frames b;
     many = omega arith;
     room = omega arith;
     kept = λ e x here periodic off. ap (λ (z : Endpoint). z.chained) (sym (only_endpoint e x here));
@@ -121,7 +121,7 @@ is_listed = record {
     none (suc t) p here (inr waits) = cc
 
 pub is_given_back : (c : RegisterFile) (m : Mem) → IsGivenBack (record { driver = driver; registers = c; memory = m }) (removed.Descriptor 0)
-is_given_back c m = row_is_given_back (record { driver = driver; registers = c; memory = m }) (removed.Descriptor 0) refl
+is_given_back c m = row_gives_back_passed (record { driver = driver; registers = c; memory = m }) (removed.Descriptor 0) refl
 
 pub none_recent : (index : ℕ) → AreRecent driver index no_recent
 none_recent index n kind is = absurd (nothing kind is)

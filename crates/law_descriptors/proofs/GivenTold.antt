@@ -22,7 +22,7 @@ use Rattle.law_driver_ring.proofs.Freeing.{HaveNone, all_told}
 use Rattle.law_frames.specs.Met.{Kind}
 use Rattle.law_frames.specs.FrameHand.{FrameHand}
 use Rattle.law_controller.specs.frame_control.Both.{RunsBoth}
-use Rattle.law_controller.proofs.lemmas.frame_stores.Beside.{both_left}
+use Rattle.law_controller.proofs.lemmas.frame_stores.Beside.{unmet_parts_leave_both}
 use Rattle.law_descriptors.specs.Described.{HasDescriptor}
 use Rattle.law_descriptors.specs.Both.{owns, both}
 use Rattle.law_descriptors.specs.PartLaws.{IsDescribing}
@@ -143,7 +143,7 @@ module _ (d : DriverContent) (m : Mem) (descs parts : StructureSets) (k : IsDesc
       → RunsBoth base member met (both descs parts) hand frame c → Tells after now → ((n : ℕ) → goes n ≡ true → met n ≡ None)
       → RunsBoth base member met now hand frame (record c { memory = after })
   runs_without base member met hand frame c after runs tells unmet =
-      both_left base member met (both descs parts) now hand frame c after runs tells
+      unmet_parts_leave_both base member met (both descs parts) now hand frame c after runs tells
       (λ n on. let q : IsMember member n (both descs parts n) = runs.ring.members n on in others_stay n (QueueHead q.queue) q.here refl)
       (λ n kind on. beside n (met_stays n kind on (goes n) refl))
       (ap (λ (part : Structures). part base.periodic_list_base) (others_stay base.periodic_list_base (Table runs.list.words) runs.list.here refl))

@@ -40,7 +40,7 @@ use Rattle.law_descriptors.specs.Recent.{AreRecent}
 use Rattle.law_descriptors.specs.Returned.{IsGivenBack}
 use Rattle.law_descriptors.specs.Given.{without_owners, begins_at, waits_as, waiting_at, WaitingTold, WaitingRunsBoth}
 use Rattle.law_descriptors.proofs.Returning.{frames_owed, endpoint_counts}
-use Rattle.law_descriptors.proofs.Waiting.{waiting_unmet}
+use Rattle.law_descriptors.proofs.Waiting.{waiting_are_unmet}
 use Rattle.law_descriptors.proofs.GivenViews.{goes_with, IsGoing, DescriptorsGo, told_without}
 use Rattle.law_descriptors.proofs.GivenTold.{IsGoneRun, freed_told, runs_without}
 use Rattle.law_descriptors.proofs.GivenBoth.{lent_before, gone_run}
@@ -291,7 +291,7 @@ module _ (p : Parts) (e : ℕ) (x : Endpoint) (has : HasOwners p.driver) (why : 
   unmet recent index listed are n on =
       let q : IsFoundAt (waits_as e n) p.driver.transfers = any_found (waits_as e n) p.driver.transfers on in
       let a = and_parts (waits_for e q.found) (begins_at q.found.first n) q.passes in
-      ap (met p.driver recent) (eqb-true n (32 * q.found.first) a.1) ∙ waiting_unmet p recent index e q.index x q.found has listed are why here iso q.here (sort_is q.index q.found q.here a.0) a.0
+      ap (met p.driver recent) (eqb-true n (32 * q.found.first) a.1) ∙ waiting_are_unmet p recent index e q.index x q.found has listed are why here iso q.here (sort_is q.index q.found q.here a.0) a.0
 
   pub waiting_runs_by : (base : Base) (member : ℕ → Bool) (recent : ℕ → Option Kind) (index : ℕ) (descs parts : StructureSets) (hand : Hand) (frame : FrameHand) (c : Content)
       → c.memory ≡ p.memory → IsListed p.driver → Stands h → AreRecent p.driver index recent → IsToldBy v descs parts

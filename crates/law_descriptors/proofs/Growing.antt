@@ -43,8 +43,8 @@ after_by p w m true more on =
     inl (ap (λ (b : Bool). is_linked (if b then p.members.schedule else without_member p.members.schedule w.member) m) (one_more w) ∙ on)
 after_by p w m false more on = left_by p w m w.removes (is_the w.member m) refl more refl on
 
-pub members_kept : (p : Periodic) (w : Work) (m : Member) → p.work ≡ Some w → is_linked (led_in p) m ≡ true → (is_linked (led_in (after_store p)) m ≡ true) ⊎ IsLeftOut p w m
-members_kept p w m is on =
+pub stores_keep_members : (p : Periodic) (w : Work) (m : Member) → p.work ≡ Some w → is_linked (led_in p) m ≡ true → (is_linked (led_in (after_store p)) m ≡ true) ⊎ IsLeftOut p w m
+stores_keep_members p w m is on =
     subst (λ (o : Option Work). (is_linked (led_in (after_work p o)) m ≡ true) ⊎ IsLeftOut p w m) (sym is)
     (after_by p w m (is_more p.members.schedule w) refl (led_linked p.members.schedule p.work m on))
 
@@ -79,5 +79,5 @@ further_by d new recent later spread now notes keeps more apart n kind (Some her
     recent_met (standing new (begins_at m)) (later (begins_at m)) kind (apart (begins_at m) (kind_of d.periodic m) recently) (recently ∙ ap (λ (k : Kind). Some k) is))
     (keeps m at.linked))
 
-pub all_further : (d new : DriverContent) (recent later : ℕ → Option Kind) → IsSpread d.periodic.list.list d.periodic.list.members.schedule → IsSpread new.periodic.list.list new.periodic.list.members.schedule → new.periodic.notes ≡ d.periodic.notes → KeepsMembers d new later → IsMetFurther recent later → AreApartFrom new later → IsMetFurther (met d recent) (met new later)
-all_further d new recent later spread now notes keeps more apart n kind on = further_by d new recent later spread now notes keeps more apart n kind (standing d n) refl on
+pub members_stay_met : (d new : DriverContent) (recent later : ℕ → Option Kind) → IsSpread d.periodic.list.list d.periodic.list.members.schedule → IsSpread new.periodic.list.list new.periodic.list.members.schedule → new.periodic.notes ≡ d.periodic.notes → KeepsMembers d new later → IsMetFurther recent later → AreApartFrom new later → IsMetFurther (met d recent) (met new later)
+members_stay_met d new recent later spread now notes keeps more apart n kind on = further_by d new recent later spread now notes keeps more apart n kind (standing d n) refl on

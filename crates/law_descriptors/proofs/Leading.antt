@@ -20,8 +20,8 @@ use Rattle.claims_driver.specs.FrameWords.{old_of, set_all, AllLead, Begun, Stan
 use Rattle.law_frame_words.proofs.lemmas.frame_words.InChains.{fewer_in}
 use Rattle.law_frame_words.proofs.lemmas.frame_words.Steps.{leads_same}
 use Rattle.law_frame_list.specs.list_closed.Closed.{IsNext, LeadsInto, structure}
-use Rattle.law_frame_list.proofs.lemmas.list_closed.Closing.{list_closed, members_closed, first_frames}
-use Rattle.law_frame_list.proofs.lemmas.list_closed.Structures.{structures_told}
+use Rattle.law_frame_list.proofs.lemmas.list_closed.Closing.{elements_lead_to_members, members_lead_to_members, members_stand_in_their_first_frame}
+use Rattle.law_frame_list.proofs.lemmas.list_closed.Structures.{links_tell_structures}
 use Rattle.law_frames.specs.Met.{Kind, LeadsTo}
 use Rattle.claims_driver.specs.Unlinked.{is_led, led_by}
 use Rattle.law_descriptors.specs.Meeting.{kind_of_descriptor, kind_at, standing}
@@ -121,15 +121,15 @@ word_leads m d f n frames leads =
     let s : Schedule = d.periodic.list.members.schedule in
     let o : Option Work = d.periodic.list.work in
     let wide : LeadsInto s f n = record { next = leads.next; stands = next_linked s o f leads.next leads.stands; word = leads.word } in
-    subst (LeadsTo (standing d)) (sym (structures_told d frames.listed f n wide))
+    subst (LeadsTo (standing d)) (sym (links_tell_structures d frames.listed f n wide))
     (leads_to_structure d.periodic d.periodic.list.list f (led_by s o) leads.next (led_spread d.periodic.list.list s o frames.spread) leads.stands)
 
 -- ---- the words
 
-pub element_leads : (m : Mem) (d : DriverContent) (f : ℕ) → HasFrames m d → f < 1024 → LeadsTo (standing d) (link_read (word_at m (address_of d.periodic.list.list (Element f))))
-element_leads m d f frames below =
+pub elements_lead_to_standing : (m : Mem) (d : DriverContent) (f : ℕ) → HasFrames m d → f < 1024 → LeadsTo (standing d) (link_read (word_at m (address_of d.periodic.list.list (Element f))))
+elements_lead_to_standing m d f frames below =
     word_leads m d f (word_at m (address_of d.periodic.list.list (Element f))) frames
-    (list_closed m (with_led d) (led_list m d frames.list) (led_spread d.periodic.list.list d.periodic.list.members.schedule d.periodic.list.work frames.spread) f below)
+    (elements_lead_to_members m (with_led d) (led_list m d frames.list) (led_spread d.periodic.list.list d.periodic.list.members.schedule d.periodic.list.work frames.spread) f below)
 
 first_word_at : (m : Member) (n : ℕ) → begins_at m ≡ n → address_of 0 (After m) ≡ n
 first_word_at m n is = turned (id_of m / 32) n is
@@ -137,12 +137,12 @@ first_word_at m n is = turned (id_of m / 32) n is
     turned : (b n : ℕ) → 32 * b ≡ n → b * 32 ≡ n
     turned b n is = omega (arith, is)
 
-pub member_leads : (m : Mem) (d : DriverContent) (n : ℕ) (kind : Kind) → HasFrames m d → standing d n ≡ Some kind → LeadsTo (standing d) (link_read (word_at m n))
-member_leads m d n kind frames is =
+pub members_lead_to_standing : (m : Mem) (d : DriverContent) (n : ℕ) (kind : Kind) → HasFrames m d → standing d n ≡ Some kind → LeadsTo (standing d) (link_read (word_at m n))
+members_lead_to_standing m d n kind frames is =
     let s : Schedule = led_by d.periodic.list.members.schedule d.periodic.list.work in
     let at : IsMemberAt s n = member_at d.periodic s n kind is in
     let stands : ListStands m (with_led d) = led_list m d frames.list in
-    let first = first_frames m (with_led d) stands at.member at.linked in
+    let first = members_stand_in_their_first_frame m (with_led d) stands at.member at.linked in
     subst (λ (a : ℕ). LeadsTo (standing d) (link_read (word_at m a))) (first_word_at at.member n at.begins)
     (word_leads m d (frame_of at.member) (word_at m (address_of d.periodic.list.list (After at.member))) frames
-    (members_closed m (with_led d) stands (led_spread d.periodic.list.list d.periodic.list.members.schedule d.periodic.list.work frames.spread) (frame_of at.member) at.member first.0 first.1))
+    (members_lead_to_members m (with_led d) stands (led_spread d.periodic.list.list d.periodic.list.members.schedule d.periodic.list.work frames.spread) (frame_of at.member) at.member first.0 first.1))

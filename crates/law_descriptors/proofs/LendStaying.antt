@@ -117,8 +117,8 @@ first_event d e t count is at = ap (λ (o : Option Command). advanced_by d o) is
     by zero is = refl
     by (suc n) is = absurd (cc)
 
-pub frames_await : FramesAwaitLend
-frames_await p t x k at =
+pub frames_await_lend : FramesAwaitLend
+frames_await_lend p t x k at =
     let d : DriverContent = p.driver in
     let n : ℕ = p.registers.frame_index in
     let ts : List Transfer = take k.count (drop t d.transfers) in

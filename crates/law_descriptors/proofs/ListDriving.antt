@@ -27,11 +27,11 @@ use Rattle.law_descriptors.specs.Meeting.{kind_of_descriptor, met}
 use Rattle.law_descriptors.specs.Recent.{AreRecent, parts_of, driver_after, content_after}
 use Rattle.law_descriptors.specs.Staying.{also}
 use Rattle.law_descriptors.specs.ListRows.{leaves_now, recent_with, ListStored, UnlinkStored, UnlinkDrives, LinkDrives}
-use Rattle.law_descriptors.proofs.RowStaying.{unlink_recent}
+use Rattle.law_descriptors.proofs.RowStaying.{unlink_is_recent}
 use Rattle.law_descriptors.proofs.Stays.{described_stay, described_follow}
-use Rattle.law_descriptors.proofs.ListRowsKeeping.{store_keeps}
-use Rattle.law_descriptors.proofs.ListUnlinks.{unlink_runs}
-use Rattle.law_descriptors.proofs.ListRows.{step_stays, link_row_runs}
+use Rattle.law_descriptors.proofs.ListRowsKeeping.{store_keeps_parts}
+use Rattle.law_descriptors.proofs.ListUnlinks.{unlink_rows_leave_both}
+use Rattle.law_descriptors.proofs.ListRows.{step_stays, link_rows_leave_both}
 use Rattle.law_descriptors.proofs.ListRecent.{link_recent}
 
 unlink_registers : (p : Parts) (t : ℕ) (o : Option Transfer) → (after_unlink p t o).registers ≡ p.registers
@@ -52,16 +52,16 @@ unlink_drives base member recent descs parts hand frame c d t y k is frames apar
     let later : ℕ → Option Kind = also (32 * y.first) kind recent in
     let new : DriverContent = driver_after (rows.Unlink t) c d in
     let after : Content = content_after (rows.Unlink t) c d in
-    let e : UnlinkStored base member recent (both descs parts) hand frame c d t y = unlink_runs base member recent (both descs parts) hand frame c d t y k.runs is frames apart stands shape has due there in
+    let e : UnlinkStored base member recent (both descs parts) hand frame c d t y = unlink_rows_leave_both base member recent (both descs parts) hand frame c d t y k.runs is frames apart stands shape has due there in
     let now : StructureSets = e.stored.now in
     let still : AreStill (views_of d) descs parts now
-    = described_stay (views_of d) descs parts now k.described (store_keeps base (both descs parts) now frame e.stored.frame_later e.store.at e.store.value e.stored.stored) in
+    = described_stay (views_of d) descs parts now k.described (store_keeps_parts base (both descs parts) now frame e.stored.frame_later e.store.at e.store.value e.stored.stored) in
     record {
       event = e;
       drives = record {
         runs = subst (λ (ps : StructureSets). RunsBoth base member (met new later) ps hand e.stored.frame_later after) still.same e.stored.runs;
         recent_are = subst (λ (r : RegisterFile). AreRecent new r.frame_index later) (sym (unlink_registers p t (slice_get d.transfers t)))
-            (unlink_recent p recent c.registers.frame_index t y kind there k.recent_are);
+            (unlink_is_recent p recent c.registers.frame_index t y kind there k.recent_are);
         described = unlink_described p t (slice_get d.transfers t) (descs_now descs now) still.described;
       };
     }
@@ -88,9 +88,10 @@ link_drives base member recent descs parts hand frame c d row k is frames apart 
     let st : Store = why.store in
     let later : ℕ → Option Kind = recent_with d.periodic (leaves_now d.periodic.list) recent in
     let e : ListStored base member later (both descs parts) hand frame st (driver_after row c d) (content_after row c d)
-    = link_row_runs base member recent (both descs parts) hand frame c d row k.runs is frames apart stands shape has why leads comes in
+    = link_rows_leave_both base member recent (both descs parts) hand frame c d row k.runs is frames apart stands shape has why leads comes
+    in
     let still : AreStill (views_of d) descs parts e.now
-    = described_stay (views_of d) descs parts e.now k.described (store_keeps base (both descs parts) e.now frame e.frame_later st.at st.value e.stored) in
+    = described_stay (views_of d) descs parts e.now k.described (store_keeps_parts base (both descs parts) e.now frame e.frame_later st.at st.value e.stored) in
     record {
       event = e;
       drives = record {

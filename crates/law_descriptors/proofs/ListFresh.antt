@@ -102,5 +102,5 @@ module _ (d : DriverContent) (recent : ℕ → Option Kind) (index t : ℕ) (y :
       absurd (⊎_elim (λ (since : IsRemovedSince d.endpoints d.transfers d.periodic.removals index (32 * y.first)). removed_by since.place since.removal since.removal.what since.here refl since.what)
       (λ (now : IsUnchainedNow d.endpoints d.transfers d.command (32 * y.first)). idle now.endpoint now.command) (are (32 * y.first) kind is))
 
-pub waiting_fresh : WaitingIsFresh
-waiting_fresh d recent index t y x has are here sort untold held its chained idle = fresh_by d recent index t y x has here sort untold held its chained idle are (recent (32 * y.first)) refl
+pub waiting_is_fresh : WaitingIsFresh
+waiting_is_fresh d recent index t y x has are here sort untold held its chained idle = fresh_by d recent index t y x has here sort untold held its chained idle are (recent (32 * y.first)) refl

@@ -29,7 +29,7 @@ use Rattle.law_descriptors.specs.Removed.{IsRemovedAt, a_queue, a_waiting, IsRem
 use Rattle.law_descriptors.specs.Recent.{AreRecent}
 use Rattle.law_descriptors.specs.ListRows.{leaves_now, recent_with, LeavesChained}
 use Rattle.law_descriptors.proofs.Finding.{begins_at}
-use Rattle.law_descriptors.proofs.RowStaying.{unchain_recent}
+use Rattle.law_descriptors.proofs.RowStaying.{unchain_is_recent}
 use Rattle.law_descriptors.proofs.ListUnlinks.{name_block}
 use Rattle.law_descriptors.proofs.ListRows.{either_if}
 use Rattle.law_descriptors.proofs.ListRowsStoring.{AtLeaver, then_recent}
@@ -149,7 +149,7 @@ ended_recent d later index unfinished.Chain is on way chained are = no_unchain (
 ended_recent d later index (unfinished.Iso f t count) is on way chained are =
     no_unchain (stored_on d (unfinished.Iso f t count)) later index (λ e unchain. iso_unchain d.command f t count e is unchain) are
 ended_recent d later index (unfinished.Unchain e) is on way chained are =
-    unchain_recent (stored_on d (unfinished.Unchain e)) later index e way.endpoint is way.here (chained e way.endpoint is way.here) are
+    unchain_is_recent (stored_on d (unfinished.Unchain e)) later index e way.endpoint is way.here (chained e way.endpoint is way.here) are
 ended_recent d later index _ is on way chained are = absurd (false≢true on)
 
 pub link_recent : (m : Mem) (d : DriverContent) (recent : ℕ → Option Kind) (index : ℕ) (c : Command) → d.command ≡ Some c → links c ≡ true → length (events_of c) ≤ d.made → IsListed d → LeavesChained d

@@ -28,8 +28,8 @@ use Rattle.law_driver.specs.run_owners.Due.{IsLinkOf}
 use Rattle.law_driver.proofs.lemmas.run_owners.Rows.{due_owned, due_orderly}
 use Rattle.law_driver.specs.listed_members.Members.{IsListed}
 use Rattle.law_driver.proofs.lemmas.listed_members.Events.{row_listed}
-use Rattle.law_frame_list.proofs.lemmas.list_spread.Spreading.{members_spread}
-use Rattle.law_frame_list.proofs.lemmas.list_stores.Making.{store_written, store_stands}
+use Rattle.law_frame_list.proofs.lemmas.list_spread.Spreading.{members_share_no_block}
+use Rattle.law_frame_list.proofs.lemmas.list_stores.Making.{store_written, each_store_of_the_list_is_made}
 use Rattle.law_frame_list.specs.list_steps.Steps.{IsLinkingStep, NextLeads}
 use Rattle.law_frame_list.proofs.lemmas.list_steps.Stepping.{goes_on_list, stored_stands}
 use Rattle.hc_core.specs.Controller.{Content}
@@ -37,8 +37,8 @@ use Rattle.law_frames.specs.Met.{Kind}
 use Rattle.claims_driver.specs.Unlinked.{led_by, led_in, led}
 use Rattle.law_descriptors.specs.Recent.{parts_of, driver_after, content_after}
 use Rattle.law_descriptors.specs.RowLaws.{HasFrames}
-use Rattle.law_descriptors.specs.ListRows.{leaves_now, recent_with, ListStored, StoresNext, LinkRowRuns}
-use Rattle.law_descriptors.proofs.ListRowsStoring.{next_runs}
+use Rattle.law_descriptors.specs.ListRows.{leaves_now, recent_with, ListStored, StoresNext, LinkRowsLeaveBoth}
+use Rattle.law_descriptors.proofs.ListRowsStoring.{next_store_leaves_both}
 
 pub either_if : {A : Type 0} (P : A → Type 0) (b : Bool) (x y : A) → (b ≡ true → P x) → (b ≡ false → P y) → P (if b then x else y)
 either_if P true x y h k = h refl
@@ -170,7 +170,7 @@ step_next c d row frames stands shape has why leads written =
     let listed : IsListed new = row_listed (rows.Store st.block st.at st.value) p (inr (store_of_row p row why)) has frames.listed in
     let after : IsInOrder (after_store d.periodic.list) = store_in_order d.periodic.list frames.list.order in
     let list : ListStands (store d.book c.memory st.block st.at st.value) new
-    = stored_stands p why.command st (linking_step p row why) (store_stands d c.memory st stands shape has frames.listed frames.list why.next) why.next leads in
+    = stored_stands p why.command st (linking_step p row why) (each_store_of_the_list_is_made d c.memory st stands shape has frames.listed frames.list why.next) why.next leads in
     let zero_then : new.periodic.list.list ≡ 0 = listed.list.list in
     record {
       list = refl;
@@ -184,13 +184,13 @@ step_next c d row frames stands shape has why leads written =
       frames = frames;
       frames_after = record {
         list = subst (λ (m : Mem). ListStands m new) written list;
-        spread = members_spread new c.memory (subst (λ (b : Book). Stands (holding b c.memory)) (sym s.book) stands) (step_owned p row why has) listed;
+        spread = members_share_no_block new c.memory (subst (λ (b : Book). Stands (holding b c.memory)) (sym s.book) stands) (step_owned p row why has) listed;
         listed = listed;
       };
     }
 
-pub link_row_runs : LinkRowRuns
-link_row_runs base member recent parts hand frame c d row runs is frames apart stands shape has why leads coming =
+pub link_rows_leave_both : LinkRowsLeaveBoth
+link_rows_leave_both base member recent parts hand frame c d row runs is frames apart stands shape has why leads coming =
     let st : Store = why.store in
     let later : ℕ → Option Kind = recent_with d.periodic (leaves_now d.periodic.list) recent in
     let written : store d.book c.memory st.block st.at st.value ≡ with_word c.memory st.at st.value
@@ -198,4 +198,4 @@ link_row_runs base member recent parts hand frame c d row runs is frames apart s
     let next : StoresNext c.memory d (advance d) d.periodic.list st = step_next c d row frames stands shape has why leads written in
     subst (λ (r : DriverRow). ListStored base member later parts hand frame st (driver_after r c d) (content_after r c d)) (sym why.is)
     (subst (λ (m : Mem). ListStored base member later parts hand frame st (advance d) (record c { memory = m })) (sym written)
-    (next_runs base member recent parts hand frame c d (advance d) d.periodic.list st runs is next apart coming))
+    (next_store_leaves_both base member recent parts hand frame c d (advance d) d.periodic.list st runs is next apart coming))

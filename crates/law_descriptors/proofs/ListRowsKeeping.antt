@@ -140,7 +140,7 @@ table_keeps parts n ws vs here size = record {
       (λ (differs : i ≢ n). descriptor_beside parts n (Table vs) split i differs k) (cases_eq i n);
 }
 
-pub store_keeps : StoreKeepsParts
-store_keeps base parts now frame later at v (an_element k list low is same hand) =
+pub store_keeps_parts : StoreKeepsParts
+store_keeps_parts base parts now frame later at v (an_element k list low is same hand) =
     subst (Keeps parts) (sym same) (table_keeps parts base.periodic_list_base list.words (slice_set list.words k v) list.here (length-set list.words k v))
-store_keeps base parts now frame later at v (a_link s here has same hand) = subst (Keeps parts) (sym same) (link_keeps parts at s (link_fields (link_read v)) here has)
+store_keeps_parts base parts now frame later at v (a_link s here has same hand) = subst (Keeps parts) (sym same) (link_keeps parts at s (link_fields (link_read v)) here has)

@@ -44,12 +44,12 @@ use Rattle.law_descriptors.specs.Growing.{IsLeftOut, AreApartFrom, KeepsMembers}
 use Rattle.law_descriptors.specs.RowLaws.{HasFrames}
 use Rattle.law_descriptors.specs.Rows.{IsMetBeside}
 use Rattle.law_descriptors.specs.Staying.{also}
-use Rattle.law_descriptors.specs.ListRows.{leaves_by, leaves_now, recent_with, HasPart, Comes, ComesFirst, an_element, a_link, ListStored, StoresNext, NextStoreRuns}
+use Rattle.law_descriptors.specs.ListRows.{leaves_by, leaves_now, recent_with, HasPart, Comes, ComesFirst, an_element, a_link, ListStored, StoresNext, NextStoreLeavesBoth}
 use Rattle.law_descriptors.proofs.Finding.{begins_at, member_kind, IsMemberAt, member_at}
-use Rattle.law_descriptors.proofs.Leading.{no_removal, none_made, led_linked, led_spread, member_leads}
+use Rattle.law_descriptors.proofs.Leading.{no_removal, none_made, led_linked, led_spread, members_lead_to_standing}
 use Rattle.law_descriptors.proofs.Closing.{leads_as, standing_met}
-use Rattle.law_descriptors.proofs.Growing.{same_kind, members_kept, all_further}
-use Rattle.law_descriptors.proofs.Storing.{element_meets, link_meets}
+use Rattle.law_descriptors.proofs.Growing.{same_kind, stores_keep_members, members_stay_met}
+use Rattle.law_descriptors.proofs.Storing.{element_store_meets, link_store_meets}
 
 -- all who stand from the store on, and didn't before
 abbrev AreComing : (ℕ → Bool) → (ℕ → Option Kind) → StructureSets → DriverContent → DriverContent → Type 0
@@ -169,7 +169,7 @@ then_linked : (m : Mem) (d new : DriverContent) (p : Periodic) (st : Store) (w :
     → (is_linked (led new) x ≡ true) ⊎ IsLeftOut p w x
 then_linked m d new p st w x k under on =
     ⊎_elim (λ (still : is_linked (led_in (after_store p)) x ≡ true). inl (ap (λ (s : Schedule). is_linked s x) k.after ∙ still)) (λ (out : IsLeftOut p w x). inr out)
-    (members_kept p w x under (ap (λ (s : Schedule). is_linked s x) k.before ∙ on))
+    (stores_keep_members p w x under (ap (λ (s : Schedule). is_linked s x) k.before ∙ on))
 
 removal_led : (s : Schedule) (w : Work) → w.removes ≡ true → led_by s (Some w) ≡ s
 removal_led s w is = ap (λ (b : Bool). if b || nat_lt 0 w.made then s else without_member s w.member) is
@@ -333,7 +333,7 @@ all_kept m d new p st w recent k under x on =
 met_further : (m : Mem) (d new : DriverContent) (p : Periodic) (st : Store) (w : Work) (member : ℕ → Bool) (recent : ℕ → Option Kind) (parts : StructureSets) → StoresNext m d new p st → p.work ≡ Some w
     → AreApartFrom d recent → AreComing member recent parts d new → IsMetFurther (met d recent) (met new (recent_with d.periodic (leaves_now p) recent))
 met_further m d new p st w member recent parts k under apart coming =
-    all_further d new recent (recent_with d.periodic (leaves_now p) recent) k.frames.spread k.frames_after.spread k.notes (all_kept m d new p st w recent k under)
+    members_stay_met d new recent (recent_with d.periodic (leaves_now p) recent) k.frames.spread k.frames_after.spread k.notes (all_kept m d new p st w recent k under)
     (recent_further m d new p st recent k apart) (recent_apart m d new p st member recent parts k apart coming)
 
 -- one that the store's word belongs to stands
@@ -402,7 +402,7 @@ comer_met m d new p st g parts later n kind k told none stands part =
     leads_further (standing new) (met new later) (link_in s) (standing_met new later)
     (leads_as (standing new) m n s (told.each n n s here)
     (subst (λ (w : ℕ). LeadsTo (standing new) (link_read w)) (own_word m d new p st g n kind k none stands)
-    (member_leads (with_word m st.at st.value) new n kind k.frames_after stands))))
+    (members_lead_to_standing (with_word m st.at st.value) new n kind k.frames_after stands))))
 
 comers_sound : (m : Mem) (d new : DriverContent) (p : Periodic) (st : Store) (g : NextWord p st) (member : ℕ → Bool) (recent : ℕ → Option Kind) (parts : StructureSets) → StoresNext m d new p st → Tells m parts
     → AreComing member recent parts d new → (n : ℕ) (kind : Kind) → met new (recent_with d.periodic (leaves_now p) recent) n ≡ Some kind → met d recent n ≡ None
@@ -441,7 +441,7 @@ in_element base member recent parts hand frame c d new p st g runs is k apart co
       frame_later = frame;
       stored = an_element i runs.list low at refl refl;
       runs = subst (λ (a : ℕ). RunsBoth base member (met new later) (put parts base.periodic_list_base base.periodic_list_base (Table (slice_set runs.list.words i st.value))) hand frame (record c { memory = with_word c.memory a st.value })) (sym at)
-          (element_meets base member recent later parts hand frame c d new i st.value runs (beside base member recent parts hand frame c d new p st g runs k apart coming)
+          (element_store_meets base member recent later parts hand frame c d new i st.value runs (beside base member recent parts hand frame c d new p st g runs k apart coming)
           (is ∙ ap (λ (l : ℕ). 32 * l) (sym k.start)) (subst (λ (a : ℕ). HasFrames (with_word c.memory a st.value) new) at k.frames_after) runs.list low);
       frames = k.frames_after;
       apart = recent_apart c.memory d new p st member recent parts k apart coming;
@@ -459,7 +459,7 @@ in_link base member recent parts hand frame c d new p st g runs k apart coming x
       now = put parts st.at st.at (linked (link_fields (link_read st.value)) own.structure);
       frame_later = frame_linked st.at (link_fields (link_read st.value)) frame;
       stored = a_link own.structure own.here own.link refl refl;
-      runs = link_meets base member recent later parts hand frame c d new st.at st.value own.structure (kind_of new.periodic x) runs
+      runs = link_store_meets base member recent later parts hand frame c d new st.at st.value own.structure (kind_of new.periodic x) runs
           (beside base member recent parts hand frame c d new p st g runs k apart coming) k.frames_after own.here own.link (stored_value c.memory d new p st g k)
           (runs.apart st.at (kind_of d.periodic x) here) (ap (standing new) at ∙ stands_then c.memory d new p st x k still);
       frames = k.frames_after;
@@ -530,8 +530,8 @@ first_comes m d new p st g member recent parts k comes n kind stands none =
     subst (λ (i : ℕ). Comes member recent parts i kind) at (subst (Comes member recent parts (begins_at w.member)) kinds c))
     (comer_by p w x (is_led w) (is_the w.member x) refl refl linked)
 
-pub next_runs : NextStoreRuns
-next_runs base member recent parts hand frame c d new p st runs is k apart comes =
+pub next_store_leaves_both : NextStoreLeavesBoth
+next_store_leaves_both base member recent parts hand frame c d new p st runs is k apart comes =
     let g : NextWord p st = next_word p st p.work refl k.next in
     let coming : AreComing member recent parts d new = first_comes c.memory d new p st g member recent parts k comes in
     in_word base member recent parts hand frame c d new p st g runs is k apart coming g.word

@@ -29,7 +29,7 @@ use Rattle.law_driver.proofs.lemmas.run_owners.Rows.{due_owned, due_orderly}
 use Rattle.law_driver.specs.listed_members.Members.{IsUnderWay, IsListed}
 use Rattle.law_driver.proofs.lemmas.listed_members.Events.{row_listed}
 use Rattle.law_driver.proofs.lemmas.listed_members.Unlinks.{below_frames}
-use Rattle.law_frame_list.proofs.lemmas.list_spread.Spreading.{members_spread}
+use Rattle.law_frame_list.proofs.lemmas.list_spread.Spreading.{members_share_no_block}
 use Rattle.law_frame_list.proofs.lemmas.list_stores.Making.{store_written}
 use Rattle.law_frame_list.proofs.lemmas.list_rows.Unlinked.{named_of, StandsAfter, first_word, unlinked_linked, removed_stands}
 use Rattle.hc_core.specs.Controller.{Content}
@@ -38,8 +38,8 @@ use Rattle.law_descriptors.specs.Meeting.{kind_of_descriptor}
 use Rattle.claims_driver.specs.Unlinked.{led_in}
 use Rattle.law_descriptors.specs.Recent.{parts_of}
 use Rattle.law_descriptors.specs.Staying.{also}
-use Rattle.law_descriptors.specs.ListRows.{leaves_by, leaves_now, recent_with, ComesFirst, ListStored, StoresNext, UnlinkRowRuns}
-use Rattle.law_descriptors.proofs.ListRowsStoring.{next_runs}
+use Rattle.law_descriptors.specs.ListRows.{leaves_by, leaves_now, recent_with, ComesFirst, ListStored, StoresNext, UnlinkRowsLeaveBoth}
+use Rattle.law_descriptors.proofs.ListRowsStoring.{next_store_leaves_both}
 use Rattle.law_descriptors.proofs.ListRows.{idle_led}
 
 -- ---- it is the last that unlinks it
@@ -75,9 +75,9 @@ leaving_is l k none small on =
     ap (λ (b : Bool). if b then removing l (Once k) else l)
     (ap (λ (o : Option Work). is_none o && (is_member (Once k) && is_linked l.members.schedule (Once k))) none ∙ ap (λ b. b && is_linked l.members.schedule (Once k)) (below_frames k.frame small) ∙ on)
 
-pub unlink_runs : UnlinkRowRuns
+pub unlink_rows_leave_both : UnlinkRowsLeaveBoth
 unfolding named_of
-unlink_runs base member recent parts hand frame c d t y runs is frames apart stands shape has due there =
+unlink_rows_leave_both base member recent parts hand frame c d t y runs is frames apart stands shape has due there =
     let p : Parts = parts_of c d in
     let k : Descriptor = named_of d y in
     let l : Periodic = d.periodic.list in
@@ -115,7 +115,7 @@ unlink_runs base member recent parts hand frame c d t y runs is frames apart sta
       frames = frames;
       frames_after = record {
         list = record { order = after.0; words = subst (λ (m : Mem). StandFor (after_store (descriptor_leaving d y)) (word_at m)) memory after.1 };
-        spread = members_spread new c.memory stands owners listed;
+        spread = members_share_no_block new c.memory stands owners listed;
         listed = listed;
       };
     } in
@@ -129,7 +129,7 @@ unlink_runs base member recent parts hand frame c d t y runs is frames apart sta
           (record c { registers = (after_unlink p t o).registers; memory = (after_unlink p t o).memory })) (sym there)
           (subst (λ (r : ℕ → Option Kind). ListStored base member r parts hand frame st new (record c { memory = stored_link d.book c.memory (next_store (descriptor_leaving d y)) })) later
           (subst (λ (m : Mem). ListStored base member (recent_with d.periodic (leaves_now q) recent) parts hand frame st new (record c { memory = m })) (sym memory)
-          (next_runs base member recent parts hand frame c d new q st runs is nexts apart comes)));
+          (next_store_leaves_both base member recent parts hand frame c d new q st runs is nexts apart comes)));
     }
   where
     none_comes : (v : Work) (o : Option Work) → o ≡ Some v → (o ≡ Some (begun (Once (named_of d y)) true)) → v.removes ≡ false → ⊥

@@ -151,5 +151,5 @@ module _ (v : Views) (descs parts : StructureSets) (k : AreDescribed v descs) wh
           nothing = r.nothing;
         }) quiet
 
-pub effect_of_queues : {W : Type 0} (transacts : W → Ask → List ℕ → Reply → W → Type 0) → EffectIsOfQueues transacts
-effect_of_queues transacts v descs parts base member hand p wire after now later kind k ring effect = effect_is v descs parts k transacts base member hand p ring wire after now later kind effect
+pub effect_is_of_queues : {W : Type 0} (transacts : W → Ask → List ℕ → Reply → W → Type 0) → EffectIsOfQueues transacts
+effect_is_of_queues transacts v descs parts base member hand p wire after now later kind k ring effect = effect_is v descs parts k transacts base member hand p ring wire after now later kind effect

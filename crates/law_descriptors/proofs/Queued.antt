@@ -32,15 +32,15 @@ use Rattle.drv_table.specs.Releases.{freed_by}
 use Rattle.drv_table.specs.Rows.{driver_row, after_driver_row}
 use Rattle.law_driver.specs.run_owners.Accepts.{Accepts, opens, chains, places, transfers, describes, cancels, unchains, Describes, Unchains}
 use Rattle.law_driver.specs.run_owners.Due.{IsDue}
-use Rattle.law_driver.proofs.lemmas.run_owners.Commands.{accepted_for_a_reason}
-use Rattle.law_driver.proofs.lemmas.run_owners.Reasons.{each_is_due}
+use Rattle.law_driver.proofs.lemmas.run_owners.Commands.{each_command_has_its_reason}
+use Rattle.law_driver.proofs.lemmas.run_owners.Reasons.{each_event_is_due}
 use Rattle.law_driver.proofs.lemmas.run_owners.Stays.{begun_notes}
 use Rattle.drv_table.specs.declared.content.Transfer.{Transfer}
 use Rattle.drv_periodic_table.specs.declared.content.DescriptorNote.{DescriptorNote}
 use Rattle.claims_driver.specs.FrameListMembers.{placed_in}
 use Rattle.law_driver.specs.listed_members.Members.{IsWaitingOf, IsUnderWay, IsListed}
 use Rattle.law_descriptors.specs.Queued.{LinksQueued, DescriptorsComeFirst, LeavingComeFirst}
-use Rattle.law_descriptors.proofs.Coming.{members_come}
+use Rattle.law_descriptors.proofs.Coming.{waiting_members_come}
 use Rattle.law_descriptors.proofs.Chained.{transfer_command, unlink_command, endpoint_command, removed_command, harvest_command, out_of_ring}
 
 -- ---- where no command links descriptors
@@ -249,8 +249,8 @@ row_linked (rows.Harvest e t found) p due listed old =
     idle_row (rows.Harvest e t found) p (harvest_command p.driver p.memory e t found (slice_get p.driver.endpoints e) (slice_get p.driver.transfers t)) due.idle
 row_linked rows.Rest p due listed old = old
 
-pub event_linked : (p : Parts) → IsListed p.driver → LinksQueued p.driver → LinksQueued (after_driver_row (driver_row p) p).driver
-event_linked p listed old = row_linked (driver_row p) p (each_is_due p) listed old
+pub events_link_queued : (p : Parts) → IsListed p.driver → LinksQueued p.driver → LinksQueued (after_driver_row (driver_row p) p).driver
+events_link_queued p listed old = row_linked (driver_row p) p (each_event_is_due p) listed old
 
 -- ---- an accepted command
 
@@ -281,21 +281,22 @@ accepted_linked d m o listed (describes why) = described d m o listed why
 accepted_linked d m o listed (cancels why) = never o.driver _ (ap (λ (f : Offered). f.driver.command) why.is) (λ e t n is. cc)
 accepted_linked d m o listed (unchains why) = unchained d m o why
 
-pub command_linked : (d : DriverContent) (m : Mem) (cmd : Cmd) (o : Offered) → IsListed d → offered d m cmd ≡ Ok o → LinksQueued o.driver
-command_linked d m cmd o listed is = accepted_linked d m o listed (accepted_for_a_reason d m cmd o is)
+pub commands_link_queued : (d : DriverContent) (m : Mem) (cmd : Cmd) (o : Offered) → IsListed d → offered d m cmd ≡ Ok o
+    → LinksQueued o.driver
+commands_link_queued d m cmd o listed is = accepted_linked d m o listed (each_command_has_its_reason d m cmd o is)
 
-pub new_linked : (n : ℕ) (room : Reserve) → LinksQueued (opening n room).driver
-new_linked n room = idle_linked (opening n room).driver refl
+pub new_driver_links_queued : (n : ℕ) (room : Reserve) → LinksQueued (opening n room).driver
+new_driver_links_queued n room = idle_linked (opening n room).driver refl
 
 -- ---- so it may be linked
 
-pub descriptors_first : DescriptorsComeFirst
-descriptors_first base member met recent descs parts hand frame c d index e t count runs described are has lent queued is w there keeps none =
+pub descriptors_come_first : DescriptorsComeFirst
+descriptors_come_first base member met recent descs parts hand frame c d index e t count runs described are has lent queued is w there keeps none =
     let q = queued e t count w is there in
-    members_come base member met recent descs parts hand frame c d index (unfinished.Iso e t count) e t w.member runs described are has lent is refl q.0 q.1
+    waiting_members_come base member met recent descs parts hand frame c d index (unfinished.Iso e t count) e t w.member runs described are has lent is refl q.0 q.1
 
-pub leaving_first : LeavingComeFirst
-leaving_first member recent parts d e listed is w there keeps none =
+pub leaving_come_first : LeavingComeFirst
+leaving_come_first member recent parts d e listed is w there keeps none =
     let way = subst (λ (o : Option Command). IsUnderWay d o) is listed.way in
     let same = same_Some way.work w (sym way.begun ∙ there) in
     absurd (false≢true (sym keeps ∙ ap (λ (v : Work). v.removes) (sym same) ∙ way.removes))

@@ -244,5 +244,5 @@ module _ (p : Parts) (recent : ℕ → Option Kind) (index t : ℕ) (y : Transfe
   unmet : AreRecent p.driver index recent → met p.driver recent (32 * y.first) ≡ None
   unmet are = ap (λ (o : Option Kind). or_recent o (recent (32 * y.first))) (stands_not (standing p.driver (32 * y.first)) refl) ∙ recent_not are (recent (32 * y.first)) refl
 
-pub descriptor_unmet : (p : Parts) (recent : ℕ → Option Kind) (index t : ℕ) (y : Transfer) → HasOwners p.driver → IsListed p.driver → AreRecent p.driver index recent → IsGivenBack p (removed.Descriptor t) → slice_get p.driver.transfers t ≡ Some y → met p.driver recent (32 * y.first) ≡ None
-descriptor_unmet p recent index t y has listed are why here = unmet p recent index t y has listed why here are
+pub descriptors_are_unmet : (p : Parts) (recent : ℕ → Option Kind) (index t : ℕ) (y : Transfer) → HasOwners p.driver → IsListed p.driver → AreRecent p.driver index recent → IsGivenBack p (removed.Descriptor t) → slice_get p.driver.transfers t ≡ Some y → met p.driver recent (32 * y.first) ≡ None
+descriptors_are_unmet p recent index t y has listed are why here = unmet p recent index t y has listed why here are

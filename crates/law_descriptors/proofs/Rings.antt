@@ -11,7 +11,7 @@ use Rattle.law_descriptors.specs.Described.{HasDescriptor, AreDescribed}
 use Rattle.law_descriptors.specs.Both.{owns, both}
 use Rattle.law_descriptors.specs.PartLaws.{RingIsOfQueues, RingIsOfBoth, ListIsOfQueues, ItdCanBeMet, SitdCanBeMet}
 use Rattle.law_descriptors.proofs.Standing.{both_on, both_off, IsAtOwner, on_owner}
-use Rattle.law_descriptors.proofs.Telling.{each_told, queue_off, queue_found}
+use Rattle.law_descriptors.proofs.Telling.{each_is_told, queue_off, queue_found}
 
 abbrev pub is_descriptor : Structure → Bool
 is_descriptor (Isochronous v) = true
@@ -50,9 +50,9 @@ hand_in member one other reply (Stale n q) each is = is
 
 -- ---- the ring
 
-pub ring_of_queues : RingIsOfQueues
-ring_of_queues d descs parts base member hand p k ring = record {
-  tells = (each_told d p.memory descs parts k ring.tells).0;
+pub ring_is_of_queues : RingIsOfQueues
+ring_is_of_queues d descs parts base member hand p k ring = record {
+  tells = (each_is_told d p.memory descs parts k ring.tells).0;
   members = λ n on.
       let was : IsMember member n (both descs parts n) = ring.members n on in
       subst (IsMember member n) (both_off descs parts n (other_off (views_of d) descs parts n (QueueHead was.queue) k.described refl was.here)) was;
@@ -69,8 +69,8 @@ ring_of_queues d descs parts base member hand p k ring = record {
       }) ring.in_hand;
 }
 
-pub ring_of_both : RingIsOfBoth
-ring_of_both d descs parts base member hand p k told ring = record {
+pub ring_is_of_both : RingIsOfBoth
+ring_is_of_both d descs parts base member hand p k told ring = record {
   tells = told;
   members = λ n on.
       let was : IsMember member n (parts n) = ring.members n on in
@@ -83,8 +83,8 @@ ring_of_both d descs parts base member hand p k told ring = record {
       record { on = is.on; here = queue_found d descs parts k c.at c.at (QueueHead c.queue) is.here; link = is.link; range = is.range }) ring.in_hand;
 }
 
-pub list_of_queues : ListIsOfQueues
-list_of_queues d descs parts base k = (
+pub list_is_of_queues : ListIsOfQueues
+list_is_of_queues d descs parts base k = (
   λ list.
       record {
         words = list.words;
@@ -98,8 +98,8 @@ list_of_queues d descs parts base k = (
 
 -- ---- a descriptor that is met
 
-pub itd_met : ItdCanBeMet
-itd_met met d n k leads = record { itd = k.itd; here = k.here; link = leads; slots = k.slots }
+pub itd_can_be_met : ItdCanBeMet
+itd_can_be_met met d n k leads = record { itd = k.itd; here = k.here; link = leads; slots = k.slots }
 
-pub sitd_met : SitdCanBeMet
-sitd_met met d n k leads = record { sitd = k.sitd; here = k.here; link = leads; bytes = k.bytes }
+pub sitd_can_be_met : SitdCanBeMet
+sitd_can_be_met met d n k leads = record { sitd = k.sitd; here = k.here; link = leads; bytes = k.bytes }

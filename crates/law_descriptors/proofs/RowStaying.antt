@@ -55,8 +55,8 @@ unlinked_by p recent index t y kind here are n other false is on =
     inl (behind_others p.driver.endpoints p.driver.transfers p.driver.periodic.removals (removal_of (removed.Descriptor t)) index n since))
     (λ (now : IsUnchainedNow p.driver.endpoints p.driver.transfers p.driver.command n). inr now) (are n other on)
 
-pub unlink_recent : (p : Parts) (recent : ℕ → Option Kind) (index t : ℕ) (y : Transfer) (kind : Kind) → slice_get p.driver.transfers t ≡ Some y → AreRecent p.driver index recent → AreRecent (after_driver_row (rows.Unlink t) p).driver index (also (32 * y.first) kind recent)
-unlink_recent p recent index t y kind here are =
+pub unlink_is_recent : (p : Parts) (recent : ℕ → Option Kind) (index t : ℕ) (y : Transfer) (kind : Kind) → slice_get p.driver.transfers t ≡ Some y → AreRecent p.driver index recent → AreRecent (after_driver_row (rows.Unlink t) p).driver index (also (32 * y.first) kind recent)
+unlink_is_recent p recent index t y kind here are =
     subst (λ (o : Option Transfer). AreRecent (after_unlink p t o).driver index (also (32 * y.first) kind recent)) (sym here)
     (λ n other on. unlinked_by p recent index t y kind here are n other (n == 32 * y.first) refl on)
 
@@ -104,8 +104,8 @@ chained_by : (d : DriverContent) (recent : ℕ → Option Kind) (index e : ℕ) 
 chained_by d recent index e x true is command there are = λ n kind on. inl (left_frames d recent index e x command there are n kind on)
 chained_by d recent index e x false is command there are = cc
 
-pub unchain_recent : (d : DriverContent) (recent : ℕ → Option Kind) (index e : ℕ) (x : Endpoint) → d.command ≡ Some (unfinished.Unchain e) → slice_get d.endpoints e ≡ Some x → x.chained ≡ true → AreRecent d index recent → AreRecent (finished d (unfinished.Unchain e)) index recent
-unchain_recent d recent index e x command there chained are =
+pub unchain_is_recent : (d : DriverContent) (recent : ℕ → Option Kind) (index e : ℕ) (x : Endpoint) → d.command ≡ Some (unfinished.Unchain e) → slice_get d.endpoints e ≡ Some x → x.chained ≡ true → AreRecent d index recent → AreRecent (finished d (unfinished.Unchain e)) index recent
+unchain_is_recent d recent index e x command there chained are =
     subst (λ (o : Option Endpoint). AreRecent (leave_frames (no_command d) e o) index recent) (sym there) (chained_by d recent index e x x.chained chained command there are)
 
 -- ---- a descriptor is given back
@@ -137,8 +137,8 @@ one_less p index t n y why there zero r here what still =
 one_less p index t n y why there (suc k) r here what still =
     record { place = k; removal = r; here = dropped p.driver.periodic.removals k r here; what = let_go p.driver.endpoints p.driver.transfers n t y r.what there what; within = still }
 
-pub release_recent : (p : Parts) (recent : ℕ → Option Kind) (index t : ℕ) (y : Transfer) → IsGivenBack p (removed.Descriptor t) → slice_get p.driver.transfers t ≡ Some y → AreRecent p.driver index recent → AreRecent (after_driver_row (rows.ReleaseRemoved (removed.Descriptor t)) p).driver index recent
-release_recent p recent index t y why there are =
+pub release_leaves_recent : (p : Parts) (recent : ℕ → Option Kind) (index t : ℕ) (y : Transfer) → IsGivenBack p (removed.Descriptor t) → slice_get p.driver.transfers t ≡ Some y → AreRecent p.driver index recent → AreRecent (after_driver_row (rows.ReleaseRemoved (removed.Descriptor t)) p).driver index recent
+release_leaves_recent p recent index t y why there are =
     subst (λ (o : Option Transfer). AreRecent (after_descriptor p t o).driver index recent) (sym there)
     (λ n kind on. ⊎_elim (λ (s : IsRemovedSince p.driver.endpoints p.driver.transfers p.driver.periodic.removals index n).
     inl (one_less p index t n y why there s.place s.removal s.here s.what s.within))

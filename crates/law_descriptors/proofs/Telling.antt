@@ -74,8 +74,8 @@ queue_found d descs parts k n a s here = ap (λ (part : ℕ → Option Structure
 pub descriptor_found : (d : DriverContent) (descs parts : StructureSets) → IsDescribing d descs parts → (n a : ℕ) (s : Structure) → descs n a ≡ Some s → both descs parts n a ≡ Some s
 descriptor_found d descs parts k n a s here = ap (λ (part : ℕ → Option Structure). part a) (both_on descs parts n (found_on (views_of d) descs n a s k.described here)) ∙ here
 
-pub each_told : EachIsTold
-each_told d m descs parts k told = (
+pub each_is_told : EachIsTold
+each_is_told d m descs parts k told = (
   record {
     shape = told.shape;
     each = λ n a s here. told.each n a s (queue_found d descs parts k n a s here);
@@ -175,5 +175,5 @@ module _ (d : DriverContent) (m : Mem) (descs parts : StructureSets) (k : IsDesc
     pub told_by_both : Tells m (both descs parts)
     told_by_both = record { shape = told.shape; each = all_hold; alone = all_alone }
 
-pub both_told : BothAreTold
-both_told d m descs parts k lies stands told held = told_by_both d m descs parts k lies stands told held
+pub both_are_told : BothAreTold
+both_are_told d m descs parts k lies stands told held = told_by_both d m descs parts k lies stands told held

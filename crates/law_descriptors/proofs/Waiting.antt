@@ -192,5 +192,5 @@ module _ (p : Parts) (recent : ℕ → Option Kind) (index e t : ℕ) (x : Endpo
   unmet : AreRecent p.driver index recent → met p.driver recent (32 * y.first) ≡ None
   unmet are = ap (λ (o : Option Kind). or_recent o (recent (32 * y.first))) (stands_not (standing p.driver (32 * y.first)) refl) ∙ recent_not are (recent (32 * y.first)) refl
 
-pub waiting_unmet : (p : Parts) (recent : ℕ → Option Kind) (index e t : ℕ) (x : Endpoint) (y : Transfer) → HasOwners p.driver → IsListed p.driver → AreRecent p.driver index recent → IsGivenBack p (removed.Endpoint e) → slice_get p.driver.endpoints e ≡ Some x → is_iso x.desc.kind ≡ true → slice_get p.driver.transfers t ≡ Some y → is_descriptor y.sort ≡ true → waits_for e y ≡ true → met p.driver recent (32 * y.first) ≡ None
-waiting_unmet p recent index e t x y has listed are why there iso here sort waits = unmet p recent index e t x y has listed why there here sort waits are
+pub waiting_are_unmet : (p : Parts) (recent : ℕ → Option Kind) (index e t : ℕ) (x : Endpoint) (y : Transfer) → HasOwners p.driver → IsListed p.driver → AreRecent p.driver index recent → IsGivenBack p (removed.Endpoint e) → slice_get p.driver.endpoints e ≡ Some x → is_iso x.desc.kind ≡ true → slice_get p.driver.transfers t ≡ Some y → is_descriptor y.sort ≡ true → waits_for e y ≡ true → met p.driver recent (32 * y.first) ≡ None
+waiting_are_unmet p recent index e t x y has listed are why there iso here sort waits = unmet p recent index e t x y has listed why there here sort waits are

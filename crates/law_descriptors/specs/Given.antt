@@ -1,5 +1,5 @@
 -- What a driver gives back of isochronous descriptors, while the controller walks the frames and a ring (EHCI 1.0, 2.3.4, 3.3, 3.4 and 4.6).
---     RowIsGivenBack               where the next row gives back what was unlinked, that was removed first, and its frame has passed
+--     RowGivesBackPassed               where the next row gives back what was unlinked, that was removed first, and its frame has passed
 --     no_structure                 of an owner that has nothing
 --     without_owners sets goes     the structures but those of the owners that go
 --     begins_at b n                block b begins at byte address n
@@ -38,8 +38,8 @@ use Rattle.law_descriptors.specs.Meeting.{met}
 use Rattle.law_descriptors.specs.Recent.{AreRecent}
 use Rattle.law_descriptors.specs.Returned.{IsGivenBack}
 
-abbrev pub RowIsGivenBack : Type 0
-RowIsGivenBack = (p : Parts) (what : Removed) → driver_row p ≡ rows.ReleaseRemoved what → IsGivenBack p what
+abbrev pub RowGivesBackPassed : Type 0
+RowGivesBackPassed = (p : Parts) (what : Removed) → driver_row p ≡ rows.ReleaseRemoved what → IsGivenBack p what
 
 -- ---- what stays
 

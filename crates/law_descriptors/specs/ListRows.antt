@@ -7,10 +7,10 @@
 --     IsStoredIn ..            an element of the list was stored, or the link of a structure, which is in hand as it was read
 --     ListStored ..            the controller goes on over both, and the words of memory stand for the frame list
 --     StoresNext m d new p st  st is the next store of the list p, which has the members of the driver's; the words stand for the list before it and after it
---     NextStoreRuns            so the controller goes on over both
---     LinkRowRuns              the same of the stores by which a command links or unlinks members
+--     NextStoreLeavesBoth            so the controller goes on over both
+--     LinkRowsLeaveBoth              the same of the stores by which a command links or unlinks members
 --     UnlinkStored ..          .. and of the one store that unlinks a harvested descriptor, which is recent from then on
---     UnlinkRowRuns            the law of it
+--     UnlinkRowsLeaveBoth            the law of it
 --     UnlinkDriven .., UnlinkDrives    so the driver with its descriptors goes on beside both walks, with what the structures became
 --     WaitingIsFresh           a descriptor that waits in its frame isn't recent, unless its endpoint's members are being unlinked
 --     LentComes                a lent descriptor that isn't recent comes so
@@ -131,8 +131,8 @@ pub record StoresNext (m : Mem) (d new : DriverContent) (p : Periodic) (st : Sto
   pub frames : HasFrames m d
   pub frames_after : HasFrames (with_word m st.at st.value) new
 
-abbrev pub NextStoreRuns : Type 0
-NextStoreRuns = (base : Base) (member : ℕ → Bool) (recent : ℕ → Option Kind) (parts : StructureSets) (hand : Hand) (frame : FrameHand) (c : Content) (d new : DriverContent) (p : Periodic)
+abbrev pub NextStoreLeavesBoth : Type 0
+NextStoreLeavesBoth = (base : Base) (member : ℕ → Bool) (recent : ℕ → Option Kind) (parts : StructureSets) (hand : Hand) (frame : FrameHand) (c : Content) (d new : DriverContent) (p : Periodic)
     (st : Store)
     → RunsBoth base member (met d recent) parts hand frame c → base.periodic_list_base ≡ 32 * d.periodic.list.list → StoresNext c.memory d new p st
     → AreApartFrom d recent → ComesFirst member recent parts d p
@@ -140,8 +140,8 @@ NextStoreRuns = (base : Base) (member : ℕ → Bool) (recent : ℕ → Option K
 
 -- ---- a command that links or unlinks members
 
-abbrev pub LinkRowRuns : Type 0
-LinkRowRuns = (base : Base) (member : ℕ → Bool) (recent : ℕ → Option Kind) (parts : StructureSets) (hand : Hand) (frame : FrameHand) (c : Content) (d : DriverContent) (row : DriverRow)
+abbrev pub LinkRowsLeaveBoth : Type 0
+LinkRowsLeaveBoth = (base : Base) (member : ℕ → Bool) (recent : ℕ → Option Kind) (parts : StructureSets) (hand : Hand) (frame : FrameHand) (c : Content) (d : DriverContent) (row : DriverRow)
     → RunsBoth base member (met d recent) parts hand frame c → base.periodic_list_base ≡ 32 * d.periodic.list.list → HasFrames c.memory d → AreApartFrom d recent
     → Stands (holding d.book c.memory) → IsShaped c.memory → HasOwners d → (why : IsLinkOf (parts_of c d) row) → (removes_members why.command ≡ false → NextLeads (parts_of c d))
     → ComesFirst member recent parts d d.periodic.list
@@ -156,8 +156,8 @@ pub record UnlinkStored (base : Base) (member : ℕ → Bool) (recent : ℕ → 
   pub stored : ListStored base member (also (32 * y.first) (kind_of_descriptor (note_at d.periodic.notes y.first).split) recent) parts hand frame store (driver_after (rows.Unlink t) c d)
       (content_after (rows.Unlink t) c d)
 
-abbrev pub UnlinkRowRuns : Type 0
-UnlinkRowRuns = (base : Base) (member : ℕ → Bool) (recent : ℕ → Option Kind) (parts : StructureSets) (hand : Hand) (frame : FrameHand) (c : Content) (d : DriverContent) (t : ℕ) (y : Transfer)
+abbrev pub UnlinkRowsLeaveBoth : Type 0
+UnlinkRowsLeaveBoth = (base : Base) (member : ℕ → Bool) (recent : ℕ → Option Kind) (parts : StructureSets) (hand : Hand) (frame : FrameHand) (c : Content) (d : DriverContent) (t : ℕ) (y : Transfer)
     → RunsBoth base member (met d recent) parts hand frame c → base.periodic_list_base ≡ 32 * d.periodic.list.list → HasFrames c.memory d → AreApartFrom d recent
     → Stands (holding d.book c.memory) → IsShaped c.memory → HasOwners d → IsUnlinkDue (parts_of c d) t → slice_get d.transfers t ≡ Some y
     → UnlinkStored base member recent parts hand frame c d t y

@@ -2,7 +2,7 @@
 --     HasFrames m d           the words of memory stand for the driver's frame list, whose members are spread
 --     ElementsLeadToStanding, MembersLeadToStanding    each element of the list, and each link of one that stands, leads to one that stands
 --     StandingAreClosed, ListLeadsToStanding           the same by the structures that tell memory
---     BeginMeetsStanding      from the begin of a microframe on those that stand are met, and no other
+--     BeginMeetsMembers      from the begin of a microframe on those that stand are met, and no other
 use Rattle.std.specs.Prelude.{◌≡◌, ℕ, ◌*◌, ◌<◌, Bool, Option, Some}
 use Rattle.word_mem.specs.Memory.{Mem, word_at}
 use Rattle.drv_chains.specs.declared.members.Predecessor.TheVariants.{Element}
@@ -50,7 +50,7 @@ ListLeadsToStanding = (m : Mem) (d : DriverContent) (parts : StructureSets) (bas
 
 -- ---- a microframe begins
 
-abbrev pub BeginMeetsStanding : Type 0
-BeginMeetsStanding = (base : Base) (member : ℕ → Bool) (recent : ℕ → Option Kind) (parts : StructureSets) (hand : Hand) (frame : FrameHand) (c : Content) (d : DriverContent) (allowed : Bool)
+abbrev pub BeginMeetsMembers : Type 0
+BeginMeetsMembers = (base : Base) (member : ℕ → Bool) (recent : ℕ → Option Kind) (parts : StructureSets) (hand : Hand) (frame : FrameHand) (c : Content) (d : DriverContent) (allowed : Bool)
     → RunsBoth base member (met d recent) parts hand frame c → c.control.part ≡ Over → HasFrames c.memory d → base.periodic_list_base ≡ 32 * d.periodic.list.list
     → RunsBoth base member (met d no_recent) parts hand Nothing (began allowed c)

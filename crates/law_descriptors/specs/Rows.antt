@@ -4,7 +4,7 @@
 --     ReadStatusDrives, AdvanceDrives, BellDrives    USBSTS is read, Async Advance is cleared, the doorbell is rung
 --     IsMetBeside ..          from then on more are met, each of them sound and none of the ring
 --     ElementStoreMeets, LinkStoreMeets    an element of the frame list, or the link of one that stands, is stored: those that stand from then on are met
---     StandingDescriptors     a descriptor that stands, and is described, can be met
+--     StandingDescriptorsAreMet     a descriptor that stands, and is described, can be met
 use Rattle.std.specs.Prelude.{◌≡◌, ℕ, ◌+◌, ◌*◌, ◌<◌, Bool, false, slice_set, Option, Some, None}
 use Rattle.word_mem.specs.Memory.{Mem, with_word}
 use Rattle.link_words.specs.Links.{link_read, link_fields, IsLinkWord}
@@ -71,6 +71,6 @@ LinkStoreMeets = (base : Base) (member : ℕ → Bool) (recent later : ℕ → O
 
 -- ---- descriptors
 
-abbrev pub StandingDescriptors : Type 0
-StandingDescriptors = (m : Mem) (d : DriverContent) (recent : ℕ → Option Kind) (parts : StructureSets) (n : ℕ) (split : Bool) → HasFrames m d → Tells m parts
+abbrev pub StandingDescriptorsAreMet : Type 0
+StandingDescriptorsAreMet = (m : Mem) (d : DriverContent) (recent : ℕ → Option Kind) (parts : StructureSets) (n : ℕ) (split : Bool) → HasFrames m d → Tells m parts
     → standing d n ≡ Some (kind_of_descriptor split) → HasDescriptor split (parts n) n → IsMetAs (met d recent) n (parts n) (kind_of_descriptor split)

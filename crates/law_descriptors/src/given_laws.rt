@@ -1,9 +1,9 @@
 //! The laws.
-ghost use Rattle.law_descriptors.specs.Given.{RowIsGivenBack, ReleaseTold, ReleaseRunsBoth, WaitingTold, WaitingRunsBoth, EndpointLeavesRecent};
+ghost use Rattle.law_descriptors.specs.Given.{RowGivesBackPassed, ReleaseTold, ReleaseRunsBoth, WaitingTold, WaitingRunsBoth, EndpointLeavesRecent};
 
 /// A row that gives back what was unlinked comes next only once two readings of FRINDEX since then had different frame numbers (2.3.4).
-pub fn a_row_gives_back_what_has_passed()
-    ensures { RowIsGivenBack }
+pub fn row_gives_back_passed()
+    ensures { RowGivesBackPassed }
 {}
 
 /// A descriptor is given back with its buffer: memory has all else that it had for the driver, and both walks go on, wherever they are and whatever they have
@@ -21,6 +21,6 @@ pub fn an_isochronous_endpoint_is_given_back()
 
 /// What is recent stays recent where an endpoint is given back, whether it has a queue head or descriptors: it was removed first and once, and no recent one was
 /// removed with it.
-pub fn an_endpoint_leaves_what_is_recent()
+pub fn endpoint_leaves_recent()
     ensures { EndpointLeavesRecent }
 {}

@@ -5,5 +5,5 @@
 mod laws;
 mod worked;
 
-pub use laws::{each_event_keeps_both, each_event_leaves_words, each_walk_leaves_the_other};
+pub use laws::{each_walk_leaves_the_other, events_keep_both, events_leave_words};
 pub use worked::a_frame_begins;

@@ -18,6 +18,6 @@ pub fn descriptors_are_lent()
 {}
 
 /// Those that were lent before are described as before, once those of a command get their frames.
-pub fn descriptors_stay_described()
+pub fn frames_describe()
     ensures frames { FramesDescribe }
 {}

@@ -7,7 +7,7 @@ mod laws;
 mod worked;
 
 pub use laws::{
-    a_driver_has_its_links, descriptors_beside_a_list, each_event_leaves_a_driver,
-    it_writes_elsewhere, links_of_a_list_stay, the_list_of_a_driver_is_kept, what_is_told_stays,
+    a_driver_has_its_links, descriptors_beside_a_list, events_leave_driver, links_of_a_list_stay,
+    list_is_kept, told_stays, written_elsewhere,
 };
 pub use worked::a_list_has_its_links;

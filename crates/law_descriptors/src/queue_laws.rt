@@ -5,6 +5,6 @@ use usb_base::Wire;
 
 /// An event of the ring's walk, over the structures of queues and descriptors, is the same event over those of the queues alone: it reads and changes no
 /// descriptor.
-pub fn events_of_the_ring_are_of_the_queues<W: Wire>()
+pub fn effect_is_of_queues<W: Wire>()
     ensures { EffectIsOfQueues W.transacts }
 {}

@@ -2,17 +2,17 @@
 ghost use Rattle.law_descriptors.specs.Queued.{NewDriverLinksQueued, EventsLinkQueued, CommandsLinkQueued, DescriptorsComeFirst, LeavingComeFirst};
 
 /// A driver that was just built has no command.
-pub fn a_new_driver_links_nothing()
+pub fn new_driver_links_queued()
     ensures { NewDriverLinksQueued }
 {}
 
 /// Each event of the driver leaves it so: the next of the command's queued descriptors is begun once its own events were made, and then after each last store.
-pub fn events_link_what_is_queued()
+pub fn events_link_queued()
     ensures { EventsLinkQueued }
 {}
 
 /// No command is accepted while members are linked, so nothing is begun yet.
-pub fn commands_begin_with_nothing_linked()
+pub fn commands_link_queued()
     ensures { CommandsLinkQueued }
 {}
 

@@ -1,6 +1,6 @@
 //! The laws.
-ghost use Rattle.law_descriptors.specs.RowLaws.{ElementsLeadToStanding, MembersLeadToStanding, StandingAreClosed, ListLeadsToStanding, BeginMeetsStanding};
-ghost use Rattle.law_descriptors.specs.Rows.{ReadFrameDrives, ReadStatusDrives, AdvanceDrives, BellDrives, ElementStoreMeets, LinkStoreMeets, StandingDescriptors};
+ghost use Rattle.law_descriptors.specs.RowLaws.{ElementsLeadToStanding, MembersLeadToStanding, StandingAreClosed, ListLeadsToStanding, BeginMeetsMembers};
+ghost use Rattle.law_descriptors.specs.Rows.{ReadFrameDrives, ReadStatusDrives, AdvanceDrives, BellDrives, ElementStoreMeets, LinkStoreMeets, StandingDescriptorsAreMet};
 ghost use Rattle.law_descriptors.specs.Growing.{StoresKeepMembers, MembersStayMet};
 ghost use Rattle.law_descriptors.specs.Staying.{UnlinkIsRecent, UnchainIsRecent, ReleaseLeavesRecent};
 ghost use Rattle.law_descriptors.specs.Returned.{DescriptorsAreUnmet, WaitingAreUnmet};
@@ -14,8 +14,8 @@ pub fn links_lead_to_members()
 {}
 
 /// So from the begin of a microframe on they alone are met: what was unlinked before isn't (4.6).
-pub fn a_microframe_begins_with_members()
-    ensures { BeginMeetsStanding }
+pub fn begin_meets_members()
+    ensures { BeginMeetsMembers }
 {}
 
 /// Rows that read or write a register alone leave the frames and the descriptors, and what was unlinked in this microframe stays open: a reading of the same
@@ -35,8 +35,8 @@ pub fn stores_of_the_list_leave_both()
 {}
 
 /// A descriptor that stands in its frame, with its buffer, is sound where it is met.
-pub fn standing_descriptors_can_be_met()
-    ensures { StandingDescriptors }
+pub fn standing_descriptors_are_met()
+    ensures { StandingDescriptorsAreMet }
 {}
 
 /// A descriptor that is given back next, by itself or with its endpoint, isn't met: it isn't linked, and two readings of FRINDEX since its unlinking had

@@ -1,20 +1,20 @@
 //! The laws of the stores of the frame list.
-ghost use Rattle.law_descriptors.specs.ListRows.{NextStoreRuns, LinkRowRuns, UnlinkRowRuns, StoreKeepsParts, UnlinkDrives, LinkDrives, LentComes, WaitingIsFresh};
+ghost use Rattle.law_descriptors.specs.ListRows.{NextStoreLeavesBoth, LinkRowsLeaveBoth, UnlinkRowsLeaveBoth, StoreKeepsParts, UnlinkDrives, LinkDrives, LentComes, WaitingIsFresh};
 
 /// Whatever both walks have in hand, the controller goes on over both once the next store of the list was made: those are met that stand then, and what was
 /// unlinked in this microframe, which is also the member whose last unlinking store it is (4.6).
-pub fn the_next_store_leaves_both()
-    ensures { NextStoreRuns }
+pub fn next_store_leaves_both()
+    ensures { NextStoreLeavesBoth }
 {}
 
 /// So it does where a command links or unlinks members, in each of its stores.
-pub fn stores_of_commands_leave_both()
-    ensures { LinkRowRuns }
+pub fn link_rows_leave_both()
+    ensures { LinkRowsLeaveBoth }
 {}
 
 /// And so it does where a harvested descriptor is unlinked: it is met until the next microframe begins, as what it is.
-pub fn unlinking_stores_leave_both()
-    ensures { UnlinkRowRuns }
+pub fn unlink_rows_leave_both()
+    ensures { UnlinkRowsLeaveBoth }
 {}
 
 /// A descriptor that is lent has all that a member brings that is linked, where none that was unlinked in this microframe was there; and one that waits in its
@@ -25,7 +25,7 @@ pub fn lent_descriptors_may_come()
 {}
 
 /// Each of these stores leaves every structure of its kind and as far as it reached, and each descriptor one still.
-pub fn stores_keep_each_structure()
+pub fn store_keeps_parts()
     ensures { StoreKeepsParts }
 {}
 

@@ -115,5 +115,5 @@ out_pinged w t ask out h b =
     subst (λ ping. TakesFor w (after_taking_row (take_row ping t (sequence_of t.toggle ask.toggle) (length out)) out t)) (sym b)
     (kept_for w t (after_taking_row (ping_row t.items) out t) h (ping_keeps t.items out t))
 
-pub taken_begins : (packets : List (List ℕ)) (w : Pipe (List ℕ)) (t : Taking) → TakesFor w t → PipeAgrees packets w → IsPrefix t.taken (concat packets)
-taken_begins packets w t h a = subst (λ bytes. IsPrefix bytes (concat packets)) (sym h.bytes) (accepted_begins packets w a)
+pub taken_bytes_begin_the_stream : (packets : List (List ℕ)) (w : Pipe (List ℕ)) (t : Taking) → TakesFor w t → PipeAgrees packets w → IsPrefix t.taken (concat packets)
+taken_bytes_begin_the_stream packets w t h a = subst (λ bytes. IsPrefix bytes (concat packets)) (sym h.bytes) (accepted_begins packets w a)

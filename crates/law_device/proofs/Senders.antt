@@ -106,5 +106,5 @@ pub in_moves : (packets : List (List ℕ)) (w : Pipe (List ℕ)) (s : Sending) (
 in_moves packets w s pid bytes heard h e =
     subst (λ o. SendsFor packets (sent heard o w) (if heard then sending_acked (sending_answered s) else sending_answered s)) (sym (in_sends packets w s pid bytes h e)) (received_at packets w s pid bytes (alike w.sends w.expects) heard h e)
 
-pub known_and_left : (packets : List (List ℕ)) (w : Pipe (List ℕ)) (s : Sending) → SendsFor packets w s → take w.known packets ++ packets_of s.items ≡ packets
-known_and_left packets w s h = ap (λ left. take w.known packets ++ left) h.left ∙ take-append-drop w.known packets
+pub known_packets_begin_the_stream : (packets : List (List ℕ)) (w : Pipe (List ℕ)) (s : Sending) → SendsFor packets w s → take w.known packets ++ packets_of s.items ≡ packets
+known_packets_begin_the_stream packets w s h = ap (λ left. take w.known packets ++ left) h.left ∙ take-append-drop w.known packets

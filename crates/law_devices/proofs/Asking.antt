@@ -263,8 +263,8 @@ module _ (stream : ℕ → ℕ → Bool) (w : Wired) (ask : Ask) (out : List ℕ
 
 -- ---- the law
 
-pub scripted_bus : (stream : ℕ → ℕ → Bool) → IsBus (λ (w : Wired) (ask : Ask) (out : List ℕ) (reply : Reply) (v : Wired). (reply ≡ reply_of w.fixed w.bus ask out) × (v ≡ record w { bus = transact_after w.fixed w.bus ask out })) stream sender_of
-scripted_bus stream = record {
+pub a_scripted_bus_sends_its_streams : (stream : ℕ → ℕ → Bool) → IsBus (λ (w : Wired) (ask : Ask) (out : List ℕ) (reply : Reply) (v : Wired). (reply ≡ reply_of w.fixed w.bus ask out) × (v ≡ record w { bus = transact_after w.fixed w.bus ask out })) stream sender_of
+a_scripted_bus_sends_its_streams stream = record {
   asked = λ w ask out reply v s made k sent.
       subst (λ (x : Wired). HasAnswered ask s reply (sender_of x ask.addr ask.ep)) (sym made.1)
       (subst (λ (r : Reply). HasAnswered ask s r (sender_of (record w { bus = transact_after w.fixed w.bus ask out }) ask.addr ask.ep)) (sym made.0) (asked_answers stream w ask out s (sender_found w ask.addr ask.ep s sent) k));

@@ -162,8 +162,8 @@ begun_sender frindex devices n addr ep s is =
 
 -- ---- the law
 
-pub scripted_begins : (stream : ℕ → ℕ → Bool) → KeepsSenders (λ (w : Wired) (frindex : ℕ) (allowed : Bool) (v : Wired). (allowed ≡ is_allowed w.fixed w.bus) × (v ≡ record w { bus = begin_after w.fixed frindex w.bus })) stream sender_of
-scripted_begins stream w frindex allowed v addr ep s made on is =
+pub a_microframe_keeps_its_senders : (stream : ℕ → ℕ → Bool) → KeepsSenders (λ (w : Wired) (frindex : ℕ) (allowed : Bool) (v : Wired). (allowed ≡ is_allowed w.fixed w.bus) × (v ≡ record w { bus = begin_after w.fixed frindex w.bus })) stream sender_of
+a_microframe_keeps_its_senders stream w frindex allowed v addr ep s made on is =
     let h : HasSender w addr ep s = sender_found w addr ep s is in
     let sent : sender_of_device addr ep (slice_get w.bus.devices h.device_place) ≡ Some s = sym (sender_through w addr ep h.place h.seat h.device_place w.bus h.found h.there h.owner) ∙ is in
     ap (λ (x : Wired). sender_of x addr ep) made.1

@@ -48,7 +48,7 @@ draft_owns w h = record {
   apart = λ i j d e there here same. apart_at w.devices i j d e h.apart there here same;
 }
 
-pub spelled_owns : (text : List ℕ) (s : Script) → Spells text s → HasOwnDevices s
-spelled_owns text s e =
+pub devices_have_addresses_of_their_own : (text : List ℕ) (s : Script) → Spells text s → HasOwnDevices s
+devices_have_addresses_of_their_own text s e =
     let k = spelled_kept IsDeclaredDraft empty_declared second_declared line_declares text s e in
     subst HasOwnDevices k.is (draft_owns k.draft k.holds)

@@ -258,8 +258,8 @@ second_declared w h = record { apart = h.apart; no_hub = h.no_hub; own = h.own; 
 pub line_declares : Keeps IsDeclaredDraft
 line_declares w n l new h = after_declared w n l (is_new w l new) h
 
-pub spelled_senders : (text : List ℕ) (s : Script) → Spells text s → OpensSenders s
-spelled_senders text s e =
+pub an_opened_endpoint_has_its_sender : (text : List ℕ) (s : Script) → Spells text s → OpensSenders s
+an_opened_endpoint_has_its_sender text s e =
     let k = spelled_kept IsDeclaredDraft empty_declared second_declared line_declares text s e in
     let fit = subst IsFit (sym k.is) (spelled_fits text s e) in
     subst OpensSenders k.is (lines_have k.draft k.draft.lines k.holds fit.lines k.holds.opened)

@@ -10,7 +10,7 @@ ghost use Rattle.law_devices.specs.Senders.{sender_of};
 ghost use Rattle.law_devices.specs.opening_senders.Own.{HasOwnDevices, OpeningSends};
 
 /// A sender has at the opening what the script has for it.
-pub fn a_sender_opens_with_its_packets()
+pub fn opening_sends()
     ensures { OpeningSends }
 {}
 

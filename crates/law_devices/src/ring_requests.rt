@@ -19,6 +19,6 @@ pub use laws::{
     windows_are_those_of_a_run,
 };
 pub use rest_laws::{
-    a_first_store_begins_a_queue, a_queue_at_rest_is_spared, a_queue_at_rest_stays_so,
-    a_queue_comes_to_rest, others_go_on_beside_a_rest,
+    a_queue_at_rest_is_spared, a_queue_at_rest_stays_so, a_queue_comes_to_rest,
+    others_go_on_beside_a_rest, queue_grows,
 };

@@ -13,6 +13,6 @@ pub fn a_scripted_bus_answers_by_stages()
 {}
 
 /// And where a microframe begins, whatever its hubs then do on the bus below them, none of them goes on.
-pub fn a_microframe_keeps_its_devices()
+pub fn keeps_devices()
     ensures { KeepsDevices begins_by control_of }
 {}

@@ -30,43 +30,43 @@ ghost use Rattle.claims_driver.specs.DueMembers.{AreDue, HasAllDue, IsPlacedQueu
 ghost use Rattle.law_driver.specs.planned_endpoints.Planned.{IsPlanned, IsEndpointOf};
 
 /// A driver that was just built has no endpoints, and nothing placed.
-#[tactic(auto, using(crate::proofs::lemmas::planned_endpoints::Laws::opening_planned))]
+#[tactic(auto, using(crate::proofs::lemmas::planned_endpoints::Laws::opening_plan_is_of_its_endpoints))]
 pub fn opening_plan_is_of_its_endpoints()
     ensures { (n : ℕ) (room : Reserve) → IsPlanned (opening n room).driver }
 {}
 
 /// Each accepted command keeps that: the open of a periodic endpoint adds it and its placement.
-#[tactic(auto, using(crate::proofs::lemmas::planned_endpoints::Laws::command_planned))]
+#[tactic(auto, using(crate::proofs::lemmas::planned_endpoints::Laws::commands_keep_the_plan))]
 pub fn commands_keep_the_plan()
     ensures { (d : DriverContent) (m : Mem) (cmd : Cmd) (o : Offered) → IsPlanned d → offered d m cmd ≡ Ok o → IsPlanned o.driver }
 {}
 
 /// Each event of the driver does: what gives back a periodic endpoint takes its placement out.
-#[tactic(auto, using(crate::proofs::lemmas::planned_endpoints::Laws::event_planned))]
+#[tactic(auto, using(crate::proofs::lemmas::planned_endpoints::Laws::events_keep_the_plan))]
 pub fn events_keep_the_plan()
     ensures { (p : Parts) → HasOwners p.driver → IsPlanned p.driver → IsPlanned (after_driver_row (driver_row p) p).driver }
 {}
 
 /// So the placement of a periodic endpoint that wasn't given back, also of one that is leaving, counts in the plan.
-#[tactic(auto, using(crate::proofs::lemmas::planned_endpoints::Laws::endpoint_planned))]
+#[tactic(auto, using(crate::proofs::lemmas::planned_endpoints::Laws::endpoints_count_until_given_back))]
 pub fn endpoints_count_until_given_back()
     ensures { (d : DriverContent) (e : ℕ) (x : Endpoint) (p : Placement) → IsPlanned d → slice_get d.endpoints e ≡ Some x → x.gone ≡ false → x.placement ≡ Some p → IsPlannedAt d e x p }
 {}
 
 /// And what counts in the plan is an endpoint's that wasn't given back.
-#[tactic(auto, using(crate::proofs::lemmas::planned_endpoints::Laws::planned_endpoint))]
+#[tactic(auto, using(crate::proofs::lemmas::planned_endpoints::Laws::what_counts_is_an_endpoint))]
 pub fn what_counts_is_an_endpoint()
     ensures { (d : DriverContent) (i : ℕ) (y : Placed) → IsPlanned d → slice_get d.periodic.plan.placed i ≡ Some y → IsEndpointOf d y }
 {}
 
 /// Each queue head of the frame list is that of an endpoint whose placement counts in the plan, and stands in the frames of that placement.
-#[tactic(auto, using(crate::proofs::lemmas::planned_endpoints::Queues::queues_placed))]
+#[tactic(auto, using(crate::proofs::lemmas::planned_endpoints::Queues::queue_heads_are_of_placed_endpoints))]
 pub fn queue_heads_are_of_placed_endpoints()
     ensures { (d : DriverContent) → HasOwners d → IsListed d → IsPlanned d → AllByRecursion (IsPlacedQueue d) d.periodic.list.members.schedule.queues }
 {}
 
 /// Two queue heads of one endpoint are the same, so no endpoint has two in a frame's chain.
-#[tactic(auto, using(crate::proofs::lemmas::planned_endpoints::Queues::one_queue))]
+#[tactic(auto, using(crate::proofs::lemmas::planned_endpoints::Queues::an_endpoint_has_one_queue_head))]
 pub fn an_endpoint_has_one_queue_head()
     ensures { (d : DriverContent) (q r : QueueHead) (h : IsPlacedQueue d q) (k : IsPlacedQueue d r) → h.number ≡ k.number → q ≡ r }
 {}

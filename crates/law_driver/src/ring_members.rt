@@ -26,27 +26,27 @@ ghost use Rattle.law_driver.specs.in_place.InPlace.{IsSound};
 ghost use Rattle.law_driver.specs.ring_members.Ring.{HasQueue, KeepsRing};
 
 /// When the driver was built the head leads to itself.
-#[tactic(auto, using(crate::proofs::lemmas::ring_members::Opened::opening_ring))]
+#[tactic(auto, using(crate::proofs::lemmas::ring_members::Opened::opening_is_a_ring))]
 pub fn opening_is_a_ring()
     ensures { (n : ℕ) (room : Reserve) → 2048 ≤ n → IsRing (link_in (opening n room).memory) (opening n room).driver }
 {}
 
 /// A command that is accepted leaves the ring as it is; a new queue head leads to the newest in it.
-#[tactic(auto, using(crate::proofs::lemmas::ring_members::Laws::command_ring))]
+#[tactic(auto, using(crate::proofs::lemmas::ring_members::Laws::commands_keep_the_ring))]
 pub fn commands_keep_the_ring()
     ensures { (d : DriverContent) (m : Mem) (cmd : Cmd) (o : Offered) → offered d m cmd ≡ Ok o → KeepsRing d m o }
 {}
 
 /// Each event of the driver keeps the ring: an endpoint joins by the store to the head's link, and leaves by the store that passes it over.
 /// The stores of the frame list go to the list and its members, which begin runs of their own (`IsListed`).
-#[tactic(auto, using(crate::proofs::lemmas::ring_members::Events::event_ring))]
+#[tactic(auto, using(crate::proofs::lemmas::ring_members::Events::events_keep_the_ring))]
 pub fn events_keep_the_ring()
     ensures { (p : Parts) → IsSound p.memory p.driver → IsRing (link_in (after_driver_row (driver_row p) p).memory) (after_driver_row (driver_row p) p).driver }
 {}
 
 /// Where no command is unfinished, the words lead from the head through each queue head in the ring, the newest first, and back to the
 /// head.
-#[tactic(auto, using(crate::proofs::lemmas::ring_members::Laws::idle_chain))]
+#[tactic(auto, using(crate::proofs::lemmas::ring_members::Laws::the_ring_is_read))]
 pub fn the_ring_is_read()
     ensures { (word : ℕ → ℕ) (d : DriverContent) → d.command ≡ None → IsRing word d → IsChain word head_block (members d.endpoints) }
 {}

@@ -19,11 +19,11 @@ use Rattle.law_driver.proofs.lemmas.run_owners.Transferred.{goes_on_alive}
 use Rattle.law_driver.proofs.lemmas.ring_members.Placed.{has_queue}
 use Rattle.law_structures.specs.lent_structures.Structures.{StructureSets}
 use Rattle.law_structures.specs.lent_structures.Changes.{Leaves}
-use Rattle.law_structures.proofs.lemmas.lent_structures.Telling.{told_still}
+use Rattle.law_structures.proofs.lemmas.lent_structures.Telling.{rest_is_told}
 use Rattle.law_ring.specs.Hand.{Hand}
 use Rattle.claims_base.specs.Controller.{Base}
 use Rattle.law_ring.specs.Ring.{IsRing}
-use Rattle.law_ring.proofs.Driving.{ring_retold}
+use Rattle.law_ring.proofs.Driving.{other_parts_leave_ring}
 use Rattle.law_driver_ring.specs.Inventory.{sorts_of, IsDriven}
 use Rattle.law_driver_ring.specs.Driven.{DrivesRing}
 use Rattle.law_driver_ring.proofs.Offered.{opens_leave}
@@ -36,7 +36,7 @@ use Rattle.law_driver_ring.proofs.Sending.{transfer_leaves}
 -- a ring stays one where what was Lent stays
 pub ring_leaves : (base : Base) (member : ℕ → Bool) (parts : StructureSets) (hand : Hand) (w : Walk) (r : RegisterFile) (m after : Mem) → IsRing base member parts hand (place w r m) → Leaves m after → IsRing base member parts hand (place w r after)
 ring_leaves base member parts hand w r m after ring left =
-    ring_retold base member parts parts hand (place w r m) after ring (told_still m after parts left ring.tells) ring.members (λ n q here. here)
+    other_parts_leave_ring base member parts parts hand (place w r m) after ring (rest_is_told m after parts left ring.tells) ring.members (λ n q here. here)
 
 pub open_drives : (base : Base) (member : ℕ → Bool) (parts : StructureSets) (hand : Hand) (w : Walk) (r : RegisterFile) (m : Mem) (d : DriverContent) (o : Offered) → Opens d m o → HasOwners d → Stands (holding d.book m) → DrivesRing base member parts hand (place w r m) d → DrivesRing base member parts hand (place w r o.memory) o.driver
 open_drives base member parts hand w r m d o why has stands k =

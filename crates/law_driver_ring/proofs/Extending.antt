@@ -104,14 +104,14 @@ received_keeps parts n c got (Into pages k bs j) is = buffer_put parts n (place 
 same_keeps : (parts now : StructureSets) → now ≡ parts → KeepExtents parts now
 same_keeps parts now same = subst (KeepExtents parts) (sym same) (itself parts)
 
-pub walk_keeps : {W : Type 0} (transacts : W → Ask → List ℕ → Reply → W → Type 0) → WalkKeepsExtents transacts
-walk_keeps transacts member parts hand reply wire after now later kind in_hand (reads r all quiet) = same_keeps parts now all
-walk_keeps transacts member parts hand reply wire after now later kind in_hand (passes r all quiet) = same_keeps parts now all
-walk_keeps transacts member parts hand reply wire after now later kind in_hand (ends r all quiet) = same_keeps parts now all
-walk_keeps transacts member parts hand reply wire after now later kind in_hand (makes m all) = same_keeps parts now all
-walk_keeps transacts member parts hand reply wire after now later kind in_hand (takes t quiet) =
+pub walk_keeps_extents : {W : Type 0} (transacts : W → Ask → List ℕ → Reply → W → Type 0) → WalkKeepsExtents transacts
+walk_keeps_extents transacts member parts hand reply wire after now later kind in_hand (reads r all quiet) = same_keeps parts now all
+walk_keeps_extents transacts member parts hand reply wire after now later kind in_hand (passes r all quiet) = same_keeps parts now all
+walk_keeps_extents transacts member parts hand reply wire after now later kind in_hand (ends r all quiet) = same_keeps parts now all
+walk_keeps_extents transacts member parts hand reply wire after now later kind in_hand (makes m all) = same_keeps parts now all
+walk_keeps_extents transacts member parts hand reply wire after now later kind in_hand (takes t quiet) =
     subst (KeepExtents parts) (sym t.now_is) (head_put parts t.copy.at t.copy.at (advanced t.copy.queue t.element t.qtd))
-walk_keeps transacts member parts hand reply wire after now later kind in_hand (writes_back w quiet) =
+walk_keeps_extents transacts member parts hand reply wire after now later kind in_hand (writes_back w quiet) =
     let x : Qh = settled_queue_of w.copy w.settled in
     let r : Received = received_into (parts w.copy.at) w.copy.queue w.element w.settled.got in
     let one : StructureSets = received_parts parts w.copy.at w.settled.got r in

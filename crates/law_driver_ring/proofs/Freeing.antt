@@ -9,7 +9,7 @@ use Rattle.mem_runs.specs.declared.slots.Slot.TheVariants.{Empty, Keeps, Lends}
 use Rattle.mem_runs.proofs.Standing.{lends_within, stands_released, within_lent}
 use Rattle.drv_table.specs.Releases.{free_runs}
 use Rattle.law_structures.specs.lent_structures.Structures.{Structure, StructureSets, Has, Tells}
-use Rattle.law_ring.proofs.Returning.{told_freed}
+use Rattle.law_ring.proofs.Returning.{freed_is_told}
 use Rattle.claims_driver.specs.Owners.{IsOneOf}
 
 -- ---- slots
@@ -59,7 +59,7 @@ one_told h parts b Empty is none k = k
 one_told h parts b (Keeps r) is none k = k
 one_told h parts b (Lends r) is none k = record {
   stands = stands_released h b r k.told.shape k.stands is;
-  told = told_freed h.memory parts r k.told (within_lent h b r k.stands is) (none r refl);
+  told = freed_is_told h.memory parts r k.told (within_lent h b r k.stands is) (none r refl);
 }
 
 pub all_told : (h : Holding) (parts : StructureSets) (bs : List ℕ) → HaveNone h parts bs → StandsTold h parts → StandsTold (free_runs h bs) parts

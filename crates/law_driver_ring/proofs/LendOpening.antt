@@ -26,7 +26,7 @@ use Rattle.law_structures.specs.lent_structures.Sound.{IsMember}
 use Rattle.law_ring.specs.Hand.{Hand}
 use Rattle.claims_base.specs.Controller.{Base}
 use Rattle.law_ring.specs.Ring.{IsRing}
-use Rattle.law_ring.proofs.Driving.{ring_lent, ring_joined}
+use Rattle.law_ring.proofs.Driving.{lend_leaves_ring, another_leaves_ring}
 use Rattle.law_driver_ring.specs.Inventory.{sorts_of, IsLent}
 use Rattle.law_driver_ring.specs.Driven.{DrivesRing}
 use Rattle.law_driver_ring.proofs.Lent.{lend_taken_leaves}
@@ -187,9 +187,9 @@ ring_opened base member parts hand w r m d e x q opened has stands k =
     let two = two_lent d m e x q opened has in
     let none : (b : ℕ) → parts n b ≡ None = λ b. none_there (views_of d) (views_of (lent_content d m)) has.owner e x parts b two k.driven in
     let one = put parts n n (QueueHead q) in
-    let lent = ring_lent base member parts hand (place w r m) n n (QueueHead q) (lent_memory d m) k.ring (lend_taken_leaves (holding d.book m) stands shape)
+    let lent = lend_leaves_ring base member parts hand (place w r m) n n (QueueHead q) (lent_memory d m) k.ring (lend_taken_leaves (holding d.book m) stands shape)
     (record { holds = queue_holds d m e x q opened has stands shape; fresh = λ b there. queue_fresh m x q first second b runs there }) (none n) (λ on. no_member member n parts (none n) (k.ring.members n on)) in
-    ring_joined base member one hand (place w r (lent_memory d m)) n (32 * x.dummy) (Element dummy_qtd) lent (dummy_holds d m e x q opened has stands shape)
+    another_leaves_ring base member one hand (place w r (lent_memory d m)) n (32 * x.dummy) (Element dummy_qtd) lent (dummy_holds d m e x q opened has stands shape)
     (λ b i c u at found there.
     ⊎_elim (λ (new : (i ≡ n) × (c ≡ n) × (u ≡ QueueHead q)).
     never_both m x q first second b runs at (subst (λ (j : ℕ). Has j (QueueHead q) b) new.1 (subst (λ (v : Structure). Has c v b) new.2 there)))

@@ -25,8 +25,8 @@ opens_leave d m o why stands shape =
     (subst (λ (rs : List ℕ). Leaves m (accepted_open d why.desc why.holding_after (get_or rs 0 0) (get_or rs 1 0)).memory) (sym new)
     (open_leaves d m why.desc why.holding_after all.blocks stands shape all.are))
 
-pub gets_leave : (d : DriverContent) (m : Mem) (o : Offered) (why : Transfers d m o) → AreIn why.asked.stages → HasOwners d → Stands (holding d.book m) → IsShaped m → Leaves m o.memory
-gets_leave d m o why all_in has stands shape =
+pub receiving_leaves : (d : DriverContent) (m : Mem) (o : Offered) (why : Transfers d m o) → AreIn why.asked.stages → HasOwners d → Stands (holding d.book m) → IsShaped m → Leaves m o.memory
+receiving_leaves d m o why all_in has stands shape =
     let n = length why.asked.stages in
     let x = why.endpoint in
     let all = runs_taken (holding d.book m) why.holding_after (needs why.asked.stages) stands why.runs in

@@ -19,7 +19,7 @@ use Rattle.drv_table.specs.Opening.{list_run, head_run, opening_memory, opening_
 use Rattle.claims_driver.specs.Owners.{EndpointRuns, Views, views_of, IsQueueIn}
 use Rattle.law_structures.specs.lent_structures.Structures.{Structure, QueueHead, Element, Table, HoldsQueueHead, HoldsTable, Structures, with_structure, Has, Tells}
 use Rattle.law_structures.proofs.lemmas.lent_structures.Names.{put_found}
-use Rattle.law_structures.proofs.lemmas.lent_structures.Telling.{joined}
+use Rattle.law_structures.proofs.lemmas.lent_structures.Telling.{another_is_told}
 use Rattle.law_structures.proofs.lemmas.lent_structures.Standing.{both_true}
 use Rattle.law_structures.specs.lent_structures.Sound.{IsMember}
 use Rattle.law_ring.specs.Hand.{Empty}
@@ -155,7 +155,7 @@ nothing_told : (n : ℕ) → IsShaped (opening_memory n) → Tells (opening_memo
 nothing_told n shape = record { shape = shape; each = λ k a s found. cc; alone = λ k a j c s t b found other has also. cc }
 
 list_told : (n : ℕ) → 2048 ≤ n → n ≤ 262144 → n % 1024 ≡ 0 → Tells (opening_memory n) list_parts
-list_told n low high whole = joined (opening_memory n) no_parts 0 0 (Table empty_list) (nothing_told n (opened_shape n low high whole)) (list_there n low high whole) (λ b k c u has found also. cc)
+list_told n low high whole = another_is_told (opening_memory n) no_parts 0 0 (Table empty_list) (nothing_told n (opened_shape n low high whole)) (list_there n low high whole) (λ b k c u has found also. cc)
 
 -- the list has the first page
 list_below : (k c : ℕ) (u : Structure) (b : ℕ) → list_parts k c ≡ Some u → Has c u b → b < 128
@@ -172,7 +172,8 @@ head_above b (inr is) = omega (arith, is)
 
 opening_told : (n : ℕ) → 2048 ≤ n → n ≤ 262144 → n % 1024 ≡ 0 → Tells (opening_memory n) opening_parts
 opening_told n low high whole =
-    joined (opening_memory n) list_parts 4096 4096 (QueueHead opening_head) (list_told n low high whole) (head_there n low high whole)
+    another_is_told (opening_memory n) list_parts 4096 4096 (QueueHead opening_head) (list_told n low high whole)
+    (head_there n low high whole)
     (λ b k c u has found also. let first = list_below k c u b found also in let second = head_above b has in omega (arith, first, second))
 
 -- ---- the member

@@ -27,8 +27,8 @@ use Rattle.law_driver_ring.proofs.Viewing.{SameViews, same_views, harvest_views,
 
 -- ---- an event of the walk
 
-pub walk_drives : {W : Type 0} (transacts : W → Ask → List ℕ → Reply → W → Type 0) (base : Base) (member : ℕ → Bool) (parts : StructureSets) (hand : Hand) (p : WalkPlace) (d : DriverContent) (wire after : W) (new : WalkPlace) (kind : WalkStep) → DrivesRing base member parts hand p d → (h : Happens transacts base member parts hand wire after new kind) → DrivesRing base member h.now h.later new d
-walk_drives transacts base member parts hand p d wire after new kind k h = record {
+pub the_walk_leaves_it_driven : {W : Type 0} (transacts : W → Ask → List ℕ → Reply → W → Type 0) (base : Base) (member : ℕ → Bool) (parts : StructureSets) (hand : Hand) (p : WalkPlace) (d : DriverContent) (wire after : W) (new : WalkPlace) (kind : WalkStep) → DrivesRing base member parts hand p d → (h : Happens transacts base member parts hand wire after new kind) → DrivesRing base member h.now h.later new d
+the_walk_leaves_it_driven transacts base member parts hand p d wire after new kind k h = record {
   ring = h.ring;
   driven = driven_same (views_of d) parts h.now (effect_same transacts base member parts hand p wire after h.now h.later kind k.ring h.effect) k.driven;
 }

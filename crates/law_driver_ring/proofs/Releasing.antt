@@ -17,7 +17,7 @@ use Rattle.law_driver.proofs.lemmas.run_owners.Released.{set_here, set_there}
 use Rattle.law_driver.proofs.lemmas.run_owners.Freeing.{runs_freed}
 use Rattle.law_structures.specs.lent_structures.Structures.{StructureSets, Tells}
 use Rattle.law_ring.specs.Fewer.{without_those}
-use Rattle.law_ring.proofs.Returning.{ring_returned, fewer_told}
+use Rattle.law_ring.proofs.Returning.{returns_leave_ring, fewer_are_told}
 use Rattle.law_driver_ring.specs.Inventory.{sorts_of, IsLent, IsTransferIn, IsDriven}
 use Rattle.law_driver_ring.specs.Driven.{DrivesRing}
 use Rattle.law_driver_ring.specs.Extents.{AreInRuns}
@@ -94,12 +94,12 @@ release_drives base member parts hand w p t y x drives owners stands lies go may
     let now = without_those parts n goes_now in
     let view = goes p t y x go owners in
     let all = all_told (holding p.driver.book p.memory) now (blocks_of (note_in p.driver.notes) y.first y.qtds) (none_there p t y x go owners parts stands lies drives.driven)
-    (record { stands = stands; told = fewer_told p.memory parts n goes_now drives.ring.tells }) in
+    (record { stands = stands; told = fewer_are_told p.memory parts n goes_now drives.ring.tells }) in
     let off : goes_now n ≡ false = stays (views_of p.driver) (views_now p t y x go owners) owners.owner t (runs_of_transfer y) x view parts x.queue
     (ap (mine t) (owners.owned.each.queue y.endpoint x go.queue.here go.queue.queued).owned) in
     subst (λ (q : DriverParts). DrivesRing base member now hand (place w q.registers q.memory) q.driver × AreInRuns (views_of q.driver) now) (sym (after_is p t y x go owners)) (
       record {
-        ring = ring_returned base member parts hand (place w p.registers p.memory) n goes_now (freed p t y x go owners).memory drives.ring off may
+        ring = returns_leave_ring base member parts hand (place w p.registers p.memory) n goes_now (freed p t y x go owners).memory drives.ring off may
             (subst (λ (g : Holding). Tells g.memory now) (sym (freed_is p t y x go owners)) all.told);
         driven = driven_without (views_of p.driver) (views_now p t y x go owners) owners.owner t (runs_of_transfer y) x view parts drives.driven;
       },

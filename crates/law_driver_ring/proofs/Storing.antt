@@ -20,7 +20,7 @@ use Rattle.law_ring.specs.Hand.{Hand}
 use Rattle.claims_base.specs.Controller.{Base}
 use Rattle.law_ring.specs.Ring.{IsRing}
 use Rattle.law_ring.specs.Stores.{IsUnnamed, hand_linked, hand_stale, IsWider}
-use Rattle.law_ring.proofs.Driving.{ring_stored, ring_linked, ring_mended}
+use Rattle.law_ring.proofs.Driving.{element_store_leaves_ring, link_store_leaves_ring, mending_leaves_ring}
 use Rattle.law_driver_ring.specs.Inventory.{sorts_of, IsDriven}
 use Rattle.law_driver_ring.specs.Driven.{DrivesRing}
 use Rattle.law_driver_ring.proofs.Sorts.{same_put, driven_same}
@@ -39,7 +39,7 @@ pub element_store_drives : (base : Base) (member : ℕ → Bool) (parts : Struct
     → DrivesRing base member (put parts n a (Element new)) hand (place w r (store d.book m b (a + 4 * k) v)) e
 element_store_drives base member parts hand w r m d e b n a t new k v drives views can at off below is range sound = record {
   ring = subst (λ (x : Mem). IsRing base member (put parts n a (Element new)) hand (place w r x)) (sym (store_made d.book m b (a + 4 * k) v can))
-      (ring_stored base member parts hand (place w r m) n a t new k v drives.ring at off below is range sound);
+      (element_store_leaves_ring base member parts hand (place w r m) n a t new k v drives.ring at off below is range sound);
   driven = put_driven parts n a d e (put parts n a (Element new)) views (same_put parts n a (Element t) (Element new) at refl) drives.driven;
 }
 
@@ -48,7 +48,7 @@ pub link_store_drives : (base : Base) (member wider : ℕ → Bool) (parts : Str
     → DrivesRing base wider (put parts n n (QueueHead (record q { link = l }))) (hand_linked n l hand) (place w r (store d.book m b n (word_of link_rows l))) e
 link_store_drives base member wider parts hand w r m d e b n q l drives views can more at range link comes = record {
   ring = subst (λ (x : Mem). IsRing base wider (put parts n n (QueueHead (record q { link = l }))) (hand_linked n l hand) (place w r x)) (sym (store_made d.book m b n (word_of link_rows l) can))
-      (ring_linked base member wider parts hand (place w r m) n q l drives.ring more at range link comes);
+      (link_store_leaves_ring base member wider parts hand (place w r m) n q l drives.ring more at range link comes);
   driven = put_driven parts n n d e (put parts n n (QueueHead (record q { link = l }))) views (same_put parts n n (QueueHead q) (QueueHead (record q { link = l })) at refl) drives.driven;
 }
 
@@ -57,6 +57,6 @@ pub mend_drives : (base : Base) (member : ℕ → Bool) (parts : StructureSets) 
     → DrivesRing base member (put parts n n (QueueHead new)) (hand_stale n hand) (place w r (store d.book m b (n + 4 * k) v)) e
 mend_drives base member parts hand w r m d e b n q new k v drives views can at halted below is range sound = record {
   ring = subst (λ (x : Mem). IsRing base member (put parts n n (QueueHead new)) (hand_stale n hand) (place w r x)) (sym (store_made d.book m b (n + 4 * k) v can))
-      (ring_mended base member parts hand (place w r m) n q new k v drives.ring at halted below is range sound);
+      (mending_leaves_ring base member parts hand (place w r m) n q new k v drives.ring at halted below is range sound);
   driven = put_driven parts n n d e (put parts n n (QueueHead new)) views (same_put parts n n (QueueHead q) (QueueHead new) at refl) drives.driven;
 }

@@ -29,7 +29,7 @@ use Rattle.law_driver.proofs.lemmas.run_owners.Chains.{buffers_of}
 use Rattle.law_driver.proofs.lemmas.run_owners.Transferred.{are_new, goes_on_alive}
 use Rattle.law_driver.proofs.lemmas.run_owners.Released.{set_here}
 use Rattle.claims_driver.specs.LentRuns.{AreLent, IsLent as IsLentRun, still_lends}
-use Rattle.law_driver.proofs.lemmas.lent_runs.Laws.{idle_lent}
+use Rattle.law_driver.proofs.lemmas.lent_runs.Laws.{all_are_lent_between_commands}
 use Rattle.law_driver.proofs.lemmas.ring_members.Placed.{has_queue}
 use Rattle.law_driver.proofs.lemmas.ring_members.Accepted.{shaped_taken}
 use Rattle.law_driver.proofs.lemmas.ring_members.Stores.{AreBuffersNotAt, slots_apart}
@@ -131,7 +131,8 @@ written_with d m number x a g bs s ss stages has lent idle stands shape runs_are
         queue = record { here = ap (option_map runs_of_endpoint) (set_here d.endpoints number x (with_queued x dummy (length d.transfers)) here); queued = alive };
       };
       qtds = ap length stages;
-      first = subst IsLent (sym (taken.old b was_run)) (is_lent (slot_of d.book.slots b) (idle_lent d b idle lent was_run));
+      first = subst IsLent (sym (taken.old b was_run)) (is_lent (slot_of d.book.slots b)
+          (all_are_lent_between_commands d b idle lent was_run));
       taken = taken_are;
       apart = apart;
       ends = ends;

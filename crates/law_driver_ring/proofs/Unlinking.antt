@@ -15,7 +15,7 @@ use Rattle.law_structures.proofs.lemmas.lent_structures.Altering.{found_queue}
 use Rattle.law_ring.specs.Hand.{Hand}
 use Rattle.claims_base.specs.Controller.{Base}
 use Rattle.law_ring.specs.Stores.{hand_linked}
-use Rattle.law_ring.proofs.Answering.{ring_answered}
+use Rattle.law_ring.proofs.Answering.{answer_leaves_ring}
 use Rattle.law_driver_ring.specs.Driven.{DrivesRing}
 use Rattle.law_driver_ring.proofs.Storing.{link_store_drives}
 use Rattle.law_driver_ring.proofs.Viewing.{advance_views}
@@ -49,6 +49,6 @@ unlink_drives base member parts hand w p b queue after q z k can on here leads t
 
 pub answer_drives : AnswerDrives
 answer_drives base member narrow parts hand p d k at fewer closed start heads = record {
-  ring = ring_answered base member narrow parts hand p k.ring at fewer closed start heads;
+  ring = answer_leaves_ring base member narrow parts hand p k.ring at fewer closed start heads;
   driven = k.driven;
 }

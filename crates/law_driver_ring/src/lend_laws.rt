@@ -15,7 +15,7 @@ ghost use Rattle.law_driver_ring.specs.LendOpened.{LendOpensDrives, OpenIsReady}
 use usb_base::Wire;
 
 /// Once an open was accepted, its queue head and its inactive qTD stand in two runs that are kept, and these are all that is to be lent.
-pub fn an_accepted_open_is_ready()
+pub fn open_is_ready()
     ensures ready { OpenIsReady }
 {}
 
@@ -27,7 +27,7 @@ pub fn a_new_endpoint_is_lent()
 {}
 
 /// Where the link of the ring's head is stored after that, the ring goes on, and the walk may meet the new queue head.
-pub fn a_new_endpoint_is_met()
+pub fn link_opens_drives()
     ensures links { LinkOpensDrives }
 {}
 
@@ -40,6 +40,6 @@ pub fn a_new_endpoint_stays<W: Wire>()
 {}
 
 /// Each store of a qTD that is published where the inactive qTD of a queue stands leaves the ring; the token, which sets Active, is stored last.
-pub fn a_qtd_is_published()
+pub fn publish_store_drives()
     ensures stores { PublishStoreDrives }
 {}

@@ -13,7 +13,7 @@ ghost use Rattle.law_driver_ring.specs.Driven.{DrivesRing};
 use usb_base::Wire;
 
 /// The memory of a driver that was just built is a ring of its head alone, beside the frame list, and has no other structure (4.1, 4.8).
-pub fn the_opening_is_driven()
+pub fn opening_drives()
     ensures { OpeningDrives }
 {}
 

@@ -6,12 +6,12 @@ ghost use Rattle.law_driver_ring.specs.Released.{ReleaseDrives};
 use usb_base::Wire;
 
 /// Where a transfer was harvested, and nothing that stays leads to its qTDs or needs its buffers, its blocks are given back under the walk.
-pub fn a_transfer_is_given_back()
+pub fn release_drives()
     ensures { ReleaseDrives }
 {}
 
 /// An event of the walk leaves how far buffers and tables reach.
-pub fn each_event_keeps_extents<W: Wire>()
+pub fn walk_keeps_extents<W: Wire>()
     ensures { WalkKeepsExtents W.transacts }
 {}
 

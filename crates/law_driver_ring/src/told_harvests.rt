@@ -7,7 +7,7 @@ mod laws;
 mod worked;
 
 pub use laws::{
-    a_found_qtd_is_done, a_harvest_takes_the_first, a_report_is_what_was_held,
-    events_keep_what_is_done, what_is_held_grows_and_stays,
+    a_found_qtd_is_done, events_keep_what_is_done, harvest_takes_first, report_is_read,
+    what_is_held_grows_and_stays,
 };
 pub use worked::of_three_qtds;

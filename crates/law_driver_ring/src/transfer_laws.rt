@@ -10,6 +10,6 @@ pub fn a_transfer_is_written()
 
 /// Where all that was taken for a transfer is lent, wherever the walk is and whatever it has in hand, the ring goes on with its qTDs and
 /// buffers: the links of each qTD lead on, each buffer is one qTD's, and the first qTD can be published.
-pub fn a_transfer_is_lent()
+pub fn lend_drives()
     ensures { LendDrives }
 {}

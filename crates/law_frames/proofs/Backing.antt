@@ -35,8 +35,8 @@ bytes_at_most : (h : HeldItd) (b : Bool) → (if b then itd_in h else itd_out h)
 bytes_at_most h true = omega arith
 bytes_at_most h false = omega arith
 
-pub itd_sent : (met : ℕ → Option Kind) (parts : StructureSets) (m : Mem) (got : List ℕ) (c : ItdCopy) → Tells m parts → IsMetItd met c.held.at (parts c.held.at) → IsCopiedItd met parts got c → c.held.slot.active ≡ true → IsItdSent parts m c
-itd_sent met parts m got c told mine copied on =
+pub itd_is_sent : (met : ℕ → Option Kind) (parts : StructureSets) (m : Mem) (got : List ℕ) (c : ItdCopy) → Tells m parts → IsMetItd met c.held.at (parts c.held.at) → IsCopiedItd met parts got c → c.held.slot.active ≡ true → IsItdSent parts m c
+itd_is_sent met parts m got c told mine copied on =
     let h : HeldItd = c.held in
     let count : ℕ = (itd_transaction h).bytes in
     let few : count ≤ h.slot.length - h.moved = bytes_at_most h h.itd.dir_in in

@@ -28,7 +28,7 @@ use Rattle.law_frames.specs.FrameHand.{SitdCopy}
 use Rattle.law_frames.specs.Frame.{turned, IsMoved, IsTurned}
 use Rattle.law_frames.specs.FrameEffects.{sitd_back}
 use Rattle.law_frames.proofs.Counted.{in_few as moved_in}
-use Rattle.law_frames.proofs.PartTurning.{place_moved}
+use Rattle.law_frames.proofs.PartTurning.{its_place_moves_on}
 use Rattle.law_frames.specs.SitdBacks.{IsSitdInHand, AreRead, received_by, AreReceivedBy, parts_after, IsCounted}
 use Rattle.law_frames.proofs.Turned.{unmoved, works_active}
 use Rattle.law_frames.proofs.Reaching.{all_read, fewer_buffered, put_there, received_told, received_written, split_is_no_buffer, received_else, still_buffered}
@@ -78,10 +78,10 @@ few_at v false = omega arith
 sends_few : (v : Sitd) → (sitd_transaction v).bytes ≤ v.total
 sends_few v = few_at v v.dir_in
 
-pub sent : (met : ℕ → Option Kind) (parts : StructureSets) (m : Mem) (reply : Reply) (c : SitdCopy) (u : ℕ) → IsSitdInHand met parts m reply c → c.held.settled ≡ None
+pub sitd_is_sent : (met : ℕ → Option Kind) (parts : StructureSets) (m : Mem) (reply : Reply) (c : SitdCopy) (u : ℕ) → IsSitdInHand met parts m reply c → c.held.settled ≡ None
     → sitd_turn u c.held.sitd ≡ turns.Work
     → AreRead (parts c.held.at) (sitd_pages c.held.sitd) (sitd_place c.held.sitd) (sitd_transaction c.held.sitd).bytes m
-sent met parts m reply c u k none turn =
+sitd_is_sent met parts m reply c u k none turn =
     let v : Sitd = c.held.sitd in
     let few = sends_few v in
     let left : HasBytes (parts c.held.at) (record v { link = c.sitd.link }) = subst (HasBytes (parts c.held.at)) (sym (unmoved met parts reply c k.copied none)) (has_bytes met parts m reply c k) in
@@ -188,7 +188,7 @@ module _ (met : ℕ → Option Kind) (parts : StructureSets) (m : Mem) (reply : 
       let within = before.within in
       let h : HoldsBuffer m (place (sitd_pages v) before.start) (sitd_pages v) before.start before.bytes = k.tells.each c.held.at (place (sitd_pages v) before.start) (Buffer (sitd_pages v) before.start before.bytes) before.here in
       let room = h.within in
-      let at : sitd_place (moved_sitd (moved_by o) v) ≡ sitd_place v + moved_by o = place_moved (moved_by o) v (omega (arith, left, some, within, room)) in
+      let at : sitd_place (moved_sitd (moved_by o) v) ≡ sitd_place v + moved_by o = its_place_moves_on (moved_by o) v (omega (arith, left, some, within, room)) in
       let still = still_buffered parts c.held.at (sitd_pages v) (sitd_place v) (received_by c o reply) into (sitd_pages v) before.start before.bytes c.held.at c.sitd (sitd_back c (moved_by o)) received k.copied.here before.here in
       let long = still.long in
       record {

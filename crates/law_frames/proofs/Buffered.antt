@@ -12,7 +12,7 @@ use Rattle.law_structures.specs.lent_structures.Structures.{Structure, Buffer, H
 use Rattle.law_structures.specs.lent_structures.Changes.{overwritten}
 use Rattle.law_structures.proofs.lemmas.lent_structures.Names.{names_differ, put_here, put_else, put_beside}
 use Rattle.law_structures.proofs.lemmas.lent_structures.Reading.{bytes_part, bytes_reached, part_reached}
-use Rattle.law_structures.proofs.lemmas.lent_structures.Storing.{bytes_put, length-overwritten}
+use Rattle.law_structures.proofs.lemmas.lent_structures.Storing.{bytes_are_told, length-overwritten}
 use Rattle.law_structures.specs.lent_structures.Alters.{Alters}
 use Rattle.law_structures.proofs.lemmas.lent_structures.Altering.{unaltered, buffer_put}
 use Rattle.law_structures.specs.lent_structures.WriteBack.{Received, Nothing, Into, received_parts}
@@ -119,7 +119,7 @@ some_put m parts n pages from got told b small =
           (subst (λ (k : ℕ). AreReached m pages k (length got)) e
           (part_reached m (place pages b.start) pages b.start b.bytes j (length got) (told.each n (place pages b.start) (Buffer pages b.start b.bytes) b.here) fits));
       tells = subst (λ (k : ℕ). Tells (with_bytes m pages k got) (put parts n (place pages b.start) (Buffer pages b.start (overwritten b.bytes j got)))) e
-          (bytes_put m parts n (place pages b.start) pages b.start b.bytes j got told b.here fits small);
+          (bytes_are_told m parts n (place pages b.start) pages b.start b.bytes j got told b.here fits small);
     }
 
 pub all_put : (m : Mem) (parts : StructureSets) (n : ℕ) (pages : List ℕ) (from : ℕ) (got : List ℕ) → Tells m parts → from ≤ size_of pages → (0 < length got → IsBuffered (parts n) pages from (length got)) → ((i : ℕ) → slice_index got i < 256) → IsPut m parts n pages from got

@@ -182,13 +182,13 @@ module _ (met : ℕ → Option Kind) (parts : StructureSets) (p : FramePlace) (k
     read : LeavesRead parts p new (step_of p)
     read = record { later = left.later; reads = left.reads; in_hand = left.walk.held; cursor = left.cursor; memory = left.memory; registers = left.registers }
 
-pub nothing_happens : {W : Type 0} (transacts : W → Ask → List ℕ → Reply → W → Type 0) (met : ℕ → Option Kind) (parts : StructureSets) (p : FramePlace) (wire : W) (new : FramePlace) (after : W) → IsFrame met parts Nothing p
+pub each_event_with_nothing_in_hand : {W : Type 0} (transacts : W → Ask → List ℕ → Reply → W → Type 0) (met : ℕ → Option Kind) (parts : StructureSets) (p : FramePlace) (wire : W) (new : FramePlace) (after : W) → IsFrame met parts Nothing p
     → AreBytesHeard transacts wire after → Leads transacts p wire new after → FrameHappens transacts met parts Nothing wire after p new (step_of p)
-nothing_happens transacts met parts p wire new after k heard leads = event met parts p k transacts wire new after leads
+each_event_with_nothing_in_hand transacts met parts p wire new after k heard leads = event met parts p k transacts wire new after leads
 
-pub cursor_read : {W : Type 0} (transacts : W → Ask → List ℕ → Reply → W → Type 0) (met : ℕ → Option Kind) (parts : StructureSets) (p : FramePlace) (wire : W) (new : FramePlace) (after : W) → IsFrame met parts Nothing p
+pub cursor_is_read : {W : Type 0} (transacts : W → Ask → List ℕ → Reply → W → Type 0) (met : ℕ → Option Kind) (parts : StructureSets) (p : FramePlace) (wire : W) (new : FramePlace) (after : W) → IsFrame met parts Nothing p
     → Leads transacts p wire new after → LeavesRead parts p new (step_of p)
-cursor_read transacts met parts p wire new after k leads = read met parts p k transacts wire new after leads
+cursor_is_read transacts met parts p wire new after k leads = read met parts p k transacts wire new after leads
 
-pub no_node : (met : ℕ → Option Kind) (parts : StructureSets) (p : FramePlace) (a : ℕ) → IsFrame met parts Nothing p → p.walk.cursor ≡ links.Fstn a → ⊥
-no_node met parts p a k at = subst (LeadsTo met) at k.walk.cursor
+pub no_traversal_node_is_met : (met : ℕ → Option Kind) (parts : StructureSets) (p : FramePlace) (a : ℕ) → IsFrame met parts Nothing p → p.walk.cursor ≡ links.Fstn a → ⊥
+no_traversal_node_is_met met parts p a k at = subst (LeadsTo met) at k.walk.cursor

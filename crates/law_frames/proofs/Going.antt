@@ -13,8 +13,8 @@ use Rattle.law_frames.specs.FrameHand.{FrameHand}
 use Rattle.law_frames.specs.Frame.{IsFrame}
 use Rattle.law_frames.specs.FrameEffects.{FrameEffect, FrameHappens}
 use Rattle.law_frames.specs.Walks.{HearsBytes, Walks, over, and_then, IsNoFault, none, first, IsWalked}
-use Rattle.law_frames.proofs.Leaving.{others_stay}
-use Rattle.law_frames.proofs.Walking.{event_happens, foreign_stays, never_a_fault}
+use Rattle.law_frames.proofs.Leaving.{unmet_stays}
+use Rattle.law_frames.proofs.Walking.{event_happens, foreign_stays, no_event_is_a_fault}
 
 not_the_fault : (kind : WalkStep) → (kind ≡ steps.Fault → ⊥) → IsNoFault kind
 not_the_fault steps.Fault other = other refl
@@ -38,9 +38,9 @@ module _ {W : Type 0} (transacts : W → Ask → List ℕ → Reply → W → Ty
         later = w.later;
         frame = w.frame;
         events = first kind rest p mid wire between parts hand is leads h w.events;
-        beside = λ n other. w.beside n other ∙ others_stay transacts met parts hand p wire between h.now h.later kind k h.effect n other;
+        beside = λ n other. w.beside n other ∙ unmet_stays transacts met parts hand p wire between h.now h.later kind k h.effect n other;
         registers = w.registers ∙ h.registers;
-        no_faults = (not_the_fault kind (λ fault. never_a_fault met parts hand p k (is ∙ fault)), w.no_faults);
+        no_faults = (not_the_fault kind (λ fault. no_event_is_a_fault met parts hand p k (is ∙ fault)), w.no_faults);
         not_refused = λ runs.
             w.not_refused (ap (λ (b : Base). b.run) h.registers ∙ runs)
             ∙ foreign_stays transacts met parts hand p wire mid between k runs (heard wire between) leads;

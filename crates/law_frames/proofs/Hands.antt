@@ -8,15 +8,15 @@ use Rattle.law_frames.specs.Met.{Kind, AQueue, AnItd, ASitd}
 use Rattle.law_frames.specs.FrameHand.{FrameHand, Nothing, OfQueue, OfSettled, OfItd, OfSitd, fetched_copy}
 use Rattle.law_frames.specs.Frame.{IsInFrame}
 
-pub fetched_stands : (a : ℕ) (q : Qh) → copied_queue (fetched_copy a q) ≡ q
-fetched_stands a q = refl
+pub what_is_fetched_is_what_stands : (a : ℕ) (q : Qh) → copied_queue (fetched_copy a q) ≡ q
+what_is_fetched_is_what_stands a q = refl
 
 none_met : (k : Kind) → None ≡ Some k → ⊥
 none_met k e = cc
 
-pub nothing_in_hand : (parts : StructureSets) (got : List ℕ) (reply : Reply) (hand : FrameHand) → IsInFrame (λ a. None) parts got reply hand → hand ≡ Nothing
-nothing_in_hand parts got reply Nothing k = refl
-nothing_in_hand parts got reply (OfQueue c made) k = absurd (none_met AQueue k.on)
-nothing_in_hand parts got reply (OfSettled c s made) k = absurd (none_met AQueue k.0.on)
-nothing_in_hand parts got reply (OfItd c) k = absurd (none_met AnItd k.on)
-nothing_in_hand parts got reply (OfSitd c) k = absurd (none_met ASitd k.on)
+pub where_nothing_is_met_nothing_is_in_hand : (parts : StructureSets) (got : List ℕ) (reply : Reply) (hand : FrameHand) → IsInFrame (λ a. None) parts got reply hand → hand ≡ Nothing
+where_nothing_is_met_nothing_is_in_hand parts got reply Nothing k = refl
+where_nothing_is_met_nothing_is_in_hand parts got reply (OfQueue c made) k = absurd (none_met AQueue k.on)
+where_nothing_is_met_nothing_is_in_hand parts got reply (OfSettled c s made) k = absurd (none_met AQueue k.0.on)
+where_nothing_is_met_nothing_is_in_hand parts got reply (OfItd c) k = absurd (none_met AnItd k.on)
+where_nothing_is_met_nothing_is_in_hand parts got reply (OfSitd c) k = absurd (none_met ASitd k.on)

@@ -29,9 +29,9 @@ use Rattle.law_frames.specs.FrameHand.{ItdCopy, Nothing, OfItd}
 use Rattle.law_frames.specs.Frame.{IsFrame}
 use Rattle.law_frames.specs.FrameEffects.{itd_parts, of_itd, passes, makes, writes, FrameHappens}
 use Rattle.law_frames.specs.ItdBacks.{IsItdSent, IsItdBack}
-use Rattle.law_frames.proofs.Backing.{itd_sent as sent_is, itd_back_is}
+use Rattle.law_frames.proofs.Backing.{itd_is_sent as sent_is, itd_back_is}
 use Rattle.law_frames.specs.ItdSteps.{AreBytes}
-use Rattle.law_frames.proofs.Heard.{heard_keeps}
+use Rattle.law_frames.proofs.Heard.{heard_keeps_copy}
 
 -- ---- those that are met, once the iTD is written back
 
@@ -92,7 +92,7 @@ module _ {W : Type 0} (transacts : W → Ask → List ℕ → Reply → W → Ty
               walk = record {
                 cursor = k.walk.cursor;
                 held = refl;
-                in_hand = heard_keeps met parts p.walk.got asked.reply c k.walk.in_hand going active (are_heard t.ask s.out asked.reply asked.made);
+                in_hand = heard_keeps_copy met parts p.walk.got asked.reply c k.walk.in_hand going active (are_heard t.ask s.out asked.reply asked.made);
               };
             });
         registers = ap (λ (x : FramePlace). base_of x.registers) asked.place;
@@ -147,6 +147,6 @@ module _ {W : Type 0} (transacts : W → Ask → List ℕ → Reply → W → Ty
       subst Comes (sym (ap (step_at p) k.walk.held))
       (by_end c.held.ended refl (subst (λ (hand : Option Hand). HasEffect transacts (effect_at p hand) wire new after) k.walk.held lead))
 
-pub itd_happens : {W : Type 0} (transacts : W → Ask → List ℕ → Reply → W → Type 0) (met : ℕ → Option Kind) (parts : StructureSets) (c : ItdCopy) (p : FramePlace) (wire : W) (new : FramePlace) (after : W) → IsFrame met parts (OfItd c) p
+pub each_event_at_an_itd : {W : Type 0} (transacts : W → Ask → List ℕ → Reply → W → Type 0) (met : ℕ → Option Kind) (parts : StructureSets) (c : ItdCopy) (p : FramePlace) (wire : W) (new : FramePlace) (after : W) → IsFrame met parts (OfItd c) p
     → AreBytesHeard transacts wire after → Leads transacts p wire new after → FrameHappens transacts met parts (OfItd c) wire after p new (step_of p)
-itd_happens transacts met parts c p wire new after k heard lead = itd_event transacts met parts wire after heard c p new k lead
+each_event_at_an_itd transacts met parts c p wire new after k heard lead = itd_event transacts met parts wire after heard c p new k lead

@@ -103,5 +103,5 @@ module _ (met : ℕ → Option Kind) (parts : StructureSets) (got : List ℕ) (r
   way_copied true way going = in_copied way (in_held c.held reply copied.held going)
   way_copied false way going = out_copied way (out_held c.held copied.held going)
 
-pub heard_keeps : (met : ℕ → Option Kind) (parts : StructureSets) (got : List ℕ) (reply : Reply) (c : ItdCopy) → IsCopiedItd met parts got c → c.held.ended ≡ None → c.held.slot.active ≡ true → AreBytes (bytes_of reply) → IsCopiedItd met parts (got_after c.held reply got) (record c { held = itd_after reply c.held })
-heard_keeps met parts got reply c copied going active small = way_copied met parts got reply c copied active small c.held.itd.dir_in refl going
+pub heard_keeps_copy : (met : ℕ → Option Kind) (parts : StructureSets) (got : List ℕ) (reply : Reply) (c : ItdCopy) → IsCopiedItd met parts got c → c.held.ended ≡ None → c.held.slot.active ≡ true → AreBytes (bytes_of reply) → IsCopiedItd met parts (got_after c.held reply got) (record c { held = itd_after reply c.held })
+heard_keeps_copy met parts got reply c copied going active small = way_copied met parts got reply c copied active small c.held.itd.dir_in refl going

@@ -15,7 +15,7 @@ use Rattle.law_frames.specs.Frame.{IsCopiedItd, IsFrame}
 use Rattle.law_frames.specs.FrameEffects.{itd_back}
 use Rattle.law_frames.specs.PartSamples.{met, parts, in_hand, heard}
 use Rattle.law_frames.proofs.PartSampled.{after_it}
-use Rattle.law_frames.proofs.Heard.{heard_keeps}
+use Rattle.law_frames.proofs.Heard.{heard_keeps_copy}
 use Rattle.law_frames.specs.ItdSteps.{AreBytes}
 use Rattle.law_frames.specs.ItdStepSamples.{at, hears, left, too_long, babbled}
 
@@ -73,4 +73,4 @@ none_noted = refl
 
 pub still_copied : IsCopiedItd met parts [] babbled
 unfolding fetched_itd
-still_copied = heard_keeps met parts [] too_long in_hand after_it.walk.in_hand refl refl three_small
+still_copied = heard_keeps_copy met parts [] too_long in_hand after_it.walk.in_hand refl refl three_small

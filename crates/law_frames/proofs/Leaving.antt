@@ -17,8 +17,8 @@ use Rattle.law_frames.specs.Met.{Kind, AQueue, AnItd, ASitd}
 use Rattle.law_frames.specs.FrameHand.{settled_in, ItdCopy, SitdCopy, FrameHand, OfQueue, OfItd, OfSitd}
 use Rattle.law_frames.specs.Frame.{IsCopiedQueue, IsCopiedItd, IsCopiedSitd, IsInFrame}
 use Rattle.law_frames.specs.FrameEffects.{IsWrittenFrom, made as was_made, missed as was_missed, itd_back, sitd_back, WritesOne, of_queue, of_itd, of_sitd, FrameEffect, fetches, passes, ends, makes, takes, writes}
-use Rattle.law_frames.specs.Walks.{LeavesOthers}
-use Rattle.law_frames.proofs.QueueBacks.{hand_settled}
+use Rattle.law_frames.specs.Walks.{UnmetStays}
+use Rattle.law_frames.proofs.QueueBacks.{hand_is_settled}
 
 queue_on : (met : ℕ → Option Kind) (parts : StructureSets) (w : Walk) (hand : FrameHand) (c : Copy) (made : ℕ) → IsInFrame met parts w.got w.reply hand → hand ≡ OfQueue c made → met c.at ≡ Some AQueue
 queue_on met parts w hand c made k is = let copied : IsCopiedQueue met parts c = subst (IsInFrame met parts w.got w.reply) is k in copied.on
@@ -45,7 +45,7 @@ write_leaves : (met : ℕ → Option Kind) (parts : StructureSets) (w : Walk) (h
 write_leaves met parts w hand now later n k (of_queue r) other =
     ap (λ (x : StructureSets). x n) r.now_is
     ∙ back_beside parts r.copy.at r.copy.at r.copy.queue (settled_in r.copy r.settled) (moved_by r.settled.outcome) r.settled.got (received_into (parts r.copy.at) r.copy.queue r.element r.settled.got) r.element n
-    (other r.copy.at AQueue (hand_settled met parts w hand r.copy r.settled r.made k r.from).0.on)
+    (other r.copy.at AQueue (hand_is_settled met parts w hand r.copy r.settled r.made k r.from).0.on)
 write_leaves met parts w hand now later n k (of_itd r) other =
     let differs = other r.copy.held.at AnItd (itd_on met parts w hand r.copy k r.in_hand) in
     ap (λ (x : StructureSets). x n) r.now_is
@@ -73,5 +73,5 @@ frame_leaves transacts met parts w hand wire after now later _ n k (writes r qui
 not_met : (met : ℕ → Option Kind) (n : ℕ) → met n ≡ None → (a : ℕ) (kind : Kind) → met a ≡ Some kind → n ≢ a
 not_met met n other a kind on same = let e : None ≡ Some kind = sym other ∙ ap met same ∙ on in cc
 
-pub others_stay : {W : Type 0} (transacts : W → Ask → List ℕ → Reply → W → Type 0) → LeavesOthers transacts
-others_stay transacts met parts hand p wire after now later kind k effect n other = frame_leaves transacts met parts p.walk hand wire after now later kind n k.walk.in_hand effect (not_met met n other)
+pub unmet_stays : {W : Type 0} (transacts : W → Ask → List ℕ → Reply → W → Type 0) → UnmetStays transacts
+unmet_stays transacts met parts hand p wire after now later kind k effect n other = frame_leaves transacts met parts p.walk hand wire after now later kind n k.walk.in_hand effect (not_met met n other)

@@ -22,9 +22,9 @@ use Rattle.hc_copy.specs.Transacting.{outcome_in, host_after}
 use Rattle.hc_interrupt.specs.Turns.{planned, is_last_of}
 use Rattle.hc_interrupt.specs.Copies.{interrupt_copy}
 use Rattle.law_structures.specs.lent_structures.Settles.{Settles}
-use Rattle.law_structures.proofs.lemmas.lent_structures.Settling.{settles}
+use Rattle.law_structures.proofs.lemmas.lent_structures.Settling.{a_transaction_settles}
 use Rattle.law_structures.specs.lent_structures.Structures.{Buffer, StructureSets}
-use Rattle.law_structures.proofs.lemmas.lent_structures.WrittenBack.{sent_there, none_sent}
+use Rattle.law_structures.proofs.lemmas.lent_structures.WrittenBack.{sent_is_told, nothing_is_sent}
 use Rattle.law_structures.specs.lent_structures.Sound.{HasBuffer, IsReady, IsWorking, IsSoundElement}
 use Rattle.law_ring.specs.Hand.{Copy, copied_queue}
 use Rattle.law_frames.specs.Met.{Kind}
@@ -58,7 +58,7 @@ some_sent met m parts c v w has =
     let inside : j + n ≤ length has.bytes = omega (arith, stands, fewer, size, few) in
     record {
       out = take n (drop j has.bytes);
-      read = sent_there m parts c.at (place (pages_of c.queue) t.offset) (planned c.queue) (copied_queue c) t.offset has.bytes j v.tells here (omega (arith, stands, fewer)) inside;
+      read = sent_is_told m parts c.at (place (pages_of c.queue) t.offset) (planned c.queue) (copied_queue c) t.offset has.bytes j v.tells here (omega (arith, stands, fewer)) inside;
       are = record {
         count = (let l = length-take n (drop j has.bytes) in let d = length-drop j has.bytes in omega (arith, l, d, inside));
         are = λ some. record { start = t.offset; bytes = has.bytes; here = here; after = omega (arith, stands, fewer); are = refl };
@@ -68,14 +68,14 @@ some_sent met m parts c v w has =
 sent_by : (met : ℕ → Option Kind) (m : Mem) (parts : StructureSets) (c : Copy) → IsQueueVisit met m parts c → (w : IsWorking (parts c.at) c.queue) → IsReady (parts c.at) w.element → (n : ℕ) → (planned c.queue).bytes ≡ n → AreAllSent m parts c
 sent_by met m parts c v w ready zero e = record {
   out = [];
-  read = none_sent m (planned c.queue) (copied_queue c) v.copied.range e;
+  read = nothing_is_sent m (planned c.queue) (copied_queue c) v.copied.range e;
   are = record { count = sym e; are = λ some. absurd (omega (arith, some, e)) };
 }
 sent_by met m parts c v w ready (suc n) e =
     some_sent met m parts c v w (ready.buffer (let few = bytes_few c.queue in let fewer = w.fewer in omega (arith, few, fewer, e)))
 
-pub all_sent : (met : ℕ → Option Kind) (m : Mem) (parts : StructureSets) (c : Copy) → IsQueueVisit met m parts c → c.queue.token.active ≡ true → AreAllSent m parts c
-all_sent met m parts c v on =
+pub transaction_sends_its_bytes : (met : ℕ → Option Kind) (m : Mem) (parts : StructureSets) (c : Copy) → IsQueueVisit met m parts c → c.queue.token.active ≡ true → AreAllSent m parts c
+transaction_sends_its_bytes met m parts c v on =
     let w : IsWorking (parts c.at) c.queue = (sound_there met m parts c v).work on in
     let sound : IsSoundElement (parts c.at) w.element = v.met_is.part_is.elements c.queue.current w.element w.here in
     sent_by met m parts c v w (sound.work w.published) (planned c.queue).bytes refl
@@ -86,10 +86,10 @@ bytes_got : (pid : Pid) (o : Outcome) (reply : Reply) → HasBytes reply → (i 
 bytes_got Packets.In (outcomes.Moved n) (Bytes sent bs) small i = small sent bs refl i
 bytes_got _ _ _ small i = omega arith
 
-pub settles_so : (f : ℕ) (q : Qh) (out : List ℕ) (reply : Reply) → q.token.active ≡ true → q.c_prog < 256 → q.frame_tag < 32 → length out ≡ (planned q).bytes → HasBytes reply
+pub settles : (f : ℕ) (q : Qh) (out : List ℕ) (reply : Reply) → q.token.active ≡ true → q.c_prog < 256 → q.frame_tag < 32 → length out ≡ (planned q).bytes → HasBytes reply
     → IsQueueSettled q reply (frame_settlement f q out reply)
-settles_so f q out reply on low tag count small =
-    let z : Settles Interrupt q out (is_last_of f q) reply = settles Interrupt q out (is_last_of f q) reply count in
+settles f q out reply on low tag count small =
+    let z : Settles Interrupt q out (is_last_of f q) reply = a_transaction_settles Interrupt q out (is_last_of f q) reply count in
     record {
       came_to = record {
         works = on;

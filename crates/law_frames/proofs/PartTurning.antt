@@ -53,6 +53,6 @@ page_at : (o n : ℕ) (p : Bool) → bit p * 4096 + o + n < 8192 → bit (p || n
 page_at o n true within = omega (arith, within)
 page_at o n false within = into_second o n (nat_le 4096 (o + n)) (leb_tells 4096 (o + n)) (omega (arith, within))
 
-pub place_moved : (n : ℕ) (v : Sitd) → sitd_place v + n < 8192 → sitd_place (moved_sitd n v) ≡ sitd_place v + n
+pub its_place_moves_on : (n : ℕ) (v : Sitd) → sitd_place v + n < 8192 → sitd_place (moved_sitd n v) ≡ sitd_place v + n
 unfolding moved_sitd
-place_moved n v within = page_at v.offset n v.page_select within
+its_place_moves_on n v within = page_at v.offset n v.page_select within

@@ -38,7 +38,7 @@ use Rattle.law_structures.proofs.lemmas.lent_structures.Storing.{length-overwrit
 use Rattle.law_structures.specs.lent_structures.WriteBack.{Received, Nothing, Into, IsReceived, received_parts, CanBeWritten, qtd_after, parts_back}
 use Rattle.law_structures.proofs.lemmas.lent_structures.WrittenBack.{head_is_no_buffer, received_else, between_element}
 use Rattle.law_structures.specs.lent_structures.Alters.{IsAfter, Alters}
-use Rattle.law_structures.proofs.lemmas.lent_structures.Altering.{is_itself, unaltered, altered_both, head_put, element_put, buffer_put}
+use Rattle.law_structures.proofs.lemmas.lent_structures.Altering.{is_itself, unaltered, altered_both, a_queue_head_alters_nothing, a_token_alters_its_qtd, buffer_put}
 use Rattle.law_ring.specs.Hand.{Copy, copied_queue, settled_queue_of}
 use Rattle.law_ring.proofs.Writing.{IsSettledCopy, IsWritten, settled_range as came_range}
 use Rattle.law_frames.specs.Met.{Kind}
@@ -180,10 +180,10 @@ miss_halts c made = (record { missed = refl; halted = refl; idle = refl; left = 
 
 -- ---- whatever is written back is settled
 
-pub hand_settled : (met : ℕ → Option Kind) (parts : StructureSets) (w : Walk) (hand : FrameHand) (c : Copy) (z : QueueSettlement) (made : ℕ) → IsInFrame met parts w.got w.reply hand
+pub hand_is_settled : (met : ℕ → Option Kind) (parts : StructureSets) (w : Walk) (hand : FrameHand) (c : Copy) (z : QueueSettlement) (made : ℕ) → IsInFrame met parts w.got w.reply hand
     → IsSettledFrom w hand c z made → IsCopiedQueue met parts c × IsQueueSettled c.queue w.reply z
-hand_settled met parts w hand c z made k (was_worked is) = subst (IsInFrame met parts w.got w.reply) is k
-hand_settled met parts w hand c z made k (was_missed is turn same) =
+hand_is_settled met parts w hand c z made k (was_worked is) = subst (IsInFrame met parts w.got w.reply) is k
+hand_is_settled met parts w hand c z made k (was_missed is turn same) =
     let copied : IsCopiedQueue met parts c = subst (IsInFrame met parts w.got w.reply) is k in
     let small = marks_small (copied_queue c) copied.range in
     (copied, subst (IsQueueSettled c.queue w.reply) (sym same) (miss_settles w.index c.queue w.reply turn small.0 small.1))
@@ -208,7 +208,7 @@ back_alters parts n q x count got r t can =
     let there : Alters (parts n) (mid n) =
     altered_both (parts n) (first n) (mid n) (received_alters parts n x got r can.received)
     (subst (Alters (first n)) (sym (put_here first n n (QueueHead (relinked q new))))
-    (head_put (first n) n q (relinked q new) (received_else parts n x got r n (QueueHead q) can.received can.copy.head (head_is_no_buffer q)))) in
+    (a_queue_head_alters_nothing (first n) n q (relinked q new) (received_else parts n x got r n (QueueHead q) can.received can.copy.head (head_is_no_buffer q)))) in
     altered_both (parts n) (mid n) (parts_back parts n n q x count got r t n) there
     (subst (Alters (mid n)) (sym (put_here mid n x.current (Element (qtd_after new t))))
-    (element_put (mid n) x.current t (qtd_after new t) (between_element parts n n q x new got r t can) (ended_after new t new.token.active refl)))
+    (a_token_alters_its_qtd (mid n) x.current t (qtd_after new t) (between_element parts n n q x new got r t can) (ended_after new t new.token.active refl)))

@@ -22,7 +22,7 @@ use Rattle.law_frames.specs.FrameHand.{settled_in, OfQueue, OfSettled}
 use Rattle.law_frames.specs.Frame.{IsFrame}
 use Rattle.law_frames.specs.QueueVisitSamples.{queue, memory, met, parts, copy, settled, heard}
 use Rattle.law_frames.specs.QueueVisitLaws.{held_copy}
-use Rattle.law_frames.proofs.Making.{all_sent, copy_settles}
+use Rattle.law_frames.proofs.Making.{transaction_sends_its_bytes, copy_settles}
 use Rattle.law_frames.proofs.Writing.{received_same}
 use Rattle.law_frames.proofs.QueueVisitSampled.{visit_is, settled_so, back_is}
 use Rattle.law_frames.specs.QueueStepSamples.{fetched, made, is_heard}
@@ -47,7 +47,8 @@ after_it = record {
 }
 
 pub transacts_it : step_of fetched ≡ steps.Transact
-transacts_it = ap (λ (r : Reading). if r.all then steps.Transact else steps.Fault) (all_sent met memory parts copy visit_is refl).read
+transacts_it = ap (λ (r : Reading). if r.all then steps.Transact else steps.Fault)
+    (transaction_sends_its_bytes met memory parts copy visit_is refl).read
 
 pub writes_it : step_of made ≡ steps.WriteBack
 unfolding with_split settled_queue
@@ -69,4 +70,4 @@ sent_from r =
     sent r.all (call_in (planned queue) r.bytes (is_last_of 0 queue)).ask (call_in (planned queue) r.bytes (is_last_of 0 queue)).out (queue_left_by (planned queue) r.bytes (record { copy = held_copy copy; made = 0 }) there) there
 
 pub leads_it : Leads is_heard fetched 0 made 1
-leads_it = subst (λ (r : Reading). HasEffect is_heard (sent_from r) 0 made 1) (sym (all_sent met memory parts copy visit_is refl).read) (record { reply = heard; made = (refl, refl); place = refl })
+leads_it = subst (λ (r : Reading). HasEffect is_heard (sent_from r) 0 made 1) (sym (transaction_sends_its_bytes met memory parts copy visit_is refl).read) (record { reply = heard; made = (refl, refl); place = refl })

@@ -16,8 +16,8 @@ use Rattle.law_frames.specs.Frame.{IsQueueSettled}
 use Rattle.law_frames.specs.Met.{IsMetQueue}
 use Rattle.law_frames.specs.Visits.{IsQueueVisit, IsWrittenBack}
 use Rattle.law_frames.specs.QueueVisitSamples.{queue, memory, parts, met, copy, heard, settled}
-use Rattle.law_frames.proofs.Making.{settles_so}
-use Rattle.law_frames.proofs.Writing.{visit_written}
+use Rattle.law_frames.proofs.Making.{settles}
+use Rattle.law_frames.proofs.Writing.{write_back_keeps_visit}
 
 -- ---- the structures stand in memory
 
@@ -93,7 +93,7 @@ two_small (suc zero) = omega arith
 two_small _ = omega arith
 
 pub settled_so : IsQueueSettled queue heard settled
-settled_so = settles_so 0 queue [] heard refl (omega arith) (omega arith) refl (λ pid bs same i. subst (λ (r : Reply). slice_index (heard_in r) i < 256) same (two_small i))
+settled_so = settles 0 queue [] heard refl (omega arith) (omega arith) refl (λ pid bs same i. subst (λ (r : Reply). slice_index (heard_in r) i < 256) same (two_small i))
 
 pub back_is : IsWrittenBack met memory parts copy settled
-back_is = visit_written met memory parts copy settled heard visit_is settled_so
+back_is = write_back_keeps_visit met memory parts copy settled heard visit_is settled_so

@@ -16,8 +16,8 @@ own_still part now alters own a b t u pages k bs one other same there =
     let buffer = alters.buffer_before (buffer_name t) pages k bs there in
     own a b first.qtd second.qtd pages k buffer.bytes first.here second.here (sym name ∙ same ∙ name_after second.qtd u second.after) (ap part (sym name) ∙ buffer.here)
 
-pub queue_still : (n : ℕ) (part now : Structures) (new : Qh) → IsQueuePart n part → Alters part now → now n ≡ Some (QueueHead new) → IsSoundQueue now new → IsQueuePart n now
-queue_still n part now new old alters here sound = record {
+pub an_altered_queue_part_is_sound : (n : ℕ) (part now : Structures) (new : Qh) → IsQueuePart n part → Alters part now → now n ≡ Some (QueueHead new) → IsSoundQueue now new → IsQueuePart n now
+an_altered_queue_part_is_sound n part now new old alters here sound = record {
   queue = new;
   here = here;
   sound = sound;
@@ -25,15 +25,15 @@ queue_still n part now new old alters here sound = record {
   own = own_still part now alters old.own;
 }
 
-pub linked_part : (member : ℕ → Bool) (n : ℕ) (part : Structures) → IsMember member n part → IsLinkedPart member n part
+pub a_members_part_is_linked : (member : ℕ → Bool) (n : ℕ) (part : Structures) → IsMember member n part → IsLinkedPart member n part
 unfolding member_part
-linked_part member n part k = record {
+a_members_part_is_linked member n part k = record {
   part_is = member_part member n part k;
   link = k.link;
 }
 
-pub members_part : (member : ℕ → Bool) (n : ℕ) (part : Structures) → IsLinkedPart member n part → IsMember member n part
-members_part member n part k = record {
+pub a_linked_part_is_a_members : (member : ℕ → Bool) (n : ℕ) (part : Structures) → IsLinkedPart member n part → IsMember member n part
+a_linked_part_is_a_members member n part k = record {
   queue = k.part_is.queue;
   here = k.part_is.here;
   link = k.link;

@@ -13,7 +13,7 @@ use Rattle.law_structures.specs.lent_structures.Structures.{Structure, Buffer, S
 use Rattle.law_structures.specs.lent_structures.Changes.{overwritten}
 use Rattle.law_structures.proofs.lemmas.lent_structures.Names.{names_differ, put_same, put_else}
 use Rattle.law_structures.proofs.lemmas.lent_structures.Reading.{bytes_part, bytes_reached, part_reached}
-use Rattle.law_structures.proofs.lemmas.lent_structures.Storing.{bytes_put, length-overwritten}
+use Rattle.law_structures.proofs.lemmas.lent_structures.Storing.{bytes_are_told, length-overwritten}
 use Rattle.law_structures.specs.lent_structures.WriteBack.{Received, Nothing, Into, received_parts}
 use Rattle.law_frames.specs.Met.{IsBuffered}
 use Rattle.law_frames.specs.FrameEffects.{AreReceivedAt}
@@ -104,7 +104,7 @@ received_told m parts n pages from got Nothing told none =
 received_told m parts n pages from got (Into ps k bs j) told into =
     subst (λ (xs : List ℕ). Tells (with_bytes m xs from got) (put parts n (place ps k) (Buffer ps k (overwritten bs j got)))) (sym into.pages_are)
     (subst (λ (at : ℕ). Tells (with_bytes m ps at got) (put parts n (place ps k) (Buffer ps k (overwritten bs j got)))) (sym into.place_is)
-    (bytes_put m parts n (place ps k) ps k bs j got told into.buffer into.fits into.bytes))
+    (bytes_are_told m parts n (place ps k) ps k bs j got told into.buffer into.fits into.bytes))
 
 written_whole : (m : Mem) (pages : List ℕ) (from : ℕ) (got : List ℕ) → from + length got ≤ size_of pages → AreReached m pages from (length got)
     → bytes_written pages from got m ≡ record { memory = with_bytes m pages from got; all = true }

@@ -10,12 +10,12 @@ use Rattle.hc_masks.specs.Masks.{lacks}
 use Rattle.hc_iso.specs.Sitd.{after_complete}
 use Rattle.law_structures.specs.lent_structures.Structures.{Structure, Buffer, SplitIsochronous, HoldsBuffer, HoldsSplitIsochronous, put, Has, AreSeparate, Tells}
 use Rattle.law_structures.proofs.lemmas.lent_structures.Names.{put_found}
-use Rattle.law_structures.proofs.lemmas.lent_structures.Telling.{joined}
+use Rattle.law_structures.proofs.lemmas.lent_structures.Telling.{another_is_told}
 use Rattle.law_frames.specs.Met.{IsMetSitd}
 use Rattle.law_frames.specs.Frame.{IsCopiedSitd}
 use Rattle.law_frames.specs.SitdBacks.{IsSitdInHand, missed, AreReceivedBy}
 use Rattle.law_frames.specs.SitdBackSamples.{sitd, pages, bytes, met, memory, nothing, parts, fetched, heard, moved, into}
-use Rattle.law_frames.proofs.Turned.{transacted_in_hand, missed_in_hand}
+use Rattle.law_frames.proofs.Turned.{transacted_is_in_hand, missed_is_in_hand}
 
 shaped : IsShaped memory
 unfolding sitd_words
@@ -72,7 +72,7 @@ in_block_three b (suc zero, below, is) = is
 in_block_three b (suc (suc i), below, is) = absurd (omega (arith, below))
 
 one_told : Tells memory (put nothing 64 64 (SplitIsochronous sitd))
-one_told = joined memory nothing 64 64 (SplitIsochronous sitd) none_told sitd_there (λ b k c u has found also. cc)
+one_told = another_is_told memory nothing 64 64 (SplitIsochronous sitd) none_told sitd_there (λ b k c u has found also. cc)
 
 apart : (b k c : ℕ) (u : Structure) → Has 96 (Buffer pages 96 bytes) b → put nothing 64 64 (SplitIsochronous sitd) k c ≡ Some u → Has c u b → ⊥
 apart b k c u has found also =
@@ -83,7 +83,7 @@ apart b k c u has found also =
     (λ (there : nothing k c ≡ Some u). cc) (put_found nothing 64 64 (SplitIsochronous sitd) k c u found)
 
 told : Tells memory parts
-told = joined memory (put nothing 64 64 (SplitIsochronous sitd)) 64 96 (Buffer pages 96 bytes) one_told buffer_there apart
+told = another_is_told memory (put nothing 64 64 (SplitIsochronous sitd)) 64 96 (Buffer pages 96 bytes) one_told buffer_there apart
 
 sitd_met : IsMetSitd met 64 (parts 64)
 sitd_met = record { sitd = sitd; here = refl; link = tt; bytes = λ works some. record { start = 96; bytes = bytes; here = refl; after = omega arith; within = omega arith } }
@@ -100,11 +100,11 @@ small _ = omega arith
 
 pub after : IsSitdInHand met parts memory heard moved
 unfolding lacks
-after = transacted_in_hand met parts memory Silent heard fetched 2 before refl refl (omega arith) small
+after = transacted_is_in_hand met parts memory Silent heard fetched 2 before refl refl (omega arith) small
 
 pub miss : IsSitdInHand met parts memory Silent (missed fetched)
 unfolding lacks
-miss = missed_in_hand met parts memory Silent Silent fetched 3 before refl refl
+miss = missed_is_in_hand met parts memory Silent Silent fetched 3 before refl refl
 
 pub received : AreReceivedBy parts moved (Moved 2) heard into
 unfolding after_complete

@@ -15,7 +15,7 @@ use Rattle.law_frames.specs.FrameHand.{OfSitd}
 use Rattle.law_frames.specs.Frame.{IsFrame}
 use Rattle.law_frames.specs.SitdBacks.{missed, AreReceivedBy}
 use Rattle.law_frames.specs.SitdBackSamples.{met, memory, parts, fetched, heard, moved, into}
-use Rattle.law_frames.proofs.Backs.{sent, all_written}
+use Rattle.law_frames.proofs.Backs.{sitd_is_sent, all_written}
 use Rattle.law_frames.proofs.SitdBackSampled.{before, after, miss, received}
 use Rattle.law_frames.specs.SitdStepSamples.{at, settled}
 
@@ -37,7 +37,7 @@ after_it = record { tells = after.tells; members = members; walk = record { curs
 
 pub transacts_it : step_of (at 2) ≡ steps.Transact
 unfolding lacks
-transacts_it = ap (λ (r : Reading). if r.all then steps.Transact else steps.Fault) (sent met parts memory Silent fetched 2 before refl refl).read
+transacts_it = ap (λ (r : Reading). if r.all then steps.Transact else steps.Fault) (sitd_is_sent met parts memory Silent fetched 2 before refl refl).read
 
 none_received : AreReceivedBy parts (missed fetched) Failed Silent Nothing
 unfolding missed_sitd

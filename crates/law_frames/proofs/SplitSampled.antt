@@ -34,8 +34,8 @@ use Rattle.law_frames.specs.QueueVisitLaws.{HasBytes, held_copy}
 use Rattle.law_frames.specs.QueueVisitSamples.{met}
 use Rattle.law_frames.specs.SplitSamples.{ended_queue, full_queue, split_queue, memory, parts, copy, started, waiting, heard, ended, missed, fetched, begun, is_silent}
 use Rattle.law_frames.proofs.QueueBacks.{miss_settles}
-use Rattle.law_frames.proofs.Making.{all_sent, settles_so, copy_settles}
-use Rattle.law_frames.proofs.Writing.{visit_written}
+use Rattle.law_frames.proofs.Making.{transaction_sends_its_bytes, settles, copy_settles}
+use Rattle.law_frames.proofs.Writing.{write_back_keeps_visit}
 use Rattle.law_frames.proofs.QueueVisitSampled.{IsTheOne, the_first, heard_in, two_small}
 
 -- ---- the structures stand in memory
@@ -113,10 +113,10 @@ silent_small : HasBytes Silent
 silent_small pid bs same i = cc
 
 pub started_so : IsQueueSettled split_queue Silent started
-started_so = settles_so 40 split_queue [] Silent refl (omega arith) (omega arith) refl silent_small
+started_so = settles 40 split_queue [] Silent refl (omega arith) (omega arith) refl silent_small
 
 pub back_is : IsWrittenBack met memory parts copy started
-back_is = visit_written met memory parts copy started Silent visit_is started_so
+back_is = write_back_keeps_visit met memory parts copy started Silent visit_is started_so
 
 members_at : (b : Bool) (n : ℕ) (k : Kind) → (n == 0) ≡ b → (if b then Some AQueue else None) ≡ Some k → IsMetAs met n (parts n) k
 members_at true n k is on =
@@ -138,7 +138,8 @@ after_it = record {
 }
 
 pub transacts_it : step_of fetched ≡ steps.Transact
-transacts_it = ap (λ (r : Reading). if r.all then steps.Transact else steps.Fault) (all_sent met memory parts copy visit_is refl).read
+transacts_it = ap (λ (r : Reading). if r.all then steps.Transact else steps.Fault)
+    (transaction_sends_its_bytes met memory parts copy visit_is refl).read
 
 -- what a reading of its bytes leads to
 abbrev sent_from : Reading → Effect
@@ -147,7 +148,7 @@ sent_from r =
     sent r.all (call_in (planned split_queue) r.bytes (is_last_of 40 split_queue)).ask (call_in (planned split_queue) r.bytes (is_last_of 40 split_queue)).out (queue_left_by (planned split_queue) r.bytes (record { copy = held_copy copy; made = 0 }) there) there
 
 pub leads_it : Leads is_silent fetched 0 begun 1
-leads_it = subst (λ (r : Reading). HasEffect is_silent (sent_from r) 0 begun 1) (sym (all_sent met memory parts copy visit_is refl).read) (record { reply = Silent; made = (refl, refl); place = refl })
+leads_it = subst (λ (r : Reading). HasEffect is_silent (sent_from r) 0 begun 1) (sym (transaction_sends_its_bytes met memory parts copy visit_is refl).read) (record { reply = Silent; made = (refl, refl); place = refl })
 
 -- ---- its complete-split
 
@@ -172,10 +173,10 @@ heard_small : HasBytes heard
 heard_small pid bs same i = subst (λ (r : Reply). slice_index (heard_in r) i < 256) same (two_small i)
 
 ended_so : IsQueueSettled waiting.queue heard ended
-ended_so = settles_so 42 waiting.queue [] heard waiting_active (omega (arith, waiting_prog)) (omega (arith, waiting_tag)) none_out heard_small
+ended_so = settles 42 waiting.queue [] heard waiting_active (omega (arith, waiting_prog)) (omega (arith, waiting_tag)) none_out heard_small
 
 pub ended_back : (v : IsWrittenBack met memory parts copy started) → IsWrittenBack met (back_of copy started memory).memory v.now waiting ended
-ended_back v = visit_written met (back_of copy started memory).memory v.now waiting ended heard v.visit ended_so
+ended_back v = write_back_keeps_visit met (back_of copy started memory).memory v.now waiting ended heard v.visit ended_so
 
 -- ---- a miss
 
@@ -185,5 +186,5 @@ misses_it = refl
 
 pub missed_back : (v : IsWrittenBack met memory parts copy started) → IsWrittenBack met (back_of copy started memory).memory v.now waiting missed
 missed_back v =
-    visit_written met (back_of copy started memory).memory v.now waiting missed Silent v.visit
+    write_back_keeps_visit met (back_of copy started memory).memory v.now waiting missed Silent v.visit
     (miss_settles 43 waiting.queue Silent misses_it (omega (arith, waiting_prog)) (omega (arith, waiting_tag)))

@@ -14,7 +14,7 @@ use Rattle.mem_descriptors.specs.Descriptors.{state_words, state_written}
 use Rattle.mem_descriptors.proofs.WriteBack.{state_outside, state_states}
 use Rattle.law_structures.specs.lent_structures.Structures.{SplitIsochronous, HoldsSplitIsochronous, StructureSets, put, Tells}
 use Rattle.law_structures.specs.lent_structures.Changes.{Changes}
-use Rattle.law_structures.proofs.lemmas.lent_structures.Telling.{changed}
+use Rattle.law_structures.proofs.lemmas.lent_structures.Telling.{change_is_told}
 
 -- ---- seven words in a row
 
@@ -104,7 +104,7 @@ state_put m parts n a d v t here range front last =
     let written : state_written m a (state_words v) ≡ with_words m (a + 12) (state_words new) =
     ap (λ (b : Bool). if b then with_words m (a + 12) (state_words v) else refused m) h.lent
     ∙ ap (with_words m (a + 12)) (sym (relinked_state v d)) in
-    changed m (state_written m a (state_words v)) parts n a (SplitIsochronous d) (SplitIsochronous new) t here (state_changes m a d v h.aligned) (λ b has. has)
+    change_is_told m (state_written m a (state_words v)) parts n a (SplitIsochronous d) (SplitIsochronous new) t here (state_changes m a d v h.aligned) (λ b has. has)
     (record {
       aligned = h.aligned;
       lent = ap (λ (ss : List BlockState). is_lent (slice_get ss (a / 32))) (state_states m a (state_words v)) ∙ h.lent;

@@ -34,12 +34,12 @@ has_effect : {W : Type 0} (transacts : W → Ask → List ℕ → Reply → W �
 has_effect transacts met parts hand wire after p new now later kind (fetches a b c d) = tt
 has_effect transacts met parts hand wire after p new now later kind _ = tt
 
-pub no_fault : {W : Type 0} (transacts : W → Ask → List ℕ → Reply → W → Type 0) (met : ℕ → Option Kind) (parts : StructureSets) (hand : FrameHand) (wire after : W) (p new : FramePlace) → FrameHappens transacts met parts hand wire after p new steps.Fault → ⊥
-no_fault transacts met parts hand wire after p new h = has_effect transacts met parts hand wire after p new h.now h.later steps.Fault h.effect
+pub no_fault_has_an_effect : {W : Type 0} (transacts : W → Ask → List ℕ → Reply → W → Type 0) (met : ℕ → Option Kind) (parts : StructureSets) (hand : FrameHand) (wire after : W) (p new : FramePlace) → FrameHappens transacts met parts hand wire after p new steps.Fault → ⊥
+no_fault_has_an_effect transacts met parts hand wire after p new h = has_effect transacts met parts hand wire after p new h.now h.later steps.Fault h.effect
 
-pub not_refused : {W : Type 0} (transacts : W → Ask → List ℕ → Reply → W → Type 0) (met : ℕ → Option Kind) (parts : StructureSets) (hand : FrameHand) (wire after : W) (p new : FramePlace) → p.registers.run ≡ true
+pub no_step_refuses_a_word : {W : Type 0} (transacts : W → Ask → List ℕ → Reply → W → Type 0) (met : ℕ → Option Kind) (parts : StructureSets) (hand : FrameHand) (wire after : W) (p new : FramePlace) → p.registers.run ≡ true
     → Leads transacts p wire new after → FrameHappens transacts met parts hand wire after p new (step_of p) → new.memory.foreign ≡ p.memory.foreign
-not_refused transacts met parts hand wire after p new runs leads h =
+no_step_refuses_a_word transacts met parts hand wire after p new runs leads h =
     ⊎_elim (λ (same : new.memory.foreign ≡ p.memory.foreign). same)
     (λ (other : new.memory.foreign ≢ p.memory.foreign).
     absurd (true≢false (sym runs ∙ sym (ap (λ (b : Base). b.run) h.registers) ∙ refusals_are_faults transacts p new wire after leads other))) (cases_eq new.memory.foreign p.memory.foreign)

@@ -37,8 +37,8 @@ use Rattle.law_frames.specs.FrameEffects.WritesOne.{of_sitd as writes_sitd}
 use Rattle.law_frames.specs.FrameEffects.IsWrittenFrom.{made, missed as was_missed}
 use Rattle.law_frames.proofs.StepStepping.{step_in_hand, effect_in_hand}
 use Rattle.law_frames.specs.SitdBacks.{IsSitdInHand, transacted, missed, received_by, AreReceivedBy, parts_after}
-use Rattle.law_frames.proofs.Turned.{transacted_in_hand, missed_in_hand}
-use Rattle.law_frames.proofs.Backs.{sent as sends, received_put, counted, all_written, told_back, met_again, others_stay}
+use Rattle.law_frames.proofs.Turned.{transacted_is_in_hand, missed_is_in_hand}
+use Rattle.law_frames.proofs.Backs.{sitd_is_sent as sends, received_put, counted, all_written, told_back, met_again, others_stay}
 
 -- the base of the registers stays where an interrupt is raised
 raised_base : (v : Sitd) (o : SplitOutcome) (r : RegisterFile) → base_of (sitd_raised v o r) ≡ base_of r
@@ -87,7 +87,7 @@ module _ {W : Type 0} (transacts : W → Ask → List ℕ → Reply → W → Ty
       let read = sends met parts p.memory p.walk.reply c u k none turn in
       let asked : IsAsked transacts t.ask read.out (sitd_left_by t c.held p) wire new after = subst asking read.read leads in
       let small = heard_small heard t.ask read.out asked.reply asked.made in
-      let next = transacted_in_hand met parts p.memory p.walk.reply asked.reply c u k none turn (microframe_low p.walk.index) small in
+      let next = transacted_is_in_hand met parts p.memory p.walk.reply asked.reply c u k none turn (microframe_low p.walk.index) small in
       let left : IsFrame met parts (OfSitd (transacted u asked.reply c)) (sitd_left_by t c.held p asked.reply) = record {
         tells = frame.tells;
         members = frame.members;
@@ -178,7 +178,7 @@ module _ {W : Type 0} (transacts : W → Ask → List ℕ → Reply → W → Ty
   by_turn frame heard none turns.Work turn leads = by_time frame heard none turn (nat_lt p.walk.left (sitd_transaction c.held.sitd).price.0) leads
   by_turn frame heard none turns.Miss turn leads =
       is_written frame (missed c) Failed (was_missed none turn refl) refl refl
-      (missed_in_hand met parts p.memory p.walk.reply p.walk.reply c (microframe_of p.walk.index) (in_hand frame) none turn) refl leads
+      (missed_is_in_hand met parts p.memory p.walk.reply p.walk.reply c (microframe_of p.walk.index) (in_hand frame) none turn) refl leads
 
   by_settled : IsFrame met parts (OfSitd c) p → AreBytesHeard transacts wire after → (s : Option SplitOutcome) → c.held.settled ≡ s
       → HasEffect transacts (sitd_effect (settled_row p.walk.left (microframe_of p.walk.index) c.held.sitd s) c.held p) wire new after

@@ -31,7 +31,7 @@ use Rattle.law_frames.specs.FrameStreams.{IsIsoAsk}
 use Rattle.law_frames.specs.Visits.{IsWrittenBack, back_of}
 use Rattle.law_frames.specs.QueueVisitSamples.{met}
 use Rattle.law_frames.specs.SplitSamples.{split_queue, memory, parts, copy, started, waiting, heard, ended, begun, is_silent, hears, completing}
-use Rattle.law_frames.proofs.Telling.{same_copy, asked, frame_streams}
+use Rattle.law_frames.proofs.Telling.{same_copy, asked, frame_moves_streams}
 use Rattle.law_frames.proofs.SplitSampled.{after_it}
 
 -- ---- what is told is told once
@@ -87,7 +87,8 @@ module _ (v : IsWrittenBack met memory parts copy started) where
   pub written_told : Told (queue_hand Nothing) v.now 0 64 []
   written_told =
       (told_still (IsIsoAsk parts) is_silent parts (queue_hand (OfSettled copy started 1)) 1 1 v.now (queue_hand Nothing) no_transaction
-      (frame_streams is_silent met parts (OfSettled copy started 1) begun 1 1 v.now Nothing steps.WriteBack after_it starts_back)).bytes 0
+      (frame_moves_streams is_silent met parts (OfSettled copy started 1) begun 1 1 v.now Nothing steps.WriteBack after_it
+      starts_back)).bytes 0
       64 [] settled_told
 
   -- ---- its complete-split
@@ -150,7 +151,7 @@ module _ (v : IsWrittenBack met memory parts copy started) where
 
   pub streams_so : StreamEffect (IsIsoAsk v.now) hears v.now (queue_hand (OfQueue waiting 0)) 1 2 v.now
       (queue_hand (OfSettled waiting ended 1))
-  streams_so = frame_streams hears met v.now (OfQueue waiting 0) there 1 2 v.now
+  streams_so = frame_moves_streams hears met v.now (OfQueue waiting 0) there 1 2 v.now
       (OfSettled waiting ended 1) steps.Transact frame_there completes_so
 
   abbrev asks : Asks hears v.now (queue_hand (OfQueue waiting 0)) 1 2 (queue_hand (OfSettled waiting ended 1))

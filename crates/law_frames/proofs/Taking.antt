@@ -13,14 +13,14 @@ use Rattle.hc_copy.proofs.Ranges.{advanced_in_range}
 use Rattle.law_structures.specs.lent_structures.Structures.{QueueHead, Element, Structures, StructureSets, put, HoldsElement, Tells}
 use Rattle.law_structures.specs.lent_structures.Changes.{relinked}
 use Rattle.law_structures.proofs.lemmas.lent_structures.Names.{put_here, put_beside, put_same, put_else}
-use Rattle.law_structures.proofs.lemmas.lent_structures.WrittenBack.{advance_put}
+use Rattle.law_structures.proofs.lemmas.lent_structures.WrittenBack.{advance_is_told}
 use Rattle.law_structures.specs.lent_structures.Sound.{IsReady, IsSoundElement, IsWorking, IsSoundQueue}
 use Rattle.law_structures.specs.lent_structures.Alters.{Alters}
-use Rattle.law_structures.proofs.lemmas.lent_structures.Altering.{found_queue, no_two, head_put}
+use Rattle.law_structures.proofs.lemmas.lent_structures.Altering.{found_queue, no_two, a_queue_head_alters_nothing}
 use Rattle.law_ring.specs.Hand.{Copy, copied_queue, Hand, Copied}
 use Rattle.law_ring.specs.Effects.{taken, Takes}
 use Rattle.law_frames.specs.Met.{Kind, LeadsTo, IsQueuePart, IsMetQueue}
-use Rattle.law_frames.proofs.Queues.{queue_still}
+use Rattle.law_frames.proofs.Queues.{an_altered_queue_part_is_sound}
 use Rattle.law_frames.specs.Visits.{IsQueueVisit, IsOnlyAt}
 
 -- ---- the queue head
@@ -37,7 +37,7 @@ link_there met m parts c v = subst (λ (q : Qh). LeadsTo met (link_of q.link)) (
 -- another queue head in its place, with the same link
 pub met_after : (met : ℕ → Option Kind) (m : Mem) (parts : StructureSets) (c : Copy) (now : Structures) (new : Qh) → IsQueueVisit met m parts c → Alters (parts c.at) now → now c.at ≡ Some (QueueHead new) → new.link ≡ c.queue.link → IsSoundQueue now new → IsMetQueue met c.at now
 met_after met m parts c now new v alters here link sound =
-    let still : IsQueuePart c.at now = queue_still c.at (parts c.at) now new v.met_is.part_is alters here sound in
+    let still : IsQueuePart c.at now = an_altered_queue_part_is_sound c.at (parts c.at) now new v.met_is.part_is alters here sound in
     record {
       part_is = record { queue = new; here = here; sound = sound; elements = still.elements; own = still.own };
       link = subst (λ (l : LinkBits). LeadsTo met (link_of l)) (sym link) (link_there met m parts c v);
@@ -101,13 +101,14 @@ taken_range m parts c a t tells range here =
 taken_tells : (met : ℕ → Option Kind) (m : Mem) (parts : StructureSets) (c : Copy) (a : ℕ) (t : Qtd) → IsQueueVisit met m parts c → parts c.at a ≡ Some (Element t) → Tells (overlay_after m c.at (advanced (copied_queue c) a t)) (taken_parts parts c a t)
 taken_tells met m parts c a t v here =
     subst (λ (q : Qh). Tells (overlay_after m c.at (advanced (copied_queue c) a t)) (put parts c.at c.at (QueueHead q))) (advanced_relinked c a t)
-    (advance_put m parts c.at c.at c.queue (copied_queue c) a t v.tells (record { head = v.copied.here; range = v.copied.range; front = copy_front c }) here)
+    (advance_is_told m parts c.at c.at c.queue (copied_queue c) a t v.tells (record { head = v.copied.here; range = v.copied.range; front = copy_front c }) here)
 
 taken_met : (met : ℕ → Option Kind) (m : Mem) (parts : StructureSets) (c : Copy) (a : ℕ) (t : Qtd) → IsQueueVisit met m parts c → parts c.at a ≡ Some (Element t) → t.token.active ≡ true → IsMetQueue met c.at (taken_parts parts c a t c.at)
 taken_met met m parts c a t v here on =
     let new : Qh = advanced c.queue a t in
     met_after met m parts c (taken_parts parts c a t c.at) new v
-    (subst (Alters (parts c.at)) (sym (put_here parts c.at c.at (QueueHead new))) (head_put (parts c.at) c.at c.queue new v.copied.here))
+    (subst (Alters (parts c.at)) (sym (put_here parts c.at c.at (QueueHead new)))
+    (a_queue_head_alters_nothing (parts c.at) c.at c.queue new v.copied.here))
     (put_same parts c.at c.at (QueueHead new)) (link_advanced c.queue a t)
     (sound_advanced (parts c.at) (taken_parts parts c a t c.at) c.queue a t (still_there parts c a t v.copied.here here) on (v.met_is.part_is.elements a t here))
 
@@ -149,5 +150,6 @@ advance_stays met m parts now c new v k =
     (subst (IsQueueVisit met after (taken_parts parts c k.element k.qtd)) (sym (new_taken parts now c new k))
     (taken_visit met m parts c k.element k.qtd v (subst (λ (x : Copy). parts x.at k.element ≡ Some (Element k.qtd)) (sym (same_copy c k.copy k.in_hand)) k.here) k.published))
 
-pub advance_only : (parts now : StructureSets) (c new : Copy) → Takes parts (Copied c) now (Copied new) → IsOnlyAt c.at parts now
-advance_only parts now c new k = subst (IsOnlyAt c.at parts) (sym (now_taken parts now c new k)) (taken_only parts c k.element k.qtd)
+pub advance_is_only_there : (parts now : StructureSets) (c new : Copy) → Takes parts (Copied c) now (Copied new) → IsOnlyAt c.at parts now
+advance_is_only_there parts now c new k =
+    subst (IsOnlyAt c.at parts) (sym (now_taken parts now c new k)) (taken_only parts c k.element k.qtd)

@@ -52,7 +52,7 @@ use Rattle.law_frames.specs.Frame.{IsQueueSettled, IsCopiedQueue, IsCopiedItd, I
 use Rattle.law_frames.specs.FrameEffects.{AreOfBuffer, AreOut, IsUnsettled, Fetches, TakesOne, MakesOfQueue, MakesOfItd, MakesOfSitd, MakesOne, missed_settlement, queue_written, after_back, IsSettledFrom, was_worked, was_missed, WritesQueue, itd_back, WritesItd, IsWrittenFrom, made, missed, sitd_back, WritesSitd, WritesOne, of_queue, of_itd, of_sitd, FrameEffect}
 use Rattle.law_frames.specs.FrameEffects.FrameEffect.{fetches, passes, ends, takes, makes, writes}
 use Rattle.law_frames.specs.FrameStreams.{AsksIso, IsIsoAsk, FrameMovesStreams}
-use Rattle.law_frames.proofs.QueueBacks.{settled_facts, settled_range, written_facts, hand_settled}
+use Rattle.law_frames.proofs.QueueBacks.{settled_facts, settled_range, written_facts, hand_is_settled}
 
 -- ---- hands
 
@@ -363,7 +363,7 @@ module _ {W : Type 0} (transacts : W → Ask → List ℕ → Reply → W → Ty
 
   module _ (r : WritesQueue parts p.walk hand now later) where
     both : IsCopiedQueue met parts r.copy × IsQueueSettled r.copy.queue p.walk.reply r.settled
-    both = hand_settled met parts p.walk hand r.copy r.settled r.made k.walk.in_hand r.from
+    both = hand_is_settled met parts p.walk hand r.copy r.settled r.made k.walk.in_hand r.from
 
     pub written_part : IsQueuePart r.copy.at (parts r.copy.at)
     written_part = part_there r.copy both.0
@@ -455,6 +455,6 @@ module _ {W : Type 0} (transacts : W → Ask → List ℕ → Reply → W → Ty
   streams_by _ (makes r all) = made_one r all
   streams_by _ (writes r quiet) = same (wrote r) quiet
 
-pub frame_streams : {W : Type 0} (transacts : W → Ask → List ℕ → Reply → W → Type 0) → FrameMovesStreams transacts
-frame_streams transacts met parts hand p wire after now later kind k effect =
+pub frame_moves_streams : {W : Type 0} (transacts : W → Ask → List ℕ → Reply → W → Type 0) → FrameMovesStreams transacts
+frame_moves_streams transacts met parts hand p wire after now later kind k effect =
     streams_by transacts met parts hand p wire after now later k kind effect

@@ -205,18 +205,18 @@ missed_copied met parts before reply c u copied none turn =
 
 -- ---- in hand
 
-pub transacted_in_hand : (met : ℕ → Option Kind) (parts : StructureSets) (m : Mem) (before reply : Reply) (c : SitdCopy) (u : ℕ) → IsSitdInHand met parts m before c → c.held.settled ≡ None
+pub transacted_is_in_hand : (met : ℕ → Option Kind) (parts : StructureSets) (m : Mem) (before reply : Reply) (c : SitdCopy) (u : ℕ) → IsSitdInHand met parts m before c → c.held.settled ≡ None
     → sitd_turn u c.held.sitd ≡ turns.Work → u < 8
     → ((i : ℕ) → slice_index (bytes_of reply) i < 256) → IsSitdInHand met parts m reply (transacted u reply c)
-transacted_in_hand met parts m before reply c u k none turn low small = record {
+transacted_is_in_hand met parts m before reply c u k none turn low small = record {
   tells = k.tells;
   is_met = k.is_met;
   copied = transacted_copy met parts before reply c u k.copied none turn low small;
 }
 
-pub missed_in_hand : (met : ℕ → Option Kind) (parts : StructureSets) (m : Mem) (before reply : Reply) (c : SitdCopy) (u : ℕ) → IsSitdInHand met parts m before c → c.held.settled ≡ None
+pub missed_is_in_hand : (met : ℕ → Option Kind) (parts : StructureSets) (m : Mem) (before reply : Reply) (c : SitdCopy) (u : ℕ) → IsSitdInHand met parts m before c → c.held.settled ≡ None
     → sitd_turn u c.held.sitd ≡ turns.Miss → IsSitdInHand met parts m reply (missed c)
-missed_in_hand met parts m before reply c u k none turn = record {
+missed_is_in_hand met parts m before reply c u k none turn = record {
   tells = k.tells;
   is_met = k.is_met;
   copied = missed_copied met parts before reply c u k.copied none turn;

@@ -38,7 +38,7 @@ use Rattle.law_frames.specs.Visits.{IsQueueVisit, AreAllSent}
 use Rattle.law_frames.specs.QueueVisitLaws.{HasBytes, held_copy}
 use Rattle.law_frames.proofs.QueueBacks.{marks_small}
 use Rattle.law_frames.proofs.Taking.{taken_copy, taken_parts, taken_visit, taken_only}
-use Rattle.law_frames.proofs.Making.{all_sent, settles_so, copy_settles}
+use Rattle.law_frames.proofs.Making.{transaction_sends_its_bytes, settles, copy_settles}
 use Rattle.law_frames.proofs.Framing.{visit_there, frame_after}
 
 abbrev pub held_queue : Copy → ℕ → HeldQueue
@@ -121,7 +121,7 @@ module _ {W : Type 0} (transacts : W → Ask → List ℕ → Reply → W → Ty
       cursor = k.walk.cursor;
       held = ap (λ (x : Held). Some (hands.Queue (record { copy = x; made = min (made + 1) 255 })))
           (copy_settles p.walk.index c s.out reply);
-      in_hand = (k.walk.in_hand, settles_so p.walk.index c.queue s.out reply on (marks_small (copied_queue c) k.walk.in_hand.range).0 (marks_small (copied_queue c) k.walk.in_hand.range).1 s.are.count small);
+      in_hand = (k.walk.in_hand, settles p.walk.index c.queue s.out reply on (marks_small (copied_queue c) k.walk.in_hand.range).0 (marks_small (copied_queue c) k.walk.in_hand.range).1 s.are.count small);
     };
   }
 
@@ -149,5 +149,5 @@ module _ {W : Type 0} (transacts : W → Ask → List ℕ → Reply → W → Ty
 
   pub transact_happens : IsFrame met parts (OfQueue c made) p → AreBytesHeard transacts wire after → c.queue.token.active ≡ true → turn_of p.walk.index (copied_queue c) ≡ turns.Work → RowHappens (rows.Transact (planned (copied_queue c))) p
   transact_happens k heard on turn =
-      let s : AreAllSent p.memory parts c = all_sent met p.memory parts c (visit_there met parts (OfQueue c made) p c k k.walk.in_hand) on in
+      let s : AreAllSent p.memory parts c = transaction_sends_its_bytes met p.memory parts c (visit_there met parts (OfQueue c made) p c k k.walk.in_hand) on in
       subst (λ (r : Reading). HasEffect transacts (sent_from r) wire new after → Happens (if r.all then steps.Transact else steps.Fault)) (sym s.read) (asked_happens k heard on turn s)

@@ -18,7 +18,7 @@ use Rattle.hc_copy.proofs.Ranges.{moved_in_range}
 use Rattle.law_structures.specs.lent_structures.Settles.{Leaves, Brings}
 use Rattle.law_structures.specs.lent_structures.Structures.{QueueHead, Element, Buffer, Structures, StructureSets, HoldsBuffer, Tells}
 use Rattle.law_structures.specs.lent_structures.WriteBack.{Received, Into, IsReceived, CanBeWritten, parts_back}
-use Rattle.law_structures.proofs.lemmas.lent_structures.WrittenBack.{all_written, told_back, place_small}
+use Rattle.law_structures.proofs.lemmas.lent_structures.WrittenBack.{all_is_written, write_back_is_told, place_small}
 use Rattle.law_structures.proofs.lemmas.lent_structures.Found.{back_beside, back_element, back_head}
 use Rattle.law_structures.specs.lent_structures.Sound.{LeadsOn, element_pages, buffer_name, HasBuffer, IsReady, IsSoundElement, IsWorking, IsSoundQueue}
 use Rattle.law_structures.specs.lent_structures.Alters.{Alters}
@@ -194,7 +194,7 @@ written_met met m parts c z reply k is h =
 
 written_visit : (met : ℕ → Option Kind) (m : Mem) (parts : StructureSets) (c : Copy) (z : QueueSettlement) (reply : Reply) → IsQueueVisit met m parts c → IsQueueSettled c.queue reply z → (h : IsReadyHere parts c z) → IsQueueVisit met (back_of c z m).memory (now_of parts c z h) (record c { queue = queue_written c z })
 written_visit met m parts c z reply k is h = record {
-  tells = told_back m parts c.at c.at c.queue (settled_in c z) z.outcome z.got (into_of parts c z h) h.works.element k.tells h.can;
+  tells = write_back_is_told m parts c.at c.at c.queue (settled_in c z) z.outcome z.got (into_of parts c z h) h.works.element k.tells h.can;
   met_is = written_met met m parts c z reply k is h;
   copied = record {
     on = k.copied.on;
@@ -204,12 +204,12 @@ written_visit met m parts c z reply k is h = record {
   };
 }
 
-pub visit_written : (met : ℕ → Option Kind) (m : Mem) (parts : StructureSets) (c : Copy) (z : QueueSettlement) (reply : Reply) → IsQueueVisit met m parts c → IsQueueSettled c.queue reply z → IsWrittenBack met m parts c z
-visit_written met m parts c z reply k is =
+pub write_back_keeps_visit : (met : ℕ → Option Kind) (m : Mem) (parts : StructureSets) (c : Copy) (z : QueueSettlement) (reply : Reply) → IsQueueVisit met m parts c → IsQueueSettled c.queue reply z → IsWrittenBack met m parts c z
+write_back_keeps_visit met m parts c z reply k is =
     let h : IsReadyHere parts c z = ready_here met m parts c z reply k is in
     record {
       now = now_of parts c z h;
-      whole = all_written m parts c.at c.at c.queue (settled_in c z) z.outcome z.got (into_of parts c z h) h.works.element k.tells h.can;
+      whole = all_is_written m parts c.at c.at c.queue (settled_in c z) z.outcome z.got (into_of parts c z h) h.works.element k.tells h.can;
       visit = written_visit met m parts c z reply k is h;
       only = λ n differs. back_beside parts c.at c.at c.queue (settled_in c z) (moved_by z.outcome) z.got (into_of parts c z h) h.works.element n differs;
       writes = λ w hand made from. record { copy = c; settled = z; made = made; from = from; element = h.works.element; here = h.works.here; received_is = h.can.received; now_is = refl; later_is = refl };

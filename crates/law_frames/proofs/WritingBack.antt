@@ -33,8 +33,8 @@ use Rattle.law_frames.specs.FrameEffects.WritesOne.{of_queue}
 use Rattle.law_frames.specs.FrameEffects.FrameEffect.{writes}
 use Rattle.law_frames.specs.Visits.{back_of, IsWrittenBack}
 use Rattle.law_frames.specs.QueueVisitLaws.{held_copy, held_settled}
-use Rattle.law_frames.proofs.QueueBacks.{settled_facts, copy_misses, hand_settled}
-use Rattle.law_frames.proofs.Writing.{copy_written, received_same, visit_written}
+use Rattle.law_frames.proofs.QueueBacks.{settled_facts, copy_misses, hand_is_settled}
+use Rattle.law_frames.proofs.Writing.{copy_written, received_same, write_back_keeps_visit}
 use Rattle.law_frames.proofs.Framing.{visit_there, frame_after}
 
 raised_base : (q : Qh) (o : Outcome) (r : RegisterFile) → base_of (raised q o r) ≡ base_of r
@@ -49,7 +49,7 @@ module _ {W : Type 0} (transacts : W → Ask → List ℕ → Reply → W → Ty
   Happens s = FrameHappens transacts met parts hand wire after p new s
 
   settled_there : IsFrame met parts hand p → IsCopiedQueue met parts c × IsQueueSettled c.queue p.walk.reply z
-  settled_there k = hand_settled met parts p.walk hand c z made k.walk.in_hand from
+  settled_there k = hand_is_settled met parts p.walk hand c z made k.walk.in_hand from
 
   -- the place after it, by whether the visit goes on
   abbrev back_place : Bool → FramePlace
@@ -97,13 +97,13 @@ module _ {W : Type 0} (transacts : W → Ask → List ℕ → Reply → W → Ty
   pub wrote_happens : IsFrame met parts hand p → (new ≡ wrote held z.outcome p) × (after ≡ wire) → Happens (wrote_step held z.outcome p)
   wrote_happens k =
       let is : IsCopiedQueue met parts c × IsQueueSettled c.queue p.walk.reply z = settled_there k in
-      let w : IsWrittenBack met p.memory parts c z = visit_written met p.memory parts c z p.walk.reply (visit_there met parts hand p c k is.0) is.1 in
+      let w : IsWrittenBack met p.memory parts c z = write_back_keeps_visit met p.memory parts c z p.walk.reply (visit_there met parts hand p c k is.0) is.1 in
       subst (λ (got : List ℕ). WritingHappens (written_back c.at (settled_in c z) z.outcome got p.memory)) (sym (received_same c z p.walk.reply ∙ sym is.1.came_to.got))
       (whole_happens w (back_happens k w))
 
-pub settled_event : {W : Type 0} (transacts : W → Ask → List ℕ → Reply → W → Type 0) (met : ℕ → Option Kind) (parts : StructureSets) (wire after : W) (p new : FramePlace) (c : Copy) (z : QueueSettlement) (made : ℕ)
+pub each_event_at_a_settled_queue_head : {W : Type 0} (transacts : W → Ask → List ℕ → Reply → W → Type 0) (met : ℕ → Option Kind) (parts : StructureSets) (wire after : W) (p new : FramePlace) (c : Copy) (z : QueueSettlement) (made : ℕ)
     → IsFrame met parts (OfSettled c z made) p → Leads transacts p wire new after → FrameHappens transacts met parts (OfSettled c z made) wire after p new (step_of p)
-settled_event transacts met parts wire after p new c z made k =
+each_event_at_a_settled_queue_head transacts met parts wire after p new c z made k =
     subst (λ (o : Option Hand). HasEffect transacts (effect_at p o) wire new after → FrameHappens transacts met parts (OfSettled c z made) wire after p new (step_at p o)) (sym k.walk.held)
     (wrote_happens transacts met parts wire after p new c z made (OfSettled c z made) (was_worked refl) k)
 

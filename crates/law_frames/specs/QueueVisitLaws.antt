@@ -1,6 +1,6 @@
 -- Laws of a visit to the queue head of an interrupt endpoint (EHCI 1.0, 4.10.2 to 4.10.6 and 4.12.2).
 --     AdvanceStays            once a qTD was taken, the visit goes on at the same queue head, whose overlay it is
---     SendsItsBytes           what a transaction sends is there
+--     TransactionSendsItsBytes           what a transaction sends is there
 --     Settles, CopySettles    what a transaction came to, and the copy after it, in any microframe
 --     started_settlement f q  what a start-split comes to, whatever is heard
 --     StartsSplit, CompletesSplit, StaysPlain
@@ -9,7 +9,7 @@
 --     IsHaltedByMiss q new    the qTD of q is halted with Missed Micro-Frame in new, and nothing of it was moved
 --     MissHalts               a miss leaves it so, and ends the visit
 --     HandIsSettled           so whatever is written back is settled
---     WritesBack              what it came to is written back
+--     WriteBackKeepsVisit              what it came to is written back
 use Rattle.std.specs.Prelude.{◌≡◌, ℕ, ◌<◌, ◌==◌, true, false, Some, None, Option, List, [], length, slice_index}
 use Rattle.usb_base.specs.declared.packets.Pid.{Pid}
 use Rattle.usb_base.specs.declared.packets.Reply.{Reply}
@@ -47,8 +47,8 @@ AdvanceIsOnlyThere = (parts now : StructureSets) (c new : Copy) → Takes parts 
 
 -- ---- a transaction (4.10.3)
 
-abbrev pub SendsItsBytes : Type 0
-SendsItsBytes = (met : ℕ → Option Kind) (m : Mem) (parts : StructureSets) (c : Copy) → IsQueueVisit met m parts c → c.queue.token.active ≡ true → AreAllSent m parts c
+abbrev pub TransactionSendsItsBytes : Type 0
+TransactionSendsItsBytes = (met : ℕ → Option Kind) (m : Mem) (parts : StructureSets) (c : Copy) → IsQueueVisit met m parts c → c.queue.token.active ≡ true → AreAllSent m parts c
 
 -- what was heard has bytes below 256
 abbrev pub HasBytes : Reply → Type 0
@@ -109,6 +109,6 @@ abbrev pub HandIsSettled : Type 0
 HandIsSettled = (met : ℕ → Option Kind) (parts : StructureSets) (w : Walk) (hand : FrameHand) (c : Copy) (z : QueueSettlement) (made : ℕ) → IsInFrame met parts w.got w.reply hand
     → IsSettledFrom w hand c z made → IsCopiedQueue met parts c × IsQueueSettled c.queue w.reply z
 
-abbrev pub WritesBack : Type 0
-WritesBack = (met : ℕ → Option Kind) (m : Mem) (parts : StructureSets) (c : Copy) (z : QueueSettlement) (reply : Reply) → IsQueueVisit met m parts c → IsQueueSettled c.queue reply z
+abbrev pub WriteBackKeepsVisit : Type 0
+WriteBackKeepsVisit = (met : ℕ → Option Kind) (m : Mem) (parts : StructureSets) (c : Copy) (z : QueueSettlement) (reply : Reply) → IsQueueVisit met m parts c → IsQueueSettled c.queue reply z
     → IsWrittenBack met m parts c z

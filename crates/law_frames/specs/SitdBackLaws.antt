@@ -16,8 +16,8 @@ use Rattle.law_frames.specs.SitdBacks.{IsSitdInHand, transacted, missed, AreRead
 -- ---- its transaction
 
 -- it sends the bytes of its buffer, and is refused none
-abbrev pub ItsBytesAreSent : Type 0
-ItsBytesAreSent = (met : ℕ → Option Kind) (parts : StructureSets) (m : Mem) (reply : Reply) (c : SitdCopy) (u : ℕ) → IsSitdInHand met parts m reply c
+abbrev pub SitdIsSent : Type 0
+SitdIsSent = (met : ℕ → Option Kind) (parts : StructureSets) (m : Mem) (reply : Reply) (c : SitdCopy) (u : ℕ) → IsSitdInHand met parts m reply c
     → c.held.settled ≡ None → sitd_turn u c.held.sitd ≡ turns.Work
     → AreRead (parts c.held.at) (sitd_pages c.held.sitd) (sitd_place c.held.sitd) (sitd_transaction c.held.sitd).bytes m
 

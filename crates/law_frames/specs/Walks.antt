@@ -5,7 +5,7 @@
 --     AreNoFaults kinds        none of them is the fault
 --     HappenInTurn ..            .. each of which leaves a frame, has one of the effects on the structures and on what is in hand, and begins with what the
 --                                one before it left
---     LeavesOthers ..            an event leaves the structures of those that aren't met as they were
+--     UnmetStays ..            an event leaves the structures of those that aren't met as they were
 --     IsWalked ..                a frame is left, the events happened in turn from these structures to those, the structures of those that aren't met are the
 --                                same, none of these kinds is the fault, and no word was refused
 use Rattle.std.specs.Prelude.{◌≡◌, ℕ, true, List, [], ◌∷◌, Option, None}
@@ -46,8 +46,8 @@ pub data HappenInTurn {W : Type 0} (transacts : W → Ask → List ℕ → Reply
       → Leads transacts p wire mid between → (h : FrameHappens transacts met parts hand wire between p mid kind)
       → HappenInTurn transacts met new after now later kinds mid between h.now h.later → HappenInTurn transacts met new after now later (kind ∷ kinds) p wire parts hand
 
-abbrev pub LeavesOthers : {W : Type 0} → (W → Ask → List ℕ → Reply → W → Type 0) → Type 0
-LeavesOthers {W} transacts = (met : ℕ → Option Kind) (parts : StructureSets) (hand : FrameHand) (p : FramePlace) (wire after : W) (now : StructureSets) (later : FrameHand) (kind : WalkStep)
+abbrev pub UnmetStays : {W : Type 0} → (W → Ask → List ℕ → Reply → W → Type 0) → Type 0
+UnmetStays {W} transacts = (met : ℕ → Option Kind) (parts : StructureSets) (hand : FrameHand) (p : FramePlace) (wire after : W) (now : StructureSets) (later : FrameHand) (kind : WalkStep)
     → IsFrame met parts hand p → FrameEffect transacts parts p.walk hand wire after now later kind → (n : ℕ) → met n ≡ None → now n ≡ parts n
 
 pub record IsWalked {W : Type 0} (transacts : W → Ask → List ℕ → Reply → W → Type 0) (met : ℕ → Option Kind) (parts : StructureSets) (hand : FrameHand) (wire after : W) (p new : FramePlace) (kinds : List WalkStep) : Type 0 where

@@ -16,7 +16,7 @@ pub fn each_event_with_nothing_in_hand<W: Wire>()
 {}
 
 /// The structure at the address that the cursor's link names is read, which is of the kind that its type tells; at the end of the chain the walk ends.
-pub fn what_the_cursor_names_is_read<W: Wire>()
+pub fn cursor_is_read<W: Wire>()
     ensures { CursorIsRead W.transacts }
 {}
 

@@ -9,7 +9,7 @@ use usb_base::Wire;
 
 /// Whatever a transaction of an iTD hears, the copy goes on telling what stands in memory: its microframe has the same bytes, an IN received just as many
 /// as are counted as moved, whatever it heard, and an OUT none; and all of them are bytes (4.7.1).
-pub fn a_transaction_keeps_the_copy()
+pub fn heard_keeps_copy()
     ensures { HeardKeepsCopy }
 {}
 

@@ -56,13 +56,11 @@ pub mod stream_worked;
 mod walk_laws;
 mod walk_worked;
 
-pub use fetch_laws::{
-    each_event_with_nothing_in_hand, no_traversal_node_is_met, what_the_cursor_names_is_read,
-};
+pub use fetch_laws::{cursor_is_read, each_event_with_nothing_in_hand, no_traversal_node_is_met};
 pub use fetch_worked::{a_chain_is_read, a_queue_head_is_read};
-pub use itd_back_laws::{an_itd_is_written_back, an_itd_sends_its_bytes};
+pub use itd_back_laws::{itd_is_sent, itd_is_written_back};
 pub use itd_back_worked::a_microframe_is_written_back;
-pub use itd_step_laws::{a_transaction_keeps_the_copy, each_event_at_an_itd};
+pub use itd_step_laws::{each_event_at_an_itd, heard_keeps_copy};
 pub use itd_step_worked::{a_packet_that_is_too_long, a_transaction_at_an_itd};
 pub use part_laws::{
     a_linked_part_is_a_members, a_members_part_is_linked, a_transaction_turns_a_sitd,
@@ -75,14 +73,13 @@ pub use part_worked::{
 pub use queue_step_laws::{each_event_at_a_queue_head, each_event_at_a_settled_queue_head};
 pub use queue_step_worked::a_queue_head_is_worked;
 pub use queue_visit_laws::{
-    a_miss_settles, a_transaction_sends_its_bytes, a_transaction_settles,
-    a_write_back_keeps_the_visit, an_advance_keeps_the_visit, what_a_split_notes,
-    what_is_written_back_is_settled,
+    a_miss_settles, a_transaction_settles, an_advance_keeps_the_visit, hand_is_settled,
+    transaction_sends_its_bytes, what_a_split_notes, write_back_keeps_visit,
 };
 pub use queue_visit_worked::{a_visit, a_visit_goes_on};
 pub use sitd_back_laws::{
-    a_missed_sitd_stays_in_hand, a_sitd_sends_its_bytes, a_sitd_stays_in_hand,
-    a_write_back_of_a_sitd_is_told, what_a_sitd_received_is_put,
+    a_write_back_of_a_sitd_is_told, missed_is_in_hand, received_is_put, sitd_is_sent,
+    transacted_is_in_hand,
 };
 pub use sitd_back_worked::two_bytes;
 pub use sitd_step_laws::each_event_at_a_sitd;
@@ -96,6 +93,6 @@ pub use step_laws::{
 };
 pub use step_worked::an_itd_comes_first;
 pub use walk_laws::{
-    a_walk_goes_on, each_event, no_event_is_a_fault, no_word_is_refused, what_is_not_met_stays,
+    a_walk_goes_on, each_event, no_event_is_a_fault, no_word_is_refused, unmet_stays,
 };
 pub use walk_worked::a_chain_is_walked;

@@ -1,4 +1,4 @@
-ghost use Rattle.law_frames.specs.QueueVisitLaws.{AdvanceStays, AdvanceIsOnlyThere, SendsItsBytes, Settles, CopySettles, StartsSplit, CompletesSplit, StaysPlain, MissSettles, CopyMisses, MissHalts, HandIsSettled, WritesBack};
+ghost use Rattle.law_frames.specs.QueueVisitLaws.{AdvanceStays, AdvanceIsOnlyThere, TransactionSendsItsBytes, Settles, CopySettles, StartsSplit, CompletesSplit, StaysPlain, MissSettles, CopyMisses, MissHalts, HandIsSettled, WriteBackKeepsVisit};
 
 /// A qTD was taken: the queue head with it as its overlay is met, memory is told, the copy in hand is one of what stands there, and no other part is changed.
 pub fn an_advance_keeps_the_visit()
@@ -7,8 +7,8 @@ pub fn an_advance_keeps_the_visit()
 {}
 
 /// Where the overlay is active, the bytes that go out are those of one buffer from the place of the overlay on, and the controller may read all of them.
-pub fn a_transaction_sends_its_bytes()
-    ensures { SendsItsBytes }
+pub fn transaction_sends_its_bytes()
+    ensures { TransactionSendsItsBytes }
 {}
 
 /// Whatever is heard, the transaction settles, also a start-split or a complete-split; and the copy has it.
@@ -33,12 +33,12 @@ pub fn a_miss_settles()
 {}
 
 /// Whatever is written back is the copy of a queue head that stands there, and is settled.
-pub fn what_is_written_back_is_settled()
+pub fn hand_is_settled()
     ensures { HandIsSettled }
 {}
 
 /// What the transaction came to is written back in full: the queue head that is written is met, memory is told, the copy in hand is again one of what stands there,
 /// and no other part is changed.
-pub fn a_write_back_keeps_the_visit()
-    ensures { WritesBack }
+pub fn write_back_keeps_visit()
+    ensures { WriteBackKeepsVisit }
 {}

@@ -1,22 +1,22 @@
-ghost use Rattle.law_frames.specs.SitdBackLaws.{ItsBytesAreSent, TransactedIsInHand, MissedIsInHand, ReceivedIsPut, BytesAreCounted, AllIsWritten, WriteBackIsTold, SitdIsMetAgain, OthersStay};
+ghost use Rattle.law_frames.specs.SitdBackLaws.{SitdIsSent, TransactedIsInHand, MissedIsInHand, ReceivedIsPut, BytesAreCounted, AllIsWritten, WriteBackIsTold, SitdIsMetAgain, OthersStay};
 
 /// A transaction of a siTD in hand sends the bytes of its buffer, from its place on, and is refused none (4.12.3.3 and 4.15.2.4).
-pub fn a_sitd_sends_its_bytes()
-    ensures { ItsBytesAreSent }
+pub fn sitd_is_sent()
+    ensures { SitdIsSent }
 {}
 
 /// Whatever a transaction came to, the copy is one of the same siTD, which was active, and has as many bytes left as weren't moved (3.4.3).
-pub fn a_sitd_stays_in_hand()
+pub fn transacted_is_in_hand()
     ensures { TransactedIsInHand }
 {}
 
 /// So it is where a microframe was missed, and no byte was moved (4.12.3.3.2).
-pub fn a_missed_sitd_stays_in_hand()
+pub fn missed_is_in_hand()
     ensures { MissedIsInHand }
 {}
 
 /// What a transaction received has its place in the buffer, from the siTD's place on.
-pub fn what_a_sitd_received_is_put()
+pub fn received_is_put()
     ensures { ReceivedIsPut }
 {}
 

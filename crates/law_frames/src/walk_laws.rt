@@ -8,7 +8,7 @@ ghost use Rattle.law_frames.specs.Met.{Kind};
 ghost use Rattle.law_frames.specs.FrameHand.{FrameHand};
 ghost use Rattle.law_frames.specs.Frame.{IsFrame};
 ghost use Rattle.law_frames.specs.FrameSteps.{EventHappens};
-ghost use Rattle.law_frames.specs.Walks.{HearsBytes, Walks, LeavesOthers, IsWalked};
+ghost use Rattle.law_frames.specs.Walks.{HearsBytes, Walks, UnmetStays, IsWalked};
 
 use usb_base::Wire;
 
@@ -29,8 +29,8 @@ pub fn no_word_is_refused<W: Wire>()
 {}
 
 /// An event changes nothing of what belongs to one that isn't met.
-pub fn what_is_not_met_stays<W: Wire>()
-    ensures { LeavesOthers W.transacts }
+pub fn unmet_stays<W: Wire>()
+    ensures { UnmetStays W.transacts }
 {}
 
 /// However many events follow each other, a frame is left, and each of them had one of the effects on what the one before it left: so the structures are told from

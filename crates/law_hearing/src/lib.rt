@@ -10,13 +10,13 @@ ghost use Rattle.law_hearing.specs.HearingLaws.{AsksAreHeard, AsksAreHeardBelow,
 
 /// Each ask on the high-speed bus is answered by whoever has the endpoint, unless a line says that a packet is lost.
 #[tactic(auto, using(crate::proofs::Heard::asks_are_heard))]
-pub fn asks_are_heard_as_lines_say()
+pub fn asks_are_heard()
     ensures { AsksAreHeard }
 {}
 
 /// Each ask below a hub is answered by the device of the endpoint where it is behind an enabled port, unless a line says that a packet
 /// is lost.
-pub fn asks_below_are_heard_as_ports_and_lines_say()
+pub fn asks_are_heard_below()
     ensures { AsksAreHeardBelow }
 {}
 

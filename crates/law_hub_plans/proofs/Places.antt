@@ -52,5 +52,5 @@ module _ (key : Placed → Key) where
   kept_all placed [] found = tt
   kept_all placed (y ∷ ys) found = ((ap first_of found.0, ap times_of found.0), kept_all placed ys found.1)
 
-pub places_kept : PlacesAreKept
-places_kept key placed apart = kept_all key placed placed (all_found key placed apart)
+pub places_are_kept : PlacesAreKept
+places_are_kept key placed apart = kept_all key placed placed (all_found key placed apart)

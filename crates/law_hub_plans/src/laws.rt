@@ -3,11 +3,11 @@ ghost use Rattle.law_hub_plans.specs.Laws.{HubPlansFit, PlacesAreKept};
 
 /// Where all that is placed keeps the budgets and each is placed as it may be, the plan of each translator in each frame lays at most
 /// 188 byte-times in each microframe, and none after the frame.
-pub fn a_hubs_plan_fits()
+pub fn hub_plans_fit()
     ensures { HubPlansFit }
 {}
 
 /// .. and it has each endpoint as it is placed.
-pub fn a_plan_has_each_place()
+pub fn places_are_kept()
     ensures { PlacesAreKept }
 {}

@@ -31,7 +31,7 @@ use Rattle.law_devices.proofs.Lists.{all_at}
 use Rattle.law_devices.proofs.Senders.{IsDeclaredAt, empty_declared, second_declared, line_declares, sender_is, rooted}
 use Rattle.law_devices.proofs.Texts.{IsScriptOf, spelled_kept}
 use Rattle.law_devices.proofs.lemmas.declared_controls.Alone.{zero_is_no_stream}
-use Rattle.law_devices.proofs.lemmas.declared_controls.Controls.{spelled_names, spelled_zeroes}
+use Rattle.law_devices.proofs.lemmas.declared_controls.Controls.{texts_name_endpoints, texts_leave_zero_alone}
 use Rattle.law_devices.proofs.lemmas.declared_controls.Names.{control_zero}
 use Rattle.law_opened.specs.Opened.{IsOpened}
 use Rattle.law_opened.specs.Declared.{HasItsStream, TextsDeclareStreams}
@@ -161,14 +161,14 @@ module _ (script : List ℕ) (s : Script) (spelled : Spells script s) (x : EpDes
   named : HasItsName x
   named =
       all_at (λ l. NamesLine l.1) s.lines o.place (o.number, lines.Command (commands.OpenEp x))
-      (spelled_names script s spelled).opened o.here
+      (texts_name_endpoints script s spelled).opened o.here
 
   of_ctl : x.name.way ≡ ways.Ctl → HasItsStream s x ways.Ctl
   of_ctl way =
       let zero = control_zero x named (subst (λ (v : Way). IsOfWay v x.kind) way fits) in
       let none : IsNoStream (opening_wired s) x.name.addr x.name.num =
       subst (λ (n : ℕ). IsNoStream (opening_wired s) x.name.addr n) (sym zero.number)
-      (zero_is_no_stream (opening_wired s) x.name.addr (spelled_zeroes script s spelled)) in
+      (zero_is_no_stream (opening_wired s) x.name.addr (texts_leave_zero_alone script s spelled)) in
       (ap is_some none.sends, ap is_some none.takes)
 
   by_way : (way : Way) → x.name.way ≡ way → HasItsStream s x way

@@ -20,7 +20,7 @@ use Rattle.usb_base.specs.declared.packets.EpKind.{EpKind}
 use Rattle.usb_base.specs.declared.packets.EpKind.TheVariants as kinds
 use Rattle.law_driver.specs.queued_drivers.Queued.{IsOfWay}
 use Rattle.law_devices.specs.declared_controls.Names.{IsNameOf, NamesLine}
-use Rattle.law_devices.proofs.lemmas.declared_controls.Controls.{spelled_names}
+use Rattle.law_devices.proofs.lemmas.declared_controls.Controls.{texts_name_endpoints}
 use Rattle.law_opened.specs.Opened.{IsOpened, OpensOnce, TextsOpenFit, TextsOpenOnce}
 
 -- ---- one name, one endpoint
@@ -124,4 +124,4 @@ pub texts_open_fit : TextsOpenFit
 texts_open_fit text s spelled x o =
     name_fits x.kind x.name
     (all_at (λ l. NamesLine l.1) s.lines o.place (o.number, lines.Command (commands.OpenEp x))
-    (spelled_names text s spelled).opened o.here).name
+    (texts_name_endpoints text s spelled).opened o.here).name

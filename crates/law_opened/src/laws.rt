@@ -10,6 +10,6 @@ pub fn each_name_is_of_one_endpoint()
 
 /// A bulk or interrupt endpoint that a text opens has its sender or its taker on the bus where its device is at high speed; no other has
 /// one.
-pub fn an_endpoint_has_its_side_on_the_bus()
+pub fn texts_declare_streams()
     ensures { TextsDeclareStreams }
 {}

@@ -19,14 +19,14 @@ mod row_laws;
 mod row_worked;
 mod told_laws;
 
-pub use held_laws::{a_return_keeps_what_is_held, accepted_commands_keep_what_is_held};
+pub use held_laws::{accepted_commands_keep_what_is_held, return_holds};
 pub use held_worked::nothing_to_return;
 pub use read_laws::the_row_of_a_harvest_is_told;
 pub use row_laws::{
-    a_harvest_is_told, a_new_driver_holds_nothing, an_active_qtd_is_left, what_is_held_stays,
+    a_new_driver_holds_nothing, active_is_left, harvest_is_told, what_is_held_stays,
 };
 pub use row_worked::of_one_transfer;
 pub use told_laws::{
-    a_harvest_adds_what_was_moved, a_new_driver_has_told_nothing, commands_leave_what_is_told,
-    rows_leave_what_is_told, steps_leave_what_is_told, the_controller_leaves_what_is_told,
+    commands_leave_what_is_told, harvested_is_told, new_is_told, rows_leave_what_is_told,
+    spared_is_told, the_controller_leaves_what_is_told,
 };

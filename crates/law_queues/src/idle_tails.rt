@@ -7,11 +7,11 @@ pub mod worked;
 ghost use Rattle.law_queues.specs.idle_tails.Idle.{SoundQueuesReach, IdleQueuesReach};
 
 /// Where no command is unfinished, each queue with a front reaches no further than the inactive qTD at its end.
-pub fn an_idle_queue_ends_in_its_tail()
+pub fn idle_queues_reach()
     ensures { IdleQueuesReach }
 {}
 
 /// So wherever its queue head stands, in the ring or in frames.
-pub fn a_sound_queue_ends_in_its_tail()
+pub fn sound_queues_reach()
     ensures { SoundQueuesReach }
 {}

@@ -7,7 +7,6 @@ mod laws;
 mod worked;
 
 pub use laws::{
-    harvests_add_bytes, names_and_refusals_tell_nothing, opened_endpoints_are_told,
-    requests_tell_nothing_of_streams,
+    harvests_add_bytes, names_and_refusals_tell_nothing, open_adds_endpoint, requests_add_no_stream,
 };
 pub use worked::held_and_told;

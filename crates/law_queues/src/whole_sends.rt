@@ -7,8 +7,8 @@ mod laws;
 mod worked;
 
 pub use laws::{
-    a_queue_begins_whole, a_step_keeps_it_whole, a_store_keeps_it_whole,
-    an_idle_queue_sends_nothing, each_event_leaves_the_bytes, each_event_sends_whole,
-    what_is_in_hand_ends_whole, what_was_sent_begins_the_bytes,
-    what_was_sent_stands_before_the_tail, what_was_taken_begins_the_bytes,
+    a_step_keeps_it_whole, a_store_keeps_it_whole, beginning_is_whole, each_event_sends_whole,
+    idle_takes_nothing, walk_keeps_buffers, what_is_in_hand_ends_whole,
+    what_was_sent_begins_the_bytes, what_was_sent_stands_before_the_tail,
+    what_was_taken_begins_the_bytes,
 };

@@ -34,5 +34,5 @@ module _ {W : Type 0} (begins : W → ℕ → Bool → W → Type 0) (transacts 
   row_counts rows.Go has = ring_counts transacts (walk_place old) (walk_place new) before after has.walked
   row_counts rows.End has = counts_at old new (record old { control = ended old.control }) has.0 (goes_on old.registers old.registers old.memory old.memory refl refl refl)
 
-pub each_counts_once : {W : Type 0} (begins : W → ℕ → Bool → W → Type 0) (transacts : W → Ask → List ℕ → Reply → W → Type 0) (old new : Content) (before after : W) → IsEvent begins transacts old before new after → GoesOnOrStops old.registers old.memory new.registers new.memory
-each_counts_once begins transacts old new before after event = row_counts begins transacts old new before after (microframe_row old.registers old.control) event
+pub each_event_counts_once : {W : Type 0} (begins : W → ℕ → Bool → W → Type 0) (transacts : W → Ask → List ℕ → Reply → W → Type 0) (old new : Content) (before after : W) → IsEvent begins transacts old before new after → GoesOnOrStops old.registers old.memory new.registers new.memory
+each_event_counts_once begins transacts old new before after event = row_counts begins transacts old new before after (microframe_row old.registers old.control) event

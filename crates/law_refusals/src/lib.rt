@@ -10,7 +10,7 @@ ghost use Rattle.law_refusals.specs.Refusals.{IsEvent, GoesOnOrStops};
 use usb_base::Wire;
 
 /// Each event leaves Run, Host System Error and the count of refusals, or it is the fault, with at most one refusal more.
-#[tactic(auto, using(crate::proofs::Events::each_counts_once))]
+#[tactic(auto, using(crate::proofs::Events::each_event_counts_once))]
 pub fn each_event_counts_once<W: Wire>()
     ensures { (old new : Content) (before after : W) → IsEvent W.begins W.transacts old before new after → GoesOnOrStops old.registers old.memory new.registers new.memory }
 {}

@@ -9,17 +9,17 @@ ghost use Rattle.law_reports.specs.answers.Seated.{BusHasEndpoints, AHubIsSeated
 ghost use Rattle.law_reports.specs.answers.Counting.{EventsCountDown, ClosingsTellPending, OneLineForOneGet, TwoLinesForOneGet, AGetAddsUp, ALineIsMissing};
 
 /// Each command of a script is refused for the first cause that stands, or none stands, and it is accepted.
-pub fn each_command_has_its_cause()
+pub fn texts_have_causes()
     ensures { TextsHaveCauses }
 {}
 
 /// A command that is accepted adds what it asks for: an endpoint, a transfer whose qTDs have its bytes, descriptors, or a cancel.
-pub fn commands_add_what_they_ask_for()
+pub fn commands_add_what_they_ask()
     ensures { CommandsAddWhatTheyAsk }
 {}
 
 /// A get adds a transfer of its bytes.
-pub fn a_get_adds_a_transfer()
+pub fn a_get_adds_its_bytes()
     ensures { AGetAddsItsBytes }
 {}
 
@@ -30,32 +30,32 @@ pub fn adding_is_broken_by_no_bytes_and_by_no_transfer()
 {}
 
 /// Each ask of the controller is heard as the lines of the script and the ports of its hubs say.
-pub fn each_ask_is_heard_as_the_script_says()
+pub fn texts_are_heard()
     ensures { TextsAreHeard }
 {}
 
 /// The endpoints that stand on the bus are those of the script.
-pub fn the_bus_has_the_endpoints_of_the_script()
+pub fn bus_has_endpoints()
     ensures { BusHasEndpoints }
 {}
 
 /// With a hub and a device below it both are asked.
-pub fn a_hub_and_a_device_below_it_are_seated()
+pub fn a_hub_is_seated()
     ensures { AHubIsSeated }
 {}
 
 /// A bus with no endpoints isn't that of a script with a hub.
-pub fn endpoints_are_broken_by_an_empty_bus()
+pub fn no_endpoints_is_wrong()
     ensures { NoEndpointsIsWrong }
 {}
 
 /// The driver rests only where all that it was asked for is done.
-pub fn the_driver_rests_when_all_is_done()
+pub fn texts_rest_when_done()
     ensures { TextsRestWhenDone }
 {}
 
 /// Each line that the driver writes has its reason in the words that it reads.
-pub fn each_line_has_its_reason()
+pub fn texts_tell_for_reasons()
     ensures { TextsTellForReasons }
 {}
 

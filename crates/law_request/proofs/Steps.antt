@@ -1,4 +1,4 @@
--- Each transaction keeps how host and device stand, and so each window is right.
+-- Each transaction transaction_keeps how host and device stand, and so each window is window_is_right.
 use Rattle.std.proofs.Common.{◌≡◌, ℕ, ◌==◌, ◌&&◌, Bool, true, false, not, List, [], ◌∷◌, refl, ap}
 use Rattle.std.proofs.Math.Bool.{false≢true}
 use Rattle.dev_control.specs.Stages.{Stages, is_read, wanted_of}
@@ -44,17 +44,18 @@ keeps_at e r losses Data side moved c a q s = data_keeps e r losses side moved c
 keeps_at e r losses Status side moved c a q s = status_keeps e r losses side moved c a (has_data r && is_read r.setup) refl s.stage s
 keeps_at e r losses _ side moved c a q s = s
 
-pub keeps : (e : Endpoint) (r : Request) (losses : Losses) (l : Line) → IsRequest r → Stands e r l → Stands e r (transacted e r losses l)
-keeps e r losses l q s = keeps_at e r losses l.host.stage l.host.side l.host.moved l.device l.acts q s
+pub transaction_keeps : (e : Endpoint) (r : Request) (losses : Losses) (l : Line) → IsRequest r → Stands e r l
+    → Stands e r (transacted e r losses l)
+transaction_keeps e r losses l q s = keeps_at e r losses l.host.stage l.host.side l.host.moved l.device l.acts q s
 
 pub keeps_all : (e : Endpoint) (r : Request) (losses : List Losses) (l : Line) → IsRequest r → Stands e r l → Stands e r (after_all e r losses l)
 keeps_all e r [] l q s = s
-keeps_all e r (x ∷ xs) l q s = keeps_all e r xs (transacted e r x l) q (keeps e r x l q s)
+keeps_all e r (x ∷ xs) l q s = keeps_all e r xs (transacted e r x l) q (transaction_keeps e r x l q s)
 
 -- ---- before and after
 
-pub opens : (e : Endpoint) (r : Request) (ping : Bool) (c : Stages) → c.max ≡ e.max → Stands e r (line_at e r ping c)
-opens e r ping c m = record { host_max = refl; device_max = m; stage = record { moved = refl; left = refl; acts = refl } }
+pub window_opens : (e : Endpoint) (r : Request) (ping : Bool) (c : Stages) → c.max ≡ e.max → Stands e r (line_at e r ping c)
+window_opens e r ping c m = record { host_max = refl; device_max = m; stage = record { moved = refl; left = refl; acts = refl } }
 
 abbrev is_done : Stage → Bool
 is_done Done = true
@@ -64,8 +65,8 @@ done_acts : (e : Endpoint) (r : Request) (stage : Stage) (v : Sight) → StandsA
 done_acts e r Done v s h = (s.acts, s.moved)
 done_acts e r _ v s h = absurd (false≢true (ap is_done h))
 
-pub right : (e : Endpoint) (r : Request) (l : Line) → Stands e r l → IsRight e r l
-right e r l s =
+pub window_is_right : (e : Endpoint) (r : Request) (l : Line) → Stands e r l → IsRight e r l
+window_is_right e r l s =
     let x : IsEnded e r (sight_of l) = ends e r l.host.stage (sight_of l) s.stage in
     record {
       once = x.once;
@@ -75,10 +76,10 @@ right e r l s =
     }
 
 pub window_stands : (e : Endpoint) (t : Turn) (c : Stages) → IsRequest t.request → c.max ≡ e.max → Stands e t.request (window_of e t c)
-window_stands e t c q m = keeps_all e t.request t.losses (line_at e t.request t.ping c) q (opens e t.request t.ping c m)
+window_stands e t c q m = keeps_all e t.request t.losses (line_at e t.request t.ping c) q (window_opens e t.request t.ping c m)
 
-pub all_right : (e : Endpoint) (ts : List Turn) (c : Stages) → AreRequests ts → c.max ≡ e.max → AreRight e ts c
-all_right e [] c q m = tt
-all_right e (t ∷ ts) c q m =
+pub windows_are_right : (e : Endpoint) (ts : List Turn) (c : Stages) → AreRequests ts → c.max ≡ e.max → AreRight e ts c
+windows_are_right e [] c q m = tt
+windows_are_right e (t ∷ ts) c q m =
     let s : Stands e t.request (window_of e t c) = window_stands e t c q.0 m in
-    (right e t.request (window_of e t c) s, all_right e ts (window_of e t c).device q.1 s.device_max)
+    (window_is_right e t.request (window_of e t c) s, windows_are_right e ts (window_of e t c).device q.1 s.device_max)

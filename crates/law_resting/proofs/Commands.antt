@@ -22,7 +22,7 @@ use Rattle.drv_table.specs.IsoOffers.{Descriptors, total_of, slot_runs, descript
 use Rattle.drv_table.specs.Offers.{new_endpoint, placed_endpoint, with_queued, new_transfer}
 use Rattle.claims_driver.specs.Leaving.{owes, leaves_ring, leaves_frames, leaver, Returns, returns_of, AreOrderly, IsOrderly}
 use Rattle.law_driver.specs.run_owners.Accepts.{Accepts, opens, chains, places, transfers, describes, cancels, unchains}
-use Rattle.law_driver.proofs.lemmas.run_owners.Commands.{accepted_for_a_reason}
+use Rattle.law_driver.proofs.lemmas.run_owners.Commands.{each_command_has_its_reason}
 use Rattle.law_driver.proofs.lemmas.run_owners.Goes.{begun_orderly}
 use Rattle.law_driver.proofs.lemmas.run_owners.Ordered.{pushed, pushed_below, iso_periodic}
 use Rattle.law_driver.proofs.lemmas.run_owners.Orders.{owes_nothing, set_case, IsLike, endpoint_changed}
@@ -394,12 +394,12 @@ idle_of d m o (unchains why) = why.idle
 
 pub commands_keep_counts : CommandsKeepCounts
 commands_keep_counts d m cmd o order old some is =
-    let why = accepted_for_a_reason d m cmd o is in
+    let why = each_command_has_its_reason d m cmd o is in
     accepted_counted d m o why (IfOk-at_ok (λ (f : Offered). HasSomeIn f.driver.command) is
     (some_described d m cmd (idle_of d m o why) some)) order old
 
-pub a_new_driver_is_counted : NewDriverIsCounted
-a_new_driver_is_counted n room = record {
+pub new_driver_is_counted : NewDriverIsCounted
+new_driver_is_counted n room = record {
   counts = record {
     harvests = λ t y x there at goes. absurd (cc);
     leaving = λ e. omega arith;

@@ -32,7 +32,7 @@ use Rattle.law_driver.specs.run_owners.Due.{IsDue, IsHarvestDue}
 use Rattle.law_driver.proofs.lemmas.run_owners.Orders.{IsLeft, IsRemoved}
 use Rattle.law_driver.proofs.lemmas.run_owners.Leaves.{first_left, first_removed, GoesBy, let_go_goes, let_waiting_goes, none_of, less_cleared, less_removed, read_orderly}
 use Rattle.law_driver.proofs.lemmas.run_owners.Goes.{begun_orderly}
-use Rattle.law_driver.proofs.lemmas.run_owners.Reasons.{each_is_due}
+use Rattle.law_driver.proofs.lemmas.run_owners.Reasons.{each_event_is_due}
 use Rattle.law_driver.proofs.lemmas.run_owners.Rows.{not_iso}
 use Rattle.law_footprints.proofs.Fields.{bell_stays, rung_stays, command_stays}
 use Rattle.law_footprints.specs.Footprint.{footprint}
@@ -361,4 +361,4 @@ due_counted (rows.Harvest e t found) p due order old =
 due_counted rows.Rest p due order old = old
 
 pub events_keep_counts : EventsKeepCounts
-events_keep_counts p order old = due_counted (driver_row p) p (each_is_due p) order old
+events_keep_counts p order old = due_counted (driver_row p) p (each_event_is_due p) order old

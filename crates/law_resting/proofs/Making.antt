@@ -22,8 +22,8 @@ use Rattle.drv_table.specs.Parts.{Parts}
 use Rattle.drv_table.specs.Rows.{driver_row, after_driver_row}
 use Rattle.law_driver.specs.run_owners.Accepts.{Accepts, opens, chains, places, transfers, describes, cancels, unchains}
 use Rattle.law_driver.specs.run_owners.Due.{IsDue}
-use Rattle.law_driver.proofs.lemmas.run_owners.Commands.{accepted_for_a_reason}
-use Rattle.law_driver.proofs.lemmas.run_owners.Reasons.{each_is_due}
+use Rattle.law_driver.proofs.lemmas.run_owners.Commands.{each_command_has_its_reason}
+use Rattle.law_driver.proofs.lemmas.run_owners.Reasons.{each_event_is_due}
 use Rattle.law_footprints.proofs.Fields.{command_stays}
 use Rattle.law_footprints.specs.Footprint.{footprint}
 use Rattle.law_resting.specs.Making.{IsMaking, IsMakingAt, NewDriverIsMaking, EventsKeepMaking, CommandsKeepMaking}
@@ -119,7 +119,7 @@ due_making (rows.Harvest e t found) p due old = idle_row (rows.Harvest e t found
 due_making rows.Rest p due old = old
 
 pub events_keep_making : EventsKeepMaking
-events_keep_making p old = due_making (driver_row p) p (each_is_due p) old
+events_keep_making p old = due_making (driver_row p) p (each_event_is_due p) old
 
 -- ---- commands
 
@@ -152,7 +152,7 @@ accepted_making d m o (unchains why) =
     (unfinished.Unchain why.number) refl refl)
 
 pub commands_keep_making : CommandsKeepMaking
-commands_keep_making d m cmd o is = accepted_making d m o (accepted_for_a_reason d m cmd o is)
+commands_keep_making d m cmd o is = accepted_making d m o (each_command_has_its_reason d m cmd o is)
 
-pub a_new_driver_is_making : NewDriverIsMaking
-a_new_driver_is_making n room c is off = absurd (cc)
+pub new_driver_is_making : NewDriverIsMaking
+new_driver_is_making n room c is off = absurd (cc)

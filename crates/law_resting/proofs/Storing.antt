@@ -28,8 +28,8 @@ use Rattle.drv_table.specs.Removals.{descriptor_leaving, after_unlink}
 use Rattle.drv_table.specs.Rows.{driver_row, after_driver_row}
 use Rattle.law_driver.specs.run_owners.Accepts.{Accepts, opens, chains, places, transfers, describes, cancels, unchains}
 use Rattle.law_driver.specs.run_owners.Due.{IsDue}
-use Rattle.law_driver.proofs.lemmas.run_owners.Commands.{accepted_for_a_reason}
-use Rattle.law_driver.proofs.lemmas.run_owners.Reasons.{each_is_due}
+use Rattle.law_driver.proofs.lemmas.run_owners.Commands.{each_command_has_its_reason}
+use Rattle.law_driver.proofs.lemmas.run_owners.Reasons.{each_event_is_due}
 use Rattle.law_footprints.proofs.Fields.{command_stays, list_stays}
 use Rattle.law_footprints.specs.Footprint.{footprint}
 use Rattle.law_resting.specs.Storing.{IsLeft, IsWorking, IsStoringAt, IsStoring, NewDriverIsStoring, EventsKeepStoring, CommandsKeepStoring}
@@ -191,7 +191,7 @@ due_storing (rows.Harvest e t found) p due old = idle_row (rows.Harvest e t foun
 due_storing rows.Rest p due old = old
 
 pub events_keep_storing : EventsKeepStoring
-events_keep_storing p old = due_storing (driver_row p) p (each_is_due p) old
+events_keep_storing p old = due_storing (driver_row p) p (each_event_is_due p) old
 
 -- ---- commands
 
@@ -227,7 +227,7 @@ accepted_storing d m o old (unchains why) =
     (next_working true (record d.periodic { queued = endpoint_members d why.number why.endpoint why.placement }) old.1))
 
 pub commands_keep_storing : CommandsKeepStoring
-commands_keep_storing d m cmd o old is = accepted_storing d m o old (accepted_for_a_reason d m cmd o is)
+commands_keep_storing d m cmd o old is = accepted_storing d m o old (each_command_has_its_reason d m cmd o is)
 
 pub a_new_driver_is_storing : NewDriverIsStoring
 a_new_driver_is_storing n room = (λ c is on. absurd (none_some c is), λ w is. absurd (no_work w is))

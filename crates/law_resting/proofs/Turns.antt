@@ -34,7 +34,7 @@ use Rattle.drv_table.specs.Rows.{turn_row, row_for, driver_row, after_driver_row
 use Rattle.claims_driver.specs.Leaving.{times, owes, leaves_ring, leaves_frames, transfer_before, endpoint_before, transfers_in, endpoints_in, IsOrderly}
 use Rattle.claims_answers.specs.Turns.{seen_first, owed, IsUntold, IsHarvest}
 use Rattle.law_driver.specs.run_owners.Due.{IsDue, IsHarvestDue}
-use Rattle.law_driver.proofs.lemmas.run_owners.Reasons.{each_is_due}
+use Rattle.law_driver.proofs.lemmas.run_owners.Reasons.{each_event_is_due}
 use Rattle.law_resting.specs.Counted.{IsNextIn, IsCounted}
 use Rattle.law_resting.proofs.Resting.{none_works, not_working}
 use Rattle.law_resting.specs.Turns.{DriversTakeTurns, WaitingIsNoTurn}
@@ -318,12 +318,12 @@ drivers_take_turns p order old = record {
   leaving = λ idle some.
       let is = row_is p order old idle in
       subst (OneOrTurn p order old) (sym is)
-      (gives p order old p.driver.turn (harvest_row p.driver p.memory) refl refl some (subst (IsDue p) is (each_is_due p)));
+      (gives p order old p.driver.turn (harvest_row p.driver p.memory) refl refl some (subst (IsDue p) is (each_event_is_due p)));
   harvest = λ idle untold.
       let is = row_is p order old idle in
       subst (ReadsOrTurn p order old) (sym is)
       (tells p order old p.driver.turn (harvest_row p.driver p.memory) (leaving_row p.driver p.registers) refl refl refl untold
-      (subst (IsDue p) is (each_is_due p)));
+      (subst (IsDue p) is (each_event_is_due p)));
 }
 
 -- ---- a worked row

@@ -11,7 +11,7 @@ ghost use Rattle.law_resting.specs.Turns.{DriversTakeTurns};
 ghost use Rattle.law_resting.specs.Storing.{NewDriverIsStoring, EventsKeepStoring, CommandsKeepStoring, LinkedHasWords, WorkHasStore};
 
 /// A driver that was just built forgets nothing.
-pub fn a_new_driver_is_counted()
+pub fn new_driver_is_counted()
     ensures { NewDriverIsCounted }
 {}
 

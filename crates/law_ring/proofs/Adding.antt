@@ -288,13 +288,15 @@ module _ {W : Type 0} (transacts : W → Ask → List ℕ → Reply → W → Ty
   element_before kind (writes_back w quiet) k a u here from = write_before parts hand now later w.copy w.settled
       (settled_queue_of w.copy w.settled) (writes w) order place n k a u here from
 
-pub event_adds : {W : Type 0} {Beside : Ask → Type 0} (transacts : W → Ask → List ℕ → Reply → W → Type 0) (member : ℕ → Bool)
+pub each_event_adds_to_the_end : {W : Type 0} {Beside : Ask → Type 0} (transacts : W → Ask → List ℕ → Reply → W → Type 0)
+    (member : ℕ → Bool)
     (parts : StructureSets) (hand : Hand) (reply : Reply) (wire after : W) (now : StructureSets) (later : Hand) (kind : WalkStep)
     (order : ℕ → ℕ) (place : ℕ) (out : List ℕ) (n : ℕ) (xs : List ℕ)
     → AreMembers member parts → IsInHand member parts reply hand → Effect transacts parts hand wire after now later kind
     → (z : StreamEffect Beside transacts parts hand wire after now later) → Accounts order place out hand parts n xs
     → GoesOnInOrder order out later now n xs (bytes_of_effect n z)
-event_adds {Beside = Beside} transacts member parts hand reply wire after now later kind order place out n xs members in_hand effect z acc =
+each_event_adds_to_the_end {Beside = Beside} transacts member parts hand reply wire after now later kind order place out n xs members
+    in_hand effect z acc =
     goes_on_in_order Beside transacts parts hand wire after now later order place out n
     (effect_alters transacts member parts hand reply wire after now later kind in_hand effect n)
     (placed_by transacts member parts hand reply wire after now later order place n in_hand kind effect)

@@ -9,7 +9,7 @@ use Rattle.law_structures.specs.lent_structures.Structures.{Structure, QueueHead
 use Rattle.law_structures.proofs.lemmas.lent_structures.Names.{put_here, put_beside}
 use Rattle.law_structures.specs.lent_structures.WriteBack.{CanBeWritten}
 use Rattle.law_structures.specs.lent_structures.Alters.{Alters}
-use Rattle.law_structures.proofs.lemmas.lent_structures.Altering.{unaltered, head_put}
+use Rattle.law_structures.proofs.lemmas.lent_structures.Altering.{unaltered, a_queue_head_alters_nothing}
 use Rattle.law_ring.specs.Hand.{settled_queue_of, Hand}
 use Rattle.law_ring.specs.Ring.{IsCopied, IsSettled, IsInHand}
 use Rattle.law_ring.specs.Effects.{bytes_in, received_into, Effect}
@@ -36,7 +36,7 @@ effect_alters transacts member parts hand reply wire after now later kind in_han
     let new : Structure = QueueHead (advanced k.copy.queue k.element k.qtd) in
     subst (λ (ps : StructureSets). Alters (parts n) (ps n)) (sym k.now_is)
     (one_alters parts (put parts k.copy.at k.copy.at new) k.copy.at
-    (subst (Alters (parts k.copy.at)) (sym (put_here parts k.copy.at k.copy.at new)) (head_put (parts k.copy.at) k.copy.at k.copy.queue (advanced k.copy.queue k.element k.qtd) copied.here))
+    (subst (Alters (parts k.copy.at)) (sym (put_here parts k.copy.at k.copy.at new)) (a_queue_head_alters_nothing (parts k.copy.at) k.copy.at k.copy.queue (advanced k.copy.queue k.element k.qtd) copied.here))
     (λ i differs. put_beside parts k.copy.at k.copy.at new i differs) n)
 effect_alters transacts member parts hand reply wire after now later kind in_hand (writes_back k quiet) n =
     let both : IsCopied member parts k.copy × IsSettled k.copy.queue reply k.settled = subst (IsInHand member parts reply) k.in_hand in_hand in

@@ -193,11 +193,11 @@ start_at : (base : Base) (member : ℕ → Bool) (parts : StructureSets) (hand :
 start_at base member parts hand new ring start =
     ap (cursor_link new.registers) start ∙ ap (λ (b : Base). links.Qh b.async_list_address) ring.registers
 
-pub ring_answered : (base : Base) (member narrow : ℕ → Bool) (parts : StructureSets) (hand : Hand) (new : WalkPlace) → IsRing base member parts hand new → IsAtHead new → IsWider narrow member → IsClosed narrow parts → narrow base.async_list_address ≡ true → HasHeads member narrow parts → IsRing base narrow parts hand new
-ring_answered base member narrow parts hand new ring (at_start k) fewer closed start heads =
+pub answer_leaves_ring : (base : Base) (member narrow : ℕ → Bool) (parts : StructureSets) (hand : Hand) (new : WalkPlace) → IsRing base member parts hand new → IsAtHead new → IsWider narrow member → IsClosed narrow parts → narrow base.async_list_address ≡ true → HasHeads member narrow parts → IsRing base narrow parts hand new
+answer_leaves_ring base member narrow parts hand new ring (at_start k) fewer closed start heads =
     ring_narrowed base member narrow parts hand new ring fewer closed start
     (record { cursor = record { to = base.async_list_address; leads = start_at base member parts hand new ring k.cursor; on = start }; in_hand = held_none hand narrow (sym k.nothing ∙ ring.held) })
-ring_answered base member narrow parts hand new ring (at_head k) fewer closed start heads =
+answer_leaves_ring base member narrow parts hand new ring (at_head k) fewer closed start heads =
     ring_narrowed base member narrow parts hand new ring fewer closed start
     (record {
       cursor = record { to = k.at; leads = ap (cursor_link new.registers) k.cursor; on = head_among base member narrow parts hand new k ring closed heads };

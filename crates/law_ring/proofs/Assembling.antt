@@ -312,10 +312,10 @@ module _ {W : Type 0} (transacts : W → Ask → List ℕ → Reply → W → Ty
     kept kind effect (grows m all g) = ⊎_elim (λ (is : n ≡ m.copy.at). own_pipe m all g is)
         (λ (differs : n ≢ m.copy.at). other_pipe m all g differs) (cases_eq n m.copy.at)
 
-pub event_keeps : {W : Type 0} (transacts : W → Ask → List ℕ → Reply → W → Type 0) (stream : ℕ → ℕ → Bool) (taker : W → ℕ → ℕ → Option Taker) (member : ℕ → Bool) (parts : StructureSets) (hand : Hand) (reply : Reply) (wire after : W) (now : StructureSets) (later : Hand) (kind : WalkStep) (n : ℕ) (x : Endpoint) (known : List ℕ)
+pub each_event_keeps_an_out_pipe : {W : Type 0} (transacts : W → Ask → List ℕ → Reply → W → Type 0) (stream : ℕ → ℕ → Bool) (taker : W → ℕ → ℕ → Option Taker) (member : ℕ → Bool) (parts : StructureSets) (hand : Hand) (reply : Reply) (wire after : W) (now : StructureSets) (later : Hand) (kind : WalkStep) (n : ℕ) (x : Endpoint) (known : List ℕ)
     → IsOutBus transacts stream taker → AreMembers member parts → AreMembers member now → IsInHand member parts reply hand
     → Effect transacts parts hand wire after now later kind → (z : StreamEffect NoneBeside transacts parts hand wire after now later)
     → IsOnlyEndpoint stream member parts n x → IsOutPipe (taker wire x.addr x.ep) known parts hand n x → IsOutPipe (taker after x.addr x.ep) (known ++ bytes_of_effect n z) now later n x
-event_keeps transacts stream taker member parts hand reply wire after now later kind n x known bus members members_now in_hand effect z only pipe =
+each_event_keeps_an_out_pipe transacts stream taker member parts hand reply wire after now later kind n x known bus members members_now in_hand effect z only pipe =
     kept transacts stream taker bus member parts hand reply wire after now later n x known members members_now in_hand only pipe
     {Beside = NoneBeside} (λ ask none asked. none) kind effect z

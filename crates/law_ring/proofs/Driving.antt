@@ -19,12 +19,12 @@ use Rattle.async_walk.specs.Rows.{WalkPlace}
 use Rattle.law_structures.specs.lent_structures.Structures.{Structure, QueueHead, Element, Structures, StructureSets, with_structure, put, without_structure, without, Holds, Has, Tells}
 use Rattle.law_structures.specs.lent_structures.Changes.{Leaves, IsNew}
 use Rattle.law_structures.proofs.lemmas.lent_structures.Names.{with_here, with_there, put_here, put_beside, put_same, put_else, without_here, without_beside, without_else}
-use Rattle.law_structures.proofs.lemmas.lent_structures.Telling.{added, joined, removed}
+use Rattle.law_structures.proofs.lemmas.lent_structures.Telling.{new_is_told, another_is_told, fewer_are_told}
 use Rattle.law_structures.proofs.lemmas.lent_structures.Writing.{word_put_queue, word_put_element}
 use Rattle.law_structures.specs.lent_structures.Sound.{LeadsAmong, IsSoundElement, IsSoundQueue, IsMember}
 use Rattle.law_structures.specs.lent_structures.Alters.{Alters}
-use Rattle.law_structures.proofs.lemmas.lent_structures.Altering.{found_queue, no_two, head_put}
-use Rattle.law_structures.proofs.lemmas.lent_structures.Members.{leads_still, member_still}
+use Rattle.law_structures.proofs.lemmas.lent_structures.Altering.{found_queue, no_two, a_queue_head_alters_nothing}
+use Rattle.law_structures.proofs.lemmas.lent_structures.Members.{leads_still, an_altered_part_is_sound}
 use Rattle.law_ring.specs.Hand.{Copy, copied_queue, Settlement, Hand, Empty, Copied, Settled, Stale, held_of}
 use Rattle.claims_base.specs.Controller.{Base}
 use Rattle.law_ring.specs.Ring.{IsCopied, IsSettled, IsInHand, IsRing}
@@ -42,8 +42,8 @@ in_hand_kept member parts now reply (Copied c) keeps k = copy_kept member parts 
 in_hand_kept member parts now reply (Settled c s) keeps k = (copy_kept member parts now c keeps k.0, k.1)
 in_hand_kept member parts now reply (Stale n q) keeps k = k
 
-pub ring_retold : (base : Base) (member : ℕ → Bool) (parts now : StructureSets) (hand : Hand) (p : WalkPlace) (after : Mem) → IsRing base member parts hand p → Tells after now → ((n : ℕ) → member n ≡ true → IsMember member n (now n)) → KeepsQueueHeads parts now → IsRing base member now hand (record p { memory = after })
-ring_retold base member parts now hand p after k told members keeps = record {
+pub other_parts_leave_ring : (base : Base) (member : ℕ → Bool) (parts now : StructureSets) (hand : Hand) (p : WalkPlace) (after : Mem) → IsRing base member parts hand p → Tells after now → ((n : ℕ) → member n ≡ true → IsMember member n (now n)) → KeepsQueueHeads parts now → IsRing base member now hand (record p { memory = after })
+other_parts_leave_ring base member parts now hand p after k told members keeps = record {
   tells = told;
   members = members;
   registers = k.registers;
@@ -85,9 +85,9 @@ element_no_head o d q element head = cc
 
 -- ---- a word of an inactive qTD
 
-pub ring_stored : (base : Base) (member : ℕ → Bool) (parts : StructureSets) (hand : Hand) (p : WalkPlace) (n a : ℕ) (d new : Qtd) (k v : ℕ) → IsRing base member parts hand p → parts n a ≡ Some (Element d) → d.token.active ≡ false → k < 8 → qtd_words new ≡ set (qtd_words d) k v → IsQtdInRange new → (member n ≡ true → IsSoundElement (parts n) new × IsUnnamed (parts n) a new) → IsRing base member (put parts n a (Element new)) hand (record p { memory = with_word p.memory (a + 4 * k) v })
-ring_stored base member parts hand p n a d new k v ring at off below is range sound =
-    ring_retold base member parts (put parts n a (Element new)) hand p (with_word p.memory (a + 4 * k) v) ring
+pub element_store_leaves_ring : (base : Base) (member : ℕ → Bool) (parts : StructureSets) (hand : Hand) (p : WalkPlace) (n a : ℕ) (d new : Qtd) (k v : ℕ) → IsRing base member parts hand p → parts n a ≡ Some (Element d) → d.token.active ≡ false → k < 8 → qtd_words new ≡ set (qtd_words d) k v → IsQtdInRange new → (member n ≡ true → IsSoundElement (parts n) new × IsUnnamed (parts n) a new) → IsRing base member (put parts n a (Element new)) hand (record p { memory = with_word p.memory (a + 4 * k) v })
+element_store_leaves_ring base member parts hand p n a d new k v ring at off below is range sound =
+    other_parts_leave_ring base member parts (put parts n a (Element new)) hand p (with_word p.memory (a + 4 * k) v) ring
     (word_put_element p.memory parts n a d new k v ring.tells at below is range)
     (members_but_one member parts (put parts n a (Element new)) n (put_beside parts n a (Element new))
     (λ on. let s = sound on in member_put member parts n a (Element new) (member_stored member n (parts n) a d new (ring.members n on) at off s.0 s.1)) ring.members)
@@ -95,23 +95,25 @@ ring_stored base member parts hand p n a d new k v ring at off below is range so
 
 -- ---- a structure that is lent, or joins in blocks that are Lent
 
-pub ring_lent : (base : Base) (member : ℕ → Bool) (parts : StructureSets) (hand : Hand) (p : WalkPlace) (n a : ℕ) (s : Structure) (after : Mem) → IsRing base member parts hand p → Leaves p.memory after → IsNew p.memory after a s → parts n a ≡ None → (member n ≡ true → IsMember member n (with_structure (parts n) a s)) → IsRing base member (put parts n a s) hand (record p { memory = after })
-ring_lent base member parts hand p n a s after ring left fresh none owes =
-    ring_retold base member parts (put parts n a s) hand p after ring (added p.memory after parts n a s ring.tells left fresh)
+pub lend_leaves_ring : (base : Base) (member : ℕ → Bool) (parts : StructureSets) (hand : Hand) (p : WalkPlace) (n a : ℕ) (s : Structure) (after : Mem) → IsRing base member parts hand p → Leaves p.memory after → IsNew p.memory after a s → parts n a ≡ None → (member n ≡ true → IsMember member n (with_structure (parts n) a s)) → IsRing base member (put parts n a s) hand (record p { memory = after })
+lend_leaves_ring base member parts hand p n a s after ring left fresh none owes =
+    other_parts_leave_ring base member parts (put parts n a s) hand p after ring
+    (new_is_told p.memory after parts n a s ring.tells left fresh)
     (members_but_one member parts (put parts n a s) n (put_beside parts n a s) (λ on. member_put member parts n a s (owes on)) ring.members)
     (keeps_put parts n a s (λ q head. some_none (parts n a) (QueueHead q) none head))
 
-pub ring_joined : (base : Base) (member : ℕ → Bool) (parts : StructureSets) (hand : Hand) (p : WalkPlace) (n a : ℕ) (s : Structure) → IsRing base member parts hand p → Holds p.memory a s → ((b k c : ℕ) (u : Structure) → Has a s b → parts k c ≡ Some u → Has c u b → ⊥) → parts n a ≡ None → (member n ≡ true → IsMember member n (with_structure (parts n) a s)) → IsRing base member (put parts n a s) hand p
-ring_joined base member parts hand p n a s ring holds apart none owes =
-    ring_retold base member parts (put parts n a s) hand p p.memory ring (joined p.memory parts n a s ring.tells holds apart)
+pub another_leaves_ring : (base : Base) (member : ℕ → Bool) (parts : StructureSets) (hand : Hand) (p : WalkPlace) (n a : ℕ) (s : Structure) → IsRing base member parts hand p → Holds p.memory a s → ((b k c : ℕ) (u : Structure) → Has a s b → parts k c ≡ Some u → Has c u b → ⊥) → parts n a ≡ None → (member n ≡ true → IsMember member n (with_structure (parts n) a s)) → IsRing base member (put parts n a s) hand p
+another_leaves_ring base member parts hand p n a s ring holds apart none owes =
+    other_parts_leave_ring base member parts (put parts n a s) hand p p.memory ring
+    (another_is_told p.memory parts n a s ring.tells holds apart)
     (members_but_one member parts (put parts n a s) n (put_beside parts n a s) (λ on. member_put member parts n a s (owes on)) ring.members)
     (keeps_put parts n a s (λ q head. some_none (parts n a) (QueueHead q) none head))
 
 -- ---- a structure is told no more
 
-pub ring_fewer : (base : Base) (member : ℕ → Bool) (parts : StructureSets) (hand : Hand) (p : WalkPlace) (n a : ℕ) → IsRing base member parts hand p → ((q : Qh) → parts n a ≡ Some (QueueHead q) → ⊥) → (member n ≡ true → IsMember member n (without_structure (parts n) a)) → IsRing base member (without parts n a) hand p
-ring_fewer base member parts hand p n a ring no_head owes =
-    ring_retold base member parts (without parts n a) hand p p.memory ring (removed p.memory parts n a ring.tells)
+pub fewer_leave_ring : (base : Base) (member : ℕ → Bool) (parts : StructureSets) (hand : Hand) (p : WalkPlace) (n a : ℕ) → IsRing base member parts hand p → ((q : Qh) → parts n a ≡ Some (QueueHead q) → ⊥) → (member n ≡ true → IsMember member n (without_structure (parts n) a)) → IsRing base member (without parts n a) hand p
+fewer_leave_ring base member parts hand p n a ring no_head owes =
+    other_parts_leave_ring base member parts (without parts n a) hand p p.memory ring (fewer_are_told p.memory parts n a ring.tells)
     (members_but_one member parts (without parts n a) n (without_beside parts n a) (λ on. member_without member parts n a (owes on)) ring.members)
     (keeps_without parts n a no_head)
 
@@ -130,9 +132,9 @@ stranger_hand member parts n a reply (Copied c) off k = stranger_copy member par
 stranger_hand member parts n a reply (Settled c s) off k = (stranger_copy member parts n a c off k.0, k.1)
 stranger_hand member parts n a reply (Stale m q) off k = k
 
-pub ring_left : (base : Base) (member : ℕ → Bool) (parts : StructureSets) (hand : Hand) (p : WalkPlace) (n a : ℕ) → IsRing base member parts hand p → member n ≡ false → IsRing base member (without parts n a) hand p
-ring_left base member parts hand p n a ring off = record {
-  tells = removed p.memory parts n a ring.tells;
+pub strangers_leave_ring : (base : Base) (member : ℕ → Bool) (parts : StructureSets) (hand : Hand) (p : WalkPlace) (n a : ℕ) → IsRing base member parts hand p → member n ≡ false → IsRing base member (without parts n a) hand p
+strangers_leave_ring base member parts hand p n a ring off = record {
+  tells = fewer_are_told p.memory parts n a ring.tells;
   members = members_but_one member parts (without parts n a) n (without_beside parts n a) (λ on. absurd (true≢false (sym on ∙ off))) ring.members;
   registers = ring.registers;
   start = ring.start;
@@ -210,8 +212,8 @@ hand_after_link member wider parts n q l reply (Settled c s) more head k = (copy
 member_relinked : (wider : ℕ → Bool) (n : ℕ) (part : Structures) (q : Qh) (l : LinkBits) (m : IsMember wider n part) → m.queue ≡ q → part n ≡ Some (QueueHead q) → LeadsAmong wider l → IsMember wider n (with_structure part n (QueueHead (record q { link = l })))
 member_relinked wider n part q l m is head link =
     let now = with_structure part n (QueueHead (record q { link = l })) in
-    let alters = head_put part n q (record q { link = l }) head in
-    member_still wider n part now (record q { link = l }) m alters (with_here part n (QueueHead (record q { link = l }))) link
+    let alters = a_queue_head_alters_nothing part n q (record q { link = l }) head in
+    an_altered_part_is_sound wider n part now (record q { link = l }) m alters (with_here part n (QueueHead (record q { link = l }))) link
     (relinked_sound now q l (queue_still part now q alters (λ a t here. with_there part n (QueueHead (record q { link = l })) a (no_two part a n (Element t) (QueueHead q) here head (λ e. cc)) ∙ here) (subst (IsSoundQueue part) is m.sound)))
 
 wider_members : (member wider : ℕ → Bool) (parts : StructureSets) → IsWider member wider → ((i : ℕ) → member i ≡ true → IsMember member i (parts i)) → ((i : ℕ) → wider i ≡ true → member i ≡ false → IsMember wider i (parts i)) → (i : ℕ) → wider i ≡ true → IsMember wider i (parts i)
@@ -224,8 +226,8 @@ linked_member wider parts n q l head link m =
     subst (IsMember wider n) (sym (put_here parts n n (QueueHead (record q { link = l }))))
     (member_relinked wider n (parts n) q l m is head link)
 
-pub ring_linked : (base : Base) (member wider : ℕ → Bool) (parts : StructureSets) (hand : Hand) (p : WalkPlace) (n : ℕ) (q : Qh) (l : LinkBits) → IsRing base member parts hand p → IsWider member wider → parts n n ≡ Some (QueueHead q) → IsQhInRange (record q { link = l }) → (wider n ≡ true → LeadsAmong wider l) → ((i : ℕ) → wider i ≡ true → member i ≡ false → IsMember wider i (parts i)) → IsRing base wider (put parts n n (QueueHead (record q { link = l }))) (hand_linked n l hand) (record p { memory = with_word p.memory n (word_of link_rows l) })
-ring_linked base member wider parts hand p n q l ring more head range link comes =
+pub link_store_leaves_ring : (base : Base) (member wider : ℕ → Bool) (parts : StructureSets) (hand : Hand) (p : WalkPlace) (n : ℕ) (q : Qh) (l : LinkBits) → IsRing base member parts hand p → IsWider member wider → parts n n ≡ Some (QueueHead q) → IsQhInRange (record q { link = l }) → (wider n ≡ true → LeadsAmong wider l) → ((i : ℕ) → wider i ≡ true → member i ≡ false → IsMember wider i (parts i)) → IsRing base wider (put parts n n (QueueHead (record q { link = l }))) (hand_linked n l hand) (record p { memory = with_word p.memory n (word_of link_rows l) })
+link_store_leaves_ring base member wider parts hand p n q l ring more head range link comes =
     let new : Structure = QueueHead (record q { link = l }) in
     let first : n + 4 * 0 ≡ n = omega arith in
     let members : (i : ℕ) → wider i ≡ true → IsMember wider i (parts i) = wider_members member wider parts more ring.members comes in
@@ -281,13 +283,13 @@ hand_after_mend member parts reply n q new (Stale m r) members head halted k = k
 mended_member : (member : ℕ → Bool) (parts : StructureSets) (n : ℕ) (q new : Qh) → parts n n ≡ Some (QueueHead q) → LeadsAmong member new.link → IsSoundQueue (parts n) new → IsMember member n (parts n) → IsMember member n (put parts n n (QueueHead new) n)
 mended_member member parts n q new head link sound m =
     let now = with_structure (parts n) n (QueueHead new) in
-    let alters = head_put (parts n) n q new head in
+    let alters = a_queue_head_alters_nothing (parts n) n q new head in
     member_put member parts n n (QueueHead new)
-    (member_still member n (parts n) now new m alters (with_here (parts n) n (QueueHead new)) link
+    (an_altered_part_is_sound member n (parts n) now new m alters (with_here (parts n) n (QueueHead new)) link
     (queue_still (parts n) now new alters (λ a t here. with_there (parts n) n (QueueHead new) a (no_two (parts n) a n (Element t) (QueueHead q) here head (λ e. cc)) ∙ here) sound))
 
-pub ring_mended : (base : Base) (member : ℕ → Bool) (parts : StructureSets) (hand : Hand) (p : WalkPlace) (n : ℕ) (q new : Qh) (k v : ℕ) → IsRing base member parts hand p → parts n n ≡ Some (QueueHead q) → q.token.halted ≡ true → k < 12 → qh_words new ≡ set (qh_words q) k v → IsQhInRange new → (member n ≡ true → LeadsAmong member new.link × IsSoundQueue (parts n) new) → IsRing base member (put parts n n (QueueHead new)) (hand_stale n hand) (record p { memory = with_word p.memory (n + 4 * k) v })
-ring_mended base member parts hand p n q new k v ring head halted below is range sound = record {
+pub mending_leaves_ring : (base : Base) (member : ℕ → Bool) (parts : StructureSets) (hand : Hand) (p : WalkPlace) (n : ℕ) (q new : Qh) (k v : ℕ) → IsRing base member parts hand p → parts n n ≡ Some (QueueHead q) → q.token.halted ≡ true → k < 12 → qh_words new ≡ set (qh_words q) k v → IsQhInRange new → (member n ≡ true → LeadsAmong member new.link × IsSoundQueue (parts n) new) → IsRing base member (put parts n n (QueueHead new)) (hand_stale n hand) (record p { memory = with_word p.memory (n + 4 * k) v })
+mending_leaves_ring base member parts hand p n q new k v ring head halted below is range sound = record {
   tells = word_put_queue p.memory parts n n q new k v ring.tells head below is range;
   members = members_but_one member parts (put parts n n (QueueHead new)) n (put_beside parts n n (QueueHead new))
       (λ on. let s = sound on in mended_member member parts n q new head s.0 s.1 (ring.members n on)) ring.members;

@@ -372,9 +372,9 @@ module _ {W : Type 0} (transacts : W → Ask → List ℕ → Reply → W → Ty
       same_front (ap (λ (ps : StructureSets). ps n) w.now_is ∙ back_beside parts w.copy.at w.copy.at w.copy.queue (settled_queue_of w.copy w.settled) (moved_by w.settled.outcome) w.settled.got (received_into (parts w.copy.at) w.copy.queue w.element w.settled.got) w.element n differs))
       (cases_eq n w.copy.at)
 
-pub front_moves : {W : Type 0} (transacts : W → Ask → List ℕ → Reply → W → Type 0) (member : ℕ → Bool) (parts : StructureSets) (hand : Hand) (reply : Reply) (wire after : W) (now : StructureSets) (later : Hand) (kind : WalkStep) (order : ℕ → ℕ) (front : ℕ) (out : List ℕ) (n : ℕ) → AreMembers member parts → IsInHand member parts reply hand
+pub each_event_moves_the_front_on : {W : Type 0} (transacts : W → Ask → List ℕ → Reply → W → Type 0) (member : ℕ → Bool) (parts : StructureSets) (hand : Hand) (reply : Reply) (wire after : W) (now : StructureSets) (later : Hand) (kind : WalkStep) (order : ℕ → ℕ) (front : ℕ) (out : List ℕ) (n : ℕ) → AreMembers member parts → IsInHand member parts reply hand
     → Effect transacts parts hand wire after now later kind → LinksRise order (parts n) → HasFront order front out n (parts n) → FrontGoesOn order front out n parts now
-front_moves transacts member parts hand reply wire after now later kind order front out n members in_hand effect rise k = front_by transacts member parts hand reply wire after now later order front out n members in_hand rise k (effect_alters transacts member parts hand reply wire after now later kind in_hand effect n) kind effect
+each_event_moves_the_front_on transacts member parts hand reply wire after now later kind order front out n members in_hand effect rise k = front_by transacts member parts hand reply wire after now later order front out n members in_hand rise k (effect_alters transacts member parts hand reply wire after now later kind in_hand effect n) kind effect
 
 -- ---- a driver's rows
 
@@ -396,8 +396,8 @@ old_or_new : (P : Type 0) (order : ℕ → ℕ) (front : ℕ) (out : List ℕ) (
 old_or_new P order front out part now a t (inl old) is_old is_new = is_old old.0 old.1 old.2
 old_or_new P order front out part now a t (inr new) is_old is_new = is_new new.0 new.1 new.2
 
-pub front_spared : FrontIsSpared
-front_spared order front out out_now n part now k head spared = record {
+pub front_is_spared : FrontIsSpared
+front_is_spared order front out out_now n part now k head spared = record {
   queue = λ r here. let had = head r here in rest_same order front had.queue r had.rest (k.queue had.queue had.here);
   behind = λ a t among here off.
       old_or_new (IsBehind order front now a) order front out part now a t (spared a t among here)
@@ -423,8 +423,8 @@ own_there : (part : Structures) (t : Qtd) (c : Bool) (b : ℕ) → IsSoundElemen
 own_there part t true b sound to = link_there part (qtd_link_of t.alternate) b sound.alternate to
 own_there part t false b sound to = link_there part (qtd_link_of t.next) b sound.next to
 
-pub front_renumbered : FrontIsRenumbered
-front_renumbered member order order_now front out n part m same k = record {
+pub front_is_renumbered : FrontIsRenumbered
+front_is_renumbered member order order_now front out n part m same k = record {
   queue = λ q here.
       let is : m.queue ≡ q = found_queue (part n) m.queue q m.here here in
       let sound : IsSoundQueue part q = subst (IsSoundQueue part) is m.sound in

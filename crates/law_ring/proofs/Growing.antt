@@ -13,7 +13,7 @@ use Rattle.hc_copy.specs.Planning.{pid_at, host_in}
 use Rattle.hc_copy.specs.WriteBack.{moved_by}
 use Rattle.async_walk.specs.Naks.{kind_at}
 use Rattle.law_structures.specs.lent_structures.Settles.{Leaves, Brings, Settles}
-use Rattle.law_structures.proofs.lemmas.lent_structures.Settling.{settles}
+use Rattle.law_structures.proofs.lemmas.lent_structures.Settling.{a_transaction_settles}
 use Rattle.law_structures.specs.lent_structures.Structures.{QueueHead, Structures, StructureSets}
 use Rattle.law_structures.specs.lent_structures.Changes.{overwritten}
 use Rattle.law_structures.proofs.lemmas.lent_structures.Names.{not_same}
@@ -165,7 +165,7 @@ module _ {W : Type 0} (transacts : W → Ask → List ℕ → Reply → W → Ty
       let part : Structures = parts m.copy.at in
       let t : Qtd = m.sent.element in
       let bs : List ℕ = buffer_of part t in
-      let s : Settles m.kind q m.out m.last m.reply = settles m.kind q m.out m.last m.reply m.sent.all in
+      let s : Settles m.kind q m.out m.last m.reply = a_transaction_settles m.kind q m.out m.last m.reply m.sent.all in
       let same : k.queue ≡ q = found_queue (part m.copy.at) k.queue q k.here m.here in
       let sound : IsSoundQueue part q = subst (IsSoundQueue part) same k.sound in
       let w : IsWorking part q = sound.work m.works in

@@ -17,8 +17,8 @@ use Rattle.law_ring.specs.Halted.{NoneBehindIsMoved, OneIsHalted, IsKeptOrPublis
 
 -- ---- what it gives
 
-pub one_halted : OneIsHalted
-one_halted order out n a b part t u k among here is also there is_too = by_order
+pub one_is_halted : OneIsHalted
+one_is_halted order out n a b part t u k among here is also there is_too = by_order
   where
     not_before : order a < order b → ⊥
     not_before less = true≢false (sym (k.later a b t u among here is also less there) ∙ is_too.done)
@@ -53,8 +53,8 @@ halted_idle : (q : Qh) (b : Bool) → q.token.active ≡ b → q.token.halted �
 halted_idle q true on halted works = absurd (true≢false (sym halted ∙ works on))
 halted_idle q false off halted works = off
 
-pub none_moved : NoneBehindIsMoved
-none_moved member order front out hand parts n a e t xs m k stops among here is also less told =
+pub none_behind_is_moved : NoneBehindIsMoved
+none_behind_is_moved member order front out hand parts n a e t xs m k stops among here is also less told =
     let halted : told.queue.token.halted ≡ true = stops.head a t told.queue among here is told.head in
     let sound : IsSoundQueue (parts n) told.queue = subst (IsSoundQueue (parts n)) (found_queue (parts n n) m.queue told.queue m.here told.head) m.sound in
     let idle : told.queue.token.active ≡ false = halted_idle told.queue told.queue.token.active refl halted (λ on. (sound.work on).goes_on) in
@@ -67,8 +67,8 @@ kept_or : (P : Type 0) (out : List ℕ) (part : Structures) (a : ℕ) (t : Qtd) 
 kept_or P out part a t (inl was) old new = old was.0 was.1
 kept_or P out part a t (inr on) old new = new on
 
-pub halt_spared : HaltIsSpared
-halt_spared order out out_now n part now rest spared k = record {
+pub halt_is_spared : HaltIsSpared
+halt_is_spared order out out_now n part now rest spared k = record {
   head = λ a t q among here is head.
       let had = rest q head in
       kept_or (q.token.halted ≡ true) out part a t (spared a t among here)
@@ -81,8 +81,8 @@ halt_spared order out out_now n part now rest spared k = record {
       (λ on. on);
 }
 
-pub halt_renumbered : HaltIsRenumbered
-halt_renumbered order order_now out n part same k = record {
+pub halt_is_renumbered : HaltIsRenumbered
+halt_is_renumbered order order_now out n part same k = record {
   head = k.head;
   later = λ a e t u among here is also less there.
       let first = same a t among here in let second = same e u also there in k.later a e t u among here is also (omega (arith, less, first, second)) there;
@@ -98,9 +98,9 @@ among_either p (x ∷ xs) ys (inr rest) = ⊎_elim (λ (first : IsAmong p xs). i
 no_element : (q : Qh) (t : Qtd) → QueueHead q ≡ Element t → ⊥
 no_element q t e = cc
 
-pub store_keeps : StoreKeepsHalts
-store_keeps order out out_now n e parts new beside k =
-    halt_spared order out out_now n (parts n) (put parts n e (Element new) n)
+pub store_keeps_halts : StoreKeepsHalts
+store_keeps_halts order out out_now n e parts new beside k =
+    halt_is_spared order out out_now n (parts n) (put parts n e (Element new) n)
     (λ r here. record {
       queue = r;
       here = ⊎_elim (λ (is : (n ≡ n) × (n ≡ e) × (QueueHead r ≡ Element new)). absurd (no_element r new is.2)) (λ (was : parts n n ≡ Some (QueueHead r)). was) (put_found parts n e (Element new) n n (QueueHead r) here);
@@ -116,21 +116,21 @@ store_keeps order out out_now n e parts new beside k =
     (beside a among))
     k
 
-pub lend_keeps : LendKeepsHalts
-lend_keeps order order_now out new n part now rest same old published k =
-    halt_spared order_now out (out ++ new) n part now rest
+pub lend_keeps_halts : LendKeepsHalts
+lend_keeps_halts order order_now out new n part now rest same old published k =
+    halt_is_spared order_now out (out ++ new) n part now rest
     (λ a t among here. ⊎_elim (λ (was : IsAmong a out). inl (was, old a t was here)) (λ (more : IsAmong a new). inr (published a t more here)) (among_either a out new among))
-    (halt_renumbered order order_now out n part same k)
+    (halt_is_renumbered order order_now out n part same k)
 
-pub release_keeps : ReleaseKeepsHalts
-release_keeps order out out_now n part goes few k = record {
+pub release_keeps_halts : ReleaseKeepsHalts
+release_keeps_halts order out out_now n part goes few k = record {
   head = λ a t q among here is head. k.head a t q (few a among) (found_fewer goes part a (Element t) here).1 is (found_fewer goes part n (QueueHead q) head).1;
   later = λ a e t u among here is also less there.
       k.later a e t u (few a among) (found_fewer goes part a (Element t) here).1 is (few e also) less (found_fewer goes part e (Element u) there).1;
 }
 
-pub fewer_keep : FewerKeepHalts
-fewer_keep order out out_now n part few k = record {
+pub fewer_keep_halts : FewerKeepHalts
+fewer_keep_halts order out out_now n part few k = record {
   head = λ a t q among here is head. k.head a t q (few a among) here is head;
   later = λ a e t u among here is also less there. k.later a e t u (few a among) here is (few e also) less there;
 }

@@ -6,9 +6,9 @@ use Rattle.word_mem.specs.Memory.{Mem}
 use Rattle.law_structures.specs.lent_structures.Structures.{Structure, Structures, StructureSets, Has, Tells}
 use Rattle.law_structures.specs.lent_structures.Changes.{Leaves}
 use Rattle.law_structures.proofs.lemmas.lent_structures.Names.{put_else, put_beside, put_found}
-use Rattle.law_structures.proofs.lemmas.lent_structures.Telling.{told_lent, told_still, joined}
+use Rattle.law_structures.proofs.lemmas.lent_structures.Telling.{told_lent, rest_is_told, another_is_told}
 use Rattle.law_structures.specs.lent_structures.Sound.{IsMember}
-use Rattle.law_ring.proofs.Driving.{ring_retold}
+use Rattle.law_ring.proofs.Driving.{other_parts_leave_ring}
 use Rattle.law_ring.specs.Together.{Item, put_all, ShareNoBlock, AreNew, LendsLeaveRing}
 
 -- ---- other names
@@ -32,16 +32,16 @@ apart_all parts n i (j ∷ js) b k c u apart old has also found =
     (put_found (put_all parts n js) n j.name j.structure k c u found)
 
 told_all : (m after : Mem) (parts : StructureSets) (n : ℕ) (is : List Item) → Tells m parts → Leaves m after → AreNew m after is → Tells after (put_all parts n is)
-told_all m after parts n [] told left new = told_still m after parts left told
+told_all m after parts n [] told left new = rest_is_told m after parts left told
 told_all m after parts n (i ∷ is) told left (one, apart, rest) =
-    joined after (put_all parts n is) n i.name i.structure (told_all m after parts n is told left rest) one.holds
+    another_is_told after (put_all parts n is) n i.name i.structure (told_all m after parts n is told left rest) one.holds
     (λ b k c u has found also. apart_all parts n i is b k c u apart (λ old. one.fresh b has (told_lent m parts k c u b told old also)) has also found)
 
 -- ---- the ring
 
 pub lends_leave_ring : LendsLeaveRing
 lends_leave_ring base member parts hand p n is after ring left new beside owes =
-    ring_retold base member parts (put_all parts n is) hand p after ring (told_all p.memory after parts n is ring.tells left new)
+    other_parts_leave_ring base member parts (put_all parts n is) hand p after ring (told_all p.memory after parts n is ring.tells left new)
     (λ k on.
     ⊎_elim (λ (same : k ≡ n). subst (λ (j : ℕ). IsMember member j (put_all parts n is j)) (sym same) (owes (ap member (sym same) ∙ on)))
     (λ (differs : k ≢ n). subst (IsMember member k) (sym (all_beside parts n is k differs)) (ring.members k on)) (cases_eq k n))

@@ -30,7 +30,7 @@ use Rattle.async_walk.specs.Naks.{kind_at, planned, counts, counted_queue}
 use Rattle.async_walk.specs.Rows.{WalkPlace, step_of, sent_step, Leads, Sends, SentAt, Transacted, transacted, ring_copy}
 use Rattle.async_walk.proofs.Ranges.{counted_in_range}
 use Rattle.law_structures.specs.lent_structures.Settles.{Settles}
-use Rattle.law_structures.proofs.lemmas.lent_structures.Settling.{settles}
+use Rattle.law_structures.proofs.lemmas.lent_structures.Settling.{a_transaction_settles}
 use Rattle.law_structures.specs.lent_structures.Structures.{Buffer, Structures, StructureSets, HoldsBuffer, Tells}
 use Rattle.law_structures.proofs.lemmas.lent_structures.Reading.{bytes_part, bytes_reached}
 use Rattle.law_structures.specs.lent_structures.Sound.{element_pages, buffer_name, HasBuffer, IsReady, IsWorking}
@@ -121,7 +121,8 @@ module _ {W : Type 0} (transacts : W → Ask → List ℕ → Reply → W → Ty
 
   made_ring : (s : WalkPlace) (c : Copy) (out : List ℕ) (reply : Reply) → IsRing base member parts (Copied c) s → c.queue.token.active ≡ true → length out ≡ (planned c.queue).bytes → ((sent : Pid) (bs : List ℕ) → reply ≡ Bytes sent bs → (i : ℕ) → slice_index bs i < 256) → IsRing base member parts (Settled (counted c out reply) (settlement c.queue out reply)) (transacted (planned (copied_queue c)) (held_copy c) out reply s)
   made_ring s c out reply k on count small =
-      let z : Settles (kind_at c.queue.dtc) c.queue out false reply = settles (kind_at c.queue.dtc) c.queue out false reply count in
+      let z : Settles (kind_at c.queue.dtc) c.queue out false reply =
+      a_transaction_settles (kind_at c.queue.dtc) c.queue out false reply count in
       ring_at base member parts (Copied c) (Settled (counted c out reply) (settlement c.queue out reply)) s (transacted (planned (copied_queue c)) (held_copy c) out reply s) k refl refl
       (cursor_same member s (transacted (planned (copied_queue c)) (held_copy c) out reply s) refl refl k.cursor)
       (copy_settled c out reply) (

@@ -79,8 +79,8 @@ done_apart member n part q e t m head here off on same =
     let w : IsWorking part q = sound.work on in
     false≢true (sym off ∙ ap (λ (x : Qtd). x.token.active) (found_element (part e) t w.element here (ap part (sym same) ∙ w.here)) ∙ w.published)
 
-pub done_told : (member : ℕ → Bool) (parts : StructureSets) (hand : Hand) (n e : ℕ) (t : Qtd) (x : List ℕ) → IsMember member n (parts n) → parts n e ≡ Some (Element t) → t.token.active ≡ false → Told hand parts n e x → x ≡ take (length (buffer_of (parts n) t) - t.token.total) (buffer_of (parts n) t)
-done_told member parts hand n e t x m here off told =
+pub a_done_qtd_is_told_by_memory : (member : ℕ → Bool) (parts : StructureSets) (hand : Hand) (n e : ℕ) (t : Qtd) (x : List ℕ) → IsMember member n (parts n) → parts n e ≡ Some (Element t) → t.token.active ≡ false → Told hand parts n e x → x ≡ take (length (buffer_of (parts n) t) - t.token.total) (buffer_of (parts n) t)
+a_done_qtd_is_told_by_memory member parts hand n e t x m here off told =
     let same : told.qtd ≡ t = found_element (parts n e) told.qtd t told.here here in
     told.are ∙ not_worked hand n told.queue e told.qtd (buffer_of (parts n) told.qtd) (works_by told.queue e told.queue.token.active refl (λ on. done_apart member n (parts n) told.queue e t m told.head here off on))
     ∙ ap (λ (z : Qtd). take (length (buffer_of (parts n) z) - z.token.total) (buffer_of (parts n) z)) same

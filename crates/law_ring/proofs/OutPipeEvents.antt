@@ -25,7 +25,7 @@ use Rattle.hc_copy.specs.Transacting.{call_in}
 use Rattle.hc_copy.specs.WriteBack.{moved_by}
 use Rattle.law_structures.specs.lent_structures.Settles.{is_moved, Settles}
 use Rattle.law_structures.proofs.lemmas.lent_structures.Moving.{Moves}
-use Rattle.law_structures.proofs.lemmas.lent_structures.Settling.{settles}
+use Rattle.law_structures.proofs.lemmas.lent_structures.Settling.{a_transaction_settles}
 use Rattle.law_structures.specs.lent_structures.Structures.{Structures}
 use Rattle.law_ring.specs.Hand.{Copy, Settlement, Hand, Settled}
 use Rattle.law_ring.specs.Effects.{buffer_of, AreSent, settlement_as, IsAskedAs}
@@ -49,7 +49,7 @@ pub unmoved_made : (kind : EpKind) (last : Bool) (c : Copy) (q : Qh) (out : List
     → length out ≡ (transaction_of kind q).bytes → (settlement_as kind q out last reply).host.toggle ≡ q.token.toggle
     → IsUnmoved (Settled c (settlement_as kind q out last reply)) n
 unmoved_made kind last c q out reply n on count same_toggle at =
-    let s : Settles kind q out last reply = settles kind q out last reply count in
+    let s : Settles kind q out last reply = a_transaction_settles kind q out last reply count in
     let still : is_moved (settlement_as kind q out last reply).outcome ≡ false = by
     (is_moved (settlement_as kind q out last reply).outcome) refl s in (
       still,
@@ -89,7 +89,7 @@ module _ {W : Type 0} (transacts : W → Ask → List ℕ → Reply → W → Ty
   un e = subst (λ (l : Hand). IsUnmoved l n) (sym later_is) (unmoved_made kind last c q out reply n on sent.all (e ∙ own))
 
   settles_so : Settles kind q out last reply
-  settles_so = settles kind q out last reply sent.all
+  settles_so = a_transaction_settles kind q out last reply sent.all
 
   toggle_by : (b : Bool) → is_moved (settlement_as kind q out last reply).outcome ≡ b
       → (settlement_as kind q out last reply).host.toggle ≡ (if b then not h else h)

@@ -18,7 +18,7 @@ use Rattle.hc_copy.specs.Transacting.{call_in}
 use Rattle.async_walk.specs.declared.state.WalkStep.{WalkStep}
 use Rattle.async_walk.specs.Rows.{WalkPlace, at_event, event_row, step_of, Leads}
 use Rattle.law_structures.specs.lent_structures.Settles.{Brings, Settles}
-use Rattle.law_structures.proofs.lemmas.lent_structures.Settling.{settles}
+use Rattle.law_structures.proofs.lemmas.lent_structures.Settling.{a_transaction_settles}
 use Rattle.law_structures.specs.lent_structures.Structures.{StructureSets}
 use Rattle.law_structures.proofs.lemmas.lent_structures.Names.{not_same}
 use Rattle.law_structures.specs.lent_structures.Sound.{IsSoundQueue}
@@ -33,7 +33,7 @@ use Rattle.law_ring.specs.Told.{HasToggle, Endpoint, endpoint_of, HasEndpoint, S
 use Rattle.law_ring.specs.Streams.{Grows, NoneBeside, StreamEffect, Streams}
 use Rattle.law_ring.specs.Streams.StreamEffect.{same, aside, grows}
 use Rattle.law_ring.proofs.Altered.{effect_alters}
-use Rattle.law_ring.proofs.StreamEvents.{event_streams}
+use Rattle.law_ring.proofs.StreamEvents.{each_event_moves_one_stream}
 use Rattle.claims_base.specs.Prefix.{IsPrefix}
 use Rattle.law_pipe.proofs.Agreement.{accepted_begins}
 use Rattle.law_ring.specs.Bus.{Sender, IsStreamAsk, IsBus}
@@ -199,7 +199,7 @@ module _ {W : Type 0} {Beside : Ask → Type 0} (transacts : W → Ask → List 
         let sent : sender wire q.addr q.ep ≡ Some k.sender = ap (λ (e : Endpoint). sender wire e.addr e.ep) (sym is) ∙ k.is in
         let answer = bus.asked wire asked (call_in (transaction_of m.kind q) m.out m.last).out m.reply after k.sender m.made streamed
         sent in
-        let s : Settles m.kind q m.out m.last m.reply = settles m.kind q m.out m.last m.reply m.sent.all in
+        let s : Settles m.kind q m.out m.last m.reply = a_transaction_settles m.kind q m.out m.last m.reply m.sent.all in
         let turned = g.toggle k.toggle k.expects in
         let before : IsHalf (packets q.addr q.ep) k.sender (acc m.copy.at) q.token.toggle =
         subst (λ (b : Bool). IsHalf (packets q.addr q.ep) k.sender (acc m.copy.at) b) turned.0 (subst (λ (e : Endpoint). IsHalf (packets e.addr e.ep) k.sender (acc m.copy.at) k.toggle) is k.half) in
@@ -267,18 +267,19 @@ ring_rest transacts stream packets sender member streams endpoint ends bus acc p
     (λ m. let copied : IsCopied member parts m.copy = subst (IsInHand member parts reply) m.in_hand in_hand in copied.on)
     (λ ask none asked. none) z
 
-pub event_agrees : {W : Type 0} (transacts : W → Ask → List ℕ → Reply → W → Type 0) (stream : ℕ → ℕ → Bool) (packets : ℕ → ℕ → List (List ℕ)) (sender : W → ℕ → ℕ → Option Sender) (base : Base) (member streams : ℕ → Bool) (endpoint : ℕ → Endpoint) (acc : ℕ → List (List ℕ)) (parts : StructureSets) (hand : Hand) (p : WalkPlace) (wire : W) (new : WalkPlace) (after : W)
+pub each_event_keeps_the_pipes : {W : Type 0} (transacts : W → Ask → List ℕ → Reply → W → Type 0) (stream : ℕ → ℕ → Bool) (packets : ℕ → ℕ → List (List ℕ)) (sender : W → ℕ → ℕ → Option Sender) (base : Base) (member streams : ℕ → Bool) (endpoint : ℕ → Endpoint) (acc : ℕ → List (List ℕ)) (parts : StructureSets) (hand : Hand) (p : WalkPlace) (wire : W) (new : WalkPlace) (after : W)
     → AreEndpoints stream member streams endpoint → IsBus transacts stream sender → IsRing base member parts hand p → ArePiped stream packets sender member streams endpoint acc parts hand wire
     → AreBytesHeard transacts wire after → Leads transacts (event_row p) (at_event p) wire new after
     → GoesOn transacts stream packets sender base member streams endpoint acc parts hand wire after new (step_of (event_row p) (at_event p))
-event_agrees transacts stream packets sender base member streams endpoint acc parts hand p wire new after ends bus ring piped heard lead =
-    let e : Streams transacts base member parts hand wire after new (step_of (event_row p) (at_event p)) = event_streams transacts base member parts hand p wire new after ring heard lead in
+each_event_keeps_the_pipes transacts stream packets sender base member streams endpoint acc parts hand p wire new after ends bus ring piped
+    heard lead =
+    let e : Streams transacts base member parts hand wire after new (step_of (event_row p) (at_event p)) = each_event_moves_one_stream transacts base member parts hand p wire new after ring heard lead in
     let r = ring_rest transacts stream packets sender member streams endpoint ends bus acc parts hand p.walk.reply wire ring.in_hand piped
     after e.happens.now e.happens.later (step_of (event_row p) (at_event p)) e.happens.effect e.streams in
     record { event = e; at = r.at; more = r.more; few = r.few; piped = r.all; told = r.told }
 
-pub taken_begins : {W : Type 0} (stream : ℕ → ℕ → Bool) (packets : ℕ → ℕ → List (List ℕ)) (sender : W → ℕ → ℕ → Option Sender) (member streams : ℕ → Bool) (endpoint : ℕ → Endpoint) (acc : ℕ → List (List ℕ)) (parts : StructureSets) (hand : Hand) (wire : W) (n : ℕ)
+pub accepted_bytes_begin_each_stream : {W : Type 0} (stream : ℕ → ℕ → Bool) (packets : ℕ → ℕ → List (List ℕ)) (sender : W → ℕ → ℕ → Option Sender) (member streams : ℕ → Bool) (endpoint : ℕ → Endpoint) (acc : ℕ → List (List ℕ)) (parts : StructureSets) (hand : Hand) (wire : W) (n : ℕ)
     → ArePiped stream packets sender member streams endpoint acc parts hand wire → streams n ≡ true → IsPrefix (concat (acc n)) (concat (packets (endpoint n).addr (endpoint n).ep))
-taken_begins stream packets sender member streams endpoint acc parts hand wire n piped on =
+accepted_bytes_begin_each_stream stream packets sender member streams endpoint acc parts hand wire n piped on =
     let k = piped.pipes n on in
     accepted_begins (packets (endpoint n).addr (endpoint n).ep) (pipe_at k.half.known k.sender.sends (acc n) k.toggle) k.half.agrees

@@ -59,8 +59,8 @@ own_fewer : (goes : ℕ → Bool) (part : Structures) → AreOwn part → AreOwn
 own_fewer goes part own a b t u pages k bs one other same there =
     own a b t u pages k bs (found_fewer goes part a (Element t) one).1 (found_fewer goes part b (Element u) other).1 same (found_fewer goes part (buffer_name t) (Buffer pages k bs) there).1
 
-pub part_loses : (member : ℕ → Bool) (n : ℕ) (part : Structures) (goes : ℕ → Bool) → (m : IsMember member n part) → MayGo goes n part m.queue → IsMember member n (fewer_structures goes part)
-part_loses member n part goes m may = record {
+pub part_may_lose : (member : ℕ → Bool) (n : ℕ) (part : Structures) (goes : ℕ → Bool) → (m : IsMember member n part) → MayGo goes n part m.queue → IsMember member n (fewer_structures goes part)
+part_may_lose member n part goes m may = record {
   queue = m.queue;
   here = stays goes part n may.head ∙ m.here;
   link = m.link;

@@ -18,18 +18,18 @@ use Rattle.law_ring.specs.SparedLaws.{PipesAreSpared}
 
 -- ---- what is in hand
 
-pub linked_same : (n : ℕ) (l : LinkBits) (hand : Hand) → SameHand hand (hand_linked n l hand)
-linked_same n l (Stale m q) = record { bytes = λ i r e t bs. refl; toggle = λ i r. refl }
-linked_same n l _ = record { bytes = λ m q e t bs. refl; toggle = λ m q. refl }
+pub linked_hand_is_same : (n : ℕ) (l : LinkBits) (hand : Hand) → SameHand hand (hand_linked n l hand)
+linked_hand_is_same n l (Stale m q) = record { bytes = λ i r e t bs. refl; toggle = λ i r. refl }
+linked_hand_is_same n l _ = record { bytes = λ m q e t bs. refl; toggle = λ m q. refl }
 
 stale_by : (n : ℕ) (c : Copy) (b : Bool) → SameHand (Copied c) (if b then Stale n (copied_queue c) else Copied c)
 stale_by n c true = record { bytes = λ m q e t bs. refl; toggle = λ m q. refl }
 stale_by n c false = record { bytes = λ m q e t bs. refl; toggle = λ m q. refl }
 
-pub stale_same : (n : ℕ) (hand : Hand) → SameHand hand (hand_stale n hand)
-stale_same n (Copied c) = stale_by n c (c.at == n)
-stale_same n (Stale m q) = record { bytes = λ i r e t bs. refl; toggle = λ i r. refl }
-stale_same n _ = record { bytes = λ m q e t bs. refl; toggle = λ m q. refl }
+pub stale_hand_is_same : (n : ℕ) (hand : Hand) → SameHand hand (hand_stale n hand)
+stale_hand_is_same n (Copied c) = stale_by n c (c.at == n)
+stale_hand_is_same n (Stale m q) = record { bytes = λ i r e t bs. refl; toggle = λ i r. refl }
+stale_hand_is_same n _ = record { bytes = λ m q e t bs. refl; toggle = λ m q. refl }
 
 -- ---- a queue head with the same overlay
 
@@ -57,8 +57,8 @@ overlay_toggle hand n q r k = toggle_by hand n q r ∙ ap (λ (z : Token). hand_
 
 -- ---- what is told
 
-pub spared_told : (hand later : Hand) (parts now : StructureSets) (n e : ℕ) (xs : List ℕ) → SameHand hand later → SparesHead parts now n → SparesElement parts now n e → Told hand parts n e xs → Told later now n e xs
-spared_told hand later parts now n e xs hands head element told =
+pub spared_is_told : (hand later : Hand) (parts now : StructureSets) (n e : ℕ) (xs : List ℕ) → SameHand hand later → SparesHead parts now n → SparesElement parts now n e → Told hand parts n e xs → Told later now n e xs
+spared_is_told hand later parts now n e xs hands head element told =
     let h : HasOverlay now n told.queue = head told.queue told.head in
     record {
       queue = h.queue;
@@ -70,8 +70,8 @@ spared_told hand later parts now n e xs hands head element told =
           ∙ ap (hand_bytes later n h.queue e told.qtd) (sym (element.bytes told.qtd told.here));
     }
 
-pub spared_toggle : (hand later : Hand) (parts now : StructureSets) (n : ℕ) (b : Bool) → SameHand hand later → SparesHead parts now n → HasToggle hand parts n b → HasToggle later now n b
-spared_toggle hand later parts now n b hands head has =
+pub spared_has_toggle : (hand later : Hand) (parts now : StructureSets) (n : ℕ) (b : Bool) → SameHand hand later → SparesHead parts now n → HasToggle hand parts n b → HasToggle later now n b
+spared_has_toggle hand later parts now n b hands head has =
     let h : HasOverlay now n has.queue = head has.queue has.head in
     record {
       queue = h.queue;
@@ -87,15 +87,15 @@ spared_endpoint parts now n x head has =
 
 -- ---- the pipes
 
-pub spared_pipes : {W : Type 0} (sender : W → ℕ → ℕ → Option Sender) → PipesAreSpared sender
-spared_pipes sender stream packets member wider streams endpoint acc hand later parts now wire hands heads ins others k = record {
+pub spared_pipes_agree : {W : Type 0} (sender : W → ℕ → ℕ → Option Sender) → PipesAreSpared sender
+spared_pipes_agree sender stream packets member wider streams endpoint acc hand later parts now wire hands heads ins others k = record {
   pipes = λ n on.
       let p = k.pipes n on in
       record {
         named = spared_endpoint parts now n (endpoint n) (heads n on) p.named;
         ins = ins n on;
         toggle = p.toggle;
-        expects = spared_toggle hand later parts now n p.toggle hands (heads n on) p.expects;
+        expects = spared_has_toggle hand later parts now n p.toggle hands (heads n on) p.expects;
         sender = p.sender;
         is = p.is;
         half = p.half;
@@ -108,14 +108,14 @@ spared_pipes sender stream packets member wider streams endpoint acc hand later 
 pub all_spared : (hand later : Hand) (parts now : StructureSets) (n : ℕ) (out xs : List ℕ) → SameHand hand later → SparesHead parts now n → ((e : ℕ) → IsAmong e out → SparesElement parts now n e) → AllTold hand parts n out xs → AllTold later now n out xs
 all_spared hand later parts now n out xs hands head elements none_out = none_out
 all_spared hand later parts now n out xs hands head elements (one_out e es x ys first rest) =
-    one_out e es x ys (spared_told hand later parts now n e x hands head (elements e (inl refl)) first) (all_spared hand later parts now n es ys hands head (λ b among. elements b (inr among)) rest)
+    one_out e es x ys (spared_is_told hand later parts now n e x hands head (elements e (inl refl)) first) (all_spared hand later parts now n es ys hands head (λ b among. elements b (inr among)) rest)
 
-pub spared_accounts : (order order_now : ℕ → ℕ) (place place_now : ℕ) (out : List ℕ) (hand later : Hand) (parts now : StructureSets) (n : ℕ) (xs : List ℕ) → SameHand hand later
+pub accounts_are_spared : (order order_now : ℕ → ℕ) (place place_now : ℕ) (out : List ℕ) (hand later : Hand) (parts now : StructureSets) (n : ℕ) (xs : List ℕ) → SameHand hand later
     → SparesHead parts now n → ((e : ℕ) → IsAmong e out → SparesElement parts now n e) → IsOrdered order_now place_now n (now n) → IsSorted order_now out
     → ((a : ℕ) (t : Qtd) → IsAmong a out → now n a ≡ Some (Element t) → place_now ≤ order_now a → t.token.active ≡ true)
     → ((a : ℕ) (t : Qtd) → now n a ≡ Some (Element t) → t.token.active ≡ true → IsAmong a out)
     → Accounts order place out hand parts n xs → Accounts order_now place_now out later now n xs
-spared_accounts order order_now place place_now out hand later parts now n xs hands head elements ordered sorted published complete k = record {
+accounts_are_spared order order_now place place_now out hand later parts now n xs hands head elements ordered sorted published complete k = record {
   ordered = ordered;
   sorted = sorted;
   published = published;
@@ -128,9 +128,9 @@ at_end hand parts n e y out xs told none_out = subst (AllTold hand parts n (e �
 at_end hand parts n e y out xs told (one_out b bs x ys first rest) =
     subst (AllTold hand parts n (b ∷ (bs ++ e ∷ []))) (sym (append_assoc x ys y)) (one_out b (bs ++ e ∷ []) x (ys ++ y) first (at_end hand parts n e y bs ys told rest))
 
-pub published_adds : (order : ℕ → ℕ) (place : ℕ) (out : List ℕ) (hand : Hand) (parts : StructureSets) (n e : ℕ) (q : Qh) (t : Qtd) (xs : List ℕ) → IsOrdered order place n (parts n) → parts n n ≡ Some (QueueHead q) → parts n e ≡ Some (Element t) → t.token.active ≡ true → place ≤ order e
+pub published_adds_nothing : (order : ℕ → ℕ) (place : ℕ) (out : List ℕ) (hand : Hand) (parts : StructureSets) (n e : ℕ) (q : Qh) (t : Qtd) (xs : List ℕ) → IsOrdered order place n (parts n) → parts n n ≡ Some (QueueHead q) → parts n e ≡ Some (Element t) → t.token.active ≡ true → place ≤ order e
     → AllTold hand parts n out xs → AllTold hand parts n (out ++ e ∷ []) xs
-published_adds order place out hand parts n e q t xs ordered head here on from all =
+published_adds_nothing order place out hand parts n e q t xs ordered head here on from all =
     let y : List ℕ = hand_bytes hand n q e t (buffer_of (parts n) t) in
     let told : Told hand parts n e y = record { queue = q; head = head; qtd = t; here = here; are = refl } in
     let none : y ≡ [] = fresh_none order place n hand parts e y t ordered here on from told in

@@ -81,6 +81,6 @@ module _ {W : Type 0} (transacts : W → Ask → List ℕ → Reply → W → Ty
       happens_at transacts base member parts (Stale n q) wire after s new rows.Skip (ap (row_at s) k.held ∙ ap (visit_row s.memory s.walk.left q) rest)
       (same_memory s (read_at s s.walk.held) (ap (read_at s) k.held ∙ ap (visit_read s.memory) rest)) (stale_event transacts base member parts wire after s new n q k) lead
 
-pub event_happens : {W : Type 0} (transacts : W → Ask → List ℕ → Reply → W → Type 0) (base : Base) (member : ℕ → Bool) (parts : StructureSets) (hand : Hand) (p : WalkPlace) (wire : W) (new : WalkPlace) (after : W) → IsRing base member parts hand p → AreBytesHeard transacts wire after
+pub each_event : {W : Type 0} (transacts : W → Ask → List ℕ → Reply → W → Type 0) (base : Base) (member : ℕ → Bool) (parts : StructureSets) (hand : Hand) (p : WalkPlace) (wire : W) (new : WalkPlace) (after : W) → IsRing base member parts hand p → AreBytesHeard transacts wire after
     → Leads transacts (event_row p) (at_event p) wire new after → Happens transacts base member parts hand wire after new (step_of (event_row p) (at_event p))
-event_happens transacts base member parts hand p wire new after k heard lead = one_event transacts base member parts wire after (started p) new hand (ring_started base member parts hand p k) heard lead
+each_event transacts base member parts hand p wire new after k heard lead = one_event transacts base member parts wire after (started p) new hand (ring_started base member parts hand p k) heard lead

@@ -10,7 +10,7 @@ use Rattle.claims_base.specs.Controller.{Base}
 use Rattle.law_ring.specs.Ring.{IsCopied, IsSettled, IsInHand, IsRing}
 use Rattle.law_ring.specs.Effects.{Asks, Effect, Happens, AreBytesHeard}
 use Rattle.law_ring.specs.Effects.Effect.{reads, passes, ends, takes, makes, writes_back}
-use Rattle.law_ring.proofs.Stepping.{event_happens}
+use Rattle.law_ring.proofs.Stepping.{each_event}
 use Rattle.law_ring.specs.Streams.{AreMembers, NoneBeside, StreamEffect, Streams}
 use Rattle.law_ring.specs.Streams.StreamEffect.{same, grows}
 use Rattle.law_ring.proofs.Keeping.{empty_unsettled, copied_unsettled, same_kept, taking_tells_the_same}
@@ -37,8 +37,8 @@ streams_by transacts member parts hand reply wire after now later kind members i
     let both : IsCopied member parts k.copy × IsSettled k.copy.queue reply k.settled = subst (IsInHand member parts reply) k.in_hand in_hand in
     same (writing_tells_the_same member parts hand now later k reply both.0 both.1 (members k.copy.at both.0.on).own) quiet
 
-pub event_streams : {W : Type 0} (transacts : W → Ask → List ℕ → Reply → W → Type 0) (base : Base) (member : ℕ → Bool) (parts : StructureSets) (hand : Hand) (p : WalkPlace) (wire : W) (new : WalkPlace) (after : W) → IsRing base member parts hand p → AreBytesHeard transacts wire after
+pub each_event_moves_one_stream : {W : Type 0} (transacts : W → Ask → List ℕ → Reply → W → Type 0) (base : Base) (member : ℕ → Bool) (parts : StructureSets) (hand : Hand) (p : WalkPlace) (wire : W) (new : WalkPlace) (after : W) → IsRing base member parts hand p → AreBytesHeard transacts wire after
     → Leads transacts (event_row p) (at_event p) wire new after → Streams transacts base member parts hand wire after new (step_of (event_row p) (at_event p))
-event_streams transacts base member parts hand p wire new after k heard lead =
-    let h : Happens transacts base member parts hand wire after new (step_of (event_row p) (at_event p)) = event_happens transacts base member parts hand p wire new after k heard lead in
+each_event_moves_one_stream transacts base member parts hand p wire new after k heard lead =
+    let h : Happens transacts base member parts hand wire after new (step_of (event_row p) (at_event p)) = each_event transacts base member parts hand p wire new after k heard lead in
     record { happens = h; streams = streams_by transacts member parts hand p.walk.reply wire after h.now h.later (step_of (event_row p) (at_event p)) k.members k.in_hand h.effect }

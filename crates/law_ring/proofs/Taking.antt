@@ -20,11 +20,11 @@ use Rattle.law_structures.specs.lent_structures.Structures.{QueueHead, Element, 
 use Rattle.law_structures.specs.lent_structures.Changes.{relinked}
 use Rattle.law_structures.proofs.lemmas.lent_structures.Names.{put_here, put_beside, put_same, put_else}
 use Rattle.law_structures.proofs.lemmas.lent_structures.Reading.{head_reached}
-use Rattle.law_structures.proofs.lemmas.lent_structures.Writing.{overlay_put}
+use Rattle.law_structures.proofs.lemmas.lent_structures.Writing.{overlay_is_told}
 use Rattle.law_structures.specs.lent_structures.Sound.{IsReady, IsSoundElement, IsWorking, IsSoundQueue, LeadsAmong, IsMember}
 use Rattle.law_structures.specs.lent_structures.Alters.{Alters}
-use Rattle.law_structures.proofs.lemmas.lent_structures.Altering.{found_queue, no_two, head_put}
-use Rattle.law_structures.proofs.lemmas.lent_structures.Members.{member_still}
+use Rattle.law_structures.proofs.lemmas.lent_structures.Altering.{found_queue, no_two, a_queue_head_alters_nothing}
+use Rattle.law_structures.proofs.lemmas.lent_structures.Members.{an_altered_part_is_sound}
 use Rattle.law_ring.specs.Hand.{Copy, copied_queue, Copied}
 use Rattle.claims_base.specs.Controller.{Base}
 use Rattle.law_ring.specs.Ring.{IsRing}
@@ -104,16 +104,16 @@ module _ {W : Type 0} (transacts : W → Ask → List ℕ → Reply → W → Ty
   unfolding overlay_after
   taken_tells s c a t k here =
       subst (λ (q : Qh). Tells (overlay_after s.memory c.at (advanced (copied_queue c) a t)) (put parts c.at c.at (QueueHead q))) (advanced_relinked c a t)
-      (overlay_put s.memory parts c.at c.at c.queue (advanced (copied_queue c) a t) k.tells k.in_hand.here (taken_range s c a t k here) (front_advanced c a t))
+      (overlay_is_told s.memory parts c.at c.at c.queue (advanced (copied_queue c) a t) k.tells k.in_hand.here (taken_range s c a t k here) (front_advanced c a t))
 
   taken_member : (s : WalkPlace) (c : Copy) (a : ℕ) (t : Qtd) → IsRing base member parts (Copied c) s → parts c.at a ≡ Some (Element t) → t.token.active ≡ true → IsMember member c.at (taken_parts c a t c.at)
   taken_member s c a t k here on =
       let m : IsMember member c.at (parts c.at) = k.members c.at k.in_hand.on in
       let same : m.queue ≡ c.queue = found_queue (parts c.at c.at) m.queue c.queue m.here k.in_hand.here in
       let new : Qh = advanced c.queue a t in
-      let alters : Alters (parts c.at) (taken_parts c a t c.at) = subst (Alters (parts c.at)) (sym (put_here parts c.at c.at (QueueHead new))) (head_put (parts c.at) c.at c.queue new k.in_hand.here) in
+      let alters : Alters (parts c.at) (taken_parts c a t c.at) = subst (Alters (parts c.at)) (sym (put_here parts c.at c.at (QueueHead new))) (a_queue_head_alters_nothing (parts c.at) c.at c.queue new k.in_hand.here) in
       let there = alters.element a t here in
-      member_still member c.at (parts c.at) (taken_parts c a t c.at) new m alters (put_same parts c.at c.at (QueueHead new))
+      an_altered_part_is_sound member c.at (parts c.at) (taken_parts c a t c.at) new m alters (put_same parts c.at c.at (QueueHead new))
       (subst (LeadsAmong member) (sym (link_advanced c.queue a t)) (subst (λ (q : Qh). LeadsAmong member q.link) same m.link))
       (sound_advanced (parts c.at) (taken_parts c a t c.at) c.queue a t (still_there c a t (λ e. no_head c a t k.in_hand.here here e) here) on (m.elements a t here))
     where

@@ -177,15 +177,15 @@ module _ {W : Type 0} (transacts : W → Ask → List ℕ → Reply → W → Ty
         later = λ a e u v among found halted also less there. stops.later a e u v among (before a u found) halted also less (before e v there);
       }
 
-pub halts_kept : {W : Type 0} (transacts : W → Ask → List ℕ → Reply → W → Type 0) → WalkKeepsHalts transacts
-halts_kept transacts member parts hand reply wire after now later kind order front out n members in_hand effect k stops =
+pub walk_keeps_halts : {W : Type 0} (transacts : W → Ask → List ℕ → Reply → W → Type 0) → WalkKeepsHalts transacts
+walk_keeps_halts transacts member parts hand reply wire after now later kind order front out n members in_hand effect k stops =
     by_event transacts member parts hand reply wire after now later n members in_hand (HaltStops order out n (now n)) kind effect
     (λ same. subst (HaltStops order out n) (sym same) stops)
     (λ t is. taken_stops transacts member parts hand reply wire after now later n members in_hand order out t is stops)
     (λ w is. written_stops transacts member parts hand reply wire after now later n members in_hand w is order front out k stops)
 
-pub halted_stays : {W : Type 0} (transacts : W → Ask → List ℕ → Reply → W → Type 0) → HaltedQueueStays transacts
-halted_stays transacts member parts hand reply wire after now later kind n q members in_hand effect here halted =
+pub halted_queue_stays : {W : Type 0} (transacts : W → Ask → List ℕ → Reply → W → Type 0) → HaltedQueueStays transacts
+halted_queue_stays transacts member parts hand reply wire after now later kind n q members in_hand effect here halted =
     by_event transacts member parts hand reply wire after now later n members in_hand (now n ≡ parts n) kind effect (λ same. same)
     (λ t is. absurd (taking transacts member parts hand reply wire after now later n members in_hand t is q here halted))
     (λ w is. absurd (writing transacts member parts hand reply wire after now later n members in_hand w is q here halted))

@@ -33,11 +33,11 @@ use Rattle.law_structures.specs.lent_structures.Changes.{relinked, overwritten}
 use Rattle.law_structures.proofs.lemmas.lent_structures.Names.{put_here, put_beside, put_same, put_else}
 use Rattle.law_structures.proofs.lemmas.lent_structures.Storing.{length-overwritten}
 use Rattle.law_structures.specs.lent_structures.WriteBack.{Received, Nothing, Into, IsReceived, received_parts, CanBeWritten, qtd_after, parts_back}
-use Rattle.law_structures.proofs.lemmas.lent_structures.WrittenBack.{head_is_no_buffer, received_else, between_element, all_written, told_back}
+use Rattle.law_structures.proofs.lemmas.lent_structures.WrittenBack.{head_is_no_buffer, received_else, between_element, all_is_written, write_back_is_told}
 use Rattle.law_structures.specs.lent_structures.Sound.{LeadsOn, element_pages, buffer_name, HasBuffer, IsReady, IsSoundElement, IsWorking, IsSoundQueue, LeadsAmong, IsMember}
 use Rattle.law_structures.specs.lent_structures.Alters.{IsAfter, Alters}
-use Rattle.law_structures.proofs.lemmas.lent_structures.Altering.{found_queue, no_two, is_itself, unaltered, altered_both, head_put, element_put, buffer_put}
-use Rattle.law_structures.proofs.lemmas.lent_structures.Members.{leads_still, pointer_leads, member_still}
+use Rattle.law_structures.proofs.lemmas.lent_structures.Altering.{found_queue, no_two, is_itself, unaltered, altered_both, a_queue_head_alters_nothing, a_token_alters_its_qtd, buffer_put}
+use Rattle.law_structures.proofs.lemmas.lent_structures.Members.{leads_still, pointer_leads, an_altered_part_is_sound}
 use Rattle.law_ring.specs.Hand.{Copy, copied_queue, Settlement, settled_queue_of, Empty, Settled}
 use Rattle.claims_base.specs.Controller.{Base, base_of}
 use Rattle.law_ring.specs.Ring.{IsSettled, IsRing}
@@ -188,7 +188,7 @@ head_alters parts c z t r can =
     let mid : StructureSets = received_parts parts c.at z.got r in
     altered_both (parts c.at) (mid c.at) (head_parts parts c z r c.at) (received_alters parts c.at (settled_queue_of c z) z.got r can.received)
     (subst (Alters (mid c.at)) (sym (put_here mid c.at c.at (QueueHead (queue_written c z))))
-    (head_put (mid c.at) c.at c.queue (queue_written c z)
+    (a_queue_head_alters_nothing (mid c.at) c.at c.queue (queue_written c z)
     (received_else parts c.at (settled_queue_of c z) z.got r c.at (QueueHead c.queue) can.received can.copy.head (head_is_no_buffer c.queue))))
 
 pub all_alters : (parts : StructureSets) (c : Copy) (z : Settlement) (t : Qtd) (r : Received) → CanBeWritten parts c.at c.at c.queue (settled_queue_of c z) z.got r t → Alters (parts c.at) (all_parts parts c z r t c.at)
@@ -197,7 +197,7 @@ all_alters parts c z t r can =
     let mid : StructureSets = head_parts parts c z r in
     altered_both (parts c.at) (mid c.at) (all_parts parts c z r t c.at) (head_alters parts c z t r can)
     (subst (Alters (mid c.at)) (sym (put_here mid c.at x.current (Element (element_written c z t))))
-    (element_put (mid c.at) x.current t (element_written c z t) (between_element parts c.at c.at c.queue x (moved x (moved_by z.outcome)) z.got r t can)
+    (a_token_alters_its_qtd (mid c.at) x.current t (element_written c z t) (between_element parts c.at c.at c.queue x (moved x (moved_by z.outcome)) z.got r t can)
     (ended_after (moved x (moved_by z.outcome)) t (moved x (moved_by z.outcome)).token.active refl)))
 
 pub all_beside : (parts : StructureSets) (c : Copy) (z : Settlement) (t : Qtd) (r : Received) (n : ℕ) → n ≢ c.at → all_parts parts c z r t n ≡ parts n
@@ -308,7 +308,7 @@ module _ {W : Type 0} (transacts : W → Ask → List ℕ → Reply → W → Ty
       let x : Qh = settled_queue_of c z in
       ap (wrote s) k.held
       ∙ ap (λ (got : List ℕ). let w : Writing = written_back c.at x z.outcome got s.memory in wrote_place w.all x z.outcome (record s { memory = w.memory })) (got_is s c z k)
-      ∙ ap (λ (b : Bool). wrote_place b x z.outcome (record s { memory = written_memory s c z })) (all_written s.memory parts c.at c.at c.queue x z.outcome z.got (received_into (parts c.at) c.queue h.works.element z.got) h.works.element k.tells h.can)
+      ∙ ap (λ (b : Bool). wrote_place b x z.outcome (record s { memory = written_memory s c z })) (all_is_written s.memory parts c.at c.at c.queue x z.outcome z.got (received_into (parts c.at) c.queue h.works.element z.got) h.works.element k.tells h.can)
       ∙ ap (λ (o : Option Held). record { walk = passed_walk s.walk o; registers = raised x z.outcome s.registers; memory = written_memory s c z }) k.held
       ∙ ap (λ (l : LinkBits). record { walk = record s.walk { cursor = cursors.At (link_of l); held = None }; registers = raised x z.outcome s.registers; memory = written_memory s c z }) (settled_copy c z).link
 
@@ -317,7 +317,7 @@ module _ {W : Type 0} (transacts : W → Ask → List ℕ → Reply → W → Ty
       let x : Qh = settled_queue_of c z in
       ap (wrote_step s) k.held
       ∙ ap (λ (got : List ℕ). if (written_back c.at x z.outcome got s.memory).all then steps.WriteBack else steps.Fault) (got_is s c z k)
-      ∙ ap (λ (b : Bool). if b then steps.WriteBack else steps.Fault) (all_written s.memory parts c.at c.at c.queue x z.outcome z.got (received_into (parts c.at) c.queue h.works.element z.got) h.works.element k.tells h.can)
+      ∙ ap (λ (b : Bool). if b then steps.WriteBack else steps.Fault) (all_is_written s.memory parts c.at c.at c.queue x z.outcome z.got (received_into (parts c.at) c.queue h.works.element z.got) h.works.element k.tells h.can)
 
   raised_base : (q : Qh) (o : Outcome) (r : RegisterFile) → base_of (raised q o r) ≡ base_of r
   unfolding raised
@@ -328,13 +328,13 @@ module _ {W : Type 0} (transacts : W → Ask → List ℕ → Reply → W → Ty
       let m : IsMember member c.at (parts c.at) = k.members c.at k.in_hand.0.on in
       let same : m.queue ≡ c.queue = found_queue (parts c.at c.at) m.queue c.queue m.here k.in_hand.0.here in
       let alters : Alters (parts c.at) (all_parts parts c z (received_into (parts c.at) c.queue h.works.element z.got) h.works.element c.at) = all_alters parts c z h.works.element (received_into (parts c.at) c.queue h.works.element z.got) h.can in
-      member_still member c.at (parts c.at) (all_parts parts c z (received_into (parts c.at) c.queue h.works.element z.got) h.works.element c.at) (queue_written c z) m alters (head_there parts c z h.works.element (received_into (parts c.at) c.queue h.works.element z.got) h.can)
+      an_altered_part_is_sound member c.at (parts c.at) (all_parts parts c z (received_into (parts c.at) c.queue h.works.element z.got) h.works.element c.at) (queue_written c z) m alters (head_there parts c z h.works.element (received_into (parts c.at) c.queue h.works.element z.got) h.can)
       (subst (LeadsAmong member) (sym (is_written c z).link) (subst (λ (q : Qh). LeadsAmong member q.link) same m.link))
       (sound_on s.memory parts c z s.walk.reply h.works (received_into (parts c.at) c.queue h.works.element z.got) k.tells h.ready k.in_hand.0.range k.in_hand.1 h.element_sound alters)
 
   written_ring : (s : WalkPlace) (c : Copy) (z : Settlement) → IsRing base member parts (Settled c z) s → (h : IsReadyHere s c z) → IsRing base member (all_parts parts c z (received_into (parts c.at) c.queue h.works.element z.got) h.works.element) Empty (written_place s c z)
   written_ring s c z k h = record {
-    tells = told_back s.memory parts c.at c.at c.queue (settled_queue_of c z) z.outcome z.got (received_into (parts c.at) c.queue h.works.element z.got) h.works.element k.tells h.can;
+    tells = write_back_is_told s.memory parts c.at c.at c.queue (settled_queue_of c z) z.outcome z.got (received_into (parts c.at) c.queue h.works.element z.got) h.works.element k.tells h.can;
     members = members_after member parts (all_parts parts c z (received_into (parts c.at) c.queue h.works.element z.got) h.works.element) c.at (λ n differs. all_beside parts c z h.works.element (received_into (parts c.at) c.queue h.works.element z.got) n differs) (written_member s c z k h) k.members;
     registers = raised_base (settled_queue_of c z) z.outcome s.registers ∙ k.registers;
     start = k.start;

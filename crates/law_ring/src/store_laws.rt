@@ -41,6 +41,6 @@ pub fn the_doorbell_is_answered_at_the_head<W: Wire>()
 {}
 
 /// From then on the walk meets only queue heads whose links lead among them: what has left before isn't met any more (4.8.2).
-pub fn an_answer_leaves_a_ring()
+pub fn answer_leaves_ring()
     ensures { AnswerLeavesRing }
 {}

@@ -92,6 +92,6 @@ after_text : (x : Result Draft (ℕ × TextWhy)) → Keeps IsNumberedDraft x →
 after_text (Ok w) h = h.lines
 after_text (Err fault) h = tt
 
-pub spelled_numbers : (text : List ℕ) (s : Script) → Spells text s → NumbersOpens s
+pub a_text_numbers_what_it_opens : (text : List ℕ) (s : Script) → Spells text s → NumbersOpens s
 unfolding script_read
-spelled_numbers text s e = subst NumbersRun e (after_text (text_read text) (text_keeps IsNumberedDraft second_numbers after_numbers text empty_numbers))
+a_text_numbers_what_it_opens text s e = subst NumbersRun e (after_text (text_read text) (text_keeps IsNumberedDraft second_numbers after_numbers text empty_numbers))

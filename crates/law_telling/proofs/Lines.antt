@@ -27,7 +27,7 @@ use Rattle.drv_table.specs.Removals.{after_placed}
 use Rattle.drv_table.specs.Rows.{driver_row, after_driver_row}
 use Rattle.drv_table.specs.Words.{is_control}
 use Rattle.law_driver.specs.run_owners.Due.{IsDue, IsHarvestDue}
-use Rattle.law_driver.proofs.lemmas.run_owners.Reasons.{each_is_due}
+use Rattle.law_driver.proofs.lemmas.run_owners.Reasons.{each_event_is_due}
 use Rattle.law_driver.proofs.lemmas.chained_transfers.Harvesting.{waits_is}
 use Rattle.law_driver.proofs.lemmas.chained_transfers.Stalled.{IsToldOf, told_set, told_both, behind_tells}
 use Rattle.law_footprints.proofs.Fields.{reports_stays, store_stays}
@@ -345,4 +345,4 @@ due_told (rows.Harvest e t found) p due = harvest_told p e t found due
 due_told rows.Rest p due = nothing
 
 pub drivers_tell_for_reasons : DriversTellForReasons
-drivers_tell_for_reasons p = due_told (driver_row p) p (each_is_due p)
+drivers_tell_for_reasons p = due_told (driver_row p) p (each_event_is_due p)

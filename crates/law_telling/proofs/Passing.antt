@@ -32,7 +32,7 @@ use Rattle.drv_table.specs.Rows.{driver_row, after_driver_row}
 use Rattle.mem_runs.specs.Book.{Holding, holding}
 use Rattle.drv_table.specs.Kinds.{is_iso}
 use Rattle.law_driver.specs.run_owners.Due.{IsDue, IsHarvestDue}
-use Rattle.law_driver.proofs.lemmas.run_owners.Reasons.{each_is_due}
+use Rattle.law_driver.proofs.lemmas.run_owners.Reasons.{each_event_is_due}
 use Rattle.law_driver.proofs.lemmas.run_owners.Released.{set_here, set_there}
 use Rattle.law_driver.proofs.lemmas.chained_transfers.Stalled.{behind_tells}
 use Rattle.law_footprints.proofs.Fields.{transfers_stays, notes_stays}
@@ -415,4 +415,4 @@ due_kept (rows.Harvest e t found) p due = harvest_kept p e t found due
 due_kept rows.Rest p due = still_kept rows.Rest p p.driver tt refl (all_same IsStill same_still p.driver.transfers)
 
 pub events_keep_transfers : EventsKeepTransfers
-events_keep_transfers p = due_kept (driver_row p) p (each_is_due p)
+events_keep_transfers p = due_kept (driver_row p) p (each_event_is_due p)

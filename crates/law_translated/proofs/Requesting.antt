@@ -161,11 +161,11 @@ request_keeps = record {
   none = λ s h. right_by s.stage s refl h;
 }
 
-pub window_kept : KeepsWindow
-window_kept = step_keeps request_halves request_claims request_keeps
+pub keeps_window : KeepsWindow
+keeps_window = step_keeps request_halves request_claims request_keeps
 
-pub window_right : WindowIsRight
-window_right way has acted x run =
+pub window_is_right : WindowIsRight
+window_is_right way has acted x run =
     holds_gone request_halves request_claims request_keeps way x
     (run_keeps request_halves request_claims request_keeps way (at_rest (request_opening has acted)) x run
     (record { at = refl; aside = tt }))

@@ -30,7 +30,7 @@ use Rattle.law_request.specs.Line.{Line as Window, line_at, answer_of, answered,
 use Rattle.law_request.specs.Standing.{sight_of, IsEnded, Stands}
 use Rattle.law_request.specs.Windows.{IsRequest, IsRight}
 use Rattle.law_request.proofs.Hearing.{line, acts_heard, IsQuiet, row_host, Same, quiet_row, stands_quiet, ends as ends_at}
-use Rattle.law_request.proofs.Steps.{keeps as transaction_keeps, opens, right}
+use Rattle.law_request.proofs.Steps.{transaction_keeps, window_opens, window_is_right}
 use Rattle.law_translated.specs.Lift.{Way, Buffered, Piped, at_rest, Keeps, Step}
 use Rattle.law_translated.specs.Lift.Step.{plain}
 use Rattle.law_translated.specs.Windows.{Line, goes_on, IsAlike, alike, Alone, Is, worked, Works, Quiet, Hears, settles, is_data, dead, window_halves, Answered, window_claims, KeepsWindow, WindowIsRight, TransactionIsAnEvent}
@@ -374,7 +374,7 @@ module _ (e : Endpoint) (r : Request) where
     hears = hears;
     spared = λ s call reply p n. n.spared p;
     lost = lost;
-    none = λ s n. right e r s.window n;
+    none = λ s n. window_is_right e r s.window n;
   }
 
   pub window_kept : KeepsWindow e r
@@ -384,7 +384,7 @@ module _ (e : Endpoint) (r : Request) where
   window_right q way ping c x m run =
       holds_gone (window_halves e r) (window_claims e r) (window_keeps q) way x
       (run_keeps (window_halves e r) (window_claims e r) (window_keeps q) way (at_rest (goes_on (line_at e r ping c))) x run
-      (record { at = opens e r ping c m; aside = tt }))
+      (record { at = window_opens e r ping c m; aside = tt }))
 
   pub transaction_is_an_event : TransactionIsAnEvent e r
   transaction_is_an_event way losses l over =

@@ -26,9 +26,9 @@ pub all_owed : (p : Plan) (now : ℕ) (ws : List Watched) → AllOwe p now ws �
 all_owed p now [] owe = tt
 all_owed p now (w ∷ ws) owe = (owed_answered p now w owe.0, all_owed p now ws owe.1)
 
-pub answered : (p : Plan) → Fits p → (events : List Event) → FairAll 0 events (opening p)
+pub answers_are_there : (p : Plan) → Fits p → (events : List Event) → FairAll 0 events (opening p)
     → AllAnswered 1 (run events (opening p)).plan (run events (opening p)).now (run events (opening p)).watched
-answered p fits events fair = all_owed _ _ _ (keeps_all events (opening p) (opening_holds p fits) fair).owe
+answers_are_there p fits events fair = all_owed _ _ _ (keeps_all events (opening p) (opening_holds p fits) fair).owe
 
 settled_answered : (p : Plan) (now : ℕ) (w : Watched) → Coming 6 p now w → Settles p now w → IsAnswered 2 p now w
 settled_answered p now w o s =
@@ -43,8 +43,8 @@ pub all_settled : (p : Plan) (now : ℕ) (ws : List Watched) → All (Coming 6 p
 all_settled p now [] comes settles = tt
 all_settled p now (w ∷ ws) comes settles = (settled_answered p now w comes.0 settles.0, all_settled p now ws comes.1 settles.1)
 
-pub stuffed_answered : (p : Plan) → Fits p → (events : List Event) → FairAll 6 events (opening p)
+pub stuffed_answers_are_there : (p : Plan) → Fits p → (events : List Event) → FairAll 6 events (opening p)
     → AllAnswered 2 (run events (opening p)).plan (run events (opening p)).now (run events (opening p)).watched
-stuffed_answered p fits events fair =
+stuffed_answers_are_there p fits events fair =
     let h = stuffed_keeps_all events (opening p) (stuffed_opening p fits) fair in
     all_settled _ _ _ h.comes h.settles

@@ -114,6 +114,6 @@ pub all_kept : (p : Plan) (now : ℕ) (ws : List Watched) → AllOwe p now ws �
 all_kept p now [] owe = tt
 all_kept p now (w ∷ ws) owe = (owed_kept p now w owe.0, all_kept p now ws owe.1)
 
-pub kept_up : (p : Plan) → Fits p → (events : List Event) → FairAll 0 events (opening p)
+pub keeps_up_with_plans : (p : Plan) → Fits p → (events : List Event) → FairAll 0 events (opening p)
     → AllKeepUp (run events (opening p)).plan (run events (opening p)).now (run events (opening p)).watched
-kept_up p fits events fair = all_kept _ _ _ (keeps_all events (opening p) (opening_holds p fits) fair).owe
+keeps_up_with_plans p fits events fair = all_kept _ _ _ (keeps_all events (opening p) (opening_holds p fits) fair).owe

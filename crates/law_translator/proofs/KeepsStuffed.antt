@@ -253,8 +253,8 @@ pub all_settled : (p : Plan) (now : ℕ) (ws : List Watched) → All (Coming 6 p
 all_settled p now [] comes settles = tt
 all_settled p now (w ∷ ws) comes settles = (settled_kept p now w comes.0 settles.0, all_settled p now ws comes.1 settles.1)
 
-pub stuffed_kept_up : (p : Plan) → Fits p → (events : List Event) → FairAll 6 events (opening p)
+pub keeps_up_with_bits : (p : Plan) → Fits p → (events : List Event) → FairAll 6 events (opening p)
     → AllKeepUpStuffed (run events (opening p)).plan (run events (opening p)).now (run events (opening p)).watched
-stuffed_kept_up p fits events fair =
+keeps_up_with_bits p fits events fair =
     let h = stuffed_keeps_all events (opening p) (stuffed_opening p fits) fair in
     all_settled _ _ _ h.comes h.settles

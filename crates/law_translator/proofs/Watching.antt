@@ -52,7 +52,8 @@ watched_one f (Complete key) = with_entries key given f.watched
 watched_one f (Work replies) = worked_entries 188 replies f.watched
 watched_one f _ = refl
 
-pub watched_all : (events : List Event) → (f : Frame) → entries_of (run events f).watched ≡ run_contents events (entries_of f.watched)
-watched_all [] f = refl
-watched_all (event ∷ events) f =
-    watched_all events (next f event) ∙ ap (λ (es : List Entry). run_contents events es) (watched_one f event)
+pub the_watch_only_watches : (events : List Event) → (f : Frame)
+    → entries_of (run events f).watched ≡ run_contents events (entries_of f.watched)
+the_watch_only_watches [] f = refl
+the_watch_only_watches (event ∷ events) f =
+    the_watch_only_watches events (next f event) ∙ ap (λ (es : List Entry). run_contents events es) (watched_one f event)

@@ -11,13 +11,13 @@ use usb_base::Wire;
 /// Whatever the wire answers, whichever starts are lost or short, and whatever else is asked: where each start that
 /// comes is one that the plan of its frame calls for, no endpoint has stuffed bits, and each plan lays at most 188
 /// byte-times in a microframe, each entry has had what is laid for it. An interrupt that is laid whole has its answer there.
-pub fn a_plan_that_fits_is_done()
+pub fn keeps_up_with_plans()
     ensures { KeepsUpWithPlans }
 {}
 
 /// With stuffed bits, at most one in six: an entry of which all is laid up to the last microframe but two has had all
 /// that its starts call for, and an interrupt has its answer (7.1.9).
-pub fn a_stuffed_plan_is_done_one_microframe_later()
+pub fn keeps_up_with_bits()
     ensures { KeepsUpWithBits }
 {}
 
@@ -34,7 +34,7 @@ pub fn stuffed_answers_are_there()
 
 /// The answer of an interrupt that is there stays: the work of a microframe leaves it as it is, until the entries are
 /// dropped at the frame's end.
-pub fn an_answer_stays()
+pub fn answers_stay()
     ensures { AnswersStay }
 {}
 
@@ -52,6 +52,6 @@ pub fn the_work_is_an_event<W: Wire>()
 {}
 
 /// Over a wire that answers and changes by functions of its content, so does the work.
-pub fn the_work_is_a_function<W: Wire>()
+pub fn works_by_functions<W: Wire>()
     ensures { WorksByFunctions W.transacts }
 {}

@@ -4,7 +4,7 @@
 --     OutGoesOn ..            an event of the controller: some more bytes are known to be taken, maybe none
 --     OutIsSpared, IsUnmovedStill
 --                             a step of a driver that spares the queue head and the qTD that it works on leaves both sides agreed
---     OutBegins               what the host knows to be taken begins what the device took
+--     KnownBeginsTaken               what the host knows to be taken begins what the device took
 use Rattle.std.specs.Prelude.{◌≡◌, ℕ, Bool, true, List, ◌++◌, Option, Some}
 use Rattle.usb_base.specs.declared.packets.Ask.{Ask}
 use Rattle.usb_base.specs.declared.packets.Reply.{Reply}
@@ -57,5 +57,5 @@ pub record Begins (o : Option Taker) (known : List ℕ) : Type 0 where
   pub unheard : List ℕ
   pub taken : taker.taken ≡ known ++ unheard
 
-abbrev pub OutBegins : Type 0
-OutBegins = (o : Option Taker) (known : List ℕ) (parts : StructureSets) (hand : Hand) (n : ℕ) (x : Endpoint) → IsOutPipe o known parts hand n x → Begins o known
+abbrev pub KnownBeginsTaken : Type 0
+KnownBeginsTaken = (o : Option Taker) (known : List ℕ) (parts : StructureSets) (hand : Hand) (n : ℕ) (x : Endpoint) → IsOutPipe o known parts hand n x → Begins o known

@@ -2,7 +2,7 @@
 --     IsUntouched packets o        the sender is there, with all these packets and the first toggle
 --     IsUnopened streams ends addr ep      no queue head with a stream is that of this endpoint
 --     AreUnopened ..               each endpoint of the streams for which that is so is untouched
---     UnopenedWait                 the law
+--     UnopenedSendersWait                 the law
 use Rattle.std.specs.Prelude.{◌≡◌, ℕ, Bool, true, false, List, Option, Some}
 use Rattle.usb_base.specs.declared.packets.Ask.{Ask}
 use Rattle.usb_base.specs.declared.packets.Reply.{Reply}
@@ -28,8 +28,8 @@ abbrev pub AreUnopened : {W : Type 0} → (ℕ → ℕ → Bool) → (ℕ → �
 AreUnopened {W} stream packets sender streams endpoint wire = (addr ep : ℕ) → stream addr ep ≡ true → IsUnopened streams endpoint addr ep → IsUntouched (packets addr ep) (sender wire addr ep)
 
 -- no event of the controller asks one of them
-abbrev pub UnopenedWait : {W : Type 0} → (W → ℕ → Bool → W → Type 0) → (W → Ask → List ℕ → Reply → W → Type 0) → Type 0
-UnopenedWait {W} begins transacts = (stream : ℕ → ℕ → Bool) (packets : ℕ → ℕ → List (List ℕ)) (sender : W → ℕ → ℕ → Option Sender) (base : Base) (member streams : ℕ → Bool) (endpoint : ℕ → Endpoint)
+abbrev pub UnopenedSendersWait : {W : Type 0} → (W → ℕ → Bool → W → Type 0) → (W → Ask → List ℕ → Reply → W → Type 0) → Type 0
+UnopenedSendersWait {W} begins transacts = (stream : ℕ → ℕ → Bool) (packets : ℕ → ℕ → List (List ℕ)) (sender : W → ℕ → ℕ → Option Sender) (base : Base) (member streams : ℕ → Bool) (endpoint : ℕ → Endpoint)
     (acc : ℕ → List (List ℕ)) (parts : StructureSets) (hand : Hand) (c : Content) (wire after : W) (now : StructureSets) (later : Hand)
     → IsBus transacts stream sender → KeepsSenders begins stream sender → IsControlled base member parts hand c
     → ArePiped stream packets sender member streams endpoint acc parts hand wire → ControlEffect begins transacts parts hand wire after now later

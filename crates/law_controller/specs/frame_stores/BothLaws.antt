@@ -99,8 +99,8 @@ StrangersLeaveBoth = (base : Base) (member : ℕ → Bool) (met : ℕ → Option
 -- ---- whom the walk of the frames may meet
 
 -- more are met; they aren't of the ring, and each is sound
-abbrev pub MoreAreMetBoth : Type 0
-MoreAreMetBoth = (base : Base) (member : ℕ → Bool) (met wider : ℕ → Option Kind) (parts : StructureSets) (hand : Hand) (frame : FrameHand) (c : Content)
+abbrev pub MoreAreMetBesideRing : Type 0
+MoreAreMetBesideRing = (base : Base) (member : ℕ → Bool) (met wider : ℕ → Option Kind) (parts : StructureSets) (hand : Hand) (frame : FrameHand) (c : Content)
     → RunsBoth base member met parts hand frame c → IsMetFurther met wider
     → ((n : ℕ) (kind : Kind) → wider n ≡ Some kind → met n ≡ None → (member n ≡ false) × IsMetAs wider n (parts n) kind)
     → RunsBoth base member wider parts hand frame c
@@ -118,8 +118,8 @@ FewerAreMetOutside = (base : Base) (member : ℕ → Bool) (met narrow : ℕ →
     → (list : FrameList parts base) → LeadToMet narrow list.words → RunsBoth base member narrow parts hand frame c
 
 -- and where a microframe has just begun: the walk stands at the link of an element (4.6)
-abbrev pub BeginIsAmong : Type 0
-BeginIsAmong = (base : Base) (narrow : ℕ → Option Kind) (parts : StructureSets) (c : Content) (allowed : Bool) → Tells c.memory parts → base_of c.registers ≡ base
+abbrev pub BeginIsAtElement : Type 0
+BeginIsAtElement = (base : Base) (narrow : ℕ → Option Kind) (parts : StructureSets) (c : Content) (allowed : Bool) → Tells c.memory parts → base_of c.registers ≡ base
     → (list : FrameList parts base) → LeadToMet narrow list.words → IsFrameAmong narrow Nothing (frame_place (began allowed c))
 
 -- so from the begin of a microframe on those alone are met to which an element or a link of theirs leads

@@ -1,7 +1,7 @@
 //! The laws.
 ghost use Rattle.std.specs.Prelude.{ℕ, Option};
 ghost use Rattle.law_ring.specs.Bus.{Sender};
-ghost use Rattle.law_controller.specs.controlled_streams.Unopened.{UnopenedWait};
+ghost use Rattle.law_controller.specs.controlled_streams.Unopened.{UnopenedSendersWait};
 ghost use Rattle.law_controller.specs.controlled_streams.Opened.{EndsWithOne, PipesWithOne, ReportsWithOne, UnopenedLessOne};
 ghost use Rattle.law_controller.specs.controlled_streams.Opened.{EndsWithOther, PipesWithOther, ReportsWithOther, UnopenedWithOther};
 
@@ -9,7 +9,7 @@ use usb_base::Wire;
 
 /// Each event of the controller leaves the devices' endpoints that no queue head is for.
 pub fn unopened_senders_wait<W: Wire>()
-    ensures { UnopenedWait W.begins W.transacts }
+    ensures { UnopenedSendersWait W.begins W.transacts }
 {}
 
 /// Where the walk may meet a queue head for one of them, its stream begins: nothing is taken, out or reported of it, and both sides of its pipe agree.

@@ -12,7 +12,7 @@ ghost use Rattle.law_ring.specs.Effects.{buffer_of, AreBytesHeard};
 ghost use Rattle.law_ring.specs.Told.{Endpoint};
 ghost use Rattle.law_controller.specs.controlled_streams.Control.{IsOn, IsControlled};
 ghost use Rattle.law_ring.specs.OutBus.{Taker, IsOutBus, KeepsTakers};
-ghost use Rattle.law_controller.specs.controlled_streams.Outs.{IsOutStream, OutGoesOn, LinkedIsUnmoved, StaleIsUnmoved, OutIsSpared, OutBegins};
+ghost use Rattle.law_controller.specs.controlled_streams.Outs.{IsOutStream, OutGoesOn, LinkedIsUnmoved, StaleIsUnmoved, OutIsSpared, KnownBeginsTaken};
 
 use usb_base::Wire;
 
@@ -42,6 +42,6 @@ pub fn a_harvest_keeps_an_out_stream()
 {}
 
 /// What the host knows to be taken begins what the device took.
-pub fn what_is_known_begins_what_was_taken()
-    ensures { OutBegins }
+pub fn known_begins_taken()
+    ensures { KnownBeginsTaken }
 {}

@@ -43,11 +43,11 @@ pub fn what_neither_walk_meets_stays<W: Wire>()
 
 /// What either walk has in hand of a queue head is one hand, in which each event moves one stream, of the ring or of the frames; or
 /// nothing is told otherwise.
-pub fn each_event_moves_one_stream<W: Wire>()
+pub fn walks_move_streams<W: Wire>()
     ensures { WalksMoveStreams W.begins W.transacts }
 {}
 
 /// A copy in that hand is one of a queue head of the ring, or of one that the walk of the frames meets.
-pub fn a_copy_in_hand_is_of_either()
+pub fn joined_is_asked()
     ensures { JoinedIsAsked }
 {}

@@ -1,6 +1,6 @@
 -- What an event of the controller keeps and leaves, where it walks a ring and the frames (EHCI 1.0, 3, 4.6 to 4.10 and 4.12.3).
---     BothKeep ..              it keeps structures
---     BothLeave ..             and leaves the words of them that no event writes, and what isn't Lent
+--     EventsKeepBoth ..              it keeps structures
+--     EventsLeaveWords ..             and leaves the words of them that no event writes, and what isn't Lent
 --     RingLeavesFrames ..      an event of the ring's walk leaves the parts of what the frames meet
 --     FramesLeaveRing ..       an event of the walk of the frames leaves those of the ring
 use Rattle.std.specs.Prelude.{◌≡◌, ℕ, Bool, true, List, Option, Some}
@@ -18,13 +18,13 @@ use Rattle.law_controller.specs.frame_control.Both.{RunsBoth, WalksFrames, BothE
 use Rattle.law_descriptors.specs.frame_keeps.Kept.{KeepsParts}
 use Rattle.law_descriptors.specs.frame_keeps.Leaving.{LeavesStructures}
 
-abbrev pub BothKeep : {W : Type 0} → (W → ℕ → Bool → W → Type 0) → (W → Ask → List ℕ → Reply → W → Type 0) → Type 0
-BothKeep {W} begins transacts = (base : Base) (member : ℕ → Bool) (met : ℕ → Option Kind) (parts : StructureSets) (hand : Hand) (frame : FrameHand) (c : Content) (wire after : W)
+abbrev pub EventsKeepBoth : {W : Type 0} → (W → ℕ → Bool → W → Type 0) → (W → Ask → List ℕ → Reply → W → Type 0) → Type 0
+EventsKeepBoth {W} begins transacts = (base : Base) (member : ℕ → Bool) (met : ℕ → Option Kind) (parts : StructureSets) (hand : Hand) (frame : FrameHand) (c : Content) (wire after : W)
     (now : StructureSets) (later : Hand) (frame_later : FrameHand) → RunsBoth base member met parts hand frame c
     → BothEffect begins transacts parts c.control hand frame wire after now later frame_later → KeepsParts parts now
 
-abbrev pub BothLeave : {W : Type 0} → (W → ℕ → Bool → W → Type 0) → (W → Ask → List ℕ → Reply → W → Type 0) → Type 0
-BothLeave {W} begins transacts = (base : Base) (member : ℕ → Bool) (met : ℕ → Option Kind) (parts : StructureSets) (hand : Hand) (frame : FrameHand) (c : Content) (wire : W)
+abbrev pub EventsLeaveWords : {W : Type 0} → (W → ℕ → Bool → W → Type 0) → (W → Ask → List ℕ → Reply → W → Type 0) → Type 0
+EventsLeaveWords {W} begins transacts = (base : Base) (member : ℕ → Bool) (met : ℕ → Option Kind) (parts : StructureSets) (hand : Hand) (frame : FrameHand) (c : Content) (wire : W)
     (new : Content) (after : W) → RunsBoth base member met parts hand frame c → AreAligned c
     → HasRow begins transacts (microframe_row c.registers c.control) c wire new after
     → ControlsBoth begins transacts base member met parts hand frame c.control wire after new → LeavesStructures parts c.memory new.memory

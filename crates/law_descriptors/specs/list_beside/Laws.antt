@@ -5,7 +5,7 @@
 --     DescribedIsTold          a driver whose descriptors stand beside its queues is told
 --     DescribedAreKept         what is kept of structures keeps each descriptor one
 --     DriverStays m new d      what the driver has to find again stays, all of it is in place, and its frame list stands on
---     BothLeaveDriver ..       so each event of the controller leaves it, which walks a ring and the frames
+--     EventsLeaveDriver ..       so each event of the controller leaves it, which walks a ring and the frames
 use Rattle.std.specs.Prelude.{◌≡◌, ℕ, Bool, List, Option}
 use Rattle.usb_base.specs.declared.packets.Ask.{Ask}
 use Rattle.usb_base.specs.declared.packets.Reply.{Reply}
@@ -57,8 +57,8 @@ pub record DriverStays (m new : Mem) (d : DriverContent) : Type 0 where
   pub place : IsInPlace new d
   pub list : KeepsItsList m d → KeepsItsList new d
 
-abbrev pub BothLeaveDriver : {W : Type 0} → (W → ℕ → Bool → W → Type 0) → (W → Ask → List ℕ → Reply → W → Type 0) → Type 0
-BothLeaveDriver {W} begins transacts = (base : Base) (member : ℕ → Bool) (met : ℕ → Option Kind) (parts all : StructureSets) (hand : Hand) (frame : FrameHand) (c : Content)
+abbrev pub EventsLeaveDriver : {W : Type 0} → (W → ℕ → Bool → W → Type 0) → (W → Ask → List ℕ → Reply → W → Type 0) → Type 0
+EventsLeaveDriver {W} begins transacts = (base : Base) (member : ℕ → Bool) (met : ℕ → Option Kind) (parts all : StructureSets) (hand : Hand) (frame : FrameHand) (c : Content)
     (d : DriverContent) (wire : W) (new : Content) (after : W) → RunsBoth base member met all hand frame c → IsTold base parts all c.memory d → AreAligned c
     → HasRow begins transacts (microframe_row c.registers c.control) c wire new after
     → ControlsBoth begins transacts base member met all hand frame c.control wire after new → DriverStays c.memory new.memory d

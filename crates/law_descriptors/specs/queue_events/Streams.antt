@@ -3,7 +3,7 @@
 --     BothStreams        each event does so; a transaction beside the queue heads is one of an isochronous descriptor
 --     bytes_of_both      the bytes that an event moved of the queue head at n
 --     BothAdds           they are added to the end of what was moved of all published qTDs of that queue head
---     SendsWhole         the qTDs of an OUT endpoint are sent whole, and in turn
+--     EventsSendWhole         the qTDs of an OUT endpoint are sent whole, and in turn
 use Rattle.std.specs.Prelude.{ℕ, Bool, List, [], Option}
 use Rattle.usb_base.specs.declared.packets.Ask.{Ask}
 use Rattle.usb_base.specs.declared.packets.Reply.{Reply}
@@ -53,8 +53,8 @@ BothAdds {W} begins transacts = (base : Base) (member : ℕ → Bool) (met : ℕ
     → Accounts order place out (joined hand frame) parts n xs
     → GoesOnInOrder order out (joined later frame_later) (parts_now descs parts now) n xs (bytes_of_both n z)
 
-abbrev pub SendsWhole : {W : Type 0} → (W → ℕ → Bool → W → Type 0) → (W → Ask → List ℕ → Reply → W → Type 0) → Type 0
-SendsWhole {W} begins transacts = (base : Base) (member : ℕ → Bool) (met : ℕ → Option Kind) (d : DriverContent)
+abbrev pub EventsSendWhole : {W : Type 0} → (W → ℕ → Bool → W → Type 0) → (W → Ask → List ℕ → Reply → W → Type 0) → Type 0
+EventsSendWhole {W} begins transacts = (base : Base) (member : ℕ → Bool) (met : ℕ → Option Kind) (d : DriverContent)
     (descs parts : StructureSets) (hand : Hand) (frame : FrameHand) (c : Content)
     (wire after : W) (now : StructureSets) (later : Hand) (frame_later : FrameHand) → IsDescribing d descs parts
     → RunsBoth base member met (both descs parts) hand frame c

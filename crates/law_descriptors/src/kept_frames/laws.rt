@@ -1,15 +1,15 @@
-ghost use Rattle.law_descriptors.specs.kept_frames.Laws.{BothKeep, BothLeave, RingLeavesFrames, FramesLeaveRing};
+ghost use Rattle.law_descriptors.specs.kept_frames.Laws.{EventsKeepBoth, EventsLeaveWords, RingLeavesFrames, FramesLeaveRing};
 
 use usb_base::Wire;
 
 /// Each event keeps structures: of the ring's walk, of the walk of the frames, or where a microframe begins.
-pub fn each_event_keeps_both<W: Wire>()
-    ensures { BothKeep W.begins W.transacts }
+pub fn events_keep_both<W: Wire>()
+    ensures { EventsKeepBoth W.begins W.transacts }
 {}
 
 /// So it leaves the states of blocks, the words that aren't in a Lent block, and of what is told the words that no event writes.
-pub fn each_event_leaves_words<W: Wire>()
-    ensures { BothLeave W.begins W.transacts }
+pub fn events_leave_words<W: Wire>()
+    ensures { EventsLeaveWords W.begins W.transacts }
 {}
 
 /// An event of one walk leaves the structures of what the other meets.

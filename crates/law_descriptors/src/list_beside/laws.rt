@@ -6,7 +6,7 @@ ghost use Rattle.claims_base.specs.Controller.{Base};
 ghost use Rattle.law_frame_words.specs.list_words.Spared.{LeavesList};
 ghost use Rattle.law_descriptors.specs.frame_keeps.Leaving.{LeavesStructures};
 ghost use Rattle.law_descriptors.specs.list_beside.Links.{HasItsLinks, IsTold};
-ghost use Rattle.law_descriptors.specs.list_beside.Laws.{ListIsKept, WrittenElsewhere, ToldStays, DescribedIsTold, DescribedAreKept, BothLeaveDriver};
+ghost use Rattle.law_descriptors.specs.list_beside.Laws.{ListIsKept, WrittenElsewhere, ToldStays, DescribedIsTold, DescribedAreKept, EventsLeaveDriver};
 
 use usb_base::Wire;
 
@@ -21,17 +21,17 @@ pub fn a_driver_has_its_links()
 {}
 
 /// So its list stands on, and descriptors that are still to be linked lead to what stands first in their frames.
-pub fn the_list_of_a_driver_is_kept()
+pub fn list_is_kept()
     ensures { ListIsKept }
 {}
 
 /// And the states of blocks, the words of Free blocks, and words 0 to 2 of each queue head of the driver stay.
-pub fn it_writes_elsewhere()
+pub fn written_elsewhere()
     ensures { WrittenElsewhere }
 {}
 
 /// So what the driver has lent stays told.
-pub fn what_is_told_stays()
+pub fn told_stays()
     ensures { ToldStays }
 {}
 
@@ -42,6 +42,6 @@ pub fn descriptors_beside_a_list()
 {}
 
 /// So each event of the controller over both walks leaves a driver.
-pub fn each_event_leaves_a_driver<W: Wire>()
-    ensures { BothLeaveDriver W.begins W.transacts }
+pub fn events_leave_driver<W: Wire>()
+    ensures { EventsLeaveDriver W.begins W.transacts }
 {}

@@ -1,6 +1,6 @@
 //! The laws.
 ghost use Rattle.law_descriptors.specs.queue_events.Events.{BothKeepsStructures, BothKeepsFed, BothKeepsLast, BothKeepsLinks, BothKeepsFronts, BothKeepsReaches, BothKeepsHalts, BothLeavesHalted, BothKeepsMends, BothKeepsParts};
-ghost use Rattle.law_descriptors.specs.queue_events.Streams.{BothStreams, BothAdds, SendsWhole};
+ghost use Rattle.law_descriptors.specs.queue_events.Streams.{BothStreams, BothAdds, EventsSendWhole};
 ghost use Rattle.law_descriptors.specs.queue_events.Pipes.{BothKeepPipes};
 ghost use Rattle.law_descriptors.specs.queue_events.OutPipes.{BothKeepOutPipes};
 
@@ -34,17 +34,17 @@ pub fn each_event_moves_one_stream<W: Wire>()
 {}
 
 /// Each event keeps it that the qTDs of an OUT endpoint, in the ring or in the frames, are sent whole and in turn.
-pub fn each_event_sends_whole<W: Wire>()
-    ensures { SendsWhole W.begins W.transacts }
+pub fn events_send_whole<W: Wire>()
+    ensures { EventsSendWhole W.begins W.transacts }
 {}
 
 /// Each event keeps both sides of each pipe of an IN endpoint at high speed agreed, in the ring and in the frames.
-pub fn each_event_keeps_the_pipes<W: Wire>()
+pub fn both_keep_pipes<W: Wire>()
     ensures { BothKeepPipes W.begins W.transacts }
 {}
 
 /// Each event keeps both sides of the pipe of an OUT endpoint at high speed agreed, in the ring and in the frames: its device took the
 /// bytes that the host knows to be taken, or besides them the packet that the host sends next.
-pub fn each_event_keeps_out_pipes<W: Wire>()
+pub fn both_keep_out_pipes<W: Wire>()
     ensures { BothKeepOutPipes W.begins W.transacts }
 {}

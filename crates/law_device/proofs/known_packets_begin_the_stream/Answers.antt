@@ -1,5 +1,5 @@
-use Rattle.law_device.proofs.Senders.{known_and_left}
+use Rattle.law_device.proofs.Senders.{known_packets_begin_the_stream}
 use Rattle.law_device.proofs.known_packets_begin_the_stream.Goals as goal
 
 pub returns : goal.returns
-returns c = known_and_left
+returns c = known_packets_begin_the_stream

@@ -4,12 +4,12 @@ ghost use Rattle.law_devices.specs.declared_controls.Laws.{TransactionLeavesZero
 
 /// Each high-speed control endpoint of a device that a text opens is on the bus of the script, before its first SETUP, with the replies and the NAKs of
 /// its lines.
-pub fn an_opened_endpoint_has_its_control()
+pub fn texts_open_controls()
     ensures { TextsOpenControls }
 {}
 
 /// Control endpoints have number 0 and packets of at most 64 bytes, all others a number from 1 to 15 and one way.
-pub fn endpoints_are_named_by_their_type()
+pub fn texts_name_endpoints()
     ensures { TextsNameEndpoints }
 {}
 

@@ -20,7 +20,7 @@ pub fn a_queue_comes_to_rest()
 
 /// The store that makes the qTD at the end of a queue at rest the SETUP of a request that is laid out begins a queue that asks that one, where the queue
 /// head isn't halted. The window opens on the device as it was left.
-pub fn a_first_store_begins_a_queue()
+pub fn queue_grows()
     ensures { QueueGrows }
 {}
 

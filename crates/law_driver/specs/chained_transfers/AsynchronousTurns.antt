@@ -1,7 +1,8 @@
 -- A driver of bulk and control endpoints, whose transfers are chained and take turns (EHCI 1.0, 3.5, 4.8 and 4.10), at each command and event. A control
 -- endpoint goes on after a STALL (USB 2.0, 8.5.3.4): the stalled request and all that wait behind it are reported and harvested in their order.
 --     AsynchronousTakesTurns d     all this of its content
---     NewDriverTakesAsynchronousTurns, AsynchronousTurnsAreKept, AsynchronousTurnsAreTaken, AsynchronousCommandIsAccepted      the laws
+--     NewDriverTakesAsynchronousTurns, EventsKeepAsynchronousTurns, CommandsKeepAsynchronousTurns, AsynchronousCommandIsAccepted      the
+-- laws
 --     BulkIsAsynchronous           a driver of bulk endpoints alone is one
 use Rattle.std.specs.Prelude.{◌≡◌, ℕ, Ok}
 use Rattle.usb_base.specs.declared.commands.Cmd.{Cmd}
@@ -30,11 +31,11 @@ pub record AsynchronousTakesTurns (d : DriverContent) : Type 0 where
 abbrev pub NewDriverTakesAsynchronousTurns : Type 0
 NewDriverTakesAsynchronousTurns = (n : ℕ) (room : Reserve) → AsynchronousTakesTurns (opening n room).driver
 
-abbrev pub AsynchronousTurnsAreKept : Type 0
-AsynchronousTurnsAreKept = (p : Parts) → HasOwners p.driver → AsynchronousTakesTurns p.driver → AsynchronousTakesTurns (after_driver_row (driver_row p) p).driver
+abbrev pub EventsKeepAsynchronousTurns : Type 0
+EventsKeepAsynchronousTurns = (p : Parts) → HasOwners p.driver → AsynchronousTakesTurns p.driver → AsynchronousTakesTurns (after_driver_row (driver_row p) p).driver
 
-abbrev pub AsynchronousTurnsAreTaken : Type 0
-AsynchronousTurnsAreTaken = (d : DriverContent) (m : Mem) (cmd : Cmd) (o : Offered) → Stands (holding d.book m) → HasOwners d → AsynchronousTakesTurns d → OpensAsynchronous cmd → offered d m cmd ≡ Ok o
+abbrev pub CommandsKeepAsynchronousTurns : Type 0
+CommandsKeepAsynchronousTurns = (d : DriverContent) (m : Mem) (cmd : Cmd) (o : Offered) → Stands (holding d.book m) → HasOwners d → AsynchronousTakesTurns d → OpensAsynchronous cmd → offered d m cmd ≡ Ok o
     → AsynchronousTakesTurns o.driver
 
 abbrev pub AsynchronousCommandIsAccepted : Type 0

@@ -1,6 +1,6 @@
 -- A driver of bulk endpoints, whose transfers are chained and take turns (EHCI 1.0, 3.5 and 4.10), at each command and event; endpoints may leave.
 --     TakesTurns d        all this of its content
---     TurnsAreKept, TurnsAreTaken, NewDriverTakesTurns     the laws
+--     EventsKeepTurns, CommandsKeepTurns, NewDriverTakesTurns     the laws
 use Rattle.std.specs.Prelude.{◌≡◌, ℕ, Ok}
 use Rattle.usb_base.specs.declared.commands.Cmd.{Cmd}
 use Rattle.word_mem.specs.Memory.{Mem}
@@ -26,8 +26,8 @@ pub record TakesTurns (d : DriverContent) : Type 0 where
 abbrev pub NewDriverTakesTurns : Type 0
 NewDriverTakesTurns = (n : ℕ) (room : Reserve) → TakesTurns (opening n room).driver
 
-abbrev pub TurnsAreKept : Type 0
-TurnsAreKept = (p : Parts) → HasOwners p.driver → TakesTurns p.driver → TakesTurns (after_driver_row (driver_row p) p).driver
+abbrev pub EventsKeepTurns : Type 0
+EventsKeepTurns = (p : Parts) → HasOwners p.driver → TakesTurns p.driver → TakesTurns (after_driver_row (driver_row p) p).driver
 
-abbrev pub TurnsAreTaken : Type 0
-TurnsAreTaken = (d : DriverContent) (m : Mem) (cmd : Cmd) (o : Offered) → Stands (holding d.book m) → HasOwners d → TakesTurns d → OpensOrCancelsBulk cmd → offered d m cmd ≡ Ok o → TakesTurns o.driver
+abbrev pub CommandsKeepTurns : Type 0
+CommandsKeepTurns = (d : DriverContent) (m : Mem) (cmd : Cmd) (o : Offered) → Stands (holding d.book m) → HasOwners d → TakesTurns d → OpensOrCancelsBulk cmd → offered d m cmd ≡ Ok o → TakesTurns o.driver

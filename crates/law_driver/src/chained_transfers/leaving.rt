@@ -2,12 +2,12 @@
 ghost use Rattle.law_driver.specs.chained_transfers.Leaving.{CommandIsAccepted, NewDriverStays, NothingStartsToLeave, NothingIsTakenAway};
 
 /// A command that opens a high-speed bulk endpoint, or is no open, becomes an endpoint more, a get or put, or an endpoint that is to leave, where it is accepted.
-pub fn a_command_is_accepted()
+pub fn command_is_accepted()
     ensures { CommandIsAccepted }
 {}
 
 /// Of a driver that was just built nothing leaves.
-pub fn a_new_driver_stays()
+pub fn new_driver_stays()
     ensures { NewDriverStays }
 {}
 

@@ -51,7 +51,7 @@ ReportIsRead = (m : Mem) (parts : StructureSets) (hand : Hand) (n : ℕ) → Tel
     → take most (moved_bytes notes m b k) ≡ xs
 
 -- the first that no short packet passed over is harvested
-abbrev pub FirstIsHarvested : Type 0
-FirstIsHarvested = (order : ℕ → ℕ) (place e : ℕ) (passed rest : List ℕ) (hand : Hand) (parts : StructureSets) (n : ℕ) (xs : List ℕ) (t : Qtd) → parts n e ≡ Some (Element t)
+abbrev pub HarvestTakesFirst : Type 0
+HarvestTakesFirst = (order : ℕ → ℕ) (place e : ℕ) (passed rest : List ℕ) (hand : Hand) (parts : StructureSets) (n : ℕ) (xs : List ℕ) (t : Qtd) → parts n e ≡ Some (Element t)
     → t.token.active ≡ false → IsNoneTold hand parts n passed
     → Accounts order place (passed ++ e ∷ rest) hand parts n xs → HarvestsFirst order place e (passed ++ rest) hand parts n xs

@@ -4,7 +4,7 @@ ghost use Rattle.law_structures.specs.lent_structures.Structures.{Element, Struc
 ghost use Rattle.law_ring.specs.Hand.{Hand};
 ghost use Rattle.law_ring.specs.Streams.{NoneBeside, StreamEffect};
 ghost use Rattle.law_driver_ring.specs.told_harvests.Held.{IsDone};
-ghost use Rattle.law_driver_ring.specs.told_harvests.Laws.{FoundIsDone, FoundIsNoted, HeldGrows, HeldIsNoted, HeldStays, SparedIsDone, ReportIsRead, FirstIsHarvested};
+ghost use Rattle.law_driver_ring.specs.told_harvests.Laws.{FoundIsDone, FoundIsNoted, HeldGrows, HeldIsNoted, HeldStays, SparedIsDone, ReportIsRead, HarvestTakesFirst};
 
 use usb_base::Wire;
 
@@ -30,11 +30,11 @@ pub fn events_keep_what_is_done<W: Wire>()
 {}
 
 /// The report of a transfer tells what was held back of it, all of it and nothing else.
-pub fn a_report_is_what_was_held()
+pub fn report_is_read()
     ensures { ReportIsRead }
 {}
 
 /// A harvest takes the first published qTD that no short packet passed over; what is told of the others stays.
-pub fn a_harvest_takes_the_first()
-    ensures { FirstIsHarvested }
+pub fn harvest_takes_first()
+    ensures { HarvestTakesFirst }
 {}

@@ -210,15 +210,15 @@ abbrev pub ChainsCostNothing : {W : Type 0} → (W → Ask → List ℕ → Repl
 ChainsCostNothing {W} transacts = (p q : FramePlace) (before later : W) → p.walk.hand ≡ None → Leads transacts p before q later → charge p q ≡ 0
 
 -- where there is time for one transaction of the largest packet, none is skipped for want of it
-abbrev pub EnoughIsInTime : Type 0
-EnoughIsInTime = (x : Placed) (p : FramePlace) (hand : Hand) → p.walk.hand ≡ Some hand → IsInHandOf x p.walk.index hand → largest x.want ≤ p.walk.left → is_late p ≡ false
+abbrev pub EnoughTimeSkipsNothing : Type 0
+EnoughTimeSkipsNothing = (x : Placed) (p : FramePlace) (hand : Hand) → p.walk.hand ≡ Some hand → IsInHandOf x p.walk.index hand → largest x.want ≤ p.walk.left → is_late p ≡ false
 
 -- a fetch begins a visit, of which nothing is paid
-abbrev pub HeadsBegin : Type 0
-HeadsBegin = (x : Placed) (p : FramePlace) (a : ℕ) (q : Qh) (r : Reply) → BeginsHead x p a q → Begins x p (hands.Queue (queue_copy a q)) (after p r)
+abbrev pub HeadFetchesBeginCharges : Type 0
+HeadFetchesBeginCharges = (x : Placed) (p : FramePlace) (a : ℕ) (q : Qh) (r : Reply) → BeginsHead x p a q → Begins x p (hands.Queue (queue_copy a q)) (after p r)
 
-abbrev pub ItdsBegin : Type 0
-ItdsBegin = (x : Placed) (p : FramePlace) (a : ℕ) (v : Itd) (r : Reply) → BeginsItd x p a v → Begins x p (hands.Itd (itd_copy p a v)) (after p r)
+abbrev pub DescriptorFetchesBeginCharges : Type 0
+DescriptorFetchesBeginCharges = (x : Placed) (p : FramePlace) (a : ℕ) (v : Itd) (r : Reply) → BeginsItd x p a v → Begins x p (hands.Itd (itd_copy p a v)) (after p r)
 
 -- each event adds its charge
 abbrev pub ChargesAreSummed : Type 0

@@ -5,7 +5,7 @@
 --     AlongTexts P               .. in the run of each script that a text spells, where no part of an isochronous OUT comes behind the
 --                                last one, nor two in a microframe
 --     AlongPlainTexts P          .. where no endpoint has stuffed bits
---     TextsAreFew                no endpoint of a script that a text spells has more than six of them in 36
+--     TextsHaveFewStuffedBits                no endpoint of a script that a text spells has more than six of them in 36
 --     InterruptsFollow           each start-split of a queue head follows its plan; SitdsFollowToo: and each of a siTD
 --     EntriesStayOwned           an event of the driver, a command and a microframe that begins in the frame leave whose an entry is
 use Rattle.std.specs.Prelude.{◌≡◌, ℕ, ◌%◌, List, slice_get, Some}
@@ -46,8 +46,8 @@ AlongPlainTexts P = (text : List ℕ) (s : Script) → Spells text s → StuffsA
     → ((k : ℕ) → PartsAreLacked (moment s k).world) → (k : ℕ) → EachPipeline P (moment s k).world (gaps s k)
 
 -- no endpoint has more than six
-abbrev pub TextsAreFew : Type 0
-TextsAreFew = (text : List ℕ) (s : Script) → Spells text s → StuffsAtMost 6 (fixed_of s)
+abbrev pub TextsHaveFewStuffedBits : Type 0
+TextsHaveFewStuffedBits = (text : List ℕ) (s : Script) → Spells text s → StuffsAtMost 6 (fixed_of s)
 
 abbrev pub InterruptsFollow : Type 0
 InterruptsFollow = (text : List ℕ) (s : Script) → Spells text s → (k : ℕ) → SitdsFollow (moment s k).world

@@ -2,6 +2,6 @@
 ghost use Rattle.law_microframes.specs.due.slots.SlotLaws.{TextsServeSlots};
 
 /// Once the walk of the frames is over, each slot that it fetched active in the microframe is done, and no other.
-pub fn each_slot_is_done()
+pub fn texts_serve_slots()
     ensures { TextsServeSlots }
 {}

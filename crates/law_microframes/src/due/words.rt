@@ -2,17 +2,17 @@
 ghost use Rattle.law_microframes.specs.due.repeats.WordLaws.{BeginsKeepWords, AsksKeepWords, CompletesAreAnswered, BeginsKeepTranslators, AsksKeepTranslators};
 
 /// A microframe that begins leaves the translators so, whatever their devices answer, ..
-pub fn each_begin_keeps_words()
+pub fn begins_keep_words()
     ensures { BeginsKeepWords }
 {}
 
 /// .. and so does each transaction of the host, with a device, a hub or a translator.
-pub fn each_transaction_keeps_words()
+pub fn asks_keep_words()
     ensures { AsksKeepWords }
 {}
 
 /// So a complete-split that a translator can hear is answered by NYET, ERR or what the device said, unless a packet is lost.
-pub fn complete_splits_are_answered()
+pub fn completes_are_answered()
     ensures { CompletesAreAnswered }
 {}
 

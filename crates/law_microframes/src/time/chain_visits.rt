@@ -4,11 +4,11 @@ ghost use Rattle.law_microframes.specs.time.ChainEvents.{ChainVisitsFall, ChainF
 use usb_base::Wire;
 
 /// With a copy in hand each event leaves fewer events of the visit, or takes the least price of a transaction or more; and no event leaves more time.
-pub fn each_event_of_a_visit_leaves_fewer<W: Wire>()
+pub fn chain_visits_fall<W: Wire>()
     ensures { ChainVisitsFall W.transacts }
 {}
 
 /// A fetch leaves at most three events before the first transaction of its visit.
-pub fn each_fetch_begins_a_visit<W: Wire>()
+pub fn chain_fetches_begin<W: Wire>()
     ensures { ChainFetchesBegin W.transacts }
 {}

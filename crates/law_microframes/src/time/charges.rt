@@ -5,7 +5,7 @@
 
 pub mod worked;
 
-ghost use Rattle.law_microframes.specs.time.Charges.{EventsArePriced, EventsAreCharged, LeadsAreCharged, ChainsAreFree, ChainsCostNothing, HeadsBegin, ItdsBegin, ChargesAreSummed, ChargesAreBounded, ChargesArePlaced, EnoughIsInTime};
+ghost use Rattle.law_microframes.specs.time.Charges.{EventsArePriced, EventsAreCharged, LeadsAreCharged, ChainsAreFree, ChainsCostNothing, HeadFetchesBeginCharges, DescriptorFetchesBeginCharges, ChargesAreSummed, ChargesAreBounded, ChargesArePlaced, EnoughTimeSkipsNothing};
 ghost use Rattle.law_microframes.specs.time.ChargeLoads.{HeldArePaid, PaidIsWithinLoad, PaidLeavesAFifth, TransactionsAreShort, PaidVisitsAreInTime};
 
 use usb_base::Wire;
@@ -22,28 +22,28 @@ pub fn events_are_charged()
 {}
 
 /// So it is over each wire.
-pub fn events_over_a_wire_are_charged<W: Wire>()
+pub fn leads_are_charged<W: Wire>()
     ensures { LeadsAreCharged W.transacts }
 {}
 
 /// With nothing in hand an event asks nothing and costs nothing.
-pub fn events_of_the_chain_are_free()
+pub fn chains_are_free()
     ensures { ChainsAreFree }
 {}
 
 /// So it is over each wire.
-pub fn events_of_the_chain_cost_nothing<W: Wire>()
+pub fn chains_cost_nothing<W: Wire>()
     ensures { ChainsCostNothing W.transacts }
 {}
 
 /// A fetch of the queue head of such an endpoint begins a visit, of which nothing is paid.
-pub fn fetches_of_queue_heads_begin_charges()
-    ensures { HeadsBegin }
+pub fn head_fetches_begin_charges()
+    ensures { HeadFetchesBeginCharges }
 {}
 
 /// So does one of a descriptor.
-pub fn fetches_of_descriptors_begin_charges()
-    ensures { ItdsBegin }
+pub fn descriptor_fetches_begin_charges()
+    ensures { DescriptorFetchesBeginCharges }
 {}
 
 /// Each event of the visit adds its charge to what was paid, which stays within what the transactions made may cost; the last one adds nothing.
@@ -63,26 +63,26 @@ pub fn charges_are_placed()
 
 /// Where there is time left for one transaction of the largest packet, none is skipped for want of it.
 pub fn enough_time_skips_nothing()
-    ensures { EnoughIsInTime }
+    ensures { EnoughTimeSkipsNothing }
 {}
 
 /// At each of its events a visit in a frame of the placement has cost no more than the endpoint may have in this microframe ..
-pub fn visits_in_hand_are_paid()
+pub fn held_are_paid()
     ensures { HeldArePaid }
 {}
 
 /// .. so visits of one microframe to different placed endpoints cost together at most its load.
-pub fn paid_visits_cost_at_most_the_load()
+pub fn paid_is_within_load()
     ensures { PaidIsWithinLoad }
 {}
 
 /// Where what is placed fits they leave a fifth of the microframe, 25,000,000 picoseconds ..
-pub fn paid_visits_leave_a_fifth()
+pub fn paid_leaves_a_fifth()
     ensures { PaidLeavesAFifth }
 {}
 
 /// .. and no transaction of a packet of up to 1,024 bytes costs more than 21,000,000, ..
-pub fn no_transaction_costs_more_than_a_fifth()
+pub fn transactions_are_short()
     ensures { TransactionsAreShort }
 {}
 

@@ -23,6 +23,6 @@ pub fn visits_are_few()
 {}
 
 /// Each event of the walk of the ring that makes a transaction leaves less time by the least price or more, and no event leaves more.
-pub fn each_transaction_takes_time()
+pub fn events_take_time()
     ensures { EventsTakeTime }
 {}

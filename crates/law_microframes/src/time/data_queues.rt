@@ -8,17 +8,17 @@ pub fn the_controller_leaves_queues_of_data()
 {}
 
 /// So does an event of the driver: what it stores in a qTD is that of a get or a put.
-pub fn the_driver_leaves_queues_of_data()
+pub fn driver_keeps_data()
     ensures { DriverKeepsData }
 {}
 
 /// So does each command, refused or accepted: an interrupt endpoint takes no request.
-pub fn each_command_leaves_queues_of_data()
+pub fn command_keeps_data()
     ensures { CommandKeepsData }
 {}
 
 /// So they are at each moment of each script that fits.
-pub fn each_moment_has_queues_of_data()
+pub fn scripts_send_data()
     ensures { ScriptsSendData }
 {}
 

@@ -2,12 +2,12 @@
 ghost use Rattle.law_microframes.specs.time.RoundLaws.{EachRowKeepsRounds, CommandLeavesRounds, DriverKeepsRounds, CommandKeepsRounds, ScriptsRoundOnce, TextsRoundOnce};
 
 /// A round goes on with each event of the driver, whichever row it is: also where a store links a queue head, or unlinks one.
-pub fn each_row_goes_on_with_the_round()
+pub fn each_row_keeps_rounds()
     ensures { EachRowKeepsRounds }
 {}
 
 /// .. and with each command, accepted or refused.
-pub fn commands_go_on_with_the_round()
+pub fn command_leaves_rounds()
     ensures { CommandLeavesRounds }
 {}
 

@@ -3,12 +3,12 @@ ghost use Rattle.law_microframes.specs.time.HeadReads.{EventsReadTheHead, Worlds
 
 /// Reclamation is 1 at the first event of the asynchronous part; reading the head leaves it 0, only a transaction sets it again, and a read of the head ends the part exactly
 /// where Reclamation is 0.
-pub fn each_event_reads_the_head()
+pub fn events_read_the_head()
     ensures { EventsReadTheHead }
 {}
 
 /// No event of the driver and no command writes Reclamation.
-pub fn the_driver_leaves_reclamation()
+pub fn worlds_leave_reclamation()
     ensures { WorldsLeaveReclamation }
 {}
 

@@ -2,17 +2,17 @@
 ghost use Rattle.law_microframes.specs.time.PaymentLaws.{ControllerKeepsPaying, DriverKeepsPaying, CommandKeepsPaying, ScriptsPayWithinLoad, TextsPayWithinLoad};
 
 /// An event of the controller leaves each visit of the microframe within the placement of its endpoint: it begins one, of which nothing is paid, or adds to what the newest cost.
-pub fn the_controller_goes_on_paying()
+pub fn controller_keeps_paying()
     ensures { ControllerKeepsPaying }
 {}
 
 /// An event of the driver leaves them so: no endpoint that was visited is given back in the microframe.
-pub fn the_driver_leaves_what_was_paid()
+pub fn driver_keeps_paying()
     ensures { DriverKeepsPaying }
 {}
 
 /// So does a command, accepted or refused.
-pub fn a_command_leaves_what_was_paid()
+pub fn command_keeps_paying()
     ensures { CommandKeepsPaying }
 {}
 

@@ -2,7 +2,7 @@
 ghost use Rattle.law_microframes.specs.time.Repeats.{TranslatorsSayWords, WordsEndVisits, SilenceAsksAgain};
 
 /// What a translator tells of an interrupt transaction is NYET, ERR, or what the device said to it: data with a toggle, or a handshake.
-pub fn translators_tell_what_devices_say()
+pub fn translators_say_words()
     ensures { TranslatorsSayWords }
 {}
 

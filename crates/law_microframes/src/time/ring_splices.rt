@@ -3,12 +3,12 @@
 ghost use Rattle.law_microframes.specs.time.RingSplices.{OpenStoreJoins, UnlinkStorePasses, EachRowLeavesReached, RowsLeaveLinks, CommandsLeaveRing};
 
 /// The store of an open joins a queue head to the ring: it led to where the head of the ring did, and the head leads to it then.
-pub fn a_store_links_a_queue_head()
+pub fn open_store_joins()
     ensures { OpenStoreJoins }
 {}
 
 /// The store of a cancel leads past a queue head, which led to where the one before it leads then.
-pub fn a_store_leads_past_a_queue_head()
+pub fn unlink_store_passes()
     ensures { UnlinkStorePasses }
 {}
 
@@ -19,6 +19,6 @@ pub fn other_events_leave_the_ring()
 {}
 
 /// .. and each command, accepted or refused, but that the queue head of an accepted open may be reached from then on: it leads to where the head of the ring does.
-pub fn commands_leave_the_ring()
+pub fn commands_leave_ring()
     ensures { CommandsLeaveRing }
 {}

@@ -2,11 +2,11 @@
 ghost use Rattle.law_microframes.specs.time.RoundLaws.{NewIsRounding, ControllerKeepsRounds};
 
 /// Before the first line of a script nothing was visited.
-pub fn a_new_world_begins_no_round()
+pub fn new_is_rounding()
     ensures { NewIsRounding }
 {}
 
 /// Each event of the controller goes on with the round.
-pub fn the_controller_goes_on_with_its_round()
+pub fn controller_keeps_rounds()
     ensures { ControllerKeepsRounds }
 {}

@@ -6,7 +6,7 @@ ghost use Rattle.law_microframes.specs.time.SitdParts.{PartsStay, PartsAreWithin
 
 /// In each allowed placement of an endpoint below a hub no microframe of the C-mask stands in the S-mask, and the microframes of the S-mask
 /// come one after the other.
-pub fn allowed_masks_are_split()
+pub fn allowed_are_split()
     ensures { AllowedAreSplit }
 {}
 
@@ -22,7 +22,7 @@ pub fn each_placement_is_allowed()
 /// While the queue head of a placed interrupt endpoint below a hub is in hand, an event adds the price of a start-split or a complete-split
 /// to what was paid, no more than the placement has for this microframe, whatever the bus replies; one that is made again at once adds
 /// nothing. The visit goes on, or is over.
-pub fn split_transactions_are_priced()
+pub fn splits_are_priced()
     ensures { SplitsArePriced }
 {}
 
@@ -36,6 +36,6 @@ pub fn parts_of_a_packet_are_placed()
 
 /// While such a siTD is in hand, an event costs nothing and ends the visit, or makes one transaction, at its price, no more than the
 /// placement has for this microframe, whatever the bus replies.
-pub fn transactions_of_sitds_are_priced()
+pub fn sitds_are_priced()
     ensures { SitdsArePriced }
 {}

@@ -5,7 +5,7 @@ ghost use Rattle.law_microframes.specs.time.VisitSteps.{RingEventsFall, RingFetc
 use usb_base::Wire;
 
 /// In the ring each event with a queue head in hand leaves fewer events of the visit: a qTD that is taken, a transaction, its write-back; or the queue head is passed.
-pub fn ring_visits_end<W: Wire>()
+pub fn ring_events_fall<W: Wire>()
     ensures { RingEventsFall W.transacts }
 {}
 

@@ -9,16 +9,16 @@ pub fn each_event_leaves_fewer_ahead()
 {}
 
 /// No walk has more time left than a microframe has, at each moment of a run.
-pub fn no_walk_has_more_time_than_a_microframe()
+pub fn scripts_keep_time()
     ensures { ScriptsKeepTime }
 {}
 
 /// So each microframe ends after no more turns of the controller and the driver than were counted before it.
-pub fn each_microframe_ends()
+pub fn texts_end_microframes()
     ensures { TextsEndMicroframes }
 {}
 
 /// So each run carries out all the lines of its script: none stops in a microframe that goes on.
-pub fn each_run_carries_out_all()
+pub fn texts_carry_out_all()
     ensures { TextsCarryOutAll }
 {}

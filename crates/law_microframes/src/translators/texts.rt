@@ -2,7 +2,7 @@
 ghost use Rattle.law_translator.specs.Premises.{AllKeepUp, AllKeepUpStuffed};
 ghost use Rattle.law_translator.specs.Results.{AllAnswered};
 ghost use Rattle.law_microframes.specs.translators.Short.{AlongShortTexts, AlongPlainShortTexts};
-ghost use Rattle.law_microframes.specs.translators.Laws.{AlongTexts, AlongPlainTexts, TextsAreFew, InterruptsFollow, SitdsFollowToo};
+ghost use Rattle.law_microframes.specs.translators.Laws.{AlongTexts, AlongPlainTexts, TextsHaveFewStuffedBits, InterruptsFollow, SitdsFollowToo};
 
 /// Each start-split of a queue head is one that the plan of its translator calls for, and its endpoint isn't given back in the frame.
 pub fn interrupts_follow()
@@ -17,7 +17,7 @@ pub fn sitds_follow()
 
 /// No endpoint below a hub has more than six stuffed bits in 36.
 pub fn texts_have_few_stuffed_bits()
-    ensures { TextsAreFew }
+    ensures { TextsHaveFewStuffedBits }
 {}
 
 /// So the translators keep up, as far as the parts of isochronous OUTs come in turn.

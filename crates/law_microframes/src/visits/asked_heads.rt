@@ -2,6 +2,6 @@
 ghost use Rattle.law_microframes.specs.visits.AskedHeads.{AskedIsNear};
 
 /// A copy in hand that works is one of a queue head that has its queue, or will be given back: one that is being opened rests.
-pub fn asked_queue_heads_have_queues()
+pub fn asked_is_near()
     ensures { AskedIsNear }
 {}

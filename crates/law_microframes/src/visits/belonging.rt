@@ -2,7 +2,7 @@
 ghost use Rattle.law_microframes.specs.visits.Belonging.{QueueBelongs, HeadIsRead, NamesAreApart, NewHeadsHaveFields, ControllerKeepsFields, DriverKeepsFields, CommandKeepsFields, ScriptsKeepFields, DescriptorBelongs, DriverKeepsPlaced, CommandKeepsPlaced, QueueStays};
 
 /// In a mixed world each queue head that the walk of the frames may meet is that of an interrupt endpoint which wasn't given back, and whose placement is in the plan.
-pub fn each_queue_head_belongs_to_a_placed_endpoint()
+pub fn queue_belongs()
     ensures { QueueBelongs }
 {}
 
@@ -22,12 +22,12 @@ pub fn the_fields_of_queue_heads_stand()
 {}
 
 /// So they stand at each moment of each script that fits.
-pub fn each_moment_has_the_fields_of_queue_heads()
+pub fn scripts_keep_fields()
     ensures { ScriptsKeepFields }
 {}
 
 /// Each descriptor that it may meet is one of an isochronous endpoint whose placement is in the plan, and waits for its harvest; or it was harvested.
-pub fn each_descriptor_belongs_to_a_placed_endpoint()
+pub fn descriptor_belongs()
     ensures { DescriptorBelongs }
 {}
 

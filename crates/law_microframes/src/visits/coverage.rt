@@ -4,12 +4,12 @@ ghost use Rattle.law_microframes.specs.visits.Coverage.{ChainIsStanding, TextsVi
 
 /// What the words of memory link in a frame is a member of the driver's to which a word may lead, it stands in that frame, and no store was
 /// made that unlinks it there.
-pub fn what_is_linked_in_a_frame_stands_there()
+pub fn chain_is_standing()
     ensures { ChainIsStanding }
 {}
 
 /// At each moment of each script that a text spells: where the walk of the frames is over, each structure to which the links led from the
 /// element of the frame as the microframe began, and to which they lead still, was visited.
-pub fn none_is_left_out()
+pub fn texts_visit_each()
     ensures { TextsVisitEach }
 {}

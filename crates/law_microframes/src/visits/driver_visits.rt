@@ -3,12 +3,12 @@ ghost use Rattle.law_microframes.specs.visits.DriverVisitLaws.{EachRowKeepsVisit
 ghost use Rattle.law_microframes.specs.visits.VisitLaws.{DriverKeepsVisiting, CommandKeepsVisiting, ScriptsVisit, TextsVisitEachOnce};
 
 /// The visits go on with each event of the driver, whichever row it is: also where it links or unlinks a member by one store after another.
-pub fn each_row_goes_on_with_the_visits()
+pub fn each_row_keeps_visiting()
     ensures { EachRowKeepsVisiting }
 {}
 
 /// .. and with each command, accepted or refused.
-pub fn commands_go_on_with_the_visits()
+pub fn command_leaves_visits()
     ensures { CommandLeavesVisits }
 {}
 

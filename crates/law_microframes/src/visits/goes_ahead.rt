@@ -3,11 +3,11 @@
 ghost use Rattle.law_microframes.specs.visits.Began.{BeganIsMixed, ScriptsGoOnToOld};
 
 /// When a microframe began nothing was out of place, and of an endpoint and a frame at most one descriptor was active.
-pub fn a_microframe_begins_in_order()
+pub fn began_is_mixed()
     ensures { BeganIsMixed }
 {}
 
 /// At each moment the walk goes on to descriptors that were active then, in the same frame, or to structures that have nothing active.
-pub fn the_walk_goes_on_to_old_ones()
+pub fn scripts_go_on_to_old()
     ensures { ScriptsGoOnToOld }
 {}

@@ -15,7 +15,7 @@ pub fn the_controller_leaves_the_fields_of_itds()
 {}
 
 /// An event of the driver leaves all words but the link of an iTD that it has before and after it; else it stores a word that the queue head in its place was owed.
-pub fn the_driver_leaves_the_words_of_itds()
+pub fn itd_words_stay()
     ensures { ItdWordsStay }
 {}
 
@@ -26,11 +26,11 @@ pub fn the_driver_leaves_the_fields_of_itds()
 {}
 
 /// So does each command, refused or accepted; what it takes on is written with the fields of its endpoint.
-pub fn each_command_leaves_the_fields_of_itds()
+pub fn command_keeps_itds()
     ensures { CommandKeepsItds }
 {}
 
 /// So they stand at each moment of each script that fits.
-pub fn each_moment_has_the_fields_of_itds()
+pub fn scripts_keep_itds()
     ensures { ScriptsKeepItds }
 {}

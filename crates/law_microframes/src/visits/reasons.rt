@@ -6,18 +6,18 @@ ghost use Rattle.law_microframes.specs.visits.PlaceOfRing.{TextsKeepPlaceOfRing,
 
 /// At each moment of each script that a text spells: in a microframe in which the bus may not be used, as its Begin heard, no time is left from that Begin to the next, neither
 /// walk makes a transaction, and nobody on the bus hears anything.
-pub fn a_held_microframe_has_no_time()
+pub fn texts_keep_held_time()
     ensures { TextsKeepHeldTime }
 {}
 
 /// No event between two asynchronous parts moves the cursor of the walk of the ring, nor does an end by time; an end at the head of the ring leads to its start.
-pub fn each_event_keeps_the_place_of_the_ring()
+pub fn worlds_keep_place()
     ensures { WorldsKeepPlace }
 {}
 
 /// In each script that a text spells, whatever the driver does: an end by time drops the copy in hand and leaves the cursor at its queue head, the cursor stays there until the next
 /// asynchronous part begins, and there that queue head is read anew.
-pub fn an_end_by_time_keeps_the_place_of_the_ring()
+pub fn texts_keep_place_of_ring()
     ensures { TextsKeepPlaceOfRing }
 {}
 

@@ -4,6 +4,6 @@ ghost use Rattle.law_microframes.specs.visits.Keeps.{TextsKeepVisits};
 /// In one microframe the walk of the frames visits no structure twice, and each in its frame, and leaves none out; a microframe in which
 /// the bus may not be used has no time; the asynchronous part ends and queue heads are passed for the standard's reasons alone, in the ring
 /// and in the frames; and after an end by time the ring goes on at the same queue head.
-pub fn each_text_keeps_its_visits()
+pub fn texts_keep_visits()
     ensures { TextsKeepVisits }
 {}

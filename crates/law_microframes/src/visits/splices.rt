@@ -2,6 +2,6 @@
 ghost use Rattle.law_microframes.specs.visits.Splices.{NextStoreSplices};
 
 /// Each store goes to a word that led past the member which it links, or to the one which it unlinks; and that one stands in each frame which has the word.
-pub fn each_store_splices()
+pub fn next_store_splices()
     ensures { NextStoreSplices }
 {}

@@ -2,16 +2,16 @@
 ghost use Rattle.law_microframes.specs.visits.VisitLaws.{VisitsMeetNow, NewIsVisiting, ControllerKeepsVisiting};
 
 /// Those whose links lead down may be taken to be such that each may be met.
-pub fn what_is_kept_may_be_met()
+pub fn visits_meet_now()
     ensures { VisitsMeetNow }
 {}
 
 /// Before the first line of a script nothing was visited.
-pub fn a_new_world_has_visited_nothing()
+pub fn new_is_visiting()
     ensures { NewIsVisiting }
 {}
 
 /// Each event of the controller goes on with the visits.
-pub fn the_controller_goes_on_with_its_visits()
+pub fn controller_keeps_visiting()
     ensures { ControllerKeepsVisiting }
 {}

@@ -2,7 +2,7 @@
 --     IsLike d f                no command is unfinished, and what tells of the structures of queues is the same of both contents
 --     IsPassed d e t p          the qTD at p is out, of a transfer of endpoint e before t
 --     Harvested d f e t y       the first that no short packet passed over is harvested: which were out before it, and behind it
---     LikeStand, UnstalledStands, HarvestStands, WaitStands     the laws: of contents alike; of a harvest that is no STALL of a control endpoint; of bulk endpoints
+--     AlikeStands, UnstalledStands, HarvestStands, WaitStands     the laws: of contents alike; of a harvest that is no STALL of a control endpoint; of bulk endpoints
 use Rattle.std.specs.Prelude.{◌≡◌, ◌≢◌, ℕ, ◌*◌, ◌<◌, ◌==◌, Bool, List, ◌∷◌, ◌++◌, slice_get, Some, None, if◌then◌else◌}
 use Rattle.drv_table.specs.declared.content.Endpoint.{Endpoint}
 use Rattle.drv_table.specs.declared.content.Transfer.{Transfer}
@@ -58,8 +58,8 @@ pub record IsLike (d f : DriverContent) : Type 0 where
   pub ends_now : (i : ℕ) (z : Endpoint) → slice_get d.endpoints i ≡ Some z → WasEnd f i z
   pub transfers : (t : ℕ) (y : Transfer) → slice_get f.transfers t ≡ Some y → WasTransfer d t y
 
-abbrev pub LikeStand : Type 0
-LikeStand = (d f : DriverContent) (member streams : ℕ → Bool) (ends : ℕ → Told) (parts : StructureSets) (order : ℕ → ℕ → ℕ) (out later : ℕ → List ℕ)
+abbrev pub AlikeStands : Type 0
+AlikeStands = (d f : DriverContent) (member streams : ℕ → Bool) (ends : ℕ → Told) (parts : StructureSets) (order : ℕ → ℕ → ℕ) (out later : ℕ → List ℕ)
     → IsLike d f → AreStillOut f later → QueuesStand d member streams ends parts order out → QueuesStand f member streams ends parts order later
 
 -- ---- a harvest

@@ -1,6 +1,6 @@
 -- The front of an endpoint's queue and its tail, the qTD at its end that isn't published: the walk doesn't go past it (EHCI 1.0, 4.10 and 4.10.2).
 --     Reaches d part order out i x c   endpoint i has its front, and the qTD at c is the tail of its queue
---     ReachesWalk, ReachesIdleStore, ReachesLastStore, ReachesRelease
+--     ReachesWalk, ReachesIdleStore, ReachesLastStore, ReleaseLeavesTails
 --                                      the laws
 use Rattle.std.specs.Prelude.{◌≡◌, ◌≢◌, ℕ, ◌*◌, ◌≤◌, Bool, true, false, List, ◌∷◌, ◌++◌, Some}
 use Rattle.usb_base.specs.declared.packets.Ask.{Ask}
@@ -53,8 +53,8 @@ ReachesLastStore = (d : DriverContent) (parts : StructureSets) (order : ℕ → 
     → Reaches d (stored_parts parts (32 * x.queue) e new (32 * x.queue)) order (before ++ e ∷ after) i x c
 
 -- the blocks of a harvested transfer are given back, wherever its queue head stands
-abbrev pub ReachesRelease : Type 0
-ReachesRelease = (parts : StructureSets) (p : Parts) (order : ℕ → ℕ → ℕ) (out : ℕ → List ℕ) (t : ℕ) (y : Transfer) (x : Endpoint) → QueuesAreTold parts p order out
+abbrev pub ReleaseLeavesTails : Type 0
+ReleaseLeavesTails = (parts : StructureSets) (p : Parts) (order : ℕ → ℕ → ℕ) (out : ℕ → List ℕ) (t : ℕ) (y : Transfer) (x : Endpoint) → QueuesAreTold parts p order out
     → IsReturning p.driver t y x → IsQueuePart (32 * x.queue) (parts (32 * x.queue))
     → (i : ℕ) (z : Endpoint) (c : ℕ) → Reaches p.driver (parts (32 * z.queue)) (order (32 * z.queue)) (out (32 * z.queue)) i z c
     → Reaches (after_driver_row (release_row t) p).driver (without_those parts (32 * x.queue) (goes_of p.driver y) (32 * z.queue)) (order (32 * z.queue))

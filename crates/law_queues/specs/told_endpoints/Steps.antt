@@ -4,7 +4,7 @@
 --     NamesAt e y named now     the endpoint of number e is named so now, the others as before
 --     AddsLine ..               a line of the endpoint of number e tells what was held back of it, and then more bytes
 --     AddsOtherLine ..          a line of an endpoint that has no stream (a control endpoint, whose requests are told one by one)
---     KeepsNames .. AddsOther ..  laws
+--     KeepsNames .. RequestsAddNoStream ..  laws
 use Rattle.std.specs.Prelude.{◌≡◌, ◌≢◌, ℕ, true, false, List, [], ◌∷◌, ◌++◌, length, Option, Some, None}
 use Rattle.usb_base.specs.declared.reports.Report.{Report}
 use Rattle.bus_wire.specs.Fates.{is_same_name}
@@ -53,8 +53,8 @@ AddsRefusal = (reports : List Report) (store : List ℕ) (named : ℕ → Option
     → TellsEach reports store named held told → TellsEach (reports ++ line ∷ []) store named held told
 
 -- an endpoint of another name is opened
-abbrev pub AddsEndpoint : Type 0
-AddsEndpoint = (reports : List Report) (store : List ℕ) (named now : ℕ → Option Named) (held told : ℕ → List ℕ) (e : ℕ) (x : Named) → named e ≡ None → NamesAt e x named now → x.ended ≡ None
+abbrev pub OpenAddsEndpoint : Type 0
+OpenAddsEndpoint = (reports : List Report) (store : List ℕ) (named now : ℕ → Option Named) (held told : ℕ → List ℕ) (e : ℕ) (x : Named) → named e ≡ None → NamesAt e x named now → x.ended ≡ None
     → ((k : ℕ) (y : Named) → named k ≡ Some y → is_same_name y.name x.name ≡ false) → held e ≡ [] → told e ≡ [] → TellsEach reports store named held told → TellsEach reports store now held told
 
 -- a qTD is harvested that doesn't end its transfer
@@ -70,6 +70,6 @@ AddsBytes = (reports : List Report) (store bytes more : List ℕ) (named after :
     → TellsEach (reports ++ line ∷ []) (store ++ bytes) after later now
 
 -- a qTD of an endpoint without a stream is harvested
-abbrev pub AddsOther : Type 0
-AddsOther = (reports : List Report) (store bytes : List ℕ) (named after : ℕ → Option Named) (held told : ℕ → List ℕ) (e : ℕ) (x y : Named) (line : Report) → named e ≡ Some x → NamesAt e y named after
+abbrev pub RequestsAddNoStream : Type 0
+RequestsAddNoStream = (reports : List Report) (store bytes : List ℕ) (named after : ℕ → Option Named) (held told : ℕ → List ℕ) (e : ℕ) (x y : Named) (line : Report) → named e ≡ Some x → NamesAt e y named after
     → AddsOtherLine x y line store bytes → TellsEach reports store named held told → TellsEach (reports ++ line ∷ []) (store ++ bytes) after held told

@@ -7,7 +7,7 @@ pub fn a_transfer_is_counted()
 {}
 
 /// The line tells what was held back of the endpoint's next transfer, and then all that was moved of the qTDs that are out.
-pub fn a_cancelled_endpoint_is_told()
+pub fn cancel_tells()
     ensures { CancelTells }
 {}
 

@@ -2,12 +2,12 @@
 ghost use Rattle.law_queues.specs.commanded_queues.Accepted.{NewHeadIsInRange, OpensItsOwn, ReachesOpen, ReachesAsked, ExtentsOpen, ExtentsAsked};
 
 /// The queue head of a high-speed bulk or control endpoint has each field in its range.
-pub fn a_new_head_is_in_range()
+pub fn new_head_is_in_range()
     ensures { NewHeadIsInRange }
 {}
 
 /// Only an open opens an endpoint, the one that it describes.
-pub fn an_open_opens_its_own()
+pub fn opens_its_own()
     ensures { OpensItsOwn }
 {}
 

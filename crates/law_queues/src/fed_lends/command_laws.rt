@@ -2,7 +2,7 @@
 ghost use Rattle.law_queues.specs.fed_lends.Commands.{OpenStands, AskedStands, RequestedStands};
 
 /// An endpoint that was opened has no transfer yet, and isn't met yet.
-pub fn an_open_leaves_queues()
+pub fn open_stands()
     ensures { OpenStands }
 {}
 

@@ -8,6 +8,6 @@ pub fn accepted_commands_keep_what_is_held()
 {}
 
 /// A reported transfer is given back.
-pub fn a_return_keeps_what_is_held()
+pub fn return_holds()
     ensures { ReturnHolds }
 {}

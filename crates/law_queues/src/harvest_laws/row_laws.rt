@@ -14,12 +14,12 @@ pub fn a_new_driver_holds_nothing()
 {}
 
 /// The row of a harvest of a qTD that is done tells its bytes, and the others are out still.
-pub fn a_harvest_is_told()
+pub fn harvest_is_told()
     ensures { HarvestIsTold }
 {}
 
 /// One that isn't done is left.
-pub fn an_active_qtd_is_left()
+pub fn active_is_left()
     ensures { ActiveIsLeft }
 {}
 

@@ -12,7 +12,7 @@ ghost use Rattle.law_queues.specs.harvest_laws.ToldLaws.{NewIsTold, SparedIsTold
 use usb_base::Wire;
 
 /// A driver that was just built has told nothing.
-pub fn a_new_driver_has_told_nothing()
+pub fn new_is_told()
     ensures { NewIsTold }
 {}
 
@@ -24,7 +24,7 @@ pub fn the_controller_leaves_what_is_told<W: Wire>()
 {}
 
 /// So does each step of the driver that spares overlays and what is done.
-pub fn steps_leave_what_is_told()
+pub fn spared_is_told()
     ensures { SparedIsTold }
 {}
 
@@ -44,6 +44,6 @@ pub fn commands_leave_what_is_told()
 {}
 
 /// A harvest adds the bytes that were moved of the qTD that was read.
-pub fn a_harvest_adds_what_was_moved()
+pub fn harvested_is_told()
     ensures { HarvestedIsTold }
 {}

@@ -15,6 +15,6 @@ pub fn the_doorbell_leaves_the_rest()
 {}
 
 /// Once Async Advance is cleared, a walk may meet no endpoint that it mightn't before.
-pub fn a_clear_leaves_the_rest()
+pub fn clear_is_as_before()
     ensures { ClearIsAsBefore }
 {}

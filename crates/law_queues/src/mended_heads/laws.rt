@@ -10,7 +10,7 @@ ghost use Rattle.law_queues.specs.mended_heads.Mended.{MendIsDue, MendRow, MendK
 use usb_base::Wire;
 
 /// A driver that was just built owes no store.
-pub fn a_new_driver_owes_none()
+pub fn new_driver_owes_none()
     ensures { NewDriverOwesNone }
 {}
 

@@ -20,7 +20,7 @@ pub fn a_lend_leaves_the_streams<W: Wire>()
 {}
 
 /// Each event of the controller leaves the new queue head as it was lent.
-pub fn it_waits_beside_the_controller<W: Wire>()
+pub fn open_lent_stays<W: Wire>()
     ensures { OpenLentStays W.begins W.transacts }
 {}
 

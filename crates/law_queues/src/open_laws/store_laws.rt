@@ -6,12 +6,12 @@ ghost use Rattle.law_queues.specs.open_laws.Opens.{OpenIsLinked, OpenStands, Ope
 use usb_base::Wire;
 
 /// The driver's next event is the store of the head's link, and the ring goes on with the new queue head in it.
-pub fn an_open_is_linked()
+pub fn open_is_linked()
     ensures { OpenIsLinked }
 {}
 
 /// All that is told of the driver's queues stays, and the new endpoint is one of them.
-pub fn an_open_leaves_the_queues()
+pub fn open_stands()
     ensures { OpenStands }
 {}
 

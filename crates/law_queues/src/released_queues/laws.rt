@@ -10,6 +10,6 @@ pub fn a_release_leaves_queues_fed()
 {}
 
 /// It does so wherever the queue head stands, in the ring or in frames: nothing that stays leads to what goes, so each queue stays sound, and keeps its front.
-pub fn a_release_leaves_queues()
+pub fn release_stays()
     ensures { ReleaseStays }
 {}

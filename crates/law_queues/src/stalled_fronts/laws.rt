@@ -2,12 +2,12 @@
 ghost use Rattle.law_queues.specs.stalled_fronts.Stalled.{StallMovesFronts, StallStopsQueue, StallKeepsFronts, StallHaltsQueue};
 
 /// At a STALL the front goes on to the end of the queue, and what is out behind the qTD that was halted is passed over.
-pub fn a_stall_leaves_fronts()
+pub fn stall_keeps_fronts()
     ensures { StallKeepsFronts }
 {}
 
 /// Where the queue stops at the qTD that was halted, those of its requests that are out yet wait.
-pub fn a_stall_halts_the_queue()
+pub fn stall_halts_queue()
     ensures { StallHaltsQueue }
 {}
 

@@ -1,16 +1,16 @@
 //! The laws.
 ghost use Rattle.law_queues.specs.standing_fronts.Along.{WalkKeepsFronts, HarvestKeepsFronts, AlikeKeepFronts, IdleStoreKeepsFronts, LastStoreKeepsFronts};
-ghost use Rattle.law_queues.specs.standing_fronts.Reaching.{ReachesWalk, ReachesIdleStore, ReachesLastStore, ReachesRelease};
+ghost use Rattle.law_queues.specs.standing_fronts.Reaching.{ReachesWalk, ReachesIdleStore, ReachesLastStore, ReleaseLeavesTails};
 
 use usb_base::Wire;
 
 /// Each event of the walk leaves the fronts of queues, or moves one on.
-pub fn each_event_leaves_fronts<W: Wire>()
+pub fn walk_keeps_fronts<W: Wire>()
     ensures { WalkKeepsFronts W.transacts }
 {}
 
 /// So does a harvest: the transfer that it ends is behind its front.
-pub fn a_harvest_leaves_fronts()
+pub fn harvest_keeps_fronts()
     ensures { HarvestKeepsFronts }
 {}
 
@@ -30,6 +30,6 @@ pub fn fronts_stay_before_tails<W: Wire>()
 {}
 
 /// So where the blocks of a harvested transfer are given back, in the ring or in frames.
-pub fn a_release_leaves_tails()
-    ensures { ReachesRelease }
+pub fn release_leaves_tails()
+    ensures { ReleaseLeavesTails }
 {}

@@ -1,4 +1,4 @@
-ghost use Rattle.law_queues.specs.told_endpoints.Steps.{KeepsNames, AddsRefusal, AddsEndpoint, AddsHeld, AddsBytes, AddsOther};
+ghost use Rattle.law_queues.specs.told_endpoints.Steps.{KeepsNames, AddsRefusal, OpenAddsEndpoint, AddsHeld, AddsBytes, RequestsAddNoStream};
 
 /// Where endpoints are named as before, the lines tell the same; the line of a refused command tells of none.
 pub fn names_and_refusals_tell_nothing()
@@ -7,8 +7,8 @@ pub fn names_and_refusals_tell_nothing()
 {}
 
 /// An endpoint that is opened has no lines yet.
-pub fn opened_endpoints_are_told()
-    ensures { AddsEndpoint }
+pub fn open_adds_endpoint()
+    ensures { OpenAddsEndpoint }
 {}
 
 /// The bytes of a qTD that is harvested are held back, or told at once behind those that were.
@@ -18,6 +18,6 @@ pub fn harvests_add_bytes()
 {}
 
 /// A line of a control endpoint tells nothing of the others: its requests are told one by one.
-pub fn requests_tell_nothing_of_streams()
-    ensures { AddsOther }
+pub fn requests_add_no_stream()
+    ensures { RequestsAddNoStream }
 {}

@@ -32,7 +32,7 @@ pub fn a_store_keeps_it_whole()
 {}
 
 /// A queue head of which nothing is published has nothing to send.
-pub fn a_queue_begins_whole()
+pub fn beginning_is_whole()
     ensures { BeginningIsWhole }
 {}
 
@@ -52,12 +52,12 @@ pub fn what_was_sent_stands_before_the_tail()
 {}
 
 /// No event of the walk changes a byte of them.
-pub fn each_event_leaves_the_bytes<W: Wire>()
+pub fn walk_keeps_buffers<W: Wire>()
     ensures { WalkKeepsBuffers W.transacts }
 {}
 
 /// While a queue head is idle, its device takes nothing.
-pub fn an_idle_queue_sends_nothing<W: Wire>()
+pub fn idle_takes_nothing<W: Wire>()
     ensures { IdleTakesNothing W.transacts }
 {}
 

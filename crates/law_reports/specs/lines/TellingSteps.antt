@@ -117,7 +117,7 @@ OpenTells = (s t : Standing) (m : Lines) (w new : World) → IsMixedAt s w → I
     → HasOpened s t at.endpoint → IsMixedAt t new → OpenTold m new (32 * at.endpoint.queue) t
 
 -- the endpoint's last line tells all that was moved of its queue
-abbrev pub GoTells : Type 0
-GoTells = (s : Standing) (m : Lines) (w : World) → IsMixedAt s w → IsTelling s m w
+abbrev pub ReleaseTells : Type 0
+ReleaseTells = (s : Standing) (m : Lines) (w : World) → IsMixedAt s w → IsTelling s m w
     → (e : ℕ) (x : Endpoint) (d : DriverContent) (t : Standing)
     → IsGivenBack w (driver_next w) e x d → IsWithout s t (32 * x.queue) → IsMixedAt t (driver_next w) → IsTelling t m (driver_next w)

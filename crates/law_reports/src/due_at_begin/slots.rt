@@ -4,6 +4,6 @@ ghost use Rattle.law_reports.specs.due_at_begin.Laws.{TextsDoSlotsAtBegin};
 /// Where the walk of the frames is over in a microframe that isn't held, each iTD that was linked in the frame as the microframe began,
 /// with the slot of the microframe active then, was written back in it, where it stays linked: the walk comes to it, and nobody clears the
 /// slot before, whatever the walk comes to before, and whatever the driver does.
-pub fn what_is_due_of_slots_at_begin_is_done()
+pub fn texts_do_slots_at_begin()
     ensures { TextsDoSlotsAtBegin }
 {}

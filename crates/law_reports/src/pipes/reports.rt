@@ -10,12 +10,12 @@ ghost use Rattle.law_reports.specs.pipes.high_streams.Reports.{
 };
 
 /// Each name of a script that a text spells is that of one endpoint, with its way and its seat.
-pub fn each_text_has_its_names()
+pub fn texts_have_names()
     ensures { TextsHaveNames }
 {}
 
 /// Each endpoint of a script's driver is one that a line of the script opens.
-pub fn each_endpoint_was_opened()
+pub fn moments_are_opened()
     ensures { MomentsAreOpened }
 {}
 

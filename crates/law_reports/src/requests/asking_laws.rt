@@ -2,13 +2,13 @@
 ghost use Rattle.law_reports.specs.requests.AskingLaws.{NewWorldAsks, ControllerKeepsAsking, StillKeepsAsking, RefusedKeepsAsking};
 
 /// A new world has no endpoint and no request.
-pub fn a_new_world_asks()
+pub fn new_world_asks()
     ensures { NewWorldAsks }
 {}
 
 /// Each event of the controller leaves the requests of a world as they must stand: the queues of its control endpoints, what is recorded of their windows, what the
 /// lines tell of them, and what the devices count.
-pub fn the_controller_leaves_the_requests()
+pub fn controller_keeps_asking()
     ensures { ControllerKeepsAsking }
 {}
 

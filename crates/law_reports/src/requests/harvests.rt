@@ -28,7 +28,7 @@ pub fn a_harvest_goes_on()
 {}
 
 /// A harvest that ends a transfer of another endpoint leaves the requests of all control endpoints as they must stand.
-pub fn a_harvest_ends_beside()
+pub fn ended_beside_keeps_asking()
     ensures beside { EndedBesideKeepsAsking }
 {}
 

@@ -4,18 +4,18 @@ ghost use Rattle.law_reports.specs.requests.Rows.{MendKeepsAsking, OpenLendKeeps
 
 /// The next store by which a stalled control endpoint goes on leaves the requests of a world as they must stand; by the last of the three the window of the first
 /// request that waits opens.
-pub fn a_stalled_queue_goes_on()
+pub fn mend_keeps_asking()
     ensures { MendKeepsAsking }
 {}
 
 /// So does the lend of an open's queue head and of its inactive qTD.
-pub fn an_open_is_lent()
+pub fn open_lend_keeps_asking()
     ensures { OpenLendKeepsAsking }
 {}
 
 /// .. and the store by which it is finished: where it is a control endpoint its queue is at rest from then on, no line tells of it, and its device is as the script
 /// has it.
-pub fn an_open_is_linked()
+pub fn open_link_keeps_asking()
     ensures { OpenLinkKeepsAsking }
 {}
 
@@ -27,16 +27,16 @@ pub fn an_endpoint_leaves_the_ring()
 {}
 
 /// So does the row that gives a harvested transfer's blocks back.
-pub fn a_transfer_is_given_back()
+pub fn release_keeps_asking()
     ensures { ReleaseKeepsAsking }
 {}
 
 /// So does the row that gives back an endpoint that has left the ring.
-pub fn an_endpoint_is_given_back()
+pub fn endpoint_release_keeps_asking()
     ensures { EndpointReleaseKeepsAsking }
 {}
 
 /// So does each event of the driver.
-pub fn each_event_of_the_driver_leaves_the_requests()
+pub fn driver_keeps_asking()
     ensures { DriverKeepsAsking }
 {}

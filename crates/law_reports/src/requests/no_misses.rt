@@ -14,11 +14,11 @@ pub fn a_driver_writes_no_missed_microframe()
 {}
 
 /// An event of the walk of the ring leaves them so.
-pub fn the_ring_misses_no_microframe<W: Wire>()
+pub fn walk_misses_none<W: Wire>()
     ensures { WalkMissesNone W.transacts }
 {}
 
 /// No harvest of a bulk or control endpoint finds a transfer that ended with a missed microframe.
-pub fn no_harvest_finds_a_missed_microframe()
+pub fn harvest_misses_none()
     ensures { HarvestMissesNone }
 {}

@@ -26,7 +26,7 @@ pub fn queues_are_spared<W: Wire>()
 {}
 
 /// Where the first of several requests has ended it was acted on exactly once, and the others go on, one of them under way.
-pub fn the_first_request_ends()
+pub fn first_ends()
     ensures { FirstEnds }
 {}
 

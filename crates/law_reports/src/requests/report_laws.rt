@@ -32,7 +32,7 @@ pub fn an_accepted_transfer_waits()
 
 /// Each event of the controller leaves all that holds of the control requests of a world: their queues stand as they must, what is recorded of them is what their
 /// windows have, the lines tell of those that are reported, and each device counts its acts.
-pub fn an_event_leaves_the_requests()
+pub fn event_keeps_asking()
     ensures { EventKeepsAsking }
 {}
 
@@ -44,6 +44,6 @@ pub fn requests_are_right_at_each_moment()
 {}
 
 /// A control request that is accepted waits, and leaves all that holds of the others.
-pub fn an_accepted_request_leaves_the_others()
+pub fn request_keeps_asking()
     ensures { RequestKeepsAsking }
 {}

@@ -58,11 +58,11 @@ pub fn requests_are_apart()
 {}
 
 /// A request whose qTDs and buffers are lent is coming: its data and its status are fresh, and its SETUP is to be stored over the qTD that ended the queue.
-pub fn a_request_is_lent()
+pub fn request_is_lent()
     ensures { RequestIsLent }
 {}
 
 /// Where a harvest finds a request done, memory shows that its status has ended.
-pub fn a_harvest_shows_the_end()
+pub fn done_is_ended()
     ensures { DoneIsEnded }
 {}

@@ -2,7 +2,7 @@
 ghost use Rattle.law_structures.specs.lent_structures.WriteBackLaws.{AdvanceIsTold, SentIsTold, NothingIsSent, AllIsWritten, WriteBackIsTold};
 
 /// The overlay has the qTD that was taken, and its link stays that in memory (3.6, 4.10.2).
-pub fn an_advance_is_told()
+pub fn advance_is_told()
     ensures { AdvanceIsTold }
 {}
 

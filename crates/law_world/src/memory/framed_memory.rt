@@ -16,18 +16,12 @@ pub mod ring_links;
 mod row_laws;
 
 pub use command_laws::numbers_go_on_fitting;
-pub use laws::{
-    quiet_events_keep_it_framed, the_controller_keeps_it_framed, the_opening_is_framed,
-};
+pub use laws::{controller_keeps_framed, new_is_framed, quiet_keeps_framed};
 pub use lend_laws::{
-    a_new_driver_awaits_no_lend, descriptors_await_their_lend, lent_descriptors_are_framed_now,
-    placements_have_small_masks,
+    descriptors_await_their_lend, lend_keeps_now, new_awaits_nothing, placements_have_small_masks,
 };
 pub use now_laws::{
-    an_unlinked_descriptor_is_framed_now, commands_that_store_keep_it_framed_now,
-    memory_has_the_frames, registers_keep_it_framed_now, releases_keep_it_framed_now,
-    the_controller_keeps_it_framed_now, the_opening_is_framed_now,
+    controller_keeps_now, link_keeps_now, new_is_framed_now, now_has_frames, registers_keep_now,
+    releases_keep_it_framed_now, unlink_keeps_now,
 };
-pub use row_laws::{
-    chosen_frames_keep_it_framed_now, harvests_keep_it_framed_now, what_leaves_its_frames_has_ended,
-};
+pub use row_laws::{frames_keep_now, harvest_keeps_now, owners_tell_leaving};

@@ -8,7 +8,7 @@ mod laws;
 mod worked;
 
 pub use laws::{
-    a_new_driver_owns_all, commands_own_all, each_moment_owns_its_blocks, events_own_all,
-    lent_blocks_are_needed, needed_runs_are_lent,
+    command_owns_all, each_moment_owns_its_blocks, event_owns_all, lent_blocks_are_needed,
+    needed_runs_are_lent, new_driver_owns_all,
 };
 pub use worked::{a_run_of_nobody, runs_of_descriptors, runs_of_queues};

@@ -5,17 +5,17 @@ ghost use Rattle.law_world.specs.memory.PlacedLaws.{MixedIsAtWork, ScriptsStayMi
 ghost use Rattle.law_world.specs.memory.Scripts.{TextsFit, TextsOpenFitting};
 
 /// Each endpoint that the script of a text opens has numbers that fit their fields: its address, its own number and the address of its hub.
-pub fn a_text_fits_what_it_opens()
+pub fn texts_fit()
     ensures { TextsFit }
 {}
 
 /// And it has the way of its kind.
-pub fn a_text_opens_ways_of_kinds()
+pub fn texts_open_fitting()
     ensures { TextsOpenFitting }
 {}
 
 /// The world of each script of bytes that fits stays mixed, where the numbers of what it opens fit their fields, and each way is that of its kind.
-pub fn each_moment_is_mixed()
+pub fn scripts_stay_mixed()
     ensures { ScriptsStayMixed }
 {}
 
@@ -32,12 +32,12 @@ pub fn each_text_keeps_all_in_place()
 
 /// In a mixed world the words of the ring and of the frame list stand for the driver's, queue heads have the words of their endpoints, and
 /// the controller runs: its next event isn't Idle, and isn't the fault.
-pub fn a_mixed_world_is_at_work()
+pub fn mixed_is_at_work()
     ensures { MixedIsAtWork }
 {}
 
 /// So it is at each moment of each script that a text spells; and Host System Error is 0 then, and no refusal of a word is counted.
-pub fn each_text_keeps_its_memory()
+pub fn texts_keep_memory()
     ensures { TextsKeepMemory }
 {}
 

@@ -11,22 +11,22 @@ ghost use Rattle.law_world.specs.memory.Laws.{
 };
 
 /// The world of each script of bytes is mixed before its first line.
-pub fn a_new_world_is_mixed()
+pub fn new_world_is_mixed()
     ensures { NewWorldIsMixed }
 {}
 
 /// Each event of the controller, of the walk of the ring or of that of the frames, leaves a mixed world mixed (4.6 to 4.10 and 4.12).
-pub fn each_event_of_the_controller_leaves_it_mixed()
+pub fn controller_keeps_mixed()
     ensures { ControllerKeepsMixed }
 {}
 
 /// So does each event of the driver: what it lends, publishes, links, unlinks, harvests, mends and gives back.
-pub fn each_event_of_the_driver_leaves_it_mixed()
+pub fn driver_keeps_mixed()
     ensures { DriverKeepsMixed }
 {}
 
 /// So does each command, refused or accepted, where the numbers of what it opens fit their fields, and its way is that of its kind.
-pub fn each_command_leaves_it_mixed()
+pub fn command_keeps_mixed()
     ensures { CommandKeepsMixed }
 {}
 

@@ -79,6 +79,6 @@ pub fn a_world_leaves_out_streams()
 {}
 
 /// Before the first line of a script each of its takers took nothing, and expects DATA0.
-pub fn takers_of_a_script_took_nothing()
+pub fn opening_is_untaken()
     ensures { OpeningIsUntaken }
 {}

@@ -4,6 +4,6 @@ ghost use Rattle.law_world.specs.streams.Laws.{CommandKeepsWhole};
 
 /// Each command leaves a whole world whole: one that is refused is a line of the report, an endpoint that is opened, or a get, put or request, is still to be lent, and
 /// one that is cancelled is still to be unlinked.
-pub fn each_command_keeps_a_whole_world()
+pub fn command_keeps_whole()
     ensures { CommandKeepsWhole }
 {}

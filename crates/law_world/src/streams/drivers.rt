@@ -3,6 +3,6 @@ ghost use Rattle.law_world.specs.streams.Laws.{DriverKeepsWhole};
 
 /// Each event of the driver leaves a world whole: a driver of bulk and control endpoints lends and stores what its command tells, harvests, lets stalled
 /// queues go on, gives back transfers and the endpoints that have left, and reads or writes registers.
-pub fn each_driver_event_leaves_it_whole()
+pub fn driver_keeps_whole()
     ensures { DriverKeepsWhole }
 {}

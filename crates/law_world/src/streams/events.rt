@@ -4,6 +4,6 @@ ghost use Rattle.law_world.specs.streams.Laws.{ControllerKeepsWhole};
 
 /// Each event of the controller leaves the world whole: its queues are fed, each has its front and its tail, what the unfinished command has still to lend
 /// stands as it was written, and what is told of each queue that has a stream stays.
-pub fn the_controller_leaves_it_whole()
+pub fn controller_keeps_whole()
     ensures { ControllerKeepsWhole }
 {}

@@ -6,47 +6,47 @@ ghost use Rattle.law_world.specs.streams.LendFeeds.{LendFeeds};
 ghost use Rattle.law_world.specs.streams.HarvestFeeds.{PassedAreUntold, HarvestFeeds};
 
 /// The world of every script begins so.
-pub fn a_new_world_feeds()
+pub fn new_world_feeds()
     ensures { NewWorldFeeds }
 {}
 
 /// Each event of the controller leaves it so, with at most one packet more of one stream.
-pub fn the_controller_leaves_it_feeding()
+pub fn controller_feeds()
     ensures { ControllerFeeds }
 {}
 
 /// And so does each command, accepted or refused.
-pub fn commands_leave_it_feeding()
+pub fn command_feeds()
     ensures { CommandFeeds }
 {}
 
 /// And each event of the driver that stores no word and reads no token.
-pub fn still_events_leave_it_feeding()
+pub fn still_feeds()
     ensures { StillFeeds }
 {}
 
 /// And each store of the first qTD of a transfer.
-pub fn stores_leave_it_feeding()
+pub fn store_feeds()
     ensures { StoreFeeds }
 {}
 
 /// Where an open is finished the world goes on with one queue head more, of which nothing is moved, out or reported yet.
-pub fn an_open_begins_its_stream()
+pub fn link_feeds()
     ensures { LinkFeeds }
 {}
 
 /// Where the driver of a world lends a transfer, the world goes on: the ring and its memory, both sides of each pipe, what is reported, the queues, their fronts
 /// and their buffers; what stood before stands with its bytes.
-pub fn a_transfer_is_lent_in_a_world()
+pub fn lend_feeds()
     ensures { LendFeeds }
 {}
 
 /// Of what a short packet passed over no bytes are told.
-pub fn passed_qtds_are_untold()
+pub fn passed_are_untold()
     ensures { PassedAreUntold }
 {}
 
 /// The row of a harvest leaves such a world so, whether data come to the host or leave it, and where a control endpoint answered STALL.
-pub fn a_harvest_leaves_it_feeding()
+pub fn harvest_feeds()
     ensures { HarvestFeeds }
 {}

@@ -2,6 +2,6 @@
 ghost use Rattle.law_world.specs.streams.Laws.{HarvestKeepsWhole};
 
 /// A harvest leaves such a world whole.
-pub fn a_harvest_leaves_it_whole()
+pub fn harvest_keeps_whole()
     ensures { HarvestKeepsWhole }
 {}

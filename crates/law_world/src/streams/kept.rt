@@ -3,16 +3,16 @@ ghost use Rattle.law_world.specs.streams.LeftLaws.{NewWorldLeft, CommandKeepsLef
 ghost use Rattle.law_world.specs.streams.LeftLaws.{RowKeepsLeft};
 
 /// No endpoint has left a new world: there is none.
-pub fn nothing_has_left_a_new_world()
+pub fn new_world_left()
     ensures { NewWorldLeft }
 {}
 
 /// A command, accepted or refused, leaves what is known of the endpoints that have left.
-pub fn commands_leave_what_has_left()
+pub fn command_keeps_left()
     ensures { CommandKeepsLeft }
 {}
 
 /// So does each row of the driver but those by which Async Advance is cleared and endpoints are given back, where no two endpoints have one name.
-pub fn rows_leave_what_has_left()
+pub fn row_keeps_left()
     ensures { RowKeepsLeft }
 {}

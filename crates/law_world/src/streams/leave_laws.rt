@@ -4,12 +4,12 @@ ghost use Rattle.law_world.specs.streams.Cancelling.{CancelFeeds};
 ghost use Rattle.law_world.specs.streams.Clearing.{ClearFeeds};
 
 /// A cancel, accepted or refused, leaves each queue fed, with the same queue heads that the walk may meet, the same streams and the same bytes.
-pub fn a_cancel_leaves_it_feeding()
+pub fn cancel_feeds()
     ensures { CancelFeeds }
 {}
 
 /// Where the driver clears Async Advance, the queues that the walk may still meet are fed as before, and the streams of the others are closed.
-pub fn a_clear_leaves_it_feeding()
+pub fn clear_feeds()
     ensures { ClearFeeds }
 {}
 

@@ -3,16 +3,16 @@
 ghost use Rattle.law_world.specs.streams.Laws.{ClearKeepsWhole, EndpointReleaseKeepsWhole, UnlinkKeepsWhole};
 
 /// The store that takes its queue head out of the ring: the walk may still be at it.
-pub fn an_endpoint_is_unlinked()
+pub fn unlink_keeps_whole()
     ensures { UnlinkKeepsWhole }
 {}
 
 /// Where the doorbell was answered and Async Advance is cleared, the walk can't meet it any more: its stream is closed.
-pub fn its_stream_is_closed()
+pub fn clear_keeps_whole()
     ensures { ClearKeepsWhole }
 {}
 
 /// Its blocks go, and the world is whole without them.
-pub fn an_endpoint_is_given_back()
+pub fn endpoint_release_keeps_whole()
     ensures { EndpointReleaseKeepsWhole }
 {}

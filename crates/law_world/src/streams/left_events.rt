@@ -2,11 +2,11 @@
 ghost use Rattle.law_world.specs.streams.LeftLaws.{ControllerKeepsLeft, ReleaseKeepsLeft};
 
 /// An event of the controller moves nothing of an endpoint that has left the ring, and the device of an OUT endpoint that has left takes nothing of it.
-pub fn the_controller_leaves_what_has_left()
+pub fn controller_keeps_left()
     ensures { ControllerKeepsLeft }
 {}
 
 /// What the lines of a bulk endpoint that is given back tell begins its packets, or what its device took; of each other endpoint the same is told as before.
-pub fn a_given_back_endpoint_is_known()
+pub fn release_keeps_left()
     ensures { ReleaseKeepsLeft }
 {}

@@ -3,6 +3,6 @@ ghost use Rattle.law_world.specs.streams.Laws.{LendKeepsWhole};
 
 /// Where the driver lends a transfer, all that such a world carries goes on: the front of each queue is still no further than its tail, of its endpoint's
 /// the first qTD of the transfer, and what the report tells is still what was harvested.
-pub fn a_lent_transfer_leaves_the_world_whole()
+pub fn lend_keeps_whole()
     ensures { LendKeepsWhole }
 {}

@@ -2,6 +2,6 @@
 ghost use Rattle.law_world.specs.streams.Laws.{MendKeepsWhole};
 
 /// Each of the three stores that such an endpoint is owed leaves such a world whole.
-pub fn a_mend_leaves_it_whole()
+pub fn mend_keeps_whole()
     ensures { MendKeepsWhole }
 {}

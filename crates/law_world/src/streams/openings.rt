@@ -3,11 +3,11 @@
 ghost use Rattle.law_world.specs.streams.Laws.{NewWorldIsWhole, StillKeepsWhole};
 
 /// The world of each script of bytes is whole before its first line.
-pub fn a_new_world_is_whole()
+pub fn new_world_is_whole()
     ensures { NewWorldIsWhole }
 {}
 
 /// Each event of the driver that stores no word and reads no token leaves a world whole, but the one that clears Async Advance, which closes streams.
-pub fn still_events_leave_it_whole()
+pub fn still_keeps_whole()
     ensures { StillKeepsWhole }
 {}

@@ -3,11 +3,11 @@
 ghost use Rattle.law_world.specs.streams.Laws.{OpenLendKeepsWhole, OpenLinkKeepsWhole};
 
 /// The lend: the walk doesn't meet the new queue head yet, and all else stays.
-pub fn an_open_is_lent()
+pub fn open_lend_keeps_whole()
     ensures { OpenLendKeepsWhole }
 {}
 
 /// The store of the head's link: the walk may meet the new queue head, whose queue has its inactive qTD alone.
-pub fn an_open_is_linked()
+pub fn open_link_keeps_whole()
     ensures { OpenLinkKeepsWhole }
 {}

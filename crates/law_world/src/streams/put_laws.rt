@@ -27,10 +27,9 @@ pub mod sent_worked;
 mod taken_laws;
 mod taken_worked;
 
-pub use byte_laws::{a_put_is_held, held_bytes_stay, puts_are_filled};
+pub use byte_laws::{held_stays, put_is_held, puts_are_filled};
 pub use taken_laws::{
-    a_command_takes_its_put, all_lines_are_taken_in_the_end, an_event_keeps_puts,
-    each_moment_has_taken_puts, each_tick_takes_puts_along, numbers_of_a_text_rise,
-    puts_of_a_driver_stay, streams_are_of_puts,
+    all_are_taken, command_takes_puts, event_keeps_puts, moments_take_puts, puts_stay,
+    streams_are_of_puts, texts_rise, tick_takes_puts,
 };
 pub use taken_worked::{a_put_is_accepted, a_put_is_refused, lines_taken, numbers};

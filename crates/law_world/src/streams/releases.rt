@@ -3,6 +3,6 @@
 ghost use Rattle.law_world.specs.streams.Laws.{ReleaseKeepsWhole};
 
 /// The row that gives a harvested transfer's blocks back leaves such a world whole.
-pub fn a_release_leaves_the_world_whole()
+pub fn release_keeps_whole()
     ensures { ReleaseKeepsWhole }
 {}

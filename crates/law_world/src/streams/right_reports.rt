@@ -6,8 +6,5 @@
 mod laws;
 mod worked;
 
-pub use laws::{
-    a_report_that_tells_each_is_right, in_streams_are_all_of_a_script_that_only_receives,
-    the_report_is_printed,
-};
+pub use laws::{ins_are_all, report_is_printed, report_is_right};
 pub use worked::{an_in_and_an_out, before_the_first_line, closing_lines};

@@ -6,6 +6,6 @@
 ghost use Rattle.law_world.specs.streams.right_worlds.Right.{WorldIsRight};
 
 /// The IN streams of the report of such a world are right.
-pub fn what_a_world_reports_is_right()
+pub fn world_is_right()
     ensures { WorldIsRight }
 {}

@@ -3,7 +3,7 @@
 ghost use Rattle.law_world.specs.streams.Moments.{ScriptsStayWhole, StreamsAreRight, TextsAreRight, TextsAreTaken};
 
 /// At each moment of the run of such a script the world is whole.
-pub fn each_moment_is_whole()
+pub fn scripts_stay_whole()
     ensures { ScriptsStayWhole }
 {}
 
@@ -14,6 +14,6 @@ pub fn each_report_is_right()
 {}
 
 /// And what is told of each OUT endpoint that was opened begins what its device took.
-pub fn each_told_byte_was_taken()
+pub fn texts_are_taken()
     ensures { TextsAreTaken }
 {}

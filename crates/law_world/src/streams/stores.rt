@@ -3,6 +3,6 @@
 ghost use Rattle.law_world.specs.streams.Laws.{StoreKeepsWhole};
 
 /// Each store of the first qTD of a transfer leaves all that a world at work carries, and so does the last one, which publishes it.
-pub fn stores_leave_worlds_whole()
+pub fn store_keeps_whole()
     ensures { StoreKeepsWhole }
 {}

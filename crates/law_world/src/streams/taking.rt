@@ -10,6 +10,6 @@ pub fn pipes_agree_while_an_endpoint_leaves()
 {}
 
 /// Where Async Advance is cleared, what was moved of the bulk endpoints that have left then begins their packets, or what their devices took.
-pub fn a_clear_tells_what_has_left()
+pub fn clear_keeps_left()
     ensures { ClearKeepsLeft }
 {}

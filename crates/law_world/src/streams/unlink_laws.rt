@@ -3,7 +3,7 @@ ghost use Rattle.law_world.specs.streams.Leaving.{UnlinkFinds, UnlinkFeeds, Unli
 ghost use Rattle.law_world.specs.streams.Releases.{EndpointReleaseFeeds};
 
 /// While a cancel is unfinished in such a world, its words tell which queue head leads to that of the endpoint: the driver's next event is the store there.
-pub fn a_cancel_finds_its_place()
+pub fn unlink_finds()
     ensures { UnlinkFinds }
 {}
 
@@ -15,6 +15,6 @@ pub fn an_unlink_leaves_it_feeding()
 {}
 
 /// And so does the row that gives an endpoint back that has left the ring: its queue head isn't met any more, and nothing is told of its queue.
-pub fn an_endpoint_release_leaves_it_feeding()
+pub fn endpoint_release_feeds()
     ensures { EndpointReleaseFeeds }
 {}

@@ -10,9 +10,9 @@ use Rattle.drv_members.specs.Ranks.{is_named}
 use Rattle.drv_members.proofs.Splits.{one_if, count_first}
 use Rattle.drv_table.specs.DriverContent.{DriverContent}
 use Rattle.claims_driver.specs.DueMembers.{queues_of, AreDue}
-use Rattle.law_driver.proofs.lemmas.planned_endpoints.Queues.{one_queue}
+use Rattle.law_driver.proofs.lemmas.planned_endpoints.Queues.{an_endpoint_has_one_queue_head}
 use Rattle.law_budgets.specs.visit_prices.Spent.{Visit, IsVisit, IsAmong, AreApart, AreOfPlaced, spent}
-use Rattle.law_budgets.proofs.lemmas.visit_prices.Joined.{visits_within, visits_leave}
+use Rattle.law_budgets.proofs.lemmas.visit_prices.Joined.{visits_cost_at_most_the_load, visits_leave_a_fifth}
 use Rattle.law_budgets.specs.frame_budget.Visited.{IsVisitOf, AreVisitsOf, VisitsDue}
 
 among : (d : DriverContent) (qs : List QueueHead) (vs : List Visit) → AreVisitsOf d qs vs → AllByRecursion (λ v. IsAmong d.periodic.plan.placed v.of) vs
@@ -40,7 +40,7 @@ its_number d q v h = ap (λ (y : Placed). y.want.id) h.of
 not_named : (d : DriverContent) (q r : QueueHead) (v w : Visit) (h : IsVisitOf d q v) (k : IsVisitOf d r w) → one_if (is_named q.id r) ≤ 0 → w.of.want.id ≢ v.of.want.id
 not_named d q r v w h k none = λ e.
     let same : h.queue.number ≡ k.queue.number = sym (its_number d q v h) ∙ sym e ∙ its_number d r w k in
-    let is : q ≡ r = one_queue d q r h.queue k.queue same in
+    let is : q ≡ r = an_endpoint_has_one_queue_head d q r h.queue k.queue same in
     let named : is_named q.id r ≡ true = subst (λ (x : QueueHead). is_named q.id x ≡ true) is (named_itself q) in
     omega (arith, one_more (is_named q.id r) named, none)
 
@@ -69,8 +69,10 @@ of_placed d f vs due h = record {
   apart = apart d (queues_of d.periodic.list.members.schedule f) vs due.once h;
 }
 
-pub frame_within : (d : DriverContent) (f u : ℕ) (vs : List Visit) → AreDue d f → VisitsDue d f vs → AllByRecursion (IsVisit u) vs → spent vs ≤ load d.periodic.plan.placed u
-frame_within d f u vs due h good = visits_within d.periodic.plan.placed u vs (of_placed d f vs due h) good
+pub visits_of_a_frame_cost_at_most_the_load : (d : DriverContent) (f u : ℕ) (vs : List Visit) → AreDue d f → VisitsDue d f vs → AllByRecursion (IsVisit u) vs → spent vs ≤ load d.periodic.plan.placed u
+visits_of_a_frame_cost_at_most_the_load d f u vs due h good =
+    visits_cost_at_most_the_load d.periodic.plan.placed u vs (of_placed d f vs due h) good
 
-pub frame_leaves : (d : DriverContent) (f u : ℕ) (vs : List Visit) → AreDue d f → VisitsDue d f vs → AllByRecursion (IsVisit u) vs → Fits d.periodic.plan.placed → u < 8192 → spent vs ≤ 100000000
-frame_leaves d f u vs due h good fits small = visits_leave d.periodic.plan.placed u vs fits small (of_placed d f vs due h) good
+pub visits_of_a_frame_leave_a_fifth : (d : DriverContent) (f u : ℕ) (vs : List Visit) → AreDue d f → VisitsDue d f vs → AllByRecursion (IsVisit u) vs → Fits d.periodic.plan.placed → u < 8192 → spent vs ≤ 100000000
+visits_of_a_frame_leave_a_fifth d f u vs due h good fits small =
+    visits_leave_a_fifth d.periodic.plan.placed u vs fits small (of_placed d f vs due h) good

@@ -1,4 +1,4 @@
--- The visits of a frame's queue heads and descriptors are of different placed endpoints.
+-- The visits of a frame's queue heads and descriptors are of descriptors_of_a_frame_are_different placed endpoints.
 use Rattle.std.proofs.Common.{◌≡◌, ◌≢◌, ℕ, ◌<◌, ◌≤◌, Bool, true, false, cond, List, [], ◌∷◌, ◌++◌, slice_get, Some, refl, ap, sym, subst, ◌∙◌, arith}
 use Rattle.std.specs.Prelude.{count_by, nat_eq, filter}
 use Rattle.std.specs.List.{AllByRecursion}
@@ -19,7 +19,7 @@ use Rattle.drv_table.specs.Kinds.{is_iso}
 use Rattle.drv_table.specs.DriverContent.{DriverContent}
 use Rattle.claims_driver.specs.DueMembers.{queues_of, AreDue, IsWaitingFor, HasOneEach}
 use Rattle.law_budgets.specs.visit_prices.Spent.{Visit, IsVisit, IsAmong, AreApart, AreOfPlaced, spent}
-use Rattle.law_budgets.proofs.lemmas.visit_prices.Joined.{visits_within, visits_leave}
+use Rattle.law_budgets.proofs.lemmas.visit_prices.Joined.{visits_cost_at_most_the_load, visits_leave_a_fifth}
 use Rattle.law_budgets.specs.frame_budget.Visited.{IsVisitOf, AreVisitsOf}
 use Rattle.law_budgets.proofs.lemmas.frame_budget.Visited.{of_placed}
 use Rattle.law_budgets.specs.iso_budget.Visited.{AreDifferent, IsDescriptorVisit, AreDescriptorVisits, AreVisits}
@@ -98,10 +98,11 @@ all_placed d f vs ks ws due each h =
     }
 
 pub all_within : (d : DriverContent) (f u : ℕ) (vs : List Visit) (ks : List Descriptor) (ws : List Visit) → AreDue d f → HasOneEach d → AreVisits d f vs ks ws → AllByRecursion (IsVisit u) (vs ++ ws) → spent (vs ++ ws) ≤ load d.periodic.plan.placed u
-all_within d f u vs ks ws due each h good = visits_within d.periodic.plan.placed u (vs ++ ws) (all_placed d f vs ks ws due each h) good
+all_within d f u vs ks ws due each h good =
+    visits_cost_at_most_the_load d.periodic.plan.placed u (vs ++ ws) (all_placed d f vs ks ws due each h) good
 
 pub all_leave : (d : DriverContent) (f u : ℕ) (vs : List Visit) (ks : List Descriptor) (ws : List Visit) → AreDue d f → HasOneEach d → AreVisits d f vs ks ws → AllByRecursion (IsVisit u) (vs ++ ws) → Fits d.periodic.plan.placed → u < 8192 → spent (vs ++ ws) ≤ 100000000
-all_leave d f u vs ks ws due each h good fits small = visits_leave d.periodic.plan.placed u (vs ++ ws) fits small (all_placed d f vs ks ws due each h) good
+all_leave d f u vs ks ws due each h good fits small = visits_leave_a_fifth d.periodic.plan.placed u (vs ++ ws) fits small (all_placed d f vs ks ws due each h) good
 
 -- ---- the descriptors of a frame
 
@@ -133,7 +134,7 @@ few_filtered id f (k ∷ ks) = at (nat_eq k.frame f) (few_filtered id f ks)
     at true rest = let a = count_first (is_called id) k (filter (λ k. nat_eq k.frame f) ks) in let b = count_first (is_called id) k ks in omega (arith, a, b, rest)
     at false rest = let b = count_first (is_called id) k ks in omega (arith, b, rest)
 
-pub different : (d : DriverContent) (f : ℕ) → IsKept d.periodic.list.members.schedule → AreDifferent (descriptors_in d.periodic.list.members.schedule f)
-different d f kept =
+pub descriptors_of_a_frame_are_different : (d : DriverContent) (f : ℕ) → IsKept d.periodic.list.members.schedule → AreDifferent (descriptors_in d.periodic.list.members.schedule f)
+descriptors_of_a_frame_are_different d f kept =
     once_different (descriptors_in d.periodic.list.members.schedule f)
     (λ id. let few = few_filtered id f d.periodic.list.members.schedule.descriptors in let all = kept.named id in omega (arith, few, all))

@@ -23,8 +23,9 @@ fetched p r row free is =
     ap (λ (o : Option Hand). left_by (effect_at p o) r) free
     ∙ ap (λ (w : ChainRow). chain_after w (reading (chain_read p.memory p.walk.cursor) p)) is
 
-pub head_met : (x : Placed) (p : FramePlace) (a : ℕ) (q : Qh) (r : Reply) → FetchesHead x p a q → MeetsHead x (after p r) (queue_copy a q)
-head_met x p a q r f =
+pub fetches_of_queue_heads_begin_visits : (x : Placed) (p : FramePlace) (a : ℕ) (q : Qh) (r : Reply) → FetchesHead x p a q
+    → MeetsHead x (after p r) (queue_copy a q)
+fetches_of_queue_heads_begin_visits x p a q r f =
     subst (λ (z : FramePlace). MeetsHead x z (queue_copy a q)) (sym (fetched p r (rows.Queue a q) f.free f.row))
     (record {
       hand = refl;
@@ -50,8 +51,8 @@ copy_itd : (a u : ℕ) (v : Itd) → (fetched_itd a u v).itd ≡ v
 unfolding fetched_itd
 copy_itd a u v = refl
 
-pub descriptor_met : (x : Placed) (p : FramePlace) (a : ℕ) (v : Itd) (r : Reply) → FetchesDescriptor x p a v → MeetsDescriptor x (after p r) (itd_copy p a v)
-descriptor_met x p a v r f =
+pub fetches_of_descriptors_begin_visits : (x : Placed) (p : FramePlace) (a : ℕ) (v : Itd) (r : Reply) → FetchesDescriptor x p a v → MeetsDescriptor x (after p r) (itd_copy p a v)
+fetches_of_descriptors_begin_visits x p a v r f =
     let u = microframe_of p.walk.index in
     let few = few_packets v.dir_in v.multi (packets_for (slot_of u v).length v.max) f.some in
     let rest = copy_packets a u v in

@@ -46,16 +46,16 @@ itd_met : (x : Placed) (p : FramePlace) (h : HeldItd) → MeetsDescriptor x p h 
 itd_met x p h met =
     itd_begins x.want.max (most_in x p.walk.index) p h met.hand met.descriptor.max met.begun.going met.begun.some (omega (arith, met.begun.few, all_of_it x p.walk.index met.frame met.own))
 
-pub queue_visit : (x : Placed) (p : FramePlace) (h : HeldQueue) (rs : List Reply) → MeetsHead x p h → IsVisit p.walk.index (visit_from x p rs)
-queue_visit x p h rs met = record {
+pub queue_visits_cost_their_placement : (x : Placed) (p : FramePlace) (h : HeldQueue) (rs : List Reply) → MeetsHead x p h → IsVisit p.walk.index (visit_from x p rs)
+queue_visits_cost_their_placement x p h rs met = record {
   speed = met.head.speed;
   costs =
       subst (λ c. Costs (most_in x p.walk.index) c (prices p rs)) (queue_price x met.head.kind)
       (queue_costs p.walk.index x.want.max x.want.multi (most_in x p.walk.index) p rs (queue_met x p h met));
 }
 
-pub itd_visit : (x : Placed) (p : FramePlace) (h : HeldItd) (rs : List Reply) → MeetsDescriptor x p h → IsVisit p.walk.index (visit_from x p rs)
-itd_visit x p h rs met = record {
+pub descriptor_visits_cost_their_placement : (x : Placed) (p : FramePlace) (h : HeldItd) (rs : List Reply) → MeetsDescriptor x p h → IsVisit p.walk.index (visit_from x p rs)
+descriptor_visits_cost_their_placement x p h rs met = record {
   speed = met.descriptor.speed;
   costs =
       subst (λ c. Costs (most_in x p.walk.index) c (prices p rs)) (itd_price x met.descriptor.kind)
@@ -64,11 +64,11 @@ itd_visit x p h rs met = record {
 
 -- ---- all visits
 
-pub visits_within : (placed : List Placed) (u : ℕ) (vs : List Visit) → AreOfPlaced placed vs → AllByRecursion (IsVisit u) vs → spent vs ≤ load placed u
-visits_within placed u vs of good = spent_most u placed vs good of.among of.apart
+pub visits_cost_at_most_the_load : (placed : List Placed) (u : ℕ) (vs : List Visit) → AreOfPlaced placed vs → AllByRecursion (IsVisit u) vs → spent vs ≤ load placed u
+visits_cost_at_most_the_load placed u vs of good = spent_most u placed vs good of.among of.apart
 
-pub visits_leave : (placed : List Placed) (u : ℕ) (vs : List Visit) → Fits placed → u < 8192 → AreOfPlaced placed vs → AllByRecursion (IsVisit u) vs → spent vs ≤ 100000000
-visits_leave placed u vs fits small of good = omega (arith, visits_within placed u vs of good, fits.loads u small)
+pub visits_leave_a_fifth : (placed : List Placed) (u : ℕ) (vs : List Visit) → Fits placed → u < 8192 → AreOfPlaced placed vs → AllByRecursion (IsVisit u) vs → spent vs ≤ 100000000
+visits_leave_a_fifth placed u vs fits small of good = omega (arith, visits_cost_at_most_the_load placed u vs of good, fits.loads u small)
 
 -- ---- there is time for one more: for one that costs all it may
 
@@ -101,25 +101,25 @@ time_left placed u vs x p rs speed after at =
     let good : IsVisit u w = record { speed = speed; costs = record { few = omega (arith, same_length n c); each = same_each n c } } in
     let those : AllByRecursion (IsVisit u) vs = subst (λ k. AllByRecursion (IsVisit k) vs) at after.visits in
     let small : u < 8192 = subst (λ k. k < 8192) at after.small in
-    let all : spent (w ∷ vs) ≤ 100000000 = visits_leave placed u (w ∷ vs) after.fits small (record { among = after.of.among; apart = after.of.apart }) (good, those) in
+    let all : spent (w ∷ vs) ≤ 100000000 = visits_leave_a_fifth placed u (w ∷ vs) after.fits small (record { among = after.of.among; apart = after.of.apart }) (good, those) in
     omega (arith, all, sum_by-cons (λ (v : Visit). total v.prices) w vs, same_total n c, after.left)
 
-pub queue_in_time : (placed : List Placed) (vs : List Visit) (x : Placed) (p : FramePlace) (h : HeldQueue) (rs : List Reply) → ComesAfter placed vs x p rs → MeetsHead x p h → late_in p rs ≡ false
-queue_in_time placed vs x p h rs after met =
+pub queue_visits_are_in_time : (placed : List Placed) (vs : List Visit) (x : Placed) (p : FramePlace) (h : HeldQueue) (rs : List Reply) → ComesAfter placed vs x p rs → MeetsHead x p h → late_in p rs ≡ false
+queue_visits_are_in_time placed vs x p h rs after met =
     never_late (QueueVisit p.walk.index x.want.max x.want.multi) (bus_time High Interrupt directions.In x.want.max) (queue_prompt p.walk.index x.want.max x.want.multi) (most_in x p.walk.index) p rs (queue_met x p h met)
     (subst (λ c. most_in x p.walk.index * c ≤ p.walk.left) (sym (queue_price x met.head.kind)) (time_left placed p.walk.index vs x p rs met.head.speed after refl))
 
-pub itd_in_time : (placed : List Placed) (vs : List Visit) (x : Placed) (p : FramePlace) (h : HeldItd) (rs : List Reply) → ComesAfter placed vs x p rs → MeetsDescriptor x p h → late_in p rs ≡ false
-itd_in_time placed vs x p h rs after met =
+pub descriptor_visits_are_in_time : (placed : List Placed) (vs : List Visit) (x : Placed) (p : FramePlace) (h : HeldItd) (rs : List Reply) → ComesAfter placed vs x p rs → MeetsDescriptor x p h → late_in p rs ≡ false
+descriptor_visits_are_in_time placed vs x p h rs after met =
     never_late (ItdVisit x.want.max) (bus_time High Iso directions.In x.want.max) (itd_prompt x.want.max) (most_in x p.walk.index) p rs (itd_met x p h met)
     (subst (λ c. most_in x p.walk.index * c ≤ p.walk.left) (sym (itd_price x met.descriptor.kind)) (time_left placed p.walk.index vs x p rs met.descriptor.speed after refl))
 
 -- ---- the time that a visit takes
 
-pub queue_takes : (x : Placed) (p : FramePlace) (h : HeldQueue) (rs : List Reply) → MeetsHead x p h → total (prices p rs) + (ending p rs).walk.left ≡ p.walk.left
-queue_takes x p h rs met =
+pub queue_visits_take_their_prices : (x : Placed) (p : FramePlace) (h : HeldQueue) (rs : List Reply) → MeetsHead x p h → total (prices p rs) + (ending p rs).walk.left ≡ p.walk.left
+queue_visits_take_their_prices x p h rs met =
     all_paid (QueueVisit p.walk.index x.want.max x.want.multi) (bus_time High Interrupt directions.In x.want.max) (queue_keeps p.walk.index x.want.max x.want.multi) (most_in x p.walk.index) p rs (queue_met x p h met)
 
-pub itd_takes : (x : Placed) (p : FramePlace) (h : HeldItd) (rs : List Reply) → MeetsDescriptor x p h → total (prices p rs) + (ending p rs).walk.left ≡ p.walk.left
-itd_takes x p h rs met =
+pub descriptor_visits_take_their_prices : (x : Placed) (p : FramePlace) (h : HeldItd) (rs : List Reply) → MeetsDescriptor x p h → total (prices p rs) + (ending p rs).walk.left ≡ p.walk.left
+descriptor_visits_take_their_prices x p h rs met =
     all_paid (ItdVisit x.want.max) (bus_time High Iso directions.In x.want.max) (itd_keeps x.want.max) (most_in x p.walk.index) p rs (itd_met x p h met)

@@ -10,9 +10,10 @@ use Rattle.drv_periodic_table.specs.Descriptors.{new_itd}
 use Rattle.drv_table.specs.Words.{speed_field, interrupt_head}
 use Rattle.law_budgets.specs.visit_prices.Spent.{IsHeadOf, IsItdOf}
 
-pub written_head : (e link dummy : ℕ) (x : EpDesc) (p : Placement) → x.speed ≡ High → x.kind ≡ Interrupt → 1 ≤ x.multi
+pub written_heads_are_of_their_placement : (e link dummy : ℕ) (x : EpDesc) (p : Placement) → x.speed ≡ High → x.kind ≡ Interrupt
+    → 1 ≤ x.multi
     → IsHeadOf (record { want = want_of e x; placement = p }) (interrupt_head x p.smask p.cmask link dummy)
-written_head e link dummy x p speed kind some = record {
+written_heads_are_of_their_placement e link dummy x p speed kind some = record {
   speed = speed;
   kind = kind;
   high = ap speed_field speed;
@@ -21,6 +22,6 @@ written_head e link dummy x p speed kind some = record {
   smask = refl;
 }
 
-pub written_itd : (e slot : ℕ) (runs : List ℕ) (x : EpDesc) (p : Placement) → x.speed ≡ High → x.kind ≡ Iso
+pub written_descriptors_are_of_their_placement : (e slot : ℕ) (runs : List ℕ) (x : EpDesc) (p : Placement) → x.speed ≡ High → x.kind ≡ Iso
     → IsItdOf (record { want = want_of e x; placement = p }) (new_itd x p.smask slot runs)
-written_itd e slot runs x p speed kind = record { speed = speed; kind = kind; max = refl }
+written_descriptors_are_of_their_placement e slot runs x p speed kind = record { speed = speed; kind = kind; max = refl }

@@ -1,5 +1,5 @@
-use Rattle.law_budgets.proofs.lemmas.visit_prices.Fetched.{descriptor_met}
+use Rattle.law_budgets.proofs.lemmas.visit_prices.Fetched.{fetches_of_descriptors_begin_visits}
 use Rattle.law_budgets.proofs.visit_prices.fetches_of_descriptors_begin_visits.Goals as goal
 
 pub returns : goal.returns
-returns c = descriptor_met
+returns c = fetches_of_descriptors_begin_visits

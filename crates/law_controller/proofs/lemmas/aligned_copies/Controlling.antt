@@ -57,12 +57,13 @@ row_aligned begins transacts c wire new after rows.End is row = subst AreAligned
   start = is.start;
 })
 
-pub event_aligned : {W : Type 0} (begins : W → ℕ → Bool → W → Type 0) (transacts : W → Ask → List ℕ → Reply → W → Type 0) (c : Content) (wire : W) (new : Content) (after : W) → AreAligned c → HasRow begins transacts (microframe_row c.registers c.control) c wire new after
+pub each_event_keeps_addresses_aligned : {W : Type 0} (begins : W → ℕ → Bool → W → Type 0) (transacts : W → Ask → List ℕ → Reply → W → Type 0) (c : Content) (wire : W) (new : Content) (after : W) → AreAligned c → HasRow begins transacts (microframe_row c.registers c.control) c wire new after
     → AreAligned new
-event_aligned begins transacts c wire new after is row = row_aligned begins transacts c wire new after (microframe_row c.registers c.control) is row
+each_event_keeps_addresses_aligned begins transacts c wire new after is row = row_aligned begins transacts c wire new after (microframe_row c.registers c.control) is row
 
-pub new_aligned : (r : RegisterFile) (m : Mem) → r.async_list_address % 32 ≡ 0 → AreAligned (content new_control r m)
-new_aligned r m start = record { frame = record { cursor = tt; hand = tt }; ring = record { cursor = tt; held = tt }; start = start }
+pub a_new_controller_is_aligned : (r : RegisterFile) (m : Mem) → r.async_list_address % 32 ≡ 0 → AreAligned (content new_control r m)
+a_new_controller_is_aligned r m start =
+    record { frame = record { cursor = tt; hand = tt }; ring = record { cursor = tt; held = tt }; start = start }
 
 -- ---- so they are placed
 

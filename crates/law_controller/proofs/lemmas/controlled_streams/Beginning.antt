@@ -13,7 +13,7 @@ use Rattle.law_ring.specs.Effects.{buffer_of}
 use Rattle.law_ring.specs.Told.{Endpoint, HasEndpoint, HasToggle}
 use Rattle.law_ring.specs.Order.{IsOrdered, none_out}
 use Rattle.law_ring.specs.Sparing.{SameHand, SparesHead, SparesElement}
-use Rattle.law_ring.proofs.SparedSparing.{spared_toggle, spared_endpoint, spared_accounts}
+use Rattle.law_ring.proofs.SparedSparing.{spared_has_toggle, spared_endpoint, accounts_are_spared}
 use Rattle.law_pipe.specs.Pipe.{PipeAgrees}
 use Rattle.law_pipe.proofs.Agreement.{opening_agrees}
 use Rattle.law_ring.specs.Bus.{Sender}
@@ -129,7 +129,7 @@ old_pipe sender packets endpoint acc hand later parts now wire n x i hands same 
       named = spared_endpoint parts now i (endpoint i) (heads_stay parts now i same) p.named;
       ins = subst IsIn (sym same) p.ins;
       toggle = p.toggle;
-      expects = spared_toggle hand later parts now i p.toggle hands (heads_stay parts now i same) p.expects;
+      expects = spared_has_toggle hand later parts now i p.toggle hands (heads_stay parts now i same) p.expects;
       sender = p.sender;
       is = p.is;
       half = p.half;
@@ -190,7 +190,7 @@ old_report order out hand later parts now acc reported n i hands same differs r 
     (record {
       place = r.place;
       told = r.told;
-      accounts = spared_accounts (order i) (order i) r.place r.place (out i) hand later parts now i r.told hands (heads_stay parts now i same) (λ e among. elements_stay parts now i e same)
+      accounts = accounts_are_spared (order i) (order i) r.place r.place (out i) hand later parts now i r.told hands (heads_stay parts now i same) (λ e among. elements_stay parts now i e same)
           (subst (IsOrdered (order i) r.place i) (sym same) r.accounts.ordered) r.accounts.sorted
           (λ a t among here from. r.accounts.published a t among (ap (λ (part : Structures). part a) (sym same) ∙ here) from)
           (λ a t here active. r.accounts.complete a t (ap (λ (part : Structures). part a) (sym same) ∙ here) active) r.accounts;

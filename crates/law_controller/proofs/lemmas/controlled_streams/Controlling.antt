@@ -28,7 +28,7 @@ use Rattle.law_ring.specs.Ring.{IsCopied, IsSettled, IsInHand, IsRing}
 use Rattle.law_ring.specs.Effects.{received_into, Effect, reads, passes, ends, takes, makes, writes_back, AreBytesHeard}
 use Rattle.law_ring.proofs.Ringing.{ring_at, cursor_same}
 use Rattle.law_ring.specs.Streams.{Streams}
-use Rattle.law_ring.proofs.StreamEvents.{event_streams}
+use Rattle.law_ring.proofs.StreamEvents.{each_event_moves_one_stream}
 use Rattle.law_controller.specs.controlled_streams.Control.{IsOn, AreEmpty, IsFrameless, off, empty, IsControlled, a_microframe, a_step, Controls}
 
 -- ---- the element of a frame
@@ -164,7 +164,7 @@ frameless_after base words c new kind is (empty none before) = empty none (λ pa
 -- the event of the walk over a ring, from the contents at which it begins
 walked : {W : Type 0} (begins : W → ℕ → Bool → W → Type 0) (transacts : W → Ask → List ℕ → Reply → W → Type 0) (base : Base) (member : ℕ → Bool) (parts : StructureSets) (hand : Hand) (c : Content) (wire : W) (new : Content) (after : W) → IsControlled base member parts hand c → AreBytesHeard transacts wire after → Walks transacts c wire new after → Controls begins transacts base member parts hand wire after new
 walked begins transacts base member parts hand c wire new after k heard walk =
-    let s : Streams transacts base member parts hand wire after (walk_place new) (walk_step c) = event_streams transacts base member parts hand (walk_place c) wire (walk_place new) after k.ring heard walk.walked in
+    let s : Streams transacts base member parts hand wire after (walk_place new) (walk_step c) = each_event_moves_one_stream transacts base member parts hand (walk_place c) wire (walk_place new) after k.ring heard walk.walked in
     let h = s.happens in
     record {
       now = h.now;
@@ -225,7 +225,7 @@ by_part begins transacts base member parts hand c wire new after Asynchronous pa
     walked begins transacts base member parts hand c wire new after k heard
     (subst (λ (r : ControllerRow). HasRow begins transacts r c wire new after) (ap ring_row (ap (λ (b : Base). b.async_enable) k.ring.registers ∙ on.async_enable)) row)
 
-pub event_controls : {W : Type 0} (begins : W → ℕ → Bool → W → Type 0) (transacts : W → Ask → List ℕ → Reply → W → Type 0) (base : Base) (member : ℕ → Bool) (parts : StructureSets) (hand : Hand) (c : Content) (wire : W) (new : Content) (after : W) → IsControlled base member parts hand c → IsOn base → AreBytesHeard transacts wire after → HasRow begins transacts (microframe_row c.registers c.control) c wire new after → Controls begins transacts base member parts hand wire after new
-event_controls begins transacts base member parts hand c wire new after k on heard row =
+pub each_event_of_the_controller : {W : Type 0} (begins : W → ℕ → Bool → W → Type 0) (transacts : W → Ask → List ℕ → Reply → W → Type 0) (base : Base) (member : ℕ → Bool) (parts : StructureSets) (hand : Hand) (c : Content) (wire : W) (new : Content) (after : W) → IsControlled base member parts hand c → IsOn base → AreBytesHeard transacts wire after → HasRow begins transacts (microframe_row c.registers c.control) c wire new after → Controls begins transacts base member parts hand wire after new
+each_event_of_the_controller begins transacts base member parts hand c wire new after k on heard row =
     by_part begins transacts base member parts hand c wire new after c.control.part refl k on heard
     (subst (λ (r : ControllerRow). HasRow begins transacts r c wire new after) (part_says base member parts hand c k on) row)

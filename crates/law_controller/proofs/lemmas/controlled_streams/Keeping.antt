@@ -6,7 +6,7 @@ use Rattle.qh_qtd.specs.declared.queue_head.Qh.{Qh}
 use Rattle.law_structures.specs.lent_structures.Structures.{Structure, QueueHead, Element, Buffer, Structures, StructureSets, with_structure, put}
 use Rattle.law_structures.proofs.lemmas.lent_structures.Names.{put_here, put_beside, with_here, with_there}
 use Rattle.law_structures.specs.lent_structures.Alters.{IsAfter}
-use Rattle.law_structures.proofs.lemmas.lent_structures.Altering.{found_element, found_queue, no_two, unaltered, altered_both, head_put, element_put, buffer_put}
+use Rattle.law_structures.proofs.lemmas.lent_structures.Altering.{found_element, found_queue, no_two, unaltered, altered_both, a_queue_head_alters_nothing, a_token_alters_its_qtd, buffer_put}
 use Rattle.law_controller.specs.controlled_streams.Kept.{bare, HasHeadAfter, HadHead, Keeps, KeepsEach}
 
 -- ---- nothing changes, and two changes
@@ -61,7 +61,7 @@ heads_before part a s none b r here = record {
 
 pub kept_head : (part : Structures) (a : ℕ) (q new : Qh) → part a ≡ Some (QueueHead q) → bare new ≡ bare q → Keeps part (with_structure part a (QueueHead new))
 kept_head part a q new at same = record {
-  alters = head_put part a q new at;
+  alters = a_queue_head_alters_nothing part a q new at;
   idle = λ b t here off. other_here part a b (QueueHead new) (Element t) (no_two part b a (Element t) (QueueHead q) here at (λ e. cc)) here;
   head = λ b r here.
       ⊎_elim (λ (is : b ≡ a). record {
@@ -81,7 +81,7 @@ kept_head part a q new at same = record {
 
 pub kept_element : (part : Structures) (a : ℕ) (t u : Qtd) → part a ≡ Some (Element t) → t.token.active ≡ true → IsAfter t u → Keeps part (with_structure part a (Element u))
 kept_element part a t u at on after = record {
-  alters = element_put part a t u at after;
+  alters = a_token_alters_its_qtd part a t u at after;
   idle = λ b v here off.
       other_here part a b (Element u) (Element v)
       (λ (is : b ≡ a). false≢true (sym off ∙ ap (λ (x : Qtd). x.token.active) (found_element (part b) v t here (ap part is ∙ at)) ∙ on)) here;

@@ -23,18 +23,18 @@ use Rattle.law_ring.specs.Streams.{StreamEffect}
 use Rattle.law_ring.specs.Streams.StreamEffect.{same, aside, grows}
 use Rattle.law_ring.proofs.Altered.{effect_alters}
 use Rattle.law_ring.specs.Order.{bytes_of_effect, GoesOnInOrder}
-use Rattle.law_ring.proofs.Adding.{event_adds}
+use Rattle.law_ring.proofs.Adding.{each_event_adds_to_the_end}
 use Rattle.law_controller.specs.controlled_streams.Control.{IsOn, IsControlled, BeginsMicroframe, WalksRing, ControlEffect, a_microframe, a_step, Controls}
-use Rattle.law_controller.proofs.lemmas.controlled_streams.Controlling.{event_controls}
+use Rattle.law_controller.proofs.lemmas.controlled_streams.Controlling.{each_event_of_the_controller}
 use Rattle.law_ring.specs.Sparing.{SameOverlay, HasOverlay, SparesElement}
-use Rattle.law_ring.proofs.SparedSparing.{spared_toggle, spared_endpoint}
+use Rattle.law_ring.proofs.SparedSparing.{spared_has_toggle, spared_endpoint}
 use Rattle.law_ring.specs.OutBus.{Taker, IsOutBus, KeepsTakers}
 use Rattle.law_ring.specs.OutPipes.{IsNext, IsUnmoved, OutAgrees, level, ahead, ended, IsOutPipe}
 use Rattle.law_ring.specs.OutPipeLaws.{SendsNone, IsBeside, IsOnlyEndpoint}
-use Rattle.law_ring.proofs.Assembling.{event_keeps}
+use Rattle.law_ring.proofs.Assembling.{each_event_keeps_an_out_pipe}
 use Rattle.law_controller.specs.controlled_streams.Reported.{IsReported}
-use Rattle.law_controller.proofs.lemmas.controlled_streams.Reporting.{harvest_reported}
-use Rattle.law_controller.specs.controlled_streams.Outs.{IsOutStream, OutGoesOn, LinkedIsUnmoved, StaleIsUnmoved, OutIsSpared, Begins, OutBegins}
+use Rattle.law_controller.proofs.lemmas.controlled_streams.Reporting.{a_harvest_adds_to_the_report}
+use Rattle.law_controller.specs.controlled_streams.Outs.{IsOutStream, OutGoesOn, LinkedIsUnmoved, StaleIsUnmoved, OutIsSpared, Begins, KnownBeginsTaken}
 
 -- ---- no other queue head asks the endpoint
 
@@ -77,14 +77,14 @@ module _ {W : Type 0} (begins : W → ℕ → Bool → W → Type 0) (transacts 
 
   step_keeps : WalksRing transacts parts hand wire after now later → IsOutStream stream (taker after x.addr x.ep) member order out now later n x harvested
   step_keeps w =
-      let goes : GoesOnInOrder order out later now n k.told (bytes_of_effect n w.streams) = event_adds transacts member parts hand (walk_place c).walk.reply wire after now later w.kind order k.place out n k.told ring.members ring.in_hand w.effect w.streams k.accounts in
+      let goes : GoesOnInOrder order out later now n k.told (bytes_of_effect n w.streams) = each_event_adds_to_the_end transacts member parts hand (walk_place c).walk.reply wire after now later w.kind order k.place out n k.told ring.members ring.in_hand w.effect w.streams k.accounts in
       record {
         only = only_still w;
         place = goes.place;
         told = k.told ++ bytes_of_effect n w.streams;
         accounts = goes.accounts;
         pipe = subst (λ (xs : List ℕ). IsOutPipe (taker after x.addr x.ep) xs now later n x) (append_assoc harvested k.told (bytes_of_effect n w.streams))
-            (event_keeps transacts stream taker member parts hand (walk_place c).walk.reply wire after now later w.kind n x (harvested ++ k.told) bus ring.members controlled_now.ring.members ring.in_hand w.effect w.streams k.only k.pipe);
+            (each_event_keeps_an_out_pipe transacts stream taker member parts hand (walk_place c).walk.reply wire after now later w.kind n x (harvested ++ k.told) bus ring.members controlled_now.ring.members ring.in_hand w.effect w.streams k.only k.pipe);
       }
 
   begun_keeps : BeginsMicroframe begins parts hand wire after now later → IsOutStream stream (taker after x.addr x.ep) member order out parts hand n x harvested
@@ -110,26 +110,26 @@ module _ {W : Type 0} (begins : W → ℕ → Bool → W → Type 0) (transacts 
       (subst (λ (ps : StructureSets). IsOutStream stream (taker after x.addr x.ep) member order out ps hand n x harvested) (sym b.parts_stay) (begun_keeps b))
   event_keeps_stream (a_step w) = step_keeps w
 
-pub event_keeps_out : {W : Type 0} (begins : W → ℕ → Bool → W → Type 0) (transacts : W → Ask → List ℕ → Reply → W → Type 0) (stream : ℕ → ℕ → Bool) (taker : W → ℕ → ℕ → Option Taker) (base : Base) (member : ℕ → Bool) (order : ℕ → ℕ) (out : List ℕ) (parts : StructureSets) (hand : Hand) (c : Content) (wire : W) (new : Content) (after : W) (n : ℕ) (x : Endpoint) (harvested : List ℕ)
+pub an_event_keeps_an_out_stream : {W : Type 0} (begins : W → ℕ → Bool → W → Type 0) (transacts : W → Ask → List ℕ → Reply → W → Type 0) (stream : ℕ → ℕ → Bool) (taker : W → ℕ → ℕ → Option Taker) (base : Base) (member : ℕ → Bool) (order : ℕ → ℕ) (out : List ℕ) (parts : StructureSets) (hand : Hand) (c : Content) (wire : W) (new : Content) (after : W) (n : ℕ) (x : Endpoint) (harvested : List ℕ)
     → IsOutBus transacts stream taker → KeepsTakers begins stream taker → IsControlled base member parts hand c → IsOn base → AreBytesHeard transacts wire after → HasRow begins transacts (microframe_row c.registers c.control) c wire new after
     → IsOutStream stream (taker wire x.addr x.ep) member order out parts hand n x harvested → OutGoesOn begins transacts stream taker base member order out parts hand wire after new n x harvested
-event_keeps_out begins transacts stream taker base member order out parts hand c wire new after n x harvested bus keeps controlled on heard row k =
-    let e : Controls begins transacts base member parts hand wire after new = event_controls begins transacts base member parts hand c wire new after controlled on heard row in
+an_event_keeps_an_out_stream begins transacts stream taker base member order out parts hand c wire new after n x harvested bus keeps controlled on heard row k =
+    let e : Controls begins transacts base member parts hand wire after new = each_event_of_the_controller begins transacts base member parts hand c wire new after controlled on heard row in
     record { event = e; stream_now = event_keeps_stream begins transacts stream taker base member order out parts hand c wire after n x harvested bus keeps controlled k e.now e.later new e.controlled e.effect }
 
 -- ---- steps of a driver
 
-pub linked_unmoved : LinkedIsUnmoved
-linked_unmoved at l Empty n un = un
-linked_unmoved at l _ n un = un
+pub linked_is_unmoved : LinkedIsUnmoved
+linked_is_unmoved at l Empty n un = un
+linked_is_unmoved at l _ n un = un
 
 stale_by : (at : ℕ) (c : Copy) (n : ℕ) (b : Bool) → IsUnmoved (if b then Stale at (copied_queue c) else Copied c) n
 stale_by at c n true = tt
 stale_by at c n false = tt
 
-pub stale_unmoved : StaleIsUnmoved
-stale_unmoved at (Copied c) n un = stale_by at c n (c.at == at)
-stale_unmoved at _ n un = un
+pub stale_is_unmoved : StaleIsUnmoved
+stale_is_unmoved at (Copied c) n un = stale_by at c n (c.at == at)
+stale_is_unmoved at _ n un = un
 
 next_spared : (parts now : StructureSets) (n : ℕ) (q r : Qh) (y : List ℕ) → SameOverlay q r → SparesElement parts now n q.current → IsNext (parts n) q y → IsNext (now n) r y
 next_spared parts now n q r y over spares next =
@@ -152,9 +152,9 @@ agrees_spared hand later parts now n q r h known s un over spares (ahead y e t o
 agrees_spared hand later parts now n q r h known s un over spares (ended y e t off halted) =
     ended y e t (ap (λ (z : Token). z.active) over.token ∙ off) (ap (λ (z : Token). z.halted) over.token ∙ halted)
 
-pub out_spared : OutIsSpared
-out_spared hand later parts now n x o known hands un head elements outs k =
-    let t : HasToggle later now n k.toggle = spared_toggle hand later parts now n k.toggle hands head k.expects in
+pub out_is_spared : OutIsSpared
+out_is_spared hand later parts now n x o known hands un head elements outs k =
+    let t : HasToggle later now n k.toggle = spared_has_toggle hand later parts now n k.toggle hands head k.expects in
     let h : HasOverlay now n k.expects.queue = head k.expects.queue k.expects.head in
     record {
       named = spared_endpoint parts now n x head k.named;
@@ -169,13 +169,13 @@ out_spared hand later parts now n x o known hands un head elements outs k =
 
 -- ---- a harvest
 
-pub harvest_keeps_out : (stream : ℕ → ℕ → Bool) (o : Option Taker) (member : ℕ → Bool) (order : ℕ → ℕ) (e : ℕ) (out : List ℕ) (parts : StructureSets) (hand : Hand) (n : ℕ) (x : Endpoint) (harvested : List ℕ) (t : Qtd)
+pub a_harvest_keeps_an_out_stream : (stream : ℕ → ℕ → Bool) (o : Option Taker) (member : ℕ → Bool) (order : ℕ → ℕ) (e : ℕ) (out : List ℕ) (parts : StructureSets) (hand : Hand) (n : ℕ) (x : Endpoint) (harvested : List ℕ) (t : Qtd)
     → IsMember member n (parts n) → parts n e ≡ Some (Element t) → t.token.active ≡ false → IsOutStream stream o member order (e ∷ out) parts hand n x harvested
     → IsOutStream stream o member order out parts hand n x (harvested ++ take (length (buffer_of (parts n) t) - t.token.total) (buffer_of (parts n) t))
-harvest_keeps_out stream o member order e out parts hand n x harvested t m here off k =
+a_harvest_keeps_an_out_stream stream o member order e out parts hand n x harvested t m here off k =
     let known : List ℕ = harvested ++ k.told in
     let r : IsReported order out hand parts n (known ∷ []) (harvested ++ take (length (buffer_of (parts n) t) - t.token.total) (buffer_of (parts n) t)) =
-    harvest_reported member order e out hand parts n (known ∷ []) harvested t m here off (record { place = k.place; told = k.told; accounts = k.accounts; sum = sym (append-nil known) }) in
+    a_harvest_adds_to_the_report member order e out hand parts n (known ∷ []) harvested t m here off (record { place = k.place; told = k.told; accounts = k.accounts; sum = sym (append-nil known) }) in
     record {
       only = k.only;
       place = r.place;
@@ -191,5 +191,5 @@ begins_by part hand n q h known s o is (level e t) = record { taker = s; is = is
 begins_by part hand n q h known s o is (ahead y e t own on next un) = record { taker = s; is = is; unheard = y; taken = t }
 begins_by part hand n q h known s o is (ended y e t off halted) = record { taker = s; is = is; unheard = y; taken = t }
 
-pub out_begins : OutBegins
-out_begins o known parts hand n x k = begins_by (parts n) hand n k.expects.queue k.toggle known k.taker o k.is k.agrees
+pub known_begins_taken : KnownBeginsTaken
+known_begins_taken o known parts hand n x k = begins_by (parts n) hand n k.expects.queue k.toggle known k.taker o k.is k.agrees

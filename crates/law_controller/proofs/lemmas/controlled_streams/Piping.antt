@@ -10,7 +10,7 @@ use Rattle.law_ring.specs.Ring.{IsRing}
 use Rattle.law_ring.specs.Effects.{AreBytesHeard}
 use Rattle.law_ring.specs.Told.{Endpoint}
 use Rattle.law_controller.specs.controlled_streams.Control.{IsOn, IsControlled, BeginsMicroframe, ControlEffect, a_microframe, a_step, Controls}
-use Rattle.law_controller.proofs.lemmas.controlled_streams.Controlling.{event_controls}
+use Rattle.law_controller.proofs.lemmas.controlled_streams.Controlling.{each_event_of_the_controller}
 use Rattle.law_ring.specs.Bus.{Sender, IsBus, KeepsSenders}
 use Rattle.law_ring.specs.Pipes.{IsHalf, AreEndpoints, ArePiped, grown}
 use Rattle.law_ring.proofs.PipeAgreeing.{grown_none, ring_rest}
@@ -55,11 +55,11 @@ module _ {W : Type 0} (begins : W → ℕ → Bool → W → Type 0) (transacts 
       (walk_place c).walk.reply wire ring.in_hand piped after now later k.kind k.effect k.streams in
       record { at = r.at; more = r.more; few = r.few; all = r.all; told = r.told }
 
-pub control_pipes : {W : Type 0} (begins : W → ℕ → Bool → W → Type 0) (transacts : W → Ask → List ℕ → Reply → W → Type 0) (stream : ℕ → ℕ → Bool) (packets : ℕ → ℕ → List (List ℕ)) (sender : W → ℕ → ℕ → Option Sender) (base : Base) (member streams : ℕ → Bool) (endpoint : ℕ → Endpoint) (acc : ℕ → List (List ℕ)) (parts : StructureSets) (hand : Hand) (c : Content) (wire : W) (new : Content) (after : W)
+pub an_event_keeps_the_pipes : {W : Type 0} (begins : W → ℕ → Bool → W → Type 0) (transacts : W → Ask → List ℕ → Reply → W → Type 0) (stream : ℕ → ℕ → Bool) (packets : ℕ → ℕ → List (List ℕ)) (sender : W → ℕ → ℕ → Option Sender) (base : Base) (member streams : ℕ → Bool) (endpoint : ℕ → Endpoint) (acc : ℕ → List (List ℕ)) (parts : StructureSets) (hand : Hand) (c : Content) (wire : W) (new : Content) (after : W)
     → AreEndpoints stream member streams endpoint → IsBus transacts stream sender → KeepsSenders begins stream sender → IsControlled base member parts hand c → IsOn base
     → ArePiped stream packets sender member streams endpoint acc parts hand wire → AreBytesHeard transacts wire after → HasRow begins transacts (microframe_row c.registers c.control) c wire new after
     → ControlGoesOn begins transacts stream packets sender base member streams endpoint acc parts hand wire after new
-control_pipes begins transacts stream packets sender base member streams endpoint acc parts hand c wire new after ends bus keeps controlled on piped heard row =
-    let e : Controls begins transacts base member parts hand wire after new = event_controls begins transacts base member parts hand c wire new after controlled on heard row in
+an_event_keeps_the_pipes begins transacts stream packets sender base member streams endpoint acc parts hand c wire new after ends bus keeps controlled on piped heard row =
+    let e : Controls begins transacts base member parts hand wire after new = each_event_of_the_controller begins transacts base member parts hand c wire new after controlled on heard row in
     let r = rest_of begins transacts stream packets sender base member streams endpoint ends bus keeps acc parts hand c wire controlled piped after e.now e.later e.effect in
     record { event = e; at = r.at; more = r.more; few = r.few; piped = r.all; told = r.told }

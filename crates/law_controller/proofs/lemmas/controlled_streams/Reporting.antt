@@ -21,12 +21,12 @@ use Rattle.law_ring.specs.Streams.{moved_bytes, StreamEffect}
 use Rattle.law_ring.specs.Streams.StreamEffect.{same, aside, grows}
 use Rattle.law_controller.specs.controlled_streams.Control.{IsControlled, BeginsMicroframe, WalksRing, ControlEffect, a_microframe, a_step}
 use Rattle.law_ring.specs.Order.{IsAmong, AllTold, one_out, bytes_of_effect, GoesOnInOrder}
-use Rattle.law_ring.proofs.Ordering.{done_told}
-use Rattle.law_ring.proofs.Adding.{event_adds}
+use Rattle.law_ring.proofs.Ordering.{a_done_qtd_is_told_by_memory}
+use Rattle.law_ring.proofs.Adding.{each_event_adds_to_the_end}
 use Rattle.claims_base.specs.Prefix.{IsPrefix}
 use Rattle.law_ring.specs.Bus.{Sender}
 use Rattle.law_ring.specs.Pipes.{ArePiped, grown, IsToldBy}
-use Rattle.law_ring.proofs.PipeAgreeing.{grown_here, grown_beside, grown_none, taken_begins}
+use Rattle.law_ring.proofs.PipeAgreeing.{grown_here, grown_beside, grown_none, accepted_bytes_begin_each_stream}
 use Rattle.law_controller.specs.controlled_streams.Events.{IsControlToldBy, ControlGoesOn}
 use Rattle.law_controller.specs.controlled_streams.Reported.{IsReported, AreReported}
 
@@ -75,17 +75,17 @@ module _ {W : Type 0} (begins : W → ℕ → Bool → W → Type 0) (transacts 
   step_right : (k : WalksRing transacts parts hand wire after now later) → IsToldBy streams at more k.streams → IsReported order out hand parts n (acc n) reported → IsReported order out later now n (grown acc at more n) reported
   step_right k told r =
       let ring : IsRing base member parts hand (walk_place c) = controlled.ring in
-      let goes : GoesOnInOrder order out later now n r.told (bytes_of_effect n k.streams) = event_adds transacts member parts hand (walk_place c).walk.reply wire after now later k.kind order r.place out n r.told ring.members ring.in_hand k.effect k.streams r.accounts in
+      let goes : GoesOnInOrder order out later now n r.told (bytes_of_effect n k.streams) = each_event_adds_to_the_end transacts member parts hand (walk_place c).walk.reply wire after now later k.kind order r.place out n r.told ring.members ring.in_hand k.effect k.streams r.accounts in
       record { place = goes.place; told = r.told ++ bytes_of_effect n k.streams; accounts = goes.accounts; sum = sum_after streams acc at more n reported r.told k.streams on told r.sum }
 
   event_right : (z : ControlEffect begins transacts parts hand wire after now later) → IsControlToldBy streams at more z → IsReported order out hand parts n (acc n) reported → IsReported order out later now n (grown acc at more n) reported
   event_right (a_microframe b) told r = microframe_right b told r
   event_right (a_step k) told r = step_right k told r
 
-pub event_reported : {W : Type 0} (begins : W → ℕ → Bool → W → Type 0) (transacts : W → Ask → List ℕ → Reply → W → Type 0) (stream : ℕ → ℕ → Bool) (packets : ℕ → ℕ → List (List ℕ)) (sender : W → ℕ → ℕ → Option Sender) (base : Base) (member streams : ℕ → Bool) (endpoint : ℕ → Endpoint) (acc : ℕ → List (List ℕ)) (parts : StructureSets) (hand : Hand) (c : Content) (wire after : W) (new : Content) (order : ℕ → ℕ → ℕ) (out : ℕ → List ℕ) (reported : ℕ → List ℕ)
+pub an_event_leaves_the_report_right : {W : Type 0} (begins : W → ℕ → Bool → W → Type 0) (transacts : W → Ask → List ℕ → Reply → W → Type 0) (stream : ℕ → ℕ → Bool) (packets : ℕ → ℕ → List (List ℕ)) (sender : W → ℕ → ℕ → Option Sender) (base : Base) (member streams : ℕ → Bool) (endpoint : ℕ → Endpoint) (acc : ℕ → List (List ℕ)) (parts : StructureSets) (hand : Hand) (c : Content) (wire after : W) (new : Content) (order : ℕ → ℕ → ℕ) (out : ℕ → List ℕ) (reported : ℕ → List ℕ)
     → IsControlled base member parts hand c → (g : ControlGoesOn begins transacts stream packets sender base member streams endpoint acc parts hand wire after new)
     → AreReported streams order out hand parts acc reported → AreReported streams order out g.event.later g.event.now (grown acc g.at g.more) reported
-event_reported begins transacts stream packets sender base member streams endpoint acc parts hand c wire after new order out reported controlled g right n on =
+an_event_leaves_the_report_right begins transacts stream packets sender base member streams endpoint acc parts hand c wire after new order out reported controlled g right n on =
     event_right begins transacts base member streams acc parts hand c wire after controlled g.event.now g.event.later g.at g.more n on (order n) (out n) (reported n) g.event.effect g.told (right n on)
 
 -- ---- a harvest
@@ -118,17 +118,17 @@ harvest_by order e out hand parts n acc reported bytes t here off r f is = recor
   sum = append_assoc reported bytes f.rest ∙ ap (λ (xs : List ℕ). reported ++ (xs ++ f.rest)) (sym is) ∙ ap (λ (xs : List ℕ). reported ++ xs) (sym f.sum) ∙ r.sum;
 }
 
-pub harvest_reported : (member : ℕ → Bool) (order : ℕ → ℕ) (e : ℕ) (out : List ℕ) (hand : Hand) (parts : StructureSets) (n : ℕ) (acc : List (List ℕ)) (reported : List ℕ) (t : Qtd) → IsMember member n (parts n) → parts n e ≡ Some (Element t) → t.token.active ≡ false → IsReported order (e ∷ out) hand parts n acc reported
+pub a_harvest_adds_to_the_report : (member : ℕ → Bool) (order : ℕ → ℕ) (e : ℕ) (out : List ℕ) (hand : Hand) (parts : StructureSets) (n : ℕ) (acc : List (List ℕ)) (reported : List ℕ) (t : Qtd) → IsMember member n (parts n) → parts n e ≡ Some (Element t) → t.token.active ≡ false → IsReported order (e ∷ out) hand parts n acc reported
     → IsReported order out hand parts n acc (reported ++ take (length (buffer_of (parts n) t) - t.token.total) (buffer_of (parts n) t))
-harvest_reported member order e out hand parts n acc reported t m here off r =
+a_harvest_adds_to_the_report member order e out hand parts n acc reported t m here off r =
     let f : FirstTold hand parts n e out r.told = first_told hand parts n e out r.told r.accounts.told in
-    harvest_by order e out hand parts n acc reported (take (length (buffer_of (parts n) t) - t.token.total) (buffer_of (parts n) t)) t here off r f (done_told member parts hand n e t f.first m here off f.told)
+    harvest_by order e out hand parts n acc reported (take (length (buffer_of (parts n) t) - t.token.total) (buffer_of (parts n) t)) t here off r f (a_done_qtd_is_told_by_memory member parts hand n e t f.first m here off f.told)
 
 -- ---- it begins the stream
 
 pub reported_begins : {W : Type 0} (stream : ℕ → ℕ → Bool) (packets : ℕ → ℕ → List (List ℕ)) (sender : W → ℕ → ℕ → Option Sender) (member streams : ℕ → Bool) (endpoint : ℕ → Endpoint) (acc : ℕ → List (List ℕ)) (parts : StructureSets) (hand : Hand) (wire : W) (order : ℕ → ℕ → ℕ) (out : ℕ → List ℕ) (reported : ℕ → List ℕ) (n : ℕ)
     → ArePiped stream packets sender member streams endpoint acc parts hand wire → AreReported streams order out hand parts acc reported → streams n ≡ true → IsPrefix (reported n) (concat (packets (endpoint n).addr (endpoint n).ep))
 reported_begins stream packets sender member streams endpoint acc parts hand wire order out reported n piped right on =
-    let taken : IsPrefix (concat (acc n)) (concat (packets (endpoint n).addr (endpoint n).ep)) = taken_begins stream packets sender member streams endpoint acc parts hand wire n piped on in
+    let taken : IsPrefix (concat (acc n)) (concat (packets (endpoint n).addr (endpoint n).ep)) = accepted_bytes_begin_each_stream stream packets sender member streams endpoint acc parts hand wire n piped on in
     let r = right n on in
     (r.told ++ taken.0, sym (append_assoc (reported n) r.told taken.0) ∙ ap (λ (xs : List ℕ). xs ++ taken.0) r.sum ∙ taken.1)

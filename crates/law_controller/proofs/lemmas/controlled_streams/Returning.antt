@@ -17,7 +17,7 @@ use Rattle.law_ring.specs.Fewer.{without_those}
 use Rattle.law_ring.proofs.Returning.{those_found, those_stay, those_else, those_beside}
 use Rattle.law_ring.specs.Front.{HasFront}
 use Rattle.law_ring.specs.Sparing.{SparesHead, SparesElement}
-use Rattle.law_ring.proofs.SparedSparing.{spared_told, spared_toggle, spared_endpoint, spared_accounts}
+use Rattle.law_ring.proofs.SparedSparing.{spared_is_told, spared_has_toggle, spared_endpoint, accounts_are_spared}
 use Rattle.law_controller.specs.controlled_streams.Returned.{staying, KeepsBuffers, GoUntold, AccountsAreReturned, ReportedAreReturned, PipesAreReturned, FrontIsReturned, PassedHasNone}
 
 -- ---- which stay
@@ -106,7 +106,7 @@ module _ (parts : StructureSets) (n : ℕ) (goes : ℕ → Bool) (off : goes n �
     told_by : (hand : Hand) (c : Bool) (e : ℕ) (es x ys : List ℕ) → goes e ≡ c → (goes e ≡ true → x ≡ []) → Told hand parts n e x → AllTold hand now n (staying goes es) ys → AllTold hand now n (if c then staying goes es else e ∷ staying goes es) (x ++ ys)
     told_by hand true e es x ys on none first later = subst (λ (zs : List ℕ). AllTold hand now n (staying goes es) (zs ++ ys)) (sym (none on)) later
     told_by hand false e es x ys off_now none first later =
-        one_out e (staying goes es) x ys (spared_told hand hand parts now n e x (record { bytes = λ m q b t bs. refl; toggle = λ m q. refl }) (spares_head n) (spares_element e off_now) first) later
+        one_out e (staying goes es) x ys (spared_is_told hand hand parts now n e x (record { bytes = λ m q b t bs. refl; toggle = λ m q. refl }) (spares_head n) (spares_element e off_now) first) later
 
     told_stays : (hand : Hand) (out xs : List ℕ) → GoUntold goes out hand parts n → AllTold hand parts n out xs → AllTold hand now n (staying goes out) xs
     told_stays hand out xs untold none_out = none_out
@@ -139,15 +139,15 @@ beside_accounts : (order : ℕ → ℕ) (place : ℕ) (out : List ℕ) (hand : H
 beside_accounts order place out hand parts n k goes xs differs acc =
     let now = without_those parts n goes in
     let same : now k ≡ parts k = those_beside parts n goes k differs in
-    spared_accounts order order place place out hand hand parts now k xs (record { bytes = λ m q b t bs. refl; toggle = λ m q. refl })
+    accounts_are_spared order order place place out hand hand parts now k xs (record { bytes = λ m q b t bs. refl; toggle = λ m q. refl })
     (λ q here. record { queue = q; here = ap (λ (part : Structures). part k) same ∙ here; overlay = record { token = refl; current = refl; offset = refl; endpoint = refl } })
     (λ e among. record { element = λ t here. ap (λ (part : Structures). part e) same ∙ here; bytes = λ t here. ap (λ (part : Structures). buffer_of part t) same })
     (subst (IsOrdered order place k) (sym same) acc.ordered) acc.sorted
     (λ a t among here from. acc.published a t among (ap (λ (part : Structures). part a) (sym same) ∙ here) from)
     (λ a t here on. acc.complete a t (ap (λ (part : Structures). part a) (sym same) ∙ here) on) acc
 
-pub reported_stay : ReportedAreReturned
-reported_stay streams order out hand parts acc reported n goes off keep untold all k on =
+pub reported_are_returned : ReportedAreReturned
+reported_are_returned streams order out hand parts acc reported n goes off keep untold all k on =
     let now = without_those parts n goes in
     let was = all k on in
     ⊎_elim (λ (same : k ≡ n).
@@ -167,14 +167,14 @@ reported_stay streams order out hand parts acc reported n goes off keep untold a
       sum = was.sum;
     }) (cases_eq k n)
 
-pub accounts_returned : AccountsAreReturned
-accounts_returned order place out hand parts n goes xs off keep untold k = accounts_stay parts n goes off keep order place out hand xs untold k
+pub accounts_are_returned : AccountsAreReturned
+accounts_are_returned order place out hand parts n goes xs off keep untold k = accounts_stay parts n goes off keep order place out hand xs untold k
 
-pub front_returned : FrontIsReturned
-front_returned order front out parts n goes off keep k = front_stays parts n goes off keep order front out k
+pub front_is_returned : FrontIsReturned
+front_is_returned order front out parts n goes off keep k = front_stays parts n goes off keep order front out k
 
-pub pipes_returned : {W : Type 0} (sender : W → ℕ → ℕ → Option Sender) → PipesAreReturned sender
-pipes_returned sender stream packets member streams endpoint acc parts hand wire n goes off k =
+pub pipes_stay : {W : Type 0} (sender : W → ℕ → ℕ → Option Sender) → PipesAreReturned sender
+pipes_stay sender stream packets member streams endpoint acc parts hand wire n goes off k =
     let now = without_those parts n goes in
     record {
       pipes = λ i on.
@@ -183,7 +183,7 @@ pipes_returned sender stream packets member streams endpoint acc parts hand wire
             named = spared_endpoint parts now i (endpoint i) (spares_head parts n goes off i) p.named;
             ins = λ a t found active. p.ins a t (those_found parts n goes i a (Element t) found) active;
             toggle = p.toggle;
-            expects = spared_toggle hand hand parts now i p.toggle (record { bytes = λ m q b t bs. refl; toggle = λ m q. refl }) (spares_head parts n goes off i) p.expects;
+            expects = spared_has_toggle hand hand parts now i p.toggle (record { bytes = λ m q b t bs. refl; toggle = λ m q. refl }) (spares_head parts n goes off i) p.expects;
             sender = p.sender;
             is = p.is;
             half = p.half;
@@ -198,8 +198,8 @@ pipes_returned sender stream packets member streams endpoint acc parts hand wire
 
 -- ---- what was passed over
 
-pub passed_none : PassedHasNone
-passed_none order front out hand parts n e x k among before told on =
+pub passed_has_none : PassedHasNone
+passed_has_none order front out hand parts n e x k among before told on =
     let q : Qh = told.queue in
     let fresh = k.fresh e told.qtd among told.here on in
     let apart : q.token.active ≡ true → q.current ≢ e = λ active same. let at = (k.queue q told.head).work active in let i = ap order same in omega (arith, at, i, before) in

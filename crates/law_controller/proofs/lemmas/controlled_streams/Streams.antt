@@ -17,7 +17,7 @@ use Rattle.law_ring.proofs.Ordering.{not_worked}
 use Rattle.law_ring.specs.Bus.{Sender}
 use Rattle.law_ring.specs.Pipes.{IsIn, IsNotIn, IsElsewhere}
 use Rattle.law_controller.specs.controlled_streams.Reported.{IsReported}
-use Rattle.law_ring.proofs.SparedSparing.{spared_endpoint, spared_pipes, spared_accounts, all_spared}
+use Rattle.law_ring.proofs.SparedSparing.{spared_endpoint, spared_pipes_agree, accounts_are_spared, all_spared}
 use Rattle.law_controller.specs.controlled_streams.Storing.{LeadsLater, out_with, with_out, stored_parts}
 use Rattle.law_controller.specs.controlled_streams.PublishedLaws.{IdleStoreLeavesReports, LastStoreLeavesReports, StoreLeavesPipes}
 use Rattle.law_controller.proofs.lemmas.controlled_streams.Storing.{same_hand, head_stays, bytes_stay, element_found, spares_head, spares_element, ordered_beside, ordered_here, out_apart, among_with, among_new, among_either}
@@ -36,7 +36,7 @@ module _ (parts : StructureSets) (n e : ℕ) (old new : Qtd) (here : parts n e �
   reported_beside order out m acc reported differs k = record {
     place = k.place;
     told = k.told;
-    accounts = spared_accounts order order k.place k.place out hand hand parts now m k.told (same_hand hand) (spares_head parts n e old new here m)
+    accounts = accounts_are_spared order order k.place k.place out hand hand parts now m k.told (same_hand hand) (spares_head parts n e old new here m)
         (λ a among. spares_element parts n e old new here m a (λ name owner. differs owner))
         (ordered_beside parts n e old new here order k.place m differs k.accounts.ordered) k.accounts.sorted
         (λ a u among is from. k.accounts.published a u among (element_beside m a u differs is) from)
@@ -60,7 +60,7 @@ module _ (parts : StructureSets) (n e : ℕ) (old new : Qtd) (here : parts n e �
   idle_here order before after acc reported sorted later off k = record {
     place = k.place;
     told = k.told;
-    accounts = spared_accounts order order k.place k.place (before ++ after) hand hand parts now n k.told (same_hand hand) (spares_head parts n e old new here n)
+    accounts = accounts_are_spared order order k.place k.place (before ++ after) hand hand parts now n k.told (same_hand hand) (spares_head parts n e old new here n)
         (λ a among. spares_element parts n e old new here n a (λ name owner. out_apart order e before after sorted a among name))
         (ordered_here parts n e old new here order k.place later (λ on. absurd (false≢true (sym off ∙ on))) k.accounts.ordered) k.accounts.sorted
         (λ a u among is from. k.accounts.published a u among (apart_beside a u (out_apart order e before after sorted a among) is) from)
@@ -127,8 +127,8 @@ module _ (parts : StructureSets) (n e : ℕ) (old new : Qtd) (here : parts n e �
 
 -- ---- all of them
 
-pub idle_reports : IdleStoreLeavesReports
-idle_reports streams order out hand parts acc reported n e old new s off k m on =
+pub idle_store_leaves_reports : IdleStoreLeavesReports
+idle_store_leaves_reports streams order out hand parts acc reported n e old new s off k m on =
     ⊎_elim (λ (same : m ≡ n).
     subst (λ (i : ℕ). IsReported (order i) (out i) hand (stored_parts parts n e new) i (acc i) (reported i)) (sym same)
     (subst (λ (xs : List ℕ). IsReported (order n) xs hand (stored_parts parts n e new) n (acc n) (reported n)) (sym s.out_is)
@@ -142,8 +142,8 @@ out_here out n now = ap (λ (b : Bool). if b then now else out n) (eq-eqb n n re
 pub out_beside : (out : ℕ → List ℕ) (n : ℕ) (now : List ℕ) (m : ℕ) → m ≢ n → with_out out n now m ≡ out m
 out_beside out n now m differs = ap (λ (b : Bool). if b then now else out m) (not_same m n differs)
 
-pub last_reports : LastStoreLeavesReports
-last_reports streams order out hand parts acc reported n e old new s on fresh mem k m streamed =
+pub last_store_leaves_reports : LastStoreLeavesReports
+last_store_leaves_reports streams order out hand parts acc reported n e old new s on fresh mem k m streamed =
     let new_out : ℕ → List ℕ = with_out out n (out_with s) in
     ⊎_elim (λ (same : m ≡ n).
     subst (λ (i : ℕ). IsReported (order i) (new_out i) hand (stored_parts parts n e new) i (acc i) (reported i)) (sym same)
@@ -175,7 +175,7 @@ store_pipes sender stream packets member streams endpoint acc hand parts wire n 
     let without : (m : ℕ) → streams m ≡ false → m ≡ n → new.token.active ≡ true → new.token.pid ≢ 1 = λ m off same active.
     ⊎_elim (λ (one : (streams n ≡ true) × (new.token.pid ≡ 1)). absurd (false≢true (sym off ∙ ap streams same ∙ one.0)))
     (λ (other : (streams n ≡ false) × (new.token.pid ≢ 1)). other.1) (may active) in
-    spared_pipes sender stream packets member member streams endpoint acc hand hand parts now wire (same_hand hand) (λ m on. spares_head parts n e old new here m)
+    spared_pipes_agree sender stream packets member member streams endpoint acc hand hand parts now wire (same_hand hand) (λ m on. spares_head parts n e old new here m)
     (λ m on. in_after parts n e old new here m (with_stream m on) (k.pipes m on).ins)
     (λ m on off.
     let was : IsElsewhere stream parts m (endpoint m) = k.others m on off in (

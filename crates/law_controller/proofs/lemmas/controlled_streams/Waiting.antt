@@ -20,7 +20,7 @@ use Rattle.law_controller.specs.controlled_streams.Control.{IsControlled, Contro
 use Rattle.law_ring.specs.Bus.{Sender, IsStreamAsk, IsBus, KeepsSenders}
 use Rattle.law_ring.specs.Pipes.{IsElsewhere, ArePiped}
 use Rattle.law_ring.proofs.Direction.{other_asked, works_not_in}
-use Rattle.law_controller.specs.controlled_streams.Unopened.{IsUntouched, IsUnopened, UnopenedWait}
+use Rattle.law_controller.specs.controlled_streams.Unopened.{IsUntouched, IsUnopened, UnopenedSendersWait}
 
 module _ {W : Type 0} (begins : W → ℕ → Bool → W → Type 0) (transacts : W → Ask → List ℕ → Reply → W → Type 0) (stream : ℕ → ℕ → Bool) (packets : ℕ → ℕ → List (List ℕ)) (sender : W → ℕ → ℕ → Option Sender) (base : Base) (member streams : ℕ → Bool) (endpoint : ℕ → Endpoint) (acc : ℕ → List (List ℕ)) (parts : StructureSets) (hand : Hand) (c : Content) (wire after : W) (now : StructureSets) (later : Hand) (bus : IsBus transacts stream sender) (keeps : KeepsSenders begins stream sender) (controlled : IsControlled base member parts hand c) (piped : ArePiped stream packets sender member streams endpoint acc parts hand wire) (addr ep : ℕ) (on : stream addr ep ≡ true) (unopened : IsUnopened streams endpoint addr ep) (k : IsUntouched (packets addr ep) (sender wire addr ep)) where
   goes_on : sender after addr ep ≡ Some k.sender → IsUntouched (packets addr ep) (sender after addr ep)
@@ -68,6 +68,6 @@ module _ {W : Type 0} (begins : W → ℕ → Bool → W → Type 0) (transacts 
   by_control (a_microframe b) = goes_on (keeps wire b.index b.allowed after addr ep k.sender b.asked on k.is)
   by_control (a_step w) = by_stream w.streams
 
-pub unopened_wait : {W : Type 0} (begins : W → ℕ → Bool → W → Type 0) (transacts : W → Ask → List ℕ → Reply → W → Type 0) → UnopenedWait begins transacts
-unopened_wait begins transacts stream packets sender base member streams endpoint acc parts hand c wire after now later bus keeps controlled piped effect k addr ep on unopened =
+pub unopened_senders_wait : {W : Type 0} (begins : W → ℕ → Bool → W → Type 0) (transacts : W → Ask → List ℕ → Reply → W → Type 0) → UnopenedSendersWait begins transacts
+unopened_senders_wait begins transacts stream packets sender base member streams endpoint acc parts hand c wire after now later bus keeps controlled piped effect k addr ep on unopened =
     by_control begins transacts stream packets sender base member streams endpoint acc parts hand c wire after now later bus keeps controlled piped addr ep on unopened (k addr ep on unopened) effect

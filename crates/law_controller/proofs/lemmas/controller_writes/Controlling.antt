@@ -24,10 +24,10 @@ use Rattle.claims_base.specs.Controller.{Base, base_of}
 use Rattle.law_ring.specs.Ring.{IsCopied, IsRing}
 use Rattle.law_ring.specs.Effects.{AreBytesHeard}
 use Rattle.law_controller.specs.controlled_streams.Control.{IsOn, IsFrameless, off, empty, IsControlled, ControlEffect, a_microframe, a_step, Controls}
-use Rattle.law_controller.proofs.lemmas.controlled_streams.Controlling.{event_controls}
+use Rattle.law_controller.proofs.lemmas.controlled_streams.Controlling.{each_event_of_the_controller}
 use Rattle.law_ring.specs.walk_writes.Writes.{WritesLent, IsPlaced}
 use Rattle.law_ring.proofs.lemmas.walk_writes.Lent.{same_writes, refused_writes}
-use Rattle.law_ring.proofs.lemmas.walk_writes.Walking.{event_writes}
+use Rattle.law_ring.proofs.lemmas.walk_writes.Walking.{each_event_writes_lent_words}
 use Rattle.law_controller.specs.controller_writes.Leaving.{LeavesRest}
 use Rattle.law_controller.proofs.lemmas.controller_writes.Fronts.{KeepsFronts, same_fronts, effect_fronts, fronts_stay}
 
@@ -108,9 +108,10 @@ row_writes begins transacts base member parts hand c wire new after rows.Begin i
     let stepped : Content = record c { registers = after_begin c.registers } in
     goes_to c.memory new (began row.allowed c) row.contents (begun_writes stepped (reaches c.memory (element_address stepped.registers)) row.allowed)
 row_writes begins transacts base member parts hand c wire new after rows.Frame is k row = absurd (run_not_frame base k.list.words c c.registers.run k.ring.registers k.frameless is)
-row_writes begins transacts base member parts hand c wire new after rows.Enter is k row = event_writes transacts (walk_place (entered c)) wire (walk_place new) after tt row.walked
+row_writes begins transacts base member parts hand c wire new after rows.Enter is k row = each_event_writes_lent_words transacts (walk_place (entered c)) wire (walk_place new) after tt row.walked
 row_writes begins transacts base member parts hand c wire new after rows.Go is k row =
-    event_writes transacts (walk_place c) wire (walk_place new) after (held_placed base member parts hand (walk_place c) k.ring) row.walked
+    each_event_writes_lent_words transacts (walk_place c) wire (walk_place new) after
+    (held_placed base member parts hand (walk_place c) k.ring) row.walked
 row_writes begins transacts base member parts hand c wire new after rows.End is k row = goes_to c.memory new _ row.0 (same_writes c.memory c.memory refl refl)
 
 -- ---- an event
@@ -119,9 +120,9 @@ control_fronts : {W : Type 0} (begins : W → ℕ → Bool → W → Type 0) (tr
 control_fronts begins transacts base member parts hand c wire after now later k (a_microframe b) = same_fronts parts now b.parts_stay
 control_fronts begins transacts base member parts hand c wire after now later k (a_step w) = effect_fronts transacts base member parts hand (walk_place c) wire after now later w.kind k.ring w.effect
 
-pub event_leaves : {W : Type 0} (begins : W → ℕ → Bool → W → Type 0) (transacts : W → Ask → List ℕ → Reply → W → Type 0) (base : Base) (member : ℕ → Bool) (parts : StructureSets) (hand : Hand) (c : Content) (wire : W) (new : Content) (after : W) → IsControlled base member parts hand c → IsOn base → AreBytesHeard transacts wire after → HasRow begins transacts (microframe_row c.registers c.control) c wire new after → LeavesRest parts c.memory new.memory
-event_leaves begins transacts base member parts hand c wire new after k on heard row =
-    let e : Controls begins transacts base member parts hand wire after new = event_controls begins transacts base member parts hand c wire new after k on heard row in
+pub each_event_leaves_the_rest : {W : Type 0} (begins : W → ℕ → Bool → W → Type 0) (transacts : W → Ask → List ℕ → Reply → W → Type 0) (base : Base) (member : ℕ → Bool) (parts : StructureSets) (hand : Hand) (c : Content) (wire : W) (new : Content) (after : W) → IsControlled base member parts hand c → IsOn base → AreBytesHeard transacts wire after → HasRow begins transacts (microframe_row c.registers c.control) c wire new after → LeavesRest parts c.memory new.memory
+each_event_leaves_the_rest begins transacts base member parts hand c wire new after k on heard row =
+    let e : Controls begins transacts base member parts hand wire after new = each_event_of_the_controller begins transacts base member parts hand c wire new after k on heard row in
     let keeps = control_fronts begins transacts base member parts hand c wire after e.now e.later k e.effect in
     record {
       lent = row_writes begins transacts base member parts hand c wire new after (microframe_row c.registers c.control) refl k row;

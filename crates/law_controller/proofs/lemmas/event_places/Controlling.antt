@@ -35,9 +35,9 @@ row_stays begins transacts at c wire new after rows.Enter is row = ring_stays tr
 row_stays begins transacts at c wire new after rows.Go is row = ring_stays transacts at (walk_place c) wire (walk_place new) after is.ring row.walked
 row_stays begins transacts at c wire new after rows.End is row = goes_to at c.memory new _ row.0 refl
 
-pub event_stays : {W : Type 0} (begins : W → ℕ → Bool → W → Type 0) (transacts : W → Ask → List ℕ → Reply → W → Type 0) (c : Content) (wire : W) (new : Content) (after : W) (at : ℕ) → IsBeside c.control at
+pub each_event_writes_its_places : {W : Type 0} (begins : W → ℕ → Bool → W → Type 0) (transacts : W → Ask → List ℕ → Reply → W → Type 0) (c : Content) (wire : W) (new : Content) (after : W) (at : ℕ) → IsBeside c.control at
     → HasRow begins transacts (microframe_row c.registers c.control) c wire new after → Stays at c.memory new.memory
-event_stays begins transacts c wire new after at is row = row_stays begins transacts at c wire new after (microframe_row c.registers c.control) is row
+each_event_writes_its_places begins transacts c wire new after at is row = row_stays begins transacts at c wire new after (microframe_row c.registers c.control) is row
 
 -- ---- the first word of a block
 
@@ -67,10 +67,10 @@ frame_link : (o : Option Hand) (got : List ℕ) (n a : ℕ) → a % 32 ≡ 0 →
 frame_link None got n a low is beside = tt
 frame_link (Some h) got n a low is beside = hand_link got n a h low is beside
 
-pub link_stays : {W : Type 0} (begins : W → ℕ → Bool → W → Type 0) (transacts : W → Ask → List ℕ → Reply → W → Type 0) (c : Content) (wire : W) (new : Content) (after : W) (a : ℕ) → AreAligned c → a % 32 ≡ 0 → IsLinkBeside c.control a
+pub a_link_word_stays : {W : Type 0} (begins : W → ℕ → Bool → W → Type 0) (transacts : W → Ask → List ℕ → Reply → W → Type 0) (c : Content) (wire : W) (new : Content) (after : W) (a : ℕ) → AreAligned c → a % 32 ≡ 0 → IsLinkBeside c.control a
     → HasRow begins transacts (microframe_row c.registers c.control) c wire new after → Stays a c.memory new.memory
-link_stays begins transacts c wire new after a is low beside row =
-    event_stays begins transacts c wire new after a
+a_link_word_stays begins transacts c wire new after a is low beside row =
+    each_event_writes_its_places begins transacts c wire new after a
     (record {
       frame = frame_link c.control.frame.hand c.control.frame.got (heard c.control.frame.reply) a low is.frame.hand beside.frame;
       ring = ring_link c.control.walk.held (heard c.control.walk.reply) a low is.ring.held beside.ring;

@@ -62,8 +62,8 @@ over_before : (base : Base) (words : List ℕ) (c : Content) → base.periodic_e
 over_before base words c on (off is) part = absurd (true≢false (sym on ∙ is))
 over_before base words c on (empty none over) part = over part
 
-pub controlled_runs : (base : Base) (member : ℕ → Bool) (parts : StructureSets) (hand : Hand) (c : Content) → base.periodic_enable ≡ true → IsControlled base member parts hand c → RunsBoth base member (λ n. None) parts hand Nothing c
-controlled_runs base member parts hand c on k = record {
+pub a_frameless_list_has_nothing_met : (base : Base) (member : ℕ → Bool) (parts : StructureSets) (hand : Hand) (c : Content) → base.periodic_enable ≡ true → IsControlled base member parts hand c → RunsBoth base member (λ n. None) parts hand Nothing c
+a_frameless_list_has_nothing_met base member parts hand c on k = record {
   ring = k.ring;
   between = k.between;
   list = k.list;
@@ -74,8 +74,8 @@ controlled_runs base member parts hand c on k = record {
   outside = λ part. refl;
 }
 
-pub runs_controlled : (base : Base) (member : ℕ → Bool) (parts : StructureSets) (hand : Hand) (c : Content) → RunsBoth base member (λ n. None) parts hand Nothing c → IsControlled base member parts hand c
-runs_controlled base member parts hand c k = record {
+pub frames_without_structures_are_frameless : (base : Base) (member : ℕ → Bool) (parts : StructureSets) (hand : Hand) (c : Content) → RunsBoth base member (λ n. None) parts hand Nothing c → IsControlled base member parts hand c
+frames_without_structures_are_frameless base member parts hand c k = record {
   ring = k.ring;
   between = k.between;
   list = k.list;

@@ -18,7 +18,7 @@ use Rattle.law_frames.specs.Met.{Kind}
 use Rattle.law_frames.specs.FrameHand.{FrameHand, Nothing, OfQueue, OfSettled, OfItd, OfSitd, queue_hand}
 use Rattle.law_frames.specs.Frame.{IsCopiedQueue, IsInFrame, IsFrameWalk}
 use Rattle.law_frames.specs.FrameStreams.{IsIsoAsk}
-use Rattle.law_frames.proofs.Telling.{frame_streams}
+use Rattle.law_frames.proofs.Telling.{frame_moves_streams}
 use Rattle.law_controller.specs.frame_control.Both.{RunsBoth, WalksFrames, BothEffect, of_ring, of_frame}
 use Rattle.law_controller.specs.frame_control.Joined.{joined, BothStreamEffect, begun, moved, WalksMoveStreams, IsAsked, JoinedIsAsked}
 
@@ -77,7 +77,7 @@ module _ {W : Type 0} (begins : W → ℕ → Bool → W → Type 0) (transacts 
       let empty_later : later ≡ Empty = w.hand_stays ∙ w.nothing in
       subst (λ (h : Hand). Goal h (joined later frame_later)) (sym (joined_frame hand frame w.nothing))
       (subst (Goal (queue_hand frame)) (sym (joined_frame later frame_later empty_later))
-      (moved (frame_streams transacts met parts frame (frame_place c) wire after now frame_later w.kind
+      (moved (frame_moves_streams transacts met parts frame (frame_place c) wire after now frame_later w.kind
       (record { tells = k.ring.tells; members = k.members; walk = k.walk w.part }) w.effect)))
 
   by_walk : BothEffect begins transacts parts c.control hand frame wire after now later frame_later

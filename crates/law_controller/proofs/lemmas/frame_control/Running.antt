@@ -30,7 +30,7 @@ use Rattle.law_ring.specs.Ring.{IsInHand, IsRing}
 use Rattle.law_ring.specs.Effects.{Effect, reads, passes, ends, takes, makes, writes_back, AreBytesHeard}
 use Rattle.law_ring.proofs.Ringing.{ring_at, cursor_same}
 use Rattle.law_ring.specs.Streams.{Streams}
-use Rattle.law_ring.proofs.StreamEvents.{event_streams}
+use Rattle.law_ring.proofs.StreamEvents.{each_event_moves_one_stream}
 use Rattle.law_controller.specs.controlled_streams.Control.{IsOn, FrameList, a_microframe, a_step}
 use Rattle.law_frames.specs.Met.{Kind, AQueue, AnItd, ASitd, LeadsTo, IsMetQueue, IsMetItd, IsMetSitd, IsMetAs}
 use Rattle.law_frames.specs.FrameHand.{FrameHand, Nothing, OfQueue, OfSettled, OfItd, OfSitd, frame_held}
@@ -115,7 +115,7 @@ ring_goes : {W : Type 0} (begins : W → ℕ → Bool → W → Type 0) (transac
     → before ≡ Nothing → RunsBoth base member met parts hand frame c → AreBytesHeard transacts wire after
     → Walks transacts c wire new after → ControlsBoth begins transacts base member met parts hand before old wire after new
 ring_goes begins transacts base member met parts hand frame before c old wire new after free k heard walk =
-    let s : Streams transacts base member parts hand wire after (walk_place new) (walk_step c) = event_streams transacts base member parts hand (walk_place c) wire (walk_place new) after k.ring heard walk.walked in
+    let s : Streams transacts base member parts hand wire after (walk_place new) (walk_step c) = each_event_moves_one_stream transacts base member parts hand (walk_place c) wire (walk_place new) after k.ring heard walk.walked in
     let h = s.happens in
     let over : new.control.part ≢ Periodic = not_periodic (walk_step c) new.control.part walk.part in
     let stays : (n : ℕ) → ((a : ℕ) → member a ≡ true → n ≢ a) → h.now n ≡ parts n = λ n. ring_leaves transacts base member parts hand (walk_place c) wire after h.now h.later (walk_step c) n k.ring h.effect in
@@ -338,18 +338,19 @@ by_part begins transacts base member met parts hand frame c wire new after Async
     (k.outside (inl (λ same. asynchronous_not_periodic (sym part ∙ same)))) k heard
     (subst (λ (r : ControllerRow). HasRow begins transacts r c wire new after) (ap ring_row (ring_on base c.registers k.ring.registers on)) row)
 
-pub event_runs : {W : Type 0} (begins : W → ℕ → Bool → W → Type 0) (transacts : W → Ask → List ℕ → Reply → W → Type 0) (base : Base) (member : ℕ → Bool) (met : ℕ → Option Kind) (parts : StructureSets) (hand : Hand) (frame : FrameHand) (c : Content) (wire : W) (new : Content) (after : W)
+pub each_event_of_the_controller_over_both : {W : Type 0} (begins : W → ℕ → Bool → W → Type 0) (transacts : W → Ask → List ℕ → Reply → W → Type 0) (base : Base) (member : ℕ → Bool) (met : ℕ → Option Kind) (parts : StructureSets) (hand : Hand) (frame : FrameHand) (c : Content) (wire : W) (new : Content) (after : W)
     → EventHappens transacts met parts frame → RunsBoth base member met parts hand frame c → IsOn base → AreBytesHeard transacts wire after → HasRow begins transacts (microframe_row c.registers c.control) c wire new after → ControlsBoth begins transacts base member met parts hand frame c.control wire after new
-event_runs begins transacts base member met parts hand frame c wire new after law k on heard row =
+each_event_of_the_controller_over_both begins transacts base member met parts hand frame c wire new after law k on heard row =
     by_part begins transacts base member met parts hand frame c wire new after c.control.part refl law k on heard
     (subst (λ (r : ControllerRow). HasRow begins transacts r c wire new after) (part_says base c k.ring.registers on) row)
 
 -- ---- what neither walk meets
 
-pub neither_changes : {W : Type 0} (begins : W → ℕ → Bool → W → Type 0) (transacts : W → Ask → List ℕ → Reply → W → Type 0) (base : Base) (member : ℕ → Bool) (met : ℕ → Option Kind) (parts : StructureSets) (hand : Hand) (frame : FrameHand) (c : Content) (wire after : W) (now : StructureSets) (later : Hand) (frame_later : FrameHand) (n : ℕ)
+pub what_neither_walk_meets_stays : {W : Type 0} (begins : W → ℕ → Bool → W → Type 0) (transacts : W → Ask → List ℕ → Reply → W → Type 0) (base : Base) (member : ℕ → Bool) (met : ℕ → Option Kind) (parts : StructureSets) (hand : Hand) (frame : FrameHand) (c : Content) (wire after : W) (now : StructureSets) (later : Hand) (frame_later : FrameHand) (n : ℕ)
     → RunsBoth base member met parts hand frame c → BothEffect begins transacts parts c.control hand frame wire after now later frame_later → member n ≡ false → met n ≡ None → now n ≡ parts n
-neither_changes begins transacts base member met parts hand frame c wire after now later frame_later n k (of_ring (a_microframe e) nothing) no_member none = ap (λ (x : StructureSets). x n) e.parts_stay
-neither_changes begins transacts base member met parts hand frame c wire after now later frame_later n k (of_ring (a_step e) nothing) no_member none =
+what_neither_walk_meets_stays begins transacts base member met parts hand frame c wire after now later frame_later n k (of_ring (a_microframe e) nothing) no_member none = ap (λ (x : StructureSets). x n) e.parts_stay
+what_neither_walk_meets_stays begins transacts base member met parts hand frame c wire after now later frame_later n k (of_ring (a_step e) nothing) no_member none =
     ring_leaves transacts base member parts hand (walk_place c) wire after now later e.kind n k.ring e.effect (λ a on same. true≢false (sym on ∙ sym (ap member same) ∙ no_member))
-neither_changes begins transacts base member met parts hand frame c wire after now later frame_later n k (of_frame e) no_member none =
+what_neither_walk_meets_stays begins transacts base member met parts hand frame c wire after now later frame_later n k (of_frame e)
+    no_member none =
     frame_leaves transacts met parts c.control.frame frame wire after now frame_later e.kind n (k.walk e.part).in_hand e.effect (λ a kind on same. none_some kind (sym none ∙ ap met same ∙ on))

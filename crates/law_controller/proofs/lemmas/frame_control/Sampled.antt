@@ -13,7 +13,7 @@ use Rattle.qh_qtd.specs.QueueHead.{qh_words, IsQhInRange}
 use Rattle.hc_core.specs.declared.controller.MicroframePart.TheVariants.{Over, Periodic}
 use Rattle.law_structures.specs.lent_structures.Structures.{Structure, QueueHead, Element, Table, HoldsQueueHead, HoldsTable, Holds, StructureSets, put, Has, Tells}
 use Rattle.law_structures.proofs.lemmas.lent_structures.Names.{put_found}
-use Rattle.law_structures.proofs.lemmas.lent_structures.Telling.{joined}
+use Rattle.law_structures.proofs.lemmas.lent_structures.Telling.{another_is_told}
 use Rattle.law_structures.specs.lent_structures.Sound.{IsMember}
 use Rattle.law_ring.specs.Hand.{Empty}
 use Rattle.law_frames.specs.Met.{Kind, AQueue, LeadsTo, IsMetQueue, IsMetAs}
@@ -145,7 +145,7 @@ record ToldBelow (m : Mem) (parts : StructureSets) (limit : ℕ) : Type 0 where
 
 told_above : (m : Mem) (parts : StructureSets) (low high n a : ℕ) (s : Structure) → ToldBelow m parts low → Holds m a s → ((b : ℕ) → Has a s b → (low ≤ b) × (b < high)) → low ≤ high → ToldBelow m (put parts n a s) high
 told_above m parts low high n a s t holds between order = record {
-  told = joined m parts n a s t.told holds (λ b k c u has found also. let from = (between b has).0 in let below = t.below k c u b found also in omega (arith, from, below));
+  told = another_is_told m parts n a s t.told holds (λ b k c u has found also. let from = (between b has).0 in let below = t.below k c u b found also in omega (arith, from, below));
   below = λ k c u b found has.
       ⊎_elim (λ (is : (k ≡ n) × (c ≡ a) × (u ≡ s)).
       (between b (subst (λ (i : ℕ). Has i s b) is.1 (subst (λ (v : Structure). Has c v b) is.2 has))).1)

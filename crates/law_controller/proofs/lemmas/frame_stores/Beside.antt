@@ -19,7 +19,7 @@ use Rattle.hc_core.specs.Controller.{Content, element_address, begun_at, began, 
 use Rattle.law_structures.specs.lent_structures.Structures.{Structure, QueueHead, Table, HoldsTable, Structures, StructureSets, put, without, Holds, Has, Tells}
 use Rattle.law_structures.specs.lent_structures.Changes.{Leaves, IsNew}
 use Rattle.law_structures.proofs.lemmas.lent_structures.Names.{put_beside, put_same, put_else, without_beside, without_else}
-use Rattle.law_structures.proofs.lemmas.lent_structures.Telling.{told_still, added, joined, removed}
+use Rattle.law_structures.proofs.lemmas.lent_structures.Telling.{rest_is_told, new_is_told, another_is_told, fewer_are_told}
 use Rattle.law_structures.proofs.lemmas.lent_structures.Writing.{word_put_table}
 use Rattle.law_structures.specs.lent_structures.Sound.{IsMember}
 use Rattle.law_ring.specs.Hand.{Copy, Hand, Empty, Copied, Settled, Stale}
@@ -32,8 +32,8 @@ use Rattle.law_frames.specs.FrameHand.{FrameHand, Nothing}
 use Rattle.law_frames.specs.Frame.{IsFrame}
 use Rattle.law_controller.specs.frame_control.Both.{LeadToMet, AreMet, AreApart, RunsBoth}
 use Rattle.law_controller.specs.frame_stores.Stores.{HasLink, linked, frame_linked, KeepsMet, LeavesMet, LeavesMembers, IsMetFurther, AreMetAmong, IsFrameAmong}
-use Rattle.law_controller.proofs.lemmas.frame_stores.Linking.{link_told, all_met_linked, frame_link_stored, fields_range, fields_word, fields_lead}
-use Rattle.law_controller.proofs.lemmas.frame_stores.Framing.{frame_retold, frame_left, met_left, kept_left, leaves_put, leaves_unmet, leaves_without, table_unmet, all_met_further, frame_further, leads_further, all_met_among, frame_narrowed}
+use Rattle.law_controller.proofs.lemmas.frame_stores.Linking.{link_told, all_met_linked, link_store_leaves_frame, fields_range, fields_word, fields_lead}
+use Rattle.law_controller.proofs.lemmas.frame_stores.Framing.{other_parts_leave_frame, unmet_parts_leave_frame, met_left, kept_left, leaves_put, leaves_unmet, leaves_without, table_unmet, all_met_further, more_are_met, leads_further, all_met_among, fewer_are_met}
 
 -- ---- the ring, where it is left
 
@@ -47,8 +47,8 @@ in_hand_left member parts now reply (Copied c) stays k = copy_left member parts 
 in_hand_left member parts now reply (Settled c s) stays k = (copy_left member parts now c stays k.0, k.1)
 in_hand_left member parts now reply (Stale n q) stays k = k
 
-pub ring_beside : (base : Base) (member : ℕ → Bool) (parts now : StructureSets) (hand : Hand) (p : WalkPlace) (after : Mem) → IsRing base member parts hand p → Tells after now → LeavesMembers member parts now → IsRing base member now hand (record p { memory = after })
-ring_beside base member parts now hand p after k told stays = record {
+pub other_owners_leave_ring : (base : Base) (member : ℕ → Bool) (parts now : StructureSets) (hand : Hand) (p : WalkPlace) (after : Mem) → IsRing base member parts hand p → Tells after now → LeavesMembers member parts now → IsRing base member now hand (record p { memory = after })
+other_owners_leave_ring base member parts now hand p after k told stays = record {
   tells = told;
   members = λ n on. subst (IsMember member n) (sym (stays n on)) (k.members n on);
   registers = k.registers;
@@ -75,25 +75,25 @@ frame_at base member met parts hand frame c k part = record { tells = k.ring.tel
 
 -- ---- other structures change
 
-pub both_retold : (base : Base) (member : ℕ → Bool) (met : ℕ → Option Kind) (parts now : StructureSets) (hand : Hand) (frame : FrameHand) (c : Content) (after : Mem) → RunsBoth base member met parts hand frame c → Tells after now → LeavesMembers member parts now → AreMet met now → KeepsMet met parts now → now base.periodic_list_base base.periodic_list_base ≡ parts base.periodic_list_base base.periodic_list_base → RunsBoth base member met now hand frame (record c { memory = after })
-both_retold base member met parts now hand frame c after k told stays members keeps list = record {
-  ring = ring_beside base member parts now hand (walk_place c) after k.ring told stays;
+pub other_parts_leave_both : (base : Base) (member : ℕ → Bool) (met : ℕ → Option Kind) (parts now : StructureSets) (hand : Hand) (frame : FrameHand) (c : Content) (after : Mem) → RunsBoth base member met parts hand frame c → Tells after now → LeavesMembers member parts now → AreMet met now → KeepsMet met parts now → now base.periodic_list_base base.periodic_list_base ≡ parts base.periodic_list_base base.periodic_list_base → RunsBoth base member met now hand frame (record c { memory = after })
+other_parts_leave_both base member met parts now hand frame c after k told stays members keeps list = record {
+  ring = other_owners_leave_ring base member parts now hand (walk_place c) after k.ring told stays;
   between = k.between;
   list = record { words = k.list.words; here = list ∙ k.list.here; size = k.list.size };
   elements = k.elements;
   members = members;
   apart = k.apart;
-  walk = λ part. (frame_retold met parts now frame (frame_place c) after (frame_at base member met parts hand frame c k part) told members keeps).walk;
+  walk = λ part. (other_parts_leave_frame met parts now frame (frame_place c) after (frame_at base member met parts hand frame c k part) told members keeps).walk;
   outside = k.outside;
 }
 
-pub both_left : (base : Base) (member : ℕ → Bool) (met : ℕ → Option Kind) (parts now : StructureSets) (hand : Hand) (frame : FrameHand) (c : Content) (after : Mem) → RunsBoth base member met parts hand frame c → Tells after now → LeavesMembers member parts now → LeavesMet met parts now → now base.periodic_list_base base.periodic_list_base ≡ parts base.periodic_list_base base.periodic_list_base → RunsBoth base member met now hand frame (record c { memory = after })
-both_left base member met parts now hand frame c after k told stays left list =
-    both_retold base member met parts now hand frame c after k told stays (met_left met parts now left k.members) (kept_left met parts now left) list
+pub unmet_parts_leave_both : (base : Base) (member : ℕ → Bool) (met : ℕ → Option Kind) (parts now : StructureSets) (hand : Hand) (frame : FrameHand) (c : Content) (after : Mem) → RunsBoth base member met parts hand frame c → Tells after now → LeavesMembers member parts now → LeavesMet met parts now → now base.periodic_list_base base.periodic_list_base ≡ parts base.periodic_list_base base.periodic_list_base → RunsBoth base member met now hand frame (record c { memory = after })
+unmet_parts_leave_both base member met parts now hand frame c after k told stays left list =
+    other_parts_leave_both base member met parts now hand frame c after k told stays (met_left met parts now left k.members) (kept_left met parts now left) list
 
-pub both_rest : (base : Base) (member : ℕ → Bool) (met : ℕ → Option Kind) (parts : StructureSets) (hand : Hand) (frame : FrameHand) (c : Content) (after : Mem) → RunsBoth base member met parts hand frame c → Leaves c.memory after → RunsBoth base member met parts hand frame (record c { memory = after })
-both_rest base member met parts hand frame c after k left =
-    both_left base member met parts parts hand frame c after k (told_still c.memory after parts left k.ring.tells) (λ n on. refl) (λ n kind on. refl) refl
+pub rest_leaves_both : (base : Base) (member : ℕ → Bool) (met : ℕ → Option Kind) (parts : StructureSets) (hand : Hand) (frame : FrameHand) (c : Content) (after : Mem) → RunsBoth base member met parts hand frame c → Leaves c.memory after → RunsBoth base member met parts hand frame (record c { memory = after })
+rest_leaves_both base member met parts hand frame c after k left =
+    unmet_parts_leave_both base member met parts parts hand frame c after k (rest_is_told c.memory after parts left k.ring.tells) (λ n on. refl) (λ n kind on. refl) refl
 
 -- a table stays where nothing is in its place
 none_table : (o : Option Structure) (words : List ℕ) → o ≡ None → o ≡ Some (Table words) → ⊥
@@ -115,19 +115,22 @@ table_without parts n a b words other here =
     ∙ ap (λ (j : ℕ). parts j j) (sym owner))
     (λ (differs : b ≢ n). ap (λ (part : Structures). part b) (without_beside parts n a b differs)) (cases_eq b n)
 
-pub both_lent : (base : Base) (member : ℕ → Bool) (met : ℕ → Option Kind) (parts : StructureSets) (hand : Hand) (frame : FrameHand) (c : Content) (n a : ℕ) (s : Structure) (after : Mem) → RunsBoth base member met parts hand frame c → Leaves c.memory after → IsNew c.memory after a s → parts n a ≡ None → member n ≡ false → met n ≡ None → RunsBoth base member met (put parts n a s) hand frame (record c { memory = after })
-both_lent base member met parts hand frame c n a s after k left fresh none off unmet =
-    both_left base member met parts (put parts n a s) hand frame c after k (added c.memory after parts n a s k.ring.tells left fresh)
+pub lend_leaves_both : (base : Base) (member : ℕ → Bool) (met : ℕ → Option Kind) (parts : StructureSets) (hand : Hand) (frame : FrameHand) (c : Content) (n a : ℕ) (s : Structure) (after : Mem) → RunsBoth base member met parts hand frame c → Leaves c.memory after → IsNew c.memory after a s → parts n a ≡ None → member n ≡ false → met n ≡ None → RunsBoth base member met (put parts n a s) hand frame (record c { memory = after })
+lend_leaves_both base member met parts hand frame c n a s after k left fresh none off unmet =
+    unmet_parts_leave_both base member met parts (put parts n a s) hand frame c after k
+    (new_is_told c.memory after parts n a s k.ring.tells left fresh)
     (members_put member parts n a s off) (leaves_unmet met parts n a s unmet) (table_put parts n a s base.periodic_list_base k.list.words none k.list.here)
 
-pub both_joined : (base : Base) (member : ℕ → Bool) (met : ℕ → Option Kind) (parts : StructureSets) (hand : Hand) (frame : FrameHand) (c : Content) (n a : ℕ) (s : Structure) → RunsBoth base member met parts hand frame c → Holds c.memory a s → ((b k i : ℕ) (u : Structure) → Has a s b → parts k i ≡ Some u → Has i u b → ⊥) → parts n a ≡ None → member n ≡ false → met n ≡ None → RunsBoth base member met (put parts n a s) hand frame c
-both_joined base member met parts hand frame c n a s k holds apart none off unmet =
-    both_left base member met parts (put parts n a s) hand frame c c.memory k (joined c.memory parts n a s k.ring.tells holds apart)
+pub another_leaves_both : (base : Base) (member : ℕ → Bool) (met : ℕ → Option Kind) (parts : StructureSets) (hand : Hand) (frame : FrameHand) (c : Content) (n a : ℕ) (s : Structure) → RunsBoth base member met parts hand frame c → Holds c.memory a s → ((b k i : ℕ) (u : Structure) → Has a s b → parts k i ≡ Some u → Has i u b → ⊥) → parts n a ≡ None → member n ≡ false → met n ≡ None → RunsBoth base member met (put parts n a s) hand frame c
+another_leaves_both base member met parts hand frame c n a s k holds apart none off unmet =
+    unmet_parts_leave_both base member met parts (put parts n a s) hand frame c c.memory k
+    (another_is_told c.memory parts n a s k.ring.tells holds apart)
     (members_put member parts n a s off) (leaves_unmet met parts n a s unmet) (table_put parts n a s base.periodic_list_base k.list.words none k.list.here)
 
-pub both_stranger : (base : Base) (member : ℕ → Bool) (met : ℕ → Option Kind) (parts : StructureSets) (hand : Hand) (frame : FrameHand) (c : Content) (n a : ℕ) → RunsBoth base member met parts hand frame c → member n ≡ false → met n ≡ None → ((words : List ℕ) → parts n a ≡ Some (Table words) → ⊥) → RunsBoth base member met (without parts n a) hand frame c
-both_stranger base member met parts hand frame c n a k off unmet other =
-    both_left base member met parts (without parts n a) hand frame c c.memory k (removed c.memory parts n a k.ring.tells)
+pub strangers_leave_both : (base : Base) (member : ℕ → Bool) (met : ℕ → Option Kind) (parts : StructureSets) (hand : Hand) (frame : FrameHand) (c : Content) (n a : ℕ) → RunsBoth base member met parts hand frame c → member n ≡ false → met n ≡ None → ((words : List ℕ) → parts n a ≡ Some (Table words) → ⊥) → RunsBoth base member met (without parts n a) hand frame c
+strangers_leave_both base member met parts hand frame c n a k off unmet other =
+    unmet_parts_leave_both base member met parts (without parts n a) hand frame c c.memory k
+    (fewer_are_told c.memory parts n a k.ring.tells)
     (members_without member parts n a off) (leaves_without met parts n a unmet) (table_without parts n a base.periodic_list_base k.list.words other k.list.here)
 
 -- ---- stores
@@ -140,12 +143,12 @@ list_apart : (parts : StructureSets) (b n : ℕ) (s : Structure) (words : List �
 list_apart parts b n s words table here has same =
     no_table s words has (same_Some s (Table words) (sym here ∙ ap (λ (j : ℕ). parts j j) (sym same) ∙ table))
 
-pub both_link_stored : (base : Base) (member : ℕ → Bool) (met : ℕ → Option Kind) (parts : StructureSets) (hand : Hand) (frame : FrameHand) (c : Content) (n : ℕ) (s : Structure) (l : LinkBits) → RunsBoth base member met parts hand frame c → parts n n ≡ Some s → HasLink s → IsWordInRange link_rows l → member n ≡ false → ((kind : Kind) → met n ≡ Some kind → LeadsTo met (link_of l)) → RunsBoth base member met (put parts n n (linked l s)) hand (frame_linked n l frame) (record c { memory = with_word c.memory n (word_of link_rows l) })
-both_link_stored base member met parts hand frame c n s l k here has range off link =
+pub link_store_leaves_both : (base : Base) (member : ℕ → Bool) (met : ℕ → Option Kind) (parts : StructureSets) (hand : Hand) (frame : FrameHand) (c : Content) (n : ℕ) (s : Structure) (l : LinkBits) → RunsBoth base member met parts hand frame c → parts n n ≡ Some s → HasLink s → IsWordInRange link_rows l → member n ≡ false → ((kind : Kind) → met n ≡ Some kind → LeadsTo met (link_of l)) → RunsBoth base member met (put parts n n (linked l s)) hand (frame_linked n l frame) (record c { memory = with_word c.memory n (word_of link_rows l) })
+link_store_leaves_both base member met parts hand frame c n s l k here has range off link =
     let now : StructureSets = put parts n n (linked l s) in
     let after : Mem = with_word c.memory n (word_of link_rows l) in
     record {
-      ring = ring_beside base member parts now hand (walk_place c) after k.ring (link_told c.memory parts n n s l k.ring.tells here has range) (members_put member parts n n (linked l s) off);
+      ring = other_owners_leave_ring base member parts now hand (walk_place c) after k.ring (link_told c.memory parts n n s l k.ring.tells here has range) (members_put member parts n n (linked l s) off);
       between = k.between;
       list = record {
         words = k.list.words;
@@ -155,15 +158,15 @@ both_link_stored base member met parts hand frame c n s l k here has range off l
       elements = k.elements;
       members = all_met_linked met parts n s l here link k.members;
       apart = k.apart;
-      walk = λ part. (frame_link_stored met parts frame (frame_place c) n s l (frame_at base member met parts hand frame c k part) here has range link).walk;
+      walk = λ part. (link_store_leaves_frame met parts frame (frame_place c) n s l (frame_at base member met parts hand frame c k part) here has range link).walk;
       outside = λ part. ap (frame_linked n l) (k.outside part);
     }
 
-pub both_word_stored : (base : Base) (member : ℕ → Bool) (met : ℕ → Option Kind) (parts : StructureSets) (hand : Hand) (frame : FrameHand) (c : Content) (n : ℕ) (s : Structure) (v : ℕ) → RunsBoth base member met parts hand frame c → parts n n ≡ Some s → HasLink s → IsLinkWord v → member n ≡ false → ((kind : Kind) → met n ≡ Some kind → LeadsTo met (link_read v)) → RunsBoth base member met (put parts n n (linked (link_fields (link_read v)) s)) hand (frame_linked n (link_fields (link_read v)) frame) (record c { memory = with_word c.memory n v })
-both_word_stored base member met parts hand frame c n s v k here has is off link =
+pub link_word_leaves_both : (base : Base) (member : ℕ → Bool) (met : ℕ → Option Kind) (parts : StructureSets) (hand : Hand) (frame : FrameHand) (c : Content) (n : ℕ) (s : Structure) (v : ℕ) → RunsBoth base member met parts hand frame c → parts n n ≡ Some s → HasLink s → IsLinkWord v → member n ≡ false → ((kind : Kind) → met n ≡ Some kind → LeadsTo met (link_read v)) → RunsBoth base member met (put parts n n (linked (link_fields (link_read v)) s)) hand (frame_linked n (link_fields (link_read v)) frame) (record c { memory = with_word c.memory n v })
+link_word_leaves_both base member met parts hand frame c n s v k here has is off link =
     let l : LinkBits = link_fields (link_read v) in
     subst (λ (w : ℕ). RunsBoth base member met (put parts n n (linked l s)) hand (frame_linked n l frame) (record c { memory = with_word c.memory n w })) (fields_word v is)
-    (both_link_stored base member met parts hand frame c n s l k here has (fields_range v) off (λ kind on. fields_lead met v (link kind on)))
+    (link_store_leaves_both base member met parts hand frame c n s l k here has (fields_range v) off (λ kind on. fields_lead met v (link kind on)))
 
 -- an element of the frame list
 head_no_table : (o : Option Structure) (q : Qh) (words : List ℕ) → o ≡ Some (QueueHead q) → o ≡ Some (Table words) → ⊥
@@ -195,8 +198,8 @@ same_words base parts one other = ap words_in_table (same_Some (Table one.words)
 listed_elements : (base : Base) (met : ℕ → Option Kind) (parts : StructureSets) → (one other : FrameList parts base) → LeadToMet met one.words → LeadToMet met other.words
 listed_elements base met parts one other elements = subst (LeadToMet met) (same_words base parts one other) elements
 
-pub both_list_stored : (base : Base) (member : ℕ → Bool) (met : ℕ → Option Kind) (parts : StructureSets) (hand : Hand) (frame : FrameHand) (c : Content) (k v : ℕ) → RunsBoth base member met parts hand frame c → (list : FrameList parts base) → k < 1024 → LeadsTo met (link_read v) → RunsBoth base member met (put parts base.periodic_list_base base.periodic_list_base (Table (set list.words k v))) hand frame (record c { memory = with_word c.memory (base.periodic_list_base + 4 * k) v })
-both_list_stored base member met parts hand frame c k v runs list low leads =
+pub list_store_leaves_both : (base : Base) (member : ℕ → Bool) (met : ℕ → Option Kind) (parts : StructureSets) (hand : Hand) (frame : FrameHand) (c : Content) (k v : ℕ) → RunsBoth base member met parts hand frame c → (list : FrameList parts base) → k < 1024 → LeadsTo met (link_read v) → RunsBoth base member met (put parts base.periodic_list_base base.periodic_list_base (Table (set list.words k v))) hand frame (record c { memory = with_word c.memory (base.periodic_list_base + 4 * k) v })
+list_store_leaves_both base member met parts hand frame c k v runs list low leads =
     let b : ℕ = base.periodic_list_base in
     let words : List ℕ = list.words in
     let new : Structure = Table (set words k v) in
@@ -207,26 +210,26 @@ both_list_stored base member met parts hand frame c k v runs list low leads =
     let told : Tells after now = word_put_table c.memory parts b b words k v runs.ring.tells list.here below in
     let left : LeavesMet met parts now = leaves_put met parts b b new (λ kind on. table_unmet met parts b words kind runs.members list.here on) in
     record {
-      ring = ring_beside base member parts now hand (walk_place c) after runs.ring told (table_members member parts b words new runs.ring.members list.here);
+      ring = other_owners_leave_ring base member parts now hand (walk_place c) after runs.ring told (table_members member parts b words new runs.ring.members list.here);
       between = runs.between;
       list = record { words = set words k v; here = put_same parts b b new; size = length-set words k v ∙ size };
       elements = element_stored met words k v below leads (listed_elements base met parts runs.list list runs.elements);
       members = met_left met parts now left runs.members;
       apart = runs.apart;
-      walk = λ part. (frame_left met parts now frame (frame_place c) after (frame_at base member met parts hand frame c runs part) told left).walk;
+      walk = λ part. (unmet_parts_leave_frame met parts now frame (frame_place c) after (frame_at base member met parts hand frame c runs part) told left).walk;
       outside = runs.outside;
     }
 
 -- what leaves the ring leaves the frames beside it
-pub both_ring_stored : (base : Base) (member wider : ℕ → Bool) (met : ℕ → Option Kind) (parts now : StructureSets) (hand later : Hand) (frame : FrameHand) (c : Content) (after : Mem) → RunsBoth base member met parts hand frame c → IsRing base wider now later (record (walk_place c) { memory = after }) → (hand ≡ Empty → later ≡ Empty) → AreApart wider met → LeavesMet met parts now → now base.periodic_list_base ≡ parts base.periodic_list_base → RunsBoth base wider met now later frame (record c { memory = after })
-both_ring_stored base member wider met parts now hand later frame c after k ring quiet apart left list = record {
+pub ring_store_leaves_both : (base : Base) (member wider : ℕ → Bool) (met : ℕ → Option Kind) (parts now : StructureSets) (hand later : Hand) (frame : FrameHand) (c : Content) (after : Mem) → RunsBoth base member met parts hand frame c → IsRing base wider now later (record (walk_place c) { memory = after }) → (hand ≡ Empty → later ≡ Empty) → AreApart wider met → LeavesMet met parts now → now base.periodic_list_base ≡ parts base.periodic_list_base → RunsBoth base wider met now later frame (record c { memory = after })
+ring_store_leaves_both base member wider met parts now hand later frame c after k ring quiet apart left list = record {
   ring = ring;
   between = λ part. quiet (k.between part);
   list = record { words = k.list.words; here = ap (λ (part : Structures). part base.periodic_list_base) list ∙ k.list.here; size = k.list.size };
   elements = k.elements;
   members = met_left met parts now left k.members;
   apart = apart;
-  walk = λ part. (frame_left met parts now frame (frame_place c) after (frame_at base member met parts hand frame c k part) ring.tells left).walk;
+  walk = λ part. (unmet_parts_leave_frame met parts now frame (frame_place c) after (frame_at base member met parts hand frame c k part) ring.tells left).walk;
   outside = k.outside;
 }
 
@@ -239,33 +242,33 @@ apart_at : (member : ℕ → Bool) (met wider : ℕ → Option Kind) (parts : St
 apart_at member met wider parts n kind None comes apart on is = (comes n kind on is).0
 apart_at member met wider parts n kind (Some k) comes apart on is = apart n k is
 
-pub both_further : (base : Base) (member : ℕ → Bool) (met wider : ℕ → Option Kind) (parts : StructureSets) (hand : Hand) (frame : FrameHand) (c : Content) → RunsBoth base member met parts hand frame c → IsMetFurther met wider → ((n : ℕ) (kind : Kind) → wider n ≡ Some kind → met n ≡ None → (member n ≡ false) × IsMetAs wider n (parts n) kind) → RunsBoth base member wider parts hand frame c
-both_further base member met wider parts hand frame c k more comes = record {
+pub more_are_met_beside_ring : (base : Base) (member : ℕ → Bool) (met wider : ℕ → Option Kind) (parts : StructureSets) (hand : Hand) (frame : FrameHand) (c : Content) → RunsBoth base member met parts hand frame c → IsMetFurther met wider → ((n : ℕ) (kind : Kind) → wider n ≡ Some kind → met n ≡ None → (member n ≡ false) × IsMetAs wider n (parts n) kind) → RunsBoth base member wider parts hand frame c
+more_are_met_beside_ring base member met wider parts hand frame c k more comes = record {
   ring = k.ring;
   between = k.between;
   list = k.list;
   elements = λ i below. leads_further met wider (link_read (slice_index k.list.words i)) more (k.elements i below);
   members = all_met_further met wider parts more (λ n kind on none. (comes n kind on none).1) k.members;
   apart = λ n kind on. apart_at member met wider parts n kind (met n) comes k.apart on refl;
-  walk = λ part. (frame_further met wider parts frame (frame_place c) (frame_at base member met parts hand frame c k part) more (λ n kind on none. (comes n kind on none).1)).walk;
+  walk = λ part. (more_are_met met wider parts frame (frame_place c) (frame_at base member met parts hand frame c k part) more (λ n kind on none. (comes n kind on none).1)).walk;
   outside = k.outside;
 }
 
-pub both_narrowed : (base : Base) (member : ℕ → Bool) (met narrow : ℕ → Option Kind) (parts : StructureSets) (hand : Hand) (frame : FrameHand) (c : Content) → RunsBoth base member met parts hand frame c → IsMetFurther narrow met → AreMetAmong narrow parts → (list : FrameList parts base) → LeadToMet narrow list.words → (c.control.part ≡ Periodic → IsFrameAmong narrow frame (frame_place c)) → RunsBoth base member narrow parts hand frame c
-both_narrowed base member met narrow parts hand frame c k fewer closed list elements among = record {
+pub fewer_are_met_both : (base : Base) (member : ℕ → Bool) (met narrow : ℕ → Option Kind) (parts : StructureSets) (hand : Hand) (frame : FrameHand) (c : Content) → RunsBoth base member met parts hand frame c → IsMetFurther narrow met → AreMetAmong narrow parts → (list : FrameList parts base) → LeadToMet narrow list.words → (c.control.part ≡ Periodic → IsFrameAmong narrow frame (frame_place c)) → RunsBoth base member narrow parts hand frame c
+fewer_are_met_both base member met narrow parts hand frame c k fewer closed list elements among = record {
   ring = k.ring;
   between = k.between;
   list = list;
   elements = elements;
   members = all_met_among met narrow parts fewer closed k.members;
   apart = λ n kind on. k.apart n kind (fewer n kind on);
-  walk = λ part. (frame_narrowed met narrow parts frame (frame_place c) (frame_at base member met parts hand frame c k part) fewer closed (among part)).walk;
+  walk = λ part. (fewer_are_met met narrow parts frame (frame_place c) (frame_at base member met parts hand frame c k part) fewer closed (among part)).walk;
   outside = k.outside;
 }
 
-pub both_narrowed_outside : (base : Base) (member : ℕ → Bool) (met narrow : ℕ → Option Kind) (parts : StructureSets) (hand : Hand) (frame : FrameHand) (c : Content) → RunsBoth base member met parts hand frame c → c.control.part ≢ Periodic → IsMetFurther narrow met → AreMetAmong narrow parts → (list : FrameList parts base) → LeadToMet narrow list.words → RunsBoth base member narrow parts hand frame c
-both_narrowed_outside base member met narrow parts hand frame c k outside fewer closed list elements =
-    both_narrowed base member met narrow parts hand frame c k fewer closed list elements (λ part. absurd (outside part))
+pub fewer_are_met_outside : (base : Base) (member : ℕ → Bool) (met narrow : ℕ → Option Kind) (parts : StructureSets) (hand : Hand) (frame : FrameHand) (c : Content) → RunsBoth base member met parts hand frame c → c.control.part ≢ Periodic → IsMetFurther narrow met → AreMetAmong narrow parts → (list : FrameList parts base) → LeadToMet narrow list.words → RunsBoth base member narrow parts hand frame c
+fewer_are_met_outside base member met narrow parts hand frame c k outside fewer closed list elements =
+    fewer_are_met_both base member met narrow parts hand frame c k fewer closed list elements (λ part. absurd (outside part))
 
 -- ---- a microframe begins
 
@@ -313,9 +316,9 @@ begun_at_element base narrow parts c told is list elements =
     let word : word_at c.memory (element_address (stepped c).registers) ≡ slice_index list.words i = ap (word_at c.memory) (element_at base c is) ∙ word_there c.memory base parts i told list low in
     subst (λ (w : ℕ). LeadsTo narrow (link_read w)) (sym word) (elements i low)
 
-pub begin_among : (base : Base) (narrow : ℕ → Option Kind) (parts : StructureSets) (c : Content) (allowed : Bool) → Tells c.memory parts → base_of c.registers ≡ base → (list : FrameList parts base) → LeadToMet narrow list.words → IsFrameAmong narrow Nothing (frame_place (began allowed c))
+pub begin_is_at_element : (base : Base) (narrow : ℕ → Option Kind) (parts : StructureSets) (c : Content) (allowed : Bool) → Tells c.memory parts → base_of c.registers ≡ base → (list : FrameList parts base) → LeadToMet narrow list.words → IsFrameAmong narrow Nothing (frame_place (began allowed c))
 unfolding begun_content
-begin_among base narrow parts c allowed told is list elements =
+begin_is_at_element base narrow parts c allowed told is list elements =
     subst (λ (x : Content). IsFrameAmong narrow Nothing (frame_place x)) (sym (began_is base parts c allowed told is list))
     (record { cursor = begun_at_element base narrow parts c told is list elements; in_hand = tt })
 
@@ -340,8 +343,8 @@ begun_both base member met parts hand c allowed ring nothing list elements membe
   outside = λ part. refl;
 }
 
-pub begin_narrowed : (base : Base) (member : ℕ → Bool) (met narrow : ℕ → Option Kind) (parts : StructureSets) (hand : Hand) (frame : FrameHand) (c : Content) (allowed : Bool) → RunsBoth base member met parts hand frame c → c.control.part ≡ Over → IsMetFurther narrow met → AreMetAmong narrow parts → (list : FrameList parts base) → LeadToMet narrow list.words → RunsBoth base member narrow parts hand Nothing (began allowed c)
-begin_narrowed base member met narrow parts hand frame c allowed runs over fewer closed list elements =
-    let k : RunsBoth base member narrow parts hand frame c = both_narrowed_outside base member met narrow parts hand frame c runs (λ part. over_not_periodic (sym over ∙ part)) fewer closed list elements in
+pub begin_meets_fewer : (base : Base) (member : ℕ → Bool) (met narrow : ℕ → Option Kind) (parts : StructureSets) (hand : Hand) (frame : FrameHand) (c : Content) (allowed : Bool) → RunsBoth base member met parts hand frame c → c.control.part ≡ Over → IsMetFurther narrow met → AreMetAmong narrow parts → (list : FrameList parts base) → LeadToMet narrow list.words → RunsBoth base member narrow parts hand Nothing (began allowed c)
+begin_meets_fewer base member met narrow parts hand frame c allowed runs over fewer closed list elements =
+    let k : RunsBoth base member narrow parts hand frame c = fewer_are_met_outside base member met narrow parts hand frame c runs (λ part. over_not_periodic (sym over ∙ part)) fewer closed list elements in
     subst (RunsBoth base member narrow parts hand Nothing) (sym (began_is base parts c allowed runs.ring.tells runs.ring.registers list))
     (begun_both base member narrow parts hand c allowed k.ring (runs.between (λ part. over_not_asynchronous (sym over ∙ part))) list elements k.members k.apart)

@@ -11,7 +11,7 @@ use Rattle.periodic_walk.specs.Place.{FramePlace}
 use Rattle.law_structures.specs.lent_structures.Structures.{Structure, QueueHead, Element, Table, Isochronous, SplitIsochronous, Structures, StructureSets, with_structure, put, without_structure, without, Holds, Has, Tells}
 use Rattle.law_structures.specs.lent_structures.Changes.{Leaves, IsNew}
 use Rattle.law_structures.proofs.lemmas.lent_structures.Names.{put_beside, put_else, without_here, without_beside, without_else}
-use Rattle.law_structures.proofs.lemmas.lent_structures.Telling.{added, joined, removed}
+use Rattle.law_structures.proofs.lemmas.lent_structures.Telling.{new_is_told, another_is_told, fewer_are_told}
 use Rattle.law_structures.proofs.lemmas.lent_structures.Writing.{word_put_table}
 use Rattle.law_frames.specs.Met.{Kind, AQueue, AnItd, ASitd, LeadsTo, IsMetAs}
 use Rattle.law_frames.specs.FrameHand.{FrameHand, Nothing, OfQueue, OfSettled, OfItd, OfSitd}
@@ -41,8 +41,8 @@ in_hand_kept met parts now got reply (OfItd c) keeps k = record {
 in_hand_kept met parts now got reply (OfSitd c) keeps k =
     record { on = k.on; here = keeps c.held.at ASitd k.on ∙ k.here; link = k.link; range = k.range; turn = k.turn }
 
-pub frame_retold : (met : ℕ → Option Kind) (parts now : StructureSets) (hand : FrameHand) (p : FramePlace) (after : Mem) → IsFrame met parts hand p → Tells after now → AreMet met now → KeepsMet met parts now → IsFrame met now hand (record p { memory = after })
-frame_retold met parts now hand p after k told members keeps = record {
+pub other_parts_leave_frame : (met : ℕ → Option Kind) (parts now : StructureSets) (hand : FrameHand) (p : FramePlace) (after : Mem) → IsFrame met parts hand p → Tells after now → AreMet met now → KeepsMet met parts now → IsFrame met now hand (record p { memory = after })
+other_parts_leave_frame met parts now hand p after k told members keeps = record {
   tells = told;
   members = members;
   walk = record { cursor = k.walk.cursor; held = k.walk.held; in_hand = in_hand_kept met parts now p.walk.got p.walk.reply hand keeps k.walk.in_hand };
@@ -54,9 +54,9 @@ met_left met parts now stays members n kind on = subst (λ (part : Structures). 
 pub kept_left : (met : ℕ → Option Kind) (parts now : StructureSets) → LeavesMet met parts now → KeepsMet met parts now
 kept_left met parts now stays n kind on = ap (λ (part : Structures). part n) (stays n kind on)
 
-pub frame_left : (met : ℕ → Option Kind) (parts now : StructureSets) (hand : FrameHand) (p : FramePlace) (after : Mem) → IsFrame met parts hand p → Tells after now → LeavesMet met parts now → IsFrame met now hand (record p { memory = after })
-frame_left met parts now hand p after k told stays =
-    frame_retold met parts now hand p after k told (met_left met parts now stays k.members) (kept_left met parts now stays)
+pub unmet_parts_leave_frame : (met : ℕ → Option Kind) (parts now : StructureSets) (hand : FrameHand) (p : FramePlace) (after : Mem) → IsFrame met parts hand p → Tells after now → LeavesMet met parts now → IsFrame met now hand (record p { memory = after })
+unmet_parts_leave_frame met parts now hand p after k told stays =
+    other_parts_leave_frame met parts now hand p after k told (met_left met parts now stays k.members) (kept_left met parts now stays)
 
 -- ---- structures come and go
 
@@ -92,19 +92,19 @@ keeps_without met parts n a apart i kind on =
     ap (λ (j : ℕ). without parts n a j j) owner ∙ without_else parts n a n (apart kind (ap met (sym owner) ∙ on)) ∙ ap (λ (j : ℕ). parts j j) (sym owner))
     (λ (differs : i ≢ n). ap (λ (part : Structures). part i) (without_beside parts n a i differs)) (cases_eq i n)
 
-pub frame_lent : (met : ℕ → Option Kind) (parts : StructureSets) (hand : FrameHand) (p : FramePlace) (n a : ℕ) (s : Structure) (after : Mem) → IsFrame met parts hand p → Leaves p.memory after → IsNew p.memory after a s → parts n a ≡ None → ((kind : Kind) → met n ≡ Some kind → IsMetAs met n (with_structure (parts n) a s) kind) → IsFrame met (put parts n a s) hand (record p { memory = after })
-frame_lent met parts hand p n a s after k left fresh none owes =
-    frame_retold met parts (put parts n a s) hand p after k (added p.memory after parts n a s k.tells left fresh) (met_put met parts n a s owes k.members)
+pub lend_leaves_frame : (met : ℕ → Option Kind) (parts : StructureSets) (hand : FrameHand) (p : FramePlace) (n a : ℕ) (s : Structure) (after : Mem) → IsFrame met parts hand p → Leaves p.memory after → IsNew p.memory after a s → parts n a ≡ None → ((kind : Kind) → met n ≡ Some kind → IsMetAs met n (with_structure (parts n) a s) kind) → IsFrame met (put parts n a s) hand (record p { memory = after })
+lend_leaves_frame met parts hand p n a s after k left fresh none owes =
+    other_parts_leave_frame met parts (put parts n a s) hand p after k (new_is_told p.memory after parts n a s k.tells left fresh) (met_put met parts n a s owes k.members)
     (keeps_put met parts n a s (λ kind on. apart_from_none met parts n a kind k.members on none))
 
-pub frame_joined : (met : ℕ → Option Kind) (parts : StructureSets) (hand : FrameHand) (p : FramePlace) (n a : ℕ) (s : Structure) → IsFrame met parts hand p → Holds p.memory a s → ((b k c : ℕ) (u : Structure) → Has a s b → parts k c ≡ Some u → Has c u b → ⊥) → parts n a ≡ None → ((kind : Kind) → met n ≡ Some kind → IsMetAs met n (with_structure (parts n) a s) kind) → IsFrame met (put parts n a s) hand p
-frame_joined met parts hand p n a s k holds apart none owes =
-    frame_retold met parts (put parts n a s) hand p p.memory k (joined p.memory parts n a s k.tells holds apart) (met_put met parts n a s owes k.members)
+pub another_leaves_frame : (met : ℕ → Option Kind) (parts : StructureSets) (hand : FrameHand) (p : FramePlace) (n a : ℕ) (s : Structure) → IsFrame met parts hand p → Holds p.memory a s → ((b k c : ℕ) (u : Structure) → Has a s b → parts k c ≡ Some u → Has c u b → ⊥) → parts n a ≡ None → ((kind : Kind) → met n ≡ Some kind → IsMetAs met n (with_structure (parts n) a s) kind) → IsFrame met (put parts n a s) hand p
+another_leaves_frame met parts hand p n a s k holds apart none owes =
+    other_parts_leave_frame met parts (put parts n a s) hand p p.memory k (another_is_told p.memory parts n a s k.tells holds apart) (met_put met parts n a s owes k.members)
     (keeps_put met parts n a s (λ kind on. apart_from_none met parts n a kind k.members on none))
 
-pub frame_fewer : (met : ℕ → Option Kind) (parts : StructureSets) (hand : FrameHand) (p : FramePlace) (n a : ℕ) → IsFrame met parts hand p → ((kind : Kind) → met n ≡ Some kind → (n ≢ a) × IsMetAs met n (without_structure (parts n) a) kind) → IsFrame met (without parts n a) hand p
-frame_fewer met parts hand p n a k owes =
-    frame_retold met parts (without parts n a) hand p p.memory k (removed p.memory parts n a k.tells)
+pub fewer_leave_frame : (met : ℕ → Option Kind) (parts : StructureSets) (hand : FrameHand) (p : FramePlace) (n a : ℕ) → IsFrame met parts hand p → ((kind : Kind) → met n ≡ Some kind → (n ≢ a) × IsMetAs met n (without_structure (parts n) a) kind) → IsFrame met (without parts n a) hand p
+fewer_leave_frame met parts hand p n a k owes =
+    other_parts_leave_frame met parts (without parts n a) hand p p.memory k (fewer_are_told p.memory parts n a k.tells)
     (met_but_one met parts (without parts n a) n (without_beside parts n a)
     (λ kind on. subst (λ (part : Structures). IsMetAs met n part kind) (sym (without_here parts n a)) (owes kind on).1) k.members)
     (keeps_without met parts n a (λ kind on. (owes kind on).0))
@@ -112,8 +112,9 @@ frame_fewer met parts hand p n a k owes =
 unmet : (o : Option Kind) (kind : Kind) → o ≡ None → o ≡ Some kind → ⊥
 unmet o kind none some = cc
 
-pub frame_stranger : (met : ℕ → Option Kind) (parts : StructureSets) (hand : FrameHand) (p : FramePlace) (n a : ℕ) → IsFrame met parts hand p → met n ≡ None → IsFrame met (without parts n a) hand p
-frame_stranger met parts hand p n a k none = frame_fewer met parts hand p n a k (λ kind on. absurd (unmet (met n) kind none on))
+pub strangers_leave_frame : (met : ℕ → Option Kind) (parts : StructureSets) (hand : FrameHand) (p : FramePlace) (n a : ℕ) → IsFrame met parts hand p → met n ≡ None → IsFrame met (without parts n a) hand p
+strangers_leave_frame met parts hand p n a k none =
+    fewer_leave_frame met parts hand p n a k (λ kind on. absurd (unmet (met n) kind none on))
 
 pub leaves_put : (met : ℕ → Option Kind) (parts : StructureSets) (n a : ℕ) (s : Structure) → ((kind : Kind) → met n ≡ Some kind → ⊥) → LeavesMet met parts (put parts n a s)
 leaves_put met parts n a s none i kind on = put_beside parts n a s i (λ same. none kind (ap met (sym same) ∙ on))
@@ -134,9 +135,9 @@ table_unmet met parts n words kind members here on =
     let is = there met n (parts n) kind (members n kind on) in
     is.no_table words (two_there (parts n n) is.structure (Table words) is.here here)
 
-pub frame_table_stored : (met : ℕ → Option Kind) (parts : StructureSets) (hand : FrameHand) (p : FramePlace) (n : ℕ) (words : List ℕ) (k v : ℕ) → IsFrame met parts hand p → parts n n ≡ Some (Table words) → k < length words → IsFrame met (put parts n n (Table (set words k v))) hand (record p { memory = with_word p.memory (n + 4 * k) v })
-frame_table_stored met parts hand p n words k v frame here below =
-    frame_left met parts (put parts n n (Table (set words k v))) hand p (with_word p.memory (n + 4 * k) v) frame
+pub table_store_leaves_frame : (met : ℕ → Option Kind) (parts : StructureSets) (hand : FrameHand) (p : FramePlace) (n : ℕ) (words : List ℕ) (k v : ℕ) → IsFrame met parts hand p → parts n n ≡ Some (Table words) → k < length words → IsFrame met (put parts n n (Table (set words k v))) hand (record p { memory = with_word p.memory (n + 4 * k) v })
+table_store_leaves_frame met parts hand p n words k v frame here below =
+    unmet_parts_leave_frame met parts (put parts n n (Table (set words k v))) hand p (with_word p.memory (n + 4 * k) v) frame
     (word_put_table p.memory parts n n words k v frame.tells here below)
     (leaves_put met parts n n (Table (set words k v)) (λ kind on. table_unmet met parts n words kind frame.members here on))
 
@@ -186,8 +187,8 @@ in_hand_further met wider parts got reply (OfItd c) more k = record {
 in_hand_further met wider parts got reply (OfSitd c) more k =
     record { on = more c.held.at ASitd k.on; here = k.here; link = leads_further met wider _ more k.link; range = k.range; turn = k.turn }
 
-pub frame_further : (met wider : ℕ → Option Kind) (parts : StructureSets) (hand : FrameHand) (p : FramePlace) → IsFrame met parts hand p → IsMetFurther met wider → ((n : ℕ) (kind : Kind) → wider n ≡ Some kind → met n ≡ None → IsMetAs wider n (parts n) kind) → IsFrame wider parts hand p
-frame_further met wider parts hand p k more comes = record {
+pub more_are_met : (met wider : ℕ → Option Kind) (parts : StructureSets) (hand : FrameHand) (p : FramePlace) → IsFrame met parts hand p → IsMetFurther met wider → ((n : ℕ) (kind : Kind) → wider n ≡ Some kind → met n ≡ None → IsMetAs wider n (parts n) kind) → IsFrame wider parts hand p
+more_are_met met wider parts hand p k more comes = record {
   tells = k.tells;
   members = all_met_further met wider parts more comes k.members;
   walk = record {
@@ -225,8 +226,8 @@ in_hand_among met narrow parts got reply (OfItd c) among k = record {
 }
 in_hand_among met narrow parts got reply (OfSitd c) among k = record { on = among.0; here = k.here; link = among.1; range = k.range; turn = k.turn }
 
-pub frame_narrowed : (met narrow : ℕ → Option Kind) (parts : StructureSets) (hand : FrameHand) (p : FramePlace) → IsFrame met parts hand p → IsMetFurther narrow met → AreMetAmong narrow parts → IsFrameAmong narrow hand p → IsFrame narrow parts hand p
-frame_narrowed met narrow parts hand p k fewer closed among = record {
+pub fewer_are_met : (met narrow : ℕ → Option Kind) (parts : StructureSets) (hand : FrameHand) (p : FramePlace) → IsFrame met parts hand p → IsMetFurther narrow met → AreMetAmong narrow parts → IsFrameAmong narrow hand p → IsFrame narrow parts hand p
+fewer_are_met met narrow parts hand p k fewer closed among = record {
   tells = k.tells;
   members = all_met_among met narrow parts fewer closed k.members;
   walk = record { cursor = among.cursor; held = k.walk.held; in_hand = in_hand_among met narrow parts p.walk.got p.walk.reply hand among.in_hand k.walk.in_hand };

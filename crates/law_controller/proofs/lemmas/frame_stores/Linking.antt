@@ -34,7 +34,7 @@ use Rattle.law_structures.proofs.lemmas.lent_structures.Names.{names_differ, wit
 use Rattle.law_structures.proofs.lemmas.lent_structures.Writing.{word_put_queue, word_put_isochronous, word_put_split}
 use Rattle.law_structures.specs.lent_structures.Sound.{IsSoundQueue}
 use Rattle.law_structures.specs.lent_structures.Alters.{Alters}
-use Rattle.law_structures.proofs.lemmas.lent_structures.Altering.{no_two, head_put}
+use Rattle.law_structures.proofs.lemmas.lent_structures.Altering.{no_two, a_queue_head_alters_nothing}
 use Rattle.law_structures.proofs.lemmas.lent_structures.Members.{leads_still}
 use Rattle.law_ring.specs.Hand.{Copy, Settlement}
 use Rattle.law_ring.specs.Ring.{IsSettled}
@@ -43,7 +43,7 @@ use Rattle.law_ring.proofs.Driving.{copied_same}
 use Rattle.law_frames.specs.Met.{Kind, AQueue, AnItd, ASitd, LeadsTo, IsBuffered, IsMetQueue, IsMetItd, IsMetSitd, IsMetAs}
 use Rattle.law_frames.specs.FrameHand.{QueueSettlement, came, ItdCopy, SitdCopy, FrameHand, Nothing, OfQueue, OfSettled, OfItd, OfSitd, frame_held}
 use Rattle.law_frames.specs.Frame.{HasSameExtent, IsQueueSettled, IsCopiedQueue, IsCopiedItd, IsCopiedSitd, IsTurned, IsInFrame, IsFrame}
-use Rattle.law_frames.proofs.Queues.{queue_still}
+use Rattle.law_frames.proofs.Queues.{an_altered_queue_part_is_sound}
 use Rattle.law_controller.specs.frame_control.Both.{AreMet}
 use Rattle.law_controller.specs.frame_stores.Stores.{HasLink, link_in, linked, itd_linked, sitd_linked, frame_linked}
 
@@ -98,10 +98,10 @@ queue_linked met n part l m link =
     let q : Qh = m.part_is.queue in
     let new : Qh = record q { link = l } in
     let now : Structures = with_structure part n (QueueHead new) in
-    let alters : Alters part now = head_put part n q new m.part_is.here in
+    let alters : Alters part now = a_queue_head_alters_nothing part n q new m.part_is.here in
     let sound : IsSoundQueue now new = relinked_sound now q l (sound_still part now q alters
     (λ a t here. with_there part n (QueueHead new) a (no_two part a n (Element t) (QueueHead q) here m.part_is.here (λ e. cc)) ∙ here) m.part_is.sound) in
-    let still = queue_still n part now new m.part_is alters (with_here part n (QueueHead new)) sound in
+    let still = an_altered_queue_part_is_sound n part now new m.part_is alters (with_here part n (QueueHead new)) sound in
     record {
       part_is = record { queue = new; here = with_here part n (QueueHead new); sound = sound; elements = still.elements; own = still.own };
       link = link;
@@ -249,8 +249,8 @@ held_linked n l _ = refl
 
 -- ---- the whole
 
-pub frame_link_stored : (met : ℕ → Option Kind) (parts : StructureSets) (hand : FrameHand) (p : FramePlace) (n : ℕ) (s : Structure) (l : LinkBits) → IsFrame met parts hand p → parts n n ≡ Some s → HasLink s → IsWordInRange link_rows l → ((kind : Kind) → met n ≡ Some kind → LeadsTo met (link_of l)) → IsFrame met (put parts n n (linked l s)) (frame_linked n l hand) (record p { memory = with_word p.memory n (word_of link_rows l) })
-frame_link_stored met parts hand p n s l k here has range link = record {
+pub link_store_leaves_frame : (met : ℕ → Option Kind) (parts : StructureSets) (hand : FrameHand) (p : FramePlace) (n : ℕ) (s : Structure) (l : LinkBits) → IsFrame met parts hand p → parts n n ≡ Some s → HasLink s → IsWordInRange link_rows l → ((kind : Kind) → met n ≡ Some kind → LeadsTo met (link_of l)) → IsFrame met (put parts n n (linked l s)) (frame_linked n l hand) (record p { memory = with_word p.memory n (word_of link_rows l) })
+link_store_leaves_frame met parts hand p n s l k here has range link = record {
   tells = link_told p.memory parts n n s l k.tells here has range;
   members = all_met_linked met parts n s l here link k.members;
   walk = record {
@@ -289,14 +289,14 @@ fields_word v is = word_of-fields (link_read v) ∙ link_word-read v is
 pub fields_lead : (met : ℕ → Option Kind) (v : ℕ) → LeadsTo met (link_read v) → LeadsTo met (link_of (link_fields (link_read v)))
 fields_lead met v leads = subst (LeadsTo met) (sym (link_of-fields (link_read v))) leads
 
-pub frame_word_stored : (met : ℕ → Option Kind) (parts : StructureSets) (hand : FrameHand) (p : FramePlace) (n : ℕ) (s : Structure) (v : ℕ) → IsFrame met parts hand p → parts n n ≡ Some s → HasLink s → IsLinkWord v → ((kind : Kind) → met n ≡ Some kind → LeadsTo met (link_read v)) → IsFrame met (put parts n n (linked (link_fields (link_read v)) s)) (frame_linked n (link_fields (link_read v)) hand) (record p { memory = with_word p.memory n v })
-frame_word_stored met parts hand p n s v k here has is link =
+pub link_word_leaves_frame : (met : ℕ → Option Kind) (parts : StructureSets) (hand : FrameHand) (p : FramePlace) (n : ℕ) (s : Structure) (v : ℕ) → IsFrame met parts hand p → parts n n ≡ Some s → HasLink s → IsLinkWord v → ((kind : Kind) → met n ≡ Some kind → LeadsTo met (link_read v)) → IsFrame met (put parts n n (linked (link_fields (link_read v)) s)) (frame_linked n (link_fields (link_read v)) hand) (record p { memory = with_word p.memory n v })
+link_word_leaves_frame met parts hand p n s v k here has is link =
     let l : LinkBits = link_fields (link_read v) in
     subst (λ (w : ℕ). IsFrame met (put parts n n (linked l s)) (frame_linked n l hand) (record p { memory = with_word p.memory n w })) (fields_word v is)
-    (frame_link_stored met parts hand p n s l k here has (fields_range v) (λ kind on. fields_lead met v (link kind on)))
+    (link_store_leaves_frame met parts hand p n s l k here has (fields_range v) (λ kind on. fields_lead met v (link kind on)))
 
-pub stored_leads : (link : Link) (s : Structure) → HasLink s → link_in (linked (link_fields link) s) ≡ link
-stored_leads link (Element t) has = absurd has
-stored_leads link (Buffer pages start bytes) has = absurd has
-stored_leads link (Table words) has = absurd has
-stored_leads link _ has = link_of-fields link
+pub stored_link_leads : (link : Link) (s : Structure) → HasLink s → link_in (linked (link_fields link) s) ≡ link
+stored_link_leads link (Element t) has = absurd has
+stored_link_leads link (Buffer pages start bytes) has = absurd has
+stored_link_leads link (Table words) has = absurd has
+stored_link_leads link _ has = link_of-fields link

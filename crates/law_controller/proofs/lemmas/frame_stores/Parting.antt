@@ -26,8 +26,8 @@ use Rattle.law_frames.specs.FrameHand.{FrameHand}
 use Rattle.law_frames.specs.Frame.{IsFrame}
 use Rattle.law_controller.specs.frame_control.Both.{AreMet, RunsBoth}
 use Rattle.law_controller.proofs.lemmas.frame_stores.Linking.{met_put}
-use Rattle.law_controller.proofs.lemmas.frame_stores.Framing.{there, keeps_put, frame_retold}
-use Rattle.law_controller.proofs.lemmas.frame_stores.Beside.{members_put, both_retold}
+use Rattle.law_controller.proofs.lemmas.frame_stores.Framing.{there, keeps_put, other_parts_leave_frame}
+use Rattle.law_controller.proofs.lemmas.frame_stores.Beside.{members_put, other_parts_leave_both}
 
 -- ---- kinds
 
@@ -75,8 +75,8 @@ new_own part a new unnamed own b c t u pages k bs one other same there =
     (found_with part a c (Element new) (Element u) other))
     (found_with part a b (Element new) (Element t) one)
 
-pub met_stored : (met : ℕ → Option Kind) (n : ℕ) (part : Structures) (a : ℕ) (d new : Qtd) → IsMetQueue met n part → part a ≡ Some (Element d) → d.token.active ≡ false → IsSoundElement part new → IsUnnamed part a new → IsMetQueue met n (with_structure part a (Element new))
-met_stored met n part a d new m at off sound unnamed =
+pub met_element_may_change : (met : ℕ → Option Kind) (n : ℕ) (part : Structures) (a : ℕ) (d new : Qtd) → IsMetQueue met n part → part a ≡ Some (Element d) → d.token.active ≡ false → IsSoundElement part new → IsUnnamed part a new → IsMetQueue met n (with_structure part a (Element new))
+met_element_may_change met n part a d new m at off sound unnamed =
     let now = with_structure part a (Element new) in
     let spans = changed_spans part a d new at in
     record {
@@ -103,8 +103,8 @@ added_spans part a s none = record {
   buffer = λ b pages k bs here. with_there part a s b (nothing_there part a b (Buffer pages k bs) none here) ∙ here;
 }
 
-pub met_element_added : (met : ℕ → Option Kind) (n : ℕ) (part : Structures) (a : ℕ) (new : Qtd) → IsMetQueue met n part → part a ≡ None → IsSoundElement part new → IsUnnamed part a new → IsMetQueue met n (with_structure part a (Element new))
-met_element_added met n part a new m none sound unnamed =
+pub met_element_may_come : (met : ℕ → Option Kind) (n : ℕ) (part : Structures) (a : ℕ) (new : Qtd) → IsMetQueue met n part → part a ≡ None → IsSoundElement part new → IsUnnamed part a new → IsMetQueue met n (with_structure part a (Element new))
+met_element_may_come met n part a new m none sound unnamed =
     let now = with_structure part a (Element new) in
     let spans = added_spans part a (Element new) none in
     record {
@@ -134,8 +134,8 @@ buffer_own part a pages k bs one_name own b c t u ps j ds one other same there =
     (λ (before : (buffer_name t ≢ a) × (part (buffer_name t) ≡ Some (Buffer ps j ds))). own b c t u ps j ds first second same before.1)
     (found_with part a (buffer_name t) (Buffer pages k bs) (Buffer ps j ds) there)
 
-pub met_buffer_added : (met : ℕ → Option Kind) (n : ℕ) (part : Structures) (a : ℕ) (pages : List ℕ) (k : ℕ) (bs : List ℕ) → IsMetQueue met n part → part a ≡ None → NamesOne part a → IsMetQueue met n (with_structure part a (Buffer pages k bs))
-met_buffer_added met n part a pages k bs m none one_name =
+pub met_buffer_may_come : (met : ℕ → Option Kind) (n : ℕ) (part : Structures) (a : ℕ) (pages : List ℕ) (k : ℕ) (bs : List ℕ) → IsMetQueue met n part → part a ≡ None → NamesOne part a → IsMetQueue met n (with_structure part a (Buffer pages k bs))
+met_buffer_may_come met n part a pages k bs m none one_name =
     let now = with_structure part a (Buffer pages k bs) in
     let spans = added_spans part a (Buffer pages k bs) none in
     record {
@@ -166,8 +166,8 @@ buffer_beside part a d t n at has = record {
   size = has.size;
 }
 
-pub met_element_gone : (met : ℕ → Option Kind) (n : ℕ) (part : Structures) (a : ℕ) (d : Qtd) → (m : IsMetQueue met n part) → part a ≡ Some (Element d) → IsUnled part m.part_is.queue a → IsMetQueue met n (without_structure part a)
-met_element_gone met n part a d m at unled = record {
+pub met_element_may_go : (met : ℕ → Option Kind) (n : ℕ) (part : Structures) (a : ℕ) (d : Qtd) → (m : IsMetQueue met n part) → part a ≡ Some (Element d) → IsUnled part m.part_is.queue a → IsMetQueue met n (without_structure part a)
+met_element_may_go met n part a d m at unled = record {
   part_is = record {
     queue = m.part_is.queue;
     here = gone_there part a n (element_not_head part a n d m.part_is.queue at m.part_is.here) ∙ m.part_is.here;
@@ -207,8 +207,8 @@ leads_beside_buffer part a pages k bs (qtd_links.To b) at leads = record {
   here = gone_there part a b (λ same. element_not_buffer part b a leads.qtd pages k bs leads.here at (sym same)) ∙ leads.here;
 }
 
-pub met_buffer_gone : (met : ℕ → Option Kind) (n : ℕ) (part : Structures) (a : ℕ) (pages : List ℕ) (k : ℕ) (bs : List ℕ) → IsMetQueue met n part → part a ≡ Some (Buffer pages k bs) → IsUnused part a → IsMetQueue met n (without_structure part a)
-met_buffer_gone met n part a pages k bs m at unused = record {
+pub met_buffer_may_go : (met : ℕ → Option Kind) (n : ℕ) (part : Structures) (a : ℕ) (pages : List ℕ) (k : ℕ) (bs : List ℕ) → IsMetQueue met n part → part a ≡ Some (Buffer pages k bs) → IsUnused part a → IsMetQueue met n (without_structure part a)
+met_buffer_may_go met n part a pages k bs m at unused = record {
   part_is = record {
     queue = m.part_is.queue;
     here = gone_there part a n (no_two part n a (QueueHead m.part_is.queue) (Buffer pages k bs) m.part_is.here at (λ e. cc)) ∙ m.part_is.here;
@@ -258,9 +258,9 @@ met_apart met parts n a d kind members at on same =
     let is = there met n (parts n) kind (members n kind on) in
     element_apart (parts n n) is.structure d is.no_element is.here (ap (parts n) same ∙ at)
 
-pub frame_element_stored : (met : ℕ → Option Kind) (parts : StructureSets) (hand : FrameHand) (p : FramePlace) (n a : ℕ) (d new : Qtd) (k v : ℕ) → IsFrame met parts hand p → parts n a ≡ Some (Element d) → k < 8 → qtd_words new ≡ set (qtd_words d) k v → IsQtdInRange new → ((kind : Kind) → met n ≡ Some kind → IsMetAs met n (with_structure (parts n) a (Element new)) kind) → IsFrame met (put parts n a (Element new)) hand (record p { memory = with_word p.memory (a + 4 * k) v })
-frame_element_stored met parts hand p n a d new k v frame at below is range owes =
-    frame_retold met parts (put parts n a (Element new)) hand p (with_word p.memory (a + 4 * k) v) frame
+pub element_store_leaves_frame : (met : ℕ → Option Kind) (parts : StructureSets) (hand : FrameHand) (p : FramePlace) (n a : ℕ) (d new : Qtd) (k v : ℕ) → IsFrame met parts hand p → parts n a ≡ Some (Element d) → k < 8 → qtd_words new ≡ set (qtd_words d) k v → IsQtdInRange new → ((kind : Kind) → met n ≡ Some kind → IsMetAs met n (with_structure (parts n) a (Element new)) kind) → IsFrame met (put parts n a (Element new)) hand (record p { memory = with_word p.memory (a + 4 * k) v })
+element_store_leaves_frame met parts hand p n a d new k v frame at below is range owes =
+    other_parts_leave_frame met parts (put parts n a (Element new)) hand p (with_word p.memory (a + 4 * k) v) frame
     (word_put_element p.memory parts n a d new k v frame.tells at below is range) (met_put met parts n a (Element new) owes frame.members)
     (keeps_put met parts n a (Element new) (λ kind on. met_apart met parts n a d kind frame.members at on))
 
@@ -275,9 +275,9 @@ list_stays parts n a d new b words at here =
     ∙ ap (λ (j : ℕ). parts j j) (sym owner))
     (λ (differs : b ≢ n). ap (λ (part : Structures). part b) (put_beside parts n a (Element new) b differs)) (cases_eq b n)
 
-pub both_element_stored : (base : Base) (member : ℕ → Bool) (met : ℕ → Option Kind) (parts : StructureSets) (hand : Hand) (frame : FrameHand) (c : Content) (n a : ℕ) (d new : Qtd) (k v : ℕ) → RunsBoth base member met parts hand frame c → parts n a ≡ Some (Element d) → k < 8 → qtd_words new ≡ set (qtd_words d) k v → IsQtdInRange new → member n ≡ false → ((kind : Kind) → met n ≡ Some kind → IsMetAs met n (with_structure (parts n) a (Element new)) kind) → RunsBoth base member met (put parts n a (Element new)) hand frame (record c { memory = with_word c.memory (a + 4 * k) v })
-both_element_stored base member met parts hand frame c n a d new k v runs at below is range off owes =
-    both_retold base member met parts (put parts n a (Element new)) hand frame c (with_word c.memory (a + 4 * k) v) runs
+pub element_store_leaves_both : (base : Base) (member : ℕ → Bool) (met : ℕ → Option Kind) (parts : StructureSets) (hand : Hand) (frame : FrameHand) (c : Content) (n a : ℕ) (d new : Qtd) (k v : ℕ) → RunsBoth base member met parts hand frame c → parts n a ≡ Some (Element d) → k < 8 → qtd_words new ≡ set (qtd_words d) k v → IsQtdInRange new → member n ≡ false → ((kind : Kind) → met n ≡ Some kind → IsMetAs met n (with_structure (parts n) a (Element new)) kind) → RunsBoth base member met (put parts n a (Element new)) hand frame (record c { memory = with_word c.memory (a + 4 * k) v })
+element_store_leaves_both base member met parts hand frame c n a d new k v runs at below is range off owes =
+    other_parts_leave_both base member met parts (put parts n a (Element new)) hand frame c (with_word c.memory (a + 4 * k) v) runs
     (word_put_element c.memory parts n a d new k v runs.ring.tells at below is range) (members_put member parts n a (Element new) off)
     (met_put met parts n a (Element new) owes runs.members) (keeps_put met parts n a (Element new) (λ kind on. met_apart met parts n a d kind runs.members at on))
     (list_stays parts n a d new base.periodic_list_base runs.list.words at runs.list.here)

@@ -119,8 +119,8 @@ module _ {W : Type 0} (begins : W → ℕ → Bool → W → Type 0) (transacts 
   row_alike rows.End c k is row =
       goes_alike rows.End c (record c { control = ended c.control }) (record (over c n) { control = ended c.control }) row.0 (record { control = refl; registers = refl; memory = k }) (refl, row.1)
 
-pub reads_lent : {W : Type 0} (begins : W → ℕ → Bool → W → Type 0) (transacts : W → Ask → List ℕ → Reply → W → Type 0) (c : Content) (n : Mem) (wire : W) (new : Content) (after : W) → AreAligned c → IsSameWhereLent c.memory n
+pub each_event_reads_lent_words : {W : Type 0} (begins : W → ℕ → Bool → W → Type 0) (transacts : W → Ask → List ℕ → Reply → W → Type 0) (c : Content) (n : Mem) (wire : W) (new : Content) (after : W) → AreAligned c → IsSameWhereLent c.memory n
     → HasRow begins transacts (microframe_row c.registers c.control) c wire new after → ReadsLent begins transacts c n wire new after
-reads_lent begins transacts c n wire new after is k row =
+each_event_reads_lent_words begins transacts c n wire new after is k row =
     let g : RowAlike begins transacts (microframe_row c.registers c.control) (over c n) wire new after = row_alike begins transacts wire new after n (microframe_row c.registers c.control) c k is row in
     record { other = g.other; made = g.made; control = g.control; registers = g.registers; memory = g.memory }

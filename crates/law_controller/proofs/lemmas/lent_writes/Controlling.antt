@@ -11,7 +11,7 @@ use Rattle.hc_core.specs.declared.controller.ControllerRow.TheVariants as rows
 use Rattle.hc_core.specs.Controller.{Content, microframe_row, element_address, begun_at, began, entered, frame_place, walk_place, HasRow}
 use Rattle.law_ring.specs.walk_writes.Writes.{WritesLent, IsPlaced}
 use Rattle.law_ring.proofs.lemmas.walk_writes.Lent.{refused_writes}
-use Rattle.law_ring.proofs.lemmas.walk_writes.Walking.{unchanged, event_writes}
+use Rattle.law_ring.proofs.lemmas.walk_writes.Walking.{unchanged, each_event_writes_lent_words}
 use Rattle.law_controller.specs.lent_writes.Hands.{IsCopyPlaced, ArePlaced}
 use Rattle.law_controller.proofs.lemmas.lent_writes.Framing.{frame_writes}
 
@@ -32,9 +32,9 @@ row_writes begins transacts c wire new after rows.Begin k row =
     let stepped : Content = record c { registers = after_begin c.registers } in
     goes_to c.memory new (began row.allowed c) row.contents (begun_writes stepped (reaches c.memory (element_address stepped.registers)) row.allowed)
 row_writes begins transacts c wire new after rows.Frame k row = frame_writes transacts (frame_place c) wire (frame_place new) after k.frame row.walked
-row_writes begins transacts c wire new after rows.Enter k row = event_writes transacts (walk_place (entered c)) wire (walk_place new) after tt row.walked
-row_writes begins transacts c wire new after rows.Go k row = event_writes transacts (walk_place c) wire (walk_place new) after (held_placed c.control.walk.held k.ring) row.walked
+row_writes begins transacts c wire new after rows.Enter k row = each_event_writes_lent_words transacts (walk_place (entered c)) wire (walk_place new) after tt row.walked
+row_writes begins transacts c wire new after rows.Go k row = each_event_writes_lent_words transacts (walk_place c) wire (walk_place new) after (held_placed c.control.walk.held k.ring) row.walked
 row_writes begins transacts c wire new after rows.End k row = goes_to c.memory new _ row.0 (unchanged c.memory)
 
-pub controller_writes_lent : {W : Type 0} (begins : W → ℕ → Bool → W → Type 0) (transacts : W → Ask → List ℕ → Reply → W → Type 0) (c : Content) (wire : W) (new : Content) (after : W) → ArePlaced c.control → HasRow begins transacts (microframe_row c.registers c.control) c wire new after → WritesLent c.memory new.memory
-controller_writes_lent begins transacts c wire new after k row = row_writes begins transacts c wire new after (microframe_row c.registers c.control) k row
+pub each_event_of_the_controller_writes_lent_words : {W : Type 0} (begins : W → ℕ → Bool → W → Type 0) (transacts : W → Ask → List ℕ → Reply → W → Type 0) (c : Content) (wire : W) (new : Content) (after : W) → ArePlaced c.control → HasRow begins transacts (microframe_row c.registers c.control) c wire new after → WritesLent c.memory new.memory
+each_event_of_the_controller_writes_lent_words begins transacts c wire new after k row = row_writes begins transacts c wire new after (microframe_row c.registers c.control) k row

@@ -39,8 +39,8 @@ given_small : (b : Bool) (n : ℕ) → n % 32 < 8 → (if b then n else 1) % 32 
 given_small true n small = small
 given_small false n small = omega arith
 
-pub links_are : (d : DriverContent) → IsListed d → IsInOrder d.periodic.list → AreLinks d
-links_are d listed order b =
+pub descriptors_are_given_links : (d : DriverContent) → IsListed d → IsInOrder d.periodic.list → AreLinks d
+descriptors_are_given_links d listed order b =
     let s : Schedule = d.periodic.list.members.schedule in
     let note : DescriptorNote = note_at d.periodic.notes b in
     let k : Descriptor = record { id = descriptor_name note b; frame = note.frame } in

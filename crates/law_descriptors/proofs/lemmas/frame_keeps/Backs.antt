@@ -29,7 +29,7 @@ use Rattle.law_controller.specs.controlled_streams.Kept.{bare}
 use Rattle.law_frames.specs.FrameHand.{QueueSettlement, settled_in, SitdCopy}
 use Rattle.law_frames.specs.Frame.{IsMoved, IsTurned}
 use Rattle.law_frames.specs.FrameEffects.{AreReceivedAt, sitd_back}
-use Rattle.law_frames.proofs.PartTurning.{place_moved}
+use Rattle.law_frames.proofs.PartTurning.{its_place_moves_on}
 use Rattle.law_descriptors.specs.frame_keeps.Kept.{stateless, IsItdAfter, IsLeft, IsSitdAfter, KeepsParts}
 use Rattle.law_descriptors.proofs.lemmas.frame_keeps.Keeping.{head_keeps, element_keeps, buffer_keeps, itd_keeps, sitd_keeps, parts_itself, parts_both, parts_put}
 
@@ -158,7 +158,7 @@ moved_left c reply o is within some =
     let left : h.total + n ≡ v.total = is.left in
     let total : (sitd_back c n).total ≡ h.total = moved_total c n in
     let room : sitd_place v + v.total ≤ 8192 = within (omega (arith, left, total, some)) in
-    let next : sitd_place (moved_sitd n h) ≡ sitd_place h + n = place_moved n h (omega (arith, place, left, total, some, room)) in
+    let next : sitd_place (moved_sitd n h) ≡ sitd_place h + n = its_place_moves_on n h (omega (arith, place, left, total, some, room)) in
     record { active = is.works; from = omega (arith, next, place); within = omega (arith, next, place, left, total) }
 
 pub made_after : (c : SitdCopy) (reply : Reply) (o : SplitOutcome) → IsMoved c reply o → (0 < c.sitd.total → sitd_place c.sitd + c.sitd.total ≤ 8192) → IsSitdAfter c.sitd (sitd_back c (moved_by o))

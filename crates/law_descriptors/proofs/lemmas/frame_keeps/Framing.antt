@@ -24,7 +24,7 @@ use Rattle.law_frames.specs.Frame.{IsQueueSettled, IsCopiedQueue, IsCopiedItd, I
 use Rattle.law_frames.specs.FrameEffects.{itd_back, sitd_back, TakesOne, WritesQueue, WritesItd, IsWrittenFrom, made, missed, WritesSitd, WritesOne, of_queue, of_itd, of_sitd}
 use Rattle.law_frames.specs.FrameEffects.FrameEffect.{fetches, passes, ends, takes, makes, writes}
 use Rattle.law_frames.specs.Walks.{HappenInTurn, none as over, first}
-use Rattle.law_frames.proofs.QueueBacks.{hand_settled}
+use Rattle.law_frames.proofs.QueueBacks.{hand_is_settled}
 use Rattle.law_descriptors.specs.frame_keeps.Kept.{IsSitdAfter, KeepsParts, HasBytesLeft}
 use Rattle.law_descriptors.specs.frame_keeps.Laws.{FrameKeeps, WalkKeeps}
 use Rattle.law_descriptors.proofs.lemmas.frame_keeps.Keeping.{head_keeps, found_sitd, parts_itself, parts_both, parts_put}
@@ -65,7 +65,7 @@ module _ (met : ℕ → Option Kind) (parts : StructureSets) (hand : FrameHand) 
 
   wrote_queue : (now : StructureSets) (later : FrameHand) → WritesQueue parts p.walk hand now later → KeepsParts parts now
   wrote_queue now later r =
-      let both : IsCopiedQueue met parts r.copy × IsQueueSettled r.copy.queue p.walk.reply r.settled = hand_settled met parts p.walk hand r.copy r.settled r.made k.walk.in_hand r.from in
+      let both : IsCopiedQueue met parts r.copy × IsQueueSettled r.copy.queue p.walk.reply r.settled = hand_is_settled met parts p.walk hand r.copy r.settled r.made k.walk.in_hand r.from in
       subst (KeepsParts parts) (sym r.now_is)
       (back_keeps parts r.copy.at r.copy.at r.copy.queue (settled_in r.copy r.settled) (queue_moved_by r.settled.outcome) r.settled.got
       (received_into (parts r.copy.at) r.copy.queue r.element r.settled.got) r.element (marked_bare r.copy r.settled (queue_moved_by r.settled.outcome))

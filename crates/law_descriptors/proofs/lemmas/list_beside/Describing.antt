@@ -31,8 +31,8 @@ descriptor_told d descs parts t y k is =
     let has : HasDescriptor split (descs n) n = k.described.descriptors t y is in
     subst (λ (part : Structures). IsDescriptor (part n)) (sym (both_on descs parts n (stands_some split (descs n) n has))) (has_descriptor split (descs n) n has)
 
-pub described_told : DescribedIsTold
-described_told base parts descs m d place k list start = record {
+pub described_is_told : DescribedIsTold
+described_is_told base parts descs m d place k list start = record {
   place = place;
   driven = k.driven;
   within = λ n a s here. queues_within d descs parts (owns descs n) n a s k refl here;
@@ -51,8 +51,8 @@ descriptor_kept false part now n keeps k =
     let f : HasItdAfter now n k.itd = keeps.itd n k.itd k.here in
     record { itd = f.itd; here = f.here; slots = slots_still part now k.itd f.itd keeps f.after k.slots }
 
-pub described_kept : DescribedAreKept
-described_kept parts now keeps = record {
+pub described_are_kept : DescribedAreKept
+described_are_kept parts now keeps = record {
   sorts = sorts_kept parts now keeps;
   extents = extents_kept parts now keeps;
   descriptors = λ split n k. descriptor_kept split (parts n) (now n) n (keeps n) k;

@@ -30,11 +30,11 @@ use Rattle.law_structures.specs.lent_structures.Structures.{Structure, QueueHead
 use Rattle.claims_base.specs.Controller.{Base}
 use Rattle.law_driver_ring.specs.Inventory.{OfQueueHead, sort_of, IsLent}
 use Rattle.law_driver_ring.proofs.Sorts.{driven_same}
-use Rattle.law_driver.proofs.lemmas.in_place.Elsewhere.{elsewhere_in_place}
+use Rattle.law_driver.proofs.lemmas.in_place.Elsewhere.{the_controller_keeps_all_in_place}
 use Rattle.law_queues.proofs.lemmas.shared_memory.Elsewhere.{leaves_elsewhere}
 use Rattle.law_frame_words.specs.list_words.Spared.{LeavesList}
 use Rattle.law_frame_list.proofs.lemmas.list_spread.Spreading.{queue_there, standing_there}
-use Rattle.law_frame_list.proofs.lemmas.list_stands.Listing.{stands_left}
+use Rattle.law_frame_list.proofs.lemmas.list_stands.Listing.{it_stands_where_its_words_are_left}
 use Rattle.law_frame_list.specs.list_driver.Keeping.{LeadsOn, AreLeading}
 use Rattle.law_frame_list.proofs.lemmas.list_queued.Apart.{way_of}
 use Rattle.law_descriptors.specs.frame_keeps.Kept.{HasItdAfter, HasSitdAfter, KeepsPart}
@@ -53,9 +53,9 @@ link_left m new parts a leaves (of_descriptor n (a_sitd v here)) =
     let e : a ≡ a + 4 * 0 = omega arith in ap (word_at new) e ∙ leaves.sitds n a v 0 here (inl (omega arith)) ∙ sym (ap (word_at m) e)
 link_left m new parts a leaves (unlent off) = leaves.lent.words a off
 
-pub list_left : (m new : Mem) (parts : StructureSets) (p : Periodic) → HasItsLinks m parts p → LeavesStructures parts m new → LeavesList p (word_at m) (word_at new)
-list_left m new parts p has leaves (Frame f) its = let size = has.size in leaves.tables has.owner (32 * p.list) has.words f has.list (omega (arith, its, size))
-list_left m new parts p has leaves (After x) its = link_left m new parts (address_of p.list (After x)) leaves (has.members x its)
+pub links_of_a_list_stay : (m new : Mem) (parts : StructureSets) (p : Periodic) → HasItsLinks m parts p → LeavesStructures parts m new → LeavesList p (word_at m) (word_at new)
+links_of_a_list_stay m new parts p has leaves (Frame f) its = let size = has.size in leaves.tables has.owner (32 * p.list) has.words f has.list (omega (arith, its, size))
+links_of_a_list_stay m new parts p has leaves (After x) its = link_left m new parts (address_of p.list (After x)) leaves (has.members x its)
 
 -- ---- a run that isn't lent
 
@@ -193,12 +193,13 @@ module _ (base : Base) (parts all : StructureSets) (m : Mem) (d : DriverContent)
       let way : IsDescribing d e first count = way_of d e first count is listed in
       lead_on new e first d.periodic.queued leaves way.members (old e first count is made)
 
-pub driver_links : (base : Base) (parts all : StructureSets) (m : Mem) (d : DriverContent) → IsTold base parts all m d → HasItsLinks m all d.periodic.list
-driver_links base parts all m d told = list_links base parts all m d told
+pub a_driver_has_its_links : (base : Base) (parts all : StructureSets) (m : Mem) (d : DriverContent) → IsTold base parts all m d → HasItsLinks m all d.periodic.list
+a_driver_has_its_links base parts all m d told = list_links base parts all m d told
 
 pub list_is_kept : ListIsKept
 list_is_kept base parts all m new d told leaves old = record {
-  list = stands_left d m new (list_left m new all d.periodic.list (list_links base parts all m d told) leaves) old.list;
+  list = it_stands_where_its_words_are_left d m new (links_of_a_list_stay m new all d.periodic.list (list_links base parts all m d told)
+      leaves) old.list;
   mends = old.mends;
   to_link = old.to_link;
   leading = leading base parts all m d told new leaves old.leading;
@@ -216,7 +217,7 @@ descriptor_still part now a keeps (a_sitd v here) = let f : HasSitdAfter now a v
 
 pub told_stays : ToldStays
 told_stays base parts all parts_now now m new d told leaves keeps same within = record {
-  place = elsewhere_in_place d m new (written_elsewhere base parts all m new d told leaves) told.place;
+  place = the_controller_keeps_all_in_place d m new (written_elsewhere base parts all m new d told leaves) told.place;
   driven = driven_same (views_of d) parts parts_now same told.driven;
   within = within;
   descriptors = λ t y here sort held lent. descriptor_still (all (32 * y.first)) (now (32 * y.first)) (32 * y.first) (keeps (32 * y.first)) (told.descriptors t y here sort held lent);

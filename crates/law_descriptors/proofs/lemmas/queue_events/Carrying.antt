@@ -42,7 +42,7 @@ use Rattle.law_frames.specs.Met.{Kind}
 use Rattle.law_frames.specs.FrameHand.{QueueSettlement, came, settled_in, FrameHand, queue_hand}
 use Rattle.law_frames.specs.Frame.{IsCopiedQueue, IsQueueSettled, IsFrame}
 use Rattle.law_frames.specs.FrameEffects.{MakesOne, missed_settlement, IsSettledFrom, was_worked, was_missed, WritesQueue, WritesOne, of_queue, of_itd, of_sitd, FrameEffect}
-use Rattle.law_frames.proofs.QueueBacks.{hand_settled}
+use Rattle.law_frames.proofs.QueueBacks.{hand_is_settled}
 use Rattle.law_frames.proofs.Telling.{empty_is, fetched_unsettled, taken_there, asked, writes_copy, itd_leaves, sitd_leaves}
 use Rattle.law_controller.specs.frame_control.Both.{RunsBoth, WalksFrames, BothEffect, of_ring, of_frame}
 use Rattle.law_controller.specs.frame_control.Joined.{joined}
@@ -298,7 +298,7 @@ module _ {W : Type 0} (begins : W → ℕ → Bool → W → Type 0) (transacts 
 
     module _ (r : WritesQueue parts p.walk frame now frame_later) where
       settled : IsCopiedQueue met parts r.copy × IsQueueSettled r.copy.queue p.walk.reply r.settled
-      settled = hand_settled met parts p.walk frame r.copy r.settled r.made there.walk.in_hand r.from
+      settled = hand_is_settled met parts p.walk frame r.copy r.settled r.made there.walk.in_hand r.from
 
       from_settled : FromTo (Settled r.copy (came r.settled)) (queue_hand frame_later)
       from_settled =

@@ -13,14 +13,14 @@ use Rattle.law_controller.specs.controlled_streams.Kept.{Keeps, KeepsEach}
 use Rattle.law_controller.proofs.lemmas.controlled_streams.Keeping.{kept_part}
 use Rattle.law_frames.specs.Met.{Kind, AQueue, AnItd, ASitd, IsQueuePart, IsMetItd, IsMetSitd}
 use Rattle.law_frames.specs.FrameHand.{FrameHand}
-use Rattle.law_frames.proofs.Queues.{linked_part}
+use Rattle.law_frames.proofs.Queues.{a_members_part_is_linked}
 use Rattle.law_controller.specs.frame_control.Both.{RunsBoth, BothEffect}
 use Rattle.law_descriptors.specs.Both.{both, parts_now}
 use Rattle.law_frames.proofs.lemmas.framed_fronts.Fronts.{links_rise}
 use Rattle.law_queues.specs.mended_heads.Owed.{StalledQueue}
 use Rattle.law_queues.specs.mended_heads.Waiting.{StandsHalted, AreAllPublished, Waits}
 use Rattle.law_queues.proofs.lemmas.mended_heads.Content.{all_on}
-use Rattle.law_queues.proofs.lemmas.fed_events.Beside.{fed_still, last_still}
+use Rattle.law_queues.proofs.lemmas.fed_events.Beside.{fed_stays_beside, last_stays_beside}
 use Rattle.law_queues.proofs.lemmas.standing_fronts.Walking.{stands_on}
 use Rattle.law_queues.proofs.lemmas.standing_fronts.Reaching.{reaches_on}
 use Rattle.law_descriptors.specs.queue_events.Events.{BothKeepsStructures, BothKeepsFed, BothKeepsLast, BothKeepsLinks, BothKeepsFronts, BothKeepsReaches, BothKeepsHalts, BothLeavesHalted, BothKeepsMends, BothKeepsParts}
@@ -87,7 +87,7 @@ module _ {W : Type 0} (begins : W → ℕ → Bool → W → Type 0) (transacts 
         absurd (let e : Some (QueueHead sound.queue) ≡ Some (SplitIsochronous m.sitd) = sym sound.here ∙ m.here in cc)
 
     sound_on : (n : ℕ) → IsQueuePart n (both descs parts n) → (b : Bool) → member n ≡ b → IsQueuePart n (now n)
-    sound_on n sound true on = (linked_part member n (now n) (then.ring.members n on)).part_is
+    sound_on n sound true on = (a_members_part_is_linked member n (now n) (then.ring.members n on)).part_is
     sound_on n sound false off = by_met n sound off (met n) refl
 
     -- if it was sound, it is
@@ -104,11 +104,11 @@ both_keeps_structures begins transacts base member met descs parts hand frame c 
 
 pub both_keeps_fed : {W : Type 0} (begins : W → ℕ → Bool → W → Type 0) (transacts : W → Ask → List ℕ → Reply → W → Type 0) → BothKeepsFed begins transacts
 both_keeps_fed begins transacts base member met descs parts hand frame c wire after now later frame_later k effect d fed =
-    fed_still d parts (parts_now descs parts now) (queues_kept begins transacts base member met descs parts hand frame c wire after now later frame_later k effect) fed
+    fed_stays_beside d parts (parts_now descs parts now) (queues_kept begins transacts base member met descs parts hand frame c wire after now later frame_later k effect) fed
 
 pub both_keeps_last : {W : Type 0} (begins : W → ℕ → Bool → W → Type 0) (transacts : W → Ask → List ℕ → Reply → W → Type 0) → BothKeepsLast begins transacts
 both_keeps_last begins transacts base member met descs parts hand frame c wire after now later frame_later k effect d order last =
-    last_still d parts (parts_now descs parts now) order (queues_kept begins transacts base member met descs parts hand frame c wire after now later frame_later k effect) last
+    last_stays_beside d parts (parts_now descs parts now) order (queues_kept begins transacts base member met descs parts hand frame c wire after now later frame_later k effect) last
 
 pub both_keeps_links : {W : Type 0} (begins : W → ℕ → Bool → W → Type 0) (transacts : W → Ask → List ℕ → Reply → W → Type 0) → BothKeepsLinks begins transacts
 both_keeps_links begins transacts base member met descs parts hand frame c wire after now later frame_later k effect order n rise =

@@ -33,7 +33,7 @@ use Rattle.law_descriptors.specs.Both.{owns, both, parts_now}
 use Rattle.law_descriptors.specs.PartLaws.{IsDescribing}
 use Rattle.law_descriptors.proofs.Standing.{both_off}
 use Rattle.law_descriptors.proofs.Telling.{queue_off}
-use Rattle.law_descriptors.specs.queue_events.Streams.{SendsWhole}
+use Rattle.law_descriptors.specs.queue_events.Streams.{EventsSendWhole}
 
 -- ---- an event of the walk of the frames
 
@@ -128,9 +128,9 @@ module _ {W : Type 0} (begins : W → ℕ → Bool → W → Type 0) (transacts 
   by_walk (of_frame w) k = by_frame w k
 
 -- of the queues
-pub sends_whole : {W : Type 0} (begins : W → ℕ → Bool → W → Type 0) (transacts : W → Ask → List ℕ → Reply → W → Type 0)
-    → SendsWhole begins transacts
-sends_whole begins transacts base member met d descs parts hand frame c wire after now later frame_later describing runs effect order
+pub events_send_whole : {W : Type 0} (begins : W → ℕ → Bool → W → Type 0) (transacts : W → Ask → List ℕ → Reply → W → Type 0)
+    → EventsSendWhole begins transacts
+events_send_whole begins transacts base member met d descs parts hand frame c wire after now later frame_later describing runs effect order
     place out n told part outs acc k =
     let off : owns descs n ≡ false = queue_off d descs parts describing n n (QueueHead part.queue) part.here in
     let there : both descs parts n ≡ parts n = both_off descs parts n off in

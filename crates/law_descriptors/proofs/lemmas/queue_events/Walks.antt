@@ -10,8 +10,8 @@ use Rattle.law_ring.specs.Hand.{Hand}
 use Rattle.claims_base.specs.Controller.{Base}
 use Rattle.law_ring.specs.Front.{LinksRise, HasFront, FrontGoesOn}
 use Rattle.law_ring.specs.Halted.{HaltStops}
-use Rattle.law_ring.proofs.FrontGoing.{front_moves}
-use Rattle.law_ring.proofs.Walking.{halts_kept as ring_halts, halted_stays}
+use Rattle.law_ring.proofs.FrontGoing.{each_event_moves_the_front_on}
+use Rattle.law_ring.proofs.Walking.{walk_keeps_halts as ring_halts, halted_queue_stays}
 use Rattle.law_controller.specs.controlled_streams.Control.{a_microframe, a_step}
 use Rattle.law_controller.specs.controlled_streams.Kept.{KeepsEach}
 use Rattle.law_controller.proofs.lemmas.controlled_streams.Keeping.{kept_same}
@@ -22,7 +22,7 @@ use Rattle.law_controller.specs.frame_control.Both.{RunsBoth, BothEffect, of_rin
 use Rattle.law_descriptors.proofs.lemmas.frame_keeps.Framing.{frame_keeps}
 use Rattle.law_frames.proofs.lemmas.framed_fronts.Running.{front_kept, halts_kept, halted_left}
 use Rattle.law_controller.proofs.lemmas.frame_control.Staying.{ring_leaves}
-use Rattle.law_frames.proofs.Leaving.{others_stay}
+use Rattle.law_frames.proofs.Leaving.{unmet_stays}
 
 -- ---- nothing changes
 
@@ -45,7 +45,7 @@ module _ {W : Type 0} (begins : W → ℕ → Bool → W → Type 0) (transacts 
         → FrontGoesOn order front out n parts now
     front_on order front out (of_ring (a_microframe b) nothing) rise has = same_front order front out n parts now b.parts_stay has
     front_on order front out (of_ring (a_step w) nothing) rise has =
-        front_moves transacts member parts hand (walk_place c).walk.reply wire after now later w.kind order front out n k.ring.members k.ring.in_hand w.effect rise has
+        each_event_moves_the_front_on transacts member parts hand (walk_place c).walk.reply wire after now later w.kind order front out n k.ring.members k.ring.in_hand w.effect rise has
     front_on order front out (of_frame w) rise has =
         front_kept transacts met parts c.control.frame frame wire after now frame_later w.kind order front out n q k.members (k.walk w.part).in_hand w.effect here rise has
 
@@ -60,7 +60,7 @@ module _ {W : Type 0} (begins : W → ℕ → Bool → W → Type 0) (transacts 
     -- a queue head that is halted stays with all that it has
     pub halted_on : q.token.halted ≡ true → BothEffect begins transacts parts c.control hand frame wire after now later frame_later → now n ≡ parts n
     halted_on halted (of_ring (a_microframe b) nothing) = ap (λ (ps : StructureSets). ps n) b.parts_stay
-    halted_on halted (of_ring (a_step w) nothing) = halted_stays transacts member parts hand (walk_place c).walk.reply wire after now later w.kind n q k.ring.members k.ring.in_hand w.effect here halted
+    halted_on halted (of_ring (a_step w) nothing) = halted_queue_stays transacts member parts hand (walk_place c).walk.reply wire after now later w.kind n q k.ring.members k.ring.in_hand w.effect here halted
     halted_on halted (of_frame w) = halted_left transacts met parts c.control.frame frame wire after now frame_later w.kind n q k.members (k.walk w.part).in_hand w.effect here halted
 
   -- what neither walk may meet stays
@@ -69,4 +69,4 @@ module _ {W : Type 0} (begins : W → ℕ → Bool → W → Type 0) (transacts 
   unmet_left n (of_ring (a_step w) nothing) off unmet =
       ring_leaves transacts base member parts hand (walk_place c) wire after now later w.kind n k.ring w.effect (λ a on same. true≢false (sym on ∙ ap member (sym same) ∙ off))
   unmet_left n (of_frame w) off unmet =
-      others_stay transacts met parts frame (frame_place c) wire after now frame_later w.kind (record { tells = k.ring.tells; members = k.members; walk = k.walk w.part }) w.effect n unmet
+      unmet_stays transacts met parts frame (frame_place c) wire after now frame_later w.kind (record { tells = k.ring.tells; members = k.members; walk = k.walk w.part }) w.effect n unmet

@@ -1,5 +1,5 @@
-use Rattle.law_descriptors.proofs.Queued.{descriptors_first, leaving_first}
+use Rattle.law_descriptors.proofs.Queued.{descriptors_come_first, leaving_come_first}
 use Rattle.law_descriptors.proofs.queued_laws.descriptors_come_first.Goals as goal
 
 pub returns : goal.returns
-returns c = record { links = descriptors_first; unlinks = leaving_first }
+returns c = record { links = descriptors_come_first; unlinks = leaving_come_first }

@@ -1,5 +1,5 @@
-use Rattle.law_devices.proofs.Owning.{spelled_owns}
+use Rattle.law_devices.proofs.Owning.{devices_have_addresses_of_their_own}
 use Rattle.law_devices.proofs.laws.devices_have_addresses_of_their_own.Goals as goal
 
 pub returns : goal.returns
-returns c = spelled_owns
+returns c = devices_have_addresses_of_their_own

@@ -13,7 +13,7 @@ use Rattle.claims_base.specs.Controller.{Base}
 use Rattle.law_ring.specs.Ring.{IsRing}
 use Rattle.law_controller.specs.controlled_streams.Control.{IsControlled, BeginsMicroframe, ControlEffect, a_microframe, a_step}
 use Rattle.law_devices.specs.ring_requests.Resting.{IsAtRest, IsAlone, RestStays}
-use Rattle.law_devices.proofs.lemmas.ring_requests.Resting.{effect_rests}
+use Rattle.law_devices.proofs.lemmas.ring_requests.Resting.{a_queue_at_rest_stays_so}
 use Rattle.law_devices.specs.control_requests.Rests.{ControlRestStays, ControlKeepsRest}
 
 module _ {W : Type 0} (begins : W → ℕ → Bool → W → Type 0) (transacts : W → Ask → List ℕ → Reply → W → Type 0) (device : W → ℕ → ℕ → Option Device) (base : Base) (member : ℕ → Bool) (e : Endpoint) (c : Stages) (b n : ℕ) (parts : StructureSets) (hand : Hand) (content : Content) (wire after : W) (now : StructureSets) (later : Hand) (bus : IsControlBus transacts device) (keeps : KeepsDevices begins device) (controlled : IsControlled base member parts hand content) (alone : IsAlone member e parts n) (rest : IsAtRest e c b hand parts n (device wire e.addr e.num)) where
@@ -41,9 +41,10 @@ module _ {W : Type 0} (begins : W → ℕ → Bool → W → Type 0) (transacts 
   }
   stays (a_step k) =
       let ring : IsRing base member parts hand (walk_place content) = controlled.ring in
-      let r : RestStays device member e c b n k.effect = effect_rests transacts device member e c b n parts hand (walk_place content).walk.reply wire after now later k.kind k.effect bus ring.members ring.in_hand alone rest in
+      let r : RestStays device member e c b n k.effect = a_queue_at_rest_stays_so transacts device member e c b n parts hand (walk_place content).walk.reply wire after now later k.kind k.effect bus ring.members ring.in_hand alone rest in
       record { rest = r.rest; alone = r.alone; same = r.same; beside = r.beside }
 
-pub control_rests : {W : Type 0} (begins : W → ℕ → Bool → W → Type 0) (transacts : W → Ask → List ℕ → Reply → W → Type 0) (device : W → ℕ → ℕ → Option Device) → ControlKeepsRest begins transacts device
-control_rests begins transacts device base member e c b n parts hand content wire after now later effect bus keeps controlled alone rest =
+pub an_event_leaves_a_queue_at_rest : {W : Type 0} (begins : W → ℕ → Bool → W → Type 0) (transacts : W → Ask → List ℕ → Reply → W → Type 0) (device : W → ℕ → ℕ → Option Device) → ControlKeepsRest begins transacts device
+an_event_leaves_a_queue_at_rest begins transacts device base member e c b n parts hand content wire after now later effect bus keeps
+    controlled alone rest =
     stays begins transacts device base member e c b n parts hand content wire after now later bus keeps controlled alone rest effect

@@ -26,6 +26,6 @@ in_command : (name : EpName) (c : Cmd) → AsksCommand c → Holds IsRequest (re
 in_command name (cmd.Control to setup bytes) h = cond_both (is_same_name to name) (Some (record { setup = setup; bytes = bytes })) None (Holds IsRequest) (λ _. h.whole.request) (λ _. tt)
 in_command name _ h = tt
 
-pub accepted_requests : AcceptedAreRequests
-accepted_requests s r name h =
+pub accepted_are_requests : AcceptedAreRequests
+accepted_are_requests s r name h =
     all_kept AsksCommand IsRequest (request_in name) (accepted s r) (in_command name) (all_kept (λ l. AsksLine l.1) AsksCommand (accepted_in r) s.lines (not_refused r) h)

@@ -85,8 +85,8 @@ at_alone : (fixed : Fixed) (b : Bus) (ask : Ask) (out : List ℕ) (e : Option As
 at_alone fixed b ask out None h = h
 at_alone fixed b ask out (Some e) h = by_alone (bus_row fixed b e ask out) e.who ask out b h
 
-pub transaction_alone : TransactionLeavesZero
-transaction_alone fixed b ask out h = at_alone fixed b ask out (asked_of fixed b ask) h
+pub transaction_leaves_zero : TransactionLeavesZero
+transaction_leaves_zero fixed b ask out h = at_alone fixed b ask out (asked_of fixed b ask) h
 
 -- ---- the beginning of a microframe
 
@@ -105,8 +105,8 @@ worked_alone : (fixed : Fixed) (hubs : List HubContent) (floor : Floor) → AreA
 worked_alone fixed [] floor h = h
 worked_alone fixed (x ∷ xs) floor h = worked_alone fixed xs (floor_left fixed x floor) (left_alone fixed x floor h)
 
-pub microframe_alone : MicroframeLeavesZero
-microframe_alone fixed frindex b h =
+pub microframe_leaves_zero : MicroframeLeavesZero
+microframe_leaves_zero fixed frindex b h =
     all_map IsZeroAlone IsZeroAlone (begun_at frindex) (floor_worked fixed b.hubs (floor_of b)).devices (begun_alone frindex) (worked_alone fixed b.hubs (floor_of b) h)
 
 -- ---- nothing is sent or taken there

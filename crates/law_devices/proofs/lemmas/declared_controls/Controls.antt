@@ -25,7 +25,7 @@ use Rattle.drv_table.specs.Words.{is_high}
 use Rattle.script_fits.specs.Fits.{IsFit, IsFitLine}
 use Rattle.script_fits.proofs.Texts.{spelled_fits}
 use Rattle.law_scripts.specs.byte_answers.Bytes.{IsByteLine, IsByteScript}
-use Rattle.law_scripts.proofs.lemmas.script_bytes.Texts.{spelled_bytes}
+use Rattle.law_scripts.proofs.lemmas.script_bytes.Texts.{a_text_spells_bytes}
 use Rattle.endpoint_script.specs.Items.{naks_of, requests_of}
 use Rattle.endpoint_script.specs.Device.{Device, is_way, is_named as is_endpoint_named, place_named, opened_part, opened_endpoint, opening}
 use Rattle.dev_control.specs.Stages.{opened as opened_stages}
@@ -285,29 +285,29 @@ second_told w h = (second_declared w h.0, record { devices = h.1.devices; lines 
 spelled_told : (text : List ℕ) (s : Script) → Spells text s → IsScriptOf IsBoth s
 spelled_told text s e = spelled_kept IsBoth IsEight form_eight empty_told second_told line_tells text s e
 
-pub spelled_controls : TextsOpenControls
-spelled_controls text s e =
+pub texts_open_controls : TextsOpenControls
+texts_open_controls text s e =
     let k = spelled_told text s e in
     let fit = subst IsFit (sym k.is) (spelled_fits text s e) in
     subst OpensControls k.is
     (all_both (λ l. IsFitLine l.1) (λ l. IsToldLine k.draft.hubs k.draft.devices l.1) (λ l. OpensItsControl (script_of k.draft) l.1) k.draft.lines (λ l f z. line_has k.draft l.1 k.holds.0 k.holds.1 f z) fit.lines k.holds.1.lines)
 
-pub spelled_names : TextsNameEndpoints
-spelled_names text s e =
+pub texts_name_endpoints : TextsNameEndpoints
+texts_name_endpoints text s e =
     let k = spelled_told text s e in
     subst NamesEndpoints k.is (record {
       declared = texts_named k.draft.devices k.holds.1.devices;
       opened = all_more (λ l. IsToldLine k.draft.hubs k.draft.devices l.1) (λ l. NamesLine l.1) k.draft.lines (λ l z. line_named k.draft.hubs k.draft.devices l.1 z) k.holds.1.lines;
     })
 
-pub spelled_requests : TextsAskRequests
-spelled_requests text s e =
+pub texts_ask_requests : TextsAskRequests
+texts_ask_requests text s e =
     let k = spelled_told text s e in
-    let bytes = subst IsByteScript (sym k.is) (spelled_bytes text s e) in
+    let bytes = subst IsByteScript (sym k.is) (a_text_spells_bytes text s e) in
     subst AsksRequests k.is
     (all_both (λ l. IsToldLine k.draft.hubs k.draft.devices l.1) (λ l. IsByteLine l.1) (λ l. AsksLine l.1) k.draft.lines (λ l z b. line_asks k.draft.hubs k.draft.devices l.1 z b) k.holds.1.lines bytes.lines)
 
-pub spelled_zeroes : TextsLeaveZeroAlone
-spelled_zeroes text s e =
+pub texts_leave_zero_alone : TextsLeaveZeroAlone
+texts_leave_zero_alone text s e =
     let k = spelled_told text s e in
     subst (λ (s : Script). AreZeroesAlone (opening_bus s)) k.is (opening_alone k.draft k.holds.1)

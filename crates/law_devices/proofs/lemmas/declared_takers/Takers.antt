@@ -165,8 +165,8 @@ lines_have w (l ∷ ls) h fit k = (line_has w l.1 h fit.0 k.0, lines_have w ls h
 
 -- ---- a script
 
-pub spelled_takers : (text : List ℕ) (s : Script) → Spells text s → OpensTakers s
-spelled_takers text s e =
+pub an_opened_endpoint_has_its_taker : (text : List ℕ) (s : Script) → Spells text s → OpensTakers s
+an_opened_endpoint_has_its_taker text s e =
     let k = spelled_kept IsDeclaredDraft empty_declared second_declared line_declares text s e in
     let fit = subst IsFit (sym k.is) (spelled_fits text s e) in
     subst OpensTakers k.is (lines_have k.draft k.draft.lines k.holds fit.lines k.holds.opened)

@@ -10,7 +10,7 @@ use Rattle.law_ring.specs.Hand.{Hand}
 use Rattle.law_ring.specs.Told.{endpoint_of}
 use Rattle.law_devices.specs.ring_requests.Laid.{AreApart}
 use Rattle.law_devices.specs.ring_requests.Windows.{Queue, Lines, lines_at, IsQueue, AreSent, IsElsewhere, AreWindows}
-use Rattle.law_devices.proofs.lemmas.ring_requests.Telling.{queue_opens}
+use Rattle.law_devices.proofs.lemmas.ring_requests.Telling.{requests_open_their_windows}
 use Rattle.law_devices.specs.request_stores.Published.{IsFirstRequest, windows_with, first_sent, first_lines, FirstStoreOpensWindows}
 use Rattle.law_devices.proofs.lemmas.request_stores.Publishing.{IsGood, good_of}
 use Rattle.law_devices.proofs.lemmas.request_stores.Storing.{store_head, store_beside, queue_beside}
@@ -110,8 +110,8 @@ module _ (member windows : ℕ → Bool) (parts : StructureSets) (n : ℕ) (v : 
               (λ (differs : j ≢ n). other_first j differs met (sym (windows_beside j differs) ∙ off)) (cases_eq j n);
         }
 
-pub first_windows : {W : Type 0} (device : W → ℕ → ℕ → Option Device) → FirstStoreOpensWindows device
-first_windows device member windows sent lines parts hand wire n a old new v q c here fixed k laid max left all = record {
+pub a_first_request_is_published : {W : Type 0} (device : W → ℕ → ℕ → Option Device) → FirstStoreOpensWindows device
+a_first_request_is_published device member windows sent lines parts hand wire n a old new v q c here fixed k laid max left all = record {
   sent_are = sent_are member windows parts n v k sent lines (lines_at v q.token.ping c) device hand wire fixed all;
-  windows_are = windows_are member windows parts n v k sent lines (lines_at v q.token.ping c) device hand wire fixed all a old new here (queue_opens v hand (put parts n a (Element new)) n q c (device wire v.endpoint.addr v.endpoint.num) laid max left);
+  windows_are = windows_are member windows parts n v k sent lines (lines_at v q.token.ping c) device hand wire fixed all a old new here (requests_open_their_windows v hand (put parts n a (Element new)) n q c (device wire v.endpoint.addr v.endpoint.num) laid max left);
 }

@@ -240,8 +240,8 @@ last_windows device member windows sent lines parts hand wire n r x new fixed on
 
 -- ---- its run
 
-pub run_with : (v : Queue) (r : Request) (x : Places) (c : Stages) (l : Lines) → l.under < v.count → IsRun v c l → IsRun (with_request v r x) c l
-run_with v r x c l few k = record {
+pub the_run_goes_on : (v : Queue) (r : Request) (x : Places) (c : Stages) (l : Lines) → l.under < v.count → IsRun v c l → IsRun (with_request v r x) c l
+the_run_goes_on v r x c l few k = record {
   earlier = k.earlier;
   last = k.last;
   requests = k.requests ∙ first_same v.requests (with_request v r x).requests l.under (λ i less. ap (λ (s : Sent). s.request) (sym (with_old v r x i (omega (arith, few, less)))));

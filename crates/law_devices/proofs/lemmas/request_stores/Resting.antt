@@ -8,9 +8,9 @@ use Rattle.law_ring.specs.Told.{HasEndpoint, endpoint_of, Endpoint as Characteri
 use Rattle.law_request.specs.Host.{Endpoint}
 use Rattle.law_devices.specs.ring_requests.Resting.{IsOtherEndpoint, IsAlone}
 use Rattle.law_devices.proofs.lemmas.ring_requests.RestingGrows.{queue_grows}
-use Rattle.law_devices.proofs.lemmas.ring_requests.RestingSpared.{lend_spares}
+use Rattle.law_devices.proofs.lemmas.ring_requests.RestingSpared.{lend_spares_rest}
 use Rattle.law_devices.specs.request_stores.Rests.{RestStoreOpensWindows, LendLeavesRest}
-use Rattle.law_devices.proofs.lemmas.request_stores.Beginning.{first_windows}
+use Rattle.law_devices.proofs.lemmas.request_stores.Beginning.{a_first_request_is_published}
 
 not_own : (member : ℕ → Bool) (e : Endpoint) (parts : StructureSets) (n : ℕ) → IsAlone member e parts n → (k : ℕ) (own : Characteristics) → k ≢ n → member k ≡ true → HasEndpoint parts k own → e.addr ≡ own.addr → e.num ≡ own.ep → ⊥
 not_own member e parts n alone k own differs on has same same_too =
@@ -21,11 +21,12 @@ not_own member e parts n alone k own differs on has same same_too =
 pub rest_windows : {W : Type 0} (device : W → ℕ → ℕ → Option Device) → RestStoreOpensWindows device
 rest_windows device member windows sent lines parts hand wire n b v c new k goes_on alone fixed one store all =
     let begun = queue_grows v c b n hand parts (device wire v.endpoint.addr v.endpoint.num) new k goes_on store in
-    first_windows device member windows sent lines parts hand wire n b k.tail.qtd new v k.queue c k.tail.here fixed
+    a_first_request_is_published device member windows sent lines parts hand wire n b k.tail.qtd new v k.queue c k.tail.here fixed
     (record { member_is = one.member_is; none = one.none; one = store.one; whole = one.whole; request = one.request; apart = one.apart; other = not_own member v.endpoint parts n alone }) begun.laid k.max k.device all
 
-pub lend_rests : LendLeavesRest
-lend_rests member windows sent e c b n k hand parts now o lend alone rest = lend_spares member e c b n hand parts now o still alone rest
+pub lend_leaves_rest : LendLeavesRest
+lend_leaves_rest member windows sent e c b n k hand parts now o lend alone rest =
+    lend_spares_rest member e c b n hand parts now o still alone rest
   where
     still : (j a : ℕ) (s : Structure) → parts j a ≡ Some s → now j a ≡ Some s
     still j a s here =

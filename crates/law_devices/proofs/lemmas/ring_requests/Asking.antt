@@ -9,7 +9,7 @@ use Rattle.law_request.specs.Line.{Line}
 use Rattle.law_request.specs.Samples.{described, get_device, get_configuration}
 use Rattle.law_request.specs.Standing.{sight_of, IsDone, StandsAt, Stands}
 use Rattle.law_request.specs.Windows.{IsRequest}
-use Rattle.law_request.proofs.Steps.{opens}
+use Rattle.law_request.proofs.Steps.{window_opens}
 use Rattle.law_devices.specs.request_calls.Stages.{IsEndpoint}
 use Rattle.law_ring.specs.Hand.{Empty}
 use Rattle.law_devices.specs.ring_requests.Laid.{place_at, AreApart, AreOthers, comes, IsUnpublished, IsIdle, LeadBehind, IsFresh}
@@ -200,7 +200,7 @@ second_shown = record {
     among = λ on. record { stage = Setup; is = refl };
     moved = λ some. record { queue = next_queue; head = refl; qtd = second_read; here = refl; are = refl };
     device = refl;
-    stands = opens described get_configuration false ((after first_done).line 0).device refl;
+    stands = window_opens described get_configuration false ((after first_done).line 0).device refl;
   };
   finished = λ i less.
       subst (λ (i : ℕ). IsFinished (sent_at requests i) ((after then_begun).line i) Empty next_parts 32) (let none : 0 ≡ i = omega (arith, less) in none)

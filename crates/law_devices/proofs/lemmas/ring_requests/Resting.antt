@@ -131,6 +131,6 @@ module _ {W : Type 0} (transacts : W → Ask → List ℕ → Reply → W → Ty
         beside = differs;
       }
 
-pub effect_rests : {W : Type 0} (transacts : W → Ask → List ℕ → Reply → W → Type 0) (device : W → ℕ → ℕ → Option Device) → EffectKeepsRest transacts device
-effect_rests transacts device member e c b n parts hand reply wire after now later kind effect bus members in_hand alone rest =
+pub a_queue_at_rest_stays_so : {W : Type 0} (transacts : W → Ask → List ℕ → Reply → W → Type 0) (device : W → ℕ → ℕ → Option Device) → EffectKeepsRest transacts device
+a_queue_at_rest_stays_so transacts device member e c b n parts hand reply wire after now later kind effect bus members in_hand alone rest =
     stays transacts device bus member e c b n parts hand reply wire after now later members in_hand alone rest kind effect

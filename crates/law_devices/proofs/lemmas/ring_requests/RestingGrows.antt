@@ -18,7 +18,7 @@ use Rattle.law_ring.proofs.Ordering.{not_worked, works_by}
 use Rattle.law_devices.specs.ring_requests.Laid.{IsFresh}
 use Rattle.law_devices.specs.ring_requests.Windows.{Queue, sent_at, IsLaid, AreLaid}
 use Rattle.law_devices.specs.ring_requests.Resting.{IsAtRest, IsFirstStore, HasBegun, QueueGrows}
-use Rattle.law_devices.proofs.lemmas.ring_requests.Telling.{queue_opens}
+use Rattle.law_devices.proofs.lemmas.ring_requests.Telling.{requests_open_their_windows}
 
 module _ (v : Queue) (c : Stages) (b n : ℕ) (hand : Hand) (parts : StructureSets) (o : Option Device) (new : Qtd) (k : IsAtRest v.endpoint c b hand parts n o) (goes_on : k.queue.token.halted ≡ false) (store : IsFirstStore v b (put parts n b (Element new) n)) where
   abbrev now : StructureSets
@@ -66,7 +66,7 @@ module _ (v : Queue) (c : Stages) (b n : ℕ) (hand : Hand) (parts : StructureSe
   }
 
   begun : HasBegun v c hand (put parts n b (Element new)) n o k.queue
-  begun = record { laid = laid; asks = queue_opens v hand now n q c o laid k.max k.device }
+  begun = record { laid = laid; asks = requests_open_their_windows v hand now n q c o laid k.max k.device }
 
 pub queue_grows : QueueGrows
 queue_grows v c b n hand parts o new k goes_on store = begun v c b n hand parts o new k goes_on store

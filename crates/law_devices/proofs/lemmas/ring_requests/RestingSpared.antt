@@ -55,8 +55,8 @@ module _ (q r : Qh) (host : host_in r ≡ host_in q) where
   side_still (Settled c z) n is = by_copy (c.at == n) z.host is
   side_still _ n is = refl
 
-pub rest_spared : RestIsSpared
-rest_spared e c b n hand later parts now o sides head tail k =
+pub rest_is_spared : RestIsSpared
+rest_is_spared e c b n hand later parts now o sides head tail k =
     let queue : head.queue ≡ k.queue = found_queue (parts n n) head.queue k.queue head.here k.head in
     let same : SameRest k.queue head.later = subst (λ (q : Qh). SameRest q head.later) queue head.rest in
     let own : endpoint_of head.later ≡ endpoint_of k.queue = head.own ∙ ap endpoint_of queue in
@@ -72,8 +72,8 @@ rest_spared e c b n hand later parts now o sides head tail k =
       device = k.device;
     }
 
-pub alone_spared : AloneIsSpared
-alone_spared member e n parts now heads alone k on differs = let o : IsOtherEndpoint e parts k = alone k on differs in record { own = o.own; has = heads k o.own differs o.has; other = o.other }
+pub alone_is_spared : AloneIsSpared
+alone_is_spared member e n parts now heads alone k on differs = let o : IsOtherEndpoint e parts k = alone k on differs in record { own = o.own; has = heads k o.own differs o.has; other = o.other }
 
 -- ---- what stays
 
@@ -84,8 +84,8 @@ is_same q = record { token = refl; current = refl; next = refl; alternate = refl
 module _ (member : ℕ → Bool) (e : Endpoint) (c : Stages) (b n : ℕ) (hand : Hand) (parts now : StructureSets) (o : Option Device) (heads : (k : ℕ) (q : Qh) → parts k k ≡ Some (QueueHead q) → now k k ≡ Some (QueueHead q)) where
   all_spared : IsIdle (now n) b → IsAlone member e parts n → IsAtRest e c b hand parts n o → RestIsSame member e c b hand now n o
   all_spared tail alone k = record {
-    rest = rest_spared e c b n hand hand parts now o (λ q. refl) (record { queue = k.queue; here = k.head; later = k.queue; there = heads n k.queue k.head; rest = is_same k.queue; own = refl }) tail k;
-    alone = alone_spared member e n parts now (λ i own differs has. record { queue = has.queue; head = heads i has.queue has.head; is = has.is }) alone;
+    rest = rest_is_spared e c b n hand hand parts now o (λ q. refl) (record { queue = k.queue; here = k.head; later = k.queue; there = heads n k.queue k.head; rest = is_same k.queue; own = refl }) tail k;
+    alone = alone_is_spared member e n parts now (λ i own differs has. record { queue = has.queue; head = heads i has.queue has.head; is = has.is }) alone;
   }
 
 -- ---- a store
@@ -111,14 +111,14 @@ module _ (parts : StructureSets) (k a : ℕ) (old new : Qtd) (here : parts k a �
       (λ (differs : a ≢ b). record { qtd = t.qtd; here = store_else n b (Element t.qtd) (λ one is. differs (sym is)) t.here; idle = t.idle }) (cases_eq a b))
       (λ (differs : k ≢ n). record { qtd = t.qtd; here = store_else n b (Element t.qtd) (λ one is. differs (sym one)) t.here; idle = t.idle }) (cases_eq k n)
 
-pub store_spares : StoreSparesRest
-store_spares member e c b n hand parts o k a old new here idle alone r =
+pub store_spares_rest : StoreSparesRest
+store_spares_rest member e c b n hand parts o k a old new here idle alone r =
     all_spared member e c b n hand parts (put parts k a (Element new)) o (store_heads parts k a old new here) (store_tail parts k a old new here n b idle r.tail) alone r
 
 -- ---- a lend
 
-pub lend_spares : LendSparesRest
-lend_spares member e c b n hand parts now o still alone r =
+pub lend_spares_rest : LendSparesRest
+lend_spares_rest member e c b n hand parts now o still alone r =
     all_spared member e c b n hand parts now o (λ k q head. still k k (QueueHead q) head) (record { qtd = r.tail.qtd; here = still n b (Element r.tail.qtd) r.tail.here; idle = r.tail.idle }) alone r
 
 -- ---- structures that are given back
@@ -131,8 +131,8 @@ module _ (parts : StructureSets) (k : ℕ) (goes : ℕ → Bool) where
       ap (λ (x : Bool). (if x then fewer_structures goes (parts n) else parts n) b) (eq-eqb n k same) ∙ ap (λ (x : Bool). if x then None else parts n b) (stays same) ∙ there)
       (λ (differs : n ≢ k). ap (λ (x : Bool). (if x then fewer_structures goes (parts n) else parts n) b) (not_same n k differs) ∙ there) (cases_eq n k)
 
-pub release_spares : ReleaseSparesRest
-release_spares member e c b n hand parts o k goes head tail alone r =
+pub release_spares_rest : ReleaseSparesRest
+release_spares_rest member e c b n hand parts o k goes head tail alone r =
     all_spared member e c b n hand parts (without_those parts k goes) o (λ i q here. fewer_here parts k goes i i (QueueHead q) (λ same. ap goes same ∙ head) here)
     (record { qtd = r.tail.qtd; here = fewer_here parts k goes n b (Element r.tail.qtd) (λ same. tail (sym same)) r.tail.here; idle = r.tail.idle }) alone r
 
@@ -188,18 +188,18 @@ module _ (parts : StructureSets) (k : ℕ) (q new : Qh) (here : parts k k ≡ So
       (λ (at : n ≡ k). record { queue = q; here = ap (λ (j : ℕ). parts j n) at ∙ ap (parts k) at ∙ here; later = new; there = ap (λ (j : ℕ). mended j n) at ∙ ap (mended k) at ∙ put_same parts k k (QueueHead new); rest = same; own = own })
       (λ (differs : n ≢ k). head_beside n r differs head) (cases_eq n k)
 
-pub link_spares : LinkSparesRest
-link_spares member e c b n hand parts o k q l here alone r = record {
-  rest = rest_spared e c b n hand (hand_linked k l hand) parts (put parts k k (QueueHead (record q { link = l }))) o (linked_side k n l hand)
+pub link_spares_rest : LinkSparesRest
+link_spares_rest member e c b n hand parts o k q l here alone r = record {
+  rest = rest_is_spared e c b n hand (hand_linked k l hand) parts (put parts k k (QueueHead (record q { link = l }))) o (linked_side k n l hand)
       (head_linked parts k q (record q { link = l }) here refl n r.queue (record { token = refl; current = refl; next = refl; alternate = refl }) r.head) (idle_there parts k q (record q { link = l }) here refl n b r.tail) r;
-  alone = alone_spared member e n parts (put parts k k (QueueHead (record q { link = l }))) (λ i own differs. has_still parts k q (record q { link = l }) here refl i own) alone;
+  alone = alone_is_spared member e n parts (put parts k k (QueueHead (record q { link = l }))) (λ i own differs. has_still parts k q (record q { link = l }) here refl i own) alone;
 }
 
-pub mend_spares : MendSparesRest
-mend_spares member e c b n hand parts o k q new differs here own alone r = record {
-  rest = rest_spared e c b n hand (hand_stale k hand) parts (put parts k k (QueueHead new)) o (stale_side k n hand) (head_beside parts k q new here own n r.queue (λ is. differs (sym is)) r.head)
+pub mend_spares_rest : MendSparesRest
+mend_spares_rest member e c b n hand parts o k q new differs here own alone r = record {
+  rest = rest_is_spared e c b n hand (hand_stale k hand) parts (put parts k k (QueueHead new)) o (stale_side k n hand) (head_beside parts k q new here own n r.queue (λ is. differs (sym is)) r.head)
       (idle_there parts k q new here own n b r.tail) r;
-  alone = alone_spared member e n parts (put parts k k (QueueHead new)) (λ i x other. has_still parts k q new here own i x) alone;
+  alone = alone_is_spared member e n parts (put parts k k (QueueHead new)) (λ i x other. has_still parts k q new here own i x) alone;
 }
 
 -- a transaction that isn't written back is that of another queue head
@@ -225,5 +225,6 @@ mended_rests member e c b d n hand reply parts o new in_hand alone k own idle le
     max = k.max;
     device = k.device;
   };
-  alone = alone_spared member e n parts (put parts n n (QueueHead new)) (λ i x other. has_still parts n k.queue new k.head own i x) alone;
+  alone = alone_is_spared member e n parts (put parts n n (QueueHead new)) (λ i x other. has_still parts n k.queue new k.head own i x)
+      alone;
 }

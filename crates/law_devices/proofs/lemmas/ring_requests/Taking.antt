@@ -11,7 +11,7 @@ use Rattle.law_structures.specs.lent_structures.Structures.{QueueHead, Element, 
 use Rattle.law_structures.proofs.lemmas.lent_structures.Names.{with_there}
 use Rattle.law_structures.specs.lent_structures.Alters.{Alters}
 use Rattle.law_structures.specs.lent_structures.Sound.{buffer_name}
-use Rattle.law_structures.proofs.lemmas.lent_structures.Altering.{found_element, no_two, head_put}
+use Rattle.law_structures.proofs.lemmas.lent_structures.Altering.{found_element, no_two, a_queue_head_alters_nothing}
 use Rattle.hc_copy.specs.Overlay.{advanced}
 use Rattle.hc_copy.specs.Planning.{host_in}
 use Rattle.hc_copy.specs.Visits.{next_pointer}
@@ -56,7 +56,7 @@ module _ (part : Structures) (n : ℕ) (old new : Qh) (here : part n ≡ Some (Q
   now = with_structure part n (QueueHead new)
 
   pub put_alters : Alters part now
-  put_alters = head_put part n old new here
+  put_alters = a_queue_head_alters_nothing part n old new here
 
   pub element_there : (a : ℕ) (t : Qtd) → part a ≡ Some (Element t) → now a ≡ Some (Element t)
   element_there a t there = with_there part n (QueueHead new) a (no_two part a n (Element t) (QueueHead old) there here (λ z. cc)) ∙ there

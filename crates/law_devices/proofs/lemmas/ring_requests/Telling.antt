@@ -1,4 +1,4 @@
--- A request that is laid out opens its window, and so does a queue of them; one whose status memory shows to be done was acted on exactly once.
+-- A request that is laid out window_opens its window, and so does a queue of them; one whose status memory shows to be done was acted on exactly once.
 use Rattle.std.proofs.Common.{◌≡◌, ◌≢◌, ℕ, ◌<◌, ◌≤◌, ◌==◌, Bool, true, false, if◌then◌else◌, List, Option, Some, ap, refl, sym, subst, ◌∙◌, ⊎_elim, inl, inr, arith}
 use Rattle.std.specs.Prelude.{◌⊎◌}
 use Rattle.std.proofs.lemmas.Bool.{cases_eq, cases_lt, false≢true}
@@ -19,7 +19,7 @@ use Rattle.claims_report.specs.Requests.{Request}
 use Rattle.law_request.specs.Host.{Host, Stage, Setup, Data, Status, Done, Halted, has_data, is_over, next_stage}
 use Rattle.law_request.specs.Line.{Line, line_at}
 use Rattle.law_request.specs.Windows.{IsRight}
-use Rattle.law_request.proofs.Steps.{right, opens}
+use Rattle.law_request.proofs.Steps.{window_is_right, window_opens}
 use Rattle.claims_report.specs.ControlSides.{Device}
 use Rattle.law_devices.specs.request_calls.Bus.{device_of}
 use Rattle.law_devices.specs.ring_requests.Laid.{place_at, comes}
@@ -28,10 +28,10 @@ use Rattle.law_devices.specs.ring_requests.Shown.Shows.{works, waits, ends, halt
 use Rattle.law_devices.specs.ring_requests.Windows.{Sent, Queue, sent_at, Lines, lines_at, IsWindow, IsFinished, IsBehind, IsLaid, IsGoing, HasEnded, IsActedOnce, IsQueue, AreLaid}
 use Rattle.law_devices.proofs.lemmas.ring_requests.Moving.{fresh_pending}
 
--- ---- a window opens
+-- ---- a window window_opens
 
-pub laid_opens : (v : Sent) (hand : Hand) (parts : StructureSets) (n : ℕ) (q : Qh) (c : Stages) (o : Option Device) → IsLaid v hand parts n q → c.max ≡ v.endpoint.max → o ≡ Some (device_of v.endpoint c) → IsWindow v (line_at v.endpoint v.request q.token.ping c) hand parts n o
-laid_opens v hand parts n q c o k max device = record {
+pub a_request_opens_its_window : (v : Sent) (hand : Hand) (parts : StructureSets) (n : ℕ) (q : Qh) (c : Stages) (o : Option Device) → IsLaid v hand parts n q → c.max ≡ v.endpoint.max → o ≡ Some (device_of v.endpoint c) → IsWindow v (line_at v.endpoint v.request q.token.ping c) hand parts n o
+a_request_opens_its_window v hand parts n q c o k max device = record {
   queue = q;
   head = k.head;
   control = k.control;
@@ -40,13 +40,13 @@ laid_opens v hand parts n q c o k max device = record {
   among = λ on. absurd (false≢true (sym k.idle ∙ on));
   moved = k.none_told;
   device = device;
-  stands = opens v.endpoint v.request q.token.ping c max;
+  stands = window_opens v.endpoint v.request q.token.ping c max;
 }
 
-pub queue_opens : (v : Queue) (hand : Hand) (parts : StructureSets) (n : ℕ) (q : Qh) (c : Stages) (o : Option Device) → AreLaid v hand parts n q → c.max ≡ v.endpoint.max → o ≡ Some (device_of v.endpoint c) → IsQueue v (lines_at v q.token.ping c) hand parts n o
-queue_opens v hand parts n q c o k max device = record {
+pub requests_open_their_windows : (v : Queue) (hand : Hand) (parts : StructureSets) (n : ℕ) (q : Qh) (c : Stages) (o : Option Device) → AreLaid v hand parts n q → c.max ≡ v.endpoint.max → o ≡ Some (device_of v.endpoint c) → IsQueue v (lines_at v q.token.ping c) hand parts n o
+requests_open_their_windows v hand parts n q c o k max device = record {
   within = k.some;
-  window = laid_opens (sent_at v 0) hand parts n q c o k.first max device;
+  window = a_request_opens_its_window (sent_at v 0) hand parts n q c o k.first max device;
   finished = λ i less. absurd (omega (arith, less));
   behind = k.behind;
   tail = k.tail;
@@ -56,7 +56,7 @@ queue_opens v hand parts n q c o k max device = record {
 
 pub finished_once : (v : Sent) (l : Line) (hand : Hand) (parts : StructureSets) (n : ℕ) → IsFinished v l hand parts n → IsActedOnce v l hand parts n
 finished_once v l hand parts n k =
-    let is : IsRight v.endpoint v.request l = right v.endpoint v.request l k.stands in
+    let is : IsRight v.endpoint v.request l = window_is_right v.endpoint v.request l k.stands in
     record { acts = is.done_once k.done; told = λ some. subst (λ (xs : List ℕ). Told hand parts n v.places.data_at xs) (is.done_whole k.done) (k.moved some) }
 
 -- ---- what memory tells

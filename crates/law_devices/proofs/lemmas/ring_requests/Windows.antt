@@ -1,4 +1,4 @@
--- Each event of the walk, by its effect, keeps the windows of all requests.
+-- Each event of the walk, by its effect, transaction_keeps the windows of all requests.
 use Rattle.std.proofs.Common.{◌≡◌, ◌≢◌, ℕ, suc, ◌-◌, ◌<◌, ◌≤◌, ◌==◌, ◌&&◌, Bool, true, false, if◌then◌else◌, List, [], ◌++◌, drop, Option, Some, None, ap, refl, sym, subst, ◌∙◌, ⊎_elim, arith}
 use Rattle.std.proofs.lemmas.Bool.{cases_eq, cases_lt, eq-eqb, false≢true}
 use Rattle.usb_base.specs.declared.endpoints.EndCause.{EndCause}
@@ -14,7 +14,7 @@ use Rattle.async_walk.specs.declared.state.WalkStep.{WalkStep}
 use Rattle.async_walk.specs.Naks.{kind_at, planned}
 use Rattle.async_walk.specs.Rows.{WalkPlace, at_event, event_row, step_of, Leads}
 use Rattle.law_structures.specs.lent_structures.Settles.{Settles}
-use Rattle.law_structures.proofs.lemmas.lent_structures.Settling.{settles}
+use Rattle.law_structures.proofs.lemmas.lent_structures.Settling.{a_transaction_settles}
 use Rattle.law_structures.specs.lent_structures.Structures.{QueueHead, Element, Structures, StructureSets, with_structure}
 use Rattle.law_structures.proofs.lemmas.lent_structures.Names.{not_same, put_here, put_beside, with_here}
 use Rattle.law_structures.proofs.lemmas.lent_structures.Found.{back_beside}
@@ -26,7 +26,7 @@ use Rattle.claims_base.specs.Controller.{Base}
 use Rattle.law_ring.specs.Ring.{IsCopied, IsSettled, IsInHand, IsRing}
 use Rattle.law_ring.specs.Effects.{buffer_of, received_into, settlement, counted, taken, Takes, Makes, WritesBack, Effect, Happens, AreBytesHeard}
 use Rattle.law_ring.specs.Effects.Effect.{reads, passes, ends, takes, makes, writes_back}
-use Rattle.law_ring.proofs.Stepping.{event_happens}
+use Rattle.law_ring.proofs.Stepping.{each_event}
 use Rattle.law_ring.proofs.Writing.{queue_written}
 use Rattle.law_ring.specs.Told.{Told, endpoint_of, SameTold}
 use Rattle.law_ring.specs.Streams.{AreMembers, Grows}
@@ -39,7 +39,7 @@ use Rattle.law_request.specs.Host.{Endpoint, Host, Stage, Setup, Data, Status, D
 use Rattle.law_request.specs.Line.{Line, transacted}
 use Rattle.law_request.specs.Standing.{sight_of}
 use Rattle.law_request.specs.Windows.{IsRight}
-use Rattle.law_request.proofs.Steps.{keeps, opens, right}
+use Rattle.law_request.proofs.Steps.{transaction_keeps, window_opens, window_is_right}
 use Rattle.claims_report.specs.ControlSides.{Device}
 use Rattle.law_devices.specs.request_calls.Bus.{device_of, IsAskFor, IsControlBus}
 use Rattle.law_devices.specs.request_calls.Stages.{IsEndpoint, WorksOn, AreGiven, moved_of, IsTransaction}
@@ -178,9 +178,9 @@ module _ (windows : ℕ → Bool) (lines : ℕ → Lines) where
       let at : n ≡ x.at = same ∙ sym (ap place_of is) in
       none cause (ap windows (sym at) ∙ on) (ap (λ (i : ℕ). stage_of (lines i)) (sym at) ∙ halted)
 
-pub halted_stay : (windows : ℕ → Bool) (sent : ℕ → Queue) (lines : ℕ → Lines) (step : Option Step) (n : ℕ) (cause : EndCause) → HaltedStay windows lines step → windows n ≡ true → stage_of (lines n) ≡ Halted cause → stepped sent step lines n ≡ lines n
-halted_stay windows sent lines None n cause stay on halted = refl
-halted_stay windows sent lines (Some s) n cause stay on halted = ap (λ (b : Bool). if b then progressed (sent n) s.is (lines n) else lines n) (not_same n s.at (stay n cause on halted s refl))
+pub requests_behind_a_halted_one_are_not_begun : (windows : ℕ → Bool) (sent : ℕ → Queue) (lines : ℕ → Lines) (step : Option Step) (n : ℕ) (cause : EndCause) → HaltedStay windows lines step → windows n ≡ true → stage_of (lines n) ≡ Halted cause → stepped sent step lines n ≡ lines n
+requests_behind_a_halted_one_are_not_begun windows sent lines None n cause stay on halted = refl
+requests_behind_a_halted_one_are_not_begun windows sent lines (Some s) n cause stay on halted = ap (λ (b : Bool). if b then progressed (sent n) s.is (lines n) else lines n) (not_same n s.at (stay n cause on halted s refl))
 
 both_true : (a b : Bool) → (a && b) ≡ true → (a ≡ true) × (b ≡ true)
 both_true true true on = (refl, refl)
@@ -302,7 +302,7 @@ module _ {W : Type 0} (transacts : W → Ask → List ℕ → Reply → W → Ty
         next : IsBehind (sent_at (sent n) (suc (lines n).under)) hand parts n
         next = w.behind (suc began) (omega (arith)) more
 
-        -- its window as it opens, while the queue head still waits
+        -- its window as it window_opens, while the queue head still waits
         next_works : Works (sent n).endpoint ((sent n).requests (suc (lines n).under)) ((sent n).places (suc (lines n).under)) (with_structure (parts n) n (QueueHead (advanced k.copy.queue k.element k.qtd))) (host_in (advanced k.copy.queue k.element k.qtd)) (advanced k.copy.queue k.element k.qtd) next_line.host
         next_works =
             taken_works mine.endpoint (mine.requests (suc began)) (mine.places (suc began)) (parts n) n k.copy.queue next_line.host here control_taken k.element k.qtd k.idle k.goes_on k.leads there k.published
@@ -318,7 +318,8 @@ module _ {W : Type 0} (transacts : W → Ask → List ℕ → Reply → W → Ty
           among = λ active. record { stage = Setup; is = next_works.current };
           moved = λ some. told.bytes n (mine.places (suc began)).data_at [] (next.none_told some);
           device = w.window.device;
-          stands = opens mine.endpoint (mine.requests (suc began)) line_began.host.side.ping line_began.device w.window.stands.device_max;
+          stands = window_opens mine.endpoint (mine.requests (suc began)) line_began.host.side.ping line_began.device
+              w.window.stands.device_max;
         }
 
         abbrev next_lines : ℕ → Line
@@ -573,7 +574,7 @@ module _ {W : Type 0} (transacts : W → Ask → List ℕ → Reply → W → Ty
 
       shown_now : Shows (sent m.copy.at).endpoint ((sent m.copy.at).requests (lines m.copy.at).under) ((sent m.copy.at).places (lines m.copy.at).under) (parts m.copy.at) made.host m.copy.queue outcome_is
       shown_now =
-          let s : Settles (kind_at q.dtc) q m.out false m.reply = settles (kind_at q.dtc) q m.out false m.reply m.sent.all in
+          let s : Settles (kind_at q.dtc) q m.out false m.reply = a_transaction_settles (kind_at q.dtc) q m.out false m.reply m.sent.all in
           shows_after v.endpoint v.request v.places apart (parts at) q line.host work made.host (s.host.packets ∙ control.packets) published made.outcome (moved_of q made.outcome m.reply source) (call_leaves v.endpoint q m.out m.reply control)
 
       -- what is told of its data
@@ -610,7 +611,7 @@ module _ {W : Type 0} (transacts : W → Ask → List ℕ → Reply → W → Ty
             (subst (λ (h : Host). Told later parts at v.places.data_at h.moved) (sym turn.host) (told_at line.host.stage refl (window.moved some)));
         among = subst (λ (z : Qh). IsAmong v.places z) same_queue window.among;
         device = turn.device;
-        stands = keeps v.endpoint v.request turn.losses line (fixed.requests at i on requests.within) window.stands;
+        stands = transaction_keeps v.endpoint v.request turn.losses line (fixed.requests at i on requests.within) window.stands;
       }
 
       -- another request isn't asked
@@ -702,27 +703,27 @@ module _ {W : Type 0} (transacts : W → Ask → List ℕ → Reply → W → Ty
         halted = none_stay windows lines;
       }
 
-pub event_windows : {W : Type 0} (transacts : W → Ask → List ℕ → Reply → W → Type 0) (device : W → ℕ → ℕ → Option Device) (base : Base) (member windows : ℕ → Bool) (sent : ℕ → Queue) (lines : ℕ → Lines) (parts : StructureSets) (hand : Hand) (p : WalkPlace) (wire : W) (new : WalkPlace) (after : W)
+pub each_event_keeps_the_windows : {W : Type 0} (transacts : W → Ask → List ℕ → Reply → W → Type 0) (device : W → ℕ → ℕ → Option Device) (base : Base) (member windows : ℕ → Bool) (sent : ℕ → Queue) (lines : ℕ → Lines) (parts : StructureSets) (hand : Hand) (p : WalkPlace) (wire : W) (new : WalkPlace) (after : W)
     → AreSent member windows sent → IsControlBus transacts device → IsRing base member parts hand p → AreWindows device member windows sent lines parts hand wire
     → AreBytesHeard transacts wire after → Leads transacts (event_row p) (at_event p) wire new after
     → WindowsGoOn transacts device base member windows sent lines parts hand wire after new (step_of (event_row p) (at_event p))
-event_windows transacts device base member windows sent lines parts hand p wire new after fixed bus ring all heard lead =
-    let h : Happens transacts base member parts hand wire after new (step_of (event_row p) (at_event p)) = event_happens transacts base member parts hand p wire new after ring heard lead in
+each_event_keeps_the_windows transacts device base member windows sent lines parts hand p wire new after fixed bus ring all heard lead =
+    let h : Happens transacts base member parts hand wire after new (step_of (event_row p) (at_event p)) = each_event transacts base member parts hand p wire new after ring heard lead in
     let r = rest_by transacts device bus member windows sent fixed lines parts hand p.walk.reply wire ring.members ring.in_hand all after h.now h.later (step_of (event_row p) (at_event p)) h.effect in
     record { event = h; step = r.step; all = r.windows_are; is = r.is; halted = r.halted }
 
-pub window_right : {W : Type 0} (device : W → ℕ → ℕ → Option Device) (member windows : ℕ → Bool) (sent : ℕ → Queue) (lines : ℕ → Lines) (parts : StructureSets) (hand : Hand) (wire : W) (n i : ℕ) → AreWindows device member windows sent lines parts hand wire → windows n ≡ true
+pub each_window_is_right : {W : Type 0} (device : W → ℕ → ℕ → Option Device) (member windows : ℕ → Bool) (sent : ℕ → Queue) (lines : ℕ → Lines) (parts : StructureSets) (hand : Hand) (wire : W) (n i : ℕ) → AreWindows device member windows sent lines parts hand wire → windows n ≡ true
     → i ≤ (lines n).under → IsRight (sent n).endpoint ((sent n).requests i) ((lines n).line i)
-window_right device member windows sent lines parts hand wire n i all on begun =
+each_window_is_right device member windows sent lines parts hand wire n i all on begun =
     let w : IsQueue (sent n) (lines n) hand parts n (device wire (sent n).endpoint.addr (sent n).endpoint.num) = all.each n on in
     ⊎_elim {C = IsRight (sent n).endpoint ((sent n).requests i) ((lines n).line i)}
     (λ (same : i ≡ (lines n).under).
-    subst (λ (j : ℕ). IsRight (sent n).endpoint ((sent n).requests j) ((lines n).line j)) (sym same) (right (sent n).endpoint ((sent n).requests (lines n).under) ((lines n).line (lines n).under) w.window.stands))
-    (λ (differs : i ≢ (lines n).under). right (sent n).endpoint ((sent n).requests i) ((lines n).line i) (w.finished i (omega (arith, begun, differs))).stands) (cases_eq i (lines n).under)
+    subst (λ (j : ℕ). IsRight (sent n).endpoint ((sent n).requests j) ((lines n).line j)) (sym same) (window_is_right (sent n).endpoint ((sent n).requests (lines n).under) ((lines n).line (lines n).under) w.window.stands))
+    (λ (differs : i ≢ (lines n).under). window_is_right (sent n).endpoint ((sent n).requests i) ((lines n).line i) (w.finished i (omega (arith, begun, differs))).stands) (cases_eq i (lines n).under)
 
-pub window_before : {W : Type 0} (device : W → ℕ → ℕ → Option Device) (member windows : ℕ → Bool) (sent : ℕ → Queue) (lines : ℕ → Lines) (parts : StructureSets) (hand : Hand) (wire : W) (n i : ℕ) → AreWindows device member windows sent lines parts hand wire → windows n ≡ true
+pub each_request_before_was_acted_on_once : {W : Type 0} (device : W → ℕ → ℕ → Option Device) (member windows : ℕ → Bool) (sent : ℕ → Queue) (lines : ℕ → Lines) (parts : StructureSets) (hand : Hand) (wire : W) (n i : ℕ) → AreWindows device member windows sent lines parts hand wire → windows n ≡ true
     → i < (lines n).under → IsActedOnce (sent_at (sent n) i) ((lines n).line i) hand parts n
-window_before device member windows sent lines parts hand wire n i all on less = finished_once (sent_at (sent n) i) ((lines n).line i) hand parts n ((all.each n on).finished i less)
+each_request_before_was_acted_on_once device member windows sent lines parts hand wire n i all on less = finished_once (sent_at (sent n) i) ((lines n).line i) hand parts n ((all.each n on).finished i less)
 
 pub window_ended : {W : Type 0} (device : W → ℕ → ℕ → Option Device) (base : Base) (member windows : ℕ → Bool) (sent : ℕ → Queue) (lines : ℕ → Lines) (parts : StructureSets) (hand : Hand) (p : WalkPlace) (wire : W) (n i : ℕ) → AreSent member windows sent → IsRing base member parts hand p
     → AreWindows device member windows sent lines parts hand wire → windows n ≡ true → i < (sent n).count → HasEnded (sent_at (sent n) i) parts n → IsActedOnce (sent_at (sent n) i) ((lines n).line i) hand parts n

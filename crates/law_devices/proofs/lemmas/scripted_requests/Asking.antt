@@ -236,8 +236,8 @@ module _ (w : Wired) (ask : Ask) (out : List ℕ) (e : Own) (c : Stages) (h : Ha
 
 -- ---- the law
 
-pub scripted_control : IsControlBus transacts_by control_of
-scripted_control = record {
+pub a_scripted_bus_answers_by_stages : IsControlBus transacts_by control_of
+a_scripted_bus_answers_by_stages = record {
   asked = λ w ask out reply v e c made k here.
       subst (λ (x : Wired). IsAnswered e ask out c reply (control_of x e.addr e.num)) (sym made.1)
       (subst (λ (r : Reply). IsAnswered e ask out c r (control_of (record w { bus = transact_after w.fixed w.bus ask out }) e.addr e.num)) (sym made.0) (asked_answers w ask out e c (control_found w e.addr e.num (device_of e c) here) k));

@@ -165,8 +165,8 @@ begun_side frindex devices n addr ep s is =
 
 -- ---- the law
 
-pub scripted_begins : KeepsDevices begins_by control_of
-scripted_begins w frindex allowed v addr ep s made is =
+pub keeps_devices : KeepsDevices begins_by control_of
+keeps_devices w frindex allowed v addr ep s made is =
     let h : HasControl w addr ep s = control_found w addr ep s is in
     let sent : control_of_device addr ep (slice_get w.bus.devices h.device_place) ≡ Some s = sym (control_through w addr ep s h w.bus) ∙ is in
     ap (λ (x : Wired). control_of x addr ep) made.1 ∙ control_through w addr ep s h (begin_after w.fixed frindex w.bus)

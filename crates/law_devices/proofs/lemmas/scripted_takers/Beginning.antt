@@ -91,8 +91,8 @@ begun_taker frindex devices n addr ep s is =
 
 -- ---- the law
 
-pub scripted_out_begins : (stream : ℕ → ℕ → Bool) → KeepsTakers (λ (w : Wired) (frindex : ℕ) (allowed : Bool) (v : Wired). (allowed ≡ is_allowed w.fixed w.bus) × (v ≡ record w { bus = begin_after w.fixed frindex w.bus })) stream taker_of
-scripted_out_begins stream w frindex allowed v addr ep s made on is =
+pub a_microframe_keeps_its_takers : (stream : ℕ → ℕ → Bool) → KeepsTakers (λ (w : Wired) (frindex : ℕ) (allowed : Bool) (v : Wired). (allowed ≡ is_allowed w.fixed w.bus) × (v ≡ record w { bus = begin_after w.fixed frindex w.bus })) stream taker_of
+a_microframe_keeps_its_takers stream w frindex allowed v addr ep s made on is =
     let h : HasTaker w addr ep s = taker_found w addr ep s is in
     let sent : taker_of_device addr ep (slice_get w.bus.devices h.device_place) ≡ Some s = sym (taker_through w addr ep h.place h.seat h.device_place w.bus h.found h.there h.owner) ∙ is in
     ap (λ (x : Wired). taker_of x addr ep) made.1

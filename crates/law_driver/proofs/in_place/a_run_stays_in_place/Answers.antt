@@ -1,5 +1,5 @@
-use Rattle.law_driver.proofs.lemmas.in_place.Elsewhere.{whole_run}
+use Rattle.law_driver.proofs.lemmas.in_place.Elsewhere.{a_run_stays_in_place}
 use Rattle.law_driver.proofs.in_place.a_run_stays_in_place.Goals as goal
 
 pub returns : goal.returns
-returns c = whole_run
+returns c = a_run_stays_in_place

@@ -1,5 +1,5 @@
-use Rattle.law_driver.proofs.lemmas.in_place.Laws.{command_in_place}
+use Rattle.law_driver.proofs.lemmas.in_place.Laws.{commands_keep_all_in_place}
 use Rattle.law_driver.proofs.in_place.commands_keep_all_in_place.Goals as goal
 
 pub returns : goal.returns
-returns c = command_in_place
+returns c = commands_keep_all_in_place

@@ -285,8 +285,8 @@ accepts : (d : DriverContent) (m : Mem) (o : Offered) (cmd : Cmd) → OpensAsync
 accepts d m o (commands.OpenEp x) is new = record { opens = new.opens; asynchronous = subst (λ (z : EpDesc). IsAsynchronous z) (sym new.desc) is }
 accepts d m o _ is why = why
 
-pub command_accepts : (d : DriverContent) (m : Mem) (cmd : Cmd) (o : Offered) → OnlyAsynchronous d → OpensAsynchronous cmd → offered d m cmd ≡ Ok o → AcceptsAsynchronous d m o cmd
-command_accepts d m cmd o only is f =
+pub asynchronous_command_is_accepted : (d : DriverContent) (m : Mem) (cmd : Cmd) (o : Offered) → OnlyAsynchronous d → OpensAsynchronous cmd → offered d m cmd ≡ Ok o → AcceptsAsynchronous d m o cmd
+asynchronous_command_is_accepted d m cmd o only is f =
     accepts d m o cmd is (busy_accepted d m cmd o d.command (λ e x here. let s = only.endpoints e x here in (s.asynchronous, s.placement)) (opens_ring cmd is) refl f)
 
 -- bulk endpoints alone

@@ -58,8 +58,8 @@ only_asynchronous d r = record {
   removals = r.removals;
 }
 
-pub bulk_takes_turns : (d : DriverContent) → TakesTurns d → AsynchronousTakesTurns d
-bulk_takes_turns d old = record { asynchronous = only_asynchronous d old.bulk; chained = old.chained; turns = old.turns }
+pub bulk_is_asynchronous : (d : DriverContent) → TakesTurns d → AsynchronousTakesTurns d
+bulk_is_asynchronous d old = record { asynchronous = only_asynchronous d old.bulk; chained = old.chained; turns = old.turns }
 
 abbrev pub EachBulk : DriverContent → Type 0
 EachBulk d = (e : ℕ) (x : Endpoint) → slice_get d.endpoints e ≡ Some x → IsBulk x.desc

@@ -39,13 +39,13 @@ use Rattle.law_driver.specs.chained_transfers.Leaving.{IsAcceptedAs, IsStaying, 
 use Rattle.claims_driver.specs.Scripts.{OpensAsynchronous}
 use Rattle.law_driver.specs.chained_transfers.Asynchronous.{StandsAsynchronous, OnlyAsynchronous, IsOpenedAsynchronous, AcceptsAsynchronous}
 use Rattle.law_driver.specs.chained_transfers.AsynchronousTurns.{AsynchronousTakesTurns}
-use Rattle.law_driver.proofs.lemmas.chained_transfers.BulkAndControl.{bulk_asynchronous, bulk_takes_turns, EachBulk, takes_bulk_turns}
+use Rattle.law_driver.proofs.lemmas.chained_transfers.BulkAndControl.{bulk_asynchronous, bulk_is_asynchronous, EachBulk, takes_bulk_turns}
 use Rattle.law_driver.proofs.lemmas.chained_transfers.Moves.{KeepDescs, descs_set, descs_push, moves_on, moves_same}
 use Rattle.law_driver.proofs.lemmas.chained_transfers.Chained.{pieces_same, same_chained, endpoint_chained, within_list, pushed_there, pushed_last}
 use Rattle.law_driver.proofs.lemmas.chained_transfers.Queued.{not_dummy, transfer_chained}
 use Rattle.law_driver.proofs.lemmas.chained_transfers.Turning.{fewer_turns, IsChangedAt, which, changed_plain}
 use Rattle.law_driver.proofs.lemmas.chained_transfers.Ends.{ends_turns, changed_end, changed_stays, WasGone, returned_on, same_turn, same_gone, changed_gone}
-use Rattle.law_driver.proofs.lemmas.chained_transfers.Accepting.{command_accepts, command_accepted, command_received}
+use Rattle.law_driver.proofs.lemmas.chained_transfers.Accepting.{asynchronous_command_is_accepted, command_accepted, command_received}
 use Rattle.law_driver.proofs.lemmas.chained_transfers.Rows.{ends_set}
 use Rattle.law_driver.proofs.lemmas.chained_transfers.Staying.{stands_alive, fresh_stands_linked, linked_stands_alive}
 
@@ -155,7 +155,7 @@ open_leaves d m o order why old =
     (λ e z here. ⊎_elim (λ (was : slice_get d.endpoints e ≡ Some z). (old.bulk.endpoints e z was).bulk)
     (λ (new : (e ≡ length d.endpoints) × (z ≡ x)). subst (λ (y : Endpoint). IsBulk y.desc) (sym new.1) why.bulk) (push_which d.endpoints x e z here)))
     (ap (λ (g : Offered). g.driver.mends) w.is ∙ old.bulk.mends)
-    (open_queue d m o order (record { opens = w; asynchronous = bulk_asynchronous w.desc why.bulk }) (bulk_takes_turns d old))
+    (open_queue d m o order (record { opens = w; asynchronous = bulk_asynchronous w.desc why.bulk }) (bulk_is_asynchronous d old))
 
 open_nothing : (d : DriverContent) (m : Mem) (o : Offered) → IsOpened d m o → NothingLeaves d → NothingLeaves o.driver
 open_nothing d m o why old =
@@ -402,7 +402,7 @@ asked_in_turn d m o stands owners why old =
     let each : (dummy e : ℕ) (y : Endpoint) → slice_get (set d.endpoints w.number (with_queued x dummy (length d.transfers))) e ≡ Some y → IsBulk y.desc =
     λ dummy. ends_set (λ (y : Endpoint). IsBulk y.desc) d.endpoints w.number x (with_queued x dummy (length d.transfers)) w.here (λ s. s) (λ e y here. (old.bulk.endpoints e y here).bulk) in
     takes_bulk_turns o.driver (subst (λ (g : Offered). EachBulk g.driver) (sym w.is) (each _)) (ap (λ (g : Offered). g.driver.mends) w.is ∙ old.bulk.mends)
-    (queued_in_turn d m o stands owners w (ap (λ (a : Asked). a.sort) why.asked) (bulk_takes_turns d old))
+    (queued_in_turn d m o stands owners w (ap (λ (a : Asked). a.sort) why.asked) (bulk_is_asynchronous d old))
 
 asked_nothing : (d : DriverContent) (m : Mem) (o : Offered) → IsAsked d m o → NothingLeaves d → NothingLeaves o.driver
 asked_nothing d m o why old =
@@ -481,7 +481,7 @@ cancel_leaves d m o why old =
     takes_bulk_turns o.driver
     (subst (λ (g : Offered). EachBulk g.driver) (sym why.is) (ends_set (λ (y : Endpoint). IsBulk y.desc) d.endpoints why.number x z why.here (λ s. s) (λ e y here. (old.bulk.endpoints e y here).bulk)))
     (ap (λ (g : Offered). g.driver.mends) why.is ∙ old.bulk.mends)
-    (cancel_queue d m o why (bulk_takes_turns d old))
+    (cancel_queue d m o why (bulk_is_asynchronous d old))
 
 -- ---- any command
 
@@ -493,8 +493,8 @@ accepts_in_turn d m o (commands.Control name setup bytes) stands owners why old 
 accepts_in_turn d m o (commands.Cancel name) stands owners why old = cancel_queue d m o why old
 accepts_in_turn d m o _ stands owners why old = absurd why
 
-pub command_takes_turns : (d : DriverContent) (m : Mem) (cmd : Cmd) (o : Offered) → Stands (holding d.book m) → HasOwners d → AsynchronousTakesTurns d → OpensAsynchronous cmd → offered d m cmd ≡ Ok o → AsynchronousTakesTurns o.driver
-command_takes_turns d m cmd o stands owners old only is = accepts_in_turn d m o cmd stands owners (command_accepts d m cmd o old.asynchronous only is) old
+pub commands_keep_asynchronous_turns : (d : DriverContent) (m : Mem) (cmd : Cmd) (o : Offered) → Stands (holding d.book m) → HasOwners d → AsynchronousTakesTurns d → OpensAsynchronous cmd → offered d m cmd ≡ Ok o → AsynchronousTakesTurns o.driver
+commands_keep_asynchronous_turns d m cmd o stands owners old only is = accepts_in_turn d m o cmd stands owners (asynchronous_command_is_accepted d m cmd o old.asynchronous only is) old
 
 -- an accepted open, get or put
 accepted_leaves : (d : DriverContent) (m : Mem) (o : Offered) → Stands (holding d.book m) → HasOwners d → IsAccepted d m o → TakesTurns d → TakesTurns o.driver
@@ -511,8 +511,8 @@ leaves_as d m o _ stands owners why old = accepted_leaves d m o stands owners wh
 pub is_accepted : (d : DriverContent) (m : Mem) (cmd : Cmd) (o : Offered) → OnlyBulk d → OpensOrCancelsBulk cmd → offered d m cmd ≡ Ok o → IsAcceptedAs d m o cmd
 is_accepted d m cmd o bulk only is = command_accepted d m cmd o (λ e x here. let s = bulk.endpoints e x here in (s.bulk, s.placement)) only is
 
-pub command_in_turn : (d : DriverContent) (m : Mem) (cmd : Cmd) (o : Offered) → Stands (holding d.book m) → HasOwners d → TakesTurns d → OpensOrCancelsBulk cmd → offered d m cmd ≡ Ok o → TakesTurns o.driver
-command_in_turn d m cmd o stands owners old only is = leaves_as d m o cmd stands owners (is_accepted d m cmd o old.bulk only is) old
+pub commands_keep_turns : (d : DriverContent) (m : Mem) (cmd : Cmd) (o : Offered) → Stands (holding d.book m) → HasOwners d → TakesTurns d → OpensOrCancelsBulk cmd → offered d m cmd ≡ Ok o → TakesTurns o.driver
+commands_keep_turns d m cmd o stands owners old only is = leaves_as d m o cmd stands owners (is_accepted d m cmd o old.bulk only is) old
 
 pub command_nothing : (d : DriverContent) (m : Mem) (cmd : Cmd) (o : Offered) → OnlyBulk d → NothingLeaves d → OpensBulk cmd → offered d m cmd ≡ Ok o → NothingLeaves o.driver
 command_nothing d m cmd o bulk none only is = accepted_nothing d m o (command_received d m cmd o bulk only is) none

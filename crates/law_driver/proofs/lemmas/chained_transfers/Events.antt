@@ -32,7 +32,7 @@ use Rattle.claims_driver.specs.Leaving.{leaver, IsOrderly, HasOwners}
 use Rattle.claims_driver.specs.Owners.{views_of, note_in}
 use Rattle.law_driver.proofs.lemmas.run_owners.Orders.{IsOwed, owed, times_first, one_same, IsLeft}
 use Rattle.law_driver.proofs.lemmas.run_owners.Leaves.{first_left}
-use Rattle.law_driver.proofs.lemmas.run_owners.Reasons.{each_is_due}
+use Rattle.law_driver.proofs.lemmas.run_owners.Reasons.{each_event_is_due}
 use Rattle.law_driver.proofs.lemmas.run_owners.Stays.{advanced, lent, harvest_stays}
 use Rattle.law_driver.specs.chained_transfers.Bulk.{IsBulk, MovesAs, IsBulkCommand, OnlyBulk}
 use Rattle.law_driver.specs.chained_transfers.Turns.{IsAtPlace, AreAtPlaces, turn_of, turn_in, IsNotGone, AreTurnsOf, AreReturned}
@@ -41,7 +41,7 @@ use Rattle.law_driver.specs.chained_transfers.Leaving.{NothingLeaves}
 use Rattle.law_driver.specs.chained_transfers.Asynchronous.{StandsAsynchronous, OnlyAsynchronous}
 use Rattle.law_driver.specs.chained_transfers.AsynchronousTurns.{AsynchronousTakesTurns}
 use Rattle.law_driver.proofs.lemmas.chained_transfers.Ways.{found_by, moves_queued}
-use Rattle.law_driver.proofs.lemmas.chained_transfers.BulkAndControl.{only_asynchronous, bulk_takes_turns, takes_bulk_turns}
+use Rattle.law_driver.proofs.lemmas.chained_transfers.BulkAndControl.{only_asynchronous, bulk_is_asynchronous, takes_bulk_turns}
 use Rattle.law_driver.proofs.lemmas.chained_transfers.Moves.{KeepDescs, descs_same, descs_set, moves_on, moves_same, moves_set}
 use Rattle.law_driver.proofs.lemmas.chained_transfers.Chained.{same_chained, released_chained, gone_from, let_go_endpoint, endpoint_gone_chained}
 use Rattle.law_driver.proofs.lemmas.chained_transfers.Turning.{fewer_turns, changed, changed_plain, released_turns}
@@ -333,8 +333,8 @@ due_leaves (rows.ReadFrame n) p due order old =
 due_leaves (rows.Harvest e t found) p due order old = harvest_leaves p e t found due old.asynchronous old
 due_leaves rows.Rest p due order old = record { turns = old; descs = descs_same p.driver.endpoints }
 
-pub event_queues : (p : Parts) → HasOwners p.driver → AsynchronousTakesTurns p.driver → AsynchronousTakesTurns (after_driver_row (driver_row p) p).driver
-event_queues p owners old = (due_leaves (driver_row p) p (each_is_due p) owners.orderly old).turns
+pub events_keep_asynchronous_turns : (p : Parts) → HasOwners p.driver → AsynchronousTakesTurns p.driver → AsynchronousTakesTurns (after_driver_row (driver_row p) p).driver
+events_keep_asynchronous_turns p owners old = (due_leaves (driver_row p) p (each_event_is_due p) owners.orderly old).turns
 
 -- ---- bulk endpoints alone: none is owed a store
 
@@ -365,10 +365,10 @@ mends_stay (rows.Harvest e t found) p due r =
     (harvest_mends p.driver p.memory e t due.endpoint due.transfer found (r.endpoints e due.endpoint due.here).bulk.kind ∙ r.mends)
 mends_stay _ p due r = r.mends
 
-pub event_turns : (p : Parts) → HasOwners p.driver → TakesTurns p.driver → TakesTurns (after_driver_row (driver_row p) p).driver
-event_turns p owners old =
-    let due = each_is_due p in
-    let l = due_leaves (driver_row p) p due owners.orderly (bulk_takes_turns p.driver old) in
+pub events_keep_turns : (p : Parts) → HasOwners p.driver → TakesTurns p.driver → TakesTurns (after_driver_row (driver_row p) p).driver
+events_keep_turns p owners old =
+    let due = each_event_is_due p in
+    let l = due_leaves (driver_row p) p due owners.orderly (bulk_is_asynchronous p.driver old) in
     takes_bulk_turns (after_driver_row (driver_row p) p).driver
     (λ e x here. let o = l.descs e x here in subst (λ (k : EpDesc). IsBulk k) o.same (old.bulk.endpoints e o.one o.here).bulk)
     (mends_stay (driver_row p) p due old.bulk) l.turns
@@ -393,13 +393,13 @@ due_nothing (rows.Harvest e t found) p due only old = harvest_nothing p e t foun
 due_nothing rows.Rest p due only old = old
 due_nothing _ p due only old = record { endpoints = old.endpoints; command = old.command; waiting = old.waiting; rung = old.rung; cleared = old.cleared }
 
-pub event_nothing : (p : Parts) → HasOwners p.driver → TakesTurns p.driver → NothingLeaves p.driver → NothingLeaves (after_driver_row (driver_row p) p).driver
-event_nothing p owners old none = due_nothing (driver_row p) p (each_is_due p) (only_asynchronous p.driver old.bulk) none
+pub nothing_starts_to_leave : (p : Parts) → HasOwners p.driver → TakesTurns p.driver → NothingLeaves p.driver → NothingLeaves (after_driver_row (driver_row p) p).driver
+nothing_starts_to_leave p owners old none = due_nothing (driver_row p) p (each_event_is_due p) (only_asynchronous p.driver old.bulk) none
 
 -- ---- the opening
 
-pub new_queues : (n : ℕ) (room : Reserve) → AsynchronousTakesTurns (opening n room).driver
-new_queues n room = record {
+pub new_driver_takes_asynchronous_turns : (n : ℕ) (room : Reserve) → AsynchronousTakesTurns (opening n room).driver
+new_driver_takes_asynchronous_turns n room = record {
   asynchronous = record {
     endpoints = λ e x here. absurd (cc);
     moves = λ t y here. absurd (cc);
@@ -423,8 +423,9 @@ new_queues n room = record {
   };
 }
 
-pub new_turns : (n : ℕ) (room : Reserve) → TakesTurns (opening n room).driver
-new_turns n room = takes_bulk_turns (opening n room).driver (λ e x here. absurd (cc)) refl (new_queues n room)
+pub new_driver_takes_turns : (n : ℕ) (room : Reserve) → TakesTurns (opening n room).driver
+new_driver_takes_turns n room =
+    takes_bulk_turns (opening n room).driver (λ e x here. absurd (cc)) refl (new_driver_takes_asynchronous_turns n room)
 
-pub new_nothing : (n : ℕ) (room : Reserve) → NothingLeaves (opening n room).driver
-new_nothing n room = record { endpoints = λ e x here. absurd (cc); command = refl; waiting = refl; rung = refl; cleared = refl }
+pub new_driver_stays : (n : ℕ) (room : Reserve) → NothingLeaves (opening n room).driver
+new_driver_stays n room = record { endpoints = λ e x here. absurd (cc); command = refl; waiting = refl; rung = refl; cleared = refl }

@@ -29,8 +29,8 @@ use Rattle.claims_driver.specs.InPlace.{IsMet, IsFixed}
 use Rattle.law_driver.specs.in_place.InPlace.{IsInPlace}
 use Rattle.law_driver.specs.queue_head_words.Overlay.{HasQueueHead, of_ring, of_endpoint}
 use Rattle.law_driver.specs.in_place.Run.{IsElsewhere, Move, Offer, Event, Controller, accepted, moved, IsAllowed, run, AreAllowed}
-use Rattle.law_driver.proofs.lemmas.in_place.Opened.{opening_in_place}
-use Rattle.law_driver.proofs.lemmas.in_place.Laws.{command_in_place, event_in_place}
+use Rattle.law_driver.proofs.lemmas.in_place.Opened.{opening_is_in_place}
+use Rattle.law_driver.proofs.lemmas.in_place.Laws.{commands_keep_all_in_place, events_keep_all_in_place}
 
 -- ---- the ring
 
@@ -96,8 +96,8 @@ met_there d e x order here met =
 
 -- ---- the controller
 
-pub elsewhere_in_place : (d : DriverContent) (m new : Mem) → IsElsewhere d m new → IsInPlace m d → IsInPlace new d
-elsewhere_in_place d m new is old =
+pub the_controller_keeps_all_in_place : (d : DriverContent) (m new : Mem) → IsElsewhere d m new → IsInPlace m d → IsInPlace new d
+the_controller_keeps_all_in_place d m new is old =
     let s = old.sound in
     record {
       sound = record {
@@ -124,18 +124,19 @@ elsewhere_in_place d m new is old =
 -- ---- any move
 
 accepted_in_place : (p : Parts) (cmd : Cmd) (r : Result Offered OfferError) → IsOffered p.driver.room cmd → offered p.driver p.memory cmd ≡ r → IsInPlace p.memory p.driver → IsInPlace (accepted p r).memory (accepted p r).driver
-accepted_in_place p cmd (Ok o) room is old = command_in_place p.driver p.memory cmd o room old is
+accepted_in_place p cmd (Ok o) room is old = commands_keep_all_in_place p.driver p.memory cmd o room old is
 accepted_in_place p cmd (Err why) room is old = old
 
 move_in_place : (p : Parts) (move : Move) → IsAllowed p move → IsInPlace p.memory p.driver → IsInPlace (moved p move).memory (moved p move).driver
 move_in_place p (Offer cmd) room old = accepted_in_place p cmd (offered p.driver p.memory cmd) room refl old
-move_in_place p Event room old = event_in_place p old
-move_in_place p (Controller registers memory) is old = elsewhere_in_place p.driver p.memory memory is old
+move_in_place p Event room old = events_keep_all_in_place p old
+move_in_place p (Controller registers memory) is old = the_controller_keeps_all_in_place p.driver p.memory memory is old
 
 pub run_in_place : (p : Parts) (moves : List Move) → AreAllowed p moves → IsInPlace p.memory p.driver → IsInPlace (run p moves).memory (run p moves).driver
 unfolding run AreAllowed
 run_in_place p [] allowed old = old
 run_in_place p (move ∷ moves) allowed old = run_in_place (moved p move) moves allowed.1 (move_in_place p move allowed.0 old)
 
-pub whole_run : (n : ℕ) (room : Reserve) (moves : List Move) → 2048 ≤ n → n ≤ 262144 → n % 1024 ≡ 0 → AreAllowed (opening n room) moves → IsInPlace (run (opening n room) moves).memory (run (opening n room) moves).driver
-whole_run n room moves many few whole allowed = run_in_place (opening n room) moves allowed (opening_in_place n room many few whole)
+pub a_run_stays_in_place : (n : ℕ) (room : Reserve) (moves : List Move) → 2048 ≤ n → n ≤ 262144 → n % 1024 ≡ 0 → AreAllowed (opening n room) moves → IsInPlace (run (opening n room) moves).memory (run (opening n room) moves).driver
+a_run_stays_in_place n room moves many few whole allowed =
+    run_in_place (opening n room) moves allowed (opening_is_in_place n room many few whole)

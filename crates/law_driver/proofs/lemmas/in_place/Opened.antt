@@ -19,12 +19,12 @@ use Rattle.qh_qtd.specs.QueueHead.{qh_words}
 use Rattle.drv_table.specs.declared.content.Reserve.{Reserve}
 use Rattle.drv_table.specs.Words.{head_block, opening_head}
 use Rattle.drv_table.specs.Opening.{list_run, head_run, opening_book, opening}
-use Rattle.law_driver.proofs.lemmas.run_owners.Opened.{opening_owned}
-use Rattle.law_driver.proofs.lemmas.lent_runs.Laws.{opening_lent}
-use Rattle.law_driver.proofs.lemmas.listed_members.Opening.{opening_listed}
-use Rattle.law_driver.proofs.lemmas.ring_members.Opened.{opening_ring}
-use Rattle.law_driver.proofs.lemmas.listed_queues.Commands.{opening_queues}
-use Rattle.law_driver.proofs.lemmas.queue_head_words.Opened.{opening_fixed}
+use Rattle.law_driver.proofs.lemmas.run_owners.Opened.{opening_has_owners}
+use Rattle.law_driver.proofs.lemmas.lent_runs.Laws.{opening_runs_are_lent}
+use Rattle.law_driver.proofs.lemmas.listed_members.Opening.{opening_list_has_its_members}
+use Rattle.law_driver.proofs.lemmas.ring_members.Opened.{opening_is_a_ring}
+use Rattle.law_driver.proofs.lemmas.listed_queues.Commands.{opening_has_queue_heads}
+use Rattle.law_driver.proofs.lemmas.queue_head_words.Opened.{opening_has_fixed_words}
 use Rattle.law_driver.specs.in_place.InPlace.{IsGood, IsInPlace}
 use Rattle.law_driver.proofs.lemmas.in_place.Good.{lend_good}
 
@@ -155,18 +155,18 @@ opening_good n room many few whole =
         get_or-set_other (set (replicate (n / 8) Empty) 0 (Lends list_run)) head_block 0 (Lends head_run) Empty (λ same. absurd (omega (arith, same)))
         ∙ get_or-set_same (replicate (n / 8) Empty) 0 (Lends list_run) Empty (omega (arith, long, many))
 
-pub opening_in_place : (n : ℕ) (room : Reserve) → 2048 ≤ n → n ≤ 262144 → n % 1024 ≡ 0 → IsInPlace (opening n room).memory (opening n room).driver
-opening_in_place n room many few whole =
+pub opening_is_in_place : (n : ℕ) (room : Reserve) → 2048 ≤ n → n ≤ 262144 → n % 1024 ≡ 0 → IsInPlace (opening n room).memory (opening n room).driver
+opening_is_in_place n room many few whole =
     let good = opening_good n room many few whole in
     record {
       sound = record {
         stands = good.stands;
         shape = good.shape;
-        owners = opening_owned n room many;
-        listed = opening_listed n room;
-        ring = opening_ring n room many;
+        owners = opening_has_owners n room many;
+        listed = opening_list_has_its_members n room;
+        ring = opening_is_a_ring n room many;
       };
-      lent = opening_lent n room;
-      queues = opening_queues n room;
-      fixed = opening_fixed n room many;
+      lent = opening_runs_are_lent n room;
+      queues = opening_has_queue_heads n room;
+      fixed = opening_has_fixed_words n room many;
     }

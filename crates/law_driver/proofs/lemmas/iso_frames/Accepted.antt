@@ -29,7 +29,7 @@ use Rattle.drv_members.proofs.Splits.{one_if, count_first}
 use Rattle.claims_driver.specs.Owners.{FrameList, Described, HasRun, is_descriptor}
 use Rattle.claims_driver.specs.Leaving.{IsOrderly, HasOwners}
 use Rattle.law_driver.specs.run_owners.Accepts.{Accepts, opens, chains, places, transfers, describes, cancels, unchains, Transfers, Describes, Cancels, Unchains}
-use Rattle.law_driver.proofs.lemmas.run_owners.Commands.{accepted_for_a_reason}
+use Rattle.law_driver.proofs.lemmas.run_owners.Commands.{each_command_has_its_reason}
 use Rattle.law_driver.proofs.lemmas.run_owners.Ordered.{pushed_below}
 use Rattle.law_driver.proofs.lemmas.run_owners.Released.{set_here}
 use Rattle.law_driver.proofs.lemmas.run_owners.Runs.{placed_run}
@@ -505,4 +505,4 @@ accepted_stepped d m cmd o made stands (cancels why) has wells old = cancel_step
 accepted_stepped d m cmd o made stands (unchains why) has wells old = unchain_stepped d m o why old
 
 pub command_stepped : (d : DriverContent) (m : Mem) (cmd : Cmd) (o : Offered) → Stands (holding d.book m) → HasOwners d → ((e : ℕ) (x : Framed) (p : Placement) → framed_in d.endpoints e ≡ Some x → x.chained ≡ true → x.placement ≡ Some p → IsWell d e x p) → offered d m cmd ≡ Ok o → AreStepped d → AreStepped o.driver
-command_stepped d m cmd o stands has wells made old = accepted_stepped d m cmd o made stands (accepted_for_a_reason d m cmd o made) has wells old
+command_stepped d m cmd o stands has wells made old = accepted_stepped d m cmd o made stands (each_command_has_its_reason d m cmd o made) has wells old

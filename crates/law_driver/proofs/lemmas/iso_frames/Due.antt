@@ -35,11 +35,11 @@ use Rattle.law_driver.specs.listed_members.Members.{is_in_names, is_linked_by, I
 use Rattle.law_driver.proofs.lemmas.listed_members.Standing.{seen, in_frames}
 use Rattle.law_driver.proofs.lemmas.listed_members.Framing.{not_below, or_none}
 use Rattle.law_driver.specs.planned_endpoints.Planned.{IsPlanned}
-use Rattle.law_driver.proofs.lemmas.planned_endpoints.Laws.{endpoint_planned}
+use Rattle.law_driver.proofs.lemmas.planned_endpoints.Laws.{endpoints_count_until_given_back}
 use Rattle.law_driver.specs.iso_frames.Steps.{AreApart}
 use Rattle.law_driver.specs.iso_frames.Frames.{mark, before, waiting_from, waiting_of, frame_in, frames_of, IsStepped, AreInFrames}
 use Rattle.claims_driver.specs.DueMembers.{framed_to, IsWaitingFor, IsDueDescriptor, IsHarvested, AreDueDescriptors, HasOneEach}
-use Rattle.law_driver.proofs.lemmas.iso_frames.Steps.{apart}
+use Rattle.law_driver.proofs.lemmas.iso_frames.Steps.{frames_in_step_are_apart}
 use Rattle.law_driver.proofs.lemmas.iso_frames.Rows.{event_stepped}
 use Rattle.law_driver.proofs.lemmas.iso_frames.Places.{event_places, command_places, is_well}
 use Rattle.law_driver.proofs.lemmas.iso_frames.Accepted.{command_stepped}
@@ -47,8 +47,8 @@ use Rattle.law_driver.proofs.lemmas.iso_frames.Waiting.{more_waiting, mark_is}
 
 -- ---- the opening
 
-pub opening_in_frames : (n : ℕ) (room : Reserve) → AreInFrames (opening n room).driver
-opening_in_frames n room = record { places = tt; stepped = λ e x p here. absurd (cc) }
+pub opening_frames : (n : ℕ) (room : Reserve) → AreInFrames (opening n room).driver
+opening_frames n room = record { places = tt; stepped = λ e x p here. absurd (cc) }
 
 -- ---- the frame of one that waits is among those of its endpoint
 
@@ -113,7 +113,7 @@ framed_for d e p listed h =
     let long = length-map (waiting_from v e 0 cut) (frame_in d.periodic.notes) in
     let less : length (frames_of d e) ≤ length (waiting_of d e) = omega (arith, split, both, long) in
     let scaled = mul-le-mul_right (frame_period p.period) less in
-    record { frames = apart p (frames_of d e) (all_small d listed (waiting_from v e 0 cut)) (omega (arith, scaled, h.few)) h.steps; active = h.active }
+    record { frames = frames_in_step_are_apart p (frames_of d e) (all_small d listed (waiting_from v e 0 cut)) (omega (arith, scaled, h.few)) h.steps; active = h.active }
 
 -- the isochronous endpoint of one that waits
 record IsOwn (d : DriverContent) (e : ℕ) : Type 0 where
@@ -153,8 +153,8 @@ once_is k l e = cc
 own_frame : (d : DriverContent) (k : Descriptor) (e : ℕ) → (w : IsWaitingFor d k e) → frame_in d.periodic.notes w.placed.block ≡ k.frame
 own_frame d k e w = ap (λ (x : Descriptor). x.frame) (once_is (record { id = descriptor_name (note_at d.periodic.notes w.placed.block) w.placed.block; frame = (note_at d.periodic.notes w.placed.block).frame }) k w.is)
 
-pub one_each : (d : DriverContent) → HasOwners d → IsListed d → AreInFrames d → HasOneEach d
-one_each d has listed h e k l w v same =
+pub an_endpoint_has_one_descriptor_a_frame : (d : DriverContent) → HasOwners d → IsListed d → AreInFrames d → HasOneEach d
+an_endpoint_has_one_descriptor_a_frame d has listed h e k l w v same =
     let x = waiting_own d k e has w in
     let f = own_framed d e x listed h in
     let view = placed_in d.endpoints d.transfers in
@@ -215,7 +215,7 @@ one_due d f k has listed planned h at stands =
       here = x.here;
       isochronous = x.iso;
       placed = x.placed;
-      counts = endpoint_planned d stands.placed.endpoint x.endpoint x.placement planned x.here kept x.placed;
+      counts = endpoints_count_until_given_back d stands.placed.endpoint x.endpoint x.placement planned x.here kept x.placed;
       active = subst (λ j. is_active x.placement j ≡ true) (own_frame d k stands.placed.endpoint w ∙ at) on;
     })) stands.stands
   where
@@ -233,19 +233,20 @@ filtered d f (k ∷ ks) each h = at (nat_eq k.frame f) refl (filtered d f ks eac
     at true on rest = (each k (eqb-true k.frame f on) h.0, rest)
     at false off rest = rest
 
-pub are_due : (d : DriverContent) (f : ℕ) → HasOwners d → IsListed d → IsPlanned d → AreInFrames d → AreDueDescriptors d f
-are_due d f has listed planned h = filtered d f d.periodic.list.members.schedule.descriptors (λ k at s. one_due d f k has listed planned h at s) listed.list.members.descriptors
+pub descriptors_of_a_frame_are_due : (d : DriverContent) (f : ℕ) → HasOwners d → IsListed d → IsPlanned d → AreInFrames d
+    → AreDueDescriptors d f
+descriptors_of_a_frame_are_due d f has listed planned h = filtered d f d.periodic.list.members.schedule.descriptors (λ k at s. one_due d f k has listed planned h at s) listed.list.members.descriptors
 
 -- ---- kept
 
-pub command_in_frames : (d : DriverContent) (m : Mem) (cmd : Cmd) (o : Offered) → Stands (holding d.book m) → HasOwners d → IsPlanned d → IsOffered d.room cmd → AreInFrames d → offered d m cmd ≡ Ok o → AreInFrames o.driver
-command_in_frames d m cmd o stands has planned may h made = record {
+pub commands_keep_the_frames : (d : DriverContent) (m : Mem) (cmd : Cmd) (o : Offered) → Stands (holding d.book m) → HasOwners d → IsPlanned d → IsOffered d.room cmd → AreInFrames d → offered d m cmd ≡ Ok o → AreInFrames o.driver
+commands_keep_the_frames d m cmd o stands has planned may h made = record {
   places = command_places d m cmd o may made h.places;
   stepped = command_stepped d m cmd o stands has (is_well d has planned h.places) made h.stepped;
 }
 
-pub event_in_frames : (p : Parts) → HasOwners p.driver → IsListed p.driver → IsPlanned p.driver → AreInFrames p.driver → AreInFrames (after_driver_row (driver_row p) p).driver
-event_in_frames p has listed planned h = record {
+pub events_keep_the_frames : (p : Parts) → HasOwners p.driver → IsListed p.driver → IsPlanned p.driver → AreInFrames p.driver → AreInFrames (after_driver_row (driver_row p) p).driver
+events_keep_the_frames p has listed planned h = record {
   places = event_places p h.places;
   stepped = event_stepped p has listed (λ e x q here chained placed. (is_well p.driver has planned h.places e x q here chained placed).place) h.stepped;
 }

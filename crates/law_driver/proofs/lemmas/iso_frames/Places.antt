@@ -34,12 +34,12 @@ use Rattle.drv_table.specs.Rows.{driver_row, after_driver_row}
 use Rattle.drv_table.specs.Accepting.{Offered, take_runs}
 use Rattle.drv_table.specs.Offers.{taken_open, taken_chain, placed_open, planned_open, offered_open, offered_next, offered, IsOpened, IsOffered}
 use Rattle.law_admission.specs.Budgets.{Account, account_of, taken_out, account_after}
-use Rattle.law_admission.proofs.Events.{account_of_event}
-use Rattle.law_admission.proofs.Commands.{account_of_command}
+use Rattle.law_admission.proofs.Events.{events_take_out_what_left}
+use Rattle.law_admission.proofs.Commands.{commands_place_the_best}
 use Rattle.claims_driver.specs.Leaving.{HasOwners}
 use Rattle.claims_driver.specs.FrameListMembers.{Framed, framed_in}
 use Rattle.law_driver.specs.planned_endpoints.Planned.{IsPlanned}
-use Rattle.law_driver.proofs.lemmas.planned_endpoints.Laws.{endpoint_planned}
+use Rattle.law_driver.proofs.lemmas.planned_endpoints.Laws.{endpoints_count_until_given_back}
 use Rattle.law_driver.specs.iso_frames.Frames.{HasPlace, ArePlaces}
 use Rattle.law_driver.proofs.lemmas.iso_frames.Framing.{framed_at, all_joined}
 
@@ -69,7 +69,7 @@ after_places (rows.ReleaseRemoved (removed.Endpoint e)) d h = out_places (accoun
 after_places _ d h = h
 
 pub event_places : (p : Parts) → ArePlaces p.driver.periodic.plan.placed → ArePlaces (after_driver_row (driver_row p) p).driver.periodic.plan.placed
-event_places p h = subst (λ (a : Account). ArePlaces a.plan.placed) (sym (account_of_event (driver_row p) p)) (after_places (driver_row p) p.driver h)
+event_places p h = subst (λ (a : Account). ArePlaces a.plan.placed) (sym (events_take_out_what_left (driver_row p) p)) (after_places (driver_row p) p.driver h)
 
 -- ---- an open
 
@@ -135,17 +135,17 @@ same_plan d o e h = subst (λ (a : Account). ArePlaces a.plan.placed) (sym e) h
 
 pub command_places : (d : DriverContent) (m : Mem) (cmd : Cmd) (o : Offered) → IsOffered d.room cmd → offered d m cmd ≡ Ok o → ArePlaces d.periodic.plan.placed → ArePlaces o.driver.periodic.plan.placed
 command_places d m (commands.OpenEp x) o may is h = IfOk-at_ok Places is (busy_or (busy d) (offered_next d m (commands.OpenEp x)) (open_places d m x (endpoint_named d x.name) may.3 h))
-command_places d m (commands.Get name len by) o may is h = same_plan d o (account_of_command d m (commands.Get name len by) o is) h
-command_places d m (commands.Put name bytes by) o may is h = same_plan d o (account_of_command d m (commands.Put name bytes by) o is) h
-command_places d m (commands.Control name setup bytes) o may is h = same_plan d o (account_of_command d m (commands.Control name setup bytes) o is) h
-command_places d m (commands.Iso name count len seed) o may is h = same_plan d o (account_of_command d m (commands.Iso name count len seed) o is) h
-command_places d m (commands.Cancel name) o may is h = same_plan d o (account_of_command d m (commands.Cancel name) o is) h
-command_places d m (commands.Clear name) o may is h = same_plan d o (account_of_command d m (commands.Clear name) o is) h
-command_places d m (commands.Reset port) o may is h = same_plan d o (account_of_command d m (commands.Reset port) o is) h
-command_places d m (commands.Give port) o may is h = same_plan d o (account_of_command d m (commands.Give port) o is) h
-command_places d m (commands.DiskRead addr lba count) o may is h = same_plan d o (account_of_command d m (commands.DiskRead addr lba count) o is) h
-command_places d m (commands.DiskWrite addr lba bytes) o may is h = same_plan d o (account_of_command d m (commands.DiskWrite addr lba bytes) o is) h
-command_places d m (commands.Revive addr) o may is h = same_plan d o (account_of_command d m (commands.Revive addr) o is) h
+command_places d m (commands.Get name len by) o may is h = same_plan d o (commands_place_the_best d m (commands.Get name len by) o is) h
+command_places d m (commands.Put name bytes by) o may is h = same_plan d o (commands_place_the_best d m (commands.Put name bytes by) o is) h
+command_places d m (commands.Control name setup bytes) o may is h = same_plan d o (commands_place_the_best d m (commands.Control name setup bytes) o is) h
+command_places d m (commands.Iso name count len seed) o may is h = same_plan d o (commands_place_the_best d m (commands.Iso name count len seed) o is) h
+command_places d m (commands.Cancel name) o may is h = same_plan d o (commands_place_the_best d m (commands.Cancel name) o is) h
+command_places d m (commands.Clear name) o may is h = same_plan d o (commands_place_the_best d m (commands.Clear name) o is) h
+command_places d m (commands.Reset port) o may is h = same_plan d o (commands_place_the_best d m (commands.Reset port) o is) h
+command_places d m (commands.Give port) o may is h = same_plan d o (commands_place_the_best d m (commands.Give port) o is) h
+command_places d m (commands.DiskRead addr lba count) o may is h = same_plan d o (commands_place_the_best d m (commands.DiskRead addr lba count) o is) h
+command_places d m (commands.DiskWrite addr lba bytes) o may is h = same_plan d o (commands_place_the_best d m (commands.DiskWrite addr lba bytes) o is) h
+command_places d m (commands.Revive addr) o may is h = same_plan d o (commands_place_the_best d m (commands.Revive addr) o is) h
 
 -- ---- the placement of an endpoint in its frames
 
@@ -160,7 +160,7 @@ is_well d has planned places e x p here chained placed =
     let s = framed_at d e x here in
     let on : s.endpoint.chained ≡ true = ap (λ (w : Framed). w.chained) (sym s.is) ∙ chained in
     let kept : s.endpoint.gone ≡ false = alive s.endpoint.gone (λ g. ((has.orderly.steady e s.endpoint s.here).gone g).1) on in
-    let at = endpoint_planned d e s.endpoint p planned s.here kept (ap (λ (w : Framed). w.placement) (sym s.is) ∙ placed) in
+    let at = endpoints_count_until_given_back d e s.endpoint p planned s.here kept (ap (λ (w : Framed). w.placement) (sym s.is) ∙ placed) in
     let h = all_at HasPlace d.periodic.plan.placed at.place _ places at.there in
     record { endpoint = s.endpoint; here = s.here; place = h.place; period = h.period }
   where

@@ -28,7 +28,7 @@ use Rattle.drv_table.specs.Harvesting.{after_harvest}
 use Rattle.drv_table.specs.Rows.{driver_row, after_driver_row}
 use Rattle.claims_driver.specs.Leaving.{IsOrderly, HasOwners}
 use Rattle.law_driver.specs.run_owners.Due.{IsRemovalDue, IsDue}
-use Rattle.law_driver.proofs.lemmas.run_owners.Reasons.{each_is_due}
+use Rattle.law_driver.proofs.lemmas.run_owners.Reasons.{each_event_is_due}
 use Rattle.law_driver.proofs.lemmas.run_owners.Released.{other_number, cancel_same}
 use Rattle.law_driver.proofs.lemmas.run_owners.Leaves.{first_left, first_removed}
 use Rattle.law_driver.proofs.lemmas.run_owners.Rows.{not_iso}
@@ -253,4 +253,4 @@ row_stepped rows.Rest p due has listed places old = old
 row_stepped _ p due has listed places old = calm p.driver _ refl refl refl refl refl old
 
 pub event_stepped : (p : Parts) → HasOwners p.driver → IsListed p.driver → HasPlaces p.driver → AreStepped p.driver → AreStepped (after_driver_row (driver_row p) p).driver
-event_stepped p has listed places old = row_stepped (driver_row p) p (each_is_due p) has listed places old
+event_stepped p has listed places old = row_stepped (driver_row p) p (each_event_is_due p) has listed places old

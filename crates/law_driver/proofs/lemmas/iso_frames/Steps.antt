@@ -68,15 +68,15 @@ far p f q g (h ∷ hs) some small is short steps =
     let next : h ≡ (f + (q + frame_period p.period)) % 1024 = omega (arith, steps.0, is) in
     ((λ e. omega (arith, some, small, is, short, e)), far p f (q + frame_period p.period) h hs (omega (arith, some)) small next (omega (arith, short, more)) steps.1)
 
-pub apart : (p : Placement) (fs : List ℕ) → AllByRecursion (λ f. f < 1024) fs → length fs * frame_period p.period ≤ 1024 → AreInStep p fs → AreApart fs
-apart p [] small short steps = tt
-apart p (f ∷ []) small short steps = (tt, tt)
-apart p (f ∷ g ∷ gs) small short steps =
+pub frames_in_step_are_apart : (p : Placement) (fs : List ℕ) → AllByRecursion (λ f. f < 1024) fs → length fs * frame_period p.period ≤ 1024 → AreInStep p fs → AreApart fs
+frames_in_step_are_apart p [] small short steps = tt
+frames_in_step_are_apart p (f ∷ []) small short steps = (tt, tt)
+frames_in_step_are_apart p (f ∷ g ∷ gs) small short steps =
     let one = suc-mul (suc (length gs)) (frame_period p.period) in
     let two = suc-mul (length gs) (frame_period p.period) in
     let some = some_period p.period in
     let first : g ≡ (f + frame_period p.period) % 1024 = omega (arith, steps.0) in
-    (far p f (frame_period p.period) g gs some small.0 first (omega (arith, short, one, two, some)) steps.1, apart p (g ∷ gs) small.1 (omega (arith, short, one)) steps.1)
+    (far p f (frame_period p.period) g gs some small.0 first (omega (arith, short, one, two, some)) steps.1, frames_in_step_are_apart p (g ∷ gs) small.1 (omega (arith, short, one)) steps.1)
 
 -- ---- more frames behind
 

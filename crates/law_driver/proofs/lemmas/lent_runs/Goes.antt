@@ -24,7 +24,7 @@ use Rattle.drv_table.specs.Rows.{driver_row, row_for, after_driver_row}
 use Rattle.drv_table.specs.Releases.{after_transfer, after_endpoint, freed_by, free_qtds, free_endpoint}
 use Rattle.drv_table.specs.Removals.{after_descriptor, after_placed, after_removed, after_unlink, free_descriptor, free_placed}
 use Rattle.law_driver.specs.run_owners.Due.{IsDue}
-use Rattle.law_driver.proofs.lemmas.run_owners.Reasons.{each_is_due}
+use Rattle.law_driver.proofs.lemmas.run_owners.Reasons.{each_event_is_due}
 use Rattle.claims_driver.specs.LentRuns.{begins_in, is_lending, still_lends, AreLent}
 use Rattle.law_driver.proofs.lemmas.lent_runs.Slots.{FreesOnly, KeepsTaken, all_lent, none_left, frees_qtds, frees_endpoint, frees_descriptor, frees_placed}
 use Rattle.law_driver.proofs.lemmas.lent_runs.Books.{later_book, advance_book, SameBook, harvest_book}
@@ -226,7 +226,8 @@ idle_lent _ p due idle old = record { kept = old.kept; lent = old.lent }
 
 by_command : (p : Parts) (o : Option Command) → p.driver.command ≡ o → AreLent p.driver → AreLent (after_driver_row (row_for p o) p).driver
 by_command p (Some c) is old = command_lent p c is old
-by_command p None is old = idle_lent (row_for p None) p (subst (λ (o : Option Command). IsDue p (row_for p o)) is (each_is_due p)) is old
+by_command p None is old =
+    idle_lent (row_for p None) p (subst (λ (o : Option Command). IsDue p (row_for p o)) is (each_event_is_due p)) is old
 
-pub event_lent : (p : Parts) → AreLent p.driver → AreLent (after_driver_row (driver_row p) p).driver
-event_lent p old = by_command p p.driver.command refl old
+pub events_keep_them : (p : Parts) → AreLent p.driver → AreLent (after_driver_row (driver_row p) p).driver
+events_keep_them p old = by_command p p.driver.command refl old

@@ -17,7 +17,7 @@ use Rattle.drv_table.specs.Offers.{offered}
 use Rattle.drv_table.specs.Opening.{list_run, head_run, opening}
 use Rattle.claims_driver.specs.Owners.{Owner, HasRun, SlotHas, IsPlaced}
 use Rattle.law_driver.proofs.lemmas.run_owners.Runs.{placed_run}
-use Rattle.law_driver.proofs.lemmas.run_owners.Commands.{accepted_for_a_reason}
+use Rattle.law_driver.proofs.lemmas.run_owners.Commands.{each_command_has_its_reason}
 use Rattle.claims_driver.specs.LentRuns.{begins_in, AreLent, IsLent}
 use Rattle.law_driver.proofs.lemmas.lent_runs.Slots.{set_keeps, empty_keeps, lends_keeps}
 use Rattle.law_driver.proofs.lemmas.lent_runs.Offering.{accepted_lent}
@@ -28,8 +28,8 @@ none_kept zero b r is = empty_keeps r is
 none_kept (suc k) zero r is = empty_keeps r is
 none_kept (suc k) (suc b) r is = none_kept k b r is
 
-pub opening_lent : (n : ℕ) (room : Reserve) → AreLent (opening n room).driver
-opening_lent n room =
+pub opening_runs_are_lent : (n : ℕ) (room : Reserve) → AreLent (opening n room).driver
+opening_runs_are_lent n room =
     let k = n / 8 in
     record {
       kept = λ b r is.
@@ -39,8 +39,8 @@ opening_lent n room =
       lent = λ off. refl;
     }
 
-pub command_lent : (d : DriverContent) (m : Mem) (cmd : Cmd) (o : Offered) → AreLent d → offered d m cmd ≡ Ok o → AreLent o.driver
-command_lent d m cmd o old is = accepted_lent d m o (accepted_for_a_reason d m cmd o is) old
+pub commands_keep_them : (d : DriverContent) (m : Mem) (cmd : Cmd) (o : Offered) → AreLent d → offered d m cmd ≡ Ok o → AreLent o.driver
+commands_keep_them d m cmd o old is = accepted_lent d m o (each_command_has_its_reason d m cmd o is) old
 
 -- a run that isn't kept is lent
 lent_by : (s : Slot) → HasRun s → ((r : Run) → s ≡ Keeps r → ⊥) → IsLent s
@@ -48,8 +48,8 @@ lent_by Empty run none = run
 lent_by (Keeps r) run none = none r refl
 lent_by (Lends r) run none = tt
 
-pub idle_lent : (d : DriverContent) (b : ℕ) → d.command ≡ None → AreLent d → HasRun (slot_of d.book.slots b) → IsLent (slot_of d.book.slots b)
-idle_lent d b idle old run =
+pub all_are_lent_between_commands : (d : DriverContent) (b : ℕ) → d.command ≡ None → AreLent d → HasRun (slot_of d.book.slots b) → IsLent (slot_of d.book.slots b)
+all_are_lent_between_commands d b idle old run =
     lent_by (slot_of d.book.slots b) run (λ r is. false≢true (sym (ap (begins_in b) (idle_none d idle old)) ∙ old.kept b r is))
 
 block_lent : (d : DriverContent) (m : Mem) (b k : ℕ) (s : Slot) → Stands (holding d.book m) → slot_of d.book.slots b ≡ s → IsLent s → SlotHas s k → slice_get m.states k ≡ Some Lent
@@ -61,4 +61,4 @@ block_lent d m b k (Lends r) stands there lent has =
 
 pub owned_lent : (d : DriverContent) (m : Mem) (owner : ℕ → Owner) (b k : ℕ) (o : Owner) → Stands (holding d.book m) → d.command ≡ None → AreLent d → IsPlaced (slot_of d.book.slots) owner b o → SlotHas (slot_of d.book.slots b) k → slice_get m.states k ≡ Some Lent
 owned_lent d m owner b k o stands idle old placed has =
-    block_lent d m b k (slot_of d.book.slots b) stands refl (idle_lent d b idle old (placed_run b o placed)) has
+    block_lent d m b k (slot_of d.book.slots b) stands refl (all_are_lent_between_commands d b idle old (placed_run b o placed)) has

@@ -34,7 +34,7 @@ use Rattle.drv_table.specs.Offers.{offered, IsOffered}
 use Rattle.claims_driver.specs.Owners.{FrameList, Described, HasRun, is_descriptor}
 use Rattle.law_driver.specs.run_owners.Accepts.{Accepts, opens, chains, places, transfers, describes, cancels, unchains, Describes, Unchains}
 use Rattle.claims_driver.specs.Leaving.{HasOwners}
-use Rattle.law_driver.proofs.lemmas.run_owners.Commands.{accepted_for_a_reason}
+use Rattle.law_driver.proofs.lemmas.run_owners.Commands.{each_command_has_its_reason}
 use Rattle.law_driver.proofs.lemmas.run_owners.Accepted.{drop_first}
 use Rattle.law_driver.proofs.lemmas.run_owners.Harvest.{waits_is}
 use Rattle.law_driver.proofs.lemmas.run_owners.Ordered.{pushed_below}
@@ -407,5 +407,5 @@ accepted_listed d m o stands (describes why) has room old = describe_listed d m 
 accepted_listed d m o stands (cancels why) has room old = cancel_listed d m o why old
 accepted_listed d m o stands (unchains why) has room old = unchain_listed d m o why has old
 
-pub command_listed : (d : DriverContent) (m : Mem) (cmd : Cmd) (o : Offered) → Stands (holding d.book m) → HasOwners d → IsOffered d.room cmd → IsListed d → offered d m cmd ≡ Ok o → IsListed o.driver
-command_listed d m cmd o stands has room old is = accepted_listed d m o stands (accepted_for_a_reason d m cmd o is) has (room_kept d m cmd o room is) old
+pub commands_keep_the_list : (d : DriverContent) (m : Mem) (cmd : Cmd) (o : Offered) → Stands (holding d.book m) → HasOwners d → IsOffered d.room cmd → IsListed d → offered d m cmd ≡ Ok o → IsListed o.driver
+commands_keep_the_list d m cmd o stands has room old is = accepted_listed d m o stands (each_command_has_its_reason d m cmd o is) has (room_kept d m cmd o room is) old

@@ -23,7 +23,7 @@ use Rattle.drv_table.specs.Rows.{driver_row, after_driver_row}
 use Rattle.claims_driver.specs.Owners.{is_descriptor}
 use Rattle.claims_driver.specs.Leaving.{IsOrderly, HasOwners}
 use Rattle.law_driver.specs.run_owners.Due.{IsHarvestDue, IsDue}
-use Rattle.law_driver.proofs.lemmas.run_owners.Reasons.{each_is_due}
+use Rattle.law_driver.proofs.lemmas.run_owners.Reasons.{each_event_is_due}
 use Rattle.law_driver.proofs.lemmas.run_owners.Ordered.{iso_periodic}
 use Rattle.law_driver.proofs.lemmas.run_owners.Harvest.{Waits, waits_is, is_served_found}
 use Rattle.law_driver.proofs.lemmas.run_owners.Rows.{served_is}
@@ -217,5 +217,5 @@ row_listed (rows.Harvest e t found) p due has old =
     (subst (λ (o : Option Transfer). IsListed (after_harvest p.driver p.memory e t found (Some due.endpoint) o)) (sym due.there) (harvest_listed p e t found due has.orderly old))
 row_listed rows.Rest p due has old = old
 
-pub event_listed : (p : Parts) → HasOwners p.driver → IsListed p.driver → IsListed (after_driver_row (driver_row p) p).driver
-event_listed p has old = row_listed (driver_row p) p (each_is_due p) has old
+pub events_keep_the_list : (p : Parts) → HasOwners p.driver → IsListed p.driver → IsListed (after_driver_row (driver_row p) p).driver
+events_keep_the_list p has old = row_listed (driver_row p) p (each_event_is_due p) has old

@@ -33,8 +33,8 @@ use Rattle.law_driver.proofs.lemmas.listed_members.Stays.{is_still, still_linked
 use Rattle.law_driver.proofs.lemmas.listed_members.Calm.{is_calm, calm_listed, calm_idle}
 use Rattle.law_driver.proofs.lemmas.listed_members.Rooms.{KeepsRoom}
 
-pub opening_listed : (n : ℕ) (room : Reserve) → IsListed (opening n room).driver
-opening_listed n room = record {
+pub opening_list_has_its_members : (n : ℕ) (room : Reserve) → IsListed (opening n room).driver
+opening_list_has_its_members n room = record {
   list = record {
     list = refl;
     members = record { queues = tt; descriptors = tt; each = λ m s. absurd (none s.number s.placed s.here) };

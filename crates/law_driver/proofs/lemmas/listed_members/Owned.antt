@@ -27,16 +27,16 @@ pub queue_owned : (d : DriverContent) (q : Queue) → (has : HasOwners d) → (s
 queue_owned d q has s =
     subst (λ b. IsPlaced (slot_of d.book.slots) has.owner b (QueueHead s.number)) (sym (ap (λ (x : Member). id_of x / 32) s.is ∙ queue_block s.framed.queue s.place)) (frames_placed d s.number s.framed has s.here s.chained s.queued)
 
-pub members_owned : (d : DriverContent) → (has : HasOwners d) → IsListed d → HaveRuns d has.owner
-members_owned d has listed = record {
+pub members_have_runs : (d : DriverContent) → (has : HasOwners d) → IsListed d → HaveRuns d has.owner
+members_have_runs d has listed = record {
   queues = all_more (IsQueueOf d) (λ q. (e : ℕ) × IsOwnedAs d has.owner q.id (QueueHead e)) d.periodic.list.members.schedule.queues (λ q s. (s.number, queue_owned d q has s)) listed.list.members.queues;
   descriptors = all_more (λ (k : Descriptor). IsStanding d (Once k)) (λ k. (split : Bool) × ((t : ℕ) × IsOwnedAs d has.owner k.id (Described split t))) d.periodic.list.members.schedule.descriptors
       (λ k s. descriptor_owned d k has s) listed.list.members.descriptors;
 }
 
 -- where no command is unfinished
-pub waiting_linked : (d : DriverContent) → IsListed d → LinksWaiting d
-waiting_linked d listed t x y idle there sort here on off =
+pub waiting_descriptors_are_linked : (d : DriverContent) → IsListed d → LinksWaiting d
+waiting_descriptors_are_linked d listed t x y idle there sort here on off =
     listed.list.members.each (descriptor_member d.periodic.notes y.first)
     (record {
       number = t;

@@ -31,7 +31,7 @@ use Rattle.drv_table.specs.IsoOffers.{slots_of, iso_needs, taken_iso, spans_too_
 use Rattle.drv_table.specs.CancelOffers.{first_end, accepted_cancel, endpoint_members, with_cancel, cancelled_by, offered_cancel}
 use Rattle.law_driver.specs.run_owners.Accepts.{Unchains, Accepts, opens, chains, places, transfers, describes, cancels, unchains}
 use Rattle.claims_driver.specs.Leaving.{HasOwners}
-use Rattle.law_driver.proofs.lemmas.run_owners.Commands.{accepted_for_a_reason}
+use Rattle.law_driver.proofs.lemmas.run_owners.Commands.{each_command_has_its_reason}
 use Rattle.law_driver.proofs.lemmas.run_owners.Released.{set_here}
 use Rattle.claims_driver.specs.FrameListMembers.{Framed, framed_of, framed_in, is_chained}
 use Rattle.law_driver.specs.listed_members.Members.{IsListed}
@@ -41,8 +41,8 @@ use Rattle.law_driver.proofs.lemmas.listed_queues.Same.{same_queues, same_by}
 use Rattle.law_driver.proofs.lemmas.listed_queues.Goes.{KeepsHeads, next_unlinked, done_queues}
 use Rattle.law_driver.proofs.lemmas.listed_queues.Opens.{open_queues}
 
-pub opening_queues : (n : ℕ) (room : Reserve) → HasQueues (opening n room).driver
-opening_queues n room = record {
+pub opening_has_queue_heads : (n : ℕ) (room : Reserve) → HasQueues (opening n room).driver
+opening_has_queue_heads n room = record {
   each = λ e x p here. absurd (none e x here);
   many = omega arith;
   room = omega arith;
@@ -220,4 +220,4 @@ accepted_queues d m cmd o stands has room listed old f = at d.command refl f
   where
     at : (c : Option Command) → d.command ≡ c → cond (is_some c) (Err errors.Busy) (offered_next d m cmd) ≡ Ok o → HasQueues o.driver
     at (Some c) is g = absurd (cc)
-    at None is g = next_queues d m cmd o is (accepted_for_a_reason d m cmd o f) stands has room listed old g
+    at None is g = next_queues d m cmd o is (each_command_has_its_reason d m cmd o f) stands has room listed old g

@@ -10,8 +10,8 @@ use Rattle.claims_driver.specs.Leaving.{HasOwners}
 use Rattle.claims_driver.specs.FrameListMembers.{framed_of}
 use Rattle.law_driver.specs.listed_queues.Queues.{HasQueues, LinksQueues}
 
-pub queues_linked : (d : DriverContent) → HasOwners d → HasQueues d → LinksQueues d
-queues_linked d has old e x here on queued =
+pub queue_heads_are_linked : (d : DriverContent) → HasOwners d → HasQueues d → LinksQueues d
+queue_heads_are_linked d has old e x here on queued =
     let s = has.orderly.steady e x here in
     placed x.placement refl (s.placed ∙ s.frames on)
   where

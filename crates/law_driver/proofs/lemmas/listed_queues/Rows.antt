@@ -29,7 +29,7 @@ use Rattle.drv_table.specs.Removals.{removed_with, free_placed, after_unlink, af
 use Rattle.drv_table.specs.Rows.{driver_row, after_driver_row}
 use Rattle.claims_driver.specs.Leaving.{IsOrderly, HasOwners}
 use Rattle.law_driver.specs.run_owners.Due.{IsHarvestDue, IsDue}
-use Rattle.law_driver.proofs.lemmas.run_owners.Reasons.{each_is_due}
+use Rattle.law_driver.proofs.lemmas.run_owners.Reasons.{each_event_is_due}
 use Rattle.law_driver.proofs.lemmas.run_owners.Harvest.{Waits, waits_is, is_served_found}
 use Rattle.law_driver.specs.listed_members.Members.{IsListed}
 use Rattle.law_driver.specs.listed_queues.Queues.{HasQueues}
@@ -183,5 +183,5 @@ row_queues (rows.Harvest e t found) p due has listed old =
 row_queues rows.Rest p due has listed old = old
 row_queues _ p due has listed old = same_queues p.driver _ (record { queues = refl; most = refl; framed = λ i. refl; many = refl; room = refl; goes = λ i is. is }) old
 
-pub event_queues : (p : Parts) → HasOwners p.driver → IsListed p.driver → HasQueues p.driver → HasQueues (after_driver_row (driver_row p) p).driver
-event_queues p has listed old = row_queues (driver_row p) p (each_is_due p) has listed old
+pub events_keep_queue_heads : (p : Parts) → HasOwners p.driver → IsListed p.driver → HasQueues p.driver → HasQueues (after_driver_row (driver_row p) p).driver
+events_keep_queue_heads p has listed old = row_queues (driver_row p) p (each_event_is_due p) has listed old

@@ -129,8 +129,10 @@ next_offered d m (commands.Iso name count len seed) h = iso_found d m (unwrap_or
 next_offered d m (commands.Cancel name) h = cancel_found d m (unwrap_or (endpoint_of d name) 0) (endpoint_named d name) h
 next_offered d m _ h = tt
 
-pub command_ordered : (d : DriverContent) (m : Mem) (cmd : Cmd) (o : Offered) → IsOrdered d → offered d m cmd ≡ Ok o → IsOrdered o.driver
-command_ordered d m cmd o h is = IfOk-at_ok Keeps is (or_else (busy d) (Err errors.Busy) (offered_next d m cmd) tt (next_offered d m cmd h))
+pub commands_keep_the_order : (d : DriverContent) (m : Mem) (cmd : Cmd) (o : Offered) → IsOrdered d → offered d m cmd ≡ Ok o
+    → IsOrdered o.driver
+commands_keep_the_order d m cmd o h is =
+    IfOk-at_ok Keeps is (or_else (busy d) (Err errors.Busy) (offered_next d m cmd) tt (next_offered d m cmd h))
 
-pub opening_ordered : (n : ℕ) (room : Reserve) → IsOrdered (opening n room).driver
-opening_ordered n room = kept_at_first [] [] refl refl
+pub opening_list_is_in_order : (n : ℕ) (room : Reserve) → IsOrdered (opening n room).driver
+opening_list_is_in_order n room = kept_at_first [] [] refl refl

@@ -150,5 +150,5 @@ row_ordered (rows.Harvest e t found) p h =
     (harvested p.driver p.memory e t found (slice_get p.driver.endpoints e) (slice_get p.driver.transfers t)) h
 row_ordered _ p h = h
 
-pub event_ordered : (p : Parts) → IsOrdered p.driver → IsOrdered (after_driver_row (driver_row p) p).driver
-event_ordered p h = row_ordered (driver_row p) p h
+pub events_keep_the_order : (p : Parts) → IsOrdered p.driver → IsOrdered (after_driver_row (driver_row p) p).driver
+events_keep_the_order p h = row_ordered (driver_row p) p h

@@ -19,7 +19,7 @@ use Rattle.law_driver.specs.listed_members.Members.{IsListed}
 use Rattle.law_driver.specs.listed_queues.Queues.{HasQueues}
 use Rattle.law_driver.specs.planned_endpoints.Planned.{IsPlanned}
 use Rattle.claims_driver.specs.DueMembers.{IsPlacedQueue, IsDueIn, AreDue, HasAllDue}
-use Rattle.law_driver.proofs.lemmas.planned_endpoints.Queues.{same_test, queues_placed}
+use Rattle.law_driver.proofs.lemmas.planned_endpoints.Queues.{same_test, queue_heads_are_of_placed_endpoints}
 
 -- ---- tests
 
@@ -151,9 +151,10 @@ periods_apart = apart_all periods refl
 
 -- ---- both
 
-pub are_due : (d : DriverContent) (f : ℕ) → HasOwners d → IsListed d → IsPlanned d → IsKept d.periodic.list.members.schedule → AreDue d f
-are_due d f has listed planned kept = record {
-  each = classes_due d f d.periodic.list.members.schedule periods (queues_placed d has listed planned);
+pub queue_heads_of_a_frame_are_due : (d : DriverContent) (f : ℕ) → HasOwners d → IsListed d → IsPlanned d
+    → IsKept d.periodic.list.members.schedule → AreDue d f
+queue_heads_of_a_frame_are_due d f has listed planned kept = record {
+  each = classes_due d f d.periodic.list.members.schedule periods (queue_heads_are_of_placed_endpoints d has listed planned);
   once = λ id. let few = few_in_classes f id periods d.periodic.list.members.schedule.queues periods_apart in let all = kept.named id in omega (arith, few, all);
 }
 
@@ -219,8 +220,9 @@ has_period q (r ∷ rs) h e =
     ]
 
 -- the queue head of an endpoint in its frames stands in the chain of each frame in which its placement is active
-pub due_is_there : (d : DriverContent) (f : ℕ) → HasOwners d → HasQueues d → IsKept d.periodic.list.members.schedule → HasAllDue d f
-due_is_there d f has queues kept = λ e x p here chained ring placed active.
+pub a_frame_has_all_queue_heads_that_are_due : (d : DriverContent) (f : ℕ) → HasOwners d → HasQueues d
+    → IsKept d.periodic.list.members.schedule → HasAllDue d f
+a_frame_has_all_queue_heads_that_are_due d f has queues kept = λ e x p here chained ring placed active.
     let q : QueueHead = its_queue x p in
     let framed : framed_in d.endpoints e ≡ Some (framed_of x) = ap (option_map framed_of) here in
     let there : list_any (is_this q) d.periodic.list.members.schedule.queues ≡ true = queues.each e (framed_of x) p framed chained ring placed in

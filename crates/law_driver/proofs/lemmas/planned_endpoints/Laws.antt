@@ -21,20 +21,20 @@ use Rattle.drv_table.specs.Parts.{Parts}
 use Rattle.drv_table.specs.Rows.{driver_row, after_driver_row}
 use Rattle.law_driver.specs.run_owners.Due.{IsDue}
 use Rattle.claims_driver.specs.Leaving.{HasOwners}
-use Rattle.law_driver.proofs.lemmas.run_owners.Reasons.{each_is_due}
+use Rattle.law_driver.proofs.lemmas.run_owners.Reasons.{each_event_is_due}
 use Rattle.law_driver.proofs.lemmas.run_owners.Leaves.{first_left}
 use Rattle.law_admission.specs.Budgets.{Account, account_of, taken_out, account_after}
 use Rattle.law_admission.specs.Opens.{OpenAfter}
-use Rattle.law_admission.proofs.Events.{account_of_event}
-use Rattle.law_admission.proofs.Commands.{account_of_command}
+use Rattle.law_admission.proofs.Events.{events_take_out_what_left}
+use Rattle.law_admission.proofs.Commands.{commands_place_the_best}
 use Rattle.law_driver.specs.planned_endpoints.Planned.{placed_by, planned, IsPlanned, IsEndpointOf}
 use Rattle.claims_driver.specs.DueMembers.{IsPlannedAt}
 use Rattle.law_driver.proofs.lemmas.planned_endpoints.Lists.{other, one_more, has_its_own, comes_of}
 use Rattle.law_driver.proofs.lemmas.planned_endpoints.Events.{placements, without_one, placements_after, IfRing, placements_of_event}
 use Rattle.law_driver.proofs.lemmas.planned_endpoints.Commands.{KeepsIf, placements_of_command}
 
-pub opening_planned : (n : ℕ) (room : Reserve) → IsPlanned (opening n room).driver
-opening_planned n room = refl
+pub opening_plan_is_of_its_endpoints : (n : ℕ) (room : Reserve) → IsPlanned (opening n room).driver
+opening_plan_is_of_its_endpoints n room = refl
 
 -- ---- a command
 
@@ -52,31 +52,33 @@ open_planned d x o true old why keeps =
     ∙ ap (λ k. planned 0 d.endpoints ++ placed_by k x false (Some why.placement)) at)
 open_planned d x o false old why keeps = ap (λ (a : Account). a.plan.placed) why ∙ old ∙ sym keeps
 
-pub command_planned : (d : DriverContent) (m : Mem) (cmd : Cmd) (o : Offered) → IsPlanned d → offered d m cmd ≡ Ok o → IsPlanned o.driver
-command_planned d m (commands.OpenEp x) o old is =
-    open_planned d x o (is_periodic x.kind) old (account_of_command d m (commands.OpenEp x) o is) (placements_of_command d m (commands.OpenEp x) o is)
-command_planned d m (commands.Get name len by) o old is =
-    same_plan d o old (account_of_command d m (commands.Get name len by) o is) (placements_of_command d m (commands.Get name len by) o is)
-command_planned d m (commands.Put name bytes by) o old is =
-    same_plan d o old (account_of_command d m (commands.Put name bytes by) o is) (placements_of_command d m (commands.Put name bytes by) o is)
-command_planned d m (commands.Control name setup bytes) o old is =
-    same_plan d o old (account_of_command d m (commands.Control name setup bytes) o is) (placements_of_command d m (commands.Control name setup bytes) o is)
-command_planned d m (commands.Iso name count len seed) o old is =
-    same_plan d o old (account_of_command d m (commands.Iso name count len seed) o is) (placements_of_command d m (commands.Iso name count len seed) o is)
-command_planned d m (commands.Cancel name) o old is =
-    same_plan d o old (account_of_command d m (commands.Cancel name) o is) (placements_of_command d m (commands.Cancel name) o is)
-command_planned d m (commands.Clear name) o old is =
-    same_plan d o old (account_of_command d m (commands.Clear name) o is) (placements_of_command d m (commands.Clear name) o is)
-command_planned d m (commands.Reset port) o old is =
-    same_plan d o old (account_of_command d m (commands.Reset port) o is) (placements_of_command d m (commands.Reset port) o is)
-command_planned d m (commands.Give port) o old is =
-    same_plan d o old (account_of_command d m (commands.Give port) o is) (placements_of_command d m (commands.Give port) o is)
-command_planned d m (commands.DiskRead addr lba count) o old is =
-    same_plan d o old (account_of_command d m (commands.DiskRead addr lba count) o is) (placements_of_command d m (commands.DiskRead addr lba count) o is)
-command_planned d m (commands.DiskWrite addr lba bytes) o old is =
-    same_plan d o old (account_of_command d m (commands.DiskWrite addr lba bytes) o is) (placements_of_command d m (commands.DiskWrite addr lba bytes) o is)
-command_planned d m (commands.Revive addr) o old is =
-    same_plan d o old (account_of_command d m (commands.Revive addr) o is) (placements_of_command d m (commands.Revive addr) o is)
+pub commands_keep_the_plan : (d : DriverContent) (m : Mem) (cmd : Cmd) (o : Offered) → IsPlanned d → offered d m cmd ≡ Ok o
+    → IsPlanned o.driver
+commands_keep_the_plan d m (commands.OpenEp x) o old is =
+    open_planned d x o (is_periodic x.kind) old (commands_place_the_best d m (commands.OpenEp x) o is) (placements_of_command d m (commands.OpenEp x) o is)
+commands_keep_the_plan d m (commands.Get name len by) o old is =
+    same_plan d o old (commands_place_the_best d m (commands.Get name len by) o is)
+    (placements_of_command d m (commands.Get name len by) o is)
+commands_keep_the_plan d m (commands.Put name bytes by) o old is =
+    same_plan d o old (commands_place_the_best d m (commands.Put name bytes by) o is) (placements_of_command d m (commands.Put name bytes by) o is)
+commands_keep_the_plan d m (commands.Control name setup bytes) o old is =
+    same_plan d o old (commands_place_the_best d m (commands.Control name setup bytes) o is) (placements_of_command d m (commands.Control name setup bytes) o is)
+commands_keep_the_plan d m (commands.Iso name count len seed) o old is =
+    same_plan d o old (commands_place_the_best d m (commands.Iso name count len seed) o is) (placements_of_command d m (commands.Iso name count len seed) o is)
+commands_keep_the_plan d m (commands.Cancel name) o old is =
+    same_plan d o old (commands_place_the_best d m (commands.Cancel name) o is) (placements_of_command d m (commands.Cancel name) o is)
+commands_keep_the_plan d m (commands.Clear name) o old is =
+    same_plan d o old (commands_place_the_best d m (commands.Clear name) o is) (placements_of_command d m (commands.Clear name) o is)
+commands_keep_the_plan d m (commands.Reset port) o old is =
+    same_plan d o old (commands_place_the_best d m (commands.Reset port) o is) (placements_of_command d m (commands.Reset port) o is)
+commands_keep_the_plan d m (commands.Give port) o old is =
+    same_plan d o old (commands_place_the_best d m (commands.Give port) o is) (placements_of_command d m (commands.Give port) o is)
+commands_keep_the_plan d m (commands.DiskRead addr lba count) o old is =
+    same_plan d o old (commands_place_the_best d m (commands.DiskRead addr lba count) o is) (placements_of_command d m (commands.DiskRead addr lba count) o is)
+commands_keep_the_plan d m (commands.DiskWrite addr lba bytes) o old is =
+    same_plan d o old (commands_place_the_best d m (commands.DiskWrite addr lba bytes) o is) (placements_of_command d m (commands.DiskWrite addr lba bytes) o is)
+commands_keep_the_plan d m (commands.Revive addr) o old is =
+    same_plan d o old (commands_place_the_best d m (commands.Revive addr) o is) (placements_of_command d m (commands.Revive addr) o is)
 
 -- ---- an event
 
@@ -102,21 +104,21 @@ after_planned : (row : DriverRow) (d : DriverContent) → IsPlanned d → (accou
 after_planned (rows.ReleaseRemoved (removed.Endpoint e)) d old = out_of_plan (account_of d) (placements d) e (slice_get d.endpoints e) old
 after_planned _ d old = old
 
-pub event_planned : (p : Parts) → HasOwners p.driver → IsPlanned p.driver → IsPlanned (after_driver_row (driver_row p) p).driver
-event_planned p has old =
-    ap (λ (a : Account). a.plan.placed) (account_of_event (driver_row p) p)
+pub events_keep_the_plan : (p : Parts) → HasOwners p.driver → IsPlanned p.driver → IsPlanned (after_driver_row (driver_row p) p).driver
+events_keep_the_plan p has old =
+    ap (λ (a : Account). a.plan.placed) (events_take_out_what_left (driver_row p) p)
     ∙ after_planned (driver_row p) p.driver old
-    ∙ sym (placements_of_event (driver_row p) p (ring_due p (driver_row p) (each_is_due p) has))
+    ∙ sym (placements_of_event (driver_row p) p (ring_due p (driver_row p) (each_event_is_due p) has))
 
 -- ---- what that says
 
-pub endpoint_planned : (d : DriverContent) (e : ℕ) (x : Endpoint) (p : Placement) → IsPlanned d → slice_get d.endpoints e ≡ Some x → x.gone ≡ false → x.placement ≡ Some p → IsPlannedAt d e x p
-endpoint_planned d e x p is here kept placed =
+pub endpoints_count_until_given_back : (d : DriverContent) (e : ℕ) (x : Endpoint) (p : Placement) → IsPlanned d → slice_get d.endpoints e ≡ Some x → x.gone ≡ false → x.placement ≡ Some p → IsPlannedAt d e x p
+endpoints_count_until_given_back d e x p is here kept placed =
     let own = has_its_own 0 e e d.endpoints x p (omega arith) here kept placed in
     record { place = own.place; there = ap (λ (ps : List Placed). slice_get ps own.place) is ∙ own.there }
 
-pub planned_endpoint : (d : DriverContent) (i : ℕ) (y : Placed) → IsPlanned d → slice_get d.periodic.plan.placed i ≡ Some y → IsEndpointOf d y
-planned_endpoint d i y is at =
+pub what_counts_is_an_endpoint : (d : DriverContent) (i : ℕ) (y : Placed) → IsPlanned d → slice_get d.periodic.plan.placed i ≡ Some y → IsEndpointOf d y
+what_counts_is_an_endpoint d i y is at =
     let of = comes_of 0 d.endpoints y i (sym (ap (λ (ps : List Placed). slice_get ps i) is) ∙ at) in
     let id : y.want.id ≡ of.number = omega (arith, of.id) in
     record {

@@ -18,7 +18,7 @@ use Rattle.claims_driver.specs.FrameListMembers.{Framed, framed_of}
 use Rattle.law_driver.specs.listed_members.Members.{IsQueueOf, IsListed}
 use Rattle.law_driver.specs.planned_endpoints.Planned.{IsPlanned}
 use Rattle.claims_driver.specs.DueMembers.{IsPlacedQueue}
-use Rattle.law_driver.proofs.lemmas.planned_endpoints.Laws.{some_is, endpoint_planned}
+use Rattle.law_driver.proofs.lemmas.planned_endpoints.Laws.{some_is, endpoints_count_until_given_back}
 
 each_is : (q r : QueueHead) → ◌≡◌ {A = Member} (Each q) (Each r) → q ≡ r
 each_is q r e = cc
@@ -64,7 +64,7 @@ queue_placed d q has planned of =
       placement = of.place;
       here = at.here;
       placed = placed;
-      counts = endpoint_planned d of.number x of.place planned at.here kept placed;
+      counts = endpoints_count_until_given_back d of.number x of.place planned at.here kept placed;
       member = member;
       frames = λ f. in_frames q x.queue of.place f member;
     }
@@ -73,16 +73,18 @@ all_placed : (d : DriverContent) (qs : List QueueHead) → HasOwners d → IsPla
 all_placed d [] has planned h = tt
 all_placed d (q ∷ qs) has planned h = (queue_placed d q has planned h.0, all_placed d qs has planned h.1)
 
-pub queues_placed : (d : DriverContent) → HasOwners d → IsListed d → IsPlanned d → AllByRecursion (IsPlacedQueue d) d.periodic.list.members.schedule.queues
-queues_placed d has listed planned = all_placed d d.periodic.list.members.schedule.queues has planned listed.list.members.queues
+pub queue_heads_are_of_placed_endpoints : (d : DriverContent) → HasOwners d → IsListed d → IsPlanned d → AllByRecursion (IsPlacedQueue d) d.periodic.list.members.schedule.queues
+queue_heads_are_of_placed_endpoints d has listed planned =
+    all_placed d d.periodic.list.members.schedule.queues has planned listed.list.members.queues
 
 -- ---- an endpoint has one
 
 place_is : (p q : Placement) → ◌≡◌ {A = Option Placement} (Some p) (Some q) → p ≡ q
 place_is p q e = cc
 
-pub one_queue : (d : DriverContent) (q r : QueueHead) (h : IsPlacedQueue d q) (k : IsPlacedQueue d r) → h.number ≡ k.number → q ≡ r
-one_queue d q r h k e =
+pub an_endpoint_has_one_queue_head : (d : DriverContent) (q r : QueueHead) (h : IsPlacedQueue d q) (k : IsPlacedQueue d r)
+    → h.number ≡ k.number → q ≡ r
+an_endpoint_has_one_queue_head d q r h k e =
     let same : h.endpoint ≡ k.endpoint = some_is h.endpoint k.endpoint (sym h.here ∙ ap (slice_get d.endpoints) e ∙ k.here) in
     let place : h.placement ≡ k.placement = place_is h.placement k.placement (sym h.placed ∙ ap (λ (x : Endpoint). x.placement) same ∙ k.placed) in
     each_is q r

@@ -39,8 +39,8 @@ use Rattle.law_driver.specs.run_owners.Due.{IsDue}
 use Rattle.claims_driver.specs.Leaving.{HasOwners}
 use Rattle.law_driver.proofs.lemmas.run_owners.Orders.{times_both, set_case}
 use Rattle.law_driver.proofs.lemmas.run_owners.Released.{cancel_same, set_here, set_there}
-use Rattle.law_driver.proofs.lemmas.run_owners.Reasons.{each_is_due}
-use Rattle.law_driver.proofs.lemmas.run_owners.Laws.{event_owned}
+use Rattle.law_driver.proofs.lemmas.run_owners.Reasons.{each_event_is_due}
+use Rattle.law_driver.proofs.lemmas.run_owners.Laws.{events_keep_owners}
 use Rattle.law_driver.proofs.lemmas.run_owners.Runs.{placed_run}
 use Rattle.claims_driver.specs.Ring.{link_in, IsAmong, first, later}
 use Rattle.law_driver.specs.ring_members.Words.{IsPublishing, IsMending, IsRing}
@@ -463,6 +463,6 @@ row_fixed (rows.Harvest e t found) p due stands shape has after apart ring old =
 row_fixed rows.Rest p due stands shape has after apart ring old = old
 row_fixed _ p due stands shape has after apart ring old = record { each = old.each; head = old.head }
 
-pub event_fixed : (p : Parts) → IsSound p.memory p.driver → AreFixed p.memory p.driver → AreFixed (after_driver_row (driver_row p) p).memory (after_driver_row (driver_row p) p).driver
-event_fixed p sound old =
-    row_fixed (driver_row p) p (each_is_due p) sound.stands sound.shape sound.owners (event_owned p sound.owners) (list_apart p.driver p.memory sound.stands sound.shape sound.owners sound.listed) sound.ring old
+pub events_keep_the_fixed_words : (p : Parts) → IsSound p.memory p.driver → AreFixed p.memory p.driver → AreFixed (after_driver_row (driver_row p) p).memory (after_driver_row (driver_row p) p).driver
+events_keep_the_fixed_words p sound old =
+    row_fixed (driver_row p) p (each_event_is_due p) sound.stands sound.shape sound.owners (events_keep_owners p sound.owners) (list_apart p.driver p.memory sound.stands sound.shape sound.owners sound.listed) sound.ring old

@@ -20,8 +20,8 @@ head_written ws i below long =
 words_many : (n : ℕ) → length (with_words_in (replicate n 0) 0 (replicate 1024 1)) ≡ n
 words_many n = length-with_words_in (replicate n 0) 0 (replicate 1024 1) ∙ length-replicate {A = ℕ} n 0
 
-pub opening_fixed : (n : ℕ) (room : Reserve) → 2048 ≤ n → AreFixed (opening n room).memory (opening n room).driver
-opening_fixed n room many = record {
+pub opening_has_fixed_words : (n : ℕ) (room : Reserve) → 2048 ≤ n → AreFixed (opening n room).memory (opening n room).driver
+opening_has_fixed_words n room many = record {
   each = λ e x there met. absurd (cc);
   head = record {
     characteristics = head_written (with_words_in (replicate n 0) 0 (replicate 1024 1)) 1 (omega arith) (omega (arith, words_many n, many));

@@ -37,9 +37,9 @@ use Rattle.drv_table.specs.FrameChoice.{linked_descriptors, linked_by}
 use Rattle.claims_driver.specs.Owners.{Owner, FrameList, Head, QueueHead, Element, Described, HasBlocks, HasRun, SlotHas, IsPlaced, runs_of_transfer, descriptor_in}
 use Rattle.law_driver.specs.run_owners.Due.{IsDue}
 use Rattle.claims_driver.specs.Leaving.{HasOwners}
-use Rattle.law_driver.proofs.lemmas.run_owners.Reasons.{each_is_due}
+use Rattle.law_driver.proofs.lemmas.run_owners.Reasons.{each_event_is_due}
 use Rattle.law_driver.proofs.lemmas.run_owners.Runs.{placed_run}
-use Rattle.law_driver.proofs.lemmas.run_owners.Laws.{event_owned}
+use Rattle.law_driver.proofs.lemmas.run_owners.Laws.{events_keep_owners}
 use Rattle.claims_driver.specs.Ring.{link_in}
 use Rattle.law_driver.specs.ring_members.Words.{IsDescribing, IsMending, IsRing}
 use Rattle.law_driver.specs.in_place.InPlace.{IsSound}
@@ -184,9 +184,9 @@ row_stores (rows.Mend w) p b at due stands has apart ring there low high is =
     inr (subst (λ a. IsMendOf p (rows.Mend w) b a) same (mends p w b due.1 mending (mend_queue w b mending (omega (arith, same, low)) (omega (arith, same, high)))))
 row_stores _ p b at due stands has apart ring there low high is = absurd (cc)
 
-pub event_stores : (p : Parts) (b at : ℕ) → IsSound p.memory p.driver → HasQueueHead p.driver b → 32 * b ≤ at → at < 32 * b + 48 → stored_address (driver_row p) ≡ Some at → StoresAt p b at
-event_stores p b at sound there low high is =
-    row_stores (driver_row p) p b at (each_is_due p) sound.stands sound.owners (list_apart p.driver p.memory sound.stands sound.shape sound.owners sound.listed) sound.ring there low high is
+pub stores_are_links_and_mends : (p : Parts) (b at : ℕ) → IsSound p.memory p.driver → HasQueueHead p.driver b → 32 * b ≤ at → at < 32 * b + 48 → stored_address (driver_row p) ≡ Some at → StoresAt p b at
+stores_are_links_and_mends p b at sound there low high is =
+    row_stores (driver_row p) p b at (each_event_is_due p) sound.stands sound.owners (list_apart p.driver p.memory sound.stands sound.shape sound.owners sound.listed) sound.ring there low high is
 
 -- ---- what any event leaves
 
@@ -322,6 +322,6 @@ row_leaves (rows.ReleaseEndpoint e) p b i due stands shape has after apart ring 
     inl (endpoint_left p e b i (slice_get p.driver.endpoints e) stands shape after later small)
 row_leaves _ p b i due stands shape has after apart ring there later from small = inl refl
 
-pub event_leaves : (p : Parts) (b i : ℕ) → IsSound p.memory p.driver → HasQueueHead p.driver b → HasQueueHead (after_driver_row (driver_row p) p).driver b → 1 ≤ i → i < 12 → LeavesWord p b i
-event_leaves p b i sound there later from small =
-    row_leaves (driver_row p) p b i (each_is_due p) sound.stands sound.shape sound.owners (event_owned p sound.owners) (list_apart p.driver p.memory sound.stands sound.shape sound.owners sound.listed) sound.ring there later from small
+pub events_leave_the_overlay : (p : Parts) (b i : ℕ) → IsSound p.memory p.driver → HasQueueHead p.driver b → HasQueueHead (after_driver_row (driver_row p) p).driver b → 1 ≤ i → i < 12 → LeavesWord p b i
+events_leave_the_overlay p b i sound there later from small =
+    row_leaves (driver_row p) p b i (each_event_is_due p) sound.stands sound.shape sound.owners (events_keep_owners p sound.owners) (list_apart p.driver p.memory sound.stands sound.shape sound.owners sound.listed) sound.ring there later from small

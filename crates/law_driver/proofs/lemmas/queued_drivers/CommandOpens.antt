@@ -86,9 +86,9 @@ opens_queue d m x h idle none runs = record {
 
 -- ---- an accepted open
 
-pub ring_opened : (d : DriverContent) (m : Mem) (o : Offered) → IsOrderly d → (w : Opens d m o) → IsQueueOpened d m w.desc o
+pub opens_are_of_queues : (d : DriverContent) (m : Mem) (o : Offered) → IsOrderly d → (w : Opens d m o) → IsQueueOpened d m w.desc o
 unfolding opens_queue
-ring_opened d m o order w =
+opens_are_of_queues d m o order w =
     let x = w.desc in
     let h = w.holding_after in
     let q = slice_index (new_runs d h) 0 in
@@ -107,9 +107,9 @@ ring_opened d m o order w =
       memory = ap (λ (g : Offered). g.memory) w.is;
     }
 
-pub frames_opened : (d : DriverContent) (m : Mem) (o : Offered) → IsOrderly d → (w : Chains d m o) → IsQueueOpened d m w.desc o
+pub chains_are_of_queues : (d : DriverContent) (m : Mem) (o : Offered) → IsOrderly d → (w : Chains d m o) → IsQueueOpened d m w.desc o
 unfolding opens_queue
-frames_opened d m o order w =
+chains_are_of_queues d m o order w =
     let x = w.desc in
     let p = w.placement in
     let h = w.holding_after in

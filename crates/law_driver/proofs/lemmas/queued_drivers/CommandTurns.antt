@@ -26,13 +26,13 @@ use Rattle.law_driver.proofs.lemmas.run_owners.Orders.{owed, one_same}
 use Rattle.law_driver.specs.chained_transfers.Bulk.{IsBulkCommand, IsToUnlink, sort_by}
 use Rattle.law_driver.specs.chained_transfers.Asynchronous.{StandsAsynchronous}
 use Rattle.law_driver.specs.chained_transfers.AsynchronousTurns.{AsynchronousTakesTurns}
-use Rattle.law_driver.proofs.lemmas.chained_transfers.Accepting.{command_accepts}
-use Rattle.law_driver.proofs.lemmas.chained_transfers.Commands.{command_takes_turns}
+use Rattle.law_driver.proofs.lemmas.chained_transfers.Accepting.{asynchronous_command_is_accepted}
+use Rattle.law_driver.proofs.lemmas.chained_transfers.Commands.{commands_keep_asynchronous_turns}
 use Rattle.law_driver.specs.queued_drivers.Queued.{without_queue, queued_endpoint, queued_desc, sort_of_queue, queued_command, queued, QueuesTakeTurns}
 use Rattle.law_driver.specs.queued_drivers.Commands.{opened_queue, told_of, IsQueueOpened, IsEndOpened, IsGivenBackOf, AreEndsTaken, unlink_of, IsQueueLeft, IsEndLeft, QueuesAccept, CommandsAreOfQueues, QueuesHaveOwners, CommandsKeepQueues}
 use Rattle.law_driver.proofs.lemmas.queued_drivers.CommandReasons.{IsNew, in_ring, in_frames, bare, IsLeft, from_ring, from_frames, get_of, put_of, request_of, IsReasonOf, reason_of}
 use Rattle.law_driver.proofs.lemmas.queued_drivers.CommandFields.{of_none, name_same, desc_asynchronous, push_get, get_queued}
-use Rattle.law_driver.proofs.lemmas.queued_drivers.CommandOpens.{idle_offers, ring_opened, frames_opened}
+use Rattle.law_driver.proofs.lemmas.queued_drivers.CommandOpens.{idle_offers, opens_are_of_queues, chains_are_of_queues}
 use Rattle.law_driver.proofs.lemmas.queued_drivers.CommandAsks.{taken_alike, gets_alike, puts_alike, requests_alike}
 use Rattle.law_driver.proofs.lemmas.queued_drivers.CommandEnds.{end_opened, ends_taken}
 use Rattle.law_driver.proofs.lemmas.queued_drivers.CommandGiven.{turns_alike, end_turns, IsGiven, AreListed, all_given}
@@ -43,8 +43,8 @@ use Rattle.law_driver.proofs.lemmas.queued_drivers.CommandRest.{rest_of}
 
 module _ (d : DriverContent) (m : Mem) (o : Offered) (order : IsOrderly d) (old : QueuesTakeTurns d) where
   new_accepts : (x : EpDesc) → IsNew d m o x → IsQueueOpened d m x o ⊎ IsEndOpened d m x o
-  new_accepts x (in_ring w same) = inl (subst (λ (z : EpDesc). IsQueueOpened d m z o) same (ring_opened d m o order w))
-  new_accepts x (in_frames w same) = inl (subst (λ (z : EpDesc). IsQueueOpened d m z o) same (frames_opened d m o order w))
+  new_accepts x (in_ring w same) = inl (subst (λ (z : EpDesc). IsQueueOpened d m z o) same (opens_are_of_queues d m o order w))
+  new_accepts x (in_frames w same) = inl (subst (λ (z : EpDesc). IsQueueOpened d m z o) same (chains_are_of_queues d m o order w))
   new_accepts x (bare w same) = inr (subst (λ (z : EpDesc). IsEndOpened d m z o) same (end_opened d m o order w))
 
   left_accepts : (name : EpName) → IsLeft d m o name → IsQueueLeft d m name o ⊎ IsEndLeft d m o
@@ -61,17 +61,17 @@ module _ (d : DriverContent) (m : Mem) (o : Offered) (order : IsOrderly d) (old 
       let cmd = commands.Get name len by in
       let t = gets_alike why.endpoint why.taken in
       let takes = idle_offers d m cmd why.idle ∙ taken_alike d m o name takes_get (get_of len by) why t.0 t.1 refl in
-      record { takes = takes; asked = command_accepts (queued d) m cmd (told_of o) old.turns.asynchronous tt takes }
+      record { takes = takes; asked = asynchronous_command_is_accepted (queued d) m cmd (told_of o) old.turns.asynchronous tt takes }
   accepts (commands.Put name bytes by) why =
       let cmd = commands.Put name bytes by in
       let t = puts_alike why.endpoint why.taken in
       let takes = idle_offers d m cmd why.idle ∙ taken_alike d m o name takes_put (put_of bytes by) why t.0 t.1 refl in
-      record { takes = takes; asked = command_accepts (queued d) m cmd (told_of o) old.turns.asynchronous tt takes }
+      record { takes = takes; asked = asynchronous_command_is_accepted (queued d) m cmd (told_of o) old.turns.asynchronous tt takes }
   accepts (commands.Control name setup bytes) why =
       let cmd = commands.Control name setup bytes in
       let t = requests_alike why.endpoint (old.kinds_fit why.number why.endpoint why.here) why.taken in
       let takes = idle_offers d m cmd why.idle ∙ taken_alike d m o name takes_control (request_of setup bytes) why t.0 t.1 refl in
-      record { takes = takes; requested = command_accepts (queued d) m cmd (told_of o) old.turns.asynchronous tt takes }
+      record { takes = takes; requested = asynchronous_command_is_accepted (queued d) m cmd (told_of o) old.turns.asynchronous tt takes }
   accepts (commands.Iso name count len seed) why = ends_taken d m o why
   accepts (commands.Cancel name) why = left_accepts name why
   accepts _ why = absurd why
@@ -130,7 +130,8 @@ module _ (d : DriverContent) (m : Mem) (o : Offered) (idle : d.command ≡ None)
   opened_turns : (x : EpDesc) → IsQueueOpened d m x o → AsynchronousTakesTurns (queued o.driver)
   opened_turns x q =
       let g = opened_queue d x q.holding_after in
-      let t = command_takes_turns (queued d) m (commands.OpenEp (queued_desc x)) g stands owners old.turns (desc_asynchronous x) q.takes in
+      let t = commands_keep_asynchronous_turns (queued d) m (commands.OpenEp (queued_desc x)) g stands owners old.turns
+      (desc_asynchronous x) q.takes in
       subst AsynchronousTakesTurns (sym q.alike)
       (turns_alike g.driver g.driver.book g.driver.command g.driver.made g.driver.room (queued o.driver).periodic tt (λ e z is here. absurd (cc)) refl refl t)
 
@@ -157,7 +158,7 @@ module _ (d : DriverContent) (m : Mem) (o : Offered) (idle : d.command ≡ None)
   left_turns name q =
       let e = q.number in
       let c = accepted_cancel (queued d) e (queued_endpoint q.endpoint) in
-      let t = command_takes_turns (queued d) m (commands.Cancel name) (record { driver = c; memory = m }) stands owners old.turns tt q.takes in
+      let t = commands_keep_asynchronous_turns (queued d) m (commands.Cancel name) (record { driver = c; memory = m }) stands owners old.turns tt q.takes in
       let bulk : IsBulkCommand q.unlinks = ⊎_elim
       (λ (at : (is_periodic q.endpoint.desc.kind ≡ false) × (q.unlinks ≡ Some (unlink_of d e))). subst IsBulkCommand (sym at.1) tt)
       (λ (at : (is_periodic q.endpoint.desc.kind ≡ true) × (q.unlinks ≡ None)). subst IsBulkCommand (sym at.1) tt) q.command in
@@ -173,9 +174,9 @@ module _ (d : DriverContent) (m : Mem) (o : Offered) (idle : d.command ≡ None)
 
   turns_by : (cmd : Cmd) → QueuesAccept d m o cmd → AsynchronousTakesTurns (queued o.driver)
   turns_by (commands.OpenEp x) why = ⊎_elim (λ (q : IsQueueOpened d m x o). opened_turns x q) (λ (q : IsEndOpened d m x o). end_opened_turns x q) why
-  turns_by (commands.Get name len by) why = command_takes_turns (queued d) m (commands.Get name len by) (told_of o) stands owners old.turns tt why.takes
-  turns_by (commands.Put name bytes by) why = command_takes_turns (queued d) m (commands.Put name bytes by) (told_of o) stands owners old.turns tt why.takes
-  turns_by (commands.Control name setup bytes) why = command_takes_turns (queued d) m (commands.Control name setup bytes) (told_of o) stands owners old.turns tt why.takes
+  turns_by (commands.Get name len by) why = commands_keep_asynchronous_turns (queued d) m (commands.Get name len by) (told_of o) stands owners old.turns tt why.takes
+  turns_by (commands.Put name bytes by) why = commands_keep_asynchronous_turns (queued d) m (commands.Put name bytes by) (told_of o) stands owners old.turns tt why.takes
+  turns_by (commands.Control name setup bytes) why = commands_keep_asynchronous_turns (queued d) m (commands.Control name setup bytes) (told_of o) stands owners old.turns tt why.takes
   turns_by (commands.Iso name count len seed) why = taken_turns why
   turns_by (commands.Cancel name) why = ⊎_elim (λ (q : IsQueueLeft d m name o). left_turns name q) (λ (q : IsEndLeft d m o). end_left_turns q) why
   turns_by _ why = absurd why

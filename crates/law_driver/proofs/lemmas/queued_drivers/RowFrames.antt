@@ -146,8 +146,8 @@ none_made : (n : ℕ) → slice_get (events_of unfinished.Chain) n ≡ Some rows
 none_made zero next = refl
 none_made (suc n) next = absurd (cc)
 
-pub chain_lends : (p : Parts) → IsDue p rows.Lend → LinksOn p rows.Lend → IsLentAlike p
-chain_lends p due on = record {
+pub chain_lends_agree : (p : Parts) → IsDue p rows.Lend → LinksOn p rows.Lend → IsLentAlike p
+chain_lends_agree p due on = record {
   due = record { command = unfinished.Open q; unfinished = opens; next = ap (λ (n : ℕ). slice_get (events_of (unfinished.Open q)) n) begins };
   queues = subst (λ (f : DriverContent). QueuesAlike f (queued (advance lending))) (sym lent) (later on.unfinished).0;
   tells = subst (λ (f : DriverContent). TellsAlike f (queued (advance lending))) (sym lent) (later on.unfinished).1;
@@ -240,23 +240,23 @@ chain_over p row f is queues tells command over =
     Ends : DriverContent → Type 0
     Ends g = g.command ≡ None → HasEnded f g
 
-pub chain_finishes : (p : Parts) (row : DriverRow) → IsDue p row → FinishesChain p row → IsFinishedAlike p row
-chain_finishes p rows.Lend due over =
+pub chains_finish : (p : Parts) (row : DriverRow) → IsDue p row → FinishesChain p row → IsFinishedAlike p row
+chains_finish p rows.Lend due over =
     let f : DriverContent = record p.driver { book = (lend_taken (holding p.driver.book p.memory)).book } in
     chain_over p rows.Lend f refl (aside p.driver f) (record { reports = refl; store = refl }) over.chain over
-chain_finishes p (rows.Store b at v) due over = chain_over p (rows.Store b at v) p.driver refl (queues_same (queued p.driver)) (record { reports = refl; store = refl }) over.chain over
-chain_finishes p rows.LendDescriptors due over =
+chains_finish p (rows.Store b at v) due over = chain_over p (rows.Store b at v) p.driver refl (queues_same (queued p.driver)) (record { reports = refl; store = refl }) over.chain over
+chains_finish p rows.LendDescriptors due over =
     let f : DriverContent = record p.driver { book = (lend_taken (holding p.driver.book (linked_by p.driver p.memory p.driver.command))).book } in
     chain_over p rows.LendDescriptors f refl (aside p.driver f) (record { reports = refl; store = refl }) over.chain over
-chain_finishes p rows.Frames due over =
+chains_finish p rows.Frames due over =
     absurd (busy_idle p.driver unfinished.Chain over.chain (ap (λ (o : Option Command). (framed_by p.driver p.registers.frame_index o).command) (sym over.chain) ∙ over.finished))
-chain_finishes p (rows.Unlink t) due over = absurd (busy_idle p.driver unfinished.Chain over.chain due.idle)
-chain_finishes p (rows.ReleaseRemoved what) due over = absurd (busy_idle p.driver unfinished.Chain over.chain due.idle)
-chain_finishes p (rows.ReleaseTransfer t) due over = absurd (busy_idle p.driver unfinished.Chain over.chain due.idle)
-chain_finishes p (rows.ReleaseEndpoint e) due over = absurd (busy_idle p.driver unfinished.Chain over.chain due.idle)
-chain_finishes p (rows.Harvest e t found) due over = absurd (busy_idle p.driver unfinished.Chain over.chain due.idle)
-chain_finishes p rows.Rest due over = absurd (busy_idle p.driver unfinished.Chain over.chain over.finished)
-chain_finishes p _ due over = absurd (busy_idle p.driver unfinished.Chain over.chain due.0)
+chains_finish p (rows.Unlink t) due over = absurd (busy_idle p.driver unfinished.Chain over.chain due.idle)
+chains_finish p (rows.ReleaseRemoved what) due over = absurd (busy_idle p.driver unfinished.Chain over.chain due.idle)
+chains_finish p (rows.ReleaseTransfer t) due over = absurd (busy_idle p.driver unfinished.Chain over.chain due.idle)
+chains_finish p (rows.ReleaseEndpoint e) due over = absurd (busy_idle p.driver unfinished.Chain over.chain due.idle)
+chains_finish p (rows.Harvest e t found) due over = absurd (busy_idle p.driver unfinished.Chain over.chain due.idle)
+chains_finish p rows.Rest due over = absurd (busy_idle p.driver unfinished.Chain over.chain over.finished)
+chains_finish p _ due over = absurd (busy_idle p.driver unfinished.Chain over.chain due.0)
 
 -- ---- stores of the frame list
 

@@ -232,8 +232,8 @@ queued_orderly d moving old =
           ∙ endpoint_either (λ r. is_some r.ended ≡ true) k.one (λ iso. refl) (λ queue. old.leaver e k.one (leaver_told xs d.command e is) k.here);
     }
 
-pub queued_owners : (d : DriverContent) → HasOwners d → QueuesTakeTurns d → HasOwners (queued d)
-queued_owners d old turns = record { owner = old.owner; owned = queued_owned d old.owner old.owned; orderly = queued_orderly d turns.harvested old.orderly }
+pub queued_has_owners : (d : DriverContent) → HasOwners d → QueuesTakeTurns d → HasOwners (queued d)
+queued_has_owners d old turns = record { owner = old.owner; owned = queued_owned d old.owner old.owned; orderly = queued_orderly d turns.harvested old.orderly }
 
 -- ---- lent runs
 
@@ -249,5 +249,5 @@ lends_told xs (Some (unfinished.Iso e t count)) n none over = none e t count ref
 lends_told xs (Some (unfinished.Unchain e)) zero none over = refl
 lends_told xs (Some (unfinished.Unchain e)) (suc n) none over = refl
 
-pub queued_lent : (d : DriverContent) → AreLent d → LendsNoDescriptors d → AreLent (queued d)
-queued_lent d old none = record { kept = old.kept; lent = λ over. old.lent (lends_told d.endpoints d.command d.made none over) }
+pub queued_are_lent : (d : DriverContent) → AreLent d → LendsNoDescriptors d → AreLent (queued d)
+queued_are_lent d old none = record { kept = old.kept; lent = λ over. old.lent (lends_told d.endpoints d.command d.made none over) }

@@ -39,19 +39,19 @@ use Rattle.claims_driver.specs.Leaving.{times, owes, IsOrderly, HasOwners}
 use Rattle.law_driver.specs.run_owners.Due.{IsDue}
 use Rattle.law_driver.proofs.lemmas.run_owners.Orders.{one_same}
 use Rattle.law_driver.proofs.lemmas.run_owners.Leaves.{no_command_orderly, first_removed}
-use Rattle.law_driver.proofs.lemmas.run_owners.Reasons.{each_is_due}
+use Rattle.law_driver.proofs.lemmas.run_owners.Reasons.{each_event_is_due}
 use Rattle.law_driver.proofs.lemmas.run_owners.Rows.{due_orderly}
 use Rattle.law_driver.specs.chained_transfers.AsynchronousTurns.{AsynchronousTakesTurns}
 use Rattle.law_driver.proofs.lemmas.chained_transfers.Moves.{descs_same, moves_same}
 use Rattle.law_driver.proofs.lemmas.chained_transfers.Stalled.{behind_tells}
 use Rattle.law_driver.proofs.lemmas.chained_transfers.Rows.{set_which}
-use Rattle.law_driver.proofs.lemmas.chained_transfers.Events.{due_leaves, new_queues}
+use Rattle.law_driver.proofs.lemmas.chained_transfers.Events.{due_leaves, new_driver_takes_asynchronous_turns}
 use Rattle.law_driver.specs.queued_drivers.Queued.{queued, queued_parts, FitsKind, QueuesTakeTurns}
 use Rattle.law_driver.specs.queued_drivers.Rows.{QueuesAlike, IsToldAlike, LeavesQueues, out_parts}
 use Rattle.law_driver.proofs.lemmas.queued_drivers.RowLists.{descriptor_told, transfer_at}
 use Rattle.law_driver.proofs.lemmas.queued_drivers.RowEvents.{row_told}
 use Rattle.law_driver.proofs.lemmas.queued_drivers.RowOwners.{queued_orderly}
-use Rattle.law_driver.proofs.lemmas.queued_drivers.RowFrames.{busy_idle, chain_lends, chain_finishes, frames_leave}
+use Rattle.law_driver.proofs.lemmas.queued_drivers.RowFrames.{busy_idle, chain_lends_agree, chains_finish, frames_leave}
 use Rattle.law_driver.proofs.lemmas.queued_drivers.RowRemovals.{goes_back}
 
 -- ---- the same queues are in the same turn
@@ -304,7 +304,7 @@ module _ (p : Parts) (owners : HasOwners p.driver) (old : QueuesTakeTurns p.driv
   over_keeps row due chain none =
       let q = queued p.driver in
       let r = old.turns.asynchronous in
-      let k = chain_finishes p row due (record { chain = chain; finished = none }) in
+      let k = chains_finish p row due (record { chain = chain; finished = none }) in
       alike_keeps (no_command q) (after_driver_row row p).driver k.queues (record {
         asynchronous = record { endpoints = r.endpoints; moves = moves_same q (no_command q) (descs_same q.endpoints) r.moves; command = tt; leaver = λ e x is here. absurd (cc); unlinks = refl; removals = refl };
         chained = record { some = old.turns.chained.some; next = old.turns.chained.next; last = old.turns.chained.last };
@@ -314,7 +314,7 @@ module _ (p : Parts) (owners : HasOwners p.driver) (old : QueuesTakeTurns p.driv
   lend_keeps : IsDue p rows.Lend → (c : Option Command) → (after_driver_row rows.Lend p).driver.command ≡ c → p.driver.command ≡ Some unfinished.Chain → KeepsTurns (after_driver_row rows.Lend p).driver
   lend_keeps due None is chain = over_keeps rows.Lend due chain is
   lend_keeps due (Some c) is chain =
-      let k = chain_lends p due (record { chain = chain; unfinished = λ none. let e : ◌≡◌ {A = Option Command} None (Some c) = sym none ∙ is in cc }) in
+      let k = chain_lends_agree p due (record { chain = chain; unfinished = λ none. let e : ◌≡◌ {A = Option Command} None (Some c) = sym none ∙ is in cc }) in
       alike_keeps (after_driver_row rows.Lend (queued_parts p)).driver (after_driver_row rows.Lend p).driver k.queues (due_leaves rows.Lend (queued_parts p) k.due orderly old.turns).turns (due_orderly rows.Lend (queued_parts p) k.due orderly)
 
   pub row_keeps : (row : DriverRow) → IsDue p row → KeepsTurns (after_driver_row row p).driver
@@ -399,14 +399,15 @@ row_keeps_queues row p owners old due =
         (λ (same : (after_driver_row row p).driver.command ≡ p.driver.command). sym same ∙ its)
         (λ (none : (after_driver_row row p).driver.command ≡ None). absurd (busy_idle (after_driver_row row p).driver c its none)) (row_stays row p).command
 
-pub rows_keep : (p : Parts) → HasOwners p.driver → QueuesTakeTurns p.driver → QueuesTakeTurns (after_driver_row (driver_row p) p).driver
-rows_keep p owners old = row_keeps_queues (driver_row p) p owners old (each_is_due p)
+pub rows_keep_queues : (p : Parts) → HasOwners p.driver → QueuesTakeTurns p.driver
+    → QueuesTakeTurns (after_driver_row (driver_row p) p).driver
+rows_keep_queues p owners old = row_keeps_queues (driver_row p) p owners old (each_event_is_due p)
 
 -- ---- the opening
 
 pub new_driver_queues : (n : ℕ) (room : Reserve) → QueuesTakeTurns (opening n room).driver
 new_driver_queues n room = record {
-  turns = turns_alike (opening n room).driver (opening n room).driver (record { endpoints = refl; transfers = refl; notes = refl; command = refl; made = refl; mends = refl; harvested = refl; waiting = refl; rung = refl; cleared = refl; bell = refl }) (new_queues n room);
+  turns = turns_alike (opening n room).driver (opening n room).driver (record { endpoints = refl; transfers = refl; notes = refl; command = refl; made = refl; mends = refl; harvested = refl; waiting = refl; rung = refl; cleared = refl; bell = refl }) (new_driver_takes_asynchronous_turns n room);
   kinds_fit = λ e x here. absurd (cc);
   harvested = λ i t y at. absurd (cc);
   cancelled = λ e x here. absurd (cc);

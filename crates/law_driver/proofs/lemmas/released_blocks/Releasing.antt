@@ -19,7 +19,7 @@ use Rattle.drv_table.specs.Releases.{free_runs, free_endpoint, freed_by, after_t
 use Rattle.drv_table.specs.Removals.{free_descriptors, after_descriptor, after_placed, after_removed}
 use Rattle.law_driver.specs.run_owners.Due.{IsDue}
 use Rattle.claims_driver.specs.Owners.{descriptor_in}
-use Rattle.law_driver.proofs.lemmas.run_owners.Reasons.{each_is_due}
+use Rattle.law_driver.proofs.lemmas.run_owners.Reasons.{each_event_is_due}
 use Rattle.claims_driver.specs.LentRuns.{begins_in, AreLent}
 use Rattle.law_driver.proofs.lemmas.lent_runs.Goes.{idle_none}
 use Rattle.claims_driver.specs.Released.{IsTransferFreed, IsQueueFreed, IsDescriptorFreed, IsPlacedFreed, IsRemovedFreed, IsReleased}
@@ -88,5 +88,5 @@ row_released p (rows.ReleaseEndpoint e) stands lent due = endpoint_row p e (slic
 row_released p (rows.ReleaseRemoved what) stands lent due = removed_row p what stands due.idle lent
 row_released p _ stands lent due = tt
 
-pub released_free : (p : Parts) → Stands (holding p.driver.book p.memory) → AreLent p.driver → IsReleased p.driver (after_driver_row (driver_row p) p).memory (driver_row p)
-released_free p stands lent = row_released p (driver_row p) stands lent (each_is_due p)
+pub what_a_release_leaves_is_free : (p : Parts) → Stands (holding p.driver.book p.memory) → AreLent p.driver → IsReleased p.driver (after_driver_row (driver_row p) p).memory (driver_row p)
+what_a_release_leaves_is_free p stands lent = row_released p (driver_row p) stands lent (each_event_is_due p)

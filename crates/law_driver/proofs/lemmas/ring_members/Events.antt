@@ -41,8 +41,8 @@ use Rattle.law_driver.proofs.lemmas.run_owners.Rows.{not_iso}
 use Rattle.law_driver.specs.run_owners.Due.{IsDue, IsNextOf, IsLinkOf}
 use Rattle.law_driver.proofs.lemmas.run_owners.Orders.{times_both}
 use Rattle.law_driver.proofs.lemmas.run_owners.Released.{set_here, set_there, cancel_same}
-use Rattle.law_driver.proofs.lemmas.run_owners.Laws.{event_owned}
-use Rattle.law_driver.proofs.lemmas.run_owners.Reasons.{each_is_due}
+use Rattle.law_driver.proofs.lemmas.run_owners.Laws.{events_keep_owners}
+use Rattle.law_driver.proofs.lemmas.run_owners.Reasons.{each_event_is_due}
 use Rattle.claims_driver.specs.Ring.{link_in}
 use Rattle.law_driver.specs.ring_members.Words.{AreLinked, AreLeaving, IsOpening, IsUnlinking, IsPublishing, IsDescribing, StandsFor, IsMending, IsRing}
 use Rattle.law_driver.specs.in_place.InPlace.{IsSound}
@@ -718,6 +718,6 @@ row_ring (rows.Harvest e t found) p due stands shape has after apart old =
 row_ring rows.Rest p due stands shape has after apart old = old
 row_ring _ p due stands shape has after apart old = record { ring = old.ring; leaving = old.leaving; mends = old.mends; kept = old.kept }
 
-pub event_ring : (p : Parts) → IsSound p.memory p.driver → IsRing (link_in (after_driver_row (driver_row p) p).memory) (after_driver_row (driver_row p) p).driver
-event_ring p sound =
-    row_ring (driver_row p) p (each_is_due p) sound.stands sound.shape sound.owners (event_owned p sound.owners) (list_apart p.driver p.memory sound.stands sound.shape sound.owners sound.listed) sound.ring
+pub events_keep_the_ring : (p : Parts) → IsSound p.memory p.driver → IsRing (link_in (after_driver_row (driver_row p) p).memory) (after_driver_row (driver_row p) p).driver
+events_keep_the_ring p sound =
+    row_ring (driver_row p) p (each_event_is_due p) sound.stands sound.shape sound.owners (events_keep_owners p sound.owners) (list_apart p.driver p.memory sound.stands sound.shape sound.owners sound.listed) sound.ring

@@ -25,8 +25,8 @@ head_written ws long =
 words_many : (n : ℕ) → length (with_words_in (replicate n 0) 0 (replicate 1024 1)) ≡ n
 words_many n = length-with_words_in (replicate n 0) 0 (replicate 1024 1) ∙ length-replicate {A = ℕ} n 0
 
-pub opening_ring : (n : ℕ) (room : Reserve) → 2048 ≤ n → IsRing (link_in (opening n room).memory) (opening n room).driver
-opening_ring n room many = record {
+pub opening_is_a_ring : (n : ℕ) (room : Reserve) → 2048 ≤ n → IsRing (link_in (opening n room).memory) (opening n room).driver
+opening_is_a_ring n room many = record {
   ring = head_written (with_words_in (replicate n 0) 0 (replicate 1024 1)) (omega (arith, words_many n, many));
   leaving = tt;
   mends = tt;

@@ -133,5 +133,5 @@ linked_alive d e x order here on =
     (steady.ring on, ⊎_elim (λ (g : x.gone ≡ true). absurd (false≢true (sym (steady.gone g).0 ∙ on))) (λ (g : x.gone ≡ false). g) (cases_Bool x.gone))
 
 -- where two endpoints have queues, these stand apart
-pub queues_stand_apart : (d : DriverContent) (e f : ℕ) (x y : Endpoint) → HasOwners d → HasQueue d e x → HasQueue d f y → e ≢ f → x.queue ≢ y.queue
-queues_stand_apart d e f x y has one two differ = queues_apart d e f x y has one.here (has_queue x one.queued one.alive) two.here (has_queue y two.queued two.alive) differ
+pub each_is_met_once : (d : DriverContent) (e f : ℕ) (x y : Endpoint) → HasOwners d → HasQueue d e x → HasQueue d f y → e ≢ f → x.queue ≢ y.queue
+each_is_met_once d e f x y has one two differ = queues_apart d e f x y has one.here (has_queue x one.queued one.alive) two.here (has_queue y two.queued two.alive) differ

@@ -288,5 +288,5 @@ busy_why : (d : DriverContent) (m : Mem) (cmd : Cmd) (o : Offered) (c : Option C
 busy_why d m cmd o (Some c) is f = absurd (cc)
 busy_why d m cmd o None is f = next_why d m cmd o is f
 
-pub accepted_for_a_reason : (d : DriverContent) (m : Mem) (cmd : Cmd) (o : Offered) → offered d m cmd ≡ Ok o → Accepts d m o
-accepted_for_a_reason d m cmd o f = busy_why d m cmd o d.command refl f
+pub each_command_has_its_reason : (d : DriverContent) (m : Mem) (cmd : Cmd) (o : Offered) → offered d m cmd ≡ Ok o → Accepts d m o
+each_command_has_its_reason d m cmd o f = busy_why d m cmd o d.command refl f

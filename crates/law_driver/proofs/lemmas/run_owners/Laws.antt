@@ -12,7 +12,7 @@ use Rattle.law_driver.specs.run_owners.Accepts.{Accepts, opens, chains, places, 
 use Rattle.claims_driver.specs.Owners.{Owner, IsOwned}
 use Rattle.law_driver.specs.run_owners.Owners.{ShareNoBlock}
 use Rattle.claims_driver.specs.Leaving.{HasOwners}
-use Rattle.law_driver.proofs.lemmas.run_owners.Commands.{accepted_for_a_reason}
+use Rattle.law_driver.proofs.lemmas.run_owners.Commands.{each_command_has_its_reason}
 use Rattle.law_driver.proofs.lemmas.run_owners.Accepted.{open_owned, chain_owned, place_owned, cancel_owned, unchain_owned}
 use Rattle.law_driver.proofs.lemmas.run_owners.Described.{describe_owned}
 use Rattle.law_driver.proofs.lemmas.run_owners.Transferred.{transfer_owned}
@@ -29,16 +29,17 @@ accepted_owned d m o stands (describes why) old = describe_owned d m old.owner o
 accepted_owned d m o stands (unchains why) old = (old.owner, unchain_owned d m old.owner o why old.owned)
 accepted_owned d m o stands (cancels why) old = (old.owner, cancel_owned d m old.owner o why old.owned)
 
-pub command_owned : (d : DriverContent) (m : Mem) (cmd : Cmd) (o : Offered) → Stands (holding d.book m) → HasOwners d → offered d m cmd ≡ Ok o → HasOwners o.driver
-command_owned d m cmd o stands old is =
-    let why = accepted_for_a_reason d m cmd o is in
+pub commands_keep_owners : (d : DriverContent) (m : Mem) (cmd : Cmd) (o : Offered) → Stands (holding d.book m) → HasOwners d → offered d m cmd ≡ Ok o → HasOwners o.driver
+commands_keep_owners d m cmd o stands old is =
+    let why = each_command_has_its_reason d m cmd o is in
     let now = accepted_owned d m o stands why old in
     record { owner = now.0; owned = now.1; orderly = accepted_orderly d m o why old.orderly }
 
-pub event_owned : (p : Parts) → HasOwners p.driver → HasOwners (after_driver_row (driver_row p) p).driver
-event_owned p old = record { owner = old.owner; owned = row_owned p old.owner old.orderly old.owned; orderly = row_orderly p old.orderly }
+pub events_keep_owners : (p : Parts) → HasOwners p.driver → HasOwners (after_driver_row (driver_row p) p).driver
+events_keep_owners p old =
+    record { owner = old.owner; owned = row_owned p old.owner old.orderly old.owned; orderly = row_orderly p old.orderly }
 
 -- structures of different owners share no block
-pub owners_apart : (h : Holding) (owner : ℕ → Owner) (o q : Owner) → Stands h → o ≢ q → ShareNoBlock h owner o q
-owners_apart h owner o q stands differ b c k one two has also =
+pub owners_share_no_block : (h : Holding) (owner : ℕ → Owner) (o q : Owner) → Stands h → o ≢ q → ShareNoBlock h owner o q
+owners_share_no_block h owner o q stands differ b c k one two has also =
     runs_apart h b c k stands (λ same. differ (sym one.owned ∙ ap owner (sym same) ∙ two.owned)) has also

@@ -27,8 +27,8 @@ slots_there : (k : ℕ) → 256 ≤ k → k ≡ length (set (set (replicate k Em
 slots_there k many =
     sym (blocks k many) ∙ sym (length-set (replicate k Empty) 0 (Lends list_run)) ∙ sym (length-set (set (replicate k Empty) 0 (Lends list_run)) 128 (Lends head_run))
 
-pub opening_owned : (n : ℕ) (room : Reserve) → 2048 ≤ n → HasOwners (opening n room).driver
-opening_owned n room many =
+pub opening_has_owners : (n : ℕ) (room : Reserve) → 2048 ≤ n → HasOwners (opening n room).driver
+opening_has_owners n room many =
     let k = n / 8 in
     let enough : 256 ≤ k = omega (arith, many) in
     record {

@@ -237,5 +237,5 @@ due_for : (p : Parts) (o : Option Command) → p.driver.command ≡ o → IsDue 
 due_for p (Some c) is = due_after p c (links c && nat_le (length (events_of c)) p.driver.made) is (λ on. let b = both_true (links c) (nat_le (length (events_of c)) p.driver.made) on in (b.0, not_before (length (events_of c)) p.driver.made (nat_le (length (events_of c)) p.driver.made) refl b.1))
 due_for p None is = due_turn p p.driver.turn is
 
-pub each_is_due : (p : Parts) → IsDue p (driver_row p)
-each_is_due p = due_for p p.driver.command refl
+pub each_event_is_due : (p : Parts) → IsDue p (driver_row p)
+each_event_is_due p = due_for p p.driver.command refl

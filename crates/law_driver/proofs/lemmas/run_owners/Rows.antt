@@ -39,7 +39,7 @@ use Rattle.law_driver.proofs.lemmas.run_owners.Orders.{times_first, removed_firs
 use Rattle.law_driver.proofs.lemmas.run_owners.Leaves.{rung_orderly, cleared_orderly, read_orderly, unlinked_orderly, first_left, first_removed, GoesBy, endpoint_gone, let_go_goes, let_waiting_goes, none_of, less_cleared, less_removed}
 use Rattle.law_driver.proofs.lemmas.run_owners.Goes.{advance_orderly, framed_orderly}
 use Rattle.law_driver.proofs.lemmas.run_owners.Harvest.{is_served_found, harvest_orderly}
-use Rattle.law_driver.proofs.lemmas.run_owners.Reasons.{each_is_due}
+use Rattle.law_driver.proofs.lemmas.run_owners.Reasons.{each_event_is_due}
 
 -- ---- whose each run is
 
@@ -113,7 +113,7 @@ due_owned rows.Rest p owner due order old = old
 due_owned _ p owner due order old = stays_owned p.driver _ owner (stays_same p.driver _ refl (λ i. refl) (λ i. refl) (λ c. refl) refl refl) old
 
 pub row_owned : (p : Parts) (owner : ℕ → Owner) → IsOrderly p.driver → IsOwned p.driver owner → IsOwned (after_driver_row (driver_row p) p).driver owner
-row_owned p owner order old = due_owned (driver_row p) p owner (each_is_due p) order old
+row_owned p owner order old = due_owned (driver_row p) p owner (each_event_is_due p) order old
 
 -- ---- the order of what is given back
 
@@ -228,4 +228,4 @@ due_orderly (rows.Harvest e t found) p due old =
 due_orderly _ p due old = old
 
 pub row_orderly : (p : Parts) → IsOrderly p.driver → IsOrderly (after_driver_row (driver_row p) p).driver
-row_orderly p old = due_orderly (driver_row p) p (each_is_due p) old
+row_orderly p old = due_orderly (driver_row p) p (each_event_is_due p) old

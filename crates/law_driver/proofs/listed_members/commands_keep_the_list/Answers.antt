@@ -1,5 +1,5 @@
-use Rattle.law_driver.proofs.lemmas.listed_members.Accepted.{command_listed}
+use Rattle.law_driver.proofs.lemmas.listed_members.Accepted.{commands_keep_the_list}
 use Rattle.law_driver.proofs.listed_members.commands_keep_the_list.Goals as goal
 
 pub returns : goal.returns
-returns c = command_listed
+returns c = commands_keep_the_list

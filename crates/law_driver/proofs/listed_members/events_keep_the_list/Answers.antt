@@ -1,5 +1,5 @@
-use Rattle.law_driver.proofs.lemmas.listed_members.Events.{event_listed}
+use Rattle.law_driver.proofs.lemmas.listed_members.Events.{events_keep_the_list}
 use Rattle.law_driver.proofs.listed_members.events_keep_the_list.Goals as goal
 
 pub returns : goal.returns
-returns c = event_listed
+returns c = events_keep_the_list

@@ -1,5 +1,5 @@
-use Rattle.law_driver.proofs.lemmas.listed_queues.Rows.{event_queues}
+use Rattle.law_driver.proofs.lemmas.listed_queues.Rows.{events_keep_queue_heads}
 use Rattle.law_driver.proofs.listed_queues.events_keep_queue_heads.Goals as goal
 
 pub returns : goal.returns
-returns c = event_queues
+returns c = events_keep_queue_heads

@@ -1,5 +1,5 @@
-use Rattle.law_driver.proofs.lemmas.ring_members.Laws.{command_ring}
+use Rattle.law_driver.proofs.lemmas.ring_members.Laws.{commands_keep_the_ring}
 use Rattle.law_driver.proofs.ring_members.commands_keep_the_ring.Goals as goal
 
 pub returns : goal.returns
-returns c = command_ring
+returns c = commands_keep_the_ring

@@ -11,7 +11,7 @@ use Rattle.law_ring.specs.QueueParts.{IsQueuePart}
 use Rattle.drv_table.specs.declared.content.QtdNote.{QtdNote}
 use Rattle.drv_table.specs.DriverContent.{no_note}
 use Rattle.drv_table.specs.Harvests.{note_at, noted, token_in, moved_of}
-use Rattle.law_driver_ring.proofs.lemmas.harvested_streams.Harvesting.{token_read}
+use Rattle.law_driver_ring.proofs.lemmas.harvested_streams.Harvesting.{token_is_read}
 use Rattle.law_driver_ring.specs.told_harvests.Held.{IsDone, IsRead, NotesMoved}
 use Rattle.law_driver_ring.proofs.lemmas.told_harvests.Done.{done_in_part}
 
@@ -27,10 +27,10 @@ length_of_taken zero xs within = refl
 length_of_taken (suc k) [] within = absurd (omega (arith, within))
 length_of_taken (suc k) (x ∷ xs) within = let z = length_of_taken k xs (omega (arith, within)) in omega (arith, z)
 
-pub found_done : (m : Mem) (parts : StructureSets) (hand : Hand) (n b : ℕ) (x : List ℕ) (note : QtdNote) → Tells m parts → IsQueuePart n (parts n) → IsRead (parts n) note b → (token_in m b).active ≡ false
+pub found_is_done : (m : Mem) (parts : StructureSets) (hand : Hand) (n b : ℕ) (x : List ℕ) (note : QtdNote) → Tells m parts → IsQueuePart n (parts n) → IsRead (parts n) note b → (token_in m b).active ≡ false
     → Told hand parts n (32 * b) x → IsDone hand parts n b (moved_of note.told (token_in m b).total) x
-found_done m parts hand n b x note tells k r off told =
-    let token : token_in m b ≡ r.qtd.token = token_read m parts n b r.qtd tells r.here in
+found_is_done m parts hand n b x note tells k r off told =
+    let token : token_in m b ≡ r.qtd.token = token_is_read m parts n b r.qtd tells r.here in
     let idle : r.qtd.token.active ≡ false = ap (λ (z : Token). z.active) (sym token) ∙ off in
     record {
       qtd = r.qtd;
@@ -56,8 +56,8 @@ set_else (a ∷ rest) (suc c) zero new differs = refl
 set_else (a ∷ rest) (suc c) (suc b) new differs = set_else rest c b new (λ e. differs (ap suc e))
 
 -- a block of which nothing is noted tells no bytes
-pub is_noted : (notes : List QtdNote) (c left : ℕ) → NotesMoved (note_at notes) (note_at (noted notes c (moved_of (note_at notes c).told left))) c (moved_of (note_at notes c).told left)
-is_noted notes c left = record {
+pub found_is_noted : (notes : List QtdNote) (c left : ℕ) → NotesMoved (note_at notes) (note_at (noted notes c (moved_of (note_at notes c).told left))) c (moved_of (note_at notes c).told left)
+found_is_noted notes c left = record {
   here = set_there notes c (record (note_at notes c) { moved = moved_of (note_at notes c).told left }) (λ none.
       ap (λ (z : QtdNote). record z { moved = moved_of z.told left }) none ∙ ap (λ (i : ℕ). record no_note { moved = i }) (moved_is 0 left ∙ none_left left));
   beside = λ b differs. set_else notes c b (record (note_at notes c) { moved = moved_of (note_at notes c).told left }) differs;

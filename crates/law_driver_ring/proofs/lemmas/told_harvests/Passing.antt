@@ -52,9 +52,9 @@ split_by hand parts n e (p ∷ ps) rest xs none (one_out b bs x ys told others) 
       sum = ap (λ (zs : List ℕ). zs ++ ys) nothing ∙ s.sum ∙ ap (λ (zs : List ℕ). s.first ++ (zs ++ s.rest)) (sym nothing);
     }
 
-pub first_harvested : (order : ℕ → ℕ) (place e : ℕ) (passed rest : List ℕ) (hand : Hand) (parts : StructureSets) (n : ℕ) (xs : List ℕ) (t : Qtd) → parts n e ≡ Some (Element t) → t.token.active ≡ false → IsNoneTold hand parts n passed
+pub harvest_takes_first : (order : ℕ → ℕ) (place e : ℕ) (passed rest : List ℕ) (hand : Hand) (parts : StructureSets) (n : ℕ) (xs : List ℕ) (t : Qtd) → parts n e ≡ Some (Element t) → t.token.active ≡ false → IsNoneTold hand parts n passed
     → Accounts order place (passed ++ e ∷ rest) hand parts n xs → HarvestsFirst order place e (passed ++ rest) hand parts n xs
-first_harvested order place e passed rest hand parts n xs t here off none acc =
+harvest_takes_first order place e passed rest hand parts n xs t here off none acc =
     let s : Split hand parts n e (passed ++ rest) xs = split_by hand parts n e passed rest xs none acc.told in
     record {
       bytes = s.first;

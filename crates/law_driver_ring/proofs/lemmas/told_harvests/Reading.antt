@@ -13,7 +13,7 @@ use Rattle.drv_table.specs.declared.content.QtdNote.{QtdNote}
 use Rattle.drv_table.specs.Harvests.{note_at, buffer_bytes, moved_bytes}
 use Rattle.law_driver_ring.specs.harvested_streams.Harvested.{IsNoted}
 use Rattle.law_driver_ring.proofs.lemmas.told_harvests.Done.{done_in_part}
-use Rattle.law_driver_ring.proofs.lemmas.harvested_streams.Harvesting.{bytes_read}
+use Rattle.law_driver_ring.proofs.lemmas.harvested_streams.Harvesting.{bytes_are_read}
 use Rattle.law_driver_ring.specs.told_harvests.Held.{IsDone, AreHeld, none_held, one_held, AreUnmoved, told_of, IsRead, AreRead}
 
 -- ---- one qTD
@@ -59,7 +59,7 @@ module _ (m : Mem) (parts : StructureSets) (hand : Hand) (n : ℕ) (tells : Tell
       let less = done_long b k x note d r in
       let size = has.size in
       let noted : IsNoted note r.qtd has.bytes = record { told = sym has.size; places = λ j below. r.places j (omega (arith, below, size)) } in
-      ap (buffer_bytes m note) (sym d.count) ∙ bytes_read m parts n r.qtd has.bytes note (length x) tells has.here noted (omega (arith, less, size))
+      ap (buffer_bytes m note) (sym d.count) ∙ bytes_are_read m parts n r.qtd has.bytes note (length x) tells has.here noted (omega (arith, less, size))
       ∙ ap (take (length x)) (sym are) ∙ ap (λ (ys : List ℕ). take (length ys) bs) x_is ∙ take_again (length bs - r.qtd.token.total) bs ∙ sym x_is
 
   pub done_read : (b k : ℕ) (x : List ℕ) (note : QtdNote) → IsDone hand parts n b k x → IsRead (parts n) note b → buffer_bytes m note k ≡ x

@@ -68,11 +68,11 @@ bit_zero : (x : EpDesc) → IsNumbered x → characteristics x / 2 ^ 15 % 2 ≡ 
 unfolding qh_words
 bit_zero x fits = omega (arith, fits.0, fits.1, flag_most (is_control x.kind), speed_most x.speed)
 
-pub no_head : (x : EpDesc) → IsNumbered x → is_set 15 (characteristics x) ≡ false
-no_head x fits = ap (λ n. n == 1) (bit_zero x fits)
+pub a_numbered_endpoint_is_no_head : (x : EpDesc) → IsNumbered x → is_set 15 (characteristics x) ≡ false
+a_numbered_endpoint_is_no_head x fits = ap (λ n. n == 1) (bit_zero x fits)
 
-pub no_heads : (d : DriverContent) → AreNumbered d → AreNoHeads d
-no_heads d all e x here = no_head x.desc (all e x here)
+pub numbered_endpoints_are_no_heads : (d : DriverContent) → AreNumbered d → AreNoHeads d
+numbered_endpoints_are_no_heads d all e x here = a_numbered_endpoint_is_no_head x.desc (all e x here)
 
 -- ---- descriptions stay
 
@@ -185,8 +185,8 @@ row_left (rows.Harvest e t found) p =
     by_ring p.driver.endpoints (after_driver_row (rows.Harvest e t found) p).driver.endpoints s.endpoints
 row_left _ p = λ i. refl
 
-pub event_numbers : (p : Parts) → AreNumbered p.driver → AreNumbered (after_driver_row (driver_row p) p).driver
-event_numbers p all = numbered_by p.driver (after_driver_row (driver_row p) p).driver (row_left (driver_row p) p) all
+pub events_keep_the_numbers : (p : Parts) → AreNumbered p.driver → AreNumbered (after_driver_row (driver_row p) p).driver
+events_keep_the_numbers p all = numbered_by p.driver (after_driver_row (driver_row p) p).driver (row_left (driver_row p) p) all
 
 -- ---- commands
 
@@ -318,8 +318,8 @@ next_numbers d m (commands.Iso name count len seed) o fits all f = numbered_by d
 next_numbers d m (commands.Cancel name) o fits all f = numbered_by d o.driver (cancel_named d m o (endpoint_of d name) f) all
 next_numbers d m _ o fits all f = absurd (cc)
 
-pub command_numbers : (d : DriverContent) (m : Mem) (cmd : Cmd) (o : Offered) → OpensNumbered cmd → AreNumbered d → offered d m cmd ≡ Ok o → AreNumbered o.driver
-command_numbers d m cmd o fits all f = at d.command f
+pub commands_keep_the_numbers : (d : DriverContent) (m : Mem) (cmd : Cmd) (o : Offered) → OpensNumbered cmd → AreNumbered d → offered d m cmd ≡ Ok o → AreNumbered o.driver
+commands_keep_the_numbers d m cmd o fits all f = at d.command f
   where
     at : (c : Option Command) → cond (is_some c) (Err errors.Busy) (offered_next d m cmd) ≡ Ok o → AreNumbered o.driver
     at (Some c) g = absurd (cc)

@@ -27,7 +27,7 @@ use Rattle.drv_table.specs.Removals.{after_descriptor, after_placed, after_remov
 use Rattle.drv_table.specs.declared.content.Transfer.{Transfer}
 use Rattle.law_driver.specs.run_owners.Due.{IsDue}
 use Rattle.law_driver.proofs.lemmas.run_owners.Released.{cancel_same}
-use Rattle.law_driver.proofs.lemmas.run_owners.Reasons.{each_is_due}
+use Rattle.law_driver.proofs.lemmas.run_owners.Reasons.{each_event_is_due}
 use Rattle.claims_driver.specs.Ring.{IsQueueOf, IsAmong}
 use Rattle.law_driver.proofs.lemmas.ring_members.Leaving.{GoOn, same_go_on, among_more, among_last, queue_still}
 use Rattle.law_driver.proofs.lemmas.ring_members.Harvests.{endpoint_set, told_stays, harvest_stays}
@@ -255,6 +255,6 @@ row_address (rows.ReleaseTransfer t) p = transfer_address p t (slice_get p.drive
 row_address (rows.ReleaseEndpoint e) p = endpoint_address p e (slice_get p.driver.endpoints e)
 row_address _ p = refl
 
-pub driver_walk : (p : Parts) (w : Walk) → IsBellIn p.driver p.registers → IsWalkIn p.driver p.registers w → IsWalkIn (after_driver_row (driver_row p) p).driver (after_driver_row (driver_row p) p).registers w
-driver_walk p w bell old =
-    walk_mapped p.driver (after_driver_row (driver_row p) p).driver p.registers (after_driver_row (driver_row p) p).registers w (row_address (driver_row p) p) (row_reach (driver_row p) p (each_is_due p) bell) old
+pub the_driver_leaves_the_walk : (p : Parts) (w : Walk) → IsBellIn p.driver p.registers → IsWalkIn p.driver p.registers w → IsWalkIn (after_driver_row (driver_row p) p).driver (after_driver_row (driver_row p) p).registers w
+the_driver_leaves_the_walk p w bell old =
+    walk_mapped p.driver (after_driver_row (driver_row p) p).driver p.registers (after_driver_row (driver_row p) p).registers w (row_address (driver_row p) p) (row_reach (driver_row p) p (each_event_is_due p) bell) old

@@ -14,7 +14,7 @@ use Rattle.drv_table.specs.Offers.{offered, new_endpoint, placed_endpoint, with_
 use Rattle.drv_table.specs.CancelOffers.{endpoint_members, with_cancel, first_end}
 use Rattle.law_driver.specs.run_owners.Accepts.{Accepts, opens, chains, places, transfers, describes, cancels, unchains}
 use Rattle.law_driver.proofs.lemmas.run_owners.Released.{set_here, set_there}
-use Rattle.law_driver.proofs.lemmas.run_owners.Commands.{accepted_for_a_reason}
+use Rattle.law_driver.proofs.lemmas.run_owners.Commands.{each_command_has_its_reason}
 use Rattle.law_driver.proofs.lemmas.ring_members.Leaving.{GoOn}
 use Rattle.law_driver.proofs.lemmas.ring_members.Accepted.{one_more_on}
 use Rattle.claims_driver.specs.Walk.{IsWalkIn}
@@ -63,5 +63,5 @@ accepted_reach d m o rings (unchains why) =
     subst (λ (f : Offered). Reaches d rings f.driver rings) (sym why.is)
     (λ b r. or_done_reach e rings (unfinished.Unchain why.number) b (goes_reach d e rings (still_on d.endpoints why.number why.endpoint y why.here refl refl) refl refl b r))
 
-pub command_walk : (d : DriverContent) (m : Mem) (cmd : Cmd) (o : Offered) (r : RegisterFile) (w : Walk) → offered d m cmd ≡ Ok o → IsWalkIn d r w → IsWalkIn o.driver r w
-command_walk d m cmd o r w is old = walk_mapped d o.driver r r w refl (accepted_reach d m o r.doorbell (accepted_for_a_reason d m cmd o is)) old
+pub commands_leave_the_walk : (d : DriverContent) (m : Mem) (cmd : Cmd) (o : Offered) (r : RegisterFile) (w : Walk) → offered d m cmd ≡ Ok o → IsWalkIn d r w → IsWalkIn o.driver r w
+commands_leave_the_walk d m cmd o r w is old = walk_mapped d o.driver r r w refl (accepted_reach d m o r.doorbell (each_command_has_its_reason d m cmd o is)) old

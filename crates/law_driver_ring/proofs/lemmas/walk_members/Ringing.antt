@@ -32,7 +32,7 @@ use Rattle.drv_table.specs.Releases.{after_transfer, after_endpoint, freed_by, i
 use Rattle.drv_table.specs.Harvesting.{mends_of, served, told_with, goes_on, behind_one, behind, stalled, after_end, harvested_as, after_harvest}
 use Rattle.drv_table.specs.Leaving.{doorbell_command}
 use Rattle.law_driver.specs.run_owners.Due.{IsDue}
-use Rattle.law_driver.proofs.lemmas.run_owners.Reasons.{each_is_due}
+use Rattle.law_driver.proofs.lemmas.run_owners.Reasons.{each_event_is_due}
 use Rattle.claims_driver.specs.Walk.{IsBellIn}
 
 -- ---- events that leave the bell
@@ -208,5 +208,5 @@ row_bell (rows.Harvest e t found) p due old =
     bell_kept p.driver _ p.registers (harvest_bell p.driver p.memory e t found (slice_get p.driver.endpoints e) (slice_get p.driver.transfers t)) old
 row_bell rows.Rest p due old = old
 
-pub driver_bell : (p : Parts) → IsBellIn p.driver p.registers → IsBellIn (after_driver_row (driver_row p) p).driver (after_driver_row (driver_row p) p).registers
-driver_bell p old = row_bell (driver_row p) p (each_is_due p) old
+pub the_driver_keeps_the_bell : (p : Parts) → IsBellIn p.driver p.registers → IsBellIn (after_driver_row (driver_row p) p).driver (after_driver_row (driver_row p) p).registers
+the_driver_keeps_the_bell p old = row_bell (driver_row p) p (each_event_is_due p) old

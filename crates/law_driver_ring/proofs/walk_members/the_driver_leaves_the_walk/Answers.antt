@@ -1,5 +1,5 @@
-use Rattle.law_driver_ring.proofs.lemmas.walk_members.Driving.{driver_walk}
+use Rattle.law_driver_ring.proofs.lemmas.walk_members.Driving.{the_driver_leaves_the_walk}
 use Rattle.law_driver_ring.proofs.walk_members.the_driver_leaves_the_walk.Goals as goal
 
 pub returns : goal.returns
-returns c = driver_walk
+returns c = the_driver_leaves_the_walk

@@ -29,10 +29,10 @@ use Rattle.drv_table.specs.Removals.{free_descriptor, after_descriptor, free_pla
 use Rattle.claims_driver.specs.Owners.{Head, QueueHead, Element, IsPlaced, SlotHas}
 use Rattle.law_driver.specs.run_owners.Due.{IsNextOf, IsDue}
 use Rattle.claims_driver.specs.Leaving.{HasOwners}
-use Rattle.law_driver.proofs.lemmas.run_owners.Laws.{event_owned}
-use Rattle.law_driver.proofs.lemmas.run_owners.Reasons.{each_is_due}
+use Rattle.law_driver.proofs.lemmas.run_owners.Laws.{events_keep_owners}
+use Rattle.law_driver.proofs.lemmas.run_owners.Reasons.{each_event_is_due}
 use Rattle.law_driver.specs.listed_members.Members.{IsUnderWay, IsListed}
-use Rattle.law_driver.proofs.lemmas.listed_members.Events.{event_listed}
+use Rattle.law_driver.proofs.lemmas.listed_members.Events.{events_keep_the_list}
 use Rattle.claims_driver.specs.Ring.{link_in}
 use Rattle.law_driver.specs.ring_members.Words.{IsUnlinking, IsPublishing}
 use Rattle.law_driver.specs.in_place.InPlace.{IsSound}
@@ -41,7 +41,7 @@ use Rattle.law_driver.proofs.lemmas.ring_members.Links.{LeadsTo, oldest_is, drop
 use Rattle.law_driver.proofs.lemmas.ring_members.Placed.{in_ring_alive, linked_alive, queue_placed}
 use Rattle.law_driver.proofs.lemmas.ring_members.Events.{open_store, unlink_store, publish_store, chain_never, iso_never, unchain_never, stands_as, block_of}
 use Rattle.law_driver_ring.specs.Driven.{is_quiet}
-use Rattle.law_frame_list.proofs.lemmas.list_stands.Listing.{stands_left, event_stands}
+use Rattle.law_frame_list.proofs.lemmas.list_stands.Listing.{it_stands_where_its_words_are_left, quiet_events_keep_it_standing}
 use Rattle.law_frame_list.specs.list_aside.Elsewhere.{links_now, is_elsewhere}
 use Rattle.law_frame_list.proofs.lemmas.list_aside.Aside.{IsAside, aside_by, rest_leaves, store_leaves}
 
@@ -127,7 +127,7 @@ lend_stands p next listed old =
     let way : IsUnderWay d (Some next.command) = subst (IsUnderWay d) next.unfinished listed.way in
     same_list h.memory d (advance (record d { book = h.book }))
     (ap (λ (o : Option Command). list_of (advanced_by (record d { book = h.book }) o)) next.unfinished ∙ lent_list d h.book next.command next.unfinished next.next way)
-    (stands_left d p.memory h.memory (λ w its. ap (λ (ws : List ℕ). word_at (record h.memory { words = ws }) (address_of d.periodic.list.list w)) (lent_words (holding d.book p.memory))) old)
+    (it_stands_where_its_words_are_left d p.memory h.memory (λ w its. ap (λ (ws : List ℕ). word_at (record h.memory { words = ws }) (address_of d.periodic.list.list w)) (lent_words (holding d.book p.memory))) old)
 
 -- ---- stores
 
@@ -165,7 +165,7 @@ store_stands : (p : Parts) (b at v : ℕ) (c : Command) → p.driver.command ≡
     → ListStands (after_driver_row (rows.Store b at v) p).memory (after_driver_row (rows.Store b at v) p).driver
 store_stands p b at v c is next off sound old =
     same_list (store p.driver.book p.memory b at v) p.driver (advance p.driver) (goes_on_list p.driver c is off)
-    (stands_left p.driver p.memory (store p.driver.book p.memory b at v)
+    (it_stands_where_its_words_are_left p.driver p.memory (store p.driver.book p.memory b at v)
     (store_leaves p.driver p.memory b at v sound.stands sound.owners sound.listed (command_aside p c b at v is next sound)) old)
 
 off_of : (b : Bool) → not b ≡ true → b ≡ false
@@ -214,7 +214,7 @@ told_list d m e x = either_if (λ (f : DriverContent). list_of f ≡ list_of d) 
 released : (p new : Parts) (g : Holding) → LeavesRest (holding p.driver.book p.memory) g → new.driver.book ≡ g.book → new.memory ≡ g.memory → list_of new.driver ≡ list_of p.driver → HasOwners new.driver → IsListed new.driver
     → ListStands p.memory p.driver → ListStands new.memory new.driver
 released p new g rest book memory same has listed old =
-    stands_left new.driver p.memory new.memory
+    it_stands_where_its_words_are_left new.driver p.memory new.memory
     (rest_leaves new.driver p.memory new.memory
     (λ c at there. ap (λ (m : Mem). word_at m at) memory ∙ rest.words c at (subst (λ (k : Book). SlotHas (slot_of k.slots c) (at / 32)) book there))
     (λ b. subst (λ (k : Book). IsAt b (slot_of k.slots b)) (sym book) (rest.stands.placed b)) has listed)
@@ -260,7 +260,7 @@ abbrev Stays : DriverRow → Parts → Type 0
 Stays row p = ListStands (after_driver_row row p).memory (after_driver_row row p).driver
 
 quiet : (row : DriverRow) (p : Parts) → driver_row p ≡ row → is_quiet row ≡ true → ListStands p.memory p.driver → Stays row p
-quiet row p is on old = subst (λ (r : DriverRow). Stays r p) is (event_stands p (ap is_quiet is ∙ on) old)
+quiet row p is on old = subst (λ (r : DriverRow). Stays r p) is (quiet_events_keep_it_standing p (ap is_quiet is ∙ on) old)
 
 row_stands : (row : DriverRow) (p : Parts) → driver_row p ≡ row → IsDue p row → is_elsewhere p.driver.command row ≡ true → IsSound p.memory p.driver → HasOwners (after_driver_row row p).driver → IsListed (after_driver_row row p).driver
     → ListStands p.memory p.driver → Stays row p
@@ -278,5 +278,5 @@ row_stands (rows.Harvest e t found) p is due on sound has listed old = quiet (ro
 row_stands rows.Rest p is due on sound has listed old = quiet rows.Rest p is refl old
 row_stands _ p is due on sound has listed old = absurd (false≢true on)
 
-pub elsewhere_stands : (p : Parts) → is_elsewhere p.driver.command (driver_row p) ≡ true → IsSound p.memory p.driver → ListStands p.memory p.driver → ListStands (after_driver_row (driver_row p) p).memory (after_driver_row (driver_row p) p).driver
-elsewhere_stands p on sound old = row_stands (driver_row p) p refl (each_is_due p) on sound (event_owned p sound.owners) (event_listed p sound.owners sound.listed) old
+pub events_elsewhere_keep_it_standing : (p : Parts) → is_elsewhere p.driver.command (driver_row p) ≡ true → IsSound p.memory p.driver → ListStands p.memory p.driver → ListStands (after_driver_row (driver_row p) p).memory (after_driver_row (driver_row p) p).driver
+events_elsewhere_keep_it_standing p on sound old = row_stands (driver_row p) p refl (each_event_is_due p) on sound (events_keep_owners p sound.owners) (events_keep_the_list p sound.owners sound.listed) old

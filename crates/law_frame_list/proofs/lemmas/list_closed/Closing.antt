@@ -19,7 +19,7 @@ use Rattle.claims_driver.specs.FrameWords.{Leads, is_at, old_of, made_of, Begun,
 use Rattle.law_frame_words.specs.frame_words.InWords.{IsSpread, new_of, shown}
 use Rattle.law_frame_words.proofs.lemmas.frame_words.Decoded.{IsWordOf, same_among}
 use Rattle.law_frame_words.proofs.lemmas.frame_words.InChains.{words_in}
-use Rattle.law_frame_words.proofs.lemmas.frame_words.Steps.{half_way}
+use Rattle.law_frame_words.proofs.lemmas.frame_words.Steps.{frames_while_under_way}
 use Rattle.law_frame_list.specs.list_closed.Closed.{IsInFrame, IsNext, LeadsInto, ListIsClosed, MembersAreClosed, link_met, MeetsMembersAlone, HaveFrames}
 use Rattle.law_frame_list.proofs.lemmas.list_closed.Chained.{chain_in_frame, fewer_in_frame, in_chain, still_linked, successor_is, same_successor, other_words, none_among, first_frame_is, member_of_kept}
 
@@ -105,14 +105,14 @@ begun_closed list s w word f x true same kept spread is linked k below here =
     let e : x ≡ w.member = spread.once x w.member here.0 linked (ap (λ (n : ℕ). n / 32) (eqb-true (id_of x) (id_of w.member) same)) in
     subst (λ (y : Member). LeadsInto s f (word (address_of list (After y)))) (sym e) (own_closed list s w word f kept spread is k (subst (IsInFrame s f) e here))
 begun_closed list s w word f x false other kept spread is linked k below here =
-    own_led s f list word x (Element f) (shown s w f) (shown_any s w x f kept other here) (shown_all s w f kept) (half_way list s w word f kept spread is linked k below)
+    own_led s f list word x (Element f) (shown s w f) (shown_any s w x f kept other here) (shown_all s w f kept) (frames_while_under_way list s w word f kept spread is linked k below)
 
 -- ---- each word
 
 element_closed : (list : ℕ) (s : Schedule) (o : Option Work) (word : ℕ → ℕ) (f : ℕ) → IsKept s → IsSpread list s → HasMember s o → StandsBy list s o word → f < 1024 → LeadsInto s f (word (address_of list (Element f)))
 element_closed list s None word f kept spread member stands below = first_led s f list word (Element f) (chain s f) (chain_in_frame s f kept) (stands f below)
 element_closed list s (Some w) word f kept spread member stands below =
-    first_led s f list word (Element f) (shown s w f) (shown_all s w f kept) (half_way list s w word f kept spread member.0 member.1 stands below)
+    first_led s f list word (Element f) (shown s w f) (shown_all s w f kept) (frames_while_under_way list s w word f kept spread member.0 member.1 stands below)
 
 member_closed : (list : ℕ) (s : Schedule) (o : Option Work) (word : ℕ → ℕ) (f : ℕ) (x : Member) → IsKept s → IsSpread list s → HasMember s o → StandsBy list s o word → f < 1024 → IsInFrame s f x → LeadsInto s f (word (address_of list (After x)))
 member_closed list s None word f x kept spread member stands below here =
@@ -120,12 +120,12 @@ member_closed list s None word f x kept spread member stands below here =
 member_closed list s (Some w) word f x kept spread member stands below here =
     begun_closed list s w word f x (is_the w.member x) refl kept spread member.0 member.1 stands below here
 
-pub list_closed : (m : Mem) (d : DriverContent) → ListStands m d → IsSpread d.periodic.list.list d.periodic.list.members.schedule → ListIsClosed m d
-list_closed m d stands spread f below =
+pub elements_lead_to_members : (m : Mem) (d : DriverContent) → ListStands m d → IsSpread d.periodic.list.list d.periodic.list.members.schedule → ListIsClosed m d
+elements_lead_to_members m d stands spread f below =
     element_closed d.periodic.list.list d.periodic.list.members.schedule d.periodic.list.work (word_at m) f stands.order.kept spread stands.order.member stands.words below
 
-pub members_closed : (m : Mem) (d : DriverContent) → ListStands m d → IsSpread d.periodic.list.list d.periodic.list.members.schedule → MembersAreClosed m d
-members_closed m d stands spread f x below here =
+pub members_lead_to_members : (m : Mem) (d : DriverContent) → ListStands m d → IsSpread d.periodic.list.list d.periodic.list.members.schedule → MembersAreClosed m d
+members_lead_to_members m d stands spread f x below here =
     member_closed d.periodic.list.list d.periodic.list.members.schedule d.periodic.list.work (word_at m) f x stands.order.kept spread stands.order.member stands.words below here
 
 -- ---- following the links
@@ -141,13 +141,13 @@ met_closed s f list at word (suc k) closed first more =
     let before : LeadsInto s f (link_met word at k) = met_closed s f list at word k closed first (λ j less. more j (omega (arith, less))) in
     goes_on s f list (link_met word at k) word before.next closed before.stands before.word (more k (omega arith))
 
-pub walk_closed : (m : Mem) (d : DriverContent) → ListStands m d → IsSpread d.periodic.list.list d.periodic.list.members.schedule → MeetsMembersAlone m d
-walk_closed m d stands spread f k below more =
-    met_closed d.periodic.list.members.schedule f d.periodic.list.list (address_of d.periodic.list.list (Element f)) (word_at m) k (λ x here. members_closed m d stands spread f x below here) (list_closed m d stands spread f below) more
+pub a_walk_meets_members_alone : (m : Mem) (d : DriverContent) → ListStands m d → IsSpread d.periodic.list.list d.periodic.list.members.schedule → MeetsMembersAlone m d
+a_walk_meets_members_alone m d stands spread f k below more =
+    met_closed d.periodic.list.members.schedule f d.periodic.list.list (address_of d.periodic.list.list (Element f)) (word_at m) k (λ x here. members_lead_to_members m d stands spread f x below here) (elements_lead_to_members m d stands spread f below) more
 
 -- ---- each member has a frame
 
-pub first_frames : (m : Mem) (d : DriverContent) → ListStands m d → HaveFrames d
-first_frames m d stands x linked =
+pub members_stand_in_their_first_frame : (m : Mem) (d : DriverContent) → ListStands m d → HaveFrames d
+members_stand_in_their_first_frame m d stands x linked =
     let first = first_frame_is x (member_of_kept d.periodic.list.members.schedule x stands.order.kept linked) in
     (first.0, (linked, first.1))

@@ -54,5 +54,5 @@ next_read d f (Some (Once k)) listed next =
     descriptor_read k.id b (note_at d.periodic.notes b).split (ap id_of (sym s.is))
     ∙ ap (λ (n : ℕ). if (note_at d.periodic.notes n).split then kinds.Sitd (32 * n) else kinds.Itd (32 * n)) block
 
-pub structures_told : (d : DriverContent) → IsListed d → TellStructures d
-structures_told d listed f n leads = ap link_read leads.word ∙ next_read d f leads.next listed leads.stands
+pub links_tell_structures : (d : DriverContent) → IsListed d → TellStructures d
+links_tell_structures d listed f n leads = ap link_read leads.word ∙ next_read d f leads.next listed leads.stands

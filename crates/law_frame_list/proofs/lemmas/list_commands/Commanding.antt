@@ -28,7 +28,7 @@ use Rattle.law_driver.proofs.lemmas.run_owners.Taking.{AreTaken, runs_taken}
 use Rattle.law_driver.specs.listed_members.Members.{IsListed}
 use Rattle.law_driver.proofs.lemmas.ring_members.Stores.{slots_apart, words_elsewhere}
 use Rattle.law_frame_words.specs.list_words.Spared.{LeavesList}
-use Rattle.law_frame_list.proofs.lemmas.list_stands.Listing.{stands_left}
+use Rattle.law_frame_list.proofs.lemmas.list_stands.Listing.{it_stands_where_its_words_are_left}
 use Rattle.law_frame_list.proofs.lemmas.list_steps.Stepping.{PeriodicStands, next_stands}
 use Rattle.law_frame_list.proofs.lemmas.list_aside.Aside.{rest_leaves}
 use Rattle.law_frame_list.specs.list_commands.Kinds.{OpensOrCancels}
@@ -84,7 +84,7 @@ open_stands d m o why stands has listed old =
     subst (λ (f : Offered). ListStands f.memory f.driver) (sym why.is)
     (subst (λ (rs : List ℕ). ListStands (accepted_open d why.desc why.holding_after (get_or rs 0 0) (get_or rs 1 0)).memory (accepted_open d why.desc why.holding_after (get_or rs 0 0) (get_or rs 1 0)).driver) (sym new)
     (same_list (accepted_open d why.desc why.holding_after (get_or bs 0 0) (get_or bs 1 0)).memory d (accepted_open d why.desc why.holding_after (get_or bs 0 0) (get_or bs 1 0)).driver refl
-    (stands_left d m (accepted_open d why.desc why.holding_after (get_or bs 0 0) (get_or bs 1 0)).memory (open_leaves d m why.desc why.holding_after bs stands all.are has listed) old)))
+    (it_stands_where_its_words_are_left d m (accepted_open d why.desc why.holding_after (get_or bs 0 0) (get_or bs 1 0)).memory (open_leaves d m why.desc why.holding_after bs stands all.are has listed) old)))
 
 -- ---- commands that write no word
 
@@ -119,8 +119,8 @@ unchain_stands d m o why old =
     (ended_stands (with_cancel d why.number why.endpoint (endpoint_members d why.number why.endpoint why.placement)) m why.number
     (begun_stands d m why.number why.endpoint (endpoint_members d why.number why.endpoint why.placement) old))
 
-pub command_stands : (d : DriverContent) (m : Mem) (o : Offered) → OpensOrCancels d m o → Stands (holding d.book m) → HasOwners d → IsListed d → ListStands m d → ListStands o.memory o.driver
-command_stands d m o (inl why) stands has listed old = open_stands d m o why stands has listed old
-command_stands d m o (inr (inl why)) stands has listed old = place_stands d m o why old
-command_stands d m o (inr (inr (inl why))) stands has listed old = cancel_stands d m o why old
-command_stands d m o (inr (inr (inr why))) stands has listed old = unchain_stands d m o why old
+pub opens_and_cancels_keep_it_standing : (d : DriverContent) (m : Mem) (o : Offered) → OpensOrCancels d m o → Stands (holding d.book m) → HasOwners d → IsListed d → ListStands m d → ListStands o.memory o.driver
+opens_and_cancels_keep_it_standing d m o (inl why) stands has listed old = open_stands d m o why stands has listed old
+opens_and_cancels_keep_it_standing d m o (inr (inl why)) stands has listed old = place_stands d m o why old
+opens_and_cancels_keep_it_standing d m o (inr (inr (inl why))) stands has listed old = cancel_stands d m o why old
+opens_and_cancels_keep_it_standing d m o (inr (inr (inr why))) stands has listed old = unchain_stands d m o why old

@@ -17,26 +17,26 @@ use Rattle.drv_table.specs.Parts.{Parts}
 use Rattle.drv_table.specs.Rows.{driver_row, after_driver_row}
 use Rattle.drv_table.specs.Commands.{events_of, links}
 use Rattle.law_driver.specs.run_owners.Due.{IsDue}
-use Rattle.law_driver.proofs.lemmas.run_owners.Commands.{accepted_for_a_reason}
-use Rattle.law_driver.proofs.lemmas.run_owners.Reasons.{each_is_due}
+use Rattle.law_driver.proofs.lemmas.run_owners.Commands.{each_command_has_its_reason}
+use Rattle.law_driver.proofs.lemmas.run_owners.Reasons.{each_event_is_due}
 use Rattle.law_driver.specs.in_place.InPlace.{IsSound}
 use Rattle.law_driver.proofs.lemmas.ring_members.Events.{chain_never, iso_never, unchain_never}
 use Rattle.law_driver.specs.iso_frames.Frames.{AreInFrames}
 use Rattle.claims_driver.specs.DueMembers.{HasOneEach}
-use Rattle.law_driver.proofs.lemmas.iso_frames.Due.{one_each}
+use Rattle.law_driver.proofs.lemmas.iso_frames.Due.{an_endpoint_has_one_descriptor_a_frame}
 use Rattle.claims_driver.specs.FrameWords.{ListStands}
 use Rattle.law_frame_list.specs.list_driver.Keeping.{KeepsItsList}
-use Rattle.law_frame_list.proofs.lemmas.list_stands.Listing.{opening_stands}
+use Rattle.law_frame_list.proofs.lemmas.list_stands.Listing.{a_new_list_stands}
 use Rattle.law_frame_list.specs.list_aside.Elsewhere.{links_now, is_elsewhere}
-use Rattle.law_frame_list.proofs.lemmas.list_aside.Elsewhere.{elsewhere_stands}
+use Rattle.law_frame_list.proofs.lemmas.list_aside.Elsewhere.{events_elsewhere_keep_it_standing}
 use Rattle.law_frame_list.specs.list_steps.Steps.{IsLinkingStep}
-use Rattle.law_frame_list.proofs.lemmas.list_steps.Stepping.{interrupt_step_stands}
-use Rattle.law_frame_list.proofs.lemmas.list_rows.Mending.{mend_stands}
+use Rattle.law_frame_list.proofs.lemmas.list_steps.Stepping.{steps_of_interrupt_endpoints_keep_it_standing}
+use Rattle.law_frame_list.proofs.lemmas.list_rows.Mending.{mends_keep_it_standing}
 use Rattle.law_frame_list.proofs.lemmas.list_rows.Owed.{opening_aside, event_aside, command_aside}
-use Rattle.law_frame_list.proofs.lemmas.list_rows.Unlinked.{unlink_stands}
+use Rattle.law_frame_list.proofs.lemmas.list_rows.Unlinked.{unlinks_keep_it_standing}
 use Rattle.law_frame_list.proofs.lemmas.list_queued.Linked.{link_stands}
 use Rattle.law_frame_list.proofs.lemmas.list_queued.Lent.{lend_stands}
-use Rattle.law_frame_list.proofs.lemmas.list_opens.Commands.{any_stands}
+use Rattle.law_frame_list.proofs.lemmas.list_opens.Commands.{commands_keep_it_standing}
 use Rattle.law_frame_list.proofs.lemmas.list_driver.Queueing.{AreQueued, event_to_link, event_leading, accepted_queued}
 
 abbrev Stays : Parts → Type 0
@@ -45,7 +45,7 @@ Stays p = ListStands (after_driver_row (driver_row p) p).memory (after_driver_ro
 -- ---- a store
 
 elsewhere : (p : Parts) (r : DriverRow) → driver_row p ≡ r → is_elsewhere p.driver.command r ≡ true → IsSound p.memory p.driver → KeepsItsList p.memory p.driver → Stays p
-elsewhere p r is on sound old = elsewhere_stands p (ap (is_elsewhere p.driver.command) is ∙ on) sound old.list
+elsewhere p r is on sound old = events_elsewhere_keep_it_standing p (ap (is_elsewhere p.driver.command) is ∙ on) sound old.list
 
 -- of a command that links nothing
 aside_store : (p : Parts) (c : Command) (b at v : ℕ) → driver_row p ≡ rows.Store b at v → p.driver.command ≡ Some c → links c ≡ false → IsSound p.memory p.driver → KeepsItsList p.memory p.driver → Stays p
@@ -61,9 +61,9 @@ next_stored p (unfinished.Unchain e) b at v is here there sound old = absurd (un
 
 -- of the frame list
 link_stored : (p : Parts) (c : Command) → IsLinkingStep p c → IsSound p.memory p.driver → HasOneEach p.driver → KeepsItsList p.memory p.driver → Stays p
-link_stored p unfinished.Chain step sound one old = interrupt_step_stands p unfinished.Chain step (inl refl) sound.stands sound.shape sound.owners sound.listed old.list
+link_stored p unfinished.Chain step sound one old = steps_of_interrupt_endpoints_keep_it_standing p unfinished.Chain step (inl refl) sound.stands sound.shape sound.owners sound.listed old.list
 link_stored p (unfinished.Iso e t n) step sound one old = link_stands p e t n step sound one old.leading old.list
-link_stored p (unfinished.Unchain e) step sound one old = interrupt_step_stands p (unfinished.Unchain e) step (inr (e, refl)) sound.stands sound.shape sound.owners sound.listed old.list
+link_stored p (unfinished.Unchain e) step sound one old = steps_of_interrupt_endpoints_keep_it_standing p (unfinished.Unchain e) step (inr (e, refl)) sound.stands sound.shape sound.owners sound.listed old.list
 link_stored p _ step sound one old = absurd (false≢true step.links)
 
 stored : (p : Parts) (b at v : ℕ) → driver_row p ≡ rows.Store b at v → IsDue p (rows.Store b at v) → IsSound p.memory p.driver → HasOneEach p.driver → KeepsItsList p.memory p.driver → Stays p
@@ -75,10 +75,10 @@ stored p b at v is (inr link) sound one old = link_stored p link.command (record
 row_stands : (p : Parts) (r : DriverRow) → driver_row p ≡ r → IsDue p r → IsSound p.memory p.driver → HasOneEach p.driver → KeepsItsList p.memory p.driver → Stays p
 row_stands p rows.Lend is due sound one old = elsewhere p rows.Lend is refl sound old
 row_stands p (rows.Store b at v) is due sound one old = stored p b at v is due sound one old
-row_stands p (rows.Mend w) is due sound one old = mend_stands p w is sound old.mends old.list
+row_stands p (rows.Mend w) is due sound one old = mends_keep_it_standing p w is sound old.mends old.list
 row_stands p rows.Frames is due sound one old = elsewhere p rows.Frames is refl sound old
 row_stands p rows.LendDescriptors is due sound one old = lend_stands p is sound one old.to_link old.list
-row_stands p (rows.Unlink t) is due sound one old = unlink_stands p t is sound old.list
+row_stands p (rows.Unlink t) is due sound one old = unlinks_keep_it_standing p t is sound old.list
 row_stands p (rows.ReleaseRemoved what) is due sound one old = elsewhere p (rows.ReleaseRemoved what) is refl sound old
 row_stands p (rows.ReadFrame n) is due sound one old = elsewhere p (rows.ReadFrame n) is refl sound old
 row_stands p (rows.ReleaseTransfer t) is due sound one old = elsewhere p (rows.ReleaseTransfer t) is refl sound old
@@ -89,29 +89,29 @@ row_stands p (rows.ReadStatus heard) is due sound one old = elsewhere p (rows.Re
 row_stands p (rows.Harvest e t found) is due sound one old = elsewhere p (rows.Harvest e t found) is refl sound old
 row_stands p rows.Rest is due sound one old = elsewhere p rows.Rest is refl sound old
 
-pub event_keeps : (p : Parts) → IsSound p.memory p.driver → AreInFrames p.driver → KeepsItsList p.memory p.driver → KeepsItsList (after_driver_row (driver_row p) p).memory (after_driver_row (driver_row p) p).driver
-event_keeps p sound frames old =
-    let one : HasOneEach p.driver = one_each p.driver sound.owners sound.listed frames in
+pub events_keep_the_list : (p : Parts) → IsSound p.memory p.driver → AreInFrames p.driver → KeepsItsList p.memory p.driver → KeepsItsList (after_driver_row (driver_row p) p).memory (after_driver_row (driver_row p) p).driver
+events_keep_the_list p sound frames old =
+    let one : HasOneEach p.driver = an_endpoint_has_one_descriptor_a_frame p.driver sound.owners sound.listed frames in
     record {
-      list = row_stands p (driver_row p) refl (each_is_due p) sound one old;
+      list = row_stands p (driver_row p) refl (each_event_is_due p) sound one old;
       mends = event_aside p sound.owners old.mends;
       to_link = event_to_link p sound.listed old.to_link;
       leading = event_leading p sound one old.list old.to_link old.leading;
     }
 
-pub command_keeps : (d : DriverContent) (m : Mem) (cmd : Cmd) (o : Offered) → offered d m cmd ≡ Ok o → IsSound m d → KeepsItsList m d → KeepsItsList o.memory o.driver
-command_keeps d m cmd o is sound old =
-    let q : AreQueued o.memory o.driver = accepted_queued d m o (accepted_for_a_reason d m cmd o is) sound.listed in
+pub commands_keep_the_list : (d : DriverContent) (m : Mem) (cmd : Cmd) (o : Offered) → offered d m cmd ≡ Ok o → IsSound m d → KeepsItsList m d → KeepsItsList o.memory o.driver
+commands_keep_the_list d m cmd o is sound old =
+    let q : AreQueued o.memory o.driver = accepted_queued d m o (each_command_has_its_reason d m cmd o is) sound.listed in
     record {
-      list = any_stands d m cmd o is sound.stands sound.shape sound.owners sound.listed old.list;
+      list = commands_keep_it_standing d m cmd o is sound.stands sound.shape sound.owners sound.listed old.list;
       mends = command_aside d m cmd o is old.mends;
       to_link = q.to_link;
       leading = q.leading;
     }
 
-pub opening_keeps : (n : ℕ) (room : Reserve) → 2048 ≤ n → n ≤ 262144 → n % 1024 ≡ 0 → KeepsItsList (opening n room).memory (opening n room).driver
-opening_keeps n room many few whole = record {
-  list = opening_stands n room many few whole;
+pub a_new_driver_keeps_its_list : (n : ℕ) (room : Reserve) → 2048 ≤ n → n ≤ 262144 → n % 1024 ≡ 0 → KeepsItsList (opening n room).memory (opening n room).driver
+a_new_driver_keeps_its_list n room many few whole = record {
+  list = a_new_list_stands n room many few whole;
   mends = opening_aside n room;
   to_link = λ e f c is made. absurd (false≢true (ap is_some is));
   leading = λ e f c is made. absurd (false≢true (ap is_some is));

@@ -21,7 +21,7 @@ use Rattle.law_driver.proofs.lemmas.run_owners.Accepted.{drop_first, fresh_diffe
 use Rattle.law_driver.proofs.lemmas.ring_members.Stores.{AreApart, slots_apart, words_elsewhere}
 use Rattle.law_driver.specs.listed_members.Members.{IsListed}
 use Rattle.claims_driver.specs.FrameWords.{ListStands}
-use Rattle.law_frame_list.proofs.lemmas.list_stands.Listing.{stands_left}
+use Rattle.law_frame_list.proofs.lemmas.list_stands.Listing.{it_stands_where_its_words_are_left}
 use Rattle.law_frame_list.proofs.lemmas.list_aside.Aside.{rest_leaves}
 use Rattle.law_frame_list.proofs.lemmas.list_opens.Linked.{run_there}
 use Rattle.law_frame_list.proofs.lemmas.list_opens.Noted.{has_room, filled, seeded_apart}
@@ -62,7 +62,7 @@ describe_at d m e x s n seed g bs stands taken short has listed old =
     let a : Descriptors = record { notes = d.periodic.notes; transfers = d.transfers; memory = g.memory } in
     let new : Mem = (all_descriptors g.book e x.desc s n seed bs a).memory in
     let now : ListStands new d =
-    stands_left d m new
+    it_stands_where_its_words_are_left d m new
     (rest_leaves d m new
     (λ c at there.
     let r = run_there c (at / 32) taken there in
@@ -73,8 +73,8 @@ describe_at d m e x s n seed g bs stands taken short has listed old =
     stands.placed has listed) old
     in record { order = now.order; words = now.words }
 
-pub describe_stands : (d : DriverContent) (m : Mem) (o : Offered) → Describes d m o → Stands (holding d.book m) → IsShaped m → HasOwners d → IsListed d → ListStands m d → ListStands o.memory o.driver
-describe_stands d m o why stands shape has listed old =
+pub descriptors_keep_it_standing : (d : DriverContent) (m : Mem) (o : Offered) → Describes d m o → Stands (holding d.book m) → IsShaped m → HasOwners d → IsListed d → ListStands m d → ListStands o.memory o.driver
+descriptors_keep_it_standing d m o why stands shape has listed old =
     let h = why.holding_after in
     let all = runs_taken (holding d.book m) h (iso_needs why.slots why.count) stands why.runs in
     let bs = all.blocks in

@@ -42,7 +42,7 @@ use Rattle.law_driver.proofs.lemmas.ring_members.Accepted.{shaped_taken}
 use Rattle.law_driver.specs.listed_members.Members.{IsQueueOf, IsUnderWay, IsListed}
 use Rattle.law_driver.proofs.lemmas.listed_members.Schedules.{all_more}
 use Rattle.law_frame_words.specs.list_words.Spared.{LeavesList}
-use Rattle.law_frame_list.proofs.lemmas.list_stands.Listing.{stands_left}
+use Rattle.law_frame_list.proofs.lemmas.list_stands.Listing.{it_stands_where_its_words_are_left}
 use Rattle.law_frame_list.proofs.lemmas.list_steps.Stepping.{PeriodicStands, next_stands}
 use Rattle.law_frame_list.proofs.lemmas.list_aside.Aside.{rest_leaves}
 
@@ -162,15 +162,15 @@ chain_at d m x p g bs stands shape taken idle has listed old =
     let queue = get_or bs 0 0 in
     let link = new_link d.periodic.list (queue_member queue p) in
     let new : Mem = written_chain g.book g.memory x p link queue (get_or bs 1 0) in
-    let left : ListStands new d = stands_left d m new (chain_leaves d m x p link g bs stands taken has listed) old in
+    let left : ListStands new d = it_stands_where_its_words_are_left d m new (chain_leaves d m x p link g bs stands taken has listed) old in
     let none : d.periodic.list.work ≡ None = (subst (IsUnderWay d) idle listed.way).work in
     let own : word_at new (32 * queue) ≡ link = own_word (holding d.book m) x p link g bs (shaped_taken taken stands shape) taken (small_link d queue p listed old.order) in
     let now : PeriodicStands (word_at new) (linking d.periodic.list (queue_member queue p)) =
     linked_stands (word_at new) d.periodic (queue_member queue p) none (record { order = left.order; words = left.words }) (own_leads (word_at new) d.periodic.list queue p own) in
     record { order = now.order; words = now.words }
 
-pub chain_stands : (d : DriverContent) (m : Mem) (o : Offered) → Chains d m o → Stands (holding d.book m) → IsShaped m → HasOwners d → IsListed d → ListStands m d → ListStands o.memory o.driver
-chain_stands d m o why stands shape has listed old =
+pub opens_of_interrupt_endpoints_keep_it_standing : (d : DriverContent) (m : Mem) (o : Offered) → Chains d m o → Stands (holding d.book m) → IsShaped m → HasOwners d → IsListed d → ListStands m d → ListStands o.memory o.driver
+opens_of_interrupt_endpoints_keep_it_standing d m o why stands shape has listed old =
     let h = why.holding_after in
     let all = runs_taken (holding d.book m) h (2 ∷ 1 ∷ []) stands why.runs in
     let bs = all.blocks in

@@ -33,7 +33,7 @@ use Rattle.law_driver.proofs.lemmas.listed_members.Owned.{descriptor_owned, queu
 use Rattle.law_frame_list.proofs.lemmas.list_spread.Spreading.{IsHis, his, slot_has, queue_there, standing_there}
 use Rattle.law_frame_words.specs.list_words.Spared.{LeavesList}
 use Rattle.claims_driver.specs.FrameWords.{ListStands}
-use Rattle.law_frame_list.proofs.lemmas.list_stands.Listing.{stands_left}
+use Rattle.law_frame_list.proofs.lemmas.list_stands.Listing.{it_stands_where_its_words_are_left}
 use Rattle.law_frame_list.proofs.lemmas.list_opens.Linked.{run_there}
 use Rattle.law_frame_list.proofs.lemmas.list_opens.Noted.{are_noted, sends_apart}
 
@@ -92,7 +92,7 @@ transfer_at d m e x a g bs stands taken some short here alive has listed old =
     let sizes = has.owned.sizes in
     let mid = write_stages k g.memory notes dummy (drop 1 ss) (note_at notes b).next in
     let now : ListStands new d =
-    stands_left d m new
+    it_stands_where_its_words_are_left d m new
     (leaves_but d m new b e
     (λ c at differs there.
     let r = run_there c (at / 32) taken there in
@@ -108,8 +108,8 @@ transfer_at d m e x a g bs stands taken some short here alive has listed old =
     stands.placed has was.owned listed) old
     in record { order = now.order; words = now.words }
 
-pub transfer_stands : (d : DriverContent) (m : Mem) (o : Offered) → Transfers d m o → Stands (holding d.book m) → IsShaped m → HasOwners d → IsListed d → ListStands m d → ListStands o.memory o.driver
-transfer_stands d m o why stands shape has listed old =
+pub transfers_keep_it_standing : (d : DriverContent) (m : Mem) (o : Offered) → Transfers d m o → Stands (holding d.book m) → IsShaped m → HasOwners d → IsListed d → ListStands m d → ListStands o.memory o.driver
+transfers_keep_it_standing d m o why stands shape has listed old =
     let n = length why.asked.stages in
     let x = why.endpoint in
     let all = runs_taken (holding d.book m) why.holding_after (needs why.asked.stages) stands why.runs in

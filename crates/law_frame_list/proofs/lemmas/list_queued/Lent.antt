@@ -31,7 +31,7 @@ use Rattle.drv_table.specs.Commands.{events_of, store_order, advance, advanced_b
 use Rattle.drv_table.specs.FrameChoice.{linked_descriptors, linked_by}
 use Rattle.claims_driver.specs.Owners.{Described, HasRun, SlotHas}
 use Rattle.law_driver.specs.run_owners.Due.{IsDue, IsNextOf}
-use Rattle.law_driver.proofs.lemmas.run_owners.Reasons.{each_is_due}
+use Rattle.law_driver.proofs.lemmas.run_owners.Reasons.{each_event_is_due}
 use Rattle.law_driver.proofs.lemmas.run_owners.Runs.{placed_run}
 use Rattle.law_driver.specs.in_place.InPlace.{IsSound}
 use Rattle.law_driver.proofs.lemmas.ring_members.Stores.{AreApart, slots_apart, store_elsewhere}
@@ -48,7 +48,7 @@ use Rattle.law_frame_list.proofs.lemmas.list_spread.Spreading.{IsHis, his, slot_
 use Rattle.law_frame_words.specs.list_words.Spared.{LeavesList}
 use Rattle.claims_driver.specs.FrameWords.{ListStands}
 use Rattle.law_frame_list.specs.list_driver.Keeping.{LeadsOn, AreLeading, IsToLink, AreToLink}
-use Rattle.law_frame_list.proofs.lemmas.list_stands.Listing.{stands_left}
+use Rattle.law_frame_list.proofs.lemmas.list_stands.Listing.{it_stands_where_its_words_are_left}
 use Rattle.law_frame_list.proofs.lemmas.list_steps.Stepping.{PeriodicStands, next_stands}
 use Rattle.law_frame_list.proofs.lemmas.list_queued.Leading.{AreOnces, new_next, leads_by, next_leads}
 use Rattle.law_frame_list.proofs.lemmas.list_queued.Apart.{standing_apart, queue_apart, member_apart, list_apart, way_of, frames_apart, are_onces, named_itself}
@@ -297,7 +297,7 @@ stands_then p e first count h one =
     record {
       list = λ old.
           subst (ListStands g.memory) (sym (goes_on d g.book e first count h.is h.at))
-          (let left : ListStands g.memory d = stands_left d p.memory g.memory (λ w its. words (address_of d.periodic.list.list w) ∙ lend_leaves p.memory d e first count h w its) old in
+          (let left : ListStands g.memory d = it_stands_where_its_words_are_left d p.memory g.memory (λ w its. words (address_of d.periodic.list.list w) ∙ lend_leaves p.memory d e first count h w its) old in
           let now : PeriodicStands (word_at g.memory) (begun_next false d.periodic).list =
           next_stands (word_at g.memory) false d.periodic (record { order = left.order; words = left.words })
           (λ x xs queued adds may.
@@ -311,7 +311,7 @@ stands_then p e first count h one =
 
 lending : (p : Parts) → driver_row p ≡ rows.LendDescriptors → IsSound p.memory p.driver → HasOneEach p.driver → AreToLink p.driver → StandsThen p
 lending p is sound one to =
-    let due : IsNextOf p rows.LendDescriptors = subst (IsDue p) is (each_is_due p) in
+    let due : IsNextOf p rows.LendDescriptors = subst (IsDue p) is (each_event_is_due p) in
     let i : IsIsoLend due.command p.driver.made = lends_iso due.command p.driver.made due.next in
     let unfinished_is : p.driver.command ≡ Some (unfinished.Iso i.endpoint i.first i.count) = due.unfinished ∙ ap Some i.is in
     stands_then p i.endpoint i.first i.count

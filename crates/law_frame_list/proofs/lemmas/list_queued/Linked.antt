@@ -30,7 +30,7 @@ use Rattle.claims_driver.specs.DueMembers.{HasOneEach}
 use Rattle.claims_driver.specs.FrameWords.{ListStands}
 use Rattle.law_frame_list.specs.list_driver.Keeping.{LeadsOn, AreLeading}
 use Rattle.law_frame_list.specs.list_steps.Steps.{IsLinkingStep, NextLeads}
-use Rattle.law_frame_list.proofs.lemmas.list_steps.Stepping.{step_stands}
+use Rattle.law_frame_list.proofs.lemmas.list_steps.Stepping.{a_step_keeps_the_list_standing}
 use Rattle.law_frame_list.proofs.lemmas.list_rows.Storing.{GoesInto, the_list, a_member, store_into}
 use Rattle.law_frame_list.proofs.lemmas.list_queued.Leading.{AreOnces, leads_by, next_leads}
 use Rattle.law_frame_list.proofs.lemmas.list_queued.Apart.{waiting_owned, member_apart, list_apart, way_of, frames_apart, are_onces, named_itself}
@@ -79,7 +79,7 @@ next_of p e first count step sound leading old s x xs next queued may =
 pub link_stands : (p : Parts) (e first count : ℕ) → IsLinkingStep p (unfinished.Iso e first count) → IsSound p.memory p.driver → HasOneEach p.driver → AreLeading p.memory p.driver → ListStands p.memory p.driver
     → ListStands (after_driver_row (driver_row p) p).memory (after_driver_row (driver_row p) p).driver
 link_stands p e first count step sound one leading old =
-    step_stands p (unfinished.Iso e first count) step sound.stands sound.shape sound.owners sound.listed old (λ adds. next_of p e first count step sound leading old)
+    a_step_keeps_the_list_standing p (unfinished.Iso e first count) step sound.stands sound.shape sound.owners sound.listed old (λ adds. next_of p e first count step sound leading old)
 
 -- ---- the others lead on
 

@@ -16,7 +16,7 @@ use Rattle.drv_table.specs.Parts.{Parts}
 use Rattle.drv_table.specs.Rows.{driver_row, after_driver_row}
 use Rattle.law_driver.specs.run_owners.Due.{IsDue}
 use Rattle.claims_driver.specs.Leaving.{HasOwners}
-use Rattle.law_driver.proofs.lemmas.run_owners.Reasons.{each_is_due}
+use Rattle.law_driver.proofs.lemmas.run_owners.Reasons.{each_event_is_due}
 use Rattle.law_driver.specs.listed_members.Members.{IsListed}
 use Rattle.law_driver.specs.ring_members.Words.{IsMending}
 use Rattle.law_driver.specs.in_place.InPlace.{IsSound}
@@ -25,7 +25,7 @@ use Rattle.law_driver.proofs.lemmas.ring_members.Events.{first_mend}
 use Rattle.law_frame_words.specs.list_words.Spared.{LeavesList}
 use Rattle.claims_driver.specs.FrameWords.{ListStands}
 use Rattle.law_frame_list.specs.list_driver.Keeping.{MendsAside}
-use Rattle.law_frame_list.proofs.lemmas.list_stands.Listing.{stands_left}
+use Rattle.law_frame_list.proofs.lemmas.list_stands.Listing.{it_stands_where_its_words_are_left}
 use Rattle.law_frame_list.proofs.lemmas.list_spread.Spreading.{slot_has}
 
 -- the link of a structure is its word 0
@@ -58,10 +58,10 @@ first_aside (x ∷ ws) w here all = let same : x ≡ w = cc in subst (λ (y : Me
 abbrev Stays : DriverRow → Parts → Type 0
 Stays row p = ListStands (after_driver_row row p).memory (after_driver_row row p).driver
 
-pub mend_stands : (p : Parts) (w : Mend) → driver_row p ≡ rows.Mend w → IsSound p.memory p.driver → MendsAside p.driver → ListStands p.memory p.driver → Stays (driver_row p) p
-mend_stands p w is sound aside old =
-    let due : (p.driver.command ≡ None) × (slice_get p.driver.mends 0 ≡ Some w) = subst (IsDue p) is (each_is_due p) in
+pub mends_keep_it_standing : (p : Parts) (w : Mend) → driver_row p ≡ rows.Mend w → IsSound p.memory p.driver → MendsAside p.driver → ListStands p.memory p.driver → Stays (driver_row p) p
+mends_keep_it_standing p w is sound aside old =
+    let due : (p.driver.command ≡ None) × (slice_get p.driver.mends 0 ≡ Some w) = subst (IsDue p) is (each_event_is_due p) in
     let now : ListStands (store p.driver.book p.memory w.queue w.at w.value) p.driver =
-    stands_left p.driver p.memory (store p.driver.book p.memory w.queue w.at w.value)
+    it_stands_where_its_words_are_left p.driver p.memory (store p.driver.book p.memory w.queue w.at w.value)
     (mend_leaves p.driver p.memory w sound.stands sound.owners sound.listed (first_mend p.driver.mends w due.1 sound.ring.mends) (first_aside p.driver.mends w due.1 aside)) old in
     subst (λ (r : DriverRow). Stays r p) (sym is) (record { order = now.order; words = now.words })

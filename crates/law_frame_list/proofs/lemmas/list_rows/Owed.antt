@@ -45,8 +45,8 @@ use Rattle.law_driver.specs.run_owners.Accepts.{Accepts, opens, chains, places, 
 use Rattle.claims_driver.specs.Owners.{FrameList, QueueHead}
 use Rattle.law_driver.specs.run_owners.Due.{IsDue, IsHarvestDue}
 use Rattle.claims_driver.specs.Leaving.{HasOwners}
-use Rattle.law_driver.proofs.lemmas.run_owners.Commands.{accepted_for_a_reason}
-use Rattle.law_driver.proofs.lemmas.run_owners.Reasons.{each_is_due}
+use Rattle.law_driver.proofs.lemmas.run_owners.Commands.{each_command_has_its_reason}
+use Rattle.law_driver.proofs.lemmas.run_owners.Reasons.{each_event_is_due}
 use Rattle.law_driver.proofs.lemmas.run_owners.Transferred.{goes_on_alive}
 use Rattle.law_driver.proofs.lemmas.ring_members.Placed.{has_queue, queue_placed}
 use Rattle.law_frame_list.specs.list_driver.Keeping.{MendsAside}
@@ -225,7 +225,7 @@ row_aside (rows.Harvest e t found) p due has old =
 row_aside _ p due has old = old
 
 pub event_aside : (p : Parts) → HasOwners p.driver → MendsAside p.driver → MendsAside (after_driver_row (driver_row p) p).driver
-event_aside p has old = row_aside (driver_row p) p (each_is_due p) has old
+event_aside p has old = row_aside (driver_row p) p (each_event_is_due p) has old
 
 -- ---- a command
 
@@ -243,7 +243,7 @@ accepted_owed d m o (unchains why) =
     ap made why.is ∙ ended_owed (with_cancel d why.number why.endpoint (endpoint_members d why.number why.endpoint why.placement)) (unfinished.Unchain why.number)
 
 pub command_aside : (d : DriverContent) (m : Mem) (cmd : Cmd) (o : Offered) → offered d m cmd ≡ Ok o → MendsAside d → MendsAside o.driver
-command_aside d m cmd o is old = same_owed (accepted_owed d m o (accepted_for_a_reason d m cmd o is)) old
+command_aside d m cmd o is old = same_owed (accepted_owed d m o (each_command_has_its_reason d m cmd o is)) old
 
 -- ---- the opening
 

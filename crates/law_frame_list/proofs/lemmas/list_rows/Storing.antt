@@ -29,8 +29,8 @@ use Rattle.drv_table.specs.DriverContent.{DriverContent}
 use Rattle.claims_driver.specs.Owners.{HasBlocks}
 use Rattle.claims_driver.specs.Leaving.{HasOwners}
 use Rattle.law_driver.specs.listed_members.Members.{IsListed}
-use Rattle.law_frame_words.proofs.lemmas.list_words.Sparing.{stands_where_left}
-use Rattle.law_frame_list.proofs.lemmas.list_spread.Spreading.{IsHis, his, members_spread}
+use Rattle.law_frame_words.proofs.lemmas.list_words.Sparing.{what_leaves_its_words_leaves_the_list}
+use Rattle.law_frame_list.proofs.lemmas.list_spread.Spreading.{IsHis, his, members_share_no_block}
 
 -- the driver's list with this under way
 abbrev pub with_work : DriverContent → Option Work → Periodic
@@ -156,7 +156,8 @@ store_made d m o s stands shape has listed kept words is =
     record {
       order = order;
       words = subst (λ (x : Mem). StandFor (after_store p) (word_at x)) (sym written)
-          (stands_where_left (after_store p) (with_value (word_at m) s.at s.value) (word_at (with_word m s.at s.value)) order
+          (what_leaves_its_words_leaves_the_list (after_store p) (with_value (word_at m) s.at s.value) (word_at (with_word m s.at s.value))
+          order
           (λ w its. word_by m s.at s.value (address_of (after_store p).list w) (nat_eq (address_of (after_store p).list w) s.at) refl low (aligned (after_store p).list w) inside (same_test (address_of (after_store p).list w) s.at))
-          (one_store p s (word_at m) kept.kept (members_spread d m stands has listed) kept.member words is));
+          (one_store p s (word_at m) kept.kept (members_share_no_block d m stands has listed) kept.member words is));
     }

@@ -34,7 +34,7 @@ use Rattle.claims_driver.specs.Owners.{is_descriptor}
 use Rattle.law_driver.specs.run_owners.Due.{IsDue, IsUnlinkDue}
 use Rattle.claims_driver.specs.Leaving.{HasOwners}
 use Rattle.law_driver.proofs.lemmas.run_owners.Orders.{times_first, one_same}
-use Rattle.law_driver.proofs.lemmas.run_owners.Reasons.{each_is_due}
+use Rattle.law_driver.proofs.lemmas.run_owners.Reasons.{each_event_is_due}
 use Rattle.claims_driver.specs.FrameListMembers.{is_chained, framed_in, is_among as is_in}
 use Rattle.law_driver.specs.listed_members.Members.{IsUnderWay, IsListed}
 use Rattle.law_driver.proofs.lemmas.listed_members.Unlinks.{placed_here, below_frames}
@@ -112,6 +112,6 @@ row_stands p t (Some y) there due sound old =
     (unlinked_linked d t y sound.owners sound.listed there due.first) in
     record { order = now.0; words = now.1 }
 
-pub unlink_stands : (p : Parts) (t : ℕ) → driver_row p ≡ rows.Unlink t → IsSound p.memory p.driver → ListStands p.memory p.driver → Stays (driver_row p) p
-unlink_stands p t is sound old =
-    subst (λ (r : DriverRow). Stays r p) (sym is) (row_stands p t (slice_get p.driver.transfers t) refl (subst (IsDue p) is (each_is_due p)) sound old)
+pub unlinks_keep_it_standing : (p : Parts) (t : ℕ) → driver_row p ≡ rows.Unlink t → IsSound p.memory p.driver → ListStands p.memory p.driver → Stays (driver_row p) p
+unlinks_keep_it_standing p t is sound old =
+    subst (λ (r : DriverRow). Stays r p) (sym is) (row_stands p t (slice_get p.driver.transfers t) refl (subst (IsDue p) is (each_event_is_due p)) sound old)

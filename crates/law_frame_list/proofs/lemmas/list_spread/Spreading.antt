@@ -22,7 +22,7 @@ use Rattle.mem_runs.specs.Book.{holding, slot_of, IsAt, Stands}
 use Rattle.drv_table.specs.DriverContent.{DriverContent}
 use Rattle.claims_driver.specs.Owners.{Owner, FrameList, QueueHead, Dummy, Element, Described, Buffer, HasBlocks, SlotHas, IsRunFor, IsPlaced}
 use Rattle.claims_driver.specs.Leaving.{HasOwners}
-use Rattle.law_driver.proofs.lemmas.run_owners.Laws.{owners_apart}
+use Rattle.law_driver.proofs.lemmas.run_owners.Laws.{owners_share_no_block}
 use Rattle.claims_driver.specs.FrameListMembers.{Framed, framed_in, Placed, placed_in, member_of}
 use Rattle.law_driver.specs.listed_members.Members.{IsStanding, IsQueueOf, IsListed}
 use Rattle.law_driver.specs.listed_members.Listed.{IsOwnedAs}
@@ -98,7 +98,7 @@ slot_has (slots.Lends r) a n b at run low high = block_in r a n b at.0 run low h
 pub outside : (d : DriverContent) (m : Mem) (b : ℕ) → Stands (holding d.book m) → (has : HasOwners d) → IsHis d has.owner b → 128 ≤ b
 outside d m b stands has h =
     ⊎_elim (λ (low : b < 128).
-    absurd (owners_apart (holding d.book m) has.owner FrameList h.whose stands (λ same. h.other (sym same)) 0 b b has.owned.each.list h.placed
+    absurd (owners_share_no_block (holding d.book m) has.owner FrameList h.whose stands (λ same. h.other (sym same)) 0 b b has.owned.each.list h.placed
     (slot_has (slot_of d.book.slots 0) 0 128 b (stands.placed 0) has.owned.each.list.run (omega arith) (omega (arith, low)))
     (slot_has (slot_of d.book.slots b) b h.run.0 b (stands.placed b) h.run.1.1 (omega arith) (let some = h.run.1.0 in omega (arith, some)))))
     (λ (from : 128 ≤ b). from) (cases_lt b 128)
@@ -165,8 +165,8 @@ own_block d (Once j) (Each r) has listed one two e =
 
 -- ---- the members
 
-pub members_spread : (d : DriverContent) (m : Mem) → Stands (holding d.book m) → HasOwners d → IsListed d → IsSpread d.periodic.list.list d.periodic.list.members.schedule
-members_spread d m stands has listed = record {
+pub members_share_no_block : (d : DriverContent) (m : Mem) → Stands (holding d.book m) → HasOwners d → IsListed d → IsSpread d.periodic.list.list d.periodic.list.members.schedule
+members_share_no_block d m stands has listed = record {
   named = λ x on end. let far = outside d m (id_of x / 32) stands has (his d x has listed on) in omega (arith, far, end);
   apart = λ x on. inr (let far = outside d m (id_of x / 32) stands has (his d x has listed on) in let first = listed.list.list in omega (arith, far, first));
   once = λ x y one two e. own_block d x y has listed one two e;

@@ -31,7 +31,7 @@ use Rattle.law_driver_ring.specs.Driven.{is_quiet}
 use Rattle.law_driver_ring.specs.PartOpened.{empty_list}
 use Rattle.law_driver_ring.proofs.PartOpening.{opening_ring}
 use Rattle.law_frame_words.specs.list_words.Spared.{LeavesList}
-use Rattle.law_frame_words.proofs.lemmas.list_words.Sparing.{stands_where_left}
+use Rattle.law_frame_words.proofs.lemmas.list_words.Sparing.{what_leaves_its_words_leaves_the_list}
 
 -- ---- the opening
 
@@ -49,16 +49,16 @@ ends_lead : (word : ℕ → ℕ) (f : ℕ) (ms : List Member) → ms ≡ [] → 
 unfolding Leads
 ends_lead word f ms none ends = subst (λ (xs : List Member). Leads 0 word (Element f) xs) (sym none) ends
 
-pub opening_stands : (n : ℕ) (room : Reserve) → 2048 ≤ n → n ≤ 262144 → n % 1024 ≡ 0 → ListStands (opening n room).memory (opening n room).driver
-opening_stands n room many few whole = record {
+pub a_new_list_stands : (n : ℕ) (room : Reserve) → 2048 ≤ n → n ≤ 262144 → n % 1024 ≡ 0 → ListStands (opening n room).memory (opening n room).driver
+a_new_list_stands n room many few whole = record {
   order = empty_in_order 0 room.endpoints room.transfers;
   words = λ f below. ends_lead (word_at (opening n room).memory) f (chain (of_lists [] []) f) (no_chain 0 room.endpoints room.transfers f) (element_ends n room f many few whole below);
 }
 
 -- ---- its words are left
 
-pub stands_left : (d : DriverContent) (m new : Mem) → LeavesList d.periodic.list (word_at m) (word_at new) → ListStands m d → ListStands new d
-stands_left d m new leaves old = record { order = old.order; words = stands_where_left d.periodic.list (word_at m) (word_at new) old.order leaves old.words }
+pub it_stands_where_its_words_are_left : (d : DriverContent) (m new : Mem) → LeavesList d.periodic.list (word_at m) (word_at new) → ListStands m d → ListStands new d
+it_stands_where_its_words_are_left d m new leaves old = record { order = old.order; words = what_leaves_its_words_leaves_the_list d.periodic.list (word_at m) (word_at new) old.order leaves old.words }
 
 -- ---- a harvest leaves the list
 
@@ -112,5 +112,5 @@ quiet_stands (rows.Harvest e t found) p quiet old =
 quiet_stands rows.Rest p quiet old = same_list p.memory p.driver (after_driver_row rows.Rest p).driver refl old
 quiet_stands _ p quiet old = absurd (false≢true quiet)
 
-pub event_stands : (p : Parts) → is_quiet (driver_row p) ≡ true → ListStands p.memory p.driver → ListStands (after_driver_row (driver_row p) p).memory (after_driver_row (driver_row p) p).driver
-event_stands p quiet old = quiet_stands (driver_row p) p quiet old
+pub quiet_events_keep_it_standing : (p : Parts) → is_quiet (driver_row p) ≡ true → ListStands p.memory p.driver → ListStands (after_driver_row (driver_row p) p).memory (after_driver_row (driver_row p) p).driver
+quiet_events_keep_it_standing p quiet old = quiet_stands (driver_row p) p quiet old

@@ -28,7 +28,7 @@ use Rattle.drv_table.specs.Commands.{next_row, command_row, link_row, events_of,
 use Rattle.claims_driver.specs.Leaving.{HasOwners}
 use Rattle.law_driver.specs.listed_members.Members.{IsUnderWay, IsListed}
 use Rattle.law_frame_list.specs.list_stores.Storing.{IsStoredFor}
-use Rattle.law_frame_list.proofs.lemmas.list_stores.Making.{store_stands}
+use Rattle.law_frame_list.proofs.lemmas.list_stores.Making.{each_store_of_the_list_is_made}
 use Rattle.law_frame_list.specs.list_steps.Steps.{IsLinkingStep, NextLeads, IsOfInterrupt}
 
 either_if : {A : Type 0} (P : A → Type 0) (b : Bool) (x y : A) → (b ≡ true → P x) → (b ≡ false → P y) → P (if b then x else y)
@@ -161,11 +161,11 @@ row_is d c on late = by (links c) (nat_le (length (events_of c)) d.made) on (le-
 by_store : (p : Parts) (c : Command) (o : Option Store) → next_store p.driver.periodic.list ≡ o → IsLinkingStep p c → Stands (holding p.driver.book p.memory) → IsShaped p.memory → HasOwners p.driver → IsListed p.driver
     → ListStands p.memory p.driver → (removes_members c ≡ false → NextLeads p) → ListStands (after_driver_row (link_row o) p).memory (after_driver_row (link_row o) p).driver
 by_store p c None is step stands shape has listed old own = old
-by_store p c (Some s) is step stands shape has listed old own = stored_stands p c s step (store_stands p.driver p.memory s stands shape has listed old is) is own
+by_store p c (Some s) is step stands shape has listed old own = stored_stands p c s step (each_store_of_the_list_is_made p.driver p.memory s stands shape has listed old is) is own
 
-pub step_stands : (p : Parts) (c : Command) → IsLinkingStep p c → Stands (holding p.driver.book p.memory) → IsShaped p.memory → HasOwners p.driver → IsListed p.driver → ListStands p.memory p.driver
+pub a_step_keeps_the_list_standing : (p : Parts) (c : Command) → IsLinkingStep p c → Stands (holding p.driver.book p.memory) → IsShaped p.memory → HasOwners p.driver → IsListed p.driver → ListStands p.memory p.driver
     → (removes_members c ≡ false → NextLeads p) → ListStands (after_driver_row (driver_row p) p).memory (after_driver_row (driver_row p) p).driver
-step_stands p c step stands shape has listed old own =
+a_step_keeps_the_list_standing p c step stands shape has listed old own =
     subst (λ r. ListStands (after_driver_row r p).memory (after_driver_row r p).driver)
     (sym (ap (row_for p) step.unfinished ∙ row_is p.driver c step.links step.late))
     (by_store p c (next_store p.driver.periodic.list) refl step stands shape has listed old own)
@@ -184,6 +184,6 @@ own_leads : (p : Parts) (c : Command) → IsLinkingStep p c → IsListed p.drive
 own_leads p c step listed (inl chain) keeps = chain_leads p (step.unfinished ∙ ap Some chain) listed
 own_leads p c step listed (inr unchain) keeps = absurd (false≢true (sym keeps ∙ ap removes_members unchain.1))
 
-pub interrupt_step_stands : (p : Parts) (c : Command) → IsLinkingStep p c → IsOfInterrupt c → Stands (holding p.driver.book p.memory) → IsShaped p.memory → HasOwners p.driver → IsListed p.driver → ListStands p.memory p.driver
+pub steps_of_interrupt_endpoints_keep_it_standing : (p : Parts) (c : Command) → IsLinkingStep p c → IsOfInterrupt c → Stands (holding p.driver.book p.memory) → IsShaped p.memory → HasOwners p.driver → IsListed p.driver → ListStands p.memory p.driver
     → ListStands (after_driver_row (driver_row p) p).memory (after_driver_row (driver_row p) p).driver
-interrupt_step_stands p c step of stands shape has listed old = step_stands p c step stands shape has listed old (own_leads p c step listed of)
+steps_of_interrupt_endpoints_keep_it_standing p c step of stands shape has listed old = a_step_keeps_the_list_standing p c step stands shape has listed old (own_leads p c step listed of)

@@ -29,8 +29,8 @@ use Rattle.drv_table.specs.DriverContent.{DriverContent}
 use Rattle.claims_driver.specs.Owners.{HasBlocks}
 use Rattle.claims_driver.specs.Leaving.{HasOwners}
 use Rattle.law_driver.specs.listed_members.Members.{IsListed}
-use Rattle.law_frame_words.proofs.lemmas.list_words.Sparing.{stands_where_left}
-use Rattle.law_frame_list.proofs.lemmas.list_spread.Spreading.{IsHis, his, members_spread}
+use Rattle.law_frame_words.proofs.lemmas.list_words.Sparing.{what_leaves_its_words_leaves_the_list}
+use Rattle.law_frame_list.proofs.lemmas.list_spread.Spreading.{IsHis, his, members_share_no_block}
 use Rattle.law_frame_list.specs.list_stores.Storing.{IsStoredFor}
 
 -- ---- where the store goes
@@ -127,8 +127,8 @@ store_written d m o s stands shape has listed kept is =
     let can : can_store (slot_of d.book.slots s.block) s.at ≡ true = ap (λ (b : ℕ). can_store (slot_of d.book.slots b) s.at) block ∙ ap (can_store (slot_of d.book.slots (block_of 0 g.word))) at ∙ made.can in
     ap (λ (b : Bool). if b then with_word m s.at s.value else m) can
 
-pub store_stands : (d : DriverContent) (m : Mem) (s : Store) → Stands (holding d.book m) → IsShaped m → HasOwners d → IsListed d → ListStands m d → next_store d.periodic.list ≡ Some s → IsStoredFor m d s
-store_stands d m s stands shape has listed old is =
+pub each_store_of_the_list_is_made : (d : DriverContent) (m : Mem) (s : Store) → Stands (holding d.book m) → IsShaped m → HasOwners d → IsListed d → ListStands m d → next_store d.periodic.list ≡ Some s → IsStoredFor m d s
+each_store_of_the_list_is_made d m s stands shape has listed old is =
     let p : Periodic = d.periodic.list in
     let g : GoesTo p.list p.members.schedule s = goes_to p.list p.members.schedule p.work s old.order.kept is in
     let zero_list : p.list ≡ 0 = listed.list.list in
@@ -143,7 +143,8 @@ store_stands d m s stands shape has listed old is =
     record {
       order = order;
       words = subst (λ (x : Mem). StandFor (after_store p) (word_at x)) (sym written)
-          (stands_where_left (after_store p) (with_value (word_at m) s.at s.value) (word_at (with_word m s.at s.value)) order
+          (what_leaves_its_words_leaves_the_list (after_store p) (with_value (word_at m) s.at s.value) (word_at (with_word m s.at s.value))
+          order
           (λ w its. word_by m s.at s.value (address_of (after_store p).list w) (nat_eq (address_of (after_store p).list w) s.at) refl low (aligned (after_store p).list w) inside (same_test (address_of (after_store p).list w) s.at))
-          (one_store p s (word_at m) old.order.kept (members_spread d m stands has listed) old.order.member old.words is));
+          (one_store p s (word_at m) old.order.kept (members_share_no_block d m stands has listed) old.order.member old.words is));
     }

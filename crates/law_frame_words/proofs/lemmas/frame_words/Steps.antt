@@ -32,8 +32,8 @@ half_by : (list : ℕ) (s : Schedule) (m : Member) (b : Bool) (n f : ℕ) (befor
 half_by list s m true n f before k sp i h l stood own = unlinked_half list s m before n f k sp i h l stood own
 half_by list s m false n f before k sp i h l stood own = linked_half list s m before n f k sp i h l stood own
 
-pub half_way : (list : ℕ) (s : Schedule) (w : Work) (word : ℕ → ℕ) (f : ℕ) → IsKept s → IsSpread list s → IsMember w.member → is_linked s w.member ≡ true → Begun list s w word → f < 1024 → Leads list word (Element f) (shown s w f)
-half_way list s w word f k sp i h b l =
+pub frames_while_under_way : (list : ℕ) (s : Schedule) (w : Work) (word : ℕ → ℕ) (f : ℕ) → IsKept s → IsSpread list s → IsMember w.member → is_linked s w.member ≡ true → Begun list s w word → f < 1024 → Leads list word (Element f) (shown s w f)
+frames_while_under_way list s w word f k sp i h b l =
     leads_same list (set_all list (made_of s w) (value_of s w) b.before) word (Element f) (shown s w f) b.since
     (half_by list s w.member w.removes w.made f b.before k sp i h l b.stood b.own)
 

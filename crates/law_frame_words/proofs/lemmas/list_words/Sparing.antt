@@ -93,8 +93,9 @@ its_word : (p : Periodic) (w : Predecessor) → IsWordOf p.members.schedule w �
 its_word p (Element f) is = is
 its_word p (After m) is = is
 
-pub stands_where_left : (p : Periodic) (word now : ℕ → ℕ) → IsInOrder p → LeavesList p word now → StandFor p word → StandFor p now
-stands_where_left p word now order leaves stands = by_work p.list p.members.schedule p.work word now order.kept order.member (λ w is. leaves w (its_word p w is)) stands
+pub what_leaves_its_words_leaves_the_list : (p : Periodic) (word now : ℕ → ℕ) → IsInOrder p → LeavesList p word now → StandFor p word
+    → StandFor p now
+what_leaves_its_words_leaves_the_list p word now order leaves stands = by_work p.list p.members.schedule p.work word now order.kept order.member (λ w is. leaves w (its_word p w is)) stands
 
 -- ---- a store elsewhere
 
@@ -102,5 +103,6 @@ value_by : (word : ℕ → ℕ) (at v a : ℕ) (b : Bool) → nat_eq a at ≡ b 
 value_by word at v a true is differs = absurd (differs (eqb-true a at is))
 value_by word at v a false is differs = refl
 
-pub left_by_stores : (p : Periodic) (word : ℕ → ℕ) (at v : ℕ) → ((w : Predecessor) → IsItsWord p w → address_of p.list w ≢ at) → LeavesList p word (with_value word at v)
-left_by_stores p word at v apart w is = value_by word at v (address_of p.list w) (nat_eq (address_of p.list w) at) refl (apart w is)
+pub a_store_elsewhere_leaves_them : (p : Periodic) (word : ℕ → ℕ) (at v : ℕ) → ((w : Predecessor) → IsItsWord p w → address_of p.list w ≢ at) → LeavesList p word (with_value word at v)
+a_store_elsewhere_leaves_them p word at v apart w is =
+    value_by word at v (address_of p.list w) (nat_eq (address_of p.list w) at) refl (apart w is)

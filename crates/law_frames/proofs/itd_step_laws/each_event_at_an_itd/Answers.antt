@@ -1,5 +1,5 @@
-use Rattle.law_frames.proofs.Happening.{itd_happens}
+use Rattle.law_frames.proofs.Happening.{each_event_at_an_itd}
 use Rattle.law_frames.proofs.itd_step_laws.each_event_at_an_itd.Goals as goal
 
 pub returns : goal.returns
-returns g c = itd_happens g.W.Wire.transacts
+returns g c = each_event_at_an_itd g.W.Wire.transacts

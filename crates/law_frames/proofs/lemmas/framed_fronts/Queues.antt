@@ -21,14 +21,14 @@ use Rattle.law_structures.specs.lent_structures.WriteBack.{CanBeWritten, Receive
 use Rattle.law_structures.proofs.lemmas.lent_structures.Found.{received_beside, back_beside, back_head, back_element, back_other_element}
 use Rattle.law_structures.specs.lent_structures.Sound.{IsWorking, IsSoundQueue}
 use Rattle.law_structures.specs.lent_structures.Alters.{Alters}
-use Rattle.law_structures.proofs.lemmas.lent_structures.Altering.{found_queue, found_element, no_two, unaltered, head_put}
+use Rattle.law_structures.proofs.lemmas.lent_structures.Altering.{found_queue, found_element, no_two, unaltered, a_queue_head_alters_nothing}
 use Rattle.law_ring.specs.Hand.{Hand, Empty, Copied, Settled, Stale}
 use Rattle.law_ring.specs.Effects.{received_into, Takes}
 use Rattle.law_frames.specs.Met.{Kind, AQueue, IsMetQueue}
 use Rattle.law_frames.specs.FrameHand.{settled_in, ItdCopy, SitdCopy, FrameHand}
 use Rattle.law_frames.specs.Frame.{IsQueueSettled, IsCopiedQueue, IsCopiedItd, IsCopiedSitd, IsInFrame}
 use Rattle.law_frames.specs.FrameEffects.{IsWrittenFrom, made as was_made, missed as was_missed, queue_written, itd_back, sitd_back, WritesQueue, WritesOne, of_queue, of_itd, of_sitd, TakesOne, FrameEffect, fetches, passes, ends, makes, takes, writes}
-use Rattle.law_frames.proofs.QueueBacks.{settled_facts, settled_range, written_facts, hand_settled, back_alters}
+use Rattle.law_frames.proofs.QueueBacks.{settled_facts, settled_range, written_facts, hand_is_settled, back_alters}
 use Rattle.law_frames.specs.framed_fronts.FrameFronts.{AreMet}
 
 -- ---- the events of one queue
@@ -143,7 +143,7 @@ module _ (parts : StructureSets) (hand later : Hand) (now : StructureSets) (n : 
         });
         alters = subst (Alters (parts n)) (sym now_at)
             (subst (λ (i : ℕ). Alters (parts i) (put_now i)) (sym is)
-            (subst (Alters (parts t.copy.at)) (sym (put_here parts t.copy.at t.copy.at (QueueHead new))) (head_put (parts t.copy.at) t.copy.at t.copy.queue new there)));
+            (subst (Alters (parts t.copy.at)) (sym (put_here parts t.copy.at t.copy.at (QueueHead new))) (a_queue_head_alters_nothing (parts t.copy.at) t.copy.at t.copy.queue new there)));
       }
 
   taken_so : HasEvent n (parts n) (now n)
@@ -237,7 +237,7 @@ module _ (met : ℕ → Option Kind) (parts : StructureSets) (w : Walk) (hand : 
 
   write_event : WritesOne parts w hand now later → HasEvent n (parts n) (now n)
   write_event (of_queue r) =
-      let both : IsCopiedQueue met parts r.copy × IsQueueSettled r.copy.queue w.reply r.settled = hand_settled met parts w hand r.copy r.settled r.made in_hand r.from in
+      let both : IsCopiedQueue met parts r.copy × IsQueueSettled r.copy.queue w.reply r.settled = hand_is_settled met parts w hand r.copy r.settled r.made in_hand r.from in
       let mine : IsMetQueue met r.copy.at (parts r.copy.at) = members r.copy.at AQueue both.0.on in
       let sound : IsSoundQueue (parts r.copy.at) r.copy.queue = subst (IsSoundQueue (parts r.copy.at)) (found_queue (parts r.copy.at r.copy.at) mine.part_is.queue r.copy.queue mine.part_is.here both.0.here) mine.part_is.sound in
       written_so parts w hand now later n w.reply r both.0.here (sound.work both.1.came_to.works) both.1 (record {

@@ -87,10 +87,10 @@ module _ {W : Type 0} (transacts : W → Ask → List ℕ → Reply → W → Ty
       halts_on kinds mid between h.now h.later one.front_now head.queue h.frame more head.here (links_rise order (parts n) (h.now n) e.alters rise) one.has
       (halts_by (parts n) (h.now n) order front out n k stops e.event)
 
-pub front_runs : {W : Type 0} (transacts : W → Ask → List ℕ → Reply → W → Type 0) → FramesKeepFront transacts
-front_runs transacts met parts hand wire after p new now later kinds order front out n q frame events here rise k =
+pub frames_keep_front : {W : Type 0} (transacts : W → Ask → List ℕ → Reply → W → Type 0) → FramesKeepFront transacts
+frames_keep_front transacts met parts hand wire after p new now later kinds order front out n q frame events here rise k =
     runs_on transacts met new after now later order out n kinds p wire parts hand front q frame events here rise k
 
-pub halts_run : {W : Type 0} (transacts : W → Ask → List ℕ → Reply → W → Type 0) → FramesKeepHalts transacts
-halts_run transacts met parts hand wire after p new now later kinds order front out n q frame events here rise k stops =
+pub frames_keep_halts : {W : Type 0} (transacts : W → Ask → List ℕ → Reply → W → Type 0) → FramesKeepHalts transacts
+frames_keep_halts transacts met parts hand wire after p new now later kinds order front out n q frame events here rise k stops =
     halts_on transacts met new after now later order out n kinds p wire parts hand front q frame events here rise k stops

@@ -1,5 +1,5 @@
-use Rattle.law_frames.proofs.Queues.{linked_part}
+use Rattle.law_frames.proofs.Queues.{a_members_part_is_linked}
 use Rattle.law_frames.proofs.part_laws.a_members_part_is_linked.Goals as goal
 
 pub returns : goal.returns
-returns c = linked_part
+returns c = a_members_part_is_linked

@@ -231,10 +231,11 @@ module _ (fixed : Fixed) (b : Bus) (name : EpName) (place packet : ℕ) (next : 
         ∙ ap (λ (ping : Bool). transaction_at Plain (pipe_of pids.Out) (host_with ping)) unpinged))
         (out_moves t r takes same way)
 
-pub transaction_moves : (fixed : Fixed) (b : Bus) (name : EpName) (v : Qh) (r : CanMove fixed b name v) → v.eps ≡ 2 → v.addr ≡ name.addr
+pub ready_transactions_move : (fixed : Fixed) (b : Bus) (name : EpName) (v : Qh) (r : CanMove fixed b name v) → v.eps ≡ 2
+    → v.addr ≡ name.addr
     → v.ep ≡ name.num → v.token.pid ≡ pid_of (dir_of name.way) → (out : List ℕ) → length out ≡ (planned v).bytes → (last : Bool)
     → outcome_in (planned v) out last (reply_of fixed b (call_in (planned v) out last).ask (call_in (planned v) out last).out)
     ≡ Moved (bytes_moved r.answers)
 unfolding Moves
-transaction_moves fixed b name v r high addr ep pid =
+ready_transactions_move fixed b name v r high addr ep pid =
     moves_by fixed b name r.place r.packet r.next r.none_lost v name.way r.part r.answers refl r.heard high addr ep pid

@@ -5,7 +5,7 @@ use Rattle.std.proofs.lemmas.Bool.{eqb-true, eq-eqb}
 use Rattle.script_types.specs.declared.scripts.Script.{Script}
 use Rattle.script_text.specs.Faults.{Spells}
 use Rattle.script_fits.proofs.Texts.{spelled_fits}
-use Rattle.law_scripts.proofs.lemmas.script_bytes.Texts.{spelled_bytes}
+use Rattle.law_scripts.proofs.lemmas.script_bytes.Texts.{a_text_spells_bytes}
 use Rattle.bandwidth.specs.declared.placements.Placement.{Placement}
 use Rattle.bandwidth.specs.Placements.{frame_period}
 use Rattle.bandwidth.specs.Sums.{is_active}
@@ -97,7 +97,7 @@ comes_to_each text s spelled k e q p past was is active =
     let f_is = visited_is_found s k (32 * q)
     (texts_visit_each text s spelled k (32 * q) past
     (its_frames_lead (began s k) e q p f
-    (began_is_mixed s (spelled_fits text s spelled) (spelled_bytes text s spelled)
+    (began_is_mixed s (spelled_fits text s spelled) (a_text_spells_bytes text s spelled)
     (lines_fit s.lines (texts_fit text s spelled) (texts_open_fitting text s spelled)) k).mixed
     was low active)
     (its_frames_lead (moment s k).world e q p f (texts_stay_mixed text s spelled k) is low active)) in

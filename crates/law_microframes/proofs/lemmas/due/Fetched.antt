@@ -46,7 +46,7 @@ use Rattle.law_microframes.proofs.lemmas.visits.BelongReads.{read_fields}
 use Rattle.law_world.proofs.lemmas.memory.Controller.{controller_keeps_mixed}
 use Rattle.law_microframes.specs.time.DataQueues.{pid_of, way_of, QueuesSendData, GoesBy, ReadsData}
 use Rattle.law_microframes.proofs.lemmas.time.DataControlled.{controller_keeps_data}
-use Rattle.law_microframes.proofs.lemmas.time.DataHeads.{mixed_read_data}
+use Rattle.law_microframes.proofs.lemmas.time.DataHeads.{mixed_worlds_read_data}
 use Rattle.claims_world.specs.Due.{ComesTo, goes_on, takes, bytes_moved, IsDueNow}
 use Rattle.law_microframes.proofs.lemmas.due.Fields.{its_token, element_aligned, head_first, address_in, number_in}
 use Rattle.law_microframes.proofs.lemmas.due.Held.{GoesTo, to_itself, to_qtd, IsItsQueue, IsHeldAt, advanced_token, ready_as}
@@ -176,7 +176,8 @@ module _ (fixed : Fixed) (w : World) (k : IsMixedWorld w) (heads : HeadsHaveFiel
     }
 
     later_reads : ReadsData (controller_next fixed w)
-    later_reads = mixed_read_data (controller_next fixed w) (controller_keeps_mixed fixed w k) (controller_keeps_data fixed w k sends)
+    later_reads = mixed_worlds_read_data (controller_next fixed w) (controller_keeps_mixed fixed w k)
+        (controller_keeps_data fixed w k sends)
 
     turned : (c : ℕ) → q.token.active ≡ false → q.token.halted ≡ false → qtd_link_of (next_pointer q) ≡ qtd_links.To c
         → turn_of (controller_next fixed w).control.frame.index q ≡ turns.Take (qtd_links.To c)
@@ -188,7 +189,7 @@ module _ (fixed : Fixed) (w : World) (k : IsMixedWorld w) (heads : HeadsHaveFiel
 
     pid_by : (v : Qh) → ComesTo w.memory q v → v.token.pid ≡ pid_of (way_of due.there.endpoint)
     pid_by _ (goes_on work) =
-        (mixed_read_data w k sends).heads e due.there.endpoint q due.there.here due.there.kind kept
+        (mixed_worlds_read_data w k sends).heads e due.there.endpoint q due.there.here due.there.kind kept
         (ap (λ (i : ℕ). queue_head_at_address w.memory (32 * i)) due.there.queue ∙ head_there) work.active
     pid_by _ (takes c t idle unhalted leads here work) =
         ap (λ (x : Token). x.pid) (advanced_token q c t)

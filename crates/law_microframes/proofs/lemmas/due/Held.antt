@@ -39,7 +39,7 @@ use Rattle.law_world.specs.memory.Mixed.{IsMixedWorld}
 use Rattle.law_microframes.specs.time.DataQueues.{pid_of}
 use Rattle.claims_world.specs.SoFar.{SoFar, HasMoved}
 use Rattle.claims_world.specs.Due.{IsActiveToken, MovesPacket, by_packet, by_taking, bytes_moved, CanMove}
-use Rattle.law_microframes.proofs.lemmas.due.Answering.{transaction_moves}
+use Rattle.law_microframes.proofs.lemmas.due.Answering.{ready_transactions_move}
 use Rattle.law_microframes.proofs.lemmas.due.Fields.{its_token}
 use Rattle.law_microframes.proofs.lemmas.due.Turning.{frame_row, no_fault, walked_to}
 use Rattle.law_microframes.proofs.lemmas.due.Visiting.{turn_is, call_made, bytes_read, transacts, asks, is_there, advances, is_taken}
@@ -179,7 +179,7 @@ module _ (fixed : Fixed) (w : World) (n u : ℕ) (name : EpName) (bytes : ℕ) (
       { place = queue_left_by (planned q) sent s.held there reply; bus = transact_after fixed w.bus call.ask call.out } in
       let next : controller_next fixed w ≡ with_turned w (framed (controller_parts w) v) =
       walked_to fixed w row v (ap (λ e. frame_by fixed e w.bus) (asks p s.held s.hand sound s.fresh turn late)) in
-      let moves = transaction_moves fixed w.bus name q can.ready s.queue.high s.queue.addr s.queue.number pid sent
+      let moves = ready_transactions_move fixed w.bus name q can.ready s.queue.high s.queue.addr s.queue.number pid sent
       (length-bytes_at w.memory (pages_of q) (buffer_place q) (planned q).bytes) (is_last_of w.control.frame.index q) in
       is_told (record {
         periodic = ap (λ (x : World). x.control.part) next ∙ ap (part_after Periodic) (transacts p s.held s.hand sound s.fresh turn late);

@@ -25,10 +25,10 @@ use Rattle.claims_driver.specs.Unlinked.{is_led, led_by, led}
 use Rattle.claims_world.specs.Visits.{name_of, next_of, IsLedTo, is_there, leads_on, IsInChain, begins}
 use Rattle.law_frame_words.specs.frame_words.InWords.{shown}
 use Rattle.law_frame_words.proofs.lemmas.frame_words.InChains.{fewer_in}
-use Rattle.law_frame_words.proofs.lemmas.frame_words.Steps.{half_way}
+use Rattle.law_frame_words.proofs.lemmas.frame_words.Steps.{frames_while_under_way}
 use Rattle.law_frame_list.specs.list_closed.Closed.{IsInFrame}
 use Rattle.law_frame_list.proofs.lemmas.list_closed.Chained.{chain_in_frame, first_frame_is, member_of_kept, in_chain, still_linked}
-use Rattle.law_frame_list.proofs.lemmas.list_closed.Structures.{structures_told}
+use Rattle.law_frame_list.proofs.lemmas.list_closed.Structures.{links_tell_structures}
 use Rattle.law_frames.specs.Met.{Kind, AQueue}
 use Rattle.law_descriptors.specs.Meeting.{or_recent, met}
 use Rattle.law_descriptors.specs.RowLaws.{HasFrames}
@@ -36,7 +36,7 @@ use Rattle.law_descriptors.proofs.Finding.{member_kind}
 use Rattle.law_descriptors.proofs.Leading.{led_spread}
 use Rattle.bus_world.specs.World.{World, controller_parts}
 use Rattle.law_world.specs.memory.Mixed.{Standing, IsMixedAt}
-use Rattle.law_world.proofs.lemmas.memory.lemmas.framed_memory.Now.{has_frames, begins_there}
+use Rattle.law_world.proofs.lemmas.memory.lemmas.framed_memory.Now.{now_has_frames, begins_there}
 use Rattle.law_microframes.proofs.lemmas.visits.VisitElements.{structure_name}
 
 -- ---- in the chain that the words link
@@ -120,7 +120,7 @@ module _ (m : Mem) (d : DriverContent) (frames : HasFrames m d) (f : ℕ) (low :
 
   named : (y : Member) → is_linked s y ≡ true → name_of (link_read (id_of y)) ≡ Some (begins y)
   named y there =
-      ap name_of (structures_told d frames.listed (frame_of y) (id_of y)
+      ap name_of (links_tell_structures d frames.listed (frame_of y) (id_of y)
       (record { next = Some y; stands = (there, (first_frame_is y (member_of_kept s y kept there)).1); word = refl }))
       ∙ structure_name d.periodic y
 
@@ -132,7 +132,7 @@ module _ (m : Mem) (d : DriverContent) (frames : HasFrames m d) (f : ℕ) (low :
   by_work (Some v) is member words =
       let has = shown_has s f x kept on stands v (other_name m d frames x on idle v (idle v is) member.1) in
       led_along m d.periodic.list.list s x named (Element f) (shown s v f) has.all has.any
-      (half_way d.periodic.list.list s v (word_at m) f kept frames.spread member.0 member.1 words low)
+      (frames_while_under_way d.periodic.list.list s v (word_at m) f kept frames.spread member.0 member.1 words low)
 
   pub frame_leads : IsLedTo m (begins x) (next_of m (address_of d.periodic.list.list (Element f)))
   frame_leads = by_work d.periodic.list.work refl frames.list.order.member frames.list.words
@@ -143,7 +143,7 @@ pub in_chain_of : (s : Standing) (w : World) (f : ℕ) (x : Member) → IsMixedA
     → is_linked w.driver.periodic.list.members.schedule x ≡ true → stands_in f x ≡ true
     → ((v : Work) → w.driver.periodic.list.work ≡ Some v → v.member ≢ x) → IsInChain w f (begins x)
 in_chain_of s w f x k low on stands idle =
-    let frames : HasFrames w.memory w.driver = has_frames opening_base s.member s.recent s.descs s.parts s.hand s.frame
+    let frames : HasFrames w.memory w.driver = now_has_frames opening_base s.member s.recent s.descs s.parts s.hand s.frame
     (controller_parts w) w.driver k.now in
     let base : w.registers.periodic_list_base ≡ 32 * w.driver.periodic.list.list = ap
     (λ (x : Base). x.periodic_list_base) k.now.framed.runs.ring.registers
@@ -174,7 +174,7 @@ pub queue_met : (s : Standing) (w : World) (q : QueueHead) → IsMixedAt s w
     → is_linked w.driver.periodic.list.members.schedule (Each q) ≡ true
     → ((v : Work) → w.driver.periodic.list.work ≡ Some v → v.member ≢ Each q) → met w.driver s.recent (begins (Each q)) ≡ Some AQueue
 queue_met s w q k on idle =
-    let frames : HasFrames w.memory w.driver = has_frames opening_base s.member s.recent s.descs s.parts s.hand s.frame
+    let frames : HasFrames w.memory w.driver = now_has_frames opening_base s.member s.recent s.descs s.parts s.hand s.frame
     (controller_parts w) w.driver k.now in
     ap (λ (o : Option Kind). or_recent o (s.recent (begins (Each q))))
     (member_kind w.driver.periodic w.driver.periodic.list.list (led w.driver) (Each q)

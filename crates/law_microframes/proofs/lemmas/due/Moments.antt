@@ -7,7 +7,7 @@ use Rattle.script_types.specs.declared.scripts.Event.TheVariants as events
 use Rattle.script_types.specs.declared.scripts.Script.{Script}
 use Rattle.script_text.specs.Faults.{Spells}
 use Rattle.script_fits.proofs.Texts.{spelled_fits}
-use Rattle.law_scripts.proofs.lemmas.script_bytes.Texts.{spelled_bytes}
+use Rattle.law_scripts.proofs.lemmas.script_bytes.Texts.{a_text_spells_bytes}
 use Rattle.hc_interrupt.specs.Turns.{microframe_of}
 use Rattle.periodic_walk.specs.declared.state.Hand.{Hand}
 use Rattle.periodic_walk.specs.declared.state.Hand.TheVariants as hands
@@ -31,7 +31,7 @@ use Rattle.law_microframes.proofs.lemmas.visits.BelongMoments.{scripts_keep_fiel
 use Rattle.law_microframes.proofs.lemmas.visits.ReasonParts.{command_control, command_bus}
 use Rattle.law_microframes.proofs.lemmas.visits.VisitTexts.{lines_fit}
 use Rattle.law_microframes.proofs.lemmas.time.DataMoments.{scripts_send_data}
-use Rattle.law_microframes.proofs.lemmas.time.PaymentTimes.{texts_in_time}
+use Rattle.law_microframes.proofs.lemmas.time.PaymentTimes.{texts_are_in_time}
 use Rattle.claims_world.specs.SoFar.{SoFar, nothing_yet, so_far_next, so_far, HasMoved}
 use Rattle.claims_world.specs.Due.{bytes_moved, DueIsDone}
 use Rattle.law_microframes.specs.due.Laws.{TextsDoWhatIsDue}
@@ -70,10 +70,10 @@ module _ (text : List ℕ) (s : Script) (spelled : Spells text s) where
   known_at : (k : ℕ) → IsKnown (fixed_of s) (moment s k).world (repeats s k)
   known_at k = record {
     mixed = texts_stay_mixed text s spelled k;
-    heads = scripts_keep_fields s (spelled_fits text s spelled) (spelled_bytes text s spelled)
+    heads = scripts_keep_fields s (spelled_fits text s spelled) (a_text_spells_bytes text s spelled)
         (lines_fit s.lines (texts_fit text s spelled) (texts_open_fitting text s spelled)) k;
-    timely = (texts_in_time text s spelled).each k;
-    sends = scripts_send_data s (spelled_fits text s spelled) (spelled_bytes text s spelled)
+    timely = (texts_are_in_time text s spelled).each k;
+    sends = scripts_send_data s (spelled_fits text s spelled) (a_text_spells_bytes text s spelled)
         (lines_fit s.lines (texts_fit text s spelled) (texts_open_fitting text s spelled)) k;
   }
 

@@ -21,11 +21,11 @@ use Rattle.drv_table.specs.Commands.{leave_frames, no_command, finished, or_fini
 use Rattle.drv_table.specs.CancelOffers.{endpoint_members, with_cancel}
 use Rattle.drv_table.specs.Offers.{offered}
 use Rattle.law_driver.specs.run_owners.Accepts.{Accepts, opens, chains, places, transfers, describes, cancels, unchains}
-use Rattle.law_driver.proofs.lemmas.run_owners.Commands.{accepted_for_a_reason}
+use Rattle.law_driver.proofs.lemmas.run_owners.Commands.{each_command_has_its_reason}
 use Rattle.law_driver.proofs.lemmas.run_owners.Stays.{same_view}
 use Rattle.law_driver_ring.proofs.lemmas.walk_members.Descriptions.{desc_of, SameDescs}
 use Rattle.law_queues.specs.open_laws.Opens.{AreNamesApart}
-use Rattle.law_queues.proofs.lemmas.open_names.Apart.{events_apart, accepted_apart}
+use Rattle.law_queues.proofs.lemmas.open_names.Apart.{names_stay_apart, accepted_names_are_apart}
 use Rattle.law_world.specs.steps.receiving_runs.Runs.{IsKeptBy}
 use Rattle.law_world.proofs.lemmas.steps.lemmas.receiving_runs.Runs.{holds_throughout}
 use Rattle.bus_wire.specs.Bus.{fixed_of}
@@ -155,8 +155,8 @@ done_apart d e k =
 -- ---- a command
 
 by_reason : (d : DriverContent) (m : Mem) (o : Offered) → Accepts d m o → AreNamesApart d → AreNamesApart o.driver
-by_reason d m o (opens why) k = accepted_apart d m o (inl why) k
-by_reason d m o (transfers why) k = accepted_apart d m o (inr why) k
+by_reason d m o (opens why) k = accepted_names_are_apart d m o (inl why) k
+by_reason d m o (transfers why) k = accepted_names_are_apart d m o (inr why) k
 by_reason d m o (chains why) k =
     subst (λ (g : Offered). AreNamesApart g.driver) (sym why.is) (pushed_apart d why.desc why.new_name k _ refl)
 by_reason d m o (places why) k =
@@ -175,15 +175,15 @@ command_apart w n cmd k = by (offered w.driver w.memory cmd) refl
   where
     by : (r : Result Offered OfferError) → offered w.driver w.memory cmd ≡ r → AreNamesApart (commanded_by w n (name_in cmd) r).driver
     by (Err why) is = k
-    by (Ok o) is = by_reason w.driver w.memory o (accepted_for_a_reason w.driver w.memory cmd o is) k
+    by (Ok o) is = by_reason w.driver w.memory o (each_command_has_its_reason w.driver w.memory cmd o is) k
 
 is_kept : (s : Script) → IsKeptBy (fixed_of s) AnyCommand (λ w. AreNamesApart w.driver)
 is_kept s = record {
-  driver = λ w k. events_apart (driver_parts w) k;
+  driver = λ w k. names_stay_apart (driver_parts w) k;
   controller = λ w k. k;
   command = λ w line cmd can room k. command_apart w line cmd k;
 }
 
-pub scripts_apart : ScriptsNameApart
-scripts_apart s fit k =
+pub scripts_name_apart : ScriptsNameApart
+scripts_name_apart s fit k =
     holds_throughout AnyCommand (λ w. AreNamesApart w.driver) s fit (any_lines s.lines) (λ e f x y one other. absurd (cc)) (is_kept s) k

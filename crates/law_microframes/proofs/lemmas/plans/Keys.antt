@@ -28,7 +28,7 @@ use Rattle.bus_world.specs.Budgets.{moment}
 use Rattle.bus_world.proofs.Budgeted.{script_admits}
 use Rattle.law_driver.specs.planned_endpoints.Planned.{placed_by, planned, IsPlanned, IsEndpointOf}
 use Rattle.law_driver.specs.queued_drivers.Queued.{IsOfWay, FitsKind}
-use Rattle.law_driver.proofs.lemmas.planned_endpoints.Laws.{planned_endpoint}
+use Rattle.law_driver.proofs.lemmas.planned_endpoints.Laws.{what_counts_is_an_endpoint}
 use Rattle.law_queues.specs.open_laws.Opens.{AreNamesApart}
 use Rattle.law_world.specs.memory.Mixed.{IsMixedWorld}
 use Rattle.law_world.proofs.lemmas.memory.Together.{texts_stay_mixed}
@@ -37,8 +37,8 @@ use Rattle.law_hub_plans.specs.Laws.{IsPlacedRight}
 use Rattle.law_hub_plans.proofs.PlansFit.{hub_plans_fit}
 use Rattle.law_microframes.specs.plans.Laws.{PlacesAreRight, TextsPlanHubs}
 use Rattle.law_microframes.specs.plans.Plans.{key_by, key_at}
-use Rattle.law_microframes.proofs.lemmas.plans.Right.{scripts_right}
-use Rattle.law_microframes.proofs.lemmas.plans.Apart.{scripts_apart}
+use Rattle.law_microframes.proofs.lemmas.plans.Right.{scripts_place_right}
+use Rattle.law_microframes.proofs.lemmas.plans.Apart.{scripts_name_apart}
 
 -- ---- an endpoint in the plan is no control endpoint
 
@@ -189,7 +189,7 @@ its_own : (d : DriverContent) (i : ℕ) (y : Placed) → IsPlanned d
     → ((e : ℕ) (x : Endpoint) → slice_get d.endpoints e ≡ Some x → FitsKind x.desc)
     → PlacesAreRight d → slice_get d.periodic.plan.placed i ≡ Some y → IsOwn d y
 its_own d i y is kinds_fit right at =
-    let own : IsEndpointOf d y = planned_endpoint d i y is at in
+    let own : IsEndpointOf d y = what_counts_is_an_endpoint d i y is at in
     record {
       endpoint = own.endpoint;
       here = own.here;
@@ -207,16 +207,17 @@ texts_plan_apart text s spelled k =
     let d : DriverContent = (moment s k).world.driver in
     let mixed : IsMixedWorld (moment s k).world = texts_stay_mixed text s spelled k in
     let is : IsPlanned d = mixed.mixed.now.planned in
-    let right : PlacesAreRight d = scripts_right s fit k in
+    let right : PlacesAreRight d = scripts_place_right s fit k in
     let own : AllByRecursion (IsOwn d) d.periodic.plan.placed =
     all_of (IsOwn d) d.periodic.plan.placed (λ i y at. its_own d i y is mixed.mixed.turns.kinds_fit right at) in
     let ys : List Placed = d.periodic.plan.placed in
     let up : Increase ys = subst Increase (sym is) (planned_grows 0 d.endpoints).increase in
-    keys_apart d ys (scripts_apart s fit k) own up
+    keys_apart d ys (scripts_name_apart s fit k) own up
 
 pub texts_plan_hubs : TextsPlanHubs
 texts_plan_hubs text s spelled k hub port f address number frame =
     let fit = spelled_fits text s spelled in
     let d : DriverContent = (moment s k).world.driver in
-    hub_plans_fit (key_at d) d.periodic.plan.placed hub port f address number frame (script_admits s fit k).fits (scripts_right s fit k)
+    hub_plans_fit (key_at d) d.periodic.plan.placed hub port f address number frame (script_admits s fit k).fits
+    (scripts_place_right s fit k)
     (kept_apart (key_at d) (is_below hub port f) d.periodic.plan.placed (texts_plan_apart text s spelled k))

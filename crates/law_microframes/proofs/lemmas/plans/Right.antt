@@ -26,8 +26,8 @@ use Rattle.drv_table.specs.Rows.{driver_row, after_driver_row}
 use Rattle.drv_chains.proofs.Words.{all_kept}
 use Rattle.law_admission.specs.Budgets.{Account, account_of, taken_out, account_after}
 use Rattle.law_admission.specs.Opens.{OpenAfter}
-use Rattle.law_admission.proofs.Events.{account_of_event}
-use Rattle.law_admission.proofs.Commands.{account_of_command}
+use Rattle.law_admission.proofs.Events.{events_take_out_what_left}
+use Rattle.law_admission.proofs.Commands.{commands_place_the_best}
 use Rattle.law_world.specs.steps.receiving_runs.Runs.{KindOfLine, IsKeptBy}
 use Rattle.law_world.proofs.lemmas.steps.lemmas.receiving_runs.Runs.{holds_throughout}
 use Rattle.bus_wire.specs.Bus.{fixed_of}
@@ -63,7 +63,7 @@ after_right (rows.ReleaseRemoved (removed.Endpoint e)) d all = out_right (accoun
 after_right _ d all = all
 
 events_right : (p : Parts) → PlacesAreRight p.driver → PlacesAreRight (after_driver_row (driver_row p) p).driver
-events_right p all = subst InAccount (sym (account_of_event (driver_row p) p)) (after_right (driver_row p) p.driver all)
+events_right p all = subst InAccount (sym (events_take_out_what_left (driver_row p) p)) (after_right (driver_row p) p.driver all)
 
 its_want : (d : DriverContent) (x : EpDesc) → IsWant (want_of 0 x) → IsWant (asked d x)
 its_want d x want = record {
@@ -92,23 +92,24 @@ same_plan d o all same = subst InAccount (sym same) all
 commands_right : (d : DriverContent) (m : Mem) (cmd : Cmd) (o : Offered) → IsOffered d.room cmd → PlacesAreRight d
     → offered d m cmd ≡ Ok o → PlacesAreRight o.driver
 commands_right d m (commands.OpenEp x) o room all is =
-    open_right d x o (is_periodic x.kind) refl room.3 all (account_of_command d m (commands.OpenEp x) o is)
-commands_right d m (commands.Get name len by) o room all is = same_plan d o all (account_of_command d m (commands.Get name len by) o is)
+    open_right d x o (is_periodic x.kind) refl room.3 all (commands_place_the_best d m (commands.OpenEp x) o is)
+commands_right d m (commands.Get name len by) o room all is =
+    same_plan d o all (commands_place_the_best d m (commands.Get name len by) o is)
 commands_right d m (commands.Put name bytes by) o room all is =
-    same_plan d o all (account_of_command d m (commands.Put name bytes by) o is)
+    same_plan d o all (commands_place_the_best d m (commands.Put name bytes by) o is)
 commands_right d m (commands.Control name setup bytes) o room all is =
-    same_plan d o all (account_of_command d m (commands.Control name setup bytes) o is)
+    same_plan d o all (commands_place_the_best d m (commands.Control name setup bytes) o is)
 commands_right d m (commands.Iso name count len seed) o room all is =
-    same_plan d o all (account_of_command d m (commands.Iso name count len seed) o is)
-commands_right d m (commands.Cancel name) o room all is = same_plan d o all (account_of_command d m (commands.Cancel name) o is)
-commands_right d m (commands.Clear name) o room all is = same_plan d o all (account_of_command d m (commands.Clear name) o is)
-commands_right d m (commands.Reset port) o room all is = same_plan d o all (account_of_command d m (commands.Reset port) o is)
-commands_right d m (commands.Give port) o room all is = same_plan d o all (account_of_command d m (commands.Give port) o is)
+    same_plan d o all (commands_place_the_best d m (commands.Iso name count len seed) o is)
+commands_right d m (commands.Cancel name) o room all is = same_plan d o all (commands_place_the_best d m (commands.Cancel name) o is)
+commands_right d m (commands.Clear name) o room all is = same_plan d o all (commands_place_the_best d m (commands.Clear name) o is)
+commands_right d m (commands.Reset port) o room all is = same_plan d o all (commands_place_the_best d m (commands.Reset port) o is)
+commands_right d m (commands.Give port) o room all is = same_plan d o all (commands_place_the_best d m (commands.Give port) o is)
 commands_right d m (commands.DiskRead addr lba count) o room all is =
-    same_plan d o all (account_of_command d m (commands.DiskRead addr lba count) o is)
+    same_plan d o all (commands_place_the_best d m (commands.DiskRead addr lba count) o is)
 commands_right d m (commands.DiskWrite addr lba bytes) o room all is =
-    same_plan d o all (account_of_command d m (commands.DiskWrite addr lba bytes) o is)
-commands_right d m (commands.Revive addr) o room all is = same_plan d o all (account_of_command d m (commands.Revive addr) o is)
+    same_plan d o all (commands_place_the_best d m (commands.DiskWrite addr lba bytes) o is)
+commands_right d m (commands.Revive addr) o room all is = same_plan d o all (commands_place_the_best d m (commands.Revive addr) o is)
 
 command_right : (w : World) (n : ℕ) (cmd : Cmd) → IsOffered w.driver.room cmd → PlacesAreRight w.driver
     → PlacesAreRight (commanded w n cmd).driver
@@ -125,5 +126,5 @@ is_kept s = record {
   command = λ w line cmd can room all. command_right w line cmd room all;
 }
 
-pub scripts_right : ScriptsPlaceRight
-scripts_right s fit k = holds_throughout AnyCommand (λ w. PlacesAreRight w.driver) s fit (any_lines s.lines) tt (is_kept s) k
+pub scripts_place_right : ScriptsPlaceRight
+scripts_place_right s fit k = holds_throughout AnyCommand (λ w. PlacesAreRight w.driver) s fit (any_lines s.lines) tt (is_kept s) k

@@ -24,8 +24,8 @@ by_hand x p (hands.Queue h) held tame = queue_priced x p h held tame
 by_hand x p (hands.Itd h) held tame = itd_priced x p h held
 by_hand x p (hands.Sitd h) held tame = absurd held
 
-pub event_priced : (x : Placed) (p : FramePlace) (hand : Hand) → p.walk.hand ≡ Some hand → IsInHandOf x p.walk.index hand → TakesData p hand → IsPriced x p hand (effect_of p)
-event_priced x p hand e held tame = subst (λ (o : Option Hand). IsPriced x p hand (effect_at p o)) (sym e) (by_hand x p hand held tame)
+pub events_are_priced : (x : Placed) (p : FramePlace) (hand : Hand) → p.walk.hand ≡ Some hand → IsInHandOf x p.walk.index hand → TakesData p hand → IsPriced x p hand (effect_of p)
+events_are_priced x p hand e held tame = subst (λ (o : Option Hand). IsPriced x p hand (effect_at p o)) (sym e) (by_hand x p hand held tame)
 
 -- ---- by the reply
 
@@ -33,17 +33,17 @@ pub priced_charging : (x : Placed) (p : FramePlace) (hand : Hand) (e : Effect) (
 priced_charging x p hand (Leaves q) r priced = inl priced
 priced_charging x p hand (Asks ask out by) r priced = inr (priced r)
 
-pub event_charged : (x : Placed) (p : FramePlace) (hand : Hand) (r : Reply) → p.walk.hand ≡ Some hand → IsInHandOf x p.walk.index hand → TakesData p hand → IsCharging x p hand (after p r)
-event_charged x p hand r e held tame = priced_charging x p hand (effect_of p) r (event_priced x p hand e held tame)
+pub events_are_charged : (x : Placed) (p : FramePlace) (hand : Hand) (r : Reply) → p.walk.hand ≡ Some hand → IsInHandOf x p.walk.index hand → TakesData p hand → IsCharging x p hand (after p r)
+events_are_charged x p hand r e held tame = priced_charging x p hand (effect_of p) r (events_are_priced x p hand e held tame)
 
 effect_charged : {W : Type 0} (transacts : W → Ask → List ℕ → Reply → W → Type 0) (x : Placed) (p q : FramePlace) (before later : W) (hand : Hand) (e : Effect) → IsPriced x p hand e
     → HasEffect transacts e before q later → IsCharging x p hand q
 effect_charged transacts x p q before later hand (Leaves new) priced has = inl (subst (λ (z : FramePlace). IsPriced x p hand (Leaves z)) (sym has.0) priced)
 effect_charged transacts x p q before later hand (Asks ask out by) priced has = subst (IsCharging x p hand) (sym has.place) (inr (priced has.reply))
 
-pub leads_charged : {W : Type 0} (transacts : W → Ask → List ℕ → Reply → W → Type 0) (x : Placed) (p q : FramePlace) (before later : W) (hand : Hand) → p.walk.hand ≡ Some hand → IsInHandOf x p.walk.index hand
+pub leads_are_charged : {W : Type 0} (transacts : W → Ask → List ℕ → Reply → W → Type 0) (x : Placed) (p q : FramePlace) (before later : W) (hand : Hand) → p.walk.hand ≡ Some hand → IsInHandOf x p.walk.index hand
     → TakesData p hand → Leads transacts p before q later → IsCharging x p hand q
-leads_charged transacts x p q before later hand e held tame has = effect_charged transacts x p q before later hand (effect_of p) (event_priced x p hand e held tame) has
+leads_are_charged transacts x p q before later hand e held tame has = effect_charged transacts x p q before later hand (effect_of p) (events_are_priced x p hand e held tame) has
 
 -- ---- with nothing in hand
 
@@ -55,22 +55,22 @@ chain_index : (row : ChainRow) (w : Walk) → (chain_walk row w).index ≡ w.ind
 chain_index chain_rows.Fault w = refl
 chain_index _ w = refl
 
-pub chain_free : (p : FramePlace) → p.walk.hand ≡ None → IsFree p (effect_of p)
-chain_free p e = subst (λ (o : Option Hand). IsFree p (effect_at p o)) (sym e) (chain_left (chain_row p.memory p.walk.cursor) p.walk, chain_index (chain_row p.memory p.walk.cursor) p.walk)
+pub chains_are_free : (p : FramePlace) → p.walk.hand ≡ None → IsFree p (effect_of p)
+chains_are_free p e = subst (λ (o : Option Hand). IsFree p (effect_at p o)) (sym e) (chain_left (chain_row p.memory p.walk.cursor) p.walk, chain_index (chain_row p.memory p.walk.cursor) p.walk)
 
 free_stays : (p : FramePlace) (e : Effect) (r : Reply) → IsFree p e → (left_by e r).walk.left ≡ p.walk.left
 free_stays p (Leaves q) r free = free.0
 free_stays p (Asks ask out by) r free = absurd free
 
 pub chain_stays : (p : FramePlace) (r : Reply) → p.walk.hand ≡ None → (after p r).walk.left ≡ p.walk.left
-chain_stays p r e = free_stays p (effect_of p) r (chain_free p e)
+chain_stays p r e = free_stays p (effect_of p) r (chains_are_free p e)
 
 effect_stays : {W : Type 0} (transacts : W → Ask → List ℕ → Reply → W → Type 0) (p q : FramePlace) (before later : W) (e : Effect) → IsFree p e → HasEffect transacts e before q later → q.walk.left ≡ p.walk.left
 effect_stays transacts p q before later (Leaves new) free has = ap (λ (z : FramePlace). z.walk.left) has.0 ∙ free.0
 effect_stays transacts p q before later (Asks ask out by) free has = absurd free
 
-pub leads_stay : {W : Type 0} (transacts : W → Ask → List ℕ → Reply → W → Type 0) (p q : FramePlace) (before later : W) → p.walk.hand ≡ None → Leads transacts p before q later → charge p q ≡ 0
-leads_stay transacts p q before later e has = let same = effect_stays transacts p q before later (effect_of p) (chain_free p e) has in omega (arith, same)
+pub chains_cost_nothing : {W : Type 0} (transacts : W → Ask → List ℕ → Reply → W → Type 0) (p q : FramePlace) (before later : W) → p.walk.hand ≡ None → Leads transacts p before q later → charge p q ≡ 0
+chains_cost_nothing transacts p q before later e has = let same = effect_stays transacts p q before later (effect_of p) (chains_are_free p e) has in omega (arith, same)
 
 -- ---- in time
 
@@ -79,5 +79,6 @@ hand_in_time x p (hands.Queue h) held enough = queue_in_time x p h held enough
 hand_in_time x p (hands.Itd h) held enough = itd_in_time x p h held enough
 hand_in_time x p (hands.Sitd h) held enough = absurd held
 
-pub event_in_time : (x : Placed) (p : FramePlace) (hand : Hand) → p.walk.hand ≡ Some hand → IsInHandOf x p.walk.index hand → largest x.want ≤ p.walk.left → is_late p ≡ false
-event_in_time x p hand e held enough = subst (λ (o : Option Hand). is_late_at p o ≡ false) (sym e) (hand_in_time x p hand held enough)
+pub enough_time_skips_nothing : (x : Placed) (p : FramePlace) (hand : Hand) → p.walk.hand ≡ Some hand → IsInHandOf x p.walk.index hand → largest x.want ≤ p.walk.left → is_late p ≡ false
+enough_time_skips_nothing x p hand e held enough =
+    subst (λ (o : Option Hand). is_late_at p o ≡ false) (sym e) (hand_in_time x p hand held enough)

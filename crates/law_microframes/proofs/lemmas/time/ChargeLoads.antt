@@ -20,8 +20,8 @@ use Rattle.law_budgets.specs.visit_prices.Spent.{IsAmong, largest}
 use Rattle.law_budgets.proofs.lemmas.visit_prices.Sums.{others, taken_out, stays, placed_cost}
 use Rattle.law_microframes.specs.time.Charges.{IsInHandOf, IsHeldFor}
 use Rattle.law_microframes.specs.time.ChargeLoads.{PaidVisit, IsPaidIn, ArePaidApart, ArePaidOf, paid_in, IsLeftAfter}
-use Rattle.law_microframes.proofs.lemmas.time.ChargeSums.{charges_placed}
-use Rattle.law_microframes.proofs.lemmas.time.ChargeEvents.{event_in_time}
+use Rattle.law_microframes.proofs.lemmas.time.ChargeSums.{charges_are_placed}
+use Rattle.law_microframes.proofs.lemmas.time.ChargeEvents.{enough_time_skips_nothing}
 
 -- ---- a visit
 
@@ -33,13 +33,13 @@ speed_of x u (hands.Sitd h) held = absurd held
 pub held_placed : (x : Placed) (u : ℕ) (hand : Hand) (paid : ℕ) → IsHeldFor x u hand paid → is_active x.placement (u / 8) ≡ true
     → paid ≤ cost_at u x
 held_placed x u hand paid held on =
-    let few = charges_placed x u hand paid held on in
+    let few = charges_are_placed x u hand paid held on in
     let most = placed_cost x u (speed_of x u hand held.of) in
     omega (arith, few, most)
 
-pub held_paid : (x : Placed) (u : ℕ) (hand : Hand) (paid : ℕ) → IsHeldFor x u hand paid → is_active x.placement (u / 8) ≡ true
+pub held_are_paid : (x : Placed) (u : ℕ) (hand : Hand) (paid : ℕ) → IsHeldFor x u hand paid → is_active x.placement (u / 8) ≡ true
     → IsPaidIn u (record { of = x; paid = paid })
-held_paid x u hand paid held on = record { within = held_placed x u hand paid held on }
+held_are_paid x u hand paid held on = record { within = held_placed x u hand paid held on }
 
 -- ---- together
 
@@ -62,12 +62,12 @@ paid_most u placed (v ∷ vs) paid there apart =
     taken_out (cost_at u) x placed there.0.place there.0.there in
     omega (arith, rest, first, sum, whole)
 
-pub paid_within : (placed : List Placed) (u : ℕ) (vs : List PaidVisit) → ArePaidOf placed vs → AllByRecursion (IsPaidIn u) vs → paid_in vs ≤ load placed u
-paid_within placed u vs of paid = paid_most u placed vs paid of.among of.apart
+pub paid_is_within_load : (placed : List Placed) (u : ℕ) (vs : List PaidVisit) → ArePaidOf placed vs → AllByRecursion (IsPaidIn u) vs → paid_in vs ≤ load placed u
+paid_is_within_load placed u vs of paid = paid_most u placed vs paid of.among of.apart
 
-pub paid_leaves : (placed : List Placed) (u : ℕ) (vs : List PaidVisit) → Fits placed → u < 8192 → ArePaidOf placed vs → AllByRecursion (IsPaidIn u) vs → paid_in vs ≤ 100000000
-paid_leaves placed u vs fits small of paid =
-    let few = paid_within placed u vs of paid in
+pub paid_leaves_a_fifth : (placed : List Placed) (u : ℕ) (vs : List PaidVisit) → Fits placed → u < 8192 → ArePaidOf placed vs → AllByRecursion (IsPaidIn u) vs → paid_in vs ≤ 100000000
+paid_leaves_a_fifth placed u vs fits small of paid =
+    let few = paid_is_within_load placed u vs of paid in
     let most = fits.loads u small in
     omega (arith, few, most)
 
@@ -83,12 +83,12 @@ bus_short kinds.Bulk directions.Out n few = omega (arith, few)
 bus_short kinds.Interrupt directions.In n few = omega (arith, few)
 bus_short kinds.Interrupt directions.Out n few = omega (arith, few)
 
-pub transactions_short : (w : Want) → w.max ≤ 1024 → largest w ≤ 21000000
-transactions_short w few = bus_short w.kind w.dir w.max few
+pub transactions_are_short : (w : Want) → w.max ≤ 1024 → largest w ≤ 21000000
+transactions_are_short w few = bus_short w.kind w.dir w.max few
 
-pub paid_in_time : (placed : List Placed) (vs : List PaidVisit) (x : Placed) (p : FramePlace) (hand : Hand) → IsLeftAfter placed p vs → p.walk.hand ≡ Some hand → IsInHandOf x p.walk.index hand → x.want.max ≤ 1024
+pub paid_visits_are_in_time : (placed : List Placed) (vs : List PaidVisit) (x : Placed) (p : FramePlace) (hand : Hand) → IsLeftAfter placed p vs → p.walk.hand ≡ Some hand → IsInHandOf x p.walk.index hand → x.want.max ≤ 1024
     → is_late p ≡ false
-paid_in_time placed vs x p hand is e held few =
-    let most = paid_leaves placed p.walk.index vs is.fits is.small is.of is.paid in
-    let one = transactions_short x.want few in
-    event_in_time x p hand e held (omega (arith, most, one, is.left))
+paid_visits_are_in_time placed vs x p hand is e held few =
+    let most = paid_leaves_a_fifth placed p.walk.index vs is.fits is.small is.of is.paid in
+    let one = transactions_are_short x.want few in
+    enough_time_skips_nothing x p hand e held (omega (arith, most, one, is.left))

@@ -50,11 +50,11 @@ made_placed x u hand held on =
 times : (n m c paid : ℕ) → n ≤ m → paid ≤ n * c → paid ≤ m * c
 times n m c paid few charged = let more : n * c ≤ m * c = mul-le-mul_right c few in omega (arith, more, charged)
 
-pub charges_bounded : (x : Placed) (u : ℕ) (hand : Hand) (paid : ℕ) → IsHeldFor x u hand paid → paid ≤ x.want.multi * largest x.want
-charges_bounded x u hand paid held = times (made_of hand) x.want.multi (largest x.want) paid (made_most x u hand held.of) held.charged
+pub charges_are_bounded : (x : Placed) (u : ℕ) (hand : Hand) (paid : ℕ) → IsHeldFor x u hand paid → paid ≤ x.want.multi * largest x.want
+charges_are_bounded x u hand paid held = times (made_of hand) x.want.multi (largest x.want) paid (made_most x u hand held.of) held.charged
 
-pub charges_placed : (x : Placed) (u : ℕ) (hand : Hand) (paid : ℕ) → IsHeldFor x u hand paid → is_active x.placement (u / 8) ≡ true → paid ≤ most_in x u * largest x.want
-charges_placed x u hand paid held on = times (made_of hand) (most_in x u) (largest x.want) paid (made_placed x u hand held.of on) held.charged
+pub charges_are_placed : (x : Placed) (u : ℕ) (hand : Hand) (paid : ℕ) → IsHeldFor x u hand paid → is_active x.placement (u / 8) ≡ true → paid ≤ most_in x u * largest x.want
+charges_are_placed x u hand paid held on = times (made_of hand) (most_in x u) (largest x.want) paid (made_placed x u hand held.of on) held.charged
 
 -- ---- an event adds its charge
 
@@ -95,9 +95,9 @@ works_summed x p q hand paid held works = record {
   ends = λ e. absurd (some_none works.copy (sym works.hand ∙ e));
 }
 
-pub charges_summed : (x : Placed) (p q : FramePlace) (hand : Hand) (paid : ℕ) → IsHeldFor x p.walk.index hand paid → IsCharging x p hand q → IsSummed x p paid q
-charges_summed x p q hand paid held (inl rests) = rests_summed x p q hand paid held rests
-charges_summed x p q hand paid held (inr works) = works_summed x p q hand paid held works
+pub charges_are_summed : (x : Placed) (p q : FramePlace) (hand : Hand) (paid : ℕ) → IsHeldFor x p.walk.index hand paid → IsCharging x p hand q → IsSummed x p paid q
+charges_are_summed x p q hand paid held (inl rests) = rests_summed x p q hand paid held rests
+charges_are_summed x p q hand paid held (inr works) = works_summed x p q hand paid held works
 
 -- ---- a visit begins
 
@@ -109,8 +109,8 @@ fetched p r row free is =
 least : (n m k : ℕ) → max 1 n ≡ m → 1 ≤ m
 least n m k e = omega (arith, e)
 
-pub head_begins : (x : Placed) (p : FramePlace) (a : ℕ) (q : Qh) (r : Reply) → BeginsHead x p a q → Begins x p (hands.Queue (queue_copy a q)) (after p r)
-head_begins x p a q r f =
+pub head_fetches_begin_charges : (x : Placed) (p : FramePlace) (a : ℕ) (q : Qh) (r : Reply) → BeginsHead x p a q → Begins x p (hands.Queue (queue_copy a q)) (after p r)
+head_fetches_begin_charges x p a q r f =
     subst (Begins x p (hands.Queue (queue_copy a q))) (sym (fetched p r (rows.Queue a q) f.free f.row))
     (record {
       left = refl;
@@ -132,9 +132,9 @@ few_packets : (b : Bool) (multi n : ℕ) → 1 ≤ multi → (1 ≤ (if b then m
 few_packets true multi n some = (some, omega arith)
 few_packets false multi n some = (omega arith, omega (arith, some))
 
-pub itd_begins : (x : Placed) (p : FramePlace) (a : ℕ) (v : Itd) (r : Reply) → BeginsItd x p a v → Begins x p (hands.Itd (itd_copy p a v)) (after p r)
+pub descriptor_fetches_begin_charges : (x : Placed) (p : FramePlace) (a : ℕ) (v : Itd) (r : Reply) → BeginsItd x p a v → Begins x p (hands.Itd (itd_copy p a v)) (after p r)
 unfolding fetched_itd
-itd_begins x p a v r f =
+descriptor_fetches_begin_charges x p a v r f =
     let few = few_packets v.dir_in v.multi (packets_for (slot_of (p.walk.index % 8) v).length v.max) f.some in
     subst (Begins x p (hands.Itd (itd_copy p a v))) (sym (fetched p r (rows.Itd a v) f.free f.row))
     (record {

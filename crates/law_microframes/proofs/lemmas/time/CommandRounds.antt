@@ -16,7 +16,7 @@ use Rattle.drv_table.specs.CancelOffers.{endpoint_members, with_cancel, first_en
 use Rattle.law_driver.specs.run_owners.Accepts.{Accepts, Opens, opens, chains, places, transfers, describes, cancels, unchains}
 use Rattle.claims_driver.specs.Leaving.{HasOwners}
 use Rattle.claims_base.specs.Controller.{opening_base}
-use Rattle.law_driver.proofs.lemmas.run_owners.Commands.{accepted_for_a_reason}
+use Rattle.law_driver.proofs.lemmas.run_owners.Commands.{each_command_has_its_reason}
 use Rattle.law_driver.proofs.lemmas.run_owners.Orders.{times_both}
 use Rattle.law_driver.proofs.lemmas.run_owners.Released.{set_here, set_there}
 use Rattle.claims_driver.specs.Ring.{link_in, IsQueueOf, IsAmong}
@@ -40,8 +40,8 @@ use Rattle.bus_world.specs.World.{World, controller_parts, name_in, commanded_by
 use Rattle.law_world.specs.memory.framed_memory.Now.{IsFramedNow}
 use Rattle.law_world.specs.memory.Mixed.{Standing, IsMixedAt}
 use Rattle.law_world.proofs.lemmas.memory.CommandMemory.{placed_now, described_now}
-use Rattle.law_world.proofs.lemmas.memory.lemmas.framed_memory.Chained.{chain_now}
-use Rattle.law_world.proofs.lemmas.memory.lemmas.framed_memory.QueueAccepting.{open_now, transfer_now, cancel_now, unchain_now}
+use Rattle.law_world.proofs.lemmas.memory.lemmas.framed_memory.Chained.{chain_keeps_now}
+use Rattle.law_world.proofs.lemmas.memory.lemmas.framed_memory.QueueAccepting.{open_keeps_now, transfer_keeps_now, cancel_keeps_now, unchain_keeps_now}
 use Rattle.law_microframes.specs.visits.Ranks.{next_of}
 use Rattle.law_microframes.proofs.lemmas.visits.ToldLinks.{HasOwn, told_same}
 use Rattle.law_microframes.specs.time.Heights.{head_at}
@@ -117,19 +117,19 @@ module _ (s : Standing) (w : World) (k : IsMixedAt s w) (line : ℕ) (cmd : Cmd)
 
   module _ (o : Offered) (room : IsOffered w.driver.room cmd) (is : offered w.driver w.memory cmd ≡ Ok o) where
     reason : Accepts w.driver w.memory o
-    reason = accepted_for_a_reason w.driver w.memory cmd o is
+    reason = each_command_has_its_reason w.driver w.memory cmd o is
 
     abbrev Now : Type 0
     Now = IsFramedNow opening_base s.member s.recent s.descs s.parts s.hand s.frame (with_memory (controller_parts w) o.memory) o.driver
 
     now_by : Accepts w.driver w.memory o → Now
-    now_by (opens why) = open_now opening_base s.member s.recent s.descs s.parts s.hand s.frame (controller_parts w) w.driver cmd o k.now why room is
-    now_by (chains why) = chain_now opening_base s.member s.recent s.descs s.parts s.hand s.frame (controller_parts w) w.driver cmd o k.now why room is
+    now_by (opens why) = open_keeps_now opening_base s.member s.recent s.descs s.parts s.hand s.frame (controller_parts w) w.driver cmd o k.now why room is
+    now_by (chains why) = chain_keeps_now opening_base s.member s.recent s.descs s.parts s.hand s.frame (controller_parts w) w.driver cmd o k.now why room is
     now_by (places why) = placed_now opening_base s.member s.recent s.descs s.parts s.hand s.frame (controller_parts w) w.driver cmd o k.now why room is
-    now_by (transfers why) = transfer_now opening_base s.member s.recent s.descs s.parts s.hand s.frame (controller_parts w) w.driver cmd o k.now why room is
+    now_by (transfers why) = transfer_keeps_now opening_base s.member s.recent s.descs s.parts s.hand s.frame (controller_parts w) w.driver cmd o k.now why room is
     now_by (describes why) = described_now opening_base s.member s.recent s.descs s.parts s.hand s.frame (controller_parts w) w.driver cmd o k.now why room is
-    now_by (cancels why) = cancel_now opening_base s.member s.recent s.descs s.parts s.hand s.frame (controller_parts w) w.driver cmd o k.now why room is
-    now_by (unchains why) = unchain_now opening_base s.member s.recent s.descs s.parts s.hand s.frame (controller_parts w) w.driver cmd o k.now why room is
+    now_by (cancels why) = cancel_keeps_now opening_base s.member s.recent s.descs s.parts s.hand s.frame (controller_parts w) w.driver cmd o k.now why room is
+    now_by (unchains why) = unchain_keeps_now opening_base s.member s.recent s.descs s.parts s.hand s.frame (controller_parts w) w.driver cmd o k.now why room is
 
     now : Now
     now = now_by reason

@@ -46,8 +46,8 @@ all_below n (v ∷ vs) all q has =
     (λ (later : list_any (nat_eq q) (blocks vs) ≡ true). all_below n vs all.1 q later)
     (or_cases (nat_eq q (v / 32)) (list_any (nat_eq q) (blocks vs)) has)
 
-pub fewer_than_blocks : AreFewerThanBlocks
-fewer_than_blocks n vs once all = subst (λ (many : ℕ). many ≤ n) (as_many vs) (length-le_from_distinct_below (blocks vs) n (distinct n vs once all) (all_below n vs all))
+pub are_fewer_than_blocks : AreFewerThanBlocks
+are_fewer_than_blocks n vs once all = subst (λ (many : ℕ). many ≤ n) (as_many vs) (length-le_from_distinct_below (blocks vs) n (distinct n vs once all) (all_below n vs all))
 
 within_words : (n v : ℕ) → v % 32 ≡ 0 → v + 32 ≤ 4 * n → v < 32 * (n / 8)
 within_words n v aligned within = omega (arith, aligned, within)
@@ -56,5 +56,5 @@ all_within : (n : ℕ) (vs : List ℕ) → AllByRecursion (IsBlockInWords n) vs 
 all_within n [] all = tt
 all_within n (v ∷ vs) all = (record { aligned = all.0.aligned; below = within_words n v all.0.aligned all.0.within }, all_within n vs all.1)
 
-pub fewer_than_words : AreFewerThanWords
-fewer_than_words n vs once all = fewer_than_blocks (n / 8) vs once (all_within n vs all)
+pub are_fewer_than_words : AreFewerThanWords
+are_fewer_than_words n vs once all = are_fewer_than_blocks (n / 8) vs once (all_within n vs all)

@@ -55,14 +55,14 @@ dear_of p _ t (has_time copy c) is =
     omega (arith, price, prices_are_at_least copy.queue_head)
 dear_of p _ t (is_settled copy outcome c) is = absurd cc
 
-pub paid_where_made : IsPaidWhereMade
-paid_where_made p t is = record { dear = dear_of (started p) (event_row p) t (each_row_has_its_cause (started p)) is; enough = transactions_fit p t is }
+pub is_paid_where_made : IsPaidWhereMade
+is_paid_where_made p t is = record { dear = dear_of (started p) (event_row p) t (each_row_has_its_cause (started p)) is; enough = transactions_fit p t is }
 
 -- ---- one after the other
 
 one_more : (n price left : ℕ) → least_price ≤ price → price ≤ left → n ≤ (left - price) / least_price → suc n ≤ left / least_price
 one_more n price left dear enough few = omega (arith, dear, enough, few)
 
-pub made_few : AreMadeFew
-made_few [] left made = omega arith
-made_few (price ∷ prices) left made = one_more (length prices) price left made.0 made.1.0 (made_few prices (left - price) made.1.1)
+pub are_made_few : AreMadeFew
+are_made_few [] left made = omega arith
+are_made_few (price ∷ prices) left made = one_more (length prices) price left made.0 made.1.0 (are_made_few prices (left - price) made.1.1)

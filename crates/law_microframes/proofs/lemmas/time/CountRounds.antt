@@ -2,7 +2,7 @@
 use Rattle.std.proofs.Common.{◌≡◌, ℕ, ◌*◌, ◌%◌, ◌==◌, Bool, true, false, List, [], ◌∷◌, Option, Some, None, if◌then◌else◌, refl, arith}
 use Rattle.std.specs.List.{AllByRecursion}
 use Rattle.script_fits.proofs.Texts.{spelled_fits}
-use Rattle.law_scripts.proofs.lemmas.script_bytes.Texts.{spelled_bytes}
+use Rattle.law_scripts.proofs.lemmas.script_bytes.Texts.{a_text_spells_bytes}
 use Rattle.word_mem.specs.Memory.{Mem, IsShaped}
 use Rattle.qh_qtd.specs.declared.queue_head.Qh.{Qh}
 use Rattle.mem_queues.specs.Structures.{reaches_queue_head, queue_head_at_address}
@@ -29,7 +29,7 @@ use Rattle.law_microframes.proofs.lemmas.time.RoundMoments.{rounds_apart}
 use Rattle.law_microframes.proofs.lemmas.time.RoundsTogether.{scripts_round_once}
 use Rattle.law_microframes.specs.time.Counts.{IsBlockBelow, TextsRoundFew}
 use Rattle.claims_world.specs.Microframes.{most_blocks}
-use Rattle.law_microframes.proofs.lemmas.time.CountBlocks.{fewer_than_blocks}
+use Rattle.law_microframes.proofs.lemmas.time.CountBlocks.{are_fewer_than_blocks}
 use Rattle.law_microframes.proofs.lemmas.time.CountVisits.{IsLow, all_low, first_reached, mixed_shaped}
 
 -- ---- a queue head that is read was reached
@@ -92,9 +92,9 @@ all_blocks d rings (v ∷ vs) reached low = (record { aligned = reached_aligned 
 pub texts_round_few : TextsRoundFew
 texts_round_few text s spelled k =
     let rounding : (j : ℕ) → IsRounding (moment s j).world (round s j)
-    = scripts_round_once s (spelled_fits text s spelled) (spelled_bytes text s spelled) (lines_fit s.lines (texts_fit text s spelled) (texts_open_fitting text s spelled)) in
+    = scripts_round_once s (spelled_fits text s spelled) (a_text_spells_bytes text s spelled) (lines_fit s.lines (texts_fit text s spelled) (texts_open_fitting text s spelled)) in
     let w : World = (moment s k).world in
     let apart : RoundsApart w (round s k) = rounds_apart w (round s k) (rounding k) in
     let low : AllByRecursion IsLow (round s k)
     = all_low round_next (λ fixed w vs shape all. after_low (controller_row w) (controller_parts w) vs shape all) s (λ j. mixed_shaped (moment s j).world (rounding j).mixed) k in
-    fewer_than_blocks most_blocks (round s k) apart.once (all_blocks w.driver w.registers.doorbell (round s k) apart.reached low)
+    are_fewer_than_blocks most_blocks (round s k) apart.once (all_blocks w.driver w.registers.doorbell (round s k) apart.reached low)

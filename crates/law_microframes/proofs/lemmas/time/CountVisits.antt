@@ -4,7 +4,7 @@ use Rattle.std.specs.List.{AllByRecursion}
 use Rattle.std.proofs.lemmas.Bool.{and_parts}
 use Rattle.script_types.specs.declared.scripts.Script.{Script}
 use Rattle.script_fits.proofs.Texts.{spelled_fits}
-use Rattle.law_scripts.proofs.lemmas.script_bytes.Texts.{spelled_bytes}
+use Rattle.law_scripts.proofs.lemmas.script_bytes.Texts.{a_text_spells_bytes}
 use Rattle.word_mem.specs.Memory.{Mem, IsShaped, reaches}
 use Rattle.link_words.specs.declared.kinds.Link.{Link}
 use Rattle.link_words.specs.declared.kinds.Link.TheVariants as links
@@ -35,10 +35,10 @@ use Rattle.drv_chains.specs.Chains.{id_of}
 use Rattle.law_world.proofs.lemmas.memory.Carrying.{carrying}
 use Rattle.law_microframes.proofs.lemmas.visits.VisitMoments.{visits_apart}
 use Rattle.law_microframes.proofs.lemmas.visits.VisitTexts.{lines_fit}
-use Rattle.law_microframes.proofs.lemmas.visits.VisitsKept.{scripts_visit_all}
+use Rattle.law_microframes.proofs.lemmas.visits.VisitsKept.{scripts_visit}
 use Rattle.law_microframes.specs.time.Counts.{IsBlockBelow, TextsVisitFew}
 use Rattle.claims_world.specs.Microframes.{most_blocks}
-use Rattle.law_microframes.proofs.lemmas.time.CountBlocks.{fewer_than_blocks}
+use Rattle.law_microframes.proofs.lemmas.time.CountBlocks.{are_fewer_than_blocks}
 
 abbrev pub IsLow : ℕ → Type 0
 IsLow v = v < 32 * most_blocks
@@ -127,9 +127,9 @@ mixed_shaped w h = h.mixed.now.framed.place.sound.shape
 pub texts_visit_few : TextsVisitFew
 texts_visit_few text s spelled k =
     let visiting : (j : ℕ) → IsVisiting (began s j) (moment s j).world (visited s j)
-    = scripts_visit_all s (spelled_fits text s spelled) (spelled_bytes text s spelled) (lines_fit s.lines (texts_fit text s spelled) (texts_open_fitting text s spelled)) in
+    = scripts_visit s (spelled_fits text s spelled) (a_text_spells_bytes text s spelled) (lines_fit s.lines (texts_fit text s spelled) (texts_open_fitting text s spelled)) in
     let w : World = (moment s k).world in
     let apart : VisitsApart w (visited s k) = visits_apart (began s k) w (visited s k) (visiting k) in
     let low : AllByRecursion IsLow (visited s k)
     = all_low visits_next (λ fixed w vs shape all. after_low (controller_row w) (controller_parts w) vs shape all) s (λ j. mixed_shaped (moment s j).world (visiting j).mixed) k in
-    fewer_than_blocks most_blocks (visited s k) apart.once (all_blocks w.driver w.registers.frame_index (frame_in w.control.frame.index) (visited s k) apart.in_frame low)
+    are_fewer_than_blocks most_blocks (visited s k) apart.once (all_blocks w.driver w.registers.frame_index (frame_in w.control.frame.index) (visited s k) apart.in_frame low)

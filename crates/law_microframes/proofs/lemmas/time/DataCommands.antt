@@ -49,7 +49,7 @@ use Rattle.law_driver.proofs.lemmas.chained_transfers.Chained.{piece_same, piece
 use Rattle.law_driver.proofs.lemmas.chained_transfers.Queued.{not_dummy}
 use Rattle.law_driver.proofs.lemmas.run_owners.Accepted.{drop_first}
 use Rattle.law_driver.proofs.lemmas.run_owners.Chains.{notes_apart}
-use Rattle.law_driver.proofs.lemmas.run_owners.Commands.{accepted_for_a_reason}
+use Rattle.law_driver.proofs.lemmas.run_owners.Commands.{each_command_has_its_reason}
 use Rattle.law_driver.proofs.lemmas.run_owners.Ordered.{pushed}
 use Rattle.law_driver.proofs.lemmas.run_owners.Runs.{placed_run}
 use Rattle.law_driver.proofs.lemmas.run_owners.Stays.{or_done as stays_or_done}
@@ -347,7 +347,7 @@ accepted_sends : (w : World) (line : ℕ) (cmd : Cmd) (o : Offered) → offered 
 accepted_sends w line cmd o is mixed then old t i z x there sort held here kind below =
     let d = w.driver in
     let place = mixed.mixed.now.framed.place in
-    let reason = accepted_for_a_reason d w.memory cmd o is in
+    let reason = each_command_has_its_reason d w.memory cmd o is in
     let told : IsTold d o = told_by d w.memory o place.sound.stands place.sound.owners reason in
     ⊎_elim
     (λ (was : slice_get d.transfers t ≡ Some z).

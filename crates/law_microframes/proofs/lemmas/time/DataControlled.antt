@@ -22,7 +22,7 @@ use Rattle.law_structures.specs.lent_structures.Structures.{StructureSets, Tells
 use Rattle.law_structures.specs.lent_structures.Alters.{IsAfter, HasElementAfter}
 use Rattle.law_structures.specs.lent_structures.Sound.{IsElement}
 use Rattle.law_ring.specs.walk_writes.Writes.{WritesLent}
-use Rattle.law_controller.proofs.lemmas.lent_writes.Controlling.{controller_writes_lent}
+use Rattle.law_controller.proofs.lemmas.lent_writes.Controlling.{each_event_of_the_controller_writes_lent_words}
 use Rattle.law_controller.proofs.lemmas.aligned_copies.Controlling.{aligned_placed}
 use Rattle.law_controller.specs.controlled_streams.Kept.{KeepsEach}
 use Rattle.law_descriptors.specs.Both.{parts_now}
@@ -30,10 +30,10 @@ use Rattle.law_descriptors.specs.Meeting.{met}
 use Rattle.law_descriptors.proofs.lemmas.queue_events.Events.{both_keeps_structures}
 use Rattle.law_world.specs.steps.Streaming.{begins_by, transacts_by, wired}
 use Rattle.law_world.proofs.lemmas.steps.StreamTurning.{world_has_row}
-use Rattle.law_world.proofs.lemmas.steps.lemmas.world_bytes.Hearing.{hears_bytes}
+use Rattle.law_world.proofs.lemmas.steps.lemmas.world_bytes.Hearing.{a_bus_of_bytes_is_heard_as_bytes}
 use Rattle.bus_world.specs.World.{World, controller_parts, controller_row, controller_next}
 use Rattle.law_world.specs.memory.framed_memory.Now.{recent_then, FramedNowAfter}
-use Rattle.law_world.proofs.lemmas.memory.lemmas.framed_memory.NowControlled.{controller_now}
+use Rattle.law_world.proofs.lemmas.memory.lemmas.framed_memory.NowControlled.{controller_keeps_now}
 use Rattle.law_world.proofs.lemmas.memory.QueueViews.{queues_told}
 use Rattle.law_world.specs.memory.Mixed.{Standing, IsMixedAt}
 use Rattle.law_microframes.specs.time.DataQueues.{qtd_in, pid_of, way_of, SendsData, NewQueuesSendData, ControllerKeepsData}
@@ -41,8 +41,8 @@ use Rattle.law_microframes.proofs.lemmas.time.DataWords.{told_qtd, same_sends}
 use Rattle.law_microframes.proofs.lemmas.time.DataTold.{piece_run, element_there}
 
 -- before the first line there is none
-pub new_data : NewQueuesSendData
-new_data s t i y x there sort held here kind below on = absurd (cc)
+pub new_queues_send_data : NewQueuesSendData
+new_queues_send_data s t i y x there sort held here kind below on = absurd (cc)
 
 -- what is active after it was so before
 after_sends : (dir : Dir) (t u : Qtd) → IsAfter t u → SendsData dir t → SendsData dir u
@@ -61,12 +61,13 @@ module _ (fixed : Fixed) (s : Standing) (w : World) (k : IsMixedAt s w) where
   after_event : FramedNowAfter begins_by transacts_by opening_base s.member (recent_then (controller_row w) s.recent) s.descs s.parts s.hand s.frame (controller_parts w) w.driver (wired fixed w)
       (wired fixed (controller_next fixed w)) (controller_parts (controller_next fixed w))
   after_event =
-      controller_now begins_by transacts_by opening_base s.member s.recent s.descs s.parts s.hand s.frame (controller_parts w) d (wired fixed w) (controller_parts new) (wired fixed new) k.now
-      (hears_bytes fixed w k.bytes (wired fixed new)) (world_has_row fixed w)
+      controller_keeps_now begins_by transacts_by opening_base s.member s.recent s.descs s.parts s.hand s.frame (controller_parts w) d (wired fixed w) (controller_parts new) (wired fixed new) k.now
+      (a_bus_of_bytes_is_heard_as_bytes fixed w k.bytes (wired fixed new)) (world_has_row fixed w)
 
   writes : WritesLent w.memory (controller_next fixed w).memory
   writes =
-      controller_writes_lent begins_by transacts_by (controller_parts w) (wired fixed w) (controller_parts new) (wired fixed new)
+      each_event_of_the_controller_writes_lent_words begins_by transacts_by (controller_parts w) (wired fixed w) (controller_parts new)
+      (wired fixed new)
       (aligned_placed (controller_parts w) k.now.framed.aligned) (world_has_row fixed w)
 
   -- in a run that isn't lent

@@ -18,12 +18,12 @@ use Rattle.law_driver.specs.chained_transfers.Bulk.{pid_by}
 use Rattle.law_driver.specs.chained_transfers.Chains.{piece_at}
 use Rattle.law_driver_ring.specs.fed_queues.Fed.{IsPublished}
 use Rattle.law_driver.proofs.lemmas.chained_transfers.Chained.{piece_same}
-use Rattle.law_driver.proofs.lemmas.in_place.Laws.{event_in_place}
+use Rattle.law_driver.proofs.lemmas.in_place.Laws.{events_keep_all_in_place}
 use Rattle.law_driver.proofs.lemmas.ring_members.Aside.{list_apart}
-use Rattle.law_driver.proofs.lemmas.run_owners.Reasons.{each_is_due}
+use Rattle.law_driver.proofs.lemmas.run_owners.Reasons.{each_event_is_due}
 use Rattle.law_queues.proofs.lemmas.publish_laws.Apart.{piece_placed, pieces_apart}
 use Rattle.law_driver.specs.queued_drivers.Queued.{with_queue, queued_command, queued}
-use Rattle.law_driver.proofs.lemmas.queued_drivers.RowOwners.{queued_owners}
+use Rattle.law_driver.proofs.lemmas.queued_drivers.RowOwners.{queued_has_owners}
 use Rattle.bus_world.specs.World.{World, driver_parts, driver_next}
 use Rattle.law_world.specs.memory.Mixed.{Standing, IsMixedAt}
 use Rattle.law_microframes.proofs.lemmas.visits.BelongSeen.{Seen, IsSeenIn, seen_there, row_seen}
@@ -59,7 +59,7 @@ module _ (s : Standing) (w : World) (k : IsMixedAt s w) where
         → SendsData (way_of x) (qtd_in (driver_next w).memory (piece_at (note_in w.driver.notes) y.first i))
     published_sends stored =
         let g : IsPublished (queued d) s.parts b stored.words = k.queues.queues.fed.publishes b stored.words (ap (queued_command d.endpoints) stored.command) in
-        let q : HasOwners (queued d) = queued_owners d owners k.turns in
+        let q : HasOwners (queued d) = queued_has_owners d owners k.turns in
         let some : 0 < g.transfer.qtds = k.turns.turns.chained.some g.number (runs_of_transfer g.transfer) (ap (option_map runs_of_transfer) g.there) g.fresh.1 in
         let first : IsPlaced (slot_of d.book.slots) q.owner g.transfer.first (Element g.number) = piece_placed (queued d) q g.number 0 g.transfer g.there g.fresh.1 some in
         let there_too = there_queued d k.turns t y x there sort held here kind in
@@ -81,13 +81,13 @@ module _ (s : Standing) (w : World) (k : IsMixedAt s w) where
       unfolding owners
       sends_then old =
           let sound = k.now.framed.place.sound in
-          let later = (event_in_place p k.now.framed.place).sound in
+          let later = (events_keep_all_in_place p k.now.framed.place).sound in
           let run = piece_run then later.owners t i z there_then held_then below_then in
           let there_still = token_in then (driver_next w).memory b later.stands (subst (λ (c : ℕ). HasRun (slot_of (driver_next w).driver.book.slots c)) at run) in
           ⊎_elim (λ (same : word_at (driver_next w).memory (32 * b + 8) ≡ word_at w.memory (32 * b + 8)). same_sends (way_of x) w.memory
           (driver_next w).memory b same old) published_sends
           (row_leaves p b t sound.stands sound.shape sound.owners sound.ring (list_apart d w.memory sound.stands sound.shape sound.owners sound.listed) placed
-          (token_in d w.memory b sound.stands (piece_run d owners t i y there held below)) (driver_row p) (each_is_due p) there_still)
+          (token_in d w.memory b sound.stands (piece_run d owners t i y there held below)) (driver_row p) (each_event_is_due p) there_still)
 
 pub driver_keeps_data : DriverKeepsData
 driver_keeps_data w mixed old t i z x there sort held here kind below =

@@ -44,12 +44,12 @@ use Rattle.bus_world.specs.World.{World}
 use Rattle.bus_world.specs.Budgets.{moment}
 use Rattle.law_world.specs.memory.Mixed.{IsChainToLend, IsChainThere, IsUnderWay, Standing, IsMixedAt}
 use Rattle.law_world.proofs.lemmas.memory.QueueViews.{queues_told}
-use Rattle.law_world.proofs.lemmas.memory.Together.{scripts_stay}
+use Rattle.law_world.proofs.lemmas.memory.Together.{scripts_stay_mixed}
 use Rattle.law_microframes.specs.visits.Belonging.{a_queue}
 use Rattle.law_microframes.proofs.lemmas.visits.BelongQueues.{belongs_by}
 use Rattle.law_microframes.specs.time.DataQueues.{pid_of, way_of, GoesBy, QueuesSendData, MixedWorldsReadData, ScriptsReadData}
 use Rattle.law_microframes.proofs.lemmas.time.DataMoments.{scripts_send_data}
-use Rattle.law_microframes.proofs.lemmas.time.DataReads.{element_sends, copies_send, takes_send}
+use Rattle.law_microframes.proofs.lemmas.time.DataReads.{element_sends, copies_send_data, takes_send_data}
 
 open_same : (b c : ℕ) → ◌≡◌ {A = Option Command} (Some (unfinished.Open b)) (Some (unfinished.Open c)) → b ≡ c
 open_same b c same = cc
@@ -186,12 +186,12 @@ module _ (s : Standing) (w : World) (k : IsMixedAt s w) (all : QueuesSendData w.
 
 -- ---- the laws
 
-pub mixed_read_data : MixedWorldsReadData
-mixed_read_data w mixed all = record {
+pub mixed_worlds_read_data : MixedWorldsReadData
+mixed_worlds_read_data w mixed all = record {
   heads = λ e x q here kind kept read on. head_sends mixed.standing w mixed.mixed all e x here kind kept q read on;
-  copies = λ h dir by periodic held on. copies_send mixed.standing w h dir by mixed.mixed all periodic held on;
-  takes = λ h a t dir by periodic held row. takes_send mixed.standing w h a t dir by mixed.mixed all periodic held row;
+  copies = λ h dir by periodic held on. copies_send_data mixed.standing w h dir by mixed.mixed all periodic held on;
+  takes = λ h a t dir by periodic held row. takes_send_data mixed.standing w h a t dir by mixed.mixed all periodic held row;
 }
 
 pub scripts_read_data : ScriptsReadData
-scripts_read_data s fits bytes opens k = mixed_read_data (moment s k).world (scripts_stay s fits bytes opens k) (scripts_send_data s fits bytes opens k)
+scripts_read_data s fits bytes opens k = mixed_worlds_read_data (moment s k).world (scripts_stay_mixed s fits bytes opens k) (scripts_send_data s fits bytes opens k)

@@ -16,7 +16,7 @@ use Rattle.law_world.proofs.lemmas.memory.Controller.{controller_keeps_mixed}
 use Rattle.law_world.proofs.lemmas.memory.Driving.{driver_keeps_mixed}
 use Rattle.law_world.proofs.lemmas.memory.CommandKeeping.{command_keeps_mixed}
 use Rattle.law_microframes.specs.time.DataQueues.{QueuesSendData, ScriptsSendData}
-use Rattle.law_microframes.proofs.lemmas.time.DataControlled.{new_data, controller_keeps_data}
+use Rattle.law_microframes.proofs.lemmas.time.DataControlled.{new_queues_send_data, controller_keeps_data}
 use Rattle.law_microframes.proofs.lemmas.time.DataDriven.{driver_keeps_data}
 use Rattle.law_microframes.proofs.lemmas.time.DataCommands.{command_keeps_data}
 
@@ -41,4 +41,4 @@ is_kept s = record {
 
 pub scripts_send_data : ScriptsSendData
 scripts_send_data s fits bytes opens k =
-    (holds_throughout OpensMixed IsMixedWithData s fits (lines_can s.lines opens) (record { mixed = new_world_is_mixed s fits bytes; data_alone = new_data s }) (is_kept s) k).data_alone
+    (holds_throughout OpensMixed IsMixedWithData s fits (lines_can s.lines opens) (record { mixed = new_world_is_mixed s fits bytes; data_alone = new_queues_send_data s }) (is_kept s) k).data_alone

@@ -257,18 +257,18 @@ module _ (s : Standing) (w : World) (k : IsMixedAt s w) (all : QueuesSendData w.
 
 -- ---- the laws
 
-pub heads_send : HeadsSendData
-heads_send s w n dir q by k all is read on =
+pub heads_send_data : HeadsSendData
+heads_send_data s w n dir q by k all is read on =
     let here = (k.now.framed.runs.members n AQueue is).part_is in
     let same : here.queue ≡ q = same_Some here.queue q (sym (head_read w.memory (both s.descs s.parts) n n here.queue k.now.framed.runs.ring.tells here.here) ∙ read) in
     head_sends s w k all n dir by is q (here.here ∙ ap (λ (z : Qh). Some (QueueHead z)) same) on
 
-pub copies_send : CopiesSendData
-copies_send s w h dir by k all periodic held on =
+pub copies_send_data : CopiesSendData
+copies_send_data s w h dir by k all periodic held on =
     let walk : IsFrameWalk (met w.driver s.recent) (both s.descs s.parts) s.frame (frame_place (controller_parts w)) = k.now.framed.runs.walk periodic in
     hand_sends s w k all h dir w.control.frame.got w.control.frame.reply s.frame by (sym walk.held ∙ held) walk.in_hand on
 
-pub takes_send : TakesSendData
-takes_send s w h a t dir by k all periodic held row =
+pub takes_send_data : TakesSendData
+takes_send_data s w h a t dir by k all periodic held row =
     let walk : IsFrameWalk (met w.driver s.recent) (both s.descs s.parts) s.frame (frame_place (controller_parts w)) = k.now.framed.runs.walk periodic in
     hand_takes s w k all h a t dir w.control.frame.got w.control.frame.reply s.frame by (sym walk.held ∙ held) walk.in_hand row

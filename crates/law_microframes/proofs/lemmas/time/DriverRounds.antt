@@ -11,12 +11,12 @@ use Rattle.drv_table.specs.Commands.{events_of, advance}
 use Rattle.drv_table.specs.Rows.{driver_row, after_driver_row}
 use Rattle.law_driver.specs.run_owners.Due.{IsDue, IsNextOf, IsLinkOf}
 use Rattle.claims_driver.specs.Leaving.{HasOwners}
-use Rattle.law_driver.proofs.lemmas.run_owners.Laws.{event_owned}
-use Rattle.law_driver.proofs.lemmas.run_owners.Reasons.{each_is_due}
+use Rattle.law_driver.proofs.lemmas.run_owners.Laws.{events_keep_owners}
+use Rattle.law_driver.proofs.lemmas.run_owners.Reasons.{each_event_is_due}
 use Rattle.law_driver.specs.in_place.InPlace.{IsSound}
 use Rattle.law_driver.proofs.lemmas.ring_members.Events.{chain_never, iso_never, unchain_never}
 use Rattle.law_driver_ring.proofs.lemmas.walk_members.Driving.{Reaches, row_reach}
-use Rattle.law_world.proofs.lemmas.steps.lemmas.controlled_walks.Worlds.{driver_walks}
+use Rattle.law_world.proofs.lemmas.steps.lemmas.controlled_walks.Worlds.{driver_keeps_walking}
 use Rattle.bus_world.specs.World.{World, driver_parts, driver_next}
 use Rattle.law_world.specs.memory.Mixed.{Standing, IsMixedAt}
 use Rattle.law_microframes.specs.time.Heights.{LinksFall}
@@ -68,7 +68,7 @@ module _ (s : Standing) (w : World) (vs : List ℕ) (k : IsMixedAt s w) (v : Rou
   other_falls : (row : DriverRow) → driver_row (driver_parts w) ≡ row → is_store row ≡ false → IsDue (driver_parts w) row → FallsBy row
   other_falls row is other due =
       let new : Parts = after_driver_row row p in
-      let owners : HasOwners new.driver = subst (λ (r : DriverRow). HasOwners (after_driver_row r p).driver) is (event_owned p sound.owners) in
+      let owners : HasOwners new.driver = subst (λ (r : DriverRow). HasOwners (after_driver_row r p).driver) is (events_keep_owners p sound.owners) in
       falls_on w.memory new.memory d new.driver w.registers.doorbell new.registers.doorbell v.height v.links_fall (row_back row p due k.walking.bell)
       (same_links w.memory new.memory new.driver new.registers.doorbell (other_words row p other due sound k.walking.bell owners))
 
@@ -92,11 +92,11 @@ module _ (s : Standing) (w : World) (vs : List ℕ) (k : IsMixedAt s w) (v : Rou
   by_row rows.Rest is due = other_falls rows.Rest is refl due
 
   address : (driver_next w).registers.async_list_address ≡ w.registers.async_list_address
-  address = (driver_walks w k.walking).walk.start ∙ sym k.walking.walk.start
+  address = (driver_keeps_walking w k.walking).walk.start ∙ sym k.walking.walk.start
 
   pub row_rounds : (row : DriverRow) → driver_row (driver_parts w) ≡ row → RoundsGoOn (driver_next w) vs
   row_rounds row is =
-      let due : IsDue (driver_parts w) row = subst (IsDue (driver_parts w)) is (each_is_due (driver_parts w)) in
+      let due : IsDue (driver_parts w) row = subst (IsDue (driver_parts w)) is (each_event_is_due (driver_parts w)) in
       let reach : Reaches d w.registers.doorbell (driver_next w).driver (driver_next w).registers.doorbell
       = subst (λ (r : DriverRow). Reaches d w.registers.doorbell (after_driver_row r p).driver (after_driver_row r p).registers.doorbell) (sym is) (row_reach row p due k.walking.bell) in
       record {
@@ -105,5 +105,5 @@ module _ (s : Standing) (w : World) (vs : List ℕ) (k : IsMixedAt s w) (v : Rou
         behind = behind_on d (driver_next w).driver v.height w.registers (driver_next w).registers w.control.walk vs v.behind address reach;
       }
 
-pub each_row_rounds : EachRowKeepsRounds
-each_row_rounds row s w vs k v is = row_rounds s w vs k v row is
+pub each_row_keeps_rounds : EachRowKeepsRounds
+each_row_keeps_rounds row s w vs k v is = row_rounds s w vs k v row is

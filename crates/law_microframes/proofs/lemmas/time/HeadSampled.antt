@@ -22,8 +22,8 @@ use Rattle.law_microframes.proofs.lemmas.visits.VisitSampled.{answered, accepted
 use Rattle.law_microframes.specs.time.HeadReads.{heads_next, heads}
 use Rattle.law_microframes.specs.time.HeadSamples.{typed_heads}
 
-pub typed_head : (k : ℕ) → heads keyboard_and_disk (suc k) ≡ typed_heads k
-typed_head k = answered heads_next (fixed_of keyboard_and_disk) (opening_world keyboard_and_disk) 6 (commands.OpenEp keyboard) (orders_of after_the_open) _ 0 k accepted
+pub its_reads : (k : ℕ) → heads keyboard_and_disk (suc k) ≡ typed_heads k
+its_reads k = answered heads_next (fixed_of keyboard_and_disk) (opening_world keyboard_and_disk) 6 (commands.OpenEp keyboard) (orders_of after_the_open) _ 0 k accepted
 
 pub read_twice : (typed_heads 30 ≡ 0) × (typed_heads 32 ≡ 1) × (typed_heads 38 ≡ 1) × (typed_heads 40 ≡ 2)
 unfolding carried_from lowest_run filled with_words_in store_words lend_runs qh_words qtd_words token_word token_at link_word qtd_link_word predecessors frames word_after before_the behind_the link_read qtd_link_read qh_read qh_bad qh_at qtd_read qtd_bad qtd_at first_bad_bit words_in reloaded

@@ -14,13 +14,13 @@ use Rattle.drv_table.specs.Accepting.{Offered}
 use Rattle.drv_table.specs.Offers.{offered}
 use Rattle.drv_table.specs.Rows.{driver_row}
 use Rattle.law_driver.proofs.lemmas.listed_members.Schedules.{all_more}
-use Rattle.law_driver.proofs.lemmas.planned_endpoints.Laws.{event_planned}
+use Rattle.law_driver.proofs.lemmas.planned_endpoints.Laws.{events_keep_the_plan}
 use Rattle.law_frames.specs.Met.{Kind}
 use Rattle.law_descriptors.specs.Meeting.{met}
 use Rattle.law_descriptors.specs.Recent.{AreRecent}
-use Rattle.law_descriptors.proofs.GivenRow.{row_is_given_back}
+use Rattle.law_descriptors.proofs.GivenRow.{row_gives_back_passed}
 use Rattle.law_descriptors.proofs.Returning.{none_some}
-use Rattle.law_world.proofs.lemmas.memory.lemmas.framed_memory.LeavingUnmet.{interrupt_unmet}
+use Rattle.law_world.proofs.lemmas.memory.lemmas.framed_memory.LeavingUnmet.{interrupt_is_unmet}
 use Rattle.bus_world.specs.World.{World, driver_parts, driver_next, controller_parts, controller_row, controller_next, name_in, commanded, commanded_by}
 use Rattle.law_world.specs.steps.Streaming.{begins_by, transacts_by, wired}
 use Rattle.law_world.proofs.lemmas.steps.StreamTurning.{world_has_row}
@@ -106,15 +106,16 @@ module _ (s : Standing) (w : World) (k : IsMixedAt s w) (left : ℕ → Option K
   not_given a kind is q row =
       let sound = k.now.framed.place.sound in
       none_some kind
-      (sym (interrupt_unmet (driver_parts w) left w.registers.frame_index q.belongs.number q.belongs.endpoint sound.owners sound.listed are
-      (row_is_given_back (driver_parts w) (removed.Endpoint q.belongs.number) row) q.belongs.here (not_iso q.kind))
+      (sym (interrupt_is_unmet (driver_parts w) left w.registers.frame_index q.belongs.number q.belongs.endpoint sound.owners sound.listed
+      are
+      (row_gives_back_passed (driver_parts w) (removed.Endpoint q.belongs.number) row) q.belongs.here (not_iso q.kind))
       ∙ ap (met w.driver left) (sym q.name) ∙ is)
 
   visited_stays : (a : ℕ) (kind : Kind) → met w.driver left a ≡ Some kind → (q : IsQueueAt w.driver a) → IsStillAt q (driver_next w).driver
   visited_stays a kind is q =
       let parts = driver_parts w in
       queue_stays w.driver (driver_next w).driver a q
-      (stays_in w.driver (driver_next w).driver a q.belongs (event_planned parts k.now.framed.place.sound.owners k.now.planned) (row_seen q.belongs.number (driver_row parts) parts)
+      (stays_in w.driver (driver_next w).driver a q.belongs (events_keep_the_plan parts k.now.framed.place.sound.owners k.now.planned) (row_seen q.belongs.number (driver_row parts) parts)
       (row_more (driver_row parts) parts (placed_of q.belongs) (not_given a kind is q) q.belongs.planned))
 
 pub driver_keeps_paying : DriverKeepsPaying

@@ -36,15 +36,15 @@ use Rattle.drv_table.specs.Removals.{after_unlink, after_descriptor, after_place
 use Rattle.claims_driver.specs.Owners.{Described, is_descriptor, runs_of_transfer, runs_of_endpoint, views_of}
 use Rattle.claims_driver.specs.Leaving.{times, endpoints_in, endpoint_before, leaves_frames, HasOwners}
 use Rattle.law_driver.specs.run_owners.Accepts.{Accepts, opens, chains, places, transfers, describes, cancels, unchains}
-use Rattle.law_driver.proofs.lemmas.run_owners.Reasons.{each_is_due}
-use Rattle.law_driver.proofs.lemmas.run_owners.Commands.{accepted_for_a_reason}
+use Rattle.law_driver.proofs.lemmas.run_owners.Reasons.{each_event_is_due}
+use Rattle.law_driver.proofs.lemmas.run_owners.Commands.{each_command_has_its_reason}
 use Rattle.law_driver.proofs.lemmas.run_owners.Orders.{endpoint_first}
 use Rattle.claims_driver.specs.FrameListMembers.{framed_in, is_chained, is_among}
 use Rattle.law_driver.specs.listed_members.Members.{IsStanding, IsListed}
 use Rattle.law_driver.proofs.lemmas.listed_members.Standing.{IsSeen, seen, IsIn, in_frames, IsReported, unlinks_reported, standing_block, why_stands}
 use Rattle.law_driver.proofs.lemmas.listed_members.Owned.{queue_owned}
 use Rattle.law_driver.proofs.lemmas.chained_transfers.Harvesting.{waits_is}
-use Rattle.law_admission.proofs.Commands.{account_of_command}
+use Rattle.law_admission.proofs.Commands.{commands_place_the_best}
 use Rattle.law_frame_list.proofs.lemmas.list_spread.Spreading.{queue_there, standing_there}
 use Rattle.law_driver.proofs.lemmas.queued_drivers.CommandReasons.{IsReasonOf, reason_of}
 use Rattle.law_frames.specs.Met.{Kind}
@@ -53,7 +53,7 @@ use Rattle.law_descriptors.specs.Removed.{IsRemovedAt, a_descriptor, a_queue, a_
 use Rattle.law_descriptors.specs.Meeting.{standing, or_recent, met}
 use Rattle.law_descriptors.proofs.Finding.{begins_at, member_at}
 use Rattle.law_descriptors.proofs.Leading.{led_linked}
-use Rattle.law_descriptors.proofs.GivenRow.{row_is_given_back}
+use Rattle.law_descriptors.proofs.GivenRow.{row_gives_back_passed}
 use Rattle.law_descriptors.proofs.Returning.{same_transfer, no_descriptor, same_blocks, one_of, endpoint_counts, not_open}
 use Rattle.law_descriptors.proofs.Waiting.{frames_most}
 use Rattle.law_budgets.specs.visit_prices.Spent.{IsAmong, placed_as}
@@ -310,9 +310,9 @@ driver_iso w e i =
     iso_stays w.driver (driver_next w).driver w.registers.frame_index w.registers.frame_index e i (row_seen e row parts)
     (row_more row parts (placed_as e i.endpoint.desc i.placement)
     (λ given.
-    let g = row_is_given_back parts (removed.Endpoint e) given in
+    let g = row_gives_back_passed parts (removed.Endpoint e) given in
     not_open w.registers.frame_index g.due.removal.boundary g.seen (i.still_open 0 g.due.removal g.due.first g.due.is)) i.planned)
-    (row_open row parts e (each_is_due parts) i.still_open)
+    (row_open row parts e (each_event_is_due parts) i.still_open)
 
 -- ---- a command
 
@@ -325,18 +325,18 @@ module _ (w : World) (o : Offered) (e : ℕ) (x : Endpoint) (y : Placed) (here :
   pub accepted_sees : (cmd : Cmd) → offered w.driver w.memory cmd ≡ Ok o → IsReasonOf w.driver w.memory o cmd → IsSeenAndPlaced w.driver o e y
   accepted_sees (commands.OpenEp v) is why = record {
     seen_too = pushed_seen w.driver o e x (opened_new w.driver w.memory o v why) here;
-    placed_too = open_plan w.driver v o (is_periodic v.kind) (account_of_command w.driver w.memory (commands.OpenEp v) o is) y planned;
+    placed_too = open_plan w.driver v o (is_periodic v.kind) (commands_place_the_best w.driver w.memory (commands.OpenEp v) o is) y planned;
   }
   accepted_sees (commands.Get name len by) is why =
-      record { seen_too = taken_same w.driver w.memory o name _ _ why e; placed_too = same_plan w.driver o (account_of_command w.driver w.memory (commands.Get name len by) o is) y planned }
+      record { seen_too = taken_same w.driver w.memory o name _ _ why e; placed_too = same_plan w.driver o (commands_place_the_best w.driver w.memory (commands.Get name len by) o is) y planned }
   accepted_sees (commands.Put name bytes by) is why =
-      record { seen_too = taken_same w.driver w.memory o name _ _ why e; placed_too = same_plan w.driver o (account_of_command w.driver w.memory (commands.Put name bytes by) o is) y planned }
+      record { seen_too = taken_same w.driver w.memory o name _ _ why e; placed_too = same_plan w.driver o (commands_place_the_best w.driver w.memory (commands.Put name bytes by) o is) y planned }
   accepted_sees (commands.Control name setup bytes) is why =
-      record { seen_too = taken_same w.driver w.memory o name _ _ why e; placed_too = same_plan w.driver o (account_of_command w.driver w.memory (commands.Control name setup bytes) o is) y planned }
+      record { seen_too = taken_same w.driver w.memory o name _ _ why e; placed_too = same_plan w.driver o (commands_place_the_best w.driver w.memory (commands.Control name setup bytes) o is) y planned }
   accepted_sees (commands.Iso name count len seed) is why =
-      record { seen_too = described_same w.driver w.memory o why e; placed_too = same_plan w.driver o (account_of_command w.driver w.memory (commands.Iso name count len seed) o is) y planned }
+      record { seen_too = described_same w.driver w.memory o why e; placed_too = same_plan w.driver o (commands_place_the_best w.driver w.memory (commands.Iso name count len seed) o is) y planned }
   accepted_sees (commands.Cancel name) is why =
-      record { seen_too = left_same w.driver w.memory o name why e; placed_too = same_plan w.driver o (account_of_command w.driver w.memory (commands.Cancel name) o is) y planned }
+      record { seen_too = left_same w.driver w.memory o name why e; placed_too = same_plan w.driver o (commands_place_the_best w.driver w.memory (commands.Cancel name) o is) y planned }
   accepted_sees _ is why = absurd why
 
 pub accepted_open : (w : World) (o : Offered) (now e : ℕ) → Accepts w.driver w.memory o → AreOpen now e w.driver.periodic.removals → AreOpen now e o.driver.periodic.removals
@@ -359,4 +359,4 @@ command_iso w line cmd e i = by (offered w.driver w.memory cmd) refl
     by (Ok o) is =
         let s = accepted_sees w o e i.endpoint (placed_as e i.endpoint.desc i.placement) i.here i.planned cmd is (reason_of w.driver w.memory cmd o is) in
         iso_stays w.driver o.driver w.registers.frame_index w.registers.frame_index e i s.seen_too s.placed_too
-        (accepted_open w o w.registers.frame_index e (accepted_for_a_reason w.driver w.memory cmd o is) i.still_open)
+        (accepted_open w o w.registers.frame_index e (each_command_has_its_reason w.driver w.memory cmd o is) i.still_open)

@@ -28,9 +28,9 @@ use Rattle.law_microframes.specs.visits.OneDescriptor.{AreServed}
 use Rattle.claims_world.specs.Carried.{carried}
 use Rattle.law_microframes.specs.visits.Began.{began_by, began}
 use Rattle.law_microframes.proofs.lemmas.visits.ActiveFrames.{scripts_go_on_in_frame}
-use Rattle.law_microframes.proofs.lemmas.visits.AheadMoments.{scripts_go_on, began_is_mixed}
+use Rattle.law_microframes.proofs.lemmas.visits.AheadMoments.{scripts_go_on_to_old, began_is_mixed}
 use Rattle.law_microframes.proofs.lemmas.visits.InFramesMoments.{in_their_frames}
-use Rattle.law_microframes.proofs.lemmas.visits.VisitsKept.{scripts_visit_all}
+use Rattle.law_microframes.proofs.lemmas.visits.VisitsKept.{scripts_visit}
 use Rattle.law_microframes.proofs.lemmas.visits.VisitControlling.{controller_keeps_visiting}
 use Rattle.law_world.proofs.lemmas.memory.Carrying.{KeepsCarried, carrying, both, both_carried}
 use Rattle.law_microframes.proofs.lemmas.visits.BelongMoments.{scripts_keep_fields}
@@ -150,7 +150,7 @@ scripts_are_paid s fit bytes opens slots k =
     pays_within s
     (λ j.
     record {
-      visiting = scripts_visit_all s fit bytes opens j;
+      visiting = scripts_visit s fit bytes opens j;
       heads = scripts_keep_fields s fit bytes opens j;
       itds = scripts_keep_itds s fit bytes opens j;
       sitds = scripts_keep_sitds s fit bytes opens slots j;
@@ -158,12 +158,12 @@ scripts_are_paid s fit bytes opens slots k =
       periodics = scripts_have_periodics s fit bytes opens j;
       allowed = scripts_keep_allowed s fit j;
       reads = scripts_read_data s fit bytes opens j;
-      within = record { began = began_is_mixed s fit bytes opens j; old = scripts_go_on s fit bytes opens j; in_frame = scripts_go_on_in_frame s fit bytes opens j };
+      within = record { began = began_is_mixed s fit bytes opens j; old = scripts_go_on_to_old s fit bytes opens j; in_frame = scripts_go_on_in_frame s fit bytes opens j };
     }) k
 
-pub scripts_pay : ScriptsPayWithinLoad
-scripts_pay s fit bytes opens slots k =
-    let visiting : IsVisiting (began s k) (moment s k).world (visited s k) = scripts_visit_all s fit bytes opens k in
+pub scripts_pay_within_load : ScriptsPayWithinLoad
+scripts_pay_within_load s fit bytes opens slots k =
+    let visiting : IsVisiting (began s k) (moment s k).world (visited s k) = scripts_visit s fit bytes opens k in
     within_load (began s k) (moment s k).world (payments s k) (began_is_mixed s fit bytes opens k) (script_admits s fit k).fits
     (subst AreOnce (sym (payments_are_of_visits s k)) visiting.visits.behind.once)
     (scripts_are_paid s fit bytes opens slots k)

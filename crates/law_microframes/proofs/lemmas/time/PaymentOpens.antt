@@ -26,7 +26,7 @@ use Rattle.drv_table.specs.CancelOffers.{with_cancel, endpoint_members}
 use Rattle.drv_table.specs.Rows.{driver_row}
 use Rattle.claims_driver.specs.Owners.{is_descriptor}
 use Rattle.claims_driver.specs.Leaving.{HasOwners}
-use Rattle.law_driver.proofs.lemmas.run_owners.Reasons.{each_is_due}
+use Rattle.law_driver.proofs.lemmas.run_owners.Reasons.{each_event_is_due}
 use Rattle.law_driver.proofs.lemmas.run_owners.Ordered.{pushed}
 use Rattle.law_driver.proofs.lemmas.run_owners.Stays.{begun_notes}
 use Rattle.claims_driver.specs.FrameListMembers.{framed_of, is_chained}
@@ -112,7 +112,7 @@ module _ (w : World) (k : IsMixedWorld w) (h : HasPeriodics w.driver) where
   driver_periodics =
       let parts = driver_parts w in
       let row = driver_row parts in
-      let follows : Follows w.driver w.memory (driver_next w).driver = row_follows row parts (each_is_due parts) k.mixed.now.framed.place.sound in
+      let follows : Follows w.driver w.memory (driver_next w).driver = row_follows row parts (each_event_is_due parts) k.mixed.now.framed.place.sound in
       record {
         some = after_row IsSome row parts h.some;
         outside = outside_then (driver_next w).driver follows (λ e. row_seen e row parts);

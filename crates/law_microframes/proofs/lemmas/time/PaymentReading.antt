@@ -66,7 +66,7 @@ use Rattle.law_microframes.specs.time.DataQueues.{pid_of, ReadsData}
 use Rattle.law_microframes.specs.time.SitdFields.{sitd_name, IsSitdAs, HaveSitdFields, SplitTransfer, SitdsStand}
 use Rattle.law_microframes.specs.time.SplitCharges.{IsPaidFor, at_high, at_split}
 use Rattle.law_microframes.proofs.lemmas.time.DataTold.{pid_low}
-use Rattle.law_microframes.proofs.lemmas.time.SplitMasked.{allowed_split}
+use Rattle.law_microframes.proofs.lemmas.time.SplitMasked.{allowed_are_split}
 use Rattle.law_microframes.specs.time.PaymentLaws.{by_descriptor, HasPeriodics, IsWithin}
 use Rattle.law_microframes.proofs.lemmas.time.PaymentFrames.{chained_active}
 use Rattle.law_microframes.proofs.lemmas.time.PaymentIsochronous.{one_transfer, iso_now}
@@ -224,7 +224,7 @@ module _ (b : World) (s : Standing) (w : World) (k : IsMixedAt s w) (heads : Hea
             classic = classic;
             kind = h.kind;
             some = its h;
-            masks = allowed_split x all classic;
+            masks = allowed_are_split x all classic;
             below = ap (λ (n : ℕ). n == 2) (read.eps ∙ have.speed) ∙ not_high h.belongs.endpoint.desc.speed classic;
             max = read.longest ∙ have.longest;
             smask = read.smask ∙ have.smask;
@@ -426,7 +426,7 @@ module _ (b : World) (s : Standing) (w : World) (k : IsMixedAt s w) (heads : Hea
             classic = have.classic;
             kind = q.kind;
             some = periodics.some q.belongs.number q.belongs.endpoint q.belongs.here (ap is_periodic q.kind);
-            masks = allowed_split x all have.classic;
+            masks = allowed_are_split x all have.classic;
             way = read.way;
             smask = read.smask;
             cmask = read.cmask;

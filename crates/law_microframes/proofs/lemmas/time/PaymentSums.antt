@@ -21,7 +21,7 @@ use Rattle.claims_world.specs.WithinLoad.{paid_by_all, microframe_in, IsWithinLo
 use Rattle.law_microframes.specs.time.PaymentLaws.{IsOfIsochronous, IsOwnedBy, by_queue, by_descriptor, IsPayment, ArePaid}
 use Rattle.law_microframes.proofs.lemmas.visits.BelongReads.{names_are_apart}
 use Rattle.law_microframes.proofs.lemmas.visits.OneDescriptor.{one_descriptor_each}
-use Rattle.law_microframes.proofs.lemmas.time.ChargeLoads.{paid_within, paid_leaves}
+use Rattle.law_microframes.proofs.lemmas.time.ChargeLoads.{paid_is_within_load, paid_leaves_a_fifth}
 
 small : (index : ℕ) → microframe_in index < 8192
 small index = omega arith
@@ -131,6 +131,6 @@ within_load b w ps began fits once k =
     let within = all_within b began w.driver now index ps k.entries in
     let same = all_paid b began w.driver now index ps k.entries in
     record {
-      within = omega (arith, same, paid_within w.driver.periodic.plan.placed (microframe_in index) vs of within);
-      fifth = omega (arith, same, paid_leaves w.driver.periodic.plan.placed (microframe_in index) vs fits (small index) of within);
+      within = omega (arith, same, paid_is_within_load w.driver.periodic.plan.placed (microframe_in index) vs of within);
+      fifth = omega (arith, same, paid_leaves_a_fifth w.driver.periodic.plan.placed (microframe_in index) vs fits (small index) of within);
     }

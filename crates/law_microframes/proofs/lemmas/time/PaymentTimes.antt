@@ -14,7 +14,7 @@ use Rattle.script_types.specs.declared.scripts.Script.{Script}
 use Rattle.script_text.specs.Faults.{Spells}
 use Rattle.script_fits.specs.Fits.{IsFit}
 use Rattle.script_fits.proofs.Texts.{spelled_fits}
-use Rattle.law_scripts.proofs.lemmas.script_bytes.Texts.{spelled_bytes}
+use Rattle.law_scripts.proofs.lemmas.script_bytes.Texts.{a_text_spells_bytes}
 use Rattle.bandwidth.specs.declared.placements.Placed.{Placed}
 use Rattle.bandwidth.specs.declared.placements.Placement.{Placement}
 use Rattle.bandwidth.specs.Placements.{is_classic}
@@ -69,9 +69,9 @@ use Rattle.claims_world.specs.FrameHeads.{FrameHeadsStand}
 use Rattle.claims_world.specs.Scripts.{OpensHighPeriodics, HighPeriodicsLine, HighPeriodicsOnly}
 use Rattle.law_microframes.specs.time.PaymentLaws.{TextsPayWithinLoad, IsOwnedBy, by_queue, by_descriptor, IsHandPaid, IsIdle, IsPassing, ArePaidByHand}
 use Rattle.law_microframes.specs.time.PaymentTimes.{TextsLeaveTheRest, TextsAreInTime}
-use Rattle.law_microframes.proofs.lemmas.time.ChargeEvents.{event_in_time}
+use Rattle.law_microframes.proofs.lemmas.time.ChargeEvents.{enough_time_skips_nothing}
 use Rattle.law_budgets.proofs.lemmas.visit_prices.Queues.{not_late}
-use Rattle.law_microframes.proofs.lemmas.time.ChargeLoads.{bus_short, transactions_short}
+use Rattle.law_microframes.proofs.lemmas.time.ChargeLoads.{bus_short, transactions_are_short}
 use Rattle.law_microframes.proofs.lemmas.time.PaymentMoments.{ArePaidIn, scripts_are_paid}
 use Rattle.law_microframes.proofs.lemmas.time.PaymentTexts.{texts_load}
 use Rattle.law_microframes.proofs.lemmas.time.PaymentTimesRest.{rest_along}
@@ -168,7 +168,7 @@ module _ (b : World) (d : DriverContent) (now index : ℕ) (p : FramePlace) (sam
   paid_time : (x : Placed) (paid : ℕ) (hand : Hand) → x.want.max ≤ 1024 → p.walk.hand ≡ Some hand → IsPaidFor x p.walk.index hand paid
       → is_late p ≡ false
   paid_time x paid hand few is (at_high held) =
-      event_in_time x p hand is held.of (fits_in _ p.walk.left (transactions_short x.want few) enough)
+      enough_time_skips_nothing x p hand is held.of (fits_in _ p.walk.left (transactions_are_short x.want few) enough)
   paid_time x paid hand few is (at_split h own held) = ap (is_late_at p) (is ∙ ap Some own) ∙ split_in_time x p h paid held few enough
   paid_time x paid hand few is (at_sitd h own held) =
       ap (is_late_at p) (is ∙ ap Some own) ∙ sitd_time p.walk.left (microframe_of p.walk.index) h.sitd h.settled enough
@@ -302,7 +302,7 @@ module _ (fixed : Fixed) (b w : World) (ps : List (ℕ × ℕ)) (again : ℕ) (s
 texts_are_paid : (text : List ℕ) (s : Script) → Spells text s → (k : ℕ)
     → ArePaidIn (began s k) (moment s k).world (payments s k)
 texts_are_paid text s spelled k =
-    scripts_are_paid s (spelled_fits text s spelled) (spelled_bytes text s spelled)
+    scripts_are_paid s (spelled_fits text s spelled) (a_text_spells_bytes text s spelled)
     (lines_fit s.lines (texts_fit text s spelled) (texts_open_fitting text s spelled))
     (texts_fit_slots text s spelled) k
 
@@ -317,15 +317,15 @@ texts_make_none_again text s spelled only k =
       high = scripts_are_high s (spelled_fits text s spelled) only j;
     }) refl k
 
-pub texts_leave_rest : TextsLeaveTheRest
-texts_leave_rest text s spelled k = rest_along s (λ j. (texts_keep_held_time text s spelled j).tells) k
+pub texts_leave_the_rest : TextsLeaveTheRest
+texts_leave_the_rest text s spelled k = rest_along s (λ j. (texts_keep_held_time text s spelled j).tells) k
 
-pub texts_in_time : TextsAreInTime
-texts_in_time text s spelled = record {
+pub texts_are_in_time : TextsAreInTime
+texts_are_in_time text s spelled = record {
   each = λ k.
       is_in_time (fixed_of s) (began s k) (moment s k).world (payments s k) (repeats s k)
       (scripts_are_short s (spelled_fits text s spelled) k) (texts_are_paid text s spelled k)
-      (texts_load text s spelled k) (texts_leave_rest text s spelled k);
+      (texts_load text s spelled k) (texts_leave_the_rest text s spelled k);
   once = texts_make_none_again text s spelled;
 }
 
@@ -334,7 +334,7 @@ texts_in_time text s spelled = record {
 texts_heads : (text : List ℕ) (s : Script) → Spells text s → (k : ℕ) → FrameHeadsStand (moment s k).world.memory (moment s k).world.driver
 texts_heads text s spelled k =
     let fit = spelled_fits text s spelled in
-    let have = scripts_keep_fields s fit (spelled_bytes text s spelled)
+    let have = scripts_keep_fields s fit (a_text_spells_bytes text s spelled)
     (lines_fit s.lines (texts_fit text s spelled) (texts_open_fitting text s spelled)) k in
     record {
       fixed = λ e x p here queue kept placed. let h = have e x p here queue kept placed in
@@ -344,6 +344,6 @@ texts_heads text s spelled k =
 
 -- ---- all of it
 
-pub texts_pay : TextsPayWithinLoad
-texts_pay text s spelled = record
-    { heads = texts_heads text s spelled; taken = texts_leave_rest text s spelled; load = texts_load text s spelled }
+pub texts_pay_within_load : TextsPayWithinLoad
+texts_pay_within_load text s spelled = record
+    { heads = texts_heads text s spelled; taken = texts_leave_the_rest text s spelled; load = texts_load text s spelled }

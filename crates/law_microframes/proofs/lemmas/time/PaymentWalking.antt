@@ -67,12 +67,12 @@ use Rattle.claims_world.specs.Prices.{cost_of}
 use Rattle.claims_world.specs.WithinLoad.{is_again, begun_too, paid_more, payments_at, payments_after, microframe_in}
 use Rattle.law_microframes.specs.time.Payments.{names_in}
 use Rattle.law_microframes.specs.time.PaymentLaws.{IsOwnedBy, by_queue, by_descriptor, IsPayment, IsHandPaid, IsIdle, IsPassing, ArePaidByHand, ArePaid}
-use Rattle.law_microframes.proofs.lemmas.time.ChargeEvents.{leads_charged}
-use Rattle.law_microframes.proofs.lemmas.time.ChargeSums.{charges_summed, itd_begins}
+use Rattle.law_microframes.proofs.lemmas.time.ChargeEvents.{leads_are_charged}
+use Rattle.law_microframes.proofs.lemmas.time.ChargeSums.{charges_are_summed, descriptor_fetches_begin_charges}
 use Rattle.law_microframes.proofs.lemmas.time.ChargeLoads.{held_placed}
 use Rattle.law_microframes.proofs.lemmas.time.DataTold.{pid_low}
-use Rattle.law_microframes.proofs.lemmas.time.SitdCharged.{sitds_priced}
-use Rattle.law_microframes.proofs.lemmas.time.SplitCharged.{splits_priced}
+use Rattle.law_microframes.proofs.lemmas.time.SitdCharged.{sitds_are_priced}
+use Rattle.law_microframes.proofs.lemmas.time.SplitCharged.{splits_are_priced}
 use Rattle.law_microframes.proofs.lemmas.time.PriceTaken.{leads_cost}
 
 -- ---- the microframe among those of the frame list
@@ -176,8 +176,8 @@ module _ {W : Type 0} (transacts : W → Ask → List ℕ → Reply → W → Ty
 
   high_goes_on : IsHeldFor x p.walk.index hand paid → GoesOnPaid x p.walk.index hand paid (added (hc_step (step_of p)) hand) q
   high_goes_on held =
-      let charging : IsCharging x p hand q = leads_charged transacts x p q before later hand is held.of (tame hand way) leads in
-      let sum : IsSummed x p paid q = charges_summed x p q hand paid held charging in
+      let charging : IsCharging x p hand q = leads_are_charged transacts x p q before later hand is held.of (tame hand way) leads in
+      let sum : IsSummed x p paid q = charges_are_summed x p q hand paid held charging in
       let same : charge p q ≡ added (hc_step (step_of p)) hand =
       leads_cost transacts p q before later hand is leads
       ∙ sym (ap (λ (b : Bool). if b then 0 else cost_of (hc_step (step_of p)) hand) (in_hand_once x p.walk.index hand held.of)) in
@@ -194,14 +194,14 @@ module _ {W : Type 0} (transacts : W → Ask → List ℕ → Reply → W → Ty
   split_goes_on h same held =
       subst (λ (z : Hand). GoesOnPaid x p.walk.index z paid (added (hc_step (step_of p)) z) q) (sym same)
       (effect_pays transacts x p q before later (hands.Queue h) paid (added (hc_step (step_of p)) (hands.Queue h)) (effect_of p)
-      (splits_priced x p h paid (is ∙ ap Some same) held (subst (TakesWay x p) same way)) leads)
+      (splits_are_priced x p h paid (is ∙ ap Some same) held (subst (TakesWay x p) same way)) leads)
 
   sitd_goes_on : (h : HeldSitd) → hand ≡ hands.Sitd h → IsSitdInHand x h p.walk.index paid
       → GoesOnPaid x p.walk.index hand paid (added (hc_step (step_of p)) hand) q
   sitd_goes_on h same held =
       let cost = cost_of (hc_step (step_of p)) (hands.Sitd h) in
       let g : GoesOnInParts x p.walk.index h paid cost q
-      = parts_pay transacts x p q before later h paid cost (effect_of p) (sitds_priced x p h paid (is ∙ ap Some same) held) leads in
+      = parts_pay transacts x p q before later h paid cost (effect_of p) (sitds_are_priced x p h paid (is ∙ ap Some same) held) leads in
       subst (λ (z : Hand). GoesOnPaid x p.walk.index z paid (added (hc_step (step_of p)) z) q) (sym same)
       (record { index = g.index; held = still_sitd x p.walk.index (paid + cost) h q.walk.hand g.held; ends = g.ends })
 
@@ -337,7 +337,7 @@ module _ {W : Type 0} (begins_with : W → ℕ → Bool → W → Type 0) (trans
   itd_by a v true on periodic free is =
       let there : IsItdThere b d c a v = reads.itds a v periodic free is on in
       let begins : Begins there.of (frame_place c) (hands.Itd (itd_copy (frame_place c) a v)) (after (frame_place c) Silent)
-      = itd_begins there.of (frame_place c) a v Silent
+      = descriptor_fetches_begin_charges there.of (frame_place c) a v Silent
       (record { free = free; row = is; descriptor = there.descriptor; some = there.some; multi = there.multi; placed = λ other. there.own }) in
       inl (record {
         address = a;

@@ -71,8 +71,8 @@ exchange_word inward e (Made reply) is kind said =
     ap (λ (k : EpKind). is_split_word inward (answer_at (made_row k e.ask.pid reply e) e)) kind
     ∙ made_word inward e reply (nat_le (called_for e) e.done) is said
 
-pub translators_say : TranslatorsSayWords
-translators_say inward e k =
+pub translators_say_words : TranslatorsSayWords
+translators_say_words inward e k =
     subst (λ (x : Exchange). is_split_word inward (answer_at (entry_row x e) e) ≡ true) refl
     (exchange_word inward e e.exchange refl k.kind k.said)
 
@@ -156,8 +156,8 @@ module _ (inward : Bool) (ask : Ask) (sent : ℕ) (last : Bool) (reply : Reply) 
       ∙ ap (λ (p : Pid). AgainAs (Complete is.hub is.port) Interrupt (token_at p (out_token ask.speed Interrupt))) is.pid
       ∙ ap (λ (t : AskToken). AgainAs (Complete is.hub is.port) Interrupt t) (token_is inward ask.speed)
 
-pub words_end : WordsEndVisits
-words_end inward ask sent last reply host is word = same_again inward ask sent last reply host is ∙ reply_ends inward last sent reply host word
+pub words_end_visits : WordsEndVisits
+words_end_visits inward ask sent last reply host is word = same_again inward ask sent last reply host is ∙ reply_ends inward last sent reply host word
 
 error_failed : (host : HostSide) → is_last_error host ≡ false → failed (error_outcome host) ≡ true
 error_failed host left = ap (λ (b : Bool). failed (if b then Halt Error else Wrong)) left
@@ -169,5 +169,5 @@ silent_again true false sent host left waits = ap (λ (b : Bool). b && host.wait
 silent_again false true sent host left waits = ap (λ (b : Bool). b && host.waiting) (error_failed host left) ∙ waits
 silent_again false false sent host left waits = ap (λ (b : Bool). b && host.waiting) (error_failed host left) ∙ waits
 
-pub silence_again : SilenceAsksAgain
-silence_again inward ask sent last host is left waits = same_again inward ask sent last Silent host is ∙ silent_again inward last sent host left waits
+pub silence_asks_again : SilenceAsksAgain
+silence_asks_again inward ask sent last host is left waits = same_again inward ask sent last Silent host is ∙ silent_again inward last sent host left waits

@@ -22,7 +22,7 @@ use Rattle.claims_world.specs.Microframes.{most_blocks}
 use Rattle.law_microframes.specs.time.HeadReads.{reads_head, heads_by, heads_after}
 use Rattle.law_microframes.specs.time.Taken.{Takes}
 use Rattle.law_microframes.proofs.lemmas.time.CountTaken.{events_take_time}
-use Rattle.law_microframes.proofs.lemmas.time.VisitStepRing.{ring_falls, ring_fetched}
+use Rattle.law_microframes.proofs.lemmas.time.VisitStepRing.{ring_events_fall, ring_fetches_begin}
 use Rattle.law_microframes.specs.time.Ahead.{ring_ahead, chain_ahead, events_in, events_ahead, IsCounted, RowLowers}
 use Rattle.law_microframes.proofs.lemmas.time.RingEvents.{HeadHasBit, head_has_bit, row_lowers}
 
@@ -63,8 +63,8 @@ module _ (fixed : Fixed) (w : World) (c : Content) (rs : List ℕ) (n : ℕ) whe
       (record {
         goes_on = k.goes_on;
         takes = k.takes;
-        falls = λ h held. ring_falls transacts_by (walk_place c) (walk_place (controller_parts new)) (wired fixed w) (wired fixed new) h held k.walked.walked;
-        begins = λ none. ring_fetched transacts_by (walk_place c) (walk_place (controller_parts new)) (wired fixed w) (wired fixed new) none k.walked.walked;
+        falls = λ h held. ring_events_fall transacts_by (walk_place c) (walk_place (controller_parts new)) (wired fixed w) (wired fixed new) h held k.walked.walked;
+        begins = λ none. ring_fetches_begin transacts_by (walk_place c) (walk_place (controller_parts new)) (wired fixed w) (wired fixed new) none k.walked.walked;
         round = k.round;
         first = k.first;
         has_bit = k.has_bit;

@@ -18,8 +18,8 @@ use Rattle.drv_table.specs.Commands.{events_of, links}
 use Rattle.drv_table.specs.Rows.{driver_row, after_driver_row}
 use Rattle.law_driver.specs.run_owners.Due.{IsDue, IsNextOf, IsLinkOf}
 use Rattle.claims_driver.specs.Leaving.{HasOwners}
-use Rattle.law_driver.proofs.lemmas.run_owners.Laws.{event_owned}
-use Rattle.law_driver.proofs.lemmas.run_owners.Reasons.{each_is_due}
+use Rattle.law_driver.proofs.lemmas.run_owners.Laws.{events_keep_owners}
+use Rattle.law_driver.proofs.lemmas.run_owners.Reasons.{each_event_is_due}
 use Rattle.claims_driver.specs.Owners.{HasRun}
 use Rattle.claims_driver.specs.Ring.{link_in}
 use Rattle.law_driver.specs.ring_members.Words.{IsOpening, IsUnlinking}
@@ -68,7 +68,7 @@ module _ (s : Standing) (w : World) (k : IsMixedAt s w) where
   sound = k.now.framed.place.sound
 
   due : IsDue (driver_parts w) (driver_row (driver_parts w))
-  due = each_is_due (driver_parts w)
+  due = each_event_is_due (driver_parts w)
 
   memory_is : (b at v : ℕ) → driver_row (driver_parts w) ≡ rows.Store b at v → (driver_next w).memory ≡ store w.driver.book w.memory b at v
   memory_is b at v is = ap (λ (r : DriverRow). (after_driver_row r (driver_parts w)).memory) is
@@ -160,7 +160,7 @@ module _ (s : Standing) (w : World) (k : IsMixedAt s w) where
 
   other : (row : DriverRow) → driver_row (driver_parts w) ≡ row → is_store row ≡ false → IsDue (driver_parts w) row → Words row
   other row is off row_due = λ b reached.
-      other_words row p off row_due sound k.walking.bell (subst (λ (r : DriverRow). HasOwners (after_driver_row r p).driver) is (event_owned p sound.owners)) b
+      other_words row p off row_due sound k.walking.bell (subst (λ (r : DriverRow). HasOwners (after_driver_row r p).driver) is (events_keep_owners p sound.owners)) b
       (row_reach row p row_due k.walking.bell b reached)
 
   words_by : (row : DriverRow) → driver_row (driver_parts w) ≡ row → IsDue (driver_parts w) row → is_splice w.driver.command row ≡ false → Words row

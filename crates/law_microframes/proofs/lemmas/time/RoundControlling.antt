@@ -18,15 +18,15 @@ use Rattle.claims_driver.specs.InPlace.{AreFixed}
 use Rattle.claims_driver.specs.Walk.{IsWalkIn}
 use Rattle.law_driver_ring.specs.walk_members.Reached.{AreNoHeads}
 use Rattle.law_driver_ring.proofs.lemmas.walk_members.Walking.{between_in}
-use Rattle.law_driver_ring.proofs.lemmas.walk_members.Descriptions.{no_heads}
+use Rattle.law_driver_ring.proofs.lemmas.walk_members.Descriptions.{numbered_endpoints_are_no_heads}
 use Rattle.law_queues.specs.reached_rings.Reaching.{is_reached}
 use Rattle.law_queues.proofs.lemmas.reached_rings.Falling.{event_falls}
 use Rattle.law_ring.specs.Hand.{held_of}
 use Rattle.law_frames.proofs.Walking.{event_happens}
 use Rattle.law_controller.specs.frame_control.Both.{ControlsBoth}
-use Rattle.law_controller.proofs.lemmas.frame_control.Running.{event_runs}
+use Rattle.law_controller.proofs.lemmas.frame_control.Running.{each_event_of_the_controller_over_both}
 use Rattle.law_descriptors.specs.frame_keeps.Leaving.{LeavesStructures}
-use Rattle.law_descriptors.proofs.lemmas.kept_frames.Both.{both_leave}
+use Rattle.law_descriptors.proofs.lemmas.kept_frames.Both.{events_leave_words}
 use Rattle.law_descriptors.specs.Both.{both}
 use Rattle.law_descriptors.specs.Meeting.{met}
 use Rattle.bus_wire.specs.Bus.{Fixed}
@@ -34,7 +34,7 @@ use Rattle.bus_world.specs.World.{World, controller_parts, controller_row, contr
 use Rattle.law_world.specs.steps.Streaming.{begins_by, transacts_by, wired}
 use Rattle.law_world.specs.steps.controlled_walks.Walks.{LeavesDoorbell}
 use Rattle.law_world.proofs.lemmas.steps.StreamTurning.{world_has_row}
-use Rattle.law_world.proofs.lemmas.steps.lemmas.world_bytes.Hearing.{hears_bytes}
+use Rattle.law_world.proofs.lemmas.steps.lemmas.world_bytes.Hearing.{a_bus_of_bytes_is_heard_as_bytes}
 use Rattle.law_world.proofs.lemmas.steps.lemmas.controlled_walks.Framing.{frame_doorbell}
 use Rattle.law_world.specs.memory.Mixed.{Standing, IsMixedAt, IsMixedWorld}
 use Rattle.law_world.proofs.lemmas.memory.Controller.{controller_keeps_mixed}
@@ -162,14 +162,14 @@ module _ (fixed : Fixed) (s : Standing) (w : World) (vs : List ℕ) (k : IsMixed
 
   event : Events
   event =
-      event_runs begins_by transacts_by opening_base s.member (met w.driver s.recent) (both s.descs s.parts) s.hand s.frame (controller_parts w) (wired fixed w) (controller_parts (controller_next fixed w))
+      each_event_of_the_controller_over_both begins_by transacts_by opening_base s.member (met w.driver s.recent) (both s.descs s.parts) s.hand s.frame (controller_parts w) (wired fixed w) (controller_parts (controller_next fixed w))
       (wired fixed (controller_next fixed w)) (event_happens transacts_by (met w.driver s.recent) (both s.descs s.parts) s.frame) k.now.framed.runs
       (record { run = k.now.framed.operating.run; async_enable = k.now.framed.operating.async_enable })
-      (hears_bytes fixed w k.bytes (wired fixed (controller_next fixed w))) (world_has_row fixed w)
+      (a_bus_of_bytes_is_heard_as_bytes fixed w k.bytes (wired fixed (controller_next fixed w))) (world_has_row fixed w)
 
   leaves : LeavesStructures (both s.descs s.parts) w.memory (controller_next fixed w).memory
   leaves =
-      both_leave begins_by transacts_by opening_base s.member (met w.driver s.recent) (both s.descs s.parts) s.hand s.frame (controller_parts w) (wired fixed w) (controller_parts (controller_next fixed w))
+      events_leave_words begins_by transacts_by opening_base s.member (met w.driver s.recent) (both s.descs s.parts) s.hand s.frame (controller_parts w) (wired fixed w) (controller_parts (controller_next fixed w))
       (wired fixed (controller_next fixed w)) k.now.framed.runs k.now.framed.aligned (world_has_row fixed w) event
 
   empty : controller_row w ≡ rows.Enter → w.control.walk.held ≡ None
@@ -189,7 +189,8 @@ module _ (fixed : Fixed) (s : Standing) (w : World) (vs : List ℕ) (k : IsMixed
         k.now.framed.place.sound.ring n.now.framed.place.sound.ring w.registers.doorbell)
         g.links_fall;
     behind = row_on begins_by transacts_by w.driver g.height (controller_parts w) (wired fixed w) (controller_parts (controller_next fixed w)) (wired fixed (controller_next fixed w)) vs
-        (controller_row w) g.links_fall k.walking.walk k.now.framed.place.fixed (no_heads w.driver k.walking.numbered) g.behind
+        (controller_row w) g.links_fall k.walking.walk k.now.framed.place.fixed
+        (numbered_endpoints_are_no_heads w.driver k.walking.numbered) g.behind
         (ap (λ (x : Base). x.run) n.now.framed.runs.ring.registers) empty ends (world_has_row fixed w);
   }
 

@@ -4,7 +4,7 @@ use Rattle.std.specs.List.{AllByRecursion}
 use Rattle.claims_world.specs.Memory.{IsNone, AreOnce}
 use Rattle.drv_table.specs.DriverContent.{DriverContent}
 use Rattle.law_queues.specs.reached_rings.Reaching.{is_reached}
-use Rattle.law_queues.proofs.lemmas.reached_rings.Computing.{reaches_fewer}
+use Rattle.law_queues.proofs.lemmas.reached_rings.Computing.{answer_reaches_fewer}
 use Rattle.law_microframes.specs.time.Heights.{AreFalling}
 
 not_higher : (height : ℕ → ℕ) (a v : ℕ) → height a < height v → a ≢ v
@@ -32,4 +32,4 @@ all_higher height k a (v ∷ vs) less all = (between (height k) (height a) (heig
 
 pub fewer : (d : DriverContent) (rings now : Bool) (n : ℕ) → (now ≡ true → rings ≡ true) → is_reached d now n ≡ true → is_reached d rings n ≡ true
 fewer d rings true n falls on = subst (λ (x : Bool). is_reached d x n ≡ true) (sym (falls refl)) on
-fewer d rings false n falls on = reaches_fewer d rings n on
+fewer d rings false n falls on = answer_reaches_fewer d rings n on

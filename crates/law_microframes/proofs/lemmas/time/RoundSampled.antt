@@ -22,8 +22,8 @@ use Rattle.law_microframes.proofs.lemmas.visits.VisitSampled.{answered, accepted
 use Rattle.law_microframes.specs.time.Rounds.{round_next, round}
 use Rattle.law_microframes.specs.time.RoundSamples.{typed_rounds}
 
-pub typed_round : (k : ℕ) → round keyboard_and_disk (suc k) ≡ typed_rounds k
-typed_round k = answered round_next (fixed_of keyboard_and_disk) (opening_world keyboard_and_disk) 6 (commands.OpenEp keyboard) (orders_of after_the_open) _ [] k accepted
+pub its_rounds : (k : ℕ) → round keyboard_and_disk (suc k) ≡ typed_rounds k
+its_rounds k = answered round_next (fixed_of keyboard_and_disk) (opening_world keyboard_and_disk) 6 (commands.OpenEp keyboard) (orders_of after_the_open) _ [] k accepted
 
 pub a_round : (typed_rounds 30 ≡ []) × (typed_rounds 32 ≡ 4096 ∷ []) × (typed_rounds 36 ≡ 4256 ∷ 4096 ∷ []) × (typed_rounds 38 ≡ 4256 ∷ 4096 ∷ []) × (typed_rounds 40 ≡ 4096 ∷ [])
 unfolding carried_from lowest_run filled with_words_in store_words lend_runs qh_words qtd_words token_word token_at link_word qtd_link_word predecessors frames word_after before_the behind_the link_read qtd_link_read qh_read qh_bad qh_at qtd_read qtd_bad qtd_at first_bad_bit words_in reloaded

@@ -2,7 +2,7 @@
 use Rattle.std.proofs.Common.{[], refl}
 use Rattle.drv_table.specs.Rows.{driver_row}
 use Rattle.script_fits.proofs.Texts.{spelled_fits}
-use Rattle.law_scripts.proofs.lemmas.script_bytes.Texts.{spelled_bytes}
+use Rattle.law_scripts.proofs.lemmas.script_bytes.Texts.{a_text_spells_bytes}
 use Rattle.bus_wire.specs.Bus.{Fixed, fixed_of}
 use Rattle.bus_world.specs.World.{driver_parts}
 use Rattle.bus_world.specs.Budgets.{moment}
@@ -16,7 +16,7 @@ use Rattle.law_world.proofs.lemmas.memory.Carrying.{KeepsCarried, carrying, Next
 use Rattle.law_microframes.specs.time.Rounds.{round_next, round, IsRounding}
 use Rattle.law_microframes.specs.time.RoundLaws.{DriverKeepsRounds, CommandKeepsRounds, ScriptsRoundOnce, TextsRoundOnce}
 use Rattle.law_microframes.proofs.lemmas.time.CommandRounds.{command_leaves_rounds}
-use Rattle.law_microframes.proofs.lemmas.time.DriverRounds.{each_row_rounds}
+use Rattle.law_microframes.proofs.lemmas.time.DriverRounds.{each_row_keeps_rounds}
 use Rattle.law_microframes.proofs.lemmas.time.RoundOpening.{new_is_rounding}
 use Rattle.law_microframes.proofs.lemmas.time.RoundControlling.{controller_keeps_rounds}
 use Rattle.law_microframes.proofs.lemmas.time.RoundMoments.{rounds_apart}
@@ -26,7 +26,7 @@ driver_keeps_rounds w vs k =
     let s : Standing = k.mixed.standing in
     record {
       mixed = driver_keeps_mixed w k.mixed;
-      rounds = each_row_rounds (driver_row (driver_parts w)) s w vs k.mixed.mixed k.rounds refl;
+      rounds = each_row_keeps_rounds (driver_row (driver_parts w)) s w vs k.mixed.mixed k.rounds refl;
     }
 
 pub command_keeps_rounds : CommandKeepsRounds
@@ -50,4 +50,4 @@ scripts_round_once s fit bytes opens k = carrying round_next (λ w orders vs. Ne
 pub texts_round_once : TextsRoundOnce
 texts_round_once text s spelled k =
     rounds_apart (moment s k).world (round s k)
-    (scripts_round_once s (spelled_fits text s spelled) (spelled_bytes text s spelled) (lines_fit s.lines (texts_fit text s spelled) (texts_open_fitting text s spelled)) k)
+    (scripts_round_once s (spelled_fits text s spelled) (a_text_spells_bytes text s spelled) (lines_fit s.lines (texts_fit text s spelled) (texts_open_fitting text s spelled)) k)

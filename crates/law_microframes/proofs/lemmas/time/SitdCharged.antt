@@ -31,7 +31,7 @@ use Rattle.periodic_walk.specs.Rows.{step_at, effect_at}
 use Rattle.hc_core.specs.Controller.{hc_step}
 use Rattle.claims_world.specs.Prices.{price_of, cost_of}
 use Rattle.law_microframes.specs.time.SitdParts.{IsSitdOf, IsSitdInHand, IsSitdStill, GoesOnInParts, PartsBy, SitdsArePriced}
-use Rattle.law_microframes.proofs.lemmas.time.SitdParts.{parts_within, parts_stay}
+use Rattle.law_microframes.proofs.lemmas.time.SitdParts.{parts_are_within, parts_stay}
 
 -- ---- it stays a siTD of the endpoint
 
@@ -169,7 +169,7 @@ worked : (x : Placed) (p there : FramePlace) (h : HeldSitd) (t : IsoTransaction)
 worked x p there h t reply paid same held free turn =
     let u : ℕ = microframe_of p.walk.index in
     let now : microframe_of there.walk.index ≡ u = ap (λ (w : Walk). microframe_of w.index) same in
-    let most = parts_within x h u held.descriptor held.parts (a_microframe p.walk.index) turn in
+    let most = parts_are_within x h u held.descriptor held.parts (a_microframe p.walk.index) turn in
     let after : IsSitdInHand x (sitd_copy u reply h) p.walk.index (paid + price_of (hands.Sitd h)) = record {
       descriptor = sitd_of x h.sitd u reply h.sitd.dir_in held.descriptor (a_microframe p.walk.index);
       parts = parts_stay h.sitd x.want.max u reply held.parts held.descriptor.prog (a_microframe p.walk.index) turn;
@@ -226,7 +226,7 @@ row_parts x p h paid (rows.WriteBack outcome) held comes =
     wrote_rests x p (record p { memory = (writing h outcome p.walk.reply p.memory).memory }) h h paid outcome
     (writing h outcome p.walk.reply p.memory).all refl
 
-pub sitds_priced : SitdsArePriced
-sitds_priced x p h paid is held =
+pub sitds_are_priced : SitdsArePriced
+sitds_are_priced x p h paid is held =
     subst (λ (o : Option Hand). PartsBy x p h paid (cost_of (hc_step (step_at p o)) (hands.Sitd h)) (effect_at p o)) (sym is)
     (row_parts x p h paid (sitd_row p h) held (row_comes h p.walk.left (microframe_of p.walk.index) h.settled refl))

@@ -36,7 +36,7 @@ use Rattle.drv_table.specs.Offers.{offered}
 use Rattle.claims_driver.specs.Owners.{HasBlocks, HasRun, is_descriptor, runs_of_transfer}
 use Rattle.law_driver.specs.in_place.InPlace.{IsInPlace}
 use Rattle.law_driver.specs.run_owners.Accepts.{Accepts}
-use Rattle.law_driver.proofs.lemmas.run_owners.Commands.{accepted_for_a_reason}
+use Rattle.law_driver.proofs.lemmas.run_owners.Commands.{each_command_has_its_reason}
 use Rattle.law_driver.proofs.lemmas.run_owners.Runs.{placed_run}
 use Rattle.law_driver.proofs.lemmas.run_owners.Taking.{run_some}
 use Rattle.law_driver.proofs.lemmas.queued_drivers.CommandReasons.{reason_of}
@@ -48,7 +48,7 @@ use Rattle.law_descriptors.proofs.Accepted.{drop_old, made, all_transfers}
 use Rattle.law_descriptors.proofs.Returning.{same_blocks}
 use Rattle.law_descriptors.specs.Meeting.{met}
 use Rattle.law_world.specs.memory.framed_memory.Isochronous.{AwaitsLend}
-use Rattle.law_world.proofs.lemmas.memory.lemmas.framed_memory.TakenOn.{commands_await}
+use Rattle.law_world.proofs.lemmas.memory.lemmas.framed_memory.TakenOn.{commands_keep_awaiting}
 use Rattle.bus_world.specs.World.{World, name_in, commanded_by, commanded}
 use Rattle.law_world.specs.memory.Mixed.{IsMixedWorld}
 use Rattle.law_microframes.specs.visits.Belonging.{IsDescriptorAt, IsHarvestedAt}
@@ -167,7 +167,7 @@ other_keeps_sitds w line cmd other k old = by (offered w.driver w.memory cmd) re
     by (Err why) is = refused_stand w line (name_in cmd) why old
     by (Ok o) is =
         let place = k.mixed.now.framed.place in
-        let reason = accepted_for_a_reason w.driver w.memory cmd o is in
+        let reason = each_command_has_its_reason w.driver w.memory cmd o is in
         let told : IsTold w.driver o = told_by w.driver w.memory cmd o other (reason_of w.driver w.memory cmd o is) in
         record {
           fields = λ j. old_fields w.driver w.memory w.control o place reason old j (told_old w.driver w.memory o place told j);
@@ -227,7 +227,7 @@ module _ (w : World) (name : EpName) (count len seed : ℕ) (o : Offered) (mixed
   place = mixed.mixed.now.framed.place
 
   reason : Accepts w.driver w.memory o
-  reason = accepted_for_a_reason w.driver w.memory (commands.Iso name count len seed) o is
+  reason = each_command_has_its_reason w.driver w.memory (commands.Iso name count len seed) o is
 
   i : IsIsoOf w.driver w.memory name len o
   i = is_iso_of w.driver w.memory name count len seed o is
@@ -294,7 +294,8 @@ module _ (w : World) (name : EpName) (count len seed : ℕ) (o : Offered) (mixed
       awaited : AwaitsLend o.driver o.memory k.number (length w.driver.transfers)
       awaited =
           let none : o.driver.made ≡ 0 = ap (λ (g : Offered). g.driver.made) by.is in
-          commands_await d m (commands.Iso name count len seed) o place mixed.mixed.now.planned mixed.mixed.masks mixed.mixed.numbers is
+          commands_keep_awaiting d m (commands.Iso name count len seed) o place mixed.mixed.now.planned mixed.mixed.masks
+          mixed.mixed.numbers is
           k.number (length d.transfers) k.count
           (ap (λ (g : Offered). g.driver.command) by.is) (omega (arith, none))
 

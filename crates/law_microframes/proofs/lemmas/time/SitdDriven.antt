@@ -14,10 +14,10 @@ use Rattle.drv_table.specs.Parts.{Parts}
 use Rattle.drv_table.specs.Rows.{driver_row, after_driver_row}
 use Rattle.claims_driver.specs.Owners.{SlotHas, runs_of_transfer, views_of}
 use Rattle.law_driver.specs.in_place.InPlace.{IsInPlace}
-use Rattle.law_driver.proofs.lemmas.in_place.Laws.{event_in_place}
+use Rattle.law_driver.proofs.lemmas.in_place.Laws.{events_keep_all_in_place}
 use Rattle.law_driver.proofs.lemmas.ring_members.Aside.{list_apart}
 use Rattle.law_driver.proofs.lemmas.ring_members.Placed.{has_first}
-use Rattle.law_driver.proofs.lemmas.run_owners.Reasons.{each_is_due}
+use Rattle.law_driver.proofs.lemmas.run_owners.Reasons.{each_event_is_due}
 use Rattle.law_driver.proofs.lemmas.run_owners.Runs.{placed_run}
 use Rattle.bus_world.specs.World.{World, driver_parts, driver_next}
 use Rattle.law_world.specs.memory.Mixed.{IsMixedWorld}
@@ -41,10 +41,10 @@ module _ (w : World) (mixed : IsMixedWorld w) (old : SitdsStand w.driver w.memor
   place = mixed.mixed.now.framed.place
 
   later : IsInPlace (driver_next w).memory (driver_next w).driver
-  later = event_in_place p place
+  later = events_keep_all_in_place p place
 
   pub follows : Follows w.driver w.memory (driver_next w).driver
-  follows = row_follows (driver_row p) p (each_is_due p) place.sound
+  follows = row_follows (driver_row p) p (each_event_is_due p) place.sound
 
   from : From w.driver w.memory j.number j.transfer
   from = follows.back j.number j.transfer j.there j.sort j.held
@@ -101,7 +101,7 @@ module _ (w : World) (mixed : IsMixedWorld w) (old : SitdsStand w.driver w.memor
       (ap (option_map runs_of_transfer) from.here) from.descriptor from.held in
       row_leaves p b j.number i ((views_of w.driver).descriptor b).split sound.stands sound.shape sound.owners sound.ring
       (list_apart w.driver w.memory sound.stands sound.shape sound.owners sound.listed) o.descriptor (inside i small) some (driver_row p)
-      (each_is_due p) no_mend (inside_then i small)
+      (each_event_is_due p) no_mend (inside_then i small)
 
   pub was_first : before.transfer.first ≡ j.transfer.first
   unfolding before

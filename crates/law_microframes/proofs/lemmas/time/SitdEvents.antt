@@ -30,9 +30,9 @@ use Rattle.law_frames.specs.Met.{Kind}
 use Rattle.law_frames.specs.FrameHand.{settled_in, SitdCopy, FrameHand, Nothing, OfQueue, OfSettled, OfItd, OfSitd, fetched_sitd_copy}
 use Rattle.law_frames.specs.Frame.{IsCopiedQueue, IsCopiedItd, IsInFrame}
 use Rattle.law_frames.specs.FrameEffects.{Fetches, MakesOne, TakesOne, itd_back, sitd_back, WritesQueue, WritesItd, WritesSitd, IsWrittenFrom, made as was_made, missed as was_missed, WritesOne, FrameEffect, fetches, passes, ends, takes, makes, writes}
-use Rattle.law_frames.proofs.QueueBacks.{hand_settled}
+use Rattle.law_frames.proofs.QueueBacks.{hand_is_settled}
 use Rattle.law_microframes.specs.time.SitdFields.{SitdName, IsSitdAs}
-use Rattle.law_microframes.proofs.lemmas.time.SitdStable.{sitds_stable}
+use Rattle.law_microframes.proofs.lemmas.time.SitdStable.{sitds_are_stable}
 
 -- ---- what is in hand
 
@@ -113,7 +113,7 @@ module _ (way : SitdName) (s c most n : ℕ) where
           let copied = same_sitd _ j (sym m.later_is ∙ is) in
           let low : microframe_of w.index < 8 = omega arith in
           subst (λ (i : SitdCopy). IsSitdAs way s c most i.held.sitd) copied
-          ((sitds_stable way s c most).worked m.copy.held.sitd (microframe_of w.index) m.reply
+          ((sitds_are_stable way s c most).worked m.copy.held.sitd (microframe_of w.index) m.reply
           (k.held m.copy m.in_hand (ap (λ (i : SitdCopy). i.held.at) copied ∙ at)) low m.works);
     }
 
@@ -132,7 +132,7 @@ module _ (way : SitdName) (s c most n : ℕ) where
 
       wrote_queue : WritesQueue parts w hand now later → AreSitdsAs now later
       wrote_queue r =
-          let copied : IsCopiedQueue met parts r.copy = (hand_settled met parts w hand r.copy r.settled r.made in_hand r.from).0 in
+          let copied : IsCopiedQueue met parts r.copy = (hand_is_settled met parts w hand r.copy r.settled r.made in_hand r.from).0 in
           let differs : n ≢ r.copy.at = queue_beside parts r.copy.at r.copy.queue v copied.here here in
           quiet
           (ap (λ (x : StructureSets). x n) r.now_is
@@ -158,7 +158,7 @@ module _ (way : SitdName) (s c most n : ℕ) where
           (k.held copy is (ap (λ (i : SitdCopy). i.held.at) (sym same) ∙ at))
       back_as copy back is (was_missed unsettled turn same) at =
           subst (λ (i : SitdCopy). IsSitdAs way s c most i.held.sitd) (sym same)
-          ((sitds_stable way s c most).missed copy.held.sitd (k.held copy is (ap (λ (i : SitdCopy). i.held.at) (sym same) ∙ at)))
+          ((sitds_are_stable way s c most).missed copy.held.sitd (k.held copy is (ap (λ (i : SitdCopy). i.held.at) (sym same) ∙ at)))
 
       wrote_sitd : WritesSitd parts w hand now later → AreSitdsAs now later
       wrote_sitd r =
@@ -167,7 +167,7 @@ module _ (way : SitdName) (s c most n : ℕ) where
           let new : Sitd = sitd_back r.back (sitd_moved_by r.outcome) in
           ⊎_elim {C = AreSitdsAs now later}
           (λ (own : n ≡ r.back.held.at).
-          let stable = sitds_stable way s c most in
+          let stable = sitds_are_stable way s c most in
           let has : IsSitdAs way s c most new =
           stable.linked _ r.back.sitd.link (stable.moved r.back.held.sitd (sitd_moved_by r.outcome)
           (back_as r.copy r.back r.in_hand r.written (sym own))) in

@@ -338,8 +338,8 @@ within_by : (x : Placed) (v : Sitd) (u : ℕ) (dir : Dir) → x.want.dir ≡ dir
 within_by x v u ways.In same of parts small turn = within_in x v u v.split_state refl same of parts small turn
 within_by x v u ways.Out same of parts small turn = within_out x v u same of parts small turn
 
-pub parts_within : PartsAreWithin
-parts_within x h u of parts small turn = within_by x h.sitd u x.want.dir refl of parts small turn
+pub parts_are_within : PartsAreWithin
+parts_are_within x h u of parts small turn = within_by x h.sitd u x.want.dir refl of parts small turn
 
 -- ---- the parts that are to come
 

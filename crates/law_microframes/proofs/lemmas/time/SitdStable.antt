@@ -109,5 +109,6 @@ module _ (way : SitdName) (s c n : ℕ) where
     parts = record { fits = λ on. absurd (false≢true on); count = λ on. absurd (false≢true on); within = λ on. absurd (false≢true on); position = λ on. absurd (false≢true on) };
   }
 
-pub sitds_stable : SitdsAreStable
-sitds_stable way s c n = record { linked = linked way s c n; worked = worked way s c n; moved = moved way s c n; missed = missed way s c n }
+pub sitds_are_stable : SitdsAreStable
+sitds_are_stable way s c n =
+    record { linked = linked way s c n; worked = worked way s c n; moved = moved way s c n; missed = missed way s c n }

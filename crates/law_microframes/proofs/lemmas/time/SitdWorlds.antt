@@ -20,7 +20,7 @@ use Rattle.claims_base.specs.Controller.{opening_base}
 use Rattle.law_structures.specs.lent_structures.Structures.{Structure, SplitIsochronous, Structures, StructureSets}
 use Rattle.law_driver_ring.specs.Inventory.{IsLent, sort_of}
 use Rattle.law_ring.specs.walk_writes.Writes.{WritesLent}
-use Rattle.law_controller.proofs.lemmas.lent_writes.Controlling.{controller_writes_lent}
+use Rattle.law_controller.proofs.lemmas.lent_writes.Controlling.{each_event_of_the_controller_writes_lent_words}
 use Rattle.law_controller.proofs.lemmas.aligned_copies.Controlling.{aligned_placed}
 use Rattle.law_frames.specs.FrameHand.{SitdCopy, FrameHand, Nothing, OfQueue, OfSettled, OfItd, OfSitd, frame_held}
 use Rattle.law_frames.specs.Frame.{IsFrameWalk, IsCopiedSitd, IsInFrame}
@@ -29,7 +29,7 @@ use Rattle.law_descriptors.specs.Both.{owns, both}
 use Rattle.law_descriptors.specs.Meeting.{met}
 use Rattle.law_descriptors.specs.frame_keeps.Kept.{HasSitdAfter, KeepsParts}
 use Rattle.law_descriptors.proofs.Standing.{both_on}
-use Rattle.law_descriptors.proofs.lemmas.kept_frames.Both.{both_keep}
+use Rattle.law_descriptors.proofs.lemmas.kept_frames.Both.{events_keep_both}
 use Rattle.law_world.specs.steps.Streaming.{begins_by, transacts_by, wired}
 use Rattle.law_world.proofs.lemmas.steps.StreamTurning.{world_has_row}
 use Rattle.bus_wire.specs.Bus.{Fixed}
@@ -119,7 +119,7 @@ module _ (fixed : Fixed) (w : World) (s : Standing) (k : IsMixedAt s w) (old : S
   keeps : KeepsParts (both s.descs s.parts) (event_of fixed w s k).now
   keeps =
       let e = event_of fixed w s k in
-      both_keep begins_by transacts_by opening_base s.member (met w.driver s.recent) all s.hand s.frame (controller_parts w)
+      events_keep_both begins_by transacts_by opening_base s.member (met w.driver s.recent) all s.hand s.frame (controller_parts w)
       (wired fixed w) (wired fixed new) e.now e.later e.frame_later
       k.now.framed.runs e.effect
 
@@ -156,7 +156,8 @@ module _ (fixed : Fixed) (w : World) (s : Standing) (k : IsMixedAt s w) (old : S
 
   writes : WritesLent w.memory (controller_next fixed w).memory
   writes =
-      controller_writes_lent begins_by transacts_by (controller_parts w) (wired fixed w) (controller_parts new) (wired fixed new)
+      each_event_of_the_controller_writes_lent_words begins_by transacts_by (controller_parts w) (wired fixed w) (controller_parts new)
+      (wired fixed new)
       (aligned_placed (controller_parts w) k.now.framed.aligned) (world_has_row fixed w)
 
   kept_stays : (r : Run) → slot_of w.driver.book.slots i.transfer.first ≡ slots.Keeps r → r.blocks ≡ 1

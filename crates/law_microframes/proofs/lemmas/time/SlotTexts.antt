@@ -34,7 +34,7 @@ use Rattle.law_devices.proofs.Lists.{Holds, all_append, all_more, all_find, foun
 use Rattle.law_devices.proofs.Drafts.{HasOwn, ep_in, IsNamedIn, IsKnownDesc, IsKnownLine, KeepsEps, IsDeclaredDraft}
 use Rattle.law_devices.proofs.Senders.{empty_declared, second_declared, line_declares}
 use Rattle.law_devices.proofs.Texts.{IsScriptOf, spelled_kept}
-use Rattle.law_devices.proofs.lemmas.declared_controls.Controls.{spelled_names}
+use Rattle.law_devices.proofs.lemmas.declared_controls.Controls.{texts_name_endpoints}
 use Rattle.law_devices.proofs.lemmas.declared_controls.Texts.{is_ranged}
 use Rattle.law_microframes.specs.time.SitdFields.{FitsSlotsOf, FitsSlots, OpensFitSlots, SlotsFit, TextsFitSlots}
 
@@ -289,5 +289,6 @@ texts_fit_slots text s spelled =
     let k : IsScriptOf IsSlotDraft s =
     spelled_kept IsSlotDraft (record { declared = empty_declared; slots = tt })
     (λ w h. record { declared = second_declared w h.declared; slots = h.slots }) line_slots text s spelled in
-    let names = subst (λ (v : Script). AllByRecursion (λ l. NamesLine l.1) v.lines) (sym k.is) (spelled_names text s spelled).opened in
+    let names = subst (λ (v : Script). AllByRecursion (λ l. NamesLine l.1) v.lines) (sym k.is) (texts_name_endpoints text s spelled).opened
+    in
     subst SlotsFit k.is (lines_fit k.draft k.draft.lines k.holds names k.holds.declared.opened)

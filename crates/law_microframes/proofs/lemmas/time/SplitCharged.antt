@@ -360,8 +360,8 @@ row_pays x p m h paid (rows.WriteBack outcome) held fits =
     wrote_pays x p (record p { memory = (writing h.copy outcome p.walk.reply m).memory }) (writing h.copy outcome p.walk.reply m).all h h
     outcome paid refl refl held
 
-pub splits_priced : SplitsArePriced
-splits_priced x p h paid is held way =
+pub splits_are_priced : SplitsArePriced
+splits_are_priced x p h paid is held way =
     subst (λ (o : Option Hand). PaysBy x p (hands.Queue h) paid (added (hc_step (step_at p o)) (hands.Queue h)) (effect_at p o)) (sym is)
     (row_pays x p (queue_read p h) h paid (queue_row p h) held (row_fits x p h paid held way))
 

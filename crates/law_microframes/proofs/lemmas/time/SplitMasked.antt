@@ -33,8 +33,8 @@ use Rattle.drv_table.specs.Rows.{driver_row}
 use Rattle.drv_chains.proofs.Words.{all_kept}
 use Rattle.law_admission.specs.Budgets.{Account, account_of, taken_out, account_after}
 use Rattle.law_admission.specs.Opens.{OpenAfter}
-use Rattle.law_admission.proofs.Events.{account_of_event}
-use Rattle.law_admission.proofs.Commands.{account_of_command}
+use Rattle.law_admission.proofs.Events.{events_take_out_what_left}
+use Rattle.law_admission.proofs.Commands.{commands_place_the_best}
 use Rattle.law_driver.proofs.lemmas.iso_frames.Framing.{all_joined}
 use Rattle.law_world.specs.steps.receiving_runs.Runs.{KindOfLine, IsKeptBy}
 use Rattle.law_world.proofs.lemmas.steps.lemmas.receiving_runs.Runs.{holds_throughout}
@@ -143,16 +143,16 @@ all_split : (w : Want) → is_classic w.speed ≡ true → AllByRecursion HasSpl
 unfolding allowed
 all_split w classic = phases_split w (below (frame_period w.period)) classic
 
-pub allowed_split : AllowedAreSplit
-allowed_split y is classic = one_of_all HasSplitMasks (allowed y.want) is.place y.placement (all_split y.want classic) is.at
+pub allowed_are_split : AllowedAreSplit
+allowed_are_split y is classic = one_of_all HasSplitMasks (allowed y.want) is.place y.placement (all_split y.want classic) is.at
 
 -- ---- the driver
 
 abbrev InAccount : Account → Type 0
 InAccount a = AllByRecursion IsAllowed a.plan.placed
 
-pub new_allowed : NewIsAllowed
-new_allowed s = tt
+pub new_is_allowed : NewIsAllowed
+new_is_allowed s = tt
 
 out_allowed : (a : Account) (e : ℕ) (o : Option Endpoint) → InAccount a → InAccount (taken_out a e o)
 out_allowed a e None all = all
@@ -162,8 +162,8 @@ after_allowed : (row : DriverRow) (d : DriverContent) → AreAllowed d → InAcc
 after_allowed (rows.ReleaseRemoved (removed.Endpoint e)) d all = out_allowed (account_of d) e (slice_get d.endpoints e) all
 after_allowed _ d all = all
 
-pub events_allowed : EventsKeepAllowed
-events_allowed p all = subst InAccount (sym (account_of_event (driver_row p) p)) (after_allowed (driver_row p) p.driver all)
+pub events_keep_allowed : EventsKeepAllowed
+events_keep_allowed p all = subst InAccount (sym (events_take_out_what_left (driver_row p) p)) (after_allowed (driver_row p) p.driver all)
 
 open_allowed : (d : DriverContent) (x : EpDesc) (o : Offered) (b : Bool) → AreAllowed d → OpenAfter d x o b → AreAllowed o.driver
 open_allowed d x o true all why =
@@ -176,24 +176,26 @@ open_allowed d x o false all why = subst InAccount (sym why) all
 same_plan : (d : DriverContent) (o : Offered) → AreAllowed d → account_of o.driver ≡ account_of d → AreAllowed o.driver
 same_plan d o all same = subst InAccount (sym same) all
 
-pub commands_allowed : CommandsKeepAllowed
-commands_allowed d m (commands.OpenEp x) o all is =
-    open_allowed d x o (is_periodic x.kind) all (account_of_command d m (commands.OpenEp x) o is)
-commands_allowed d m (commands.Get name len by) o all is = same_plan d o all (account_of_command d m (commands.Get name len by) o is)
-commands_allowed d m (commands.Put name bytes by) o all is = same_plan d o all (account_of_command d m (commands.Put name bytes by) o is)
-commands_allowed d m (commands.Control name setup bytes) o all is =
-    same_plan d o all (account_of_command d m (commands.Control name setup bytes) o is)
-commands_allowed d m (commands.Iso name count len seed) o all is =
-    same_plan d o all (account_of_command d m (commands.Iso name count len seed) o is)
-commands_allowed d m (commands.Cancel name) o all is = same_plan d o all (account_of_command d m (commands.Cancel name) o is)
-commands_allowed d m (commands.Clear name) o all is = same_plan d o all (account_of_command d m (commands.Clear name) o is)
-commands_allowed d m (commands.Reset port) o all is = same_plan d o all (account_of_command d m (commands.Reset port) o is)
-commands_allowed d m (commands.Give port) o all is = same_plan d o all (account_of_command d m (commands.Give port) o is)
-commands_allowed d m (commands.DiskRead addr lba count) o all is =
-    same_plan d o all (account_of_command d m (commands.DiskRead addr lba count) o is)
-commands_allowed d m (commands.DiskWrite addr lba bytes) o all is =
-    same_plan d o all (account_of_command d m (commands.DiskWrite addr lba bytes) o is)
-commands_allowed d m (commands.Revive addr) o all is = same_plan d o all (account_of_command d m (commands.Revive addr) o is)
+pub commands_keep_allowed : CommandsKeepAllowed
+commands_keep_allowed d m (commands.OpenEp x) o all is =
+    open_allowed d x o (is_periodic x.kind) all (commands_place_the_best d m (commands.OpenEp x) o is)
+commands_keep_allowed d m (commands.Get name len by) o all is =
+    same_plan d o all (commands_place_the_best d m (commands.Get name len by) o is)
+commands_keep_allowed d m (commands.Put name bytes by) o all is =
+    same_plan d o all (commands_place_the_best d m (commands.Put name bytes by) o is)
+commands_keep_allowed d m (commands.Control name setup bytes) o all is =
+    same_plan d o all (commands_place_the_best d m (commands.Control name setup bytes) o is)
+commands_keep_allowed d m (commands.Iso name count len seed) o all is =
+    same_plan d o all (commands_place_the_best d m (commands.Iso name count len seed) o is)
+commands_keep_allowed d m (commands.Cancel name) o all is = same_plan d o all (commands_place_the_best d m (commands.Cancel name) o is)
+commands_keep_allowed d m (commands.Clear name) o all is = same_plan d o all (commands_place_the_best d m (commands.Clear name) o is)
+commands_keep_allowed d m (commands.Reset port) o all is = same_plan d o all (commands_place_the_best d m (commands.Reset port) o is)
+commands_keep_allowed d m (commands.Give port) o all is = same_plan d o all (commands_place_the_best d m (commands.Give port) o is)
+commands_keep_allowed d m (commands.DiskRead addr lba count) o all is =
+    same_plan d o all (commands_place_the_best d m (commands.DiskRead addr lba count) o is)
+commands_keep_allowed d m (commands.DiskWrite addr lba bytes) o all is =
+    same_plan d o all (commands_place_the_best d m (commands.DiskWrite addr lba bytes) o is)
+commands_keep_allowed d m (commands.Revive addr) o all is = same_plan d o all (commands_place_the_best d m (commands.Revive addr) o is)
 
 -- ---- a run
 
@@ -213,15 +215,16 @@ command_allowed w n cmd all = by (offered w.driver w.memory cmd) refl
   where
     by : (r : Result Offered OfferError) → offered w.driver w.memory cmd ≡ r → AreAllowed (commanded_by w n (name_in cmd) r).driver
     by (Err why) is = all
-    by (Ok o) is = commands_allowed w.driver w.memory cmd o all is
+    by (Ok o) is = commands_keep_allowed w.driver w.memory cmd o all is
 
 is_kept : (s : Script) → IsKeptBy (fixed_of s) AnyCommand (λ w. AreAllowed w.driver)
 is_kept s = record {
-  driver = λ w all. events_allowed (driver_parts w) all;
+  driver = λ w all. events_keep_allowed (driver_parts w) all;
   controller = λ w all. all;
   command = λ w line cmd can room all. command_allowed w line cmd all;
 }
 
 pub scripts_keep_allowed : ScriptsKeepAllowed
-scripts_keep_allowed s fit k = holds_throughout AnyCommand (λ w. AreAllowed w.driver) s fit (any_lines s.lines) (new_allowed s) (is_kept s)
+scripts_keep_allowed s fit k =
+    holds_throughout AnyCommand (λ w. AreAllowed w.driver) s fit (any_lines s.lines) (new_is_allowed s) (is_kept s)
     k

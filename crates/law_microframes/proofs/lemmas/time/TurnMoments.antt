@@ -4,7 +4,7 @@ use Rattle.script_types.specs.declared.scripts.Event.TheVariants as events
 use Rattle.script_types.specs.declared.scripts.Script.{Script}
 use Rattle.script_text.specs.Faults.{Spells}
 use Rattle.script_fits.proofs.Texts.{spelled_fits}
-use Rattle.law_scripts.proofs.lemmas.script_bytes.Texts.{spelled_bytes}
+use Rattle.law_scripts.proofs.lemmas.script_bytes.Texts.{a_text_spells_bytes}
 use Rattle.async_walk.specs.declared.state.WalkStep.{WalkStep}
 use Rattle.async_walk.specs.declared.state.WalkStep.TheVariants as walks
 use Rattle.hc_core.specs.declared.controller.ControllerRow.{ControllerRow}
@@ -27,7 +27,7 @@ use Rattle.law_world.proofs.lemmas.memory.Carrying.{carried_then}
 use Rattle.law_microframes.proofs.lemmas.visits.ReasonMoments.{next_moment}
 use Rattle.law_microframes.proofs.lemmas.visits.ReasonParts.{command_control}
 use Rattle.law_microframes.proofs.lemmas.visits.VisitTexts.{lines_fit}
-use Rattle.law_microframes.proofs.lemmas.visits.VisitsKept.{scripts_visit_all}
+use Rattle.law_microframes.proofs.lemmas.visits.VisitsKept.{scripts_visit}
 use Rattle.law_microframes.specs.time.Rounds.{round_after, round_next, round}
 use Rattle.claims_world.specs.Microframes.{most_blocks, microframe_whole}
 use Rattle.law_microframes.specs.time.HeadReads.{heads_after, heads_next, heads, HeadsAreFew}
@@ -58,7 +58,7 @@ AreCounted s = (k : ℕ) → IsCountedIn (fixed_of s) (moment s k).world (moment
 
 pub texts_are_counted : (text : List ℕ) (s : Script) → Spells text s → ((k : ℕ) → IsWithinTime (moment s k).world) → AreCounted s
 texts_are_counted text s spelled time k = record {
-  mixed = (scripts_visit_all s (spelled_fits text s spelled) (spelled_bytes text s spelled) (lines_fit s.lines (texts_fit text s spelled) (texts_open_fitting text s spelled)) k).mixed;
+  mixed = (scripts_visit s (spelled_fits text s spelled) (a_text_spells_bytes text s spelled) (lines_fit s.lines (texts_fit text s spelled) (texts_open_fitting text s spelled)) k).mixed;
   heads = texts_read_few_heads text s spelled k;
   time = time k;
   visits =

@@ -19,23 +19,23 @@ use Rattle.law_world.proofs.lemmas.memory.Sampled.{typed_moment}
 use Rattle.claims_world.specs.Carried.{carried_from}
 use Rattle.claims_world.specs.Visits.{visited}
 use Rattle.law_microframes.specs.visits.VisitSamples.{typed_visits}
-use Rattle.law_microframes.proofs.lemmas.visits.VisitSampled.{typed_visited}
+use Rattle.law_microframes.proofs.lemmas.visits.VisitSampled.{its_visits}
 use Rattle.law_microframes.specs.time.Rounds.{round}
 use Rattle.law_microframes.specs.time.RoundSamples.{typed_rounds}
-use Rattle.law_microframes.proofs.lemmas.time.RoundSampled.{typed_round}
+use Rattle.law_microframes.proofs.lemmas.time.RoundSampled.{its_rounds}
 use Rattle.law_microframes.specs.time.HeadReads.{heads}
-use Rattle.law_microframes.proofs.lemmas.time.HeadSampled.{typed_head}
+use Rattle.law_microframes.proofs.lemmas.time.HeadSampled.{its_reads}
 use Rattle.law_microframes.specs.time.Ahead.{events_ahead, ahead}
 use Rattle.claims_world.specs.Microframes.{microframe_whole}
 use Rattle.law_microframes.specs.time.TurnSamples.{typed_ahead}
 
-pub typed_events : (k : ℕ) → ahead keyboard_and_disk (suc k) ≡ typed_ahead k
+pub its_events_ahead : (k : ℕ) → ahead keyboard_and_disk (suc k) ≡ typed_ahead k
 unfolding ahead
-typed_events k =
+its_events_ahead k =
     ap (λ (w : World). events_ahead w.control (visited keyboard_and_disk (suc k)) (round keyboard_and_disk (suc k)) (heads keyboard_and_disk (suc k))) (typed_moment k)
-    ∙ ap (λ (vs : List ℕ). events_ahead (typed_at k).control vs (round keyboard_and_disk (suc k)) (heads keyboard_and_disk (suc k))) (typed_visited k)
-    ∙ ap (λ (rs : List ℕ). events_ahead (typed_at k).control (typed_visits k) rs (heads keyboard_and_disk (suc k))) (typed_round k)
-    ∙ ap (λ (n : ℕ). events_ahead (typed_at k).control (typed_visits k) (typed_rounds k) n) (typed_head k)
+    ∙ ap (λ (vs : List ℕ). events_ahead (typed_at k).control vs (round keyboard_and_disk (suc k)) (heads keyboard_and_disk (suc k))) (its_visits k)
+    ∙ ap (λ (rs : List ℕ). events_ahead (typed_at k).control (typed_visits k) rs (heads keyboard_and_disk (suc k))) (its_rounds k)
+    ∙ ap (λ (n : ℕ). events_ahead (typed_at k).control (typed_visits k) (typed_rounds k) n) (its_reads k)
 
 pub whole_is : microframe_whole ≡ 17957822
 whole_is = refl

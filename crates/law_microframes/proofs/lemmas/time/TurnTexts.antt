@@ -17,8 +17,8 @@ rows_lower = each_row_lowers frame_lowers enter_lowers go_lowers
 pub scripts_keep_time : ScriptsKeepTime
 scripts_keep_time s k = moment_time (chain_visits_fall transacts_by) (chain_fetches_begin transacts_by) s k
 
-pub texts_end : TextsEndMicroframes
-texts_end text s spelled = microframes_end rows_lower s (texts_are_counted text s spelled (scripts_keep_time s))
+pub texts_end_microframes : TextsEndMicroframes
+texts_end_microframes text s spelled = microframes_end rows_lower s (texts_are_counted text s spelled (scripts_keep_time s))
 
-pub texts_carry_out : TextsCarryOutAll
-texts_carry_out text s spelled = carries_out_all s (texts_end text s spelled)
+pub texts_carry_out_all : TextsCarryOutAll
+texts_carry_out_all text s spelled = carries_out_all s (texts_end_microframes text s spelled)

@@ -149,8 +149,8 @@ row_less transacts _ p new before after h e fits stays = subst (Less h) (sym sta
 fits_at : (p : WalkPlace) (h : Held) (o : Option Held) → o ≡ Some h → Fits h.queue_head.token.active h.settled (row_at p o)
 fits_at p h o e = subst (λ (z : Option Held). Fits h.queue_head.token.active h.settled (row_at p z)) (sym e) (held_fits p.memory p.walk.left h.queue_head h.settled)
 
-pub ring_falls : {W : Type 0} (transacts : W → Ask → List ℕ → Reply → W → Type 0) → RingEventsFall transacts
-ring_falls transacts p new before after h e leads =
+pub ring_events_fall : {W : Type 0} (transacts : W → Ask → List ℕ → Reply → W → Type 0) → RingEventsFall transacts
+ring_events_fall transacts p new before after h e leads =
     let less : Less h new = row_less transacts (event_row p) (at_event p) new before after h e (fits_at (started p) h p.walk.held e) leads in
     subst (λ (o : Option Held). ring_steps new.walk.held < ring_steps o) (sym e) less
 
@@ -194,5 +194,5 @@ row_begins transacts (rows.Fetch a q) p new before after e begins stays =
     subst (λ (z : WalkPlace). ring_steps z.walk.held ≤ 3) (sym stays.0) (most_three (reloaded (mode_after q p.walk.mode) q).token.active)
 row_begins transacts _ p new before after e begins stays = absurd begins
 
-pub ring_fetched : {W : Type 0} (transacts : W → Ask → List ℕ → Reply → W → Type 0) → RingFetchesBegin transacts
-ring_fetched transacts p new before after e leads = row_begins transacts (event_row p) (at_event p) new before after e (begins_at (started p) p.walk.held e) leads
+pub ring_fetches_begin : {W : Type 0} (transacts : W → Ask → List ℕ → Reply → W → Type 0) → RingFetchesBegin transacts
+ring_fetches_begin transacts p new before after e leads = row_begins transacts (event_row p) (at_event p) new before after e (begins_at (started p) p.walk.held e) leads

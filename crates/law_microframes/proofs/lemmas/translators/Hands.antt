@@ -55,7 +55,7 @@ use Rattle.law_descriptors.specs.Both.{both}
 use Rattle.law_descriptors.specs.Meeting.{met}
 use Rattle.law_world.specs.memory.Mixed.{Standing, IsMixedAt}
 use Rattle.law_world.specs.memory.framed_memory.Masks.{HasMasks}
-use Rattle.law_world.proofs.lemmas.memory.lemmas.framed_memory.ChainedRuns.{chained_head_range}
+use Rattle.law_world.proofs.lemmas.memory.lemmas.framed_memory.ChainedRuns.{chained_head_is_in_range}
 use Rattle.law_devices.proofs.Lists.{all_at}
 use Rattle.law_translator.specs.Plans.{Plan}
 use Rattle.law_translator.specs.Premises.{IsFirst, FollowsRow}
@@ -227,7 +227,7 @@ module _ (s : Script) (st : Standing) (w : World) (k : IsMixedAt st w) (fields :
 
     one : Written (interrupt_head at.belongs.endpoint.desc 0 0 0 0)
     one =
-        written (interrupt_head x.desc 0 0 0 0) (chained_head_range x.desc (no_masks p) 0 0 (k.numbers e x at.belongs.here) stands.max
+        written (interrupt_head x.desc 0 0 0 0) (chained_head_is_in_range x.desc (no_masks p) 0 0 (k.numbers e x at.belongs.here) stands.max
         stands.port few (record { smask = omega arith; cmask = omega arith }))
 
     masks : HasMasks at.belongs.placement
@@ -235,7 +235,8 @@ module _ (s : Script) (st : Standing) (w : World) (k : IsMixedAt st w) (fields :
 
     two : Written (interrupt_head at.belongs.endpoint.desc at.belongs.placement.smask at.belongs.placement.cmask 0 0)
     two =
-        written (interrupt_head x.desc p.smask p.cmask 0 0) (chained_head_range x.desc p 0 0 (k.numbers e x at.belongs.here) stands.max
+        written (interrupt_head x.desc p.smask p.cmask 0 0) (chained_head_is_in_range x.desc p 0 0 (k.numbers e x at.belongs.here)
+        stands.max
         stands.port few masks)
 
     its_hub : c.queue.hub ≡ heard.hub

@@ -20,9 +20,9 @@ use Rattle.drv_table.specs.Accepting.{Offered}
 use Rattle.drv_table.specs.Offers.{offered}
 use Rattle.drv_table.specs.Rows.{driver_row}
 use Rattle.law_driver.proofs.lemmas.queued_drivers.CommandReasons.{reason_of}
-use Rattle.law_driver.proofs.lemmas.run_owners.Commands.{accepted_for_a_reason}
-use Rattle.law_driver.proofs.lemmas.run_owners.Reasons.{each_is_due}
-use Rattle.law_descriptors.proofs.GivenRow.{row_is_given_back}
+use Rattle.law_driver.proofs.lemmas.run_owners.Commands.{each_command_has_its_reason}
+use Rattle.law_driver.proofs.lemmas.run_owners.Reasons.{each_event_is_due}
+use Rattle.law_descriptors.proofs.GivenRow.{row_gives_back_passed}
 use Rattle.law_descriptors.proofs.Returning.{not_open}
 use Rattle.law_budgets.specs.visit_prices.Spent.{placed_as, IsAmong}
 use Rattle.bus_world.specs.World.{World, driver_parts, driver_next, name_in, commanded, commanded_by}
@@ -78,9 +78,9 @@ owned_driver w hub port k o =
     owned_stays w.driver (driver_next w).driver w.registers.frame_index w.registers.frame_index hub port k o (row_seen o.number row parts)
     (row_more row parts (placed_as o.number o.desc o.placement)
     (λ given.
-    let g = row_is_given_back parts (removed.Endpoint o.number) given in
+    let g = row_gives_back_passed parts (removed.Endpoint o.number) given in
     not_open w.registers.frame_index g.due.removal.boundary g.seen (o.still_open 0 g.due.removal g.due.first g.due.is)) o.planned)
-    (row_open row parts o.number (each_is_due parts) o.still_open) refl
+    (row_open row parts o.number (each_event_is_due parts) o.still_open) refl
 
 -- ---- a command
 
@@ -97,7 +97,7 @@ owned_command w line cmd hub port k o = by (offered w.driver w.memory cmd) refl
         let s = accepted_sees w f o.number o.endpoint (placed_as o.number o.desc o.placement) o.here o.planned cmd is
         (reason_of w.driver w.memory cmd f is) in
         owned_stays w.driver f.driver w.registers.frame_index w.registers.frame_index hub port k o s.seen_too s.placed_too
-        (accepted_open w f w.registers.frame_index o.number (accepted_for_a_reason w.driver w.memory cmd f is) o.still_open) refl
+        (accepted_open w f w.registers.frame_index o.number (each_command_has_its_reason w.driver w.memory cmd f is) o.still_open) refl
 
 -- ---- a microframe begins within the frame
 

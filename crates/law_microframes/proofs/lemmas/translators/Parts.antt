@@ -147,18 +147,18 @@ answered_even : (b : Bool) (reply : Reply) (m : Entry) → IsEven m → IsEven (
 answered_even true reply m h = h
 answered_even false reply m h = h
 
-pub work_lacks : WorkLeavesLacking
-work_lacks k room replies [] all = tt
-work_lacks k room replies (e ∷ es) all = (
+pub work_leaves_lacking : WorkLeavesLacking
+work_leaves_lacking k room replies [] all = tt
+work_leaves_lacking k room replies (e ∷ es) all = (
   answered_lacks k (is_due (moved room e)) (first_reply replies) (moved room e) all.0,
-  work_lacks k (room - used_at room e) (later_replies replies) es all.1,
+  work_leaves_lacking k (room - used_at room e) (later_replies replies) es all.1,
 )
 
-pub work_even : WorkMakesEven
-work_even k room replies [] = tt
-work_even k room replies (e ∷ es) = (
+pub work_makes_even : WorkMakesEven
+work_makes_even k room replies [] = tt
+work_makes_even k room replies (e ∷ es) = (
   λ on. answered_even (is_due (moved room e)) (first_reply replies) (moved room e) refl,
-  work_even k (room - used_at room e) (later_replies replies) es,
+  work_makes_even k (room - used_at room e) (later_replies replies) es,
 )
 
 -- ---- a complete-split

@@ -20,7 +20,7 @@ use Rattle.law_translator.specs.Plans.{Plan}
 use Rattle.law_translator.specs.Premises.{In, IsLaidAs}
 use Rattle.law_hub_plans.specs.HubPlans.{is_below, placed_below, time_in, hub_plan, AreKeysApart}
 use Rattle.law_hub_plans.specs.Laws.{IsKeptIn}
-use Rattle.law_hub_plans.proofs.Places.{places_kept}
+use Rattle.law_hub_plans.proofs.Places.{places_are_kept}
 
 -- ---- lists
 
@@ -66,7 +66,7 @@ pub planned_as : (key : Placed → Key) (hub port f : ℕ) (placed : List Placed
 planned_as key hub port f placed i y apart at on =
     let ys : List Placed = placed_below hub port f placed in
     let found : IsPlaceIn ys y = filtered (is_below hub port f) placed y i at on in
-    let kept : IsKeptIn key ys y = one_of (IsKeptIn key ys) ys found.place y (places_kept key ys apart) found.there in
+    let kept : IsKeptIn key ys y = one_of (IsKeptIn key ys) ys found.place y (places_are_kept key ys apart) found.there in
     record { there = in_mapped key ys found.place y found.there; first = kept.0; times = kept.1 }
 
 pub laid_as : (p q : Plan) (k : Key) (y : Placed) → IsPlannedAs p k y → IsPlannedAs q k y → IsLaidAs p q k

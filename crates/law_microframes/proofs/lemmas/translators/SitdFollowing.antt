@@ -5,7 +5,7 @@ use Rattle.std.proofs.lemmas.Bool.{true≢false}
 use Rattle.script_types.specs.declared.scripts.Script.{Script}
 use Rattle.script_text.specs.Faults.{Spells}
 use Rattle.script_fits.proofs.Texts.{spelled_fits}
-use Rattle.law_scripts.proofs.lemmas.script_bytes.Texts.{spelled_bytes}
+use Rattle.law_scripts.proofs.lemmas.script_bytes.Texts.{a_text_spells_bytes}
 use Rattle.hc_iso.specs.declared.held.HeldSitd.{HeldSitd}
 use Rattle.hc_iso.specs.Sitd.{sitd_missed, comes}
 use Rattle.drv_chains.specs.declared.members.Member.{Member}
@@ -34,10 +34,10 @@ use Rattle.law_microframes.specs.translators.Keeping.{SitdsFollow, PartsAreLacke
 use Rattle.law_microframes.specs.translators.Laws.{SitdsFollowToo}
 use Rattle.law_microframes.specs.translators.Short.{AllShort}
 use Rattle.law_microframes.proofs.lemmas.plans.Keys.{kept_apart, texts_plan_apart}
-use Rattle.law_microframes.proofs.lemmas.plans.Right.{scripts_right}
+use Rattle.law_microframes.proofs.lemmas.plans.Right.{scripts_place_right}
 use Rattle.law_microframes.proofs.lemmas.visits.OneDescriptorMoments.{each_moment_has_one_active}
 use Rattle.law_microframes.proofs.lemmas.visits.VisitTexts.{lines_fit}
-use Rattle.law_microframes.proofs.lemmas.visits.VisitsKept.{scripts_visit_all}
+use Rattle.law_microframes.proofs.lemmas.visits.VisitsKept.{scripts_visit}
 use Rattle.law_microframes.proofs.lemmas.time.PaymentMoments.{ArePaidIn, payments_are_of_visits, scripts_are_paid}
 use Rattle.law_microframes.proofs.lemmas.time.PaymentOpens.{scripts_have_periodics}
 use Rattle.law_microframes.proofs.lemmas.time.SitdMoments.{scripts_keep_sitds}
@@ -72,11 +72,11 @@ module _ (text : List ℕ) (s : Script) (spelled : Spells text s) (k : ℕ) wher
       → (q : IsDescriptorAt o.driver h.at) → frame_in o.control.frame.index ≡ (note_at o.driver.periodic.notes q.transfer.first).frame
   moment_framed periodic h held on =
       let fit = spelled_fits text s spelled in
-      let bytes = spelled_bytes text s spelled in
+      let bytes = a_text_spells_bytes text s spelled in
       let opens = lines_fit s.lines (texts_fit text s spelled) (texts_open_fitting text s spelled) in
       let paid : ArePaidIn (began s k) o (payments s k) = scripts_are_paid s fit bytes opens (texts_fit_slots text s spelled) k in
       let one = hand_paid h o.control.frame.hand (payments s k) held on (paid.hand periodic) in
-      let visits : IsVisiting (began s k) o (visited s k) = scripts_visit_all s fit bytes opens k in
+      let visits : IsVisiting (began s k) o (visited s k) = scripts_visit s fit bytes opens k in
       let are : visited s k ≡ one.address ∷ names_in one.rest = sym (payments_are_of_visits s k) ∙ ap names_in one.are in
       subst (λ (a : ℕ). (q : IsDescriptorAt o.driver a) → frame_in o.control.frame.index ≡
       (note_at o.driver.periodic.notes q.transfer.first).frame)
@@ -87,7 +87,7 @@ module _ (text : List ℕ) (s : Script) (spelled : Spells text s) (k : ℕ) wher
   moment_sitds : PartsAreLacked o → SitdsFollow o
   moment_sitds lacked h periodic held unset work =
       let fit = spelled_fits text s spelled in
-      let bytes = spelled_bytes text s spelled in
+      let bytes = a_text_spells_bytes text s spelled in
       let opens = lines_fit s.lines (texts_fit text s spelled) (texts_open_fitting text s spelled) in
       let slots = texts_fit_slots text s spelled in
       let mixed : IsMixedWorld o = texts_stay_mixed text s spelled k in
@@ -96,7 +96,7 @@ module _ (text : List ℕ) (s : Script) (spelled : Spells text s) (k : ℕ) wher
       sitd_fair s mixed.standing o mixed.mixed (scripts_keep_sitds s fit bytes opens slots k)
       (each_moment_has_one_active s fit bytes opens k).one.served (scripts_have_periodics s fit bytes opens k)
       (texts_stand text s spelled k)
-      (λ x heard. each_bus_hears s x heard k) (scripts_right s fit k)
+      (λ x heard. each_bus_hears s x heard k) (scripts_place_right s fit k)
       (λ hub port f. kept_apart (key_at o.driver) (is_below hub port f) o.driver.periodic.plan.placed (texts_plan_apart text s spelled k))
       periodic (scripts_have_index s fit k periodic) h held unset work (moment_framed periodic h held on)
       (λ way some. lacked h periodic held unset work way some)
@@ -105,7 +105,7 @@ module _ (text : List ℕ) (s : Script) (spelled : Spells text s) (k : ℕ) wher
   pub moment_lacks : AllShort o.driver → PartsAreLacked o
   moment_lacks short h periodic held unset work way some =
       let fit = spelled_fits text s spelled in
-      let bytes = spelled_bytes text s spelled in
+      let bytes = a_text_spells_bytes text s spelled in
       let opens = lines_fit s.lines (texts_fit text s spelled) (texts_open_fitting text s spelled) in
       let slots = texts_fit_slots text s spelled in
       let mixed : IsMixedWorld o = texts_stay_mixed text s spelled k in
@@ -114,7 +114,7 @@ module _ (text : List ℕ) (s : Script) (spelled : Spells text s) (k : ℕ) wher
       absurd (no_later_part s mixed.standing o mixed.mixed (scripts_keep_sitds s fit bytes opens slots k)
       (each_moment_has_one_active s fit bytes opens k).one.served (scripts_have_periodics s fit bytes opens k)
       (texts_stand text s spelled k)
-      (λ x heard. each_bus_hears s x heard k) (scripts_right s fit k)
+      (λ x heard. each_bus_hears s x heard k) (scripts_place_right s fit k)
       (λ hub port f. kept_apart (key_at o.driver) (is_below hub port f) o.driver.periodic.plan.placed (texts_plan_apart text s spelled k))
       periodic (scripts_have_index s fit k periodic) h held unset work (moment_framed periodic h held on) short way some)
 

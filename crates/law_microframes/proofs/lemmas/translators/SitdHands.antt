@@ -66,7 +66,7 @@ use Rattle.law_microframes.proofs.lemmas.time.PaymentIsochronous.{one_transfer, 
 use Rattle.law_microframes.proofs.lemmas.time.PaymentReading.{not_whole}
 use Rattle.law_microframes.proofs.lemmas.time.SitdParts.{works}
 use Rattle.law_microframes.proofs.lemmas.time.SitdWorlds.{IsSitdFrame, sitd_in_hand}
-use Rattle.law_microframes.proofs.lemmas.time.SplitMasked.{allowed_split}
+use Rattle.law_microframes.proofs.lemmas.time.SplitMasked.{allowed_are_split}
 use Rattle.law_microframes.proofs.lemmas.due.lemmas.repeats.Endpoints.{AllStand}
 use Rattle.law_microframes.proofs.lemmas.translators.Hands.{numbered}
 use Rattle.law_microframes.proofs.lemmas.translators.Owned.{owned_planned}
@@ -306,9 +306,9 @@ module _ (s : Script) (st : Standing) (w : World) (k : IsMixedAt st w) (sitds : 
       let o = owned hub port j a content found here address place names.0 names.1 in
       let planned = owned_planned w.driver apart w.registers.frame_index content.address (port_at content.translators.multi j)
       (key_for x) o in
-      let key = in_key e x p h.sitd fields.has fields.classic q.kind allowed (allowed_split (placed_as e x p) allowed fields.classic)
+      let key = in_key e x p h.sitd fields.has fields.classic q.kind allowed (allowed_are_split (placed_as e x p) allowed fields.classic)
       (w.registers.frame_index % 8) (omega arith) work _ planned way first in (
-        in_follows e x p h.sitd fields.has fields.classic q.kind allowed (allowed_split (placed_as e x p) allowed fields.classic)
+        in_follows e x p h.sitd fields.has fields.classic q.kind allowed (allowed_are_split (placed_as e x p) allowed fields.classic)
             (w.registers.frame_index % 8) (omega arith) work _ planned way first t.pipeline,
         subst (IsOwned w.driver w.registers.frame_index content.address (port_at content.translators.multi j)) (sym key) o,
       )
@@ -321,9 +321,9 @@ module _ (s : Script) (st : Standing) (w : World) (k : IsMixedAt st w) (sitds : 
       let o = owned hub port j a content found here address place names.0 names.1 in
       let planned = owned_planned w.driver apart w.registers.frame_index content.address (port_at content.translators.multi j)
       (key_for x) o in
-      let key = out_key e x p h.sitd fields.has fields.classic q.kind allowed (allowed_split (placed_as e x p) allowed fields.classic)
+      let key = out_key e x p h.sitd fields.has fields.classic q.kind allowed (allowed_are_split (placed_as e x p) allowed fields.classic)
       (w.registers.frame_index % 8) (omega arith) work _ planned way in (
-        out_follows e x p h.sitd fields.has fields.classic q.kind allowed (allowed_split (placed_as e x p) allowed fields.classic)
+        out_follows e x p h.sitd fields.has fields.classic q.kind allowed (allowed_are_split (placed_as e x p) allowed fields.classic)
             (w.registers.frame_index % 8) (omega arith) work _ planned way t.pipeline
             (λ some n at. lacks some hub port part a j content t n split found here place there at),
         subst (IsOwned w.driver w.registers.frame_index content.address (port_at content.translators.multi j)) (sym key) o,

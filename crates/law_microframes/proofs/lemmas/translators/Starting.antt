@@ -8,7 +8,7 @@ use Rattle.usb_base.specs.declared.packets.Split.TheVariants as splits
 use Rattle.script_types.specs.declared.scripts.Script.{Script}
 use Rattle.script_text.specs.Faults.{Spells}
 use Rattle.script_fits.proofs.Texts.{spelled_fits}
-use Rattle.law_scripts.proofs.lemmas.script_bytes.Texts.{spelled_bytes}
+use Rattle.law_scripts.proofs.lemmas.script_bytes.Texts.{a_text_spells_bytes}
 use Rattle.word_mem.specs.Memory.{Mem}
 use Rattle.mem_bytes.proofs.Loads.{length-bytes_at}
 use Rattle.qh_qtd.specs.declared.queue_head.Qh.{Qh}
@@ -59,11 +59,11 @@ use Rattle.law_microframes.specs.due.repeats.Hearing.{IsHeardOn}
 use Rattle.law_microframes.specs.translators.Watching.{StartFollows, StuffsAtMost}
 use Rattle.law_microframes.specs.translators.Keeping.{plans_now, IsOwned, AsksInFrames, StartsFollow, SitdsFollow, PartsAreLacked, gaps, IsKnown}
 use Rattle.law_microframes.specs.translators.Laws.{EachPipeline, AlongRuns, AlongTexts, AlongPlainTexts, InterruptsFollow}
-use Rattle.law_microframes.proofs.lemmas.translators.StuffTexts.{spelled_stuffed}
+use Rattle.law_microframes.proofs.lemmas.translators.StuffTexts.{texts_have_few_stuffed_bits}
 use Rattle.law_microframes.proofs.lemmas.plans.Keys.{kept_apart, texts_plan_apart, texts_plan_hubs}
-use Rattle.law_microframes.proofs.lemmas.plans.Right.{scripts_right}
+use Rattle.law_microframes.proofs.lemmas.plans.Right.{scripts_place_right}
 use Rattle.law_microframes.proofs.lemmas.visits.BelongMoments.{scripts_keep_fields}
-use Rattle.law_microframes.proofs.lemmas.visits.InFramesMoments.{scripts_stay}
+use Rattle.law_microframes.proofs.lemmas.visits.InFramesMoments.{scripts_stay_in_frames}
 use Rattle.law_microframes.proofs.lemmas.visits.ReasonParts.{InPart, row_in}
 use Rattle.law_microframes.proofs.lemmas.visits.VisitTexts.{lines_fit}
 use Rattle.law_microframes.proofs.lemmas.time.DataHeads.{scripts_read_data}
@@ -176,13 +176,13 @@ module _ (text : List ℕ) (s : Script) (spelled : Spells text s) (k : ℕ) wher
   moment_frames : o.control.part ≡ Periodic → (h : HeldQueue) → o.control.frame.hand ≡ Some (hands.Queue h)
       → (b : IsQueueAt o.driver h.copy.at) → is_active b.belongs.placement (frame_in o.control.frame.index) ≡ true
   moment_frames periodic h held =
-      let bytes = spelled_bytes text s spelled in
+      let bytes = a_text_spells_bytes text s spelled in
       let opens = lines_fit s.lines (texts_fit text s spelled) (texts_open_fitting text s spelled) in
       let paid : ArePaidIn (began s k) o (payments s k) = scripts_are_paid s (spelled_fits text s spelled) bytes opens
       (texts_fit_slots text s spelled) k in
       let one = hand_paid h o.control.frame.hand (payments s k) held (paid.hand periodic) in
       let each = visited_first o (visited s k) (payments s k) one.address one.paid one.rest (payments_are_of_visits s k) one.are
-      (scripts_stay s (spelled_fits text s spelled) bytes opens k) in
+      (scripts_stay_in_frames s (spelled_fits text s spelled) bytes opens k) in
       subst (λ (a : ℕ). (b : IsQueueAt o.driver a) → is_active b.belongs.placement (frame_in o.control.frame.index) ≡ true)
       (sym one.at) each
 
@@ -193,12 +193,13 @@ module _ (text : List ℕ) (s : Script) (spelled : Spells text s) (k : ℕ) wher
   pub moment_starts : SitdsFollow o → StartsFollow o
   moment_starts sitds ask out a =
       let fit = spelled_fits text s spelled in
-      let bytes = spelled_bytes text s spelled in
+      let bytes = a_text_spells_bytes text s spelled in
       let opens = lines_fit s.lines (texts_fit text s spelled) (texts_open_fitting text s spelled) in
       let mixed : IsMixedWorld o = texts_stay_mixed text s spelled k in
       let periodic : o.control.part ≡ Periodic = subst (λ (r : ControllerRow). InPart r o.control.part) a.row (row_in o) in
       all_follow s mixed.standing o mixed.mixed (scripts_keep_fields s fit bytes opens k) (scripts_read_data s fit bytes opens k)
-      (texts_stand text s spelled k) (λ x heard. each_bus_hears s x heard k) (scripts_right s fit k) moment_apart (moment_frames periodic)
+      (texts_stand text s spelled k) (λ x heard. each_bus_hears s x heard k) (scripts_place_right s fit k) moment_apart
+      (moment_frames periodic)
       periodic (scripts_have_index s fit k periodic) sitds ask out a
 
   pub moment_known : SitdsFollow o → IsKnown o
@@ -220,7 +221,9 @@ pub texts_answer_in_time : AlongPlainTexts (AllAnswered 1)
 texts_answer_in_time = along_texts 0 (AllAnswered 1) answer_in_time
 
 pub stuffed_texts_keep_up : AlongTexts AllKeepUpStuffed
-stuffed_texts_keep_up text s spelled = along_texts 6 AllKeepUpStuffed stuffed_keep_up text s spelled (spelled_stuffed text s spelled)
+stuffed_texts_keep_up text s spelled =
+    along_texts 6 AllKeepUpStuffed stuffed_keep_up text s spelled (texts_have_few_stuffed_bits text s spelled)
 
 pub stuffed_texts_answer : AlongTexts (AllAnswered 2)
-stuffed_texts_answer text s spelled = along_texts 6 (AllAnswered 2) stuffed_answer_in_time text s spelled (spelled_stuffed text s spelled)
+stuffed_texts_answer text s spelled =
+    along_texts 6 (AllAnswered 2) stuffed_answer_in_time text s spelled (texts_have_few_stuffed_bits text s spelled)

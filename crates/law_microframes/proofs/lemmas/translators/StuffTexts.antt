@@ -109,7 +109,7 @@ few_stuffed w h place seat there =
     (λ name. all_find IsFewSeat (λ s. _) (seats_from 0 (map device_text w.devices)) (seats_few 0 w.devices h))) in
     all_at IsFewSeat (seats_of (script_of w)) place seat all there
 
-pub spelled_stuffed : (text : List ℕ) (s : Script) → Spells text s → StuffsAtMost 6 (fixed_of s)
-spelled_stuffed text s e =
+pub texts_have_few_stuffed_bits : (text : List ℕ) (s : Script) → Spells text s → StuffsAtMost 6 (fixed_of s)
+texts_have_few_stuffed_bits text s e =
     let k = spelled_said IsFew tt (λ w h. h) (λ w n l _ h. line_few w n l h) text s e in
     subst (λ (z : Script). StuffsAtMost 6 (fixed_of z)) k.is (few_stuffed k.draft k.holds)

@@ -19,7 +19,7 @@ use Rattle.claims_driver.specs.DueMembers.{framed_to}
 use Rattle.law_driver.specs.in_place.InPlace.{IsInPlace}
 use Rattle.claims_driver.specs.Owners.{HasBlocks, runs_of_transfer}
 use Rattle.law_driver.specs.run_owners.Accepts.{Accepts}
-use Rattle.law_driver.proofs.lemmas.run_owners.Commands.{accepted_for_a_reason}
+use Rattle.law_driver.proofs.lemmas.run_owners.Commands.{each_command_has_its_reason}
 use Rattle.law_driver.proofs.lemmas.queued_drivers.CommandReasons.{reason_of}
 use Rattle.bus_world.specs.World.{World, name_in, commanded_by, commanded}
 use Rattle.claims_world.specs.Visits.{frame_in, HasVisited}
@@ -129,7 +129,7 @@ other_keeps_outs w line cmd vs other mixed k = by (offered w.driver w.memory cmd
     by : (r : Result Offered OfferError) → offered w.driver w.memory cmd ≡ r → OutsGoOn (commanded_by w line (name_in cmd) r) vs
     by (Err why) is = refused w line (name_in cmd) vs mixed k why
     by (Ok o) is =
-        told w line (name_in cmd) vs mixed k o (accepted_for_a_reason w.driver w.memory cmd o is)
+        told w line (name_in cmd) vs mixed k o (each_command_has_its_reason w.driver w.memory cmd o is)
         (told_by w.driver w.memory cmd o other (reason_of w.driver w.memory cmd o is))
 
 -- one that takes on isochronous descriptors
@@ -137,7 +137,7 @@ module _ (w : World) (line : ℕ) (name : EpName) (count len seed : ℕ) (vs : L
     (sitds : SitdsStand w.driver w.memory w.control) (can : CanHaveSlots w.driver name len) (k : OutsGoOn w vs) (o : Offered)
     (is : offered w.driver w.memory (commands.Iso name count len seed) ≡ Ok o) where
   reason : Accepts w.driver w.memory o
-  reason = accepted_for_a_reason w.driver w.memory (commands.Iso name count len seed) o is
+  reason = each_command_has_its_reason w.driver w.memory (commands.Iso name count len seed) o is
 
   goes : (P : Entry → Type 0) (j : SplitTransfer o.driver)
       → ((i : SplitTransfer w.driver) → (note_at w.driver.periodic.notes i.transfer.first).frame ≡ frame_in w.registers.frame_index

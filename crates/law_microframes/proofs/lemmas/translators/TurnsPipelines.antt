@@ -14,7 +14,7 @@ use Rattle.bus_wire.specs.Bus.{Bus, Fixed, floor_of, begin_after}
 use Rattle.law_microframes.specs.translators.Watching.{pipeline_in}
 use Rattle.law_microframes.specs.translators.Parts.{EachOf, Lacks, IsEven}
 use Rattle.law_microframes.specs.translators.Turns.{entries_at, entries_of_hub, entries_by, pipeline_for}
-use Rattle.law_microframes.proofs.lemmas.translators.Parts.{work_lacks, work_even}
+use Rattle.law_microframes.proofs.lemmas.translators.Parts.{work_leaves_lacking, work_makes_even}
 use Rattle.law_microframes.proofs.lemmas.translators.Watching.{replies_by, worked_as}
 
 -- ---- beside one another
@@ -120,7 +120,7 @@ module _ (fixed : Fixed) (frindex : ℕ) (b : Bus) (hub port : ℕ) (k : Key) wh
       begun_beside (λ es fs. EachOf Lacks k es → EachOf Lacks k fs) frindex
       (λ es w all. either (frindex % 8 == 0) (entries_after below_reply below_after budget es w)
       (subst (EachOf Lacks k) (sym (worked_as below_reply below_after budget es w))
-      (work_lacks k budget (replies_by below_reply below_after budget es w) es all)))
+      (work_leaves_lacking k budget (replies_by below_reply below_after budget es w) es all)))
       (λ all. all) fixed b hub port
     where
       either : (c : Bool) (es : List Entry) → EachOf Lacks k es → EachOf Lacks k (if c then [] else es)
@@ -132,7 +132,7 @@ module _ (fixed : Fixed) (frindex : ℕ) (b : Bus) (hub port : ℕ) (k : Key) wh
       begun_beside (λ es fs. EachOf IsEven k fs) frindex
       (λ es w. either (frindex % 8 == 0) (entries_after below_reply below_after budget es w)
       (subst (EachOf IsEven k) (sym (worked_as below_reply below_after budget es w))
-      (work_even k budget (replies_by below_reply below_after budget es w) es)))
+      (work_makes_even k budget (replies_by below_reply below_after budget es w) es)))
       tt fixed b hub port
     where
       either : (c : Bool) (es : List Entry) → EachOf IsEven k es → EachOf IsEven k (if c then [] else es)

@@ -28,7 +28,7 @@ use Rattle.law_descriptors.proofs.ListRows.{either_if}
 use Rattle.bus_world.specs.World.{World, driver_next}
 use Rattle.law_world.specs.memory.framed_memory.Isochronous.{AreAwaiting}
 use Rattle.law_world.specs.memory.Mixed.{Standing, IsMixedAt}
-use Rattle.law_world.proofs.lemmas.memory.lemmas.framed_memory.TakenOn.{commands_await}
+use Rattle.law_world.proofs.lemmas.memory.lemmas.framed_memory.TakenOn.{commands_keep_awaiting}
 use Rattle.law_microframes.specs.visits.OneDescriptor.{IsActiveDescriptor, IsActiveTransfer, WasActive}
 use Rattle.law_microframes.proofs.lemmas.visits.OneDescriptor.{lent_framed}
 use Rattle.law_microframes.proofs.lemmas.visits.OneDescriptorRows.{done_transfers}
@@ -93,7 +93,7 @@ module _ (s : Standing) (w : World) (k : IsMixedAt s w) where
   -- nor is a descriptor active that was just taken on: it isn't lent yet
   module _ (cmd : Cmd) (o : Offered) (is : offered w.driver w.memory cmd ≡ Ok o) where
     awaits : AreAwaiting o.driver o.memory
-    awaits = commands_await w.driver w.memory cmd o k.now.framed.place k.now.planned k.masks k.numbers is
+    awaits = commands_keep_awaiting w.driver w.memory cmd o k.now.framed.place k.now.planned k.masks k.numbers is
 
     same_low : (t : ℕ) (y : Transfer) → slice_get o.driver.transfers t ≡ Some y → o.driver.transfers ≡ w.driver.transfers → t < length w.driver.transfers
     same_low t y here same = slice_get_within w.driver.transfers t y (ap (λ (ts : List Transfer). slice_get ts t) (sym same) ∙ here)

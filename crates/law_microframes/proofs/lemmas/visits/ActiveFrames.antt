@@ -15,7 +15,7 @@ use Rattle.claims_world.specs.Visits.{begins, frame_in, visited}
 use Rattle.law_microframes.specs.visits.OneDescriptor.{IsActiveDescriptor, IsAloneAs}
 use Rattle.law_microframes.specs.visits.Began.{began, StandsAlone, WaitsLeft}
 use Rattle.law_microframes.specs.visits.ActiveFrames.{NextIsInFrame, AloneIsInFrame, VisitsGoOnInFrame, ScriptsGoOnInFrame}
-use Rattle.law_microframes.proofs.lemmas.visits.VisitsKept.{scripts_visit_all}
+use Rattle.law_microframes.proofs.lemmas.visits.VisitsKept.{scripts_visit}
 use Rattle.law_microframes.proofs.lemmas.visits.ActiveStands.{active_stands, active_is_met}
 
 -- who stands alone stands in no other frame
@@ -51,4 +51,4 @@ visits_go_on_in_frame start w vs e f n v ahead a =
 
 pub scripts_go_on_in_frame : ScriptsGoOnInFrame
 scripts_go_on_in_frame s fit bytes fits k e f n ahead a =
-    visits_go_on_in_frame (began s k) (moment s k).world (visited s k) e f n (scripts_visit_all s fit bytes fits k).visits ahead a
+    visits_go_on_in_frame (began s k) (moment s k).world (visited s k) e f n (scripts_visit s fit bytes fits k).visits ahead a

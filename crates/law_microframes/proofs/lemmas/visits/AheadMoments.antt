@@ -11,12 +11,12 @@ use Rattle.claims_world.specs.Visits.{visited}
 use Rattle.law_microframes.specs.visits.Began.{began_at, began_by, began, BeganIsMixed, ScriptsGoOnToOld}
 use Rattle.law_microframes.proofs.lemmas.visits.OneDescriptorMoments.{each_moment_has_one_active}
 use Rattle.law_world.proofs.lemmas.memory.Carrying.{carrying}
-use Rattle.law_microframes.proofs.lemmas.visits.VisitsKept.{scripts_visit_all}
+use Rattle.law_microframes.proofs.lemmas.visits.VisitsKept.{scripts_visit}
 use Rattle.bus_world.specs.Budgets.{moment}
 
-pub scripts_go_on : ScriptsGoOnToOld
-scripts_go_on s fit bytes opens k e f n ahead active =
-    let v : VisitsGoOn (began s k) (moment s k).world (visited s k) = (scripts_visit_all s fit bytes opens k).visits in
+pub scripts_go_on_to_old : ScriptsGoOnToOld
+scripts_go_on_to_old s fit bytes opens k e f n ahead active =
+    let v : VisitsGoOn (began s k) (moment s k).world (visited s k) = (scripts_visit s fit bytes opens k).visits in
     v.goes.old e f n (v.goes.next n ahead.periodic ahead.next) active
 
 -- ---- what is carried is the world as it began

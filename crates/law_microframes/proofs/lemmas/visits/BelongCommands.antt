@@ -30,20 +30,20 @@ use Rattle.drv_table.specs.CancelOffers.{with_cancel, endpoint_members}
 use Rattle.law_driver.specs.run_owners.Accepts.{Accepts, Chains}
 use Rattle.law_driver.specs.in_place.InPlace.{IsInPlace}
 use Rattle.law_driver.specs.queue_head_words.Overlay.{HasQueueHead, of_endpoint}
-use Rattle.law_driver.proofs.lemmas.run_owners.Commands.{accepted_for_a_reason}
+use Rattle.law_driver.proofs.lemmas.run_owners.Commands.{each_command_has_its_reason}
 use Rattle.law_driver.proofs.lemmas.run_owners.Ordered.{pushed}
 use Rattle.law_driver.proofs.lemmas.queue_head_words.Offering.{accepted_leaves}
 use Rattle.law_admission.specs.Budgets.{Account, account_of}
 use Rattle.law_admission.specs.Opens.{OpenAfter}
-use Rattle.law_admission.proofs.Commands.{account_of_command}
+use Rattle.law_admission.proofs.Commands.{commands_place_the_best}
 use Rattle.law_driver.specs.planned_endpoints.Planned.{IsPlanned}
-use Rattle.law_driver.proofs.lemmas.planned_endpoints.Laws.{command_planned}
+use Rattle.law_driver.proofs.lemmas.planned_endpoints.Laws.{commands_keep_the_plan}
 use Rattle.law_driver.proofs.lemmas.queued_drivers.CommandReasons.{IsNew, in_ring, in_frames, bare, IsTakenOn, IsDescribedAs, IsLeft, from_ring, from_frames, IsReasonOf, reason_of}
 use Rattle.law_world.specs.memory.framed_memory.Masks.{HasMasks, AreMasked}
 use Rattle.law_world.specs.memory.framed_memory.QueueRows.{chained_head}
-use Rattle.law_world.proofs.lemmas.memory.lemmas.framed_memory.Masking.{commands_masked}
+use Rattle.law_world.proofs.lemmas.memory.lemmas.framed_memory.Masking.{commands_keep_masks}
 use Rattle.law_world.proofs.lemmas.memory.lemmas.framed_memory.Chains.{chain_is_ready}
-use Rattle.law_world.proofs.lemmas.memory.lemmas.framed_memory.ChainedRuns.{chained_head_range}
+use Rattle.law_world.proofs.lemmas.memory.lemmas.framed_memory.ChainedRuns.{chained_head_is_in_range}
 use Rattle.law_budgets.specs.visit_prices.Spent.{IsAmong, placed_as}
 use Rattle.claims_world.specs.FrameHeads.{characteristics_in, capabilities_in}
 use Rattle.bus_world.specs.World.{World, name_in, refused_line, commanded_by}
@@ -203,7 +203,7 @@ module _ (d : DriverContent) (m : Mem) (o : Offered) (place : IsInPlace m d) (pl
       let want : IsWant (want_of 0 x) = room.3 periodic in
       let link : ℕ = new_link d.periodic.list (queue_member queue why.placement) in
       let range_x : IsQhInRange (interrupt_head x why.placement.smask why.placement.cmask link dummy) =
-      chained_head_range x why.placement link dummy fits.numbers room.1 room.2 (multi_few x.speed x.multi want.multi) (chain_masks why masks) in
+      chained_head_is_in_range x why.placement link dummy fits.numbers room.1 room.2 (multi_few x.speed x.multi want.multi) (chain_masks why masks) in
       let range : IsQhInRange (chained_head d why.desc why.placement why.holding_after) = subst (λ (y : EpDesc). IsQhInRange (interrupt_head y why.placement.smask why.placement.cmask link dummy)) (sym same) range_x in
       let some : 1 ≤ why.desc.multi = subst (λ (y : EpDesc). 1 ≤ y.multi) (sym same) want.some_multi in
       let opened = chain_is_ready m d o why place.sound.owners place.lent place.sound.stands place.sound.shape range in
@@ -220,37 +220,37 @@ module _ (w : World) (line : ℕ) (cmd : Cmd) (o : Offered) (fits : OpensMixed c
   planned = k.mixed.now.planned
 
   later : IsPlanned o.driver
-  later = command_planned w.driver w.memory cmd o planned is
+  later = commands_keep_the_plan w.driver w.memory cmd o planned is
 
   reason : Accepts w.driver w.memory o
-  reason = accepted_for_a_reason w.driver w.memory cmd o is
+  reason = each_command_has_its_reason w.driver w.memory cmd o is
 
 accepted_fields : (w : World) (line : ℕ) (cmd : Cmd) (o : Offered) → OpensMixed cmd → IsOffered w.driver.room cmd → IsMixedWorld w → offered w.driver w.memory cmd ≡ Ok o
     → HeadsHaveFields w.driver w.memory → IsReasonOf w.driver w.memory o cmd → HeadsHaveFields o.driver o.memory
 accepted_fields w line (commands.OpenEp x) o fits room k is have why =
     let cmd = commands.OpenEp x in
     opened_fields w.driver w.memory o (place w line cmd o fits room k is) (planned w line cmd o fits room k is) (reason w line cmd o fits room k is) have x room fits
-    (commands_masked w.driver w.memory cmd o k.mixed.masks is) why
+    (commands_keep_masks w.driver w.memory cmd o k.mixed.masks is) why
 accepted_fields w line (commands.Get name len by) o fits room k is have why =
     let cmd = commands.Get name len by in
     same_fields w.driver w.memory o (place w line cmd o fits room k is) (planned w line cmd o fits room k is) (reason w line cmd o fits room k is) have (later w line cmd o fits room k is)
-    (taken_same w.driver w.memory o name _ _ why) (account_of_command w.driver w.memory cmd o is)
+    (taken_same w.driver w.memory o name _ _ why) (commands_place_the_best w.driver w.memory cmd o is)
 accepted_fields w line (commands.Put name bytes by) o fits room k is have why =
     let cmd = commands.Put name bytes by in
     same_fields w.driver w.memory o (place w line cmd o fits room k is) (planned w line cmd o fits room k is) (reason w line cmd o fits room k is) have (later w line cmd o fits room k is)
-    (taken_same w.driver w.memory o name _ _ why) (account_of_command w.driver w.memory cmd o is)
+    (taken_same w.driver w.memory o name _ _ why) (commands_place_the_best w.driver w.memory cmd o is)
 accepted_fields w line (commands.Control name setup bytes) o fits room k is have why =
     let cmd = commands.Control name setup bytes in
     same_fields w.driver w.memory o (place w line cmd o fits room k is) (planned w line cmd o fits room k is) (reason w line cmd o fits room k is) have (later w line cmd o fits room k is)
-    (taken_same w.driver w.memory o name _ _ why) (account_of_command w.driver w.memory cmd o is)
+    (taken_same w.driver w.memory o name _ _ why) (commands_place_the_best w.driver w.memory cmd o is)
 accepted_fields w line (commands.Iso name count len seed) o fits room k is have why =
     let cmd = commands.Iso name count len seed in
     same_fields w.driver w.memory o (place w line cmd o fits room k is) (planned w line cmd o fits room k is) (reason w line cmd o fits room k is) have (later w line cmd o fits room k is)
-    (described_same w.driver w.memory o why) (account_of_command w.driver w.memory cmd o is)
+    (described_same w.driver w.memory o why) (commands_place_the_best w.driver w.memory cmd o is)
 accepted_fields w line (commands.Cancel name) o fits room k is have why =
     let cmd = commands.Cancel name in
     same_fields w.driver w.memory o (place w line cmd o fits room k is) (planned w line cmd o fits room k is) (reason w line cmd o fits room k is) have (later w line cmd o fits room k is)
-    (left_same w.driver w.memory o name why) (account_of_command w.driver w.memory cmd o is)
+    (left_same w.driver w.memory o name why) (commands_place_the_best w.driver w.memory cmd o is)
 accepted_fields w line _ o fits room k is have why = absurd why
 
 pub command_keeps_fields : CommandKeepsFields
@@ -268,22 +268,23 @@ pushed_seen d o e x h here = ap (λ (xs : List Endpoint). seen_in xs e) h.endpoi
 pub accepted_belongs : (w : World) (cmd : Cmd) (o : Offered) (n : ℕ) → IsPlanned o.driver → offered w.driver w.memory cmd ≡ Ok o → (b : BelongsTo w.driver n) → IsReasonOf w.driver w.memory o cmd → StaysPlaced b o.driver
 accepted_belongs w (commands.OpenEp x) o n later is b why =
     stays_in w.driver o.driver n b later (pushed_seen w.driver o b.number b.endpoint (opened_new w.driver w.memory o x why) b.here)
-    (open_plan w.driver x o (is_periodic x.kind) (account_of_command w.driver w.memory (commands.OpenEp x) o is) (placed_of b) b.planned)
+    (open_plan w.driver x o (is_periodic x.kind) (commands_place_the_best w.driver w.memory (commands.OpenEp x) o is) (placed_of b)
+    b.planned)
 accepted_belongs w (commands.Get name len by) o n later is b why =
     stays_in w.driver o.driver n b later (taken_same w.driver w.memory o name _ _ why b.number)
-    (same_plan w.driver o (account_of_command w.driver w.memory (commands.Get name len by) o is) (placed_of b) b.planned)
+    (same_plan w.driver o (commands_place_the_best w.driver w.memory (commands.Get name len by) o is) (placed_of b) b.planned)
 accepted_belongs w (commands.Put name bytes by) o n later is b why =
     stays_in w.driver o.driver n b later (taken_same w.driver w.memory o name _ _ why b.number)
-    (same_plan w.driver o (account_of_command w.driver w.memory (commands.Put name bytes by) o is) (placed_of b) b.planned)
+    (same_plan w.driver o (commands_place_the_best w.driver w.memory (commands.Put name bytes by) o is) (placed_of b) b.planned)
 accepted_belongs w (commands.Control name setup bytes) o n later is b why =
     stays_in w.driver o.driver n b later (taken_same w.driver w.memory o name _ _ why b.number)
-    (same_plan w.driver o (account_of_command w.driver w.memory (commands.Control name setup bytes) o is) (placed_of b) b.planned)
+    (same_plan w.driver o (commands_place_the_best w.driver w.memory (commands.Control name setup bytes) o is) (placed_of b) b.planned)
 accepted_belongs w (commands.Iso name count len seed) o n later is b why =
     stays_in w.driver o.driver n b later (described_same w.driver w.memory o why b.number)
-    (same_plan w.driver o (account_of_command w.driver w.memory (commands.Iso name count len seed) o is) (placed_of b) b.planned)
+    (same_plan w.driver o (commands_place_the_best w.driver w.memory (commands.Iso name count len seed) o is) (placed_of b) b.planned)
 accepted_belongs w (commands.Cancel name) o n later is b why =
     stays_in w.driver o.driver n b later (left_same w.driver w.memory o name why b.number)
-    (same_plan w.driver o (account_of_command w.driver w.memory (commands.Cancel name) o is) (placed_of b) b.planned)
+    (same_plan w.driver o (commands_place_the_best w.driver w.memory (commands.Cancel name) o is) (placed_of b) b.planned)
 accepted_belongs w _ o n later is b why = absurd why
 
 pub command_keeps_placed : CommandKeepsPlaced
@@ -291,4 +292,4 @@ command_keeps_placed w line cmd n k b = by (offered w.driver w.memory cmd) refl
   where
     by : (r : Result Offered OfferError) → offered w.driver w.memory cmd ≡ r → StaysPlaced b (commanded_by w line (name_in cmd) r).driver
     by (Err why) is = stays_in w.driver (refused_line w.driver line (name_in cmd) why) n b k.mixed.now.planned refl b.planned
-    by (Ok o) is = accepted_belongs w cmd o n (command_planned w.driver w.memory cmd o k.mixed.now.planned is) is b (reason_of w.driver w.memory cmd o is)
+    by (Ok o) is = accepted_belongs w cmd o n (commands_keep_the_plan w.driver w.memory cmd o k.mixed.now.planned is) is b (reason_of w.driver w.memory cmd o is)

@@ -24,7 +24,7 @@ use Rattle.claims_driver.specs.FrameListMembers.{framed_in, is_chained, is_among
 use Rattle.law_driver.specs.listed_members.Members.{IsStanding, IsListed}
 use Rattle.law_driver.proofs.lemmas.listed_members.Standing.{IsSeen, seen, IsIn, in_frames, IsReported, unlinks_reported, standing_block, why_stands}
 use Rattle.law_driver.specs.planned_endpoints.Planned.{IsPlanned}
-use Rattle.law_frame_list.proofs.lemmas.list_spread.Spreading.{standing_there, members_spread}
+use Rattle.law_frame_list.proofs.lemmas.list_spread.Spreading.{standing_there, members_share_no_block}
 use Rattle.law_structures.specs.lent_structures.Structures.{Structure, Isochronous, SplitIsochronous, Structures, StructureSets}
 use Rattle.law_driver_ring.specs.Inventory.{Sort, OfIsochronous, OfSplitIsochronous, sort_of, sorts_of, IsDriverOwned, the_list, the_head, a_queue as of_a_queue, a_dummy, a_piece, a_buffer, IsDriven}
 use Rattle.law_frames.specs.Met.{Kind, AQueue, AnItd, ASitd, IsMetAs}
@@ -128,7 +128,7 @@ module _ (s : Standing) (w : World) (n : ℕ) (k : IsMixedAt s w) (kind : Kind) 
 
   by_member : (m : Member) → is_linked led m ≡ true → begins_at m ≡ n → standing w.driver n ≡ Some kind → AtLast
   by_member (Each q) on begins is =
-      let spread = led_spread d.periodic.list.list d.periodic.list.members.schedule d.periodic.list.work (members_spread d w.memory k.now.framed.place.sound.stands has listed) in
+      let spread = led_spread d.periodic.list.list d.periodic.list.members.schedule d.periodic.list.work (members_share_no_block d w.memory k.now.framed.place.sound.stands has listed) in
       absurd (not_queue (sym (same_Some AQueue kind (sym (member_kind d.periodic d.periodic.list.list led (Each q) spread on) ∙ ap (kind_at d.periodic led) begins ∙ is))))
   by_member (Once c) on begins is =
       let m : IsStanding d (Once c) = standing_there d c listed (led_linked d.periodic.list.members.schedule d.periodic.list.work (Once c) on) in

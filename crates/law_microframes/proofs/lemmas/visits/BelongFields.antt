@@ -12,23 +12,23 @@ use Rattle.claims_base.specs.Controller.{opening_base}
 use Rattle.law_driver_ring.specs.Driven.{IsOperating}
 use Rattle.law_driver.specs.in_place.Run.{IsElsewhere}
 use Rattle.law_driver.specs.queue_head_words.Overlay.{HasQueueHead, of_endpoint, IsMendOf, LeavesWord}
-use Rattle.law_driver.proofs.lemmas.queue_head_words.Stored.{event_leaves}
+use Rattle.law_driver.proofs.lemmas.queue_head_words.Stored.{events_leave_the_overlay}
 use Rattle.law_structures.specs.lent_structures.Structures.{StructureSets}
 use Rattle.law_controller.specs.controlled_streams.Control.{IsOn}
 use Rattle.law_frames.proofs.Walking.{event_happens}
 use Rattle.law_driver.specs.planned_endpoints.Planned.{IsPlanned}
-use Rattle.law_driver.proofs.lemmas.planned_endpoints.Laws.{event_planned}
+use Rattle.law_driver.proofs.lemmas.planned_endpoints.Laws.{events_keep_the_plan}
 use Rattle.law_controller.specs.frame_control.Both.{ControlsBoth}
-use Rattle.law_controller.proofs.lemmas.frame_control.Running.{event_runs}
+use Rattle.law_controller.proofs.lemmas.frame_control.Running.{each_event_of_the_controller_over_both}
 use Rattle.law_descriptors.specs.Both.{both}
 use Rattle.law_descriptors.specs.Meeting.{met}
 use Rattle.law_descriptors.specs.PartLaws.{IsDescribing}
 use Rattle.law_descriptors.specs.list_beside.Links.{IsTold}
-use Rattle.law_descriptors.proofs.lemmas.list_beside.Describing.{described_told}
-use Rattle.law_descriptors.proofs.lemmas.list_beside.Running.{both_leave_driver}
+use Rattle.law_descriptors.proofs.lemmas.list_beside.Describing.{described_is_told}
+use Rattle.law_descriptors.proofs.lemmas.list_beside.Running.{events_leave_driver}
 use Rattle.law_world.specs.steps.Streaming.{begins_by, transacts_by, wired}
 use Rattle.law_world.proofs.lemmas.steps.StreamTurning.{world_has_row}
-use Rattle.law_world.proofs.lemmas.steps.lemmas.world_bytes.Hearing.{hears_bytes}
+use Rattle.law_world.proofs.lemmas.steps.lemmas.world_bytes.Hearing.{a_bus_of_bytes_is_heard_as_bytes}
 use Rattle.bus_world.specs.World.{World, driver_parts, controller_parts, driver_next, controller_next}
 use Rattle.law_world.specs.memory.Mixed.{Standing, IsMixedAt}
 use Rattle.law_microframes.specs.visits.Belonging.{HaveFields, NewHeadsHaveFields, ControllerKeepsFields, DriverKeepsFields}
@@ -50,8 +50,8 @@ same_endpoint m x z p same have = subst (λ (s : Seen). FieldsAt m s.queue s.des
 
 -- ---- before the first line there is none
 
-pub new_have : NewHeadsHaveFields
-new_have s e x p here queue kept placed = absurd (cc)
+pub new_heads_have_fields : NewHeadsHaveFields
+new_heads_have_fields s e x p here queue kept placed = absurd (cc)
 
 -- ---- the controller
 
@@ -69,16 +69,16 @@ module _ (fixed : Fixed) (w : World) (s : Standing) (k : IsMixedAt s w) where
       let f = k.now.framed in
       let all : StructureSets = both s.descs s.parts in
       let meets = met w.driver s.recent in
-      event_runs begins_by transacts_by opening_base s.member meets all s.hand s.frame (controller_parts w) (wired fixed w) (controller_parts new) (wired fixed new)
-      (event_happens transacts_by meets all s.frame) f.runs (is_on f.operating) (hears_bytes fixed w k.bytes (wired fixed new)) (world_has_row fixed w)
+      each_event_of_the_controller_over_both begins_by transacts_by opening_base s.member meets all s.hand s.frame (controller_parts w) (wired fixed w) (controller_parts new) (wired fixed new)
+      (event_happens transacts_by meets all s.frame) f.runs (is_on f.operating) (a_bus_of_bytes_is_heard_as_bytes fixed w k.bytes (wired fixed new)) (world_has_row fixed w)
 
   elsewhere : IsElsewhere w.driver w.memory (controller_next fixed w).memory
   elsewhere =
       let f = k.now.framed in
       let all : StructureSets = both s.descs s.parts in
       let describing : IsDescribing w.driver s.descs s.parts = record { owners = f.place.sound.owners; driven = f.driven; described = f.described } in
-      let told : IsTold opening_base s.parts all w.memory w.driver = described_told opening_base s.parts s.descs w.memory w.driver f.place describing f.runs.list f.start in
-      (both_leave_driver begins_by transacts_by opening_base s.member (met w.driver s.recent) s.parts all s.hand s.frame (controller_parts w) w.driver (wired fixed w) (controller_parts new)
+      let told : IsTold opening_base s.parts all w.memory w.driver = described_is_told opening_base s.parts s.descs w.memory w.driver f.place describing f.runs.list f.start in
+      (events_leave_driver begins_by transacts_by opening_base s.member (met w.driver s.recent) s.parts all s.hand s.frame (controller_parts w) w.driver (wired fixed w) (controller_parts new)
       (wired fixed new) f.runs told f.aligned (world_has_row fixed w) event_of).elsewhere
 
 pub controller_keeps_fields : ControllerKeepsFields
@@ -107,7 +107,7 @@ driver_keeps_fields w k have e z p here queue kept placed =
     let parts = driver_parts w in
     let next = (driver_next w).driver in
     let sound = k.mixed.now.framed.place.sound in
-    let later : IsPlanned next = event_planned parts sound.owners k.mixed.now.planned in
+    let later : IsPlanned next = events_keep_the_plan parts sound.owners k.mixed.now.planned in
     let of : IsSeenIn d.endpoints e z = seen_there next.endpoints d.endpoints e z (sym (row_seen e (driver_row parts) parts)) here in
     let x = of.endpoint in
     let same_queue : x.queue ≡ z.queue = ap (λ (s : Seen). s.queue) of.same in
@@ -117,6 +117,6 @@ driver_keeps_fields w k have e z p here queue kept placed =
     let there : HasQueueHead d z.queue = of_endpoint e x of.here (same_kind ∙ queue) before same_queue in
     let then : HasQueueHead next z.queue = of_endpoint e z here queue kept refl in
     same_words w.memory (driver_next w).memory z.queue z.desc p
-    (left_word parts z.queue 1 (omega arith) (event_leaves parts z.queue 1 sound there then (omega arith) (omega arith)))
-    (left_word parts z.queue 2 (omega arith) (event_leaves parts z.queue 2 sound there then (omega arith) (omega arith)))
+    (left_word parts z.queue 1 (omega arith) (events_leave_the_overlay parts z.queue 1 sound there then (omega arith) (omega arith)))
+    (left_word parts z.queue 2 (omega arith) (events_leave_the_overlay parts z.queue 2 sound there then (omega arith) (omega arith)))
     (same_endpoint w.memory x z p of.same (have e x p of.here (same_kind ∙ queue) before (same_placement ∙ placed)))

@@ -4,8 +4,8 @@ use Rattle.usb_base.specs.declared.commands.Cmd.TheVariants as commands
 use Rattle.usb_base.specs.declared.reports.OfferError.{OfferError}
 use Rattle.drv_table.specs.Accepting.{Offered}
 use Rattle.drv_table.specs.Offers.{offered}
-use Rattle.law_driver.proofs.lemmas.run_owners.Commands.{accepted_for_a_reason}
-use Rattle.law_world.proofs.lemmas.memory.lemmas.framed_memory.TakenOn.{commands_await}
+use Rattle.law_driver.proofs.lemmas.run_owners.Commands.{each_command_has_its_reason}
+use Rattle.law_world.proofs.lemmas.memory.lemmas.framed_memory.TakenOn.{commands_keep_awaiting}
 use Rattle.bus_world.specs.World.{commanded_by}
 use Rattle.law_microframes.specs.visits.DescriptorFields.{ItdsStand, CommandKeepsItds}
 use Rattle.law_microframes.proofs.lemmas.visits.BelongItdCommands.{other_keeps_itds}
@@ -18,8 +18,9 @@ command_keeps_itds w line (commands.Iso name n len seed) k old = by (offered w.d
     by (Err why) is = record { fields = old.fields; served = old.served }
     by (Ok o) is =
         let f = k.mixed.now.framed in
-        iso_keeps w.driver w.memory o f.place (accepted_for_a_reason w.driver w.memory (commands.Iso name n len seed) o is) old (is_iso_accepted w.driver w.memory name n len seed o is)
-        (commands_await w.driver w.memory (commands.Iso name n len seed) o f.place k.mixed.now.planned k.mixed.masks k.mixed.numbers is)
+        iso_keeps w.driver w.memory o f.place (each_command_has_its_reason w.driver w.memory (commands.Iso name n len seed) o is) old (is_iso_accepted w.driver w.memory name n len seed o is)
+        (commands_keep_awaiting w.driver w.memory (commands.Iso name n len seed) o f.place k.mixed.now.planned k.mixed.masks k.mixed.numbers
+        is)
 command_keeps_itds w line (commands.OpenEp x) k old = other_keeps_itds w line (commands.OpenEp x) tt k old
 command_keeps_itds w line (commands.Get name len by) k old = other_keeps_itds w line (commands.Get name len by) tt k old
 command_keeps_itds w line (commands.Put name bytes by) k old = other_keeps_itds w line (commands.Put name bytes by) tt k old

@@ -28,7 +28,7 @@ use Rattle.law_driver.specs.run_owners.Accepts.{Accepts, opens, chains, places, 
 use Rattle.claims_driver.specs.Owners.{HasBlocks, DescriptorRuns, is_descriptor, runs_of_transfer}
 use Rattle.claims_driver.specs.LentRuns.{still_lends, begins_in}
 use Rattle.law_driver.specs.in_place.InPlace.{IsInPlace}
-use Rattle.law_driver.proofs.lemmas.run_owners.Commands.{accepted_for_a_reason}
+use Rattle.law_driver.proofs.lemmas.run_owners.Commands.{each_command_has_its_reason}
 use Rattle.law_driver.proofs.lemmas.run_owners.Ordered.{pushed}
 use Rattle.law_driver.proofs.lemmas.run_owners.Stays.{or_done, begun_notes}
 use Rattle.law_structures.specs.lent_structures.Changes.{Leaves}
@@ -192,4 +192,4 @@ other_keeps_itds w line cmd other k old = by (offered w.driver w.memory cmd) ref
     by : (r : Result Offered OfferError) → offered w.driver w.memory cmd ≡ r → ItdsStand (commanded_by w line (name_in cmd) r).driver (commanded_by w line (name_in cmd) r).memory
     by (Err why) is = record { fields = old.fields; served = old.served }
     by (Ok o) is =
-        accepted_stand w.driver w.memory o k.mixed.now.framed.place (accepted_for_a_reason w.driver w.memory cmd o is) (told_by w.driver w.memory cmd o other (reason_of w.driver w.memory cmd o is)) old
+        accepted_stand w.driver w.memory o k.mixed.now.framed.place (each_command_has_its_reason w.driver w.memory cmd o is) (told_by w.driver w.memory cmd o other (reason_of w.driver w.memory cmd o is)) old

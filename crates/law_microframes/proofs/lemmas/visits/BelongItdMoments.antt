@@ -11,7 +11,7 @@ use Rattle.law_world.proofs.lemmas.memory.Controller.{controller_keeps_mixed}
 use Rattle.law_world.proofs.lemmas.memory.Driving.{driver_keeps_mixed}
 use Rattle.law_world.proofs.lemmas.memory.CommandKeeping.{command_keeps_mixed}
 use Rattle.law_microframes.specs.visits.DescriptorFields.{ItdsStand, ScriptsKeepItds}
-use Rattle.law_microframes.proofs.lemmas.visits.BelongItds.{new_itds, controller_keeps_itds}
+use Rattle.law_microframes.proofs.lemmas.visits.BelongItds.{new_itds_stand, controller_keeps_itds}
 use Rattle.law_microframes.proofs.lemmas.visits.BelongServed.{driver_keeps_itds}
 use Rattle.law_microframes.proofs.lemmas.visits.BelongItdAll.{command_keeps_itds}
 use Rattle.law_microframes.proofs.lemmas.visits.OneDescriptorMoments.{lines_can}
@@ -29,4 +29,4 @@ is_kept s = record {
 
 pub scripts_keep_itds : ScriptsKeepItds
 scripts_keep_itds s fits bytes opens k =
-    (holds_throughout OpensMixed IsMixedWithItds s fits (lines_can s.lines opens) (record { mixed = new_world_is_mixed s fits bytes; itds = new_itds s }) (is_kept s) k).itds
+    (holds_throughout OpensMixed IsMixedWithItds s fits (lines_can s.lines opens) (record { mixed = new_world_is_mixed s fits bytes; itds = new_itds_stand s }) (is_kept s) k).itds

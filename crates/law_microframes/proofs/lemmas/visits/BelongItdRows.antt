@@ -25,7 +25,7 @@ use Rattle.drv_table.specs.Removals.{after_descriptor, after_placed, after_remov
 use Rattle.drv_table.specs.Rows.{driver_row, after_driver_row}
 use Rattle.law_driver.specs.run_owners.Due.{IsDue}
 use Rattle.claims_driver.specs.Owners.{DescriptorRuns, is_descriptor}
-use Rattle.law_driver.proofs.lemmas.run_owners.Reasons.{each_is_due}
+use Rattle.law_driver.proofs.lemmas.run_owners.Reasons.{each_event_is_due}
 use Rattle.law_driver.proofs.lemmas.run_owners.Stays.{advanced, framed, lent, unlinks, harvest_stays}
 use Rattle.law_admission.proofs.Events.{either}
 use Rattle.law_driver_ring.specs.Inventory.{OfQueueHead, sort_of, sorts_of}
@@ -130,7 +130,7 @@ module _ (s : Standing) (w : World) (k : IsMixedAt s w) where
       let d = w.driver in
       let f = k.now.framed in
       let stand = k.queues.controls.mends in
-      let due : IsDue (driver_parts w) (rows.Mend at.mend) = subst (IsDue (driver_parts w)) at.row (each_is_due (driver_parts w)) in
+      let due : IsDue (driver_parts w) (rows.Mend at.mend) = subst (IsDue (driver_parts w)) at.row (each_event_is_due (driver_parts w)) in
       let i : IsStalledOf s.parts s.out at.mend = first_stalled s.parts s.out (queued d) stand.queues at.mend stand.are.owed stand.are.wait (ap (λ (ms : List Mend). slice_get ms 0) (sym stand.are.mends) ∙ due.1) in
       let n = 32 * i.stalled.queue in
       let here : sorts_of s.parts n n ≡ Some OfQueueHead = ap (option_map sort_of) i.waits.stands.here in

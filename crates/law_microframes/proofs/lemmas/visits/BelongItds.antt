@@ -27,7 +27,7 @@ use Rattle.law_driver_ring.specs.Inventory.{OfIsochronous, sort_of, IsLent, sort
 use Rattle.law_driver.proofs.lemmas.chained_transfers.Harvesting.{waits_is}
 use Rattle.law_structures.specs.lent_structures.Structures.{Isochronous, SplitIsochronous, Structures, StructureSets, HoldsIsochronous}
 use Rattle.law_ring.specs.walk_writes.Writes.{WritesLent}
-use Rattle.law_controller.proofs.lemmas.lent_writes.Controlling.{controller_writes_lent}
+use Rattle.law_controller.proofs.lemmas.lent_writes.Controlling.{each_event_of_the_controller_writes_lent_words}
 use Rattle.law_controller.proofs.lemmas.aligned_copies.Controlling.{aligned_placed}
 use Rattle.law_frames.specs.Met.{AnItd}
 use Rattle.law_descriptors.specs.Described.{IsDescriptorLent, HasDescriptor, HasItd, AreDescribed}
@@ -36,7 +36,7 @@ use Rattle.law_descriptors.specs.Meeting.{met}
 use Rattle.law_descriptors.proofs.Standing.{both_on, both_off, IsAtOwner, on_owner}
 use Rattle.law_descriptors.proofs.Returning.{same_blocks}
 use Rattle.law_descriptors.specs.frame_keeps.Kept.{IsItdAfter, HasItdAfter, KeepsParts}
-use Rattle.law_descriptors.proofs.lemmas.kept_frames.Both.{both_keep}
+use Rattle.law_descriptors.proofs.lemmas.kept_frames.Both.{events_keep_both}
 use Rattle.law_world.specs.steps.Streaming.{begins_by, transacts_by, wired}
 use Rattle.law_world.proofs.lemmas.steps.StreamTurning.{world_has_row}
 use Rattle.bus_world.specs.World.{World, controller_parts, controller_next}
@@ -112,8 +112,8 @@ harvested_is_read s w n v b k is served reads u small =
 
 -- ---- before the first line there is none
 
-pub new_itds : NewItdsStand
-new_itds s = record { fields = λ t y x p there sort held split here placed. absurd (cc); served = λ t y there sort told held split u small. absurd (cc) }
+pub new_itds_stand : NewItdsStand
+new_itds_stand s = record { fields = λ t y x p there sort held split here placed. absurd (cc); served = λ t y there sort told held split u small. absurd (cc) }
 
 -- ---- the controller
 
@@ -146,7 +146,8 @@ module _ (fixed : Fixed) (w : World) (s : Standing) (k : IsMixedAt s w) where
 
   writes : WritesLent w.memory (controller_next fixed w).memory
   writes =
-      controller_writes_lent begins_by transacts_by (controller_parts w) (wired fixed w) (controller_parts new) (wired fixed new)
+      each_event_of_the_controller_writes_lent_words begins_by transacts_by (controller_parts w) (wired fixed w) (controller_parts new)
+      (wired fixed new)
       (aligned_placed (controller_parts w) k.now.framed.aligned) (world_has_row fixed w)
 
   -- ---- in a run that isn't lent
@@ -168,7 +169,7 @@ module _ (fixed : Fixed) (w : World) (s : Standing) (k : IsMixedAt s w) where
       let f = k.now.framed in
       let e = event_of fixed w s k in
       let keeps : KeepsParts (both s.descs s.parts) e.now =
-      both_keep begins_by transacts_by opening_base s.member (met d s.recent) (both s.descs s.parts) s.hand s.frame (controller_parts w) (wired fixed w) (wired fixed new) e.now e.later e.frame_later f.runs
+      events_keep_both begins_by transacts_by opening_base s.member (met d s.recent) (both s.descs s.parts) s.hand s.frame (controller_parts w) (wired fixed w) (wired fixed new) e.now e.later e.frame_later f.runs
       e.effect in
       let a : HasItdAfter (e.now n) n v = (keeps n).itd n v here in
       let before : HoldsIsochronous w.memory n v = f.runs.ring.tells.each n n (Isochronous v) here in

@@ -10,13 +10,13 @@ use Rattle.drv_table.specs.DriverContent.{DriverContent}
 use Rattle.drv_table.specs.Kinds.{is_iso}
 use Rattle.drv_table.specs.Rows.{driver_row}
 use Rattle.law_driver.specs.planned_endpoints.Planned.{IsPlanned}
-use Rattle.law_driver.proofs.lemmas.planned_endpoints.Laws.{event_planned}
+use Rattle.law_driver.proofs.lemmas.planned_endpoints.Laws.{events_keep_the_plan}
 use Rattle.law_frames.specs.Met.{Kind}
 use Rattle.law_descriptors.specs.Meeting.{met}
-use Rattle.law_descriptors.proofs.GivenRow.{row_is_given_back}
-use Rattle.law_descriptors.proofs.Waiting.{waiting_unmet}
+use Rattle.law_descriptors.proofs.GivenRow.{row_gives_back_passed}
+use Rattle.law_descriptors.proofs.Waiting.{waiting_are_unmet}
 use Rattle.law_descriptors.proofs.Returning.{none_some}
-use Rattle.law_world.proofs.lemmas.memory.lemmas.framed_memory.LeavingUnmet.{interrupt_unmet}
+use Rattle.law_world.proofs.lemmas.memory.lemmas.framed_memory.LeavingUnmet.{interrupt_is_unmet}
 use Rattle.law_budgets.specs.visit_prices.Spent.{IsAmong, placed_as}
 use Rattle.bus_world.specs.World.{World, driver_parts, driver_next}
 use Rattle.law_world.specs.memory.Mixed.{Standing, IsMixedAt}
@@ -75,18 +75,18 @@ not_given s w n kind k is e x here (a_queue queue name) row =
     let parts = driver_parts w in
     let sound = k.now.framed.place.sound in
     none_some kind
-    (sym (interrupt_unmet parts s.recent w.registers.frame_index e x sound.owners sound.listed k.now.recent_are (row_is_given_back parts (removed.Endpoint e) row) here (not_iso queue))
+    (sym (interrupt_is_unmet parts s.recent w.registers.frame_index e x sound.owners sound.listed k.now.recent_are (row_gives_back_passed parts (removed.Endpoint e) row) here (not_iso queue))
     ∙ ap (met w.driver s.recent) (sym name) ∙ is)
 not_given s w n kind k is e x here (a_descriptor t y iso there sort waits name) row =
     let parts = driver_parts w in
     let sound = k.now.framed.place.sound in
     none_some kind
-    (sym (waiting_unmet parts s.recent w.registers.frame_index e t x y sound.owners sound.listed k.now.recent_are (row_is_given_back parts (removed.Endpoint e) row) here (ap is_iso iso) there sort waits)
+    (sym (waiting_are_unmet parts s.recent w.registers.frame_index e t x y sound.owners sound.listed k.now.recent_are (row_gives_back_passed parts (removed.Endpoint e) row) here (ap is_iso iso) there sort waits)
     ∙ ap (met w.driver s.recent) (sym name) ∙ is)
 
 pub driver_keeps_placed : DriverKeepsPlaced
 driver_keeps_placed s w n kind k is b =
     let d = w.driver in
     let parts = driver_parts w in
-    stays_in d (driver_next w).driver n b (event_planned parts k.now.framed.place.sound.owners k.now.planned) (row_seen b.number (driver_row parts) parts)
+    stays_in d (driver_next w).driver n b (events_keep_the_plan parts k.now.framed.place.sound.owners k.now.planned) (row_seen b.number (driver_row parts) parts)
     (row_more (driver_row parts) parts (placed_of b) (not_given s w n kind k is b.number b.endpoint b.here b.structure) b.planned)

@@ -11,7 +11,7 @@ use Rattle.law_world.proofs.lemmas.memory.Controller.{controller_keeps_mixed}
 use Rattle.law_world.proofs.lemmas.memory.Driving.{driver_keeps_mixed}
 use Rattle.law_world.proofs.lemmas.memory.CommandKeeping.{command_keeps_mixed}
 use Rattle.law_microframes.specs.visits.Belonging.{HeadsHaveFields, ScriptsKeepFields}
-use Rattle.law_microframes.proofs.lemmas.visits.BelongFields.{new_have, controller_keeps_fields, driver_keeps_fields}
+use Rattle.law_microframes.proofs.lemmas.visits.BelongFields.{new_heads_have_fields, controller_keeps_fields, driver_keeps_fields}
 use Rattle.law_microframes.proofs.lemmas.visits.BelongCommands.{command_keeps_fields}
 use Rattle.law_microframes.proofs.lemmas.visits.OneDescriptorMoments.{lines_can}
 
@@ -28,4 +28,4 @@ is_kept s = record {
 
 pub scripts_keep_fields : ScriptsKeepFields
 scripts_keep_fields s fits bytes opens k =
-    (holds_throughout OpensMixed IsMixedWithFields s fits (lines_can s.lines opens) (record { mixed = new_world_is_mixed s fits bytes; fields = new_have s }) (is_kept s) k).fields
+    (holds_throughout OpensMixed IsMixedWithFields s fits (lines_can s.lines opens) (record { mixed = new_world_is_mixed s fits bytes; fields = new_heads_have_fields s }) (is_kept s) k).fields

@@ -14,9 +14,9 @@ use Rattle.drv_table.specs.DriverContent.{DriverContent}
 use Rattle.drv_table.specs.Parts.{Parts}
 use Rattle.drv_table.specs.Rows.{after_driver_row}
 use Rattle.law_admission.specs.Budgets.{Account, account_of, taken_out, account_after}
-use Rattle.law_admission.proofs.Events.{account_of_event}
+use Rattle.law_admission.proofs.Events.{events_take_out_what_left}
 use Rattle.law_driver.specs.planned_endpoints.Planned.{IsPlanned}
-use Rattle.law_driver.proofs.lemmas.planned_endpoints.Laws.{endpoint_planned, planned_endpoint}
+use Rattle.law_driver.proofs.lemmas.planned_endpoints.Laws.{endpoints_count_until_given_back, what_counts_is_an_endpoint}
 use Rattle.law_budgets.specs.visit_prices.Spent.{IsAmong, placed_as}
 
 -- ---- lists
@@ -75,19 +75,21 @@ after_more (rows.ReleaseRemoved (removed.Endpoint e)) d y other at =
 after_more _ d y other at = at
 
 pub row_less : (row : DriverRow) (p : Parts) (y : Placed) → IsAmong (after_driver_row row p).driver.periodic.plan.placed y → IsAmong p.driver.periodic.plan.placed y
-row_less row p y at = after_less row p.driver y (subst (λ (a : Account). IsAmong (Plan a) y) (account_of_event row p) at)
+row_less row p y at = after_less row p.driver y (subst (λ (a : Account). IsAmong (Plan a) y) (events_take_out_what_left row p) at)
 
 pub row_more : (row : DriverRow) (p : Parts) (y : Placed) → (row ≢ rows.ReleaseRemoved (removed.Endpoint y.want.id)) → IsAmong p.driver.periodic.plan.placed y
     → IsAmong (after_driver_row row p).driver.periodic.plan.placed y
-row_more row p y other at = subst (λ (a : Account). IsAmong (Plan a) y) (sym (account_of_event row p)) (after_more row p.driver y other at)
+row_more row p y other at =
+    subst (λ (a : Account). IsAmong (Plan a) y) (sym (events_take_out_what_left row p)) (after_more row p.driver y other at)
 
 -- ---- who is in the plan wasn't given back
 
 pub planned_kept : (d : DriverContent) (e : ℕ) (x : Endpoint) (y : Placed) → IsPlanned d → IsAmong d.periodic.plan.placed y → y.want.id ≡ e → slice_get d.endpoints e ≡ Some x → x.gone ≡ false
 planned_kept d e x y is at id here =
-    let k = planned_endpoint d at.place y is at.there in
+    let k = what_counts_is_an_endpoint d at.place y is at.there in
     ap (λ (z : Endpoint). z.gone) (same_Some x k.endpoint (sym here ∙ ap (slice_get d.endpoints) (sym id) ∙ k.here)) ∙ k.kept
 
 pub in_plan : (d : DriverContent) (e : ℕ) (x : Endpoint) (p : Placement) → IsPlanned d → slice_get d.endpoints e ≡ Some x → x.gone ≡ false → x.placement ≡ Some p
     → IsAmong d.periodic.plan.placed (placed_as e x.desc p)
-in_plan d e x p is here kept placed = let at = endpoint_planned d e x p is here kept placed in record { place = at.place; there = at.there }
+in_plan d e x p is here kept placed = let at =
+    endpoints_count_until_given_back d e x p is here kept placed in record { place = at.place; there = at.there }

@@ -25,8 +25,8 @@ use Rattle.law_driver.specs.listed_members.Members.{IsQueueOf, IsListed}
 use Rattle.law_driver.specs.listed_queues.Queues.{HasQueues}
 use Rattle.law_driver.proofs.lemmas.listed_members.Standing.{IsIn, in_frames, IsFramed, framed, queue_block}
 use Rattle.law_driver.specs.planned_endpoints.Planned.{IsPlanned}
-use Rattle.law_driver.proofs.lemmas.planned_endpoints.Laws.{endpoint_planned}
-use Rattle.law_frame_list.proofs.lemmas.list_spread.Spreading.{queue_there, members_spread}
+use Rattle.law_driver.proofs.lemmas.planned_endpoints.Laws.{endpoints_count_until_given_back}
+use Rattle.law_frame_list.proofs.lemmas.list_spread.Spreading.{queue_there, members_share_no_block}
 use Rattle.law_structures.specs.lent_structures.Structures.{Structure, QueueHead, StructureSets}
 use Rattle.law_driver_ring.specs.Inventory.{Sort, OfQueueHead, sort_of, sorts_of, IsDriverOwned, the_head, a_queue as of_a_queue, IsDriven}
 use Rattle.law_driver.proofs.lemmas.chained_transfers.Harvesting.{waits_is}
@@ -70,7 +70,7 @@ module _ (d : DriverContent) (has : HasOwners d) (planned : IsPlanned d) (n e : 
   abbrev pub belongs_by : belonging.IsStructureOf d n e x → belonging.BelongsTo d n
   belongs_by structure =
       let p = its_placement in
-      let at = endpoint_planned d e x p.placement planned here kept p.is in
+      let at = endpoints_count_until_given_back d e x p.placement planned here kept p.is in
       record { number = e; endpoint = x; placement = p.placement; here = here; kept = kept; placed = p.is; planned = record { place = at.place; there = at.there }; structure = structure }
 
   pub queue_by : is_iso x.desc.kind ≡ false → n ≡ 32 * x.queue → IsQueueAt d n
@@ -201,7 +201,7 @@ module _ (s : Standing) (w : World) (n : ℕ) (k : IsMixedAt s w) where
 
   by_member : (m : Member) → is_linked led m ≡ true → begins_at m ≡ n → standing w.driver n ≡ Some AQueue → IsQueueAt w.driver n
   by_member (Once c) on begins is =
-      let spread = led_spread d.periodic.list.list d.periodic.list.members.schedule d.periodic.list.work (members_spread d w.memory k.now.framed.place.sound.stands has listed) in
+      let spread = led_spread d.periodic.list.list d.periodic.list.members.schedule d.periodic.list.work (members_share_no_block d w.memory k.now.framed.place.sound.stands has listed) in
       absurd (no_queue (note_at d.periodic.notes (c.id / 32)).split
       (same_Some _ AQueue (sym (member_kind d.periodic d.periodic.list.list led (Once c) spread on) ∙ ap (kind_at d.periodic led) begins ∙ is)))
   by_member (Each q) on begins is =

@@ -36,10 +36,10 @@ use Rattle.law_driver.proofs.lemmas.ring_members.Stores.{slots_apart, store_else
 use Rattle.law_driver.proofs.lemmas.ring_members.Freed.{lent_words, rest_qtds, rest_endpoint, rest_descriptor, rest_placed}
 use Rattle.law_driver.proofs.lemmas.ring_members.Events.{open_store, unlink_store, publish_store, stands_as, block_of, is_element, not_element, chain_never, iso_never, unchain_never, begun_members}
 use Rattle.law_driver.proofs.lemmas.ring_members.Aside.{AreApart as ListApart, IsListApart, list_apart}
-use Rattle.law_driver.proofs.lemmas.run_owners.Reasons.{each_is_due}
+use Rattle.law_driver.proofs.lemmas.run_owners.Reasons.{each_event_is_due}
 use Rattle.law_driver.proofs.lemmas.queue_head_words.Stored.{in_two}
 use Rattle.law_driver.specs.in_place.InPlace.{IsInPlace}
-use Rattle.law_driver.proofs.lemmas.in_place.Laws.{event_in_place}
+use Rattle.law_driver.proofs.lemmas.in_place.Laws.{events_keep_all_in_place}
 use Rattle.law_microframes.specs.visits.DescriptorFields.{IsMendedAt, ItdWordsStay}
 use Rattle.law_driver.proofs.lemmas.ring_members.Lists.{IsApartStore, store_is_apart}
 
@@ -176,7 +176,7 @@ module _ (p : Parts) (t i : ℕ) (y z : Transfer) (place : IsInPlace p.memory p.
   next = after_driver_row (driver_row p) p
 
   in_place_then : IsInPlace (after_driver_row (driver_row p) p).memory (after_driver_row (driver_row p) p).driver
-  in_place_then = event_in_place p place
+  in_place_then = events_keep_all_in_place p place
 
   two_blocks : (d : DriverContent) (has : HasOwners d) (v : Transfer) → slice_get d.transfers t ≡ Some v → is_descriptor v.sort ≡ true → v.released ≡ false → (note_at d.periodic.notes v.first).split ≡ false
       → HasBlocks 2 (slot_of d.book.slots v.first)
@@ -198,7 +198,7 @@ module _ (p : Parts) (t i : ℕ) (y z : Transfer) (place : IsInPlace p.memory p.
         let o = sound.owners.owned.each.described t (runs_of_transfer y) (ap (option_map runs_of_transfer) there) sort held in
         row_leaves p y.first t i ((views_of p.driver).descriptor y.first).split sound.stands sound.shape sound.owners sound.ring
         (list_apart p.driver p.memory sound.stands sound.shape sound.owners sound.listed) o.descriptor
-        (inside_of p.driver p.memory y.first sound.stands (two_blocks p.driver sound.owners y there sort held split)) later (driver_row p) (each_is_due p) other has_then
+        (inside_of p.driver p.memory y.first sound.stands (two_blocks p.driver sound.owners y there sort held split)) later (driver_row p) (each_event_is_due p) other has_then
 
     no_mend : (row : DriverRow) → driver_row p ≡ row → Stays
     no_mend (rows.Mend w) is =

@@ -25,7 +25,7 @@ use Rattle.drv_table.specs.Harvesting.{found_of, served, harvested_as, after_har
 use Rattle.drv_table.specs.Rows.{driver_row, after_driver_row}
 use Rattle.law_driver.specs.run_owners.Due.{IsDue, IsHarvestDue}
 use Rattle.claims_driver.specs.Owners.{is_descriptor}
-use Rattle.law_driver.proofs.lemmas.run_owners.Reasons.{each_is_due}
+use Rattle.law_driver.proofs.lemmas.run_owners.Reasons.{each_event_is_due}
 use Rattle.law_driver.proofs.lemmas.run_owners.Released.{set_there}
 use Rattle.law_driver.proofs.lemmas.chained_transfers.Harvesting.{waits_is}
 use Rattle.bus_world.specs.World.{World, driver_parts, driver_next}
@@ -99,7 +99,7 @@ served_after w mixed old t z b after reported (rows.Harvest e v found) is same =
     let parts = driver_parts w in
     let orderly = mixed.mixed.now.framed.place.sound.owners.orderly in
     let y = b.before in
-    let due : IsHarvestDue parts e v found = subst (IsDue parts) is (each_is_due parts) in
+    let due : IsHarvestDue parts e v found = subst (IsDue parts) is (each_event_is_due parts) in
     let a = due.transfer in
     let at_endpoint : a.endpoint ≡ e = (waits_is e a due.waits).0 in
     let iso : is_iso due.endpoint.desc.kind ≡ true = sym (orderly.sorts t y due.endpoint b.there (ap (slice_get d.endpoints) same ∙ due.here)) ∙ b.sort in

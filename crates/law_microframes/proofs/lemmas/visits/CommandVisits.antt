@@ -13,7 +13,7 @@ use Rattle.drv_table.specs.Offers.{IsOffered, offered, new_endpoint, placed_endp
 use Rattle.drv_table.specs.CancelOffers.{first_end, endpoint_members, with_cancel}
 use Rattle.law_driver.specs.run_owners.Accepts.{Accepts, opens, chains, places, transfers, describes, cancels, unchains}
 use Rattle.claims_base.specs.Controller.{opening_base}
-use Rattle.law_driver.proofs.lemmas.run_owners.Commands.{accepted_for_a_reason}
+use Rattle.law_driver.proofs.lemmas.run_owners.Commands.{each_command_has_its_reason}
 use Rattle.law_descriptors.specs.Both.{both}
 use Rattle.drv_periodic.specs.Periodic.{Periodic}
 use Rattle.claims_driver.specs.Unlinked.{led_in}
@@ -24,9 +24,9 @@ use Rattle.bus_world.specs.World.{World, controller_parts, name_in, commanded_by
 use Rattle.law_world.specs.memory.framed_memory.Now.{IsFramedNow}
 use Rattle.law_world.specs.memory.Mixed.{Standing, IsMixedAt}
 use Rattle.law_world.proofs.lemmas.memory.CommandMemory.{placed_now, described_now}
-use Rattle.law_world.proofs.lemmas.memory.lemmas.framed_memory.Chained.{chain_now}
-use Rattle.law_world.proofs.lemmas.memory.lemmas.framed_memory.Now.{has_frames}
-use Rattle.law_world.proofs.lemmas.memory.lemmas.framed_memory.QueueAccepting.{open_now, transfer_now, cancel_now, unchain_now}
+use Rattle.law_world.proofs.lemmas.memory.lemmas.framed_memory.Chained.{chain_keeps_now}
+use Rattle.law_world.proofs.lemmas.memory.lemmas.framed_memory.Now.{now_has_frames}
+use Rattle.law_world.proofs.lemmas.memory.lemmas.framed_memory.QueueAccepting.{open_keeps_now, transfer_keeps_now, cancel_keeps_now, unchain_keeps_now}
 use Rattle.law_world.proofs.lemmas.memory.lemmas.framed_memory.Steps.{linking_led}
 use Rattle.law_world.proofs.lemmas.memory.lemmas.framed_memory.StillStanding.{IsThereStill, pushed_there, pushed_still, set_still, recent_still, unchain_recent_still, described_recent}
 use Rattle.law_frames.specs.Met.{Kind}
@@ -50,28 +50,28 @@ module _ (s : Standing) (w : World) (k : IsMixedAt s w) (start : World) (vs : Li
     d = w.driver
 
     reason : Accepts w.driver w.memory o
-    reason = accepted_for_a_reason w.driver w.memory cmd o is
+    reason = each_command_has_its_reason w.driver w.memory cmd o is
 
     abbrev Now : Type 0
     Now = IsFramedNow opening_base s.member s.recent s.descs s.parts s.hand s.frame (with_memory (controller_parts w) o.memory) o.driver
 
     now_by : Accepts w.driver w.memory o → Now
-    now_by (opens why) = open_now opening_base s.member s.recent s.descs s.parts s.hand s.frame (controller_parts w) w.driver cmd o k.now why room is
-    now_by (chains why) = chain_now opening_base s.member s.recent s.descs s.parts s.hand s.frame (controller_parts w) w.driver cmd o k.now why room is
+    now_by (opens why) = open_keeps_now opening_base s.member s.recent s.descs s.parts s.hand s.frame (controller_parts w) w.driver cmd o k.now why room is
+    now_by (chains why) = chain_keeps_now opening_base s.member s.recent s.descs s.parts s.hand s.frame (controller_parts w) w.driver cmd o k.now why room is
     now_by (places why) = placed_now opening_base s.member s.recent s.descs s.parts s.hand s.frame (controller_parts w) w.driver cmd o k.now why room is
-    now_by (transfers why) = transfer_now opening_base s.member s.recent s.descs s.parts s.hand s.frame (controller_parts w) w.driver cmd o k.now why room is
+    now_by (transfers why) = transfer_keeps_now opening_base s.member s.recent s.descs s.parts s.hand s.frame (controller_parts w) w.driver cmd o k.now why room is
     now_by (describes why) = described_now opening_base s.member s.recent s.descs s.parts s.hand s.frame (controller_parts w) w.driver cmd o k.now why room is
-    now_by (cancels why) = cancel_now opening_base s.member s.recent s.descs s.parts s.hand s.frame (controller_parts w) w.driver cmd o k.now why room is
-    now_by (unchains why) = unchain_now opening_base s.member s.recent s.descs s.parts s.hand s.frame (controller_parts w) w.driver cmd o k.now why room is
+    now_by (cancels why) = cancel_keeps_now opening_base s.member s.recent s.descs s.parts s.hand s.frame (controller_parts w) w.driver cmd o k.now why room is
+    now_by (unchains why) = unchain_keeps_now opening_base s.member s.recent s.descs s.parts s.hand s.frame (controller_parts w) w.driver cmd o k.now why room is
 
     now : Now
     now = now_by reason
 
     spread : IsListSpread w.driver
-    spread = (has_frames opening_base s.member s.recent s.descs s.parts s.hand s.frame (controller_parts w) w.driver k.now).spread
+    spread = (now_has_frames opening_base s.member s.recent s.descs s.parts s.hand s.frame (controller_parts w) w.driver k.now).spread
 
     spread_now : IsListSpread o.driver
-    spread_now = (has_frames opening_base s.member s.recent s.descs s.parts s.hand s.frame (with_memory (controller_parts w) o.memory) o.driver now).spread
+    spread_now = (now_has_frames opening_base s.member s.recent s.descs s.parts s.hand s.frame (with_memory (controller_parts w) o.memory) o.driver now).spread
 
     links : (n : ℕ) → v.visits.kept n ≡ true → next_of o.memory n ≡ next_of w.memory n
     links n on =
@@ -176,7 +176,7 @@ module _ (s : Standing) (w : World) (k : IsMixedAt s w) (start : World) (vs : Li
   refused_visits : (why : OfferError) → VisitsGoOn start (commanded_by w line (name_in cmd) (Err why)) vs
   refused_visits why =
       let new : World = commanded_by w line (name_in cmd) (Err why) in
-      let listed : IsListSpread w.driver = (has_frames opening_base s.member s.recent s.descs s.parts s.hand s.frame (controller_parts w) w.driver k.now).spread in
+      let listed : IsListSpread w.driver = (now_has_frames opening_base s.member s.recent s.descs s.parts s.hand s.frame (controller_parts w) w.driver k.now).spread in
       goes_on start w new vs v.visits listed listed (half_led s w k start vs v)
       (record {
         leaves = same_list w.driver new.driver refl;

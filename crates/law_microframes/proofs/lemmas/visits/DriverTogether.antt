@@ -11,13 +11,13 @@ use Rattle.drv_table.specs.Removals.{after_unlink}
 use Rattle.drv_table.specs.Rows.{driver_row, after_driver_row}
 use Rattle.law_driver.specs.run_owners.Due.{IsDue, IsNextOf, IsLinkOf}
 use Rattle.claims_base.specs.Controller.{opening_base}
-use Rattle.law_driver.proofs.lemmas.run_owners.Reasons.{each_is_due}
+use Rattle.law_driver.proofs.lemmas.run_owners.Reasons.{each_event_is_due}
 use Rattle.law_descriptors.specs.Both.{both}
 use Rattle.law_descriptors.specs.ListRows.{ComesFirst}
 use Rattle.bus_world.specs.World.{World, driver_parts, controller_parts, with_parts, driver_next}
 use Rattle.law_world.specs.memory.framed_memory.NowRows.{FramedLinked}
 use Rattle.law_world.proofs.lemmas.memory.lemmas.framed_memory.ChainedLent.{chain_comes_first}
-use Rattle.law_world.proofs.lemmas.memory.lemmas.framed_memory.NowRows.{link_now}
+use Rattle.law_world.proofs.lemmas.memory.lemmas.framed_memory.NowRows.{link_keeps_now}
 use Rattle.law_world.specs.memory.Mixed.{IsChainToLend, IsChainThere, IsUnderWay, Standing, IsMixedAt}
 use Rattle.law_microframes.specs.visits.Visited.{VisitsGoOn, VisitsGoOnAt}
 use Rattle.law_microframes.specs.visits.VisitLaws.{RowKeepsVisiting}
@@ -40,7 +40,8 @@ module _ (s : Standing) (w : World) (k : IsMixedAt s w) (start : World) (vs : Li
 
   linked_by : (why : IsLinkOf (driver_parts w) (driver_row (driver_parts w))) → (why.command ≡ unfinished.Chain → ComesFirst s.member s.recent (both s.descs s.parts) w.driver w.driver.periodic.list)
       → FramedLinked opening_base s.member s.recent s.descs s.parts s.hand s.frame (controller_parts w) w.driver why.store
-  linked_by why comes = link_now opening_base s.member s.recent s.descs s.parts s.hand s.frame (controller_parts w) w.driver k.now why comes
+  linked_by why comes =
+      link_keeps_now opening_base s.member s.recent s.descs s.parts s.hand s.frame (controller_parts w) w.driver k.now why comes
 
   link_visits : (c : Command) → (why : IsLinkOf (driver_parts w) (driver_row (driver_parts w))) → why.command ≡ c → VisitsGoOn start (driver_next w) vs
   link_visits (unfinished.Open queue) why is = absurd (false≢true (ap links (sym is) ∙ why.links))
@@ -90,5 +91,6 @@ module _ (s : Standing) (w : World) (k : IsMixedAt s w) (start : World) (vs : Li
   by_row (rows.Harvest e t found) is due = harvest_visits s w k start vs v e t found is
   by_row rows.Rest is due = rest_visits s w k start vs v is
 
-pub each_row_visits : (row : DriverRow) → RowKeepsVisiting row
-each_row_visits row s start w vs k v is = by_row s w k start vs v row is (subst (IsDue (driver_parts w)) is (each_is_due (driver_parts w)))
+pub each_row_keeps_visiting : (row : DriverRow) → RowKeepsVisiting row
+each_row_keeps_visiting row s start w vs k v is =
+    by_row s w k start vs v row is (subst (IsDue (driver_parts w)) is (each_event_is_due (driver_parts w)))

@@ -32,7 +32,7 @@ use Rattle.law_driver.specs.run_owners.Due.{IsDue, IsNextOf}
 use Rattle.claims_base.specs.Controller.{opening_base}
 use Rattle.law_driver.proofs.lemmas.ring_members.Events.{first_mend}
 use Rattle.law_driver.proofs.lemmas.ring_members.Freed.{lent_words}
-use Rattle.law_driver.proofs.lemmas.run_owners.Reasons.{each_is_due}
+use Rattle.law_driver.proofs.lemmas.run_owners.Reasons.{each_event_is_due}
 use Rattle.claims_driver.specs.FrameWords.{HasMember}
 use Rattle.law_frames.specs.Met.{Kind}
 use Rattle.claims_driver.specs.Unlinked.{is_led, led_by, led, IsOpenAt}
@@ -42,7 +42,7 @@ use Rattle.law_descriptors.specs.Recent.{AreRecent}
 use Rattle.law_descriptors.specs.RowLaws.{HasFrames}
 use Rattle.bus_world.specs.World.{World, driver_parts, controller_parts, with_parts, driver_next}
 use Rattle.law_world.proofs.lemmas.memory.Driving.{driver_keeps_mixed}
-use Rattle.law_world.proofs.lemmas.memory.lemmas.framed_memory.Now.{has_frames}
+use Rattle.law_world.proofs.lemmas.memory.lemmas.framed_memory.Now.{now_has_frames}
 use Rattle.law_world.specs.memory.Mixed.{Standing, IsMixedAt, IsMixedWorld}
 use Rattle.law_microframes.specs.visits.OneDescriptor.{IsActiveDescriptor}
 use Rattle.law_microframes.specs.visits.Ranks.{name_of, next_of}
@@ -60,7 +60,7 @@ use Rattle.law_controller.specs.frame_stores.Stores.{HasLink}
 use Rattle.law_descriptors.specs.Both.{both}
 use Rattle.law_descriptors.specs.Lent.{IsLending}
 use Rattle.law_descriptors.proofs.Lends.{lend_leaves}
-use Rattle.law_descriptors.proofs.lemmas.descriptor_links.Links.{links_are}
+use Rattle.law_descriptors.proofs.lemmas.descriptor_links.Links.{descriptors_are_given_links}
 use Rattle.law_world.specs.memory.framed_memory.Isochronous.{AwaitsLend}
 use Rattle.law_microframes.proofs.lemmas.visits.OwnSteps.{same_list, own_leaves, without_command, own_recent, some_below}
 
@@ -175,7 +175,7 @@ module _ (s : Standing) (w : World) (k : IsMixedAt s w) (start : World) (vs : Li
   next_by row = with_parts w (after_driver_row row (driver_parts w))
 
   frames : HasFrames w.memory w.driver
-  frames = has_frames opening_base s.member s.recent s.descs s.parts s.hand s.frame (controller_parts w) w.driver k.now
+  frames = now_has_frames opening_base s.member s.recent s.descs s.parts s.hand s.frame (controller_parts w) w.driver k.now
 
   mixed_next : IsMixedWorld (driver_next w)
   mixed_next = driver_keeps_mixed w (record { standing = s; mixed = k })
@@ -183,7 +183,7 @@ module _ (s : Standing) (w : World) (k : IsMixedAt s w) (start : World) (vs : Li
   spread_next : IsListSpread (driver_next w).driver
   spread_next =
       let n : Standing = mixed_next.standing in
-      (has_frames opening_base n.member n.recent n.descs n.parts n.hand n.frame (controller_parts (driver_next w)) (driver_next w).driver mixed_next.mixed.now).spread
+      (now_has_frames opening_base n.member n.recent n.descs n.parts n.hand n.frame (controller_parts (driver_next w)) (driver_next w).driver mixed_next.mixed.now).spread
 
   pub half_led : (x : Work) → w.driver.periodic.list.work ≡ Some x → x.removes ≡ false → 1 ≤ x.made → is_linked (led w.driver) x.member ≡ true
   half_led x under adds made =
@@ -232,7 +232,7 @@ module _ (s : Standing) (w : World) (k : IsMixedAt s w) (start : World) (vs : Li
 
   pub frame_read_visits : (n : ℕ) → driver_row (driver_parts w) ≡ rows.ReadFrame n → VisitsGoOn start (driver_next w) vs
   frame_read_visits n is =
-      let due : IsDue (driver_parts w) (rows.ReadFrame n) = subst (IsDue (driver_parts w)) is (each_is_due (driver_parts w)) in
+      let due : IsDue (driver_parts w) (rows.ReadFrame n) = subst (IsDue (driver_parts w)) is (each_event_is_due (driver_parts w)) in
       elsewhere (rows.ReadFrame n) is (same_list w.driver (next_by (rows.ReadFrame n)).driver refl) (λ n on. refl)
       (read_recent w.driver (next_by (rows.ReadFrame n)).driver v.visits.left w.registers.frame_index refl refl refl (ap (λ (i : ℕ). read_again i w.driver.periodic.removals) due.1) v.visits.left_are)
 
@@ -240,7 +240,7 @@ module _ (s : Standing) (w : World) (k : IsMixedAt s w) (start : World) (vs : Li
 
   pub mend_visits : (x : Mend) → driver_row (driver_parts w) ≡ rows.Mend x → VisitsGoOn start (driver_next w) vs
   mend_visits x is =
-      let due : IsDue (driver_parts w) (rows.Mend x) = subst (IsDue (driver_parts w)) is (each_is_due (driver_parts w)) in
+      let due : IsDue (driver_parts w) (rows.Mend x) = subst (IsDue (driver_parts w)) is (each_event_is_due (driver_parts w)) in
       let mending : IsMending x = first_mend w.driver.mends x due.1 k.now.framed.place.sound.ring.mends in
       elsewhere (rows.Mend x) is (same_list w.driver (next_by (rows.Mend x)).driver refl)
       (λ n on.
@@ -269,7 +269,7 @@ module _ (s : Standing) (w : World) (k : IsMixedAt s w) (start : World) (vs : Li
 
   pub lend_visits : driver_row (driver_parts w) ≡ rows.Lend → VisitsGoOn start (driver_next w) vs
   lend_visits is =
-      let next : IsNextOf (driver_parts w) rows.Lend = subst (IsDue (driver_parts w)) is (each_is_due (driver_parts w)) in
+      let next : IsNextOf (driver_parts w) rows.Lend = subst (IsDue (driver_parts w)) is (each_event_is_due (driver_parts w)) in
       let h : Holding = lend_taken (holding w.driver.book w.memory) in
       own_row rows.Lend (record w.driver { book = h.book }) is next refl refl refl refl (dropped rows.Lend next)
       (λ n on. ap (λ (ws : List ℕ). next_of (record h.memory { words = ws }) n) (lent_words (holding w.driver.book w.memory)))
@@ -291,7 +291,7 @@ module _ (s : Standing) (w : World) (k : IsMixedAt s w) (start : World) (vs : Li
 
   pub frames_visits : driver_row (driver_parts w) ≡ rows.Frames → VisitsGoOn start (driver_next w) vs
   frames_visits is =
-      let next : IsNextOf (driver_parts w) rows.Frames = subst (IsDue (driver_parts w)) is (each_is_due (driver_parts w)) in
+      let next : IsNextOf (driver_parts w) rows.Frames = subst (IsDue (driver_parts w)) is (each_event_is_due (driver_parts w)) in
       let i : IsIso next.command = iso_frames next.command w.driver.made next.next in
       own_row rows.Frames (noted_by i.endpoint i.first i.count) is next refl refl
       (ap (λ (o : Option Command). framed_by w.driver w.registers.frame_index o) (next.unfinished ∙ ap (λ (c : Command). Some c) i.is)) refl
@@ -301,7 +301,7 @@ module _ (s : Standing) (w : World) (k : IsMixedAt s w) (start : World) (vs : Li
 
   pub described_lent_visits : driver_row (driver_parts w) ≡ rows.LendDescriptors → VisitsGoOn start (driver_next w) vs
   described_lent_visits is =
-      let next : IsNextOf (driver_parts w) rows.LendDescriptors = subst (IsDue (driver_parts w)) is (each_is_due (driver_parts w)) in
+      let next : IsNextOf (driver_parts w) rows.LendDescriptors = subst (IsDue (driver_parts w)) is (each_event_is_due (driver_parts w)) in
       let i : IsIso next.command = iso_lends next.command w.driver.made next.next in
       let command : w.driver.command ≡ Some (unfinished.Iso i.endpoint i.first i.count) = next.unfinished ∙ ap (λ (c : Command). Some c) i.is in
       let low : w.driver.made < 2
@@ -309,7 +309,7 @@ module _ (s : Standing) (w : World) (k : IsMixedAt s w) (start : World) (vs : Li
       let a : AwaitsLend w.driver w.memory i.endpoint i.first = k.awaiting i.endpoint i.first i.count command low in
       let sound = k.now.framed.place.sound in
       let lending : IsLending (driver_parts w) i.first a.endpoint.desc
-      = record { await = a.await; links = links_are w.driver sound.listed frames.list.order; owners = sound.owners; stands = sound.stands; shape = sound.shape } in
+      = record { await = a.await; links = descriptors_are_given_links w.driver sound.listed frames.list.order; owners = sound.owners; stands = sound.stands; shape = sound.shape } in
       let leaves : Leaves w.memory (next_by rows.LendDescriptors).memory = lend_leaves (driver_parts w) i.first a.endpoint.desc lending in
       own_row rows.LendDescriptors (record w.driver { book = (lend_taken (holding w.driver.book (linked_by w.driver w.memory w.driver.command))).book }) is next refl refl refl refl (dropped rows.LendDescriptors next)
       (λ n on.

@@ -34,7 +34,7 @@ use Rattle.law_descriptors.specs.Removed.{IsRemovedAt, a_descriptor, a_queue, a_
 use Rattle.law_driver.proofs.lemmas.chained_transfers.Harvesting.{waits_is}
 use Rattle.law_driver.proofs.lemmas.listed_members.Standing.{IsSeen, seen, standing_block}
 use Rattle.law_driver.proofs.lemmas.listed_members.Owned.{queue_owned}
-use Rattle.law_driver.proofs.lemmas.run_owners.Reasons.{each_is_due}
+use Rattle.law_driver.proofs.lemmas.run_owners.Reasons.{each_event_is_due}
 use Rattle.law_driver.proofs.lemmas.run_owners.Stays.{begun_notes}
 use Rattle.law_driver.proofs.lemmas.run_owners.Taking.{blocks_some}
 use Rattle.law_driver.specs.run_owners.Accepts.{Accepts, opens, chains, places, transfers, describes, cancels, unchains, Transfers, Describes, Unchains}
@@ -191,7 +191,7 @@ module _ (s : Standing) (w : World) (k : IsMixedAt s w) where
       ∙ sym same
 
   its_follows : Follows w.driver w.memory (driver_next w).driver
-  its_follows = row_follows (driver_row (driver_parts w)) (driver_parts w) (each_is_due (driver_parts w)) k.now.framed.place.sound
+  its_follows = row_follows (driver_row (driver_parts w)) (driver_parts w) (each_event_is_due (driver_parts w)) k.now.framed.place.sound
 
   pub driver_framed : (left : ℕ → Option Kind) (n : ℕ) (kind : Kind) (x : Member) → AreRecent w.driver w.registers.frame_index left
       → met w.driver left n ≡ Some kind

@@ -23,13 +23,13 @@ use Rattle.drv_table.specs.Harvesting.{served, told_with, mends_of, behind_one, 
 use Rattle.drv_table.specs.Rows.{driver_row, after_driver_row}
 use Rattle.claims_driver.specs.Owners.{TransferRuns, runs_of_transfer, transfer_in}
 use Rattle.law_driver.specs.run_owners.Due.{IsDue, IsHarvestDue}
-use Rattle.law_driver.proofs.lemmas.run_owners.Reasons.{each_is_due}
+use Rattle.law_driver.proofs.lemmas.run_owners.Reasons.{each_event_is_due}
 use Rattle.law_driver.proofs.lemmas.run_owners.Released.{set_there}
 use Rattle.law_driver.proofs.lemmas.run_owners.Harvest.{waits_is}
 use Rattle.law_driver.proofs.lemmas.run_owners.Stays.{harvest_stays}
 use Rattle.law_frames.specs.Met.{Kind}
 use Rattle.law_descriptors.proofs.Returning.{none_some}
-use Rattle.law_world.proofs.lemmas.memory.lemmas.framed_memory.Ended.{owners_ended}
+use Rattle.law_world.proofs.lemmas.memory.lemmas.framed_memory.Ended.{owners_tell_leaving}
 use Rattle.law_descriptors.specs.Removed.{IsRemovedAt, a_descriptor, a_queue, a_waiting, IsRemovedSince, IsUnchainedNow}
 use Rattle.law_descriptors.specs.Recent.{AreRecent}
 use Rattle.bus_world.specs.World.{World, driver_parts, driver_next}
@@ -182,10 +182,10 @@ module _ (s : Standing) (w : World) (k : IsMixedAt s w) (start : World) (vs : Li
   pub harvest_visits : (e t : ℕ) (found : Found) → driver_row (driver_parts w) ≡ rows.Harvest e t found → VisitsGoOn start (driver_next w) vs
   harvest_visits e t found is =
       let d : DriverContent = w.driver in
-      let due : IsHarvestDue (driver_parts w) e t found = subst (IsDue (driver_parts w)) is (each_is_due (driver_parts w)) in
+      let due : IsHarvestDue (driver_parts w) e t found = subst (IsDue (driver_parts w)) is (each_event_is_due (driver_parts w)) in
       let f : DriverContent = (after_driver_row (rows.Harvest e t found) (driver_parts w)).driver in
       let l : HarvestLeaves e d f = harvest_leaves d w.memory e t found (slice_get d.endpoints e) (slice_get d.transfers t) refl in
       elsewhere s w k start vs v (rows.Harvest e t found) is (same_list d f (ap (λ (q : PeriodicContent). q.list) l.periodic)) (λ n on. refl)
       (harvest_recent d f e w.registers.frame_index v.visits.left l
       (harvest_stays d w.memory e t found (slice_get d.endpoints e) (slice_get d.transfers t) refl refl).same.transfers
-      (λ i r here what. (owners_ended d k.now.framed.place.sound.owners).removed_ended i e r due.endpoint here what due.here due.goes_on) due.idle v.visits.left_are)
+      (λ i r here what. (owners_tell_leaving d k.now.framed.place.sound.owners).removed_ended i e r due.endpoint here what due.here due.goes_on) due.idle v.visits.left_are)

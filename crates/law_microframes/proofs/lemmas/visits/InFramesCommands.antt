@@ -12,9 +12,9 @@ use Rattle.drv_table.specs.Offers.{offered}
 use Rattle.claims_driver.specs.Owners.{is_descriptor}
 use Rattle.claims_driver.specs.Leaving.{HasOwners}
 use Rattle.law_admission.specs.Budgets.{Account, account_of}
-use Rattle.law_admission.proofs.Commands.{account_of_command}
+use Rattle.law_admission.proofs.Commands.{commands_place_the_best}
 use Rattle.law_driver.specs.planned_endpoints.Planned.{IsPlanned}
-use Rattle.law_driver.proofs.lemmas.planned_endpoints.Laws.{command_planned}
+use Rattle.law_driver.proofs.lemmas.planned_endpoints.Laws.{commands_keep_the_plan}
 use Rattle.law_driver.proofs.lemmas.queued_drivers.CommandReasons.{IsNew, in_ring, in_frames, bare, IsReasonOf, reason_of}
 use Rattle.law_frames.specs.Met.{Kind, AQueue, AnItd, ASitd}
 use Rattle.law_descriptors.specs.Meeting.{standing, or_recent, met}
@@ -99,7 +99,7 @@ module _ (s : Standing) (w : World) (k : IsMixedAt s w) (left : ℕ → Option K
       let cmd : Cmd = commands.OpenEp x in
       ⊎_elim
       (λ (old : IsQueueAt w.driver n).
-      let later : IsPlanned o.driver = command_planned w.driver w.memory cmd o k.now.planned is in
+      let later : IsPlanned o.driver = commands_keep_the_plan w.driver w.memory cmd o k.now.planned is in
       let still : IsStillAt old o.driver = queue_stays w.driver o.driver n old (accepted_belongs w cmd o n later is old.belongs why) in
       record {
         still = old;
@@ -120,15 +120,17 @@ module _ (s : Standing) (w : World) (k : IsMixedAt s w) (left : ℕ → Option K
       → (n : ℕ) (kind : Kind) → met w.driver left n ≡ Some kind → (b : IsQueueAt o.driver n) → IsStillAt b w.driver
   by_reason (commands.OpenEp x) o is after why n kind on b = opened_back x o is after why n kind on b
   by_reason (commands.Get name len by) o is after why n kind on b =
-      same_seen o (account_of_command w.driver w.memory (commands.Get name len by) o is) (taken_same w.driver w.memory o name _ _ why) n b
+      same_seen o (commands_place_the_best w.driver w.memory (commands.Get name len by) o is) (taken_same w.driver w.memory o name _ _ why)
+      n b
   by_reason (commands.Put name bytes by) o is after why n kind on b =
-      same_seen o (account_of_command w.driver w.memory (commands.Put name bytes by) o is) (taken_same w.driver w.memory o name _ _ why) n b
+      same_seen o (commands_place_the_best w.driver w.memory (commands.Put name bytes by) o is)
+      (taken_same w.driver w.memory o name _ _ why) n b
   by_reason (commands.Control name setup bytes) o is after why n kind on b =
-      same_seen o (account_of_command w.driver w.memory (commands.Control name setup bytes) o is) (taken_same w.driver w.memory o name _ _ why) n b
+      same_seen o (commands_place_the_best w.driver w.memory (commands.Control name setup bytes) o is) (taken_same w.driver w.memory o name _ _ why) n b
   by_reason (commands.Iso name count len seed) o is after why n kind on b =
-      same_seen o (account_of_command w.driver w.memory (commands.Iso name count len seed) o is) (described_same w.driver w.memory o why) n b
+      same_seen o (commands_place_the_best w.driver w.memory (commands.Iso name count len seed) o is) (described_same w.driver w.memory o why) n b
   by_reason (commands.Cancel name) o is after why n kind on b =
-      same_seen o (account_of_command w.driver w.memory (commands.Cancel name) o is) (left_same w.driver w.memory o name why) n b
+      same_seen o (commands_place_the_best w.driver w.memory (commands.Cancel name) o is) (left_same w.driver w.memory o name why) n b
   by_reason _ o is after why n kind on b = absurd why
 
   pub command_back : (cmd : Cmd) (o : Offered) → offered w.driver w.memory cmd ≡ Ok o → HasOwners o.driver

@@ -13,7 +13,7 @@ use Rattle.law_microframes.specs.visits.Began.{began}
 use Rattle.claims_world.specs.Visits.{frame_in, visited}
 use Rattle.law_microframes.specs.visits.Visited.{WasVisited, IsActiveAs, IsVisiting}
 use Rattle.law_microframes.specs.visits.InFrames.{AreInTheirFrames, ScriptsStayInFrames, ScriptsGoThroughFrames}
-use Rattle.law_microframes.proofs.lemmas.visits.VisitsKept.{scripts_visit_all}
+use Rattle.law_microframes.proofs.lemmas.visits.VisitsKept.{scripts_visit}
 
 all_active : (d : DriverContent) (left : ℕ → Option Kind) (who : ℕ → Member) (frame : ℕ) (vs : List ℕ) → AllByRecursion (WasVisited d left who frame) vs → AllByRecursion (λ v. IsActiveAs d v (who v)) vs
     → AllByRecursion (λ v. (b : IsQueueAt d v) → is_active b.belongs.placement frame ≡ true) vs
@@ -25,8 +25,10 @@ in_their_frames start w vs h =
     let g = h.visits in
     all_active w.driver g.left g.who (frame_in w.control.frame.index) vs g.behind.were g.were_active
 
-pub scripts_stay : ScriptsStayInFrames
-scripts_stay s fit bytes opens k = in_their_frames (began s k) (moment s k).world (visited s k) (scripts_visit_all s fit bytes opens k)
+pub scripts_stay_in_frames : ScriptsStayInFrames
+scripts_stay_in_frames s fit bytes opens k =
+    in_their_frames (began s k) (moment s k).world (visited s k) (scripts_visit s fit bytes opens k)
 
-pub scripts_go : ScriptsGoThroughFrames
-scripts_go s fit bytes opens = record { visiting = scripts_visit_all s fit bytes opens; in_frames = scripts_stay s fit bytes opens }
+pub scripts_go_through_frames : ScriptsGoThroughFrames
+scripts_go_through_frames s fit bytes opens =
+    record { visiting = scripts_visit s fit bytes opens; in_frames = scripts_stay_in_frames s fit bytes opens }

@@ -15,12 +15,12 @@ use Rattle.drv_periodic.specs.declared.work.Store.{Store}
 use Rattle.drv_table.specs.DriverContent.{DriverContent}
 use Rattle.law_frame_words.proofs.lemmas.frame_words.Decoded.{IsWordOf}
 use Rattle.law_frame_list.specs.list_closed.Closed.{IsInFrame, IsNext, structure}
-use Rattle.law_frame_list.proofs.lemmas.list_closed.Structures.{structures_told}
+use Rattle.law_frame_list.proofs.lemmas.list_closed.Structures.{links_tell_structures}
 use Rattle.drv_periodic_table.specs.Periodic.{PeriodicContent, note_at}
 use Rattle.claims_driver.specs.Unlinked.{led_in, led, is_led, led_by}
 use Rattle.law_descriptors.specs.RowLaws.{HasFrames}
 use Rattle.law_microframes.specs.visits.Splices.{passed, IsSplice}
-use Rattle.law_microframes.proofs.lemmas.visits.SpliceWords.{nth_all, next_splices}
+use Rattle.law_microframes.proofs.lemmas.visits.SpliceWords.{nth_all, next_store_splices}
 use Rattle.drv_chains.specs.Chains.{Schedule, id_of, is_the, stands_in, has_word, successor}
 use Rattle.drv_members.specs.Members.{Members, IsMember, is_linked, without_member, with_schedule, frame_of}
 use Rattle.drv_periodic.specs.Periodic.{Periodic, link_to, address_of, words_of, value_of, store_at, store_of, is_more, next_store, after_work, after_store}
@@ -33,7 +33,7 @@ use Rattle.std.proofs.lemmas.Bool.{true≢false, and_from, eq-eqb, eqb-true, ne_
 use Rattle.law_frames.specs.Met.{Kind, AQueue, AnItd, ASitd, LeadsTo}
 use Rattle.law_descriptors.specs.Meeting.{kind_of, standing}
 use Rattle.law_descriptors.proofs.Finding.{IsMemberAt}
-use Rattle.law_descriptors.proofs.Leading.{led_linked, element_leads}
+use Rattle.law_descriptors.proofs.Leading.{led_linked, elements_lead_to_standing}
 use Rattle.law_descriptors.proofs.Returning.{same_blocks}
 use Rattle.law_microframes.specs.visits.Ranks.{name_of, next_of, height_to, IsRanked}
 use Rattle.claims_world.specs.Visits.{begins}
@@ -159,7 +159,7 @@ module _ (m mem : Mem) (d new : DriverContent) (p : Periodic) (w : Work) (st : S
   begun = subst (λ (t : Option Work). StandsBy p.list p.members.schedule t (word_at m)) k.under k.words
 
   sp : IsSplice p.list p.members.schedule w (word_at m) g.word
-  sp = next_splices p.list p.members.schedule w (word_at m) g.word k.order.kept spread its.0 its.1 begun g.here
+  sp = next_store_splices p.list p.members.schedule w (word_at m) g.word k.order.kept spread its.0 its.1 begun g.here
 
   at : st.at ≡ address_of p.list g.word
   at = ap (λ (x : Store). x.at) (sym g.is)
@@ -195,12 +195,12 @@ module _ (m mem : Mem) (d new : DriverContent) (p : Periodic) (w : Work) (st : S
   member_name x on =
       let on_d : is_linked d.periodic.list.members.schedule x ≡ true = ap (λ (t : Schedule). is_linked t x) (sym schedule) ∙ on in
       let first = first_frame_is x (member_of_kept d.periodic.list.members.schedule x k.frames.list.order.kept on_d) in
-      ap name_of (structures_told d k.frames.listed (frame_of x) (id_of x) (record { next = Some x; stands = (on_d, first.1); word = refl }))
+      ap name_of (links_tell_structures d k.frames.listed (frame_of x) (id_of x) (record { next = Some x; stands = (on_d, first.1); word = refl }))
       ∙ structure_name d.periodic (Some x)
 
   next_told : name_of (link_read (link_to o)) ≡ next_name o
   next_told =
-      ap name_of (structures_told d k.frames.listed (frame_of w.member) (link_to o)
+      ap name_of (links_tell_structures d k.frames.listed (frame_of w.member) (link_to o)
       (record { next = o; stands = subst (λ (t : Schedule). IsNext t (frame_of w.member) o) schedule (successor_is p.members.schedule w.member (frame_of w.member) k.order.kept); word = refl }))
       ∙ structure_name d.periodic o
 
@@ -423,7 +423,7 @@ module _ (m mem : Mem) (d new : DriverContent) (p : Periodic) (w : Work) (st : S
       -- the one behind it is kept
       element_target : (i j : ℕ) → i < 1024 → g.word ≡ Element i → next_name o ≡ Some j → kept j ≡ true
       element_target i j low is lead =
-          let leads : LeadsTo (standing d) (link_read (word_at m (address_of d.periodic.list.list (Element i)))) = element_leads m d i k.frames low in
+          let leads : LeadsTo (standing d) (link_read (word_at m (address_of d.periodic.list.list (Element i)))) = elements_lead_to_standing m d i k.frames low in
           let same : word_at m (address_of d.periodic.list.list (Element i)) ≡ word_at m st.at
           = ap (word_at m) (ap (λ (l : ℕ). address_of l (Element i)) (sym k.list) ∙ sym (ap (address_of p.list) is) ∙ sym at) in
           let there = leads_met (standing d) (link_read (word_at m st.at)) j (subst (λ (v : ℕ). LeadsTo (standing d) (link_read v)) same leads) (before_first adds zero_made ∙ lead) in

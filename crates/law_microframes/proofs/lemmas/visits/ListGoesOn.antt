@@ -31,7 +31,7 @@ use Rattle.law_descriptors.specs.Growing.{IsLeftOut}
 use Rattle.law_descriptors.specs.Recent.{AreRecent}
 use Rattle.law_descriptors.specs.ListRows.{HasPart, IsStoredIn}
 use Rattle.law_descriptors.proofs.Finding.{IsMemberAt}
-use Rattle.law_descriptors.proofs.Growing.{members_kept}
+use Rattle.law_descriptors.proofs.Growing.{stores_keep_members}
 use Rattle.law_descriptors.proofs.Returning.{none_some}
 use Rattle.bus_world.specs.World.{World, controller_parts, driver_parts, driver_next}
 use Rattle.law_world.specs.memory.Mixed.{Standing, IsMixedAt}
@@ -129,7 +129,7 @@ module _ (s : Standing) (w : World) (k : IsMixedAt s w) (start : World) (vs : Li
       (λ (left : IsLeftOut p way x.member).
       let there : IsMetThere later n = subst (IsMetThere later) x.begins (out x.member x.linked left) in
       left_is_met (driver_next w).driver later n there.kind there.is)
-      (members_kept p way x.member step.under (ap (λ (t : Schedule). is_linked t x.member) step.before ∙ x.linked))
+      (stores_keep_members p way x.member step.under (ap (λ (t : Schedule). is_linked t x.member) step.before ∙ x.linked))
 
   met_on : (n : ℕ) (kind : Kind) → met w.driver v.visits.left n ≡ Some kind → IsMetStill (driver_next w).driver later n
   met_on n kind is =

@@ -21,10 +21,10 @@ use Rattle.claims_driver.specs.FrameWords.{Leads, made_of, StandsBy, HasMember}
 use Rattle.claims_driver.specs.Unlinked.{is_led, led_by}
 use Rattle.law_frame_words.specs.frame_words.InWords.{IsSpread, shown}
 use Rattle.law_frame_words.proofs.lemmas.frame_words.InChains.{fewer_in}
-use Rattle.law_frame_words.proofs.lemmas.frame_words.Steps.{half_way}
+use Rattle.law_frame_words.proofs.lemmas.frame_words.Steps.{frames_while_under_way}
 use Rattle.law_frame_list.specs.list_closed.Closed.{IsInFrame}
 use Rattle.law_frame_list.proofs.lemmas.list_closed.Chained.{chain_in_frame, first_frame_is, member_of_kept}
-use Rattle.law_frame_list.proofs.lemmas.list_closed.Structures.{structures_told}
+use Rattle.law_frame_list.proofs.lemmas.list_closed.Structures.{links_tell_structures}
 use Rattle.law_descriptors.specs.RowLaws.{HasFrames}
 use Rattle.law_descriptors.proofs.Leading.{none_made, led_linked}
 use Rattle.claims_world.specs.Visits.{name_of, next_of, IsLedTo, begins}
@@ -145,7 +145,7 @@ led_along list s None word f kept spread member stands low = record {
 led_along list s (Some v) word f kept spread member stands low = record {
   members = shown s v f;
   all = shown_all s v f kept;
-  led = half_way list s v word f kept spread member.0 member.1 stands low;
+  led = frames_while_under_way list s v word f kept spread member.0 member.1 stands low;
 }
 
 record IsFound (P : Member → Type 0) (n : ℕ) : Type 0 where
@@ -180,7 +180,7 @@ chain_is_standing m d f n frames low to =
     (word_at m) f kept frames.spread frames.list.order.member frames.list.words low in
     let name_is : (x : Member) → is_linked d.periodic.list.members.schedule x ≡ true → name_of (link_read (id_of x)) ≡ Some (begins x)
     = λ x on.
-    ap name_of (structures_told d frames.listed (frame_of x) (id_of x)
+    ap name_of (links_tell_structures d frames.listed (frame_of x) (id_of x)
     (record {
       next = Some x;
       stands = (on, (first_frame_is x (member_of_kept d.periodic.list.members.schedule x kept on)).1);
@@ -188,7 +188,7 @@ chain_is_standing m d f n frames low to =
     }))
     ∙ structure_name d.periodic x in
     let ends : name_of (link_read 1) ≡ None = ap name_of
-    (structures_told d frames.listed f 1 (record { next = None; stands = tt; word = refl })) in
+    (links_tell_structures d frames.listed f 1 (record { next = None; stands = tt; word = refl })) in
     let there : IsFound (IsShownAs d.periodic.list.members.schedule d.periodic.list.work f) n
     = found m d.periodic.list.list n (IsShownAs d.periodic.list.members.schedule d.periodic.list.work f) ends
     (λ x h. name_is x (led_linked d.periodic.list.members.schedule d.periodic.list.work x h.linked))

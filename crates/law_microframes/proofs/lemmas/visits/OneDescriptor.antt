@@ -19,7 +19,7 @@ use Rattle.law_driver.specs.listed_members.Members.{IsListed}
 use Rattle.law_driver.proofs.lemmas.listed_members.Standing.{descriptor_block}
 use Rattle.claims_driver.specs.DueMembers.{framed_to, IsWaitingFor}
 use Rattle.law_driver.specs.iso_frames.Frames.{AreInFrames}
-use Rattle.law_driver.proofs.lemmas.iso_frames.Due.{one_each}
+use Rattle.law_driver.proofs.lemmas.iso_frames.Due.{an_endpoint_has_one_descriptor_a_frame}
 use Rattle.law_driver.proofs.lemmas.iso_frames.Harvested.{get_dropped}
 use Rattle.law_world.specs.memory.framed_memory.Isochronous.{AwaitsLend, AreAwaiting}
 use Rattle.law_microframes.specs.visits.OneDescriptor.{HasOneActive, IsActiveDescriptor, OneDescriptorEach}
@@ -87,7 +87,7 @@ same_first d m e f n l owners listed frames await k a b = by (is_chained (framed
     by : (c : Bool) → is_chained (framed_in d.endpoints e) ≡ c → a.transfer.first ≡ b.transfer.first
     by true on =
         let same : its_member a ≡ its_member b =
-        one_each d owners listed frames e (its_member a) (its_member b) (in_frames d m e f n k await on a) (in_frames d m e f l k await on b) (a.frame ∙ sym b.frame) in
+        an_endpoint_has_one_descriptor_a_frame d owners listed frames e (its_member a) (its_member b) (in_frames d m e f n k await on a) (in_frames d m e f l k await on b) (a.frame ∙ sym b.frame) in
         sym (descriptor_block d.periodic a.transfer.first) ∙ ap (λ (x : Descriptor). x.id / 32) same ∙ descriptor_block d.periodic b.transfer.first
     by false off =
         let same : a.number ≡ b.number =

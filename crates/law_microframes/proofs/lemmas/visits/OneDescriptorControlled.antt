@@ -26,8 +26,8 @@ use Rattle.law_frames.specs.FrameHand.{settled_in, ItdCopy, SitdCopy, FrameHand,
 use Rattle.law_frames.specs.Frame.{IsCopiedQueue, IsCopiedItd, IsCopiedSitd, IsInFrame, IsTurned, IsMoved, IsFrame, IsQueueSettled}
 use Rattle.law_frames.specs.FrameEffects.{itd_back, sitd_back, TakesOne, WritesQueue, WritesItd, IsWrittenFrom, made, missed, WritesSitd, WritesOne, of_queue, of_itd, of_sitd, FrameEffect}
 use Rattle.law_frames.specs.FrameEffects.FrameEffect.{fetches, passes, ends, takes, makes, writes}
-use Rattle.law_frames.proofs.QueueBacks.{hand_settled}
-use Rattle.law_frames.proofs.Queues.{linked_part}
+use Rattle.law_frames.proofs.QueueBacks.{hand_is_settled}
+use Rattle.law_frames.proofs.Queues.{a_members_part_is_linked}
 use Rattle.law_controller.specs.controlled_streams.Control.{a_microframe, a_step}
 use Rattle.law_controller.specs.frame_control.Both.{RunsBoth, BothEffect, of_ring, of_frame}
 use Rattle.law_controller.proofs.lemmas.frame_control.Staying.{ring_leaves}
@@ -86,7 +86,7 @@ module _ (met : ℕ → Option Kind) (parts : StructureSets) (hand : FrameHand) 
 
   wrote_queue : (now : StructureSets) (later : FrameHand) → WritesQueue parts p.walk hand now later → Off now
   wrote_queue now later r =
-      let both : IsCopiedQueue met parts r.copy × IsQueueSettled r.copy.queue p.walk.reply r.settled = hand_settled met parts p.walk hand r.copy r.settled r.made k.walk.in_hand r.from in
+      let both : IsCopiedQueue met parts r.copy × IsQueueSettled r.copy.queue p.walk.reply r.settled = hand_is_settled met parts p.walk hand r.copy r.settled r.made k.walk.in_hand r.from in
       beside now
       (ap (λ (ps : StructureSets). ps n) r.now_is
       ∙ back_beside parts r.copy.at r.copy.at r.copy.queue (settled_in r.copy r.settled) (queue_moved_by r.settled.outcome) r.settled.got
@@ -153,7 +153,8 @@ module _ (met : ℕ → Option Kind) (parts : StructureSets) (hand : FrameHand) 
 
 module _ {W : Type 0} (begins : W → ℕ → Bool → W → Type 0) (transacts : W → Ask → List ℕ → Reply → W → Type 0) (base : Base) (member : ℕ → Bool) (met : ℕ → Option Kind) (parts : StructureSets) (hand : Hand) (frame : FrameHand) (c : Content) (wire after : W) (now : StructureSets) (later : Hand) (frame_later : FrameHand) (k : RunsBoth base member met parts hand frame c) (n : ℕ) where
   no_member : ((q : Qh) → parts n n ≡ Some (QueueHead q) → ⊥) → (b : Bool) → member n ≡ b → b ≡ false
-  no_member none true on = let part = (linked_part member n (parts n) (k.ring.members n on)).part_is in absurd (none part.queue part.here)
+  no_member none true on = let part =
+      (a_members_part_is_linked member n (parts n) (k.ring.members n on)).part_is in absurd (none part.queue part.here)
   no_member none false off = refl
 
   as_frame : c.control.part ≡ Periodic → IsFrame met parts frame (frame_place c)

@@ -23,20 +23,20 @@ use Rattle.law_driver_ring.specs.Inventory.{Sort, OfIsochronous, OfSplitIsochron
 use Rattle.claims_base.specs.Controller.{opening_base}
 use Rattle.law_structures.specs.lent_structures.Structures.{Structure, Structures, Isochronous, SplitIsochronous, Holds, HoldsIsochronous, HoldsSplitIsochronous}
 use Rattle.law_ring.specs.walk_writes.Writes.{WritesLent}
-use Rattle.law_controller.proofs.lemmas.lent_writes.Controlling.{controller_writes_lent}
+use Rattle.law_controller.proofs.lemmas.lent_writes.Controlling.{each_event_of_the_controller_writes_lent_words}
 use Rattle.law_controller.proofs.lemmas.aligned_copies.Controlling.{aligned_placed}
 use Rattle.bus_wire.specs.Bus.{Fixed}
 use Rattle.bus_world.specs.World.{World, controller_parts, controller_row, controller_next}
 use Rattle.law_world.specs.steps.Streaming.{begins_by, transacts_by, wired}
 use Rattle.law_world.proofs.lemmas.steps.StreamTurning.{world_has_row}
-use Rattle.law_world.proofs.lemmas.steps.lemmas.world_bytes.Hearing.{hears_bytes}
+use Rattle.law_world.proofs.lemmas.steps.lemmas.world_bytes.Hearing.{a_bus_of_bytes_is_heard_as_bytes}
 use Rattle.law_controller.specs.frame_control.Both.{RunsBoth}
 use Rattle.law_descriptors.specs.Described.{IsDescriptorLent, HasDescriptor}
 use Rattle.law_descriptors.specs.Both.{owns, both, descs_now, parts_now}
 use Rattle.law_descriptors.specs.Meeting.{met}
 use Rattle.law_descriptors.proofs.Standing.{both_on, both_off, stands_some, on_owner}
 use Rattle.law_world.specs.memory.framed_memory.Now.{recent_then, FramedNowAfter}
-use Rattle.law_world.proofs.lemmas.memory.lemmas.framed_memory.NowControlled.{controller_now}
+use Rattle.law_world.proofs.lemmas.memory.lemmas.framed_memory.NowControlled.{controller_keeps_now}
 use Rattle.law_world.specs.memory.Mixed.{Standing, IsMixedAt}
 use Rattle.law_microframes.specs.visits.OneDescriptor.{IsActiveSome, MetIsActive, MetSplitIsActive, ControllerKeepsOneActive}
 use Rattle.law_microframes.proofs.lemmas.visits.OneDescriptorWords.{same, itd_quiet, quiet_itd, sitd_held, served_split, served_itd, served_off, split_off, stays_served}
@@ -174,12 +174,13 @@ module _ (fixed : Fixed) (s : Standing) (w : World) (k : IsMixedAt s w) where
 
   after_event : After
   after_event =
-      controller_now begins_by transacts_by opening_base s.member s.recent s.descs s.parts s.hand s.frame (controller_parts w) w.driver (wired fixed w) (controller_parts new) (wired fixed new) k.now
-      (hears_bytes fixed w k.bytes (wired fixed new)) (world_has_row fixed w)
+      controller_keeps_now begins_by transacts_by opening_base s.member s.recent s.descs s.parts s.hand s.frame (controller_parts w) w.driver (wired fixed w) (controller_parts new) (wired fixed new) k.now
+      (a_bus_of_bytes_is_heard_as_bytes fixed w k.bytes (wired fixed new)) (world_has_row fixed w)
 
   writes : WritesLent w.memory (controller_next fixed w).memory
   writes =
-      controller_writes_lent begins_by transacts_by (controller_parts w) (wired fixed w) (controller_parts new) (wired fixed new)
+      each_event_of_the_controller_writes_lent_words begins_by transacts_by (controller_parts w) (wired fixed w) (controller_parts new)
+      (wired fixed new)
       (aligned_placed (controller_parts w) k.now.framed.aligned) (world_has_row fixed w)
 
   module _ (t : ℕ) (y : Transfer) (here : slice_get w.driver.transfers t ≡ Some y) (sort : is_descriptor y.sort ≡ true) (held : y.released ≡ false) (was : is_served (note_at w.driver.periodic.notes y.first) w.memory y.first ≡ true) where

@@ -31,7 +31,7 @@ use Rattle.claims_driver.specs.Owners.{Described, IsPlaced, HasBlocks, HasRun, i
 use Rattle.law_driver.specs.run_owners.Accepts.{Chains, Describes, Accepts, opens, chains, places, transfers, describes, cancels, unchains}
 use Rattle.law_driver.proofs.lemmas.run_owners.Taking.{AreTaken, runs_taken, blocks_some}
 use Rattle.law_driver.proofs.lemmas.run_owners.Accepted.{drop_first, fresh_differs}
-use Rattle.law_driver.proofs.lemmas.run_owners.Commands.{accepted_for_a_reason}
+use Rattle.law_driver.proofs.lemmas.run_owners.Commands.{each_command_has_its_reason}
 use Rattle.law_driver.proofs.lemmas.run_owners.Stays.{begun_notes}
 use Rattle.claims_driver.specs.LentRuns.{begins_in, still_lends, AreLent}
 use Rattle.law_driver.specs.in_place.InPlace.{IsSound}
@@ -354,7 +354,7 @@ module _ (s : Standing) (w : World) (k : IsMixedAt s w) where
       (begun_notes true (record d.periodic { queued = endpoint_members d why.number why.endpoint why.placement })) (is_none f.periodic.list.work)))
 
   by_answer : (line : ℕ) (cmd : Cmd) (r : Result Offered OfferError) → offered w.driver w.memory cmd ≡ r → Goes (commanded_by w line (name_in cmd) r).driver (commanded_by w line (name_in cmd) r).memory
-  by_answer line cmd (Ok o) is = by_accept o (accepted_for_a_reason d w.memory cmd o is)
+  by_answer line cmd (Ok o) is = by_accept o (each_command_has_its_reason d w.memory cmd o is)
   by_answer line cmd (Err why) is = record {
     has = λ old. record { served = old.served; apart = old.apart };
     starts = λ t z a. inl (record {

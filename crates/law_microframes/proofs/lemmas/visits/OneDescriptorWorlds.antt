@@ -17,7 +17,7 @@ use Rattle.drv_table.specs.Parts.{Parts}
 use Rattle.drv_table.specs.Rows.{driver_row, after_driver_row}
 use Rattle.claims_driver.specs.Owners.{Head, QueueHead as HeadOf, Described, IsPlaced, is_descriptor, runs_of_transfer, views_of}
 use Rattle.claims_driver.specs.Leaving.{HasOwners}
-use Rattle.law_driver.proofs.lemmas.run_owners.Reasons.{each_is_due}
+use Rattle.law_driver.proofs.lemmas.run_owners.Reasons.{each_event_is_due}
 use Rattle.law_driver.specs.in_place.InPlace.{IsSound}
 use Rattle.law_driver_ring.specs.Inventory.{Sort, OfQueueHead, sort_of, IsDriverOwned, the_list, the_head, a_queue, a_dummy, a_piece, a_buffer}
 use Rattle.claims_driver.specs.FrameListMembers.{Placed, placed_of, framed_in, is_chained}
@@ -26,7 +26,7 @@ use Rattle.law_driver.proofs.lemmas.listed_members.Standing.{descriptor_block}
 use Rattle.law_driver.proofs.lemmas.listed_members.Schedules.{all_more}
 use Rattle.claims_driver.specs.DueMembers.{framed_to, IsWaitingFor}
 use Rattle.law_driver.specs.iso_frames.Frames.{AreInFrames}
-use Rattle.law_driver.proofs.lemmas.iso_frames.Due.{one_each}
+use Rattle.law_driver.proofs.lemmas.iso_frames.Due.{an_endpoint_has_one_descriptor_a_frame}
 use Rattle.law_driver.proofs.lemmas.iso_frames.Framing.{all_joined}
 use Rattle.law_queues.specs.mended_heads.Owed.{StalledQueue, left_of, all_left, mends_at}
 use Rattle.law_queues.specs.mended_heads.Waiting.{Waits}
@@ -114,7 +114,7 @@ module _ (d : DriverContent) (m : Mem) (new : DriverContent) (then : Mem) (owner
     inside : is_chained (framed_in d.endpoints e) ≡ true → framed_to d.command d.made (length d.transfers) ≡ length d.transfers → t ≡ u
     inside on all =
         let same : as_member d f.transfer ≡ as_member d g.transfer =
-        one_each d owners listed in_frames e (as_member d f.transfer) (as_member d g.transfer) (waiting d e t f.transfer f.here f.descriptor (f.endpoint ∙ at_y) (f.untold un_y) on all)
+        an_endpoint_has_one_descriptor_a_frame d owners listed in_frames e (as_member d f.transfer) (as_member d g.transfer) (waiting d e t f.transfer f.here f.descriptor (f.endpoint ∙ at_y) (f.untold un_y) on all)
         (waiting d e u g.transfer g.here g.descriptor (g.endpoint ∙ at_z) (g.untold un_z) on all) frame in
         one_block d t u f.transfer g.transfer owners f.here g.here f.descriptor g.descriptor f.held g.held
         (sym (descriptor_block d.periodic f.transfer.first) ∙ ap (λ (x : Descriptor). x.id / 32) same ∙ descriptor_block d.periodic g.transfer.first)
@@ -186,12 +186,12 @@ module _ (s : Standing) (w : World) (k : IsMixedAt s w) where
   driver_was : (t : ℕ) (z : Transfer) → IsActiveTransfer (driver_next w).driver (driver_next w).memory t z → WasActive w.driver w.memory (driver_next w).driver t z
   driver_was =
       was_active w.driver w.memory (after_driver_row (driver_row p) p).driver (after_driver_row (driver_row p) p).memory
-      (row_follows (driver_row p) p (each_is_due p) sound) (λ t y here sort held. row_calm p sound t y here sort held (driver_row p) (each_is_due p) (off_mends t y here sort held))
+      (row_follows (driver_row p) p (each_event_is_due p) sound) (λ t y here sort held. row_calm p sound t y here sort held (driver_row p) (each_event_is_due p) (off_mends t y here sort held))
 
   driver_goes_on : HasOneActive w.driver w.memory → HasOneActive (driver_next w).driver (driver_next w).memory
   driver_goes_on old =
       goes_on w.driver w.memory (after_driver_row (driver_row p) p).driver (after_driver_row (driver_row p) p).memory sound.owners sound.listed k.now.in_frames old
-      (row_follows (driver_row p) p (each_is_due p) sound) (λ t y here sort held. row_calm p sound t y here sort held (driver_row p) (each_is_due p) (off_mends t y here sort held))
+      (row_follows (driver_row p) p (each_event_is_due p) sound) (λ t y here sort held. row_calm p sound t y here sort held (driver_row p) (each_event_is_due p) (off_mends t y here sort held))
 
 pub driver_keeps_one_active : DriverKeepsOneActive
 driver_keeps_one_active w mixed old = driver_goes_on mixed.standing w mixed.mixed old

@@ -26,7 +26,7 @@ use Rattle.op_registers.specs.RegisterFile.{RegisterFile}
 use Rattle.claims_driver.specs.Owners.{SlotHas, is_descriptor}
 use Rattle.claims_base.specs.Controller.{opening_base}
 use Rattle.law_driver.proofs.lemmas.ring_members.Freed.{rest_qtds, rest_endpoint, rest_descriptor, rest_placed}
-use Rattle.law_driver.proofs.lemmas.run_owners.Reasons.{each_is_due}
+use Rattle.law_driver.proofs.lemmas.run_owners.Reasons.{each_event_is_due}
 use Rattle.law_driver.proofs.lemmas.run_owners.Orders.{IsLeft}
 use Rattle.law_driver.proofs.lemmas.run_owners.Leaves.{first_left}
 use Rattle.law_driver.proofs.lemmas.run_owners.Rows.{not_iso}
@@ -39,12 +39,12 @@ use Rattle.claims_driver.specs.Unlinked.{led, led_in}
 use Rattle.law_descriptors.specs.Removed.{IsRemovedAt, a_descriptor, a_queue, a_waiting, IsRemovedSince, IsUnchainedNow}
 use Rattle.law_descriptors.specs.Recent.{AreRecent}
 use Rattle.law_descriptors.proofs.ListRows.{either_if}
-use Rattle.law_descriptors.proofs.GivenRow.{row_is_given_back}
-use Rattle.law_descriptors.proofs.GivenRecent.{endpoint_recent}
-use Rattle.law_descriptors.proofs.RowStaying.{release_recent}
+use Rattle.law_descriptors.proofs.GivenRow.{row_gives_back_passed}
+use Rattle.law_descriptors.proofs.GivenRecent.{endpoint_leaves_recent}
+use Rattle.law_descriptors.proofs.RowStaying.{release_leaves_recent}
 use Rattle.bus_world.specs.World.{World, driver_parts, controller_parts, with_parts, driver_next}
 use Rattle.law_world.proofs.lemmas.memory.Driving.{driver_keeps_mixed}
-use Rattle.law_world.proofs.lemmas.memory.lemmas.framed_memory.Now.{has_frames}
+use Rattle.law_world.proofs.lemmas.memory.lemmas.framed_memory.Now.{now_has_frames}
 use Rattle.law_world.specs.memory.Mixed.{Standing, IsMixedAt, IsMixedWorld}
 use Rattle.law_microframes.specs.visits.Ranks.{name_of}
 use Rattle.law_microframes.specs.visits.Visited.{VisitsGoOn, VisitsGoOnAt}
@@ -140,7 +140,7 @@ module _ (s : Standing) (w : World) (k : IsMixedAt s w) (start : World) (vs : Li
       let m : IsMixedWorld (driver_next w) = driver_keeps_mixed w (record { standing = s; mixed = k }) in
       let n : Standing = m.standing in
       let sound = m.mixed.now.framed.place.sound in
-      (sound.owners, (sound.listed, (has_frames opening_base n.member n.recent n.descs n.parts n.hand n.frame (controller_parts (driver_next w)) (driver_next w).driver m.mixed.now).spread))
+      (sound.owners, (sound.listed, (now_has_frames opening_base n.member n.recent n.descs n.parts n.hand n.frame (controller_parts (driver_next w)) (driver_next w).driver m.mixed.now).spread))
 
   returned : (row : DriverRow) → driver_row (driver_parts w) ≡ row → IsRest (driver_parts w) (after_driver_row row (driver_parts w)) → ((e : ℕ) → w.driver.command ≡ Some (unfinished.Unchain e) → ⊥)
       → AreRecent (after_driver_row row (driver_parts w)).driver w.registers.frame_index v.visits.left → VisitsGoOn start (driver_next w) vs
@@ -163,7 +163,7 @@ module _ (s : Standing) (w : World) (k : IsMixedAt s w) (start : World) (vs : Li
 
   pub transfer_visits : (t : ℕ) → driver_row (driver_parts w) ≡ rows.ReleaseTransfer t → VisitsGoOn start (driver_next w) vs
   transfer_visits t is =
-      let due : IsDue (driver_parts w) (rows.ReleaseTransfer t) = subst (IsDue (driver_parts w)) is (each_is_due (driver_parts w)) in
+      let due : IsDue (driver_parts w) (rows.ReleaseTransfer t) = subst (IsDue (driver_parts w)) is (each_event_is_due (driver_parts w)) in
       let sound = k.now.framed.place.sound in
       returned (rows.ReleaseTransfer t) is (transfer_rest (driver_parts w) t (slice_get w.driver.transfers t) sound.stands sound.shape) (no_unfinished w.driver.command due.idle)
       (transfer_recent (driver_parts w) v.visits.left w.registers.frame_index t _ (slice_get w.driver.transfers t) refl v.visits.left_are)
@@ -174,17 +174,18 @@ module _ (s : Standing) (w : World) (k : IsMixedAt s w) (start : World) (vs : Li
       by : (o : Option Transfer) → slice_get w.driver.transfers t ≡ o → AreRecent (after_removed (driver_parts w) (removed.Descriptor t)).driver w.registers.frame_index v.visits.left
       by None none = subst (λ (o : Option Transfer). AreRecent (after_descriptor (driver_parts w) t o).driver w.registers.frame_index v.visits.left) (sym none) v.visits.left_are
       by (Some y) there =
-          release_recent (driver_parts w) v.visits.left w.registers.frame_index t y (row_is_given_back (driver_parts w) (removed.Descriptor t) is) there v.visits.left_are
+          release_leaves_recent (driver_parts w) v.visits.left w.registers.frame_index t y (row_gives_back_passed (driver_parts w) (removed.Descriptor t) is) there v.visits.left_are
   removed_recent (removed.Endpoint e) is = by (slice_get w.driver.endpoints e) refl
     where
       by : (o : Option Endpoint) → slice_get w.driver.endpoints e ≡ o → AreRecent (after_removed (driver_parts w) (removed.Endpoint e)).driver w.registers.frame_index v.visits.left
       by None none = subst (λ (o : Option Endpoint). AreRecent (after_placed (driver_parts w) e o).driver w.registers.frame_index v.visits.left) (sym none) v.visits.left_are
       by (Some x) here =
-          endpoint_recent (driver_parts w) v.visits.left w.registers.frame_index e x k.now.framed.place.sound.owners (row_is_given_back (driver_parts w) (removed.Endpoint e) is) here v.visits.left_are
+          endpoint_leaves_recent (driver_parts w) v.visits.left w.registers.frame_index e x k.now.framed.place.sound.owners (row_gives_back_passed (driver_parts w) (removed.Endpoint e) is) here v.visits.left_are
 
   pub removed_visits : (what : Removed) → driver_row (driver_parts w) ≡ rows.ReleaseRemoved what → VisitsGoOn start (driver_next w) vs
   removed_visits what is =
-      let due : IsDue (driver_parts w) (rows.ReleaseRemoved what) = subst (IsDue (driver_parts w)) is (each_is_due (driver_parts w)) in
+      let due : IsDue (driver_parts w) (rows.ReleaseRemoved what) =
+      subst (IsDue (driver_parts w)) is (each_event_is_due (driver_parts w)) in
       let sound = k.now.framed.place.sound in
       returned (rows.ReleaseRemoved what) is (removed_rest (driver_parts w) what sound.stands sound.shape) (no_unfinished w.driver.command due.idle) (removed_recent what is)
 
@@ -211,7 +212,7 @@ module _ (s : Standing) (w : World) (k : IsMixedAt s w) (start : World) (vs : Li
 
   pub endpoint_visits : (e : ℕ) → driver_row (driver_parts w) ≡ rows.ReleaseEndpoint e → VisitsGoOn start (driver_next w) vs
   endpoint_visits e is =
-      let due : IsEndpointDue (driver_parts w) e = subst (IsDue (driver_parts w)) is (each_is_due (driver_parts w)) in
+      let due : IsEndpointDue (driver_parts w) e = subst (IsDue (driver_parts w)) is (each_event_is_due (driver_parts w)) in
       let sound = k.now.framed.place.sound in
       let gone : IsLeft w.driver.endpoints e = first_left e due.first sound.owners.orderly in
       let queued : is_iso gone.endpoint.desc.kind ≡ false = not_iso gone.endpoint.desc.kind gone.ring in

@@ -36,13 +36,13 @@ use Rattle.law_descriptors.specs.RowLaws.{HasFrames}
 use Rattle.law_descriptors.proofs.Finding.{IsMemberAt}
 use Rattle.law_descriptors.proofs.Leading.{no_removal, none_made, led_linked}
 use Rattle.law_descriptors.proofs.ListRecent.{link_recent}
-use Rattle.law_descriptors.proofs.Queued.{descriptors_first, leaving_first}
+use Rattle.law_descriptors.proofs.Queued.{descriptors_come_first, leaving_come_first}
 use Rattle.law_descriptors.proofs.Returning.{same_blocks}
 use Rattle.bus_world.specs.World.{World, driver_parts, controller_parts, driver_next}
 use Rattle.law_world.specs.memory.framed_memory.Chained.{IsChainLent}
 use Rattle.law_world.specs.memory.framed_memory.NowRows.{FramedLinked}
 use Rattle.law_world.proofs.lemmas.memory.lemmas.framed_memory.ChainedLent.{chain_comes_first}
-use Rattle.law_world.proofs.lemmas.memory.lemmas.framed_memory.Now.{has_frames}
+use Rattle.law_world.proofs.lemmas.memory.lemmas.framed_memory.Now.{now_has_frames}
 use Rattle.law_world.specs.memory.Mixed.{Standing, IsMixedAt}
 use Rattle.claims_world.specs.Visits.{begins}
 use Rattle.law_microframes.specs.visits.Visited.{NewIsFirst, VisitsGoOn, VisitsGoOnAt}
@@ -126,7 +126,7 @@ module _ (s : Standing) (w : World) (k : IsMixedAt s w) (start : World) (vs : Li
   p = w.driver.periodic.list
 
   frames : HasFrames w.memory w.driver
-  frames = has_frames opening_base s.member s.recent s.descs s.parts s.hand s.frame (controller_parts w) w.driver k.now
+  frames = now_has_frames opening_base s.member s.recent s.descs s.parts s.hand s.frame (controller_parts w) w.driver k.now
 
   way : HasWay w.driver.periodic.list
   way = has_way w.driver.periodic.list why.store w.driver.periodic.list.work refl why.next
@@ -204,11 +204,11 @@ module _ (s : Standing) (w : World) (k : IsMixedAt s w) (left : ℕ → Option K
   -- descriptors are to be linked
   pub described_first : (e t count : ℕ) → w.driver.command ≡ Some (unfinished.Iso e t count) → ComesFirst s.member left (both s.descs s.parts) w.driver w.driver.periodic.list
   described_first e t count is =
-      descriptors_first opening_base s.member (met w.driver s.recent) left s.descs s.parts s.hand s.frame (controller_parts w) w.driver w.registers.frame_index e t count k.now.framed.runs
+      descriptors_come_first opening_base s.member (met w.driver s.recent) left s.descs s.parts s.hand s.frame (controller_parts w) w.driver w.registers.frame_index e t count k.now.framed.runs
       k.now.framed.described are k.now.framed.place.sound.owners k.now.framed.place.lent k.now.queued is
 
   pub unchained_first : (e : ℕ) → w.driver.command ≡ Some (unfinished.Unchain e) → ComesFirst s.member left (both s.descs s.parts) w.driver w.driver.periodic.list
-  unchained_first e is = leaving_first s.member left (both s.descs s.parts) w.driver e k.now.framed.place.sound.listed is
+  unchained_first e is = leaving_come_first s.member left (both s.descs s.parts) w.driver e k.now.framed.place.sound.listed is
 
 chain_only : (o : Option Command) (e : ℕ) → o ≡ Some unfinished.Chain → o ≡ Some (unfinished.Unchain e) → ⊥
 chain_only o e one two = cc
@@ -232,7 +232,7 @@ module _ (s : Standing) (w : World) (k : IsMixedAt s w) (start : World) (vs : Li
       left_fresh : (x : Work) → w.driver.periodic.list.work ≡ Some x → x.removes ≡ false → x.made ≡ 0 → v.visits.left (begins x.member) ≡ None
       left_fresh x under adds zero =
           let same : x.member ≡ queue_member t.endpoint.queue t.place = ap (λ (y : Work). y.member) (same_Some x t.work (sym under ∙ t.under_way)) ∙ t.links in
-          let frames = has_frames opening_base s.member s.recent s.descs s.parts s.hand s.frame (controller_parts w) w.driver k.now in
+          let frames = now_has_frames opening_base s.member s.recent s.descs s.parts s.hand s.frame (controller_parts w) w.driver k.now in
           let linked : is_linked w.driver.periodic.list.members.schedule x.member ≡ true = (subst (HasMember w.driver.periodic.list.members.schedule) under frames.list.order.member).1 in
           ap (λ (m : Member). v.visits.left (begins m)) same
           ∙ queue_fresh w.driver v.visits.left w.registers.frame_index _ k.now.framed.place.sound.owners frames.listed (ap (is_linked w.driver.periodic.list.members.schedule) (sym same) ∙ linked)

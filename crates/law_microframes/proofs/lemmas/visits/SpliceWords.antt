@@ -31,7 +31,7 @@ use Rattle.law_frame_words.specs.frame_words.InWords.{IsSpread, new_of}
 use Rattle.law_frame_words.proofs.lemmas.frame_words.Decoded.{IsWordOf, same_among}
 use Rattle.law_frame_words.proofs.lemmas.frame_words.InChains.{words_in}
 use Rattle.law_frame_words.proofs.lemmas.frame_words.Stored.{queue_out, descriptor_out, queue_put, descriptor_put}
-use Rattle.law_frame_words.proofs.lemmas.frame_words.Steps.{half_way}
+use Rattle.law_frame_words.proofs.lemmas.frame_words.Steps.{frames_while_under_way}
 use Rattle.law_frame_list.proofs.lemmas.list_closed.Chained.{same_successor, other_words, none_among}
 use Rattle.law_microframes.specs.visits.Splices.{passed, IsSplice, NextStoreSplices}
 
@@ -211,7 +211,7 @@ module _ (list : ℕ) (s : Schedule) (w : Work) (word : ℕ → ℕ) (kept : IsK
         let off : is_made s w.member (made_of s w) f ≡ false
         = ap (λ (b : Bool). b && is_among (made_of s w) (predecessor s w.member f)) stands ∙ unmade in
         old_leads w.removes refl
-        (subst (λ (b : Bool). Leads list word (Element f) (if b then chain (new_of s w) f else chain (old_of s w) f)) off (half_way list s w word f kept spread is on k below))
+        (subst (λ (b : Bool). Leads list word (Element f) (if b then chain (new_of s w) f else chain (old_of s w) f)) off (frames_while_under_way list s w word f kept spread is on k below))
 
   is_splice_at : (p : Predecessor) → slice_get (words_of s w) w.made ≡ Some p → IsSplice list s w word p
   is_splice_at p here =
@@ -229,5 +229,5 @@ module _ (list : ℕ) (s : Schedule) (w : Work) (word : ℕ → ℕ) (kept : IsK
         serves = λ f has. serves_by s w.member f b.frame kept is on b.stands (ap (has_word f) (sym b.is) ∙ has);
       }
 
-pub next_splices : NextStoreSplices
-next_splices list s w word p kept spread is on k here = is_splice_at list s w word kept spread is on k p here
+pub next_store_splices : NextStoreSplices
+next_store_splices list s w word p kept spread is on k here = is_splice_at list s w word kept spread is on k p here

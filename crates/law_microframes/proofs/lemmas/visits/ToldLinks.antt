@@ -19,7 +19,7 @@ use Rattle.law_controller.specs.controlled_streams.Control.{FrameList}
 use Rattle.law_frames.specs.Met.{Kind, AQueue, AnItd, ASitd, IsMetAs}
 use Rattle.law_frames.specs.FrameHand.{FrameHand}
 use Rattle.law_controller.specs.frame_stores.Stores.{HasLink, link_in, linked}
-use Rattle.law_controller.proofs.lemmas.frame_stores.Linking.{stored_leads}
+use Rattle.law_controller.proofs.lemmas.frame_stores.Linking.{stored_link_leads}
 use Rattle.law_descriptors.specs.ListRows.{HasPart, IsStoredIn, an_element, a_link}
 use Rattle.law_microframes.specs.visits.Ranks.{name_of, next_of}
 
@@ -105,7 +105,7 @@ module _ (m mem : Mem) (parts now : StructureSets) (base : Base) (frame later : 
   here_by own (an_element i list low at_is now_is later_is) = absurd (table_apart m parts base at i told list own low at_is)
   here_by own (a_link s here has now_is later_is) =
       told_next mem now at (linked (link_fields (link_read v)) s) after (ap (λ (t : StructureSets). t at at) now_is ∙ put_same parts at at (linked (link_fields (link_read v)) s)) (still s has)
-      ∙ ap name_of (stored_leads (link_read v) s has)
+      ∙ ap name_of (stored_link_leads (link_read v) s has)
     where
       still : (s : Structure) → HasLink s → HasLink (linked (link_fields (link_read v)) s)
       still (QueueHead q) has = tt

@@ -20,7 +20,7 @@ use Rattle.drv_table.specs.Rows.{driver_row, after_driver_row}
 use Rattle.law_driver.specs.listed_members.Members.{IsUnderWay}
 use Rattle.law_driver.specs.run_owners.Due.{IsDue, IsUnlinkDue}
 use Rattle.claims_base.specs.Controller.{opening_base}
-use Rattle.law_driver.proofs.lemmas.run_owners.Reasons.{each_is_due}
+use Rattle.law_driver.proofs.lemmas.run_owners.Reasons.{each_event_is_due}
 use Rattle.claims_driver.specs.FrameWords.{IsInOrder, StandFor}
 use Rattle.law_frame_words.proofs.lemmas.frame_words.Begins.{remove_stands}
 use Rattle.law_frames.specs.Met.{Kind}
@@ -33,12 +33,12 @@ use Rattle.law_descriptors.specs.Staying.{also}
 use Rattle.law_descriptors.proofs.ListRows.{unlinking_led}
 use Rattle.law_descriptors.proofs.ListUnlinks.{name_block}
 use Rattle.law_structures.specs.lent_structures.Structures.{Tells}
-use Rattle.law_descriptors.proofs.RowStaying.{unlink_recent}
+use Rattle.law_descriptors.proofs.RowStaying.{unlink_is_recent}
 use Rattle.law_descriptors.proofs.Returning.{none_some}
 use Rattle.bus_world.specs.World.{World, driver_parts, controller_parts, driver_next}
 use Rattle.law_world.specs.memory.framed_memory.NowRows.{FramedUnlinked}
-use Rattle.law_world.proofs.lemmas.memory.lemmas.framed_memory.Now.{has_frames}
-use Rattle.law_world.proofs.lemmas.memory.lemmas.framed_memory.NowRows.{unlink_now}
+use Rattle.law_world.proofs.lemmas.memory.lemmas.framed_memory.Now.{now_has_frames}
+use Rattle.law_world.proofs.lemmas.memory.lemmas.framed_memory.NowRows.{unlink_keeps_now}
 use Rattle.law_world.specs.memory.Mixed.{Standing, IsMixedAt}
 use Rattle.claims_world.specs.Visits.{begins}
 use Rattle.law_microframes.specs.visits.Visited.{NewIsFirst, VisitsGoOn, VisitsGoOnAt}
@@ -90,13 +90,13 @@ module _ (s : Standing) (w : World) (k : IsMixedAt s w) (start : World) (vs : Li
   m = descriptor_member w.driver.periodic.notes y.first
 
   u : FramedUnlinked opening_base s.member s.recent s.descs s.parts s.hand s.frame (controller_parts w) w.driver t y
-  u = unlink_now opening_base s.member s.recent s.descs s.parts s.hand s.frame (controller_parts w) w.driver t y k.now is there
+  u = unlink_keeps_now opening_base s.member s.recent s.descs s.parts s.hand s.frame (controller_parts w) w.driver t y k.now is there
 
   frames : HasFrames w.memory w.driver
-  frames = has_frames opening_base s.member s.recent s.descs s.parts s.hand s.frame (controller_parts w) w.driver k.now
+  frames = now_has_frames opening_base s.member s.recent s.descs s.parts s.hand s.frame (controller_parts w) w.driver k.now
 
   due : IsUnlinkDue (driver_parts w) t
-  due = subst (IsDue (driver_parts w)) is (each_is_due (driver_parts w))
+  due = subst (IsDue (driver_parts w)) is (each_event_is_due (driver_parts w))
 
   none : w.driver.periodic.list.work ≡ None
   none = (subst (IsUnderWay w.driver) due.idle frames.listed.way).work
@@ -149,7 +149,7 @@ module _ (s : Standing) (w : World) (k : IsMixedAt s w) (start : World) (vs : Li
       subst (λ (r : DriverRow). AreRecent (after_driver_row r (driver_parts w)).driver (after_driver_row r (driver_parts w)).registers.frame_index later) (sym is)
       (subst (λ (o : Option Transfer). AreRecent (after_unlink (driver_parts w) t o).driver (after_unlink (driver_parts w) t o).registers.frame_index later) (sym there)
       (subst (λ (o : Option Transfer). AreRecent (after_unlink (driver_parts w) t o).driver w.registers.frame_index later) there
-      (unlink_recent (driver_parts w) v.visits.left w.registers.frame_index t y kind there v.visits.left_are)))
+      (unlink_is_recent (driver_parts w) v.visits.left w.registers.frame_index t y kind there v.visits.left_are)))
 
   here : (n : ℕ) → n ≡ 32 * y.first → IsMetThere later n
   here n at = record { kind = kind; is = ap (λ (b : Bool). if b then Some kind else v.visits.left n) (eq-eqb n (32 * y.first) at) }

@@ -28,9 +28,9 @@ use Rattle.law_structures.specs.lent_structures.Structures.{StructureSets}
 use Rattle.law_frames.specs.Met.{Kind}
 use Rattle.law_frames.proofs.Walking.{event_happens}
 use Rattle.law_controller.specs.frame_control.Both.{ControlsBoth}
-use Rattle.law_controller.proofs.lemmas.frame_control.Running.{event_runs}
+use Rattle.law_controller.proofs.lemmas.frame_control.Running.{each_event_of_the_controller_over_both}
 use Rattle.law_descriptors.specs.frame_keeps.Leaving.{LeavesStructures}
-use Rattle.law_descriptors.proofs.lemmas.kept_frames.Both.{both_leave}
+use Rattle.law_descriptors.proofs.lemmas.kept_frames.Both.{events_leave_words}
 use Rattle.law_descriptors.specs.Both.{both}
 use Rattle.law_descriptors.specs.Meeting.{kind_of, standing, or_recent, no_recent, met}
 use Rattle.law_descriptors.specs.Recent.{AreRecent}
@@ -39,10 +39,10 @@ use Rattle.bus_wire.specs.Bus.{Fixed}
 use Rattle.bus_world.specs.World.{World, controller_parts, controller_row, controller_next}
 use Rattle.law_world.specs.steps.Streaming.{begins_by, transacts_by, wired}
 use Rattle.law_world.proofs.lemmas.steps.StreamTurning.{world_has_row}
-use Rattle.law_world.proofs.lemmas.steps.lemmas.world_bytes.Hearing.{hears_bytes}
+use Rattle.law_world.proofs.lemmas.steps.lemmas.world_bytes.Hearing.{a_bus_of_bytes_is_heard_as_bytes}
 use Rattle.law_world.specs.memory.Mixed.{Standing, IsMixedAt}
 use Rattle.law_world.specs.memory.framed_memory.Now.{recent_then}
-use Rattle.law_world.proofs.lemmas.memory.lemmas.framed_memory.Now.{has_frames, begins_there}
+use Rattle.law_world.proofs.lemmas.memory.lemmas.framed_memory.Now.{now_has_frames, begins_there}
 use Rattle.law_world.proofs.lemmas.memory.lemmas.framed_memory.Index.{ring_index, frame_index}
 use Rattle.law_world.proofs.lemmas.memory.Controller.{controller_keeps_mixed}
 use Rattle.law_microframes.specs.visits.OneDescriptor.{IsActiveDescriptor, WasActive}
@@ -168,7 +168,7 @@ module _ (fixed : Fixed) (s : Standing) (start w : World) (vs : List ℕ) (k : I
   all = both s.descs s.parts
 
   frames : HasFrames w.memory w.driver
-  frames = has_frames opening_base s.member s.recent s.descs s.parts s.hand s.frame (controller_parts w) w.driver k.now
+  frames = now_has_frames opening_base s.member s.recent s.descs s.parts s.hand s.frame (controller_parts w) w.driver k.now
 
   abbrev Events : Type 0
   Events = ControlsBoth begins_by transacts_by opening_base s.member (met w.driver s.recent) (both s.descs s.parts) s.hand s.frame w.control (wired fixed w) (wired fixed (controller_next fixed w))
@@ -176,14 +176,14 @@ module _ (fixed : Fixed) (s : Standing) (start w : World) (vs : List ℕ) (k : I
 
   event : Events
   event =
-      event_runs begins_by transacts_by opening_base s.member (met w.driver s.recent) (both s.descs s.parts) s.hand s.frame (controller_parts w) (wired fixed w) (controller_parts (controller_next fixed w))
+      each_event_of_the_controller_over_both begins_by transacts_by opening_base s.member (met w.driver s.recent) (both s.descs s.parts) s.hand s.frame (controller_parts w) (wired fixed w) (controller_parts (controller_next fixed w))
       (wired fixed (controller_next fixed w)) (event_happens transacts_by (met w.driver s.recent) (both s.descs s.parts) s.frame) k.now.framed.runs
       (record { run = k.now.framed.operating.run; async_enable = k.now.framed.operating.async_enable })
-      (hears_bytes fixed w k.bytes (wired fixed (controller_next fixed w))) (world_has_row fixed w)
+      (a_bus_of_bytes_is_heard_as_bytes fixed w k.bytes (wired fixed (controller_next fixed w))) (world_has_row fixed w)
 
   leaves : LeavesStructures (both s.descs s.parts) w.memory (controller_next fixed w).memory
   leaves =
-      both_leave begins_by transacts_by opening_base s.member (met w.driver s.recent) (both s.descs s.parts) s.hand s.frame (controller_parts w) (wired fixed w) (controller_parts (controller_next fixed w))
+      events_leave_words begins_by transacts_by opening_base s.member (met w.driver s.recent) (both s.descs s.parts) s.hand s.frame (controller_parts w) (wired fixed w) (controller_parts (controller_next fixed w))
       (wired fixed (controller_next fixed w)) k.now.framed.runs k.now.framed.aligned (world_has_row fixed w) event
 
   link_stays : (n : ℕ) → g.visits.kept n ≡ true → next_of (controller_next fixed w).memory n ≡ next_of w.memory n

@@ -13,13 +13,13 @@ use Rattle.drv_periodic.specs.Periodic.{address_of}
 use Rattle.drv_periodic_table.specs.Periodic.{PeriodicContent, note_at}
 use Rattle.drv_table.specs.DriverContent.{DriverContent}
 use Rattle.law_frame_list.specs.list_closed.Closed.{IsNext, LeadsInto, structure}
-use Rattle.law_frame_list.proofs.lemmas.list_closed.Closing.{list_closed}
-use Rattle.law_frame_list.proofs.lemmas.list_closed.Structures.{structures_told}
+use Rattle.law_frame_list.proofs.lemmas.list_closed.Closing.{elements_lead_to_members}
+use Rattle.law_frame_list.proofs.lemmas.list_closed.Structures.{links_tell_structures}
 use Rattle.law_frames.specs.Met.{Kind}
 use Rattle.law_descriptors.specs.Meeting.{standing}
 use Rattle.claims_driver.specs.Unlinked.{led}
 use Rattle.law_descriptors.specs.RowLaws.{HasFrames}
-use Rattle.law_descriptors.proofs.Leading.{element_leads, led_linked}
+use Rattle.law_descriptors.proofs.Leading.{elements_lead_to_standing, led_linked}
 use Rattle.law_descriptors.proofs.Finding.{IsMemberAt, member_at}
 use Rattle.law_microframes.specs.visits.Ranks.{name_of}
 use Rattle.claims_world.specs.Visits.{begins}
@@ -70,6 +70,6 @@ module _ (m : Mem) (d : DriverContent) (frames : HasFrames m d) where
   pub element_stands : (f k : ℕ) → f < 1024 → name_of (link_read (word_at m (address_of d.periodic.list.list (Element f)))) ≡ Some k → LeadsToOne d f k
   element_stands f k below is =
       let word : ℕ = word_at m (address_of d.periodic.list.list (Element f)) in
-      let leads : LeadsInto d.periodic.list.members.schedule f word = list_closed m d frames.list frames.spread f below in
-      let there = lead_met (standing d) (link_read word) k (element_leads m d f frames below) is in
-      by_next f k there.0 leads.next there.1 leads.stands (ap name_of (sym (structures_told d frames.listed f word leads)) ∙ is)
+      let leads : LeadsInto d.periodic.list.members.schedule f word = elements_lead_to_members m d frames.list frames.spread f below in
+      let there = lead_met (standing d) (link_read word) k (elements_lead_to_standing m d f frames below) is in
+      by_next f k there.0 leads.next there.1 leads.stands (ap name_of (sym (links_tell_structures d frames.listed f word leads)) ∙ is)

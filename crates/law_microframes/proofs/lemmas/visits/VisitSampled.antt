@@ -38,8 +38,8 @@ pub accepted : offered (opening_world keyboard_and_disk).driver (opening_world k
 accepted =
     ap (λ (a : Result Placement Refused). planned_open (opening_world keyboard_and_disk).driver (opening_world keyboard_and_disk).memory keyboard a) plans_first
 
-pub typed_visited : (k : ℕ) → visited keyboard_and_disk (suc k) ≡ typed_visits k
-typed_visited k = answered visits_next (fixed_of keyboard_and_disk) (opening_world keyboard_and_disk) 6 (commands.OpenEp keyboard) (orders_of after_the_open) _ [] k accepted
+pub its_visits : (k : ℕ) → visited keyboard_and_disk (suc k) ≡ typed_visits k
+its_visits k = answered visits_next (fixed_of keyboard_and_disk) (opening_world keyboard_and_disk) 6 (commands.OpenEp keyboard) (orders_of after_the_open) _ [] k accepted
 
 pub a_visit : (typed_visits 26 ≡ []) × (typed_visits 28 ≡ 4160 ∷ []) × (typed_visits 30 ≡ 4160 ∷ [])
 unfolding carried_from lowest_run filled with_words_in store_words lend_runs qh_words qtd_words token_word token_at link_word qtd_link_word predecessors frames word_after before_the behind_the link_read qh_read qh_bad qh_at first_bad_bit words_in

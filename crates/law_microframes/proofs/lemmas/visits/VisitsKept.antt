@@ -2,7 +2,7 @@
 use Rattle.drv_table.specs.Rows.{driver_row}
 use Rattle.std.proofs.Common.{ℕ, ◌⊎◌, List, [], ⊎_elim, subst, refl}
 use Rattle.script_fits.proofs.Texts.{spelled_fits}
-use Rattle.law_scripts.proofs.lemmas.script_bytes.Texts.{spelled_bytes}
+use Rattle.law_scripts.proofs.lemmas.script_bytes.Texts.{a_text_spells_bytes}
 use Rattle.bus_wire.specs.Bus.{Fixed, fixed_of}
 use Rattle.bus_world.specs.World.{World, driver_parts}
 use Rattle.bus_world.specs.Opening.{opening_world}
@@ -18,7 +18,7 @@ use Rattle.law_microframes.specs.visits.Coverage.{TextsVisitEach}
 use Rattle.law_microframes.specs.visits.Visited.{IsToCome, IsVisiting}
 use Rattle.law_microframes.specs.visits.VisitLaws.{DriverKeepsVisiting, CommandKeepsVisiting, ScriptsVisit, TextsVisitEachOnce}
 use Rattle.law_microframes.proofs.lemmas.visits.CommandVisits.{command_leaves_visits}
-use Rattle.law_microframes.proofs.lemmas.visits.DriverTogether.{each_row_visits}
+use Rattle.law_microframes.proofs.lemmas.visits.DriverTogether.{each_row_keeps_visiting}
 use Rattle.law_microframes.proofs.lemmas.visits.NoneLeft.{none_to_come}
 use Rattle.law_microframes.proofs.lemmas.visits.NoneLeftWorlds.{frame_low, in_chain_stands}
 use Rattle.law_microframes.proofs.lemmas.visits.VisitMeeting.{visits_meet_now}
@@ -33,7 +33,7 @@ driver_keeps_visiting start w vs k =
     let s : Standing = k.mixed.standing in
     record {
       mixed = driver_keeps_mixed w k.mixed;
-      visits = each_row_visits (driver_row (driver_parts w)) s start w vs k.mixed.mixed (visits_meet_now s start w vs k.mixed.mixed k.visits) refl;
+      visits = each_row_keeps_visiting (driver_row (driver_parts w)) s start w vs k.mixed.mixed (visits_meet_now s start w vs k.mixed.mixed k.visits) refl;
     }
 
 pub command_keeps_visiting : CommandKeepsVisiting
@@ -51,8 +51,8 @@ is_kept fixed = record {
   command = λ w n cmd rest z known k. command_keeps_visiting z.0 w n cmd z.1 known.0 known.1 k;
 }
 
-pub scripts_visit_all : ScriptsVisit
-scripts_visit_all s fit bytes opens k =
+pub scripts_visit : ScriptsVisit
+scripts_visit s fit bytes opens k =
     subst (λ (z : World × List ℕ). IsVisiting z.0 (moment s k).world z.1) (both_carried began_by visits_next s (opening_world s) [] k)
     (carrying (both began_by visits_next) (λ w orders z. NextIsOffered w orders) (λ w z. IsVisiting z.0 w z.1) s (opening_world s, []) (is_kept (fixed_of s)) (next_is_offered s fit opens) (new_is_visiting s fit bytes) k)
 
@@ -60,7 +60,7 @@ pub texts_visit_each : TextsVisitEach
 texts_visit_each text s spelled k n past led now =
     let w : World = (moment s k).world in
     let h : IsVisiting (began s k) (moment s k).world (visited s k)
-    = scripts_visit_all s (spelled_fits text s spelled) (spelled_bytes text s spelled)
+    = scripts_visit s (spelled_fits text s spelled) (a_text_spells_bytes text s spelled)
     (lines_fit s.lines (texts_fit text s spelled) (texts_open_fitting text s spelled)) k in
     let f : ℕ = frame_in (moment s k).world.control.frame.index in
     ⊎_elim {C = HasVisited n (visited s k)} (λ (seen : HasVisited n (visited s k)). seen)
@@ -70,7 +70,7 @@ texts_visit_each text s spelled k n past led now =
     (in_chain_stands h.mixed.standing (moment s k).world (frame_in (moment s k).world.control.frame.index) n h.mixed.mixed
     (frame_low (moment s k).world.control.frame.index) now))
 
-pub texts_visit_once : TextsVisitEachOnce
-texts_visit_once text s spelled k =
+pub texts_visit_each_once : TextsVisitEachOnce
+texts_visit_each_once text s spelled k =
     visits_apart (began s k) (moment s k).world (visited s k)
-    (scripts_visit_all s (spelled_fits text s spelled) (spelled_bytes text s spelled) (lines_fit s.lines (texts_fit text s spelled) (texts_open_fitting text s spelled)) k)
+    (scripts_visit s (spelled_fits text s spelled) (a_text_spells_bytes text s spelled) (lines_fit s.lines (texts_fit text s spelled) (texts_open_fitting text s spelled)) k)

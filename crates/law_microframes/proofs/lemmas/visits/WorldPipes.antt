@@ -12,7 +12,7 @@ use Rattle.law_world.specs.steps.Streaming.{begins_by, transacts_by, wired}
 use Rattle.bus_world.specs.World.{World, controller_parts, controller_next}
 use Rattle.law_world.specs.memory.Mixed.{Standing, IsMixedAt}
 use Rattle.law_world.specs.memory.Steps.{standing_then}
-use Rattle.law_world.proofs.lemmas.memory.lemmas.pipe_steps.Events.{event_keeps_pipes}
+use Rattle.law_world.proofs.lemmas.memory.lemmas.pipe_steps.Events.{each_event_keeps_pipes}
 use Rattle.law_microframes.specs.visits.WorldPipes.{ControllerKeepsPipes}
 use Rattle.law_microframes.proofs.lemmas.visits.AskedHeads.{asked_is_near}
 
@@ -31,7 +31,7 @@ controller_keeps_pipes sends takes packets sender taker ins outs ends acc fixed 
     record { owners = f.place.sound.owners; driven = f.driven; described = f.described } in
     let beside : (n : ℕ) → outs n ≡ true → n ≡ 32 * head_block → ⊥ =
     λ n on same. false≢true (sym by_way.head.1 ∙ ap outs (sym same) ∙ on) in
-    event_keeps_pipes begins_by transacts_by sender taker sends takes packets s.near ins outs ends acc opening_base s.member
+    each_event_keeps_pipes begins_by transacts_by sender taker sends takes packets s.near ins outs ends acc opening_base s.member
     (met w.driver s.recent) w.driver s.descs s.parts s.hand s.frame (controller_parts w) (wired fixed w)
     (wired fixed (controller_next fixed w)) c.event.now c.event.later c.event.frame_later bus keeps out_bus out_keeps describing f.runs
     c.event.effect (asked_is_near s w k) iso.ins iso.outs

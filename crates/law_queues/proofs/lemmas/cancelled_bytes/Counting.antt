@@ -25,7 +25,7 @@ use Rattle.law_ring.specs.Told.{works_on, left_of, told_bytes, settled_bytes, ha
 use Rattle.drv_table.specs.declared.content.QtdNote.{QtdNote}
 use Rattle.drv_table.specs.Harvests.{token_in, buffer_bytes, is_current, left_now, moved_now}
 use Rattle.law_driver_ring.specs.harvested_streams.Harvested.{IsNoted}
-use Rattle.law_driver_ring.proofs.lemmas.harvested_streams.Harvesting.{token_read, bytes_read}
+use Rattle.law_driver_ring.proofs.lemmas.harvested_streams.Harvesting.{token_is_read, bytes_are_read}
 use Rattle.law_driver_ring.specs.told_harvests.Held.{IsDone, IsRead}
 use Rattle.law_driver_ring.proofs.lemmas.told_harvests.Noting.{moved_is}
 use Rattle.law_driver_ring.proofs.lemmas.told_harvests.Reading.{length_taken}
@@ -106,7 +106,7 @@ module _ (m : Mem) (parts : StructureSets) (hand : Hand) (queue : ℕ) (tells : 
       let bs : List ℕ = buffer_of (parts (32 * queue)) r.qtd in
       told.are ∙ ap (λ (t : Qtd). hand_bytes hand (32 * queue) told.queue (32 * b) t (buffer_of (parts (32 * queue)) t)) (found_element (parts (32 * queue) (32 * b)) told.qtd r.qtd told.here r.here)
       ∙ words_tell hand (32 * queue) told.queue (32 * b) r.qtd bs elsewhere
-      ∙ ap (λ (i : ℕ). take (length bs - i) bs) (sym (left_is m parts queue told.queue tells told.head b r.qtd (token_read m parts (32 * queue) b r.qtd tells r.here)))
+      ∙ ap (λ (i : ℕ). take (length bs - i) bs) (sym (left_is m parts queue told.queue tells told.head b r.qtd (token_is_read m parts (32 * queue) b r.qtd tells r.here)))
       ∙ ap (λ (i : ℕ). take (i - left_now m queue b) bs) r.long
 
   pub told_long : (b : ℕ) (note : QtdNote) (z : List ℕ) → IsRead (parts (32 * queue)) note b → Told hand parts (32 * queue) (32 * b) z → length z ≤ note.told
@@ -126,7 +126,7 @@ module _ (m : Mem) (parts : StructureSets) (hand : Hand) (queue : ℕ) (tells : 
       let has : HasBuffer (parts (32 * queue)) r.qtd note.told = r.buffer (omega (arith, is)) in
       let size = has.size in
       let noted : IsNoted note r.qtd has.bytes = record { told = sym has.size; places = λ j within. r.places j (omega (arith, within, size)) } in
-      bytes_read m parts (32 * queue) r.qtd has.bytes note k tells has.here noted (omega (arith, below, is, size)) ∙ ap (take k) (sym (ap bytes_in has.here))
+      bytes_are_read m parts (32 * queue) r.qtd has.bytes note k tells has.here noted (omega (arith, below, is, size)) ∙ ap (take k) (sym (ap bytes_in has.here))
 
   pub qtd_counted : (b : ℕ) (note : QtdNote) (z : List ℕ) → IsRead (parts (32 * queue)) note b → Told hand parts (32 * queue) (32 * b) z → buffer_bytes m note (moved_now m queue b note false) ≡ z
   qtd_counted b note z r told =
@@ -139,6 +139,6 @@ module _ (m : Mem) (parts : StructureSets) (hand : Hand) (queue : ℕ) (tells : 
       ap (buffer_bytes m note) (sym done.count) ∙ read_by (length z) note.told b note refl (told_long b note z r done.told) r
       ∙ ap (λ (ys : List ℕ). take (length ys) (buffer_of (parts (32 * queue)) r.qtd)) is ∙ take_again (note.told - left_now m queue b) (buffer_of (parts (32 * queue)) r.qtd) ∙ sym is
 
-pub one_counted : (m : Mem) (parts : StructureSets) (hand : Hand) (queue b : ℕ) (note : QtdNote) (z : List ℕ) → Tells m parts → SettlesElsewhere hand (32 * queue) → IsRead (parts (32 * queue)) note b
+pub qtd_is_counted : (m : Mem) (parts : StructureSets) (hand : Hand) (queue b : ℕ) (note : QtdNote) (z : List ℕ) → Tells m parts → SettlesElsewhere hand (32 * queue) → IsRead (parts (32 * queue)) note b
     → Told hand parts (32 * queue) (32 * b) z → buffer_bytes m note (moved_now m queue b note false) ≡ z
-one_counted m parts hand queue b note z tells elsewhere r told = qtd_counted m parts hand queue tells elsewhere b note z r told
+qtd_is_counted m parts hand queue b note z tells elsewhere r told = qtd_counted m parts hand queue tells elsewhere b note z r told

@@ -63,7 +63,7 @@ module _ (m : Mem) (parts : StructureSets) (hand : Hand) (queue : ℕ) (notes : 
         omega (arith, more, long, both, all),
       )
 
-pub bytes_counted : (m : Mem) (parts : StructureSets) (hand : Hand) (queue : ℕ) (notes : List QtdNote) (b i c l k : ℕ) (held z : List ℕ) → Tells m parts
+pub transfer_is_counted : (m : Mem) (parts : StructureSets) (hand : Hand) (queue : ℕ) (notes : List QtdNote) (b i c l k : ℕ) (held z : List ℕ) → Tells m parts
     → SettlesElsewhere hand (32 * queue) → k ≡ i + l → AreHeld hand parts (32 * queue) (note_at notes) b i c held → AreRead (parts (32 * queue)) (note_at notes) b k
     → AllTold hand parts (32 * queue) (pieces_from (note_in notes) c l) z → bytes_now notes m queue b k l ≡ held ++ z
-bytes_counted m parts hand queue notes b i c l k held z tells elsewhere is first read told = (transfer_counted m parts hand queue notes tells elsewhere b i c l k held z is first read told).0
+transfer_is_counted m parts hand queue notes b i c l k held z tells elsewhere is first read told = (transfer_counted m parts hand queue notes tells elsewhere b i c l k held z is first read told).0

@@ -62,8 +62,8 @@ slots_still h g ns bs taken c k has = subst (λ (s : Slot). SlotHas s k) (sym (t
 
 -- ---- an open
 
-pub open_extents : ExtentsOpen
-open_extents d m o parts why stands owners driven lies =
+pub extents_open : ExtentsOpen
+extents_open d m o parts why stands owners driven lies =
     let g = why.holding_after in
     let all = runs_taken (holding d.book m) g (2 ∷ 1 ∷ []) stands why.runs in
     let bs = all.blocks in
@@ -146,8 +146,8 @@ module _ (v w : Views) (owner : ℕ → Owner) (number : ℕ) (x : EndpointRuns)
       (λ (new : (t ≡ count) × (y ≡ one_transfer number x.dummy n)). absurd (new_not_lent b c cs (subst (λ (r : TransferRuns). IsPieceOf w.note r.first r.qtds b) new.1 piece) first lent))
       (one.transfers t y is.here)
 
-pub asked_extents : ExtentsAsked
-asked_extents d m o parts why stands owners driven lies =
+pub extents_asked : ExtentsAsked
+extents_asked d m o parts why stands owners driven lies =
     let g = why.holding_after in
     let a = why.asked in
     let n = length a.stages in

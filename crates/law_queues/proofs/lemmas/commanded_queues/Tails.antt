@@ -85,8 +85,8 @@ open_reaches_in d f x parts order out i harvested transfers notes k =
 none_some : (q : ℕ) → ◌≡◌ {A = Option Command} None (Some (unfinished.Open q)) → ⊥
 none_some q bad = cc
 
-pub open_reaches : ReachesOpen
-open_reaches d m o parts order out why ends e x here met =
+pub reaches_open : ReachesOpen
+reaches_open d m o parts order out why ends e x here met =
     let w = why in
     let g = w.holding_after in
     let queue : ℕ = get_or (new_runs d g) 0 0 in
@@ -160,8 +160,8 @@ end_not_lent d m o why stands lent =
     let last : get_or (take n (new_runs d g)) (n - 1) 0 ≡ get_or bs (n - 1) 0 = ap (λ (rs : List ℕ). get_or (take n rs) (n - 1) 0) new ∙ get_or-take n bs (n - 1) 0 (omega (arith, some)) in
     new_not_lent (n - 1) why.runs all.are (omega (arith, long, some)) (subst (λ (c : ℕ). IsLent (slot_of g.book.slots c)) last lent)
 
-pub asked_reaches : ReachesAsked
-asked_reaches d m o parts order out why stands owners lent bulk ends e x here met =
+pub reaches_asked : ReachesAsked
+reaches_asked d m o parts order out why stands owners lent bulk ends e x here met =
     let w = why in
     let rs = new_runs d w.holding_after in
     let n = length w.asked.stages in

@@ -88,8 +88,8 @@ published_still d parts now b words keeps k = record {
   may = λ some. publishable_still (parts (32 * k.endpoint.queue)) (now (32 * k.endpoint.queue)) (32 * b) k.qtd (keeps (32 * k.endpoint.queue)).alters (k.may some);
 }
 
-pub fed_still : FedStaysBeside
-fed_still d parts now keeps k = record {
+pub fed_stays_beside : FedStaysBeside
+fed_stays_beside d parts now keeps k = record {
   dummies = λ e x here kept lent. (keeps (32 * x.queue)).idle (32 * x.dummy) dummy_qtd (k.dummies e x here kept lent) refl;
   pieces = λ t i y x there held here from below.
       let b : ℕ = piece_at (note_in d.notes) y.first i in
@@ -100,8 +100,8 @@ fed_still d parts now keeps k = record {
 is_last_still : (order : ℕ → ℕ) (part now : Structures) (a : ℕ) → Alters part now → IsLast order part a → IsLast order now a
 is_last_still order part now a alters k b t here differs = let had = alters.element_before b t here in k b had.qtd had.here differs
 
-pub last_still : LastStaysBeside
-last_still d parts now order keeps k = record {
+pub last_stays_beside : LastStaysBeside
+last_stays_beside d parts now order keeps k = record {
   dummies = λ e x here kept lent. is_last_still (order (32 * x.queue)) (parts (32 * x.queue)) (now (32 * x.queue)) (32 * x.dummy) (keeps (32 * x.queue)).alters (k.dummies e x here kept lent);
   taken = λ b words t y x command made newest there first here.
       is_last_still (order (32 * x.queue)) (parts (32 * x.queue)) (now (32 * x.queue)) (32 * b) (keeps (32 * x.queue)).alters (k.taken b words t y x command made newest there first here);

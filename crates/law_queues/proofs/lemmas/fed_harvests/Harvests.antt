@@ -37,10 +37,10 @@ use Rattle.law_driver_ring.specs.fed_queues.Places.{AreStillOut, IsThere}
 use Rattle.law_queues.specs.fed_lends.Commands.{QueuesStand}
 use Rattle.law_queues.proofs.lemmas.fed_lends.Asked.{set_which}
 use Rattle.law_queues.specs.fed_harvests.Harvests.{IsLike, Harvested, with_out, HarvestLeaves, UnstalledStands, HarvestStands, WaitStands}
-use Rattle.law_queues.proofs.lemmas.fed_harvests.Like.{like_stands}
+use Rattle.law_queues.proofs.lemmas.fed_harvests.Like.{alike_stands}
 use Rattle.law_queues.proofs.lemmas.fed_harvests.Lists.{all_of, all_out, all_same, splits, all_set, others_none, own_out}
 use Rattle.law_driver_ring.proofs.lemmas.fed_queues.Places.{SameQueues, same_ends, met_stays, streams_stay}
-use Rattle.law_driver.proofs.lemmas.chained_transfers.BulkAndControl.{not_iso, bulk_takes_turns}
+use Rattle.law_driver.proofs.lemmas.chained_transfers.BulkAndControl.{not_iso, bulk_is_asynchronous}
 use Rattle.law_driver.proofs.lemmas.chained_transfers.Staying.{stands_alive}
 use Rattle.law_queues.specs.mended_heads.Stalling.{IsStall}
 
@@ -225,7 +225,7 @@ module _ (p : Parts) (e t : ℕ) (found : Found) (due : IsHarvestDue p e t found
       ∙ ap (λ (q : ℕ). out (32 * q)) w.queue ∙ old.out_are i w.endpoint w.there (idle_there w.endpoint (sym w.gone ∙ met.kept))
       ∙ sym (same_out p.driver e t due.endpoint due.transfer due.idle due.here due.there f k i (λ same. other (sym same ∙ (waits_is e due.transfer due.waits).0))))
       (cases_eq i e) in
-      (h, like_stands p.driver f member streams ends parts order out (with_out out at (h.before ++ h.behind)) l still old)
+      (h, alike_stands p.driver f member streams ends parts order out (with_out out at (h.before ++ h.behind)) l still old)
     where
       no_open : (c : ℕ) → p.driver.command ≡ Some (unfinished.Open c) → ⊥
       no_open c is = let none : ◌≡◌ {A = Option Command} None (Some (unfinished.Open c)) = sym due.idle ∙ is in cc
@@ -347,7 +347,7 @@ bulk_unstalled kind _ bulk stall = stall
 
 pub harvest_stands : HarvestStands
 harvest_stands p e t found member streams ends parts order out due differs owners turns old =
-    unstalled_stands p e t found member streams ends parts order out due differs (bulk_unstalled due.endpoint.desc.kind found (turns.bulk.endpoints e due.endpoint due.here).bulk.kind) owners (bulk_takes_turns p.driver turns) old
+    unstalled_stands p e t found member streams ends parts order out due differs (bulk_unstalled due.endpoint.desc.kind found (turns.bulk.endpoints e due.endpoint due.here).bulk.kind) owners (bulk_is_asynchronous p.driver turns) old
 
 -- ---- where it isn't done
 

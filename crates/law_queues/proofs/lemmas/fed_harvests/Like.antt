@@ -20,7 +20,7 @@ use Rattle.law_driver_ring.specs.fed_queues.Fed.{IsAlternate, size_of, sized, Is
 use Rattle.law_driver_ring.specs.fed_queues.Places.{IsLast, AreStillOut}
 use Rattle.law_queues.specs.fed_lends.Commands.{QueuesStand}
 use Rattle.law_queues.proofs.lemmas.fed_lends.Asked.{same_unpublished}
-use Rattle.law_queues.specs.fed_harvests.Harvests.{IsLike, LikeStand}
+use Rattle.law_queues.specs.fed_harvests.Harvests.{IsLike, AlikeStands}
 use Rattle.law_driver_ring.proofs.lemmas.fed_queues.Places.{SameQueues, met_stays, streams_stay}
 
 -- a piece is fed by what its note tells of its qTD and its buffer
@@ -111,5 +111,5 @@ module _ (d f : DriverContent) (k : IsLike d f) where
     out_are = still;
   }
 
-pub like_stands : LikeStand
-like_stands d f member streams ends parts order out later k still old = stand d f k member streams ends parts order out later still old
+pub alike_stands : AlikeStands
+alike_stands d f member streams ends parts order out later k still old = stand d f k member streams ends parts order out later still old

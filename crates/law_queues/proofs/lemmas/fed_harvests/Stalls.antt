@@ -38,7 +38,7 @@ use Rattle.law_queues.specs.mended_heads.Stalling.{IsStall}
 use Rattle.law_queues.specs.fed_lends.Commands.{QueuesStand}
 use Rattle.law_queues.specs.fed_harvests.Harvests.{IsLike, with_out}
 use Rattle.law_queues.specs.fed_harvests.Stalls.{Stalled, StallLeaves, StallStands}
-use Rattle.law_queues.proofs.lemmas.fed_harvests.Like.{like_stands}
+use Rattle.law_queues.proofs.lemmas.fed_harvests.Like.{alike_stands}
 use Rattle.law_queues.proofs.lemmas.fed_harvests.Lists.{all_of, all_out, all_same, own_out}
 use Rattle.law_queues.proofs.lemmas.fed_harvests.Told.{AreTold, all_told, told_set, WasIn, was_in, IsOf, was_of, pushed, OnlyTellsOf, behind_tells_of, others_same, told_out, stall_splits}
 use Rattle.law_queues.proofs.lemmas.fed_harvests.Harvests.{like, remains, held, rest_of, all_pieces, first_out, apart}
@@ -255,7 +255,7 @@ module _ (p : Parts) (e t : ℕ) (found : Found) (due : IsHarvestDue p e t found
       ∙ ap (λ (q : ℕ). out (32 * q)) w.queue ∙ old.out_are i w.endpoint w.there (record { linked = no_open w.endpoint.queue; kept = sym w.gone ∙ met.kept })
       ∙ sym (same_out k i other))
       (cases_eq i e) in
-      (s, like_stands d f member streams ends parts order out (with_out out at (s.before ++ s.later)) k.like_d still old)
+      (s, alike_stands d f member streams ends parts order out (with_out out at (s.before ++ s.later)) k.like_d still old)
 
   pub stall_leaves : IsStall x.desc.kind found → StallLeaves p e t found due member streams ends parts order out
   unfolding Leaves

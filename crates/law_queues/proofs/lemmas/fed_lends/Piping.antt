@@ -12,7 +12,7 @@ use Rattle.claims_driver.specs.Owners.{EndpointRuns, TransferRuns}
 use Rattle.law_structures.specs.lent_structures.Structures.{Element, Structures, StructureSets}
 use Rattle.law_ring.specs.Bus.{Sender}
 use Rattle.law_ring.specs.Pipes.{IsIn, IsNotIn}
-use Rattle.law_ring.proofs.SparedSparing.{spared_endpoint, spared_pipes}
+use Rattle.law_ring.proofs.SparedSparing.{spared_endpoint, spared_pipes_agree}
 use Rattle.law_driver_ring.specs.Pieces.{IsNewQtd}
 use Rattle.law_driver_ring.specs.TransferLaws.{HasPieces}
 use Rattle.law_queues.specs.fed_lends.Streams.{second, LendLeavesPipes}
@@ -43,7 +43,7 @@ still_ask P d y x s ss slot parts now n all has old =
 
 pub lend_leaves_pipes : {W : Type 0} (sender : W → ℕ → ℕ → Option Sender) → LendLeavesPipes sender
 lend_leaves_pipes sender d m t y x s ss slot parts now stream packets member streams ends acc hand wire r has (inl ins) piped =
-    spared_pipes sender stream packets member member streams ends acc hand hand parts now wire (same_hand hand) (λ n there. spares_heads d y x s ss slot parts now n has)
+    spared_pipes_agree sender stream packets member member streams ends acc hand hand parts now wire (same_hand hand) (λ n there. spares_heads d y x s ss slot parts now n has)
     (λ n there. still_ask (λ p. p ≡ 1) d y x s ss slot parts now n ins.1.1 has (piped.pipes n there).ins)
     (λ n there off.
     let differs : n ≢ 32 * x.queue = λ same. true≢false (sym ins.0 ∙ ap streams (sym same) ∙ off) in
@@ -53,7 +53,7 @@ lend_leaves_pipes sender d m t y x s ss slot parts now stream packets member str
     ))
     piped
 lend_leaves_pipes sender d m t y x s ss slot parts now stream packets member streams ends acc hand wire r has (inr (inl outs)) piped =
-    spared_pipes sender stream packets member member streams ends acc hand hand parts now wire (same_hand hand) (λ n there. spares_heads d y x s ss slot parts now n has)
+    spared_pipes_agree sender stream packets member member streams ends acc hand hand parts now wire (same_hand hand) (λ n there. spares_heads d y x s ss slot parts now n has)
     (λ n there.
     let differs : n ≢ 32 * x.queue = λ same. true≢false (sym there ∙ ap streams same ∙ outs.0) in
     subst IsIn (sym (has.beside n differs)) (piped.pipes n there).ins)
@@ -65,7 +65,7 @@ lend_leaves_pipes sender d m t y x s ss slot parts now stream packets member str
     ))
     piped
 lend_leaves_pipes sender d m t y x s ss slot parts now stream packets member streams ends acc hand wire r has (inr (inr none)) piped =
-    spared_pipes sender stream packets member member streams ends acc hand hand parts now wire (same_hand hand) (λ n there. spares_heads d y x s ss slot parts now n has)
+    spared_pipes_agree sender stream packets member member streams ends acc hand hand parts now wire (same_hand hand) (λ n there. spares_heads d y x s ss slot parts now n has)
     (λ n there.
     let differs : n ≢ 32 * x.queue = λ same. true≢false (sym there ∙ ap streams same ∙ none.0) in
     subst IsIn (sym (has.beside n differs)) (piped.pipes n there).ins)

@@ -25,7 +25,7 @@ use Rattle.law_ring.specs.Hand.{Hand}
 use Rattle.law_ring.specs.Effects.{bytes_in, buffer_of}
 use Rattle.law_ring.specs.Order.{IsFresh, IsOrdered, AreAfter, IsSorted, IsAmong, AllTold, none_out, one_out}
 use Rattle.law_ring.specs.Sparing.{SameHand, SparesHead}
-use Rattle.law_ring.proofs.SparedSparing.{spared_told, published_adds}
+use Rattle.law_ring.proofs.SparedSparing.{spared_is_told, published_adds_nothing}
 use Rattle.law_driver.specs.chained_transfers.Out.{pieces_from}
 use Rattle.law_driver_ring.specs.fed_queues.Places.{IsLast}
 use Rattle.law_driver_ring.specs.Written.{AreAllApart, next_blocks, buffer_blocks, AreRuns, IsStageNoted, AreNoted, AwaitsLend}
@@ -173,7 +173,7 @@ told_still d y x s ss slot parts now hand _ _ has none_out = none_out
 told_still d y x s ss slot parts now hand _ _ has (one_out e es z zs told rest) =
     let n = 32 * x.queue in
     one_out e es z zs
-    (spared_told hand hand parts now n e z (same_hand hand) (spares_heads d y x s ss slot parts now n has)
+    (spared_is_told hand hand parts now n e z (same_hand hand) (spares_heads d y x s ss slot parts now n has)
     (record { element = λ u here. has.still n e (Element u) here; bytes = λ u here. ap bytes_in (has.old_buffers e u here) }) told)
     (told_still d y x s ss slot parts now hand es zs has rest)
 
@@ -185,7 +185,7 @@ told_more f place n hand now q notes dummy (s ∷ ss) b k out xs ordered head ar
     let e = 32 * b in
     subst (λ (es : List ℕ). AllTold hand now n es xs) (append_assoc out (e ∷ []) (pieces_from (note_in notes) next (length ss)))
     (told_more f place n hand now q notes dummy ss next (suc k) (out ++ e ∷ []) xs ordered head are.1 stand.1 (omega (arith, most))
-    (published_adds f place out hand now n e q (stage_qtd notes s b dummy (is_last ss)) xs ordered head stand.0 refl (let g = are.0 in omega (arith, g, most)) told))
+    (published_adds_nothing f place out hand now n e q (stage_qtd notes s b dummy (is_last ss)) xs ordered head stand.0 refl (let g = are.0 in omega (arith, g, most)) told))
 
 -- ---- the list
 

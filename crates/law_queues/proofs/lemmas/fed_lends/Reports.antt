@@ -15,7 +15,7 @@ use Rattle.law_structures.specs.lent_structures.Structures.{Element, Structures,
 use Rattle.law_ring.specs.QueueParts.{IsQueuePart}
 use Rattle.law_ring.specs.Hand.{Hand}
 use Rattle.law_ring.specs.Order.{IsOrdered, AreAfter, IsSorted, IsAmong}
-use Rattle.law_ring.proofs.SparedSparing.{spared_accounts}
+use Rattle.law_ring.proofs.SparedSparing.{accounts_are_spared}
 use Rattle.law_controller.specs.controlled_streams.Reported.{IsReported, AreReported}
 use Rattle.law_driver_ring.specs.Inventory.{IsLent}
 use Rattle.law_driver.specs.chained_transfers.Turns.{AreInTurn}
@@ -43,7 +43,7 @@ other_reports d slot parts now y x s ss order out hand n acc reported has differ
     record {
       place = r.place;
       told = r.told;
-      accounts = spared_accounts order order r.place r.place out hand hand parts now n r.told (same_hand hand) (spares_heads d y x s ss slot parts now n has)
+      accounts = accounts_are_spared order order r.place r.place out hand hand parts now n r.told (same_hand hand) (spares_heads d y x s ss slot parts now n has)
           (λ e among. record { element = λ u here. has.still n e (Element u) here; bytes = λ u here. buffers_same d slot parts now y x s ss n e u has here })
           (subst (IsOrdered order r.place n) (sym same) a.ordered) a.sorted
           (λ e u among here from. a.published e u among (ap (λ (part : Structures). part e) (sym same) ∙ here) from)

@@ -181,9 +181,9 @@ transfer_holds d m o hand parts held why few stands owners there places holds =
     (subst (λ (rs : List ℕ). HoldsEach (accepted_transfer d e x why.asked why.holding_after (get_or (take n rs) (n - 1) 0) (note_stages d.notes ss x.dummy (take n rs) (drop n rs))).driver hand parts held) (sym made) now)
 
 -- a get or a put
-pub ask_holds : (d : DriverContent) (m : Mem) (o : Offered) (hand : Hand) (parts : StructureSets) (held : ℕ → List ℕ) → IsAsked d m o → Stands (holding d.book m) → HasOwners d → AreThere d → AreAtPlaces (note_in d.notes) d.transfers
+pub asked_holds : (d : DriverContent) (m : Mem) (o : Offered) (hand : Hand) (parts : StructureSets) (held : ℕ → List ℕ) → IsAsked d m o → Stands (holding d.book m) → HasOwners d → AreThere d → AreAtPlaces (note_in d.notes) d.transfers
     → HoldsEach d hand parts held → HoldsEach o.driver hand parts held
-ask_holds d m o hand parts held k = transfer_holds d m o hand parts held k.transfers
+asked_holds d m o hand parts held k = transfer_holds d m o hand parts held k.transfers
     (let way = k.transfers.endpoint.desc.name.way in
     let asked : k.transfers.asked.stages ≡ map (stage_by way) (cut k.most k.by) = ap (λ (a : Asked). a.stages) k.asked in
     let long = cut_told way k.most k.by in
@@ -192,9 +192,9 @@ ask_holds d m o hand parts held k = transfer_holds d m o hand parts held k.trans
     omega (arith, all_told, long, most))
 
 -- a request
-pub request_holds : (d : DriverContent) (m : Mem) (o : Offered) (hand : Hand) (parts : StructureSets) (held : ℕ → List ℕ) → IsRequested d m o → Stands (holding d.book m) → HasOwners d → AreThere d → AreAtPlaces (note_in d.notes) d.transfers
+pub requested_holds : (d : DriverContent) (m : Mem) (o : Offered) (hand : Hand) (parts : StructureSets) (held : ℕ → List ℕ) → IsRequested d m o → Stands (holding d.book m) → HasOwners d → AreThere d → AreAtPlaces (note_in d.notes) d.transfers
     → HoldsEach d hand parts held → HoldsEach o.driver hand parts held
-request_holds d m o hand parts held k = transfer_holds d m o hand parts held k.transfers
+requested_holds d m o hand parts held k = transfer_holds d m o hand parts held k.transfers
     (let asked : k.transfers.asked.stages ≡ request_stages k.setup = ap (λ (a : Asked). a.stages) k.asked in
     let long = request_told k.setup in
     let all_told = ap told_in_all asked in

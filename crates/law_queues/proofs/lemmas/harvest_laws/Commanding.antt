@@ -25,11 +25,11 @@ use Rattle.law_driver.specs.chained_transfers.Asynchronous.{IsRequested}
 use Rattle.law_queues.specs.told_endpoints.Telling.{Named, named_of, named_in, IsToldTo, TellsEach}
 use Rattle.law_queues.specs.told_endpoints.Steps.{Clears}
 use Rattle.law_queues.proofs.lemmas.told_endpoints.Names.{driver_name}
-use Rattle.law_queues.proofs.lemmas.told_endpoints.Tellings.{names_kept, endpoint_added}
+use Rattle.law_queues.proofs.lemmas.told_endpoints.Tellings.{keeps_names, open_adds_endpoint}
 use Rattle.law_queues.proofs.lemmas.harvest_laws.RowRows.{cleared_at}
 use Rattle.law_queues.specs.harvest_laws.HeldLaws.{AreThere}
 use Rattle.law_queues.proofs.lemmas.harvest_laws.Opening.{push_which, set_which, open_holds}
-use Rattle.law_queues.proofs.lemmas.harvest_laws.Asking.{ask_holds, request_holds}
+use Rattle.law_queues.proofs.lemmas.harvest_laws.Asking.{asked_holds, requested_holds}
 use Rattle.law_queues.specs.harvest_laws.Holds.{HoldsEach}
 use Rattle.law_queues.specs.harvest_laws.Told.{ToldStands}
 use Rattle.law_driver_ring.specs.fed_queues.Places.{IsThere}
@@ -97,14 +97,14 @@ named_there xs e x is = by_end (slice_get xs e) refl is
 
 -- ---- an endpoint is opened
 
-pub opened_told : (d : DriverContent) (m : Mem) (o : Offered) (hand : Hand) (parts : StructureSets) (reported : ℕ → List ℕ) → Opens d m o → ((e : ℕ) (x : Endpoint) → slice_get d.endpoints e ≡ Some x → x.gone ≡ false → o.driver.command ≢ Some (unfinished.Open x.queue))
+pub opened_is_told : (d : DriverContent) (m : Mem) (o : Offered) (hand : Hand) (parts : StructureSets) (reported : ℕ → List ℕ) → Opens d m o → ((e : ℕ) (x : Endpoint) → slice_get d.endpoints e ≡ Some x → x.gone ≡ false → o.driver.command ≢ Some (unfinished.Open x.queue))
     → ToldStands d hand parts reported → ToldStands o.driver hand parts reported
-opened_told d m o hand parts reported why others k = record {
+opened_is_told d m o hand parts reported why others k = record {
   held = later;
   told = now;
   holds = open_holds d m o hand parts k.held later why clears k.holds;
   tells = subst (λ (g : Offered). TellsEach g.driver.reports g.driver.store (named_in g.driver.endpoints) later now) (sym why.is)
-      (endpoint_added d.reports d.store (named_in d.endpoints) (named_in (d.endpoints ++ x ∷ [])) later now n (named_of x) (ap (option_map named_of) (slice_get_past d.endpoints n (omega arith)))
+      (open_adds_endpoint d.reports d.store (named_in d.endpoints) (named_in (d.endpoints ++ x ∷ [])) later now n (named_of x) (ap (option_map named_of) (slice_get_past d.endpoints n (omega arith)))
       (record { here = ap (option_map named_of) (pushed_last d.endpoints x); beside = λ e differs. ap (option_map named_of) (pushed_beside d.endpoints x e differs) }) refl
       (λ e y here.
       let z = named_there d.endpoints e y here in
@@ -155,7 +155,7 @@ transfer_told d m o hand parts reported why holds_on k = record {
   holds = holds_on k.held k.holds;
   tells = subst (λ (ls : List Report). TellsEach ls o.driver.store (named_in o.driver.endpoints) k.held k.told) (sym (ap (λ (g : Offered). g.driver.reports) why.is))
       (subst (λ (bs : List ℕ). TellsEach d.reports bs (named_in o.driver.endpoints) k.held k.told) (sym (ap (λ (g : Offered). g.driver.store) why.is))
-      (names_kept d.reports d.store (named_in d.endpoints) (named_in o.driver.endpoints) k.held k.told names k.tells));
+      (keeps_names d.reports d.store (named_in d.endpoints) (named_in o.driver.endpoints) k.held k.told names k.tells));
   met = λ e y here meets. let w = was e y here in k.met e w.0 w.1 (idle w.0 (w.3 ∙ meets.kept)) ∙ ap (λ (q : ℕ). reported (32 * q)) w.2;
   opening = λ e y here kept is. absurd (no_publish y.queue is);
 }
@@ -187,14 +187,14 @@ transfer_told d m o hand parts reported why holds_on k = record {
     names e = ap (λ (g : Offered). named_in g.driver.endpoints e) why.is ∙ name_at d.endpoints why.number why.endpoint _ why.here refl e
 
 -- a get or a put
-pub asked_told : (d : DriverContent) (m : Mem) (o : Offered) (hand : Hand) (parts : StructureSets) (reported : ℕ → List ℕ) → IsAsked d m o → Stands (holding d.book m) → HasOwners d → AreThere d → AreAtPlaces (note_in d.notes) d.transfers
+pub asked_is_told : (d : DriverContent) (m : Mem) (o : Offered) (hand : Hand) (parts : StructureSets) (reported : ℕ → List ℕ) → IsAsked d m o → Stands (holding d.book m) → HasOwners d → AreThere d → AreAtPlaces (note_in d.notes) d.transfers
     → ToldStands d hand parts reported → ToldStands o.driver hand parts reported
-asked_told d m o hand parts reported asked stands owners there places =
-    transfer_told d m o hand parts reported asked.transfers (λ held. ask_holds d m o hand parts held asked stands owners there places)
+asked_is_told d m o hand parts reported asked stands owners there places =
+    transfer_told d m o hand parts reported asked.transfers (λ held. asked_holds d m o hand parts held asked stands owners there places)
 
 -- a request
-pub requested_told : (d : DriverContent) (m : Mem) (o : Offered) (hand : Hand) (parts : StructureSets) (reported : ℕ → List ℕ) → IsRequested d m o → Stands (holding d.book m) → HasOwners d → AreThere d
+pub requested_is_told : (d : DriverContent) (m : Mem) (o : Offered) (hand : Hand) (parts : StructureSets) (reported : ℕ → List ℕ) → IsRequested d m o → Stands (holding d.book m) → HasOwners d → AreThere d
     → AreAtPlaces (note_in d.notes) d.transfers
     → ToldStands d hand parts reported → ToldStands o.driver hand parts reported
-requested_told d m o hand parts reported asked stands owners there places =
-    transfer_told d m o hand parts reported asked.transfers (λ held. request_holds d m o hand parts held asked stands owners there places)
+requested_is_told d m o hand parts reported asked stands owners there places =
+    transfer_told d m o hand parts reported asked.transfers (λ held. requested_holds d m o hand parts held asked stands owners there places)

@@ -24,8 +24,8 @@ use Rattle.law_queues.proofs.lemmas.harvest_laws.Places.{one_sooner, one_later, 
 
 -- ---- what it depends on
 
-pub holds_same : (d new : DriverContent) (hand : Hand) (parts : StructureSets) (held : ℕ → List ℕ) → new.endpoints ≡ d.endpoints → new.transfers ≡ d.transfers → new.notes ≡ d.notes → HoldsEach d hand parts held → HoldsEach new hand parts held
-holds_same d new hand parts held ends transfers notes k = record {
+pub holds_the_same : (d new : DriverContent) (hand : Hand) (parts : StructureSets) (held : ℕ → List ℕ) → new.endpoints ≡ d.endpoints → new.transfers ≡ d.transfers → new.notes ≡ d.notes → HoldsEach d hand parts held → HoldsEach new hand parts held
+holds_the_same d new hand parts held ends transfers notes k = record {
   next = λ e t x y is on.
       subst (λ (ns : List QtdNote). IsUnderWay hand parts (32 * x.queue) (note_at ns) y (held e)) (sym notes)
       (k.next e t x y (record { endpoint = ap (λ (xs : List Endpoint). slice_get xs e) (sym ends) ∙ is.endpoint; going = is.going; next = is.next; transfer = ap (λ (ts : List Transfer). slice_get ts t) (sym transfers) ∙ is.transfer }) on);

@@ -45,8 +45,8 @@ use Rattle.law_driver_ring.specs.fed_queues.Fed.{AreFed, IsPieceFed, unpublished
 use Rattle.law_driver_ring.proofs.lemmas.fed_queues.Sized.{told_fed}
 use Rattle.law_queues.specs.harvest_laws.Told.{ToldStands}
 use Rattle.law_queues.specs.harvest_laws.ToldLaws.{HarvestReports}
-use Rattle.law_queues.proofs.lemmas.harvest_laws.Standing.{alike_told}
-use Rattle.law_queues.proofs.lemmas.harvest_laws.ToldHarvesting.{harvested_told}
+use Rattle.law_queues.proofs.lemmas.harvest_laws.Standing.{alike_is_told}
+use Rattle.law_queues.proofs.lemmas.harvest_laws.ToldHarvesting.{harvested_is_told}
 use Rattle.law_driver.specs.endpoint_lives.Lives.{told_end}
 use Rattle.law_driver.proofs.lemmas.endpoint_lives.Lives.{none_told}
 use Rattle.law_driver.proofs.lemmas.chained_transfers.Staying.{told_stands_alive}
@@ -178,14 +178,14 @@ pub after_is : (p : Parts) (e t : ℕ) (found : Found) (due : IsHarvestDue p e t
 after_is p e t found due =
     ap (λ (o : Option Endpoint). after_harvest p.driver p.memory e t found o (slice_get p.driver.transfers t)) due.here ∙ ap (after_harvest p.driver p.memory e t found (Some due.endpoint)) due.there
 
-pub row_told : (order : ℕ → ℕ) (p : Parts) (parts : StructureSets) (hand : Hand) (e t : ℕ) (found : Found) (acc : List (List ℕ)) (reported : ℕ → List ℕ) → (due : IsHarvestDue p e t found) → found ≢ founds.Active
+pub harvest_row_is_told : (order : ℕ → ℕ) (p : Parts) (parts : StructureSets) (hand : Hand) (e t : ℕ) (found : Found) (acc : List (List ℕ)) (reported : ℕ → List ℕ) → (due : IsHarvestDue p e t found) → found ≢ founds.Active
     → HasOwners p.driver → AsynchronousTakesTurns p.driver → due.endpoint.desc.kind ≡ kinds.Bulk → AreFed p.driver parts → Tells p.memory parts → IsQueuePart (32 * due.endpoint.queue) (parts (32 * due.endpoint.queue))
     → ((a : ℕ) (z : List ℕ) → IsOutEarlier (note_in p.driver.notes) e t p.driver.transfers a → Told hand parts (32 * due.endpoint.queue) a z → z ≡ [])
     → ToldStands p.driver hand parts reported → IsReported order (out_now p.driver e) hand parts (32 * due.endpoint.queue) acc (reported (32 * due.endpoint.queue))
     → HarvestReports order p.driver (after_driver_row (rows.Harvest e t found) p).driver hand parts e due.endpoint acc reported
-row_told order p parts hand e t found acc reported due differs owners turns bulk fed tells on none told r =
+harvest_row_is_told order p parts hand e t found acc reported due differs owners turns bulk fed tells on none told r =
     subst (λ (d : DriverContent). HarvestReports order p.driver d hand parts e due.endpoint acc reported) (sym (after_is p e t found due))
-    (harvested_told order p.driver p.memory parts hand e t due.endpoint due.transfer found acc reported (read_next p e t found due owners turns)
+    (harvested_is_told order p.driver p.memory parts hand e t due.endpoint due.transfer found acc reported (read_next p e t found due owners turns)
     (record {
       bulk = bulk;
       queued = its_sort p e t found due owners turns;
@@ -196,8 +196,8 @@ row_told order p parts hand e t found acc reported due differs owners turns bulk
       none = none;
     }) (queue_alone p e t found due owners turns) due.tells told r)
 
-pub wait_told : (p : Parts) (parts : StructureSets) (hand : Hand) (e t : ℕ) (reported : ℕ → List ℕ) → IsHarvestDue p e t founds.Active → ToldStands p.driver hand parts reported
+pub wait_is_told : (p : Parts) (parts : StructureSets) (hand : Hand) (e t : ℕ) (reported : ℕ → List ℕ) → IsHarvestDue p e t founds.Active → ToldStands p.driver hand parts reported
     → ToldStands (after_driver_row (rows.Harvest e t founds.Active) p).driver hand parts reported
-wait_told p parts hand e t reported due k =
+wait_is_told p parts hand e t reported due k =
     subst (λ (d : DriverContent). ToldStands d hand parts reported) (sym (after_is p e t founds.Active due ∙ ap (λ (b : Bool). if b then served p.driver e else p.driver) due.waits))
-    (alike_told p.driver (served p.driver e) hand parts reported (record { reports = refl; store = refl; endpoints = refl; transfers = refl; notes = refl }) (λ x meets. record { linked = meets.linked; kept = meets.kept }) (λ x opens. opens) k)
+    (alike_is_told p.driver (served p.driver e) hand parts reported (record { reports = refl; store = refl; endpoints = refl; transfers = refl; notes = refl }) (λ x meets. record { linked = meets.linked; kept = meets.kept }) (λ x opens. opens) k)

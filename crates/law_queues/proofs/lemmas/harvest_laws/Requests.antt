@@ -36,9 +36,9 @@ use Rattle.law_driver.specs.chained_transfers.Out.{out_of}
 use Rattle.law_driver.proofs.lemmas.chained_transfers.Ways.{found_by}
 use Rattle.law_driver.proofs.lemmas.chained_transfers.Harvesting.{waits_is}
 use Rattle.law_queues.specs.told_endpoints.Telling.{named_of, named_in, TellsEach}
-use Rattle.law_queues.proofs.lemmas.told_endpoints.Tellings.{other_added}
+use Rattle.law_queues.proofs.lemmas.told_endpoints.Tellings.{requests_add_no_stream}
 use Rattle.law_driver_ring.specs.told_harvests.Held.{told_of, NotesMoved}
-use Rattle.law_driver_ring.proofs.lemmas.told_harvests.Noting.{is_noted}
+use Rattle.law_driver_ring.proofs.lemmas.told_harvests.Noting.{found_is_noted}
 use Rattle.law_driver_ring.specs.fed_queues.Places.{IsThere}
 use Rattle.law_queues.specs.harvest_laws.Holds.{IsUnderWay, IsToCome, IsNextOf, HoldsEach}
 use Rattle.law_queues.specs.harvest_laws.RowLaws.{IsReadNext}
@@ -50,7 +50,7 @@ use Rattle.law_queues.proofs.lemmas.harvest_laws.Opening.{set_which}
 use Rattle.law_queues.proofs.lemmas.harvest_laws.Holding.{under_way_beside, to_come_beside}
 use Rattle.law_queues.proofs.lemmas.harvest_laws.RowRows.{names_at}
 use Rattle.law_queues.proofs.lemmas.harvest_laws.RowHarvesting.{out_new}
-use Rattle.law_queues.proofs.lemmas.harvest_laws.Standing.{alike_told}
+use Rattle.law_queues.proofs.lemmas.harvest_laws.Standing.{alike_is_told}
 use Rattle.law_queues.proofs.lemmas.harvest_laws.ReadRows.{read_next, its_sort, after_is}
 
 -- ---- the requests that wait behind a stalled one
@@ -193,7 +193,7 @@ module _ (d : DriverContent) (m : Mem) (e t : ℕ) (x : Endpoint) (y : Transfer)
 
     leaves_after : LeavesStreams d (served f e) hand parts e tells_of
     leaves_after = record {
-      stands = alike_told f (served f e) hand parts tells_of (record { reports = refl; store = refl; endpoints = refl; transfers = refl; notes = refl })
+      stands = alike_is_told f (served f e) hand parts tells_of (record { reports = refl; store = refl; endpoints = refl; transfers = refl; notes = refl })
           (λ v meets. record { linked = meets.linked; kept = meets.kept }) (λ v opens. opens) stands_after;
       beside = λ g differs.
           out_new d (served f e) g f.transfers n.command a.command (λ b. runs_noted d.notes f.notes y.place count a.moved b) refl ∙ a.out g differs ∙ sym (out_new d d g d.transfers n.command refl (λ b. refl) refl);
@@ -221,7 +221,7 @@ module _ (d : DriverContent) (m : Mem) (e t : ℕ) (x : Endpoint) (y : Transfer)
     others = λ g differs. refl;
     transfers = set_then x d.transfers t y (record y { place = (note_at d.notes y.place).next; left = y.left - 1 }) n.next.transfer
         (record { one = y; here = n.next.transfer; first = refl; qtds = refl; most = refl; released = refl; endpoint = refl; how = inr (own.0, inr (refl, n.next.next)) }) (unchanged x);
-    moved = is_noted d.notes y.place (token_in m y.place).total;
+    moved = found_is_noted d.notes y.place (token_in m y.place).total;
     command = refl;
     tells = k.tells;
     out = λ g differs.
@@ -259,12 +259,12 @@ module _ (d : DriverContent) (m : Mem) (e t : ℕ) (x : Endpoint) (y : Transfer)
         set_then w d.transfers t y (record y { reported = true }) n.next.transfer
         (record { one = y; here = n.next.transfer; first = refl; qtds = refl; most = refl; released = refl; endpoint = refl; how = inr (own.0, inl refl) }) (unchanged w) u z
         (ap (λ (ts : List Transfer). slice_get ts u) (sym r.transfers) ∙ here);
-    moved = subst (λ (ns : List QtdNote). NotesMoved (note_at d.notes) (note_at ns) y.place count) (sym r.notes) (is_noted d.notes y.place (token_in m y.place).total);
+    moved = subst (λ (ns : List QtdNote). NotesMoved (note_at d.notes) (note_at ns) y.place count) (sym r.notes) (found_is_noted d.notes y.place (token_in m y.place).total);
     command = r.command;
     tells = subst (λ (xs : List Endpoint). TellsEach f.reports f.store (named_in xs) k.held k.told) (sym r.endpoints)
         (subst (λ (ls : List Report). TellsEach ls f.store (named_in (slice_set d.endpoints e w)) k.held k.told) (sym r.reports)
         (subst (λ (bs : List ℕ). TellsEach (d.reports ++ line_of what ∷ []) bs (named_in (slice_set d.endpoints e w)) k.held k.told) (sym r.store)
-        (other_added d.reports d.store told_now (named_in d.endpoints) (named_in (slice_set d.endpoints e w)) k.held k.told e (named_of x) (named_of w) (line_of what) (ap (option_map named_of) n.next.endpoint)
+        (requests_add_no_stream d.reports d.store told_now (named_in d.endpoints) (named_in (slice_set d.endpoints e w)) k.held k.told e (named_of x) (named_of w) (line_of what) (ap (option_map named_of) n.next.endpoint)
         (names_at d.endpoints e x w n.next.endpoint)
         (record { named = ap (λ z. z.name) desc; none = ap (λ z. has_stream z.kind) desc ∙ silent; line_named = refl; tells = tells_it; from = refl; long = refl }) k.tells)));
     out = λ g differs.
@@ -288,7 +288,8 @@ module _ (d : DriverContent) (m : Mem) (e t : ℕ) (x : Endpoint) (y : Transfer)
             (λ u z differs there. a.transfers u z there);
         moved = a.moved;
         command = a.command;
-        tells = other_added f.reports f.store [] (named_in f.endpoints) (named_in f.endpoints) k.held k.told e (named_of w) (named_of w)
+        tells = requests_add_no_stream f.reports f.store [] (named_in f.endpoints) (named_in f.endpoints) k.held k.told e (named_of w)
+            (named_of w)
             (record { name = x.desc.name; what = lines.Halt causes.Stall; from = length f.store; len = 0 }) (ap (option_map named_of) a.its)
             (record { here = ap (option_map named_of) a.its; beside = λ g differs. refl })
             (record { named = refl; none = ap (λ z. has_stream z.kind) a.desc ∙ silent; line_named = ap (λ z. z.name) (sym a.desc); tells = refl; from = refl; long = refl }) a.tells;
@@ -303,7 +304,7 @@ module _ (d : DriverContent) (m : Mem) (e t : ℕ) (x : Endpoint) (y : Transfer)
 
   active_row : Leaves founds.Active
   active_row = record {
-    stands = alike_told d (served d e) hand parts tells_of (record { reports = refl; store = refl; endpoints = refl; transfers = refl; notes = refl })
+    stands = alike_is_told d (served d e) hand parts tells_of (record { reports = refl; store = refl; endpoints = refl; transfers = refl; notes = refl })
         (λ v meets. record { linked = meets.linked; kept = meets.kept }) (λ v opens. opens) k;
     beside = λ g differs. refl;
   }
@@ -355,9 +356,9 @@ module _ (d : DriverContent) (m : Mem) (e t : ℕ) (x : Endpoint) (y : Transfer)
 
 -- ---- the row
 
-pub request_row_told : (p : Parts) (parts : StructureSets) (hand : Hand) (e t : ℕ) (found : Found) (tells_of : ℕ → List ℕ) → (due : IsHarvestDue p e t found) → HasOwners p.driver → AsynchronousTakesTurns p.driver
+pub other_harvest_is_told : (p : Parts) (parts : StructureSets) (hand : Hand) (e t : ℕ) (found : Found) (tells_of : ℕ → List ℕ) → (due : IsHarvestDue p e t found) → HasOwners p.driver → AsynchronousTakesTurns p.driver
     → due.endpoint.desc.kind ≡ kinds.Control → ToldStands p.driver hand parts tells_of → LeavesStreams p.driver (after_driver_row (rows.Harvest e t found) p).driver hand parts e tells_of
-request_row_told p parts hand e t found tells_of due owners turns control k =
+other_harvest_is_told p parts hand e t found tells_of due owners turns control k =
     subst (λ (f : DriverContent). LeavesStreams p.driver f hand parts e tells_of) (sym (after_is p e t found due))
     (subst (λ (b : Bool). LeavesStreams p.driver (if b then served (harvested_as p.driver p.memory e t due.endpoint due.transfer found) e else p.driver) hand parts e tells_of) (sym due.waits)
     (subst (λ (z : Found). LeavesStreams p.driver (served (harvested_as p.driver p.memory e t due.endpoint due.transfer z) e) hand parts e tells_of)

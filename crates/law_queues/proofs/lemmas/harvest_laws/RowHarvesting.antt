@@ -6,7 +6,7 @@ use Rattle.qh_qtd.specs.declared.token.Token.{Token}
 use Rattle.law_structures.specs.lent_structures.Structures.{StructureSets}
 use Rattle.law_ring.specs.Hand.{Hand}
 use Rattle.law_ring.specs.Order.{Accounts}
-use Rattle.law_driver_ring.proofs.lemmas.harvested_streams.Harvesting.{token_read}
+use Rattle.law_driver_ring.proofs.lemmas.harvested_streams.Harvesting.{token_is_read}
 use Rattle.claims_report.specs.Streams.{has_stream}
 use Rattle.drv_table.specs.declared.content.Endpoint.{Endpoint}
 use Rattle.drv_table.specs.declared.content.Transfer.{Transfer}
@@ -24,7 +24,7 @@ use Rattle.law_queues.specs.told_endpoints.Telling.{named_in, TellsEach}
 use Rattle.law_driver_ring.specs.told_harvests.Held.{IsDone, IsOneFrom, IsRead}
 use Rattle.law_driver_ring.specs.told_harvests.Passed.{HarvestsFirst}
 use Rattle.law_driver_ring.proofs.lemmas.told_harvests.Holding.{held_still}
-use Rattle.law_driver_ring.proofs.lemmas.told_harvests.Passing.{first_harvested}
+use Rattle.law_driver_ring.proofs.lemmas.told_harvests.Passing.{harvest_takes_first}
 use Rattle.law_queues.specs.harvest_laws.Holds.{IsNextOf, IsUnderWay, HoldsEach}
 use Rattle.law_queues.specs.harvest_laws.Harvest.{Harvests}
 use Rattle.law_queues.specs.harvest_laws.Row.{IsFoundDone, ReadsOn, goes_on, ends, HarvestTells}
@@ -108,8 +108,8 @@ harvest_is_told order place d m parts hand e t x y xs held told found n c holds 
 
     hf : HarvestsFirst order place (32 * y.place) (s.passed ++ (pieces_from (note_in d.notes) (note_at d.notes y.place).next (y.left - 1) ++ s.rest)) hand parts (32 * x.queue) xs
     hf =
-        first_harvested order place (32 * y.place) s.passed (pieces_from (note_in d.notes) (note_at d.notes y.place).next (y.left - 1) ++ s.rest) hand parts (32 * x.queue) xs reads.qtd reads.here
-        (ap (λ (z : Token). z.active) (sym (token_read m parts (32 * x.queue) y.place reads.qtd c.tells reads.here)) ∙ c.off) (λ p z among of_it. c.none p z (s.earlier p among) of_it) split
+        harvest_takes_first order place (32 * y.place) s.passed (pieces_from (note_in d.notes) (note_at d.notes y.place).next (y.left - 1) ++ s.rest) hand parts (32 * x.queue) xs reads.qtd reads.here
+        (ap (λ (z : Token). z.active) (sym (token_is_read m parts (32 * x.queue) y.place reads.qtd c.tells reads.here)) ∙ c.off) (λ p z among of_it. c.none p z (s.earlier p among) of_it) split
 
     f : IsFoundDone d m parts hand x y hf.bytes
     f = record { bulk = c.bulk; queued = c.queued; kept = n.kept; tells = c.tells; on = c.on; read = c.read; off = c.off; told = hf.told }
@@ -119,9 +119,9 @@ harvest_is_told order place d m parts hand e t x y xs held told found n c holds 
 
 -- ---- one that isn't done
 
-pub active_left : (d : DriverContent) (m : Mem) (e t : ℕ) (x : Endpoint) (y : Transfer) (found : Found) → IsReadNext d e t x y → is_descriptor y.sort ≡ false → (token_in m y.place).active ≡ true → found ≡ found_of d m y y.sort
+pub active_is_left : (d : DriverContent) (m : Mem) (e t : ℕ) (x : Endpoint) (y : Transfer) (found : Found) → IsReadNext d e t x y → is_descriptor y.sort ≡ false → (token_in m y.place).active ≡ true → found ≡ found_of d m y y.sort
     → after_harvest d m e t found (Some x) (Some y) ≡ served d e
-active_left d m e t x y found n queued on is =
+active_is_left d m e t x y found n queued on is =
     let own = n.waits e t x y n.next in
     let waits : waits_for e y ≡ true = ap (λ (b : Bool). b && not y.reported) (eq-eqb y.endpoint e own.0) ∙ ap (λ (b : Bool). true && not b) own.1 in
     let active : found ≡ founds.Active = is ∙ found_by d m y y.sort queued ∙ ap (λ (b : Bool). if b then founds.Active else if (token_in m y.place).halted then founds.Ended (moved_of (note_at d.notes y.place).told (token_in m y.place).total) (halt_of (token_in m y.place)) else done_of (ends_by y.sort (nat_le y.left 1) (token_in m y.place).total) (moved_of (note_at d.notes y.place).told (token_in m y.place).total)) on in

@@ -34,15 +34,15 @@ use Rattle.law_driver.specs.chained_transfers.Turns.{IsAtPlace}
 use Rattle.law_driver.proofs.lemmas.chained_transfers.Ways.{found_by}
 use Rattle.law_queues.specs.told_endpoints.Telling.{named_of, named_in, TellsEach}
 use Rattle.law_queues.specs.told_endpoints.Steps.{Grows, Clears, NamesAt}
-use Rattle.law_queues.proofs.lemmas.told_endpoints.Tellings.{held_added, line_added}
+use Rattle.law_queues.proofs.lemmas.told_endpoints.Tellings.{adds_held, adds_bytes}
 use Rattle.law_driver_ring.specs.told_harvests.Held.{IsDone, IsRead, NotesMoved}
-use Rattle.law_driver_ring.proofs.lemmas.told_harvests.Noting.{found_done, is_noted}
+use Rattle.law_driver_ring.proofs.lemmas.told_harvests.Noting.{found_is_done, found_is_noted}
 use Rattle.law_driver_ring.proofs.lemmas.told_harvests.Reading.{report_read}
 use Rattle.law_queues.specs.harvest_laws.Holds.{HoldsEach}
 use Rattle.law_queues.specs.harvest_laws.Harvest.{Harvests}
 use Rattle.law_queues.specs.harvest_laws.Row.{IsFoundDone, goes_on, ends, HadQueue, HarvestTells}
 use Rattle.law_queues.proofs.lemmas.harvest_laws.Places.{runs_noted, told_noted, read_noted, read_fewer, read_at}
-use Rattle.law_queues.proofs.lemmas.harvest_laws.Holding.{holds_same, moved_holds, ended_holds, done_more, rest_less}
+use Rattle.law_queues.proofs.lemmas.harvest_laws.Holding.{holds_the_same, moved_holds, ended_holds, done_more, rest_less}
 
 -- ---- the next one that waits
 
@@ -113,10 +113,10 @@ module _ (d : DriverContent) (m : Mem) (parts : StructureSets) (hand : Hand) (e 
       subst (λ (b : ℕ). IsRead (parts (32 * x.queue)) (note_at d.notes b) b) (sym at.place) (read_at (parts (32 * x.queue)) d.notes y.first (y.qtds - y.left) y.qtds (omega (arith, some, most)) f.read)
 
   it_done : IsDone hand parts (32 * x.queue) y.place count bytes
-  it_done = found_done m parts hand (32 * x.queue) y.place bytes (note_at d.notes y.place) f.tells f.on it_reads f.off f.told
+  it_done = found_is_done m parts hand (32 * x.queue) y.place bytes (note_at d.notes y.place) f.tells f.on it_reads f.off f.told
 
   it_noted : NotesMoved (note_at d.notes) (note_at notes_now) y.place count
-  it_noted = is_noted d.notes y.place (token_in m y.place).total
+  it_noted = found_is_noted d.notes y.place (token_in m y.place).total
 
   notes_same : (c : ℕ) → note_in notes_now c ≡ note_in d.notes c
   notes_same c = runs_noted d.notes notes_now y.place count it_noted c
@@ -126,10 +126,10 @@ module _ (d : DriverContent) (m : Mem) (parts : StructureSets) (hand : Hand) (e 
   moved_row : 2 ≤ y.left → HarvestTells d (served (moved_on d t y count) e) hand parts e t y bytes held told
   moved_row more = record {
     later = λ g. if g == e then held g ++ bytes else held g;
-    holds = holds_same _ (served (moved_on d t y count) e) hand parts (λ g. if g == e then held g ++ bytes else held g) refl refl refl
+    holds = holds_the_same _ (served (moved_on d t y count) e) hand parts (λ g. if g == e then held g ++ bytes else held g) refl refl refl
         (moved_holds d e t x y h count bytes hand parts held holds it_done notes_now it_noted (λ g. if g == e then held g ++ bytes else held g) more (grown_at e bytes held));
     tells = λ now grows.
-        held_added d.reports d.store (named_in d.endpoints) held (λ g. if g == e then held g ++ bytes else held g) told now e (named_of x) bytes (ap (option_map named_of) h.next.endpoint) h.next.going (grown_at e bytes held) grows tells;
+        adds_held d.reports d.store (named_in d.endpoints) held (λ g. if g == e then held g ++ bytes else held g) told now e (named_of x) bytes (ap (option_map named_of) h.next.endpoint) h.next.going (grown_at e bytes held) grows tells;
     transfer = record y { place = (note_at d.notes y.place).next; left = y.left - 1 };
     reads = goes_on;
     transfers = refl;
@@ -170,13 +170,13 @@ module _ (d : DriverContent) (m : Mem) (parts : StructureSets) (hand : Hand) (e 
       → HarvestTells d new hand parts e t y bytes held told
   ended_row what w new r same queue gone tells_it goes waits_next = record {
     later = λ g. if g == e then [] else held g;
-    holds = holds_same _ new hand parts (λ g. if g == e then [] else held g) r.endpoints r.transfers r.notes
+    holds = holds_the_same _ new hand parts (λ g. if g == e then [] else held g) r.endpoints r.transfers r.notes
         (ended_holds d e t x y h count bytes hand parts held holds it_done notes_now it_noted w (λ g. if g == e then [] else held g) (cleared_at e held) waits_next);
     tells = λ now grows.
         subst (λ (xs : List Endpoint). TellsEach new.reports new.store (named_in xs) (λ g. if g == e then [] else held g) now) (sym r.endpoints)
         (subst (λ (ls : List Report). TellsEach ls new.store (named_in (slice_set d.endpoints e w)) (λ g. if g == e then [] else held g) now) (sym r.reports)
         (subst (λ (bs : List ℕ). TellsEach (d.reports ++ (record { name = x.desc.name; what = what; from = length d.store; len = length report_now }) ∷ []) bs (named_in (slice_set d.endpoints e w)) (λ g. if g == e then [] else held g) now) (sym r.store)
-        (line_added d.reports d.store report_now bytes (named_in d.endpoints) (named_in (slice_set d.endpoints e w)) held (λ g. if g == e then [] else held g) told now e (named_of x) (named_of w)
+        (adds_bytes d.reports d.store report_now bytes (named_in d.endpoints) (named_in (slice_set d.endpoints e w)) held (λ g. if g == e then [] else held g) told now e (named_of x) (named_of w)
         (record { name = x.desc.name; what = what; from = length d.store; len = length report_now }) (ap (option_map named_of) h.next.endpoint) (names_at d.endpoints e x w h.next.endpoint)
         (record { going = h.next.going; named = ap (λ z. z.name) same; alike = ap (λ z. has_stream z.kind) same; line_named = refl; tells = tells_it; goes_on = goes; from = refl; long = refl; bytes_are = report_is }) (cleared_at e held) grows tells)));
     transfer = record y { reported = true };

@@ -20,12 +20,12 @@ use Rattle.drv_table.specs.declared.content.Reserve.{Reserve}
 use Rattle.drv_table.specs.DriverContent.{DriverContent}
 use Rattle.drv_table.specs.Opening.{opening}
 use Rattle.law_queues.specs.told_endpoints.Telling.{named_in, TellsEach}
-use Rattle.law_queues.proofs.lemmas.told_endpoints.Tellings.{refusal_added}
+use Rattle.law_queues.proofs.lemmas.told_endpoints.Tellings.{adds_refusal}
 use Rattle.drv_table.specs.Harvests.{note_at}
 use Rattle.law_driver_ring.specs.told_harvests.Held.{IsDone, IsOneFrom}
-use Rattle.law_driver_ring.proofs.lemmas.told_harvests.Keeping.{done_kept, done_spared}
+use Rattle.law_driver_ring.proofs.lemmas.told_harvests.Keeping.{events_keep_what_is_done, spared_is_done}
 use Rattle.law_queues.specs.harvest_laws.Holds.{IsNextOf}
-use Rattle.law_queues.proofs.lemmas.harvest_laws.Holding.{holds_same}
+use Rattle.law_queues.proofs.lemmas.harvest_laws.Holding.{holds_the_same}
 use Rattle.law_queues.proofs.lemmas.harvest_laws.RowHarvesting.{holds_still}
 use Rattle.law_queues.proofs.lemmas.harvest_laws.Begun.{opening_holds, opening_tells}
 use Rattle.law_queues.specs.harvest_laws.HeldLaws.{AreThere}
@@ -39,8 +39,8 @@ nothing_at : {X : Type 0} (i : ℕ) (z : X) → slice_get [] i ≡ Some z → �
 nothing_at zero z is = cc
 nothing_at (suc i) z is = cc
 
-pub new_told : (n : ℕ) (room : Reserve) (hand : Hand) (parts : StructureSets) (reported : ℕ → List ℕ) → ToldStands (opening n room).driver hand parts reported
-new_told n room hand parts reported = record {
+pub new_is_told : (n : ℕ) (room : Reserve) (hand : Hand) (parts : StructureSets) (reported : ℕ → List ℕ) → ToldStands (opening n room).driver hand parts reported
+new_is_told n room hand parts reported = record {
   held = λ e. [];
   told = λ e. [];
   holds = opening_holds n room hand parts;
@@ -63,10 +63,10 @@ still_told d hand later parts now reported still k = record {
   opening = k.opening;
 }
 
-pub spared_told : (d : DriverContent) (hand later : Hand) (parts now : StructureSets) (reported : ℕ → List ℕ) → SameHand hand later → SparesDone d parts now → ToldStands d hand parts reported → ToldStands d later now reported
-spared_told d hand later parts now reported same spares k =
+pub spared_is_told : (d : DriverContent) (hand later : Hand) (parts now : StructureSets) (reported : ℕ → List ℕ) → SameHand hand later → SparesDone d parts now → ToldStands d hand parts reported → ToldStands d later now reported
+spared_is_told d hand later parts now reported same spares k =
     still_told d hand later parts now reported
-    (λ e t x y a i z is on one done. done_spared hand later parts now (32 * x.queue) a i z same (spares.heads e x is.endpoint on) (spares.done e t x y a is on one) done) k
+    (λ e t x y a i z is on one done. spared_is_done hand later parts now (32 * x.queue) a i z same (spares.heads e x is.endpoint on) (spares.done e t x y a is on one) done) k
 
 module _ {W : Type 0} (begins : W → ℕ → Bool → W → Type 0) (transacts : W → Ask → List ℕ → Reply → W → Type 0) (base : Base) (member : ℕ → Bool) (parts : StructureSets) (hand : Hand) (c : Content) (wire after : W) (now : StructureSets) (later : Hand) (d : DriverContent) (reported : ℕ → List ℕ) where
   pub beside_told : IsControlled base member parts hand c → ControlEffect begins transacts parts hand wire after now later → KeepsEach parts now → ToldStands d hand parts reported → ToldStands d later now reported
@@ -75,7 +75,7 @@ module _ {W : Type 0} (begins : W → ℕ → Bool → W → Type 0) (transacts 
   beside_told controlled (a_step s) keeps k =
       still_told d hand later parts now reported
       (λ e t x y a i z is on one done.
-      done_kept transacts parts hand wire after now later (32 * x.queue) a i z (λ b t there off. (keeps (32 * x.queue)).idle b t there off) s.streams done) k
+      events_keep_what_is_done transacts parts hand wire after now later (32 * x.queue) a i z (λ b t there off. (keeps (32 * x.queue)).idle b t there off) s.streams done) k
 
 -- ---- content
 
@@ -85,12 +85,12 @@ tells_alike d new held told reports store ends k =
     subst (λ (xs : List Endpoint). TellsEach new.reports new.store (named_in xs) held told) (sym ends)
     (subst (λ (ls : List Report). TellsEach ls new.store (named_in d.endpoints) held told) (sym reports) (subst (λ (bs : List ℕ). TellsEach d.reports bs (named_in d.endpoints) held told) (sym store) k))
 
-pub alike_told : (d new : DriverContent) (hand : Hand) (parts : StructureSets) (reported : ℕ → List ℕ) → IsAlike d new → ((x : Endpoint) → IsThere new x → IsThere d x)
+pub alike_is_told : (d new : DriverContent) (hand : Hand) (parts : StructureSets) (reported : ℕ → List ℕ) → IsAlike d new → ((x : Endpoint) → IsThere new x → IsThere d x)
     → ((x : Endpoint) → new.command ≡ Some (unfinished.Open x.queue) → d.command ≡ Some (unfinished.Open x.queue)) → ToldStands d hand parts reported → ToldStands new hand parts reported
-alike_told d new hand parts reported a met opens k = record {
+alike_is_told d new hand parts reported a met opens k = record {
   held = k.held;
   told = k.told;
-  holds = holds_same d new hand parts k.held a.endpoints a.transfers a.notes k.holds;
+  holds = holds_the_same d new hand parts k.held a.endpoints a.transfers a.notes k.holds;
   tells = tells_alike d new k.held k.told a.reports a.store a.endpoints k.tells;
   met = λ e x here meets. k.met e x (ap (λ (xs : List Endpoint). slice_get xs e) (sym a.endpoints) ∙ here) (met x meets);
   opening = λ e x here kept is. k.opening e x (ap (λ (xs : List Endpoint). slice_get xs e) (sym a.endpoints) ∙ here) kept (opens x is);
@@ -104,12 +104,12 @@ same_queue : (b c : ℕ) → Some (unfinished.Open b) ≡ Some (unfinished.Open 
 unfolding queue_in
 same_queue b c is = ap queue_in is
 
-pub met_told : (d new : DriverContent) (hand : Hand) (parts : StructureSets) (reported now : ℕ → List ℕ) (b : ℕ) → IsAlike d new → d.command ≡ Some (unfinished.Open b) → new.command ≡ None
+pub met_is_told : (d new : DriverContent) (hand : Hand) (parts : StructureSets) (reported now : ℕ → List ℕ) (b : ℕ) → IsAlike d new → d.command ≡ Some (unfinished.Open b) → new.command ≡ None
     → now (32 * b) ≡ [] → ((k : ℕ) → k ≢ 32 * b → now k ≡ reported k) → ToldStands d hand parts reported → ToldStands new hand parts now
-met_told d new hand parts reported now b a opens done here beside k = record {
+met_is_told d new hand parts reported now b a opens done here beside k = record {
   held = k.held;
   told = k.told;
-  holds = holds_same d new hand parts k.held a.endpoints a.transfers a.notes k.holds;
+  holds = holds_the_same d new hand parts k.held a.endpoints a.transfers a.notes k.holds;
   tells = tells_alike d new k.held k.told a.reports a.store a.endpoints k.tells;
   met = λ e x at meets.
       let there : slice_get d.endpoints e ≡ Some x = ap (λ (xs : List Endpoint). slice_get xs e) (sym a.endpoints) ∙ at in
@@ -121,24 +121,24 @@ met_told d new hand parts reported now b a opens done here beside k = record {
     no_open : (c : ℕ) → None ≡ Some (unfinished.Open c) → ⊥
     no_open c is = cc
 
-pub refused_told : (d new : DriverContent) (hand : Hand) (parts : StructureSets) (reported : ℕ → List ℕ) (line : Report) → is_refusal line.what ≡ true → line.from ≡ length d.store → line.len ≡ 0
+pub refused_is_told : (d new : DriverContent) (hand : Hand) (parts : StructureSets) (reported : ℕ → List ℕ) (line : Report) → is_refusal line.what ≡ true → line.from ≡ length d.store → line.len ≡ 0
     → new.reports ≡ d.reports ++ line ∷ [] → new.store ≡ d.store → new.endpoints ≡ d.endpoints → new.transfers ≡ d.transfers → new.notes ≡ d.notes → new.command ≡ d.command
     → ToldStands d hand parts reported → ToldStands new hand parts reported
-refused_told d new hand parts reported line refusal from none reports store ends transfers notes command k = record {
+refused_is_told d new hand parts reported line refusal from none reports store ends transfers notes command k = record {
   held = k.held;
   told = k.told;
-  holds = holds_same d new hand parts k.held ends transfers notes k.holds;
+  holds = holds_the_same d new hand parts k.held ends transfers notes k.holds;
   tells = subst (λ (xs : List Endpoint). TellsEach new.reports new.store (named_in xs) k.held k.told) (sym ends)
       (subst (λ (ls : List Report). TellsEach ls new.store (named_in d.endpoints) k.held k.told) (sym reports)
-      (subst (λ (bs : List ℕ). TellsEach (d.reports ++ line ∷ []) bs (named_in d.endpoints) k.held k.told) (sym store) (refusal_added d.reports d.store (named_in d.endpoints) k.held k.told line refusal from none k.tells)));
+      (subst (λ (bs : List ℕ). TellsEach (d.reports ++ line ∷ []) bs (named_in d.endpoints) k.held k.told) (sym store) (adds_refusal d.reports d.store (named_in d.endpoints) k.held k.told line refusal from none k.tells)));
   met = λ e x here meets. k.met e x (ap (λ (xs : List Endpoint). slice_get xs e) (sym ends) ∙ here) (record { linked = λ is. meets.linked (command ∙ is); kept = meets.kept });
   opening = λ e x here kept is. k.opening e x (ap (λ (xs : List Endpoint). slice_get xs e) (sym ends) ∙ here) kept (sym command ∙ is);
 }
 
-pub returned_told : (d new : DriverContent) (t : ℕ) (y : Transfer) (hand : Hand) (parts : StructureSets) (reported : ℕ → List ℕ) → slice_get d.transfers t ≡ Some y → y.reported ≡ true → AreThere d
+pub returned_is_told : (d new : DriverContent) (t : ℕ) (y : Transfer) (hand : Hand) (parts : StructureSets) (reported : ℕ → List ℕ) → slice_get d.transfers t ≡ Some y → y.reported ≡ true → AreThere d
     → new.reports ≡ d.reports → new.store ≡ d.store → new.endpoints ≡ d.endpoints → new.transfers ≡ slice_set d.transfers t (record y { released = true }) → new.notes ≡ d.notes → new.command ≡ d.command
     → ToldStands d hand parts reported → ToldStands new hand parts reported
-returned_told d new t y hand parts reported here told there reports store ends transfers notes command k = record {
+returned_is_told d new t y hand parts reported here told there reports store ends transfers notes command k = record {
   held = k.held;
   told = k.told;
   holds = return_holds d new t y hand parts k.held here told there ends transfers notes k.holds;

@@ -22,11 +22,11 @@ use Rattle.law_queues.specs.harvest_laws.Told.{ToldStands}
 use Rattle.law_queues.specs.harvest_laws.ToldLaws.{HarvestReports}
 use Rattle.law_driver_ring.specs.fed_queues.Places.{IsThere}
 
-pub harvested_told : (order : ℕ → ℕ) (d : DriverContent) (m : Mem) (parts : StructureSets) (hand : Hand) (e t : ℕ) (x : Endpoint) (y : Transfer) (found : Found) (acc : List (List ℕ)) (reported : ℕ → List ℕ)
+pub harvested_is_told : (order : ℕ → ℕ) (d : DriverContent) (m : Mem) (parts : StructureSets) (hand : Hand) (e t : ℕ) (x : Endpoint) (y : Transfer) (found : Found) (acc : List (List ℕ)) (reported : ℕ → List ℕ)
     → IsReadNext d e t x y → CanBeRead d m parts hand e t x y → ((k : ℕ) (z : Endpoint) → slice_get d.endpoints k ≡ Some z → z.gone ≡ false → z.queue ≡ x.queue → k ≡ e)
     → found ≡ found_of d m y y.sort → ToldStands d hand parts reported → IsReported order (out_now d e) hand parts (32 * x.queue) acc (reported (32 * x.queue))
     → HarvestReports order d (after_harvest d m e t found (Some x) (Some y)) hand parts e x acc reported
-harvested_told order d m parts hand e t x y found acc reported n c alone is k r = record {
+harvested_is_told order d m parts hand e t x y found acc reported n c alone is k r = record {
   bytes = h.bytes;
   stands = λ now here beside. record {
     held = h.tells.later;

@@ -25,12 +25,12 @@ use Rattle.law_driver.specs.chained_transfers.AsynchronousTurns.{AsynchronousTak
 use Rattle.law_driver.proofs.lemmas.chained_transfers.BulkAndControl.{not_iso}
 use Rattle.law_driver.specs.chained_transfers.Turns.{IsAtPlace}
 use Rattle.claims_driver.specs.LentRuns.{AreLent, IsLent as IsLentSlot}
-use Rattle.law_driver.proofs.lemmas.lent_runs.Laws.{idle_lent}
+use Rattle.law_driver.proofs.lemmas.lent_runs.Laws.{all_are_lent_between_commands}
 use Rattle.law_structures.specs.lent_structures.Structures.{QueueHead, Element, Structures, StructureSets}
 use Rattle.law_structures.specs.lent_structures.Sound.{IsElement, LeadsOn, IsSoundQueue}
 use Rattle.law_structures.proofs.lemmas.lent_structures.Altering.{found_element, found_queue}
 use Rattle.law_frames.specs.Met.{IsQueuePart}
-use Rattle.law_frames.proofs.Queues.{linked_part}
+use Rattle.law_frames.proofs.Queues.{a_members_part_is_linked}
 use Rattle.law_driver_ring.specs.Inventory.{IsLent}
 use Rattle.law_ring.specs.Order.{IsAmong}
 use Rattle.law_ring.specs.Front.{own_pointer, IsFront, IsBehind, HasFront, LinksWithin}
@@ -73,7 +73,7 @@ module _ (d : DriverContent) (parts : StructureSets) (order : ℕ → ℕ → �
   dummy_lent =
       let s = turns.asynchronous.endpoints e x here in
       lent_slot (slot_of d.book.slots x.dummy)
-      (idle_lent d x.dummy idle lent
+      (all_are_lent_between_commands d x.dummy idle lent
       (placed_run x.dummy (Dummy e) (owners.owned.each.dummy e (runs_of_endpoint x) (ap (option_map runs_of_endpoint) here) (ap (λ (k : Bool). k || x.gone) (not_iso x.desc s.asynchronous) ∙ meets.there.kept))))
 
   there : part c ≡ Some (Element dummy_qtd)
@@ -193,4 +193,4 @@ sound_queues_reach d parts order out idle owners lent turns fed last still front
 
 pub idle_queues_reach : IdleQueuesReach
 idle_queues_reach member d parts order out idle owners lent turns fed last still fronts e x here meets on =
-    sound_queues_reach d parts order out idle owners lent turns fed last still fronts e x here meets (linked_part member (32 * x.queue) (parts (32 * x.queue)) on).part_is
+    sound_queues_reach d parts order out idle owners lent turns fed last still fronts e x here meets (a_members_part_is_linked member (32 * x.queue) (parts (32 * x.queue)) on).part_is

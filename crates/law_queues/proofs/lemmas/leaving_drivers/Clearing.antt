@@ -13,7 +13,7 @@ use Rattle.drv_table.specs.Harvesting.{found_of, next_worker, reading_row, trans
 use Rattle.drv_table.specs.Leaving.{first_row, leaving_row}
 use Rattle.drv_table.specs.Rows.{turn_row, row_for, driver_row}
 use Rattle.law_driver.specs.run_owners.Due.{IsDue}
-use Rattle.law_driver.proofs.lemmas.run_owners.Reasons.{each_is_due}
+use Rattle.law_driver.proofs.lemmas.run_owners.Reasons.{each_event_is_due}
 use Rattle.law_queues.specs.leaving_drivers.Owed.{IsClearing}
 
 -- ---- what comes before a clear
@@ -74,7 +74,7 @@ clear_next p idle is =
 
 pub clear_finds : (p : Parts) → driver_row p ≡ rows.ClearAdvance → IsClearing p.driver
 clear_finds p is =
-    let due : IsDue p rows.ClearAdvance = subst (IsDue p) is (each_is_due p) in
+    let due : IsDue p rows.ClearAdvance = subst (IsDue p) is (each_event_is_due p) in
     let for_none : row_for p None ≡ rows.ClearAdvance = ap (row_for p) (sym due.0) ∙ is in
     let n = clear_next p due.0 (turn_clears p.driver.turn (leaving_row p.driver p.registers) (harvest_row p.driver p.memory) (harvest_other p) for_none) in
     record { idle = due.0; heard = due.1; none_harvested = n.0; none_cleared = n.1 }

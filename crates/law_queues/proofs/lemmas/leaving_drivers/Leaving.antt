@@ -120,8 +120,8 @@ cancelled_end x s fresh kept = by x.ended refl
             off true on = absurd (never on)
             off false none = none
 
-pub cancel_as_before : (d : DriverContent) (m : Mem) (o : Offered) → AsynchronousTakesTurns d → Cancels d m o → IsAsBefore d o.driver × NearSame d o.driver
-cancel_as_before d m o turns why = subst (λ (g : Offered). IsAsBefore d g.driver × NearSame d g.driver) (sym why.is) (before, near)
+pub cancel_is_as_before : (d : DriverContent) (m : Mem) (o : Offered) → AsynchronousTakesTurns d → Cancels d m o → IsAsBefore d o.driver × NearSame d o.driver
+cancel_is_as_before d m o turns why = subst (λ (g : Offered). IsAsBefore d g.driver × NearSame d g.driver) (sym why.is) (before, near)
   where
     e : ℕ
     e = why.number
@@ -233,9 +233,9 @@ advanced_as_before d e b link is = by (nat_lt (suc d.made) 1)
     by true = (more, near_by d (record d { made = suc d.made }) refl (λ k x. refl))
     by false = unlinked_either (λ (f : DriverContent). IsAsBefore d f × NearSame d f) d e (slice_get d.endpoints e) refl (none, near_by d (no_command d) refl (λ k x. refl)) gone
 
-pub unlink_as_before : (p : Parts) (e b link c at v : ℕ) → p.driver.command ≡ Some (unfinished.Unlink e b link)
+pub unlink_is_as_before : (p : Parts) (e b link c at v : ℕ) → p.driver.command ≡ Some (unfinished.Unlink e b link)
     → IsAsBefore p.driver (after_driver_row (rows.Store c at v) p).driver × NearSame p.driver (after_driver_row (rows.Store c at v) p).driver
-unlink_as_before p e b link c at v is =
+unlink_is_as_before p e b link c at v is =
     subst (λ (o : Option Command). IsAsBefore p.driver (advanced_by p.driver o) × NearSame p.driver (advanced_by p.driver o)) (sym is) (advanced_as_before p.driver e b link is)
 
 -- ---- the doorbell
@@ -246,8 +246,8 @@ or_swap true false = refl
 or_swap false true = refl
 or_swap false false = refl
 
-pub bell_as_before : (p : Parts) → p.driver.command ≡ None → IsAsBefore p.driver (after_driver_row rows.RingBell p).driver × NearSame p.driver (after_driver_row rows.RingBell p).driver
-bell_as_before p idle =
+pub bell_is_as_before : (p : Parts) → p.driver.command ≡ None → IsAsBefore p.driver (after_driver_row rows.RingBell p).driver × NearSame p.driver (after_driver_row rows.RingBell p).driver
+bell_is_as_before p idle =
     let d = p.driver in
     let f = (after_driver_row rows.RingBell p).driver in
     let none = unlinks_by d None idle tt in (
@@ -267,9 +267,9 @@ bell_as_before p idle =
           ap (λ (b : Bool). x.linked || b) (one_of_joined k d.rung d.waiting ∙ or_swap (is_one_of k d.rung) (is_one_of k d.waiting))),
     )
 
-pub status_as_before : (p : Parts) (heard : Bool) → p.driver.command ≡ None
+pub status_is_as_before : (p : Parts) (heard : Bool) → p.driver.command ≡ None
     → IsAsBefore p.driver (after_driver_row (rows.ReadStatus heard) p).driver × NearSame p.driver (after_driver_row (rows.ReadStatus heard) p).driver
-status_as_before p heard idle =
+status_is_as_before p heard idle =
     let d = p.driver in
     let f = (after_driver_row (rows.ReadStatus heard) p).driver in
     let none = unlinks_by d None idle tt in (
@@ -288,9 +288,9 @@ status_as_before p heard idle =
       near_by d f refl (λ k x. refl),
     )
 
-pub frame_as_before : (p : Parts) (n : ℕ) → p.driver.command ≡ None
+pub frame_is_as_before : (p : Parts) (n : ℕ) → p.driver.command ≡ None
     → IsAsBefore p.driver (after_driver_row (rows.ReadFrame n) p).driver × NearSame p.driver (after_driver_row (rows.ReadFrame n) p).driver
-frame_as_before p n idle =
+frame_is_as_before p n idle =
     let d = p.driver in
     let f = (after_driver_row (rows.ReadFrame n) p).driver in
     let none = unlinks_by d None idle tt in (
@@ -316,8 +316,8 @@ less_met true w r on = refl
 less_met false true r on = refl
 less_met false false r on = absurd (false≢true on)
 
-pub clear_as_before : (p : Parts) → p.driver.command ≡ None → IsAsBefore p.driver (after_driver_row rows.ClearAdvance p).driver × NearFewer p.driver (after_driver_row rows.ClearAdvance p).driver
-clear_as_before p idle =
+pub clear_is_as_before : (p : Parts) → p.driver.command ≡ None → IsAsBefore p.driver (after_driver_row rows.ClearAdvance p).driver × NearFewer p.driver (after_driver_row rows.ClearAdvance p).driver
+clear_is_as_before p idle =
     let d = p.driver in
     let f = (after_driver_row rows.ClearAdvance p).driver in
     let none = unlinks_by d None idle tt in (

@@ -29,19 +29,19 @@ use Rattle.law_driver.proofs.lemmas.endpoint_lives.Lives.{one_of_joined, one_of_
 use Rattle.law_driver.specs.run_owners.Due.{IsDue, IsHarvestDue}
 use Rattle.claims_driver.specs.Leaving.{IsOrderly, HasOwners}
 use Rattle.law_driver.proofs.lemmas.run_owners.Orders.{owed}
-use Rattle.law_driver.proofs.lemmas.run_owners.Reasons.{each_is_due}
+use Rattle.law_driver.proofs.lemmas.run_owners.Reasons.{each_event_is_due}
 use Rattle.law_driver.specs.run_owners.Accepts.{Opens, Transfers}
 use Rattle.claims_driver.specs.Scripts.{OpensAsynchronous}
 use Rattle.law_driver.specs.chained_transfers.Asynchronous.{OnlyAsynchronous, AcceptsAsynchronous}
 use Rattle.law_driver.specs.chained_transfers.AsynchronousTurns.{AsynchronousTakesTurns}
 use Rattle.law_driver.specs.chained_transfers.Turns.{IsInList}
-use Rattle.law_driver.proofs.lemmas.chained_transfers.Accepting.{command_accepts}
+use Rattle.law_driver.proofs.lemmas.chained_transfers.Accepting.{asynchronous_command_is_accepted}
 use Rattle.law_driver.proofs.lemmas.chained_transfers.Rows.{left, advanced_or_left, set_which}
 use Rattle.law_driver.proofs.lemmas.chained_transfers.Staying.{stands_linked}
 use Rattle.law_queues.specs.leaving_drivers.Before.{IsAsBefore, NearSame}
 use Rattle.law_queues.specs.leaving_drivers.Owed.{AreOwedMet, IsClearing}
 use Rattle.law_queues.proofs.lemmas.leaving_drivers.Clearing.{clear_finds}
-use Rattle.law_queues.proofs.lemmas.leaving_drivers.Leaving.{cancel_as_before, bell_as_before, status_as_before, frame_as_before}
+use Rattle.law_queues.proofs.lemmas.leaving_drivers.Leaving.{cancel_is_as_before, bell_is_as_before, status_is_as_before, frame_is_as_before}
 use Rattle.law_queues.proofs.lemmas.leaving_drivers.Reading.{IsTransferOf, read_row}
 use Rattle.law_queues.proofs.lemmas.leaving_drivers.Unmet.{times_of}
 use Rattle.law_queues.proofs.lemmas.leaving_drivers.Never.{IsAsynchronousRow, asynchronous_row}
@@ -199,18 +199,19 @@ due_owed (rows.ReleaseTransfer t) p due is clears only old =
 due_owed (rows.ReleaseEndpoint e) p due is clears only old =
     owed_none (after_driver_row (rows.ReleaseEndpoint e) p).driver (let_go_harvested p e (slice_get p.driver.endpoints e) ∙ none_first p.driver.harvested due.none_before)
 due_owed rows.ClearAdvance p due is clears only old = owed_none (after_driver_row rows.ClearAdvance p).driver (clears refl).none_harvested
-due_owed rows.RingBell p due is clears only old = let b = bell_as_before p due.0 in owed_before p.driver (after_driver_row rows.RingBell p).driver b.0 b.1 old
+due_owed rows.RingBell p due is clears only old = let b = bell_is_as_before p due.0 in owed_before p.driver (after_driver_row rows.RingBell p).driver b.0 b.1 old
 due_owed (rows.ReadStatus heard) p due is clears only old =
-    let b = status_as_before p heard due.0 in owed_before p.driver (after_driver_row (rows.ReadStatus heard) p).driver b.0 b.1 old
+    let b = status_is_as_before p heard due.0 in owed_before p.driver (after_driver_row (rows.ReadStatus heard) p).driver b.0 b.1 old
 due_owed (rows.ReadFrame n) p due is clears only old =
-    let b = frame_as_before p n due.0 in owed_before p.driver (after_driver_row (rows.ReadFrame n) p).driver b.0 b.1 old
+    let b = frame_is_as_before p n due.0 in owed_before p.driver (after_driver_row (rows.ReadFrame n) p).driver b.0 b.1 old
 due_owed (rows.Harvest e t found) p due is clears only old = harvest_owed p e t found due only old
 due_owed rows.Rest p due is clears only old = old
 due_owed _ p due is clears only old = absurd is
 
-pub event_owed : (p : Parts) → AsynchronousTakesTurns p.driver → AreOwedMet p.driver → AreOwedMet (after_driver_row (driver_row p) p).driver
-event_owed p turns old =
-    let due = each_is_due p in
+pub events_owe_met : (p : Parts) → AsynchronousTakesTurns p.driver → AreOwedMet p.driver
+    → AreOwedMet (after_driver_row (driver_row p) p).driver
+events_owe_met p turns old =
+    let due = each_event_is_due p in
     due_owed (driver_row p) p due (asynchronous_row p (driver_row p) turns.asynchronous due) (λ is. clear_finds p is) turns.asynchronous old
 
 -- ---- an accepted command
@@ -286,11 +287,11 @@ owed_as d m o (commands.OpenEp x) order why turns old = open_owed d m o order wh
 owed_as d m o (commands.Get name len by) order why turns old = asked_owed d m o order why.transfers old
 owed_as d m o (commands.Put name bytes by) order why turns old = asked_owed d m o order why.transfers old
 owed_as d m o (commands.Control name setup bytes) order why turns old = asked_owed d m o order why.transfers old
-owed_as d m o (commands.Cancel name) order why turns old = let b = cancel_as_before d m o turns why in owed_before d o.driver b.0 b.1 old
+owed_as d m o (commands.Cancel name) order why turns old = let b = cancel_is_as_before d m o turns why in owed_before d o.driver b.0 b.1 old
 owed_as d m o _ order why turns old = absurd why
 
-pub command_owed : (d : DriverContent) (m : Mem) (cmd : Cmd) (o : Offered) → HasOwners d → AsynchronousTakesTurns d → OpensAsynchronous cmd → offered d m cmd ≡ Ok o → AreOwedMet d → AreOwedMet o.driver
-command_owed d m cmd o owners turns only is old = owed_as d m o cmd owners.orderly (command_accepts d m cmd o turns.asynchronous only is) turns old
+pub commands_owe_met : (d : DriverContent) (m : Mem) (cmd : Cmd) (o : Offered) → HasOwners d → AsynchronousTakesTurns d → OpensAsynchronous cmd → offered d m cmd ≡ Ok o → AreOwedMet d → AreOwedMet o.driver
+commands_owe_met d m cmd o owners turns only is old = owed_as d m o cmd owners.orderly (asynchronous_command_is_accepted d m cmd o turns.asynchronous only is) turns old
 
-pub new_owed : (n : ℕ) (room : Reserve) → AreOwedMet (opening n room).driver
-new_owed n room = owed_none (opening n room).driver refl
+pub new_driver_owes_met : (n : ℕ) (room : Reserve) → AreOwedMet (opening n room).driver
+new_driver_owes_met n room = owed_none (opening n room).driver refl

@@ -36,18 +36,18 @@ use Rattle.law_driver.specs.run_owners.Due.{IsDue, IsHarvestDue}
 use Rattle.claims_driver.specs.Leaving.{HasOwners, IsOrderly}
 use Rattle.law_driver.proofs.lemmas.run_owners.Leaves.{first_left}
 use Rattle.law_driver.proofs.lemmas.run_owners.Orders.{IsLeft}
-use Rattle.law_driver.proofs.lemmas.run_owners.Reasons.{each_is_due}
+use Rattle.law_driver.proofs.lemmas.run_owners.Reasons.{each_event_is_due}
 use Rattle.law_driver.proofs.lemmas.run_owners.Released.{set_here, set_there}
 use Rattle.law_driver.specs.run_owners.Accepts.{Opens, Transfers}
 use Rattle.claims_driver.specs.Scripts.{OpensAsynchronous}
 use Rattle.law_driver.specs.chained_transfers.Asynchronous.{OnlyAsynchronous, AcceptsAsynchronous}
 use Rattle.law_driver.specs.chained_transfers.AsynchronousTurns.{AsynchronousTakesTurns}
-use Rattle.law_driver.proofs.lemmas.chained_transfers.Accepting.{command_accepts}
+use Rattle.law_driver.proofs.lemmas.chained_transfers.Accepting.{asynchronous_command_is_accepted}
 use Rattle.law_driver.proofs.lemmas.chained_transfers.Rows.{left, advanced_or_left, set_which}
 use Rattle.law_driver.proofs.lemmas.chained_transfers.Staying.{stands_alive}
 use Rattle.law_queues.specs.leaving_drivers.Before.{IsAsBefore}
 use Rattle.law_queues.specs.leaving_drivers.Told.{told_to, AreNamedOnce, IsGoneIn}
-use Rattle.law_queues.proofs.lemmas.leaving_drivers.Leaving.{cancel_as_before, bell_as_before, status_as_before, frame_as_before, clear_as_before}
+use Rattle.law_queues.proofs.lemmas.leaving_drivers.Leaving.{cancel_is_as_before, bell_is_as_before, status_is_as_before, frame_is_as_before, clear_is_as_before}
 use Rattle.law_queues.proofs.lemmas.leaving_drivers.Never.{IsAsynchronousRow, asynchronous_row}
 use Rattle.law_queues.proofs.lemmas.leaving_drivers.Reading.{ChangesAtMost, AddsLines, none_added, line_added, read_row}
 
@@ -80,8 +80,8 @@ refused_by : (a b : Bool) → b ≡ true → (a && not b) ≡ false
 refused_by true b is = ap not is
 refused_by false b is = refl
 
-pub refusal_tells_nothing : (d f : DriverContent) (line : Report) → is_refusal line.what ≡ true → f.reports ≡ d.reports ++ line ∷ [] → f.store ≡ d.store → (name : EpName) → told_to f name ≡ told_to d name
-refusal_tells_nothing d f line refusal reports store name =
+pub refusals_tell_nothing : (d f : DriverContent) (line : Report) → is_refusal line.what ≡ true → f.reports ≡ d.reports ++ line ∷ [] → f.store ≡ d.store → (name : EpName) → told_to f name ≡ told_to d name
+refusals_tell_nothing d f line refusal reports store name =
     ap (λ (rs : List Report). told_in f.store (lines_in name rs)) reports
     ∙ ap (told_in f.store) (line_of_other name d.reports line (refused_by (is_same_name line.name name) (is_refusal line.what) refusal))
     ∙ ap (λ (xs : List ℕ). told_in xs (lines_in name d.reports)) store
@@ -263,26 +263,26 @@ due_gone (rows.Mend w) p due is order only once = same_leaves p.driver (after_dr
 due_gone (rows.ReleaseTransfer t) p due is order only once =
     release_leaves p t (Gives (rows.ReleaseTransfer t)) (slice_get p.driver.transfers t) (freed_by p.driver (holding p.driver.book p.memory) (slice_get p.driver.transfers t))
 due_gone (rows.ReleaseEndpoint e) p due is order only once = endpoint_leaves p e due.first order once
-due_gone rows.ClearAdvance p due is order only once = before_leaves p.driver (after_driver_row rows.ClearAdvance p).driver (Gives rows.ClearAdvance) (clear_as_before p due.0).0
-due_gone rows.RingBell p due is order only once = before_leaves p.driver (after_driver_row rows.RingBell p).driver (Gives rows.RingBell) (bell_as_before p due.0).0
-due_gone (rows.ReadStatus heard) p due is order only once = before_leaves p.driver (after_driver_row (rows.ReadStatus heard) p).driver (Gives (rows.ReadStatus heard)) (status_as_before p heard due.0).0
-due_gone (rows.ReadFrame n) p due is order only once = before_leaves p.driver (after_driver_row (rows.ReadFrame n) p).driver (Gives (rows.ReadFrame n)) (frame_as_before p n due.0).0
+due_gone rows.ClearAdvance p due is order only once = before_leaves p.driver (after_driver_row rows.ClearAdvance p).driver (Gives rows.ClearAdvance) (clear_is_as_before p due.0).0
+due_gone rows.RingBell p due is order only once = before_leaves p.driver (after_driver_row rows.RingBell p).driver (Gives rows.RingBell) (bell_is_as_before p due.0).0
+due_gone (rows.ReadStatus heard) p due is order only once = before_leaves p.driver (after_driver_row (rows.ReadStatus heard) p).driver (Gives (rows.ReadStatus heard)) (status_is_as_before p heard due.0).0
+due_gone (rows.ReadFrame n) p due is order only once = before_leaves p.driver (after_driver_row (rows.ReadFrame n) p).driver (Gives (rows.ReadFrame n)) (frame_is_as_before p n due.0).0
 due_gone (rows.Harvest e t found) p due is order only once = harvest_gone p e t found (Gives (rows.Harvest e t found)) due only once
 due_gone rows.Rest p due is order only once = same_leaves p.driver p.driver (Gives rows.Rest) refl refl refl
 due_gone _ p due is order only once = absurd is
 
 event_gone : (p : Parts) → HasOwners p.driver → AsynchronousTakesTurns p.driver → AreNamedOnce p.driver → LeavesGone p.driver (after_driver_row (driver_row p) p).driver (Gives (driver_row p))
 event_gone p owners turns once =
-    let due = each_is_due p in
+    let due = each_event_is_due p in
     due_gone (driver_row p) p due (asynchronous_row p (driver_row p) turns.asynchronous due) owners.orderly turns.asynchronous once
 
-pub events_leave : (p : Parts) → HasOwners p.driver → AsynchronousTakesTurns p.driver → AreNamedOnce p.driver → (i : ℕ) (x : Endpoint) → slice_get p.driver.endpoints i ≡ Some x → x.gone ≡ true
+pub events_leave_told : (p : Parts) → HasOwners p.driver → AsynchronousTakesTurns p.driver → AreNamedOnce p.driver → (i : ℕ) (x : Endpoint) → slice_get p.driver.endpoints i ≡ Some x → x.gone ≡ true
     → IsGoneIn (after_driver_row (driver_row p) p).driver i x (told_to p.driver x.desc.name)
-events_leave p owners turns once = gone_stays p.driver (after_driver_row (driver_row p) p).driver (Gives (driver_row p)) (event_gone p owners turns once)
+events_leave_told p owners turns once = gone_stays p.driver (after_driver_row (driver_row p) p).driver (Gives (driver_row p)) (event_gone p owners turns once)
 
-pub events_only : (p : Parts) → HasOwners p.driver → AsynchronousTakesTurns p.driver → AreNamedOnce p.driver → (i : ℕ) (z : Endpoint) → slice_get (after_driver_row (driver_row p) p).driver.endpoints i ≡ Some z
+pub events_only_tell : (p : Parts) → HasOwners p.driver → AsynchronousTakesTurns p.driver → AreNamedOnce p.driver → (i : ℕ) (z : Endpoint) → slice_get (after_driver_row (driver_row p) p).driver.endpoints i ≡ Some z
     → z.gone ≡ true → driver_row p ≢ rows.ReleaseEndpoint i → IsGoneIn p.driver i z (told_to (after_driver_row (driver_row p) p).driver z.desc.name)
-events_only p owners turns once = gone_before p.driver (after_driver_row (driver_row p) p).driver (Gives (driver_row p)) (event_gone p owners turns once)
+events_only_tell p owners turns once = gone_before p.driver (after_driver_row (driver_row p) p).driver (Gives (driver_row p)) (event_gone p owners turns once)
 
 -- ---- an accepted command gives nothing back
 
@@ -341,16 +341,16 @@ gone_as d m o (commands.OpenEp x) why turns = open_gone d m o why.opens
 gone_as d m o (commands.Get name len by) why turns = asked_gone d m o why.transfers
 gone_as d m o (commands.Put name bytes by) why turns = asked_gone d m o why.transfers
 gone_as d m o (commands.Control name setup bytes) why turns = asked_gone d m o why.transfers
-gone_as d m o (commands.Cancel name) why turns = before_leaves d o.driver NoneGiven (cancel_as_before d m o turns why).0
+gone_as d m o (commands.Cancel name) why turns = before_leaves d o.driver NoneGiven (cancel_is_as_before d m o turns why).0
 gone_as d m o _ why turns = absurd why
 
 command_gone : (d : DriverContent) (m : Mem) (cmd : Cmd) (o : Offered) → AsynchronousTakesTurns d → OpensAsynchronous cmd → offered d m cmd ≡ Ok o → LeavesGone d o.driver NoneGiven
-command_gone d m cmd o turns only is = gone_as d m o cmd (command_accepts d m cmd o turns.asynchronous only is) turns
+command_gone d m cmd o turns only is = gone_as d m o cmd (asynchronous_command_is_accepted d m cmd o turns.asynchronous only is) turns
 
-pub commands_leave : (d : DriverContent) (m : Mem) (cmd : Cmd) (o : Offered) → AsynchronousTakesTurns d → OpensAsynchronous cmd → offered d m cmd ≡ Ok o
+pub commands_leave_told : (d : DriverContent) (m : Mem) (cmd : Cmd) (o : Offered) → AsynchronousTakesTurns d → OpensAsynchronous cmd → offered d m cmd ≡ Ok o
     → (i : ℕ) (x : Endpoint) → slice_get d.endpoints i ≡ Some x → x.gone ≡ true → IsGoneIn o.driver i x (told_to d x.desc.name)
-commands_leave d m cmd o turns only is = gone_stays d o.driver NoneGiven (command_gone d m cmd o turns only is)
+commands_leave_told d m cmd o turns only is = gone_stays d o.driver NoneGiven (command_gone d m cmd o turns only is)
 
-pub commands_only : (d : DriverContent) (m : Mem) (cmd : Cmd) (o : Offered) → AsynchronousTakesTurns d → OpensAsynchronous cmd → offered d m cmd ≡ Ok o
+pub commands_only_tell : (d : DriverContent) (m : Mem) (cmd : Cmd) (o : Offered) → AsynchronousTakesTurns d → OpensAsynchronous cmd → offered d m cmd ≡ Ok o
     → (i : ℕ) (z : Endpoint) → slice_get o.driver.endpoints i ≡ Some z → z.gone ≡ true → IsGoneIn d i z (told_to o.driver z.desc.name)
-commands_only d m cmd o turns only is i z here gone = gone_before d o.driver NoneGiven (command_gone d m cmd o turns only is) i z here gone (λ none. none)
+commands_only_tell d m cmd o turns only is i z here gone = gone_before d o.driver NoneGiven (command_gone d m cmd o turns only is) i z here gone (λ none. none)

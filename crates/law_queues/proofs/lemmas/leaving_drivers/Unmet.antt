@@ -45,8 +45,8 @@ gone_by true b c is = refl
 gone_by false true c is = refl
 gone_by false false c is = absurd (false≢true is)
 
-pub cleared_unmet : (d : DriverContent) (i e : ℕ) (x : Endpoint) → HasOwners d → slice_get d.cleared i ≡ Some e → slice_get d.endpoints e ≡ Some x → may_meet d e x ≡ false
-cleared_unmet d i e x owners first here =
+pub cleared_are_unmet : (d : DriverContent) (i e : ℕ) (x : Endpoint) → HasOwners d → slice_get d.cleared i ≡ Some e → slice_get d.endpoints e ≡ Some x → may_meet d e x ≡ false
+cleared_are_unmet d i e x owners first here =
     let some = times_of d.cleared i e first in
     let all = owners.orderly.leaving e in
     let owed : leaves_ring (slice_get d.endpoints e) ≡ leaves_ring (Some x) = ap leaves_ring here in
@@ -58,8 +58,8 @@ cleared_unmet d i e x owners first here =
       rung = none_of e d.rung (omega (arith, some, all, owed, most));
     })
 
-pub gone_unmet : (d : DriverContent) (e : ℕ) (x : Endpoint) → HasOwners d → slice_get d.endpoints e ≡ Some x → x.gone ≡ true → may_meet d e x ≡ false
-gone_unmet d e x owners here gone =
+pub gone_are_unmet : (d : DriverContent) (e : ℕ) (x : Endpoint) → HasOwners d → slice_get d.endpoints e ≡ Some x → x.gone ≡ true → may_meet d e x ≡ false
+gone_are_unmet d e x owners here gone =
     let all = owners.orderly.leaving e in
     let owed : leaves_ring (slice_get d.endpoints e) ≡ leaves_ring (Some x) = ap leaves_ring here in
     let none : leaves_ring (Some x) ≡ 0 = gone_by x.linked x.gone _ gone in

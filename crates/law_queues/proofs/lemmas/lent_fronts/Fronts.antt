@@ -21,7 +21,7 @@ use Rattle.law_structures.specs.lent_structures.Sound.{IsElement, LeadsOn, IsSou
 use Rattle.law_structures.proofs.lemmas.lent_structures.Altering.{found_queue}
 use Rattle.law_ring.specs.Order.{IsAmong}
 use Rattle.law_ring.specs.Front.{HasFront}
-use Rattle.law_ring.proofs.FrontGoing.{front_spared}
+use Rattle.law_ring.proofs.FrontGoing.{front_is_spared}
 use Rattle.law_driver.specs.chained_transfers.Chains.{piece_at}
 use Rattle.law_driver.specs.chained_transfers.Out.{pieces_from}
 use Rattle.law_queues.specs.released_queues.Fronts.{piece_address, end_at, StandsAt, FrontsStand}
@@ -112,7 +112,7 @@ its_front {d = d} {m = m} {b = b} {words = words} {parts = parts} {now = now} {o
     let new = new_out d (y_of k) k.further in
     let are = numbers d m k.number (y_of k) (x_of k) k.stage k.further from (order n) k.awaits in
     let first = front_renumbered (order n) f front (out n) n (parts n) head (λ a t there. old_number d (y_of k) (x_of k) k.stage k.further slot parts now from (order n) a (Element t) p there) has in
-    front_spared f front (out n) (out n ++ new) n (parts n) (now n) first
+    front_is_spared f front (out n) (out n ++ new) n (parts n) (now n) first
     (λ q here. record {
       queue = q;
       here = subst (λ z. parts n n ≡ Some (QueueHead z)) (found_queue (now n n) head.queue q (p.still n n (QueueHead head.queue) head.here) here) head.here;

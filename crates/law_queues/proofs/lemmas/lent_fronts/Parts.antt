@@ -28,11 +28,11 @@ use Rattle.law_driver_ring.proofs.TransferLending.{lent_on_views, lots_of, lots_
 use Rattle.law_driver_ring.proofs.Joining.{joined_parts, still_there}
 use Rattle.law_driver_ring.proofs.Joined.{Joins, standing, buffered, elements_sound, names_lent, joined_own, first_publishable, elements_known, none_there, buffers_stay, none_at_zero}
 use Rattle.law_frames.specs.Met.{IsQueuePart}
-use Rattle.law_frames.proofs.Queues.{linked_part}
+use Rattle.law_frames.proofs.Queues.{a_members_part_is_linked}
 
 -- a queue head of a ring has such a part
 pub member_head : (member : ℕ → Bool) (n : ℕ) (part : Structures) → IsMember member n part → IsQueuePart n part
-member_head member n part m = (linked_part member n part m).part_is
+member_head member n part m = (a_members_part_is_linked member n part m).part_is
 
 -- ---- orders
 

@@ -24,7 +24,7 @@ use Rattle.drv_table.specs.IsoOffers.{Descriptors, slot_runs, one_descriptor, al
 use Rattle.drv_table.specs.CancelOffers.{first_end, with_cancel}
 use Rattle.law_driver.specs.endpoint_lives.Lives.{told_end}
 use Rattle.law_driver.specs.run_owners.Accepts.{Accepts, opens, chains, places, transfers, describes, cancels, unchains}
-use Rattle.law_driver.proofs.lemmas.run_owners.Commands.{accepted_for_a_reason}
+use Rattle.law_driver.proofs.lemmas.run_owners.Commands.{each_command_has_its_reason}
 use Rattle.law_queues.specs.mended_heads.Owed.{GoesOnAt}
 use Rattle.law_queues.proofs.lemmas.mended_heads.Content.{set_at, newest, KeepFirsts, firsts_same, firsts_both, firsts_pushed, goes_on_still, IsOwedStill, KeepOwed, owed_set, owed_pushed, OwesAlike, alike_both, or_done}
 
@@ -162,4 +162,4 @@ accepted_alike d m o (unchains w) =
     as_offered d o _ w.is (alike_both is_one d f (or_finished f (unfinished.Unchain w.number)) (cancelled_alike d f w.number w.endpoint w.here w.fresh refl refl refl) (or_done f (unfinished.Unchain w.number)))
 
 pub command_alike : (d : DriverContent) (m : Mem) (cmd : Cmd) (o : Offered) → offered d m cmd ≡ Ok o → OwesAlike is_one d o.driver
-command_alike d m cmd o is = accepted_alike d m o (accepted_for_a_reason d m cmd o is)
+command_alike d m cmd o is = accepted_alike d m o (each_command_has_its_reason d m cmd o is)

@@ -18,7 +18,7 @@ use Rattle.claims_driver.specs.Owners.{Owner, QueueHead, Dummy, Element as OfTra
 use Rattle.claims_driver.specs.Leaving.{HasOwners}
 use Rattle.law_driver.proofs.lemmas.run_owners.Runs.{placed_run}
 use Rattle.claims_driver.specs.LentRuns.{AreLent}
-use Rattle.law_driver.proofs.lemmas.lent_runs.Laws.{idle_lent}
+use Rattle.law_driver.proofs.lemmas.lent_runs.Laws.{all_are_lent_between_commands}
 use Rattle.law_structures.specs.lent_structures.Structures.{Structure, Element, StructureSets}
 use Rattle.law_structures.specs.lent_structures.Sound.{IsElement}
 use Rattle.law_ring.specs.Order.{IsAmong}
@@ -90,7 +90,8 @@ module _ (d : DriverContent) (has : HasOwners d) (lent : AreLent d) (idle : d.co
   dummy_there =
       let q = queued_in d e x here queued kept in
       let run : HasRun (slot_of d.book.slots x.dummy) = placed_run x.dummy (Dummy e) (has.owned.each.dummy e (runs_of_endpoint x) q.here q.queued) in
-      is_element parts (32 * x.queue) (32 * x.dummy) (driven.dummy e (runs_of_endpoint x) q (idle_lent d x.dummy idle lent run))
+      is_element parts (32 * x.queue) (32 * x.dummy) (driven.dummy e (runs_of_endpoint x) q
+      (all_are_lent_between_commands d x.dummy idle lent run))
 
   -- each qTD of a transfer that isn't reported
   pub piece_there : (t i : ℕ) (y : Transfer) → IsUntold d e t y → i < y.qtds → IsElement (parts (32 * x.queue)) (32 * piece_at (note_in d.notes) y.first i)
@@ -101,7 +102,7 @@ module _ (d : DriverContent) (has : HasOwners d) (lent : AreLent d) (idle : d.co
       let b = piece_at (note_in d.notes) y.first i in
       let told = told_at v (sorts_of parts (32 * x.queue)) y.first y.qtds i (driven.pieces t (runs_of_transfer y) (runs_of_endpoint x) (record { here = there; held = u.held; qtds = sort; queue = q })) below in
       let run : HasRun (slot_of d.book.slots b) = placed_run b (OfTransfer t) (placed_at (slot_of d.book.slots) has.owner (note_in d.notes) t y.first y.qtds i (has.owned.each.pieces t (runs_of_transfer y) there u.held) below) in
-      is_element parts (32 * x.queue) (32 * b) (told.element (idle_lent d b idle lent run))
+      is_element parts (32 * x.queue) (32 * b) (told.element (all_are_lent_between_commands d b idle lent run))
 
   onward_by : (next : Option ℕ) (b : ℕ) → AreChained (views_of d) → AreInTurn d → AreReportedTo (turn_in d.transfers) e next → GoesOnAt d.transfers x.dummy next b → IsElement (parts (32 * x.queue)) (32 * b)
   onward_by None b chained turns reported is = subst (λ (c : ℕ). IsElement (parts (32 * x.queue)) (32 * c)) (sym is) dummy_there

@@ -20,7 +20,7 @@ use Rattle.law_ring.specs.Order.{IsOrdered, Accounts}
 use Rattle.law_ring.specs.Front.{HasFront, LinksRise, HasTail}
 use Rattle.law_ring.specs.Bus.{Sender}
 use Rattle.law_ring.specs.Pipes.{IsIn, IsNotIn, IsElsewhere}
-use Rattle.law_ring.proofs.SparedSparing.{stale_same, spared_pipes, spared_accounts}
+use Rattle.law_ring.proofs.SparedSparing.{stale_hand_is_same, spared_pipes_agree, accounts_are_spared}
 use Rattle.claims_driver.specs.Owners.{note_in}
 use Rattle.law_driver.specs.chained_transfers.Chains.{piece_at}
 use Rattle.law_driver_ring.specs.fed_queues.Fed.{IsPieceFed, AreFed, sized}
@@ -30,7 +30,7 @@ use Rattle.law_queues.specs.mended_heads.Mended.{mended, driver_mended, IsAtMend
 use Rattle.law_queues.specs.mended_heads.Queues.{MendLeavesPipes, MendLeavesAccounts, MendSparesRest, MendAddsNone, MendLeavesFront, MendLeavesTail, MendLeavesPassed, MendLeavesWithin, MendLeavesRising, MendLeavesMet, MendLeavesEnds, MendLeavesFed, MendLeavesLast, MendLeavesOut}
 use Rattle.law_queues.proofs.lemmas.mended_heads.Mending.{idle_goes, still_front}
 use Rattle.law_queues.proofs.lemmas.mended_heads.Parts.{stays, spares_head, had_rest, head_was, element_stays, element_was, buffer_stays, spares_element, front_stays, passed_stays, within_stays, tail_stays}
-use Rattle.law_queues.proofs.lemmas.mended_heads.Row.{mend_row, spares_heads, spares_endpoints}
+use Rattle.law_queues.proofs.lemmas.mended_heads.Row.{mend_row, mend_spares_heads, mend_spares_endpoints}
 
 none_published : (b : ℕ) (words : List ℕ) → ◌≡◌ {A = Option Command} None (Some (unfinished.Publish b words)) → ⊥
 none_published b words same = cc
@@ -71,7 +71,7 @@ module _ (p : DriverParts) (parts : StructureSets) (out : ℕ → List ℕ) (k :
 
   elsewhere_stays : (stream : ℕ → ℕ → Bool) (n : ℕ) (x : Told) → IsElsewhere stream parts n x → IsElsewhere stream now n x
   elsewhere_stays stream n x old = (
-    spares_endpoints p parts out k n x old.0,
+    mend_spares_endpoints p parts out k n x old.0,
     ⊎_elim {C = (stream x.addr x.ep ≡ false) ⊎ IsNotIn (now n)} (λ (none : stream x.addr x.ep ≡ false). inl none) (λ (nots : IsNotIn (parts n)). inr (nots_stay n nots)) old.1,
   )
 
@@ -87,7 +87,7 @@ module _ (p : DriverParts) (parts : StructureSets) (out : ℕ → List ℕ) (k :
 
   accounts_stay : (order : ℕ → ℕ) (at : ℕ) (sent : List ℕ) (hand : Hand) (n : ℕ) (xs : List ℕ) → n ≢ own → Accounts order at sent hand parts n xs → Accounts order at sent (hand_then k hand) now n xs
   accounts_stay order at sent hand n xs differs r =
-      spared_accounts order order at at sent hand (hand_then k hand) parts now n xs (stale_same own hand) (spares_head parts own head new here n differs)
+      accounts_are_spared order order at at sent hand (hand_then k hand) parts now n xs (stale_hand_is_same own hand) (spares_head parts own head new here n differs)
       (λ e among. spares_element parts own head new here n e) (ordered_still order at n differs r.ordered) r.sorted
       (λ a t among is from. r.published a t among (was n a t is) from) (λ a t is active. r.complete a t (was n a t is) active) r
 
@@ -171,45 +171,45 @@ module _ (p : DriverParts) (parts : StructureSets) (out : ℕ → List ℕ) (k :
 pub leaves_pipes : {W : Type 0} (sender : W → ℕ → ℕ → Option Sender) → MendLeavesPipes sender
 leaves_pipes sender stream packets member streams ends acc wire hand p parts out k off piped =
     let own = 32 * k.stalled.queue in
-    spared_pipes sender stream packets member member streams ends acc hand (hand_then k hand) parts (parts_then k) wire (stale_same own hand)
-    (λ n on. spares_heads p parts out k n (not_own streams own n off on)) (λ n on. ins_stay p parts out k n (piped.pipes n on).ins)
+    spared_pipes_agree sender stream packets member member streams ends acc hand (hand_then k hand) parts (parts_then k) wire (stale_hand_is_same own hand)
+    (λ n on. mend_spares_heads p parts out k n (not_own streams own n off on)) (λ n on. ins_stay p parts out k n (piped.pipes n on).ins)
     (λ n on none. elsewhere_stays p parts out k stream n (ends n) (piped.others n on none)) piped
 
-pub leaves_accounts : MendLeavesAccounts
-leaves_accounts order at sent hand n xs p parts out k differs r = accounts_stay p parts out k order at sent hand n xs differs r
+pub mend_leaves_accounts : MendLeavesAccounts
+mend_leaves_accounts order at sent hand n xs p parts out k differs r = accounts_stay p parts out k order at sent hand n xs differs r
 
-pub spares_rest : MendSparesRest
-spares_rest p parts out k n r differs is = had_rest parts (32 * k.stalled.queue) (head_at k) (mended k.stalled (head_at k)) k.are.wait.0.stands.here n r differs is
+pub mend_spares_rest : MendSparesRest
+mend_spares_rest p parts out k n r differs is = had_rest parts (32 * k.stalled.queue) (head_at k) (mended k.stalled (head_at k)) k.are.wait.0.stands.here n r differs is
 
-pub adds_none : MendAddsNone
-adds_none p parts out k n a t is = was p parts out k n a t is
+pub mend_adds_none : MendAddsNone
+mend_adds_none p parts out k n a t is = was p parts out k n a t is
 
-pub leaves_front : MendLeavesFront
-leaves_front order front sent n p parts out k from f = front_now p parts out k order front sent n from f
+pub mend_leaves_front : MendLeavesFront
+mend_leaves_front order front sent n p parts out k from f = front_now p parts out k order front sent n from f
 
-pub leaves_tail : MendLeavesTail
-leaves_tail order c front n p parts out k most f = tail_now p parts out k order c front n most f
+pub mend_leaves_tail : MendLeavesTail
+mend_leaves_tail order c front n p parts out k most f = tail_now p parts out k order c front n most f
 
-pub leaves_passed : MendLeavesPassed
-leaves_passed order front n a p parts out k f = passed_stays parts (32 * k.stalled.queue) (head_at k) (mended k.stalled (head_at k)) k.are.wait.0.stands.here order front n a f
+pub mend_leaves_passed : MendLeavesPassed
+mend_leaves_passed order front n a p parts out k f = passed_stays parts (32 * k.stalled.queue) (head_at k) (mended k.stalled (head_at k)) k.are.wait.0.stands.here order front n a f
 
-pub leaves_within : MendLeavesWithin
-leaves_within order c n p parts out k f = within_stays parts (32 * k.stalled.queue) (head_at k) (mended k.stalled (head_at k)) k.are.wait.0.stands.here order c n f
+pub mend_leaves_within : MendLeavesWithin
+mend_leaves_within order c n p parts out k f = within_stays parts (32 * k.stalled.queue) (head_at k) (mended k.stalled (head_at k)) k.are.wait.0.stands.here order c n f
 
-pub leaves_rising : MendLeavesRising
-leaves_rising order n p parts out k r = rising_now p parts out k order n r
+pub mend_leaves_rising : MendLeavesRising
+mend_leaves_rising order n p parts out k r = rising_now p parts out k order n r
 
-pub leaves_met : MendLeavesMet
-leaves_met p parts out member k q = subst (λ (d : DriverContent). AreMet d member) (sym (mend_row p parts out k).driver) (met_then p parts out k member q)
+pub mend_leaves_met : MendLeavesMet
+mend_leaves_met p parts out member k q = subst (λ (d : DriverContent). AreMet d member) (sym (mend_row p parts out k).driver) (met_then p parts out k member q)
 
-pub leaves_ends : MendLeavesEnds
-leaves_ends p parts out streams ends k q = subst (λ (d : DriverContent). HaveStreams d streams ends) (sym (mend_row p parts out k).driver) (ends_then p parts out k streams ends q)
+pub mend_leaves_ends : MendLeavesEnds
+mend_leaves_ends p parts out streams ends k q = subst (λ (d : DriverContent). HaveStreams d streams ends) (sym (mend_row p parts out k).driver) (ends_then p parts out k streams ends q)
 
-pub leaves_fed : MendLeavesFed
-leaves_fed p parts out k q = subst (λ (d : DriverContent). AreFed d (parts_then k)) (sym (mend_row p parts out k).driver) (fed_then p parts out k q)
+pub mend_leaves_fed : MendLeavesFed
+mend_leaves_fed p parts out k q = subst (λ (d : DriverContent). AreFed d (parts_then k)) (sym (mend_row p parts out k).driver) (fed_then p parts out k q)
 
-pub leaves_last : MendLeavesLast
-leaves_last p parts out order k q = subst (λ (d : DriverContent). AreLast d (parts_then k) order) (sym (mend_row p parts out k).driver) (last_then p parts out k order q)
+pub mend_leaves_last : MendLeavesLast
+mend_leaves_last p parts out order k q = subst (λ (d : DriverContent). AreLast d (parts_then k) order) (sym (mend_row p parts out k).driver) (last_then p parts out k order q)
 
-pub leaves_out : MendLeavesOut
-leaves_out p parts out sent k q = subst (λ (d : DriverContent). AreStillOut d sent) (sym (mend_row p parts out k).driver) (out_then p parts out k sent q)
+pub mend_leaves_out : MendLeavesOut
+mend_leaves_out p parts out sent k q = subst (λ (d : DriverContent). AreStillOut d sent) (sym (mend_row p parts out k).driver) (out_then p parts out k sent q)

@@ -19,14 +19,14 @@ use Rattle.drv_table.specs.Words.{to_qtd}
 use Rattle.law_driver.specs.run_owners.Due.{IsDue}
 use Rattle.claims_driver.specs.Leaving.{HasOwners}
 use Rattle.claims_driver.specs.Owners.{QueueHead as OfEndpoint, HasRun, views_of}
-use Rattle.law_driver.proofs.lemmas.run_owners.Reasons.{each_is_due}
+use Rattle.law_driver.proofs.lemmas.run_owners.Reasons.{each_event_is_due}
 use Rattle.law_driver.proofs.lemmas.run_owners.Runs.{placed_run}
 use Rattle.claims_driver.specs.LentRuns.{AreLent}
 use Rattle.law_driver.specs.chained_transfers.Chains.{AreChained}
 use Rattle.law_driver.specs.chained_transfers.Turns.{AreInTurn}
 use Rattle.law_structures.specs.lent_structures.Structures.{QueueHead, Element, StructureSets}
 use Rattle.law_ring.specs.Order.{IsAmong}
-use Rattle.law_ring.proofs.SparedSparing.{stale_same}
+use Rattle.law_ring.proofs.SparedSparing.{stale_hand_is_same}
 use Rattle.law_driver_ring.specs.Inventory.{sorts_of, IsDriven}
 use Rattle.law_driver_ring.specs.Driven.{DrivesRing}
 use Rattle.law_driver_ring.proofs.Storing.{store_made}
@@ -79,7 +79,7 @@ at_mend p parts out w (s ∷ ss) row idle first stands has lent chained turns dr
 
 pub mend_is_due : MendIsDue
 mend_is_due p parts out w row stands has lent chained turns driven k =
-    let due : (p.driver.command ≡ None) × (slice_get p.driver.mends 0 ≡ Some w) = subst (IsDue p) row (each_is_due p) in
+    let due : (p.driver.command ≡ None) × (slice_get p.driver.mends 0 ≡ Some w) = subst (IsDue p) row (each_event_is_due p) in
     at_mend p parts out w k.queues row due.0 due.1 stands has lent chained turns driven k.are
 
 -- ---- what stands after it
@@ -171,8 +171,8 @@ module _ (p : DriverParts) (parts : StructureSets) (out : ℕ → List ℕ) (k :
     apart = rest_apart s k.others s.made k.are.apart;
   }
 
-pub mend_keeps : MendKeepsMends
-mend_keeps p parts out k =
+pub mend_keeps_mends : MendKeepsMends
+mend_keeps_mends p parts out k =
     subst (λ (d : DriverContent). MendsStand d (parts_then k) out) (sym (mend_row p parts out k).driver) (record { queues = rest_by k.stalled.made k.stalled k.others; are = stalled_then p parts out k })
 
 -- ---- the last store
@@ -181,26 +181,26 @@ whole_by : (made : ℕ) (s : StalledQueue) (q : Qh) → made ≡ 2 → q.next �
 whole_by (suc (suc n)) s q last next = record { active = refl; halted = refl; leads = last_leads s.onward n q next }
 whole_by _ s q last next = absurd (omega (arith, last))
 
-pub last_ends : LastMendEnds
-last_ends p parts out k last = whole_by k.stalled.made k.stalled (head_at k) last (k.are.wait.0.stands.next (omega (arith, last)))
+pub last_mend_ends : LastMendEnds
+last_mend_ends p parts out k last = whole_by k.stalled.made k.stalled (head_at k) last (k.are.wait.0.stands.next (omega (arith, last)))
 
 -- ---- what it leaves
 
-pub spares_heads : MendSparesHeads
-spares_heads p parts out k n differs = spares_head parts (32 * k.stalled.queue) (head_at k) (mended k.stalled (head_at k)) k.are.wait.0.stands.here n differs
+pub mend_spares_heads : MendSparesHeads
+mend_spares_heads p parts out k n differs = spares_head parts (32 * k.stalled.queue) (head_at k) (mended k.stalled (head_at k)) k.are.wait.0.stands.here n differs
 
-pub spares_endpoints : MendSparesEndpoints
-spares_endpoints p parts out k n x has =
+pub mend_spares_endpoints : MendSparesEndpoints
+mend_spares_endpoints p parts out k n x has =
     endpoint_stays parts (32 * k.stalled.queue) (head_at k) (mended k.stalled (head_at k)) k.are.wait.0.stands.here (keeps_endpoint k.stalled.onward k.stalled.made (head_at k)) n x has
 
-pub spares_elements : MendSparesElements
-spares_elements p parts out k n e = spares_element parts (32 * k.stalled.queue) (head_at k) (mended k.stalled (head_at k)) k.are.wait.0.stands.here n e
+pub mend_spares_elements : MendSparesElements
+mend_spares_elements p parts out k n e = spares_element parts (32 * k.stalled.queue) (head_at k) (mended k.stalled (head_at k)) k.are.wait.0.stands.here n e
 
-pub spares_hand : MendSparesHand
-spares_hand hand p parts out k = stale_same (32 * k.stalled.queue) hand
+pub mend_spares_hand : MendSparesHand
+mend_spares_hand hand p parts out k = stale_hand_is_same (32 * k.stalled.queue) hand
 
-pub leaves_halts : MendLeavesHalts
-leaves_halts order p parts out k n stops =
+pub mend_leaves_halts : MendLeavesHalts
+mend_leaves_halts order p parts out k n stops =
     halts_stay parts (32 * k.stalled.queue) (head_at k) (mended k.stalled (head_at k)) k.are.wait.0.stands.here (order n) (out n) n
     (λ same a t among is.
     k.are.wait.0.published a t (subst (λ (i : ℕ). IsAmong a (out i)) same among) (subst (λ (i : ℕ). parts i a ≡ Some (Element t)) same is)) stops

@@ -25,7 +25,7 @@ use Rattle.drv_table.specs.FrameChoice.{with_notes, framed_notes, placement_at, 
 use Rattle.drv_table.specs.Releases.{freed_by, after_transfer, is_told, cancel_told, after_endpoint}
 use Rattle.drv_table.specs.Removals.{after_unlink, after_descriptor, after_placed, after_removed}
 use Rattle.law_driver.specs.run_owners.Due.{IsDue}
-use Rattle.law_driver.proofs.lemmas.run_owners.Reasons.{each_is_due}
+use Rattle.law_driver.proofs.lemmas.run_owners.Reasons.{each_event_is_due}
 use Rattle.law_queues.proofs.lemmas.mended_heads.Content.{any_one, OwesAlike, alike_same, alike_both, advanced_alike}
 
 -- ---- rows that give nothing back
@@ -162,7 +162,7 @@ row_with p o = turn_row p.driver.turn (first_row (option_map rows.Mend o) (behin
 pub given_owes_none : (p : Parts) → gives_back (driver_row p) ≡ true → p.driver.mends ≡ []
 given_owes_none p gives =
     let d = p.driver in
-    let idle : d.command ≡ None = idle_of p (driver_row p) gives (each_is_due p) in
+    let idle : d.command ≡ None = idle_of p (driver_row p) gives (each_event_is_due p) in
     let row : driver_row p ≡ row_with p (slice_get d.mends 0) = ap (row_for p) idle in
     none_owed d.mends
     (λ w first.

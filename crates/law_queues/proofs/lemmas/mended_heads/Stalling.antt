@@ -39,7 +39,7 @@ use Rattle.law_structures.specs.lent_structures.Structures.{Element, StructureSe
 use Rattle.law_ring.specs.Order.{IsAmong}
 use Rattle.law_driver_ring.specs.Inventory.{sorts_of, IsDriven}
 use Rattle.law_driver_ring.specs.fed_queues.Places.{AreStillOut}
-use Rattle.law_driver_ring.proofs.lemmas.harvested_streams.Harvesting.{token_read}
+use Rattle.law_driver_ring.proofs.lemmas.harvested_streams.Harvesting.{token_is_read}
 use Rattle.law_queues.specs.mended_heads.Owed.{StalledQueue, mends_at, IsOwed}
 use Rattle.law_queues.specs.mended_heads.Waiting.{Waits, MendsStand}
 use Rattle.law_queues.specs.mended_heads.Stalling.{IsStall, StallIsHalted, HaltsQueue, HaltStopsQueue, HarvestKeepsMends}
@@ -91,7 +91,7 @@ stall_is_halted p e t found parts u due stall tells here =
     let queued : is_descriptor y.sort ≡ false = stall_queued kind d p.memory y y.sort read in
     let token : IsHaltedToken (token_in p.memory y.place) =
     stall_token kind y.sort (nat_le y.left 1) (note_at d.notes y.place) (token_in p.memory y.place) (subst (IsStall kind) (found_by d p.memory y y.sort queued) read) in
-    let same : token_in p.memory y.place ≡ u.token = token_read p.memory parts (32 * due.endpoint.queue) y.place u tells here in
+    let same : token_in p.memory y.place ≡ u.token = token_is_read p.memory parts (32 * due.endpoint.queue) y.place u tells here in
     record { done = ap (λ (k : Token). k.active) (sym same) ∙ token.done; halted = ap (λ (k : Token). k.halted) (sym same) ∙ token.halted }
 
 -- ---- a stall is one of a control endpoint
@@ -188,7 +188,7 @@ module _ (p : DriverParts) (e t : ℕ) (found : Found) (parts : StructureSets) (
       let element = place_there d parts e t x y has lent turns due.idle driven due.here queued kept untold in
       let among = place_is_out d out e t x y turns still due.idle due.here kept untold in
       let on = w.published (32 * y.place) element.qtd (subst (λ (q : ℕ). IsAmong (32 * y.place) (out (32 * q))) queue among) (subst (λ (q : ℕ). parts (32 * q) (32 * y.place) ≡ Some (Element element.qtd)) queue element.here) in
-      let token = token_read p.memory parts (32 * x.queue) y.place element.qtd tells element.here in
+      let token = token_is_read p.memory parts (32 * x.queue) y.place element.qtd tells element.here in
       let sort : is_descriptor y.sort ≡ false = has.orderly.sorts t y x due.there (ap (slice_get d.endpoints) untold.endpoint ∙ due.here) ∙ queued in
       due.tells ∙ found_by d p.memory y y.sort sort
       ∙ active_found y.sort (nat_le y.left 1) (note_at d.notes y.place) (token_in p.memory y.place) (ap (λ (k : Token). k.active) token ∙ on)
@@ -271,14 +271,14 @@ after_is : (p : DriverParts) (e t : ℕ) (found : Found) (due : IsHarvestDue p e
 after_is p e t found due =
     ap (λ (o : Option Endpoint). after_harvest p.driver p.memory e t found o (slice_get p.driver.transfers t)) due.here ∙ ap (after_harvest p.driver p.memory e t found (Some due.endpoint)) due.there
 
-pub harvest_keeps : HarvestKeepsMends
-harvest_keeps p e t found parts out later due has lent turns tells driven still fewer halts k =
+pub harvest_keeps_mends : HarvestKeepsMends
+harvest_keeps_mends p e t found parts out later due has lent turns tells driven still fewer halts k =
     subst (λ (f : DriverContent). MendsStand f parts later) (sym (after_is p e t found due)) (harvested p e t found parts out later due has lent turns tells driven still fewer halts k)
 
 -- ---- a halt
 
-pub halt_stops : HaltStopsQueue
-halt_stops order out later n a parts q t stops here among there halted behind = record {
+pub halt_stops_queue : HaltStopsQueue
+halt_stops_queue order out later n a parts q t stops here among there halted behind = record {
   queue = q;
   here = here;
   halted = stops.head a t q among there halted here;

@@ -19,7 +19,7 @@ use Rattle.law_structures.proofs.lemmas.lent_structures.Altering.{found_queue, s
 use Rattle.law_ring.specs.Fewer.{fewer_structures, without_those}
 use Rattle.law_ring.specs.Halted.{IsKeptOrPublished}
 use Rattle.law_ring.specs.Order.{IsAmong}
-use Rattle.law_ring.proofs.Walking.{halted_stays}
+use Rattle.law_ring.proofs.Walking.{halted_queue_stays}
 use Rattle.law_queues.specs.mended_heads.Owed.{StalledQueue, IsOwed}
 use Rattle.law_queues.specs.mended_heads.Waiting.{StandsHalted, AreAllPublished, Waits, MendsStand}
 use Rattle.law_queues.specs.mended_heads.Standing.{NewDriverOwesNone, WalkKeepsMends, HaltedWordsStay, HasRest, KeepsHalted, StoreKeepsHalted, LinkKeepsHalted, LendKeepsHalted, ReleaseKeepsHalted, CommandsKeepMends, is_beside, RowsKeepMends}
@@ -32,8 +32,8 @@ use Rattle.law_queues.proofs.lemmas.mended_heads.Commands.{is_one, command_alike
 none_stand : (d : DriverContent) (parts : StructureSets) (out : ℕ → List ℕ) → d.mends ≡ [] → MendsStand d parts out
 none_stand d parts out none = record { queues = []; are = record { mends = none; owed = tt; wait = tt; apart = tt } }
 
-pub opening_owes_none : NewDriverOwesNone
-opening_owes_none n room parts out = none_stand _ parts out refl
+pub new_driver_owes_none : NewDriverOwesNone
+new_driver_owes_none n room parts out = none_stand _ parts out refl
 
 -- ---- the controller
 
@@ -43,14 +43,14 @@ waits_same s parts now out same w = record {
   published = subst (AreAllPublished (out (32 * s.queue))) (sym same) w.published;
 }
 
-pub walk_keeps : {W : Type 0} (transacts : W → Ask → List ℕ → Reply → W → Type 0) → WalkKeepsMends transacts
-walk_keeps transacts member parts hand reply wire after now later kind d out members in_hand effect k = record {
+pub walk_keeps_mends : {W : Type 0} (transacts : W → Ask → List ℕ → Reply → W → Type 0) → WalkKeepsMends transacts
+walk_keeps_mends transacts member parts hand reply wire after now later kind d out members in_hand effect k = record {
   queues = k.queues;
   are = record {
     mends = k.are.mends;
     owed = k.are.owed;
     wait = all_on (λ (s : StalledQueue). Waits s parts out) (λ (s : StalledQueue). Waits s now out) k.queues
-        (λ s w. waits_same s parts now out (halted_stays transacts member parts hand reply wire after now later kind (32 * s.queue) w.stands.head members in_hand effect w.stands.here w.stands.halted) w)
+        (λ s w. waits_same s parts now out (halted_queue_stays transacts member parts hand reply wire after now later kind (32 * s.queue) w.stands.head members in_hand effect w.stands.here w.stands.halted) w)
         k.are.wait;
     apart = k.are.apart;
   };
@@ -62,9 +62,9 @@ word_told m parts n i q tells here below =
     let holds = tells.each n n (QueueHead q) here in
     sym (get_or-words_in m.words n 12 i below) ∙ ap (λ (ws : List ℕ). get_or ws i 0) holds.words
 
-pub words_stay : {W : Type 0} (transacts : W → Ask → List ℕ → Reply → W → Type 0) → HaltedWordsStay transacts
-words_stay transacts base member parts hand p new wire after kind n q i ring h here halted below =
-    let same = halted_stays transacts member parts hand p.walk.reply wire after h.now h.later kind n q ring.members ring.in_hand h.effect here halted in
+pub halted_words_stay : {W : Type 0} (transacts : W → Ask → List ℕ → Reply → W → Type 0) → HaltedWordsStay transacts
+halted_words_stay transacts base member parts hand p new wire after kind n q i ring h here halted below =
+    let same = halted_queue_stays transacts member parts hand p.walk.reply wire after h.now h.later kind n q ring.members ring.in_hand h.effect here halted in
     word_told new.memory h.now n i q h.ring.tells (ap (λ (part : Structures). part n) same ∙ here) below ∙ sym (word_told p.memory parts n i q ring.tells here below)
 
 -- ---- what a row leaves of a halted queue
@@ -72,8 +72,8 @@ words_stay transacts base member parts hand p new wire after kind n q i ring h h
 has_rest : (now : StructureSets) (n : ℕ) (q : Qh) → now n n ≡ Some (QueueHead q) → HasRest now n q
 has_rest now n q here = record { queue = q; here = here; rest = record { token = refl; current = refl; next = refl; alternate = refl } }
 
-pub store_keeps : StoreKeepsHalted
-store_keeps parts out later n k e old new here own beside = record {
+pub store_keeps_halted : StoreKeepsHalted
+store_keeps_halted parts out later n k e old new here own beside = record {
   head = λ q is halted. has_rest (put parts k e (Element new)) n q
       (⊎_elim {C = put parts k e (Element new) n n ≡ Some (QueueHead q)}
       (λ (same : n ≡ k).
@@ -100,8 +100,8 @@ store_keeps parts out later n k e old new here own beside = record {
     one_there : (o : Option Structure) (t u : Qtd) → o ≡ Some (Element t) → o ≡ Some (Element u) → t ≡ u
     one_there o t u one two = cc
 
-pub link_keeps : LinkKeepsHalted
-link_keeps parts out n k q l here =
+pub link_keeps_halted : LinkKeepsHalted
+link_keeps_halted parts out n k q l here =
     let new : Qh = record q { link = l } in
     let now = put parts k k (QueueHead new) in
     record {
@@ -128,11 +128,11 @@ link_keeps parts out n k q l here =
     no_head : (t : Qtd) (r : Qh) → Element t ≢ QueueHead r
     no_head t r same = cc
 
-pub lend_keeps : LendKeepsHalted
-lend_keeps parts now out later n still published = record { head = λ q is halted. has_rest now n q (still n (QueueHead q) is); published = published }
+pub lend_keeps_halted : LendKeepsHalted
+lend_keeps_halted parts now out later n still published = record { head = λ q is halted. has_rest now n q (still n (QueueHead q) is); published = published }
 
-pub release_keeps : ReleaseKeepsHalted
-release_keeps parts out later n k goes head fewer = record {
+pub release_keeps_halted : ReleaseKeepsHalted
+release_keeps_halted parts out later n k goes head fewer = record {
   head = λ q is halted. has_rest (without_those parts k goes) n q
       (⊎_elim {C = without_those parts k goes n n ≡ Some (QueueHead q)}
       (λ (same : n ≡ k).
@@ -184,8 +184,8 @@ stand_on d f parts now out later mends owed keeps k = record {
 pub keeps_same : (parts : StructureSets) (out : ℕ → List ℕ) (n : ℕ) → KeepsHalted parts parts out out n
 keeps_same parts out n = record { head = λ q is halted. has_rest parts n q is; published = λ a t among is. inl (among, is) }
 
-pub commands_keep : CommandsKeepMends
-commands_keep d m cmd o parts out is k =
+pub commands_keep_mends : CommandsKeepMends
+commands_keep_mends d m cmd o parts out is k =
     let alike = command_alike d m cmd o is in
     stand_on d o.driver parts parts out out alike.mends (λ s owed. owed_on is_one d o.driver s alike.owed owed owed.control) (λ s owed. keeps_same parts out (32 * s.queue)) k
 
@@ -199,8 +199,8 @@ plain_or (rows.Mend w) beside none = absurd (false≢true beside)
 plain_or (rows.Harvest e t found) beside none = absurd (false≢true beside)
 plain_or _ beside none = absurd (none refl)
 
-pub rows_keep : RowsKeepMends
-rows_keep p parts now out later beside keeps k = by (is_plain (driver_row p)) refl
+pub rows_keep_mends : RowsKeepMends
+rows_keep_mends p parts now out later beside keeps k = by (is_plain (driver_row p)) refl
   where
     by : (b : Bool) → is_plain (driver_row p) ≡ b → MendsStand (after_driver_row (driver_row p) p).driver now later
     by true plain =

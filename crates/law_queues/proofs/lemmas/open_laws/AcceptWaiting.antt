@@ -18,8 +18,8 @@ use Rattle.law_queues.specs.open_laws.Accepted.{OpenBecomesReady, ReadyStays}
 none_new : (d : DriverContent) → HasOwners d → (t : ℕ) (y : Transfer) → slice_get d.transfers t ≡ Some y → y.endpoint ≢ length d.endpoints
 none_new d owners t y there same = let below = owners.orderly.within t y there in omega (arith, below, same)
 
-pub open_waits : OpenBecomesReady
-open_waits m d o why owners lent stands shape range =
+pub open_becomes_ready : OpenBecomesReady
+open_becomes_ready m d o why owners lent stands shape range =
     let g = why.holding_after in
     let queue : ℕ = get_or (new_runs d g) 0 0 in
     let dummy : ℕ = get_or (new_runs d g) 1 0 in

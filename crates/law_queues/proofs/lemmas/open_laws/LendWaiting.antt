@@ -16,8 +16,8 @@ unmet_stays : {W : Type 0} (begins : W → ℕ → Bool → W → Type 0) (trans
 unmet_stays begins transacts base member parts hand c wire after now later n k (a_microframe b) off = ap (λ (ps : StructureSets). ps n) b.parts_stay
 unmet_stays begins transacts base member parts hand c wire after now later n k (a_step w) off = stranger_stays transacts base member parts hand (walk_place c) wire after now later w.kind n k.ring w.effect off
 
-pub lent_stays : {W : Type 0} (begins : W → ℕ → Bool → W → Type 0) (transacts : W → Ask → List ℕ → Reply → W → Type 0) → OpenLentStays begins transacts
-lent_stays begins transacts base member parts hand c wire after now later d controlled effect k = record {
+pub open_lent_stays : {W : Type 0} (begins : W → ℕ → Bool → W → Type 0) (transacts : W → Ask → List ℕ → Reply → W → Type 0) → OpenLentStays begins transacts
+open_lent_stays begins transacts base member parts hand c wire after now later d controlled effect k = record {
   number = k.number;
   endpoint = k.endpoint;
   here = k.here;
@@ -34,5 +34,5 @@ head_of : (parts : StructureSets) (o : Option Structure) → parts head_at head_
 head_of parts (Some (QueueHead q)) at is = record { queue = q; here = at }
 head_of parts _ at is = absurd cc
 
-pub head_there : HeadIsThere
-head_there v parts k = head_of parts (parts head_at head_at) refl k.head
+pub head_is_there : HeadIsThere
+head_is_there v parts k = head_of parts (parts head_at head_at) refl k.head

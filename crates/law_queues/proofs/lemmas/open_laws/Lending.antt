@@ -28,7 +28,7 @@ use Rattle.law_driver_ring.specs.Linked.{opened_part}
 use Rattle.law_driver_ring.proofs.LendOpening.{lend_opens_drives}
 use Rattle.law_driver_ring.proofs.Unmet.{open_is_unmet}
 use Rattle.law_ring.specs.Sparing.{SparesHead, SparesElement}
-use Rattle.law_ring.proofs.SparedSparing.{spared_toggle, spared_endpoint, spared_accounts}
+use Rattle.law_ring.proofs.SparedSparing.{spared_has_toggle, spared_endpoint, accounts_are_spared}
 use Rattle.law_controller.proofs.lemmas.controlled_streams.Storing.{same_hand}
 use Rattle.law_ring.specs.Bus.{Sender}
 use Rattle.law_ring.specs.Pipes.{IsIn, IsNotIn, ArePiped}
@@ -155,7 +155,7 @@ module _ (base : Base) (w : Walk) (hand : Hand) (p : DriverParts) (member stream
           named = spared_endpoint parts now m (ends m) (heads_stay parts now m same) g.named;
           ins = subst IsIn (sym same) g.ins;
           toggle = g.toggle;
-          expects = spared_toggle hand hand parts now m g.toggle (same_hand hand) (heads_stay parts now m same) g.expects;
+          expects = spared_has_toggle hand hand parts now m g.toggle (same_hand hand) (heads_stay parts now m same) g.expects;
           sender = g.sender;
           is = g.is;
           half = g.half;
@@ -181,7 +181,7 @@ module _ (base : Base) (w : Walk) (hand : Hand) (p : DriverParts) (member stream
       record {
         place = g.place;
         told = g.told;
-        accounts = spared_accounts (order m) (order m) g.place g.place (out m) hand hand parts now m g.told (same_hand hand) (heads_stay parts now m same) (λ e among. elements_stay parts now m e same)
+        accounts = accounts_are_spared (order m) (order m) g.place g.place (out m) hand hand parts now m g.told (same_hand hand) (heads_stay parts now m same) (λ e among. elements_stay parts now m e same)
             (subst (IsOrdered (order m) g.place m) (sym same) g.accounts.ordered) g.accounts.sorted
             (λ a t among here from. g.accounts.published a t among (ap (λ (part : Structures). part a) (sym same) ∙ here) from)
             (λ a t here active. g.accounts.complete a t (ap (λ (part : Structures). part a) (sym same) ∙ here) active) g.accounts;

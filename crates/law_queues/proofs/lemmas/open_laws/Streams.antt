@@ -28,7 +28,7 @@ use Rattle.law_ring.proofs.Parting.{found_with}
 use Rattle.law_driver_ring.specs.Driven.{DrivesRing}
 use Rattle.law_driver_ring.specs.Linked.{no_part, opened_part, with_member, head_at}
 use Rattle.law_ring.specs.Sparing.{SparesHead}
-use Rattle.law_ring.proofs.SparedSparing.{linked_same, spared_endpoint}
+use Rattle.law_ring.proofs.SparedSparing.{linked_hand_is_same, spared_endpoint}
 use Rattle.law_controller.specs.controlled_streams.Reported.{AreReported}
 use Rattle.law_ring.specs.Bus.{Sender}
 use Rattle.law_ring.specs.Pipes.{IsNotIn, AreEndpoints, IsElsewhere, ArePiped}
@@ -132,7 +132,7 @@ module _ (base : Base) (w : Walk) (hand : Hand) (p : DriverParts) (member stream
     queue = q;
     head = here_now;
     own = own;
-    is = sym ((linked_same head_at (to_queue_head x.queue) hand).toggle n q ∙ toggle_off member parts w.reply n q hand k.lent.unmet refl drives.ring.in_hand);
+    is = sym ((linked_hand_is_same head_at (to_queue_head x.queue) hand).toggle n q ∙ toggle_off member parts w.reply n q hand k.lent.unmet refl drives.ring.in_hand);
   }
 
   -- ---- beside queue heads that the walk may meet already
@@ -154,7 +154,7 @@ module _ (base : Base) (w : Walk) (hand : Hand) (p : DriverParts) (member stream
 
     pub one_more : IsOneMore those hand later parts now n (end_then x)
     one_more = record {
-      hands = linked_same head_at (to_queue_head x.queue) hand;
+      hands = linked_hand_is_same head_at (to_queue_head x.queue) hand;
       stay = λ m on. stay m (apart_from_head m on);
       new = not_yet;
       queue = q;

@@ -42,14 +42,14 @@ apart_by d f same k e g x y one other addr num way =
     (sym (ap (λ (z : EpDesc). z.name.num) a.same) ∙ num ∙ ap (λ (z : EpDesc). z.name.num) b.same)
     (sym (ap (λ (z : EpDesc). z.name.way) a.same) ∙ way ∙ ap (λ (z : EpDesc). z.name.way) b.same)
 
-pub events_apart : NamesStayApart
-events_apart p k = apart_by p.driver (after_driver_row (driver_row p) p).driver (row_left (driver_row p) p) k
+pub names_stay_apart : NamesStayApart
+names_stay_apart p k = apart_by p.driver (after_driver_row (driver_row p) p).driver (row_left (driver_row p) p) k
 
 nothing_there : (e : ℕ) (x : Endpoint) → slice_get {X = Endpoint} [] e ≡ Some x → ⊥
 nothing_there e x there = cc
 
-pub new_apart : NewNamesAreApart
-new_apart n room e f x y one other addr num way = absurd (nothing_there e x one)
+pub new_names_are_apart : NewNamesAreApart
+new_names_are_apart n room e f x y one other addr num way = absurd (nothing_there e x one)
 
 -- ---- an endpoint that is opened
 
@@ -113,5 +113,5 @@ taken_apart d m o t k =
     (apart_by d (accepted_transfer d t.number t.endpoint t.asked t.holding_after (get_or (take (length t.asked.stages) (new_runs d t.holding_after)) (length t.asked.stages - 1) 0) (note_stages d.notes t.asked.stages t.endpoint.dummy (take (length t.asked.stages) (new_runs d t.holding_after)) (drop (length t.asked.stages) (new_runs d t.holding_after)))).driver
     (same_view desc_of d.endpoints t.number t.endpoint (with_queued t.endpoint (get_or (take (length t.asked.stages) (new_runs d t.holding_after)) (length t.asked.stages - 1) 0) (length d.transfers)) t.here refl) k)
 
-pub accepted_apart : AcceptedNamesAreApart
-accepted_apart d m o why k = ⊎_elim (λ (opened : Opens d m o). opened_apart d m o opened k) (λ (taken : Transfers d m o). taken_apart d m o taken k) why
+pub accepted_names_are_apart : AcceptedNamesAreApart
+accepted_names_are_apart d m o why k = ⊎_elim (λ (opened : Opens d m o). opened_apart d m o opened k) (λ (taken : Transfers d m o). taken_apart d m o taken k) why

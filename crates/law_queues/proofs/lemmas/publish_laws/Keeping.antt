@@ -27,8 +27,8 @@ publishable_still part now a t alters k = record {
   blank = unnamed_still part now a dummy_qtd alters k.blank;
 }
 
-pub publishing_still : (d : DriverContent) (member : ℕ → Bool) (parts now : StructureSets) (n b : ℕ) (t : Qtd) (k : ℕ) → KeepsEach parts now → IsBeingPublished d member parts n b t k → IsBeingPublished d member now n b t k
-publishing_still d member parts now n b t k keeps is = record {
+pub it_goes_on_beside_the_controller : (d : DriverContent) (member : ℕ → Bool) (parts now : StructureSets) (n b : ℕ) (t : Qtd) (k : ℕ) → KeepsEach parts now → IsBeingPublished d member parts n b t k → IsBeingPublished d member now n b t k
+it_goes_on_beside_the_controller d member parts now n b t k keeps is = record {
   command = is.command;
   made = is.made;
   below = is.below;

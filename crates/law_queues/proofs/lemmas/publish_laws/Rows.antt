@@ -123,17 +123,17 @@ publishable_put part a v u t at k = record {
 
 -- ---- one store
 
-pub store_made : (base : Base) (member : ℕ → Bool) (parts : StructureSets) (hand : Hand) (w : Walk) (p : DriverParts) (n b : ℕ) (t : Qtd) (k : ℕ)
+pub store_is_made : (base : Base) (member : ℕ → Bool) (parts : StructureSets) (hand : Hand) (w : Walk) (p : DriverParts) (n b : ℕ) (t : Qtd) (k : ℕ)
     → DrivesRing base member parts hand (place w p.registers p.memory) p.driver → IsSound p.memory p.driver → IsBeingPublished p.driver member parts n b t k
     → DrivesRing base member (published_parts parts n b t k) hand (place w (after_driver_row (driver_row p) p).registers (after_driver_row (driver_row p) p).memory) (after_driver_row (driver_row p) p).driver
-store_made base member parts hand w p n b t k drives sound is =
+store_is_made base member parts hand w p n b t k drives sound is =
     subst (λ (row : DriverRow). DrivesRing base member (published_parts parts n b t k) hand (place w (after_driver_row row p).registers (after_driver_row row p).memory) (after_driver_row row p).driver)
     (sym (row_is p member parts n b t k is))
     (publish_store_drives base member parts hand w p n b t k is.below drives (can_publish p.memory p.driver b (qtd_words t) (place_in k) sound is.command (places_below k is.below)) is.here is.range is.may)
 
-pub next_ready : (member : ℕ → Bool) (parts : StructureSets) (p : DriverParts) (n b : ℕ) (t : Qtd) (k : ℕ) → IsBeingPublished p.driver member parts n b t k → suc k < 8
+pub next_is_ready : (member : ℕ → Bool) (parts : StructureSets) (p : DriverParts) (n b : ℕ) (t : Qtd) (k : ℕ) → IsBeingPublished p.driver member parts n b t k → suc k < 8
     → IsBeingPublished (after_driver_row (driver_row p) p).driver member (published_parts parts n b t k) n b t (suc k)
-next_ready member parts p n b t k is below =
+next_is_ready member parts p n b t k is below =
     let new : (after_driver_row (driver_row p) p).driver ≡ record p.driver { made = suc (suc k) } =
     after_is p member parts n b t k is ∙ ap (λ (x : Bool). if x then record p.driver { made = suc (suc k) } else record p.driver { command = None; made = 0 }) (lt-ltb (suc (suc k)) 9 (omega (arith, below))) in
     record {
@@ -147,8 +147,8 @@ next_ready member parts p n b t k is below =
           (publishable_put (parts n) (32 * b) (partly t k) (partly t (suc k)) t is.here (is.may on));
     }
 
-pub last_made : (member : ℕ → Bool) (parts : StructureSets) (p : DriverParts) (n b : ℕ) (t : Qtd) → IsBeingPublished p.driver member parts n b t 7 → IsPublished (after_driver_row (driver_row p) p).driver (published_parts parts n b t 7) n b t
-last_made member parts p n b t is =
+pub last_is_made : (member : ℕ → Bool) (parts : StructureSets) (p : DriverParts) (n b : ℕ) (t : Qtd) → IsBeingPublished p.driver member parts n b t 7 → IsPublished (after_driver_row (driver_row p) p).driver (published_parts parts n b t 7) n b t
+last_is_made member parts p n b t is =
     let new : (after_driver_row (driver_row p) p).driver ≡ record p.driver { command = None; made = 0 } = after_is p member parts n b t 7 is in
     record {
       command = ap (λ (d : DriverContent). d.command) new;

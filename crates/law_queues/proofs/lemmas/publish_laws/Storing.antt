@@ -28,10 +28,10 @@ use Rattle.law_driver_ring.specs.Driven.{DrivesRing}
 use Rattle.law_driver_ring.specs.Published.{partly}
 use Rattle.law_driver_ring.proofs.Publishing.{idle}
 use Rattle.law_queues.specs.publish_laws.Publishing.{IsBeingPublished}
-use Rattle.law_queues.proofs.lemmas.publish_laws.Rows.{counted, after_is, store_made}
+use Rattle.law_queues.proofs.lemmas.publish_laws.Rows.{counted, after_is, store_is_made}
 use Rattle.law_controller.specs.controlled_streams.Storing.{LeadsLater, IsStore, with_out, stored_parts}
 use Rattle.law_controller.proofs.lemmas.controlled_streams.Storing.{element_found}
-use Rattle.law_controller.proofs.lemmas.controlled_streams.Streams.{idle_reports, last_reports, store_pipes, out_here, out_beside}
+use Rattle.law_controller.proofs.lemmas.controlled_streams.Streams.{idle_store_leaves_reports, last_store_leaves_reports, store_pipes, out_here, out_beside}
 use Rattle.claims_driver.specs.Scripts.{comes_in}
 use Rattle.law_driver.specs.chained_transfers.Bulk.{pid_by}
 use Rattle.law_driver.specs.chained_transfers.Asynchronous.{StandsAsynchronous}
@@ -293,7 +293,7 @@ module _ (p : DriverParts) (member streams : ℕ → Bool) (ends : ℕ → Told)
 
   pub drives_by : (base : Base) (w : Walk) (hand : Hand) → DrivesRing base member parts hand (place w p.registers p.memory) d → DrivesRing base member (parts_then g) hand (place w (next_of p).registers (next_of p).memory) (next_of p).driver
   drives_by base w hand drives =
-      parts_are (λ (ps : StructureSets). DrivesRing base member ps hand (place w (next_of p).registers (next_of p).memory) (next_of p).driver) (store_made base member parts hand w p n b g.qtd i drives k.sound being)
+      parts_are (λ (ps : StructureSets). DrivesRing base member ps hand (place w (next_of p).registers (next_of p).memory) (next_of p).driver) (store_is_made base member parts hand w p n b g.qtd i drives k.sound being)
 
   -- ---- the streams
 
@@ -330,7 +330,7 @@ module _ (p : DriverParts) (member streams : ℕ → Bool) (ends : ℕ → Told)
     reports_more : suc i < 8 → AreReported heads order (with_out out n (out_now (more d parts b words g i here k.fed) y.endpoint)) hand now acc reported
     reports_more low m on =
         subst (λ (xs : List ℕ). IsReported (order m) xs hand now m (acc m) (reported m)) (sym (out_stays m))
-        (idle_reports heads order out hand parts acc reported n (32 * b) (partly g.qtd i) (partly g.qtd (suc i)) store (idle g.qtd (suc i) low) right m on)
+        (idle_store_leaves_reports heads order out hand parts acc reported n (32 * b) (partly g.qtd i) (partly g.qtd (suc i)) store (idle g.qtd (suc i) low) right m on)
 
     fresh_last : suc i ≡ 8 → IsFresh (parts n) (partly g.qtd (suc i))
     fresh_last eighth = subst (λ (j : ℕ). IsFresh (parts n) (partly g.qtd j)) (sym eighth) (let fresh : IsFresh (parts n) g.qtd = g.total ∙ sym (g.long k.made) in fresh)
@@ -339,7 +339,7 @@ module _ (p : DriverParts) (member streams : ℕ → Bool) (ends : ℕ → Told)
     unfolding split store
     reports_done eighth =
         subst (λ (xs : List ℕ). AreReported heads order (with_out out n xs) hand now acc reported) (sym split.all)
-        (last_reports heads order out hand parts acc reported n (32 * b) (partly g.qtd i) (partly g.qtd (suc i)) store (ap (λ (j : ℕ). (partly g.qtd j).token.active) eighth ∙ g.active) (fresh_last eighth)
+        (last_store_leaves_reports heads order out hand parts acc reported n (32 * b) (partly g.qtd i) (partly g.qtd (suc i)) store (ap (λ (j : ℕ). (partly g.qtd j).token.active) eighth ∙ g.active) (fresh_last eighth)
         (members n (k.met.each y.endpoint g.endpoint g.here met_now)) right)
 
     pub reports_by : AreReported heads order (out_then out (next_of p).driver g) hand (parts_then g) acc reported

@@ -94,6 +94,6 @@ before_answer d rings b (at_member e at on) = at_member e at on
 before_answer d rings b (at_waiting e at among) = at_waiting e at among
 before_answer d rings b (at_rung e at among on) = absurd (false≢true on)
 
-pub reaches_fewer : AnswerReachesFewer
-reaches_fewer d rings n on =
+pub answer_reaches_fewer : AnswerReachesFewer
+answer_reaches_fewer d rings n on =
     let r = reached_is_reached d false n on in ap (is_reached d rings) r.at ∙ is_reached_reached d rings r.block (before_answer d rings r.block r.reached)

@@ -25,7 +25,7 @@ use Rattle.law_ring.specs.Hand.{Copy, copied_queue, Settlement, settled_queue_of
 use Rattle.claims_base.specs.Controller.{Base}
 use Rattle.law_ring.specs.Ring.{IsRing}
 use Rattle.law_ring.specs.Effects.{Happens}
-use Rattle.law_ring.proofs.Stepping.{event_happens}
+use Rattle.law_ring.proofs.Stepping.{each_event}
 use Rattle.law_ring.specs.Stores.{IsWider, IsClosed, IsHandAmong}
 use Rattle.law_ring.proofs.Driving.{ring_narrowed}
 use Rattle.law_driver_ring.proofs.Sorts.{effect_same, driven_same}
@@ -34,7 +34,7 @@ use Rattle.law_driver_ring.proofs.lemmas.walk_members.Decoding.{read_link, link_
 use Rattle.law_driver_ring.proofs.lemmas.walk_members.Leading.{WordLeads, reached_leads}
 use Rattle.law_driver_ring.proofs.lemmas.walk_members.Walking.{event_in}
 use Rattle.law_queues.specs.reached_rings.Reaching.{is_reached, ReachedAt, NarrowRing, NarrowDrives, EventNarrows, AnswerNarrows}
-use Rattle.law_queues.proofs.lemmas.reached_rings.Computing.{reached_is_reached, is_reached_reached, reaches_fewer}
+use Rattle.law_queues.proofs.lemmas.reached_rings.Computing.{reached_is_reached, is_reached_reached, answer_reaches_fewer}
 use Rattle.law_queues.proofs.lemmas.reached_rings.Falling.{event_falls}
 
 -- ---- the members, where they are these
@@ -109,13 +109,13 @@ still_closed narrow parts now keeps closed n q on here =
     subst (LeadsAmong narrow) (sym (ap (λ (z : Qh). z.link) h.same)) (closed n h.queue on h.here)
 
 fewer_by : (d : DriverContent) (b rings : Bool) → (b ≡ true → rings ≡ true) → IsWider (is_reached d b) (is_reached d rings)
-fewer_by d false rings falls n on = reaches_fewer d rings n on
+fewer_by d false rings falls n on = answer_reaches_fewer d rings n on
 fewer_by d true rings falls n on = subst (λ (r : Bool). is_reached d r n ≡ true) (sym (falls refl)) on
 
 pub event_narrows : {W : Type 0} (transacts : W → Ask → List ℕ → Reply → W → Type 0) → EventNarrows transacts
 event_narrows transacts base member narrow parts hand p d wire new after k words fixed heads walk heard leads wide are =
     let kind = step_of (event_row p) (at_event p) in
-    let e : Happens transacts base member parts hand wire after new kind = event_happens transacts base member parts hand p wire new after k.ring heard leads in
+    let e : Happens transacts base member parts hand wire after new kind = each_event transacts base member parts hand p wire new after k.ring heard leads in
     let next = event_in transacts d p wire new after words fixed heads walk leads in
     let closed = closed_by p.memory parts narrow d new.registers.doorbell k.ring.tells words are in
     let keeps = effect_keeps transacts base member parts hand p wire after e.now e.later kind k.ring e.effect in

@@ -11,7 +11,7 @@ use Rattle.law_structures.specs.lent_structures.Structures.{StructureSets}
 use Rattle.law_ring.specs.Hand.{Hand}
 use Rattle.claims_base.specs.Controller.{Base}
 use Rattle.law_frames.specs.Met.{IsQueuePart}
-use Rattle.law_frames.proofs.Queues.{linked_part}
+use Rattle.law_frames.proofs.Queues.{a_members_part_is_linked}
 use Rattle.law_driver_ring.specs.Released.{goes_of}
 use Rattle.law_driver_ring.proofs.Blocks.{mine}
 use Rattle.law_queues.specs.released_queues.Released.{IsReturning, ReleaseStands}
@@ -51,4 +51,4 @@ module _ (base : Base) (member : ℕ → Bool) (parts : StructureSets) (hand : H
   pub part_of : IsQueuePart (32 * x.queue) (parts (32 * x.queue))
   part_of =
       let on : member (32 * x.queue) ≡ true = s.met y.endpoint x k.endpoint (its_met parts p order out t y x (told_of base member parts hand w p order out s) k) in
-      (linked_part member (32 * x.queue) (parts (32 * x.queue)) (s.drives.ring.members (32 * x.queue) on)).part_is
+      (a_members_part_is_linked member (32 * x.queue) (parts (32 * x.queue)) (s.drives.ring.members (32 * x.queue) on)).part_is

@@ -32,7 +32,7 @@ use Rattle.law_ring.specs.Fewer.{without_those}
 use Rattle.law_ring.proofs.Returning.{those_here, those_found, those_else, those_beside}
 use Rattle.law_ring.specs.Front.{IsPassed, LinksRise, HasFront}
 use Rattle.law_controller.specs.controlled_streams.Returned.{staying, staying_of, GoUntold}
-use Rattle.law_controller.proofs.lemmas.controlled_streams.Returning.{front_returned, passed_none, spares_element}
+use Rattle.law_controller.proofs.lemmas.controlled_streams.Returning.{front_is_returned, passed_has_none, spares_element}
 use Rattle.law_driver_ring.specs.Inventory.{sorts_of, IsLent, IsDriven}
 use Rattle.law_driver_ring.specs.Released.{blocks_of, goes_of, release_row}
 use Rattle.law_driver_ring.proofs.Blocks.{mine, all_mine, none_mine, qtds_are_runs}
@@ -234,7 +234,7 @@ module _ (parts : StructureSets) (p : DriverParts) (order : ℕ → ℕ → ℕ)
       let one : passed y.reported ≡ 1 = ap passed k.reported in
       let over : IsPassed (order n) front_here.front (parts n) (piece_address d y piece.0) = front_here.passed 0 t piece.0 y k.first k.here k.held refl (omega (arith, from, one)) below in
       let at : a ≡ piece_address d y piece.0 = piece.1 ∙ ap (λ (r : Transfer). piece_address d r piece.0) is in
-      passed_none (order n) front_here.front (out n) hand parts n a xs front_here.has among (subst (λ (c : ℕ). order n c < front_here.front) (sym at) over.before) told
+      passed_has_none (order n) front_here.front (out n) hand parts n a xs front_here.has among (subst (λ (c : ℕ). order n c < front_here.front) (sym at) over.before) told
       (ap (λ (q : Qtd). q.token.active) (found_element (parts n a) told.qtd over.qtd told.here (ap (parts n) at ∙ over.here)) ∙ over.published))
       (λ (differs : place.number ≢ t).
       absurd (true≢false (sym goes_now ∙ ap goes piece.1 ∙ off_piece place.number piece.0 place.transfer place.here place.is.held piece.3 differs))) (cases_eq place.number t)
@@ -247,7 +247,7 @@ module _ (parts : StructureSets) (p : DriverParts) (order : ℕ → ℕ → ℕ)
       ⊎_elim (λ (same : m ≡ n).
       subst (λ (b : Bool). HasFront (order m) f (if b then staying goes (out m) else out m) m (now m)) (sym (eq-eqb m n same))
       (subst (λ (i : ℕ). HasFront (order i) f (staying goes (out i)) i (now i)) (sym same)
-      (front_returned (order n) f (out n) parts n goes (head_stays parts p order out t y x s k whole) (buffers_stay parts p order out t y x s k whole)
+      (front_is_returned (order n) f (out n) parts n goes (head_stays parts p order out t y x s k whole) (buffers_stay parts p order out t y x s k whole)
       (subst (λ (i : ℕ). HasFront (order i) f (out i) i (parts i)) same has))))
       (λ (differs : m ≢ n).
       subst (λ (b : Bool). HasFront (order m) f (if b then staying goes (out m) else out m) m (now m)) (sym (not_same m n differs))

@@ -21,7 +21,7 @@ use Rattle.law_ring.specs.Fewer.{without_those}
 use Rattle.law_ring.proofs.Returning.{those_found, those_else, those_beside}
 use Rattle.law_ring.specs.Front.{HasFront, LinksWithin, HasTail}
 use Rattle.law_controller.specs.controlled_streams.Returned.{staying, staying_of}
-use Rattle.law_controller.proofs.lemmas.controlled_streams.Returning.{front_returned}
+use Rattle.law_controller.proofs.lemmas.controlled_streams.Returning.{front_is_returned}
 use Rattle.law_driver_ring.specs.Released.{goes_of, release_row}
 use Rattle.law_queues.specs.released_queues.Fronts.{piece_address, StandsAt}
 use Rattle.law_queues.specs.released_queues.Released.{IsReturning, ReleaseStands}
@@ -89,7 +89,7 @@ module _ (base : Base) (member : ℕ → Bool) (parts : StructureSets) (hand : H
       ⊎_elim (λ (same : m ≡ n).
       subst (λ (b : Bool). HasFront (order m) f (if b then staying goes (out m) else out m) m (now m)) (sym (eq-eqb m n same))
       (subst (λ (i : ℕ). HasFront (order i) f (staying goes (out i)) i (now i)) (sym same)
-      (front_returned (order n) f (out n) parts n goes (head_stays base member parts hand w p order out t y x s k) (buffers_stay base member parts hand w p order out t y x s k)
+      (front_is_returned (order n) f (out n) parts n goes (head_stays base member parts hand w p order out t y x s k) (buffers_stay base member parts hand w p order out t y x s k)
       (subst (λ (i : ℕ). HasFront (order i) f (out i) i (parts i)) same has))))
       (λ (differs : m ≢ n).
       subst (λ (b : Bool). HasFront (order m) f (if b then staying goes (out m) else out m) m (now m)) (sym (not_same m n differs))
@@ -115,8 +115,8 @@ module _ (base : Base) (member : ℕ → Bool) (parts : StructureSets) (hand : H
     tail = fewer_tail parts n goes (order (32 * z.queue)) (32 * z.queue) c r.stands.front r.tail;
   }
 
-pub release_reaches : ReleaseKeepsReaches
-release_reaches base member parts hand w p order out t y x s k i z c r =
+pub release_keeps_reaches : ReleaseKeepsReaches
+release_keeps_reaches base member parts hand w p order out t y x s k i z c r =
     let row_is : after_driver_row (release_row t) p ≡ after_transfer p t (Some y) (free_qtds p.driver.notes (holding p.driver.book p.memory) y.first y.qtds) = ap (λ (o : Option Transfer). after_transfer p t o (freed_by p.driver (holding p.driver.book p.memory) o)) k.here in
     subst (λ (q : DriverParts). Reaches q.driver (without_those parts (32 * x.queue) (goes_of p.driver y) (32 * z.queue)) (order (32 * z.queue)) (staying_of (32 * x.queue) (goes_of p.driver y) out (32 * z.queue)) i z c) (sym row_is)
     (reaches_now base member parts hand w p order out t y x s k i z c r)

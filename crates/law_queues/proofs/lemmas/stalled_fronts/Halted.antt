@@ -20,7 +20,7 @@ use Rattle.law_ring.specs.Told.{Endpoint as Told}
 use Rattle.law_ring.specs.Order.{AreAfter, IsSorted, IsAmong}
 use Rattle.law_ring.specs.Halted.{IsHalted, HaltStops}
 use Rattle.law_frames.specs.Met.{IsQueuePart}
-use Rattle.law_frames.proofs.Queues.{linked_part}
+use Rattle.law_frames.proofs.Queues.{a_members_part_is_linked}
 use Rattle.law_driver.specs.chained_transfers.AsynchronousTurns.{AsynchronousTakesTurns}
 use Rattle.law_driver.specs.chained_transfers.Chains.{piece_at}
 use Rattle.law_driver.specs.chained_transfers.Turns.{IsAtPlace, turn_of, turn_in, IsNext, AreReportedTo}
@@ -142,11 +142,11 @@ module _ (p : Parts) (e t : ℕ) (found : Found) (due : IsHarvestDue p e t found
         (among_either a s.before s.later (subst (IsAmong a) s.now is));
   }
 
-pub stall_stops : StallStopsQueue
-stall_stops p e t found member streams ends parts order out due stall owners turns tells old met on stops sorted fronts =
+pub stall_stops_queue : StallStopsQueue
+stall_stops_queue p e t found member streams ends parts order out due stall owners turns tells old met on stops sorted fronts =
     halts p e t found due owners turns member streams ends parts order out old stall tells met on stops sorted fronts
 
-pub stall_halts : StallHaltsQueue
-stall_halts p e t found member streams ends parts order out due stall owners turns tells old met on stops sorted fronts =
+pub stall_halts_queue : StallHaltsQueue
+stall_halts_queue p e t found member streams ends parts order out due stall owners turns tells old met on stops sorted fronts =
     let n = 32 * due.endpoint.queue in
-    stall_stops p e t found member streams ends parts order out due stall owners turns tells old met (linked_part member n (parts n) on).part_is stops sorted fronts
+    stall_stops_queue p e t found member streams ends parts order out due stall owners turns tells old met (a_members_part_is_linked member n (parts n) on).part_is stops sorted fronts

@@ -28,12 +28,12 @@ use Rattle.claims_driver.specs.Owners.{Dummy, NoteRuns, runs_of_endpoint, note_i
 use Rattle.law_driver.proofs.lemmas.run_owners.Runs.{placed_run}
 use Rattle.law_driver.proofs.lemmas.endpoint_lives.Lives.{met_alike}
 use Rattle.claims_driver.specs.LentRuns.{AreLent, IsLent as IsLentSlot}
-use Rattle.law_driver.proofs.lemmas.lent_runs.Laws.{idle_lent}
+use Rattle.law_driver.proofs.lemmas.lent_runs.Laws.{all_are_lent_between_commands}
 use Rattle.law_structures.specs.lent_structures.Structures.{QueueHead, Element, Structures, StructureSets}
 use Rattle.law_structures.specs.lent_structures.Sound.{IsElement, LeadsOn, IsSoundQueue}
 use Rattle.law_structures.proofs.lemmas.lent_structures.Altering.{found_element, found_queue}
 use Rattle.law_frames.specs.Met.{IsQueuePart}
-use Rattle.law_frames.proofs.Queues.{linked_part}
+use Rattle.law_frames.proofs.Queues.{a_members_part_is_linked}
 use Rattle.law_driver_ring.specs.Inventory.{IsLent}
 use Rattle.law_ring.specs.Told.{Endpoint as Told}
 use Rattle.law_ring.specs.Order.{IsAmong}
@@ -139,7 +139,7 @@ module _ (p : Parts) (e t : ℕ) (found : Found) (due : IsHarvestDue p e t found
   dummy_lent : IsLent (slot_of d.book.slots x.dummy)
   dummy_lent =
       lent_slot (slot_of d.book.slots x.dummy)
-      (idle_lent d x.dummy due.idle lent
+      (all_are_lent_between_commands d x.dummy due.idle lent
       (placed_run x.dummy (Dummy e) (owners.owned.each.dummy e (runs_of_endpoint x) (ap (option_map runs_of_endpoint) due.here) (ap (λ (b : Bool). b || x.gone) (not_iso x.desc (turns.asynchronous.endpoints e x due.here).asynchronous) ∙ kept))))
 
   there : part c ≡ Some (Element dummy_qtd)
@@ -334,12 +334,12 @@ after_is : (p : Parts) (e t : ℕ) (found : Found) (due : IsHarvestDue p e t fou
 after_is p e t found due =
     ap (λ (o : Option Endpoint). after_harvest p.driver p.memory e t found o (slice_get p.driver.transfers t)) due.here ∙ ap (after_harvest p.driver p.memory e t found (Some due.endpoint)) due.there
 
-pub stall_moves : StallMovesFronts
-stall_moves p e t found member streams ends parts order out later due stall owners lent turns old still on halts fronts =
+pub stall_moves_fronts : StallMovesFronts
+stall_moves_fronts p e t found member streams ends parts order out later due stall owners lent turns old still on halts fronts =
     subst (λ (f : DriverContent). FrontsStand f parts order later) (sym (after_is p e t found due))
     (fronts_then p e t found due owners turns member streams ends parts order out old later stall lent (subst (λ (f : DriverContent). AreStillOut f later) (after_is p e t found due) still) on halts fronts)
 
-pub stall_keeps : StallKeepsFronts
-stall_keeps p e t found member streams ends parts order out later due stall owners lent turns old still on halts fronts =
+pub stall_keeps_fronts : StallKeepsFronts
+stall_keeps_fronts p e t found member streams ends parts order out later due stall owners lent turns old still on halts fronts =
     let n = 32 * due.endpoint.queue in
-    stall_moves p e t found member streams ends parts order out later due stall owners lent turns old still (linked_part member n (parts n) on).part_is halts fronts
+    stall_moves_fronts p e t found member streams ends parts order out later due stall owners lent turns old still (a_members_part_is_linked member n (parts n) on).part_is halts fronts

@@ -12,13 +12,13 @@ use Rattle.law_structures.proofs.lemmas.lent_structures.Altering.{found_element}
 use Rattle.law_ring.specs.Effects.{bytes_in, buffer_of}
 use Rattle.law_ring.specs.Order.{IsFresh, IsSorted, AreAfter, IsAmong}
 use Rattle.law_ring.specs.Front.{IsPassed, HasFront}
-use Rattle.law_ring.proofs.FrontGoing.{front_spared}
+use Rattle.law_ring.proofs.FrontGoing.{front_is_spared}
 use Rattle.law_queues.specs.released_queues.Fronts.{piece_address, StandsAt}
 use Rattle.law_controller.specs.controlled_streams.Storing.{stored_parts}
 use Rattle.law_queues.specs.standing_fronts.Along.{AlikeKeepFronts, IdleStoreKeepsFronts, LastStoreKeepsFronts}
 
-pub alike_keep : AlikeKeepFronts
-alike_keep d f parts order out alike stand i x here met =
+pub alike_keep_fronts : AlikeKeepFronts
+alike_keep_fronts d f parts order out alike stand i x here met =
     let was = alike.ends i x here met in
     let g = stand i was.endpoint was.here was.met in
     subst (λ (q : ℕ). StandsAt f (parts (32 * q)) (order (32 * q)) (out (32 * q)) i (record x { queue = q })) (sym was.queue)
@@ -81,7 +81,7 @@ stored_at d parts o xs i e x old new at idle not_out g =
     let m : ℕ = 32 * x.queue in
     record {
       front = g.front;
-      has = front_spared o g.front xs xs m (parts m) (stored_parts parts m e new m) g.has
+      has = front_is_spared o g.front xs xs m (parts m) (stored_parts parts m e new m) g.has
           (λ r found. record { queue = r; here = head_before parts m e old new at r found; rest = record { token = refl; current = refl; next = refl; alternate = refl } })
           (λ a t among found. inl (among, element_before parts m e old new at a t (not_out a among) found, ap length (same_bytes parts m e old new at t)));
       ended = g.ended;
@@ -96,8 +96,8 @@ pub stored_front : (d : DriverContent) (parts : StructureSets) (o : ℕ → ℕ)
 unfolding stored_at
 stored_front d parts o xs i e x old new at idle not_out g = refl
 
-pub idle_store_keeps : IdleStoreKeepsFronts
-idle_store_keeps d parts order out n e old new s off stand i x here met =
+pub idle_store_keeps_fronts : IdleStoreKeepsFronts
+idle_store_keeps_fronts d parts order out n e old new s off stand i x here met =
     let m : ℕ = 32 * x.queue in
     let g = stand i x here met in
     ⊎_elim (λ (same : m ≡ n).
@@ -122,7 +122,7 @@ published_at d parts o before after i e x old new at idle sorted on fresh g most
     let now : StructureSets = stored_parts parts m e new in
     record {
       front = g.front;
-      has = front_spared o g.front (before ++ after) (before ++ e ∷ after) m (parts m) (now m) g.has
+      has = front_is_spared o g.front (before ++ after) (before ++ e ∷ after) m (parts m) (now m) g.has
           (λ r found. record { queue = r; here = head_before parts m e old new at r found; rest = record { token = refl; current = refl; next = refl; alternate = refl } })
           (λ a t among found.
           ⊎_elim (λ (same : a ≡ e).
@@ -148,8 +148,8 @@ same_out : (d : DriverContent) (part : Structures) (o : ℕ → ℕ) (xs ys : Li
 same_out d part o xs ys i x is g =
     (record { front = g.front; has = subst (λ (zs : List ℕ). HasFront o g.front zs (32 * x.queue) part) is g.has; ended = g.ended; passed = g.passed }, refl)
 
-pub last_store_keeps : LastStoreKeepsFronts
-last_store_keeps d parts order out n e old new s on fresh stand reached i x here met =
+pub last_store_keeps_fronts : LastStoreKeepsFronts
+last_store_keeps_fronts d parts order out n e old new s on fresh stand reached i x here met =
     let m : ℕ = 32 * x.queue in
     let g = stand i x here met in
     ⊎_elim (λ (same : m ≡ n).

@@ -12,7 +12,7 @@ use Rattle.law_structures.proofs.lemmas.lent_structures.Names.{put_same}
 use Rattle.law_structures.proofs.lemmas.lent_structures.Altering.{found_element}
 use Rattle.law_ring.proofs.Altered.{effect_alters}
 use Rattle.law_ring.specs.Front.{LinksWithin, HasTail, FrontGoesOn}
-use Rattle.law_ring.proofs.FrontGoing.{front_moves}
+use Rattle.law_ring.proofs.FrontGoing.{each_event_moves_the_front_on}
 use Rattle.law_ring.proofs.Tails.{tail_stays, tail_moves}
 use Rattle.law_controller.specs.controlled_streams.Storing.{stored_parts}
 use Rattle.law_queues.proofs.lemmas.standing_fronts.Alike.{head_before, element_before, stored_at, stored_front, published_at, published_front}
@@ -33,7 +33,7 @@ pub reaches_walk : {W : Type 0} (transacts : W → Ask → List ℕ → Reply �
 reaches_walk transacts member parts hand reply wire after now later kind d order out i x c members in_hand effect rise k =
     let n = 32 * x.queue in
     reaches_on d parts now order out i x c k (effect_alters transacts member parts hand reply wire after now later kind in_hand effect n)
-    (front_moves transacts member parts hand reply wire after now later kind order k.stands.front out n members in_hand effect rise k.stands.has)
+    (each_event_moves_the_front_on transacts member parts hand reply wire after now later kind order k.stands.front out n members in_hand effect rise k.stands.has)
 
 -- what is active after a store of an inactive qTD was there before
 within_stored : (parts : StructureSets) (order : ℕ → ℕ) (m e c : ℕ) (old new : Qtd) → parts m e ≡ Some (Element old) → new.token.active ≡ false → LinksWithin order c (parts m) → LinksWithin order c (stored_parts parts m e new m)

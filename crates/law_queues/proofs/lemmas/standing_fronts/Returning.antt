@@ -8,7 +8,7 @@ use Rattle.law_ring.proofs.Returning.{those_found}
 use Rattle.law_controller.specs.controlled_streams.Returned.{staying_of}
 use Rattle.law_driver_ring.specs.Released.{goes_of}
 use Rattle.law_queues.proofs.lemmas.released_queues.Staying.{after_is, stands_there}
-use Rattle.law_queues.specs.standing_fronts.Reaching.{Reaches, ReachesRelease}
+use Rattle.law_queues.specs.standing_fronts.Reaching.{Reaches, ReleaseLeavesTails}
 
 -- fewer structures lead no further
 pub fewer_within : (parts : StructureSets) (n : ℕ) (goes : ℕ → Bool) (order : ℕ → ℕ) (m c : ℕ) → LinksWithin order c (parts m) → LinksWithin order c (without_those parts n goes m)
@@ -24,8 +24,8 @@ fewer_tail parts n goes order m c front k = record {
   rest = λ q b found goes_on idle to. k.rest q b (those_found parts n goes m m (QueueHead q) found) goes_on idle to;
 }
 
-pub reaches_release : ReachesRelease
-reaches_release parts p order out t y x s k whole i z c r =
+pub release_leaves_tails : ReleaseLeavesTails
+release_leaves_tails parts p order out t y x s k whole i z c r =
     let n = 32 * x.queue in
     let m = 32 * z.queue in
     let goes = goes_of p.driver y in

@@ -40,7 +40,7 @@ use Rattle.law_driver.specs.chained_transfers.Out.{passed}
 use Rattle.law_driver.proofs.lemmas.chained_transfers.Harvested.{piece_next, note_same, not_served, no_stall}
 use Rattle.law_driver.proofs.lemmas.chained_transfers.Harvesting.{waits_is}
 use Rattle.law_driver.proofs.lemmas.chained_transfers.Ways.{found_by, moves_queued}
-use Rattle.law_driver_ring.proofs.lemmas.harvested_streams.Harvesting.{token_read}
+use Rattle.law_driver_ring.proofs.lemmas.harvested_streams.Harvesting.{token_is_read}
 use Rattle.law_structures.specs.lent_structures.Structures.{Element, StructureSets, Tells}
 use Rattle.law_driver_ring.specs.fed_queues.Fed.{IsAlternate, IsPieceFed, unpublished_of, AreFed, sized}
 use Rattle.law_driver_ring.specs.fed_queues.Places.{AreStillOut, IsMet}
@@ -276,7 +276,7 @@ module _ (p : Parts) (e t : ℕ) (found : Found) (parts : StructureSets) (order 
       let f : IsPieceFed y.sort (parts (32 * c.queue)) (sized y.sort i (note_at d.notes (piece_at (note_in d.notes) y.first i))) (piece_at (note_in d.notes) y.first i) (piece_at (note_in d.notes) y.first y.qtds) = fed.pieces t i y c due.there held at (omega (arith, yet)) (omega (arith, some, most)) in
       let place_is : y.place ≡ piece_at (note_in d.notes) y.first i = at_place.place in
       let here : parts (32 * c.queue) (32 * y.place) ≡ Some (Element f.qtd) = ap (λ (b : ℕ). parts (32 * c.queue) (32 * b)) place_is ∙ f.here in
-      let read : token ≡ f.qtd.token = token_read p.memory parts (32 * c.queue) y.place f.qtd tells here in
+      let read : token ≡ f.qtd.token = token_is_read p.memory parts (32 * c.queue) y.place f.qtd tells here in
       let right : (token.halted ≡ false) × (ends_by y.sort (nat_le y.left 1) token.total ≡ true) =
       ⊎_elim (λ (halt : (token.halted ≡ true) × (what ≡ halt_of token)).
       absurd (halt_ends x.desc.kind token (ap (end_of x.desc.kind) (sym halt.1) ∙ none) (ap is_stall (sym halt.1) ∙ stall)))
@@ -344,8 +344,8 @@ module _ (p : Parts) (e t : ℕ) (found : Found) (parts : StructureSets) (order 
           subst (λ (b : Bool). P (served (after_end f0 e t x b None) e)) (sym stall)
           (each (served (goes_on f0 e t x) e) told_transfer (done_changes n what end_is stall (found_ended y.sort (nat_le y.left 1) (note_at d.notes y.place) token n what (sym found_is ∙ is))))
 
-pub harvest_keeps : HarvestKeepsFronts
-harvest_keeps p e t found parts order out later due owners turns unstalled tells fed rise still still_now stand =
+pub harvest_keeps_fronts : HarvestKeepsFronts
+harvest_keeps_fronts p e t found parts order out later due owners turns unstalled tells fed rise still still_now stand =
     subst (λ (q : Parts). AreStillOut q.driver later → FrontsStand q.driver parts order later) (sym (row_is p e t found parts order out due owners turns unstalled tells fed))
     (by_found p e t found parts order out due owners turns unstalled tells fed (λ (f : DriverContent). AreStillOut f later → FrontsStand f parts order later)
     (λ f z changes now. fronts_follow p.driver f parts order out later t due.transfer z changes turns fed rise still now stand) found refl)

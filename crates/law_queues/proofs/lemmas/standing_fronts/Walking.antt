@@ -6,7 +6,7 @@ use Rattle.drv_table.specs.declared.content.Endpoint.{Endpoint}
 use Rattle.drv_table.specs.DriverContent.{DriverContent}
 use Rattle.law_structures.specs.lent_structures.Structures.{StructureSets}
 use Rattle.law_ring.specs.Front.{FrontGoesOn}
-use Rattle.law_ring.proofs.FrontGoing.{front_moves}
+use Rattle.law_ring.proofs.FrontGoing.{each_event_moves_the_front_on}
 use Rattle.law_queues.specs.released_queues.Fronts.{piece_address, StandsAt}
 use Rattle.law_queues.specs.standing_fronts.Along.{WalkKeepsFronts}
 
@@ -22,9 +22,9 @@ stands_on d parts now order out e x f g =
       passed = λ i t j y at there held same from below. g.passed (piece_address d y j) (f.passed i t j y at there held same from below);
     }
 
-pub walk_keeps : {W : Type 0} (transacts : W → Ask → List ℕ → Reply → W → Type 0) → WalkKeepsFronts transacts
-walk_keeps transacts member parts hand reply wire after now later kind d order out members in_hand effect rise stand e x here met =
+pub walk_keeps_fronts : {W : Type 0} (transacts : W → Ask → List ℕ → Reply → W → Type 0) → WalkKeepsFronts transacts
+walk_keeps_fronts transacts member parts hand reply wire after now later kind d order out members in_hand effect rise stand e x here met =
     let n = 32 * x.queue in
     let f = stand e x here met in
     stands_on d parts now (order n) (out n) e x f
-    (front_moves transacts member parts hand reply wire after now later kind (order n) f.front (out n) n members in_hand effect (rise e x here met) f.has)
+    (each_event_moves_the_front_on transacts member parts hand reply wire after now later kind (order n) f.front (out n) n members in_hand effect (rise e x here met) f.has)

@@ -17,8 +17,8 @@ use Rattle.law_queues.proofs.lemmas.told_endpoints.Lines.{stored_filtered, store
 
 -- ---- endpoints are named as before
 
-pub names_kept : (reports : List Report) (store : List ℕ) (named now : ℕ → Option Named) (held told : ℕ → List ℕ) → SameNames named now → TellsEach reports store named held told → TellsEach reports store now held told
-names_kept reports store named now held told same k = record {
+pub keeps_names : (reports : List Report) (store : List ℕ) (named now : ℕ → Option Named) (held told : ℕ → List ℕ) → SameNames named now → TellsEach reports store named held told → TellsEach reports store now held told
+keeps_names reports store named now held told same k = record {
   stored = k.stored;
   each = λ e x there on. k.each e x (sym (same e) ∙ there) on;
   only = λ name others. k.only name (λ e x there. others e x (same e ∙ there));
@@ -35,9 +35,9 @@ refused_by false is a = absurd (false≢true is)
 not_of : (name : EpName) (line : Report) → is_refusal line.what ≡ true → is_line_of name line ≡ false
 not_of name line refusal = refused_by (is_refusal line.what) refusal (is_same_name line.name name)
 
-pub refusal_added : (reports : List Report) (store : List ℕ) (named : ℕ → Option Named) (held told : ℕ → List ℕ) (line : Report) → is_refusal line.what ≡ true → line.from ≡ length store → line.len ≡ 0
+pub adds_refusal : (reports : List Report) (store : List ℕ) (named : ℕ → Option Named) (held told : ℕ → List ℕ) (line : Report) → is_refusal line.what ≡ true → line.from ≡ length store → line.len ≡ 0
     → TellsEach reports store named held told → TellsEach (reports ++ line ∷ []) store named held told
-refusal_added reports store named held told line refusal from none k =
+adds_refusal reports store named held told line refusal from none k =
     let same : (name : EpName) → lines_in name (reports ++ line ∷ []) ≡ lines_in name reports = λ name. line_of_other name reports line (not_of name line refusal) in
     record {
       stored = stored_then reports line (length store) k.stored (omega (arith, from, none));
@@ -95,16 +95,16 @@ endpoint_more reports store named now held told e x new at others none nothing k
         no_name z = cc
 
 -- .. that goes on
-pub endpoint_added : (reports : List Report) (store : List ℕ) (named now : ℕ → Option Named) (held told : ℕ → List ℕ) (e : ℕ) (x : Named) → named e ≡ None → NamesAt e x named now → x.ended ≡ None
+pub open_adds_endpoint : (reports : List Report) (store : List ℕ) (named now : ℕ → Option Named) (held told : ℕ → List ℕ) (e : ℕ) (x : Named) → named e ≡ None → NamesAt e x named now → x.ended ≡ None
     → ((k : ℕ) (y : Named) → named k ≡ Some y → is_same_name y.name x.name ≡ false) → held e ≡ [] → told e ≡ [] → TellsEach reports store named held told → TellsEach reports store now held told
-endpoint_added reports store named now held told e x new at still others none nothing k =
+open_adds_endpoint reports store named now held told e x new at still others none nothing k =
     endpoint_more reports store named now held told e x new at others none nothing k
 
 -- ---- more bytes are held back
 
-pub held_added : (reports : List Report) (store : List ℕ) (named : ℕ → Option Named) (held later told now : ℕ → List ℕ) (e : ℕ) (x : Named) (more : List ℕ) → named e ≡ Some x → x.ended ≡ None
+pub adds_held : (reports : List Report) (store : List ℕ) (named : ℕ → Option Named) (held later told now : ℕ → List ℕ) (e : ℕ) (x : Named) (more : List ℕ) → named e ≡ Some x → x.ended ≡ None
     → Grows e more held later → Grows e more told now → TellsEach reports store named held told → TellsEach reports store named later now
-held_added reports store named held later told now e x more there still grows adds k = record {
+adds_held reports store named held later told now e x more there still grows adds k = record {
   stored = k.stored;
   each = λ i y here on.
       ⊎_elim (λ (is : i ≡ e).
@@ -201,9 +201,9 @@ line_placed reports store bytes named after held later told now e x y line there
         }
 
 -- its endpoint has a stream
-pub line_added : (reports : List Report) (store bytes more : List ℕ) (named after : ℕ → Option Named) (held later told now : ℕ → List ℕ) (e : ℕ) (x y : Named) (line : Report) → named e ≡ Some x → NamesAt e y named after
+pub adds_bytes : (reports : List Report) (store bytes more : List ℕ) (named after : ℕ → Option Named) (held later told now : ℕ → List ℕ) (e : ℕ) (x y : Named) (line : Report) → named e ≡ Some x → NamesAt e y named after
     → AddsLine e x y line store bytes (held e) more → Clears e held later → Grows e more told now → TellsEach reports store named held told → TellsEach (reports ++ line ∷ []) (store ++ bytes) after later now
-line_added reports store bytes more named after held later told now e x y line there at adds clears grows k =
+adds_bytes reports store bytes more named after held later told now e x y line there at adds clears grows k =
     line_placed reports store bytes named after held later told now e x y line there at adds.named adds.line_named adds.tells adds.from adds.long clears.beside grows.beside
     (λ on.
     let one = k.each e x there (sym adds.alike ∙ on) in
@@ -229,8 +229,8 @@ line_added reports store bytes more named after held later told now e x y line t
     bytes_now = ap (λ (i : ℕ). take line.len (drop i (store ++ bytes))) adds.from ∙ ap (λ (i : ℕ). take i (drop (length store) (store ++ bytes))) adds.long ∙ bytes_stored store bytes
 
 -- it has none
-pub other_added : (reports : List Report) (store bytes : List ℕ) (named after : ℕ → Option Named) (held told : ℕ → List ℕ) (e : ℕ) (x y : Named) (line : Report) → named e ≡ Some x → NamesAt e y named after
+pub requests_add_no_stream : (reports : List Report) (store bytes : List ℕ) (named after : ℕ → Option Named) (held told : ℕ → List ℕ) (e : ℕ) (x y : Named) (line : Report) → named e ≡ Some x → NamesAt e y named after
     → AddsOtherLine x y line store bytes → TellsEach reports store named held told → TellsEach (reports ++ line ∷ []) (store ++ bytes) after held told
-other_added reports store bytes named after held told e x y line there at adds k =
+requests_add_no_stream reports store bytes named after held told e x y line there at adds k =
     line_placed reports store bytes named after held held told told e x y line there at adds.named adds.line_named adds.tells adds.from adds.long (λ i differs. refl) (λ i differs. refl)
     (λ on. absurd (false≢true (sym adds.none ∙ on))) k

@@ -24,21 +24,22 @@ use Rattle.law_queues.specs.whole_sends.Laws.{LinkedEndsWhole, StaleEndsWhole, S
 
 -- ---- what is in hand
 
-pub linked_ends : LinkedEndsWhole
-linked_ends at l Empty n k = k
-linked_ends at l _ n k = k
+pub linked_ends_whole : LinkedEndsWhole
+linked_ends_whole at l Empty n k = k
+linked_ends_whole at l _ n k = k
 
 stale_by : (at : ℕ) (c : Copy) (n : ℕ) (b : Bool) → EndsWhole (if b then Stale at (copied_queue c) else Copied c) n
 stale_by at c n true = tt
 stale_by at c n false = tt
 
-pub stale_ends : StaleEndsWhole
-stale_ends at (Copied c) n k = stale_by at c n (c.at == at)
-stale_ends at _ n k = k
+pub stale_ends_whole : StaleEndsWhole
+stale_ends_whole at (Copied c) n k = stale_by at c n (c.at == at)
+stale_ends_whole at _ n k = k
 
-pub stranger_ends : StrangerEndsWhole
-stranger_ends member parts reply (Settled c z) n in_hand off = λ at over goes. absurd (true≢false (sym in_hand.0.on ∙ ap member at ∙ off))
-stranger_ends member parts reply _ n in_hand off = tt
+pub stranger_ends_whole : StrangerEndsWhole
+stranger_ends_whole member parts reply (Settled c z) n in_hand off =
+    λ at over goes. absurd (true≢false (sym in_hand.0.on ∙ ap member at ∙ off))
+stranger_ends_whole member parts reply _ n in_hand off = tt
 
 -- ---- an overlay as it was
 
@@ -61,8 +62,8 @@ turn_same order part now q r same first k = record {
       (first b).1 goes_before rests leads (k.rest b goes_before rests leads);
 }
 
-pub spared_whole : SparedIsWhole
-spared_whole order out out_now hand later n part now hands fewer head was k = record {
+pub spared_is_whole : SparedIsWhole
+spared_is_whole order out out_now hand later n part now hands fewer head was k = record {
   whole = λ a t here off goes. k.whole a t (was a t here) off goes;
   ends = hands k.ends;
   goes_on = λ r a t at goes here off.
@@ -85,9 +86,9 @@ found_stays parts k goes n a s found = by (n == k) found
     by true there = (found_fewer goes (parts n) a s there).1
     by false there = there
 
-pub returned_whole : ReturnedIsWhole
-returned_whole order out out_now hand n parts k goes fewer old =
-    spared_whole order out out_now hand hand n (parts n) (without_those parts k goes n) (λ ends_so. ends_so) fewer
+pub returned_is_whole : ReturnedIsWhole
+returned_is_whole order out out_now hand n parts k goes fewer old =
+    spared_is_whole order out out_now hand hand n (parts n) (without_those parts k goes n) (λ ends_so. ends_so) fewer
     (λ r here. itself (parts n) n r (found_stays parts k goes n n (QueueHead r) here)) (λ a t here. found_stays parts k goes n a (Element t) here) old
 
 -- ---- orders
@@ -98,8 +99,8 @@ link_there part l b leads is = subst (LeadsOn part) is leads
 sound_head : (member : ℕ → Bool) (n : ℕ) (part : Structures) (q : Qh) → IsMember member n part → part n ≡ Some (QueueHead q) → IsSoundQueue part q
 sound_head member n part q m here = subst (IsSoundQueue part) (found_queue (part n) m.queue q m.here here) m.sound
 
-pub renumbered_whole : RenumberedIsWhole
-renumbered_whole member order order_now out hand n part m same k = record {
+pub renumbered_is_whole : RenumberedIsWhole
+renumbered_is_whole member order order_now out hand n part m same k = record {
   whole = k.whole;
   ends = k.ends;
   goes_on = k.goes_on;
@@ -134,8 +135,8 @@ renumbered_whole member order order_now out hand n part m same k = record {
 
 -- ---- new qTDs behind all others
 
-pub added_whole : AddedIsWhole
-added_whole member order out out_now hand n part now m fewer head each k = record {
+pub added_is_whole : AddedIsWhole
+added_is_whole member order out out_now hand n part now m fewer head each k = record {
   whole = λ a t here off goes. ⊎_elim (λ (was : part a ≡ Some (Element t)). k.whole a t was off goes) (λ (new : IsNewBehind order out_now part now a t). (new.idle off).1) (each a t here);
   ends = k.ends;
   goes_on = λ r a t at goes here off.
@@ -221,8 +222,8 @@ module _ (order : ℕ → ℕ) (hand : Hand) (n : ℕ) (parts : StructureSets) (
       next = λ c a b t u one other on active less to. k.next c a b t u (active_was c t one on) (active_was a u other active) on active less to;
     }
 
-pub idle_store_whole : IdleStoreIsWhole
-idle_store_whole order out hand n parts e old new here idle off goes none k = idle_whole order hand n parts e old new here idle off goes none out k
+pub idle_store_is_whole : IdleStoreIsWhole
+idle_store_is_whole order out hand n parts e old new here idle off goes none k = idle_whole order hand n parts e old new here idle off goes none out k
 
 among_split : (e : ℕ) (a : ℕ) (ahead behind : List ℕ) → IsAmong a (ahead ++ behind) → IsAmong a ahead ⊎ IsAmong a behind
 among_split e a [] behind among = inr among
@@ -245,8 +246,8 @@ lower order e a (d ∷ ds) behind sorted (inl same) = let less = past d ds sorte
     past d (x ∷ xs) after = past d xs after.1
 lower order e a (d ∷ ds) behind sorted (inr among) = lower order e a ds behind sorted.1 among
 
-pub last_store_whole : LastStoreIsWhole
-last_store_whole order front ahead behind hand n parts e old new here idle on sorted fronts within tail complete leads k = record {
+pub last_store_is_whole : LastStoreIsWhole
+last_store_is_whole order front ahead behind hand n parts e old new here idle on sorted fronts within tail complete leads k = record {
   whole = λ a t found over goes_now. k.whole a t (idle_was a t found over) over goes_now;
   ends = k.ends;
   goes_on = λ q a t at goes_now found over. k.goes_on q a t (head_was parts n e new q at) goes_now (idle_was a t found over) over;
@@ -293,8 +294,8 @@ last_store_whole order front ahead behind hand n parts e old new here idle on so
 
 -- ---- a queue head begins
 
-pub beginning_whole : BeginningIsWhole
-beginning_whole order hand n part ends_so rests each = record {
+pub beginning_is_whole : BeginningIsWhole
+beginning_is_whole order hand n part ends_so rests each = record {
   whole = λ a t here off goes. (each a t here).2;
   ends = ends_so;
   goes_on = λ q a t at goes here off. (each a t here).1;

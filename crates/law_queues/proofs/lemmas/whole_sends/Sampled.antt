@@ -30,7 +30,7 @@ use Rattle.law_ring.specs.OutPipes.{IsOut, IsNext}
 use Rattle.law_queues.specs.whole_sends.Whole.{EndsWhole, GoesInTurn, AreSentWhole}
 use Rattle.law_queues.specs.whole_sends.Samples.{order, ahead, behind, first, second, tail, more, working, halted, halted_second, pages, no_part, head_of, queue_of, parts, earlier, parts_halted, member, copy, acknowledgement, last, sent, written, sent_second}
 use Rattle.law_queues.specs.whole_sends.Laws.{IsNewBehind}
-use Rattle.law_queues.proofs.lemmas.whole_sends.Walking.{with_hand, walk_keeps}
+use Rattle.law_queues.proofs.lemmas.whole_sends.Walking.{with_hand, walk_keeps_whole}
 
 -- ---- its qTDs
 
@@ -422,4 +422,4 @@ any_wire wire ask bytes reply after = Unit {0}
 
 pub written_whole : AreSentWhole order out Empty 64 (written 64)
 written_whole =
-    walk_keeps any_wire member parts sent acknowledgement 0 0 written Empty steps.WriteBack order 7 out 64 (7 ∷ 9 ∷ 1 ∷ 2 ∷ 3 ∷ []) one_member sent_in_hand (is_written_back any_wire 0) are_outs accounts_in_hand in_hand
+    walk_keeps_whole any_wire member parts sent acknowledgement 0 0 written Empty steps.WriteBack order 7 out 64 (7 ∷ 9 ∷ 1 ∷ 2 ∷ 3 ∷ []) one_member sent_in_hand (is_written_back any_wire 0) are_outs accounts_in_hand in_hand

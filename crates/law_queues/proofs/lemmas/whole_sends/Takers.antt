@@ -26,7 +26,7 @@ use Rattle.law_ring.specs.OutPipeLaws.{SendsNone, IsBeside}
 use Rattle.law_ring.proofs.Stopping.{out_only}
 use Rattle.law_queues.specs.whole_sends.Whole.{buffers_of}
 use Rattle.law_queues.specs.whole_sends.Laws.{IdleTakesNothing, IsStopped, TakenIsInOrder, TakenIsAhead}
-use Rattle.law_queues.proofs.lemmas.whole_sends.Telling.{told_in_order, next_in_order, told_ahead, next_ahead}
+use Rattle.law_queues.proofs.lemmas.whole_sends.Telling.{told_is_in_order, next_is_in_order, told_is_ahead, next_is_ahead}
 
 -- the transaction of another queue head asks another endpoint, or is no OUT
 unasked : {W : Type 0} (transacts : W → Ask → List ℕ → Reply → W → Type 0) (stream : ℕ → ℕ → Bool) (member : ℕ → Bool)
@@ -73,12 +73,12 @@ taken_begins parts hand n q h told harvested bytes s head begins next stopped (a
     subst (λ (zs : List ℕ). IsPrefix zs (harvested ++ bytes)) (sym (t ∙ append_assoc harvested told y)) (after_both harvested (told ++ y) bytes (next y on un is_next))
 taken_begins parts hand n q h told harvested bytes s head begins next stopped (ended y e t off halted) = stopped (q, head, off, halted)
 
-pub taken_in_order : TakenIsInOrder
-taken_in_order member parts hand reply order place out n told harvested o x m in_hand acc fresh k p stopped =
-    taken_begins parts hand n p.expects.queue p.toggle told harvested (buffers_of (parts n) out) p.taker p.expects.head (told_in_order member parts hand reply order place out n told m in_hand p.outs acc fresh k)
-    (λ y on un next. next_in_order member parts hand reply order place out n told p.expects.queue y m in_hand p.outs acc fresh k p.expects.head on un next) stopped p.agrees
+pub taken_is_in_order : TakenIsInOrder
+taken_is_in_order member parts hand reply order place out n told harvested o x m in_hand acc fresh k p stopped =
+    taken_begins parts hand n p.expects.queue p.toggle told harvested (buffers_of (parts n) out) p.taker p.expects.head (told_is_in_order member parts hand reply order place out n told m in_hand p.outs acc fresh k)
+    (λ y on un next. next_is_in_order member parts hand reply order place out n told p.expects.queue y m in_hand p.outs acc fresh k p.expects.head on un next) stopped p.agrees
 
-pub taken_ahead : TakenIsAhead
-taken_ahead member parts hand reply order place front before behind n e told harvested o x m in_hand acc fronts tail below k p stopped =
-    taken_begins parts hand n p.expects.queue p.toggle told harvested (buffers_of (parts n) before) p.taker p.expects.head (told_ahead member parts hand reply order place front before behind n e told m in_hand p.outs acc fronts tail below k)
-    (λ y on un next. next_ahead member parts hand reply order place front before behind n e told p.expects.queue y m in_hand p.outs acc fronts tail below k p.expects.head on un next) stopped p.agrees
+pub taken_is_ahead : TakenIsAhead
+taken_is_ahead member parts hand reply order place front before behind n e told harvested o x m in_hand acc fronts tail below k p stopped =
+    taken_begins parts hand n p.expects.queue p.toggle told harvested (buffers_of (parts n) before) p.taker p.expects.head (told_is_ahead member parts hand reply order place front before behind n e told m in_hand p.outs acc fronts tail below k)
+    (λ y on un next. next_is_ahead member parts hand reply order place front before behind n e told p.expects.queue y m in_hand p.outs acc fronts tail below k p.expects.head on un next) stopped p.agrees

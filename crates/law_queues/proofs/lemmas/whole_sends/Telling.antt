@@ -19,7 +19,7 @@ use Rattle.law_ring.specs.Effects.{buffer_of}
 use Rattle.law_ring.specs.Told.{works_on, told_bytes, settled_bytes, hand_bytes, Told}
 use Rattle.law_ring.proofs.Growing.{overwritten_by_none, works_here, hand_here, hand_not}
 use Rattle.law_ring.specs.Order.{AreAfter, IsSorted, IsAmong, AllTold, none_out, one_out}
-use Rattle.law_ring.proofs.Ordering.{not_worked, works_by, done_told}
+use Rattle.law_ring.proofs.Ordering.{not_worked, works_by, a_done_qtd_is_told_by_memory}
 use Rattle.law_ring.specs.Front.{HasFront, HasTail}
 use Rattle.law_ring.specs.OutPipes.{IsOut, IsNext, IsUnmoved}
 use Rattle.law_ring.proofs.OutPipeAgreeing.{moved_none}
@@ -110,7 +110,7 @@ module _ (member : ℕ → Bool) (parts : StructureSets) (hand : Hand) (order : 
   whole_told e x first off goes =
       let bs : List ℕ = buffer_of part first.qtd in
       let none = k.whole e first.qtd first.here off goes in
-      done_told member parts hand n e first.qtd x m first.here off first ∙ take_all (length bs - first.qtd.token.total) bs (omega (arith, none)) ∙ buffer_is e first.qtd first.here
+      a_done_qtd_is_told_by_memory member parts hand n e first.qtd x m first.here off first ∙ take_all (length bs - first.qtd.token.total) bs (omega (arith, none)) ∙ buffer_is e first.qtd first.here
 
   -- ---- past one that is active or halted nothing is told
 
@@ -295,11 +295,11 @@ module _ (member : ℕ → Bool) (parts : StructureSets) (hand : Hand) (order : 
 
 -- ---- the laws
 
-pub told_in_order : ToldIsInOrder
-told_in_order member parts hand reply order place out n told m in_hand outs acc fresh k = told_prefix member parts hand order out n m k reply in_hand outs fresh out told acc.sorted (λ b among. among) acc.told
+pub told_is_in_order : ToldIsInOrder
+told_is_in_order member parts hand reply order place out n told m in_hand outs acc fresh k = told_prefix member parts hand order out n m k reply in_hand outs fresh out told acc.sorted (λ b among. among) acc.told
 
-pub next_in_order : NextIsInOrder
-next_in_order member parts hand reply order place out n told q x m in_hand outs acc fresh k head on un next =
+pub next_is_in_order : NextIsInOrder
+next_is_in_order member parts hand reply order place out n told q x m in_hand outs acc fresh k head on un next =
     let w : IsWorking (parts n) q = (subst (IsSoundQueue (parts n)) (found_queue (parts n n) m.queue q m.here head) m.sound).work on in
     next_in member parts hand order out n m k reply in_hand outs fresh q x head on un next out told acc.sorted (λ b among. among) (acc.complete q.current w.element w.here w.published) acc.told
 
@@ -310,13 +310,13 @@ pub nothing_past_halted : NothingPastHalted
 nothing_past_halted member parts hand order place out n told e t m acc fresh k here off halted below =
     none_past member parts hand order out n m k fresh e t out told here (λ over goes. true≢false (sym halted ∙ goes)) (after_all order e out below) (λ b among. among) acc.told
 
-pub told_ahead : ToldIsAhead
-told_ahead member parts hand reply order place front ahead behind n e told m in_hand outs acc fronts tail below k =
+pub told_is_ahead : ToldIsAhead
+told_is_ahead member parts hand reply order place front ahead behind n e told m in_hand outs acc fronts tail below k =
     told_prefix member parts hand order (ahead ++ behind) n m k reply in_hand outs fronts.fresh ahead told (sorted_left order ahead behind acc.sorted) (λ b among. among_left b ahead behind among)
     (told_before member parts hand order front ahead behind n e m k fronts tail below told acc.told)
 
-pub next_ahead : NextIsAhead
-next_ahead member parts hand reply order place front ahead behind n e told q x m in_hand outs acc fronts tail below k head on un next =
+pub next_is_ahead : NextIsAhead
+next_is_ahead member parts hand reply order place front ahead behind n e told q x m in_hand outs acc fronts tail below k head on un next =
     let w : IsWorking (parts n) q = (subst (IsSoundQueue (parts n)) (found_queue (parts n n) m.queue q m.here head) m.sound).work on in
     let current : IsAmong q.current ahead =
     ⊎_elim (λ (one : IsAmong q.current ahead). one) (λ (other : IsAmong q.current behind). absurd (not_come member parts hand order front ahead behind n e m k fronts tail below q.current q head other on refl))

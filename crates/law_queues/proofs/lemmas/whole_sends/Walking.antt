@@ -356,13 +356,14 @@ module _ {W : Type 0} (transacts : W → Ask → List ℕ → Reply → W → Ty
       (ring_writes member parts hand now later w reply both.0 both.1) order out n
       (member_part member w.copy.at (parts w.copy.at) (members w.copy.at both.0.on)) sorted complete k
 
-pub walk_keeps : {W : Type 0} (transacts : W → Ask → List ℕ → Reply → W → Type 0) → WalkKeepsWhole transacts
-walk_keeps transacts member parts hand reply wire after now later kind order place out n told members in_hand effect outs acc k =
+pub walk_keeps_whole : {W : Type 0} (transacts : W → Ask → List ℕ → Reply → W → Type 0) → WalkKeepsWhole transacts
+walk_keeps_whole transacts member parts hand reply wire after now later kind order place out n told members in_hand effect outs acc k =
     whole_by transacts member parts hand reply wire after now later order out n members in_hand outs acc.sorted acc.complete k kind effect
 
-pub control_keeps : {W : Type 0} (begins : W → ℕ → Bool → W → Type 0) (transacts : W → Ask → List ℕ → Reply → W → Type 0) → ControlKeepsWhole begins transacts
-control_keeps begins transacts member parts hand reply wire after now later order place out n told members in_hand (a_microframe b) outs acc k =
+pub control_keeps_whole : {W : Type 0} (begins : W → ℕ → Bool → W → Type 0) (transacts : W → Ask → List ℕ → Reply → W → Type 0) → ControlKeepsWhole begins transacts
+control_keeps_whole begins transacts member parts hand reply wire after now later order place out n told members in_hand (a_microframe b) outs acc k =
     subst (λ (h : Hand). AreSentWhole order out h n (now n)) (sym b.hand_stays) (subst (λ (ps : StructureSets). AreSentWhole order out hand n (ps n)) (sym b.parts_stay) k)
-control_keeps begins transacts member parts hand reply wire after now later order place out n told members in_hand (a_step s) outs acc k =
+control_keeps_whole begins transacts member parts hand reply wire after now later order place out n told members in_hand (a_step s) outs acc
+    k =
     whole_by transacts member parts hand reply wire after now later order out n members in_hand outs acc.sorted acc.complete k s.kind
     s.effect

@@ -401,5 +401,5 @@ module _ (d : DriverContent) (m : Mem) (o : Offered) (owners : HasOwners d) (sta
   idle_adds cmd true fit f = absurd (no_ok errors.Busy o f)
   idle_adds cmd false fit f = next_adds cmd fit f
 
-pub commands_add : CommandsAddWhatTheyAsk
-commands_add d m cmd o owners stands fit f = idle_adds d m o owners stands cmd (is_some d.command) fit f
+pub commands_add_what_they_ask : CommandsAddWhatTheyAsk
+commands_add_what_they_ask d m cmd o owners stands fit f = idle_adds d m o owners stands cmd (is_some d.command) fit f

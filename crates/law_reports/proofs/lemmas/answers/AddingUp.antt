@@ -36,7 +36,7 @@ use Rattle.claims_world.specs.Pending.{is_of_transfer, IsOf, IsFewer, one_each, 
 use Rattle.claims_world.specs.Refused.{IsRefused, IsAccepted}
 use Rattle.law_driver_ring.proofs.lemmas.walk_members.Descriptions.{desc_of, SameDescs, row_left}
 use Rattle.law_telling.proofs.Passing.{events_keep_transfers}
-use Rattle.law_reports.proofs.lemmas.answers.Closings.{closings_tell}
+use Rattle.law_reports.proofs.lemmas.answers.Closings.{closings_tell_pending}
 use Rattle.law_reports.proofs.lemmas.answers.Counting.{events_count_down}
 use Rattle.law_reports.proofs.lemmas.answers.Moments.{next_moment, drivers_next, script_has_causes, script_tells}
 use Rattle.law_reports.proofs.lemmas.answers.Tallied.{is_at, HasName, IsTallied, names_same, other_line, more_transfers, one_endpoint, Writes, after_lines}
@@ -308,5 +308,5 @@ script_counts s fit = record {
       let new : (moment s (suc k)).world ≡ driver_next w =
       ap (λ (p : OrderedWorld). p.world) (next_moment s k) ∙ drivers_next (fixed_of s) w (moment s k).orders turn in
       subst (λ (v : World). IsCountedDown w.driver v.driver) (sym new) (events_count_down (driver_parts w));
-  told = λ w run. closings_tell w.fixed w.world;
+  told = λ w run. closings_tell_pending w.fixed w.world;
 }

@@ -130,8 +130,8 @@ module _ (w : World) (name : EpName) (n : ℕ) (now : IsPendingNow w.driver name
   seats_told (z ∷ zs) (suc i) s here same =
       any_right (is_told_pending name n) (seat_closings w z) (flat_map (seat_closings w) zs) (seats_told zs i s here same)
 
-pub closings_tell : ClosingsTellPending
-closings_tell fixed w = record {
+pub closings_tell_pending : ClosingsTellPending
+closings_tell_pending fixed w = record {
   each = seats_tell w fixed.seats;
   all = λ i n seat here now. seats_told w seat.name n now fixed.seats i seat here refl;
 }

@@ -31,14 +31,14 @@ use Rattle.drv_table.specs.Rows.{driver_row, after_driver_row}
 use Rattle.qh_qtd.specs.declared.token.Token.{Token}
 use Rattle.claims_answers.specs.Telling.{HasReason, done, missed, babbled, failed, stalled as stalled_so}
 use Rattle.law_driver.specs.run_owners.Due.{IsDue, IsHarvestDue}
-use Rattle.law_driver.proofs.lemmas.run_owners.Reasons.{each_is_due}
+use Rattle.law_driver.proofs.lemmas.run_owners.Reasons.{each_event_is_due}
 use Rattle.law_driver.proofs.lemmas.run_owners.Released.{set_here}
 use Rattle.law_telling.proofs.Tokens.{found_ends}
 use Rattle.claims_world.specs.Pending.{without_line, IsOf, is_of_transfer, IsGivenBack, IsFewer, one_each, cancelled, IsCountedDown}
 use Rattle.law_reports.specs.requests.told_requests.Rows.{adds_lines}
-use Rattle.law_reports.proofs.lemmas.requests.lemmas.told_requests.Quiet.{quiet_rows}
-use Rattle.law_reports.proofs.lemmas.requests.lemmas.told_requests.Waiting.{quiet_waiting, set_same, set_less, map_same}
-use Rattle.law_reports.proofs.lemmas.requests.lemmas.told_requests.WaitingHarvests.{other_harvest_waits, other_returns_wait}
+use Rattle.law_reports.proofs.lemmas.requests.lemmas.told_requests.Quiet.{quiet_rows_keep_lines}
+use Rattle.law_reports.proofs.lemmas.requests.lemmas.told_requests.Waiting.{quiet_rows_keep_waiting, set_same, set_less, map_same}
+use Rattle.law_reports.proofs.lemmas.requests.lemmas.told_requests.WaitingHarvests.{other_harvest_keeps_waiting, other_returns_keep_waiting}
 use Rattle.law_reports.specs.answers.Counting.{EventsCountDown}
 
 -- ---- lines of one name, one for each transfer less
@@ -285,8 +285,9 @@ whole d new e down others = record { number = e; lines = down.lines; are = down.
 quiet_down : (row : DriverRow) (p : Parts) → adds_lines row ≡ false → IsCountedDown p.driver (after_driver_row row p).driver
 quiet_down row p quiet =
     whole p.driver (after_driver_row row p).driver 0
-    (still_down p.driver (after_driver_row row p).driver 0 (quiet_rows row p quiet).reports (quiet_waiting row p 0 quiet))
-    (λ k differs. quiet_waiting row p k quiet)
+    (still_down p.driver (after_driver_row row p).driver 0 (quiet_rows_keep_lines row p quiet).reports
+    (quiet_rows_keep_waiting row p 0 quiet))
+    (λ k differs. quiet_rows_keep_waiting row p k quiet)
 
 -- a token that ends its transfer tells of it
 reason_of : (get last : Bool) (t : Token) (what : What) → HasReason get last t what → is_of_transfer what ≡ true
@@ -309,13 +310,13 @@ row_down (rows.Harvest e t found) p due =
     (harvest_down p.driver p.memory e t found (slice_get p.driver.endpoints e) (slice_get p.driver.transfers t)
     (found_of_transfer p e t found due)
     refl refl)
-    (λ k differs. other_harvest_waits p e t found k differs)
+    (λ k differs. other_harvest_keeps_waiting p e t found k differs)
 row_down (rows.ReleaseEndpoint e) p due =
     whole p.driver (after_driver_row (rows.ReleaseEndpoint e) p).driver e (endpoint_down p e (slice_get p.driver.endpoints e) refl)
-    (λ k differs. (other_returns_wait p e k differs).0)
+    (λ k differs. (other_returns_keep_waiting p e k differs).0)
 row_down (rows.ReleaseRemoved (removed.Endpoint e)) p due =
     whole p.driver (after_driver_row (rows.ReleaseRemoved (removed.Endpoint e)) p).driver e
-    (removed_down p e (slice_get p.driver.endpoints e) refl) (λ k differs. (other_returns_wait p e k differs).1)
+    (removed_down p e (slice_get p.driver.endpoints e) refl) (λ k differs. (other_returns_keep_waiting p e k differs).1)
 row_down (rows.ReleaseRemoved (removed.Descriptor t)) p due = quiet_down (rows.ReleaseRemoved (removed.Descriptor t)) p refl
 row_down rows.Lend p due = quiet_down rows.Lend p refl
 row_down (rows.Store b at v) p due = quiet_down (rows.Store b at v) p refl
@@ -331,4 +332,4 @@ row_down (rows.ReadFrame n) p due = quiet_down (rows.ReadFrame n) p refl
 row_down rows.Rest p due = quiet_down rows.Rest p refl
 
 pub events_count_down : EventsCountDown
-events_count_down p = row_down (driver_row p) p (each_is_due p)
+events_count_down p = row_down (driver_row p) p (each_event_is_due p)

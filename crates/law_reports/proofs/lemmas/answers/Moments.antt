@@ -38,7 +38,7 @@ use Rattle.law_answers.proofs.Causes.{commands_are_answered}
 use Rattle.law_hearing.proofs.Heard.{asks_are_heard}
 use Rattle.law_hearing.proofs.HeardBelow.{asks_are_heard_below}
 use Rattle.law_world.specs.memory.Mixed.{IsMixedWorld}
-use Rattle.law_world.proofs.lemmas.memory.lemmas.owned_blocks.Worlds.{script_owns}
+use Rattle.law_world.proofs.lemmas.memory.lemmas.owned_blocks.Worlds.{each_moment_owns_its_blocks}
 use Rattle.law_resting.proofs.Resting.{drivers_rest_when_done}
 use Rattle.law_resting.proofs.Turns.{drivers_take_turns}
 use Rattle.law_telling.proofs.Lines.{drivers_tell_for_reasons}
@@ -49,8 +49,8 @@ use Rattle.claims_world.specs.Told.{WritesForReasons, ReadsRightly, LinesHaveRea
 use Rattle.claims_world.specs.Heard.{Asking, frame_asking, sent_asking, held_asking, walk_asking, asking_by, is_controllers, HearsRightly, HearsThroughout}
 use Rattle.claims_world.specs.Refused.{IsRefused, IsAccepted, CommandsHaveCauses}
 use Rattle.claims_world.specs.Rests.{WorksOn, RestsThroughout}
-use Rattle.law_reports.proofs.lemmas.answers.Adding.{commands_add}
-use Rattle.law_reports.proofs.lemmas.answers.Seated.{seats_are}
+use Rattle.law_reports.proofs.lemmas.answers.Adding.{commands_add_what_they_ask}
+use Rattle.law_reports.proofs.lemmas.answers.Seated.{bus_has_endpoints}
 use Rattle.law_reports.proofs.lemmas.answers.Ready.{script_ready, script_fits_next}
 
 -- ---- the next moment
@@ -91,7 +91,7 @@ by_answer w n cmd (Err why) owns fit is cause = inl (record { why = why; cause =
 by_answer w n cmd (Ok o) owns fit is causes = inr (record {
   causes = causes;
   untold = same_reports w.driver w.memory cmd o is;
-  added = commands_add w.driver w.memory cmd o owns.owners owns.stands fit is;
+  added = commands_add_what_they_ask w.driver w.memory cmd o owns.owners owns.stands fit is;
 })
 
 plans : (s : Script) → IsFit s → (k n : ℕ) (cmd : Cmd) (rest : List Left) → (moment s k).orders ≡ Command n cmd ∷ rest
@@ -105,7 +105,7 @@ script_has_causes s fit k n cmd rest is =
     let new : (moment s (suc k)).world ≡ commanded w n cmd =
     ap (λ (p : OrderedWorld). p.world) (next_moment s k) ∙ ap (λ (os : List Left). (tick_at (fixed_of s) w os).world) is in
     subst (λ (v : World). IsRefused w n cmd v ⊎ IsAccepted w cmd v) (sym new)
-    (by_answer w n cmd (offered w.driver w.memory cmd) (script_owns s fit k) (script_fits_next s fit k n cmd rest is) refl
+    (by_answer w n cmd (offered w.driver w.memory cmd) (each_moment_owns_its_blocks s fit k) (script_fits_next s fit k n cmd rest is) refl
     (commands_are_answered w.driver w.memory cmd (plans s fit k n cmd rest is)))
 
 -- ---- what is heard
@@ -210,7 +210,7 @@ hears s fit k turn =
 pub script_hears : (s : Script) → IsFit s → HearsThroughout s
 script_hears s fit = record {
   fates = refl;
-  seats = seats_are s;
+  seats = bus_has_endpoints s;
   each = hears s fit;
   below = λ h floor ask out sizes. asks_are_heard_below (fixed_of s) h floor ask out sizes;
 }

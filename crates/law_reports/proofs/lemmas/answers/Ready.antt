@@ -40,16 +40,16 @@ use Rattle.bus_world.specs.Orders.{Left, Events, Microframes, Answer, Command, P
 use Rattle.bus_world.specs.Rooms.{room_of_script}
 use Rattle.bus_world.specs.World.{World, frame_by, sent_by, sends_by, walk_by, turned_by, controller_row, controller_parts, driver_parts, next, commanded, commanded_by, name_in}
 use Rattle.claims_driver.specs.Leaving.{IsOrderly}
-use Rattle.law_driver.proofs.lemmas.run_owners.Commands.{accepted_for_a_reason}
+use Rattle.law_driver.proofs.lemmas.run_owners.Commands.{each_command_has_its_reason}
 use Rattle.law_driver.proofs.lemmas.run_owners.Ordered.{accepted_orderly}
-use Rattle.law_driver.proofs.lemmas.run_owners.Opened.{opening_owned}
+use Rattle.law_driver.proofs.lemmas.run_owners.Opened.{opening_has_owners}
 use Rattle.law_driver.proofs.lemmas.run_owners.Rows.{row_orderly}
 use Rattle.law_resting.specs.Counted.{HasSome, IsCounted}
 use Rattle.law_resting.specs.Making.{IsMaking}
-use Rattle.law_resting.proofs.Commands.{commands_keep_counts, a_new_driver_is_counted}
+use Rattle.law_resting.proofs.Commands.{commands_keep_counts, new_driver_is_counted}
 use Rattle.law_resting.proofs.Events.{events_keep_counts}
 use Rattle.law_resting.specs.Storing.{IsStoring}
-use Rattle.law_resting.proofs.Making.{a_new_driver_is_making, events_keep_making, commands_keep_making}
+use Rattle.law_resting.proofs.Making.{new_driver_is_making, events_keep_making, commands_keep_making}
 use Rattle.law_resting.proofs.Storing.{a_new_driver_is_storing, events_keep_storing, commands_keep_storing}
 
 -- ---- the numbers of packets
@@ -133,7 +133,7 @@ answered_ready : (n : ℕ) (w : World) (line : ℕ) (name : EpName) (cmd : Cmd) 
     → offered w.driver w.memory cmd ≡ r
     → IsReady n (commanded_by w line name r)
 answered_ready n w line name cmd (Ok o) fit old is = record {
-  order = accepted_orderly w.driver w.memory o (accepted_for_a_reason w.driver w.memory cmd o is) old.order;
+  order = accepted_orderly w.driver w.memory o (each_command_has_its_reason w.driver w.memory cmd o is) old.order;
   counted = commands_keep_counts w.driver w.memory cmd o old.order old.counted (some_of cmd fit) is;
   making = commands_keep_making w.driver w.memory cmd o is;
   storing = commands_keep_storing w.driver w.memory cmd o old.storing is;
@@ -198,9 +198,9 @@ script_ready_at s fit k =
     all_ready (fixed_of s) (length (seats_of s)) (at_place (opening_world s) (orders_of s.lines)) k
     (record {
       ready = record {
-        order = (opening_owned s.words (room_of_script s) fit.least).orderly;
-        counted = a_new_driver_is_counted s.words (room_of_script s);
-        making = a_new_driver_is_making s.words (room_of_script s);
+        order = (opening_has_owners s.words (room_of_script s) fit.least).orderly;
+        counted = new_driver_is_counted s.words (room_of_script s);
+        making = new_driver_is_making s.words (room_of_script s);
         storing = a_new_driver_is_storing s.words (room_of_script s);
         numbers = length-replicate (length (seats_of s)) 0;
       };

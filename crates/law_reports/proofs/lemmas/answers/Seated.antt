@@ -195,8 +195,8 @@ seats_in : (seats : List Seat) (x : Seat) (name : EpName) (owner : Owner) → Is
     → HasSeat seats name owner
 seats_in seats x name owner i named owned = record { place = i.place; seat = x; there = i.there; named = named; owned = owned }
 
-pub seats_are : BusHasEndpoints
-seats_are s = record {
+pub bus_has_endpoints : BusHasEndpoints
+bus_has_endpoints s = record {
   hubs = λ n h here.
       seats_in (seats_of s) (hub_seat n h) (hub_name h.addr) (Hub n)
       (in_left (hub_seat n h) (hub_seats_from 0 s.hubs) (device_seats s)

@@ -52,7 +52,7 @@ use Rattle.law_frames.specs.Frame.{IsInFrame, IsFrameWalk, IsFrame}
 use Rattle.law_frames.specs.FrameEffects.{FrameHappens}
 use Rattle.law_frames.specs.FrameHand.{FrameHand, Nothing, OfQueue, OfSettled, OfItd, OfSitd, frame_held, queue_hand}
 use Rattle.law_frames.specs.FrameStreams.{AsksIso, IsIsoAsk, of_itd, of_sitd}
-use Rattle.law_frames.proofs.Telling.{frame_streams}
+use Rattle.law_frames.proofs.Telling.{frame_moves_streams}
 use Rattle.law_frames.proofs.Walking.{event_happens}
 use Rattle.law_controller.specs.frame_control.Both.{RunsBoth}
 use Rattle.law_descriptors.specs.Both.{both}
@@ -61,12 +61,12 @@ use Rattle.bus_world.specs.World.{World, controller_parts, controller_row, contr
 use Rattle.law_world.specs.steps.Streaming.{begins_by, transacts_by, wired}
 use Rattle.law_world.specs.memory.Mixed.{Standing, IsMixedWorld}
 use Rattle.law_world.proofs.lemmas.steps.StreamTurning.{world_has_row}
-use Rattle.law_world.proofs.lemmas.steps.lemmas.world_bytes.Hearing.{hears_bytes}
+use Rattle.law_world.proofs.lemmas.steps.lemmas.world_bytes.Hearing.{a_bus_of_bytes_is_heard_as_bytes}
 use Rattle.law_microframes.specs.time.DataQueues.{pid_of, QueuesSendData}
 use Rattle.law_microframes.specs.visits.Belonging.{HaveFields, HeadsHaveFields, IsQueueAt}
 use Rattle.law_microframes.proofs.lemmas.due.Fields.{head_first, address_in, number_in}
 use Rattle.law_microframes.proofs.lemmas.due.Turning.{in_periodic}
-use Rattle.law_microframes.proofs.lemmas.time.DataHeads.{mixed_read_data}
+use Rattle.law_microframes.proofs.lemmas.time.DataHeads.{mixed_worlds_read_data}
 use Rattle.law_microframes.proofs.lemmas.visits.BelongQueues.{queue_belongs}
 use Rattle.law_reports.specs.lines.Lined.{in_hand, Lines}
 use Rattle.law_reports.specs.pipes.Declared.{Sides}
@@ -175,12 +175,12 @@ module _ (fixed : Fixed) (x : Sides) (s : Standing) (m : Lines) (h : Heads) (w :
   happens =
       event_happens transacts_by (met w.driver s.recent) all s.frame (frame_place (controller_parts w)) (wired fixed w)
       (frame_place (controller_parts (controller_next fixed w))) (wired fixed (controller_next fixed w)) frame
-      (hears_bytes fixed w k.mixed.bytes (wired fixed (controller_next fixed w))) walks.walked
+      (a_bus_of_bytes_is_heard_as_bytes fixed w k.mixed.bytes (wired fixed (controller_next fixed w))) walks.walked
 
   stream : StreamEffect (IsIsoAsk (both s.descs s.parts)) transacts_by (both s.descs s.parts) (queue_hand s.frame) (wired fixed w)
       (wired fixed (controller_next fixed w)) happens.now (queue_hand happens.later)
   stream =
-      frame_streams transacts_by (met w.driver s.recent) all s.frame (frame_place (controller_parts w)) (wired fixed w)
+      frame_moves_streams transacts_by (met w.driver s.recent) all s.frame (frame_place (controller_parts w)) (wired fixed w)
       (wired fixed (controller_next fixed w)) happens.now happens.later (step_of (frame_place (controller_parts w))) frame happens.effect
 
   -- ---- whom it asks
@@ -227,7 +227,8 @@ module _ (fixed : Fixed) (x : Sides) (s : Standing) (m : Lines) (h : Heads) (w :
         let first = head_first w.memory (32 * y.queue) r.copy.queue read in
         let fit = k.mixed.numbers b.belongs.number y b.belongs.here in
         let mixed : IsMixedWorld w = record { standing = s; mixed = k.mixed } in
-        let pid = (mixed_read_data w mixed sends).heads b.belongs.number y r.copy.queue b.belongs.here b.kind b.belongs.kept read r.works in
+        let pid = (mixed_worlds_read_data w mixed sends).heads b.belongs.number y r.copy.queue b.belongs.here b.kind b.belongs.kept read
+        r.works in
         let one : y.desc.name.way ≢ ways.Ctl =
         one_way b.belongs.number y b.belongs.here (λ (is : y.desc.kind ≡ kinds.Control). not_both y.desc.kind b.kind is) in
         record {

@@ -27,7 +27,7 @@ use Rattle.bus_world.specs.World.{World, driver_parts, driver_next, commanded, c
 use Rattle.claims_world.specs.Coming.{IsInItsFrames}
 use Rattle.claims_world.specs.DueAtBegin.{IsUncancelled}
 use Rattle.law_driver.specs.run_owners.Accepts.{Accepts, Chains, opens, chains, places, transfers, describes, cancels, unchains}
-use Rattle.law_driver.proofs.lemmas.run_owners.Commands.{accepted_for_a_reason}
+use Rattle.law_driver.proofs.lemmas.run_owners.Commands.{each_command_has_its_reason}
 use Rattle.law_driver.proofs.lemmas.run_owners.Ordered.{pushed}
 use Rattle.law_frames.specs.Met.{AQueue}
 use Rattle.law_world.specs.memory.Mixed.{IsChainToLend, IsChainThere, IsUnderWay, IsMixedWorld}
@@ -206,7 +206,7 @@ module _ (w : World) (k : IsMixedWorld w) (n : ℕ) (cmd : Cmd) (e q : ℕ) (p :
       → IsUncancelled (commanded_by w n (name_in cmd) r).driver e → IsUncancelled w.driver e
   uncancelled_by (Err why) is off x here = off x here
   uncancelled_by (Ok o) is off x here =
-      let why : Accepts w.driver w.memory o = accepted_for_a_reason w.driver w.memory cmd o is in
+      let why : Accepts w.driver w.memory o = each_command_has_its_reason w.driver w.memory cmd o is in
       let at : IsAt o.driver.endpoints e = accepted_at w.driver w.memory o why e x here in
       accepted_back w.driver w.memory o why e x at.endpoint here at.here (off at.endpoint at.here)
 
@@ -220,7 +220,8 @@ module _ (w : World) (k : IsMixedWorld w) (n : ℕ) (cmd : Cmd) (e q : ℕ) (p :
       → (commanded_by w n (name_in cmd) r).driver.periodic.list.work ≡ Some v → v.member ≢ queue_member q p
   chain_off_by i (Err why) is l z here kept of_kind queue v chain work same = i.idle v work same
   chain_off_by i (Ok o) is l z here kept of_kind queue v chain work same =
-      accepted_off w k n (name_in cmd) e q p i o l z here kept of_kind queue (accepted_for_a_reason w.driver w.memory cmd o is) v chain
+      accepted_off w k n (name_in cmd) e q p i o l z here kept of_kind queue (each_command_has_its_reason w.driver w.memory cmd o is) v
+      chain
       work same
 
   pub command_in_frames : (l : IsMixedWorld (commanded w n cmd)) (i : IsInItsFrames w.driver e q p)

@@ -24,7 +24,7 @@ use Rattle.claims_world.specs.Owners.{LeavesControllers, is_controllers, KeepsTo
 use Rattle.claims_world.specs.SoFar.{SoFar, nothing_yet, so_far_after, so_far_next, so_far, HasFound, HasMoved}
 use Rattle.claims_world.specs.Visits.{IsPastFrames, began_at, began_by, began, frame_in}
 use Rattle.claims_world.specs.WithinLoad.{repeats}
-use Rattle.law_scripts.proofs.lemmas.script_bytes.Texts.{spelled_bytes}
+use Rattle.law_scripts.proofs.lemmas.script_bytes.Texts.{a_text_spells_bytes}
 use Rattle.law_world.specs.steps.Streaming.{begins_by, transacts_by, wired}
 use Rattle.law_world.specs.memory.Mixed.{IsMixedWorld}
 use Rattle.law_world.proofs.lemmas.memory.Carrying.{carried_then}
@@ -205,7 +205,7 @@ module _ (text : List ℕ) (s : Script) (spelled : Spells text s) where
 
   heads_at : (k : ℕ) → HeadsHaveFields (moment s k).world.driver (moment s k).world.memory
   heads_at k =
-      scripts_keep_fields s (spelled_fits text s spelled) (spelled_bytes text s spelled)
+      scripts_keep_fields s (spelled_fits text s spelled) (a_text_spells_bytes text s spelled)
       (lines_fit s.lines (texts_fit text s spelled) (texts_open_fitting text s spelled)) k
 
   known_at : (k : ℕ) → IsKnown (fixed_of s) (sides_of s) (began s k) (moment s k).world (so_far s k)
@@ -213,7 +213,7 @@ module _ (text : List ℕ) (s : Script) (spelled : Spells text s) where
     followed = texts_are_followed text s spelled k;
     mixed = texts_stay_mixed text s spelled k;
     heads = heads_at k;
-    sends = scripts_send_data s (spelled_fits text s spelled) (spelled_bytes text s spelled)
+    sends = scripts_send_data s (spelled_fits text s spelled) (a_text_spells_bytes text s spelled)
         (lines_fit s.lines (texts_fit text s spelled) (texts_open_fitting text s spelled)) k;
     tells = (texts_keep_held_time text s spelled k).tells.goes_on;
     comes = λ e q p past was is active. texts_come_to_each text s spelled k e q p past was is active;

@@ -48,7 +48,7 @@ use Rattle.law_world.specs.steps.Streaming.{begins_by, transacts_by, wired}
 use Rattle.law_world.specs.memory.Mixed.{Standing, IsMixedWorld}
 use Rattle.law_world.proofs.lemmas.memory.WaysThere.{told}
 use Rattle.law_world.proofs.lemmas.steps.StreamTurning.{world_has_row}
-use Rattle.law_world.proofs.lemmas.steps.lemmas.world_bytes.Hearing.{hears_bytes}
+use Rattle.law_world.proofs.lemmas.steps.lemmas.world_bytes.Hearing.{a_bus_of_bytes_is_heard_as_bytes}
 use Rattle.law_microframes.proofs.lemmas.due.Turning.{in_periodic}
 use Rattle.law_reports.proofs.lemmas.due_at_begin.Apart.{effect_leaves, effect_goes}
 use Rattle.law_reports.proofs.lemmas.due_at_begin.Walked.{fetched_hand}
@@ -180,7 +180,7 @@ module _ (fixed : Fixed) (w : World) (k : IsMixedWorld w) (row : controller_row 
   happens =
       event_happens transacts_by (met w.driver s.recent) all s.frame (frame_place (controller_parts w)) (wired fixed w)
       (frame_place (controller_parts (controller_next fixed w))) (wired fixed (controller_next fixed w)) frame
-      (hears_bytes fixed w k.mixed.bytes (wired fixed (controller_next fixed w))) walks.walked
+      (a_bus_of_bytes_is_heard_as_bytes fixed w k.mixed.bytes (wired fixed (controller_next fixed w))) walks.walked
 
   pub fetched_there : fetched_by (chain_row w.memory w.control.frame.cursor) ≡ Some n
       → chain_row w.memory w.control.frame.cursor ≡ chains.Itd n (its_part w k n way).itd

@@ -28,13 +28,13 @@ use Rattle.law_driver_ring.specs.fed_queues.Places.{IsThere}
 use Rattle.law_queues.specs.harvest_laws.Told.{ToldStands}
 use Rattle.law_queues.specs.leaving_drivers.Before.{IsAsBefore}
 use Rattle.law_queues.proofs.lemmas.fed_lends.Fed.{bare_is}
-use Rattle.law_queues.proofs.lemmas.harvest_laws.Commanding.{opened_told, asked_told, requested_told}
+use Rattle.law_queues.proofs.lemmas.harvest_laws.Commanding.{opened_is_told, asked_is_told, requested_is_told}
 use Rattle.law_queues.proofs.lemmas.harvest_laws.Opening.{push_which, set_which}
-use Rattle.law_queues.proofs.lemmas.harvest_laws.Standing.{alike_told}
+use Rattle.law_queues.proofs.lemmas.harvest_laws.Standing.{alike_is_told}
 use Rattle.law_world.specs.streams.Feeding.{there_of}
 use Rattle.law_world.proofs.lemmas.streams.There.{there_now}
 use Rattle.law_world.proofs.lemmas.streams.Told.{HasBulkThere, there_by, bulk_there}
-use Rattle.law_world.proofs.lemmas.streams.lemmas.left_reports.Before.{before_told}
+use Rattle.law_world.proofs.lemmas.streams.lemmas.left_reports.Before.{leaves_are_told}
 use Rattle.law_world.specs.memory.Mixed.{Standing}
 use Rattle.law_world.proofs.lemmas.memory.CommandShared.{IsAccepted, place, idle_queues, owners}
 use Rattle.law_world.proofs.lemmas.memory.Unfinished.{none_unfinished}
@@ -82,7 +82,7 @@ there_idle d f idle was n on =
 periodic_told : (c g : DriverContent) (hand : Hand) (parts : StructureSets) (reported : ℕ → List ℕ) → QueuesAlike c g
     → ToldStands g hand parts reported → ToldStands c hand parts reported
 periodic_told c g hand parts reported k told =
-    alike_told g c hand parts reported
+    alike_is_told g c hand parts reported
     (record {
       reports = ap (λ (f : DriverContent). f.reports) k;
       store = ap (λ (f : DriverContent). f.store) k;
@@ -159,7 +159,7 @@ module _ (s : Standing) (m : Lines) (w : World) (line : ℕ) (cmd : Cmd) (o : Of
       pub open_telling : IsTelling s m (commanded_by w line (name_in cmd) (Ok o))
       open_telling =
           telling_of (opened_queue w.driver x k.holding_after).driver k.alike
-          (opened_told d w.memory c (in_hand s) s.parts m.reported k.opens apart g.told)
+          (opened_is_told d w.memory c (in_hand s) s.parts m.reported k.opens apart g.told)
           (there_idle d (opened_queue w.driver x k.holding_after).driver (idle_queues s w line cmd o a) opened_was)
 
     -- a get, a put or a request is taken on
@@ -188,7 +188,7 @@ module _ (s : Standing) (m : Lines) (w : World) (line : ℕ) (cmd : Cmd) (o : Of
     get_telling asked =
         let turns = a.mixed.turns.turns in
         asked_telling asked.transfers
-        (asked_told d w.memory (told_of o) (in_hand s) s.parts m.reported asked (place s w line cmd o a).sound.stands
+        (asked_is_told d w.memory (told_of o) (in_hand s) s.parts m.reported asked (place s w line cmd o a).sound.stands
         (owners s w line cmd o a)
         (there_now d turns) turns.turns.places g.told)
 
@@ -196,11 +196,11 @@ module _ (s : Standing) (m : Lines) (w : World) (line : ℕ) (cmd : Cmd) (o : Of
     request_telling requested =
         let turns = a.mixed.turns.turns in
         asked_telling requested.transfers
-        (requested_told d w.memory (told_of o) (in_hand s) s.parts m.reported requested (place s w line cmd o a).sound.stands
+        (requested_is_told d w.memory (told_of o) (in_hand s) s.parts m.reported requested (place s w line cmd o a).sound.stands
         (owners s w line cmd o a) (there_now d turns) turns.turns.places g.told)
 
     -- an endpoint is cancelled
     pub left_telling : (f : DriverContent) → QueuesAlike (queued o.driver) f → IsAsBefore (queued w.driver) f
         → IsTelling s m (commanded_by w line (name_in cmd) (Ok o))
     left_telling f alike before =
-        telling_of f alike (before_told d f (in_hand s) s.parts m.reported before g.told) (λ n on. before_there d f n before on)
+        telling_of f alike (leaves_are_told d f (in_hand s) s.parts m.reported before g.told) (λ n on. before_there d f n before on)

@@ -36,7 +36,7 @@ use Rattle.law_queues.proofs.lemmas.harvest_laws.Opening.{push_which}
 use Rattle.law_queues.proofs.lemmas.mended_heads.Content.{pushed, all_on}
 use Rattle.law_queues.proofs.lemmas.told_endpoints.Names.{driver_name}
 use Rattle.law_queues.proofs.lemmas.told_endpoints.Tellings.{endpoint_more}
-use Rattle.law_queues.proofs.lemmas.harvest_laws.Standing.{alike_told}
+use Rattle.law_queues.proofs.lemmas.harvest_laws.Standing.{alike_is_told}
 use Rattle.law_world.proofs.lemmas.memory.lemmas.owned_blocks.Taken.{pushed_there}
 use Rattle.law_world.specs.memory.Mixed.{Standing}
 use Rattle.law_world.proofs.lemmas.memory.CommandShared.{IsAccepted, idle_queues}
@@ -221,7 +221,7 @@ module _ (s : Standing) (m : Lines) (w : World) (line : ℕ) (cmd : Cmd) (o : Of
     end_left_telling k =
         let f : DriverContent = record d { made = 0; room = o.driver.room } in
         telling_of s m w line cmd o a g f k.alike
-        (alike_told d f (in_hand s) s.parts m.reported (record {
+        (alike_is_told d f (in_hand s) s.parts m.reported (record {
           reports = refl;
           store = refl;
           endpoints = refl;

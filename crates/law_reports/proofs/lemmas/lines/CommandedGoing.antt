@@ -16,7 +16,7 @@ use Rattle.drv_table.specs.Accepting.{Offered, first_waiting}
 use Rattle.drv_table.specs.Kinds.{is_iso}
 use Rattle.drv_table.specs.Offers.{offered, with_queued, new_endpoint, placed_endpoint}
 use Rattle.law_driver.specs.run_owners.Accepts.{Accepts, opens, chains, places, transfers, describes, cancels, unchains}
-use Rattle.law_driver.proofs.lemmas.run_owners.Commands.{accepted_for_a_reason}
+use Rattle.law_driver.proofs.lemmas.run_owners.Commands.{each_command_has_its_reason}
 use Rattle.law_driver.proofs.lemmas.queued_drivers.CommandLeaves.{unchained}
 use Rattle.law_driver.specs.queued_drivers.Queued.{queued}
 use Rattle.law_structures.specs.lent_structures.Structures.{StructureSets}
@@ -94,6 +94,7 @@ module _ (d : DriverContent) (hand : Hand) (parts : StructureSets) (harvested : 
   pub command_goes : (w : World) (line : ℕ) (name : EpName) (cmd : Cmd) (r : Result Offered OfferError) → w.driver ≡ d
       → offered w.driver w.memory cmd ≡ r → AreIsoGoing (commanded_by w line name r).driver
   command_goes w line name cmd (Ok o) same is =
-      accepted_goes w.memory o (subst (λ (c : DriverContent). Accepts c w.memory o) same (accepted_for_a_reason w.driver w.memory cmd o is))
+      accepted_goes w.memory o (subst (λ (c : DriverContent). Accepts c w.memory o) same
+      (each_command_has_its_reason w.driver w.memory cmd o is))
   command_goes w line name cmd (Err why) same is =
       subst (λ (c : DriverContent). AreIsoGoing (refused_line c line name why)) (sym same) (refused_goes line name why)

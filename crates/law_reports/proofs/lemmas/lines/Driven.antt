@@ -2,7 +2,7 @@
 use Rattle.std.proofs.Common.{◌≡◌, ◌≢◌, ℕ, Some, None, ap, refl, sym, subst, ◌∙◌}
 use Rattle.drv_table.specs.declared.content.Command.TheVariants as unfinished
 use Rattle.drv_table.specs.Rows.{driver_row}
-use Rattle.law_driver.proofs.lemmas.run_owners.Reasons.{each_is_due}
+use Rattle.law_driver.proofs.lemmas.run_owners.Reasons.{each_event_is_due}
 use Rattle.law_driver.specs.queued_drivers.Queued.{queued, queued_command}
 use Rattle.law_driver.specs.queued_drivers.Rows.{TellsAlike}
 use Rattle.law_world.specs.memory.Mixed.{Standing, IsMixedAt}
@@ -13,8 +13,8 @@ use Rattle.bus_world.specs.World.{World, driver_parts, driver_next}
 use Rattle.law_reports.specs.lines.Lined.{in_hand, Lines, IsTelling, AreIsoGoing}
 use Rattle.law_reports.specs.lines.TellingLaws.{IsTellingNext, DriverKeepsTelling, RowsKeepIsoGoing}
 use Rattle.law_reports.proofs.lemmas.lines.Reports.{busy_tells}
-use Rattle.law_reports.proofs.lemmas.lines.Commanding.{command_telling}
-use Rattle.law_reports.proofs.lemmas.lines.FrameLines.{frame_telling}
+use Rattle.law_reports.proofs.lemmas.lines.Commanding.{command_keeps_telling}
+use Rattle.law_reports.proofs.lemmas.lines.FrameLines.{frame_tells}
 use Rattle.law_reports.proofs.lemmas.lines.IsoGoing.{told_apart, row_goes}
 use Rattle.law_reports.proofs.lemmas.lines.ToldGoes.{go_telling}
 use Rattle.law_reports.proofs.lemmas.lines.ToldHarvests.{harvest_tells}
@@ -22,8 +22,8 @@ use Rattle.law_reports.proofs.lemmas.lines.ToldLends.{lend_telling}
 use Rattle.law_reports.proofs.lemmas.lines.ToldMends.{mend_telling}
 use Rattle.law_reports.proofs.lemmas.lines.ToldOpens.{begin_telling, open_tells}
 use Rattle.law_reports.proofs.lemmas.lines.ToldReturns.{return_telling}
-use Rattle.law_reports.proofs.lemmas.lines.ToldStays.{still_telling, alike_telling, bell_telling, status_telling, narrow_telling, unlink_telling}
-use Rattle.law_reports.proofs.lemmas.lines.ToldStores.{store_telling}
+use Rattle.law_reports.proofs.lemmas.lines.ToldStays.{still_telling, still_tells, bell_telling, status_telling, narrow_telling, unlink_telling}
+use Rattle.law_reports.proofs.lemmas.lines.ToldStores.{store_tells}
 
 -- the driver tells nothing while a command is unfinished
 same_report : (w : World) (q : ℕ) → (queued w.driver).command ≡ Some (unfinished.Open q)
@@ -32,18 +32,18 @@ same_report w q opening =
     let p = driver_parts w in
     let busy : w.driver.command ≢ None =
     λ idle. none_unfinished (unfinished.Open q) (sym (ap (queued_command w.driver.endpoints) idle) ∙ opening) in
-    let tells = busy_tells (driver_row (driver_parts w)) p (each_is_due p) busy in
+    let tells = busy_tells (driver_row (driver_parts w)) p (each_event_is_due p) busy in
     record { reports = tells.reports; store = tells.store }
 
 module _ (s : Standing) (m : Lines) (w : World) (k : IsMixedAt s w) (g : IsTelling s m w) (going : AreIsoGoing w.driver) where
   -- no queue has a step
   quiet : (t : Standing) → HasNoStep w (driver_next w) → AreStill s t → IsTelling t m (driver_next w)
-  quiet t (left_alike alike tells) still = alike_telling s t m w (driver_next w) still alike tells g
-  quiet t (left_by_frames alike of is) still = frame_telling s t m w k g going still alike of
+  quiet t (left_alike alike tells) still = still_tells s t m w (driver_next w) still alike tells g
+  quiet t (left_by_frames alike of is) still = frame_tells s t m w k g going still alike of
   quiet t (left_by_bell is) still = bell_telling s m w (driver_next w) k g t still is
   quiet t (left_by_status heard is) still = status_telling s m w (driver_next w) k g t heard still is
   quiet t (left_by_command line cmd fits room is) still =
-      let told : IsTelling s m (driver_next w) = subst (IsTelling s m) (sym is) (command_telling s m w line cmd fits room k g) in
+      let told : IsTelling s m (driver_next w) = subst (IsTelling s m) (sym is) (command_keeps_telling s m w line cmd fits room k g) in
       still_telling s t m (driver_next w) (driver_next w) still told.told (λ n on. on) told
 
   driven : (t : Standing) (step : QueueStep s w (driver_next w) t) → IsMixedAt t (driver_next w)
@@ -57,7 +57,7 @@ module _ (s : Standing) (m : Lines) (w : World) (k : IsMixedAt s w) (g : IsTelli
   driven _ (lends b words get order out is behind) mixed =
       record { lines = m; after = refl; telling = lend_telling s m w (driver_next w) k g b words get order out is behind mixed }
   driven _ (stores b words p is) mixed =
-      record { lines = m; after = refl; telling = store_telling s m w (driver_next w) k g b words p is mixed }
+      record { lines = m; after = refl; telling = store_tells s m w (driver_next w) k g b words p is mixed }
   driven _ (mends at is) mixed = record { lines = m; after = refl; telling = mend_telling s m w (driver_next w) k g at is }
   driven _ (begins at next alike) mixed =
       record {
@@ -81,4 +81,4 @@ driver_keeps_telling s m w t step k mixed g going = driven s m w k g going t ste
 pub rows_keep_iso_going : RowsKeepIsoGoing
 rows_keep_iso_going s m w k g going =
     row_goes (driver_parts w) going (told_apart w.driver (in_hand s) s.parts m.reported g.told) (driver_row (driver_parts w))
-    k.now.framed.place.sound.owners k.turns (each_is_due (driver_parts w))
+    k.now.framed.place.sound.owners k.turns (each_event_is_due (driver_parts w))

@@ -30,7 +30,7 @@ use Rattle.drv_table.specs.Removals.{after_placed}
 use Rattle.drv_table.specs.Rows.{driver_row, after_driver_row}
 use Rattle.law_driver.specs.run_owners.Due.{IsHarvestDue, IsDue}
 use Rattle.law_driver.proofs.lemmas.run_owners.Harvest.{waits_is}
-use Rattle.law_driver.proofs.lemmas.run_owners.Reasons.{each_is_due}
+use Rattle.law_driver.proofs.lemmas.run_owners.Reasons.{each_event_is_due}
 use Rattle.law_driver.proofs.lemmas.run_owners.Released.{same_by_test}
 use Rattle.law_driver.specs.endpoint_lives.Lives.{told_end}
 use Rattle.law_driver.specs.queued_drivers.Queued.{without_queue, with_queue, queued_endpoint, queued, QueuesTakeTurns}
@@ -40,7 +40,7 @@ use Rattle.law_structures.specs.lent_structures.Structures.{StructureSets}
 use Rattle.law_ring.specs.Hand.{Hand}
 use Rattle.law_queues.specs.told_endpoints.Telling.{Named, named_of, named_in, lines_in, has_end, IsToldTo}
 use Rattle.law_queues.specs.harvest_laws.Told.{ToldStands}
-use Rattle.law_queues.proofs.lemmas.harvest_laws.Standing.{alike_told}
+use Rattle.law_queues.proofs.lemmas.harvest_laws.Standing.{alike_is_told}
 use Rattle.law_queues.proofs.lemmas.told_endpoints.Lines.{once_then, line_of_it}
 use Rattle.law_queues.proofs.lemmas.told_endpoints.Names.{name_is_same}
 use Rattle.law_queues.proofs.lemmas.told_endpoints.Tellings.{line_by, line_placed}
@@ -133,7 +133,7 @@ by_line : (d f : DriverContent) (what : What) (name : EpName) (bytes : List ℕ)
     → QueuesAlike (queued d) (queued f) → f.reports ≡ (reported d what name bytes).reports → f.store ≡ (reported d what name bytes).store
     → ToldStands (reported (queued d) what name bytes) hand parts harvested → ToldStands (queued f) hand parts harvested
 by_line d f what name bytes hand parts harvested k reports store told =
-    alike_told (reported (queued d) what name bytes) (queued f) hand parts harvested
+    alike_is_told (reported (queued d) what name bytes) (queued f) hand parts harvested
     (record { reports = reports; store = store; endpoints = k.endpoints; transfers = k.transfers; notes = k.notes })
     (λ x there. record { linked = λ is. there.linked (k.command ∙ is); kept = there.kept }) (λ x is. sym k.command ∙ is) told
 
@@ -246,12 +246,12 @@ module _ (p : Parts) (hand : Hand) (parts : StructureSets) (harvested : ℕ → 
   frame_told (rows.Harvest e t found) owners turns due of k = read_told e t found due (of due.transfer due.there) owners found refl k
   frame_told rows.Rest owners turns due of k = absurd of
 
-pub frame_telling : (s t : Standing) (m : Lines) (w : World) → IsMixedAt s w → IsTelling s m w → AreIsoGoing w.driver → AreStill s t
+pub frame_tells : (s t : Standing) (m : Lines) (w : World) → IsMixedAt s w → IsTelling s m w → AreIsoGoing w.driver → AreStill s t
     → QueuesAlike (queued w.driver) (queued (driver_next w).driver) → IsOfFrames (driver_parts w) (driver_row (driver_parts w))
     → IsTelling t m (driver_next w)
-frame_telling s t m w k g going still alike of =
+frame_tells s t m w k g going still alike of =
     still_telling s t m w (driver_next w) still
     (frame_told (driver_parts w) (in_hand s) s.parts m.reported going g.told (driver_row (driver_parts w)) k.now.framed.place.sound.owners
     k.turns
-    (each_is_due (driver_parts w)) of alike)
+    (each_event_is_due (driver_parts w)) of alike)
     (alike_there (queued w.driver) (queued (driver_next w).driver) alike) g

@@ -16,14 +16,14 @@ use Rattle.law_ring.specs.Effects.{bytes_in}
 use Rattle.law_ring.specs.Hand.{Hand, Copied, Settled}
 use Rattle.law_ring.specs.Order.{IsPlaced, IsOrdered}
 use Rattle.law_ring.specs.Sparing.{SameHand, SparesHead, SparesElement}
-use Rattle.law_ring.proofs.SparedSparing.{linked_same, spared_accounts}
+use Rattle.law_ring.proofs.SparedSparing.{linked_hand_is_same, accounts_are_spared}
 use Rattle.law_frames.specs.FrameHand.{FrameHand, came, Nothing, OfQueue, OfSettled, OfItd, OfSitd}
 use Rattle.law_controller.specs.controlled_streams.Reported.{IsReported}
 use Rattle.law_controller.specs.frame_control.Joined.{joined}
 use Rattle.law_controller.proofs.lemmas.controlled_streams.Storing.{same_hand as hand_itself}
 use Rattle.law_queues.specs.harvest_laws.Told.{ToldStands}
 use Rattle.law_queues.specs.harvest_laws.ToldLaws.{SparesDone}
-use Rattle.law_queues.proofs.lemmas.harvest_laws.Standing.{spared_told}
+use Rattle.law_queues.proofs.lemmas.harvest_laws.Standing.{spared_is_told}
 use Rattle.law_world.specs.memory.SameQueues.{IsRelinked, IsSameQueue}
 use Rattle.law_world.proofs.lemmas.memory.Alike.{same_itself}
 use Rattle.law_world.specs.memory.Mixed.{Standing}
@@ -42,15 +42,15 @@ ring_hand hand later (OfSitd c) k = k
 
 hand_tells : (hand later : Hand) → HandStays hand later → SameHand hand later
 hand_tells hand _ same_hand = hand_itself hand
-hand_tells hand _ (linked_hand n l) = linked_same n l hand
+hand_tells hand _ (linked_hand n l) = linked_hand_is_same n l hand
 
 linked_tells : (n : ℕ) (frame : FrameHand) (hand later : Hand) (later_frame : FrameHand) → FrameStays frame later_frame
     → SameHand hand later
     → SameHand (joined hand frame) (joined later later_frame)
 linked_tells n frame hand later _ same_frame k = ring_hand hand later frame k
 linked_tells n Nothing hand later _ (linked_frame m l) k = k
-linked_tells n (OfQueue c made) hand later _ (linked_frame m l) k = linked_same m l (Copied c)
-linked_tells n (OfSettled c z made) hand later _ (linked_frame m l) k = linked_same m l (Settled c (came z))
+linked_tells n (OfQueue c made) hand later _ (linked_frame m l) k = linked_hand_is_same m l (Copied c)
+linked_tells n (OfSettled c z made) hand later _ (linked_frame m l) k = linked_hand_is_same m l (Settled c (came z))
 linked_tells n (OfItd c) hand later _ (linked_frame m l) k = k
 linked_tells n (OfSitd c) hand later _ (linked_frame m l) k = k
 
@@ -91,7 +91,8 @@ module _ (parts now : StructureSets) (n : ℕ) (same : IsSameQueue n (parts n) (
   relinked_reported order out hand later acc reported k r = record {
     place = r.place;
     told = r.told;
-    accounts = spared_accounts order order r.place r.place out hand later parts now n r.told k relinked_head (λ e among. relinked_element e)
+    accounts = accounts_are_spared order order r.place r.place out hand later parts now n r.told k relinked_head
+        (λ e among. relinked_element e)
         (relinked_order order r.place r.accounts.ordered) r.accounts.sorted
         (λ a t among here from. r.accounts.published a t among (same.elements_were a t here) from)
         (λ a t here on. r.accounts.complete a t (same.elements_were a t here) on) r.accounts;
@@ -105,7 +106,7 @@ pub relinked_told : (d : DriverContent) (hand later : Hand) (parts now : Structu
     → IsSameQueue (32 * x.queue) (parts (32 * x.queue)) (now (32 * x.queue)))
     → ToldStands d hand parts reported → ToldStands d later now reported
 relinked_told d hand later parts now reported k same told =
-    spared_told d hand later parts now reported k spares told
+    spared_is_told d hand later parts now reported k spares told
   where
     spares : SparesDone d parts now
     spares = record {

@@ -19,8 +19,8 @@ use Rattle.law_descriptors.specs.PartLaws.{IsDescribing}
 use Rattle.law_descriptors.specs.queue_events.Streams.{bytes_of_both}
 use Rattle.law_descriptors.proofs.lemmas.queue_events.Streams.{both_streams}
 use Rattle.law_driver.specs.queued_drivers.Queued.{queued}
-use Rattle.law_queues.proofs.lemmas.harvest_laws.Standing.{new_told, alike_told}
-use Rattle.law_scripts.proofs.lemmas.script_bytes.Texts.{spelled_bytes}
+use Rattle.law_queues.proofs.lemmas.harvest_laws.Standing.{new_is_told, alike_is_told}
+use Rattle.law_scripts.proofs.lemmas.script_bytes.Texts.{a_text_spells_bytes}
 use Rattle.law_world.specs.steps.Streaming.{begins_by, transacts_by, wired}
 use Rattle.law_world.specs.steps.receiving_runs.Runs.{IsKeptBy}
 use Rattle.law_world.proofs.lemmas.steps.lemmas.receiving_runs.Runs.{holds_throughout}
@@ -39,7 +39,7 @@ use Rattle.law_world.proofs.lemmas.memory.Texts.{texts_fit}
 use Rattle.law_world.proofs.lemmas.memory.Together.{lines_fit}
 use Rattle.law_reports.specs.lines.Lined.{in_hand, Lines, IsTelling}
 use Rattle.law_reports.specs.lines.TellingLaws.{EventOfQueues, IsTellingNext, IsToldWorld, NewWorldIsTold, ScriptsAreTold, TextsAreTold}
-use Rattle.law_reports.proofs.lemmas.lines.Commanding.{command_telling}
+use Rattle.law_reports.proofs.lemmas.lines.Commanding.{command_keeps_telling}
 use Rattle.law_reports.proofs.lemmas.lines.CommandedGoing.{command_goes}
 use Rattle.law_reports.proofs.lemmas.lines.Driven.{driver_keeps_telling, rows_keep_iso_going}
 use Rattle.law_reports.proofs.lemmas.lines.ToldEvents.{controller_keeps_telling}
@@ -60,10 +60,10 @@ new_telling s t =
     λ n on. let b : HasBulkThere (queued (opening_world s).driver) n = bulk_there (queued (opening_world s).driver) n on in
     nothing_at b.has.number b.has.endpoint b.has.here in
     record {
-      told = alike_told d (queued (opening_world s).driver) (in_hand t) t.parts (λ n. [])
+      told = alike_is_told d (queued (opening_world s).driver) (in_hand t) t.parts (λ n. [])
           (record { reports = refl; store = refl; endpoints = refl; transfers = refl; notes = refl })
           (λ x there. record { linked = there.linked; kept = there.kept }) (λ x is. is)
-          (new_told s.words (room_of_script s) (in_hand t) t.parts (λ n. []));
+          (new_is_told s.words (room_of_script s) (in_hand t) t.parts (λ n. []));
       moved = λ n on. absurd (none n on);
       sound = λ n on. absurd (none n on);
     }
@@ -124,7 +124,7 @@ command_told w line cmd fits room k = record {
   standing = k.standing;
   lines = k.lines;
   mixed = command_keeps_standing k.standing w line cmd fits room k.mixed;
-  telling = command_telling k.standing k.lines w line cmd fits room k.mixed k.telling;
+  telling = command_keeps_telling k.standing k.lines w line cmd fits room k.mixed k.telling;
   going = command_goes w.driver (in_hand k.standing) k.standing.parts k.lines.reported k.going k.telling.told w line (name_in cmd) cmd
       (offered w.driver w.memory cmd) refl refl;
 }
@@ -144,5 +144,5 @@ scripts_are_told s fit bytes opens k =
 
 pub texts_are_told : TextsAreTold
 texts_are_told text s spelled =
-    scripts_are_told s (spelled_fits text s spelled) (spelled_bytes text s spelled)
+    scripts_are_told s (spelled_fits text s spelled) (a_text_spells_bytes text s spelled)
     (lines_fit s.lines (texts_fit text s spelled) (texts_open_fitting text s spelled))

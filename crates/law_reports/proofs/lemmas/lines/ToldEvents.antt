@@ -12,7 +12,7 @@ use Rattle.law_controller.specs.frame_control.Both.{RunsBoth}
 use Rattle.law_controller.specs.frame_control.Joined.{joined, begun, moved}
 use Rattle.law_driver.specs.queued_drivers.Queued.{queued}
 use Rattle.law_driver_ring.specs.told_harvests.Held.{IsDone}
-use Rattle.law_driver_ring.proofs.lemmas.told_harvests.Keeping.{done_kept}
+use Rattle.law_driver_ring.proofs.lemmas.told_harvests.Keeping.{events_keep_what_is_done}
 use Rattle.law_queues.proofs.lemmas.harvest_laws.Standing.{still_told}
 use Rattle.law_descriptors.specs.Both.{both, parts_now}
 use Rattle.law_descriptors.specs.Meeting.{met}
@@ -58,7 +58,7 @@ module _ (fixed : Fixed) (s : Standing) (m : Lines) (w : World) (k : IsMixedAt s
     count = d.count;
   }
   done_by n b i xs (moved effect) d =
-      done_kept transacts_by s.parts (in_hand s) (wired fixed w) (wired fixed new) now later n b i xs
+      events_keep_what_is_done transacts_by s.parts (in_hand s) (wired fixed w) (wired fixed new) now later n b i xs
       (λ c t there off. (keeps n).idle c t there off) effect d
 
   -- what was moved of the queue head at n, with what this event moved of it

@@ -43,7 +43,7 @@ use Rattle.law_queues.specs.leaving_drivers.Before.{WasSame, UnlinksAtMost, IsAs
 use Rattle.law_queues.proofs.lemmas.leaving_drivers.Alike.{out_before}
 use Rattle.law_world.specs.steps.endpoint_releases.Released.{without_queue, IsToLeave, HasLeaver}
 use Rattle.law_world.proofs.lemmas.steps.lemmas.endpoint_releases.Owning.{queue_beside}
-use Rattle.law_world.proofs.lemmas.steps.lemmas.endpoint_releases.Releasing.{due_leaves}
+use Rattle.law_world.proofs.lemmas.steps.lemmas.endpoint_releases.Releasing.{due_is_to_leave}
 use Rattle.law_world.proofs.lemmas.steps.lemmas.left_queues.Same.{fed_now}
 use Rattle.law_descriptors.specs.Both.{both}
 use Rattle.law_descriptors.specs.Meeting.{met}
@@ -52,7 +52,7 @@ use Rattle.law_descriptors.proofs.Standing.{both_off}
 use Rattle.law_world.specs.streams.Feeding.{there_of}
 use Rattle.law_world.specs.streams.left_reports.Leaver.{IsLeaver, IsToldGone}
 use Rattle.law_world.proofs.lemmas.streams.Told.{HasBulkThere, there_on, there_by, bulk_there, there_same}
-use Rattle.law_world.proofs.lemmas.streams.lemmas.left_reports.Before.{before_told}
+use Rattle.law_world.proofs.lemmas.streams.lemmas.left_reports.Before.{leaves_are_told}
 use Rattle.law_world.proofs.lemmas.streams.lemmas.left_reports.Gone.{release_is_told}
 use Rattle.law_world.specs.memory.Mixed.{Standing, IsMixedAt}
 use Rattle.law_world.specs.memory.Steps.{told_parts, LeftBy, left_the_ring, left_its_frames, IsGivenBack, given_by, IsWithout}
@@ -62,7 +62,7 @@ use Rattle.law_world.proofs.lemmas.memory.RingReleasing.{other_by, was}
 use Rattle.law_world.proofs.lemmas.memory.Unfinished.{none_unfinished}
 use Rattle.bus_world.specs.World.{World, driver_parts, controller_parts, driver_next}
 use Rattle.law_reports.specs.lines.Lined.{in_hand, Lines, IsTelling}
-use Rattle.law_reports.specs.lines.TellingSteps.{GoTells}
+use Rattle.law_reports.specs.lines.TellingSteps.{ReleaseTells}
 use Rattle.law_reports.proofs.lemmas.lines.Heads.{before_there}
 use Rattle.law_reports.proofs.lemmas.lines.Same.{same_at, relinked_reported}
 use Rattle.law_reports.proofs.lemmas.lines.Settled.{settles_elsewhere}
@@ -174,7 +174,7 @@ module _ (s : Standing) (w : World) (k : IsMixedAt s w) (e : ℕ) (x : Endpoint)
       let due : IsEndpointDue (driver_parts w) e = due_is s w k (rows.ReleaseEndpoint e) row in
       let idle : (queued w.driver).command ≡ None = idle_told w.driver due.idle in
       let now : IsEndpointDue (told_parts w) e = record { idle = idle; first = due.first; none_before = due.none_before } in
-      let leaver : HasLeaver (queued w.driver) e = due_leaves (told_parts w) e (owners_of s w k) now in
+      let leaver : HasLeaver (queued w.driver) e = due_is_to_leave (told_parts w) e (owners_of s w k) now in
       record {
         before = same_before (queued w.driver) (no_command idle);
         idle = idle;
@@ -374,7 +374,7 @@ module _ (s : Standing) (m : Lines) (w : World) (k : IsMixedAt s w) (g : IsTelli
   told_then =
       same_told given new (in_hand s) now m.reported b.told what.tells
       (release_is_told (s.order n) s.parts (in_hand s) (record (told_parts w) { driver = d }) e x (m.acc n) m.reported leaver reports_it
-      (before_told (queued w.driver) d (in_hand s) s.parts m.reported what.before g.told)).0
+      (leaves_are_told (queued w.driver) d (in_hand s) s.parts m.reported what.before g.told)).0
 
   abbrev At : StructureSets → Hand → Type 0
   At ps h = ToldStands (queued (driver_next w).driver) h ps m.reported
@@ -383,7 +383,7 @@ module _ (s : Standing) (m : Lines) (w : World) (k : IsMixedAt s w) (g : IsTelli
   pub gone_told : IsToldGone d (given_by (told_parts w) e d) e x (m.acc (32 * x.queue))
   gone_told =
       (release_is_told (s.order n) s.parts (in_hand s) (record (told_parts w) { driver = d }) e x (m.acc n) m.reported leaver reports_it
-      (before_told (queued w.driver) d (in_hand s) s.parts m.reported what.before g.told)).1
+      (leaves_are_told (queued w.driver) d (in_hand s) s.parts m.reported what.before g.told)).1
 
   pub gone_tells : TellsAlike (given_by (told_parts w) e d) (queued (driver_next w).driver)
   gone_tells = what.tells
@@ -413,5 +413,5 @@ module _ (s : Standing) (m : Lines) (w : World) (k : IsMixedAt s w) (g : IsTelli
         (subst (IsQueuePart i) (sym (queue_beside s.parts n i c.apart)) (g.sound i c.counted_before));
   }
 
-pub go_tells : GoTells
-go_tells s m w k g e x d t b without mixed = go_telling s m w k g e x d t b without mixed
+pub release_tells : ReleaseTells
+release_tells s m w k g e x d t b without mixed = go_telling s m w k g e x d t b without mixed

@@ -38,10 +38,10 @@ use Rattle.law_queues.specs.fed_harvests.Harvests.{Harvested, with_out}
 use Rattle.law_queues.proofs.lemmas.fed_harvests.Harvests.{bulk_unstalled}
 use Rattle.law_queues.specs.harvest_laws.Told.{ToldStands}
 use Rattle.law_queues.specs.harvest_laws.ToldLaws.{HarvestReports}
-use Rattle.law_queues.proofs.lemmas.harvest_laws.ReadRows.{row_told, wait_told}
-use Rattle.law_queues.proofs.lemmas.harvest_laws.Requests.{request_row_told}
+use Rattle.law_queues.proofs.lemmas.harvest_laws.ReadRows.{harvest_row_is_told, wait_is_told}
+use Rattle.law_queues.proofs.lemmas.harvest_laws.Requests.{other_harvest_is_told}
 use Rattle.law_world.specs.streams.Feeding.{there_of}
-use Rattle.law_world.proofs.lemmas.streams.FeedingPassed.{passed_untold}
+use Rattle.law_world.proofs.lemmas.streams.FeedingPassed.{passed_are_untold}
 use Rattle.law_world.proofs.lemmas.streams.Told.{HasBulkThere, there_by, there_on, bulk_there, stream_kind, bulk_kind, control_kind}
 use Rattle.law_world.specs.memory.Mixed.{Standing, IsMixedAt}
 use Rattle.law_world.specs.memory.Steps.{told_parts, IsToldRow, OutAfter, waits, passes, stalls}
@@ -166,7 +166,7 @@ module _ (s : Standing) (m : Lines) (w : World) (k : IsMixedAt s w) (g : IsTelli
     more = none_more;
     told = subst (λ (z : Found). ToldStands (after_driver_row (rows.Harvest e t z) (told_parts w)).driver (in_hand s) s.parts m.reported)
         (sym is)
-        (wait_told (told_parts w) s.parts (in_hand s) e t m.reported (subst (IsHarvestDue (told_parts w) e t) is due) g.told);
+        (wait_is_told (told_parts w) s.parts (in_hand s) e t m.reported (subst (IsHarvestDue (told_parts w) e t) is due) g.told);
     moved = g.moved;
   }
 
@@ -183,7 +183,7 @@ module _ (s : Standing) (m : Lines) (w : World) (k : IsMixedAt s w) (g : IsTelli
     requested out = record {
       lines = m;
       more = none_more;
-      told = (request_row_told (told_parts w) s.parts (in_hand s) e t found m.reported due owners turns
+      told = (other_harvest_is_told (told_parts w) s.parts (in_hand s) e t found m.reported due owners turns
           (control_kind due.endpoint.desc.kind control) g.told).stands;
       moved = λ j on.
           subst (λ (now : List ℕ). IsReported (s.order j) now (in_hand s) s.parts j (m.acc j) (m.reported j))
@@ -210,11 +210,13 @@ module _ (s : Standing) (m : Lines) (w : World) (k : IsMixedAt s w) (g : IsTelli
         → HarvestReports (s.order (32 * due.endpoint.queue)) (queued w.driver) f (in_hand s) s.parts e due.endpoint
         (m.acc (32 * due.endpoint.queue)) m.reported
     reports differs =
-        row_told (s.order (32 * due.endpoint.queue)) (told_parts w) s.parts (in_hand s) e t found (m.acc (32 * due.endpoint.queue))
+        harvest_row_is_told (s.order (32 * due.endpoint.queue)) (told_parts w) s.parts (in_hand s) e t found
+        (m.acc (32 * due.endpoint.queue))
         m.reported due differs
         owners turns kind k.queues.queues.fed (tells_of s w k) part
         (λ a z earlier of_it.
-        passed_untold (queued w.driver) s.parts (in_hand s) s.order s.out e t due.endpoint a z due.idle turns.turns k.queues.queues.out_are
+        passed_are_untold (queued w.driver) s.parts (in_hand s) s.order s.out e t due.endpoint a z due.idle turns.turns
+        k.queues.queues.out_are
         (fronts_of s w k)
         due.here met due.goes_on due.next earlier of_it) g.told right_now
 

@@ -30,7 +30,7 @@ use Rattle.law_queues.specs.fed_lends.ToLend.{IsToBeLent, lent_now}
 use Rattle.law_queues.proofs.lemmas.fed_lends.Reporting.{old_low, lend_leaves_reports}
 use Rattle.law_queues.proofs.lemmas.fed_lends.Reports.{IsReportedBelow}
 use Rattle.law_queues.specs.harvest_laws.Told.{ToldStands}
-use Rattle.law_queues.proofs.lemmas.harvest_laws.Standing.{alike_told, spared_told}
+use Rattle.law_queues.proofs.lemmas.harvest_laws.Standing.{alike_is_told, spared_is_told}
 use Rattle.law_queues.specs.lent_fronts.Stands.{parts_with}
 use Rattle.law_queues.specs.lent_fronts.Whole.{IsLentBehind}
 use Rattle.law_queues.proofs.lemmas.lent_fronts.Row.{lend_is_made}
@@ -121,10 +121,10 @@ module _ (s : Standing) (m : Lines) (w new : World) (k : IsMixedAt s w) (g : IsT
   lent_told : ToldStands (queued new.driver) (in_hand s) (parts_with get s.parts) m.reported
   lent_told =
       subst (λ (c : DriverContent). ToldStands c (in_hand s) now m.reported) (sym tells)
-      (alike_told (queued w.driver) (lent_now (queued w.driver) w.memory) (in_hand s) now m.reported
+      (alike_is_told (queued w.driver) (lent_now (queued w.driver) w.memory) (in_hand s) now m.reported
       (record { reports = refl; store = refl; endpoints = refl; transfers = refl; notes = refl })
       (λ x there. record { linked = there.linked; kept = there.kept }) (λ x opens. opens)
-      (spared_told (queued w.driver) (in_hand s) (in_hand s) s.parts now m.reported (hand_itself (in_hand s))
+      (spared_is_told (queued w.driver) (in_hand s) (in_hand s) s.parts now m.reported (hand_itself (in_hand s))
       (record { heads = λ e x here on. h.heads (32 * x.queue); done = λ e t x y a next on one. spared (32 * x.queue) (32 * a) }) g.told))
 
   -- ---- what was moved

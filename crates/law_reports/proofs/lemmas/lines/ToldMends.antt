@@ -19,15 +19,15 @@ use Rattle.law_ring.specs.Hand.{Hand}
 use Rattle.law_ring.specs.QueueParts.{IsQueuePart}
 use Rattle.law_ring.specs.Order.{IsOrdered, Accounts}
 use Rattle.law_ring.specs.Sparing.{SameHand}
-use Rattle.law_ring.proofs.SparedSparing.{spared_accounts}
+use Rattle.law_ring.proofs.SparedSparing.{accounts_are_spared}
 use Rattle.law_controller.specs.frame_control.Joined.{joined}
 use Rattle.law_queues.specs.harvest_laws.Told.{ToldStands}
-use Rattle.law_driver_ring.proofs.lemmas.told_harvests.Keeping.{done_spared}
+use Rattle.law_driver_ring.proofs.lemmas.told_harvests.Keeping.{spared_is_done}
 use Rattle.law_queues.specs.harvest_laws.Holds.{IsNextOf}
-use Rattle.law_queues.proofs.lemmas.harvest_laws.Standing.{alike_told, still_told}
+use Rattle.law_queues.proofs.lemmas.harvest_laws.Standing.{alike_is_told, still_told}
 use Rattle.law_queues.specs.mended_heads.Mended.{IsAtMend, head_at, mended, parts_then, hand_then}
 use Rattle.law_queues.specs.mended_heads.Owed.{IsOwed, store_due}
-use Rattle.law_queues.proofs.lemmas.mended_heads.Row.{spares_heads, spares_elements, spares_hand}
+use Rattle.law_queues.proofs.lemmas.mended_heads.Row.{mend_spares_heads, mend_spares_elements, mend_spares_hand}
 use Rattle.law_world.specs.streams.Feeding.{there_of}
 use Rattle.law_world.proofs.lemmas.streams.Told.{there_on, there_same}
 use Rattle.law_world.specs.memory.Mixed.{Standing, IsMixedAt}
@@ -76,7 +76,7 @@ module _ (s : Standing) (m : Lines) (w new : World) (k : IsMixedAt s w) (g : IsT
   apart i on same = false≢true (sym uncounted ∙ ap (there_of (queued w.driver)) (sym same) ∙ on)
 
   tells : SameHand (in_hand s) (joined (hand_then at s.hand) s.frame)
-  tells = ring_hand s.hand later s.frame (spares_hand s.hand (driver_parts w) s.parts s.out at)
+  tells = ring_hand s.hand later s.frame (mend_spares_hand s.hand (driver_parts w) s.parts s.out at)
 
   idle : (queued w.driver).command ≡ None
   idle = idle_told w.driver at.idle
@@ -102,14 +102,14 @@ module _ (s : Standing) (m : Lines) (w new : World) (k : IsMixedAt s w) (g : IsT
       λ i on. sym (there_same (queued w.driver) f i refl refl) ∙ (ap (λ (c : DriverContent). there_of c i) (sym is.told) ∙ on) in
       record {
         told = subst (λ (c : DriverContent). ToldStands c (joined later s.frame) now m.reported) (sym is.told)
-            (alike_told (queued w.driver) f (joined later s.frame) now m.reported
+            (alike_is_told (queued w.driver) f (joined later s.frame) now m.reported
             (record { reports = refl; store = refl; endpoints = refl; transfers = refl; notes = refl })
             (λ x there. record { linked = there.linked; kept = there.kept }) (λ x opens. opens)
             (still_told (queued w.driver) (in_hand s) (joined later s.frame) s.parts now m.reported
             (λ e u x y a i z next on one done.
-            done_spared (in_hand s) (joined later s.frame) s.parts now (32 * x.queue) a i z tells
-            (spares_heads (driver_parts w) s.parts s.out at (32 * x.queue) (next_apart e u x y next on))
-            (spares_elements (driver_parts w) s.parts s.out at (32 * x.queue) (32 * a)) done) g.told));
+            spared_is_done (in_hand s) (joined later s.frame) s.parts now (32 * x.queue) a i z tells
+            (mend_spares_heads (driver_parts w) s.parts s.out at (32 * x.queue) (next_apart e u x y next on))
+            (mend_spares_elements (driver_parts w) s.parts s.out at (32 * x.queue) (32 * a)) done) g.told));
         moved = λ i on.
             let r = g.moved i (was i on) in
             record {
@@ -127,8 +127,9 @@ module _ (s : Standing) (m : Lines) (w new : World) (k : IsMixedAt s w) (g : IsT
           → Accounts (s.order i) place (s.out i) (in_hand s) s.parts i xs
           → Accounts (s.order i) place (s.out i) (joined (hand_then at s.hand) s.frame) (parts_then at) i xs
       mended_accounts i differs {place} {xs} a =
-          spared_accounts (s.order i) (s.order i) place place (s.out i) (in_hand s) (joined later s.frame) s.parts now i xs tells
-          (spares_heads (driver_parts w) s.parts s.out at i differs) (λ e among. spares_elements (driver_parts w) s.parts s.out at i e)
+          accounts_are_spared (s.order i) (s.order i) place place (s.out i) (in_hand s) (joined later s.frame) s.parts now i xs tells
+          (mend_spares_heads (driver_parts w) s.parts s.out at i differs)
+          (λ e among. mend_spares_elements (driver_parts w) s.parts s.out at i e)
           (subst (IsOrdered (s.order i) place i) (sym (put_beside s.parts n n (QueueHead (mended at.stalled (head_at at))) i differs))
           a.ordered) a.sorted
           (λ b u among here from. a.published b u among (ap (λ (part : Structures). part b)

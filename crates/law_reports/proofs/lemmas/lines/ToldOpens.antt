@@ -26,11 +26,11 @@ use Rattle.law_ring.specs.QueueParts.{IsQueuePart}
 use Rattle.law_controller.proofs.lemmas.controlled_streams.Storing.{same_hand as hand_itself}
 use Rattle.law_controller.specs.controlled_streams.Opened.{with_none}
 use Rattle.law_controller.specs.controlled_streams.Reported.{IsReported}
-use Rattle.law_driver_ring.proofs.lemmas.told_harvests.Keeping.{done_spared}
+use Rattle.law_driver_ring.proofs.lemmas.told_harvests.Keeping.{spared_is_done}
 use Rattle.law_queues.proofs.lemmas.publish_laws.Apart.{queue_placed, queues_same, thirty_two}
 use Rattle.law_queues.specs.harvest_laws.Holds.{IsNextOf}
 use Rattle.law_queues.specs.harvest_laws.Told.{ToldStands}
-use Rattle.law_queues.proofs.lemmas.harvest_laws.Standing.{still_told, alike_told, met_told}
+use Rattle.law_queues.proofs.lemmas.harvest_laws.Standing.{still_told, alike_is_told, met_is_told}
 use Rattle.law_queues.specs.open_laws.Queues.{IsOpenToLend, IsOpenThere, IsNewPart, parts_opened, open_lent, open_finished}
 use Rattle.law_world.specs.streams.Feeding.{there_of}
 use Rattle.law_world.proofs.lemmas.streams.Told.{HasBulkThere, there_by, bulk_there, there_same, same_queue as same_open}
@@ -95,7 +95,7 @@ module _ (s : Standing) (m : Lines) (w new : World) (k : IsMixedAt s w) (g : IsT
 
   lent_told : ToldStands (queued new.driver) (in_hand s) (parts_opened at s.parts) m.reported
   lent_told =
-      alike_told d f (in_hand s) now m.reported
+      alike_is_told d f (in_hand s) now m.reported
       (record {
         reports = tells.reports;
         store = tells.store;
@@ -109,7 +109,7 @@ module _ (s : Standing) (m : Lines) (w new : World) (k : IsMixedAt s w) (g : IsT
       (λ e u x y a i z next on one done.
       let same : IsSameQueue (32 * x.queue) (s.parts (32 * x.queue)) (now (32 * x.queue)) =
       same_at s.parts now (32 * x.queue) (beside (32 * x.queue) (next_apart e u x y next)) in
-      done_spared (in_hand s) (in_hand s) s.parts now (32 * x.queue) a i z (hand_itself (in_hand s))
+      spared_is_done (in_hand s) (in_hand s) s.parts now (32 * x.queue) a i z (hand_itself (in_hand s))
       (relinked_head s.parts now (32 * x.queue) same)
       (relinked_element s.parts now (32 * x.queue) same (32 * a)) done) g.told)
 
@@ -217,7 +217,7 @@ module _ (s t : Standing) (m : Lines) (w new : World) (k : IsMixedAt s w) (g : I
 
   told_here : ToldStands (queued new.driver) (in_hand s) s.parts lines_then.reported
   told_here =
-      met_told (queued w.driver) (queued new.driver) (in_hand s) s.parts m.reported lines_then.reported q
+      met_is_told (queued w.driver) (queued new.driver) (in_hand s) s.parts m.reported lines_then.reported q
       (record {
         reports = tells.reports;
         store = tells.store;

@@ -22,7 +22,7 @@ use Rattle.law_ring.specs.Fewer.{without_those}
 use Rattle.law_ring.proofs.Returning.{those_beside}
 use Rattle.law_ring.specs.Sparing.{SparesElement}
 use Rattle.law_controller.specs.controlled_streams.Returned.{staying_of}
-use Rattle.law_controller.proofs.lemmas.controlled_streams.Returning.{spares_head, spares_element, reported_stay}
+use Rattle.law_controller.proofs.lemmas.controlled_streams.Returning.{spares_head, spares_element, reported_are_returned}
 use Rattle.law_controller.proofs.lemmas.controlled_streams.Storing.{same_hand as hand_itself}
 use Rattle.law_driver_ring.specs.Released.{goes_of}
 use Rattle.law_driver_ring.proofs.Blocks.{mine}
@@ -31,7 +31,7 @@ use Rattle.law_queues.specs.harvest_laws.Holds.{IsNextOf}
 use Rattle.law_queues.specs.harvest_laws.Told.{ToldStands}
 use Rattle.law_queues.specs.harvest_laws.ToldLaws.{SparesDone}
 use Rattle.law_queues.proofs.lemmas.harvest_laws.Places.{one_sooner, owner_is}
-use Rattle.law_queues.proofs.lemmas.harvest_laws.Standing.{spared_told, returned_told}
+use Rattle.law_queues.proofs.lemmas.harvest_laws.Standing.{spared_is_told, returned_is_told}
 use Rattle.law_queues.specs.released_queues.Released.{IsReturning}
 use Rattle.law_queues.specs.released_queues.Staying.{QueuesAreTold, ReleaseLeaves}
 use Rattle.law_queues.proofs.lemmas.released_queues.Staying.{release_stays}
@@ -137,12 +137,13 @@ module _ (s : Standing) (m : Lines) (w new : World) (k : IsMixedAt s w) (g : IsT
       λ i on. sym (there_same (queued w.driver) after.driver i refl refl) ∙ (ap (λ (c : DriverContent). there_of c i) (sym tells) ∙ on) in
       record {
         told = subst (λ (c : DriverContent). ToldStands c (in_hand s) now m.reported) (sym tells)
-            (returned_told (queued w.driver) after.driver t y (in_hand s) now m.reported r.here r.reported
+            (returned_is_told (queued w.driver) after.driver t y (in_hand s) now m.reported r.here r.reported
             (there_now (queued w.driver) turns)
             refl refl refl refl refl refl
-            (spared_told (queued w.driver) (in_hand s) (in_hand s) s.parts now m.reported (hand_itself (in_hand s)) spares g.told));
+            (spared_is_told (queued w.driver) (in_hand s) (in_hand s) s.parts now m.reported (hand_itself (in_hand s)) spares g.told));
         moved = λ i on.
-            reported_stay (there_of (queued w.driver)) s.order s.out (in_hand s) s.parts m.acc m.reported n goes leaves.head leaves.buffers
+            reported_are_returned (there_of (queued w.driver)) s.order s.out (in_hand s) s.parts m.acc m.reported n goes leaves.head
+            leaves.buffers
             (leaves.untold (in_hand s)) g.moved i (was i on);
         sound = λ i on. leaves.part i (g.sound i (was i on));
       }

@@ -15,14 +15,14 @@ use Rattle.law_controller.specs.controlled_streams.Reported.{IsReported}
 use Rattle.law_controller.specs.frame_control.Joined.{joined}
 use Rattle.law_queues.specs.harvest_laws.Told.{ToldStands}
 use Rattle.law_queues.specs.harvest_laws.ToldLaws.{IsAlike}
-use Rattle.law_queues.proofs.lemmas.harvest_laws.Standing.{alike_told}
+use Rattle.law_queues.proofs.lemmas.harvest_laws.Standing.{alike_is_told}
 use Rattle.law_queues.specs.leaving_drivers.Before.{IsAsBefore}
-use Rattle.law_queues.proofs.lemmas.leaving_drivers.Leaving.{unlink_as_before, bell_as_before, status_as_before, clear_as_before}
+use Rattle.law_queues.proofs.lemmas.leaving_drivers.Leaving.{unlink_is_as_before, bell_is_as_before, status_is_as_before, clear_is_as_before}
 use Rattle.law_world.specs.steps.unlinked_streams.Unlinks.{IsAtUnlink, parts_unlinked, hand_unlinked}
 use Rattle.law_world.proofs.lemmas.steps.lemmas.unlinked_streams.Streams.{unlink_spares_hand}
 use Rattle.law_world.specs.streams.Feeding.{there_of}
 use Rattle.law_world.proofs.lemmas.streams.Told.{there_same}
-use Rattle.law_world.proofs.lemmas.streams.lemmas.left_reports.Before.{before_told}
+use Rattle.law_world.proofs.lemmas.streams.lemmas.left_reports.Before.{leaves_are_told}
 use Rattle.law_world.specs.memory.Mixed.{Standing, IsMixedAt}
 use Rattle.law_world.specs.memory.Steps.{told_parts, IsToldRow, AreStill}
 use Rattle.law_world.proofs.lemmas.memory.Alike.{queue_part}
@@ -59,15 +59,15 @@ alike_is d f k r = record { reports = r.reports; store = r.store; endpoints = k.
 pub same_told : (d f : DriverContent) (hand : Hand) (parts : StructureSets) (reported : ℕ → List ℕ) → QueuesAlike d f → TellsAlike d f
     → ToldStands d hand parts reported → ToldStands f hand parts reported
 same_told d f hand parts reported k r told =
-    alike_told d f hand parts reported (alike_is d f k r) (λ x there. record {
+    alike_is_told d f hand parts reported (alike_is d f k r) (λ x there. record {
       linked = λ is. there.linked (k.command ∙ is);
       kept = there.kept;
     })
     (λ x is. sym k.command ∙ is) told
 
-pub alike_telling : (s t : Standing) (m : Lines) (w new : World) → AreStill s t → QueuesAlike (queued w.driver) (queued new.driver)
+pub still_tells : (s t : Standing) (m : Lines) (w new : World) → AreStill s t → QueuesAlike (queued w.driver) (queued new.driver)
     → TellsAlike (queued w.driver) (queued new.driver) → IsTelling s m w → IsTelling t m new
-alike_telling s t m w new still k r g =
+still_tells s t m w new still k r g =
     still_telling s t m w new still (same_told (queued w.driver) (queued new.driver) (in_hand s) s.parts m.reported k r g.told)
     (alike_there (queued w.driver) (queued new.driver) k) g
 
@@ -83,17 +83,17 @@ module _ (s : Standing) (m : Lines) (w new : World) (row : DriverRow) (is : IsTo
   pub told_before : ToldStands (queued new.driver) (in_hand s) s.parts m.reported
   told_before =
       subst (λ (c : DriverContent). ToldStands c (in_hand s) s.parts m.reported) (sym is.told)
-      (before_told (queued w.driver) (after_driver_row row (told_parts w)).driver (in_hand s) s.parts m.reported k g.told)
+      (leaves_are_told (queued w.driver) (after_driver_row row (told_parts w)).driver (in_hand s) s.parts m.reported k g.told)
 
 module _ (s : Standing) (m : Lines) (w new : World) (k : IsMixedAt s w) (g : IsTelling s m w) where
   pub bell_telling : (t : Standing) → AreStill s t → IsToldRow w new rows.RingBell → IsTelling t m new
   bell_telling t still is =
-      let b = (bell_as_before (told_parts w) (idle_told w.driver (due_is s w k rows.RingBell is.next).0)).0 in
+      let b = (bell_is_as_before (told_parts w) (idle_told w.driver (due_is s w k rows.RingBell is.next).0)).0 in
       still_telling s t m w new still (told_before s m w new rows.RingBell is b g) (before_was s m w new rows.RingBell is b g) g
 
   pub status_telling : (t : Standing) (heard : Bool) → AreStill s t → IsToldRow w new (rows.ReadStatus heard) → IsTelling t m new
   status_telling t heard still is =
-      let b = (status_as_before (told_parts w) heard (idle_told w.driver (due_is s w k (rows.ReadStatus heard) is.next).0)).0 in
+      let b = (status_is_as_before (told_parts w) heard (idle_told w.driver (due_is s w k (rows.ReadStatus heard) is.next).0)).0 in
       still_telling s t m w new still (told_before s m w new (rows.ReadStatus heard) is b g)
       (before_was s m w new (rows.ReadStatus heard) is b g) g
 
@@ -101,7 +101,7 @@ module _ (s : Standing) (m : Lines) (w new : World) (k : IsMixedAt s w) (g : IsT
   pub narrow_telling : (member near streams : ℕ → Bool) → IsToldRow w new rows.ClearAdvance
       → IsTelling (record s { member = member; near = near; streams = streams }) m new
   narrow_telling member near streams is =
-      let b = (clear_as_before (told_parts w) (idle_told w.driver (due_is s w k rows.ClearAdvance is.next).0)).0 in
+      let b = (clear_is_as_before (told_parts w) (idle_told w.driver (due_is s w k rows.ClearAdvance is.next).0)).0 in
       record {
         told = told_before s m w new rows.ClearAdvance is b g;
         moved = λ n on. g.moved n (before_was s m w new rows.ClearAdvance is b g n on);
@@ -115,7 +115,7 @@ module _ (s : Standing) (m : Lines) (w new : World) (k : IsMixedAt s w) (g : IsT
       m new
   unlink_telling at is =
       let row : DriverRow = rows.Store at.before (32 * at.before) (queue_head_link at.after) in
-      let b = (unlink_as_before (told_parts w) at.number at.before (queue_head_link at.after) at.before (32 * at.before)
+      let b = (unlink_is_as_before (told_parts w) at.number at.before (queue_head_link at.after) at.before (32 * at.before)
       (queue_head_link at.after) at.command).0 in
       let later : Hand = hand_unlinked s.hand at.before at.after in
       let now : StructureSets = parts_unlinked s.parts at.before at.queue at.after in

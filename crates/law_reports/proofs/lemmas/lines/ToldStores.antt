@@ -28,7 +28,7 @@ use Rattle.law_ring.specs.Told.{Endpoint as Told}
 use Rattle.law_controller.specs.controlled_streams.Reported.{IsReported, AreReported}
 use Rattle.law_controller.specs.controlled_streams.Storing.{IsStore, with_out, stored_parts}
 use Rattle.law_controller.proofs.lemmas.controlled_streams.Storing.{same_hand as hand_itself, spares_head, spares_element}
-use Rattle.law_controller.proofs.lemmas.controlled_streams.Streams.{idle_reports, last_reports, out_here, out_beside}
+use Rattle.law_controller.proofs.lemmas.controlled_streams.Streams.{idle_store_leaves_reports, last_store_leaves_reports, out_here, out_beside}
 use Rattle.law_driver_ring.specs.Published.{partly}
 use Rattle.law_driver_ring.proofs.Publishing.{idle}
 use Rattle.law_driver_ring.specs.fed_queues.Fed.{IsPublished}
@@ -38,7 +38,7 @@ use Rattle.law_queues.specs.harvest_laws.Holds.{IsNextOf}
 use Rattle.law_queues.specs.harvest_laws.Told.{ToldStands}
 use Rattle.law_queues.specs.harvest_laws.ToldLaws.{SparesDone}
 use Rattle.law_queues.proofs.lemmas.harvest_laws.Places.{one_sooner, owner_is}
-use Rattle.law_queues.proofs.lemmas.harvest_laws.Standing.{alike_told, spared_told}
+use Rattle.law_queues.proofs.lemmas.harvest_laws.Standing.{alike_is_told, spared_is_told}
 use Rattle.law_queues.specs.publish_laws.Stores.{parts_then, out_then, next_of}
 use Rattle.law_queues.proofs.lemmas.publish_laws.Apart.{thirty_two}
 use Rattle.law_queues.proofs.lemmas.publish_laws.Feeding.{more, done}
@@ -51,7 +51,7 @@ use Rattle.law_world.specs.memory.Steps.{told_parts, IsNextStore}
 use Rattle.law_world.proofs.lemmas.memory.HarvestKept.{owners_of}
 use Rattle.law_world.proofs.lemmas.memory.PublishStores.{IsStoring, published_by, below, parts_are, split, sorted, element, here, links, never_opens, met_now, there_now, out_is, out_more, then_more, then_done, eighth_by, by_store, one_more, finished}
 use Rattle.law_world.proofs.lemmas.memory.Unfinished.{none_unfinished}
-use Rattle.law_driver.proofs.lemmas.queued_drivers.RowOwners.{queued_lent}
+use Rattle.law_driver.proofs.lemmas.queued_drivers.RowOwners.{queued_are_lent}
 use Rattle.bus_world.specs.World.{World}
 use Rattle.law_reports.specs.lines.Lined.{in_hand, Lines, IsTelling}
 use Rattle.law_reports.specs.lines.TellingSteps.{StoreTells}
@@ -124,7 +124,7 @@ module _ (p : DriverParts) (member streams : ℕ → Bool) (ends : ℕ → Told)
     reports_more : suc i < 8 → AreReported heads order (then_out d_more) hand now acc reported
     reports_more low m on =
         subst (λ (xs : List ℕ). IsReported (order m) xs hand now m (acc m) (reported m)) (sym (out_stays m))
-        (idle_reports heads order out hand parts acc reported n (32 * b) (partly g.qtd i) (partly g.qtd (suc i)) store
+        (idle_store_leaves_reports heads order out hand parts acc reported n (32 * b) (partly g.qtd i) (partly g.qtd (suc i)) store
         (idle g.qtd (suc i) low) right m on)
 
     fresh_last : suc i ≡ 8 → IsFresh (parts n) (partly g.qtd (suc i))
@@ -137,7 +137,7 @@ module _ (p : DriverParts) (member streams : ℕ → Bool) (ends : ℕ → Told)
     reports_done eighth =
         subst (λ (xs : List ℕ). AreReported heads order (with_out out n xs) hand now acc reported)
         (sym (split p member streams ends parts order out b words k).all)
-        (last_reports heads order out hand parts acc reported n (32 * b) (partly g.qtd i) (partly g.qtd (suc i)) store
+        (last_store_leaves_reports heads order out hand parts acc reported n (32 * b) (partly g.qtd i) (partly g.qtd (suc i)) store
         (ap (λ (j : ℕ). (partly g.qtd j).token.active) eighth ∙ g.active) (fresh_last eighth) part right)
 
     pub reports_by : AreReported heads order (out_then out (next_of p).driver g) hand (parts_then g) acc reported
@@ -182,14 +182,14 @@ module _ (p : DriverParts) (member streams : ℕ → Bool) (ends : ℕ → Told)
       → ToldStands (next_of p).driver hand (parts_then g) reported
   told_stored hand reported told =
       let spared : ToldStands d hand (parts_then g) reported
-      = spared_told d hand hand parts (parts_then g) reported (hand_itself hand) spares_done told in
+      = spared_is_told d hand hand parts (parts_then g) reported (hand_itself hand) spares_done told in
       by_store p member streams ends parts order out b words k (λ (f : DriverContent). ToldStands f hand (parts_then g) reported)
       (λ low.
-      alike_told d (one_more p member streams ends parts order out b words k) hand (parts_then g) reported
+      alike_is_told d (one_more p member streams ends parts order out b words k) hand (parts_then g) reported
       (record { reports = refl; store = refl; endpoints = refl; transfers = refl; notes = refl })
       (λ x meets. there_now p member streams ends parts order out b words k x meets.kept) (λ x is. is) spared)
       (λ eighth.
-      alike_told d (finished p member streams ends parts order out b words k) hand (parts_then g) reported
+      alike_is_told d (finished p member streams ends parts order out b words k) hand (parts_then g) reported
       (record { reports = refl; store = refl; endpoints = refl; transfers = refl; notes = refl })
       (λ x meets. there_now p member streams ends parts order out b words k x meets.kept) (λ x is. absurd (none_not_open x.queue is))
       spared)
@@ -263,7 +263,7 @@ module _ (s : Standing) (m : Lines) (w new : World) (k : IsMixedAt s w) (g : IsT
     command = is.command;
     made = is.made;
     owners = owners_of s w k;
-    lent = queued_lent w.driver k.now.framed.place.lent (λ e t count iso. absurd (publish_not_iso e t count iso));
+    lent = queued_are_lent w.driver k.now.framed.place.lent (λ e t count iso. absurd (publish_not_iso e t count iso));
     turns = k.turns.turns;
     queues = k.queues.queues;
   }
@@ -336,5 +336,5 @@ module _ (s : Standing) (m : Lines) (w new : World) (k : IsMixedAt s w) (g : IsT
       subst (λ (ps : StructureSets). IsTelling (At ps (out_then s.out (next_of (told_parts w)).driver p)) m new) same_parts
       (subst (λ (es : ℕ → List ℕ). IsTelling (At stored_now es) m new) same_out (own_telling there))
 
-pub store_telling : StoreTells
-store_telling s m w new k g b words p is mixed = store_then s m w new k g b words p is mixed
+pub store_tells : StoreTells
+store_tells s m w new k g b words p is mixed = store_then s m w new k g b words p is mixed

@@ -14,7 +14,7 @@ use Rattle.law_ring.specs.Hand.{Hand}
 use Rattle.law_ring.specs.Told.{Endpoint as Told}
 use Rattle.law_ring.specs.OutBus.{Taker}
 use Rattle.law_ring.specs.OutPipes.{OutAgrees, level, ahead, ended}
-use Rattle.law_ring.proofs.PipeAgreeing.{taken_begins}
+use Rattle.law_ring.proofs.PipeAgreeing.{accepted_bytes_begin_each_stream}
 use Rattle.law_driver.specs.endpoint_lives.Lives.{may_meet}
 use Rattle.law_driver.specs.queued_drivers.Queued.{queued_endpoint, queued}
 use Rattle.law_driver_ring.specs.fed_queues.Places.{IsThere, IsMet}
@@ -66,7 +66,8 @@ module _ (fixed : Fixed) (x : Sides) (s : Standing) (m : Lines) (h : Heads) (w :
         → HasBegun x wire ways.In y.desc.name.addr y.desc.name.num (concat (m.acc (32 * y.queue)))
     met_in is on =
         subst (λ (u : Told). IsPrefix (concat (m.acc (32 * y.queue))) (concat (x.packets u.addr u.ep))) named
-        (taken_begins x.sends x.packets sender_of s.near h.ins h.ends m.acc s.parts (in_hand s) (wired fixed w) (32 * y.queue)
+        (accepted_bytes_begin_each_stream x.sends x.packets sender_of s.near h.ins h.ends m.acc s.parts (in_hand s) (wired fixed w)
+        (32 * y.queue)
         k.pipes.in_pipes (on_ins is on))
 
     met_out : y.desc.name.way ≡ ways.Out → x.takes y.desc.name.addr y.desc.name.num ≡ true

@@ -27,7 +27,7 @@ use Rattle.law_world.proofs.lemmas.memory.CommandKeeping.{command_keeps_standing
 use Rattle.law_world.proofs.lemmas.memory.Unfinished.{none_unfinished}
 use Rattle.law_world.proofs.lemmas.streams.Told.{same_queue as same_open}
 use Rattle.law_reports.specs.lines.Lined.{in_hand, Lines, IsTelling, AreIsoGoing}
-use Rattle.law_reports.proofs.lemmas.lines.Commanding.{command_telling}
+use Rattle.law_reports.proofs.lemmas.lines.Commanding.{command_keeps_telling}
 use Rattle.law_reports.proofs.lemmas.lines.CommandedGoing.{command_goes}
 use Rattle.bus_world.specs.World.{World, refused_line, name_in, commanded_by, commanded}
 use Rattle.law_reports.specs.pipes.Declared.{Sides, IsDeclared, AreDeclared}
@@ -195,6 +195,6 @@ module _ (fixed : Fixed) (x : Sides) (s : Standing) (m : Lines) (h : Heads) (w :
     pub commanded_piped : IsPiped fixed x s m h (commanded w line cmd)
     commanded_piped =
         by_offer (offered w.driver w.memory cmd) refl (command_keeps_standing s w line cmd fits room k.mixed)
-        (command_telling s m w line cmd fits room k.mixed k.telling)
+        (command_keeps_telling s m w line cmd fits room k.mixed k.telling)
         (command_goes w.driver (in_hand s) s.parts m.reported k.going k.telling.told w line (name_in cmd) cmd
         (offered w.driver w.memory cmd) refl refl) (command_keeps_names s w line cmd fits room k.mixed k.descriptors)

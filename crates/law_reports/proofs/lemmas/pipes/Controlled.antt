@@ -27,10 +27,10 @@ use Rattle.law_driver_ring.specs.fed_queues.Places.{IsMet, AreMet}
 use Rattle.law_queues.specs.told_endpoints.Telling.{lines_in}
 use Rattle.law_devices.specs.Senders.{sender_of}
 use Rattle.law_devices.specs.scripted_takers.Takers.{taker_of}
-use Rattle.law_devices.proofs.Asking.{scripted_bus}
-use Rattle.law_devices.proofs.Beginning.{scripted_begins}
-use Rattle.law_devices.proofs.lemmas.scripted_takers.Asking.{scripted_out_bus}
-use Rattle.law_devices.proofs.lemmas.scripted_takers.Beginning.{scripted_out_begins}
+use Rattle.law_devices.proofs.Asking.{a_scripted_bus_sends_its_streams}
+use Rattle.law_devices.proofs.Beginning.{a_microframe_keeps_its_senders}
+use Rattle.law_devices.proofs.lemmas.scripted_takers.Asking.{a_scripted_bus_takes_its_streams}
+use Rattle.law_devices.proofs.lemmas.scripted_takers.Beginning.{a_microframe_keeps_its_takers}
 use Rattle.law_descriptors.specs.Both.{both, parts_now}
 use Rattle.law_descriptors.specs.Meeting.{met}
 use Rattle.law_descriptors.specs.PartLaws.{IsDescribing}
@@ -88,8 +88,10 @@ module _ (fixed : Fixed) (x : Sides) (s : Standing) (m : Lines) (h : Heads) (w :
       f.runs c.event.effect
 
   pub goes : PipesGoOn x.sends x.takes x.packets sender_of taker_of s.near h.ins h.outs h.ends m.acc z
-  goes = controller_keeps_pipes x.sends x.takes x.packets sender_of taker_of h.ins h.outs h.ends m.acc fixed s w (scripted_bus x.sends)
-      (scripted_begins x.sends) (scripted_out_bus x.takes) (scripted_out_begins x.takes) k.mixed c k.by_way iso z k.pipes
+  goes = controller_keeps_pipes x.sends x.takes x.packets sender_of taker_of h.ins h.outs h.ends m.acc fixed s w
+      (a_scripted_bus_sends_its_streams x.sends)
+      (a_microframe_keeps_its_senders x.sends) (a_scripted_bus_takes_its_streams x.takes) (a_microframe_keeps_its_takers x.takes) k.mixed c
+      k.by_way iso z k.pipes
 
   abbrev pub lines_then : Lines
   lines_then = record { acc = goes.moved; reported = m.reported }
@@ -124,14 +126,16 @@ module _ (fixed : Fixed) (x : Sides) (s : Standing) (m : Lines) (h : Heads) (w :
   sender_stays addr ep on unopened u is =
       sender_waits begins_by (IsIsoAsk (both s.descs s.parts)) transacts_by s.near h.ends s.parts (joined s.hand s.frame) wire after
       (parts_now s.descs s.parts c.event.now) (joined c.event.later c.event.frame_later) asked x.sends x.packets sender_of h.ins m.acc
-      (scripted_bus x.sends) (scripted_begins x.sends) k.pipes.in_pipes iso.ins addr ep on unopened u is z
+      (a_scripted_bus_sends_its_streams x.sends) (a_microframe_keeps_its_senders x.sends) k.pipes.in_pipes iso.ins addr ep on unopened u is
+      z
 
   pub taker_stays : (addr ep : ℕ) → x.takes addr ep ≡ true → IsUnopened h.outs h.ends addr ep → (u : Taker)
       → taker_of (wired fixed w) addr ep ≡ Some u → taker_of (wired fixed (controller_next fixed w)) addr ep ≡ Some u
   taker_stays addr ep on unopened u is =
       taker_waits begins_by (IsIsoAsk (both s.descs s.parts)) transacts_by s.near h.ends s.parts (joined s.hand s.frame) wire after
       (parts_now s.descs s.parts c.event.now) (joined c.event.later c.event.frame_later) asked x.takes taker_of h.outs
-      (λ n. concat (m.acc n)) (scripted_out_bus x.takes) (scripted_out_begins x.takes) k.pipes.out_pipes iso.outs addr ep on u is unopened z
+      (λ n. concat (m.acc n)) (a_scripted_bus_takes_its_streams x.takes) (a_microframe_keeps_its_takers x.takes) k.pipes.out_pipes iso.outs
+      addr ep on u is unopened z
 
   -- .. nor one that is idle
   pub idle_taker_stays : (addr ep : ℕ) → x.takes addr ep ≡ true → (u : Taker) → taker_of (wired fixed w) addr ep ≡ Some u → (n : ℕ) (q : Qh)
@@ -141,7 +145,8 @@ module _ (fixed : Fixed) (x : Sides) (s : Standing) (m : Lines) (h : Heads) (w :
   idle_taker_stays addr ep on u is n q head idle alone_at =
       idle_waits begins_by (IsIsoAsk (both s.descs s.parts)) transacts_by s.near h.ends s.parts (joined s.hand s.frame) wire after
       (parts_now s.descs s.parts c.event.now) (joined c.event.later c.event.frame_later) asked x.takes taker_of h.outs
-      (λ n. concat (m.acc n)) (scripted_out_bus x.takes) (scripted_out_begins x.takes) k.pipes.out_pipes iso.outs addr ep on u is n q head
+      (λ n. concat (m.acc n)) (a_scripted_bus_takes_its_streams x.takes) (a_microframe_keeps_its_takers x.takes) k.pipes.out_pipes iso.outs
+      addr ep on u is n q head
       idle alone_at z
 
   -- a device changes in an event that leaves memory as it is
@@ -150,7 +155,8 @@ module _ (fixed : Fixed) (x : Sides) (s : Standing) (m : Lines) (h : Heads) (w :
   taker_or_parts_stay addr ep on u is =
       taker_or_parts begins_by (IsIsoAsk (both s.descs s.parts)) transacts_by s.near h.ends s.parts (joined s.hand s.frame) wire after
       (parts_now s.descs s.parts c.event.now) (joined c.event.later c.event.frame_later) asked x.takes taker_of h.outs
-      (λ n. concat (m.acc n)) (scripted_out_bus x.takes) (scripted_out_begins x.takes) k.pipes.out_pipes iso.outs addr ep on u is z
+      (λ n. concat (m.acc n)) (a_scripted_bus_takes_its_streams x.takes) (a_microframe_keeps_its_takers x.takes) k.pipes.out_pipes iso.outs
+      addr ep on u is z
 
   -- ---- endpoints that aren't met
 

@@ -15,7 +15,7 @@ use Rattle.law_world.specs.memory.Mixed.{Standing, IsMixedAt}
 use Rattle.law_world.specs.memory.Steps.{QueueStep}
 use Rattle.law_world.specs.memory.pipe_steps.Laws.{IsNoOpening}
 use Rattle.law_world.specs.memory.pipe_steps.Pipes.{PipesStand}
-use Rattle.law_world.proofs.lemmas.memory.lemmas.pipe_steps.StepPipes.{step_keeps_pipes}
+use Rattle.law_world.proofs.lemmas.memory.lemmas.pipe_steps.StepPipes.{each_step_keeps_pipes}
 use Rattle.law_reports.specs.lines.Lined.{in_hand, Lines}
 use Rattle.law_reports.specs.lines.TellingLaws.{IsTellingNext}
 use Rattle.law_reports.proofs.lemmas.lines.Driven.{rows_keep_iso_going}
@@ -72,7 +72,8 @@ module _ (fixed : Fixed) (x : Sides) (s : Standing) (m : Lines) (h : Heads) (w :
           k.mixed.queues.queues.met mixed.queues.queues.met (λ e z here met. was_end e z here) fewer x.sends x.takes h.ins h.outs
           (heads_left t).ins (heads_left t).outs h.ends (λ n. refl) (λ n. refl) k.by_way;
       pipes = subst Stand (sym (none_more s w (driver_next w) t step other m next.lines next.after))
-          (step_keeps_pipes sender_of taker_of x.sends x.takes x.packets h.ins h.outs (heads_left t).ins (heads_left t).outs h.ends m.acc
+          (each_step_keeps_pipes sender_of taker_of x.sends x.takes x.packets h.ins h.outs (heads_left t).ins (heads_left t).outs h.ends
+          m.acc
           (wired fixed w) s t w (driver_next w) k.mixed step other k.by_way (λ n. refl) (λ n. refl) k.pipes);
       new_heads = heads_then s w k.mixed k.new_heads t step other;
       fresh_ins = fresh_carried w.driver (driver_next w).driver now_end opening_then ways.In x.sends

@@ -17,7 +17,7 @@ use Rattle.drv_table.specs.DriverContent.{DriverContent}
 use Rattle.drv_table.specs.Kinds.{is_iso}
 use Rattle.drv_table.specs.Offers.{offered}
 use Rattle.drv_table.specs.Rows.{driver_row}
-use Rattle.law_driver.proofs.lemmas.run_owners.Commands.{accepted_for_a_reason}
+use Rattle.law_driver.proofs.lemmas.run_owners.Commands.{each_command_has_its_reason}
 use Rattle.law_driver.specs.queued_drivers.Queued.{queued}
 use Rattle.law_driver.proofs.lemmas.queued_drivers.RowEvents.{idle_told}
 use Rattle.law_ring.specs.Told.{Endpoint as Told, SameTold}
@@ -134,7 +134,7 @@ module _ (s : Standing) (w : World) (mixed : IsMixedAt s w) (heads : HaveNewHead
   by_offer : (t : Standing) → AreStill s t → (line : ℕ) (cmd : Cmd) (r : Result Offered OfferError) → offered w.driver w.memory cmd ≡ r
       → driver_next w ≡ commanded_by w line (name_in cmd) r → HaveNewHeads (driver_next w).driver t
   by_offer t still line cmd (Ok o) is next =
-      idle_opens t (idle_told w.driver (idle_by w.driver w.memory o (accepted_for_a_reason w.driver w.memory cmd o is)))
+      idle_opens t (idle_told w.driver (idle_by w.driver w.memory o (each_command_has_its_reason w.driver w.memory cmd o is)))
   by_offer t still line cmd (Err why) is next =
       carry t (tells_same t still) (ap (λ (v : World). (queued v.driver).made) next)
 

@@ -25,7 +25,7 @@ use Rattle.law_controller.specs.controlled_streams.Reported.{IsReported}
 use Rattle.law_driver.specs.queued_drivers.Queued.{queued_kind, queued_endpoint, queued}
 use Rattle.law_driver.specs.queued_drivers.Rows.{TellsAlike}
 use Rattle.law_driver.proofs.lemmas.queued_drivers.CommandFields.{of_queue, desc_same, name_same, get_queued}
-use Rattle.law_driver.proofs.lemmas.run_owners.Reasons.{each_is_due}
+use Rattle.law_driver.proofs.lemmas.run_owners.Reasons.{each_event_is_due}
 use Rattle.law_driver_ring.specs.fed_queues.Places.{IsThere}
 use Rattle.law_queues.specs.leaving_drivers.Before.{WasSame, IsAsBefore}
 use Rattle.law_queues.specs.leaving_drivers.Told.{told_to}
@@ -114,7 +114,7 @@ module _ (fixed : Fixed) (x : Sides) (s : Standing) (m : Lines) (h : Heads) (w :
   stays_told =
       gone_lines w.driver (driver_next w).driver apart k.telling.told.tells.stored
       (row_tells (driver_parts w) (driver_row (driver_parts w)) k.mixed.now.framed.place.sound.owners k.mixed.turns
-      (each_is_due (driver_parts w)))
+      (each_event_is_due (driver_parts w)))
 
   -- ---- an endpoint that is there was so, or its open ends
 

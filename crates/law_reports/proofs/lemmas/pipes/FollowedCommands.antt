@@ -18,10 +18,10 @@ use Rattle.drv_table.specs.Offers.{offered, IsOffered}
 use Rattle.law_driver.specs.queued_drivers.Queued.{queued_endpoint, queued}
 use Rattle.law_driver.proofs.lemmas.queued_drivers.CommandReasons.{reason_of}
 use Rattle.law_driver.proofs.lemmas.queued_drivers.RowEvents.{idle_told}
-use Rattle.law_driver.proofs.lemmas.run_owners.Commands.{accepted_for_a_reason}
+use Rattle.law_driver.proofs.lemmas.run_owners.Commands.{each_command_has_its_reason}
 use Rattle.law_driver_ring.specs.fed_queues.Places.{IsThere}
 use Rattle.law_queues.specs.leaving_drivers.Told.{told_to}
-use Rattle.law_queues.proofs.lemmas.leaving_drivers.Telling.{refusal_tells_nothing}
+use Rattle.law_queues.proofs.lemmas.leaving_drivers.Telling.{refusals_tell_nothing}
 use Rattle.law_queues.specs.told_endpoints.Telling.{lines_in}
 use Rattle.law_queues.proofs.lemmas.harvest_laws.Opening.{push_which}
 use Rattle.claims_report.specs.Streams.{told_in}
@@ -85,7 +85,7 @@ module _ (fixed : Fixed) (x : Sides) (s : Standing) (m : Lines) (h : Heads) (w :
     refused = refused_line w.driver line (name_in cmd) why
 
     refused_tells : (name : EpName) → told_to (refused_line w.driver line (name_in cmd) why) name ≡ told_to w.driver name
-    refused_tells = refusal_tells_nothing w.driver refused _ refl refl refl
+    refused_tells = refusals_tell_nothing w.driver refused _ refl refl refl
 
     refused_left : (way : Way) (has : ℕ → ℕ → Bool) (P : ℕ → ℕ → List ℕ → Type 0)
         → ((e : ℕ) (y : Endpoint) → slice_get w.driver.endpoints e ≡ Some y → y.desc.name.way ≡ way
@@ -147,7 +147,7 @@ module _ (fixed : Fixed) (x : Sides) (s : Standing) (m : Lines) (h : Heads) (w :
   }
   by_offer (Ok o) is piped =
       let idle : (queued w.driver).command ≡ None =
-      idle_told w.driver (idle_by w.driver w.memory o (accepted_for_a_reason w.driver w.memory cmd o is)) in
+      idle_told w.driver (idle_by w.driver w.memory o (each_command_has_its_reason w.driver w.memory cmd o is)) in
       let ends : EndsThen w.driver o.driver cmd = ends_then w.driver w.memory o cmd (reason_of w.driver w.memory cmd o is) in
       record {
         piped = piped;

@@ -2,7 +2,7 @@
 use Rattle.script_types.specs.declared.scripts.Script.{Script}
 use Rattle.script_fits.proofs.Texts.{spelled_fits}
 use Rattle.bus_wire.specs.Bus.{fixed_of}
-use Rattle.law_scripts.proofs.lemmas.script_bytes.Texts.{spelled_bytes}
+use Rattle.law_scripts.proofs.lemmas.script_bytes.Texts.{a_text_spells_bytes}
 use Rattle.law_world.specs.steps.receiving_runs.Runs.{IsKeptBy}
 use Rattle.law_world.proofs.lemmas.steps.lemmas.receiving_runs.Runs.{holds_throughout}
 use Rattle.law_world.proofs.lemmas.memory.FittingTexts.{texts_open_fitting}
@@ -60,5 +60,5 @@ scripts_are_followed s fit bytes fits declares k =
 
 pub texts_are_followed : TextsAreFollowed
 texts_are_followed text s spelled =
-    scripts_are_followed s (spelled_fits text s spelled) (spelled_bytes text s spelled)
+    scripts_are_followed s (spelled_fits text s spelled) (a_text_spells_bytes text s spelled)
     (lines_fit s.lines (texts_fit text s spelled) (texts_open_fitting text s spelled)) (texts_declare text s spelled)

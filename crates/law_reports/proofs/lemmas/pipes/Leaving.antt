@@ -20,8 +20,8 @@ use Rattle.law_driver.specs.queued_drivers.Queued.{queued_endpoint, queued}
 use Rattle.law_driver.proofs.lemmas.queued_drivers.CommandFields.{of_queue, get_queued}
 use Rattle.law_driver.proofs.lemmas.queued_drivers.CommandReasons.{reason_of}
 use Rattle.law_driver.proofs.lemmas.queued_drivers.RowEvents.{idle_told}
-use Rattle.law_driver.proofs.lemmas.run_owners.Commands.{accepted_for_a_reason}
-use Rattle.law_driver.proofs.lemmas.run_owners.Reasons.{each_is_due}
+use Rattle.law_driver.proofs.lemmas.run_owners.Commands.{each_command_has_its_reason}
+use Rattle.law_driver.proofs.lemmas.run_owners.Reasons.{each_event_is_due}
 use Rattle.law_driver.specs.run_owners.Due.{IsDue}
 use Rattle.law_queues.specs.mended_heads.Owed.{store_due}
 use Rattle.law_world.specs.memory.Mixed.{Standing, IsMixedAt}
@@ -126,7 +126,7 @@ module _ (s : Standing) (w : World) (mixed : IsMixedAt s w) where
       of_queues w.driver (driver_next w).driver
       (subst (λ (f : DriverContent). KeepsGone (queued w.driver).endpoints f.endpoints) (sym is.told)
       (row_keeps (driver_row (told_parts w)) (told_parts w)
-      (busy_gives_none (driver_row (told_parts w)) (told_parts w) (each_is_due (told_parts w))
+      (busy_gives_none (driver_row (told_parts w)) (told_parts w) (each_event_is_due (told_parts w))
       (λ none. none_unfinished (unfinished.Publish b words) (sym none ∙ is.command)))))
   step_keeps _ (mends k is) other = told_row (rows.Mend (store_due k.stalled)) tt is
   step_keeps _ (begins k is alike) other = alike_keeps alike.endpoints
@@ -150,7 +150,7 @@ module _ (s : Standing) (w : World) (mixed : IsMixedAt s w) where
   by_offer : (line : ℕ) (cmd : Cmd) (r : Result Offered OfferError) → offered w.driver w.memory cmd ≡ r
       → driver_next w ≡ commanded_by w line (name_in cmd) r → OpensStill
   by_offer line cmd (Ok o) is next =
-      of_idle (idle_told w.driver (idle_by w.driver w.memory o (accepted_for_a_reason w.driver w.memory cmd o is)))
+      of_idle (idle_told w.driver (idle_by w.driver w.memory o (each_command_has_its_reason w.driver w.memory cmd o is)))
   by_offer line cmd (Err why) is next = λ q opening. ap (λ (v : World). (queued v.driver).command) next ∙ opening
 
   quiet_opens : HasNoStep w (driver_next w) → OpensStill

@@ -15,7 +15,7 @@ use Rattle.law_world.specs.memory.Steps.{IsMixedNext, QueueStep}
 use Rattle.law_world.specs.memory.Steps.{stays, harvests, returns, lends, stores, mends, begins, opens, unlinks, narrows, goes}
 use Rattle.law_world.specs.memory.pipe_steps.Laws.{IsNoOpening}
 use Rattle.law_world.proofs.lemmas.memory.Driving.{driver_tells_step}
-use Rattle.law_scripts.proofs.lemmas.script_bytes.Texts.{spelled_bytes}
+use Rattle.law_scripts.proofs.lemmas.script_bytes.Texts.{a_text_spells_bytes}
 use Rattle.script_fits.proofs.Texts.{spelled_fits}
 use Rattle.law_world.proofs.lemmas.memory.FittingTexts.{texts_open_fitting}
 use Rattle.law_world.proofs.lemmas.memory.Texts.{texts_fit}
@@ -114,5 +114,5 @@ scripts_are_piped s fit bytes fits declares k =
 
 pub texts_are_piped : TextsArePiped
 texts_are_piped text s spelled =
-    scripts_are_piped s (spelled_fits text s spelled) (spelled_bytes text s spelled)
+    scripts_are_piped s (spelled_fits text s spelled) (a_text_spells_bytes text s spelled)
     (lines_fit s.lines (texts_fit text s spelled) (texts_open_fitting text s spelled)) (texts_declare text s spelled)

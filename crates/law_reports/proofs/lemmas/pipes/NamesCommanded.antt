@@ -24,7 +24,7 @@ use Rattle.drv_table.specs.DriverContent.{DriverContent}
 use Rattle.drv_table.specs.IsoOffers.{slots_of}
 use Rattle.drv_table.specs.Offers.{offered}
 use Rattle.law_driver.specs.run_owners.Accepts.{Accepts}
-use Rattle.law_driver.proofs.lemmas.run_owners.Commands.{accepted_for_a_reason}
+use Rattle.law_driver.proofs.lemmas.run_owners.Commands.{each_command_has_its_reason}
 use Rattle.law_driver.proofs.lemmas.queued_drivers.CommandReasons.{reason_of}
 use Rattle.law_descriptors.specs.Written.{HasFields, words_in as words_of_descriptor}
 use Rattle.law_descriptors.proofs.Accepted.{drop_old, made, all_transfers}
@@ -155,7 +155,7 @@ module _ (s : Standing) (w : World) (line : ℕ) (k : IsMixedAt s w) (old : AreD
       → Named (name_in cmd) r
   other_by cmd none (Err why) is = old
   other_by cmd none (Ok o) is =
-      other_named w.driver w.memory o k.now.framed.place (accepted_for_a_reason w.driver w.memory cmd o is)
+      other_named w.driver w.memory o k.now.framed.place (each_command_has_its_reason w.driver w.memory cmd o is)
       (told_by w.driver w.memory cmd o none (reason_of w.driver w.memory cmd o is)) old
 
   iso_offer : (name : EpName) (count len seed : ℕ) (r : Result Offered OfferError)
@@ -163,7 +163,7 @@ module _ (s : Standing) (w : World) (line : ℕ) (k : IsMixedAt s w) (old : AreD
   iso_offer name count len seed (Err why) is mixed = old
   iso_offer name count len seed (Ok o) is mixed =
       iso_named w.driver w.memory o k.now.framed.place
-      (accepted_for_a_reason w.driver w.memory (commands.Iso name count len seed) o is)
+      (each_command_has_its_reason w.driver w.memory (commands.Iso name count len seed) o is)
       (is_iso_accepted w.driver w.memory name count len seed o is) mixed.awaiting old
 
   by_command : (cmd : Cmd) → IsMixedAt s (commanded w line cmd) → Named (name_in cmd) (offered w.driver w.memory cmd)

@@ -26,15 +26,15 @@ use Rattle.drv_table.specs.declared.rows.DriverRow.TheVariants as rows
 use Rattle.drv_table.specs.DriverContent.{DriverContent}
 use Rattle.drv_table.specs.Parts.{Parts}
 use Rattle.drv_table.specs.Rows.{driver_row}
-use Rattle.law_driver.proofs.lemmas.in_place.Laws.{event_in_place}
+use Rattle.law_driver.proofs.lemmas.in_place.Laws.{events_keep_all_in_place}
 use Rattle.law_driver.proofs.lemmas.ring_members.Aside.{list_apart}
 use Rattle.law_driver.proofs.lemmas.ring_members.Placed.{has_first}
-use Rattle.law_driver.proofs.lemmas.run_owners.Reasons.{each_is_due}
+use Rattle.law_driver.proofs.lemmas.run_owners.Reasons.{each_event_is_due}
 use Rattle.law_driver.proofs.lemmas.run_owners.Runs.{placed_run}
 use Rattle.law_structures.specs.lent_structures.Structures.{Isochronous, SplitIsochronous, Structures, HoldsIsochronous}
 use Rattle.law_structures.specs.lent_structures.Structures.{HoldsSplitIsochronous}
 use Rattle.law_ring.specs.walk_writes.Writes.{WritesLent}
-use Rattle.law_controller.proofs.lemmas.lent_writes.Controlling.{controller_writes_lent}
+use Rattle.law_controller.proofs.lemmas.lent_writes.Controlling.{each_event_of_the_controller_writes_lent_words}
 use Rattle.law_controller.proofs.lemmas.aligned_copies.Controlling.{aligned_placed}
 use Rattle.law_driver_ring.specs.Inventory.{IsLent}
 use Rattle.law_descriptors.specs.Described.{IsDescriptorLent, HasDescriptor, HasItd, HasSitd}
@@ -42,7 +42,7 @@ use Rattle.law_descriptors.specs.Both.{owns, both}
 use Rattle.law_descriptors.specs.Meeting.{met}
 use Rattle.law_descriptors.proofs.Standing.{both_on}
 use Rattle.law_descriptors.specs.frame_keeps.Kept.{HasItdAfter, HasSitdAfter, KeepsParts}
-use Rattle.law_descriptors.proofs.lemmas.kept_frames.Both.{both_keep}
+use Rattle.law_descriptors.proofs.lemmas.kept_frames.Both.{events_keep_both}
 use Rattle.law_world.specs.steps.Streaming.{begins_by, transacts_by, wired}
 use Rattle.law_world.proofs.lemmas.steps.StreamTurning.{world_has_row}
 use Rattle.law_world.specs.memory.Mixed.{Standing, IsMixedAt}
@@ -59,8 +59,8 @@ use Rattle.law_reports.specs.pipes.DescriptorNames.{TellsName, TellsBy, AreDescr
 use Rattle.law_reports.specs.pipes.DescriptorNames.{NewDescriptorsNamed}
 use Rattle.law_reports.proofs.lemmas.pipes.NameWords.{ItdTells, SitdTells, itd_still, sitd_still, sitd_words_tell, words_sitd_tell}
 
-pub new_descriptors : NewDescriptorsNamed
-new_descriptors s t y x there sort held here = absurd (cc)
+pub new_descriptors_named : NewDescriptorsNamed
+new_descriptors_named s t y x there sort held here = absurd (cc)
 
 -- ---- the controller
 
@@ -82,7 +82,8 @@ module _ (fixed : Fixed) (w : World) (s : Standing) (k : IsMixedAt s w) (x : EpD
 
   writes : WritesLent w.memory (controller_next fixed w).memory
   writes =
-      controller_writes_lent begins_by transacts_by (controller_parts w) (wired fixed w) (controller_parts new) (wired fixed new)
+      each_event_of_the_controller_writes_lent_words begins_by transacts_by (controller_parts w) (wired fixed w) (controller_parts new)
+      (wired fixed new)
       (aligned_placed (controller_parts w) k.now.framed.aligned) (world_has_row fixed w)
 
   -- in a run that isn't lent
@@ -98,7 +99,8 @@ module _ (fixed : Fixed) (w : World) (s : Standing) (k : IsMixedAt s w) (x : EpD
   keeps : KeepsParts (both s.descs s.parts) (event_of fixed w s k).now
   keeps =
       let e = event_of fixed w s k in
-      both_keep begins_by transacts_by opening_base s.member (met d s.recent) (both s.descs s.parts) s.hand s.frame (controller_parts w)
+      events_keep_both begins_by transacts_by opening_base s.member (met d s.recent) (both s.descs s.parts) s.hand s.frame
+      (controller_parts w)
       (wired fixed w) (wired fixed new) e.now e.later e.frame_later k.now.framed.runs e.effect
 
   itd_lent : (n : ℕ) (v : Itd) → both s.descs s.parts n n ≡ Some (Isochronous v) → ItdTells (words_at w.memory n 16) x
@@ -198,10 +200,10 @@ module _ (s : Standing) (w : World) (k : IsMixedAt s w) (old : AreDescriptorsNam
   place = k.now.framed.place
 
   later : IsInPlace (driver_next w).memory (driver_next w).driver
-  later = event_in_place p place
+  later = events_keep_all_in_place p place
 
   follows : Follows w.driver w.memory (driver_next w).driver
-  follows = row_follows (driver_row p) p (each_is_due p) place.sound
+  follows = row_follows (driver_row p) p (each_event_is_due p) place.sound
 
   from : From w.driver w.memory t z
   from = follows.back t z there sort held
@@ -243,7 +245,7 @@ module _ (s : Standing) (w : World) (k : IsMixedAt s w) (old : AreDescriptorsNam
       from.descriptor from.held in
       row_leaves p b t i ((views_of w.driver).descriptor b).split sound.stands sound.shape sound.owners sound.ring
       (list_apart w.driver w.memory sound.stands sound.shape sound.owners sound.listed) o.descriptor (inside i small) some (driver_row p)
-      (each_is_due p) no_mend (inside_then i small)
+      (each_event_is_due p) no_mend (inside_then i small)
 
   itd_word : (note_at w.driver.periodic.notes b).split ≡ false → (i : ℕ) → 1 ≤ i → i < 16
       → word_at (driver_next w).memory (32 * b + 4 * i) ≡ word_at w.memory (32 * b + 4 * i)

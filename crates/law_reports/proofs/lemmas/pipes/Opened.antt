@@ -38,7 +38,7 @@ use Rattle.law_world.specs.memory.Steps.{HasOpened, opens}
 use Rattle.law_world.specs.memory.pipe_steps.Laws.{IsBegun, as_in, as_out, as_none}
 use Rattle.law_world.specs.memory.pipe_steps.Pipes.{AsksTheWay, AreByWay}
 use Rattle.law_world.proofs.lemmas.memory.Unfinished.{none_unfinished}
-use Rattle.law_world.proofs.lemmas.memory.lemmas.pipe_steps.Opens.{open_begins_pipes}
+use Rattle.law_world.proofs.lemmas.memory.lemmas.pipe_steps.Opens.{an_open_begins_pipes}
 use Rattle.law_world.proofs.lemmas.memory.lemmas.pipe_steps.Stays.{stays_tells_one_hand}
 use Rattle.law_reports.specs.lines.Lined.{in_hand, Lines}
 use Rattle.law_reports.specs.lines.TellingLaws.{IsTellingNext}
@@ -383,7 +383,7 @@ module _ (fixed : Fixed) (x : Sides) (s : Standing) (m : Lines) (h : Heads) (w :
     descriptors = driver_keeps_names s w k.mixed k.descriptors;
     named = named;
     by_way = by_way;
-    pipes = open_begins_pipes sender_of taker_of x.sends x.takes x.packets h.ins h.outs b.ins b.outs h.ends m.acc next.lines.acc
+    pipes = an_open_begins_pipes sender_of taker_of x.sends x.takes x.packets h.ins h.outs b.ins b.outs h.ends m.acc next.lines.acc
         (wired fixed w) s t w (asked_as y.desc) k.mixed at opened head_then.named head_then.first next.after.none
         (λ i differs. next.after.moved i differs) b.begun k.pipes;
     new_heads = λ e z here o made. absurd (never z.queue o.command);

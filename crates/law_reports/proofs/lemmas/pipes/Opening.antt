@@ -18,25 +18,25 @@ use Rattle.law_driver_ring.specs.PartOpened.{no_parts, opening_parts, is_head}
 use Rattle.law_descriptors.specs.Meeting.{no_recent}
 use Rattle.law_driver.specs.queued_drivers.Queued.{queued}
 use Rattle.law_driver.proofs.lemmas.queued_drivers.RowTurns.{new_driver_queues}
-use Rattle.law_queues.proofs.lemmas.harvest_laws.Standing.{new_told, alike_told}
+use Rattle.law_queues.proofs.lemmas.harvest_laws.Standing.{new_is_told, alike_is_told}
 use Rattle.law_world.specs.steps.Outs.{IsAside}
 use Rattle.law_world.specs.steps.Takers.{takes_of}
-use Rattle.law_world.proofs.lemmas.steps.Beginning.{opening_untaken}
-use Rattle.law_world.proofs.lemmas.steps.lemmas.controlled_walks.Worlds.{new_walks}
+use Rattle.law_world.proofs.lemmas.steps.Beginning.{opening_is_untaken}
+use Rattle.law_world.proofs.lemmas.steps.lemmas.controlled_walks.Worlds.{new_world_walks}
 use Rattle.law_world.proofs.lemmas.steps.lemmas.world_bytes.Turning.{opened_bytes}
 use Rattle.law_world.specs.streams.Feeding.{there_of}
 use Rattle.law_world.proofs.lemmas.streams.FeedingOpening.{new_world_feeds}
 use Rattle.law_world.proofs.lemmas.streams.Told.{HasBulkThere, bulk_there}
 use Rattle.law_world.specs.memory.Mixed.{Standing, IsMixedAt}
-use Rattle.law_world.proofs.lemmas.memory.lemmas.framed_memory.Now.{new_now}
-use Rattle.law_world.proofs.lemmas.memory.lemmas.framed_memory.Awaiting.{new_awaits}
-use Rattle.law_world.proofs.lemmas.memory.lemmas.framed_memory.Masking.{new_masked}
-use Rattle.law_world.proofs.lemmas.memory.lemmas.framed_memory.Numbering.{new_numbered}
+use Rattle.law_world.proofs.lemmas.memory.lemmas.framed_memory.Now.{new_is_framed_now}
+use Rattle.law_world.proofs.lemmas.memory.lemmas.framed_memory.Awaiting.{new_awaits_nothing}
+use Rattle.law_world.proofs.lemmas.memory.lemmas.framed_memory.Masking.{new_is_masked}
+use Rattle.law_world.proofs.lemmas.memory.lemmas.framed_memory.Numbering.{new_is_numbered}
 use Rattle.law_reports.specs.lines.Lined.{in_hand, Lines, IsTelling}
 use Rattle.usb_base.specs.declared.packets.Way.{Way}
 use Rattle.law_reports.specs.pipes.Piped.{Heads, AreLeft}
 use Rattle.law_reports.specs.pipes.PipedLaws.{NewWorldIsPiped}
-use Rattle.law_reports.proofs.lemmas.pipes.NamesKept.{new_descriptors}
+use Rattle.law_reports.proofs.lemmas.pipes.NamesKept.{new_descriptors_named}
 
 abbrev new_standing : Standing
 new_standing = record {
@@ -61,7 +61,7 @@ no_heads = record { ins = λ n. false; outs = λ n. false; ends = λ n. endpoint
 
 new_mixed : (s : Script) → IsFit s → IsByteScript s → IsMixedAt new_standing (opening_world s)
 new_mixed s fit bytes = record {
-  now = new_now s.words (room_of_script s) fit.least fit.most fit.whole_pages;
+  now = new_is_framed_now s.words (room_of_script s) fit.least fit.most fit.whole_pages;
   turns = new_driver_queues s.words (room_of_script s);
   ring = record { head = refl; each = λ e x here. absurd (cc); only = λ n on. inl (eqb-true n 4096 on) };
   queues = record {
@@ -86,10 +86,10 @@ new_mixed s fit bytes = record {
     };
   };
   under_way = tt;
-  walking = new_walks s;
-  numbers = new_numbered s.words (room_of_script s);
-  masks = new_masked s.words (room_of_script s);
-  awaiting = new_awaits s.words (room_of_script s) (opening_world s).memory;
+  walking = new_world_walks s;
+  numbers = new_is_numbered s.words (room_of_script s);
+  masks = new_is_masked s.words (room_of_script s);
+  awaiting = new_awaits_nothing s.words (room_of_script s) (opening_world s).memory;
   bytes = opened_bytes s bytes;
   owed = λ i t y x at. absurd (cc);
 }
@@ -104,10 +104,10 @@ new_telling s =
     λ n on. let b : HasBulkThere (queued (opening_world s).driver) n = bulk_there (queued (opening_world s).driver) n on in
     nothing_at b.has.number b.has.endpoint b.has.here in
     record {
-      told = alike_told d (queued (opening_world s).driver) (in_hand new_standing) opening_parts (λ n. [])
+      told = alike_is_told d (queued (opening_world s).driver) (in_hand new_standing) opening_parts (λ n. [])
           (record { reports = refl; store = refl; endpoints = refl; transfers = refl; notes = refl })
           (λ x there. record { linked = there.linked; kept = there.kept }) (λ x is. is)
-          (new_told s.words (room_of_script s) (in_hand new_standing) opening_parts (λ n. []));
+          (new_is_told s.words (room_of_script s) (in_hand new_standing) opening_parts (λ n. []));
       moved = λ n on. absurd (none n on);
       sound = λ n on. absurd (none n on);
     }
@@ -137,7 +137,7 @@ new_world_is_piped s fit bytes =
         telling = new_telling s;
         going = λ e x here iso kept. absurd (nothing_at e x here);
         declared = λ e y here. absurd (cc);
-        descriptors = new_descriptors s;
+        descriptors = new_descriptors_named s;
         named = λ e y here. absurd (cc);
         by_way = record { each = λ e y here. absurd (cc); head = (refl, refl) };
         pipes = record {
@@ -154,7 +154,7 @@ new_world_is_piped s fit bytes =
         new_heads = λ e y here. absurd (cc);
         fresh_ins = λ addr ep on unused. f.unopened addr ep on (λ n is. absurd (false≢true is));
         fresh_outs = λ addr ep on unused.
-            opening_untaken s (λ n. false) (λ n. endpoint_of opening_head) addr ep on (λ n is. absurd (false≢true is));
+            opening_is_untaken s (λ n. false) (λ n. endpoint_of opening_head) addr ep on (λ n is. absurd (false≢true is));
       };
     }
 

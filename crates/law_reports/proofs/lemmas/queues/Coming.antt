@@ -43,7 +43,7 @@ use Rattle.law_driver_ring.specs.fed_queues.Places.{IsLast, IsMet}
 use Rattle.law_driver_ring.proofs.lemmas.fed_queues.Places.{stands_met}
 use Rattle.law_queues.specs.released_queues.Fronts.{piece_address, end_at}
 use Rattle.law_queues.proofs.lemmas.publish_laws.Apart.{thirty_two}
-use Rattle.law_scripts.proofs.lemmas.script_bytes.Texts.{spelled_bytes}
+use Rattle.law_scripts.proofs.lemmas.script_bytes.Texts.{a_text_spells_bytes}
 use Rattle.bus_world.specs.World.{World}
 use Rattle.law_world.specs.memory.Mixed.{Standing, IsMixedAt}
 use Rattle.law_world.proofs.lemmas.memory.FittingTexts.{texts_open_fitting}
@@ -343,5 +343,5 @@ scripts_come_to_work s fit bytes opens k = onward_comes_to_work _ (scripts_go_on
 
 pub texts_come_to_work : TextsComeToWork
 texts_come_to_work text s spelled =
-    scripts_come_to_work s (spelled_fits text s spelled) (spelled_bytes text s spelled)
+    scripts_come_to_work s (spelled_fits text s spelled) (a_text_spells_bytes text s spelled)
     (lines_fit s.lines (texts_fit text s spelled) (texts_open_fitting text s spelled))

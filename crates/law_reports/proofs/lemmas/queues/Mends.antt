@@ -18,7 +18,7 @@ use Rattle.claims_driver.specs.Leaving.{HasOwners}
 use Rattle.claims_driver.specs.Scripts.{IsKindOf}
 use Rattle.law_driver.specs.queued_drivers.Queued.{IsOfWay, with_queue, queued}
 use Rattle.law_driver.proofs.lemmas.queued_drivers.RowLists.{queue_at}
-use Rattle.law_driver.proofs.lemmas.queued_drivers.RowOwners.{queued_owners}
+use Rattle.law_driver.proofs.lemmas.queued_drivers.RowOwners.{queued_has_owners}
 use Rattle.law_driver.proofs.lemmas.ring_members.Placed.{has_queue, queues_apart}
 use Rattle.law_structures.specs.lent_structures.Structures.{QueueHead, Element, StructureSets}
 use Rattle.law_structures.proofs.lemmas.lent_structures.Names.{put_beside, put_found}
@@ -64,7 +64,7 @@ module _ (s : Standing) (w : World) (mixed : IsMixedAt s w) (k : IsAtMend (drive
   now = parts_then k
 
   owners : HasOwners (queued w.driver)
-  owners = queued_owners w.driver mixed.now.framed.place.sound.owners mixed.turns
+  owners = queued_has_owners w.driver mixed.now.framed.place.sound.owners mixed.turns
 
   owed : IsOwed w.driver k.stalled
   owed = k.are.owed.0

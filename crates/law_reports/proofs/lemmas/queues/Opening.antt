@@ -11,7 +11,7 @@ use Rattle.claims_driver.specs.Leaving.{HasOwners}
 use Rattle.claims_driver.specs.Owners.{is_descriptor}
 use Rattle.law_driver.specs.queued_drivers.Queued.{with_queue, queued, queued_command}
 use Rattle.law_driver.proofs.lemmas.queued_drivers.RowLists.{queue_at, moves_at}
-use Rattle.law_driver.proofs.lemmas.queued_drivers.RowOwners.{queued_owners}
+use Rattle.law_driver.proofs.lemmas.queued_drivers.RowOwners.{queued_has_owners}
 use Rattle.law_driver.proofs.lemmas.ring_members.Placed.{has_queue, in_ring_alive, queues_apart}
 use Rattle.law_queues.specs.open_laws.Lends.{IsOpenReady}
 use Rattle.law_queues.specs.open_laws.Opens.{IsOpenLent}
@@ -64,7 +64,7 @@ module _ (s : Standing) (w : World) (mixed : IsMixedAt s w) (e : ℕ) (x : Endpo
 
   told_none : (queue : ℕ) → IsNewOf (queued w.driver) queue → x.queue ≡ queue → ⊥
   told_none queue =
-      other_queue (queued w.driver) e t (with_queue x) y queue (queued_owners w.driver owners mixed.turns)
+      other_queue (queued w.driver) e t (with_queue x) y queue (queued_has_owners w.driver owners mixed.turns)
       (queue_at w.driver.endpoints e x here iso) (has_queue (with_queue x) (told_queue x) kept)
       (moves_at w.driver.endpoints w.driver.transfers t y at sort) own
 
@@ -94,7 +94,7 @@ module _ (s : Standing) (w : World) (mixed : IsMixedAt s w) (e : ℕ) (x : Endpo
       }) (open_queue x.queue queue (sym opening))) u
   not_by (Some unfinished.Chain) is u opening =
       let command : (queued w.driver).command ≡ Some (unfinished.Open x.queue) = ap (queued_command d.endpoints) is ∙ opening in
-      let told : HasOwners (queued w.driver) = queued_owners w.driver owners mixed.turns in
+      let told : HasOwners (queued w.driver) = queued_has_owners w.driver owners mixed.turns in
       ⊎_elim
       (λ (c : IsChainToLend w.driver w.memory).
       let k : IsOpenToLend (queued w.driver) w.memory = to_lend w.driver w.memory owners c.ready c.newest in

@@ -14,7 +14,7 @@ use Rattle.drv_table.specs.DriverContent.{DriverContent}
 use Rattle.drv_table.specs.Words.{queue_head, dummy_qtd}
 use Rattle.claims_driver.specs.Owners.{EndpointRuns, runs_of_endpoint}
 use Rattle.law_driver.specs.queued_drivers.Queued.{queued, queued_command, queued_made}
-use Rattle.law_driver.proofs.lemmas.queued_drivers.RowOwners.{queued_owners}
+use Rattle.law_driver.proofs.lemmas.queued_drivers.RowOwners.{queued_has_owners}
 use Rattle.law_structures.specs.lent_structures.Structures.{QueueHead, Element, StructureSets, put}
 use Rattle.law_structures.proofs.lemmas.lent_structures.Names.{not_same, put_beside, put_found}
 use Rattle.law_structures.proofs.lemmas.lent_structures.Altering.{found_element, same_queue, same_element}
@@ -150,7 +150,7 @@ module _ (s : Standing) (w : World) (mixed : IsMixedAt s w) (k : IsOpenToLend (q
       (λ m other. subst (λ (ps : StructureSets). LeadsOnward m (ps m)) (sym parts) (opened_links m (g.links m other)))
       (λ m on other pipe.
       let differs : m ≢ n = opening_apart (queued w.driver) s.near k.number k.endpoint
-      (queued_owners w.driver mixed.now.framed.place.sound.owners mixed.turns) mixed.queues.queues.met k.here k.command k.fresh m
+      (queued_has_owners w.driver mixed.now.framed.place.sound.owners mixed.turns) mixed.queues.queues.met k.here k.command k.fresh m
       (sym (ap (λ (h : ℕ → Bool). h m) near) ∙ on) in
       spared_same m (s.parts m) (t.parts m) (ap (λ (ps : StructureSets). ps m) parts ∙ opened_beside m differs))
       (λ m a un. absurd (none_stored (queued w.driver) (queued w.driver).command m a refl (ap stores k.command) un))

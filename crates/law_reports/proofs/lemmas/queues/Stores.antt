@@ -11,7 +11,7 @@ use Rattle.drv_table.specs.declared.content.Endpoint.{Endpoint}
 use Rattle.drv_table.specs.declared.content.Transfer.{Transfer}
 use Rattle.drv_table.specs.DriverContent.{DriverContent}
 use Rattle.law_driver.specs.queued_drivers.Queued.{queued, queued_command}
-use Rattle.law_driver.proofs.lemmas.queued_drivers.RowOwners.{queued_lent}
+use Rattle.law_driver.proofs.lemmas.queued_drivers.RowOwners.{queued_are_lent}
 use Rattle.law_structures.specs.lent_structures.Structures.{QueueHead, Element, Structures, StructureSets}
 use Rattle.law_structures.proofs.lemmas.lent_structures.Names.{put_same, put_else, put_beside, put_found}
 use Rattle.law_structures.proofs.lemmas.lent_structures.Altering.{found_element}
@@ -107,7 +107,7 @@ module _ (s : Standing) (w new : World) (mixed : IsMixedAt s w) (b : ℕ) (words
     command = next.command;
     made = next.made;
     owners = owners_of s w mixed;
-    lent = queued_lent w.driver mixed.now.framed.place.lent (λ e t count iso. absurd (publish_not_iso e t count iso));
+    lent = queued_are_lent w.driver mixed.now.framed.place.lent (λ e t count iso. absurd (publish_not_iso e t count iso));
     turns = mixed.turns.turns;
     queues = mixed.queues.queues;
   }

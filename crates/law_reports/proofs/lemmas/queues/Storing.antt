@@ -19,7 +19,7 @@ use Rattle.claims_driver.specs.Owners.{NoteRuns, note_in}
 use Rattle.law_driver.specs.chained_transfers.Chains.{piece_at}
 use Rattle.law_driver.specs.chained_transfers.Out.{unpublished}
 use Rattle.law_driver.specs.queued_drivers.Queued.{queued, queued_command, queued_made}
-use Rattle.law_driver.proofs.lemmas.queued_drivers.RowOwners.{queued_lent}
+use Rattle.law_driver.proofs.lemmas.queued_drivers.RowOwners.{queued_are_lent}
 use Rattle.law_structures.proofs.lemmas.lent_structures.Names.{not_same}
 use Rattle.law_ring.specs.Front.{LinksRise}
 use Rattle.law_driver_ring.specs.Inventory.{IsLent}
@@ -127,7 +127,7 @@ module _ (s : Standing) (w : World) (mixed : IsMixedAt s w) (e : ℕ) (z : Endpo
         command = command;
         made = made;
         owners = owners_of s w mixed;
-        lent = queued_lent w.driver mixed.now.framed.place.lent (λ f u count iso. absurd (not_iso f u count iso));
+        lent = queued_are_lent w.driver mixed.now.framed.place.lent (λ f u count iso. absurd (not_iso f u count iso));
         turns = mixed.turns.turns;
         queues = mixed.queues.queues;
       } in

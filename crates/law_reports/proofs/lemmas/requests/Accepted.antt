@@ -34,11 +34,11 @@ use Rattle.law_reports.specs.requests.TransferChanges.{with_numbers, accepted_in
 use Rattle.law_reports.specs.requests.Counts.{counted_all, Counts, side_at}
 use Rattle.law_reports.proofs.lemmas.requests.TransferChanging.{numbers_each}
 use Rattle.law_reports.proofs.lemmas.requests.Counts.{counted_more}
-use Rattle.law_reports.proofs.lemmas.requests.Rows.{request_recorded}
+use Rattle.law_reports.proofs.lemmas.requests.Rows.{request_is_accepted}
 use Rattle.law_reports.specs.requests.Telling.{IsTelling, AddsTransfer}
 use Rattle.law_reports.specs.requests.ReportAsking.{IsTold, IsAsking}
 use Rattle.law_reports.specs.requests.Accepted.{IsGiven, RequestKeepsAsking}
-use Rattle.law_reports.proofs.lemmas.requests.Telling.{accepted_keeps, other_accepted_keeps}
+use Rattle.law_reports.proofs.lemmas.requests.Telling.{accepted_keeps_telling, other_accepted_keeps_telling}
 
 module _ (fixed : Fixed) (member : ℕ → Bool) (courses : ℕ → Course) (numbers : ℕ → Numbers) (gone : ℕ → Bool) (asks : ℕ → Request) (whole : EpName → Request → List ℕ) (parts : StructureSets) (hand : Hand) (w new : World) (v : Windows) (o : Offered) (why : Transfers w.driver w.memory o) (name : EpName) (setup bytes : List ℕ) (n : ℕ) (given : IsGiven w new o) (is : IsRequestOf w.driver w.memory o why setup courses numbers gone n) (k : IsAsking fixed member courses numbers gone asks whole parts hand w v) where
   abbrev d : DriverContent
@@ -98,11 +98,11 @@ module _ (fixed : Fixed) (member : ℕ → Bool) (courses : ℕ → Course) (num
       (λ has.
       let z : IsTold w.driver asks whole (courses n) (numbers n) v = k.told n has in
       told_with (courses n) (numbers n) z (z.waits ++ length d.transfers ∷ [])
-      (accepted_keeps d o.driver added asks now (numbers n).endpoint z.own.desc.name (whole z.own.desc.name) v z.reported z.waits adds z.going (sym is.endpoint) z.telling) a refl refl)
+      (accepted_keeps_telling d o.driver added asks now (numbers n).endpoint z.own.desc.name (whole z.own.desc.name) v z.reported z.waits adds z.going (sym is.endpoint) z.telling) a refl refl)
       (λ j differs has.
       let z : IsTold w.driver asks whole (courses j) (numbers j) v = k.told j has in
       told_with (courses j) (numbers j) z z.waits
-      (other_accepted_keeps d o.driver added asks now (numbers j).endpoint z.own.desc.name (whole z.own.desc.name) v z.reported z.waits adds z.going (other_endpoint j differs has) z.telling) (numbers j) refl refl)
+      (other_accepted_keeps_telling d o.driver added asks now (numbers j).endpoint z.own.desc.name (whole z.own.desc.name) v z.reported z.waits adds z.going (other_endpoint j differs has) z.telling) (numbers j) refl refl)
 
   -- ---- what is counted
 
@@ -128,10 +128,10 @@ module _ (fixed : Fixed) (member : ℕ → Bool) (courses : ℕ → Course) (num
   accepted : IsAsking fixed member courses (with_numbers numbers n a) gone (asks_then w.driver (commands.Control name setup bytes) asks) whole parts hand new v
   accepted = record {
     stand = subst (CoursesStand control_of member courses parts hand) (sym wired_same) k.stand;
-    records = subst (λ (x : DriverContent). AreRecords x now courses (with_numbers numbers n a) gone v) (sym given.driver) (request_recorded d w.memory o why name setup bytes asks courses numbers gone v n is k.records);
+    records = subst (λ (x : DriverContent). AreRecords x now courses (with_numbers numbers n a) gone v) (sym given.driver) (request_is_accepted d w.memory o why name setup bytes asks courses numbers gone v n is k.records);
     told = λ j has. subst (λ (x : DriverContent). IsTold x now whole (courses j) (with_numbers numbers n a j) v) (sym given.driver) (told_now j has);
     counts = λ j has. subst (λ (x : DriverContent). Counts (side_at fixed new (courses j)) (counted_all v (numbers_of x (with_numbers numbers n a j).endpoint) 0)) (sym given.driver) (counts_now j has);
   }
 
-pub request_keeps : RequestKeepsAsking
-request_keeps fixed member courses numbers gone asks whole parts hand w new v o why name setup bytes n given is k = accepted fixed member courses numbers gone asks whole parts hand w new v o why name setup bytes n given is k
+pub request_keeps_asking : RequestKeepsAsking
+request_keeps_asking fixed member courses numbers gone asks whole parts hand w new v o why name setup bytes n given is k = accepted fixed member courses numbers gone asks whole parts hand w new v o why name setup bytes n given is k

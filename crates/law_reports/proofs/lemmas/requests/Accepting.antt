@@ -32,7 +32,7 @@ use Rattle.law_reports.specs.requests.Courses.{Course, queue_in}
 use Rattle.law_reports.specs.requests.Counts.{counted_all}
 use Rattle.law_reports.specs.requests.Records.{Numbers, AreRecords}
 use Rattle.law_reports.specs.requests.Telling.{AddsTransfer}
-use Rattle.law_reports.proofs.lemmas.requests.Telling.{other_accepted_keeps}
+use Rattle.law_reports.proofs.lemmas.requests.Telling.{other_accepted_keeps_telling}
 use Rattle.law_queues.specs.standing_fronts.Tails.{tail_block}
 use Rattle.law_world.proofs.lemmas.streams.Tail.{newest_there}
 use Rattle.law_reports.specs.requests.Asking.{Sides, IsGiven, Asking, has_left, is_publishing, is_next_of, HasCourse, IsPublishing, DataIsRead, IsReadTo, HasTelling, IsControlOf, IsMetControl}
@@ -113,7 +113,7 @@ module _ (sides : Sides) (member : ℕ → Bool) (parts : StructureSets) (hand :
     closed = f.closed;
     going = f.going;
     uncancelled = f.uncancelled;
-    telling = other_accepted_keeps d taken new asks now i u.desc.name (sides.whole u.desc.name) v f.reported _ adds f.uncancelled (λ same. differs (sym same)) f.telling;
+    telling = other_accepted_keeps_telling d taken new asks now i u.desc.name (sides.whole u.desc.name) v f.reported _ adds f.uncancelled (λ same. differs (sym same)) f.telling;
   }
 
   -- ---- what was read

@@ -47,8 +47,8 @@ module _ (d : DriverContent) (t : ℕ) (e : Endpoint) (r : Request) (x : Places)
         data_status = λ same. omega (arith, odd, status, same);
       }
 
-pub laid_apart : LaidAreApart
-laid_apart d t e r x order part k rise fresh = apart_by d t e r x order part k rise fresh (has_data r) refl
+pub laid_are_apart : LaidAreApart
+laid_are_apart d t e r x order part k rise fresh = apart_by d t e r x order part k rise fresh (has_data r) refl
 
 -- ---- of two transfers
 
@@ -90,5 +90,5 @@ module _ (d : DriverContent) (t u : ℕ) (r q : Request) (x y : Places) (has : H
       ⊎_elim {C = t ≡ u} (λ (too : b ≡ 32 * z.own.first + 1). absurd (omega (arith, at, too, same)))
       (λ (g : IsQtdAt d z.own b). let too = g.at in same_owner p.block g.block (owner_of a p) (owner_too b g) (omega (arith, at, too, same))) other) one
 
-pub laid_others : LaidAreOthers
-laid_others d t u r q x y has k z differs s w same = differs (same_by d t u r q x y has k z (place_at x s) (place_at y w) (stands_at d t r x k s) (stands_at d u q y z w) same)
+pub laid_are_others : LaidAreOthers
+laid_are_others d t u r q x y has k z differs s w same = differs (same_by d t u r q x y has k z (place_at x s) (place_at y w) (stands_at d t r x k s) (stands_at d u q y z w) same)

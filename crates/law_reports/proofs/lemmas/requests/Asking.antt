@@ -14,8 +14,8 @@ use Rattle.law_controller.specs.controlled_streams.Control.{IsOn, IsControlled, 
 use Rattle.law_devices.specs.ring_requests.Windows.{Queue, Step}
 use Rattle.claims_report.specs.Controls.{control_of}
 use Rattle.law_devices.specs.scripted_requests.Controls.{transacts_by, begins_by}
-use Rattle.law_devices.proofs.lemmas.scripted_requests.Asking.{scripted_control}
-use Rattle.law_devices.proofs.lemmas.scripted_requests.Beginning.{scripted_begins}
+use Rattle.law_devices.proofs.lemmas.scripted_requests.Asking.{a_scripted_bus_answers_by_stages}
+use Rattle.law_devices.proofs.lemmas.scripted_requests.Beginning.{keeps_devices}
 use Rattle.bus_world.specs.World.{World, controller_next, controller_parts}
 use Rattle.claims_world.specs.Requests.{wired, Windows, after_event, numbers_of}
 use Rattle.law_reports.specs.requests.Courses.{Course, NoQueue, Asks, Rests, has_queue, is_asking, queue_in, have_queues}
@@ -24,9 +24,9 @@ use Rattle.law_reports.proofs.lemmas.requests.QueueEvents.{event_keeps}
 use Rattle.law_reports.specs.requests.Records.{Numbers}
 use Rattle.law_reports.specs.requests.Counts.{counted_all, Counts, side_at}
 use Rattle.law_reports.specs.requests.TransferEvents.{IsLeftAlone, IsOwned, ClosedStay}
-use Rattle.law_reports.proofs.lemmas.requests.TransferEvents.{records_follow, closed_follow, counts_follow}
+use Rattle.law_reports.proofs.lemmas.requests.TransferEvents.{event_keeps_records, event_keeps_closed, event_keeps_counts}
 use Rattle.law_reports.specs.requests.ReportAsking.{IsTold, IsAsking, EventKeepsAsking}
-use Rattle.law_reports.proofs.lemmas.requests.Telling.{acts_keep, split}
+use Rattle.law_reports.proofs.lemmas.requests.Telling.{acts_keep_telling, split}
 
 module _ (fixed : Fixed) (base : Base) (member : ℕ → Bool) (courses : ℕ → Course) (numbers : ℕ → Numbers) (gone : ℕ → Bool) (asks : ℕ → Request) (whole : EpName → Request → List ℕ) (parts : StructureSets) (hand : Hand) (w : World) (v : Windows) (event : Controls begins_by transacts_by base member parts hand (wired fixed w) (wired fixed (controller_next fixed w)) (controller_parts (controller_next fixed w))) (on : IsOn base) (controlled : IsControlled base member parts hand (controller_parts w)) (owned : IsOwned w.driver parts) (alone : (e : ℕ) (x : DriverEndpoint) → gone e ≡ true → slice_get w.driver.endpoints e ≡ Some x → IsLeftAlone fixed w (controller_next fixed w) x) (k : IsAsking fixed member courses numbers gone asks whole parts hand w v) where
   abbrev new : World
@@ -37,10 +37,11 @@ module _ (fixed : Fixed) (base : Base) (member : ℕ → Bool) (courses : ℕ �
 
   goes : CoursesGoOn control_of member courses event.effect
   goes =
-      event_keeps begins_by transacts_by control_of base member courses parts hand (controller_parts w) (wired fixed w) (wired fixed new) event.now event.later event.effect scripted_control scripted_begins controlled k.stand
+      event_keeps begins_by transacts_by control_of base member courses parts hand (controller_parts w) (wired fixed w) (wired fixed new) event.now event.later event.effect a_scripted_bus_answers_by_stages keeps_devices controlled k.stand
 
   stays : ClosedStay w.driver courses numbers gone v (after_event fixed w v)
-  stays = closed_follow fixed base member courses numbers gone parts hand asks w v event goes on controlled k.stand owned alone k.records
+  stays = event_keeps_closed fixed base member courses numbers gone parts hand asks w v event goes on controlled k.stand owned alone
+      k.records
 
   -- ---- what is told
 
@@ -72,7 +73,7 @@ module _ (fixed : Fixed) (base : Base) (member : ℕ → Bool) (courses : ℕ �
         here = z.here;
         reported = z.reported;
         waits = z.waits;
-        telling = acts_keep w.driver asks (numbers n).endpoint z.own.desc.name (whole z.own.desc.name) v later z.reported z.waits z.going (reported_stay n (courses n) refl has z) z.telling;
+        telling = acts_keep_telling w.driver asks (numbers n).endpoint z.own.desc.name (whole z.own.desc.name) v later z.reported z.waits z.going (reported_stay n (courses n) refl has z) z.telling;
         going = z.going;
         closed = λ asking. z.closed (sym (asking_after goes.step n (courses n)) ∙ asking);
       }
@@ -80,12 +81,12 @@ module _ (fixed : Fixed) (base : Base) (member : ℕ → Bool) (courses : ℕ �
   counts_after : (n : ℕ) → have_queues courses n ≡ true → Counts (side_at fixed (controller_next fixed w) (course_after goes.step n (courses n))) (counted_all (after_event fixed w v) (numbers_of w.driver (numbers n).endpoint) 0)
   counts_after n has =
       subst (λ (q : Queue). Counts (control_of (wired fixed new) q.endpoint.addr q.endpoint.num) (counted_all later (numbers_of w.driver (numbers n).endpoint) 0)) (sym (queue_still goes.step n (courses n)))
-      (counts_follow fixed base member courses numbers gone parts hand asks w v event goes on controlled k.stand owned alone k.records n has (k.counts n has))
+      (event_keeps_counts fixed base member courses numbers gone parts hand asks w v event goes on controlled k.stand owned alone k.records n has (k.counts n has))
 
   asking_now : IsAsking fixed member (courses_after goes.step courses) numbers gone asks whole event.now event.later (controller_next fixed w) (after_event fixed w v)
   asking_now = record {
     stand = goes.stand;
-    records = records_follow fixed base member courses numbers gone parts hand asks w v event goes on controlled k.stand owned alone k.records;
+    records = event_keeps_records fixed base member courses numbers gone parts hand asks w v event goes on controlled k.stand owned alone k.records;
     told = λ n has. told_after n (sym (has_before goes.step n (courses n)) ∙ has);
     counts = λ n has. counts_after n (sym (has_before goes.step n (courses n)) ∙ has);
   }

@@ -27,7 +27,7 @@ use Rattle.claims_report.specs.Controls.{control_of}
 use Rattle.claims_world.specs.Requests.{Windows, opens}
 use Rattle.law_reports.specs.requests.driver_requests.Rows.{EndpointStays, KeepsRequests}
 use Rattle.law_reports.specs.requests.Courses.{Course, queue_in}
-use Rattle.law_reports.proofs.lemmas.requests.Rows.{kept_recorded}
+use Rattle.law_reports.proofs.lemmas.requests.Rows.{accepted_keeps_records}
 use Rattle.law_queues.specs.standing_fronts.Tails.{tail_block}
 use Rattle.law_reports.specs.requests.Asking.{Sides, IsGiven, Asking, left_with, has_left, is_publishing, HasCourse, IsReadTo, HasTelling, IsMetControl}
 use Rattle.law_reports.proofs.lemmas.requests.Commanding.{regone}
@@ -132,7 +132,7 @@ module _ (sides : Sides) (member : ℕ → Bool) (parts : StructureSets) (hand :
   pub cancelled_asks : AsksIn sides member parts hand a v asks (accepted_cancel d number x) m wire
   cancelled_asks = record {
     stand = world.stand;
-    records = regone leaving asks a.courses a.numbers (has_left d) (has_left leaving) v left_before (kept_recorded d leaving asks a.courses a.numbers (has_left d) v keeps refl world.records);
+    records = regone leaving asks a.courses a.numbers (has_left d) (has_left leaving) v left_before (accepted_keeps_records d leaving asks a.courses a.numbers (has_left d) v keeps refl world.records);
     each = λ i u is.
         let b = was_one i u is.is.here in
         let f : HasCourse sides d i b.was (a.courses (32 * u.queue)) (a.numbers (32 * u.queue)) =

@@ -17,7 +17,7 @@ use Rattle.drv_table.specs.Words.{head_block, is_control}
 use Rattle.law_driver.specs.endpoint_lives.Lives.{told_end, may_meet}
 use Rattle.law_driver_ring.specs.fed_queues.Places.{IsMet, HasHead, AreMet}
 use Rattle.law_queues.proofs.lemmas.leaving_drivers.Clearing.{clear_finds}
-use Rattle.law_queues.proofs.lemmas.leaving_drivers.Unmet.{gone_unmet}
+use Rattle.law_queues.proofs.lemmas.leaving_drivers.Unmet.{gone_are_unmet}
 use Rattle.law_world.specs.streams.narrowed_streams.Narrowed.{left_names}
 use Rattle.claims_report.specs.Requests.{Request}
 use Rattle.law_ring.specs.Stores.{IsWider}
@@ -28,7 +28,7 @@ use Rattle.claims_world.specs.Requests.{wired, Windows}
 use Rattle.law_reports.specs.requests.driver_requests.Rows.{given_by, KeepsEndpoint}
 use Rattle.law_reports.specs.requests.Courses.{NoQueue, CoursesStand}
 use Rattle.law_reports.specs.requests.Records.{AreRecords}
-use Rattle.law_reports.proofs.lemmas.requests.Rows.{row_recorded}
+use Rattle.law_reports.proofs.lemmas.requests.Rows.{row_keeps_records}
 use Rattle.law_world.specs.streams.Clearing.{narrowed_to}
 use Rattle.law_world.specs.streams.Left.{taking_of}
 use Rattle.law_world.specs.streams.Whole.{IsWhole}
@@ -106,7 +106,7 @@ module _ (g : Sides) (fixed : Fixed) (takes : ℕ → ℕ → Bool) (member : �
   -- ---- who is gone
 
   kept_by : (e : ℕ) (y : Endpoint) → slice_get w.driver.endpoints e ≡ Some y → may_meet w.driver e y ≡ true → (b : Bool) → y.gone ≡ b → y.gone ≡ false
-  kept_by e y here on true is = absurd (false≢true (sym (gone_unmet w.driver e y k.feeding.working.place.sound.owners here is) ∙ on))
+  kept_by e y here on true is = absurd (false≢true (sym (gone_are_unmet w.driver e y k.feeding.working.place.sound.owners here is) ∙ on))
   kept_by e y here on false is = is
 
   left_by : (e : ℕ) (y : Endpoint) → slice_get w.driver.endpoints e ≡ Some y → is_control y.desc.kind ≡ true → (b : Bool) → may_meet w.driver e y ≡ b → (has_left w.driver e ≡ true) ⊎ HadQueue a.courses a.numbers e
@@ -130,7 +130,7 @@ module _ (g : Sides) (fixed : Fixed) (takes : ℕ → ℕ → Bool) (member : �
   recorded =
       records_are_met control_of (cleared w.driver) asks member (narrow_of w) a.courses a.numbers (has_left w.driver) (has_left (cleared w.driver)) v s.parts s.hand (wired fixed w) gone z.stand
       (subst (λ (c : DriverContent). AreRecords c asks a.courses a.numbers (has_left w.driver) v) driver_is
-      (row_recorded (driver_parts w) (driver_row (driver_parts w)) asks a.courses a.numbers (has_left w.driver) v
+      (row_keeps_records (driver_parts w) (driver_row (driver_parts w)) asks a.courses a.numbers (has_left w.driver) v
       (λ j has. subst (λ (r : DriverRow). KeepsEndpoint r (a.numbers j).endpoint) (sym row) tt)
       (λ j i has few given. let never : ◌≡◌ {A = Option ℕ} None (Some ((a.numbers j).number i)) = ap given_by (sym row) ∙ given in cc) z.records))
 
@@ -173,5 +173,5 @@ module _ (g : Sides) (fixed : Fixed) (takes : ℕ → ℕ → Bool) (member : �
     outs_were = kept_of takes (left_names (driver_next w).driver false);
   }
 
-pub clear_asking : ClearKeepsAsking
-clear_asking g fixed takes member x s a v asks w row head k z = cleared_world g fixed takes member x s a v asks w row head k z
+pub clear_keeps_asking : ClearKeepsAsking
+clear_keeps_asking g fixed takes member x s a v asks w row head k z = cleared_world g fixed takes member x s a v asks w row head k z

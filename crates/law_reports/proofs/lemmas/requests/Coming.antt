@@ -39,7 +39,7 @@ use Rattle.law_devices.specs.ring_requests.Windows.{Queue, Lines}
 use Rattle.law_devices.specs.ring_requests.Resting.{IsAlone}
 use Rattle.law_devices.proofs.lemmas.ring_requests.Stages.{comes_later, idle_still}
 use Rattle.law_devices.proofs.lemmas.ring_requests.Taking.{element_there, buffer_there}
-use Rattle.law_devices.proofs.lemmas.control_requests.Resting.{control_rests}
+use Rattle.law_devices.proofs.lemmas.control_requests.Resting.{an_event_leaves_a_queue_at_rest}
 use Rattle.law_reports.specs.requests.Courses.{Course, NoQueue, Asks, Rests, has_queue, queue_in, tail_in, AreInLine, IsCourse, IsAsking, IsResting, CoursesStand}
 use Rattle.law_reports.specs.requests.QueueChanges.{IsPublishedAt}
 use Rattle.law_reports.specs.requests.Coming.{IsSetup, IsComing, LentIsComing, StoreKeepsComing, EventKeepsComing, ComingIsPublished}
@@ -178,8 +178,8 @@ not_setup x b a setup apart at same =
 
 -- ---- it is lent
 
-pub lent_coming : LentIsComing
-lent_coming v r x b d s part now k =
+pub lent_is_coming : LentIsComing
+lent_is_coming v r x b d s part now k =
     let f : IsFresh v.endpoint r x part Setup = k.fresh Setup refl in
     let same : f.stage.qtd ≡ s = found_element (part b) f.stage.qtd s (ap part (sym k.setup) ∙ f.stage.here) k.here in
     record {
@@ -229,8 +229,8 @@ module _ (v : Queue) (r : Request) (x : Places) (b d n : ℕ) (s old new : Qtd) 
       kept v r x b d s (parts n) stored k elements_there (λ t pages j bs at there. buffer_stays (buffer_name t) pages j bs there) (buffer_stays (buffer_name s) (element_pages s) s.offset r.setup k.bytes) unnamed_there
       (record { qtd = k.tail.qtd; here = else_there d k.beside ∙ k.tail.here; idle = k.tail.idle })
 
-pub store_coming : StoreKeepsComing
-store_coming v r x b d n s old new parts here k = store_kept v r x b d n s old new parts here k
+pub store_keeps_coming : StoreKeepsComing
+store_keeps_coming v r x b d n s old new parts here k = store_kept v r x b d n s old new parts here k
 
 -- ---- the last store
 
@@ -392,7 +392,7 @@ module _ {W : Type 0} (begins : W → ℕ → Bool → W → Type 0) (transacts 
   event_by (a_step z) (Rests v b c) is on k =
       let resting : IsResting v b c hand parts n (device wire v.endpoint.addr v.endpoint.num) = subst (IsCourse device parts hand wire n) is (stand.each n) in
       let alone = subst (λ (y : Course). IsAlone member (queue_in y).endpoint parts n) is (queue_alone device member courses parts hand wire stand n (ap has_queue is)) in
-      let stays = control_rests begins transacts device base member v.endpoint c b n parts hand content wire after now later (a_step z) bus keeps controlled alone resting.rest in
+      let stays = an_event_leaves_a_queue_at_rest begins transacts device base member v.endpoint c b n parts hand content wire after now later (a_step z) bus keeps controlled alone resting.rest in
       subst (IsComing v r x b d s) (sym stays.same) k
 
 pub event_coming : {W : Type 0} (begins : W → ℕ → Bool → W → Type 0) (transacts : W → Ask → List ℕ → Reply → W → Type 0) (device : W → ℕ → ℕ → Option Device) → EventKeepsComing begins transacts device

@@ -12,7 +12,7 @@ use Rattle.drv_table.specs.Words.{head_block, opening_head}
 use Rattle.claims_report.specs.Requests.{Request}
 use Rattle.law_ring.specs.Told.{endpoint_of}
 use Rattle.claims_driver.specs.Scripts.{OpensAsynchronous}
-use Rattle.law_driver.proofs.lemmas.chained_transfers.Accepting.{command_accepts}
+use Rattle.law_driver.proofs.lemmas.chained_transfers.Accepting.{asynchronous_command_is_accepted}
 use Rattle.law_driver_ring.specs.walk_members.Reached.{OpensNumbered}
 use Rattle.bus_world.specs.World.{World, commanded}
 use Rattle.law_world.specs.steps.Streaming.{Streams, Standing}
@@ -25,7 +25,7 @@ use Rattle.law_reports.specs.requests.Given.{GivesCommand}
 use Rattle.law_reports.specs.requests.WorldLaws.{CommandKeepsAsking}
 use Rattle.law_reports.proofs.lemmas.requests.Has.{asking_of}
 use Rattle.law_reports.proofs.lemmas.requests.Opened.{open_keeps_asking}
-use Rattle.law_reports.proofs.lemmas.requests.Refused.{refused_asking}
+use Rattle.law_reports.proofs.lemmas.requests.Refused.{refused_keeps_asking}
 use Rattle.law_reports.proofs.lemmas.requests.Transferring.{transfer_keeps_asking, cancel_keeps_asking}
 
 module _ (g : Sides) (fixed : Fixed) (takes : ℕ → ℕ → Bool) (member : ℕ → Bool) (x : Streams) (s : Standing) (a : Asking) (v : Windows) (asks : ℕ → Request) (w : World) (line : ℕ)
@@ -41,15 +41,15 @@ module _ (g : Sides) (fixed : Fixed) (takes : ℕ → ℕ → Bool) (member : �
   accepted (commands.Control name setup more) o only to fits named bytes gives room is =
       transfer_keeps_asking g fixed takes member x s a v asks w line (commands.Control name setup more) o gives.asks.whole.request bytes room is k head q
   accepted (commands.Cancel name) o only to fits named bytes gives room is = cancel_keeps_asking g fixed takes member x s a v asks w line name o room is k head q
-  accepted cmd o only to fits named bytes gives room is = absurd (command_accepts w.driver w.memory cmd o k.feeding.turns.asynchronous only is)
+  accepted cmd o only to fits named bytes gives room is = absurd (asynchronous_command_is_accepted w.driver w.memory cmd o k.feeding.turns.asynchronous only is)
 
   pub by_offer : (cmd : Cmd) (r : Result Offered OfferError) → OpensAsynchronous cmd → OpensToOnce x.stream takes w cmd → OpensNumbered cmd → OpensNamed cmd → IsByteCommand cmd → GivesCommand g cmd
       → IsOffered w.driver.room cmd → offered w.driver w.memory cmd ≡ r → So cmd
   by_offer cmd (Ok o) only to fits named bytes gives room is = accepted cmd o only to fits named bytes gives room is
   by_offer cmd (Err why) only to fits named bytes gives room is =
       asking_of g fixed takes member x s a v (asks_then w.driver cmd asks) (commanded w line cmd) (whole_commanded fixed takes member x s w line cmd only to fits named room k)
-      (refused_asking g fixed member s a v asks w line cmd why is q) head
+      (refused_keeps_asking g fixed member s a v asks w line cmd why is q) head
 
-pub command_asking : CommandKeepsAsking
-command_asking g fixed takes member x s a v asks w line cmd only to fits named bytes gives room k head q =
+pub command_keeps_asking : CommandKeepsAsking
+command_keeps_asking g fixed takes member x s a v asks w line cmd only to fits named bytes gives room k head q =
     by_offer g fixed takes member x s a v asks w line k head q cmd (offered w.driver w.memory cmd) only to fits named bytes gives room refl

@@ -45,7 +45,7 @@ use Rattle.law_devices.specs.ring_requests.Runs.{first_of}
 use Rattle.law_devices.specs.ring_requests.Windows.{Queue, Lines}
 use Rattle.law_reports.specs.requests.request_bytes.Fresh.{request_places}
 use Rattle.law_reports.specs.requests.request_bytes.Held.{RequestIsHeld}
-use Rattle.law_reports.proofs.lemmas.requests.lemmas.request_bytes.Accepting.{accepted_held}
+use Rattle.law_reports.proofs.lemmas.requests.lemmas.request_bytes.Accepting.{accepted_request_is_held}
 use Rattle.claims_report.specs.Controls.{control_of}
 use Rattle.claims_world.specs.Requests.{Windows, asks_then, numbers_of, opens}
 use Rattle.law_reports.specs.requests.driver_requests.Rows.{number_with}
@@ -56,9 +56,9 @@ use Rattle.law_reports.specs.requests.TransferChanges.{with_numbers, accepted_in
 use Rattle.law_reports.specs.requests.Counts.{counted_all}
 use Rattle.law_reports.specs.requests.Records.{Numbers, AreRecords}
 use Rattle.law_reports.proofs.lemmas.requests.Counts.{counted_more}
-use Rattle.law_reports.proofs.lemmas.requests.Rows.{other_recorded, request_recorded}
+use Rattle.law_reports.proofs.lemmas.requests.Rows.{other_is_accepted, request_is_accepted}
 use Rattle.law_reports.specs.requests.Telling.{IsTelling}
-use Rattle.law_reports.proofs.lemmas.requests.Telling.{accepted_keeps}
+use Rattle.law_reports.proofs.lemmas.requests.Telling.{accepted_keeps_telling}
 use Rattle.law_queues.specs.standing_fronts.Tails.{tail_block}
 use Rattle.law_world.proofs.lemmas.streams.Tail.{newest_there}
 use Rattle.law_reports.specs.requests.Asking.{Sides, Asking, left_with, has_left, is_publishing, is_next_of, next_with, HasCourse, IsHeldRequest, IsPublishingAt, IsPublishing, IsReadTo, HasTelling, IsMetControl}
@@ -116,7 +116,7 @@ module _ (sides : Sides) (member : ℕ → Bool) (parts : StructureSets) (hand :
       let own : end.own ≡ x = same_Some end.own x (sym end.here ∙ ap (slice_get d.endpoints) same ∙ why.here) in
       false≢true (sym off ∙ sym (ap (λ (z : Endpoint). is_control z.desc.kind) own) ∙ ap is_control end.control) in
       let still : has_left d why.number ≡ false = ap (left_with d why.number) why.here ∙ ap (λ (z : Bool). z && not (may_meet d why.number x)) off in
-      let records = other_recorded d m o why (commands.Cancel name) asks a.courses a.numbers (has_left d) v has stands differs still world.records in
+      let records = other_is_accepted d m o why (commands.Cancel name) asks a.courses a.numbers (has_left d) v has stands differs still world.records in
       let noted = notes_stay d m o why stands has in
       let taken : DriverContent =
       (accepted_transfer d why.number x why.asked why.holding_after (dummy_in (length why.asked.stages) (new_runs d why.holding_after)) (notes_in d why.asked x (new_runs d why.holding_after))).driver in
@@ -181,14 +181,14 @@ module _ (sides : Sides) (member : ℕ → Bool) (parts : StructureSets) (hand :
 
     recorded : AreRecords o.driver now a.courses later (has_left d) v
     recorded =
-        request_recorded d m o why name setup bytes asks a.courses a.numbers (has_left d) v n
+        request_is_accepted d m o why name setup bytes asks a.courses a.numbers (has_left d) v n
         (record { sort = ap (λ (z : Asked). z.sort) k.asked; stages = ap (λ (z : Asked). z.stages) k.asked; owners = has; book = stands; has = course.queue; endpoint = course.number; published = count_is; here = still; within = within }) world.records
 
     lends_by : WillBeLent o k.transfers.asked.stages
     lends_by = request_lends d m o (record { setup = setup; bytes = bytes; transfers = why; way = control_way x.desc.name.way x.desc.kind (only.endpoints number x why.here).asynchronous.kind k.control; asked = k.asked }) has lent stands shape
 
     held : RequestIsHeld o.memory o.driver.notes k.transfers.endpoint.dummy r
-    held = accepted_held d m o why r whole (ap (λ (z : Asked). z.stages) k.asked) (ap (λ (z : Asked). z.bytes) k.asked)
+    held = accepted_request_is_held d m o why r whole (ap (λ (z : Asked). z.stages) k.asked) (ap (λ (z : Asked). z.bytes) k.asked)
         (subst (AllByRecursion (λ b. b < 256)) (sym (ap (λ (z : Asked). z.bytes) k.asked)) are_bytes) has lent stands shape
 
     -- once it is accepted
@@ -302,7 +302,7 @@ module _ (sides : Sides) (member : ℕ → Bool) (parts : StructureSets) (hand :
             uncancelled = f.uncancelled;
             telling = subst (λ (ts : List ℕ). IsTelling taken.driver now number x.desc.name (sides.whole x.desc.name) v f.reported ts)
                 (append_assoc f.untold (first_of u.number u.requests.count) (length d.transfers ∷ []) ∙ ap (λ (ts : List ℕ). f.untold ++ ts) (first_more u.number u.requests.count (length d.transfers)))
-                (accepted_keeps d taken.driver new asks now number x.desc.name (sides.whole x.desc.name) v f.reported (f.untold ++ first_of u.number u.requests.count)
+                (accepted_keeps_telling d taken.driver new asks now number x.desc.name (sides.whole x.desc.name) v f.reported (f.untold ++ first_of u.number u.requests.count)
                 (adds sides member parts hand a v asks d m wire world number x why.asked h dummy notes why.idle why.here places noted later now asked_old) f.uncancelled refl f.telling);
           }
 

@@ -25,9 +25,9 @@ use Rattle.claims_report.specs.Requests.{Request}
 use Rattle.law_request.specs.Host.{Endpoint}
 use Rattle.claims_report.specs.ControlSides.{Device}
 use Rattle.law_reports.specs.requests.request_bytes.Held.{RequestIsHeld}
-use Rattle.law_reports.proofs.lemmas.requests.lemmas.request_bytes.Accepting.{held_stays}
+use Rattle.law_reports.proofs.lemmas.requests.lemmas.request_bytes.Accepting.{held_request_stays}
 use Rattle.law_driver_ring.specs.told_harvests.Held.{IsDone}
-use Rattle.law_driver_ring.proofs.lemmas.told_harvests.Keeping.{done_kept}
+use Rattle.law_driver_ring.proofs.lemmas.told_harvests.Keeping.{events_keep_what_is_done}
 use Rattle.law_ring.specs.Hand.{Hand}
 use Rattle.law_ring.specs.Told.{endpoint_of}
 use Rattle.law_devices.specs.ring_requests.Windows.{Queue, Step}
@@ -35,16 +35,16 @@ use Rattle.law_controller.specs.controlled_streams.Control.{IsControlled, Contro
 use Rattle.law_controller.specs.controlled_streams.Kept.{KeepsEach}
 use Rattle.law_controller.proofs.lemmas.controlled_streams.Events.{control_keeps}
 use Rattle.law_controller.specs.controller_writes.Leaving.{LeavesRest}
-use Rattle.law_controller.proofs.lemmas.controller_writes.Controlling.{event_leaves as memory_leaves}
+use Rattle.law_controller.proofs.lemmas.controller_writes.Controlling.{each_event_leaves_the_rest as memory_leaves}
 use Rattle.claims_report.specs.Controls.{control_of}
 use Rattle.law_devices.specs.scripted_requests.Controls.{transacts_by, begins_by}
-use Rattle.law_devices.proofs.lemmas.scripted_requests.Asking.{scripted_control}
-use Rattle.law_devices.proofs.lemmas.scripted_requests.Beginning.{scripted_begins}
+use Rattle.law_devices.proofs.lemmas.scripted_requests.Asking.{a_scripted_bus_answers_by_stages}
+use Rattle.law_devices.proofs.lemmas.scripted_requests.Beginning.{keeps_devices}
 use Rattle.law_reports.proofs.lemmas.requests.lemmas.driver_requests.Commands.{chained_have_qtds}
 use Rattle.bus_world.specs.World.{World, controller_parts, controller_next}
 use Rattle.law_world.specs.steps.Streaming.{Streams, Standing}
 use Rattle.law_world.proofs.lemmas.steps.StreamTurning.{world_has_row}
-use Rattle.law_world.proofs.lemmas.steps.lemmas.world_bytes.Hearing.{hears_bytes}
+use Rattle.law_world.proofs.lemmas.steps.lemmas.world_bytes.Hearing.{a_bus_of_bytes_is_heard_as_bytes}
 use Rattle.claims_world.specs.Requests.{wired, Windows, numbers_of, after_event, opens, is_opening}
 use Rattle.law_reports.specs.requests.Courses.{Course, NoQueue, Asks, Rests, has_queue, queue_in, tail_in, IsCourse}
 use Rattle.law_reports.specs.requests.Coming.{IsComing}
@@ -55,8 +55,8 @@ use Rattle.law_reports.specs.requests.Records.{Numbers}
 use Rattle.law_reports.specs.requests.Counts.{counted_all}
 use Rattle.law_reports.specs.requests.TransferEvents.{IsLeftAlone, IsOwned, ClosedStay}
 use Rattle.law_reports.proofs.lemmas.requests.Counts.{counted_same}
-use Rattle.law_reports.proofs.lemmas.requests.TransferEvents.{records_follow, closed_follow, counts_follow}
-use Rattle.law_reports.proofs.lemmas.requests.Telling.{acts_keep, split}
+use Rattle.law_reports.proofs.lemmas.requests.TransferEvents.{event_keeps_records, event_keeps_closed, event_keeps_counts}
+use Rattle.law_reports.proofs.lemmas.requests.Telling.{acts_keep_telling, split}
 use Rattle.law_world.specs.streams.Whole.{IsWhole}
 use Rattle.law_world.proofs.lemmas.streams.Beside.{beside, after_event as standing_after, whole_beside}
 use Rattle.law_reports.specs.requests.Asking.{Sides, Asking, has_left, left_with, HasCourse, IsWritten, IsHeldRequest, IsPublishingAt, IsPublishingBy, IsReadTo, HasTelling, IsCounted, IsControlOf, IsMetControl, IsAskingWorld}
@@ -64,7 +64,7 @@ use Rattle.law_reports.specs.requests.AskingLaws.{ControllerKeepsAsking}
 use Rattle.law_reports.proofs.lemmas.requests.Has.{asking_of}
 use Rattle.law_reports.proofs.lemmas.requests.Names.{opens_is, opened_is, left_is, not_met, one_of, has_device}
 use Rattle.law_reports.specs.requests.Missed.{NoneMissed, MissesNone}
-use Rattle.law_reports.proofs.lemmas.requests.Missed.{walk_unmissed}
+use Rattle.law_reports.proofs.lemmas.requests.Missed.{walk_misses_none}
 
 -- ---- queues whose windows go on
 
@@ -95,14 +95,15 @@ module _ {W : Type 0} (begins : W → ℕ → Bool → W → Type 0) (transacts 
   done_still n b i xs (a_microframe m) keeps k =
       subst (λ (h : Hand). IsDone h now n b i xs) (sym m.hand_stays) (subst (λ (ps : StructureSets). IsDone hand ps n b i xs) (sym m.parts_stay) k)
   done_still n b i xs (a_step k) keeps done =
-      done_kept transacts parts hand wire after now later n b i xs (λ a t there off. (keeps n).idle a t there off) k.streams done
+      events_keep_what_is_done transacts parts hand wire after now later n b i xs (λ a t there off. (keeps n).idle a t there off) k.streams
+      done
 
 -- ---- no microframe is missed
 
 event_unmissed : {W : Type 0} (begins : W → ℕ → Bool → W → Type 0) (transacts : W → Ask → List ℕ → Reply → W → Type 0) (parts : StructureSets) (hand : Hand) (wire after : W) (now : StructureSets) (later : Hand)
     → ControlEffect begins transacts parts hand wire after now later → NoneMissed parts → MissesNone hand → NoneMissed now × MissesNone later
 event_unmissed begins transacts parts hand wire after now later (a_microframe m) none had = (subst NoneMissed (sym m.parts_stay) none, subst MissesNone (sym m.hand_stays) had)
-event_unmissed begins transacts parts hand wire after now later (a_step k) none had = walk_unmissed transacts parts hand wire after now later k.kind k.effect none had
+event_unmissed begins transacts parts hand wire after now later (a_step k) none had = walk_misses_none transacts parts hand wire after now later k.kind k.effect none had
 
 -- ---- the event
 
@@ -125,7 +126,7 @@ module _ (g : Sides) (fixed : Fixed) (takes : ℕ → ℕ → Bool) (member : �
   pub goes : CoursesGoOn control_of member a.courses (beside fixed takes member x s w k).event.event.effect
   goes =
       event_keeps begins_by transacts_by control_of opening_base member a.courses s.parts s.hand (controller_parts w) (wired fixed w) (wired fixed new) event.now event.later event.effect
-      scripted_control scripted_begins controlled q.stand
+      a_scripted_bus_answers_by_stages keeps_devices controlled q.stand
 
   abbrev then : Asking
   then = record { courses = courses_after goes.step a.courses; numbers = a.numbers }
@@ -141,7 +142,7 @@ module _ (g : Sides) (fixed : Fixed) (takes : ℕ → ℕ → Bool) (member : �
       → control_of (wired fixed w) addr num ≡ Some c → control_of (wired fixed (controller_next fixed w)) addr num ≡ Some c
   device_stays addr num c least none is =
       event_leaves begins_by transacts_by control_of opening_base member s.parts s.hand (controller_parts w) (wired fixed w) (wired fixed new) event.now event.later event.effect addr num c
-      scripted_control scripted_begins controlled (λ n own met has address number. not_met fixed takes member x s w k ring addr num least none n own met has address number) is
+      a_scripted_bus_answers_by_stages keeps_devices controlled (λ n own met has address number. not_met fixed takes member x s w k ring addr num least none n own met has address number) is
 
   left_stays : (e : ℕ) (z : DriverEndpoint) → has_left w.driver e ≡ true → slice_get w.driver.endpoints e ≡ Some z → IsLeftAlone fixed w (controller_next fixed w) z
   left_stays e z left here =
@@ -157,7 +158,7 @@ module _ (g : Sides) (fixed : Fixed) (takes : ℕ → ℕ → Bool) (member : �
       ∙ sym device.1
 
   closed : ClosedStay w.driver a.courses a.numbers (has_left w.driver) v (after_event fixed w v)
-  closed = closed_follow fixed opening_base member a.courses a.numbers (has_left w.driver) s.parts s.hand asks w v event goes k.feeding.working.streaming.on controlled q.stand owned left_stays q.records
+  closed = event_keeps_closed fixed opening_base member a.courses a.numbers (has_left w.driver) s.parts s.hand asks w v event goes k.feeding.working.streaming.on controlled q.stand owned left_stays q.records
 
   -- ---- one endpoint
 
@@ -168,7 +169,7 @@ module _ (g : Sides) (fixed : Fixed) (takes : ℕ → ℕ → Bool) (member : �
   abbrev memory_stays : LeavesRest s.parts w.memory (controller_next fixed w).memory
   memory_stays =
       memory_leaves begins_by transacts_by opening_base member s.parts s.hand (controller_parts w) (wired fixed w) (controller_parts new) (wired fixed new) controlled k.feeding.working.streaming.on
-      (hears_bytes fixed w k.bytes (wired fixed new)) (world_has_row fixed w)
+      (a_bus_of_bytes_is_heard_as_bytes fixed w k.bytes (wired fixed new)) (world_has_row fixed w)
 
   held_then : (b : ℕ) (words : List ℕ) (r : Request) → IsHeldRequest w.driver w.memory b words r → IsHeldRequest w.driver (controller_next fixed w).memory b words r
   held_then b words r h =
@@ -198,7 +199,7 @@ module _ (g : Sides) (fixed : Fixed) (takes : ℕ → ℕ → Bool) (member : �
         };
         stages = h.stages;
         held = subst (λ (c : ℕ). RequestIsHeld new.memory w.driver.notes c r) l.first
-            (held_stays w.driver w.memory new.memory l.number (runs_of_transfer l.transfer) (runs_of_endpoint l.endpoint) l.stage l.further r l.awaits h.stages sound.stands memory_stays.lent.words
+            (held_request_stays w.driver w.memory new.memory l.number (runs_of_transfer l.transfer) (runs_of_endpoint l.endpoint) l.stage l.further r l.awaits h.stages sound.stands memory_stays.lent.words
             (subst (λ (c : ℕ). RequestIsHeld w.memory w.driver.notes c r) (sym l.first) h.held));
       }
 
@@ -220,7 +221,7 @@ module _ (g : Sides) (fixed : Fixed) (takes : ℕ → ℕ → Bool) (member : �
           same
           (event_coming begins_by transacts_by control_of opening_base member a.courses s.parts s.hand (controller_parts w) (wired fixed w) (wired fixed new) event.now event.later event.effect n (32 * z.dummy)
           ((a.numbers (32 * z.queue)).requests.requests (queue_in c).count) ((a.numbers (32 * z.queue)).requests.places (queue_in c).count) h.setup
-          scripted_control scripted_begins controlled q.stand its.queue
+          a_scripted_bus_answers_by_stages keeps_devices controlled q.stand its.queue
           (subst
           (λ (y : Course). IsComing (queue_in y) ((a.numbers (32 * z.queue)).requests.requests (queue_in c).count) ((a.numbers (32 * z.queue)).requests.places (queue_in c).count) (tail_in y) (32 * z.dummy) h.setup (s.parts (32 * z.queue)))
           (sym same) h.coming));
@@ -265,7 +266,7 @@ module _ (g : Sides) (fixed : Fixed) (takes : ℕ → ℕ → Bool) (member : �
       closed = h.closed;
       going = h.going;
       uncancelled = h.uncancelled;
-      telling = acts_keep w.driver asks e z.desc.name (g.whole z.desc.name) v later h.reported _ h.uncancelled
+      telling = acts_keep_telling w.driver asks e z.desc.name (g.whole z.desc.name) v later h.reported _ h.uncancelled
           (split (λ t. later.acts t ≡ v.acts t) h.reported h.untold (subst (AllByRecursion (λ t. later.acts t ≡ v.acts t)) h.closed (closed.each n its.queue))).0 h.telling;
     }
 
@@ -284,7 +285,7 @@ module _ (g : Sides) (fixed : Fixed) (takes : ℕ → ℕ → Bool) (member : �
           device = here.0;
           is = sym (named new) ∙ side;
           acted = subst (λ (i : ℕ). here.0.stages.acted ≡ counted_all later (numbers_of w.driver i) 0) its.number
-              (counts_follow fixed opening_base member a.courses a.numbers (has_left w.driver) s.parts s.hand asks w v event goes k.feeding.working.streaming.on controlled q.stand owned left_stays q.records n its.queue
+              (event_keeps_counts fixed opening_base member a.courses a.numbers (has_left w.driver) s.parts s.hand asks w v event goes k.feeding.working.streaming.on controlled q.stand owned left_stays q.records n its.queue
               (λ c at. subst (λ (u : Device). u.stages.acted ≡ counted_all v (numbers_of w.driver (a.numbers n).endpoint) 0) (same_Some h.device c (sym h.is ∙ sym (named w) ∙ at))
               (h.acted ∙ ap (λ (i : ℕ). counted_all v (numbers_of w.driver i) 0) (sym its.number)))
               here.0 side);
@@ -322,7 +323,7 @@ module _ (g : Sides) (fixed : Fixed) (takes : ℕ → ℕ → Bool) (member : �
   pub asking_beside : IsAskingWorld g fixed member (standing_after fixed takes member x s w k) (record { courses = courses_after goes.step a.courses; numbers = a.numbers }) (after_event fixed w v) asks (controller_next fixed w)
   asking_beside = record {
     stand = goes.stand;
-    records = records_follow fixed opening_base member a.courses a.numbers (has_left w.driver) s.parts s.hand asks w v event goes k.feeding.working.streaming.on controlled q.stand owned left_stays q.records;
+    records = event_keeps_records fixed opening_base member a.courses a.numbers (has_left w.driver) s.parts s.hand asks w v event goes k.feeding.working.streaming.on controlled q.stand owned left_stays q.records;
     each = λ e z is. course_still g w.driver e z (a.numbers (32 * z.queue)) goes.step (32 * z.queue) (a.courses (32 * z.queue)) (q.each e z is);
     publishing = λ e z is on. publishing_by e z is w.driver.command (q.publishing e z is on);
     read = λ e t z y is going next here. read_then e z is t y _ (q.read e t z y is going next here);
@@ -335,7 +336,7 @@ module _ (g : Sides) (fixed : Fixed) (takes : ℕ → ℕ → Bool) (member : �
     unmissed = record { structures = unmissed_then.0; in_hand = unmissed_then.1; first = q.unmissed.first };
   }
 
-pub controller_asking : ControllerKeepsAsking
-controller_asking g fixed takes member x s a v asks w k ring q =
+pub controller_keeps_asking : ControllerKeepsAsking
+controller_keeps_asking g fixed takes member x s a v asks w k ring q =
     asking_of g fixed takes member x (standing_after fixed takes member x s w k) (record { courses = courses_after (goes g fixed takes member x s a v asks w k ring q).step a.courses; numbers = a.numbers })
     (after_event fixed w v) asks (controller_next fixed w) (whole_beside fixed takes member x s w k) (asking_beside g fixed takes member x s a v asks w k ring q) ring

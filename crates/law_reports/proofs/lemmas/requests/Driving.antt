@@ -32,21 +32,21 @@ use Rattle.law_world.proofs.lemmas.streams.Rows.{after_each}
 use Rattle.law_reports.specs.requests.Asking.{Sides, Asking, IsAskingWorld, HasAskingWorld}
 use Rattle.law_reports.specs.requests.Reading.{AreSilent}
 use Rattle.law_reports.specs.requests.WorldLaws.{DriverKeepsAsking}
-use Rattle.law_reports.proofs.lemmas.requests.Missed.{harvest_unmissed}
+use Rattle.law_reports.proofs.lemmas.requests.Missed.{harvest_misses_none}
 use Rattle.law_reports.proofs.lemmas.requests.Ended.{piece_here, qtd_here}
-use Rattle.law_reports.proofs.lemmas.requests.Still.{still_asking}
+use Rattle.law_reports.proofs.lemmas.requests.Still.{still_keeps_asking}
 use Rattle.law_reports.proofs.lemmas.requests.Publishing.{lend_keeps_asking, store_keeps_asking}
-use Rattle.law_reports.proofs.lemmas.requests.OpenLending.{open_lend_asking}
-use Rattle.law_reports.proofs.lemmas.requests.OpenLinking.{open_link_asking}
-use Rattle.law_reports.proofs.lemmas.requests.Mending.{mend_asking}
-use Rattle.law_reports.proofs.lemmas.requests.Clearing.{clear_asking}
-use Rattle.law_reports.proofs.lemmas.requests.Unlinking.{unlink_asking}
-use Rattle.law_reports.proofs.lemmas.requests.Releasing.{release_asking}
-use Rattle.law_reports.proofs.lemmas.requests.GivenBack.{endpoint_release_asking}
-use Rattle.law_reports.proofs.lemmas.requests.Waits.{wait_asking}
-use Rattle.law_reports.proofs.lemmas.requests.Moves.{moved_asking}
-use Rattle.law_reports.proofs.lemmas.requests.EndedBeside.{beside_ended}
-use Rattle.law_reports.proofs.lemmas.requests.Endings.{done_asking, halt_asking}
+use Rattle.law_reports.proofs.lemmas.requests.OpenLending.{open_lend_keeps_asking}
+use Rattle.law_reports.proofs.lemmas.requests.OpenLinking.{open_link_keeps_asking}
+use Rattle.law_reports.proofs.lemmas.requests.Mending.{mend_keeps_asking}
+use Rattle.law_reports.proofs.lemmas.requests.Clearing.{clear_keeps_asking}
+use Rattle.law_reports.proofs.lemmas.requests.Unlinking.{unlink_keeps_asking}
+use Rattle.law_reports.proofs.lemmas.requests.Releasing.{release_keeps_asking}
+use Rattle.law_reports.proofs.lemmas.requests.GivenBack.{endpoint_release_keeps_asking}
+use Rattle.law_reports.proofs.lemmas.requests.Waits.{wait_keeps_asking}
+use Rattle.law_reports.proofs.lemmas.requests.Moves.{moved_keeps_asking}
+use Rattle.law_reports.proofs.lemmas.requests.EndedBeside.{ended_beside_keeps_asking}
+use Rattle.law_reports.proofs.lemmas.requests.Endings.{done_keeps_asking, halt_keeps_asking}
 
 -- ---- what a harvest tells
 
@@ -90,14 +90,14 @@ module _ (g : Sides) (fixed : Fixed) (takes : ℕ → ℕ → Bool) (member : �
 
   its_own : (e t n : ℕ) (what : What) → driver_row (driver_parts w) ≡ rows.Harvest e t (founds.Ended n what) → (r : IsHarvestDue (driver_parts w) e t (founds.Ended n what)) → is_control r.endpoint.desc.kind ≡ true → EndsAs what → So
   its_own e t n what row r on (as_done is) =
-      done_asking g fixed takes member x s a v asks w e t n r.endpoint (row ∙ ap (λ (u : What). rows.Harvest e t (founds.Ended n u)) is) (record { here = r.here; control = on }) head k silent q
+      done_keeps_asking g fixed takes member x s a v asks w e t n r.endpoint (row ∙ ap (λ (u : What). rows.Harvest e t (founds.Ended n u)) is) (record { here = r.here; control = on }) head k silent q
   its_own e t n what row r on (as_halt cause is) =
-      halt_asking g fixed takes member x s a v asks w e t n cause r.endpoint (row ∙ ap (λ (u : What). rows.Harvest e t (founds.Ended n u)) is) (record { here = r.here; control = on }) head k silent q
+      halt_keeps_asking g fixed takes member x s a v asks w e t n cause r.endpoint (row ∙ ap (λ (u : What). rows.Harvest e t (founds.Ended n u)) is) (record { here = r.here; control = on }) head k silent q
   -- that bit is of split transactions (3.5.3)
   its_own e t n what row r on (as_miss is) =
       let control : r.endpoint.desc.kind ≡ kinds.Control = control_kind r.endpoint.desc.kind on in
       absurd
-      (harvest_unmissed (driver_parts w) e t n (32 * r.endpoint.queue) what r s.parts (piece_here g fixed takes member x s a v asks w e t (founds.Ended n what) r control k silent q).qtd k.feeding.turns.asynchronous
+      (harvest_misses_none (driver_parts w) e t n (32 * r.endpoint.queue) what r s.parts (piece_here g fixed takes member x s a v asks w e t (founds.Ended n what) r control k silent q).qtd k.feeding.turns.asynchronous
       k.feeding.working.streaming.controlled.ring.tells (qtd_here g fixed takes member x s a v asks w e t (founds.Ended n what) r control k silent q) q.unmissed.structures is)
 
   ended : (e t n : ℕ) (what : What) → driver_row (driver_parts w) ≡ rows.Harvest e t (founds.Ended n what) → (r : IsHarvestDue (driver_parts w) e t (founds.Ended n what)) (b : Bool) → is_control r.endpoint.desc.kind ≡ b → So
@@ -105,13 +105,13 @@ module _ (g : Sides) (fixed : Fixed) (takes : ℕ → ℕ → Bool) (member : �
       its_own e t n what row r on
       (read_as r.transfer.sort (nat_le r.transfer.left 1) (note_at w.driver.notes r.transfer.place) (token_in w.memory r.transfer.place) n what (found_is e t (founds.Ended n what) r))
   ended e t n what row r false off =
-      beside_ended g fixed takes member x s a v asks w e t n what row
+      ended_beside_keeps_asking g fixed takes member x s a v asks w e t n what row
       (λ z here. ap (λ (y : Endpoint). is_control y.desc.kind) (same_Some z r.endpoint (sym here ∙ r.here)) ∙ off) head k q
 
   -- no descriptor of the frame list is read
   harvested : (e t : ℕ) (found : Found) → driver_row (driver_parts w) ≡ rows.Harvest e t found → So
-  harvested e t founds.Active row = wait_asking g fixed takes member x s a v asks w e t row head k q
-  harvested e t (founds.Moved n) row = moved_asking g fixed takes member x s a v asks w e t n row head k silent q
+  harvested e t founds.Active row = wait_keeps_asking g fixed takes member x s a v asks w e t row head k q
+  harvested e t (founds.Moved n) row = moved_keeps_asking g fixed takes member x s a v asks w e t n row head k silent q
   harvested e t (founds.Ended n what) row = let r = reads e t (founds.Ended n what) row in ended e t n what row r (is_control r.endpoint.desc.kind) refl
   harvested e t (founds.Served n) row =
       let r = reads e t (founds.Served n) row in
@@ -123,18 +123,18 @@ module _ (g : Sides) (fixed : Fixed) (takes : ℕ → ℕ → Bool) (member : �
   each_row =
       after_each fixed takes member x s w k So
       (record {
-        still = λ still. still_asking g fixed takes member x s a v asks w still k head q;
+        still = λ still. still_keeps_asking g fixed takes member x s a v asks w still k head q;
         lend = λ b words ready. lend_keeps_asking g fixed takes member x s a v asks w b words ready k head q;
         store = λ b words command made. store_keeps_asking g fixed takes member x s a v asks w b words command made k head q;
-        open_lend = λ ready. open_lend_asking g fixed takes member x s a v asks w ready head k q;
-        open_link = λ lent. open_link_asking g fixed takes member x s a v asks w lent head k q;
+        open_lend = λ ready. open_lend_keeps_asking g fixed takes member x s a v asks w ready head k q;
+        open_link = λ lent. open_link_keeps_asking g fixed takes member x s a v asks w lent head k q;
         harvest = harvested;
-        mend = λ m row. mend_asking g fixed takes member x s a v asks w m row head k q;
-        unlink = λ e before link command. unlink_asking g fixed takes member x s a v asks w e before link command head k q;
-        clear = λ row. clear_asking g fixed takes member x s a v asks w row head k q;
-        release_endpoint = λ e row. endpoint_release_asking g fixed takes member x s a v asks w e row head k q;
-        release = λ t row. release_asking g fixed takes member x s a v asks w t row head k q;
+        mend = λ m row. mend_keeps_asking g fixed takes member x s a v asks w m row head k q;
+        unlink = λ e before link command. unlink_keeps_asking g fixed takes member x s a v asks w e before link command head k q;
+        clear = λ row. clear_keeps_asking g fixed takes member x s a v asks w row head k q;
+        release_endpoint = λ e row. endpoint_release_keeps_asking g fixed takes member x s a v asks w e row head k q;
+        release = λ t row. release_keeps_asking g fixed takes member x s a v asks w t row head k q;
       })
 
-pub driver_asking : DriverKeepsAsking
-driver_asking g fixed takes member x s a v asks w k head silent q = each_row g fixed takes member x s a v asks w k head silent q
+pub driver_keeps_asking : DriverKeepsAsking
+driver_keeps_asking g fixed takes member x s a v asks w k head silent q = each_row g fixed takes member x s a v asks w k head silent q

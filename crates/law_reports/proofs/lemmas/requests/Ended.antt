@@ -42,7 +42,7 @@ use Rattle.law_structures.proofs.lemmas.lent_structures.Altering.{found_element}
 use Rattle.law_driver_ring.specs.fed_queues.Fed.{IsPieceFed, sized, unpublished_of}
 use Rattle.law_driver_ring.specs.fed_queues.Places.{IsMet}
 use Rattle.law_driver_ring.proofs.lemmas.fed_queues.Places.{stands_met}
-use Rattle.law_driver_ring.proofs.lemmas.harvested_streams.Harvesting.{token_read}
+use Rattle.law_driver_ring.proofs.lemmas.harvested_streams.Harvesting.{token_is_read}
 use Rattle.law_driver_ring.specs.told_harvests.Held.{IsRead}
 use Rattle.law_queues.proofs.lemmas.harvest_laws.ReadRows.{not_active, after_is}
 use Rattle.claims_report.specs.Reports.{is_line_of}
@@ -68,18 +68,18 @@ use Rattle.law_reports.specs.requests.QueueChanges.{lines_behind, FirstHasGone}
 use Rattle.law_reports.proofs.lemmas.requests.QueueEnding.{first_goes, last_goes}
 use Rattle.law_reports.specs.requests.Records.{Numbers, IsRecord, AreRecords}
 use Rattle.law_reports.specs.requests.TransferChanges.{first_closed}
-use Rattle.law_reports.proofs.lemmas.requests.TransferChanging.{course_recorded, first_recorded, last_recorded}
-use Rattle.law_reports.proofs.lemmas.requests.TransferHarvests.{done_ended}
-use Rattle.law_reports.proofs.lemmas.requests.Rows.{row_recorded}
+use Rattle.law_reports.proofs.lemmas.requests.TransferChanging.{course_is_recorded, first_is_closed, last_is_closed}
+use Rattle.law_reports.proofs.lemmas.requests.TransferHarvests.{done_is_ended}
+use Rattle.law_reports.proofs.lemmas.requests.Rows.{row_keeps_records}
 use Rattle.law_reports.specs.requests.Telling.{IsTelling, IsUncancelled}
-use Rattle.law_reports.proofs.lemmas.requests.Telling.{harvest_told}
+use Rattle.law_reports.proofs.lemmas.requests.Telling.{harvest_tells}
 use Rattle.law_world.specs.streams.Feeding.{IsFeeding}
 use Rattle.hc_core.specs.Controller.{walk_place}
 use Rattle.law_world.specs.streams.Whole.{IsWhole}
 use Rattle.law_reports.specs.requests.Asking.{Sides, Asking, has_left, is_next_of, is_publishing, next_with, HasCourse, HasTelling, IsMetControl, IsReadTo, IsAskingWorld}
 use Rattle.law_reports.specs.requests.Reading.{AreSilent, IsAtRequest}
 use Rattle.law_reports.specs.requests.Ended.{ReadsFirst, HarvestReadsFirst, ended_driver, RequestEnds, DoneEnds}
-use Rattle.law_reports.proofs.lemmas.requests.Reading.{found_is, read_moved, moved_all}
+use Rattle.law_reports.proofs.lemmas.requests.Reading.{found_is, read_is_moved, moved_are_all}
 
 -- ---- lists
 
@@ -306,7 +306,7 @@ module _ (g : Sides) (fixed : Fixed) (takes : ℕ → ℕ → Bool) (member : �
     off = not_active (driver_parts w) e t found due owners f.turns done
 
     qtd_off : piece_here.qtd.token.active ≡ false
-    qtd_off = ap (λ (z : Token). z.active) (sym (token_read w.memory s.parts n y.place piece_here.qtd tells qtd_here)) ∙ off
+    qtd_off = ap (λ (z : Token). z.active) (sym (token_is_read w.memory s.parts n y.place piece_here.qtd tells qtd_here)) ∙ off
 
     -- one that waits isn't begun
     none_waits : IsBehind (sent_at (queue_in (a.courses n)) 0) s.hand s.parts n → ⊥
@@ -367,7 +367,7 @@ module _ (g : Sides) (fixed : Fixed) (takes : ℕ → ℕ → Bool) (member : �
 
   pub kept : AreRecords (ended_driver w e t found) asks a.courses a.numbers (has_left w.driver) v
   kept =
-      row_recorded (driver_parts w) (rows.Harvest e t found) asks a.courses a.numbers (has_left w.driver) v (λ i has. tt)
+      row_keeps_records (driver_parts w) (rows.Harvest e t found) asks a.courses a.numbers (has_left w.driver) v (λ i has. tt)
       (λ i m has few is. let bad : ◌≡◌ {A = Option ℕ} None (Some ((a.numbers i).number m)) = is in cc) j.records
 
   pub new_is : ended_driver w e t found ≡ served (harvested_as w.driver w.memory e t due.endpoint y found) e
@@ -401,8 +401,8 @@ module _ (g : Sides) (fixed : Fixed) (takes : ℕ → ℕ → Bool) (member : �
   pub closed_is : own_numbers.closed ≡ tell.reported
   closed_is = tell.closed ∙ ap (λ (ts : List ℕ). tell.reported ++ ts) (tell.going going) ∙ append-nil tell.reported
 
-pub first_read : HarvestReadsFirst
-first_read g fixed takes member x s a v asks w e t found due control done k silent j = reads g fixed takes member x s a v asks w e t found due control k silent j done
+pub harvest_reads_first : HarvestReadsFirst
+harvest_reads_first g fixed takes member x s a v asks w e t found due control done k silent j = reads g fixed takes member x s a v asks w e t found due control k silent j done
 
 -- ---- it is found done
 
@@ -464,7 +464,7 @@ module _ (g : Sides) (fixed : Fixed) (takes : ℕ → ℕ → Bool) (member : �
     ended =
         let own : at.laid.own ≡ due.transfer = same_Some at.laid.own due.transfer (sym at.laid.here ∙ due.there) in
         let stage = stage_read w.driver t (q.requests 0) (q.places 0) due.transfer at.laid own at.at in
-        done_ended (driver_parts w) e t m s.parts q.endpoint (q.requests 0) (q.places 0) (piece_here g fixed takes member x s a v asks w e t as_done due control k silent j).qtd due at.laid at.sort at.at at.tells
+        done_is_ended (driver_parts w) e t m s.parts q.endpoint (q.requests 0) (q.places 0) (piece_here g fixed takes member x s a v asks w e t as_done due control k silent j).qtd due at.laid at.sort at.at at.tells
         (ap (s.parts place) (stage.last last) ∙ qtd_here g fixed takes member x s a v asks w e t as_done due control k silent j)
 
     was : IsRecord new asks place (Asks q b l) its_numbers v
@@ -475,8 +475,8 @@ module _ (g : Sides) (fixed : Fixed) (takes : ℕ → ℕ → Bool) (member : �
     module _ (once : IsActedOnce (sent_at q 0) (l.line 0) s.hand s.parts place) where
       bytes_are : bytes_with (driver_parts w) due.transfer m ≡ g.whole due.endpoint.desc.name (asks t)
       bytes_are =
-          moved_all q (l.line 0) s.hand s.parts place due.transfer.left (bytes_with (driver_parts w) due.transfer m) (stands.line.requests 0 some) once last
-          (read_moved member (driver_parts w) e t m lines.Done due s.parts s.hand (q.requests 0) (q.places 0) at)
+          moved_are_all q (l.line 0) s.hand s.parts place due.transfer.left (bytes_with (driver_parts w) due.transfer m) (stands.line.requests 0 some) once last
+          (read_is_moved member (driver_parts w) e t m lines.Done due s.parts s.hand (q.requests 0) (q.places 0) at)
           ∙ ap (λ (z : Queue). data_of z.endpoint (z.requests 0)) (sym queue) ∙ sym (whole_is g fixed takes member x s a v asks w e t as_done due control k silent j)
 
       acted : v.acts t ≡ (asks t).setup ∷ []
@@ -501,7 +501,7 @@ module _ (g : Sides) (fixed : Fixed) (takes : ℕ → ℕ → Bool) (member : �
                 ∙ ap (λ (i : ℕ). before.reported ++ i ∷ []) is_first.number ∙ sym (append-nil (before.reported ++ t ∷ []));
             going = λ goes. refl;
             uncancelled = new_reports;
-            telling = harvest_told (driver_parts w) t m lines.Done due.endpoint due.transfer asks e t (g.whole due.endpoint.desc.name) v before.reported (first_of (λ i. its_numbers.number (suc i)) (its_numbers.requests.count - 1))
+            telling = harvest_tells (driver_parts w) t m lines.Done due.endpoint due.transfer asks e t (g.whole due.endpoint.desc.name) v before.reported (first_of (λ i. its_numbers.number (suc i)) (its_numbers.requests.count - 1))
                 (record { here = due.here; there = due.there; waits = due.waits }) refl refl refl (acted, bytes_are) (telling_first g fixed takes member x s a v asks w e t as_done due control k silent j);
           }
 
@@ -522,8 +522,8 @@ module _ (g : Sides) (fixed : Fixed) (takes : ℕ → ℕ → Bool) (member : �
           count = ap (λ (i : ℕ). i - 1) many;
           rests = λ none. let same = many in absurd (omega (arith, more, none, same));
           stand = gone.stand;
-          records = course_recorded new asks a.courses a.numbers (has_left w.driver) v place (Asks (without_first q) b (lines_behind q l)) (first_closed its_numbers)
-              (first_recorded new asks place b q l its_numbers v more gone.once.acts was) (kept g fixed takes member x s a v asks w e t as_done due control k silent j);
+          records = course_is_recorded new asks a.courses a.numbers (has_left w.driver) v place (Asks (without_first q) b (lines_behind q l)) (first_closed its_numbers)
+              (first_is_closed new asks place b q l its_numbers v more gone.once.acts was) (kept g fixed takes member x s a v asks w e t as_done due control k silent j);
           telling = told gone.once;
         }
 
@@ -539,8 +539,8 @@ module _ (g : Sides) (fixed : Fixed) (takes : ℕ → ℕ → Bool) (member : �
           count = ap (λ (i : ℕ). i - 1) many;
           rests = λ none. refl;
           stand = gone.stand;
-          records = course_recorded new asks a.courses a.numbers (has_left w.driver) v place (Rests (without_first q) b (l.line 0).device) (first_closed its_numbers)
-              (last_recorded new asks place b q l (l.line 0).device its_numbers v one stands.queue.within gone.once.acts was) (kept g fixed takes member x s a v asks w e t as_done due control k silent j);
+          records = course_is_recorded new asks a.courses a.numbers (has_left w.driver) v place (Rests (without_first q) b (l.line 0).device) (first_closed its_numbers)
+              (last_is_closed new asks place b q l (l.line 0).device its_numbers v one stands.queue.within gone.once.acts was) (kept g fixed takes member x s a v asks w e t as_done due control k silent j);
           telling = told gone.once;
         }
 

@@ -53,8 +53,8 @@ use Rattle.law_reports.proofs.lemmas.requests.lemmas.driver_requests.RowOrder.{r
 use Rattle.law_reports.specs.requests.Courses.{Course, queue_in, CoursesStand}
 use Rattle.law_reports.specs.requests.Counts.{counted_all}
 use Rattle.law_reports.specs.requests.Records.{Numbers, AreRecords}
-use Rattle.law_reports.proofs.lemmas.requests.Rows.{row_recorded}
-use Rattle.law_reports.proofs.lemmas.requests.Telling.{other_harvest}
+use Rattle.law_reports.proofs.lemmas.requests.Rows.{row_keeps_records}
+use Rattle.law_reports.proofs.lemmas.requests.Telling.{other_harvest_keeps_telling}
 use Rattle.law_world.specs.streams.HarvestFeeds.{HarvestLeaves}
 use Rattle.law_world.specs.streams.Whole.{IsWhole}
 use Rattle.law_world.proofs.lemmas.streams.Leaving.{due, leaves, whole_harvested}
@@ -292,7 +292,7 @@ module _ (g : Sides) (fixed : Fixed) (takes : ℕ → ℕ → Bool) (member : �
           closed = h.closed;
           going = h.going;
           uncancelled = ap has_cancel (ends.lines z.desc.name unlike) ∙ h.uncancelled;
-          telling = other_harvest (driver_parts w) e t as_ended asks i z.desc.name (g.whole z.desc.name) v h.reported (h.untold ++ first_of (a.numbers (32 * z.queue)).number (a.numbers (32 * z.queue)).requests.count)
+          telling = other_harvest_keeps_telling (driver_parts w) e t as_ended asks i z.desc.name (g.whole z.desc.name) v h.reported (h.untold ++ first_of (a.numbers (32 * z.queue)).number (a.numbers (32 * z.queue)).requests.count)
               (λ same. differs (sym same))
               (λ y here. subst (λ (r : Endpoint). is_same_name r.desc.name z.desc.name ≡ false) (same_Some is_due.endpoint y (sym is_due.here ∙ here)) unlike) h.telling;
         }
@@ -350,7 +350,8 @@ module _ (g : Sides) (fixed : Fixed) (takes : ℕ → ℕ → Bool) (member : �
 
   pub records_kept : AreRecords (ended_driver w e t (founds.Ended m what)) asks a.courses a.numbers (has_left w.driver) v
   records_kept =
-      row_recorded (driver_parts w) (rows.Harvest e t (founds.Ended m what)) asks a.courses a.numbers (has_left w.driver) v (λ i has. tt)
+      row_keeps_records (driver_parts w) (rows.Harvest e t (founds.Ended m what)) asks a.courses a.numbers (has_left w.driver) v
+      (λ i has. tt)
       (λ i j has few is. let bad : ◌≡◌ {A = Option ℕ} None (Some ((a.numbers i).number j)) = is in cc) q.records
 
   module _ (b : Asking) (beside : (n : ℕ) → n ≢ 32 * is_due.endpoint.queue → (b.courses n ≡ a.courses n) × (b.numbers n ≡ a.numbers n))
@@ -395,8 +396,8 @@ module _ (g : Sides) (fixed : Fixed) (takes : ℕ → ℕ → Bool) (member : �
   pub whole_then : IsWhole fixed takes member x (record s { out = left.out; reported = left.reported }) (driver_next w)
   whole_then = whole_harvested fixed takes member x s w e t (founds.Ended m what) row k left
 
-pub beside_ended : EndedBesideKeepsAsking
-beside_ended g fixed takes member x s a v asks w e t m what row other head k q =
+pub ended_beside_keeps_asking : EndedBesideKeepsAsking
+ended_beside_keeps_asking g fixed takes member x s a v asks w e t m what row other head k q =
     asking_of g fixed takes member x _ a v asks (driver_next w) (whole_then g fixed takes member x s a v asks w e t m what row head k q)
     (asking_then g fixed takes member x s a v asks w e t m what row head k q a (λ n differs. (refl, refl)) q.stand (records_kept g fixed takes member x s a v asks w e t m what row head k q)
     (λ z is. absurd (none z is)) (λ u z y is going next there. absurd (none z is)) (λ z is kept. absurd (none z is))) head

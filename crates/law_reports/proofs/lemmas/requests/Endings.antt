@@ -163,8 +163,8 @@ module _ (g : Sides) (fixed : Fixed) (takes : ℕ → ℕ → Bool) (member : �
 
 -- ---- it halted
 
-pub halt_asking : HaltKeepsAsking
-halt_asking g fixed takes member x s a v asks w e t m cause z row is head k silent q =
+pub halt_keeps_asking : HaltKeepsAsking
+halt_keeps_asking g fixed takes member x s a v asks w e t m cause z row is head k silent q =
     ended_world g fixed takes member x s a v asks w e t m (lines.Halt cause) row head k q control (end_of due.endpoint.desc.kind (lines.Halt cause)) (all_closed (a.numbers (32 * due.endpoint.queue)))
     (halt_ends g fixed takes member x s a v asks w e t m cause due control k silent q) refl
     (ap is_asking first.asked)
@@ -354,8 +354,8 @@ module _ (g : Sides) (fixed : Fixed) (takes : ℕ → ℕ → Bool) (member : �
       ended_world g fixed takes member x s a v asks w e t m lines.Done row head k q control done_due.endpoint.ended (first_closed own)
       (done_ends g fixed takes member x s a v asks w e t m done_due control k silent q) refl (ap is_asking first.asked) refl goes_on goes_still (inr refl) reads_none
 
-pub done_asking : DoneKeepsAsking
-done_asking g fixed takes member x s a v asks w e t m z row is head k silent q = done_world g fixed takes member x s a v asks w e t m row head k silent q control
+pub done_keeps_asking : DoneKeepsAsking
+done_keeps_asking g fixed takes member x s a v asks w e t m z row is head k silent q = done_world g fixed takes member x s a v asks w e t m row head k silent q control
   where
     due : IsHarvestDue (driver_parts w) e t (founds.Ended m lines.Done)
     due = is_due g fixed takes member x s a v asks w e t m lines.Done row head k q

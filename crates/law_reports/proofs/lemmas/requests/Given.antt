@@ -31,7 +31,7 @@ use Rattle.law_devices.specs.declared_controls.Opened.{stages_of, HasItsControl,
 use Rattle.claims_report.specs.Controls.{is_of_hub}
 use Rattle.law_devices.specs.declared_controls.Names.{HasItsName, NamesLine}
 use Rattle.law_devices.specs.declared_controls.Requests.{AsksLine}
-use Rattle.law_devices.proofs.lemmas.declared_controls.Controls.{spelled_controls, spelled_names, spelled_requests}
+use Rattle.law_devices.proofs.lemmas.declared_controls.Controls.{texts_open_controls, texts_name_endpoints, texts_ask_requests}
 use Rattle.law_devices.proofs.lemmas.declared_controls.Drafts.{has_hub, IsToldLine, IsToldDraft, after_told}
 use Rattle.law_devices.proofs.lemmas.declared_controls.Requests.{IsEight, form_eight}
 use Rattle.law_devices.proofs.lemmas.declared_controls.Texts.{is_ranged, spelled_kept}
@@ -170,5 +170,5 @@ lines_give s (l ∷ ls) only control named asks addressed device = (
 pub texts_ask : TextsAsk
 texts_ask text s spelled of = record {
   asynchronous = spelled_asynchronous text s spelled of.only;
-  given = lines_give s s.lines of.only (spelled_controls text s spelled) (spelled_names text s spelled).opened (spelled_requests text s spelled) (spelled_addressed text s spelled) of.devices;
+  given = lines_give s s.lines of.only (texts_open_controls text s spelled) (texts_name_endpoints text s spelled).opened (texts_ask_requests text s spelled) (spelled_addressed text s spelled) of.devices;
 }

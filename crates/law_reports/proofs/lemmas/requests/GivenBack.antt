@@ -21,7 +21,7 @@ use Rattle.drv_table.specs.Rows.{driver_row, after_driver_row}
 use Rattle.drv_table.specs.Releases.{after_endpoint, cancel_told, cancelled_bytes, is_told, let_go}
 use Rattle.drv_table.specs.Words.{is_control}
 use Rattle.law_driver.specs.run_owners.Due.{IsDue, IsEndpointDue}
-use Rattle.law_driver.proofs.lemmas.run_owners.Reasons.{each_is_due}
+use Rattle.law_driver.proofs.lemmas.run_owners.Reasons.{each_event_is_due}
 use Rattle.law_driver.specs.endpoint_lives.Lives.{is_one_of, told_end, may_meet}
 use Rattle.law_driver.proofs.lemmas.chained_transfers.Chained.{gone_from}
 use Rattle.law_structures.specs.lent_structures.Structures.{StructureSets}
@@ -35,7 +35,7 @@ use Rattle.law_devices.proofs.Places.{set_here, set_beside}
 use Rattle.law_queues.specs.told_endpoints.Telling.{lines_in}
 use Rattle.law_queues.proofs.lemmas.told_endpoints.Lines.{line_of_other}
 use Rattle.law_queues.proofs.lemmas.told_endpoints.Names.{same_name_is}
-use Rattle.law_driver_ring.proofs.lemmas.told_harvests.Keeping.{done_spared}
+use Rattle.law_driver_ring.proofs.lemmas.told_harvests.Keeping.{spared_is_done}
 use Rattle.bus_world.specs.World.{World, driver_parts, driver_next, with_parts}
 use Rattle.law_world.specs.steps.Streaming.{Streams, Standing}
 use Rattle.law_world.proofs.lemmas.steps.Joining.{heads_stay, elements_stay}
@@ -44,9 +44,9 @@ use Rattle.law_reports.proofs.lemmas.requests.lemmas.driver_requests.RowOrder.{r
 use Rattle.law_reports.specs.requests.Courses.{have_queues, CoursesStand}
 use Rattle.law_reports.proofs.lemmas.requests.Writing.{same_hand, same_side}
 use Rattle.law_reports.specs.requests.Records.{AreRecords}
-use Rattle.law_reports.proofs.lemmas.requests.Rows.{row_recorded}
+use Rattle.law_reports.proofs.lemmas.requests.Rows.{row_keeps_records}
 use Rattle.law_reports.specs.requests.Telling.{IsTelling}
-use Rattle.law_reports.proofs.lemmas.requests.Telling.{other_return}
+use Rattle.law_reports.proofs.lemmas.requests.Telling.{other_returns_keep_telling}
 use Rattle.law_world.specs.streams.Releases.{released}
 use Rattle.law_world.specs.streams.Whole.{IsWhole}
 use Rattle.law_world.proofs.lemmas.streams.LeavingReleased.{leaver, endpoint_release_whole}
@@ -57,7 +57,7 @@ use Rattle.law_reports.proofs.lemmas.requests.Leaving.{idle_quiet, WasEndpoint, 
 use Rattle.law_reports.proofs.lemmas.requests.Beside.{owner_of, stand_beside}
 use Rattle.law_reports.proofs.lemmas.requests.Names.{one_of}
 use Rattle.law_reports.proofs.lemmas.requests.Releasing.{next_is}
-use Rattle.law_reports.proofs.lemmas.requests.Missed.{release_unmissed}
+use Rattle.law_reports.proofs.lemmas.requests.Missed.{release_misses_none}
 
 -- whether a line of the report tells it, the rest of the content is the same
 told_same : {X : Type 0} (f : DriverContent → X) (g d : DriverContent) (b : Bool) → f g ≡ f d → f (if b then g else d) ≡ f d
@@ -94,7 +94,7 @@ module _ (g : Sides) (fixed : Fixed) (takes : ℕ → ℕ → Bool) (member : �
   row_is = ap (after_endpoint (driver_parts w) f) own_here
 
   due : IsEndpointDue (driver_parts w) f
-  due = subst (IsDue (driver_parts w)) row (each_is_due (driver_parts w))
+  due = subst (IsDue (driver_parts w)) row (each_event_is_due (driver_parts w))
 
   unmet : member n ≡ false
   unmet =
@@ -226,7 +226,7 @@ module _ (g : Sides) (fixed : Fixed) (takes : ℕ → ℕ → Bool) (member : �
   recorded =
       gone_by after.driver asks a.courses a.numbers (has_left w.driver) (has_left after.driver) v (λ e on. left_by e (slice_get after.driver.endpoints e) refl on)
       (subst (λ (q : Parts). AreRecords q.driver asks a.courses a.numbers (has_left w.driver) v) row_is
-      (row_recorded (driver_parts w) (rows.ReleaseEndpoint f) asks a.courses a.numbers (has_left w.driver) v other_queue
+      (row_keeps_records (driver_parts w) (rows.ReleaseEndpoint f) asks a.courses a.numbers (has_left w.driver) v other_queue
       (λ j i has few given. let never : ◌≡◌ {A = Option ℕ} None (Some ((a.numbers j).number i)) = given in cc) z.records))
 
   -- ---- what is read
@@ -256,7 +256,7 @@ module _ (g : Sides) (fixed : Fixed) (takes : ℕ → ℕ → Bool) (member : �
             let t = read.data_at has one_left in
             record {
               bytes = t.bytes;
-              done = done_spared s.hand s.hand s.parts now (32 * i.queue) _ _ t.bytes (same_hand s.hand) (heads_stay s.parts now (32 * i.queue) stays) (elements_stay s.parts now (32 * i.queue) _ stays) t.done;
+              done = spared_is_done s.hand s.hand s.parts now (32 * i.queue) _ _ t.bytes (same_hand s.hand) (heads_stay s.parts now (32 * i.queue) stays) (elements_stay s.parts now (32 * i.queue) _ stays) t.done;
             };
         rest = read.rest;
       } in
@@ -285,7 +285,7 @@ module _ (g : Sides) (fixed : Fixed) (takes : ℕ → ℕ → Bool) (member : �
     lines = other_lines i.desc.name (names_apart e i m);
     telling = λ reported waits told.
         subst (λ (q : Parts). IsTelling q.driver asks e i.desc.name (g.whole i.desc.name) v reported waits) row_is
-        (other_return (driver_parts w) f asks e i.desc.name (g.whole i.desc.name) v reported waits (λ same. is_other e i m.is.here m.met.there.kept (sym same))
+        (other_returns_keep_telling (driver_parts w) f asks e i.desc.name (g.whole i.desc.name) v reported waits (λ same. is_other e i m.is.here m.met.there.kept (sym same))
         (λ y here. inl (ap (λ (t : Endpoint). is_same_name t.desc.name i.desc.name) (same_Some y own (sym here ∙ own_here)) ∙ names_apart e i m)) told);
   }
 
@@ -297,7 +297,7 @@ module _ (g : Sides) (fixed : Fixed) (takes : ℕ → ℕ → Bool) (member : �
   -- ---- the world
 
   world : IsAskingWorld g fixed member (released s own) (record { courses = a.courses; numbers = a.numbers }) v asks (with_parts w after)
-  world = world_left g fixed member s a v asks w after leaves z tells unheard member (released s own) a.courses (release_unmissed s.parts (32 * own.queue) (λ i. true) z.unmissed.structures) z.unmissed.in_hand stand recorded (each_still g fixed member s a v asks w after leaves z) reads
+  world = world_left g fixed member s a v asks w after leaves z tells unheard member (released s own) a.courses (release_misses_none s.parts (32 * own.queue) (λ i. true) z.unmissed.structures) z.unmissed.in_hand stand recorded (each_still g fixed member s a v asks w after leaves z) reads
 
   driver_is : after ≡ after_driver_row (driver_row (driver_parts w)) (driver_parts w)
   driver_is = sym row_is ∙ ap (λ (r : DriverRow). after_driver_row r (driver_parts w)) (sym row)
@@ -307,5 +307,5 @@ module _ (g : Sides) (fixed : Fixed) (takes : ℕ → ℕ → Bool) (member : �
       asking_of g fixed takes member x (released s own) (record { courses = a.courses; numbers = a.numbers }) v asks (driver_next w) (endpoint_release_whole fixed takes member x s w f row k)
       (subst (λ (q : Parts). IsAskingWorld g fixed member (released s own) (record { courses = a.courses; numbers = a.numbers }) v asks (with_parts w q)) driver_is world) head
 
-pub endpoint_release_asking : EndpointReleaseKeepsAsking
-endpoint_release_asking g fixed takes member x s a v asks w f row head k z = given_back_world g fixed takes member x s a v asks w f row head k z
+pub endpoint_release_keeps_asking : EndpointReleaseKeepsAsking
+endpoint_release_keeps_asking g fixed takes member x s a v asks w f row head k z = given_back_world g fixed takes member x s a v asks w f row head k z

@@ -8,7 +8,7 @@ use Rattle.law_structures.specs.lent_structures.Structures.{StructureSets}
 use Rattle.law_structures.specs.lent_structures.Sound.{IsMember}
 use Rattle.law_request.specs.Host.{Done}
 use Rattle.law_request.specs.Line.{Line}
-use Rattle.law_request.proofs.Steps.{opens}
+use Rattle.law_request.proofs.Steps.{window_opens}
 use Rattle.claims_report.specs.ControlSides.{Device}
 use Rattle.law_ring.specs.Hand.{Hand}
 use Rattle.law_ring.specs.Ring.{IsInHand}
@@ -70,7 +70,7 @@ module _ (member : ℕ → Bool) (parts : StructureSets) (hand : Hand) (reply : 
       among = λ on. absurd (false≢true (sym idle ∙ on));
       moved = next.none_told;
       device = window.device;
-      stands = opens v.endpoint (v.requests 1) first.host.side.ping first.device window.stands.device_max;
+      stands = window_opens v.endpoint (v.requests 1) first.host.side.ping first.device window.stands.device_max;
     }
 
   -- ---- what is left

@@ -32,7 +32,7 @@ use Rattle.law_driver.specs.run_owners.Due.{IsHarvestDue}
 use Rattle.law_driver.specs.chained_transfers.Out.{out_now}
 use Rattle.law_driver.proofs.lemmas.chained_transfers.Harvesting.{waits_is}
 use Rattle.law_driver.specs.chained_transfers.Turns.{turn_of, turn_in, IsNext, AreReportedTo}
-use Rattle.law_driver_ring.proofs.lemmas.harvested_streams.Harvesting.{token_read}
+use Rattle.law_driver_ring.proofs.lemmas.harvested_streams.Harvesting.{token_is_read}
 use Rattle.law_queues.proofs.lemmas.fed_harvests.Harvests.{unstalled_stands}
 use Rattle.law_queues.proofs.lemmas.fed_harvests.Stalls.{stall_stands}
 use Rattle.law_queues.specs.mended_heads.Stalling.{IsStall}
@@ -56,14 +56,14 @@ use Rattle.law_reports.specs.requests.QueueChanges.{without_requests}
 use Rattle.law_reports.proofs.lemmas.requests.QueueEnding.{request_halts}
 use Rattle.law_reports.specs.requests.Records.{Numbers, IsRecord}
 use Rattle.law_reports.specs.requests.TransferChanges.{all_closed}
-use Rattle.law_reports.proofs.lemmas.requests.TransferChanging.{course_recorded, all_recorded}
+use Rattle.law_reports.proofs.lemmas.requests.TransferChanging.{course_is_recorded, all_are_closed}
 use Rattle.law_reports.specs.requests.Telling.{IsTelling, behind}
-use Rattle.law_reports.proofs.lemmas.requests.Telling.{harvest_told, stall_told}
+use Rattle.law_reports.proofs.lemmas.requests.Telling.{harvest_tells, stall_tells}
 use Rattle.law_world.specs.streams.Whole.{IsWhole}
 use Rattle.law_reports.specs.requests.Asking.{Sides, Asking, has_left, HasTelling, IsAskingWorld}
 use Rattle.law_reports.specs.requests.Reading.{AreSilent, IsAtRequest}
 use Rattle.law_reports.specs.requests.Ended.{ReadsFirst, ended_driver, RequestEnds, HaltEnds}
-use Rattle.law_reports.proofs.lemmas.requests.Reading.{found_is, read_moved, moved_begin}
+use Rattle.law_reports.proofs.lemmas.requests.Reading.{found_is, read_is_moved, moved_begin}
 use Rattle.law_reports.proofs.lemmas.requests.Ended.{less_one, uncancelled_more, met, has, going, on, tells, piece_here, qtd_here, off, reads, uncancelled, kept, new_is, whole_is, tell, telling_first, closed_is}
 
 -- ---- lists
@@ -169,7 +169,7 @@ module _ (g : Sides) (fixed : Fixed) (takes : ℕ → ℕ → Bool) (member : �
   halt =
       let u = (piece_here g fixed takes member x s a v asks w e t as_halted due control k silent j).qtd in
       let same : token_in w.memory due.transfer.place ≡ u.token =
-      token_read w.memory s.parts place due.transfer.place u (tells g fixed takes member x s a v asks w e t as_halted due control k silent j) (qtd_here g fixed takes member x s a v asks w e t as_halted due control k silent j) in
+      token_is_read w.memory s.parts place due.transfer.place u (tells g fixed takes member x s a v asks w e t as_halted due control k silent j) (qtd_here g fixed takes member x s a v asks w e t as_halted due control k silent j) in
       record { done = ap (λ (z : Token). z.active) (sym same) ∙ is_off; halted = ap (λ (z : Token). z.halted) (sym same) ∙ is_halted }
 
   among_by : (b : Bool) → is_stall (lines.Halt cause) ≡ b → IsAmong (32 * due.transfer.place) (out_now w.driver e)
@@ -227,7 +227,7 @@ module _ (g : Sides) (fixed : Fixed) (takes : ℕ → ℕ → Bool) (member : �
         whole_is g fixed takes member x s a v asks w e t as_halted due control k silent j ∙ ap (λ (z : Queue). data_of z.endpoint (z.requests 0)) (ap queue_in asked) in
         subst (IsPrefix (bytes_with (driver_parts w) due.transfer m)) (sym whole)
         (moved_begin q l s.hand s.parts place due.transfer.left (control_of (wired fixed w) q.endpoint.addr q.endpoint.num) (bytes_with (driver_parts w) due.transfer m) stands.queue
-        (read_moved member (driver_parts w) e t m (lines.Halt cause) due s.parts s.hand (q.requests 0) (q.places 0) at))
+        (read_is_moved member (driver_parts w) e t m (lines.Halt cause) due s.parts s.hand (q.requests 0) (q.places 0) at))
 
     pub halts : (c : Option EndCause) → HasTelling new asks e (record due.endpoint { ended = c }) g.whole v (all_closed its_numbers) → RequestEnds g fixed member s a v asks w new e (record due.endpoint { ended = c }) (all_closed (a.numbers (32 * due.endpoint.queue)))
     halts c told = record {
@@ -238,8 +238,8 @@ module _ (g : Sides) (fixed : Fixed) (takes : ℕ → ℕ → Bool) (member : �
       count = refl;
       rests = λ none. refl;
       stand = request_halts control_of member a.courses s.parts s.hand (walk_place (controller_parts w)).walk.reply (wired fixed w) place b q l asked at.on k.feeding.working.streaming.controlled.ring.in_hand stopped j.stand;
-      records = course_recorded new asks a.courses a.numbers (has_left w.driver) v place (Rests (without_requests q) b (l.line l.under).device) (all_closed its_numbers)
-          (all_recorded new asks place b q l (l.line l.under).device its_numbers v s.hand s.parts (control_of (wired fixed w) q.endpoint.addr q.endpoint.num) stands.queue was)
+      records = course_is_recorded new asks a.courses a.numbers (has_left w.driver) v place (Rests (without_requests q) b (l.line l.under).device) (all_closed its_numbers)
+          (all_are_closed new asks place b q l (l.line l.under).device its_numbers v s.hand s.parts (control_of (wired fixed w) q.endpoint.addr q.endpoint.num) stands.queue was)
           (kept g fixed takes member x s a v asks w e t as_halted due control k silent j);
       telling = told;
     }
@@ -270,7 +270,7 @@ module _ (g : Sides) (fixed : Fixed) (takes : ℕ → ℕ → Bool) (member : �
     uncancelled = subst (λ (d : DriverContent). has_cancel (lines_in due.endpoint.desc.name d.reports) ≡ false) (sym (new_is g fixed takes member x s a v asks w e t as_halted due control k silent j))
         (subst (λ (o : Option EndCause). has_cancel (lines_in due.endpoint.desc.name (after_end told_driver e t due.endpoint (is_stall (lines.Halt cause)) o).reports) ≡ false) (sym ends) one_told);
     telling = subst (IsTelling new asks e due.endpoint.desc.name (g.whole due.endpoint.desc.name) v (before_told.reported ++ t ∷ [])) (sym (append-nil rest_of))
-        (harvest_told (driver_parts w) t m (lines.Halt cause) due.endpoint due.transfer asks e t (g.whole due.endpoint.desc.name) v before_told.reported rest_of
+        (harvest_tells (driver_parts w) t m (lines.Halt cause) due.endpoint due.transfer asks e t (g.whole due.endpoint.desc.name) v before_told.reported rest_of
         (record { here = due.here; there = due.there; waits = due.waits }) no_stall refl refl begins_whole (telling_first g fixed takes member x s a v asks w e t as_halted due control k silent j));
   }
     where
@@ -331,7 +331,7 @@ module _ (g : Sides) (fixed : Fixed) (takes : ℕ → ℕ → Bool) (member : �
             (all_behind _ e due.endpoint.desc.name (suc t) _ (one_told g fixed takes member x s a v asks w e t m causes.Stall due control k silent j)));
         telling = subst (λ (ts : List ℕ). IsTelling (ended_driver w e t stalled_found) asks e due.endpoint.desc.name (g.whole due.endpoint.desc.name) v (was_told.reported ++ t ∷ ts) []) all
             (subst (IsTelling (ended_driver w e t stalled_found) asks e due.endpoint.desc.name (g.whole due.endpoint.desc.name) v (was_told.reported ++ t ∷ take b left)) none
-            (stall_told (driver_parts w) t m due.endpoint due.transfer asks e t (g.whole due.endpoint.desc.name) v was_told.reported left (record { here = due.here; there = due.there; waits = due.waits })
+            (stall_tells (driver_parts w) t m due.endpoint due.transfer asks e t (g.whole due.endpoint.desc.name) v was_told.reported left (record { here = due.here; there = due.there; waits = due.waits })
             (ap is_control control) (begins_whole g fixed takes member x s a v asks w e t m causes.Stall due control k silent j) (telling_first g fixed takes member x s a v asks w e t stalled_found due control k silent j)));
       }
 

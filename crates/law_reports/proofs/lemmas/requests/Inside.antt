@@ -23,7 +23,7 @@ use Rattle.law_reports.specs.requests.driver_requests.Rows.{KeepsRequests}
 use Rattle.law_reports.specs.requests.Courses.{CoursesStand}
 use Rattle.law_reports.specs.requests.Records.{AreRecords}
 use Rattle.law_reports.specs.requests.Counts.{counted_all}
-use Rattle.law_reports.proofs.lemmas.requests.Rows.{kept_recorded}
+use Rattle.law_reports.proofs.lemmas.requests.Rows.{accepted_keeps_records}
 use Rattle.law_reports.specs.requests.Asking.{Sides, IsGiven, Asking, has_left, is_next_of, HasCourse, IsPublishing, IsReadTo, HasTelling, IsUnopened, IsUnheard, IsControlOf, IsMetControl, IsAskingWorld}
 use Rattle.law_reports.specs.requests.Missed.{MissNone}
 
@@ -107,7 +107,7 @@ module _ (g : Sides) (member : ℕ → Bool) (parts now : StructureSets) (hand :
       → AsksIn g member now hand a v asks onward new wire
   goes_on unmissed stand publishing read = record {
     stand = stand;
-    records = kept_recorded d onward asks a.courses a.numbers (has_left d) v (same_requests d book made d.command) refl q.records;
+    records = accepted_keeps_records d onward asks a.courses a.numbers (has_left d) v (same_requests d book made d.command) refl q.records;
     each = λ e x is.
         let k = q.each e x (met_before e x is) in
         record { queue = k.queue; endpoint = k.endpoint; number = k.number; tail = k.tail; count = k.count; newest = k.newest; next = k.next; ended = k.ended; owed = k.owed };

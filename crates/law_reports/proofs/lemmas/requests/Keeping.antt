@@ -24,14 +24,14 @@ use Rattle.law_ring.specs.Front.{SameRest}
 use Rattle.law_ring.specs.Sparing.{SparesElement}
 use Rattle.law_ring.specs.Told.{Told, endpoint_of, Endpoint as Characteristics}
 use Rattle.law_ring.proofs.Ordering.{not_worked, works_by}
-use Rattle.law_ring.proofs.SparedSparing.{spared_told}
+use Rattle.law_ring.proofs.SparedSparing.{spared_is_told}
 use Rattle.law_devices.specs.ring_requests.Laid.{Places, IsPlace, IsIdle, IsLinkBehind, LeadBehind, Leads, HasBytes, IsStage, IsFresh}
 use Rattle.law_devices.specs.ring_requests.Shown.{hand_side, pointer_at, AreFresh, IsPending, Shows, IsAmong}
 use Rattle.law_devices.specs.ring_requests.Shown.Shows.{works, waits, ends, halts}
 use Rattle.law_devices.specs.ring_requests.Windows.{Queue, sent_at, Lines, IsWindow, IsFinished, IsBehind, IsQueue}
 use Rattle.law_devices.specs.ring_requests.Resting.{IsAtRest, HeadStays}
 use Rattle.law_devices.proofs.lemmas.ring_requests.Stages.{pointer_same}
-use Rattle.law_devices.proofs.lemmas.ring_requests.RestingSpared.{endpoint_same, host_same, rest_spared}
+use Rattle.law_devices.proofs.lemmas.ring_requests.RestingSpared.{endpoint_same, host_same, rest_is_spared}
 use Rattle.law_reports.specs.requests.Courses.{AreInLine, IsAsking, IsResting}
 use Rattle.law_reports.specs.requests.Spared.{KeepsBuffer, KeepsQtds, KeepsQueue}
 
@@ -135,7 +135,7 @@ module _ (v : Queue) (b : ℕ) (hand later : Hand) (parts now : StructureSets) (
     spares_data = record { element = λ t here. qtds.place i Data t few here; bytes = λ t here. (qtds.buffer i Data t few here).bytes }
 
     pub told_kept : (xs : List ℕ) → Told hand parts n (v.places i).data_at xs → Told later now n (v.places i).data_at xs
-    told_kept xs told = spared_told hand later parts now n (v.places i).data_at xs keeps.same keeps.overlay spares_data told
+    told_kept xs told = spared_is_told hand later parts now n (v.places i).data_at xs keeps.same keeps.overlay spares_data told
 
     -- ---- what is shown
 
@@ -225,7 +225,7 @@ module _ (v : Queue) (b : ℕ) (hand later : Hand) (parts now : StructureSets) (
   pub resting_kept : (c : Stages) (o : Option Device) → IsResting v b c hand parts n o → IsResting v b c later now n o
   resting_kept c o k =
       let head : HeadStays (parts n) (now n) n = keeps.head in
-      let rest : IsAtRest v.endpoint c b later now n o = rest_spared v.endpoint c b n hand later parts now o keeps.side head keeps.tail k.rest in
+      let rest : IsAtRest v.endpoint c b later now n o = rest_is_spared v.endpoint c b n hand later parts now o keeps.side head keeps.tail k.rest in
       let queue : head.queue ≡ k.rest.queue = found_queue (parts n n) head.queue k.rest.queue head.here k.rest.head in
       let new : rest.queue ≡ head.later = found_queue (now n n) rest.queue head.later rest.head head.there in
       record {

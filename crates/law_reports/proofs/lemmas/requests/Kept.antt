@@ -35,19 +35,19 @@ use Rattle.bus_world.specs.World.{World}
 use Rattle.bus_world.specs.Budgets.{moment}
 use Rattle.claims_world.specs.Streams.{report_of}
 use Rattle.law_world.specs.streams.taken_reports.Seats.{AreApart}
-use Rattle.law_world.proofs.lemmas.streams.lemmas.taken_reports.Seating.{moment_seated}
+use Rattle.law_world.proofs.lemmas.streams.lemmas.taken_reports.Seating.{moment_is_seated}
 use Rattle.claims_driver.specs.Scripts.{IsKindOf}
-use Rattle.law_queues.proofs.lemmas.leaving_drivers.Unmet.{gone_unmet}
-use Rattle.law_world.proofs.lemmas.streams.lemmas.put_laws.Rising.{spelled_rise}
+use Rattle.law_queues.proofs.lemmas.leaving_drivers.Unmet.{gone_are_unmet}
+use Rattle.law_world.proofs.lemmas.streams.lemmas.put_laws.Rising.{texts_rise}
 use Rattle.law_queues.proofs.lemmas.told_endpoints.Names.{name_is_same, driver_name}
 use Rattle.claims_world.specs.Requests.{wired, Windows, windows_at, asks_at, numbers_of, window_at, windows_of, AreOnce, opens, IsOpenControl, report_at, windows_then, RequestsAreKept}
 use Rattle.law_reports.proofs.lemmas.requests.lemmas.told_requests.Claims.{report_numbers, report_tells, report_counts}
-use Rattle.law_reports.proofs.lemmas.requests.lemmas.told_requests.Moments.{moment_asks}
+use Rattle.law_reports.proofs.lemmas.requests.lemmas.told_requests.Moments.{moments_ask}
 use Rattle.law_reports.specs.requests.Courses.{Asks, IsCourse}
 use Rattle.law_reports.specs.requests.Records.{IsOnceAt}
 use Rattle.law_reports.proofs.lemmas.requests.TransferChanging.{once_by}
 use Rattle.law_reports.proofs.lemmas.requests.Counts.{counts_are_acts}
-use Rattle.law_reports.proofs.lemmas.requests.Telling.{telling_told}
+use Rattle.law_reports.proofs.lemmas.requests.Telling.{telling_is_told}
 use Rattle.law_world.specs.steps.Takers.{takes_of}
 use Rattle.law_world.specs.streams.Feeding.{streams_of}
 use Rattle.law_reports.specs.requests.Asking.{Sides, HasAskingWorld, has_left, left_with, IsCounted as IsCountedNow, IsMetControl}
@@ -122,7 +122,7 @@ module _ (g : Sides) (fixed : Fixed) (takes : ℕ → ℕ → Bool) (stream : �
       false≢true (sym k.opened ∙ ap (λ (c : Option Command). opens c x.queue && not x.gone) is ∙ ap (λ (b : Bool). b && not x.gone) (eq-eqb x.queue x.queue refl) ∙ ap not kept)
 
   held : may_meet w.driver e x ≡ true → (b : Bool) → x.gone ≡ b → x.gone ≡ false
-  held near true is = absurd (true≢false (sym near ∙ gone_unmet w.driver e x h.whole.feeding.working.place.sound.owners k.here is))
+  held near true is = absurd (true≢false (sym near ∙ gone_are_unmet w.driver e x h.whole.feeding.working.place.sound.owners k.here is))
   held near false is = is
 
   met : may_meet w.driver e x ≡ true → IsMetControl w.driver e x
@@ -165,7 +165,7 @@ module _ (g : Sides) (fixed : Fixed) (takes : ℕ → ℕ → Bool) (stream : �
   pub lines_tell : x.cancelled ≡ false → AreTold (g.whole x.desc.name) (report_of fixed w).store (windows_of w.driver asks v e) (lines_of (report_of fixed w) x.desc.name)
   lines_tell going =
       let t = h.world.telling e x (met (or_here x.linked _ (linked going x.linked refl))) going in
-      report_tells fixed w x.desc.name (g.whole x.desc.name) (windows_of w.driver asks v e) _ (telling_told w.driver asks e x.desc.name (g.whole x.desc.name) v t.reported _ t.telling)
+      report_tells fixed w x.desc.name (g.whole x.desc.name) (windows_of w.driver asks v e) _ (telling_is_told w.driver asks e x.desc.name (g.whole x.desc.name) v t.reported _ t.telling)
 
   -- ---- the device counts them
 
@@ -216,7 +216,7 @@ module _ (stays : StaysAsking) (text : List ℕ) (s : Script) (spelled : Spells 
   windows_few : (n e : ℕ) (x : Endpoint) → IsOpenControl (moment s n).world.driver e x → length (windows_then s n e) ≤ 4294967295
   windows_few n e x k =
       let ts : List ℕ = numbers_of (moment s n).world.driver e in
-      let begun = (moment_asks s (spelled_rise text s spelled) n).begin e x k.here k.control in
+      let begun = (moments_ask s (texts_rise text s spelled) n).begin e x k.here k.control in
       let windows = length-map ts (window_at (asks_at s n) (windows_at s n)) in
       let asked_all = length-map ts (asks_at s n) in
       let joined = length-append (map (asks_at s n) ts) begun.0 in
@@ -231,13 +231,13 @@ module _ (stays : StaysAsking) (text : List ℕ) (s : Script) (spelled : Spells 
         once = all_once (sides_of s) (fixed_of s) (takes_of s) (streams_of s).stream (streams_of s).packets (windows_at s n) (asks_at s n) (moment s n).world h e x k;
         told = lines_tell (sides_of s) (fixed_of s) (takes_of s) (streams_of s).stream (streams_of s).packets (windows_at s n) (asks_at s n) (moment s n).world h e x k;
         counted = closing_counts (sides_of s) (fixed_of s) (takes_of s) (streams_of s).stream (streams_of s).packets (windows_at s n) (asks_at s n) (moment s n).world h e x k
-            (moment_seated text s n spelled).apart (windows_few n e x k);
+            (moment_is_seated text s n spelled).apart (windows_few n e x k);
       }
 
   right_at_the_end : (n e : ℕ) (x : Endpoint) → (moment s n).orders ≡ [] → IsOpenControl (moment s n).world.driver e x → x.cancelled ≡ false → AreRightRequests s (report_at s n) x.desc.name (windows_then s n e)
   right_at_the_end n e x over k going =
       let now = kept_at n e x k in
-      record { numbered = report_numbers s n e x (windows_at s n) (spelled_rise text s spelled) over k.here k.control; once = now.once; lines_told = now.told going; counted = now.counted }
+      record { numbered = report_numbers s n e x (windows_at s n) (texts_rise text s spelled) over k.here k.control; once = now.once; lines_told = now.told going; counted = now.counted }
 
 pub keep_requests : StaysAsking → TextsKeepRequests
 keep_requests stays text s spelled of = record { throughout = kept_at stays text s spelled of; at_the_end = right_at_the_end stays text s spelled of }

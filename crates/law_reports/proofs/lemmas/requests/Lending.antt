@@ -35,7 +35,7 @@ use Rattle.law_driver_ring.specs.Pieces.{stage_qtd, IsNewQtd}
 use Rattle.law_driver_ring.specs.Published.{partly, IsPublishable}
 use Rattle.law_driver_ring.specs.TransferLaws.{HasPieces, lent_driver, lent_memory}
 use Rattle.law_driver_ring.specs.Written.{last_block, AwaitsLend}
-use Rattle.law_driver_ring.proofs.lemmas.told_harvests.Keeping.{done_spared}
+use Rattle.law_driver_ring.proofs.lemmas.told_harvests.Keeping.{spared_is_done}
 use Rattle.claims_report.specs.Requests.{Request}
 use Rattle.law_devices.specs.ring_requests.Laid.{Places, AreOthers}
 use Rattle.law_reports.specs.requests.request_bytes.Fresh.{request_places}
@@ -50,8 +50,8 @@ use Rattle.law_reports.specs.requests.Courses.{Course, queue_in, tail_in, Course
 use Rattle.law_reports.specs.requests.Spared.{IsNoRequests, IsLentBeside}
 use Rattle.law_reports.proofs.lemmas.requests.Writing.{lend_spares}
 use Rattle.law_reports.specs.requests.Records.{Numbers}
-use Rattle.law_reports.proofs.lemmas.requests.Apart.{laid_others}
-use Rattle.law_reports.proofs.lemmas.requests.Lent.{request_lent}
+use Rattle.law_reports.proofs.lemmas.requests.Apart.{laid_are_others}
+use Rattle.law_reports.proofs.lemmas.requests.Lent.{request_is_lent}
 use Rattle.law_world.specs.streams.LendFeeds.{LendsTransfer}
 use Rattle.law_world.specs.streams.Whole.{IsWhole}
 use Rattle.law_world.proofs.lemmas.streams.Lending.{lends, after_lend}
@@ -255,7 +255,7 @@ module _ (g : Sides) (fixed : Fixed) (takes : ℕ → ℕ → Bool) (member : �
         let less = (q.records.each n course.queue).numbered.own.rising i count few within in
         subst (AreOthers ((queue_in c).places i)) places_are
         (subst (λ (p : Places). AreOthers p y) (same_places g member s.parts s.hand a v asks d m (wired fixed w) q has n i course.queue few)
-        (laid_others d (u.number i) (u.number count) (u.requests.requests i) r (u.requests.places i) y has
+        (laid_are_others d (u.number i) (u.number count) (u.requests.requests i) r (u.requests.places i) y has
         (laid_at g member s.parts s.hand a v asks d m (wired fixed w) q has n i course.queue (fewer g member s.parts s.hand a v asks d m (wired fixed w) q has n i course.queue few))
         (laid_at g member s.parts s.hand a v asks d m (wired fixed w) q has n count course.queue within) (λ same. omega (arith, same, less))))
 
@@ -274,7 +274,7 @@ module _ (g : Sides) (fixed : Fixed) (takes : ℕ → ℕ → Bool) (member : �
     coming : IsComing (queue_in (a.courses (32 * z.queue))) r (request_places w.driver.notes h.transfer.first r) (32 * h.transfer.first) (32 * h.endpoint.dummy)
         (stage_qtd w.driver.notes h.stage h.transfer.first h.endpoint.dummy (is_last h.further)) (l.parts (32 * h.endpoint.queue))
     coming =
-        request_lent d m h.number (runs_of_transfer h.transfer) (runs_of_endpoint h.endpoint) h.stage h.further slot s.parts now (queue_in c) r h.awaits held.stages stands
+        request_is_lent d m h.number (runs_of_transfer h.transfer) (runs_of_endpoint h.endpoint) h.stage h.further slot s.parts now (queue_in c) r h.awaits held.stages stands
         (subst (λ (i : ℕ). RequestIsHeld m d.notes i r) (sym h.first) held.held) (pieces_for h.number (runs_of_transfer h.transfer) (runs_of_endpoint h.endpoint) h.stage h.further h.newest h.awaits h.are)
         tells inactive at.request (apart_awaits d m h.number (runs_of_transfer h.transfer) (runs_of_endpoint h.endpoint) h.stage h.further r h.awaits held.stages) others
 
@@ -311,7 +311,7 @@ module _ (g : Sides) (fixed : Fixed) (takes : ℕ → ℕ → Bool) (member : �
             let r = k.data_at some one in
             record {
               bytes = r.bytes;
-              done = done_spared s.hand s.hand s.parts now (32 * z.queue) i (note_at d.notes i).moved r.bytes (same_hand s.hand) (l.heads (32 * z.queue)) (l.elements (32 * z.queue) (32 * i) r.done.qtd r.done.here) r.done;
+              done = spared_is_done s.hand s.hand s.parts now (32 * z.queue) i (note_at d.notes i).moved r.bytes (same_hand s.hand) (l.heads (32 * z.queue)) (l.elements (32 * z.queue) (32 * i) r.done.qtd r.done.here) r.done;
             };
         rest = k.rest;
       }

@@ -17,9 +17,9 @@ use Rattle.claims_report.specs.Requests.{Request}
 use Rattle.law_request.specs.Host.{has_data}
 use Rattle.law_devices.specs.ring_requests.Laid.{Places, IsIdle}
 use Rattle.law_reports.specs.requests.request_bytes.Fresh.{data_places, other_places, next_of, request_places}
-use Rattle.law_reports.proofs.lemmas.requests.lemmas.request_bytes.Fresh.{lent_fresh, positive}
+use Rattle.law_reports.proofs.lemmas.requests.lemmas.request_bytes.Fresh.{lent_request_is_fresh, positive}
 use Rattle.law_reports.proofs.lemmas.requests.lemmas.request_bytes.Requests.{no_data, with_data, request_case}
-use Rattle.law_reports.proofs.lemmas.requests.Coming.{lent_coming}
+use Rattle.law_reports.proofs.lemmas.requests.Coming.{lent_is_coming}
 use Rattle.law_reports.specs.requests.Lent.{RequestIsLent}
 
 abbrev others_of : List Stage → List Stage
@@ -78,8 +78,8 @@ new_end : (notes : List QtdNote) (dummy : ℕ) (ss : List Stage) (b : ℕ) → I
 new_end notes dummy [] b = (refl, refl)
 new_end notes dummy (s ∷ ss) b = inr (new_end notes dummy ss (next_of notes b))
 
-pub request_lent : RequestIsLent
-request_lent d m t y x s ss slot parts now v r k are stands held pieces tells first whole apart others =
+pub request_is_lent : RequestIsLent
+request_is_lent d m t y x s ss slot parts now v r k are stands held pieces tells first whole apart others =
     let n : ℕ = 32 * x.queue in
     let b : ℕ = 32 * y.first in
     let u : Qtd = stage_qtd d.notes s y.first x.dummy (is_last ss) in
@@ -87,10 +87,10 @@ request_lent d m t y x s ss slot parts now v r k are stands held pieces tells fi
     let part : Structures = with_structure (now n) b (Element u) in
     let z : IsSetOut (now n) d.notes y.first x.dummy r (request_places d.notes y.first r) =
     set_out (now n) d.notes y.first x.dummy r s ss are (record { standing = pieces.standing; buffered = pieces.buffered; ends = k.ends }) in
-    let fresh = lent_fresh d m t y x s ss slot parts now part v.endpoint r k are stands held pieces tells (record { here = with_here (now n) b (Element u); before = here; others = λ i differs. with_there (now n) b (Element u) i differs }) in
+    let fresh = lent_request_is_fresh d m t y x s ss slot parts now part v.endpoint r k are stands held pieces tells (record { here = with_here (now n) b (Element u); before = here; others = λ i differs. with_there (now n) b (Element u) i differs }) in
     let end_none : parts n (32 * x.dummy) ≡ None =
     subst (λ (i : ℕ). parts n (32 * i) ≡ None) k.ends (pieces.none_before (32 * last_block d.notes ss (next_of d.notes y.first)) dummy_qtd (new_end d.notes x.dummy ss (next_of d.notes y.first))) in
-    lent_coming v r (request_places d.notes y.first r) b (32 * x.dummy) u part (now n) (record {
+    lent_is_coming v r (request_places d.notes y.first r) b (32 * x.dummy) u part (now n) (record {
       request = whole;
       setup = z.setup;
       behind = z.behind;

@@ -25,7 +25,7 @@ use Rattle.law_structures.proofs.lemmas.lent_structures.Names.{put_same, put_bes
 use Rattle.law_structures.proofs.lemmas.lent_structures.Altering.{found_queue}
 use Rattle.law_queues.specs.mended_heads.Owed.{StalledQueue, mends_at, store_by, store_due, all_left, IsOwed, GoesOnAt}
 use Rattle.law_queues.specs.mended_heads.Mended.{mended_by, IsAtMend, IsMended, IsMendedWhole, mended as mended_head, head_at, driver_mended, parts_then, hand_then}
-use Rattle.law_queues.proofs.lemmas.mended_heads.Row.{mend_row, last_ends, spares_heads, spares_endpoints, spares_elements}
+use Rattle.law_queues.proofs.lemmas.mended_heads.Row.{mend_row, last_mend_ends, mend_spares_heads, mend_spares_endpoints, mend_spares_elements}
 use Rattle.law_queues.proofs.lemmas.mended_heads.Mending.{keeps_endpoint, keeps_halted}
 use Rattle.law_queues.proofs.lemmas.publish_laws.Apart.{thirty_two}
 use Rattle.claims_report.specs.Requests.{Request}
@@ -33,7 +33,7 @@ use Rattle.law_ring.specs.Hand.{Hand, Settled}
 use Rattle.law_ring.specs.Effects.{buffer_of}
 use Rattle.law_ring.specs.Told.{told_bytes, settled_bytes, hand_bytes}
 use Rattle.law_ring.specs.Sparing.{SparesElement}
-use Rattle.law_ring.proofs.SparedSparing.{stale_same}
+use Rattle.law_ring.proofs.SparedSparing.{stale_hand_is_same}
 use Rattle.law_devices.specs.ring_requests.Laid.{Places}
 use Rattle.law_devices.specs.ring_requests.Windows.{Queue, Sent, sent_at}
 use Rattle.law_devices.proofs.lemmas.ring_requests.RestingSpared.{stale_side}
@@ -42,7 +42,7 @@ use Rattle.claims_report.specs.Controls.{control_of}
 use Rattle.law_request.specs.Host.{has_data}
 use Rattle.law_reports.specs.requests.request_bytes.Fresh.{data_places, other_places, request_places, next_of}
 use Rattle.law_driver_ring.specs.told_harvests.Held.{IsDone}
-use Rattle.law_driver_ring.proofs.lemmas.told_harvests.Keeping.{done_spared}
+use Rattle.law_driver_ring.proofs.lemmas.told_harvests.Keeping.{spared_is_done}
 use Rattle.bus_world.specs.World.{World, driver_parts, driver_next, with_parts}
 use Rattle.law_world.specs.steps.Streaming.{Streams, Standing}
 use Rattle.claims_world.specs.Requests.{wired, Windows}
@@ -53,8 +53,8 @@ use Rattle.law_reports.specs.requests.QueueChanges.{first_from, first_in, mended
 use Rattle.law_reports.proofs.lemmas.requests.QueueChanging.{each_with}
 use Rattle.law_reports.proofs.lemmas.requests.QueueMending.{mend_stands, mend_goes_on}
 use Rattle.law_reports.specs.requests.Records.{Numbers, IsRecord, AreRecords}
-use Rattle.law_reports.proofs.lemmas.requests.TransferChanging.{mended_recorded}
-use Rattle.law_reports.proofs.lemmas.requests.Rows.{row_recorded}
+use Rattle.law_reports.proofs.lemmas.requests.TransferChanging.{mended_is_recorded}
+use Rattle.law_reports.proofs.lemmas.requests.Rows.{row_keeps_records}
 use Rattle.law_world.specs.streams.Mends.{mended}
 use Rattle.law_world.proofs.lemmas.streams.FedMending.{mend_finds}
 use Rattle.law_world.specs.streams.Whole.{IsWhole}
@@ -64,7 +64,7 @@ use Rattle.law_reports.specs.requests.Rows.{MendKeepsAsking, IsHeadOfNone}
 use Rattle.law_reports.proofs.lemmas.requests.Has.{asking_of}
 use Rattle.law_reports.proofs.lemmas.requests.Leaving.{idle_quiet, same_endpoint, RowLeaves, gone_by, each_still, world_left}
 use Rattle.law_reports.proofs.lemmas.requests.Beside.{HasOwner, one_queue, owner_of, stand_beside}
-use Rattle.law_reports.proofs.lemmas.requests.Missed.{writing_unmissed, stale_unmissed}
+use Rattle.law_reports.proofs.lemmas.requests.Missed.{writing_misses_none, stale_unmissed}
 
 -- ---- the stores that are left
 
@@ -273,9 +273,9 @@ module _ (g : Sides) (fixed : Fixed) (takes : ℕ → ℕ → Bool) (member : �
 
   beside : have_queues a.courses n ≡ false → CoursesStand control_of member a.courses (parts_then at) (hand_then at s.hand) (wired fixed w)
   beside none =
-      stand_beside control_of s.parts (parts_then at) s.hand (hand_then at s.hand) (wired fixed w) (λ j. stale_side n j s.hand) (stale_same n s.hand) member a.courses
+      stand_beside control_of s.parts (parts_then at) s.hand (hand_then at s.hand) (wired fixed w) (λ j. stale_side n j s.hand) (stale_hand_is_same n s.hand) member a.courses
       (λ j has. put_beside s.parts n n (QueueHead new) j (λ same. false≢true (sym none ∙ ap (have_queues a.courses) (sym same) ∙ has)))
-      (λ j own met has. spares_endpoints (driver_parts w) s.parts s.out at j own has) z.stand
+      (λ j own met has. mend_spares_endpoints (driver_parts w) s.parts s.out at j own has) z.stand
 
   abbrev here : s.parts n n ≡ Some (QueueHead (head_at at))
   here = at.are.wait.0.stands.here
@@ -306,7 +306,7 @@ module _ (g : Sides) (fixed : Fixed) (takes : ℕ → ℕ → Bool) (member : �
   -- ---- what is read
 
   element : (j e : ℕ) → SparesElement s.parts (parts_then at) j e
-  element j e = spares_elements (driver_parts w) s.parts s.out at j e
+  element j e = mend_spares_elements (driver_parts w) s.parts s.out at j e
 
   done_own : (u : Queue) (b : ℕ) (c : Stages) → a.courses n ≡ Rests u b c → (i bytes : ℕ) (xs : List ℕ) → IsDone s.hand s.parts n i bytes xs → IsDone (hand_then at s.hand) (parts_then at) n i bytes xs
   done_own u b c is i bytes xs d =
@@ -325,7 +325,7 @@ module _ (g : Sides) (fixed : Fixed) (takes : ℕ → ℕ → Bool) (member : �
       subst (λ (h : ℕ). IsDone (hand_then at s.hand) (parts_then at) h i bytes xs) (sym same)
       (done_by (a.courses n) there (off there) refl i bytes xs (subst (λ (h : ℕ). IsDone s.hand s.parts h i bytes xs) same d)))
       (λ (differs : j ≢ n).
-      done_spared s.hand (hand_then at s.hand) s.parts (parts_then at) j i bytes xs (stale_same n s.hand) (spares_heads (driver_parts w) s.parts s.out at j differs) (element j (32 * i)) d) (cases_eq j n)
+      spared_is_done s.hand (hand_then at s.hand) s.parts (parts_then at) j i bytes xs (stale_hand_is_same n s.hand) (mend_spares_heads (driver_parts w) s.parts s.out at j differs) (element j (32 * i)) d) (cases_eq j n)
 
   reads : (e t : ℕ) (y : Endpoint) (tr : Transfer) → IsMetControl (driver_mended w.driver) e y → told_end y ≡ None → y.next ≡ Some t → slice_get w.driver.transfers t ≡ Some tr
       → IsReadTo (hand_then at s.hand) (parts_then at) (32 * y.queue) (note_at w.driver.notes) tr ((a.numbers (32 * y.queue)).requests.requests 0)
@@ -344,7 +344,7 @@ module _ (g : Sides) (fixed : Fixed) (takes : ℕ → ℕ → Bool) (member : �
   recorded =
       gone_by (driver_mended w.driver) asks a.courses a.numbers (has_left w.driver) (has_left (driver_mended w.driver)) v (λ e on. on)
       (subst (λ (c : DriverContent). AreRecords c asks a.courses a.numbers (has_left w.driver) v) is_mended.driver
-      (row_recorded (driver_parts w) (driver_row (driver_parts w)) asks a.courses a.numbers (has_left w.driver) v
+      (row_keeps_records (driver_parts w) (driver_row (driver_parts w)) asks a.courses a.numbers (has_left w.driver) v
       (λ j has. subst (λ (r : DriverRow). KeepsEndpoint r (a.numbers j).endpoint) (sym row) tt)
       (λ j i has few given. let never : ◌≡◌ {A = Option ℕ} None (Some ((a.numbers j).number i)) = ap given_by (sym row) ∙ given in cc) z.records))
 
@@ -361,7 +361,7 @@ module _ (g : Sides) (fixed : Fixed) (takes : ℕ → ℕ → Bool) (member : �
       (sym is_mended.driver)
       (world_left g fixed member s a v asks w then_parts leaves z (λ e y c. record { lines = refl; telling = λ reported waits t. record { numbers = t.numbers; told = t.told; wait = t.wait } }) (λ name u. refl)
       member (mended s at) courses
-      (writing_unmissed s.parts (32 * at.stalled.queue) (32 * at.stalled.queue) (QueueHead (mended_head at.stalled (head_at at)))
+      (writing_misses_none s.parts (32 * at.stalled.queue) (32 * at.stalled.queue) (QueueHead (mended_head at.stalled (head_at at)))
       (mended_unmissed at.stalled.onward at.stalled.made (head_at at) (z.unmissed.structures.heads (32 * at.stalled.queue) (head_at at) at.are.wait.0.stands.here)) z.unmissed.structures)
       (stale_unmissed (32 * at.stalled.queue) s.hand z.unmissed.in_hand) stand records each reads)) head
 
@@ -371,7 +371,7 @@ module _ (g : Sides) (fixed : Fixed) (takes : ℕ → ℕ → Bool) (member : �
   -- the window of the first that waits opens
   module _ (u : Queue) (b : ℕ) (c : Stages) (is : a.courses n ≡ Rests u b c) (has : have_queues a.courses n ≡ true) (last : q.made ≡ 2) where
     whole_now : IsMendedWhole q new
-    whole_now = last_ends (driver_parts w) s.parts s.out at last
+    whole_now = last_mend_ends (driver_parts w) s.parts s.out at last
 
     abbrev course : Course
     course = mended_course u b new.token.ping c
@@ -408,7 +408,7 @@ module _ (g : Sides) (fixed : Fixed) (takes : ℕ → ℕ → Bool) (member : �
         (record {
           each = each_with a.courses n (mended_course u b new.token.ping c)
               (λ (j : ℕ) (r : Course). has_queue r ≡ true → IsRecord (driver_mended w.driver) asks j r (a.numbers j) v)
-              (λ on. mended_recorded (driver_mended w.driver) asks n b u c new.token.ping (a.numbers n) v
+              (λ on. mended_is_recorded (driver_mended w.driver) asks n b u c new.token.ping (a.numbers n) v
               (subst (λ (r : Course). IsRecord (driver_mended w.driver) asks n r (a.numbers n) v) is (recorded.each n has)))
               (λ j differs on. recorded.each j on);
           left = recorded.left;
@@ -427,5 +427,5 @@ module _ (g : Sides) (fixed : Fixed) (takes : ℕ → ℕ → Bool) (member : �
   pub mended_world : HasAskingWorld g fixed takes x.stream x.packets v asks (driver_next w)
   mended_world = by_course (a.courses n) refl
 
-pub mend_asking : MendKeepsAsking
-mend_asking g fixed takes member x s a v asks w m row head k z = mended_world g fixed takes member x s a v asks w m row (mend_finds fixed member x s w m row k.feeding) k head z
+pub mend_keeps_asking : MendKeepsAsking
+mend_keeps_asking g fixed takes member x s a v asks w m row head k z = mended_world g fixed takes member x s a v asks w m row (mend_finds fixed member x s w m row k.feeding) k head z

@@ -42,7 +42,7 @@ use Rattle.law_structures.specs.lent_structures.Changes.{relinked}
 use Rattle.law_structures.specs.lent_structures.Structures.{Structure, QueueHead, Element, StructureSets, Tells, put}
 use Rattle.law_structures.specs.lent_structures.WriteBack.{Received, Nothing, Into, qtd_after, received_parts}
 use Rattle.law_structures.proofs.lemmas.lent_structures.Names.{put_found}
-use Rattle.law_driver_ring.proofs.lemmas.harvested_streams.Harvesting.{token_read}
+use Rattle.law_driver_ring.proofs.lemmas.harvested_streams.Harvesting.{token_is_read}
 use Rattle.law_ring.specs.Hand.{Copy, copied_queue, Settlement, settled_queue_of, Hand, Empty, Copied, Settled, Stale}
 use Rattle.law_ring.specs.Effects.{received_into, Effect}
 use Rattle.law_ring.specs.Effects.Effect.{reads, passes, ends, takes, makes, writes_back}
@@ -76,17 +76,18 @@ made_missed q out reply = row_missed (settle_row (call_in (planned q) out false)
 
 -- ---- what the driver writes
 
-pub head_unmissed : (x : EpDesc) (link dummy : ℕ) → IsUnmissed (QueueHead (queue_head x link dummy))
-head_unmissed x link dummy = refl
+pub new_head_is_unmissed : (x : EpDesc) (link dummy : ℕ) → IsUnmissed (QueueHead (queue_head x link dummy))
+new_head_is_unmissed x link dummy = refl
 
-pub qtd_unmissed : (notes : List QtdNote) (s : Stage) (b dummy : ℕ) (last : Bool) → IsUnmissed (Element (stage_qtd notes s b dummy last))
-qtd_unmissed notes s b dummy last = refl
+pub new_qtd_is_unmissed : (notes : List QtdNote) (s : Stage) (b dummy : ℕ) (last : Bool)
+    → IsUnmissed (Element (stage_qtd notes s b dummy last))
+new_qtd_is_unmissed notes s b dummy last = refl
 
-pub dummy_unmissed : IsUnmissed (Element dummy_qtd)
-dummy_unmissed = refl
+pub dummy_is_unmissed : IsUnmissed (Element dummy_qtd)
+dummy_is_unmissed = refl
 
-pub writing_unmissed : (parts : StructureSets) (n a : ℕ) (s : Structure) → IsUnmissed s → NoneMissed parts → NoneMissed (put parts n a s)
-writing_unmissed parts n a s new none = record {
+pub writing_misses_none : (parts : StructureSets) (n a : ℕ) (s : Structure) → IsUnmissed s → NoneMissed parts → NoneMissed (put parts n a s)
+writing_misses_none parts n a s new none = record {
   heads = λ k q here. by k k (QueueHead q) here (λ was. none.heads k q was);
   elements = λ k b t here. by k b (Element t) here (λ was. none.elements k b t was);
 }
@@ -103,8 +104,8 @@ found_still false o s here = here
 pub fewer_unmissed : (parts now : StructureSets) → ((n a : ℕ) (s : Structure) → now n a ≡ Some s → parts n a ≡ Some s) → NoneMissed parts → NoneMissed now
 fewer_unmissed parts now was none = record { heads = λ n q here. none.heads n q (was n n (QueueHead q) here); elements = λ n a t here. none.elements n a t (was n a (Element t) here) }
 
-pub release_unmissed : (parts : StructureSets) (n : ℕ) (goes : ℕ → Bool) → NoneMissed parts → NoneMissed (without_those parts n goes)
-release_unmissed parts n goes none = fewer_unmissed parts (without_those parts n goes) (λ k a s here. by k a s (k == n) here) none
+pub release_misses_none : (parts : StructureSets) (n : ℕ) (goes : ℕ → Bool) → NoneMissed parts → NoneMissed (without_those parts n goes)
+release_misses_none parts n goes none = fewer_unmissed parts (without_those parts n goes) (λ k a s here. by k a s (k == n) here) none
   where
     by : (k a : ℕ) (s : Structure) (own : Bool) → cond own (λ (b : ℕ). if goes b then None else parts k b) (parts k) a ≡ Some s → parts k a ≡ Some s
     by k a s true there = found_still (goes a) (parts k a) s there
@@ -167,23 +168,23 @@ after_unmissed c t false new old = new
 
 received_unmissed : (parts : StructureSets) (n : ℕ) (got : List ℕ) (r : Received) → NoneMissed parts → NoneMissed (received_parts parts n got r)
 received_unmissed parts n got Nothing none = none
-received_unmissed parts n got (Into pages k bs j) none = writing_unmissed parts n _ _ tt none
+received_unmissed parts n got (Into pages k bs j) none = writing_misses_none parts n _ _ tt none
 
-pub walk_unmissed : {W : Type 0} (transacts : W → Ask → List ℕ → Reply → W → Type 0) (parts : StructureSets) (hand : Hand) (wire after : W) (now : StructureSets) (later : Hand) (kind : WalkStep)
+pub walk_misses_none : {W : Type 0} (transacts : W → Ask → List ℕ → Reply → W → Type 0) (parts : StructureSets) (hand : Hand) (wire after : W) (now : StructureSets) (later : Hand) (kind : WalkStep)
     → Effect transacts parts hand wire after now later kind → NoneMissed parts → MissesNone hand → NoneMissed now × MissesNone later
-walk_unmissed transacts parts hand wire after now later kind (reads k same quiet) none had =
+walk_misses_none transacts parts hand wire after now later kind (reads k same quiet) none had =
     (subst NoneMissed (sym same) none, subst MissesNone (sym k.in_hand) (none.heads k.copy.at k.copy.queue k.here))
-walk_unmissed transacts parts hand wire after now later kind (passes k same quiet) none had = (subst NoneMissed (sym same) none, subst MissesNone (sym k.nothing) tt)
-walk_unmissed transacts parts hand wire after now later kind (ends k same quiet) none had = (subst NoneMissed (sym same) none, subst MissesNone (sym k.nothing) tt)
-walk_unmissed transacts parts hand wire after now later kind (takes k quiet) none had =
+walk_misses_none transacts parts hand wire after now later kind (passes k same quiet) none had = (subst NoneMissed (sym same) none, subst MissesNone (sym k.nothing) tt)
+walk_misses_none transacts parts hand wire after now later kind (ends k same quiet) none had = (subst NoneMissed (sym same) none, subst MissesNone (sym k.nothing) tt)
+walk_misses_none transacts parts hand wire after now later kind (takes k quiet) none had =
     let c = k.copy in
     let q = advanced c.queue k.element k.qtd in
     let new : q.token.missed ≡ false = advanced_missed c.queue k.element k.qtd ∙ none.elements c.at k.element k.qtd k.here in
-    (subst NoneMissed (sym k.now_is) (writing_unmissed parts c.at c.at (QueueHead q) new none), subst MissesNone (sym k.later_is) new)
-walk_unmissed transacts parts hand wire after now later kind (makes k same) none had =
+    (subst NoneMissed (sym k.now_is) (writing_misses_none parts c.at c.at (QueueHead q) new none), subst MissesNone (sym k.later_is) new)
+walk_misses_none transacts parts hand wire after now later kind (makes k same) none had =
     let was : k.copy.queue.token.missed ≡ false = subst MissesNone k.in_hand had in
     (subst NoneMissed (sym same) none, subst MissesNone (sym k.later_is) (made_missed k.copy.queue k.out k.reply ∙ was))
-walk_unmissed transacts parts hand wire after now later kind (writes_back k quiet) none had =
+walk_misses_none transacts parts hand wire after now later kind (writes_back k quiet) none had =
     let c = k.copy in
     let s = k.settled in
     let was : s.host.missed ≡ false = subst MissesNone k.in_hand had in
@@ -195,8 +196,8 @@ walk_unmissed transacts parts hand wire after now later kind (writes_back k quie
     let two = put one c.at c.at (QueueHead (relinked c.queue q)) in
     let old : k.element.token.missed ≡ false = none.elements c.at c.queue.current k.element k.here in
     let all : NoneMissed (put two c.at h.current (Element (qtd_after q k.element))) =
-    writing_unmissed two c.at h.current (Element (qtd_after q k.element)) (after_unmissed q k.element q.token.active new old)
-    (writing_unmissed one c.at c.at (QueueHead (relinked c.queue q)) new (received_unmissed parts c.at s.got r none)) in
+    writing_misses_none two c.at h.current (Element (qtd_after q k.element)) (after_unmissed q k.element q.token.active new old)
+    (writing_misses_none one c.at c.at (QueueHead (relinked c.queue q)) new (received_unmissed parts c.at s.got r none)) in
     (subst NoneMissed (sym k.now_is) all, subst MissesNone (sym k.nothing) tt)
 
 -- ---- a harvest
@@ -217,12 +218,12 @@ found_unmissed false true done k n what halt is not same = let told : halt ≡ w
 found_unmissed false false true k n what halt is not same = absurd (cc)
 found_unmissed false false false k n what halt is not same = absurd (cc)
 
-pub harvest_unmissed : (p : Parts) (e t k n : ℕ) (what : What) (due : IsHarvestDue p e t (founds.Ended k what)) (parts : StructureSets) (u : Qtd) → OnlyAsynchronous p.driver → Tells p.memory parts
+pub harvest_misses_none : (p : Parts) (e t k n : ℕ) (what : What) (due : IsHarvestDue p e t (founds.Ended k what)) (parts : StructureSets) (u : Qtd) → OnlyAsynchronous p.driver → Tells p.memory parts
     → parts n (32 * due.transfer.place) ≡ Some (Element u) → NoneMissed parts → what ≢ lines.Miss
-harvest_unmissed p e t k n what due parts u only tells here none =
+harvest_misses_none p e t k n what due parts u only tells here none =
     let y = due.transfer in
     let note = note_at p.driver.notes y.place in
     let token = token_in p.memory y.place in
     let is : founds.Ended k what ≡ found_in y.sort (nat_le y.left 1) note token = due.tells ∙ found_by p.driver p.memory y y.sort (moves_queued p.driver y (only.moves t y due.there)) in
-    let unset : token.missed ≡ false = ap (λ (z : Token). z.missed) (token_read p.memory parts n y.place u tells here) ∙ none.elements n (32 * y.place) u here in
+    let unset : token.missed ≡ false = ap (λ (z : Token). z.missed) (token_is_read p.memory parts n y.place u tells here) ∙ none.elements n (32 * y.place) u here in
     found_unmissed token.active token.halted (ends_by y.sort (nat_le y.left 1) token.total) k (moved_of note.told token.total) what (halt_of token) is (halt_unmissed token unset)

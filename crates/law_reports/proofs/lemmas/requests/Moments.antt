@@ -29,8 +29,8 @@ use Rattle.law_reports.specs.requests.AskingLaws.{NewWorldAsks, ControllerKeepsA
 use Rattle.law_reports.specs.requests.WorldLaws.{CommandKeepsAsking, DriverKeepsAsking}
 use Rattle.law_reports.specs.requests.Moments.{IsAskingScript, ScriptsStayAsking}
 use Rattle.law_reports.specs.requests.Reading.{AreSilent}
-use Rattle.law_reports.proofs.lemmas.requests.Silent.{row_silent}
-use Rattle.law_reports.proofs.lemmas.requests.SilentCommands.{command_silent}
+use Rattle.law_reports.proofs.lemmas.requests.Silent.{row_keeps_silent}
+use Rattle.law_reports.proofs.lemmas.requests.SilentCommands.{command_keeps_silent}
 
 pub record StaysAsking : Type 0 where
   pub opening : NewWorldAsks
@@ -113,7 +113,7 @@ module _ (k : StaysAsking) where
       record {
         asked = goes_on s w (driver_next w) v v asks asks h (event_named w)
             (k.driver (sides_of s) (fixed_of s) h.outs h.member (with_streams s w v asks h) h.standing h.asking v asks w h.whole h.head z.silent h.world);
-        silent = row_silent (driver_parts w) h.whole.feeding.turns.asynchronous z.silent;
+        silent = row_keeps_silent (driver_parts w) h.whole.feeding.turns.asynchronous z.silent;
       }
 
   controller_kept : (s : Script) (w : World) (v : Windows) (asks : ℕ → Request) → StandsAsked s w v asks → StandsAsked s (controller_next (fixed_of s) w) (after_event (fixed_of s) w v) asks
@@ -132,7 +132,7 @@ module _ (k : StaysAsking) where
         asked = goes_on s w (commanded w line cmd) v v asks (asks_then w.driver cmd asks) h (command_named w line cmd h.whole.feeding.turns c.can.0)
             (k.command (sides_of s) (fixed_of s) h.outs h.member (with_streams s w v asks h) h.standing h.asking v asks w line cmd c.can.0
             (λ o accepted. opens_still s w (whole_in s w v asks h) cmd o c.can.0 c.can.1 accepted) c.can.2 c.can.3 c.bytes c.given offer h.whole h.head h.world);
-        silent = command_silent w line cmd c.can.0 h.whole.feeding.turns h.whole.feeding.working.place.sound.owners h.whole.feeding.working.place.sound.stands z.silent;
+        silent = command_keeps_silent w line cmd c.can.0 h.whole.feeding.turns h.whole.feeding.working.place.sound.owners h.whole.feeding.working.place.sound.stands z.silent;
       }
 
   stands_asked : (s : Script) → IsAskingScript s → (n : ℕ) → StandsAsked s (moment s n).world (windows_at s n) (asks_at s n)

@@ -35,13 +35,13 @@ use Rattle.bus_world.specs.World.{World, driver_parts, driver_next, with_parts}
 use Rattle.law_world.specs.steps.Streaming.{Streams, Standing}
 use Rattle.claims_world.specs.Requests.{Windows, numbers_of}
 use Rattle.law_reports.specs.requests.told_requests.Waiting.{waiting}
-use Rattle.law_reports.proofs.lemmas.requests.lemmas.told_requests.WaitingHarvests.{other_harvest_waits, harvest_keeps_waits}
+use Rattle.law_reports.proofs.lemmas.requests.lemmas.told_requests.WaitingHarvests.{other_harvest_keeps_waiting, harvest_keeps_waiting}
 use Rattle.law_reports.proofs.lemmas.requests.lemmas.driver_requests.Owning.{qtds_case}
 use Rattle.law_reports.proofs.lemmas.requests.lemmas.driver_requests.RowOrder.{row_numbers}
 use Rattle.law_reports.specs.requests.Courses.{queue_in}
 use Rattle.law_reports.specs.requests.Counts.{counted_all}
 use Rattle.law_reports.specs.requests.Records.{AreRecords}
-use Rattle.law_reports.proofs.lemmas.requests.Rows.{row_recorded}
+use Rattle.law_reports.proofs.lemmas.requests.Rows.{row_keeps_records}
 use Rattle.law_world.specs.streams.HarvestFeeds.{HarvestLeaves}
 use Rattle.law_queues.specs.standing_fronts.Tails.{tail_of, tail_block}
 use Rattle.law_world.proofs.lemmas.streams.Told.{control_kind}
@@ -52,7 +52,7 @@ use Rattle.law_reports.specs.requests.Reading.{AreSilent}
 use Rattle.law_reports.specs.requests.Ended.{ReadsFirst, ended_driver}
 use Rattle.law_reports.specs.requests.Moves.{MovedKeepsAsking}
 use Rattle.law_reports.proofs.lemmas.requests.Has.{asking_of}
-use Rattle.law_reports.proofs.lemmas.requests.Reading.{moved_read}
+use Rattle.law_reports.proofs.lemmas.requests.Reading.{moved_is_read}
 use Rattle.law_reports.proofs.lemmas.requests.Ended.{reads, same_sent}
 use Rattle.law_reports.proofs.lemmas.requests.Missed.{idle_misses}
 
@@ -131,8 +131,8 @@ module _ (g : Sides) (fixed : Fixed) (takes : ℕ → ℕ → Bool) (member : �
       sym (ap (λ (d : DriverContent). waiting d i) f_is)
       ∙ ⊎_elim {C = waiting (ended_driver w e t (founds.Moved n)) i ≡ waiting w.driver i}
       (λ (same : i ≡ e). subst (λ (u : ℕ). waiting (ended_driver w e t (founds.Moved n)) u ≡ waiting w.driver u) (sym same)
-      (harvest_keeps_waits (driver_parts w) e t n is_due.endpoint is_due.transfer (record { here = is_due.here; there = is_due.there; waits = is_due.waits })).1)
-      (λ (differs : i ≢ e). other_harvest_waits (driver_parts w) e t (founds.Moved n) i (λ is. differs (sym is))) (cases_eq i e)
+      (harvest_keeps_waiting (driver_parts w) e t n is_due.endpoint is_due.transfer (record { here = is_due.here; there = is_due.there; waits = is_due.waits })).1)
+      (λ (differs : i ≢ e). other_harvest_keeps_waiting (driver_parts w) e t (founds.Moved n) i (λ is. differs (sym is))) (cases_eq i e)
 
   numbers_then : (i : ℕ) → numbers_of f i ≡ numbers_of w.driver i
   numbers_then i = sym (ap (λ (d : DriverContent). numbers_of d i) f_is) ∙ row_numbers (driver_parts w) (rows.Harvest e t (founds.Moved n)) i
@@ -156,7 +156,7 @@ module _ (g : Sides) (fixed : Fixed) (takes : ℕ → ℕ → Bool) (member : �
         subst (λ (d : Endpoint). IsReadTo s.hand s.parts (32 * d.queue) (note_at (noted w.driver.notes is_due.transfer.place n)) y ((a.numbers (32 * d.queue)).requests.requests 0)) one
         (subst (λ (d : Transfer). IsReadTo s.hand s.parts (32 * is_due.endpoint.queue) (note_at (noted w.driver.notes is_due.transfer.place n)) d ((a.numbers (32 * is_due.endpoint.queue)).requests.requests 0)) (sym same)
         (subst (IsReadTo s.hand s.parts (32 * is_due.endpoint.queue) (note_at (noted w.driver.notes is_due.transfer.place n)) _) r
-        (moved_read member (driver_parts w) e t n is_due s.parts s.hand (first.queue.requests 0) (first.queue.places 0) first.at)))
+        (moved_is_read member (driver_parts w) e t n is_due s.parts s.hand (first.queue.requests 0) (first.queue.places 0) first.at)))
 
     other_read : u ≢ t → slice_get w.driver.transfers u ≡ Some y
         → IsReadTo s.hand s.parts (32 * z.queue) (note_at (noted w.driver.notes is_due.transfer.place n)) y ((a.numbers (32 * z.queue)).requests.requests 0)
@@ -206,7 +206,7 @@ module _ (g : Sides) (fixed : Fixed) (takes : ℕ → ℕ → Bool) (member : �
 
   records_then : AreRecords f asks a.courses a.numbers (has_left w.driver) v
   records_then = subst (λ (d : DriverContent). AreRecords d asks a.courses a.numbers (has_left w.driver) v) f_is
-      (row_recorded (driver_parts w) (rows.Harvest e t (founds.Moved n)) asks a.courses a.numbers (has_left w.driver) v (λ i has. tt)
+      (row_keeps_records (driver_parts w) (rows.Harvest e t (founds.Moved n)) asks a.courses a.numbers (has_left w.driver) v (λ i has. tt)
       (λ i m has few is. let bad : ◌≡◌ {A = Option ℕ} None (Some ((a.numbers i).number m)) = is in cc) q.records)
 
   asking_moved : IsAskingWorld g fixed member (record s { out = l.out; reported = l.reported }) a v asks (record w { driver = f })
@@ -243,6 +243,6 @@ module _ (g : Sides) (fixed : Fixed) (takes : ℕ → ℕ → Bool) (member : �
   pub whole_then : IsWhole fixed takes member x (record s { out = l.out; reported = l.reported }) (driver_next w)
   whole_then = whole_harvested fixed takes member x s w e t (founds.Moved n) row k l
 
-pub moved_asking : MovedKeepsAsking
-moved_asking g fixed takes member x s a v asks w e t n row head k silent q =
+pub moved_keeps_asking : MovedKeepsAsking
+moved_keeps_asking g fixed takes member x s a v asks w e t n row head k silent q =
     asking_of g fixed takes member x _ a v asks (driver_next w) (whole_then g fixed takes member x s a v asks w e t n row k silent q) (asking_then g fixed takes member x s a v asks w e t n row k silent q) head

@@ -13,7 +13,7 @@ use Rattle.law_devices.specs.ring_requests.Windows.{Queue, Lines, IsQueue, IsEls
 use Rattle.claims_world.specs.Requests.{Windows, numbers_of}
 use Rattle.law_reports.specs.requests.Courses.{Course, NoQueue, Asks, has_queue, queue_in, IsCourse, queues, have_queues, CoursesStand}
 use Rattle.law_reports.specs.requests.Records.{Numbers, IsOnceAt, IsRecord, AreRecords}
-use Rattle.law_reports.proofs.lemmas.requests.TransferChanging.{course_gone}
+use Rattle.law_reports.proofs.lemmas.requests.TransferChanging.{course_is_gone}
 use Rattle.law_reports.specs.requests.Narrowing.{courses_met, CoursesAreMet, HadQueue, HaveGone, RecordsAreMet}
 
 met_by : (b : Bool) (c : Course) → has_queue (if b then c else NoQueue) ≡ true → (b ≡ true) × ((if b then c else NoQueue) ≡ c)
@@ -66,7 +66,7 @@ module _ {W : Type 0} (device : W → ℕ → ℕ → Option Device) (member : �
   module _ (d : DriverContent) (asks : ℕ → Request) (narrow : ℕ → Bool) (numbers : ℕ → Numbers) (gone now : ℕ → Bool) (v : Windows) (leave : HaveGone gone courses numbers now) (rec : AreRecords d asks courses numbers gone v) where
     of_queue : (e : ℕ) → HadQueue courses numbers e → AllByRecursion (IsOnceAt asks v) (numbers_of d e)
     of_queue e h =
-        (course_gone d asks courses numbers gone v h.queue hand parts (asked_at h.queue) rec).left e
+        (course_is_gone d asks courses numbers gone v h.queue hand parts (asked_at h.queue) rec).left e
         (ap (λ (b : Bool). (b && e == (numbers h.queue).endpoint) || gone e) h.has ∙ ap (λ (b : Bool). (true && b) || gone e) (eq-eqb e (numbers h.queue).endpoint (sym h.is)))
 
     pub records_met : AreRecords d asks (courses_met narrow courses) numbers now v

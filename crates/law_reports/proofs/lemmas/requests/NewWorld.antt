@@ -14,8 +14,8 @@ use Rattle.claims_driver.specs.Owners.{TransferRuns, transfer_in, views_of}
 use Rattle.law_structures.specs.lent_structures.Structures.{Structure, Table, QueueHead, Element}
 use Rattle.law_driver_ring.specs.PartOpened.{empty_list, opening_parts, is_head, no_parts, list_parts}
 use Rattle.law_driver_ring.specs.Extents.{AreInRuns}
-use Rattle.law_queues.proofs.lemmas.harvest_laws.Standing.{new_told}
-use Rattle.law_queues.proofs.lemmas.open_names.Apart.{new_apart}
+use Rattle.law_queues.proofs.lemmas.harvest_laws.Standing.{new_is_told}
+use Rattle.law_queues.proofs.lemmas.open_names.Apart.{new_names_are_apart}
 use Rattle.law_world.proofs.lemmas.steps.lemmas.world_bytes.Turning.{opened_bytes}
 use Rattle.bus_world.specs.Rooms.{room_of_script}
 use Rattle.law_world.specs.streams.shared_worlds.Working.{at_opening}
@@ -37,7 +37,7 @@ use Rattle.law_reports.specs.requests.AskingLaws.{IsFirst, NewWorldAsks}
 use Rattle.law_reports.proofs.lemmas.requests.Has.{asking_of}
 use Rattle.law_reports.proofs.lemmas.requests.Names.{named_by}
 use Rattle.law_reports.specs.requests.Missed.{NoneMissed, MissesNone}
-use Rattle.law_reports.proofs.lemmas.requests.Missed.{writing_unmissed}
+use Rattle.law_reports.proofs.lemmas.requests.Missed.{writing_misses_none}
 
 no_endpoint : (e : ℕ) (x : DriverEndpoint) → slice_get {X = DriverEndpoint} [] e ≡ Some x → ⊥
 no_endpoint zero x here = cc
@@ -52,7 +52,7 @@ no_misses : NoneMissed no_parts
 no_misses = record { heads = λ n q here. let never : ◌≡◌ {A = Option Structure} None (Some (QueueHead q)) = here in absurd cc; elements = λ n a t here. let never : ◌≡◌ {A = Option Structure} None (Some (Element t)) = here in absurd cc }
 
 opening_unmissed : NoneMissed opening_parts
-opening_unmissed = writing_unmissed list_parts 4096 4096 (QueueHead opening_head) refl (writing_unmissed no_parts 0 0 (Table empty_list) tt no_misses)
+opening_unmissed = writing_misses_none list_parts 4096 4096 (QueueHead opening_head) refl (writing_misses_none no_parts 0 0 (Table empty_list) tt no_misses)
 
 abbrev no_numbers : Numbers
 no_numbers = record { endpoint = 0; closed = []; requests = nobody; number = λ i. i }
@@ -113,14 +113,14 @@ new_whole : (s : Script) → IsFit s → IsByteScript s → IsWhole (fixed_of s)
 new_whole s fit bytes = record {
   feeding = new_world_feeds s fit;
   under_way = tt;
-  names = new_apart s.words (room_of_script s);
+  names = new_names_are_apart s.words (room_of_script s);
   senders = λ e x here. absurd (no_endpoint e x here);
   takers = λ e x here. absurd (no_endpoint e x here);
   controls_apart = λ e x here. absurd (no_endpoint e x here);
   taking = new_world_taking s fit;
   runs = opening_runs s.words (room_of_script s);
   tails = λ e x here met. absurd (no_endpoint e x here);
-  told = new_told s.words (room_of_script s) at_opening.hand at_opening.parts at_opening.reported;
+  told = new_is_told s.words (room_of_script s) at_opening.hand at_opening.parts at_opening.reported;
   bytes = opened_bytes s bytes;
   left = new_world_left s fit;
 }

@@ -22,7 +22,7 @@ use Rattle.claims_report.specs.Requests.{Request}
 use Rattle.law_ring.specs.Effects.{buffer_of}
 use Rattle.law_ring.specs.Sparing.{SparesElement}
 use Rattle.claims_report.specs.Controls.{control_of}
-use Rattle.law_driver_ring.proofs.lemmas.told_harvests.Keeping.{done_spared}
+use Rattle.law_driver_ring.proofs.lemmas.told_harvests.Keeping.{spared_is_done}
 use Rattle.law_queues.specs.open_laws.Lends.{IsOpenReady, parts_lent}
 use Rattle.bus_world.specs.World.{World, driver_parts, driver_next}
 use Rattle.law_world.specs.steps.Streaming.{Streams, Standing}
@@ -31,7 +31,7 @@ use Rattle.law_reports.specs.requests.driver_requests.Rows.{given_by, KeepsEndpo
 use Rattle.law_reports.specs.requests.Courses.{have_queues, CoursesStand}
 use Rattle.law_reports.proofs.lemmas.requests.Writing.{same_hand, same_side}
 use Rattle.law_reports.specs.requests.Records.{AreRecords}
-use Rattle.law_reports.proofs.lemmas.requests.Rows.{row_recorded}
+use Rattle.law_reports.proofs.lemmas.requests.Rows.{row_keeps_records}
 use Rattle.law_world.specs.streams.Whole.{IsWhole}
 use Rattle.law_world.proofs.lemmas.streams.OpenLending.{driver_is, stay, spares_head, open_lent}
 use Rattle.law_reports.specs.requests.Asking.{Sides, Asking, has_left, IsMetControl, IsReadTo, IsAskingWorld, HasAskingWorld}
@@ -39,7 +39,7 @@ use Rattle.law_reports.specs.requests.Rows.{OpenLendKeepsAsking, IsHeadOfNone}
 use Rattle.law_reports.proofs.lemmas.requests.Has.{asking_of}
 use Rattle.law_reports.proofs.lemmas.requests.Beside.{HasOwner, owner_of, stand_beside}
 use Rattle.law_reports.proofs.lemmas.requests.Leaving.{open_quiet, same_endpoint, RowLeaves, LinesLeave, gone_by, was_met, each_still, world_left}
-use Rattle.law_reports.proofs.lemmas.requests.Missed.{writing_unmissed}
+use Rattle.law_reports.proofs.lemmas.requests.Missed.{writing_misses_none}
 use Rattle.drv_table.specs.Words.{queue_head, dummy_qtd}
 
 module _ (g : Sides) (fixed : Fixed) (takes : ℕ → ℕ → Bool) (member : ℕ → Bool) (x : Streams) (s : Standing) (a : Asking) (v : Windows) (asks : ℕ → Request) (w : World) (ready : IsOpenReady w.driver w.memory) (head : IsHeadOfNone x) (k : IsWhole fixed takes member x s w) (z : IsAskingWorld g fixed member s a v asks w) where
@@ -104,7 +104,7 @@ module _ (g : Sides) (fixed : Fixed) (takes : ℕ → ℕ → Bool) (member : �
   recorded : AreRecords new asks a.courses a.numbers (has_left new) v
   recorded =
       gone_by new asks a.courses a.numbers (has_left w.driver) (has_left new) v (λ e on. sym (same_of (λ (c : DriverContent). has_left c e ≡ has_left w.driver e) refl) ∙ on)
-      (row_recorded (driver_parts w) (driver_row (driver_parts w)) asks a.courses a.numbers (has_left w.driver) v
+      (row_keeps_records (driver_parts w) (driver_row (driver_parts w)) asks a.courses a.numbers (has_left w.driver) v
       (λ j has. subst (λ (r : DriverRow). KeepsEndpoint r (a.numbers j).endpoint) (sym row_is) tt)
       (λ j i has few given. let never : ◌≡◌ {A = Option ℕ} None (Some ((a.numbers j).number i)) = ap given_by (sym row_is) ∙ given in cc) z.records)
 
@@ -125,7 +125,7 @@ module _ (g : Sides) (fixed : Fixed) (takes : ℕ → ℕ → Bool) (member : �
             record {
               bytes = d.bytes;
               done =
-                  done_spared s.hand s.hand s.parts (parts_lent s.parts ready) (32 * y.queue) _ _ d.bytes (same_hand s.hand)
+                  spared_is_done s.hand s.hand s.parts (parts_lent s.parts ready) (32 * y.queue) _ _ d.bytes (same_hand s.hand)
                   (spares_head (driver_parts w) ready owners s.parts k.feeding.working.driven (32 * y.queue)) (element (32 * y.queue) _ has) d.done;
             };
         rest = r.rest;
@@ -139,13 +139,14 @@ module _ (g : Sides) (fixed : Fixed) (takes : ℕ → ℕ → Bool) (member : �
   world : IsAskingWorld g fixed member (record s { parts = parts_lent s.parts ready }) (record { courses = a.courses; numbers = a.numbers }) v asks (driver_next w)
   world =
       world_left g fixed member s a v asks w (driver_parts (driver_next w)) leaves z (λ e y c. lines e y.desc.name) (λ name u. (lines 0 name).lines) member (record s { parts = parts_lent s.parts ready }) a.courses
-      (writing_unmissed (put s.parts (32 * ready.endpoint.queue) (32 * ready.endpoint.queue) (QueueHead (queue_head ready.endpoint.desc ready.link ready.endpoint.dummy))) (32 * ready.endpoint.queue) (32 * ready.endpoint.dummy) (Element dummy_qtd) refl
-      (writing_unmissed s.parts (32 * ready.endpoint.queue) (32 * ready.endpoint.queue) (QueueHead (queue_head ready.endpoint.desc ready.link ready.endpoint.dummy)) refl z.unmissed.structures)) z.unmissed.in_hand stand recorded
+      (writing_misses_none (put s.parts (32 * ready.endpoint.queue) (32 * ready.endpoint.queue) (QueueHead (queue_head ready.endpoint.desc ready.link ready.endpoint.dummy))) (32 * ready.endpoint.queue) (32 * ready.endpoint.dummy) (Element dummy_qtd) refl
+      (writing_misses_none s.parts (32 * ready.endpoint.queue) (32 * ready.endpoint.queue) (QueueHead (queue_head ready.endpoint.desc ready.link ready.endpoint.dummy)) refl z.unmissed.structures)) z.unmissed.in_hand stand recorded
       (each_still g fixed member s a v asks w (driver_parts (driver_next w)) leaves z) reads
 
   pub open_lent_world : HasAskingWorld g fixed takes x.stream x.packets v asks (driver_next w)
   open_lent_world =
       asking_of g fixed takes member x (record s { parts = parts_lent s.parts ready }) (record { courses = a.courses; numbers = a.numbers }) v asks (driver_next w) (open_lent fixed takes member x s w ready k) world head
 
-pub open_lend_asking : OpenLendKeepsAsking
-open_lend_asking g fixed takes member x s a v asks w ready head k z = open_lent_world g fixed takes member x s a v asks w ready head k z
+pub open_lend_keeps_asking : OpenLendKeepsAsking
+open_lend_keeps_asking g fixed takes member x s a v asks w ready head k z =
+    open_lent_world g fixed takes member x s a v asks w ready head k z

@@ -39,12 +39,12 @@ use Rattle.law_ring.specs.Hand.{Hand, Settled}
 use Rattle.law_ring.specs.Ring.{IsInHand}
 use Rattle.law_ring.specs.Stores.{hand_linked}
 use Rattle.law_ring.specs.Told.{HasEndpoint, Endpoint as Characteristics, endpoint_of}
-use Rattle.law_ring.proofs.SparedSparing.{linked_same}
+use Rattle.law_ring.proofs.SparedSparing.{linked_hand_is_same}
 use Rattle.law_devices.specs.ring_requests.Shown.{hand_side}
 use Rattle.law_devices.specs.ring_requests.Windows.{Queue, IsElsewhere}
 use Rattle.law_devices.specs.ring_requests.Resting.{IsAtRest}
 use Rattle.claims_report.specs.Controls.{control_of}
-use Rattle.law_driver_ring.proofs.lemmas.told_harvests.Keeping.{done_spared}
+use Rattle.law_driver_ring.proofs.lemmas.told_harvests.Keeping.{spared_is_done}
 use Rattle.law_driver_ring.specs.Linked.{no_part, with_member, head_at}
 use Rattle.law_queues.specs.open_laws.Opens.{IsOpenLent, end_then}
 use Rattle.law_queues.proofs.lemmas.open_laws.Linking.{here as head_stands, driver_is}
@@ -61,8 +61,8 @@ use Rattle.law_reports.proofs.lemmas.requests.Writing.{link_spares}
 use Rattle.law_reports.specs.requests.Records.{Numbers, IsRecord, AreRecords}
 use Rattle.law_reports.specs.requests.TransferChanges.{with_numbers}
 use Rattle.law_reports.specs.requests.Counts.{counted_all}
-use Rattle.law_reports.proofs.lemmas.requests.TransferChanging.{course_recorded, new_recorded}
-use Rattle.law_reports.proofs.lemmas.requests.Rows.{kept_recorded}
+use Rattle.law_reports.proofs.lemmas.requests.TransferChanging.{course_is_recorded, new_is_recorded}
+use Rattle.law_reports.proofs.lemmas.requests.Rows.{accepted_keeps_records}
 use Rattle.law_world.proofs.lemmas.streams.FeedingLinks.{linked, found, at_open, more}
 use Rattle.law_world.specs.streams.Whole.{IsWhole}
 use Rattle.law_world.proofs.lemmas.streams.Linked.{linked_whole}
@@ -73,7 +73,7 @@ use Rattle.law_reports.proofs.lemmas.requests.Inside.{same_requests}
 use Rattle.law_reports.proofs.lemmas.requests.Names.{one_of, not_met, named_by, one_endpoint}
 use Rattle.law_reports.proofs.lemmas.requests.Beside.{HasOwner, one_queue, owner_of}
 use Rattle.law_reports.proofs.lemmas.requests.Leaving.{IsQuiet, open_quiet}
-use Rattle.law_reports.proofs.lemmas.requests.Missed.{writing_unmissed, linked_unmissed}
+use Rattle.law_reports.proofs.lemmas.requests.Missed.{writing_misses_none, linked_unmissed}
 
 -- ---- an endpoint without transfers
 
@@ -248,7 +248,7 @@ module _ (g : Sides) (fixed : Fixed) (takes : ℕ → ℕ → Bool) (member : �
       (λ (other : i ≢ n). inl (not_with (i == n) (member i) (not_same i n other) on)) (cases_eq i n)) stand_linked
 
   recorded : AreRecords new asks a.courses a.numbers (has_left new) v
-  recorded = kept_recorded w.driver new asks a.courses a.numbers (has_left w.driver) v (same_requests w.driver w.driver.book 0 None) refl z.records
+  recorded = accepted_keeps_records w.driver new asks a.courses a.numbers (has_left w.driver) v (same_requests w.driver w.driver.book 0 None) refl z.records
 
   none_numbered : numbers_of w.driver lent.number ≡ []
   none_numbered = no_numbers lent.number 0 w.driver.transfers lent.none
@@ -266,7 +266,7 @@ module _ (g : Sides) (fixed : Fixed) (takes : ℕ → ℕ → Bool) (member : �
         record {
           bytes = f.bytes;
           done =
-              done_spared s.hand later.hand s.parts later.parts (32 * y.queue) _ _ f.bytes (linked_same head_at link s.hand) (spares_head s.parts head_at ring.queue link ring.here (32 * y.queue))
+              spared_is_done s.hand later.hand s.parts later.parts (32 * y.queue) _ _ f.bytes (linked_hand_is_same head_at link s.hand) (spares_head s.parts head_at ring.queue link ring.here (32 * y.queue))
               (spares_element s.parts head_at ring.queue link ring.here (32 * y.queue) _) f.done;
         };
     rest = b.rest;
@@ -397,7 +397,7 @@ module _ (g : Sides) (fixed : Fixed) (takes : ℕ → ℕ → Bool) (member : �
       unopened = λ addr num c least none first. z.unopened addr num c least (λ i y there one two. absurd (false≢true (none i y there one two))) first;
       untold = λ name none. z.untold name (λ i y there same. absurd (false≢true (none i y there same)));
       unmissed = record {
-        structures = writing_unmissed s.parts head_at head_at (QueueHead (record ring.queue { link = link })) (z.unmissed.structures.heads head_at ring.queue ring.here) z.unmissed.structures;
+        structures = writing_misses_none s.parts head_at head_at (QueueHead (record ring.queue { link = link })) (z.unmissed.structures.heads head_at ring.queue ring.here) z.unmissed.structures;
         in_hand = linked_unmissed head_at link s.hand z.unmissed.in_hand;
         first = tt;
       };
@@ -475,7 +475,7 @@ module _ (g : Sides) (fixed : Fixed) (takes : ℕ → ℕ → Bool) (member : �
 
     record_new : IsRecord new asks n course number v
     record_new =
-        new_recorded new asks n b lent.number queue given.stages v (record {
+        new_is_recorded new asks n b lent.number queue given.stages v (record {
           none = refl;
           endpoint = record {
             own = lent.endpoint;
@@ -511,7 +511,7 @@ module _ (g : Sides) (fixed : Fixed) (takes : ℕ → ℕ → Bool) (member : �
     pub control_world : IsAskingWorld g fixed wider later now v asks after
     control_world =
         more_world now (course_begins control_of wider a.courses later.parts later.hand wire n b queue given.stages is_new stand_wider)
-        (course_recorded new asks a.courses a.numbers (has_left new) v n course number record_new recorded) (course_beside a.courses n course)
+        (course_is_recorded new asks a.courses a.numbers (has_left new) v n course number record_new recorded) (course_beside a.courses n course)
         (λ i other. ap (λ (t : Bool). if t then number else a.numbers i) (not_same i n other))
         (λ control. subst (λ (h : Numbers). HasCourse g new lent.number lent.endpoint (now.courses n) h) (sym number_is) (subst (λ (c : Course). HasCourse g new lent.number lent.endpoint c number) (sym course_is) course_new))
         (λ control. (ap (λ (h : Numbers). h.closed) number_is, ap (λ (h : Numbers). h.requests.count) number_is))
@@ -532,5 +532,5 @@ module _ (g : Sides) (fixed : Fixed) (takes : ℕ → ℕ → Bool) (member : �
       by false off = world_of a (bulk_world off)
       by true on = world_of (now on) (control_world on)
 
-pub open_link_asking : OpenLinkKeepsAsking
-open_link_asking g fixed takes member x s a v asks w lent head k z = opened_world g fixed takes member x s a v asks w lent head k z
+pub open_link_keeps_asking : OpenLinkKeepsAsking
+open_link_keeps_asking g fixed takes member x s a v asks w lent head k z = opened_world g fixed takes member x s a v asks w lent head k z

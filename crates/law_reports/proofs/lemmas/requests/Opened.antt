@@ -21,7 +21,7 @@ use Rattle.law_driver.proofs.lemmas.run_owners.Runs.{placed_run}
 use Rattle.law_driver.proofs.lemmas.run_owners.Taking.{runs_taken}
 use Rattle.law_driver.proofs.lemmas.run_owners.Accepted.{drop_first, fresh_differs}
 use Rattle.law_driver.specs.chained_transfers.Asynchronous.{IsOpenedAsynchronous}
-use Rattle.law_driver.proofs.lemmas.chained_transfers.Accepting.{command_accepts}
+use Rattle.law_driver.proofs.lemmas.chained_transfers.Accepting.{asynchronous_command_is_accepted}
 use Rattle.law_driver.proofs.lemmas.chained_transfers.BulkAndControl.{not_iso}
 use Rattle.law_queues.proofs.lemmas.commanded_queues.Which.{opens_its_own}
 use Rattle.law_queues.proofs.lemmas.fed_lends.Asked.{push_which}
@@ -34,7 +34,7 @@ use Rattle.law_world.specs.steps.Streaming.{Streams, Standing}
 use Rattle.claims_world.specs.Requests.{Windows, wired, opens, is_opening}
 use Rattle.law_reports.specs.requests.driver_requests.Rows.{KeepsRequests}
 use Rattle.law_reports.specs.requests.Courses.{queue_in}
-use Rattle.law_reports.proofs.lemmas.requests.Rows.{kept_recorded}
+use Rattle.law_reports.proofs.lemmas.requests.Rows.{accepted_keeps_records}
 use Rattle.law_queues.specs.standing_fronts.Tails.{tail_block}
 use Rattle.law_world.specs.streams.Whole.{IsWhole}
 use Rattle.law_world.proofs.lemmas.streams.Commanding.{whole_commanded}
@@ -102,7 +102,7 @@ module _ (sides : Sides) (member : ℕ → Bool) (parts : StructureSets) (hand :
   pub opened_asks : (now : Mem) → AsksIn sides member parts hand a v asks (accepted_open d desc h queue dummy).driver now wire
   opened_asks now = record {
     stand = world.stand;
-    records = regone more asks a.courses a.numbers (has_left d) (has_left more) v left_before (kept_recorded d more asks a.courses a.numbers (has_left d) v keeps refl world.records);
+    records = regone more asks a.courses a.numbers (has_left d) (has_left more) v left_before (accepted_keeps_records d more asks a.courses a.numbers (has_left d) v keeps refl world.records);
     each = λ i u is.
         let f = world.each i u (met_was i u is) in
         record {
@@ -167,7 +167,7 @@ module _ (g : Sides) (fixed : Fixed) (takes : ℕ → ℕ → Bool) (member : �
 
 pub open_keeps_asking : OpenKeepsAsking
 open_keeps_asking g fixed takes member x s a v asks w line desc o only to fits named given room is k head world =
-    let opened : IsOpenedAsynchronous w.driver w.memory o = command_accepts w.driver w.memory (commands.OpenEp desc) o k.feeding.turns.asynchronous only is in
+    let opened : IsOpenedAsynchronous w.driver w.memory o = asynchronous_command_is_accepted w.driver w.memory (commands.OpenEp desc) o k.feeding.turns.asynchronous only is in
     let own : commands.OpenEp desc ≡ commands.OpenEp opened.opens.desc = opens_its_own w.driver w.memory (commands.OpenEp desc) o only is opened.opens in
     let then_asks : AsksIn g member s.parts s.hand a v asks o.driver o.memory (wired fixed w) = opened_in g fixed takes member x s a v asks w o k world opened (subst (GivesOpened g) own given) in
     let after : IsAskingWorld g fixed member s a v asks (commanded w line (commands.OpenEp desc)) =

@@ -27,7 +27,7 @@ use Rattle.law_devices.specs.ring_requests.Windows.{Queue, sent_at, Lines, IsQue
 use Rattle.law_devices.specs.ring_requests.Resting.{IsOtherEndpoint, IsAlone}
 use Rattle.law_devices.specs.control_requests.Rests.{ControlRestStays}
 use Rattle.law_devices.proofs.lemmas.control_requests.Keeping.{Rest, rest_of}
-use Rattle.law_devices.proofs.lemmas.control_requests.Resting.{control_rests}
+use Rattle.law_devices.proofs.lemmas.control_requests.Resting.{an_event_leaves_a_queue_at_rest}
 use Rattle.law_reports.specs.requests.Courses.{Course, NoQueue, Asks, Rests, has_queue, is_asking, queue_in, lines_in, IsAsking, IsResting, IsCourse, queues, have_queues, are_asking, all_lines, CoursesStand}
 use Rattle.law_reports.specs.requests.QueueEvents.{line_after, course_after, courses_after, CoursesGoOn, EventKeepsCourses, EventLeavesDevice}
 use Rattle.law_reports.proofs.lemmas.requests.Courses.{sent_are, windows_are, queue_alone}
@@ -104,7 +104,7 @@ module _ {W : Type 0} (begins : W → ℕ → Bool → W → Type 0) (transacts 
     alone_here = subst (λ (x : Course). IsAlone member (queue_in x).endpoint parts n) is (queue_alone device member courses parts hand wire stand n (ap has_queue is))
 
     stays : ControlRestStays device member v.endpoint c b n effect
-    stays = control_rests begins transacts device base member v.endpoint c b n parts hand content wire after now later effect bus keeps controlled alone_here here.rest
+    stays = an_event_leaves_a_queue_at_rest begins transacts device base member v.endpoint c b n parts hand content wire after now later effect bus keeps controlled alone_here here.rest
 
     rest_after : IsResting v b c later now n (device after v.endpoint.addr v.endpoint.num)
     rest_after =

@@ -18,12 +18,12 @@ use Rattle.law_ring.specs.Hand.{Hand}
 use Rattle.law_ring.specs.Ring.{IsInHand}
 use Rattle.law_ring.specs.Stores.{hand_stale}
 use Rattle.law_ring.specs.Told.{HasEndpoint, endpoint_of}
-use Rattle.law_ring.proofs.SparedSparing.{stale_same}
+use Rattle.law_ring.proofs.SparedSparing.{stale_hand_is_same}
 use Rattle.law_devices.specs.ring_requests.Laid.{IsIdle}
 use Rattle.law_devices.specs.ring_requests.Shown.{hand_side}
 use Rattle.law_devices.specs.ring_requests.Windows.{Queue, sent_at, lines_at, IsBehind, AreLaid}
 use Rattle.law_devices.proofs.lemmas.ring_requests.RestingSpared.{endpoint_same, stale_side, idle_side}
-use Rattle.law_devices.proofs.lemmas.ring_requests.Telling.{queue_opens}
+use Rattle.law_devices.proofs.lemmas.ring_requests.Telling.{requests_open_their_windows}
 use Rattle.law_reports.specs.requests.Courses.{Course, Rests, has_queue, queue_in, IsAsking, IsResting, IsCourse, CoursesStand, with_course}
 use Rattle.law_reports.specs.requests.Spared.{KeepsQtds, KeepsEndpoints}
 use Rattle.law_reports.specs.requests.QueueChanges.{first_from, mended_from, mended_course, IsMendedTo, MendStands, MendGoesOn}
@@ -95,7 +95,11 @@ module _ (v : Queue) (b n : ℕ) (c : Stages) (member : ℕ → Bool) (hand : Ha
   }
 
   asks : 0 < v.count → qtd_link_of (next_pointer new) ≡ To (v.places 0).setup → IsAsking v b (lines_at v new.token.ping c) (hand_stale n hand) (put parts n n (QueueHead new)) n o
-  asks some leads = record { line = k.line; queue = queue_opens v later now n new c o (laid some leads) k.rest.max k.rest.device }
+  asks some leads = record {
+    line = k.line;
+    queue =
+        requests_open_their_windows v later now n new c o (laid some leads) k.rest.max k.rest.device;
+  }
 
 module _ {W : Type 0} (device : W → ℕ → ℕ → Option Device) (member : ℕ → Bool) (courses : ℕ → Course) (parts : StructureSets) (hand : Hand) (reply : Reply) (wire : W) (n b : ℕ) (v : Queue) (c : Stages) (q new : Qh) (is : courses n ≡ Rests v b c) (in_hand : IsInHand member parts reply hand) (m : IsMendedTo parts n q new) (stand : CoursesStand device member courses parts hand wire) where
   abbrev mended : StructureSets
@@ -105,7 +109,7 @@ module _ {W : Type 0} (device : W → ℕ → ℕ → Option Device) (member : �
   here = subst (IsCourse device parts hand wire n) is (stand.each n)
 
   others : (k : ℕ) → k ≢ n → IsCourse device parts hand wire k (courses k) → IsCourse device (put parts n n (QueueHead new)) (hand_stale n hand) wire k (courses k)
-  others k differs = same_kept device parts mended hand (hand_stale n hand) wire k (stale_side n k hand) (stale_same n hand) (put_beside parts n n (QueueHead new) k differs) (courses k)
+  others k differs = same_kept device parts mended hand (hand_stale n hand) wire k (stale_side n k hand) (stale_hand_is_same n hand) (put_beside parts n n (QueueHead new) k differs) (courses k)
 
   ends : KeepsEndpoints member parts (put parts n n (QueueHead new))
   ends k own met has =

@@ -27,7 +27,7 @@ use Rattle.law_structures.specs.lent_structures.Sound.{IsMember}
 use Rattle.claims_report.specs.Requests.{Request, read_with}
 use Rattle.law_request.specs.Host.{Endpoint, has_data}
 use Rattle.law_request.specs.Windows.{IsRequest, IsRight, data_of}
-use Rattle.law_request.proofs.Steps.{right}
+use Rattle.law_request.proofs.Steps.{window_is_right}
 use Rattle.claims_report.specs.ControlSides.{Device}
 use Rattle.law_ring.specs.Hand.{Hand}
 use Rattle.law_ring.specs.Effects.{buffer_of}
@@ -39,7 +39,7 @@ use Rattle.law_reports.specs.requests.request_bytes.Fresh.{next_of}
 use Rattle.law_reports.proofs.lemmas.requests.lemmas.driver_requests.Owning.{qtds_case, places_with_data}
 use Rattle.law_driver_ring.specs.told_harvests.Held.{IsDone, AreHeld, none_held, one_held, AreUnmoved, told_of, IsRead, NotesMoved}
 use Rattle.law_driver_ring.proofs.lemmas.told_harvests.Holding.{one_told}
-use Rattle.law_driver_ring.proofs.lemmas.told_harvests.Noting.{moved_is, found_done, is_noted}
+use Rattle.law_driver_ring.proofs.lemmas.told_harvests.Noting.{moved_is, found_is_done, found_is_noted}
 use Rattle.law_driver_ring.proofs.lemmas.told_harvests.Reading.{report_read}
 use Rattle.law_reports.specs.requests.told_requests.Rows.{bytes_with}
 use Rattle.law_queues.proofs.lemmas.harvest_laws.Places.{unmoved_noted, told_noted, read_noted}
@@ -165,7 +165,7 @@ module _ (member : ℕ → Bool) (p : Parts) (e t n : ℕ) (found : Found) (due 
 
   moves : NotesMoved note now y.place n
   moves =
-      subst (λ (i : ℕ). NotesMoved note (note_at (noted p.driver.notes y.place i)) y.place i) (sym counted.count) (is_noted p.driver.notes y.place (token_in p.memory y.place).total)
+      subst (λ (i : ℕ). NotesMoved note (note_at (noted p.driver.notes y.place i)) y.place i) (sym counted.count) (found_is_noted p.driver.notes y.place (token_in p.memory y.place).total)
 
   own : k.laid.own ≡ y
   own = same_Some k.laid.own y (sym k.laid.here ∙ due.there)
@@ -255,7 +255,7 @@ module _ (member : ℕ → Bool) (p : Parts) (e t n : ℕ) (found : Found) (due 
         let off : (token_in p.memory at_data).active ≡ false = subst (λ (b : ℕ). (token_in p.memory b).active ≡ false) place counted.off in
         let count : (now at_data).moved ≡ moved_of (note at_data).told (token_in p.memory at_data).total =
         ap (λ (b : ℕ). (now b).moved) (sym place) ∙ ap (λ (z : QtdNote). z.moved) moves.here ∙ counted.count ∙ ap (λ (b : ℕ). moved_of (note b).told (token_in p.memory b).total) place in
-        subst (λ (i : ℕ). IsDone hand parts q at_data i told_now) (sym count) (found_done p.memory parts hand q at_data told_now (note at_data) k.tells (member_part member q (parts q) k.on) read_data off told)
+        subst (λ (i : ℕ). IsDone hand parts q at_data i told_now) (sym count) (found_is_done p.memory parts hand q at_data told_now (note at_data) k.tells (member_part member q (parts q) k.on) read_data off told)
 
     -- the notes of the others are as they were
     beside_data : y.left ≡ 2 → (a : ℕ) → a ≢ at_data → now a ≡ note a
@@ -353,11 +353,11 @@ module _ (member : ℕ → Bool) (p : Parts) (e t n : ℕ) (found : Found) (due 
       ⊎_elim {C = IsReadTo hand parts q now (record y { place = (note y.place).next; left = y.left - 1 }) r}
       (λ none. without_data_read none.0 (many 2 none.1) more) (λ some. with_data_read some.0 (many 3 some.1) more) (qtds_case r)
 
-pub read_moved : ReadIsMoved
-read_moved member p e t n what due parts hand r x k = are_moved member p e t n (founds.Ended n what) due parts hand r x refl k
+pub read_is_moved : ReadIsMoved
+read_is_moved member p e t n what due parts hand r x k = are_moved member p e t n (founds.Ended n what) due parts hand r x refl k
 
-pub moved_read : MovedIsRead
-moved_read member p e t n due parts hand r x k =
+pub moved_is_read : MovedIsRead
+moved_is_read member p e t n due parts hand r x k =
     let y = due.transfer in
     let last : nat_le y.left 1 ≡ false =
     going_by (token_in p.memory y.place).active (token_in p.memory y.place).halted (nat_le y.left 1) (note_at p.driver.notes y.place) (token_in p.memory y.place)
@@ -397,20 +397,20 @@ first_begins v l hand parts n o bytes k some told = by l.under refl
     by : (u : ℕ) → l.under ≡ u → IsPrefix bytes (data_of v.endpoint (v.requests 0))
     by zero is =
         let w : IsWindow (sent_at v 0) (l.line 0) hand parts n o = subst (λ (i : ℕ). IsWindow (sent_at v i) (l.line i) hand parts n o) is k.window in
-        of_line (w.moved some) (right v.endpoint (v.requests 0) (l.line 0) w.stands)
+        of_line (w.moved some) (window_is_right v.endpoint (v.requests 0) (l.line 0) w.stands)
     by (suc u) is =
         let f : IsFinished (sent_at v 0) (l.line 0) hand parts n = k.finished 0 (omega (arith, is)) in
-        of_line (f.moved some) (right v.endpoint (v.requests 0) (l.line 0) f.stands)
+        of_line (f.moved some) (window_is_right v.endpoint (v.requests 0) (l.line 0) f.stands)
 
 pub moved_begin : MovedBegin
 moved_begin v l hand parts n left o bytes k (none_moved when is) = (data_of v.endpoint (v.requests 0), ap (λ (xs : List ℕ). xs ++ data_of v.endpoint (v.requests 0)) is)
 moved_begin v l hand parts n left o bytes k (some_moved some told) = first_begins v l hand parts n o bytes k some told
 
-pub moved_all : MovedAreAll
-moved_all v l hand parts n left bytes request once last (none_moved when is) = by (has_data (v.requests 0)) refl
+pub moved_are_all : MovedAreAll
+moved_are_all v l hand parts n left bytes request once last (none_moved when is) = by (has_data (v.requests 0)) refl
   where
     by : (b : Bool) → has_data (v.requests 0) ≡ b → bytes ≡ data_of v.endpoint (v.requests 0)
     by true some = let three = when some in absurd (omega (arith, three, last))
     by false none = is ∙ sym (nothing v.endpoint (v.requests 0) request none)
-moved_all v l hand parts n left bytes request once last (some_moved some told) =
+moved_are_all v l hand parts n left bytes request once last (some_moved some told) =
     one_told hand parts n (v.places 0).data_at bytes (data_of v.endpoint (v.requests 0)) told (once.told some)

@@ -30,7 +30,7 @@ use Rattle.claims_world.specs.Requests.{Windows, endpoint_of as transfers_endpoi
 use Rattle.law_reports.specs.requests.Courses.{Course}
 use Rattle.law_reports.specs.requests.Records.{Numbers, IsOnceAt, IsClosed, IsRecord, AreRecords}
 use Rattle.law_reports.proofs.lemmas.requests.Lists.{all_map, all_both, numbers_are}
-use Rattle.law_reports.proofs.lemmas.requests.Rows.{kept_recorded}
+use Rattle.law_reports.proofs.lemmas.requests.Rows.{accepted_keeps_records}
 use Rattle.law_reports.specs.requests.Telling.{IsTelling}
 use Rattle.law_reports.proofs.lemmas.requests.Telling.{split}
 use Rattle.law_reports.specs.requests.Asking.{Sides, Asking, has_left, IsPublishingBy, IsMetControl, IsAskingWorld}
@@ -170,7 +170,7 @@ module _ (g : Sides) (fixed : Fixed) (member : ℕ → Bool) (s : Standing) (a :
   pub asking_refused : IsAskingWorld g fixed member s a v now (record w { driver = refused_line w.driver line name why })
   asking_refused = record {
     stand = q.stand;
-    records = kept_recorded d f now a.courses a.numbers (has_left d) v keeps refl (records_asked d asks now v same a.courses a.numbers (has_left d) q.records);
+    records = accepted_keeps_records d f now a.courses a.numbers (has_left d) v keeps refl (records_asked d asks now v same a.courses a.numbers (has_left d) q.records);
     each = λ e z is.
         let h = q.each e z (was_met e z is) in
         record { queue = h.queue; endpoint = h.endpoint; number = h.number; tail = h.tail; count = h.count; newest = h.newest; next = h.next; ended = h.ended; owed = h.owed };
@@ -206,7 +206,7 @@ there t e ts is = by (cases_lt t (length ts))
         nothing : ◌≡◌ {A = Option ℕ} None (Some e) → ⊥
         nothing is = cc
 
-pub refused_asking : RefusedKeepsAsking
-refused_asking g fixed member s a v asks w line cmd why is q =
+pub refused_keeps_asking : RefusedKeepsAsking
+refused_keeps_asking g fixed member s a v asks w line cmd why is q =
     subst (λ (r : Result Offered OfferError). IsAskingWorld g fixed member s a v (asks_then w.driver cmd asks) (commanded_by w line (name_in cmd) r)) (sym is)
     (asking_refused g fixed member s a v asks (asks_then w.driver cmd asks) w line (name_in cmd) why (λ t e of. asked_before w.driver cmd asks t (there t e w.driver.transfers of)) q)

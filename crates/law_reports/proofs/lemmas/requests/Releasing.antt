@@ -36,7 +36,7 @@ use Rattle.law_devices.specs.ring_requests.Laid.{Places, place_at}
 use Rattle.law_devices.specs.ring_requests.Windows.{Sent}
 use Rattle.claims_report.specs.Controls.{control_of}
 use Rattle.law_devices.proofs.Places.{set_beside}
-use Rattle.law_driver_ring.proofs.lemmas.told_harvests.Keeping.{done_spared}
+use Rattle.law_driver_ring.proofs.lemmas.told_harvests.Keeping.{spared_is_done}
 use Rattle.bus_world.specs.World.{World, driver_parts, with_parts}
 use Rattle.law_world.specs.steps.Streaming.{Streams, Standing}
 use Rattle.claims_world.specs.Requests.{wired, Windows, numbers_of}
@@ -47,9 +47,9 @@ use Rattle.law_reports.specs.requests.Courses.{queues, have_queues, CoursesStand
 use Rattle.law_reports.specs.requests.Spared.{GoBeside}
 use Rattle.law_reports.proofs.lemmas.requests.Writing.{release_spares, same_hand}
 use Rattle.law_reports.specs.requests.Records.{AreRecords}
-use Rattle.law_reports.proofs.lemmas.requests.Rows.{row_recorded}
+use Rattle.law_reports.proofs.lemmas.requests.Rows.{row_keeps_records}
 use Rattle.law_reports.specs.requests.Telling.{IsTelling}
-use Rattle.law_reports.proofs.lemmas.requests.Telling.{quiet_row}
+use Rattle.law_reports.proofs.lemmas.requests.Telling.{quiet_row_keeps_telling}
 use Rattle.law_world.specs.streams.Whole.{IsWhole}
 use Rattle.law_world.proofs.lemmas.streams.Returning.{due, owed, transfer, endpoint, returning, stand}
 use Rattle.law_world.proofs.lemmas.streams.Releasing.{standing, whole_released}
@@ -58,7 +58,7 @@ use Rattle.law_reports.specs.requests.Rows.{ReleaseKeepsAsking, IsHeadOfNone}
 use Rattle.law_reports.proofs.lemmas.requests.Has.{asking_of}
 use Rattle.law_reports.proofs.lemmas.requests.Leaving.{idle_quiet, same_endpoint, RowLeaves, LinesLeave, gone_by, each_still, world_left}
 use Rattle.law_reports.proofs.lemmas.requests.Beside.{HasOwner, owner_of}
-use Rattle.law_reports.proofs.lemmas.requests.Missed.{release_unmissed}
+use Rattle.law_reports.proofs.lemmas.requests.Missed.{release_misses_none}
 
 -- ---- numbers
 
@@ -242,7 +242,7 @@ module _ (g : Sides) (fixed : Fixed) (takes : ℕ → ℕ → Bool) (member : �
   recorded =
       gone_by after.driver asks a.courses a.numbers (has_left w.driver) (has_left after.driver) v (λ e on. left_by e (slice_get w.driver.endpoints e) refl on)
       (subst (λ (q : Parts). AreRecords q.driver asks a.courses a.numbers (has_left w.driver) v) row_is
-      (row_recorded (driver_parts w) (rows.ReleaseTransfer t) asks a.courses a.numbers (has_left w.driver) v (λ j has. tt)
+      (row_keeps_records (driver_parts w) (rows.ReleaseTransfer t) asks a.courses a.numbers (has_left w.driver) v (λ j has. tt)
       (λ j i has few given. other j i has few (sym (same_Some t ((a.numbers j).number i) given))) z.records))
 
   -- ---- what is read
@@ -284,7 +284,7 @@ module _ (g : Sides) (fixed : Fixed) (takes : ℕ → ℕ → Bool) (member : �
             let read = before.data_at has one in
             record {
               bytes = read.bytes;
-              done = done_spared s.hand s.hand s.parts now (32 * i.queue) _ _ read.bytes (same_hand s.hand) (spares_head s.parts n goes head_off (32 * i.queue)) (spares_at (32 * i.queue) _ stays) read.done;
+              done = spared_is_done s.hand s.hand s.parts now (32 * i.queue) _ _ read.bytes (same_hand s.hand) (spares_head s.parts n goes head_off (32 * i.queue)) (spares_at (32 * i.queue) _ stays) read.done;
             };
         rest = before.rest;
       }
@@ -296,12 +296,13 @@ module _ (g : Sides) (fixed : Fixed) (takes : ℕ → ℕ → Bool) (member : �
     lines = refl;
     telling = λ reported waiting told.
         subst (λ (q : Parts). IsTelling q.driver asks e i.desc.name (g.whole i.desc.name) v reported waiting) row_is
-        (quiet_row (driver_parts w) (rows.ReleaseTransfer t) asks e i.desc.name (g.whole i.desc.name) v reported waiting refl told);
+        (quiet_row_keeps_telling (driver_parts w) (rows.ReleaseTransfer t) asks e i.desc.name (g.whole i.desc.name) v reported waiting refl
+        told);
   }
 
   world : IsAskingWorld g fixed member (standing fixed takes member x s w t row k) (record { courses = a.courses; numbers = a.numbers }) v asks (with_parts w after)
   world =
-      world_left g fixed member s a v asks w after leaves z lines (λ name u. refl) member (standing fixed takes member x s w t row k) a.courses (release_unmissed s.parts n goes z.unmissed.structures) z.unmissed.in_hand stand_now recorded (each_still g fixed member s a v asks w after leaves z) reads
+      world_left g fixed member s a v asks w after leaves z lines (λ name u. refl) member (standing fixed takes member x s w t row k) a.courses (release_misses_none s.parts n goes z.unmissed.structures) z.unmissed.in_hand stand_now recorded (each_still g fixed member s a v asks w after leaves z) reads
 
   pub released_world : HasAskingWorld g fixed takes x.stream x.packets v asks (with_parts w (after_driver_row (rows.ReleaseTransfer t) (driver_parts w)))
   released_world =
@@ -309,6 +310,6 @@ module _ (g : Sides) (fixed : Fixed) (takes : ℕ → ℕ → Bool) (member : �
       (whole_released fixed takes member x s w t row k)
       (subst (λ (q : Parts). IsAskingWorld g fixed member (standing fixed takes member x s w t row k) (record { courses = a.courses; numbers = a.numbers }) v asks (with_parts w q)) (sym row_is) world) head
 
-pub release_asking : ReleaseKeepsAsking
-release_asking g fixed takes member x s a v asks w t row head k z =
+pub release_keeps_asking : ReleaseKeepsAsking
+release_keeps_asking g fixed takes member x s a v asks w t row head k z =
     subst (λ (r : DriverRow). HasAskingWorld g fixed takes x.stream x.packets v asks (with_parts w (after_driver_row r (driver_parts w)))) (sym row) (released_world g fixed takes member x s a v asks w t row head k z)

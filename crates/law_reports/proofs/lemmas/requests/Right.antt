@@ -13,17 +13,17 @@ use Rattle.law_reports.proofs.lemmas.requests.TransferChanging.{once_by}
 use Rattle.law_reports.proofs.lemmas.requests.Counts.{counts_are_acts}
 use Rattle.law_reports.specs.requests.ReportAsking.{IsTold}
 use Rattle.law_reports.specs.requests.Right.{AskingIsRight, GoneIsOnce}
-use Rattle.law_reports.proofs.lemmas.requests.Telling.{telling_told}
+use Rattle.law_reports.proofs.lemmas.requests.Telling.{telling_is_told}
 
 windows_once : (asks : ℕ → Request) (v : Windows) (ts : List ℕ) → AllByRecursion (IsOnceAt asks v) ts → AllByRecursion (λ w. IsOnce w.request.setup w.acts) (map (window_at asks v) ts)
 windows_once asks v [] all = tt
 windows_once asks v (t ∷ ts) all = (all.0, windows_once asks v ts all.1)
 
-pub gone_once : GoneIsOnce
-gone_once d asks courses numbers gone v rec e out = windows_once asks v (numbers_of d e) (rec.left e out)
+pub gone_is_once : GoneIsOnce
+gone_is_once d asks courses numbers gone v rec e out = windows_once asks v (numbers_of d e) (rec.left e out)
 
-pub asking_right : AskingIsRight
-asking_right fixed member courses numbers gone asks whole parts hand w v k n has =
+pub asking_is_right : AskingIsRight
+asking_is_right fixed member courses numbers gone asks whole parts hand w v k n has =
     let asked : (q : Queue) (b : ℕ) (l : Lines) → courses n ≡ Asks q b l → (o : Option Device) × IsQueue q l hand parts n o =
     λ q b l is. (control_of (wired fixed w) q.endpoint.addr q.endpoint.num, (subst (IsCourse control_of parts hand (wired fixed w) n) is (k.stand.each n)).queue) in
     let once : AllByRecursion (IsOnceAt asks v) (numbers_of w.driver (numbers n).endpoint) = once_by w.driver asks courses numbers gone v n hand parts asked k.records (courses n) refl has (k.records.each n has) in
@@ -32,6 +32,6 @@ asking_right fixed member courses numbers gone asks whole parts hand w v k n has
       once = windows_once asks v (numbers_of w.driver (numbers n).endpoint) once;
       tells = z;
       left = map (window_at asks v) z.waits;
-      told = telling_told w.driver asks (numbers n).endpoint z.own.desc.name (whole z.own.desc.name) v z.reported z.waits z.telling;
+      told = telling_is_told w.driver asks (numbers n).endpoint z.own.desc.name (whole z.own.desc.name) v z.reported z.waits z.telling;
       counts = λ c side. k.counts n has c side ∙ counts_are_acts asks v (numbers_of w.driver (numbers n).endpoint) once;
     }

@@ -28,12 +28,12 @@ use Rattle.law_reports.specs.requests.world_requests.Recording.{IsOpened}
 use Rattle.law_reports.specs.requests.driver_requests.Requests.{IsOfEndpoint, AreOfEndpoint}
 use Rattle.law_reports.specs.requests.driver_requests.Behind.{AreBehind}
 use Rattle.law_reports.specs.requests.driver_requests.Rows.{KeepsRequests, number_with, given_by}
-use Rattle.law_reports.proofs.lemmas.requests.lemmas.driver_requests.Accepting.{still_there, accepted_stay, accepted_comes}
-use Rattle.law_reports.proofs.lemmas.requests.lemmas.driver_requests.Behind.{rows_leave, accepted_behind, accepted_beside_behind}
+use Rattle.law_reports.proofs.lemmas.requests.lemmas.driver_requests.Accepting.{still_there, accepted_requests_stay, accepted_request_comes}
+use Rattle.law_reports.proofs.lemmas.requests.lemmas.driver_requests.Behind.{rows_leave_behind, accepted_behind, accepted_beside}
 use Rattle.law_reports.proofs.lemmas.requests.lemmas.driver_requests.Keeping.{requests_stay, number_new, number_old}
 use Rattle.law_reports.proofs.lemmas.requests.lemmas.driver_requests.Ordering.{numbers_still, asked_before}
 use Rattle.law_reports.proofs.lemmas.requests.lemmas.driver_requests.RowOrder.{row_same, row_numbers}
-use Rattle.law_reports.proofs.lemmas.requests.lemmas.driver_requests.Rows.{each_row_keeps}
+use Rattle.law_reports.proofs.lemmas.requests.lemmas.driver_requests.Rows.{each_row_keeps_requests}
 use Rattle.law_reports.specs.requests.Courses.{Course, NoQueue, Asks, Rests, has_queue, queue_in, have_queues}
 use Rattle.law_reports.specs.requests.Records.{Numbers, IsAhead, IsOnceAt, AreActs, IsClosed, IsRecord, AreRecords}
 use Rattle.law_reports.specs.requests.TransferChanges.{with_numbers, RowKeepsRecords, accepted_in, IsRequestOf, RequestIsAccepted, OtherIsAccepted, AcceptedKeepsRecords}
@@ -42,16 +42,16 @@ use Rattle.law_reports.proofs.lemmas.requests.TransferChanging.{numbers_each}
 
 -- ---- rows
 
-pub row_recorded : RowKeepsRecords
-row_recorded p row asks courses numbers gone v stays gives rec = record {
+pub row_keeps_records : RowKeepsRecords
+row_keeps_records p row asks courses numbers gone v stays gives rec = record {
   each = λ n has.
       let k : IsRecord p.driver asks n (courses n) (numbers n) v = rec.each n has in
       let a : Numbers = numbers n in
-      let keeps : KeepsRequests (given_by row) p.driver (after_driver_row row p).driver a.endpoint = each_row_keeps p row a.endpoint (stays n has) in
+      let keeps : KeepsRequests (given_by row) p.driver (after_driver_row row p).driver a.endpoint = each_row_keeps_requests p row a.endpoint (stays n has) in
       record {
         numbered = record {
           own = requests_stay (given_by row) p.driver (after_driver_row row p).driver a.requests 0 n a.endpoint a.number keeps (λ i from. gives n i has) k.numbered.own;
-          order = rows_leave p row asks a.endpoint a.closed a.requests a.number k.numbered.order;
+          order = rows_leave_behind p row asks a.endpoint a.closed a.requests a.number k.numbered.order;
           ahead = k.numbered.ahead;
         };
         acts = k.acts;
@@ -63,8 +63,8 @@ row_recorded p row asks courses numbers gone v stays gives rec = record {
 
 -- ---- commands that add no transfer
 
-pub kept_recorded : AcceptedKeepsRecords
-kept_recorded d c asks courses numbers gone v keeps same rec = record {
+pub accepted_keeps_records : AcceptedKeepsRecords
+accepted_keeps_records d c asks courses numbers gone v keeps same rec = record {
   each = λ n has.
       let k : IsRecord d asks n (courses n) (numbers n) v = rec.each n has in
       let a : Numbers = numbers n in
@@ -122,8 +122,8 @@ module _ (d : DriverContent) (m : Mem) (o : Offered) (why : Transfers d m o) (cm
   beside_recorded : (n : ℕ) (c : Course) (a : Numbers) → a.endpoint ≢ why.number → IsRecord d asks n c a v → IsRecord o.driver (asks_then d cmd asks) n c a v
   beside_recorded n c a other k = record {
     numbered = record {
-      own = accepted_stay d m o a.requests 0 n a.endpoint a.number why owners book k.numbered.own;
-      order = accepted_beside_behind d m o why cmd asks a.closed a.requests 0 n a.endpoint a.number other k.numbered.own k.numbered.order;
+      own = accepted_requests_stay d m o a.requests 0 n a.endpoint a.number why owners book k.numbered.own;
+      order = accepted_beside d m o why cmd asks a.closed a.requests 0 n a.endpoint a.number other k.numbered.own k.numbered.order;
       ahead = k.numbered.ahead;
     };
     acts = k.acts;
@@ -143,8 +143,8 @@ module _ (d : DriverContent) (m : Mem) (o : Offered) (why : Transfers d m o) (cm
       by None is = rec.none t is
       by (Some e) is = absurd (let both : None ≡ Some e = sym none ∙ of_now t e is in cc)
 
-pub other_recorded : OtherIsAccepted
-other_recorded d m o why cmd asks courses numbers gone v owners book other here rec = record {
+pub other_is_accepted : OtherIsAccepted
+other_is_accepted d m o why cmd asks courses numbers gone v owners book other here rec = record {
   each = λ n has. beside_recorded d m o why cmd asks courses numbers gone v owners book rec n (courses n) (numbers n) (other n has) (rec.each n has);
   left = left_now d m o why cmd asks courses numbers gone v owners book rec here;
   none = none_now d m o why cmd asks courses numbers gone v owners book rec;
@@ -214,7 +214,7 @@ module _ (d : DriverContent) (m : Mem) (o : Offered) (why : Transfers d m o) (na
   mine = record {
     numbered = record {
       own = subst (λ (e : ℕ). AreOfEndpoint o.driver (with_request a.requests r x) 0 n e (number_with a.requests.count a.number t)) (sym is.endpoint)
-          (accepted_comes d m o why r a.requests 0 n a.number is.sort is.stages is.owners is.book own);
+          (accepted_request_comes d m o why r a.requests 0 n a.number is.sort is.stages is.owners is.book own);
       order = subst (λ (e : ℕ). AreBehind o.driver (asks_then d cmd asks) e a.closed (with_request a.requests r x) (number_with a.requests.count a.number t)) (sym is.endpoint)
           (accepted_behind d m o why name setup bytes asks a.closed a.requests 0 n a.number x own order);
       ahead = ahead_by k.numbered.ahead;
@@ -248,5 +248,5 @@ module _ (d : DriverContent) (m : Mem) (o : Offered) (why : Transfers d m o) (na
     none = none_now d m o why cmd asks courses numbers gone v is.owners is.book rec;
   }
 
-pub request_recorded : RequestIsAccepted
-request_recorded d m o why name setup bytes asks courses numbers gone v n is rec = accepted d m o why name setup bytes asks courses numbers gone v n is rec
+pub request_is_accepted : RequestIsAccepted
+request_is_accepted d m o why name setup bytes asks courses numbers gone v n is rec = accepted d m o why name setup bytes asks courses numbers gone v n is rec

@@ -13,7 +13,7 @@ use Rattle.law_devices.specs.ring_requests.Samples.{queue, setup, read, status, 
 use Rattle.law_devices.specs.request_stores.Samples.{first_only, one_parts, last_status, with_read, with_status, with_tail, with_setup, lent_parts, both_now, second_places}
 use Rattle.law_devices.proofs.lemmas.request_stores.Asking.{second_next}
 use Rattle.law_reports.specs.requests.Coming.{IsComing}
-use Rattle.law_reports.proofs.lemmas.requests.Coming.{lent_coming}
+use Rattle.law_reports.proofs.lemmas.requests.Coming.{lent_is_coming}
 
 -- ---- no other qTD has its setup bytes
 
@@ -64,7 +64,7 @@ read_buffer = record { bytes = replicate 9 0; here = refl; size = refl }
 
 pub second_coming : IsComing first_only get_configuration second_places 160 256 second_setup (lent_parts 32)
 second_coming =
-    lent_coming first_only get_configuration second_places 160 256 second_setup (both_now 32) (lent_parts 32)
+    lent_is_coming first_only get_configuration second_places 160 256 second_setup (both_now 32) (lent_parts 32)
     (record {
       request = second_next.request;
       setup = refl;

@@ -24,7 +24,7 @@ use Rattle.drv_table.specs.FrameChoice.{linked_by}
 use Rattle.drv_table.specs.Rows.{driver_row, after_driver_row}
 use Rattle.law_driver.specs.run_owners.Due.{IsDue}
 use Rattle.claims_driver.specs.Owners.{NoteRuns, note_in}
-use Rattle.law_driver.proofs.lemmas.run_owners.Reasons.{each_is_due}
+use Rattle.law_driver.proofs.lemmas.run_owners.Reasons.{each_event_is_due}
 use Rattle.law_driver.proofs.lemmas.run_owners.Released.{set_here, set_there}
 use Rattle.law_driver.proofs.lemmas.run_owners.Stays.{same_item}
 use Rattle.law_reports.specs.requests.request_bytes.Fresh.{next_of}
@@ -221,5 +221,5 @@ by_row p (rows.Harvest e t found) only due =
     (harvest_told p.driver p.memory e t found (slice_get p.driver.endpoints e) (slice_get p.driver.transfers t))
 by_row p rows.Rest only due = same_silent p.driver p.driver refl refl
 
-pub row_silent : RowKeepsSilent
-row_silent p only silent = stays_silent p.driver (after_driver_row (driver_row p) p).driver (by_row p (driver_row p) only (each_is_due p)) silent
+pub row_keeps_silent : RowKeepsSilent
+row_keeps_silent p only silent = stays_silent p.driver (after_driver_row (driver_row p) p).driver (by_row p (driver_row p) only (each_event_is_due p)) silent

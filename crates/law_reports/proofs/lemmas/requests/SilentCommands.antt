@@ -31,7 +31,7 @@ use Rattle.law_driver.specs.chained_transfers.Asynchronous.{AcceptsAsynchronous}
 use Rattle.law_driver.specs.chained_transfers.AsynchronousTurns.{AsynchronousTakesTurns}
 use Rattle.law_driver.specs.chained_transfers.Bulk.{IsDataWay, sort_by}
 use Rattle.law_driver.specs.chained_transfers.Chains.{piece_at}
-use Rattle.law_driver.proofs.lemmas.chained_transfers.Accepting.{command_accepts}
+use Rattle.law_driver.proofs.lemmas.chained_transfers.Accepting.{asynchronous_command_is_accepted}
 use Rattle.law_driver.proofs.lemmas.chained_transfers.Chained.{pieces_same}
 use Rattle.law_driver.proofs.lemmas.chained_transfers.Queued.{not_dummy}
 use Rattle.law_queues.proofs.lemmas.fed_lends.Asked.{piece_placed}
@@ -169,9 +169,10 @@ accepted_silent d m o _ k stands owners some silent = absurd k
 command_by : (w : World) (line : ℕ) (cmd : Cmd) (r : Result Offered OfferError) → offered w.driver w.memory cmd ≡ r → OpensAsynchronous cmd → AsynchronousTakesTurns w.driver → HasOwners w.driver → Stands (holding w.driver.book w.memory) → AreSilent w.driver
     → AreSilent (commanded_by w line (name_in cmd) r).driver
 command_by w line cmd (Ok o) is only turns owners stands silent =
-    accepted_silent w.driver w.memory o cmd (command_accepts w.driver w.memory cmd o turns.asynchronous only is) stands owners
+    accepted_silent w.driver w.memory o cmd (asynchronous_command_is_accepted w.driver w.memory cmd o turns.asynchronous only is) stands
+    owners
     (λ t y there held. turns.chained.some t (runs_of_transfer y) (ap (option_map runs_of_transfer) there) held) silent
 command_by w line cmd (Err why) is only turns owners stands silent = stays_silent w.driver (commanded_by w line (name_in cmd) (Err why)).driver (same_silent w.driver _ refl refl) silent
 
-pub command_silent : CommandKeepsSilent
-command_silent w line cmd only turns owners stands silent = command_by w line cmd (offered w.driver w.memory cmd) refl only turns owners stands silent
+pub command_keeps_silent : CommandKeepsSilent
+command_keeps_silent w line cmd only turns owners stands silent = command_by w line cmd (offered w.driver w.memory cmd) refl only turns owners stands silent

@@ -19,9 +19,9 @@ use Rattle.drv_table.specs.Rows.{driver_row, after_driver_row}
 use Rattle.drv_table.specs.Leaving.{doorbell_command, bell_after}
 use Rattle.drv_table.specs.Words.{is_control}
 use Rattle.law_driver.specs.run_owners.Due.{IsDue}
-use Rattle.law_driver.proofs.lemmas.run_owners.Reasons.{each_is_due}
+use Rattle.law_driver.proofs.lemmas.run_owners.Reasons.{each_event_is_due}
 use Rattle.law_queues.specs.leaving_drivers.Before.{NearSame}
-use Rattle.law_queues.proofs.lemmas.leaving_drivers.Leaving.{bell_as_before, status_as_before, frame_as_before}
+use Rattle.law_queues.proofs.lemmas.leaving_drivers.Leaving.{bell_is_as_before, status_is_as_before, frame_is_as_before}
 use Rattle.claims_report.specs.Requests.{Request}
 use Rattle.law_reports.specs.requests.driver_requests.Rows.{KeepsRequests}
 use Rattle.bus_world.specs.World.{World, driver_parts, with_parts, driver_next}
@@ -29,7 +29,7 @@ use Rattle.law_world.specs.steps.Streaming.{Standing}
 use Rattle.claims_world.specs.Requests.{Windows}
 use Rattle.law_world.specs.streams.FeedingLaws.{is_still}
 use Rattle.law_reports.specs.requests.Records.{AreRecords}
-use Rattle.law_reports.proofs.lemmas.requests.Rows.{kept_recorded}
+use Rattle.law_reports.proofs.lemmas.requests.Rows.{accepted_keeps_records}
 use Rattle.law_world.proofs.lemmas.streams.Still.{whole_still}
 use Rattle.law_reports.specs.requests.Asking.{Sides, Asking, has_left, left_with, IsPublishingBy, IsMetControl, IsAskingWorld}
 use Rattle.law_reports.specs.requests.AskingLaws.{StillKeepsAsking}
@@ -68,7 +68,7 @@ module _ (g : Sides) (fixed : Fixed) (member : ℕ → Bool) (s : Standing) (a :
 
     records_then : AreRecords (stilled w.driver cleared rung waiting bell turn status_next removals) asks a.courses a.numbers (has_left (stilled w.driver cleared rung waiting bell turn status_next removals)) v
     records_then =
-        let k = kept_recorded d f asks a.courses a.numbers (has_left d) v keeps refl q.records in
+        let k = accepted_keeps_records d f asks a.courses a.numbers (has_left d) v keeps refl q.records in
         record { each = k.each; left = λ e left. k.left e (left_before e (slice_get w.driver.endpoints e) refl left); none = k.none }
 
     asking_stilled : IsAskingWorld g fixed member s a v asks (record w { driver = stilled w.driver cleared rung waiting bell turn status_next removals; registers = registers })
@@ -105,19 +105,19 @@ module _ (g : Sides) (fixed : Fixed) (member : ℕ → Bool) (s : Standing) (a :
   still_row : (row : DriverRow) → IsDue (driver_parts w) row → is_still row ≡ true → IsAskingWorld g fixed member s a v asks (with_parts w (after_driver_row row (driver_parts w)))
   still_row rows.RingBell due still =
       asking_stilled w.driver.cleared (w.driver.rung ++ w.driver.waiting) [] bells.Rung turns.Harvest w.driver.periodic.status_next w.driver.periodic.removals
-      (after_write w.registers 0x00 doorbell_command) due.0 (bell_as_before (driver_parts w) due.0).1
+      (after_write w.registers 0x00 doorbell_command) due.0 (bell_is_as_before (driver_parts w) due.0).1
   still_row (rows.ReadStatus heard) due still =
       asking_stilled w.driver.cleared w.driver.rung w.driver.waiting (bell_after heard) turns.Harvest false w.driver.periodic.removals
-      w.registers due.0 (status_as_before (driver_parts w) heard due.0).1
+      w.registers due.0 (status_is_as_before (driver_parts w) heard due.0).1
   still_row (rows.ReadFrame n) due still =
       asking_stilled w.driver.cleared w.driver.rung w.driver.waiting w.driver.bell turns.Harvest true (read_again n w.driver.periodic.removals)
-      w.registers due.0 (frame_as_before (driver_parts w) n due.0).1
+      w.registers due.0 (frame_is_as_before (driver_parts w) n due.0).1
   still_row rows.Rest due still = q
   still_row _ due still = absurd (false≢true still)
 
   pub asking_still : is_still (driver_row (driver_parts w)) ≡ true → IsAskingWorld g fixed member s a v asks (driver_next w)
-  asking_still still = still_row (driver_row (driver_parts w)) (each_is_due (driver_parts w)) still
+  asking_still still = still_row (driver_row (driver_parts w)) (each_event_is_due (driver_parts w)) still
 
-pub still_asking : StillKeepsAsking
-still_asking g fixed takes member x s a v asks w still k ring q =
+pub still_keeps_asking : StillKeepsAsking
+still_keeps_asking g fixed takes member x s a v asks w still k ring q =
     asking_of g fixed takes member x s a v asks (driver_next w) (whole_still fixed takes member x s w still k) (asking_still g fixed member s a v asks w q still) ring

@@ -34,7 +34,7 @@ use Rattle.law_driver_ring.specs.Published.{partly}
 use Rattle.law_queues.specs.mended_heads.Owed.{StalledQueue, mends_at, left_of, all_left}
 use Rattle.law_queues.specs.mended_heads.Waiting.{Waits}
 use Rattle.law_queues.specs.publish_laws.Stores.{IsAtStore, published_by, parts_then}
-use Rattle.law_driver_ring.proofs.lemmas.told_harvests.Keeping.{done_spared}
+use Rattle.law_driver_ring.proofs.lemmas.told_harvests.Keeping.{spared_is_done}
 use Rattle.claims_report.specs.Requests.{Request}
 use Rattle.law_request.specs.Host.{has_data}
 use Rattle.law_devices.specs.ring_requests.Laid.{Places, IsIdle}
@@ -49,13 +49,13 @@ use Rattle.law_reports.specs.requests.Coming.{IsComing}
 use Rattle.law_reports.specs.requests.Courses.{Course, NoQueue, Asks, Rests, has_queue, is_asking, queue_in, tail_in, have_queues, IsCourse, CoursesStand, with_course}
 use Rattle.law_reports.specs.requests.QueueChanges.{IsPublishedAt}
 use Rattle.law_reports.specs.requests.Spared.{IsNoRequests}
-use Rattle.law_reports.proofs.lemmas.requests.Coming.{store_coming, coming_is_published}
+use Rattle.law_reports.proofs.lemmas.requests.Coming.{store_keeps_coming, coming_is_published}
 use Rattle.law_reports.proofs.lemmas.requests.QueuePublishing.{asked_store, rest_store, halted_store}
 use Rattle.law_reports.proofs.lemmas.requests.Writing.{store_spares}
 use Rattle.law_reports.specs.requests.Records.{Numbers, IsRecord, AreRecords}
 use Rattle.law_reports.specs.requests.TransferChanges.{with_numbers, next_request}
-use Rattle.law_reports.proofs.lemmas.requests.TransferChanging.{course_recorded, behind_published, first_published, halted_published}
-use Rattle.law_reports.proofs.lemmas.requests.Rows.{kept_recorded}
+use Rattle.law_reports.proofs.lemmas.requests.TransferChanging.{course_is_recorded, behind_is_published, first_is_published, halted_is_published}
+use Rattle.law_reports.proofs.lemmas.requests.Rows.{accepted_keeps_records}
 use Rattle.law_queues.specs.standing_fronts.Tails.{tail_block}
 use Rattle.law_world.proofs.lemmas.streams.FeedingStores.{at, after_store}
 use Rattle.law_world.proofs.lemmas.streams.Storing.{by_store, element}
@@ -66,7 +66,7 @@ use Rattle.law_reports.proofs.lemmas.requests.Inside.{AsksIn, inside, outside, s
 use Rattle.law_reports.proofs.lemmas.requests.Lending.{next_is}
 use Rattle.law_reports.proofs.lemmas.requests.Newest.{tail_next, laid_at, owner_at, its_next, its_control, not_asked}
 use Rattle.law_reports.specs.requests.Missed.{NoneMissed, PublishesNoneBy}
-use Rattle.law_reports.proofs.lemmas.requests.Missed.{writing_unmissed, partly_unmissed}
+use Rattle.law_reports.proofs.lemmas.requests.Missed.{writing_misses_none, partly_unmissed}
 use Rattle.qh_qtd.specs.Qtd.{qtd_words, IsQtdInRange}
 
 -- ---- stores that are owed
@@ -241,7 +241,7 @@ module _ (sides : Sides) (fixed : Fixed) (takes : ℕ → ℕ → Bool) (member 
             let was = r.data_at some one in
             record {
               bytes = was.bytes;
-              done = done_spared s.hand s.hand s.parts now (32 * u.queue) j (note_at d.notes j).moved was.bytes (same_hand s.hand) (spares_head s.parts n (32 * b) old new p.stored (32 * u.queue))
+              done = spared_is_done s.hand s.hand s.parts now (32 * u.queue) j (note_at d.notes j).moved was.bytes (same_hand s.hand) (spares_head s.parts n (32 * b) old new p.stored (32 * u.queue))
                   (spares_element s.parts n (32 * b) old new p.stored (32 * u.queue) (32 * j)
                   (λ name owner. data_apart i t u y is going next there some one (let same : j ≡ b = omega (arith, name) in same)))
                   was.done;
@@ -289,7 +289,7 @@ module _ (sides : Sides) (fixed : Fixed) (takes : ℕ → ℕ → Bool) (member 
     coming_then =
         subst (λ (j : Endpoint). IsComing (queue_in c) r y (tail_in c) (32 * u.dummy) was.setup (put s.parts (32 * j.queue) (32 * b) (Element new) (32 * u.queue))) end_is
         (subst (λ (j : ℕ). IsComing (queue_in c) r y (tail_in c) (32 * u.dummy) was.setup (put s.parts (32 * u.queue) j (Element new) (32 * u.queue))) tail_is
-        (store_coming (queue_in c) r y (tail_in c) (32 * u.dummy) (32 * u.queue) was.setup old new s.parts stored_here was.coming))
+        (store_keeps_coming (queue_in c) r y (tail_in c) (32 * u.dummy) (32 * u.queue) was.setup old new s.parts stored_here was.coming))
 
     publishing_then : (more : Mem) → IsPublishing (record w.driver { made = suc w.driver.made }) more u (now (32 * u.queue)) (a.courses (32 * u.queue)) (a.numbers (32 * u.queue))
     publishing_then more =
@@ -306,7 +306,7 @@ module _ (sides : Sides) (fixed : Fixed) (takes : ℕ → ℕ → Bool) (member 
   first_unmissed = (subst (PublishesNoneBy w.driver.made) command world.unmissed.first) made
 
   unmissed_then : NoneMissed now
-  unmissed_then = writing_unmissed s.parts n (32 * b) (Element new) (partly_unmissed p.qtd d.made (λ whole. first_unmissed p.qtd p.are p.range)) world.unmissed.structures
+  unmissed_then = writing_misses_none s.parts n (32 * b) (Element new) (partly_unmissed p.qtd d.made (λ whole. first_unmissed p.qtd p.are p.range)) world.unmissed.structures
 
   -- ---- before the last store
 
@@ -369,7 +369,8 @@ module _ (sides : Sides) (fixed : Fixed) (takes : ℕ → ℕ → Bool) (member 
       → ((h : ℕ) → later.numbers h ≡ a.numbers h) → AsksIn sides member now s.hand later v asks finished more (wired fixed w)
   finishes later more stand records each same = record {
     stand = stand;
-    records = kept_recorded d finished asks later.courses later.numbers (has_left d) v (same_requests d d.book 0 None) refl records;
+    records = accepted_keeps_records d finished asks later.courses later.numbers (has_left d) v (same_requests d d.book 0 None) refl
+        records;
     each = λ i u is. each i u (met_done i u is);
     publishing = λ i u is next. absurd (false≢true next);
     read = λ i t u y is going next there.
@@ -441,7 +442,7 @@ module _ (sides : Sides) (fixed : Fixed) (takes : ℕ → ℕ → Bool) (member 
         queued = refl;
         stand = subst (λ (j : ℕ). CoursesStand control_of member (with_course a.courses n (Asks (next_request (a.numbers n) u) dummy l)) (put s.parts n j (Element p.qtd)) s.hand (wired fixed w)) tail
             (asked_store control_of member a.courses s.parts s.hand (wired fixed w) n t dummy u l (next_of u) (places_of u) p.qtd is at_it q.stand);
-        recorded = behind_published d asks n t dummy u l (a.numbers n) v few rec;
+        recorded = behind_is_published d asks n t dummy u l (a.numbers n) v few rec;
         queue = ap (λ (c : Course). next_request (a.numbers n) (queue_in c)) (sym is);
         tail = refl;
         owed = owed;
@@ -456,7 +457,7 @@ module _ (sides : Sides) (fixed : Fixed) (takes : ℕ → ℕ → Bool) (member 
         queued = refl;
         stand = subst (λ (j : ℕ). CoursesStand control_of member (with_course a.courses n (Rests (next_request (a.numbers n) u) dummy o)) (put s.parts n j (Element p.qtd)) s.hand (wired fixed w)) tail
             (halted_store control_of member a.courses s.parts s.hand (wired fixed w) n t dummy u o (next_of u) (places_of u) p.qtd is (record { queue = h; head = stands.rest.head; halted = halts }) at_it q.stand);
-        recorded = halted_published d asks n t dummy u o (a.numbers n) v few rec;
+        recorded = halted_is_published d asks n t dummy u o (a.numbers n) v few rec;
         queue = ap (λ (c : Course). next_request (a.numbers n) (queue_in c)) (sym is);
         tail = refl;
         owed = λ i g there queue. refl;
@@ -469,7 +470,7 @@ module _ (sides : Sides) (fixed : Fixed) (takes : ℕ → ℕ → Bool) (member 
         queued = refl;
         stand = subst (λ (j : ℕ). CoursesStand control_of member (with_course a.courses n (Asks (next_request (a.numbers n) u) dummy lines)) (put s.parts n j (Element p.qtd)) s.hand (wired fixed w)) tail
             (rest_store control_of member a.courses s.parts s.hand (wired fixed w) n t dummy u o h (next_of u) (places_of u) p.qtd is none stands.rest.head goes_on at_it q.stand);
-        recorded = first_published d asks n t dummy u o h.token.ping (a.numbers n) v few rec;
+        recorded = first_is_published d asks n t dummy u o h.token.ping (a.numbers n) v few rec;
         queue = ap (λ (c : Course). next_request (a.numbers n) (queue_in c)) (sym is);
         tail = refl;
         owed = λ i g there queue. absurd (none_owed h i g stands.rest.head goes_on there queue);
@@ -528,7 +529,7 @@ module _ (sides : Sides) (fixed : Fixed) (takes : ℕ → ℕ → Bool) (member 
     request_asking more eighth =
         finishes later more
         (subst (λ (j : ℕ). CoursesStand control_of member later.courses (put s.parts n (32 * b) (Element (partly p.qtd j))) s.hand (wired fixed w)) (sym eighth) stored_now.stand)
-        (course_recorded d asks a.courses a.numbers (has_left d) v n stored_now.course (a.numbers n) stored_now.recorded q.records) each_course same_numbers
+        (course_is_recorded d asks a.courses a.numbers (has_left d) v n stored_now.course (a.numbers n) stored_now.recorded q.records) each_course same_numbers
 
   -- ---- the whole
 

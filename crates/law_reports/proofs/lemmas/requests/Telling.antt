@@ -21,10 +21,10 @@ use Rattle.law_reports.proofs.lemmas.requests.lemmas.driver_requests.RowOrder.{r
 use Rattle.law_reports.proofs.lemmas.requests.lemmas.driver_requests.Ordering.{numbers_more, numbers_still}
 use Rattle.law_reports.specs.requests.told_requests.Told.{is_cancel, AreToldTo, RequestsAreToldTo}
 use Rattle.law_reports.specs.requests.told_requests.Waiting.{waiting}
-use Rattle.law_reports.proofs.lemmas.requests.lemmas.told_requests.Harvests.{other_harvests, other_returns, harvest_goes_on, harvest_ends, harvest_stalls}
-use Rattle.law_reports.proofs.lemmas.requests.lemmas.told_requests.Quiet.{quiet_rows}
-use Rattle.law_reports.proofs.lemmas.requests.lemmas.told_requests.Waiting.{transfer_waits, quiet_waiting}
-use Rattle.law_reports.proofs.lemmas.requests.lemmas.told_requests.WaitingHarvests.{other_harvest_waits, other_returns_wait, harvest_keeps_waits, harvest_ends_one, harvest_stalls_all, stall_has_windows}
+use Rattle.law_reports.proofs.lemmas.requests.lemmas.told_requests.Harvests.{other_harvests_stay, other_returns_stay, harvest_goes_on, harvest_ends, harvest_stalls}
+use Rattle.law_reports.proofs.lemmas.requests.lemmas.told_requests.Quiet.{quiet_rows_keep_lines}
+use Rattle.law_reports.proofs.lemmas.requests.lemmas.told_requests.Waiting.{transfer_adds_waiting, quiet_rows_keep_waiting}
+use Rattle.law_reports.proofs.lemmas.requests.lemmas.told_requests.WaitingHarvests.{other_harvest_keeps_waiting, other_returns_keep_waiting, harvest_keeps_waiting, harvest_ends_one, harvest_stalls_all, stall_has_windows}
 use Rattle.law_reports.proofs.lemmas.requests.lemmas.told_requests.Windows.{windows_grow}
 use Rattle.law_reports.proofs.lemmas.requests.Lists.{numbers_all}
 use Rattle.law_reports.specs.requests.Telling.{IsTelling, IsUncancelled, TellingIsTold, ActsKeepTelling, QuietRowKeepsTelling, OtherHarvestKeepsTelling, OtherReturnsKeepTelling, HarvestKeepsTelling, HarvestTells, behind, StallTells, AddsTransfer, AcceptedKeepsTelling, OtherAcceptedKeepsTelling}
@@ -49,12 +49,12 @@ mapped_drop asks v (suc n) (t ∷ ts) = mapped_drop asks v n ts
 
 -- ---- what is told
 
-pub telling_told : TellingIsTold
-telling_told d asks e name whole v reported waits k =
+pub telling_is_told : TellingIsTold
+telling_is_told d asks e name whole v reported waits k =
     subst (λ (ws : List Window). RequestsAreToldTo d name whole ws (at asks v waits)) (sym (ap (map (window_at asks v)) k.numbers ∙ map-append (window_at asks v) reported waits)) k.told
 
-pub acts_keep : ActsKeepTelling
-acts_keep d asks e name whole v u reported waits going same k = record {
+pub acts_keep_telling : ActsKeepTelling
+acts_keep_telling d asks e name whole v u reported waits going same k = record {
   numbers = k.numbers;
   told = subst (λ (ws : List Window). AreToldTo d.reports d.store name whole (ws ++ at asks u waits) (at asks u waits)) (same_windows asks v u reported same)
       (windows_grow d.reports d.store name whole (at asks v reported) (at asks v waits) (at asks u waits) going k.told);
@@ -63,36 +63,36 @@ acts_keep d asks e name whole v u reported waits going same k = record {
 
 -- ---- rows
 
-pub quiet_row : QuietRowKeepsTelling
-quiet_row p row asks e name whole v reported waits quiet k =
-    let z = quiet_rows row p quiet in
+pub quiet_row_keeps_telling : QuietRowKeepsTelling
+quiet_row_keeps_telling p row asks e name whole v reported waits quiet k =
+    let z = quiet_rows_keep_lines row p quiet in
     record {
       numbers = row_numbers p row e ∙ k.numbers;
       told = subst (λ (s : List ℕ). AreToldTo (after_driver_row row p).driver.reports s name whole (at asks v reported ++ at asks v waits) (at asks v waits)) (sym z.store)
           (subst (λ (ls : List Report). AreToldTo ls p.driver.store name whole (at asks v reported ++ at asks v waits) (at asks v waits)) (sym z.reports) k.told);
-      wait = k.wait ∙ sym (quiet_waiting row p e quiet);
+      wait = k.wait ∙ sym (quiet_rows_keep_waiting row p e quiet);
     }
 
-pub other_harvest : OtherHarvestKeepsTelling
-other_harvest p j t found asks e name whole v reported waits differs other k = record {
+pub other_harvest_keeps_telling : OtherHarvestKeepsTelling
+other_harvest_keeps_telling p j t found asks e name whole v reported waits differs other k = record {
   numbers = row_numbers p (rows.Harvest j t found) e ∙ k.numbers;
-  told = other_harvests p j t found name whole (at asks v reported ++ at asks v waits) (at asks v waits) other k.told;
-  wait = k.wait ∙ sym (other_harvest_waits p j t found e differs);
+  told = other_harvests_stay p j t found name whole (at asks v reported ++ at asks v waits) (at asks v waits) other k.told;
+  wait = k.wait ∙ sym (other_harvest_keeps_waiting p j t found e differs);
 }
 
-pub other_return : OtherReturnsKeepTelling
-other_return p j asks e name whole v reported waits differs other k = record {
+pub other_returns_keep_telling : OtherReturnsKeepTelling
+other_returns_keep_telling p j asks e name whole v reported waits differs other k = record {
   numbers = row_numbers p (rows.ReleaseEndpoint j) e ∙ k.numbers;
-  told = (other_returns p j name whole (at asks v reported ++ at asks v waits) (at asks v waits) other k.told).0;
-  wait = k.wait ∙ sym (other_returns_wait p j e differs).0;
+  told = (other_returns_stay p j name whole (at asks v reported ++ at asks v waits) (at asks v waits) other k.told).0;
+  wait = k.wait ∙ sym (other_returns_keep_waiting p j e differs).0;
 }
 
 -- ---- a harvest of the endpoint
 
-pub harvest_keeps : HarvestKeepsTelling
-harvest_keeps p t n x y asks e whole v reported waits is k =
+pub harvest_keeps_telling : HarvestKeepsTelling
+harvest_keeps_telling p t n x y asks e whole v reported waits is k =
     let told = harvest_goes_on p e t n x y x.desc.name whole (at asks v reported ++ at asks v waits) (at asks v waits) is k.told in
-    let stay = harvest_keeps_waits p e t n x y is in (
+    let stay = harvest_keeps_waiting p e t n x y is in (
       record { numbers = row_numbers p (rows.Harvest e t founds.Active) e ∙ k.numbers; told = told.0; wait = k.wait ∙ sym stay.0 },
       record { numbers = row_numbers p (rows.Harvest e t (founds.Moved n)) e ∙ k.numbers; told = told.1; wait = k.wait ∙ sym stay.1 },
     )
@@ -105,8 +105,8 @@ moved_on : (asks : ℕ → Request) (v : Windows) (xs ys zs : List ℕ) → at a
 moved_on asks v xs ys zs =
     sym (map-append (window_at asks v) xs (ys ++ zs)) ∙ ap (at asks v) (sym (append_assoc xs ys zs)) ∙ map-append (window_at asks v) (xs ++ ys) zs
 
-pub harvest_told : HarvestTells
-harvest_told p t n what x y asks e first whole v reported rest is no_stall no_refusal no_cancel right k =
+pub harvest_tells : HarvestTells
+harvest_tells p t n what x y asks e first whole v reported rest is no_stall no_refusal no_cancel right k =
     let now : DriverContent = (after_driver_row (rows.Harvest e t (founds.Ended n what)) p).driver in
     let told : RequestsAreToldTo now x.desc.name whole (at asks v reported ++ at asks v (first ∷ rest)) (left_by what (at asks v (first ∷ rest))) =
     harvest_ends p e t n what x y whole (at asks v reported ++ at asks v (first ∷ rest)) (at asks v (first ∷ rest)) is no_stall no_refusal right k.told in
@@ -119,8 +119,8 @@ harvest_told p t n what x y asks e first whole v reported rest is no_stall no_re
       wait = omega (arith, long, one);
     }
 
-pub stall_told : StallTells
-stall_told p t n x y asks e first whole v reported rest is control begins k =
+pub stall_tells : StallTells
+stall_tells p t n x y asks e first whole v reported rest is control begins k =
     let now : DriverContent = (after_driver_row (rows.Harvest e t (founds.Ended n (lines.Halt Stall))) p).driver in
     let b : ℕ = behind p e t in
     let few = stall_has_windows p e t x y (window_at asks v first) (at asks v rest) is (length-map (first ∷ rest) (window_at asks v) ∙ k.wait) in
@@ -179,7 +179,7 @@ module _ (d c : DriverContent) (y : Transfer) (asks now : ℕ → Request) (e : 
 
   mine : y.endpoint ≡ e → IsTelling c now e name whole v reported (waits ++ length d.transfers ∷ [])
   mine of =
-      let more = transfer_waits d c y e adds.transfers ∙ ap (λ (j : ℕ). waiting d e + j) (waits_by true adds.fresh (eq-eqb y.endpoint e of)) in
+      let more = transfer_adds_waiting d c y e adds.transfers ∙ ap (λ (j : ℕ). waiting d e + j) (waits_by true adds.fresh (eq-eqb y.endpoint e of)) in
       let size = length-append waits (length d.transfers ∷ []) in
       let long = k.wait in
       record {
@@ -190,7 +190,7 @@ module _ (d c : DriverContent) (y : Transfer) (asks now : ℕ → Request) (e : 
 
   others : y.endpoint ≢ e → IsTelling c now e name whole v reported waits
   others other =
-      let more = transfer_waits d c y e adds.transfers ∙ ap (λ (j : ℕ). waiting d e + j) (waits_by false adds.fresh (not_same y.endpoint e other)) in
+      let more = transfer_adds_waiting d c y e adds.transfers ∙ ap (λ (j : ℕ). waiting d e + j) (waits_by false adds.fresh (not_same y.endpoint e other)) in
       let long = k.wait in
       record {
         numbers = numbers_still d c e y adds.transfers other ∙ k.numbers;
@@ -198,8 +198,8 @@ module _ (d c : DriverContent) (y : Transfer) (asks now : ℕ → Request) (e : 
         wait = omega (arith, more, long);
       }
 
-pub accepted_keeps : AcceptedKeepsTelling
-accepted_keeps d c y asks now e name whole v reported waits adds going of k = mine d c y asks now e name whole v reported waits adds going k of
+pub accepted_keeps_telling : AcceptedKeepsTelling
+accepted_keeps_telling d c y asks now e name whole v reported waits adds going of k = mine d c y asks now e name whole v reported waits adds going k of
 
-pub other_accepted_keeps : OtherAcceptedKeepsTelling
-other_accepted_keeps d c y asks now e name whole v reported waits adds going other k = others d c y asks now e name whole v reported waits adds going k other
+pub other_accepted_keeps_telling : OtherAcceptedKeepsTelling
+other_accepted_keeps_telling d c y asks now e name whole v reported waits adds going other k = others d c y asks now e name whole v reported waits adds going k other

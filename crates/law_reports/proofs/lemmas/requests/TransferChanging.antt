@@ -12,7 +12,7 @@ use Rattle.law_driver.proofs.lemmas.run_owners.Released.{same_by_test}
 use Rattle.dev_control.specs.Stages.{Stages}
 use Rattle.claims_report.specs.Requests.{Request}
 use Rattle.law_request.specs.Host.{Endpoint, Setup}
-use Rattle.law_request.proofs.Steps.{right}
+use Rattle.law_request.proofs.Steps.{window_is_right}
 use Rattle.claims_report.specs.ControlSides.{Device}
 use Rattle.law_ring.specs.Hand.{Hand}
 use Rattle.law_devices.specs.ring_requests.Windows.{Sent, Queue, sent_at, Lines, lines_at, IsQueue, opened}
@@ -58,8 +58,8 @@ numbers_each courses numbers n a P mine others k =
     (λ (at : k ≡ n). subst (P k (courses k)) (sym (ap (λ (b : Bool). if b then a else numbers k) (eq-eqb k n at))) (subst (λ (j : ℕ). P j (courses j) a) (sym at) mine))
     (λ (differs : k ≢ n). subst (P k (courses k)) (sym (ap (λ (b : Bool). if b then a else numbers k) (not_same k n differs))) (others k differs)) (cases_eq k n)
 
-pub course_recorded : CourseIsRecorded
-course_recorded d asks courses numbers gone v n c a mine rec = record {
+pub course_is_recorded : CourseIsRecorded
+course_is_recorded d asks courses numbers gone v n c a mine rec = record {
   each = each_with courses numbers n c a (λ (k : ℕ) (x : Course) (y : Numbers). has_queue x ≡ true → IsRecord d asks k x y v) (λ has. mine) (λ k differs has. rec.each k has);
   left = rec.left;
   none = rec.none;
@@ -84,15 +84,15 @@ module _ (q : Queue) (a : Numbers) (k : IsAhead q a.requests) (more : q.count < 
             let less : i < q.count = omega (arith, few, differs) in k.same i less ∙ sym (with_old q (a.requests.requests q.count) (a.requests.places q.count) i less)) (cases_eq i q.count);
       }
 
-pub behind_published : BehindIsPublished
-behind_published d asks n b e q l a v more k = record {
+pub behind_is_published : BehindIsPublished
+behind_is_published d asks n b e q l a v more k = record {
   numbered = record { own = k.numbered.own; order = k.numbered.order; ahead = ahead_next q a k.numbered.ahead more };
   acts = k.acts;
   closed = k.closed;
 }
 
-pub halted_published : HaltedIsPublished
-halted_published d asks n b e q c a v more k = record {
+pub halted_is_published : HaltedIsPublished
+halted_is_published d asks n b e q c a v more k = record {
   numbered = record { own = k.numbered.own; order = k.numbered.order; ahead = ahead_next q a k.numbered.ahead more };
   acts = k.acts;
   closed = k.closed;
@@ -102,8 +102,8 @@ halted_published d asks n b e q c a v more k = record {
 first_acts : (q : Queue) (ping : Bool) (c : Stages) (a : Numbers) (v : Windows) → 0 < a.requests.count → ((i : ℕ) → i < a.requests.count → v.acts (a.number i) ≡ []) → AreRecorded a.requests a.number (v.opened a.endpoint) v.acts (lines_at q ping c)
 first_acts q ping c a v some none = record { begun = λ i upto. none i (omega (arith, upto, some)); behind = λ i after few. none i few; is_open = inr refl }
 
-pub first_published : FirstIsPublished
-first_published d asks n b e q c ping a v more k = record {
+pub first_is_published : FirstIsPublished
+first_is_published d asks n b e q c ping a v more k = record {
   numbered = record { own = k.numbered.own; order = k.numbered.order; ahead = ahead_next q a k.numbered.ahead more };
   acts = first_acts (next_request a q) ping c a v (omega (arith, more)) k.acts;
   closed = k.closed;
@@ -116,8 +116,8 @@ module _ (d : DriverContent) (asks : ℕ → Request) (n b : ℕ) (q : Queue) (c
       let few = k.numbered.ahead.few in
       record { numbered = record { own = k.numbered.own; order = k.numbered.order; ahead = k.numbered.ahead }; acts = first_acts q ping c a v (omega (arith, some, few)) k.acts; closed = k.closed }
 
-pub mended_recorded : MendedIsRecorded
-mended_recorded d asks n b q c ping a v k = mended_by d asks n b q c ping a v k q.count refl
+pub mended_is_recorded : MendedIsRecorded
+mended_is_recorded d asks n b q c ping a v k = mended_by d asks n b q c ping a v k q.count refl
 
 -- ---- the first is done
 
@@ -185,11 +185,12 @@ module _ (d : DriverContent) (asks : ℕ → Request) (n b : ℕ) (q : Queue) (l
     closed = closed_now;
   }
 
-pub first_recorded : FirstIsClosed
-first_recorded d asks n b q l a v more once k = first_done d asks n b q l a v (omega (arith, more)) once k more
+pub first_is_closed : FirstIsClosed
+first_is_closed d asks n b q l a v more once k = first_done d asks n b q l a v (omega (arith, more)) once k more
 
-pub last_recorded : LastIsClosed
-last_recorded d asks n b q l c a v one under once k = last_done d asks n b q l a v (omega (arith, one)) once k c (omega (arith, under, one))
+pub last_is_closed : LastIsClosed
+last_is_closed d asks n b q l c a v one under once k =
+    last_done d asks n b q l a v (omega (arith, one)) once k c (omega (arith, under, one))
 
 -- ---- all are closed
 
@@ -200,8 +201,8 @@ module _ (d : DriverContent) (asks : ℕ → Request) (n : ℕ) (a : Numbers) (v
     begun_once i upto =
         ⊎_elim {C = IsOnce (q.requests i).setup (l.line i).acts}
         (λ (same : i ≡ l.under).
-        subst (λ (j : ℕ). IsOnce (q.requests j).setup (l.line j).acts) (sym same) (right q.endpoint (q.requests l.under) (l.line l.under) w.window.stands).once)
-        (λ (differs : i ≢ l.under). (right q.endpoint (q.requests i) (l.line i) (w.finished i (omega (arith, upto, differs))).stands).once) (cases_eq i l.under)
+        subst (λ (j : ℕ). IsOnce (q.requests j).setup (l.line j).acts) (sym same) (window_is_right q.endpoint (q.requests l.under) (l.line l.under) w.window.stands).once)
+        (λ (differs : i ≢ l.under). (window_is_right q.endpoint (q.requests i) (l.line i) (w.finished i (omega (arith, upto, differs))).stands).once) (cases_eq i l.under)
 
     each_once : (i : ℕ) → i < a.requests.count → IsOnceAt asks v (a.number i)
     each_once i few =
@@ -230,8 +231,8 @@ none_more : (xs : List ℕ) → xs ≡ xs ++ []
 none_more [] = refl
 none_more (x ∷ xs) = ap (λ (ys : List ℕ). x ∷ ys) (none_more xs)
 
-pub all_recorded : AllAreClosed
-all_recorded d asks n b q l c a v hand parts o w k = record {
+pub all_are_closed : AllAreClosed
+all_are_closed d asks n b q l c a v hand parts o w k = record {
   numbered = record {
     own = record { endpoint = k.numbered.own.endpoint; transfers = λ i few. absurd (omega (arith, few)); rising = λ i j before few. absurd (omega (arith, few)); laid = λ i from few. absurd (omega (arith, few)) };
     order = record { numbers = k.numbered.order.numbers ∙ none_more (a.closed ++ first_of a.number a.requests.count); requests = λ i few. absurd (omega (arith, few)) };
@@ -243,8 +244,8 @@ all_recorded d asks n b q l c a v hand parts o w k = record {
 
 -- ---- endpoints come and go
 
-pub new_recorded : NewIsRecorded
-new_recorded d asks n b e q c v new =
+pub new_is_recorded : NewIsRecorded
+new_is_recorded d asks n b e q c v new =
     let none = new.none in
     record {
       numbered = record {
@@ -280,5 +281,5 @@ module _ (d : DriverContent) (asks : ℕ → Request) (courses : ℕ → Course)
     none = rec.none;
   }
 
-pub course_gone : CourseIsGone
-course_gone d asks courses numbers gone v n hand parts asked rec = gone_recorded d asks courses numbers gone v n hand parts asked rec
+pub course_is_gone : CourseIsGone
+course_is_gone d asks courses numbers gone v n hand parts asked rec = gone_recorded d asks courses numbers gone v n hand parts asked rec

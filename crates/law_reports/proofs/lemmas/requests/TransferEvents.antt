@@ -36,7 +36,7 @@ use Rattle.law_reports.proofs.lemmas.requests.lemmas.world_requests.Acting.{none
 use Rattle.law_reports.proofs.lemmas.requests.lemmas.world_requests.Following.{event_kept}
 use Rattle.law_reports.proofs.lemmas.requests.lemmas.world_requests.Queues.{quiet_acts}
 use Rattle.law_reports.specs.requests.driver_requests.Requests.{IsOfEndpoint, IsOfTransfer, IsLaidOut, AreOfEndpoint, AreOfDriver, AreUnderWay}
-use Rattle.law_reports.proofs.lemmas.requests.lemmas.driver_requests.Telling.{transfers_told}
+use Rattle.law_reports.proofs.lemmas.requests.lemmas.driver_requests.Telling.{transfers_are_told}
 use Rattle.law_reports.specs.requests.Courses.{Course, NoQueue, Asks, Rests, has_queue, is_asking, queue_in, lines_in, IsCourse, queues, are_asking, all_lines, CoursesStand}
 use Rattle.law_reports.specs.requests.QueueEvents.{line_after, course_after, courses_after, CoursesGoOn}
 use Rattle.law_reports.proofs.lemmas.requests.Courses.{sent_are, windows_are, asks_has, asked_of}
@@ -103,7 +103,7 @@ module _ (fixed : Fixed) (base : Base) (member : ℕ → Bool) (courses : ℕ �
 
   transfers : AreTransfers w.driver (are_asking courses) (queues courses) (all_lines courses) parts (λ n. (numbers n).endpoint) (λ n. (numbers n).number)
   transfers =
-      transfers_told d member (are_asking courses) (queues courses) (all_lines courses) parts (λ n. (numbers n).endpoint) (λ n. (numbers n).number) owned.owners owned.qtds owned.driven
+      transfers_are_told d member (are_asking courses) (queues courses) (all_lines courses) parts (λ n. (numbers n).endpoint) (λ n. (numbers n).number) owned.owners owned.qtds owned.driven
       (sent_are control_of member courses parts hand (wired fixed w) stand) way of_driver
 
   recorded : IsRecorded (are_asking courses) (queues courses) (λ n. (numbers n).endpoint) (λ n. (numbers n).number) (all_lines courses) v
@@ -383,14 +383,14 @@ module _ (fixed : Fixed) (base : Base) (member : ℕ → Bool) (courses : ℕ �
   counts_by n (Asks q b l) is has k = asking_counts n b q l is k
   counts_by n (Rests q b c) is has k = resting_counts n b q c is k
 
-pub records_follow : EventKeepsRecords
-records_follow fixed base member courses numbers gone parts hand asks w v event g on controlled stand owned alone rec =
+pub event_keeps_records : EventKeepsRecords
+event_keeps_records fixed base member courses numbers gone parts hand asks w v event g on controlled stand owned alone rec =
     records_after fixed base member courses numbers gone parts hand asks w v event g on controlled stand owned alone rec
 
-pub closed_follow : EventKeepsClosed
-closed_follow fixed base member courses numbers gone parts hand asks w v event g on controlled stand owned alone rec =
+pub event_keeps_closed : EventKeepsClosed
+event_keeps_closed fixed base member courses numbers gone parts hand asks w v event g on controlled stand owned alone rec =
     closed_stay fixed base member courses numbers gone parts hand asks w v event g on controlled stand owned alone rec
 
-pub counts_follow : EventKeepsCounts
-counts_follow fixed base member courses numbers gone parts hand asks w v event g on controlled stand owned alone rec n has k =
+pub event_keeps_counts : EventKeepsCounts
+event_keeps_counts fixed base member courses numbers gone parts hand asks w v event g on controlled stand owned alone rec n has k =
     counts_by fixed base member courses numbers gone parts hand asks w v event g on controlled stand owned alone rec n (courses n) refl has k

@@ -19,7 +19,7 @@ use Rattle.claims_driver.specs.Owners.{note_in, is_descriptor}
 use Rattle.law_driver.specs.chained_transfers.Chains.{piece_at}
 use Rattle.law_driver.specs.chained_transfers.Turns.{IsAtPlace}
 use Rattle.law_driver.proofs.lemmas.chained_transfers.Ways.{found_by}
-use Rattle.law_driver_ring.proofs.lemmas.harvested_streams.Harvesting.{token_read}
+use Rattle.law_driver_ring.proofs.lemmas.harvested_streams.Harvesting.{token_is_read}
 use Rattle.claims_report.specs.Requests.{Request}
 use Rattle.law_devices.specs.ring_requests.Laid.{Places}
 use Rattle.law_reports.specs.requests.request_bytes.Fresh.{next_of}
@@ -76,8 +76,8 @@ status_at d t r x y k same at last =
     ap (λ (p : Places). p.status) (places_with_data d t r x k more.0) ∙ ap (λ (z : Transfer). 32 * next_of d.notes (next_of d.notes z.first)) same
     ∙ sym (ap (λ (b : ℕ). 32 * b) (at.place ∙ ap (piece_at (note_in d.notes) y.first) index))) (qtds_case r)
 
-pub done_ended : DoneIsEnded
-done_ended p e t n parts v r x u due k sort at tells here =
+pub done_is_ended : DoneIsEnded
+done_is_ended p e t n parts v r x u due k sort at tells here =
     let d : DriverContent = p.driver in
     let y : Transfer = due.transfer in
     let queued : is_descriptor y.sort ≡ false = ap is_descriptor sort in
@@ -85,5 +85,5 @@ done_ended p e t n parts v r x u due k sort at tells here =
     let token : IsDoneToken (token_in p.memory y.place) (nat_le y.left 1) =
     done_token (nat_le y.left 1) (note_at d.notes y.place) (token_in p.memory y.place) n (subst (λ (z : Sort). founds.Ended n lines.Done ≡ found_in z (nat_le y.left 1) (note_at d.notes y.place) (token_in p.memory y.place)) sort found) in
     let place : x.status ≡ 32 * y.place = status_at d t r x y k (same_Some k.own y (sym k.here ∙ due.there)) at (leb-true y.left 1 token.ends) in
-    let same : token_in p.memory y.place ≡ u.token = token_read p.memory parts (32 * due.endpoint.queue) y.place u tells (ap (parts (32 * due.endpoint.queue)) (sym place) ∙ here) in
+    let same : token_in p.memory y.place ≡ u.token = token_is_read p.memory parts (32 * due.endpoint.queue) y.place u tells (ap (parts (32 * due.endpoint.queue)) (sym place) ∙ here) in
     record { qtd = u; here = here; ended = ap (λ (z : Token). z.active) (sym same) ∙ token.done; goes_on = inl (ap (λ (z : Token). z.halted) (sym same) ∙ token.whole) }

@@ -11,7 +11,7 @@ use Rattle.law_reports.specs.requests.Courses.{Course, NoQueue, Asks, has_queue}
 use Rattle.law_reports.specs.requests.QueueChanges.{lines_behind}
 use Rattle.law_reports.specs.requests.Records.{Numbers, IsNumbered, AreActs, IsRecord, AreRecords}
 use Rattle.law_reports.specs.requests.TransferSamples.{courses, both, one, none_gone, first_acted, first_done, then_next}
-use Rattle.law_reports.proofs.lemmas.requests.TransferChanging.{first_recorded}
+use Rattle.law_reports.proofs.lemmas.requests.TransferChanging.{first_is_closed}
 
 -- ---- its one queue head
 
@@ -81,4 +81,4 @@ next_recorded = are_records requests then_next both first_acted next_record none
 
 pub closed_recorded : AreRecords driver asked (courses (without_first requests) (lines_behind requests then_next)) (λ n. one) none_gone first_acted
 closed_recorded =
-    are_records (without_first requests) (lines_behind requests then_next) one first_acted (first_recorded driver asked 4160 4416 requests then_next both first_acted (omega arith) refl next_record) none_acted
+    are_records (without_first requests) (lines_behind requests then_next) one first_acted (first_is_closed driver asked 4160 4416 requests then_next both first_acted (omega arith) refl next_record) none_acted

@@ -10,7 +10,7 @@ use Rattle.drv_table.specs.Accepting.{Offered}
 use Rattle.drv_table.specs.Offers.{offered, IsOffered}
 use Rattle.law_driver.specs.run_owners.Accepts.{Cancels}
 use Rattle.law_driver.specs.chained_transfers.Accepted.{IsAsked}
-use Rattle.law_driver.proofs.lemmas.chained_transfers.Accepting.{command_accepts}
+use Rattle.law_driver.proofs.lemmas.chained_transfers.Accepting.{asynchronous_command_is_accepted}
 use Rattle.claims_report.specs.Requests.{Request}
 use Rattle.bus_world.specs.World.{World, name_in, commanded_by, commanded}
 use Rattle.law_world.specs.steps.Streaming.{Streams, Standing}
@@ -43,8 +43,8 @@ module _ (g : Sides) (fixed : Fixed) (takes : ℕ → ℕ → Bool) (member : �
   }
 
   by_command : (cmd : Cmd) → IsTransferCommand cmd → IsByteCommand cmd → offered w.driver w.memory cmd ≡ Ok o → AsksThen g fixed member s v (asks_then w.driver cmd asks) (commanded_by w line (name_in cmd) (Ok o))
-  by_command (commands.Get name len by) fits bytes is = moves name (command_accepts w.driver w.memory (commands.Get name len by) o k.feeding.turns.asynchronous tt is)
-  by_command (commands.Put name data_bytes by) fits bytes is = moves name (command_accepts w.driver w.memory (commands.Put name data_bytes by) o k.feeding.turns.asynchronous tt is)
+  by_command (commands.Get name len by) fits bytes is = moves name (asynchronous_command_is_accepted w.driver w.memory (commands.Get name len by) o k.feeding.turns.asynchronous tt is)
+  by_command (commands.Put name data_bytes by) fits bytes is = moves name (asynchronous_command_is_accepted w.driver w.memory (commands.Put name data_bytes by) o k.feeding.turns.asynchronous tt is)
   by_command (commands.Control name setup more) fits bytes is =
       let place = k.feeding.working.place in
       let only = k.feeding.turns.asynchronous in
@@ -79,7 +79,8 @@ transfer_keeps_asking g fixed takes member x s a v asks w line cmd o fits bytes 
 
 pub cancel_keeps_asking : CancelKeepsAsking
 cancel_keeps_asking g fixed takes member x s a v asks w line name o room is k head world =
-    let why : Cancels w.driver w.memory o = command_accepts w.driver w.memory (commands.Cancel name) o k.feeding.turns.asynchronous tt is in
+    let why : Cancels w.driver w.memory o =
+    asynchronous_command_is_accepted w.driver w.memory (commands.Cancel name) o k.feeding.turns.asynchronous tt is in
     let q : AsksIn g member s.parts s.hand a v asks w.driver w.memory (wired fixed w) = inside g fixed member s a v asks w world in
     let then_asks : AsksIn g member s.parts s.hand a v asks o.driver o.memory (wired fixed w) =
     subst (λ (f : Offered). AsksIn g member s.parts s.hand a v asks f.driver f.memory (wired fixed w)) (sym why.is)

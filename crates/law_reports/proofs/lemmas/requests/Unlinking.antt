@@ -17,9 +17,9 @@ use Rattle.law_driver.specs.endpoint_lives.Lives.{is_one_of, told_end, may_meet}
 use Rattle.law_driver.proofs.lemmas.endpoint_lives.Lives.{one_of_end, one_of_others}
 use Rattle.claims_report.specs.Requests.{Request}
 use Rattle.claims_report.specs.Controls.{control_of}
-use Rattle.law_driver_ring.proofs.lemmas.told_harvests.Keeping.{done_spared}
+use Rattle.law_driver_ring.proofs.lemmas.told_harvests.Keeping.{spared_is_done}
 use Rattle.law_world.specs.steps.unlinked_streams.Unlinks.{IsAtUnlink, driver_then, IsUnlinked}
-use Rattle.law_world.proofs.lemmas.steps.lemmas.unlinked_streams.Passing.{unlink_row_is}
+use Rattle.law_world.proofs.lemmas.steps.lemmas.unlinked_streams.Passing.{unlink_row}
 use Rattle.law_world.proofs.lemmas.steps.lemmas.unlinked_streams.Streams.{unlink_spares_heads, unlink_spares_elements, unlink_spares_hand}
 use Rattle.bus_world.specs.World.{World, driver_parts, driver_next, with_parts}
 use Rattle.law_world.specs.steps.Streaming.{Streams, Standing}
@@ -28,7 +28,7 @@ use Rattle.law_reports.specs.requests.driver_requests.Rows.{given_by, KeepsEndpo
 use Rattle.law_reports.specs.requests.Courses.{CoursesStand}
 use Rattle.law_reports.proofs.lemmas.requests.Writing.{link_spares}
 use Rattle.law_reports.specs.requests.Records.{AreRecords}
-use Rattle.law_reports.proofs.lemmas.requests.Rows.{row_recorded}
+use Rattle.law_reports.proofs.lemmas.requests.Rows.{row_keeps_records}
 use Rattle.law_world.specs.streams.Leaving.{unlinked}
 use Rattle.law_world.specs.streams.Tails.{IsUnderWay}
 use Rattle.law_world.proofs.lemmas.streams.Unlinking.{unlink_finds}
@@ -38,7 +38,7 @@ use Rattle.law_reports.specs.requests.Asking.{Sides, Asking, left_with, has_left
 use Rattle.law_reports.specs.requests.Rows.{UnlinkKeepsAsking, IsHeadOfNone}
 use Rattle.law_reports.proofs.lemmas.requests.Has.{asking_of}
 use Rattle.law_reports.proofs.lemmas.requests.Leaving.{idle_quiet, unlink_quiet, WasEndpoint, IsEndpointStill, RowLeaves, gone_by, was_met, each_still, world_left}
-use Rattle.law_reports.proofs.lemmas.requests.Missed.{writing_unmissed, linked_unmissed}
+use Rattle.law_reports.proofs.lemmas.requests.Missed.{writing_misses_none, linked_unmissed}
 use Rattle.law_structures.specs.lent_structures.Structures.{QueueHead}
 
 module _ (g : Sides) (fixed : Fixed) (takes : ℕ → ℕ → Bool) (member : ℕ → Bool) (x : Streams) (s : Standing) (a : Asking) (v : Windows) (asks : ℕ → Request) (w : World) (at : IsAtUnlink w.driver member s.parts) (head : IsHeadOfNone x) (k : IsWhole fixed takes member x s w) (z : IsAskingWorld g fixed member s a v asks w) where
@@ -52,7 +52,7 @@ module _ (g : Sides) (fixed : Fixed) (takes : ℕ → ℕ → Bool) (member : �
   new = driver_then w.driver at.number at.endpoint
 
   row : IsUnlinked (driver_parts w) at.number at.endpoint at.before at.after
-  row = unlink_row_is (driver_parts w) member s.parts at
+  row = unlink_row (driver_parts w) member s.parts at
 
   left_now : slice_get new.endpoints f ≡ Some (record own { linked = false })
   left_now = subst (λ (c : DriverContent). slice_get c.endpoints f ≡ Some (record own { linked = false })) row.driver row.left
@@ -131,7 +131,7 @@ module _ (g : Sides) (fixed : Fixed) (takes : ℕ → ℕ → Bool) (member : �
   recorded =
       gone_by new asks a.courses a.numbers (has_left w.driver) (has_left new) v (λ e on. left_by e (slice_get new.endpoints e) refl on)
       (subst (λ (c : DriverContent). AreRecords c asks a.courses a.numbers (has_left w.driver) v) row.driver
-      (row_recorded (driver_parts w) (driver_row (driver_parts w)) asks a.courses a.numbers (has_left w.driver) v
+      (row_keeps_records (driver_parts w) (driver_row (driver_parts w)) asks a.courses a.numbers (has_left w.driver) v
       (λ j has. subst (λ (r : DriverRow). KeepsEndpoint r (a.numbers j).endpoint) (sym row.row) tt)
       (λ j i has few given. let never : ◌≡◌ {A = Option ℕ} None (Some ((a.numbers j).number i)) = ap given_by (sym row.row) ∙ given in cc) z.records))
 
@@ -155,7 +155,7 @@ module _ (g : Sides) (fixed : Fixed) (takes : ℕ → ℕ → Bool) (member : �
             record {
               bytes = d.bytes;
               done =
-                  done_spared s.hand (unlinked s at).hand s.parts (unlinked s at).parts (32 * y.queue) _ _ d.bytes (unlink_spares_hand s.hand w.driver member s.parts at)
+                  spared_is_done s.hand (unlinked s at).hand s.parts (unlinked s at).parts (32 * y.queue) _ _ d.bytes (unlink_spares_hand s.hand w.driver member s.parts at)
                   (unlink_spares_heads w.driver member s.parts at (32 * y.queue)) (unlink_spares_elements w.driver member s.parts at (32 * y.queue) _) d.done;
             };
         rest = r.rest;
@@ -172,13 +172,13 @@ module _ (g : Sides) (fixed : Fixed) (takes : ℕ → ℕ → Bool) (member : �
       (sym row.driver)
       (world_left g fixed member s a v asks w parts_now leaves z (λ e y c. record { lines = refl; telling = λ reported waits t. record { numbers = t.numbers; told = t.told; wait = t.wait } }) (λ name u. refl)
       member (unlinked s at) a.courses
-      (writing_unmissed s.parts (32 * at.before) (32 * at.before) (QueueHead (record at.queue { link = to_queue_head at.after })) (z.unmissed.structures.heads (32 * at.before) at.queue at.head) z.unmissed.structures)
+      (writing_misses_none s.parts (32 * at.before) (32 * at.before) (QueueHead (record at.queue { link = to_queue_head at.after })) (z.unmissed.structures.heads (32 * at.before) at.queue at.head) z.unmissed.structures)
       (linked_unmissed (32 * at.before) (to_queue_head at.after) s.hand z.unmissed.in_hand) stand recorded (each_still g fixed member s a v asks w parts_now leaves z) reads)
 
   pub unlinked_world : HasAskingWorld g fixed takes x.stream x.packets v asks (driver_next w)
   unlinked_world = asking_of g fixed takes member x (unlinked s at) (record { courses = a.courses; numbers = a.numbers }) v asks (driver_next w) (unlink_whole fixed takes member x s w at k) world head
 
-pub unlink_asking : UnlinkKeepsAsking
-unlink_asking g fixed takes member x s a v asks w e before link command head k z =
+pub unlink_keeps_asking : UnlinkKeepsAsking
+unlink_keeps_asking g fixed takes member x s a v asks w e before link command head k z =
     unlinked_world g fixed takes member x s a v asks w
     (unlink_finds fixed member x s w e before link command (subst (λ (c : _). IsUnderWay w.driver w.memory member s.parts c) command k.under_way) k.feeding) head k z

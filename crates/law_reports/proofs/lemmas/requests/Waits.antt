@@ -17,7 +17,7 @@ use Rattle.law_world.specs.steps.Streaming.{Streams, Standing}
 use Rattle.claims_world.specs.Requests.{Windows}
 use Rattle.law_reports.specs.requests.driver_requests.Rows.{KeepsRequests}
 use Rattle.law_reports.specs.requests.Records.{AreRecords}
-use Rattle.law_reports.proofs.lemmas.requests.Rows.{kept_recorded}
+use Rattle.law_reports.proofs.lemmas.requests.Rows.{accepted_keeps_records}
 use Rattle.law_world.specs.streams.HarvestFeeds.{HarvestLeaves}
 use Rattle.law_world.specs.streams.Whole.{IsWhole}
 use Rattle.law_world.proofs.lemmas.streams.Leaving.{due, leaves, whole_harvested}
@@ -44,7 +44,7 @@ module _ (g : Sides) (fixed : Fixed) (member : ℕ → Bool) (s : Standing) (a :
   }
 
   records_then : AreRecords (served w.driver e) asks a.courses a.numbers (has_left (served w.driver e)) v
-  records_then = let k = kept_recorded w.driver f asks a.courses a.numbers (has_left w.driver) v keeps refl q.records in record { each = k.each; left = λ i left. k.left i left; none = k.none }
+  records_then = let k = accepted_keeps_records w.driver f asks a.courses a.numbers (has_left w.driver) v keeps refl q.records in record { each = k.each; left = λ i left. k.left i left; none = k.none }
 
   pub asking_served : IsAskingWorld g fixed member (record s { out = out; reported = reported }) a v asks (record w { driver = served w.driver e })
   asking_served = record {
@@ -93,6 +93,6 @@ module _ (g : Sides) (fixed : Fixed) (takes : ℕ → ℕ → Bool) (member : �
   pub wait_whole : IsWhole fixed takes member x (record s { out = l.out; reported = l.reported }) (driver_next w)
   wait_whole = whole_harvested fixed takes member x s w e t founds.Active row k l
 
-pub wait_asking : WaitKeepsAsking
-wait_asking g fixed takes member x s a v asks w e t row head k q =
+pub wait_keeps_asking : WaitKeepsAsking
+wait_keeps_asking g fixed takes member x s a v asks w e t row head k q =
     asking_of g fixed takes member x _ a v asks (driver_next w) (wait_whole g fixed takes member x s a v asks w e t row k q) (asking_waits g fixed takes member x s a v asks w e t row k q) head

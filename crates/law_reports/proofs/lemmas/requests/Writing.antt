@@ -16,7 +16,7 @@ use Rattle.law_ring.specs.Fewer.{fewer_structures, without_those}
 use Rattle.law_ring.specs.Front.{SameRest}
 use Rattle.law_ring.specs.Sparing.{SameHand, SameOverlay, HasOverlay, SparesHead}
 use Rattle.law_ring.specs.Stores.{hand_linked}
-use Rattle.law_ring.proofs.SparedSparing.{linked_same}
+use Rattle.law_ring.proofs.SparedSparing.{linked_hand_is_same}
 use Rattle.law_devices.specs.ring_requests.Laid.{place_at, IsIdle}
 use Rattle.law_devices.specs.ring_requests.Windows.{Queue}
 use Rattle.law_devices.specs.ring_requests.Resting.{HeadStays, SameSide}
@@ -336,6 +336,6 @@ link_spares device member courses parts hand wire k q l here stand =
     (λ n c.
     course_kept device parts (put parts k k (QueueHead new)) hand (hand_linked k l hand) wire n (courses n)
     (λ on.
-    linked_keeps parts k q new here rest overlay hand (hand_linked k l hand) (queues courses n) (tail_in (courses n)) n (linked_side k n l hand) (linked_same k l hand) (head_of device parts hand wire n (courses n) on c)
+    linked_keeps parts k q new here rest overlay hand (hand_linked k l hand) (queues courses n) (tail_in (courses n)) n (linked_side k n l hand) (linked_hand_is_same k l hand) (head_of device parts hand wire n (courses n) on c)
     (tail_of device parts hand wire n (courses n) on c)) c)
     (linked_ends parts k q new here rest overlay member) stand

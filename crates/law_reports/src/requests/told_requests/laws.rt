@@ -80,7 +80,7 @@ pub fn windows_of_a_driver_grow()
 {}
 
 /// The closing line of a control endpoint tells how often its device acted on a request.
-pub fn a_closing_line_tells_how_often_a_device_acted()
+pub fn closing_tells_acted()
     ensures { ClosingTellsActed }
 {}
 

@@ -1,5 +1,5 @@
-use Rattle.law_request.proofs.Steps.{keeps}
+use Rattle.law_request.proofs.Steps.{transaction_keeps}
 use Rattle.law_request.proofs.laws.transaction_keeps.Goals as goal
 
 pub returns : goal.returns
-returns c = keeps
+returns c = transaction_keeps

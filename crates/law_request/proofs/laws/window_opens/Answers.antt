@@ -1,5 +1,5 @@
-use Rattle.law_request.proofs.Steps.{opens}
+use Rattle.law_request.proofs.Steps.{window_opens}
 use Rattle.law_request.proofs.laws.window_opens.Goals as goal
 
 pub returns : goal.returns
-returns c = opens
+returns c = window_opens

@@ -1,5 +1,5 @@
-use Rattle.law_request.proofs.Steps.{all_right}
+use Rattle.law_request.proofs.Steps.{windows_are_right}
 use Rattle.law_request.proofs.laws.windows_are_right.Goals as goal
 
 pub returns : goal.returns
-returns c = all_right
+returns c = windows_are_right

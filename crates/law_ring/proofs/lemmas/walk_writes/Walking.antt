@@ -148,6 +148,6 @@ module _ {W : Type 0} (transacts : W → Ask → List ℕ → Reply → W → Ty
 
 -- ---- an event
 
-pub event_writes : {W : Type 0} (transacts : W → Ask → List ℕ → Reply → W → Type 0) (p : WalkPlace) (before : W) (new : WalkPlace) (after : W) → IfSome p.walk.held IsPlaced → Leads transacts (event_row p) (at_event p) before new after → WritesLent p.memory new.memory
-event_writes transacts p before new after is leads =
+pub each_event_writes_lent_words : {W : Type 0} (transacts : W → Ask → List ℕ → Reply → W → Type 0) (p : WalkPlace) (before : W) (new : WalkPlace) (after : W) → IfSome p.walk.held IsPlaced → Leads transacts (event_row p) (at_event p) before new after → WritesLent p.memory new.memory
+each_event_writes_lent_words transacts p before new after is leads =
     both_write p.memory (at_event p).memory new.memory (event_reads (started p) p.walk.held) (row_writes transacts (at_event p) new before after (event_row p) is leads)

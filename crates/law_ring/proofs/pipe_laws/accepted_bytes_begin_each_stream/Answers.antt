@@ -1,5 +1,5 @@
-use Rattle.law_ring.proofs.PipeAgreeing.{taken_begins}
+use Rattle.law_ring.proofs.PipeAgreeing.{accepted_bytes_begin_each_stream}
 use Rattle.law_ring.proofs.pipe_laws.accepted_bytes_begin_each_stream.Goals as goal
 
 pub returns : goal.returns
-returns g c = taken_begins
+returns g c = accepted_bytes_begin_each_stream

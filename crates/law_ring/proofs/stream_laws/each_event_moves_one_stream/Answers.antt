@@ -1,5 +1,5 @@
-use Rattle.law_ring.proofs.StreamEvents.{event_streams}
+use Rattle.law_ring.proofs.StreamEvents.{each_event_moves_one_stream}
 use Rattle.law_ring.proofs.stream_laws.each_event_moves_one_stream.Goals as goal
 
 pub returns : goal.returns
-returns g c = event_streams g.W.Wire.transacts
+returns g c = each_event_moves_one_stream g.W.Wire.transacts

@@ -151,8 +151,8 @@ floor_worked_bytes fixed (x ∷ xs) floor h = floor_worked_bytes fixed xs (floor
 begun_at_bytes : (frindex : ℕ) (d : Device) → IsByteDevice d → IsByteDevice (begun_at frindex d)
 begun_at_bytes frindex d h = cond_both (begins_anew d.speed frindex) (begun d) d IsByteDevice (λ _. begun_bytes d h) (λ _. h)
 
-pub begin_bytes : (fixed : Fixed) (frindex : ℕ) (b : Bus) → IsByteBus b → IsByteBus (begin_after fixed frindex b)
-begin_bytes fixed frindex b h = record {
+pub a_microframe_keeps_bytes : (fixed : Fixed) (frindex : ℕ) (b : Bus) → IsByteBus b → IsByteBus (begin_after fixed frindex b)
+a_microframe_keeps_bytes fixed frindex b h = record {
   devices = all_map IsByteDevice IsByteDevice (begun_at frindex) (floor_worked fixed b.hubs (floor_of b)).devices (begun_at_bytes frindex) (floor_worked_bytes fixed b.hubs (floor_of b) h.devices);
   hubs = hubs_bytes fixed frindex b.hubs (floor_of b) h.devices h.hubs;
 }

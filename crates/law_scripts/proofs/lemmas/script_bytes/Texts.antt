@@ -101,6 +101,6 @@ after_text : (x : Result Draft (ℕ × TextWhy)) → IsByteRead x → IsByteRun 
 after_text (Ok w) h = script_bytes w h
 after_text (Err fault) h = tt
 
-pub spelled_bytes : (text : List ℕ) (s : Script) → Spells text s → IsByteScript s
+pub a_text_spells_bytes : (text : List ℕ) (s : Script) → Spells text s → IsByteScript s
 unfolding script_read
-spelled_bytes text s e = subst IsByteRun e (after_text (text_read text) (text_bytes text))
+a_text_spells_bytes text s e = subst IsByteRun e (after_text (text_read text) (text_bytes text))

@@ -104,16 +104,17 @@ found_here part a b s t same found = same_Some s t (sym (with_here part a s) ∙
 other_kind : (part : Structures) (a b : ℕ) (s t : Structure) → (kind_number s ≡ kind_number t → ⊥) → with_structure part a s b ≡ Some t → b ≢ a
 other_kind part a b s t differ found same = differ (ap kind_number (found_here part a b s t same found))
 
-pub head_put : (part : Structures) (a : ℕ) (q new : Qh) → part a ≡ Some (QueueHead q) → Alters part (with_structure part a (QueueHead new))
-head_put part a q new at = record {
+pub a_queue_head_alters_nothing : (part : Structures) (a : ℕ) (q new : Qh) → part a ≡ Some (QueueHead q)
+    → Alters part (with_structure part a (QueueHead new))
+a_queue_head_alters_nothing part a q new at = record {
   element = λ b t here. record { qtd = t; here = there part a b (QueueHead new) (Element t) (no_two part b a (Element t) (QueueHead q) here at (λ e. cc)) here; after = is_itself t };
   element_before = λ b u here. record { qtd = u; here = beside part a b (QueueHead new) (Some (Element u)) (other_kind part a b (QueueHead new) (Element u) (λ e. cc) here) here; after = is_itself u };
   buffer = λ b pages k bs here. record { bytes = bs; here = there part a b (QueueHead new) (Buffer pages k bs) (no_two part b a (Buffer pages k bs) (QueueHead q) here at (λ e. cc)) here; size = refl };
   buffer_before = λ b pages k bs here. record { bytes = bs; here = beside part a b (QueueHead new) (Some (Buffer pages k bs)) (other_kind part a b (QueueHead new) (Buffer pages k bs) (λ e. cc) here) here; size = refl };
 }
 
-pub element_put : (part : Structures) (a : ℕ) (t u : Qtd) → part a ≡ Some (Element t) → IsAfter t u → Alters part (with_structure part a (Element u))
-element_put part a t u at after = record {
+pub a_token_alters_its_qtd : (part : Structures) (a : ℕ) (t u : Qtd) → part a ≡ Some (Element t) → IsAfter t u → Alters part (with_structure part a (Element u))
+a_token_alters_its_qtd part a t u at after = record {
   element = λ b v here.
       ⊎_elim (λ (same : b ≡ a). record {
         qtd = u;

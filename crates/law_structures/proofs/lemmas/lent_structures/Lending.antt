@@ -10,7 +10,7 @@ use Rattle.word_mem.specs.declared.blocks.BlockState.TheVariants.{Free, Kept, Le
 use Rattle.word_mem.proofs.Frames.{shaped_word, shaped_states, shaped_released, state_at-with_states_inside, state_at-with_states_before, state_at-with_states_after, word_at-released_before, word_at-released_after}
 use Rattle.law_structures.specs.lent_structures.Structures.{Structure, StructureSets, put, Holds, Has, Tells}
 use Rattle.law_structures.specs.lent_structures.Changes.{Leaves, IsNew}
-use Rattle.law_structures.proofs.lemmas.lent_structures.Telling.{told_stays, told_still, told_lent, added}
+use Rattle.law_structures.proofs.lemmas.lent_structures.Telling.{told_stays, rest_is_told, told_lent, new_is_told}
 
 -- a block is one of the run's, or comes before or after it
 pub in_run : (r : Run) (b : ℕ) → HasBlock r b ⊎ ((b < r.first) ⊎ (r.first + r.blocks ≤ b))
@@ -49,14 +49,14 @@ lent_new m r a s kept inside holds = record {
   fresh = λ b has lent. let here : HasBlock r b = inside b has in kept_not_lent (state_at m b) (kept b here.from here.below) lent;
 }
 
-pub lent_put : (m : Mem) (parts : StructureSets) (n a : ℕ) (s : Structure) (r : Run) → Tells m parts → r.first + r.blocks ≤ length m.states → AreAll m Kept r → ((b : ℕ) → Has a s b → HasBlock r b) → Holds (with_states m r Lent) a s → Tells (with_states m r Lent) (put parts n a s)
-lent_put m parts n a s r t within kept inside holds =
-    added m (with_states m r Lent) parts n a s t (lend_leaves m r within t.shape) (lent_new m r a s kept inside holds)
+pub lent_is_told : (m : Mem) (parts : StructureSets) (n a : ℕ) (s : Structure) (r : Run) → Tells m parts → r.first + r.blocks ≤ length m.states → AreAll m Kept r → ((b : ℕ) → Has a s b → HasBlock r b) → Holds (with_states m r Lent) a s → Tells (with_states m r Lent) (put parts n a s)
+lent_is_told m parts n a s r t within kept inside holds =
+    new_is_told m (with_states m r Lent) parts n a s t (lend_leaves m r within t.shape) (lent_new m r a s kept inside holds)
 
 -- ---- a run is got back, of which no structure that is told has a block
 
-pub got_back : (m : Mem) (parts : StructureSets) (r : Run) (s : BlockState) → Tells m parts → r.first + r.blocks ≤ length m.states → ((n a : ℕ) (u : Structure) (b : ℕ) → parts n a ≡ Some u → Has a u b → HasBlock r b → ⊥) → Tells (with_states m r s) parts
-got_back m parts r s t within apart =
+pub got_back_is_told : (m : Mem) (parts : StructureSets) (r : Run) (s : BlockState) → Tells m parts → r.first + r.blocks ≤ length m.states → ((n a : ℕ) (u : Structure) (b : ℕ) → parts n a ≡ Some u → Has a u b → HasBlock r b → ⊥) → Tells (with_states m r s) parts
+got_back_is_told m parts r s t within apart =
     told_stays m (with_states m r s) parts (shaped_states m r s within t.shape)
     (λ n a u here. record {
       lent = λ b has lent.
@@ -76,8 +76,8 @@ word_beside : (m : Mem) (r : Run) (other : ℕ) → r.first + r.blocks ≤ lengt
 word_beside m r other within shape (inl low) = word_at-released_before m r other (omega (arith, within, shape.eight_each)) (omega (arith, low))
 word_beside m r other within shape (inr past) = word_at-released_after m r other (omega (arith, within, shape.eight_each)) (omega (arith, past))
 
-pub told_released : (m : Mem) (parts : StructureSets) (r : Run) (s : BlockState) → Tells m parts → r.first + r.blocks ≤ length m.states → s ≢ Lent → AreAll m s r → Tells (released m r) parts
-told_released m parts r s t within differs all =
+pub released_is_told : (m : Mem) (parts : StructureSets) (r : Run) (s : BlockState) → Tells m parts → r.first + r.blocks ≤ length m.states → s ≢ Lent → AreAll m s r → Tells (released m r) parts
+released_is_told m parts r s t within differs all =
     told_stays m (released m r) parts (shaped_released m r within t.shape)
     (λ n a u here. record {
       lent = λ b has lent.
@@ -98,7 +98,7 @@ other_block m at other kept reached same =
 
 pub told_kept_word : (m : Mem) (parts : StructureSets) (at v : ℕ) → Tells m parts → reaches m at ≡ false → Tells (with_word m at v) parts
 told_kept_word m parts at v t kept =
-    told_still m (with_word m at v) parts
+    rest_is_told m (with_word m at v) parts
     (record {
       shape = shaped_word m at v t.shape;
       lent = λ b lent. lent;

@@ -53,8 +53,8 @@ own_still part now alters own a b t u pages k bs one other same there =
     let buffer = alters.buffer_before (buffer_name t) pages k bs there in
     own a b first.qtd second.qtd pages k buffer.bytes first.here second.here (sym name ∙ same ∙ name_after second.qtd u second.after) (ap part (sym name) ∙ buffer.here)
 
-pub member_still : (member : ℕ → Bool) (n : ℕ) (part now : Structures) (new : Qh) → IsMember member n part → Alters part now → now n ≡ Some (QueueHead new) → LeadsAmong member new.link → IsSoundQueue now new → IsMember member n now
-member_still member n part now new old alters here link sound = record {
+pub an_altered_part_is_sound : (member : ℕ → Bool) (n : ℕ) (part now : Structures) (new : Qh) → IsMember member n part → Alters part now → now n ≡ Some (QueueHead new) → LeadsAmong member new.link → IsSoundQueue now new → IsMember member n now
+an_altered_part_is_sound member n part now new old alters here link sound = record {
   queue = new;
   here = here;
   link = link;

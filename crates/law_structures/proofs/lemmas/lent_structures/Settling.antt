@@ -85,8 +85,8 @@ in_brings ask sent last reply host pid =
 
 -- ---- both
 
-pub settles : (kind : EpKind) (q : Qh) (out : List ℕ) (last : Bool) (reply : Reply) → length out ≡ (transaction_of kind q).bytes → Settles kind q out last reply
-settles kind q out last reply long =
+pub a_transaction_settles : (kind : EpKind) (q : Qh) (out : List ℕ) (last : Bool) (reply : Reply) → length out ≡ (transaction_of kind q).bytes → Settles kind q out last reply
+a_transaction_settles kind q out last reply long =
     let t : Transaction = transaction_of kind q in
     let sent : ℕ = moving_of t.split t.pipe.pid t.host (length out) in
     let few : length out ≤ t.host.left = let b = bytes_few (carries t.split t.pipe.pid t.host.ping) t.host in omega (arith, long, b) in

@@ -11,7 +11,7 @@ use Rattle.mem_bytes.proofs.Frames.{byte_put, word_at-with_bytes, byte_at-with_b
 use Rattle.law_structures.specs.lent_structures.Structures.{StructureSets, Buffer, HoldsBuffer, AreSeparate, put, Tells}
 use Rattle.law_structures.specs.lent_structures.Changes.{Changes, overwritten}
 use Rattle.law_structures.proofs.lemmas.lent_structures.Reading.{part_separate, part_there}
-use Rattle.law_structures.proofs.lemmas.lent_structures.Telling.{changed}
+use Rattle.law_structures.proofs.lemmas.lent_structures.Telling.{change_is_told}
 
 pub length-overwritten : (bs : List ℕ) (j : ℕ) (got : List ℕ) → j + length got ≤ length bs → length (overwritten bs j got) ≡ length bs
 length-overwritten bs j got within =
@@ -99,9 +99,9 @@ bytes_change m a pages k bs j got within = record {
       outside (j + i, omega (arith, within, below), sym (ap (λ x. place pages x / 32) e ∙ same_block (place pages (k + j + i)) other same)));
 }
 
-pub bytes_put : (m : Mem) (parts : StructureSets) (n a : ℕ) (pages : List ℕ) (k : ℕ) (bs : List ℕ) (j : ℕ) (got : List ℕ) → Tells m parts → parts n a ≡ Some (Buffer pages k bs) → j + length got ≤ length bs → ((h : ℕ) → get_or got h 0 < 256) → Tells (with_bytes m pages (k + j) got) (put parts n a (Buffer pages k (overwritten bs j got)))
-bytes_put m parts n a pages k bs j got t here within small =
-    changed m (with_bytes m pages (k + j) got) parts n a (Buffer pages k bs) (Buffer pages k (overwritten bs j got)) t here
+pub bytes_are_told : (m : Mem) (parts : StructureSets) (n a : ℕ) (pages : List ℕ) (k : ℕ) (bs : List ℕ) (j : ℕ) (got : List ℕ) → Tells m parts → parts n a ≡ Some (Buffer pages k bs) → j + length got ≤ length bs → ((h : ℕ) → get_or got h 0 < 256) → Tells (with_bytes m pages (k + j) got) (put parts n a (Buffer pages k (overwritten bs j got)))
+bytes_are_told m parts n a pages k bs j got t here within small =
+    change_is_told m (with_bytes m pages (k + j) got) parts n a (Buffer pages k bs) (Buffer pages k (overwritten bs j got)) t here
     (bytes_change m a pages k bs j got within)
     (λ b has. (has.0, let below = has.1 in let long = length-overwritten bs j got within in omega (arith, below, long), has.2))
     (buffer_after m a pages k bs j got t.shape (t.each n a (Buffer pages k bs) here) within small)

@@ -8,7 +8,7 @@ use Rattle.qh_qtd.specs.QueueHead.{qh_words, IsQhInRange}
 use Rattle.law_structures.specs.lent_structures.Structures.{Structure, QueueHead, Element, Buffer, HoldsQueueHead, HoldsElement, HoldsBuffer, StructureSets, put, Has, AreSeparate, Tells}
 use Rattle.law_structures.specs.lent_structures.StructureSamples.{queue, element, bytes, pages, memory, nothing, parts}
 use Rattle.law_structures.proofs.lemmas.lent_structures.Names.{put_found}
-use Rattle.law_structures.proofs.lemmas.lent_structures.Telling.{joined}
+use Rattle.law_structures.proofs.lemmas.lent_structures.Telling.{another_is_told}
 
 shaped : IsShaped memory
 unfolding qh_words qtd_words
@@ -88,7 +88,7 @@ abbrev head_parts : StructureSets
 head_parts = put nothing 0 0 (QueueHead queue)
 
 head_told : Tells memory head_parts
-head_told = joined memory nothing 0 0 (QueueHead queue) none_told queue_there (λ b k c u has found also. cc)
+head_told = another_is_told memory nothing 0 0 (QueueHead queue) none_told queue_there (λ b k c u has found also. cc)
 
 -- the queue head lies below block 2
 below_two : (k c : ℕ) (u : Structure) (b : ℕ) → head_parts k c ≡ Some u → Has c u b → b < 2
@@ -102,7 +102,7 @@ abbrev two_parts : StructureSets
 two_parts = put head_parts 0 64 (Element element)
 
 two_told : Tells memory two_parts
-two_told = joined memory head_parts 0 64 (Element element) head_told element_there
+two_told = another_is_told memory head_parts 0 64 (Element element) head_told element_there
     (λ b k c u has found also. let low = below_two k c u b found also in omega (arith, low, has))
 
 -- and the qTD below block 3
@@ -119,5 +119,5 @@ in_block_three b (suc zero, below, is) = is
 in_block_three b (suc (suc i), below, is) = absurd (omega (arith, below))
 
 pub sample_told : Tells memory parts
-sample_told = joined memory two_parts 0 100 (Buffer pages 100 bytes) two_told buffer_there
+sample_told = another_is_told memory two_parts 0 100 (Buffer pages 100 bytes) two_told buffer_there
     (λ b k c u has found also. let low = below_three k c u b found also in let at = in_block_three b has in omega (arith, low, at))

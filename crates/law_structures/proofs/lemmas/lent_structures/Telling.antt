@@ -31,8 +31,8 @@ told_stays m after parts shape stays t = record {
   alone = t.alone;
 }
 
-pub told_still : (m after : Mem) (parts : StructureSets) → Leaves m after → Tells m parts → Tells after parts
-told_still m after parts left t = told_stays m after parts left.shape (λ n a s here. stays_left m after a s left (t.each n a s here)) t
+pub rest_is_told : (m after : Mem) (parts : StructureSets) → Leaves m after → Tells m parts → Tells after parts
+rest_is_told m after parts left t = told_stays m after parts left.shape (λ n a s here. stays_left m after a s left (t.each n a s here)) t
 
 -- where words and states are as before
 pub leaves_same : (m after : Mem) (parts : StructureSets) → after.words ≡ m.words → after.states ≡ m.states → Tells m parts → Leaves m after
@@ -75,8 +75,8 @@ old_block parts n a s new k c u b here fewer found has =
     (s, ap (λ (i : ℕ). parts i c) is.0 ∙ ap (parts n) is.1 ∙ here, subst (λ (i : ℕ). Has i s b) (sym is.1) (fewer b (subst (λ (i : ℕ). Has i new b) is.1 (subst (λ (v : Structure). Has c v b) is.2 has)))))
     (λ (there : parts k c ≡ Some u). (u, there, has)) (put_found parts n a new k c u found)
 
-pub changed : (m after : Mem) (parts : StructureSets) (n a : ℕ) (s new : Structure) → Tells m parts → parts n a ≡ Some s → Changes m after a s → ((b : ℕ) → Has a new b → Has a s b) → Holds after a new → Tells after (put parts n a new)
-changed m after parts n a s new t here change fewer holds = record {
+pub change_is_told : (m after : Mem) (parts : StructureSets) (n a : ℕ) (s new : Structure) → Tells m parts → parts n a ≡ Some s → Changes m after a s → ((b : ℕ) → Has a new b → Has a s b) → Holds after a new → Tells after (put parts n a new)
+change_is_told m after parts n a s new t here change fewer holds = record {
   shape = shaped_same m after change.size change.states t.shape;
   each = one_changed m after parts n a s new t here change holds;
   alone = λ k c j d u v b one other has also.
@@ -85,7 +85,7 @@ changed m after parts n a s new t here change fewer holds = record {
       t.alone k c j d first.0 second.0 b first.1 second.1 first.2 second.2;
 }
 
--- ---- structures are added and taken away
+-- ---- structures are new_is_told and taken away
 
 -- Any other parts of which each structure was told, or is new, where no two new ones share a block.
 pub retold : (m after : Mem) (parts new : StructureSets) → Tells m parts → Leaves m after
@@ -113,8 +113,8 @@ only_new m after parts n a s k c u b t (inl is) fresh has = (is.0, is.1)
 only_new m after parts n a s k c u b t (inr there) fresh has = absurd (fresh.fresh b has (told_lent m parts k c u b t there has))
 
 -- one structure is new, as after a lend of its blocks
-pub added : (m after : Mem) (parts : StructureSets) (n a : ℕ) (s : Structure) → Tells m parts → Leaves m after → IsNew m after a s → Tells after (put parts n a s)
-added m after parts n a s t left fresh =
+pub new_is_told : (m after : Mem) (parts : StructureSets) (n a : ℕ) (s : Structure) → Tells m parts → Leaves m after → IsNew m after a s → Tells after (put parts n a s)
+new_is_told m after parts n a s t left fresh =
     retold m after parts (put parts n a s) t left
     (λ k c u found. ⊎_elim (λ (is : (k ≡ n) × (c ≡ a) × (u ≡ s)). inr (subst (λ (v : Structure). IsNew m after c v) (sym is.2) (subst (λ (i : ℕ). IsNew m after i s) (sym is.1) fresh)))
     (λ (there : parts k c ≡ Some u). inl there) (put_found parts n a s k c u found))
@@ -123,7 +123,7 @@ added m after parts n a s t left fresh =
     let second = only_new m after parts n a s j d v b t (put_found parts n a s j d v other) new also in
     (second.0 ∙ sym first.0, second.1 ∙ sym first.1))
 
--- what an added structure shares no block with stays apart from it
+-- what an new_is_told structure shares no block with stays apart from it
 found_apart : (parts : StructureSets) (n a : ℕ) (s : Structure) (k c j d : ℕ) (u v : Structure) (b : ℕ) (m : Mem) → Tells m parts
     → ((b k c : ℕ) (u : Structure) → Has a s b → parts k c ≡ Some u → Has c u b → ⊥)
     → ((k ≡ n) × (c ≡ a) × (u ≡ s)) ⊎ (parts k c ≡ Some u) → ((j ≡ n) × (d ≡ a) × (v ≡ s)) ⊎ (parts j d ≡ Some v) → Has c u b → Has d v b → (j ≡ k) × (d ≡ c)
@@ -135,8 +135,8 @@ found_apart parts n a s k c j d u v b m t apart (inr there) (inl other) has also
 found_apart parts n a s k c j d u v b m t apart (inr there) (inr also_there) has also = t.alone k c j d u v b there also_there has also
 
 -- a structure that stands beside all that are told is told too
-pub joined : (m : Mem) (parts : StructureSets) (n a : ℕ) (s : Structure) → Tells m parts → Holds m a s → ((b k c : ℕ) (u : Structure) → Has a s b → parts k c ≡ Some u → Has c u b → ⊥) → Tells m (put parts n a s)
-joined m parts n a s t holds apart = record {
+pub another_is_told : (m : Mem) (parts : StructureSets) (n a : ℕ) (s : Structure) → Tells m parts → Holds m a s → ((b k c : ℕ) (u : Structure) → Has a s b → parts k c ≡ Some u → Has c u b → ⊥) → Tells m (put parts n a s)
+another_is_told m parts n a s t holds apart = record {
   shape = t.shape;
   each = λ k c u found.
       ⊎_elim (λ (is : (k ≡ n) × (c ≡ a) × (u ≡ s)). subst (λ (v : Structure). Holds m c v) (sym is.2) (subst (λ (i : ℕ). Holds m i s) (sym is.1) holds))
@@ -146,8 +146,8 @@ joined m parts n a s t holds apart = record {
 }
 
 -- a structure is told no more: its blocks may be got back
-pub removed : (m : Mem) (parts : StructureSets) (n a : ℕ) → Tells m parts → Tells m (without parts n a)
-removed m parts n a t = record {
+pub fewer_are_told : (m : Mem) (parts : StructureSets) (n a : ℕ) → Tells m parts → Tells m (without parts n a)
+fewer_are_told m parts n a t = record {
   shape = t.shape;
   each = λ k c u found. t.each k c u (without_found parts n a k c u found);
   alone = λ k c j d u v b one other has also. t.alone k c j d u v b (without_found parts n a k c u one) (without_found parts n a j d v other) has also;

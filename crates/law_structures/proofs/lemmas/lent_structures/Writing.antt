@@ -27,7 +27,7 @@ use Rattle.mem_queues.proofs.WriteBack.{overlay_outside, overlay_states, overlay
 use Rattle.law_structures.specs.lent_structures.Structures.{Structure, StructureSets, QueueHead, Element, Table, Isochronous, SplitIsochronous, HoldsQueueHead, HoldsElement, HoldsTable, HoldsIsochronous, HoldsSplitIsochronous, IsOneOfTwo, put, Has, Tells}
 use Rattle.law_structures.specs.lent_structures.Changes.{Changes, relinked}
 use Rattle.law_structures.proofs.lemmas.lent_structures.Standing.{and_both, in_one, in_two}
-use Rattle.law_structures.proofs.lemmas.lent_structures.Telling.{changed}
+use Rattle.law_structures.proofs.lemmas.lent_structures.Telling.{change_is_told}
 
 -- ---- one word
 
@@ -63,7 +63,7 @@ row_written m a n k v ws new aligned below room words is =
 pub word_put_queue : (m : Mem) (parts : StructureSets) (n a : ℕ) (q new : Qh) (k v : ℕ) → Tells m parts → parts n a ≡ Some (QueueHead q) → k < 12 → qh_words new ≡ set (qh_words q) k v → IsQhInRange new → Tells (with_word m (a + 4 * k) v) (put parts n a (QueueHead new))
 word_put_queue m parts n a q new k v t here below is range =
     let h : HoldsQueueHead m a q = t.each n a (QueueHead q) here in
-    changed m (with_word m (a + 4 * k) v) parts n a (QueueHead q) (QueueHead new) t here
+    change_is_told m (with_word m (a + 4 * k) v) parts n a (QueueHead q) (QueueHead new) t here
     (word_changes m a (QueueHead q) (a + 4 * k) v (in_two a k h.aligned (omega (arith, below)))) (λ b has. has)
     (record {
       aligned = h.aligned;
@@ -75,7 +75,7 @@ word_put_queue m parts n a q new k v t here below is range =
 pub word_put_element : (m : Mem) (parts : StructureSets) (n a : ℕ) (d new : Qtd) (k v : ℕ) → Tells m parts → parts n a ≡ Some (Element d) → k < 8 → qtd_words new ≡ set (qtd_words d) k v → IsQtdInRange new → Tells (with_word m (a + 4 * k) v) (put parts n a (Element new))
 word_put_element m parts n a d new k v t here below is range =
     let h : HoldsElement m a d = t.each n a (Element d) here in
-    changed m (with_word m (a + 4 * k) v) parts n a (Element d) (Element new) t here
+    change_is_told m (with_word m (a + 4 * k) v) parts n a (Element d) (Element new) t here
     (word_changes m a (Element d) (a + 4 * k) v (in_one a k h.aligned below)) (λ b has. has)
     (record {
       aligned = h.aligned;
@@ -87,7 +87,7 @@ word_put_element m parts n a d new k v t here below is range =
 pub word_put_isochronous : (m : Mem) (parts : StructureSets) (n a : ℕ) (d new : Itd) (k v : ℕ) → Tells m parts → parts n a ≡ Some (Isochronous d) → k < 16 → itd_words new ≡ set (itd_words d) k v → IsItdInRange new → Tells (with_word m (a + 4 * k) v) (put parts n a (Isochronous new))
 word_put_isochronous m parts n a d new k v t here below is range =
     let h : HoldsIsochronous m a d = t.each n a (Isochronous d) here in
-    changed m (with_word m (a + 4 * k) v) parts n a (Isochronous d) (Isochronous new) t here
+    change_is_told m (with_word m (a + 4 * k) v) parts n a (Isochronous d) (Isochronous new) t here
     (word_changes m a (Isochronous d) (a + 4 * k) v (in_two a k h.aligned below)) (λ b has. has)
     (record {
       aligned = h.aligned;
@@ -99,7 +99,7 @@ word_put_isochronous m parts n a d new k v t here below is range =
 pub word_put_split : (m : Mem) (parts : StructureSets) (n a : ℕ) (d new : Sitd) (k v : ℕ) → Tells m parts → parts n a ≡ Some (SplitIsochronous d) → k < 7 → sitd_words new ≡ set (sitd_words d) k v → IsSitdInRange new → Tells (with_word m (a + 4 * k) v) (put parts n a (SplitIsochronous new))
 word_put_split m parts n a d new k v t here below is range =
     let h : HoldsSplitIsochronous m a d = t.each n a (SplitIsochronous d) here in
-    changed m (with_word m (a + 4 * k) v) parts n a (SplitIsochronous d) (SplitIsochronous new) t here
+    change_is_told m (with_word m (a + 4 * k) v) parts n a (SplitIsochronous d) (SplitIsochronous new) t here
     (word_changes m a (SplitIsochronous d) (a + 4 * k) v (in_one a k h.aligned (omega (arith, below)))) (λ b has. has)
     (record {
       aligned = h.aligned;
@@ -120,7 +120,7 @@ pub word_put_table : (m : Mem) (parts : StructureSets) (n a : ℕ) (ws : List �
 word_put_table m parts n a ws k v t here below =
     let h : HoldsTable m a ws = t.each n a (Table ws) here in
     let long : length (set ws k v) ≡ length ws = length-set ws k v in
-    changed m (with_word m (a + 4 * k) v) parts n a (Table ws) (Table (set ws k v)) t here
+    change_is_told m (with_word m (a + 4 * k) v) parts n a (Table ws) (Table (set ws k v)) t here
     (word_changes m a (Table ws) (a + 4 * k) v (k, below, refl))
     (λ b has. (has.0, let inside = has.1 in omega (arith, inside, long), has.2))
     (record {
@@ -136,8 +136,8 @@ word_put_table m parts n a ws k v t here below =
 with_token_in_range : (d : Qtd) (t : Token) → IsQtdInRange d → IsWordInRange token_rows t → IsQtdInRange (record d { token = t })
 with_token_in_range d t (next, (alternate, (token, later))) range = (next, (alternate, (range, later)))
 
-pub token_put : (m : Mem) (parts : StructureSets) (n a : ℕ) (d : Qtd) (new : Token) → Tells m parts → parts n a ≡ Some (Element d) → IsWordInRange token_rows new → Tells (token_written m a new) (put parts n a (Element (record d { token = new })))
-token_put m parts n a d new t here range =
+pub token_is_told : (m : Mem) (parts : StructureSets) (n a : ℕ) (d : Qtd) (new : Token) → Tells m parts → parts n a ≡ Some (Element d) → IsWordInRange token_rows new → Tells (token_written m a new) (put parts n a (Element (record d { token = new })))
+token_is_told m parts n a d new t here range =
     let h : HoldsElement m a d = t.each n a (Element d) here in
     let written : token_written m a new ≡ with_word m (a + 8) (token_word new) = ap (λ (b : Bool). if b then with_word m (a + 8) (token_word new) else refused m) h.lent in
     subst (λ (x : Mem). Tells x (put parts n a (Element (record d { token = new })))) (sym written)
@@ -209,11 +209,11 @@ overlay_changes m a q c aligned = record {
 }
 
 -- Words 3 to 11 of a copy are written; the link stays the one in memory.
-pub overlay_put : (m : Mem) (parts : StructureSets) (n a : ℕ) (q c : Qh) → Tells m parts → parts n a ≡ Some (QueueHead q) → IsQhInRange c → take 3 (qh_words (relinked q c)) ≡ take 3 (qh_words q) → Tells (overlay_written m a (overlay_words c)) (put parts n a (QueueHead (relinked q c)))
-overlay_put m parts n a q c t here range front =
+pub overlay_is_told : (m : Mem) (parts : StructureSets) (n a : ℕ) (q c : Qh) → Tells m parts → parts n a ≡ Some (QueueHead q) → IsQhInRange c → take 3 (qh_words (relinked q c)) ≡ take 3 (qh_words q) → Tells (overlay_written m a (overlay_words c)) (put parts n a (QueueHead (relinked q c)))
+overlay_is_told m parts n a q c t here range front =
     let h : HoldsQueueHead m a q = t.each n a (QueueHead q) here in
     let after = overlay_written m a (overlay_words c) in
-    changed m after parts n a (QueueHead q) (QueueHead (relinked q c)) t here (overlay_changes m a q c h.aligned) (λ b has. has)
+    change_is_told m after parts n a (QueueHead q) (QueueHead (relinked q c)) t here (overlay_changes m a q c h.aligned) (λ b has. has)
     (record {
       aligned = h.aligned;
       lent = lent_same m after a (overlay_states m a (overlay_words c)) h.lent;

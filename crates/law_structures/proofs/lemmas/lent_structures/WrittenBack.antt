@@ -21,10 +21,10 @@ use Rattle.hc_copy.proofs.Ranges.{advanced_in_range, moved_in_range}
 use Rattle.law_structures.specs.lent_structures.Structures.{Structure, QueueHead, Element, Buffer, HoldsElement, HoldsBuffer, StructureSets, put, Tells}
 use Rattle.law_structures.specs.lent_structures.Changes.{relinked, overwritten}
 use Rattle.law_structures.proofs.lemmas.lent_structures.Names.{names_differ, put_else}
-use Rattle.law_structures.proofs.lemmas.lent_structures.Telling.{changed}
+use Rattle.law_structures.proofs.lemmas.lent_structures.Telling.{change_is_told}
 use Rattle.law_structures.proofs.lemmas.lent_structures.Reading.{head_reached, element_reached, bytes_part, bytes_reached, part_reached}
-use Rattle.law_structures.proofs.lemmas.lent_structures.Storing.{bytes_put}
-use Rattle.law_structures.proofs.lemmas.lent_structures.Writing.{overlay_put, token_put}
+use Rattle.law_structures.proofs.lemmas.lent_structures.Storing.{bytes_are_told}
+use Rattle.law_structures.proofs.lemmas.lent_structures.Writing.{overlay_is_told, token_is_told}
 use Rattle.law_structures.specs.lent_structures.WriteBack.{IsCopy, parts_advanced, Received, Nothing, Into, IsReceived, received_parts, CanBeWritten, parts_back}
 
 -- ---- kinds of structures
@@ -44,11 +44,11 @@ advanced_front : (q c : Qh) (e : ℕ) (t : Qtd) → take 3 (qh_words (relinked q
 unfolding qh_words advanced
 advanced_front q c e t = refl
 
-pub advance_put : (m : Mem) (parts : StructureSets) (n a : ℕ) (q c : Qh) (e : ℕ) (t : Qtd) → Tells m parts → IsCopy parts n a q c → parts n e ≡ Some (Element t) → Tells (overlay_after m a (advanced c e t)) (parts_advanced parts n a q c e t)
+pub advance_is_told : (m : Mem) (parts : StructureSets) (n a : ℕ) (q c : Qh) (e : ℕ) (t : Qtd) → Tells m parts → IsCopy parts n a q c → parts n e ≡ Some (Element t) → Tells (overlay_after m a (advanced c e t)) (parts_advanced parts n a q c e t)
 unfolding overlay_after
-advance_put m parts n a q c e t told copy element =
+advance_is_told m parts n a q c e t told copy element =
     let h : HoldsElement m e t = told.each n e (Element t) element in
-    overlay_put m parts n a q (advanced c e t) told copy.head (advanced_in_range c e t copy.range h.aligned h.range) (advanced_front q c e t ∙ copy.front)
+    overlay_is_told m parts n a q (advanced c e t) told copy.head (advanced_in_range c e t copy.range h.aligned h.range) (advanced_front q c e t ∙ copy.front)
 
 -- ---- the bytes that a transaction sends
 
@@ -60,8 +60,8 @@ read_whole pages from n m bs within reached bytes =
     ∙ ap (λ (b : Bool). record { bytes = bs; memory = if b then (if all_reached m pages from n then m else refused m) else m; all = b && all_reached m pages from n }) inside
     ∙ ap (λ (b : Bool). record { bytes = bs; memory = if b then m else refused m; all = b }) reached
 
-pub sent_there : (m : Mem) (parts : StructureSets) (n b : ℕ) (t : Transaction) (c : Qh) (k : ℕ) (bs : List ℕ) (j : ℕ) → Tells m parts → parts n b ≡ Some (Buffer (pages_of c) k bs) → buffer_place c ≡ k + j → j + t.bytes ≤ length bs → sending t c m ≡ record { bytes = take t.bytes (drop j bs); memory = m; all = true }
-sent_there m parts n b t c k bs j told buffer at within =
+pub sent_is_told : (m : Mem) (parts : StructureSets) (n b : ℕ) (t : Transaction) (c : Qh) (k : ℕ) (bs : List ℕ) (j : ℕ) → Tells m parts → parts n b ≡ Some (Buffer (pages_of c) k bs) → buffer_place c ≡ k + j → j + t.bytes ≤ length bs → sending t c m ≡ record { bytes = take t.bytes (drop j bs); memory = m; all = true }
+sent_is_told m parts n b t c k bs j told buffer at within =
     let h : HoldsBuffer m b (pages_of c) k bs = told.each n b (Buffer (pages_of c) k bs) buffer in
     let room = h.within in
     ap (λ (from : ℕ). bytes_read (pages_of c) from t.bytes m) at
@@ -72,8 +72,8 @@ sent_there m parts n b t c k bs j told buffer at within =
 pub place_small : (c : Qh) → IsQhInRange c → buffer_place c < 20480
 place_small c (link, (chars, (caps, (current, (next, (alternate, ((total, (page, (errors, pid))), ((page0, (offset, _)), rest)))))))) = omega (arith, page, offset)
 
-pub none_sent : (m : Mem) (t : Transaction) (c : Qh) → IsQhInRange c → t.bytes ≡ 0 → sending t c m ≡ record { bytes = []; memory = m; all = true }
-none_sent m t c range none =
+pub nothing_is_sent : (m : Mem) (t : Transaction) (c : Qh) → IsQhInRange c → t.bytes ≡ 0 → sending t c m ≡ record { bytes = []; memory = m; all = true }
+nothing_is_sent m t c range none =
     let low = place_small c range in
     ap (λ (n : ℕ). bytes_read (pages_of c) (buffer_place c) n m) none
     ∙ read_whole (pages_of c) (buffer_place c) 0 m [] (omega (arith, low)) (all_reached_if m (pages_of c) (buffer_place c) 0 (λ i below. absurd (omega (arith, below)))) (bytes_at_none m (pages_of c) (buffer_place c))
@@ -104,7 +104,7 @@ received_told m parts n c got Nothing told none =
 received_told m parts n c got (Into pages k bs j) told into =
     subst (λ (ps : List ℕ). Tells (with_bytes m ps (buffer_place c) got) (put parts n (place pages k) (Buffer pages k (overwritten bs j got)))) (sym into.pages_are)
     (subst (λ (at : ℕ). Tells (with_bytes m pages at got) (put parts n (place pages k) (Buffer pages k (overwritten bs j got)))) (sym into.place_is)
-    (bytes_put m parts n (place pages k) pages k bs j got told into.buffer into.fits into.bytes))
+    (bytes_are_told m parts n (place pages k) pages k bs j got told into.buffer into.fits into.bytes))
 
 -- what isn't the buffer is as before
 pub received_else : (parts : StructureSets) (n : ℕ) (c : Qh) (got : List ℕ) (r : Received) (b : ℕ) (s : Structure) → IsReceived (parts n) c got r → parts n b ≡ Some s → ((pages : List ℕ) (k : ℕ) (bs : List ℕ) → s ≢ Buffer pages k bs) → received_parts parts n got r n b ≡ Some s
@@ -156,7 +156,7 @@ parts_between parts n a q new got r = put (received_parts parts n got r) n a (Qu
 between_told : (m : Mem) (parts : StructureSets) (n a : ℕ) (q c : Qh) (count : ℕ) (got : List ℕ) (r : Received) (t : Qtd) → Tells m parts → CanBeWritten parts n a q c got r t → Tells (with_overlay m a c (moved c count) got) (parts_between parts n a q (moved c count) got r)
 unfolding overlay_after
 between_told m parts n a q c count got r t told can =
-    overlay_put (with_bytes m (pages_of c) (buffer_place c) got) (received_parts parts n got r) n a q (moved c count) (received_told m parts n c got r told can.received)
+    overlay_is_told (with_bytes m (pages_of c) (buffer_place c) got) (received_parts parts n got r) n a q (moved c count) (received_told m parts n c got r told can.received)
     (received_else parts n c got r a (QueueHead q) can.received can.copy.head (head_is_no_buffer q)) (moved_in_range c count can.copy.range) (moved_front q c count ∙ can.copy.front)
 
 pub between_element : (parts : StructureSets) (n a : ℕ) (q c new : Qh) (got : List ℕ) (r : Received) (t : Qtd) → CanBeWritten parts n a q c got r t → parts_between parts n a q new got r n c.current ≡ Some (Element t)
@@ -167,13 +167,13 @@ between_element parts n a q c new got r t can =
 -- memory that is told is told with the same structure put again
 pub put_again : (m : Mem) (parts : StructureSets) (n a : ℕ) (s : Structure) → Tells m parts → parts n a ≡ Some s → Tells m (put parts n a s)
 put_again m parts n a s told here =
-    changed m m parts n a s s told here (record { states = refl; size = refl; outside = λ other outside. refl }) (λ b has. has) (told.each n a s here)
+    change_is_told m m parts n a s s told here (record { states = refl; size = refl; outside = λ other outside. refl }) (λ b has. has) (told.each n a s here)
 
 token_told : (b : Bool) (m : Mem) (parts : StructureSets) (n : ℕ) (new : Qh) (e : ℕ) (t : Qtd) → Tells m parts → IsQhInRange new → new.current ≡ e → parts n e ≡ Some (Element t) → Tells (token_after b new m) (put parts n e (Element (if b then t else record t { token = new.token })))
 token_told true m parts n new e t told range same here = put_again m parts n e (Element t) told here
 token_told false m parts n new e t told range same here =
     subst (λ (i : ℕ). Tells (token_written m i new.token) (put parts n e (Element (record t { token = new.token })))) (sym same)
-    (token_put m parts n e t new.token told here (token_in_range new range))
+    (token_is_told m parts n e t new.token told here (token_in_range new range))
 
 -- ---- the whole
 
@@ -190,11 +190,11 @@ written_whole m parts n a q c o got r t told can =
     ∙ wrote_token new.token.active new (with_overlay m a c new got)
     (ap (reaches (with_overlay m a c new got)) (moved_current c (moved_by o)) ∙ element_reached (with_overlay m a c new got) (parts_between parts n a q new got r) n c.current t between element)
 
-pub all_written : (m : Mem) (parts : StructureSets) (n a : ℕ) (q c : Qh) (o : Outcome) (got : List ℕ) (r : Received) (t : Qtd) → Tells m parts → CanBeWritten parts n a q c got r t → (written_back a c o got m).all ≡ true
-all_written m parts n a q c o got r t told can = ap (λ (w : Writing). w.all) (written_whole m parts n a q c o got r t told can)
+pub all_is_written : (m : Mem) (parts : StructureSets) (n a : ℕ) (q c : Qh) (o : Outcome) (got : List ℕ) (r : Received) (t : Qtd) → Tells m parts → CanBeWritten parts n a q c got r t → (written_back a c o got m).all ≡ true
+all_is_written m parts n a q c o got r t told can = ap (λ (w : Writing). w.all) (written_whole m parts n a q c o got r t told can)
 
-pub told_back : (m : Mem) (parts : StructureSets) (n a : ℕ) (q c : Qh) (o : Outcome) (got : List ℕ) (r : Received) (t : Qtd) → Tells m parts → CanBeWritten parts n a q c got r t → Tells (written_back a c o got m).memory (parts_back parts n a q c (moved_by o) got r t)
-told_back m parts n a q c o got r t told can =
+pub write_back_is_told : (m : Mem) (parts : StructureSets) (n a : ℕ) (q c : Qh) (o : Outcome) (got : List ℕ) (r : Received) (t : Qtd) → Tells m parts → CanBeWritten parts n a q c got r t → Tells (written_back a c o got m).memory (parts_back parts n a q c (moved_by o) got r t)
+write_back_is_told m parts n a q c o got r t told can =
     let new : Qh = moved c (moved_by o) in
     subst (λ (w : Writing). Tells w.memory (parts_back parts n a q c (moved_by o) got r t)) (sym (written_whole m parts n a q c o got r t told can))
     (token_told new.token.active (with_overlay m a c new got) (parts_between parts n a q new got r) n new c.current t

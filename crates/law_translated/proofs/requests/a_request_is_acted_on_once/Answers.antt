@@ -1,5 +1,5 @@
-use Rattle.law_translated.proofs.Requesting.{window_kept, window_right}
+use Rattle.law_translated.proofs.Requesting.{keeps_window, window_is_right}
 use Rattle.law_translated.proofs.requests.a_request_is_acted_on_once.Goals as goal
 
 pub returns : goal.returns
-returns c = record { keeps = window_kept; right = window_right }
+returns c = record { keeps = keeps_window; right = window_is_right }

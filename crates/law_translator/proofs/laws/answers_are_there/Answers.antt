@@ -1,5 +1,5 @@
-use Rattle.law_translator.proofs.Answered.{answered}
+use Rattle.law_translator.proofs.Answered.{answers_are_there}
 use Rattle.law_translator.proofs.laws.answers_are_there.Goals as goal
 
 pub returns : goal.returns
-returns c = answered
+returns c = answers_are_there

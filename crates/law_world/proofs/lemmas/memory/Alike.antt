@@ -32,8 +32,8 @@ use Rattle.law_ring.specs.Told.{Endpoint as Told}
 use Rattle.law_ring.specs.Effects.{bytes_in}
 use Rattle.law_ring.specs.Front.{LinksRise, HadRest, LinksWithin, HasTail}
 use Rattle.law_ring.specs.Halted.{HaltStops}
-use Rattle.law_ring.proofs.FrontGoing.{front_spared}
-use Rattle.law_ring.proofs.HaltSparing.{halt_spared}
+use Rattle.law_ring.proofs.FrontGoing.{front_is_spared}
+use Rattle.law_ring.proofs.HaltSparing.{halt_is_spared}
 use Rattle.law_driver.specs.chained_transfers.Chains.{piece_at}
 use Rattle.law_driver_ring.specs.fed_queues.Fed.{IsPieceFed, IsPublished, AreFed, sized}
 use Rattle.law_driver_ring.specs.fed_queues.Places.{IsThere, IsMet, HasHead, AreMet, HaveStreams, AreLast}
@@ -290,7 +290,7 @@ module _ (n : ℕ) (part now : Structures) (k : IsSameQueue n part now) where
   tail_still order c front r = record { most = r.most; rest = λ q b is awake idle to. let h = k.head_was q is in r.rest (record q { link = h.link }) b h.here awake idle to }
 
   stops_still : (order : ℕ → ℕ) (out : List ℕ) → HaltStops order out n part → HaltStops order out n now
-  stops_still order out s = halt_spared order out out n part now had_rest (λ a t among is. inl (among, k.elements_were a t is)) s
+  stops_still order out s = halt_is_spared order out out n part now had_rest (λ a t among is. inl (among, k.elements_were a t is)) s
 
 reaches_still : (d : DriverContent) (part now : Structures) (order : ℕ → ℕ) (out : List ℕ) (e : ℕ) (x : Endpoint) (c : ℕ) → IsSameQueue (32 * x.queue) part now → Reaches d part order out e x c
     → Reaches d now order out e x c
@@ -299,7 +299,7 @@ reaches_still d part now order out e x c k r =
     record {
       stands = record {
         front = r.stands.front;
-        has = front_spared order r.stands.front out out n part now r.stands.has (had_rest n part now k) (λ a t among is. inl (among, k.elements_were a t is, ap length (k.bytes (buffer_name t))));
+        has = front_is_spared order r.stands.front out out n part now r.stands.has (had_rest n part now k) (λ a t among is. inl (among, k.elements_were a t is, ap length (k.bytes (buffer_name t))));
         ended = r.stands.ended;
         passed = λ i t j y at there held same from below.
             let p = r.stands.passed i t j y at there held same from below in

@@ -8,9 +8,9 @@ use Rattle.bus_world.specs.World.{World, controller_next}
 use Rattle.bus_world.specs.Budgets.{moment}
 use Rattle.law_driver.specs.listed_members.Members.{IsListed}
 use Rattle.law_frame_list.specs.list_driver.Keeping.{KeepsItsList}
-use Rattle.law_driver.proofs.lemmas.listed_members.Owned.{waiting_linked}
+use Rattle.law_driver.proofs.lemmas.listed_members.Owned.{waiting_descriptors_are_linked}
 use Rattle.law_world.proofs.lemmas.memory.lemmas.running_worlds.Errors.{goes_on, no_error}
-use Rattle.law_world.proofs.lemmas.memory.lemmas.running_worlds.Counting.{counts_nothing}
+use Rattle.law_world.proofs.lemmas.memory.lemmas.running_worlds.Counting.{no_refusal_while_it_runs}
 use Rattle.law_world.specs.memory.Mixed.{IsMixedWorld}
 use Rattle.law_world.specs.memory.Laws.{ControllerKeepsMixed}
 use Rattle.claims_world.specs.Memory.{IsAtWork, ReadsFrameList}
@@ -31,7 +31,7 @@ reads_frame_list : (m : Mem) (d : DriverContent) → IsListed d → KeepsItsList
 reads_frame_list m d listed list = record {
   begins = listed.list.list;
   all = listed.list.kept;
-  waiting = waiting_linked d listed;
+  waiting = waiting_descriptors_are_linked d listed;
   words = list.list;
 }
 
@@ -55,4 +55,10 @@ pub keeps_while_mixed : ControllerKeepsMixed → KeepsMemoryWhileMixed
 keeps_while_mixed controller s mixed k =
     let works_at : (j : ℕ) → IsAtWork (fixed_of s) (moment s j).world = λ j. mixed_works controller (fixed_of s) (moment s j).world (mixed j) in
     let runs : (j : ℕ) → (moment s j).world.registers.run ≡ true = λ j. ap (λ (b : Base). b.run) (works_at j).registers in
-    record { at_work = works_at k; walking = (mixed k).mixed.walking; no_error = no_error s runs k; unrefused = counts_nothing s runs k }
+    record {
+      at_work = works_at k;
+      walking = (mixed k).mixed.walking;
+      no_error = no_error s runs k;
+      unrefused =
+          no_refusal_while_it_runs s runs k;
+    }

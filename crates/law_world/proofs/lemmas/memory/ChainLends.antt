@@ -11,7 +11,7 @@ use Rattle.drv_table.specs.Parts.{Parts}
 use Rattle.drv_table.specs.Rows.{driver_row, after_driver_row}
 use Rattle.law_driver.specs.run_owners.Due.{IsDue}
 use Rattle.claims_driver.specs.Leaving.{HasOwners}
-use Rattle.law_driver.proofs.lemmas.run_owners.Reasons.{each_is_due}
+use Rattle.law_driver.proofs.lemmas.run_owners.Reasons.{each_event_is_due}
 use Rattle.law_structures.specs.lent_structures.Structures.{StructureSets, QueueHead, Element, put}
 use Rattle.law_structures.proofs.lemmas.lent_structures.Names.{put_beside}
 use Rattle.law_driver_ring.specs.Inventory.{sorts_of}
@@ -27,8 +27,8 @@ use Rattle.law_world.specs.steps.control_queues.Queues.{IsOpenLentWhole}
 use Rattle.law_world.proofs.lemmas.steps.lemmas.control_queues.OpenLends.{open_lend_is_whole}
 use Rattle.law_driver.specs.queued_drivers.Queued.{queued, queued_parts}
 use Rattle.law_driver.specs.queued_drivers.Rows.{QueuesAlike, LinksOn, IsLentAlike}
-use Rattle.law_driver.proofs.lemmas.queued_drivers.RowFrames.{chain_lends as lends_alike}
-use Rattle.law_driver.proofs.lemmas.queued_drivers.RowOwners.{queued_owners}
+use Rattle.law_driver.proofs.lemmas.queued_drivers.RowFrames.{chain_lends_agree as lends_alike}
+use Rattle.law_driver.proofs.lemmas.queued_drivers.RowOwners.{queued_has_owners}
 use Rattle.law_queues.proofs.lemmas.publish_laws.Apart.{thirty_two}
 use Rattle.bus_world.specs.World.{World, driver_parts, controller_parts, driver_next}
 use Rattle.law_world.specs.memory.Mixed.{QueuesGoOn, IsChainToLend, IsChainThere, IsUnderWay, Standing, IsMixedAt}
@@ -66,7 +66,7 @@ module _ (s : Standing) (w : World) (k : IsMixedAt s w) (t : IsChainToLend w.dri
   row_is = lends.row
 
   due : IsDue (driver_parts w) rows.Lend
-  due = subst (IsDue p) row_is (each_is_due p)
+  due = subst (IsDue p) row_is (each_event_is_due p)
 
   driver_is : (driver_next w).driver ≡ f
   driver_is = ap (λ (row : DriverRow). (after_driver_row row p).driver) row_is
@@ -80,7 +80,7 @@ module _ (s : Standing) (w : World) (k : IsMixedAt s w) (t : IsChainToLend w.dri
   lent = open_lent (queued w.driver) w.memory
 
   told_owners : HasOwners (queued w.driver)
-  told_owners = queued_owners w.driver owners k.turns
+  told_owners = queued_has_owners w.driver owners k.turns
 
   abbrev lending : IsOpenToLend (queued w.driver) w.memory
   lending = to_lend w.driver w.memory owners t.ready t.newest

@@ -19,7 +19,7 @@ use Rattle.law_driver.proofs.lemmas.endpoint_lives.Lives.{there_any}
 use Rattle.law_driver_ring.specs.fed_queues.Places.{HasHead, AreMet}
 use Rattle.law_queues.specs.reached_rings.Reaching.{may_reach, is_reached}
 use Rattle.law_world.specs.memory.framed_memory.Chained.{chained_queue, IsChainReady}
-use Rattle.law_world.proofs.lemmas.memory.lemmas.framed_memory.LeavingReached.{interrupt_unreached}
+use Rattle.law_world.proofs.lemmas.memory.lemmas.framed_memory.LeavingReached.{interrupt_is_unreached}
 use Rattle.law_queues.specs.open_laws.Queues.{IsOpenToLend}
 use Rattle.law_queues.proofs.lemmas.open_laws.Newest.{new_heads_rest}
 use Rattle.law_driver.specs.queued_drivers.Queued.{queue_of, with_queue, queued_endpoint, queued_transfer, queued_command, queued_made, queued}
@@ -48,7 +48,7 @@ reached_by d n =
 pub off_ring : (d : DriverContent) (member : ℕ → Bool) (e : ℕ) (x : Endpoint) → HasOwners d → AreMet d member → slice_get d.endpoints e ≡ Some x → is_iso x.desc.kind ≡ false → is_periodic x.desc.kind ≡ true → x.gone ≡ false → member (32 * x.queue) ≡ false
 off_ring d member e x owners ring here queue frames kept =
     false_from_ne_true (member (32 * x.queue))
-    (λ on. true≢false (sym (reached_by d (32 * x.queue) (ring.only (32 * x.queue) on)) ∙ interrupt_unreached d true e x owners here queue frames kept))
+    (λ on. true≢false (sym (reached_by d (32 * x.queue) (ring.only (32 * x.queue) on)) ∙ interrupt_is_unreached d true e x owners here queue frames kept))
 
 queue_number : Owner → ℕ
 queue_number (QueueOf e) = e

@@ -19,13 +19,13 @@ use Rattle.law_descriptors.specs.Both.{descs_now, parts_now}
 use Rattle.law_descriptors.specs.ListRows.{leaves_now, recent_with}
 use Rattle.law_world.specs.memory.framed_memory.NowRows.{FramedLinked}
 use Rattle.law_world.specs.memory.framed_memory.Chained.{IsChainReady, IsChainLent, ChainStands, ChainGoesOn, lends, stores, rests}
-use Rattle.law_world.proofs.lemmas.memory.lemmas.framed_memory.ChainedRuns.{chain_goes_on}
+use Rattle.law_world.proofs.lemmas.memory.lemmas.framed_memory.ChainedRuns.{chain_goes_on_now}
 use Rattle.law_queues.specs.open_laws.Opens.{end_then, streams_then}
 use Rattle.law_queues.specs.open_laws.Queues.{IsOpenThere, open_finished}
 use Rattle.law_driver.specs.queued_drivers.Queued.{queued_made, queued}
 use Rattle.law_driver.specs.queued_drivers.Rows.{QueuesAlike, TellsAlike, LeavesQueues, IsFinishedAlike}
-use Rattle.law_driver.proofs.lemmas.queued_drivers.RowFrames.{frames_leave, chain_finishes}
-use Rattle.law_driver.proofs.lemmas.queued_drivers.RowOwners.{queued_owners}
+use Rattle.law_driver.proofs.lemmas.queued_drivers.RowFrames.{frames_leave, chains_finish}
+use Rattle.law_driver.proofs.lemmas.queued_drivers.RowOwners.{queued_has_owners}
 use Rattle.bus_world.specs.World.{World, driver_parts, controller_parts, driver_next}
 use Rattle.law_world.specs.memory.Mixed.{QueuesGoOn, IsChainToLend, IsChainThere, IsUnderWay, Standing, IsMixedAt}
 use Rattle.law_world.specs.memory.SameQueues.{IsSameQueue}
@@ -165,12 +165,12 @@ module _ (s : Standing) (w : World) (k : IsMixedAt s w) (t : IsChainThere w.driv
 
   module _ (over : f.command ≡ None) where
     ended : IsFinishedAlike (driver_parts w) (rows.Store why.store.block why.store.at why.store.value)
-    ended = chain_finishes p row due (record { chain = chain; finished = over })
+    ended = chains_finish p row due (record { chain = chain; finished = over })
 
     goes_over : QueuesGoOn (queued f) (with_member s.near (32 * there.endpoint.queue)) (streams_then s.streams there.endpoint) (with_end s.ends (32 * there.endpoint.queue) (end_then there.endpoint)) parts s.order (with_none s.out (32 * there.endpoint.queue))
     goes_over =
         goes_on_alike (open_finished (queued d)) (queued f) (with_member s.near (32 * there.endpoint.queue)) (streams_then s.streams there.endpoint) (with_end s.ends (32 * there.endpoint.queue) (end_then there.endpoint)) parts s.order
-        (with_none s.out (32 * there.endpoint.queue)) ended.queues (same_lent (open_finished (queued d)) (queued f) after.book) (finished_goes (queued d) s.near s.streams s.ends parts s.order s.out (queued_owners d owners k.turns) k.turns.turns there stored_goes)
+        (with_none s.out (32 * there.endpoint.queue)) ended.queues (same_lent (open_finished (queued d)) (queued f) after.book) (finished_goes (queued d) s.near s.streams s.ends parts s.order s.out (queued_has_owners d owners k.turns) k.turns.turns there stored_goes)
 
     abbrev opened : Standing
     opened = record s {
@@ -212,7 +212,7 @@ pub chain_mixed : (s : Standing) (w : World) → IsMixedAt s w → w.driver.comm
 chain_mixed s w k is =
     ⊎_elim (λ (t : IsChainToLend w.driver w.memory). lend_world s w k t)
     (λ (t : IsChainThere w.driver s.member s.recent s.parts).
-    by t (chain_goes_on opening_base s.member s.recent s.descs s.parts s.hand s.frame (controller_parts w) w.driver k.now is (λ chain. inr t.lent)))
+    by t (chain_goes_on_now opening_base s.member s.recent s.descs s.parts s.hand s.frame (controller_parts w) w.driver k.now is (λ chain. inr t.lent)))
     (subst (IsUnderWay w.driver w.memory s.member s.recent s.parts) is k.under_way)
   where
     never : (n : ℕ) → n ≡ 0 → n ≡ 1 → ⊥

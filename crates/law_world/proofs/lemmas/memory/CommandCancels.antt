@@ -13,7 +13,7 @@ use Rattle.law_frames.specs.Met.{IsQueuePart}
 use Rattle.law_driver_ring.specs.fed_queues.Places.{AreMet}
 use Rattle.law_queues.specs.leaving_drivers.Before.{UnlinksAtMost, IsAsBefore, NearSame}
 use Rattle.law_queues.proofs.lemmas.leaving_drivers.Alike.{near_fewer, met_before}
-use Rattle.law_queues.proofs.lemmas.leaving_drivers.Leaving.{cancel_as_before}
+use Rattle.law_queues.proofs.lemmas.leaving_drivers.Leaving.{cancel_is_as_before}
 use Rattle.law_world.specs.steps.left_queues.Standing.{AllStand}
 use Rattle.law_world.proofs.lemmas.steps.lemmas.left_queues.Same.{as_before_stands}
 use Rattle.law_queues.proofs.lemmas.mended_heads.Content.{any_one, OwesAlike, alike_same, owed_on}
@@ -22,7 +22,7 @@ use Rattle.law_world.specs.steps.control_queues.Controls.{ControlsStand}
 use Rattle.law_world.proofs.lemmas.steps.lemmas.control_queues.Alike.{same_there, stand_still}
 use Rattle.law_world.proofs.lemmas.steps.lemmas.control_queues.Beside.{commands_keep_controls}
 use Rattle.law_descriptors.specs.queue_events.Events.{PartsStand}
-use Rattle.law_world.proofs.lemmas.memory.lemmas.framed_memory.QueueAccepting.{cancel_now, unchain_now}
+use Rattle.law_world.proofs.lemmas.memory.lemmas.framed_memory.QueueAccepting.{cancel_keeps_now, unchain_keeps_now}
 use Rattle.law_driver.specs.queued_drivers.Queued.{queued}
 use Rattle.law_driver.specs.queued_drivers.Commands.{unlink_of, left_queue, IsQueueLeft}
 use Rattle.law_driver.proofs.lemmas.queued_drivers.CommandLeaves.{cancelled, Left, unchained}
@@ -53,7 +53,7 @@ module _ (s : Standing) (w : World) (line : ℕ) (name : EpName) (o : Offered) (
       (λ (at : (is_periodic k.endpoint.desc.kind ≡ true) × (k.unlinks ≡ None)). subst UnlinksAtMost (sym at.1) tt) k.command
 
   left : IsAsBefore d c.driver × NearSame d c.driver
-  left = cancel_as_before d w.memory c a.mixed.turns.turns k.cancels
+  left = cancel_is_as_before d w.memory c a.mixed.turns.turns k.cancels
 
   pub before : IsAsBefore d g
   before =
@@ -109,7 +109,7 @@ cancel_leaves s w line name o a queues why =
     let d = w.driver in
     let cmd = commands.Cancel name in
     record {
-      now = cancel_now opening_base s.member s.recent s.descs s.parts s.hand s.frame (controller_parts w) d cmd o a.mixed.now why a.room a.is;
+      now = cancel_keeps_now opening_base s.member s.recent s.descs s.parts s.hand s.frame (controller_parts w) d cmd o a.mixed.now why a.room a.is;
       ring = subst (λ (g : Offered). AreMet g.driver s.member) (sym why.is)
           (set_met d _ why.number why.endpoint (cancelled why.endpoint) s.member (idle s w line cmd o a) (λ q is. cc) why.here refl
           (record { desc = refl; queue = refl; linked = refl; gone = refl }) refl refl a.mixed.ring);
@@ -131,7 +131,7 @@ unchain_leaves s w line name o a queues why =
     let both : Some (unfinished.Unchain why.number) ≡ Some (unfinished.Open q) = sym on ∙ is in absurd (cc))
     (λ (off : u.command ≡ None). none_unfinished (unfinished.Open q) (sym off ∙ is)) u.which in
     record {
-      now = unchain_now opening_base s.member s.recent s.descs s.parts s.hand s.frame (controller_parts w) d cmd o a.mixed.now why a.room a.is;
+      now = unchain_keeps_now opening_base s.member s.recent s.descs s.parts s.hand s.frame (controller_parts w) d cmd o a.mixed.now why a.room a.is;
       ring = subst (λ (g : DriverContent). AreMet g s.member) (sym u.is)
           (set_met d _ why.number why.endpoint (Left why.endpoint u.chained) s.member (idle s w line cmd o a) no_open why.here refl
           (record { desc = refl; queue = refl; linked = refl; gone = refl }) refl refl a.mixed.ring);

@@ -16,7 +16,7 @@ use Rattle.drv_table.specs.Accepting.{Offered, first_waiting}
 use Rattle.drv_table.specs.Offers.{placed_endpoint}
 use Rattle.law_driver.specs.run_owners.Accepts.{Accepts, opens, chains, places, transfers, describes, cancels, unchains, Places, Describes}
 use Rattle.claims_driver.specs.Owners.{Dummy, runs_of_endpoint, note_in}
-use Rattle.law_driver.proofs.lemmas.run_owners.Commands.{accepted_for_a_reason}
+use Rattle.law_driver.proofs.lemmas.run_owners.Commands.{each_command_has_its_reason}
 use Rattle.law_driver.proofs.lemmas.run_owners.Runs.{placed_run}
 use Rattle.law_driver_ring.specs.Inventory.{IsLent}
 use Rattle.claims_base.specs.Controller.{opening_base}
@@ -150,7 +150,7 @@ pub describe_leaves : (s : Standing) (w : World) (line : ℕ) (cmd : Cmd) (o : O
 describe_leaves s w line cmd o a queues k =
     let d = w.driver in
     let command : o.driver.command ≡ Some (unfinished.Iso k.number (length d.transfers) k.count) = ap (λ (g : Offered). g.driver.command) k.is in
-    let why : Describes d w.memory o = descriptors_of d w.memory o k.number (length d.transfers) k.count command (accepted_for_a_reason d w.memory cmd o a.is) in
+    let why : Describes d w.memory o = descriptors_of d w.memory o k.number (length d.transfers) k.count command (each_command_has_its_reason d w.memory cmd o a.is) in
     record {
       now = described_now opening_base s.member s.recent s.descs s.parts s.hand s.frame (controller_parts w) d cmd o a.mixed.now why a.room a.is;
       ring = subst (λ (g : Offered). AreMet g.driver s.member) (sym k.is)

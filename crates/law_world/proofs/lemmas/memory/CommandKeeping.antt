@@ -11,7 +11,7 @@ use Rattle.law_driver.specs.queued_drivers.Queued.{queued}
 use Rattle.law_driver.specs.queued_drivers.Commands.{IsQueueOpened, IsEndOpened, IsQueueLeft, IsEndLeft, QueuesAccept}
 use Rattle.law_driver.proofs.lemmas.queued_drivers.CommandReasons.{IsNew, in_ring, in_frames, bare, IsLeft, from_ring, from_frames, IsReasonOf, reason_of}
 use Rattle.claims_world.specs.Memory.{IsWalking}
-use Rattle.law_world.proofs.lemmas.steps.lemmas.controlled_walks.Worlds.{command_walks}
+use Rattle.law_world.proofs.lemmas.steps.lemmas.controlled_walks.Worlds.{command_keeps_walking}
 use Rattle.bus_world.specs.World.{World, name_in, commanded_by}
 use Rattle.law_world.specs.memory.Mixed.{QueuesGoOn, Standing, IsMixedAt}
 use Rattle.law_world.specs.memory.Steps.{left_by_command, stays}
@@ -64,7 +64,8 @@ by_offer s w line cmd (Err why) fits room is walking k = refused_mixed s w line 
 
 pub command_keeps_standing : CommandKeepsStanding
 command_keeps_standing s w line cmd fits room k =
-    by_offer s w line cmd (offered w.driver w.memory cmd) fits room refl (command_walks w line cmd (walks_numbered cmd fits) k.walking) k
+    by_offer s w line cmd (offered w.driver w.memory cmd) fits room refl
+    (command_keeps_walking w line cmd (walks_numbered cmd fits) k.walking) k
 
 pub command_tells_step : CommandTellsStep
 command_tells_step s w line cmd fits room k =

@@ -27,7 +27,7 @@ use Rattle.law_driver.specs.run_owners.Accepts.{Opens, Chains}
 use Rattle.law_driver.specs.in_place.InPlace.{IsInPlace}
 use Rattle.claims_driver.specs.Leaving.{HasOwners}
 use Rattle.claims_driver.specs.Owners.{QueueHead, runs_of_endpoint}
-use Rattle.law_driver.proofs.lemmas.run_owners.Laws.{command_owned}
+use Rattle.law_driver.proofs.lemmas.run_owners.Laws.{commands_keep_owners}
 use Rattle.law_driver.proofs.lemmas.run_owners.Runs.{placed_run}
 use Rattle.law_driver.proofs.lemmas.run_owners.Rows.{not_iso}
 use Rattle.law_driver.proofs.lemmas.run_owners.Taking.{runs_taken}
@@ -37,19 +37,19 @@ use Rattle.claims_base.specs.Controller.{opening_base}
 use Rattle.law_driver_ring.specs.fed_queues.Places.{IsThere, IsMet}
 use Rattle.law_queues.proofs.lemmas.fed_lends.Asked.{push_which}
 use Rattle.law_queues.proofs.lemmas.fed_lends.Opened.{open_stands}
-use Rattle.law_queues.proofs.lemmas.open_laws.AcceptWaiting.{open_waits}
+use Rattle.law_queues.proofs.lemmas.open_laws.AcceptWaiting.{open_becomes_ready}
 use Rattle.law_queues.specs.standing_fronts.Reaching.{Reaches}
-use Rattle.law_queues.proofs.lemmas.commanded_queues.Tails.{open_reaches}
+use Rattle.law_queues.proofs.lemmas.commanded_queues.Tails.{reaches_open}
 use Rattle.law_world.proofs.lemmas.steps.lemmas.control_queues.Alike.{ThereAlike}
 use Rattle.law_world.proofs.lemmas.steps.lemmas.control_queues.Beside.{commands_keep_controls}
 use Rattle.law_world.specs.memory.framed_memory.Masks.{HasMasks, AreMasked}
 use Rattle.law_world.specs.memory.framed_memory.Isochronous.{NumbersFit}
-use Rattle.law_world.proofs.lemmas.memory.lemmas.framed_memory.Masking.{commands_masked}
+use Rattle.law_world.proofs.lemmas.memory.lemmas.framed_memory.Masking.{commands_keep_masks}
 use Rattle.law_world.specs.memory.framed_memory.QueueRows.{chained_head}
-use Rattle.law_world.proofs.lemmas.memory.lemmas.framed_memory.QueueAccepting.{open_now}
-use Rattle.law_world.proofs.lemmas.memory.lemmas.framed_memory.Chained.{chain_now}
+use Rattle.law_world.proofs.lemmas.memory.lemmas.framed_memory.QueueAccepting.{open_keeps_now}
+use Rattle.law_world.proofs.lemmas.memory.lemmas.framed_memory.Chained.{chain_keeps_now}
 use Rattle.law_world.proofs.lemmas.memory.lemmas.framed_memory.ChainedLent.{IsReadyAt, chain_ready_at}
-use Rattle.law_world.proofs.lemmas.memory.lemmas.framed_memory.ChainedRuns.{chained_head_range}
+use Rattle.law_world.proofs.lemmas.memory.lemmas.framed_memory.ChainedRuns.{chained_head_is_in_range}
 use Rattle.law_driver.specs.queued_drivers.Queued.{queued_desc, queued}
 use Rattle.law_driver.specs.queued_drivers.Commands.{opened_queue, IsQueueOpened}
 use Rattle.law_driver.proofs.lemmas.queued_drivers.CommandFields.{desc_asynchronous}
@@ -86,7 +86,7 @@ module _ (s : Standing) (w : World) (line : ℕ) (x : EpDesc) (o : Offered) (a :
   c = opened_queue w.driver x k.holding_after
 
   now_owners : HasOwners (opened_queue w.driver x k.holding_after).driver
-  now_owners = command_owned d w.memory (commands.OpenEp (queued_desc x)) c (place s w line (commands.OpenEp x) o a).sound.stands (owners s w line (commands.OpenEp x) o a) k.takes
+  now_owners = commands_keep_owners d w.memory (commands.OpenEp (queued_desc x)) c (place s w line (commands.OpenEp x) o a).sound.stands (owners s w line (commands.OpenEp x) o a) k.takes
 
   ring_queues : QueuesGoOn (opened_queue w.driver x k.holding_after).driver s.near s.streams s.ends s.parts s.order s.out
   ring_queues =
@@ -99,7 +99,7 @@ module _ (s : Standing) (w : World) (line : ℕ) (x : EpDesc) (o : Offered) (a :
         sound = sound_by d c.driver s.parts (open_there d w.memory c k.opens) old.sound;
         tails = λ e z here met.
             subst (λ (n : ℕ). Reaches c.driver (s.parts (32 * z.queue)) (s.order (32 * z.queue)) (s.out (32 * z.queue)) e z n) (sym (open_tail c.driver e _ z refl))
-            (open_reaches d w.memory c s.parts s.order s.out k.opens (idle_ends d s.parts s.order s.out (idle_queues s w line (commands.OpenEp x) o a) old.tails) e z here met);
+            (reaches_open d w.memory c s.parts s.order s.out k.opens (idle_ends d s.parts s.order s.out (idle_queues s w line (commands.OpenEp x) o a) old.tails) e z here met);
         controls = commands_keep_controls d w.memory (commands.OpenEp (queued_desc x)) c s.parts s.order s.out turns.asynchronous (desc_asynchronous x) k.takes old.controls;
       }
 
@@ -186,13 +186,14 @@ open_leaves s w line x o a queues why same =
     let range : IsQhInRange (opened_head d why.desc why.holding_after) =
     subst (λ (y : EpDesc). IsQhInRange (opened_head d y why.holding_after)) (sym same) (ring_head_range x (newest_of d.endpoints) dummy a.fits.numbers a.room.1 a.room.2) in
     record {
-      now = open_now opening_base s.member s.recent s.descs s.parts s.hand s.frame (controller_parts w) d cmd o a.mixed.now why a.room a.is;
+      now = open_keeps_now opening_base s.member s.recent s.descs s.parts s.hand s.frame (controller_parts w) d cmd o a.mixed.now why a.room
+          a.is;
       ring = pushed_met d o.driver new s.member (idle s w line cmd o a) (ap (λ (g : Offered). g.driver.endpoints) why.is) (ap (λ (g : Offered). g.driver.waiting) why.is)
           (ap (λ (g : Offered). g.driver.rung) why.is) (λ e z here met. new_apart d w.memory o why e z p.sound.owners p.sound.stands here met)
           (λ e z here is met. met.there.linked (command ∙ ap (λ (y : Endpoint). Some (unfinished.Open y.queue)) (sym is))) a.mixed.ring;
       queues = queues;
       under_way = subst (λ (c : Option Command). IsUnderWay o.driver o.memory s.member s.recent s.parts c) (sym command)
-          (inl (open_waits w.memory d o why p.sound.owners p.lent p.sound.stands p.sound.shape range));
+          (inl (open_becomes_ready w.memory d o why p.sound.owners p.lent p.sound.stands p.sound.shape range));
     }
 
 -- ---- in frames
@@ -234,12 +235,12 @@ chain_leaves s w line x o a queues why same =
     let command : o.driver.command ≡ Some unfinished.Chain = ap (λ (g : Offered). g.driver.command) why.is in
     let periodic : is_periodic x.kind ≡ true = ap (λ (y : EpDesc). is_periodic y.kind) (sym same) ∙ why.periodic in
     let want : IsWant (want_of 0 x) = a.room.3 periodic in
-    let masks : HasMasks why.placement = chain_masks d w.memory o why (commands_masked d w.memory cmd o a.mixed.masks a.is) in
+    let masks : HasMasks why.placement = chain_masks d w.memory o why (commands_keep_masks d w.memory cmd o a.mixed.masks a.is) in
     let range : IsQhInRange (chained_head d why.desc why.placement why.holding_after) =
     subst (λ (y : EpDesc). IsQhInRange (chained_head d y why.placement why.holding_after)) (sym same)
-    (chained_head_range x why.placement _ (slice_index (new_runs d why.holding_after) 1) a.fits.numbers a.room.1 a.room.2 (multi_few x.speed x.multi want.multi) masks) in
+    (chained_head_is_in_range x why.placement _ (slice_index (new_runs d why.holding_after) 1) a.fits.numbers a.room.1 a.room.2 (multi_few x.speed x.multi want.multi) masks) in
     record {
-      now = chain_now opening_base s.member s.recent s.descs s.parts s.hand s.frame (controller_parts w) d cmd o a.mixed.now why a.room a.is;
+      now = chain_keeps_now opening_base s.member s.recent s.descs s.parts s.hand s.frame (controller_parts w) d cmd o a.mixed.now why a.room a.is;
       ring = pushed_met d o.driver new s.member (idle s w line cmd o a) (ap (λ (g : Offered). g.driver.endpoints) why.is) (ap (λ (g : Offered). g.driver.waiting) why.is)
           (ap (λ (g : Offered). g.driver.rung) why.is)
           (λ e z here met is. let both : ◌≡◌ {A = Option Command} (Some unfinished.Chain) (Some (unfinished.Open z.queue)) = sym command ∙ is in cc)

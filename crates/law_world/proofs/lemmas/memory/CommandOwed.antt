@@ -10,21 +10,21 @@ use Rattle.drv_table.specs.Accepting.{Offered}
 use Rattle.drv_table.specs.Offers.{offered, placed_endpoint}
 use Rattle.claims_driver.specs.Leaving.{HasOwners}
 use Rattle.law_queues.specs.leaving_drivers.Owed.{AreOwedMet}
-use Rattle.law_queues.proofs.lemmas.leaving_drivers.Owing.{command_owed}
+use Rattle.law_queues.proofs.lemmas.leaving_drivers.Owing.{commands_owe_met}
 use Rattle.law_driver.specs.queued_drivers.Queued.{queued_desc, without_queue, queued, QueuesTakeTurns}
 use Rattle.law_driver.specs.queued_drivers.Commands.{opened_queue, IsQueueOpened, IsEndOpened, told_of, AreEndsTaken, left_queue, IsQueueLeft, IsEndLeft, QueuesAccept}
 use Rattle.law_driver.proofs.lemmas.queued_drivers.CommandFields.{desc_asynchronous, push_get}
 use Rattle.law_driver.proofs.lemmas.queued_drivers.CommandTurns.{commands_are_of_queues, listed}
-use Rattle.law_driver.proofs.lemmas.queued_drivers.RowOwners.{queued_owners}
+use Rattle.law_driver.proofs.lemmas.queued_drivers.RowOwners.{queued_has_owners}
 
 module _ (d : DriverContent) (m : Mem) (o : Offered) (owners : HasOwners d) (turns : QueuesTakeTurns d) (old : AreOwedMet (queued d)) where
   own : HasOwners (queued d)
-  own = queued_owners d owners turns
+  own = queued_has_owners d owners turns
 
   opened : (x : _) → IsQueueOpened d m x o → AreOwedMet (queued o.driver)
   opened x k =
       subst AreOwedMet (sym k.alike)
-      (command_owed (queued d) m (commands.OpenEp (queued_desc x)) (opened_queue d x k.holding_after) own turns.turns (desc_asynchronous x) k.takes old)
+      (commands_owe_met (queued d) m (commands.OpenEp (queued_desc x)) (opened_queue d x k.holding_after) own turns.turns (desc_asynchronous x) k.takes old)
 
   end_opened : (x : _) → IsEndOpened d m x o → AreOwedMet (queued o.driver)
   end_opened x k =
@@ -41,16 +41,17 @@ module _ (d : DriverContent) (m : Mem) (o : Offered) (owners : HasOwners d) (tur
 
   left : (name : _) → IsQueueLeft d m name o → AreOwedMet (queued o.driver)
   left name k =
-      subst AreOwedMet (sym k.alike) (command_owed (queued d) m (commands.Cancel name) (left_queue d k.number k.endpoint m) own turns.turns tt k.takes old)
+      subst AreOwedMet (sym k.alike) (commands_owe_met (queued d) m (commands.Cancel name) (left_queue d k.number k.endpoint m) own turns.turns tt k.takes old)
 
   end_left : IsEndLeft d m o → AreOwedMet (queued o.driver)
   end_left k = subst AreOwedMet (sym k.alike) old
 
   by : (cmd : Cmd) → QueuesAccept d m o cmd → AreOwedMet (queued o.driver)
   by (commands.OpenEp x) why = ⊎_elim (λ (k : IsQueueOpened d m x o). opened x k) (λ (k : IsEndOpened d m x o). end_opened x k) why
-  by (commands.Get name len size) why = command_owed (queued d) m (commands.Get name len size) (told_of o) own turns.turns tt why.takes old
-  by (commands.Put name bytes size) why = command_owed (queued d) m (commands.Put name bytes size) (told_of o) own turns.turns tt why.takes old
-  by (commands.Control name setup bytes) why = command_owed (queued d) m (commands.Control name setup bytes) (told_of o) own turns.turns tt why.takes old
+  by (commands.Get name len size) why =
+      commands_owe_met (queued d) m (commands.Get name len size) (told_of o) own turns.turns tt why.takes old
+  by (commands.Put name bytes size) why = commands_owe_met (queued d) m (commands.Put name bytes size) (told_of o) own turns.turns tt why.takes old
+  by (commands.Control name setup bytes) why = commands_owe_met (queued d) m (commands.Control name setup bytes) (told_of o) own turns.turns tt why.takes old
   by (commands.Iso name count len seed) why = taken why
   by (commands.Cancel name) why = ⊎_elim (λ (k : IsQueueLeft d m name o). left name k) (λ (k : IsEndLeft d m o). end_left k) why
   by _ why = absurd why

@@ -13,20 +13,20 @@ use Rattle.drv_table.specs.Offers.{offered, offered_next, IsOffered}
 use Rattle.claims_driver.specs.Leaving.{HasOwners}
 use Rattle.claims_driver.specs.LentRuns.{AreLent}
 use Rattle.law_driver.specs.in_place.InPlace.{IsInPlace}
-use Rattle.law_driver.proofs.lemmas.in_place.Laws.{command_in_place}
+use Rattle.law_driver.proofs.lemmas.in_place.Laws.{commands_keep_all_in_place}
 use Rattle.claims_base.specs.Controller.{opening_base}
 use Rattle.law_driver_ring.specs.walk_members.Reached.{OpensNumbered as WalksNumbered}
 use Rattle.law_driver_ring.specs.fed_queues.Places.{AreMet}
 use Rattle.law_descriptors.specs.Told.{with_memory}
 use Rattle.law_world.specs.memory.framed_memory.Now.{IsFramedNow}
 use Rattle.law_world.specs.memory.framed_memory.IsochronousLaws.{OpensNumbered}
-use Rattle.law_world.proofs.lemmas.memory.lemmas.framed_memory.Masking.{commands_masked}
-use Rattle.law_world.proofs.lemmas.memory.lemmas.framed_memory.TakenOn.{commands_await}
-use Rattle.law_world.proofs.lemmas.memory.lemmas.framed_memory.Numbering.{command_numbered}
+use Rattle.law_world.proofs.lemmas.memory.lemmas.framed_memory.Masking.{commands_keep_masks}
+use Rattle.law_world.proofs.lemmas.memory.lemmas.framed_memory.TakenOn.{commands_keep_awaiting}
+use Rattle.law_world.proofs.lemmas.memory.lemmas.framed_memory.Numbering.{commands_keep_numbered}
 use Rattle.law_driver.specs.queued_drivers.Queued.{queued_command, queued, QueuesTakeTurns}
 use Rattle.law_driver.specs.queued_drivers.Rows.{LendsNoDescriptors}
 use Rattle.law_driver.specs.queued_drivers.Commands.{OpensFitting, QueuesAccept}
-use Rattle.law_driver.proofs.lemmas.queued_drivers.RowOwners.{queued_owners, queued_lent}
+use Rattle.law_driver.proofs.lemmas.queued_drivers.RowOwners.{queued_has_owners, queued_are_lent}
 use Rattle.law_driver.proofs.lemmas.queued_drivers.CommandTurns.{commands_are_of_queues, commands_keep_queues}
 use Rattle.claims_world.specs.Memory.{IsWalking}
 use Rattle.bus_world.specs.World.{World, controller_parts, name_in, commanded_by}
@@ -75,7 +75,7 @@ module _ (s : Standing) (w : World) (line : ℕ) (cmd : Cmd) (o : Offered) (a : 
   place = a.mixed.now.framed.place
 
   pub in_place : IsInPlace o.memory o.driver
-  in_place = command_in_place w.driver w.memory cmd o a.room place a.is
+  in_place = commands_keep_all_in_place w.driver w.memory cmd o a.room place a.is
 
   pub idle : w.driver.command ≡ None
   idle = busy_idle w.driver w.memory cmd o w.driver.command refl a.is
@@ -84,16 +84,16 @@ module _ (s : Standing) (w : World) (line : ℕ) (cmd : Cmd) (o : Offered) (a : 
   idle_queues = ap (queued_command w.driver.endpoints) idle
 
   pub owners : HasOwners (queued w.driver)
-  owners = queued_owners w.driver place.sound.owners a.mixed.turns
+  owners = queued_has_owners w.driver place.sound.owners a.mixed.turns
 
   pub lent : AreLent (queued w.driver)
-  lent = queued_lent w.driver place.lent (lends_none w.driver idle)
+  lent = queued_are_lent w.driver place.lent (lends_none w.driver idle)
 
   pub turns_now : QueuesTakeTurns o.driver
-  turns_now = commands_keep_queues queued_owners w.driver w.memory cmd o place.sound.stands place.sound.owners a.mixed.turns (opens_fitting cmd a.fits) a.is
+  turns_now = commands_keep_queues queued_has_owners w.driver w.memory cmd o place.sound.stands place.sound.owners a.mixed.turns (opens_fitting cmd a.fits) a.is
 
   pub owners_now : HasOwners (queued o.driver)
-  owners_now = queued_owners o.driver in_place.sound.owners turns_now
+  owners_now = queued_has_owners o.driver in_place.sound.owners turns_now
 
   pub accepts : QueuesAccept w.driver w.memory o cmd
   accepts = commands_are_of_queues w.driver w.memory cmd o place.sound.owners.orderly a.mixed.turns a.is
@@ -108,9 +108,9 @@ module _ (s : Standing) (w : World) (line : ℕ) (cmd : Cmd) (o : Offered) (a : 
         queues = l.queues;
         under_way = l.under_way;
         walking = a.walking;
-        numbers = command_numbered w.driver w.memory cmd o k.numbers (opens_numbered cmd a.fits) a.is;
-        masks = commands_masked w.driver w.memory cmd o k.masks a.is;
-        awaiting = commands_await w.driver w.memory cmd o place k.now.planned k.masks k.numbers a.is;
+        numbers = commands_keep_numbered w.driver w.memory cmd o k.numbers (opens_numbered cmd a.fits) a.is;
+        masks = commands_keep_masks w.driver w.memory cmd o k.masks a.is;
+        awaiting = commands_keep_awaiting w.driver w.memory cmd o place k.now.planned k.masks k.numbers a.is;
         owed = command_owes w.driver w.memory cmd o place.sound.owners k.turns a.is k.owed;
         bytes = k.bytes;
       }

@@ -11,7 +11,7 @@ use Rattle.drv_table.specs.DriverContent.{DriverContent}
 use Rattle.drv_table.specs.Accepting.{Offered, new_runs}
 use Rattle.drv_table.specs.Offers.{first_of, stage_words, new_transfer, with_queued, offered}
 use Rattle.law_driver.specs.run_owners.Accepts.{Accepts, opens, chains, places, transfers, describes, cancels, unchains, Transfers}
-use Rattle.law_driver.proofs.lemmas.run_owners.Commands.{accepted_for_a_reason}
+use Rattle.law_driver.proofs.lemmas.run_owners.Commands.{each_command_has_its_reason}
 use Rattle.claims_base.specs.Controller.{opening_base}
 use Rattle.claims_driver.specs.Scripts.{OpensAsynchronous}
 use Rattle.law_driver_ring.specs.fed_queues.Places.{AreMet}
@@ -22,10 +22,10 @@ use Rattle.law_queues.proofs.lemmas.fed_lends.Asked.{dummy_in, notes_in}
 use Rattle.law_queues.proofs.lemmas.fed_lends.Publishing.{asked_stands, requested_stands}
 use Rattle.law_queues.specs.standing_fronts.Reaching.{Reaches}
 use Rattle.law_queues.specs.standing_fronts.Tails.{tail_block, tail_of, TailsStand}
-use Rattle.law_queues.proofs.lemmas.commanded_queues.Tails.{asked_reaches}
+use Rattle.law_queues.proofs.lemmas.commanded_queues.Tails.{reaches_asked}
 use Rattle.law_world.proofs.lemmas.steps.lemmas.control_queues.Alike.{ThereAlike, told_alike}
 use Rattle.law_world.proofs.lemmas.steps.lemmas.control_queues.Beside.{commands_keep_controls}
-use Rattle.law_world.proofs.lemmas.memory.lemmas.framed_memory.QueueAccepting.{transfer_now}
+use Rattle.law_world.proofs.lemmas.memory.lemmas.framed_memory.QueueAccepting.{transfer_keeps_now}
 use Rattle.law_driver.specs.queued_drivers.Queued.{queued_command, queued}
 use Rattle.law_driver.specs.queued_drivers.Commands.{told_of, IsQueueAsked, IsQueueRequested}
 use Rattle.law_driver.proofs.lemmas.queued_drivers.CommandLeaves.{unchained}
@@ -90,7 +90,7 @@ module _ (s : Standing) (w : World) (line : ℕ) (cmd : Cmd) (o : Offered) (a : 
   tails e z here met =
       let p = place s w line cmd o a in
       subst (λ (c : ℕ). Reaches (queued o.driver) (s.parts (32 * z.queue)) (s.order (32 * z.queue)) (s.out (32 * z.queue)) e z c) (sym (tail_is e z))
-      (asked_reaches d w.memory (told_of o) s.parts s.order s.out why p.sound.stands (owners s w line cmd o a) (lent s w line cmd o a) a.mixed.turns.turns.asynchronous
+      (reaches_asked d w.memory (told_of o) s.parts s.order s.out why p.sound.stands (owners s w line cmd o a) (lent s w line cmd o a) a.mixed.turns.turns.asynchronous
       (idle_ends d s.parts s.order s.out (idle_queues s w line cmd o a) a.mixed.queues.tails) e z here met)
 
   asked_queues : QueuesStand (queued o.driver) s.near s.streams s.ends s.parts s.order s.out → OpensAsynchronous cmd → offered d w.memory cmd ≡ Ok (told_of o)
@@ -105,7 +105,7 @@ module _ (s : Standing) (w : World) (line : ℕ) (cmd : Cmd) (o : Offered) (a : 
   -- ---- the endpoint and the walk
 
   real : Transfers w.driver w.memory o
-  real = transfer_of w.driver w.memory o why.endpoint.dummy words command_is (accepted_for_a_reason w.driver w.memory cmd o a.is)
+  real = transfer_of w.driver w.memory o why.endpoint.dummy words command_is (each_command_has_its_reason w.driver w.memory cmd o a.is)
 
   asked_ring : AreMet o.driver s.member
   asked_ring =
@@ -126,7 +126,7 @@ module _ (s : Standing) (w : World) (line : ℕ) (cmd : Cmd) (o : Offered) (a : 
 
   asked_leaves : QueuesStand (queued o.driver) s.near s.streams s.ends s.parts s.order s.out → OpensAsynchronous cmd → offered d w.memory cmd ≡ Ok (told_of o) → IsReady → LeavesMixed s w o
   asked_leaves stand only takes ready = record {
-    now = transfer_now opening_base s.member s.recent s.descs s.parts s.hand s.frame (controller_parts w) w.driver cmd o a.mixed.now real a.room a.is;
+    now = transfer_keeps_now opening_base s.member s.recent s.descs s.parts s.hand s.frame (controller_parts w) w.driver cmd o a.mixed.now real a.room a.is;
     ring = asked_ring;
     queues = asked_queues stand only takes;
     under_way = asked_under_way ready;

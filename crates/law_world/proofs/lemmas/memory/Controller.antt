@@ -2,7 +2,7 @@
 use Rattle.std.proofs.Common.{◌≡◌, ℕ, ◌*◌, ◌≤◌, ◌⊎◌, ⊎_elim, inl, inr, List, Option, Some, refl}
 use Rattle.mem_runs.specs.Book.{holding, Stands}
 use Rattle.law_ring.specs.walk_writes.Writes.{WritesLent}
-use Rattle.law_controller.proofs.lemmas.lent_writes.Controlling.{controller_writes_lent}
+use Rattle.law_controller.proofs.lemmas.lent_writes.Controlling.{each_event_of_the_controller_writes_lent_words}
 use Rattle.law_controller.proofs.lemmas.aligned_copies.Controlling.{aligned_placed}
 use Rattle.bus_wire.specs.Bus.{Fixed}
 use Rattle.drv_table.specs.declared.content.Command.{Command}
@@ -23,19 +23,19 @@ use Rattle.law_queues.proofs.lemmas.open_laws.AcceptWaiting.{ready_stays}
 use Rattle.law_queues.specs.released_queues.Fronts.{FrontsStand}
 use Rattle.law_queues.specs.standing_fronts.Tails.{tail_of}
 use Rattle.law_world.specs.memory.framed_memory.Now.{recent_then}
-use Rattle.law_world.proofs.lemmas.memory.lemmas.framed_memory.NowControlled.{controller_now}
-use Rattle.law_world.proofs.lemmas.memory.lemmas.framed_memory.Awaiting.{writes_await}
+use Rattle.law_world.proofs.lemmas.memory.lemmas.framed_memory.NowControlled.{controller_keeps_now}
+use Rattle.law_world.proofs.lemmas.memory.lemmas.framed_memory.Awaiting.{writes_keep_awaiting}
 use Rattle.law_world.specs.memory.framed_memory.Chained.{chained_queue}
 use Rattle.law_world.proofs.lemmas.memory.lemmas.framed_memory.RingLinksMet.{head_is_met}
-use Rattle.law_world.proofs.lemmas.memory.lemmas.framed_memory.RingLinksWaiting.{open_lent_stays}
+use Rattle.law_world.proofs.lemmas.memory.lemmas.framed_memory.RingLinksWaiting.{open_lent_stays_now}
 use Rattle.law_descriptors.proofs.lemmas.queue_events.Events.{both_keeps_fed, both_keeps_last, both_keeps_links, both_keeps_reaches, both_keeps_halts, both_keeps_mends}
 use Rattle.law_driver.specs.queued_drivers.Queued.{queued}
-use Rattle.law_world.proofs.lemmas.steps.lemmas.controlled_walks.Worlds.{controller_walks}
+use Rattle.law_world.proofs.lemmas.steps.lemmas.controlled_walks.Worlds.{controller_keeps_walking}
 use Rattle.bus_world.specs.World.{World, controller_parts, controller_row, controller_next}
 use Rattle.law_world.specs.steps.Streaming.{begins_by, transacts_by, wired}
 use Rattle.law_world.proofs.lemmas.steps.StreamTurning.{world_has_row}
 use Rattle.law_world.proofs.lemmas.steps.lemmas.world_bytes.Turning.{controller_bytes}
-use Rattle.law_world.proofs.lemmas.steps.lemmas.world_bytes.Hearing.{hears_bytes}
+use Rattle.law_world.proofs.lemmas.steps.lemmas.world_bytes.Hearing.{a_bus_of_bytes_is_heard_as_bytes}
 use Rattle.law_world.specs.memory.Mixed.{QueuesGoOn, IsChainToLend, IsChainThere, IsUnderWay, Standing, IsMixedAt}
 use Rattle.law_world.specs.memory.Steps.{IsEventOf, standing_then, IsMixedControlled}
 use Rattle.law_world.specs.memory.Laws.{ControllerKeepsMixed, ControllerTellsEvent}
@@ -54,15 +54,16 @@ module _ (fixed : Fixed) (s : Standing) (w : World) (k : IsMixedAt s w) where
 
   after_event : After
   after_event =
-      controller_now begins_by transacts_by opening_base s.member s.recent s.descs s.parts s.hand s.frame (controller_parts w) d (wired fixed w) (controller_parts new) (wired fixed new) k.now
-      (hears_bytes fixed w k.bytes (wired fixed new)) (world_has_row fixed w)
+      controller_keeps_now begins_by transacts_by opening_base s.member s.recent s.descs s.parts s.hand s.frame (controller_parts w) d (wired fixed w) (controller_parts new) (wired fixed new) k.now
+      (a_bus_of_bytes_is_heard_as_bytes fixed w k.bytes (wired fixed new)) (world_has_row fixed w)
 
   stands : Stands (holding d.book w.memory)
   stands = k.now.framed.place.sound.stands
 
   writes : WritesLent w.memory (controller_next fixed w).memory
   writes =
-      controller_writes_lent begins_by transacts_by (controller_parts w) (wired fixed w) (controller_parts new) (wired fixed new)
+      each_event_of_the_controller_writes_lent_words begins_by transacts_by (controller_parts w) (wired fixed w) (controller_parts new)
+      (wired fixed new)
       (aligned_placed (controller_parts w) k.now.framed.aligned) (world_has_row fixed w)
 
   -- ---- the queues
@@ -117,7 +118,7 @@ module _ (fixed : Fixed) (s : Standing) (w : World) (k : IsMixedAt s w) where
         ⊎_elim (λ (r : IsOpenReady w.driver w.memory). inl (ready_stays d w.memory new.memory k.now.framed.place.sound.owners stands writes.words r))
         (λ (l : IsOpenLent w.driver s.member s.parts).
         inr
-        (open_lent_stays begins_by transacts_by opening_base s.member s.recent s.descs s.parts s.hand s.frame (controller_parts w) d (wired fixed w) (wired fixed new) a.now a.later a.frame_later k.now
+        (open_lent_stays_now begins_by transacts_by opening_base s.member s.recent s.descs s.parts s.hand s.frame (controller_parts w) d (wired fixed w) (wired fixed new) a.now a.later a.frame_later k.now
         (head_is_met opening_base s.member s.recent s.descs s.parts s.hand s.frame (controller_parts w) d k.now k.ring) l a.effect))
 
     publish_stays : (b : ℕ) (words : List ℕ) → IsToBeLent (queued w.driver) w.memory b words ⊎ (1 ≤ w.driver.made) → IsToBeLent (queued w.driver) (controller_next fixed w).memory b words ⊎ (1 ≤ w.driver.made)
@@ -172,10 +173,10 @@ module _ (fixed : Fixed) (s : Standing) (w : World) (k : IsMixedAt s w) where
       ring = k.ring;
       queues = queues_then;
       under_way = by_command d.command refl k.under_way;
-      walking = controller_walks fixed w k.now.framed.place k.walking;
+      walking = controller_keeps_walking fixed w k.now.framed.place k.walking;
       numbers = k.numbers;
       masks = k.masks;
-      awaiting = writes_await d w.memory new.memory stands writes.words k.awaiting;
+      awaiting = writes_keep_awaiting d w.memory new.memory stands writes.words k.awaiting;
       bytes = controller_bytes fixed w k.bytes;
       owed = k.owed;
     }

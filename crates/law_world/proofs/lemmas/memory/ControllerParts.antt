@@ -18,7 +18,7 @@ use Rattle.claims_base.specs.Controller.{Base}
 use Rattle.law_controller.specs.controlled_streams.Control.{a_microframe, a_step}
 use Rattle.law_frames.specs.Met.{Kind, AQueue, AnItd, ASitd, IsQueuePart, IsMetItd, IsMetSitd}
 use Rattle.law_frames.specs.FrameHand.{FrameHand}
-use Rattle.law_frames.proofs.Queues.{linked_part}
+use Rattle.law_frames.proofs.Queues.{a_members_part_is_linked}
 use Rattle.law_controller.specs.frame_control.Both.{AreMet, RunsBoth, BothEffect, of_ring, of_frame}
 use Rattle.law_controller.proofs.lemmas.frame_control.Staying.{ring_leaves}
 use Rattle.law_descriptors.specs.Both.{owns, both, descs_now, parts_now}
@@ -75,7 +75,7 @@ module _ {W : Type 0} (begins : W → ℕ → Bool → W → Type 0) (transacts 
     all = ap (λ (b : Bool). if b then descs_then n else parts_then n) off_then
 
     on_ring : member n ≡ true → IsQueuePart n (parts_then n)
-    on_ring on = subst (IsQueuePart n) all (linked_part member n (both descs_then parts_then n) (a.framed.framed.runs.ring.members n on)).part_is
+    on_ring on = subst (IsQueuePart n) all (a_members_part_is_linked member n (both descs_then parts_then n) (a.framed.framed.runs.ring.members n on)).part_is
 
     unmoved : a.now n ≡ both descs parts n → IsQueuePart n (parts_then n)
     unmoved same = subst (IsQueuePart n) (sym (becomes ∙ same ∙ was)) sound

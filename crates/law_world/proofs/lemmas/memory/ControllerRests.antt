@@ -45,7 +45,7 @@ use Rattle.law_frames.specs.FrameEffects.{
   takes,
   writes,
 }
-use Rattle.law_frames.proofs.QueueBacks.{hand_settled}
+use Rattle.law_frames.proofs.QueueBacks.{hand_is_settled}
 use Rattle.law_controller.specs.frame_control.Both.{RunsBoth, BothEffect, of_ring, of_frame}
 use Rattle.law_controller.proofs.lemmas.frame_control.Staying.{ring_leaves}
 use Rattle.law_descriptors.specs.Both.{both, parts_now}
@@ -83,7 +83,7 @@ module _ (met : ℕ → Option Kind) (parts : StructureSets) (w : Walk) (hand : 
 
   write_rests : WritesOne parts w hand now later → now n ≡ parts n
   write_rests (of_queue r) =
-      let from : IsCopiedQueue met parts r.copy × IsQueueSettled r.copy.queue w.reply r.settled = hand_settled met parts w hand r.copy r.settled r.made in_hand r.from in
+      let from : IsCopiedQueue met parts r.copy × IsQueueSettled r.copy.queue w.reply r.settled = hand_is_settled met parts w hand r.copy r.settled r.made in_hand r.from in
       ⊎_elim
       (λ (same : n ≡ r.copy.at).
       let head : k.queue ≡ r.copy.queue = found_queue (parts n n) k.queue r.copy.queue k.here (ap (λ (i : ℕ). parts i i) same ∙ from.0.here) in

@@ -17,7 +17,7 @@ use Rattle.drv_table.specs.Rows.{driver_row}
 use Rattle.claims_driver.specs.Owners.{is_descriptor}
 use Rattle.law_driver.specs.run_owners.Due.{IsDue, IsNextOf, IsLinkOf, IsHarvestDue, IsRemovalDue}
 use Rattle.claims_driver.specs.Leaving.{HasOwners}
-use Rattle.law_driver.proofs.lemmas.run_owners.Reasons.{each_is_due}
+use Rattle.law_driver.proofs.lemmas.run_owners.Reasons.{each_event_is_due}
 use Rattle.law_driver.proofs.lemmas.run_owners.Orders.{one_same, endpoint_first, IsRemoved, has_removed}
 use Rattle.law_world.specs.memory.framed_memory.Isochronous.{IsFramesCommand}
 use Rattle.bus_world.specs.World.{World, driver_parts, driver_next}
@@ -98,7 +98,7 @@ module _ (s : Standing) (w : World) (k : IsMixedAt s w) where
   by_row rows.Rest is due only = rest_mixed s w k is
 
   next_row : IsFramesCommand w.driver.command → IsMixedNext s w (driver_next w)
-  next_row only = by_row (driver_row (driver_parts w)) refl (each_is_due (driver_parts w)) only
+  next_row only = by_row (driver_row (driver_parts w)) refl (each_event_is_due (driver_parts w)) only
 
   by_command : (o : Option Command) → w.driver.command ≡ o → IsMixedNext s w (driver_next w)
   by_command (Some (unfinished.Open queue)) is = opening_mixed s w queue k is

@@ -10,7 +10,7 @@ use Rattle.usb_base.specs.declared.packets.Way.TheVariants as ways
 use Rattle.script_types.specs.declared.scripts.Line.{Line}
 use Rattle.script_types.specs.declared.scripts.Line.TheVariants as lines
 use Rattle.law_devices.specs.declared_controls.Names.{IsNameOf, NamesLine}
-use Rattle.law_devices.proofs.lemmas.declared_controls.Controls.{spelled_names}
+use Rattle.law_devices.proofs.lemmas.declared_controls.Controls.{texts_name_endpoints}
 use Rattle.law_driver.specs.queued_drivers.Queued.{IsOfWay}
 use Rattle.law_world.specs.memory.Scripts.{FittingLine, TextsOpenFitting}
 
@@ -33,4 +33,4 @@ lines_fitting [] all = tt
 lines_fitting (x ∷ xs) all = (line_fitting x.1 all.0, lines_fitting xs all.1)
 
 pub texts_open_fitting : TextsOpenFitting
-texts_open_fitting text s spelled = lines_fitting s.lines (spelled_names text s spelled).opened
+texts_open_fitting text s spelled = lines_fitting s.lines (texts_name_endpoints text s spelled).opened

@@ -15,12 +15,12 @@ use Rattle.claims_driver.specs.Unlinked.{led}
 use Rattle.claims_world.specs.Links.{EndsOrLeads, ends, leads}
 use Rattle.law_frames.specs.Met.{Kind, AQueue, AnItd, ASitd, LeadsTo}
 use Rattle.law_frame_list.specs.list_closed.Closed.{IsNext, LeadsInto, structure}
-use Rattle.law_frame_list.proofs.lemmas.list_closed.Closing.{list_closed, members_closed, first_frames}
-use Rattle.law_frame_list.proofs.lemmas.list_closed.Structures.{structures_told}
+use Rattle.law_frame_list.proofs.lemmas.list_closed.Closing.{elements_lead_to_members, members_lead_to_members, members_stand_in_their_first_frame}
+use Rattle.law_frame_list.proofs.lemmas.list_closed.Structures.{links_tell_structures}
 use Rattle.law_descriptors.specs.Meeting.{standing, kind_of}
 use Rattle.law_descriptors.specs.RowLaws.{HasFrames}
 use Rattle.law_descriptors.proofs.Finding.{begins_at, member_kind, IsMemberAt, member_at}
-use Rattle.law_descriptors.proofs.Leading.{led_linked, led_spread, element_leads, member_leads}
+use Rattle.law_descriptors.proofs.Leading.{led_linked, led_spread, elements_lead_to_standing, members_lead_to_standing}
 
 same_block : (a b : ℕ) → 32 * (a / 32) ≡ 32 * (b / 32) → a / 32 ≡ b / 32
 same_block a b same = omega (arith, same)
@@ -56,20 +56,20 @@ module _ (m : Mem) (d : DriverContent) (frames : HasFrames m d) where
 
   led_next : (f v : ℕ) → LeadsInto s f v → LeadsTo (standing d) (link_read v) → EndsOrLeads d v
   led_next f v into stands =
-      led_by_next f v into.next into.stands into.word (subst (LeadsTo (standing d)) (structures_told d frames.listed f v into) stands)
+      led_by_next f v into.next into.stands into.word (subst (LeadsTo (standing d)) (links_tell_structures d frames.listed f v into) stands)
 
   pub element_ends : (f : ℕ) → f < 1024 → EndsOrLeads d (word_at m (address_of d.periodic.list.list (Element f)))
   element_ends f below =
-      led_next f (word_at m (address_of d.periodic.list.list (Element f))) (list_closed m d frames.list frames.spread f below)
-      (element_leads m d f frames below)
+      led_next f (word_at m (address_of d.periodic.list.list (Element f))) (elements_lead_to_members m d frames.list frames.spread f below)
+      (elements_lead_to_standing m d f frames below)
 
   pub member_ends : (x : Member) → is_linked (led d) x ≡ true → EndsOrLeads d (word_at m (address_of d.periodic.list.list (After x)))
   member_ends x on =
       let linked : is_linked s x ≡ true = led_linked s d.periodic.list.work x on in
-      let first = first_frames m d frames.list x linked in
+      let first = members_stand_in_their_first_frame m d frames.list x linked in
       let v : ℕ = word_at m (address_of d.periodic.list.list (After x)) in
       let kind : standing d (begins_at x) ≡ Some (kind_of d.periodic x)
       = member_kind d.periodic d.periodic.list.list (led d) x (led_spread d.periodic.list.list s d.periodic.list.work frames.spread) on in
-      led_next (frame_of x) v (members_closed m d frames.list frames.spread (frame_of x) x first.0 first.1)
+      led_next (frame_of x) v (members_lead_to_members m d frames.list frames.spread (frame_of x) x first.0 first.1)
       (subst (λ (a : ℕ). LeadsTo (standing d) (link_read (word_at m a))) (turned (id_of x))
-      (member_leads m d (begins_at x) (kind_of d.periodic x) frames kind))
+      (members_lead_to_standing m d (begins_at x) (kind_of d.periodic x) frames kind))

@@ -40,13 +40,13 @@ use Rattle.claims_driver.specs.FrameWords.{Begun, HasMember, StandsBy, is_at, ma
 use Rattle.claims_driver.specs.Ring.{link_in}
 use Rattle.claims_driver.specs.Unlinked.{led_in, led}
 use Rattle.claims_world.specs.Links.{EndsOrLeads, ends, leads}
-use Rattle.law_descriptors.proofs.Growing.{members_kept}
+use Rattle.law_descriptors.proofs.Growing.{stores_keep_members}
 use Rattle.law_descriptors.proofs.Leading.{led_linked}
 use Rattle.law_descriptors.proofs.ListRows.{unlinking_led}
 use Rattle.law_descriptors.specs.Growing.{IsLeftOut}
 use Rattle.law_descriptors.specs.RowLaws.{HasFrames}
 use Rattle.law_driver.proofs.lemmas.ring_members.Events.{begun_members}
-use Rattle.law_driver.proofs.lemmas.run_owners.Reasons.{each_is_due}
+use Rattle.law_driver.proofs.lemmas.run_owners.Reasons.{each_event_is_due}
 use Rattle.law_driver.specs.run_owners.Due.{IsDue, IsLinkOf, IsUnlinkDue}
 use Rattle.law_frame_list.proofs.lemmas.list_closed.Chained.{still_linked, successor_is, other_words}
 use Rattle.law_frame_list.proofs.lemmas.list_steps.Stepping.{goes_on_list}
@@ -58,7 +58,7 @@ use Rattle.law_frame_words.proofs.lemmas.frame_words.Order.{store_in_order}
 use Rattle.law_world.specs.memory.Mixed.{Standing, IsMixedAt}
 use Rattle.law_world.proofs.lemmas.memory.FrameFlips.{LedThen, same, a_link, an_unlink, row_led, next_led, either_if, successor_apart}
 use Rattle.law_world.proofs.lemmas.memory.LinkWords.{NextWord, next_word, nth_all, stored_off}
-use Rattle.law_world.proofs.lemmas.memory.lemmas.framed_memory.Now.{has_frames}
+use Rattle.law_world.proofs.lemmas.memory.lemmas.framed_memory.Now.{now_has_frames}
 
 itself_word : (x : Member) → is_word (After x) (After x) ≡ true
 itself_word (Once c) = that_itself c
@@ -124,7 +124,7 @@ module _ (s : Standing) (w : World) (k : IsMixedAt s w) (x : Member) (on : is_li
   schedule = w.driver.periodic.list.members.schedule
 
   frames : HasFrames w.memory w.driver
-  frames = has_frames opening_base s.member s.recent s.descs s.parts s.hand s.frame (controller_parts w) w.driver k.now
+  frames = now_has_frames opening_base s.member s.recent s.descs s.parts s.hand s.frame (controller_parts w) w.driver k.now
 
   kept : IsKept w.driver.periodic.list.members.schedule
   kept = frames.list.order.kept
@@ -135,7 +135,7 @@ module _ (s : Standing) (w : World) (k : IsMixedAt s w) (x : Member) (on : is_li
   -- ---- which store it is
 
   row_of : IsDue (driver_parts w) (driver_row (driver_parts w))
-  row_of = each_is_due p
+  row_of = each_event_is_due p
 
   -- the store is the last of this work
   pub record IsLast : Type 0 where
@@ -168,7 +168,7 @@ module _ (s : Standing) (w : World) (k : IsMixedAt s w) (x : Member) (on : is_li
         ⊎_elim
         (λ (still : is_linked (led_in (after_store list)) x ≡ true).
         absurd (true≢false (sym still ∙ ap (λ (z : Schedule). is_linked z x) (sym led_next) ∙ out)))
-        (λ (o : IsLeftOut list n.work x). o) (members_kept list n.work x n.under_way on)
+        (λ (o : IsLeftOut list n.work x). o) (stores_keep_members list n.work x n.under_way on)
 
     removes : removes_members why.command ≡ true
     removes = unchains_by d d.command frames.listed.way n.work n.under_way leaves_it.removes why.command why.unfinished
@@ -238,7 +238,7 @@ module _ (s : Standing) (w : World) (k : IsMixedAt s w) (x : Member) (on : is_li
         let linked_too = (and_parts (is_member (Once c)) (is_linked schedule (Once c)) both.1).1 in
         let o : IsLeftOut r v x = ⊎_elim {C = IsLeftOut r v x}
         (λ (still : is_linked (led_in (after_store r)) x ≡ true). absurd (true≢false (sym still ∙ gone))) (λ (o : IsLeftOut r v x). o)
-        (members_kept r v x refl here) in
+        (stores_keep_members r v x refl here) in
         record {
           work = v;
           leaves = record { removes = refl; last = o.last; is = o.is };

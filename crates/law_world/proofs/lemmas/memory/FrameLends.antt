@@ -24,7 +24,7 @@ use Rattle.drv_table.specs.Rows.{driver_row, after_driver_row}
 use Rattle.claims_driver.specs.Owners.{HasBlocks, Owner, Dummy, Described, Buffer, IsPlaced, IsDescribed, runs_of_endpoint, runs_of_transfer, descriptor_in}
 use Rattle.law_driver.specs.run_owners.Due.{IsDue, IsNextOf}
 use Rattle.claims_driver.specs.Leaving.{HasOwners}
-use Rattle.law_driver.proofs.lemmas.run_owners.Reasons.{each_is_due}
+use Rattle.law_driver.proofs.lemmas.run_owners.Reasons.{each_event_is_due}
 use Rattle.claims_driver.specs.LentRuns.{begins_in, AreLent}
 use Rattle.claims_base.specs.Controller.{opening_base}
 use Rattle.law_driver_ring.specs.Inventory.{IsLent}
@@ -34,7 +34,7 @@ use Rattle.law_driver.specs.queued_drivers.Rows.{IsOfFrames}
 use Rattle.law_driver.proofs.lemmas.queued_drivers.RowLists.{IsMapped, mapped, queue_told, none_told}
 use Rattle.law_descriptors.specs.Written.{runs_of}
 use Rattle.law_world.specs.memory.framed_memory.Isochronous.{IsFramesCommand, AwaitsLend}
-use Rattle.law_world.proofs.lemmas.memory.lemmas.framed_memory.Lending.{lend_now}
+use Rattle.law_world.proofs.lemmas.memory.lemmas.framed_memory.Lending.{lend_keeps_now}
 use Rattle.bus_world.specs.World.{driver_parts, controller_parts, driver_next}
 use Rattle.law_world.specs.memory.Laws.{RowKeepsMixed}
 use Rattle.law_world.proofs.lemmas.memory.Stepping.{told_same}
@@ -157,13 +157,14 @@ pub descriptors_lent_mixed : RowKeepsMixed rows.LendDescriptors
 descriptors_lent_mixed s w k is =
     let p : Parts = driver_parts w in
     let of : IsOfFrames p (driver_row p) = subst (IsOfFrames p) (sym is) tt in
-    let due : IsNextOf p rows.LendDescriptors = subst (IsDue p) is (each_is_due p) in
+    let due : IsNextOf p rows.LendDescriptors = subst (IsDue p) is (each_event_is_due p) in
     let iso = lends_iso due.command w.driver.made due.next in
     let command : w.driver.command ≡ Some (unfinished.Iso iso.endpoint iso.first iso.count) = due.unfinished ∙ ap (λ (c : Command). Some c) iso.is in
     let frames : IsFramesCommand w.driver.command = subst IsFramesCommand (sym command) tt in
     let at = iso.at in
     let awaits : AwaitsLend w.driver w.memory iso.endpoint iso.first = k.awaiting iso.endpoint iso.first iso.count command (omega (arith, at)) in
-    let l = lend_now opening_base s.member s.recent s.descs s.parts s.hand s.frame (controller_parts w) w.driver k.now k.awaiting is in
+    let l = lend_keeps_now opening_base s.member s.recent s.descs s.parts s.hand s.frame (controller_parts w) w.driver k.now k.awaiting is
+    in
     frames_mixed s w k _ _ _ s.hand s.frame l.framed of frames
     (subst (λ (r : DriverRow). EndsStay w.driver.endpoints (after_driver_row r p).driver.endpoints) (sym is)
     (advance_ends (record w.driver { book = (lend_taken (holding w.driver.book (linked_by w.driver w.memory w.driver.command))).book }) frames))

@@ -19,10 +19,10 @@ use Rattle.law_driver.specs.endpoint_lives.Lives.{is_one_of, may_meet}
 use Rattle.law_driver.proofs.lemmas.endpoint_lives.Lives.{met_alike}
 use Rattle.claims_driver.specs.Owners.{HasBlocks, HasRun}
 use Rattle.claims_driver.specs.Leaving.{times, leaves_ring, HasOwners}
-use Rattle.law_driver.proofs.lemmas.run_owners.Reasons.{each_is_due}
+use Rattle.law_driver.proofs.lemmas.run_owners.Reasons.{each_event_is_due}
 use Rattle.law_driver.proofs.lemmas.run_owners.Released.{set_here, set_there}
 use Rattle.claims_driver.specs.LentRuns.{AreLent, IsLent as IsLentRun}
-use Rattle.law_driver.proofs.lemmas.lent_runs.Laws.{idle_lent}
+use Rattle.law_driver.proofs.lemmas.lent_runs.Laws.{all_are_lent_between_commands}
 use Rattle.law_structures.specs.lent_structures.Structures.{StructureSets}
 use Rattle.law_ring.specs.Hand.{Hand}
 use Rattle.claims_base.specs.Controller.{opening_base}
@@ -33,7 +33,7 @@ use Rattle.law_queues.proofs.lemmas.publish_laws.Apart.{dummy_placed}
 use Rattle.law_queues.proofs.lemmas.leaving_drivers.Unmet.{none_of}
 use Rattle.law_driver.specs.queued_drivers.Queued.{queued, queued_command, QueuesTakeTurns}
 use Rattle.law_driver.specs.queued_drivers.Rows.{QueuesAlike, IsOfFrames, keeps_book}
-use Rattle.law_driver.proofs.lemmas.queued_drivers.RowOwners.{queued_owners}
+use Rattle.law_driver.proofs.lemmas.queued_drivers.RowOwners.{queued_has_owners}
 use Rattle.law_driver.proofs.lemmas.queued_drivers.RowFrames.{frames_leave}
 use Rattle.law_frames.specs.Met.{Kind}
 use Rattle.law_frames.specs.FrameHand.{FrameHand}
@@ -192,8 +192,9 @@ one_run _ has = tt
 -- between commands all are lent
 pub idle_dummies : (d f : DriverContent) → HasOwners d → QueuesTakeTurns d → AreLent d → d.command ≡ None → DummiesWereLent (queued d) f
 idle_dummies d f has turns lent idle e x here kept was =
-    let placed = dummy_placed (queued d) (queued_owners d has turns) e x here (turns.turns.asynchronous.endpoints e x here) kept in
-    lent_run (slot_of d.book.slots x.dummy) (idle_lent d x.dummy idle lent (one_run (slot_of d.book.slots x.dummy) placed.run))
+    let placed = dummy_placed (queued d) (queued_has_owners d has turns) e x here (turns.turns.asynchronous.endpoints e x here) kept in
+    lent_run (slot_of d.book.slots x.dummy) (all_are_lent_between_commands d x.dummy idle lent
+    (one_run (slot_of d.book.slots x.dummy) placed.run))
 
 -- ---- the world
 
@@ -217,7 +218,7 @@ module _ (s : Standing) (w : World) (k : IsMixedAt s w) where
       → QueuesGoOn (queued w.driver) s.near s.streams s.ends parts s.order s.out
       → AreTold s (record s { recent = recent; descs = descs; parts = parts; hand = hand; frame = frame }) → IsMixedNext s w (driver_next w)
   frames_mixed recent descs parts hand frame now of frames stay dummies queues told =
-      let alike : QueuesAlike (queued d) (queued f) = (frames_leave (driver_row p) p its_owners k.turns (each_is_due p) of).queues in
+      let alike : QueuesAlike (queued d) (queued f) = (frames_leave (driver_row p) p its_owners k.turns (each_event_is_due p) of).queues in
       let frames_now = frames_still d f alike frames in
       let t : Standing = record s { recent = recent; descs = descs; parts = parts; hand = hand; frame = frame } in
       mixed_next s w k t (step_stays t (left_by_frames alike of refl) (record { near = refl; streams = refl; ends = refl; order = refl; out = refl; told = told })) now
@@ -227,7 +228,8 @@ module _ (s : Standing) (w : World) (k : IsMixedAt s w) where
 
   -- .. that leaves the book
   pub same_dummies : IsOfFrames (driver_parts w) (driver_row (driver_parts w)) → keeps_book (driver_row (driver_parts w)) ≡ true → DummiesWereLent (queued w.driver) (queued (driver_next w).driver)
-  same_dummies of keeps = same_lent (queued d) (queued f) ((frames_leave (driver_row p) p its_owners k.turns (each_is_due p) of).book keeps)
+  same_dummies of keeps =
+      same_lent (queued d) (queued f) ((frames_leave (driver_row p) p its_owners k.turns (each_event_is_due p) of).book keeps)
 
   -- .. between commands
   pub quiet_dummies : w.driver.command ≡ None → DummiesWereLent (queued w.driver) (queued (driver_next w).driver)

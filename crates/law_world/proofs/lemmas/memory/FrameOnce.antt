@@ -48,8 +48,8 @@ use Rattle.law_frames.specs.Met.{IsMetAs}
 use Rattle.law_driver.proofs.lemmas.listed_members.Owned.{queue_owned}
 use Rattle.law_driver.proofs.lemmas.listed_members.Standing.{IsSeen, seen, in_frames, unlinks_reported}
 use Rattle.law_driver.proofs.lemmas.listed_members.Standing.{descriptor_block, descriptor_placed, standing_block, why_stands}
-use Rattle.law_driver.proofs.lemmas.run_owners.Commands.{accepted_for_a_reason}
-use Rattle.law_driver.proofs.lemmas.run_owners.Reasons.{each_is_due}
+use Rattle.law_driver.proofs.lemmas.run_owners.Commands.{each_command_has_its_reason}
+use Rattle.law_driver.proofs.lemmas.run_owners.Reasons.{each_event_is_due}
 use Rattle.law_driver.proofs.lemmas.run_owners.Runs.{placed_run}
 use Rattle.law_footprints.proofs.TransfersChanged.{transfers_step}
 use Rattle.law_descriptors.proofs.Finding.{member_kind}
@@ -73,7 +73,7 @@ use Rattle.law_world.proofs.lemmas.memory.LinkLent.{descriptor_told, command_lea
 use Rattle.law_world.proofs.lemmas.memory.LinkWords.{driver_leaves_aside}
 use Rattle.law_world.proofs.lemmas.memory.OwnMoments.{ends_active}
 use Rattle.law_world.proofs.lemmas.memory.Together.{texts_stay_mixed}
-use Rattle.law_world.proofs.lemmas.memory.lemmas.framed_memory.Now.{has_frames}
+use Rattle.law_world.proofs.lemmas.memory.lemmas.framed_memory.Now.{now_has_frames}
 
 -- ---- a descriptor that is out of the list
 
@@ -152,7 +152,7 @@ record Next (w v : World) (t b : ℕ) (o : IsOut w.driver t b) : Type 0 where
 frames_of : (w : World) → IsMixedWorld w → HasFrames w.memory w.driver
 frames_of w k =
     let s : Standing = k.standing in
-    has_frames opening_base s.member s.recent s.descs s.parts s.hand s.frame (controller_parts w) w.driver k.mixed.now
+    now_has_frames opening_base s.member s.recent s.descs s.parts s.hand s.frame (controller_parts w) w.driver k.mixed.now
 
 kept_of : (w : World) → IsMixedWorld w → AreKeptThen w.driver.periodic.list
 kept_of w k =
@@ -167,7 +167,7 @@ transfer_then w t y here =
 comes_by : (w : World) (k : IsMixedWorld w) (c : Descriptor)
     → is_linked (driver_next w).driver.periodic.list.members.schedule (Once c) ≡ true
     → ComesBy w.driver w.driver.periodic.list w.driver.periodic.queued c
-comes_by w k c on = row_comes (driver_parts w) (kept_of w k) c (driver_row (driver_parts w)) (each_is_due (driver_parts w)) on
+comes_by w k c on = row_comes (driver_parts w) (kept_of w k) c (driver_row (driver_parts w)) (each_event_is_due (driver_parts w)) on
 
 driver_out : (w : World) → IsMixedWorld w → (t b : ℕ) (o : IsOut w.driver t b) → Next w (driver_next w) t b o
 driver_out w k t b o =
@@ -225,7 +225,7 @@ command_out w line cmd k t b o = answered (offered w.driver w.memory cmd) refl
   where
     answered : (r : Result Offered OfferError) → offered w.driver w.memory cmd ≡ r → Next w (commanded_by w line (name_in cmd) r) t b o
     answered (Ok g) is =
-        let why = accepted_for_a_reason w.driver w.memory cmd g is in
+        let why = each_command_has_its_reason w.driver w.memory cmd g is in
         record {
           out = record {
             transfer = o.transfer;

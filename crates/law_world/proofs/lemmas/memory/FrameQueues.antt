@@ -47,7 +47,7 @@ use Rattle.law_frames.specs.Met.{IsMetQueue, AQueue}
 use Rattle.law_driver.proofs.lemmas.listed_members.Owned.{descriptor_owned, queue_owned}
 use Rattle.law_driver.proofs.lemmas.listed_members.Standing.{framed, one_endpoint, queue_block}
 use Rattle.law_driver.proofs.lemmas.ring_members.Placed.{has_queue, queue_placed}
-use Rattle.law_driver.proofs.lemmas.run_owners.Commands.{accepted_for_a_reason}
+use Rattle.law_driver.proofs.lemmas.run_owners.Commands.{each_command_has_its_reason}
 use Rattle.law_driver.proofs.lemmas.run_owners.Runs.{placed_run}
 use Rattle.law_footprints.proofs.EndpointsChanged.{endpoints_step}
 use Rattle.law_descriptors.proofs.Finding.{member_kind}
@@ -66,7 +66,7 @@ use Rattle.law_world.proofs.lemmas.memory.LinkLent.{queue_told, command_leaves_a
 use Rattle.law_world.proofs.lemmas.memory.LinkWords.{driver_leaves_aside}
 use Rattle.law_world.proofs.lemmas.memory.OwnMoments.{ends_active}
 use Rattle.law_world.proofs.lemmas.memory.Together.{texts_stay_mixed}
-use Rattle.law_world.proofs.lemmas.memory.lemmas.framed_memory.Now.{has_frames}
+use Rattle.law_world.proofs.lemmas.memory.lemmas.framed_memory.Now.{now_has_frames}
 use Rattle.law_world.proofs.lemmas.memory.lemmas.world_frames.Moments.{script_whole}
 use Rattle.law_world.proofs.lemmas.memory.FrameEndpoints.{Then, step_then, accepted_then, accepted_led}
 
@@ -184,7 +184,7 @@ command_off w line cmd k e b o = answered (offered w.driver w.memory cmd) refl
     answered (Ok g) is =
         let sound : IsSound w.memory w.driver = k.mixed.now.framed.place.sound in
         let n : Then g.driver.endpoints e o.endpoint
-        = accepted_then w.driver w.memory g (accepted_for_a_reason w.driver w.memory cmd g is) sound.owners sound.listed e o.endpoint
+        = accepted_then w.driver w.memory g (each_command_has_its_reason w.driver w.memory cmd g is) sound.owners sound.listed e o.endpoint
         o.here in
         record {
           off = off_then w.driver g.driver e b o n;
@@ -215,11 +215,11 @@ command_led w k line cmd = answered (offered w.driver w.memory cmd) refl
     frames : HasFrames w.memory w.driver
     frames =
         let s : Standing = k.standing in
-        has_frames opening_base s.member s.recent s.descs s.parts s.hand s.frame (controller_parts w) w.driver k.mixed.now
+        now_has_frames opening_base s.member s.recent s.descs s.parts s.hand s.frame (controller_parts w) w.driver k.mixed.now
 
     answered : (r : Result Offered OfferError) → offered w.driver w.memory cmd ≡ r
         → led (commanded_by w line (name_in cmd) r).driver ≡ led w.driver
-    answered (Ok g) is = accepted_led w.driver w.memory g (accepted_for_a_reason w.driver w.memory cmd g is) frames.list.order.kept
+    answered (Ok g) is = accepted_led w.driver w.memory g (each_command_has_its_reason w.driver w.memory cmd g is) frames.list.order.kept
     answered (Err why) is = refl
 
 -- ---- the event by which it leaves
@@ -237,7 +237,7 @@ module _ (w : World) (k : IsMixedWorld w) (q : Queue) (on : is_linked (led w.dri
   s = k.standing
 
   frames : HasFrames w.memory w.driver
-  frames = has_frames opening_base s.member s.recent s.descs s.parts s.hand s.frame (controller_parts w) w.driver k.mixed.now
+  frames = now_has_frames opening_base s.member s.recent s.descs s.parts s.hand s.frame (controller_parts w) w.driver k.mixed.now
 
   sound : IsSound w.memory w.driver
   sound = k.mixed.now.framed.place.sound

@@ -19,15 +19,15 @@ use Rattle.drv_table.specs.Removals.{after_placed}
 use Rattle.claims_driver.specs.Owners.{is_descriptor}
 use Rattle.law_driver.specs.run_owners.Due.{IsDue, IsNextOf, IsLinkOf, IsUnlinkDue, IsRemovalDue}
 use Rattle.claims_driver.specs.Leaving.{HasOwners}
-use Rattle.law_driver.proofs.lemmas.run_owners.Reasons.{each_is_due}
+use Rattle.law_driver.proofs.lemmas.run_owners.Reasons.{each_event_is_due}
 use Rattle.law_driver.proofs.lemmas.run_owners.Orders.{times_first, one_same, removed_first, IsOwed, owed}
 use Rattle.claims_base.specs.Controller.{opening_base}
 use Rattle.law_driver.specs.queued_drivers.Queued.{queued}
 use Rattle.law_driver.specs.queued_drivers.Rows.{IsOfFrames, keeps_book}
 use Rattle.law_world.specs.memory.framed_memory.Isochronous.{IsFramesCommand}
-use Rattle.law_world.proofs.lemmas.memory.lemmas.framed_memory.NowRows.{unlink_now, link_now, release_now, waiting_now}
-use Rattle.law_world.proofs.lemmas.memory.lemmas.framed_memory.Harvesting.{harvest_now}
-use Rattle.law_world.proofs.lemmas.memory.lemmas.framed_memory.ChosenFrames.{frames_now}
+use Rattle.law_world.proofs.lemmas.memory.lemmas.framed_memory.NowRows.{unlink_keeps_now, link_keeps_now, release_keeps_now, waiting_keeps_now}
+use Rattle.law_world.proofs.lemmas.memory.lemmas.framed_memory.Harvesting.{harvest_keeps_now}
+use Rattle.law_world.proofs.lemmas.memory.lemmas.framed_memory.ChosenFrames.{frames_keep_now}
 use Rattle.bus_world.specs.World.{World, driver_parts, controller_parts, driver_next}
 use Rattle.law_world.specs.memory.Mixed.{Standing, IsMixedAt}
 use Rattle.law_world.specs.memory.Steps.{IsMixedNext}
@@ -59,7 +59,7 @@ module _ (w : World) (row : DriverRow) (is : driver_row (driver_parts w) ≡ row
   of_frames of = subst (IsOfFrames (driver_parts w)) (sym is) of
 
   row_due : IsDue (driver_parts w) row
-  row_due = subst (IsDue (driver_parts w)) is (each_is_due (driver_parts w))
+  row_due = subst (IsDue (driver_parts w)) is (each_event_is_due (driver_parts w))
 
   row_ends : EndsStay w.driver.endpoints (after_driver_row row (driver_parts w)).driver.endpoints → EndsStay w.driver.endpoints (driver_next w).driver.endpoints
   row_ends stay = subst (λ (r : DriverRow). EndsStay w.driver.endpoints (after_driver_row r (driver_parts w)).driver.endpoints) (sym is) stay
@@ -88,7 +88,7 @@ frames_chosen_mixed s w k is =
     let of : IsOfFrames p (driver_row p) = of_frames w rows.Frames is tt in
     let due : IsNextOf p rows.Frames = row_due w rows.Frames is in
     let frames : IsFramesCommand w.driver.command = subst IsFramesCommand (sym due.unfinished) (frames_iso due.command w.driver.made due.next) in
-    frames_mixed s w k s.recent s.descs s.parts s.hand s.frame (frames_now opening_base s.member s.recent s.descs s.parts s.hand s.frame (controller_parts w) w.driver k.now is) of frames
+    frames_mixed s w k s.recent s.descs s.parts s.hand s.frame (frames_keep_now opening_base s.member s.recent s.descs s.parts s.hand s.frame (controller_parts w) w.driver k.now is) of frames
     (row_ends w rows.Frames is (framed_ends w.driver w.registers.frame_index w.driver.command frames)) (same_dummies s w k of (ap keeps_book is)) k.queues
     (told_same s s.recent s.descs)
 
@@ -100,7 +100,7 @@ descriptor_harvested_mixed e t found s w k is sort =
     let p : Parts = driver_parts w in
     let row : DriverRow = rows.Harvest e t found in
     let of : IsOfFrames p (driver_row p) = of_frames w row is sort in
-    frames_mixed s w k s.recent s.descs s.parts s.hand s.frame (harvest_now opening_base s.member s.recent s.descs s.parts s.hand s.frame (controller_parts w) w.driver e t found k.now is) of
+    frames_mixed s w k s.recent s.descs s.parts s.hand s.frame (harvest_keeps_now opening_base s.member s.recent s.descs s.parts s.hand s.frame (controller_parts w) w.driver e t found k.now is) of
     (idle_frames w.driver.command (row_due w row is).idle) (row_ends w row is (harvest_ends w.driver w.memory e t found (slice_get w.driver.endpoints e) (slice_get w.driver.transfers t) refl))
     (same_dummies s w k of (ap keeps_book is)) k.queues (told_same s s.recent s.descs)
 
@@ -114,7 +114,7 @@ unlinked_mixed t s w k is =
     let due : IsUnlinkDue p t = row_due w row is in
     let frames : IsFramesCommand w.driver.command = idle_frames w.driver.command due.idle in
     let at : IsOwed w.driver.transfers t = unlinked_there p t (its_owners s w k) due in
-    let u = unlink_now opening_base s.member s.recent s.descs s.parts s.hand s.frame (controller_parts w) w.driver t at.transfer k.now is at.there in
+    let u = unlink_keeps_now opening_base s.member s.recent s.descs s.parts s.hand s.frame (controller_parts w) w.driver t at.transfer k.now is at.there in
     let st = u.event.stored in
     frames_mixed s w k _ _ _ s.hand st.frame_later u.framed of frames (row_ends w row is (unlink_ends p t (slice_get w.driver.transfers t))) (same_dummies s w k of (ap keeps_book is))
     (goes_on_relinked opening_base s.descs s.parts s.frame u.event.store.at u.event.store.value st.now st.frame_later (queued w.driver) s.near s.streams s.ends s.order s.out st.stored
@@ -129,7 +129,7 @@ descriptor_returned_mixed t s w k is =
     let of : IsOfFrames p (driver_row p) = of_frames w row is tt in
     let due : IsRemovalDue p (removed.Descriptor t) = row_due w row is in
     let at : IsOwed w.driver.transfers t = descriptor_there p t (its_owners s w k) due in
-    let now = release_now opening_base s.member s.recent s.descs s.parts s.hand s.frame (controller_parts w) w.driver t at.transfer k.now is at.there in
+    let now = release_keeps_now opening_base s.member s.recent s.descs s.parts s.hand s.frame (controller_parts w) w.driver t at.transfer k.now is at.there in
     frames_mixed s w k _ _ _ s.hand s.frame now of (idle_frames w.driver.command due.idle) (row_ends w row is (descriptor_ends p t (slice_get w.driver.transfers t))) (quiet_dummies s w k due.idle) k.queues
     (told_same s _ _)
 
@@ -141,7 +141,7 @@ isochronous_returned_mixed e x s w k is here iso =
     let row : DriverRow = rows.ReleaseRemoved (removed.Endpoint e) in
     let of : IsOfFrames p (driver_row p) = of_frames w row is (λ y there. ap (λ (o : Option Endpoint). is_iso_in o) (sym there ∙ here) ∙ iso) in
     let due : IsRemovalDue p (removed.Endpoint e) = row_due w row is in
-    let now = waiting_now opening_base s.member s.recent s.descs s.parts s.hand s.frame (controller_parts w) w.driver e x k.now is here iso in
+    let now = waiting_keeps_now opening_base s.member s.recent s.descs s.parts s.hand s.frame (controller_parts w) w.driver e x k.now is here iso in
     frames_mixed s w k _ _ _ s.hand s.frame now of (idle_frames w.driver.command due.idle)
     (row_ends w row is (subst (λ (o : Option Endpoint). EndsStay w.driver.endpoints (after_placed p e o).driver.endpoints) (sym here) (placed_ends p e x here iso))) (quiet_dummies s w k due.idle) k.queues
     (told_same s _ _)
@@ -162,7 +162,7 @@ stored_mixed s w k why frames =
     let row : DriverRow = rows.Store st.block st.at st.value in
     let its : IsFramesCommand (Some why.command) = subst IsFramesCommand why.unfinished frames in
     let of : IsOfFrames p (driver_row p) = of_frames w row why.is (record { link = subst (IsLinkOf p) why.is why; goes_on = λ chain. absurd (subst IsFramesCommand chain frames) }) in
-    let l = link_now opening_base s.member s.recent s.descs s.parts s.hand s.frame (controller_parts w) w.driver k.now why (λ chain. absurd (no_chain why.command its chain)) in
+    let l = link_keeps_now opening_base s.member s.recent s.descs s.parts s.hand s.frame (controller_parts w) w.driver k.now why (λ chain. absurd (no_chain why.command its chain)) in
     frames_mixed s w k _ _ _ s.hand l.event.frame_later l.framed of frames (row_ends w row why.is (advance_ends w.driver frames)) (same_dummies s w k of (ap keeps_book why.is))
     (goes_on_relinked opening_base s.descs s.parts s.frame st.at st.value l.event.now l.event.frame_later (queued w.driver) s.near s.streams s.ends s.order s.out l.event.stored
     (never_publishes w.driver frames) k.queues) (told_stored s _ _ st.at st.value l.event.now l.event.frame_later l.event.stored)

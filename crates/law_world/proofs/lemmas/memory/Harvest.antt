@@ -25,12 +25,12 @@ use Rattle.law_queues.specs.fed_harvests.Stalls.{StallLeaves}
 use Rattle.law_queues.proofs.lemmas.fed_harvests.Harvests.{unstalled_stands, wait_stands}
 use Rattle.law_queues.proofs.lemmas.fed_harvests.Stalls.{stall_stands}
 use Rattle.law_queues.specs.mended_heads.Stalling.{IsStall, HaltsQueue}
-use Rattle.law_queues.proofs.lemmas.stalled_fronts.Halted.{stall_stops}
-use Rattle.law_queues.proofs.lemmas.stalled_fronts.Stalled.{stall_moves}
+use Rattle.law_queues.proofs.lemmas.stalled_fronts.Halted.{stall_stops_queue}
+use Rattle.law_queues.proofs.lemmas.stalled_fronts.Stalled.{stall_moves_fronts}
 use Rattle.law_queues.specs.released_queues.Fronts.{FrontsStand}
-use Rattle.law_queues.proofs.lemmas.standing_fronts.Rows.{harvest_keeps}
+use Rattle.law_queues.proofs.lemmas.standing_fronts.Rows.{harvest_keeps_fronts}
 use Rattle.law_world.specs.steps.control_queues.Controls.{ControlsStand}
-use Rattle.law_world.proofs.lemmas.memory.lemmas.framed_memory.Harvesting.{harvest_now}
+use Rattle.law_world.proofs.lemmas.memory.lemmas.framed_memory.Harvesting.{harvest_keeps_now}
 use Rattle.law_driver.specs.queued_drivers.Queued.{queued, queued_parts}
 use Rattle.law_driver.specs.queued_drivers.Rows.{IsToldAlike}
 use Rattle.law_descriptors.specs.queue_events.Events.{PartsStand}
@@ -101,7 +101,7 @@ module _ (s : Standing) (w : World) (k : IsMixedAt s w) (e t : ℕ) (found : Fou
 
   unstalled_fronts : (IsStall due.endpoint.desc.kind found → ⊥) → (later : ℕ → List ℕ) → AreStillOut f later → FrontsStand f s.parts s.order later
   unstalled_fronts never later still =
-      harvest_keeps (queued_parts (driver_parts w)) e t found s.parts s.order s.out later due owners turns never (tells_of s w k) old.fed (λ i x here is. k.queues.controls.rises i x here is.there) old.out_are still fronts
+      harvest_keeps_fronts (queued_parts (driver_parts w)) e t found s.parts s.order s.out later due owners turns never (tells_of s w k) old.fed (λ i x here is. k.queues.controls.rises i x here is.there) old.out_are still fronts
 
   waits : found ≡ founds.Active → IsHarvested
   waits is =
@@ -127,13 +127,13 @@ module _ (s : Standing) (w : World) (k : IsMixedAt s w) (e t : ℕ) (found : Fou
       = ap (λ (b : Bool). if b then out else s.out (32 * due.endpoint.queue)) (eq-eqb (32 * due.endpoint.queue) (32 * due.endpoint.queue) refl) in
       let halts : HaltsQueue (later (32 * due.endpoint.queue)) s.parts (32 * due.endpoint.queue)
       = subst (λ (now : List ℕ). HaltsQueue now s.parts (32 * due.endpoint.queue)) (l.stalled.now ∙ sym here)
-      (stall_stops (queued_parts (driver_parts w)) e t found s.near s.streams s.ends s.parts s.order s.out due stall owners turns (tells_of s w k) old met part (k.queues.controls.stops e due.endpoint due.here met)
+      (stall_stops_queue (queued_parts (driver_parts w)) e t found s.near s.streams s.ends s.parts s.order s.out due stall owners turns (tells_of s w k) old met part (k.queues.controls.stops e due.endpoint due.here met)
       (k.queues.controls.sorted e due.endpoint due.here met.there) fronts) in
       record {
         later = later;
         out_then = stalls stall l.stalled;
         stand = l.stand;
-        fronts_now = stall_moves (queued_parts (driver_parts w)) e t found s.near s.streams s.ends s.parts s.order s.out later due stall owners lent turns old l.stand.out_are part halts fronts;
+        fronts_now = stall_moves_fronts (queued_parts (driver_parts w)) e t found s.near s.streams s.ends s.parts s.order s.out later due stall owners lent turns old l.stand.out_are part halts fronts;
       }
 
   is_done : found ≢ founds.Active → IsHarvested
@@ -190,7 +190,7 @@ module _ (s : Standing) (w : World) (k : IsMixedAt s w) (e t : ℕ) (found : Fou
   leaves = record {
     step = harvests e t found due harvested.later (told_row s w k (rows.Harvest e t found) row moves) harvested.out_then;
     idle = after.command ∙ raw.idle;
-    now = harvest_now opening_base s.member s.recent s.descs s.parts s.hand s.frame (controller_parts w) w.driver e t found k.now row;
+    now = harvest_keeps_now opening_base s.member s.recent s.descs s.parts s.hand s.frame (controller_parts w) w.driver e t found k.now row;
     ring = met_stays w.driver new s.member (same_queues w.driver new e raw.endpoint raw.here after) k.ring;
     queues = subst (λ (g : DriverContent). QueuesStand g s.near s.streams s.ends s.parts s.order harvested.later) (sym tells_new) harvested.stand;
     sound = subst (λ (g : DriverContent). PartsStand g s.parts) (sym tells_new) sound;

@@ -18,8 +18,8 @@ use Rattle.law_queues.specs.standing_fronts.Tails.{TailsStand}
 use Rattle.law_queues.proofs.lemmas.idle_tails.Reaching.{sound_queues_reach}
 use Rattle.law_world.specs.steps.control_queues.Controls.{ControlsStand}
 use Rattle.law_driver.specs.queued_drivers.Queued.{queued, QueuesTakeTurns}
-use Rattle.law_driver.proofs.lemmas.queued_drivers.RowOwners.{queued_owners, queued_lent}
-use Rattle.law_driver.proofs.lemmas.queued_drivers.RowTurns.{rows_keep}
+use Rattle.law_driver.proofs.lemmas.queued_drivers.RowOwners.{queued_has_owners, queued_are_lent}
+use Rattle.law_driver.proofs.lemmas.queued_drivers.RowTurns.{rows_keep_queues}
 use Rattle.law_driver.proofs.lemmas.queued_drivers.RowEvents.{idle_told}
 use Rattle.law_descriptors.specs.queue_events.Events.{PartsStand}
 use Rattle.law_descriptors.specs.PartLaws.{IsDescribing}
@@ -35,13 +35,13 @@ use Rattle.law_world.proofs.lemmas.memory.CommandTails.{idle_tail}
 -- ---- no command is unfinished
 
 pub idle_lent : (d : DriverContent) → d.command ≡ None → AreLent d → AreLent (queued d)
-idle_lent d idle lent = queued_lent d lent (λ e t count is. absurd (none_unfinished (unfinished.Iso e t count) (sym idle ∙ is)))
+idle_lent d idle lent = queued_are_lent d lent (λ e t count is. absurd (none_unfinished (unfinished.Iso e t count) (sym idle ∙ is)))
 
 -- ---- what is known before the row
 
 module _ (s : Standing) (w : World) (k : IsMixedAt s w) where
   pub owners_of : HasOwners (queued w.driver)
-  owners_of = queued_owners w.driver k.now.framed.place.sound.owners k.turns
+  owners_of = queued_has_owners w.driver k.now.framed.place.sound.owners k.turns
 
   pub describes : IsDescribing w.driver s.descs s.parts
   describes = record { owners = k.now.framed.place.sound.owners; driven = k.now.framed.driven; described = k.now.framed.described }
@@ -75,7 +75,7 @@ module _ (s t : Standing) (w : World) (k : IsMixedAt s w) (n : IsIdleNext s t w)
   new = (driver_next w).driver
 
   turns : QueuesTakeTurns new
-  turns = rows_keep (driver_parts w) k.now.framed.place.sound.owners k.turns
+  turns = rows_keep_queues (driver_parts w) k.now.framed.place.sound.owners k.turns
 
   place : IsInPlace (driver_next w).memory new
   place = n.now.framed.place
@@ -86,7 +86,7 @@ module _ (s t : Standing) (w : World) (k : IsMixedAt s w) (n : IsIdleNext s t w)
   tails : TailsStand (queued new) t.parts t.order t.out
   tails e x here met =
       subst (Reaches (queued new) (t.parts (32 * x.queue)) (t.order (32 * x.queue)) (t.out (32 * x.queue)) e x) (sym (idle_tail (queued new) e x idle))
-      (sound_queues_reach (queued new) t.parts t.order t.out idle (queued_owners new place.sound.owners turns) (idle_lent new n.idle place.lent) turns.turns n.queues.fed n.queues.last n.queues.out_are n.fronts e x here met
+      (sound_queues_reach (queued new) t.parts t.order t.out idle (queued_has_owners new place.sound.owners turns) (idle_lent new n.idle place.lent) turns.turns n.queues.fed n.queues.last n.queues.out_are n.fronts e x here met
       (n.sound e x here met))
 
   under_way : IsUnderWay new (driver_next w).memory t.member t.recent t.parts new.command

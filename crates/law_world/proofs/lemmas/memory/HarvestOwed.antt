@@ -19,20 +19,20 @@ use Rattle.law_driver.specs.endpoint_lives.Lives.{may_meet}
 use Rattle.law_driver.proofs.lemmas.endpoint_lives.Lives.{linked_met, met_alike}
 use Rattle.law_driver.specs.run_owners.Due.{IsDue, IsHarvestDue}
 use Rattle.claims_driver.specs.Leaving.{HasOwners}
-use Rattle.law_driver.proofs.lemmas.run_owners.Reasons.{each_is_due}
+use Rattle.law_driver.proofs.lemmas.run_owners.Reasons.{each_event_is_due}
 use Rattle.law_driver.specs.chained_transfers.Asynchronous.{OnlyAsynchronous}
 use Rattle.law_driver.specs.chained_transfers.Turns.{IsInList}
 use Rattle.law_driver.proofs.lemmas.chained_transfers.Staying.{stands_linked}
 use Rattle.law_queues.proofs.lemmas.fed_lends.Asked.{set_which}
 use Rattle.law_queues.specs.leaving_drivers.Owed.{AreOwedMet}
 use Rattle.law_queues.proofs.lemmas.leaving_drivers.Clearing.{clear_finds}
-use Rattle.law_queues.proofs.lemmas.leaving_drivers.Leaving.{bell_as_before, status_as_before}
+use Rattle.law_queues.proofs.lemmas.leaving_drivers.Leaving.{bell_is_as_before, status_is_as_before}
 use Rattle.law_queues.proofs.lemmas.leaving_drivers.Owing.{owed_before, advanced_owed}
 use Rattle.law_queues.proofs.lemmas.leaving_drivers.Reading.{IsTransferOf, read_row}
 use Rattle.law_driver.specs.queued_drivers.Queued.{queued, queued_parts, QueuesTakeTurns}
 use Rattle.law_driver.specs.queued_drivers.Rows.{IsOfQueues, QueuesAlike, EventKind, of_queues, of_frames, lends_chain, finishes_chain, gives_back}
 use Rattle.law_driver.proofs.lemmas.queued_drivers.RowEvents.{row_told}
-use Rattle.law_driver.proofs.lemmas.queued_drivers.RowFrames.{chain_lends, chain_finishes, frames_leave}
+use Rattle.law_driver.proofs.lemmas.queued_drivers.RowFrames.{chain_lends_agree, chains_finish, frames_leave}
 use Rattle.law_driver.proofs.lemmas.queued_drivers.RowKinds.{event_kind}
 
 -- ---- what is told alike
@@ -119,9 +119,9 @@ queue_owes (rows.ReleaseTransfer t) p q is due clears only old =
 queue_owes (rows.ReleaseEndpoint e) p q is due clears only old =
     owed_none (after_driver_row (rows.ReleaseEndpoint e) q).driver (endpoint_harvested q e (slice_get q.driver.endpoints e) ∙ none_first q.driver.harvested due.none_before)
 queue_owes rows.ClearAdvance p q is due clears only old = owed_none (after_driver_row rows.ClearAdvance q).driver (clears refl)
-queue_owes rows.RingBell p q is due clears only old = let b = bell_as_before q due.0 in owed_before q.driver (after_driver_row rows.RingBell q).driver b.0 b.1 old
+queue_owes rows.RingBell p q is due clears only old = let b = bell_is_as_before q due.0 in owed_before q.driver (after_driver_row rows.RingBell q).driver b.0 b.1 old
 queue_owes (rows.ReadStatus heard) p q is due clears only old =
-    let b = status_as_before q heard due.0 in owed_before q.driver (after_driver_row (rows.ReadStatus heard) q).driver b.0 b.1 old
+    let b = status_is_as_before q heard due.0 in owed_before q.driver (after_driver_row (rows.ReadStatus heard) q).driver b.0 b.1 old
 queue_owes (rows.Harvest e t found) p q is due clears only old = harvest_owed q e t found due only old
 queue_owes rows.Rest p q is due clears only old = old
 queue_owes _ p q is due clears only old = absurd is
@@ -145,10 +145,10 @@ row_by row p next owners turns due (of_queues is) old =
     (queue_owes row p (queued_parts p) is told.due (λ clears. (clear_finds p (next ∙ clears)).none_harvested) turns.turns.asynchronous old)
 row_by row p next owners turns due (of_frames is) old = owed_alike (queued p.driver) (queued (after_driver_row row p).driver) (frames_leave row p owners turns due is).queues old
 row_by row p next owners turns due (lends_chain is) old =
-    let lent = chain_lends p (subst (IsDue p) is.is due) is.on in
+    let lent = chain_lends_agree p (subst (IsDue p) is.is due) is.on in
     subst (λ (r : DriverRow). AreOwedMet (queued (after_driver_row r p).driver)) (sym is.is)
     (owed_alike (after_driver_row rows.Lend (queued_parts p)).driver (queued (after_driver_row rows.Lend p).driver) lent.queues (lend_owed (queued_parts p) turns.turns.asynchronous old))
-row_by row p next owners turns due (finishes_chain is) old = let f = chain_finishes p row due is in owed_same (queued p.driver) (queued (after_driver_row row p).driver) f.queues.endpoints f.queues.transfers f.queues.harvested f.queues.waiting f.queues.rung old
+row_by row p next owners turns due (finishes_chain is) old = let f = chains_finish p row due is in owed_same (queued p.driver) (queued (after_driver_row row p).driver) f.queues.endpoints f.queues.transfers f.queues.harvested f.queues.waiting f.queues.rung old
 row_by row p next owners turns due (gives_back is) old =
     let why = subst (IsDue p) is.is due in
     subst (λ (r : DriverRow). AreOwedMet (queued (after_driver_row r p).driver)) (sym is.is)
@@ -156,4 +156,4 @@ row_by row p next owners turns due (gives_back is) old =
     (placed_harvested p is.number (slice_get p.driver.endpoints is.number) ∙ none_first p.driver.harvested why.none_before))
 
 pub row_owes : (p : Parts) → HasOwners p.driver → QueuesTakeTurns p.driver → AreOwedMet (queued p.driver) → AreOwedMet (queued (after_driver_row (driver_row p) p).driver)
-row_owes p owners turns old = row_by (driver_row p) p refl owners turns (each_is_due p) (event_kind (driver_row p) p owners (each_is_due p)) old
+row_owes p owners turns old = row_by (driver_row p) p refl owners turns (each_event_is_due p) (event_kind (driver_row p) p owners (each_event_is_due p)) old

@@ -20,7 +20,7 @@ use Rattle.claims_driver.specs.Ring.{link_in, IsAmong, first, later}
 use Rattle.claims_world.specs.Memory.{linked_to}
 use Rattle.claims_world.specs.Links.{IsLive, the_head, a_queue, IsLiveOrLater, live, left_later}
 use Rattle.law_driver.proofs.lemmas.queued_drivers.CommandLeaves.{unchained}
-use Rattle.law_driver.proofs.lemmas.run_owners.Commands.{accepted_for_a_reason}
+use Rattle.law_driver.proofs.lemmas.run_owners.Commands.{each_command_has_its_reason}
 use Rattle.law_driver.proofs.lemmas.run_owners.Released.{set_here, set_there}
 use Rattle.law_driver.specs.run_owners.Accepts.{Accepts, opens, chains, places, transfers, describes, cancels, unchains}
 use Rattle.law_queues.proofs.lemmas.mended_heads.Content.{pushed}
@@ -144,7 +144,7 @@ module _ (s : Standing) (w : World) (k : IsMixedAt s w) (cleared : HasCleared w)
   accepted line cmd o is words =
       let d = w.driver in
       let m = w.memory in
-      let a : Accepted d o.driver = command_goes d m o (accepted_for_a_reason d m cmd o is) in
+      let a : Accepted d o.driver = command_goes d m o (each_command_has_its_reason d m cmd o is) in
       let has : HasOwners d = k.now.framed.place.sound.owners in
       let lists : o.driver.rung ++ o.driver.waiting ≡ d.rung ++ d.waiting
       = ap (λ es. es ++ o.driver.waiting) (rung_same d m cmd o is) ∙ ap (λ es. d.rung ++ es) (waiting_same d m cmd o is) in

@@ -32,12 +32,12 @@ use Rattle.bus_world.specs.Orders.{tick_by, ticks}
 use Rattle.bus_world.specs.Budgets.{moment}
 use Rattle.law_devices.proofs.Lists.{all_more}
 use Rattle.law_driver.specs.run_owners.Due.{IsDue, IsEndpointDue, IsRemovalDue}
-use Rattle.law_driver.proofs.lemmas.run_owners.Reasons.{each_is_due}
+use Rattle.law_driver.proofs.lemmas.run_owners.Reasons.{each_event_is_due}
 use Rattle.claims_world.specs.Releases.{is_drivers, Does, Reads, LeavesRing, LeavesFrames, HeardAdvance, SawTwoFrames, IsUnlinkedAt}
 use Rattle.claims_world.specs.Releases.{frindex_read, IsLetGo}
 use Rattle.law_world.specs.memory.Releases.{HasLeft, HasRung, HasRead, HasReadTwo, HasBoundary, HasGone, IsHistory, ScriptsGiveBackLast}
 use Rattle.law_descriptors.specs.Returned.{IsGivenBack}
-use Rattle.law_descriptors.proofs.GivenRow.{row_is_given_back}
+use Rattle.law_descriptors.proofs.GivenRow.{row_gives_back_passed}
 use Rattle.law_world.proofs.lemmas.memory.ReleaseCommands.{waiting_same, rung_same, cleared_same, bell_same, removals_offered}
 use Rattle.law_world.proofs.lemmas.memory.ReleaseRows.{waiting_then, rung_then, cleared_then, heard_then, removals_then}
 
@@ -179,7 +179,7 @@ module _ (s : Script) where
     unlinked_now t is = record { unlinking = k; left = does (rows.Unlink t) is; boundary = tt; one = omega arith }
 
     heard_before : driver_row p ≡ rows.ClearAdvance → p.driver.bell ≡ bells.Heard
-    heard_before is = (subst (IsDue p) is (each_is_due p)).1
+    heard_before is = (subst (IsDue p) is (each_event_is_due p)).1
 
     driven : IsHistory s (suc k) (after_driver_row (driver_row p) p).driver
     driven = record {
@@ -265,7 +265,7 @@ module _ (s : Script) where
   ring_let_go : (k e : ℕ) → Does s k (rows.ReleaseEndpoint e) → HeardAdvance s e k
   ring_let_go k e does =
       let p : Parts = driver_parts (moment s k).world in
-      let due : IsEndpointDue p e = subst (IsDue p) does.row_is (each_is_due p) in
+      let due : IsEndpointDue p e = subst (IsDue p) does.row_is (each_event_is_due p) in
       first_all (λ f. HeardAdvance s f k) p.driver.cleared e (history k).cleared due.first
 
   saw : (k : ℕ) (what : Removed) (b : Boundary) → is_seen b ≡ true → (at : ℕ) → IsUnlinkedAt s at what → HasBoundary s at k b
@@ -290,7 +290,7 @@ module _ (s : Script) where
   frames_let_go : (k : ℕ) (what : Removed) → Does s k (rows.ReleaseRemoved what) → SawTwoFrames s what k
   frames_let_go k what does =
       let p : Parts = driver_parts (moment s k).world in
-      let given : IsGivenBack p what = row_is_given_back p what does.row_is in
+      let given : IsGivenBack p what = row_gives_back_passed p what does.row_is in
       let gone : HasGone s k given.due.removal = first_all (HasGone s k) p.driver.periodic.removals given.due.removal
       (history k).removals given.due.first in
       saw k what given.due.removal.boundary given.seen gone.unlinking

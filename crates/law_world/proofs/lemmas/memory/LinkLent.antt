@@ -35,12 +35,12 @@ use Rattle.law_structures.specs.lent_structures.Structures.{Structure, QueueHead
 use Rattle.law_structures.specs.lent_structures.Structures.{Tells}
 use Rattle.law_ring.specs.walk_writes.Writes.{WritesLent}
 use Rattle.law_controller.proofs.lemmas.aligned_copies.Controlling.{aligned_placed}
-use Rattle.law_controller.proofs.lemmas.lent_writes.Controlling.{controller_writes_lent}
-use Rattle.law_driver.proofs.lemmas.lent_runs.Laws.{idle_lent}
+use Rattle.law_controller.proofs.lemmas.lent_writes.Controlling.{each_event_of_the_controller_writes_lent_words}
+use Rattle.law_driver.proofs.lemmas.lent_runs.Laws.{all_are_lent_between_commands}
 use Rattle.law_driver.proofs.lemmas.ring_members.Placed.{has_first}
 use Rattle.law_driver.proofs.lemmas.run_owners.Apart.{runs_apart}
-use Rattle.law_driver.proofs.lemmas.run_owners.Commands.{accepted_for_a_reason}
-use Rattle.law_driver.proofs.lemmas.run_owners.Reasons.{each_is_due}
+use Rattle.law_driver.proofs.lemmas.run_owners.Commands.{each_command_has_its_reason}
+use Rattle.law_driver.proofs.lemmas.run_owners.Reasons.{each_event_is_due}
 use Rattle.law_driver.specs.run_owners.Due.{IsDue}
 use Rattle.law_driver_ring.proofs.Lent.{lend_taken_leaves}
 use Rattle.law_driver_ring.proofs.PartSlots.{HasLent, found_lent, lent_has, slot_lent}
@@ -183,7 +183,8 @@ module _ (s : Standing) (w : World) (k : IsMixedAt s w) where
             let h : Holding = holding (driver_next w).driver.book (driver_next w).memory in
             let stands : Stands h = place.sound.stands in
             slot_lent h c stands
-            (lends_by h.book.slots c (slot_of h.book.slots c) refl (idle_lent (driver_next w).driver c none place.lent run)
+            (lends_by h.book.slots c (slot_of h.book.slots c) refl
+            (all_are_lent_between_commands (driver_next w).driver c none place.lent run)
             (has_first h c stands run))
 
     by_row : (row : DriverRow) → driver_row (driver_parts w) ≡ row → IsDue (driver_parts w) row → StaysLent row
@@ -199,7 +200,7 @@ module _ (s : Standing) (w : World) (k : IsMixedAt s w) where
     by_row row is due run = lent
 
     row_leaves : (row : DriverRow) → driver_row (driver_parts w) ≡ row → StaysLent (driver_row (driver_parts w))
-    row_leaves row is = subst (λ (r : DriverRow). StaysLent r) (sym is) (by_row row is (subst (IsDue p) is (each_is_due p)))
+    row_leaves row is = subst (λ (r : DriverRow). StaysLent r) (sym is) (by_row row is (subst (IsDue p) is (each_event_is_due p)))
 
   -- ---- a command
 
@@ -208,7 +209,7 @@ module _ (s : Standing) (w : World) (k : IsMixedAt s w) where
         → (link_in (commanded_by w line (name_in cmd) r).memory c ≡ link_in w.memory c)
         × (state_at (commanded_by w line (name_in cmd) r).memory c ≡ Some Lent)
     answered line cmd (Ok o) is =
-        let leaves : Leaves m o.memory = leaves_lent d m o (accepted_for_a_reason d m cmd o is) k.now.framed.place in
+        let leaves : Leaves m o.memory = leaves_lent d m o (each_command_has_its_reason d m cmd o is) k.now.framed.place in
         (leaves.words (32 * c) (reached s w k m c lent), leaves.lent c lent)
     answered line cmd (Err why) is = (refl, lent)
 
@@ -219,7 +220,8 @@ module _ (s : Standing) (w : World) (k : IsMixedAt s w) where
 
   writes : (fixed : Fixed) → WritesLent w.memory (controller_next fixed w).memory
   writes fixed =
-      controller_writes_lent begins_by transacts_by (controller_parts w) (wired fixed w) (controller_parts (controller_next fixed w))
+      each_event_of_the_controller_writes_lent_words begins_by transacts_by (controller_parts w) (wired fixed w)
+      (controller_parts (controller_next fixed w))
       (wired fixed (controller_next fixed w)) (aligned_placed (controller_parts w) k.now.framed.aligned) (world_has_row fixed w)
 
   link_stays : (fixed : Fixed) → EndsActive w.control → (c : ℕ) → HasLinkAt (both s.descs s.parts) (32 * c)

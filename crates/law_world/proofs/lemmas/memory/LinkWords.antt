@@ -50,7 +50,7 @@ use Rattle.law_driver.proofs.lemmas.ring_members.Freed.{LeavesRest, lent_words, 
 use Rattle.law_driver.proofs.lemmas.ring_members.Links.{LeadsTo, oldest_is, dropped}
 use Rattle.law_driver.proofs.lemmas.ring_members.Placed.{has_word, in_ring_alive, queue_placed}
 use Rattle.law_driver.proofs.lemmas.ring_members.Stores.{slots_apart, store_elsewhere}
-use Rattle.law_driver.proofs.lemmas.run_owners.Reasons.{each_is_due}
+use Rattle.law_driver.proofs.lemmas.run_owners.Reasons.{each_event_is_due}
 use Rattle.law_driver.proofs.lemmas.run_owners.Runs.{placed_run}
 use Rattle.law_driver.specs.run_owners.Due.{IsDue, IsLinkOf, IsNextOf}
 use Rattle.law_frame_words.proofs.lemmas.frame_words.Decoded.{IsWordOf}
@@ -129,7 +129,7 @@ module _ (s : Standing) (w : World) (k : IsMixedAt s w) where
   pub descriptors_leave : driver_row (driver_parts w) ≡ rows.LendDescriptors
       → Leaves w.memory (after_driver_row rows.LendDescriptors (driver_parts w)).memory
   descriptors_leave is =
-      let due : IsNextOf p rows.LendDescriptors = subst (IsDue p) is (each_is_due p) in
+      let due : IsNextOf p rows.LendDescriptors = subst (IsDue p) is (each_event_is_due p) in
       let iso = lends_iso due.command d.made due.next in
       let made : d.made ≡ 1 = iso.at in
       let command : d.command ≡ Some (unfinished.Iso iso.endpoint iso.first iso.count)
@@ -294,7 +294,7 @@ module _ (s : Standing) (w : World) (k : IsMixedAt s w) where
     row_leaves : state_at w.memory c ≡ Some Lent → (row : DriverRow) → driver_row (driver_parts w) ≡ row
         → Keeps (driver_row (driver_parts w))
     row_leaves lent row is =
-        subst (λ (r : DriverRow). Keeps r) (sym is) (by_row lent row is (subst (IsDue p) is (each_is_due p)))
+        subst (λ (r : DriverRow). Keeps r) (sym is) (by_row lent row is (subst (IsDue p) is (each_event_is_due p)))
 
 pub driver_leaves_aside : DriverLeavesAside
 driver_leaves_aside = λ s w k c aside lent. row_leaves s w k c aside lent (driver_row (driver_parts w)) refl

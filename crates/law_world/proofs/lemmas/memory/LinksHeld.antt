@@ -25,13 +25,13 @@ use Rattle.law_world.proofs.lemmas.memory.OneBatch.{one_batch}
 use Rattle.law_world.proofs.lemmas.memory.OwnMoments.{ends_active}
 use Rattle.law_world.proofs.lemmas.memory.RingLeads.{live_leads, left_leads}
 use Rattle.law_world.proofs.lemmas.memory.Together.{texts_stay_mixed}
-use Rattle.law_world.proofs.lemmas.memory.lemmas.framed_memory.Now.{has_frames}
+use Rattle.law_world.proofs.lemmas.memory.lemmas.framed_memory.Now.{now_has_frames}
 
 pub mixed_holds_links : MixedHoldsLinks
 mixed_holds_links = λ w k.
     let s : Standing = k.standing in
     let frames : HasFrames w.memory w.driver
-    = has_frames opening_base s.member s.recent s.descs s.parts s.hand s.frame (controller_parts w) w.driver k.mixed.now in
+    = now_has_frames opening_base s.member s.recent s.descs s.parts s.hand s.frame (controller_parts w) w.driver k.mixed.now in
     record {
       ring = live_leads w.memory w.driver k.mixed.now.framed.place.sound.ring.ring;
       left = left_leads s w k.mixed;

@@ -25,7 +25,7 @@ use Rattle.law_queues.specs.mended_heads.Owed.{IsOwed, store_due}
 use Rattle.law_queues.specs.mended_heads.Mended.{IsAtMend, mended, head_at, parts_then, hand_then, driver_mended}
 use Rattle.law_queues.proofs.lemmas.mended_heads.Content.{all_on}
 use Rattle.law_queues.proofs.lemmas.mended_heads.Lent.{not_iso, queue_placed}
-use Rattle.law_queues.proofs.lemmas.mended_heads.Queues.{leaves_met}
+use Rattle.law_queues.proofs.lemmas.mended_heads.Queues.{mend_leaves_met}
 use Rattle.law_queues.specs.released_queues.Fronts.{FrontsStand}
 use Rattle.law_queues.specs.standing_fronts.Reaching.{Reaches}
 use Rattle.law_world.specs.steps.control_queues.Controls.{ControlsStand}
@@ -34,7 +34,7 @@ use Rattle.law_descriptors.specs.Meeting.{met}
 use Rattle.law_descriptors.proofs.Standing.{both_off}
 use Rattle.law_descriptors.proofs.Telling.{queue_off}
 use Rattle.law_world.specs.memory.framed_memory.Now.{FramedNext}
-use Rattle.law_world.proofs.lemmas.memory.lemmas.framed_memory.LeavingUnmet.{ring_unmet}
+use Rattle.law_world.proofs.lemmas.memory.lemmas.framed_memory.LeavingUnmet.{ring_is_unmet}
 use Rattle.law_driver.specs.queued_drivers.Queued.{with_queue, queued_endpoint, queued, queued_parts}
 use Rattle.law_driver.specs.queued_drivers.Rows.{IsToldAlike}
 use Rattle.law_driver.proofs.lemmas.queued_drivers.RowEvents.{idle_told}
@@ -115,7 +115,7 @@ module _ (s : Standing) (w : World) (k : IsMixedAt s w) (m : Mend) (row : driver
   unmet : met w.driver s.recent (32 * at.stalled.queue) ≡ None
   unmet =
       subst (λ (b : ℕ). met w.driver s.recent (32 * b) ≡ None) owed.queue
-      (ring_unmet w.driver s.recent w.registers.frame_index owed.number owed.endpoint owners k.now.framed.place.sound.listed k.now.recent_are due.0 owed.here ring_kind owed.kept)
+      (ring_is_unmet w.driver s.recent w.registers.frame_index owed.number owed.endpoint owners k.now.framed.place.sound.listed k.now.recent_are due.0 owed.here ring_kind owed.kept)
 
   now : FramedNext opening_base s.member s.recent s.descs (parts_then at) (hand_then at s.hand) s.frame (controller_parts w) w.driver
   now = mend_stays_now opening_base s.member s.recent s.descs s.parts s.hand s.frame (controller_parts w) w.driver s.out k.now own_at unmet
@@ -204,7 +204,7 @@ module _ (s : Standing) (w : World) (k : IsMixedAt s w) (m : Mend) (row : driver
     step = mends own_at (told_row s w k (rows.Mend (store_due at.stalled)) own_at.row tt);
     idle = ap (λ (r : DriverRow). (after_driver_row r (driver_parts w)).driver.command) row ∙ due.0;
     now = now;
-    ring = leaves_met (driver_parts w) s.parts s.out s.member own_at k.ring;
+    ring = mend_leaves_met (driver_parts w) s.parts s.out s.member own_at k.ring;
     queues = subst (λ (i : DriverContent). QueuesStand i s.near s.streams s.ends (parts_then at) s.order s.out) (sym tells_new)
         (queues_then (queued w.driver) w.registers w.memory s.near s.streams s.ends s.parts s.order s.out at old);
     sound = subst (λ (i : DriverContent). PartsStand i (parts_then at)) (sym tells_new) sound;

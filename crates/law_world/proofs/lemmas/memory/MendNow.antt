@@ -27,7 +27,7 @@ use Rattle.law_driver_ring.specs.Extents.{AreInRuns}
 use Rattle.law_driver_ring.proofs.Extending.{extents_stay, head_put}
 use Rattle.law_driver_ring.proofs.Storing.{store_made}
 use Rattle.law_driver.specs.in_place.InPlace.{IsInPlace}
-use Rattle.law_driver.proofs.lemmas.in_place.Laws.{event_in_place}
+use Rattle.law_driver.proofs.lemmas.in_place.Laws.{events_keep_all_in_place}
 use Rattle.law_queues.specs.shared_memory.Shared.{parts_of}
 use Rattle.law_frames.specs.Met.{Kind, AQueue, IsMetQueue}
 use Rattle.law_frames.specs.FrameHand.{FrameHand}
@@ -37,7 +37,7 @@ use Rattle.law_descriptors.specs.PartLaws.{IsDescribing}
 use Rattle.law_descriptors.specs.Told.{IsToldBy}
 use Rattle.law_descriptors.specs.Meeting.{met}
 use Rattle.law_descriptors.proofs.Others.{rows_told}
-use Rattle.law_descriptors.proofs.Rings.{ring_of_queues, list_of_queues}
+use Rattle.law_descriptors.proofs.Rings.{ring_is_of_queues, list_is_of_queues}
 use Rattle.law_descriptors.proofs.Standing.{found_on}
 use Rattle.law_descriptors.proofs.Telling.{queue_off, queue_found, descriptor_found}
 use Rattle.law_world.specs.memory.framed_memory.Now.{IsFramedNow, FramedNext}
@@ -101,7 +101,7 @@ module _ (base : Base) (member : ℕ → Bool) (recent : ℕ → Option Kind) (d
   drives =
       subst (λ (r : DriverRow). DrivesRing base member now (hand_then k hand) (place c.control.walk (after_driver_row r p).registers (after_driver_row r p).memory) (after_driver_row r p).driver) k.row
       (mend_leaves_ring base member hand c.control.walk p parts out k
-      (record { ring = ring_of_queues d descs parts base member hand (walk_place c) old i.framed.runs.ring; driven = i.framed.driven }))
+      (record { ring = ring_is_of_queues d descs parts base member hand (walk_place c) old i.framed.runs.ring; driven = i.framed.driven }))
 
   -- ---- it is beside the frames
 
@@ -114,7 +114,7 @@ module _ (base : Base) (member : ℕ → Bool) (recent : ℕ → Option Kind) (d
   list : now base.periodic_list_base base.periodic_list_base ≡ parts base.periodic_list_base base.periodic_list_base
   list =
       let table : ℕ = base.periodic_list_base in
-      let listed : FrameList parts base = (list_of_queues d descs parts base old).0 i.framed.runs.list in
+      let listed : FrameList parts base = (list_is_of_queues d descs parts base old).0 i.framed.runs.list in
       ap (λ (part : Structures). part table)
       (put_beside parts n n (QueueHead (mended k.stalled head)) table
       (λ (same : table ≡ n). table_head (parts table table) listed.words head listed.here (ap (λ (j : ℕ). parts j j) same ∙ there)))
@@ -155,7 +155,7 @@ module _ (base : Base) (member : ℕ → Bool) (recent : ℕ → Option Kind) (d
       (head_put parts n n (mended k.stalled head)) told.extents
 
   placed : IsInPlace after f
-  placed = subst (λ (r : DriverRow). IsInPlace (after_driver_row r p).memory (after_driver_row r p).driver) k.row (event_in_place p i.framed.place)
+  placed = subst (λ (r : DriverRow). IsInPlace (after_driver_row r p).memory (after_driver_row r p).driver) k.row (events_keep_all_in_place p i.framed.place)
 
   new : IsDescribing f descs now
   new = record { owners = placed.sound.owners; driven = drives.driven; described = told.described }

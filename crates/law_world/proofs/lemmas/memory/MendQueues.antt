@@ -17,7 +17,7 @@ use Rattle.claims_driver.specs.Owners.{Dummy, runs_of_endpoint}
 use Rattle.claims_driver.specs.Leaving.{HasOwners}
 use Rattle.law_driver.proofs.lemmas.run_owners.Runs.{placed_run}
 use Rattle.claims_driver.specs.LentRuns.{AreLent, IsLent as IsLentSlot}
-use Rattle.law_driver.proofs.lemmas.lent_runs.Laws.{idle_lent}
+use Rattle.law_driver.proofs.lemmas.lent_runs.Laws.{all_are_lent_between_commands}
 use Rattle.law_structures.specs.lent_structures.Structures.{QueueHead, Structures, StructureSets}
 use Rattle.law_structures.specs.lent_structures.Sound.{IsElement, IsSoundQueue}
 use Rattle.law_structures.proofs.lemmas.lent_structures.Altering.{found_queue}
@@ -31,7 +31,7 @@ use Rattle.law_driver.proofs.lemmas.chained_transfers.BulkAndControl.{not_iso}
 use Rattle.law_driver_ring.specs.fed_queues.Places.{IsMet}
 use Rattle.law_queues.specs.fed_lends.Commands.{QueuesStand}
 use Rattle.law_queues.specs.fed_harvests.Harvests.{IsLike}
-use Rattle.law_queues.proofs.lemmas.fed_harvests.Like.{like_stands}
+use Rattle.law_queues.proofs.lemmas.fed_harvests.Like.{alike_stands}
 use Rattle.law_queues.specs.released_queues.Fronts.{piece_address, StandsAt, FrontsStand}
 use Rattle.law_queues.specs.standing_fronts.Reaching.{Reaches}
 use Rattle.law_queues.proofs.lemmas.publish_laws.Apart.{queue_placed, queues_same, thirty_two}
@@ -40,7 +40,7 @@ use Rattle.law_queues.specs.mended_heads.Waiting.{AreAllPublished}
 use Rattle.law_queues.specs.mended_heads.Mended.{IsAtMend, parts_then, driver_mended}
 use Rattle.law_queues.proofs.lemmas.mended_heads.Mending.{halted_idle}
 use Rattle.law_queues.proofs.lemmas.mended_heads.Row.{mend_row}
-use Rattle.law_queues.proofs.lemmas.mended_heads.Queues.{leaves_front, leaves_passed, leaves_met, leaves_ends, leaves_fed, leaves_last, leaves_out}
+use Rattle.law_queues.proofs.lemmas.mended_heads.Queues.{mend_leaves_front, mend_leaves_passed, mend_leaves_met, mend_leaves_ends, mend_leaves_fed, mend_leaves_last, mend_leaves_out}
 use Rattle.law_world.specs.steps.control_queues.Controls.{ControlsStand}
 use Rattle.law_world.proofs.lemmas.steps.lemmas.control_queues.Beside.{same_keep_controls}
 use Rattle.law_world.proofs.lemmas.steps.lemmas.control_queues.Heads.{mend_keeps_controls}
@@ -80,7 +80,7 @@ module _ (d : DriverContent) (r : RegisterFile) (m : Mem) (near streams : ℕ �
   }
 
   turned_queues : QueuesStand (turned d) near streams ends parts order out
-  turned_queues = like_stands d (turned d) near streams ends parts order out out like (λ e x here there. queues.out_are e x here (record { linked = there.linked; kept = there.kept })) queues
+  turned_queues = alike_stands d (turned d) near streams ends parts order out out like (λ e x here there. queues.out_are e x here (record { linked = there.linked; kept = there.kept })) queues
 
   pub queues_then : QueuesStand (driver_mended d) near streams ends (parts_then k) order out
   queues_then =
@@ -88,11 +88,11 @@ module _ (d : DriverContent) (r : RegisterFile) (m : Mem) (near streams : ℕ �
       let is = (mend_row (turned_parts d r m) parts out k).driver in
       subst (λ (f : DriverContent). QueuesStand f near streams ends (parts_then k) order out) is
       (record {
-        met = leaves_met (turned_parts d r m) parts out near k q.met;
-        streams_are = leaves_ends (turned_parts d r m) parts out streams ends k q.streams_are;
-        fed = leaves_fed (turned_parts d r m) parts out k q.fed;
-        last = leaves_last (turned_parts d r m) parts out order k q.last;
-        out_are = leaves_out (turned_parts d r m) parts out out k q.out_are;
+        met = mend_leaves_met (turned_parts d r m) parts out near k q.met;
+        streams_are = mend_leaves_ends (turned_parts d r m) parts out streams ends k q.streams_are;
+        fed = mend_leaves_fed (turned_parts d r m) parts out k q.fed;
+        last = mend_leaves_last (turned_parts d r m) parts out order k q.last;
+        out_are = mend_leaves_out (turned_parts d r m) parts out out k q.out_are;
       })
 
   pub controls_then : ControlsStand d parts order out → ControlsStand (driver_mended d) (parts_then k) order out
@@ -135,9 +135,9 @@ module _ (d : DriverContent) (r : RegisterFile) (m : Mem) (near streams : ℕ �
       stands_on : (f : StandsAt d part o sent e z) → (n ≡ 32 * k.stalled.queue → f.front ≤ o (32 * k.stalled.onward)) → StandsAt (driver_mended d) (parts_then k (32 * z.queue)) o sent e z
       stands_on f from = record {
         front = f.front;
-        has = leaves_front o f.front sent n (turned_parts d r m) parts out k from f.has;
+        has = mend_leaves_front o f.front sent n (turned_parts d r m) parts out k from f.has;
         ended = f.ended;
-        passed = λ i u j y listed at held own least below. leaves_passed o f.front n (piece_address d y j) (turned_parts d r m) parts out k (f.passed i u j y listed at held own least below);
+        passed = λ i u j y listed at held own least below. mend_leaves_passed o f.front n (piece_address d y j) (turned_parts d r m) parts out k (f.passed i u j y listed at held own least below);
       }
 
       -- ---- its own queue
@@ -159,7 +159,7 @@ module _ (d : DriverContent) (r : RegisterFile) (m : Mem) (near streams : ℕ �
         dummy_lent : IsLent (slot_of d.book.slots z.dummy)
         dummy_lent =
             lent_slot (slot_of d.book.slots z.dummy)
-            (idle_lent d z.dummy k.idle lent
+            (all_are_lent_between_commands d z.dummy k.idle lent
             (placed_run z.dummy (Dummy e)
             (owners.owned.each.dummy e (runs_of_endpoint z) (ap (option_map runs_of_endpoint) here)
             (ap (λ (b : Bool). b || z.gone) (not_iso z.desc (turns.asynchronous.endpoints e z here).asynchronous) ∙ met.there.kept))))

@@ -16,7 +16,7 @@ use Rattle.drv_table.specs.Opening.{opening}
 use Rattle.drv_table.specs.Offers.{offered, planned_open, accepted_iso}
 use Rattle.drv_table.specs.PeriodicOpens.{PassesBefore}
 use Rattle.law_admission.specs.Worked.{each_microframe}
-use Rattle.law_admission.proofs.Budgets.{opening_kept}
+use Rattle.law_admission.proofs.Budgets.{opening_keeps_budgets}
 use Rattle.law_admission.proofs.Refusals.{asks_best}
 use Rattle.law_world.specs.memory.MicrophoneSamples.{microphone}
 
@@ -63,5 +63,5 @@ it_passes n room = record { idle = refl; name = refl; kind = refl }
 
 pub is_accepted : (n : ℕ) (room : Reserve) (m : Mem) → 1 ≤ room.endpoints → offered (opening n room).driver m (OpenEp microphone) ≡ Ok (record { driver = accepted_iso (opening n room).driver microphone each_microframe; memory = m })
 is_accepted n room m some =
-    asks_best (opening n room).driver m microphone (opening_kept n room) some (it_passes n room)
+    asks_best (opening n room).driver m microphone (opening_keeps_budgets n room) some (it_passes n room)
     ∙ ap (λ (b : Option Placement). planned_open (opening n room).driver m microphone (chosen b)) (its_best room.rules (best room.rules [] (want_of 0 microphone)) refl)

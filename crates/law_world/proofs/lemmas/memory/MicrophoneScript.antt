@@ -19,7 +19,7 @@ use Rattle.law_world.specs.memory.PlacedLaws.{FitsMixed}
 use Rattle.law_world.specs.memory.MicrophoneSamples.{microphone, one_microphone, after_the_open, heard_at}
 use Rattle.law_world.proofs.lemmas.memory.Controller.{controller_keeps_mixed}
 use Rattle.law_world.proofs.lemmas.memory.AtWork.{keeps_while_mixed}
-use Rattle.law_world.proofs.lemmas.memory.Together.{scripts_stay}
+use Rattle.law_world.proofs.lemmas.memory.Together.{scripts_stay_mixed}
 use Rattle.law_world.proofs.lemmas.memory.MicrophonePlaced.{is_accepted}
 
 -- ---- the premises
@@ -38,11 +38,11 @@ microphone_fits = record {
 pub microphone_bytes : IsByteScript one_microphone
 microphone_bytes = record { devices = ((tt, tt), tt); lines = (tt, (tt, (tt, (tt, tt)))) }
 
-pub microphone_mixed : FitsMixed one_microphone
-microphone_mixed = (record { numbers = record { addr = omega arith; num = omega arith; hub = omega arith }; kind = tt }, (tt, (tt, (tt, tt))))
+pub fits_mixed : FitsMixed one_microphone
+fits_mixed = (record { numbers = record { addr = omega arith; num = omega arith; hub = omega arith }; kind = tt }, (tt, (tt, (tt, tt))))
 
-pub microphone_keeps_memory : KeepsMemory one_microphone
-microphone_keeps_memory = keeps_while_mixed controller_keeps_mixed one_microphone (scripts_stay one_microphone microphone_fits microphone_bytes microphone_mixed)
+pub its_memory_is_kept : KeepsMemory one_microphone
+its_memory_is_kept = keeps_while_mixed controller_keeps_mixed one_microphone (scripts_stay_mixed one_microphone microphone_fits microphone_bytes fits_mixed)
 
 -- ---- its open
 
@@ -55,7 +55,7 @@ accepted : offered (opening_world one_microphone).driver (opening_world one_micr
     ≡ Ok (record { driver = accepted_iso (opening_world one_microphone).driver microphone each_microframe; memory = (opening_world one_microphone).memory })
 accepted = is_accepted 2048 (room_of_script one_microphone) (opening_world one_microphone).memory (omega arith)
 
-pub microphone_moment : (k : ℕ) → (moment one_microphone (suc k)).world ≡ heard_at k
-microphone_moment k =
+pub its_moments : (k : ℕ) → (moment one_microphone (suc k)).world ≡ heard_at k
+its_moments k =
     ap (λ (p : OrderedWorld). p.world)
     (answered (fixed_of one_microphone) (opening_world one_microphone) 5 (commands.OpenEp microphone) (orders_of after_the_open) _ k accepted)

@@ -4,12 +4,12 @@ use Rattle.claims_driver.specs.Leaving.{HasOwners}
 use Rattle.claims_base.specs.Controller.{opening_base}
 use Rattle.law_driver_ring.specs.fed_queues.Places.{AreMet}
 use Rattle.law_driver.specs.queued_drivers.Queued.{queued}
-use Rattle.law_driver.proofs.lemmas.queued_drivers.RowTurns.{rows_keep}
+use Rattle.law_driver.proofs.lemmas.queued_drivers.RowTurns.{rows_keep_queues}
 use Rattle.law_world.specs.memory.framed_memory.Now.{IsFramedNow}
-use Rattle.law_world.proofs.lemmas.memory.lemmas.framed_memory.Awaiting.{events_await}
-use Rattle.law_world.proofs.lemmas.memory.lemmas.framed_memory.Masking.{events_masked}
-use Rattle.law_world.proofs.lemmas.memory.lemmas.framed_memory.Numbering.{event_numbered}
-use Rattle.law_world.proofs.lemmas.steps.lemmas.controlled_walks.Worlds.{driver_walks}
+use Rattle.law_world.proofs.lemmas.memory.lemmas.framed_memory.Awaiting.{events_keep_awaiting}
+use Rattle.law_world.proofs.lemmas.memory.lemmas.framed_memory.Masking.{events_keep_masks}
+use Rattle.law_world.proofs.lemmas.memory.lemmas.framed_memory.Numbering.{events_keep_numbered}
+use Rattle.law_world.proofs.lemmas.steps.lemmas.controlled_walks.Worlds.{driver_keeps_walking}
 use Rattle.drv_table.specs.Parts.{Parts}
 use Rattle.bus_world.specs.World.{World, driver_parts, controller_parts, driver_next}
 use Rattle.law_world.specs.memory.Mixed.{QueuesGoOn, IsUnderWay, Standing, IsMixedAt}
@@ -31,14 +31,14 @@ module _ (s : Standing) (w : World) (k : IsMixedAt s w) where
     step = step;
     mixed = record {
       now = now;
-      turns = rows_keep p owners k.turns;
+      turns = rows_keep_queues p owners k.turns;
       ring = ring;
       queues = queues;
       under_way = under;
-      walking = driver_walks w k.walking;
-      numbers = event_numbered p k.numbers;
-      masks = events_masked p k.masks;
-      awaiting = events_await p k.awaiting;
+      walking = driver_keeps_walking w k.walking;
+      numbers = events_keep_numbered p k.numbers;
+      masks = events_keep_masks p k.masks;
+      awaiting = events_keep_awaiting p k.awaiting;
       owed = row_owes p owners k.turns k.owed;
       bytes = k.bytes;
     };

@@ -37,7 +37,7 @@ use Rattle.claims_world.specs.Links.{LeftWithin, IsOneBatch, IsPending}
 use Rattle.claims_world.specs.Releases.{is_drivers, LeavesRing}
 use Rattle.law_devices.proofs.Lists.{all_more}
 use Rattle.law_driver.specs.run_owners.Due.{IsDue}
-use Rattle.law_driver.proofs.lemmas.run_owners.Reasons.{each_is_due}
+use Rattle.law_driver.proofs.lemmas.run_owners.Reasons.{each_event_is_due}
 use Rattle.law_footprints.proofs.Fields.{rung_stays, bell_stays}
 use Rattle.law_world.specs.memory.Releases.{HasLeft}
 use Rattle.law_world.proofs.lemmas.memory.LetGo.{moment_then, history}
@@ -140,7 +140,7 @@ turn_says p turns.Harvest =
 
 rings_for_some : (p : Parts) → driver_row p ≡ rows.RingBell → p.driver.waiting ≢ []
 rings_for_some p is =
-    let due : IsDue p rows.RingBell = subst (IsDue p) is (each_is_due p) in
+    let due : IsDue p rows.RingBell = subst (IsDue p) is (each_event_is_due p) in
     subst (SaysWaits p.driver.waiting) (sym (ap (row_for p) due.0) ∙ is) (turn_says p p.driver.turn)
 
 -- ---- the run
@@ -211,7 +211,7 @@ module _ (s : Script) where
     -- the doorbell is rung
     rings : driver_row p ≡ rows.RingBell → IsOneBatch s (suc k) (after_driver_row rows.RingBell p).driver
     rings is =
-        let due : IsDue p rows.RingBell = subst (IsDue p) is (each_is_due p) in
+        let due : IsDue p rows.RingBell = subst (IsDue p) is (each_event_is_due p) in
         record {
           ringing = k;
           rang = record { turn = turn; row_is = is };
@@ -247,7 +247,7 @@ module _ (s : Script) where
     driven rows.RingBell is loud = rings is
     driven rows.ClearAdvance is loud = absurd (loud refl)
     driven (rows.ReadStatus heard) is loud =
-        let due : IsDue p (rows.ReadStatus heard) = subst (IsDue p) is (each_is_due p) in
+        let due : IsDue p (rows.ReadStatus heard) = subst (IsDue p) is (each_event_is_due p) in
         goes_on (rows.ReadStatus heard) is (λ quiet. rung_loud (sym due.1 ∙ quiet)) refl
     driven row is loud =
         goes_on row is (λ quiet. loud (bell_stays row p p.driver.command refl refl ∙ quiet))

@@ -8,11 +8,11 @@ use Rattle.law_ring.specs.Told.{endpoint_of}
 use Rattle.law_frames.specs.FrameHand.{Nothing}
 use Rattle.law_descriptors.specs.Meeting.{no_recent}
 use Rattle.law_driver.proofs.lemmas.queued_drivers.RowTurns.{new_driver_queues}
-use Rattle.law_world.proofs.lemmas.steps.lemmas.controlled_walks.Worlds.{new_walks}
-use Rattle.law_world.proofs.lemmas.memory.lemmas.framed_memory.Now.{new_now}
-use Rattle.law_world.proofs.lemmas.memory.lemmas.framed_memory.Awaiting.{new_awaits}
-use Rattle.law_world.proofs.lemmas.memory.lemmas.framed_memory.Masking.{new_masked}
-use Rattle.law_world.proofs.lemmas.memory.lemmas.framed_memory.Numbering.{new_numbered}
+use Rattle.law_world.proofs.lemmas.steps.lemmas.controlled_walks.Worlds.{new_world_walks}
+use Rattle.law_world.proofs.lemmas.memory.lemmas.framed_memory.Now.{new_is_framed_now}
+use Rattle.law_world.proofs.lemmas.memory.lemmas.framed_memory.Awaiting.{new_awaits_nothing}
+use Rattle.law_world.proofs.lemmas.memory.lemmas.framed_memory.Masking.{new_is_masked}
+use Rattle.law_world.proofs.lemmas.memory.lemmas.framed_memory.Numbering.{new_is_numbered}
 use Rattle.bus_world.specs.Rooms.{room_of_script}
 use Rattle.bus_world.specs.Opening.{opening_world}
 use Rattle.law_world.proofs.lemmas.steps.lemmas.world_bytes.Turning.{opened_bytes}
@@ -34,7 +34,7 @@ new_world_is_mixed s fit bytes = record {
     out = λ n. [];
   };
   mixed = record {
-    now = new_now s.words (room_of_script s) fit.least fit.most fit.whole_pages;
+    now = new_is_framed_now s.words (room_of_script s) fit.least fit.most fit.whole_pages;
     turns = new_driver_queues s.words (room_of_script s);
     ring = record { head = refl; each = λ e x here. absurd (cc); only = λ n on. inl (eqb-true n 4096 on) };
     queues = record {
@@ -55,10 +55,10 @@ new_world_is_mixed s fit bytes = record {
       };
     };
     under_way = tt;
-    walking = new_walks s;
-    numbers = new_numbered s.words (room_of_script s);
-    masks = new_masked s.words (room_of_script s);
-    awaiting = new_awaits s.words (room_of_script s) (opening_world s).memory;
+    walking = new_world_walks s;
+    numbers = new_is_numbered s.words (room_of_script s);
+    masks = new_is_masked s.words (room_of_script s);
+    awaiting = new_awaits_nothing s.words (room_of_script s) (opening_world s).memory;
     bytes = opened_bytes s bytes;
     owed = λ i t y x at. absurd (cc);
   };

@@ -30,9 +30,9 @@ use Rattle.drv_table.specs.Words.{head_block, queue_head_link}
 use Rattle.claims_base.specs.Controller.{Base, opening_base}
 use Rattle.claims_driver.specs.Leaving.{HasOwners}
 use Rattle.law_driver.specs.run_owners.Due.{IsDue, IsNextOf, IsLinkOf, IsUnlinkDue}
-use Rattle.law_driver.proofs.lemmas.run_owners.Commands.{accepted_for_a_reason}
+use Rattle.law_driver.proofs.lemmas.run_owners.Commands.{each_command_has_its_reason}
 use Rattle.law_driver.proofs.lemmas.run_owners.Orders.{IsOwed}
-use Rattle.law_driver.proofs.lemmas.run_owners.Reasons.{each_is_due}
+use Rattle.law_driver.proofs.lemmas.run_owners.Reasons.{each_event_is_due}
 use Rattle.law_driver.proofs.lemmas.ring_members.Freed.{LeavesRest, lent_words, rest_qtds, rest_endpoint, rest_descriptor, rest_placed}
 use Rattle.hc_core.specs.Controller.{Content, content}
 use Rattle.law_structures.specs.lent_structures.Structures.{QueueHead, Element, StructureSets, Tells}
@@ -67,7 +67,7 @@ use Rattle.law_world.specs.memory.framed_memory.Ring.{IsHeadMet}
 use Rattle.law_world.proofs.lemmas.memory.lemmas.framed_memory.ChainedLent.{chain_comes_first}
 use Rattle.law_world.proofs.lemmas.memory.lemmas.framed_memory.Lending.{lending}
 use Rattle.law_world.proofs.lemmas.memory.lemmas.framed_memory.Now.{told_now}
-use Rattle.law_world.proofs.lemmas.memory.lemmas.framed_memory.NowRows.{unlink_now, link_now}
+use Rattle.law_world.proofs.lemmas.memory.lemmas.framed_memory.NowRows.{unlink_keeps_now, link_keeps_now}
 use Rattle.law_world.proofs.lemmas.memory.lemmas.framed_memory.RingLinksLeave.{unlink_is_due}
 use Rattle.law_world.proofs.lemmas.memory.lemmas.framed_memory.RingLinksMet.{head_is_met}
 use Rattle.law_world.proofs.lemmas.memory.Driving.{driver_keeps_mixed}
@@ -280,7 +280,7 @@ module _ (s : Standing) (w : World) (k : IsMixedAt s w) where
       → IsStoreIn (both s.descs s.parts) to
   link_row_store b to v row link =
       let why : IsLinkOf (driver_parts w) (driver_row (driver_parts w)) = subst (IsLinkOf (driver_parts w)) (sym row) link in
-      let e = link_now opening_base s.member s.recent s.descs s.parts s.hand s.frame (controller_parts w) w.driver k.now why
+      let e = link_keeps_now opening_base s.member s.recent s.descs s.parts s.hand s.frame (controller_parts w) w.driver k.now why
       (λ chain. comes_first why.command why.unfinished (late_chain why.command w.driver.made why.late chain) chain) in
       let one : why.store.at ≡ to = same_store why.store.block b why.store.at to why.store.value v (sym why.is ∙ row) in
       subst (IsStoreIn (both s.descs s.parts)) one
@@ -314,7 +314,7 @@ module _ (s : Standing) (w : World) (k : IsMixedAt s w) where
       → LeavesControllers (controller_parts w) (after_unlink (driver_parts w) t (slice_get w.driver.transfers t)).memory
   unlinked t row due =
       let at : IsOwed w.driver.transfers t = unlinked_there (driver_parts w) t owners due in
-      let u = unlink_now opening_base s.member s.recent s.descs s.parts s.hand s.frame
+      let u = unlink_keeps_now opening_base s.member s.recent s.descs s.parts s.hand s.frame
       (controller_parts w) w.driver t at.transfer k.now row at.there in
       let st : Store = u.event.store in
       let is : (after_unlink (driver_parts w) t
@@ -392,11 +392,11 @@ module _ (s : Standing) (w : World) (k : IsMixedAt s w) where
   accepted : (line : ℕ) (cmd : Cmd) (r : Result Offered OfferError) → offered w.driver w.memory cmd ≡ r
       → LeavesControllers (controller_parts w) (commanded_by w line (name_in cmd) r).memory
   accepted line cmd (Ok o) is = lent_leaves o.memory (leaves_lent w.driver w.memory o
-      (accepted_for_a_reason w.driver w.memory cmd o is) place)
+      (each_command_has_its_reason w.driver w.memory cmd o is) place)
   accepted line cmd (Err why) is = same_leaves w.memory refl
 
 pub driver_leaves_controllers : DriverLeavesControllers
-driver_leaves_controllers = λ w k. by_row k.standing w k.mixed (driver_row (driver_parts w)) refl (each_is_due (driver_parts w))
+driver_leaves_controllers = λ w k. by_row k.standing w k.mixed (driver_row (driver_parts w)) refl (each_event_is_due (driver_parts w))
 
 pub command_leaves_controllers : CommandLeavesControllers
 command_leaves_controllers = λ w line cmd k. accepted k.standing w k.mixed line cmd (offered w.driver w.memory cmd) refl

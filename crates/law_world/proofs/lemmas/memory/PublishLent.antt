@@ -29,10 +29,10 @@ use Rattle.law_world.proofs.lemmas.steps.lemmas.control_queues.Lends.{lend_keeps
 use Rattle.law_descriptors.specs.queue_events.Events.{PartsStand}
 use Rattle.law_queues.specs.released_queues.Fronts.{FrontsStand}
 use Rattle.law_world.specs.memory.framed_memory.Now.{IsFramedNow}
-use Rattle.law_world.proofs.lemmas.memory.lemmas.framed_memory.TransferLends.{lend_transfer_now}
+use Rattle.law_world.proofs.lemmas.memory.lemmas.framed_memory.TransferLends.{lend_transfer_keeps_now}
 use Rattle.law_driver.specs.queued_drivers.Queued.{queued, queued_parts, queued_made}
 use Rattle.law_driver.specs.queued_drivers.Rows.{IsToldAlike}
-use Rattle.law_driver.proofs.lemmas.queued_drivers.RowOwners.{queued_owners, queued_lent}
+use Rattle.law_driver.proofs.lemmas.queued_drivers.RowOwners.{queued_has_owners, queued_are_lent}
 use Rattle.bus_world.specs.World.{World, driver_parts, controller_parts, driver_next}
 use Rattle.law_world.specs.memory.Mixed.{QueuesGoOn, IsUnderWay, Standing, IsMixedAt}
 use Rattle.law_world.specs.memory.Steps.{QueueStep, lends, IsMixedNext}
@@ -96,7 +96,7 @@ module _ (s : Standing) (w : World) (b : ℕ) (words : List ℕ) (k : IsMixedAt 
   framed_then : IsFramedNow opening_base s.member s.recent s.descs now s.hand s.frame (controller_parts (driver_next w)) (driver_next w).driver
   framed_then =
       let asked = lend_is_asked told m b words s.parts get k.queues.queues.fed (queued_driven w.driver (sorts_of s.parts) k.now.framed.driven) in
-      lend_transfer_now opening_base s.member s.recent s.descs s.parts s.hand s.frame (controller_parts w) w.driver get.number (runs_of_transfer get.transfer) (runs_of_endpoint get.endpoint) get.stage get.further k.now row_here
+      lend_transfer_keeps_now opening_base s.member s.recent s.descs s.parts s.hand s.frame (controller_parts w) w.driver get.number (runs_of_transfer get.transfer) (runs_of_endpoint get.endpoint) get.stage get.further k.now row_here
       (awaits_back w.driver m get.number (runs_of_transfer get.transfer) (runs_of_endpoint get.endpoint) get.stage get.further asked.0) asked.1
 
   -- ---- the queues
@@ -109,9 +109,9 @@ module _ (s : Standing) (w : World) (b : ℕ) (words : List ℕ) (k : IsMixedAt 
 
   leaves : LeavesQueues told m n s.near s.streams s.ends s.parts now s.order s.out
   leaves =
-      lend_stands told m b words s.near s.streams s.ends s.parts s.order s.out get (queued_owners w.driver owners k.turns) k.now.framed.place.sound.stands k.now.framed.place.sound.shape
+      lend_stands told m b words s.near s.streams s.ends s.parts s.order s.out get (queued_has_owners w.driver owners k.turns) k.now.framed.place.sound.stands k.now.framed.place.sound.shape
       k.turns.turns.asynchronous k.turns.turns.turns
-      (queued_lent w.driver k.now.framed.place.lent (λ e t count is. absurd (not_described w.driver b words e t count command is)))
+      (queued_are_lent w.driver k.now.framed.place.lent (λ e t count is. absurd (not_described w.driver b words e t count command is)))
       (queued_driven w.driver (sorts_of s.parts) k.now.framed.driven) (queued_runs w.driver s.parts k.now.framed.extents) k.queues.queues fronts
       (λ e x here met. k.queues.controls.sorted e x here met.there) head
 

@@ -26,10 +26,10 @@ use Rattle.law_driver_ring.specs.fed_queues.Places.{AreMet}
 use Rattle.law_driver_ring.proofs.lemmas.fed_queues.Places.{same_ends, met_stays}
 use Rattle.law_descriptors.specs.queue_events.Events.{PartsStand}
 use Rattle.law_world.specs.memory.framed_memory.Now.{IsFramedNow, FramedNext}
-use Rattle.law_world.proofs.lemmas.memory.lemmas.framed_memory.Publishing.{publish_now}
+use Rattle.law_world.proofs.lemmas.memory.lemmas.framed_memory.Publishing.{publish_keeps_now}
 use Rattle.law_driver.specs.queued_drivers.Queued.{queued, queued_parts, queued_command, queued_made}
 use Rattle.law_driver.specs.queued_drivers.Rows.{IsToldAlike}
-use Rattle.law_driver.proofs.lemmas.queued_drivers.RowOwners.{queued_owners, queued_lent}
+use Rattle.law_driver.proofs.lemmas.queued_drivers.RowOwners.{queued_has_owners, queued_are_lent}
 use Rattle.bus_world.specs.World.{World, driver_parts, controller_parts, driver_next}
 use Rattle.law_world.specs.memory.Mixed.{QueuesGoOn, IsUnderWay, Standing, IsMixedAt}
 use Rattle.law_world.specs.memory.Steps.{QueueStep, stores, IsMixedNext}
@@ -73,8 +73,8 @@ module _ (s : Standing) (w : World) (b : ℕ) (words : List ℕ) (k : IsMixedAt 
   at = record {
     command = ap (queued_command w.driver.endpoints) command;
     made = subst (λ (j : ℕ). 1 ≤ j) (sym told_made) made;
-    owners = queued_owners w.driver owners k.turns;
-    lent = queued_lent w.driver k.now.framed.place.lent (λ e t count is. absurd (not_described w.driver b words e t count command is));
+    owners = queued_has_owners w.driver owners k.turns;
+    lent = queued_are_lent w.driver k.now.framed.place.lent (λ e t count is. absurd (not_described w.driver b words e t count command is));
     turns = k.turns.turns;
     queues = k.queues.queues;
   }
@@ -150,7 +150,7 @@ module _ (s : Standing) (w : World) (b : ℕ) (words : List ℕ) (k : IsMixedAt 
   framed_then : IsFramedNow opening_base s.member s.recent s.descs now s.hand s.frame (controller_parts (driver_next w)) (driver_next w).driver
   framed_then =
       subst (λ (j : ℕ). FramedNext opening_base s.member s.recent s.descs (stored_parts s.parts n (32 * b) (partly g.qtd j)) s.hand s.frame (controller_parts w) w.driver) (sym made_now)
-      (publish_now opening_base s.member s.recent s.descs s.parts s.hand s.frame (controller_parts w) w.driver n b words g.qtd i k.now command row_here low_now g.stored g.range (λ on. may) (λ on. may))
+      (publish_keeps_now opening_base s.member s.recent s.descs s.parts s.hand s.frame (controller_parts w) w.driver n b words g.qtd i k.now command row_here low_now g.stored g.range (λ on. may) (λ on. may))
 
   -- ---- the queues
 

@@ -33,11 +33,11 @@ use Rattle.claims_base.specs.Controller.{Base, base_of, opening_base}
 use Rattle.law_ring.specs.Ring.{IsRing}
 use Rattle.law_ring.specs.Effects.{Effect, reads, passes, ends, takes, makes, writes_back, AreBytesHeard}
 use Rattle.law_ring.proofs.Ringing.{ring_at, cursor_same}
-use Rattle.law_ring.proofs.Stepping.{event_happens}
+use Rattle.law_ring.proofs.Stepping.{each_event}
 use Rattle.law_descriptors.specs.Both.{both}
 use Rattle.law_world.specs.steps.Streaming.{begins_by, transacts_by, wired}
 use Rattle.law_world.proofs.lemmas.steps.StreamTurning.{world_has_row}
-use Rattle.law_world.proofs.lemmas.steps.lemmas.world_bytes.Hearing.{hears_bytes}
+use Rattle.law_world.proofs.lemmas.steps.lemmas.world_bytes.Hearing.{a_bus_of_bytes_is_heard_as_bytes}
 use Rattle.bus_wire.specs.Bus.{Fixed, fixed_of}
 use Rattle.bus_world.specs.World.{World, controller_parts, controller_row, controller_next, kind_next}
 use Rattle.bus_world.specs.Budgets.{moment}
@@ -192,7 +192,7 @@ module _ (fixed : Fixed) (w : World) (k : IsMixedWorld w) where
       (sym (ap (λ (b : Bool). if b then part_row w.registers w.control.frame w.control.part else rows.Idle) (ap (λ (b : Base). b.run) on)) ∙ same)
 
   heard : AreBytesHeard transacts_by (wired fixed w) (wired fixed (controller_next fixed w))
-  heard = hears_bytes fixed w k.mixed.bytes (wired fixed (controller_next fixed w))
+  heard = a_bus_of_bytes_is_heard_as_bytes fixed w k.mixed.bytes (wired fixed (controller_next fixed w))
 
   at_row : (row : ControllerRow) → controller_row w ≡ row → HasRow begins_by transacts_by row (controller_parts w) (wired fixed w) (controller_parts (controller_next fixed w)) (wired fixed (controller_next fixed w))
   at_row row is = subst (λ (r : ControllerRow). HasRow begins_by transacts_by r c (wired fixed w) (controller_parts (controller_next fixed w)) (wired fixed (controller_next fixed w))) is (world_has_row fixed w)
@@ -200,7 +200,7 @@ module _ (fixed : Fixed) (w : World) (k : IsMixedWorld w) where
   sound : (hand : Hand) (p : WalkPlace) → IsRing opening_base k.standing.member structures hand p → (new : WalkPlace) → Leads transacts_by (event_row p) (at_event p) (wired fixed w) new (wired fixed (controller_next fixed w))
       → step_of (event_row p) (at_event p) ≡ walks.Fault → ⊥
   sound hand p ring new leads =
-      let h = event_happens transacts_by opening_base k.standing.member structures hand p (wired fixed w) new (wired fixed (controller_next fixed w)) ring heard leads in
+      let h = each_event transacts_by opening_base k.standing.member structures hand p (wired fixed w) new (wired fixed (controller_next fixed w)) ring heard leads in
       no_fault transacts_by structures hand (wired fixed w) (wired fixed (controller_next fixed w)) h.now h.later (step_of (event_row p) (at_event p)) h.effect
 
   its_ring : IsRing opening_base k.standing.member structures k.standing.hand (walk_place c)

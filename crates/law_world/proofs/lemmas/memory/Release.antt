@@ -18,7 +18,7 @@ use Rattle.law_structures.specs.lent_structures.Structures.{QueueHead, Element, 
 use Rattle.law_ring.specs.Fewer.{without_those}
 use Rattle.law_ring.specs.Halted.{HaltStops}
 use Rattle.law_ring.specs.Order.{IsAmong}
-use Rattle.law_ring.proofs.HaltSparing.{halt_spared}
+use Rattle.law_ring.proofs.HaltSparing.{halt_is_spared}
 use Rattle.law_ring.proofs.Returning.{those_found}
 use Rattle.claims_base.specs.Controller.{opening_base}
 use Rattle.law_driver_ring.specs.Released.{goes_of, IsToGo}
@@ -40,7 +40,7 @@ use Rattle.law_queues.proofs.lemmas.standing_fronts.Lists.{times_some}
 use Rattle.law_world.specs.steps.control_queues.Controls.{ControlsStand}
 use Rattle.law_world.proofs.lemmas.steps.lemmas.control_queues.Alike.{same_there, stand_by}
 use Rattle.law_world.proofs.lemmas.steps.lemmas.control_queues.Lists.{IsPart, all_part, staying_part, part_among, part_sorted}
-use Rattle.law_world.proofs.lemmas.memory.lemmas.framed_memory.Releasing.{release_transfer_now}
+use Rattle.law_world.proofs.lemmas.memory.lemmas.framed_memory.Releasing.{release_transfer_keeps_now}
 use Rattle.law_driver.specs.queued_drivers.Queued.{with_queue, queued, queued_parts}
 use Rattle.law_driver.specs.queued_drivers.Rows.{IsToldAlike}
 use Rattle.law_driver.proofs.lemmas.queued_drivers.RowLists.{queue_at, moves_at}
@@ -76,7 +76,7 @@ there_at (x ∷ xs) (suc i) below = there_at xs i (omega (arith, below))
 
 fewer_stop : (parts : StructureSets) (n : ℕ) (goes : ℕ → Bool) (order : ℕ → ℕ) (out later : List ℕ) (m : ℕ) → ((a : ℕ) → IsAmong a later → IsAmong a out) → HaltStops order out m (parts m) → HaltStops order later m (without_those parts n goes m)
 fewer_stop parts n goes order out later m fewer s =
-    halt_spared order out later m (parts m) (without_those parts n goes m)
+    halt_is_spared order out later m (parts m) (without_those parts n goes m)
     (λ r is. record { queue = r; here = those_found parts n goes m m (QueueHead r) is; rest = record { token = refl; current = refl; next = refl; alternate = refl } })
     (λ a t among is. inl (fewer a among, those_found parts n goes m a (Element t) is)) s
 
@@ -255,7 +255,7 @@ module _ (s : Standing) (w : World) (k : IsMixedAt s w) (t : ℕ) (row : driver_
   leaves = record {
     step = returns t owed.transfer (with_queue its_endpoint.0) (told_row s w k (rows.ReleaseTransfer t) row tt) returning;
     idle = ap (λ (r : DriverRow). (after_driver_row r (driver_parts w)).driver.command) row ∙ ap (λ (r : Parts). r.driver.command) (row_is (driver_parts w) owed.here) ∙ due.idle;
-    now = release_transfer_now opening_base s.member s.recent s.descs s.parts s.hand s.frame (controller_parts w) w.driver t owed.transfer (runs_of_endpoint (with_queue its_endpoint.0)) k.now row to_go
+    now = release_transfer_keeps_now opening_base s.member s.recent s.descs s.parts s.hand s.frame (controller_parts w) w.driver t owed.transfer (runs_of_endpoint (with_queue its_endpoint.0)) k.now row to_go
         (λ on q is. g.may_go q is) (λ on q is. g.may_go q is);
     ring = subst (λ (r : DriverRow). AreMet (after_driver_row r (driver_parts w)).driver s.member) (sym row)
         (met_stays w.driver (after_driver_row (rows.ReleaseTransfer t) (driver_parts w)).driver s.member (stays (driver_parts w) owed.here) k.ring);

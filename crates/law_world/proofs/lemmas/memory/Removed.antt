@@ -31,7 +31,7 @@ use Rattle.law_ring.specs.Halted.{HaltStops}
 use Rattle.law_ring.specs.Told.{Endpoint as Told}
 use Rattle.claims_base.specs.Controller.{opening_base}
 use Rattle.law_driver.specs.chained_transfers.AsynchronousTurns.{AsynchronousTakesTurns}
-use Rattle.law_descriptors.proofs.GivenRow.{row_is_given_back}
+use Rattle.law_descriptors.proofs.GivenRow.{row_gives_back_passed}
 use Rattle.law_queues.proofs.lemmas.fed_lends.Asked.{set_which}
 use Rattle.law_driver_ring.specs.fed_queues.Places.{IsThere, IsMet, HasHead, AreMet, HaveStreams}
 use Rattle.law_frames.specs.Met.{IsQueuePart}
@@ -53,7 +53,7 @@ use Rattle.law_driver.specs.queued_drivers.Queued.{with_queue, queued, queued_pa
 use Rattle.law_driver.specs.queued_drivers.Rows.{QueuesAlike, out_by, out_of_frames, IsGivenBackAlike}
 use Rattle.law_driver.proofs.lemmas.queued_drivers.RowEvents.{idle_told}
 use Rattle.law_driver.proofs.lemmas.queued_drivers.RowLists.{queue_at}
-use Rattle.law_driver.proofs.lemmas.queued_drivers.RowOwners.{queued_owners}
+use Rattle.law_driver.proofs.lemmas.queued_drivers.RowOwners.{queued_has_owners}
 use Rattle.law_driver.proofs.lemmas.queued_drivers.RowRemovals.{goes_back}
 use Rattle.law_driver.proofs.lemmas.listed_members.Unchaining.{elsewhere_on, elsewhere_test}
 use Rattle.bus_world.specs.World.{World, driver_parts, controller_parts, driver_next}
@@ -305,7 +305,7 @@ module _ (s : Standing) (w : World) (k : IsMixedAt s w) (e : ℕ) (is : driver_r
   owners = k.now.framed.place.sound.owners
 
   due : IsRemovalDue (driver_parts w) (removed.Endpoint e)
-  due = (row_is_given_back p (removed.Endpoint e) is).due
+  due = (row_gives_back_passed p (removed.Endpoint e) is).due
 
   one : IsRemoved w.driver.endpoints e
   one = first_removed e due.removal due.first due.is owners.orderly
@@ -379,7 +379,7 @@ module _ (s : Standing) (w : World) (k : IsMixedAt s w) (e : ℕ) (is : driver_r
   told_linked = ap (λ (b : Bool). cond b (not x.gone) x.linked) frames ∙ ap not kept
 
   told_owners : HasOwners (queued w.driver)
-  told_owners = queued_owners d owners k.turns
+  told_owners = queued_has_owners d owners k.turns
 
   abbrev out_y : Endpoint
   out_y = record (with_queue x) { linked = false }

@@ -12,7 +12,7 @@ use Rattle.drv_table.specs.Rows.{driver_row, after_driver_row}
 use Rattle.claims_driver.specs.Owners.{TransferRuns, runs_of_transfer, views_of}
 use Rattle.law_driver.specs.run_owners.Due.{IsDue}
 use Rattle.claims_driver.specs.Leaving.{HasOwners}
-use Rattle.law_driver.proofs.lemmas.run_owners.Reasons.{each_is_due}
+use Rattle.law_driver.proofs.lemmas.run_owners.Reasons.{each_event_is_due}
 use Rattle.law_driver.specs.endpoint_lives.Lives.{may_meet}
 use Rattle.law_driver.proofs.lemmas.endpoint_lives.Lives.{IsNear, in_ring, has_left, is_rung, met_where}
 use Rattle.law_driver.proofs.lemmas.ring_members.Placed.{in_ring_alive, left_alive, left_ring, linked_alive}
@@ -79,7 +79,7 @@ module _ (s : Standing) (w : World) (k : IsMixedAt s w) where
   owners = k.now.framed.place.sound.owners
 
   pub due_is : (row : DriverRow) → driver_row (driver_parts w) ≡ row → IsDue (driver_parts w) row
-  due_is row is = subst (IsDue p) is (each_is_due p)
+  due_is row is = subst (IsDue p) is (each_event_is_due p)
 
   pub row_alike : (row : DriverRow) → driver_row (driver_parts w) ≡ row → IsOfQueues (driver_parts w) row → IsToldAlike (driver_parts w) row
   row_alike row is of = row_told row p owners k.turns (due_is row is) of

@@ -21,7 +21,7 @@ use Rattle.law_queues.proofs.lemmas.mended_heads.Standing.{stand_on, keeps_same}
 use Rattle.law_queues.specs.reached_rings.Reaching.{may_reach, is_reached}
 use Rattle.law_queues.specs.leaving_drivers.Before.{IsAsBefore, NearFewer}
 use Rattle.law_queues.proofs.lemmas.leaving_drivers.Alike.{there_by}
-use Rattle.law_queues.proofs.lemmas.leaving_drivers.Leaving.{clear_as_before}
+use Rattle.law_queues.proofs.lemmas.leaving_drivers.Leaving.{clear_is_as_before}
 use Rattle.law_world.specs.steps.left_queues.Standing.{met_streams, AllStand}
 use Rattle.law_world.proofs.lemmas.steps.lemmas.left_queues.Clearing.{clear_stands}
 use Rattle.law_world.specs.steps.control_queues.Controls.{ControlsStand}
@@ -31,7 +31,7 @@ use Rattle.law_world.specs.memory.framed_memory.Now.{FramedNext}
 use Rattle.law_world.proofs.lemmas.memory.lemmas.framed_memory.LeavingRing.{clear_narrows_now}
 use Rattle.law_driver.specs.queued_drivers.Queued.{queued, queued_parts}
 use Rattle.law_driver.proofs.lemmas.queued_drivers.RowEvents.{idle_told}
-use Rattle.law_driver.proofs.lemmas.queued_drivers.RowOwners.{queued_owners}
+use Rattle.law_driver.proofs.lemmas.queued_drivers.RowOwners.{queued_has_owners}
 use Rattle.bus_world.specs.World.{World, driver_parts, controller_parts, driver_next}
 use Rattle.law_world.specs.memory.Mixed.{QueuesGoOn, IsUnderWay, Standing, IsMixedAt}
 use Rattle.law_world.specs.memory.Steps.{QueueStep, narrows, IsMixedNext}
@@ -53,10 +53,10 @@ module _ (p : Parts) (rings : Bool) (owners : HasOwners p.driver) (idle : p.driv
   narrow n = is_reached f rings n
 
   before : IsAsBefore old f
-  before = (clear_as_before p idle).0
+  before = (clear_is_as_before p idle).0
 
   near : NearFewer old f
-  near = (clear_as_before p idle).1
+  near = (clear_is_as_before p idle).1
 
   abbrev is_there : ℕ → ℕ → Endpoint → Bool
   is_there n e x = (n == 32 * x.queue) && may_reach f rings e x
@@ -162,7 +162,7 @@ module _ (s : Standing) (w : World) (k : IsMixedAt s w) (row : driver_row (drive
 
   all : AllStand g nearer (met_streams s.streams nearer) s.ends s.parts s.order s.out
   all =
-      clear_stands (queued_parts p) s.near nearer s.streams s.ends s.parts s.order s.out false told_idle (queued_owners d owners k.turns) turns (λ n. refl)
+      clear_stands (queued_parts p) s.near nearer s.streams s.ends s.parts s.order s.out false told_idle (queued_has_owners d owners k.turns) turns (λ n. refl)
       (all_stand q s.near s.streams s.ends s.parts s.order s.out told_idle k.queues)
 
   sound : PartsStand g s.parts
@@ -185,7 +185,7 @@ module _ (s : Standing) (w : World) (k : IsMixedAt s w) (row : driver_row (drive
   its_step : QueueStep s w (driver_next w) after_it
   its_step =
       narrows narrower nearer (told_row s w k rows.ClearAdvance row tt) (λ n. refl)
-      (narrow_fewer (queued_parts p) false (queued_owners d owners k.turns) told_idle s.near k.queues.queues.met)
+      (narrow_fewer (queued_parts p) false (queued_has_owners d owners k.turns) told_idle s.near k.queues.queues.met)
 
   cleared_next : IsMixedNext s w (driver_next w)
   cleared_next =

@@ -34,7 +34,7 @@ use Rattle.law_world.proofs.lemmas.memory.lemmas.framed_memory.RingLinksWaiting.
 use Rattle.law_driver.specs.queued_drivers.Queued.{with_queue, queued_command, queued_made, queued, queued_parts}
 use Rattle.law_driver.proofs.lemmas.queued_drivers.CommandFields.{ring_queue}
 use Rattle.law_driver.proofs.lemmas.queued_drivers.RowLists.{queue_at}
-use Rattle.law_driver.proofs.lemmas.queued_drivers.RowOwners.{queued_owners}
+use Rattle.law_driver.proofs.lemmas.queued_drivers.RowOwners.{queued_has_owners}
 use Rattle.bus_world.specs.World.{World, driver_parts, controller_parts, driver_next}
 use Rattle.law_world.specs.memory.Mixed.{QueuesGoOn, IsUnderWay, Standing, IsMixedAt}
 use Rattle.law_world.specs.memory.Steps.{QueueStep, begins, IsMixedNext}
@@ -60,7 +60,7 @@ module _ (s : Standing) (w : World) (k : IsMixedAt s w) (r : IsOpenReady w.drive
   owners = k.now.framed.place.sound.owners
 
   told_owners : HasOwners q
-  told_owners = queued_owners d owners k.turns
+  told_owners = queued_has_owners d owners k.turns
 
   abbrev turns : AsynchronousTakesTurns q
   turns = k.turns.turns

@@ -31,7 +31,7 @@ use Rattle.law_driver_ring.specs.fed_queues.Places.{IsMet, HasHead, AreMet}
 use Rattle.law_queues.proofs.lemmas.mended_heads.Rows.{gives_back, given_owes_none}
 use Rattle.law_world.specs.steps.endpoint_releases.Released.{without_queue, IsToLeave, HasLeaver}
 use Rattle.law_world.proofs.lemmas.steps.lemmas.endpoint_releases.Owning.{queue_beside}
-use Rattle.law_world.proofs.lemmas.steps.lemmas.endpoint_releases.Releasing.{due_leaves}
+use Rattle.law_world.proofs.lemmas.steps.lemmas.endpoint_releases.Releasing.{due_is_to_leave}
 use Rattle.law_world.specs.steps.left_queues.Standing.{AllStand}
 use Rattle.law_world.proofs.lemmas.steps.lemmas.left_queues.Returned.{endpoint_release_stands}
 use Rattle.law_world.proofs.lemmas.steps.lemmas.left_queues.Unmet.{same_block, apart_by, IsCleared, cleared_is, near_other, cleared_unmet}
@@ -45,7 +45,7 @@ use Rattle.law_world.proofs.lemmas.memory.lemmas.framed_memory.LeavingReleased.{
 use Rattle.law_driver.specs.queued_drivers.Queued.{with_queue, queued, queued_parts}
 use Rattle.law_driver.proofs.lemmas.queued_drivers.RowEvents.{idle_told}
 use Rattle.law_driver.proofs.lemmas.queued_drivers.RowLists.{queue_at}
-use Rattle.law_driver.proofs.lemmas.queued_drivers.RowOwners.{queued_owners}
+use Rattle.law_driver.proofs.lemmas.queued_drivers.RowOwners.{queued_has_owners}
 use Rattle.bus_world.specs.World.{World, driver_parts, controller_parts, driver_next}
 use Rattle.law_world.specs.memory.Mixed.{QueuesGoOn, IsUnderWay, Standing, IsMixedAt}
 use Rattle.law_world.specs.memory.Steps.{left_the_ring, QueueStep, goes, IsMixedNext}
@@ -204,13 +204,13 @@ module _ (s : Standing) (w : World) (k : IsMixedAt s w) (e : ℕ) (row : driver_
   turns = k.turns.turns
 
   told_owners : HasOwners q
-  told_owners = queued_owners d owners k.turns
+  told_owners = queued_has_owners d owners k.turns
 
   due : IsEndpointDue p e
   due = due_is s w k (rows.ReleaseEndpoint e) row
 
   leaver : HasLeaver d e
-  leaver = due_leaves p e owners due
+  leaver = due_is_to_leave p e owners due
 
   abbrev x : Endpoint
   x = leaver.endpoint

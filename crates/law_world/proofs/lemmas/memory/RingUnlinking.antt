@@ -25,12 +25,12 @@ use Rattle.law_queues.specs.publish_laws.Stores.{QueuesThen, next_of}
 use Rattle.law_queues.specs.standing_fronts.Reaching.{Reaches}
 use Rattle.law_queues.specs.standing_fronts.Tails.{tail_of, TailsStand}
 use Rattle.law_world.specs.steps.unlinked_streams.Unlinks.{IsAtUnlink, IsUnlinked, parts_unlinked, hand_unlinked}
-use Rattle.law_world.proofs.lemmas.steps.lemmas.unlinked_streams.Passing.{row_is, unlink_row_is}
+use Rattle.law_world.proofs.lemmas.steps.lemmas.unlinked_streams.Passing.{row_is, unlink_row}
 use Rattle.law_world.proofs.lemmas.steps.lemmas.unlinked_streams.Queues.{unlink_leaves_queues}
 use Rattle.law_world.proofs.lemmas.steps.lemmas.unlinked_streams.Streams.{unlink_leaves_fronts}
 use Rattle.law_queues.specs.leaving_drivers.Before.{WasSame, IsAsBefore, NearSame}
 use Rattle.law_queues.proofs.lemmas.leaving_drivers.Alike.{met_before, near_fewer}
-use Rattle.law_queues.proofs.lemmas.leaving_drivers.Leaving.{unlink_as_before}
+use Rattle.law_queues.proofs.lemmas.leaving_drivers.Leaving.{unlink_is_as_before}
 use Rattle.law_world.proofs.lemmas.steps.lemmas.control_queues.Heads.{unlink_keeps_controls}
 use Rattle.law_descriptors.specs.queue_events.Events.{PartsStand}
 use Rattle.law_frames.specs.Met.{IsQueuePart}
@@ -84,7 +84,7 @@ module _ (s : Standing) (w : World) (k : IsMixedAt s w) (at : IsAtUnlink w.drive
   framed = unlink_now opening_base s.member s.recent s.descs s.parts s.hand s.frame (controller_parts w) d k.now at
 
   real : IsUnlinked p at.number at.endpoint at.before at.after
-  real = unlink_row_is p s.member s.parts at
+  real = unlink_row p s.member s.parts at
 
   -- ---- the queues tell the same store
 
@@ -150,14 +150,14 @@ module _ (s : Standing) (w : World) (k : IsMixedAt s w) (at : IsAtUnlink w.drive
 
   was : IsAsBefore q g × NearSame q g
   was = subst (λ (r : DriverRow). IsAsBefore q (after_driver_row r (queued_parts p)).driver × NearSame q (after_driver_row r (queued_parts p)).driver) (sym told_row)
-      (unlink_as_before (queued_parts p) at.number at.before (queue_head_link at.after) at.before (32 * at.before) (queue_head_link at.after) command)
+      (unlink_is_as_before (queued_parts p) at.number at.before (queue_head_link at.after) at.before (32 * at.before) (queue_head_link at.after) command)
 
   was_met : (e : ℕ) (y : Endpoint) (there : slice_get g.endpoints e ≡ Some y) → IsMet g e y → IsMet q e (was.0.ends e y there).endpoint
   was_met e y there met = met_before q g e y (was.0.ends e y there) there was.0 (near_fewer q g was.1) met
 
   done : g.command ≡ None
   unfolding told
-  done = (unlink_row_is (queued_parts p) s.near s.parts told).done
+  done = (unlink_row (queued_parts p) s.near s.parts told).done
 
   -- ---- queues
 

@@ -7,7 +7,7 @@ use Rattle.law_ring.specs.Hand.{Hand}
 use Rattle.law_ring.specs.Sparing.{SameHand, SparesHead, SparesElement}
 use Rattle.law_ring.specs.Stores.{hand_linked}
 use Rattle.law_ring.specs.Told.{Endpoint, HasEndpoint, SameTold}
-use Rattle.law_ring.proofs.SparedSparing.{linked_same, spared_told, spared_toggle}
+use Rattle.law_ring.proofs.SparedSparing.{linked_hand_is_same, spared_is_told, spared_has_toggle}
 use Rattle.law_frames.specs.FrameHand.{FrameHand, queue_hand, Nothing, OfQueue, OfSettled, OfItd, OfSitd}
 use Rattle.law_controller.proofs.lemmas.controlled_streams.Storing.{same_hand as hand_itself}
 use Rattle.law_controller.specs.frame_stores.Stores.{frame_linked}
@@ -19,7 +19,7 @@ use Rattle.law_world.specs.memory.StepLaws.{StaysTellsTheSame}
 
 hand_tells : (hand later : Hand) → HandStays hand later → SameHand hand later
 hand_tells hand _ same_hand = hand_itself hand
-hand_tells hand _ (linked_hand n l) = linked_same n l hand
+hand_tells hand _ (linked_hand n l) = linked_hand_is_same n l hand
 
 linked_queue : (n : ℕ) (l : LinkBits) (frame : FrameHand) → hand_linked n l (queue_hand frame) ≡ queue_hand (frame_linked n l frame)
 linked_queue n l Nothing = refl
@@ -30,7 +30,8 @@ linked_queue n l (OfSitd c) = refl
 
 frame_tells : (frame later : FrameHand) → FrameStays frame later → SameHand (queue_hand frame) (queue_hand later)
 frame_tells frame _ same_frame = hand_itself (queue_hand frame)
-frame_tells frame _ (linked_frame n l) = subst (SameHand (queue_hand frame)) (linked_queue n l frame) (linked_same n l (queue_hand frame))
+frame_tells frame _ (linked_frame n l) =
+    subst (SameHand (queue_hand frame)) (linked_queue n l frame) (linked_hand_is_same n l (queue_hand frame))
 
 -- ---- the structures
 
@@ -54,8 +55,8 @@ module _ (parts now : StructureSets) (same : (n : ℕ) → IsSameQueue n (parts 
 
   pub tells_same : (hand later : Hand) → SameHand hand later → SameTold hand parts later now
   tells_same hand later k = record {
-    bytes = λ n e xs told. spared_told hand later parts now n e xs k (spares_head n) (spares_element n e) told;
-    toggle = λ n b has. spared_toggle hand later parts now n b k (spares_head n) has;
+    bytes = λ n e xs told. spared_is_told hand later parts now n e xs k (spares_head n) (spares_element n e) told;
+    toggle = λ n b has. spared_has_toggle hand later parts now n b k (spares_head n) has;
     endpoint = named;
   }
 

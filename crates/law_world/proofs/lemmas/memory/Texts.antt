@@ -11,7 +11,7 @@ use Rattle.script_world.specs.Draft.{Draft, empty}
 use Rattle.script_text.specs.Reading.{script_after, text_read, script_read}
 use Rattle.script_text.specs.Faults.{Spells}
 use Rattle.law_scripts.specs.Numbers.{NumbersLine}
-use Rattle.law_scripts.proofs.Texts.{text_keeps, spelled_numbers}
+use Rattle.law_scripts.proofs.Texts.{text_keeps, a_text_numbers_what_it_opens}
 use Rattle.law_driver_ring.specs.walk_members.Reached.{OpensNumbered as OpensNamed}
 use Rattle.law_world.specs.memory.framed_memory.IsochronousLaws.{OpensNumbered}
 use Rattle.law_world.specs.memory.Scripts.{FitsLine, TextsFit}
@@ -56,4 +56,4 @@ lines_fit [] named below = tt
 lines_fit (x ∷ xs) named below = (line_fits x.1 named.0 below.0, lines_fit xs named.1 below.1)
 
 pub texts_fit : TextsFit
-texts_fit text s spelled = lines_fit s.lines (spelled_numbers text s spelled) (spelled_below text s spelled)
+texts_fit text s spelled = lines_fit s.lines (a_text_numbers_what_it_opens text s spelled) (spelled_below text s spelled)

@@ -6,7 +6,7 @@ use Rattle.script_types.specs.declared.scripts.Line.TheVariants as lines
 use Rattle.usb_base.specs.declared.commands.Cmd.{Cmd}
 use Rattle.usb_base.specs.declared.commands.Cmd.TheVariants as commands
 use Rattle.script_fits.proofs.Texts.{spelled_fits}
-use Rattle.law_scripts.proofs.lemmas.script_bytes.Texts.{spelled_bytes}
+use Rattle.law_scripts.proofs.lemmas.script_bytes.Texts.{a_text_spells_bytes}
 use Rattle.law_driver.specs.queued_drivers.Commands.{OpensFitting}
 use Rattle.law_world.specs.memory.framed_memory.IsochronousLaws.{OpensNumbered}
 use Rattle.law_world.specs.memory.Laws.{OpensMixed}
@@ -29,11 +29,11 @@ use Rattle.law_world.specs.memory.Mixed.{IsMixedWorld}
 stays : StaysMixed
 stays = record { opening = new_world_is_mixed; controller = controller_keeps_mixed; driver = driver_keeps_mixed; command = command_keeps_mixed }
 
-pub scripts_stay : ScriptsStayMixed
-scripts_stay = stay_mixed stays
+pub scripts_stay_mixed : ScriptsStayMixed
+scripts_stay_mixed = stay_mixed stays
 
-pub mixed_at_work : MixedIsAtWork
-mixed_at_work = mixed_works controller_keeps_mixed
+pub mixed_is_at_work : MixedIsAtWork
+mixed_is_at_work = mixed_works controller_keeps_mixed
 
 -- ---- what a text opens
 
@@ -51,7 +51,7 @@ lines_fit (x ∷ xs) numbers kinds = (line_fits x.1 numbers.0 kinds.0, lines_fit
 
 pub texts_stay_mixed : (text : List ℕ) (s : Script) → Spells text s → (k : ℕ) → IsMixedWorld (moment s k).world
 texts_stay_mixed text s spelled =
-    scripts_stay s (spelled_fits text s spelled) (spelled_bytes text s spelled) (lines_fit s.lines (texts_fit text s spelled) (texts_open_fitting text s spelled))
+    scripts_stay_mixed s (spelled_fits text s spelled) (a_text_spells_bytes text s spelled) (lines_fit s.lines (texts_fit text s spelled) (texts_open_fitting text s spelled))
 
 pub texts_keep_memory : TextsKeepMemory
 texts_keep_memory text s spelled = keeps_while_mixed controller_keeps_mixed s (texts_stay_mixed text s spelled)

@@ -11,7 +11,7 @@ use Rattle.claims_base.specs.Controller.{IsSameWhereLent}
 use Rattle.claims_world.specs.Lent.{KeepsToLent}
 use Rattle.claims_world.specs.Releases.{IsSameBut, LeavesBlock}
 use Rattle.law_world.specs.memory.Releases.{KeptToLentStaysUntouched, ScriptsLeaveWhatIsBack}
-use Rattle.law_world.proofs.lemmas.memory.lemmas.worlds_keep_to_lent.Moments.{script_keeps}
+use Rattle.law_world.proofs.lemmas.memory.lemmas.worlds_keep_to_lent.Moments.{each_moment_keeps_to_lent_blocks}
 
 module _ (w : World) (b : ℕ) (unlent : state_at w.memory b ≢ Some Lent) where
   same_where_lent : (m : Mem) → IsSameBut b w.memory m → IsSameWhereLent w.memory m
@@ -34,4 +34,4 @@ kept_to_lent_stays_untouched = λ s keeps k b i given past unlent.
     leaves_block (moment s i).world b (unlent i past (omega arith)) (fixed_of s) (keeps i)
 
 pub scripts_leave_what_is_back : ScriptsLeaveWhatIsBack
-scripts_leave_what_is_back = λ s fit. kept_to_lent_stays_untouched s (script_keeps s fit)
+scripts_leave_what_is_back = λ s fit. kept_to_lent_stays_untouched s (each_moment_keeps_to_lent_blocks s fit)

@@ -79,8 +79,8 @@ opening_taker s addr ep x is =
       ap (λ (z : Taker). z.expects) h.at.at.part.taker ∙ sym (ap turned_in role) ∙ turned_none t.old.desc.name.way t.old.desc.kind t.old,
     )
 
-pub opening_untaken : OpeningIsUntaken
-opening_untaken s outs ends addr ep on unopened = by_taker (taker_of (opening_wired s) addr ep) refl on
+pub opening_is_untaken : OpeningIsUntaken
+opening_is_untaken s outs ends addr ep on unopened = by_taker (taker_of (opening_wired s) addr ep) refl on
   where
     by_taker : (o : Option Taker) → taker_of (opening_wired s) addr ep ≡ o → is_some o ≡ true → IsUntaken (taker_of (opening_wired s) addr ep)
     by_taker None is some = absurd cc

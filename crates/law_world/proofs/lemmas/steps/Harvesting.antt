@@ -16,7 +16,7 @@ use Rattle.law_controller.specs.controlled_streams.Outs.{IsOutStream}
 use Rattle.law_controller.specs.controlled_streams.Storing.{with_out}
 use Rattle.law_controller.proofs.lemmas.controlled_streams.Streams.{out_here, out_beside}
 use Rattle.law_driver_ring.specs.told_harvests.Passed.{IsNoneTold, HarvestsFirst}
-use Rattle.law_driver_ring.proofs.lemmas.told_harvests.Passing.{first_harvested}
+use Rattle.law_driver_ring.proofs.lemmas.told_harvests.Passing.{harvest_takes_first}
 use Rattle.law_world.specs.steps.Harvests.{with_more, HarvestLeavesOuts}
 
 -- what is told of a qTD are the same bytes
@@ -36,7 +36,7 @@ pub first_out_harvested : (stream : ℕ → ℕ → Bool) (o : Option Taker) (me
     → parts n e ≡ Some (Element t) → t.token.active ≡ false → IsNoneTold hand parts n passed → Told hand parts n e bytes → IsOutStream stream o member order (passed ++ e ∷ rest) parts hand n x harvested
     → IsOutStream stream o member order (passed ++ rest) parts hand n x (harvested ++ bytes)
 first_out_harvested stream o member order e passed rest bytes parts hand n x harvested t here off none told k =
-    let f : HarvestsFirst order k.place e (passed ++ rest) hand parts n k.told = first_harvested order k.place e passed rest hand parts n k.told t here off none k.accounts in
+    let f : HarvestsFirst order k.place e (passed ++ rest) hand parts n k.told = harvest_takes_first order k.place e passed rest hand parts n k.told t here off none k.accounts in
     let is : f.bytes ≡ bytes = told_one hand parts n e f.bytes bytes f.told told in
     record {
       only = k.only;
@@ -47,8 +47,8 @@ first_out_harvested stream o member order e passed rest bytes parts hand n x har
           (ap (λ (xs : List ℕ). harvested ++ xs) (f.sum ∙ ap (λ (xs : List ℕ). xs ++ f.others) is) ∙ sym (append_assoc harvested bytes f.others)) k.pipe;
     }
 
-pub harvest_streams : {W : Type 0} (taker : W → ℕ → ℕ → Option Taker) → HarvestLeavesOuts taker
-harvest_streams taker stream member outs ends order out harvested parts hand wire n e passed rest bytes t out_is here off none told k = record {
+pub a_harvest_leaves_out_streams : {W : Type 0} (taker : W → ℕ → ℕ → Option Taker) → HarvestLeavesOuts taker
+a_harvest_leaves_out_streams taker stream member outs ends order out harvested parts hand wire n e passed rest bytes t out_is here off none told k = record {
   streams = λ m on.
       let was = k.streams m on in
       ⊎_elim

@@ -12,9 +12,9 @@ use Rattle.law_ring.specs.OutBus.{Taker}
 use Rattle.law_ring.specs.OutPipes.{IsOutPipe}
 use Rattle.law_ring.specs.OutPipeLaws.{IsBeside, IsOnlyEndpoint}
 use Rattle.law_controller.specs.controlled_streams.Outs.{IsOutStream, Begins}
-use Rattle.law_controller.proofs.lemmas.controlled_streams.Outs.{out_begins}
+use Rattle.law_controller.proofs.lemmas.controlled_streams.Outs.{known_begins_taken}
 use Rattle.law_ring.specs.Sparing.{SameHand, SparesHead, SparesElement}
-use Rattle.law_ring.proofs.SparedSparing.{spared_accounts}
+use Rattle.law_ring.proofs.SparedSparing.{accounts_are_spared}
 use Rattle.law_ring.specs.Effects.{buffer_of}
 use Rattle.law_controller.specs.controlled_streams.Reported.{IsReported}
 use Rattle.law_world.specs.steps.Outs.{IsAside, AreAside, HaveOutStreams}
@@ -105,7 +105,7 @@ pipes_are_streams taker stream member outs ends order out harvested acc parts ha
 pub harvested_taken : {W : Type 0} (taker : W → ℕ → ℕ → Option Taker) → HarvestedIsTaken taker
 harvested_taken taker stream member outs ends order out harvested parts hand wire n k on =
     let was = k.streams n on in
-    let b : Begins (taker wire (ends n).addr (ends n).ep) (harvested n ++ was.told) = out_begins (taker wire (ends n).addr (ends n).ep) (harvested n ++ was.told) parts hand n (ends n) was.pipe in
+    let b : Begins (taker wire (ends n).addr (ends n).ep) (harvested n ++ was.told) = known_begins_taken (taker wire (ends n).addr (ends n).ep) (harvested n ++ was.told) parts hand n (ends n) was.pipe in
     record { taker = b.taker; is = b.is; unheard = was.told ++ b.unheard; taken = b.taken ∙ append_assoc (harvested n) was.told b.unheard }
 
 -- ---- structures that stay
@@ -130,7 +130,7 @@ pub reported_stays : (order : ℕ → ℕ) (out : List ℕ) (hand later : Hand) 
 reported_stays order out hand later parts now k acc harvested hands same r = record {
   place = r.place;
   told = r.told;
-  accounts = spared_accounts order order r.place r.place out hand later parts now k r.told hands (heads_stay parts now k same) (λ e among. elements_stay parts now k e same)
+  accounts = accounts_are_spared order order r.place r.place out hand later parts now k r.told hands (heads_stay parts now k same) (λ e among. elements_stay parts now k e same)
       (subst (IsOrdered order r.place k) (sym same) r.accounts.ordered) r.accounts.sorted
       (λ a t among here from. r.accounts.published a t among (ap (λ (part : Structures). part a) (sym same) ∙ here) from)
       (λ a t here on. r.accounts.complete a t (ap (λ (part : Structures). part a) (sym same) ∙ here) on) r.accounts;

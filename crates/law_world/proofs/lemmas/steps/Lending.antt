@@ -11,7 +11,7 @@ use Rattle.law_ring.specs.Hand.{Hand}
 use Rattle.law_ring.specs.Told.{Endpoint}
 use Rattle.law_ring.specs.Order.{IsPlaced, IsFresh, IsOrdered, IsAmong, AllTold, none_out, one_out, Accounts}
 use Rattle.law_ring.specs.Sparing.{SparesHead, SparesElement}
-use Rattle.law_ring.proofs.SparedSparing.{spared_endpoint, all_spared, published_adds}
+use Rattle.law_ring.proofs.SparedSparing.{spared_endpoint, all_spared, published_adds_nothing}
 use Rattle.law_ring.specs.OutBus.{Taker}
 use Rattle.law_ring.specs.OutPipes.{IsOut, IsOutPipe}
 use Rattle.law_ring.specs.OutPipeLaws.{SendsNone}
@@ -130,7 +130,7 @@ module _ (parts now : StructureSets) (added : AreAdded parts now) where
         let p : IsNewPiece order_now place (now n) e = g.each e (are e (inl refl)) in
         subst (λ (zs : List ℕ). AllTold hand now n zs xs) (append_assoc front (e ∷ []) es)
         (told_more q head ordered (front ++ e ∷ []) es xs (λ a is. are a (inr is))
-        (published_adds order_now place front hand now n e q p.qtd xs ordered head p.here p.active p.from told))
+        (published_adds_nothing order_now place front hand now n e q p.qtd xs ordered head p.here p.active p.from told))
 
     accounts_now : (xs : List ℕ) → Accounts order place out hand parts n xs → Accounts order_now place (out ++ more) hand now n xs
     accounts_now xs k =

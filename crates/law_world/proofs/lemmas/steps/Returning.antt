@@ -12,7 +12,7 @@ use Rattle.law_ring.specs.OutPipes.{IsOutPipe}
 use Rattle.law_ring.specs.OutPipeLaws.{SendsNone}
 use Rattle.law_controller.specs.controlled_streams.Reported.{IsReported}
 use Rattle.law_controller.specs.controlled_streams.Returned.{staying_of, KeepsBuffers}
-use Rattle.law_controller.proofs.lemmas.controlled_streams.Returning.{spares_head, spares_element, reported_stay}
+use Rattle.law_controller.proofs.lemmas.controlled_streams.Returning.{spares_head, spares_element, reported_are_returned}
 use Rattle.law_world.specs.steps.Outs.{IsAside, AreAside}
 use Rattle.law_world.specs.steps.Spared.{SparesWork}
 use Rattle.law_world.specs.steps.Returns.{KeepsWork, ReturnLeavesOutPipes, ReturnLeavesOuts}
@@ -57,7 +57,7 @@ return_streams taker stream member outs ends order out harvested parts hand wire
     let known : List ℕ = harvested m ++ was.told in
     record {
       known = known;
-      reported = reported_stay (λ i. i == m) order out hand parts (λ i. known ∷ []) (λ i. harvested m) n goes off keep untold
+      reported = reported_are_returned (λ i. i == m) order out hand parts (λ i. known ∷ []) (λ i. harvested m) n goes off keep untold
           (at_one (λ (i : ℕ). IsReported (order i) (out i) hand parts i (known ∷ []) (harvested m)) m (reported_in stream o member (order m) (out m) parts hand m (ends m) (harvested m) was)) m (one_here m);
       pipe = pipe_kept parts n goes off keep works m (ends m) o known hand was.pipe;
     })

@@ -29,12 +29,12 @@ use Rattle.law_ring.specs.OutBus.{Taker, IsOutAsk, IsOutBus, KeepsTakers}
 use Rattle.law_ring.specs.OutPipes.{IsOutPipe}
 use Rattle.law_ring.specs.OutPipeLaws.{SendsNone}
 use Rattle.law_ring.proofs.Stopping.{out_only}
-use Rattle.law_ring.proofs.Assembling.{event_keeps}
+use Rattle.law_ring.proofs.Assembling.{each_event_keeps_an_out_pipe}
 use Rattle.law_controller.proofs.lemmas.controlled_streams.Outs.{event_keeps_stream}
 use Rattle.law_controller.specs.controlled_streams.Unopened.{IsUnopened}
 use Rattle.law_devices.specs.scripted_takers.Takers.{taker_of}
-use Rattle.law_devices.proofs.lemmas.scripted_takers.Asking.{scripted_out_bus}
-use Rattle.law_devices.proofs.lemmas.scripted_takers.Beginning.{scripted_out_begins}
+use Rattle.law_devices.proofs.lemmas.scripted_takers.Asking.{a_scripted_bus_takes_its_streams}
+use Rattle.law_devices.proofs.lemmas.scripted_takers.Beginning.{a_microframe_keeps_its_takers}
 use Rattle.bus_world.specs.World.{controller_parts, controller_next}
 use Rattle.law_world.specs.steps.Streaming.{begins_by, transacts_by, wired}
 use Rattle.law_world.specs.steps.Outs.{IsAside, AreAside, AreOutPiped, IsUntaken}
@@ -93,7 +93,7 @@ module _ {W : Type 0} (begins : W → ℕ → Bool → W → Type 0) (transacts 
       (subst (λ (ps : StructureSets). IsOutPipe (taker after (ends n).addr (ends n).ep) (known n ++ []) ps hand n (ends n)) (sym b.parts_stay)
       (subst (λ (xs : List ℕ). IsOutPipe (taker after (ends n).addr (ends n).ep) xs parts hand n (ends n)) (sym (append-nil (known n))) (begun_pipe n on b)))
   pipe_by n on (a_step w) =
-      event_keeps transacts stream taker member parts hand (walk_place c).walk.reply wire after now later w.kind n (ends n) (known n) bus controlled.ring.members controlled_now.ring.members controlled.ring.in_hand w.effect w.streams
+      each_event_keeps_an_out_pipe transacts stream taker member parts hand (walk_place c).walk.reply wire after now later w.kind n (ends n) (known n) bus controlled.ring.members controlled_now.ring.members controlled.ring.in_hand w.effect w.streams
       (only_at stream member outs ends parts e (λ i also. (k.pipes i also).named) k.others n on) (k.pipes n on)
 
 pub event_pipes : {W : Type 0} (begins : W → ℕ → Bool → W → Type 0) (transacts : W → Ask → List ℕ → Reply → W → Type 0) → EventLeavesOutPipes begins transacts
@@ -167,20 +167,20 @@ untaken_wait begins transacts stream taker base member outs ends parts hand c wi
 
 -- ---- in a world
 
-pub world_pipes : WorldLeavesOutPipes
-world_pipes fixed base stream member outs ends known parts hand w controlled e ends_are k untaken =
+pub world_leaves_out_pipes : WorldLeavesOutPipes
+world_leaves_out_pipes fixed base stream member outs ends known parts hand w controlled e ends_are k untaken =
     let new = controller_next fixed w in (
       event_pipes begins_by transacts_by stream taker_of base member outs ends known parts hand (controller_parts w) (controller_parts new) (wired fixed w) (wired fixed new) e.now e.later
-          (scripted_out_bus stream) (scripted_out_begins stream) controlled e.controlled ends_are e.effect k,
-      untaken_wait begins_by transacts_by stream taker_of base member outs ends parts hand (controller_parts w) (wired fixed w) (wired fixed new) e.now e.later (scripted_out_bus stream) (scripted_out_begins stream) controlled
+          (a_scripted_bus_takes_its_streams stream) (a_microframe_keeps_its_takers stream) controlled e.controlled ends_are e.effect k,
+      untaken_wait begins_by transacts_by stream taker_of base member outs ends parts hand (controller_parts w) (wired fixed w) (wired fixed new) e.now e.later (a_scripted_bus_takes_its_streams stream) (a_microframe_keeps_its_takers stream) controlled
           (λ n on. (k.pipes n on).named) k.others e.effect untaken,
     )
 
-pub world_streams : WorldLeavesOuts
-world_streams fixed base stream member outs ends order out harvested parts hand w controlled e k untaken =
+pub world_leaves_outs : WorldLeavesOuts
+world_leaves_outs fixed base stream member outs ends order out harvested parts hand w controlled e k untaken =
     let new = controller_next fixed w in (
       event_streams begins_by transacts_by stream taker_of base member outs ends order out harvested parts hand (controller_parts w) (controller_parts new) (wired fixed w) (wired fixed new) e.now e.later
-          (scripted_out_bus stream) (scripted_out_begins stream) controlled e.controlled e.effect k,
-      untaken_wait begins_by transacts_by stream taker_of base member outs ends parts hand (controller_parts w) (wired fixed w) (wired fixed new) e.now e.later (scripted_out_bus stream) (scripted_out_begins stream) controlled
+          (a_scripted_bus_takes_its_streams stream) (a_microframe_keeps_its_takers stream) controlled e.controlled e.effect k,
+      untaken_wait begins_by transacts_by stream taker_of base member outs ends parts hand (controller_parts w) (wired fixed w) (wired fixed new) e.now e.later (a_scripted_bus_takes_its_streams stream) (a_microframe_keeps_its_takers stream) controlled
           (λ n on. (k.streams n on).pipe.named) k.others e.effect untaken,
     )

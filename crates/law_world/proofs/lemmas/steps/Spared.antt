@@ -8,13 +8,13 @@ use Rattle.law_ring.specs.Told.{Endpoint}
 use Rattle.law_ring.specs.Sparing.{SameHand}
 use Rattle.law_ring.specs.OutBus.{Taker}
 use Rattle.law_ring.specs.OutPipes.{IsOut, IsUnmoved, IsOutPipe}
-use Rattle.law_controller.proofs.lemmas.controlled_streams.Outs.{out_spared}
+use Rattle.law_controller.proofs.lemmas.controlled_streams.Outs.{out_is_spared}
 use Rattle.law_world.specs.steps.Outs.{GoesAs}
 use Rattle.law_world.specs.steps.Spared.{SparesWork, OutPipesAreSpared}
 use Rattle.law_world.proofs.lemmas.steps.Joining.{heads_stay, elements_stay}
 
 pub spared_pipe : (hand later : Hand) (parts now : StructureSets) (n : ℕ) (x : Endpoint) (o : Option Taker) (known : List ℕ) → SameHand hand later → (IsUnmoved hand n → IsUnmoved later n) → SparesWork parts now n → IsOut (now n) → IsOutPipe o known parts hand n x → IsOutPipe o known now later n x
-spared_pipe hand later parts now n x o known hands un works outs pipe = out_spared hand later parts now n x o known hands un works.head works.work outs pipe
+spared_pipe hand later parts now n x o known hands un works outs pipe = out_is_spared hand later parts now n x o known hands un works.head works.work outs pipe
 
 pub work_stays : (parts now : StructureSets) (n : ℕ) → now n ≡ parts n → SparesWork parts now n
 work_stays parts now n same = record { head = heads_stay parts now n same; work = λ q here on. elements_stay parts now n q.current same }
@@ -22,13 +22,14 @@ work_stays parts now n same = record { head = heads_stay parts now n same; work 
 pub pipe_stays : (hand later : Hand) (parts now : StructureSets) (n : ℕ) (x : Endpoint) (o : Option Taker) (known : List ℕ) → SameHand hand later → (IsUnmoved hand n → IsUnmoved later n) → now n ≡ parts n → IsOutPipe o known parts hand n x → IsOutPipe o known now later n x
 pipe_stays hand later parts now n x o known hands un same pipe = spared_pipe hand later parts now n x o known hands un (work_stays parts now n same) (subst IsOut (sym same) pipe.outs) pipe
 
-pub out_pipes_spared : {W : Type 0} (taker : W → ℕ → ℕ → Option Taker) → OutPipesAreSpared taker
-out_pipes_spared taker stream member wider outs ends ends_now known hand later parts now wire hands un works goes same others k = record {
-  pipes = λ n on.
-      subst (λ (x : Endpoint). IsOutPipe (taker wire x.addr x.ep) (known n) now later n x) (sym (same n on))
-      (spared_pipe hand later parts now n (ends n) (taker wire (ends n).addr (ends n).ep) (known n) hands (un n on) (works n on) (goes n on) (k.pipes n on));
-  others = others;
-}
+pub spared_out_pipes_agree : {W : Type 0} (taker : W → ℕ → ℕ → Option Taker) → OutPipesAreSpared taker
+spared_out_pipes_agree taker stream member wider outs ends ends_now known hand later parts now wire hands un works goes same others k =
+    record {
+      pipes = λ n on.
+          subst (λ (x : Endpoint). IsOutPipe (taker wire x.addr x.ep) (known n) now later n x) (sym (same n on))
+          (spared_pipe hand later parts now n (ends n) (taker wire (ends n).addr (ends n).ep) (known n) hands (un n on) (works n on) (goes n on) (k.pipes n on));
+      others = others;
+    }
 
 -- ---- the way of a qTD
 

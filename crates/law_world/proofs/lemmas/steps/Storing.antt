@@ -20,7 +20,7 @@ use Rattle.law_ring.specs.OutPipeLaws.{SendsNone}
 use Rattle.law_controller.specs.controlled_streams.Reported.{IsReported}
 use Rattle.law_controller.specs.controlled_streams.Storing.{IsStore, out_with, with_out, stored_parts}
 use Rattle.law_controller.proofs.lemmas.controlled_streams.Storing.{element_found, spares_head, spares_element}
-use Rattle.law_controller.proofs.lemmas.controlled_streams.Streams.{idle_reports, last_reports, out_beside}
+use Rattle.law_controller.proofs.lemmas.controlled_streams.Streams.{idle_store_leaves_reports, last_store_leaves_reports, out_beside}
 use Rattle.law_world.specs.steps.Outs.{IsAside, AreAside, HaveOutStreams, GoesAs}
 use Rattle.law_world.specs.steps.Spared.{SparesWork}
 use Rattle.law_world.specs.steps.Stores.{StoreLeavesOutPipes, IdleStoreLeavesOuts, LastStoreLeavesOuts, OtherStoreLeavesOuts}
@@ -87,7 +87,7 @@ idle_store taker stream member outs ends order out harvested parts hand wire n e
     let known : List ℕ = harvested m ++ was.told in
     record {
       known = known;
-      reported = idle_reports (λ i. i == m) order out hand parts (λ i. known ∷ []) (λ i. harvested m) n e old new s idle
+      reported = idle_store_leaves_reports (λ i. i == m) order out hand parts (λ i. known ∷ []) (λ i. harvested m) n e old new s idle
           (at_one (λ (i : ℕ). IsReported (order i) (out i) hand parts i (known ∷ []) (harvested m)) m (reported_in stream o member (order m) (out m) parts hand m (ends m) (harvested m) was)) m (one_here m);
       pipe = pipe_after parts n e old new s.here s.idle member outs m (ends m) o known hand (members m (ends_are.members m on)) on goes was.pipe;
     })
@@ -123,7 +123,7 @@ last_here taker stream member outs ends order out harvested parts hand wire n e 
     let known : List ℕ = harvested m ++ was.told in
     record {
       known = known;
-      reported = last_reports (λ i. i == m) order out hand parts (λ i. known ∷ []) (λ i. harvested m) n e old new s active fresh (member_part member n (parts n) (members n (ends_are.members n one)))
+      reported = last_store_leaves_reports (λ i. i == m) order out hand parts (λ i. known ∷ []) (λ i. harvested m) n e old new s active fresh (member_part member n (parts n) (members n (ends_are.members n one)))
           (at_one (λ (i : ℕ). IsReported (order i) (out i) hand parts i (known ∷ []) (harvested m)) m (reported_in stream o member (order m) (out m) parts hand m (ends m) (harvested m) was)) m (one_here m);
       pipe = pipe_after parts n e old new s.here s.idle member outs m (ends m) o known hand (members m (ends_are.members m on)) on (λ a. way) was.pipe;
     })

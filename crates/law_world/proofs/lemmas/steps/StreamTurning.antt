@@ -18,11 +18,11 @@ use Rattle.bus_wire.specs.Bus.{Bus, Wired, Fixed}
 use Rattle.claims_base.specs.Controller.{Base}
 use Rattle.law_ring.specs.Pipes.{grown}
 use Rattle.law_controller.specs.controlled_streams.Events.{ControlGoesOn}
-use Rattle.law_controller.proofs.lemmas.controlled_streams.Piping.{control_pipes}
+use Rattle.law_controller.proofs.lemmas.controlled_streams.Piping.{an_event_keeps_the_pipes}
 use Rattle.law_devices.specs.Senders.{sender_of}
-use Rattle.law_devices.proofs.Asking.{scripted_bus}
-use Rattle.law_devices.proofs.Beginning.{scripted_begins}
-use Rattle.law_controller.proofs.lemmas.controlled_streams.Reporting.{event_reported, reported_begins}
+use Rattle.law_devices.proofs.Asking.{a_scripted_bus_sends_its_streams}
+use Rattle.law_devices.proofs.Beginning.{a_microframe_keeps_its_senders}
+use Rattle.law_controller.proofs.lemmas.controlled_streams.Reporting.{an_event_leaves_the_report_right, reported_begins}
 use Rattle.bus_world.specs.World.{World, frame_by, sent_by, sends_by, walk_by, turned_by, controller_parts, controller_row, controller_next}
 use Rattle.law_world.specs.steps.Streaming.{begins_by, transacts_by, wired, Streams, Standing, IsStreaming, HearsBytesNow, StaysStreaming}
 
@@ -62,12 +62,13 @@ world_has_row fixed w = turned_has_row fixed (controller_row w) (controller_part
 
 -- ---- the streams
 
-pub controller_streams : (fixed : Fixed) (base : Base) (member : ℕ → Bool) (x : Streams) (s : Standing) (w : World) → HearsBytesNow fixed w → IsStreaming fixed base member x s w → StaysStreaming fixed base member x s (controller_next fixed w)
-controller_streams fixed base member x s w heard k =
+pub the_controller_leaves_the_streams : (fixed : Fixed) (base : Base) (member : ℕ → Bool) (x : Streams) (s : Standing) (w : World) → HearsBytesNow fixed w → IsStreaming fixed base member x s w → StaysStreaming fixed base member x s (controller_next fixed w)
+the_controller_leaves_the_streams fixed base member x s w heard k =
     let new : World = controller_next fixed w in
     let g : ControlGoesOn begins_by transacts_by x.stream x.packets sender_of base member x.streams x.endpoint s.acc s.parts s.hand (wired fixed w) (wired fixed new) (controller_parts new) =
-    control_pipes begins_by transacts_by x.stream x.packets sender_of base member x.streams x.endpoint s.acc s.parts s.hand (controller_parts w) (wired fixed w) (controller_parts new) (wired fixed new)
-    k.ends (scripted_bus x.stream) (scripted_begins x.stream) k.controlled k.on k.piped (heard (wired fixed new)) (world_has_row fixed w) in
+    an_event_keeps_the_pipes begins_by transacts_by x.stream x.packets sender_of base member x.streams x.endpoint s.acc s.parts s.hand (controller_parts w) (wired fixed w) (controller_parts new) (wired fixed new)
+    k.ends (a_scripted_bus_sends_its_streams x.stream) (a_microframe_keeps_its_senders x.stream) k.controlled k.on k.piped
+    (heard (wired fixed new)) (world_has_row fixed w) in
     record {
       parts = g.event.now;
       hand = g.event.later;
@@ -77,7 +78,7 @@ controller_streams fixed base member x s w heard k =
         ends = k.ends;
         controlled = g.event.controlled;
         piped = g.piped;
-        right = event_reported begins_by transacts_by x.stream x.packets sender_of base member x.streams x.endpoint s.acc s.parts s.hand (controller_parts w) (wired fixed w) (wired fixed new) (controller_parts new) s.order s.out s.reported k.controlled g k.right;
+        right = an_event_leaves_the_report_right begins_by transacts_by x.stream x.packets sender_of base member x.streams x.endpoint s.acc s.parts s.hand (controller_parts w) (wired fixed w) (wired fixed new) (controller_parts new) s.order s.out s.reported k.controlled g k.right;
       };
     }
 

@@ -18,10 +18,10 @@ use Rattle.law_queues.proofs.lemmas.fed_lends.Accepting.{asked_is_to_be_lent, re
 use Rattle.law_queues.proofs.lemmas.fed_lends.Asked.{dummy_in, notes_in}
 use Rattle.law_queues.specs.standing_fronts.Reaching.{Reaches}
 use Rattle.law_queues.specs.harvest_laws.Told.{ToldStands}
-use Rattle.law_queues.proofs.lemmas.harvest_laws.Commanding.{asked_told, requested_told}
-use Rattle.law_queues.proofs.lemmas.open_names.Apart.{accepted_apart}
-use Rattle.law_queues.proofs.lemmas.commanded_queues.Tails.{asked_reaches}
-use Rattle.law_queues.proofs.lemmas.commanded_queues.Extending.{asked_extents}
+use Rattle.law_queues.proofs.lemmas.harvest_laws.Commanding.{asked_is_told, requested_is_told}
+use Rattle.law_queues.proofs.lemmas.open_names.Apart.{accepted_names_are_apart}
+use Rattle.law_queues.proofs.lemmas.commanded_queues.Tails.{reaches_asked}
+use Rattle.law_queues.proofs.lemmas.commanded_queues.Extending.{extents_asked}
 use Rattle.bus_world.specs.World.{World, commanded_by}
 use Rattle.law_world.specs.steps.Streaming.{Streams, Standing}
 use Rattle.law_world.specs.streams.Feeding.{AreControlsApart, IsFeeding}
@@ -78,15 +78,15 @@ module _ (fixed : Fixed) (takes : ℕ → ℕ → Bool) (member : ℕ → Bool) 
       record {
         feeding = feeding;
         under_way = to_be_lent ready;
-        names = accepted_apart d w.memory o (inr why) k.names;
+        names = accepted_names_are_apart d w.memory o (inr why) k.names;
         senders = sides true x.stream;
         takers = sides false takes;
         controls_apart = apart;
         taking = record { ends = k.taking.ends; piped = k.taking.piped; untaken = k.taking.untaken };
-        runs = asked_extents d w.memory o s.parts why sound.stands sound.owners feeding.working.driven k.runs;
+        runs = extents_asked d w.memory o s.parts why sound.stands sound.owners feeding.working.driven k.runs;
         tails = λ e z here met.
             subst (λ (c : ℕ). Reaches o.driver (s.parts (32 * z.queue)) (s.order (32 * z.queue)) (s.out (32 * z.queue)) e z c) (sym (tail_is e z))
-            (asked_reaches d w.memory o s.parts s.order s.out why sound.stands sound.owners place.lent k.feeding.turns.asynchronous (idle_ends d s.parts s.order s.out why.idle k.tails) e z here met);
+            (reaches_asked d w.memory o s.parts s.order s.out why sound.stands sound.owners place.lent k.feeding.turns.asynchronous (idle_ends d s.parts s.order s.out why.idle k.tails) e z here met);
         told = told;
         bytes = k.bytes;
         left = left;
@@ -100,7 +100,7 @@ asked_whole fixed takes member x s w line name o asked apart feeding left k =
     let sound = place.sound in
     let turns = k.feeding.turns in
     transfer_whole fixed takes member x s w o k asked.transfers line name (asked_is_to_be_lent w.driver w.memory o asked sound.owners place.lent sound.stands sound.shape)
-    (asked_told w.driver w.memory o s.hand s.parts s.reported asked sound.stands sound.owners (there_now w.driver turns) turns.turns.places k.told) apart feeding left
+    (asked_is_told w.driver w.memory o s.hand s.parts s.reported asked sound.stands sound.owners (there_now w.driver turns) turns.turns.places k.told) apart feeding left
 
 pub requested_whole : (fixed : Fixed) (takes : ℕ → ℕ → Bool) (member : ℕ → Bool) (x : Streams) (s : Standing) (w : World) (line : ℕ) (name : EpName) (o : Offered) → IsRequested w.driver w.memory o
     → AreControlsApart o.driver takes → IsFeeding fixed member x s (commanded_by w line name (Ok o)) → IsLeft fixed takes x.packets s.acc (commanded_by w line name (Ok o))
@@ -110,4 +110,4 @@ requested_whole fixed takes member x s w line name o requested apart feeding lef
     let sound = place.sound in
     let turns = k.feeding.turns in
     transfer_whole fixed takes member x s w o k requested.transfers line name (requested_is_to_be_lent w.driver w.memory o requested sound.owners place.lent sound.stands sound.shape)
-    (requested_told w.driver w.memory o s.hand s.parts s.reported requested sound.stands sound.owners (there_now w.driver turns) turns.turns.places k.told) apart feeding left
+    (requested_is_told w.driver w.memory o s.hand s.parts s.reported requested sound.stands sound.owners (there_now w.driver turns) turns.turns.places k.told) apart feeding left

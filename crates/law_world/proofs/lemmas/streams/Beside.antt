@@ -5,15 +5,15 @@ use Rattle.claims_driver.specs.Owners.{views_of}
 use Rattle.law_controller.specs.controlled_streams.Control.{IsControlled, ControlEffect}
 use Rattle.claims_base.specs.Controller.{opening_base}
 use Rattle.law_controller.specs.controller_writes.Leaving.{LeavesRest}
-use Rattle.law_controller.proofs.lemmas.controller_writes.Controlling.{event_leaves}
+use Rattle.law_controller.proofs.lemmas.controller_writes.Controlling.{each_event_leaves_the_rest}
 use Rattle.law_controller.proofs.lemmas.controlled_streams.Events.{control_keeps}
-use Rattle.law_queues.proofs.lemmas.open_laws.LendWaiting.{lent_stays}
+use Rattle.law_queues.proofs.lemmas.open_laws.LendWaiting.{open_lent_stays}
 use Rattle.law_queues.proofs.lemmas.harvest_laws.Standing.{beside_told}
 use Rattle.bus_world.specs.World.{World, controller_parts, controller_next}
 use Rattle.law_world.specs.steps.Streaming.{begins_by, transacts_by, wired, Streams, Standing, HearsBytesNow}
 use Rattle.law_world.proofs.lemmas.steps.StreamTurning.{world_has_row}
 use Rattle.law_world.proofs.lemmas.steps.lemmas.world_bytes.Turning.{controller_bytes}
-use Rattle.law_world.proofs.lemmas.steps.lemmas.world_bytes.Hearing.{hears_bytes}
+use Rattle.law_world.proofs.lemmas.steps.lemmas.world_bytes.Hearing.{a_bus_of_bytes_is_heard_as_bytes}
 use Rattle.law_world.specs.streams.Feeding.{IsFeeding, GoesOnBeside, bytes_of_event, acc_after}
 use Rattle.law_world.proofs.lemmas.streams.FeedingBeside.{controller_feeds}
 use Rattle.law_world.specs.streams.Whole.{IsWhole}
@@ -32,10 +32,10 @@ module _ (fixed : Fixed) (takes : ℕ → ℕ → Bool) (member : ℕ → Bool) 
   new = controller_next fixed w
 
   abbrev heard : HearsBytesNow fixed w
-  heard = hears_bytes fixed w k.bytes
+  heard = a_bus_of_bytes_is_heard_as_bytes fixed w k.bytes
 
   abbrev pub beside : GoesOnBeside fixed member x s w
-  beside = controller_feeds fixed member x s w (hears_bytes fixed w k.bytes) k.tails k.feeding
+  beside = controller_feeds fixed member x s w (a_bus_of_bytes_is_heard_as_bytes fixed w k.bytes) k.tails k.feeding
 
   abbrev pub effect : ControlEffect begins_by transacts_by s.parts s.hand (wired fixed w) (wired fixed (controller_next fixed w)) beside.event.event.now beside.event.event.later
   effect = beside.event.event.effect
@@ -52,12 +52,12 @@ module _ (fixed : Fixed) (takes : ℕ → ℕ → Bool) (member : ℕ → Bool) 
       let now = beside.event.event.now in
       let later = beside.event.event.later in
       let leaves : LeavesRest s.parts w.memory new.memory =
-      event_leaves begins_by transacts_by base member s.parts s.hand (controller_parts w) (wired fixed w) (controller_parts new) (wired fixed new) controlled f.working.streaming.on (heard (wired fixed new)) (world_has_row fixed w) in
+      each_event_leaves_the_rest begins_by transacts_by base member s.parts s.hand (controller_parts w) (wired fixed w) (controller_parts new) (wired fixed new) controlled f.working.streaming.on (heard (wired fixed new)) (world_has_row fixed w) in
       let keeps = control_keeps begins_by transacts_by base member s.parts s.hand (controller_parts w) (wired fixed w) (wired fixed new) now later controlled effect in
       record {
         feeding = beside.feeding;
         under_way = under_way_stays w.driver w.memory new.memory member s.parts now w.driver.command sound.owners sound.stands leaves.lent.words
-            (λ is. lent_stays begins_by transacts_by base member s.parts s.hand (controller_parts w) (wired fixed w) (wired fixed new) now later w.driver controlled effect is) k.under_way;
+            (λ is. open_lent_stays begins_by transacts_by base member s.parts s.hand (controller_parts w) (wired fixed w) (wired fixed new) now later w.driver controlled effect is) k.under_way;
         names = k.names;
         senders = k.senders;
         takers = k.takers;
@@ -71,5 +71,5 @@ module _ (fixed : Fixed) (takes : ℕ → ℕ → Bool) (member : ℕ → Bool) 
         left = controller_keeps_left fixed takes member x s w heard f k.taking beside k.left;
       }
 
-pub controller_whole : ControllerKeepsWhole
-controller_whole fixed takes member x s w k = whole_of fixed takes member x (after_event fixed takes member x s w k) (controller_next fixed w) (whole_beside fixed takes member x s w k)
+pub controller_keeps_whole : ControllerKeepsWhole
+controller_keeps_whole fixed takes member x s w k = whole_of fixed takes member x (after_event fixed takes member x s w k) (controller_next fixed w) (whole_beside fixed takes member x s w k)

@@ -20,15 +20,15 @@ use Rattle.law_driver_ring.specs.Driven.{DrivesRing}
 use Rattle.law_driver_ring.proofs.Commanding.{cancel_drives}
 use Rattle.law_controller.specs.controlled_streams.Control.{IsFrameless, off, empty}
 use Rattle.law_driver.specs.in_place.InPlace.{IsInPlace}
-use Rattle.law_driver.proofs.lemmas.in_place.Laws.{command_in_place}
+use Rattle.law_driver.proofs.lemmas.in_place.Laws.{commands_keep_all_in_place}
 use Rattle.law_world.proofs.lemmas.steps.lemmas.worlds_in_place.Refused.{refused_in_place}
 use Rattle.bus_world.specs.World.{World, controller_parts, refused_line, commanded_by}
 use Rattle.law_world.specs.steps.Streaming.{Streams, Standing}
 use Rattle.law_world.specs.streams.shared_worlds.Working.{IsWorking}
 use Rattle.claims_driver.specs.Scripts.{comes_in, OpensAsynchronous}
 use Rattle.law_driver.specs.chained_transfers.AsynchronousTurns.{AsynchronousTakesTurns}
-use Rattle.law_driver.proofs.lemmas.chained_transfers.Accepting.{command_accepts}
-use Rattle.law_driver.proofs.lemmas.chained_transfers.Commands.{command_takes_turns}
+use Rattle.law_driver.proofs.lemmas.chained_transfers.Accepting.{asynchronous_command_is_accepted}
+use Rattle.law_driver.proofs.lemmas.chained_transfers.Commands.{commands_keep_asynchronous_turns}
 use Rattle.claims_report.specs.Streams.{has_stream}
 use Rattle.law_queues.specs.fed_lends.Commands.{QueuesStand}
 use Rattle.async_walk.specs.Rows.{place}
@@ -39,7 +39,7 @@ use Rattle.law_driver_ring.specs.fed_queues.Places.{HasHead, AreMet, HaveStreams
 use Rattle.law_driver_ring.proofs.lemmas.fed_queues.Places.{SameQueues, same_ends, met_stays, streams_stay}
 use Rattle.law_queues.specs.leaving_drivers.Before.{IsAsBefore, NearSame, UnlinksAtMost, WasSame}
 use Rattle.law_queues.proofs.lemmas.leaving_drivers.Alike.{near_fewer, met_before, head_now}
-use Rattle.law_queues.proofs.lemmas.leaving_drivers.Leaving.{cancel_as_before}
+use Rattle.law_queues.proofs.lemmas.leaving_drivers.Leaving.{cancel_is_as_before}
 use Rattle.law_world.proofs.lemmas.steps.lemmas.left_queues.Same.{fed_now, last_now, still_out_now}
 use Rattle.law_world.specs.streams.Feeding.{there_of, IsFeeding}
 use Rattle.law_world.proofs.lemmas.steps.lemmas.control_queues.Beside.{same_keep_controls, commands_keep_controls}
@@ -208,10 +208,10 @@ pub cancelled_feeds : (fixed : Fixed) (member : ℕ → Bool) (x : Streams) (s :
     → OpensAsynchronous cmd → OpensApart x.stream w cmd → IsFeeding fixed member x s w → offered w.driver w.memory cmd ≡ Ok o → Cancels w.driver w.memory o → IsFeeding fixed member x s (commanded_by w line name (Ok o))
 cancelled_feeds fixed member x s w line name cmd o in_place only apart f is why =
     let k = f.working in
-    let b = cancel_as_before w.driver w.memory o f.turns why in
+    let b = cancel_is_as_before w.driver w.memory o f.turns why in
     record {
       working = accepted_working fixed member x s w line name o k in_place (cancel_drives opening_base member s.parts s.hand w.control.walk w.registers w.memory w.driver o why (drives_now fixed member x s w k));
-      turns = command_takes_turns w.driver w.memory cmd o k.place.sound.stands k.place.sound.owners f.turns only is;
+      turns = commands_keep_asynchronous_turns w.driver w.memory cmd o k.place.sound.stands k.place.sound.owners f.turns only is;
       queues = queues_now w.driver o.driver member x.streams x.endpoint s.parts s.order s.out b.0 b.1 f.queues;
       counted = λ n on. f.counted n (there_was w.driver o.driver n b.0 on);
       controls = commands_keep_controls w.driver w.memory cmd o s.parts s.order s.out f.turns.asynchronous only is f.controls;
@@ -222,8 +222,9 @@ cancelled_feeds fixed member x s w line name cmd o in_place only apart f is why 
 cancel_by : (fixed : Fixed) (member : ℕ → Bool) (x : Streams) (s : Standing) (w : World) (line : ℕ) (name : EpName) (r : Result Offered OfferError) → IsOffered w.driver.room (commands.Cancel name) → IsFeeding fixed member x s w
     → offered w.driver w.memory (commands.Cancel name) ≡ r → IsFeeding fixed member x s (commanded_by w line name r)
 cancel_by fixed member x s w line name (Ok o) room f is =
-    let why : Cancels w.driver w.memory o = command_accepts w.driver w.memory (commands.Cancel name) o f.turns.asynchronous tt is in
-    cancelled_feeds fixed member x s w line name (commands.Cancel name) o (command_in_place w.driver w.memory (commands.Cancel name) o room f.working.place is) tt (λ p accepted. tt) f is why
+    let why : Cancels w.driver w.memory o =
+    asynchronous_command_is_accepted w.driver w.memory (commands.Cancel name) o f.turns.asynchronous tt is in
+    cancelled_feeds fixed member x s w line name (commands.Cancel name) o (commands_keep_all_in_place w.driver w.memory (commands.Cancel name) o room f.working.place is) tt (λ p accepted. tt) f is why
 cancel_by fixed member x s w line name (Err why) room f is = refused_feeds fixed member x s w line name why f
 
 pub cancel_feeds : CancelFeeds

@@ -14,18 +14,18 @@ use Rattle.law_devices.specs.Senders.{sender_of}
 use Rattle.law_devices.specs.scripted_takers.Takers.{taker_of}
 use Rattle.law_ring.specs.Told.{Endpoint as Told}
 use Rattle.law_ring.specs.OutBus.{Taker}
-use Rattle.law_ring.proofs.PipeAgreeing.{taken_begins}
+use Rattle.law_ring.proofs.PipeAgreeing.{accepted_bytes_begin_each_stream}
 use Rattle.law_controller.specs.controlled_streams.Outs.{Begins}
-use Rattle.law_controller.proofs.lemmas.controlled_streams.Outs.{out_begins}
+use Rattle.law_controller.proofs.lemmas.controlled_streams.Outs.{known_begins_taken}
 use Rattle.law_driver_ring.specs.fed_queues.Places.{IsThere, IsMet}
 use Rattle.law_queues.specs.leaving_drivers.Owed.{AreOwedMet}
 use Rattle.law_queues.proofs.lemmas.leaving_drivers.Alike.{there_by}
-use Rattle.law_queues.proofs.lemmas.leaving_drivers.Leaving.{clear_as_before}
+use Rattle.law_queues.proofs.lemmas.leaving_drivers.Leaving.{clear_is_as_before}
 use Rattle.law_queues.proofs.lemmas.leaving_drivers.Clearing.{clear_finds}
-use Rattle.law_queues.proofs.lemmas.leaving_drivers.Owing.{event_owed}
+use Rattle.law_queues.proofs.lemmas.leaving_drivers.Owing.{events_owe_met}
 use Rattle.law_world.proofs.lemmas.streams.lemmas.narrowed_streams.Names.{left_is_shut}
 use Rattle.claims_world.specs.Memory.{IsWalking}
-use Rattle.law_world.proofs.lemmas.steps.lemmas.controlled_walks.Worlds.{driver_walks}
+use Rattle.law_world.proofs.lemmas.steps.lemmas.controlled_walks.Worlds.{driver_keeps_walking}
 use Rattle.law_world.specs.streams.right_worlds.Right.{ClosedIns}
 use Rattle.claims_world.specs.Streams.{IsToldTaken}
 use Rattle.law_world.specs.streams.taken_reports.Laws.{bytes_taken}
@@ -50,7 +50,7 @@ module _ (fixed : Fixed) (member : ℕ → Bool) (x : Streams) (s : Standing) (w
   met_begins comes =
       let has = f.queues.streams_are.each e z here met in
       subst (λ (t : Told). IsPrefix (concat (s.acc n)) (concat (x.packets t.addr t.ep))) has.1
-      (taken_begins x.stream x.packets sender_of member x.streams x.endpoint s.acc s.parts s.hand (wired fixed w) n f.working.streaming.piped (has.0 ∙ comes))
+      (accepted_bytes_begin_each_stream x.stream x.packets sender_of member x.streams x.endpoint s.acc s.parts s.hand (wired fixed w) n f.working.streaming.piped (has.0 ∙ comes))
 
   taken_by : (o : Option Taker) → Begins o (concat (s.acc n)) → IsToldTaken (concat (s.acc n)) (bytes_taken o)
   taken_by o b = subst (λ (k : Option Taker). IsToldTaken (concat (s.acc n)) (bytes_taken k)) (sym b.is) (b.unheard, sym b.taken)
@@ -63,7 +63,7 @@ module _ (fixed : Fixed) (member : ℕ → Bool) (x : Streams) (s : Standing) (w
       ap (λ (b : Bool). if b then false else heads_of member x.endpoint n) (has.0 ∙ sends_comes_not z.desc.name.way goes) ∙ queue_on fixed member x s w f e z here met (out_way z.desc.name.way goes) in
       let o : Option Taker = taker_of (wired fixed w) (x.endpoint n).addr (x.endpoint n).ep in
       subst (λ (k : Told). IsToldTaken (concat (s.acc n)) (bytes_taken (taker_of (wired fixed w) k.addr k.ep))) has.1
-      (taken_by o (out_begins o (concat (s.acc n)) s.parts s.hand n (x.endpoint n) (t.piped.pipes n on)))
+      (taken_by o (known_begins_taken o (concat (s.acc n)) s.parts s.hand n (x.endpoint n) (t.piped.pipes n on)))
 
 -- ---- the clear
 
@@ -72,13 +72,14 @@ module _ (fixed : Fixed) (takes : ℕ → ℕ → Bool) (member : ℕ → Bool) 
   q = after_clear w
 
   was_there : (z : Endpoint) → IsThere q.driver z → IsThere w.driver z
-  was_there z there = there_by w.driver z (clear_as_before (driver_parts w) (clear_finds (driver_parts w) row).idle).0.idle there.kept
+  was_there z there = there_by w.driver z (clear_is_as_before (driver_parts w) (clear_finds (driver_parts w) row).idle).0.idle there.kept
 
   walking_then : IsWalking q
-  walking_then = subst (λ (r : DriverRow). IsWalking (with_parts w (after_driver_row r (driver_parts w)))) row (driver_walks w left.walking)
+  walking_then = subst (λ (r : DriverRow). IsWalking (with_parts w (after_driver_row r (driver_parts w)))) row
+      (driver_keeps_walking w left.walking)
 
   owed_then : AreOwedMet q.driver
-  owed_then = subst (λ (r : DriverRow). AreOwedMet (after_driver_row r (driver_parts w)).driver) row (event_owed (driver_parts w) f.turns left.owed)
+  owed_then = subst (λ (r : DriverRow). AreOwedMet (after_driver_row r (driver_parts w)).driver) row (events_owe_met (driver_parts w) f.turns left.owed)
 
   -- one that was met until then, or that had left before
   in_left : (e : ℕ) (z : Endpoint) → slice_get w.driver.endpoints e ≡ Some z → comes_in z.desc.name.way ≡ true → IsThere w.driver z → (b : Bool) → may_meet w.driver e z ≡ b

@@ -14,7 +14,7 @@ use Rattle.law_driver.proofs.lemmas.endpoint_lives.Lives.{any_there, there_any}
 use Rattle.claims_driver.specs.Leaving.{HasOwners}
 use Rattle.hc_core.specs.Controller.{walk_place}
 use Rattle.law_driver.specs.chained_transfers.AsynchronousTurns.{AsynchronousTakesTurns}
-use Rattle.law_driver.proofs.lemmas.chained_transfers.Events.{event_queues}
+use Rattle.law_driver.proofs.lemmas.chained_transfers.Events.{events_keep_asynchronous_turns}
 use Rattle.claims_driver.specs.Walk.{IsWalkIn}
 use Rattle.law_ring.specs.Stores.{IsWider}
 use Rattle.law_driver_ring.specs.Driven.{is_quiet}
@@ -25,7 +25,7 @@ use Rattle.law_queues.specs.reached_rings.Reaching.{may_reach, is_reached, IsRea
 use Rattle.law_queues.proofs.lemmas.reached_rings.Narrowing.{narrow_ring}
 use Rattle.law_queues.specs.leaving_drivers.Before.{IsAsBefore, NearFewer}
 use Rattle.law_queues.proofs.lemmas.leaving_drivers.Alike.{there_by}
-use Rattle.law_queues.proofs.lemmas.leaving_drivers.Leaving.{clear_as_before}
+use Rattle.law_queues.proofs.lemmas.leaving_drivers.Leaving.{clear_is_as_before}
 use Rattle.law_queues.proofs.lemmas.leaving_drivers.Clearing.{clear_finds}
 use Rattle.law_world.proofs.lemmas.steps.lemmas.left_queues.Unmet.{near_kept}
 use Rattle.law_world.proofs.lemmas.steps.lemmas.left_queues.Same.{fed_now, last_now, still_out_now}
@@ -36,10 +36,10 @@ use Rattle.law_world.proofs.lemmas.streams.lemmas.narrowed_streams.Clearing.{cle
 use Rattle.law_world.proofs.lemmas.streams.lemmas.narrowed_streams.Narrowing.{ins_are_closed}
 use Rattle.law_devices.specs.Senders.{sender_of}
 use Rattle.bus_world.specs.World.{World, driver_parts, with_parts, driver_next, controller_parts}
-use Rattle.law_world.proofs.lemmas.steps.lemmas.controlled_walks.Worlds.{driver_walks}
+use Rattle.law_world.proofs.lemmas.steps.lemmas.controlled_walks.Worlds.{driver_keeps_walking}
 use Rattle.law_world.specs.steps.Streaming.{Streams, Standing, wired}
 use Rattle.law_world.specs.streams.shared_worlds.Working.{IsWorking}
-use Rattle.law_world.proofs.lemmas.streams.lemmas.shared_worlds.Worlds.{quiet_working}
+use Rattle.law_world.proofs.lemmas.streams.lemmas.shared_worlds.Worlds.{quiet_events_keep_it_working}
 use Rattle.law_world.specs.steps.control_queues.Controls.{ControlsStand}
 use Rattle.law_world.specs.steps.control_queues.Beside.{touches_none}
 use Rattle.law_world.proofs.lemmas.steps.lemmas.control_queues.Beside.{silent_keeps_controls}
@@ -56,10 +56,10 @@ module _ (p : Parts) (rings : Bool) (owners : HasOwners p.driver) (turns : Async
   f = (after_driver_row rows.ClearAdvance p).driver
 
   before : IsAsBefore d f
-  before = (clear_as_before p idle).0
+  before = (clear_is_as_before p idle).0
 
   near : NearFewer d f
-  near = (clear_as_before p idle).1
+  near = (clear_is_as_before p idle).1
 
   abbrev is_there : ℕ → ℕ → Endpoint → Bool
   is_there n e x = (n == 32 * x.queue) && may_reach f rings e x
@@ -117,7 +117,7 @@ cleared_feeds fixed member narrow x s w idle apart are f k turns walk silent =
     let p = driver_parts w in
     let q = after_row w rows.ClearAdvance in
     let owners = f.working.place.sound.owners in
-    let b = clear_as_before p idle in
+    let b = clear_is_as_before p idle in
     let met = narrow_met p q.registers.doorbell owners f.turns idle narrow are in
     let fewer = narrow_fewer p q.registers.doorbell owners f.turns idle narrow are member f.queues.met in
     let narrows = clear_narrows p narrow f.turns.asynchronous owners idle met in
@@ -163,7 +163,8 @@ clear_feeds fixed member narrow x s w is walking apart are f =
     let same : (P : World → Type 0) → P (driver_next w) → P (after_row w rows.ClearAdvance) = λ P here. subst (λ (row : DriverRow). P (after_row w row)) is here in
     subst (λ (row : DriverRow). IsFeeding fixed narrow (narrowed_to x (after_row w row).driver narrow) s (after_row w row)) (sym is)
     (cleared_feeds fixed member narrow x s w found.idle apart (same (λ v. IsReachedIn narrow v.driver v.registers) are) f
-    (same (λ v. IsWorking fixed opening_base member x s v) (quiet_working fixed opening_base member x s w f.working (ap is_quiet is)))
-    (same (λ v. AsynchronousTakesTurns v.driver) (event_queues p f.working.place.sound.owners f.turns))
-    (same (λ v. IsWalkIn v.driver v.registers v.control.walk) (driver_walks w walking).walk)
+    (same (λ v. IsWorking fixed opening_base member x s v) (quiet_events_keep_it_working fixed opening_base member x s w f.working
+    (ap is_quiet is)))
+    (same (λ v. AsynchronousTakesTurns v.driver) (events_keep_asynchronous_turns p f.working.place.sound.owners f.turns))
+    (same (λ v. IsWalkIn v.driver v.registers v.control.walk) (driver_keeps_walking w walking).walk)
     (same (λ v. ControlsStand v.driver s.parts s.order s.out) (silent_keeps_controls p s.parts s.order s.out (ap touches_none is) f.controls)))

@@ -9,7 +9,7 @@ use Rattle.drv_table.specs.Offers.{offered, IsOffered}
 use Rattle.law_driver_ring.specs.walk_members.Reached.{OpensNumbered}
 use Rattle.claims_driver.specs.Scripts.{OpensAsynchronous}
 use Rattle.law_driver.specs.chained_transfers.Asynchronous.{AcceptsAsynchronous}
-use Rattle.law_driver.proofs.lemmas.chained_transfers.Accepting.{command_accepts}
+use Rattle.law_driver.proofs.lemmas.chained_transfers.Accepting.{asynchronous_command_is_accepted}
 use Rattle.bus_world.specs.World.{World, name_in, commanded_by, commanded}
 use Rattle.law_world.specs.steps.Streaming.{Streams, Standing}
 use Rattle.law_world.specs.streams.Feeding.{AreControlsApart, IsFeeding}
@@ -58,7 +58,7 @@ by_offer : (fixed : Fixed) (takes : ℕ → ℕ → Bool) (member : ℕ → Bool
     → IsWhole fixed takes member x s (commanded_by w line (name_in cmd) r)
 by_offer fixed takes member x s w line cmd (Err why) kept only to fits room is feeding left k = refused_whole fixed takes member x s w line (name_in cmd) why feeding left k
 by_offer fixed takes member x s w line cmd (Ok o) kept only to fits room is feeding left k =
-    accepted fixed takes member x s w line cmd o kept only to fits room is (command_accepts w.driver w.memory cmd o k.feeding.turns.asynchronous only is)
+    accepted fixed takes member x s w line cmd o kept only to fits room is (asynchronous_command_is_accepted w.driver w.memory cmd o k.feeding.turns.asynchronous only is)
     (command_apart takes w cmd o k.feeding.turns only (λ p offer. opens_no_taker x.stream takes cmd (to p offer)) is k.controls_apart) feeding left k
 
 other_whole : (fixed : Fixed) (takes : ℕ → ℕ → Bool) (member : ℕ → Bool) (x : Streams) (s : Standing) (w : World) (line : ℕ) (cmd : Cmd) → IsNoCancel cmd → OpensAsynchronous cmd

@@ -29,12 +29,12 @@ use Rattle.claims_base.specs.Controller.{opening_base}
 use Rattle.law_driver_ring.specs.Inventory.{Sort, OfElement, sort_of, sorts_of, IsDriverOwned, the_list, the_head, a_queue, a_dummy, a_piece, a_buffer, IsDriven}
 use Rattle.law_driver_ring.specs.fed_queues.Places.{IsThere, HasHead}
 use Rattle.law_world.proofs.lemmas.steps.lemmas.left_queues.Unmet.{apart_by, off_head_by, near_other}
-use Rattle.law_queues.proofs.lemmas.leaving_drivers.Unmet.{gone_unmet}
-use Rattle.law_world.proofs.lemmas.steps.lemmas.closed_streams.Aside.{aside_takers}
+use Rattle.law_queues.proofs.lemmas.leaving_drivers.Unmet.{gone_are_unmet}
+use Rattle.law_world.proofs.lemmas.steps.lemmas.closed_streams.Aside.{aside_takers_wait}
 use Rattle.law_devices.specs.scripted_takers.Takers.{taker_of}
-use Rattle.law_devices.proofs.lemmas.scripted_takers.Asking.{scripted_out_bus}
-use Rattle.law_devices.proofs.lemmas.scripted_takers.Beginning.{scripted_out_begins}
-use Rattle.law_world.proofs.lemmas.steps.lemmas.controlled_walks.Worlds.{controller_walks}
+use Rattle.law_devices.proofs.lemmas.scripted_takers.Asking.{a_scripted_bus_takes_its_streams}
+use Rattle.law_devices.proofs.lemmas.scripted_takers.Beginning.{a_microframe_keeps_its_takers}
+use Rattle.law_world.proofs.lemmas.steps.lemmas.controlled_walks.Worlds.{controller_keeps_walking}
 use Rattle.claims_base.specs.Prefix.{IsPrefix}
 use Rattle.claims_report.specs.Streams.{told_in, has_stream}
 use Rattle.law_queues.specs.told_endpoints.Telling.{lines_in}
@@ -224,8 +224,8 @@ module _ (fixed : Fixed) (takes : ℕ → ℕ → Bool) (member : ℕ → Bool) 
 
   pub taker_stays : (addr ep : ℕ) (t : Taker) → takes addr ep ≡ false → ep ≢ 0 → taker_of (wired fixed w) addr ep ≡ Some t → taker_of (wired fixed new) addr ep ≡ Some t
   taker_stays addr ep t shut some is =
-      aside_takers begins_by transacts_by closed taker_of opening_base member x.endpoint s.parts s.hand (controller_parts w) (wired fixed w) (wired fixed new) now later (scripted_out_bus closed)
-      (scripted_out_begins closed) controlled all_aside moves addr ep t
+      aside_takers_wait begins_by transacts_by closed taker_of opening_base member x.endpoint s.parts s.hand (controller_parts w) (wired fixed w) (wired fixed new) now later (a_scripted_bus_takes_its_streams closed)
+      (a_microframe_keeps_its_takers closed) controlled all_aside moves addr ep t
       (and_from (not (takes addr ep)) (not (ep == 0)) (not_from_false (takes addr ep) shut) (not_from_false (ep == 0) (not_same ep 0 some))) is
 
   -- what begins what a taker had taken begins what it has taken
@@ -244,7 +244,7 @@ module _ (fixed : Fixed) (takes : ℕ → ℕ → Bool) (member : ℕ → Bool) 
   pub left_beside : IsLeft fixed takes x.packets (after_event g).acc new
   left_beside = record {
     named = l.named;
-    walking = controller_walks fixed w f.working.place l.walking;
+    walking = controller_keeps_walking fixed w f.working.place l.walking;
     owed = l.owed;
     closed_ins = record {
       left = λ e z here ins there off.
@@ -256,7 +256,7 @@ module _ (fixed : Fixed) (takes : ℕ → ℕ → Bool) (member : ℕ → Bool) 
           subst (λ (bs : List ℕ). IsToldTaken bs (bytes_taken (taker_of (wired fixed new) z.desc.name.addr z.desc.name.num))) (sym (left_stays e z here there off))
           (told_stays z.desc.name.addr z.desc.name.num (concat (s.acc (32 * z.queue))) (l.shut e z here outs off) (out_number e z here outs) (l.closed_outs.left e z here outs there off));
       gone = λ e z here outs gone.
-          told_stays z.desc.name.addr z.desc.name.num (told_in d.store (lines_in z.desc.name d.reports)) (l.shut e z here outs (gone_unmet d e z f.working.place.sound.owners here gone)) (out_number e z here outs)
+          told_stays z.desc.name.addr z.desc.name.num (told_in d.store (lines_in z.desc.name d.reports)) (l.shut e z here outs (gone_are_unmet d e z f.working.place.sound.owners here gone)) (out_number e z here outs)
           (l.closed_outs.gone e z here outs gone);
     };
     shut = l.shut;

@@ -14,16 +14,16 @@ use Rattle.drv_table.specs.Accepting.{Offered}
 use Rattle.drv_table.specs.Offers.{offered}
 use Rattle.drv_table.specs.Rows.{after_driver_row}
 use Rattle.law_driver.specs.chained_transfers.AsynchronousTurns.{AsynchronousTakesTurns}
-use Rattle.law_driver.proofs.lemmas.chained_transfers.Accepting.{command_accepts}
+use Rattle.law_driver.proofs.lemmas.chained_transfers.Accepting.{asynchronous_command_is_accepted}
 use Rattle.law_queues.specs.standing_fronts.Reaching.{Reaches}
 use Rattle.law_queues.proofs.lemmas.commanded_queues.Tails.{reaches_alike}
-use Rattle.law_queues.proofs.lemmas.harvest_laws.Standing.{refused_told}
+use Rattle.law_queues.proofs.lemmas.harvest_laws.Standing.{refused_is_told}
 use Rattle.law_queues.specs.leaving_drivers.Before.{UnlinksAtMost, IsAsBefore, NearFewer}
 use Rattle.law_queues.proofs.lemmas.leaving_drivers.Alike.{near_fewer}
-use Rattle.law_queues.proofs.lemmas.leaving_drivers.Leaving.{cancel_as_before, clear_as_before}
+use Rattle.law_queues.proofs.lemmas.leaving_drivers.Leaving.{cancel_is_as_before, clear_is_as_before}
 use Rattle.law_queues.proofs.lemmas.leaving_drivers.Clearing.{clear_finds}
 use Rattle.law_world.proofs.lemmas.steps.lemmas.left_queues.Same.{tails_now}
-use Rattle.law_world.proofs.lemmas.streams.lemmas.left_reports.Before.{before_told}
+use Rattle.law_world.proofs.lemmas.streams.lemmas.left_reports.Before.{leaves_are_told}
 use Rattle.bus_world.specs.World.{World, driver_parts, with_parts, refused_line, commanded_by}
 use Rattle.law_world.specs.steps.Streaming.{Standing}
 use Rattle.law_queues.specs.standing_fronts.Tails.{tail_block, tail_of}
@@ -35,8 +35,8 @@ end_is_tail None y e n may = refl
 end_is_tail (Some (unfinished.Unlink i b link)) y e n may = refl
 end_is_tail _ y e n may = absurd may
 
-pub leave_tails : LeaveKeepsTails
-leave_tails d f parts order out b near old e x here met =
+pub leave_keeps_tails : LeaveKeepsTails
+leave_keeps_tails d f parts order out b near old e x here met =
     subst (λ (c : ℕ). Reaches f (parts (32 * x.queue)) (order (32 * x.queue)) (out (32 * x.queue)) e x (32 * c)) (sym (end_is_tail f.command (slice_get f.transfers (length f.transfers - 1)) e x.dummy b.idle_now))
     (tails_now d f b near parts order out
     (λ i z at meets.
@@ -45,8 +45,8 @@ leave_tails d f parts order out b near old e x here met =
 
 leave_told : (s : Standing) (w v : World) → IsAsBefore w.driver v.driver → NearFewer w.driver v.driver → IsTold s w → IsTold s v
 leave_told s w v b near k = record {
-  tails = leave_tails w.driver v.driver s.parts s.order s.out b near k.tails;
-  told = before_told w.driver v.driver s.hand s.parts s.reported b k.told;
+  tails = leave_keeps_tails w.driver v.driver s.parts s.order s.out b near k.tails;
+  told = leaves_are_told w.driver v.driver s.hand s.parts s.reported b k.told;
 }
 
 -- ---- a cancel
@@ -60,22 +60,22 @@ refusal_told s w line name why k =
           reaches_alike d (refused_line d line name why) s.parts s.order s.out e (tail_of d e z) z z refl refl
           (λ h u y at there held. record { transfer = y; here = there; endpoint = refl; released = refl; qtds = refl; left = refl; places = λ j most. refl })
           (k.tails e z here (record { there = record { linked = met.there.linked; kept = met.there.kept }; near = met.near }));
-      told = refused_told d (refused_line d line name why) s.hand s.parts s.reported row refl refl refl refl refl refl refl refl refl k.told;
+      told = refused_is_told d (refused_line d line name why) s.hand s.parts s.reported row refl refl refl refl refl refl refl refl refl k.told;
     }
 
 cancel_by : (s : Standing) (w : World) (line : ℕ) (name : EpName) (r : Result Offered OfferError) → AsynchronousTakesTurns w.driver → IsTold s w → offered w.driver w.memory (commands.Cancel name) ≡ r → IsTold s (commanded_by w line name r)
 cancel_by s w line name (Ok o) turns k is =
-    let b = cancel_as_before w.driver w.memory o turns (command_accepts w.driver w.memory (commands.Cancel name) o turns.asynchronous tt is) in
+    let b = cancel_is_as_before w.driver w.memory o turns (asynchronous_command_is_accepted w.driver w.memory (commands.Cancel name) o turns.asynchronous tt is) in
     leave_told s w (commanded_by w line name (Ok o)) b.0 (near_fewer w.driver o.driver b.1) k
 cancel_by s w line name (Err why) turns k is = refusal_told s w line name why k
 
-pub cancel_told : CancelKeepsTold
-cancel_told s w line name turns k = cancel_by s w line name (offered w.driver w.memory (commands.Cancel name)) turns k refl
+pub cancel_keeps_told : CancelKeepsTold
+cancel_keeps_told s w line name turns k = cancel_by s w line name (offered w.driver w.memory (commands.Cancel name)) turns k refl
 
 -- ---- the clear
 
-pub clear_told : ClearKeepsTold
-clear_told s w is k =
+pub clear_keeps_told : ClearKeepsTold
+clear_keeps_told s w is k =
     let p = driver_parts w in
-    let b = clear_as_before p (clear_finds p is).idle in
+    let b = clear_is_as_before p (clear_finds p is).idle in
     subst (λ (row : DriverRow). IsTold s (with_parts w (after_driver_row row p))) (sym is) (leave_told s w (with_parts w (after_driver_row rows.ClearAdvance p)) b.0 b.1 k)

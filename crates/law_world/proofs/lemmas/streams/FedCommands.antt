@@ -24,13 +24,13 @@ use Rattle.law_driver.specs.run_owners.Accepts.{Opens, Transfers}
 use Rattle.claims_driver.specs.Scripts.{OpensAsynchronous}
 use Rattle.law_driver.specs.chained_transfers.Asynchronous.{AcceptsAsynchronous}
 use Rattle.law_driver.specs.chained_transfers.AsynchronousTurns.{AsynchronousTakesTurns}
-use Rattle.law_driver.proofs.lemmas.chained_transfers.Accepting.{command_accepts}
+use Rattle.law_driver.proofs.lemmas.chained_transfers.Accepting.{asynchronous_command_is_accepted}
 use Rattle.law_driver.proofs.lemmas.chained_transfers.Rows.{set_which}
 use Rattle.law_queues.specs.leaving_drivers.Told.{told_to}
-use Rattle.law_queues.proofs.lemmas.leaving_drivers.Leaving.{cancel_as_before}
-use Rattle.law_queues.proofs.lemmas.leaving_drivers.Owing.{command_owed}
-use Rattle.law_queues.proofs.lemmas.leaving_drivers.Telling.{refusal_tells_nothing, commands_only}
-use Rattle.law_world.proofs.lemmas.steps.lemmas.controlled_walks.Worlds.{command_walks}
+use Rattle.law_queues.proofs.lemmas.leaving_drivers.Leaving.{cancel_is_as_before}
+use Rattle.law_queues.proofs.lemmas.leaving_drivers.Owing.{commands_owe_met}
+use Rattle.law_queues.proofs.lemmas.leaving_drivers.Telling.{refusals_tell_nothing, commands_only_tell}
+use Rattle.law_world.proofs.lemmas.steps.lemmas.controlled_walks.Worlds.{command_keeps_walking}
 use Rattle.bus_world.specs.World.{World, name_in, refused_line, commanded_by, commanded}
 use Rattle.law_world.specs.steps.Streaming.{Streams, Standing, wired}
 use Rattle.law_world.specs.streams.Feeding.{IsFeeding}
@@ -93,7 +93,7 @@ unmet_as d m o (commands.OpenEp x) why turns = open_unmet d m o why.opens
 unmet_as d m o (commands.Get name len by) why turns = moved_unmet d m o why.transfers
 unmet_as d m o (commands.Put name bytes by) why turns = moved_unmet d m o why.transfers
 unmet_as d m o (commands.Control name setup bytes) why turns = moved_unmet d m o why.transfers
-unmet_as d m o (commands.Cancel name) why turns = let b = cancel_as_before d m o turns why in unmet_before d o.driver b.0 b.1
+unmet_as d m o (commands.Cancel name) why turns = let b = cancel_is_as_before d m o turns why in unmet_before d o.driver b.0 b.1
 unmet_as d m o _ why turns = absurd why
 
 -- no command is unfinished where one is accepted
@@ -114,11 +114,11 @@ refused_unmet : (d : DriverContent) (line : ℕ) (name : EpName) (why : OfferErr
 refused_unmet d line name why e z here off = record { endpoint = z; here = here; desc = refl; queue = refl; gone = refl; unmet = off }
 
 refused_told : (d : DriverContent) (line : ℕ) (name : EpName) (why : OfferError) (other : EpName) → told_to d other ≡ told_to (refused_line d line name why) other
-refused_told d line name why other = sym (refusal_tells_nothing d (refused_line d line name why) _ refl refl refl other)
+refused_told d line name why other = sym (refusals_tell_nothing d (refused_line d line name why) _ refl refl refl other)
 
 pub unmet_by : (w : World) (line : ℕ) (cmd : Cmd) (r : Result Offered OfferError) → OpensAsynchronous cmd → AsynchronousTakesTurns w.driver → offered w.driver w.memory cmd ≡ r
     → UnmetStay w.driver (commanded_by w line (name_in cmd) r).driver
-unmet_by w line cmd (Ok o) only turns is = unmet_as w.driver w.memory o cmd (command_accepts w.driver w.memory cmd o turns.asynchronous only is) turns
+unmet_by w line cmd (Ok o) only turns is = unmet_as w.driver w.memory o cmd (asynchronous_command_is_accepted w.driver w.memory cmd o turns.asynchronous only is) turns
 unmet_by w line cmd (Err why) only turns is = refused_unmet w.driver line (name_in cmd) why
 
 pub command_unmet : (w : World) (line : ℕ) (cmd : Cmd) → OpensAsynchronous cmd → AsynchronousTakesTurns w.driver → UnmetStay w.driver (commanded w line cmd).driver
@@ -131,14 +131,14 @@ commanded_left : (fixed : Fixed) (takes : ℕ → ℕ → Bool) (packets : ℕ �
     → offered w.driver w.memory cmd ≡ r → IsLeft fixed takes packets acc (commanded_by w line (name_in cmd) r)
 commanded_left fixed takes packets acc member x s w line cmd (Ok o) only named f walking old is =
     let d = w.driver in
-    let why = command_accepts d w.memory cmd o f.turns.asynchronous only is in
+    let why = asynchronous_command_is_accepted d w.memory cmd o f.turns.asynchronous only is in
     let unmet = unmet_as d w.memory o cmd why f.turns in
     let opened = none_opened d (idle_as d w.memory o cmd why) in
-    let gone = commands_only d w.memory cmd o f.turns only is in
+    let gone = commands_only_tell d w.memory cmd o f.turns only is in
     record {
       named = command_named d w.memory cmd o f.turns only named is old.named;
       walking = walking;
-      owed = command_owed d w.memory cmd o f.working.place.sound.owners f.turns only is old.owed;
+      owed = commands_owe_met d w.memory cmd o f.working.place.sound.owners f.turns only is old.owed;
       closed_ins = closed_ins d o.driver unmet opened gone packets acc old.closed_ins;
       closed_outs = closed_outs d o.driver unmet opened gone taker_of acc (wired fixed w) old.closed_outs;
       shut = still_shut d o.driver takes unmet old.shut;
@@ -167,4 +167,4 @@ commanded_left fixed takes packets acc member x s w line cmd (Err why) only name
 
 pub command_keeps_left : CommandKeepsLeft
 command_keeps_left fixed takes member x s w line cmd only fits named room f old =
-    commanded_left fixed takes x.packets s.acc member x s w line cmd (offered w.driver w.memory cmd) only named f (command_walks w line cmd fits old.walking) old refl
+    commanded_left fixed takes x.packets s.acc member x s w line cmd (offered w.driver w.memory cmd) only named f (command_keeps_walking w line cmd fits old.walking) old refl

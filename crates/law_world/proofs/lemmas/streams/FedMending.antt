@@ -10,18 +10,18 @@ use Rattle.law_ring.specs.Stores.{hand_stale}
 use Rattle.law_controller.specs.controlled_streams.Reported.{AreReported}
 use Rattle.claims_base.specs.Controller.{opening_base}
 use Rattle.law_driver_ring.specs.Driven.{DrivesRing}
-use Rattle.law_driver.proofs.lemmas.in_place.Laws.{event_in_place}
+use Rattle.law_driver.proofs.lemmas.in_place.Laws.{events_keep_all_in_place}
 use Rattle.async_walk.specs.Rows.{place}
 use Rattle.law_devices.specs.Senders.{sender_of}
 use Rattle.bus_world.specs.World.{World, driver_parts, driver_next}
 use Rattle.law_world.specs.steps.Streaming.{Streams, Standing, wired}
 use Rattle.law_world.specs.streams.shared_worlds.Working.{IsWorking}
-use Rattle.law_driver.proofs.lemmas.chained_transfers.Events.{event_queues}
+use Rattle.law_driver.proofs.lemmas.chained_transfers.Events.{events_keep_asynchronous_turns}
 use Rattle.law_queues.specs.mended_heads.Owed.{IsOwed}
 use Rattle.law_queues.specs.mended_heads.Mended.{next_of, IsAtMend, head_at, mended as head_mended, driver_mended}
 use Rattle.law_queues.proofs.lemmas.mended_heads.Row.{mend_is_due, mend_row, mend_leaves_ring}
-use Rattle.law_queues.proofs.lemmas.mended_heads.Queues.{leaves_pipes, leaves_met, leaves_ends, leaves_fed, leaves_last, leaves_out}
-use Rattle.law_queues.proofs.lemmas.mended_heads.Streams.{leaves_reports}
+use Rattle.law_queues.proofs.lemmas.mended_heads.Queues.{leaves_pipes, mend_leaves_met, mend_leaves_ends, mend_leaves_fed, mend_leaves_last, mend_leaves_out}
+use Rattle.law_queues.proofs.lemmas.mended_heads.Streams.{mend_leaves_reports}
 use Rattle.law_world.proofs.lemmas.steps.lemmas.control_queues.Heads.{mend_keeps_controls}
 use Rattle.law_world.specs.streams.Feeding.{there_of, IsFeeding}
 use Rattle.law_world.specs.streams.Mends.{MendFinds, MendFeeds, mended}
@@ -69,7 +69,7 @@ module _ (fixed : Fixed) (member : ℕ → Bool) (x : Streams) (s : Standing) (w
   drives = mend_leaves_ring opening_base member s.hand w.control.walk p s.parts s.out k (record { ring = g.streaming.controlled.ring; driven = g.driven })
 
   counted_now : AreReported (there_of w.driver) s.order s.out now.hand now.parts s.acc s.reported
-  counted_now = leaves_reports (there_of w.driver) s.order s.out s.acc s.reported s.hand p s.parts s.out k headless f.counted
+  counted_now = mend_leaves_reports (there_of w.driver) s.order s.out s.acc s.reported s.hand p s.parts s.out k headless f.counted
 
   working_now : IsWorking fixed opening_base member x now (driver_next w)
   working_now = record {
@@ -90,20 +90,20 @@ module _ (fixed : Fixed) (member : ℕ → Bool) (x : Streams) (s : Standing) (w
       piped = leaves_pipes sender_of x.stream x.packets member x.streams x.endpoint s.acc (wired fixed w) s.hand p s.parts s.out k streamless g.streaming.piped;
       right = right_of fixed member x s w f s.order s.out now.hand now.parts s.acc s.reported counted_now;
     };
-    place = event_in_place p g.place;
+    place = events_keep_all_in_place p g.place;
     driven = drives.driven;
   }
 
   pub mended_feeding : IsFeeding fixed member x now (driver_next w)
   mended_feeding = record {
     working = working_now;
-    turns = event_queues p g.place.sound.owners f.turns;
+    turns = events_keep_asynchronous_turns p g.place.sound.owners f.turns;
     queues = record {
-      met = leaves_met p s.parts s.out member k f.queues.met;
-      streams_are = leaves_ends p s.parts s.out x.streams x.endpoint k f.queues.streams_are;
-      fed = leaves_fed p s.parts s.out k f.queues.fed;
-      last = leaves_last p s.parts s.out s.order k f.queues.last;
-      out_are = leaves_out p s.parts s.out s.out k f.queues.out_are;
+      met = mend_leaves_met p s.parts s.out member k f.queues.met;
+      streams_are = mend_leaves_ends p s.parts s.out x.streams x.endpoint k f.queues.streams_are;
+      fed = mend_leaves_fed p s.parts s.out k f.queues.fed;
+      last = mend_leaves_last p s.parts s.out s.order k f.queues.last;
+      out_are = mend_leaves_out p s.parts s.out s.out k f.queues.out_are;
     };
     counted = λ n on. counted_now n (sym (there_was n) ∙ on);
     controls = mend_keeps_controls p s.parts s.order s.out k f.controls;

@@ -14,7 +14,7 @@ use Rattle.drv_table.specs.Rows.{driver_row, after_driver_row}
 use Rattle.drv_table.specs.Releases.{after_endpoint, is_told}
 use Rattle.law_driver.specs.run_owners.Due.{IsDue, IsEndpointDue}
 use Rattle.claims_driver.specs.Owners.{views_of}
-use Rattle.law_driver.proofs.lemmas.run_owners.Reasons.{each_is_due}
+use Rattle.law_driver.proofs.lemmas.run_owners.Reasons.{each_event_is_due}
 use Rattle.law_driver.proofs.lemmas.run_owners.Released.{set_here, set_there}
 use Rattle.law_structures.specs.lent_structures.Structures.{Structures, StructureSets}
 use Rattle.law_controller.specs.controlled_streams.Control.{IsFrameless, off, empty}
@@ -23,19 +23,19 @@ use Rattle.claims_base.specs.Controller.{opening_base}
 use Rattle.law_driver_ring.specs.Driven.{DrivesRing}
 use Rattle.law_driver_ring.specs.Extents.{AreInRuns}
 use Rattle.law_driver.specs.in_place.InPlace.{IsInPlace}
-use Rattle.law_driver.proofs.lemmas.in_place.Laws.{event_in_place}
+use Rattle.law_driver.proofs.lemmas.in_place.Laws.{events_keep_all_in_place}
 use Rattle.async_walk.specs.Rows.{place}
 use Rattle.law_devices.specs.Senders.{sender_of}
 use Rattle.bus_world.specs.World.{World, controller_parts, driver_parts, with_parts}
 use Rattle.law_world.specs.steps.Streaming.{Streams, Standing, wired}
 use Rattle.law_world.specs.streams.shared_worlds.Working.{IsWorking}
 use Rattle.law_driver.specs.chained_transfers.AsynchronousTurns.{AsynchronousTakesTurns}
-use Rattle.law_driver.proofs.lemmas.chained_transfers.Events.{event_queues}
+use Rattle.law_driver.proofs.lemmas.chained_transfers.Events.{events_keep_asynchronous_turns}
 use Rattle.law_driver_ring.specs.fed_queues.Places.{HasThere}
 use Rattle.law_world.specs.steps.endpoint_releases.Released.{without_queue, HasLeaver, endpoint_row}
 use Rattle.law_world.proofs.lemmas.steps.lemmas.endpoint_releases.Owning.{queue_beside}
-use Rattle.law_world.proofs.lemmas.steps.lemmas.endpoint_releases.Releasing.{release_drives, due_leaves}
-use Rattle.law_world.proofs.lemmas.steps.lemmas.endpoint_releases.Beside.{pipes_stay, reports_stay}
+use Rattle.law_world.proofs.lemmas.steps.lemmas.endpoint_releases.Releasing.{endpoint_release_drives, due_is_to_leave}
+use Rattle.law_world.proofs.lemmas.steps.lemmas.endpoint_releases.Beside.{pipes_stay, reports_stay_beside}
 use Rattle.law_world.specs.steps.left_queues.Standing.{IdleTailsStand, AllStand}
 use Rattle.law_world.proofs.lemmas.steps.lemmas.left_queues.Returned.{endpoint_release_stands}
 use Rattle.law_world.proofs.lemmas.steps.lemmas.left_queues.Unmet.{apart_by, cleared_unmet, cleared_is_no_head}
@@ -69,10 +69,10 @@ module _ (fixed : Fixed) (member : ℕ → Bool) (x : Streams) (s : Standing) (w
   g = f.working
 
   due : IsEndpointDue p e
-  due = subst (IsDue p) row (each_is_due p)
+  due = subst (IsDue p) row (each_event_is_due p)
 
   pub leaver : HasLeaver d e
-  leaver = due_leaves p e g.place.sound.owners due
+  leaver = due_is_to_leave p e g.place.sound.owners due
 
   abbrev z : Endpoint
   z = leaver.endpoint
@@ -128,7 +128,7 @@ module _ (fixed : Fixed) (member : ℕ → Bool) (x : Streams) (s : Standing) (w
 
   drives : DrivesRing opening_base member now s.hand (place w.control.walk after.registers after.memory) after.driver × AreInRuns (views_of after.driver) now
   drives =
-      release_drives opening_base member s.parts s.hand w.control.walk p e z (record { ring = g.streaming.controlled.ring; driven = g.driven }) g.place.sound.owners g.place.sound.stands lies leaver.leaves unmet
+      endpoint_release_drives opening_base member s.parts s.hand w.control.walk p e z (record { ring = g.streaming.controlled.ring; driven = g.driven }) g.place.sound.owners g.place.sound.stands lies leaver.leaves unmet
 
   stands : AllStand after.driver member x.streams x.endpoint now s.order s.out
   stands =
@@ -140,10 +140,12 @@ module _ (fixed : Fixed) (member : ℕ → Bool) (x : Streams) (s : Standing) (w
   frameless words (empty none over) = empty none over
 
   in_place : IsInPlace new.memory new.driver
-  in_place = subst (λ (r : DriverRow). IsInPlace (after_driver_row r p).memory (after_driver_row r p).driver) row (event_in_place p g.place)
+  in_place = subst (λ (r : DriverRow). IsInPlace (after_driver_row r p).memory (after_driver_row r p).driver) row
+      (events_keep_all_in_place p g.place)
 
   turns : AsynchronousTakesTurns new.driver
-  turns = subst (λ (r : DriverRow). AsynchronousTakesTurns (after_driver_row r p).driver) row (event_queues p g.place.sound.owners f.turns)
+  turns = subst (λ (r : DriverRow). AsynchronousTakesTurns (after_driver_row r p).driver) row
+      (events_keep_asynchronous_turns p g.place.sound.owners f.turns)
 
   working : IsWorking fixed opening_base member x (released s z) new
   working = record {
@@ -162,14 +164,14 @@ module _ (fixed : Fixed) (member : ℕ → Bool) (x : Streams) (s : Standing) (w
         frameless = frameless g.streaming.controlled.list.words g.streaming.controlled.frameless;
       };
       piped = pipes_stay sender_of x.stream x.packets member x.streams x.endpoint s.acc s.parts s.hand (wired fixed w) n unmet streamless g.streaming.piped;
-      right = reports_stay x.streams s.order s.out s.hand s.parts s.acc s.reported n streamless g.streaming.right;
+      right = reports_stay_beside x.streams s.order s.out s.hand s.parts s.acc s.reported n streamless g.streaming.right;
     };
     place = in_place;
     driven = drives.0.driven;
   }
 
   counted : AreReported (there_of after.driver) s.order s.out s.hand now s.acc s.reported
-  counted = reports_stay (there_of after.driver) s.order s.out s.hand s.parts s.acc s.reported n not_there (λ i on. f.counted i (there_before i on).0)
+  counted = reports_stay_beside (there_of after.driver) s.order s.out s.hand s.parts s.acc s.reported n not_there (λ i on. f.counted i (there_before i on).0)
 
   feeding : IsFeeding fixed member x (released s z) new
   feeding = record {

@@ -22,7 +22,7 @@ use Rattle.law_driver.proofs.lemmas.endpoint_lives.Lives.{one_of_joined, one_of_
 use Rattle.law_driver.specs.run_owners.Due.{IsDue, IsHarvestDue}
 use Rattle.claims_driver.specs.Leaving.{HasOwners}
 use Rattle.claims_driver.specs.Owners.{EndpointRuns, runs_of_endpoint}
-use Rattle.law_driver.proofs.lemmas.run_owners.Reasons.{each_is_due}
+use Rattle.law_driver.proofs.lemmas.run_owners.Reasons.{each_event_is_due}
 use Rattle.law_driver.proofs.lemmas.run_owners.Stays.{harvest_stays}
 use Rattle.claims_driver.specs.Ring.{link_in}
 use Rattle.law_driver.specs.ring_members.Words.{IsOpening, StandsFor, IsRing}
@@ -33,15 +33,15 @@ use Rattle.law_driver.proofs.lemmas.chained_transfers.Chained.{pushed_last}
 use Rattle.law_driver.proofs.lemmas.chained_transfers.Rows.{left, advanced_or_left, set_which}
 use Rattle.law_driver.proofs.lemmas.chained_transfers.Staying.{linked_stands_alive}
 use Rattle.law_queues.specs.leaving_drivers.Told.{AreNamedOnce}
-use Rattle.law_queues.proofs.lemmas.leaving_drivers.Leaving.{bell_as_before, status_as_before, frame_as_before}
+use Rattle.law_queues.proofs.lemmas.leaving_drivers.Leaving.{bell_is_as_before, status_is_as_before, frame_is_as_before}
 use Rattle.law_queues.proofs.lemmas.leaving_drivers.Never.{IsAsynchronousRow, asynchronous_row}
-use Rattle.law_queues.proofs.lemmas.leaving_drivers.Owing.{event_owed}
+use Rattle.law_queues.proofs.lemmas.leaving_drivers.Owing.{events_owe_met}
 use Rattle.law_queues.proofs.lemmas.leaving_drivers.Reading.{read_row}
-use Rattle.law_queues.proofs.lemmas.leaving_drivers.Telling.{events_only}
+use Rattle.law_queues.proofs.lemmas.leaving_drivers.Telling.{events_only_tell}
 use Rattle.law_structures.specs.lent_structures.Structures.{StructureSets}
 use Rattle.law_ring.specs.Hand.{Hand}
 use Rattle.law_queues.specs.harvest_laws.Told.{ToldStands}
-use Rattle.law_world.proofs.lemmas.steps.lemmas.controlled_walks.Worlds.{driver_walks}
+use Rattle.law_world.proofs.lemmas.steps.lemmas.controlled_walks.Worlds.{driver_keeps_walking}
 use Rattle.bus_wire.specs.Bus.{Fixed}
 use Rattle.bus_world.specs.World.{World, driver_parts, driver_next}
 use Rattle.law_world.specs.steps.Streaming.{Streams, Standing, wired}
@@ -153,10 +153,10 @@ due_unmet (rows.ReleaseTransfer t) p due is clears releases turns =
     release_unmet p t (slice_get p.driver.transfers t) (freed_by p.driver (holding p.driver.book p.memory) (slice_get p.driver.transfers t))
 due_unmet (rows.ReleaseEndpoint e) p due is clears releases turns = absurd (releases e refl)
 due_unmet rows.ClearAdvance p due is clears releases turns = absurd (clears refl)
-due_unmet rows.RingBell p due is clears releases turns = let b = bell_as_before p due.0 in unmet_before p.driver (after_driver_row rows.RingBell p).driver b.0 b.1
+due_unmet rows.RingBell p due is clears releases turns = let b = bell_is_as_before p due.0 in unmet_before p.driver (after_driver_row rows.RingBell p).driver b.0 b.1
 due_unmet (rows.ReadStatus heard) p due is clears releases turns =
-    let b = status_as_before p heard due.0 in unmet_before p.driver (after_driver_row (rows.ReadStatus heard) p).driver b.0 b.1
-due_unmet (rows.ReadFrame n) p due is clears releases turns = let b = frame_as_before p n due.0 in unmet_before p.driver (after_driver_row (rows.ReadFrame n) p).driver b.0 b.1
+    let b = status_is_as_before p heard due.0 in unmet_before p.driver (after_driver_row (rows.ReadStatus heard) p).driver b.0 b.1
+due_unmet (rows.ReadFrame n) p due is clears releases turns = let b = frame_is_as_before p n due.0 in unmet_before p.driver (after_driver_row (rows.ReadFrame n) p).driver b.0 b.1
 due_unmet (rows.Harvest e t found) p due is clears releases turns = harvest_unmet p e t found due turns
 due_unmet rows.Rest p due is clears releases turns = unmet_itself p.driver
 due_unmet _ p due is clears releases turns = absurd is
@@ -165,7 +165,7 @@ pub row_unmet : (fixed : Fixed) (member : ℕ → Bool) (x : Streams) (s : Stand
     → IsFeeding fixed member x s w → UnmetStay w.driver (driver_next w).driver
 row_unmet fixed member x s w clears releases f =
     let p = driver_parts w in
-    let due = each_is_due p in
+    let due = each_event_is_due p in
     due_unmet (driver_row p) p due (asynchronous_row p (driver_row p) f.turns.asynchronous due) clears releases f.turns
 
 -- what is told of the queues says both of the report
@@ -181,11 +181,11 @@ row_keeps_left fixed takes member x s w clears releases once f old =
     let sound = f.working.place.sound in
     let unmet = row_unmet fixed member x s w clears releases f in
     let opened = opened_met d w.memory sound.owners f.turns.asynchronous sound.ring in
-    let gone = λ (i : ℕ) (z : Endpoint) (here : slice_get new.endpoints i ≡ Some z) (is : z.gone ≡ true). events_only p sound.owners f.turns once i z here is (releases i) in
+    let gone = λ (i : ℕ) (z : Endpoint) (here : slice_get new.endpoints i ≡ Some z) (is : z.gone ≡ true). events_only_tell p sound.owners f.turns once i z here is (releases i) in
     record {
       named = row_named (driver_row p) p old.named;
-      walking = driver_walks w old.walking;
-      owed = event_owed p f.turns old.owed;
+      walking = driver_keeps_walking w old.walking;
+      owed = events_owe_met p f.turns old.owed;
       closed_ins = closed_ins d new unmet opened gone x.packets s.acc old.closed_ins;
       closed_outs = closed_outs d new unmet opened gone taker_of s.acc (wired fixed w) old.closed_outs;
       shut = still_shut d new takes unmet old.shut;

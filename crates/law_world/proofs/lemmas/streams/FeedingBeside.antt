@@ -12,27 +12,27 @@ use Rattle.law_structures.specs.lent_structures.Structures.{StructureSets}
 use Rattle.law_ring.specs.Hand.{Hand}
 use Rattle.claims_base.specs.Controller.{Base, opening_base}
 use Rattle.law_ring.specs.Order.{bytes_of_effect, GoesOnInOrder}
-use Rattle.law_ring.proofs.Adding.{event_adds}
+use Rattle.law_ring.proofs.Adding.{each_event_adds_to_the_end}
 use Rattle.law_controller.specs.controlled_streams.Control.{IsControlled, BeginsMicroframe, WalksRing, ControlEffect, a_microframe, a_step}
 use Rattle.law_ring.specs.Told.{Endpoint as Told}
 use Rattle.law_ring.specs.Bus.{Sender}
 use Rattle.law_ring.specs.Pipes.{IsPipe, ArePiped, grown}
-use Rattle.law_controller.proofs.lemmas.controlled_streams.Piping.{control_pipes}
+use Rattle.law_controller.proofs.lemmas.controlled_streams.Piping.{an_event_keeps_the_pipes}
 use Rattle.law_devices.specs.Senders.{sender_of}
-use Rattle.law_devices.proofs.Asking.{scripted_bus}
-use Rattle.law_devices.proofs.Beginning.{scripted_begins}
+use Rattle.law_devices.proofs.Asking.{a_scripted_bus_sends_its_streams}
+use Rattle.law_devices.proofs.Beginning.{a_microframe_keeps_its_senders}
 use Rattle.law_controller.specs.controlled_streams.Reported.{IsReported, AreReported}
-use Rattle.law_controller.proofs.lemmas.controlled_streams.Reporting.{event_reported}
+use Rattle.law_controller.proofs.lemmas.controlled_streams.Reporting.{an_event_leaves_the_report_right}
 use Rattle.law_driver_ring.proofs.Sorts.{driven_same}
-use Rattle.law_driver.proofs.lemmas.in_place.Elsewhere.{elsewhere_in_place}
+use Rattle.law_driver.proofs.lemmas.in_place.Elsewhere.{the_controller_keeps_all_in_place}
 use Rattle.bus_world.specs.World.{World, controller_parts, controller_next}
 use Rattle.law_world.specs.steps.Streaming.{Streams, Standing, begins_by, transacts_by, wired}
 use Rattle.law_world.proofs.lemmas.steps.StreamTurning.{world_has_row}
 use Rattle.law_queues.specs.shared_memory.Shared.{IsShared}
-use Rattle.law_queues.proofs.lemmas.shared_memory.Sharing.{control_same, event_elsewhere}
+use Rattle.law_queues.proofs.lemmas.shared_memory.Sharing.{control_same, the_controller_writes_elsewhere}
 use Rattle.law_controller.proofs.lemmas.controlled_streams.Events.{control_keeps}
-use Rattle.law_queues.proofs.lemmas.fed_events.Beside.{fed_still, last_still}
-use Rattle.law_controller.proofs.lemmas.controlled_streams.Waiting.{unopened_wait}
+use Rattle.law_queues.proofs.lemmas.fed_events.Beside.{fed_stays_beside, last_stays_beside}
+use Rattle.law_controller.proofs.lemmas.controlled_streams.Waiting.{unopened_senders_wait}
 use Rattle.law_world.specs.streams.Feeding.{there_of, IsFeeding, bytes_of_event, acc_after, Goes}
 use Rattle.law_world.specs.streams.FeedingLaws.{ControllerFeeds}
 use Rattle.law_world.proofs.lemmas.steps.lemmas.control_queues.Beside.{controller_keeps_controls}
@@ -74,7 +74,7 @@ module _ {W : Type 0} (begins : W → ℕ → Bool → W → Type 0) (transacts 
   step_counted : (k : WalksRing transacts parts hand wire after now later) → IsReported order out hand parts n acc reported → IsReported order out later now n (acc ++ bytes_of_effect n k.streams ∷ []) reported
   step_counted k r =
       let goes : GoesOnInOrder order out later now n r.told (bytes_of_effect n k.streams) =
-      event_adds transacts member parts hand (walk_place c).walk.reply wire after now later k.kind order r.place out n r.told controlled.ring.members controlled.ring.in_hand k.effect k.streams r.accounts in
+      each_event_adds_to_the_end transacts member parts hand (walk_place c).walk.reply wire after now later k.kind order r.place out n r.told controlled.ring.members controlled.ring.in_hand k.effect k.streams r.accounts in
       record { place = goes.place; told = r.told ++ bytes_of_effect n k.streams; accounts = goes.accounts; sum = one_more reported r.told (bytes_of_effect n k.streams) acc r.sum }
 
   event_counted : (z : ControlEffect begins transacts parts hand wire after now later) → IsReported order out hand parts n acc reported → IsReported order out later now n (acc ++ bytes_of_event n z ∷ []) reported
@@ -91,7 +91,7 @@ module _ (fixed : Fixed) (member : ℕ → Bool) (x : Streams) (s : Standing) (w
   head_counted : (n : ℕ) (b : Bool) → x.streams n ≡ b → there_of w.driver n ≡ true → IsReported (s.order n) (s.out n) g.event.later g.event.now n (acc_now n) (s.reported n)
   head_counted n true on there =
       subst (λ (xs : List (List ℕ)). IsReported (s.order n) (s.out n) g.event.later g.event.now n xs (s.reported n)) (sym (after_on x.streams s.acc g.at g.more (λ k. bytes_of_event k g.event.effect) n on))
-      (event_reported begins_by transacts_by x.stream x.packets sender_of opening_base member x.streams x.endpoint s.acc s.parts s.hand (controller_parts w) (wired fixed w) (wired fixed (controller_next fixed w)) (controller_parts (controller_next fixed w)) s.order s.out s.reported
+      (an_event_leaves_the_report_right begins_by transacts_by x.stream x.packets sender_of opening_base member x.streams x.endpoint s.acc s.parts s.hand (controller_parts w) (wired fixed w) (wired fixed (controller_next fixed w)) (controller_parts (controller_next fixed w)) s.order s.out s.reported
       f.working.streaming.controlled g f.working.streaming.right n on)
   head_counted n false off there =
       subst (λ (xs : List (List ℕ)). IsReported (s.order n) (s.out n) g.event.later g.event.now n xs (s.reported n)) (sym (after_off x.streams s.acc g.at g.more (λ k. bytes_of_event k g.event.effect) n off))
@@ -112,8 +112,8 @@ controller_feeds fixed member x s w heard tails f =
     let base = opening_base in
     let new : World = controller_next fixed w in
     let g : Goes fixed member x s w =
-    control_pipes begins_by transacts_by x.stream x.packets sender_of base member x.streams x.endpoint s.acc s.parts s.hand (controller_parts w) (wired fixed w) (controller_parts new) (wired fixed new)
-    k.streaming.ends (scripted_bus x.stream) (scripted_begins x.stream) k.streaming.controlled k.streaming.on k.streaming.piped (heard (wired fixed new)) (world_has_row fixed w) in
+    an_event_keeps_the_pipes begins_by transacts_by x.stream x.packets sender_of base member x.streams x.endpoint s.acc s.parts s.hand (controller_parts w) (wired fixed w) (controller_parts new) (wired fixed new)
+    k.streaming.ends (a_scripted_bus_sends_its_streams x.stream) (a_microframe_keeps_its_senders x.stream) k.streaming.controlled k.streaming.on k.streaming.piped (heard (wired fixed new)) (world_has_row fixed w) in
     let shared : IsShared base member s.parts s.hand (controller_parts w) w.driver = record { operating = k.operating; place = k.place; controlled = k.streaming.controlled; driven = k.driven } in
     let keeps = control_keeps begins_by transacts_by base member s.parts s.hand (controller_parts w) (wired fixed w) (wired fixed new) g.event.now g.event.later k.streaming.controlled g.event.effect in
     let counted = counted_now fixed member x s w f g in
@@ -129,8 +129,8 @@ controller_feeds fixed member x s w heard tails f =
             piped = piped_now fixed member x s w f g;
             right = right_of fixed member x s w f s.order s.out g.event.later g.event.now (acc_now fixed member x s w f g) s.reported counted;
           };
-          place = elsewhere_in_place w.driver w.memory new.memory
-              (event_elsewhere begins_by transacts_by base member s.parts s.hand (controller_parts w) w.driver (wired fixed w) (controller_parts new) (wired fixed new) shared (heard (wired fixed new)) (world_has_row fixed w)) k.place;
+          place = the_controller_keeps_all_in_place w.driver w.memory new.memory
+              (the_controller_writes_elsewhere begins_by transacts_by base member s.parts s.hand (controller_parts w) w.driver (wired fixed w) (controller_parts new) (wired fixed new) shared (heard (wired fixed new)) (world_has_row fixed w)) k.place;
           driven = driven_same (views_of w.driver) s.parts g.event.now
               (control_same begins_by transacts_by base member s.parts s.hand (controller_parts w) (wired fixed w) (wired fixed new) g.event.now g.event.later k.streaming.controlled g.event.effect) k.driven;
         };
@@ -138,15 +138,16 @@ controller_feeds fixed member x s w heard tails f =
         queues = record {
           met = f.queues.met;
           streams_are = f.queues.streams_are;
-          fed = fed_still w.driver s.parts g.event.now keeps f.queues.fed;
-          last = last_still w.driver s.parts g.event.now s.order keeps f.queues.last;
+          fed = fed_stays_beside w.driver s.parts g.event.now keeps f.queues.fed;
+          last = last_stays_beside w.driver s.parts g.event.now s.order keeps f.queues.last;
           out_are = f.queues.out_are;
         };
         counted = counted;
         controls = controller_keeps_controls begins_by transacts_by base member s.parts s.hand (controller_parts w) (wired fixed w) (wired fixed new) g.event.now g.event.later w.driver s.order s.out
             k.streaming.controlled g.event.effect (λ e z here met. (tails e z here met).stands) f.controls;
         controls_apart = f.controls_apart;
-        unopened = unopened_wait begins_by transacts_by x.stream x.packets sender_of base member x.streams x.endpoint s.acc s.parts s.hand (controller_parts w) (wired fixed w) (wired fixed new) g.event.now g.event.later
-            (scripted_bus x.stream) (scripted_begins x.stream) k.streaming.controlled k.streaming.piped g.event.effect f.unopened;
+        unopened = unopened_senders_wait begins_by transacts_by x.stream x.packets sender_of base member x.streams x.endpoint s.acc s.parts s.hand (controller_parts w) (wired fixed w) (wired fixed new) g.event.now g.event.later
+            (a_scripted_bus_sends_its_streams x.stream) (a_microframe_keeps_its_senders x.stream) k.streaming.controlled k.streaming.piped
+            g.event.effect f.unopened;
       };
     }

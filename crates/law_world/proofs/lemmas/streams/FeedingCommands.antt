@@ -16,7 +16,7 @@ use Rattle.claims_base.specs.Controller.{opening_base}
 use Rattle.law_driver_ring.specs.Driven.{DrivesRing}
 use Rattle.law_driver_ring.proofs.Commanding.{open_drives, transfer_drives}
 use Rattle.law_driver.specs.in_place.InPlace.{IsInPlace}
-use Rattle.law_driver.proofs.lemmas.in_place.Laws.{command_in_place}
+use Rattle.law_driver.proofs.lemmas.in_place.Laws.{commands_keep_all_in_place}
 use Rattle.bus_world.specs.World.{World, name_in, commanded_by}
 use Rattle.law_world.specs.steps.Streaming.{Streams, Standing}
 use Rattle.law_world.specs.streams.shared_worlds.Working.{IsWorking}
@@ -24,8 +24,8 @@ use Rattle.law_driver.specs.chained_transfers.Accepted.{IsAsked}
 use Rattle.claims_driver.specs.Scripts.{OpensAsynchronous}
 use Rattle.law_driver.specs.chained_transfers.Asynchronous.{IsRequested, AcceptsAsynchronous}
 use Rattle.law_driver.specs.chained_transfers.AsynchronousTurns.{AsynchronousTakesTurns}
-use Rattle.law_driver.proofs.lemmas.chained_transfers.Accepting.{command_accepts}
-use Rattle.law_driver.proofs.lemmas.chained_transfers.Commands.{command_takes_turns}
+use Rattle.law_driver.proofs.lemmas.chained_transfers.Accepting.{asynchronous_command_is_accepted}
+use Rattle.law_driver.proofs.lemmas.chained_transfers.Commands.{commands_keep_asynchronous_turns}
 use Rattle.claims_report.specs.Streams.{has_stream}
 use Rattle.law_queues.specs.fed_lends.Commands.{QueuesStand}
 use Rattle.law_queues.proofs.lemmas.fed_lends.Asked.{push_which, set_which}
@@ -77,10 +77,10 @@ module _ (fixed : Fixed) (member : ℕ → Bool) (x : Streams) (s : Standing) (w
   k = f.working
 
   in_place : IsInPlace o.memory o.driver
-  in_place = command_in_place w.driver w.memory cmd o room k.place is
+  in_place = commands_keep_all_in_place w.driver w.memory cmd o room k.place is
 
   turns : AsynchronousTakesTurns o.driver
-  turns = command_takes_turns w.driver w.memory cmd o k.place.sound.stands k.place.sound.owners f.turns only is
+  turns = commands_keep_asynchronous_turns w.driver w.memory cmd o k.place.sound.stands k.place.sound.owners f.turns only is
 
   -- it drives the ring, its queues stand, and no endpoint more is there
   accepted_feeding : DrivesRing opening_base member s.parts s.hand (place w.control.walk w.registers o.memory) o.driver → QueuesStand o.driver member x.streams x.endpoint s.parts s.order s.out
@@ -129,7 +129,7 @@ module _ (fixed : Fixed) (member : ℕ → Bool) (x : Streams) (s : Standing) (w
   feeding_as _ why = absurd why
 
   pub accepted_feeds : IsFeeding fixed member x s now
-  accepted_feeds = feeding_as cmd (command_accepts w.driver w.memory cmd o f.turns.asynchronous only is)
+  accepted_feeds = feeding_as cmd (asynchronous_command_is_accepted w.driver w.memory cmd o f.turns.asynchronous only is)
 
 by_offer : (fixed : Fixed) (member : ℕ → Bool) (x : Streams) (s : Standing) (w : World) (line : ℕ) (cmd : Cmd) (r : Result Offered OfferError) → OpensAsynchronous cmd → OpensApart x.stream w cmd → IsOffered w.driver.room cmd
     → IsFeeding fixed member x s w → offered w.driver w.memory cmd ≡ r → IsFeeding fixed member x s (commanded_by w line (name_in cmd) r)

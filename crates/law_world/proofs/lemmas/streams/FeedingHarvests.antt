@@ -27,17 +27,17 @@ use Rattle.law_driver_ring.proofs.Viewing.{harvest_views}
 use Rattle.law_driver_ring.proofs.lemmas.walk_members.Descriptions.{desc_of, row_left}
 use Rattle.claims_driver.specs.Owners.{EndpointRuns, runs_of_endpoint}
 use Rattle.law_driver.specs.run_owners.Due.{IsDue, IsHarvestDue}
-use Rattle.law_driver.proofs.lemmas.run_owners.Reasons.{each_is_due}
+use Rattle.law_driver.proofs.lemmas.run_owners.Reasons.{each_event_is_due}
 use Rattle.law_driver.specs.chained_transfers.Out.{out_now}
 use Rattle.claims_driver.specs.Scripts.{IsAsynchronous}
 use Rattle.law_driver.specs.chained_transfers.AsynchronousTurns.{AsynchronousTakesTurns}
 use Rattle.law_driver.proofs.lemmas.chained_transfers.BulkAndControl.{not_iso}
-use Rattle.law_driver.proofs.lemmas.chained_transfers.Events.{event_queues}
+use Rattle.law_driver.proofs.lemmas.chained_transfers.Events.{events_keep_asynchronous_turns}
 use Rattle.law_controller.specs.controlled_streams.Reported.{IsReported, AreReported}
 use Rattle.bus_world.specs.World.{World, driver_parts, driver_next, with_parts}
 use Rattle.law_world.specs.steps.Streaming.{Streams, Standing}
 use Rattle.law_world.specs.streams.shared_worlds.Working.{IsWorking}
-use Rattle.law_world.proofs.lemmas.streams.lemmas.shared_worlds.Worlds.{quiet_working}
+use Rattle.law_world.proofs.lemmas.streams.lemmas.shared_worlds.Worlds.{quiet_events_keep_it_working}
 use Rattle.law_driver_ring.specs.fed_queues.Places.{IsMet, HasThere, AreStillOut}
 use Rattle.law_driver_ring.proofs.lemmas.fed_queues.Places.{stands_met}
 use Rattle.law_queues.specs.fed_lends.Commands.{QueuesStand}
@@ -46,22 +46,22 @@ use Rattle.law_queues.specs.fed_harvests.Stalls.{StallLeaves}
 use Rattle.law_queues.proofs.lemmas.fed_harvests.Harvests.{bulk_unstalled, unstalled_stands, wait_stands}
 use Rattle.law_queues.proofs.lemmas.fed_harvests.Stalls.{stall_stands}
 use Rattle.law_queues.specs.mended_heads.Stalling.{IsStall, HaltsQueue}
-use Rattle.law_queues.proofs.lemmas.stalled_fronts.Halted.{stall_halts}
-use Rattle.law_queues.proofs.lemmas.stalled_fronts.Stalled.{stall_keeps}
+use Rattle.law_queues.proofs.lemmas.stalled_fronts.Halted.{stall_halts_queue}
+use Rattle.law_queues.proofs.lemmas.stalled_fronts.Stalled.{stall_keeps_fronts}
 use Rattle.law_queues.specs.released_queues.Fronts.{FrontsStand}
 use Rattle.law_queues.specs.harvest_laws.Told.{ToldStands}
 use Rattle.law_queues.specs.harvest_laws.ToldLaws.{HarvestReports}
-use Rattle.law_queues.proofs.lemmas.harvest_laws.ReadRows.{row_told, wait_told}
-use Rattle.law_queues.proofs.lemmas.harvest_laws.Requests.{request_row_told}
+use Rattle.law_queues.proofs.lemmas.harvest_laws.ReadRows.{harvest_row_is_told, wait_is_told}
+use Rattle.law_queues.proofs.lemmas.harvest_laws.Requests.{other_harvest_is_told}
 use Rattle.law_world.specs.streams.Feeding.{there_of, IsFeeding}
 use Rattle.law_world.specs.streams.HarvestFeeds.{HarvestLeaves as Leaves}
-use Rattle.law_world.proofs.lemmas.streams.FeedingPassed.{passed_untold}
+use Rattle.law_world.proofs.lemmas.streams.FeedingPassed.{passed_are_untold}
 use Rattle.claims_report.specs.Streams.{has_stream}
 use Rattle.law_world.proofs.lemmas.steps.lemmas.control_queues.Harvests.{harvest_keeps_controls}
 use Rattle.law_world.proofs.lemmas.streams.Names.{row_apart}
 use Rattle.law_world.proofs.lemmas.streams.Told.{HasBulkThere, there_by, bulk_there, stream_kind, bulk_kind, control_kind}
 use Rattle.law_world.proofs.lemmas.streams.Heads.{queue_reported, rising, right_of, control_head}
-use Rattle.law_queues.proofs.lemmas.standing_fronts.Rows.{harvest_keeps}
+use Rattle.law_queues.proofs.lemmas.standing_fronts.Rows.{harvest_keeps_fronts}
 use Rattle.claims_driver.specs.Leaving.{HasOwners}
 use Rattle.law_ring.proofs.QueueParts.{member_part}
 
@@ -108,16 +108,16 @@ module _ (fixed : Fixed) (member : ℕ → Bool) (x : Streams) (s : Standing) (w
   new = with_parts w (after_driver_row (rows.Harvest e t found) (driver_parts w))
 
   due : IsHarvestDue (driver_parts w) e t found
-  due = subst (IsDue (driver_parts w)) row (each_is_due (driver_parts w))
+  due = subst (IsDue (driver_parts w)) row (each_event_is_due (driver_parts w))
 
   working : IsWorking fixed opening_base member x s new
-  working = subst (λ (r : DriverRow). IsWorking fixed opening_base member x s (with_parts w (after_driver_row r (driver_parts w)))) row (quiet_working fixed opening_base member x s w f.working (ap is_quiet row))
+  working = subst (λ (r : DriverRow). IsWorking fixed opening_base member x s (with_parts w (after_driver_row r (driver_parts w)))) row (quiet_events_keep_it_working fixed opening_base member x s w f.working (ap is_quiet row))
 
   owners : HasOwners w.driver
   owners = f.working.place.sound.owners
 
   turns : AsynchronousTakesTurns new.driver
-  turns = subst (λ (r : DriverRow). AsynchronousTakesTurns (after_driver_row r (driver_parts w)).driver) row (event_queues (driver_parts w) owners f.turns)
+  turns = subst (λ (r : DriverRow). AsynchronousTakesTurns (after_driver_row r (driver_parts w)).driver) row (events_keep_asynchronous_turns (driver_parts w) owners f.turns)
 
   no_open : (b : ℕ) → None ≡ Some (unfinished.Open b) → ⊥
   no_open b is = cc
@@ -160,7 +160,7 @@ module _ (fixed : Fixed) (member : ℕ → Bool) (x : Streams) (s : Standing) (w
   -- no control endpoint answered STALL
   fronts_then : IsNoStall → (later : ℕ → List ℕ) → AreStillOut new.driver later → FrontsStand new.driver s.parts s.order later
   fronts_then unstalled later still =
-      harvest_keeps (driver_parts w) e t found s.parts s.order s.out later due owners f.turns unstalled f.working.streaming.controlled.ring.tells f.queues.fed (rising fixed member x s w f) f.queues.out_are still fronts
+      harvest_keeps_fronts (driver_parts w) e t found s.parts s.order s.out later due owners f.turns unstalled f.working.streaming.controlled.ring.tells f.queues.fed (rising fixed member x s w f) f.queues.out_are still fronts
 
   -- ---- what stands after it, by what is out and reported then
 
@@ -197,7 +197,7 @@ module _ (fixed : Fixed) (member : ℕ → Bool) (x : Streams) (s : Standing) (w
       (wait_stands (driver_parts w) e t member x.streams x.endpoint s.parts s.order s.out (subst (IsHarvestDue (driver_parts w) e t) is due) f.queues) in
       leaves s.out s.reported queues (fronts_then (λ stall. subst (IsStall due.endpoint.desc.kind) is stall) s.out queues.out_are)
       (subst (λ (z : Found). ToldStands (after_driver_row (rows.Harvest e t z) (driver_parts w)).driver s.hand s.parts s.reported) (sym is)
-      (wait_told (driver_parts w) s.parts s.hand e t s.reported (subst (IsHarvestDue (driver_parts w) e t) is due) told))
+      (wait_is_told (driver_parts w) s.parts s.hand e t s.reported (subst (IsHarvestDue (driver_parts w) e t) is due) told))
       f.counted
 
   -- ---- it is done
@@ -224,7 +224,7 @@ module _ (fixed : Fixed) (member : ℕ → Bool) (x : Streams) (s : Standing) (w
       subst (λ (now : List ℕ). IsReported (s.order k) now s.hand s.parts k (s.acc k) (s.reported k)) (sym (out_beside out k apart)) (f.counted k there)
 
   request_told : is_control due.endpoint.desc.kind ≡ true → ToldStands new.driver s.hand s.parts s.reported
-  request_told control = (request_row_told (driver_parts w) s.parts s.hand e t found s.reported due owners f.turns (control_kind due.endpoint.desc.kind control) told).stands
+  request_told control = (other_harvest_is_told (driver_parts w) s.parts s.hand e t found s.reported due owners f.turns (control_kind due.endpoint.desc.kind control) told).stands
 
   control_done : found ≢ founds.Active → is_control due.endpoint.desc.kind ≡ true → IsNoStall → Leaves fixed member x s new
   control_done differs control unstalled =
@@ -236,7 +236,7 @@ module _ (fixed : Fixed) (member : ℕ → Bool) (x : Streams) (s : Standing) (w
   stalled : is_control due.endpoint.desc.kind ≡ true → IsStall due.endpoint.desc.kind found → Leaves fixed member x s new
   stalled control stall =
       leaves later s.reported sl.stand
-      (stall_keeps (driver_parts w) e t found member x.streams x.endpoint s.parts s.order s.out later due stall owners f.working.place.lent f.turns f.queues sl.stand.out_are on halts fronts) (request_told control)
+      (stall_keeps_fronts (driver_parts w) e t found member x.streams x.endpoint s.parts s.order s.out later due stall owners f.working.place.lent f.turns f.queues sl.stand.out_are on halts fronts) (request_told control)
       (counted_beside control out)
     where
       sl : StallLeaves (driver_parts w) e t found due member x.streams x.endpoint s.parts s.order s.out
@@ -251,7 +251,7 @@ module _ (fixed : Fixed) (member : ℕ → Bool) (x : Streams) (s : Standing) (w
       halts : HaltsQueue (later (32 * due.endpoint.queue)) s.parts (32 * due.endpoint.queue)
       halts =
           subst (λ (now : List ℕ). HaltsQueue now s.parts (32 * due.endpoint.queue)) (sl.stalled.now ∙ sym (out_here out))
-          (stall_halts (driver_parts w) e t found member x.streams x.endpoint s.parts s.order s.out due stall owners f.turns f.working.streaming.controlled.ring.tells f.queues met on
+          (stall_halts_queue (driver_parts w) e t found member x.streams x.endpoint s.parts s.order s.out due stall owners f.turns f.working.streaming.controlled.ring.tells f.queues met on
           (f.controls.stops e due.endpoint due.here met) (f.controls.sorted e due.endpoint due.here met.there) fronts)
 
   -- ---- .. of a bulk endpoint
@@ -267,8 +267,8 @@ module _ (fixed : Fixed) (member : ℕ → Bool) (x : Streams) (s : Standing) (w
 
     reports : found ≢ founds.Active → HarvestReports (s.order (32 * due.endpoint.queue)) w.driver new.driver s.hand s.parts e due.endpoint (s.acc (32 * due.endpoint.queue)) s.reported
     reports differs =
-        row_told (s.order (32 * due.endpoint.queue)) (driver_parts w) s.parts s.hand e t found (s.acc (32 * due.endpoint.queue)) s.reported due differs owners f.turns kind f.queues.fed f.working.streaming.controlled.ring.tells (member_part member (32 * due.endpoint.queue) (s.parts (32 * due.endpoint.queue)) on)
-        (λ a z earlier of_it. passed_untold w.driver s.parts s.hand s.order s.out e t due.endpoint a z due.idle f.turns.turns f.queues.out_are fronts due.here met due.goes_on due.next earlier of_it) told right_now
+        harvest_row_is_told (s.order (32 * due.endpoint.queue)) (driver_parts w) s.parts s.hand e t found (s.acc (32 * due.endpoint.queue)) s.reported due differs owners f.turns kind f.queues.fed f.working.streaming.controlled.ring.tells (member_part member (32 * due.endpoint.queue) (s.parts (32 * due.endpoint.queue)) on)
+        (λ a z earlier of_it. passed_are_untold w.driver s.parts s.hand s.order s.out e t due.endpoint a z due.idle f.turns.turns f.queues.out_are fronts due.here met due.goes_on due.next earlier of_it) told right_now
 
     bulk_done : found ≢ founds.Active → Leaves fixed member x s new
     bulk_done differs = leaves later now hl.stand (fronts_then (bulk_unstalled due.endpoint.desc.kind found kind) later hl.stand.out_are) (hr.stands now now_here now_beside) counted

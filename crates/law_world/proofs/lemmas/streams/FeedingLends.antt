@@ -7,12 +7,12 @@ use Rattle.drv_table.specs.Rows.{driver_row}
 use Rattle.law_structures.specs.lent_structures.Structures.{Table}
 use Rattle.claims_base.specs.Controller.{opening_base}
 use Rattle.law_driver_ring.specs.Driven.{DrivesRing}
-use Rattle.law_driver.proofs.lemmas.in_place.Laws.{event_in_place}
+use Rattle.law_driver.proofs.lemmas.in_place.Laws.{events_keep_all_in_place}
 use Rattle.async_walk.specs.Rows.{place}
 use Rattle.law_devices.specs.Senders.{sender_of}
 use Rattle.bus_world.specs.World.{World, driver_parts, driver_next}
 use Rattle.law_world.specs.steps.Streaming.{wired}
-use Rattle.law_driver.proofs.lemmas.chained_transfers.Events.{event_queues}
+use Rattle.law_driver.proofs.lemmas.chained_transfers.Events.{events_keep_asynchronous_turns}
 use Rattle.law_queues.specs.fed_lends.ToLend.{IsToBeLent}
 use Rattle.law_queues.proofs.lemmas.fed_lends.Row.{after_is}
 use Rattle.law_queues.proofs.lemmas.lent_fronts.Row.{lend_row_leaves_fronts}
@@ -63,10 +63,10 @@ lend_feeds fixed member x s w b words lent f fronts runs =
             piped = g.piped;
             right = right_of fixed member x s w f g.order g.out s.hand g.parts s.acc s.reported g.reports;
           };
-          place = event_in_place p k.place;
+          place = events_keep_all_in_place p k.place;
           driven = g.drives.driven;
         };
-        turns = event_queues p sound.owners f.turns;
+        turns = events_keep_asynchronous_turns p sound.owners f.turns;
         queues = g.queues;
         counted = λ n on. g.reports n (lent_there w b words lent n on);
         controls = lend_keeps_controls p b words member x.streams x.endpoint s.parts g.parts s.order g.order s.out g.out lent f.turns k.streaming.controlled.ring.members f.queues g.queues g.behind f.controls;

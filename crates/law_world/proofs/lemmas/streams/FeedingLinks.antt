@@ -17,13 +17,13 @@ use Rattle.law_driver_ring.specs.Linked.{head_at, with_member}
 use Rattle.claims_base.specs.Controller.{opening_base}
 use Rattle.law_driver_ring.specs.Driven.{DrivesRing}
 use Rattle.law_structures.specs.lent_structures.Sound.{IsMember}
-use Rattle.law_driver.proofs.lemmas.in_place.Laws.{event_in_place}
+use Rattle.law_driver.proofs.lemmas.in_place.Laws.{events_keep_all_in_place}
 use Rattle.async_walk.specs.Rows.{place}
 use Rattle.law_devices.specs.Senders.{sender_of}
 use Rattle.bus_world.specs.World.{World, driver_parts, driver_next}
 use Rattle.law_world.specs.steps.Streaming.{Streams, Standing, wired}
 use Rattle.claims_driver.specs.Scripts.{comes_in}
-use Rattle.law_driver.proofs.lemmas.chained_transfers.Events.{event_queues}
+use Rattle.law_driver.proofs.lemmas.chained_transfers.Events.{events_keep_asynchronous_turns}
 use Rattle.law_driver_ring.specs.fed_queues.Places.{HasThere}
 use Rattle.law_controller.specs.controlled_streams.Opened.{with_stream, with_end, with_none}
 use Rattle.law_queues.specs.open_laws.Opens.{IsOpenLent, AreNamesApart, IsAtOpen, head_then, hand_then, end_then, streams_then}
@@ -143,10 +143,10 @@ module _ (fixed : Fixed) (member : ℕ → Bool) (x : Streams) (s : Standing) (w
             piped = pipes.1;
             right = λ i on. reports_now i (stream_wider w.driver x.streams e i (stream_on fixed member x s w f) on);
           };
-          place = event_in_place p g.place;
+          place = events_keep_all_in_place p g.place;
           driven = drives.driven;
         };
-        turns = event_queues p g.place.sound.owners f.turns;
+        turns = events_keep_asynchronous_turns p g.place.sound.owners f.turns;
         queues = record { met = stands.met; streams_are = stands.streams_are; fed = stands.fed; last = stands.last; out_are = stands.out_are };
         counted = λ i on. reports_now i (there_wider w.driver (driver_next w).driver e i lent.command (ap (λ (g : DriverContent). g.endpoints) (driver_is p member x.streams x.endpoint s.parts s.order s.out at_open)) on);
         controls = open_link_keeps_controls p member x.streams x.endpoint s.parts s.order s.out at_open f.controls;

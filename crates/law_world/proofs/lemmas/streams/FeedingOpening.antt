@@ -31,9 +31,9 @@ use Rattle.claims_base.specs.Controller.{opening_base}
 use Rattle.law_driver_ring.specs.PartOpened.{opening_parts, is_head}
 use Rattle.bus_world.specs.Rooms.{room_of_script}
 use Rattle.law_queues.specs.shared_memory.Shared.{IsShared}
-use Rattle.law_queues.proofs.lemmas.shared_memory.Sharing.{opening_shared}
+use Rattle.law_queues.proofs.lemmas.shared_memory.Sharing.{the_opening_is_shared}
 use Rattle.law_controller.specs.controlled_streams.Unopened.{IsUntouched}
-use Rattle.law_driver.proofs.lemmas.chained_transfers.Events.{new_queues}
+use Rattle.law_driver.proofs.lemmas.chained_transfers.Events.{new_driver_takes_asynchronous_turns}
 use Rattle.law_world.proofs.lemmas.steps.lemmas.control_queues.Beside.{new_driver_controls}
 use Rattle.law_world.specs.streams.Feeding.{left_of, streams_of}
 use Rattle.law_world.specs.streams.FeedingLaws.{NewWorldFeeds}
@@ -107,7 +107,7 @@ untouched (Some z) k on = record { sender = z; is = refl; left = refl; sends = k
 pub new_world_feeds : NewWorldFeeds
 new_world_feeds s fit =
     let k : IsShared opening_base is_head opening_parts Empty (content new_control (opening s.words (room_of_script s)).registers (opening s.words (room_of_script s)).memory) (opening s.words (room_of_script s)).driver =
-    opening_shared s.words (room_of_script s) fit.least fit.most fit.whole_pages in
+    the_opening_is_shared s.words (room_of_script s) fit.least fit.most fit.whole_pages in
     record {
       working = record {
         operating = k.operating;
@@ -126,7 +126,7 @@ new_world_feeds s fit =
         place = k.place;
         driven = k.driven;
       };
-      turns = new_queues s.words (room_of_script s);
+      turns = new_driver_takes_asynchronous_turns s.words (room_of_script s);
       queues = record {
         met = record { head = refl; each = λ e x here. absurd (cc); only = λ n on. inl (eqb-true n 4096 on) };
         streams_are = record { each = λ e x here. absurd (cc); only = λ n on. absurd (false≢true on) };

@@ -19,7 +19,7 @@ use Rattle.law_driver.specs.chained_transfers.Turns.{IsAtPlace, turn_of, turn_in
 use Rattle.law_driver.specs.chained_transfers.Out.{pieces_from, passed, unpublished, if_last, out_of_transfer, out_of}
 use Rattle.law_driver_ring.specs.fed_queues.Places.{IsMet, AreStillOut}
 use Rattle.law_ring.specs.Front.{IsPassed}
-use Rattle.law_controller.proofs.lemmas.controlled_streams.Returning.{passed_none}
+use Rattle.law_controller.proofs.lemmas.controlled_streams.Returning.{passed_has_none}
 use Rattle.law_queues.specs.released_queues.Fronts.{StandsAt, FrontsStand}
 use Rattle.law_queues.specs.harvest_laws.Outs.{IsOutEarlier}
 
@@ -84,10 +84,10 @@ is_out note e made zero p (y ∷ ys) z here k =
     (subst (λ (i : ℕ). IsAmong p (out_of_transfer note e i y)) (sym (none_first ys made y.qtds)) (subst (λ (v : Transfer). IsAmong p (out_of_transfer note e 0 v)) (sym (same_Some y z here)) k))
 is_out note e made (suc n) p (y ∷ ys) z here k = among_back p (out_of_transfer note e (if_last ys (unpublished None made y.qtds)) y) (out_of note e None made ys) (is_out note e made n p ys z here k)
 
-pub passed_untold : (d : DriverContent) (parts : StructureSets) (hand : Hand) (order : ℕ → ℕ → ℕ) (out : ℕ → List ℕ) (e t : ℕ) (x : Endpoint) (a : ℕ) (z : List ℕ) → d.command ≡ None → AreInTurn d → AreStillOut d out → FrontsStand d parts order out
+pub passed_are_untold : (d : DriverContent) (parts : StructureSets) (hand : Hand) (order : ℕ → ℕ → ℕ) (out : ℕ → List ℕ) (e t : ℕ) (x : Endpoint) (a : ℕ) (z : List ℕ) → d.command ≡ None → AreInTurn d → AreStillOut d out → FrontsStand d parts order out
     → slice_get d.endpoints e ≡ Some x → IsMet d e x → x.ended ≡ None → x.next ≡ Some t → IsOutEarlier (note_in d.notes) e t d.transfers a → Told hand parts (32 * x.queue) a z → z ≡ []
-passed_untold d parts hand order out e t x a z idle turns still fronts here met going next k told =
-    passed_none (order (32 * x.queue)) stand.front (out (32 * x.queue)) hand parts (32 * x.queue) a z stand.has among over.before told
+passed_are_untold d parts hand order out e t x a z idle turns still fronts here met going next k told =
+    passed_has_none (order (32 * x.queue)) stand.front (out (32 * x.queue)) hand parts (32 * x.queue) a z stand.has among over.before told
     (ap (λ (q : Qtd). q.token.active) (found_element (parts (32 * x.queue) a) told.qtd over.qtd told.here over.here) ∙ over.published)
   where
     y : Transfer

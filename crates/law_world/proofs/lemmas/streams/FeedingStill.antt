@@ -17,19 +17,19 @@ use Rattle.drv_table.specs.Parts.{Parts}
 use Rattle.drv_table.specs.Rows.{driver_row, after_driver_row}
 use Rattle.law_driver.specs.run_owners.Due.{IsDue}
 use Rattle.claims_driver.specs.Owners.{note_in}
-use Rattle.law_driver.proofs.lemmas.run_owners.Reasons.{each_is_due}
+use Rattle.law_driver.proofs.lemmas.run_owners.Reasons.{each_event_is_due}
 use Rattle.law_driver.specs.endpoint_lives.Lives.{is_one_of, may_meet}
 use Rattle.law_driver.proofs.lemmas.endpoint_lives.Lives.{one_of_joined}
 use Rattle.law_structures.specs.lent_structures.Structures.{StructureSets}
 use Rattle.law_ring.specs.Told.{Endpoint as Told}
 use Rattle.law_driver_ring.specs.Driven.{is_quiet}
 use Rattle.bus_world.specs.World.{driver_parts}
-use Rattle.law_world.proofs.lemmas.streams.lemmas.shared_worlds.Worlds.{quiet_working}
+use Rattle.law_world.proofs.lemmas.streams.lemmas.shared_worlds.Worlds.{quiet_events_keep_it_working}
 use Rattle.claims_base.specs.Controller.{opening_base}
-use Rattle.law_driver.proofs.lemmas.chained_transfers.Events.{event_queues}
+use Rattle.law_driver.proofs.lemmas.chained_transfers.Events.{events_keep_asynchronous_turns}
 use Rattle.law_driver_ring.specs.fed_queues.Places.{IsMet, HasHead}
 use Rattle.law_queues.specs.fed_lends.Commands.{QueuesStand}
-use Rattle.law_queues.proofs.lemmas.fed_harvests.Like.{like_stands}
+use Rattle.law_queues.proofs.lemmas.fed_harvests.Like.{alike_stands}
 use Rattle.law_world.proofs.lemmas.streams.Names.{row_apart}
 use Rattle.law_world.specs.streams.Feeding.{there_of}
 use Rattle.law_world.specs.steps.control_queues.Beside.{touches_none}
@@ -40,7 +40,7 @@ use Rattle.law_world.specs.streams.FeedingLaws.{is_still, StillFeeds}
 same_stands : (d f : DriverContent) (member streams : ℕ → Bool) (ends : ℕ → Told) (parts : StructureSets) (order : ℕ → ℕ → ℕ) (out : ℕ → List ℕ) → d.command ≡ None → f.command ≡ None → f.book ≡ d.book
     → f.endpoints ≡ d.endpoints → f.transfers ≡ d.transfers → f.notes ≡ d.notes → f.made ≡ d.made → f.waiting ≡ d.waiting → f.rung ≡ d.rung → QueuesStand d member streams ends parts order out → QueuesStand f member streams ends parts order out
 same_stands d f member streams ends parts order out idle idle_now book endpoints transfers notes made waiting rung old =
-    like_stands d f member streams ends parts order out out
+    alike_stands d f member streams ends parts order out out
     (record {
       idle = idle;
       idle_now = idle_now;
@@ -137,9 +137,9 @@ pub still_feeds : StillFeeds
 still_feeds fixed member x s w still f =
     let p = driver_parts w in
     record {
-      working = quiet_working fixed opening_base member x s w f.working (still_quiet (driver_row p) still);
-      turns = event_queues p f.working.place.sound.owners f.turns;
-      queues = still_queues (driver_row p) p member x.streams x.endpoint s.parts s.order s.out (each_is_due p) still f.queues;
+      working = quiet_events_keep_it_working fixed opening_base member x s w f.working (still_quiet (driver_row p) still);
+      turns = events_keep_asynchronous_turns p f.working.place.sound.owners f.turns;
+      queues = still_queues (driver_row p) p member x.streams x.endpoint s.parts s.order s.out (each_event_is_due p) still f.queues;
       counted = λ n on. f.counted n (still_there (driver_row p) p n still on);
       controls = silent_keeps_controls p s.parts s.order s.out (still_silent (driver_row p) still) f.controls;
       controls_apart = row_apart x.stream (driver_row p) p f.controls_apart;

@@ -16,7 +16,7 @@ use Rattle.law_ring.proofs.QueueParts.{member_part}
 use Rattle.law_controller.specs.controlled_streams.Reported.{AreReported}
 use Rattle.claims_base.specs.Controller.{opening_base}
 use Rattle.law_driver_ring.specs.Driven.{DrivesRing}
-use Rattle.law_driver.proofs.lemmas.in_place.Laws.{event_in_place}
+use Rattle.law_driver.proofs.lemmas.in_place.Laws.{events_keep_all_in_place}
 use Rattle.async_walk.specs.Rows.{place}
 use Rattle.law_devices.specs.Senders.{sender_of}
 use Rattle.bus_world.specs.World.{World, driver_parts, driver_next}
@@ -25,7 +25,7 @@ use Rattle.law_world.specs.streams.shared_worlds.Working.{IsWorking}
 use Rattle.law_driver.specs.chained_transfers.Asynchronous.{OnlyAsynchronous}
 use Rattle.law_driver.proofs.lemmas.chained_transfers.BulkAndControl.{not_iso}
 use Rattle.law_driver.proofs.lemmas.chained_transfers.Staying.{stands_alive}
-use Rattle.law_driver.proofs.lemmas.chained_transfers.Events.{event_queues}
+use Rattle.law_driver.proofs.lemmas.chained_transfers.Events.{events_keep_asynchronous_turns}
 use Rattle.law_driver_ring.specs.fed_queues.Fed.{IsPublished}
 use Rattle.law_queues.specs.publish_laws.Stores.{IsAtStore, published_by, parts_then, out_then, QueuesThen, next_of}
 use Rattle.law_queues.proofs.lemmas.publish_laws.Storing.{store_publishes, store_keeps_pipes, store_reports, store_stands}
@@ -121,7 +121,7 @@ module _ (fixed : Fixed) (member : ℕ → Bool) (x : Streams) (s : Standing) (w
           piped = store_keeps_pipes sender_of x.stream x.packets s.acc (wired fixed w) s.hand p member x.streams x.endpoint s.parts s.order s.out b words at k.streaming.piped;
           right = right_of fixed member x s w f s.order (out_then s.out (next_of p).driver stored) s.hand (parts_then stored) s.acc s.reported counted_then;
         };
-        place = event_in_place p k.place;
+        place = events_keep_all_in_place p k.place;
         driven = store_drives.driven;
       }
 
@@ -130,7 +130,7 @@ module _ (fixed : Fixed) (member : ℕ → Bool) (x : Streams) (s : Standing) (w
       let stands = queues_then in
       record {
         working = working_then;
-        turns = event_queues p k.place.sound.owners f.turns;
+        turns = events_keep_asynchronous_turns p k.place.sound.owners f.turns;
         queues = record { met = stands.met; streams_are = stands.streams_are; fed = stands.fed; last = stands.last; out_are = stands.out_are };
         counted = λ n on. counted_then n (stored_there n on);
         controls = store_keeps_controls p member x.streams x.endpoint s.parts s.order s.out b words at f.controls;

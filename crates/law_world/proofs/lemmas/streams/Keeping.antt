@@ -15,7 +15,7 @@ use Rattle.law_ring.specs.Hand.{Hand}
 use Rattle.claims_base.specs.Controller.{Base}
 use Rattle.law_controller.specs.controlled_streams.Control.{IsControlled, ControlEffect, a_microframe, a_step}
 use Rattle.law_driver_ring.specs.Extents.{KeepExtents, AreInRuns}
-use Rattle.law_driver_ring.proofs.Extending.{extents_stay, walk_keeps}
+use Rattle.law_driver_ring.proofs.Extending.{extents_stay, walk_keeps_extents}
 use Rattle.law_queues.proofs.lemmas.fed_lends.Accepting.{to_be_lent_stays}
 use Rattle.law_queues.specs.standing_fronts.Along.{LinksOfQueuesRise}
 use Rattle.law_queues.proofs.lemmas.standing_fronts.Reaching.{reaches_walk}
@@ -48,7 +48,7 @@ same_extents parts now same = subst (KeepExtents parts) (sym same) (record {
 module _ {W : Type 0} (begins : W → ℕ → Bool → W → Type 0) (transacts : W → Ask → List ℕ → Reply → W → Type 0) (base : Base) (member : ℕ → Bool) (parts : StructureSets) (hand : Hand) (c : Content) (wire after : W) (now : StructureSets) (later : Hand) (controlled : IsControlled base member parts hand c) where
   control_extents : ControlEffect begins transacts parts hand wire after now later → KeepExtents parts now
   control_extents (a_microframe b) = same_extents parts now b.parts_stay
-  control_extents (a_step s) = walk_keeps transacts member parts hand (walk_place c).walk.reply wire after now later s.kind controlled.ring.in_hand s.effect
+  control_extents (a_step s) = walk_keeps_extents transacts member parts hand (walk_place c).walk.reply wire after now later s.kind controlled.ring.in_hand s.effect
 
   pub runs_stay : (v : Views) → ControlEffect begins transacts parts hand wire after now later → AreInRuns v parts → AreInRuns v now
   runs_stay v effect runs =

@@ -7,7 +7,7 @@ use Rattle.drv_table.specs.declared.rows.DriverRow.{DriverRow}
 use Rattle.drv_table.specs.declared.rows.DriverRow.TheVariants as rows
 use Rattle.drv_table.specs.Rows.{driver_row}
 use Rattle.law_driver.specs.run_owners.Due.{IsDue}
-use Rattle.law_driver.proofs.lemmas.run_owners.Reasons.{each_is_due}
+use Rattle.law_driver.proofs.lemmas.run_owners.Reasons.{each_event_is_due}
 use Rattle.bus_wire.specs.Bus.{Fixed}
 use Rattle.bus_world.specs.World.{World, driver_parts, driver_next}
 use Rattle.law_world.specs.steps.Streaming.{Streams, Standing}
@@ -82,7 +82,7 @@ module _ (fixed : Fixed) (takes : ℕ → ℕ → Bool) (member : ℕ → Bool) 
   -- .. and one while a command is unfinished
   pub busy_left : (c : Command) → w.driver.command ≡ Some c → IsLeft fixed takes x.packets s.acc (driver_next w)
   busy_left c busy =
-      let due : IsDue (driver_parts w) (driver_row (driver_parts w)) = each_is_due (driver_parts w) in
+      let due : IsDue (driver_parts w) (driver_row (driver_parts w)) = each_event_is_due (driver_parts w) in
       row_left (driver_row (driver_parts w)) refl
       (λ same. let is : IsDue (driver_parts w) rows.ClearAdvance = subst (IsDue (driver_parts w)) same due in no_command w.driver.command c is.0 busy)
       (λ e same. let is : IsDue (driver_parts w) (rows.ReleaseEndpoint e) = subst (IsDue (driver_parts w)) same due in no_command w.driver.command c is.idle busy)

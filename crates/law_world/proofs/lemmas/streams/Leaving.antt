@@ -11,14 +11,14 @@ use Rattle.drv_table.specs.Parts.{Parts}
 use Rattle.drv_table.specs.Rows.{driver_row, after_driver_row}
 use Rattle.law_driver.specs.run_owners.Due.{IsDue, IsHarvestDue}
 use Rattle.claims_driver.specs.Owners.{SlotHas, Views, views_of}
-use Rattle.law_driver.proofs.lemmas.run_owners.Reasons.{each_is_due}
+use Rattle.law_driver.proofs.lemmas.run_owners.Reasons.{each_event_is_due}
 use Rattle.law_driver.proofs.lemmas.lent_runs.Books.{harvest_book}
 use Rattle.law_structures.specs.lent_structures.Structures.{StructureSets}
 use Rattle.law_driver_ring.proofs.Viewing.{SameViews, harvest_views}
 use Rattle.law_driver_ring.specs.Extents.{AreInRuns}
 use Rattle.law_driver_ring.proofs.Extending.{extents_stay}
 use Rattle.law_queues.specs.open_laws.Opens.{AreNamesApart}
-use Rattle.law_queues.proofs.lemmas.open_names.Apart.{events_apart}
+use Rattle.law_queues.proofs.lemmas.open_names.Apart.{names_stay_apart}
 use Rattle.law_world.proofs.lemmas.streams.KeptLeft.{whole_of, row_left}
 use Rattle.law_queues.specs.released_queues.Fronts.{FrontsStand}
 use Rattle.law_queues.specs.standing_fronts.Reaching.{Reaches}
@@ -59,7 +59,7 @@ module _ (fixed : Fixed) (takes : ℕ → ℕ → Bool) (member : ℕ → Bool) 
   new = (after_driver_row (driver_row (driver_parts w)) (driver_parts w)).driver
 
   pub due : IsHarvestDue (driver_parts w) e t found
-  due = subst (IsDue (driver_parts w)) row (each_is_due (driver_parts w))
+  due = subst (IsDue (driver_parts w)) row (each_event_is_due (driver_parts w))
 
   command : new.command ≡ None
   command =
@@ -73,7 +73,7 @@ module _ (fixed : Fixed) (takes : ℕ → ℕ → Bool) (member : ℕ → Bool) 
   leaves = harvest_feeds fixed member x s w e t found row k.feeding fronts k.told
 
   names : AreNamesApart new
-  names = events_apart (driver_parts w) k.names
+  names = names_stay_apart (driver_parts w) k.names
 
   -- none is being opened
   sides : (way : Bool) (has : ℕ → ℕ → Bool) → HaveSides way new has
@@ -112,5 +112,5 @@ module _ (fixed : Fixed) (takes : ℕ → ℕ → Bool) (member : ℕ → Bool) 
   pub harvest_leaves_whole : HasWhole fixed takes x.stream x.packets (driver_next w)
   harvest_leaves_whole = whole_of fixed takes member x (record s { out = leaves.out; reported = leaves.reported }) (driver_next w) (whole_harvested leaves)
 
-pub harvest_whole : HarvestKeepsWhole
-harvest_whole fixed takes member x s w e t found row k = harvest_leaves_whole fixed takes member x s w e t found row k
+pub harvest_keeps_whole : HarvestKeepsWhole
+harvest_keeps_whole fixed takes member x s w e t found row k = harvest_leaves_whole fixed takes member x s w e t found row k

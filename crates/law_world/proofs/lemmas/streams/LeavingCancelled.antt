@@ -13,7 +13,7 @@ use Rattle.drv_table.specs.Offers.{offered, IsOffered}
 use Rattle.drv_table.specs.CancelOffers.{accepted_cancel}
 use Rattle.law_driver.specs.run_owners.Accepts.{Cancels}
 use Rattle.claims_driver.specs.Owners.{SlotHas, Views, views_of}
-use Rattle.law_driver.proofs.lemmas.chained_transfers.Accepting.{command_accepts}
+use Rattle.law_driver.proofs.lemmas.chained_transfers.Accepting.{asynchronous_command_is_accepted}
 use Rattle.law_world.proofs.lemmas.streams.Names.{command_apart}
 use Rattle.law_structures.specs.lent_structures.Structures.{StructureSets}
 use Rattle.law_driver_ring.specs.Extents.{KeepExtents, AreInRuns}
@@ -23,9 +23,9 @@ use Rattle.law_driver_ring.proofs.Opens.{cancel_views}
 use Rattle.law_queues.specs.open_laws.Opens.{AreNamesApart}
 use Rattle.law_queues.specs.leaving_drivers.Before.{WasSame, UnlinksAtMost, IsAsBefore}
 use Rattle.law_queues.proofs.lemmas.leaving_drivers.Alike.{not_open}
-use Rattle.law_queues.proofs.lemmas.leaving_drivers.Leaving.{cancel_as_before}
+use Rattle.law_queues.proofs.lemmas.leaving_drivers.Leaving.{cancel_is_as_before}
 use Rattle.law_world.specs.streams.Beside.{IsTold}
-use Rattle.law_world.proofs.lemmas.streams.FedBeside.{cancel_told}
+use Rattle.law_world.proofs.lemmas.streams.FedBeside.{cancel_keeps_told}
 use Rattle.law_world.proofs.lemmas.streams.Cancelling.{cancel_feeds}
 use Rattle.bus_world.specs.World.{World, commanded_by, commanded}
 use Rattle.law_world.specs.steps.Streaming.{Streams, Standing}
@@ -69,8 +69,8 @@ module _ (fixed : Fixed) (takes : ℕ → ℕ → Bool) (member : ℕ → Bool) 
   by_offer : (r : Result Offered OfferError) → offered w.driver w.memory (commands.Cancel name) ≡ r → IsFeeding fixed member x s (commanded_by w line name r) → IsTold s (commanded_by w line name r)
       → IsLeft fixed takes x.packets s.acc (commanded_by w line name r) → IsWhole fixed takes member x s (commanded_by w line name r)
   by_offer (Ok o) is feeding told left =
-      let why : Cancels w.driver w.memory o = command_accepts w.driver w.memory (commands.Cancel name) o k.feeding.turns.asynchronous tt is in
-      let b = (cancel_as_before w.driver w.memory o k.feeding.turns why).0 in
+      let why : Cancels w.driver w.memory o = asynchronous_command_is_accepted w.driver w.memory (commands.Cancel name) o k.feeding.turns.asynchronous tt is in
+      let b = (cancel_is_as_before w.driver w.memory o k.feeding.turns why).0 in
       record {
         feeding = feeding;
         taking = record { ends = k.taking.ends; piped = k.taking.piped; untaken = k.taking.untaken };
@@ -91,5 +91,5 @@ pub cancel_whole : (fixed : Fixed) (takes : ℕ → ℕ → Bool) (member : ℕ 
     → IsOffered w.driver.room (commands.Cancel name) → IsWhole fixed takes member x s w → IsWhole fixed takes member x s (commanded w line (commands.Cancel name))
 cancel_whole fixed takes member x s w line name room k =
     by_offer fixed takes member x s w line name k (offered w.driver w.memory (commands.Cancel name)) refl (cancel_feeds fixed member x s w line name room k.feeding)
-    (cancel_told s w line name k.feeding.turns (record { tails = k.tails; told = k.told }))
+    (cancel_keeps_told s w line name k.feeding.turns (record { tails = k.tails; told = k.told }))
     (command_keeps_left fixed takes member x s w line (commands.Cancel name) tt tt tt room k.feeding k.left)

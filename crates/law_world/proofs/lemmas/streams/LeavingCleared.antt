@@ -9,7 +9,7 @@ use Rattle.drv_table.specs.DriverContent.{DriverContent}
 use Rattle.drv_table.specs.Rows.{driver_row, after_driver_row}
 use Rattle.claims_driver.specs.Owners.{views_of}
 use Rattle.law_driver_ring.specs.Extents.{AreInRuns}
-use Rattle.law_queues.proofs.lemmas.open_names.Apart.{events_apart}
+use Rattle.law_queues.proofs.lemmas.open_names.Apart.{names_stay_apart}
 use Rattle.law_queues.specs.leaving_drivers.Before.{UnlinksAtMost}
 use Rattle.law_queues.proofs.lemmas.leaving_drivers.Clearing.{clear_finds}
 use Rattle.law_queues.specs.reached_rings.Reaching.{is_reached}
@@ -18,7 +18,7 @@ use Rattle.law_world.specs.streams.narrowed_streams.Narrowed.{HasLeft, left_name
 use Rattle.law_world.proofs.lemmas.streams.lemmas.narrowed_streams.Names.{kept_or_left}
 use Rattle.law_world.specs.streams.Clearing.{narrowed_to}
 use Rattle.law_world.proofs.lemmas.streams.Clearing.{clear_feeds}
-use Rattle.law_world.proofs.lemmas.streams.FedBeside.{clear_told}
+use Rattle.law_world.proofs.lemmas.streams.FedBeside.{clear_keeps_told}
 use Rattle.bus_world.specs.World.{World, driver_parts, driver_next}
 use Rattle.law_world.specs.steps.Streaming.{Streams, Standing}
 use Rattle.law_world.specs.streams.Tails.{IsUnderWay}
@@ -60,12 +60,12 @@ module _ (fixed : Fixed) (takes : ℕ → ℕ → Bool) (member : ℕ → Bool) 
 
   pub clear_whole : IsWhole fixed (taking_of takes (driver_next w).driver) (narrow_of w) (narrowed_to x (driver_next w).driver (narrow_of w)) s (driver_next w)
   clear_whole =
-      let stand = clear_told s w row (record { tails = k.tails; told = k.told }) in
+      let stand = clear_keeps_told s w row (record { tails = k.tails; told = k.told }) in
       record {
         feeding = clear_feeds fixed member narrow x s w row k.left.walking k.names (λ n. refl) k.feeding;
         taking = clear_keeps_taking fixed takes member narrow x s w row k.names k.left.walking (λ n. refl) k.feeding k.taking;
         under_way = subst (λ (c : Option Command). IsUnderWay new (driver_next w).memory narrow s.parts c) (sym command) tt;
-        names = events_apart (driver_parts w) k.names;
+        names = names_stay_apart (driver_parts w) k.names;
         senders = idle_sides true new (narrowed_to x new narrow).stream idle;
         takers = idle_sides false new (taking_of takes new) idle;
         controls_apart = fewer_apart new takes (taking_of takes new) (kept_of takes (left_names new false)) (row_apart takes (driver_row (driver_parts w)) (driver_parts w) k.controls_apart);

@@ -11,11 +11,11 @@ use Rattle.drv_table.specs.Parts.{Parts}
 use Rattle.drv_table.specs.Rows.{driver_row, after_driver_row}
 use Rattle.drv_table.specs.Releases.{after_endpoint, is_told}
 use Rattle.law_driver.specs.run_owners.Due.{IsDue, IsEndpointDue}
-use Rattle.law_driver.proofs.lemmas.run_owners.Reasons.{each_is_due}
+use Rattle.law_driver.proofs.lemmas.run_owners.Reasons.{each_event_is_due}
 use Rattle.law_driver.specs.chained_transfers.Out.{out_now}
 use Rattle.law_controller.specs.controlled_streams.Reported.{IsReported}
 use Rattle.law_driver_ring.specs.fed_queues.Places.{IsThere}
-use Rattle.law_queues.proofs.lemmas.open_names.Apart.{events_apart}
+use Rattle.law_queues.proofs.lemmas.open_names.Apart.{names_stay_apart}
 use Rattle.law_queues.specs.standing_fronts.Reaching.{Reaches}
 use Rattle.law_queues.specs.harvest_laws.Told.{ToldStands}
 use Rattle.law_world.specs.steps.endpoint_releases.Released.{without_queue, HasLeaver, endpoint_row}
@@ -65,7 +65,7 @@ module _ (fixed : Fixed) (takes : ℕ → ℕ → Bool) (member : ℕ → Bool) 
   f = k.feeding
 
   due : IsEndpointDue (driver_parts w) e
-  due = subst (IsDue (driver_parts w)) row (each_is_due (driver_parts w))
+  due = subst (IsDue (driver_parts w)) row (each_event_is_due (driver_parts w))
 
   pub given_back : IsGivenBack fixed member x s e w (driver_next w)
   given_back = endpoint_release_feeds fixed member x s w e row k.runs (idle_ends w.driver s.parts s.order s.out due.idle k.tails) k.feeding
@@ -124,7 +124,7 @@ module _ (fixed : Fixed) (takes : ℕ → ℕ → Bool) (member : ℕ → Bool) 
         feeding = g.feeding;
         taking = release_keeps_taking fixed takes member x s w e row leaver k.feeding k.taking;
         under_way = subst (λ (c : Option Command). IsUnderWay new (driver_next w).memory member (released s z).parts c) (sym command) tt;
-        names = events_apart p k.names;
+        names = names_stay_apart p k.names;
         senders = idle_sides true new x.stream idle;
         takers = idle_sides false new takes idle;
         controls_apart = row_apart takes (driver_row p) p k.controls_apart;

@@ -13,12 +13,12 @@ use Rattle.claims_driver.specs.Owners.{views_of}
 use Rattle.law_driver_ring.specs.Extents.{AreInRuns}
 use Rattle.law_driver_ring.proofs.Viewing.{advance_views}
 use Rattle.law_driver_ring.proofs.Extending.{head_put}
-use Rattle.law_queues.proofs.lemmas.open_names.Apart.{events_apart}
+use Rattle.law_queues.proofs.lemmas.open_names.Apart.{names_stay_apart}
 use Rattle.law_queues.specs.standing_fronts.Reaching.{Reaches}
 use Rattle.law_world.specs.steps.left_queues.Standing.{IdleTailsStand}
 use Rattle.law_queues.specs.leaving_drivers.Before.{UnlinksAtMost}
 use Rattle.law_world.specs.steps.unlinked_streams.Unlinks.{IsAtUnlink, IsUnlinked}
-use Rattle.law_world.proofs.lemmas.steps.lemmas.unlinked_streams.Passing.{unlink_row_is}
+use Rattle.law_world.proofs.lemmas.steps.lemmas.unlinked_streams.Passing.{unlink_row}
 use Rattle.law_world.specs.streams.Leaving.{unlinked}
 use Rattle.law_world.proofs.lemmas.streams.Unlinking.{unlink_finds, unlink_feeds}
 use Rattle.law_world.proofs.lemmas.streams.Standing.{unlink_tells}
@@ -51,7 +51,7 @@ module _ (fixed : Fixed) (takes : ℕ → ℕ → Bool) (member : ℕ → Bool) 
   new = (driver_next w).driver
 
   row : IsUnlinked (driver_parts w) at.number at.endpoint at.before at.after
-  row = unlink_row_is (driver_parts w) member s.parts at
+  row = unlink_row (driver_parts w) member s.parts at
 
   tails_before : IdleTailsStand w.driver s.parts s.order s.out
   tails_before i z here met =
@@ -75,7 +75,7 @@ module _ (fixed : Fixed) (takes : ℕ → ℕ → Bool) (member : ℕ → Bool) 
         feeding = unlink_feeds fixed member x s w at k.feeding;
         taking = unlink_keeps_taking fixed takes member x s w at k.feeding k.taking;
         under_way = subst (λ (c : Option Command). IsUnderWay new (driver_next w).memory member (unlinked s at).parts c) (sym row.done) tt;
-        names = events_apart (driver_parts w) k.names;
+        names = names_stay_apart (driver_parts w) k.names;
         senders = idle_sides true new x.stream idle;
         takers = idle_sides false new takes idle;
         controls_apart = row_apart takes (driver_row (driver_parts w)) (driver_parts w) k.controls_apart;

@@ -13,7 +13,7 @@ use Rattle.law_ring.specs.Sparing.{SparesHead, SparesElement}
 use Rattle.law_driver_ring.specs.told_harvests.Held.{AreHeld, none_held, one_held, IsOneFrom}
 use Rattle.law_queues.specs.harvest_laws.Told.{ToldStands}
 use Rattle.law_queues.specs.harvest_laws.ToldLaws.{SparesDone}
-use Rattle.law_queues.proofs.lemmas.harvest_laws.Standing.{spared_told, alike_told}
+use Rattle.law_queues.proofs.lemmas.harvest_laws.Standing.{spared_is_told, alike_is_told}
 use Rattle.law_queues.specs.released_queues.Fronts.{FrontsStand}
 use Rattle.law_queues.specs.standing_fronts.Reaching.{Reaches}
 use Rattle.law_queues.specs.open_laws.Opens.{AreNamesApart}
@@ -51,8 +51,8 @@ lend_told d m hand parts now reported heads elements k =
           let stands = held_stands y.first (y.qtds - y.left) y.place a (k.held e) (k.holds.next e t x y next on).done one in
           elements (32 * x.queue) (32 * a) stands.qtd stands.here;
     } in
-    alike_told d (lent_now d m) hand now reported (record { reports = refl; store = refl; endpoints = refl; transfers = refl; notes = refl }) (λ x met. record { linked = met.linked; kept = met.kept }) (λ x opens. opens)
-    (spared_told d hand hand parts now reported (same_hand hand) spares k)
+    alike_is_told d (lent_now d m) hand now reported (record { reports = refl; store = refl; endpoints = refl; transfers = refl; notes = refl }) (λ x met. record { linked = met.linked; kept = met.kept }) (λ x opens. opens)
+    (spared_is_told d hand hand parts now reported (same_hand hand) spares k)
 
 -- ---- the command
 

@@ -73,7 +73,7 @@ module _ (fixed : Fixed) (takes : ℕ → ℕ → Bool) (member : ℕ → Bool) 
         left = begun_left fixed takes x.packets s.acc (driver_next w) n (busy_left fixed takes member x s w k (unfinished.Open e.queue) lent.command);
       }
 
-pub open_link_keeps : OpenLinkKeepsWhole
-open_link_keeps fixed takes member x s w lent k =
+pub open_link_keeps_whole : OpenLinkKeepsWhole
+open_link_keeps_whole fixed takes member x s w lent k =
     whole_of fixed takes (with_member member (32 * lent.endpoint.queue)) (more fixed member x s w lent k.feeding)
     (linked s (found fixed member x s w lent k.feeding).queue lent.endpoint) (driver_next w) (linked_whole fixed takes member x s w lent k)

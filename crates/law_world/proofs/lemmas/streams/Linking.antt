@@ -25,7 +25,7 @@ use Rattle.law_driver_ring.specs.Linked.{no_part, opened_part, head_at}
 use Rattle.law_driver_ring.specs.Extents.{AreInRuns}
 use Rattle.law_driver_ring.proofs.Extending.{extents_stay, head_put}
 use Rattle.law_ring.specs.Sparing.{SparesHead}
-use Rattle.law_ring.proofs.SparedSparing.{linked_same}
+use Rattle.law_ring.proofs.SparedSparing.{linked_hand_is_same}
 use Rattle.law_controller.specs.controlled_streams.Opened.{with_none}
 use Rattle.law_controller.proofs.lemmas.controlled_streams.Beginning.{list_here, list_beside}
 use Rattle.law_driver.specs.chained_transfers.Asynchronous.{StandsAsynchronous}
@@ -33,7 +33,7 @@ use Rattle.law_driver.proofs.lemmas.chained_transfers.Staying.{linked_stands_ali
 use Rattle.law_driver_ring.specs.fed_queues.Places.{IsMet}
 use Rattle.law_queues.proofs.lemmas.publish_laws.Apart.{queue_placed, queues_same, thirty_two}
 use Rattle.law_queues.specs.harvest_laws.Told.{ToldStands}
-use Rattle.law_queues.proofs.lemmas.harvest_laws.Standing.{spared_told, met_told}
+use Rattle.law_queues.proofs.lemmas.harvest_laws.Standing.{spared_is_told, met_is_told}
 use Rattle.law_queues.specs.standing_fronts.Reaching.{Reaches}
 use Rattle.law_queues.specs.open_laws.Opens.{IsAtOpen, head_then, hand_then}
 use Rattle.law_queues.proofs.lemmas.open_laws.Linking.{here}
@@ -208,9 +208,9 @@ module _ (p : DriverParts) (member streams : ℕ → Bool) (ends : ℕ → Told)
 
   pub told_then : (hand : Hand) (reported : ℕ → List ℕ) → ToldStands d hand parts reported → ToldStands f (hand_then hand x) now (with_none reported n)
   told_then hand reported told =
-      met_told d f (hand_then hand x) now reported (with_none reported n) x.queue (record { reports = refl; store = refl; endpoints = refl; transfers = refl; notes = refl }) k.lent.command refl
+      met_is_told d f (hand_then hand x) now reported (with_none reported n) x.queue (record { reports = refl; store = refl; endpoints = refl; transfers = refl; notes = refl }) k.lent.command refl
       (list_here reported n) (λ m differs. list_beside reported n m differs)
-      (spared_told d hand (hand_then hand x) parts now reported (linked_same head_at (to_queue_head x.queue) hand)
+      (spared_is_told d hand (hand_then hand x) parts now reported (linked_hand_is_same head_at (to_queue_head x.queue) hand)
       (record {
         heads = λ e y there on. spares (32 * y.queue);
         done = λ e t y z a next on among. elements_stay parts now (32 * y.queue) (32 * a) (stay e y next.endpoint (told_stands_alive y (k.turns.asynchronous.endpoints e y next.endpoint) next.going));

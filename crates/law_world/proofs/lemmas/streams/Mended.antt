@@ -18,7 +18,7 @@ use Rattle.law_driver.specs.endpoint_lives.Lives.{told_end}
 use Rattle.claims_driver.specs.Owners.{Dummy, runs_of_endpoint}
 use Rattle.law_driver.proofs.lemmas.run_owners.Runs.{placed_run}
 use Rattle.claims_driver.specs.LentRuns.{IsLent as IsLentSlot}
-use Rattle.law_driver.proofs.lemmas.lent_runs.Laws.{idle_lent}
+use Rattle.law_driver.proofs.lemmas.lent_runs.Laws.{all_are_lent_between_commands}
 use Rattle.law_structures.specs.lent_structures.Structures.{QueueHead, Structures}
 use Rattle.law_structures.specs.lent_structures.Sound.{IsElement, IsSoundQueue, IsMember}
 use Rattle.law_structures.proofs.lemmas.lent_structures.Altering.{found_queue}
@@ -32,16 +32,16 @@ use Rattle.law_queues.specs.released_queues.Fronts.{piece_address}
 use Rattle.law_queues.specs.standing_fronts.Reaching.{Reaches}
 use Rattle.law_queues.proofs.lemmas.publish_laws.Apart.{queue_placed, queues_same, thirty_two}
 use Rattle.law_queues.specs.harvest_laws.Told.{ToldStands}
-use Rattle.law_driver_ring.proofs.lemmas.told_harvests.Keeping.{done_spared}
-use Rattle.law_queues.proofs.lemmas.harvest_laws.Standing.{still_told, alike_told}
+use Rattle.law_driver_ring.proofs.lemmas.told_harvests.Keeping.{spared_is_done}
+use Rattle.law_queues.proofs.lemmas.harvest_laws.Standing.{still_told, alike_is_told}
 use Rattle.law_world.specs.steps.left_queues.Standing.{IdleTailsStand}
 use Rattle.law_queues.specs.mended_heads.Owed.{IsOwed, GoesOnAt}
 use Rattle.law_queues.specs.mended_heads.Waiting.{AreAllPublished}
 use Rattle.law_queues.specs.mended_heads.Mended.{IsAtMend, parts_then, driver_mended}
 use Rattle.law_queues.proofs.lemmas.mended_heads.Mending.{halted_idle}
-use Rattle.law_queues.proofs.lemmas.mended_heads.Row.{mend_row, spares_heads, spares_endpoints, spares_elements, spares_hand}
-use Rattle.law_queues.proofs.lemmas.mended_heads.Queues.{adds_none, leaves_front, leaves_tail, leaves_passed, leaves_within}
-use Rattle.law_queues.proofs.lemmas.mended_heads.Streams.{leaves_out_pipe}
+use Rattle.law_queues.proofs.lemmas.mended_heads.Row.{mend_row, mend_spares_heads, mend_spares_endpoints, mend_spares_elements, mend_spares_hand}
+use Rattle.law_queues.proofs.lemmas.mended_heads.Queues.{mend_adds_none, mend_leaves_front, mend_leaves_tail, mend_leaves_passed, mend_leaves_within}
+use Rattle.law_queues.proofs.lemmas.mended_heads.Streams.{mend_leaves_out_pipe}
 use Rattle.law_devices.specs.scripted_takers.Takers.{taker_of}
 use Rattle.bus_world.specs.World.{World, driver_parts, driver_next}
 use Rattle.law_world.specs.steps.Streaming.{Streams, Standing, wired}
@@ -85,11 +85,11 @@ module _ (fixed : Fixed) (member : ℕ → Bool) (x : Streams) (s : Standing) (w
     ends = t.ends;
     piped = record {
       pipes = λ n on.
-          leaves_out_pipe (taker_of (wired fixed w) (x.endpoint n).addr (x.endpoint n).ep) (concat (s.acc n)) s.hand n (x.endpoint n) p s.parts s.out k
+          mend_leaves_out_pipe (taker_of (wired fixed w) (x.endpoint n).addr (x.endpoint n).ep) (concat (s.acc n)) s.hand n (x.endpoint n) p s.parts s.out k
           (beside n (heads_are_there fixed member x s w f n (out_on member x.streams x.endpoint n on).1)) (t.piped.pipes n on);
       others = λ n met off.
           let other = t.piped.others n met off in
-          (spares_endpoints p s.parts s.out k n (x.endpoint n) other.0, ⊎_elim inl (λ none. inr (λ a u at active. none a u (adds_none p s.parts s.out k n a u at) active)) other.1);
+          (mend_spares_endpoints p s.parts s.out k n (x.endpoint n) other.0, ⊎_elim inl (λ none. inr (λ a u at active. none a u (mend_adds_none p s.parts s.out k n a u at) active)) other.1);
     };
     untaken = t.untaken;
   }
@@ -99,13 +99,14 @@ module _ (fixed : Fixed) (member : ℕ → Bool) (x : Streams) (s : Standing) (w
   told_then : ToldStands d s.hand s.parts s.reported → ToldStands (driver_next w).driver (mended s k).hand (mended s k).parts s.reported
   told_then told =
       subst (λ (c : DriverContent). ToldStands c (mended s k).hand (mended s k).parts s.reported) (sym (mend_row p s.parts s.out k).driver)
-      (alike_told d (driver_mended d) (mended s k).hand (mended s k).parts s.reported (record { reports = refl; store = refl; endpoints = refl; transfers = refl; notes = refl })
+      (alike_is_told d (driver_mended d) (mended s k).hand (mended s k).parts s.reported (record { reports = refl; store = refl; endpoints = refl; transfers = refl; notes = refl })
       (λ z there. record { linked = there.linked; kept = there.kept }) (λ z is. is)
       (still_told d s.hand (mended s k).hand s.parts (mended s k).parts s.reported
       (λ e u z y a i bytes is stream one done.
       let kept : z.gone ≡ false = told_stands_alive z (f.turns.asynchronous.endpoints e z is.endpoint) is.going in
-      done_spared s.hand (mended s k).hand s.parts (mended s k).parts (32 * z.queue) a i bytes (spares_hand s.hand p s.parts s.out k)
-      (spares_heads p s.parts s.out k (32 * z.queue) (beside (32 * z.queue) (there_on d e z is.endpoint (is_there z kept) stream))) (spares_elements p s.parts s.out k (32 * z.queue) (32 * a)) done)
+      spared_is_done s.hand (mended s k).hand s.parts (mended s k).parts (32 * z.queue) a i bytes
+      (mend_spares_hand s.hand p s.parts s.out k)
+      (mend_spares_heads p s.parts s.out k (32 * z.queue) (beside (32 * z.queue) (there_on d e z is.endpoint (is_there z kept) stream))) (mend_spares_elements p s.parts s.out k (32 * z.queue) (32 * a)) done)
       told))
 
   -- ---- fronts and tails
@@ -136,12 +137,12 @@ module _ (fixed : Fixed) (member : ℕ → Bool) (x : Streams) (s : Standing) (w
       reaches_on r from most = record {
         stands = record {
           front = r.stands.front;
-          has = leaves_front o r.stands.front out n p s.parts s.out k from r.stands.has;
+          has = mend_leaves_front o r.stands.front out n p s.parts s.out k from r.stands.has;
           ended = r.stands.ended;
-          passed = λ i u j y listed at held own least below. leaves_passed o r.stands.front n (piece_address d y j) p s.parts s.out k (r.stands.passed i u j y listed at held own least below);
+          passed = λ i u j y listed at held own least below. mend_leaves_passed o r.stands.front n (piece_address d y j) p s.parts s.out k (r.stands.passed i u j y listed at held own least below);
         };
-        within = leaves_within o c n p s.parts s.out k r.within;
-        tail = leaves_tail o c r.stands.front n p s.parts s.out k most r.tail;
+        within = mend_leaves_within o c n p s.parts s.out k r.within;
+        tail = mend_leaves_tail o c r.stands.front n p s.parts s.out k most r.tail;
       }
 
       -- ---- its own queue
@@ -169,7 +170,7 @@ module _ (fixed : Fixed) (member : ℕ → Bool) (x : Streams) (s : Standing) (w
         dummy_lent : IsLent (slot_of d.book.slots z.dummy)
         dummy_lent =
             lent_slot (slot_of d.book.slots z.dummy)
-            (idle_lent d z.dummy k.idle f.working.place.lent
+            (all_are_lent_between_commands d z.dummy k.idle f.working.place.lent
             (placed_run z.dummy (Dummy e)
             (f.working.place.sound.owners.owned.each.dummy e (runs_of_endpoint z) (ap (option_map runs_of_endpoint) here)
             (ap (λ (b : Bool). b || z.gone) (not_iso z.desc (f.turns.asynchronous.endpoints e z here).asynchronous) ∙ met.there.kept))))

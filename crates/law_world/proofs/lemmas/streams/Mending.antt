@@ -13,7 +13,7 @@ use Rattle.law_driver_ring.proofs.Extending.{head_put}
 use Rattle.law_queues.specs.standing_fronts.Reaching.{Reaches}
 use Rattle.law_queues.specs.mended_heads.Mended.{IsAtMend, mended as mended_head, head_at, driver_mended, IsMended}
 use Rattle.law_queues.proofs.lemmas.mended_heads.Row.{mend_row}
-use Rattle.law_queues.proofs.lemmas.open_names.Apart.{events_apart}
+use Rattle.law_queues.proofs.lemmas.open_names.Apart.{names_stay_apart}
 use Rattle.bus_world.specs.World.{World, driver_parts, driver_next}
 use Rattle.law_world.specs.steps.Streaming.{Streams, Standing}
 use Rattle.law_world.specs.streams.Tails.{IsUnderWay}
@@ -54,7 +54,7 @@ module _ (fixed : Fixed) (takes : ℕ → ℕ → Bool) (member : ℕ → Bool) 
         feeding = mend_feeds fixed member x s w at k.feeding;
         taking = mend_keeps_taking fixed takes member x s w at k.feeding k.taking;
         under_way = subst (λ (c : Option Command). IsUnderWay new (driver_next w).memory member (mended s at).parts c) (sym command) tt;
-        names = events_apart (driver_parts w) k.names;
+        names = names_stay_apart (driver_parts w) k.names;
         senders = idle_sides true new x.stream idle;
         takers = idle_sides false new takes idle;
         controls_apart = row_apart takes (driver_row (driver_parts w)) (driver_parts w) k.controls_apart;

@@ -14,7 +14,7 @@ use Rattle.script_types.specs.declared.scripts.Line.TheVariants as lines
 use Rattle.script_types.specs.declared.scripts.Script.{Script}
 use Rattle.script_text.specs.Faults.{Spells}
 use Rattle.script_fits.proofs.Texts.{spelled_fits}
-use Rattle.law_scripts.proofs.lemmas.script_bytes.Texts.{spelled_bytes}
+use Rattle.law_scripts.proofs.lemmas.script_bytes.Texts.{a_text_spells_bytes}
 use Rattle.law_devices.specs.Senders.{sender_of}
 use Rattle.law_devices.specs.scripted_takers.Takers.{taker_of}
 use Rattle.bus_wire.specs.Bus.{fixed_of, opening_bus, opening_wired}
@@ -23,12 +23,12 @@ use Rattle.law_devices.specs.declared_takers.Declared.{OpensItsTaker}
 use Rattle.law_devices.specs.declared_controls.Names.{IsNameOf, IsZero, HasItsName, NamesLine}
 use Rattle.law_devices.specs.declared_controls.Zero.{AreZeroesAlone, IsNoStream}
 use Rattle.law_devices.proofs.lemmas.declared_controls.Alone.{zero_is_no_stream}
-use Rattle.law_devices.proofs.lemmas.declared_controls.Controls.{spelled_names, spelled_zeroes}
-use Rattle.law_devices.proofs.lemmas.declared_takers.Takers.{spelled_takers}
-use Rattle.law_devices.proofs.Senders.{spelled_senders}
-use Rattle.law_devices.proofs.Owning.{spelled_owns}
+use Rattle.law_devices.proofs.lemmas.declared_controls.Controls.{texts_name_endpoints, texts_leave_zero_alone}
+use Rattle.law_devices.proofs.lemmas.declared_takers.Takers.{an_opened_endpoint_has_its_taker}
+use Rattle.law_devices.proofs.Senders.{an_opened_endpoint_has_its_sender}
+use Rattle.law_devices.proofs.Owning.{devices_have_addresses_of_their_own}
 use Rattle.law_scripts.specs.Numbers.{NumbersLine}
-use Rattle.law_scripts.proofs.Texts.{spelled_numbers}
+use Rattle.law_scripts.proofs.Texts.{a_text_numbers_what_it_opens}
 use Rattle.word_mem.specs.Memory.{Mem}
 use Rattle.drv_table.specs.DriverContent.{DriverContent}
 use Rattle.drv_table.specs.Accepting.{Offered}
@@ -43,11 +43,11 @@ use Rattle.claims_driver.specs.Scripts.{IsKindOf, IsAsynchronous, OpensAsynchron
 use Rattle.law_driver.proofs.lemmas.chained_transfers.Ways.{way_comes_in, way_sends}
 use Rattle.law_world.specs.streams.narrowed_streams.Narrowed.{IsOnSide}
 use Rattle.law_world.specs.streams.right_worlds.Right.{AreOfScript}
-use Rattle.law_world.proofs.lemmas.streams.lemmas.right_worlds.Beginning.{world_right}
+use Rattle.law_world.proofs.lemmas.streams.lemmas.right_worlds.Beginning.{world_is_right}
 use Rattle.law_world.specs.steps.receiving_runs.Runs.{KindOfLine, IsKeptBy}
 use Rattle.law_world.proofs.lemmas.steps.lemmas.receiving_runs.Runs.{holds_throughout}
-use Rattle.law_world.proofs.lemmas.streams.lemmas.taken_reports.Beginning.{world_taken}
-use Rattle.law_world.proofs.lemmas.streams.lemmas.taken_reports.Seating.{moment_seated}
+use Rattle.law_world.proofs.lemmas.streams.lemmas.taken_reports.Beginning.{world_is_taken}
+use Rattle.law_world.proofs.lemmas.streams.lemmas.taken_reports.Seating.{moment_is_seated}
 use Rattle.law_world.specs.streams.Feeding.{left_of, streams_of, there_of}
 use Rattle.law_world.specs.streams.Taking.{outs_of}
 use Rattle.law_world.specs.streams.LeftLaws.{OpensNamed}
@@ -117,12 +117,12 @@ script_can s is = lines_can s s.lines is.zeroes is.only is.senders is.takers is.
 pub spelled_asynchronous : (text : List ℕ) (s : Script) → Spells text s → AsynchronousOnly s → IsAsynchronousScript s
 spelled_asynchronous text s spelled only = record {
   fits = spelled_fits text s spelled;
-  bytes = spelled_bytes text s spelled;
-  senders = spelled_senders text s spelled;
-  takers = spelled_takers text s spelled;
-  numbers = spelled_numbers text s spelled;
-  names = spelled_names text s spelled;
-  zeroes = spelled_zeroes text s spelled;
+  bytes = a_text_spells_bytes text s spelled;
+  senders = an_opened_endpoint_has_its_sender text s spelled;
+  takers = an_opened_endpoint_has_its_taker text s spelled;
+  numbers = a_text_numbers_what_it_opens text s spelled;
+  names = texts_name_endpoints text s spelled;
+  zeroes = texts_leave_zero_alone text s spelled;
   only = only;
 }
 
@@ -186,11 +186,12 @@ module _ (stays : StaysWhole) where
       let w : World = (moment s k).world in
       let h : Whole s w = stay_whole s is k in
       let f = h.whole.feeding in
-      world_right s (fixed_of s) opening_base h.member (there_of w.driver) (with_streams s w h) h.standing w own (of_script s) f.working.streaming f.turns.asynchronous f.queues.streams_are h.whole.told f.counted
+      world_is_right s (fixed_of s) opening_base h.member (there_of w.driver) (with_streams s w h) h.standing w own (of_script s) f.working.streaming f.turns.asynchronous f.queues.streams_are h.whole.told f.counted
       (there_on w.driver) h.whole.left.closed_ins
 
   pub texts_are_right : TextsAreRight
-  texts_are_right text s spelled only = are_right s (spelled_asynchronous text s spelled only) (spelled_owns text s spelled)
+  texts_are_right text s spelled only =
+      are_right s (spelled_asynchronous text s spelled only) (devices_have_addresses_of_their_own text s spelled)
 
   -- ---- OUT endpoints
 
@@ -200,6 +201,6 @@ module _ (stays : StaysWhole) where
       let h : Whole s w = stay_whole s (spelled_asynchronous text s spelled only) k in
       let f = h.whole.feeding in
       let t = h.whole.taking in
-      world_taken s (fixed_of s) h.outs h.member (outs_of h.member h.streams h.endpoint) (there_of w.driver) h.endpoint h.standing.order h.standing.out h.standing.reported h.standing.acc h.standing.parts h.standing.hand w
-      (moment_seated text s k spelled) f.turns.asynchronous t.piped f.counted (outs_are_there (fixed_of s) h.member (with_streams s w h) h.standing w f) (outs_stand (fixed_of s) h.member (with_streams s w h) h.standing w f)
+      world_is_taken s (fixed_of s) h.outs h.member (outs_of h.member h.streams h.endpoint) (there_of w.driver) h.endpoint h.standing.order h.standing.out h.standing.reported h.standing.acc h.standing.parts h.standing.hand w
+      (moment_is_seated text s k spelled) f.turns.asynchronous t.piped f.counted (outs_are_there (fixed_of s) h.member (with_streams s w h) h.standing w f) (outs_stand (fixed_of s) h.member (with_streams s w h) h.standing w f)
       (there_on w.driver) h.whole.left.closed_outs h.whole.told

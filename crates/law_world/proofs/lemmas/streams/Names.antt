@@ -18,11 +18,11 @@ use Rattle.law_driver_ring.proofs.lemmas.walk_members.Descriptions.{desc_of, row
 use Rattle.claims_driver.specs.Scripts.{OpensAsynchronous}
 use Rattle.law_driver.specs.chained_transfers.Asynchronous.{AcceptsAsynchronous}
 use Rattle.law_driver.specs.chained_transfers.AsynchronousTurns.{AsynchronousTakesTurns}
-use Rattle.law_driver.proofs.lemmas.chained_transfers.Accepting.{command_accepts}
+use Rattle.law_driver.proofs.lemmas.chained_transfers.Accepting.{asynchronous_command_is_accepted}
 use Rattle.law_queues.proofs.lemmas.commanded_queues.Which.{opens_its_own}
 use Rattle.law_queues.proofs.lemmas.fed_lends.Asked.{push_which, set_which}
 use Rattle.law_queues.specs.leaving_drivers.Before.{WasSame}
-use Rattle.law_queues.proofs.lemmas.leaving_drivers.Leaving.{cancel_as_before}
+use Rattle.law_queues.proofs.lemmas.leaving_drivers.Leaving.{cancel_is_as_before}
 use Rattle.bus_world.specs.World.{World}
 use Rattle.law_devices.specs.declared_controls.Names.{IsNameOf}
 use Rattle.law_world.specs.streams.Feeding.{AreControlsApart}
@@ -66,7 +66,7 @@ module _ (P : EpDesc → Type 0) (d : DriverContent) (m : Mem) (o : Offered) (ol
 
   cancelled_described : AsynchronousTakesTurns d → Cancels d m o → EachDescribed P o.driver
   cancelled_described turns why e z here =
-      let w : WasSame d e z = (cancel_as_before d m o turns why).0.ends e z here in
+      let w : WasSame d e z = (cancel_is_as_before d m o turns why).0.ends e z here in
       subst P (sym w.desc) (old e w.endpoint w.here)
 
   -- what an accepted command comes to
@@ -80,7 +80,7 @@ module _ (P : EpDesc → Type 0) (d : DriverContent) (m : Mem) (o : Offered) (ol
   accepted_described cmd turns only is own _ why = absurd why
 
   pub command_described : (cmd : Cmd) → AsynchronousTakesTurns d → OpensAsynchronous cmd → offered d m cmd ≡ Ok o → ((desc : EpDesc) → cmd ≡ commands.OpenEp desc → P desc) → EachDescribed P o.driver
-  command_described cmd turns only is own = accepted_described cmd turns only is own cmd (command_accepts d m cmd o turns.asynchronous only is)
+  command_described cmd turns only is own = accepted_described cmd turns only is own cmd (asynchronous_command_is_accepted d m cmd o turns.asynchronous only is)
 
 -- ---- names
 

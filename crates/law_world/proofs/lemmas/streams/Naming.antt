@@ -23,9 +23,9 @@ use Rattle.law_driver.specs.run_owners.Accepts.{Opens, Transfers}
 use Rattle.claims_driver.specs.Scripts.{OpensAsynchronous}
 use Rattle.law_driver.specs.chained_transfers.Asynchronous.{AcceptsAsynchronous}
 use Rattle.law_driver.specs.chained_transfers.AsynchronousTurns.{AsynchronousTakesTurns}
-use Rattle.law_driver.proofs.lemmas.chained_transfers.Accepting.{command_accepts}
+use Rattle.law_driver.proofs.lemmas.chained_transfers.Accepting.{asynchronous_command_is_accepted}
 use Rattle.law_queues.specs.leaving_drivers.Before.{IsAsBefore}
-use Rattle.law_queues.proofs.lemmas.leaving_drivers.Leaving.{cancel_as_before}
+use Rattle.law_queues.proofs.lemmas.leaving_drivers.Leaving.{cancel_is_as_before}
 use Rattle.law_driver_ring.proofs.lemmas.walk_members.Descriptions.{desc_of, SameDescs, row_left}
 use Rattle.law_world.specs.streams.narrowed_streams.Narrowed.{IsOnSide}
 use Rattle.law_world.proofs.lemmas.streams.lemmas.narrowed_streams.Narrowing.{same_way}
@@ -91,12 +91,12 @@ taken_named d m (commands.OpenEp x) o turns why = opened_named d m o why.opens
 taken_named d m (commands.Get name len by) o turns why = transfer_named d m o why.transfers
 taken_named d m (commands.Put name bytes by) o turns why = transfer_named d m o why.transfers
 taken_named d m (commands.Control name setup bytes) o turns why = transfer_named d m o why.transfers
-taken_named d m (commands.Cancel name) o turns why = before_named d o.driver (cancel_as_before d m o turns why).0
+taken_named d m (commands.Cancel name) o turns why = before_named d o.driver (cancel_is_as_before d m o turns why).0
 taken_named d m _ o turns why = absurd why
 
 by_offer : (w : World) (line : ℕ) (cmd : Cmd) (r : Result Offered OfferError) → AsynchronousTakesTurns w.driver → OpensAsynchronous cmd → offered w.driver w.memory cmd ≡ r → KeepsNames w.driver (commanded_by w line (name_in cmd) r).driver
 by_offer w line cmd (Ok o) turns only is =
-    taken_named w.driver w.memory cmd o turns (command_accepts w.driver w.memory cmd o turns.asynchronous only is)
+    taken_named w.driver w.memory cmd o turns (asynchronous_command_is_accepted w.driver w.memory cmd o turns.asynchronous only is)
 by_offer w line cmd (Err why) turns only is = λ way addr ep k. same_named w.driver (commanded_by w line (name_in cmd) (Err why)).driver way addr ep k k.endpoint k.here refl
 
 pub command_named : (w : World) (line : ℕ) (cmd : Cmd) → AsynchronousTakesTurns w.driver → OpensAsynchronous cmd → KeepsNames w.driver (commanded w line cmd).driver

@@ -32,16 +32,16 @@ use Rattle.law_driver_ring.specs.Extents.{AreInRuns}
 use Rattle.law_driver_ring.proofs.Extending.{extents_stay, head_put, element_put}
 use Rattle.law_ring.specs.Sparing.{SparesHead, SparesElement}
 use Rattle.law_controller.proofs.lemmas.controlled_streams.Storing.{same_hand}
-use Rattle.law_driver.proofs.lemmas.in_place.Laws.{event_in_place}
+use Rattle.law_driver.proofs.lemmas.in_place.Laws.{events_keep_all_in_place}
 use Rattle.law_devices.specs.Senders.{sender_of}
 use Rattle.bus_wire.specs.Bus.{Fixed}
 use Rattle.bus_world.specs.World.{World, driver_parts, driver_next}
 use Rattle.law_world.specs.steps.Streaming.{Streams, Standing, wired}
-use Rattle.law_driver.proofs.lemmas.chained_transfers.Events.{event_queues}
+use Rattle.law_driver.proofs.lemmas.chained_transfers.Events.{events_keep_asynchronous_turns}
 use Rattle.law_driver.proofs.lemmas.chained_transfers.Staying.{linked_stands_alive}
 use Rattle.law_queues.proofs.lemmas.publish_laws.Apart.{thirty_two}
 use Rattle.law_queues.specs.harvest_laws.Told.{ToldStands}
-use Rattle.law_queues.proofs.lemmas.harvest_laws.Standing.{spared_told, alike_told}
+use Rattle.law_queues.proofs.lemmas.harvest_laws.Standing.{spared_is_told, alike_is_told}
 use Rattle.law_queues.specs.open_laws.Opens.{IsOpenLent, AreNamesApart, next_of}
 use Rattle.law_queues.specs.open_laws.Lends.{IsOpenReady, IsAtLend, parts_lent}
 use Rattle.law_queues.proofs.lemmas.open_laws.Lending.{lend_drives, lend_stands, lend_pipes, lend_reports}
@@ -164,8 +164,8 @@ module _ (p : DriverParts) (ready : IsOpenReady p.driver p.memory) (owners : Has
 
   pub told_then : (hand : Hand) (reported : ℕ → List ℕ) → ToldStands d hand parts reported → ToldStands f hand now reported
   told_then hand reported told =
-      alike_told d f hand now reported (record { reports = refl; store = refl; endpoints = refl; transfers = refl; notes = refl }) (λ z met. record { linked = met.linked; kept = met.kept }) (λ z opens. opens)
-      (spared_told d hand hand parts now reported (same_hand hand)
+      alike_is_told d f hand now reported (record { reports = refl; store = refl; endpoints = refl; transfers = refl; notes = refl }) (λ z met. record { linked = met.linked; kept = met.kept }) (λ z opens. opens)
+      (spared_is_told d hand hand parts now reported (same_hand hand)
       (record { heads = λ e z here on. spares_head (32 * z.queue); done = λ e t z y a next on among. spares_element (32 * z.queue) (32 * a) }) told)
 
 -- ---- the world
@@ -207,10 +207,10 @@ lend_feeding fixed member x s w ready f =
             piped = lend_pipes sender_of x.stream x.packets s.acc (wired fixed w) opening_base w.control.walk s.hand p member x.streams x.endpoint s.parts s.order s.out at old k.streaming.ends.members k.streaming.piped;
             right = right_of fixed member x s w f s.order s.out s.hand (parts_lent s.parts ready) s.acc s.reported counted;
           };
-          place = event_in_place p k.place;
+          place = events_keep_all_in_place p k.place;
           driven = drives.driven;
         };
-        turns = event_queues p sound.owners f.turns;
+        turns = events_keep_asynchronous_turns p sound.owners f.turns;
         queues = record { met = stands.0.met; streams_are = stands.0.streams_are; fed = stands.0.fed; last = stands.0.last; out_are = stands.0.out_are };
         counted = subst (λ (d : DriverContent). AreReported (there_of d) s.order s.out s.hand (parts_lent s.parts ready) s.acc s.reported) (driver_is p ready sound.owners s.parts k.driven) counted;
         controls = open_lend_keeps_controls opening_base w.control.walk s.hand p member x.streams x.endpoint s.parts s.order s.out at old f.controls;
@@ -245,5 +245,5 @@ module _ (fixed : Fixed) (takes : ℕ → ℕ → Bool) (member : ℕ → Bool) 
         left = busy_left fixed takes member x s w k (unfinished.Open ready.endpoint.queue) ready.command;
       }
 
-pub open_lend_keeps : OpenLendKeepsWhole
-open_lend_keeps fixed takes member x s w ready k = whole_of fixed takes member x (record s { parts = parts_lent s.parts ready }) (driver_next w) (open_lent fixed takes member x s w ready k)
+pub open_lend_keeps_whole : OpenLendKeepsWhole
+open_lend_keeps_whole fixed takes member x s w ready k = whole_of fixed takes member x (record s { parts = parts_lent s.parts ready }) (driver_next w) (open_lent fixed takes member x s w ready k)

@@ -23,15 +23,15 @@ use Rattle.law_driver.specs.chained_transfers.Asynchronous.{IsOpenedAsynchronous
 use Rattle.law_world.specs.streams.narrowed_streams.Narrowed.{IsOnSide}
 use Rattle.law_queues.proofs.lemmas.fed_lends.Asked.{push_which}
 use Rattle.law_queues.specs.standing_fronts.Reaching.{Reaches}
-use Rattle.law_queues.proofs.lemmas.harvest_laws.Commanding.{opened_told}
+use Rattle.law_queues.proofs.lemmas.harvest_laws.Commanding.{opened_is_told}
 use Rattle.law_driver.proofs.lemmas.chained_transfers.BulkAndControl.{not_iso}
-use Rattle.law_queues.proofs.lemmas.open_names.Apart.{accepted_apart}
+use Rattle.law_queues.proofs.lemmas.open_names.Apart.{accepted_names_are_apart}
 use Rattle.law_queues.specs.open_laws.Lends.{IsOpenReady}
-use Rattle.law_queues.proofs.lemmas.open_laws.AcceptWaiting.{open_waits}
+use Rattle.law_queues.proofs.lemmas.open_laws.AcceptWaiting.{open_becomes_ready}
 use Rattle.law_queues.proofs.lemmas.commanded_queues.Ranges.{new_head_range}
 use Rattle.law_queues.proofs.lemmas.commanded_queues.Which.{opens_its_own}
-use Rattle.law_queues.proofs.lemmas.commanded_queues.Tails.{open_reaches}
-use Rattle.law_queues.proofs.lemmas.commanded_queues.Extending.{open_extents}
+use Rattle.law_queues.proofs.lemmas.commanded_queues.Tails.{reaches_open}
+use Rattle.law_queues.proofs.lemmas.commanded_queues.Extending.{extents_open}
 use Rattle.bus_world.specs.World.{World, name_in, commanded_by}
 use Rattle.law_world.specs.steps.Streaming.{Streams, Standing}
 use Rattle.law_world.specs.streams.Feeding.{AreControlsApart, IsFeeding}
@@ -79,7 +79,7 @@ module _ (fixed : Fixed) (takes : ℕ → ℕ → Bool) (member : ℕ → Bool) 
   ready : IsQhInRange (opened_head d opened.opens.desc opened.opens.holding_after) → IsUnderWay o.driver o.memory member s.parts o.driver.command
   ready range =
       let place = k.feeding.working.place in
-      let is : IsOpenReady o.driver o.memory = open_waits w.memory d o opened.opens place.sound.owners place.lent place.sound.stands place.sound.shape range in
+      let is : IsOpenReady o.driver o.memory = open_becomes_ready w.memory d o opened.opens place.sound.owners place.lent place.sound.stands place.sound.shape range in
       subst (λ (c : Option Command). IsUnderWay o.driver o.memory member s.parts c) (sym command_is) (inl is)
 
 pub opened_whole : (fixed : Fixed) (takes : ℕ → ℕ → Bool) (member : ℕ → Bool) (x : Streams) (s : Standing) (w : World) (line : ℕ) (cmd : Cmd) (o : Offered) → OpensAsynchronous cmd → OpensTo x.stream takes cmd → OpensNumbered cmd → IsOffered w.driver.room cmd
@@ -99,17 +99,17 @@ opened_whole fixed takes member x s w line cmd o only to fits room offer opened 
     record {
       feeding = feeding;
       under_way = ready fixed takes member x s w line cmd o k opened range;
-      names = accepted_apart d w.memory o (inl opened.opens) k.names;
+      names = accepted_names_are_apart d w.memory o (inl opened.opens) k.names;
       senders = sides fixed takes member x s w line cmd o k opened true x.stream stream.0;
       takers = sides fixed takes member x s w line cmd o k opened false takes stream.1;
       controls_apart = alone;
       taking = record { ends = k.taking.ends; piped = k.taking.piped; untaken = k.taking.untaken };
-      runs = open_extents d w.memory o s.parts opened.opens sound.stands sound.owners feeding.working.driven k.runs;
+      runs = extents_open d w.memory o s.parts opened.opens sound.stands sound.owners feeding.working.driven k.runs;
       tails = λ e z here met.
           subst (λ (c : ℕ). Reaches o.driver (s.parts (32 * z.queue)) (s.order (32 * z.queue)) (s.out (32 * z.queue)) e z c)
           (sym (open_tail o.driver e _ z (command_is fixed takes member x s w line cmd o k opened)))
-          (open_reaches d w.memory o s.parts s.order s.out opened.opens (idle_ends d s.parts s.order s.out opened.opens.idle k.tails) e z here met);
-      told = opened_told d w.memory o s.hand s.parts s.reported opened.opens (apart fixed takes member x s w line cmd o k opened) k.told;
+          (reaches_open d w.memory o s.parts s.order s.out opened.opens (idle_ends d s.parts s.order s.out opened.opens.idle k.tails) e z here met);
+      told = opened_is_told d w.memory o s.hand s.parts s.reported opened.opens (apart fixed takes member x s w line cmd o k opened) k.told;
       bytes = k.bytes;
       left = left;
     }

@@ -8,8 +8,8 @@ use Rattle.claims_driver.specs.Owners.{TransferRuns, transfer_in, views_of}
 use Rattle.law_structures.specs.lent_structures.Structures.{Structure, Table}
 use Rattle.law_driver_ring.specs.PartOpened.{empty_list, opening_parts, is_head}
 use Rattle.law_driver_ring.specs.Extents.{AreInRuns}
-use Rattle.law_queues.proofs.lemmas.harvest_laws.Standing.{new_told}
-use Rattle.law_queues.proofs.lemmas.open_names.Apart.{new_apart}
+use Rattle.law_queues.proofs.lemmas.harvest_laws.Standing.{new_is_told}
+use Rattle.law_queues.proofs.lemmas.open_names.Apart.{new_names_are_apart}
 use Rattle.law_world.proofs.lemmas.steps.lemmas.world_bytes.Turning.{opened_bytes}
 use Rattle.bus_world.specs.Rooms.{room_of_script}
 use Rattle.law_world.specs.streams.shared_worlds.Working.{at_opening}
@@ -56,14 +56,14 @@ pub new_world_is_whole : NewWorldIsWhole
 new_world_is_whole s fit bytes = whole_of (fixed_of s) (takes_of s) is_head (streams_of s) at_opening (opening_world s) (record {
   feeding = new_world_feeds s fit;
   under_way = tt;
-  names = new_apart s.words (room_of_script s);
+  names = new_names_are_apart s.words (room_of_script s);
   senders = λ e x here. absurd (no_endpoint e x here);
   takers = λ e x here. absurd (no_endpoint e x here);
   controls_apart = λ e x here. absurd (no_endpoint e x here);
   taking = new_world_taking s fit;
   runs = opening_runs s.words (room_of_script s);
   tails = λ e x here met. absurd (no_endpoint e x here);
-  told = new_told s.words (room_of_script s) at_opening.hand at_opening.parts at_opening.reported;
+  told = new_is_told s.words (room_of_script s) at_opening.hand at_opening.parts at_opening.reported;
   bytes = opened_bytes s bytes;
   left = new_world_left s fit;
 })

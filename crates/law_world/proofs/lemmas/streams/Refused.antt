@@ -15,7 +15,7 @@ use Rattle.law_queues.specs.fed_lends.ToLend.{IsToBeLent}
 use Rattle.law_queues.specs.open_laws.Lends.{IsOpenReady}
 use Rattle.law_queues.specs.open_laws.Opens.{IsOpenLent}
 use Rattle.law_queues.proofs.lemmas.commanded_queues.Tails.{reaches_alike}
-use Rattle.law_queues.proofs.lemmas.harvest_laws.Standing.{refused_told}
+use Rattle.law_queues.proofs.lemmas.harvest_laws.Standing.{refused_is_told}
 use Rattle.bus_world.specs.World.{World, refused_line, commanded_by}
 use Rattle.law_world.specs.steps.Streaming.{Streams, Standing}
 use Rattle.law_world.specs.streams.Feeding.{IsFeeding}
@@ -115,7 +115,7 @@ refused_whole fixed takes member x s w line name why feeding left k =
           reaches_alike d (refused_line d line name why) s.parts s.order s.out e (tail_of d e z) z z refl refl
           (λ h u y at there held. record { transfer = y; here = there; endpoint = refl; released = refl; qtds = refl; left = refl; places = λ j most. refl })
           (k.tails e z here (record { there = record { linked = met.there.linked; kept = met.there.kept }; near = met.near }));
-      told = refused_told d (refused_line d line name why) s.hand s.parts s.reported row refl refl refl refl refl refl refl refl refl k.told;
+      told = refused_is_told d (refused_line d line name why) s.hand s.parts s.reported row refl refl refl refl refl refl refl refl refl k.told;
       bytes = k.bytes;
       left = left;
     }

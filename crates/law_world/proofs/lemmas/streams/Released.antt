@@ -17,7 +17,7 @@ use Rattle.drv_table.specs.Rows.{driver_row, after_driver_row}
 use Rattle.drv_table.specs.Releases.{after_endpoint, is_told}
 use Rattle.law_driver.specs.endpoint_lives.Lives.{is_one_of, may_meet}
 use Rattle.law_driver.specs.run_owners.Due.{IsDue, IsEndpointDue}
-use Rattle.law_driver.proofs.lemmas.run_owners.Reasons.{each_is_due}
+use Rattle.law_driver.proofs.lemmas.run_owners.Reasons.{each_event_is_due}
 use Rattle.law_driver.proofs.lemmas.run_owners.Released.{set_here, set_there}
 use Rattle.law_controller.specs.controlled_streams.Reported.{IsReported}
 use Rattle.claims_driver.specs.Scripts.{receives, comes_in, IsAsynchronous}
@@ -25,18 +25,18 @@ use Rattle.law_driver_ring.specs.fed_queues.Places.{IsThere}
 use Rattle.law_queues.specs.told_endpoints.Telling.{named_of, IsToldTo}
 use Rattle.law_queues.specs.harvest_laws.Told.{ToldStands}
 use Rattle.law_world.specs.steps.endpoint_releases.Released.{HasLeaver, endpoint_row}
-use Rattle.law_world.proofs.lemmas.steps.lemmas.endpoint_releases.Releasing.{due_leaves}
+use Rattle.law_world.proofs.lemmas.steps.lemmas.endpoint_releases.Releasing.{due_is_to_leave}
 use Rattle.law_world.proofs.lemmas.steps.lemmas.left_queues.Unmet.{cleared_unmet}
 use Rattle.law_queues.specs.leaving_drivers.Owed.{AreOwedMet}
 use Rattle.law_queues.specs.leaving_drivers.Told.{IsGoneIn, told_to}
-use Rattle.law_queues.proofs.lemmas.leaving_drivers.Unmet.{cleared_unmet as cleared_is_far}
-use Rattle.law_queues.proofs.lemmas.leaving_drivers.Owing.{event_owed}
-use Rattle.law_queues.proofs.lemmas.leaving_drivers.Telling.{events_only}
+use Rattle.law_queues.proofs.lemmas.leaving_drivers.Unmet.{cleared_are_unmet as cleared_is_far}
+use Rattle.law_queues.proofs.lemmas.leaving_drivers.Owing.{events_owe_met}
+use Rattle.law_queues.proofs.lemmas.leaving_drivers.Telling.{events_only_tell}
 use Rattle.law_world.specs.streams.left_reports.Leaver.{IsLeaver, IsToldGone}
 use Rattle.law_world.proofs.lemmas.streams.lemmas.left_reports.Gone.{release_is_told}
 use Rattle.law_world.proofs.lemmas.streams.lemmas.left_reports.Leaver.{elsewhere}
 use Rattle.claims_world.specs.Memory.{IsWalking}
-use Rattle.law_world.proofs.lemmas.steps.lemmas.controlled_walks.Worlds.{driver_walks}
+use Rattle.law_world.proofs.lemmas.steps.lemmas.controlled_walks.Worlds.{driver_keeps_walking}
 use Rattle.law_devices.specs.scripted_takers.Takers.{taker_of}
 use Rattle.claims_world.specs.Streams.{IsToldTaken}
 use Rattle.law_world.specs.streams.taken_reports.Laws.{bytes_taken}
@@ -89,10 +89,10 @@ module _ (fixed : Fixed) (takes : ℕ → ℕ → Bool) (member : ℕ → Bool) 
   d = w.driver
 
   due : IsEndpointDue p e
-  due = subst (IsDue p) row (each_is_due p)
+  due = subst (IsDue p) row (each_event_is_due p)
 
   leaver : HasLeaver d e
-  leaver = due_leaves p e f.working.place.sound.owners due
+  leaver = due_is_to_leave p e f.working.place.sound.owners due
 
   abbrev z : Endpoint
   z = leaver.endpoint
@@ -203,7 +203,7 @@ module _ (fixed : Fixed) (takes : ℕ → ℕ → Bool) (member : ℕ → Bool) 
   gone_before =
       subst (λ (r : DriverRow). AreGoneBefore (after_driver_row r p).driver) row
       (λ i y here gone differs.
-      events_only p f.working.place.sound.owners f.turns (record { stored = k.tells.stored; apart = k.tells.apart }) i y here gone (λ is. differs (same_number e i (sym row ∙ is))))
+      events_only_tell p f.working.place.sound.owners f.turns (record { stored = k.tells.stored; apart = k.tells.apart }) i y here gone (λ is. differs (same_number e i (sym row ∙ is))))
 
   -- ---- those that have left
 
@@ -246,8 +246,8 @@ module _ (fixed : Fixed) (takes : ℕ → ℕ → Bool) (member : ℕ → Bool) 
   pub left_then : IsLeft fixed takes x.packets s.acc new
   left_then = record {
     named = row_named (endpoint_row e) p l.named;
-    walking = subst (λ (r : DriverRow). IsWalking (with_parts w (after_driver_row r p))) row (driver_walks w l.walking);
-    owed = subst (λ (r : DriverRow). AreOwedMet (after_driver_row r p).driver) row (event_owed p f.turns l.owed);
+    walking = subst (λ (r : DriverRow). IsWalking (with_parts w (after_driver_row r p))) row (driver_keeps_walking w l.walking);
+    owed = subst (λ (r : DriverRow). AreOwedMet (after_driver_row r p).driver) row (events_owe_met p f.turns l.owed);
     closed_ins = record {
       left = λ i y here ins is off. l.closed_ins.left i y (kept_before i y here is.kept) ins (there_before y is) (far_before i y off);
       gone = ins_gone;

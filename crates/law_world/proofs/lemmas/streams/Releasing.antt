@@ -17,20 +17,20 @@ use Rattle.law_controller.specs.controlled_streams.Control.{IsFrameless, off, em
 use Rattle.law_ring.specs.Fewer.{without_those}
 use Rattle.law_ring.proofs.Returning.{those_beside}
 use Rattle.law_controller.specs.controlled_streams.Returned.{staying_of}
-use Rattle.law_controller.proofs.lemmas.controlled_streams.Returning.{pipes_returned, reported_stay}
+use Rattle.law_controller.proofs.lemmas.controlled_streams.Returning.{pipes_stay, reported_are_returned}
 use Rattle.claims_base.specs.Controller.{opening_base}
 use Rattle.law_driver_ring.specs.Released.{goes_of, release_row}
 use Rattle.law_driver.specs.in_place.InPlace.{IsInPlace}
-use Rattle.law_driver.proofs.lemmas.in_place.Laws.{event_in_place}
+use Rattle.law_driver.proofs.lemmas.in_place.Laws.{events_keep_all_in_place}
 use Rattle.law_driver.specs.chained_transfers.AsynchronousTurns.{AsynchronousTakesTurns}
-use Rattle.law_driver.proofs.lemmas.chained_transfers.Events.{event_queues}
+use Rattle.law_driver.proofs.lemmas.chained_transfers.Events.{events_keep_asynchronous_turns}
 use Rattle.law_driver.proofs.lemmas.chained_transfers.Holding.{held_alive}
 use Rattle.law_driver_ring.specs.fed_queues.Places.{IsMet, AreMet, HaveStreams}
 use Rattle.law_queues.specs.open_laws.Opens.{AreNamesApart}
 use Rattle.law_queues.specs.released_queues.Released.{IsReleased}
 use Rattle.law_queues.proofs.lemmas.released_queues.Releasing.{release_feeds, release_keeps_met}
 use Rattle.law_queues.specs.standing_fronts.Reaching.{Reaches}
-use Rattle.law_queues.proofs.lemmas.released_tails.Reaching.{release_reaches}
+use Rattle.law_queues.proofs.lemmas.released_tails.Reaching.{release_keeps_reaches}
 use Rattle.law_devices.specs.Senders.{sender_of}
 use Rattle.bus_world.specs.World.{World, controller_parts, driver_parts, with_parts}
 use Rattle.law_world.specs.steps.Streaming.{Streams, Standing, wired}
@@ -120,10 +120,10 @@ module _ (fixed : Fixed) (takes : ℕ → ℕ → Bool) (member : ℕ → Bool) 
       queue_above d y.endpoint z f.working.place.sound.owners f.turns.asynchronous r.endpoint (held_alive d t y z f.turns.turns r.here r.held r.endpoint)
 
   in_place : IsInPlace new.memory new.driver
-  in_place = subst (λ (r : DriverRow). IsInPlace (after_driver_row r p).memory (after_driver_row r p).driver) row (event_in_place p f.working.place)
+  in_place = subst (λ (r : DriverRow). IsInPlace (after_driver_row r p).memory (after_driver_row r p).driver) row (events_keep_all_in_place p f.working.place)
 
   turns : AsynchronousTakesTurns new.driver
-  turns = subst (λ (r : DriverRow). AsynchronousTakesTurns (after_driver_row r p).driver) row (event_queues p f.working.place.sound.owners f.turns)
+  turns = subst (λ (r : DriverRow). AsynchronousTakesTurns (after_driver_row r p).driver) row (events_keep_asynchronous_turns p f.working.place.sound.owners f.turns)
 
   left : IsLeft fixed takes x.packets s.acc new
   left =
@@ -131,7 +131,7 @@ module _ (fixed : Fixed) (takes : ℕ → ℕ → Bool) (member : ℕ → Bool) 
       (row_left fixed takes member x s w k (rows.ReleaseTransfer t) row (λ same. cc) (λ i same. cc))
 
   counted : AreReported (there_of d) s.order later s.hand now s.acc s.reported
-  counted = reported_stay (there_of d) s.order s.out s.hand s.parts s.acc s.reported n goes g.head g.buffers g.untold f.counted
+  counted = reported_are_returned (there_of d) s.order s.out s.hand s.parts s.acc s.reported n goes g.head g.buffers g.untold f.counted
 
   working : IsWorking fixed opening_base member x standing new
   working = record {
@@ -149,7 +149,7 @@ module _ (fixed : Fixed) (takes : ℕ → ℕ → Bool) (member : ℕ → Bool) 
         };
         frameless = frameless f.working.streaming.controlled.list.words f.working.streaming.controlled.frameless;
       };
-      piped = pipes_returned sender_of x.stream x.packets member x.streams x.endpoint s.acc s.parts s.hand (wired fixed w) n goes g.head f.working.streaming.piped;
+      piped = pipes_stay sender_of x.stream x.packets member x.streams x.endpoint s.acc s.parts s.hand (wired fixed w) n goes g.head f.working.streaming.piped;
       right = right_of fixed member x s w f s.order later s.hand now s.acc s.reported counted;
     };
     place = in_place;
@@ -184,7 +184,7 @@ module _ (fixed : Fixed) (takes : ℕ → ℕ → Bool) (member : ℕ → Bool) 
       let there : slice_get d.endpoints e ≡ Some c = ap (λ (q : Parts). slice_get q.driver.endpoints e) (sym row_is) ∙ here in
       let same : IsMet after.driver e c = subst (λ (q : Parts). IsMet q.driver e c) row_is is in
       subst (Reaches new.driver (now (32 * c.queue)) (s.order (32 * c.queue)) (later (32 * c.queue)) e c) (tail_was e c ∙ sym (tail_is e c))
-      (release_reaches opening_base member s.parts s.hand w.control.walk p s.order s.out t y z (stand fixed takes member x s w t row k) (returning fixed takes member x s w t row k) e c (tail_of d e c)
+      (release_keeps_reaches opening_base member s.parts s.hand w.control.walk p s.order s.out t y z (stand fixed takes member x s w t row k) (returning fixed takes member x s w t row k) e c (tail_of d e c)
       (k.tails e c there (record { there = record { linked = same.there.linked; kept = same.there.kept }; near = same.near })))
 
   -- ---- the whole

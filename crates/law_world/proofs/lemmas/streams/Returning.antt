@@ -7,7 +7,7 @@ use Rattle.drv_table.specs.declared.rows.DriverRow.TheVariants as rows
 use Rattle.drv_table.specs.Rows.{driver_row}
 use Rattle.law_driver.specs.run_owners.Due.{IsDue, IsTransferDue}
 use Rattle.claims_driver.specs.Leaving.{owes}
-use Rattle.law_driver.proofs.lemmas.run_owners.Reasons.{each_is_due}
+use Rattle.law_driver.proofs.lemmas.run_owners.Reasons.{each_event_is_due}
 use Rattle.claims_base.specs.Controller.{opening_base}
 use Rattle.law_driver.specs.endpoint_lives.Lives.{may_meet}
 use Rattle.law_queues.specs.released_queues.Released.{IsReturning, ReleaseStands}
@@ -43,7 +43,7 @@ there_at (x ∷ xs) (suc i) below = there_at xs i (omega (arith, below))
 
 module _ (fixed : Fixed) (takes : ℕ → ℕ → Bool) (member : ℕ → Bool) (x : Streams) (s : Standing) (w : World) (t : ℕ) (row : driver_row (driver_parts w) ≡ rows.ReleaseTransfer t) (k : IsWhole fixed takes member x s w) where
   pub due : IsTransferDue (driver_parts w) t
-  due = subst (IsDue (driver_parts w)) row (each_is_due (driver_parts w))
+  due = subst (IsDue (driver_parts w)) row (each_event_is_due (driver_parts w))
 
   pub owed : IsOwed (slice_get w.driver.transfers t)
   owed =

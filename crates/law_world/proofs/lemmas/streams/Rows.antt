@@ -9,7 +9,7 @@ use Rattle.drv_table.specs.declared.rows.DriverRow.TheVariants as rows
 use Rattle.drv_table.specs.declared.rows.Found.{Found}
 use Rattle.drv_table.specs.Rows.{driver_row}
 use Rattle.law_driver.specs.run_owners.Due.{IsDue, IsNextOf, IsLinkOf}
-use Rattle.law_driver.proofs.lemmas.run_owners.Reasons.{each_is_due}
+use Rattle.law_driver.proofs.lemmas.run_owners.Reasons.{each_event_is_due}
 use Rattle.bus_wire.specs.Bus.{Fixed}
 use Rattle.law_queues.specs.fed_lends.ToLend.{IsToBeLent}
 use Rattle.law_queues.specs.open_laws.Lends.{IsOpenReady}
@@ -77,7 +77,7 @@ module _ (fixed : Fixed) (takes : ℕ → ℕ → Bool) (member : ℕ → Bool) 
       (λ (lent : IsOpenLent w.driver member s.parts). each.open_link lent) way
 
   by_command : (o : Option Command) → w.driver.command ≡ o → IsBulkCommand o → IsUnderWay w.driver w.memory member s.parts o → so
-  by_command None is receiving way = idle_row (driver_row (driver_parts w)) refl (each_is_due (driver_parts w)) is
+  by_command None is receiving way = idle_row (driver_row (driver_parts w)) refl (each_event_is_due (driver_parts w)) is
   by_command (Some (unfinished.Open queue)) is receiving way = opens way
   by_command (Some (unfinished.Publish b words)) is receiving way = publishes b words is way
   by_command (Some (unfinished.Unlink e b link)) is receiving way = each.unlink e b link is

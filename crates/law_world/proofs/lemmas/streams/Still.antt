@@ -16,13 +16,13 @@ use Rattle.drv_table.specs.DriverContent.{DriverContent}
 use Rattle.drv_table.specs.Rows.{driver_row, after_driver_row}
 use Rattle.drv_table.specs.Leaving.{doorbell_command, bell_after}
 use Rattle.law_driver.specs.run_owners.Due.{IsDue}
-use Rattle.law_driver.proofs.lemmas.run_owners.Reasons.{each_is_due}
+use Rattle.law_driver.proofs.lemmas.run_owners.Reasons.{each_event_is_due}
 use Rattle.bus_wire.specs.Bus.{Fixed}
 use Rattle.law_queues.specs.leaving_drivers.Before.{IsAsBefore, NearSame}
 use Rattle.law_queues.proofs.lemmas.leaving_drivers.Alike.{near_fewer}
-use Rattle.law_queues.proofs.lemmas.leaving_drivers.Leaving.{bell_as_before, status_as_before, frame_as_before}
-use Rattle.law_world.proofs.lemmas.streams.lemmas.left_reports.Before.{before_told}
-use Rattle.law_world.proofs.lemmas.streams.FedBeside.{leave_tails}
+use Rattle.law_queues.proofs.lemmas.leaving_drivers.Leaving.{bell_is_as_before, status_is_as_before, frame_is_as_before}
+use Rattle.law_world.proofs.lemmas.streams.lemmas.left_reports.Before.{leaves_are_told}
+use Rattle.law_world.proofs.lemmas.streams.FedBeside.{leave_keeps_tails}
 use Rattle.law_world.specs.streams.Left.{IsLeft}
 use Rattle.bus_world.specs.World.{World, driver_parts, with_parts, driver_next}
 use Rattle.law_world.specs.steps.Streaming.{Streams, Standing}
@@ -59,8 +59,8 @@ module _ (fixed : Fixed) (takes : ℕ → ℕ → Bool) (member : ℕ → Bool) 
         controls_apart = k.controls_apart;
         taking = record { ends = k.taking.ends; piped = k.taking.piped; untaken = k.taking.untaken };
         runs = k.runs;
-        tails = leave_tails w.driver f s.parts s.order s.out before.0 (near_fewer w.driver f before.1) k.tails;
-        told = before_told w.driver f s.hand s.parts s.reported before.0 k.told;
+        tails = leave_keeps_tails w.driver f s.parts s.order s.out before.0 (near_fewer w.driver f before.1) k.tails;
+        told = leaves_are_told w.driver f s.hand s.parts s.reported before.0 k.told;
         bytes = k.bytes;
         left = left;
       }
@@ -72,19 +72,19 @@ module _ (fixed : Fixed) (takes : ℕ → ℕ → Bool) (member : ℕ → Bool) 
       → IsWhole fixed takes member x s (after_row row)
   still_row rows.RingBell due still f left =
       stilled_whole w.driver.cleared (w.driver.rung ++ w.driver.waiting) [] bells.Rung turns.Harvest w.driver.periodic.status_next w.driver.periodic.removals
-      (after_write w.registers 0x00 doorbell_command) due.0 (bell_as_before (driver_parts w) due.0) f left
+      (after_write w.registers 0x00 doorbell_command) due.0 (bell_is_as_before (driver_parts w) due.0) f left
   still_row (rows.ReadStatus heard) due still f left =
       stilled_whole w.driver.cleared w.driver.rung w.driver.waiting (bell_after heard) turns.Harvest false w.driver.periodic.removals
-      w.registers due.0 (status_as_before (driver_parts w) heard due.0) f left
+      w.registers due.0 (status_is_as_before (driver_parts w) heard due.0) f left
   still_row (rows.ReadFrame n) due still f left =
       stilled_whole w.driver.cleared w.driver.rung w.driver.waiting w.driver.bell turns.Harvest true (read_again n w.driver.periodic.removals)
-      w.registers due.0 (frame_as_before (driver_parts w) n due.0) f left
+      w.registers due.0 (frame_is_as_before (driver_parts w) n due.0) f left
   still_row rows.Rest due still f left = k
   still_row _ due still f left = absurd (false≢true still)
 
 pub whole_still : (fixed : Fixed) (takes : ℕ → ℕ → Bool) (member : ℕ → Bool) (x : Streams) (s : Standing) (w : World) → is_still (driver_row (driver_parts w)) ≡ true → IsWhole fixed takes member x s w → IsWhole fixed takes member x s (driver_next w)
 whole_still fixed takes member x s w still k =
-    still_row fixed takes member x s w k (driver_row (driver_parts w)) (each_is_due (driver_parts w))
+    still_row fixed takes member x s w k (driver_row (driver_parts w)) (each_event_is_due (driver_parts w))
     still (still_feeds fixed member x s w still k.feeding) (still_left fixed takes member x s w k still)
 
 pub still_keeps_whole : StillKeepsWhole

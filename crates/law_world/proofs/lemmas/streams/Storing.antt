@@ -28,7 +28,7 @@ use Rattle.law_queues.specs.harvest_laws.Holds.{IsNextOf}
 use Rattle.law_queues.proofs.lemmas.harvest_laws.Places.{one_sooner, owner_is}
 use Rattle.law_queues.specs.harvest_laws.Told.{ToldStands}
 use Rattle.law_queues.specs.harvest_laws.ToldLaws.{SparesDone}
-use Rattle.law_queues.proofs.lemmas.harvest_laws.Standing.{spared_told, alike_told}
+use Rattle.law_queues.proofs.lemmas.harvest_laws.Standing.{spared_is_told, alike_is_told}
 use Rattle.law_driver_ring.specs.fed_queues.Fed.{IsPublished}
 use Rattle.law_driver_ring.specs.fed_queues.Places.{IsThere, IsMet}
 use Rattle.law_driver_ring.proofs.lemmas.fed_queues.Places.{stands_met}
@@ -153,11 +153,11 @@ module _ (p : DriverParts) (member streams : ℕ → Bool) (ends : ℕ → Told)
 
   pub told_then : (hand : Hand) (reported : ℕ → List ℕ) → ToldStands d hand parts reported → ToldStands (next_of p).driver hand (parts_then g) reported
   told_then hand reported told =
-      let spared : ToldStands d hand (parts_then g) reported = spared_told d hand hand parts (parts_then g) reported (same_hand hand) spares_done told in
+      let spared : ToldStands d hand (parts_then g) reported = spared_is_told d hand hand parts (parts_then g) reported (same_hand hand) spares_done told in
       by_store (λ (f : DriverContent). ToldStands f hand (parts_then g) reported)
-      (λ low. alike_told d one_more hand (parts_then g) reported (record { reports = refl; store = refl; endpoints = refl; transfers = refl; notes = refl }) (λ x meets. there_still x meets.kept) (λ x is. is) spared)
+      (λ low. alike_is_told d one_more hand (parts_then g) reported (record { reports = refl; store = refl; endpoints = refl; transfers = refl; notes = refl }) (λ x meets. there_still x meets.kept) (λ x is. is) spared)
       (λ eighth.
-      alike_told d finished hand (parts_then g) reported (record { reports = refl; store = refl; endpoints = refl; transfers = refl; notes = refl }) (λ x meets. there_still x meets.kept) (λ x is. absurd (none_not_open x.queue is)) spared)
+      alike_is_told d finished hand (parts_then g) reported (record { reports = refl; store = refl; endpoints = refl; transfers = refl; notes = refl }) (λ x meets. there_still x meets.kept) (λ x is. absurd (none_not_open x.queue is)) spared)
 
   -- ---- runs
 

@@ -13,7 +13,7 @@ use Rattle.law_ring.specs.Stores.{IsWider}
 use Rattle.law_ring.specs.Told.{Endpoint as Told}
 use Rattle.law_driver_ring.specs.fed_queues.Places.{IsMet, HasHead}
 use Rattle.law_queues.proofs.lemmas.leaving_drivers.Alike.{there_by}
-use Rattle.law_queues.proofs.lemmas.leaving_drivers.Leaving.{clear_as_before}
+use Rattle.law_queues.proofs.lemmas.leaving_drivers.Leaving.{clear_is_as_before}
 use Rattle.law_queues.proofs.lemmas.leaving_drivers.Clearing.{clear_finds}
 use Rattle.law_world.proofs.lemmas.steps.lemmas.left_queues.Unmet.{cleared_unmet}
 use Rattle.law_queues.specs.open_laws.Opens.{AreNamesApart}
@@ -106,7 +106,7 @@ module _ (fixed : Fixed) (member narrow : ℕ → Bool) (x : Streams) (s : Stand
   narrows = clear_narrows (driver_parts w) narrow f.turns.asynchronous f.working.place.sound.owners idle feeding_then.queues.met
 
   was_met : (e : ℕ) (z : Endpoint) → slice_get w.driver.endpoints e ≡ Some z → IsMet q.driver e z → IsMet w.driver e z
-  was_met e z here m = let b = clear_as_before (driver_parts w) idle in record { there = there_by w.driver z b.0.idle m.there.kept; near = b.1 e z z here here m.near }
+  was_met e z here m = let b = clear_is_as_before (driver_parts w) idle in record { there = there_by w.driver z b.0.idle m.there.kept; near = b.1 e z z here here m.near }
 
   fewer : IsWider narrow member
   fewer n on =

@@ -15,7 +15,7 @@ use Rattle.claims_base.specs.Controller.{opening_base}
 use Rattle.bus_world.specs.World.{World, controller_next}
 use Rattle.law_world.specs.steps.Streaming.{Streams, Standing, wired, HearsBytesNow}
 use Rattle.law_world.specs.steps.Events.{sent_in}
-use Rattle.law_world.proofs.lemmas.steps.RowTurning.{world_pipes}
+use Rattle.law_world.proofs.lemmas.steps.RowTurning.{world_leaves_out_pipes}
 use Rattle.law_world.specs.streams.Feeding.{IsFeeding, Goes, bytes_of_event, acc_after}
 use Rattle.law_queues.specs.standing_fronts.Tails.{TailsStand}
 use Rattle.law_world.specs.streams.Taking.{outs_of, IsTaking}
@@ -47,7 +47,7 @@ module _ (fixed : Fixed) (takes : ℕ → ℕ → Bool) (member : ℕ → Bool) 
   event_taking : IsFeeding fixed member x s w → (g : Goes fixed member x s w) → IsTaking fixed takes member x s w → IsTaking fixed takes member x (standing_after g) (controller_next fixed w)
   event_taking f g k =
       let both =
-      world_pipes fixed opening_base takes member (outs_of member x.streams x.endpoint) x.endpoint (λ n. concat (s.acc n)) s.parts s.hand w f.working.streaming.controlled g.event k.ends k.piped k.untaken in
+      world_leaves_out_pipes fixed opening_base takes member (outs_of member x.streams x.endpoint) x.endpoint (λ n. concat (s.acc n)) s.parts s.hand w f.working.streaming.controlled g.event k.ends k.piped k.untaken in
       record {
         ends = k.ends;
         piped = alike_known taker_of takes member (outs_of member x.streams x.endpoint) x.endpoint (λ n. concat (s.acc n) ++ sent_in n g.event.effect) (λ n. concat ((standing_after g).acc n)) g.event.now g.event.later

@@ -13,7 +13,7 @@ use Rattle.bus_world.specs.Opening.{opening_world}
 use Rattle.law_world.specs.streams.shared_worlds.Working.{at_opening}
 use Rattle.law_world.specs.steps.Outs.{IsAside}
 use Rattle.law_world.specs.steps.Takers.{takes_of}
-use Rattle.law_world.proofs.lemmas.steps.Beginning.{opening_untaken}
+use Rattle.law_world.proofs.lemmas.steps.Beginning.{opening_is_untaken}
 use Rattle.law_world.specs.streams.Feeding.{streams_of}
 use Rattle.law_world.specs.streams.Taking.{outs_of, IsTaking}
 use Rattle.law_world.proofs.lemmas.streams.Heads.{head_on}
@@ -42,5 +42,5 @@ new_world_taking s fit = record {
     apart = λ n i on other addr ep. absurd (no_out (streams_of s).streams (streams_of s).endpoint n on);
   };
   piped = record { pipes = λ n on. absurd (no_out (streams_of s).streams (streams_of s).endpoint n on); others = λ n on off. head_aside s n on };
-  untaken = opening_untaken s (outs_of is_head (streams_of s).streams (streams_of s).endpoint) (streams_of s).endpoint;
+  untaken = opening_is_untaken s (outs_of is_head (streams_of s).streams (streams_of s).endpoint) (streams_of s).endpoint;
 }

@@ -21,7 +21,7 @@ use Rattle.law_ring.specs.Told.{Endpoint as Told, endpoint_of}
 use Rattle.law_ring.specs.Pipes.{AreEndpoints}
 use Rattle.law_ring.specs.OutPipes.{IsOut}
 use Rattle.law_ring.specs.OutPipeLaws.{SendsNone}
-use Rattle.law_controller.proofs.lemmas.controlled_streams.Outs.{linked_unmoved}
+use Rattle.law_controller.proofs.lemmas.controlled_streams.Outs.{linked_is_unmoved}
 use Rattle.law_ring.specs.Sparing.{SparesHead}
 use Rattle.law_ring.proofs.SparedSparing.{spared_endpoint}
 use Rattle.law_devices.specs.scripted_takers.Takers.{taker_of}
@@ -46,7 +46,7 @@ use Rattle.law_queues.proofs.lemmas.open_laws.Streams.{one_more}
 use Rattle.law_queues.specs.open_laws.Lends.{IsOpenReady, parts_lent}
 use Rattle.law_world.specs.steps.Outs.{IsAside, AreAside, AreOutPiped, AreUntaken}
 use Rattle.law_world.specs.steps.Opens.{IsOneMoreHead}
-use Rattle.law_world.proofs.lemmas.steps.Spared.{work_stays, out_pipes_spared}
+use Rattle.law_world.proofs.lemmas.steps.Spared.{work_stays, spared_out_pipes_agree}
 use Rattle.law_world.proofs.lemmas.steps.Opening.{out_pipes_with_one, out_pipes_with_another, untaken_less_one, untaken_with_another}
 use Rattle.law_world.specs.streams.Feeding.{heads_of, IsFeeding}
 use Rattle.law_world.specs.streams.Taking.{outs_of, IsTaking}
@@ -99,7 +99,7 @@ module _ (fixed : Fixed) (takes : ℕ → ℕ → Bool) (member : ℕ → Bool) 
   pub open_lend_taking : IsTaking fixed takes member x (record s { parts = now }) (driver_next w)
   open_lend_taking = record {
     ends = k.taking.ends;
-    piped = out_pipes_spared taker_of takes member member outs x.endpoint x.endpoint (λ m. concat (s.acc m)) s.hand s.hand s.parts now (wired fixed w) (same_hand s.hand) (λ m on un. un)
+    piped = spared_out_pipes_agree taker_of takes member member outs x.endpoint x.endpoint (λ m. concat (s.acc m)) s.hand s.hand s.parts now (wired fixed w) (same_hand s.hand) (λ m on un. un)
         (λ m on. work_stays s.parts now m (out_stays m on)) (λ m on. subst IsOut (sym (out_stays m on)) (k.taking.piped.pipes m on).outs) (λ m on. refl) asides_stay k.taking.piped;
     untaken = k.taking.untaken;
   }
@@ -188,7 +188,7 @@ module _ (fixed : Fixed) (takes : ℕ → ℕ → Bool) (member : ℕ → Bool) 
   one_head : IsOneMoreHead takes wider those x.endpoint s.hand later s.parts parts_now new_at (end_then e)
   one_head = record {
     more = one_of_those;
-    unmoved = λ m on un. linked_unmoved head_at (to_queue_head e.queue) s.hand m un;
+    unmoved = λ m on un. linked_is_unmoved head_at (to_queue_head e.queue) s.hand m un;
     others = λ m met differs off. aside_then m (k.taking.piped.others m (member_beside member new_at m differs met) off);
   }
 

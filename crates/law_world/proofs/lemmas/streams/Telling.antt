@@ -32,7 +32,7 @@ use Rattle.law_queues.specs.harvest_laws.Holds.{IsNextOf}
 use Rattle.law_queues.proofs.lemmas.harvest_laws.Places.{one_sooner, owner_is}
 use Rattle.law_queues.specs.harvest_laws.Told.{ToldStands}
 use Rattle.law_queues.specs.harvest_laws.ToldLaws.{SparesDone}
-use Rattle.law_queues.proofs.lemmas.harvest_laws.Standing.{spared_told, returned_told}
+use Rattle.law_queues.proofs.lemmas.harvest_laws.Standing.{spared_is_told, returned_is_told}
 use Rattle.law_world.proofs.lemmas.streams.There.{there_now, next_waits}
 
 module _ (base : Base) (member : ℕ → Bool) (parts : StructureSets) (hand : Hand) (w : Walk) (p : DriverParts) (order : ℕ → ℕ → ℕ) (out : ℕ → List ℕ) (t : ℕ) (y : Transfer) (x : Endpoint) (s : ReleaseStands base member parts hand w p order out) (k : IsReturning p.driver t y x) (turns : AsynchronousTakesTurns p.driver) where
@@ -87,5 +87,5 @@ module _ (base : Base) (member : ℕ → Bool) (parts : StructureSets) (hand : H
   release_told reported told =
       let row_is : after_driver_row (release_row t) p ≡ after = ap (λ (o : Option Transfer). after_transfer p t o (freed_by d (holding d.book p.memory) o)) k.here in
       subst (λ (q : DriverParts). ToldStands q.driver hand now reported) (sym row_is)
-      (returned_told d after.driver t y hand now reported k.here k.reported (there_now d turns) refl refl refl refl refl refl
-      (spared_told d hand hand parts now reported (record { bytes = λ m q b r bs. refl; toggle = λ m q. refl }) spares told))
+      (returned_is_told d after.driver t y hand now reported k.here k.reported (there_now d turns) refl refl refl refl refl refl
+      (spared_is_told d hand hand parts now reported (record { bytes = λ m q b r bs. refl; toggle = λ m q. refl }) spares told))

@@ -15,19 +15,19 @@ use Rattle.law_ring.specs.Hand.{Hand}
 use Rattle.law_controller.specs.controlled_streams.Reported.{AreReported}
 use Rattle.claims_base.specs.Controller.{opening_base}
 use Rattle.law_driver_ring.specs.Driven.{DrivesRing}
-use Rattle.law_driver.proofs.lemmas.in_place.Laws.{event_in_place}
+use Rattle.law_driver.proofs.lemmas.in_place.Laws.{events_keep_all_in_place}
 use Rattle.async_walk.specs.Rows.{place}
 use Rattle.law_devices.specs.Senders.{sender_of}
 use Rattle.bus_world.specs.World.{World, driver_parts, driver_next}
 use Rattle.law_world.specs.steps.Streaming.{Streams, Standing, wired}
 use Rattle.law_world.specs.streams.shared_worlds.Working.{IsWorking}
 use Rattle.law_driver.proofs.lemmas.chained_transfers.Staying.{linked_stands_alive}
-use Rattle.law_driver.proofs.lemmas.chained_transfers.Events.{event_queues}
+use Rattle.law_driver.proofs.lemmas.chained_transfers.Events.{events_keep_asynchronous_turns}
 use Rattle.law_driver_ring.specs.fed_queues.Places.{HasHead, HasThere}
 use Rattle.law_queues.specs.publish_laws.Stores.{QueuesThen, next_of}
 use Rattle.law_world.specs.steps.unlinked_streams.Unlinks.{IsAtUnlink, MeetsRing, IsUnlinked}
 use Rattle.law_world.proofs.lemmas.steps.lemmas.unlinked_streams.Standing.{unlink_stands}
-use Rattle.law_world.proofs.lemmas.steps.lemmas.unlinked_streams.Passing.{unlink_row_is, unlink_leaves_ring}
+use Rattle.law_world.proofs.lemmas.steps.lemmas.unlinked_streams.Passing.{unlink_row, unlink_leaves_ring}
 use Rattle.law_world.proofs.lemmas.steps.lemmas.unlinked_streams.Streams.{unlink_leaves_pipes, unlink_leaves_reports}
 use Rattle.law_world.proofs.lemmas.steps.lemmas.unlinked_streams.Queues.{unlink_leaves_queues}
 use Rattle.law_ring.specs.Stores.{hand_linked}
@@ -86,7 +86,7 @@ module _ (fixed : Fixed) (member : ℕ → Bool) (x : Streams) (s : Standing) (w
     now = unlinked s k
 
     row : IsUnlinked p k.number k.endpoint k.before k.after
-    row = unlink_row_is p member s.parts k
+    row = unlink_row p member s.parts k
 
     never : (c : ℕ) → w.driver.command ≡ Some (unfinished.Open c) → ⊥
     never c is = absurd (cc)
@@ -153,7 +153,7 @@ module _ (fixed : Fixed) (member : ℕ → Bool) (x : Streams) (s : Standing) (w
         piped = unlink_leaves_pipes sender_of x.stream x.packets x.streams x.endpoint s.acc (wired fixed w) s.hand w.driver member s.parts k g.streaming.piped;
         right = right_of fixed member x s w f s.order s.out now.hand now.parts s.acc s.reported counted_now;
       };
-      place = event_in_place p g.place;
+      place = events_keep_all_in_place p g.place;
       driven = drives.driven;
     }
 
@@ -162,7 +162,7 @@ module _ (fixed : Fixed) (member : ℕ → Bool) (x : Streams) (s : Standing) (w
         let stands = queues_now in
         record {
           working = working_now;
-          turns = event_queues p g.place.sound.owners f.turns;
+          turns = events_keep_asynchronous_turns p g.place.sound.owners f.turns;
           queues = record { met = stands.met; streams_are = stands.streams_are; fed = stands.fed; last = stands.last; out_are = stands.out_are };
           counted = λ n on. counted_now n (there_was n on);
           controls = unlink_keeps_controls p member s.parts s.order s.out k f.controls;

@@ -1,6 +1,6 @@
 -- That no run of blocks leaks, along commands and events; and which blocks are Lent.
 --     NewDriverOwnsAll, CommandOwnsAll, EventOwnsAll    each run of the book is one that the driver still needs, whatever it does next
---     LentBlocks              just the blocks of lent runs that are needed so are Lent
+--     LentBlocksAreNeeded              just the blocks of lent runs that are needed so are Lent
 --     NeededRunsAreLent       each run that is needed is lent, but those that the unfinished command took and has still to lend
 use Rattle.std.specs.Prelude.{◌≡◌, ℕ, ◌≤◌, false, Ok}
 use Rattle.usb_base.specs.declared.commands.Cmd.{Cmd}
@@ -27,8 +27,8 @@ CommandOwnsAll = (d : DriverContent) (m : Mem) (cmd : Cmd) (o : Offered) → Sta
 abbrev pub EventOwnsAll : Type 0
 EventOwnsAll = (p : Parts) → HasOwners p.driver → AreLent p.driver → OwnsAll p.driver → OwnsAll (after_driver_row (driver_row p) p).driver
 
-abbrev pub LentBlocks : Type 0
-LentBlocks = (d : DriverContent) (m : Mem) → Stands (holding d.book m) → AreAllOwned d → LentBlocksAre d m
+abbrev pub LentBlocksAreNeeded : Type 0
+LentBlocksAreNeeded = (d : DriverContent) (m : Mem) → Stands (holding d.book m) → AreAllOwned d → LentBlocksAre d m
 
 abbrev pub NeededRunsAreLent : Type 0
 NeededRunsAreLent = (d : DriverContent) (b : ℕ) → HasOwners d → AreLent d → IsOwnedRun d b → begins_in b d.book.taken ≡ false → IsLent (slot_of d.book.slots b)

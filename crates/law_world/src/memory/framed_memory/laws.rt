@@ -3,16 +3,16 @@ ghost use Rattle.law_world.specs.memory.framed_memory.Framed.{ControllerKeepsFra
 use usb_base::Wire;
 
 /// A driver that was just built and a new controller share their memory so (4.1).
-pub fn the_opening_is_framed()
+pub fn new_is_framed()
     ensures { NewIsFramed }
 {}
 
 /// Each event of the controller keeps all of it, with the structures and what is in hand that there are then.
-pub fn the_controller_keeps_it_framed<W: Wire>()
+pub fn controller_keeps_framed<W: Wire>()
     ensures { ControllerKeepsFramed W.begins W.transacts }
 {}
 
 /// And an event of the driver that stores no word keeps it.
-pub fn quiet_events_keep_it_framed()
+pub fn quiet_keeps_framed()
     ensures { QuietKeepsFramed }
 {}

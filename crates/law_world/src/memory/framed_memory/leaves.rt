@@ -17,12 +17,12 @@ pub fn an_endpoint_given_back_is_not_reached()
 
 /// An interrupt endpoint that left its frames is given back (4.6, 4.10): its queue head, the inactive qTD at the end of its queue, and the qTDs and buffers that its transfers
 /// still had. All is framed without them.
-pub fn an_interrupt_endpoint_given_back_is_framed_now()
+pub fn endpoint_leaves_now()
     ensures { EndpointLeavesNow }
 {}
 
 /// So is an endpoint that left the ring, once the walk of the ring doesn't meet its queue head any more (4.8.2, 4.10).
-pub fn an_endpoint_of_the_ring_given_back_is_framed_now()
+pub fn endpoint_release_now()
     ensures { EndpointReleaseNow }
 {}
 

@@ -10,7 +10,7 @@ pub fn placements_have_small_masks()
 {}
 
 /// A driver that was just built has no descriptors to lend.
-pub fn a_new_driver_awaits_no_lend()
+pub fn new_awaits_nothing()
     ensures { NewAwaitsNothing }
 {}
 
@@ -23,6 +23,6 @@ pub fn descriptors_await_their_lend()
 {}
 
 /// Once they are lent, all of it is framed with their structures; none of them is met yet (4.6, 4.7).
-pub fn lent_descriptors_are_framed_now()
+pub fn lend_keeps_now()
     ensures { LendKeepsNow }
 {}

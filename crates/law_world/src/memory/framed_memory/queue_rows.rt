@@ -6,36 +6,36 @@ use usb_base::Wire;
 
 /// Once an interrupt endpoint's open is accepted, its queue head, with its masks and the link to what it comes before, and the inactive qTD stand in runs that are all
 /// that is to be lent (3.5, 3.6, 4.12.2).
-pub fn an_accepted_interrupt_queue_is_ready()
+pub fn chain_is_ready()
     ensures { ChainIsReady }
 {}
 
 /// The queue head of a new endpoint, and the inactive qTD at the end of its queue, are lent (3.5, 3.6, 4.8.1): all is framed with both, and nothing leads to them yet.
-pub fn a_lent_queue_is_framed_now()
+pub fn lend_open_keeps_now()
     ensures { LendOpenKeepsNow }
 {}
 
 /// Each word of a qTD that is published is stored where the inactive one at the end of a queue stood (3.5, 4.10.2): all is framed with the qTD as far as it is written, also
 /// where the walk of the frames may meet its queue head.
-pub fn a_published_word_is_framed_now()
+pub fn publish_keeps_now()
     ensures { PublishKeepsNow }
 {}
 
 /// The qTDs and buffers of a transfer that was harvested are given back, where nothing that stays in its queue leads to them or needs them (3.5, 4.10): all is framed without
 /// them, also where the walk of the frames may meet the queue head.
-pub fn a_transfer_given_back_is_framed_now()
+pub fn release_transfer_keeps_now()
     ensures { ReleaseTransferKeepsNow }
 {}
 
 /// The qTDs of a transfer, with their buffers, are lent before the first of them is published (3.5, 4.10): all is framed with them, also where the walk of the frames may meet
 /// the queue head, and nothing leads to them yet.
-pub fn a_lent_transfer_is_framed_now()
+pub fn lend_transfer_keeps_now()
     ensures { LendTransferKeepsNow }
 {}
 
 /// Each of the three stores that a control endpoint is owed after a STALL, and takes its queue head out of the halt (3.6.3, 4.10): the queue head is one of the ring, so the
 /// walk of the frames doesn't meet it, and all is framed with it as it is then.
-pub fn a_mended_queue_is_framed_now()
+pub fn mend_keeps_now()
     ensures { MendKeepsNow }
 {}
 
@@ -54,7 +54,7 @@ pub fn accepted_cancels_are_framed_now()
 
 /// An open of an interrupt endpoint is accepted (3.6, 4.6, 4.12.2): its queue head and its inactive qTD are written in runs that the driver alone may touch, none of its frames
 /// leads to it yet, and all is framed with the same structures.
-pub fn an_accepted_interrupt_open_is_framed_now()
+pub fn chain_keeps_now()
     ensures { ChainKeepsNow }
 {}
 
@@ -73,7 +73,7 @@ pub fn an_interrupt_queue_comes_to_its_frames()
 {}
 
 /// Each event of the controller keeps it too: before the first store neither walk meets the queue head.
-pub fn an_interrupt_queue_waits_for_its_frames<W: Wire>()
+pub fn chain_stays_lent<W: Wire>()
     ensures { ChainStaysLent W.begins W.transacts }
 {}
 
@@ -89,6 +89,6 @@ pub fn an_interrupt_open_stands()
 {}
 
 /// So it is after each event of the controller.
-pub fn an_interrupt_open_stands_beside_the_controller<W: Wire>()
+pub fn chain_stands_beside<W: Wire>()
     ensures { ChainStandsBeside W.begins W.transacts }
 {}

@@ -1,24 +1,24 @@
-ghost use Rattle.law_world.specs.memory.owned_blocks.Laws.{NewDriverOwnsAll, CommandOwnsAll, EventOwnsAll, LentBlocks, NeededRunsAreLent};
+ghost use Rattle.law_world.specs.memory.owned_blocks.Laws.{NewDriverOwnsAll, CommandOwnsAll, EventOwnsAll, LentBlocksAreNeeded, NeededRunsAreLent};
 ghost use Rattle.law_world.specs.memory.owned_blocks.Worlds.{EachMomentOwnsItsBlocks};
 
 /// A driver that was just built has the runs of its frame list and its head, and no others.
-pub fn a_new_driver_owns_all()
+pub fn new_driver_owns_all()
     ensures { NewDriverOwnsAll }
 {}
 
 /// A command that is accepted takes no run but those of what it brings.
-pub fn commands_own_all()
+pub fn command_owns_all()
     ensures { CommandOwnsAll }
 {}
 
 /// Each event of the driver gives back all runs of what goes.
-pub fn events_own_all()
+pub fn event_owns_all()
     ensures { EventOwnsAll }
 {}
 
 /// Just the blocks of lent runs that are still needed are Lent.
 pub fn lent_blocks_are_needed()
-    ensures { LentBlocks }
+    ensures { LentBlocksAreNeeded }
 {}
 
 /// Each run that is still needed is lent, but those that the unfinished command took and has still to lend.

@@ -6,12 +6,12 @@ ghost use Rattle.law_world.specs.steps.control_queues.Rows.{LendKeepsControls, S
 use usb_base::Wire;
 
 /// It stands of a driver that was just built.
-pub fn a_new_driver_has_none()
+pub fn new_driver_controls()
     ensures { NewDriverControls }
 {}
 
 /// Each event of the controller leaves it.
-pub fn the_controller_leaves_control_queues<W: Wire>()
+pub fn controller_keeps_controls<W: Wire>()
     ensures { ControllerKeepsControls W.begins W.transacts }
 {}
 

@@ -8,7 +8,7 @@ ghost use Rattle.law_world.specs.steps.endpoint_releases.Beside.{QueueIsGone, Pi
 use usb_base::Wire;
 
 /// Where the walk doesn't meet the queue head of the endpoint any more, its blocks, and those of its transfers, are given back under the walk: the ring goes on without it.
-pub fn an_endpoint_is_given_back()
+pub fn endpoint_release_drives()
     ensures { EndpointReleaseDrives }
 {}
 

@@ -2,12 +2,12 @@
 ghost use Rattle.law_world.specs.steps.left_queues.Standing.{AsBeforeStands, ClearStands, ClearedUnmet, ClearedIsNoHead, EndpointReleaseStands};
 
 /// An accepted cancel, the store that unlinks the endpoint, the doorbell and its status leave all that is told of the driver's queues.
-pub fn a_leave_changes_no_queue()
+pub fn as_before_stands()
     ensures { AsBeforeStands }
 {}
 
 /// Once Async Advance is cleared the walk meets those queue heads that are in the ring or left it since the doorbell was rung, and no others.
-pub fn a_clear_leaves_fewer()
+pub fn clear_stands()
     ensures { ClearStands }
 {}
 
@@ -18,6 +18,6 @@ pub fn the_cleared_are_unmet()
 {}
 
 /// Where such an endpoint is given back, nothing is told of its queue any more, and all other queues stand as before.
-pub fn the_others_stand()
+pub fn endpoint_release_stands()
     ensures { EndpointReleaseStands }
 {}

@@ -7,7 +7,7 @@ ghost use Rattle.law_world.specs.steps.unlinked_streams.Unlinks.{UnlinkStands, U
 use usb_base::Wire;
 
 /// While a cancel is unfinished the words of the ring tell which queue head leads to that of the endpoint, and where this one leads.
-pub fn a_cancel_finds_its_queue_heads()
+pub fn unlink_stands()
     ensures { UnlinkStands }
 {}
 

@@ -8,17 +8,17 @@ ghost use Rattle.law_world.specs.streams.left_puts.Released.{EndpointReleaseHold
 use usb_base::Wire;
 
 /// With each step of a leave the buffers of puts hold their bytes.
-pub fn a_leave_leaves_the_bytes_of_puts()
+pub fn leave_holds_puts()
     ensures { LeaveHoldsPuts }
 {}
 
 /// What was reported of each OUT endpoint and what is still to be sent of it stay its puts.
-pub fn a_leave_leaves_what_is_owed()
+pub fn leave_owes()
     ensures { LeaveOwes }
 {}
 
 /// What is out of the queue of an OUT endpoint that a walk may still meet is sent whole and in turn.
-pub fn a_leave_sends_whole()
+pub fn leave_sends()
     ensures { LeaveSends }
 {}
 
@@ -40,12 +40,12 @@ pub fn an_unlink_leaves_the_queues()
 {}
 
 /// Where an endpoint that has left is given back, the buffers of the puts to the others hold their bytes.
-pub fn a_release_leaves_the_bytes_of_puts()
+pub fn endpoint_release_holds_puts()
     ensures { EndpointReleaseHoldsPuts }
 {}
 
 /// What was reported of each other OUT endpoint and what is still to be sent of it stay its puts.
-pub fn a_release_leaves_what_is_owed()
+pub fn endpoint_release_owes()
     ensures { EndpointReleaseOwes }
 {}
 

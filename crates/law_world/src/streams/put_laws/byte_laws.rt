@@ -8,11 +8,11 @@ pub fn puts_are_filled()
 {}
 
 /// A put that was accepted has its bytes in its buffers, in their order.
-pub fn a_put_is_held()
+pub fn put_is_held()
     ensures { PutIsHeld }
 {}
 
 /// The controller leaves them: the runs of the buffers aren't lent yet.
-pub fn held_bytes_stay()
+pub fn held_stays()
     ensures { HeldStays }
 {}

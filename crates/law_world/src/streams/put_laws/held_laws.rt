@@ -5,7 +5,7 @@ ghost use Rattle.law_world.specs.streams.put_laws.HeldLaws.{NewDriverHoldsPuts, 
 use usb_base::Wire;
 
 /// A driver that was just built has no put.
-pub fn a_new_driver_has_no_put()
+pub fn new_driver_holds_puts()
     ensures { NewDriverHoldsPuts }
 {}
 
@@ -17,7 +17,7 @@ pub fn the_walk_leaves_what_it_sends<W: Wire>()
 {}
 
 /// Each event of the controller leaves the bytes of each put: those that are still to be lent, and those that are lent.
-pub fn the_controller_leaves_the_bytes_of_puts<W: Wire>()
+pub fn event_holds_puts<W: Wire>()
     ensures { EventHoldsPuts W.begins W.transacts }
 {}
 
@@ -30,7 +30,7 @@ pub fn an_accepted_put_holds_its_bytes()
 {}
 
 /// Each event of the driver leaves them: its lends, its stores, its harvests, and where it gives the blocks of another transfer back.
-pub fn the_driver_leaves_the_bytes_of_puts()
+pub fn driver_holds_puts()
     ensures { DriverHoldsPuts }
 {}
 

@@ -8,7 +8,7 @@ ghost use Rattle.law_world.specs.streams.put_laws.OwedTaken.{TakenBeginsPuts, Ev
 use usb_base::Wire;
 
 /// A driver that was just built owes nothing.
-pub fn a_new_driver_owes_nothing()
+pub fn new_driver_owes()
     ensures { NewDriverOwes }
 {}
 
@@ -24,7 +24,7 @@ pub fn what_is_owed_stays()
 {}
 
 /// Each row of the driver but a harvest leaves it so.
-pub fn the_driver_leaves_what_is_owed()
+pub fn driver_owes()
     ensures { DriverOwes }
 {}
 
@@ -42,7 +42,7 @@ pub fn what_is_owed_stands_in_buffers()
 {}
 
 /// What the device of an OUT endpoint took begins its puts, if it did so when the queue head halted.
-pub fn what_was_taken_begins_the_puts()
+pub fn taken_begins_puts()
     ensures { TakenBeginsPuts }
 {}
 

@@ -16,7 +16,7 @@ pub fn the_controller_sends_whole<W: Wire>()
 {}
 
 /// So does each store by which the first qTD of a transfer is published.
-pub fn each_store_sends_whole()
+pub fn store_sends()
     ensures { StoreSends }
 {}
 

@@ -9,11 +9,11 @@ pub fn a_leave_leaves_what_is_sent()
 {}
 
 /// So does the store by which a queue head leaves the ring: it writes a link of another queue head, in memory and in the copy in hand.
-pub fn an_unlink_leaves_what_is_sent()
+pub fn unlink_keeps_sent()
     ensures { UnlinkKeepsSent }
 {}
 
 /// And so does the row by which the endpoint is given back: nothing is told of its queue then, and what its device took begins its puts still.
-pub fn an_endpoint_release_leaves_what_is_sent()
+pub fn endpoint_release_keeps_sent()
     ensures { EndpointReleaseKeepsSent }
 {}

@@ -4,22 +4,22 @@ ghost use Rattle.law_world.specs.streams.taken_reports.Turns.{TextIsSeated, Micr
 ghost use Rattle.law_world.specs.streams.taken_reports.Worlds.{WorldIsTaken};
 
 /// What a closing line says that a device took is what the taker of its endpoint took.
-pub fn a_closing_line_tells_what_was_taken()
+pub fn closing_tells_taker()
     ensures { ClosingTellsTaker }
 {}
 
 /// Where its lines, and what is held back behind them, begin what the taker of each OUT endpoint took, they begin what its closing lines tell.
-pub fn what_a_report_tells_was_taken()
+pub fn report_is_taken()
     ensures { ReportIsTaken }
 {}
 
 /// So it is in a world whose OUT pipes agree, and where what is told of each queue that has a stream is what was harvested of it.
-pub fn what_a_world_reports_was_taken()
+pub fn world_is_taken()
     ensures { WorldIsTaken }
 {}
 
 /// Each IN and OUT endpoint that a text opens has its seat, and no two of its devices have one address.
-pub fn the_bus_of_a_text_is_seated()
+pub fn text_is_seated()
     ensures { TextIsSeated }
 {}
 

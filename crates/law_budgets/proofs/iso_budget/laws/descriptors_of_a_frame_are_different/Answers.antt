@@ -1,5 +1,5 @@
-use Rattle.law_budgets.proofs.lemmas.iso_budget.Visited.{different}
+use Rattle.law_budgets.proofs.lemmas.iso_budget.Visited.{descriptors_of_a_frame_are_different}
 use Rattle.law_budgets.proofs.iso_budget.laws.descriptors_of_a_frame_are_different.Goals as goal
 
 pub returns : goal.returns
-returns c = different
+returns c = descriptors_of_a_frame_are_different

@@ -1,5 +1,5 @@
-use Rattle.law_controller.proofs.lemmas.aligned_copies.Controlling.{event_aligned}
+use Rattle.law_controller.proofs.lemmas.aligned_copies.Controlling.{each_event_keeps_addresses_aligned}
 use Rattle.law_controller.proofs.aligned_copies.laws.each_event_keeps_addresses_aligned.Goals as goal
 
 pub returns : goal.returns
-returns g c = event_aligned g.W.Wire.begins g.W.Wire.transacts
+returns g c = each_event_keeps_addresses_aligned g.W.Wire.begins g.W.Wire.transacts

@@ -1,5 +1,5 @@
-use Rattle.law_controller.proofs.lemmas.controlled_streams.Controlling.{event_controls}
+use Rattle.law_controller.proofs.lemmas.controlled_streams.Controlling.{each_event_of_the_controller}
 use Rattle.law_controller.proofs.controlled_streams.control_laws.each_event_of_the_controller.Goals as goal
 
 pub returns : goal.returns
-returns g c = event_controls g.W.Wire.begins g.W.Wire.transacts
+returns g c = each_event_of_the_controller g.W.Wire.begins g.W.Wire.transacts

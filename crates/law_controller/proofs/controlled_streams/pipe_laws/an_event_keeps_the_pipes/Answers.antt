@@ -1,5 +1,5 @@
-use Rattle.law_controller.proofs.lemmas.controlled_streams.Piping.{control_pipes}
+use Rattle.law_controller.proofs.lemmas.controlled_streams.Piping.{an_event_keeps_the_pipes}
 use Rattle.law_controller.proofs.controlled_streams.pipe_laws.an_event_keeps_the_pipes.Goals as goal
 
 pub returns : goal.returns
-returns g c = control_pipes g.W.Wire.begins g.W.Wire.transacts
+returns g c = an_event_keeps_the_pipes g.W.Wire.begins g.W.Wire.transacts

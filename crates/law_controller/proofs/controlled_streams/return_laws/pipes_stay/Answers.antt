@@ -1,5 +1,5 @@
-use Rattle.law_controller.proofs.lemmas.controlled_streams.Returning.{pipes_returned}
+use Rattle.law_controller.proofs.lemmas.controlled_streams.Returning.{pipes_stay}
 use Rattle.law_controller.proofs.controlled_streams.return_laws.pipes_stay.Goals as goal
 
 pub returns : goal.returns
-returns g c = pipes_returned
+returns g c = pipes_stay

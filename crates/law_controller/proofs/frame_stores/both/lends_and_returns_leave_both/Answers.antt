@@ -1,5 +1,5 @@
-use Rattle.law_controller.proofs.lemmas.frame_stores.Beside.{both_retold, both_left, both_lent, both_joined, both_stranger, both_rest}
+use Rattle.law_controller.proofs.lemmas.frame_stores.Beside.{other_parts_leave_both, unmet_parts_leave_both, lend_leaves_both, another_leaves_both, strangers_leave_both, rest_leaves_both}
 use Rattle.law_controller.proofs.frame_stores.both.lends_and_returns_leave_both.Goals as goal
 
 pub returns : goal.returns
-returns c = record { parts = both_retold; unmet = both_left; lend = both_lent; another = both_joined; strangers = both_stranger; rest = both_rest }
+returns c = record { parts = other_parts_leave_both; unmet = unmet_parts_leave_both; lend = lend_leaves_both; another = another_leaves_both; strangers = strangers_leave_both; rest = rest_leaves_both }

@@ -1,7 +1,7 @@
-use Rattle.law_controller.proofs.lemmas.frame_stores.Linking.{frame_link_stored, frame_word_stored, stored_leads}
-use Rattle.law_controller.proofs.lemmas.frame_stores.Framing.{frame_table_stored}
-use Rattle.law_controller.proofs.lemmas.frame_stores.Parting.{frame_element_stored}
+use Rattle.law_controller.proofs.lemmas.frame_stores.Linking.{link_store_leaves_frame, link_word_leaves_frame, stored_link_leads}
+use Rattle.law_controller.proofs.lemmas.frame_stores.Framing.{table_store_leaves_frame}
+use Rattle.law_controller.proofs.lemmas.frame_stores.Parting.{element_store_leaves_frame}
 use Rattle.law_controller.proofs.frame_stores.laws.stores_leave_the_frames.Goals as goal
 
 pub returns : goal.returns
-returns c = record { link = frame_link_stored; word = frame_word_stored; leads = stored_leads; table = frame_table_stored; element = frame_element_stored }
+returns c = record { link = link_store_leaves_frame; word = link_word_leaves_frame; leads = stored_link_leads; table = table_store_leaves_frame; element = element_store_leaves_frame }

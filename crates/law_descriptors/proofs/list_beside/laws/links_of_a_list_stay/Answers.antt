@@ -1,5 +1,5 @@
-use Rattle.law_descriptors.proofs.lemmas.list_beside.Linking.{list_left}
+use Rattle.law_descriptors.proofs.lemmas.list_beside.Linking.{links_of_a_list_stay}
 use Rattle.law_descriptors.proofs.list_beside.laws.links_of_a_list_stay.Goals as goal
 
 pub returns : goal.returns
-returns c = list_left
+returns c = links_of_a_list_stay

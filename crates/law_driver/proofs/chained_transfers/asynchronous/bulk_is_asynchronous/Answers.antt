@@ -1,5 +1,5 @@
-use Rattle.law_driver.proofs.lemmas.chained_transfers.BulkAndControl.{bulk_takes_turns}
+use Rattle.law_driver.proofs.lemmas.chained_transfers.BulkAndControl.{bulk_is_asynchronous}
 use Rattle.law_driver.proofs.chained_transfers.asynchronous.bulk_is_asynchronous.Goals as goal
 
 pub returns : goal.returns
-returns c = bulk_takes_turns
+returns c = bulk_is_asynchronous

@@ -1,5 +1,5 @@
-use Rattle.law_driver.proofs.lemmas.chained_transfers.Events.{event_turns}
+use Rattle.law_driver.proofs.lemmas.chained_transfers.Events.{events_keep_turns}
 use Rattle.law_driver.proofs.chained_transfers.laws.events_keep_turns.Goals as goal
 
 pub returns : goal.returns
-returns c = event_turns
+returns c = events_keep_turns

@@ -1,5 +1,5 @@
-use Rattle.law_driver.proofs.lemmas.queue_head_words.Stored.{event_stores}
+use Rattle.law_driver.proofs.lemmas.queue_head_words.Stored.{stores_are_links_and_mends}
 use Rattle.law_driver.proofs.queue_head_words.overlay.stores_are_links_and_mends.Goals as goal
 
 pub returns : goal.returns
-returns c = event_stores
+returns c = stores_are_links_and_mends

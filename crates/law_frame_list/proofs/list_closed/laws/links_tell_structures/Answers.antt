@@ -1,5 +1,5 @@
-use Rattle.law_frame_list.proofs.lemmas.list_closed.Structures.{structures_told}
+use Rattle.law_frame_list.proofs.lemmas.list_closed.Structures.{links_tell_structures}
 use Rattle.law_frame_list.proofs.list_closed.laws.links_tell_structures.Goals as goal
 
 pub returns : goal.returns
-returns c = structures_told
+returns c = links_tell_structures

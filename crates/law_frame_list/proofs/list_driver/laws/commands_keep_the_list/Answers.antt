@@ -1,5 +1,5 @@
-use Rattle.law_frame_list.proofs.lemmas.list_driver.Rows.{command_keeps}
+use Rattle.law_frame_list.proofs.lemmas.list_driver.Rows.{commands_keep_the_list}
 use Rattle.law_frame_list.proofs.list_driver.laws.commands_keep_the_list.Goals as goal
 
 pub returns : goal.returns
-returns c = command_keeps
+returns c = commands_keep_the_list

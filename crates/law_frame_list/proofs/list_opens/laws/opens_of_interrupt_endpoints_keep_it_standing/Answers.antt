@@ -1,5 +1,5 @@
-use Rattle.law_frame_list.proofs.lemmas.list_opens.Linked.{chain_stands}
+use Rattle.law_frame_list.proofs.lemmas.list_opens.Linked.{opens_of_interrupt_endpoints_keep_it_standing}
 use Rattle.law_frame_list.proofs.list_opens.laws.opens_of_interrupt_endpoints_keep_it_standing.Goals as goal
 
 pub returns : goal.returns
-returns c = chain_stands
+returns c = opens_of_interrupt_endpoints_keep_it_standing

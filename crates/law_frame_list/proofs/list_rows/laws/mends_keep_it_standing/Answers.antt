@@ -1,5 +1,5 @@
-use Rattle.law_frame_list.proofs.lemmas.list_rows.Mending.{mend_stands}
+use Rattle.law_frame_list.proofs.lemmas.list_rows.Mending.{mends_keep_it_standing}
 use Rattle.law_frame_list.proofs.list_rows.laws.mends_keep_it_standing.Goals as goal
 
 pub returns : goal.returns
-returns c = mend_stands
+returns c = mends_keep_it_standing

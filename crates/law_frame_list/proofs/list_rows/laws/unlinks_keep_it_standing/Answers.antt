@@ -1,5 +1,5 @@
-use Rattle.law_frame_list.proofs.lemmas.list_rows.Unlinked.{unlink_stands}
+use Rattle.law_frame_list.proofs.lemmas.list_rows.Unlinked.{unlinks_keep_it_standing}
 use Rattle.law_frame_list.proofs.list_rows.laws.unlinks_keep_it_standing.Goals as goal
 
 pub returns : goal.returns
-returns c = unlink_stands
+returns c = unlinks_keep_it_standing

@@ -1,5 +1,5 @@
-use Rattle.law_frame_list.proofs.lemmas.list_stands.Listing.{opening_stands}
+use Rattle.law_frame_list.proofs.lemmas.list_stands.Listing.{a_new_list_stands}
 use Rattle.law_frame_list.proofs.list_stands.laws.a_new_list_stands.Goals as goal
 
 pub returns : goal.returns
-returns c = opening_stands
+returns c = a_new_list_stands

@@ -1,5 +1,5 @@
-use Rattle.law_microframes.proofs.lemmas.plans.Right.{scripts_right}
+use Rattle.law_microframes.proofs.lemmas.plans.Right.{scripts_place_right}
 use Rattle.law_microframes.proofs.plans.laws.scripts_place_right.Goals as goal
 
 pub returns : goal.returns
-returns c = scripts_right
+returns c = scripts_place_right

@@ -1,5 +1,5 @@
-use Rattle.law_microframes.proofs.lemmas.time.ChargeSums.{charges_bounded}
+use Rattle.law_microframes.proofs.lemmas.time.ChargeSums.{charges_are_bounded}
 use Rattle.law_microframes.proofs.time.charges.charges_are_bounded.Goals as goal
 
 pub returns : goal.returns
-returns c = charges_bounded
+returns c = charges_are_bounded

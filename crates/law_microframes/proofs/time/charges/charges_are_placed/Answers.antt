@@ -1,5 +1,5 @@
-use Rattle.law_microframes.proofs.lemmas.time.ChargeSums.{charges_placed}
+use Rattle.law_microframes.proofs.lemmas.time.ChargeSums.{charges_are_placed}
 use Rattle.law_microframes.proofs.time.charges.charges_are_placed.Goals as goal
 
 pub returns : goal.returns
-returns c = charges_placed
+returns c = charges_are_placed

@@ -1,5 +1,5 @@
-use Rattle.law_microframes.proofs.lemmas.time.ChargeEvents.{event_priced}
+use Rattle.law_microframes.proofs.lemmas.time.ChargeEvents.{events_are_priced}
 use Rattle.law_microframes.proofs.time.charges.events_are_priced.Goals as goal
 
 pub returns : goal.returns
-returns c = event_priced
+returns c = events_are_priced

@@ -1,5 +1,5 @@
-use Rattle.law_microframes.proofs.lemmas.time.HeadSampled.{typed_head}
+use Rattle.law_microframes.proofs.lemmas.time.HeadSampled.{its_reads}
 use Rattle.law_microframes.proofs.time.head_samples.its_reads.Goals as goal
 
 pub returns : goal.returns
-returns c = typed_head
+returns c = its_reads

@@ -1,5 +1,5 @@
-use Rattle.law_microframes.proofs.lemmas.time.RoundSampled.{typed_round}
+use Rattle.law_microframes.proofs.lemmas.time.RoundSampled.{its_rounds}
 use Rattle.law_microframes.proofs.time.round_samples.its_rounds.Goals as goal
 
 pub returns : goal.returns
-returns c = typed_round
+returns c = its_rounds

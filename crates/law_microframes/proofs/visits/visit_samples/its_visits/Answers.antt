@@ -1,5 +1,5 @@
-use Rattle.law_microframes.proofs.lemmas.visits.VisitSampled.{typed_visited}
+use Rattle.law_microframes.proofs.lemmas.visits.VisitSampled.{its_visits}
 use Rattle.law_microframes.proofs.visits.visit_samples.its_visits.Goals as goal
 
 pub returns : goal.returns
-returns c = typed_visited
+returns c = its_visits

@@ -4,7 +4,7 @@ use Rattle.bandwidth.specs.Placements.{allowed, mask}
 use Rattle.hc_iso.specs.Samples.{split_in}
 use Rattle.claims_world.specs.FrameHeads.{IsAllowed}
 use Rattle.law_microframes.specs.time.SitdParts.{IsInParts}
-use Rattle.law_microframes.proofs.lemmas.time.SplitMasked.{allowed_split}
+use Rattle.law_microframes.proofs.lemmas.time.SplitMasked.{allowed_are_split}
 use Rattle.law_microframes.specs.worked_visits.Samples.{placed_microphone}
 use Rattle.law_microframes.proofs.worked_visits.parts.a_microphone_is_in_hand.Goals as goal
 
@@ -17,7 +17,7 @@ returns-clause-descriptor c = record {
   classic = refl;
   kind = refl;
   some = omega arith;
-  masks = allowed_split placed_microphone is_allowed refl;
+  masks = allowed_are_split placed_microphone is_allowed refl;
   way = refl;
   smask = refl;
   cmask = refl;
@@ -30,7 +30,7 @@ returns-clause-held c = record {
     classic = refl;
     kind = refl;
     some = omega arith;
-    masks = allowed_split placed_microphone is_allowed refl;
+    masks = allowed_are_split placed_microphone is_allowed refl;
     way = refl;
     smask = refl;
     cmask = refl;

@@ -5,7 +5,7 @@ use Rattle.bandwidth.specs.Worked.{placed}
 use Rattle.claims_world.specs.FrameHeads.{IsAllowed}
 use Rattle.hc_interrupt.specs.Samples.{split_in, erred}
 use Rattle.law_microframes.specs.time.SplitCharges.{IsSplitHeadOf}
-use Rattle.law_microframes.proofs.lemmas.time.SplitMasked.{allowed_split}
+use Rattle.law_microframes.proofs.lemmas.time.SplitMasked.{allowed_are_split}
 use Rattle.law_microframes.specs.worked_visits.Samples.{placed_keyboard}
 use Rattle.law_microframes.proofs.worked_visits.splits.a_keyboard_is_in_hand.Goals as goal
 
@@ -18,7 +18,7 @@ head = record {
   classic = refl;
   kind = refl;
   some = omega arith;
-  masks = allowed_split placed_keyboard is_allowed refl;
+  masks = allowed_are_split placed_keyboard is_allowed refl;
   below = refl;
   max =
       refl;
@@ -31,7 +31,7 @@ head_erred = record {
   classic = refl;
   kind = refl;
   some = omega arith;
-  masks = allowed_split placed_keyboard is_allowed refl;
+  masks = allowed_are_split placed_keyboard is_allowed refl;
   below = refl;
   max =
       refl;

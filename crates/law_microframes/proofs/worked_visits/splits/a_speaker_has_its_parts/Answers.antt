@@ -3,7 +3,7 @@ use Rattle.bandwidth.specs.Placements.{allowed, mask, first_in}
 use Rattle.claims_world.specs.FrameHeads.{IsAllowed}
 use Rattle.hc_iso.specs.Samples.{split_out}
 use Rattle.law_microframes.specs.time.SitdParts.{IsInParts}
-use Rattle.law_microframes.proofs.lemmas.time.SplitMasked.{allowed_split}
+use Rattle.law_microframes.proofs.lemmas.time.SplitMasked.{allowed_are_split}
 use Rattle.law_microframes.specs.worked_visits.Samples.{placed_speaker}
 use Rattle.law_microframes.proofs.worked_visits.splits.a_speaker_has_its_parts.Goals as goal
 
@@ -16,7 +16,7 @@ returns-clause-descriptor c = record {
   classic = refl;
   kind = refl;
   some = omega arith;
-  masks = allowed_split placed_speaker is_allowed refl;
+  masks = allowed_are_split placed_speaker is_allowed refl;
   way = refl;
   smask = refl;
   cmask = refl;

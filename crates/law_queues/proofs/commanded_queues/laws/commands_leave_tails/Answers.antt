@@ -1,8 +1,8 @@
-use Rattle.law_queues.proofs.lemmas.commanded_queues.Tails.{open_reaches, asked_reaches}
+use Rattle.law_queues.proofs.lemmas.commanded_queues.Tails.{reaches_open, reaches_asked}
 use Rattle.law_queues.proofs.commanded_queues.laws.commands_leave_tails.Goals as goal
 
 pub returns-clause-opened : goal.returns-clause-opened
-returns-clause-opened c = open_reaches
+returns-clause-opened c = reaches_open
 
 pub returns-clause-asked : goal.returns-clause-asked
-returns-clause-asked c = asked_reaches
+returns-clause-asked c = reaches_asked

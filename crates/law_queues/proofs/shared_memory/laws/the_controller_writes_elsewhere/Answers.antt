@@ -1,5 +1,5 @@
-use Rattle.law_queues.proofs.lemmas.shared_memory.Sharing.{event_elsewhere}
+use Rattle.law_queues.proofs.lemmas.shared_memory.Sharing.{the_controller_writes_elsewhere}
 use Rattle.law_queues.proofs.shared_memory.laws.the_controller_writes_elsewhere.Goals as goal
 
 pub returns : goal.returns
-returns g c = event_elsewhere g.W.Wire.begins g.W.Wire.transacts
+returns g c = the_controller_writes_elsewhere g.W.Wire.begins g.W.Wire.transacts

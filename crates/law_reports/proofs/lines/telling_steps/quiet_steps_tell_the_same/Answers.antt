@@ -1,12 +1,12 @@
-use Rattle.law_reports.proofs.lemmas.lines.ToldStays.{alike_telling, bell_telling, status_telling, narrow_telling}
-use Rattle.law_reports.proofs.lemmas.lines.FrameLines.{frame_telling}
+use Rattle.law_reports.proofs.lemmas.lines.ToldStays.{still_tells, bell_telling, status_telling, narrow_telling}
+use Rattle.law_reports.proofs.lemmas.lines.FrameLines.{frame_tells}
 use Rattle.law_reports.proofs.lines.telling_steps.quiet_steps_tell_the_same.Goals as goal
 
 pub returns-clause-still : goal.returns-clause-still
-returns-clause-still c = alike_telling
+returns-clause-still c = still_tells
 
 pub returns-clause-frames : goal.returns-clause-frames
-returns-clause-frames c = frame_telling
+returns-clause-frames c = frame_tells
 
 pub returns-clause-bell : goal.returns-clause-bell
 returns-clause-bell c = bell_telling

@@ -1,5 +1,5 @@
-use Rattle.law_reports.proofs.lemmas.requests.Missed.{head_unmissed, qtd_unmissed, dummy_unmissed, writing_unmissed, release_unmissed}
+use Rattle.law_reports.proofs.lemmas.requests.Missed.{new_head_is_unmissed, new_qtd_is_unmissed, dummy_is_unmissed, writing_misses_none, release_misses_none}
 use Rattle.law_reports.proofs.requests.no_misses.a_driver_writes_no_missed_microframe.Goals as goal
 
 pub returns : goal.returns
-returns c = record { head = head_unmissed; qtd = qtd_unmissed; dummy = dummy_unmissed; writing = writing_unmissed; release = release_unmissed }
+returns c = record { head = new_head_is_unmissed; qtd = new_qtd_is_unmissed; dummy = dummy_is_unmissed; writing = writing_misses_none; release = release_misses_none }

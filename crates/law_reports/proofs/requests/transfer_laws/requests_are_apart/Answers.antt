@@ -1,5 +1,5 @@
-use Rattle.law_reports.proofs.lemmas.requests.Apart.{laid_apart, laid_others}
+use Rattle.law_reports.proofs.lemmas.requests.Apart.{laid_are_apart, laid_are_others}
 use Rattle.law_reports.proofs.requests.transfer_laws.requests_are_apart.Goals as goal
 
 pub returns : goal.returns
-returns c = record { own = laid_apart; others = laid_others }
+returns c = record { own = laid_are_apart; others = laid_are_others }

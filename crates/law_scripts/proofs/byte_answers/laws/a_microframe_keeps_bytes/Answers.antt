@@ -1,5 +1,5 @@
-use Rattle.law_scripts.proofs.lemmas.byte_answers.Buses.{begin_bytes}
+use Rattle.law_scripts.proofs.lemmas.byte_answers.Buses.{a_microframe_keeps_bytes}
 use Rattle.law_scripts.proofs.byte_answers.laws.a_microframe_keeps_bytes.Goals as goal
 
 pub returns : goal.returns
-returns c = begin_bytes
+returns c = a_microframe_keeps_bytes

@@ -1,5 +1,5 @@
-use Rattle.law_structures.proofs.lemmas.lent_structures.Altering.{element_put}
+use Rattle.law_structures.proofs.lemmas.lent_structures.Altering.{a_token_alters_its_qtd}
 use Rattle.law_structures.proofs.lent_structures.queue_laws.a_token_alters_its_qtd.Goals as goal
 
 pub returns : goal.returns
-returns c = element_put
+returns c = a_token_alters_its_qtd

@@ -1,5 +1,5 @@
-use Rattle.law_structures.proofs.lemmas.lent_structures.Telling.{told_still, changed, added, joined, removed}
+use Rattle.law_structures.proofs.lemmas.lent_structures.Telling.{rest_is_told, change_is_told, new_is_told, another_is_told, fewer_are_told}
 use Rattle.law_structures.proofs.lent_structures.structure_laws.changes_are_told.Goals as goal
 
 pub returns : goal.returns
-returns c = record { rest = told_still; change = changed; new = added; another = joined; fewer = removed }
+returns c = record { rest = rest_is_told; change = change_is_told; new = new_is_told; another = another_is_told; fewer = fewer_are_told }

@@ -1,5 +1,5 @@
-use Rattle.law_world.proofs.lemmas.steps.Spared.{out_pipes_spared}
+use Rattle.law_world.proofs.lemmas.steps.Spared.{spared_out_pipes_agree}
 use Rattle.law_world.proofs.steps.row_laws.spared_out_pipes_agree.Goals as goal
 
 pub returns : goal.returns
-returns g c = out_pipes_spared
+returns g c = spared_out_pipes_agree

@@ -239,23 +239,23 @@ keeps_multi : (hs ks : List HubContent) (hub port : ℕ) (all : AreAlike hs ks) 
 unfolding keeps_translator
 keeps_multi hs ks hub port all h = (at_alike hs ks h.place h.content all h.here).2.multi
 
-pub begins_keep_translator : (fixed : Fixed) (frindex : ℕ) (b : Bus) (hub port : ℕ) → HasTranslator b.hubs hub port
+pub begins_keep_translators : (fixed : Fixed) (frindex : ℕ) (b : Bus) (hub port : ℕ) → HasTranslator b.hubs hub port
     → HasTranslator (begin_after fixed frindex b).hubs hub port
-begins_keep_translator fixed frindex b hub port h = keeps_translator b.hubs _ hub port (worked_alike fixed frindex b.hubs (floor_of b)) h
+begins_keep_translators fixed frindex b hub port h = keeps_translator b.hubs _ hub port (worked_alike fixed frindex b.hubs (floor_of b)) h
 
-pub asks_keep_translator : (fixed : Fixed) (b : Bus) (ask : Ask) (out : List ℕ) (hub port : ℕ) → HasTranslator b.hubs hub port
+pub asks_keep_translators : (fixed : Fixed) (b : Bus) (ask : Ask) (out : List ℕ) (hub port : ℕ) → HasTranslator b.hubs hub port
     → HasTranslator (transact_after fixed b ask out).hubs hub port
-asks_keep_translator fixed b ask out hub port h =
+asks_keep_translators fixed b ask out hub port h =
     keeps_translator b.hubs _ hub port (asks_alike_at fixed b ask out (asked_of fixed b ask)) h
 
 pub begins_keep_multi : (fixed : Fixed) (frindex : ℕ) (b : Bus) (hub port : ℕ) (h : HasTranslator b.hubs hub port)
-    → (begins_keep_translator fixed frindex b hub port h).content.translators.multi ≡ h.content.translators.multi
-unfolding begins_keep_translator
+    → (begins_keep_translators fixed frindex b hub port h).content.translators.multi ≡ h.content.translators.multi
+unfolding begins_keep_translators
 begins_keep_multi fixed frindex b hub port h = keeps_multi b.hubs _ hub port (worked_alike fixed frindex b.hubs (floor_of b)) h
 
 pub asks_keep_multi : (fixed : Fixed) (b : Bus) (ask : Ask) (out : List ℕ) (hub port : ℕ) (h : HasTranslator b.hubs hub port)
-    → (asks_keep_translator fixed b ask out hub port h).content.translators.multi ≡ h.content.translators.multi
-unfolding asks_keep_translator
+    → (asks_keep_translators fixed b ask out hub port h).content.translators.multi ≡ h.content.translators.multi
+unfolding asks_keep_translators
 asks_keep_multi fixed b ask out hub port h =
     keeps_multi b.hubs _ hub port (asks_alike_at fixed b ask out (asked_of fixed b ask)) h
 

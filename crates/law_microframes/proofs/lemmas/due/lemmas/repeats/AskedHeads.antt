@@ -43,7 +43,7 @@ use Rattle.law_descriptors.specs.Both.{both}
 use Rattle.law_descriptors.specs.Meeting.{met}
 use Rattle.law_world.specs.memory.Mixed.{Standing, IsMixedAt}
 use Rattle.law_world.specs.memory.framed_memory.Masks.{HasMasks}
-use Rattle.law_world.proofs.lemmas.memory.lemmas.framed_memory.ChainedRuns.{chained_head_range}
+use Rattle.law_world.proofs.lemmas.memory.lemmas.framed_memory.ChainedRuns.{chained_head_is_in_range}
 use Rattle.law_microframes.specs.visits.Belonging.{IsQueueAt, HaveFields, HeadsHaveFields}
 use Rattle.law_microframes.proofs.lemmas.visits.BelongQueues.{queue_belongs}
 use Rattle.law_microframes.proofs.lemmas.visits.BelongReads.{ok_is, word_one, word_two}
@@ -149,9 +149,9 @@ module _ (s : Script) (st : Standing) (w : World) (k : IsMixedAt st w) (fields :
       let few = few_more x.desc.multi second f.multi in
       let masks : HasMasks p = all_at (λ y. HasMasks y.placement) w.driver.periodic.plan.placed at.belongs.planned.place _ k.masks
       at.belongs.planned.there in
-      let one = written (interrupt_head x.desc 0 0 0 0) (chained_head_range x.desc (no_masks p) 0 0 (k.numbers e x here) stands.max
+      let one = written (interrupt_head x.desc 0 0 0 0) (chained_head_is_in_range x.desc (no_masks p) 0 0 (k.numbers e x here) stands.max
       stands.port few (record { smask = omega arith; cmask = omega arith })) in
-      let two = written (interrupt_head x.desc p.smask p.cmask 0 0) (chained_head_range x.desc p 0 0 (k.numbers e x here) stands.max
+      let two = written (interrupt_head x.desc p.smask p.cmask 0 0) (chained_head_is_in_range x.desc p 0 0 (k.numbers e x here) stands.max
       stands.port few masks) in
       let way = way_token x.desc.name.way carries in
       let pid : (copied_queue c).token.pid ≡ pid_of (way_of x) = reads.copies (held_as c made) (way_of x)

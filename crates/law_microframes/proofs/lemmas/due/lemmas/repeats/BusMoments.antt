@@ -24,8 +24,8 @@ use Rattle.law_world.proofs.lemmas.memory.Carrying.{carrying}
 use Rattle.law_microframes.proofs.lemmas.visits.ReasonParts.{command_bus}
 use Rattle.law_microframes.specs.due.repeats.Hearing.{number_of, IsHeardOn}
 use Rattle.law_microframes.specs.due.repeats.Words.{BusSaysWords}
-use Rattle.law_microframes.proofs.lemmas.due.lemmas.repeats.Alike.{begins_keep_translator, asks_keep_translator, begins_keep_multi, asks_keep_multi, asks_keep_number}
-use Rattle.law_microframes.proofs.lemmas.due.lemmas.repeats.HubWords.{begins_keep, asks_keep}
+use Rattle.law_microframes.proofs.lemmas.due.lemmas.repeats.Alike.{begins_keep_translators, asks_keep_translators, begins_keep_multi, asks_keep_multi, asks_keep_number}
+use Rattle.law_microframes.proofs.lemmas.due.lemmas.repeats.HubWords.{begins_keep, asks_keep_words}
 
 module _ (P : Bus → Type 0) (fixed : Fixed) (begins : (frindex : ℕ) (b : Bus) → P b → P (begin_after fixed frindex b))
     (asks : (b : Bus) (ask : Ask) (out : List ℕ) → P b → P (transact_after fixed b ask out)) where
@@ -71,7 +71,7 @@ each_bus P s begins asks opening k =
 pub each_bus_says : (s : Script) → BusSaysWords (fixed_of s) (opening_bus s) → (k : ℕ) → BusSaysWords (fixed_of s) (moment s k).world.bus
 each_bus_says s opening k =
     each_bus (BusSaysWords (fixed_of s)) s (λ frindex b h. begins_keep (fixed_of s) frindex b h)
-    (λ b ask out h. asks_keep (fixed_of s) b ask out h) opening k
+    (λ b ask out h. asks_keep_words (fixed_of s) b ask out h) opening k
 
 begins_heard : (fixed : Fixed) (x : EpDesc) (frindex : ℕ) (b : Bus) → IsHeardOn fixed b x
     → IsHeardOn fixed (begin_after fixed frindex b) x
@@ -83,7 +83,7 @@ begins_heard fixed x frindex b h = record {
   number = record { number = h.number.number; is = h.number.is };
   hub = h.hub;
   behind = h.behind;
-  translator = begins_keep_translator fixed frindex b h.hub x.port h.translator;
+  translator = begins_keep_translators fixed frindex b h.hub x.port h.translator;
   served = h.served ∙ ap (λ (m : Bool). number_of m x.port) (sym (begins_keep_multi fixed frindex b h.hub x.port h.translator));
 }
 
@@ -97,7 +97,7 @@ asks_heard fixed x b ask out h = record {
   number = asks_keep_number fixed b ask out h.place h.number;
   hub = h.hub;
   behind = h.behind;
-  translator = asks_keep_translator fixed b ask out h.hub x.port h.translator;
+  translator = asks_keep_translators fixed b ask out h.hub x.port h.translator;
   served = h.served ∙ ap (λ (m : Bool). number_of m x.port) (sym (asks_keep_multi fixed b ask out h.hub x.port h.translator));
 }
 

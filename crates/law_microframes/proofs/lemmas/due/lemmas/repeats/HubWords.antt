@@ -396,6 +396,6 @@ at_keeps fixed b ask out (Some e) says =
     let c = changed_keeps fixed (bus_row fixed b e ask out) e.who ask out b says in
     record { hubs = c.hubs; devices = c.devices }
 
-pub asks_keep : (fixed : Fixed) (b : Bus) (ask : Ask) (out : List ℕ) → BusSaysWords fixed b
+pub asks_keep_words : (fixed : Fixed) (b : Bus) (ask : Ask) (out : List ℕ) → BusSaysWords fixed b
     → BusSaysWords fixed (transact_after fixed b ask out)
-asks_keep fixed b ask out says = at_keeps fixed b ask out (asked_of fixed b ask) says
+asks_keep_words fixed b ask out says = at_keeps fixed b ask out (asked_of fixed b ask) says

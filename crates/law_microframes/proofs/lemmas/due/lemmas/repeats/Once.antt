@@ -65,7 +65,7 @@ use Rattle.claims_world.specs.Losses.{is_lost}
 use Rattle.law_microframes.specs.time.Repeats.{is_split_word, asked_pid, IsCompleteOf}
 use Rattle.law_microframes.specs.due.repeats.Words.{inward_of, BusSaysWords}
 use Rattle.law_microframes.proofs.lemmas.due.lemmas.repeats.Heard.{reply_word}
-use Rattle.law_microframes.proofs.lemmas.time.RepeatAnswers.{words_end}
+use Rattle.law_microframes.proofs.lemmas.time.RepeatAnswers.{words_end_visits}
 
 -- ---- what is in hand
 
@@ -183,7 +183,7 @@ module _ (fixed : Fixed) (b : Bus) (says : BusSaysWords fixed b) where
       let word' : is_split_word asks.inward reply ≡ true = subst (λ (x : Bool). is_split_word x reply ≡ true)
       (ap inward_of pid ∙ inward_is asks.inward) word in
       turned (failed (outcome_in t out last reply)) (host_after t out last reply).waiting
-      (words_end asks.inward ask (call_in t out last).sent last reply t.host of word')
+      (words_end_visits asks.inward ask (call_in t out last).sent last reply t.host of word')
 
   -- a start-split is no reason
   start_once : (q : Qh) (out : List ℕ) (last : Bool) (reply : Reply) → (q.eps == 2) ≡ false → q.token.split_state ≡ false

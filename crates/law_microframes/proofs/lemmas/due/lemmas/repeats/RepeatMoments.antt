@@ -24,7 +24,7 @@ use Rattle.bus_wire.specs.Bus.{Bus, Fixed, fixed_of, is_allowed}
 use Rattle.bus_world.specs.World.{World, controller_parts, controller_row, controller_next, frame_by, turned_by}
 use Rattle.bus_world.specs.Budgets.{moment}
 use Rattle.claims_world.specs.WithinLoad.{repeats_after, repeats_next, repeats}
-use Rattle.law_scripts.proofs.lemmas.script_bytes.Texts.{spelled_bytes}
+use Rattle.law_scripts.proofs.lemmas.script_bytes.Texts.{a_text_spells_bytes}
 use Rattle.law_world.specs.memory.Mixed.{IsMixedWorld}
 use Rattle.law_world.proofs.lemmas.memory.Carrying.{both, both_carried, carrying}
 use Rattle.law_world.proofs.lemmas.memory.FittingTexts.{texts_open_fitting}
@@ -130,7 +130,7 @@ controller_quiet fixed w x known quiet =
 known_at : (text : List ℕ) (s : Script) → Spells text s → (k : ℕ) → IsKnown (fixed_of s) (moment s k).world
 known_at text s spelled k =
     let fit = spelled_fits text s spelled in
-    let bytes = spelled_bytes text s spelled in
+    let bytes = a_text_spells_bytes text s spelled in
     let opens = lines_fit s.lines (texts_fit text s spelled) (texts_open_fitting text s spelled) in
     let mixed : IsMixedWorld (moment s k).world = texts_stay_mixed text s spelled k in
     let fields : HeadsHaveFields (moment s k).world.driver (moment s k).world.memory = scripts_keep_fields s fit bytes opens k in

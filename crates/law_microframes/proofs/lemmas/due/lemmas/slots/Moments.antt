@@ -17,7 +17,7 @@ use Rattle.law_world.proofs.lemmas.memory.Carrying.{carrying, both, both_carried
 use Rattle.law_world.proofs.lemmas.memory.Together.{texts_stay_mixed}
 use Rattle.law_microframes.proofs.lemmas.visits.ReasonHeld.{texts_keep_held_time}
 use Rattle.law_microframes.proofs.lemmas.visits.ReasonParts.{command_control, command_bus}
-use Rattle.law_microframes.proofs.lemmas.time.PaymentTimes.{texts_in_time}
+use Rattle.law_microframes.proofs.lemmas.time.PaymentTimes.{texts_are_in_time}
 use Rattle.claims_world.specs.Slots.{Slots, no_slots, slots_next, slots}
 use Rattle.law_microframes.specs.due.slots.SlotLaws.{TextsServeSlots}
 use Rattle.law_microframes.proofs.lemmas.due.lemmas.slots.Events.{with_part}
@@ -33,7 +33,7 @@ command_goes_on fixed w other t again control bus all free few =
 known_at : (text : List ℕ) (s : Script) → Spells text s → (k : ℕ) → IsKnown (fixed_of s) (moment s k).world (repeats s k)
 known_at text s spelled k = record {
   mixed = texts_stay_mixed text s spelled k;
-  timely = (texts_in_time text s spelled).each k;
+  timely = (texts_are_in_time text s spelled).each k;
   tells = (texts_keep_held_time text s spelled k).tells;
 }
 

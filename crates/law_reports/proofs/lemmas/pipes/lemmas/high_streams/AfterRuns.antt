@@ -10,7 +10,7 @@ use Rattle.bus_world.specs.World.{Standing}
 use Rattle.claims_report.specs.Reports.{WholeReport}
 use Rattle.claims_world.specs.Streams.{report_of}
 use Rattle.claims_world.specs.HighStreams.{AreHighInStreams, AreHighTakenStreams, KeepsHighThroughout, KeepsHighStreams}
-use Rattle.law_world.proofs.lemmas.streams.lemmas.right_reports.Printed.{report_printed}
+use Rattle.law_world.proofs.lemmas.streams.lemmas.right_reports.Printed.{report_is_printed}
 use Rattle.law_reports.specs.pipes.high_streams.Keeping.{TextsKeepHighStreams}
 use Rattle.law_reports.proofs.lemmas.pipes.lemmas.high_streams.Joining.{texts_keep_high}
 
@@ -38,7 +38,7 @@ keeps_after s k = record {
   throughout = k;
   ins = after_run (AreHighInStreams s) s k.ins;
   taken = after_run (AreHighTakenStreams s) s k.taken;
-  printed = λ w. report_printed w.fixed w.world;
+  printed = λ w. report_is_printed w.fixed w.world;
 }
 
 pub texts_keep_high_streams : TextsKeepHighStreams

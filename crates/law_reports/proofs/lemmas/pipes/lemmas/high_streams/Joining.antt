@@ -27,7 +27,7 @@ use Rattle.law_driver_ring.specs.fed_queues.Places.{IsThere}
 use Rattle.law_world.specs.steps.Streaming.{wired}
 use Rattle.law_world.specs.streams.Feeding.{left_of}
 use Rattle.law_world.specs.streams.taken_reports.Laws.{bytes_taken}
-use Rattle.law_world.proofs.lemmas.streams.lemmas.taken_reports.Turning.{run_seated}
+use Rattle.law_world.proofs.lemmas.streams.lemmas.taken_reports.Turning.{run_keeps_seats}
 use Rattle.law_world.specs.memory.Mixed.{Standing}
 use Rattle.law_reports.specs.lines.Lined.{Lines}
 use Rattle.law_reports.specs.pipes.Declared.{sides_of, IsDeclaredBy}
@@ -44,7 +44,7 @@ use Rattle.law_reports.specs.pipes.high_streams.Names.{HasItsNames}
 use Rattle.law_reports.specs.pipes.high_streams.Keeping.{PipedInsBegin, PipedOutsBegin, IsPipedThroughout, PipedKeepHigh, TextsKeepHigh}
 use Rattle.law_reports.proofs.lemmas.pipes.lemmas.high_streams.Names.{texts_have_names}
 use Rattle.law_reports.proofs.lemmas.pipes.lemmas.high_streams.Opened.{moments_are_opened}
-use Rattle.law_reports.proofs.lemmas.pipes.lemmas.high_streams.Reporting.{reports_right, reports_taken}
+use Rattle.law_reports.proofs.lemmas.pipes.lemmas.high_streams.Reporting.{high_reports_are_right, high_reports_are_taken}
 
 -- ---- the packets of a name
 
@@ -168,17 +168,17 @@ module _ (s : Script) (names : HasItsNames s) (all : IsPipedThroughout s) (i : â
     opened = moments_are_opened s names.fit i;
     once = names.once;
     fits = names.ways;
-    seated = run_seated s (fixed_of s) (at_place (opening_world s) (orders_of s.lines)) i names.seated;
+    seated = run_keeps_seats s (fixed_of s) (at_place (opening_world s) (orders_of s.lines)) i names.seated;
   }
 
   pub ins_at : AreHighInStreams s (report_of (fixed_of s) (moment s i).world)
   ins_at =
-      reports_right s (moment s i).world report_at
+      high_reports_are_right s (moment s i).world report_at
       (piped_ins_begin s (all i).standing (all i).lines (all i).heads (moment s i).world names.own (all i).followed)
 
   pub taken_at : AreHighTakenStreams s (report_of (fixed_of s) (moment s i).world)
   taken_at =
-      reports_taken s (moment s i).world report_at
+      high_reports_are_taken s (moment s i).world report_at
       (piped_outs_begin s (all i).standing (all i).lines (all i).heads (moment s i).world (all i).followed)
 
 pub piped_keep_high : PipedKeepHigh

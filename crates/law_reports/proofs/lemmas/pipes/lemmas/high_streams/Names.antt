@@ -11,12 +11,12 @@ use Rattle.bus_wire.specs.declared.seats.Owner.TheVariants as owners
 use Rattle.law_scripts.specs.byte_answers.Bytes.{IsByteScript}
 use Rattle.law_devices.specs.opening_senders.Own.{HasOwnDevices}
 use Rattle.law_devices.proofs.Lists.{all_at}
-use Rattle.law_devices.proofs.Owning.{spelled_owns}
+use Rattle.law_devices.proofs.Owning.{devices_have_addresses_of_their_own}
 use Rattle.law_opened.specs.Samples.{key_name, sink_name, board_name, beside_split}
 use Rattle.law_opened.proofs.Opened.{texts_open_once, texts_open_fit}
 use Rattle.law_opened.proofs.Sampling.{opens_once, opens_fit}
 use Rattle.law_world.specs.streams.taken_reports.Seats.{IsSeatedBus}
-use Rattle.law_world.proofs.lemmas.streams.lemmas.taken_reports.Seating.{text_seated, opening_apart}
+use Rattle.law_world.proofs.lemmas.streams.lemmas.taken_reports.Seating.{text_is_seated, opening_apart}
 use Rattle.law_world.specs.memory.PlacedLaws.{FitsMixed}
 use Rattle.law_world.specs.memory.Samples.{IsMixedScript}
 use Rattle.law_reports.specs.pipes.high_streams.Names.{HasItsNames, TextsHaveNames}
@@ -24,10 +24,10 @@ use Rattle.law_reports.specs.pipes.high_streams.Names.{HasItsNames, TextsHaveNam
 pub texts_have_names : TextsHaveNames
 texts_have_names text s spelled = record {
   fit = spelled_fits text s spelled;
-  own = spelled_owns text s spelled;
+  own = devices_have_addresses_of_their_own text s spelled;
   once = texts_open_once text s spelled;
   ways = texts_open_fit text s spelled;
-  seated = text_seated text s spelled;
+  seated = text_is_seated text s spelled;
 }
 
 -- ---- a script

@@ -42,7 +42,7 @@ use Rattle.law_world.proofs.lemmas.streams.lemmas.right_reports.Named.{HasNamed,
 use Rattle.law_world.proofs.lemmas.streams.lemmas.right_reports.Right.{all_mapped}
 use Rattle.law_world.proofs.lemmas.streams.lemmas.sending_worlds.Named.{named_opened, named_or_not}
 use Rattle.law_world.proofs.lemmas.streams.lemmas.sending_worlds.Untold.{untold}
-use Rattle.law_world.proofs.lemmas.streams.lemmas.taken_reports.Closing.{closing_tells}
+use Rattle.law_world.proofs.lemmas.streams.lemmas.taken_reports.Closing.{closing_tells_taker}
 use Rattle.law_world.proofs.lemmas.streams.lemmas.taken_reports.Telling.{no_bytes, first_none}
 use Rattle.law_reports.proofs.lemmas.lines.Ended.{ended_once}
 use Rattle.bus_world.specs.Orders.{OrderedWorld}
@@ -209,7 +209,7 @@ module _ (s : Script) (w : World) (h : HasHighReport s w) where
         closes : (t : Taker) → taker_of (wired (fixed_of s) w) k.endpoint.desc.name.addr k.endpoint.desc.name.num ≡ Some t
             → taken r x.name ≡ Some t.taken
         closes t is =
-            closing_tells (fixed_of s) w x t way high.stream (seat.1 (subst IsDataWay (sym way) tt)) h.seated.apart
+            closing_tells_taker (fixed_of s) w x t way high.stream (seat.1 (subst IsDataWay (sym way) tt)) h.seated.apart
             (named_opened w.driver x.name k)
             (subst (λ (n : EpName). taker_of (wired (fixed_of s) w) n.addr n.num ≡ Some t) k.same is)
 
@@ -324,8 +324,8 @@ out_way : (way : Way) → not (receives way) ≡ true → way ≡ ways.Out
 out_way ways.Out is = refl
 out_way _ is = absurd (false≢true is)
 
-pub reports_right : HighReportsAreRight
-reports_right s w h ins =
+pub high_reports_are_right : HighReportsAreRight
+high_reports_are_right s w h ins =
     all_kept (IsSeated s) (λ x. IsRightStream s (report_of (fixed_of s) w) x.name) (λ x. claimed s x && comes_in x.name.way)
     (opened s (report_of (fixed_of s) w))
     (λ x seat is.
@@ -333,8 +333,8 @@ reports_right s w h ins =
     right_in s w h x (claimed_high s x both.0) seat ins (in_way x.name.way both.1))
     (opened_seated s (report_of (fixed_of s) w) h.seated.seats)
 
-pub reports_taken : HighReportsAreTaken
-reports_taken s w h outs =
+pub high_reports_are_taken : HighReportsAreTaken
+high_reports_are_taken s w h outs =
     all_kept (IsSeated s) (λ x. IsTakenStream (report_of (fixed_of s) w) x.name) (λ x. claimed s x && not (receives x.name.way))
     (opened s (report_of (fixed_of s) w))
     (λ x seat is.
@@ -342,8 +342,8 @@ reports_taken s w h outs =
     taken_out s w h x (claimed_high s x both.0) seat outs (out_way x.name.way both.1))
     (opened_seated s (report_of (fixed_of s) w) h.seated.seats)
 
-pub reports_sent : HighReportsAreSent
-reports_sent s p puts h takers are =
+pub high_reports_are_sent : HighReportsAreSent
+high_reports_are_sent s p puts h takers are =
     let r : WholeReport = report_of (fixed_of s) p.world in
     all_kept (IsSeated s)
     (λ x. IsTakenSent (taken (report_of (fixed_of s) p.world) x.name) (stream s (report_of (fixed_of s) p.world) x.name))
@@ -352,8 +352,8 @@ reports_sent s p puts h takers are =
     let both = and_parts (claimed s x) (not (receives x.name.way)) is in
     sent_bytes s p puts h takers are x (claimed_high s x both.0) seat (out_way x.name.way both.1)) (opened_seated s r h.seated.seats)
 
-pub reports_end_right : HighReportsEndRight
-reports_end_right s p puts h ins outs takers are none =
+pub high_reports_end_right : HighReportsEndRight
+high_reports_end_right s p puts h ins outs takers are none =
     all_kept (λ x. IsSeated s x × IsOpen p.world.driver x) (λ x. IsRightStream s (report_of (fixed_of s) p.world) x.name) (claimed s)
     (opened s (report_of (fixed_of s) p.world)) (λ x both is. by x both (claimed_high s x is) x.name.way refl)
     (all_both (IsSeated s) (IsOpen p.world.driver) (opened s (report_of (fixed_of s) p.world))

@@ -37,7 +37,7 @@ use Rattle.law_frames.proofs.Telling.{taken_there, written_part, writes_copy, it
 use Rattle.law_descriptors.specs.Both.{owns, both, parts_now}
 use Rattle.law_descriptors.proofs.Standing.{both_off}
 use Rattle.law_world.specs.streams.put_laws.Rings.{BuffersStay}
-use Rattle.law_world.proofs.lemmas.streams.lemmas.put_laws.Walking.{outs_ask_none, walk_leaves}
+use Rattle.law_world.proofs.lemmas.streams.lemmas.put_laws.Walking.{outs_ask_none, walk_leaves_buffers}
 
 no_in : (code : ℕ) → code ≡ 0 → pid_at code ≢ pids.In
 no_in code zero is = out_in (sym (ap pid_at zero) ∙ is)
@@ -145,7 +145,8 @@ module _ {W : Type 0} (begins : W → ℕ → Bool → W → Type 0) (transacts 
   by_ring : ControlEffect begins transacts parts hand wire after now later → BuffersStay (parts n) (now n)
   by_ring (a_microframe b) = same_buffers (parts n) (now n) (ap (λ (ps : StructureSets). ps n) b.parts_stay)
   by_ring (a_step s) =
-      walk_leaves transacts member parts hand (walk_place c).walk.reply wire after now later s.kind n runs.ring.members runs.ring.in_hand
+      walk_leaves_buffers transacts member parts hand (walk_place c).walk.reply wire after now later s.kind n runs.ring.members
+      runs.ring.in_hand
       s.effect (λ on. outs_ask_none (parts n) outs)
 
   by_walk : BothEffect begins transacts parts c.control hand frame wire after now later frame_later → BuffersStay (parts n) (now n)

@@ -39,11 +39,11 @@ use Rattle.law_driver.proofs.lemmas.queued_drivers.CommandFields.{of_none, of_qu
 use Rattle.law_driver.proofs.lemmas.queued_drivers.CommandReasons.{reason_of}
 use Rattle.law_driver.proofs.lemmas.queued_drivers.CommandTurns.{commands_are_of_queues}
 use Rattle.law_driver.proofs.lemmas.queued_drivers.RowEvents.{idle_told}
-use Rattle.law_driver.proofs.lemmas.queued_drivers.RowOwners.{queued_lent}
-use Rattle.law_driver.proofs.lemmas.run_owners.Commands.{accepted_for_a_reason}
+use Rattle.law_driver.proofs.lemmas.queued_drivers.RowOwners.{queued_are_lent}
+use Rattle.law_driver.proofs.lemmas.run_owners.Commands.{each_command_has_its_reason}
 use Rattle.law_driver_ring.specs.fed_queues.Places.{IsThere}
 use Rattle.law_microframes.proofs.lemmas.visits.BelongItdCommands.{idle_by}
-use Rattle.law_queues.proofs.lemmas.leaving_drivers.Leaving.{cancel_as_before}
+use Rattle.law_queues.proofs.lemmas.leaving_drivers.Leaving.{cancel_is_as_before}
 use Rattle.law_queues.proofs.lemmas.publish_laws.Apart.{queue_placed, queues_same}
 use Rattle.law_queues.specs.leaving_drivers.Before.{WasSame, IsAsBefore}
 use Rattle.law_queues.proofs.lemmas.harvest_laws.Opening.{push_which}
@@ -60,7 +60,7 @@ use Rattle.law_world.specs.streams.sending_worlds.ReportLaws.{HasNamedTaker}
 use Rattle.law_world.proofs.lemmas.memory.HarvestKept.{owners_of, tells_of}
 use Rattle.law_world.proofs.lemmas.memory.Unfinished.{none_unfinished}
 use Rattle.law_world.proofs.lemmas.streams.Told.{same_queue as same_open}
-use Rattle.law_world.proofs.lemmas.streams.lemmas.put_laws.Commanding.{command_holds}
+use Rattle.law_world.proofs.lemmas.streams.lemmas.put_laws.Commanding.{command_holds_puts}
 use Rattle.law_world.proofs.lemmas.streams.lemmas.put_laws.Commands.{command_owes}
 use Rattle.law_world.proofs.lemmas.streams.lemmas.put_laws.Driver.{IsNoMore, quiet_no_more}
 use Rattle.law_world.proofs.lemmas.streams.lemmas.put_laws.HeldAlike.{was_itself}
@@ -115,7 +115,7 @@ module _ (w : World) (o : Offered) where
       → IsNoMore (queued w.driver) (queued o.driver)
   left_more turns its q =
       let b : IsAsBefore (queued w.driver) (left_queue w.driver q.number q.endpoint w.memory).driver =
-      (cancel_as_before before_it w.memory (left_queue w.driver q.number q.endpoint w.memory) turns q.cancels).0 in
+      (cancel_is_as_before before_it w.memory (left_queue w.driver q.number q.endpoint w.memory) turns q.cancels).0 in
       record {
         alike = record {
           ends = λ e z here.
@@ -217,9 +217,10 @@ module _ (fixed : Fixed) (x : Sides) (s : Standing) (m : Lines) (h : Heads) (put
     asked_so cmd only bytes room takes transfers =
         let sound = k.mixed.now.framed.place.sound in
         let owners : HasOwners (queued w.driver) = owners_of s w k.mixed in
-        let lent = queued_lent w.driver k.mixed.now.framed.place.lent
+        let lent = queued_are_lent w.driver k.mixed.now.framed.place.lent
         (λ e t count is. absurd (none_unfinished (unfinished.Iso e t count) (sym idle ∙ is))) in
-        let held = command_holds d w.memory cmd (told_of o) s.parts puts only room bytes takes owners lent sound.stands k.mixed.turns.turns
+        let held = command_holds_puts d w.memory cmd (told_of o) s.parts puts only room bytes takes owners lent sound.stands
+        k.mixed.turns.turns
         (tells_of s w k.mixed) k.mixed.queues.queues.fed pays.held in
         record {
           ended = accepted_ended d w.memory (told_of o) s.parts (inr transfers) pays.ended;
@@ -391,7 +392,7 @@ module _ (fixed : Fixed) (x : Sides) (s : Standing) (m : Lines) (h : Heads) (put
         → Pays fixed x s m (puts_then w.driver cmd puts) (commanded_by w line (name_in cmd) r)
     by_offer (Err why) is new = refused_pays line cmd why
     by_offer (Ok o) is new =
-        accepted_pays line (name_in cmd) o (idle_by w.driver w.memory o (accepted_for_a_reason w.driver w.memory cmd o is))
+        accepted_pays line (name_in cmd) o (idle_by w.driver w.memory o (each_command_has_its_reason w.driver w.memory cmd o is))
         new cmd bytes room
         declares
         (commands_are_of_queues w.driver w.memory cmd o k.mixed.now.framed.place.sound.owners.orderly k.mixed.turns is)

@@ -37,7 +37,7 @@ use Rattle.law_descriptors.specs.Meeting.{met}
 use Rattle.law_descriptors.proofs.Standing.{both_off}
 use Rattle.law_descriptors.proofs.Telling.{queue_off}
 use Rattle.law_descriptors.proofs.lemmas.queue_events.Events.{both_keeps_structures, both_leaves_halted}
-use Rattle.law_descriptors.proofs.lemmas.queue_events.Sending.{sends_whole}
+use Rattle.law_descriptors.proofs.lemmas.queue_events.Sending.{events_send_whole}
 use Rattle.law_devices.specs.scripted_takers.Takers.{taker_of}
 use Rattle.law_queues.specs.whole_sends.Whole.{AreSentWhole}
 use Rattle.law_queues.specs.whole_sends.Laws.{IsStopped}
@@ -148,7 +148,8 @@ module _ (fixed : Fixed) (x : Sides) (s : Standing) (m : Lines) (h : Heads) (put
             (both_keeps_structures begins_by transacts_by opening_base s.member (met w.driver s.recent) s.descs s.parts s.hand s.frame
             (controller_parts w) (wired fixed w) (wired fixed new) event.event.now event.event.later event.event.frame_later f.runs
             event.event.effect n).alters was.outs;
-        whole = sends_whole begins_by transacts_by opening_base s.member (met w.driver s.recent) w.driver s.descs s.parts s.hand s.frame
+        whole = events_send_whole begins_by transacts_by opening_base s.member (met w.driver s.recent) w.driver s.descs s.parts s.hand
+            s.frame
             (controller_parts w) (wired fixed w) (wired fixed new) event.event.now event.event.later event.event.frame_later
             (describes s w k.mixed) f.runs event.event.effect (s.order n) r.place (s.out n) n r.told
             (part_at s m w k.mixed k.telling n o) was.outs r.accounts was.whole;

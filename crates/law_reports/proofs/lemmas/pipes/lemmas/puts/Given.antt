@@ -40,7 +40,7 @@ use Rattle.law_world.specs.streams.put_laws.TakenPuts.{puts_from}
 use Rattle.law_world.proofs.lemmas.memory.HarvestKept.{tells_of}
 use Rattle.law_world.proofs.lemmas.memory.Unfinished.{none_unfinished}
 use Rattle.law_world.proofs.lemmas.streams.lemmas.left_puts.Others.{command_same, notes_same, other_end, held_back}
-use Rattle.law_world.proofs.lemmas.streams.lemmas.left_puts.Released.{release_owes}
+use Rattle.law_world.proofs.lemmas.streams.lemmas.left_puts.Released.{endpoint_release_owes}
 use Rattle.law_world.proofs.lemmas.streams.lemmas.put_laws.HeldAlike.{WasThere, was_itself, same_holds}
 use Rattle.law_world.proofs.lemmas.streams.lemmas.put_laws.Same.{WereEnds, ends_same, same_owes, idle_there, gone_owes}
 use Rattle.law_world.proofs.lemmas.streams.lemmas.put_laws.TakenStopped.{were_ended}
@@ -238,5 +238,6 @@ module _ (fixed : Fixed) (x : Sides) (s : Standing) (m : Lines) (h : Heads) (put
         subst (λ (b : Lines). Owes (queued (driver_next w).driver) (driver_next w).memory puts b.reported) (sym lines)
         (owes_alike left new (driver_next w).memory puts m.reported given.told
         (subst (λ (mem : Mem). Owes left mem puts m.reported) (sym what.memory)
-        (release_owes q e z puts m.reported m.reported what.turns given.leaves (λ i u differs here kept sends. refl) held_before held_row
+        (endpoint_release_owes q e z puts m.reported m.reported what.turns given.leaves (λ i u differs here kept sends. refl) held_before
+        held_row
         owes_before)))

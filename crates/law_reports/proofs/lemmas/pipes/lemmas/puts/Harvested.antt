@@ -28,7 +28,7 @@ use Rattle.law_ring.specs.QueueParts.{IsQueuePart}
 use Rattle.law_ring.specs.Told.{Told}
 use Rattle.law_queues.specs.harvest_laws.Outs.{IsOutEarlier}
 use Rattle.law_queues.specs.harvest_laws.Told.{ToldStands}
-use Rattle.law_queues.proofs.lemmas.harvest_laws.ReadRows.{not_active, wait_told}
+use Rattle.law_queues.proofs.lemmas.harvest_laws.ReadRows.{not_active, wait_is_told}
 use Rattle.law_world.specs.memory.Mixed.{Standing, IsMixedAt}
 use Rattle.law_world.specs.memory.Steps.{IsToldRow, told_parts}
 use Rattle.law_world.specs.streams.put_laws.HeldPuts.{HoldsPuts}
@@ -39,7 +39,7 @@ use Rattle.law_world.specs.streams.put_laws.Sent.{SentStand}
 use Rattle.law_world.specs.streams.put_laws.TakenPuts.{puts_of}
 use Rattle.law_world.proofs.lemmas.memory.HarvestKept.{owners_of, tells_of, fronts_of}
 use Rattle.law_world.proofs.lemmas.memory.Unfinished.{none_unfinished}
-use Rattle.law_world.proofs.lemmas.streams.FeedingPassed.{passed_untold}
+use Rattle.law_world.proofs.lemmas.streams.FeedingPassed.{passed_are_untold}
 use Rattle.law_world.proofs.lemmas.streams.Told.{there_on, stream_out}
 use Rattle.law_world.proofs.lemmas.streams.lemmas.put_laws.Harvested.{Likes, harvest_like}
 use Rattle.law_world.proofs.lemmas.streams.lemmas.put_laws.OwedReading.{told_once}
@@ -131,7 +131,7 @@ module _ (fixed : Fixed) (x : Sides) (s : Standing) (m : Lines) (h : Heads) (put
     untold : (a : ℕ) (z : List ℕ) → IsOutEarlier (note_in (queued w.driver).notes) e t (queued w.driver).transfers a
         → Told (in_hand s) s.parts (32 * due.endpoint.queue) a z → z ≡ []
     untold a z earlier of_it =
-        passed_untold d s.parts (in_hand s)
+        passed_are_untold d s.parts (in_hand s)
         s.order s.out e t due.endpoint a z due.idle k.mixed.turns.turns.turns k.mixed.queues.queues.out_are
         (fronts_of s w k.mixed) due.here met due.goes_on due.next earlier of_it
 
@@ -170,7 +170,7 @@ module _ (fixed : Fixed) (x : Sides) (s : Standing) (m : Lines) (h : Heads) (put
         let told : ToldStands (queued (driver_next w).driver) (in_hand s) s.parts m.reported =
         to_next (λ (g : DriverContent). ToldStands g (in_hand s) s.parts m.reported)
         (subst (λ (z : Found). ToldStands (after_driver_row (rows.Harvest e t z) (told_parts w)).driver (in_hand s) s.parts m.reported)
-        (sym active) (wait_told (told_parts w) s.parts (in_hand s) e t m.reported still k.telling.told)) in
+        (sym active) (wait_is_told (told_parts w) s.parts (in_hand s) e t m.reported still k.telling.told)) in
         same_reports (queued (driver_next w).driver) w.memory puts m.reported l.reported
         (λ i z here sends there.
         told_once (queued (driver_next w).driver) (in_hand s)

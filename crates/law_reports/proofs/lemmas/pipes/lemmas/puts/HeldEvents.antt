@@ -20,7 +20,7 @@ use Rattle.drv_table.specs.Harvests.{note_at}
 use Rattle.drv_table.specs.Commands.{command_row}
 use Rattle.drv_table.specs.Rows.{driver_row, after_driver_row, row_for}
 use Rattle.law_controller.proofs.lemmas.aligned_copies.Controlling.{aligned_placed}
-use Rattle.law_controller.proofs.lemmas.lent_writes.Controlling.{controller_writes_lent}
+use Rattle.law_controller.proofs.lemmas.lent_writes.Controlling.{each_event_of_the_controller_writes_lent_words}
 use Rattle.law_driver.specs.chained_transfers.Bulk.{MovesAs}
 use Rattle.law_driver.specs.chained_transfers.Chains.{piece_at}
 use Rattle.law_driver.specs.queued_drivers.Queued.{queued_command, queued_made, queued}
@@ -208,7 +208,8 @@ module _ (fixed : Fixed) (x : Sides) (s : Standing) (m : Lines) (h : Heads) (put
 
   writes : WritesLent w.memory (controller_next fixed w).memory
   writes =
-      controller_writes_lent begins_by transacts_by (controller_parts w) (wired fixed w) (controller_parts new) (wired fixed new)
+      each_event_of_the_controller_writes_lent_words begins_by transacts_by (controller_parts w) (wired fixed w) (controller_parts new)
+      (wired fixed new)
       (aligned_placed (controller_parts w) k.mixed.now.framed.aligned) (world_has_row fixed w)
 
   stay : (n : ℕ) → IsThereOut w.driver n → BuffersStay (s.parts n) (parts_now s.descs s.parts (c fixed x s m h w k).event.now n)

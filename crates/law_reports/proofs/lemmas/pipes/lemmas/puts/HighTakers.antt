@@ -23,9 +23,9 @@ use Rattle.law_world.specs.steps.Outs.{IsUntaken}
 use Rattle.law_world.specs.steps.Streaming.{wired}
 use Rattle.law_world.specs.streams.put_laws.TakenPuts.{puts_at}
 use Rattle.law_world.specs.streams.sending_worlds.ReportLaws.{HasNamedTaker}
-use Rattle.law_world.proofs.lemmas.streams.lemmas.put_laws.Ends.{moment_streams}
-use Rattle.law_world.proofs.lemmas.streams.lemmas.put_laws.Rising.{spelled_rise}
-use Rattle.law_world.proofs.lemmas.streams.lemmas.taken_reports.Turning.{run_seated}
+use Rattle.law_world.proofs.lemmas.streams.lemmas.put_laws.Ends.{streams_are_of_puts}
+use Rattle.law_world.proofs.lemmas.streams.lemmas.put_laws.Rising.{texts_rise}
+use Rattle.law_world.proofs.lemmas.streams.lemmas.taken_reports.Turning.{run_keeps_seats}
 use Rattle.law_world.specs.memory.Mixed.{Standing}
 use Rattle.law_reports.specs.lines.Lined.{in_hand, Lines}
 use Rattle.law_reports.proofs.lemmas.lines.IsoGoing.{told_apart}
@@ -44,7 +44,7 @@ use Rattle.law_reports.proofs.lemmas.pipes.lemmas.high_streams.Joining.{piped_in
 use Rattle.law_reports.proofs.lemmas.pipes.lemmas.high_streams.Lives.{no_iso}
 use Rattle.law_reports.proofs.lemmas.pipes.lemmas.high_streams.Names.{texts_have_names}
 use Rattle.law_reports.proofs.lemmas.pipes.lemmas.high_streams.Opened.{moments_are_opened}
-use Rattle.law_reports.proofs.lemmas.pipes.lemmas.high_streams.Reporting.{reports_sent, reports_end_right}
+use Rattle.law_reports.proofs.lemmas.pipes.lemmas.high_streams.Reporting.{high_reports_are_sent, high_reports_end_right}
 use Rattle.law_reports.specs.pipes.puts.Takers.{TakenBeginsPuts, FollowedHaveTakers, TextsHaveTakers, TakenBeginsStreams}
 use Rattle.law_reports.specs.pipes.puts.Takers.{TakenEndsRight}
 
@@ -138,7 +138,7 @@ module _ (s : Script) (names : HasItsNames s) (all : (k : ℕ) → HasFollowed (
     opened = moments_are_opened s names.fit i;
     once = names.once;
     fits = names.ways;
-    seated = run_seated s (fixed_of s) (at_place (opening_world s) (orders_of s.lines)) i names.seated;
+    seated = run_keeps_seats s (fixed_of s) (at_place (opening_world s) (orders_of s.lines)) i names.seated;
   }
 
   pub takers_at : TakersBegin s (puts_at s i) (moment s i).world
@@ -147,14 +147,14 @@ module _ (s : Script) (names : HasItsNames s) (all : (k : ℕ) → HasFollowed (
 pub taken_begins_streams : TakenBeginsStreams
 taken_begins_streams text s spelled begins i =
     let names : HasItsNames s = texts_have_names text s spelled in
-    reports_sent s (moment s i) (puts_at s i) (report_at s names (texts_are_followed text s spelled) begins i)
-    (takers_at s names (texts_are_followed text s spelled) begins i) (moment_streams s (spelled_rise text s spelled) i)
+    high_reports_are_sent s (moment s i) (puts_at s i) (report_at s names (texts_are_followed text s spelled) begins i)
+    (takers_at s names (texts_are_followed text s spelled) begins i) (streams_are_of_puts s (texts_rise text s spelled) i)
 
 pub taken_ends_right : TakenEndsRight
 taken_ends_right text s spelled begins i none =
     let names : HasItsNames s = texts_have_names text s spelled in
     let all = texts_are_followed text s spelled in
-    reports_end_right s (moment s i) (puts_at s i) (report_at s names all begins i)
+    high_reports_end_right s (moment s i) (puts_at s i) (report_at s names all begins i)
     (piped_ins_begin s (all i).standing (all i).lines (all i).heads (moment s i).world names.own (all i).followed)
     (piped_outs_begin s (all i).standing (all i).lines (all i).heads (moment s i).world (all i).followed)
-    (takers_at s names all begins i) (moment_streams s (spelled_rise text s spelled) i) none
+    (takers_at s names all begins i) (streams_are_of_puts s (texts_rise text s spelled) i) none

@@ -21,8 +21,8 @@ use Rattle.bus_wire.specs.Bus.{Fixed, fixed_of}
 use Rattle.claims_base.specs.Controller.{opening_base}
 use Rattle.law_descriptors.specs.Meeting.{met}
 use Rattle.law_descriptors.specs.PartLaws.{IsDescribing}
-use Rattle.law_descriptors.proofs.lemmas.queue_events.Sending.{sends_whole}
-use Rattle.law_scripts.proofs.lemmas.script_bytes.Texts.{spelled_bytes}
+use Rattle.law_descriptors.proofs.lemmas.queue_events.Sending.{events_send_whole}
+use Rattle.law_scripts.proofs.lemmas.script_bytes.Texts.{a_text_spells_bytes}
 use Rattle.law_world.specs.steps.Streaming.{begins_by, transacts_by, wired}
 use Rattle.law_world.specs.steps.receiving_runs.Runs.{IsKeptBy}
 use Rattle.law_world.proofs.lemmas.steps.lemmas.receiving_runs.Runs.{holds_throughout}
@@ -79,7 +79,7 @@ module _ (fixed : Fixed) (x : Sides) (s : Standing) (m : Lines) (h : Heads) (w :
       record { owners = f.place.sound.owners; driven = f.driven; described = f.described } in
       let o : IsThereOut w.driver n = out_head n on in
       let r = reported_at s m w k.mixed k.telling n o in
-      sends_whole begins_by transacts_by opening_base s.member (met w.driver s.recent) w.driver s.descs s.parts s.hand s.frame
+      events_send_whole begins_by transacts_by opening_base s.member (met w.driver s.recent) w.driver s.descs s.parts s.hand s.frame
       (controller_parts w) (wired fixed w) (wired fixed (controller_next fixed w)) is.event.now is.event.later is.event.frame_later
       describing f.runs is.event.effect (s.order n) r.place (s.out n) n r.told (part_at s m w k.mixed k.telling n o)
       (k.pipes.out_pipes.pipes n on).outs r.accounts (sent n on)
@@ -220,5 +220,5 @@ scripts_are_sent s fit bytes fits declares k =
 
 pub texts_are_sent : TextsAreSent
 texts_are_sent text s spelled =
-    scripts_are_sent s (spelled_fits text s spelled) (spelled_bytes text s spelled)
+    scripts_are_sent s (spelled_fits text s spelled) (a_text_spells_bytes text s spelled)
     (lines_fit s.lines (texts_fit text s spelled) (texts_open_fitting text s spelled)) (texts_declare text s spelled)

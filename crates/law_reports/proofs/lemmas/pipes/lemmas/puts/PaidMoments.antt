@@ -22,7 +22,7 @@ use Rattle.law_driver_ring.specs.fed_queues.Places.{IsThere}
 use Rattle.law_ring.specs.OutBus.{Taker}
 use Rattle.law_devices.specs.scripted_takers.Takers.{taker_of}
 use Rattle.law_scripts.specs.byte_answers.Bytes.{IsByteCommand, IsByteLine}
-use Rattle.law_scripts.proofs.lemmas.script_bytes.Texts.{spelled_bytes}
+use Rattle.law_scripts.proofs.lemmas.script_bytes.Texts.{a_text_spells_bytes}
 use Rattle.law_world.specs.steps.Streaming.{wired}
 use Rattle.law_world.specs.memory.Steps.{IsMixedNext}
 use Rattle.law_world.specs.streams.put_laws.TakenLaws.{IsKeptWithPuts}
@@ -190,7 +190,7 @@ scripts_are_paid s fit bytes fits declares k =
 
 pub texts_are_paid : TextsArePaid
 texts_are_paid text s spelled =
-    scripts_are_paid s (spelled_fits text s spelled) (spelled_bytes text s spelled)
+    scripts_are_paid s (spelled_fits text s spelled) (a_text_spells_bytes text s spelled)
     (lines_fit s.lines (texts_fit text s spelled) (texts_open_fitting text s spelled)) (texts_declare text s spelled)
 
 -- ---- what was taken begins what was put

@@ -26,7 +26,7 @@ use Rattle.law_driver.specs.run_owners.Due.{IsDue}
 use Rattle.law_driver.proofs.lemmas.chained_transfers.Ways.{way_sends}
 use Rattle.law_driver.proofs.lemmas.queued_drivers.CommandFields.{name_same}
 use Rattle.law_driver.proofs.lemmas.queued_drivers.RowEvents.{idle_told}
-use Rattle.law_driver.proofs.lemmas.run_owners.Reasons.{each_is_due}
+use Rattle.law_driver.proofs.lemmas.run_owners.Reasons.{each_event_is_due}
 use Rattle.law_driver_ring.specs.fed_queues.Fed.{IsPublished}
 use Rattle.law_driver_ring.specs.Published.{partly}
 use Rattle.law_driver_ring.specs.fed_queues.Places.{IsThere}
@@ -154,7 +154,7 @@ module _ (fixed : Fixed) (x : Sides) (s : Standing) (m : Lines) (h : Heads) (put
   -- while a command is unfinished
   module _ (c : Command) (busy : (queued w.driver).command ≡ Some c) where
     due_so : (row : DriverRow) → driver_row (told_parts w) ≡ row → IsDue (told_parts w) row
-    due_so row is = subst (IsDue (told_parts w)) is (each_is_due (told_parts w))
+    due_so row is = subst (IsDue (told_parts w)) is (each_event_is_due (told_parts w))
 
     no_harvest : (e t : ℕ) (found : Found) → driver_row (told_parts w) ≢ rows.Harvest e t found
     no_harvest e t found is = none_unfinished c (sym (due_so (rows.Harvest e t found) is).idle ∙ busy)
@@ -180,7 +180,7 @@ module _ (fixed : Fixed) (x : Sides) (s : Standing) (m : Lines) (h : Heads) (put
       (quiet_no_more d _ refl refl refl refl))
   no_more _ (stores b words g is) plain =
       subst (IsNoMore d) (sym is.told)
-      (row_no_more (told_parts w) (driver_row (told_parts w)) (each_is_due (told_parts w)) bulk
+      (row_no_more (told_parts w) (driver_row (told_parts w)) (each_event_is_due (told_parts w)) bulk
       (no_harvest (unfinished.Publish b words) is.command) (no_return (unfinished.Publish b words) is.command)
       (no_leave (unfinished.Publish b words) is.command))
   no_more _ (mends at is) plain = row_so (rows.Mend _) is (quiet_no_more d _ refl refl refl refl)

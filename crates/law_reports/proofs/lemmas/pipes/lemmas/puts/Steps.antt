@@ -39,7 +39,7 @@ use Rattle.law_driver.specs.run_owners.Due.{IsHarvestDue}
 use Rattle.law_driver.specs.chained_transfers.Out.{out_now}
 use Rattle.law_driver.proofs.lemmas.queued_drivers.CommandFields.{desc_same, name_same, get_queued}
 use Rattle.law_driver.proofs.lemmas.queued_drivers.RowLists.{queue_at}
-use Rattle.law_driver.proofs.lemmas.queued_drivers.RowOwners.{queued_lent}
+use Rattle.law_driver.proofs.lemmas.queued_drivers.RowOwners.{queued_are_lent}
 use Rattle.law_structures.specs.lent_structures.Structures.{QueueHead, Element, Structures, StructureSets, put}
 use Rattle.law_structures.proofs.lemmas.lent_structures.Names.{not_same, put_beside}
 use Rattle.law_structures.proofs.lemmas.lent_structures.Altering.{found_queue, found_element}
@@ -71,7 +71,7 @@ use Rattle.law_queues.specs.mended_heads.Owed.{IsOwed}
 use Rattle.law_queues.specs.open_laws.Queues.{IsOpenToLend, IsOpenThere, parts_opened}
 use Rattle.law_queues.specs.publish_laws.Stores.{parts_then as parts_stored, out_then as out_stored, next_of}
 use Rattle.law_queues.specs.whole_sends.Whole.{EndsWhole, AreSentWhole}
-use Rattle.law_queues.proofs.lemmas.whole_sends.Keeping.{linked_ends, stale_ends, returned_whole, beginning_whole}
+use Rattle.law_queues.proofs.lemmas.whole_sends.Keeping.{linked_ends_whole, stale_ends_whole, returned_is_whole, beginning_is_whole}
 use Rattle.law_queues.proofs.lemmas.whole_sends.Walking.{with_hand}
 use Rattle.law_world.specs.steps.unlinked_streams.Unlinks.{IsAtUnlink, hand_unlinked}
 use Rattle.law_world.proofs.lemmas.streams.Told.{there_on}
@@ -230,7 +230,7 @@ module _ (s : Standing) (m : Lines) (w : World) (mixed : IsMixedAt s w) (telling
         command = is.command;
         made = is.made;
         owners = owners_of s w mixed;
-        lent = queued_lent w.driver mixed.now.framed.place.lent (λ e t count iso. absurd (not_iso e t count iso));
+        lent = queued_are_lent w.driver mixed.now.framed.place.lent (λ e t count iso. absurd (not_iso e t count iso));
         turns = mixed.turns.turns;
         queues = mixed.queues.queues;
       }
@@ -278,7 +278,7 @@ module _ (s : Standing) (m : Lines) (w : World) (mixed : IsMixedAt s w) (telling
           subst (λ (part : Structures). AreSentWhole (s.order n) (s.out n) later n part)
           (sym (put_beside s.parts own own (QueueHead (mended at.stalled (head_at at))) n mend_apart))
           (with_hand (s.order n) (s.out n) (in_hand s) later n (s.parts n)
-          (ring_ends n s.hand (hand_mended at s.hand) s.frame (stale_ends own s.hand n) was.ends) was)
+          (ring_ends n s.hand (hand_mended at s.hand) s.frame (stale_ends_whole own s.hand n) was.ends) was)
 
     -- ---- an endpoint's structures are lent
 
@@ -299,7 +299,7 @@ module _ (s : Standing) (m : Lines) (w : World) (mixed : IsMixedAt s w) (telling
         (put s.parts (32 * at.before) (32 * at.before) (QueueHead (record at.queue { link = to_queue_head at.after })) n)
         (relinked_put s.parts (32 * at.before) at.queue (to_queue_head at.after) at.head n)
         (ring_ends n s.hand (hand_unlinked s.hand at.before at.after) s.frame
-        (linked_ends (32 * at.before) (to_queue_head at.after) s.hand n)) was
+        (linked_ends_whole (32 * at.before) (to_queue_head at.after) s.hand n)) was
 
     -- ---- one is given back
 
@@ -312,7 +312,7 @@ module _ (s : Standing) (m : Lines) (w : World) (mixed : IsMixedAt s w) (telling
         (sym is.hand)
         (subst (λ (frame : FrameHand). AreSentWhole (s.order n) (s.out n) (joined s.hand frame) n
         (without_those s.parts own (λ a. true) n)) (sym is.frame)
-        (returned_whole (s.order n) (s.out n) (s.out n) (in_hand s) n s.parts own (λ a. true) (λ b among. among) was)))))
+        (returned_is_whole (s.order n) (s.out n) (s.out n) (in_hand s) n s.parts own (λ a. true) (λ b among. among) was)))))
 
     -- ---- each step but the end of an open
 
@@ -321,7 +321,7 @@ module _ (s : Standing) (m : Lines) (w : World) (mixed : IsMixedAt s w) (telling
     step_sends new _ (stays t none still) other = still_sent t still
     step_sends new _ (harvests e t found due later row after) other = harvested e t found due later after
     step_sends new _ (returns t y z row r) other =
-        returned_whole (s.order n) (s.out n) _ (in_hand s) n s.parts (32 * z.queue) _
+        returned_is_whole (s.order n) (s.out n) _ (in_hand s) n s.parts (32 * z.queue) _
         (λ b among. staying_among (32 * z.queue) _ s.out n b among) was
     step_sends new _ (lends b words get order out row behind) other = lent b words get order out behind
     step_sends new _ (stores b words p is) other = stored new b words p is
@@ -461,7 +461,7 @@ module _ (s : Standing) (w : World) (mixed : IsMixedAt s w) (at : IsOpenThere (q
 
   new_sent : AreSentWhole (s.order new) [] (in_hand s) new (s.parts new)
   new_sent =
-      beginning_whole (s.order new) (in_hand s) new (s.parts new) ends resting
+      beginning_is_whole (s.order new) (in_hand s) new (s.parts new) ends resting
       (λ a u here.
       let same : dummy_qtd ≡ u = is_dummy a u here in (
         ap (λ (v : Qtd). v.token.active) (sym same),

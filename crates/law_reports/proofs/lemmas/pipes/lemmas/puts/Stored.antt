@@ -34,7 +34,7 @@ use Rattle.law_queues.specs.standing_fronts.Tails.{TailsStand}
 use Rattle.law_queues.specs.whole_sends.Whole.{AreSentWhole}
 use Rattle.law_queues.proofs.lemmas.fed_lends.Outs.{last_apart, out_apart, its_out}
 use Rattle.law_queues.proofs.lemmas.publish_laws.Outs.{same_out}
-use Rattle.law_queues.proofs.lemmas.whole_sends.Keeping.{idle_store_whole, last_store_whole}
+use Rattle.law_queues.proofs.lemmas.whole_sends.Keeping.{idle_store_is_whole, last_store_is_whole}
 use Rattle.law_world.proofs.lemmas.memory.PublishStores.{IsStoring, published_by, below, some, met_now, out_is, by_store, one_more, finished}
 use Rattle.law_world.proofs.lemmas.memory.PublishTails.{tail_here}
 
@@ -187,7 +187,7 @@ module _ (p : DriverParts) (member streams : ℕ → Bool) (ends : ℕ → Told)
     stored_idle low same =
         let token : new.token ≡ dummy_qtd.token = token_is g.qtd d.made low in
         subst (λ (j : ℕ). AreSentWhole (order m) (out m) hand m (stored_parts parts j (32 * b) new m)) same
-        (idle_store_whole (order m) (out m) hand m parts (32 * b) old new (ap (λ (j : ℕ). parts j (32 * b)) same ∙ g.stored) old_idle
+        (idle_store_is_whole (order m) (out m) hand m parts (32 * b) old new (ap (λ (j : ℕ). parts j (32 * b)) same ∙ g.stored) old_idle
         (ap (λ (z : Token). z.active) token) (ap (λ (z : Token). z.halted) token) (ap (λ (z : Token). z.total) token) was)
 
     sent_more : d.made < 8 → Sent more
@@ -203,7 +203,7 @@ module _ (p : DriverParts) (member streams : ℕ → Bool) (ends : ℕ → Told)
         let full = subst (λ (j : ℕ). (a : ℕ) (t : Qtd) → parts j a ≡ Some (Element t) → t.token.active ≡ true → IsAmong a (out j)) same
         complete in
         subst (λ (xs : List ℕ). AreSentWhole (order n) xs hand n (parts_then g n)) (sym out_done)
-        (last_store_whole (order n) reach.stands.front before behind hand n parts (32 * b) old new g.stored old_idle
+        (last_store_is_whole (order n) reach.stands.front before behind hand n parts (32 * b) old new g.stored old_idle
         (ap (λ (j : ℕ). (partly g.qtd j).token.active) eighth ∙ g.active) sorted
         (subst (λ (xs : List ℕ). HasFront (order n) reach.stands.front xs n (parts n)) out_split reach.stands.has) reach.within reach.tail
         (λ a t here on. subst (IsAmong a) out_split (full a t here on)) (leads eighth)

@@ -28,10 +28,10 @@ use Rattle.law_ring.specs.OutBus.{Taker}
 use Rattle.law_ring.specs.OutPipes.{IsUnmoved, IsOutPipe}
 use Rattle.law_ring.specs.QueueParts.{IsQueuePart}
 use Rattle.law_ring.specs.Sparing.{SameHand}
-use Rattle.law_ring.proofs.SparedSparing.{spared_accounts}
+use Rattle.law_ring.proofs.SparedSparing.{accounts_are_spared}
 use Rattle.law_controller.specs.frame_control.Both.{RunsBoth}
 use Rattle.law_controller.specs.frame_control.Joined.{joined}
-use Rattle.law_controller.proofs.lemmas.controlled_streams.Outs.{out_spared}
+use Rattle.law_controller.proofs.lemmas.controlled_streams.Outs.{out_is_spared}
 use Rattle.law_driver_ring.proofs.Linking.{link_range}
 use Rattle.law_frames.specs.Met.{Kind}
 use Rattle.law_frames.specs.Frame.{IsInFrame, IsFrameWalk}
@@ -254,7 +254,7 @@ module _ (parts now : StructureSets) (n : ℕ) (same : IsSameQueue n (parts n) (
   accounts_same : (order : ℕ → ℕ) (place : ℕ) (out : List ℕ) (hand later : Hand) (told : List ℕ) → SameHand hand later
       → Accounts order place out hand parts n told → Accounts order place out later now n told
   accounts_same order place out hand later told alike k =
-      spared_accounts order order place place out hand later parts now n told alike (relinked_head parts now n same)
+      accounts_are_spared order order place place out hand later parts now n told alike (relinked_head parts now n same)
       (λ e among. relinked_element parts now n same e) (relinked_order parts now n same order place k.ordered) k.sorted
       (λ a t among here from. k.published a t among (same.elements_were a t here) from)
       (λ a t here on. k.complete a t (same.elements_were a t here) on) k
@@ -296,7 +296,7 @@ module _ (base : Base) (members : ℕ → Bool) (met : ℕ → Option Kind) (all
 
     pipe_now : IsOutPipe o known parts (joined hand frame) n z → IsOutPipe o known now ring.later n z
     pipe_now p =
-        out_spared (joined hand frame) ring.later parts now n z o known ring.same ring.unmoved (relinked_head parts now n same)
+        out_is_spared (joined hand frame) ring.later parts now n z o known ring.same ring.unmoved (relinked_head parts now n same)
         (λ q here on. relinked_element parts now n same q.current) (λ a t here on. p.outs a t (same.elements_were a t here) on) p
 
     taker_same : (p : IsOutPipe o known parts (joined hand frame) n z) → (pipe_now p).taker ≡ p.taker

@@ -18,7 +18,7 @@ use Rattle.law_controller.specs.controlled_streams.Returned.{staying, staying_of
 use Rattle.law_controller.specs.frame_control.Joined.{joined}
 use Rattle.law_queues.specs.whole_sends.Whole.{EndsWhole, AreSentWhole}
 use Rattle.law_queues.specs.whole_sends.Laws.{IsNewBehind}
-use Rattle.law_queues.proofs.lemmas.whole_sends.Keeping.{linked_ends, spared_whole, renumbered_whole, added_whole}
+use Rattle.law_queues.proofs.lemmas.whole_sends.Keeping.{linked_ends_whole, spared_is_whole, renumbered_is_whole, added_is_whole}
 use Rattle.law_world.specs.memory.SameQueues.{IsRelinked, IsSameQueue}
 use Rattle.law_world.specs.memory.Mixed.{Standing}
 use Rattle.law_world.specs.memory.Steps.{HandStays, same_hand, linked_hand, FrameStays, same_frame, linked_frame, AreTold}
@@ -38,14 +38,14 @@ ring_ends n hand later (OfSitd c) ends is = ends is
 
 hand_ends : (n : ℕ) (hand later : Hand) → HandStays hand later → EndsWhole hand n → EndsWhole later n
 hand_ends n hand _ same_hand is = is
-hand_ends n hand _ (linked_hand m l) is = linked_ends m l hand n is
+hand_ends n hand _ (linked_hand m l) is = linked_ends_whole m l hand n is
 
 frame_ends : (n : ℕ) (hand later : Hand) (frame now : FrameHand) → FrameStays frame now → (EndsWhole hand n → EndsWhole later n)
     → EndsWhole (joined hand frame) n → EndsWhole (joined later now) n
 frame_ends n hand later frame _ same_frame ends is = ring_ends n hand later frame ends is
 frame_ends n hand later Nothing _ (linked_frame m l) ends is = ends is
-frame_ends n hand later (OfQueue c made) _ (linked_frame m l) ends is = linked_ends m l (Copied c) n is
-frame_ends n hand later (OfSettled c z made) _ (linked_frame m l) ends is = linked_ends m l (Settled c (came z)) n is
+frame_ends n hand later (OfQueue c made) _ (linked_frame m l) ends is = linked_ends_whole m l (Copied c) n is
+frame_ends n hand later (OfSettled c z made) _ (linked_frame m l) ends is = linked_ends_whole m l (Settled c (came z)) n is
 frame_ends n hand later (OfItd c) _ (linked_frame m l) ends is = ends is
 frame_ends n hand later (OfSitd c) _ (linked_frame m l) ends is = ends is
 
@@ -66,7 +66,7 @@ had_rest n part now same r here =
 pub relinked_whole : (order : ℕ → ℕ) (out : List ℕ) (hand later : Hand) (n : ℕ) (part now : Structures) → IsSameQueue n part now
     → (EndsWhole hand n → EndsWhole later n) → AreSentWhole order out hand n part → AreSentWhole order out later n now
 relinked_whole order out hand later n part now same ends k =
-    spared_whole order out out hand later n part now ends (λ b is. is) (had_rest n part now same)
+    spared_is_whole order out out hand later n part now ends (λ b is. is) (had_rest n part now same)
     (λ a t here. same.elements_were a t here) k
 
 -- ---- less is out
@@ -74,7 +74,7 @@ relinked_whole order out hand later n part now same ends k =
 pub fewer_whole : (order : ℕ → ℕ) (out less : List ℕ) (hand : Hand) (n : ℕ) (part : Structures)
     → ((b : ℕ) → IsAmong b less → IsAmong b out) → AreSentWhole order out hand n part → AreSentWhole order less hand n part
 fewer_whole order out less hand n part fewer k =
-    spared_whole order out less hand hand n part part (λ is. is) fewer
+    spared_is_whole order out less hand hand n part part (λ is. is) fewer
     (λ r here. record { queue = r; here = here; rest = record { token = refl; current = refl; next = refl; alternate = refl } })
     (λ a t here. here) k
 
@@ -133,7 +133,7 @@ module _ (n : ℕ) (part : Structures) (p : IsQueuePart n part) where
       → ((a : ℕ) (t : Qtd) → part a ≡ Some (Element t) → order_now a ≡ order a)
       → AreSentWhole order out hand n part → AreSentWhole order_now out hand n ringed
   renumbered order order_now out hand alike k =
-      renumbered_whole all order order_now out hand n ringed member (λ a t here. alike a t (same.elements_were a t here))
+      renumbered_is_whole all order order_now out hand n ringed member (λ a t here. alike a t (same.elements_were a t here))
       (relinked_whole order out hand hand n part ringed same (λ is. is) k)
 
   -- other numbers, and new qTDs behind
@@ -144,7 +144,7 @@ module _ (n : ℕ) (part : Structures) (p : IsQueuePart n part) where
       → ((a : ℕ) (t : Qtd) → now a ≡ Some (Element t) → (part a ≡ Some (Element t)) ⊎ IsNewBehind order_now more part now a t)
       → AreSentWhole order out hand n part → AreSentWhole order_now more hand n now
   added order order_now out more hand now alike fewer head each k =
-      added_whole all order_now out more hand n ringed now member (λ b u among here. fewer b u among (same.elements_were b u here))
+      added_is_whole all order_now out more hand n ringed now member (λ b u among here. fewer b u among (same.elements_were b u here))
       (λ r here.
       let had : HadRest part n r = head r here in
       let h : IsRelinked ringed n had.queue = same.head had.queue had.here in

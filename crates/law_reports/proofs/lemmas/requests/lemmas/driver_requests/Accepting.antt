@@ -139,11 +139,12 @@ module _ (d : DriverContent) (m : Mem) (o : Offered) (why : Transfers d m o) (ha
       request_comes o.driver v under n why.number (length d.transfers) number r (request_places o.driver.notes why.endpoint.dummy r) (stay v under n why.number number are) (new_of sort) (new_laid r stages)
       (λ k few. let y = are.transfers k few in slice_get_within d.transfers (number k) y.own y.here)
 
-pub accepted_stay : (d : DriverContent) (m : Mem) (o : Offered) (v : Queue) (under n i : ℕ) (number : ℕ → ℕ) → Transfers d m o → HasOwners d → Stands (holding d.book m) → AreOfEndpoint d v under n i number
+pub accepted_requests_stay : (d : DriverContent) (m : Mem) (o : Offered) (v : Queue) (under n i : ℕ) (number : ℕ → ℕ) → Transfers d m o → HasOwners d → Stands (holding d.book m) → AreOfEndpoint d v under n i number
     → AreOfEndpoint o.driver v under n i number
-accepted_stay d m o v under n i number why has stands are = stay d m o why has stands v under n i number are
+accepted_requests_stay d m o v under n i number why has stands are = stay d m o why has stands v under n i number are
 
-pub accepted_comes : (d : DriverContent) (m : Mem) (o : Offered) (why : Transfers d m o) (r : Request) (v : Queue) (under n : ℕ) (number : ℕ → ℕ) → why.asked.sort ≡ sorts.Request
+pub accepted_request_comes : (d : DriverContent) (m : Mem) (o : Offered) (why : Transfers d m o) (r : Request) (v : Queue) (under n : ℕ) (number : ℕ → ℕ) → why.asked.sort ≡ sorts.Request
     → why.asked.stages ≡ request_stages r.setup → HasOwners d → Stands (holding d.book m) → AreOfEndpoint d v under n why.number number
     → AreOfEndpoint o.driver (with_request v r (request_places o.driver.notes why.endpoint.dummy r)) under n why.number (number_with v.count number (length d.transfers))
-accepted_comes d m o why r v under n number sort stages has stands are = comes d m o why has stands r v under n number sort stages are
+accepted_request_comes d m o why r v under n number sort stages has stands are =
+    comes d m o why has stands r v under n number sort stages are

@@ -54,9 +54,9 @@ first_goes d asks e earlier v number some k = record {
 
 -- ---- the driver's rows, and what is accepted
 
-pub rows_leave : (p : Parts) (row : DriverRow) (asks : ℕ → Request) (i : ℕ) (earlier : List ℕ) (v : Queue) (number : ℕ → ℕ) → AreBehind p.driver asks i earlier v number
+pub rows_leave_behind : (p : Parts) (row : DriverRow) (asks : ℕ → Request) (i : ℕ) (earlier : List ℕ) (v : Queue) (number : ℕ → ℕ) → AreBehind p.driver asks i earlier v number
     → AreBehind (after_driver_row row p).driver asks i earlier v number
-rows_leave p row asks i earlier v number k = record { numbers = row_numbers p row i ∙ k.numbers; requests = k.requests }
+rows_leave_behind p row asks i earlier v number k = record { numbers = row_numbers p row i ∙ k.numbers; requests = k.requests }
 
 pub accepted_behind : (d : DriverContent) (m : Mem) (o : Offered) (why : Transfers d m o) (name : EpName) (setup bytes : List ℕ) (asks : ℕ → Request) (earlier : List ℕ) (v : Queue) (under n : ℕ) (number : ℕ → ℕ) (x : Places)
     → AreOfEndpoint d v under n why.number number → AreBehind d asks why.number earlier v number
@@ -69,9 +69,9 @@ accepted_behind d m o why name setup bytes asks earlier v under n number x are k
       requests = requests_more d asks v under n why.number number (record { setup = setup; bytes = bytes }) are k.requests;
     }
 
-pub accepted_beside_behind : (d : DriverContent) (m : Mem) (o : Offered) (why : Transfers d m o) (cmd : Cmd) (asks : ℕ → Request) (earlier : List ℕ) (v : Queue) (under n i : ℕ) (number : ℕ → ℕ) → i ≢ why.number
+pub accepted_beside : (d : DriverContent) (m : Mem) (o : Offered) (why : Transfers d m o) (cmd : Cmd) (asks : ℕ → Request) (earlier : List ℕ) (v : Queue) (under n i : ℕ) (number : ℕ → ℕ) → i ≢ why.number
     → AreOfEndpoint d v under n i number → AreBehind d asks i earlier v number → AreBehind o.driver (asks_then d cmd asks) i earlier v number
-accepted_beside_behind d m o why cmd asks earlier v under n i number other are k = record {
+accepted_beside d m o why cmd asks earlier v under n i number other are k = record {
   numbers = numbers_still d o.driver i (new_transfer why.number why.asked why.endpoint.dummy) (ap (λ (g : Offered). g.driver.transfers) why.is) (λ same. other (sym same)) ∙ k.numbers;
   requests = λ j few. asked_before d cmd asks (number j) (below_new d v under n i number are j few) ∙ k.requests j few;
 }

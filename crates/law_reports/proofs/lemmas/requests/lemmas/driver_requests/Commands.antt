@@ -12,16 +12,16 @@ use Rattle.law_reports.specs.requests.driver_requests.Rows.{KeepsRequests}
 use Rattle.law_reports.proofs.lemmas.requests.lemmas.driver_requests.Accepting.{still_there}
 use Rattle.law_reports.proofs.lemmas.requests.lemmas.driver_requests.Rows.{endpoint_set, keeps}
 
-pub opens_keep : (d : DriverContent) (m : Mem) (o : Offered) (i : ℕ) → Opens d m o → KeepsRequests None d o.driver i
-opens_keep d m o i why =
+pub open_keeps_requests : (d : DriverContent) (m : Mem) (o : Offered) (i : ℕ) → Opens d m o → KeepsRequests None d o.driver i
+open_keeps_requests d m o i why =
     subst (λ (g : Offered). KeepsRequests None d g.driver i) (sym why.is) (record {
       endpoint = λ x here. record { own = x; here = still_there d.endpoints _ i x here; desc = refl; queue = refl; gone = refl };
       transfers = λ t y there of. record { own = y; here = there; endpoint = refl; sort = refl; first = refl; qtds = refl; held = λ other. refl };
       notes = λ t b y there of held piece. refl;
     })
 
-pub cancels_keep : (d : DriverContent) (m : Mem) (o : Offered) (i : ℕ) → Cancels d m o → KeepsRequests None d o.driver i
-cancels_keep d m o i why =
+pub cancel_keeps_requests : (d : DriverContent) (m : Mem) (o : Offered) (i : ℕ) → Cancels d m o → KeepsRequests None d o.driver i
+cancel_keeps_requests d m o i why =
     let x = why.endpoint in
     let e = accepted_cancel d why.number x in
     subst (λ (g : Offered). KeepsRequests None d g.driver i) (sym why.is)

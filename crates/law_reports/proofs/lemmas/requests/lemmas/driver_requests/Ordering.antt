@@ -85,10 +85,10 @@ requests_more d asks v under n i number r are asked k few =
     ∙ sym (ap (λ (b : Bool). if b then r else v.requests k) (not_same k v.count differs))) (cases_eq k v.count)
 
 -- a request that is accepted
-pub accepted_in_order : (d : DriverContent) (m : Mem) (o : Offered) (why : Transfers d m o) (name : EpName) (setup bytes : List ℕ) (asks : ℕ → Request) (v : Queue) (under n : ℕ) (number : ℕ → ℕ) (x : Places)
+pub order_grows : (d : DriverContent) (m : Mem) (o : Offered) (why : Transfers d m o) (name : EpName) (setup bytes : List ℕ) (asks : ℕ → Request) (v : Queue) (under n : ℕ) (number : ℕ → ℕ) (x : Places)
     → AreOfEndpoint d v under n why.number number → AreInOrder d asks why.number v number
     → AreInOrder o.driver (asks_then d (commands.Control name setup bytes) asks) why.number (with_request v (record { setup = setup; bytes = bytes }) x) (number_with v.count number (length d.transfers))
-accepted_in_order d m o why name setup bytes asks v under n number x are order = record {
+order_grows d m o why name setup bytes asks v under n number x are order = record {
   numbers = numbers_more d o.driver why.number (new_transfer why.number why.asked why.endpoint.dummy) (ap (λ (g : Offered). g.driver.transfers) why.is) refl
       ∙ ap (λ (ks : List ℕ). ks ++ length d.transfers ∷ []) order.numbers ∙ first_more number v.count (length d.transfers);
   requests = requests_more d asks v under n why.number number (record { setup = setup; bytes = bytes }) are order.requests;
@@ -99,9 +99,9 @@ asked_before d (commands.Control name setup bytes) asks t low = ask_old asks (le
 asked_before d _ asks t low = refl
 
 -- .. and whatever is accepted of another endpoint
-pub accepted_beside : (d : DriverContent) (m : Mem) (o : Offered) (why : Transfers d m o) (cmd : Cmd) (asks : ℕ → Request) (v : Queue) (under n i : ℕ) (number : ℕ → ℕ) → i ≢ why.number
+pub order_stays : (d : DriverContent) (m : Mem) (o : Offered) (why : Transfers d m o) (cmd : Cmd) (asks : ℕ → Request) (v : Queue) (under n i : ℕ) (number : ℕ → ℕ) → i ≢ why.number
     → AreOfEndpoint d v under n i number → AreInOrder d asks i v number → AreInOrder o.driver (asks_then d cmd asks) i v number
-accepted_beside d m o why cmd asks v under n i number other are order = record {
+order_stays d m o why cmd asks v under n i number other are order = record {
   numbers = numbers_still d o.driver i (new_transfer why.number why.asked why.endpoint.dummy) (ap (λ (g : Offered). g.driver.transfers) why.is) (λ same. other (sym same)) ∙ order.numbers;
   requests = λ j few. asked_before d cmd asks (number j) (below_new d v under n i number are j few) ∙ order.requests j few;
 }

@@ -102,5 +102,5 @@ row_same p _ = λ t. refl
 pub row_numbers : (p : Parts) (row : DriverRow) (i : ℕ) → numbers_of (after_driver_row row p).driver i ≡ numbers_of p.driver i
 row_numbers p row i = numbers_same i 0 p.driver.transfers (after_driver_row row p).driver.transfers (row_same p row)
 
-pub each_row_in_order : (p : Parts) (row : DriverRow) (asks : ℕ → Request) (i : ℕ) (v : Queue) (number : ℕ → ℕ) → AreInOrder p.driver asks i v number → AreInOrder (after_driver_row row p).driver asks i v number
-each_row_in_order p row asks i v number order = record { numbers = row_numbers p row i ∙ order.numbers; requests = order.requests }
+pub each_row_keeps_order : (p : Parts) (row : DriverRow) (asks : ℕ → Request) (i : ℕ) (v : Queue) (number : ℕ → ℕ) → AreInOrder p.driver asks i v number → AreInOrder (after_driver_row row p).driver asks i v number
+each_row_keeps_order p row asks i v number order = record { numbers = row_numbers p row i ∙ order.numbers; requests = order.requests }

@@ -336,16 +336,16 @@ placed_given p e i (Some x) differs =
 
 -- ---- each row
 
-pub each_row_keeps : (p : Parts) (row : DriverRow) (i : ℕ) → KeepsEndpoint row i → KeepsRequests (given_by row) p.driver (after_driver_row row p).driver i
-each_row_keeps p rows.Lend i only = keeps None p.driver _ i (lent p.driver p.memory)
-each_row_keeps p (rows.Store b at v) i only = keeps None p.driver _ i (advanced p.driver)
-each_row_keeps p (rows.ReleaseTransfer t) i only = transfer_given p t i (slice_get p.driver.transfers t) _ refl
-each_row_keeps p (rows.ReleaseEndpoint e) i only = endpoint_given p e i (slice_get p.driver.endpoints e) only
-each_row_keeps p rows.Frames i only = keeps None p.driver _ i (framed p.driver p.registers.frame_index p.driver.command)
-each_row_keeps p rows.LendDescriptors i only = keeps None p.driver _ i (lent p.driver _)
-each_row_keeps p (rows.Unlink t) i only = keeps None p.driver _ i (unlinks p t (slice_get p.driver.transfers t))
-each_row_keeps p (rows.ReleaseRemoved (removed.Descriptor t)) i only = descriptor_given p t i (slice_get p.driver.transfers t) refl
-each_row_keeps p (rows.ReleaseRemoved (removed.Endpoint e)) i only = placed_given p e i (slice_get p.driver.endpoints e) only
-each_row_keeps p (rows.Harvest e t found) i only = keeps None p.driver _ i (harvested p.driver p.memory e t found (slice_get p.driver.endpoints e) (slice_get p.driver.transfers t) refl refl)
-each_row_keeps p rows.Rest i only = keeps None p.driver _ i (nothing p.driver)
-each_row_keeps p _ i only = keeps None p.driver _ i (alike p.driver _ refl refl refl)
+pub each_row_keeps_requests : (p : Parts) (row : DriverRow) (i : ℕ) → KeepsEndpoint row i → KeepsRequests (given_by row) p.driver (after_driver_row row p).driver i
+each_row_keeps_requests p rows.Lend i only = keeps None p.driver _ i (lent p.driver p.memory)
+each_row_keeps_requests p (rows.Store b at v) i only = keeps None p.driver _ i (advanced p.driver)
+each_row_keeps_requests p (rows.ReleaseTransfer t) i only = transfer_given p t i (slice_get p.driver.transfers t) _ refl
+each_row_keeps_requests p (rows.ReleaseEndpoint e) i only = endpoint_given p e i (slice_get p.driver.endpoints e) only
+each_row_keeps_requests p rows.Frames i only = keeps None p.driver _ i (framed p.driver p.registers.frame_index p.driver.command)
+each_row_keeps_requests p rows.LendDescriptors i only = keeps None p.driver _ i (lent p.driver _)
+each_row_keeps_requests p (rows.Unlink t) i only = keeps None p.driver _ i (unlinks p t (slice_get p.driver.transfers t))
+each_row_keeps_requests p (rows.ReleaseRemoved (removed.Descriptor t)) i only = descriptor_given p t i (slice_get p.driver.transfers t) refl
+each_row_keeps_requests p (rows.ReleaseRemoved (removed.Endpoint e)) i only = placed_given p e i (slice_get p.driver.endpoints e) only
+each_row_keeps_requests p (rows.Harvest e t found) i only = keeps None p.driver _ i (harvested p.driver p.memory e t found (slice_get p.driver.endpoints e) (slice_get p.driver.transfers t) refl refl)
+each_row_keeps_requests p rows.Rest i only = keeps None p.driver _ i (nothing p.driver)
+each_row_keeps_requests p _ i only = keeps None p.driver _ i (alike p.driver _ refl refl refl)

@@ -14,7 +14,7 @@ use Rattle.law_driver_ring.specs.Inventory.IsDriverOwned.{the_list, the_head, a_
 use Rattle.law_devices.specs.ring_requests.Samples.{nothing}
 use Rattle.law_reports.specs.requests.world_requests.Recording.{AreTransfers}
 use Rattle.law_reports.specs.requests.driver_requests.Samples.{endpoint, first, second, driver, owner, head_parts, first_parts, second_parts, parts, is_queue, requests, begun}
-use Rattle.law_reports.proofs.lemmas.requests.lemmas.driver_requests.Telling.{transfers_told}
+use Rattle.law_reports.proofs.lemmas.requests.lemmas.driver_requests.Telling.{transfers_are_told}
 use Rattle.law_reports.proofs.lemmas.requests.lemmas.driver_requests.Sampling.{are_of_driver, under_way, both_sent, have_qtds}
 
 abbrev v : Views
@@ -182,4 +182,4 @@ is_driven = record {
 
 pub sample_told : AreTransfers driver is_queue (λ n. requests) (λ n. begun) parts (λ n. 0) (λ n i. i)
 sample_told =
-    transfers_told driver is_queue is_queue (λ n. requests) (λ n. begun) parts (λ n. 0) (λ n i. i) has_owners have_qtds is_driven both_sent under_way are_of_driver
+    transfers_are_told driver is_queue is_queue (λ n. requests) (λ n. begun) parts (λ n. 0) (λ n i. i) has_owners have_qtds is_driven both_sent under_way are_of_driver

@@ -70,10 +70,10 @@ module _ (d : DriverContent) (member windows : ℕ → Bool) (sent : ℕ → Que
       others = none_beside;
     }
 
-pub transfers_told : (d : DriverContent) (member windows : ℕ → Bool) (sent : ℕ → Queue) (lines : ℕ → Lines) (parts : StructureSets) (endpoint : ℕ → ℕ) (number : ℕ → ℕ → ℕ) → HasOwners d → HaveQtds d
+pub transfers_are_told : (d : DriverContent) (member windows : ℕ → Bool) (sent : ℕ → Queue) (lines : ℕ → Lines) (parts : StructureSets) (endpoint : ℕ → ℕ) (number : ℕ → ℕ → ℕ) → HasOwners d → HaveQtds d
     → IsDriven (views_of d) (sorts_of parts) → AreSent member windows sent → AreUnderWay windows sent lines → AreOfDriver d windows sent lines endpoint number → AreTransfers d windows sent lines parts endpoint number
-transfers_told d member windows sent lines parts endpoint number has some driven apart way are = told d member windows sent lines endpoint number has some apart are parts driven way
+transfers_are_told d member windows sent lines parts endpoint number has some driven apart way are = told d member windows sent lines endpoint number has some apart are parts driven way
 
-pub requests_found : (d : DriverContent) (member windows : ℕ → Bool) (sent : ℕ → Queue) (lines : ℕ → Lines) (endpoint : ℕ → ℕ) (number : ℕ → ℕ → ℕ) → HasOwners d → HaveQtds d
+pub requests_are_found : (d : DriverContent) (member windows : ℕ → Bool) (sent : ℕ → Queue) (lines : ℕ → Lines) (endpoint : ℕ → ℕ) (number : ℕ → ℕ → ℕ) → HasOwners d → HaveQtds d
     → AreSent member windows sent → AreOfDriver d windows sent lines endpoint number → AreFound d windows sent lines number
-requests_found d member windows sent lines endpoint number has some apart are n i on after few = found_each d member windows sent lines endpoint number has some apart are n i on after few
+requests_are_found d member windows sent lines endpoint number has some apart are n i on after few = found_each d member windows sent lines endpoint number has some apart are n i on after few

@@ -84,8 +84,8 @@ module _ (d : DriverContent) (m : Mem) (o : Offered) (why : Transfers d m o) whe
   by_stages [] are given small pids has lent stands shape = let some = why.some in let none : length ss ≡ 0 = ap length are in absurd (omega (arith, some, none))
   by_stages (s ∷ rest) are given small pids has lent stands shape = sent_by s rest are given small pids has lent stands shape
 
-pub accepted_held : AcceptedRequestIsHeld
-accepted_held d m o why r is stages bytes small has lent stands shape =
+pub accepted_request_is_held : AcceptedRequestIsHeld
+accepted_request_is_held d m o why r is stages bytes small has lent stands shape =
     let given : AreGiven why.asked.stages why.asked.bytes =
     subst (λ (ss : List Stage). AreGiven ss why.asked.bytes) (sym stages) (subst (AreGiven (request_stages r.setup)) (sym bytes) (request_given r is)) in
     let pids : AllByRecursion (λ s. s.pid ≤ 2) why.asked.stages = subst (λ (ss : List Stage). AllByRecursion (λ s. s.pid ≤ 2) ss) (sym stages) (request_pids r) in
@@ -124,8 +124,8 @@ no_data_stays h new notes b r stands same none noted short held = record {
   sent = λ some out. absurd (true≢false (sym some ∙ none));
 }
 
-pub held_stays : HeldRequestStays
-held_stays d m new t y x s rest r k are stands same held =
+pub held_request_stays : HeldRequestStays
+held_request_stays d m new t y x s rest r k are stands same held =
     let h = holding d.book m in
     let slot = slot_of d.book.slots in
     ⊎_elim

@@ -15,7 +15,7 @@ use Rattle.drv_table.specs.Offers.{is_last}
 use Rattle.law_driver.specs.run_owners.Accepts.{AreShort}
 use Rattle.law_structures.specs.lent_structures.Structures.{Element, Buffer, Structures, StructureSets, Tells}
 use Rattle.law_structures.specs.lent_structures.Sound.{element_pages, buffer_name, HasBuffer}
-use Rattle.law_driver_ring.proofs.lemmas.harvested_streams.Harvesting.{bytes_read}
+use Rattle.law_driver_ring.proofs.lemmas.harvested_streams.Harvesting.{bytes_are_read}
 use Rattle.law_driver_ring.specs.Written.{AreNoted, IsStageNoted}
 use Rattle.law_driver_ring.specs.Pieces.{stage_qtd, AreStanding, AreBuffered}
 use Rattle.law_driver_ring.proofs.Pieces.{element_is}
@@ -77,7 +77,7 @@ lent_buffer h now q notes s b dummy last stands noted short some has tells =
     let size = k.size in
     let after = (lend_taken h).memory in
     let read : buffer_bytes after (record note { told = length k.bytes }) s.long ≡ take s.long k.bytes =
-    bytes_read after now q u k.bytes (record note { told = length k.bytes }) s.long tells k.here (record { told = refl; places = λ j below. places_new h note s j stands noted short (omega (arith, below, size)) }) (omega (arith, size)) in
+    bytes_are_read after now q u k.bytes (record note { told = length k.bytes }) s.long tells k.here (record { told = refl; places = λ j below. places_new h note s j stands noted short (omega (arith, below, size)) }) (omega (arith, size)) in
     let same : buffer_bytes after note s.long ≡ buffer_bytes h.memory note s.long =
     bytes_same h.memory after note s.long (λ j below. ap (λ (ws : List ℕ). get_or ws (buffer_address note j / 4) 0) (lent_words h)) in
     let are : k.bytes ≡ buffer_bytes h.memory note s.long = sym (take_all s.long k.bytes (omega (arith, size))) ∙ sym read ∙ sym (told_aside after note (length k.bytes) s.long) ∙ same in
@@ -194,8 +194,8 @@ places_by notes b some =
     if some then data_places b (next_of notes b) (next_of notes (next_of notes b)) (next_of notes (next_of notes (next_of notes b)))
     else other_places b (next_of notes b) (next_of notes (next_of notes b))
 
-pub lent_fresh : LentRequestIsFresh
-lent_fresh d m t y x s rest slot parts now part e r k are stands held pieces tells stored =
+pub lent_request_is_fresh : LentRequestIsFresh
+lent_request_is_fresh d m t y x s rest slot parts now part e r k are stands held pieces tells stored =
     let h = holding d.book m in
     let q = 32 * x.queue in
     let there : AreThere h now q d.notes y.first x.dummy part (s ∷ rest) = record { noted = k.noted; short = k.short; standing = pieces.standing; buffered = pieces.buffered; stored = stored } in

@@ -80,11 +80,11 @@ requests_stay d c r now taken asks descs owners refusals h =
 
 -- ---- an event
 
-pub event_requests : EventKeepsRequests
-event_requests fixed w events.D taken asks h =
+pub event_keeps_requests : EventKeepsRequests
+event_keeps_requests fixed w events.D taken asks h =
     let stays = event_stays (driver_parts w) in
     requests_stay w.driver (driver_next w).driver (report_of fixed w) (report_of fixed (driver_next w)) taken asks stays.descs stays.owners stays.refusals h
-event_requests fixed w events.C taken asks h = requests_stay w.driver w.driver (report_of fixed w) (report_of fixed (next fixed w events.C)) taken asks refl refl (λ n. refl) h
+event_keeps_requests fixed w events.C taken asks h = requests_stay w.driver w.driver (report_of fixed w) (report_of fixed (next fixed w events.C)) taken asks refl refl (λ n. refl) h
 
 -- ---- a line that is no command
 
@@ -207,7 +207,7 @@ module _ (fixed : Fixed) (w : World) (n : ℕ) (cmd : Cmd) (taken : List (ℕ ×
   answered_requests (Ok o) adds same = accepted_requests o adds same
   answered_requests (Err why) adds same = refused_requests why
 
-pub command_requests : CommandTakesRequests
+pub command_takes_requests : CommandTakesRequests
 unfolding it
-command_requests fixed w n cmd taken puts asks before sent h =
+command_takes_requests fixed w n cmd taken puts asks before sent h =
     answered_requests fixed w n cmd taken puts asks before sent h (offered w.driver w.memory cmd) (command_asks w.driver w.memory cmd) (offer_lines w.driver w.memory cmd)

@@ -6,8 +6,8 @@ use Rattle.bus_world.specs.Budgets.{moment}
 use Rattle.bus_wire.specs.Bus.{fixed_of}
 use Rattle.claims_world.specs.Requests.{Windows, window_at, numbers_of, windows_of, asks_at}
 use Rattle.law_reports.specs.requests.told_requests.Claims.{ReportNumbers, ReportTells, ReportCounts, ReportOfRequests}
-use Rattle.law_reports.proofs.lemmas.requests.lemmas.told_requests.Closing.{closing_tells}
-use Rattle.law_reports.proofs.lemmas.requests.lemmas.told_requests.Moments.{moment_asks}
+use Rattle.law_reports.proofs.lemmas.requests.lemmas.told_requests.Closing.{closing_tells_acted}
+use Rattle.law_reports.proofs.lemmas.requests.lemmas.told_requests.Moments.{moments_ask}
 
 -- each window has the request of its transfer
 numbered : (asks : ℕ → Request) (v : Windows) (ns : List ℕ) → map (λ w. w.request) (map (window_at asks v) ns) ≡ map asks ns
@@ -15,7 +15,7 @@ numbered asks v [] = refl
 numbered asks v (n ∷ ns) = ap (λ (rs : List Request). asks n ∷ rs) (numbered asks v ns)
 
 pub report_numbers : ReportNumbers
-report_numbers s k e x v rise over here control = numbered (asks_at s k) v (numbers_of (moment s k).world.driver e) ∙ (moment_asks s rise k).all over e x here control
+report_numbers s k e x v rise over here control = numbered (asks_at s k) v (numbers_of (moment s k).world.driver e) ∙ (moments_ask s rise k).all over e x here control
 
 pub report_tells : ReportTells
 report_tells fixed w name whole ws left k = k.told
@@ -30,7 +30,7 @@ pub report_counts : ReportCounts
 report_counts fixed w x ws k =
     let few = k.few in
     let low = acted_few ws in
-    closing_tells fixed w x k.device k.way k.seat k.apart k.is_open k.is ∙ ap Some (k.counts ∙ min_low (length (filter has_acted ws)) 4294967295 (omega (arith, few, low)))
+    closing_tells_acted fixed w x k.device k.way k.seat k.apart k.is_open k.is ∙ ap Some (k.counts ∙ min_low (length (filter has_acted ws)) 4294967295 (omega (arith, few, low)))
 
 pub report_of_requests : ReportOfRequests
 report_of_requests s k e x v left rise over here control once told counts = record {

@@ -122,8 +122,8 @@ module _ (w : World) (name : EpName) (way : name.way ≡ Ways.Ctl) (on : opened 
 
 -- ---- the law
 
-pub closing_tells : ClosingTellsActed
-closing_tells fixed w x c way seat apart on is =
+pub closing_tells_acted : ClosingTellsActed
+closing_tells_acted fixed w x c way seat apart on is =
     let h : HasControl (wired fixed w) x.name.addr x.name.num c = control_found (wired fixed w) x.name.addr x.name.num c is in
     let it : slice_get w.bus.devices h.device_place ≡ Some h.at.device = h.at.is in
     first_at w x.name way on h.at.device (device_found w.bus.devices h.device_place x.name.addr h.at.device apart it h.at.address) c.stages.acted

@@ -20,7 +20,7 @@ use Rattle.bus_world.specs.World.{refused_line}
 use Rattle.law_queues.proofs.lemmas.told_endpoints.Names.{name_is_same}
 use Rattle.law_reports.specs.requests.told_requests.Told.{AreToldTo, RequestsAreToldTo}
 use Rattle.law_reports.specs.requests.told_requests.Steps.{DoneIsTold, HaltIsTold, BehindAreTold, StalledAreTold, OthersStay, OthersBehindStay, RefusalStays}
-use Rattle.law_reports.proofs.lemmas.requests.lemmas.told_requests.Lines.{line_told, other_told}
+use Rattle.law_reports.proofs.lemmas.requests.lemmas.told_requests.Lines.{line_is_told, other_line_is_told}
 
 -- ---- whose line it is
 
@@ -43,25 +43,26 @@ other_what a false is = absurd (false≢true is)
 module _ (d : DriverContent) (what : What) (name : EpName) (bytes : List ℕ) (whole : Request → List ℕ) (ws left : List Window) where
   pub own_told : is_refusal what ≡ false → IsTold whole what bytes left → RequestsAreToldTo d name whole ws left → RequestsAreToldTo (reported d what name bytes) name whole ws (left_by what left)
   own_told plain is k =
-      line_told d.reports d.store bytes name whole ws left (record { name = name; what = what; from = length d.store; len = length bytes })
+      line_is_told d.reports d.store bytes name whole ws left
+      (record { name = name; what = what; from = length d.store; len = length bytes })
       (record { own = own_by (is_same_name name name) (is_refusal what) (name_is_same name) plain; from = refl; long = refl; is = is }) k
 
 pub others_stay : OthersStay
 others_stay d what other name bytes whole ws left (inl unlike) k =
-    other_told d.reports d.store bytes name whole ws left (record { name = other; what = what; from = length d.store; len = length bytes }) (other_name (is_same_name other name) (is_refusal what) unlike) k
+    other_line_is_told d.reports d.store bytes name whole ws left (record { name = other; what = what; from = length d.store; len = length bytes }) (other_name (is_same_name other name) (is_refusal what) unlike) k
 others_stay d what other name bytes whole ws left (inr refusal) k =
-    other_told d.reports d.store bytes name whole ws left (record { name = other; what = what; from = length d.store; len = length bytes }) (other_what (is_same_name other name) (is_refusal what) refusal) k
+    other_line_is_told d.reports d.store bytes name whole ws left (record { name = other; what = what; from = length d.store; len = length bytes }) (other_what (is_same_name other name) (is_refusal what) refusal) k
 
-pub done_told : DoneIsTold
-done_told d m t y notes name whole ws rest w acts bytes k = own_told d Done name (take y.most (moved_bytes notes m y.first y.qtds)) whole ws (w ∷ rest) refl (acts, bytes) k
+pub done_is_told : DoneIsTold
+done_is_told d m t y notes name whole ws rest w acts bytes k = own_told d Done name (take y.most (moved_bytes notes m y.first y.qtds)) whole ws (w ∷ rest) refl (acts, bytes) k
 
-pub halt_told : HaltIsTold
-halt_told d m t y cause notes name whole ws rest w begins k = own_told d (Halt cause) name (take y.most (moved_bytes notes m y.first y.qtds)) whole ws (w ∷ rest) refl begins k
+pub halt_is_told : HaltIsTold
+halt_is_told d m t y cause notes name whole ws rest w begins k = own_told d (Halt cause) name (take y.most (moved_bytes notes m y.first y.qtds)) whole ws (w ∷ rest) refl begins k
 
 pub refusal_stays : RefusalStays
 refusal_stays d n other name why whole ws left k =
     subst (λ (store : List ℕ). AreToldTo (refused_line d n other why).reports store name whole ws left) (append-nil d.store)
-    (other_told d.reports d.store [] name whole ws left (record { name = other; what = Refused n why; from = length d.store; len = 0 }) (other_what (is_same_name other name) true refl) k)
+    (other_line_is_told d.reports d.store [] name whole ws left (record { name = other; what = Refused n why; from = length d.store; len = 0 }) (other_what (is_same_name other name) true refl) k)
 
 -- ---- requests behind a stalled one
 
@@ -172,8 +173,8 @@ dropped_all zero ys = take_all (length ys - 0) ys (omega arith)
 dropped_all (suc i) [] = none_taken (0 - suc i)
 dropped_all (suc i) (y ∷ ys) = let e : length (y ∷ ys) - suc i ≡ length ys - i = omega arith in ap (λ (n : ℕ). take n (drop i ys)) e ∙ dropped_all i ys
 
-pub stalled_told : StalledAreTold
-stalled_told d e t x whole ws left low told =
+pub stalled_are_told : StalledAreTold
+stalled_are_told d e t x whole ws left low told =
     subst (λ (ys : List Transfer). RequestsAreToldTo (stalled d e t x) x.desc.name whole ws (drop (count_by (waits_for e) ys) left)) same
     (behind_told e x.desc.name whole ws
     (record d {

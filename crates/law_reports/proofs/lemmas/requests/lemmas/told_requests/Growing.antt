@@ -22,7 +22,7 @@ use Rattle.law_reports.proofs.lemmas.requests.lemmas.told_requests.Adding.{Adds,
 use Rattle.law_reports.proofs.lemmas.requests.lemmas.told_requests.Agreeing.{numbers_in, by_owners, numbers_join, numbers_single, requests_alike}
 use Rattle.law_reports.proofs.lemmas.requests.lemmas.told_requests.Asking.{then_owned}
 use Rattle.law_reports.proofs.lemmas.requests.lemmas.told_requests.Driver.{refusal_stays}
-use Rattle.law_reports.proofs.lemmas.requests.lemmas.told_requests.Windows.{windows_front, windows_grow}
+use Rattle.law_reports.proofs.lemmas.requests.lemmas.told_requests.Windows.{windows_have_front, windows_grow}
 
 -- ---- the windows, by the endpoints of transfers
 
@@ -44,8 +44,8 @@ one_by : (now : ℕ → Request) (v : Windows) (b : Bool) (n : ℕ) → map (win
 one_by now v true n = refl
 one_by now v false n = refl
 
-pub transfer_adds : TransferAddsWindow
-transfer_adds d c y asks now v e is same =
+pub transfer_adds_window : TransferAddsWindow
+transfer_adds_window d c y asks now v e is same =
     let long = length-map d.transfers owner_at in
     let number : 0 + length (owners_in d) ≡ length d.transfers = omega (arith, long) in
     of_owners c now v e
@@ -59,8 +59,8 @@ transfer_adds d c y asks now v e is same =
 same_windows : (d c : DriverContent) (asks : ℕ → Request) (v : Windows) (e : ℕ) → owners_in c ≡ owners_in d → windows_of c asks v e ≡ windows_of d asks v e
 same_windows d c asks v e same = of_owners c asks v e ∙ ap (windows_in asks v e) same ∙ sym (of_owners d asks v e)
 
-pub event_windows : EventKeepsWindows
-event_windows p asks v e = same_windows p.driver (after_driver_row (driver_row p) p).driver asks v e (event_stays p).owners
+pub event_keeps_windows : EventKeepsWindows
+event_keeps_windows p asks v e = same_windows p.driver (after_driver_row (driver_row p) p).driver asks v e (event_stays p).owners
 
 -- ---- a command
 
@@ -88,7 +88,7 @@ module _ (d : DriverContent) (cmd : Cmd) (asks : ℕ → Request) (v : Windows) 
   stays_so : (name : EpName) (whole : Request → List ℕ) (left : List Window) (c : DriverContent) → has_cancel (lines_in name d.reports) ≡ false → RequestsAreToldTo d name whole (windows_of d asks v e) left
       → HasMore (windows_of d asks v e) (windows_of c then_asks v e) → c.reports ≡ d.reports → c.store ≡ d.store → StaysTold name whole (windows_of d asks v e) (windows_of c then_asks v e) left c
   stays_so name whole left c none k h reports store =
-      let f = windows_front d.reports d.store name whole (windows_of d asks v e) left none k in
+      let f = windows_have_front d.reports d.store name whole (windows_of d asks v e) left none k in
       let now : f.0 ++ (left ++ h.more) ≡ windows_of c then_asks v e = sym (append_assoc f.0 left h.more) ∙ ap (λ (ws : List Window). ws ++ h.more) (sym f.1) ∙ sym h.are in
       record {
         more = h.more;
@@ -118,8 +118,8 @@ module _ (w : World) (n : ℕ) (cmd : Cmd) (asks : ℕ → Request) (v : Windows
   answered_told (Ok o) adds same = stays_so w.driver cmd asks v e name whole left o.driver none k (added_more w.driver cmd asks v e o.driver adds) same.reports same.store
   answered_told (Err why) adds same = refused_told (name_in cmd) why
 
-pub command_told : CommandKeepsTold
-command_told w n cmd asks v e name whole left none k =
+pub command_keeps_told : CommandKeepsTold
+command_keeps_told w n cmd asks v e name whole left none k =
     answered_told w n cmd asks v e name whole left none k (offered w.driver w.memory cmd) (command_asks w.driver w.memory cmd) (offer_lines w.driver w.memory cmd)
 
 -- ---- acts
@@ -141,9 +141,9 @@ front_same asks v u (t ∷ ts) (w ∷ fs) left is same =
     ∙ ap (λ (xs : List Window). window_at asks u t ∷ xs)
     (front_same asks v u ts fs left (same_rest (window_at asks v t) w (map (window_at asks v) ts) (fs ++ left) is) (λ i s low here. same (suc i) s (omega (arith, low)) here))
 
-pub acts_grow : ActsMayGrow
-acts_grow d asks v u e name whole left none k same =
-    let f = windows_front d.reports d.store name whole (windows_of d asks v e) left none k in
+pub acts_may_grow : ActsMayGrow
+acts_may_grow d asks v u e name whole left none k same =
+    let f = windows_have_front d.reports d.store name whole (windows_of d asks v e) left none k in
     let n = length (lines_in name d.reports) in
     let now : f.0 ++ drop (length f.0) (windows_of d asks u e) ≡ windows_of d asks u e = front_same asks v u (numbers_of d e) f.0 left f.1 (λ i t low here. same i t (subst (λ (m : ℕ). i < m) f.2 low) here) in
     subst (λ (m : ℕ). RequestsAreToldTo d name whole (windows_of d asks u e) (drop m (windows_of d asks u e))) f.2

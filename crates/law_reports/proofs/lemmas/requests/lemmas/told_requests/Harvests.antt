@@ -24,7 +24,7 @@ use Rattle.drv_table.specs.Releases.{cancelled_bytes, is_told, gone_with, after_
 use Rattle.drv_table.specs.Removals.{removed_with, after_placed, free_placed}
 use Rattle.law_reports.specs.requests.told_requests.Told.{RequestsAreToldTo}
 use Rattle.law_reports.specs.requests.told_requests.Rows.{OtherHarvestsStay, OtherReturnsStay, IsHarvested, bytes_with, HarvestGoesOn, HarvestEnds, HarvestStalls}
-use Rattle.law_reports.proofs.lemmas.requests.lemmas.told_requests.Driver.{own_told, others_stay, other_behind, drop_set, stalled_told}
+use Rattle.law_reports.proofs.lemmas.requests.lemmas.told_requests.Driver.{own_told, others_stay, other_behind, drop_set, stalled_are_told}
 
 either : (P : DriverContent → Type 0) (b : Bool) (c d : DriverContent) → P c → P d → P (if b then c else d)
 either P true c d h k = h
@@ -98,11 +98,11 @@ module _ (name : EpName) (whole : Request → List ℕ) (ws left : List Window) 
   placed_told p e None other k = k
   placed_told p e (Some x) other k = removed_told p e x (other x refl) k (free_placed p.driver e x (holding p.driver.book p.memory)).book
 
-pub other_harvests : OtherHarvestsStay
-other_harvests p e t found name whole ws left unlike k = other_harvest name whole ws left p.driver p.memory e t found (slice_get p.driver.endpoints e) (slice_get p.driver.transfers t) unlike k
+pub other_harvests_stay : OtherHarvestsStay
+other_harvests_stay p e t found name whole ws left unlike k = other_harvest name whole ws left p.driver p.memory e t found (slice_get p.driver.endpoints e) (slice_get p.driver.transfers t) unlike k
 
-pub other_returns : OtherReturnsStay
-other_returns p e name whole ws left other k =
+pub other_returns_stay : OtherReturnsStay
+other_returns_stay p e name whole ws left other k =
     (endpoint_told name whole ws left p e (slice_get p.driver.endpoints e) other k, placed_told name whole ws left p e (slice_get p.driver.endpoints e) other k)
 
 -- ---- of the endpoint itself
@@ -137,5 +137,5 @@ harvest_stalls p e t n x y whole ws rest w h control begins low k =
     found_told p e t x y h x.desc.name whole ws (drop many rest) (founds.Ended n (Halt Stall))
     (subst (λ (b : Bool). RequestsAreToldTo (after_end d e t x true (if b then None else Some Stall)) x.desc.name whole ws (drop many rest)) (sym control)
     (subst (λ (ys : List Transfer). RequestsAreToldTo (stalled d e t x) x.desc.name whole ws (drop (count_by (waits_for e) ys) rest)) behind_same
-    (stalled_told d e t x whole ws rest (subst (λ (ys : List Transfer). count_by (waits_for e) ys ≤ length rest) (sym behind_same) low)
+    (stalled_are_told d e t x whole ws rest (subst (λ (ys : List Transfer). count_by (waits_for e) ys ≤ length rest) (sym behind_same) low)
     (own_told p.driver (Halt Stall) x.desc.name (bytes_with p y n) whole ws (w ∷ rest) refl begins k))))

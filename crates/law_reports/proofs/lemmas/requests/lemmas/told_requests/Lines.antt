@@ -33,15 +33,15 @@ longer store bytes = let long : length (store ++ bytes) ≡ length store + lengt
 
 -- ---- of a report
 
-pub none_told : NoneIsTold
-none_told reports store name whole ws none = record {
+pub none_is_told : NoneIsTold
+none_is_told reports store name whole ws none = record {
   told = subst (AreTold whole store ws) (sym none) tt;
   rest = ap (λ (ls : List Report). left_after ls ws) none;
   stored = subst (λ (ls : List Report). AreStored ls (length store)) (sym none) tt;
 }
 
-pub other_told : OtherLineIsTold
-other_told reports store bytes name whole ws left line other k =
+pub other_line_is_told : OtherLineIsTold
+other_line_is_told reports store bytes name whole ws left line other k =
     let same : lines_in name (reports ++ line ∷ []) ≡ lines_in name reports = line_of_other name reports line other in
     record {
       told = subst (AreTold whole (store ++ bytes) ws) (sym same) (still_told whole store bytes (lines_in name reports) ws k.stored k.told);
@@ -49,8 +49,8 @@ other_told reports store bytes name whole ws left line other k =
       stored = subst (λ (ls : List Report). AreStored ls (length (store ++ bytes))) (sym same) (stored_more (lines_in name reports) (length store) (length (store ++ bytes)) (longer store bytes) k.stored);
     }
 
-pub line_told : LineIsTold
-line_told reports store bytes name whole ws left line adds k = record {
+pub line_is_told : LineIsTold
+line_is_told reports store bytes name whole ws left line adds k = record {
   told = subst (AreTold whole (store ++ bytes) ws) (sym now)
       (told_then whole (store ++ bytes) (lines_in name reports) line ws (still_told whole store bytes (lines_in name reports) ws k.stored k.told)
       (subst (IsTold whole line.what (bytes_of line (store ++ bytes))) (sym k.rest) (subst (λ (xs : List ℕ). IsTold whole line.what xs left) (sym bytes_now) adds.is)));

@@ -21,13 +21,13 @@ use Rattle.bus_world.specs.Budgets.{moment}
 use Rattle.claims_world.specs.Streams.{report_of}
 use Rattle.law_world.specs.streams.put_laws.TakenLines.{RiseFrom, NumbersRise, IsPart, AreLeft}
 use Rattle.law_world.specs.streams.put_laws.TakenPuts.{PutsAreTaken, no_puts, puts_by, puts_next, puts_tick, puts_at}
-use Rattle.law_world.proofs.lemmas.streams.lemmas.put_laws.Steps.{event_puts, silent_puts, command_puts}
+use Rattle.law_world.proofs.lemmas.streams.lemmas.put_laws.Steps.{event_keeps_puts, silent_puts, command_takes_puts}
 use Rattle.law_world.proofs.lemmas.streams.lemmas.put_laws.Moments.{rise_before, next_moment}
-use Rattle.law_world.proofs.lemmas.streams.lemmas.put_laws.Ends.{all_taken}
+use Rattle.law_world.proofs.lemmas.streams.lemmas.put_laws.Ends.{all_are_taken}
 use Rattle.claims_world.specs.Requests.{no_asks, asks_by, asks_next, asks_at}
 use Rattle.law_reports.specs.requests.told_requests.Asked.{requests_of, requests_to, RequestsAreTaken, HasAsked, RequestsAreAsked}
 use Rattle.law_reports.specs.requests.told_requests.AskedLaws.{TickTakesRequests, MomentsTakeRequests, MomentsAsk, AsksStay}
-use Rattle.law_reports.proofs.lemmas.requests.lemmas.told_requests.Asking.{event_requests, silent_requests, command_requests, then_before}
+use Rattle.law_reports.proofs.lemmas.requests.lemmas.told_requests.Asking.{event_keeps_requests, silent_requests, command_takes_requests, then_before}
 
 -- ---- one event or command
 
@@ -40,23 +40,23 @@ module _ (s : Script) (puts : ℕ → List ℕ) (asks : ℕ → Request) where
     taken = taken;
     left = left;
     lines = record { lines = is; orders = inr (Events event n, tt, refl) };
-    sent = event_puts (fixed_of s) w event taken puts h;
-    asked = event_requests (fixed_of s) w event taken asks k;
+    sent = event_keeps_puts (fixed_of s) w event taken puts h;
+    asked = event_keeps_requests (fixed_of s) w event taken asks k;
   }
   part_asked w (Microframes zero) taken left part is h k = record { taken = taken; left = left; lines = record { lines = is; orders = inl refl }; sent = h; asked = k }
   part_asked w (Microframes (suc n)) taken left part is h k = record {
     taken = taken;
     left = left;
     lines = record { lines = is; orders = inr (Answer (is_end (kind_next w)) (suc n), tt, refl) };
-    sent = event_puts (fixed_of s) w events.C taken puts h;
-    asked = event_requests (fixed_of s) w events.C taken asks k;
+    sent = event_keeps_puts (fixed_of s) w events.C taken puts h;
+    asked = event_keeps_requests (fixed_of s) w events.C taken asks k;
   }
   part_asked w (Answer ended n) taken left part is h k = record {
     taken = taken;
     left = left;
     lines = record { lines = is; orders = inr (Microframes (fewer ended n), tt, refl) };
-    sent = event_puts (fixed_of s) w events.D taken puts h;
-    asked = event_requests (fixed_of s) w events.D taken asks k;
+    sent = event_keeps_puts (fixed_of s) w events.D taken puts h;
+    asked = event_keeps_requests (fixed_of s) w events.D taken asks k;
   }
   part_asked w (Command n cmd) taken left part is h k = absurd part
   part_asked w (Plugs there port) taken left part is h k = record { taken = taken; left = left; lines = record { lines = is; orders = inl refl }; sent = h; asked = k }
@@ -81,8 +81,8 @@ module _ (s : Script) (puts : ℕ → List ℕ) (asks : ℕ → Request) where
         taken = taken ++ (n, lines.Command cmd) ∷ [];
         left = left;
         lines = record { lines = one_more taken left (n, lines.Command cmd) is; orders = inl refl };
-        sent = command_puts (fixed_of s) w n cmd taken puts before h;
-        asked = command_requests (fixed_of s) w n cmd taken puts asks before h k;
+        sent = command_takes_puts (fixed_of s) w n cmd taken puts before h;
+        asked = command_takes_requests (fixed_of s) w n cmd taken puts asks before h k;
       }
   line_asked w n (lines.Plug i) taken left rise is h k =
       part_asked w (Plugs true i) (taken ++ (n, lines.Plug i) ∷ []) left tt (one_more taken left (n, lines.Plug i) is)
@@ -105,8 +105,9 @@ module _ (s : Script) (puts : ℕ → List ℕ) (asks : ℕ → Request) where
   orders_asked w orders taken left rise is h k (inr e) =
       subst (λ (os : List Left). HasAsked s (tick_at (fixed_of s) w os) (puts_next w os puts) (asks_next w os asks)) (sym e.2) (part_asked w e.0 taken left e.1 is h k)
 
-pub tick_asked : TickTakesRequests
-tick_asked s p puts asks rise h = orders_asked s puts asks p.world p.orders h.taken h.left rise h.lines.lines h.sent h.asked h.lines.orders
+pub tick_takes_requests : TickTakesRequests
+tick_takes_requests s p puts asks rise h =
+    orders_asked s puts asks p.world p.orders h.taken h.left rise h.lines.lines h.sent h.asked h.lines.orders
 
 -- ---- the requests of transfers stay
 
@@ -145,12 +146,12 @@ opening_asked s = record {
   asked = record { each = λ e x here on. absurd (no_endpoint e x here); others = λ name none. refl };
 }
 
-pub moment_asked : MomentsTakeRequests
+pub moments_take_requests : MomentsTakeRequests
 unfolding ticks puts_at asks_at
-moment_asked s rise zero = opening_asked s
-moment_asked s rise (suc k) =
+moments_take_requests s rise zero = opening_asked s
+moments_take_requests s rise (suc k) =
     subst (λ (p : OrderedWorld). HasAsked s p (puts_tick (moment s k) (puts_at s k)) (asks_next (moment s k).world (moment s k).orders (asks_at s k))) (sym (next_moment s k))
-    (tick_asked s (moment s k) (puts_at s k) (asks_at s k) rise (moment_asked s rise k))
+    (tick_takes_requests s (moment s k) (puts_at s k) (asks_at s k) rise (moments_take_requests s rise k))
 
 -- ---- the requests of the script
 
@@ -164,7 +165,7 @@ module _ (s : Script) (p : OrderedWorld) (puts : ℕ → List ℕ) (asks : ℕ �
   r = report_of (fixed_of s) p.world
 
   all_lines : p.orders ≡ [] → h.taken ≡ s.lines
-  all_lines none = (all_taken s p h.taken h.left h.lines none).1
+  all_lines none = (all_are_taken s p h.taken h.left h.lines none).1
 
   are_begun : (e : ℕ) (x : Endpoint) → slice_get p.world.driver.endpoints e ≡ Some x → is_control x.desc.kind ≡ true
       → (rest : List Request) × (requests_of p.world.driver asks e ++ rest ≡ requests s r x.desc.name)
@@ -181,5 +182,5 @@ module _ (s : Script) (p : OrderedWorld) (puts : ℕ → List ℕ) (asks : ℕ �
     unopened = λ none name unnamed. ap (λ (ls : List (ℕ × Line)). requests_to r ls name) (sym (all_lines none)) ∙ h.asked.others name unnamed;
   }
 
-pub moment_asks : MomentsAsk
-moment_asks s rise k = are_asked s (moment s k) (puts_at s k) (asks_at s k) (moment_asked s rise k)
+pub moments_ask : MomentsAsk
+moments_ask s rise k = are_asked s (moment s k) (puts_at s k) (asks_at s k) (moments_take_requests s rise k)

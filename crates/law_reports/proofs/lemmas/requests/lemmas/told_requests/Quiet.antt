@@ -90,19 +90,19 @@ removed_same p (removed.Endpoint e) quiet = absurd (true≢false quiet)
 
 -- ---- any row
 
-pub quiet_rows : QuietRowsKeepLines
-quiet_rows rows.Lend p quiet =
+pub quiet_rows_keep_lines : QuietRowsKeepLines
+quiet_rows_keep_lines rows.Lend p quiet =
     let lent : DriverContent = record p.driver { book = (lend_taken (holding p.driver.book p.memory)).book } in
     both_stay p.driver lent _ (same_lines p.driver lent refl refl) (advance_same lent)
-quiet_rows (rows.Store b at v) p quiet = advance_same p.driver
-quiet_rows (rows.ReleaseTransfer t) p quiet = transfer_same p t (slice_get p.driver.transfers t) (freed_by p.driver (holding p.driver.book p.memory) (slice_get p.driver.transfers t))
-quiet_rows (rows.ReleaseEndpoint e) p quiet = absurd (true≢false quiet)
-quiet_rows rows.Frames p quiet = framed_same p.driver p.registers.frame_index p.driver.command
-quiet_rows rows.LendDescriptors p quiet =
+quiet_rows_keep_lines (rows.Store b at v) p quiet = advance_same p.driver
+quiet_rows_keep_lines (rows.ReleaseTransfer t) p quiet = transfer_same p t (slice_get p.driver.transfers t) (freed_by p.driver (holding p.driver.book p.memory) (slice_get p.driver.transfers t))
+quiet_rows_keep_lines (rows.ReleaseEndpoint e) p quiet = absurd (true≢false quiet)
+quiet_rows_keep_lines rows.Frames p quiet = framed_same p.driver p.registers.frame_index p.driver.command
+quiet_rows_keep_lines rows.LendDescriptors p quiet =
     let lent : DriverContent = record p.driver { book = (lend_taken (holding p.driver.book (linked_by p.driver p.memory p.driver.command))).book } in
     both_stay p.driver lent _ (same_lines p.driver lent refl refl) (advance_same lent)
-quiet_rows (rows.Unlink t) p quiet = unlink_same p t (slice_get p.driver.transfers t)
-quiet_rows (rows.ReleaseRemoved what) p quiet = removed_same p what quiet
-quiet_rows (rows.Harvest e t found) p quiet = absurd (true≢false quiet)
-quiet_rows rows.Rest p quiet = all_same p.driver
-quiet_rows _ p quiet = same_lines p.driver _ refl refl
+quiet_rows_keep_lines (rows.Unlink t) p quiet = unlink_same p t (slice_get p.driver.transfers t)
+quiet_rows_keep_lines (rows.ReleaseRemoved what) p quiet = removed_same p what quiet
+quiet_rows_keep_lines (rows.Harvest e t found) p quiet = absurd (true≢false quiet)
+quiet_rows_keep_lines rows.Rest p quiet = all_same p.driver
+quiet_rows_keep_lines _ p quiet = same_lines p.driver _ refl refl

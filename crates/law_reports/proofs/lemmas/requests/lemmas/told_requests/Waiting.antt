@@ -51,8 +51,8 @@ count_set k (x ∷ xs) (suc t) y z here =
     let rest = count_set k xs t y z here in
     omega (arith, one, two, rest)
 
-pub transfer_waits : TransferAddsWaiting
-transfer_waits d c y e is =
+pub transfer_adds_waiting : TransferAddsWaiting
+transfer_adds_waiting d c y e is =
     let joined = sum_by-append (λ z. cond (waits_for e z) 1 0) d.transfers (y ∷ []) in
     let last = count_cons e y [] in
     let same : count e c.transfers ≡ count e (d.transfers ++ y ∷ []) = ap (count e) is in
@@ -162,17 +162,17 @@ module _ (k : ℕ) where
   removed_same p (removed.Descriptor t) quiet = descriptor_same p t (slice_get p.driver.transfers t) refl
   removed_same p (removed.Endpoint e) quiet = absurd (true≢false quiet)
 
-pub quiet_waiting : QuietRowsKeepWaiting
-quiet_waiting rows.Lend p k quiet = advance_same k (record p.driver { book = (lend_taken (holding p.driver.book p.memory)).book })
-quiet_waiting (rows.Store b at v) p k quiet = advance_same k p.driver
-quiet_waiting (rows.ReleaseTransfer t) p k quiet = transfer_same k p t (slice_get p.driver.transfers t) (freed_by p.driver (holding p.driver.book p.memory) (slice_get p.driver.transfers t)) refl
-quiet_waiting (rows.ReleaseEndpoint e) p k quiet = absurd (true≢false quiet)
-quiet_waiting rows.Frames p k quiet = framed_same k p.driver p.registers.frame_index p.driver.command
-quiet_waiting rows.LendDescriptors p k quiet = advance_same k (record p.driver { book = (lend_taken (holding p.driver.book (linked_by p.driver p.memory p.driver.command))).book })
-quiet_waiting (rows.Unlink t) p k quiet = unlink_same k p t (slice_get p.driver.transfers t)
-quiet_waiting (rows.ReleaseRemoved what) p k quiet = removed_same k p what quiet
-quiet_waiting (rows.Harvest e t found) p k quiet = absurd (true≢false quiet)
-quiet_waiting _ p k quiet = refl
+pub quiet_rows_keep_waiting : QuietRowsKeepWaiting
+quiet_rows_keep_waiting rows.Lend p k quiet = advance_same k (record p.driver { book = (lend_taken (holding p.driver.book p.memory)).book })
+quiet_rows_keep_waiting (rows.Store b at v) p k quiet = advance_same k p.driver
+quiet_rows_keep_waiting (rows.ReleaseTransfer t) p k quiet = transfer_same k p t (slice_get p.driver.transfers t) (freed_by p.driver (holding p.driver.book p.memory) (slice_get p.driver.transfers t)) refl
+quiet_rows_keep_waiting (rows.ReleaseEndpoint e) p k quiet = absurd (true≢false quiet)
+quiet_rows_keep_waiting rows.Frames p k quiet = framed_same k p.driver p.registers.frame_index p.driver.command
+quiet_rows_keep_waiting rows.LendDescriptors p k quiet = advance_same k (record p.driver { book = (lend_taken (holding p.driver.book (linked_by p.driver p.memory p.driver.command))).book })
+quiet_rows_keep_waiting (rows.Unlink t) p k quiet = unlink_same k p t (slice_get p.driver.transfers t)
+quiet_rows_keep_waiting (rows.ReleaseRemoved what) p k quiet = removed_same k p what quiet
+quiet_rows_keep_waiting (rows.Harvest e t found) p k quiet = absurd (true≢false quiet)
+quiet_rows_keep_waiting _ p k quiet = refl
 
 -- ---- requests behind a stalled one
 

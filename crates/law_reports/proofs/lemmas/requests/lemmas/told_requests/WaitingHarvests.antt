@@ -101,11 +101,11 @@ module _ (e k : ℕ) (differs : e ≢ k) where
       lines_or (λ (d : DriverContent). Same p.driver (removed_with d e x (is_told x) (free_placed p.driver e x (holding p.driver.book p.memory)).book)) p.driver (is_told x) x.desc.name
       (cancelled_bytes p.driver.notes p.memory e x.queue p.driver.transfers) same same
 
-pub other_harvest_waits : OtherHarvestKeepsWaiting
-other_harvest_waits p e t found k differs = other_harvest e k differs p.driver p.memory t found (slice_get p.driver.endpoints e) (slice_get p.driver.transfers t) refl
+pub other_harvest_keeps_waiting : OtherHarvestKeepsWaiting
+other_harvest_keeps_waiting p e t found k differs = other_harvest e k differs p.driver p.memory t found (slice_get p.driver.endpoints e) (slice_get p.driver.transfers t) refl
 
-pub other_returns_wait : OtherReturnsKeepWaiting
-other_returns_wait p e k differs = (gone_other e k differs p (slice_get p.driver.endpoints e), removed_other e k differs p (slice_get p.driver.endpoints e))
+pub other_returns_keep_waiting : OtherReturnsKeepWaiting
+other_returns_keep_waiting p e k differs = (gone_other e k differs p (slice_get p.driver.endpoints e), removed_other e k differs p (slice_get p.driver.endpoints e))
 
 -- ---- of the endpoint itself
 
@@ -124,8 +124,8 @@ and_off false = refl
 one_less : (p : Parts) (e t : ℕ) (x : Endpoint) (y : Transfer) → IsHarvested p e t x y → suc (count_by (waits_for e) (set p.driver.transfers t (record y { reported = true }))) ≡ waiting p.driver e
 one_less p e t x y h = set_less e p.driver.transfers t y (record y { reported = true }) h.there h.waits (and_off (y.endpoint == e))
 
-pub harvest_keeps_waits : HarvestKeepsWaiting
-harvest_keeps_waits p e t n x y h = (
+pub harvest_keeps_waiting : HarvestKeepsWaiting
+harvest_keeps_waiting p e t n x y h = (
   found_waits p e t x y h (λ (i : ℕ). i ≡ waiting p.driver e) founds.Active refl,
   found_waits p e t x y h (λ (i : ℕ). i ≡ waiting p.driver e) (founds.Moved n) (set_same e p.driver.transfers t y _ h.there refl),
 )

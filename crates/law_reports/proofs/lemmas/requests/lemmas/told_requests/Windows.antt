@@ -72,8 +72,8 @@ have_front whole store (line ∷ ls) ws left none told is =
     let both = or_both (is_cancel line.what) (has_cancel ls) none in
     one_line whole store line ls ws left (takes_first whole line.what (bytes_of line store) ws both.0 told.0) (have_front whole store ls (left_by line.what ws) left both.1 told.1 is)
 
-pub windows_front : WindowsHaveFront
-windows_front reports store name whole ws left none k =
+pub windows_have_front : WindowsHaveFront
+windows_have_front reports store name whole ws left none k =
     let h = have_front whole store (lines_in name reports) ws left none k.told k.rest in (h.front, h.are, h.long)
 
 pub windows_grow : WindowsGrow

@@ -29,11 +29,11 @@ use Rattle.law_devices.specs.ring_requests.Shown.{hand_side, Works, Shows}
 use Rattle.law_devices.specs.ring_requests.Shown.Shows.{works, waits, halts}
 use Rattle.law_devices.specs.ring_requests.Windows.{Queue, Lines, IsQueue, Progress, Transaction, Advance, Step, opened, progressed, stepped, stage_of, is_done, IsStepOf}
 use Rattle.law_devices.specs.control_requests.Events.{IsControlStepOf, ControlWindowsGoOn}
-use Rattle.law_devices.proofs.lemmas.control_requests.Keeping.{control_windows}
+use Rattle.law_devices.proofs.lemmas.control_requests.Keeping.{an_event_keeps_the_windows}
 use Rattle.claims_report.specs.Controls.{control_of}
 use Rattle.law_devices.specs.scripted_requests.Controls.{transacts_by, begins_by}
-use Rattle.law_devices.proofs.lemmas.scripted_requests.Asking.{scripted_control}
-use Rattle.law_devices.proofs.lemmas.scripted_requests.Beginning.{scripted_begins}
+use Rattle.law_devices.proofs.lemmas.scripted_requests.Asking.{a_scripted_bus_answers_by_stages}
+use Rattle.law_devices.proofs.lemmas.scripted_requests.Beginning.{keeps_devices}
 use Rattle.bus_world.specs.World.{World, controller_parts, controller_next}
 use Rattle.claims_world.specs.Requests.{wired, setup_at, endpoint_of, Windows, acted_between, opened_by, begun_by, side_of, acted_with, acted_by, after_event}
 use Rattle.law_reports.specs.requests.world_requests.Requesting.{IsRequesting, HearsBytesNow}
@@ -264,8 +264,8 @@ pub recorder_follows : (fixed : Fixed) (base : Base) (member windows : ℕ → B
 recorder_follows fixed base member windows sent parts hand lines endpoint number w v heard k t r =
     let new : World = controller_next fixed w in
     let g : ControlWindowsGoOn begins_by transacts_by control_of base member windows sent lines parts hand (wired fixed w) (wired fixed new) (controller_parts new) =
-    control_windows begins_by transacts_by control_of base member windows sent lines parts hand (controller_parts w) (wired fixed w) (controller_parts new) (wired fixed new)
-    k.are scripted_control scripted_begins k.controlled k.on k.all (heard (wired fixed new)) (world_has_row fixed w) in
+    an_event_keeps_the_windows begins_by transacts_by control_of base member windows sent lines parts hand (controller_parts w) (wired fixed w) (controller_parts new) (wired fixed new)
+    k.are a_scripted_bus_answers_by_stages keeps_devices k.controlled k.on k.all (heard (wired fixed new)) (world_has_row fixed w) in
     record {
       stays = record { parts = g.event.now; hand = g.event.later; step = g.step; requesting = record { on = k.on; are = k.are; controlled = g.event.controlled; all = g.all }; halted = g.halted };
       recorded = event_kept fixed base member windows sent parts hand lines endpoint number w v k t r g g.event.effect g.is;

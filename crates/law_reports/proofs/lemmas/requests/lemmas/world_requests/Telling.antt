@@ -6,7 +6,7 @@ use Rattle.std.proofs.lemmas.List.{map-append}
 use Rattle.dev_control.specs.Stages.{Stages}
 use Rattle.claims_report.specs.Acts.{IsOnce}
 use Rattle.claims_report.specs.Requests.{Request, Window}
-use Rattle.law_request.proofs.Steps.{right}
+use Rattle.law_request.proofs.Steps.{window_is_right}
 use Rattle.claims_report.specs.ControlSides.{Device}
 use Rattle.drv_table.specs.DriverContent.{DriverContent}
 use Rattle.law_structures.specs.lent_structures.Structures.{StructureSets}
@@ -51,8 +51,8 @@ module _ (v : Queue) (number : ℕ → ℕ) (latest : Option ℕ) (acts : ℕ �
     line_once : i ≤ l.under → IsOnce (v.requests i).setup (l.line i).acts
     line_once upto =
         ⊎_elim {C = IsOnce (v.requests i).setup (l.line i).acts}
-        (λ (same : i ≡ l.under). subst (λ (j : ℕ). IsOnce (v.requests j).setup (l.line j).acts) (sym same) (right v.endpoint (v.requests l.under) (l.line l.under) q.window.stands).once)
-        (λ (differs : i ≢ l.under). (right v.endpoint (v.requests i) (l.line i) (q.finished i (omega (arith, upto, differs))).stands).once) (cases_eq i l.under)
+        (λ (same : i ≡ l.under). subst (λ (j : ℕ). IsOnce (v.requests j).setup (l.line j).acts) (sym same) (window_is_right v.endpoint (v.requests l.under) (l.line l.under) q.window.stands).once)
+        (λ (differs : i ≢ l.under). (window_is_right v.endpoint (v.requests i) (l.line i) (q.finished i (omega (arith, upto, differs))).stands).once) (cases_eq i l.under)
 
     once_by : (b : Bool) → nat_le i l.under ≡ b → IsOnce (v.requests i).setup (acts (number i))
     once_by true is = subst (IsOnce (v.requests i).setup) (sym (k.begun i (leb-true i l.under is))) (line_once (leb-true i l.under is))

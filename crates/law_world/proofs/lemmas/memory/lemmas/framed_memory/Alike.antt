@@ -11,7 +11,7 @@ use Rattle.claims_base.specs.Controller.{Base}
 use Rattle.law_frames.specs.Met.{Kind}
 use Rattle.law_frames.specs.FrameHand.{FrameHand}
 use Rattle.law_controller.specs.frame_control.Both.{RunsBoth}
-use Rattle.law_controller.proofs.lemmas.frame_stores.Beside.{both_further}
+use Rattle.law_controller.proofs.lemmas.frame_stores.Beside.{more_are_met_beside_ring}
 use Rattle.claims_driver.specs.Unlinked.{led_by}
 use Rattle.law_descriptors.specs.Meeting.{kind_of_descriptor, queue_begins, descriptor_begins, kind_by, standing_in, standing, or_recent, met}
 use Rattle.law_descriptors.proofs.Returning.{none_some}
@@ -27,7 +27,7 @@ alike_standing q r list split n =
 pub alike_runs : (base : Base) (member : ℕ → Bool) (recent : ℕ → Option Kind) (parts : StructureSets) (hand : Hand) (frame : FrameHand) (c : Content) (d f : DriverContent)
     → ((n : ℕ) → standing f n ≡ standing d n) → RunsBoth base member (met d recent) parts hand frame c → RunsBoth base member (met f recent) parts hand frame c
 alike_runs base member recent parts hand frame c d f same k =
-    both_further base member (met d recent) (met f recent) parts hand frame c k (λ n kind on. alike n ∙ on) (λ n kind on none. absurd (none_some kind (sym none ∙ (sym (alike n) ∙ on))))
+    more_are_met_beside_ring base member (met d recent) (met f recent) parts hand frame c k (λ n kind on. alike n ∙ on) (λ n kind on none. absurd (none_some kind (sym none ∙ (sym (alike n) ∙ on))))
   where
     alike : (n : ℕ) → met f recent n ≡ met d recent n
     alike n = ap (λ (o : Option Kind). or_recent o (recent n)) (same n)

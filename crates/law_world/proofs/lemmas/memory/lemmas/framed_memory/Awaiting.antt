@@ -17,7 +17,7 @@ use Rattle.drv_table.specs.Commands.{command_row, link_row, no_command, list_aft
 use Rattle.drv_table.specs.Rows.{row_for, driver_row, after_driver_row}
 use Rattle.drv_table.specs.FrameChoice.{framed_notes, with_notes, placement_at, framed_by, linked_by}
 use Rattle.law_frame_list.proofs.lemmas.list_driver.Coming.{row_comes}
-use Rattle.law_descriptors.proofs.LendStaying.{written_stay, frames_await}
+use Rattle.law_descriptors.proofs.LendStaying.{written_stay, frames_await_lend}
 use Rattle.law_world.specs.memory.framed_memory.Isochronous.{AwaitsLend}
 use Rattle.law_world.specs.memory.framed_memory.IsochronousLaws.{NewAwaitsNothing, EventsKeepAwaiting, WritesKeepAwaiting}
 
@@ -26,13 +26,13 @@ use Rattle.law_world.specs.memory.framed_memory.IsochronousLaws.{NewAwaitsNothin
 none_some : (c : Command) → ◌≡◌ {A = Option Command} None (Some c) → ⊥
 none_some c is = cc
 
-pub new_awaits : NewAwaitsNothing
-new_awaits n room m e t count is few = absurd (none_some (unfinished.Iso e t count) is)
+pub new_awaits_nothing : NewAwaitsNothing
+new_awaits_nothing n room m e t count is few = absurd (none_some (unfinished.Iso e t count) is)
 
 -- ---- the controller
 
-pub writes_await : WritesKeepAwaiting
-writes_await d m new stands same old e t count is few =
+pub writes_keep_awaiting : WritesKeepAwaiting
+writes_keep_awaiting d m new stands same old e t count is few =
     let a : AwaitsLend d m e t = old e t count is few in
     record { endpoint = a.endpoint; here = a.here; await = written_stay d m new t a.endpoint.desc a.await stands same }
 
@@ -113,13 +113,13 @@ frames_wait : (p : Parts) (e t count : ℕ) → p.driver.command ≡ Some (unfin
 frames_wait p e t count is at a = record {
   endpoint = a.endpoint;
   here = ap (λ (xs : List Endpoint). slice_get xs e) (framed_endpoints p.driver p.registers.frame_index e t count is at) ∙ a.here;
-  await = frames_await p t a.endpoint.desc a.await at;
+  await = frames_await_lend p t a.endpoint.desc a.await at;
 }
 
 -- ---- any event
 
-pub events_await : EventsKeepAwaiting
-events_await p old e t count is few = by p.driver.made refl
+pub events_keep_awaiting : EventsKeepAwaiting
+events_keep_awaiting p old e t count is few = by p.driver.made refl
   where
     was : p.driver.command ≡ Some (unfinished.Iso e t count)
     was = row_comes (driver_row p) p (unfinished.Iso e t count) is

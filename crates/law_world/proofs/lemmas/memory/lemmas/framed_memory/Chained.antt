@@ -159,6 +159,6 @@ module _ (base : Base) (member : ℕ → Bool) (recent : ℕ → Option Kind) (d
             (λ t y at. ap (λ (f : Offered). slice_get f.driver.transfers t) is ∙ at) (ap (λ (f : Offered). f.driver.periodic.removals) is) k.recent_are;
       }
 
-pub chain_now : ChainKeepsNow
-chain_now base member recent descs parts hand frame c d cmd o k why room is =
+pub chain_keeps_now : ChainKeepsNow
+chain_keeps_now base member recent descs parts hand frame c d cmd o k why room is =
     accepted base member recent descs parts hand frame c d cmd o k (chained base member recent descs parts hand frame c d o k why) room is

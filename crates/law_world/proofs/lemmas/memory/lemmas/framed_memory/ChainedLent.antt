@@ -59,14 +59,14 @@ use Rattle.law_descriptors.specs.Meeting.{kind_of, standing, or_recent, met}
 use Rattle.law_descriptors.specs.ListRows.{leaves_by, leaves_now, recent_with, HasQueue, Comes, ComesFirst}
 use Rattle.law_descriptors.proofs.Standing.{both_off}
 use Rattle.law_descriptors.proofs.Telling.{queue_off}
-use Rattle.law_descriptors.proofs.Rings.{ring_of_queues}
+use Rattle.law_descriptors.proofs.Rings.{ring_is_of_queues}
 use Rattle.law_descriptors.proofs.ListRows.{either_if}
 use Rattle.law_world.specs.memory.framed_memory.Now.{IsFramedNow, FramedNext, recent_then}
 use Rattle.law_world.proofs.lemmas.memory.lemmas.framed_memory.StillStanding.{idle_work}
 use Rattle.law_world.specs.memory.framed_memory.QueueRows.{chained_runs, chained_head}
 use Rattle.law_world.specs.memory.framed_memory.Chained.{chained_queue, IsChainReady, ChainBecomesReady, ChainReadyStays, chained_parts, IsChainLent, ChainLends, ChainComesFirst, ChainStaysLent, ChainLinksOn}
 use Rattle.law_world.proofs.lemmas.memory.lemmas.framed_memory.Chains.{chain_is_ready}
-use Rattle.law_world.proofs.lemmas.memory.lemmas.framed_memory.OpenLends.{lend_open_now}
+use Rattle.law_world.proofs.lemmas.memory.lemmas.framed_memory.OpenLends.{lend_open_keeps_now}
 
 -- ---- it is to be lent
 
@@ -181,7 +181,7 @@ module _ (base : Base) (member : ℕ → Bool) (recent : ℕ → Option Kind) (d
       ∙ ap (λ (i : ℕ). cond (true && nat_le 1 i) (link_row (next_store d.periodic.list)) (command_row unfinished.Chain i)) r.made
 
   pub framed : FramedNext base member recent descs then hand frame c d
-  framed = lend_open_now base member recent descs parts hand frame c d r.number x q k row_is r.opened
+  framed = lend_open_keeps_now base member recent descs parts hand frame c d r.number x q k row_is r.opened
 
   -- ---- the driver then
 
@@ -210,7 +210,11 @@ module _ (base : Base) (member : ℕ → Bool) (recent : ℕ → Option Kind) (d
   old = record { owners = k.framed.place.sound.owners; driven = k.framed.driven; described = k.framed.described }
 
   drives : DrivesRing base member parts hand (walk_place c) d
-  drives = record { ring = ring_of_queues d descs parts base member hand (walk_place c) old k.framed.runs.ring; driven = k.framed.driven }
+  drives = record {
+    ring = ring_is_of_queues d descs parts base member hand (walk_place c) old k.framed.runs.ring;
+    driven =
+        k.framed.driven;
+  }
 
   unmet : (member n ≡ false) × ((b : ℕ) → then n b ≡ opened_part x q b)
   unmet = open_is_unmet base member parts hand (walk_place c) d c.memory r.number x q r.opened k.framed.place.sound.owners drives

@@ -29,8 +29,8 @@ use Rattle.drv_table.specs.Releases.{freed_by}
 use Rattle.drv_table.specs.Rows.{row_for, driver_row, after_driver_row}
 use Rattle.law_driver.specs.run_owners.Accepts.{Chains, Accepts, opens, chains, places, transfers, describes, cancels, unchains, Unchains}
 use Rattle.law_driver.specs.run_owners.Due.{IsDue, IsLinkOf}
-use Rattle.law_driver.proofs.lemmas.run_owners.Commands.{accepted_for_a_reason}
-use Rattle.law_driver.proofs.lemmas.run_owners.Reasons.{each_is_due}
+use Rattle.law_driver.proofs.lemmas.run_owners.Commands.{each_command_has_its_reason}
+use Rattle.law_driver.proofs.lemmas.run_owners.Reasons.{each_event_is_due}
 use Rattle.hc_core.specs.Controller.{Content}
 use Rattle.law_structures.specs.lent_structures.Structures.{StructureSets}
 use Rattle.law_ring.specs.Hand.{Hand}
@@ -44,8 +44,8 @@ use Rattle.law_descriptors.specs.ListRows.{leaves_now, recent_with}
 use Rattle.law_descriptors.proofs.Chained.{transfer_command, unlink_command, endpoint_command, removed_command, harvest_command, out_of_ring}
 use Rattle.law_world.specs.memory.framed_memory.Now.{IsFramedNow, reads_alone}
 use Rattle.law_world.specs.memory.framed_memory.NowRows.{FramedLinked}
-use Rattle.law_world.proofs.lemmas.memory.lemmas.framed_memory.Now.{registers_now}
-use Rattle.law_world.proofs.lemmas.memory.lemmas.framed_memory.NowRows.{link_now}
+use Rattle.law_world.proofs.lemmas.memory.lemmas.framed_memory.Now.{registers_keep_now}
+use Rattle.law_world.proofs.lemmas.memory.lemmas.framed_memory.NowRows.{link_keeps_now}
 use Rattle.law_world.specs.memory.framed_memory.Chained.{IsChainReady, chained_parts, IsChainLent, ChainStands, NewChainStands, AcceptedChainStands, OtherChainStands, ChainStandsBeside, ChainGoesOn, lends, stores, rests, ChainGoesOnNow, ChainedHeadIsInRange}
 use Rattle.law_world.proofs.lemmas.memory.lemmas.framed_memory.ChainedLent.{chain_becomes_ready, chain_ready_stays, row_is, framed, driver_begun, lent_then, chain_comes_first, chain_stays_lent, chain_links_on}
 
@@ -134,7 +134,7 @@ to_none d none = none
 
 pub other_chain_stands : OtherChainStands
 other_chain_stands c d m member recent parts none =
-    stands_none (next_parts c d).driver m member recent parts (row_goes (driver_row (parts_of c d)) (parts_of c d) (each_is_due (parts_of c d)) (to_none d none))
+    stands_none (next_parts c d).driver m member recent parts (row_goes (driver_row (parts_of c d)) (parts_of c d) (each_event_is_due (parts_of c d)) (to_none d none))
 
 pub new_chain_stands : NewChainStands
 new_chain_stands n room m member recent parts is = absurd (cc)
@@ -164,7 +164,7 @@ module _ (d : DriverContent) (m : Mem) (o : Offered) (member : ℕ → Bool) (re
 
 pub accepted_chain_stands : AcceptedChainStands
 accepted_chain_stands d m cmd o member recent parts place range is =
-    by_reason d m o member recent parts (accepted_for_a_reason d m cmd o is) (λ why. chain_becomes_ready m d o why place (range why))
+    by_reason d m o member recent parts (each_command_has_its_reason d m cmd o is) (λ why. chain_becomes_ready m d o why place (range why))
 
 -- ---- an event of the controller
 
@@ -229,7 +229,7 @@ module _ (base : Base) (member : ℕ → Bool) (recent : ℕ → Option Kind) (d
   stored : (r : IsChainLent d member recent parts) (why : IsLinkOf (parts_of c d) (driver_row (parts_of c d))) → ChainGoesOn base member recent descs parts hand frame c d
   stored r why =
       let e : FramedLinked base member recent descs parts hand frame c d why.store =
-      link_now base member recent descs parts hand frame c d k why (λ same. chain_comes_first base member recent descs parts hand frame c d k r) in
+      link_keeps_now base member recent descs parts hand frame c d k why (λ same. chain_comes_first base member recent descs parts hand frame c d k r) in
       stores why e (by e (is_more d.periodic.list.members.schedule r.work) refl)
     where
       by : (e : FramedLinked base member recent descs parts hand frame c d why.store) (b : Bool) → is_more d.periodic.list.members.schedule r.work ≡ b
@@ -243,7 +243,7 @@ module _ (base : Base) (member : ℕ → Bool) (recent : ℕ → Option Kind) (d
 
   rested : (r : IsChainLent d member recent parts) → driver_row (parts_of c d) ≡ rows.Rest → ChainGoesOn base member recent descs parts hand frame c d
   rested r is =
-      rests is (registers_now base member recent descs parts hand frame c d k (ap reads_alone is))
+      rests is (registers_keep_now base member recent descs parts hand frame c d k (ap reads_alone is))
       (subst (λ (f : DriverContent). ChainStands f (next_parts c d).memory member recent parts) (sym (ap (λ (row : DriverRow). (after_driver_row row (parts_of c d)).driver) is)) (λ same. inr r))
 
   of_lent : IsChainLent d member recent parts → ChainGoesOn base member recent descs parts hand frame c d
@@ -263,8 +263,8 @@ module _ (base : Base) (member : ℕ → Bool) (recent : ℕ → Option Kind) (d
             is = row_then r.made ∙ ap link_row is;
           })
 
-pub chain_goes_on : ChainGoesOnNow
-chain_goes_on base member recent descs parts hand frame c d k command stands =
+pub chain_goes_on_now : ChainGoesOnNow
+chain_goes_on_now base member recent descs parts hand frame c d k command stands =
     ⊎_elim (of_ready base member recent descs parts hand frame c d k command) (of_lent base member recent descs parts hand frame c d k command) (stands command)
 
 -- ---- the fields of the queue head
@@ -277,8 +277,8 @@ either_below : (b : Bool) (n k : ℕ) → n < suc k → (if b then 0 else n) < s
 either_below true n k below = omega arith
 either_below false n k below = below
 
-pub chained_head_range : ChainedHeadIsInRange
-chained_head_range x p link dummy fits most port multi masks =
+pub chained_head_is_in_range : ChainedHeadIsInRange
+chained_head_is_in_range x p link dummy fits most port multi masks =
     let hub : (if is_high x.speed then 0 else unwrap_or x.hub 0) < 128 = either_below (is_high x.speed) (unwrap_or x.hub 0) 127 fits.hub in
     let place : (if is_high x.speed then 0 else x.port) < 128 = either_below (is_high x.speed) x.port 127 (omega (arith, port)) in (
       (omega arith, (omega arith, tt)),

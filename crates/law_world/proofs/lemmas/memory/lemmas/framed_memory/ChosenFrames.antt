@@ -13,7 +13,7 @@ use Rattle.drv_table.specs.Commands.{events_of, linked_on, advanced_by}
 use Rattle.drv_table.specs.FrameChoice.{framed_notes, with_notes, placement_at, framed_by}
 use Rattle.claims_driver.specs.Owners.{DescriptorRuns}
 use Rattle.law_driver.specs.run_owners.Due.{IsDue, IsNextOf}
-use Rattle.law_driver.proofs.lemmas.run_owners.Reasons.{each_is_due}
+use Rattle.law_driver.proofs.lemmas.run_owners.Reasons.{each_event_is_due}
 use Rattle.law_driver.proofs.lemmas.run_owners.Stays.{framed}
 use Rattle.law_structures.specs.lent_structures.Structures.{StructureSets}
 use Rattle.law_ring.specs.Hand.{Hand}
@@ -25,7 +25,7 @@ use Rattle.law_descriptors.specs.Both.{both}
 use Rattle.law_descriptors.specs.Meeting.{standing}
 use Rattle.law_descriptors.specs.Recent.{AreRecent, driver_after}
 use Rattle.law_descriptors.proofs.Others.{rows_told}
-use Rattle.law_descriptors.proofs.Storing.{frame_read}
+use Rattle.law_descriptors.proofs.Storing.{read_frame_drives}
 use Rattle.law_world.specs.memory.framed_memory.Now.{IsFramedNow}
 use Rattle.law_world.specs.memory.framed_memory.IsochronousLaws.{FramesKeepNow}
 use Rattle.law_world.proofs.lemmas.memory.lemmas.framed_memory.Now.{RowLeaves, next_now, told_now, drives_now}
@@ -73,7 +73,8 @@ frames_leave_now base member recent descs parts hand frame c d k due =
     let l : LeavesList index recent d f
     = subst (λ (o : Option Command). LeavesList index recent d (framed_by d index o)) (sym due.unfinished)
     (frames_leave c d recent due.command due.unfinished due.next k.recent_are
-    (frame_read base member recent descs parts hand frame c d (drives_now base member recent descs parts hand frame c d k)).recent_are) in
+    (read_frame_drives base member recent descs parts hand frame c d
+    (drives_now base member recent descs parts hand frame c d k)).recent_are) in
     let same : (n : ℕ) → standing f n ≡ standing d n
     = alike_standing d.periodic f.periodic l.list (λ b. ap (λ (r : DescriptorRuns). r.split) ((framed d index d.command).same.buffers b)) in
     record {
@@ -83,9 +84,9 @@ frames_leave_now base member recent descs parts hand frame c d k due =
       apart = λ n kind on. same n ∙ k.apart n kind on;
     }
 
-pub frames_now : FramesKeepNow
-frames_now base member recent descs parts hand frame c d k is =
+pub frames_keep_now : FramesKeepNow
+frames_keep_now base member recent descs parts hand frame c d k is =
     let p : Parts = parts_of c d in
-    let due : IsNextOf p rows.Frames = subst (IsDue p) is (each_is_due p) in
+    let due : IsNextOf p rows.Frames = subst (IsDue p) is (each_event_is_due p) in
     next_now base member recent recent descs parts descs parts hand hand frame frame c d k
     (subst (λ (row : DriverRow). RowLeaves base member recent descs parts hand frame c d row) (sym is) (frames_leave_now base member recent descs parts hand frame c d k due))

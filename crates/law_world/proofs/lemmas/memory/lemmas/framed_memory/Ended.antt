@@ -46,5 +46,5 @@ orderly_ended d orderly = record {
   removed_ended = λ i e r x here what there. not_none x.ended (removed_is_ended d e x orderly (is_removed d i e r orderly here what) there);
 }
 
-pub owners_ended : OwnersTellLeaving
-owners_ended d has = orderly_ended d has.orderly
+pub owners_tell_leaving : OwnersTellLeaving
+owners_tell_leaving d has = orderly_ended d has.orderly

@@ -25,7 +25,7 @@ use Rattle.drv_table.specs.Parts.{Parts}
 use Rattle.drv_table.specs.Harvesting.{served, told_with, mends_of, behind_one, behind, after_end, harvested_as, after_harvest}
 use Rattle.claims_driver.specs.Owners.{TransferRuns, runs_of_transfer, transfer_in}
 use Rattle.law_driver.specs.run_owners.Due.{IsDue, IsHarvestDue}
-use Rattle.law_driver.proofs.lemmas.run_owners.Reasons.{each_is_due}
+use Rattle.law_driver.proofs.lemmas.run_owners.Reasons.{each_event_is_due}
 use Rattle.law_driver.proofs.lemmas.run_owners.Released.{set_there}
 use Rattle.law_driver.proofs.lemmas.run_owners.Harvest.{waits_is}
 use Rattle.law_driver.proofs.lemmas.run_owners.Stays.{harvest_stays}
@@ -44,7 +44,7 @@ use Rattle.law_descriptors.proofs.Returning.{none_some}
 use Rattle.law_world.specs.memory.framed_memory.Now.{IsFramedNow}
 use Rattle.law_world.specs.memory.framed_memory.IsochronousLaws.{HarvestKeepsNow}
 use Rattle.law_world.proofs.lemmas.memory.lemmas.framed_memory.Now.{RowLeaves, next_now, told_now}
-use Rattle.law_world.proofs.lemmas.memory.lemmas.framed_memory.Ended.{owners_ended}
+use Rattle.law_world.proofs.lemmas.memory.lemmas.framed_memory.Ended.{owners_tell_leaving}
 use Rattle.law_world.proofs.lemmas.memory.lemmas.framed_memory.Alike.{alike_standing, alike_runs}
 
 -- ---- the transfers of other endpoints
@@ -202,14 +202,14 @@ harvest_leaves_now base member recent descs parts hand frame c d e t found k due
       told = rows_told p descs parts (rows.Harvest e t found) refl (told_now base member recent descs parts hand frame c d k);
       recent_are = harvest_recent d f e c.registers.frame_index recent l
           (harvest_stays d c.memory e t found (slice_get d.endpoints e) (slice_get d.transfers t) refl refl).same.transfers
-          (λ i r here what. (owners_ended d k.framed.place.sound.owners).removed_ended i e r due.endpoint here what due.here due.goes_on) due.idle k.recent_are;
+          (λ i r here what. (owners_tell_leaving d k.framed.place.sound.owners).removed_ended i e r due.endpoint here what due.here due.goes_on) due.idle k.recent_are;
       apart = λ n kind on. same n ∙ k.apart n kind on;
     }
 
 -- who has left its frames has ended: the driver's content tells it
-pub harvest_now : HarvestKeepsNow
-harvest_now base member recent descs parts hand frame c d e t found k is =
+pub harvest_keeps_now : HarvestKeepsNow
+harvest_keeps_now base member recent descs parts hand frame c d e t found k is =
     let p : Parts = parts_of c d in
-    let due : IsHarvestDue p e t found = subst (IsDue p) is (each_is_due p) in
+    let due : IsHarvestDue p e t found = subst (IsDue p) is (each_event_is_due p) in
     next_now base member recent recent descs parts descs parts hand hand frame frame c d k
     (subst (λ (row : DriverRow). RowLeaves base member recent descs parts hand frame c d row) (sym is) (harvest_leaves_now base member recent descs parts hand frame c d e t found k due))

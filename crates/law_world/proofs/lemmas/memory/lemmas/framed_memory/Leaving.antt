@@ -28,12 +28,12 @@ use Rattle.law_descriptors.specs.Told.{with_memory}
 use Rattle.law_descriptors.specs.Meeting.{standing_in, or_recent, met}
 use Rattle.law_descriptors.specs.Recent.{AreRecent}
 use Rattle.law_descriptors.specs.Returned.{IsGivenBack}
-use Rattle.law_descriptors.proofs.GivenRow.{row_is_given_back}
-use Rattle.law_descriptors.proofs.GivenRecent.{endpoint_recent}
+use Rattle.law_descriptors.proofs.GivenRow.{row_gives_back_passed}
+use Rattle.law_descriptors.proofs.GivenRecent.{endpoint_leaves_recent}
 use Rattle.law_world.specs.memory.framed_memory.Now.{IsFramedNow}
 use Rattle.law_world.proofs.lemmas.memory.lemmas.framed_memory.Now.{RowLeaves, next_now}
 use Rattle.law_world.specs.memory.framed_memory.Leaving.{EndpointLeavesNow}
-use Rattle.law_world.proofs.lemmas.memory.lemmas.framed_memory.LeavingUnmet.{still_kept, interrupt_unmet}
+use Rattle.law_world.proofs.lemmas.memory.lemmas.framed_memory.LeavingUnmet.{still_kept, interrupt_is_unmet}
 use Rattle.law_world.proofs.lemmas.memory.lemmas.framed_memory.LeavingViews.{IsWithout}
 use Rattle.law_world.proofs.lemmas.memory.lemmas.framed_memory.LeavingRuns.{told_beside, runs_then}
 use Rattle.law_world.proofs.lemmas.memory.lemmas.framed_memory.LeavingRows.{LeavesAt, row_leaves, placed_then}
@@ -67,7 +67,7 @@ module _ (base : Base) (member : ℕ → Bool) (recent : ℕ → Option Kind) (d
   same = cancel_same d c.memory e x
 
   given : IsGivenBack p (removed.Endpoint e)
-  given = row_is_given_back p (removed.Endpoint e) is
+  given = row_gives_back_passed p (removed.Endpoint e) is
 
   after_is : after_driver_row row p ≡ later
   after_is = ap (after_placed p e) here
@@ -89,7 +89,7 @@ module _ (base : Base) (member : ℕ → Bool) (recent : ℕ → Option Kind) (d
   kept = still_kept p c.registers.frame_index e x k.framed.place.sound.owners given here
 
   unmet : met d recent (32 * x.queue) ≡ None
-  unmet = interrupt_unmet p recent c.registers.frame_index e x k.framed.place.sound.owners k.framed.place.sound.listed k.recent_are given here queued
+  unmet = interrupt_is_unmet p recent c.registers.frame_index e x k.framed.place.sound.owners k.framed.place.sound.listed k.recent_are given here queued
 
   placed : IsInPlace freed.memory f
   placed = subst (λ (i : Holding). IsInPlace i.memory f) freed_is (placed_then p later row is after_is k.framed.place)
@@ -107,7 +107,7 @@ module _ (base : Base) (member : ℕ → Bool) (recent : ℕ → Option Kind) (d
     runs = runs_later;
     told = told_beside base member recent descs parts hand frame c d e x k here queued kept off unmet f without;
     recent_are = subst (λ (q : Parts). AreRecent q.driver c.registers.frame_index recent) after_is
-        (endpoint_recent p recent c.registers.frame_index e x k.framed.place.sound.owners given here k.recent_are);
+        (endpoint_leaves_recent p recent c.registers.frame_index e x k.framed.place.sound.owners given here k.recent_are);
     apart = λ i kind on. ap (λ (q : PeriodicContent). standing_in q i) same.periodic ∙ k.apart i kind on;
   }
 

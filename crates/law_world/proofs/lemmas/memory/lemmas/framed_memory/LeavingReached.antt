@@ -62,8 +62,8 @@ owes_none : (x : Endpoint) → is_periodic x.desc.kind ≡ true → leaves_ring 
 owes_none x frames =
     ap (λ (b : Bool). cond {A = ℕ} (x.linked || x.gone || b) 0 1) frames ∙ ap (λ (b : Bool). cond {A = ℕ} b 0 1) (or_true (x.linked || x.gone))
 
-pub interrupt_unreached : InterruptIsUnreached
-interrupt_unreached d rings e x has here queued frames kept = unreached d rings e x has here queued kept linked none
+pub interrupt_is_unreached : InterruptIsUnreached
+interrupt_is_unreached d rings e x has here queued frames kept = unreached d rings e x has here queued kept linked none
   where
     linked : x.linked ≡ false
     linked = false_from_ne_true x.linked (λ on. true≢false (sym frames ∙ (has.orderly.steady e x here).ring on))
@@ -85,8 +85,8 @@ owes_most : (b : Bool) → cond b 0 1 ≤ 1
 owes_most true = omega arith
 owes_most false = omega arith
 
-pub cleared_unreached : ClearedIsUnreached
-cleared_unreached d rings i e x has at here = unreached d rings e x has here queued kept linked none
+pub cleared_is_unreached : ClearedIsUnreached
+cleared_is_unreached d rings i e x has at here = unreached d rings e x has here queued kept linked none
   where
     left : IsLeft d.endpoints e
     left = let some = times_at e d.cleared i at in let most = has.orderly.leaving e in has_left d.endpoints e (slice_get d.endpoints e) refl (omega (arith, some, most))

@@ -15,7 +15,7 @@ use Rattle.drv_table.specs.Rows.{driver_row, after_driver_row}
 use Rattle.law_driver.specs.run_owners.Due.{IsDue, IsEndpointDue}
 use Rattle.law_driver.proofs.lemmas.run_owners.Orders.{IsLeft}
 use Rattle.law_driver.proofs.lemmas.run_owners.Leaves.{first_left}
-use Rattle.law_driver.proofs.lemmas.run_owners.Reasons.{each_is_due}
+use Rattle.law_driver.proofs.lemmas.run_owners.Reasons.{each_event_is_due}
 use Rattle.law_driver.proofs.lemmas.run_owners.Released.{AreUntouched, cancel_same}
 use Rattle.law_driver.proofs.lemmas.run_owners.Rows.{not_iso}
 use Rattle.hc_core.specs.Controller.{Content}
@@ -36,7 +36,7 @@ use Rattle.law_descriptors.specs.Recent.{AreRecent}
 use Rattle.law_world.specs.memory.framed_memory.Now.{IsFramedNow}
 use Rattle.law_world.proofs.lemmas.memory.lemmas.framed_memory.Now.{RowLeaves, next_now}
 use Rattle.law_world.specs.memory.framed_memory.Leaving.{EndpointReleaseNow}
-use Rattle.law_world.proofs.lemmas.memory.lemmas.framed_memory.LeavingUnmet.{ring_unmet}
+use Rattle.law_world.proofs.lemmas.memory.lemmas.framed_memory.LeavingUnmet.{ring_is_unmet}
 use Rattle.law_world.proofs.lemmas.memory.lemmas.framed_memory.LeavingViews.{IsWithout}
 use Rattle.law_world.proofs.lemmas.memory.lemmas.framed_memory.LeavingRuns.{still_removed, told_beside, runs_then}
 use Rattle.law_world.proofs.lemmas.memory.lemmas.framed_memory.LeavingRows.{LeavesAt, row_leaves, placed_then}
@@ -73,7 +73,7 @@ module _ (base : Base) (member : ℕ → Bool) (recent : ℕ → Option Kind) (d
   same = cancel_same d c.memory e x
 
   due : IsEndpointDue p e
-  due = subst (IsDue p) is (each_is_due p)
+  due = subst (IsDue p) is (each_event_is_due p)
 
   left : IsLeft d.endpoints e
   left = first_left e due.first k.framed.place.sound.owners.orderly
@@ -108,7 +108,7 @@ module _ (base : Base) (member : ℕ → Bool) (recent : ℕ → Option Kind) (d
 
   unmet : met d recent (32 * x.queue) ≡ None
   unmet = subst (λ (z : Endpoint). met d recent (32 * z.queue) ≡ None) left_is
-      (ring_unmet d recent c.registers.frame_index e left.endpoint k.framed.place.sound.owners k.framed.place.sound.listed k.recent_are due.idle left.here left.ring left.gone)
+      (ring_is_unmet d recent c.registers.frame_index e left.endpoint k.framed.place.sound.owners k.framed.place.sound.listed k.recent_are due.idle left.here left.ring left.gone)
 
   placed : IsInPlace freed.memory f
   placed = placed_then p later row is after_is k.framed.place

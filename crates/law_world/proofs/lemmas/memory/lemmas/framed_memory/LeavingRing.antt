@@ -2,17 +2,17 @@
 use Rattle.std.proofs.Common.{ap, sym, ◌∙◌}
 use Rattle.std.proofs.lemmas.Bool.{true≢false, false_from_ne_true}
 use Rattle.claims_driver.specs.Walk.{IsWalkIn}
-use Rattle.law_driver_ring.proofs.lemmas.walk_members.Driving.{driver_walk}
+use Rattle.law_driver_ring.proofs.lemmas.walk_members.Driving.{the_driver_leaves_the_walk}
 use Rattle.law_queues.proofs.lemmas.reached_rings.Narrowing.{narrow_ring}
 use Rattle.hc_core.specs.Controller.{walk_place}
 use Rattle.law_queues.specs.shared_memory.Shared.{parts_of, next_parts, after_driver}
 use Rattle.law_descriptors.specs.Both.{both}
 use Rattle.law_world.specs.memory.framed_memory.Now.{FramedNext, reads_alone}
-use Rattle.law_world.proofs.lemmas.memory.lemmas.framed_memory.Now.{registers_now}
+use Rattle.law_world.proofs.lemmas.memory.lemmas.framed_memory.Now.{registers_keep_now}
 use Rattle.law_world.specs.memory.framed_memory.Leaving.{NarrowKeepsNow, ClearNarrowsNow}
 
-pub narrow_now : NarrowKeepsNow
-narrow_now base member narrow recent descs parts hand frame c d k walk fewer are =
+pub narrow_keeps_now : NarrowKeepsNow
+narrow_keeps_now base member narrow recent descs parts hand frame c d k walk fewer are =
     let runs = k.framed.runs in
     record {
       framed = record {
@@ -45,6 +45,6 @@ narrow_now base member narrow recent descs parts hand frame c d k walk fewer are
 
 pub clear_narrows_now : ClearNarrowsNow
 clear_narrows_now base member narrow recent descs parts hand frame c d k is walk bell fewer are =
-    let then : FramedNext base member recent descs parts hand frame c d = registers_now base member recent descs parts hand frame c d k (ap reads_alone is) in
-    let walks : IsWalkIn (next_parts c d).driver (next_parts c d).registers c.control.walk = driver_walk (parts_of c d) c.control.walk bell walk in
-    narrow_now base member narrow recent descs parts hand frame (after_driver c d) (next_parts c d).driver then walks fewer are
+    let then : FramedNext base member recent descs parts hand frame c d = registers_keep_now base member recent descs parts hand frame c d k (ap reads_alone is) in
+    let walks : IsWalkIn (next_parts c d).driver (next_parts c d).registers c.control.walk = the_driver_leaves_the_walk (parts_of c d) c.control.walk bell walk in
+    narrow_keeps_now base member narrow recent descs parts hand frame (after_driver c d) (next_parts c d).driver then walks fewer are

@@ -10,7 +10,7 @@ use Rattle.law_structures.specs.lent_structures.Structures.{StructureSets}
 use Rattle.law_ring.specs.Hand.{Hand}
 use Rattle.claims_base.specs.Controller.{Base}
 use Rattle.law_driver.specs.in_place.InPlace.{IsInPlace}
-use Rattle.law_driver.proofs.lemmas.in_place.Laws.{event_in_place}
+use Rattle.law_driver.proofs.lemmas.in_place.Laws.{events_keep_all_in_place}
 use Rattle.law_queues.specs.shared_memory.Shared.{parts_of}
 use Rattle.law_frames.specs.Met.{Kind}
 use Rattle.law_frames.specs.FrameHand.{FrameHand}
@@ -38,4 +38,4 @@ row_leaves base member recent descs now hand frame c d row q is at =
 -- everything is in place after the row
 pub placed_then : (p q : Parts) (row : DriverRow) → driver_row p ≡ row → after_driver_row row p ≡ q → IsInPlace p.memory p.driver → IsInPlace q.memory q.driver
 placed_then p q row is after old =
-    subst (λ (r : Parts). IsInPlace r.memory r.driver) after (subst (λ (r : DriverRow). IsInPlace (after_driver_row r p).memory (after_driver_row r p).driver) is (event_in_place p old))
+    subst (λ (r : Parts). IsInPlace r.memory r.driver) after (subst (λ (r : DriverRow). IsInPlace (after_driver_row r p).memory (after_driver_row r p).driver) is (events_keep_all_in_place p old))

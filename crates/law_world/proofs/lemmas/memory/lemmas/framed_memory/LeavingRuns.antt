@@ -26,14 +26,14 @@ use Rattle.law_frames.specs.Met.{Kind, AQueue, IsMetQueue}
 use Rattle.law_frames.specs.FrameHand.{FrameHand}
 use Rattle.law_controller.specs.frame_control.Both.{RunsBoth}
 use Rattle.law_controller.specs.frame_stores.Stores.{LeavesMembers}
-use Rattle.law_controller.proofs.lemmas.frame_stores.Beside.{ring_beside}
+use Rattle.law_controller.proofs.lemmas.frame_stores.Beside.{other_owners_leave_ring}
 use Rattle.law_descriptors.specs.Described.{AreHeld}
 use Rattle.law_descriptors.specs.Both.{both}
 use Rattle.law_descriptors.specs.PartLaws.{IsDescribing}
 use Rattle.law_descriptors.specs.Told.{IsToldBy, with_memory}
 use Rattle.law_descriptors.specs.Meeting.{met}
 use Rattle.law_descriptors.specs.Removed.{IsRemovedAt, a_descriptor, a_queue, a_waiting}
-use Rattle.law_descriptors.proofs.Rings.{ring_of_queues}
+use Rattle.law_descriptors.proofs.Rings.{ring_is_of_queues}
 use Rattle.law_descriptors.proofs.Telling.{descriptor_found}
 use Rattle.law_world.specs.memory.framed_memory.Now.{IsFramedNow}
 use Rattle.law_world.proofs.lemmas.memory.lemmas.framed_memory.Moving.{queues_move, StaysSound}
@@ -109,13 +109,13 @@ module _ (base : Base) (member : ℕ → Bool) (recent : ℕ → Option Kind) (d
   -- ---- the ring
 
   was : IsRing base member parts hand (walk_place c)
-  was = ring_of_queues d descs parts base member hand (walk_place c) old k.framed.runs.ring
+  was = ring_is_of_queues d descs parts base member hand (walk_place c) old k.framed.runs.ring
 
   stays : LeavesMembers member parts now
   stays i on = queue_beside parts n i (λ same. true≢false (sym on ∙ ap member same ∙ off))
 
   ring : IsRing base member now hand (place c.control.walk c.registers freed.memory)
-  ring = ring_beside base member parts now hand (walk_place c) freed.memory was
+  ring = other_owners_leave_ring base member parts now hand (walk_place c) freed.memory was
       (queues_told d c.memory descs parts e x f old k.framed.extents k.framed.place.sound.stands here queued kept g was.tells) stays
 
   -- ---- the walk of the frames

@@ -147,8 +147,8 @@ module _ (p : Parts) (index e : ℕ) (x : Endpoint) (has : HasOwners p.driver) (
   pub still_kept : x.gone ≡ false
   still_kept = ap (λ (z : Endpoint). z.gone) (sym removed_same) ∙ removed_is.gone
 
-pub interrupt_unmet : InterruptIsUnmet
-interrupt_unmet p recent index e x has listed are why here queued =
+pub interrupt_is_unmet : InterruptIsUnmet
+interrupt_is_unmet p recent index e x has listed are why here queued =
     unmet p.driver recent index e x has listed why.due.idle here queued (still_kept p index e x has why here) (out_of_frames p index e x has why here) (passed p index e x has why here) are
 
 -- ---- an endpoint of the ring
@@ -157,8 +157,8 @@ owes_none : (x : Endpoint) → is_periodic x.desc.kind ≡ false → x.chained �
 owes_none x off out kept =
     ap (λ (b : Bool). cond (b || x.gone || not (is_periodic x.desc.kind)) 0 1) out ∙ ap (λ (b : Bool). cond (b || not (is_periodic x.desc.kind)) 0 1) kept ∙ ap (λ (b : Bool). cond (not b) 0 1) off
 
-pub ring_unmet : RingIsUnmet
-ring_unmet d recent index e x has listed are idle here ring kept =
+pub ring_is_unmet : RingIsUnmet
+ring_is_unmet d recent index e x has listed are idle here ring kept =
     unmet d recent index e x has listed idle here (not_iso x.desc.kind ring) kept out never are
   where
     by : (b : Bool) → x.chained ≡ b → x.chained ≡ false

@@ -20,7 +20,7 @@ use Rattle.law_driver.proofs.lemmas.run_owners.Released.{set_here, set_there}
 use Rattle.law_driver.proofs.lemmas.run_owners.Freeing.{runs_freed}
 use Rattle.law_structures.specs.lent_structures.Structures.{Structures, StructureSets, Tells}
 use Rattle.law_structures.proofs.lemmas.lent_structures.Names.{not_same}
-use Rattle.law_ring.proofs.Returning.{fewer_told}
+use Rattle.law_ring.proofs.Returning.{fewer_are_told}
 use Rattle.law_driver_ring.specs.Inventory.{IsLent}
 use Rattle.law_driver_ring.specs.Extents.{InRuns, AreInRuns}
 use Rattle.law_driver_ring.proofs.Blocks.{all_one}
@@ -209,7 +209,7 @@ module _ (d : DriverContent) (m : Mem) (descs parts : StructureSets) (e : ℕ) (
 
   pub queues_told : Tells m parts → Tells freed.memory now
   queues_told tells =
-      subst (λ (i : Holding). Tells i.memory now) (sym freed_is) (all_told h now blocks none_there (record { stands = stands; told = fewer_told m parts (32 * x.queue) (λ a. true) tells })).told
+      subst (λ (i : Holding). Tells i.memory now) (sym freed_is) (all_told h now blocks none_there (record { stands = stands; told = fewer_are_told m parts (32 * x.queue) (λ a. true) tells })).told
 
   -- ---- the descriptors
 

@@ -27,19 +27,19 @@ use Rattle.drv_table.specs.Rows.{driver_row, after_driver_row}
 use Rattle.drv_table.specs.FrameChoice.{linked_by}
 use Rattle.claims_driver.specs.Owners.{views_of}
 use Rattle.law_driver.specs.run_owners.Due.{IsDue, IsNextOf}
-use Rattle.law_driver.proofs.lemmas.run_owners.Reasons.{each_is_due}
+use Rattle.law_driver.proofs.lemmas.run_owners.Reasons.{each_event_is_due}
 use Rattle.hc_core.specs.Controller.{Content}
 use Rattle.law_structures.specs.lent_structures.Structures.{StructureSets}
 use Rattle.law_ring.specs.Hand.{Hand}
 use Rattle.claims_base.specs.Controller.{Base}
 use Rattle.law_driver.specs.in_place.InPlace.{IsInPlace}
-use Rattle.law_driver.proofs.lemmas.in_place.Laws.{event_in_place}
+use Rattle.law_driver.proofs.lemmas.in_place.Laws.{events_keep_all_in_place}
 use Rattle.law_frame_list.proofs.lemmas.list_queued.Lent.{goes_on}
 use Rattle.law_queues.specs.shared_memory.Shared.{parts_of}
 use Rattle.law_frames.specs.Met.{Kind}
 use Rattle.law_frames.specs.FrameHand.{FrameHand}
 use Rattle.law_controller.specs.frame_control.Both.{RunsBoth}
-use Rattle.law_controller.proofs.lemmas.frame_stores.Beside.{both_further}
+use Rattle.law_controller.proofs.lemmas.frame_stores.Beside.{more_are_met_beside_ring}
 use Rattle.law_descriptors.specs.Described.{AreHeld}
 use Rattle.law_descriptors.specs.Both.{both}
 use Rattle.law_descriptors.specs.PartLaws.{IsDescribing}
@@ -50,10 +50,10 @@ use Rattle.claims_driver.specs.Unlinked.{led_in}
 use Rattle.law_descriptors.specs.Removed.{IsRemovedSince, IsUnchainedNow}
 use Rattle.law_descriptors.specs.Recent.{AreRecent}
 use Rattle.law_descriptors.proofs.ListRows.{either_if, idle_led}
-use Rattle.law_descriptors.proofs.Telling.{each_told}
+use Rattle.law_descriptors.proofs.Telling.{each_is_told}
 use Rattle.law_descriptors.proofs.Lending.{lend_told}
 use Rattle.law_descriptors.proofs.Both.{lend_runs_both}
-use Rattle.law_descriptors.proofs.lemmas.descriptor_links.Links.{links_are}
+use Rattle.law_descriptors.proofs.lemmas.descriptor_links.Links.{descriptors_are_given_links}
 use Rattle.law_world.specs.memory.framed_memory.Now.{IsFramedNow}
 use Rattle.law_world.specs.memory.framed_memory.Isochronous.{AwaitsLend}
 use Rattle.law_world.specs.memory.framed_memory.IsochronousLaws.{LendKeepsNow}
@@ -163,7 +163,7 @@ none_met kind is = cc
 pub runs_alike : (base : Base) (member : ℕ → Bool) (one other : ℕ → Option Kind) (parts : StructureSets) (hand : Hand) (frame : FrameHand) (c : Content) → ((n : ℕ) → other n ≡ one n)
     → RunsBoth base member one parts hand frame c → RunsBoth base member other parts hand frame c
 runs_alike base member one other parts hand frame c same runs =
-    both_further base member one other parts hand frame c runs (λ n kind on. same n ∙ on) (λ n kind on off. absurd (none_met kind (sym off ∙ sym (same n) ∙ on)))
+    more_are_met_beside_ring base member one other parts hand frame c runs (λ n kind on. same n ∙ on) (λ n kind on off. absurd (none_met kind (sym off ∙ sym (same n) ∙ on)))
 
 met_alike : (d new : DriverContent) (recent : ℕ → Option Kind) → ((n : ℕ) → standing new n ≡ standing d n) → (n : ℕ) → met new recent n ≡ met d recent n
 met_alike d new recent same n = ap (λ (o : Option Kind). or_recent o (recent n)) (same n)
@@ -186,7 +186,7 @@ module _ (base : Base) (member : ℕ → Bool) (recent : ℕ → Option Kind) (d
   pub lending : IsLending p t x
   lending = record {
     await = a.await;
-    links = links_are d k.framed.place.sound.listed k.framed.list.list.order;
+    links = descriptors_are_given_links d k.framed.place.sound.listed k.framed.list.list.order;
     owners = k.framed.place.sound.owners;
     stands = k.framed.place.sound.stands;
     shape = k.framed.place.sound.shape;
@@ -199,10 +199,10 @@ module _ (base : Base) (member : ℕ → Bool) (recent : ℕ → Option Kind) (d
   describing = record { owners = k.framed.place.sound.owners; driven = told.driven; described = told.described }
 
   held : AreHeld c.memory descs
-  held = (each_told d c.memory descs parts describing k.framed.runs.ring.tells).1
+  held = (each_is_told d c.memory descs parts describing k.framed.runs.ring.tells).1
 
   placed : IsInPlace now.memory now.driver
-  placed = subst (λ (r : DriverRow). IsInPlace (after_driver_row r p).memory (after_driver_row r p).driver) is (event_in_place p k.framed.place)
+  placed = subst (λ (r : DriverRow). IsInPlace (after_driver_row r p).memory (after_driver_row r p).driver) is (events_keep_all_in_place p k.framed.place)
 
   stays : StaysMet recent c.registers.frame_index d now.driver
   stays =
@@ -219,10 +219,10 @@ module _ (base : Base) (member : ℕ → Bool) (recent : ℕ → Option Kind) (d
     apart = λ n kind on. stays.stands n ∙ k.apart n kind on;
   }
 
-pub lend_now : LendKeepsNow
-lend_now base member recent descs parts hand frame c d k await is =
+pub lend_keeps_now : LendKeepsNow
+lend_keeps_now base member recent descs parts hand frame c d k await is =
     let p : Parts = parts_of c d in
-    let due : IsNextOf p rows.LendDescriptors = subst (IsDue p) is (each_is_due p) in
+    let due : IsNextOf p rows.LendDescriptors = subst (IsDue p) is (each_event_is_due p) in
     let i : IsIsoLend due.command d.made = lends_iso due.command d.made due.next in
     let command : d.command ≡ Some (unfinished.Iso i.endpoint i.first i.count) = due.unfinished ∙ ap Some i.is in
     let made : d.made ≡ 1 = i.at in

@@ -28,8 +28,8 @@ use Rattle.drv_table.specs.Rows.{driver_row}
 use Rattle.law_admission.specs.Budgets.{Account, account_of, taken_out, account_after}
 use Rattle.drv_table.specs.PeriodicOpens.{asked}
 use Rattle.law_admission.specs.Opens.{OpenAfter}
-use Rattle.law_admission.proofs.Events.{account_of_event}
-use Rattle.law_admission.proofs.Commands.{account_of_command}
+use Rattle.law_admission.proofs.Events.{events_take_out_what_left}
+use Rattle.law_admission.proofs.Commands.{commands_place_the_best}
 use Rattle.law_driver.proofs.lemmas.iso_frames.Framing.{all_joined}
 use Rattle.law_world.specs.memory.framed_memory.Masks.{HasMasks, AreMasked, NewIsMasked, EventsKeepMasks, CommandsKeepMasks}
 
@@ -110,8 +110,8 @@ Masked y = HasMasks y.placement
 abbrev InAccount : Account → Type 0
 InAccount a = AllByRecursion Masked a.plan.placed
 
-pub new_masked : NewIsMasked
-new_masked n room = tt
+pub new_is_masked : NewIsMasked
+new_is_masked n room = tt
 
 out_masked : (a : Account) (e : ℕ) (o : Option Endpoint) → InAccount a → InAccount (taken_out a e o)
 out_masked a e None all = all
@@ -121,8 +121,8 @@ after_masked : (row : DriverRow) (d : DriverContent) → AreMasked d → InAccou
 after_masked (rows.ReleaseRemoved (removed.Endpoint e)) d all = out_masked (account_of d) e (slice_get d.endpoints e) all
 after_masked _ d all = all
 
-pub events_masked : EventsKeepMasks
-events_masked p all = subst InAccount (sym (account_of_event (driver_row p) p)) (after_masked (driver_row p) p.driver all)
+pub events_keep_masks : EventsKeepMasks
+events_keep_masks p all = subst InAccount (sym (events_take_out_what_left (driver_row p) p)) (after_masked (driver_row p) p.driver all)
 
 open_masked : (d : DriverContent) (x : EpDesc) (o : Offered) (b : Bool) → AreMasked d → OpenAfter d x o b → AreMasked o.driver
 open_masked d x o true all why =
@@ -134,16 +134,18 @@ open_masked d x o false all why = subst InAccount (sym why) all
 same_plan : (d : DriverContent) (o : Offered) → AreMasked d → account_of o.driver ≡ account_of d → AreMasked o.driver
 same_plan d o all same = subst InAccount (sym same) all
 
-pub commands_masked : CommandsKeepMasks
-commands_masked d m (commands.OpenEp x) o all is = open_masked d x o (is_periodic x.kind) all (account_of_command d m (commands.OpenEp x) o is)
-commands_masked d m (commands.Get name len by) o all is = same_plan d o all (account_of_command d m (commands.Get name len by) o is)
-commands_masked d m (commands.Put name bytes by) o all is = same_plan d o all (account_of_command d m (commands.Put name bytes by) o is)
-commands_masked d m (commands.Control name setup bytes) o all is = same_plan d o all (account_of_command d m (commands.Control name setup bytes) o is)
-commands_masked d m (commands.Iso name count len seed) o all is = same_plan d o all (account_of_command d m (commands.Iso name count len seed) o is)
-commands_masked d m (commands.Cancel name) o all is = same_plan d o all (account_of_command d m (commands.Cancel name) o is)
-commands_masked d m (commands.Clear name) o all is = same_plan d o all (account_of_command d m (commands.Clear name) o is)
-commands_masked d m (commands.Reset port) o all is = same_plan d o all (account_of_command d m (commands.Reset port) o is)
-commands_masked d m (commands.Give port) o all is = same_plan d o all (account_of_command d m (commands.Give port) o is)
-commands_masked d m (commands.DiskRead addr lba count) o all is = same_plan d o all (account_of_command d m (commands.DiskRead addr lba count) o is)
-commands_masked d m (commands.DiskWrite addr lba bytes) o all is = same_plan d o all (account_of_command d m (commands.DiskWrite addr lba bytes) o is)
-commands_masked d m (commands.Revive addr) o all is = same_plan d o all (account_of_command d m (commands.Revive addr) o is)
+pub commands_keep_masks : CommandsKeepMasks
+commands_keep_masks d m (commands.OpenEp x) o all is = open_masked d x o (is_periodic x.kind) all (commands_place_the_best d m (commands.OpenEp x) o is)
+commands_keep_masks d m (commands.Get name len by) o all is =
+    same_plan d o all (commands_place_the_best d m (commands.Get name len by) o is)
+commands_keep_masks d m (commands.Put name bytes by) o all is =
+    same_plan d o all (commands_place_the_best d m (commands.Put name bytes by) o is)
+commands_keep_masks d m (commands.Control name setup bytes) o all is = same_plan d o all (commands_place_the_best d m (commands.Control name setup bytes) o is)
+commands_keep_masks d m (commands.Iso name count len seed) o all is = same_plan d o all (commands_place_the_best d m (commands.Iso name count len seed) o is)
+commands_keep_masks d m (commands.Cancel name) o all is = same_plan d o all (commands_place_the_best d m (commands.Cancel name) o is)
+commands_keep_masks d m (commands.Clear name) o all is = same_plan d o all (commands_place_the_best d m (commands.Clear name) o is)
+commands_keep_masks d m (commands.Reset port) o all is = same_plan d o all (commands_place_the_best d m (commands.Reset port) o is)
+commands_keep_masks d m (commands.Give port) o all is = same_plan d o all (commands_place_the_best d m (commands.Give port) o is)
+commands_keep_masks d m (commands.DiskRead addr lba count) o all is = same_plan d o all (commands_place_the_best d m (commands.DiskRead addr lba count) o is)
+commands_keep_masks d m (commands.DiskWrite addr lba bytes) o all is = same_plan d o all (commands_place_the_best d m (commands.DiskWrite addr lba bytes) o is)
+commands_keep_masks d m (commands.Revive addr) o all is = same_plan d o all (commands_place_the_best d m (commands.Revive addr) o is)

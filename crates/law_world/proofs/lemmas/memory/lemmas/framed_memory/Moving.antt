@@ -9,7 +9,7 @@ use Rattle.claims_driver.specs.Owners.{Views, views_of, SlotHas}
 use Rattle.hc_core.specs.Controller.{Content, frame_place, walk_place}
 use Rattle.law_structures.specs.lent_structures.Structures.{Table, Structures, StructureSets, Tells}
 use Rattle.law_structures.specs.lent_structures.Changes.{Leaves}
-use Rattle.law_structures.proofs.lemmas.lent_structures.Telling.{told_still}
+use Rattle.law_structures.proofs.lemmas.lent_structures.Telling.{rest_is_told}
 use Rattle.law_ring.specs.Hand.{Hand, Empty}
 use Rattle.claims_base.specs.Controller.{Base}
 use Rattle.law_ring.specs.Ring.{IsRing}
@@ -21,7 +21,7 @@ use Rattle.law_frames.specs.Met.{Kind, AQueue, AnItd, ASitd, IsMetQueue, IsMetAs
 use Rattle.law_frames.specs.FrameHand.{FrameHand}
 use Rattle.law_controller.specs.frame_control.Both.{AreMet, RunsBoth}
 use Rattle.law_controller.specs.frame_stores.Stores.{KeepsMet}
-use Rattle.law_controller.proofs.lemmas.frame_stores.Framing.{frame_retold}
+use Rattle.law_controller.proofs.lemmas.frame_stores.Framing.{other_parts_leave_frame}
 use Rattle.law_descriptors.proofs.lemmas.frame_keeps.Keeping.{parts_itself}
 use Rattle.law_descriptors.proofs.lemmas.frame_keeps.Following.{extents_kept}
 use Rattle.mem_runs.specs.declared.slots.Slot.{Slot}
@@ -30,8 +30,8 @@ use Rattle.law_descriptors.specs.Both.{owns, both}
 use Rattle.law_descriptors.specs.PartLaws.{IsDescribing}
 use Rattle.law_descriptors.specs.Told.{with_memory}
 use Rattle.law_descriptors.proofs.Standing.{both_on, both_off}
-use Rattle.law_descriptors.proofs.Telling.{both_told, descriptor_found}
-use Rattle.law_descriptors.proofs.Rings.{other_off, ring_of_both}
+use Rattle.law_descriptors.proofs.Telling.{both_are_told, descriptor_found}
+use Rattle.law_descriptors.proofs.Rings.{other_off, ring_is_of_both}
 
 -- what is told alike reaches as far
 pub alike_extents : (v w : Views) (parts : StructureSets) → SameViews v w → AreInRuns v parts → AreInRuns w parts
@@ -42,7 +42,7 @@ alike_extents v w parts same lies =
 
 -- what was Lent stays so, with its words: so descriptors stand where they stood
 pub still_held : (d : DriverContent) (m after : Mem) (descs parts : StructureSets) → IsDescribing d descs parts → Leaves m after → Tells m (both descs parts) → AreHeld after descs
-still_held d m after descs parts k leaves tells n a s here = (told_still m after (both descs parts) leaves tells).each n a s (descriptor_found d descs parts k n a s here)
+still_held d m after descs parts k leaves tells n a s here = (rest_is_told m after (both descs parts) leaves tells).each n a s (descriptor_found d descs parts k n a s here)
 
 -- each queue head that is met stands as it was, and is sound
 abbrev pub StaysSound : (ℕ → Option Kind) → StructureSets → StructureSets → Type 0
@@ -70,7 +70,7 @@ is_queue v met parts now n ASitd driven sound on m = absurd (true≢false (no_de
 
 module _ (base : Base) (member : ℕ → Bool) (met : ℕ → Option Kind) (descs parts now : StructureSets) (hand later : Hand) (empties : hand ≡ Empty → later ≡ Empty) (frame : FrameHand) (c : Content) (d f : DriverContent) (after : Mem) (old : IsDescribing d descs parts) (new : IsDescribing f descs now) (lies : AreInRuns (views_of f) now) (stands : Stands (holding f.book after)) (held : AreHeld after descs) (runs : RunsBoth base member met (both descs parts) hand frame c) (ring : IsRing base member now later (place c.control.walk c.registers after)) (sound : StaysSound met parts now) (list : now base.periodic_list_base base.periodic_list_base ≡ parts base.periodic_list_base base.periodic_list_base) where
   tells : Tells after (both descs now)
-  tells = both_told f after descs now new lies stands ring.tells held
+  tells = both_are_told f after descs now new lies stands ring.tells held
 
   list_off : owns descs base.periodic_list_base ≡ false
   list_off = other_off (views_of d) descs parts base.periodic_list_base (Table runs.list.words) old.described refl runs.list.here
@@ -104,12 +104,12 @@ module _ (base : Base) (member : ℕ → Bool) (met : ℕ → Option Kind) (desc
 
   pub queues_move : RunsBoth base member met (both descs now) later frame (with_memory c after)
   queues_move = record {
-    ring = ring_of_both f descs now base member later (walk_place (with_memory c after)) new tells ring;
+    ring = ring_is_of_both f descs now base member later (walk_place (with_memory c after)) new tells ring;
     between = λ part. empties (runs.between part);
     list = record { words = runs.list.words; here = list_here; size = runs.list.size };
     elements = runs.elements;
     members = members;
     apart = runs.apart;
-    walk = λ part. (frame_retold met (both descs parts) (both descs now) frame (frame_place c) after (record { tells = runs.ring.tells; members = runs.members; walk = runs.walk part }) tells members keeps).walk;
+    walk = λ part. (other_parts_leave_frame met (both descs parts) (both descs now) frame (frame_place c) after (record { tells = runs.ring.tells; members = runs.members; walk = runs.walk part }) tells members keeps).walk;
     outside = runs.outside;
   }

@@ -10,15 +10,15 @@ use Rattle.drv_table.specs.Parts.{Parts}
 use Rattle.drv_table.specs.Rows.{driver_row, after_driver_row}
 use Rattle.claims_driver.specs.Owners.{views_of}
 use Rattle.law_driver.specs.run_owners.Due.{IsDue}
-use Rattle.law_driver.proofs.lemmas.run_owners.Reasons.{each_is_due}
+use Rattle.law_driver.proofs.lemmas.run_owners.Reasons.{each_event_is_due}
 use Rattle.law_structures.specs.lent_structures.Structures.{StructureSets}
 use Rattle.law_ring.specs.Hand.{Hand}
 use Rattle.claims_base.specs.Controller.{Base, base_of}
-use Rattle.law_driver.proofs.lemmas.planned_endpoints.Laws.{opening_planned, event_planned}
-use Rattle.law_driver.proofs.lemmas.iso_frames.Due.{opening_in_frames, event_in_frames}
-use Rattle.law_driver.proofs.lemmas.in_place.Laws.{event_in_place}
-use Rattle.law_frame_list.proofs.lemmas.list_spread.Spreading.{members_spread}
-use Rattle.law_frame_list.proofs.lemmas.list_driver.Rows.{event_keeps}
+use Rattle.law_driver.proofs.lemmas.planned_endpoints.Laws.{opening_plan_is_of_its_endpoints, events_keep_the_plan}
+use Rattle.law_driver.proofs.lemmas.iso_frames.Due.{opening_frames, events_keep_the_frames}
+use Rattle.law_driver.proofs.lemmas.in_place.Laws.{events_keep_all_in_place}
+use Rattle.law_frame_list.proofs.lemmas.list_spread.Spreading.{members_share_no_block}
+use Rattle.law_frame_list.proofs.lemmas.list_driver.Rows.{events_keep_the_list}
 use Rattle.law_queues.specs.shared_memory.Shared.{parts_of, next_parts, after_driver}
 use Rattle.law_frames.specs.Met.{Kind}
 use Rattle.law_frames.specs.FrameHand.{FrameHand}
@@ -31,19 +31,24 @@ use Rattle.law_descriptors.specs.Growing.{AreApartFrom}
 use Rattle.law_descriptors.specs.Recent.{AreRecent, DrivesFrames, driver_after, content_after}
 use Rattle.law_descriptors.specs.Rows.{DrivesAfter}
 use Rattle.law_descriptors.proofs.Others.{rows_told}
-use Rattle.law_descriptors.proofs.Storing.{frame_read, status_read, advance_cleared, bell_rung}
+use Rattle.law_descriptors.proofs.Storing.{read_frame_drives, read_status_drives, advance_drives, bell_drives}
 use Rattle.law_world.specs.memory.framed_memory.Framed.{IsFramed}
 use Rattle.law_world.specs.memory.framed_memory.Now.{IsFramedNow, NowHasFrames, NewIsFramedNow, reads_alone, RegistersKeepNow}
-use Rattle.law_world.proofs.lemmas.memory.lemmas.framed_memory.Opening.{new_framed}
-use Rattle.law_descriptors.proofs.Chained.{new_chained, event_chained}
-use Rattle.law_descriptors.proofs.Queued.{new_linked, event_linked}
+use Rattle.law_world.proofs.lemmas.memory.lemmas.framed_memory.Opening.{new_is_framed}
+use Rattle.law_descriptors.proofs.Chained.{new_driver_leaves_chained, events_leave_chained}
+use Rattle.law_descriptors.proofs.Queued.{new_driver_links_queued, events_link_queued}
 
 -- ---- the frame list
 
-pub has_frames : NowHasFrames
-has_frames base member recent descs parts hand frame c d k =
+pub now_has_frames : NowHasFrames
+now_has_frames base member recent descs parts hand frame c d k =
     let sound = k.framed.place.sound in
-    record { list = k.framed.list.list; spread = members_spread d c.memory sound.stands sound.owners sound.listed; listed = sound.listed }
+    record {
+      list = k.framed.list.list;
+      spread = members_share_no_block d c.memory sound.stands sound.owners sound.listed;
+      listed =
+          sound.listed;
+    }
 
 pub begins_there : (base : Base) (member : ℕ → Bool) (recent : ℕ → Option Kind) (descs parts : StructureSets) (hand : Hand) (frame : FrameHand) (c : Content) (d : DriverContent)
     → IsFramedNow base member recent descs parts hand frame c d → base.periodic_list_base ≡ 32 * d.periodic.list.list
@@ -54,15 +59,15 @@ begins_there base member recent descs parts hand frame c d k = k.framed.start �
 none_some : (kind : Kind) → None ≡ Some kind → ⊥
 none_some kind e = cc
 
-pub new_now : NewIsFramedNow
-new_now n room many few whole = record {
-  framed = new_framed n room many few whole;
+pub new_is_framed_now : NewIsFramedNow
+new_is_framed_now n room many few whole = record {
+  framed = new_is_framed n room many few whole;
   recent_are = λ a kind is. absurd (none_some kind is);
   apart = λ a kind is. absurd (none_some kind is);
-  chained = new_chained n room;
-  queued = new_linked n room;
-  planned = opening_planned n room;
-  in_frames = opening_in_frames n room;
+  chained = new_driver_leaves_chained n room;
+  queued = new_driver_links_queued n room;
+  planned = opening_plan_is_of_its_endpoints n room;
+  in_frames = opening_frames n room;
 }
 
 -- ---- what a row leaves
@@ -91,18 +96,18 @@ next_now base member recent later descs parts descs_then parts_then hand hand_th
         start = f.start;
         aligned = still_aligned base c d f.runs.ring.registers s.runs.ring.registers f.aligned;
         runs = s.runs;
-        place = event_in_place p f.place;
-        list = event_keeps p sound k.in_frames f.list;
+        place = events_keep_all_in_place p f.place;
+        list = events_keep_the_list p sound k.in_frames f.list;
         driven = s.told.driven;
         described = s.told.described;
         extents = s.told.extents;
       };
       recent_are = s.recent_are;
       apart = s.apart;
-      chained = event_chained p k.chained;
-      queued = event_linked p sound.listed k.queued;
-      planned = event_planned p sound.owners k.planned;
-      in_frames = event_in_frames p sound.owners sound.listed k.planned k.in_frames;
+      chained = events_leave_chained p k.chained;
+      queued = events_link_queued p sound.listed k.queued;
+      planned = events_keep_the_plan p sound.owners k.planned;
+      in_frames = events_keep_the_frames p sound.owners sound.listed k.planned k.in_frames;
     }
 
 pub told_now : (base : Base) (member : ℕ → Bool) (recent : ℕ → Option Kind) (descs parts : StructureSets) (hand : Hand) (frame : FrameHand) (c : Content) (d : DriverContent)
@@ -126,12 +131,13 @@ by_row : (base : Base) (member : ℕ → Bool) (recent : ℕ → Option Kind) (d
 by_row base member recent descs parts hand frame c d (rows.ReadFrame n) k due on =
     subst (λ (i : ℕ). RegistersAlone base member recent descs parts hand frame c d (rows.ReadFrame i)) (sym due.1)
     (record {
-      drives = frame_read base member recent descs parts hand frame c d (drives_now base member recent descs parts hand frame c d k);
+      drives = read_frame_drives base member recent descs parts hand frame c d (drives_now base member recent descs parts hand frame c d k);
       keeps = refl;
       standing_stays = λ a. refl;
     })
 by_row base member recent descs parts hand frame c d (rows.ReadStatus heard) k due on = record {
-  drives = status_read base member recent descs parts hand frame c d heard (drives_now base member recent descs parts hand frame c d k);
+  drives = read_status_drives base member recent descs parts hand frame c d heard
+      (drives_now base member recent descs parts hand frame c d k);
   keeps = refl;
   standing_stays = status_stands heard;
 }
@@ -140,12 +146,12 @@ by_row base member recent descs parts hand frame c d (rows.ReadStatus heard) k d
     status_stands true n = refl
     status_stands false n = refl
 by_row base member recent descs parts hand frame c d rows.ClearAdvance k due on = record {
-  drives = advance_cleared base member recent descs parts hand frame c d (drives_now base member recent descs parts hand frame c d k);
+  drives = advance_drives base member recent descs parts hand frame c d (drives_now base member recent descs parts hand frame c d k);
   keeps = refl;
   standing_stays = λ a. refl;
 }
 by_row base member recent descs parts hand frame c d rows.RingBell k due on = record {
-  drives = bell_rung base member recent descs parts hand frame c d k.framed.operating (drives_now base member recent descs parts hand frame c d k);
+  drives = bell_drives base member recent descs parts hand frame c d k.framed.operating (drives_now base member recent descs parts hand frame c d k);
   keeps = refl;
   standing_stays = λ a. refl;
 }
@@ -165,10 +171,10 @@ by_row base member recent descs parts hand frame c d rows.Rest k due on = record
   standing_stays = λ a. refl;
 }
 
-pub registers_now : RegistersKeepNow
-registers_now base member recent descs parts hand frame c d k on =
+pub registers_keep_now : RegistersKeepNow
+registers_keep_now base member recent descs parts hand frame c d k on =
     let p : Parts = parts_of c d in
-    let r : RegistersAlone base member recent descs parts hand frame c d (driver_row p) = by_row base member recent descs parts hand frame c d (driver_row p) k (each_is_due p) on in
+    let r : RegistersAlone base member recent descs parts hand frame c d (driver_row p) = by_row base member recent descs parts hand frame c d (driver_row p) k (each_event_is_due p) on in
     next_now base member recent recent descs parts descs parts hand hand frame frame c d k
     (record {
       runs = r.drives.runs;

@@ -25,14 +25,14 @@ use Rattle.law_descriptors.specs.Both.{both, parts_now}
 use Rattle.law_descriptors.specs.PartLaws.{AreStill}
 use Rattle.law_descriptors.specs.Meeting.{no_recent, met}
 use Rattle.law_descriptors.specs.Recent.{AreRecent}
-use Rattle.law_descriptors.proofs.Closing.{begin_standing}
+use Rattle.law_descriptors.proofs.Closing.{begin_meets_members}
 use Rattle.law_descriptors.proofs.Stays.{described_stay}
-use Rattle.law_descriptors.proofs.lemmas.list_beside.Describing.{described_kept}
+use Rattle.law_descriptors.proofs.lemmas.list_beside.Describing.{described_are_kept}
 use Rattle.law_world.specs.memory.framed_memory.Framed.{FramedAfter}
 use Rattle.law_world.specs.memory.framed_memory.Now.{IsFramedNow, recent_then, FramedNowAfter, ControllerKeepsNow}
-use Rattle.law_world.proofs.lemmas.memory.lemmas.framed_memory.Framing.{stay_in_runs, controller_keeps}
+use Rattle.law_world.proofs.lemmas.memory.lemmas.framed_memory.Framing.{stay_in_runs, controller_keeps_framed}
 use Rattle.law_world.proofs.lemmas.memory.lemmas.framed_memory.Index.{ring_index, frame_index}
-use Rattle.law_world.proofs.lemmas.memory.lemmas.framed_memory.Now.{has_frames, begins_there}
+use Rattle.law_world.proofs.lemmas.memory.lemmas.framed_memory.Now.{now_has_frames, begins_there}
 
 -- ---- it begins where it is over
 
@@ -94,9 +94,9 @@ module _ {W : Type 0} (begins : W → ℕ → Bool → W → Type 0) (transacts 
   kept_begun over row =
       let all : StructureSets = both descs parts in
       let f = after_it.framed in
-      let still : AreStill (views_of d) descs parts all = described_stay (views_of d) descs parts all k.framed.described (described_kept all all (parts_itself all all refl)) in
+      let still : AreStill (views_of d) descs parts all = described_stay (views_of d) descs parts all k.framed.described (described_are_kept all all (parts_itself all all refl)) in
       let runs : RunsBoth base member (met d no_recent) all hand Nothing (began row.allowed c)
-      = begin_standing base member recent all hand frame c d row.allowed k.framed.runs over (has_frames base member recent descs parts hand frame c d k)
+      = begin_meets_members base member recent all hand frame c d row.allowed k.framed.runs over (now_has_frames base member recent descs parts hand frame c d k)
       (begins_there base member recent descs parts hand frame c d k) in
       record {
         now = all;
@@ -140,7 +140,7 @@ module _ {W : Type 0} (begins : W → ℕ → Bool → W → Type 0) (transacts 
   by_event events.Go is row = kept_at (ring_index transacts (walk_place c) wire (walk_place new) after row.walked)
   by_event _ is row = kept_at (ap (λ (x : Content). x.registers.frame_index) row.0)
 
-pub controller_now : {W : Type 0} (begins : W → ℕ → Bool → W → Type 0) (transacts : W → Ask → List ℕ → Reply → W → Type 0) → ControllerKeepsNow begins transacts
-controller_now begins transacts base member recent descs parts hand frame c d wire new after k heard row =
+pub controller_keeps_now : {W : Type 0} (begins : W → ℕ → Bool → W → Type 0) (transacts : W → Ask → List ℕ → Reply → W → Type 0) → ControllerKeepsNow begins transacts
+controller_keeps_now begins transacts base member recent descs parts hand frame c d wire new after k heard row =
     by_event begins transacts base member recent descs parts hand frame c d wire new after k
-    (controller_keeps begins transacts base member (met d recent) descs parts hand frame c d wire new after k.framed heard row) (microframe_row c.registers c.control) refl row
+    (controller_keeps_framed begins transacts base member (met d recent) descs parts hand frame c d wire new after k.framed heard row) (microframe_row c.registers c.control) refl row

@@ -19,7 +19,7 @@ use Rattle.drv_table.specs.Rows.{driver_row, after_driver_row}
 use Rattle.drv_table.specs.Removals.{after_descriptor, after_placed}
 use Rattle.claims_driver.specs.Owners.{views_of}
 use Rattle.law_driver.specs.run_owners.Due.{IsDue, IsUnlinkDue}
-use Rattle.law_driver.proofs.lemmas.run_owners.Reasons.{each_is_due}
+use Rattle.law_driver.proofs.lemmas.run_owners.Reasons.{each_event_is_due}
 use Rattle.law_driver.proofs.lemmas.run_owners.Released.{cancel_same}
 use Rattle.law_structures.specs.lent_structures.Structures.{StructureSets}
 use Rattle.law_ring.specs.Hand.{Hand}
@@ -40,19 +40,19 @@ use Rattle.law_descriptors.specs.ListRows.{ComesFirst, leaves_now, recent_with, 
 use Rattle.law_descriptors.specs.Given.{without_owners, begins_at, waiting_at}
 use Rattle.law_descriptors.proofs.Stays.{described_stay}
 use Rattle.law_descriptors.proofs.Others.{rows_told}
-use Rattle.law_descriptors.proofs.ListRowsKeeping.{store_keeps}
+use Rattle.law_descriptors.proofs.ListRowsKeeping.{store_keeps_parts}
 use Rattle.law_descriptors.proofs.ListDriving.{unlink_drives, link_drives}
-use Rattle.law_descriptors.proofs.RowStaying.{release_recent}
-use Rattle.law_descriptors.proofs.GivenRow.{row_is_given_back}
+use Rattle.law_descriptors.proofs.RowStaying.{release_leaves_recent}
+use Rattle.law_descriptors.proofs.GivenRow.{row_gives_back_passed}
 use Rattle.law_descriptors.proofs.GivenBoth.{release_told, release_runs_both}
 use Rattle.law_descriptors.proofs.GivenWaiting.{waiting_told, waiting_runs_both}
-use Rattle.law_descriptors.proofs.GivenRecent.{endpoint_recent}
-use Rattle.law_descriptors.proofs.Queued.{descriptors_first, leaving_first}
+use Rattle.law_descriptors.proofs.GivenRecent.{endpoint_leaves_recent}
+use Rattle.law_descriptors.proofs.Queued.{descriptors_come_first, leaving_come_first}
 use Rattle.law_world.specs.memory.framed_memory.Now.{IsFramedNow}
 use Rattle.law_world.specs.memory.framed_memory.NowRows.{UnlinkKeepsNow, LinkKeepsNow, ReleaseKeepsNow, WaitingKeepsNow}
 use Rattle.law_world.proofs.lemmas.memory.lemmas.framed_memory.Framing.{stay_in_runs}
 use Rattle.law_world.proofs.lemmas.memory.lemmas.framed_memory.Leading.{command_leads}
-use Rattle.law_world.proofs.lemmas.memory.lemmas.framed_memory.Now.{has_frames, begins_there, RowLeaves, next_now, told_now, drives_now}
+use Rattle.law_world.proofs.lemmas.memory.lemmas.framed_memory.Now.{now_has_frames, begins_there, RowLeaves, next_now, told_now, drives_now}
 
 -- ---- stores
 
@@ -60,22 +60,22 @@ use Rattle.law_world.proofs.lemmas.memory.lemmas.framed_memory.Now.{has_frames, 
 stored_told : (base : Base) (member : ℕ → Bool) (recent : ℕ → Option Kind) (descs parts : StructureSets) (hand : Hand) (frame : FrameHand) (c : Content) (d : DriverContent) (at v : ℕ) (now : StructureSets) (later : FrameHand)
     → IsFramedNow base member recent descs parts hand frame c d → IsStoredIn base (both descs parts) frame at v now later → IsToldBy (views_of d) (descs_now descs now) (parts_now descs parts now)
 stored_told base member recent descs parts hand frame c d at v now later k stored =
-    let still : AreStill (views_of d) descs parts now = described_stay (views_of d) descs parts now k.framed.described (store_keeps base (both descs parts) now frame later at v stored) in
+    let still : AreStill (views_of d) descs parts now = described_stay (views_of d) descs parts now k.framed.described (store_keeps_parts base (both descs parts) now frame later at v stored) in
     record {
       driven = driven_same (views_of d) parts (parts_now descs parts now) still.sorts k.framed.driven;
       extents = stay_in_runs (views_of d) parts (parts_now descs parts now) still.extents k.framed.extents;
       described = still.described;
     }
 
-pub unlink_now : UnlinkKeepsNow
-unlink_now base member recent descs parts hand frame c d t y k is there =
+pub unlink_keeps_now : UnlinkKeepsNow
+unlink_keeps_now base member recent descs parts hand frame c d t y k is there =
     let p : Parts = parts_of c d in
     let sound = k.framed.place.sound in
     let later : ℕ → Option Kind = also (32 * y.first) (kind_of_descriptor (note_at d.periodic.notes y.first).split) recent in
-    let due : IsUnlinkDue p t = subst (IsDue p) is (each_is_due p) in
+    let due : IsUnlinkDue p t = subst (IsDue p) is (each_event_is_due p) in
     let u : UnlinkDriven base member recent descs parts hand frame c d t y
     = unlink_drives base member recent descs parts hand frame c d t y (drives_now base member recent descs parts hand frame c d k) (begins_there base member recent descs parts hand frame c d k)
-    (has_frames base member recent descs parts hand frame c d k) k.apart sound.stands sound.shape sound.owners due there in
+    (now_has_frames base member recent descs parts hand frame c d k) k.apart sound.stands sound.shape sound.owners due there in
     let descs_then : StructureSets = descs_now descs u.event.stored.now in
     let parts_then : StructureSets = parts_now descs parts u.event.stored.now in
     let told : IsToldBy (views_of d) descs_then parts_then
@@ -102,19 +102,19 @@ comes_first : (base : Base) (member : ℕ → Bool) (recent : ℕ → Option Kin
     → ComesFirst member recent (both descs parts) d d.periodic.list
 comes_first base member recent descs parts hand frame c d unfinished.Chain k is on chain = chain refl
 comes_first base member recent descs parts hand frame c d (unfinished.Iso e t count) k is on chain =
-    descriptors_first base member (met d recent) recent descs parts hand frame c d c.registers.frame_index e t count k.framed.runs k.framed.described k.recent_are k.framed.place.sound.owners
+    descriptors_come_first base member (met d recent) recent descs parts hand frame c d c.registers.frame_index e t count k.framed.runs k.framed.described k.recent_are k.framed.place.sound.owners
     k.framed.place.lent k.queued is
-comes_first base member recent descs parts hand frame c d (unfinished.Unchain e) k is on chain = leaving_first member recent (both descs parts) d e k.framed.place.sound.listed is
+comes_first base member recent descs parts hand frame c d (unfinished.Unchain e) k is on chain = leaving_come_first member recent (both descs parts) d e k.framed.place.sound.listed is
 comes_first base member recent descs parts hand frame c d _ k is on chain = absurd (true≢false (sym on))
 
-pub link_now : LinkKeepsNow
-link_now base member recent descs parts hand frame c d k why comes =
+pub link_keeps_now : LinkKeepsNow
+link_keeps_now base member recent descs parts hand frame c d k why comes =
     let p : Parts = parts_of c d in
     let sound = k.framed.place.sound in
     let later : ℕ → Option Kind = recent_with d.periodic (leaves_now d.periodic.list) recent in
     let l : LinkDriven base member recent descs parts hand frame c d (driver_row p) why.store
     = link_drives base member recent descs parts hand frame c d (driver_row p) (drives_now base member recent descs parts hand frame c d k)
-    (begins_there base member recent descs parts hand frame c d k) (has_frames base member recent descs parts hand frame c d k) k.apart sound.stands sound.shape sound.owners why
+    (begins_there base member recent descs parts hand frame c d k) (now_has_frames base member recent descs parts hand frame c d k) k.apart sound.stands sound.shape sound.owners why
     (command_leads p why.command (record { unfinished = why.unfinished; links = why.links; late = why.late }) sound k.framed.list) (comes_first base member recent descs parts hand frame c d why.command k why.unfinished why.links comes)
     k.chained in
     let descs_then : StructureSets = descs_now descs l.event.now in
@@ -142,12 +142,12 @@ descriptor_stands : (p : Parts) (t : ℕ) (o : Option Transfer) (n : ℕ) → st
 descriptor_stands p t None n = refl
 descriptor_stands p t (Some y) n = refl
 
-pub release_now : ReleaseKeepsNow
-release_now base member recent descs parts hand frame c d t y k is there =
+pub release_keeps_now : ReleaseKeepsNow
+release_keeps_now base member recent descs parts hand frame c d t y k is there =
     let p : Parts = parts_of c d in
     let row : DriverRow = rows.ReleaseRemoved (removed.Descriptor t) in
     let sound = k.framed.place.sound in
-    let given : IsGivenBack p (removed.Descriptor t) = row_is_given_back p (removed.Descriptor t) is in
+    let given : IsGivenBack p (removed.Descriptor t) = row_gives_back_passed p (removed.Descriptor t) is in
     let fewer : StructureSets = without_owners descs (begins_at y.first) in
     let told : IsToldBy (views_of d) descs parts = told_now base member recent descs parts hand frame c d k in
     let registers : (after_driver_row row p).registers ≡ c.registers = descriptor_registers p t (slice_get d.transfers t) in
@@ -159,7 +159,7 @@ release_now base member recent descs parts hand frame c d t y k is there =
           (release_runs_both base member recent descs parts hand frame c c.registers.frame_index d t y sound.owners sound.listed sound.stands k.recent_are given there told k.framed.runs);
       told = release_told p t y descs parts sound.owners given there told;
       recent_are = subst (λ (r : RegisterFile). AreRecent (driver_after row c d) r.frame_index recent) (sym registers)
-          (release_recent p recent c.registers.frame_index t y given there k.recent_are);
+          (release_leaves_recent p recent c.registers.frame_index t y given there k.recent_are);
       apart = λ n kind on. descriptor_stands p t (slice_get d.transfers t) n ∙ k.apart n kind on;
     }))
 
@@ -171,12 +171,12 @@ placed_stands : (p : Parts) (e : ℕ) (o : Option Endpoint) (n : ℕ) → standi
 placed_stands p e None n = refl
 placed_stands p e (Some x) n = ap (λ (q : PeriodicContent). standing_in q n) (cancel_same p.driver p.memory e x).periodic
 
-pub waiting_now : WaitingKeepsNow
-waiting_now base member recent descs parts hand frame c d e x k is there iso =
+pub waiting_keeps_now : WaitingKeepsNow
+waiting_keeps_now base member recent descs parts hand frame c d e x k is there iso =
     let p : Parts = parts_of c d in
     let row : DriverRow = rows.ReleaseRemoved (removed.Endpoint e) in
     let sound = k.framed.place.sound in
-    let given : IsGivenBack p (removed.Endpoint e) = row_is_given_back p (removed.Endpoint e) is in
+    let given : IsGivenBack p (removed.Endpoint e) = row_gives_back_passed p (removed.Endpoint e) is in
     let fewer : StructureSets = without_owners descs (waiting_at d e) in
     let told : IsToldBy (views_of d) descs parts = told_now base member recent descs parts hand frame c d k in
     let registers : (after_driver_row row p).registers ≡ c.registers = placed_registers p e (slice_get d.endpoints e) in
@@ -188,6 +188,6 @@ waiting_now base member recent descs parts hand frame c d e x k is there iso =
           (waiting_runs_both base member recent descs parts hand frame c c.registers.frame_index d e x sound.owners sound.listed sound.stands k.recent_are given there iso told k.framed.runs);
       told = waiting_told p e x descs parts sound.owners given there iso told;
       recent_are = subst (λ (r : RegisterFile). AreRecent (driver_after row c d) r.frame_index recent) (sym registers)
-          (endpoint_recent p recent c.registers.frame_index e x sound.owners given there k.recent_are);
+          (endpoint_leaves_recent p recent c.registers.frame_index e x sound.owners given there k.recent_are);
       apart = λ n kind on. placed_stands p e (slice_get d.endpoints e) n ∙ k.apart n kind on;
     }))

@@ -15,15 +15,15 @@ none_there e x here = cc
 abbrev Fits : EpDesc → Option Placement → Type 0
 Fits x o = NumbersFit x
 
-pub new_numbered : NewIsNumbered
-new_numbered n room e x here = absurd (none_there e x here)
+pub new_is_numbered : NewIsNumbered
+new_is_numbered n room e x here = absurd (none_there e x here)
 
-pub event_numbered : EventsKeepNumbered
-event_numbered p all = after_row Fits (driver_row p) p all
+pub events_keep_numbered : EventsKeepNumbered
+events_keep_numbered p all = after_row Fits (driver_row p) p all
 
 opened_fit : (cmd : Cmd) → OpensNumbered cmd → IsOfOpened Fits cmd
 opened_fit (commands.OpenEp x) fit = λ o. fit
 opened_fit _ fit = tt
 
-pub command_numbered : CommandsKeepNumbered
-command_numbered d m cmd o all fit is = after_command Fits d m cmd o (opened_fit cmd fit) all is
+pub commands_keep_numbered : CommandsKeepNumbered
+commands_keep_numbered d m cmd o all fit is = after_command Fits d m cmd o (opened_fit cmd fit) all is

@@ -2,7 +2,7 @@
 use Rattle.std.proofs.Common.{◌≡◌, ℕ, zero, suc, ◌≤◌, List, [], length, Option, Some, None, ap, refl, subst, arith}
 use Rattle.std.proofs.lemmas.List.{length-replicate}
 use Rattle.hc_core.specs.Controller.{Content, content, new_control}
-use Rattle.law_controller.proofs.lemmas.aligned_copies.Controlling.{new_aligned}
+use Rattle.law_controller.proofs.lemmas.aligned_copies.Controlling.{a_new_controller_is_aligned}
 use Rattle.drv_table.specs.declared.content.Reserve.{Reserve}
 use Rattle.drv_table.specs.Opening.{opening}
 use Rattle.claims_driver.specs.Owners.{TransferRuns, transfer_in, views_of}
@@ -12,9 +12,9 @@ use Rattle.law_driver_ring.specs.PartOpened.{empty_list, no_parts, opening_parts
 use Rattle.claims_base.specs.Controller.{opening_base}
 use Rattle.law_driver_ring.specs.Extents.{AreInRuns}
 use Rattle.law_queues.specs.shared_memory.Shared.{IsShared}
-use Rattle.law_queues.proofs.lemmas.shared_memory.Sharing.{opening_shared}
-use Rattle.law_frame_list.proofs.lemmas.list_driver.Rows.{opening_keeps}
-use Rattle.law_controller.proofs.lemmas.frame_control.Frameless.{controlled_runs}
+use Rattle.law_queues.proofs.lemmas.shared_memory.Sharing.{the_opening_is_shared}
+use Rattle.law_frame_list.proofs.lemmas.list_driver.Rows.{a_new_driver_keeps_its_list}
+use Rattle.law_controller.proofs.lemmas.frame_control.Frameless.{a_frameless_list_has_nothing_met}
 use Rattle.law_descriptors.specs.Described.{AreDescribed}
 use Rattle.law_world.specs.memory.framed_memory.Framed.{NewIsFramed}
 
@@ -47,17 +47,17 @@ opening_described n room = record {
   only = λ a b s here. absurd (none_there s here);
 }
 
-pub new_framed : NewIsFramed
-new_framed n room many few whole =
+pub new_is_framed : NewIsFramed
+new_is_framed n room many few whole =
     let c : Content = content new_control (opening n room).registers (opening n room).memory in
-    let k : IsShared opening_base is_head opening_parts Empty c (opening n room).driver = opening_shared n room many few whole in
+    let k : IsShared opening_base is_head opening_parts Empty c (opening n room).driver = the_opening_is_shared n room many few whole in
     record {
       operating = k.operating;
       start = refl;
-      aligned = new_aligned (opening n room).registers (opening n room).memory refl;
-      runs = controlled_runs opening_base is_head opening_parts Empty c refl k.controlled;
+      aligned = a_new_controller_is_aligned (opening n room).registers (opening n room).memory refl;
+      runs = a_frameless_list_has_nothing_met opening_base is_head opening_parts Empty c refl k.controlled;
       place = k.place;
-      list = opening_keeps n room many few whole;
+      list = a_new_driver_keeps_its_list n room many few whole;
       driven = k.driven;
       described = opening_described n room;
       extents = opening_extents n room;

@@ -38,18 +38,18 @@ use Rattle.law_driver_ring.specs.Published.{partly, place_in, publish_row, IsPub
 use Rattle.law_driver_ring.proofs.Extending.{extents_stay, element_put}
 use Rattle.law_driver_ring.proofs.Publishing.{publish_store_drives, places_below, idle}
 use Rattle.law_driver_ring.proofs.Storing.{store_made}
-use Rattle.law_driver.proofs.lemmas.in_place.Laws.{event_in_place}
+use Rattle.law_driver.proofs.lemmas.in_place.Laws.{events_keep_all_in_place}
 use Rattle.law_queues.specs.shared_memory.Shared.{parts_of}
 use Rattle.law_frames.specs.Met.{Kind, AQueue, IsMetQueue}
 use Rattle.law_frames.specs.FrameHand.{FrameHand}
-use Rattle.law_controller.proofs.lemmas.frame_stores.Parting.{met_stored}
+use Rattle.law_controller.proofs.lemmas.frame_stores.Parting.{met_element_may_change}
 use Rattle.law_descriptors.specs.Described.{AreHeld}
 use Rattle.law_descriptors.specs.Both.{owns, both}
 use Rattle.law_descriptors.specs.PartLaws.{IsDescribing}
 use Rattle.law_descriptors.specs.Told.{IsToldBy, with_memory}
 use Rattle.law_descriptors.specs.Meeting.{met}
 use Rattle.law_descriptors.proofs.Others.{rows_told}
-use Rattle.law_descriptors.proofs.Rings.{ring_of_queues, list_of_queues}
+use Rattle.law_descriptors.proofs.Rings.{ring_is_of_queues, list_is_of_queues}
 use Rattle.law_descriptors.proofs.Standing.{found_on}
 use Rattle.law_descriptors.proofs.Telling.{queue_off, queue_found, descriptor_found}
 use Rattle.law_world.specs.memory.framed_memory.Now.{IsFramedNow}
@@ -148,7 +148,7 @@ module _ (base : Base) (member : ℕ → Bool) (recent : ℕ → Option Kind) (d
   drives : DrivesRing base member now hand (place c.control.walk c.registers after) f
   drives =
       publish_store_drives base member parts hand c.control.walk p n b t k below
-      (record { ring = ring_of_queues d descs parts base member hand (walk_place c) old i.framed.runs.ring; driven = i.framed.driven }) can at range ring_may
+      (record { ring = ring_is_of_queues d descs parts base member hand (walk_place c) old i.framed.runs.ring; driven = i.framed.driven }) can at range ring_may
 
   -- ---- the frames
 
@@ -162,7 +162,7 @@ module _ (base : Base) (member : ℕ → Bool) (recent : ℕ → Option Kind) (d
       let may = frame_may (ap (met d recent) (sym same) ∙ on) in
       subst (λ (j : ℕ). IsMetQueue (met d recent) j (now j) × (now j j ≡ parts j j)) (sym same) (
         subst (IsMetQueue (met d recent) n) (sym (put_here parts n (32 * b) (Element new)))
-            (met_stored (met d recent) n (parts n) (32 * b) (partly t k) new mine at (idle t k below) (sound_at (parts n) t (suc k) may.sound)
+            (met_element_may_change (met d recent) n (parts n) (32 * b) (partly t k) new mine at (idle t k below) (sound_at (parts n) t (suc k) may.sound)
             (unnamed_at (parts n) (32 * b) t (suc k) (let low = range.1.1.1.0.1.0 in omega (arith, low)) may.own may.blank)),
         put_else parts n (32 * b) (Element new) n (head_there mine.part_is.queue mine.part_is.here),
       ))
@@ -172,7 +172,7 @@ module _ (base : Base) (member : ℕ → Bool) (recent : ℕ → Option Kind) (d
 
   list : now base.periodic_list_base base.periodic_list_base ≡ parts base.periodic_list_base base.periodic_list_base
   list =
-      let there : FrameList parts base = (list_of_queues d descs parts base old).0 i.framed.runs.list in
+      let there : FrameList parts base = (list_is_of_queues d descs parts base old).0 i.framed.runs.list in
       let table : ℕ = base.periodic_list_base in
       ⊎_elim (λ (same : table ≡ n).
       ap (λ (j : ℕ). now j j) same
@@ -216,7 +216,7 @@ module _ (base : Base) (member : ℕ → Bool) (recent : ℕ → Option Kind) (d
       (element_put parts n (32 * b) new) told.extents
 
   placed : IsInPlace after f
-  placed = subst (λ (r : DriverRow). IsInPlace (after_driver_row r p).memory (after_driver_row r p).driver) is (event_in_place p i.framed.place)
+  placed = subst (λ (r : DriverRow). IsInPlace (after_driver_row r p).memory (after_driver_row r p).driver) is (events_keep_all_in_place p i.framed.place)
 
   then : IsDescribing f descs now
   then = record { owners = placed.sound.owners; driven = drives.driven; described = told.described }
@@ -233,8 +233,8 @@ module _ (base : Base) (member : ℕ → Bool) (recent : ℕ → Option Kind) (d
     apart = λ a kind on. stays.stands a ∙ i.apart a kind on;
   }
 
-pub publish_now : PublishKeepsNow
-publish_now base member recent descs parts hand frame c d n b words t k i command is below at range ring_may frame_may =
+pub publish_keeps_now : PublishKeepsNow
+publish_keeps_now base member recent descs parts hand frame c d n b words t k i command is below at range ring_may frame_may =
     next_now base member recent recent descs parts descs (put parts n (32 * b) (Element (partly t (suc k)))) hand hand frame frame c d i
     (subst (RowLeaves base member recent descs (put parts n (32 * b) (Element (partly t (suc k)))) hand frame c d) (sym is)
     (leaves base member recent descs parts hand frame c d n b words t k i command is below at range ring_may frame_may))

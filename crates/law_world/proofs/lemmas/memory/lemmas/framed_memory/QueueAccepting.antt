@@ -30,22 +30,22 @@ use Rattle.law_driver_ring.proofs.Opens.{cancel_views}
 use Rattle.law_driver_ring.proofs.Viewing.{SameViews, driven_views}
 use Rattle.law_driver_ring.proofs.Offered.{opens_leave}
 use Rattle.law_driver_ring.proofs.Sending.{transfer_leaves}
-use Rattle.law_queues.proofs.lemmas.commanded_queues.Extending.{open_extents, asked_extents}
-use Rattle.law_driver.proofs.lemmas.in_place.Laws.{command_in_place}
-use Rattle.law_driver.proofs.lemmas.iso_frames.Due.{command_in_frames}
-use Rattle.law_frame_list.proofs.lemmas.list_driver.Rows.{command_keeps}
-use Rattle.law_driver.proofs.lemmas.planned_endpoints.Laws.{command_planned}
+use Rattle.law_queues.proofs.lemmas.commanded_queues.Extending.{extents_open, extents_asked}
+use Rattle.law_driver.proofs.lemmas.in_place.Laws.{commands_keep_all_in_place}
+use Rattle.law_driver.proofs.lemmas.iso_frames.Due.{commands_keep_the_frames}
+use Rattle.law_frame_list.proofs.lemmas.list_driver.Rows.{commands_keep_the_list}
+use Rattle.law_driver.proofs.lemmas.planned_endpoints.Laws.{commands_keep_the_plan}
 use Rattle.law_frames.specs.Met.{Kind}
 use Rattle.law_frames.specs.FrameHand.{FrameHand}
-use Rattle.law_controller.proofs.lemmas.frame_stores.Beside.{both_rest}
+use Rattle.law_controller.proofs.lemmas.frame_stores.Beside.{rest_leaves_both}
 use Rattle.law_descriptors.specs.Both.{both}
 use Rattle.law_descriptors.specs.Told.{IsToldBy, with_memory}
 use Rattle.law_descriptors.specs.Meeting.{standing, met}
 use Rattle.law_descriptors.specs.Recent.{AreRecent}
 use Rattle.law_descriptors.proofs.Others.{commands_describe}
-use Rattle.law_descriptors.proofs.Chained.{command_chained}
-use Rattle.law_descriptors.proofs.Queued.{command_linked}
-use Rattle.law_descriptors.proofs.Rings.{ring_of_queues}
+use Rattle.law_descriptors.proofs.Chained.{commands_leave_chained}
+use Rattle.law_descriptors.proofs.Queued.{commands_link_queued}
+use Rattle.law_descriptors.proofs.Rings.{ring_is_of_queues}
 use Rattle.law_world.specs.memory.framed_memory.Framed.{IsFramed}
 use Rattle.law_world.specs.memory.framed_memory.Now.{IsFramedNow}
 use Rattle.law_world.proofs.lemmas.memory.lemmas.framed_memory.StillStanding.{IsThereStill, pushed_there, pushed_still, set_still, recent_still, met_same, unchain_stands, unchain_recent_still}
@@ -91,7 +91,7 @@ pub record AcceptsBeside (d : DriverContent) (m : Mem) (o : Offered) (descs part
 module _ (base : Base) (member : ℕ → Bool) (recent : ℕ → Option Kind) (descs parts : StructureSets) (hand : Hand) (frame : FrameHand) (c : Content) (d : DriverContent) (cmd : Cmd) (o : Offered) (k : IsFramedNow base member recent descs parts hand frame c d) where
   ring_driven : DrivesRing base member parts hand (place c.control.walk c.registers c.memory) d
   ring_driven = record {
-    ring = ring_of_queues d descs parts base member hand (walk_place c) (record { owners = k.framed.place.sound.owners; driven = k.framed.driven; described = k.framed.described }) k.framed.runs.ring;
+    ring = ring_is_of_queues d descs parts base member hand (walk_place c) (record { owners = k.framed.place.sound.owners; driven = k.framed.driven; described = k.framed.described }) k.framed.runs.ring;
     driven = k.framed.driven;
   }
 
@@ -105,7 +105,7 @@ module _ (base : Base) (member : ℕ → Bool) (recent : ℕ → Option Kind) (d
         leaves = opens_leave d c.memory o why sound.stands sound.shape;
         told = record {
           driven = drives.driven;
-          extents = open_extents d c.memory o parts why sound.stands sound.owners drives.driven k.framed.extents;
+          extents = extents_open d c.memory o parts why sound.stands sound.owners drives.driven k.framed.extents;
           described = commands_describe d c.memory o descs (opens why) sound.stands k.framed.described;
         };
         same = λ n. ap (λ (f : Offered). standing f.driver n) why.is;
@@ -124,7 +124,7 @@ module _ (base : Base) (member : ℕ → Bool) (recent : ℕ → Option Kind) (d
         leaves = transfer_leaves d c.memory o why sound.owners sound.stands sound.shape;
         told = record {
           driven = drives.driven;
-          extents = asked_extents d c.memory o parts why sound.stands sound.owners drives.driven k.framed.extents;
+          extents = extents_asked d c.memory o parts why sound.stands sound.owners drives.driven k.framed.extents;
           described = commands_describe d c.memory o descs (transfers why) sound.stands k.framed.described;
         };
         same = λ n. ap (λ (f : Offered). standing f.driver n) why.is;
@@ -191,33 +191,33 @@ module _ (base : Base) (member : ℕ → Bool) (recent : ℕ → Option Kind) (d
           start = f.start;
           aligned = record { frame = f.aligned.frame; ring = f.aligned.ring; start = f.aligned.start };
           runs = runs_alike base member (met d recent) (met o.driver recent) (both descs parts) hand frame (with_memory c o.memory) (met_same d o.driver recent s.same)
-              (both_rest base member (met d recent) (both descs parts) hand frame c o.memory f.runs s.leaves);
-          place = command_in_place d c.memory cmd o room f.place is;
-          list = command_keeps d c.memory cmd o is sound f.list;
+              (rest_leaves_both base member (met d recent) (both descs parts) hand frame c o.memory f.runs s.leaves);
+          place = commands_keep_all_in_place d c.memory cmd o room f.place is;
+          list = commands_keep_the_list d c.memory cmd o is sound f.list;
           driven = s.told.driven;
           described = s.told.described;
           extents = s.told.extents;
         };
         recent_are = s.recent_are;
         apart = λ n kind on. s.same n ∙ k.apart n kind on;
-        chained = command_chained d c.memory cmd o sound.owners sound.listed is;
-        queued = command_linked d c.memory cmd o sound.listed is;
-        planned = command_planned d c.memory cmd o k.planned is;
-        in_frames = command_in_frames d c.memory cmd o sound.stands sound.owners k.planned room k.in_frames is;
+        chained = commands_leave_chained d c.memory cmd o sound.owners sound.listed is;
+        queued = commands_link_queued d c.memory cmd o sound.listed is;
+        planned = commands_keep_the_plan d c.memory cmd o k.planned is;
+        in_frames = commands_keep_the_frames d c.memory cmd o sound.stands sound.owners k.planned room k.in_frames is;
       }
 
-pub open_now : OpenKeepsNow
-open_now base member recent descs parts hand frame c d cmd o k why room is =
+pub open_keeps_now : OpenKeepsNow
+open_keeps_now base member recent descs parts hand frame c d cmd o k why room is =
     accepted base member recent descs parts hand frame c d cmd o k (opened base member recent descs parts hand frame c d cmd o k why) room is
 
-pub transfer_now : TransferKeepsNow
-transfer_now base member recent descs parts hand frame c d cmd o k why room is =
+pub transfer_keeps_now : TransferKeepsNow
+transfer_keeps_now base member recent descs parts hand frame c d cmd o k why room is =
     accepted base member recent descs parts hand frame c d cmd o k (asked base member recent descs parts hand frame c d cmd o k why) room is
 
-pub cancel_now : CancelKeepsNow
-cancel_now base member recent descs parts hand frame c d cmd o k why room is =
+pub cancel_keeps_now : CancelKeepsNow
+cancel_keeps_now base member recent descs parts hand frame c d cmd o k why room is =
     accepted base member recent descs parts hand frame c d cmd o k (cancelled base member recent descs parts hand frame c d cmd o k why) room is
 
-pub unchain_now : UnchainKeepsNow
-unchain_now base member recent descs parts hand frame c d cmd o k why room is =
+pub unchain_keeps_now : UnchainKeepsNow
+unchain_keeps_now base member recent descs parts hand frame c d cmd o k why room is =
     accepted base member recent descs parts hand frame c d cmd o k (unchained base member recent descs parts hand frame c d cmd o k why) room is

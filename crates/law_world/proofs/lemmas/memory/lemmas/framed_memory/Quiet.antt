@@ -31,9 +31,9 @@ use Rattle.law_driver_ring.specs.Driven.{IsOperating, is_quiet}
 use Rattle.law_driver_ring.proofs.Viewing.{SameViews, same_views, harvest_views, driven_views}
 use Rattle.law_driver_ring.specs.Extents.{AreInRuns}
 use Rattle.law_driver_ring.proofs.Extending.{extents_stay}
-use Rattle.law_driver.proofs.lemmas.in_place.Laws.{event_in_place}
+use Rattle.law_driver.proofs.lemmas.in_place.Laws.{events_keep_all_in_place}
 use Rattle.law_queues.specs.shared_memory.Shared.{parts_of, next_parts, after_driver}
-use Rattle.law_frame_list.proofs.lemmas.list_driver.Rows.{event_keeps}
+use Rattle.law_frame_list.proofs.lemmas.list_driver.Rows.{events_keep_the_list}
 use Rattle.law_frames.specs.Met.{Kind}
 use Rattle.law_frames.specs.FrameHand.{FrameHand}
 use Rattle.law_frames.specs.Frame.{IsFrameWalk}
@@ -163,8 +163,8 @@ runs_still base member met parts hand frame c d k s = record {
   outside = k.outside;
 }
 
-pub quiet_keeps : QuietKeepsFramed
-quiet_keeps base member met descs parts hand frame c d k frames quiet =
+pub quiet_keeps_framed : QuietKeepsFramed
+quiet_keeps_framed base member met descs parts hand frame c d k frames quiet =
     let p : Parts = parts_of c d in
     let s : StaysQuiet p (next_parts c d) = quiet_row base (driver_row p) p k.operating k.runs.ring.registers quiet in
     record {
@@ -176,8 +176,8 @@ quiet_keeps base member met descs parts hand frame c d k frames quiet =
         start = ap (λ (b : Base). b.async_list_address % 32) s.registers ∙ k.aligned.start;
       };
       runs = runs_still base member met (both descs parts) hand frame c d k.runs s;
-      place = event_in_place p k.place;
-      list = event_keeps p k.place.sound frames k.list;
+      place = events_keep_all_in_place p k.place;
+      list = events_keep_the_list p k.place.sound frames k.list;
       driven = driven_views (views_of d) (views_of (next_parts c d).driver) (sorts_of parts) s.views k.driven;
       described = described_follow (views_of d) (views_of (next_parts c d).driver) descs
           (same_descriptors (views_of d) (views_of (next_parts c d).driver) s.views (λ b. ap (λ (notes : List DescriptorNote). descriptor_in notes b) s.notes)) k.described;

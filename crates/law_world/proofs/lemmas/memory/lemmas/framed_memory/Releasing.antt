@@ -40,7 +40,7 @@ use Rattle.law_driver_ring.proofs.Blocks.{all_one, is_not_named, mine, all_mine,
 use Rattle.law_driver_ring.proofs.Freeing.{HaveNone, all_told}
 use Rattle.law_driver_ring.proofs.Releasing.{release_drives}
 use Rattle.law_driver.specs.in_place.InPlace.{IsInPlace}
-use Rattle.law_driver.proofs.lemmas.in_place.Laws.{event_in_place}
+use Rattle.law_driver.proofs.lemmas.in_place.Laws.{events_keep_all_in_place}
 use Rattle.law_queues.specs.shared_memory.Shared.{parts_of}
 use Rattle.law_frames.specs.Met.{Kind, AQueue, IsMetQueue}
 use Rattle.law_frames.specs.FrameHand.{FrameHand}
@@ -55,7 +55,7 @@ use Rattle.law_descriptors.specs.Removed.{a_descriptor as removed_descriptor}
 use Rattle.law_descriptors.specs.Removed.{IsRemovedAt, a_queue, a_waiting, IsRemovedSince, IsUnchainedNow}
 use Rattle.law_descriptors.specs.Recent.{AreRecent}
 use Rattle.law_descriptors.proofs.Owned.{descriptor_owner, one_owner, IsOfDescriptors, descriptor_lies}
-use Rattle.law_descriptors.proofs.Rings.{ring_of_queues}
+use Rattle.law_descriptors.proofs.Rings.{ring_is_of_queues}
 use Rattle.law_descriptors.proofs.Telling.{descriptor_found, piece_owner}
 use Rattle.law_world.specs.memory.framed_memory.Now.{IsFramedNow}
 use Rattle.law_world.proofs.lemmas.memory.lemmas.framed_memory.Now.{RowLeaves, next_now}
@@ -183,7 +183,7 @@ module _ (base : Base) (member : ℕ → Bool) (recent : ℕ → Option Kind) (d
   drives =
       subst (λ (q : Parts). DrivesRing base member now hand (place c.control.walk q.registers q.memory) q.driver × AreInRuns (views_of q.driver) now) after_is
       (release_drives base member parts hand c.control.walk p t y x
-      (record { ring = ring_of_queues d descs parts base member hand (walk_place c) old k.framed.runs.ring; driven = k.framed.driven }) k.framed.place.sound.owners k.framed.place.sound.stands k.framed.extents go
+      (record { ring = ring_is_of_queues d descs parts base member hand (walk_place c) old k.framed.runs.ring; driven = k.framed.driven }) k.framed.place.sound.owners k.framed.place.sound.stands k.framed.extents go
       ring_may)
 
   -- ---- whose runs are given back
@@ -326,7 +326,7 @@ module _ (base : Base) (member : ℕ → Bool) (recent : ℕ → Option Kind) (d
   placed : IsInPlace freed.memory f
   placed =
       subst (λ (q : Parts). IsInPlace q.memory q.driver) after_is
-      (subst (λ (r : DriverRow). IsInPlace (after_driver_row r p).memory (after_driver_row r p).driver) is (event_in_place p k.framed.place))
+      (subst (λ (r : DriverRow). IsInPlace (after_driver_row r p).memory (after_driver_row r p).driver) is (events_keep_all_in_place p k.framed.place))
 
   new : IsDescribing f descs now
   new = record { owners = placed.sound.owners; driven = drives.0.driven; described = described }
@@ -350,8 +350,8 @@ module _ (base : Base) (member : ℕ → Bool) (recent : ℕ → Option Kind) (d
       let l : LeavesAt (after_driver_row (rows.ReleaseTransfer t) p) = subst LeavesAt (sym after_is) at_then in
       record { runs = l.runs; told = l.told; recent_are = l.recent_are; apart = l.apart }
 
-pub release_transfer_now : ReleaseTransferKeepsNow
-release_transfer_now base member recent descs parts hand frame c d t y x k is go ring_may frame_may =
+pub release_transfer_keeps_now : ReleaseTransferKeepsNow
+release_transfer_keeps_now base member recent descs parts hand frame c d t y x k is go ring_may frame_may =
     next_now base member recent recent descs parts descs (without_those parts (32 * x.queue) (goes_of d y)) hand hand frame frame c d k
     (subst (RowLeaves base member recent descs (without_those parts (32 * x.queue) (goes_of d y)) hand frame c d) (sym is)
     (leaves base member recent descs parts hand frame c d t y x k is go ring_may frame_may))

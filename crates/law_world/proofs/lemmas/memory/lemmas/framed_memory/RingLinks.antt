@@ -31,7 +31,7 @@ use Rattle.law_driver_ring.specs.Extents.{AreInRuns}
 use Rattle.law_driver_ring.proofs.Extending.{extents_stay, head_put}
 use Rattle.law_driver_ring.proofs.Storing.{store_made}
 use Rattle.law_driver.specs.in_place.InPlace.{IsInPlace}
-use Rattle.law_driver.proofs.lemmas.in_place.Laws.{event_in_place}
+use Rattle.law_driver.proofs.lemmas.in_place.Laws.{events_keep_all_in_place}
 use Rattle.law_queues.specs.shared_memory.Shared.{parts_of}
 use Rattle.law_frames.specs.Met.{Kind, IsMetQueue}
 use Rattle.law_frames.specs.FrameHand.{FrameHand}
@@ -42,7 +42,7 @@ use Rattle.law_descriptors.specs.PartLaws.{IsDescribing}
 use Rattle.law_descriptors.specs.Told.{IsToldBy, with_memory}
 use Rattle.law_descriptors.specs.Meeting.{met}
 use Rattle.law_descriptors.proofs.Others.{rows_told}
-use Rattle.law_descriptors.proofs.Rings.{ring_of_queues, list_of_queues}
+use Rattle.law_descriptors.proofs.Rings.{ring_is_of_queues, list_is_of_queues}
 use Rattle.law_descriptors.proofs.Standing.{found_on}
 use Rattle.law_descriptors.proofs.Telling.{queue_off, queue_found, descriptor_found}
 use Rattle.law_world.specs.memory.framed_memory.Now.{IsFramedNow, FramedNext}
@@ -166,7 +166,7 @@ module _ (base : Base) (member : ℕ → Bool) (recent : ℕ → Option Kind) (d
   list : now base.periodic_list_base base.periodic_list_base ≡ parts base.periodic_list_base base.periodic_list_base
   list =
       let table : ℕ = base.periodic_list_base in
-      let listed : FrameList parts base = (list_of_queues d descs parts base old).0 i.framed.runs.list in
+      let listed : FrameList parts base = (list_is_of_queues d descs parts base old).0 i.framed.runs.list in
       ap (λ (part : Structures). part table)
       (put_beside parts n n (QueueHead new) table (λ (same : table ≡ n). table_head (parts table table) listed.words q listed.here (ap (λ (j : ℕ). parts j j) same ∙ there)))
 
@@ -203,7 +203,7 @@ module _ (base : Base) (member : ℕ → Bool) (recent : ℕ → Option Kind) (d
       (head_put parts n n new) told.extents
 
   placed : IsInPlace after f
-  placed = subst (λ (r : DriverRow). IsInPlace (after_driver_row r p).memory (after_driver_row r p).driver) is (event_in_place p i.framed.place)
+  placed = subst (λ (r : DriverRow). IsInPlace (after_driver_row r p).memory (after_driver_row r p).driver) is (events_keep_all_in_place p i.framed.place)
 
   leaves : DrivesRing base member now later (place c.control.walk c.registers after) f → StaysMet recent c.registers.frame_index d f → RowLeaves base member recent descs now later frame c d row
   leaves drives stays =
@@ -227,4 +227,4 @@ pub ring_now : (base : Base) (member : ℕ → Bool) (recent : ℕ → Option Ki
     → IsFramedNow base member recent descs parts hand frame c d → DrivesRing base member parts hand (walk_place c) d
 ring_now base member recent descs parts hand frame c d i =
     let old : IsDescribing d descs parts = record { owners = i.framed.place.sound.owners; driven = i.framed.driven; described = i.framed.described } in
-    record { ring = ring_of_queues d descs parts base member hand (walk_place c) old i.framed.runs.ring; driven = i.framed.driven }
+    record { ring = ring_is_of_queues d descs parts base member hand (walk_place c) old i.framed.runs.ring; driven = i.framed.driven }

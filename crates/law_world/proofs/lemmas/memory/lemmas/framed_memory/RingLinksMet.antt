@@ -25,10 +25,10 @@ use Rattle.claims_base.specs.Controller.{Base}
 use Rattle.law_driver_ring.specs.Linked.{with_member, head_at, link_row}
 use Rattle.law_driver_ring.specs.fed_queues.Places.{IsMet, HasHead, AreMet}
 use Rattle.law_queues.specs.leaving_drivers.Before.{WasSame, IsAsBefore, NearSame}
-use Rattle.law_queues.proofs.lemmas.leaving_drivers.Leaving.{unlink_as_before}
+use Rattle.law_queues.proofs.lemmas.leaving_drivers.Leaving.{unlink_is_as_before}
 use Rattle.law_queues.specs.open_laws.Opens.{IsOpenLent}
 use Rattle.law_queues.proofs.lemmas.open_laws.Standing.{member_here, member_old, member_beside}
-use Rattle.law_world.proofs.lemmas.steps.lemmas.unlinked_streams.Passing.{row_is, unlink_row_is}
+use Rattle.law_world.proofs.lemmas.steps.lemmas.unlinked_streams.Passing.{row_is, unlink_row}
 use Rattle.law_queues.specs.shared_memory.Shared.{parts_of, next_parts}
 use Rattle.law_frames.specs.Met.{Kind}
 use Rattle.law_frames.specs.FrameHand.{FrameHand}
@@ -167,8 +167,8 @@ pub unlink_meets : UnlinkMeets
 unlink_meets c d member parts k old =
     let p : Parts = parts_of c d in
     let f : DriverContent = (next_parts c d).driver in
-    let done : f.command ≡ None = (unlink_row_is p member parts k).done in
+    let done : f.command ≡ None = (unlink_row p member parts k).done in
     let before : IsAsBefore d f × NearSame d f
     = subst (λ (r : DriverRow). IsAsBefore d (after_driver_row r p).driver × NearSame d (after_driver_row r p).driver) (sym (row_is p member parts k))
-    (unlink_as_before p k.number k.before (queue_head_link k.after) k.before (32 * k.before) (queue_head_link k.after) k.command) in
+    (unlink_is_as_before p k.number k.before (queue_head_link k.after) k.before (32 * k.before) (queue_head_link k.after) k.command) in
     met_as_before d f member (λ q opens. not_opened d.command k.number k.before (queue_head_link k.after) q k.command opens) (λ q opens. none_open q (sym done ∙ opens)) before.0 before.1 old

@@ -27,7 +27,7 @@ use Rattle.law_queues.specs.open_laws.Lends.{IsOpenReady, parts_lent}
 use Rattle.law_queues.specs.shared_memory.Shared.{parts_of, next_parts}
 use Rattle.law_frames.specs.Met.{Kind}
 use Rattle.law_frames.specs.FrameHand.{FrameHand}
-use Rattle.law_controller.proofs.lemmas.frame_control.Running.{neither_changes}
+use Rattle.law_controller.proofs.lemmas.frame_control.Running.{what_neither_walk_meets_stays}
 use Rattle.law_descriptors.specs.Both.{owns, both, parts_now}
 use Rattle.law_descriptors.specs.PartLaws.{IsDescribing}
 use Rattle.law_descriptors.specs.Meeting.{met}
@@ -35,7 +35,7 @@ use Rattle.law_descriptors.proofs.Standing.{both_off}
 use Rattle.law_descriptors.proofs.Telling.{queue_off}
 use Rattle.law_world.specs.memory.framed_memory.Now.{IsFramedNow, FramedNext}
 use Rattle.law_world.specs.memory.framed_memory.Ring.{OpenLendNow, OpenLendMeets, OpenLentStaysNow}
-use Rattle.law_world.proofs.lemmas.memory.lemmas.framed_memory.OpenLends.{lend_open_now}
+use Rattle.law_world.proofs.lemmas.memory.lemmas.framed_memory.OpenLends.{lend_open_keeps_now}
 use Rattle.law_world.proofs.lemmas.memory.lemmas.framed_memory.RingLinks.{ring_now}
 use Rattle.law_world.proofs.lemmas.memory.lemmas.framed_memory.RingLinksOpen.{queue_here, never_met}
 
@@ -102,7 +102,7 @@ module _ (base : Base) (member : ℕ → Bool) (recent : ℕ → Option Kind) (d
 
   pub lent_now : FramedNext base member recent descs now hand frame c d × IsOpenLent (next_parts c d).driver member now
   lent_now = (
-    lend_open_now base member recent descs parts hand frame c d k.number r q i (row_is c d k) k.opened,
+    lend_open_keeps_now base member recent descs parts hand frame c d k.number r q i (row_is c d k) k.opened,
     subst (λ (g : DriverContent). IsOpenLent g member now) (sym (driver_is c d k)) lent,
   )
 
@@ -111,8 +111,8 @@ open_lend_now base member recent descs parts hand frame c d i k = lent_now base 
 
 -- ---- the controller
 
-pub open_lent_stays : {W : Type 0} (begins : W → ℕ → Bool → W → Type 0) (transacts : W → Ask → List ℕ → Reply → W → Type 0) → OpenLentStaysNow begins transacts
-open_lent_stays begins transacts base member recent descs parts hand frame c d wire after now later frame_later i h k effect =
+pub open_lent_stays_now : {W : Type 0} (begins : W → ℕ → Bool → W → Type 0) (transacts : W → Ask → List ℕ → Reply → W → Type 0) → OpenLentStaysNow begins transacts
+open_lent_stays_now begins transacts base member recent descs parts hand frame c d wire after now later frame_later i h k effect =
     let n : ℕ = 32 * k.endpoint.queue in
     let q : Qh = queue_head k.endpoint.desc k.link k.endpoint.dummy in
     let old : IsDescribing d descs parts = record { owners = i.framed.place.sound.owners; driven = i.framed.driven; described = i.framed.described } in
@@ -120,7 +120,7 @@ open_lent_stays begins transacts base member recent descs parts hand frame c d w
     let none : met d recent n ≡ None = by (met d recent n) (λ kind at. never_met base member recent descs parts hand frame c d i k h kind at) in
     let same : parts_now descs parts now n ≡ parts n
     = ap (λ (b : Bool). if b then parts n else now n) off
-    ∙ neither_changes begins transacts base member (met d recent) (both descs parts) hand frame c wire after now later frame_later n i.framed.runs effect k.unmet none ∙ both_off descs parts n off in
+    ∙ what_neither_walk_meets_stays begins transacts base member (met d recent) (both descs parts) hand frame c wire after now later frame_later n i.framed.runs effect k.unmet none ∙ both_off descs parts n off in
     record {
       number = k.number;
       endpoint = k.endpoint;

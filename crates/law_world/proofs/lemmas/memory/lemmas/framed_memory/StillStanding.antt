@@ -37,14 +37,14 @@ use Rattle.law_driver_ring.proofs.Lists.{IsOneOf}
 use Rattle.law_frames.specs.Met.{Kind}
 use Rattle.law_driver.specs.listed_members.Listed.{IsOwnedAs}
 use Rattle.law_driver.specs.listed_members.Members.{IsUnderWay, IsListed}
-use Rattle.law_driver.proofs.lemmas.listed_members.Owned.{members_owned}
+use Rattle.law_driver.proofs.lemmas.listed_members.Owned.{members_have_runs}
 use Rattle.law_descriptors.specs.Meeting.{kind_of_descriptor, queue_begins, descriptor_begins, kind_by, kind_at, standing_in, standing, or_recent, met}
 use Rattle.claims_driver.specs.Unlinked.{led}
 use Rattle.law_descriptors.specs.Removed.{IsRemovedAt, a_descriptor, a_queue, a_waiting, IsRemovedSince, IsUnchainedNow}
 use Rattle.law_descriptors.specs.Recent.{AreRecent}
 use Rattle.law_descriptors.proofs.Accepted.{made, all_transfers, notes_other}
 use Rattle.law_descriptors.proofs.ListRows.{idle_led, unlinking_led}
-use Rattle.law_descriptors.proofs.RowStaying.{unchain_recent}
+use Rattle.law_descriptors.proofs.RowStaying.{unchain_is_recent}
 
 -- ---- what is recent
 
@@ -185,7 +185,7 @@ unchain_recent_still d e x ms recent index idle here chained are = by (is_none f
     begun = recent_still d f recent index idle (set_still d.endpoints e x z here refl refl) (λ t y there. there) (begun_removals (record d.periodic { queued = ms })) are
 
     by : (b : Bool) → AreRecent (cond b (finished f (unfinished.Unchain e)) f) index recent
-    by true = unchain_recent f recent index e z refl (set_here d.endpoints e x z here) chained begun
+    by true = unchain_is_recent f recent index e z refl (set_here d.endpoints e x z here) chained begun
     by false = begun
 
 -- ---- descriptors are accepted: no member has a run that is new
@@ -246,7 +246,7 @@ note_still d m o why b stands run =
 pub described_stands : (d : DriverContent) (m : Mem) (o : Offered) (why : Describes d m o) → Stands (holding d.book m) → HasOwners d → IsListed d → (n : ℕ) → standing o.driver n ≡ standing d n
 described_stands d m o why stands has listed n =
     let led_is : led d ≡ d.periodic.list.members.schedule = idle_led d.periodic.list (idle_work d why.idle listed) in
-    let runs = members_owned d has listed in
+    let runs = members_have_runs d has listed in
     ap (λ (f : Offered). standing f.driver n) why.is
     ∙ kind_same d.periodic (record d.periodic { notes = (after d m o why).notes }) (led d) n
     (λ any. note_still d m o why (n / 32) stands

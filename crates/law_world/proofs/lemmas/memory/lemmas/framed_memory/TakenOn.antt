@@ -41,12 +41,12 @@ use Rattle.claims_driver.specs.Leaving.{HasOwners}
 use Rattle.law_driver.proofs.lemmas.run_owners.Released.{set_here}
 use Rattle.law_driver.specs.planned_endpoints.Planned.{IsPlanned}
 use Rattle.claims_driver.specs.DueMembers.{IsPlannedAt}
-use Rattle.law_driver.proofs.lemmas.planned_endpoints.Laws.{endpoint_planned}
+use Rattle.law_driver.proofs.lemmas.planned_endpoints.Laws.{endpoints_count_until_given_back}
 use Rattle.law_frame_list.proofs.lemmas.list_driver.Coming.{frames_none}
 use Rattle.law_descriptors.specs.Written.{HasFields}
 use Rattle.law_descriptors.specs.LendLaws.{HasSlots}
 use Rattle.law_descriptors.proofs.Fields.{slots_few}
-use Rattle.law_descriptors.proofs.Accepted.{accepted_await}
+use Rattle.law_descriptors.proofs.Accepted.{accepted_await_lend}
 use Rattle.law_world.specs.memory.framed_memory.Masks.{HasMasks, AreMasked}
 use Rattle.law_world.specs.memory.framed_memory.Isochronous.{NumbersFit, AwaitsLend}
 use Rattle.law_world.specs.memory.framed_memory.IsochronousLaws.{CommandsKeepAwaiting}
@@ -268,7 +268,7 @@ masks_small : (d : DriverContent) (e : ℕ) (x : Endpoint) (o : Option Placement
     → (smask_of o < 256) × (cmask_of o < 256)
 masks_small d e x None has planned masked here goes_on placed = (omega arith, omega arith)
 masks_small d e x (Some p) has planned masked here goes_on placed =
-    let at : IsPlannedAt d e x p = endpoint_planned d e x p planned here (kept d e x has here goes_on) placed in
+    let at : IsPlannedAt d e x p = endpoints_count_until_given_back d e x p planned here (kept d e x has here goes_on) placed in
     let k : HasMasks p = one_of_all (λ (y : Placed). HasMasks y.placement) d.periodic.plan.placed at.place (record { want = want_of e x.desc; placement = p }) masked at.there in
     (k.smask, k.cmask)
 
@@ -291,8 +291,8 @@ fields x s fit has = record {
   port = let low = has.port in omega (arith, low);
 }
 
-pub commands_await : CommandsKeepAwaiting
-commands_await d m cmd o place planned masked numbers is e t count now few =
+pub commands_keep_awaiting : CommandsKeepAwaiting
+commands_keep_awaiting d m cmd o place planned masked numbers is e t count now few =
     subst (λ (i : ℕ). AwaitsLend o.driver o.memory i t) (same_endpoint why.number (length d.transfers) why.count e t count same)
     (subst (λ (u : ℕ). AwaitsLend o.driver o.memory why.number u) (same_first why.number (length d.transfers) why.count e t count same) waits)
   where
@@ -321,7 +321,7 @@ commands_await d m cmd o place planned masked numbers is e t count now few =
     waits = record {
       endpoint = later;
       here = ap (λ (f : Offered). slice_get f.driver.endpoints why.number) why.is ∙ set_here d.endpoints why.number x later why.here;
-      await = accepted_await d m o why (fields x (slots_of x k.len) (numbers why.number x why.here) fit)
+      await = accepted_await_lend d m o why (fields x (slots_of x k.len) (numbers why.number x why.here) fit)
           (subst HasSlots (sym k.slots) (record { few = fit.few; smask = masks.0; cmask = masks.1 }))
           place.sound.owners place.lent place.sound.stands place.sound.shape;
     }

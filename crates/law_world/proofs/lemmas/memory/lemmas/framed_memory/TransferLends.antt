@@ -10,7 +10,7 @@ use Rattle.drv_table.specs.Parts.{Parts}
 use Rattle.drv_table.specs.Rows.{driver_row, after_driver_row}
 use Rattle.drv_table.specs.Commands.{advance}
 use Rattle.law_driver.specs.run_owners.Due.{IsDue, IsNextOf}
-use Rattle.law_driver.proofs.lemmas.run_owners.Reasons.{each_is_due}
+use Rattle.law_driver.proofs.lemmas.run_owners.Reasons.{each_event_is_due}
 use Rattle.claims_driver.specs.LentRuns.{begins_in}
 use Rattle.hc_core.specs.Controller.{Content, walk_place}
 use Rattle.law_ring.specs.Hand.{Hand}
@@ -20,7 +20,7 @@ use Rattle.law_driver_ring.specs.Extents.{AreInRuns}
 use Rattle.law_driver_ring.proofs.Lent.{lend_taken_leaves}
 use Rattle.law_driver_ring.proofs.Viewing.{advance_views}
 use Rattle.law_driver.specs.in_place.InPlace.{IsInPlace}
-use Rattle.law_driver.proofs.lemmas.in_place.Laws.{event_in_place}
+use Rattle.law_driver.proofs.lemmas.in_place.Laws.{events_keep_all_in_place}
 use Rattle.law_queues.specs.shared_memory.Shared.{parts_of}
 use Rattle.law_frames.specs.Met.{Kind, IsMetQueue}
 use Rattle.law_frames.specs.FrameHand.{FrameHand}
@@ -31,7 +31,7 @@ use Rattle.law_descriptors.specs.PartLaws.{IsDescribing}
 use Rattle.law_descriptors.specs.Told.{with_memory}
 use Rattle.law_descriptors.specs.Meeting.{met}
 use Rattle.law_descriptors.proofs.Others.{queue_lend_describes}
-use Rattle.law_descriptors.proofs.Rings.{ring_of_queues, list_of_queues}
+use Rattle.law_descriptors.proofs.Rings.{ring_is_of_queues, list_is_of_queues}
 use Rattle.law_world.specs.memory.framed_memory.Now.{IsFramedNow}
 use Rattle.law_world.proofs.lemmas.memory.lemmas.framed_memory.Now.{RowLeaves, next_now}
 use Rattle.law_world.proofs.lemmas.memory.lemmas.framed_memory.StillStanding.{met_same}
@@ -115,7 +115,7 @@ module _ (base : Base) (member : ℕ → Bool) (recent : ℕ → Option Kind) (d
   drives : DrivesRing base member now hand (place c.control.walk c.registers after) f × HasPieces d (slot_of lent.book.slots) parts now y x s ss
   drives =
       lend_drives base member parts hand c.control.walk c.registers c.memory d t y x s ss wait k.framed.place.sound.owners k.framed.place.sound.stands
-      (record { ring = ring_of_queues d descs parts base member hand (walk_place c) old k.framed.runs.ring; driven = k.framed.driven }) names
+      (record { ring = ring_is_of_queues d descs parts base member hand (walk_place c) old k.framed.runs.ring; driven = k.framed.driven }) names
 
   -- ---- the walk of the frames
 
@@ -153,7 +153,7 @@ module _ (base : Base) (member : ℕ → Bool) (recent : ℕ → Option Kind) (d
 
   list : now base.periodic_list_base base.periodic_list_base ≡ parts base.periodic_list_base base.periodic_list_base
   list =
-      let there : FrameList parts base = (list_of_queues d descs parts base old).0 k.framed.runs.list in
+      let there : FrameList parts base = (list_is_of_queues d descs parts base old).0 k.framed.runs.list in
       drives.1.still base.periodic_list_base base.periodic_list_base (Table there.words) there.here ∙ sym there.here
 
   -- ---- their runs
@@ -178,14 +178,14 @@ module _ (base : Base) (member : ℕ → Bool) (recent : ℕ → Option Kind) (d
   -- ---- the driver then
 
   placed : IsInPlace after f
-  placed = subst (λ (r : DriverRow). IsInPlace (after_driver_row r p).memory (after_driver_row r p).driver) is (event_in_place p k.framed.place)
+  placed = subst (λ (r : DriverRow). IsInPlace (after_driver_row r p).memory (after_driver_row r p).driver) is (events_keep_all_in_place p k.framed.place)
 
   new : IsDescribing f descs now
   new = record { owners = placed.sound.owners; driven = drives.0.driven; described = described }
 
   stays : StaysMet recent c.registers.frame_index d f
   stays =
-      let due : IsNextOf p rows.Lend = subst (IsDue p) is (each_is_due p) in
+      let due : IsNextOf p rows.Lend = subst (IsDue p) is (each_event_is_due p) in
       lend_step recent c.registers.frame_index d (lend_taken h).book due.command k.recent_are due.unfinished due.next k.framed.list.list.order.kept
 
   runs : RunsBoth base member (met d recent) (both descs now) hand frame (with_memory c after)
@@ -201,8 +201,8 @@ module _ (base : Base) (member : ℕ → Bool) (recent : ℕ → Option Kind) (d
     apart = λ a kind at. stays.stands a ∙ k.apart a kind at;
   }
 
-pub lend_transfer_now : LendTransferKeepsNow
-lend_transfer_now base member recent descs parts hand frame c d t y x s ss k is wait names =
+pub lend_transfer_keeps_now : LendTransferKeepsNow
+lend_transfer_keeps_now base member recent descs parts hand frame c d t y x s ss k is wait names =
     next_now base member recent recent descs parts descs (put_all parts (32 * x.queue) (items_of d c.memory y x s ss)) hand hand frame frame c d k
     (subst (RowLeaves base member recent descs (put_all parts (32 * x.queue) (items_of d c.memory y x s ss)) hand frame c d) (sym is)
     (leaves base member recent descs parts hand frame c d t y x s ss k is wait names))

@@ -34,7 +34,7 @@ use Rattle.law_driver.proofs.lemmas.run_owners.Released.{same_by_test, set_there
 use Rattle.law_driver.proofs.lemmas.run_owners.Orders.{times_first, removed_first, one_same}
 use Rattle.law_driver.proofs.lemmas.run_owners.Leaves.{first_left}
 use Rattle.law_driver.proofs.lemmas.run_owners.Rows.{not_iso}
-use Rattle.law_driver.proofs.lemmas.run_owners.Reasons.{each_is_due}
+use Rattle.law_driver.proofs.lemmas.run_owners.Reasons.{each_event_is_due}
 use Rattle.claims_driver.specs.LentRuns.{begins_in, AreLent}
 use Rattle.law_driver.proofs.lemmas.lent_runs.Books.{advance_book, harvest_book}
 use Rattle.law_driver.proofs.lemmas.lent_runs.Goes.{idle_none}
@@ -405,5 +405,6 @@ due_owns (rows.Harvest e t found) p due order lends old =
 due_owns rows.Rest p due order lends old = old
 due_owns _ p due order lends old = with_book p.driver _ (stays_same p.driver _ refl (λ i. refl) (λ i. refl) (λ c. refl) refl refl) refl refl old
 
-pub event_owns : (p : Parts) → HasOwners p.driver → AreLent p.driver → OwnsAll p.driver → OwnsAll (after_driver_row (driver_row p) p).driver
-event_owns p owners lends old = due_owns (driver_row p) p (each_is_due p) owners.orderly lends old
+pub event_owns_all : (p : Parts) → HasOwners p.driver → AreLent p.driver → OwnsAll p.driver
+    → OwnsAll (after_driver_row (driver_row p) p).driver
+event_owns_all p owners lends old = due_owns (driver_row p) p (each_event_is_due p) owners.orderly lends old

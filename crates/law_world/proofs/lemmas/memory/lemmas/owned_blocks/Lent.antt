@@ -24,7 +24,7 @@ use Rattle.law_driver.specs.run_owners.Accepts.{Accepts, opens, chains, places, 
 use Rattle.claims_driver.specs.Owners.{FrameList, Head, QueueHead, Dummy, Element, Described, Buffer, HasRun, SlotHas, IsPlaced, views_of}
 use Rattle.claims_driver.specs.Leaving.{HasOwners}
 use Rattle.law_driver.proofs.lemmas.run_owners.Runs.{placed_run}
-use Rattle.law_driver.proofs.lemmas.run_owners.Commands.{accepted_for_a_reason}
+use Rattle.law_driver.proofs.lemmas.run_owners.Commands.{each_command_has_its_reason}
 use Rattle.claims_driver.specs.LentRuns.{begins_in, AreLent, IsLent}
 use Rattle.law_driver_ring.proofs.Blocks.{all_one, placed_buffer}
 use Rattle.claims_world.specs.Owned.{the_list, the_head, a_queue, a_dummy, a_piece, a_buffer, a_descriptor, a_descriptor_buffer, IsOwnedRun, AreAllOwned, IsLentBlock, LentBlocksAre}
@@ -43,8 +43,8 @@ accepted_owns d m o stands (describes why) owners old = describe_owns d m o stan
 accepted_owns d m o stands (cancels why) owners old = cancel_owns d m o why old
 accepted_owns d m o stands (unchains why) owners old = unchain_owns d m o why old
 
-pub command_owns : (d : DriverContent) (m : Mem) (cmd : Cmd) (o : Offered) → Stands (holding d.book m) → HasOwners d → offered d m cmd ≡ Ok o → OwnsAll d → OwnsAll o.driver
-command_owns d m cmd o stands owners is old = accepted_owns d m o stands (accepted_for_a_reason d m cmd o is) owners old
+pub command_owns_all : (d : DriverContent) (m : Mem) (cmd : Cmd) (o : Offered) → Stands (holding d.book m) → HasOwners d → offered d m cmd ≡ Ok o → OwnsAll d → OwnsAll o.driver
+command_owns_all d m cmd o stands owners is old = accepted_owns d m o stands (each_command_has_its_reason d m cmd o is) owners old
 
 -- ---- a driver that was just built
 
@@ -53,8 +53,8 @@ none_in zero b run = run
 none_in (suc k) zero run = run
 none_in (suc k) (suc b) run = none_in k b run
 
-pub opening_owns : (n : ℕ) (room : Reserve) → 2048 ≤ n → OwnsAll (opening n room).driver
-opening_owns n room many = record {
+pub new_driver_owns_all : (n : ℕ) (room : Reserve) → 2048 ≤ n → OwnsAll (opening n room).driver
+new_driver_owns_all n room many = record {
   all = λ b run.
       ⊎_elim (λ (head : b ≡ head_block). the_head head)
       (λ (other : b ≢ head_block).
@@ -102,8 +102,8 @@ past_none [] k x is = absurd (cc)
 past_none (y ∷ xs) zero x is = omega arith
 past_none (y ∷ xs) (suc k) x is = let r = past_none xs k x is in omega (arith, r)
 
-pub lent_blocks : (d : DriverContent) (m : Mem) → Stands (holding d.book m) → AreAllOwned d → LentBlocksAre d m
-lent_blocks d m stands all k = (told, from)
+pub lent_blocks_are_needed : (d : DriverContent) (m : Mem) → Stands (holding d.book m) → AreAllOwned d → LentBlocksAre d m
+lent_blocks_are_needed d m stands all k = (told, from)
   where
     told : state_at m k ≡ Some Lent → IsLentBlock d k
     told is =
@@ -150,6 +150,6 @@ lent_slot Empty run none = run
 lent_slot (Keeps r) run none = none r refl
 lent_slot (Lends r) run none = tt
 
-pub needed_lent : (d : DriverContent) (b : ℕ) → HasOwners d → AreLent d → IsOwnedRun d b → begins_in b d.book.taken ≡ false → IsLent (slot_of d.book.slots b)
-needed_lent d b owners lends is off =
+pub needed_runs_are_lent : (d : DriverContent) (b : ℕ) → HasOwners d → AreLent d → IsOwnedRun d b → begins_in b d.book.taken ≡ false → IsLent (slot_of d.book.slots b)
+needed_runs_are_lent d b owners lends is off =
     lent_slot (slot_of d.book.slots b) (owned_run d b owners is) (λ r keeps. false≢true (sym off ∙ lends.kept b r keeps))

@@ -11,8 +11,8 @@ use Rattle.drv_table.specs.DriverContent.{DriverContent}
 use Rattle.drv_table.specs.Accepting.{Offered}
 use Rattle.drv_table.specs.Offers.{offered}
 use Rattle.claims_driver.specs.Leaving.{HasOwners}
-use Rattle.law_driver.proofs.lemmas.run_owners.Laws.{command_owned, event_owned}
-use Rattle.law_driver.proofs.lemmas.run_owners.Opened.{opening_owned}
+use Rattle.law_driver.proofs.lemmas.run_owners.Laws.{commands_keep_owners, events_keep_owners}
+use Rattle.law_driver.proofs.lemmas.run_owners.Opened.{opening_has_owners}
 use Rattle.bus_wire.specs.Bus.{Fixed, fixed_of}
 use Rattle.bus_world.specs.World.{World, driver_parts, next, name_in, commanded, commanded_by, refused_line}
 use Rattle.bus_world.specs.Opening.{opening_world}
@@ -22,8 +22,8 @@ use Rattle.bus_world.specs.Budgets.{moment}
 use Rattle.law_world.proofs.lemmas.memory.lemmas.worlds_keep_to_lent.Standing.{IsStanding, next_stands, commanded_stands, opening_stands}
 use Rattle.law_world.specs.memory.owned_blocks.Owned.{OwnsAll}
 use Rattle.claims_world.specs.Owned.{OwnsItsBlocks, OwnsItsBlocksThroughout}
-use Rattle.law_world.proofs.lemmas.memory.lemmas.owned_blocks.Events.{event_owns}
-use Rattle.law_world.proofs.lemmas.memory.lemmas.owned_blocks.Lent.{command_owns, opening_owns, lent_blocks, needed_lent}
+use Rattle.law_world.proofs.lemmas.memory.lemmas.owned_blocks.Events.{event_owns_all}
+use Rattle.law_world.proofs.lemmas.memory.lemmas.owned_blocks.Lent.{command_owns_all, new_driver_owns_all, lent_blocks_are_needed, needed_runs_are_lent}
 
 pub record HasItsBlocks (w : World) : Type 0 where
   pub standing : IsStanding w
@@ -40,8 +40,8 @@ event_has fixed w events.C k = record {
 }
 event_has fixed w events.D k = record {
   standing = next_stands fixed w events.D k.standing;
-  owners = event_owned (driver_parts w) k.owners;
-  owns = event_owns (driver_parts w) k.owners k.standing.lent k.owns;
+  owners = events_keep_owners (driver_parts w) k.owners;
+  owns = event_owns_all (driver_parts w) k.owners k.standing.lent k.owns;
 }
 
 -- ---- a command
@@ -59,8 +59,8 @@ refused_owns d n name why old = record { all = old.all; queues = old.queues }
 answered_has : (w : World) (n : ℕ) (name : EpName) (cmd : Cmd) (r : Result Offered OfferError) → HasItsBlocks w → offered w.driver w.memory cmd ≡ r → IsStanding (commanded_by w n name r) → HasItsBlocks (commanded_by w n name r)
 answered_has w n name cmd (Ok o) k is standing = record {
   standing = standing;
-  owners = command_owned w.driver w.memory cmd o k.standing.good.stands k.owners is;
-  owns = command_owns w.driver w.memory cmd o k.standing.good.stands k.owners is k.owns;
+  owners = commands_keep_owners w.driver w.memory cmd o k.standing.good.stands k.owners is;
+  owns = command_owns_all w.driver w.memory cmd o k.standing.good.stands k.owners is k.owns;
 }
 answered_has w n name cmd (Err why) k is standing = record {
   standing = standing;
@@ -76,8 +76,8 @@ commanded_has w n cmd k = answered_has w n (name_in cmd) cmd (offered w.driver w
 opening_has : (s : Script) → IsFit s → HasItsBlocks (opening_world s)
 opening_has s fit = record {
   standing = opening_stands s fit;
-  owners = opening_owned s.words (room_of_script s) fit.least;
-  owns = opening_owns s.words (room_of_script s) fit.least;
+  owners = opening_has_owners s.words (room_of_script s) fit.least;
+  owns = new_driver_owns_all s.words (room_of_script s) fit.least;
 }
 
 -- ---- along a run
@@ -109,9 +109,9 @@ owns_its_blocks w k = record {
   all = k.owns.all;
   stands = k.standing.good.stands;
   lent = k.standing.lent;
-  needed = λ b is off. needed_lent w.driver b k.owners k.standing.lent is off;
-  blocks = lent_blocks w.driver w.memory k.standing.good.stands k.owns.all;
+  needed = λ b is off. needed_runs_are_lent w.driver b k.owners k.standing.lent is off;
+  blocks = lent_blocks_are_needed w.driver w.memory k.standing.good.stands k.owns.all;
 }
 
-pub script_owns : (s : Script) → IsFit s → OwnsItsBlocksThroughout s
-script_owns s fit n = owns_its_blocks (moment s n).world (moment_has s n fit)
+pub each_moment_owns_its_blocks : (s : Script) → IsFit s → OwnsItsBlocksThroughout s
+each_moment_owns_its_blocks s fit n = owns_its_blocks (moment s n).world (moment_has s n fit)

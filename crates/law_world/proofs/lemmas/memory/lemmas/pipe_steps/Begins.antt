@@ -6,7 +6,7 @@ use Rattle.drv_table.specs.DriverContent.{DriverContent}
 use Rattle.drv_table.specs.Words.{head_block, dummy_qtd}
 use Rattle.claims_driver.specs.Leaving.{HasOwners}
 use Rattle.law_driver.specs.queued_drivers.Queued.{queued}
-use Rattle.law_driver.proofs.lemmas.queued_drivers.RowOwners.{queued_owners}
+use Rattle.law_driver.proofs.lemmas.queued_drivers.RowOwners.{queued_has_owners}
 use Rattle.law_driver.proofs.lemmas.ring_members.Placed.{in_ring_alive, queue_off_head}
 use Rattle.law_structures.specs.lent_structures.Structures.{QueueHead, Element, Structures, put}
 use Rattle.law_structures.proofs.lemmas.lent_structures.Names.{put_beside}
@@ -40,7 +40,7 @@ module _ (s : Standing) (w : World) (mixed : IsMixedAt s w) (k : IsOpenToLend (q
   stay : (m : ℕ) → s.near m ≡ true → parts_opened k s.parts m ≡ s.parts m
   stay m on =
       let differs : m ≢ n = opening_apart (queued w.driver) s.near k.number k.endpoint
-      (queued_owners w.driver mixed.now.framed.place.sound.owners mixed.turns) mixed.queues.queues.met k.here k.command k.fresh m on in
+      (queued_has_owners w.driver mixed.now.framed.place.sound.owners mixed.turns) mixed.queues.queues.met k.here k.command k.fresh m on in
       put_beside (put s.parts n n (QueueHead k.queue)) n (32 * k.endpoint.dummy) (Element dummy_qtd) m differs
       ∙ put_beside s.parts n n (QueueHead k.queue) m differs
 

@@ -193,9 +193,10 @@ module _ {W : Type 0} (begins : W → ℕ → Bool → W → Type 0) (transacts 
     };
   }
 
-pub event_keeps_pipes : {W : Type 0} (begins : W → ℕ → Bool → W → Type 0) (transacts : W → Ask → List ℕ → Reply → W → Type 0)
+pub each_event_keeps_pipes : {W : Type 0} (begins : W → ℕ → Bool → W → Type 0) (transacts : W → Ask → List ℕ → Reply → W → Type 0)
     (sender : W → ℕ → ℕ → Option Sender) (taker : W → ℕ → ℕ → Option Taker) → EventKeepsPipes begins transacts sender taker
-event_keeps_pipes begins transacts sender taker sends takes packets near ins outs ends acc base member met d descs parts hand frame c wire
+each_event_keeps_pipes begins transacts sender taker sends takes packets near ins outs ends acc base member met d descs parts hand frame c
+    wire
     after now later frame_later bus keeps out_bus out_keeps describing runs effect asked misses out_misses whole z k =
     goes_on begins transacts sender taker sends takes packets near ins outs ends acc base member met d descs parts hand frame c wire after
     now later frame_later bus keeps out_bus out_keeps describing runs effect asked misses out_misses whole z k

@@ -5,8 +5,8 @@ use Rattle.law_ring.specs.Hand.{Hand}
 use Rattle.law_ring.specs.Sparing.{SameHand}
 use Rattle.law_ring.specs.Stores.{hand_linked}
 use Rattle.law_ring.specs.OutPipes.{IsUnmoved}
-use Rattle.law_ring.proofs.SparedSparing.{linked_same}
-use Rattle.law_controller.proofs.lemmas.controlled_streams.Outs.{linked_unmoved}
+use Rattle.law_ring.proofs.SparedSparing.{linked_hand_is_same}
+use Rattle.law_controller.proofs.lemmas.controlled_streams.Outs.{linked_is_unmoved}
 use Rattle.law_controller.proofs.lemmas.controlled_streams.Storing.{same_hand as hand_itself}
 use Rattle.law_controller.specs.frame_control.Joined.{joined}
 use Rattle.law_controller.specs.frame_stores.Stores.{frame_linked}
@@ -22,7 +22,7 @@ pub alike_itself : (hand : Hand) → TellsAlike hand hand
 alike_itself hand = record { hands = hand_itself hand; unmoved = λ n un. un }
 
 pub alike_linked : (at : ℕ) (l : LinkBits) (hand : Hand) → TellsAlike hand (hand_linked at l hand)
-alike_linked at l hand = record { hands = linked_same at l hand; unmoved = λ n. linked_unmoved at l hand n }
+alike_linked at l hand = record { hands = linked_hand_is_same at l hand; unmoved = λ n. linked_is_unmoved at l hand n }
 
 of_hand : (hand later : Hand) → HandStays hand later → TellsAlike hand later
 of_hand hand _ same_hand = alike_itself hand

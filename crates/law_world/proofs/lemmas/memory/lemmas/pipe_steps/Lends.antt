@@ -14,7 +14,7 @@ use Rattle.drv_table.specs.Harvests.{note_at}
 use Rattle.law_driver.specs.chained_transfers.Bulk.{IsDataWay, pid_by}
 use Rattle.law_driver.proofs.lemmas.chained_transfers.Ways.{IsBy, its_pid}
 use Rattle.law_driver.specs.queued_drivers.Queued.{queued}
-use Rattle.law_driver.proofs.lemmas.queued_drivers.RowOwners.{queued_owners}
+use Rattle.law_driver.proofs.lemmas.queued_drivers.RowOwners.{queued_has_owners}
 use Rattle.law_structures.specs.lent_structures.Structures.{Element, StructureSets}
 use Rattle.law_ring.specs.Hand.{Hand}
 use Rattle.law_ring.specs.Told.{Endpoint as Told}
@@ -66,7 +66,7 @@ module _ (s : Standing) (w : World) (mixed : IsMixedAt s w) (b : ℕ) (words : L
       (y_of get) (x_of get) get.stage get.further
   pieces =
       (lent_pieces (queued w.driver) w.memory b words s.parts s.order s.out get
-      (queued_owners w.driver mixed.now.framed.place.sound.owners mixed.turns) mixed.now.framed.place.sound.stands
+      (queued_has_owners w.driver mixed.now.framed.place.sound.owners mixed.turns) mixed.now.framed.place.sound.stands
       mixed.now.framed.place.sound.shape mixed.turns.turns.asynchronous mixed.turns.turns.turns
       (queued_driven w.driver (sorts_of s.parts) mixed.now.framed.driven) mixed.queues.queues.fed mixed.queues.queues.last
       mixed.queues.queues.out_are).0

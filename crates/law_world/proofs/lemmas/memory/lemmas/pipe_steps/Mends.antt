@@ -15,18 +15,18 @@ use Rattle.claims_driver.specs.Leaving.{HasOwners}
 use Rattle.claims_driver.specs.Scripts.{IsKindOf}
 use Rattle.law_driver.specs.queued_drivers.Queued.{IsOfWay, with_queue, queued}
 use Rattle.law_driver.proofs.lemmas.queued_drivers.RowLists.{queue_at}
-use Rattle.law_driver.proofs.lemmas.queued_drivers.RowOwners.{queued_owners}
+use Rattle.law_driver.proofs.lemmas.queued_drivers.RowOwners.{queued_has_owners}
 use Rattle.law_driver.proofs.lemmas.ring_members.Placed.{has_queue, queues_apart}
 use Rattle.law_ring.specs.Told.{Endpoint as Told}
-use Rattle.law_ring.proofs.SparedSparing.{stale_same}
-use Rattle.law_controller.proofs.lemmas.controlled_streams.Outs.{stale_unmoved}
+use Rattle.law_ring.proofs.SparedSparing.{stale_hand_is_same}
+use Rattle.law_controller.proofs.lemmas.controlled_streams.Outs.{stale_is_unmoved}
 use Rattle.law_controller.specs.frame_control.Joined.{joined}
 use Rattle.law_driver_ring.specs.fed_queues.Places.{HasHead}
 use Rattle.law_queues.specs.mended_heads.Mended.{IsAtMend, parts_then, hand_then, head_at, mended}
 use Rattle.law_queues.specs.mended_heads.Owed.{IsOwed}
 use Rattle.law_queues.proofs.lemmas.mended_heads.Lent.{not_iso}
 use Rattle.law_queues.proofs.lemmas.mended_heads.Parts.{element_was}
-use Rattle.law_queues.proofs.lemmas.mended_heads.Row.{spares_heads, spares_endpoints, spares_elements}
+use Rattle.law_queues.proofs.lemmas.mended_heads.Row.{mend_spares_heads, mend_spares_endpoints, mend_spares_elements}
 use Rattle.law_queues.proofs.lemmas.publish_laws.Apart.{thirty_two}
 use Rattle.bus_world.specs.World.{World, driver_parts}
 use Rattle.law_world.specs.memory.Mixed.{Standing, IsMixedAt}
@@ -64,7 +64,7 @@ module _ (s : Standing) (w : World) (mixed : IsMixedAt s w) (k : IsAtMend (drive
   n = 32 * k.stalled.queue
 
   owners : HasOwners (queued w.driver)
-  owners = queued_owners w.driver mixed.now.framed.place.sound.owners mixed.turns
+  owners = queued_has_owners w.driver mixed.now.framed.place.sound.owners mixed.turns
 
   owed : IsOwed w.driver k.stalled
   owed = k.are.owed.0
@@ -112,18 +112,18 @@ module _ (s : Standing) (w : World) (mixed : IsMixedAt s w) (k : IsAtMend (drive
 
   alike : TellsAlike (joined s.hand s.frame) (joined (hand_then k s.hand) s.frame)
   alike = ring_alike s.hand (hand_then k s.hand) s.frame
-      (record { hands = stale_same (32 * k.stalled.queue) s.hand; unmoved = λ m. stale_unmoved (32 * k.stalled.queue) s.hand m })
+      (record { hands = stale_hand_is_same (32 * k.stalled.queue) s.hand; unmoved = λ m. stale_is_unmoved (32 * k.stalled.queue) s.hand m })
 
   pub mend_spares : Spares sends takes s.near ins outs ends s.parts (parts_then k) (joined s.hand s.frame)
       (joined (hand_then k s.hand) s.frame)
   mend_spares = record {
     hands = alike.hands;
     unmoved = λ m on. alike.unmoved m;
-    named = λ m x met has. spares_endpoints (driver_parts w) s.parts s.out k m x has;
-    heads = λ m met some. spares_heads (driver_parts w) s.parts s.out k m
+    named = λ m x met has. mend_spares_endpoints (driver_parts w) s.parts s.out k m x has;
+    heads = λ m met some. mend_spares_heads (driver_parts w) s.parts s.out k m
         (λ (same : m ≡ 32 * k.stalled.queue). none_there (subst (λ (i : ℕ). s.near i ≡ true) same met)
         (subst (λ (i : ℕ). (ins i ≡ true) ⊎ (outs i ≡ true)) same some));
-    work = λ m q met on here active. spares_elements (driver_parts w) s.parts s.out k m q.current;
+    work = λ m q met on here active. mend_spares_elements (driver_parts w) s.parts s.out k m q.current;
     asks = λ m a u met here active. inl (element_was s.parts (32 * k.stalled.queue) (head_at k) (mended k.stalled (head_at k))
         k.are.wait.0.stands.here m a u here);
   }

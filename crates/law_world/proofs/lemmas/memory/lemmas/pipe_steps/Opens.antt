@@ -8,7 +8,7 @@ use Rattle.qh_qtd.specs.declared.qtd.Qtd.{Qtd}
 use Rattle.qh_qtd.specs.declared.queue_head.Qh.{Qh}
 use Rattle.drv_table.specs.Words.{dummy_qtd}
 use Rattle.law_driver.specs.queued_drivers.Queued.{queued}
-use Rattle.law_driver.proofs.lemmas.queued_drivers.RowOwners.{queued_owners}
+use Rattle.law_driver.proofs.lemmas.queued_drivers.RowOwners.{queued_has_owners}
 use Rattle.law_structures.specs.lent_structures.Structures.{Element}
 use Rattle.law_structures.proofs.lemmas.lent_structures.Altering.{found_element}
 use Rattle.law_structures.proofs.lemmas.lent_structures.Names.{not_same}
@@ -94,7 +94,7 @@ module _ {W : Type 0} (sends takes : ℕ → ℕ → Bool) (packets : ℕ → �
 
   unmet : s.near (32 * k.endpoint.queue) ≡ true → ⊥
   unmet on = opening_apart (queued w.driver) s.near k.number k.endpoint
-      (queued_owners w.driver mixed.now.framed.place.sound.owners mixed.turns) mixed.queues.queues.met k.here k.command k.fresh
+      (queued_has_owners w.driver mixed.now.framed.place.sound.owners mixed.turns) mixed.queues.queues.met k.here k.command k.fresh
       (32 * k.endpoint.queue) on refl
 
   ins_off : ins (32 * k.endpoint.queue) ≡ false
@@ -219,8 +219,9 @@ module _ {W : Type 0} (sends takes : ℕ → ℕ → Bool) (packets : ℕ → �
   begun _ _ (as_out high own on unopened untaken) = together ins (with_stream outs n) in_other (out_one high own on unopened untaken)
   begun _ _ as_none = together ins outs in_other out_other
 
-pub open_begins_pipes : {W : Type 0} (sender : W → ℕ → ℕ → Option Sender) (taker : W → ℕ → ℕ → Option Taker) → OpenBeginsPipes sender taker
-open_begins_pipes sender taker sends takes packets ins outs ins_then outs_then ends acc acc_then wire s t w x mixed k o named first
+pub an_open_begins_pipes : {W : Type 0} (sender : W → ℕ → ℕ → Option Sender) (taker : W → ℕ → ℕ → Option Taker)
+    → OpenBeginsPipes sender taker
+an_open_begins_pipes sender taker sends takes packets ins outs ins_then outs_then ends acc acc_then wire s t w x mixed k o named first
     none rest begins before =
     same_packets sends takes packets sender taker t.near ins_then outs_then (with_end ends (32 * k.endpoint.queue) x)
     (with_none acc (32 * k.endpoint.queue)) acc_then t.parts (joined t.hand t.frame) wire

@@ -13,7 +13,7 @@ use Rattle.law_ring.specs.Told.{Endpoint as Told}
 use Rattle.law_ring.specs.Hand.{Hand}
 use Rattle.law_ring.specs.Bus.{Sender}
 use Rattle.law_ring.specs.OutBus.{Taker}
-use Rattle.law_controller.proofs.lemmas.controlled_streams.Returning.{pipes_returned}
+use Rattle.law_controller.proofs.lemmas.controlled_streams.Returning.{pipes_stay}
 use Rattle.law_driver_ring.specs.Released.{goes_of}
 use Rattle.law_driver_ring.specs.fed_queues.Places.{IsMet}
 use Rattle.law_queues.specs.released_queues.Released.{IsReturning}
@@ -68,7 +68,7 @@ module _ (s : Standing) (w : World) (mixed : IsMixedAt s w) (t : ℕ) (y : Trans
       let head : goes_of w.driver y (32 * x.queue) ≡ false = head_stays s.parts q s.order s.out t y x told r part in
       record {
         in_ends = k.in_ends;
-        in_pipes = pipes_returned sender sends packets s.near ins ends acc s.parts hand wire (32 * x.queue) (goes_of w.driver y) head
+        in_pipes = pipes_stay sender sends packets s.near ins ends acc s.parts hand wire (32 * x.queue) (goes_of w.driver y) head
             k.in_pipes;
         out_ends = k.out_ends;
         out_pipes =

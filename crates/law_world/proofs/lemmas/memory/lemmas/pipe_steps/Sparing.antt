@@ -15,12 +15,12 @@ use Rattle.law_ring.specs.Told.{Endpoint as Told, HasEndpoint}
 use Rattle.law_ring.specs.Sparing.{SameHand, SparesHead, SparesElement}
 use Rattle.law_ring.specs.Bus.{Sender}
 use Rattle.law_ring.specs.Pipes.{IsIn, IsNotIn, IsElsewhere}
-use Rattle.law_ring.proofs.SparedSparing.{spared_pipes}
+use Rattle.law_ring.proofs.SparedSparing.{spared_pipes_agree}
 use Rattle.law_ring.specs.OutBus.{Taker}
 use Rattle.law_ring.specs.OutPipes.{IsOut, IsUnmoved}
 use Rattle.law_ring.specs.OutPipeLaws.{SendsNone}
 use Rattle.law_world.specs.steps.Outs.{IsAside}
-use Rattle.law_world.proofs.lemmas.steps.Spared.{out_pipes_spared}
+use Rattle.law_world.proofs.lemmas.steps.Spared.{spared_out_pipes_agree}
 use Rattle.law_world.specs.memory.pipe_steps.Pipes.{PipesStand, AsksTheWay}
 
 -- ---- what a qTD asks
@@ -119,13 +119,13 @@ module _ (sends takes : ℕ → ℕ → Bool) (near ins outs : ℕ → Bool) (en
     spared packets sender taker acc wire s = record {
       in_ends = s.in_ends;
       in_pipes =
-          spared_pipes sender sends packets near near ins ends acc hand later parts now wire k.hands
+          spared_pipes_agree sender sends packets near near ins ends acc hand later parts now wire k.hands
           (λ n on. k.heads n (s.in_ends.members n on) (inl on))
           (λ n on. in_still n (s.in_ends.members n on) on (s.in_pipes.pipes n on).ins)
           (λ n met off. elsewhere n met off (s.in_pipes.others n met off)) s.in_pipes;
       out_ends = s.out_ends;
       out_pipes =
-          out_pipes_spared taker takes near near outs ends ends (λ n. concat (acc n)) hand later parts now wire k.hands k.unmoved
+          spared_out_pipes_agree taker takes near near outs ends ends (λ n. concat (acc n)) hand later parts now wire k.hands k.unmoved
           (λ n on. record {
             head = k.heads n (s.out_ends.members n on) (inr on);
             work = λ q here active. k.work n q (s.out_ends.members n on) on here active;

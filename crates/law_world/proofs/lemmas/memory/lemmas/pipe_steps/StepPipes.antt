@@ -119,8 +119,9 @@ module _ {W : Type 0} (sends takes : ℕ → ℕ → Bool) (packets : ℕ → �
           fewer ins_are outs_are before
       kept _ (goes e x d t back is) other ins_are outs_are = without s t (32 * x.queue) is ins_are outs_are before
 
-pub step_keeps_pipes : {W : Type 0} (sender : W → ℕ → ℕ → Option Sender) (taker : W → ℕ → ℕ → Option Taker) → StepKeepsPipes sender taker
-step_keeps_pipes sender taker sends takes packets ins outs ins_then outs_then ends acc wire s t w new mixed step other by_way ins_are
+pub each_step_keeps_pipes : {W : Type 0} (sender : W → ℕ → ℕ → Option Sender) (taker : W → ℕ → ℕ → Option Taker)
+    → StepKeepsPipes sender taker
+each_step_keeps_pipes sender taker sends takes packets ins outs ins_then outs_then ends acc wire s t w new mixed step other by_way ins_are
     outs_are before =
     kept sends takes packets sender taker ins outs ins_then outs_then ends acc wire s w new mixed by_way before t step other ins_are
     outs_are

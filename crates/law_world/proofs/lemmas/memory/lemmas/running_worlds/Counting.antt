@@ -12,7 +12,7 @@ use Rattle.bus_world.specs.World.{World, driver_parts, next, name_in, commanded_
 use Rattle.bus_world.specs.Opening.{opening_world}
 use Rattle.bus_world.specs.Orders.{Left, Events, Microframes, Answer, Command, OrderedWorld, at_place, orders_of, tick_by, tick_at, tick, ticks}
 use Rattle.law_world.proofs.lemmas.memory.lemmas.running_worlds.Errors.{goes_on}
-use Rattle.law_world.specs.memory.running_worlds.Running.{CountsNothingWhileItRuns}
+use Rattle.law_world.specs.memory.running_worlds.Running.{NoRefusalWhileItRuns}
 use Rattle.law_world.proofs.lemmas.memory.lemmas.running_worlds.UnrefusedRows.{row_same}
 use Rattle.law_world.proofs.lemmas.memory.lemmas.running_worlds.UnrefusedCommands.{command_same}
 
@@ -51,6 +51,6 @@ unfolding ticks IsUncounted
 all_counts fixed p zero runs none = none
 all_counts fixed p (suc k) runs none = all_counts fixed (tick fixed p) k (λ j. runs (suc j)) (at_counts fixed p.world p.orders (runs 1) none)
 
-pub counts_nothing : CountsNothingWhileItRuns
+pub no_refusal_while_it_runs : NoRefusalWhileItRuns
 unfolding Runs IsUncounted
-counts_nothing s runs k = all_counts (fixed_of s) (at_place (opening_world s) (orders_of s.lines)) k runs refl
+no_refusal_while_it_runs s runs k = all_counts (fixed_of s) (at_place (opening_world s) (orders_of s.lines)) k runs refl

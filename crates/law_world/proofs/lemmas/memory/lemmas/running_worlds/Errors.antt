@@ -9,7 +9,7 @@ use Rattle.op_registers.specs.RegisterFile.{RegisterFile}
 use Rattle.op_registers.specs.Table.{one_if, after_write}
 use Rattle.claims_base.specs.Controller.{GoesOn}
 use Rattle.law_refusals.specs.Refusals.{GoesOnOrStops}
-use Rattle.law_refusals.proofs.Events.{each_counts_once}
+use Rattle.law_refusals.proofs.Events.{each_event_counts_once}
 use Rattle.drv_table.specs.declared.content.Endpoint.{Endpoint}
 use Rattle.drv_table.specs.declared.content.Transfer.{Transfer}
 use Rattle.drv_periodic_table.specs.declared.content.Removed.{Removed}
@@ -29,13 +29,13 @@ use Rattle.bus_world.specs.Opening.{opening_world}
 use Rattle.bus_world.specs.Orders.{Left, Events, Microframes, Answer, Command, OrderedWorld, at_place, orders_of, tick_by, tick_at, tick, ticks}
 use Rattle.law_world.specs.steps.Streaming.{begins_by, transacts_by, wired}
 use Rattle.law_world.proofs.lemmas.steps.StreamTurning.{world_has_row}
-use Rattle.law_world.specs.memory.running_worlds.Running.{HasNoErrorWhileItRuns}
+use Rattle.law_world.specs.memory.running_worlds.Running.{NoErrorWhileItRuns}
 
 -- ---- an event of the controller
 
 pub counts_once : (fixed : Fixed) (w : World) → GoesOnOrStops w.registers w.memory (controller_next fixed w).registers (controller_next fixed w).memory
 counts_once fixed w =
-    each_counts_once begins_by transacts_by (controller_parts w) (controller_parts (controller_next fixed w)) (wired fixed w) (wired fixed (controller_next fixed w)) (world_has_row fixed w)
+    each_event_counts_once begins_by transacts_by (controller_parts w) (controller_parts (controller_next fixed w)) (wired fixed w) (wired fixed (controller_next fixed w)) (world_has_row fixed w)
 
 module _ (fixed : Fixed) (w : World) where
   went_on : (controller_next fixed w).registers.run ≡ true → GoesOnOrStops w.registers w.memory (controller_next fixed w).registers (controller_next fixed w).memory
@@ -124,6 +124,6 @@ unfolding ticks IsClear
 all_clear fixed p zero runs clear = clear
 all_clear fixed p (suc k) runs clear = all_clear fixed (tick fixed p) k (λ j. runs (suc j)) (at_clear fixed p.world p.orders (runs 1) clear)
 
-pub no_error : HasNoErrorWhileItRuns
+pub no_error : NoErrorWhileItRuns
 unfolding Runs IsClear
 no_error s runs k = all_clear (fixed_of s) (at_place (opening_world s) (orders_of s.lines)) k runs refl

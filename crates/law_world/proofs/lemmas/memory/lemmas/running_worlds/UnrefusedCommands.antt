@@ -21,7 +21,7 @@ use Rattle.drv_table.specs.Accepting.{Offered, take_runs, new_runs}
 use Rattle.drv_table.specs.IsoOffers.{Descriptors, iso_needs, written_descriptor, descriptor_note, slot_runs, total_of, one_descriptor, all_descriptors}
 use Rattle.drv_table.specs.Offers.{note_stages, is_last, stage_words, write_stages, word_from, write_bytes, sends, send_stages, offered}
 use Rattle.law_driver.specs.run_owners.Accepts.{Accepts, opens, chains, places, transfers, describes, cancels, unchains}
-use Rattle.law_driver.proofs.lemmas.run_owners.Commands.{accepted_for_a_reason}
+use Rattle.law_driver.proofs.lemmas.run_owners.Commands.{each_command_has_its_reason}
 use Rattle.law_world.proofs.lemmas.memory.lemmas.running_worlds.UnrefusedRows.{cond_same, store_same, words_same}
 
 -- ---- runs taken
@@ -114,4 +114,4 @@ accepted_same d m o (unchains k) = ap (λ (x : Offered). x.memory.foreign) k.is
 
 pub command_same : (d : DriverContent) (m : Mem) (cmd : Cmd) (o : Offered) → offered d m cmd ≡ Ok o → o.memory.foreign ≡ m.foreign
 unfolding Same
-command_same d m cmd o is = accepted_same d m o (accepted_for_a_reason d m cmd o is)
+command_same d m cmd o is = accepted_same d m o (each_command_has_its_reason d m cmd o is)

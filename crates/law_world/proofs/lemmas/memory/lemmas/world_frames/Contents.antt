@@ -16,23 +16,23 @@ use Rattle.drv_table.specs.Opening.{opening}
 use Rattle.drv_table.specs.Parts.{Parts}
 use Rattle.drv_table.specs.Rows.{driver_row, after_driver_row}
 use Rattle.claims_driver.specs.Leaving.{HasOwners}
-use Rattle.law_driver.proofs.lemmas.run_owners.Laws.{command_owned, event_owned}
+use Rattle.law_driver.proofs.lemmas.run_owners.Laws.{commands_keep_owners, events_keep_owners}
 use Rattle.law_driver.specs.listed_members.Members.{IsWaitingOf, IsUnderWay, IsListed}
 use Rattle.law_driver.specs.listed_queues.Queues.{HasQueues}
 use Rattle.law_driver.proofs.lemmas.listed_members.Schedules.{all_more, same_members}
 use Rattle.law_driver.proofs.lemmas.listed_members.Stays.{moved, same_queue}
-use Rattle.law_driver.proofs.lemmas.listed_members.Opening.{opening_listed}
-use Rattle.law_driver.proofs.lemmas.listed_members.Accepted.{command_listed}
-use Rattle.law_driver.proofs.lemmas.listed_members.Events.{event_listed}
-use Rattle.law_driver.proofs.lemmas.listed_queues.Commands.{opening_queues, accepted_queues}
-use Rattle.law_driver.proofs.lemmas.listed_queues.Rows.{event_queues}
+use Rattle.law_driver.proofs.lemmas.listed_members.Opening.{opening_list_has_its_members}
+use Rattle.law_driver.proofs.lemmas.listed_members.Accepted.{commands_keep_the_list}
+use Rattle.law_driver.proofs.lemmas.listed_members.Events.{events_keep_the_list}
+use Rattle.law_driver.proofs.lemmas.listed_queues.Commands.{opening_has_queue_heads, accepted_queues}
+use Rattle.law_driver.proofs.lemmas.listed_queues.Rows.{events_keep_queue_heads}
 use Rattle.law_driver.specs.planned_endpoints.Planned.{IsPlanned}
-use Rattle.law_driver.proofs.lemmas.planned_endpoints.Laws.{opening_planned, command_planned, event_planned}
+use Rattle.law_driver.proofs.lemmas.planned_endpoints.Laws.{opening_plan_is_of_its_endpoints, commands_keep_the_plan, events_keep_the_plan}
 use Rattle.law_driver.specs.ordered_list.Ordered.{IsOrdered}
-use Rattle.law_driver.proofs.lemmas.ordered_list.Commands.{opening_ordered, command_ordered}
-use Rattle.law_driver.proofs.lemmas.ordered_list.Events.{event_ordered}
+use Rattle.law_driver.proofs.lemmas.ordered_list.Commands.{opening_list_is_in_order, commands_keep_the_order}
+use Rattle.law_driver.proofs.lemmas.ordered_list.Events.{events_keep_the_order}
 use Rattle.law_driver.specs.iso_frames.Frames.{AreInFrames}
-use Rattle.law_driver.proofs.lemmas.iso_frames.Due.{opening_in_frames, command_in_frames, event_in_frames}
+use Rattle.law_driver.proofs.lemmas.iso_frames.Due.{opening_frames, commands_keep_the_frames, events_keep_the_frames}
 use Rattle.bus_world.specs.World.{refused_line}
 
 pub record IsWhole (d : DriverContent) : Type 0 where
@@ -46,31 +46,31 @@ pub record IsWhole (d : DriverContent) : Type 0 where
 pub opening_whole : (n : ℕ) (room : Reserve) → HasOwners (opening n room).driver → IsWhole (opening n room).driver
 opening_whole n room owners = record {
   owners = owners;
-  listed = opening_listed n room;
-  queues = opening_queues n room;
-  planned = opening_planned n room;
-  ordered = opening_ordered n room;
-  frames = opening_in_frames n room;
+  listed = opening_list_has_its_members n room;
+  queues = opening_has_queue_heads n room;
+  planned = opening_plan_is_of_its_endpoints n room;
+  ordered = opening_list_is_in_order n room;
+  frames = opening_frames n room;
 }
 
 pub command_whole : (d : DriverContent) (m : Mem) (cmd : Cmd) (o : Offered) → Stands (holding d.book m) → IsOffered d.room cmd → IsWhole d → offered d m cmd ≡ Ok o → IsWhole o.driver
 command_whole d m cmd o stands room h is = record {
-  owners = command_owned d m cmd o stands h.owners is;
-  listed = command_listed d m cmd o stands h.owners room h.listed is;
+  owners = commands_keep_owners d m cmd o stands h.owners is;
+  listed = commands_keep_the_list d m cmd o stands h.owners room h.listed is;
   queues = accepted_queues d m cmd o stands h.owners room h.listed h.queues is;
-  planned = command_planned d m cmd o h.planned is;
-  ordered = command_ordered d m cmd o h.ordered is;
-  frames = command_in_frames d m cmd o stands h.owners h.planned room h.frames is;
+  planned = commands_keep_the_plan d m cmd o h.planned is;
+  ordered = commands_keep_the_order d m cmd o h.ordered is;
+  frames = commands_keep_the_frames d m cmd o stands h.owners h.planned room h.frames is;
 }
 
 pub event_whole : (p : Parts) → IsWhole p.driver → IsWhole (after_driver_row (driver_row p) p).driver
 event_whole p h = record {
-  owners = event_owned p h.owners;
-  listed = event_listed p h.owners h.listed;
-  queues = event_queues p h.owners h.listed h.queues;
-  planned = event_planned p h.owners h.planned;
-  ordered = event_ordered p h.ordered;
-  frames = event_in_frames p h.owners h.listed h.planned h.frames;
+  owners = events_keep_owners p h.owners;
+  listed = events_keep_the_list p h.owners h.listed;
+  queues = events_keep_queue_heads p h.owners h.listed h.queues;
+  planned = events_keep_the_plan p h.owners h.planned;
+  ordered = events_keep_the_order p h.ordered;
+  frames = events_keep_the_frames p h.owners h.listed h.planned h.frames;
 }
 
 -- ---- a line of the report more

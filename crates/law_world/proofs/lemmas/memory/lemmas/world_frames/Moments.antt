@@ -16,9 +16,9 @@ use Rattle.drv_table.specs.Offers.{IsOffered, offered}
 use Rattle.script_text.specs.Faults.{Spells}
 use Rattle.script_fits.proofs.Texts.{spelled_fits}
 use Rattle.script_fits.specs.Fits.{IsFit, IsFitCommand, IsFitLine}
-use Rattle.law_driver.proofs.lemmas.planned_endpoints.Due.{are_due, due_is_there}
-use Rattle.law_driver.proofs.lemmas.iso_frames.Due.{are_due as descriptors_due, one_each}
-use Rattle.law_driver.proofs.lemmas.in_place.Opened.{opening_in_place}
+use Rattle.law_driver.proofs.lemmas.planned_endpoints.Due.{queue_heads_of_a_frame_are_due, a_frame_has_all_queue_heads_that_are_due}
+use Rattle.law_driver.proofs.lemmas.iso_frames.Due.{descriptors_of_a_frame_are_due as descriptors_due, an_endpoint_has_one_descriptor_a_frame}
+use Rattle.law_driver.proofs.lemmas.in_place.Opened.{opening_is_in_place}
 use Rattle.bus_world.specs.World.{World, next, driver_parts, commanded, commanded_by, name_in}
 use Rattle.bus_world.specs.Opening.{opening_world}
 use Rattle.bus_world.specs.Orders.{Left, Events, Microframes, Answer, Command, Plugs, OrderedWorld, at_place, left_of, orders_of, fewer, tick, tick_by, tick_at, ticks}
@@ -142,7 +142,7 @@ lines_fit (x ∷ xs) h = (line_fits x.1 x.0 h.0, lines_fit xs h.1)
 opening_ready : (s : Script) → IsFit s → IsReady (opening_world s) (orders_of s.lines)
 opening_ready s fit = record {
   stands = opening_stands s fit;
-  whole = opening_whole s.words (room_of_script s) (opening_in_place s.words (room_of_script s) fit.least fit.most fit.whole_pages).sound.owners;
+  whole = opening_whole s.words (room_of_script s) (opening_is_in_place s.words (room_of_script s) fit.least fit.most fit.whole_pages).sound.owners;
   room = subst (HasRoomFor (opening_world s).driver.room) (sym (lines_need s.lines)) (room_of_all s);
   fits = lines_fit s.lines fit.lines;
 }
@@ -157,10 +157,10 @@ script_scheduled s fit k f =
     let p : OrderedWorld = moment s k in
     let h : IsWhole p.world.driver = script_whole s fit k in
     record {
-      queues = are_due p.world.driver f h.owners h.listed h.planned h.ordered;
-      all = due_is_there p.world.driver f h.owners h.queues h.ordered;
+      queues = queue_heads_of_a_frame_are_due p.world.driver f h.owners h.listed h.planned h.ordered;
+      all = a_frame_has_all_queue_heads_that_are_due p.world.driver f h.owners h.queues h.ordered;
       descriptors = descriptors_due p.world.driver f h.owners h.listed h.planned h.frames;
-      one = one_each p.world.driver h.owners h.listed h.frames;
+      one = an_endpoint_has_one_descriptor_a_frame p.world.driver h.owners h.listed h.frames;
       fits = (script_admits s fit k).fits;
     }
 

@@ -31,5 +31,5 @@ pub moment_stands : (s : Script) (n : ℕ) → IsFit s → IsStanding (moment s 
 moment_stands s n fit = all_stand (fixed_of s) (at_place (opening_world s) (orders_of s.lines)) n (opening_stands s fit)
 
 -- each moment of the run of a script that fits
-pub script_keeps : (s : Script) → IsFit s → KeepsToLentThroughout s
-script_keeps s fit n = keeps_to_lent (fixed_of s) (moment s n).world (moment_stands s n fit)
+pub each_moment_keeps_to_lent_blocks : (s : Script) → IsFit s → KeepsToLentThroughout s
+each_moment_keeps_to_lent_blocks s fit n = keeps_to_lent (fixed_of s) (moment s n).world (moment_stands s n fit)

@@ -17,24 +17,24 @@ use Rattle.drv_table.specs.DriverContent.{DriverContent}
 use Rattle.drv_table.specs.Accepting.{Offered}
 use Rattle.drv_table.specs.Offers.{offered}
 use Rattle.drv_table.specs.Rows.{driver_row}
-use Rattle.law_driver.proofs.lemmas.run_owners.Commands.{accepted_for_a_reason}
+use Rattle.law_driver.proofs.lemmas.run_owners.Commands.{each_command_has_its_reason}
 use Rattle.claims_driver.specs.LentRuns.{AreLent}
-use Rattle.law_driver.proofs.lemmas.lent_runs.Goes.{event_lent}
-use Rattle.law_driver.proofs.lemmas.lent_runs.Laws.{command_lent}
+use Rattle.law_driver.proofs.lemmas.lent_runs.Goes.{events_keep_them}
+use Rattle.law_driver.proofs.lemmas.lent_runs.Laws.{commands_keep_them}
 use Rattle.law_driver.specs.in_place.InPlace.{IsGood}
 use Rattle.law_driver.proofs.lemmas.in_place.Rows.{event_good}
 use Rattle.law_driver.proofs.lemmas.in_place.Offers.{accepted_good}
-use Rattle.law_driver.proofs.lemmas.in_place.Opened.{opening_in_place}
+use Rattle.law_driver.proofs.lemmas.in_place.Opened.{opening_is_in_place}
 use Rattle.bus_wire.specs.Bus.{Bus, Wired, Fixed}
 use Rattle.hc_core.specs.Controller.{Content}
 use Rattle.law_ring.specs.walk_writes.Writes.{WritesLent}
-use Rattle.law_controller.proofs.lemmas.lent_writes.Controlling.{controller_writes_lent}
+use Rattle.law_controller.proofs.lemmas.lent_writes.Controlling.{each_event_of_the_controller_writes_lent_words}
 use Rattle.law_controller.specs.aligned_copies.Aligned.{AreAligned}
-use Rattle.law_controller.proofs.lemmas.aligned_copies.Controlling.{event_aligned, aligned_placed, new_aligned}
+use Rattle.law_controller.proofs.lemmas.aligned_copies.Controlling.{each_event_keeps_addresses_aligned, aligned_placed, a_new_controller_is_aligned}
 use Rattle.claims_base.specs.Controller.{IsSameWhereLent}
 use Rattle.law_controller.specs.lent_reads.Reading.{ReadsLent}
-use Rattle.law_controller.proofs.lemmas.lent_reads.Controlling.{reads_lent}
-use Rattle.law_driver.proofs.lemmas.released_blocks.Releasing.{released_free}
+use Rattle.law_controller.proofs.lemmas.lent_reads.Controlling.{each_event_reads_lent_words}
+use Rattle.law_driver.proofs.lemmas.released_blocks.Releasing.{what_a_release_leaves_is_free}
 use Rattle.bus_world.specs.World.{World, Turned, turned_by, with_turned, driver_parts, driver_next, controller_row, controller_parts, controller_next, next, name_in, commanded, commanded_by, refused_line}
 use Rattle.bus_world.specs.Opening.{opening_world}
 use Rattle.bus_world.specs.Rooms.{room_of_script}
@@ -52,7 +52,7 @@ pub record IsStanding (w : World) : Type 0 where
 
 writes_lent : (fixed : Fixed) (w : World) → IsStanding w → WritesLent w.memory (controller_next fixed w).memory
 writes_lent fixed w k =
-    controller_writes_lent begins_in transacts_in (controller_parts w) (at_bus fixed w.bus) (controller_parts (controller_next fixed w)) (at_bus fixed (controller_next fixed w).bus)
+    each_event_of_the_controller_writes_lent_words begins_in transacts_in (controller_parts w) (at_bus fixed w.bus) (controller_parts (controller_next fixed w)) (at_bus fixed (controller_next fixed w).bus)
     (aligned_placed (controller_parts w) k.aligned) (world_has_row fixed w)
 
 -- what stands there once it was made over another memory
@@ -66,7 +66,7 @@ reads_only fixed w m k same =
     let v : Wired = at_bus fixed (controller_next fixed w).bus in
     let other : World = record w { memory = m } in
     let r : ReadsLent begins_in transacts_in (controller_parts w) m (at_bus fixed w.bus) (controller_parts (controller_next fixed w)) v =
-    reads_lent begins_in transacts_in (controller_parts w) m (at_bus fixed w.bus) (controller_parts (controller_next fixed w)) v k.aligned same (world_has_row fixed w)
+    each_event_reads_lent_words begins_in transacts_in (controller_parts w) m (at_bus fixed w.bus) (controller_parts (controller_next fixed w)) v k.aligned same (world_has_row fixed w)
     in
     let t : IsTurned (at_bus fixed w.bus) (turned_by fixed (controller_row other) (controller_parts other) w.bus) r.other v =
     turned_is (controller_row other) (controller_parts other) (at_bus fixed w.bus) r.other v r.made
@@ -115,7 +115,7 @@ book_good k m new writes old = record {
 controller_stands : (fixed : Fixed) (w : World) → IsStanding w → IsStanding (controller_next fixed w)
 controller_stands fixed w k = record {
   aligned =
-      event_aligned begins_in transacts_in (controller_parts w) (at_bus fixed w.bus) (controller_parts (controller_next fixed w)) (at_bus fixed (controller_next fixed w).bus) k.aligned
+      each_event_keeps_addresses_aligned begins_in transacts_in (controller_parts w) (at_bus fixed w.bus) (controller_parts (controller_next fixed w)) (at_bus fixed (controller_next fixed w).bus) k.aligned
       (world_has_row fixed w);
   good = book_good w.driver.book w.memory (controller_next fixed w).memory (writes_lent fixed w k) k.good;
   lent = k.lent;
@@ -131,7 +131,7 @@ driver_stands w k = record {
     start = ap (λ (n : ℕ). n % 32) (row_address (driver_row (driver_parts w)) (driver_parts w)) ∙ k.aligned.start;
   };
   good = event_good (driver_parts w) k.good;
-  lent = event_lent (driver_parts w) k.lent;
+  lent = events_keep_them (driver_parts w) k.lent;
 }
 
 pub next_stands : (fixed : Fixed) (w : World) (event : Event) → IsStanding w → IsStanding (next fixed w event)
@@ -146,8 +146,8 @@ refused_lent d n name why old = record { kept = old.kept; lent = old.lent }
 answered_stands : (w : World) (n : ℕ) (name : EpName) (cmd : Cmd) (r : Result Offered OfferError) → IsStanding w → offered w.driver w.memory cmd ≡ r → IsStanding (commanded_by w n name r)
 answered_stands w n name cmd (Ok o) k is = record {
   aligned = record { frame = k.aligned.frame; ring = k.aligned.ring; start = k.aligned.start };
-  good = accepted_good w.driver w.memory o (accepted_for_a_reason w.driver w.memory cmd o is) k.good;
-  lent = command_lent w.driver w.memory cmd o k.lent is;
+  good = accepted_good w.driver w.memory o (each_command_has_its_reason w.driver w.memory cmd o is) k.good;
+  lent = commands_keep_them w.driver w.memory cmd o k.lent is;
 }
 answered_stands w n name cmd (Err why) k is = record {
   aligned = record { frame = k.aligned.frame; ring = k.aligned.ring; start = k.aligned.start };
@@ -162,9 +162,9 @@ commanded_stands w n cmd k = answered_stands w n (name_in cmd) cmd (offered w.dr
 
 pub opening_stands : (s : Script) → IsFit s → IsStanding (opening_world s)
 opening_stands s fit =
-    let place = opening_in_place s.words (room_of_script s) fit.least fit.most fit.whole_pages in
+    let place = opening_is_in_place s.words (room_of_script s) fit.least fit.most fit.whole_pages in
     record {
-      aligned = new_aligned (opening_world s).registers (opening_world s).memory refl;
+      aligned = a_new_controller_is_aligned (opening_world s).registers (opening_world s).memory refl;
       good = record { stands = place.sound.stands; shape = place.sound.shape };
       lent = place.lent;
     }
@@ -175,6 +175,6 @@ pub keeps_to_lent : (fixed : Fixed) (w : World) → IsStanding w → KeepsToLent
 keeps_to_lent fixed w k = record {
   reads = λ m same. reads_only fixed w m k same;
   writes = lent_only w.memory (controller_next fixed w).memory (writes_lent fixed w k);
-  released = released_free (driver_parts w) k.good.stands k.lent;
+  released = what_a_release_leaves_is_free (driver_parts w) k.good.stands k.lent;
   clean = k.good.stands.clean;
 }

@@ -85,8 +85,8 @@ module _ {W : Type 0} (begins : W → ℕ → Bool → W → Type 0) (transacts 
   sender_by_control (a_microframe b) = keeps wire b.index b.allowed after addr ep s b.asked on is
   sender_by_control (a_step w) = sender_by_stream w.streams
 
-pub aside_senders : {W : Type 0} (begins : W → ℕ → Bool → W → Type 0) (transacts : W → Ask → List ℕ → Reply → W → Type 0) → AsideSendersWait begins transacts
-aside_senders begins transacts closed sender base member ends parts hand c wire after now later bus keeps controlled others effect addr ep s on is =
+pub aside_senders_wait : {W : Type 0} (begins : W → ℕ → Bool → W → Type 0) (transacts : W → Ask → List ℕ → Reply → W → Type 0) → AsideSendersWait begins transacts
+aside_senders_wait begins transacts closed sender base member ends parts hand c wire after now later bus keeps controlled others effect addr ep s on is =
     sender_by_control begins transacts closed sender base member ends parts hand c wire after now later bus keeps controlled others addr ep s on is effect
 
 -- ---- takers
@@ -109,6 +109,6 @@ module _ {W : Type 0} (begins : W → ℕ → Bool → W → Type 0) (transacts 
   taker_by_control (a_microframe b) = keeps wire b.index b.allowed after addr ep t b.asked on is
   taker_by_control (a_step w) = taker_by_stream w.streams
 
-pub aside_takers : {W : Type 0} (begins : W → ℕ → Bool → W → Type 0) (transacts : W → Ask → List ℕ → Reply → W → Type 0) → AsideTakersWait begins transacts
-aside_takers begins transacts closed taker base member ends parts hand c wire after now later bus keeps controlled others effect addr ep t on is =
+pub aside_takers_wait : {W : Type 0} (begins : W → ℕ → Bool → W → Type 0) (transacts : W → Ask → List ℕ → Reply → W → Type 0) → AsideTakersWait begins transacts
+aside_takers_wait begins transacts closed taker base member ends parts hand c wire after now later bus keeps controlled others effect addr ep t on is =
     taker_by_control begins transacts closed taker base member ends parts hand c wire after now later bus keeps controlled others addr ep t on is effect

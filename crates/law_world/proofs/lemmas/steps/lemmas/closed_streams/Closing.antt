@@ -139,20 +139,20 @@ close_reports streams order out hand parts acc reported n all k is = all k (head
 
 -- ---- endpoints that no queue head is for
 
-pub unopened_still : IsUnopenedStill
-unopened_still streams ends n addr ep differs none k on a e =
+pub is_unopened_still : IsUnopenedStill
+is_unopened_still streams ends n addr ep differs none k on a e =
     ⊎_elim (λ (same : k ≡ n). differs (sym a ∙ ap (λ (i : ℕ). (ends i).addr) same, sym e ∙ ap (λ (i : ℕ). (ends i).ep) same))
     (λ (apart : k ≢ n). none k (head_beside streams n k apart ∙ on) a e) (cases_eq k n)
 
 pub close_unopened : {W : Type 0} (sender : W → ℕ → ℕ → Option Sender) → CloseUnopened sender
 close_unopened sender stream packets streams ends wire n all addr ep on none =
     let both : (stream addr ep ≡ true) × ((addr ≡ (ends n).addr) × (ep ≡ (ends n).ep) → ⊥) = name_on stream (ends n).addr (ends n).ep addr ep on in
-    all addr ep both.0 (unopened_still streams ends n addr ep both.1 none)
+    all addr ep both.0 (is_unopened_still streams ends n addr ep both.1 none)
 
 pub close_untaken : {W : Type 0} (taker : W → ℕ → ℕ → Option Taker) → CloseUntaken taker
 close_untaken taker stream outs ends wire n all addr ep on none =
     let both : (stream addr ep ≡ true) × ((addr ≡ (ends n).addr) × (ep ≡ (ends n).ep) → ⊥) = name_on stream (ends n).addr (ends n).ep addr ep on in
-    all addr ep both.0 (unopened_still outs ends n addr ep both.1 none)
+    all addr ep both.0 (is_unopened_still outs ends n addr ep both.1 none)
 
 -- ---- the closed one
 

@@ -38,8 +38,8 @@ module _ (stream : ℕ → ℕ → Bool) (addr ep : ℕ) where
       by_test true = refl
       by_test false = off
 
-pub name_closed : NameIsClosed
-name_closed stream addr ep = (name_gone stream addr ep, name_beside stream addr ep)
+pub name_is_closed : NameIsClosed
+name_is_closed stream addr ep = (name_gone stream addr ep, name_beside stream addr ep)
 
 -- ---- a queue head
 
@@ -55,5 +55,5 @@ module _ (those : ℕ → Bool) (n : ℕ) where
       let differs : k ≢ n = λ same. false≢true (sym head_gone ∙ ap (without_head those n) (sym same) ∙ on) in
       (differs, sym (head_beside k differs) ∙ on)
 
-pub head_closed : HeadIsClosed
-head_closed those n = (head_gone those n, head_beside those n)
+pub head_is_closed : HeadIsClosed
+head_is_closed those n = (head_gone those n, head_beside those n)

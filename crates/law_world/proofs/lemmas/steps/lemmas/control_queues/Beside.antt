@@ -24,11 +24,11 @@ use Rattle.drv_table.specs.Rows.{driver_row, after_driver_row}
 use Rattle.law_driver.specs.endpoint_lives.Lives.{is_one_of}
 use Rattle.law_driver.specs.run_owners.Accepts.{Opens, Transfers, Cancels}
 use Rattle.law_driver.specs.chained_transfers.Asynchronous.{AcceptsAsynchronous}
-use Rattle.law_driver.proofs.lemmas.chained_transfers.Accepting.{command_accepts}
+use Rattle.law_driver.proofs.lemmas.chained_transfers.Accepting.{asynchronous_command_is_accepted}
 use Rattle.law_structures.specs.lent_structures.Structures.{Structures, StructureSets}
 use Rattle.law_ring.specs.Front.{LinksRise, HasFront}
 use Rattle.law_ring.specs.Halted.{HaltStops}
-use Rattle.law_ring.proofs.Walking.{halts_kept}
+use Rattle.law_ring.proofs.Walking.{walk_keeps_halts}
 use Rattle.hc_core.specs.Controller.{walk_place}
 use Rattle.law_controller.specs.controlled_streams.Control.{ControlEffect, a_microframe, a_step}
 use Rattle.law_controller.specs.controlled_streams.Kept.{Keeps}
@@ -38,7 +38,7 @@ use Rattle.law_queues.proofs.lemmas.fed_lends.Asked.{push_which}
 use Rattle.law_queues.specs.mended_heads.Standing.{is_beside}
 use Rattle.law_queues.specs.mended_heads.Waiting.{MendsStand}
 use Rattle.law_queues.proofs.lemmas.mended_heads.Content.{any_one, OwesAlike, alike_same, owed_on}
-use Rattle.law_queues.proofs.lemmas.mended_heads.Standing.{opening_owes_none, walk_keeps, stand_on, keeps_same, commands_keep, rows_keep}
+use Rattle.law_queues.proofs.lemmas.mended_heads.Standing.{new_driver_owes_none, walk_keeps_mends, stand_on, keeps_same, commands_keep_mends, rows_keep_mends}
 use Rattle.law_world.specs.steps.control_queues.Beside.{NewDriverControls, ControllerKeepsControls, SameKeepControls, CommandsKeepControls, touches_none, SilentKeepsControls}
 use Rattle.law_world.proofs.lemmas.steps.lemmas.control_queues.Alike.{ThereAlike, near_there, same_there, told_alike, stand_by, stand_still}
 
@@ -47,7 +47,7 @@ new_driver_controls n room parts order out = record {
   rises = λ e x here there. absurd (cc);
   sorted = λ e x here there. absurd (cc);
   stops = λ e x here met. absurd (cc);
-  mends = opening_owes_none n room parts out;
+  mends = new_driver_owes_none n room parts out;
 }
 
 -- ---- the controller
@@ -69,11 +69,11 @@ controller_keeps_controls begins transacts base member parts hand c wire after n
     stops : ControlEffect begins transacts parts hand wire after now later → (f : ℕ → ℕ) (front : ℕ) (es : List ℕ) (n : ℕ) → HasFront f front es n (parts n) → HaltStops f es n (parts n) → HaltStops f es n (now n)
     stops (a_microframe b) f front es n has s = subst (λ (ps : StructureSets). HaltStops f es n (ps n)) (sym b.parts_stay) s
     stops (a_step w) f front es n has s =
-        halts_kept transacts member parts hand (walk_place c).walk.reply wire after now later w.kind f front es n controlled.ring.members controlled.ring.in_hand w.effect has s
+        walk_keeps_halts transacts member parts hand (walk_place c).walk.reply wire after now later w.kind f front es n controlled.ring.members controlled.ring.in_hand w.effect has s
 
     mends : ControlEffect begins transacts parts hand wire after now later → MendsStand d now out
     mends (a_microframe b) = subst (λ (ps : StructureSets). MendsStand d ps out) (sym b.parts_stay) k.mends
-    mends (a_step w) = walk_keeps transacts member parts hand (walk_place c).walk.reply wire after now later w.kind d out controlled.ring.members controlled.ring.in_hand w.effect k.mends
+    mends (a_step w) = walk_keeps_mends transacts member parts hand (walk_place c).walk.reply wire after now later w.kind d out controlled.ring.members controlled.ring.in_hand w.effect k.mends
 
 -- ---- contents alike
 
@@ -123,7 +123,7 @@ accepted_alike d m o _ why = absurd why
 
 pub commands_keep_controls : CommandsKeepControls
 commands_keep_controls d m cmd o parts order out only opens is k =
-    stand_still d o.driver parts order out (accepted_alike d m o cmd (command_accepts d m cmd o only opens is)) (commands_keep d m cmd o parts out is k.mends) k
+    stand_still d o.driver parts order out (accepted_alike d m o cmd (asynchronous_command_is_accepted d m cmd o only opens is)) (commands_keep_mends d m cmd o parts out is k.mends) k
 
 -- ---- rows
 
@@ -163,4 +163,4 @@ silent_beside _ silent = refl
 pub silent_keeps_controls : SilentKeepsControls
 silent_keeps_controls p parts order out silent k =
     stand_still p.driver (after_driver_row (driver_row p) p).driver parts order out (silent_there (driver_row p) p silent)
-    (rows_keep p parts parts out out (silent_beside (driver_row p) silent) (λ s owed. keeps_same parts out (32 * s.queue)) k.mends) k
+    (rows_keep_mends p parts parts out out (silent_beside (driver_row p) silent) (λ s owed. keeps_same parts out (32 * s.queue)) k.mends) k

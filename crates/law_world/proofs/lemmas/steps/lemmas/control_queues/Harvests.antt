@@ -31,7 +31,7 @@ use Rattle.law_structures.specs.lent_structures.Structures.{StructureSets, Tells
 use Rattle.law_structures.proofs.lemmas.lent_structures.Names.{not_same}
 use Rattle.law_ring.specs.Order.{IsAmong}
 use Rattle.law_ring.specs.Told.{Endpoint as Told}
-use Rattle.law_ring.proofs.HaltSparing.{fewer_keep}
+use Rattle.law_ring.proofs.HaltSparing.{fewer_keep_halts}
 use Rattle.law_driver_ring.specs.Inventory.{sorts_of, IsDriven}
 use Rattle.law_driver_ring.specs.fed_queues.Places.{IsMet, AreStillOut}
 use Rattle.law_driver_ring.proofs.lemmas.fed_queues.Places.{stands_met}
@@ -43,9 +43,9 @@ use Rattle.law_queues.proofs.lemmas.fed_harvests.Lists.{all_of, all_out}
 use Rattle.law_queues.proofs.lemmas.fed_harvests.Stalls.{stall_stands}
 use Rattle.law_queues.specs.mended_heads.Stalling.{IsStall, HaltsQueue}
 use Rattle.law_queues.proofs.lemmas.mended_heads.Content.{set_at, set_beside}
-use Rattle.law_queues.proofs.lemmas.mended_heads.Stalling.{harvest_keeps}
+use Rattle.law_queues.proofs.lemmas.mended_heads.Stalling.{harvest_keeps_mends}
 use Rattle.law_queues.specs.released_queues.Fronts.{FrontsStand}
-use Rattle.law_queues.proofs.lemmas.stalled_fronts.Halted.{stall_halts}
+use Rattle.law_queues.proofs.lemmas.stalled_fronts.Halted.{stall_halts_queue}
 use Rattle.law_world.specs.steps.control_queues.Controls.{ControlsStand}
 use Rattle.law_world.specs.steps.control_queues.Rows.{HarvestKeepsControls}
 use Rattle.law_world.proofs.lemmas.steps.lemmas.control_queues.Alike.{ThereAlike, told_alike, stand_by}
@@ -220,8 +220,8 @@ module _ (p : DriverParts) (e t : ℕ) (found : Found) (member streams : ℕ →
       stand_by d f parts parts order order out later alike (λ i x here there r. r)
       (λ i x here there s. part_sorted (order (32 * x.queue)) (later (32 * x.queue)) (out (32 * x.queue)) (less i x here there.kept) s)
       (λ i x here is s.
-      fewer_keep (order (32 * x.queue)) (out (32 * x.queue)) (later (32 * x.queue)) (32 * x.queue) (parts (32 * x.queue)) (λ a among. part_among a (later (32 * x.queue)) (out (32 * x.queue)) (less i x here is.there.kept) among) s)
-      (harvest_keeps p e t found parts out later due owners lent turns.turns tells driven old.out_are
+      fewer_keep_halts (order (32 * x.queue)) (out (32 * x.queue)) (later (32 * x.queue)) (32 * x.queue) (parts (32 * x.queue)) (λ a among. part_among a (later (32 * x.queue)) (out (32 * x.queue)) (less i x here is.there.kept) among) s)
+      (harvest_keeps_mends p e t found parts out later due owners lent turns.turns tells driven old.out_are
       (λ s owed a among.
       subst (λ (q : ℕ). IsAmong a (out (32 * q))) owed.queue
       (part_among a (later (32 * owed.endpoint.queue)) (out (32 * owed.endpoint.queue)) (less owed.number owed.endpoint owed.here owed.kept) (subst (λ (q : ℕ). IsAmong a (later (32 * q))) (sym owed.queue) among)))
@@ -238,7 +238,7 @@ module _ (p : DriverParts) (e t : ℕ) (found : Found) (member streams : ℕ →
       controls_by (less_by (with_out out n (s.before ++ s.later)) l.stand.out_are (with_part (s.before ++ s.later) part))
       (λ is.
       subst (λ (xs : List ℕ). HaltsQueue xs parts n) (sym (stays_out later still e due.endpoint due.here met.there.kept))
-      (stall_halts p e t found member streams heads parts order out due stall owners turns tells old met on (c.stops e due.endpoint due.here met) (c.sorted e due.endpoint due.here met.there) fronts))
+      (stall_halts_queue p e t found member streams heads parts order out due stall owners turns tells old met on (c.stops e due.endpoint due.here met) (c.sorted e due.endpoint due.here met.there) fronts))
 
   unstalled : found ≢ founds.Active → (IsStall due.endpoint.desc.kind found → ⊥) → ControlsStand f parts order later
   unstalled done never =

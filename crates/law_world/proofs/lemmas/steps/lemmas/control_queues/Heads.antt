@@ -14,16 +14,16 @@ use Rattle.law_structures.proofs.lemmas.lent_structures.Names.{not_same}
 use Rattle.law_ring.specs.Front.{LinksRise, HadRest}
 use Rattle.law_ring.specs.Halted.{HaltStops, KeepsRest}
 use Rattle.law_ring.specs.Order.{IsAmong}
-use Rattle.law_ring.proofs.HaltSparing.{halt_spared}
+use Rattle.law_ring.proofs.HaltSparing.{halt_is_spared}
 use Rattle.law_queues.specs.mended_heads.Mended.{parts_then as parts_mended}
 use Rattle.law_queues.specs.mended_heads.Standing.{KeepsHalted, is_beside}
 use Rattle.law_queues.proofs.lemmas.mended_heads.Parts.{own_is, had_rest, element_was}
-use Rattle.law_queues.proofs.lemmas.mended_heads.Queues.{leaves_rising}
-use Rattle.law_queues.proofs.lemmas.mended_heads.Row.{mend_row, mend_keeps, leaves_halts}
-use Rattle.law_queues.proofs.lemmas.mended_heads.Standing.{link_keeps, rows_keep}
+use Rattle.law_queues.proofs.lemmas.mended_heads.Queues.{mend_leaves_rising}
+use Rattle.law_queues.proofs.lemmas.mended_heads.Row.{mend_row, mend_keeps_mends, mend_leaves_halts}
+use Rattle.law_queues.proofs.lemmas.mended_heads.Standing.{link_keeps_halted, rows_keep_mends}
 use Rattle.law_queues.specs.publish_laws.Stores.{next_of}
 use Rattle.law_world.specs.steps.unlinked_streams.Unlinks.{IsAtUnlink, driver_then, parts_unlinked}
-use Rattle.law_world.proofs.lemmas.steps.lemmas.unlinked_streams.Passing.{unlink_row_is}
+use Rattle.law_world.proofs.lemmas.steps.lemmas.unlinked_streams.Passing.{unlink_row}
 use Rattle.law_world.specs.steps.control_queues.Rows.{MendKeepsControls, UnlinkKeepsControls}
 use Rattle.law_world.proofs.lemmas.steps.lemmas.control_queues.Alike.{ThereAlike, same_there, told_anew, stand_by}
 use Rattle.law_world.proofs.lemmas.steps.lemmas.control_queues.Beside.{joined}
@@ -36,7 +36,7 @@ mend_keeps_controls p parts order out k c =
     stand_by p.driver (next_of p).driver parts (parts_mended k) order order out out
     (same_there p.driver (next_of p).driver (ap (λ (d : DriverContent). d.endpoints) row.driver) (λ q is. ap (λ (d : DriverContent). d.command) row.driver ∙ is) (ap (λ (d : DriverContent). d.waiting) row.driver)
     (ap (λ (d : DriverContent). d.rung) row.driver))
-    (λ i x here there r. leaves_rising (order (32 * x.queue)) (32 * x.queue) p parts out k r) (λ i x here there s. s) (λ i x here met s. leaves_halts order p parts out k (32 * x.queue) s) (mend_keeps p parts out k) c
+    (λ i x here there r. mend_leaves_rising (order (32 * x.queue)) (32 * x.queue) p parts out k r) (λ i x here there s. s) (λ i x here met s. mend_leaves_halts order p parts out k (32 * x.queue) s) (mend_keeps_mends p parts out k) c
 
 -- ---- a link
 
@@ -64,11 +64,11 @@ module _ (parts : StructureSets) (m : ℕ) (q : Qh) (l : LinkBits) (head : parts
 
   pub stops_linked : (order : ℕ → ℕ) (out later : List ℕ) (n : ℕ) → ((a : ℕ) → IsAmong a later → IsAmong a out) → HaltStops order out n (parts n) → HaltStops order later n (now n)
   stops_linked order out later n fewer s =
-      halt_spared order out later n (parts n) (now n) (rest_linked n) (λ a t among is. inl (fewer a among, element_was parts m q new head n a t is)) s
+      halt_is_spared order out later n (parts n) (now n) (rest_linked n) (λ a t among is. inl (fewer a among, element_was parts m q new head n a t is)) s
 
   pub halted_linked : (out later : ℕ → List ℕ) (n : ℕ) → ((a : ℕ) → IsAmong a (later n) → IsAmong a (out n)) → KeepsHalted parts now out later n
   halted_linked out later n fewer =
-      let k = link_keeps parts out n m q l head in
+      let k = link_keeps_halted parts out n m q l head in
       record { head = k.head; published = λ a t among is. k.published a t (fewer a among) is }
 
 -- ---- an endpoint leaves the ring
@@ -98,8 +98,8 @@ pub unlink_keeps_controls : UnlinkKeepsControls
 unlink_keeps_controls p member parts order out k c =
     let m = 32 * k.before in
     let l = to_queue_head k.after in
-    let row = unlink_row_is p member parts k in
+    let row = unlink_row p member parts k in
     stand_by p.driver (next_of p).driver parts (parts_unlinked parts k.before k.queue k.after) order order out out
     (subst (ThereAlike p.driver) (sym row.driver) (unlinked_alike p member parts k)) (λ i x here there r. rises_linked parts m k.queue l k.head (order (32 * x.queue)) (32 * x.queue) r) (λ i x here there s. s)
     (λ i x here met s. stops_linked parts m k.queue l k.head (order (32 * x.queue)) (out (32 * x.queue)) (out (32 * x.queue)) (32 * x.queue) (λ a among. among) s)
-    (rows_keep p parts (parts_unlinked parts k.before k.queue k.after) out out (ap is_beside row.row) (λ s owed. halted_linked parts m k.queue l k.head out out (32 * s.queue) (λ a among. among)) c.mends) c
+    (rows_keep_mends p parts (parts_unlinked parts k.before k.queue k.after) out out (ap is_beside row.row) (λ s owed. halted_linked parts m k.queue l k.head out out (32 * s.queue) (λ a among. among)) c.mends) c

@@ -19,7 +19,7 @@ use Rattle.law_ring.specs.Front.{SameRest, LinksRise}
 use Rattle.law_ring.specs.Halted.{HaltStops, KeepsRest, IsKeptOrPublished}
 use Rattle.law_ring.specs.Order.{IsSorted, IsAmong}
 use Rattle.law_ring.specs.Told.{Endpoint as Told}
-use Rattle.law_ring.proofs.HaltSparing.{lend_keeps}
+use Rattle.law_ring.proofs.HaltSparing.{lend_keeps_halts}
 use Rattle.law_driver_ring.specs.Pieces.{IsNewQtd}
 use Rattle.law_driver_ring.specs.TransferLaws.{lent_driver}
 use Rattle.law_driver_ring.specs.fed_queues.Fed.{IsPublished}
@@ -39,7 +39,7 @@ use Rattle.law_queues.proofs.lemmas.lent_fronts.Parts.{member_head}
 use Rattle.law_queues.proofs.lemmas.lent_fronts.Rising.{rises_lent}
 use Rattle.law_queues.specs.mended_heads.Waiting.{MendsStand}
 use Rattle.law_queues.proofs.lemmas.mended_heads.Content.{any_one, OwesAlike, alike_same, owed_on}
-use Rattle.law_queues.proofs.lemmas.mended_heads.Standing.{stand_on, lend_keeps as lend_keeps_halted}
+use Rattle.law_queues.proofs.lemmas.mended_heads.Standing.{stand_on, lend_keeps_halted}
 use Rattle.law_queues.specs.publish_laws.Stores.{next_of}
 use Rattle.law_world.specs.steps.control_queues.Controls.{ControlsStand}
 use Rattle.law_world.specs.steps.control_queues.Queues.{LendKeepsQueues}
@@ -171,7 +171,7 @@ module _ (d : DriverContent) (m : Mem) (b : ℕ) (words : List ℕ) (member stre
   its_stops s =
       subst (λ (h : ℕ → ℕ). HaltStops h (later n) n (now n)) (sym l.order_is)
       (subst (λ (es : List ℕ). HaltStops g es n (now n)) (sym l.out_is)
-      (lend_keeps (order n) g (out n) more n (parts n) (now n) keeps_rest (λ a u among there. old_is a (Element u) there) was_there more_active s))
+      (lend_keeps_halts (order n) g (out n) more n (parts n) (now n) keeps_rest (λ a u among there. old_is a (Element u) there) was_there more_active s))
 
   its_published : (a : ℕ) (u : Qtd) → IsAmong a (later n) → now n a ≡ Some (Element u) → IsKeptOrPublished (out n) (parts n) a u
   its_published a u among there =

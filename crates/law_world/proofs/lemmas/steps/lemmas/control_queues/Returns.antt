@@ -14,7 +14,7 @@ use Rattle.law_ring.specs.Fewer.{without_those}
 use Rattle.law_ring.specs.Front.{LinksRise}
 use Rattle.law_ring.specs.Halted.{HaltStops}
 use Rattle.law_ring.specs.Order.{IsAmong}
-use Rattle.law_ring.proofs.HaltSparing.{halt_spared}
+use Rattle.law_ring.proofs.HaltSparing.{halt_is_spared}
 use Rattle.law_ring.proofs.Returning.{those_found}
 use Rattle.law_driver_ring.specs.Released.{goes_of, release_row}
 use Rattle.law_controller.specs.controlled_streams.Returned.{staying, staying_of}
@@ -41,7 +41,7 @@ module _ (parts : StructureSets) (n : ℕ) (goes : ℕ → Bool) where
 
   fewer_stop : (order : ℕ → ℕ) (out later : List ℕ) (m : ℕ) → ((a : ℕ) → IsAmong a later → IsAmong a out) → HaltStops order out m (parts m) → HaltStops order later m (now m)
   fewer_stop order out later m fewer s =
-      halt_spared order out later m (parts m) (now m)
+      halt_is_spared order out later m (parts m) (now m)
       (λ r is. record { queue = r; here = those_found parts n goes m m (QueueHead r) is; rest = record { token = refl; current = refl; next = refl; alternate = refl } })
       (λ a t among is. inl (fewer a among, those_found parts n goes m a (Element t) is)) s
 

@@ -16,7 +16,7 @@ use Rattle.law_ring.specs.Front.{LinksRise}
 use Rattle.law_ring.specs.Halted.{HaltStops, IsOutBeside}
 use Rattle.law_ring.specs.Order.{IsSorted, IsAmong}
 use Rattle.law_ring.specs.Told.{Endpoint as Told}
-use Rattle.law_ring.proofs.HaltSparing.{store_keeps}
+use Rattle.law_ring.proofs.HaltSparing.{store_keeps_halts}
 use Rattle.law_driver_ring.specs.Published.{partly}
 use Rattle.law_controller.specs.controlled_streams.Storing.{LeadsLater}
 use Rattle.law_controller.proofs.lemmas.controlled_streams.Storing.{element_found}
@@ -27,7 +27,7 @@ use Rattle.law_driver_ring.proofs.lemmas.fed_queues.Places.{stands_met}
 use Rattle.law_queues.specs.mended_heads.Owed.{StalledQueue}
 use Rattle.law_queues.specs.mended_heads.Standing.{KeepsHalted}
 use Rattle.law_queues.proofs.lemmas.mended_heads.Content.{any_one, OwesAlike, alike_same, owed_on}
-use Rattle.law_queues.proofs.lemmas.mended_heads.Standing.{stand_on, store_keeps as store_keeps_halted}
+use Rattle.law_queues.proofs.lemmas.mended_heads.Standing.{stand_on, store_keeps_halted}
 use Rattle.law_queues.specs.publish_laws.Stores.{IsAtStore, published_by, parts_then, out_then, next_of}
 use Rattle.law_queues.proofs.lemmas.publish_laws.Linked.{partly_later}
 use Rattle.law_queues.proofs.lemmas.publish_laws.Storing as storing
@@ -180,7 +180,7 @@ module _ (p : DriverParts) (member streams : ℕ → Bool) (ends : ℕ → Told)
   stops : (m : ℕ) → HaltStops (order m) (out m) m (parts m) → HaltStops (order m) (later m) m (now m)
   stops m =
       by_queue (λ (j : ℕ). HaltStops (order j) (out j) j (parts j) → HaltStops (order j) (later j) j (now j)) m
-      (λ was. subst (λ (es : List ℕ). HaltStops (order n) es n (now n)) (sym (out_here out n list)) (store_keeps (order n) (out n) list n e parts new beside was))
+      (λ was. subst (λ (es : List ℕ). HaltStops (order n) es n (now n)) (sym (out_here out n list)) (store_keeps_halts (order n) (out n) list n e parts new beside was))
       (λ differs was.
       subst (λ (es : List ℕ). HaltStops (order m) es m (now m)) (sym (out_beside out n list m differs)) (subst (HaltStops (order m) (out m) m) (sym (put_beside parts n e (Element new) m differs)) was))
 

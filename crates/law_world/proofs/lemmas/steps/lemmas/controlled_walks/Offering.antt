@@ -12,7 +12,7 @@ use Rattle.drv_table.specs.Accepting.{Offered}
 use Rattle.drv_table.specs.Offers.{offered}
 use Rattle.drv_table.specs.CancelOffers.{endpoint_members, with_cancel}
 use Rattle.law_driver.specs.run_owners.Accepts.{Accepts, opens, chains, places, transfers, describes, cancels, unchains}
-use Rattle.law_driver.proofs.lemmas.run_owners.Commands.{accepted_for_a_reason}
+use Rattle.law_driver.proofs.lemmas.run_owners.Commands.{each_command_has_its_reason}
 use Rattle.claims_driver.specs.Walk.{IsBellIn}
 use Rattle.law_driver_ring.proofs.lemmas.walk_members.Ringing.{SameBell, bell_kept}
 
@@ -42,5 +42,5 @@ accepted_bell d m o (unchains why) =
     let s = unchained_bell e why.number in
     same_of d o _ why.is (record { bell = s.bell; rung = s.rung })
 
-pub command_bell : (d : DriverContent) (m : Mem) (cmd : Cmd) (o : Offered) (r : RegisterFile) → offered d m cmd ≡ Ok o → IsBellIn d r → IsBellIn o.driver r
-command_bell d m cmd o r is old = bell_kept d o.driver r (accepted_bell d m o (accepted_for_a_reason d m cmd o is)) old
+pub command_keeps_bell : (d : DriverContent) (m : Mem) (cmd : Cmd) (o : Offered) (r : RegisterFile) → offered d m cmd ≡ Ok o → IsBellIn d r → IsBellIn o.driver r
+command_keeps_bell d m cmd o r is old = bell_kept d o.driver r (accepted_bell d m o (each_command_has_its_reason d m cmd o is)) old

@@ -8,7 +8,7 @@ use Rattle.law_ring.specs.Told.{Endpoint, HasEndpoint}
 use Rattle.law_ring.specs.Bus.{Sender}
 use Rattle.law_ring.specs.Pipes.{IsIn, IsNotIn, IsPipe, IsElsewhere}
 use Rattle.law_ring.specs.Order.{IsOrdered, Accounts}
-use Rattle.law_ring.proofs.SparedSparing.{spared_endpoint, spared_toggle, spared_accounts}
+use Rattle.law_ring.proofs.SparedSparing.{spared_endpoint, spared_has_toggle, accounts_are_spared}
 use Rattle.law_ring.specs.OutBus.{Taker}
 use Rattle.law_ring.specs.OutPipeLaws.{SendsNone, IsBeside, IsOnlyEndpoint}
 use Rattle.law_controller.specs.controlled_streams.Outs.{IsOutStream}
@@ -19,8 +19,8 @@ use Rattle.law_world.specs.steps.endpoint_releases.Released.{without_queue}
 use Rattle.law_world.specs.steps.endpoint_releases.Beside.{QueueIsGone, PipesStayBeside, OutPipesStayBeside, OutsStayBeside, ReportsStayBeside}
 use Rattle.law_world.proofs.lemmas.steps.lemmas.endpoint_releases.Owning.{queue_beside}
 
-pub queue_gone : QueueIsGone
-queue_gone parts n = (λ a. ap (λ (part : Structures). part a) (those_here parts n (λ b. true)), queue_beside parts n)
+pub queue_is_gone : QueueIsGone
+queue_is_gone parts n = (λ a. ap (λ (part : Structures). part a) (those_here parts n (λ b. true)), queue_beside parts n)
 
 -- a queue head with a test is another than one without
 other_one : (on : ℕ → Bool) (n k : ℕ) → on n ≡ false → on k ≡ true → k ≢ n
@@ -36,7 +36,7 @@ in_stays packets o acc parts now hand k x same p = record {
   named = endpoint_stays parts now k x same p.named;
   ins = subst IsIn (sym same) p.ins;
   toggle = p.toggle;
-  expects = spared_toggle hand hand parts now k p.toggle (same_hand hand) (heads_stay parts now k same) p.expects;
+  expects = spared_has_toggle hand hand parts now k p.toggle (same_hand hand) (heads_stay parts now k same) p.expects;
   sender = p.sender;
   is = p.is;
   half = p.half;
@@ -89,7 +89,7 @@ only_stays stream member parts n k x off was = record {
 }
 
 accounts_stay : (order : ℕ → ℕ) (place : ℕ) (out : List ℕ) (hand : Hand) (parts now : StructureSets) (k : ℕ) (told : List ℕ) → now k ≡ parts k → Accounts order place out hand parts k told → Accounts order place out hand now k told
-accounts_stay order place out hand parts now k told same was = spared_accounts order order place place out hand hand parts now k told (same_hand hand) (heads_stay parts now k same) (λ e among. elements_stay parts now k e same)
+accounts_stay order place out hand parts now k told same was = accounts_are_spared order order place place out hand hand parts now k told (same_hand hand) (heads_stay parts now k same) (λ e among. elements_stay parts now k e same)
     (subst (IsOrdered order place k) (sym same) was.ordered) was.sorted
     (λ a t among here from. was.published a t among (ap (λ (part : Structures). part a) (sym same) ∙ here) from)
     (λ a t here on. was.complete a t (ap (λ (part : Structures). part a) (sym same) ∙ here) on) was
@@ -112,6 +112,6 @@ outs_stay taker stream member outs ends order out harvested parts hand wire n of
   others = asides_stay stream member outs ends parts n off k.others;
 }
 
-pub reports_stay : ReportsStayBeside
-reports_stay heads order out hand parts acc reported n off all k on =
+pub reports_stay_beside : ReportsStayBeside
+reports_stay_beside heads order out hand parts acc reported n off all k on =
     reported_stays (order k) (out k) hand hand parts (without_queue parts n) k (acc k) (reported k) (same_hand hand) (queue_beside parts n k (other_one heads n k off on)) (all k on)

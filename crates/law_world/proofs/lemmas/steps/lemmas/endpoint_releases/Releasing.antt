@@ -25,7 +25,7 @@ use Rattle.law_driver.proofs.lemmas.run_owners.Leaves.{first_left}
 use Rattle.law_driver.proofs.lemmas.run_owners.Rows.{not_iso}
 use Rattle.law_structures.specs.lent_structures.Structures.{StructureSets, Tells}
 use Rattle.law_structures.proofs.lemmas.lent_structures.Names.{not_same}
-use Rattle.law_ring.proofs.Returning.{fewer_told}
+use Rattle.law_ring.proofs.Returning.{fewer_are_told}
 use Rattle.law_structures.specs.lent_structures.Sound.{IsMember}
 use Rattle.law_ring.specs.Hand.{Copy, Hand, Empty, Copied, Settled, Stale}
 use Rattle.claims_base.specs.Controller.{Base}
@@ -185,13 +185,13 @@ module _ (p : DriverParts) (e : ℕ) (x : Endpoint) (leave : IsToLeave p.driver 
       runs_apart before h.at c k stands (λ same. true≢false (sym here ∙ ap (λ (i : ℕ). goes_with e held (owners.owner i)) same ∙ h.other)) h.has
       (subst (λ (s : Slot). SlotHas s k) (sym is) (has_block_from r k inside.from inside.below))
 
-pub release_drives : EndpointReleaseDrives
-release_drives base member parts hand w p e x drives owners stands lies leave off =
+pub endpoint_release_drives : EndpointReleaseDrives
+endpoint_release_drives base member parts hand w p e x drives owners stands lies leave off =
     let n = 32 * x.queue in
     let now = without_queue parts n in
     let view = goes p e x leave owners in
     let all = all_told (holding p.driver.book p.memory) now (endpoint_blocks p.driver e x) (none_there p e x leave owners parts stands lies drives.driven)
-    (record { stands = stands; told = fewer_told p.memory parts n (λ a. true) drives.ring.tells }) in
+    (record { stands = stands; told = fewer_are_told p.memory parts n (λ a. true) drives.ring.tells }) in
     subst (λ (q : DriverParts). DrivesRing base member now hand (place w q.registers q.memory) q.driver × AreInRuns (views_of q.driver) now) (sym (after_is p e x leave owners)) (
       record {
         ring = ring_beside base member parts hand (place w p.registers p.memory) n (freed p e x leave owners).memory drives.ring off
@@ -203,8 +203,8 @@ release_drives base member parts hand w p e x drives owners stands lies leave of
 
 -- ---- which endpoint is due
 
-pub due_leaves : DueIsToLeave
-due_leaves p e owners due =
+pub due_is_to_leave : DueIsToLeave
+due_is_to_leave p e owners due =
     let l = first_left e due.first owners.orderly in
     record {
       endpoint = l.endpoint;

@@ -16,7 +16,7 @@ use Rattle.law_driver_ring.specs.fed_queues.Places.{IsMet, HasHead, AreMet, Have
 use Rattle.law_queues.specs.reached_rings.Reaching.{may_reach, is_reached}
 use Rattle.law_queues.specs.leaving_drivers.Before.{IsAsBefore, NearFewer}
 use Rattle.law_queues.proofs.lemmas.leaving_drivers.Alike.{there_by}
-use Rattle.law_queues.proofs.lemmas.leaving_drivers.Leaving.{clear_as_before}
+use Rattle.law_queues.proofs.lemmas.leaving_drivers.Leaving.{clear_is_as_before}
 use Rattle.law_world.specs.steps.left_queues.Standing.{met_streams, ClearStands}
 use Rattle.law_world.proofs.lemmas.steps.lemmas.left_queues.Unmet.{near_kept, off_head_by}
 use Rattle.law_world.proofs.lemmas.steps.lemmas.left_queues.Same.{fed_now, last_now, still_out_now, fronts_now, tails_now}
@@ -33,10 +33,10 @@ module _ (p : Parts) (rings : Bool) (idle : p.driver.command ≡ None) (owners :
   f = (after_driver_row rows.ClearAdvance p).driver
 
   before : IsAsBefore d f
-  before = (clear_as_before p idle).0
+  before = (clear_is_as_before p idle).0
 
   near : NearFewer d f
-  near = (clear_as_before p idle).1
+  near = (clear_is_as_before p idle).1
 
   abbrev is_there : ℕ → ℕ → Endpoint → Bool
   is_there n e x = (n == 32 * x.queue) && may_reach f rings e x
@@ -86,7 +86,7 @@ pub clear_stands : ClearStands
 clear_stands p member narrow streams ends parts order out rings idle owners turns are old =
     let d = p.driver in
     let f = (after_driver_row rows.ClearAdvance p).driver in
-    let b = clear_as_before p idle in
+    let b = clear_is_as_before p idle in
     record {
       queues = record {
         met = narrow_met p rings idle owners turns narrow are;

@@ -73,8 +73,8 @@ module _ (p : DriverParts) (member : ℕ → Bool) (parts : StructureSets) (k : 
       subst (λ (row : DriverRow). DrivesRing base member (parts_unlinked parts k.before k.queue k.after) (hand_unlinked hand k.before k.after) (place w (after_driver_row row p).registers (after_driver_row row p).memory) (after_driver_row row p).driver) (sym row_is)
       (unlink_drives base member parts hand w p k.before x.queue k.after k.queue k.own drives k.can k.met k.head k.leads k.there k.onward)
 
-pub unlink_row_is : UnlinkRow
-unlink_row_is p member parts k = is_unlinked p member parts k
+pub unlink_row : UnlinkRow
+unlink_row p member parts k = is_unlinked p member parts k
 
 pub unlink_meets_ring : UnlinkMeetsRing
 unlink_meets_ring p member parts k old = meets p member parts k old

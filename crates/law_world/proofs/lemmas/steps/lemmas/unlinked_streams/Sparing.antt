@@ -17,7 +17,7 @@ use Rattle.law_ring.specs.Effects.{bytes_in, buffer_of}
 use Rattle.law_ring.specs.Told.{endpoint_of}
 use Rattle.law_ring.specs.Sparing.{SparesHead, SparesElement}
 use Rattle.law_ring.specs.Front.{IsPassed, SameRest, HadRest, HasFront, LinksWithin, HasTail}
-use Rattle.law_ring.proofs.FrontGoing.{front_spared}
+use Rattle.law_ring.proofs.FrontGoing.{front_is_spared}
 
 -- where the overlay is the same, so is the link that is followed
 rest_pointer : (q r : Qh) → SameRest q r → next_pointer r ≡ next_pointer q
@@ -116,7 +116,7 @@ module _ (parts : StructureSets) (n : ℕ) (q : Qh) (l : LinkBits) (head : parts
 
   pub front_stays : (order : ℕ → ℕ) (front : ℕ) (out : List ℕ) (m : ℕ) → HasFront order front out m (parts m) → HasFront order front out m (now m)
   front_stays order front out m k =
-      front_spared order front out out m (parts m) (now m) k (had_rest m) (λ a t among is. inl (among, element_was m a t is, ap length (buffer_stays m t)))
+      front_is_spared order front out out m (parts m) (now m) k (had_rest m) (λ a t among is. inl (among, element_was m a t is, ap length (buffer_stays m t)))
 
   pub passed_stays : (order : ℕ → ℕ) (front m a : ℕ) → IsPassed order front (parts m) a → IsPassed order front (now m) a
   passed_stays order front m a k = record { qtd = k.qtd; here = element_stays m a k.qtd k.here; published = k.published; before = k.before }

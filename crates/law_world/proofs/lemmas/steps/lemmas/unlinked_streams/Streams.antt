@@ -13,19 +13,19 @@ use Rattle.law_ring.specs.Hand.{Hand}
 use Rattle.law_ring.specs.Told.{Endpoint as Told}
 use Rattle.law_ring.specs.Order.{IsPlaced, IsOrdered}
 use Rattle.law_ring.specs.Front.{SameRest, HadRest, IsPassed, HasFront, LinksWithin, HasTail}
-use Rattle.law_ring.proofs.SparedSparing.{linked_same, spared_endpoint, spared_pipes, spared_accounts}
+use Rattle.law_ring.proofs.SparedSparing.{linked_hand_is_same, spared_endpoint, spared_pipes_agree, accounts_are_spared}
 use Rattle.law_ring.specs.Bus.{Sender}
 use Rattle.law_ring.specs.Pipes.{IsIn, IsNotIn, IsElsewhere}
 use Rattle.law_ring.specs.OutBus.{Taker}
 use Rattle.law_ring.specs.OutPipes.{IsOut}
 use Rattle.law_ring.specs.OutPipeLaws.{SendsNone}
-use Rattle.law_controller.proofs.lemmas.controlled_streams.Outs.{linked_unmoved}
+use Rattle.law_controller.proofs.lemmas.controlled_streams.Outs.{linked_is_unmoved}
 use Rattle.law_controller.specs.controlled_streams.Reported.{IsReported}
 use Rattle.law_queues.specs.released_queues.Fronts.{piece_address}
-use Rattle.law_queues.proofs.lemmas.whole_sends.Keeping.{linked_ends, spared_whole}
+use Rattle.law_queues.proofs.lemmas.whole_sends.Keeping.{linked_ends_whole, spared_is_whole}
 use Rattle.law_queues.specs.standing_fronts.Reaching.{Reaches}
 use Rattle.law_world.specs.steps.Outs.{IsAside}
-use Rattle.law_world.proofs.lemmas.steps.Spared.{out_pipes_spared}
+use Rattle.law_world.proofs.lemmas.steps.Spared.{spared_out_pipes_agree}
 use Rattle.law_world.specs.steps.unlinked_streams.Unlinks.{IsAtUnlink, driver_then, parts_unlinked, hand_unlinked, UnlinkLeavesPipes, UnlinkLeavesOutPipes, UnlinkLeavesReports, UnlinkLeavesSent, UnlinkSparesHeads, UnlinkSparesElements, UnlinkSparesHand, UnlinkLeavesFronts}
 use Rattle.law_world.proofs.lemmas.steps.lemmas.unlinked_streams.Passing.{driver_is}
 use Rattle.law_world.proofs.lemmas.steps.lemmas.unlinked_streams.Sparing.{spares_head, had_rest, element_was, buffer_stays, spares_element, front_stays, passed_stays, within_stays, tail_stays}
@@ -39,7 +39,7 @@ pub unlink_spares_elements : UnlinkSparesElements
 unlink_spares_elements d member parts k n e = spares_element parts (32 * k.before) k.queue (to_queue_head k.after) k.head n e
 
 pub unlink_spares_hand : UnlinkSparesHand
-unlink_spares_hand hand d member parts k = linked_same (32 * k.before) (to_queue_head k.after) hand
+unlink_spares_hand hand d member parts k = linked_hand_is_same (32 * k.before) (to_queue_head k.after) hand
 
 -- the overlay stands in its place still
 placed_still : (order : ℕ → ℕ) (place : ℕ) (q r : Qh) → SameRest q r → IsPlaced order place q → IsPlaced order place r
@@ -104,7 +104,7 @@ module _ (d : DriverContent) (member : ℕ → Bool) (parts : StructureSets) (k 
   report_stays order out hand n acc reported r = record {
     place = r.place;
     told = r.told;
-    accounts = spared_accounts order order r.place r.place out hand (hand_unlinked hand k.before k.after) parts then n r.told (linked_same at l hand) (spares_head parts at k.queue l k.head n)
+    accounts = accounts_are_spared order order r.place r.place out hand (hand_unlinked hand k.before k.after) parts then n r.told (linked_hand_is_same at l hand) (spares_head parts at k.queue l k.head n)
         (λ e among. spares_element parts at k.queue l k.head n e) (ordered_still order r.place n r.accounts.ordered) r.accounts.sorted
         (λ a t among is from. r.accounts.published a t among (element_was parts at k.queue l k.head n a t is) from)
         (λ a t is active. r.accounts.complete a t (element_was parts at k.queue l k.head n a t is) active) r.accounts;
@@ -115,14 +115,14 @@ module _ (d : DriverContent) (member : ℕ → Bool) (parts : StructureSets) (k 
 
 pub unlink_leaves_pipes : {W : Type 0} (sender : W → ℕ → ℕ → Option Sender) → UnlinkLeavesPipes sender
 unlink_leaves_pipes sender stream packets streams ends acc wire hand d member parts k piped =
-    spared_pipes sender stream packets member member streams ends acc hand (hand_unlinked hand k.before k.after) parts (parts_unlinked parts k.before k.queue k.after) wire
+    spared_pipes_agree sender stream packets member member streams ends acc hand (hand_unlinked hand k.before k.after) parts (parts_unlinked parts k.before k.queue k.after) wire
     (unlink_spares_hand hand d member parts k) (λ n on. unlink_spares_heads d member parts k n) (λ n on. ins_stay d member parts k n (piped.pipes n on).ins)
     (λ n on off. elsewhere_stays d member parts k stream n (ends n) (piped.others n on off)) piped
 
 pub unlink_leaves_out_pipes : {W : Type 0} (taker : W → ℕ → ℕ → Option Taker) → UnlinkLeavesOutPipes taker
 unlink_leaves_out_pipes taker stream outs ends known wire hand d member parts k piped =
-    out_pipes_spared taker stream member member outs ends ends known hand (hand_unlinked hand k.before k.after) parts (parts_unlinked parts k.before k.queue k.after) wire
-    (unlink_spares_hand hand d member parts k) (λ n on un. linked_unmoved (32 * k.before) (to_queue_head k.after) hand n un)
+    spared_out_pipes_agree taker stream member member outs ends ends known hand (hand_unlinked hand k.before k.after) parts (parts_unlinked parts k.before k.queue k.after) wire
+    (unlink_spares_hand hand d member parts k) (λ n on un. linked_is_unmoved (32 * k.before) (to_queue_head k.after) hand n un)
     (λ n on. record { head = unlink_spares_heads d member parts k n; work = λ q is active. unlink_spares_elements d member parts k n q.current })
     (λ n on. outs_stay d member parts k n (piped.pipes n on).outs) (λ n on. refl) (λ n on off. aside_stays d member parts k stream n (ends n) (piped.others n on off)) piped
 
@@ -131,8 +131,8 @@ unlink_leaves_reports heads order out acc reported hand d member parts k right n
 
 pub unlink_leaves_sent : UnlinkLeavesSent
 unlink_leaves_sent n order out hand d member parts k sent =
-    spared_whole order out out hand (hand_unlinked hand k.before k.after) n (parts n) (parts_unlinked parts k.before k.queue k.after n)
-    (λ ends_so. linked_ends (32 * k.before) (to_queue_head k.after) hand n ends_so) (λ b among. among) (λ r is. had_rest parts (32 * k.before) k.queue (to_queue_head k.after) k.head n r is)
+    spared_is_whole order out out hand (hand_unlinked hand k.before k.after) n (parts n) (parts_unlinked parts k.before k.queue k.after n)
+    (λ ends_so. linked_ends_whole (32 * k.before) (to_queue_head k.after) hand n ends_so) (λ b among. among) (λ r is. had_rest parts (32 * k.before) k.queue (to_queue_head k.after) k.head n r is)
     (λ a t is. element_was parts (32 * k.before) k.queue (to_queue_head k.after) k.head n a t is) sent
 
 -- ---- fronts and tails

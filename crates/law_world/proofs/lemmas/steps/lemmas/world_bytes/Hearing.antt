@@ -9,7 +9,7 @@ use Rattle.bus_wire.specs.Bus.{Fixed, Wired, fixed_of}
 use Rattle.law_scripts.specs.byte_answers.Bytes.{IsByteReply, IsByteScript, IsByteBus}
 use Rattle.law_scripts.proofs.lemmas.byte_answers.Lists.{byte_at}
 use Rattle.law_scripts.proofs.lemmas.byte_answers.Buses.{reply_bytes}
-use Rattle.law_scripts.proofs.lemmas.script_bytes.Texts.{spelled_bytes}
+use Rattle.law_scripts.proofs.lemmas.script_bytes.Texts.{a_text_spells_bytes}
 use Rattle.bus_world.specs.World.{World}
 use Rattle.bus_world.specs.Opening.{opening_world}
 use Rattle.bus_world.specs.Orders.{at_place, orders_of}
@@ -20,11 +20,11 @@ use Rattle.law_world.proofs.lemmas.steps.lemmas.world_bytes.Turning.{run_bytes, 
 told_bytes : (fixed : Fixed) (w : World) (after : Wired) (ask : Ask) (out : List ℕ) (pid : Pid) (bs : List ℕ) → IsByteBus w.bus → transacts_by (wired fixed w) ask out (Bytes pid bs) after → (i : ℕ) → slice_index bs i < 256
 told_bytes fixed w after ask out pid bs h t i = byte_at bs (subst IsByteReply (sym t.0) (reply_bytes fixed w.bus ask out h)) i
 
-pub hears_bytes : (fixed : Fixed) (w : World) → IsByteBus w.bus → HearsBytesNow fixed w
-hears_bytes fixed w h = λ after ask out pid bs t i. told_bytes fixed w after ask out pid bs h t i
+pub a_bus_of_bytes_is_heard_as_bytes : (fixed : Fixed) (w : World) → IsByteBus w.bus → HearsBytesNow fixed w
+a_bus_of_bytes_is_heard_as_bytes fixed w h = λ after ask out pid bs t i. told_bytes fixed w after ask out pid bs h t i
 
 pub moment_hears : (s : Script) (k : ℕ) → IsByteScript s → HearsBytesNow (fixed_of s) (moment s k).world
-moment_hears s k h = hears_bytes (fixed_of s) (moment s k).world (run_bytes (fixed_of s) (at_place (opening_world s) (orders_of s.lines)) k (opened_bytes s h))
+moment_hears s k h = a_bus_of_bytes_is_heard_as_bytes (fixed_of s) (moment s k).world (run_bytes (fixed_of s) (at_place (opening_world s) (orders_of s.lines)) k (opened_bytes s h))
 
 pub text_hears : (text : List ℕ) (s : Script) (k : ℕ) → Spells text s → HearsBytesNow (fixed_of s) (moment s k).world
-text_hears text s k e = moment_hears s k (spelled_bytes text s e)
+text_hears text s k e = moment_hears s k (a_text_spells_bytes text s e)

@@ -24,7 +24,7 @@ use Rattle.drv_table.specs.Accepting.{Offered}
 use Rattle.drv_table.specs.Offers.{offered}
 use Rattle.bus_wire.specs.Bus.{Fixed, Bus}
 use Rattle.law_scripts.specs.byte_answers.Bytes.{IsByteScript, IsByteBus}
-use Rattle.law_scripts.proofs.lemmas.byte_answers.Buses.{transact_bytes, begin_bytes, opening_bytes}
+use Rattle.law_scripts.proofs.lemmas.byte_answers.Buses.{transact_bytes, a_microframe_keeps_bytes, opening_bytes}
 use Rattle.bus_world.specs.World.{World, next, controller_row, controller_parts, controller_next, turned_by, frame_by, walk_by, sends_by, sent_by, name_in, commanded, commanded_by}
 use Rattle.bus_world.specs.Opening.{opening_world}
 use Rattle.bus_world.specs.Orders.{Left, Events, Microframes, Answer, Command, OrderedWorld, tick, tick_by, tick_at, ticks}
@@ -49,7 +49,7 @@ frame_bytes fixed (Leaves p) b h = h
 frame_bytes fixed (Asks ask out left_by) b h = transact_bytes fixed b ask out h
 
 turned_bytes : (fixed : Fixed) (row : ControllerRow) (c : Content) (b : Bus) → IsByteBus b → IsByteBus (turned_by fixed row c b).bus
-turned_bytes fixed rows.Begin c b h = begin_bytes fixed (next_index c.registers.frame_index) b h
+turned_bytes fixed rows.Begin c b h = a_microframe_keeps_bytes fixed (next_index c.registers.frame_index) b h
 turned_bytes fixed rows.Frame c b h = frame_bytes fixed (effect_of (frame_place c)) b h
 turned_bytes fixed rows.Enter c b h = walk_bytes fixed (event_row (walk_place (entered c))) (at_event (walk_place (entered c))) b h
 turned_bytes fixed rows.Go c b h = walk_bytes fixed (event_row (walk_place c)) (at_event (walk_place c)) b h

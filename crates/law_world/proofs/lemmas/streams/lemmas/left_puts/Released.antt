@@ -36,7 +36,7 @@ use Rattle.law_queues.specs.whole_sends.Laws.{IsStopped}
 use Rattle.law_driver_ring.specs.fed_queues.Fed.{is_request, AreFed}
 use Rattle.law_world.specs.steps.endpoint_releases.Released.{without_queue, IsToLeave, endpoint_row}
 use Rattle.law_world.proofs.lemmas.steps.lemmas.endpoint_releases.Owning.{queue_beside}
-use Rattle.law_world.proofs.lemmas.steps.lemmas.endpoint_releases.Releasing.{release_drives}
+use Rattle.law_world.proofs.lemmas.steps.lemmas.endpoint_releases.Releasing.{endpoint_release_drives}
 use Rattle.law_world.specs.streams.put_laws.Held.{held_bytes}
 use Rattle.law_world.specs.streams.put_laws.HeldPuts.{HoldsPuts}
 use Rattle.law_world.proofs.lemmas.streams.lemmas.put_laws.HeldAlike.{note_is, SameBytes, was_itself, puts_stay}
@@ -56,7 +56,7 @@ no_publish b words is = cc
 
 module _ (base : Base) (member : ℕ → Bool) (parts : StructureSets) (hand : Hand) (w : Walk) (p : DriverParts) (e : ℕ) (x : Endpoint) (drives : DrivesRing base member parts hand (place w p.registers p.memory) p.driver) (owners : HasOwners p.driver) (stands : Stands (holding p.driver.book p.memory)) (lies : AreInRuns (views_of p.driver) parts) (turns : AsynchronousTakesTurns p.driver) (fed : AreFed p.driver parts) (idle : p.driver.command ≡ None) (leave : IsToLeave p.driver e x) (off : member (32 * x.queue) ≡ false) where
   after : DrivesRing base member (without_queue parts (32 * x.queue)) hand (place w (after_driver_row (endpoint_row e) p).registers (after_driver_row (endpoint_row e) p).memory) (after_driver_row (endpoint_row e) p).driver
-  after = (release_drives base member parts hand w p e x drives owners stands lies leave off).0
+  after = (endpoint_release_drives base member parts hand w p e x drives owners stands lies leave off).0
 
   bytes_stay : (u i : ℕ) (z : Transfer) → slice_get p.driver.transfers u ≡ Some z → z.sort ≡ sorts.Put → z.released ≡ false → z.endpoint ≢ e → i < z.qtds
       → SameBytes p.memory (after_driver_row (endpoint_row e) p).memory (note_at p.driver.notes (piece_at (note_in p.driver.notes) z.first i))
@@ -85,8 +85,8 @@ module _ (base : Base) (member : ℕ → Bool) (parts : StructureSets) (hand : H
         bytes = λ i below. bytes_stay u i z was.1 put still was.0 below;
       }) k
 
-pub release_holds : EndpointReleaseHoldsPuts
-release_holds base member parts hand w p e x puts drives owners stands lies turns fed idle leave off k = holds base member parts hand w p e x drives owners stands lies turns fed idle leave off puts k
+pub endpoint_release_holds_puts : EndpointReleaseHoldsPuts
+endpoint_release_holds_puts base member parts hand w p e x puts drives owners stands lies turns fed idle leave off k = holds base member parts hand w p e x drives owners stands lies turns fed idle leave off puts k
 
 -- ---- what is owed
 
@@ -138,20 +138,20 @@ module _ (p : DriverParts) (e : ℕ) (x : Endpoint) (puts reported told : ℕ �
         owes.last t y z back.1 was sends goes is stays;
   }
 
-pub release_owes : EndpointReleaseOwes
-release_owes p e x puts reported told turns leave tells held still owes = owes_still p e x puts reported told turns leave tells held still owes
+pub endpoint_release_owes : EndpointReleaseOwes
+endpoint_release_owes p e x puts reported told turns leave tells held still owes = owes_still p e x puts reported told turns leave tells held still owes
 
 -- ---- the queue heads of the others
 
-pub release_sends : EndpointReleaseSends
-release_sends p e x hand parts order out owners turns leave k i z here met sends =
+pub endpoint_release_sends : EndpointReleaseSends
+endpoint_release_sends p e x hand parts order out owners turns leave k i z here met sends =
     let was = other_end p e x leave i z here met.there.kept in
     let n = 32 * z.queue in
     let apart : n ≢ 32 * x.queue = queues_apart p e x leave owners turns i z was.0 was.1 met.there.kept in
     subst (λ (part : Structures). AreSentWhole (order n) (out n) hand n part) (sym (queue_beside parts (32 * x.queue) n apart)) (k i z was.1 (met_before p e x leave i z met) sends)
 
-pub release_stops : EndpointReleaseStops
-release_stops p e x parts owners turns leave ended i z cause here alive sends over =
+pub endpoint_release_stops : EndpointReleaseStops
+endpoint_release_stops p e x parts owners turns leave ended i z cause here alive sends over =
     let was = other_end p e x leave i z here alive in
     let n = 32 * z.queue in
     let apart : n ≢ 32 * x.queue = queues_apart p e x leave owners turns i z was.0 was.1 alive in
@@ -160,8 +160,8 @@ release_stops p e x parts owners turns leave ended i z cause here alive sends ov
 
 -- ---- what was taken
 
-pub release_taken : {W : Type 0} (taker : W → ℕ → ℕ → Option Taker) → EndpointReleaseKeepsTaken taker
-release_taken taker p e x puts wire idle leave k i z s here life sends is =
+pub a_release_keeps_what_was_taken : {W : Type 0} (taker : W → ℕ → ℕ → Option Taker) → EndpointReleaseKeepsTaken taker
+a_release_keeps_what_was_taken taker p e x puts wire idle leave k i z s here life sends is =
     let f = (after_driver_row (endpoint_row e) p).driver in
     let same : concat (puts_of p.driver puts i) ≡ concat (puts_of f puts i) =
     sym (ap (λ (ts : List Transfer). concat (puts_from puts i 0 ts)) (transfers_are p e x leave) ∙ ap concat (puts_let_go puts i e 0 (is_told x) p.driver.transfers)) in

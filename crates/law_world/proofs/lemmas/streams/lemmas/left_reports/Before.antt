@@ -12,7 +12,7 @@ use Rattle.drv_table.specs.declared.content.Command.TheVariants as unfinished
 use Rattle.drv_table.specs.DriverContent.{DriverContent}
 use Rattle.drv_table.specs.Harvests.{note_at}
 use Rattle.law_queues.specs.told_endpoints.Telling.{named_of, named_in, TellsEach}
-use Rattle.law_queues.proofs.lemmas.told_endpoints.Tellings.{names_kept}
+use Rattle.law_queues.proofs.lemmas.told_endpoints.Tellings.{keeps_names}
 use Rattle.law_driver_ring.specs.told_harvests.Held.{told_of}
 use Rattle.law_driver.specs.endpoint_lives.Lives.{told_end}
 use Rattle.law_queues.specs.harvest_laws.Holds.{IsUnderWay, IsToCome, HoldsEach}
@@ -59,14 +59,14 @@ before_names d f b e = by (slice_get f.endpoints e) (slice_get d.endpoints e) re
         let w : WasSame d e z = b.ends e z now in
         ap Some (same_named w.endpoint z w.desc w.ends) ∙ ap (option_map named_of) (sym w.here ∙ was)
 
-pub before_told : (d f : DriverContent) (hand : Hand) (parts : StructureSets) (reported : ℕ → List ℕ) → IsAsBefore d f → ToldStands d hand parts reported → ToldStands f hand parts reported
-before_told d f hand parts reported b k = record {
+pub leaves_are_told : (d f : DriverContent) (hand : Hand) (parts : StructureSets) (reported : ℕ → List ℕ) → IsAsBefore d f → ToldStands d hand parts reported → ToldStands f hand parts reported
+leaves_are_told d f hand parts reported b k = record {
   held = k.held;
   told = k.told;
   holds = before_holds d f hand parts k.held b k.holds;
   tells = subst (λ (ls : List Report). TellsEach ls f.store (named_in f.endpoints) k.held k.told) (sym b.reports)
       (subst (λ (bs : List ℕ). TellsEach d.reports bs (named_in f.endpoints) k.held k.told) (sym b.store)
-      (names_kept d.reports d.store (named_in d.endpoints) (named_in f.endpoints) k.held k.told (before_names d f b) k.tells));
+      (keeps_names d.reports d.store (named_in d.endpoints) (named_in f.endpoints) k.held k.told (before_names d f b) k.tells));
   met = λ e z here meets.
       let w : WasSame d e z = b.ends e z here in
       k.met e w.endpoint w.here (record { linked = not_open d.command w.endpoint.queue b.idle; kept = sym w.gone ∙ meets.kept }) ∙ ap (λ (q : ℕ). reported (32 * q)) (sym w.queue);

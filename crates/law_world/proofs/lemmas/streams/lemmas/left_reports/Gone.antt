@@ -32,9 +32,9 @@ use Rattle.law_driver.proofs.lemmas.chained_transfers.BulkAndControl.{not_iso}
 use Rattle.law_driver.proofs.lemmas.chained_transfers.Staying.{told_stands_alive}
 use Rattle.law_queues.specs.told_endpoints.Telling.{named_of, named_in, IsToldTo, TellsEach}
 use Rattle.law_queues.specs.told_endpoints.Steps.{Grows, Clears, NamesAt}
-use Rattle.law_queues.proofs.lemmas.told_endpoints.Tellings.{names_kept, line_added, other_added}
+use Rattle.law_queues.proofs.lemmas.told_endpoints.Tellings.{keeps_names, adds_bytes, requests_add_no_stream}
 use Rattle.law_driver_ring.specs.told_harvests.Held.{told_of}
-use Rattle.law_driver_ring.proofs.lemmas.told_harvests.Keeping.{done_spared}
+use Rattle.law_driver_ring.proofs.lemmas.told_harvests.Keeping.{spared_is_done}
 use Rattle.law_queues.specs.harvest_laws.Holds.{IsUnderWay, IsToCome, IsNextOf, HoldsEach}
 use Rattle.law_queues.proofs.lemmas.harvest_laws.RowRows.{grown_at, cleared_at}
 use Rattle.law_queues.proofs.lemmas.harvest_laws.RowHarvesting.{holds_still}
@@ -147,7 +147,7 @@ module _ (d new : DriverContent) (e : ℕ) (x : Endpoint) (cut : Bool) (g : IsGi
       let alive : z.gone ≡ false = told_stands_alive z (g.only.endpoints i z was.next.endpoint) is.going in
       let same : without_queue parts (32 * x.queue) (32 * z.queue) ≡ parts (32 * z.queue) = queue_beside parts (32 * x.queue) (32 * z.queue)
       (queues_differ d e i (runs_of_endpoint x) (runs_of_endpoint z) owners (queue_in e x g.here kept) (queue_in i z was.next.endpoint alive) was.differs) in
-      done_spared hand hand parts (without_queue parts (32 * x.queue)) (32 * z.queue) a n bytes (same_hand hand) (heads_stay parts (without_queue parts (32 * x.queue)) (32 * z.queue) same)
+      spared_is_done hand hand parts (without_queue parts (32 * x.queue)) (32 * z.queue) a n bytes (same_hand hand) (heads_stay parts (without_queue parts (32 * x.queue)) (32 * z.queue) same)
       (elements_stay parts (without_queue parts (32 * x.queue)) (32 * z.queue) (32 * a) same) done) k
 
   -- ---- names
@@ -262,7 +262,7 @@ module _ (order : ℕ → ℕ) (parts : StructureSets) (hand : Hand) (p : Parts)
       grows = grown_at e r.told k.told
 
       tells : TellsEach (after true book).reports (after true book).store (named_in (after true book).endpoints) later now
-      tells = line_added d.reports d.store bytes r.told (named_in d.endpoints) (named_in (after true book).endpoints) k.held later k.told now e (named_of x) (named_of (gone_of x)) line its_name (names_now d (after true book) e x true g)
+      tells = adds_bytes d.reports d.store bytes r.told (named_in d.endpoints) (named_in (after true book).endpoints) k.held later k.told now e (named_of x) (named_of (gone_of x)) line its_name (names_now d (after true book) e x true g)
           (record {
             going = goes_untold x told;
             named = refl;
@@ -282,7 +282,7 @@ module _ (order : ℕ → ℕ) (parts : StructureSets) (hand : Hand) (p : Parts)
   other_stands : (book : Book) → has_stream x.desc.kind ≡ false → is_told x ≡ true → Stands (after true book)
   other_stands book silent told = (
     gone_stands d (after true book) e x true g hand parts reported k.held k.held k.told k.told l.owners l.leaves.held l.idle (λ i differs. refl) (λ on. absurd (false≢true (sym silent ∙ on))) (λ i differs. refl) k.holds k.met
-        (other_added d.reports d.store bytes (named_in d.endpoints) (named_in (after true book).endpoints) k.held k.told e (named_of x) (named_of (gone_of x)) line its_name (names_now d (after true book) e x true g)
+        (requests_add_no_stream d.reports d.store bytes (named_in d.endpoints) (named_in (after true book).endpoints) k.held k.told e (named_of x) (named_of (gone_of x)) line its_name (names_now d (after true book) e x true g)
         (record { named = refl; none = silent; line_named = refl; tells = refl; from = refl; long = refl }) k.tells),
     record { gone = now_gone d (after true book) e x true g; told = λ on _. absurd (false≢true (sym silent ∙ on)); before = λ untold. absurd (false≢true (sym untold ∙ told)) },
   )
@@ -294,7 +294,7 @@ module _ (order : ℕ → ℕ) (parts : StructureSets) (hand : Hand) (p : Parts)
   untold_stands : (book : Book) → is_told x ≡ false → Stands (after false book)
   untold_stands book untold = (
     gone_stands d (after false book) e x false g hand parts reported k.held k.held k.told k.told l.owners l.leaves.held l.idle (λ i differs. refl) (λ on. none_held on x.ended refl) (λ i differs. refl) k.holds k.met
-        (names_kept d.reports d.store (named_in d.endpoints) (named_in (after false book).endpoints) k.held k.told (names_same d (after false book) e x false g untold) k.tells),
+        (keeps_names d.reports d.store (named_in d.endpoints) (named_in (after false book).endpoints) k.held k.told (names_same d (after false book) e x false g untold) k.tells),
     record { gone = now_gone d (after false book) e x false g; told = λ on told. absurd (false≢true (sym untold ∙ told)); before = λ _. refl },
   )
     where

@@ -44,7 +44,7 @@ use Rattle.law_world.specs.streams.put_laws.Held.{held_bytes}
 use Rattle.law_world.proofs.lemmas.streams.lemmas.put_laws.Accepting.{held_stays}
 use Rattle.law_world.specs.streams.put_laws.HeldLaws.{IsPublishing, OutsAskNoData, EventHoldsPuts}
 use Rattle.law_world.proofs.lemmas.streams.lemmas.put_laws.HeldAlike.{note_itself, held_alike}
-use Rattle.law_world.proofs.lemmas.streams.lemmas.put_laws.Walking.{event_leaves}
+use Rattle.law_world.proofs.lemmas.streams.lemmas.put_laws.Walking.{event_leaves_buffers}
 use Rattle.law_world.proofs.lemmas.streams.lemmas.put_laws.Stored.{IsStored, pieces_stored, buffer_stays, either_way}
 
 -- ---- a put is one of an OUT endpoint
@@ -149,10 +149,10 @@ module _ {W : Type 0} (begins : W → ℕ → Bool → W → Type 0) (transacts 
       (λ some.
       let s : IsStored (parts n) note = pieces_stored d parts t i y x (ap is_request put) fed there held moves.here lent below some in
       buffer_stays c.memory new.memory parts now n note controlled.ring.tells controlled_now.ring.tells s
-      (event_leaves begins transacts base member parts hand c wire after now later n controlled effect asks (buffer_name s.qtd) (element_pages s.qtd) s.qtd.offset s.bytes s.here)))
+      (event_leaves_buffers begins transacts base member parts hand c wire after now later n controlled effect asks (buffer_name s.qtd) (element_pages s.qtd) s.qtd.offset s.bytes s.here)))
 
-pub event_holds : {W : Type 0} (begins : W → ℕ → Bool → W → Type 0) (transacts : W → Ask → List ℕ → Reply → W → Type 0) → EventHoldsPuts begins transacts
-event_holds begins transacts base member parts hand c new wire after now later d puts controlled controlled_now effect same owners stands turns met fed publishing outs k = record {
+pub event_holds_puts : {W : Type 0} (begins : W → ℕ → Bool → W → Type 0) (transacts : W → Ask → List ℕ → Reply → W → Type 0) → EventHoldsPuts begins transacts
+event_holds_puts begins transacts base member parts hand c new wire after now later d puts controlled controlled_now effect same owners stands turns met fed publishing outs k = record {
   each = λ t y there put held.
       ⊎_elim
       (λ (w : Waits d c.memory t). waiting_held d c.memory new.memory t y w.0 w.1 w.2 w.3 there put stands same)

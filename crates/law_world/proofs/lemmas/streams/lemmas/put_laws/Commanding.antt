@@ -29,7 +29,7 @@ use Rattle.law_driver.specs.chained_transfers.Bulk.{IsDataWay, sort_by}
 use Rattle.claims_driver.specs.Scripts.{receives}
 use Rattle.law_driver.specs.chained_transfers.Asynchronous.{StandsAsynchronous, OnlyAsynchronous, AcceptsAsynchronous}
 use Rattle.law_driver.specs.chained_transfers.AsynchronousTurns.{AsynchronousTakesTurns}
-use Rattle.law_driver.proofs.lemmas.chained_transfers.Accepting.{command_accepts}
+use Rattle.law_driver.proofs.lemmas.chained_transfers.Accepting.{asynchronous_command_is_accepted}
 use Rattle.law_driver.proofs.lemmas.chained_transfers.BulkAndControl.{not_iso}
 use Rattle.law_driver.proofs.lemmas.chained_transfers.Ways.{sort_queued, same_in, same_out, stages_short, stages_some}
 use Rattle.claims_driver.specs.LentRuns.{AreLent}
@@ -38,7 +38,7 @@ use Rattle.law_driver_ring.specs.fed_queues.Fed.{AreFed}
 use Rattle.law_scripts.specs.byte_answers.Bytes.{IsByteCommand}
 use Rattle.law_world.specs.streams.put_laws.HeldPuts.{HoldsPuts, with_put, puts_then}
 use Rattle.law_world.specs.streams.put_laws.HeldLaws.{CommandHoldsPuts}
-use Rattle.law_world.proofs.lemmas.streams.lemmas.put_laws.HeldAccepted.{open_holds, get_holds, put_holds}
+use Rattle.law_world.proofs.lemmas.streams.lemmas.put_laws.HeldAccepted.{open_holds_puts, get_holds_puts, put_holds_puts}
 use Rattle.law_world.proofs.lemmas.streams.lemmas.put_laws.HeldAlike.{same_holds}
 
 ok_is : (o p : Offered) → ◌≡◌ {A = Result Offered OfferError} (Ok o) (Ok p) → p ≡ o
@@ -142,10 +142,10 @@ module _ (d : DriverContent) (m : Mem) (o : Offered) (idle : d.command ≡ None)
 
   module _ (parts : StructureSets) (puts : ℕ → List ℕ) (owners : HasOwners d) (lent : AreLent d) (stands : Stands (holding d.book m)) (turns : AsynchronousTakesTurns d) (tells : Tells m parts) (fed : AreFed d parts) (held : HoldsPuts d m puts) where
     next_holds : (cmd : Cmd) → IsOffered d.room cmd → IsByteCommand cmd → AcceptsAsynchronous d m o cmd → offered_next d m cmd ≡ Ok o → HoldsPuts o.driver o.memory (puts_then d cmd puts)
-    next_holds (commands.OpenEp x) room small why f = open_holds d m o parts puts why.opens stands turns tells fed held
+    next_holds (commands.OpenEp x) room small why f = open_holds_puts d m o parts puts why.opens stands turns tells fed held
     next_holds (commands.Get name len by) room small why f =
         let k : IsAskedAs d m o ways.In by [] = named_as ways.In len by [] tt (λ out. absurd (in_out out)) takes_get gets_in (endpoint_of d name) f in
-        get_holds d m o parts puts k.asked.transfers (λ put. no_put (sym (ap (λ (a : Asked). a.sort) k.asked.asked ∙ ap sort_by k.way_is) ∙ put)) owners stands turns tells fed held
+        get_holds_puts d m o parts puts k.asked.transfers (λ put. no_put (sym (ap (λ (a : Asked). a.sort) k.asked.asked ∙ ap sort_by k.way_is) ∙ put)) owners stands turns tells fed held
       where
         in_out : ways.In ≡ ways.Out → ⊥
         in_out e = cc
@@ -156,9 +156,9 @@ module _ (d : DriverContent) (m : Mem) (o : Offered) (idle : d.command ≡ None)
         let k : IsAskedAs d m o ways.Out by bytes = named_as ways.Out (length bytes) by bytes tt (λ out. refl) takes_put puts_out (endpoint_of d name) f in
         let some = room.0 in
         subst (λ (bs : List ℕ). HoldsPuts o.driver o.memory (with_put puts (length d.transfers) bs)) k.bytes_are
-        (put_holds d m o parts puts k.asked (ap receives k.way_is) (let by_is = k.by_is in omega (arith, some, by_is)) (subst (AllByRecursion (λ b. b < 256)) (sym k.bytes_are) small) owners lent stands turns tells fed held)
+        (put_holds_puts d m o parts puts k.asked (ap receives k.way_is) (let by_is = k.by_is in omega (arith, some, by_is)) (subst (AllByRecursion (λ b. b < 256)) (sym k.bytes_are) small) owners lent stands turns tells fed held)
     next_holds (commands.Control name setup bytes) room small why f =
-        get_holds d m o parts puts why.transfers (λ put. no_put (sym (ap (λ (a : Asked). a.sort) why.asked) ∙ put)) owners stands turns tells fed held
+        get_holds_puts d m o parts puts why.transfers (λ put. no_put (sym (ap (λ (a : Asked). a.sort) why.asked) ∙ put)) owners stands turns tells fed held
       where
         no_put : ◌≡◌ {A = Sort} sorts.Request sorts.Put → ⊥
         no_put e = cc
@@ -172,6 +172,6 @@ busy_holds : (d : DriverContent) (m : Mem) (cmd : Cmd) (o : Offered) (parts : St
 busy_holds d m cmd o parts puts (Some c) is room small why f owners lent stands turns tells fed held = absurd (cc)
 busy_holds d m cmd o parts puts None is room small why f owners lent stands turns tells fed held = next_holds d m o is turns.asynchronous parts puts owners lent stands turns tells fed held cmd room small why f
 
-pub command_holds : CommandHoldsPuts
-command_holds d m cmd o parts puts only room small f owners lent stands turns tells fed held =
-    busy_holds d m cmd o parts puts d.command refl room small (command_accepts d m cmd o turns.asynchronous only f) f owners lent stands turns tells fed held
+pub command_holds_puts : CommandHoldsPuts
+command_holds_puts d m cmd o parts puts only room small f owners lent stands turns tells fed held =
+    busy_holds d m cmd o parts puts d.command refl room small (asynchronous_command_is_accepted d m cmd o turns.asynchronous only f) f owners lent stands turns tells fed held

@@ -41,7 +41,7 @@ use Rattle.law_driver.specs.chained_transfers.Bulk.{sort_by, MovesAs}
 use Rattle.law_driver.specs.chained_transfers.Chains.{piece_at}
 use Rattle.law_driver.specs.chained_transfers.AsynchronousTurns.{AsynchronousTakesTurns}
 use Rattle.law_driver.specs.chained_transfers.Turns.{IsAtPlace}
-use Rattle.law_driver.proofs.lemmas.chained_transfers.Accepting.{command_accepts}
+use Rattle.law_driver.proofs.lemmas.chained_transfers.Accepting.{asynchronous_command_is_accepted}
 use Rattle.law_driver.proofs.lemmas.chained_transfers.BulkAndControl.{not_iso}
 use Rattle.law_driver.proofs.lemmas.chained_transfers.Queued.{not_dummy}
 use Rattle.law_driver.proofs.lemmas.chained_transfers.Ways.{sends_sort}
@@ -371,4 +371,4 @@ module _ (d : DriverContent) (m : Mem) (o : Offered) (puts now reported : â„• â†
 
 pub command_owes : CommandOwes
 command_owes d m cmd o puts now reported only offer owners stands turns keeps held still owes =
-    accepted_owes d m o puts now reported owners stands turns keeps held still owes cmd (command_accepts d m cmd o turns.asynchronous only offer)
+    accepted_owes d m o puts now reported owners stands turns keeps held still owes cmd (asynchronous_command_is_accepted d m cmd o turns.asynchronous only offer)

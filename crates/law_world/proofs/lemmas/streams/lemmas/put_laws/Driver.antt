@@ -18,7 +18,7 @@ use Rattle.drv_table.specs.Rows.{driver_row, after_driver_row}
 use Rattle.law_driver.specs.endpoint_lives.Lives.{told_end}
 use Rattle.law_driver.specs.run_owners.Due.{IsDue, IsTransferDue}
 use Rattle.claims_driver.specs.Leaving.{HasOwners}
-use Rattle.law_driver.proofs.lemmas.run_owners.Reasons.{each_is_due}
+use Rattle.law_driver.proofs.lemmas.run_owners.Reasons.{each_event_is_due}
 use Rattle.law_driver.specs.chained_transfers.Bulk.{IsBulkCommand}
 use Rattle.law_driver.specs.chained_transfers.Asynchronous.{OnlyAsynchronous}
 use Rattle.law_driver.specs.chained_transfers.AsynchronousTurns.{AsynchronousTakesTurns}
@@ -147,4 +147,4 @@ module _ (p : Parts) (puts reported told : ℕ → List ℕ) (owners : HasOwners
   by_row rows.Rest due harvest endpoint opened still = told_same rows.Rest (row_no_more p rows.Rest due turns.asynchronous harvest (λ t is. cc) endpoint) opened still
 
 pub driver_owes : DriverOwes
-driver_owes p puts reported told owners turns harvest endpoint met opened held still owes = by_row p puts reported told owners turns held owes met (driver_row p) (each_is_due p) harvest endpoint opened still
+driver_owes p puts reported told owners turns harvest endpoint met opened held still owes = by_row p puts reported told owners turns held owes met (driver_row p) (each_event_is_due p) harvest endpoint opened still

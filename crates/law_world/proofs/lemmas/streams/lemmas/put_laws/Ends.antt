@@ -21,7 +21,7 @@ use Rattle.claims_world.specs.Streams.{report_of}
 use Rattle.law_world.specs.streams.put_laws.TakenLines.{NumbersRise, AreLeft, AreTaken}
 use Rattle.law_world.specs.streams.put_laws.TakenPuts.{puts_of, puts_to, opened_in, IsOpen, puts_at, HasTaken}
 use Rattle.law_world.specs.streams.put_laws.TakenLaws.{StreamsArePuts}
-use Rattle.law_world.proofs.lemmas.streams.lemmas.put_laws.Moments.{moment_taken}
+use Rattle.law_world.proofs.lemmas.streams.lemmas.put_laws.Moments.{moments_take_puts}
 
 -- nothing is left behind the last order
 none_left : (orders : List Left) (left : List (ℕ × Line)) → orders ≡ [] → AreLeft orders left → left ≡ []
@@ -48,13 +48,13 @@ streams_begin s p puts e x here on out h =
       ap (λ xs. xs ++ puts_to r h.left name) (h.sent.each e x here on out) ∙ sym (puts_join r h.taken h.left name) ∙ ap (λ xs. puts_to r xs name) (sym h.lines.lines) ∙ sym (stream_puts s r name out),
     )
 
-pub all_taken : (s : Script) (p : OrderedWorld) (taken left : List (ℕ × Line)) → AreTaken s p taken left → p.orders ≡ [] → (left ≡ []) × (taken ≡ s.lines)
-all_taken s p taken left h none =
+pub all_are_taken : (s : Script) (p : OrderedWorld) (taken left : List (ℕ × Line)) → AreTaken s p taken left → p.orders ≡ [] → (left ≡ []) × (taken ≡ s.lines)
+all_are_taken s p taken left h none =
     let last = none_left p.orders left none h.orders in
     (last, sym (h.lines ∙ ap (λ xs. taken ++ xs) last ∙ append-nil taken))
 
 all_lines : (s : Script) (p : OrderedWorld) (puts : ℕ → List ℕ) → p.orders ≡ [] → (h : HasTaken s p puts) → s.lines ≡ h.taken
-all_lines s p puts none h = sym (all_taken s p h.taken h.left h.lines none).1
+all_lines s p puts none h = sym (all_are_taken s p h.taken h.left h.lines none).1
 
 streams_all : (s : Script) (p : OrderedWorld) (puts : ℕ → List ℕ) → p.orders ≡ [] → (e : ℕ) (x : Endpoint) → slice_get p.world.driver.endpoints e ≡ Some x → has_stream x.desc.kind ≡ true → receives x.desc.name.way ≡ false
     → HasTaken s p puts → stream s (report_of (fixed_of s) p.world) x.desc.name ≡ concat (puts_of p.world.driver puts e)
@@ -70,5 +70,5 @@ streams_puts s p puts h = record {
   opened = λ none. subst (λ xs. AllByRecursion (IsOpen p.world.driver) (opened_in (report_of (fixed_of s) p.world) xs)) (sym (all_lines s p puts none h)) h.sent.opened;
 }
 
-pub moment_streams : (s : Script) → NumbersRise s → (k : ℕ) → StreamsArePuts s (moment s k) (puts_at s k)
-moment_streams s rise k = streams_puts s (moment s k) (puts_at s k) (moment_taken s rise k)
+pub streams_are_of_puts : (s : Script) → NumbersRise s → (k : ℕ) → StreamsArePuts s (moment s k) (puts_at s k)
+streams_are_of_puts s rise k = streams_puts s (moment s k) (puts_at s k) (moments_take_puts s rise k)

@@ -65,8 +65,8 @@ idle_bytes d m new parts t i y idle turns tells fed leaves there put held below 
 
 -- ---- an open
 
-pub open_holds : OpenHoldsPuts
-open_holds d m o parts puts w stands turns tells fed k =
+pub open_holds_puts : OpenHoldsPuts
+open_holds_puts d m o parts puts w stands turns tells fed k =
     let leaves : Leaves m o.memory = opens_leave d m o w stands tells.shape in
     let transfers : o.driver.transfers ≡ d.transfers = ap (λ (f : Offered). f.driver.transfers) w.is in
     let notes : o.driver.notes ≡ d.notes = ap (λ (f : Offered). f.driver.notes) w.is in
@@ -151,11 +151,11 @@ module _ (d : DriverContent) (m : Mem) (o : Offered) (parts : StructureSets) (wh
 
 -- ---- the laws
 
-pub get_holds : GetHoldsPuts
-get_holds d m o parts puts why differs owners stands turns tells fed held = get_leaves d m o parts why owners stands turns tells fed puts differs held
+pub get_holds_puts : GetHoldsPuts
+get_holds_puts d m o parts puts why differs owners stands turns tells fed held = get_leaves d m o parts why owners stands turns tells fed puts differs held
 
-pub put_holds : PutHoldsPuts
-put_holds d m o parts puts k leaves some small owners lent stands turns tells fed held =
+pub put_holds_puts : PutHoldsPuts
+put_holds_puts d m o parts puts k leaves some small owners lent stands turns tells fed held =
     let way = k.transfers.endpoint.desc.name.way in
     let out : way ≡ ways.Out = way_sends way leaves in
     let asked : k.transfers.asked ≡ move_of ways.Out (length k.bytes) k.by k.bytes =

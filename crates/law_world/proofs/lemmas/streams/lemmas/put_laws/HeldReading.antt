@@ -66,8 +66,8 @@ moved_few told left = by (nat_le left told)
     by true = omega arith
     by false = omega arith
 
-pub harvest_reads : HarvestReadsPuts
-harvest_reads d m puts t i y left k there put held below =
+pub harvest_reads_puts : HarvestReadsPuts
+harvest_reads_puts d m puts t i y left k there put held below =
     let note = note_at d.notes (piece_at (note_in d.notes) y.first i) in
     let n = moved_of note.told left in
     sym (own_bytes m d.notes y.first y.qtds i n below (moved_few note.told left)) ∙ ap (λ (bs : List ℕ). take n (piece_of d.notes y.first i bs)) (k.each t y there put held)
@@ -91,5 +91,5 @@ moved_is m notes b (suc n) few =
     ∙ ap (λ (xs : List ℕ). xs ++ first_moved notes note.next n rest) (sym here)
     ∙ ap (λ (xs : List ℕ). take note.moved (bs ++ rest) ++ first_moved notes note.next n xs) (sym behind)
 
-pub report_is : ReportIsOfPuts
-report_is d m puts t y k there put held few = moved_is m d.notes y.first y.qtds few ∙ ap (first_moved d.notes y.first y.qtds) (k.each t y there put held)
+pub report_is_of_puts : ReportIsOfPuts
+report_is_of_puts d m puts t y k there put held few = moved_is m d.notes y.first y.qtds few ∙ ap (first_moved d.notes y.first y.qtds) (k.each t y there put held)

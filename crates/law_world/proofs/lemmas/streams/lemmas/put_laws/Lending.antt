@@ -33,7 +33,7 @@ use Rattle.law_queues.proofs.lemmas.fed_lends.Reporting.{some_none, numbers, old
 use Rattle.law_queues.proofs.lemmas.fed_lends.Reports.{is_there}
 use Rattle.law_queues.specs.whole_sends.Whole.{AreSentWhole}
 use Rattle.law_queues.specs.whole_sends.Laws.{IsNewBehind}
-use Rattle.law_queues.proofs.lemmas.whole_sends.Keeping.{renumbered_whole, added_whole}
+use Rattle.law_queues.proofs.lemmas.whole_sends.Keeping.{renumbered_is_whole, added_is_whole}
 use Rattle.law_world.specs.streams.put_laws.SentLends.{LendSends, LendRowSends}
 
 -- ---- the new qTDs
@@ -139,9 +139,9 @@ module _ (d : DriverContent) (m : Mem) (t : ℕ) (y : TransferRuns) (x : Endpoin
 
   pub sends_on : AreSentWhole f (out ++ more) hand n (now n)
   sends_on =
-      added_whole member f out (out ++ more) hand n (parts n) (now n) on was_out head
+      added_is_whole member f out (out ++ more) hand n (parts n) (now n) on was_out head
       (λ a u here. ⊎_elim (λ (was : parts n a ≡ Some (Element u)). inl was) (λ (new : New a u). inr (new_behind a u here new)) (pieces.elements a u here))
-      (renumbered_whole member order f out hand n (parts n) on same sent)
+      (renumbered_is_whole member order f out hand n (parts n) on same sent)
 
 pub lend_sends : LendSends
 lend_sends d m t y x s ss slot member parts now order out hand acc reported k waits pieces on last above r sent = sends_on d m t y x s ss slot member parts now order out hand acc reported k waits pieces on last above r sent

@@ -20,7 +20,7 @@ use Rattle.law_ring.specs.Hand.{Hand}
 use Rattle.law_driver_ring.specs.fed_queues.Places.{IsMet}
 use Rattle.law_queues.specs.whole_sends.Whole.{AreSentWhole}
 use Rattle.law_queues.specs.whole_sends.Laws.{IsStopped}
-use Rattle.law_queues.proofs.lemmas.whole_sends.Keeping.{stale_ends}
+use Rattle.law_queues.proofs.lemmas.whole_sends.Keeping.{stale_ends_whole}
 use Rattle.law_queues.proofs.lemmas.whole_sends.Walking.{with_hand}
 use Rattle.law_queues.specs.mended_heads.Owed.{StalledQueue, store_by, IsOwed}
 use Rattle.law_queues.specs.mended_heads.Mended.{mended, driver_mended, head_at, IsAtMend, next_of, parts_then, hand_then}
@@ -38,8 +38,8 @@ store_within q b (suc (suc n)) = let e : (32 * q + 24) / 32 ≡ q = omega arith 
 same_mend : (a b : Mend) → rows.Mend a ≡ rows.Mend b → a ≡ b
 same_mend a b is = cc
 
-pub mend_in_head : MendIsInHead
-mend_in_head p parts out k w row =
+pub mend_is_in_head : MendIsInHead
+mend_is_in_head p parts out k w row =
     let s : StalledQueue = k.stalled in
     let stands = k.are.wait.0.stands in
     record { block = s.queue; head = stands.head; here = stands.here; within = ap (λ (z : Mend). z.at / 32) (same_mend w (store_by s.queue s.onward s.made) (sym row ∙ k.row)) ∙ store_within s.queue s.onward s.made }
@@ -80,7 +80,7 @@ module _ (p : DriverParts) (parts : StructureSets) (out : ℕ → List ℕ) (own
       let before : IsMet d e z = record { there = record { linked = is.there.linked; kept = is.there.kept }; near = is.near } in
       let whole : AreSentWhole (order n) (out n) hand n (parts n) = sent before in
       subst (λ (part : Structures). AreSentWhole (order n) (out n) (hand_then k hand) n part) (sym (part_stays n (apart e z (was_there e z here) before.there.kept sends)))
-      (with_hand (order n) (out n) hand (hand_then k hand) n (parts n) (stale_ends (32 * k.stalled.queue) hand n whole.ends) whole)
+      (with_hand (order n) (out n) hand (hand_then k hand) n (parts n) (stale_ends_whole (32 * k.stalled.queue) hand n whole.ends) whole)
 
   pub stopped_still : (e : ℕ) (z : Endpoint) → slice_get (next_of p).driver.endpoints e ≡ Some z → z.gone ≡ false → receives z.desc.name.way ≡ false → IsStopped parts (32 * z.queue) → IsStopped (parts_then k) (32 * z.queue)
   stopped_still e z here kept sends stopped =

@@ -17,7 +17,7 @@ use Rattle.bus_world.proofs.Ticks.{ticks_more}
 use Rattle.claims_world.specs.Streams.{report_of}
 use Rattle.law_world.specs.streams.put_laws.TakenLines.{RiseFrom, NumbersRise, IsPart, AreLeft}
 use Rattle.law_world.specs.streams.put_laws.TakenPuts.{PutsAreTaken, no_puts, puts_by, puts_next, puts_tick, puts_at, HasTaken}
-use Rattle.law_world.proofs.lemmas.streams.lemmas.put_laws.Steps.{event_puts, silent_puts, command_puts, then_before, command_there, event_there}
+use Rattle.law_world.proofs.lemmas.streams.lemmas.put_laws.Steps.{event_keeps_puts, silent_puts, command_takes_puts, then_before, command_there, event_there}
 
 -- ---- the lines before one of later number
 
@@ -37,12 +37,12 @@ module _ (s : Script) (puts : ℕ → List ℕ) where
       → HasTaken s (tick_by (fixed_of s) w x (orders_of left)) puts
   part_taken w (Events event zero) taken left part is h = record { taken = taken; left = left; lines = record { lines = is; orders = inl refl }; sent = h }
   part_taken w (Events event (suc n)) taken left part is h =
-      record { taken = taken; left = left; lines = record { lines = is; orders = inr (Events event n, tt, refl) }; sent = event_puts (fixed_of s) w event taken puts h }
+      record { taken = taken; left = left; lines = record { lines = is; orders = inr (Events event n, tt, refl) }; sent = event_keeps_puts (fixed_of s) w event taken puts h }
   part_taken w (Microframes zero) taken left part is h = record { taken = taken; left = left; lines = record { lines = is; orders = inl refl }; sent = h }
   part_taken w (Microframes (suc n)) taken left part is h =
-      record { taken = taken; left = left; lines = record { lines = is; orders = inr (Answer (is_end (kind_next w)) (suc n), tt, refl) }; sent = event_puts (fixed_of s) w events.C taken puts h }
+      record { taken = taken; left = left; lines = record { lines = is; orders = inr (Answer (is_end (kind_next w)) (suc n), tt, refl) }; sent = event_keeps_puts (fixed_of s) w events.C taken puts h }
   part_taken w (Answer ended n) taken left part is h =
-      record { taken = taken; left = left; lines = record { lines = is; orders = inr (Microframes (fewer ended n), tt, refl) }; sent = event_puts (fixed_of s) w events.D taken puts h }
+      record { taken = taken; left = left; lines = record { lines = is; orders = inr (Microframes (fewer ended n), tt, refl) }; sent = event_keeps_puts (fixed_of s) w events.D taken puts h }
   part_taken w (Command n cmd) taken left part is h = absurd part
   part_taken w (Plugs there port) taken left part is h = record { taken = taken; left = left; lines = record { lines = is; orders = inl refl }; sent = h }
 
@@ -68,7 +68,8 @@ module _ (s : Script) (puts : ℕ → List ℕ) where
     taken = taken ++ (n, lines.Command cmd) ∷ [];
     left = left;
     lines = record { lines = one_more taken left (n, lines.Command cmd) is; orders = inl refl };
-    sent = command_puts (fixed_of s) w n cmd taken puts (rise_before 0 taken (n, lines.Command cmd) left (subst (RiseFrom 0) is rise)).1 h;
+    sent = command_takes_puts (fixed_of s) w n cmd taken puts
+        (rise_before 0 taken (n, lines.Command cmd) left (subst (RiseFrom 0) is rise)).1 h;
   }
   line_taken w n (lines.Plug k) taken left rise is h =
       part_taken w (Plugs true k) (taken ++ (n, lines.Plug k) ∷ []) left tt (one_more taken left (n, lines.Plug k) is)
@@ -89,8 +90,8 @@ module _ (s : Script) (puts : ℕ → List ℕ) where
       subst (λ (os : List Left). HasTaken s (tick_at (fixed_of s) w os) (puts_next w os puts)) (sym e.2)
       (subst (λ (ps : ℕ → List ℕ). HasTaken s (tick_by (fixed_of s) w e.0 (orders_of left)) ps) (sym (part_puts w e.0 e.1)) (part_taken w e.0 taken left e.1 is h))
 
-pub tick_taken : (s : Script) (p : OrderedWorld) (puts : ℕ → List ℕ) → NumbersRise s → HasTaken s p puts → HasTaken s (tick (fixed_of s) p) (puts_tick p puts)
-tick_taken s p puts rise h = orders_taken s puts p.world p.orders h.taken h.left rise h.lines.lines h.sent h.lines.orders
+pub tick_takes_puts : (s : Script) (p : OrderedWorld) (puts : ℕ → List ℕ) → NumbersRise s → HasTaken s p puts → HasTaken s (tick (fixed_of s) p) (puts_tick p puts)
+tick_takes_puts s p puts rise h = orders_taken s puts p.world p.orders h.taken h.left rise h.lines.lines h.sent h.lines.orders
 
 -- ---- transfers and their puts stay
 
@@ -109,9 +110,9 @@ stay_at : (fixed : Fixed) (w : World) (orders : List Left) (puts : ℕ → List 
 stay_at fixed w [] puts t low = (low, refl)
 stay_at fixed w (x ∷ rest) puts t low = stay_by fixed w x rest puts t low
 
-pub puts_kept : (fixed : Fixed) (p : OrderedWorld) (puts : ℕ → List ℕ) (t : ℕ) → t < length p.world.driver.transfers
+pub puts_stay : (fixed : Fixed) (p : OrderedWorld) (puts : ℕ → List ℕ) (t : ℕ) → t < length p.world.driver.transfers
     → (t < length (tick fixed p).world.driver.transfers) × (puts_tick p puts t ≡ puts t)
-puts_kept fixed p puts t low = stay_at fixed p.world p.orders puts t low
+puts_stay fixed p puts t low = stay_at fixed p.world p.orders puts t low
 
 -- ---- each moment
 
@@ -149,5 +150,5 @@ opening_taken s = record {
   };
 }
 
-pub moment_taken : (s : Script) → NumbersRise s → (k : ℕ) → HasTaken s (moment s k) (puts_at s k)
-moment_taken s rise k = each_moment s (HasTaken s) (opening_taken s) (λ p puts h. tick_taken s p puts rise h) k
+pub moments_take_puts : (s : Script) → NumbersRise s → (k : ℕ) → HasTaken s (moment s k) (puts_at s k)
+moments_take_puts s rise k = each_moment s (HasTaken s) (opening_taken s) (λ p puts h. tick_takes_puts s p puts rise h) k

@@ -27,7 +27,7 @@ use Rattle.drv_table.specs.Harvesting.{served, told_with, behind_one, behind, me
 use Rattle.drv_table.specs.Releases.{freed_by, after_transfer, is_told, cancelled_bytes, after_endpoint}
 use Rattle.drv_table.specs.Rows.{driver_row, after_driver_row}
 use Rattle.law_driver.specs.run_owners.Due.{IsDue, IsHarvestDue}
-use Rattle.law_driver.proofs.lemmas.run_owners.Reasons.{each_is_due}
+use Rattle.law_driver.proofs.lemmas.run_owners.Reasons.{each_event_is_due}
 use Rattle.law_driver.specs.chained_transfers.Asynchronous.{OnlyAsynchronous}
 use Rattle.law_driver.proofs.lemmas.chained_transfers.Ways.{found_by, moves_queued}
 use Rattle.law_world.specs.streams.put_laws.HeldLaws.{NewDriverMovesFew, CommandMovesFew, DriverMovesFew}
@@ -58,8 +58,8 @@ none_few zero b = omega arith
 none_few (suc n) zero = omega arith
 none_few (suc n) (suc b) = none_few n b
 
-pub new_moves_few : NewDriverMovesFew
-new_moves_few n room b = none_few _ b
+pub new_driver_moves_few : NewDriverMovesFew
+new_driver_moves_few n room b = none_few _ b
 
 -- ---- a command
 
@@ -174,4 +174,4 @@ by_row p (rows.Harvest e t found) bulk due k = harvest_few p e t found due bulk 
 by_row p rows.Rest bulk due k = k
 
 pub driver_moves_few : DriverMovesFew
-driver_moves_few p bulk k = by_row p (driver_row p) bulk (each_is_due p) k
+driver_moves_few p bulk k = by_row p (driver_row p) bulk (each_event_is_due p) k

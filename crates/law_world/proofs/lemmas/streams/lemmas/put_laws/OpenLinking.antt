@@ -28,7 +28,7 @@ use Rattle.law_queues.proofs.lemmas.publish_laws.Apart.{queue_placed, thirty_two
 use Rattle.law_queues.specs.open_laws.Opens.{IsAtOpen, head_then, hand_then}
 use Rattle.law_queues.proofs.lemmas.open_laws.Linking.{driver_is, here}
 use Rattle.law_queues.specs.whole_sends.Whole.{EndsWhole, AreSentWhole}
-use Rattle.law_queues.proofs.lemmas.whole_sends.Keeping.{linked_ends, stranger_ends, beginning_whole}
+use Rattle.law_queues.proofs.lemmas.whole_sends.Keeping.{linked_ends_whole, stranger_ends_whole, beginning_is_whole}
 use Rattle.law_queues.proofs.lemmas.whole_sends.Walking.{with_hand}
 use Rattle.law_world.specs.streams.put_laws.Sent.{SentStand}
 use Rattle.law_world.specs.streams.put_laws.SentOpens.{OpenLinkSends}
@@ -88,7 +88,7 @@ module _ (base : Base) (w : Walk) (hand : Hand) (p : DriverParts) (member stream
   stay m differs = put_beside parts head_at head_at (QueueHead (record k.queue { link = to_queue_head x.queue })) m differs
 
   ends_linked : (m : ℕ) → EndsWhole hand m → EndsWhole later m
-  ends_linked m is = linked_ends head_at (to_queue_head x.queue) hand m is
+  ends_linked m is = linked_ends_whole head_at (to_queue_head x.queue) hand m is
 
   none_here : with_none out n n ≡ []
   none_here = ap (λ (b : Bool). if b then [] else out n) (eq-eqb n n refl)
@@ -102,7 +102,7 @@ module _ (base : Base) (w : Walk) (hand : Hand) (p : DriverParts) (member stream
 
   begins : AreSentWhole (order n) [] later n (parts n)
   begins =
-      beginning_whole (order n) later n (parts n) (ends_linked n (stranger_ends member parts w.reply hand n drives.ring.in_hand k.lent.unmet))
+      beginning_is_whole (order n) later n (parts n) (ends_linked n (stranger_ends_whole member parts w.reply hand n drives.ring.in_hand k.lent.unmet))
       (λ r is. ap (λ (z : Qh). z.token.active) (found_queue (parts n n) r q is (here p member streams ends parts order out k)))
       (λ a t is.
       let same : dummy_qtd ≡ t = dummy_is a t is in

@@ -26,9 +26,9 @@ use Rattle.law_driver.proofs.lemmas.chained_transfers.Harvesting.{turn_at}
 use Rattle.law_queues.specs.told_endpoints.Telling.{named_of, lines_in}
 use Rattle.law_driver_ring.specs.told_harvests.Held.{IsDone, AreHeld, none_held, one_held, IsRead}
 use Rattle.law_driver_ring.proofs.lemmas.told_harvests.Done.{done_in_part}
-use Rattle.law_driver_ring.proofs.lemmas.told_harvests.Noting.{moved_is, found_done}
+use Rattle.law_driver_ring.proofs.lemmas.told_harvests.Noting.{moved_is, found_is_done}
 use Rattle.law_driver_ring.specs.harvested_streams.Harvested.{IsNoted}
-use Rattle.law_driver_ring.proofs.lemmas.harvested_streams.Harvesting.{token_read, bytes_read}
+use Rattle.law_driver_ring.proofs.lemmas.harvested_streams.Harvesting.{token_is_read, bytes_are_read}
 use Rattle.law_queues.specs.harvest_laws.Holds.{IsNextOf}
 use Rattle.law_driver_ring.specs.fed_queues.Places.{IsThere}
 use Rattle.law_queues.specs.harvest_laws.Told.{ToldStands}
@@ -142,19 +142,20 @@ bytes_are m parts hand n b bytes note tells on read off told = ⊎_elim some non
     some few =
         let has : HasBuffer (parts n) read.qtd note.told = read.buffer few in
         let noted : IsNoted note read.qtd has.bytes = record { told = sym has.size; places = λ j below. let size = has.size in read.places j (omega (arith, below, size)) } in
-        let token : token_in m b ≡ read.qtd.token = token_read m parts n b read.qtd tells read.here in
+        let token : token_in m b ≡ read.qtd.token = token_is_read m parts n b read.qtd tells read.here in
         let idle : read.qtd.token.active ≡ false = ap (λ (z : Token). z.active) (sym token) ∙ off in
         let count : moved_of note.told (token_in m b).total ≡ length has.bytes - read.qtd.token.total =
         moved_is note.told (token_in m b).total ∙ ap (λ (i : ℕ). i - (token_in m b).total) noted.told
         ∙ ap (λ (z : Token). length has.bytes - z.total) token in
         done_in_part parts hand n (32 * b) read.qtd bytes on read.here idle told
         ∙ ap (λ (xs : List ℕ). take (length xs - read.qtd.token.total) xs) (ap bytes_in has.here)
-        ∙ sym (bytes_read m parts n read.qtd has.bytes note (length has.bytes - read.qtd.token.total) tells has.here noted (omega arith))
+        ∙ sym (bytes_are_read m parts n read.qtd has.bytes note (length has.bytes - read.qtd.token.total) tells has.here noted
+        (omega arith))
         ∙ ap (buffer_bytes m note) (sym count)
 
     none : note.told ≤ 0 → bytes ≡ buffer_bytes m note (moved_of note.told (token_in m b).total)
     none low =
-        let done : IsDone hand parts n b (moved_of note.told (token_in m b).total) bytes = found_done m parts hand n b bytes note tells on read off told in
+        let done : IsDone hand parts n b (moved_of note.told (token_in m b).total) bytes = found_is_done m parts hand n b bytes note tells on read off told in
         let few = moved_few note.told (token_in m b).total in
         let zero_is : moved_of note.told (token_in m b).total ≡ 0 = omega (arith, few, low) in
         nil_from_length bytes (done.count ∙ zero_is) ∙ sym (no_bytes m note) ∙ ap (buffer_bytes m note) (sym zero_is)

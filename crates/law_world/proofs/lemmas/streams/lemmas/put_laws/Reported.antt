@@ -42,8 +42,8 @@ use Rattle.law_driver.proofs.lemmas.chained_transfers.Staying.{stands_alive, sta
 use Rattle.law_driver.proofs.lemmas.chained_transfers.Ways.{moves_queued, found_by, way_sends}
 use Rattle.law_driver_ring.specs.told_harvests.Held.{IsRead}
 use Rattle.law_driver_ring.specs.told_harvests.Passed.{HarvestsFirst}
-use Rattle.law_driver_ring.proofs.lemmas.told_harvests.Passing.{first_harvested}
-use Rattle.law_driver_ring.proofs.lemmas.harvested_streams.Harvesting.{token_read}
+use Rattle.law_driver_ring.proofs.lemmas.told_harvests.Passing.{harvest_takes_first}
+use Rattle.law_driver_ring.proofs.lemmas.harvested_streams.Harvesting.{token_is_read}
 use Rattle.law_queues.specs.harvest_laws.Outs.{IsOutEarlier}
 use Rattle.law_queues.proofs.lemmas.harvest_laws.Outing.{goes_on_out, ends_out}
 use Rattle.law_queues.proofs.lemmas.harvest_laws.Places.{read_at}
@@ -54,8 +54,8 @@ use Rattle.law_queues.proofs.lemmas.fed_harvests.Lists.{all_of, all_out, all_sam
 use Rattle.law_queues.specs.harvest_laws.Told.{ToldStands}
 use Rattle.law_queues.specs.harvest_laws.ToldLaws.{HarvestReports}
 use Rattle.law_queues.specs.harvest_laws.ReadLaws.{LeavesStreams}
-use Rattle.law_queues.proofs.lemmas.harvest_laws.Requests.{request_row_told}
-use Rattle.law_queues.proofs.lemmas.harvest_laws.ReadRows.{row_told, queue_alone, reads, not_active}
+use Rattle.law_queues.proofs.lemmas.harvest_laws.Requests.{other_harvest_is_told}
+use Rattle.law_queues.proofs.lemmas.harvest_laws.ReadRows.{harvest_row_is_told, queue_alone, reads, not_active}
 use Rattle.law_world.specs.streams.put_laws.Owed.{Owes}
 use Rattle.law_world.specs.streams.put_laws.OwedLaws.{IsMovedWhole, HarvestOwes, WaitOwes}
 use Rattle.law_world.proofs.lemmas.streams.lemmas.put_laws.Rests.{waits_is}
@@ -143,7 +143,7 @@ module _ (order : ℕ → ℕ) (p : Parts) (parts : StructureSets) (hand : Hand)
   next_now = next_then p e t found due turns
 
   hr : HarvestReports order d new hand parts e x acc reported
-  hr = row_told order p parts hand e t found acc reported due differs owners turns bulk fed tells on_it none before r
+  hr = harvest_row_is_told order p parts hand e t found acc reported due differs owners turns bulk fed tells on_it none before r
 
   -- ---- what is reported then
 
@@ -208,8 +208,9 @@ module _ (order : ℕ → ℕ) (p : Parts) (parts : StructureSets) (hand : Hand)
       let s : Splits (note_in d.notes) e d.transfers (set d.transfers t k.transfer) t (32 * y.place) =
       splits (note_in d.notes) e d.transfers t y k.transfer (32 * y.place) behind_it due.there first_out (its_out how) in
       let hf : HarvestsFirst order r.place (32 * y.place) (s.before ++ s.behind) hand parts (32 * due.endpoint.queue) r.told =
-      first_harvested order r.place (32 * y.place) s.before s.behind hand parts (32 * due.endpoint.queue) r.told is_read.qtd is_read.here
-      (ap (λ (z : Token). z.active) (sym (token_read m parts (32 * due.endpoint.queue) y.place is_read.qtd tells is_read.here)) ∙ off)
+      harvest_takes_first order r.place (32 * y.place) s.before s.behind hand parts (32 * due.endpoint.queue) r.told is_read.qtd
+      is_read.here
+      (ap (λ (z : Token). z.active) (sym (token_is_read m parts (32 * due.endpoint.queue) y.place is_read.qtd tells is_read.here)) ∙ off)
       (λ a z among of_it.
       let b : IsBefore (note_in d.notes) e d.transfers t a = s.passed_over a among in
       none a z (record { number = b.number; earlier = b.earlier; transfer = b.transfer; here = b.here; among = b.among }) of_it)
@@ -231,7 +232,7 @@ module _ (p : Parts) (e t : ℕ) (found : Found) (parts : StructureSets) (hand :
   nothing_told : (f : ℕ) (v : Endpoint) → slice_get (after_driver_row (rows.Harvest e t found) p).driver.endpoints f ≡ Some v → v.gone ≡ false → receives v.desc.name.way ≡ false → told (32 * v.queue) ≡ reported (32 * v.queue)
   nothing_told f v at still sends =
       let new = (after_driver_row (rows.Harvest e t found) p).driver in
-      let left : LeavesStreams p.driver new hand parts e reported = request_row_told p parts hand e t found reported due owners turns control before in
+      let left : LeavesStreams p.driver new hand parts e reported = other_harvest_is_told p parts hand e t found reported due owners turns control before in
       let beside = harvest_beside p e t found due in
       let turns_now : NextIs new = next_then p e t found due turns in
       let was = other_out p e t found due control turns f v at sends in

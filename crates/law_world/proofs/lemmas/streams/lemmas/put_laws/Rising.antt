@@ -167,6 +167,6 @@ after_text : (x : Result Draft (ℕ × TextWhy)) → Read Rise x → Run (script
 after_text (Ok w) h = h
 after_text (Err fault) h = tt
 
-pub spelled_rise : (text : List ℕ) (s : Script) → Spells text s → NumbersRise s
+pub texts_rise : (text : List ℕ) (s : Script) → Spells text s → NumbersRise s
 unfolding script_read
-spelled_rise text s e = subst Run e (after_text (text_read text) (text_before text))
+texts_rise text s e = subst Run e (after_text (text_read text) (text_before text))

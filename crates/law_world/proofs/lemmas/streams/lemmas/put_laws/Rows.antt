@@ -30,7 +30,7 @@ use Rattle.drv_table.specs.Words.{head_block}
 use Rattle.law_driver.specs.run_owners.Due.{IsDue, IsNextOf, IsLinkOf, IsTransferDue}
 use Rattle.claims_driver.specs.Leaving.{HasOwners}
 use Rattle.claims_driver.specs.Owners.{note_in, views_of}
-use Rattle.law_driver.proofs.lemmas.run_owners.Reasons.{each_is_due}
+use Rattle.law_driver.proofs.lemmas.run_owners.Reasons.{each_event_is_due}
 use Rattle.law_driver.specs.chained_transfers.Bulk.{IsBulkCommand, MovesAs}
 use Rattle.law_driver.specs.chained_transfers.Asynchronous.{OnlyAsynchronous}
 use Rattle.law_driver.specs.chained_transfers.Chains.{piece_at}
@@ -349,6 +349,6 @@ module _ (base : Base) (member : ℕ → Bool) (parts : StructureSets) (hand : H
   by_row rows.Rest is due = held
   by_row _ is due = record { each = held.each }
 
-pub driver_holds : DriverHoldsPuts
-driver_holds base member parts hand w p order out puts owners turns drives fed released near finds heads gone held =
-    by_row base member parts hand w p order out puts owners turns drives fed released near finds heads gone held (driver_row p) refl (each_is_due p)
+pub driver_holds_puts : DriverHoldsPuts
+driver_holds_puts base member parts hand w p order out puts owners turns drives fed released near finds heads gone held =
+    by_row base member parts hand w p order out puts owners turns drives fed released near finds heads gone held (driver_row p) refl (each_event_is_due p)

@@ -26,7 +26,7 @@ use Rattle.law_driver.specs.run_owners.Accepts.{Opens, Transfers}
 use Rattle.law_driver.specs.run_owners.Due.{IsDue, IsHarvestDue}
 use Rattle.claims_driver.specs.Leaving.{HasOwners}
 use Rattle.claims_driver.specs.Owners.{EndpointRuns, runs_of_endpoint}
-use Rattle.law_driver.proofs.lemmas.run_owners.Reasons.{each_is_due}
+use Rattle.law_driver.proofs.lemmas.run_owners.Reasons.{each_event_is_due}
 use Rattle.law_structures.specs.lent_structures.Structures.{StructureSets}
 use Rattle.law_structures.proofs.lemmas.lent_structures.Names.{not_same}
 use Rattle.law_ring.specs.Hand.{Hand}
@@ -57,7 +57,7 @@ use Rattle.law_driver.specs.chained_transfers.Out.{out_now}
 use Rattle.law_driver.proofs.lemmas.chained_transfers.BulkAndControl.{not_iso}
 use Rattle.law_driver_ring.proofs.lemmas.walk_members.Descriptions.{desc_of, row_left}
 use Rattle.law_queues.specs.whole_sends.Whole.{AreSentWhole}
-use Rattle.law_queues.proofs.lemmas.whole_sends.Keeping.{spared_whole, returned_whole}
+use Rattle.law_queues.proofs.lemmas.whole_sends.Keeping.{spared_is_whole, returned_is_whole}
 use Rattle.law_world.specs.streams.put_laws.Sent.{SentStand, WasOut, OutsWere}
 use Rattle.law_world.specs.streams.put_laws.SentRows.{AreFewer, FewerAreSent, AcceptedSends, QuietSends, HarvestSends, ReleaseSends}
 use Rattle.law_driver.specs.endpoint_lives.Lives.{may_meet, is_one_of}
@@ -71,11 +71,11 @@ use Rattle.law_driver.proofs.lemmas.ring_members.Events.{ring_back}
 
 fewer_whole : (order : ℕ → ℕ) (out later : List ℕ) (hand : Hand) (n : ℕ) (parts : StructureSets) → ((a : ℕ) → IsAmong a later → IsAmong a out) → AreSentWhole order out hand n (parts n) → AreSentWhole order later hand n (parts n)
 fewer_whole order out later hand n parts fewer k =
-    spared_whole order out later hand hand n (parts n) (parts n) (λ ends. ends) fewer
+    spared_is_whole order out later hand hand n (parts n) (parts n) (λ ends. ends) fewer
     (λ r here. record { queue = r; here = here; rest = record { token = refl; current = refl; next = refl; alternate = refl } }) (λ a t here. here) k
 
-pub fewer_sent : FewerAreSent
-fewer_sent d f hand parts order out later were fewer k e z here met sends =
+pub fewer_are_sent : FewerAreSent
+fewer_are_sent d f hand parts order out later were fewer k e z here met sends =
     let w : WasOut d z = were e z here met sends in
     let q : ℕ = w.endpoint.queue in
     subst (λ (i : ℕ). AreSentWhole (order (32 * i)) (later (32 * i)) hand (32 * i) (parts (32 * i))) (sym w.queue)
@@ -124,8 +124,8 @@ module _ (d : DriverContent) (m : Mem) (o : Offered) where
       (set_which d.endpoints w.number e w.endpoint queued z w.here (ap (λ (p : Offered). slice_get p.driver.endpoints e) (sym w.is) ∙ here))
 
 pub accepted_sends : AcceptedSends
-accepted_sends d m o hand parts order out (inl opened) k = fewer_sent d o.driver hand parts order out out (opened_outs d m o opened) (λ e z a here met among. among) k
-accepted_sends d m o hand parts order out (inr asked) k = fewer_sent d o.driver hand parts order out out (asked_outs d m o asked) (λ e z a here met among. among) k
+accepted_sends d m o hand parts order out (inl opened) k = fewer_are_sent d o.driver hand parts order out out (opened_outs d m o opened) (λ e z a here met among. among) k
+accepted_sends d m o hand parts order out (inr asked) k = fewer_are_sent d o.driver hand parts order out out (asked_outs d m o asked) (λ e z a here met among. among) k
 
 -- ---- rows that store nothing
 
@@ -197,7 +197,7 @@ quiet_outs _ p quiet bulk due e z here met sends = absurd (false≢true quiet)
 
 pub quiet_sends : QuietSends
 quiet_sends p hand parts order out later quiet bulk fewer k =
-    fewer_sent p.driver (after_driver_row (driver_row p) p).driver hand parts order out later (quiet_outs (driver_row p) p quiet bulk (each_is_due p)) fewer k
+    fewer_are_sent p.driver (after_driver_row (driver_row p) p).driver hand parts order out later (quiet_outs (driver_row p) p quiet bulk (each_event_is_due p)) fewer k
 
 -- ---- a harvest
 
@@ -281,9 +281,9 @@ module _ (p : Parts) (e t : ℕ) (found : Found) (member streams : ℕ → Bool)
 
 pub harvest_sends : HarvestSends
 harvest_sends p e t found hand member streams ends parts order out later row owners turns queues still k =
-    let due : IsHarvestDue p e t found = subst (IsDue p) row (each_is_due p) in
+    let due : IsHarvestDue p e t found = subst (IsDue p) row (each_event_is_due p) in
     subst (λ (r : DriverRow). SentStand (after_driver_row r p).driver order later hand parts) (sym row)
-    (fewer_sent p.driver (after_driver_row (rows.Harvest e t found) p).driver hand parts order out later (harvest_outs p e t found turns.asynchronous due.idle)
+    (fewer_are_sent p.driver (after_driver_row (rows.Harvest e t found) p).driver hand parts order out later (harvest_outs p e t found turns.asynchronous due.idle)
     (harvest_fewer p e t found member streams ends parts order out later due owners turns queues (subst (λ (r : DriverRow). AreStillOut (after_driver_row r p).driver later) row still)) k)
 
 -- ---- blocks are given back
@@ -311,4 +311,4 @@ release_sends p t y hand parts order out n goes here k =
     subst (λ (q : Parts). SentStand q.driver order (staying_of n goes out) hand (without_those parts n goes)) (sym row_is)
     (λ e z there met sends.
     let m = 32 * z.queue in
-    returned_whole (order m) (out m) (staying_of n goes out m) hand m parts n goes (λ a among. staying_among n goes out m a among) (k e z there (record { there = record { linked = met.there.linked; kept = met.there.kept }; near = met.near }) sends))
+    returned_is_whole (order m) (out m) (staying_of n goes out m) hand m parts n goes (λ a among. staying_among n goes out m a among) (k e z there (record { there = record { linked = met.there.linked; kept = met.there.kept }; near = met.near }) sends))

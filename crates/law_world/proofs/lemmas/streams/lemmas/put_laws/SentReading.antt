@@ -23,8 +23,8 @@ use Rattle.law_ring.specs.Hand.{Hand}
 use Rattle.law_ring.specs.Effects.{buffer_of}
 use Rattle.law_structures.specs.lent_structures.Sound.{IsMember}
 use Rattle.law_ring.specs.Told.{Told}
-use Rattle.law_ring.proofs.Ordering.{done_told}
-use Rattle.law_driver_ring.proofs.lemmas.harvested_streams.Harvesting.{token_read}
+use Rattle.law_ring.proofs.Ordering.{a_done_qtd_is_told_by_memory}
+use Rattle.law_driver_ring.proofs.lemmas.harvested_streams.Harvesting.{token_is_read}
 use Rattle.law_driver.specs.chained_transfers.Chains.{piece_at}
 use Rattle.law_driver.specs.chained_transfers.Turns.{IsAtPlace}
 use Rattle.law_driver.proofs.lemmas.chained_transfers.Harvesting.{waits_is}
@@ -71,7 +71,7 @@ pub done_is_told : DoneIsTold
 done_is_told member parts hand order out n e t bytes m k here off goes told =
     let bs : List ℕ = buffer_of (parts n) t in
     let none = k.whole e t here off goes in
-    done_told member parts hand n e t bytes m here off told ∙ take_all (length bs - t.token.total) bs (omega (arith, none)) ∙ ap (bytes_of_element (parts n)) (sym here)
+    a_done_qtd_is_told_by_memory member parts hand n e t bytes m here off told ∙ take_all (length bs - t.token.total) bs (omega (arith, none)) ∙ ap (bytes_of_element (parts n)) (sym here)
 
 -- ---- the qTD that is read
 
@@ -117,7 +117,7 @@ module _ (p : Parts) (e t : ℕ) (found : Found) (hand : Hand) (parts : Structur
   here = ap (λ (c : ℕ). parts n (32 * c)) at_place.place ∙ piece.here
 
   token_is : token_in p.memory y.place ≡ piece.qtd.token
-  token_is = token_read p.memory parts n y.place piece.qtd k.tells here
+  token_is = token_is_read p.memory parts n y.place piece.qtd k.tells here
 
   none_left : (token_in p.memory y.place).active ≡ false → (token_in p.memory y.place).halted ≡ false → (token_in p.memory y.place).total ≡ 0
   none_left off goes =

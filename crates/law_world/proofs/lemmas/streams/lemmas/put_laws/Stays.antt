@@ -42,7 +42,7 @@ use Rattle.drv_table.specs.Removals.{let_go_waiting, let_go_placed, after_unlink
 use Rattle.drv_table.specs.Kinds.{is_iso}
 use Rattle.drv_table.specs.Harvesting.{descriptor_found, found_of, after_harvest, harvested_as, after_end, told_with, stalled, goes_on, behind, behind_one, mends_of, served}
 use Rattle.law_driver.specs.run_owners.Due.{IsDue}
-use Rattle.law_driver.proofs.lemmas.run_owners.Reasons.{each_is_due}
+use Rattle.law_driver.proofs.lemmas.run_owners.Reasons.{each_event_is_due}
 use Rattle.claims_report.specs.Reports.{is_refusal}
 use Rattle.claims_report.specs.Streams.{refuses_in}
 use Rattle.law_world.proofs.lemmas.streams.lemmas.put_laws.Mapped.{set_same, map_same}
@@ -330,4 +330,4 @@ row_stays rows.Rest p plain = stays_all p.driver
 row_stays _ p plain = stays_so p.driver _ refl refl refl
 
 pub event_stays : (p : Parts) → Stays p.driver (after_driver_row (driver_row p) p).driver
-event_stays p = row_stays (driver_row p) p (due_plain p (driver_row p) (each_is_due p))
+event_stays p = row_stays (driver_row p) p (due_plain p (driver_row p) (each_event_is_due p))

@@ -102,12 +102,12 @@ puts_stay d c r now taken puts descs owners refusals h =
 
 -- ---- an event
 
-pub event_puts : (fixed : Fixed) (w : World) (event : Event) (taken : List (ℕ × Line)) (puts : ℕ → List ℕ) → PutsAreTaken w.driver (report_of fixed w) taken puts
+pub event_keeps_puts : (fixed : Fixed) (w : World) (event : Event) (taken : List (ℕ × Line)) (puts : ℕ → List ℕ) → PutsAreTaken w.driver (report_of fixed w) taken puts
     → PutsAreTaken (next fixed w event).driver (report_of fixed (next fixed w event)) taken puts
-event_puts fixed w events.D taken puts h =
+event_keeps_puts fixed w events.D taken puts h =
     let stays = event_stays (driver_parts w) in
     puts_stay w.driver (driver_next w).driver (report_of fixed w) (report_of fixed (driver_next w)) taken puts stays.descs stays.owners stays.refusals h
-event_puts fixed w events.C taken puts h = puts_stay w.driver w.driver (report_of fixed w) (report_of fixed (next fixed w events.C)) taken puts refl refl (λ n. refl) h
+event_keeps_puts fixed w events.C taken puts h = puts_stay w.driver w.driver (report_of fixed w) (report_of fixed (next fixed w events.C)) taken puts refl refl (λ n. refl) h
 
 -- ---- a line that is no command
 
@@ -243,11 +243,11 @@ module _ (fixed : Fixed) (w : World) (n : ℕ) (cmd : Cmd) (taken : List (ℕ ×
   answered_puts (Ok o) adds same = accepted_puts o adds same
   answered_puts (Err why) adds same = refused_puts why
 
-pub command_puts : (fixed : Fixed) (w : World) (n : ℕ) (cmd : Cmd) (taken : List (ℕ × Line)) (puts : ℕ → List ℕ) → AllByRecursion (λ (l : ℕ × Line). l.0 < n) taken
+pub command_takes_puts : (fixed : Fixed) (w : World) (n : ℕ) (cmd : Cmd) (taken : List (ℕ × Line)) (puts : ℕ → List ℕ) → AllByRecursion (λ (l : ℕ × Line). l.0 < n) taken
     → PutsAreTaken w.driver (report_of fixed w) taken puts
     → PutsAreTaken (commanded w n cmd).driver (report_of fixed (commanded w n cmd)) (taken ++ (n, lines.Command cmd) ∷ []) (puts_then w.driver cmd puts)
 unfolding it
-command_puts fixed w n cmd taken puts before h =
+command_takes_puts fixed w n cmd taken puts before h =
     answered_puts fixed w n cmd taken puts before h (offered w.driver w.memory cmd) (command_adds w.driver w.memory cmd) (offer_lines w.driver w.memory cmd)
 
 -- ---- transfers stay

@@ -21,7 +21,7 @@ use Rattle.law_driver.specs.chained_transfers.Out.{unpublished}
 use Rattle.law_structures.specs.lent_structures.Structures.{Structure, Buffer, Structures, StructureSets, HoldsBuffer, Has, Tells}
 use Rattle.law_structures.specs.lent_structures.Sound.{element_pages, buffer_name, HasBuffer}
 use Rattle.law_driver_ring.specs.harvested_streams.Harvested.{IsNoted}
-use Rattle.law_driver_ring.proofs.lemmas.harvested_streams.Harvesting.{bytes_read}
+use Rattle.law_driver_ring.proofs.lemmas.harvested_streams.Harvesting.{bytes_are_read}
 use Rattle.law_driver_ring.specs.fed_queues.Fed.{is_request, IsPieceFed, unpublished_of, IsPublished, AreFed}
 use Rattle.law_driver_ring.proofs.lemmas.fed_queues.Sized.{told_size, told_fed}
 use Rattle.law_world.proofs.lemmas.streams.lemmas.put_laws.Words.{bytes_same}
@@ -59,7 +59,7 @@ published_stored d parts b words p plain made some =
 
 pub stored_bytes : (m : Mem) (parts : StructureSets) (n : ℕ) (note : QtdNote) → Tells m parts → (s : IsStored (parts n) note) → buffer_bytes m note note.told ≡ s.bytes
 stored_bytes m parts n note tells s =
-    ap (buffer_bytes m note) s.noted.told ∙ bytes_read m parts n s.qtd s.bytes note (length s.bytes) tells s.here s.noted (omega arith) ∙ take_all (length s.bytes) s.bytes (omega arith)
+    ap (buffer_bytes m note) s.noted.told ∙ bytes_are_read m parts n s.qtd s.bytes note (length s.bytes) tells s.here s.noted (omega arith) ∙ take_all (length s.bytes) s.bytes (omega arith)
 
 -- where memory is told after it with the same buffer
 pub buffer_stays : (m new : Mem) (parts now : StructureSets) (n : ℕ) (note : QtdNote) → Tells m parts → Tells new now → (s : IsStored (parts n) note) → now n (buffer_name s.qtd) ≡ Some (Buffer (element_pages s.qtd) s.qtd.offset s.bytes)

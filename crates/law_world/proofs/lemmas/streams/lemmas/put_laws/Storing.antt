@@ -35,7 +35,7 @@ use Rattle.law_queues.specs.publish_laws.Stores.{IsAtStore, published_by, parts_
 use Rattle.law_queues.proofs.lemmas.fed_lends.Outs.{last_apart, out_apart, its_out}
 use Rattle.law_queues.proofs.lemmas.publish_laws.Outs.{same_out}
 use Rattle.law_queues.specs.whole_sends.Whole.{AreSentWhole}
-use Rattle.law_queues.proofs.lemmas.whole_sends.Keeping.{idle_store_whole, last_store_whole}
+use Rattle.law_queues.proofs.lemmas.whole_sends.Keeping.{idle_store_is_whole, last_store_is_whole}
 use Rattle.law_world.specs.streams.put_laws.Sent.{SentStand, HoldThere}
 use Rattle.law_world.specs.streams.put_laws.SentStores.{StoreSends}
 use Rattle.law_driver_ring.proofs.lemmas.fed_queues.Places.{stands_met}
@@ -205,7 +205,7 @@ module _ (p : DriverParts) (member streams : ℕ → Bool) (ends : ℕ → Told)
     stored_idle low m same was =
         let token : new.token ≡ dummy_qtd.token = token_is g.qtd d.made low in
         subst (λ (j : ℕ). AreSentWhole (order m) (out m) hand m (stored_parts parts j (32 * b) new m)) same
-        (idle_store_whole (order m) (out m) hand m parts (32 * b) old new (ap (λ (j : ℕ). parts j (32 * b)) same ∙ g.stored) old_idle (ap (λ (z : Token). z.active) token) (ap (λ (z : Token). z.halted) token)
+        (idle_store_is_whole (order m) (out m) hand m parts (32 * b) old new (ap (λ (j : ℕ). parts j (32 * b)) same ∙ g.stored) old_idle (ap (λ (z : Token). z.active) token) (ap (λ (z : Token). z.halted) token)
         (ap (λ (z : Token). z.total) token) was)
 
     sent_more : d.made < 8 → SentStand more order (out_then out more g) hand (parts_then g)
@@ -224,7 +224,7 @@ module _ (p : DriverParts) (member streams : ℕ → Bool) (ends : ℕ → Told)
     published : d.made ≡ 8 → heads n ≡ true → AreSentWhole (order n) (out n) hand n (parts n) → AreSentWhole (order n) (out_then out done g n) hand n (parts_then g n)
     published eighth counted was =
         subst (λ (xs : List ℕ). AreSentWhole (order n) xs hand n (parts_then g n)) (sym out_done)
-        (last_store_whole (order n) reach.stands.front before behind hand n parts (32 * b) old new g.stored old_idle (ap (λ (j : ℕ). (partly g.qtd j).token.active) eighth ∙ g.active) sorted
+        (last_store_is_whole (order n) reach.stands.front before behind hand n parts (32 * b) old new g.stored old_idle (ap (λ (j : ℕ). (partly g.qtd j).token.active) eighth ∙ g.active) sorted
         (subst (λ (xs : List ℕ). HasFront (order n) reach.stands.front xs n (parts n)) out_split reach.stands.has) reach.within reach.tail (complete counted) (leads eighth)
         (subst (λ (xs : List ℕ). AreSentWhole (order n) xs hand n (parts n)) out_split was))
 

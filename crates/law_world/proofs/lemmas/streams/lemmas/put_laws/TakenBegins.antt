@@ -49,7 +49,7 @@ use Rattle.law_world.specs.steps.Outs.{AreOutPiped}
 use Rattle.law_world.proofs.lemmas.steps.Joining.{only_at}
 use Rattle.law_queues.specs.whole_sends.Whole.{AreSentWhole, buffers_of}
 use Rattle.law_queues.specs.whole_sends.Laws.{IsStopped, AreFresh}
-use Rattle.law_queues.proofs.lemmas.whole_sends.Takers.{idle_takes_nothing, taken_in_order, taken_ahead}
+use Rattle.law_queues.proofs.lemmas.whole_sends.Takers.{idle_takes_nothing, taken_is_in_order, taken_is_ahead}
 use Rattle.law_world.specs.streams.put_laws.Held.{held_bytes}
 use Rattle.law_world.specs.streams.put_laws.TakenPuts.{puts_of}
 use Rattle.law_world.specs.streams.put_laws.Owed.{rest_of, Owes}
@@ -162,10 +162,10 @@ pub told_in_turn : (member : ℕ → Bool) (parts : StructureSets) (hand : Hand)
     → (IsStopped parts n → ⊥) → IsToldInTurn o z parts hand n order place told harvested
 told_in_turn member parts hand reply n order place told harvested o z mem in_hand goes_on = record {
   ordered = λ out accounts fresh whole p.
-      taken_in_order member parts hand reply order place out n told harvested o z mem in_hand accounts fresh whole p
+      taken_is_in_order member parts hand reply order place out n told harvested o z mem in_hand accounts fresh whole p
       (λ stopped. absurd (goes_on stopped));
   around = λ front e ahead behind accounts fronts tail below whole p.
-      taken_ahead member parts hand reply order place front ahead behind n e told harvested o z mem in_hand accounts fronts tail below whole p
+      taken_is_ahead member parts hand reply order place front ahead behind n e told harvested o z mem in_hand accounts fronts tail below whole p
       (λ stopped. absurd (goes_on stopped));
 }
 

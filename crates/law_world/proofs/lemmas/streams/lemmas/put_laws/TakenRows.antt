@@ -18,7 +18,7 @@ use Rattle.drv_table.specs.Rows.{driver_row, after_driver_row}
 use Rattle.law_driver.specs.run_owners.Accepts.{Opens, Transfers, Cancels}
 use Rattle.law_driver.specs.chained_transfers.Asynchronous.{AcceptsAsynchronous}
 use Rattle.claims_driver.specs.Scripts.{receives}
-use Rattle.law_driver.proofs.lemmas.chained_transfers.Accepting.{command_accepts}
+use Rattle.law_driver.proofs.lemmas.chained_transfers.Accepting.{asynchronous_command_is_accepted}
 use Rattle.law_driver_ring.specs.fed_queues.Places.{IsThere}
 use Rattle.law_queues.proofs.lemmas.fed_lends.Asked.{push_which, set_which}
 use Rattle.law_ring.specs.OutBus.{Taker}
@@ -115,4 +115,4 @@ module _ {W : Type 0} (taker : W → ℕ → ℕ → Option Taker) (d : DriverCo
 
 pub command_taken : {W : Type 0} (taker : W → ℕ → ℕ → Option Taker) → CommandKeepsTaken taker
 command_taken taker d m cmd o puts now wire turns only offer keeps k =
-    any_taken taker d m o puts now wire keeps k cmd (command_accepts d m cmd o turns.asynchronous only offer)
+    any_taken taker d m o puts now wire keeps k cmd (asynchronous_command_is_accepted d m cmd o turns.asynchronous only offer)

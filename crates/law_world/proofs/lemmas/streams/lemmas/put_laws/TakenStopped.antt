@@ -30,7 +30,7 @@ use Rattle.drv_table.specs.Rows.{driver_row, after_driver_row}
 use Rattle.law_driver.proofs.lemmas.endpoint_lives.Lives.{told_some}
 use Rattle.law_driver.specs.run_owners.Due.{IsDue, IsHarvestDue}
 use Rattle.claims_driver.specs.Owners.{note_in}
-use Rattle.law_driver.proofs.lemmas.run_owners.Reasons.{each_is_due}
+use Rattle.law_driver.proofs.lemmas.run_owners.Reasons.{each_event_is_due}
 use Rattle.claims_driver.specs.Scripts.{receives}
 use Rattle.law_driver.specs.chained_transfers.Asynchronous.{OnlyAsynchronous}
 use Rattle.law_driver.specs.chained_transfers.Chains.{piece_at}
@@ -41,7 +41,7 @@ use Rattle.law_driver.proofs.lemmas.chained_transfers.Rows.{set_which}
 use Rattle.law_driver.proofs.lemmas.chained_transfers.Staying.{stands_alive}
 use Rattle.law_driver.proofs.lemmas.chained_transfers.Stalled.{behind_tells}
 use Rattle.law_driver.proofs.lemmas.chained_transfers.Ways.{moves_queued, found_by}
-use Rattle.law_driver_ring.proofs.lemmas.harvested_streams.Harvesting.{token_read}
+use Rattle.law_driver_ring.proofs.lemmas.harvested_streams.Harvesting.{token_is_read}
 use Rattle.law_structures.specs.lent_structures.Structures.{QueueHead, Element, StructureSets, Tells}
 use Rattle.law_structures.proofs.lemmas.lent_structures.Names.{put_beside}
 use Rattle.law_structures.proofs.lemmas.lent_structures.Found.{back_beside}
@@ -63,8 +63,8 @@ use Rattle.law_world.proofs.lemmas.streams.lemmas.put_laws.Driver.{row_no_more}
 
 -- ---- steps that spare queue heads
 
-pub spared_stopped : SparedStayStopped
-spared_stopped d parts now spares ended e x cause here alive sends over =
+pub spared_stay_stopped : SparedStayStopped
+spared_stay_stopped d parts now spares ended e x cause here alive sends over =
     let k : IsStopped parts (32 * x.queue) = ended e x cause here alive sends over in
     let s : HasOverlay now (32 * x.queue) k.0 = spares e x here k.0 k.1 in
     (s.queue, s.here, ap (λ (t : Token). t.active) s.overlay.token ∙ k.2, ap (λ (t : Token). t.halted) s.overlay.token ∙ k.3)
@@ -133,8 +133,8 @@ row_ends p (rows.ReadFrame n) due bulk harvest endpoint = (row_no_more p (rows.R
 row_ends p (rows.Harvest e t found) due bulk harvest endpoint = absurd (harvest e t found refl)
 row_ends p rows.Rest due bulk harvest endpoint = (row_no_more p rows.Rest due bulk harvest (λ t is. cc) endpoint).alike.ends
 
-pub alike_stopped : AlikeStayStopped
-alike_stopped p parts turns harvest endpoint ended = were_ended p.driver (after_driver_row (driver_row p) p).driver parts (row_ends p (driver_row p) (each_is_due p) turns.asynchronous harvest endpoint) ended
+pub alike_stay_stopped : AlikeStayStopped
+alike_stay_stopped p parts turns harvest endpoint ended = were_ended p.driver (after_driver_row (driver_row p) p).driver parts (row_ends p (driver_row p) (each_event_is_due p) turns.asynchronous harvest endpoint) ended
 
 -- ---- a harvest
 
@@ -253,7 +253,7 @@ module _ (order : ℕ → ℕ) (out : List ℕ) (p : Parts) (parts : StructureSe
 
   module _ (tells : Tells p.memory parts) (mem : IsQueuePart n (parts n)) (k : AreSentWhole order out hand n (parts n)) (halts : Halts) where
     token_is : token_in p.memory y.place ≡ piece.qtd.token
-    token_is = token_read p.memory parts n y.place piece.qtd tells here
+    token_is = token_is_read p.memory parts n y.place piece.qtd tells here
 
     halted : mem.queue.token.halted ≡ true
     halted = by_test mem.queue.token.halted refl

@@ -100,10 +100,10 @@ module _ {W : Type 0} (transacts : W → Ask → List ℕ → Reply → W → Ty
   walking kind (takes t quiet) = taking t
   walking kind (writes_back w quiet) = writing w
 
-pub walk_leaves : {W : Type 0} (transacts : W → Ask → List ℕ → Reply → W → Type 0) → WalkLeavesBuffers transacts
-walk_leaves transacts member parts hand reply wire after now later kind n members in_hand effect none = walking transacts member parts hand reply wire after now later n members in_hand none kind effect
+pub walk_leaves_buffers : {W : Type 0} (transacts : W → Ask → List ℕ → Reply → W → Type 0) → WalkLeavesBuffers transacts
+walk_leaves_buffers transacts member parts hand reply wire after now later kind n members in_hand effect none = walking transacts member parts hand reply wire after now later n members in_hand none kind effect
 
-pub event_leaves : {W : Type 0} (begins : W → ℕ → Bool → W → Type 0) (transacts : W → Ask → List ℕ → Reply → W → Type 0) → EventLeavesBuffers begins transacts
-event_leaves begins transacts base member parts hand c wire after now later n controlled (a_microframe b) none = same_buffers (parts n) (now n) (ap (λ (ps : StructureSets). ps n) b.parts_stay)
-event_leaves begins transacts base member parts hand c wire after now later n controlled (a_step s) none =
-    walk_leaves transacts member parts hand (walk_place c).walk.reply wire after now later s.kind n controlled.ring.members controlled.ring.in_hand s.effect none
+pub event_leaves_buffers : {W : Type 0} (begins : W → ℕ → Bool → W → Type 0) (transacts : W → Ask → List ℕ → Reply → W → Type 0) → EventLeavesBuffers begins transacts
+event_leaves_buffers begins transacts base member parts hand c wire after now later n controlled (a_microframe b) none = same_buffers (parts n) (now n) (ap (λ (ps : StructureSets). ps n) b.parts_stay)
+event_leaves_buffers begins transacts base member parts hand c wire after now later n controlled (a_step s) none =
+    walk_leaves_buffers transacts member parts hand (walk_place c).walk.reply wire after now later s.kind n controlled.ring.members controlled.ring.in_hand s.effect none

@@ -54,5 +54,5 @@ seats_same w (s ∷ ss) =
     flat_map-append closing_line (seat_closings w s) (flat_map (seat_closings w) ss) ∙ ap (λ (xs : List ℕ). xs ++ flat_map closing_line (flat_map (seat_closings w) ss)) (seat_by w s (opened w.driver s.name))
     ∙ ap (λ (xs : List ℕ). closing_text w s ++ xs) (seats_same w ss)
 
-pub report_printed : (fixed : Fixed) (w : World) → whole_text (report_of fixed w) ≡ world_text fixed w
-report_printed fixed w = ap (λ (xs : List ℕ). report_text w.driver.reports w.driver.store ++ xs) (seats_same w fixed.seats)
+pub report_is_printed : (fixed : Fixed) (w : World) → whole_text (report_of fixed w) ≡ world_text fixed w
+report_is_printed fixed w = ap (λ (xs : List ℕ). report_text w.driver.reports w.driver.store ++ xs) (seats_same w fixed.seats)

@@ -145,5 +145,5 @@ gone_told d held told e x only on tells here gone = by x.ended refl
         let none : held e ≡ [] = (to.over cause (told_gone x gone ∙ is)).0 in
         sym to.sum ∙ ap (λ (xs : List ℕ). told_in d.store (lines_in x.desc.name d.reports) ++ xs) none ∙ append-nil (told_in d.store (lines_in x.desc.name d.reports))
 
-pub report_right : (s : Script) (fixed : Fixed) (w : World) (held told : ℕ → List ℕ) → OnlyAsynchronous w.driver → TellsEach w.driver.reports w.driver.store (named_in w.driver.endpoints) held told → BeginsEach s w told → AreRightInStreams s (report_of fixed w)
-report_right s fixed w held told only tells begins = all_right s (report_of fixed w) (λ desc comes. one_right s fixed w held told tells only begins desc.name (in_way desc.name.way comes))
+pub report_is_right : (s : Script) (fixed : Fixed) (w : World) (held told : ℕ → List ℕ) → OnlyAsynchronous w.driver → TellsEach w.driver.reports w.driver.store (named_in w.driver.endpoints) held told → BeginsEach s w told → AreRightInStreams s (report_of fixed w)
+report_is_right s fixed w held told only tells begins = all_right s (report_of fixed w) (λ desc comes. one_right s fixed w held told tells only begins desc.name (in_way desc.name.way comes))

@@ -27,7 +27,7 @@ use Rattle.law_driver_ring.specs.fed_queues.Places.{IsThere, IsMet}
 use Rattle.law_devices.specs.opening_senders.Own.{HasOwnDevices}
 use Rattle.law_devices.proofs.lemmas.opening_senders.Opening.{opening_sends}
 use Rattle.law_world.specs.streams.right_reports.Laws.{BeginsEach}
-use Rattle.law_world.proofs.lemmas.streams.lemmas.right_reports.Right.{in_way, in_stream, gone_told, report_right}
+use Rattle.law_world.proofs.lemmas.streams.lemmas.right_reports.Right.{in_way, in_stream, gone_told, report_is_right}
 use Rattle.law_world.specs.streams.right_worlds.Right.{AreOfScript, WorldIsRight}
 
 -- ---- an endpoint is met, or is being opened
@@ -90,8 +90,8 @@ packets_begin script packets name xs own of_it way k = by_sender (sender_of (ope
 
 -- ---- the world
 
-pub world_right : WorldIsRight
-world_right script fixed base member heads x s w own of_it streaming asynchronous streams told right heads_hold closed = report_right script fixed w told.held told.told asynchronous told.tells begins
+pub world_is_right : WorldIsRight
+world_is_right script fixed base member heads x s w own of_it streaming asynchronous streams told right heads_hold closed = report_is_right script fixed w told.held told.told asynchronous told.tells begins
   where
     begun : (e : ℕ) (z : Endpoint) → slice_get w.driver.endpoints e ≡ Some z → comes_in z.desc.name.way ≡ true → (xs : List ℕ) → told.told e ≡ xs → IsPrefix xs (concat (x.packets z.desc.name.addr z.desc.name.num))
         → IsPrefix (told.told e) (concat (packets_of (items_of script z.desc.name)))

@@ -15,15 +15,15 @@ use Rattle.law_queues.specs.standing_fronts.Reaching.{Reaches}
 use Rattle.law_controller.specs.controlled_streams.Control.{IsControlled, ControlEffect}
 use Rattle.claims_base.specs.Controller.{opening_base}
 use Rattle.law_controller.specs.controller_writes.Leaving.{LeavesRest}
-use Rattle.law_controller.proofs.lemmas.controller_writes.Controlling.{event_leaves}
+use Rattle.law_controller.proofs.lemmas.controller_writes.Controlling.{each_event_leaves_the_rest}
 use Rattle.law_devices.specs.scripted_takers.Takers.{taker_of}
-use Rattle.law_devices.proofs.lemmas.scripted_takers.Asking.{scripted_out_bus}
-use Rattle.law_devices.proofs.lemmas.scripted_takers.Beginning.{scripted_out_begins}
+use Rattle.law_devices.proofs.lemmas.scripted_takers.Asking.{a_scripted_bus_takes_its_streams}
+use Rattle.law_devices.proofs.lemmas.scripted_takers.Beginning.{a_microframe_keeps_its_takers}
 use Rattle.law_world.specs.streams.taken_reports.Worlds.{HaveOuts}
 use Rattle.bus_world.specs.World.{World, controller_parts, controller_next}
 use Rattle.law_world.specs.steps.Streaming.{Streams, Standing, begins_by, transacts_by, wired}
 use Rattle.law_world.proofs.lemmas.steps.StreamTurning.{world_has_row}
-use Rattle.law_world.proofs.lemmas.steps.lemmas.world_bytes.Hearing.{hears_bytes}
+use Rattle.law_world.proofs.lemmas.steps.lemmas.world_bytes.Hearing.{a_bus_of_bytes_is_heard_as_bytes}
 use Rattle.law_world.specs.streams.Feeding.{there_of, IsFeeding}
 use Rattle.law_world.specs.streams.Taking.{outs_of}
 use Rattle.law_queues.specs.standing_fronts.Tails.{tail_block, tail_of}
@@ -36,7 +36,7 @@ use Rattle.law_world.proofs.lemmas.streams.lemmas.put_laws.Events.{event_sends}
 use Rattle.law_world.specs.streams.put_laws.HeldPuts.{HoldsPuts}
 use Rattle.law_world.specs.streams.put_laws.HeldLaws.{IsPublishing, OutsAskNoData}
 use Rattle.law_world.proofs.lemmas.streams.lemmas.put_laws.Walking.{outs_ask_none}
-use Rattle.law_world.proofs.lemmas.streams.lemmas.put_laws.Beside.{event_holds}
+use Rattle.law_world.proofs.lemmas.streams.lemmas.put_laws.Beside.{event_holds_puts}
 use Rattle.law_world.specs.streams.put_laws.Owed.{Owes}
 use Rattle.law_world.specs.streams.put_laws.Buffers.{IsPublishingTo}
 use Rattle.law_world.specs.streams.put_laws.OwedTaken.{TakenBegin, EndedAreStopped, IsOutHead, OutsStand, LeaveTakers}
@@ -123,12 +123,12 @@ module _ (fixed : Fixed) (takes : ℕ → ℕ → Bool) (member : ℕ → Bool) 
 
   leaves : LeavesRest s.parts w.memory new.memory
   leaves =
-      event_leaves begins_by transacts_by opening_base member s.parts s.hand (controller_parts w) (wired fixed w) (controller_parts new) (wired fixed new) controlled f.working.streaming.on
-      (hears_bytes fixed w k.whole.bytes (wired fixed new)) (world_has_row fixed w)
+      each_event_leaves_the_rest begins_by transacts_by opening_base member s.parts s.hand (controller_parts w) (wired fixed w) (controller_parts new) (wired fixed new) controlled f.working.streaming.on
+      (a_bus_of_bytes_is_heard_as_bytes fixed w k.whole.bytes (wired fixed new)) (world_has_row fixed w)
 
   held_then : HoldsPuts d new.memory puts
   held_then =
-      event_holds begins_by transacts_by opening_base member s.parts s.hand (controller_parts w) (controller_parts new) (wired fixed w) (wired fixed new) now.parts now.hand d puts
+      event_holds_puts begins_by transacts_by opening_base member s.parts s.hand (controller_parts w) (controller_parts new) (wired fixed w) (wired fixed new) now.parts now.hand d puts
       controlled controlled_now moves leaves.lent.words f.working.place.sound.owners f.working.place.sound.stands f.turns f.queues.met f.queues.fed publishing ask_none k.held
 
   owes_then : Owes d new.memory puts s.reported
@@ -172,7 +172,7 @@ module _ (fixed : Fixed) (takes : ℕ → ℕ → Bool) (member : ℕ → Bool) 
   begin_then : TakenBegin taker_of d puts (wired fixed new)
   begin_then =
       event_taken buffers_are_rest buffers_before_lend buffers_around begins_by transacts_by takes taker_of opening_base member outs (there_of d) x.endpoint s.parts s.hand (controller_parts w)
-      (controller_parts new) (wired fixed w) (wired fixed new) now.parts now.hand (λ n. concat (s.acc n)) d s.order s.out now.acc puts s.reported (scripted_out_bus takes) (scripted_out_begins takes)
+      (controller_parts new) (wired fixed w) (wired fixed new) now.parts now.hand (λ n. concat (s.acc n)) d s.order s.out now.acc puts s.reported (a_scripted_bus_takes_its_streams takes) (a_microframe_keeps_its_takers takes)
       k.whole.taking.ends controlled controlled_now moves f.working.place.sound.owners k.whole.taking.piped k.ended stand leave_takers k.begin
 
   -- ---- all of it
@@ -180,6 +180,6 @@ module _ (fixed : Fixed) (takes : ℕ → ℕ → Bool) (member : ℕ → Bool) 
   pub sending_beside : IsSending fixed takes member x now puts new
   sending_beside = record { whole = whole_then; sent = sent_then; ended = ended_then; held = held_then; owes = owes_then; begin = begin_then; left_takers = λ e z here sends off. record { taker = (k.left_takers e z here sends off).taker; is = left_taker e z here sends off } }
 
-pub controller_sending : ControllerKeepsSending
-controller_sending fixed takes member x s puts w k =
+pub controller_keeps_sending : ControllerKeepsSending
+controller_keeps_sending fixed takes member x s puts w k =
     has_of fixed takes member x (now fixed takes member x s puts w k) puts (controller_next fixed w) (sending_beside fixed takes member x s puts w k)

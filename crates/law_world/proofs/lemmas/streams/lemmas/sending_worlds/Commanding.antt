@@ -16,7 +16,7 @@ use Rattle.law_structures.specs.lent_structures.Structures.{StructureSets}
 use Rattle.claims_driver.specs.Scripts.{OpensAsynchronous}
 use Rattle.law_driver.specs.chained_transfers.Asynchronous.{AcceptsAsynchronous}
 use Rattle.law_driver.specs.chained_transfers.AsynchronousTurns.{AsynchronousTakesTurns}
-use Rattle.law_driver.proofs.lemmas.chained_transfers.Accepting.{command_accepts}
+use Rattle.law_driver.proofs.lemmas.chained_transfers.Accepting.{asynchronous_command_is_accepted}
 use Rattle.law_driver.proofs.lemmas.endpoint_lives.Lives.{told_some}
 use Rattle.law_driver_ring.specs.fed_queues.Places.{IsThere}
 use Rattle.law_queues.proofs.lemmas.fed_lends.Asked.{push_which, set_which}
@@ -27,7 +27,7 @@ use Rattle.law_devices.specs.scripted_takers.Takers.{taker_of}
 use Rattle.bus_world.specs.World.{World, name_in, refused_line, commanded_by, commanded}
 use Rattle.law_world.specs.steps.Streaming.{Streams, Standing, wired}
 use Rattle.law_world.specs.streams.put_laws.HeldPuts.{HoldsPuts, puts_then}
-use Rattle.law_world.proofs.lemmas.streams.lemmas.put_laws.Commanding.{command_holds}
+use Rattle.law_world.proofs.lemmas.streams.lemmas.put_laws.Commanding.{command_holds_puts}
 use Rattle.law_world.specs.streams.put_laws.Sent.{SentStand}
 use Rattle.law_world.proofs.lemmas.streams.lemmas.put_laws.SentAlike.{accepted_sends}
 use Rattle.law_world.specs.streams.put_laws.TakenPuts.{puts_of}
@@ -122,7 +122,8 @@ module _ (fixed : Fixed) (takes : ℕ → ℕ → Bool) (member : ℕ → Bool) 
   now = puts_then w.driver cmd puts
 
   accepted : Opens w.driver w.memory o ⊎ Transfers w.driver w.memory o
-  accepted = comes_to d w.memory o cmd kept (command_accepts d w.memory cmd o k.whole.feeding.turns.asynchronous only offer)
+  accepted = comes_to d w.memory o cmd kept (asynchronous_command_is_accepted d w.memory cmd o k.whole.feeding.turns.asynchronous only
+      offer)
 
   sent_then : SentStand o.driver s.order s.out s.hand s.parts
   sent_then = accepted_sends d w.memory o s.hand s.parts s.order s.out accepted k.sent
@@ -135,7 +136,7 @@ module _ (fixed : Fixed) (takes : ℕ → ℕ → Bool) (member : ℕ → Bool) 
       let feeding = k.whole.feeding in
       let place = feeding.working.place in
       let tells = feeding.working.streaming.controlled.ring.tells in
-      command_holds d w.memory cmd o s.parts puts only room bytes offer place.sound.owners place.lent place.sound.stands feeding.turns tells feeding.queues.fed k.held
+      command_holds_puts d w.memory cmd o s.parts puts only room bytes offer place.sound.owners place.lent place.sound.stands feeding.turns tells feeding.queues.fed k.held
 
   owes_then : HoldsPuts o.driver o.memory now → Owes o.driver o.memory now s.reported
   owes_then still =
@@ -216,6 +217,6 @@ sending_commanded fixed takes member x s puts w line cmd only to fits named byte
     (cancel_sending fixed takes member x s puts w line cancels.0 (subst (IsOffered w.driver.room) cancels.1 room) (subst (λ (c : Cmd). IsWhole fixed takes member x s (commanded w line c)) cancels.1 whole) k))
     (by_kind cmd)
 
-pub command_sending : CommandKeepsSending
-command_sending fixed takes member x s puts w line cmd only to fits named bytes room k =
+pub command_keeps_sending : CommandKeepsSending
+command_keeps_sending fixed takes member x s puts w line cmd only to fits named bytes room k =
     has_of fixed takes member x s (puts_then w.driver cmd puts) (commanded w line cmd) (sending_commanded fixed takes member x s puts w line cmd only to fits named bytes room k)

@@ -13,8 +13,8 @@ use Rattle.law_world.proofs.lemmas.streams.lemmas.sending_worlds.Releasing.{rele
 use Rattle.law_world.proofs.lemmas.streams.lemmas.sending_worlds.Mending.{mend_sending}
 use Rattle.law_world.proofs.lemmas.streams.lemmas.sending_worlds.Leaving.{unlink_sending, clear_sending, endpoint_release_sending}
 
-pub driver_sending : DriverKeepsSending
-driver_sending fixed takes member x s puts w k =
+pub driver_keeps_sending : DriverKeepsSending
+driver_keeps_sending fixed takes member x s puts w k =
     after_each fixed takes member x s w k.whole (HasSending fixed takes x.stream x.packets puts (driver_next w))
     (record {
       still = λ still. still_sending fixed takes member x s puts w still k;

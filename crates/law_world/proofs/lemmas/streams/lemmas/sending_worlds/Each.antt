@@ -17,7 +17,7 @@ use Rattle.drv_table.specs.Words.{is_control, queue_head}
 use Rattle.law_driver.specs.run_owners.Due.{IsDue, IsEndpointDue, IsHarvestDue, IsTransferDue}
 use Rattle.drv_table.specs.declared.rows.DriverRow.{DriverRow}
 use Rattle.claims_driver.specs.Leaving.{HasOwners}
-use Rattle.law_driver.proofs.lemmas.run_owners.Reasons.{each_is_due}
+use Rattle.law_driver.proofs.lemmas.run_owners.Reasons.{each_event_is_due}
 use Rattle.bus_wire.specs.Bus.{Fixed}
 use Rattle.law_devices.specs.declared_controls.Names.{IsNameOf}
 use Rattle.claims_report.specs.Streams.{has_stream}
@@ -37,13 +37,13 @@ use Rattle.law_world.specs.steps.Streaming.{Streams, Standing, wired}
 use Rattle.law_world.specs.streams.put_laws.HeldPuts.{HoldsPuts}
 use Rattle.law_world.specs.streams.put_laws.HeldLaws.{IsReleasedMet}
 use Rattle.law_world.specs.streams.put_laws.Sent.{HoldThere}
-use Rattle.law_world.proofs.lemmas.streams.lemmas.put_laws.Mends.{mend_in_head}
-use Rattle.law_world.proofs.lemmas.streams.lemmas.put_laws.Rows.{driver_holds}
+use Rattle.law_world.proofs.lemmas.streams.lemmas.put_laws.Mends.{mend_is_in_head}
+use Rattle.law_world.proofs.lemmas.streams.lemmas.put_laws.Rows.{driver_holds_puts}
 use Rattle.law_world.specs.streams.put_laws.Owed.{Owes}
 use Rattle.law_world.specs.streams.put_laws.OwedTaken.{TakenBegin, EndedAreStopped}
 use Rattle.law_world.proofs.lemmas.streams.lemmas.put_laws.Driver.{driver_owes}
 use Rattle.law_world.proofs.lemmas.streams.lemmas.put_laws.TakenRows.{driver_taken}
-use Rattle.law_world.proofs.lemmas.streams.lemmas.put_laws.TakenStopped.{alike_stopped}
+use Rattle.law_world.proofs.lemmas.streams.lemmas.put_laws.TakenStopped.{alike_stay_stopped}
 use Rattle.law_world.specs.streams.Feeding.{there_of}
 use Rattle.law_world.specs.streams.Taking.{outs_of}
 use Rattle.law_world.proofs.lemmas.streams.Told.{there_on, stream_out, data_way}
@@ -68,7 +68,7 @@ no_command o c idle busy = let e : ◌≡◌ {A = Option Command} None (Some c) 
 -- while a command is unfinished
 pub busy_harvests_none : (w : World) (c : Command) → w.driver.command ≡ Some c → HarvestsNone w
 busy_harvests_none w c busy e t found row =
-    let due : IsHarvestDue (driver_parts w) e t found = subst (IsDue (driver_parts w)) row (each_is_due (driver_parts w)) in
+    let due : IsHarvestDue (driver_parts w) e t found = subst (IsDue (driver_parts w)) row (each_event_is_due (driver_parts w)) in
     no_command w.driver.command c due.idle busy
 
 -- ---- rows by which no endpoint leaves
@@ -82,8 +82,8 @@ pub record IsOrdinary (w : World) : Type 0 where
 pub busy_ordinary : (w : World) (c : Command) → w.driver.command ≡ Some c → ((e b link : ℕ) → c ≢ unfinished.Unlink e b link) → IsOrdinary w
 busy_ordinary w c busy other = record {
   no_unlink = λ e b link is. other e b link (same_Some c (unfinished.Unlink e b link) (sym busy ∙ is));
-  no_clear = λ row. let due : IsDue (driver_parts w) rows.ClearAdvance = subst (IsDue (driver_parts w)) row (each_is_due (driver_parts w)) in no_command w.driver.command c due.0 busy;
-  no_release = λ e row. let due : IsEndpointDue (driver_parts w) e = subst (IsDue (driver_parts w)) row (each_is_due (driver_parts w)) in no_command w.driver.command c due.idle busy;
+  no_clear = λ row. let due : IsDue (driver_parts w) rows.ClearAdvance = subst (IsDue (driver_parts w)) row (each_event_is_due (driver_parts w)) in no_command w.driver.command c due.0 busy;
+  no_release = λ e row. let due : IsEndpointDue (driver_parts w) e = subst (IsDue (driver_parts w)) row (each_event_is_due (driver_parts w)) in no_command w.driver.command c due.idle busy;
 }
 
 pub idle_ordinary : (w : World) (row : DriverRow) → driver_row (driver_parts w) ≡ row → w.driver.command ≡ None → row ≢ rows.ClearAdvance → ((e : ℕ) → row ≢ rows.ReleaseEndpoint e) → IsOrdinary w
@@ -130,13 +130,13 @@ module _ (fixed : Fixed) (takes : ℕ → ℕ → Bool) (member : ℕ → Bool) 
 
   released_met : IsReleasedMet (driver_parts w)
   released_met t y z row there here =
-      let due : IsTransferDue (driver_parts w) t = subst (IsDue (driver_parts w)) row (each_is_due (driver_parts w)) in k.whole.left.owed 0 t y z due.first there here
+      let due : IsTransferDue (driver_parts w) t = subst (IsDue (driver_parts w)) row (each_event_is_due (driver_parts w)) in k.whole.left.owed 0 t y z due.first there here
 
   pub held_then : IsOrdinary w → HoldsPuts (driver_next w).driver (driver_next w).memory puts
   held_then o =
-      driver_holds opening_base member s.parts s.hand w.control.walk (driver_parts w) s.order s.out puts owners k.whole.feeding.turns drives k.whole.feeding.queues.fed
+      driver_holds_puts opening_base member s.parts s.hand w.control.walk (driver_parts w) s.order s.out puts owners k.whole.feeding.turns drives k.whole.feeding.queues.fed
       (λ t row. stand fixed takes member x s w t row k.whole) released_met (λ e b link is. absurd (o.no_unlink e b link is))
-      (λ m row. mend_in_head (driver_parts w) s.parts s.out (mend_finds fixed member x s w m row k.whole.feeding) m row) (λ e row. absurd (o.no_release e row)) k.held
+      (λ m row. mend_is_in_head (driver_parts w) s.parts s.out (mend_finds fixed member x s w m row k.whole.feeding) m row) (λ e row. absurd (o.no_release e row)) k.held
 
   -- ---- what devices took
 
@@ -173,7 +173,7 @@ module _ (fixed : Fixed) (takes : ℕ → ℕ → Bool) (member : ℕ → Bool) 
   -- ---- rows that are no harvest
 
   pub ended_alike : IsOrdinary w → HarvestsNone w → EndedAreStopped (driver_next w).driver s.parts
-  ended_alike o none = alike_stopped (driver_parts w) s.parts k.whole.feeding.turns none o.no_release k.ended
+  ended_alike o none = alike_stay_stopped (driver_parts w) s.parts k.whole.feeding.turns none o.no_release k.ended
 
   -- `told` tells what was reported of queues that are there, and nothing of one whose open is finished
   pub owes_then : IsOrdinary w → (told : ℕ → List ℕ) → HarvestsNone w

@@ -27,7 +27,7 @@ use Rattle.law_controller.specs.controlled_streams.Reported.{IsReported}
 use Rattle.law_driver_ring.specs.fed_queues.Places.{IsThere, IsMet}
 use Rattle.law_driver_ring.proofs.lemmas.fed_queues.Places.{stands_met}
 use Rattle.law_queues.specs.harvest_laws.Told.{ToldStands}
-use Rattle.law_queues.proofs.lemmas.harvest_laws.ReadRows.{not_active, wait_told}
+use Rattle.law_queues.proofs.lemmas.harvest_laws.ReadRows.{not_active, wait_is_told}
 use Rattle.bus_world.specs.World.{World, driver_parts, driver_next}
 use Rattle.law_world.specs.steps.Streaming.{Streams, Standing}
 use Rattle.law_world.specs.streams.put_laws.TakenPuts.{puts_of}
@@ -43,7 +43,7 @@ use Rattle.law_world.proofs.lemmas.streams.lemmas.put_laws.Rests.{prefix_of}
 use Rattle.law_world.proofs.lemmas.streams.lemmas.put_laws.TakenStopped.{harvest_stops}
 use Rattle.law_world.specs.streams.Feeding.{IsFeeding}
 use Rattle.law_world.specs.streams.HarvestFeeds.{HarvestLeaves}
-use Rattle.law_world.proofs.lemmas.streams.FeedingPassed.{passed_untold}
+use Rattle.law_world.proofs.lemmas.streams.FeedingPassed.{passed_are_untold}
 use Rattle.law_world.proofs.lemmas.streams.Told.{stream_out}
 use Rattle.law_world.proofs.lemmas.streams.Heads.{queue_reported}
 use Rattle.law_world.proofs.lemmas.streams.Leaving.{due, fronts, leaves, whole_harvested}
@@ -126,7 +126,7 @@ module _ (fixed : Fixed) (takes : ℕ → ℕ → Bool) (member : ℕ → Bool) 
 
   untold : (a : ℕ) (z : List ℕ) → IsOutEarlier (note_in w.driver.notes) e t w.driver.transfers a → Told s.hand s.parts (32 * read.endpoint.queue) a z → z ≡ []
   untold a z earlier of_it =
-      passed_untold w.driver s.parts s.hand s.order s.out e t read.endpoint a z read.idle f.turns.turns f.queues.out_are (fronts fixed takes member x s w e t found row k.whole) read.here its_met read.goes_on read.next earlier of_it
+      passed_are_untold w.driver s.parts s.hand s.order s.out e t read.endpoint a z read.idle f.turns.turns f.queues.out_are (fronts fixed takes member x s w e t found row k.whole) read.here its_met read.goes_on read.next earlier of_it
 
   right_now : has_stream read.endpoint.desc.kind ≡ true
       → IsReported (s.order (32 * read.endpoint.queue)) (out_now w.driver e) s.hand s.parts (32 * read.endpoint.queue) (s.acc (32 * read.endpoint.queue)) (s.reported (32 * read.endpoint.queue))
@@ -154,7 +154,7 @@ module _ (fixed : Fixed) (takes : ℕ → ℕ → Bool) (member : ℕ → Bool) 
       let told : ToldStands (driver_next w).driver s.hand s.parts s.reported =
       to_next (λ (d : DriverContent). ToldStands d s.hand s.parts s.reported)
       (subst (λ (z : Found). ToldStands (after_driver_row (rows.Harvest e t z) (driver_parts w)).driver s.hand s.parts s.reported) (sym is)
-      (wait_told (driver_parts w) s.parts s.hand e t s.reported still k.whole.told)) in
+      (wait_is_told (driver_parts w) s.parts s.hand e t s.reported still k.whole.told)) in
       same_reports (driver_next w).driver w.memory puts s.reported left.reported
       (λ i z here sends there.
       told_once (driver_next w).driver s.hand s.parts left.reported s.reported left.feeding.turns.turns left.told told i z here

@@ -11,7 +11,7 @@ use Rattle.law_world.specs.streams.put_laws.Sent.{SentStand}
 use Rattle.law_world.proofs.lemmas.streams.lemmas.put_laws.Lending.{lend_row_sends}
 use Rattle.law_world.specs.streams.put_laws.Owed.{Owes}
 use Rattle.law_world.specs.streams.put_laws.OwedTaken.{EndedAreStopped}
-use Rattle.law_world.proofs.lemmas.streams.lemmas.put_laws.TakenStopped.{spared_stopped}
+use Rattle.law_world.proofs.lemmas.streams.lemmas.put_laws.TakenStopped.{spared_stay_stopped}
 use Rattle.law_world.specs.streams.Feeding.{there_of, IsFeeding}
 use Rattle.law_world.specs.streams.LendFeeds.{LendsTransfer}
 use Rattle.law_world.proofs.lemmas.streams.Lending.{lends, after_lend, whole_lent}
@@ -46,7 +46,7 @@ module _ (fixed : Fixed) (takes : ℕ → ℕ → Bool) (member : ℕ → Bool) 
 
   ended_then : EndedAreStopped (driver_next w).driver g.parts
   ended_then =
-      spared_stopped (driver_next w).driver s.parts g.parts (λ e z here. g.heads (32 * z.queue)) (ended_alike fixed takes member x s puts w k ordinary harvests_none)
+      spared_stay_stopped (driver_next w).driver s.parts g.parts (λ e z here. g.heads (32 * z.queue)) (ended_alike fixed takes member x s puts w k ordinary harvests_none)
 
   owes_then : Owes (driver_next w).driver (driver_next w).memory puts s.reported
   owes_then = owes_same fixed takes member x s puts w k ordinary harvests_none (λ e z here opens met. no_open b z.queue words (sym get.command ∙ opens))

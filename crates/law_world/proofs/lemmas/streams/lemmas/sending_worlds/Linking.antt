@@ -20,7 +20,7 @@ use Rattle.law_world.specs.streams.put_laws.Sent.{SentStand}
 use Rattle.law_world.proofs.lemmas.streams.lemmas.put_laws.OpenLinking.{open_link_sends}
 use Rattle.law_world.specs.streams.put_laws.Owed.{Owes}
 use Rattle.law_world.specs.streams.put_laws.OwedTaken.{EndedAreStopped}
-use Rattle.law_world.proofs.lemmas.streams.lemmas.put_laws.TakenStopped.{spared_stopped}
+use Rattle.law_world.proofs.lemmas.streams.lemmas.put_laws.TakenStopped.{spared_stay_stopped}
 use Rattle.law_world.proofs.lemmas.streams.FeedingLinks.{linked, found, at_open, more}
 use Rattle.law_world.proofs.lemmas.streams.Linking.{spares}
 use Rattle.law_world.proofs.lemmas.streams.Linked.{linked_whole}
@@ -70,7 +70,7 @@ module _ (fixed : Fixed) (takes : ℕ → ℕ → Bool) (member : ℕ → Bool) 
 
   ended_then : EndedAreStopped (driver_next w).driver now
   ended_then =
-      spared_stopped (driver_next w).driver s.parts now (λ i z here. spares p member x.streams x.endpoint s.parts s.order s.out at (32 * z.queue))
+      spared_stay_stopped (driver_next w).driver s.parts now (λ i z here. spares p member x.streams x.endpoint s.parts s.order s.out at (32 * z.queue))
       (each.ended_alike fixed takes member x s puts w k ordinary harvests_none)
 
   -- ---- what is owed

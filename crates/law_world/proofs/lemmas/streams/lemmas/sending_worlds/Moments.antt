@@ -11,16 +11,16 @@ use Rattle.bus_wire.specs.Bus.{fixed_of}
 use Rattle.bus_world.specs.World.{World, driver_next, controller_next, commanded}
 use Rattle.bus_world.specs.Budgets.{moment}
 use Rattle.law_world.specs.steps.Streaming.{Streams}
-use Rattle.law_world.proofs.lemmas.streams.lemmas.taken_reports.Seating.{moment_seated}
+use Rattle.law_world.proofs.lemmas.streams.lemmas.taken_reports.Seating.{moment_is_seated}
 use Rattle.claims_driver.specs.Scripts.{AsynchronousOnly}
 use Rattle.law_world.specs.steps.receiving_runs.Runs.{KindOfLine}
 use Rattle.law_world.specs.steps.Takers.{takes_of}
 use Rattle.law_world.specs.streams.put_laws.TakenPuts.{puts_at}
 use Rattle.law_world.specs.streams.put_laws.TakenLaws.{IsKeptWithPuts, StreamsArePuts}
 use Rattle.law_world.proofs.lemmas.streams.lemmas.put_laws.Along.{holds_with_puts}
-use Rattle.law_world.proofs.lemmas.streams.lemmas.put_laws.Ends.{moment_streams}
-use Rattle.law_world.proofs.lemmas.streams.lemmas.put_laws.Rising.{spelled_rise}
-use Rattle.law_world.proofs.lemmas.streams.lemmas.sending_worlds.Sending.{report_sent, report_right}
+use Rattle.law_world.proofs.lemmas.streams.lemmas.put_laws.Ends.{streams_are_of_puts}
+use Rattle.law_world.proofs.lemmas.streams.lemmas.put_laws.Rising.{texts_rise}
+use Rattle.law_world.proofs.lemmas.streams.lemmas.sending_worlds.Sending.{report_is_sent, report_ends_right}
 use Rattle.law_world.specs.streams.Feeding.{streams_of}
 use Rattle.law_world.proofs.lemmas.streams.Moments.{CanBe, script_can, spelled_asynchronous, opens_still}
 use Rattle.law_world.proofs.lemmas.streams.Running.{texts_right, texts_taken}
@@ -28,9 +28,9 @@ use Rattle.law_world.specs.streams.sending_worlds.Sending.{HasSending}
 use Rattle.law_world.specs.streams.sending_worlds.Moments.{ScriptsStaySending, TextsAreSent, TextsEndRight}
 use Rattle.law_world.specs.streams.sending_worlds.Kept.{TextsKeepStreams}
 use Rattle.law_world.proofs.lemmas.streams.lemmas.sending_worlds.Opening.{new_world_sends}
-use Rattle.law_world.proofs.lemmas.streams.lemmas.sending_worlds.Beside.{controller_sending}
-use Rattle.law_world.proofs.lemmas.streams.lemmas.sending_worlds.Commanding.{command_sending}
-use Rattle.law_world.proofs.lemmas.streams.lemmas.sending_worlds.Driving.{driver_sending}
+use Rattle.law_world.proofs.lemmas.streams.lemmas.sending_worlds.Beside.{controller_keeps_sending}
+use Rattle.law_world.proofs.lemmas.streams.lemmas.sending_worlds.Commanding.{command_keeps_sending}
+use Rattle.law_world.proofs.lemmas.streams.lemmas.sending_worlds.Driving.{driver_keeps_sending}
 use Rattle.law_world.proofs.lemmas.streams.lemmas.sending_worlds.Reporting.{takes_puts, have_takers}
 use Rattle.law_world.specs.streams.Whole.{HasWhole}
 use Rattle.law_world.proofs.lemmas.streams.Fewer.{are_fewer}
@@ -92,27 +92,27 @@ goes_on s w v puts now h keeps n = record {
 
 is_kept : (s : Script) → IsKeptWithPuts (fixed_of s) (CanBeSent (streams_of s).stream (takes_of s)) (Sends s)
 is_kept s = record {
-  driver = λ w puts h. goes_on s w (driver_next w) puts puts h (event_named w) (driver_sending (fixed_of s) h.outs h.member (with_streams s w puts h) h.standing puts w h.sending);
-  controller = λ w puts h. goes_on s w (controller_next (fixed_of s) w) puts puts h (λ way addr ep k. k) (controller_sending (fixed_of s) h.outs h.member (with_streams s w puts h) h.standing puts w h.sending);
+  driver = λ w puts h. goes_on s w (driver_next w) puts puts h (event_named w) (driver_keeps_sending (fixed_of s) h.outs h.member (with_streams s w puts h) h.standing puts w h.sending);
+  controller = λ w puts h. goes_on s w (controller_next (fixed_of s) w) puts puts h (λ way addr ep k. k) (controller_keeps_sending (fixed_of s) h.outs h.member (with_streams s w puts h) h.standing puts w h.sending);
   command = λ w line cmd puts can offered h. goes_on s w (commanded w line cmd) puts (puts_then w.driver cmd puts) h (command_named w line cmd h.sending.whole.feeding.turns can.0.0)
-      (command_sending (fixed_of s) h.outs h.member (with_streams s w puts h) h.standing puts w line cmd can.0.0 (λ o offer. opens_still s w (whole_in s w puts h) cmd o can.0.0 can.0.1 offer) can.0.2 can.0.3 can.1 offered h.sending);
+      (command_keeps_sending (fixed_of s) h.outs h.member (with_streams s w puts h) h.standing puts w line cmd can.0.0 (λ o offer. opens_still s w (whole_in s w puts h) cmd o can.0.0 can.0.1 offer) can.0.2 can.0.3 can.1 offered h.sending);
 }
 
-pub stay_sending : ScriptsStaySending
-stay_sending s is k =
+pub scripts_stay_sending : ScriptsStaySending
+scripts_stay_sending s is k =
     holds_with_puts (CanBeSent (streams_of s).stream (takes_of s)) (Sends s) s is.fits (lines_sent s s.lines (script_can s is) is.bytes.lines) (new_world_sends s is.fits is.bytes) (is_kept s) k
 
 sends_at : (text : List ℕ) (s : Script) → Spells text s → AsynchronousOnly s → (k : ℕ) → Sends s (moment s k).world (puts_at s k)
-sends_at text s spelled only k = stay_sending s (spelled_asynchronous text s spelled only) k
+sends_at text s spelled only k = scripts_stay_sending s (spelled_asynchronous text s spelled only) k
 
 puts_streams : (text : List ℕ) (s : Script) → Spells text s → (k : ℕ) → StreamsArePuts s (moment s k) (puts_at s k)
-puts_streams text s spelled k = moment_streams s (spelled_rise text s spelled) k
+puts_streams text s spelled k = streams_are_of_puts s (texts_rise text s spelled) k
 
 pub texts_sent : TextsAreSent
 texts_sent text s spelled only k =
     let h = sends_at text s spelled only k in
     let w : World = (moment s k).world in
-    report_sent s (moment s k) (puts_at s k) only (moment_seated text s k spelled) (puts_streams text s spelled k) h.sending.whole.feeding.turns.asynchronous
+    report_is_sent s (moment s k) (puts_at s k) only (moment_is_seated text s k spelled) (puts_streams text s spelled k) h.sending.whole.feeding.turns.asynchronous
     (have_takers (fixed_of s) h.outs h.member (with_streams s w (puts_at s k) h) h.standing (puts_at s k) w h.sending)
     (takes_puts (fixed_of s) h.outs h.member (with_streams s w (puts_at s k) h) h.standing (puts_at s k) w h.sending)
 
@@ -120,7 +120,7 @@ pub texts_end_right : TextsEndRight
 texts_end_right text s spelled only k over =
     let h = sends_at text s spelled only k in
     let w : World = (moment s k).world in
-    report_right s (moment s k) (puts_at s k) only (moment_seated text s k spelled) (puts_streams text s spelled k)
+    report_ends_right s (moment s k) (puts_at s k) only (moment_is_seated text s k spelled) (puts_streams text s spelled k)
     (have_takers (fixed_of s) h.outs h.member (with_streams s w (puts_at s k) h) h.standing (puts_at s k) w h.sending)
     (takes_puts (fixed_of s) h.outs h.member (with_streams s w (puts_at s k) h) h.standing (puts_at s k) w h.sending)
     over (texts_right text s spelled only k) (texts_taken text s spelled only k)

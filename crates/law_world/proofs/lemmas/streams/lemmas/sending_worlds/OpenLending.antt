@@ -11,7 +11,7 @@ use Rattle.law_world.specs.streams.put_laws.Sent.{SentStand}
 use Rattle.law_world.proofs.lemmas.streams.lemmas.put_laws.OpenLending.{open_lend_sends}
 use Rattle.law_world.specs.streams.put_laws.Owed.{Owes}
 use Rattle.law_world.specs.streams.put_laws.OwedTaken.{EndedAreStopped}
-use Rattle.law_world.proofs.lemmas.streams.lemmas.put_laws.TakenStopped.{spared_stopped}
+use Rattle.law_world.proofs.lemmas.streams.lemmas.put_laws.TakenStopped.{spared_stay_stopped}
 use Rattle.law_world.proofs.lemmas.streams.OpenLending.{driver_is, spares_head, open_lent}
 use Rattle.law_world.specs.streams.sending_worlds.Sending.{IsSending}
 use Rattle.law_world.specs.streams.sending_worlds.WorldLaws.{OpenLendKeepsSending}
@@ -36,7 +36,7 @@ module _ (fixed : Fixed) (takes : ℕ → ℕ → Bool) (member : ℕ → Bool) 
 
   ended_then : EndedAreStopped (driver_next w).driver now
   ended_then =
-      spared_stopped (driver_next w).driver s.parts now
+      spared_stay_stopped (driver_next w).driver s.parts now
       (λ e z here. spares_head (driver_parts w) ready (owners fixed takes member x s puts w k) s.parts k.whole.feeding.working.driven (32 * z.queue))
       (ended_alike fixed takes member x s puts w k ordinary harvests_none)
 

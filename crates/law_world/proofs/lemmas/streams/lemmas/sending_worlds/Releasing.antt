@@ -17,7 +17,7 @@ use Rattle.law_world.specs.streams.put_laws.Sent.{SentStand}
 use Rattle.law_world.proofs.lemmas.streams.lemmas.put_laws.SentAlike.{release_sends}
 use Rattle.law_world.specs.streams.put_laws.Owed.{Owes}
 use Rattle.law_world.specs.streams.put_laws.OwedTaken.{TakenBegin, EndedAreStopped}
-use Rattle.law_world.proofs.lemmas.streams.lemmas.put_laws.TakenStopped.{spared_stopped}
+use Rattle.law_world.proofs.lemmas.streams.lemmas.put_laws.TakenStopped.{spared_stay_stopped}
 use Rattle.law_world.proofs.lemmas.streams.Returning.{due, transfer, returning}
 use Rattle.law_world.proofs.lemmas.streams.Releasing.{n, goes, standing, g, whole_released}
 use Rattle.law_world.specs.streams.sending_worlds.Sending.{IsSending, HasSending, HaveLeftTakers}
@@ -68,7 +68,7 @@ module _ (fixed : Fixed) (takes : ℕ → ℕ → Bool) (member : ℕ → Bool) 
   -- no queue head goes
   ended_then : EndedAreStopped next.driver after.parts
   ended_then =
-      spared_stopped next.driver s.parts after.parts (λ e z here. spares_head s.parts q gone (g fixed takes member x s w t row k.whole).head (32 * z.queue))
+      spared_stay_stopped next.driver s.parts after.parts (λ e z here. spares_head s.parts q gone (g fixed takes member x s w t row k.whole).head (32 * z.queue))
       (at_row (λ (v : Parts). EndedAreStopped v.driver s.parts) (ended_alike fixed takes member x s puts w k ordinary harvests_none))
 
   owes_then : Owes next.driver next.memory puts s.reported

@@ -19,7 +19,7 @@ use Rattle.std.proofs.lemmas.Bool.{true≢false}
 use Rattle.drv_table.specs.declared.content.Endpoint.{Endpoint}
 use Rattle.law_driver.specs.endpoint_lives.Lives.{may_meet}
 use Rattle.claims_driver.specs.Scripts.{receives}
-use Rattle.law_queues.proofs.lemmas.leaving_drivers.Unmet.{gone_unmet}
+use Rattle.law_queues.proofs.lemmas.leaving_drivers.Unmet.{gone_are_unmet}
 use Rattle.law_world.proofs.lemmas.streams.lemmas.put_laws.Same.{life_or}
 
 none_begins : (taken bytes : List ℕ) → taken ≡ [] → IsPrefix taken bytes
@@ -42,7 +42,7 @@ module _ (fixed : Fixed) (takes : ℕ → ℕ → Bool) (member : ℕ → Bool) 
       k.whole.taking.untaken z.desc.name.addr z.desc.name.num (k.whole.takers e z here opens.0 opens.1 sends) (unopened fixed takes member x s puts w k e z here opens.0 sends) in
       record { taker = u.taker; is = u.is })
       (λ (life : (z.gone ≡ true) ⊎ IsThere w.driver z).
-      ⊎_elim (λ (gone : z.gone ≡ true). absurd (true≢false (sym near ∙ gone_unmet w.driver e z k.whole.feeding.working.place.sound.owners here gone)))
+      ⊎_elim (λ (gone : z.gone ≡ true). absurd (true≢false (sym near ∙ gone_are_unmet w.driver e z k.whole.feeding.working.place.sound.owners here gone)))
       (λ (there : IsThere w.driver z).
       let meets : IsMet w.driver e z = record { there = there; near = near } in
       let has = outs_stand fixed member x s w k.whole.feeding e z here meets sends in

@@ -32,7 +32,7 @@ use Rattle.law_world.specs.streams.Asynchronous.{AreRightInStreams, AreTakenStre
 use Rattle.law_world.proofs.lemmas.streams.lemmas.right_reports.Named.{HasNamed}
 use Rattle.law_world.proofs.lemmas.streams.lemmas.right_reports.Right.{all_mapped}
 use Rattle.law_world.specs.streams.taken_reports.Seats.{HasSeat, OpensItsSeat, OpensSeats, IsSeatedBus}
-use Rattle.law_world.proofs.lemmas.streams.lemmas.taken_reports.Closing.{closing_tells}
+use Rattle.law_world.proofs.lemmas.streams.lemmas.taken_reports.Closing.{closing_tells_taker}
 use Rattle.law_world.proofs.lemmas.streams.Told.{data_way, stream_out, out_way, control_stream}
 use Rattle.law_world.specs.streams.put_laws.TakenPuts.{puts_of, IsOpen}
 use Rattle.law_world.specs.streams.put_laws.TakenLaws.{StreamsArePuts}
@@ -132,7 +132,7 @@ module _ (s : Script) (p : OrderedWorld) (puts : ℕ → List ℕ) (seated : IsS
 
     closes : taken r x.name ≡ Some its.taker.taken
     closes =
-        closing_tells (fixed_of s) p.world x its.taker way (stream_out x only (ap receives way)) has seated.apart (named_opened p.world.driver x.name k)
+        closing_tells_taker (fixed_of s) p.world x its.taker way (stream_out x only (ap receives way)) has seated.apart (named_opened p.world.driver x.name k)
         (subst (λ (n : EpName). taker_of (wired (fixed_of s) p.world) n.addr n.num ≡ Some its.taker) k.same its.is)
 
     begins : IsPrefix its.taker.taken (stream s r x.name)
@@ -190,8 +190,8 @@ module _ (s : Script) (p : OrderedWorld) (puts : ℕ → List ℕ) (seated : IsS
 
 -- ---- the laws
 
-pub report_sent : ReportIsSent
-report_sent s p puts each seated are only takers takes = all_sent s p puts seated are takers takes each only
+pub report_is_sent : ReportIsSent
+report_is_sent s p puts each seated are only takers takes = all_sent s p puts seated are takers takes each only
 
-pub report_right : ReportEndsRight
-report_right s p puts each seated are takers takes none ins outs = all_right s p puts seated are takers takes each none ins outs
+pub report_ends_right : ReportEndsRight
+report_ends_right s p puts each seated are takers takes none ins outs = all_right s p puts seated are takers takes each none ins outs

@@ -20,11 +20,11 @@ use Rattle.law_driver.specs.run_owners.Accepts.{Cancels}
 use Rattle.law_devices.specs.scripted_takers.Takers.{taker_of}
 use Rattle.law_driver_ring.specs.Driven.{is_quiet}
 use Rattle.law_driver.specs.chained_transfers.AsynchronousTurns.{AsynchronousTakesTurns}
-use Rattle.law_driver.proofs.lemmas.chained_transfers.Accepting.{command_accepts}
+use Rattle.law_driver.proofs.lemmas.chained_transfers.Accepting.{asynchronous_command_is_accepted}
 use Rattle.law_driver_ring.specs.fed_queues.Places.{IsThere}
 use Rattle.law_queues.specs.leaving_drivers.Before.{IsAsBefore, NearFewer}
 use Rattle.law_queues.proofs.lemmas.leaving_drivers.Alike.{near_fewer}
-use Rattle.law_queues.proofs.lemmas.leaving_drivers.Leaving.{cancel_as_before, clear_as_before}
+use Rattle.law_queues.proofs.lemmas.leaving_drivers.Leaving.{cancel_is_as_before, clear_is_as_before}
 use Rattle.law_queues.proofs.lemmas.leaving_drivers.Clearing.{clear_finds}
 use Rattle.law_world.specs.streams.put_laws.HeldPuts.{HoldsPuts}
 use Rattle.law_world.proofs.lemmas.streams.lemmas.put_laws.HeldAlike.{same_holds}
@@ -35,7 +35,7 @@ use Rattle.law_world.proofs.lemmas.streams.lemmas.put_laws.Same.{alike_owes}
 use Rattle.law_world.specs.streams.put_laws.OwedTaken.{TakenBegin, EndedAreStopped}
 use Rattle.law_world.specs.streams.put_laws.TakenPuts.{puts_from}
 use Rattle.law_world.proofs.lemmas.streams.lemmas.put_laws.Rests.{prefix_to}
-use Rattle.law_world.proofs.lemmas.streams.lemmas.left_puts.Leaving.{leave_holds, leave_owes, leave_sends, leave_stops, leave_taken}
+use Rattle.law_world.proofs.lemmas.streams.lemmas.left_puts.Leaving.{leave_holds_puts, leave_owes, leave_sends, leave_stops, a_leave_keeps_what_was_taken}
 use Rattle.bus_world.specs.World.{World, driver_parts, with_parts, refused_line, commanded_by}
 use Rattle.law_world.specs.steps.Streaming.{Standing, wired}
 use Rattle.law_world.specs.streams.FeedingLaws.{is_still}
@@ -46,13 +46,13 @@ use Rattle.law_world.specs.streams.sending_worlds.LeavingSent.{IsSent, CancelKee
 step_keeps : (fixed : Fixed) (s : Standing) (puts : ℕ → List ℕ) (w v : World) → AsynchronousTakesTurns w.driver → IsAsBefore w.driver v.driver → NearFewer w.driver v.driver
     → ((at : ℕ) → word_at v.memory at ≡ word_at w.memory at) → v.bus ≡ w.bus → IsSent fixed puts s w → IsSent fixed puts s v
 step_keeps fixed s puts w v turns b near same bus k =
-    let held = leave_holds w.driver v.driver w.memory v.memory puts b same k.held in
+    let held = leave_holds_puts w.driver v.driver w.memory v.memory puts b same k.held in
     record {
       sent = leave_sends w.driver v.driver s.hand s.parts s.order s.out b near k.sent;
       ended = leave_stops w.driver v.driver s.parts b k.ended;
       held = held;
       owes = leave_owes w.driver v.driver w.memory v.memory puts s.reported turns b k.held held k.owes;
-      begin = leave_taken taker_of w.driver v.driver puts (wired fixed v) b
+      begin = a_leave_keeps_what_was_taken taker_of w.driver v.driver puts (wired fixed v) b
           (subst (λ u. TakenBegin taker_of w.driver puts (record { fixed = fixed; bus = u })) (sym bus) k.begin);
     }
 
@@ -98,8 +98,9 @@ refusal_keeps fixed s puts w line name why turns k =
 cancel_by : (fixed : Fixed) (s : Standing) (puts : ℕ → List ℕ) (w : World) (line : ℕ) (name : EpName) (r : Result Offered OfferError) → AsynchronousTakesTurns w.driver
     → offered w.driver w.memory (commands.Cancel name) ≡ r → IsSent fixed puts s w → IsSent fixed puts s (commanded_by w line name r)
 cancel_by fixed s puts w line name (Ok o) turns is k =
-    let why : Cancels w.driver w.memory o = command_accepts w.driver w.memory (commands.Cancel name) o turns.asynchronous tt is in
-    let b = cancel_as_before w.driver w.memory o turns why in
+    let why : Cancels w.driver w.memory o =
+    asynchronous_command_is_accepted w.driver w.memory (commands.Cancel name) o turns.asynchronous tt is in
+    let b = cancel_is_as_before w.driver w.memory o turns why in
     step_keeps fixed s puts w (commanded_by w line name (Ok o)) turns b.0 (near_fewer w.driver o.driver b.1) (λ at. ap (λ (g : Offered). word_at g.memory at) why.is) refl k
 cancel_by fixed s puts w line name (Err why) turns is k = refusal_keeps fixed s puts w line name why turns k
 
@@ -141,6 +142,6 @@ still_keeps_sent fixed member x s puts w still f k =
 pub clear_keeps_sent : ClearKeepsSent
 clear_keeps_sent fixed member x s puts w is f k =
     let p = driver_parts w in
-    let b = clear_as_before p (clear_finds p is).idle in
+    let b = clear_is_as_before p (clear_finds p is).idle in
     subst (λ (row : DriverRow). IsSent fixed puts s (with_parts w (after_driver_row row p))) (sym is)
     (step_keeps fixed s puts w (with_parts w (after_driver_row rows.ClearAdvance p)) f.turns b.0 b.1 (λ at. refl) refl k)

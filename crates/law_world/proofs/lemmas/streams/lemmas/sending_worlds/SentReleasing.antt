@@ -8,14 +8,14 @@ use Rattle.drv_table.specs.Parts.{Parts}
 use Rattle.drv_table.specs.Rows.{driver_row, after_driver_row}
 use Rattle.law_driver.specs.run_owners.Due.{IsDue, IsEndpointDue}
 use Rattle.claims_driver.specs.Owners.{views_of}
-use Rattle.law_driver.proofs.lemmas.run_owners.Reasons.{each_is_due}
+use Rattle.law_driver.proofs.lemmas.run_owners.Reasons.{each_event_is_due}
 use Rattle.law_devices.specs.scripted_takers.Takers.{taker_of}
 use Rattle.claims_base.specs.Controller.{opening_base}
 use Rattle.law_driver_ring.specs.Extents.{AreInRuns}
 use Rattle.law_world.specs.steps.endpoint_releases.Released.{IsToLeave, endpoint_row}
 use Rattle.law_world.proofs.lemmas.steps.lemmas.left_queues.Unmet.{cleared_unmet}
 use Rattle.law_world.specs.streams.put_laws.HeldPuts.{HoldsPuts}
-use Rattle.law_world.proofs.lemmas.streams.lemmas.left_puts.Released.{release_holds, release_owes, release_sends, release_stops, release_taken}
+use Rattle.law_world.proofs.lemmas.streams.lemmas.left_puts.Released.{endpoint_release_holds_puts, endpoint_release_owes, endpoint_release_sends, endpoint_release_stops, a_release_keeps_what_was_taken}
 use Rattle.bus_world.specs.World.{World, driver_parts, with_parts}
 use Rattle.law_world.specs.steps.Streaming.{Streams, Standing, wired}
 use Rattle.law_world.specs.streams.Feeding.{IsFeeding}
@@ -27,7 +27,7 @@ module _ (fixed : Fixed) (member : ℕ → Bool) (x : Streams) (s : Standing) (p
   p = driver_parts w
 
   due : IsEndpointDue (driver_parts w) e
-  due = subst (IsDue (driver_parts w)) row (each_is_due (driver_parts w))
+  due = subst (IsDue (driver_parts w)) row (each_event_is_due (driver_parts w))
 
   -- the walk doesn't meet its queue head any more
   unmet : member (32 * z.queue) ≡ false
@@ -36,18 +36,19 @@ module _ (fixed : Fixed) (member : ℕ → Bool) (x : Streams) (s : Standing) (p
   held_then : HoldsPuts (after_driver_row (endpoint_row e) (driver_parts w)).driver (after_driver_row (endpoint_row e) (driver_parts w)).memory puts
   held_then =
       let g = f.working in
-      release_holds opening_base member s.parts s.hand w.control.walk p e z puts (record { ring = g.streaming.controlled.ring; driven = g.driven }) g.place.sound.owners g.place.sound.stands lies f.turns
+      endpoint_release_holds_puts opening_base member s.parts s.hand w.control.walk p e z puts (record { ring = g.streaming.controlled.ring; driven = g.driven }) g.place.sound.owners g.place.sound.stands lies f.turns
       f.queues.fed due.idle leaves unmet k.held
 
   pub sent_then : IsSent fixed puts (released s z) (with_parts w (after_driver_row (endpoint_row e) (driver_parts w)))
   sent_then =
       let owners = f.working.place.sound.owners in
       record {
-        sent = release_sends p e z s.hand s.parts s.order s.out owners f.turns leaves k.sent;
-        ended = release_stops p e z s.parts owners f.turns leaves k.ended;
+        sent = endpoint_release_sends p e z s.hand s.parts s.order s.out owners f.turns leaves k.sent;
+        ended = endpoint_release_stops p e z s.parts owners f.turns leaves k.ended;
         held = held_then;
-        owes = release_owes p e z puts s.reported s.reported f.turns leaves (λ i y differs here kept sends. refl) k.held held_then k.owes;
-        begin = release_taken taker_of p e z puts (wired fixed w) due.idle leaves k.begin;
+        owes = endpoint_release_owes p e z puts s.reported s.reported f.turns leaves (λ i y differs here kept sends. refl) k.held held_then
+            k.owes;
+        begin = a_release_keeps_what_was_taken taker_of p e z puts (wired fixed w) due.idle leaves k.begin;
       }
 
 pub endpoint_release_keeps_sent : EndpointReleaseKeepsSent

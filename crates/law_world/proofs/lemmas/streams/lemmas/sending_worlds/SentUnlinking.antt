@@ -11,12 +11,12 @@ use Rattle.law_devices.specs.scripted_takers.Takers.{taker_of}
 use Rattle.claims_base.specs.Controller.{opening_base}
 use Rattle.law_queues.specs.publish_laws.Stores.{next_of}
 use Rattle.law_queues.specs.leaving_drivers.Before.{IsAsBefore, NearSame}
-use Rattle.law_queues.proofs.lemmas.leaving_drivers.Leaving.{unlink_as_before}
+use Rattle.law_queues.proofs.lemmas.leaving_drivers.Leaving.{unlink_is_as_before}
 use Rattle.law_world.specs.steps.unlinked_streams.Unlinks.{IsAtUnlink, IsUnlinked}
-use Rattle.law_world.proofs.lemmas.steps.lemmas.unlinked_streams.Passing.{unlink_row_is}
+use Rattle.law_world.proofs.lemmas.steps.lemmas.unlinked_streams.Passing.{unlink_row}
 use Rattle.law_world.specs.streams.put_laws.HeldPuts.{HoldsPuts}
-use Rattle.law_world.proofs.lemmas.streams.lemmas.put_laws.Rows.{driver_holds}
-use Rattle.law_world.proofs.lemmas.streams.lemmas.left_puts.Leaving.{leave_owes, leave_taken}
+use Rattle.law_world.proofs.lemmas.streams.lemmas.put_laws.Rows.{driver_holds_puts}
+use Rattle.law_world.proofs.lemmas.streams.lemmas.left_puts.Leaving.{leave_owes, a_leave_keeps_what_was_taken}
 use Rattle.law_world.proofs.lemmas.streams.lemmas.left_puts.Unlinked.{unlink_sends, unlink_stops}
 use Rattle.bus_world.specs.World.{World, driver_parts}
 use Rattle.law_world.specs.steps.Streaming.{Streams, Standing, wired}
@@ -37,17 +37,17 @@ module _ (fixed : Fixed) (member : ℕ → Bool) (x : Streams) (s : Standing) (p
   p = driver_parts w
 
   unlinks : IsUnlinked (driver_parts w) k.number k.endpoint k.before k.after
-  unlinks = unlink_row_is (driver_parts w) member s.parts k
+  unlinks = unlink_row (driver_parts w) member s.parts k
 
   as_before : IsAsBefore w.driver (next_of (driver_parts w)).driver × NearSame w.driver (next_of (driver_parts w)).driver
   as_before =
       subst (λ (row : DriverRow). IsAsBefore w.driver (after_driver_row row p).driver × NearSame w.driver (after_driver_row row p).driver) (sym unlinks.row)
-      (unlink_as_before p k.number k.before (queue_head_link k.after) k.before (32 * k.before) (queue_head_link k.after) k.command)
+      (unlink_is_as_before p k.number k.before (queue_head_link k.after) k.before (32 * k.before) (queue_head_link k.after) k.command)
 
   pub held_then : HoldsPuts (next_of (driver_parts w)).driver (next_of (driver_parts w)).memory puts
   held_then =
       let g = f.working in
-      driver_holds opening_base member s.parts s.hand w.control.walk p s.order s.out puts g.place.sound.owners f.turns (record { ring = g.streaming.controlled.ring; driven = g.driven }) f.queues.fed
+      driver_holds_puts opening_base member s.parts s.hand w.control.walk p s.order s.out puts g.place.sound.owners f.turns (record { ring = g.streaming.controlled.ring; driven = g.driven }) f.queues.fed
       (λ t row. absurd (store_is_no_transfer k.before (32 * k.before) (queue_head_link k.after) t (sym unlinks.row ∙ row)))
       (λ t y z row there here. absurd (store_is_no_transfer k.before (32 * k.before) (queue_head_link k.after) t (sym unlinks.row ∙ row))) (λ e b link is. k)
       (λ m row. absurd (store_is_no_mend k.before (32 * k.before) (queue_head_link k.after) m (sym unlinks.row ∙ row)))
@@ -63,5 +63,5 @@ unlink_keeps_sent fixed member x s puts w k f old =
       ended = unlink_stops p member s.parts k old.ended;
       held = held;
       owes = leave_owes w.driver (next_of p).driver w.memory (next_of p).memory puts s.reported f.turns b.0 old.held held old.owes;
-      begin = leave_taken taker_of w.driver (next_of p).driver puts (wired fixed w) b.0 old.begin;
+      begin = a_leave_keeps_what_was_taken taker_of w.driver (next_of p).driver puts (wired fixed w) b.0 old.begin;
     }

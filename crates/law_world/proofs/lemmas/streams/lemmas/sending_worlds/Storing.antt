@@ -15,7 +15,7 @@ use Rattle.law_world.specs.streams.put_laws.Sent.{SentStand}
 use Rattle.law_world.proofs.lemmas.streams.lemmas.put_laws.Storing.{store_sends}
 use Rattle.law_world.specs.streams.put_laws.Owed.{Owes}
 use Rattle.law_world.specs.streams.put_laws.OwedTaken.{EndedAreStopped}
-use Rattle.law_world.proofs.lemmas.streams.lemmas.put_laws.TakenStopped.{spared_stopped}
+use Rattle.law_world.proofs.lemmas.streams.lemmas.put_laws.TakenStopped.{spared_stay_stopped}
 use Rattle.law_world.specs.streams.Feeding.{there_of, IsFeeding}
 use Rattle.law_world.proofs.lemmas.streams.FeedingStores.{at, after_store}
 use Rattle.law_world.proofs.lemmas.streams.Storing.{met_now}
@@ -67,7 +67,7 @@ module _ (fixed : Fixed) (takes : ℕ → ℕ → Bool) (member : ℕ → Bool) 
   -- the store of a qTD leaves queue heads
   ended_then : EndedAreStopped (driver_next w).driver (parts_then g)
   ended_then =
-      spared_stopped (driver_next w).driver s.parts (parts_then g)
+      spared_stay_stopped (driver_next w).driver s.parts (parts_then g)
       (λ e z there. spares_head s.parts n (32 * b) (partly g.qtd (w.driver.made - 1)) (partly g.qtd w.driver.made) g.stored (32 * z.queue))
       (ended_alike fixed takes member x s puts w k ordinary harvests_none)
 

@@ -11,7 +11,7 @@ use Rattle.law_ring.specs.OutBus.{Taker}
 use Rattle.law_devices.specs.scripted_takers.Takers.{taker_of}
 use Rattle.law_controller.specs.controlled_streams.Reported.{IsReported}
 use Rattle.law_controller.specs.controlled_streams.Outs.{Begins}
-use Rattle.law_controller.proofs.lemmas.controlled_streams.Outs.{out_begins}
+use Rattle.law_controller.proofs.lemmas.controlled_streams.Outs.{known_begins_taken}
 use Rattle.drv_table.specs.declared.content.Endpoint.{Endpoint}
 use Rattle.drv_table.specs.declared.content.Command.{Command}
 use Rattle.drv_table.specs.declared.content.Command.TheVariants as unfinished
@@ -25,7 +25,7 @@ use Rattle.law_driver_ring.specs.fed_queues.Places.{IsThere, IsMet}
 use Rattle.claims_world.specs.Streams.{IsToldTaken}
 use Rattle.law_world.specs.streams.taken_reports.Laws.{bytes_taken, TakesEach}
 use Rattle.law_world.specs.streams.taken_reports.Worlds.{WorldIsTaken}
-use Rattle.law_world.proofs.lemmas.streams.lemmas.taken_reports.Telling.{out_stream, no_bytes, first_none, first_begins, report_taken}
+use Rattle.law_world.proofs.lemmas.streams.lemmas.taken_reports.Telling.{out_stream, no_bytes, first_none, first_begins, report_is_taken}
 
 -- ---- an endpoint is met, or is being opened
 
@@ -80,9 +80,9 @@ all_begins (Some t) acc order out hand parts n harvested all r = first_begins ha
 
 -- ---- the world
 
-pub world_taken : WorldIsTaken
-world_taken script fixed takes member outs heads ends order out reported acc parts hand w seated asynchronous piped right heads_hold have there_hold closed told =
-    report_taken script fixed w told.held told.told seated asynchronous told.tells begins
+pub world_is_taken : WorldIsTaken
+world_is_taken script fixed takes member outs heads ends order out reported acc parts hand w seated asynchronous piped right heads_hold have there_hold closed told =
+    report_is_taken script fixed w told.held told.told seated asynchronous told.tells begins
   where
     begun : (e : ℕ) (x : Endpoint) (xs : List ℕ) → told.told e ≡ xs → IsToldTaken xs (bytes_taken (taker_of (wired fixed w) x.desc.name.addr x.desc.name.num))
         → IsToldTaken (told.told e) (bytes_taken (taker_of (wired fixed w) x.desc.name.addr x.desc.name.num))
@@ -94,7 +94,7 @@ world_taken script fixed takes member outs heads ends order out reported acc par
         let has = have e x here meets sends in
         let n : ℕ = 32 * x.queue in
         let pipe = piped.pipes n has.0 in
-        let b : Begins (taker_of (wired fixed w) (ends n).addr (ends n).ep) (concat (acc n)) = out_begins (taker_of (wired fixed w) (ends n).addr (ends n).ep) (concat (acc n)) parts hand n (ends n) pipe in
+        let b : Begins (taker_of (wired fixed w) (ends n).addr (ends n).ep) (concat (acc n)) = known_begins_taken (taker_of (wired fixed w) (ends n).addr (ends n).ep) (concat (acc n)) parts hand n (ends n) pipe in
         begun e x (reported n) (told.met e x here meets.there)
         (subst (λ (t : Told). IsToldTaken (reported n) (bytes_taken (taker_of (wired fixed w) t.addr t.ep))) has.1
         (harvested_begins (taker_of (wired fixed w) (ends n).addr (ends n).ep) (acc n) (order n) (out n) hand parts n (reported n) b (right n (heads_hold n has.0))))

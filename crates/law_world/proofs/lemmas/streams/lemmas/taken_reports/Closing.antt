@@ -146,8 +146,8 @@ module _ (w : World) (name : EpName) (way : name.way ≡ Ways.Out) (on : opened 
 
 -- ---- the law
 
-pub closing_tells : ClosingTellsTaker
-closing_tells fixed w x t way streams k apart on is =
+pub closing_tells_taker : ClosingTellsTaker
+closing_tells_taker fixed w x t way streams k apart on is =
     let h : HasTaker (wired fixed w) x.name.addr x.name.num t = taker_found (wired fixed w) x.name.addr x.name.num t is in
     let it : slice_get w.bus.devices h.device_place ≡ Some h.at.device = h.at.is in
     first_at w x.name way on h.at.device (device_found w.bus.devices h.device_place x.name.addr h.at.device apart it h.at.address) t.taken

@@ -33,10 +33,10 @@ use Rattle.law_devices.proofs.Lists.{Holds, all_more, all_find, filter_skips, fi
 use Rattle.law_devices.proofs.Drafts.{IsEpOf, HasOwn, IsKnownDesc, IsKnownLine, IsDeclaredDraft}
 use Rattle.law_devices.proofs.Texts.{spelled_kept}
 use Rattle.law_devices.proofs.Senders.{IsDeclaredAt, empty_declared, second_declared, line_declares}
-use Rattle.law_devices.proofs.Owning.{spelled_owns}
+use Rattle.law_devices.proofs.Owning.{devices_have_addresses_of_their_own}
 use Rattle.law_world.specs.streams.taken_reports.Seats.{HasSeat, OpensItsSeat, OpensSeats, AreApart}
 use Rattle.law_world.specs.streams.taken_reports.Turns.{TextIsSeated, MomentIsSeated}
-use Rattle.law_world.proofs.lemmas.streams.lemmas.taken_reports.Turning.{run_seated}
+use Rattle.law_world.proofs.lemmas.streams.lemmas.taken_reports.Turning.{run_keeps_seats}
 
 -- ---- where an endpoint was declared
 
@@ -221,8 +221,8 @@ opening_apart s own i j d e here there same =
     let y : WasOpened s.devices j e = was_opened s.devices j e there in
     own.apart i j x.text y.text x.here y.here (ap (λ (z : Device). z.address) x.same ∙ same ∙ sym (ap (λ (z : Device). z.address) y.same))
 
-pub text_seated : TextIsSeated
-text_seated text s e = record { seats = spelled_seats text s e; apart = opening_apart s (spelled_owns text s e) }
+pub text_is_seated : TextIsSeated
+text_is_seated text s e = record { seats = spelled_seats text s e; apart = opening_apart s (devices_have_addresses_of_their_own text s e) }
 
-pub moment_seated : MomentIsSeated
-moment_seated text s k e = run_seated s (fixed_of s) (at_place (opening_world s) (orders_of s.lines)) k (text_seated text s e)
+pub moment_is_seated : MomentIsSeated
+moment_is_seated text s k e = run_keeps_seats s (fixed_of s) (at_place (opening_world s) (orders_of s.lines)) k (text_is_seated text s e)

@@ -42,7 +42,7 @@ use Rattle.law_world.proofs.lemmas.streams.lemmas.right_reports.Named.{HasNamed,
 use Rattle.law_world.proofs.lemmas.streams.lemmas.right_reports.Right.{all_mapped}
 use Rattle.law_world.specs.streams.taken_reports.Seats.{HasSeat, OpensItsSeat, OpensSeats, IsSeatedBus}
 use Rattle.law_world.specs.streams.taken_reports.Laws.{bytes_taken, TakesEach}
-use Rattle.law_world.proofs.lemmas.streams.lemmas.taken_reports.Closing.{closing_tells}
+use Rattle.law_world.proofs.lemmas.streams.lemmas.taken_reports.Closing.{closing_tells_taker}
 
 -- ---- lists
 
@@ -193,7 +193,8 @@ module _ (fixed : Fixed) (w : World) (held told_each : ℕ → List ℕ) (tells 
     bytes_by k None none nothing =
         subst (λ (xs : List ℕ). IsToldTaken xs (taken r x.name)) (sym (first_none (told r x.name) (held k.number) (sum x.name sends k ∙ nothing))) (no_bytes (taken r x.name))
     bytes_by k (Some t) is begins =
-        subst (IsToldTaken (told r x.name)) (sym (closing_tells fixed w x t way stream has seated.apart (is_opened x.name sends k) is))
+        subst (IsToldTaken (told r x.name)) (sym (closing_tells_taker fixed w x t way stream has seated.apart (is_opened x.name sends k)
+        is))
         (first_begins (told r x.name) (held k.number) (told_each k.number) t.taken (sum x.name sends k) begins)
 
     named_taken : (k : HasNamed w.driver.endpoints x.name) → IsToldTaken (told_each k.number) (bytes_taken (taker_of (wired fixed w) x.name.addr x.name.num))
@@ -206,6 +207,6 @@ module _ (fixed : Fixed) (w : World) (held told_each : ℕ → List ℕ) (tells 
         ⊎_elim (λ (k : HasNamed w.driver.endpoints x.name). is_told x.name sends k (bytes_by k (taker_of (wired fixed w) x.name.addr x.name.num) refl (named_taken k)))
         (λ (none : NoneNamed w.driver.endpoints x.name). nothing_told x.name (tells.only x.name none)) (search w.driver.endpoints x.name)
 
-pub report_taken : (s : Script) (fixed : Fixed) (w : World) (held told : ℕ → List ℕ) → IsSeatedBus s fixed w.bus → OnlyAsynchronous w.driver → TellsEach w.driver.reports w.driver.store (named_in w.driver.endpoints) held told → TakesEach fixed w told
+pub report_is_taken : (s : Script) (fixed : Fixed) (w : World) (held told : ℕ → List ℕ) → IsSeatedBus s fixed w.bus → OnlyAsynchronous w.driver → TellsEach w.driver.reports w.driver.store (named_in w.driver.endpoints) held told → TakesEach fixed w told
     → AreTakenStreams s (report_of fixed w)
-report_taken s fixed w held told seated asynchronous tells takes = all_taken s fixed.seats (report_of fixed w) seated.seats (λ x stream has way. one_taken fixed w held told tells asynchronous s seated takes x stream has way)
+report_is_taken s fixed w held told seated asynchronous tells takes = all_taken s fixed.seats (report_of fixed w) seated.seats (λ x stream has way. one_taken fixed w held told tells asynchronous s seated takes x stream has way)

@@ -63,8 +63,8 @@ at_same : (fixed : Fixed) (b : Bus) (ask : Ask) (out : List ℕ) (e : Option Ask
 at_same fixed b ask out None = refl
 at_same fixed b ask out (Some e) = by_same (bus_row fixed b e ask out) e.who ask out b
 
-pub transaction_same : TransactionKeepsAddresses
-transaction_same fixed b ask out = at_same fixed b ask out (asked_of fixed b ask)
+pub transaction_keeps_addresses : TransactionKeepsAddresses
+transaction_keeps_addresses fixed b ask out = at_same fixed b ask out (asked_of fixed b ask)
 
 -- ---- the beginning of a microframe
 
@@ -93,8 +93,8 @@ begun_same frindex [] = refl
 begun_same frindex (d ∷ ds) =
     ap (λ (a : ℕ). a ∷ addresses (map (begun_at frindex) ds)) (begun_by frindex d (begins_anew d.speed frindex) refl) ∙ ap (λ (more : List ℕ). d.address ∷ more) (begun_same frindex ds)
 
-pub microframe_same : MicroframeKeepsAddresses
-microframe_same fixed frindex b = begun_same frindex (floor_worked fixed b.hubs (floor_of b)).devices ∙ worked_same fixed b.hubs (floor_of b)
+pub microframe_keeps_addresses : MicroframeKeepsAddresses
+microframe_keeps_addresses fixed frindex b = begun_same frindex (floor_worked fixed b.hubs (floor_of b)).devices ∙ worked_same fixed b.hubs (floor_of b)
 
 -- ---- devices with the same addresses
 
@@ -122,7 +122,7 @@ apart_same devices now same apart i j d e here there alike =
 -- ---- an event of a world
 
 sent_same : (fixed : Fixed) (all : Bool) (t : Transaction) (x : Held) (bytes : List ℕ) (p : WalkPlace) (b : Bus) → addresses (sent_by fixed all t x bytes p b).bus.devices ≡ addresses b.devices
-sent_same fixed true t x bytes p b = transaction_same fixed b (call_in t bytes false).ask (call_in t bytes false).out
+sent_same fixed true t x bytes p b = transaction_keeps_addresses fixed b (call_in t bytes false).ask (call_in t bytes false).out
 sent_same fixed false t x bytes p b = refl
 
 sends_same : (fixed : Fixed) (t : Transaction) (p : WalkPlace) (held : Option Held) (b : Bus) → addresses (sends_by fixed t p held b).bus.devices ≡ addresses b.devices
@@ -136,10 +136,10 @@ walk_same fixed _ p b = refl
 
 frame_same : (fixed : Fixed) (e : Effect) (b : Bus) → addresses (frame_by fixed e b).bus.devices ≡ addresses b.devices
 frame_same fixed (Leaves p) b = refl
-frame_same fixed (Asks ask out left_by) b = transaction_same fixed b ask out
+frame_same fixed (Asks ask out left_by) b = transaction_keeps_addresses fixed b ask out
 
 turned_same : (fixed : Fixed) (row : ControllerRow) (c : Content) (b : Bus) → addresses (turned_by fixed row c b).bus.devices ≡ addresses b.devices
-turned_same fixed rows.Begin c b = microframe_same fixed (next_index c.registers.frame_index) b
+turned_same fixed rows.Begin c b = microframe_keeps_addresses fixed (next_index c.registers.frame_index) b
 turned_same fixed rows.Frame c b = frame_same fixed (effect_of (frame_place c)) b
 turned_same fixed rows.Enter c b = walk_same fixed (event_row (walk_place (entered c))) (at_event (walk_place (entered c))) b
 turned_same fixed rows.Go c b = walk_same fixed (event_row (walk_place c)) (at_event (walk_place c)) b
@@ -152,9 +152,9 @@ seated_same : (s : Script) (fixed : Fixed) (b now : Bus) → addresses now.devic
 seated_same s fixed b now same k = record { seats = k.seats; apart = apart_same b.devices now.devices same k.apart }
 
 -- the driver never touches the bus
-pub next_seated : EventKeepsSeats
-next_seated s fixed w events.D k = k
-next_seated s fixed w events.C k = seated_same s fixed w.bus (controller_next fixed w).bus (controller_same fixed w) k
+pub event_keeps_seats : EventKeepsSeats
+event_keeps_seats s fixed w events.D k = k
+event_keeps_seats s fixed w events.C k = seated_same s fixed w.bus (controller_next fixed w).bus (controller_same fixed w) k
 
 -- ---- a command
 
@@ -162,23 +162,23 @@ answered_seated : (s : Script) (fixed : Fixed) (w : World) (n : ℕ) (name : EpN
 answered_seated s fixed w n name (Ok o) k = k
 answered_seated s fixed w n name (Err why) k = k
 
-pub commanded_seated : CommandKeepsSeats
-commanded_seated s fixed w n cmd k = answered_seated s fixed w n (name_in cmd) (offered w.driver w.memory cmd) k
+pub command_keeps_seats : CommandKeepsSeats
+command_keeps_seats s fixed w n cmd k = answered_seated s fixed w n (name_in cmd) (offered w.driver w.memory cmd) k
 
 -- ---- a run
 
 by_seated : (s : Script) (fixed : Fixed) (w : World) (x : Left) (rest : List Left) → IsSeatedBus s fixed w.bus → IsSeatedBus s fixed (tick_by fixed w x rest).world.bus
-by_seated s fixed w (Events event (suc n)) rest k = next_seated s fixed w event k
-by_seated s fixed w (Microframes (suc n)) rest k = next_seated s fixed w events.C k
-by_seated s fixed w (Answer ended n) rest k = next_seated s fixed w events.D k
-by_seated s fixed w (Command n cmd) rest k = commanded_seated s fixed w n cmd k
+by_seated s fixed w (Events event (suc n)) rest k = event_keeps_seats s fixed w event k
+by_seated s fixed w (Microframes (suc n)) rest k = event_keeps_seats s fixed w events.C k
+by_seated s fixed w (Answer ended n) rest k = event_keeps_seats s fixed w events.D k
+by_seated s fixed w (Command n cmd) rest k = command_keeps_seats s fixed w n cmd k
 by_seated s fixed w _ rest k = k
 
 tick_seated : (s : Script) (fixed : Fixed) (w : World) (orders : List Left) → IsSeatedBus s fixed w.bus → IsSeatedBus s fixed (tick_at fixed w orders).world.bus
 tick_seated s fixed w [] k = k
 tick_seated s fixed w (x ∷ rest) k = by_seated s fixed w x rest k
 
-pub run_seated : RunKeepsSeats
+pub run_keeps_seats : RunKeepsSeats
 unfolding ticks
-run_seated s fixed p zero k = k
-run_seated s fixed p (suc n) k = run_seated s fixed (tick fixed p) n (tick_seated s fixed p.world p.orders k)
+run_keeps_seats s fixed p zero k = k
+run_keeps_seats s fixed p (suc n) k = run_keeps_seats s fixed (tick fixed p) n (tick_seated s fixed p.world p.orders k)

@@ -1,5 +1,5 @@
-use Rattle.law_world.proofs.lemmas.memory.lemmas.framed_memory.Masking.{new_masked, events_masked, commands_masked}
+use Rattle.law_world.proofs.lemmas.memory.lemmas.framed_memory.Masking.{new_is_masked, events_keep_masks, commands_keep_masks}
 use Rattle.law_world.proofs.memory.framed_memory.lend_laws.placements_have_small_masks.Goals as goal
 
 pub returns : goal.returns
-returns c = record { opening = new_masked; events = events_masked; commands = commands_masked }
+returns c = record { opening = new_is_masked; events = events_keep_masks; commands = commands_keep_masks }

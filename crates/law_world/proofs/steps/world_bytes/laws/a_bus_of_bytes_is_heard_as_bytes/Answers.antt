@@ -1,5 +1,5 @@
-use Rattle.law_world.proofs.lemmas.steps.lemmas.world_bytes.Hearing.{hears_bytes}
+use Rattle.law_world.proofs.lemmas.steps.lemmas.world_bytes.Hearing.{a_bus_of_bytes_is_heard_as_bytes}
 use Rattle.law_world.proofs.steps.world_bytes.laws.a_bus_of_bytes_is_heard_as_bytes.Goals as goal
 
 pub returns : goal.returns
-returns c = hears_bytes
+returns c = a_bus_of_bytes_is_heard_as_bytes

@@ -1,5 +1,5 @@
-use Rattle.law_world.proofs.lemmas.streams.lemmas.left_puts.Released.{release_taken}
+use Rattle.law_world.proofs.lemmas.streams.lemmas.left_puts.Released.{a_release_keeps_what_was_taken}
 use Rattle.law_world.proofs.streams.left_puts.laws.a_release_keeps_what_was_taken.Goals as goal
 
 pub returns : goal.returns
-returns g c = release_taken
+returns g c = a_release_keeps_what_was_taken

@@ -1,5 +1,5 @@
-use Rattle.law_world.proofs.lemmas.streams.lemmas.shared_worlds.Worlds.{new_working}
+use Rattle.law_world.proofs.lemmas.streams.lemmas.shared_worlds.Worlds.{a_new_world_is_working}
 use Rattle.law_world.proofs.streams.shared_worlds.laws.a_new_world_is_working.Goals as goal
 
 pub returns : goal.returns
-returns c = new_working
+returns c = a_new_world_is_working

@@ -1,5 +1,5 @@
-use Rattle.law_world.proofs.lemmas.streams.lemmas.shared_worlds.Runs.{run_working}
+use Rattle.law_world.proofs.lemmas.streams.lemmas.shared_worlds.Runs.{a_run_stays_working}
 use Rattle.law_world.proofs.streams.shared_worlds.laws.a_run_stays_working.Goals as goal
 
 pub returns : goal.returns
-returns c = run_working
+returns c = a_run_stays_working

@@ -1,5 +1,5 @@
-use Rattle.law_world.proofs.lemmas.streams.lemmas.shared_worlds.Worlds.{controller_working}
+use Rattle.law_world.proofs.lemmas.streams.lemmas.shared_worlds.Worlds.{the_controller_keeps_it_working}
 use Rattle.law_world.proofs.streams.shared_worlds.laws.the_controller_keeps_it_working.Goals as goal
 
 pub returns : goal.returns
-returns c = controller_working
+returns c = the_controller_keeps_it_working

@@ -1,5 +1,0 @@
-use Rattle.law_descriptors.proofs.lemmas.list_beside.Linking.{list_is_kept}
-use Rattle.law_descriptors.proofs.list_beside.laws.the_list_of_a_driver_is_kept.Goals as goal
-
-pub returns : goal.returns
-returns c = list_is_kept

@@ -1,5 +1,0 @@
-use Rattle.law_descriptors.proofs.lemmas.list_beside.Linking.{told_stays}
-use Rattle.law_descriptors.proofs.list_beside.laws.what_is_told_stays.Goals as goal
-
-pub returns : goal.returns
-returns c = told_stays

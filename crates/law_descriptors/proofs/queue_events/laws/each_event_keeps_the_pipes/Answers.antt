@@ -1,5 +1,0 @@
-use Rattle.law_descriptors.proofs.lemmas.queue_events.Pipes.{both_keep_pipes}
-use Rattle.law_descriptors.proofs.queue_events.laws.each_event_keeps_the_pipes.Goals as goal
-
-pub returns : goal.returns
-returns g c = both_keep_pipes g.W.Wire.begins g.W.Wire.transacts

@@ -1,0 +1,5 @@
+use Rattle.law_driver.proofs.lemmas.chained_transfers.Events.{new_driver_takes_asynchronous_turns}
+use Rattle.law_driver.proofs.chained_transfers.asynchronous.new_driver_takes_asynchronous_turns.Goals as goal
+
+pub returns : goal.returns
+returns c = new_driver_takes_asynchronous_turns

@@ -1,5 +1,0 @@
-use Rattle.law_driver_ring.proofs.Ready.{open_is_ready}
-use Rattle.law_driver_ring.proofs.lend_laws.an_accepted_open_is_ready.Goals as goal
-
-pub returns : goal.returns
-returns c = record { ready = open_is_ready }

@@ -1,5 +1,0 @@
-use Rattle.law_driver_ring.proofs.PartOpening.{opening_drives}
-use Rattle.law_driver_ring.proofs.part_laws.the_opening_is_driven.Goals as goal
-
-pub returns : goal.returns
-returns c = opening_drives

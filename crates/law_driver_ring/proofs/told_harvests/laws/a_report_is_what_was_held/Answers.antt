@@ -1,5 +1,0 @@
-use Rattle.law_driver_ring.proofs.lemmas.told_harvests.Reading.{report_read}
-use Rattle.law_driver_ring.proofs.told_harvests.laws.a_report_is_what_was_held.Goals as goal
-
-pub returns : goal.returns
-returns c = report_read

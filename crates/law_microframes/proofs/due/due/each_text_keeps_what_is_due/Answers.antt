@@ -1,5 +1,0 @@
-use Rattle.law_microframes.proofs.lemmas.due.Together.{texts_keep_due}
-use Rattle.law_microframes.proofs.due.due.each_text_keeps_what_is_due.Goals as goal
-
-pub returns : goal.returns
-returns c = texts_keep_due

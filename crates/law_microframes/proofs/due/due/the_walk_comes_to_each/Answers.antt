@@ -1,5 +1,0 @@
-use Rattle.law_microframes.proofs.lemmas.due.Coming.{texts_come_to_each}
-use Rattle.law_microframes.proofs.due.due.the_walk_comes_to_each.Goals as goal
-
-pub returns : goal.returns
-returns c = texts_come_to_each

@@ -1,5 +1,0 @@
-use Rattle.law_microframes.proofs.lemmas.due.Moments.{texts_do_what_is_due}
-use Rattle.law_microframes.proofs.due.due.what_is_due_is_done.Goals as goal
-
-pub returns : goal.returns
-returns c = texts_do_what_is_due

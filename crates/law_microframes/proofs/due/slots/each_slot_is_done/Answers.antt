@@ -1,5 +1,0 @@
-use Rattle.law_microframes.proofs.lemmas.due.lemmas.slots.Moments.{texts_serve_slots}
-use Rattle.law_microframes.proofs.due.slots.each_slot_is_done.Goals as goal
-
-pub returns : goal.returns
-returns c = texts_serve_slots

@@ -1,5 +1,0 @@
-use Rattle.law_microframes.proofs.lemmas.due.lemmas.repeats.Heard.{reply_word}
-use Rattle.law_microframes.proofs.due.words.complete_splits_are_answered.Goals as goal
-
-pub returns : goal.returns
-returns c = reply_word

@@ -1,5 +1,0 @@
-use Rattle.law_microframes.proofs.lemmas.time.ChainFalls.{chain_visits_fall}
-use Rattle.law_microframes.proofs.time.chain_visits.each_event_of_a_visit_leaves_fewer.Goals as goal
-
-pub returns : goal.returns
-returns g c = chain_visits_fall g.W.Wire.transacts

@@ -1,5 +1,0 @@
-use Rattle.law_microframes.proofs.lemmas.time.CountTaken.{events_take_time}
-use Rattle.law_microframes.proofs.time.counts.each_transaction_takes_time.Goals as goal
-
-pub returns : goal.returns
-returns c = events_take_time

@@ -1,5 +1,0 @@
-use Rattle.law_microframes.proofs.lemmas.time.DataDriven.{driver_keeps_data}
-use Rattle.law_microframes.proofs.time.data_queues.the_driver_leaves_queues_of_data.Goals as goal
-
-pub returns : goal.returns
-returns c = driver_keeps_data

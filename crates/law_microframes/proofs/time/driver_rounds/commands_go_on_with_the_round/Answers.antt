@@ -1,5 +1,0 @@
-use Rattle.law_microframes.proofs.lemmas.time.CommandRounds.{command_leaves_rounds}
-use Rattle.law_microframes.proofs.time.driver_rounds.commands_go_on_with_the_round.Goals as goal
-
-pub returns : goal.returns
-returns c = command_leaves_rounds

@@ -1,5 +1,0 @@
-use Rattle.law_microframes.proofs.lemmas.time.DriverRounds.{each_row_rounds}
-use Rattle.law_microframes.proofs.time.driver_rounds.each_row_goes_on_with_the_round.Goals as goal
-
-pub returns : goal.returns
-returns c = each_row_rounds

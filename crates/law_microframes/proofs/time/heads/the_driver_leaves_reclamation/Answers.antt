@@ -1,5 +1,0 @@
-use Rattle.law_microframes.proofs.lemmas.time.HeadReading.{worlds_leave_reclamation}
-use Rattle.law_microframes.proofs.time.heads.the_driver_leaves_reclamation.Goals as goal
-
-pub returns : goal.returns
-returns c = worlds_leave_reclamation

@@ -1,5 +1,0 @@
-use Rattle.law_microframes.proofs.lemmas.time.PaymentTimes.{texts_leave_rest}
-use Rattle.law_microframes.proofs.time.payment_times.visits_leave_the_rest.Goals as goal
-
-pub returns : goal.returns
-returns c = texts_leave_rest

@@ -1,5 +1,0 @@
-use Rattle.law_microframes.proofs.lemmas.time.RingSpliced.{open_store_joins}
-use Rattle.law_microframes.proofs.time.ring_splices.a_store_links_a_queue_head.Goals as goal
-
-pub returns : goal.returns
-returns c = open_store_joins

@@ -1,5 +1,0 @@
-use Rattle.law_microframes.proofs.lemmas.time.SitdMoments.{scripts_keep_sitds}
-use Rattle.law_microframes.proofs.time.sitds.each_moment_has_the_fields_of_sitds.Goals as goal
-
-pub returns : goal.returns
-returns c = scripts_keep_sitds

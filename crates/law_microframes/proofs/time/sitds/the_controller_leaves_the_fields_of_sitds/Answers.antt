@@ -1,5 +1,0 @@
-use Rattle.law_microframes.proofs.lemmas.time.SitdWorlds.{controller_keeps_sitds}
-use Rattle.law_microframes.proofs.time.sitds.the_controller_leaves_the_fields_of_sitds.Goals as goal
-
-pub returns : goal.returns
-returns c = controller_keeps_sitds

@@ -1,5 +1,0 @@
-use Rattle.law_microframes.proofs.lemmas.time.SplitMasked.{allowed_split}
-use Rattle.law_microframes.proofs.time.splits.allowed_masks_are_split.Goals as goal
-
-pub returns : goal.returns
-returns c = allowed_split

@@ -1,5 +1,0 @@
-use Rattle.law_microframes.proofs.lemmas.visits.ActiveStands.{queue_is_not_active}
-use Rattle.law_microframes.proofs.visits.active_descriptors.a_queue_head_is_no_active_descriptor.Goals as goal
-
-pub returns : goal.returns
-returns c = queue_is_not_active

@@ -1,5 +1,0 @@
-use Rattle.law_microframes.proofs.lemmas.visits.ActiveStands.{active_is_framed}
-use Rattle.law_microframes.proofs.visits.active_descriptors.an_active_descriptor_has_its_frame.Goals as goal
-
-pub returns : goal.returns
-returns c = active_is_framed

@@ -1,5 +1,0 @@
-use Rattle.law_microframes.proofs.lemmas.visits.AskedHeads.{asked_is_near}
-use Rattle.law_microframes.proofs.visits.asked_heads.asked_queue_heads_have_queues.Goals as goal
-
-pub returns : goal.returns
-returns c = asked_is_near

@@ -1,5 +1,0 @@
-use Rattle.law_microframes.proofs.lemmas.visits.VisitsKept.{texts_visit_each}
-use Rattle.law_microframes.proofs.visits.coverage.none_is_left_out.Goals as goal
-
-pub returns : goal.returns
-returns c = texts_visit_each

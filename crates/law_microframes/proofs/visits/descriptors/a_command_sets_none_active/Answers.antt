@@ -1,5 +1,0 @@
-use Rattle.law_microframes.proofs.lemmas.visits.OneDescriptorOffered.{command_keeps_one_active}
-use Rattle.law_microframes.proofs.visits.descriptors.a_command_sets_none_active.Goals as goal
-
-pub returns : goal.returns
-returns c = command_keeps_one_active

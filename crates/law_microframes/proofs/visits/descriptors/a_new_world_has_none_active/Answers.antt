@@ -1,5 +1,0 @@
-use Rattle.law_microframes.proofs.lemmas.visits.OneDescriptorWorlds.{new_has_one_active}
-use Rattle.law_microframes.proofs.visits.descriptors.a_new_world_has_none_active.Goals as goal
-
-pub returns : goal.returns
-returns c = new_has_one_active

@@ -1,5 +1,0 @@
-use Rattle.law_microframes.proofs.lemmas.visits.OneDescriptorMet.{controller_keeps_one_active}
-use Rattle.law_microframes.proofs.visits.descriptors.an_event_of_the_controller_sets_none_active.Goals as goal
-
-pub returns : goal.returns
-returns c = controller_keeps_one_active

@@ -1,5 +1,0 @@
-use Rattle.law_microframes.proofs.lemmas.visits.OneDescriptorWorlds.{driver_keeps_one_active}
-use Rattle.law_microframes.proofs.visits.descriptors.an_event_of_the_driver_sets_none_active.Goals as goal
-
-pub returns : goal.returns
-returns c = driver_keeps_one_active

@@ -1,5 +1,0 @@
-use Rattle.law_microframes.proofs.lemmas.visits.OneDescriptorMoments.{each_moment_has_one_active}
-use Rattle.law_microframes.proofs.visits.descriptors.each_moment_has_one_active_descriptor_a_frame.Goals as goal
-
-pub returns : goal.returns
-returns c = each_moment_has_one_active

@@ -1,5 +1,0 @@
-use Rattle.law_microframes.proofs.lemmas.visits.OneDescriptorWorlds.{controller_starts_none}
-use Rattle.law_microframes.proofs.visits.descriptors.the_controller_starts_none.Goals as goal
-
-pub returns : goal.returns
-returns c = controller_starts_none

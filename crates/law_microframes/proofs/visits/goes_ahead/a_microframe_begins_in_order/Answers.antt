@@ -1,5 +1,0 @@
-use Rattle.law_microframes.proofs.lemmas.visits.AheadMoments.{began_is_mixed}
-use Rattle.law_microframes.proofs.visits.goes_ahead.a_microframe_begins_in_order.Goals as goal
-
-pub returns : goal.returns
-returns c = began_is_mixed

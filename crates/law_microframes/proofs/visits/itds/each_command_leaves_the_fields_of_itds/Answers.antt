@@ -1,5 +1,0 @@
-use Rattle.law_microframes.proofs.lemmas.visits.BelongItdAll.{command_keeps_itds}
-use Rattle.law_microframes.proofs.visits.itds.each_command_leaves_the_fields_of_itds.Goals as goal
-
-pub returns : goal.returns
-returns c = command_keeps_itds

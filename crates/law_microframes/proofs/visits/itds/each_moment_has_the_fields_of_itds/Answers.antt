@@ -1,5 +1,0 @@
-use Rattle.law_microframes.proofs.lemmas.visits.BelongItdMoments.{scripts_keep_itds}
-use Rattle.law_microframes.proofs.visits.itds.each_moment_has_the_fields_of_itds.Goals as goal
-
-pub returns : goal.returns
-returns c = scripts_keep_itds

@@ -1,5 +1,0 @@
-use Rattle.law_microframes.proofs.lemmas.visits.ReasonHeld.{texts_keep_held_time}
-use Rattle.law_microframes.proofs.visits.reasons.a_held_microframe_has_no_time.Goals as goal
-
-pub returns : goal.returns
-returns c = texts_keep_held_time

@@ -1,5 +1,0 @@
-use Rattle.law_microframes.proofs.lemmas.visits.Together.{texts_keep_visits}
-use Rattle.law_microframes.proofs.visits.runs.each_text_keeps_its_visits.Goals as goal
-
-pub returns : goal.returns
-returns c = texts_keep_visits

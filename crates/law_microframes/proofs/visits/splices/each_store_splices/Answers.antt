@@ -1,5 +1,0 @@
-use Rattle.law_microframes.proofs.lemmas.visits.SpliceWords.{next_splices}
-use Rattle.law_microframes.proofs.visits.splices.each_store_splices.Goals as goal
-
-pub returns : goal.returns
-returns c = next_splices

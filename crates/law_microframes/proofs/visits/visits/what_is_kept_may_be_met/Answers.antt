@@ -1,5 +1,0 @@
-use Rattle.law_microframes.proofs.lemmas.visits.VisitMeeting.{visits_meet_now}
-use Rattle.law_microframes.proofs.visits.visits.what_is_kept_may_be_met.Goals as goal
-
-pub returns : goal.returns
-returns c = visits_meet_now

@@ -1,5 +1,0 @@
-use Rattle.law_queues.proofs.lemmas.whole_sends.Takers.{idle_takes_nothing}
-use Rattle.law_queues.proofs.whole_sends.laws.an_idle_queue_sends_nothing.Goals as goal
-
-pub returns : goal.returns
-returns g c = idle_takes_nothing g.W.Wire.transacts

@@ -1,5 +1,0 @@
-use Rattle.law_reports.proofs.lemmas.answers.Seated.{a_hub_is_seated}
-use Rattle.law_reports.proofs.answers.a_hub_and_a_device_below_it_are_seated.Goals as goal
-
-pub returns : goal.returns
-returns c = a_hub_is_seated

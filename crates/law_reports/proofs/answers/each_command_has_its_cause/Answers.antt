@@ -1,5 +1,0 @@
-use Rattle.law_reports.proofs.lemmas.answers.Texts.{texts_have_causes}
-use Rattle.law_reports.proofs.answers.each_command_has_its_cause.Goals as goal
-
-pub returns : goal.returns
-returns c = texts_have_causes

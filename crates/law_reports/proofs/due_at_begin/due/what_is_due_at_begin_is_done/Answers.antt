@@ -1,5 +1,0 @@
-use Rattle.law_reports.proofs.lemmas.due_at_begin.Moments.{texts_do_what_is_due_at_begin}
-use Rattle.law_reports.proofs.due_at_begin.due.what_is_due_at_begin_is_done.Goals as goal
-
-pub returns : goal.returns
-returns c = texts_do_what_is_due_at_begin

@@ -1,5 +1,0 @@
-use Rattle.law_reports.proofs.lemmas.requests.Gone.{first_ends}
-use Rattle.law_reports.proofs.requests.queue_laws.the_first_request_ends.Goals as goal
-
-pub returns : goal.returns
-returns c = first_ends

@@ -1,5 +1,0 @@
-use Rattle.law_reports.proofs.lemmas.requests.lemmas.request_bytes.Accepting.{held_stays}
-use Rattle.law_reports.proofs.requests.request_bytes.laws.a_held_request_stays.Goals as goal
-
-pub returns : goal.returns
-returns c = held_stays

@@ -1,5 +1,0 @@
-use Rattle.law_reports.proofs.lemmas.requests.lemmas.request_bytes.Fresh.{lent_fresh}
-use Rattle.law_reports.proofs.requests.request_bytes.laws.a_lent_request_is_fresh.Goals as goal
-
-pub returns : goal.returns
-returns c = lent_fresh

@@ -1,5 +1,0 @@
-use Rattle.law_reports.proofs.lemmas.requests.lemmas.request_bytes.Accepting.{accepted_held}
-use Rattle.law_reports.proofs.requests.request_bytes.laws.an_accepted_request_is_held.Goals as goal
-
-pub returns : goal.returns
-returns c = accepted_held

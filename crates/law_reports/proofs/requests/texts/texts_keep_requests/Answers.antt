@@ -1,0 +1,5 @@
+use Rattle.law_reports.proofs.lemmas.requests.Together.{texts_keep_requests}
+use Rattle.law_reports.proofs.requests.texts.texts_keep_requests.Goals as goal
+
+pub returns : goal.returns
+returns c = texts_keep_requests

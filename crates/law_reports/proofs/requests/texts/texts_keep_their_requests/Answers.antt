@@ -1,5 +1,0 @@
-use Rattle.law_reports.proofs.lemmas.requests.Together.{texts_keep}
-use Rattle.law_reports.proofs.requests.texts.texts_keep_their_requests.Goals as goal
-
-pub returns : goal.returns
-returns c = texts_keep

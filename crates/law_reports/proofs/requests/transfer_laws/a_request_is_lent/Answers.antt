@@ -1,5 +1,0 @@
-use Rattle.law_reports.proofs.lemmas.requests.Lent.{request_lent}
-use Rattle.law_reports.proofs.requests.transfer_laws.a_request_is_lent.Goals as goal
-
-pub returns : goal.returns
-returns c = request_lent

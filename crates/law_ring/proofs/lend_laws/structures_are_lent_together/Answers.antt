@@ -1,5 +1,0 @@
-use Rattle.law_ring.proofs.Joining.{lends_leave_ring}
-use Rattle.law_ring.proofs.lend_laws.structures_are_lent_together.Goals as goal
-
-pub returns : goal.returns
-returns c = lends_leave_ring

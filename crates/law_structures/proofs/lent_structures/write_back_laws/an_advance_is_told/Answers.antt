@@ -1,5 +1,0 @@
-use Rattle.law_structures.proofs.lemmas.lent_structures.WrittenBack.{advance_put}
-use Rattle.law_structures.proofs.lent_structures.write_back_laws.an_advance_is_told.Goals as goal
-
-pub returns : goal.returns
-returns c = advance_put

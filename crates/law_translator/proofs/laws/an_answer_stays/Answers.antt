@@ -1,5 +1,0 @@
-use Rattle.law_translator.proofs.Stays.{answers_stay}
-use Rattle.law_translator.proofs.laws.an_answer_stays.Goals as goal
-
-pub returns : goal.returns
-returns c = answers_stay

@@ -1,5 +1,0 @@
-use Rattle.law_world.proofs.lemmas.memory.lemmas.framed_memory.Opening.{new_framed}
-use Rattle.law_world.proofs.memory.framed_memory.laws.the_opening_is_framed.Goals as goal
-
-pub returns : goal.returns
-returns c = new_framed

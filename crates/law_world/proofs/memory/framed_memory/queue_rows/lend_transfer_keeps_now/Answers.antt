@@ -1,0 +1,5 @@
+use Rattle.law_world.proofs.lemmas.memory.lemmas.framed_memory.TransferLends.{lend_transfer_keeps_now}
+use Rattle.law_world.proofs.memory.framed_memory.queue_rows.lend_transfer_keeps_now.Goals as goal
+
+pub returns : goal.returns
+returns c = lend_transfer_keeps_now

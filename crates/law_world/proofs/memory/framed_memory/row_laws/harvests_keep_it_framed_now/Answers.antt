@@ -1,5 +1,0 @@
-use Rattle.law_world.proofs.lemmas.memory.lemmas.framed_memory.Harvesting.{harvest_now}
-use Rattle.law_world.proofs.memory.framed_memory.row_laws.harvests_keep_it_framed_now.Goals as goal
-
-pub returns : goal.returns
-returns c = harvest_now

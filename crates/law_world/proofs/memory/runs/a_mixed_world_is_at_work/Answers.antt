@@ -1,5 +1,0 @@
-use Rattle.law_world.proofs.lemmas.memory.Together.{mixed_at_work}
-use Rattle.law_world.proofs.memory.runs.a_mixed_world_is_at_work.Goals as goal
-
-pub returns : goal.returns
-returns c = mixed_at_work

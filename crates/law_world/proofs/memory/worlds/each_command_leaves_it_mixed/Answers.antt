@@ -1,5 +1,0 @@
-use Rattle.law_world.proofs.lemmas.memory.CommandKeeping.{command_keeps_mixed}
-use Rattle.law_world.proofs.memory.worlds.each_command_leaves_it_mixed.Goals as goal
-
-pub returns : goal.returns
-returns c = command_keeps_mixed

@@ -1,5 +1,0 @@
-use Rattle.law_world.proofs.lemmas.memory.Controller.{controller_keeps_mixed}
-use Rattle.law_world.proofs.memory.worlds.each_event_of_the_controller_leaves_it_mixed.Goals as goal
-
-pub returns : goal.returns
-returns c = controller_keeps_mixed

@@ -1,5 +1,0 @@
-use Rattle.law_world.proofs.lemmas.memory.Driving.{driver_keeps_mixed}
-use Rattle.law_world.proofs.memory.worlds.each_event_of_the_driver_leaves_it_mixed.Goals as goal
-
-pub returns : goal.returns
-returns c = driver_keeps_mixed

@@ -1,5 +1,0 @@
-use Rattle.law_world.proofs.lemmas.steps.lemmas.unlinked_streams.Standing.{unlink_stands}
-use Rattle.law_world.proofs.steps.unlinked_streams.laws.a_cancel_finds_its_queue_heads.Goals as goal
-
-pub returns : goal.returns
-returns c = unlink_stands

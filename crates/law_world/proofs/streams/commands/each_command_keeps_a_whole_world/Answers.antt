@@ -1,5 +1,0 @@
-use Rattle.law_world.proofs.lemmas.streams.Commanding.{command_keeps_whole}
-use Rattle.law_world.proofs.streams.commands.each_command_keeps_a_whole_world.Goals as goal
-
-pub returns : goal.returns
-returns c = command_keeps_whole

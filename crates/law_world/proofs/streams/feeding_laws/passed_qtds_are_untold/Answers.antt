@@ -1,5 +1,0 @@
-use Rattle.law_world.proofs.lemmas.streams.FeedingPassed.{passed_untold}
-use Rattle.law_world.proofs.streams.feeding_laws.passed_qtds_are_untold.Goals as goal
-
-pub returns : goal.returns
-returns c = passed_untold

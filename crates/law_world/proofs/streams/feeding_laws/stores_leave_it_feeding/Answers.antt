@@ -1,5 +1,0 @@
-use Rattle.law_world.proofs.lemmas.streams.FeedingStores.{store_feeds}
-use Rattle.law_world.proofs.streams.feeding_laws.stores_leave_it_feeding.Goals as goal
-
-pub returns : goal.returns
-returns c = store_feeds

@@ -1,5 +1,0 @@
-use Rattle.law_world.proofs.lemmas.streams.FedCommands.{command_keeps_left}
-use Rattle.law_world.proofs.streams.kept.commands_leave_what_has_left.Goals as goal
-
-pub returns : goal.returns
-returns c = command_keeps_left

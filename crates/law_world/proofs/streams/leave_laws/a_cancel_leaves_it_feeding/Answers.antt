@@ -1,5 +1,0 @@
-use Rattle.law_world.proofs.lemmas.streams.Cancelling.{cancel_feeds}
-use Rattle.law_world.proofs.streams.leave_laws.a_cancel_leaves_it_feeding.Goals as goal
-
-pub returns : goal.returns
-returns c = cancel_feeds

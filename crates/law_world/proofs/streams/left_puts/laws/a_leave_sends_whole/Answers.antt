@@ -1,5 +1,0 @@
-use Rattle.law_world.proofs.lemmas.streams.lemmas.left_puts.Leaving.{leave_sends}
-use Rattle.law_world.proofs.streams.left_puts.laws.a_leave_sends_whole.Goals as goal
-
-pub returns : goal.returns
-returns g = leave_sends

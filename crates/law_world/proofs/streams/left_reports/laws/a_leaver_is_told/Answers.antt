@@ -1,5 +1,0 @@
-use Rattle.law_world.proofs.lemmas.streams.lemmas.left_reports.Gone.{release_is_told}
-use Rattle.law_world.proofs.streams.left_reports.laws.a_leaver_is_told.Goals as goal
-
-pub returns : goal.returns
-returns c = release_is_told

@@ -1,6 +1,0 @@
-use Rattle.law_world.proofs.lemmas.streams.lemmas.put_laws.BufferBytes.{buffers_are_rest, buffers_before_lend, buffers_around}
-use Rattle.law_world.proofs.lemmas.streams.lemmas.put_laws.TakenBegins.{taken_begins}
-use Rattle.law_world.proofs.streams.put_laws.owed_laws.what_was_taken_begins_the_puts.Goals as goal
-
-pub returns : goal.returns
-returns c = taken_begins buffers_are_rest buffers_before_lend buffers_around

@@ -1,5 +1,0 @@
-use Rattle.law_world.proofs.lemmas.streams.lemmas.right_reports.Right.{report_right}
-use Rattle.law_world.proofs.streams.right_reports.laws.a_report_that_tells_each_is_right.Goals as goal
-
-pub returns : goal.returns
-returns c = report_right

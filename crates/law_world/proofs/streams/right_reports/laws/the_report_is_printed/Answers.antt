@@ -1,5 +1,0 @@
-use Rattle.law_world.proofs.lemmas.streams.lemmas.right_reports.Printed.{report_printed}
-use Rattle.law_world.proofs.streams.right_reports.laws.the_report_is_printed.Goals as goal
-
-pub returns : goal.returns
-returns c = report_printed

@@ -1,5 +1,0 @@
-use Rattle.law_world.proofs.lemmas.streams.lemmas.right_worlds.Beginning.{world_right}
-use Rattle.law_world.proofs.streams.right_worlds.what_a_world_reports_is_right.Goals as goal
-
-pub returns : goal.returns
-returns c = world_right
