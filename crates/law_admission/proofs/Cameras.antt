@@ -1,6 +1,7 @@
 -- Two cameras: the first is placed, and beside it the second breaks the budget of each microframe.
-use Rattle.std.proofs.Common.{◌≡◌, ℕ, zero, suc, ◌/◌, ◌%◌, ◌≤◌, ◌-◌, Bool, true, false, List, [], ◌∷◌, slice_get, Option, Some, None, Ok, Err, subst, refl, ap, ◌∙◌, arith, lit≤}
-use Rattle.std.specs.Prelude.{if◌then◌else◌}
+use Rattle.std.proofs.Common.{◌≡◌, ℕ, ◌/◌, ◌%◌, ◌≤◌, ◌-◌, List, [], ◌∷◌, slice_get, Option, Some, None, Ok, Err, subst, refl, ap, ◌∙◌, arith, lit≤}
+use Rattle.law_admission.proofs.Common.{in_one}
+use Rattle.law_common.proofs.Numbers.{either_within}
 use Rattle.usb_base.specs.declared.commands.Cmd.TheVariants.{OpenEp}
 use Rattle.usb_base.specs.declared.reports.OfferError.TheVariants.{NoPlacement}
 use Rattle.word_mem.specs.Memory.{Mem}
@@ -25,18 +26,10 @@ one_place : (rules : Rules) (e num : ℕ) → allowed_by rules (want_of e (camer
 unfolding allowed_by allowed mask
 one_place rules e num = refl
 
-in_one : (i : ℕ) (p : Placement) → slice_get (each_microframe ∷ []) i ≡ Some p → p ≡ each_microframe
-in_one zero p e = cc
-in_one (suc i) p e = absurd (cc)
-
 its_place : (rules : Rules) (e num i : ℕ) (p : Placement) → slice_get (allowed_by rules (want_of e (camera num))) i ≡ Some p → p ≡ each_microframe
 its_place rules e num i p at = in_one i p (subst (λ (ps : List Placement). slice_get ps i ≡ Some p) (one_place rules e num) at)
 
 -- ---- one fits
-
-either_within : (b : Bool) (x y n : ℕ) → x ≤ n → y ≤ n → (if b then x else y) ≤ n
-either_within true x y n one two = one
-either_within false x y n one two = two
 
 its_cost : (e num m : ℕ) → cost_in (want_of e (camera num)) each_microframe m ≤ 61655136
 its_cost e num m =

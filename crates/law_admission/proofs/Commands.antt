@@ -2,6 +2,7 @@
 use Rattle.std.proofs.Common.{◌≡◌, ℕ, Bool, true, false, List, [], ◌∷◌, ◌++◌, Option, Some, None, Result, Ok, Err, refl, ap, ◌∙◌}
 use Rattle.std.specs.Prelude.{IfOk, slice_index, unwrap_or, nat_lt, not, ◌||◌, ◌+◌, length, count_by, if◌then◌else◌}
 use Rattle.std.proofs.lemmas.Result.{IfOk-at_ok}
+use Rattle.law_admission.proofs.Common.{or_else, refused_again}
 use Rattle.usb_base.specs.declared.endpoints.EpDesc.{EpDesc}
 use Rattle.usb_base.specs.declared.endpoints.EndCause.{EndCause}
 use Rattle.usb_base.specs.declared.endpoints.EndCause.TheVariants as causes
@@ -34,11 +35,6 @@ use Rattle.law_admission.specs.Budgets.{account_of}
 use Rattle.drv_table.specs.PeriodicOpens.{asked}
 use Rattle.law_admission.specs.Opens.{IsPlaced, OpenAfter, AccountAfter}
 use Rattle.law_admission.proofs.Events.{with_plan, next_begun, or_done}
-
--- where both are, one of two is
-or_else : (P : Offered → Type 0) (b : Bool) (x y : Result Offered OfferError) → IfOk x P → IfOk y P → IfOk (if b then x else y) P
-or_else P true x y one two = one
-or_else P false x y one two = two
 
 -- ---- transfers
 
@@ -119,10 +115,6 @@ answered_open d m x false = tt
 kind_open : (d : DriverContent) (m : Mem) (x : EpDesc) (b : Bool) → IfOk (if b then planned_open d m x (answer d.periodic.plan (asked d x)) else taken_open d x (take_runs (holding d.book m) (2 ∷ 1 ∷ []))) (λ o. OpenAfter d x o b)
 kind_open d m x true = answered_open d m x (nat_lt (length d.periodic.plan.placed) d.periodic.plan.room)
 kind_open d m x false = open_taken d x (take_runs (holding d.book m) (2 ∷ 1 ∷ []))
-
-refused_again : (P : Offered → Type 0) (c : Option EndCause) → IfOk (elim c [ Some cause ↦ Err (errors.Closed cause) | None ↦ Err errors.AlreadyOpen ]) P
-refused_again P None = tt
-refused_again P (Some cause) = tt
 
 open_found : (d : DriverContent) (m : Mem) (x : EpDesc) (q : Option Endpoint) → IfOk (offered_open d m x q) (λ o. OpenAfter d x o (is_periodic x.kind))
 open_found d m x (Some old) = refused_again (λ o. OpenAfter d x o (is_periodic x.kind)) old.ended

@@ -3,3 +3,4 @@ pub mod Commands
 pub mod Budgets
 pub mod Refusals
 pub mod Cameras
+pub mod Common

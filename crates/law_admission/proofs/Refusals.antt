@@ -1,7 +1,7 @@
 -- Where the open of a periodic endpoint is refused for want of a placement, and where it is accepted.
-use Rattle.std.proofs.Common.{◌≡◌, ◌≢◌, ℕ, ◌<◌, ◌≤◌, Bool, true, List, [], ◌∷◌, Option, Some, None, Result, Ok, Err, subst, sym, refl, ap, ◌∙◌, arith}
+use Rattle.std.proofs.Common.{◌≡◌, ◌≢◌, ℕ, ◌≤◌, Bool, true, List, [], ◌∷◌, Option, Some, None, Result, Ok, Err, subst, sym, refl, ap, ◌∙◌, arith}
 use Rattle.std.specs.Prelude.{◌↔◌, IfErr, is_some, nat_lt, length, if◌then◌else◌}
-use Rattle.std.proofs.lemmas.Bool.Decides.{nat_tests}
+use Rattle.law_common.proofs.Numbers.{is_less}
 use Rattle.usb_base.specs.declared.endpoints.EpDesc.{EpDesc}
 use Rattle.usb_base.specs.declared.packets.EpKind.{EpKind}
 use Rattle.usb_base.specs.declared.packets.EpKind.TheVariants as kinds
@@ -26,11 +26,8 @@ use Rattle.drv_table.specs.PeriodicOpens.{asked, PassesBefore, BreaksBudgets}
 use Rattle.law_admission.specs.Opens.{IsPlaced, OpenAfter}
 use Rattle.law_admission.proofs.Commands.{commands_place_the_best}
 
-lt_test : (a b : ℕ) → a < b → nat_lt a b ≡ true
-lt_test a b h = grind (arith, nat_tests)
-
 has_room : (d : DriverContent) (x : EpDesc) → KeepsBudgets (account_of d) → 1 ≤ d.room.endpoints → PassesBefore d x → nat_lt (length d.periodic.plan.placed) d.periodic.plan.room ≡ true
-has_room d x kept some new = lt_test (length d.periodic.plan.placed) d.periodic.plan.room (omega (arith, kept.room, some))
+has_room d x kept some new = is_less (length d.periodic.plan.placed) d.periodic.plan.room (omega (arith, kept.room, some))
 
 -- it comes down to the best placement
 pub asks_best : (d : DriverContent) (m : Mem) (x : EpDesc) → KeepsBudgets (account_of d) → 1 ≤ d.room.endpoints → PassesBefore d x → offered d m (OpenEp x) ≡ planned_open d m x (chosen (best d.periodic.plan.rules d.periodic.plan.placed (asked d x)))

@@ -2,6 +2,7 @@
 use Rattle.std.proofs.Common.{◌≡◌, ℕ, zero, suc, Bool, true, false, List, [], ◌∷◌, map, slice_get, Option, Some, None, if◌then◌else◌, refl, sym, subst, ap, ◌∙◌}
 use Rattle.std.specs.Option.{option_map}
 use Rattle.std.proofs.lemmas.Option.{same_Some}
+use Rattle.law_devices.proofs.Common2.{named_begun}
 use Rattle.usb_base.specs.declared.packets.Ask.{Ask}
 use Rattle.usb_base.specs.declared.packets.Dir.{Dir}
 use Rattle.usb_base.specs.declared.packets.Reply.{Reply}
@@ -21,7 +22,6 @@ use Rattle.claims_report.specs.Controls.{control_of_part, control_of_device}
 use Rattle.claims_report.specs.Requests.{Request}
 use Rattle.law_request.specs.Host.{Endpoint}
 use Rattle.law_devices.specs.request_calls.Bus.{device_of}
-use Rattle.law_devices.proofs.Beginning.{named_begun}
 use Rattle.law_devices.proofs.lemmas.scripted_requests.Finding.{IsAtDevice, device_found, device_control}
 use Rattle.law_translated.specs.Lift.{Buffered, Wait, Slot, Run}
 use Rattle.law_translated.specs.KeySlots.{KeySlot}

@@ -3,6 +3,7 @@ use Rattle.std.proofs.Common.{◌≡◌, ℕ, ◌+◌, ◌-◌, ◌==◌, ◌&&�
 use Rattle.std.specs.Prelude.{nat_le, nat_lt, min, ◌||◌}
 use Rattle.std.proofs.lemmas.Bool.{le-leb}
 use Rattle.std.proofs.lemmas.List.{length-take, length-drop}
+use Rattle.law_common.proofs.Booleans.{not_itself}
 use Rattle.usb_base.specs.Acknowledgement.{pid_bits, acknowledges}
 use Rattle.usb_base.specs.declared.packets.EpKind.TheVariants.{Control}
 use Rattle.usb_base.specs.declared.packets.Pid.{Pid}
@@ -49,10 +50,6 @@ same_toggle true true h = refl
 same_toggle false false h = refl
 same_toggle true false h = absurd cc
 same_toggle false true h = absurd cc
-
-not_itself : (b : Bool) → b ≡ not b → ⊥
-not_itself true h = cc
-not_itself false h = cc
 
 out_not_in : (ping : Bool) → token_pid Plain Pids.Out (pinged Control ping) ≡ Pids.In → ⊥
 out_not_in true h = cc

@@ -3,6 +3,7 @@ use Rattle.std.proofs.Common.{◌≡◌, ◌≢◌, ℕ, ◌==◌, ◌&&◌, Boo
 use Rattle.std.specs.Option.{option_and_then}
 use Rattle.std.proofs.lemmas.Bool.{cases_eq, false≢true, eqb-true, eq-eqb}
 use Rattle.std.proofs.lemmas.Option.{same_Some}
+use Rattle.law_common.proofs.Booleans.{and_both}
 use Rattle.usb_base.specs.declared.packets.Ask.{Ask}
 use Rattle.usb_base.specs.declared.packets.Split.TheVariants.{Plain}
 use Rattle.usb_base.specs.declared.packets.Way.TheVariants as Ways
@@ -22,10 +23,6 @@ use Rattle.law_devices.proofs.lemmas.scripted_requests.Finding.{IsAtDevice, devi
 use Rattle.law_below_hubs.specs.Seated.{device_place, end_seated}
 use Rattle.law_below_hubs.specs.SeatedControls.{control_placed, control_in}
 use Rattle.law_below_hubs.proofs.Moves.{DevicesMove, same, moved}
-
-and_both : (a b : Bool) → (a && b) ≡ true → (a ≡ true) × (b ≡ true)
-and_both true b e = (refl, e)
-and_both false b e = absurd (false≢true e)
 
 at_place : (place : ℕ) (o : Option ℕ) → is_at place o ≡ true → o ≡ Some place
 at_place place None e = absurd (false≢true e)

@@ -2,6 +2,7 @@
 use Rattle.std.proofs.Common.{◌≡◌, ℕ, Bool, true, false, List, map, slice_get, Option, Some, None, if◌then◌else◌, refl, sym, subst, ap, ◌∙◌}
 use Rattle.std.specs.Option.{option_map}
 use Rattle.std.proofs.lemmas.Option.{same_Some}
+use Rattle.law_devices.proofs.Common2.{named_begun}
 use Rattle.usb_base.specs.declared.packets.Way.TheVariants as Ways
 use Rattle.endpoint_script.specs.declared.endpoint.Role.{Role}
 use Rattle.endpoint_script.specs.Device.{Device, begun, endpoint_begun, part_begun}
@@ -12,7 +13,6 @@ use Rattle.bus_wire.specs.Bus.{begins_anew, begun_at, floor_of}
 use Rattle.law_ring.specs.Bus.{Sender}
 use Rattle.law_devices.specs.Senders.{sender_of_part, sender_of_device}
 use Rattle.law_devices.proofs.Asking.{IsAtDevice, device_found, device_sender}
-use Rattle.law_devices.proofs.Beginning.{named_begun}
 use Rattle.law_translated.specs.InPipes.{in_halves}
 use Rattle.law_below_hubs.specs.Seated.{end_in}
 use Rattle.law_below_hubs.specs.HubsKeys.{IsOfKind}

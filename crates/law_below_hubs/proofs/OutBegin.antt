@@ -2,6 +2,7 @@
 use Rattle.std.proofs.Common.{◌≡◌, ℕ, Bool, true, false, List, map, slice_get, Option, Some, None, if◌then◌else◌, refl, sym, subst, ap, ◌∙◌}
 use Rattle.std.specs.Option.{option_map}
 use Rattle.std.proofs.lemmas.Option.{same_Some}
+use Rattle.law_devices.proofs.Common2.{named_begun}
 use Rattle.usb_base.specs.declared.packets.Way.TheVariants as Ways
 use Rattle.endpoint_script.specs.declared.endpoint.Role.{Role}
 use Rattle.endpoint_script.specs.Device.{Device, begun, endpoint_begun, part_begun}
@@ -11,7 +12,6 @@ use Rattle.bus_wire.specs.Below.{floor_worked}
 use Rattle.bus_wire.specs.Bus.{begins_anew, begun_at, floor_of}
 use Rattle.law_ring.specs.OutBus.{Taker}
 use Rattle.law_devices.specs.scripted_takers.Takers.{taker_of_part, taker_of_device}
-use Rattle.law_devices.proofs.Beginning.{named_begun}
 use Rattle.law_devices.proofs.lemmas.scripted_takers.Asking as Takers
 use Rattle.law_translated.specs.OutPipes.{out_halves}
 use Rattle.law_below_hubs.specs.Seated.{end_in}

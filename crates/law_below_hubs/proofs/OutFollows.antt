@@ -1,6 +1,6 @@
 -- A bus below a hub shows the line of an OUT endpoint, whatever is asked on it.
-use Rattle.std.proofs.Common.{◌≡◌, ℕ, Bool, true, false, not, List, [], ◌∷◌, ◌++◌, length, Option, Some, refl, sym, subst, ap, ◌∙◌, append_assoc, append-nil}
-use Rattle.std.specs.List.{concat}
+use Rattle.std.proofs.Common.{◌≡◌, ℕ, Bool, true, false, not, List, ◌∷◌, ◌++◌, length, Option, Some, refl, sym, subst, ap, ◌∙◌}
+use Rattle.law_common.proofs.Lists.{concat_last}
 use Rattle.usb_base.specs.declared.packets.Ask.{Ask}
 use Rattle.usb_base.specs.declared.packets.Dir.TheVariants as Directions
 use Rattle.usb_base.specs.declared.packets.Pid.{Pid}
@@ -44,10 +44,6 @@ use Rattle.law_below_hubs.specs.OutWork.{IsPacket, IsPut, out_asked, out_answer,
 use Rattle.law_below_hubs.proofs.LowBuses.{same_below, all_takers_below}
 use Rattle.law_below_hubs.proofs.TakerAsked.{OutHeard, unheard, heard, taker_heard}
 use Rattle.law_below_hubs.proofs.InFollows.{always, key_is, second_of}
-
-concat_last : (xs : List (List ℕ)) (x : List ℕ) → concat (xs ++ x ∷ []) ≡ concat xs ++ x
-concat_last [] x = append-nil x
-concat_last (y ∷ ys) x = ap (λ (zs : List ℕ). y ++ zs) (concat_last ys x) ∙ sym (append_assoc y (concat ys) x)
 
 -- ---- what a packet does to the device, and its answer
 

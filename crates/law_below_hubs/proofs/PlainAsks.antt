@@ -1,5 +1,6 @@
 -- The host's plain transactions, key by key.
 use Rattle.std.proofs.Common.{◌≡◌, inl, inr, ℕ, zero, suc, Bool, true, false, List, [], ◌∷◌, slice_get, Option, Some, None, if◌then◌else◌, refl, sym, subst, ap, ◌∙◌}
+use Rattle.law_translated.proofs.Common.{later_at}
 use Rattle.usb_base.specs.declared.packets.Ask.{Ask}
 use Rattle.usb_base.specs.declared.packets.Split.{Split}
 use Rattle.usb_base.specs.declared.packets.Split.TheVariants.{Plain}
@@ -33,11 +34,6 @@ use Rattle.law_translated.proofs.TranslatorCalls.{clear_by_key, reset_by_key}
 use Rattle.law_below_hubs.specs.HubsKeys.{HubsHaveNone, HubsHave}
 use Rattle.law_below_hubs.specs.PlainAsks.{LeftOrEmpty, PlainLeaves, PlainAsksByKey}
 use Rattle.law_below_hubs.proofs.Splits.{put_later}
-
-later_at : (o : Option Translator) (place : ℕ) (f : Translator → Translator) (t : Translator) (ts : List Translator)
-    → put_if o (suc place) f (t ∷ ts) ≡ t ∷ put_if o place f ts
-later_at None place f t ts = refl
-later_at (Some x) place f t ts = refl
 
 module _ (way : Way) (k : Key) where
   -- ---- one translator

@@ -2,6 +2,9 @@
 use Rattle.std.proofs.Common.{◌≡◌, ◌≢◌, ℕ, zero, suc, ◌+◌, ◌*◌, ◌/◌, ◌%◌, ◌<◌, ◌≤◌, Bool, true, false, cond, List, [], ◌∷◌, ◌++◌, length, take, drop, get_or, replicate, slice_get, Option, Some, None, ap, refl, sym, subst, ◌∙◌, arith, length-append, length-drop, append_assoc}
 use Rattle.std.proofs.lemmas.Option.{same_Some}
 use Rattle.std.proofs.lemmas.List.{get_or-set_same, get_or-set_other, length-set, take-append-drop}
+use Rattle.law_driver.proofs.Common.{drop_old}
+use Rattle.law_common.proofs.Lists.{drop_first, filled, shorter}
+use Rattle.law_driver_ring.proofs.Common.{has_room}
 use Rattle.usb_base.specs.declared.endpoints.EpDesc.{EpDesc}
 use Rattle.word_mem.specs.Runs.{Run}
 use Rattle.word_mem.specs.Memory.{Mem, IsShaped, word_at}
@@ -33,7 +36,6 @@ use Rattle.claims_driver.specs.Owners.{SlotHas}
 use Rattle.claims_driver.specs.Leaving.{HasOwners}
 use Rattle.law_driver.proofs.lemmas.run_owners.Taking.{AreTaken, runs_taken}
 use Rattle.law_driver.proofs.lemmas.run_owners.Chains.{few_runs}
-use Rattle.law_driver.proofs.lemmas.run_owners.Accepted.{drop_first}
 use Rattle.claims_driver.specs.LentRuns.{AreLent, still_lends}
 use Rattle.law_driver.proofs.lemmas.ring_members.Stores.{AreApart, slots_apart, words_elsewhere}
 use Rattle.law_driver.proofs.lemmas.ring_members.Accepted.{shaped_taken}
@@ -43,15 +45,11 @@ use Rattle.law_driver_ring.proofs.Buffers.{runs_at, runs_keep}
 use Rattle.law_driver_ring.proofs.Paged.{runs_paged, runs_left, runs_right, runs_many}
 use Rattle.law_descriptors.specs.Written.{blocks_in, words_in, HasFields, IsDescriptorNoted, IsWrittenDescriptor, runs_of, IsToLend, DescriptorsAwaitLend}
 use Rattle.law_descriptors.specs.LendLaws.{HasSlots, AcceptedAwaitLend}
-use Rattle.law_descriptors.proofs.LendAccepting.{filled, filled_at, past_zeros, shorter, one_dropped, has_room, size_written, seeds_apart, stored_there}
+use Rattle.law_descriptors.proofs.LendAccepting.{filled_at, past_zeros, one_dropped, size_written, seeds_apart, stored_there}
 
 append_none : (ts : List Transfer) → ts ++ [] ≡ ts
 append_none [] = refl
 append_none (t ∷ ts) = ap (λ (us : List Transfer). t ∷ us) (append_none ts)
-
-pub drop_old : (ts us : List Transfer) → drop (length ts) (ts ++ us) ≡ us
-drop_old [] us = refl
-drop_old (t ∷ ts) us = drop_old ts us
 
 apart_dropped : (k : ℕ) (xs : List ℕ) → AreAllApart xs → AreAllApart (drop k xs)
 apart_dropped zero xs apart = apart

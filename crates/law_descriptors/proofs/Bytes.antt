@@ -1,7 +1,8 @@
 -- Where the bytes of a descriptor's buffer lie: in its runs, whose pages the descriptor names.
-use Rattle.std.proofs.Common.{◌≡◌, ◌≢◌, ℕ, zero, suc, ◌+◌, ◌-◌, ◌*◌, ◌/◌, ◌%◌, ◌<◌, ◌≤◌, List, [], ◌∷◌, length, take, get_or, replicate, ap, refl, sym, subst, ◌∙◌, ⊎_elim, arith}
+use Rattle.std.proofs.Common.{◌≡◌, ◌≢◌, ℕ, ◌+◌, ◌-◌, ◌*◌, ◌/◌, ◌%◌, ◌<◌, ◌≤◌, List, [], ◌∷◌, length, take, get_or, replicate, ap, sym, subst, ◌∙◌, ⊎_elim, arith}
 use Rattle.std.proofs.lemmas.Bool.{cases_eq, cases_lt}
 use Rattle.std.proofs.lemmas.List.{length-replicate}
+use Rattle.law_common.proofs.Numbers.{same_numbers}
 use Rattle.word_mem.specs.Runs.{Run, IsInRun}
 use Rattle.word_mem.specs.Memory.{Mem, IsShaped}
 use Rattle.word_mem.specs.declared.blocks.BlockState.TheVariants.{Kept}
@@ -24,11 +25,6 @@ use Rattle.law_driver_ring.specs.Written.{AreRuns, AreAllApart}
 use Rattle.law_driver_ring.proofs.Lists.{at_one}
 use Rattle.law_driver_ring.proofs.Buffers.{take_same, runs_at, runs_keep, apart_at, needs_case}
 use Rattle.law_driver_ring.proofs.Holding.{LendsRuns, past_zero}
-
-same_numbers : (p j : ℕ) → j < p → get_or (replicate {A = ℕ} p 128) j 0 ≡ 128
-same_numbers zero j below = absurd (omega (arith, below))
-same_numbers (suc p) zero below = refl
-same_numbers (suc p) (suc j) below = same_numbers p j (omega (arith, below))
 
 -- the first pages, so many, are those of the runs
 pub record ArePages (buffer pages : List ℕ) (few : ℕ) : Type 0 where

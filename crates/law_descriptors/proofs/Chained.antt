@@ -2,15 +2,15 @@
 use Rattle.std.proofs.Common.{◌≡◌, ℕ, zero, suc, Bool, true, false, cond, nat_lt, List, [], ◌∷◌, ◌++◌, length, take, drop, set, slice_get, Option, Some, None, Ok, ap, sym, subst, ◌∙◌, refl}
 use Rattle.std.specs.Prelude.{is_some, is_none, ◌-◌}
 use Rattle.std.proofs.lemmas.Option.{same_Some}
+use Rattle.law_frame_list.proofs.Common.{endpoint_command, transfer_command, unlink_command, removed_command}
+use Rattle.law_driver.proofs.Common.{one_command}
+use Rattle.law_common.proofs.Lists.{set_here}
 use Rattle.usb_base.specs.declared.commands.Cmd.{Cmd}
 use Rattle.usb_base.specs.declared.endpoints.EpName.{EpName}
 use Rattle.usb_base.specs.declared.endpoints.EndCause.{EndCause}
-use Rattle.usb_base.specs.declared.endpoints.EndCause.TheVariants as causes
-use Rattle.usb_base.specs.declared.reports.What.TheVariants as lines
 use Rattle.word_mem.specs.Memory.{Mem}
-use Rattle.mem_runs.specs.Book.{Holding, holding, lend_taken}
+use Rattle.mem_runs.specs.Book.{holding, lend_taken}
 use Rattle.drv_periodic_table.specs.Periodic.{is_periodic}
-use Rattle.drv_periodic_table.specs.declared.content.Removed.{Removed}
 use Rattle.drv_periodic_table.specs.declared.content.Removed.TheVariants as removed
 use Rattle.drv_chains.specs.declared.members.Member.{Member}
 use Rattle.drv_table.specs.declared.content.Reserve.{Reserve}
@@ -27,12 +27,11 @@ use Rattle.drv_table.specs.Opening.{opening}
 use Rattle.drv_table.specs.Accepting.{Offered}
 use Rattle.drv_table.specs.Offers.{offered}
 use Rattle.drv_table.specs.CancelOffers.{first_end, endpoint_members, with_cancel}
-use Rattle.drv_table.specs.Harvests.{noted, end_of, is_stall, reported}
+use Rattle.drv_table.specs.Harvests.{noted, end_of, is_stall}
 use Rattle.drv_table.specs.Parts.{Parts}
 use Rattle.drv_table.specs.Commands.{events_of, links, leave_ring, leave_frames, no_command, removal_of, finished, or_finished, linked_on, advanced_by}
 use Rattle.drv_table.specs.FrameChoice.{framed_by, framed_notes, with_notes, placement_at, linked_by}
-use Rattle.drv_table.specs.Removals.{after_unlink, after_descriptor, after_placed, after_removed}
-use Rattle.drv_table.specs.Releases.{after_transfer, after_endpoint, freed_by, cancelled_bytes, cancel_told, is_told}
+use Rattle.drv_table.specs.Releases.{freed_by}
 use Rattle.drv_table.specs.Harvesting.{told_with, behind_one, behind, after_end, harvested_as, served, after_harvest}
 use Rattle.drv_table.specs.Rows.{driver_row, after_driver_row}
 use Rattle.law_driver.specs.run_owners.Accepts.{Accepts, opens, chains, places, transfers, describes, cancels, unchains, Unchains}
@@ -40,7 +39,6 @@ use Rattle.law_driver.specs.run_owners.Due.{IsDue}
 use Rattle.claims_driver.specs.Leaving.{HasOwners}
 use Rattle.law_driver.proofs.lemmas.run_owners.Commands.{each_command_has_its_reason}
 use Rattle.law_driver.proofs.lemmas.run_owners.Reasons.{each_event_is_due}
-use Rattle.law_driver.proofs.lemmas.run_owners.Released.{set_here}
 use Rattle.law_driver.specs.listed_members.Members.{IsListed}
 use Rattle.law_descriptors.specs.ListRows.{LeavesChained}
 
@@ -93,48 +91,7 @@ framed_chained d n (Some (unfinished.Iso e t count)) old =
     let f = with_notes d n (take count (drop t d.transfers)) (framed_notes d n e t count (placement_at d e)) in advanced_chained f f.command old
 framed_chained d n _ old = old
 
--- ---- what is given back, and unlinked, leaves the command
-
-pub transfer_command : (p : Parts) (t : ℕ) (o : Option Transfer) (h : Holding) → (after_transfer p t o h).driver.command ≡ p.driver.command
-transfer_command p t None h = refl
-transfer_command p t (Some y) h = refl
-
-pub unlink_command : (p : Parts) (t : ℕ) (o : Option Transfer) → (after_unlink p t o).driver.command ≡ p.driver.command
-unlink_command p t None = refl
-unlink_command p t (Some y) = refl
-
-told_command : (d : DriverContent) (m : Mem) (e : ℕ) (x : Endpoint) → (cancel_told d m e x).command ≡ d.command
-told_command d m e x = by (is_told x)
-  where
-    by : (b : Bool) → (cond b (reported d lines.Cancel x.desc.name (cancelled_bytes d.notes m e x.queue d.transfers)) d).command ≡ d.command
-    by true = refl
-    by false = refl
-
-pub endpoint_command : (p : Parts) (e : ℕ) (o : Option Endpoint) → (after_endpoint p e o).driver.command ≡ p.driver.command
-endpoint_command p e None = refl
-endpoint_command p e (Some x) = told_command p.driver p.memory e x
-
-pub removed_command : (p : Parts) (what : Removed) → (after_removed p what).driver.command ≡ p.driver.command
-removed_command p (removed.Descriptor t) = by (slice_get p.driver.transfers t)
-  where
-    by : (o : Option Transfer) → (after_descriptor p t o).driver.command ≡ p.driver.command
-    by None = refl
-    by (Some y) = refl
-removed_command p (removed.Endpoint e) = by (slice_get p.driver.endpoints e)
-  where
-    by : (o : Option Endpoint) → (after_placed p e o).driver.command ≡ p.driver.command
-    by None = refl
-    by (Some x) = told_command p.driver p.memory e x
-
 -- ---- a harvest leaves it
-
-one_command : (d : DriverContent) (e : ℕ) (name : EpName) (k : ℕ) (o : Option Transfer) → (behind_one d e name k o).command ≡ d.command
-one_command d e name k None = refl
-one_command d e name k (Some y) = by (waits_for e y)
-  where
-    by : (b : Bool) → (cond b (record (reported d (lines.Halt causes.Stall) name []) { transfers = set d.transfers k (record y { reported = true }); harvested = d.harvested ++ k ∷ [] }) d).command ≡ d.command
-    by true = refl
-    by false = refl
 
 behind_command : (d : DriverContent) (e : ℕ) (name : EpName) (k n : ℕ) → (behind d e name k n).command ≡ d.command
 unfolding behind

@@ -1,9 +1,9 @@
 -- The structures that tell memory lead as its words do; so at the begin of a microframe those that stand are met alone.
-use Rattle.std.proofs.Common.{◌≡◌, ℕ, ◌+◌, ◌*◌, ◌/◌, ◌<◌, Bool, List, length, get_or, Option, Some, None, ap, refl, sym, subst, ◌∙◌, arith}
+use Rattle.std.proofs.Common.{◌≡◌, ℕ, ◌+◌, ◌*◌, Bool, List, Option, Some, None, ap, refl, sym, subst, ◌∙◌, arith}
 use Rattle.std.specs.Prelude.{slice_index}
+use Rattle.law_descriptors.proofs.Common.{first_of_words, further}
+use Rattle.law_controller.proofs.Common.{word_there}
 use Rattle.word_mem.specs.Memory.{Mem, word_at}
-use Rattle.word_mem.specs.Views.{words_at}
-use Rattle.word_mem.proofs.Words.{get_or-words_in}
 use Rattle.link_words.specs.Links.{link_of, link_read}
 use Rattle.qh_qtd.specs.QueueHead.{qh_words}
 use Rattle.qh_qtd.proofs.QhLaws.{qh_read-words, qh_read-link}
@@ -16,7 +16,7 @@ use Rattle.drv_periodic.specs.Periodic.{address_of}
 use Rattle.drv_table.specs.DriverContent.{DriverContent}
 use Rattle.hc_core.specs.declared.controller.MicroframePart.TheVariants.{Over}
 use Rattle.hc_core.specs.Controller.{Content, began}
-use Rattle.law_structures.specs.lent_structures.Structures.{Structure, QueueHead, Table, Isochronous, SplitIsochronous, StructureSets, Holds, HoldsTable, Tells}
+use Rattle.law_structures.specs.lent_structures.Structures.{Structure, QueueHead, Isochronous, SplitIsochronous, StructureSets, Holds, Tells}
 use Rattle.law_ring.specs.Hand.{Hand}
 use Rattle.claims_base.specs.Controller.{Base}
 use Rattle.law_controller.specs.controlled_streams.Control.{FrameList}
@@ -31,11 +31,6 @@ use Rattle.law_descriptors.specs.RowLaws.{HasFrames}
 use Rattle.law_descriptors.proofs.Leading.{elements_lead_to_standing, members_lead_to_standing}
 
 -- ---- the first word of a structure is its link
-
-first_of_words : (m : Mem) (a n : ℕ) → 0 < n → slice_index (words_at m a n) 0 ≡ word_at m a
-first_of_words m a n many =
-    let same : (a + 4 * 0) / 4 ≡ a / 4 = omega arith in
-    get_or-words_in m.words a n 0 many ∙ ap (λ (k : ℕ). get_or m.words k 0) same
 
 pub leads_as : (met : ℕ → Option Kind) (m : Mem) (a : ℕ) (s : Structure) → Holds m a s → LeadsTo met (link_read (word_at m a)) → LeadsTo met (link_in s)
 leads_as met m a (QueueHead q) h leads =
@@ -56,11 +51,6 @@ pub standing_are_closed : (m : Mem) (d : DriverContent) (parts : StructureSets) 
     → AreMetAmong (standing d) parts
 standing_are_closed m d parts frames told n kind s on here = leads_as (standing d) m n s (told.each n n s here) (members_lead_to_standing m d n kind frames on)
 
-word_there : (m : Mem) (base : Base) (parts : StructureSets) (i : ℕ) → Tells m parts → (list : FrameList parts base) → i < 1024 → word_at m (base.periodic_list_base + 4 * i) ≡ slice_index list.words i
-word_there m base parts i told list below =
-    let table : HoldsTable m base.periodic_list_base list.words = told.each base.periodic_list_base base.periodic_list_base (Table list.words) list.here in
-    sym (get_or-words_in m.words base.periodic_list_base (length list.words) i (let size = list.size in omega (arith, below, size))) ∙ ap (λ ws. get_or ws i 0) table.words
-
 pub list_leads_to_standing : (m : Mem) (d : DriverContent) (parts : StructureSets) (base : Base) → HasFrames m d → Tells m parts → base.periodic_list_base ≡ 32 * d.periodic.list.list → (list : FrameList parts base) → LeadToMet (standing d) list.words
 list_leads_to_standing m d parts base frames told is list i below =
     let at : word_at m (address_of d.periodic.list.list (Element i)) ≡ slice_index list.words i
@@ -72,9 +62,6 @@ list_leads_to_standing m d parts base frames told is list i below =
 alone : (o : Option Kind) → or_recent o None ≡ o
 alone None = refl
 alone (Some kind) = refl
-
-further : (o recent : Option Kind) (kind : Kind) → o ≡ Some kind → or_recent o recent ≡ Some kind
-further o recent kind is = ap (λ x. or_recent x recent) is
 
 pub standing_met : (d : DriverContent) (recent : ℕ → Option Kind) → IsMetFurther (standing d) (met d recent)
 standing_met d recent n kind is = further (standing d n) (recent n) kind is

@@ -3,6 +3,7 @@ use Rattle.std.proofs.Common.{◌≡◌, ℕ, zero, suc, ◌*◌, ◌/◌, ◌�
 use Rattle.std.specs.List.{list_any}
 use Rattle.std.proofs.lemmas.Bool.{false≢true, and_parts}
 use Rattle.std.proofs.lemmas.Option.{same_Some}
+use Rattle.law_common.proofs.Booleans.{not_on}
 use Rattle.mem_runs.specs.Book.{slot_of}
 use Rattle.mem_runs.specs.declared.slots.Slot.{Slot}
 use Rattle.mem_runs.specs.declared.slots.Slot.TheVariants.{Empty, Keeps, Lends}
@@ -91,10 +92,6 @@ waiting_comes base member met recent descs parts hand frame c d index command t 
     (waiting_is_fresh d recent index t y w.endpoint has are w.here w.sort w.unreported (waiting_held d t y has w) w.its w.chained (no_unchain d command is links))
 
 -- ---- a member that waits
-
-not_on : (b : Bool) → not b ≡ true → b ≡ false
-not_on true is = absurd (false≢true is)
-not_on false is = refl
 
 pub waiting_of : (d : DriverContent) (e first : ℕ) (m : Member) → (w : IsWaitingOf d e first m) → (s : IsSeen d.endpoints d.transfers w.number w.placed) → IsWaiting d w.number s.transfer
 waiting_of d e first m w s =

@@ -1,10 +1,12 @@
 -- A command with descriptors is accepted beside what there is, and gets its frames.
 use Rattle.std.proofs.Common.{◌≡◌, ℕ, zero, suc, ◌+◌, ◌*◌, ◌/◌, ◌%◌, ◌<◌, ◌≤◌, ◌⊎◌, Bool, true, false, cond, List, [], ◌∷◌, ◌++◌, length, drop, get_or, slice_get, slice_index, Some, ap, refl, sym, subst, ◌∙◌, ⊎_elim, inl, inr, arith, length-append, length-drop}
 use Rattle.std.proofs.lemmas.Option.{same_Some}
-use Rattle.word_mem.specs.Memory.{Mem, IsShaped, with_word}
+use Rattle.law_frame_list.proofs.Common.{has_run}
+use Rattle.law_descriptors.proofs.Common.{states_stored, old_there}
+use Rattle.law_common.proofs.Lists.{drop_first}
+use Rattle.word_mem.specs.Memory.{Mem, IsShaped}
 use Rattle.mem_runs.specs.declared.slots.Slot.{Slot}
-use Rattle.mem_runs.specs.declared.slots.Slot.TheVariants.{Empty, Keeps, Lends}
-use Rattle.mem_runs.specs.Book.{Book, Holding, holding, slot_of, can_store, store, store_words, Stands}
+use Rattle.mem_runs.specs.Book.{Book, Holding, holding, slot_of, store, store_words, Stands}
 use Rattle.drv_periodic_table.specs.declared.content.DescriptorNote.{DescriptorNote}
 use Rattle.drv_periodic_table.specs.Descriptors.{is_in, buffer_address, seeded_word, descriptor_words, write_seeded}
 use Rattle.drv_table.specs.declared.content.Endpoint.{Endpoint}
@@ -19,7 +21,7 @@ use Rattle.usb_base.specs.declared.endpoints.EpDesc.{EpDesc}
 use Rattle.claims_driver.specs.Owners.{HasRun, SlotHas, TransferRuns, Views, views_of, runs_of_transfer, runs_of_descriptor, transfer_in}
 use Rattle.law_driver.specs.run_owners.Accepts.{Describes}
 use Rattle.law_driver.proofs.lemmas.run_owners.Taking.{AreTaken, runs_taken}
-use Rattle.law_driver.proofs.lemmas.run_owners.Accepted.{drop_first, fresh_differs}
+use Rattle.law_driver.proofs.lemmas.run_owners.Accepted.{fresh_differs}
 use Rattle.law_driver.proofs.lemmas.run_owners.Stays.{endpoint_stays, framed}
 use Rattle.law_driver.proofs.lemmas.ring_members.Stores.{slots_apart}
 use Rattle.law_structures.specs.lent_structures.Structures.{StructureSets}
@@ -44,13 +46,6 @@ use Rattle.law_descriptors.proofs.CommandQueues.{AreLentAlike, QueuesStay, drive
 use Rattle.law_descriptors.proofs.Lending.{views_queues}
 
 -- ---- stores leave the states
-
-states_stored : (k : Book) (m : Mem) (b at v : ℕ) → (store k m b at v).states ≡ m.states
-states_stored k m b at v = by (can_store (slot_of k.slots b) at)
-  where
-    by : (can : Bool) → (cond can (with_word m at v) m).states ≡ m.states
-    by true = refl
-    by false = refl
 
 states_words : (k : Book) (m : Mem) (b at : ℕ) (ws : List ℕ) → (store_words k m b at ws).states ≡ m.states
 unfolding store_words
@@ -83,11 +78,6 @@ all_sizes k e x s (suc n) seed rs a =
 
 -- ---- the transfers
 
-old_there : (ts us : List Transfer) (t : ℕ) (y : TransferRuns) → transfer_in ts t ≡ Some y → transfer_in (ts ++ us) t ≡ Some y
-old_there [] us t y there = absurd (cc)
-old_there (z ∷ ts) us zero y there = there
-old_there (z ∷ ts) us (suc t) y there = old_there ts us t y there
-
 -- a transfer of both is one of the first, or of those behind
 either_there : (ts us : List Transfer) (t : ℕ) (y : TransferRuns) → transfer_in (ts ++ us) t ≡ Some y → (transfer_in ts t ≡ Some y) ⊎ ((i : ℕ) × (transfer_in us i ≡ Some y))
 either_there [] us t y there = inr (t, there)
@@ -107,15 +97,6 @@ made_first e s (suc n) rs (suc i) y enough there =
     let long = length-append (buffer_needs (total_of s)) (iso_needs s n) in
     let left = length-drop (suc (slot_runs s)) rs in
     one_dropped (suc (slot_runs s)) y.first rs (made_first e s n (drop (suc (slot_runs s)) rs) i y (omega (arith, enough, long, left)) there)
-
-lent_has : (s : Slot) → IsLent s → HasRun s
-lent_has Empty lent = lent
-lent_has (Keeps r) lent = absurd lent
-lent_has (Lends r) lent = tt
-
-has_run : (s : Slot) (k : ℕ) → SlotHas s k → HasRun s
-has_run Empty k has = absurd has
-has_run _ k has = tt
 
 -- its place in a list
 record IsAtIndex (c : ℕ) (bs : List ℕ) : Type 0 where

@@ -1,8 +1,12 @@
 -- A descriptor that is lent stands in memory with its slots and its buffer.
-use Rattle.std.proofs.Common.{◌≡◌, ◌≢◌, ℕ, zero, suc, ◌+◌, ◌*◌, ◌/◌, ◌%◌, ◌^◌, ◌<◌, ◌≤◌, ◌==◌, Bool, true, false, List, [], ◌∷◌, length, take, get_or, set, Some, None, if◌then◌else◌, ap, refl, sym, subst, ◌∙◌, inl, inr, arith}
+use Rattle.std.proofs.Common.{◌≡◌, ◌≢◌, ℕ, zero, suc, ◌+◌, ◌*◌, ◌/◌, ◌%◌, ◌<◌, ◌≤◌, ◌==◌, Bool, true, false, List, [], ◌∷◌, length, take, get_or, set, Some, None, if◌then◌else◌, ap, refl, sym, subst, ◌∙◌, inl, inr, arith}
 use Rattle.std.proofs.lemmas.Bool.{eq-eqb, eqb-true}
 use Rattle.std.proofs.lemmas.Option.{same_Some}
 use Rattle.std.proofs.lemmas.Nat.{mul-le}
+use Rattle.law_frame_list.proofs.Common.{link_again}
+use Rattle.law_descriptors.proofs.Common.{among_at}
+use Rattle.law_common.proofs.Booleans.{both_true}
+use Rattle.law_common.proofs.Numbers.{other_number}
 use Rattle.usb_base.specs.declared.endpoints.EpDesc.{EpDesc}
 use Rattle.word_mem.specs.Runs.{Run}
 use Rattle.word_mem.specs.Memory.{Mem, IsShaped, reaches}
@@ -10,8 +14,7 @@ use Rattle.word_mem.specs.Views.{words_at}
 use Rattle.word_mem.proofs.Holders.{has_block_from}
 use Rattle.mem_bytes.specs.Bytes.{bytes_at}
 use Rattle.mem_bytes.proofs.Loads.{length-bytes_at}
-use Rattle.link_words.specs.Layout.{word_of, flag, bits, high_bits}
-use Rattle.link_words.specs.Fields.{link_rows, link_at}
+use Rattle.link_words.specs.Fields.{link_at}
 use Rattle.mem_runs.specs.declared.slots.Slot.{Slot}
 use Rattle.mem_runs.specs.declared.slots.Slot.TheVariants.{Keeps, Lends}
 use Rattle.mem_runs.specs.Book.{Holding, slot_of, Stands}
@@ -31,8 +34,7 @@ use Rattle.drv_periodic_table.specs.Descriptors.{slots_before, slots_in, slot_li
 use Rattle.drv_table.specs.Words.{buffer_needs}
 use Rattle.claims_driver.specs.Owners.{SlotHas, IsOneOf as IsAmong}
 use Rattle.law_structures.specs.lent_structures.Structures.{Structure, Buffer, Isochronous, SplitIsochronous, Structures, Holds}
-use Rattle.law_structures.proofs.lemmas.lent_structures.Standing.{reaches_if, both_true}
-use Rattle.law_structures.proofs.lemmas.lent_structures.Names.{not_same}
+use Rattle.law_structures.proofs.lemmas.lent_structures.Standing.{reaches_if}
 use Rattle.law_frames.specs.Met.{IsBuffered}
 use Rattle.law_descriptors.specs.Described.{HasItd, HasSitd, HasDescriptor, HasItsBuffer}
 use Rattle.law_driver_ring.specs.Written.{AreAllApart, IsPageRun}
@@ -44,16 +46,6 @@ use Rattle.law_descriptors.specs.Written.{bytes_in, blocks_in, words_in, HasFiel
 use Rattle.law_descriptors.specs.Lent.{descriptor_with, split_pages, whole_pages, pages_in, start_in, buffer_part, descriptor_part}
 use Rattle.law_descriptors.proofs.Bytes.{ArePages, LiesIn, lies_in, name_at, buffer_holds, blocks_low}
 use Rattle.law_descriptors.proofs.Fields.{slot_within, slots_few, before_few, itd_range, sitd_range, IsSlotOf, active_is}
-
--- ---- a link word is written from its fields as it was, where its bits 3 and 4 are 0
-
-link_again : (w : ℕ) → w % 32 < 8 → word_of link_rows (link_at w) ≡ w
-link_again w small = by (w % 2) refl (omega arith)
-  where
-    by : (n : ℕ) → w % 2 ≡ n → n < 2 → word_of link_rows (link_at w) ≡ w
-    by zero e below = subst (λ (k : ℕ). high_bits 5 w + (0 + (bits 2 1 w * 2 ^ 1 + (flag (k == 1) * 2 ^ 0 + 0))) ≡ w) (let f : 0 ≡ w / 2 ^ 0 % 2 = omega (arith, e) in f) (omega (arith, e, small))
-    by (suc zero) e below = subst (λ (k : ℕ). high_bits 5 w + (0 + (bits 2 1 w * 2 ^ 1 + (flag (k == 1) * 2 ^ 0 + 0))) ≡ w) (let f : 1 ≡ w / 2 ^ 0 % 2 = omega (arith, e) in f) (omega (arith, e, small))
-    by (suc (suc n)) e below = absurd (omega (arith, below))
 
 -- ---- pages
 
@@ -104,11 +96,6 @@ has_pages slot note noted = by note.split refl
     }
 
 -- ---- lists of runs
-
-among_at : (cs : List ℕ) (i : ℕ) → i < length cs → IsAmong (get_or cs i 0) cs
-among_at [] i below = absurd (omega (arith, below))
-among_at (c ∷ cs) zero below = inl refl
-among_at (c ∷ cs) (suc i) below = inr (among_at cs i (omega (arith, below)))
 
 abbrev buffer_for : Mem → DescriptorNote → Structure
 buffer_for m note = Buffer (pages_in note) (start_in note) (bytes_at m (pages_in note) (start_in note) (bytes_in note))
@@ -265,7 +252,8 @@ module _ (h : Holding) (after : Mem) (x : EpDesc) (note : DescriptorNote) (b l :
   part_buffer : 0 < length cs → part (32 * get_or cs 0 0) ≡ Some (buffer_for after note)
   part_buffer some =
       ap (λ (t : Bool). if t then Some (descriptor_with x note l) else buffer_part after note cs (32 * get_or cs 0 0))
-      (not_same (32 * get_or cs 0 0) (32 * b) (λ same. each_of (λ (i : ℕ). i ≢ b) (get_or cs 0 0) cs k.apart.0 (at_one cs 0 some) (let e : get_or cs 0 0 ≡ b = omega (arith, same) in e)))
+      (other_number (32 * get_or cs 0 0) (32 * b) (λ same. each_of (λ (i : ℕ). i ≢ b) (get_or cs 0 0) cs k.apart.0 (at_one cs 0 some)
+      (let e : get_or cs 0 0 ≡ b = omega (arith, same) in e)))
       ∙ buffer_first after note cs some
 
   -- bytes of the buffer lie in it

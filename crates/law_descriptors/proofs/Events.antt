@@ -2,6 +2,8 @@
 use Rattle.std.proofs.Common.{◌≡◌, ◌≢◌, ℕ, ◌+◌, ◌≤◌, Bool, true, false, List, length, Option, Some, option_map, ap, refl, sym, subst, ◌∙◌, ⊎_elim}
 use Rattle.std.proofs.lemmas.Bool.{cases_eq}
 use Rattle.std.proofs.lemmas.Option.{same_Some}
+use Rattle.law_ring.proofs.Common.{received_beside}
+use Rattle.law_driver_ring.proofs.Common.{extents_same, extents_buffer}
 use Rattle.usb_base.specs.declared.packets.Ask.{Ask}
 use Rattle.usb_base.specs.declared.packets.Reply.{Reply}
 use Rattle.mem_bytes.specs.Bytes.{place}
@@ -11,9 +13,9 @@ use Rattle.hc_copy.specs.Overlay.{advanced, moved}
 use Rattle.hc_copy.specs.WriteBack.{moved_by as queue_moved_by}
 use Rattle.async_walk.specs.declared.state.WalkStep.{WalkStep}
 use Rattle.async_walk.specs.Rows.{WalkPlace}
-use Rattle.law_structures.specs.lent_structures.Structures.{Structure, QueueHead, Element, Buffer, Table, Isochronous, SplitIsochronous, Structures, StructureSets, put}
+use Rattle.law_structures.specs.lent_structures.Structures.{Structure, QueueHead, Element, Buffer, Isochronous, SplitIsochronous, Structures, StructureSets, put}
 use Rattle.law_structures.specs.lent_structures.Changes.{relinked, overwritten}
-use Rattle.law_structures.proofs.lemmas.lent_structures.Names.{names_differ, put_else, put_beside, put_found}
+use Rattle.law_structures.proofs.lemmas.lent_structures.Names.{names_differ, put_else, put_beside}
 use Rattle.law_structures.proofs.lemmas.lent_structures.Storing.{length-overwritten}
 use Rattle.law_structures.specs.lent_structures.WriteBack.{Received, Nothing, Into, IsReceived, received_parts, qtd_after, parts_back}
 use Rattle.law_structures.specs.lent_structures.Alters.{HasBytes}
@@ -55,52 +57,6 @@ buffered_still parts now n pages from count sorts extents is =
     let there = buffer_still parts now n (place pages is.start) pages is.start is.bytes sorts extents is.here in
     record { start = is.start; bytes = there.bytes; here = there.here; after = is.after; within = subst (λ (x : ℕ). from + count ≤ is.start + x) (sym there.size) is.within }
 
--- ---- one structure is put
-
-pub extents_same : (parts now : StructureSets) → now ≡ parts → KeepExtents parts now
-extents_same parts now same = subst (KeepExtents parts) (sym same) (record { buffers = λ n a pages k bs here. record { bytes = bs; here = here; size = refl }; tables = λ n a ws here. record { words = ws; here = here; size = refl } })
-
-pub extents_both : (parts mid now : StructureSets) → KeepExtents parts mid → KeepExtents mid now → KeepExtents parts now
-extents_both parts mid now one two = record {
-  buffers = λ n a pages k bs here.
-      let second = two.buffers n a pages k bs here in
-      let first = one.buffers n a pages k second.bytes second.here in
-      record { bytes = first.bytes; here = first.here; size = first.size ∙ second.size };
-  tables = λ n a ws here.
-      let second = two.tables n a ws here in
-      let first = one.tables n a second.words second.here in
-      record { words = first.words; here = first.here; size = first.size ∙ second.size };
-}
-
-pub extents_put : (parts : StructureSets) (m b : ℕ) (s : Structure) → ((pages : List ℕ) (k : ℕ) (bs : List ℕ) → Buffer pages k bs ≡ s → ⊥) → ((ws : List ℕ) → Table ws ≡ s → ⊥) → KeepExtents parts (put parts m b s)
-extents_put parts m b s no_buffer no_table = record {
-  buffers = λ n a pages k bs here.
-      ⊎_elim (λ (is : (n ≡ m) × (a ≡ b) × (Buffer pages k bs ≡ s)). absurd (no_buffer pages k bs is.2)) (λ (there : parts n a ≡ Some (Buffer pages k bs)). record { bytes = bs; here = there; size = refl })
-      (put_found parts m b s n a (Buffer pages k bs) here);
-  tables = λ n a ws here.
-      ⊎_elim (λ (is : (n ≡ m) × (a ≡ b) × (Table ws ≡ s)). absurd (no_table ws is.2)) (λ (there : parts n a ≡ Some (Table ws)). record { words = ws; here = there; size = refl })
-      (put_found parts m b s n a (Table ws) here);
-}
-
-pub extents_buffer : (parts : StructureSets) (m b : ℕ) (pages : List ℕ) (k : ℕ) (bs cs : List ℕ) → parts m b ≡ Some (Buffer pages k bs) → length cs ≡ length bs → KeepExtents parts (put parts m b (Buffer pages k cs))
-extents_buffer parts m b pages k bs cs here size = record {
-  buffers = λ n a ps j ds found.
-      ⊎_elim (λ (is : (n ≡ m) × (a ≡ b) × (Buffer ps j ds ≡ Buffer pages k cs)).
-      let same = same_buffer ps j ds pages k cs is.2 in
-      record {
-        bytes = bs;
-        here = ap (λ (i : ℕ). parts i a) is.0 ∙ ap (parts m) is.1 ∙ here ∙ ap (λ (x : List ℕ). Some (Buffer x k bs)) (sym same.pages_is) ∙ ap (λ (x : ℕ). Some (Buffer ps x bs)) (sym same.start_is);
-        size = sym size ∙ ap length (sym same.bytes_is);
-      })
-      (λ (there : parts n a ≡ Some (Buffer ps j ds)). record { bytes = ds; here = there; size = refl }) (put_found parts m b (Buffer pages k cs) n a (Buffer ps j ds) found);
-  tables = λ n a ws found.
-      ⊎_elim (λ (is : (n ≡ m) × (a ≡ b) × (Table ws ≡ Buffer pages k cs)). absurd (no_table ws is.2)) (λ (there : parts n a ≡ Some (Table ws)). record { words = ws; here = there; size = refl })
-      (put_found parts m b (Buffer pages k cs) n a (Table ws) found);
-}
-  where
-    no_table : (ws : List ℕ) → Table ws ≡ Buffer pages k cs → ⊥
-    no_table ws e = cc
-
 -- ---- received bytes are put
 
 -- they fit into a buffer that is there
@@ -124,10 +80,6 @@ pub received_there : (parts : StructureSets) (n : ℕ) (got : List ℕ) (r : Rec
 received_there parts n got Nothing a s fit other here = here
 received_there parts n got (Into pages k bs j) a s fit other here =
     put_else parts n (place pages k) (Buffer pages k (overwritten bs j got)) a (names_differ (parts n) a (place pages k) s (Buffer pages k bs) here fit.0 (other pages k bs)) ∙ here
-
-pub received_beside : (parts : StructureSets) (n : ℕ) (got : List ℕ) (r : Received) (k : ℕ) → k ≢ n → received_parts parts n got r k ≡ parts k
-received_beside parts n got Nothing k differs = refl
-received_beside parts n got (Into pages i bs j) k differs = put_beside parts n (place pages i) (Buffer pages i (overwritten bs j got)) k differs
 
 -- ---- descriptors
 

@@ -1,8 +1,11 @@
 -- The kind of what stands at an address is that of a member of the schedule which begins there, and each member has its own.
 use Rattle.std.proofs.Common.{◌≡◌, ℕ, ◌*◌, ◌/◌, Bool, true, false, nat_eq, List, [], ◌∷◌, Some, None, inl, inr, ap, refl, ◌∙◌, arith}
-use Rattle.std.specs.Prelude.{◌||◌, ◌&&◌}
+use Rattle.std.specs.Prelude.{◌&&◌}
 use Rattle.std.specs.List.{list_any}
 use Rattle.std.proofs.lemmas.Bool.{false≢true, eqb-true, eq-eqb, or_cases, and_parts}
+use Rattle.law_common.proofs.Booleans.{right_or, left_or}
+use Rattle.law_frame_words.proofs.Common.{this_itself, that_itself}
+use Rattle.law_common.proofs.Numbers.{same_block}
 use Rattle.drv_chains.specs.declared.members.Descriptor.{Descriptor}
 use Rattle.drv_chains.specs.declared.members.QueueHead.{QueueHead}
 use Rattle.drv_chains.specs.declared.members.Member.{Member}
@@ -15,14 +18,6 @@ use Rattle.law_frames.specs.Met.{Kind}
 use Rattle.law_descriptors.specs.Meeting.{kind_of_descriptor, kind_of, queue_begins, descriptor_begins, kind_by, kind_at}
 
 -- ---- one of a list
-
-left_or : (a b : Bool) → a ≡ true → (a || b) ≡ true
-left_or true b here = refl
-left_or false b here = absurd (false≢true here)
-
-right_or : (a b : Bool) → b ≡ true → (a || b) ≡ true
-right_or true b later = refl
-right_or false b later = later
 
 pub any_weaker : {X : Type 0} (t p : X → Bool) (xs : List X) → ((x : X) → t x ≡ true → p x ≡ true) → list_any t xs ≡ true → list_any p xs ≡ true
 any_weaker t p [] by any = any
@@ -43,18 +38,6 @@ found_in p t (x ∷ xs) same any = elim (or_cases (p x) (list_any p xs) any) [
   | inr later ↦ let f = found_in p t xs same later in record { found = f.found; passes = f.passes; among = right_or (t f.found x) (list_any (t f.found) xs) f.among }
 ]
 
-both_true : (a b : Bool) → a ≡ true → b ≡ true → (a && b) ≡ true
-both_true true b one two = two
-both_true false b one two = one
-
-this_itself : (q : QueueHead) → is_this q q ≡ true
-this_itself q =
-    both_true (nat_eq q.id q.id) (nat_eq q.period q.period && nat_eq q.phase q.phase) (eq-eqb q.id q.id refl)
-    (both_true (nat_eq q.period q.period) (nat_eq q.phase q.phase) (eq-eqb q.period q.period refl) (eq-eqb q.phase q.phase refl))
-
-that_itself : (d : Descriptor) → is_that d d ≡ true
-that_itself d = both_true (nat_eq d.id d.id) (nat_eq d.frame d.frame) (eq-eqb d.id d.id refl) (eq-eqb d.frame d.frame refl)
-
 -- ---- where a member begins
 
 abbrev pub begins_at : Member → ℕ
@@ -71,9 +54,6 @@ descriptor_there s d on =
     any_weaker (is_that d) (descriptor_begins (begins_at (Once d))) s.descriptors
     (λ x is. (let a = and_parts (nat_eq x.id d.id) (nat_eq x.frame d.frame) is in
     eq-eqb (32 * (x.id / 32)) (32 * (d.id / 32)) (ap (λ (n : ℕ). 32 * (n / 32)) (eqb-true x.id d.id a.0)))) on
-
-same_block : (a b : ℕ) → 32 * (a / 32) ≡ 32 * (b / 32) → a / 32 ≡ b / 32
-same_block a b same = omega (arith, same)
 
 once_each : (d : Descriptor) (q : QueueHead) → Each q ≡ Once d → ⊥
 once_each d q same = cc

@@ -2,7 +2,10 @@
 use Rattle.std.proofs.Common.{◌≡◌, ◌≢◌, ℕ, ◌+◌, ◌<◌, Bool, true, false, List, length, Option, Some, ap, refl, sym, subst, ◌∙◌, ⊎_elim, arith}
 use Rattle.std.proofs.lemmas.Bool.{cases_eq, true≢false}
 use Rattle.std.proofs.lemmas.Option.{same_Some}
-use Rattle.std.proofs.lemmas.List.{get_or-set_same, get_or-set_other}
+use Rattle.std.proofs.lemmas.List.{get_or-set_same}
+use Rattle.law_frames.proofs.Common.{slot_same}
+use Rattle.law_driver_ring.proofs.Common.{extents_same, extents_both, extents_put}
+use Rattle.law_ring.proofs.Common.{received_beside}
 use Rattle.usb_base.specs.declared.packets.Ask.{Ask}
 use Rattle.usb_base.specs.declared.packets.Reply.{Reply}
 use Rattle.mem_bytes.specs.Bytes.{place}
@@ -41,7 +44,7 @@ use Rattle.law_frames.proofs.PartTurning.{its_place_moves_on}
 use Rattle.law_descriptors.specs.Described.{HasItd, HasSitd, HasDescriptor}
 use Rattle.law_descriptors.specs.Both.{Keeps}
 use Rattle.law_descriptors.specs.PartLaws.{FramesKeep}
-use Rattle.law_descriptors.proofs.Events.{buffered_still, extents_same, extents_both, extents_put, Fit, fit_received, received_sorts, received_extents, received_there, received_beside, descriptors_same, descriptors_beside, queue_keeps, back_beside}
+use Rattle.law_descriptors.proofs.Events.{buffered_still, Fit, fit_received, received_sorts, received_extents, received_there, descriptors_same, descriptors_beside, queue_keeps, back_beside}
 
 keeps_same : (parts now : StructureSets) → now ≡ parts → Keeps parts now
 keeps_same parts now same = record { sorts = same_parts parts now same; extents = extents_same parts now same; descriptors = descriptors_same parts now same }
@@ -155,10 +158,6 @@ one_itd v w e = ap (itd_or v) e
 done_is_idle : (c : ItdCopy) → (done_slot c.held).active ≡ false
 unfolding done_slot
 done_is_idle c = refl
-
--- one that is still active is as it was
-slot_same : (c : ItdCopy) (u : ℕ) → u ≢ c.held.number → slot_of u (itd_back c) ≡ slot_of u c.itd
-slot_same c u differs = get_or-set_other c.itd.slots c.held.number u (done_slot c.held) no_slot differs
 
 slot_done : (c : ItdCopy) → c.held.number < length c.itd.slots → (slot_of c.held.number (itd_back c)).active ≡ false
 slot_done c within = ap (λ (s : ItdSlot). s.active) (get_or-set_same c.itd.slots c.held.number (done_slot c.held) no_slot within) ∙ done_is_idle c

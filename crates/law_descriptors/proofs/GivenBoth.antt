@@ -3,6 +3,8 @@ use Rattle.std.proofs.Common.{◌≡◌, ◌≢◌, ℕ, ◌*◌, ◌≤◌, Boo
 use Rattle.std.specs.Prelude.{◌==◌}
 use Rattle.std.proofs.lemmas.Bool.{true≢false, eqb-true, eq-eqb}
 use Rattle.std.proofs.lemmas.Option.{same_Some}
+use Rattle.law_common.proofs.Lists.{set_here, set_there}
+use Rattle.law_common.proofs.Booleans.{owed_by}
 use Rattle.mem_runs.specs.Book.{Holding, holding, slot_of}
 use Rattle.mem_runs.specs.declared.slots.Slot.{Slot}
 use Rattle.drv_periodic_table.specs.declared.content.Removed.TheVariants as removed
@@ -13,7 +15,6 @@ use Rattle.drv_table.specs.Releases.{free_runs}
 use Rattle.claims_driver.specs.Owners.{Owner, Buffer, IsPlaced, TransferRuns, Views, is_descriptor, runs_of_transfer, descriptor_in, IsDescribed, views_of, IsOneOf}
 use Rattle.claims_driver.specs.Leaving.{times, transfers_in, owes, HasOwners}
 use Rattle.law_driver.proofs.lemmas.run_owners.Freeing.{descriptor_freed}
-use Rattle.law_driver.proofs.lemmas.run_owners.Released.{set_here, set_there}
 use Rattle.law_structures.specs.lent_structures.Structures.{StructureSets}
 use Rattle.law_driver_ring.specs.Inventory.{IsLent}
 use Rattle.law_driver_ring.proofs.Blocks.{all_one}
@@ -26,7 +27,7 @@ use Rattle.law_descriptors.specs.Meeting.{met}
 use Rattle.law_descriptors.specs.Returned.{IsGivenBack}
 use Rattle.law_descriptors.specs.Given.{without_owners, begins_at, ReleaseTold, ReleaseRunsBoth}
 use Rattle.law_descriptors.proofs.Owned.{descriptor_owner, is_described}
-use Rattle.law_descriptors.proofs.Returning.{owed_by, transfer_counts, descriptors_are_unmet}
+use Rattle.law_descriptors.proofs.Returning.{transfer_counts, descriptors_are_unmet}
 use Rattle.law_descriptors.proofs.GivenViews.{goes_with, DescriptorsGo, told_without}
 use Rattle.law_descriptors.proofs.GivenTold.{IsGoneRun, freed_told, runs_without}
 

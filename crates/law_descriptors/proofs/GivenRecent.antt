@@ -1,8 +1,11 @@
 -- What is recent stays recent where an endpoint is given back.
-use Rattle.std.proofs.Common.{◌≡◌, ◌≢◌, ℕ, zero, suc, ◌*◌, Bool, true, false, not, cond, if◌then◌else◌, List, [], ◌∷◌, drop, map, set, Option, Some, option_map, ⊎_elim, inl, ap, refl, sym, subst, ◌∙◌, arith}
+use Rattle.std.proofs.Common.{◌≡◌, ◌≢◌, ℕ, zero, suc, ◌*◌, Bool, true, false, not, cond, if◌then◌else◌, List, drop, map, set, Option, Some, option_map, ⊎_elim, inl, ap, refl, sym, subst, ◌∙◌, arith}
 use Rattle.std.specs.Prelude.{◌==◌, ◌||◌, slice_get}
-use Rattle.std.proofs.lemmas.Bool.{eqb-true, eq-eqb, and_parts}
+use Rattle.std.proofs.lemmas.Bool.{eqb-true, eq-eqb}
 use Rattle.std.proofs.lemmas.Option.{same_Some, slice_get-map}
+use Rattle.law_queues.proofs.Common.{its_endpoint}
+use Rattle.law_descriptors.proofs.Common.{dropped}
+use Rattle.law_common.proofs.Lists.{set_there}
 use Rattle.drv_periodic_table.specs.declared.content.Removal.{Removal}
 use Rattle.drv_periodic_table.specs.declared.content.Removed.{Removed}
 use Rattle.drv_periodic_table.specs.declared.content.Removed.TheVariants as removed
@@ -17,7 +20,7 @@ use Rattle.drv_table.specs.Removals.{let_go_placed, after_placed}
 use Rattle.claims_driver.specs.Owners.{is_descriptor}
 use Rattle.claims_driver.specs.Leaving.{leaves_frames, HasOwners}
 use Rattle.law_driver.proofs.lemmas.run_owners.Orders.{endpoint_first}
-use Rattle.law_driver.proofs.lemmas.run_owners.Released.{set_there, AreUntouched, cancel_same}
+use Rattle.law_driver.proofs.lemmas.run_owners.Released.{AreUntouched, cancel_same}
 use Rattle.law_frames.specs.Met.{Kind}
 use Rattle.claims_driver.specs.Unlinked.{IsOpenAt}
 use Rattle.law_descriptors.specs.Removed.{IsRemovedAt, a_descriptor, a_queue, a_waiting, IsRemovedSince, IsUnchainedNow}
@@ -33,9 +36,6 @@ pub record IsLetGo (e : ℕ) (y z : Transfer) : Type 0 where
   pub first : z.first ≡ y.first
   pub sort : z.sort ≡ y.sort
   pub waits : (f : ℕ) → f ≢ e → waits_for f y ≡ true → waits_for f z ≡ true
-
-its_endpoint : (f : ℕ) (y : Transfer) → waits_for f y ≡ true → y.endpoint ≡ f
-its_endpoint f y waits = eqb-true y.endpoint f (and_parts (y.endpoint == f) (not y.reported) waits).0
 
 let_go_one : (e : ℕ) (b told : Bool) (y : Transfer) → (b ≡ true → y.endpoint ≡ e) → IsLetGo e y (if b then record y { reported = y.reported || told; released = true } else y)
 let_go_one e true told y of = record { first = refl; sort = refl; waits = λ f differs waits. absurd (differs (sym (its_endpoint f y waits) ∙ of refl)) }
@@ -57,10 +57,6 @@ module _ (xs : List Endpoint) (ts : List Transfer) (e : ℕ) (x : Endpoint) (the
       let differs : f ≢ e = λ same. other (ap removed.Endpoint same) in
       a_waiting f t z (go y) (set_there xs e f (record x { gone = true }) differs ∙ at) iso (went t y in_list) (ap is_descriptor (each y).sort ∙ sort) ((each y).waits f differs waits)
       (is ∙ ap (λ (b : ℕ). 32 * b) (sym (each y).first))
-
-dropped : (rs : List Removal) (k : ℕ) (r : Removal) → slice_get rs (suc k) ≡ Some r → slice_get (drop 1 rs) k ≡ Some r
-dropped [] k r here = absurd cc
-dropped (m ∷ ms) k r here = here
 
 module _ (p : Parts) (index e : ℕ) (x : Endpoint) (has : HasOwners p.driver) (why : IsGivenBack p (removed.Endpoint e)) (there : slice_get p.driver.endpoints e ≡ Some x) (go : Transfer → Transfer) (each : (y : Transfer) → IsLetGo e y (go y)) where
   -- it was removed once

@@ -1,9 +1,9 @@
 -- The worked driver beside a ring and the frames: its iTD is lent, and is given back.
-use Rattle.std.proofs.Common.{◌≡◌, ◌≢◌, ℕ, ◌+◌, ◌-◌, ◌*◌, ◌/◌, ◌<◌, ◌≤◌, true, List, [], length, replicate, set, get_or, Option, Some, None, ⊎_elim, inl, inr, ap, refl, sym, subst, ◌∙◌, arith}
+use Rattle.std.proofs.Common.{◌≡◌, ◌≢◌, ℕ, ◌+◌, ◌-◌, ◌*◌, ◌/◌, ◌<◌, ◌≤◌, true, List, [], length, replicate, set, get_or, Some, None, ⊎_elim, inl, inr, ap, refl, sym, subst, ◌∙◌, arith}
 use Rattle.std.specs.Prelude.{◌&&◌, is_some}
 use Rattle.std.proofs.lemmas.Bool.{false≢true, cases_eq, cases_lt}
 use Rattle.std.proofs.lemmas.List.{get_or-set_same, get_or-set_other, get_or-replicate, length-replicate, set-set}
-use Rattle.std.proofs.lemmas.Option.{same_Some}
+use Rattle.law_driver.proofs.Common.{not_both}
 use Rattle.word_mem.specs.Memory.{Mem, IsShaped, word_at, state_at, reaches, is_lent, with_states, filled}
 use Rattle.word_mem.specs.Views.{words_at}
 use Rattle.word_mem.specs.declared.blocks.BlockState.{BlockState}
@@ -68,9 +68,6 @@ unfolding filled
 states_many = refl
 
 -- ---- its run
-
-not_both : ◌≡◌ {A = Option BlockState} (Some Lent) (Some Free) → ⊥
-not_both same = lent_not_free (same_Some Lent Free same)
 
 free_run : (b : ℕ) → 130 ≤ b → b < 132 → state_at first b ≡ Some Free
 free_run b low high =

@@ -3,13 +3,13 @@ use Rattle.std.proofs.Common.{◌≡◌, ℕ, zero, suc, ◌+◌, ◌<◌, ◌�
 use Rattle.std.specs.Prelude.{◌==◌}
 use Rattle.std.proofs.lemmas.Bool.{true≢false, false≢true}
 use Rattle.std.proofs.lemmas.Option.{same_Some}
+use Rattle.law_common.proofs.Numbers.{other_number}
 use Rattle.drv_periodic_table.specs.declared.content.Removed.TheVariants as removed
 use Rattle.drv_table.specs.declared.content.Endpoint.{Endpoint}
 use Rattle.drv_table.specs.declared.content.Transfer.{Transfer}
 use Rattle.drv_table.specs.Kinds.{is_iso}
 use Rattle.claims_driver.specs.Owners.{Owner, FrameList, Head, Described, EndpointRuns, TransferRuns, runs_of_endpoint, runs_of_transfer, endpoint_in, transfer_in, is_descriptor, ArePieces, IsDescribed, views_of}
 use Rattle.claims_driver.specs.Leaving.{IsSteady, owes, HasOwners}
-use Rattle.law_structures.proofs.lemmas.lent_structures.Names.{not_same}
 use Rattle.claims_driver.specs.FrameListMembers.{Placed, placed_in}
 use Rattle.law_driver.specs.listed_members.Members.{StandsAs, IsListed}
 use Rattle.law_driver.proofs.lemmas.listed_members.Opening.{opening_list_has_its_members}
@@ -60,7 +60,7 @@ if_not false off = refl
 
 owed_once : (t : ℕ) → 0 + ((if 0 == t then 1 else 0) + 0) ≤ owes (slice_get (transfer ∷ []) t)
 owed_once zero = omega arith
-owed_once (suc t) = let e : ◌≡◌ {A = ℕ} (if 0 == suc t then 1 else 0) 0 = if_not (0 == suc t) (not_same 0 (suc t) (λ same. cc)) in omega (arith, e)
+owed_once (suc t) = let e : ◌≡◌ {A = ℕ} (if 0 == suc t then 1 else 0) 0 = if_not (0 == suc t) (other_number 0 (suc t) (λ same. cc)) in omega (arith, e)
 
 sort_is : (y : Transfer) (x : Endpoint) → transfer ≡ y → slice_get (endpoint ∷ []) y.endpoint ≡ Some x → is_descriptor y.sort ≡ is_iso x.desc.kind
 sort_is y x is here =

@@ -1,6 +1,7 @@
 -- What memory has for the worked driver: the frame list, the head of the ring, and its iTD.
-use Rattle.std.proofs.Common.{◌≡◌, ℕ, suc, ◌*◌, ◌<◌, true, false, Some, None, ⊎_elim, ap, refl, sym, subst, ◌∙◌, arith}
+use Rattle.std.proofs.Common.{◌≡◌, ℕ, suc, ◌*◌, ◌<◌, true, false, Some, ⊎_elim, ap, refl, sym, subst, ◌∙◌, arith}
 use Rattle.std.proofs.lemmas.Bool.{true≢false}
+use Rattle.law_descriptors.proofs.Common.{none_else}
 use Rattle.itd_sitd.specs.Itd.{slot_of}
 use Rattle.hc_iso.specs.WriteBack.{itd_pages, slot_place}
 use Rattle.claims_driver.specs.Owners.{TransferRuns, runs_of_transfer, Views, views_of}
@@ -25,9 +26,6 @@ its_lent = record { here = refl; held = refl; isochronous = refl; lent = tt }
 slots_there : (u : ℕ) → u < 8 → (slot_of u itd).active ≡ true → 0 < (slot_of u itd).length → IsBuffered (descs 4160) (itd_pages itd) (slot_place (slot_of u itd)) (slot_of u itd).length
 slots_there (suc (suc (suc (suc (suc (suc (suc (suc u)))))))) below on some = absurd (omega (arith, below))
 slots_there _ below on some = absurd (true≢false (sym on))
-
-none_else : (s : Structure) → None ≡ Some s → ⊥
-none_else s there = cc
 
 only_this : (n a : ℕ) (s : Structure) → descs n a ≡ Some s → IsOfDescriptor v n a
 only_this n a s found =

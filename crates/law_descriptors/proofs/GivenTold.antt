@@ -3,6 +3,7 @@ use Rattle.std.proofs.Common.{◌≡◌, ℕ, Bool, true, false, List, Option, S
 use Rattle.std.specs.Prelude.{is_some}
 use Rattle.std.proofs.lemmas.Bool.{true≢false}
 use Rattle.std.proofs.lemmas.Option.{same_Some}
+use Rattle.law_common.proofs.Options.{number_is_none}
 use Rattle.word_mem.specs.Memory.{Mem}
 use Rattle.word_mem.specs.Runs.{Run, HasBlock}
 use Rattle.word_mem.proofs.Holders.{has_block_from}
@@ -42,9 +43,6 @@ is_described _ = false
 described_there : (split : Bool) (part : Structures) (n : ℕ) (s : Structure) → HasDescriptor split part n → part n ≡ Some s → is_described s ≡ true
 described_there true part n s has here = ap is_described (same_Some s (SplitIsochronous has.sitd) (sym here ∙ has.here))
 described_there false part n s has here = ap is_described (same_Some s (Isochronous has.itd) (sym here ∙ has.here))
-
-number_is_none : (t : ℕ) → Some t ≡ None → ⊥
-number_is_none t e = cc
 
 kind_is_none : (kind : Kind) → Some kind ≡ None → ⊥
 kind_is_none kind e = cc

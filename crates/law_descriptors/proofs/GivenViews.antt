@@ -1,8 +1,10 @@
 -- What memory has for a driver once some of its descriptors were given back: the others with their buffers, and its queues.
-use Rattle.std.proofs.Common.{◌≡◌, ℕ, ◌*◌, Bool, true, false, List, [], ◌∷◌, Option, Some, None, if◌then◌else◌, ap, refl, sym, subst, ◌∙◌, arith}
+use Rattle.std.proofs.Common.{◌≡◌, ℕ, ◌*◌, Bool, true, false, List, [], ◌∷◌, Some, if◌then◌else◌, ap, refl, sym, subst, ◌∙◌, arith}
 use Rattle.std.specs.List.{AllByRecursion}
 use Rattle.std.proofs.lemmas.Bool.{true≢false}
 use Rattle.std.proofs.lemmas.Option.{same_Some}
+use Rattle.law_frame_list.proofs.Common.{same_number}
+use Rattle.law_descriptors.proofs.Common.{none_some}
 use Rattle.mem_runs.specs.declared.slots.Slot.{Slot}
 use Rattle.claims_driver.specs.Owners.{Owner, Described, Buffer, SlotHas, IsPlaced, EndpointRuns, TransferRuns, NoteRuns, DescriptorRuns, Views, AreOwned, IsPieceOf}
 use Rattle.law_structures.specs.lent_structures.Structures.{Structure, Structures, StructureSets}
@@ -21,9 +23,6 @@ without_on sets goes n on = ap (λ (b : Bool). if b then no_structure else sets 
 
 pub without_off : (sets : StructureSets) (goes : ℕ → Bool) (n : ℕ) → goes n ≡ false → without_owners sets goes n ≡ sets n
 without_off sets goes n off = ap (λ (b : Bool). if b then no_structure else sets n) off
-
-none_some : (s : Structure) → ◌≡◌ {A = Option Structure} None (Some s) → ⊥
-none_some s is = cc
 
 pub record IsFoundStill (sets : StructureSets) (goes : ℕ → Bool) (n a : ℕ) (s : Structure) : Type 0 where
   pub stays : goes n ≡ false
@@ -72,9 +71,6 @@ pub record DescriptorsGo (v w : Views) (owner : ℕ → Owner) (gone goes : ℕ 
   pub descriptors : (b : ℕ) → w.descriptor b ≡ v.descriptor b
   pub named : (t : ℕ) (y : TransferRuns) → v.transfer t ≡ Some y → gone t ≡ true → goes (32 * y.first) ≡ true
   pub back : (n : ℕ) → goes n ≡ true → IsNameOf v gone n
-
-same_number : (one two : Bool) (t u : ℕ) → Described one t ≡ Described two u → t ≡ u
-same_number one two t u same = cc
 
 module _ (v w : Views) (owner : ℕ → Owner) (gone goes : ℕ → Bool) (k : DescriptorsGo v w owner gone goes) where
   kept_by : (c : ℕ) (o : Owner) → owner c ≡ o → goes_with gone o ≡ false → w.slot c ≡ v.slot c

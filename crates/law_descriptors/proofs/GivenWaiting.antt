@@ -1,11 +1,15 @@
 -- An isochronous endpoint is given back, with each descriptor that waits there and its buffer.
-use Rattle.std.proofs.Common.{◌≡◌, ◌≢◌, ℕ, zero, suc, ◌*◌, ◌⊎◌, Bool, true, false, not, ◌&&◌, if◌then◌else◌, List, [], ◌∷◌, ◌++◌, map, set, Option, Some, None, option_map, ⊎_elim, inl, inr, ap, refl, sym, subst, ◌∙◌, arith}
-use Rattle.std.specs.Prelude.{◌==◌, ◌||◌, slice_get, slice_set}
+use Rattle.std.proofs.Common.{◌≡◌, ◌≢◌, ℕ, zero, suc, ◌*◌, ◌⊎◌, Bool, true, false, not, if◌then◌else◌, List, [], ◌∷◌, ◌++◌, map, set, Option, Some, None, option_map, ⊎_elim, inl, inr, ap, refl, sym, subst, ◌∙◌, arith}
+use Rattle.std.specs.Prelude.{◌||◌, slice_get, slice_set}
 use Rattle.std.specs.List.{list_any}
 use Rattle.std.proofs.lemmas.Bool.{true≢false, false≢true, eqb-true, eq-eqb, cases_eq, and_parts, or_cases}
 use Rattle.std.proofs.lemmas.Option.{same_Some, slice_get-map}
+use Rattle.law_common.proofs.Booleans.{right_or, left_or, both_true}
+use Rattle.law_driver.proofs.Common.{waits_is}
+use Rattle.law_driver_ring.proofs.Common.{runs_joined}
+use Rattle.law_common.proofs.Lists.{set_here, set_there}
 use Rattle.word_mem.specs.Memory.{Mem}
-use Rattle.mem_runs.specs.Book.{Holding, holding, slot_of, release_run, Stands}
+use Rattle.mem_runs.specs.Book.{Holding, holding, slot_of, Stands}
 use Rattle.drv_periodic_table.specs.declared.content.DescriptorNote.{DescriptorNote}
 use Rattle.drv_periodic_table.specs.declared.content.Removed.TheVariants as removed
 use Rattle.drv_periodic_table.specs.Periodic.{PeriodicContent, is_periodic}
@@ -21,7 +25,7 @@ use Rattle.drv_table.specs.Removals.{free_descriptor, free_descriptors, let_go_p
 use Rattle.claims_driver.specs.Owners.{TransferRuns, Views, is_descriptor, runs_of_endpoint, runs_of_transfer, endpoint_in, note_in, descriptor_in, IsDescribed, views_of, IsOneOf}
 use Rattle.claims_driver.specs.Leaving.{leaves_frames, HasOwners}
 use Rattle.law_driver.proofs.lemmas.run_owners.Freeing.{descriptors_freed}
-use Rattle.law_driver.proofs.lemmas.run_owners.Released.{set_here, set_there, AreUntouched, cancel_same}
+use Rattle.law_driver.proofs.lemmas.run_owners.Released.{AreUntouched, cancel_same}
 use Rattle.law_driver.specs.listed_members.Members.{IsListed}
 use Rattle.hc_core.specs.Controller.{Content}
 use Rattle.law_structures.specs.lent_structures.Structures.{StructureSets, Tells}
@@ -46,18 +50,6 @@ use Rattle.law_descriptors.proofs.GivenTold.{IsGoneRun, freed_told, runs_without
 use Rattle.law_descriptors.proofs.GivenBoth.{lent_before, gone_run}
 
 -- ---- one of a list
-
-left_or : (a b : Bool) → a ≡ true → (a || b) ≡ true
-left_or true b on = refl
-left_or false b on = absurd (false≢true on)
-
-right_or : (a b : Bool) → b ≡ true → (a || b) ≡ true
-right_or true b on = refl
-right_or false b on = on
-
-both_true : (a b : Bool) → a ≡ true → b ≡ true → (a && b) ≡ true
-both_true true b one other = other
-both_true false b one other = one
 
 any_there : {X : Type 0} (p : X → Bool) (xs : List X) (i : ℕ) (x : X) → slice_get xs i ≡ Some x → p x ≡ true → list_any p xs ≡ true
 any_there p [] i x here on = absurd (cc)
@@ -90,10 +82,6 @@ its_blocks notes y = y.first ∷ (descriptor_in notes y.first).buffer
 abbrev waiting_blocks : List DescriptorNote → ℕ → List Transfer → List ℕ
 waiting_blocks notes e [] = []
 waiting_blocks notes e (y ∷ ys) = if waits_for e y then its_blocks notes y ++ waiting_blocks notes e ys else waiting_blocks notes e ys
-
-runs_joined : (h : Holding) (bs cs : List ℕ) → free_runs h (bs ++ cs) ≡ free_runs (free_runs h bs) cs
-runs_joined h [] cs = refl
-runs_joined h (b ∷ bs) cs = runs_joined (release_run h b) bs cs
 
 waiting_are_runs : (notes : List DescriptorNote) (e : ℕ) (h : Holding) (ys : List Transfer) → free_descriptors notes e h ys ≡ free_runs h (waiting_blocks notes e ys)
 unfolding free_descriptors
@@ -132,13 +120,6 @@ waiting_run notes e (y ∷ ys) c among = by (waits_for e y) refl among (λ rest.
 abbrev waits_in : ℕ → Option Transfer → Bool
 waits_in e None = false
 waits_in e (Some y) = waits_for e y
-
-not_told : (e : ℕ) (y : Transfer) → waits_for e y ≡ true → (y.endpoint ≡ e) × (y.reported ≡ false)
-not_told e y is = let a = and_parts (y.endpoint == e) (not y.reported) is in (eqb-true y.endpoint e a.0, turned y.reported a.1)
-  where
-    turned : (b : Bool) → not b ≡ true → b ≡ false
-    turned true on = absurd (false≢true on)
-    turned false on = refl
 
 record IsWaitingIn (e : ℕ) (o : Option Transfer) : Type 0 where
   transfer : Transfer
@@ -196,7 +177,7 @@ module _ (p : Parts) (e : ℕ) (x : Endpoint) (has : HasOwners p.driver) (why : 
       frames_owed x.chained x.gone (is_periodic x.desc.kind) (omega (arith, counts, most, owes_it))
 
   at_its : (y : Transfer) → waits_for e y ≡ true → slice_get p.driver.endpoints y.endpoint ≡ Some x
-  at_its y waits = ap (slice_get p.driver.endpoints) (not_told e y waits).0 ∙ here
+  at_its y waits = ap (slice_get p.driver.endpoints) (waits_is e y waits).0 ∙ here
 
   sort_is : (u : ℕ) (y : Transfer) → slice_get p.driver.transfers u ≡ Some y → waits_for e y ≡ true → is_descriptor y.sort ≡ true
   sort_is u y there waits = has.orderly.sorts u y x there (at_its y waits) ∙ iso
@@ -205,7 +186,7 @@ module _ (p : Parts) (e : ℕ) (x : Endpoint) (has : HasOwners p.driver) (why : 
   held_is u y there waits = by y.released refl
     where
       by : (b : Bool) → y.released ≡ b → y.released ≡ false
-      by true on = absurd (true≢false (sym (has.orderly.untold u y there on (not_told e y waits).1 x (at_its y waits)) ∙ stays))
+      by true on = absurd (true≢false (sym (has.orderly.untold u y there on (waits_is e y waits).1 x (at_its y waits)) ∙ stays))
       by false off = off
 
   described : (u : ℕ) (y : Transfer) → slice_get p.driver.transfers u ≡ Some y → waits_for e y ≡ true → IsDescribed v.slot has.owner (v.descriptor y.first) u y.first

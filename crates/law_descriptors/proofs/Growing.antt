@@ -1,8 +1,10 @@
 -- Those that are met once a store of the frame list was made.
 use Rattle.std.proofs.Common.{◌≡◌, ℕ, ◌+◌, ◌/◌, ◌⊎◌, Bool, true, false, inl, inr, Option, Some, None, if◌then◌else◌, ⊎_elim, ap, refl, sym, subst, ◌∙◌, arith}
-use Rattle.std.specs.Prelude.{◌||◌, List, nat_lt}
+use Rattle.std.specs.Prelude.{List, nat_lt}
 use Rattle.std.proofs.lemmas.Bool.{lt-ltb}
 use Rattle.std.proofs.lemmas.Option.{same_Some}
+use Rattle.law_common.proofs.Booleans.{right_or}
+use Rattle.law_descriptors.proofs.Common.{further}
 use Rattle.drv_chains.specs.declared.members.Member.{Member}
 use Rattle.drv_chains.specs.declared.members.Member.TheVariants.{Once, Each}
 use Rattle.drv_chains.specs.Chains.{Schedule, is_the}
@@ -24,12 +26,8 @@ use Rattle.law_descriptors.proofs.Leading.{led_linked, led_spread}
 
 -- ---- one more store
 
-or_true : (a b : Bool) → b ≡ true → (a || b) ≡ true
-or_true true b is = refl
-or_true false b is = is
-
 one_more : (w : Work) → is_led (record w { made = w.made + 1 }) ≡ true
-one_more w = or_true w.removes (nat_lt 0 (w.made + 1)) (lt-ltb 0 (w.made + 1) (omega arith))
+one_more w = right_or w.removes (nat_lt 0 (w.made + 1)) (lt-ltb 0 (w.made + 1) (omega arith))
 
 left_by : (p : Periodic) (w : Work) (m : Member) (r b : Bool) → w.removes ≡ r → is_more p.members.schedule w ≡ false → is_the w.member m ≡ b → is_linked p.members.schedule m ≡ true
     → (is_linked (if r then with_schedule p.members (without_member p.members.schedule w.member) else p.members).schedule m ≡ true) ⊎ IsLeftOut p w m
@@ -57,9 +55,6 @@ same_kind q r (Once k) same = ap (λ (notes : List DescriptorNote). kind_of_desc
 recent_met : (o later : Option Kind) (kind : Kind) → o ≡ None → later ≡ Some kind → or_recent o later ≡ Some kind
 recent_met o later kind none is = ap (λ x. or_recent x later) none ∙ is
 
-standing_first : (o later : Option Kind) (kind : Kind) → o ≡ Some kind → or_recent o later ≡ Some kind
-standing_first o later kind is = ap (λ x. or_recent x later) is
-
 further_by : (d new : DriverContent) (recent later : ℕ → Option Kind) → IsSpread d.periodic.list.list d.periodic.list.members.schedule → IsSpread new.periodic.list.list new.periodic.list.members.schedule → new.periodic.notes ≡ d.periodic.notes → KeepsMembers d new later → IsMetFurther recent later → AreApartFrom new later
     → (n : ℕ) (kind : Kind) (o : Option Kind) → standing d n ≡ o → or_recent o (recent n) ≡ Some kind → met new later n ≡ Some kind
 further_by d new recent later spread now notes keeps more apart n kind None stands on =
@@ -72,7 +67,7 @@ further_by d new recent later spread now notes keeps more apart n kind (Some her
     let is : kind_of d.periodic m ≡ kind = same_Some (kind_of d.periodic m) kind (sym there ∙ ap (standing d) at.begins ∙ stands ∙ on) in
     subst (λ (i : ℕ). met new later i ≡ Some kind) at.begins
     (⊎_elim (λ (linked : is_linked (led new) m ≡ true).
-    standing_first (standing new (begins_at m)) (later (begins_at m)) kind
+    further (standing new (begins_at m)) (later (begins_at m)) kind
     (member_kind new.periodic new.periodic.list.list (led new) m (led_spread new.periodic.list.list new.periodic.list.members.schedule new.periodic.list.work now) linked
     ∙ ap (λ (k : Kind). Some k) (same_kind d.periodic new.periodic m notes ∙ is)))
     (λ (recently : later (begins_at m) ≡ Some (kind_of d.periodic m)).

@@ -1,7 +1,8 @@
 -- Where the words stand for a frame list, its links lead to the members to which a word may lead.
 use Rattle.std.proofs.Common.{◌≡◌, ℕ, zero, suc, ◌*◌, ◌/◌, ◌<◌, Bool, true, false, take, Option, Some, None, if◌then◌else◌, ap, refl, sym, subst, ◌∙◌, arith}
-use Rattle.std.specs.Prelude.{◌||◌, nat_lt}
+use Rattle.std.specs.Prelude.{nat_lt}
 use Rattle.std.proofs.lemmas.Bool.{true≢false, lt-ltb}
+use Rattle.law_common.proofs.Booleans.{or_both}
 use Rattle.word_mem.specs.Memory.{Mem, word_at}
 use Rattle.link_words.specs.declared.kinds.Link.TheVariants as links
 use Rattle.link_words.specs.Links.{link_read}
@@ -39,10 +40,6 @@ record StandsLed (list : ℕ) (s : Schedule) (o : Option Work) (word : ℕ → �
   member : HasMember s o
   stands : StandsBy list s o word
 
-pub no_removal : (a b : Bool) → (a || b) ≡ false → (a ≡ false) × (b ≡ false)
-no_removal true b is = absurd (true≢false is)
-no_removal false b is = (refl, is)
-
 pub none_made : (n : ℕ) → nat_lt 0 n ≡ false → n ≡ 0
 none_made zero is = refl
 none_made (suc n) is = absurd (true≢false (sym (lt-ltb 0 (suc n) (omega arith)) ∙ is))
@@ -50,7 +47,7 @@ none_made (suc n) is = absurd (true≢false (sym (lt-ltb 0 (suc n) (omega arith)
 -- no store was made: the words are those before
 unled : (list : ℕ) (s : Schedule) (w : Work) (word : ℕ → ℕ) → is_led w ≡ false → Begun list s w word → AllLead list word (without_member s w.member)
 unled list s w word is k f below =
-    let parts = no_removal w.removes (nat_lt 0 w.made) is in
+    let parts = or_both w.removes (nat_lt 0 w.made) is in
     let none : w.made ≡ 0 = none_made w.made parts.1 in
     let old : old_of s w ≡ without_member s w.member = ap (λ (b : Bool). if b then s else without_member s w.member) parts.0 in
     let same : (at : ℕ) → word at ≡ k.before at = λ at. k.since at ∙ ap (λ (n : ℕ). set_all list (take n (words_of s w)) (value_of s w) k.before at) none in

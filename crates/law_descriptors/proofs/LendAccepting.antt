@@ -1,32 +1,24 @@
 -- Isochronous descriptors that were accepted are written into runs that are kept.
 use Rattle.std.proofs.Common.{◌≡◌, ◌≢◌, ℕ, zero, suc, ◌+◌, ◌*◌, ◌/◌, ◌<◌, ◌≤◌, Bool, true, false, cond, List, [], ◌∷◌, ◌++◌, length, take, drop, get_or, replicate, ap, refl, subst, ◌∙◌, inl, inr, arith}
-use Rattle.std.specs.Prelude.{nat_le, if◌then◌else◌}
-use Rattle.std.proofs.lemmas.Bool.{leb-true}
-use Rattle.std.proofs.lemmas.Bool.Decides.{nat_tests}
-use Rattle.std.proofs.lemmas.List.{length-set, length-replicate}
+use Rattle.law_driver.proofs.Common.{stored_many}
+use Rattle.law_driver_ring.proofs.Common.{stored_one}
+use Rattle.law_common.proofs.Lists.{filled}
 use Rattle.usb_base.specs.declared.endpoints.EpDesc.{EpDesc}
 use Rattle.word_mem.specs.Runs.{Run}
 use Rattle.word_mem.specs.Memory.{Mem, word_at, with_word}
 use Rattle.word_mem.specs.Views.{words_in as words_from, words_at, with_words_in, with_words}
 use Rattle.word_mem.proofs.Words.{words_in-with_words_in_same}
 use Rattle.mem_runs.specs.declared.slots.Slot.TheVariants.{Keeps}
-use Rattle.mem_runs.specs.Book.{Book, slot_of, has_address, can_store, store, store_words}
+use Rattle.mem_runs.specs.Book.{Book, slot_of, store, store_words}
 use Rattle.drv_periodic_table.specs.declared.content.DescriptorNote.{DescriptorNote}
 use Rattle.drv_periodic_table.specs.Descriptors.{is_in, buffer_address, seeded_word, descriptor_words, write_seeded}
-use Rattle.drv_table.specs.Words.{pieces, buffer_needs}
+use Rattle.drv_table.specs.Words.{pieces}
 use Rattle.drv_table.specs.IsoOffers.{written_descriptor}
 use Rattle.claims_driver.specs.Owners.{SlotHas}
 use Rattle.law_driver.proofs.lemmas.ring_members.Stores.{AreApart, store_elsewhere}
 use Rattle.law_driver_ring.proofs.Lists.{IsOneOf}
 
 -- ---- lists that are filled up
-
--- what was filled up with zeros is cut again
-pub filled : (k m : ℕ) (xs zs : List ℕ) → k ≤ m → k ≤ length xs → take k (take m (take k xs ++ zs)) ≡ take k xs
-filled zero m xs zs few long = refl
-filled (suc k) zero xs zs few long = absurd (omega (arith, few))
-filled (suc k) (suc m) [] zs few long = absurd (omega (arith, long))
-filled (suc k) (suc m) (x ∷ xs) zs few long = ap (λ (ys : List ℕ). x ∷ ys) (filled k m xs zs (omega (arith, few)) (omega (arith, long)))
 
 pub filled_at : (k m : ℕ) (xs zs : List ℕ) (j : ℕ) → j < k → k ≤ m → k ≤ length xs → get_or (take m (take k xs ++ zs)) j 0 ≡ get_or xs j 0
 filled_at zero m xs zs j below few long = absurd (omega (arith, below))
@@ -47,11 +39,6 @@ past_zeros (suc m) n [] i past = few_zeros (suc m) n i
 past_zeros (suc m) n (x ∷ xs) zero past = absurd (omega (arith, past))
 past_zeros (suc m) n (x ∷ xs) (suc i) past = past_zeros m n xs i (omega (arith, past))
 
-pub shorter : (k : ℕ) (xs : List ℕ) → length (take k xs) ≤ k
-shorter zero xs = omega arith
-shorter (suc k) [] = omega arith
-shorter (suc k) (x ∷ xs) = let e = shorter k xs in omega (arith, e)
-
 one_taken : (k : ℕ) (xs : List ℕ) (j : ℕ) → j < k → k ≤ length xs → IsOneOf (get_or xs j 0) (take k xs)
 one_taken zero xs j below long = absurd (omega (arith, below))
 one_taken (suc k) [] j below long = absurd (omega (arith, long))
@@ -65,30 +52,15 @@ one_dropped (suc k) c (x ∷ xs) one = inr (one_dropped k c xs one)
 
 -- ---- how much is written
 
-room_by : (n : ℕ) (b : Bool) → nat_le (suc n) 4096 ≡ b → suc n ≤ 4096 * length (if b then pieces (suc n) 32 ∷ [] else replicate (pieces (suc n) 4096) 128)
-room_by n true is = let few = leb-true (suc n) 4096 is in omega (arith, few)
-room_by n false is = let long = length-replicate {A = ℕ} (pieces (suc n) 4096) 128 in omega (arith, long)
-
-pub has_room : (n : ℕ) → n ≤ 4096 * length (buffer_needs n)
-has_room zero = omega arith
-has_room (suc n) = room_by n (nat_le (suc n) 4096) refl
-
-size_stored : (k : Book) (m : Mem) (b at v : ℕ) → length (store k m b at v).words ≡ length m.words
-size_stored k m b at v = by (can_store (slot_of k.slots b) at)
-  where
-    by : (can : Bool) → length (cond can (with_word m at v) m).words ≡ length m.words
-    by true = length-set m.words (at / 4) v
-    by false = refl
-
 size_words : (k : Book) (m : Mem) (b at : ℕ) (ws : List ℕ) → length (store_words k m b at ws).words ≡ length m.words
 unfolding store_words
 size_words k m b at [] = refl
-size_words k m b at (v ∷ vs) = size_words k (store k m b at v) b (at + 4) vs ∙ size_stored k m b at v
+size_words k m b at (v ∷ vs) = size_words k (store k m b at v) b (at + 4) vs ∙ stored_many k m b at v
 
 size_seeded : (k : Book) (m : Mem) (runs : List ℕ) (seed total i n : ℕ) → length (write_seeded k m runs seed total i n).words ≡ length m.words
 size_seeded k m runs seed total i zero = refl
 size_seeded k m runs seed total i (suc n) =
-    size_seeded k (store k m (get_or runs (i / 4096) 0) (buffer_address runs i) (seeded_word seed total i)) runs seed total (i + 4) n ∙ size_stored k m (get_or runs (i / 4096) 0) (buffer_address runs i) (seeded_word seed total i)
+    size_seeded k (store k m (get_or runs (i / 4096) 0) (buffer_address runs i) (seeded_word seed total i)) runs seed total (i + 4) n ∙ stored_many k m (get_or runs (i / 4096) 0) (buffer_address runs i) (seeded_word seed total i)
 
 pub size_written : (k : Book) (m : Mem) (x : EpDesc) (note : DescriptorNote) (b seed total : ℕ) → length (written_descriptor k m x note b seed total).words ≡ length m.words
 size_written k m x note b seed total = by (is_in x.name.way) ∙ size_words k m b (32 * b) (descriptor_words x note)
@@ -115,11 +87,6 @@ seeds_apart k x note m seed total r c other apart here not room = by (is_in x.na
     by false = seeded_apart k m note.buffer seed total 0 (pieces total 4) r c other apart here not (omega (arith, room))
 
 -- ---- the words of one run stand once they were stored
-
-stored_one : (k : Book) (m : Mem) (b at v : ℕ) (r : Run) → slot_of k.slots b ≡ Keeps r → 32 * r.first ≤ at → at < 32 * (r.first + r.blocks) → store k m b at v ≡ with_word m at v
-stored_one k m b at v r there from below =
-    let inside : has_address r at ≡ true = grind (arith, nat_tests) in
-    ap (λ s. cond (can_store s at) (with_word m at v) m) there ∙ ap (λ t. cond t (with_word m at v) m) inside
 
 stored_all : (k : Book) (m : Mem) (b at : ℕ) (ws : List ℕ) (r : Run) → slot_of k.slots b ≡ Keeps r → 32 * r.first ≤ at → at + 4 * length ws ≤ 32 * (r.first + r.blocks) → store_words k m b at ws ≡ with_words m at ws
 unfolding store_words with_words_in

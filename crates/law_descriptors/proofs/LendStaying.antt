@@ -1,8 +1,9 @@
 -- Descriptors that are to be lent get their frames, and the controller leaves them.
-use Rattle.std.proofs.Common.{◌≡◌, ℕ, zero, suc, ◌+◌, ◌*◌, ◌/◌, ◌≤◌, Bool, true, false, List, [], ◌∷◌, ◌++◌, take, drop, set, Option, Some, None, ap, refl, sym, subst, ◌∙◌, arith}
+use Rattle.std.proofs.Common.{◌≡◌, ℕ, zero, suc, ◌+◌, ◌*◌, ◌/◌, false, List, [], ◌∷◌, ◌++◌, take, drop, set, Option, Some, None, ap, refl, sym, subst, ◌∙◌, arith}
+use Rattle.law_driver_ring.proofs.Common.{not_reached}
+use Rattle.law_descriptors.proofs.Common.{words_few}
 use Rattle.usb_base.specs.declared.endpoints.EpDesc.{EpDesc}
-use Rattle.word_mem.specs.Memory.{Mem, word_at, state_at, is_lent, reaches}
-use Rattle.word_mem.specs.declared.blocks.BlockState.TheVariants.{Kept}
+use Rattle.word_mem.specs.Memory.{Mem, word_at, reaches}
 use Rattle.word_mem.proofs.Words.{words_in_same}
 use Rattle.mem_runs.specs.declared.slots.Slot.{Slot}
 use Rattle.mem_runs.specs.Book.{Holding, holding, slot_of, Stands}
@@ -22,17 +23,10 @@ use Rattle.law_driver.proofs.lemmas.run_owners.Stays.{framed}
 use Rattle.law_driver_ring.proofs.Viewing.{advance_views}
 use Rattle.law_driver_ring.specs.Inventory.{IsLent}
 use Rattle.law_descriptors.proofs.Stays.{described_follow}
-use Rattle.law_descriptors.specs.Written.{blocks_in, words_in, IsWrittenDescriptor, runs_of, DescriptorsAwaitLend}
+use Rattle.law_descriptors.specs.Written.{words_in, IsWrittenDescriptor, runs_of, DescriptorsAwaitLend}
 use Rattle.law_descriptors.specs.LendLaws.{FramesAwaitLend, WrittenStay, FramesDescribe}
 
 -- ---- the controller leaves them
-
-not_reached : (m : Mem) (at : ℕ) → state_at m (at / 32) ≡ Some Kept → reaches m at ≡ false
-not_reached m at kept = ap is_lent kept
-
-words_few : (split : Bool) → words_in split ≤ 8 * blocks_in split
-words_few true = omega arith
-words_few false = omega arith
 
 written_stays : (h : Holding) (new : Mem) (x : EpDesc) (note : DescriptorNote) (b : ℕ) → Stands h → ((at : ℕ) → reaches h.memory at ≡ false → word_at new at ≡ word_at h.memory at) → IsWrittenDescriptor (slot_of h.book.slots) h.memory x note b
     → IsWrittenDescriptor (slot_of h.book.slots) new x note b

@@ -1,6 +1,7 @@
 -- Descriptors are lent beside the queues.
 use Rattle.std.proofs.Common.{◌≡◌, ℕ, ◌+◌, Bool, List, ◌∷◌, drop, Some, None, if◌then◌else◌, ap, refl, sym, subst, ◌∙◌}
 use Rattle.std.specs.List.{AllByRecursion}
+use Rattle.law_common.proofs.Options.{number_is_none}
 use Rattle.usb_base.specs.declared.endpoints.EpDesc.{EpDesc}
 use Rattle.word_mem.specs.Memory.{Mem}
 use Rattle.mem_runs.specs.declared.slots.Slot.{Slot}
@@ -43,9 +44,6 @@ views_queues v w same = record {
   piece = λ t b y x is piece. same_alike (v.slot b) (w.slot b) (same.slot b);
   buffer = λ t b c cs y x is piece first. same_alike (v.slot c) (w.slot c) (same.slot c);
 }
-
-number_is_none : (t : ℕ) → Some t ≡ None → ⊥
-number_is_none t e = cc
 
 module _ (p : Parts) (t : ℕ) (x : EpDesc) (k : IsLending p t x) (descs parts : StructureSets) (stood : AreHeld p.memory descs) (told : IsToldBy (views_of p.driver) descs parts) where
   abbrev v : Views

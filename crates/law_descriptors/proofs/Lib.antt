@@ -53,3 +53,4 @@ pub mod ListFresh
 pub mod Chained
 pub mod Coming
 pub mod Queued
+pub mod Common

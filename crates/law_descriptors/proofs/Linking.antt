@@ -3,6 +3,7 @@ use Rattle.std.proofs.Common.{◌≡◌, ◌≢◌, ℕ, zero, suc, ◌+◌, ◌
 use Rattle.std.proofs.lemmas.Bool.{cases_eq}
 use Rattle.std.proofs.lemmas.Option.{same_Some}
 use Rattle.std.proofs.lemmas.List.{get_or-set_same, get_or-set_other, length-set}
+use Rattle.law_descriptors.proofs.Common.{states_stored}
 use Rattle.word_mem.specs.Runs.{Run}
 use Rattle.word_mem.specs.Memory.{Mem, IsShaped, word_at, with_word, state_at}
 use Rattle.word_mem.specs.Views.{words_at}
@@ -47,13 +48,6 @@ store_other k m b at v other differs = by (can_store (slot_of k.slots b) at)
   where
     by : (can : Bool) → word_at (cond can (with_word m at v) m) other ≡ word_at m other
     by true = get_or-set_other m.words (at / 4) (other / 4) v 0 differs
-    by false = refl
-
-store_states : (k : Book) (m : Mem) (b at v : ℕ) → (store k m b at v).states ≡ m.states
-store_states k m b at v = by (can_store (slot_of k.slots b) at)
-  where
-    by : (can : Bool) → (cond can (with_word m at v) m).states ≡ m.states
-    by true = refl
     by false = refl
 
 store_shaped : (k : Book) (m : Mem) (b at v : ℕ) → IsShaped m → IsShaped (store k m b at v)
@@ -102,7 +96,7 @@ module _ (k : Book) (l : Periodic) (notes : List DescriptorNote) where
   pub linked_states : (ys : List Transfer) (m : Mem) → (linked ys m).states ≡ m.states
   unfolding linked_descriptors
   linked_states [] m = refl
-  linked_states (y ∷ ys) m = linked_states ys (store k m y.first (32 * y.first) (link y.first)) ∙ store_states k m y.first (32 * y.first) (link y.first)
+  linked_states (y ∷ ys) m = linked_states ys (store k m y.first (32 * y.first) (link y.first)) ∙ states_stored k m y.first (32 * y.first) (link y.first)
 
   pub linked_other : (ys : List Transfer) (m : Mem) (other : ℕ) → ((i : ℕ) (y : Transfer) → slice_get ys i ≡ Some y → other / 4 ≢ 32 * y.first / 4) → word_at (linked ys m) other ≡ word_at m other
   unfolding linked_descriptors

@@ -1,6 +1,7 @@
 -- The driver with its descriptors goes on beside both walks, once a member was linked or unlinked.
-use Rattle.std.proofs.Common.{◌≡◌, ℕ, ◌*◌, List, Option, Some, None, ap, refl, sym, subst, ◌∙◌}
+use Rattle.std.proofs.Common.{ℕ, ◌*◌, List, Option, Some, None, ap, sym, subst, ◌∙◌}
 use Rattle.std.specs.Prelude.{slice_get}
+use Rattle.law_descriptors.proofs.Common.{unlink_registers}
 use Rattle.drv_table.specs.declared.content.Transfer.{Transfer}
 use Rattle.drv_table.specs.declared.rows.DriverRow.{DriverRow}
 use Rattle.drv_table.specs.declared.rows.DriverRow.TheVariants as rows
@@ -33,10 +34,6 @@ use Rattle.law_descriptors.proofs.ListRowsKeeping.{store_keeps_parts}
 use Rattle.law_descriptors.proofs.ListUnlinks.{unlink_rows_leave_both}
 use Rattle.law_descriptors.proofs.ListRows.{step_stays, link_rows_leave_both}
 use Rattle.law_descriptors.proofs.ListRecent.{link_recent}
-
-unlink_registers : (p : Parts) (t : ℕ) (o : Option Transfer) → (after_unlink p t o).registers ≡ p.registers
-unlink_registers p t None = refl
-unlink_registers p t (Some y) = refl
 
 -- what the driver tells of its descriptors is the same
 unlink_described : (p : Parts) (t : ℕ) (o : Option Transfer) (descs : StructureSets) → AreDescribed (views_of p.driver) descs → AreDescribed (views_of (after_unlink p t o).driver) descs

@@ -3,6 +3,9 @@ use Rattle.std.proofs.Common.{◌≡◌, ℕ, ◌*◌, ◌≤◌, Bool, true, fa
 use Rattle.std.specs.Prelude.{◌||◌, ◌==◌, slice_get, option_map}
 use Rattle.std.proofs.lemmas.Bool.{false≢true, true≢false, eqb-true, and_parts}
 use Rattle.std.proofs.lemmas.Option.{same_Some}
+use Rattle.law_frame_list.proofs.Common.{same_number as same_transfer, no_descriptor}
+use Rattle.law_common.proofs.Numbers.{same_blocks}
+use Rattle.law_common.proofs.Booleans.{owed_by}
 use Rattle.drv_periodic_table.specs.declared.content.Removal.{Removal}
 use Rattle.drv_periodic_table.specs.declared.content.Removed.{Removed}
 use Rattle.drv_periodic_table.specs.Periodic.{is_periodic}
@@ -16,7 +19,7 @@ use Rattle.law_frames.specs.Met.{Kind}
 use Rattle.law_descriptors.specs.Removed.{IsRemovedAt, a_descriptor, a_queue, a_waiting, IsRemovedSince, IsUnchainedNow}
 use Rattle.law_descriptors.specs.Recent.{AreRecent}
 use Rattle.law_descriptors.specs.ListRows.{WaitingIsFresh}
-use Rattle.law_descriptors.proofs.Returning.{same_transfer, no_descriptor, same_blocks, owed_by, frames_owed, transfer_counts, endpoint_counts}
+use Rattle.law_descriptors.proofs.Returning.{frames_owed, transfer_counts, endpoint_counts}
 
 chained_owes : (c g p : Bool) → c ≡ true → ◌≡◌ {A = ℕ} (if c || g || not p then 0 else 1) 0
 chained_owes true g p is = refl

@@ -2,8 +2,10 @@
 use Rattle.std.proofs.Common.{◌≡◌, ℕ, suc, ◌+◌, ◌*◌, ◌/◌, ◌≤◌, Bool, true, false, inl, inr, List, [], ◌∷◌, length, Option, Some, if◌then◌else◌, ⊎_elim, ap, refl, sym, subst, ◌∙◌, arith}
 use Rattle.std.specs.Prelude.{◌==◌, is_none, not, ◌&&◌, nat_lt, slice_get}
 use Rattle.std.proofs.lemmas.Bool.{true≢false, false≢true, and_from, eq-eqb}
-use Rattle.std.proofs.lemmas.Bool.Decides.{nat_tests}
 use Rattle.std.proofs.lemmas.Option.{same_Some}
+use Rattle.law_common.proofs.Numbers.{not_below}
+use Rattle.law_descriptors.proofs.Common.{next_removals, chain_unchain, no_unchain}
+use Rattle.law_common.proofs.Booleans.{either_if}
 use Rattle.word_mem.specs.Memory.{Mem}
 use Rattle.bandwidth.specs.declared.placements.Placement.{Placement}
 use Rattle.drv_chains.specs.declared.members.Member.{Member}
@@ -12,14 +14,14 @@ use Rattle.drv_periodic.specs.declared.work.Work.{Work}
 use Rattle.drv_periodic.specs.Periodic.{after_store}
 use Rattle.drv_periodic_table.specs.declared.content.Removal.{Removal}
 use Rattle.drv_periodic_table.specs.declared.content.Removed.TheVariants as removed
-use Rattle.drv_periodic_table.specs.Periodic.{PeriodicContent, note_at, queue_member}
-use Rattle.drv_periodic_table.specs.Linking.{with_first, begun_next}
+use Rattle.drv_periodic_table.specs.Periodic.{note_at, queue_member}
+use Rattle.drv_periodic_table.specs.Linking.{begun_next}
 use Rattle.drv_table.specs.declared.content.Endpoint.{Endpoint}
 use Rattle.drv_table.specs.declared.content.Transfer.{Transfer}
 use Rattle.drv_table.specs.declared.content.Command.{Command}
 use Rattle.drv_table.specs.declared.content.Command.TheVariants as unfinished
 use Rattle.drv_table.specs.DriverContent.{DriverContent}
-use Rattle.drv_table.specs.Commands.{removes_members, events_of, links, advance, advanced_by, or_finished, finished, no_command}
+use Rattle.drv_table.specs.Commands.{removes_members, events_of, links, advance, advanced_by, or_finished, finished}
 use Rattle.drv_table.specs.Kinds.{is_iso}
 use Rattle.claims_driver.specs.FrameListMembers.{Framed}
 use Rattle.law_driver.specs.listed_members.Members.{IsUnderWay, IsUnchaining, IsWaitingOf, AreLeaving, IsListed}
@@ -31,7 +33,6 @@ use Rattle.law_descriptors.specs.ListRows.{leaves_now, recent_with, LeavesChaine
 use Rattle.law_descriptors.proofs.Finding.{begins_at}
 use Rattle.law_descriptors.proofs.RowStaying.{unchain_is_recent}
 use Rattle.law_descriptors.proofs.ListUnlinks.{name_block}
-use Rattle.law_descriptors.proofs.ListRows.{either_if}
 use Rattle.law_descriptors.proofs.ListRowsStoring.{AtLeaver, then_recent}
 
 -- ---- the one that leaves is the endpoint's
@@ -95,9 +96,6 @@ leaver_unchained m d new n kind _ is on way at = absurd (false≢true on)
 abbrev stored_on : DriverContent → Command → DriverContent
 stored_on d c = record d { made = length (events_of c); periodic = begun_next (removes_members c) (record d.periodic { list = after_store d.periodic.list }) }
 
-not_below : (a b : ℕ) → b ≤ a → nat_lt a b ≡ false
-not_below a b le = grind (arith, nat_tests, le)
-
 advanced_is : (d : DriverContent) (c : Command) → d.command ≡ Some c → links c ≡ true → length (events_of c) ≤ d.made → advance d ≡ or_finished (stored_on d c) c
 advanced_is d c is on late =
     ap (λ (o : Option Command). advanced_by d o) is
@@ -112,13 +110,6 @@ advanced_is d c is on late =
     by false true l one two three = absurd (true≢false two)
     by false false false one two three = absurd (false≢true three)
 
-first_removals : (removes : Bool) (q : PeriodicContent) (ms : List Member) → (with_first removes q ms).removals ≡ q.removals
-first_removals removes q [] = refl
-first_removals removes q (x ∷ xs) = refl
-
-next_removals : (removes : Bool) (q : PeriodicContent) → (begun_next removes q).removals ≡ q.removals
-next_removals removes q = either_if (λ (r : PeriodicContent). r.removals ≡ q.removals) (is_none q.list.work) (with_first removes q q.queued) q (λ e. first_removals removes q q.queued) (λ e. refl)
-
 stored_recent : (m : Mem) (d : DriverContent) (recent : ℕ → Option Kind) (index : ℕ) (c : Command) → d.command ≡ Some c → links c ≡ true → IsListed d → AreRecent d index recent
     → AreRecent (stored_on d c) index (recent_with d.periodic (leaves_now d.periodic.list) recent)
 stored_recent m d recent index c is on listed are n kind there =
@@ -131,14 +122,6 @@ stored_recent m d recent index c is on listed are n kind there =
     (then_recent m d d d.periodic.list recent n kind there)
 
 -- ---- the command is finished
-
-no_unchain : (d : DriverContent) (later : ℕ → Option Kind) (index : ℕ) → ((e : ℕ) → d.command ≡ Some (unfinished.Unchain e) → ⊥) → AreRecent d index later → AreRecent (no_command d) index later
-no_unchain d later index none are n kind on =
-    ⊎_elim (λ (since : IsRemovedSince d.endpoints d.transfers d.periodic.removals index n). inl since)
-    (λ (now : IsUnchainedNow d.endpoints d.transfers d.command n). absurd (none now.endpoint now.command)) (are n kind on)
-
-chain_unchain : (o : Option Command) (e : ℕ) → o ≡ Some unfinished.Chain → o ≡ Some (unfinished.Unchain e) → ⊥
-chain_unchain o e one two = cc
 
 iso_unchain : (o : Option Command) (f t count e : ℕ) → o ≡ Some (unfinished.Iso f t count) → o ≡ Some (unfinished.Unchain e) → ⊥
 iso_unchain o f t count e one two = cc

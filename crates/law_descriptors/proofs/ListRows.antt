@@ -1,7 +1,9 @@
 -- A command's stores of the frame list, beside both walks.
-use Rattle.std.proofs.Common.{◌≡◌, ℕ, suc, Bool, true, false, inr, List, [], ◌∷◌, length, slice_get, Option, Some, None, if◌then◌else◌, ap, refl, sym, subst, ◌∙◌}
+use Rattle.std.proofs.Common.{◌≡◌, ℕ, suc, Bool, true, false, inr, List, [], ◌∷◌, length, slice_get, Option, Some, None, ap, refl, sym, subst, ◌∙◌}
 use Rattle.std.specs.Prelude.{is_none, not, ◌&&◌, nat_lt}
 use Rattle.std.proofs.lemmas.Bool.{and_parts}
+use Rattle.law_common.proofs.Booleans.{not_on, either_if}
+use Rattle.law_driver.proofs.Common.{no_work}
 use Rattle.word_mem.specs.Memory.{Mem, IsShaped, with_word}
 use Rattle.mem_runs.specs.Book.{Book, holding, store, Stands}
 use Rattle.drv_chains.specs.declared.members.Member.{Member}
@@ -10,7 +12,6 @@ use Rattle.drv_members.specs.Members.{IsKept, is_member, is_linked, has_room, ta
 use Rattle.claims_driver.specs.FrameWords.{IsInOrder, ListStands}
 use Rattle.law_frame_words.proofs.lemmas.frame_words.Begins.{out_again}
 use Rattle.law_frame_words.proofs.lemmas.frame_words.Order.{store_in_order}
-use Rattle.drv_periodic.specs.declared.work.Work.{Work}
 use Rattle.drv_periodic.specs.declared.work.Store.{Store}
 use Rattle.drv_periodic.specs.Periodic.{Periodic, inserting, removing, after_store}
 use Rattle.drv_periodic_table.specs.Periodic.{PeriodicContent}
@@ -40,18 +41,6 @@ use Rattle.law_descriptors.specs.RowLaws.{HasFrames}
 use Rattle.law_descriptors.specs.ListRows.{leaves_now, recent_with, ListStored, StoresNext, LinkRowsLeaveBoth}
 use Rattle.law_descriptors.proofs.ListRowsStoring.{next_store_leaves_both}
 
-pub either_if : {A : Type 0} (P : A → Type 0) (b : Bool) (x y : A) → (b ≡ true → P x) → (b ≡ false → P y) → P (if b then x else y)
-either_if P true x y h k = h refl
-either_if P false x y h k = k refl
-
-idle : (o : Option Work) → is_none o ≡ true → o ≡ None
-idle None e = refl
-idle (Some w) e = absurd cc
-
-off : (b : Bool) → not b ≡ true → b ≡ false
-off true e = absurd cc
-off false e = refl
-
 -- ---- one that is begun next has no store yet
 
 pub idle_led : (p : Periodic) → p.work ≡ None → led_in p ≡ p.members.schedule
@@ -64,13 +53,13 @@ linking_led p x kept =
     let both = and_parts (is_none p.work) (takes p.members x) e in
     let one = and_parts (is_member x) (not (has_name p.members.schedule (id_of x)) && has_room p.members x) both.1 in
     let new = and_parts (not (has_name p.members.schedule (id_of x))) (has_room p.members x) one.1 in
-    out_again p.members.schedule x kept (off (has_name p.members.schedule (id_of x)) new.0) ∙ sym (idle_led p (idle p.work both.0)))
+    out_again p.members.schedule x kept (not_on (has_name p.members.schedule (id_of x)) new.0) ∙ sym (idle_led p (no_work p.work both.0)))
     (λ e. refl)
 
 pub unlinking_led : (p : Periodic) (x : Member) → led_in (unlinking p x) ≡ led_in p
 unlinking_led p x =
     either_if (λ (r : Periodic). led_in r ≡ led_in p) (may_unlink p x) (removing p x) p
-    (λ e. sym (idle_led p (idle p.work (and_parts (is_none p.work) (is_member x && is_linked p.members.schedule x) e).0)))
+    (λ e. sym (idle_led p (no_work p.work (and_parts (is_none p.work) (is_member x && is_linked p.members.schedule x) e).0)))
     (λ e. refl)
 
 begun_led : (removes : Bool) (p : Periodic) (x : Member) → IsKept p.members.schedule → led_in (begun removes p x) ≡ led_in p

@@ -1,11 +1,13 @@
 -- The next store of the frame list, beside both walks.
-use Rattle.std.proofs.Common.{◌≡◌, ℕ, zero, suc, ◌+◌, ◌*◌, ◌/◌, ◌<◌, ◌≤◌, ◌⊎◌, Bool, true, false, nat_eq, inl, inr, List, [], ◌∷◌, Option, Some, None, if◌then◌else◌, ⊎_elim, ap, refl, sym, subst, ◌∙◌, arith}
+use Rattle.std.proofs.Common.{◌≡◌, ℕ, ◌+◌, ◌*◌, ◌/◌, ◌<◌, ◌≤◌, ◌⊎◌, Bool, true, false, inl, inr, Option, Some, None, if◌then◌else◌, ⊎_elim, ap, refl, sym, subst, ◌∙◌, arith}
 use Rattle.std.specs.Prelude.{◌==◌, not, ◌&&◌, ◌||◌, nat_lt, slice_get, slice_set, option_map, option_and_then}
-use Rattle.std.specs.List.{AllByRecursion}
-use Rattle.std.proofs.lemmas.Bool.{true≢false, and_parts, and_from, eq-eqb, eqb-true}
+use Rattle.std.proofs.lemmas.Bool.{true≢false, eqb-true}
 use Rattle.std.proofs.lemmas.List.{get_or-set_other}
-use Rattle.std.proofs.lemmas.Map.Views.{any-filter_same}
 use Rattle.std.proofs.lemmas.Option.{same_Some}
+use Rattle.law_common.proofs.Lists.{nth_all}
+use Rattle.law_frame_words.proofs.Common.{same_itself}
+use Rattle.law_descriptors.proofs.Common.{others_led, gone, way_by, leaves_it, also_here}
+use Rattle.law_common.proofs.Booleans.{or_both}
 use Rattle.word_mem.specs.Memory.{Mem, word_at, with_word}
 use Rattle.link_words.specs.Links.{link_read, link_fields, IsLinkWord}
 use Rattle.drv_chains.specs.declared.members.Member.{Member}
@@ -14,10 +16,9 @@ use Rattle.drv_chains.specs.declared.members.Predecessor.{Predecessor}
 use Rattle.drv_chains.specs.declared.members.Predecessor.TheVariants.{Element, After}
 use Rattle.drv_chains.specs.Chains.{Schedule, id_of, is_the, successor}
 use Rattle.drv_chains.specs.Stores.{is_same, is_word}
-use Rattle.drv_members.specs.Members.{Members, IsKept, is_linked, is_that, is_this, without_member, with_schedule, frame_of}
-use Rattle.drv_members.specs.Ranks.{is_named, is_called}
+use Rattle.drv_members.specs.Members.{Members, IsKept, is_linked, without_member, with_schedule, frame_of}
 use Rattle.law_frame_words.specs.frame_words.InWords.{IsSpread}
-use Rattle.claims_driver.specs.FrameWords.{HasMember, IsInOrder}
+use Rattle.claims_driver.specs.FrameWords.{IsInOrder}
 use Rattle.law_frame_words.proofs.lemmas.frame_words.Decoded.{IsWordOf}
 use Rattle.law_frame_words.proofs.lemmas.frame_words.InChains.{fewer_in, words_in}
 use Rattle.law_frame_list.specs.list_closed.Closed.{IsNext}
@@ -43,10 +44,9 @@ use Rattle.law_descriptors.specs.Meeting.{kind_of, standing, or_recent, met}
 use Rattle.law_descriptors.specs.Growing.{IsLeftOut, AreApartFrom, KeepsMembers}
 use Rattle.law_descriptors.specs.RowLaws.{HasFrames}
 use Rattle.law_descriptors.specs.Rows.{IsMetBeside}
-use Rattle.law_descriptors.specs.Staying.{also}
 use Rattle.law_descriptors.specs.ListRows.{leaves_by, leaves_now, recent_with, HasPart, Comes, ComesFirst, an_element, a_link, ListStored, StoresNext, NextStoreLeavesBoth}
 use Rattle.law_descriptors.proofs.Finding.{begins_at, member_kind, IsMemberAt, member_at}
-use Rattle.law_descriptors.proofs.Leading.{no_removal, none_made, led_linked, led_spread, members_lead_to_standing}
+use Rattle.law_descriptors.proofs.Leading.{none_made, led_linked, led_spread, members_lead_to_standing}
 use Rattle.law_descriptors.proofs.Closing.{leads_as, standing_met}
 use Rattle.law_descriptors.proofs.Growing.{same_kind, stores_keep_members, members_stay_met}
 use Rattle.law_descriptors.proofs.Storing.{element_store_meets, link_store_meets}
@@ -56,11 +56,6 @@ abbrev AreComing : (ℕ → Bool) → (ℕ → Option Kind) → StructureSets �
 AreComing member recent parts d new = (n : ℕ) (kind : Kind) → standing new n ≡ Some kind → standing d n ≡ None → Comes member recent parts n kind
 
 -- ---- its word
-
-nth_all : {X : Type 0} (P : X → Type 0) (xs : List X) (n : ℕ) (x : X) → AllByRecursion P xs → slice_get xs n ≡ Some x → P x
-nth_all P [] n x all there = absurd cc
-nth_all P (y ∷ ys) zero x all there = subst P (same_Some y x there) all.0
-nth_all P (y ∷ ys) (suc n) x all there = nth_all P ys n x all.1 there
 
 record NextWord (p : Periodic) (st : Store) : Type 0 where
   work : Work
@@ -81,11 +76,6 @@ next_word p st (Some w) under is = next_by p w st (slice_get (words_of p.members
 
 -- ---- the one that is linked or unlinked
 
-same_itself : (m : Member) → is_same m m ≡ true
-same_itself (Once d) = and_from (nat_eq d.id d.id) (nat_eq d.frame d.frame) (eq-eqb d.id d.id refl) (eq-eqb d.frame d.frame refl)
-same_itself (Each q) = and_from (nat_eq q.id q.id) (nat_eq q.period q.period && nat_eq q.phase q.phase) (eq-eqb q.id q.id refl)
-    (and_from (nat_eq q.period q.period) (nat_eq q.phase q.phase) (eq-eqb q.period q.period refl) (eq-eqb q.phase q.phase refl))
-
 -- two members with one name are one
 one_name : (list : ℕ) (s : Schedule) (m x : Member) → IsSpread list s → is_linked s m ≡ true → is_linked s x ≡ true → is_the m x ≡ true → x ≡ m
 one_name list s m x spread one two is = spread.once x m two one (ap (λ (n : ℕ). n / 32) (eqb-true (id_of x) (id_of m) is))
@@ -94,18 +84,6 @@ other_by : (list : ℕ) (s : Schedule) (m x : Member) (b : Bool) → IsSpread li
 other_by list s m x false spread one two differs is = refl
 other_by list s m x true spread one two differs is =
     absurd (true≢false (sym (same_itself m) ∙ ap (λ (y : Member). is_same y m) (sym (one_name list s m x spread one two is)) ∙ differs))
-
--- it isn't linked without itself
-gone : (s : Schedule) (m : Member) → is_linked (without_member s m) m ≡ false
-gone s (Once d) =
-    any-filter_same (is_that d) (λ x. not (is_called d.id x)) false (λ x is. ap not (and_parts (nat_eq x.id d.id) (nat_eq x.frame d.frame) is).0) s.descriptors
-gone s (Each q) =
-    any-filter_same (is_this q) (λ x. not (is_named q.id x)) false
-    (λ x is. ap not (and_parts (nat_eq x.id q.id) (nat_eq x.period q.period && nat_eq x.phase q.phase) is).0) s.queues
-
-others_led : (s : Schedule) (w : Work) (x : Member) (b : Bool) → is_the w.member x ≡ false → is_linked s x ≡ true → is_linked (if b then s else without_member s w.member) x ≡ true
-others_led s w x true other on = on
-others_led s w x false other on = still_linked s w.member x other on
 
 -- ---- the link word of a member
 
@@ -149,11 +127,6 @@ own_link met parts n AnItd k = record { structure = Isochronous k.itd; here = k.
 own_link met parts n ASitd k = record { structure = SplitIsochronous k.sitd; here = k.here; link = tt }
 
 -- ---- who is linked before it and after it
-
--- the one that is under way is a member
-way_by : (s : Schedule) (o : Option Work) (w : Work) → o ≡ Some w → HasMember s o → is_linked s w.member ≡ true
-way_by s None w is has = absurd cc
-way_by s (Some v) w is has = subst (λ (x : Work). is_linked s x.member ≡ true) (same_Some v w is) has.1
 
 way_linked : (p : Periodic) (w : Work) → IsInOrder p → p.work ≡ Some w → is_linked p.members.schedule w.member ≡ true
 way_linked p w order under = way_by p.members.schedule p.work w under order.member
@@ -205,15 +178,6 @@ leaves_as p w m false b under removes last is = absurd cc
 leaves_is : (p : Periodic) (m : Member) (o : Option Work) → p.work ≡ o → leaves_by p.members.schedule o ≡ Some m → Leaves p m
 leaves_is p m None under is = absurd cc
 leaves_is p m (Some w) under is = leaves_as p w m w.removes (is_more p.members.schedule w) under refl refl is
-
-leaves_it : (p : Periodic) (w : Work) (x : Member) → p.work ≡ Some w → IsLeftOut p w x → leaves_now p ≡ Some w.member
-leaves_it p w x under out =
-    ap (leaves_by p.members.schedule) under
-    ∙ ap (λ (b : Bool). if b && not (is_more p.members.schedule w) then Some w.member else None) out.removes
-    ∙ ap (λ (b : Bool). if not b then Some w.member else None) out.last
-
-also_here : (n i : ℕ) (kind : Kind) (recent : ℕ → Option Kind) → i ≡ n → also n kind recent i ≡ Some kind
-also_here n i kind recent is = ap (λ (b : Bool). if b then Some kind else recent i) (eq-eqb i n is)
 
 -- at any other place it is what it was
 also_by : (n i : ℕ) (kind found : Kind) (recent : ℕ → Option Kind) (b : Bool) → (i == n) ≡ b → (if b then Some kind else recent i) ≡ Some found → ((i ≡ n) × (kind ≡ found)) ⊎ (recent i ≡ Some found)
@@ -519,7 +483,7 @@ first_comes m d new p st g member recent parts k comes n kind stands none =
     absurd (none_some (standing d n) (kind_of d.periodic x) none
     (ap (standing d) (sym f.begins) ∙ stood m d new p st x k (ap (λ (s : Schedule). is_linked s x) (sym k.before ∙ ap (led_by p.members.schedule) g.under_way) ∙ before))))
     (λ (is : (is_led w ≡ false) × (is_the w.member x ≡ true)).
-    let parted = no_removal w.removes (nat_lt 0 w.made) is.0 in
+    let parted = or_both w.removes (nat_lt 0 w.made) is.0 in
     let one : x ≡ w.member = one_name d.periodic.list.list p.members.schedule w.member x (spread_in m d new p st k) (way_linked p w k.order g.under_way) linked is.1 in
     let c : Comes member recent parts (begins_at w.member) (kind_of d.periodic w.member) = comes w g.under_way parted.0 (none_made w.made parted.1) in
     let at : begins_at w.member ≡ n = ap begins_at (sym one) ∙ f.begins in

@@ -1,7 +1,10 @@
 -- Other commands and rows leave the descriptors that are lent.
-use Rattle.std.proofs.Common.{◌≡◌, ℕ, ◌==◌, ◌||◌, Bool, true, false, cond, List, [], ◌∷◌, length, get_or, slice_get, Option, Some, None, Ok, inl, inr, ap, refl, sym, subst, ◌∙◌, ⊎_elim}
-use Rattle.std.specs.Prelude.{is_none}
+use Rattle.std.proofs.Common.{◌≡◌, ℕ, ◌==◌, ◌||◌, Bool, true, false, List, [], ◌∷◌, length, get_or, slice_get, Option, Some, None, Ok, inl, inr, ap, refl, sym, subst, ◌∙◌, ⊎_elim}
 use Rattle.std.proofs.lemmas.Bool.{eq-eqb, true≢false}
+use Rattle.law_frame_list.proofs.Common.{has_run}
+use Rattle.law_descriptors.proofs.Common.{unchained_book}
+use Rattle.law_common.proofs.Booleans.{is_not}
+use Rattle.law_common.proofs.Lists.{pushed_there}
 use Rattle.word_mem.specs.Memory.{Mem, IsShaped}
 use Rattle.mem_runs.specs.declared.slots.Slot.{Slot}
 use Rattle.mem_runs.specs.declared.slots.Slot.TheVariants.{Empty, Keeps, Lends}
@@ -15,13 +18,13 @@ use Rattle.drv_table.specs.declared.rows.DriverRow.TheVariants as rows
 use Rattle.drv_table.specs.DriverContent.{DriverContent}
 use Rattle.drv_table.specs.Parts.{Parts}
 use Rattle.drv_table.specs.Rows.{after_driver_row}
-use Rattle.drv_table.specs.Commands.{advance, leave_frames, no_command, finished, or_finished}
+use Rattle.drv_table.specs.Commands.{advance}
 use Rattle.drv_table.specs.Removals.{after_unlink}
 use Rattle.drv_table.specs.Words.{needs}
 use Rattle.drv_table.specs.Accepting.{Offered, take_runs, new_runs}
 use Rattle.drv_table.specs.Offers.{accepted_open, accepted_chain, new_transfer, accepted_iso}
 use Rattle.drv_table.specs.CancelOffers.{accepted_cancel, endpoint_members, with_cancel, accepted_unchain}
-use Rattle.claims_driver.specs.Owners.{HasRun, SlotHas, TransferRuns, Views, views_of, transfer_in, descriptor_in, runs_of_transfer}
+use Rattle.claims_driver.specs.Owners.{SlotHas, TransferRuns, Views, views_of, transfer_in, descriptor_in, runs_of_transfer}
 use Rattle.law_driver.specs.run_owners.Accepts.{Transfers, Opens, Chains, opens, chains, places, transfers as a_transfer, describes, cancels, unchains}
 use Rattle.law_driver.proofs.lemmas.run_owners.Taking.{runs_taken}
 use Rattle.law_driver.proofs.lemmas.run_owners.Accepted.{push_case}
@@ -31,7 +34,6 @@ use Rattle.law_structures.specs.lent_structures.Structures.{StructureSets}
 use Rattle.law_driver_ring.specs.Inventory.{sorts_of, IsLent, IsDriven}
 use Rattle.law_driver_ring.proofs.Viewing.{SameViews, advance_views, harvest_views}
 use Rattle.law_driver_ring.proofs.Taken.{TakesOn, takes_on}
-use Rattle.law_driver_ring.proofs.Opens.{pushed_old}
 use Rattle.law_descriptors.specs.Described.{AreDescribed}
 use Rattle.law_descriptors.specs.Both.{SameDescriptors}
 use Rattle.law_descriptors.proofs.Stays.{described_follow}
@@ -83,10 +85,6 @@ rows_told p descs parts _ keeps told = record { driven = told.driven; extents = 
 
 -- ---- commands
 
-has_run : (s : Slot) (k : ℕ) → SlotHas s k → HasRun s
-has_run Empty k has = absurd has
-has_run _ k has = tt
-
 -- with runs that aren't lent yet, and the same descriptors
 taken_descriptors : (v w : Views) → TakesOn v.slot w.slot → ((c k : ℕ) → SlotHas (v.slot c) k → SlotHas (w.slot c) k) → ((t : ℕ) (y : TransferRuns) → y.isochronous ≡ true → v.transfer t ≡ Some y → w.transfer t ≡ Some y)
     → ((t : ℕ) (y : TransferRuns) → y.isochronous ≡ true → w.transfer t ≡ Some y → v.transfer t ≡ Some y) → ((b : ℕ) → w.descriptor b ≡ v.descriptor b) → SameDescriptors v w
@@ -114,18 +112,6 @@ same_takes slot = record { before = λ c lent. refl; after = λ c lent. refl }
 same_book : (d e : DriverContent) → e.book ≡ d.book → e.transfers ≡ d.transfers → e.periodic.notes ≡ d.periodic.notes → (m : Mem) → SameDescriptors (views_of d) (views_of e)
 same_book d e book transfers notes m = same_content d e (holding d.book m) (same_takes (slot_of d.book.slots)) (λ c k has. has) book transfers notes
 
--- a periodic endpoint is to leave its frames
-either_book : (k : Book) (b : Bool) (e f : DriverContent) → e.book ≡ k → f.book ≡ k → (cond b e f).book ≡ k
-either_book k true e f one other = one
-either_book k false e f one other = other
-
-left_book : (d : DriverContent) (e : ℕ) (o : Option Endpoint) → (leave_frames d e o).book ≡ d.book
-left_book d e None = refl
-left_book d e (Some x) = either_book d.book x.chained _ d refl refl
-
-unchained_book : (d : DriverContent) (e : ℕ) → (or_finished d (unfinished.Unchain e)).book ≡ d.book
-unchained_book d e = either_book d.book (is_none d.periodic.list.work) (finished d (unfinished.Unchain e)) d (left_book (no_command d) e (slice_get d.endpoints e)) refl
-
 unchain_same : (d : DriverContent) (e : ℕ) (x : Endpoint) (ms : List Member) → SameDescriptors (views_of d) (views_of (accepted_unchain d e x ms))
 unchain_same d e x ms =
     let c : DriverContent = with_cancel d e x ms in
@@ -143,9 +129,6 @@ taken_same d e m g ns stands runs book transfers notes =
     let all = runs_taken (holding d.book m) g ns stands runs in
     same_content d e g (takes_on (holding d.book m) g ns all.blocks runs all.are) (λ c k has. subst (λ (s : Slot). SlotHas s k) (sym (all.are.old c (has_run (slot_of d.book.slots c) k has))) has) book transfers notes
 
-is_not : (b : Bool) → b ≡ true → b ≡ false → ⊥
-is_not b on off = cc
-
 -- a transfer with qTDs comes
 transfer_same : (d : DriverContent) (m : Mem) (o : Offered) → Transfers d m o → Stands (holding d.book m) → SameDescriptors (views_of d) (views_of o.driver)
 transfer_same d m o why stands =
@@ -155,7 +138,7 @@ transfer_same d m o why stands =
     subst (λ (f : Offered). SameDescriptors (views_of d) (views_of f.driver)) (sym why.is)
     (taken_descriptors (views_of d) _ (takes_on (holding d.book m) g (needs why.asked.stages) all.blocks why.runs all.are)
     (λ c k has. subst (λ (s : Slot). SlotHas s k) (sym (all.are.old c (has_run (slot_of d.book.slots c) k has))) has)
-    (λ t y iso there. pushed_old runs_of_transfer d.transfers new t y there)
+    (λ t y iso there. pushed_there runs_of_transfer d.transfers new t y there)
     (λ t y iso there.
     ⊎_elim (λ (old : transfer_in d.transfers t ≡ Some y). old)
     (λ (is : (t ≡ length d.transfers) × (y ≡ runs_of_transfer new)). absurd (is_not y.isochronous iso (ap (λ (z : TransferRuns). z.isochronous) is.1 ∙ why.sort)))

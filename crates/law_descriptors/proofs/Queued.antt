@@ -1,10 +1,12 @@
 -- What a command with descriptors links next is one of its own, after each event of the driver and each accepted command.
-use Rattle.std.proofs.Common.{◌≡◌, ℕ, ◌+◌, zero, suc, Bool, true, false, cond, nat_lt, List, [], ◌∷◌, ◌++◌, length, take, drop, set, slice_get, Option, Some, None, Ok, ap, sym, subst, ◌∙◌, refl, arith}
+use Rattle.std.proofs.Common.{◌≡◌, ℕ, ◌+◌, suc, Bool, true, false, cond, nat_lt, List, [], ◌∷◌, length, take, drop, slice_get, Option, Some, None, Ok, ap, sym, subst, ◌∙◌, refl, arith}
 use Rattle.std.specs.Prelude.{is_none}
 use Rattle.std.specs.List.{AllByRecursion}
 use Rattle.std.proofs.lemmas.Bool.{false≢true}
 use Rattle.std.proofs.lemmas.Bool.Decides.{nat_tests}
 use Rattle.std.proofs.lemmas.Option.{same_Some}
+use Rattle.law_frame_list.proofs.Common.{frames_first, transfer_command, unlink_command, endpoint_command, removed_command}
+use Rattle.law_descriptors.proofs.Common.{out_of_frames, either, same_endpoint, same_first, no_work}
 use Rattle.usb_base.specs.declared.commands.Cmd.{Cmd}
 use Rattle.word_mem.specs.Memory.{Mem}
 use Rattle.mem_runs.specs.Book.{Book, holding, lend_taken}
@@ -13,7 +15,6 @@ use Rattle.drv_periodic.specs.declared.work.Work.{Work}
 use Rattle.drv_periodic.specs.Periodic.{Periodic, begun, is_more, members_after, inserting, after_work, after_store}
 use Rattle.drv_periodic_table.specs.Periodic.{PeriodicContent, descriptor_member}
 use Rattle.drv_periodic_table.specs.Linking.{may_link, with_first, begun_next}
-use Rattle.drv_periodic_table.specs.declared.content.Removed.TheVariants as removed
 use Rattle.drv_table.specs.declared.content.Reserve.{Reserve}
 use Rattle.drv_table.specs.declared.content.Endpoint.{Endpoint}
 use Rattle.drv_table.specs.declared.content.Command.{Command}
@@ -26,7 +27,7 @@ use Rattle.drv_table.specs.Accepting.{Offered}
 use Rattle.drv_table.specs.Offers.{offered}
 use Rattle.drv_table.specs.CancelOffers.{endpoint_members, with_cancel}
 use Rattle.drv_table.specs.Parts.{Parts}
-use Rattle.drv_table.specs.Commands.{events_of, links, removes_members, leave_frames, no_command, removal_of, finished, list_after, or_finished, linked_on, advanced_by}
+use Rattle.drv_table.specs.Commands.{events_of, links, removes_members, no_command, finished, list_after, or_finished, linked_on, advanced_by}
 use Rattle.drv_table.specs.FrameChoice.{framed_by, framed_notes, with_notes, placement_at, linked_by}
 use Rattle.drv_table.specs.Releases.{freed_by}
 use Rattle.drv_table.specs.Rows.{driver_row, after_driver_row}
@@ -41,7 +42,7 @@ use Rattle.claims_driver.specs.FrameListMembers.{placed_in}
 use Rattle.law_driver.specs.listed_members.Members.{IsWaitingOf, IsUnderWay, IsListed}
 use Rattle.law_descriptors.specs.Queued.{LinksQueued, DescriptorsComeFirst, LeavingComeFirst}
 use Rattle.law_descriptors.proofs.Coming.{waiting_members_come}
-use Rattle.law_descriptors.proofs.Chained.{transfer_command, unlink_command, endpoint_command, removed_command, harvest_command, out_of_ring}
+use Rattle.law_descriptors.proofs.Chained.{harvest_command, out_of_ring}
 
 -- ---- where no command links descriptors
 
@@ -59,22 +60,10 @@ idle_none d none e t count is = let no : ◌≡◌ {A = Option Command} None (So
 idle_linked : (d : DriverContent) → d.command ≡ None → LinksQueued d
 idle_linked d none = none_linked d (idle_none d none)
 
-out_of_frames : (d : DriverContent) (e : ℕ) (o : Option Endpoint) → d.command ≡ None → (leave_frames d e o).command ≡ None
-out_of_frames d e None none = none
-out_of_frames d e (Some x) none = by x.chained
-  where
-    by : (b : Bool) → (cond b (record d { endpoints = set d.endpoints e (record x { chained = false }); periodic = record d.periodic { removals = d.periodic.removals ++ removal_of (removed.Endpoint e) ∷ [] } }) d).command ≡ None
-    by true = none
-    by false = none
-
 done_none : (d : DriverContent) (c : Command) → (finished d c).command ≡ None
 done_none d (unfinished.Unlink e b link) = out_of_ring (no_command d) e (slice_get d.endpoints e) refl
 done_none d (unfinished.Unchain e) = out_of_frames (no_command d) e (slice_get d.endpoints e) refl
 done_none d _ = refl
-
-either : (P : DriverContent → Type 0) (d f : DriverContent) (b : Bool) → P d → P f → P (cond b d f)
-either P d f true one two = one
-either P d f false one two = two
 
 -- ---- a command without descriptors goes on
 
@@ -135,12 +124,6 @@ still_waits d f e t m ends ts notes w = record {
 
 -- ---- a command with descriptors goes on
 
-same_endpoint : (e t n i u m : ℕ) → ◌≡◌ {A = Option Command} (Some (unfinished.Iso e t n)) (Some (unfinished.Iso i u m)) → e ≡ i
-same_endpoint e t n i u m is = cc
-
-same_first : (e t n i u m : ℕ) → ◌≡◌ {A = Option Command} (Some (unfinished.Iso e t n)) (Some (unfinished.Iso i u m)) → t ≡ u
-same_first e t n i u m is = cc
-
 iso_goes : (d : DriverContent) (k : Book) (e t n : ℕ) → d.command ≡ Some (unfinished.Iso e t n) → IsListed d → LinksQueued d → LinksQueued (advanced_by (record d { book = k }) (Some (unfinished.Iso e t n)))
 iso_goes d k e t n is listed old = by (nat_lt (suc d.made) 2) refl
   where
@@ -194,12 +177,6 @@ command_goes d k (Some unfinished.Chain) is listed old =
     let h = record d { book = k } in none_linked (advanced_by h (Some unfinished.Chain)) (other_goes h unfinished.Chain (unlike h unfinished.Chain is (λ e t n same. cc)))
 command_goes d k (Some (unfinished.Unchain f)) is listed old =
     let h = record d { book = k } in none_linked (advanced_by h (Some (unfinished.Unchain f))) (other_goes h (unfinished.Unchain f) (unlike h (unfinished.Unchain f) is (λ e t n same. cc)))
-
--- the frames are chosen first, with nothing begun
-frames_first : (e t n made : ℕ) → slice_get (events_of (unfinished.Iso e t n)) made ≡ Some rows.Frames → made ≡ 0
-frames_first e t n zero next = refl
-frames_first e t n (suc zero) next = absurd (cc)
-frames_first e t n (suc (suc made)) next = absurd (cc)
 
 frames_go : (d : DriverContent) (n : ℕ) (c : Command) → d.command ≡ Some c → slice_get (events_of c) d.made ≡ Some rows.Frames → LinksQueued d → LinksQueued (framed_by d n (Some c))
 frames_go d n (unfinished.Open queue) is next old = old
@@ -256,9 +233,6 @@ events_link_queued p listed old = row_linked (driver_row p) p (each_event_is_due
 
 never : (d : DriverContent) (c : Command) → d.command ≡ Some c → ((e t n : ℕ) → c ≡ unfinished.Iso e t n → ⊥) → LinksQueued d
 never d c is other = none_linked d (unlike d c is other)
-
-no_work : (d : DriverContent) → d.command ≡ None → IsListed d → d.periodic.list.work ≡ None
-no_work d none listed = (subst (λ (o : Option Command). IsUnderWay d o) none listed.way).work
 
 described : (d : DriverContent) (m : Mem) (o : Offered) → IsListed d → Describes d m o → LinksQueued o.driver
 described d m o listed why e t n w is there =

@@ -3,6 +3,9 @@ use Rattle.std.proofs.Common.{◌≡◌, ℕ, zero, suc, ◌+◌, ◌*◌, ◌/�
 use Rattle.std.specs.Prelude.{◌||◌, ◌==◌, slice_get, option_map, option_and_then}
 use Rattle.std.proofs.lemmas.Bool.{false≢true, true≢false, eqb-true, eq-eqb, and_parts}
 use Rattle.std.proofs.lemmas.Option.{same_Some}
+use Rattle.law_frame_list.proofs.Common.{same_number as same_transfer, no_descriptor}
+use Rattle.law_common.proofs.Numbers.{same_blocks}
+use Rattle.law_common.proofs.Booleans.{owed_by}
 use Rattle.drv_chains.specs.declared.members.Member.{Member}
 use Rattle.drv_chains.specs.declared.members.Member.TheVariants.{Once, Each}
 use Rattle.drv_chains.specs.Chains.{id_of}
@@ -45,22 +48,7 @@ number_of (Described split t) = t
 number_of (Buffer t) = t
 number_of _ = 0
 
-pub same_transfer : (one two : Bool) (t u : ℕ) → Described one t ≡ Described two u → t ≡ u
-unfolding number_of
-same_transfer one two t u same = ap number_of same
-
-pub no_descriptor : (e t : ℕ) (split : Bool) → QueueHead e ≡ Described split t → ⊥
-no_descriptor e t split same = cc
-
-pub same_blocks : (a b : ℕ) → 32 * a ≡ 32 * b → a ≡ b
-same_blocks a b is = omega (arith, is)
-
 -- ---- what is owed
-
-pub owed_by : (r l : Bool) → 1 ≤ (if r && not l then 1 else 0) → (r ≡ true) × (l ≡ false)
-owed_by true true one = absurd (omega (arith, one))
-owed_by true false one = (refl, refl)
-owed_by false l one = absurd (omega (arith, one))
 
 owed_most : (b : Bool) → (if b then 1 else 0) ≤ 1
 owed_most true = omega arith

@@ -3,6 +3,8 @@ use Rattle.std.proofs.Common.{◌≡◌, ◌≢◌, ℕ, zero, suc, ◌*◌, ◌
 use Rattle.std.specs.Prelude.{◌==◌, slice_get, slice_set}
 use Rattle.std.proofs.lemmas.Bool.{cases_eq, eqb-true}
 use Rattle.std.proofs.lemmas.Option.{same_Some}
+use Rattle.law_common.proofs.Lists.{pushed_last, push_there, set_here, set_there}
+use Rattle.law_descriptors.proofs.Common.{dropped, let_go}
 use Rattle.drv_periodic_table.specs.declared.content.Removal.{Removal}
 use Rattle.drv_periodic_table.specs.declared.content.Removed.{Removed}
 use Rattle.drv_periodic_table.specs.declared.content.Removed.TheVariants as removed
@@ -16,8 +18,6 @@ use Rattle.drv_table.specs.Kinds.{is_iso}
 use Rattle.drv_table.specs.Rows.{after_driver_row}
 use Rattle.drv_table.specs.Removals.{after_unlink, after_descriptor}
 use Rattle.drv_table.specs.Commands.{finished, leave_frames, no_command, removal_of}
-use Rattle.claims_driver.specs.Owners.{is_descriptor}
-use Rattle.law_driver.proofs.lemmas.run_owners.Released.{set_here, set_there}
 use Rattle.law_frames.specs.Met.{Kind}
 use Rattle.claims_driver.specs.Unlinked.{IsOpenAt}
 use Rattle.law_descriptors.specs.Removed.{IsRemovedAt, a_descriptor, a_queue, a_waiting, IsRemovedSince, IsUnchainedNow}
@@ -28,20 +28,11 @@ use Rattle.law_descriptors.proofs.Returning.{not_open}
 
 -- ---- behind the others
 
-push_there : {X : Type 0} (xs : List X) (x : X) (n : ℕ) (z : X) → slice_get xs n ≡ Some z → slice_get (xs ++ x ∷ []) n ≡ Some z
-push_there [] x n z here = absurd (cc)
-push_there (y ∷ ys) x zero z here = here
-push_there (y ∷ ys) x (suc n) z here = push_there ys x n z here
-
-push_last : {X : Type 0} (xs : List X) (x : X) → slice_get (xs ++ x ∷ []) (length xs) ≡ Some x
-push_last [] x = refl
-push_last (y ∷ ys) x = push_last ys x
-
 behind_others : (xs : List Endpoint) (ts : List Transfer) (rs : List Removal) (r : Removal) (index n : ℕ) → IsRemovedSince xs ts rs index n → IsRemovedSince xs ts (rs ++ r ∷ []) index n
 behind_others xs ts rs r index n s = record { place = s.place; removal = s.removal; here = push_there rs r s.place s.removal s.here; what = s.what; within = s.within }
 
 the_last : (xs : List Endpoint) (ts : List Transfer) (rs : List Removal) (w : Removed) (index n : ℕ) → IsRemovedAt xs ts n w → IsRemovedSince xs ts (rs ++ removal_of w ∷ []) index n
-the_last xs ts rs w index n what = record { place = length rs; removal = removal_of w; here = push_last rs (removal_of w); what = what; within = tt }
+the_last xs ts rs w index n what = record { place = length rs; removal = removal_of w; here = pushed_last rs (removal_of w); what = what; within = tt }
 
 -- ---- a descriptor is unlinked
 
@@ -109,25 +100,6 @@ unchain_is_recent d recent index e x command there chained are =
     subst (λ (o : Option Endpoint). AreRecent (leave_frames (no_command d) e o) index recent) (sym there) (chained_by d recent index e x x.chained chained command there are)
 
 -- ---- a descriptor is given back
-
-let_go : (xs : List Endpoint) (ts : List Transfer) (n t : ℕ) (y : Transfer) (w : Removed) → slice_get ts t ≡ Some y → IsRemovedAt xs ts n w → IsRemovedAt xs (set ts t (record y { released = true })) n w
-let_go xs ts n t y _ there (a_descriptor u z at is) =
-    ⊎_elim (λ (same : u ≡ t).
-    let one : z ≡ y = same_Some z y (sym at ∙ ap (slice_get ts) same ∙ there) in
-    subst (λ (i : ℕ). IsRemovedAt xs (set ts t (record y { released = true })) n (removed.Descriptor i)) (sym same)
-    (a_descriptor t (record y { released = true }) (set_here ts t y (record y { released = true }) there) (subst (λ (v : Transfer). n ≡ 32 * v.first) one is)))
-    (λ (differs : u ≢ t). a_descriptor u z (set_there ts t u (record y { released = true }) differs ∙ at) is) (cases_eq u t)
-let_go xs ts n t y _ there (a_queue f z at queued is) = a_queue f z at queued is
-let_go xs ts n t y _ there (a_waiting f u x z at iso in_list sort waits is) =
-    ⊎_elim (λ (same : u ≡ t).
-    let one : z ≡ y = same_Some z y (sym in_list ∙ ap (slice_get ts) same ∙ there) in
-    a_waiting f t x (record y { released = true }) at iso (set_here ts t y (record y { released = true }) there) (subst (λ (v : Transfer). is_descriptor v.sort ≡ true) one sort)
-    (subst (λ (v : Transfer). waits_for f v ≡ true) one waits) (subst (λ (v : Transfer). n ≡ 32 * v.first) one is))
-    (λ (differs : u ≢ t). a_waiting f u x z at iso (set_there ts t u (record y { released = true }) differs ∙ in_list) sort waits is) (cases_eq u t)
-
-dropped : (rs : List Removal) (k : ℕ) (r : Removal) → slice_get rs (suc k) ≡ Some r → slice_get (drop 1 rs) k ≡ Some r
-dropped [] k r here = absurd cc
-dropped (m ∷ ms) k r here = here
 
 one_less : (p : Parts) (index t n : ℕ) (y : Transfer) (why : IsGivenBack p (removed.Descriptor t)) → slice_get p.driver.transfers t ≡ Some y
     → (k : ℕ) (r : Removal) → slice_get p.driver.periodic.removals k ≡ Some r → IsRemovedAt p.driver.endpoints p.driver.transfers n r.what → IsOpenAt index r.boundary

@@ -2,13 +2,13 @@
 use Rattle.std.proofs.Common.{◌≡◌, ◌≢◌, ℕ, zero, suc, ◌*◌, ◌⊎◌, ◌==◌, Bool, true, false, List, [], ◌∷◌, ◌++◌, take, slice_get, Some, if◌then◌else◌, ap, refl, sym, subst, ◌∙◌, inl, inr, ⊎_elim, arith}
 use Rattle.std.proofs.lemmas.Bool.{eq-eqb, eqb-true}
 use Rattle.std.proofs.lemmas.Option.{same_Some}
+use Rattle.law_common.proofs.Numbers.{other_number}
 use Rattle.usb_base.specs.declared.endpoints.EpDesc.{EpDesc}
 use Rattle.word_mem.specs.Memory.{Mem}
 use Rattle.drv_periodic_table.specs.declared.content.DescriptorNote.{DescriptorNote}
 use Rattle.drv_periodic_table.specs.Periodic.{note_at}
 use Rattle.drv_table.specs.declared.content.Transfer.{Transfer}
 use Rattle.law_structures.specs.lent_structures.Structures.{Structure, Structures, StructureSets}
-use Rattle.law_structures.proofs.lemmas.lent_structures.Names.{not_same}
 use Rattle.law_driver_ring.specs.Written.{AreAllApart}
 use Rattle.law_driver_ring.proofs.Lists.{IsOneOf, one_left, one_right, one_either, each_of, apart_left, apart_right}
 use Rattle.law_descriptors.specs.Written.{runs_of}
@@ -71,7 +71,7 @@ module _ (m : Mem) (x : EpDesc) (notes : List DescriptorNote) (link : ℕ → �
   pub set_old : (ys : List Transfer) (n : ℕ) → ((i : ℕ) (y : Transfer) → slice_get ys i ≡ Some y → n ≢ 32 * y.first) → now ys n ≡ descs n
   set_old [] n differ = refl
   set_old (y ∷ ys) n differ =
-      ap (λ (t : Bool). if t then own y.first else now ys n) (not_same n (32 * y.first) (differ 0 y refl)) ∙ set_old ys n (λ i z there. differ (suc i) z there)
+      ap (λ (t : Bool). if t then own y.first else now ys n) (other_number n (32 * y.first) (differ 0 y refl)) ∙ set_old ys n (λ i z there. differ (suc i) z there)
 
   pub set_new : (ys : List Transfer) (i : ℕ) (y : Transfer) → slice_get ys i ≡ Some y → AreAllApart (runs_of notes ys) → now ys (32 * y.first) ≡ own y.first
   set_new [] i y there apart = absurd (cc)
@@ -80,7 +80,7 @@ module _ (m : Mem) (x : EpDesc) (notes : List DescriptorNote) (link : ℕ → �
       (ap (λ (t : Bool). if t then own z.first else now ys (32 * z.first)) (eq-eqb (32 * z.first) (32 * z.first) refl))
   set_new (z ∷ ys) (suc i) y there apart =
       ap (λ (t : Bool). if t then own z.first else now ys (32 * y.first))
-      (not_same (32 * y.first) (32 * z.first)
+      (other_number (32 * y.first) (32 * z.first)
       (λ same.
       each_of (λ (c : ℕ). c ≢ z.first) y.first (take (note_at notes z.first).runs (note_at notes z.first).buffer ++ runs_of notes ys) apart.0
       (one_right y.first (take (note_at notes z.first).runs (note_at notes z.first).buffer) (runs_of notes ys) (runs_among notes ys i y y.first there (inl refl)))

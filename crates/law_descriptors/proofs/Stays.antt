@@ -2,8 +2,8 @@
 use Rattle.std.proofs.Common.{◌≡◌, ℕ, ◌*◌, ◌<◌, Bool, true, false, List, [], ◌∷◌, length, Option, Some, None, if◌then◌else◌, option_map, ap, refl, sym, subst, ◌∙◌}
 use Rattle.std.specs.Prelude.{is_some}
 use Rattle.std.proofs.lemmas.Bool.{true≢false}
-use Rattle.mem_runs.specs.declared.slots.Slot.{Slot}
-use Rattle.claims_driver.specs.Owners.{SlotHas, TransferRuns, DescriptorRuns, Views}
+use Rattle.law_descriptors.proofs.Common.{buffer_follows}
+use Rattle.claims_driver.specs.Owners.{TransferRuns, DescriptorRuns, Views}
 use Rattle.law_structures.specs.lent_structures.Structures.{Structure, Buffer, Table, Structures, StructureSets}
 use Rattle.law_driver_ring.specs.Inventory.{sort_of, sorts_of}
 use Rattle.law_structures.specs.lent_structures.Alters.{HasBytes}
@@ -129,16 +129,6 @@ described_stay v descs parts now k keeps = record {
 }
 
 -- ---- what is told alike
-
-buffer_follows : (slot other : ℕ → Slot) (part : Structures) (cs : List ℕ) → ((c k : ℕ) → SlotHas (slot c) k → SlotHas (other c) k) → HasItsBuffer slot part cs → HasItsBuffer other part cs
-buffer_follows slot other part [] slots has = tt
-buffer_follows slot other part (c ∷ cs) slots has = record {
-  pages = has.pages;
-  start = has.start;
-  bytes = has.bytes;
-  here = has.here;
-  runs = λ j is. let inside = has.runs j is in record { at = inside.at; among = inside.among; has = slots inside.at j inside.has };
-}
 
 pub described_follow : DescribedFollow
 described_follow v w descs same k = record {

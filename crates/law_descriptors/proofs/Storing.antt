@@ -1,24 +1,15 @@
 -- What rows of the driver leave of the frames: readings, and stores of the frame list.
-use Rattle.std.proofs.Common.{◌≡◌, ℕ, ◌+◌, ◌*◌, ◌<◌, Bool, true, false, nat_eq, if◌then◌else◌, inl, inr, List, set, length, Option, Some, ap, refl, sym, subst, ◌∙◌, arith}
-use Rattle.std.specs.Prelude.{slice_set, option_map}
+use Rattle.std.proofs.Common.{◌≡◌, ℕ, ◌+◌, ◌*◌, ◌<◌, Bool, true, false, inl, inr, List, set, length, Option, Some, refl, subst, ◌∙◌, arith}
+use Rattle.std.specs.Prelude.{slice_set}
 use Rattle.std.proofs.lemmas.List.{get_or-set_same, length-set}
-use Rattle.std.proofs.lemmas.Option.{slice_get-map}
-use Rattle.std.proofs.lemmas.Bool.{eq-eqb}
+use Rattle.law_driver_ring.proofs.Common.{cleared_base, rung_same}
+use Rattle.law_descriptors.proofs.Common.{removed_again}
 use Rattle.word_mem.specs.Memory.{Mem, with_word}
 use Rattle.link_words.specs.declared.fields.LinkBits.{LinkBits}
 use Rattle.link_words.specs.Links.{link_of, link_read, link_fields, IsLinkWord}
-use Rattle.drv_chains.specs.declared.boundary.Boundary.{Boundary}
-use Rattle.drv_chains.specs.declared.boundary.Boundary.TheVariants.{Unread, Since, Seen}
-use Rattle.drv_chains.specs.Boundary.{frame_number, after_reading}
-use Rattle.drv_periodic_table.specs.declared.content.Removal.{Removal}
-use Rattle.drv_periodic_table.specs.Periodic.{read_once, read_again}
-use Rattle.drv_table.specs.declared.content.Endpoint.{Endpoint}
-use Rattle.drv_table.specs.declared.content.Transfer.{Transfer}
 use Rattle.drv_table.specs.declared.rows.DriverRow.TheVariants as rows
 use Rattle.drv_table.specs.DriverContent.{DriverContent}
-use Rattle.drv_table.specs.Leaving.{doorbell_command}
 use Rattle.op_registers.specs.RegisterFile.{RegisterFile}
-use Rattle.op_registers.specs.Table.{after_write}
 use Rattle.hc_core.specs.Controller.{Content, frame_place, walk_place}
 use Rattle.law_structures.specs.lent_structures.Structures.{Structure, Table, Isochronous, SplitIsochronous, StructureSets, put, Tells}
 use Rattle.law_structures.proofs.lemmas.lent_structures.Names.{put_same}
@@ -39,33 +30,12 @@ use Rattle.law_controller.proofs.lemmas.frame_stores.Beside.{more_are_met_beside
 use Rattle.law_descriptors.specs.Described.{HasDescriptor}
 use Rattle.law_descriptors.specs.Meeting.{kind_of_descriptor, standing, met}
 use Rattle.law_descriptors.specs.Both.{both}
-use Rattle.claims_driver.specs.Unlinked.{IsOpenAt}
-use Rattle.law_descriptors.specs.Removed.{IsRemovedSince}
 use Rattle.law_descriptors.specs.Recent.{DrivesFrames, content_after}
 use Rattle.law_descriptors.specs.RowLaws.{HasFrames}
 use Rattle.law_descriptors.specs.Rows.{DrivesAfter, IsMetBeside}
 use Rattle.law_descriptors.proofs.Closing.{standing_are_closed, list_leads_to_standing, standing_met}
 
 -- ---- readings
-
--- one more reading of the same frame
-same_frame : (index first : ℕ) (b : Bool) → first ≡ frame_number index → nat_eq (frame_number index) first ≡ b → IsOpenAt index (if b then Since first else Seen)
-same_frame index first true still is = still
-same_frame index first false still is = let e : false ≡ true = sym is ∙ eq-eqb (frame_number index) first (sym still) in cc
-
-open_again : (index : ℕ) (b : Boundary) → IsOpenAt index b → IsOpenAt index (after_reading index b)
-open_again index Unread still = refl
-open_again index (Since first) still = same_frame index first (nat_eq (frame_number index) first) still refl
-open_again index Seen still = absurd still
-
-removed_again : (xs : List Endpoint) (ts : List Transfer) (rs : List Removal) (index n : ℕ) → IsRemovedSince xs ts rs index n → IsRemovedSince xs ts (read_again index rs) index n
-removed_again xs ts rs index n r = record {
-  place = r.place;
-  removal = read_once index r.removal;
-  here = slice_get-map (read_once index) rs r.place ∙ ap (option_map (read_once index)) r.here;
-  what = r.what;
-  within = open_again index r.removal.boundary r.within;
-}
 
 -- the walks go by few of the registers
 both_registers : (base : Base) (member : ℕ → Bool) (met : ℕ → Option Kind) (parts : StructureSets) (hand : Hand) (frame : FrameHand) (c : Content) (r : RegisterFile) → RunsBoth base member met parts hand frame c
@@ -81,23 +51,6 @@ both_registers base member met parts hand frame c r k same = record {
   walk = λ part. let w : IsFrameWalk met parts frame (frame_place c) = k.walk part in record { cursor = w.cursor; held = w.held; in_hand = w.in_hand };
   outside = k.outside;
 }
-
-cleared_base : (r : RegisterFile) → base_of (after_write r 0x04 0x20) ≡ base_of r
-cleared_base r = refl
-
-rung_base : (r : RegisterFile) → base_of (after_write r 0x00 doorbell_command) ≡ record { run = true; async_enable = true; async_list_address = r.async_list_address; periodic_enable = true; periodic_list_base = r.periodic_list_base }
-rung_base r = refl
-
--- where all of these are set already
-rung_same : (base : Base) (r : RegisterFile) → IsOperating base → base_of r ≡ base → base_of (after_write r 0x00 doorbell_command) ≡ base_of r
-rung_same base r on same =
-    let run : r.run ≡ true = ap (λ (b : Base). b.run) same ∙ on.run in
-    let async : r.async_enable ≡ true = ap (λ (b : Base). b.async_enable) same ∙ on.async_enable in
-    let periodic : r.periodic_enable ≡ true = ap (λ (b : Base). b.periodic_enable) same ∙ on.periodic_enable in
-    rung_base r
-    ∙ sym (ap (λ (x : Bool). record { run = x; async_enable = r.async_enable; async_list_address = r.async_list_address; periodic_enable = r.periodic_enable; periodic_list_base = r.periodic_list_base }) run
-    ∙ ap (λ (x : Bool). record { run = true; async_enable = x; async_list_address = r.async_list_address; periodic_enable = r.periodic_enable; periodic_list_base = r.periodic_list_base }) async
-    ∙ ap (λ (x : Bool). record { run = true; async_enable = true; async_list_address = r.async_list_address; periodic_enable = x; periodic_list_base = r.periodic_list_base }) periodic)
 
 pub read_frame_drives : (base : Base) (member : ℕ → Bool) (recent : ℕ → Option Kind) (descs parts : StructureSets) (hand : Hand) (frame : FrameHand) (c : Content) (d : DriverContent) → DrivesFrames base member recent descs parts hand frame c d → DrivesAfter (rows.ReadFrame c.registers.frame_index) base member recent descs parts hand frame c d
 read_frame_drives base member recent descs parts hand frame c d k = record {

@@ -1,6 +1,7 @@
 -- Memory is told by both, where it is told by each, and the other way.
 use Rattle.std.proofs.Common.{◌≡◌, ℕ, ◌*◌, Bool, true, false, List, [], ◌∷◌, Option, Some, None, if◌then◌else◌, option_map, ap, refl, sym, subst, ◌∙◌, arith}
 use Rattle.std.proofs.lemmas.Option.{same_Some}
+use Rattle.law_common.proofs.Options.{number_is_none}
 use Rattle.word_mem.specs.Memory.{Mem}
 use Rattle.mem_runs.specs.Book.{holding, slot_of, Stands}
 use Rattle.drv_table.specs.Words.{head_block}
@@ -33,9 +34,6 @@ owner_block v owner owned _ _ _ (a_queue e x is lent) = queue_block v owner owne
 owner_block v owner owned _ _ _ (a_dummy e x is lent) = queue_block v owner owned e x is
 owner_block v owner owned _ _ _ (a_piece t b y x is piece lent) = queue_block v owner owned y.endpoint x is.queue
 owner_block v owner owned _ _ _ (a_buffer t b c cs y x is piece first lent) = queue_block v owner owned y.endpoint x is.queue
-
-number_is_none : (t : ℕ) → Some t ≡ None → ⊥
-number_is_none t e = cc
 
 none_there : (d : DriverContent) (descs parts : StructureSets) → IsDescribing d descs parts → (n a : ℕ) (s : Structure) → owns descs n ≡ true → parts n a ≡ Some s → ⊥
 none_there d descs parts k n a s on here =

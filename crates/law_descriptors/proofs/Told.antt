@@ -1,7 +1,9 @@
 -- Each descriptor is described once all that was taken is lent.
-use Rattle.std.proofs.Common.{◌≡◌, ℕ, zero, suc, ◌+◌, ◌-◌, ◌*◌, ◌/◌, ◌<◌, ◌≤◌, Bool, true, false, List, [], ◌∷◌, length, take, drop, get_or, set, slice_get, Option, Some, None, if◌then◌else◌, option_map, ap, refl, sym, subst, ◌∙◌, inl, inr, ⊎_elim, arith}
+use Rattle.std.proofs.Common.{◌≡◌, ℕ, ◌+◌, ◌-◌, ◌*◌, ◌/◌, ◌<◌, ◌≤◌, Bool, true, false, List, [], ◌∷◌, length, take, drop, get_or, set, slice_get, Option, Some, None, if◌then◌else◌, option_map, ap, refl, sym, subst, ◌∙◌, inl, inr, ⊎_elim, arith}
 use Rattle.std.proofs.lemmas.Bool.{cases_lt}
 use Rattle.std.proofs.lemmas.Option.{same_Some}
+use Rattle.law_descriptors.proofs.Common.{words_few, buffer_follows}
+use Rattle.law_frame_list.proofs.Common.{dropped_at}
 use Rattle.usb_base.specs.declared.endpoints.EpDesc.{EpDesc}
 use Rattle.word_mem.specs.Runs.{Run}
 use Rattle.word_mem.specs.Memory.{Mem, IsShaped}
@@ -33,7 +35,7 @@ use Rattle.law_driver_ring.specs.Written.{AreAllApart}
 use Rattle.law_driver_ring.proofs.Lists.{IsOneOf, each_of, one_or_not}
 use Rattle.law_driver_ring.proofs.TransferSlots.{taken_lent, others_stay, lent_stays}
 use Rattle.law_driver_ring.proofs.Holding.{LendsRuns}
-use Rattle.law_descriptors.specs.Written.{blocks_in, words_in, runs_of, IsToLend, link_before}
+use Rattle.law_descriptors.specs.Written.{words_in, runs_of, IsToLend, link_before}
 use Rattle.law_descriptors.specs.Lent.{descriptor_with, buffer_part, descriptor_part, lent_descs, descs_after, IsLending, LendDescribes}
 use Rattle.law_descriptors.proofs.Linking.{linked_leaves, linked_words}
 use Rattle.law_descriptors.proofs.Descriptors.{IsLentNow, descriptor_holds, buffer_stands, descriptor_has, has_buffer, IsBufferAt, buffer_found}
@@ -41,11 +43,6 @@ use Rattle.law_descriptors.proofs.Lends.{d, held, keep, apart, mid_stands, mid_s
 use Rattle.law_descriptors.proofs.Sets.{its_runs, runs_among, IsRunOf, run_of, runs_apart_at, part_found, set_old, set_new, IsNewAt, set_found}
 
 -- ---- lists
-
-dropped_at : (t i : ℕ) (ts : List Transfer) → slice_get (drop t ts) i ≡ slice_get ts (t + i)
-dropped_at zero i ts = let e : i ≡ 0 + i = omega arith in ap (slice_get ts) e
-dropped_at (suc t) i [] = refl
-dropped_at (suc t) i (y ∷ ts) = let e : suc (t + i) ≡ suc t + i = omega arith in dropped_at t i ts ∙ ap (slice_get (y ∷ ts)) e
 
 first_and_rest : (cs : List ℕ) → 0 < length cs → cs ≡ get_or cs 0 0 ∷ drop 1 cs
 first_and_rest [] some = absurd (omega (arith, some))
@@ -64,24 +61,9 @@ told_by ts t y there = by (slice_get ts t) refl there
     by None is e = absurd (cc)
     by (Some z) is e = record { transfer = z; here = is; runs = same_Some (runs_of_transfer z) y e }
 
--- a descriptor's words lie in its run
-words_few : (split : Bool) → words_in split ≤ 8 * blocks_in split
-words_few true = omega arith
-words_few false = omega arith
-
 words_some : (split : Bool) → 1 ≤ words_in split
 words_some true = omega arith
 words_some false = omega arith
-
-buffer_follows : (slot other : ℕ → Slot) (part : Structures) (cs : List ℕ) → ((c k : ℕ) → SlotHas (slot c) k → SlotHas (other c) k) → HasItsBuffer slot part cs → HasItsBuffer other part cs
-buffer_follows slot other part [] slots has = tt
-buffer_follows slot other part (c ∷ cs) slots has = record {
-  pages = has.pages;
-  start = has.start;
-  bytes = has.bytes;
-  here = has.here;
-  runs = λ j is. let inside = has.runs j is in record { at = inside.at; among = inside.among; has = slots inside.at j inside.has };
-}
 
 -- what is lent has a run
 record IsLentSlot (s : Slot) : Type 0 where

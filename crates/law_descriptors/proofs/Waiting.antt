@@ -1,8 +1,12 @@
 -- A descriptor that waits at an isochronous endpoint which is given back next isn't met: the endpoint left its frames, and was removed first.
 use Rattle.std.proofs.Common.{◌≡◌, ℕ, zero, suc, ◌+◌, ◌*◌, ◌/◌, ◌≤◌, Bool, true, false, not, ◌&&◌, cond, if◌then◌else◌, List, [], ◌∷◌, drop, Option, Some, None, ⊎_elim, ap, refl, sym, subst, ◌∙◌, arith}
 use Rattle.std.specs.Prelude.{◌||◌, ◌==◌, slice_get, option_map, option_and_then}
-use Rattle.std.proofs.lemmas.Bool.{false≢true, true≢false, eqb-true, eq-eqb, and_parts}
+use Rattle.std.proofs.lemmas.Bool.{false≢true, true≢false, eq-eqb}
 use Rattle.std.proofs.lemmas.Option.{same_Some}
+use Rattle.law_driver.proofs.Common.{waits_is}
+use Rattle.law_common.proofs.Booleans.{both_not, out_owed, owed_by}
+use Rattle.law_frame_list.proofs.Common.{same_number as same_transfer, no_descriptor}
+use Rattle.law_common.proofs.Numbers.{same_blocks}
 use Rattle.drv_chains.specs.declared.members.Member.{Member}
 use Rattle.drv_chains.specs.declared.members.Member.TheVariants.{Once, Each}
 use Rattle.drv_chains.specs.Chains.{id_of}
@@ -32,35 +36,19 @@ use Rattle.law_descriptors.specs.Recent.{AreRecent}
 use Rattle.law_descriptors.specs.Returned.{IsGivenBack}
 use Rattle.law_descriptors.proofs.Finding.{member_at}
 use Rattle.law_descriptors.proofs.Leading.{led_linked}
-use Rattle.law_descriptors.proofs.Returning.{same_transfer, no_descriptor, same_blocks, owed_by, frames_owed, one_of, transfer_counts, endpoint_counts, not_open, none_some}
+use Rattle.law_descriptors.proofs.Returning.{frames_owed, one_of, transfer_counts, endpoint_counts, not_open, none_some}
 
 pub later_endpoint : (e : ℕ) (rs : List Removal) (k : ℕ) (r : Removal) → slice_get rs (suc k) ≡ Some r → r.what ≡ removed.Endpoint e → 1 ≤ times e (endpoints_in (drop 1 rs))
 later_endpoint e [] k r here what = absurd cc
 later_endpoint e (m ∷ ms) k r here what = endpoint_counts e ms k r here what
 
--- where it isn't in its frames, and was given back no more
-out_owed : (c g p : Bool) → 1 ≤ (if c || g || not p then 0 else 1) → c ≡ false
-out_owed true g p one = absurd (omega (arith, one))
-out_owed false g p one = refl
-
 pub frames_most : (b : Bool) → (if b then 0 else 1) ≤ 1
 frames_most true = omega arith
 frames_most false = omega arith
 
-and_false : (a b : Bool) → b ≡ false → (a && b) ≡ false
-and_false true b is = is
-and_false false b is = refl
-
 out_waits : (b r c : Bool) (e f : ℕ) (z : Placed) → c ≡ false → (if b then Some (record { endpoint = e; block = f; waits = not r && c }) else None) ≡ Some z → z.waits ≡ false
-out_waits true r c e f z out is = ap (λ (x : Placed). x.waits) (sym (same_Some (record { endpoint = e; block = f; waits = not r && c }) z is)) ∙ and_false (not r) c out
+out_waits true r c e f z out is = ap (λ (x : Placed). x.waits) (sym (same_Some (record { endpoint = e; block = f; waits = not r && c }) z is)) ∙ both_not (not r) c out
 out_waits false r c e f z out is = absurd (none_some z is)
-
-not_told : (e : ℕ) (z : Transfer) → waits_for e z ≡ true → (z.endpoint ≡ e) × (z.reported ≡ false)
-not_told e z is = let a = and_parts (z.endpoint == e) (not z.reported) is in (eqb-true z.endpoint e a.0, turned z.reported a.1)
-  where
-    turned : (b : Bool) → not b ≡ true → b ≡ false
-    turned true is = absurd (false≢true is)
-    turned false is = refl
 
 some_times : (n : ℕ) (b : Bool) → (n ≤ 0 → b ≡ false) → b ≡ true → 1 ≤ n
 some_times zero b none is = absurd (false≢true (sym (none (omega arith)) ∙ is))
@@ -81,13 +69,13 @@ module _ (p : Parts) (recent : ℕ → Option Kind) (index e t : ℕ) (x : Endpo
   out = out_owed x.chained x.gone (is_periodic x.desc.kind) its_owed
 
   off : (y.endpoint ≡ e) × (y.reported ≡ false)
-  off = not_told e y waits
+  off = waits_is e y waits
 
   -- such a descriptor of an endpoint that wasn't given back has its run
   held_by : (f u : ℕ) (v : Endpoint) (z : Transfer) → slice_get p.driver.endpoints f ≡ Some v → v.gone ≡ false → slice_get p.driver.transfers u ≡ Some z → waits_for f z ≡ true → (b : Bool) → z.released ≡ b → z.released ≡ false
   held_by f u v z at on in_list waiting false is = is
   held_by f u v z at on in_list waiting true is =
-      let told = not_told f z waiting in
+      let told = waits_is f z waiting in
       absurd (true≢false (sym (has.orderly.untold u z in_list is told.1 v (ap (slice_get p.driver.endpoints) told.0 ∙ at)) ∙ on))
 
   record IsOwnedBy (u : ℕ) (z : Transfer) : Type 0 where
@@ -178,7 +166,7 @@ module _ (p : Parts) (recent : ℕ → Option Kind) (index e t : ℕ) (x : Endpo
   recent_by k r _ at what (a_waiting f u v z in_endpoints iso in_list is waiting n) still =
       let on : v.gone ≡ false = gone_not f v in_endpoints (endpoint_counts f p.driver.periodic.removals k r at what) in
       let same : u ≡ t = same_number u z (owned_by u z in_list is (held_by f u v z in_endpoints on in_list waiting z.released refl)) n in
-      let own : f ≡ e = sym (not_told f z waiting).0 ∙ ap (λ (w : Transfer). w.endpoint) (same_one u z in_list same) ∙ off.0 in
+      let own : f ≡ e = sym (waits_is f z waiting).0 ∙ ap (λ (w : Transfer). w.endpoint) (same_one u z in_list same) ∙ off.0 in
       first_or_later k r at (what ∙ ap removed.Endpoint own) still
 
   recent_not : AreRecent p.driver index recent → (o : Option Kind) → recent (32 * y.first) ≡ o → o ≡ None

@@ -3,6 +3,7 @@ use Rattle.std.proofs.Common.{◌≡◌, ◌≢◌, ℕ, ◌==◌, ◌⊎◌, in
 use Rattle.std.proofs.Math.Bool.{false≢true}
 use Rattle.std.specs.List.{list_any}
 use Rattle.std.specs.Option.{option_to_list}
+use Rattle.law_common.proofs.Booleans.{on_or_off}
 use Rattle.usb_base.specs.declared.packets.Pid.{Pid}
 use Rattle.dev_control.specs.declared.control.Request.{Request}
 use Rattle.dev_control.specs.declared.rows.Sequence.{Sequence}
@@ -158,12 +159,8 @@ once_before c setup (e ∷ es) has open_ within =
       | inr step ↦ inr (ap (λ acts. acts ++ acts_along (after c e) es) (step.0 ∙ ap option_to_list has) ∙ ap (λ acts. setup ∷ acts) (none_after (after c e) es step.1 rest))
     ]
 
-done_or_open : (done : Bool) → (done ≡ true) ⊎ (done ≡ false)
-done_or_open true = inl refl
-done_or_open false = inr refl
-
 pub acts_once : (c : Stages) (setup : List ℕ) (events : List Event) → setup_of c.request ≡ Some setup → is_within events ≡ true → IsOnce setup (acts_along c events)
-acts_once c setup events has within = elim (done_or_open (done_of c.request)) [
+acts_once c setup events has within = elim (on_or_off (done_of c.request)) [
   | inl done ↦ inl (none_after c events done within)
   | inr open_ ↦ once_before c setup events has open_ within
 ]

@@ -1,20 +1,18 @@
 -- A microframe begins: the hubs work on the bus below them, and no sender of the high-speed bus goes on.
 use Rattle.std.proofs.Common.{◌≡◌, ◌≢◌, ℕ, Bool, true, false, if◌then◌else◌, List, [], ◌∷◌, map, slice_get, slice_set, Option, Some, None, ap, refl, sym, subst, ◌∙◌, ⊎_elim}
 use Rattle.std.specs.Option.{option_and_then, option_map}
-use Rattle.std.specs.List.{position_or_len}
 use Rattle.std.proofs.lemmas.Bool.{cases_eq}
 use Rattle.std.proofs.lemmas.Option.{same_Some, slice_get-map}
-use Rattle.std.proofs.lemmas.List.{length-map}
+use Rattle.law_devices.proofs.Common2.{named_begun}
 use Rattle.usb_base.specs.declared.packets.Ask.{Ask}
 use Rattle.usb_base.specs.declared.packets.Pid.{Pid}
-use Rattle.usb_base.specs.declared.packets.Way.{Way}
 use Rattle.usb_base.specs.declared.packets.Way.TheVariants as Ways
 use Rattle.hub_class.specs.HubContent.{HubContent}
 use Rattle.hub_class.specs.Microframe.{wire_left}
 use Rattle.hub_class.proofs.Microframe.{work_keeps}
 use Rattle.endpoint_script.specs.declared.endpoint.Endpoint.{Endpoint}
 use Rattle.endpoint_script.specs.declared.endpoint.Role.{Role}
-use Rattle.endpoint_script.specs.Device.{Device, is_named, place_named, endpoint_asked, part_begun, endpoint_begun, begun}
+use Rattle.endpoint_script.specs.Device.{Device, place_named, endpoint_asked, part_begun, endpoint_begun, begun}
 use Rattle.bus_wire.specs.declared.asked.Answerer.{Answerer}
 use Rattle.bus_wire.specs.declared.asked.Answerer.TheVariants as Answerers
 use Rattle.bus_wire.specs.declared.asked.Asked.{Asked}
@@ -134,13 +132,6 @@ module _ (fixed : Fixed) (addr ep : ℕ) (s : Sender) (place : ℕ) (found : pla
   floor_kept (h ∷ hs) floor k = let next = hub_kept h (below_at fixed h floor) (record { same = refl; sender = k }) in floor_kept hs (floor_left fixed h floor) next.sender
 
 -- ---- devices begin anew
-
-first_begun : (num : ℕ) (way : Way) (es : List Endpoint) → position_or_len (is_named num way) (map endpoint_begun es) ≡ position_or_len (is_named num way) es
-first_begun num way [] = refl
-first_begun num way (e ∷ es) = rw (first_begun num way es) refl
-
-pub named_begun : (num : ℕ) (way : Way) (es : List Endpoint) → place_named (map endpoint_begun es) num way ≡ place_named es num way
-named_begun num way es = rw (first_begun num way es, length-map es endpoint_begun) refl
 
 begun_by : (b : Bool) (d : Device) (addr ep : ℕ) (s : Sender) → IsAtDevice addr ep (Some d) s → sender_of_device addr ep (Some (if b then begun d else d)) ≡ Some s
 begun_by true d addr ep s at =

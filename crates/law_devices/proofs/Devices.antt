@@ -1,7 +1,9 @@
 -- What an ask leaves of the other endpoints of a device.
-use Rattle.std.proofs.Common.{◌≡◌, ℕ, ◌==◌, ◌&&◌, Bool, true, false, if◌then◌else◌, List, slice_get, slice_set, Option, Some, None, ap, refl, sym, subst, ◌∙◌, ⊎_elim, inl, inr}
-use Rattle.std.specs.Prelude.{◌⊎◌}
+use Rattle.std.proofs.Common.{◌≡◌, ℕ, ◌==◌, true, false, if◌then◌else◌, List, slice_get, slice_set, Option, Some, None, ap, refl, sym, subst, ◌∙◌, ⊎_elim}
 use Rattle.std.proofs.lemmas.Bool.{false≢true, eqb-true}
+use Rattle.law_common.proofs.Booleans.{and_both}
+use Rattle.law_devices.proofs.Common.{either_found}
+use Rattle.law_common.proofs.Options.{if_found}
 use Rattle.usb_base.specs.declared.packets.Ask.{Ask}
 use Rattle.usb_base.specs.declared.packets.Pid.{Pid}
 use Rattle.usb_base.specs.declared.packets.Pid.TheVariants as Pids
@@ -84,10 +86,6 @@ address_after _ d ask out = refl
 
 -- ---- which ask is for an IN endpoint
 
-and_both : (a b : Bool) → (a && b) ≡ true → (a ≡ true) × (b ≡ true)
-and_both true b e = (refl, e)
-and_both false b e = absurd (false≢true e)
-
 -- two names of one endpoint
 pub record AreOne (e : Endpoint) (num : ℕ) (way : Way) : Type 0 where
   pub number : e.desc.name.num ≡ num
@@ -102,10 +100,6 @@ named_is es num way k e found here =
 one_way : (own : Way) → is_way own Ways.In ≡ true → (is_way own Ways.Ctl ≡ false) × (is_way own Ways.Out ≡ false)
 one_way Ways.In e = (refl, refl)
 one_way _ e = absurd (false≢true e)
-
-pub either_found : (o other : Option ℕ) (k : ℕ) → or_else o other ≡ Some k → (o ≡ Some k) ⊎ (other ≡ Some k)
-either_found None other k e = inr e
-either_found (Some i) other k e = inl e
 
 -- an ask for the IN endpoint of this number is an IN with this number
 pub record IsForIn (ask : Ask) (num : ℕ) : Type 0 where
@@ -132,10 +126,6 @@ module _ (es : List Endpoint) (num : ℕ) (k : ℕ) (e : Endpoint) (found : plac
 pub in_only : (pid : Pid) → token_of pid ≡ Tokens.In → pid ≡ Pids.In
 in_only Pids.In e = refl
 in_only _ e = absurd cc
-
-pub if_found : (b : Bool) (o : Option ℕ) (k : ℕ) → (if b then o else None) ≡ Some k → (b ≡ true) × (o ≡ Some k)
-if_found true o k e = (refl, e)
-if_found false o k e = absurd cc
 
 pub record IsOfIn (d : Device) (ask : Ask) (num : ℕ) : Type 0 where
   pub token : ask.pid ≡ Pids.In

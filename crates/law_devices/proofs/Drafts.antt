@@ -1,11 +1,13 @@
 -- What holds of a script after each line: addresses differ, endpoints are those of their devices, and what was opened is declared.
 use Rattle.std.proofs.Common.{◌≡◌, ℕ, Bool, true, false, List, [], ◌∷◌, ◌++◌, map, Option, Some, None, refl, sym, ap, subst, ◌∙◌, inl, inr, ◌⊎◌}
-use Rattle.std.specs.Prelude.{◌==◌, ◌&&◌, ◌||◌, nat_le, is_some, unwrap_or}
+use Rattle.std.specs.Prelude.{◌==◌, ◌&&◌, nat_le, is_some, unwrap_or}
 use Rattle.std.specs.List.{AllByRecursion, list_any}
 use Rattle.std.specs.Option.{option_map, option_map_or, option_and_then, option_or}
 use Rattle.std.proofs.lemmas.Bool.{cond_both, cases_Bool, and_from, eqb-true, eq-eqb, true≢false}
 use Rattle.std.proofs.lemmas.List.{map-append}
-use Rattle.usb_base.specs.declared.packets.Way.{Way}
+use Rattle.law_common.proofs.Booleans.{or_both, left_or}
+use Rattle.law_devices.proofs.Common.{same_way_is}
+use Rattle.law_common.proofs.Lists.{all_both, all_more, each_none}
 use Rattle.usb_base.specs.declared.packets.Way.TheVariants as way
 use Rattle.usb_base.specs.declared.endpoints.EpDesc.{EpDesc}
 use Rattle.usb_base.specs.declared.endpoints.EpName.{EpName}
@@ -24,8 +26,8 @@ use Rattle.script_world.specs.Ranges.{within, is_endpoint, is_slots}
 use Rattle.script_world.specs.Rows.{is_known, is_twice, is_used, is_attached, answered, counted, roomier, stuffed, at_ep, name_of}
 use Rattle.script_world.specs.Rows.{desc_of, with_ep, content_bytes, content_len, bytes_len, commanded, where_known, put_room}
 use Rattle.script_world.specs.Rows.{control_name, attach, by_of, after}
-use Rattle.bus_wire.specs.Fates.{is_same_way, is_same_name}
-use Rattle.law_devices.proofs.Lists.{Holds, all_append, all_more, all_change, none_each, each_none, map_change, any_more, any_later, or_left, then_append, then_change, map_append, map_find_change}
+use Rattle.bus_wire.specs.Fates.{is_same_name}
+use Rattle.law_devices.proofs.Lists.{Holds, all_change, none_each, map_change, any_more, any_later, then_append, then_change, map_append, map_find_change}
 
 -- ---- the addresses
 
@@ -85,10 +87,6 @@ no_some : {X : Type 0} (o : Option X) → is_some o ≡ false → o ≡ None
 no_some None e = refl
 no_some (Some x) e = cc
 
-neither : (a b : Bool) → (a || b) ≡ false → (a ≡ false) × (b ≡ false)
-neither true b e = cc
-neither false b e = (refl, e)
-
 pub record IsUnused (w : Draft) (a : ℕ) : Type 0 where
   pub hub : hub_of w.hubs a ≡ None
   pub devices : AllByRecursion (λ b. (b == a) ≡ false) (addresses w.devices)
@@ -99,7 +97,7 @@ addresses_each a (d ∷ ds) h = (h.0, addresses_each a ds h.1)
 
 unused : (w : Draft) (a : ℕ) → is_used w a ≡ false → IsUnused w a
 unused w a e =
-    let k = neither (is_some (hub_of w.hubs a)) (is_some (device_of w.devices a)) e in
+    let k = or_both (is_some (hub_of w.hubs a)) (is_some (device_of w.devices a)) e in
     record {
       hub = no_some (hub_of w.hubs a) k.0;
       devices = addresses_each a w.devices (none_each (λ d. d.addr == a) w.devices (no_some (device_of w.devices a) k.1));
@@ -107,7 +105,7 @@ unused w a e =
 
 apart_append : (cs : List ℕ) (b : ℕ) → AreApart cs → AllByRecursion (λ a. (a == b) ≡ false) cs → AreApart (cs ++ b ∷ [])
 apart_append [] b h k = (tt, tt)
-apart_append (a ∷ cs) b h k = (all_append (λ c. (a == c) ≡ false) cs (b ∷ []) h.0 (k.0, tt), apart_append cs b h.1 k.1)
+apart_append (a ∷ cs) b h k = (all_both (λ c. (a == c) ≡ false) cs (b ∷ []) h.0 (k.0, tt), apart_append cs b h.1 k.1)
 
 -- ---- what was opened stays declared
 
@@ -175,10 +173,6 @@ changed_declared w to f v same devices hubs endpoints lines h =
 
 -- ---- a new endpoint
 
-same_way_is : (w : Way) → is_same_way w w ≡ true
-same_way_is way.In = refl
-same_way_is _ = refl
-
 new_is_named : (l : EpLine) (d : Placed) → (d.addr == l.name.addr) ≡ true → is_same_name (desc_of l d).name (name_of l.name) ≡ true
 new_is_named l d t = and_from (d.addr == l.name.addr) _ t (and_from (l.name.num == l.name.num) _ (eq-eqb l.name.num l.name.num refl) (same_way_is l.name.way))
 
@@ -191,11 +185,11 @@ device_more names n d h = all_more (IsEpOf names d.addr d.hub) (IsEpOf (names ++
 new_own : (names : List EpName) (l : EpLine) (d : Placed) → (d.addr == l.name.addr) ≡ true → HasOwn (names ++ name_of l.name ∷ []) d → HasOwn (names ++ name_of l.name ∷ []) (with_ep l d)
 new_own names l d t h =
     let all = names ++ name_of l.name ∷ [] in
-    all_append (IsEpOf all d.addr d.hub) d.eps (record { desc = desc_of l d; items = []; room = 0; stuff = 0; clears = 0 } ∷ []) h (
+    all_both (IsEpOf all d.addr d.hub) d.eps (record { desc = desc_of l d; items = []; room = 0; stuff = 0; clears = 0 } ∷ []) h (
       record {
         address = refl;
         behind = refl;
-        listed = any_later (is_same_name (desc_of l d).name) names (name_of l.name ∷ []) (or_left _ false (new_is_named l d t));
+        listed = any_later (is_same_name (desc_of l d).name) names (name_of l.name ∷ []) (left_or _ false (new_is_named l d t));
       },
       tt,
     )
@@ -228,8 +222,11 @@ device_declared w hubs d none free beside h =
     record {
       apart = subst AreApart (sym there) (apart_append (addresses w.devices) d.addr h.apart free.devices);
       no_hub = subst (AllByRecursion (λ a. hub_of hubs a ≡ None)) (sym there)
-          (all_append (λ a. hub_of hubs a ≡ None) (addresses w.devices) (d.addr ∷ []) (all_more (λ a. hub_of w.hubs a ≡ None) (λ a. hub_of hubs a ≡ None) (addresses w.devices) beside h.no_hub) (beside d.addr free.hub, tt));
-      own = all_append (HasOwn w.endpoints) w.devices (d ∷ []) h.own (subst (AllByRecursion (IsEpOf w.endpoints d.addr d.hub)) (sym none) tt, tt);
+          (all_both (λ a. hub_of hubs a ≡ None) (addresses w.devices) (d.addr ∷ [])
+          (all_more (λ a. hub_of w.hubs a ≡ None) (λ a. hub_of hubs a ≡ None) (addresses w.devices) beside h.no_hub)
+          (beside d.addr free.hub, tt));
+      own = all_both (HasOwn w.endpoints) w.devices (d ∷ []) h.own
+          (subst (AllByRecursion (IsEpOf w.endpoints d.addr d.hub)) (sym none) tt, tt);
       opened = lines_keep w.devices (w.devices ++ d ∷ []) w.lines (appended_keeps w.devices (d ∷ [])) h.opened;
     }
 
@@ -247,7 +244,8 @@ hub_declared w x free h = record {
     both [] k z = tt
     both (a ∷ cs) k z = (
       each_none (λ (y : HubText). y.addr == a) (w.hubs ++ x ∷ [])
-          (all_append (λ (y : HubText). (y.addr == a) ≡ false) w.hubs (x ∷ []) (none_each (λ (y : HubText). y.addr == a) w.hubs k.0) (other_way a x.addr z.0, tt)),
+          (all_both (λ (y : HubText). (y.addr == a) ≡ false) w.hubs (x ∷ []) (none_each (λ (y : HubText). y.addr == a) w.hubs k.0)
+          (other_way a x.addr z.0, tt)),
       both cs k.1 z.1,
     )
 
@@ -259,7 +257,7 @@ attached_stays p f hs same a e =
 -- ---- commands
 
 commanded_declared : (w : Draft) (n : ℕ) (c : Cmd) → IsKnownLine w.devices (line.Command c) → IsDeclaredDraft w → IsDeclaredDraft (commanded w n c)
-commanded_declared w n c k h = record { apart = h.apart; no_hub = h.no_hub; own = h.own; opened = all_append (λ l. IsKnownLine w.devices l.1) w.lines ((n, line.Command c) ∷ []) h.opened (k, tt) }
+commanded_declared w n c k h = record { apart = h.apart; no_hub = h.no_hub; own = h.own; opened = all_both (λ l. IsKnownLine w.devices l.1) w.lines ((n, line.Command c) ∷ []) h.opened (k, tt) }
 
 where_declared : (w : Draft) (name : Name) (v : Draft) → IsDeclaredDraft w → IsDeclaredDraft v → IsDeclaredDraft (where_known w name v)
 where_declared w name v h k = cond_both (is_some (known w name)) v w IsDeclaredDraft (λ _. k) (λ _. h)
@@ -306,7 +304,7 @@ ordered_declared : (w v : Draft) (n : ℕ) (l : Line) → IsKnownLine w.devices 
     → IsDeclaredDraft w → IsDeclaredDraft v
 ordered_declared w v n l k devices hubs endpoints lines h =
     same_declared (record w { lines = w.lines ++ (n, l) ∷ [] }) v devices hubs endpoints lines
-    (record { apart = h.apart; no_hub = h.no_hub; own = h.own; opened = all_append (λ l. IsKnownLine w.devices l.1) w.lines ((n, l) ∷ []) h.opened (k, tt) })
+    (record { apart = h.apart; no_hub = h.no_hub; own = h.own; opened = all_both (λ l. IsKnownLine w.devices l.1) w.lines ((n, l) ∷ []) h.opened (k, tt) })
 
 pub after_declared : (w : Draft) (n : ℕ) (s : Statement) → is_twice w s ≡ false → IsDeclaredDraft w → IsDeclaredDraft (after w n s)
 after_declared w n (says.Hub addr ports multi) new h =
@@ -315,7 +313,7 @@ after_declared w n (says.DevHigh addr) new h =
     cond_both (within 1 127 addr) _ w IsDeclaredDraft (λ _. device_declared w w.hubs _ refl (unused w addr new) (λ a e. e) h) (λ _. h)
 after_declared w n (says.DevBelow b) new h =
     cond_both (within 1 127 b.addr && nat_le b.hub 127 && is_known w (says.DevBelow b)) _ w IsDeclaredDraft
-    (λ _. device_declared w (change (λ h. h.addr == b.hub) (attach b.port b.speed) w.hubs) _ refl (unused w b.addr (neither (is_used w b.addr) (is_attached w b.hub b.port) new).0)
+    (λ _. device_declared w (change (λ h. h.addr == b.hub) (attach b.port b.speed) w.hubs) _ refl (unused w b.addr (or_both (is_used w b.addr) (is_attached w b.hub b.port) new).0)
     (attached_stays (λ h. h.addr == b.hub) (attach b.port b.speed) w.hubs (λ h. refl)) h)
     (λ _. h)
 after_declared w n (says.Ep l) new h =

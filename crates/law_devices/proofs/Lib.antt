@@ -10,3 +10,5 @@ pub mod Devices
 pub mod Sending
 pub mod Asking
 pub mod Beginning
+pub mod Common
+pub mod Common2

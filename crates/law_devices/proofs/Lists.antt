@@ -1,11 +1,12 @@
 -- Lists: what a test finds first, and one element that is changed.
-use Rattle.std.proofs.Common.{◌≡◌, ℕ, zero, suc, Bool, true, false, List, [], ◌∷◌, ◌++◌, map, Option, Some, None, refl, sym, ap, subst, ◌∙◌, inl, inr}
+use Rattle.std.proofs.Common.{◌≡◌, ℕ, Bool, true, false, List, [], ◌∷◌, ◌++◌, map, Option, Some, None, refl, sym, ap, subst, ◌∙◌, inl, inr}
 use Rattle.std.specs.Prelude.{◌||◌, find, filter_map, slice_get, position}
 use Rattle.std.specs.List.{AllByRecursion, list_any, position_or_len}
 use Rattle.std.specs.Option.{option_map, option_and_then}
 use Rattle.std.proofs.lemmas.Bool.{cond_both, cases_Bool, cond-true, cond-false, lt-ltb, or_cases}
 use Rattle.std.proofs.lemmas.List.Folds.{find_at}
 use Rattle.std.proofs.lemmas.Option.{slice_get_within, same_Some}
+use Rattle.law_common.proofs.Booleans.{right_or, left_or}
 use Rattle.script_world.specs.Draft.{change}
 
 abbrev pub Holds : {X : Type 0} → (X → Type 0) → Option X → Type 0
@@ -13,23 +14,6 @@ Holds P None = Unit {0}
 Holds P (Some x) = P x
 
 -- ---- of all
-
-pub all_append : {X : Type 0} (P : X → Type 0) (xs ys : List X) → AllByRecursion P xs → AllByRecursion P ys → AllByRecursion P (xs ++ ys)
-all_append P [] ys h k = k
-all_append P (x ∷ xs) ys h k = (h.0, all_append P xs ys h.1 k)
-
-pub all_more : {X : Type 0} (P Q : X → Type 0) (xs : List X) → ((x : X) → P x → Q x) → AllByRecursion P xs → AllByRecursion Q xs
-all_more P Q [] g h = tt
-all_more P Q (x ∷ xs) g h = (g x h.0, all_more P Q xs g h.1)
-
-pub all_map : {X Y : Type 0} (P : X → Type 0) (Q : Y → Type 0) (f : X → Y) (xs : List X) → ((x : X) → P x → Q (f x)) → AllByRecursion P xs → AllByRecursion Q (map f xs)
-all_map P Q f [] g h = tt
-all_map P Q f (x ∷ xs) g h = (g x h.0, all_map P Q f xs g h.1)
-
-pub all_at : {X : Type 0} (P : X → Type 0) (xs : List X) (i : ℕ) (x : X) → AllByRecursion P xs → slice_get xs i ≡ Some x → P x
-all_at P [] i x h e = cc
-all_at P (y ∷ ys) zero x h e = subst P (same_Some y x e) h.0
-all_at P (y ∷ ys) (suc i) x h e = all_at P ys i x h.1 e
 
 pub all_find : {X : Type 0} (P : X → Type 0) (p : X → Bool) (xs : List X) → AllByRecursion P xs → Holds P (find p xs)
 all_find P p [] h = tt
@@ -51,24 +35,17 @@ all_filter_map P f (x ∷ xs) g = kept_by P f x xs (f x) refl (g x) (all_filter_
 
 -- ---- of one
 
-pub or_left : (a b : Bool) → a ≡ true → (a || b) ≡ true
-or_left a b e = ap (λ c. c || b) e
-
-pub or_right : (a b : Bool) → b ≡ true → (a || b) ≡ true
-or_right true b e = refl
-or_right false b e = e
-
 pub any_more : {X : Type 0} (p : X → Bool) (xs ys : List X) → list_any p xs ≡ true → list_any p (xs ++ ys) ≡ true
 any_more p [] ys e = cc
 any_more p (x ∷ xs) ys e =
     elim (or_cases (p x) (list_any p xs) e) [
-      | inl t ↦ or_left (p x) (list_any p (xs ++ ys)) t
-      | inr t ↦ or_right (p x) (list_any p (xs ++ ys)) (any_more p xs ys t)
+      | inl t ↦ left_or (p x) (list_any p (xs ++ ys)) t
+      | inr t ↦ right_or (p x) (list_any p (xs ++ ys)) (any_more p xs ys t)
     ]
 
 pub any_later : {X : Type 0} (p : X → Bool) (xs ys : List X) → list_any p ys ≡ true → list_any p (xs ++ ys) ≡ true
 any_later p [] ys e = e
-any_later p (x ∷ xs) ys e = or_right (p x) (list_any p (xs ++ ys)) (any_later p xs ys e)
+any_later p (x ∷ xs) ys e = right_or (p x) (list_any p (xs ++ ys)) (any_later p xs ys e)
 
 -- ---- what is found
 
@@ -109,10 +86,6 @@ none_each p (y ∷ ys) e =
       | inl t ↦ let k : Some y ≡ None = sym (cond-true _ _ _ t) ∙ e in cc
       | inr f ↦ (f, none_each p ys (sym (cond-false _ _ _ f) ∙ e))
     ]
-
-pub each_none : {X : Type 0} (p : X → Bool) (xs : List X) → AllByRecursion (λ x. p x ≡ false) xs → find p xs ≡ None
-each_none p [] h = refl
-each_none p (y ∷ ys) h = cond-false _ _ _ h.0 ∙ each_none p ys h.1
 
 pub find_append : {X : Type 0} (p : X → Bool) (xs ys : List X) (x : X) → find p xs ≡ Some x → find p (xs ++ ys) ≡ Some x
 find_append p [] ys x e = cc

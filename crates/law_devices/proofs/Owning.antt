@@ -4,13 +4,13 @@ use Rattle.std.specs.Prelude.{◌==◌, slice_get}
 use Rattle.std.specs.List.{AllByRecursion}
 use Rattle.std.proofs.lemmas.Bool.{eq-eqb, true≢false}
 use Rattle.std.proofs.lemmas.Option.{same_Some}
+use Rattle.law_common.proofs.Lists.{all_more}
 use Rattle.script_types.specs.declared.devices.DeviceText.{DeviceText}
 use Rattle.script_types.specs.declared.devices.EpText.{EpText}
 use Rattle.script_types.specs.declared.scripts.Script.{Script}
 use Rattle.script_world.specs.Draft.{Draft, Placed, device_text, script_of}
 use Rattle.script_text.specs.Faults.{Spells}
 use Rattle.law_devices.specs.opening_senders.Own.{HasOwnDevices}
-use Rattle.law_devices.proofs.Lists.{all_more}
 use Rattle.law_devices.proofs.Drafts.{IsApart, AreApart, addresses, IsEpOf, HasOwn, IsDeclaredDraft}
 use Rattle.law_devices.proofs.Texts.{spelled_kept}
 use Rattle.law_devices.proofs.Senders.{empty_declared, second_declared, line_declares}

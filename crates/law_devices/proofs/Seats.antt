@@ -2,8 +2,11 @@
 use Rattle.std.proofs.Common.{◌≡◌, ℕ, zero, suc, ◌+◌, Bool, true, false, List, [], ◌∷◌, map, Option, Some, None, refl, sym, ap, subst, ◌∙◌, inl, inr, arith}
 use Rattle.std.specs.Prelude.{◌==◌, ◌&&◌, find, filter_map, slice_get}
 use Rattle.std.specs.List.{AllByRecursion, list_any}
-use Rattle.std.proofs.lemmas.Bool.{and_parts, and_from, eqb-true, eq-eqb, or_cases, true≢false, cases_Bool, cond-true, cond-false}
+use Rattle.std.proofs.lemmas.Bool.{and_parts, and_from, eqb-true, eq-eqb, or_cases, true≢false}
 use Rattle.std.proofs.lemmas.Option.{same_Some}
+use Rattle.law_devices.proofs.Common.{any_here}
+use Rattle.law_common.proofs.Lists.{all_both, all_map}
+use Rattle.law_common.proofs.Booleans.{left_or, right_or}
 use Rattle.usb_base.specs.declared.packets.Way.{Way}
 use Rattle.usb_base.specs.declared.packets.Way.TheVariants as way
 use Rattle.usb_base.specs.declared.endpoints.EpName.{EpName}
@@ -15,7 +18,7 @@ use Rattle.bus_wire.specs.declared.seats.Seat.{Seat}
 use Rattle.bus_wire.specs.declared.seats.TokenKind.TheVariants.{In}
 use Rattle.bus_wire.specs.Fates.{is_same_way, is_same_name}
 use Rattle.bus_wire.specs.Seats.{suits, takes_token, owner_at, seat_at, seats_from, hub_seats_from, seat_named}
-use Rattle.law_devices.proofs.Lists.{all_append, all_map, all_find, all_filter_map, filter_skips, filter_takes, or_left, or_right, any_later, any_more, any_found, found_passes}
+use Rattle.law_devices.proofs.Lists.{all_find, all_filter_map, filter_skips, filter_takes, any_later, any_more, any_found, found_passes}
 use Rattle.law_devices.proofs.Drafts.{IsApart, AreApart, addresses, IsEpOf, HasOwn}
 
 -- a seat with this address is the device's at place n
@@ -46,17 +49,13 @@ same_name a b e =
     let q = and_parts (a.num == b.num) (is_same_way a.way b.way) p.1 in
     record { addr = eqb-true a.addr b.addr p.0; num = eqb-true a.num b.num q.0; way = ways_equal a.way b.way q.1 }
 
-same_way_is : (w : Way) → is_same_way w w ≡ true
-same_way_is way.In = refl
-same_way_is _ = refl
-
 -- ---- whose seats are
 
 -- the devices behind it have other addresses
 elsewhere : (names : List EpName) (a n k : ℕ) (ds : List Placed) → IsApart a (addresses ds) → AllByRecursion (HasOwn names) ds → AllByRecursion (IsAt a n) (seats_from k (map device_text ds))
 elsewhere names a n k [] h own = tt
 elsewhere names a n k (d ∷ ds) h own =
-    all_append (IsAt a n) (map (seat_at k) d.eps) (seats_from (k + 1) (map device_text ds))
+    all_both (IsAt a n) (map (seat_at k) d.eps) (seats_from (k + 1) (map device_text ds))
     (all_map (IsEpOf names d.addr d.hub) (IsAt a n) (seat_at k) d.eps (λ e z same. absurd (true≢false (sym (eq-eqb a d.addr (sym same ∙ z.address)) ∙ h.0))) own.0)
     (elsewhere names a n (k + 1) ds h.1 own.1)
 
@@ -73,11 +72,11 @@ pub owners : (names : List EpName) (a n k m : ℕ) (ds : List Placed) (d : Place
 owners names a n k m [] d here is there root apart own = tt
 owners names a n k zero (x ∷ ds) d here is there root apart own =
     let same : x ≡ d = cc in
-    all_append (IsAt a n) (map (seat_at k) x.eps) (seats_from (k + 1) (map device_text ds))
+    all_both (IsAt a n) (map (seat_at k) x.eps) (seats_from (k + 1) (map device_text ds))
     (own_seats names a n k x (omega (arith, there)) (ap (λ (p : Placed). p.hub) same ∙ root) own.0)
     (elsewhere names a n (k + 1) ds (subst (λ b. IsApart b (addresses ds)) (ap (λ (p : Placed). p.addr) same ∙ is) apart.0) own.1)
 owners names a n k (suc m) (x ∷ ds) d here is there root apart own =
-    all_append (IsAt a n) (map (seat_at k) x.eps) (seats_from (k + 1) (map device_text ds))
+    all_both (IsAt a n) (map (seat_at k) x.eps) (seats_from (k + 1) (map device_text ds))
     (earlier names a n k x (address_at ds m apart.0 here) own.0)
     (owners names a n (k + 1) m ds d here is (omega (arith, there)) root apart.1 own.1)
   where
@@ -94,14 +93,6 @@ pub named_owners : (a n : ℕ) (seats : List Seat) (names : List EpName) → All
 named_owners a n seats names h = all_filter_map (IsAt a n) (seat_named seats) names (λ name. all_find (IsAt a n) (λ s. is_same_name s.name name) seats h)
 
 -- ---- an endpoint has its seat
-
-any_here : (p : Seat → Bool) (k : ℕ) (es : List EpText) (r : EpText → Bool) (e : EpText) → find r es ≡ Some e → p (seat_at k e) ≡ true → list_any p (map (seat_at k) es) ≡ true
-any_here p k [] r e found t = cc
-any_here p k (x ∷ es) r e found t =
-    elim (cases_Bool (r x)) [
-      | inl y ↦ or_left (p (seat_at k x)) _ (subst (λ z. p (seat_at k z) ≡ true) (sym (same_Some x e (sym (cond-true _ _ _ y) ∙ found))) t)
-      | inr y ↦ or_right (p (seat_at k x)) _ (any_here p k es r e (sym (cond-false _ _ _ y) ∙ found) t)
-    ]
 
 any_seat : (p : Seat → Bool) (k m : ℕ) (ds : List Placed) (d : Placed) (r : EpText → Bool) (e : EpText) → slice_get ds m ≡ Some d → find r d.eps ≡ Some e
     → ((i : ℕ) → p (seat_at i e) ≡ true) → list_any p (seats_from k (map device_text ds)) ≡ true
@@ -131,7 +122,7 @@ named_suits seats e (n ∷ names) isin has listed =
 
     later : (o : Option Seat) → seat_named seats n ≡ o → list_any test (filter_map (seat_named seats) names) ≡ true → list_any test (filter_map (seat_named seats) (n ∷ names)) ≡ true
     later None is t = subst (λ xs. list_any test xs ≡ true) (sym (filter_skips (seat_named seats) n names is)) t
-    later (Some s) is t = subst (λ xs. list_any test xs ≡ true) (sym (filter_takes (seat_named seats) n names s is)) (or_right (test s) _ t)
+    later (Some s) is t = subst (λ xs. list_any test xs ≡ true) (sym (filter_takes (seat_named seats) n names s is)) (right_or (test s) _ t)
 
     first : is_same_name e n ≡ true → list_any test (filter_map (seat_named seats) (n ∷ names)) ≡ true
     first t =
@@ -139,7 +130,7 @@ named_suits seats e (n ∷ names) isin has listed =
         let a = same_name k.first.name n (found_passes (λ (s : Seat). is_same_name s.name n) seats k.first k.is) in
         let b = same_name e n t in
         let same : AreSame k.first.name e = record { addr = a.addr ∙ sym b.addr; num = a.num ∙ sym b.num; way = a.way ∙ sym b.way } in
-        subst (λ xs. list_any test xs ≡ true) (sym (filter_takes (seat_named seats) n names k.first k.is)) (or_left (test k.first) _ (suits_same k.first.name e same isin))
+        subst (λ xs. list_any test xs ≡ true) (sym (filter_takes (seat_named seats) n names k.first k.is)) (left_or (test k.first) _ (suits_same k.first.name e same isin))
 
 pub has_seat : (names : List EpName) (m : ℕ) (ds : List Placed) (d : Placed) (r : EpText → Bool) (e : EpText) → slice_get ds m ≡ Some d → find r d.eps ≡ Some e
     → e.desc.name.way ≡ way.In → list_any (is_same_name e.desc.name) names ≡ true

@@ -5,6 +5,8 @@ use Rattle.std.specs.List.{AllByRecursion, list_any, flat_map}
 use Rattle.std.specs.Option.{option_map, option_and_then}
 use Rattle.std.proofs.lemmas.Bool.{and_parts, eqb-true, eq-eqb, true≢false, cases_Bool, cond-true, cond-false}
 use Rattle.std.proofs.lemmas.Option.{same_Some, slice_get-map}
+use Rattle.law_common.proofs.Lists.{all_more, all_both, nth_all}
+use Rattle.law_devices.proofs.Common.{ways_equal}
 use Rattle.usb_base.specs.declared.packets.Way.{Way}
 use Rattle.usb_base.specs.declared.packets.Way.TheVariants as way
 use Rattle.usb_base.specs.declared.packets.EpKind.TheVariants as kinds
@@ -33,7 +35,7 @@ use Rattle.claims_report.specs.Streams.{items_of, items_in}
 use Rattle.law_devices.specs.Senders.{sender_of_part, sender_of_endpoint, sender_of_device, sender_of}
 use Rattle.law_devices.proofs.Asking.{sender_through}
 use Rattle.law_devices.specs.DeclaredEndpoints.{HasItsSender, OpensItsSender, OpensSenders}
-use Rattle.law_devices.proofs.Lists.{Holds, all_append, all_at, all_find, any_later, any_found, found_passes, IsFirst, found_first, none_each, find_append, find_later, find_same, find_map}
+use Rattle.law_devices.proofs.Lists.{Holds, all_find, any_later, any_found, found_passes, IsFirst, found_first, none_each, find_append, find_later, find_same, find_map}
 use Rattle.law_devices.proofs.Drafts.{addresses, IsEpOf, HasOwn, IsKnownDesc, IsKnownLine, IsDeclaredDraft, after_declared}
 use Rattle.law_devices.proofs.Texts.{Keeps, is_new, spelled_kept}
 use Rattle.law_devices.proofs.Seats.{IsAt, same_name, owners, hub_owners, named_owners, has_seat}
@@ -57,17 +59,6 @@ device_by ds name x (Some d) is e = text_by ds name x d (find (is_named name) d.
 
 -- ---- ways
 
-ways_equal : (a b : Way) → same_way a b ≡ true → a ≡ b
-ways_equal way.In way.In e = refl
-ways_equal way.In way.Out e = cc
-ways_equal way.In way.Ctl e = cc
-ways_equal way.Out way.In e = cc
-ways_equal way.Out way.Out e = refl
-ways_equal way.Out way.Ctl e = cc
-ways_equal way.Ctl way.In e = cc
-ways_equal way.Ctl way.Out e = cc
-ways_equal way.Ctl way.Ctl e = refl
-
 in_way : (a : Way) → is_way a way.In ≡ same_way a way.In
 in_way way.In = refl
 in_way _ = refl
@@ -79,10 +70,6 @@ in_same_way _ = refl
 every : {X : Type 0} (P : X → Type 0) (xs : List X) → ((x : X) → P x) → AllByRecursion P xs
 every P [] g = tt
 every P (x ∷ xs) g = (g x, every P xs g)
-
-each_with : {X : Type 0} (P Q : X → Type 0) (xs : List X) → ((x : X) → P x → Q x) → AllByRecursion P xs → AllByRecursion Q xs
-each_with P Q [] g h = tt
-each_with P Q (x ∷ xs) g h = (g x h.0, each_with P Q xs g h.1)
 
 no_other : {X : Type 0} (o : Option X) (b : Bool) → is_some o ≡ not b → b ≡ true → o ≡ None
 no_other None b e t = refl
@@ -96,7 +83,7 @@ items_there names a n [] d e is here own found = cc
 items_there names a n (x ∷ ds) d e is here own found =
     elim (cases_Bool (x.addr == a)) [
       | inl t ↦ find_append test x.eps rest e (ap (λ (p : Placed). find test p.eps) (same_Some x d (sym (cond-true _ _ _ t) ∙ here)) ∙ found)
-      | inr f ↦ find_later test x.eps rest (each_with (IsEpOf names x.addr x.hub) (λ t. test t ≡ false) x.eps (λ t k. other t k f) own.0)
+      | inr f ↦ find_later test x.eps rest (all_more (IsEpOf names x.addr x.hub) (λ t. test t ≡ false) x.eps (λ t k. other t k f) own.0)
           ∙ items_there names a n ds d e is (sym (cond-false _ _ _ f) ∙ here) own.1 found
     ]
   where
@@ -155,7 +142,8 @@ module _ (w : Draft) (h : IsDeclaredDraft w) (name : Name) (x : EpDesc) (k : IsD
       ap items_in
       (items_there w.endpoints name.addr k.text.desc.name w.devices k.device k.text (text.address ∙ address) k.device_is h.own
       (find_same (λ (t : EpText). is_same_name t.desc.name k.text.desc.name) (is_named name) k.device.eps
-      (each_with (IsEpOf w.endpoints k.device.addr k.device.hub) (λ t. is_same_name t.desc.name k.text.desc.name ≡ is_named name t) k.device.eps same_test own)
+      (all_more (IsEpOf w.endpoints k.device.addr k.device.hub) (λ t. is_same_name t.desc.name k.text.desc.name ≡ is_named name t)
+      k.device.eps same_test own)
       ∙ k.text_is))
 
   -- ---- its device
@@ -194,7 +182,7 @@ module _ (w : Draft) (h : IsDeclaredDraft w) (name : Name) (x : EpDesc) (k : IsD
 
   seats_own : k.device.hub ≡ None → AllByRecursion (IsAt k.device.addr first.place) (seats_of (script_of w))
   seats_own root =
-      all_append (IsAt k.device.addr first.place) (hub_seats_from 0 w.hubs) _ (hub_owners k.device.addr first.place 0 w.hubs no_hubs)
+      all_both (IsAt k.device.addr first.place) (hub_seats_from 0 w.hubs) _ (hub_owners k.device.addr first.place 0 w.hubs no_hubs)
       (named_owners k.device.addr first.place (seats_from 0 (map device_text w.devices)) w.endpoints
       (owners w.endpoints k.device.addr first.place 0 first.place w.devices k.device first.here refl (omega arith) root h.apart h.own))
 
@@ -210,7 +198,8 @@ module _ (w : Draft) (h : IsDeclaredDraft w) (name : Name) (x : EpDesc) (k : IsD
       let z = found_first test (seats_of (script_of w)) found.first found.is in
       let t = found_passes test (seats_of (script_of w)) found.first found.is in
       let named = eqb-true found.first.name.addr k.text.desc.name.addr (and_parts (found.first.name.addr == k.text.desc.name.addr) _ t).0 in
-      let owner = all_at (IsAt k.device.addr first.place) (seats_of (script_of w)) z.place found.first (seats_own root) z.here (named ∙ text.address) in
+      let owner = nth_all (IsAt k.device.addr first.place) (seats_of (script_of w)) z.place found.first (seats_own root) z.here
+      (named ∙ text.address) in
       sender_through (opening_wired (script_of w)) k.text.desc.name.addr k.text.desc.name.num z.place found.first first.place (opening_bus (script_of w)) z.at z.here owner
       ∙ ap (sender_of_device k.text.desc.name.addr k.text.desc.name.num) device_there ∙ device_sender
 

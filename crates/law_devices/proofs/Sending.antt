@@ -1,6 +1,7 @@
 -- What an IN endpoint answers, what is heard of it, and what it has left.
 use Rattle.std.proofs.Common.{◌≡◌, ℕ, ◌≤◌, nat_le, ◌==◌, Bool, true, false, not, ◌&&◌, ◌||◌, if◌then◌else◌, List, [], ◌∷◌, length, Option, Some, ap, refl, sym, subst, ◌∙◌}
 use Rattle.std.proofs.lemmas.Bool.{false≢true, leb-true, eq-eqb}
+use Rattle.law_common.proofs.Booleans.{and_right}
 use Rattle.usb_base.specs.Acknowledgement.{pid_bits, is_plain, has_handshake, is_taken, acknowledges}
 use Rattle.usb_base.specs.declared.packets.Ask.{Ask}
 use Rattle.usb_base.specs.declared.packets.Pid.{Pid}
@@ -42,10 +43,6 @@ packets_kept (_ ∷ items) = refl
 answered_same : (s : Sending) → Some (sender_in (sending_answered s)) ≡ Some (sender_in s)
 answered_same s = ap (λ (xs : List (List ℕ)). Some (record { left = xs; sends = s.toggle })) (packets_kept s.items)
 
-and_last : (a b : Bool) → (a && b) ≡ true → b ≡ true
-and_last true b e = e
-and_last false b e = absurd (false≢true e)
-
 or_last : (a b : Bool) → a ≡ true → (not a || b) ≡ true → b ≡ true
 or_last true b on e = e
 or_last false b on e = absurd (false≢true on)
@@ -56,7 +53,8 @@ able ask toggle x acked same =
     leb-true (length x) ask.limit
     (or_last (pid_bits (data_pid toggle) == pid_bits ask.toggle) (nat_le (length x) ask.limit)
     (eq-eqb (pid_bits (data_pid toggle)) (pid_bits ask.toggle) (ap pid_bits (same_pid toggle ∙ sym same)))
-    (and_last (is_plain ask.split && (pid_bits ask.pid == pid_bits Pids.In) && has_handshake ask.kind) (is_taken ask (data_pid toggle) (length x)) acked))
+    (and_right (is_plain ask.split && (pid_bits ask.pid == pid_bits Pids.In) && has_handshake ask.kind)
+    (is_taken ask (data_pid toggle) (length x)) acked))
 
 -- ---- nothing but a handshake
 

@@ -1,11 +1,12 @@
 -- The qTDs and buffers of a new transfer aren't lent, but for its first qTD.
 use Rattle.std.proofs.Common.{◌≡◌, ◌≢◌, ℕ, zero, suc, ◌+◌, ◌-◌, ◌*◌, ◌<◌, ◌≤◌, Bool, false, ◌||◌, List, [], ◌∷◌, ◌++◌, length, take, drop, set, get_or, replicate, slice_get, Option, Some, option_map, Ok, ap, refl, sym, subst, ◌∙◌, ⊎_elim, inl, inr, arith}
 use Rattle.std.proofs.lemmas.List.{get_or-set_same, get_or-drop, get_or-take, length-set, length-append, length-drop, length-replicate}
+use Rattle.law_driver.proofs.Common.{last_pushed}
+use Rattle.law_common.proofs.Lists.{shift, set_here, set_there, pushed_there}
 use Rattle.word_mem.specs.Memory.{Mem}
 use Rattle.mem_runs.specs.declared.slots.Slot.{Slot}
 use Rattle.mem_runs.specs.Book.{Holding, holding}
 use Rattle.drv_table.specs.declared.content.Endpoint.{Endpoint}
-use Rattle.drv_table.specs.declared.content.Transfer.{Transfer}
 use Rattle.drv_table.specs.declared.content.QtdNote.{QtdNote}
 use Rattle.drv_table.specs.declared.content.Stage.{Stage}
 use Rattle.drv_table.specs.DriverContent.{DriverContent, no_note}
@@ -21,22 +22,9 @@ use Rattle.law_driver.proofs.lemmas.run_owners.Taking.{AreTaken}
 use Rattle.law_driver.proofs.lemmas.run_owners.Accepted.{push_case, within_slots}
 use Rattle.law_driver.proofs.lemmas.run_owners.Chains.{notes_apart, buffers_of}
 use Rattle.law_driver.proofs.lemmas.run_owners.Transferred.{are_new}
-use Rattle.law_driver.proofs.lemmas.run_owners.Released.{set_here, set_there}
 use Rattle.law_driver_ring.specs.Inventory.{Sort, OfElement, IsLent, IsBufferTold, AreTold}
 use Rattle.law_driver_ring.proofs.Taken.{takes_on, new_not_lent}
-use Rattle.law_driver_ring.proofs.Opens.{pushed_old}
 use Rattle.law_driver_ring.proofs.Transfers.{one_transfer, OneTransfer}
-
--- ---- lists told by a first and the rest
-
-next_of : (qtds : List ℕ) (i : ℕ) → get_or (get_or qtds 0 0 ∷ drop 1 qtds) i 0 ≡ get_or qtds i 0
-next_of [] zero = refl
-next_of [] (suc i) = refl
-next_of (q ∷ qtds) zero = refl
-next_of (q ∷ qtds) (suc i) = refl
-
-shift : (b : ℕ) (qtds : List ℕ) (i : ℕ) → get_or (get_or qtds 0 0 ∷ drop 1 qtds) i 0 ≡ get_or (b ∷ qtds) (suc i) 0
-shift b qtds i = next_of qtds i
 
 -- ---- buffers
 
@@ -78,10 +66,6 @@ new_told v sorts notes (s ∷ ss) b qtds runs within distinct first new_qtds new
 
 -- ---- the accepted transfer
 
-last_pushed : (ts : List Transfer) (t : Transfer) → slice_get (ts ++ t ∷ []) (length ts) ≡ Some t
-last_pushed [] t = refl
-last_pushed (u ∷ ts) t = last_pushed ts t
-
 element_no_dummy : (t e : ℕ) → Element t ≢ Dummy e
 element_no_dummy t e same = cc
 
@@ -112,7 +96,7 @@ transfer_one d m number x a g bs has runs_are taken some here alive sort =
       now = ap (option_map runs_of_endpoint) (set_here d.endpoints number x y here);
       others = λ e differs. ap (option_map runs_of_endpoint) (set_there d.endpoints number e y differs);
       dummy_new = qtd (n - 1) (omega (arith, some));
-      old = λ t z there. pushed_old runs_of_transfer d.transfers (new_transfer number a b) t z there;
+      old = λ t z there. pushed_there runs_of_transfer d.transfers (new_transfer number a b) t z there;
       transfers = λ t z there.
           ⊎_elim (λ (old : transfer_in d.transfers t ≡ Some z). inl old)
           (λ (at : (t ≡ length d.transfers) × (z ≡ runs_of_transfer (new_transfer number a b))). inr (at.0, at.1 ∙ is_new))

@@ -1,10 +1,9 @@
 -- The controller leaves a new endpoint, which it doesn't meet yet.
-use Rattle.std.proofs.Common.{◌≡◌, ◌≢◌, ℕ, ◌+◌, ◌*◌, ◌/◌, Bool, false, List, Some, ap, sym, subst, ◌∙◌, arith}
+use Rattle.std.proofs.Common.{◌≡◌, ◌≢◌, ℕ, ◌+◌, ◌*◌, ◌/◌, Bool, false, List, ap, sym, subst, ◌∙◌, arith}
 use Rattle.std.proofs.lemmas.Bool.{true≢false}
+use Rattle.law_driver_ring.proofs.Common.{settled_there, not_reached}
 use Rattle.usb_base.specs.declared.packets.Ask.{Ask}
 use Rattle.usb_base.specs.declared.packets.Reply.{Reply}
-use Rattle.word_mem.specs.Memory.{Mem, state_at, is_lent, reaches}
-use Rattle.word_mem.specs.declared.blocks.BlockState.TheVariants.{Kept}
 use Rattle.word_mem.proofs.Words.{words_in_same}
 use Rattle.hc_copy.specs.Overlay.{advanced}
 use Rattle.hc_copy.specs.WriteBack.{moved_by}
@@ -13,16 +12,12 @@ use Rattle.async_walk.specs.Rows.{WalkPlace}
 use Rattle.law_structures.specs.lent_structures.Structures.{QueueHead, StructureSets}
 use Rattle.law_structures.proofs.lemmas.lent_structures.Names.{put_beside}
 use Rattle.law_structures.proofs.lemmas.lent_structures.Found.{back_beside}
-use Rattle.law_ring.specs.Hand.{Copy, Settlement, settled_queue_of, Hand, Copied, Settled}
+use Rattle.law_ring.specs.Hand.{Copy, settled_queue_of, Hand, Copied}
 use Rattle.claims_base.specs.Controller.{Base}
-use Rattle.law_ring.specs.Ring.{IsCopied, IsSettled, IsInHand, IsRing}
+use Rattle.law_ring.specs.Ring.{IsCopied, IsInHand, IsRing}
 use Rattle.law_ring.specs.Effects.{received_into, Effect, reads, passes, ends, takes, makes, writes_back}
 use Rattle.law_driver_ring.specs.Beside.{OpenedStays}
 use Rattle.law_driver_ring.proofs.LendOpening.{two_runs}
-
--- a word of a block that is kept isn't reached
-not_reached : (m : Mem) (at : ℕ) → state_at m (at / 32) ≡ Some Kept → reaches m at ≡ false
-not_reached m at kept = ap is_lent kept
 
 pub opened_stays : OpenedStays
 opened_stays d m new e x q opened has stands same =
@@ -55,9 +50,6 @@ not_met member parts c n copied off same = true≢false (sym copied.on ∙ ap me
 
 copied_there : (base : Base) (member : ℕ → Bool) (parts : StructureSets) (hand : Hand) (p : WalkPlace) (c : Copy) → IsRing base member parts hand p → hand ≡ Copied c → IsCopied member parts c
 copied_there base member parts hand p c k is = subst (IsInHand member parts p.walk.reply) is k.in_hand
-
-settled_there : (base : Base) (member : ℕ → Bool) (parts : StructureSets) (hand : Hand) (p : WalkPlace) (c : Copy) (s : Settlement) → IsRing base member parts hand p → hand ≡ Settled c s → IsCopied member parts c
-settled_there base member parts hand p c s k is = let both : IsCopied member parts c × IsSettled c.queue p.walk.reply s = subst (IsInHand member parts p.walk.reply) is k.in_hand in both.0
 
 pub stranger_stays : {W : Type 0} (transacts : W → Ask → List ℕ → Reply → W → Type 0) (base : Base) (member : ℕ → Bool) (parts : StructureSets) (hand : Hand) (p : WalkPlace) (wire after : W) (now : StructureSets) (later : Hand) (kind : WalkStep) (n : ℕ) → IsRing base member parts hand p → Effect transacts parts hand wire after now later kind → member n ≡ false → now n ≡ parts n
 stranger_stays transacts base member parts hand p wire after now later _ n k (reads r same quiet) off = ap (λ (x : StructureSets). x n) same

@@ -1,14 +1,17 @@
 -- The blocks of a transfer, and whose they are.
-use Rattle.std.proofs.Common.{◌≡◌, ◌≢◌, ℕ, zero, suc, ◌*◌, ◌==◌, ◌||◌, Bool, true, false, List, [], ◌∷◌, ◌++◌, ap, refl, sym, subst, ◌∙◌, inl, inr, arith}
+use Rattle.std.proofs.Common.{◌≡◌, ◌≢◌, ℕ, zero, suc, ◌*◌, ◌==◌, ◌||◌, Bool, true, false, List, [], ◌∷◌, ap, refl, sym, subst, ◌∙◌, inl, inr, arith}
 use Rattle.std.specs.List.{AllByRecursion}
 use Rattle.std.proofs.lemmas.Bool.{true≢false, eq-eqb}
+use Rattle.law_common.proofs.Booleans.{right_or}
+use Rattle.law_common.proofs.Numbers.{same_number, other_number}
+use Rattle.law_driver_ring.proofs.Common.{runs_joined, one_left, one_right}
+use Rattle.law_common.proofs.Lists.{all_joined}
 use Rattle.mem_runs.specs.Book.{Holding, release_run}
 use Rattle.mem_runs.specs.declared.slots.Slot.{Slot}
 use Rattle.drv_table.specs.declared.content.QtdNote.{QtdNote}
 use Rattle.drv_table.specs.Harvests.{note_at}
 use Rattle.drv_table.specs.Releases.{free_runs, free_qtd, free_qtds}
 use Rattle.claims_driver.specs.Owners.{Owner, Element, Buffer, IsPlaced, ArePieces, NoteRuns, note_in, IsPieceOf, IsOneOf}
-use Rattle.law_structures.proofs.lemmas.lent_structures.Names.{not_same}
 use Rattle.law_driver_ring.specs.Released.{blocks_of, names_one}
 
 -- ---- lists of blocks
@@ -18,38 +21,21 @@ all_one P [] c all among = absurd among
 all_one P (d ∷ ds) c all (inl same) = subst P (sym same) all.0
 all_one P (d ∷ ds) c all (inr among) = all_one P ds c all.1 among
 
-all_joined : (P : ℕ → Type 0) (bs cs : List ℕ) → AllByRecursion P bs → AllByRecursion P cs → AllByRecursion P (bs ++ cs)
-all_joined P [] cs one other = other
-all_joined P (b ∷ bs) cs one other = (one.0, all_joined P bs cs one.1 other)
-
 all_still : (P Q : ℕ → Type 0) (cs : List ℕ) → ((c : ℕ) → P c → Q c) → AllByRecursion P cs → AllByRecursion Q cs
 all_still P Q [] each all = tt
 all_still P Q (c ∷ cs) each all = (each c all.0, all_still P Q cs each all.1)
 
-one_left : (c : ℕ) (bs cs : List ℕ) → IsOneOf c bs → IsOneOf c (bs ++ cs)
-one_left c [] cs among = absurd among
-one_left c (b ∷ bs) cs (inl same) = inl same
-one_left c (b ∷ bs) cs (inr among) = inr (one_left c bs cs among)
-
-one_right : (c : ℕ) (bs cs : List ℕ) → IsOneOf c cs → IsOneOf c (bs ++ cs)
-one_right c [] cs among = among
-one_right c (b ∷ bs) cs among = inr (one_right c bs cs among)
-
 -- ---- names
-
-or_right : (a b : Bool) → b ≡ true → (a || b) ≡ true
-or_right true b on = refl
-or_right false b on = on
 
 pub is_named : (cs : List ℕ) (c : ℕ) → IsOneOf c cs → names_one cs (32 * c) ≡ true
 is_named [] c among = absurd among
 is_named (d ∷ ds) c (inl same) = ap (λ (b : Bool). b || names_one ds (32 * c)) (eq-eqb (32 * c) (32 * d) (ap (λ (i : ℕ). 32 * i) same))
-is_named (d ∷ ds) c (inr among) = or_right (32 * c == 32 * d) (names_one ds (32 * c)) (is_named ds c among)
+is_named (d ∷ ds) c (inr among) = right_or (32 * c == 32 * d) (names_one ds (32 * c)) (is_named ds c among)
 
 pub is_not_named : (cs : List ℕ) (c : ℕ) → AllByRecursion (λ b. c ≢ b) cs → names_one cs (32 * c) ≡ false
 is_not_named [] c differ = refl
 is_not_named (d ∷ ds) c differ =
-    ap (λ (b : Bool). b || names_one ds (32 * c)) (not_same (32 * c) (32 * d) (λ same. differ.0 (let e : c ≡ d = omega (arith, same) in e))) ∙ is_not_named ds c differ.1
+    ap (λ (b : Bool). b || names_one ds (32 * c)) (other_number (32 * c) (32 * d) (λ same. differ.0 (let e : c ≡ d = omega (arith, same) in e))) ∙ is_not_named ds c differ.1
 
 -- ---- whose they are
 
@@ -58,26 +44,18 @@ mine t (Element u) = u == t
 mine t (Buffer u) = u == t
 mine t _ = false
 
-pub own_number : (t : ℕ) → (t == t) ≡ true
-own_number t = eq-eqb t t refl
-
 pub all_mine : (slot : ℕ → Slot) (owner : ℕ → Owner) (note : ℕ → NoteRuns) (t b n : ℕ) → ArePieces slot owner note t b n → AllByRecursion (λ c. mine t (owner c) ≡ true) (blocks_of note b n)
 all_mine slot owner note t b zero pieces = tt
 all_mine slot owner note t b (suc n) pieces = (
-  ap (mine t) pieces.0.element.owned ∙ own_number t,
+  ap (mine t) pieces.0.element.owned ∙ same_number t,
   all_joined (λ c. mine t (owner c) ≡ true) (note b).buffer (blocks_of note (note b).next n)
-      (all_still (λ c. IsPlaced slot owner c (Buffer t)) (λ c. mine t (owner c) ≡ true) (note b).buffer (λ c is. ap (mine t) is.owned ∙ own_number t) pieces.0.buffers)
+      (all_still (λ c. IsPlaced slot owner c (Buffer t)) (λ c. mine t (owner c) ≡ true) (note b).buffer (λ c is. ap (mine t) is.owned ∙ same_number t) pieces.0.buffers)
       (all_mine slot owner note t (note b).next n pieces.1),
 )
 
 -- a block of another owner is none of them
 pub none_mine : (owner : ℕ → Owner) (t c : ℕ) (cs : List ℕ) → mine t (owner c) ≡ false → AllByRecursion (λ b. mine t (owner b) ≡ true) cs → AllByRecursion (λ b. c ≢ b) cs
 none_mine owner t c cs off all = all_still (λ b. mine t (owner b) ≡ true) (λ b. c ≢ b) cs (λ b on same. true≢false (sym on ∙ ap (λ (i : ℕ). mine t (owner i)) (sym same) ∙ off)) all
-
-pub piece_among : (note : ℕ → NoteRuns) (b n c : ℕ) → IsPieceOf note b n c → IsOneOf c (blocks_of note b n)
-piece_among note b zero c is = absurd is
-piece_among note b (suc n) c (inl same) = inl same
-piece_among note b (suc n) c (inr is) = inr (one_right c (note b).buffer (blocks_of note (note b).next n) (piece_among note (note b).next n c is))
 
 first_among : (c : ℕ) (cs ds : List ℕ) → ds ≡ c ∷ cs → IsOneOf c ds
 first_among c cs ds is = subst (IsOneOf c) (sym is) (inl refl)
@@ -97,10 +75,6 @@ placed_buffer slot owner note t b (suc n) d pieces (inl same) =
 placed_buffer slot owner note t b (suc n) d pieces (inr is) = placed_buffer slot owner note t (note b).next n d pieces.1 is
 
 -- ---- all runs of a transfer are given back
-
-runs_joined : (h : Holding) (bs cs : List ℕ) → free_runs h (bs ++ cs) ≡ free_runs (free_runs h bs) cs
-runs_joined h [] cs = refl
-runs_joined h (b ∷ bs) cs = runs_joined (release_run h b) bs cs
 
 pub qtds_are_runs : (notes : List QtdNote) (h : Holding) (b n : ℕ) → free_qtds notes h b n ≡ free_runs h (blocks_of (note_in notes) b n)
 unfolding free_qtds

@@ -3,6 +3,7 @@ use Rattle.std.proofs.Common.{◌≡◌, ◌≢◌, ℕ, zero, suc, ◌+◌, ◌
 use Rattle.std.proofs.lemmas.Bool.{cases_Bool, cases_eq}
 use Rattle.std.proofs.lemmas.Bool.Decides.{nat_tests}
 use Rattle.std.proofs.lemmas.List.{length-replicate}
+use Rattle.law_common.proofs.Numbers.{same_numbers}
 use Rattle.word_mem.specs.Runs.{Run, IsInRun}
 use Rattle.word_mem.proofs.Holders.{has_block_from}
 use Rattle.mem_bytes.specs.Bytes.{place}
@@ -26,11 +27,6 @@ take_same zero xs j below = absurd (omega (arith, below))
 take_same (suc k) [] j below = refl
 take_same (suc k) (x ∷ xs) zero below = refl
 take_same (suc k) (x ∷ xs) (suc j) below = take_same k xs j (omega (arith, below))
-
-same_numbers : (p j : ℕ) → j < p → get_or (replicate {A = ℕ} p 128) j 0 ≡ 128
-same_numbers zero j below = absurd (omega (arith, below))
-same_numbers (suc p) zero below = refl
-same_numbers (suc p) (suc j) below = same_numbers p j (omega (arith, below))
 
 pub record IsRunAt (slot : ℕ → Slot) (ns cs : List ℕ) (j : ℕ) : Type 0 where
   pub below : j < length cs

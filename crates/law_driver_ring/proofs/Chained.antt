@@ -1,7 +1,7 @@
 -- The words of a chain of qTDs stand once they were stored.
-use Rattle.std.proofs.Common.{◌≡◌, ◌≢◌, ℕ, ◌+◌, ◌*◌, ◌/◌, ◌<◌, ◌≤◌, true, cond, List, [], ◌∷◌, length, ap, refl, sym, subst, ◌∙◌, arith}
+use Rattle.std.proofs.Common.{◌≡◌, ◌≢◌, ℕ, ◌+◌, ◌*◌, ◌/◌, ◌<◌, ◌≤◌, List, [], ◌∷◌, length, ap, refl, sym, subst, ◌∙◌, arith}
 use Rattle.std.specs.List.{AllByRecursion}
-use Rattle.std.proofs.lemmas.Bool.Decides.{nat_tests}
+use Rattle.law_driver_ring.proofs.Common.{stored_one}
 use Rattle.word_mem.specs.Runs.{Run}
 use Rattle.word_mem.specs.Memory.{Mem, with_word}
 use Rattle.word_mem.specs.Views.{words_in, words_at, with_words_in, with_words}
@@ -11,7 +11,7 @@ use Rattle.qh_qtd.specs.declared.qtd.Qtd.{Qtd}
 use Rattle.qh_qtd.specs.Qtd.{qtd_words}
 use Rattle.mem_runs.specs.declared.slots.Slot.{Slot}
 use Rattle.mem_runs.specs.declared.slots.Slot.TheVariants.{Keeps}
-use Rattle.mem_runs.specs.Book.{Book, slot_of, has_address, can_store, store, store_words}
+use Rattle.mem_runs.specs.Book.{Book, slot_of, store_words}
 use Rattle.drv_table.specs.declared.content.QtdNote.{QtdNote}
 use Rattle.drv_table.specs.declared.content.Stage.{Stage}
 use Rattle.drv_table.specs.Words.{dummy_qtd}
@@ -23,11 +23,6 @@ use Rattle.law_driver_ring.proofs.PartAccepting.{words_large}
 use Rattle.law_driver_ring.specs.Written.{AreAllApart, next_blocks, last_block, AreWritten}
 
 -- ---- words in a run that is kept
-
-stored_one : (k : Book) (m : Mem) (b at v : ℕ) (r : Run) → slot_of k.slots b ≡ Keeps r → 32 * r.first ≤ at → at < 32 * (r.first + r.blocks) → store k m b at v ≡ with_word m at v
-stored_one k m b at v r there from below =
-    let inside : has_address r at ≡ true = grind (arith, nat_tests) in
-    ap (λ s. cond (can_store s at) (with_word m at v) m) there ∙ ap (λ t. cond t (with_word m at v) m) inside
 
 stored_all : (k : Book) (m : Mem) (b at : ℕ) (ws : List ℕ) (r : Run) → slot_of k.slots b ≡ Keeps r → 32 * r.first ≤ at → at + 4 * length ws ≤ 32 * (r.first + r.blocks) → store_words k m b at ws ≡ with_words m at ws
 unfolding store_words with_words_in

@@ -1,5 +1,6 @@
 -- Accepted commands over a driven ring.
 use Rattle.std.proofs.Common.{◌≡◌, ℕ, ◌-◌, Bool, List, [], ◌∷◌, length, take, drop, get_or, ap, sym, subst, ◌∙◌}
+use Rattle.law_common.proofs.Lists.{drop_first}
 use Rattle.word_mem.specs.Memory.{Mem}
 use Rattle.op_registers.specs.RegisterFile.{RegisterFile}
 use Rattle.async_walk.specs.Walk.{Walk}
@@ -14,7 +15,6 @@ use Rattle.law_driver.specs.run_owners.Accepts.{Opens, Transfers, Cancels}
 use Rattle.claims_driver.specs.Owners.{runs_of_endpoint, views_of}
 use Rattle.claims_driver.specs.Leaving.{HasOwners}
 use Rattle.law_driver.proofs.lemmas.run_owners.Taking.{runs_taken}
-use Rattle.law_driver.proofs.lemmas.run_owners.Accepted.{drop_first}
 use Rattle.law_driver.proofs.lemmas.run_owners.Transferred.{goes_on_alive}
 use Rattle.law_driver.proofs.lemmas.ring_members.Placed.{has_queue}
 use Rattle.law_structures.specs.lent_structures.Structures.{StructureSets}

@@ -1,5 +1,6 @@
 -- Each event of the walk leaves how far each structure reaches.
-use Rattle.std.proofs.Common.{◌≡◌, ℕ, zero, suc, ◌*◌, List, length, Some, ap, refl, sym, subst, ◌∙◌, ⊎_elim, inl, inr, arith}
+use Rattle.std.proofs.Common.{◌≡◌, ℕ, zero, suc, ◌*◌, List, ap, refl, sym, subst, ◌∙◌, inl, inr, arith}
+use Rattle.law_driver_ring.proofs.Common.{extents_same, extents_both, extents_put, extents_buffer}
 use Rattle.usb_base.specs.declared.packets.Ask.{Ask}
 use Rattle.usb_base.specs.declared.packets.Reply.{Reply}
 use Rattle.mem_bytes.specs.Bytes.{place}
@@ -8,12 +9,10 @@ use Rattle.qh_qtd.specs.declared.queue_head.Qh.{Qh}
 use Rattle.hc_copy.specs.Overlay.{advanced, moved}
 use Rattle.hc_copy.specs.WriteBack.{moved_by}
 use Rattle.claims_driver.specs.Owners.{NoteRuns, IsPieceOf}
-use Rattle.law_structures.specs.lent_structures.Structures.{Structure, QueueHead, Element, Buffer, Table, StructureSets, put}
+use Rattle.law_structures.specs.lent_structures.Structures.{QueueHead, Element, StructureSets, put}
 use Rattle.law_structures.specs.lent_structures.Changes.{relinked, overwritten}
-use Rattle.law_structures.proofs.lemmas.lent_structures.Names.{put_found}
 use Rattle.law_structures.proofs.lemmas.lent_structures.Storing.{length-overwritten}
 use Rattle.law_structures.specs.lent_structures.WriteBack.{Received, Nothing, Into, IsReceived, received_parts, qtd_after}
-use Rattle.law_structures.proofs.lemmas.lent_structures.Altering.{same_buffer}
 use Rattle.law_ring.specs.Hand.{settled_queue_of}
 use Rattle.law_ring.specs.Effects.{received_into}
 use Rattle.law_ring.specs.Effects.Effect.{reads, passes, ends, takes, makes, writes_back}
@@ -48,67 +47,23 @@ extents_stay v w parts now runs keep lies = record {
 itself : (parts : StructureSets) → KeepExtents parts parts
 itself parts = record { buffers = λ n a pages k bs here. record { bytes = bs; here = here; size = refl }; tables = λ n a ws here. record { words = ws; here = here; size = refl } }
 
-both : (parts mid now : StructureSets) → KeepExtents parts mid → KeepExtents mid now → KeepExtents parts now
-both parts mid now one two = record {
-  buffers = λ n a pages k bs here.
-      let second = two.buffers n a pages k bs here in
-      let first = one.buffers n a pages k second.bytes second.here in
-      record { bytes = first.bytes; here = first.here; size = first.size ∙ second.size };
-  tables = λ n a ws here.
-      let second = two.tables n a ws here in
-      let first = one.tables n a second.words second.here in
-      record { words = first.words; here = first.here; size = first.size ∙ second.size };
-}
-
-other_put : (parts : StructureSets) (m b : ℕ) (s : Structure) → ((pages : List ℕ) (k : ℕ) (bs : List ℕ) → Buffer pages k bs ≡ s → ⊥) → ((ws : List ℕ) → Table ws ≡ s → ⊥) → KeepExtents parts (put parts m b s)
-other_put parts m b s no_buffer no_table = record {
-  buffers = λ n a pages k bs here.
-      ⊎_elim (λ (is : (n ≡ m) × (a ≡ b) × (Buffer pages k bs ≡ s)). absurd (no_buffer pages k bs is.2)) (λ (there : parts n a ≡ Some (Buffer pages k bs)). record { bytes = bs; here = there; size = refl })
-      (put_found parts m b s n a (Buffer pages k bs) here);
-  tables = λ n a ws here.
-      ⊎_elim (λ (is : (n ≡ m) × (a ≡ b) × (Table ws ≡ s)). absurd (no_table ws is.2)) (λ (there : parts n a ≡ Some (Table ws)). record { words = ws; here = there; size = refl })
-      (put_found parts m b s n a (Table ws) here);
-}
-
 pub head_put : (parts : StructureSets) (m b : ℕ) (q : Qh) → KeepExtents parts (put parts m b (QueueHead q))
-head_put parts m b q = other_put parts m b (QueueHead q) (λ pages k bs e. cc) (λ ws e. cc)
+head_put parts m b q = extents_put parts m b (QueueHead q) (λ pages k bs e. cc) (λ ws e. cc)
 
 pub element_put : (parts : StructureSets) (m b : ℕ) (t : Qtd) → KeepExtents parts (put parts m b (Element t))
-element_put parts m b t = other_put parts m b (Element t) (λ pages k bs e. cc) (λ ws e. cc)
-
-buffer_put : (parts : StructureSets) (m b : ℕ) (pages : List ℕ) (k : ℕ) (bs cs : List ℕ) → parts m b ≡ Some (Buffer pages k bs) → length cs ≡ length bs → KeepExtents parts (put parts m b (Buffer pages k cs))
-buffer_put parts m b pages k bs cs here size = record {
-  buffers = λ n a ps j ds found.
-      ⊎_elim (λ (is : (n ≡ m) × (a ≡ b) × (Buffer ps j ds ≡ Buffer pages k cs)).
-      let same = same_buffer ps j ds pages k cs is.2 in
-      record {
-        bytes = bs;
-        here = ap (λ (i : ℕ). parts i a) is.0 ∙ ap (parts m) is.1 ∙ here ∙ ap (λ (x : List ℕ). Some (Buffer x k bs)) (sym same.pages_is) ∙ ap (λ (x : ℕ). Some (Buffer ps x bs)) (sym same.start_is);
-        size = sym size ∙ ap length (sym same.bytes_is);
-      })
-      (λ (there : parts n a ≡ Some (Buffer ps j ds)). record { bytes = ds; here = there; size = refl }) (put_found parts m b (Buffer pages k cs) n a (Buffer ps j ds) found);
-  tables = λ n a ws found.
-      ⊎_elim (λ (is : (n ≡ m) × (a ≡ b) × (Table ws ≡ Buffer pages k cs)). absurd (no_table ws is.2)) (λ (there : parts n a ≡ Some (Table ws)). record { words = ws; here = there; size = refl })
-      (put_found parts m b (Buffer pages k cs) n a (Table ws) found);
-}
-  where
-    no_table : (ws : List ℕ) → Table ws ≡ Buffer pages k cs → ⊥
-    no_table ws e = cc
+element_put parts m b t = extents_put parts m b (Element t) (λ pages k bs e. cc) (λ ws e. cc)
 
 received_keeps : (parts : StructureSets) (n : ℕ) (c : Qh) (got : List ℕ) (r : Received) → IsReceived (parts n) c got r → KeepExtents parts (received_parts parts n got r)
 received_keeps parts n c got Nothing is = itself parts
-received_keeps parts n c got (Into pages k bs j) is = buffer_put parts n (place pages k) pages k bs (overwritten bs j got) is.buffer (length-overwritten bs j got is.fits)
+received_keeps parts n c got (Into pages k bs j) is = extents_buffer parts n (place pages k) pages k bs (overwritten bs j got) is.buffer (length-overwritten bs j got is.fits)
 
 -- ---- an event
 
-same_keeps : (parts now : StructureSets) → now ≡ parts → KeepExtents parts now
-same_keeps parts now same = subst (KeepExtents parts) (sym same) (itself parts)
-
 pub walk_keeps_extents : {W : Type 0} (transacts : W → Ask → List ℕ → Reply → W → Type 0) → WalkKeepsExtents transacts
-walk_keeps_extents transacts member parts hand reply wire after now later kind in_hand (reads r all quiet) = same_keeps parts now all
-walk_keeps_extents transacts member parts hand reply wire after now later kind in_hand (passes r all quiet) = same_keeps parts now all
-walk_keeps_extents transacts member parts hand reply wire after now later kind in_hand (ends r all quiet) = same_keeps parts now all
-walk_keeps_extents transacts member parts hand reply wire after now later kind in_hand (makes m all) = same_keeps parts now all
+walk_keeps_extents transacts member parts hand reply wire after now later kind in_hand (reads r all quiet) = extents_same parts now all
+walk_keeps_extents transacts member parts hand reply wire after now later kind in_hand (passes r all quiet) = extents_same parts now all
+walk_keeps_extents transacts member parts hand reply wire after now later kind in_hand (ends r all quiet) = extents_same parts now all
+walk_keeps_extents transacts member parts hand reply wire after now later kind in_hand (makes m all) = extents_same parts now all
 walk_keeps_extents transacts member parts hand reply wire after now later kind in_hand (takes t quiet) =
     subst (KeepExtents parts) (sym t.now_is) (head_put parts t.copy.at t.copy.at (advanced t.copy.queue t.element t.qtd))
 walk_keeps_extents transacts member parts hand reply wire after now later kind in_hand (writes_back w quiet) =
@@ -117,6 +72,8 @@ walk_keeps_extents transacts member parts hand reply wire after now later kind i
     let one : StructureSets = received_parts parts w.copy.at w.settled.got r in
     let two : StructureSets = put one w.copy.at w.copy.at (QueueHead (relinked w.copy.queue (moved x (moved_by w.settled.outcome)))) in
     subst (KeepExtents parts) (sym w.now_is)
-    (both parts one (put two w.copy.at x.current (Element (qtd_after (moved x (moved_by w.settled.outcome)) w.element))) (received_keeps parts w.copy.at x w.settled.got r w.received_is)
-    (both one two (put two w.copy.at x.current (Element (qtd_after (moved x (moved_by w.settled.outcome)) w.element))) (head_put one w.copy.at w.copy.at (relinked w.copy.queue (moved x (moved_by w.settled.outcome))))
+    (extents_both parts one (put two w.copy.at x.current (Element (qtd_after (moved x (moved_by w.settled.outcome)) w.element)))
+    (received_keeps parts w.copy.at x w.settled.got r w.received_is)
+    (extents_both one two (put two w.copy.at x.current (Element (qtd_after (moved x (moved_by w.settled.outcome)) w.element)))
+    (head_put one w.copy.at w.copy.at (relinked w.copy.queue (moved x (moved_by w.settled.outcome))))
     (element_put two w.copy.at x.current (qtd_after (moved x (moved_by w.settled.outcome)) w.element))))

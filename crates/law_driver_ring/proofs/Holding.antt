@@ -1,10 +1,10 @@
 -- Each structure of a transfer stands in memory once it is lent, in runs that were kept before.
-use Rattle.std.proofs.Common.{◌≡◌, ℕ, zero, suc, ◌+◌, ◌-◌, ◌*◌, ◌/◌, ◌%◌, ◌<◌, ◌≤◌, Bool, List, [], ◌∷◌, length, take, get_or, Option, Some, ap, refl, sym, subst, ⊎_elim, arith}
+use Rattle.std.proofs.Common.{◌≡◌, ℕ, zero, suc, ◌+◌, ◌-◌, ◌*◌, ◌/◌, ◌%◌, ◌<◌, ◌≤◌, Bool, List, [], ◌∷◌, length, take, get_or, Some, ap, refl, sym, subst, ⊎_elim, arith}
 use Rattle.std.proofs.lemmas.Bool.{cases_lt}
+use Rattle.law_structures.proofs.Common.{kept_no_lent}
 use Rattle.word_mem.specs.Runs.{Run}
 use Rattle.word_mem.specs.Memory.{Mem, IsShaped, AreAll, state_at}
 use Rattle.word_mem.specs.Views.{words_at}
-use Rattle.word_mem.specs.declared.blocks.BlockState.{BlockState}
 use Rattle.word_mem.specs.declared.blocks.BlockState.TheVariants.{Kept, Lent}
 use Rattle.word_mem.proofs.Frames.{run_within}
 use Rattle.word_mem.proofs.Holders.{has_block_is, has_block_from}
@@ -35,9 +35,6 @@ pub record IsKeptIn (slot : ℕ → Slot) (cs : List ℕ) (b : ℕ) : Type 0 whe
   pub run : Run
   pub is : slot at ≡ Keeps run
   pub has : SlotHas (slot at) b
-
-kept_no_lent : (o : Option BlockState) → o ≡ Some Kept → o ≡ Some Lent → ⊥
-kept_no_lent o kept lent = cc
 
 -- so it wasn't Lent
 pub kept_fresh : (h : Holding) (cs : List ℕ) (b : ℕ) → Stands h → IsKeptIn (slot_of h.book.slots) cs b → state_at h.memory b ≡ Some Lent → ⊥

@@ -3,6 +3,8 @@ use Rattle.std.proofs.Common.{◌≡◌, ◌≢◌, ℕ, ◌==◌, ◌+◌, ◌*
 use Rattle.std.specs.List.{AllByRecursion}
 use Rattle.std.proofs.lemmas.Bool.{cases_eq, true≢false}
 use Rattle.std.proofs.lemmas.Option.{same_Some}
+use Rattle.law_common.proofs.Numbers.{other_number as not_same}
+use Rattle.law_driver_ring.proofs.Common.{piece_among}
 use Rattle.word_mem.proofs.Holders.{has_block_from}
 use Rattle.mem_runs.specs.Book.{Holding, slot_of, IsAt, Stands}
 use Rattle.mem_runs.specs.declared.slots.Slot.{Slot}
@@ -10,13 +12,12 @@ use Rattle.mem_runs.specs.declared.slots.Slot.TheVariants.{Empty, Keeps, Lends}
 use Rattle.drv_table.specs.Words.{head_block}
 use Rattle.claims_driver.specs.Owners.{Owner, Buffer, SlotHas, HasBlocks, IsPlaced, EndpointRuns, TransferRuns, Views, AreOwned, IsPieceOf}
 use Rattle.law_structures.specs.lent_structures.Structures.{Structure, QueueHead, Element as ElementOf, Buffer as BufferOf, Table, StructureSets, Has}
-use Rattle.law_structures.proofs.lemmas.lent_structures.Names.{not_same}
 use Rattle.law_ring.specs.Fewer.{without_those}
 use Rattle.law_ring.proofs.Returning.{those_found, those_stay}
 use Rattle.law_driver_ring.specs.Inventory.{Sort, sort_of, sorts_of, OfTable, OfQueueHead, OfElement, OfBuffer, IsTransferIn, IsDriverOwned, the_list, the_head, a_queue, a_dummy, a_piece, a_buffer, IsDriven}
 use Rattle.law_driver_ring.specs.Extents.{AreInRuns}
 use Rattle.law_driver_ring.specs.Released.{blocks_of, names_one}
-use Rattle.law_driver_ring.proofs.Blocks.{all_one, mine, placed_buffer, is_named, piece_among, buffer_among}
+use Rattle.law_driver_ring.proofs.Blocks.{all_one, mine, placed_buffer, is_named, buffer_among}
 
 -- ---- the blocks of a slot's run
 

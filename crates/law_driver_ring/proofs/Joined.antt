@@ -1,5 +1,6 @@
 -- Each qTD of a queue with a transfer more is sound and has a buffer of its own, and the transfer's first qTD can be published.
 use Rattle.std.proofs.Common.{◌≡◌, ◌≢◌, ℕ, ◌*◌, ◌⊎◌, List, [], ◌∷◌, ◌++◌, take, Option, Some, None, ap, refl, sym, subst, ◌∙◌, ⊎_elim, inl, inr}
+use Rattle.law_structures.proofs.Common.{element_is}
 use Rattle.mem_runs.specs.declared.slots.Slot.{Slot}
 use Rattle.drv_table.specs.declared.content.QtdNote.{QtdNote}
 use Rattle.drv_table.specs.declared.content.Stage.{Stage}
@@ -18,7 +19,7 @@ use Rattle.law_driver_ring.specs.Pieces.{stage_qtd, qtd_items, buffer_items, len
 use Rattle.law_driver_ring.proofs.Lists.{IsOneOf, one_left, one_right, apart_right}
 use Rattle.law_driver_ring.proofs.Lots.{Lot, items, NamesOne, IsItem, item_left, item_right, item_either, all_found}
 use Rattle.law_driver_ring.proofs.TransferOwning.{lent_on}
-use Rattle.law_driver_ring.proofs.Pieces.{element_is, all_standing, all_buffered, no_qtd, last_stands, first_stands, stage_sound, new_sound, name_of, names_in, stage_alone, new_alone}
+use Rattle.law_driver_ring.proofs.Pieces.{all_standing, all_buffered, no_qtd, last_stands, first_stands, stage_sound, new_sound, name_of, names_in, stage_alone, new_alone}
 use Rattle.law_driver_ring.proofs.Joining.{IsJoining, joined_parts, none_before, same_places, item_here, zero_not_taken, zero_no_buffer, lent_no_new}
 
 pub record IsChain (slot : ℕ → Slot) (notes : List QtdNote) (dummy : ℕ) (s : Stage) (ss : List Stage) (b : ℕ) (after : Mem) (taken : List ℕ) (ls : List Lot) : Type 0 where

@@ -1,5 +1,5 @@
 -- The parts with all that was lent of a transfer.
-use Rattle.std.proofs.Common.{◌≡◌, ◌≢◌, ℕ, zero, suc, ◌*◌, List, Option, Some, None, option_map, ap, refl, sym, subst, ◌∙◌, ⊎_elim, inl, inr, arith}
+use Rattle.std.proofs.Common.{◌≡◌, ◌≢◌, ℕ, zero, suc, ◌*◌, List, Some, option_map, ap, refl, sym, subst, ◌∙◌, ⊎_elim, inl, inr, arith}
 use Rattle.std.specs.List.{AllByRecursion}
 use Rattle.std.proofs.lemmas.Bool.{cases_eq}
 use Rattle.word_mem.specs.Memory.{Mem}
@@ -28,9 +28,6 @@ abbrev pub joined_parts : StructureSets → EndpointRuns → List Lot → Struct
 joined_parts parts x ls = put_all parts (32 * x.queue) (items ls)
 
 -- ---- new names
-
-some_none : (o : Option Structure) (s : Structure) → o ≡ None → o ≡ Some s → ⊥
-some_none o s none some = cc
 
 -- nothing stood there
 pub none_before : (v w : Views) (owner : ℕ → Owner) (t : ℕ) (y : TransferRuns) (x : EndpointRuns) (taken : List ℕ) (after : Mem) (parts : StructureSets) (ls : List Lot) (k c : ℕ) (s : Structure) → IsJoining v w owner t y x taken after parts ls → IsOneOf c taken → parts k (32 * c) ≡ Some s → ⊥

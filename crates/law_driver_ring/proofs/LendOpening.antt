@@ -1,9 +1,10 @@
 -- A new endpoint's queue head and inactive qTD are lent.
 use Rattle.std.proofs.Common.{◌≡◌, ◌≢◌, ℕ, ◌+◌, ◌*◌, ◌/◌, ◌≤◌, ◌⊎◌, Bool, List, Option, Some, None, ap, refl, sym, subst, ◌∙◌, ⊎_elim, inl, inr, arith}
+use Rattle.law_structures.proofs.Common.{kept_no_lent}
+use Rattle.law_common.proofs.Booleans.{both_true}
 use Rattle.word_mem.specs.Runs.{Run, AreApart}
 use Rattle.word_mem.specs.Memory.{Mem, IsShaped, AreAll, state_at, reaches}
 use Rattle.word_mem.specs.Views.{words_in}
-use Rattle.word_mem.specs.declared.blocks.BlockState.{BlockState}
 use Rattle.word_mem.specs.declared.blocks.BlockState.TheVariants.{Kept, Lent}
 use Rattle.op_registers.specs.RegisterFile.{RegisterFile}
 use Rattle.qh_qtd.specs.declared.queue_head.Qh.{Qh}
@@ -20,7 +21,7 @@ use Rattle.claims_driver.specs.Leaving.{HasOwners}
 use Rattle.law_driver.proofs.lemmas.ring_members.Freed.{lent_words}
 use Rattle.law_structures.specs.lent_structures.Structures.{Structure, QueueHead, Element, HoldsQueueHead, HoldsElement, StructureSets, put, Has}
 use Rattle.law_structures.proofs.lemmas.lent_structures.Names.{put_else, put_found}
-use Rattle.law_structures.proofs.lemmas.lent_structures.Standing.{both_true, reaches_if}
+use Rattle.law_structures.proofs.lemmas.lent_structures.Standing.{reaches_if}
 use Rattle.law_structures.proofs.lemmas.lent_structures.Telling.{told_lent}
 use Rattle.law_structures.specs.lent_structures.Sound.{IsMember}
 use Rattle.law_ring.specs.Hand.{Hand}
@@ -87,9 +88,6 @@ two_runs d m e x q opened has stands =
       dummy_kept = keeps_all h x.dummy s stands opened.dummy_kept.is;
       apart = kept_apart h x.queue x.dummy r s stands (differ d m e x q opened has) opened.queue_kept.is opened.dummy_kept.is;
     }
-
-kept_no_lent : (o : Option BlockState) → o ≡ Some Kept → o ≡ Some Lent → ⊥
-kept_no_lent o kept lent = cc
 
 -- ---- both stand in memory
 

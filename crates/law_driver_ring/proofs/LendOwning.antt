@@ -1,12 +1,13 @@
 -- The inventory with the two structures of a new endpoint.
-use Rattle.std.proofs.Common.{◌≡◌, ◌≢◌, ℕ, zero, suc, ◌*◌, List, [], ◌∷◌, Option, Some, None, option_map, ap, refl, sym, subst, ◌∙◌, ⊎_elim, inl, inr, arith}
+use Rattle.std.proofs.Common.{◌≡◌, ◌≢◌, ℕ, zero, suc, ◌*◌, List, [], ◌∷◌, Option, Some, None, option_map, ap, refl, sym, subst, ◌∙◌, ⊎_elim, arith}
 use Rattle.std.specs.List.{AllByRecursion}
 use Rattle.std.proofs.lemmas.Bool.{cases_eq}
 use Rattle.std.proofs.lemmas.Option.{same_Some}
+use Rattle.law_driver_ring.proofs.Common.{piece_on}
 use Rattle.mem_runs.specs.declared.slots.Slot.{Slot}
 use Rattle.qh_qtd.specs.declared.queue_head.Qh.{Qh}
 use Rattle.drv_table.specs.Words.{head_block, dummy_qtd}
-use Rattle.claims_driver.specs.Owners.{Owner, FrameList, Head, QueueHead, Dummy, Element, Buffer, Described, IsPlaced, ArePieces, EndpointRuns, TransferRuns, NoteRuns, Views, AreOwned, IsPieceOf, IsQueueIn}
+use Rattle.claims_driver.specs.Owners.{Owner, FrameList, Head, QueueHead, Dummy, Element, Buffer, Described, IsPlaced, ArePieces, EndpointRuns, TransferRuns, NoteRuns, Views, AreOwned, IsQueueIn}
 use Rattle.law_structures.specs.lent_structures.Structures.{Structure, QueueHead as QueueHeadOf, Element as ElementOf, StructureSets, put}
 use Rattle.law_structures.proofs.lemmas.lent_structures.Names.{put_same, put_else, put_beside, put_found}
 use Rattle.law_driver_ring.specs.Inventory.{Sort, sort_of, sorts_of, OfQueueHead, OfElement, IsLent, IsBufferTold, AreTold, IsTransferIn, IsDriverOwned, the_list, the_head, a_queue, a_dummy, a_piece, a_buffer, IsDriven}
@@ -144,11 +145,6 @@ transfer_back v w owner e x t y z two is = record { here = sym (two.transfers t)
 
 transfer_on : (v w : Views) (owner : ℕ → Owner) (e : ℕ) (x : EndpointRuns) (t : ℕ) (y : TransferRuns) (z : EndpointRuns) → TwoLent v w owner e x → IsTransferIn v t y z → IsTransferIn w t y z
 transfer_on v w owner e x t y z two is = record { here = two.transfers t ∙ is.here; held = is.held; qtds = is.qtds; queue = queue_on v w owner e x y.endpoint z two is.queue }
-
-piece_on : (note other : ℕ → NoteRuns) (b n c : ℕ) → ((k : ℕ) → other k ≡ note k) → IsPieceOf note b n c → IsPieceOf other b n c
-piece_on note other b zero c same is = is
-piece_on note other b (suc n) c same (inl is) = inl is
-piece_on note other b (suc n) c same (inr is) = inr (subst (λ (k : ℕ). IsPieceOf other k n c) (ap (λ (r : NoteRuns). r.next) (sym (same b))) (piece_on note other (note b).next n c same is))
 
 -- qTDs and buffers of transfers stand elsewhere
 buffer_on : (v w : Views) (owner : ℕ → Owner) (e : ℕ) (x : EndpointRuns) (parts : StructureSets) (q : Qh) (k t : ℕ) (cs : List ℕ) → TwoLent v w owner e x → AllByRecursion (λ c. IsPlaced v.slot owner c (Buffer t)) cs → IsBufferTold v.slot (sorts_of parts k) cs → IsBufferTold w.slot (sorts_of (opened_parts parts x q) k) cs

@@ -1,20 +1,17 @@
 -- What a lend leaves of what was Lent.
-use Rattle.std.proofs.Common.{◌≡◌, ◌≢◌, ℕ, ◌+◌, ◌/◌, ◌≤◌, reverse, List, [], ◌∷◌, length, set, ap, refl, sym, ◌∙◌, ⊎_elim, arith}
-use Rattle.std.proofs.lemmas.Bool.{cases_eq}
-use Rattle.std.proofs.lemmas.List.{get_or-set_same, get_or-set_other}
+use Rattle.std.proofs.Common.{◌≡◌, ℕ, ◌+◌, ◌/◌, ◌≤◌, reverse, List, [], ◌∷◌, length, ap, refl, ◌∙◌, arith}
+use Rattle.law_driver_ring.proofs.Common.{kept_before}
+use Rattle.law_driver_ring.proofs.Common.{leaves_itself}
 use Rattle.word_mem.specs.Runs.{Run}
 use Rattle.word_mem.specs.Memory.{Mem, IsShaped, is_lent, with_states}
 use Rattle.word_mem.specs.declared.blocks.BlockState.TheVariants.{Kept, Lent}
 use Rattle.word_mem.proofs.Frames.{run_within, shaped_states, lent_if_reached}
 use Rattle.mem_runs.specs.declared.slots.Slot.{Slot}
-use Rattle.mem_runs.specs.declared.slots.Slot.TheVariants.{Empty, Keeps, Lends}
+use Rattle.mem_runs.specs.declared.slots.Slot.TheVariants.{Keeps}
 use Rattle.mem_runs.specs.Book.{Holding, slot_of, slot_at, lend_slot, lend_runs, none_taken, lend_taken, Stands}
-use Rattle.mem_runs.proofs.Standing.{keeps_within, keeps_at, keeps_all}
+use Rattle.mem_runs.proofs.Standing.{keeps_at, keeps_all}
 use Rattle.law_structures.specs.lent_structures.Changes.{Leaves}
 use Rattle.law_structures.proofs.lemmas.lent_structures.Lending.{lend_leaves}
-
-pub leaves_itself : (m : Mem) → IsShaped m → Leaves m m
-leaves_itself m shape = record { shape = shape; lent = λ b lent. lent; words = λ other reached. refl }
 
 pub leaves_both : (m n o : Mem) → Leaves m n → Leaves n o → Leaves m o
 leaves_both m n o one two = record {
@@ -33,16 +30,6 @@ stands_within h stands shape = record {
   shape = shape;
   each = λ b r is. run_within h.memory Kept r (keeps_all h b r stands is) (keeps_at h b r stands is).1;
 }
-
--- where a run was lent no other is kept than before
-keeps_apart : (r s : Run) → Lends r ≡ Keeps s → ⊥
-keeps_apart r s same = cc
-
-kept_before : (slots : List Slot) (b c : ℕ) (r s : Run) → slot_of slots b ≡ Keeps r → slot_of (set slots b (Lends r)) c ≡ Keeps s → slot_of slots c ≡ Keeps s
-kept_before slots b c r s here there =
-    ⊎_elim (λ (same : c ≡ b).
-    absurd (keeps_apart r s (sym (get_or-set_same slots b (Lends r) Empty (keeps_within slots b r here)) ∙ ap (slot_of (set slots b (Lends r))) (sym same) ∙ there)))
-    (λ (differs : c ≢ b). sym (get_or-set_other slots b c (Lends r) Empty differs) ∙ there) (cases_eq c b)
 
 -- one run
 pub record LendsOn (h g : Holding) : Type 0 where

@@ -50,3 +50,4 @@ pub mod ReleaseOwning
 pub mod Releasing
 pub mod Extending
 pub mod Following
+pub mod Common

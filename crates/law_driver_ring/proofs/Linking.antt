@@ -1,10 +1,10 @@
 -- The walk meets a new endpoint's queue head.
-use Rattle.std.proofs.Common.{◌≡◌, ◌≢◌, ℕ, ◌+◌, ◌*◌, ◌⊎◌, Bool, true, false, ◌||◌, ◌==◌, List, Option, Some, None, ap, refl, sym, subst, ◌∙◌, ⊎_elim, inl, inr, arith}
-use Rattle.std.proofs.lemmas.Bool.{eq-eqb, eqb-true, true≢false}
+use Rattle.std.proofs.Common.{◌≡◌, ◌≢◌, ℕ, ◌+◌, ◌*◌, Bool, true, false, ◌||◌, ◌==◌, List, Some, ap, refl, sym, subst, ◌∙◌, ⊎_elim, arith}
+use Rattle.std.proofs.lemmas.Bool.{eqb-true, true≢false}
+use Rattle.law_driver_ring.proofs.Common.{found_one, one_element, new_on}
 use Rattle.usb_base.specs.declared.endpoints.EpDesc.{EpDesc}
 use Rattle.link_words.specs.Layout.{word_of}
 use Rattle.link_words.specs.Fields.{link_rows}
-use Rattle.qh_qtd.specs.declared.qtd.Qtd.{Qtd}
 use Rattle.qh_qtd.specs.declared.queue_head.Qh.{Qh}
 use Rattle.qh_qtd.specs.QueueHead.{IsQhInRange}
 use Rattle.async_walk.specs.Rows.{place}
@@ -12,40 +12,17 @@ use Rattle.mem_runs.specs.Book.{store}
 use Rattle.drv_table.specs.Words.{head_block, to_queue_head, queue_head_link, queue_head, dummy_qtd}
 use Rattle.drv_table.specs.Commands.{advance}
 use Rattle.claims_driver.specs.Owners.{EndpointRuns}
-use Rattle.law_structures.specs.lent_structures.Structures.{Structure, QueueHead, Element, Buffer, Structures, with_structure, put}
+use Rattle.law_structures.specs.lent_structures.Structures.{QueueHead, Element, Buffer, Structures, with_structure, put}
 use Rattle.law_structures.proofs.lemmas.lent_structures.Names.{with_here, with_there}
 use Rattle.law_structures.specs.lent_structures.Sound.{LeadsAmong, IsSoundElement, IsMember}
 use Rattle.law_structures.proofs.lemmas.lent_structures.Altering.{found_queue}
 use Rattle.law_ring.specs.Stores.{hand_linked, IsWider}
-use Rattle.law_ring.proofs.Parting.{found_with}
 use Rattle.law_driver_ring.specs.Driven.{DrivesRing}
 use Rattle.law_driver_ring.proofs.Storing.{link_store_drives}
 use Rattle.law_driver_ring.proofs.Viewing.{advance_views}
 use Rattle.law_driver_ring.specs.Linked.{no_part, opened_part, with_member, head_at, LinkOpensDrives}
 
 -- ---- its part
-
--- what is found is one of the two
-found_one : (x : EndpointRuns) (q : Qh) (a : ℕ) (s : Structure) → opened_part x q a ≡ Some s → (Element dummy_qtd ≡ s) ⊎ (QueueHead q ≡ s)
-found_one x q a s found =
-    let one = with_structure no_part (32 * x.queue) (QueueHead q) in
-    ⊎_elim (λ (new : (a ≡ 32 * x.dummy) × (Element dummy_qtd ≡ s)). inl new.1)
-    (λ (old : (a ≢ 32 * x.dummy) × (one a ≡ Some s)).
-    ⊎_elim (λ (head : (a ≡ 32 * x.queue) × (QueueHead q ≡ s)). inr head.1)
-    (λ (none : (a ≢ 32 * x.queue) × (no_part a ≡ Some s)). absurd (nothing s none.1)) (found_with no_part (32 * x.queue) a (QueueHead q) s old.1))
-    (found_with one (32 * x.dummy) a (Element dummy_qtd) s found)
-  where
-    nothing : (s : Structure) → ◌≡◌ {A = Option Structure} None (Some s) → ⊥
-    nothing s none = cc
-
-one_element : (x : EndpointRuns) (q : Qh) (a : ℕ) (t : Qtd) → opened_part x q a ≡ Some (Element t) → dummy_qtd ≡ t
-one_element x q a t found = ⊎_elim (λ (same : Element dummy_qtd ≡ Element t). equal t same) (λ (head : QueueHead q ≡ Element t). absurd (never t head)) (found_one x q a (Element t) found)
-  where
-    equal : (t : Qtd) → Element dummy_qtd ≡ Element t → dummy_qtd ≡ t
-    equal t same = cc
-
-    never : (t : Qtd) → QueueHead q ≡ Element t → ⊥
-    never t same = cc
 
 no_buffer : (x : EndpointRuns) (q : Qh) (a : ℕ) (pages : List ℕ) (k : ℕ) (bs : List ℕ) → opened_part x q a ≡ Some (Buffer pages k bs) → ⊥
 no_buffer x q a pages k bs found =
@@ -93,9 +70,6 @@ newly member n i on off = eqb-true i n (by_test (i == n) on)
     by_test : (b : Bool) → (b || member i) ≡ true → b ≡ true
     by_test true is = refl
     by_test false is = absurd (true≢false (sym is ∙ off))
-
-new_on : (member : ℕ → Bool) (n : ℕ) → with_member member n n ≡ true
-new_on member n = ap (λ (b : Bool). b || member n) (eq-eqb n n refl)
 
 pub link_range : (q : Qh) (b : ℕ) → IsQhInRange q → IsQhInRange (record q { link = to_queue_head b })
 link_range q b range = ((omega arith, (omega arith, tt)), range.1)

@@ -1,5 +1,6 @@
 -- What accepted commands leave, by their reasons.
 use Rattle.std.proofs.Common.{◌≡◌, ℕ, ◌-◌, List, [], ◌∷◌, length, take, drop, get_or, option_map, ap, sym, subst, ◌∙◌}
+use Rattle.law_common.proofs.Lists.{drop_first}
 use Rattle.word_mem.specs.Memory.{Mem, IsShaped}
 use Rattle.mem_runs.specs.Book.{holding, Stands}
 use Rattle.drv_table.specs.DriverContent.{DriverContent}
@@ -10,7 +11,6 @@ use Rattle.law_driver.specs.run_owners.Accepts.{Opens, Transfers}
 use Rattle.claims_driver.specs.Owners.{runs_of_endpoint}
 use Rattle.claims_driver.specs.Leaving.{HasOwners}
 use Rattle.law_driver.proofs.lemmas.run_owners.Taking.{runs_taken}
-use Rattle.law_driver.proofs.lemmas.run_owners.Accepted.{drop_first}
 use Rattle.law_driver.proofs.lemmas.run_owners.Transferred.{goes_on_alive}
 use Rattle.law_driver.proofs.lemmas.ring_members.Placed.{has_queue}
 use Rattle.law_structures.specs.lent_structures.Changes.{Leaves}

@@ -1,6 +1,8 @@
 -- An endpoint of the ring is opened, or cancelled: the inventory stays.
-use Rattle.std.proofs.Common.{◌≡◌, ◌≢◌, ℕ, zero, suc, ◌*◌, ◌<◌, ◌⊎◌, true, List, [], ◌∷◌, ◌++◌, length, get_or, slice_get, Option, Some, None, option_map, Ok, ap, refl, sym, subst, ◌∙◌, ⊎_elim, inl, inr, arith}
+use Rattle.std.proofs.Common.{◌≡◌, ◌≢◌, ℕ, zero, suc, ◌*◌, ◌<◌, ◌⊎◌, true, List, [], ◌∷◌, length, get_or, slice_get, Option, Some, None, option_map, Ok, ap, refl, sym, subst, ◌∙◌, ⊎_elim, arith}
 use Rattle.std.proofs.lemmas.Option.{same_Some}
+use Rattle.law_driver_ring.proofs.Common.{piece_on}
+use Rattle.law_common.proofs.Lists.{pushed_there}
 use Rattle.usb_base.specs.declared.endpoints.EpDesc.{EpDesc}
 use Rattle.word_mem.specs.Memory.{Mem}
 use Rattle.mem_runs.specs.declared.slots.Slot.{Slot}
@@ -11,7 +13,7 @@ use Rattle.drv_table.specs.DriverContent.{DriverContent}
 use Rattle.drv_table.specs.Offers.{new_endpoint, accepted_open}
 use Rattle.drv_table.specs.Accepting.{take_runs}
 use Rattle.drv_table.specs.CancelOffers.{accepted_cancel, first_end}
-use Rattle.claims_driver.specs.Owners.{EndpointRuns, TransferRuns, NoteRuns, Views, runs_of_endpoint, runs_of_transfer, transfer_in, views_of, IsPieceOf, IsQueueIn}
+use Rattle.claims_driver.specs.Owners.{EndpointRuns, TransferRuns, NoteRuns, Views, runs_of_endpoint, runs_of_transfer, transfer_in, views_of, IsQueueIn}
 use Rattle.claims_driver.specs.Leaving.{HasOwners}
 use Rattle.law_driver.proofs.lemmas.run_owners.Taking.{AreTaken}
 use Rattle.law_driver.proofs.lemmas.run_owners.Accepted.{push_case}
@@ -35,11 +37,6 @@ told_on v w sorts b (suc n) takes notes told = (
   },
   subst (λ (x : NoteRuns). AreTold w sorts x.next n) (sym (notes b)) (told_on v w sorts (v.note b).next n takes notes told.1),
 )
-
-piece_on : (note other : ℕ → NoteRuns) (b n c : ℕ) → ((k : ℕ) → other k ≡ note k) → IsPieceOf note b n c → IsPieceOf other b n c
-piece_on note other b zero c same is = is
-piece_on note other b (suc n) c same (inl is) = inl is
-piece_on note other b (suc n) c same (inr is) = inr (subst (λ (k : ℕ). IsPieceOf other k n c) (ap (λ (x : NoteRuns). x.next) (sym (same b))) (piece_on note other (note b).next n c same is))
 
 -- ---- one endpoint more
 
@@ -105,11 +102,6 @@ driven_more v w y count sorts more k = record {
 
 -- ---- an open
 
-pub pushed_old : {X Y : Type 0} (f : X → Y) (xs : List X) (y : X) (i : ℕ) (z : Y) → option_map f (slice_get xs i) ≡ Some z → option_map f (slice_get (xs ++ y ∷ []) i) ≡ Some z
-pushed_old f [] y i z there = absurd (cc)
-pushed_old f (x ∷ xs) y zero z there = there
-pushed_old f (x ∷ xs) y (suc i) z there = pushed_old f xs y i z there
-
 -- the transfer of a view
 transfer_there : (ts : List Transfer) (t : ℕ) (z : TransferRuns) (n : ℕ) → ((i : ℕ) (u : Transfer) → slice_get ts i ≡ Some u → u.endpoint < n) → transfer_in ts t ≡ Some z → z.endpoint < n
 transfer_there ts t z n low there = by_item (slice_get ts t) refl there
@@ -125,7 +117,7 @@ open_one_more d m x g bs has runs taken =
     let y = new_endpoint x (get_or bs 0 0) (get_or bs 1 0) in
     record {
       takes = takes_on (holding d.book m) g (2 ∷ 1 ∷ []) bs runs taken;
-      old = λ e z there. pushed_old runs_of_endpoint d.endpoints y e z there;
+      old = λ e z there. pushed_there runs_of_endpoint d.endpoints y e z there;
       endpoints = λ e z there. push_case runs_of_endpoint d.endpoints y e z there;
       queue = λ lent. new_not_lent 0 runs taken (omega (arith, two)) lent;
       dummy = λ lent. new_not_lent 1 runs taken two lent;

@@ -1,6 +1,7 @@
 -- What an accepted command leaves of what was Lent: it takes runs and writes in them.
-use Rattle.std.proofs.Common.{◌≡◌, ◌≢◌, ℕ, zero, suc, ◌+◌, ◌-◌, ◌*◌, ◌/◌, ◌<◌, ◌≤◌, Bool, true, false, List, [], ◌∷◌, length, take, drop, set, get_or, slice_index, replicate, nat_eq, if◌then◌else◌, ap, refl, sym, subst, ◌∙◌, arith}
+use Rattle.std.proofs.Common.{◌≡◌, ◌≢◌, ℕ, suc, ◌+◌, ◌-◌, ◌*◌, ◌/◌, ◌<◌, ◌≤◌, Bool, true, false, List, [], ◌∷◌, length, take, drop, set, get_or, slice_index, replicate, nat_eq, if◌then◌else◌, ap, refl, sym, subst, ◌∙◌, arith}
 use Rattle.std.proofs.lemmas.List.{get_or-set_same, length-set, length-append, length-replicate, get_or-take}
+use Rattle.law_common.proofs.Lists.{shift}
 use Rattle.usb_base.specs.declared.endpoints.EpDesc.{EpDesc}
 use Rattle.word_mem.specs.Memory.{Mem, IsShaped, with_word}
 use Rattle.qh_qtd.specs.Qtd.{qtd_words}
@@ -71,15 +72,6 @@ open_leaves d m x g bs stands shape taken =
     ∙ ap (λ ws. slice_index ws (other / 4)) taken.words)
 
 -- ---- a transfer that receives
-
-next_of : (qtds : List ℕ) (i : ℕ) → get_or (get_or qtds 0 0 ∷ drop 1 qtds) i 0 ≡ get_or qtds i 0
-next_of [] zero = refl
-next_of [] (suc i) = refl
-next_of (q ∷ qtds) zero = refl
-next_of (q ∷ qtds) (suc i) = refl
-
-shift : (b : ℕ) (qtds : List ℕ) (i : ℕ) → get_or (get_or qtds 0 0 ∷ drop 1 qtds) i 0 ≡ get_or (b ∷ qtds) (suc i) 0
-shift b qtds i = next_of qtds i
 
 -- none of its qTDs begins in block c
 qtds_apart : (c : ℕ) (notes : List QtdNote) (ss : List Stage) (b : ℕ) (qtds runs : List ℕ) → ((i : ℕ) → i < length ss → get_or (b ∷ qtds) i 0 ≢ c) → ((i : ℕ) → i < length ss → get_or (b ∷ qtds) i 0 < length notes) → ((i j : ℕ) → i < j → j < length ss → get_or (b ∷ qtds) j 0 ≢ get_or (b ∷ qtds) i 0) → AreNotAt (note_stages notes ss b qtds runs) c b (length ss)

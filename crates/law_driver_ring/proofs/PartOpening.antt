@@ -3,6 +3,7 @@ use Rattle.std.proofs.Common.{◌≡◌, ◌≢◌, ℕ, ◌+◌, ◌*◌, ◌/�
 use Rattle.std.proofs.lemmas.Bool.{eqb-true, true≢false}
 use Rattle.std.proofs.lemmas.Option.{same_Some}
 use Rattle.std.proofs.lemmas.List.{length-replicate}
+use Rattle.law_common.proofs.Booleans.{both_true}
 use Rattle.word_mem.specs.Memory.{Mem, IsShaped, reaches, is_lent, fresh, AreAll, with_states}
 use Rattle.word_mem.specs.Views.{words_in, with_words_in}
 use Rattle.word_mem.specs.declared.blocks.BlockState.TheVariants.{Free, Lent}
@@ -20,7 +21,6 @@ use Rattle.claims_driver.specs.Owners.{EndpointRuns, Views, views_of, IsQueueIn}
 use Rattle.law_structures.specs.lent_structures.Structures.{Structure, QueueHead, Element, Table, HoldsQueueHead, HoldsTable, Structures, with_structure, Has, Tells}
 use Rattle.law_structures.proofs.lemmas.lent_structures.Names.{put_found}
 use Rattle.law_structures.proofs.lemmas.lent_structures.Telling.{another_is_told}
-use Rattle.law_structures.proofs.lemmas.lent_structures.Standing.{both_true}
 use Rattle.law_structures.specs.lent_structures.Sound.{IsMember}
 use Rattle.law_ring.specs.Hand.{Empty}
 use Rattle.law_ring.specs.Ring.{IsRing}

@@ -1,6 +1,7 @@
 -- What the structures of a transfer are to one another: their links lead on, each has its buffer, and no two have one.
 use Rattle.std.proofs.Common.{◌≡◌, ◌≢◌, ℕ, zero, suc, ◌*◌, ◌<◌, ◌≤◌, ◌⊎◌, Bool, List, [], ◌∷◌, ◌++◌, length, take, get_or, Some, ap, refl, sym, subst, ◌∙◌, ⊎_elim, inl, inr, arith}
 use Rattle.std.proofs.lemmas.Bool.{cases_lt, true≢false}
+use Rattle.law_structures.proofs.Common.{element_is}
 use Rattle.word_mem.specs.Memory.{Mem}
 use Rattle.mem_bytes.specs.Bytes.{bytes_at}
 use Rattle.mem_bytes.proofs.Loads.{length-bytes_at}
@@ -92,9 +93,6 @@ stage_sound part notes s b dummy last next end buffer = record {
 
 dummy_sound : (part : Structures) → IsSoundElement part dummy_qtd
 dummy_sound part = record { next = tt; alternate = tt; work = λ on. absurd (true≢false (sym on)) }
-
-pub element_is : (t u : Qtd) → Element t ≡ Element u → t ≡ u
-element_is t u same = cc
 
 pub new_sound : (part : Structures) (notes : List QtdNote) (dummy : ℕ) (ss : List Stage) (b a : ℕ) (t : Qtd) → AreStanding part notes dummy ss b → AreBuffered part notes dummy ss b → IsElement part (32 * dummy) → IsItem (qtd_items notes dummy ss b) a (Element t) → IsSoundElement part t
 new_sound part notes dummy [] b a t stand buffered end (inl here) = subst (IsSoundElement part) (sym (element_is t dummy_qtd here.1)) (dummy_sound part)

@@ -1,10 +1,9 @@
 -- Rows of the driver that store no word, and events of the ring's walk, over a ring that a driver drives.
-use Rattle.std.proofs.Common.{◌≡◌, ℕ, Bool, true, List, ap, refl, sym, ◌∙◌}
+use Rattle.std.proofs.Common.{◌≡◌, ℕ, Bool, true, List, refl, sym}
 use Rattle.std.proofs.lemmas.Bool.{true≢false}
+use Rattle.law_driver_ring.proofs.Common.{cleared_base, rung_same}
 use Rattle.usb_base.specs.declared.packets.Ask.{Ask}
 use Rattle.usb_base.specs.declared.packets.Reply.{Reply}
-use Rattle.op_registers.specs.RegisterFile.{RegisterFile}
-use Rattle.op_registers.specs.Table.{after_write}
 use Rattle.async_walk.specs.declared.state.WalkStep.{WalkStep}
 use Rattle.async_walk.specs.Walk.{Walk}
 use Rattle.async_walk.specs.Rows.{WalkPlace, place}
@@ -12,7 +11,6 @@ use Rattle.drv_table.specs.declared.rows.DriverRow.{DriverRow}
 use Rattle.drv_table.specs.declared.rows.DriverRow.TheVariants as rows
 use Rattle.drv_table.specs.DriverContent.{DriverContent}
 use Rattle.drv_table.specs.Parts.{Parts as DriverParts}
-use Rattle.drv_table.specs.Leaving.{doorbell_command}
 use Rattle.drv_table.specs.Rows.{after_driver_row}
 use Rattle.claims_driver.specs.Owners.{views_of}
 use Rattle.law_structures.specs.lent_structures.Structures.{StructureSets}
@@ -32,25 +30,6 @@ the_walk_leaves_it_driven transacts base member parts hand p d wire after new ki
   ring = h.ring;
   driven = driven_same (views_of d) parts h.now (effect_same transacts base member parts hand p wire after h.now h.later kind k.ring h.effect) k.driven;
 }
-
--- ---- registers
-
--- USBCMD is written as it was, but for the doorbell; a write of USBSTS changes none of it
-rung_base : (r : RegisterFile) → base_of (after_write r 0x00 doorbell_command) ≡ record { run = true; async_enable = true; async_list_address = r.async_list_address; periodic_enable = true; periodic_list_base = r.periodic_list_base }
-rung_base r = refl
-
-cleared_base : (r : RegisterFile) → base_of (after_write r 0x04 0x20) ≡ base_of r
-cleared_base r = refl
-
-rung_same : (base : Base) (r : RegisterFile) → IsOperating base → base_of r ≡ base → base_of (after_write r 0x00 doorbell_command) ≡ base_of r
-rung_same base r on same =
-    let run : r.run ≡ true = ap (λ (b : Base). b.run) same ∙ on.run in
-    let async : r.async_enable ≡ true = ap (λ (b : Base). b.async_enable) same ∙ on.async_enable in
-    let periodic : r.periodic_enable ≡ true = ap (λ (b : Base). b.periodic_enable) same ∙ on.periodic_enable in
-    rung_base r
-    ∙ sym (ap (λ (x : Bool). record { run = x; async_enable = r.async_enable; async_list_address = r.async_list_address; periodic_enable = r.periodic_enable; periodic_list_base = r.periodic_list_base }) run
-    ∙ ap (λ (x : Bool). record { run = true; async_enable = x; async_list_address = r.async_list_address; periodic_enable = r.periodic_enable; periodic_list_base = r.periodic_list_base }) async
-    ∙ ap (λ (x : Bool). record { run = true; async_enable = true; async_list_address = r.async_list_address; periodic_enable = x; periodic_list_base = r.periodic_list_base }) periodic)
 
 -- ---- a row
 

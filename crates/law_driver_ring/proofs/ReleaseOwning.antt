@@ -3,17 +3,18 @@ use Rattle.std.proofs.Common.{◌≡◌, ◌≢◌, ℕ, zero, suc, ◌*◌, Boo
 use Rattle.std.specs.List.{AllByRecursion}
 use Rattle.std.proofs.lemmas.Bool.{true≢false}
 use Rattle.std.proofs.lemmas.Option.{same_Some}
+use Rattle.law_common.proofs.Numbers.{other_number}
+use Rattle.law_driver_ring.proofs.Common.{piece_among}
 use Rattle.mem_runs.specs.declared.slots.Slot.{Slot}
 use Rattle.drv_table.specs.Words.{head_block}
 use Rattle.claims_driver.specs.Owners.{Owner, Element, Buffer, SlotHas, IsPlaced, ArePieces, EndpointRuns, TransferRuns, NoteRuns, Views, AreOwned, IsPieceOf, IsQueueIn, IsOneOf}
 use Rattle.law_structures.specs.lent_structures.Structures.{Structure, Buffer as BufferOf, Table, StructureSets}
-use Rattle.law_structures.proofs.lemmas.lent_structures.Names.{not_same}
 use Rattle.law_ring.specs.Fewer.{without_those}
 use Rattle.law_ring.proofs.Returning.{those_found, those_stay, those_else}
 use Rattle.law_driver_ring.specs.Inventory.{Sort, sort_of, sorts_of, IsLent, IsBufferTold, AreTold, IsTransferIn, IsDriverOwned, the_list, the_head, a_queue, a_dummy, a_piece, a_buffer, IsDriven}
 use Rattle.law_driver_ring.specs.Extents.{AreInRuns}
 use Rattle.law_driver_ring.specs.Released.{blocks_of, names_one}
-use Rattle.law_driver_ring.proofs.Blocks.{all_one, all_mine, none_mine, mine, is_named, is_not_named, piece_among, buffer_among, placed_buffer}
+use Rattle.law_driver_ring.proofs.Blocks.{all_one, all_mine, none_mine, mine, is_named, is_not_named, buffer_among, placed_buffer}
 
 -- views before and after
 pub record TransferGoes (v w : Views) (owner : ℕ → Owner) (t : ℕ) (y : TransferRuns) (x : EndpointRuns) : Type 0 where
@@ -89,13 +90,13 @@ module _ (v w : Views) (owner : ℕ → Owner) (t : ℕ) (y : TransferRuns) (x :
 
   buffer_told : (u n : ℕ) (cs : List ℕ) → u ≢ t → AllByRecursion (λ c. IsPlaced v.slot owner c (Buffer u)) cs → IsBufferTold v.slot (sorts_of parts n) cs → IsBufferTold w.slot (sorts_of now n) cs
   buffer_told u n [] differs placed told = tt
-  buffer_told u n (c ∷ cs) differs placed told = λ lent. same_sort n c (off_by c (Buffer u) placed.0 (not_same u t differs)) ∙ told (k.slots c lent)
+  buffer_told u n (c ∷ cs) differs placed told = λ lent. same_sort n c (off_by c (Buffer u) placed.0 (other_number u t differs)) ∙ told (k.slots c lent)
 
   are_told : (u n b m : ℕ) → u ≢ t → ArePieces v.slot owner v.note u b m → AreTold v (sorts_of parts n) b m → AreTold w (sorts_of now n) b m
   are_told u n b zero differs pieces told = tt
   are_told u n b (suc m) differs pieces told = (
     record {
-      element = λ lent. same_sort n b (off_by b (Element u) pieces.0.element (not_same u t differs)) ∙ told.0.element (k.slots b lent);
+      element = λ lent. same_sort n b (off_by b (Element u) pieces.0.element (other_number u t differs)) ∙ told.0.element (k.slots b lent);
       buffer = subst (λ (r : NoteRuns). IsBufferTold w.slot (sorts_of now n) r.buffer) (sym (k.notes b)) (buffer_told u n (v.note b).buffer differs pieces.0.buffers told.0.buffer);
     },
     subst (λ (r : NoteRuns). AreTold w (sorts_of now n) r.next m) (sym (k.notes b)) (are_told u n (v.note b).next m differs pieces.1 told.1),
@@ -118,11 +119,11 @@ module _ (v w : Views) (owner : ℕ → Owner) (t : ℕ) (y : TransferRuns) (x :
   owned_on _ _ _ (a_piece u b z e is piece lent) stay =
       let differs : u ≢ t = other_one u z e b is (λ mine_too one. piece_among v.note y.first y.qtds b (subst (λ (r : TransferRuns). IsPieceOf v.note r.first r.qtds b) one piece)) stay in
       let placed = (placed_buffer v.slot owner v.note u z.first z.qtds b (k.owned.pieces u z is.here is.held) piece).0 in
-      a_piece u b z e (transfer_on u z e differs is) (piece_on z.first z.qtds b piece) (lent_on b (off_by b (Element u) placed (not_same u t differs)) lent)
+      a_piece u b z e (transfer_on u z e differs is) (piece_on z.first z.qtds b piece) (lent_on b (off_by b (Element u) placed (other_number u t differs)) lent)
   owned_on _ _ _ (a_buffer u b c cs z e is piece first lent) stay =
       let differs : u ≢ t = other_one u z e c is (λ mine_too one. buffer_among v.note y.first y.qtds b c cs (subst (λ (r : TransferRuns). IsPieceOf v.note r.first r.qtds b) one piece) first) stay in
       let placed = subst (AllByRecursion (λ i. IsPlaced v.slot owner i (Buffer u))) first (placed_buffer v.slot owner v.note u z.first z.qtds b (k.owned.pieces u z is.here is.held) piece).1 in
-      a_buffer u b c cs z e (transfer_on u z e differs is) (piece_on z.first z.qtds b piece) (ap (λ (r : NoteRuns). r.buffer) (k.notes b) ∙ first) (lent_on c (off_by c (Buffer u) placed.0 (not_same u t differs)) lent)
+      a_buffer u b c cs z e (transfer_on u z e differs is) (piece_on z.first z.qtds b piece) (ap (λ (r : NoteRuns). r.buffer) (k.notes b) ∙ first) (lent_on c (off_by c (Buffer u) placed.0 (other_number u t differs)) lent)
 
   only_on : IsDriven v (sorts_of parts) → (n a : ℕ) (s : Sort) → sorts_of now n a ≡ Some s → IsDriverOwned w n a s
   only_on driven n a s found = by_case (now n a) refl found
@@ -154,6 +155,6 @@ module _ (v w : Views) (owner : ℕ → Owner) (t : ℕ) (y : TransferRuns) (x :
         let old_first : (v.note b).buffer ≡ c ∷ cs = ap (λ (r : NoteRuns). r.buffer) (sym (k.notes b)) ∙ first in
         let inside = lies.buffers u b c cs z e pages j bs was.1 old_piece old_first (those_found parts (32 * x.queue) goes (32 * e.queue) (32 * c) (BufferOf pages j bs) here) i has in
         let placed = subst (AllByRecursion (λ g. IsPlaced v.slot owner g (Buffer u))) old_first (placed_buffer v.slot owner v.note u z.first z.qtds b (k.owned.pieces u z was.1.here was.1.held) old_piece).1 in
-        let off : mine t (owner inside.at) ≡ false = off_by inside.at (Buffer u) (all_one (λ g. IsPlaced v.slot owner g (Buffer u)) (c ∷ cs) inside.at placed inside.among) (not_same u t was.0) in
+        let off : mine t (owner inside.at) ≡ false = off_by inside.at (Buffer u) (all_one (λ g. IsPlaced v.slot owner g (Buffer u)) (c ∷ cs) inside.at placed inside.among) (other_number u t was.0) in
         record { at = inside.at; among = inside.among; has = subst (λ (s : Slot). SlotHas s i) (sym (k.kept inside.at off)) inside.has };
   }

@@ -2,6 +2,7 @@
 use Rattle.std.proofs.Common.{◌≡◌, ◌≢◌, ℕ, ◌*◌, true, false, List, set, Option, Some, option_map, ap, refl, sym, subst, ◌∙◌, ⊎_elim, inl, inr}
 use Rattle.std.proofs.lemmas.Bool.{cases_eq, true≢false}
 use Rattle.std.proofs.lemmas.Option.{same_Some}
+use Rattle.law_common.proofs.Lists.{set_here, set_there}
 use Rattle.word_mem.proofs.Holders.{has_block_from}
 use Rattle.async_walk.specs.Rows.{place}
 use Rattle.mem_runs.specs.Book.{Holding, holding, slot_of, Stands}
@@ -13,7 +14,6 @@ use Rattle.drv_table.specs.Rows.{after_driver_row}
 use Rattle.claims_driver.specs.Owners.{SlotHas, EndpointRuns, TransferRuns, runs_of_transfer, transfer_in, note_in, Views, views_of}
 use Rattle.claims_driver.specs.Leaving.{HasOwners}
 use Rattle.law_driver.proofs.lemmas.run_owners.Apart.{runs_apart}
-use Rattle.law_driver.proofs.lemmas.run_owners.Released.{set_here, set_there}
 use Rattle.law_driver.proofs.lemmas.run_owners.Freeing.{runs_freed}
 use Rattle.law_structures.specs.lent_structures.Structures.{StructureSets, Tells}
 use Rattle.law_ring.specs.Fewer.{without_those}

@@ -1,8 +1,9 @@
 -- A transfer is accepted: its qTDs, the inactive qTD after them and what they send are written in runs that were just taken, so what was Lent stays.
 use Rattle.std.proofs.Common.{◌≡◌, ◌≢◌, ℕ, zero, suc, ◌+◌, ◌-◌, ◌*◌, ◌/◌, ◌<◌, ◌≤◌, Bool, true, false, List, [], ◌∷◌, ◌++◌, length, take, drop, replicate, set, get_or, option_map, slice_index, if◌then◌else◌, ap, refl, sym, subst, ◌∙◌, arith, length-append, length-drop, length-take}
-use Rattle.std.specs.Prelude.{nat_eq, nat_le}
-use Rattle.std.proofs.lemmas.Bool.{leb-true}
 use Rattle.std.proofs.lemmas.List.{get_or-set_same, get_or-take, get_or-drop, get_or_append_left, length-set, length-replicate}
+use Rattle.law_common.proofs.Lists.{shift, drop_first}
+use Rattle.law_common.proofs.Numbers.{other_than}
+use Rattle.law_driver_ring.proofs.Common.{sends_room}
 use Rattle.word_mem.specs.Memory.{Mem, IsShaped, word_at, with_word}
 use Rattle.mem_runs.specs.Book.{Book, Holding, holding, Stands, slot_of, can_store, store, store_words}
 use Rattle.qh_qtd.specs.Qtd.{qtd_words}
@@ -19,7 +20,7 @@ use Rattle.law_driver.specs.run_owners.Accepts.{AreShort, Transfers}
 use Rattle.claims_driver.specs.Leaving.{HasOwners}
 use Rattle.law_driver.proofs.lemmas.run_owners.Runs.{placed_run}
 use Rattle.law_driver.proofs.lemmas.run_owners.Taking.{AreTaken, runs_taken}
-use Rattle.law_driver.proofs.lemmas.run_owners.Accepted.{drop_first, fresh_differs, within_slots}
+use Rattle.law_driver.proofs.lemmas.run_owners.Accepted.{fresh_differs, within_slots}
 use Rattle.law_driver.proofs.lemmas.run_owners.Chains.{notes_apart, few_runs, buffers_of}
 use Rattle.law_driver.proofs.lemmas.run_owners.Transferred.{are_new, goes_on_alive}
 use Rattle.law_driver.proofs.lemmas.ring_members.Placed.{has_queue}
@@ -59,14 +60,6 @@ sent_large k m notes (s ∷ ss) b bytes =
 
 -- ---- how many runs a buffer has
 
-room_by : (n : ℕ) (b : Bool) → nat_le (suc n) 4096 ≡ b → suc n ≤ 4096 * length (if b then pieces (suc n) 32 ∷ [] else replicate (pieces (suc n) 4096) 128)
-room_by n true is = let few = leb-true (suc n) 4096 is in omega (arith, few)
-room_by n false is = let long = length-replicate {A = ℕ} (pieces (suc n) 4096) 128 in omega (arith, long)
-
-has_room : (n : ℕ) → n ≤ 4096 * length (buffer_needs n)
-has_room zero = omega arith
-has_room (suc n) = room_by n (nat_le (suc n) 4096) refl
-
 -- the first entries of a list that is filled up
 filled : (k r : ℕ) (xs : List ℕ) (j : ℕ) → j < r → r ≤ k → r ≤ length xs → get_or (take k (take r xs ++ replicate k 0)) j 0 ≡ get_or xs j 0
 filled k r xs j below few many =
@@ -79,15 +72,6 @@ filled k r xs j below few many =
 abbrev pub AreRunsNotAt : List QtdNote → ℕ → ℕ → List Stage → Type 0
 AreRunsNotAt notes c b [] = Unit {0}
 AreRunsNotAt notes c b (s ∷ ss) = ((j : ℕ) → j < runs_of s → c ≢ get_or (note_at notes b).buffer j 0) × AreRunsNotAt notes c (note_at notes b).next ss
-
-shift : (b : ℕ) (qtds : List ℕ) (i : ℕ) → get_or (get_or qtds 0 0 ∷ drop 1 qtds) i 0 ≡ get_or (b ∷ qtds) (suc i) 0
-shift b [] zero = refl
-shift b [] (suc i) = refl
-shift b (q ∷ qtds) zero = refl
-shift b (q ∷ qtds) (suc i) = refl
-
-other_than : (c a b : ℕ) → a ≡ b → c ≢ b → c ≢ a
-other_than c a b same differs is = differs (is ∙ same)
 
 first_not : (notes : List QtdNote) (c b : ℕ) (ss : List Stage) → (1 ≤ length ss → b ≢ c) → AreNotAt notes c (note_at notes b).next (length (drop 1 ss)) → AreNotAt notes c b (length ss)
 first_not notes c b [] differs more = tt
@@ -131,16 +115,6 @@ bytes_apart k m note bytes i zero r c other apart here not room = refl
 bytes_apart k m note bytes i (suc n) r c other apart here not room =
     bytes_apart k (store k m (get_or note.buffer (i / 4096) 0) (buffer_address note i) (word_from bytes i)) note bytes (i + 4) n r c other apart here not (omega (arith, room))
     ∙ store_elsewhere k m (get_or note.buffer (i / 4096) 0) c (buffer_address note i) (word_from bytes i) other apart (not (i / 4096) (omega (arith, room))) here
-
-sends_few : (s : Stage) → sends s ≤ s.long
-sends_few s = by (nat_eq s.pid 1)
-  where
-    by : (b : Bool) → (if b then 0 else s.long) ≤ s.long
-    by true = omega arith
-    by false = omega arith
-
-sends_room : (s : Stage) → 0 + 4 * pieces (sends s) 4 ≤ 4096 * runs_of s + 3
-sends_room s = let few = sends_few s in let room = has_room s.long in omega (arith, few, room)
 
 sends_apart : (k : Book) (m : Mem) (notes : List QtdNote) (ss : List Stage) (b : ℕ) (bytes : List ℕ) (c other : ℕ) → AreApart k.slots → SlotHas (slot_of k.slots c) (other / 32) → AreRunsNotAt notes c b ss
     → word_at (send_stages k m notes ss b bytes) other ≡ word_at m other

@@ -1,6 +1,7 @@
 -- What keeps the kind of each structure: a structure put in the place of one of its kind, and so each event of the ring's walk.
 use Rattle.std.proofs.Common.{◌≡◌, ◌≢◌, ℕ, zero, suc, ◌*◌, Bool, List, [], ◌∷◌, Option, Some, option_map, ap, refl, sym, subst, ◌∙◌, ⊎_elim}
 use Rattle.std.proofs.lemmas.Bool.{cases_eq}
+use Rattle.law_driver_ring.proofs.Common.{settled_there}
 use Rattle.usb_base.specs.declared.packets.Ask.{Ask}
 use Rattle.usb_base.specs.declared.packets.Reply.{Reply}
 use Rattle.mem_bytes.specs.Bytes.{place}
@@ -18,9 +19,9 @@ use Rattle.law_structures.specs.lent_structures.Changes.{relinked, overwritten}
 use Rattle.law_structures.proofs.lemmas.lent_structures.Names.{names_differ, put_same, put_else, put_beside}
 use Rattle.law_structures.specs.lent_structures.WriteBack.{Received, Nothing, Into, IsReceived, received_parts, qtd_after, parts_back}
 use Rattle.law_structures.proofs.lemmas.lent_structures.WrittenBack.{head_is_no_buffer, element_is_no_buffer, element_is_no_head, received_else}
-use Rattle.law_ring.specs.Hand.{Copy, Settlement, settled_queue_of, Hand, Copied, Settled}
+use Rattle.law_ring.specs.Hand.{Copy, Settlement, settled_queue_of, Hand, Copied}
 use Rattle.claims_base.specs.Controller.{Base}
-use Rattle.law_ring.specs.Ring.{IsCopied, IsSettled, IsInHand, IsRing}
+use Rattle.law_ring.specs.Ring.{IsCopied, IsInHand, IsRing}
 use Rattle.law_ring.specs.Effects.{received_into, Effect, reads, passes, ends, takes, makes, writes_back}
 use Rattle.law_driver_ring.specs.Inventory.{Sort, sort_of, sorts_of, SameSorts, IsBufferTold, AreTold, IsDriven}
 
@@ -63,9 +64,6 @@ back_same parts n a q c count got r t head element received =
 
 copied_there : (base : Base) (member : ℕ → Bool) (parts : StructureSets) (hand : Hand) (p : WalkPlace) (c : Copy) → IsRing base member parts hand p → hand ≡ Copied c → IsCopied member parts c
 copied_there base member parts hand p c k is = subst (IsInHand member parts p.walk.reply) is k.in_hand
-
-settled_there : (base : Base) (member : ℕ → Bool) (parts : StructureSets) (hand : Hand) (p : WalkPlace) (c : Copy) (s : Settlement) → IsRing base member parts hand p → hand ≡ Settled c s → IsCopied member parts c
-settled_there base member parts hand p c s k is = let both : IsCopied member parts c × IsSettled c.queue p.walk.reply s = subst (IsInHand member parts p.walk.reply) is k.in_hand in both.0
 
 settled_current : (c : Copy) (s : Settlement) → (settled_queue_of c s).current ≡ c.queue.current
 unfolding settled_queue

@@ -1,9 +1,9 @@
 -- The controller leaves a transfer that is to be lent.
-use Rattle.std.proofs.Common.{◌≡◌, ℕ, ◌+◌, ◌*◌, ◌/◌, false, List, [], ◌∷◌, Some, ap, ◌∙◌, arith}
+use Rattle.std.proofs.Common.{◌≡◌, ℕ, ◌+◌, ◌*◌, ◌/◌, false, List, [], ◌∷◌, ◌∙◌, arith}
 use Rattle.std.specs.List.{AllByRecursion}
-use Rattle.word_mem.specs.Memory.{Mem, word_at, state_at, is_lent, reaches}
+use Rattle.law_driver_ring.proofs.Common.{not_reached}
+use Rattle.word_mem.specs.Memory.{Mem, word_at, reaches}
 use Rattle.word_mem.specs.Views.{words_at}
-use Rattle.word_mem.specs.declared.blocks.BlockState.TheVariants.{Kept}
 use Rattle.word_mem.proofs.Words.{words_in_same}
 use Rattle.mem_runs.specs.Book.{Holding, holding, slot_of, Stands}
 use Rattle.mem_runs.proofs.Standing.{keeps_at, keeps_all}
@@ -12,9 +12,6 @@ use Rattle.drv_table.specs.declared.content.Stage.{Stage}
 use Rattle.drv_table.specs.Harvests.{note_at}
 use Rattle.law_driver_ring.specs.Written.{IsPageRun, next_blocks, AreWritten}
 use Rattle.law_driver_ring.specs.TransferLaws.{WrittenStays}
-
-not_reached : (m : Mem) (at : ℕ) → state_at m (at / 32) ≡ Some Kept → reaches m at ≡ false
-not_reached m at kept = ap is_lent kept
 
 block_stays : (h : Holding) (new : Mem) (c : ℕ) → Stands h → ((at : ℕ) → reaches h.memory at ≡ false → word_at new at ≡ word_at h.memory at) → IsPageRun (slot_of h.book.slots c) 1 → words_at new (32 * c) 8 ≡ words_at h.memory (32 * c) 8
 block_stays h new c stands same run =

@@ -2,15 +2,16 @@
 use Rattle.std.proofs.Common.{◌≡◌, ◌≢◌, ℕ, zero, suc, ◌<◌, ◌≤◌, List, [], ◌∷◌, length, set, get_or, Option, Some, None, option_map, Result, Ok, Err, ap, refl, sym, subst, ◌∙◌, ⊎_elim, arith}
 use Rattle.std.proofs.lemmas.Bool.{cases_eq, cases_lt}
 use Rattle.std.proofs.lemmas.List.{get_or-set_same, get_or-set_other, set_past}
+use Rattle.law_driver.proofs.Common.{ok_same}
+use Rattle.law_driver_ring.proofs.Common.{lent_has}
 use Rattle.usb_base.specs.declared.reports.OfferError.{OfferError}
 use Rattle.usb_base.specs.declared.reports.OfferError.TheVariants as errors
 use Rattle.word_mem.specs.Runs.{Run}
 use Rattle.word_mem.specs.Free.{longest_run, lowest_run}
 use Rattle.mem_runs.specs.declared.slots.Slot.{Slot}
-use Rattle.mem_runs.specs.declared.slots.Slot.TheVariants.{Empty, Keeps, Lends}
+use Rattle.mem_runs.specs.declared.slots.Slot.TheVariants.{Empty, Keeps}
 use Rattle.mem_runs.specs.Book.{Holding, slot_of, with_run}
 use Rattle.drv_table.specs.Accepting.{take_runs}
-use Rattle.claims_driver.specs.Owners.{HasRun}
 use Rattle.law_driver.proofs.lemmas.run_owners.Taking.{AreTaken}
 use Rattle.law_driver_ring.specs.Inventory.{IsLent}
 
@@ -42,9 +43,6 @@ run_lent h r c lent =
 abbrev then_runs : Holding → ℕ → List ℕ → Option Holding → Result Holding OfferError
 then_runs h n ns o = elim o [ None ↦ Err (errors.NoBlocks n (longest_run h.memory.states)) | Some more ↦ take_runs more ns ]
 
-ok_same : (h g : Holding) → ◌≡◌ {A = Result Holding OfferError} (Ok h) (Ok g) → h ≡ g
-ok_same h g e = cc
-
 first_lent : (h g : Holding) (n : ℕ) (ns : List ℕ) (o : Option Run) (c : ℕ) → ((k : Holding) → take_runs k ns ≡ Ok g → IsLent (slot_of g.book.slots c) → slot_of g.book.slots c ≡ slot_of k.book.slots c) → then_runs h n ns (option_map (with_run h) o) ≡ Ok g → IsLent (slot_of g.book.slots c) → slot_of g.book.slots c ≡ slot_of h.book.slots c
 first_lent h g n ns None c rest e lent = absurd (cc)
 first_lent h g n ns (Some r) c rest e lent =
@@ -60,11 +58,6 @@ lent_before (n ∷ ns) h g c e lent = first_lent h g n ns (lowest_run h.memory.s
 pub record TakesOn (slot now : ℕ → Slot) : Type 0 where
   pub before : (c : ℕ) → IsLent (now c) → now c ≡ slot c
   pub after : (c : ℕ) → IsLent (slot c) → now c ≡ slot c
-
-lent_has : (s : Slot) → IsLent s → HasRun s
-lent_has Empty lent = lent
-lent_has (Keeps r) lent = absurd lent
-lent_has (Lends r) lent = tt
 
 pub takes_on : (h g : Holding) (ns bs : List ℕ) → take_runs h ns ≡ Ok g → AreTaken h g ns bs → TakesOn (slot_of h.book.slots) (slot_of g.book.slots)
 takes_on h g ns bs e taken = record {

@@ -2,16 +2,16 @@
 use Rattle.std.proofs.Common.{◌≡◌, ◌≢◌, ℕ, suc, ◌-◌, ◌*◌, ◌<◌, ◌≤◌, false, ◌||◌, List, [], ◌∷◌, ◌++◌, length, take, drop, get_or, replicate, slice_get, inl, inr, Some, None, option_map, Ok, ap, refl, sym, subst, ◌∙◌, arith}
 use Rattle.std.specs.List.{AllByRecursion}
 use Rattle.std.proofs.lemmas.List.{length-replicate, take-append-drop}
+use Rattle.law_driver.proofs.Common.{last_pushed}
+use Rattle.law_driver_ring.proofs.Common.{lent_slot}
+use Rattle.law_common.proofs.Lists.{drop_first, set_here}
 use Rattle.word_mem.specs.Memory.{Mem, IsShaped}
 use Rattle.word_mem.specs.declared.blocks.BlockState.TheVariants.{Kept}
 use Rattle.word_mem.proofs.Frames.{run_within}
 use Rattle.qh_qtd.specs.Qtd.{qtd_words}
-use Rattle.mem_runs.specs.declared.slots.Slot.{Slot}
-use Rattle.mem_runs.specs.declared.slots.Slot.TheVariants.{Empty}
 use Rattle.mem_runs.specs.Book.{Holding, holding, slot_of, store_words, Stands}
 use Rattle.mem_runs.proofs.Standing.{keeps_at, keeps_all}
 use Rattle.drv_table.specs.declared.content.Endpoint.{Endpoint}
-use Rattle.drv_table.specs.declared.content.Transfer.{Transfer}
 use Rattle.drv_table.specs.declared.content.Stage.{Stage}
 use Rattle.drv_table.specs.DriverContent.{DriverContent}
 use Rattle.drv_table.specs.Words.{dummy_qtd, needs}
@@ -24,11 +24,10 @@ use Rattle.claims_driver.specs.Leaving.{HasOwners}
 use Rattle.law_driver.specs.run_owners.Accepts.{AreShort}
 use Rattle.law_driver.proofs.lemmas.run_owners.Runs.{placed_run}
 use Rattle.law_driver.proofs.lemmas.run_owners.Taking.{AreTaken, runs_taken}
-use Rattle.law_driver.proofs.lemmas.run_owners.Accepted.{drop_first, within_slots, fresh_differs}
+use Rattle.law_driver.proofs.lemmas.run_owners.Accepted.{within_slots, fresh_differs}
 use Rattle.law_driver.proofs.lemmas.run_owners.Chains.{buffers_of}
 use Rattle.law_driver.proofs.lemmas.run_owners.Transferred.{are_new, goes_on_alive}
-use Rattle.law_driver.proofs.lemmas.run_owners.Released.{set_here}
-use Rattle.claims_driver.specs.LentRuns.{AreLent, IsLent as IsLentRun, still_lends}
+use Rattle.claims_driver.specs.LentRuns.{AreLent, still_lends}
 use Rattle.law_driver.proofs.lemmas.lent_runs.Laws.{all_are_lent_between_commands}
 use Rattle.law_driver.proofs.lemmas.ring_members.Placed.{has_queue}
 use Rattle.law_driver.proofs.lemmas.ring_members.Accepted.{shaped_taken}
@@ -44,18 +43,10 @@ use Rattle.law_driver_ring.proofs.Sent.{buffers_not, chain_sent}
 
 -- ---- small facts
 
-last_pushed : (ts : List Transfer) (t : Transfer) → slice_get (ts ++ t ∷ []) (length ts) ≡ Some t
-last_pushed [] t = refl
-last_pushed (u ∷ ts) t = last_pushed ts t
-
 none_zero : (xs : List ℕ) → ((i : ℕ) → i < length xs → get_or xs i 0 ≢ 0) → (c : ℕ) → IsOneOf c xs → c ≢ 0
 none_zero [] each c one = absurd one
 none_zero (x ∷ xs) each c (inl is) = λ same. each 0 (omega arith) (sym is ∙ same)
 none_zero (x ∷ xs) each c (inr there) = none_zero xs (λ i below. each (suc i) (omega (arith, below))) c there
-
-is_lent : (s : Slot) → IsLentRun s → IsLent s
-is_lent Empty lent = lent
-is_lent _ lent = lent
 
 -- each of the blocks has a slot of one block
 blocks_are : (g : Holding) (cs : List ℕ) → Stands g → IsShaped g.memory → AllByRecursion (λ c. IsPageRun (slot_of g.book.slots c) 1) cs → AllByRecursion (IsBlock g.book (length g.memory.words)) cs
@@ -131,7 +122,7 @@ written_with d m number x a g bs s ss stages has lent idle stands shape runs_are
         queue = record { here = ap (option_map runs_of_endpoint) (set_here d.endpoints number x (with_queued x dummy (length d.transfers)) here); queued = alive };
       };
       qtds = ap length stages;
-      first = subst IsLent (sym (taken.old b was_run)) (is_lent (slot_of d.book.slots b)
+      first = subst IsLent (sym (taken.old b was_run)) (lent_slot (slot_of d.book.slots b)
           (all_are_lent_between_commands d b idle lent was_run));
       taken = taken_are;
       apart = apart;

@@ -2,6 +2,7 @@
 use Rattle.std.proofs.Common.{◌≡◌, ◌≢◌, ℕ, zero, suc, ◌<◌, ◌≤◌, List, [], ◌∷◌, ◌++◌, length, take, drop, set, get_or, replicate, ap, refl, sym, subst, ◌∙◌, arith, length-append, length-drop}
 use Rattle.std.proofs.lemmas.List.{get_or-set_same, length-set, take-append-drop}
 use Rattle.std.proofs.lemmas.List.Concat.{flat_map-cons}
+use Rattle.law_common.proofs.Lists.{next_of, filled, shorter}
 use Rattle.mem_runs.specs.declared.slots.Slot.{Slot}
 use Rattle.drv_table.specs.declared.content.QtdNote.{QtdNote}
 use Rattle.drv_table.specs.declared.content.Stage.{Stage}
@@ -15,12 +16,6 @@ use Rattle.law_driver_ring.specs.Written.{AreRuns, next_blocks, buffer_blocks, l
 use Rattle.law_driver_ring.proofs.Paged.{runs_left, runs_right, runs_many}
 
 -- ---- lists told by a first and the rest
-
-next_of : (qtds : List ℕ) (i : ℕ) → get_or (get_or qtds 0 0 ∷ drop 1 qtds) i 0 ≡ get_or qtds i 0
-next_of [] zero = refl
-next_of [] (suc i) = refl
-next_of (q ∷ qtds) zero = refl
-next_of (q ∷ qtds) (suc i) = refl
 
 first_and_rest : (qtds : List ℕ) → 1 ≤ length qtds → get_or qtds 0 0 ∷ drop 1 qtds ≡ qtds
 first_and_rest [] some = absurd (omega (arith, some))
@@ -71,13 +66,6 @@ last_block_is notes (s ∷ ss) b qtds runs k =
 
 -- ---- the runs of the buffers
 
--- what was filled up with zeros is cut again
-filled : (k m : ℕ) (xs zs : List ℕ) → k ≤ m → k ≤ length xs → take k (take m (take k xs ++ zs)) ≡ take k xs
-filled zero m xs zs few long = refl
-filled (suc k) zero xs zs few long = absurd (omega (arith, few))
-filled (suc k) (suc m) [] zs few long = absurd (omega (arith, long))
-filled (suc k) (suc m) (x ∷ xs) zs few long = ap (λ (ys : List ℕ). x ∷ ys) (filled k m xs zs (omega (arith, few)) (omega (arith, long)))
-
 zeros : (n i : ℕ) → get_or (replicate {A = ℕ} n 0) i 0 ≡ 0
 zeros zero i = refl
 zeros (suc n) zero = refl
@@ -94,11 +82,6 @@ past_zeros (suc m) n [] i past = few_zeros (suc m) n i
     few_zeros (suc m) (suc n) (suc i) = few_zeros m n i
 past_zeros (suc m) n (x ∷ xs) zero past = absurd (omega (arith, past))
 past_zeros (suc m) n (x ∷ xs) (suc i) past = past_zeros m n xs i (omega (arith, past))
-
-shorter : (k : ℕ) (xs : List ℕ) → length (take k xs) ≤ k
-shorter zero xs = omega arith
-shorter (suc k) [] = omega arith
-shorter (suc k) (x ∷ xs) = let e = shorter k xs in omega (arith, e)
 
 -- the runs of the further buffers
 rest_many : (s : Stage) (ss : List Stage) (runs : List ℕ) → length runs ≡ length (buffers_of (s ∷ ss)) → (length (buffer_needs s.long) ≤ length runs) × (length (drop (runs_of s) runs) ≡ length (buffers_of ss))

@@ -1,10 +1,11 @@
 -- The inventory with all that was lent of a transfer.
-use Rattle.std.proofs.Common.{◌≡◌, ◌≢◌, ℕ, zero, suc, ◌*◌, ◌⊎◌, List, [], ◌∷◌, Option, Some, None, option_map, ap, refl, sym, subst, ◌∙◌, ⊎_elim, inl, inr, arith}
+use Rattle.std.proofs.Common.{◌≡◌, ◌≢◌, ℕ, zero, suc, ◌*◌, ◌⊎◌, List, [], ◌∷◌, Option, Some, None, option_map, ap, refl, sym, subst, ◌∙◌, ⊎_elim, arith}
 use Rattle.std.specs.List.{AllByRecursion}
 use Rattle.std.proofs.lemmas.Bool.{cases_eq}
 use Rattle.std.proofs.lemmas.Option.{same_Some}
+use Rattle.law_driver_ring.proofs.Common.{piece_on}
 use Rattle.drv_table.specs.Words.{head_block}
-use Rattle.claims_driver.specs.Owners.{Owner, FrameList, Head, QueueHead, Dummy, Element, Buffer, IsPlaced, ArePieces, EndpointRuns, TransferRuns, NoteRuns, Views, AreOwned, IsPieceOf, IsQueueIn}
+use Rattle.claims_driver.specs.Owners.{Owner, FrameList, Head, QueueHead, Dummy, Element, Buffer, IsPlaced, ArePieces, EndpointRuns, TransferRuns, NoteRuns, Views, AreOwned, IsQueueIn}
 use Rattle.law_structures.specs.lent_structures.Structures.{Structure, StructureSets}
 use Rattle.law_driver_ring.specs.Inventory.{Sort, sort_of, sorts_of, OfElement, IsLent, IsBufferTold, AreTold, IsTransferIn, IsDriverOwned, the_list, the_head, a_queue, a_dummy, a_piece, a_buffer, IsDriven}
 use Rattle.law_driver_ring.proofs.Lists.{IsOneOf, one_or_not}
@@ -59,11 +60,6 @@ transfer_back v w owner t y x taken i u z on is =
 pub transfer_on : (v w : Views) (owner : ℕ → Owner) (t : ℕ) (y : TransferRuns) (x : EndpointRuns) (taken : List ℕ) (i : ℕ) (u : TransferRuns) (z : EndpointRuns) → IsLentOn v w owner t y x taken → IsTransferIn v i u z → IsTransferIn w i u z
 transfer_on v w owner t y x taken i u z on is =
     record { here = on.transfers i ∙ is.here; held = is.held; qtds = is.qtds; queue = queue_on v w owner t y x taken u.endpoint z on is.queue }
-
-pub piece_on : (note other : ℕ → NoteRuns) (b n c : ℕ) → ((k : ℕ) → other k ≡ note k) → IsPieceOf note b n c → IsPieceOf other b n c
-piece_on note other b zero c same is = is
-piece_on note other b (suc n) c same (inl is) = inl is
-piece_on note other b (suc n) c same (inr is) = inr (subst (λ (k : ℕ). IsPieceOf other k n c) (ap (λ (r : NoteRuns). r.next) (sym (same b))) (piece_on note other (note b).next n c same is))
 
 pub owned_on : (v w : Views) (owner : ℕ → Owner) (t : ℕ) (y : TransferRuns) (x : EndpointRuns) (taken : List ℕ) (n a : ℕ) (k : Sort) → IsLentOn v w owner t y x taken → IsDriverOwned v n a k → IsDriverOwned w n a k
 owned_on v w owner t y x taken _ _ _ on the_list = the_list

@@ -1,7 +1,9 @@
 -- Runs are lent: their slots, and the states of their blocks.
-use Rattle.std.proofs.Common.{◌≡◌, ◌≢◌, ℕ, List, [], ◌∷◌, length, set, reverse, ap, refl, sym, subst, ◌∙◌, ⊎_elim, inl, inr, arith}
+use Rattle.std.proofs.Common.{◌≡◌, ◌≢◌, ℕ, List, [], ◌∷◌, length, reverse, ap, refl, sym, subst, ◌∙◌, ⊎_elim, inl, inr, arith}
 use Rattle.std.proofs.lemmas.Bool.{cases_eq}
 use Rattle.std.proofs.lemmas.List.{get_or-set_same, get_or-set_other}
+use Rattle.law_driver_ring.proofs.Common.{kept_before}
+use Rattle.law_driver.proofs.Common.{lends_keeps}
 use Rattle.word_mem.specs.Runs.{Run}
 use Rattle.word_mem.specs.Memory.{IsShaped, AreAll, with_states}
 use Rattle.word_mem.specs.declared.blocks.BlockState.TheVariants.{Lent}
@@ -16,17 +18,8 @@ use Rattle.law_driver_ring.proofs.Lists.{IsOneOf, one_reverse, one_reversed}
 
 -- ---- one run is lent
 
-keeps_no_lends : (r s : Run) → Lends r ≡ Keeps s → ⊥
-keeps_no_lends r s same = cc
-
 empty_no_lends : (r : Run) → Empty ≡ Lends r → ⊥
 empty_no_lends r same = cc
-
-kept_before : (slots : List Slot) (b c : ℕ) (r s : Run) → slot_of slots b ≡ Keeps r → slot_of (set slots b (Lends r)) c ≡ Keeps s → slot_of slots c ≡ Keeps s
-kept_before slots b c r s here there =
-    ⊎_elim (λ (same : c ≡ b).
-    absurd (keeps_no_lends r s (sym (get_or-set_same slots b (Lends r) Empty (keeps_within slots b r here)) ∙ ap (slot_of (set slots b (Lends r))) (sym same) ∙ there)))
-    (λ (differs : c ≢ b). sym (get_or-set_other slots b c (Lends r) Empty differs) ∙ there) (cases_eq c b)
 
 within_one : (h : Holding) (b : ℕ) (s : Slot) → slot_at h b ≡ s → AreWithin h → AreWithin (lend_slot h b s)
 within_one h b Empty is within = within
@@ -50,7 +43,7 @@ stays_one : (h : Holding) (b : ℕ) (s : Slot) (c : ℕ) (r : Run) → slot_at h
 stays_one h b Empty c r is within lent = lent
 stays_one h b (Lends q) c r is within lent = lent
 stays_one h b (Keeps q) c r is within lent = record {
-  slot = get_or-set_other h.book.slots b c (Lends q) Empty (λ same. keeps_no_lends r q (sym lent.slot ∙ ap (slot_at h) same ∙ is)) ∙ lent.slot;
+  slot = get_or-set_other h.book.slots b c (Lends q) Empty (λ same. lends_keeps r q (sym lent.slot ∙ ap (slot_at h) same ∙ is)) ∙ lent.slot;
   blocks = λ k from below. (lend_leaves h.memory q (within.each b q is) within.shape).lent k (lent.blocks k from below);
 }
 
@@ -107,7 +100,7 @@ others_stay h c none = runs_others (reverse h.book.taken) (none_taken h) c (λ o
 lends_one : (h : Holding) (b : ℕ) (s : Slot) (c : ℕ) (r : Run) → slot_at h b ≡ s → slot_at h c ≡ Lends r → slot_at (lend_slot h b s) c ≡ Lends r
 lends_one h b Empty c r is lent = lent
 lends_one h b (Lends q) c r is lent = lent
-lends_one h b (Keeps q) c r is lent = get_or-set_other h.book.slots b c (Lends q) Empty (λ same. keeps_no_lends r q (sym lent ∙ ap (slot_at h) same ∙ is)) ∙ lent
+lends_one h b (Keeps q) c r is lent = get_or-set_other h.book.slots b c (Lends q) Empty (λ same. lends_keeps r q (sym lent ∙ ap (slot_at h) same ∙ is)) ∙ lent
 
 lends_stay : (bs : List ℕ) (h : Holding) (c : ℕ) (r : Run) → slot_at h c ≡ Lends r → slot_at (lend_runs h bs) c ≡ Lends r
 unfolding lend_runs

@@ -1,7 +1,7 @@
 -- A queue head is unlinked, and the doorbell answered.
 use Rattle.std.proofs.Common.{◌≡◌, ℕ, ◌*◌, Bool, true, Some, ap, sym, subst, ◌∙◌}
 use Rattle.std.proofs.lemmas.Bool.{true≢false}
-use Rattle.link_words.specs.declared.kinds.Link.TheVariants as links
+use Rattle.law_driver_ring.proofs.Common.{led_on}
 use Rattle.link_words.specs.declared.fields.LinkBits.{LinkBits}
 use Rattle.qh_qtd.specs.declared.queue_head.Qh.{Qh}
 use Rattle.async_walk.specs.Rows.{WalkPlace, place}
@@ -28,13 +28,6 @@ member_leads base member parts hand p d n q l k on here is =
     let m = k.ring.members n on in
     let same : m.queue ≡ q = found_queue (parts n n) m.queue q m.here here in
     subst (LeadsAmong member) (ap (λ (u : Qh). u.link) same ∙ is) m.link
-
--- and the one that it leads to is a member
-led_on : (member : ℕ → Bool) (b : ℕ) → LeadsAmong member (to_queue_head b) → member (32 * b) ≡ true
-led_on member b leads = ap member (same_to (32 * b) leads.to leads.leads) ∙ leads.on
-  where
-    same_to : (a c : ℕ) → links.Qh a ≡ links.Qh c → a ≡ c
-    same_to a c same = cc
 
 pub unlink_drives : UnlinkDrives
 unlink_drives base member parts hand w p b queue after q z k can on here leads there further =

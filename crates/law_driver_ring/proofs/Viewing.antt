@@ -1,6 +1,7 @@
 -- What the driver has is told by views of its content; rows that change none of these leave the inventory.
-use Rattle.std.proofs.Common.{◌≡◌, ℕ, zero, suc, ◌*◌, Bool, true, false, cond, nat_lt, ◌-◌, length, slice_get, List, [], ◌∷◌, Option, Some, None, ap, refl, sym, subst, ◌∙◌, inl, inr}
+use Rattle.std.proofs.Common.{◌≡◌, ℕ, zero, suc, ◌*◌, Bool, true, false, cond, nat_lt, ◌-◌, length, slice_get, List, [], ◌∷◌, Option, Some, None, ap, refl, sym, subst, ◌∙◌}
 use Rattle.std.specs.Prelude.{is_none}
+use Rattle.law_driver_ring.proofs.Common.{piece_on}
 use Rattle.usb_base.specs.declared.endpoints.EpName.{EpName}
 use Rattle.usb_base.specs.declared.endpoints.EndCause.{EndCause}
 use Rattle.word_mem.specs.Memory.{Mem}
@@ -16,7 +17,7 @@ use Rattle.drv_table.specs.Harvests.{is_stall, end_of, noted}
 use Rattle.drv_periodic_table.specs.Linking.{begun_next}
 use Rattle.drv_table.specs.Commands.{events_of, links, removes_members, list_after, leave_ring, leave_frames, no_command, finished, or_finished, linked_on, advanced_by, advance}
 use Rattle.drv_table.specs.Harvesting.{served, told_with, behind_one, behind, after_end, harvested_as, after_harvest}
-use Rattle.claims_driver.specs.Owners.{EndpointRuns, TransferRuns, NoteRuns, Views, views_of, IsPieceOf, IsQueueIn}
+use Rattle.claims_driver.specs.Owners.{EndpointRuns, TransferRuns, NoteRuns, Views, views_of, IsQueueIn}
 use Rattle.law_driver.proofs.lemmas.run_owners.Stays.{StaysPlaced, advanced, harvest_stays}
 use Rattle.law_driver_ring.specs.Inventory.{Sort, Inventory, IsLent, IsBufferTold, AreTold, IsTransferIn, IsDriverOwned, the_list, the_head, a_queue, a_dummy, a_piece, a_buffer, IsDriven}
 
@@ -27,12 +28,6 @@ pub record SameViews (v w : Views) : Type 0 where
   pub endpoint : (e : ℕ) → w.endpoint e ≡ v.endpoint e
   pub transfer : (t : ℕ) → w.transfer t ≡ v.transfer t
   pub note : (b : ℕ) → w.note b ≡ v.note b
-
-piece_same : (note other : ℕ → NoteRuns) (b n c : ℕ) → ((k : ℕ) → other k ≡ note k) → IsPieceOf note b n c → IsPieceOf other b n c
-piece_same note other b zero c same is = is
-piece_same note other b (suc n) c same (inl is) = inl is
-piece_same note other b (suc n) c same (inr is) =
-    inr (subst (λ (k : ℕ). IsPieceOf other k n c) (ap (λ (x : NoteRuns). x.next) (sym (same b))) (piece_same note other (note b).next n c same is))
 
 lent_back : (v w : Views) (c : ℕ) → SameViews v w → IsLent (w.slot c) → IsLent (v.slot c)
 lent_back v w c same lent = subst IsLent (same.slot c) lent
@@ -72,9 +67,9 @@ owned_on v w _ _ _ same the_head = the_head
 owned_on v w _ _ _ same (a_queue e x is lent) = a_queue e x (queue_on v w e x same is) (lent_on v w x.queue same lent)
 owned_on v w _ _ _ same (a_dummy e x is lent) = a_dummy e x (queue_on v w e x same is) (lent_on v w x.dummy same lent)
 owned_on v w _ _ _ same (a_piece t b y x is piece lent) =
-    a_piece t b y x (transfer_on v w t y x same is) (piece_same v.note w.note y.first y.qtds b same.note piece) (lent_on v w b same lent)
+    a_piece t b y x (transfer_on v w t y x same is) (piece_on v.note w.note y.first y.qtds b same.note piece) (lent_on v w b same lent)
 owned_on v w _ _ _ same (a_buffer t b c cs y x is piece first lent) =
-    a_buffer t b c cs y x (transfer_on v w t y x same is) (piece_same v.note w.note y.first y.qtds b same.note piece) (ap (λ (z : NoteRuns). z.buffer) (same.note b) ∙ first) (lent_on v w c same lent)
+    a_buffer t b c cs y x (transfer_on v w t y x same is) (piece_on v.note w.note y.first y.qtds b same.note piece) (ap (λ (z : NoteRuns). z.buffer) (same.note b) ∙ first) (lent_on v w c same lent)
 
 pub driven_views : (v w : Views) (sorts : Inventory) → SameViews v w → IsDriven v sorts → IsDriven w sorts
 driven_views v w sorts same k = record {

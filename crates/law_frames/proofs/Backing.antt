@@ -1,6 +1,8 @@
 -- A transaction of an iTD in hand sends the bytes of its buffer, and its write-back is refused nothing.
 use Rattle.std.proofs.Common.{◌≡◌, ◌≢◌, ℕ, suc, ◌+◌, ◌-◌, ◌*◌, ◌<◌, ◌≤◌, Bool, true, false, List, if◌then◌else◌, Option, Some, ap, sym, subst, ◌∙◌, ⊎_elim, arith}
 use Rattle.std.proofs.lemmas.Bool.{cases_eq, true≢false}
+use Rattle.law_frames.proofs.Common.{received_else, itd_is_no_buffer, slot_same}
+use Rattle.law_ring.proofs.Common.{received_beside}
 use Rattle.word_mem.specs.Memory.{Mem, refused, with_word}
 use Rattle.mem_bytes.specs.Bytes.{with_bytes}
 use Rattle.itd_sitd.specs.declared.itd.Itd.{Itd}
@@ -25,8 +27,8 @@ use Rattle.law_frames.specs.FrameHand.{ItdCopy}
 use Rattle.law_frames.specs.Frame.{received_of, IsCopiedItd}
 use Rattle.law_frames.specs.FrameEffects.{itd_back, itd_parts}
 use Rattle.law_frames.specs.ItdBacks.{IsItdSent, IsItdBack}
-use Rattle.law_frames.proofs.Buffered.{part_buffered, IsRead, all_read, IsPut, all_put, received_else, received_beside, received_alters, altered_buffered, buffered_beside}
-use Rattle.law_frames.proofs.Slots.{itd_is_no_buffer, here_same, slots_buffered, slot_buffered, next_within, got_buffered, slot_reached, back_slot, back_other, done_counts, done_rests, place_small}
+use Rattle.law_frames.proofs.Buffered.{part_buffered, IsRead, all_read, IsPut, all_put, received_alters, altered_buffered, buffered_beside}
+use Rattle.law_frames.proofs.Slots.{here_same, slots_buffered, slot_buffered, next_within, got_buffered, slot_reached, back_slot, done_counts, done_rests, place_small}
 
 -- ---- what goes out
 
@@ -86,7 +88,7 @@ module _ (met : ℕ → Option Kind) (parts : StructureSets) (m : Mem) (got : Li
   -- a microframe that is active is another one, and still has its bytes
   other_buffered : (u : ℕ) → u < 8 → u ≢ c.held.number → (slot_of u (itd_back c)).active ≡ true → 0 < (slot_of u (itd_back c)).length → IsBuffered (itd_parts parts c got put_there.into c.held.at) (itd_pages c.itd) (slot_place (slot_of u (itd_back c))) (slot_of u (itd_back c)).length
   other_buffered u below differs =
-      subst (λ (s : ItdSlot). s.active ≡ true → 0 < s.length → IsBuffered (itd_parts parts c got put_there.into c.held.at) (itd_pages c.itd) (slot_place s) s.length) (sym (back_other c u differs))
+      subst (λ (s : ItdSlot). s.active ≡ true → 0 < s.length → IsBuffered (itd_parts parts c got put_there.into c.held.at) (itd_pages c.itd) (slot_place s) s.length) (sym (slot_same c u differs))
       (λ on some.
       buffered_beside mid c.held.at c.held.at (Isochronous c.itd) (Isochronous (itd_back c)) (itd_pages c.itd) (slot_place (slot_of u c.itd)) (slot_of u c.itd).length itd_there (itd_is_no_buffer c.itd)
       (altered_buffered (parts c.held.at) (mid c.held.at) (itd_pages c.itd) (slot_place (slot_of u c.itd)) (slot_of u c.itd).length

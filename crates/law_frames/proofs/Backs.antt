@@ -1,5 +1,6 @@
 -- A siTD in hand: its bytes are read, and its write-back is made in full.
 use Rattle.std.proofs.Common.{◌≡◌, ◌≢◌, ℕ, ◌+◌, ◌<◌, ◌≤◌, Bool, true, false, if◌then◌else◌, List, length, take, drop, Option, Some, None, ap, refl, sym, subst, ◌∙◌, arith}
+use Rattle.law_frames.proofs.Common.{sitd_is_no_buffer, received_else}
 use Rattle.usb_base.specs.declared.packets.DataPart.TheVariants.{All}
 use Rattle.usb_base.specs.declared.packets.Dir.TheVariants as Directions
 use Rattle.usb_base.specs.declared.packets.Pid.TheVariants.{In}
@@ -31,7 +32,7 @@ use Rattle.law_frames.proofs.Counted.{in_few as moved_in}
 use Rattle.law_frames.proofs.PartTurning.{its_place_moves_on}
 use Rattle.law_frames.specs.SitdBacks.{IsSitdInHand, AreRead, received_by, AreReceivedBy, parts_after, IsCounted}
 use Rattle.law_frames.proofs.Turned.{unmoved, works_active}
-use Rattle.law_frames.proofs.Reaching.{all_read, fewer_buffered, put_there, received_told, received_written, split_is_no_buffer, received_else, still_buffered}
+use Rattle.law_frames.proofs.Reaching.{all_read, fewer_buffered, put_there, received_told, received_written, still_buffered}
 use Rattle.law_frames.proofs.States.{state_put}
 
 -- ---- the siTD in memory
@@ -168,7 +169,7 @@ module _ (met : ℕ → Option Kind) (parts : StructureSets) (m : Mem) (reply : 
       subst (λ (w : Writing). Tells w.memory (parts_after parts c o reply into)) (sym (whole into k received))
       (state_put with_received (received_parts parts c.held.at (received_by c o reply) into) c.held.at c.held.at c.sitd (moved_sitd (moved_by o) v)
       (received_told m parts c.held.at (sitd_pages v) (sitd_place v) (received_by c o reply) into k.tells received)
-      (received_else parts c.held.at (sitd_pages v) (sitd_place v) (received_by c o reply) into c.held.at (SplitIsochronous c.sitd) received k.copied.here (split_is_no_buffer c.sitd))
+      (received_else parts c.held.at (sitd_pages v) (sitd_place v) (received_by c o reply) into c.held.at (SplitIsochronous c.sitd) received k.copied.here (sitd_is_no_buffer c.sitd))
       (moved_in_range (moved_by o) v k.copied.range) (front_same moved (moved_by o)) (last_same moved (moved_by o)))
 
   -- ---- the siTD then

@@ -1,16 +1,16 @@
 -- Bytes that lie in a buffer are read, and received bytes are put into it.
-use Rattle.std.proofs.Common.{◌≡◌, ◌≢◌, ℕ, zero, suc, ◌+◌, ◌-◌, ◌<◌, ◌≤◌, Bool, true, ◌&&◌, nat_le, List, [], ◌∷◌, length, take, drop, if◌then◌else◌, Some, ap, refl, sym, subst, ◌∙◌, arith}
+use Rattle.std.proofs.Common.{◌≡◌, ◌≢◌, ℕ, zero, suc, ◌+◌, ◌-◌, ◌<◌, ◌≤◌, true, List, [], ◌∷◌, length, take, drop, Some, refl, sym, subst, ◌∙◌, arith}
 use Rattle.std.specs.Prelude.{slice_index}
-use Rattle.std.proofs.lemmas.Bool.{le-leb}
-use Rattle.std.proofs.lemmas.List.{take_all, length-take-le, length-drop}
-use Rattle.word_mem.specs.Memory.{Mem, refused}
-use Rattle.mem_bytes.specs.Bytes.{place, bytes_at, with_bytes, stored, all_reached, AreReached}
-use Rattle.mem_bytes.proofs.Reach.{all_reached_if, stored_all, with_bytes_none}
+use Rattle.std.proofs.lemmas.List.{length-take-le, length-drop}
+use Rattle.law_structures.proofs.Common.{read_whole, wrote_bytes}
+use Rattle.word_mem.specs.Memory.{Mem}
+use Rattle.mem_bytes.specs.Bytes.{place, bytes_at, with_bytes, all_reached, AreReached}
+use Rattle.mem_bytes.proofs.Reach.{all_reached_if, with_bytes_none}
 use Rattle.mem_bytes.proofs.Loads.{bytes_at_none}
-use Rattle.hc_copy.specs.Buffer.{size_of, bytes_read, placed, bytes_written}
+use Rattle.hc_copy.specs.Buffer.{size_of, bytes_read, bytes_written}
 use Rattle.law_structures.specs.lent_structures.Structures.{Structure, Buffer, HoldsBuffer, Structures, StructureSets, put, Tells}
 use Rattle.law_structures.specs.lent_structures.Changes.{overwritten}
-use Rattle.law_structures.proofs.lemmas.lent_structures.Names.{names_differ, put_here, put_else, put_beside}
+use Rattle.law_structures.proofs.lemmas.lent_structures.Names.{names_differ, put_here, put_else}
 use Rattle.law_structures.proofs.lemmas.lent_structures.Reading.{bytes_part, bytes_reached, part_reached}
 use Rattle.law_structures.proofs.lemmas.lent_structures.Storing.{bytes_are_told, length-overwritten}
 use Rattle.law_structures.specs.lent_structures.Alters.{Alters}
@@ -36,13 +36,6 @@ buffered_within m parts n pages from count told b =
     omega (arith, room, within)
 
 -- ---- reading
-
-read_whole : (pages : List ℕ) (from n : ℕ) (m : Mem) (bs : List ℕ) → from + n ≤ size_of pages → all_reached m pages from n ≡ true → bytes_at m pages from n ≡ bs → bytes_read pages from n m ≡ record { bytes = bs; memory = m; all = true }
-read_whole pages from n m bs within reached bytes =
-    let inside = le-leb (from + n) (size_of pages) within in
-    ap (λ (xs : List ℕ). record { bytes = xs; memory = if nat_le (from + n) (size_of pages) then (if all_reached m pages from n then m else refused m) else m; all = nat_le (from + n) (size_of pages) && all_reached m pages from n }) bytes
-    ∙ ap (λ (b : Bool). record { bytes = bs; memory = if b then (if all_reached m pages from n then m else refused m) else m; all = b && all_reached m pages from n }) inside
-    ∙ ap (λ (b : Bool). record { bytes = bs; memory = if b then m else refused m; all = b }) reached
 
 -- the bytes that go out, all of which are read
 pub record IsRead (m : Mem) (part : Structures) (pages : List ℕ) (from n : ℕ) : Type 0 where
@@ -82,14 +75,6 @@ all_read m parts n pages from (suc count) told low buffered = some_read m parts 
 
 -- ---- received bytes
 
-wrote_bytes : (m : Mem) (pages : List ℕ) (from : ℕ) (got : List ℕ) → from + length got ≤ size_of pages → AreReached m pages from (length got) → bytes_written pages from got m ≡ record { memory = with_bytes m pages from got; all = true }
-wrote_bytes m pages from got fits reached =
-    let all : placed pages from got ≡ got = take_all (size_of pages - from) got (omega (arith, fits)) in
-    ap (λ (bs : List ℕ). record { memory = stored m pages from bs; all = all_reached m pages from (length bs) && nat_le (from + length got) (size_of pages) }) all
-    ∙ ap (λ (x : Mem). record { memory = x; all = all_reached m pages from (length got) && nat_le (from + length got) (size_of pages) }) (stored_all m pages from got reached)
-    ∙ ap (λ (b : Bool). record { memory = with_bytes m pages from got; all = b && nat_le (from + length got) (size_of pages) }) (all_reached_if m pages from (length got) reached)
-    ∙ ap (λ (b : Bool). record { memory = with_bytes m pages from got; all = b }) (le-leb (from + length got) (size_of pages) fits)
-
 -- they are put into the buffer, none of them is refused, and memory is told
 pub record IsPut (m : Mem) (parts : StructureSets) (n : ℕ) (pages : List ℕ) (from : ℕ) (got : List ℕ) : Type 0 where
   pub into : Received
@@ -127,15 +112,6 @@ all_put m parts n pages from [] told low buffered small = none_put m parts n pag
 all_put m parts n pages from (b ∷ bs) told low buffered small = some_put m parts n pages from (b ∷ bs) told (buffered (omega arith)) small
 
 -- ---- what stays where they are put
-
-pub received_else : (parts : StructureSets) (n : ℕ) (pages : List ℕ) (from : ℕ) (got : List ℕ) (r : Received) (b : ℕ) (s : Structure) → AreReceivedAt (parts n) pages from got r → parts n b ≡ Some s → ((ps : List ℕ) (k : ℕ) (bs : List ℕ) → s ≢ Buffer ps k bs) → received_parts parts n got r n b ≡ Some s
-received_else parts n pages from got Nothing b s none here other = here
-received_else parts n pages from got (Into ps k bs j) b s into here other =
-    put_else parts n (place ps k) (Buffer ps k (overwritten bs j got)) b (names_differ (parts n) b (place ps k) s (Buffer ps k bs) here into.buffer (other ps k bs)) ∙ here
-
-pub received_beside : (parts : StructureSets) (n : ℕ) (got : List ℕ) (r : Received) (i : ℕ) → i ≢ n → received_parts parts n got r i ≡ parts i
-received_beside parts n got Nothing i differs = refl
-received_beside parts n got (Into pages k bs j) i differs = put_beside parts n (place pages k) (Buffer pages k (overwritten bs j got)) i differs
 
 -- a buffer stays one of as many bytes
 pub received_alters : (parts : StructureSets) (n : ℕ) (pages : List ℕ) (from : ℕ) (got : List ℕ) (r : Received) → AreReceivedAt (parts n) pages from got r → Alters (parts n) (received_parts parts n got r n)

@@ -1,5 +1,6 @@
 -- Nothing is in hand: the structure at the cursor is read, or the chain ends.
-use Rattle.std.proofs.Common.{◌≡◌, ℕ, ◌<◌, List, [], Option, Some, ap, refl, sym, subst, ◌∙◌, arith}
+use Rattle.std.proofs.Common.{◌≡◌, ℕ, List, [], Option, Some, ap, refl, sym, subst, ◌∙◌, arith}
+use Rattle.law_frames.proofs.Common.{early_below}
 use Rattle.usb_base.specs.declared.packets.Ask.{Ask}
 use Rattle.usb_base.specs.declared.packets.Reply.{Reply}
 use Rattle.word_mem.specs.Memory.{Mem}
@@ -33,9 +34,6 @@ use Rattle.law_frames.specs.FrameEffects.FrameEffect.{ends}
 use Rattle.law_frames.proofs.StepStepping.{step_in_hand, effect_in_hand}
 use Rattle.law_frames.specs.Fetches.{ReadsAt, a_queue, an_itd, a_sitd, LeavesRead}
 use Rattle.law_frames.specs.Fetches.ReadsAt.{ends as ends_there}
-
-early_below : (f : ℕ) → microframe_of f < 8
-early_below f = omega arith
 
 module _ (met : ℕ → Option Kind) (parts : StructureSets) (p : FramePlace) (k : IsFrame met parts Nothing p) where
   -- ---- the copies

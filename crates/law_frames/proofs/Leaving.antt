@@ -1,5 +1,6 @@
 -- The parts of which an event of the walk of the frames changes nothing: those of what isn't met.
 use Rattle.std.proofs.Common.{◌≡◌, ◌≢◌, ℕ, List, Option, Some, None, ap, sym, subst, ◌∙◌}
+use Rattle.law_frames.proofs.Common.{written_from}
 use Rattle.usb_base.specs.declared.packets.Ask.{Ask}
 use Rattle.usb_base.specs.declared.packets.Reply.{Reply}
 use Rattle.hc_copy.specs.Overlay.{advanced}
@@ -16,7 +17,7 @@ use Rattle.law_ring.specs.Effects.{received_into}
 use Rattle.law_frames.specs.Met.{Kind, AQueue, AnItd, ASitd}
 use Rattle.law_frames.specs.FrameHand.{settled_in, ItdCopy, SitdCopy, FrameHand, OfQueue, OfItd, OfSitd}
 use Rattle.law_frames.specs.Frame.{IsCopiedQueue, IsCopiedItd, IsCopiedSitd, IsInFrame}
-use Rattle.law_frames.specs.FrameEffects.{IsWrittenFrom, made as was_made, missed as was_missed, itd_back, sitd_back, WritesOne, of_queue, of_itd, of_sitd, FrameEffect, fetches, passes, ends, makes, takes, writes}
+use Rattle.law_frames.specs.FrameEffects.{itd_back, sitd_back, WritesOne, of_queue, of_itd, of_sitd, FrameEffect, fetches, passes, ends, makes, takes, writes}
 use Rattle.law_frames.specs.Walks.{UnmetStays}
 use Rattle.law_frames.proofs.QueueBacks.{hand_is_settled}
 
@@ -36,10 +37,6 @@ address (Copied c) = c.at
 address (Settled c s) = c.at
 address (Stale n q) = n
 
-written_at : (w : Walk) (copy back : SitdCopy) → IsWrittenFrom w copy back → back.held.at ≡ copy.held.at
-written_at w copy back (was_made is) = ap (λ (c : SitdCopy). c.held.at) is
-written_at w copy back (was_missed unsettled turn is) = ap (λ (c : SitdCopy). c.held.at) is
-
 write_leaves : (met : ℕ → Option Kind) (parts : StructureSets) (w : Walk) (hand : FrameHand) (now : StructureSets) (later : FrameHand) (n : ℕ)
     → IsInFrame met parts w.got w.reply hand → WritesOne parts w hand now later → ((a : ℕ) (kind : Kind) → met a ≡ Some kind → n ≢ a) → now n ≡ parts n
 write_leaves met parts w hand now later n k (of_queue r) other =
@@ -52,7 +49,7 @@ write_leaves met parts w hand now later n k (of_itd r) other =
     ∙ put_beside (received_parts parts r.copy.held.at w.got r.into) r.copy.held.at r.copy.held.at (Isochronous (itd_back r.copy)) n differs
     ∙ received_beside parts r.copy.held.at w.got r.into n differs
 write_leaves met parts w hand now later n k (of_sitd r) other =
-    let differs : n ≢ r.back.held.at = subst (λ (a : ℕ). n ≢ a) (sym (written_at w r.copy r.back r.written)) (other r.copy.held.at ASitd (sitd_on met parts w hand r.copy k r.in_hand)) in
+    let differs : n ≢ r.back.held.at = subst (λ (a : ℕ). n ≢ a) (sym (written_from w r.copy r.back r.written)) (other r.copy.held.at ASitd (sitd_on met parts w hand r.copy k r.in_hand)) in
     let got = sitd_received r.back.held.sitd.dir_in r.outcome w.reply in
     ap (λ (x : StructureSets). x n) r.now_is
     ∙ put_beside (received_parts parts r.back.held.at got r.into) r.back.held.at r.back.held.at (SplitIsochronous (sitd_back r.back (sitd_moved_by r.outcome))) n differs

@@ -42,3 +42,4 @@ pub mod Telling
 pub mod FrameOrder
 pub mod StreamSampled
 pub mod WalkSampled
+pub mod Common

@@ -1,6 +1,7 @@
 -- The bytes that a transaction sends, and what it came to.
-use Rattle.std.proofs.Common.{◌≡◌, ℕ, zero, suc, ◌+◌, ◌-◌, ◌<◌, ◌≤◌, Bool, true, false, if◌then◌else◌, List, [], length, take, drop, slice_index, Option, Some, ap, refl, sym, subst, arith}
+use Rattle.std.proofs.Common.{◌≡◌, ℕ, zero, suc, ◌+◌, ◌-◌, ◌<◌, ◌≤◌, true, List, [], length, take, drop, slice_index, Option, Some, ap, refl, sym, subst, arith}
 use Rattle.std.proofs.lemmas.List.{length-take, length-drop}
+use Rattle.law_frames.proofs.Common.{bytes_few}
 use Rattle.usb_base.specs.declared.packets.EpKind.TheVariants.{Interrupt}
 use Rattle.usb_base.specs.declared.packets.Pid.{Pid}
 use Rattle.usb_base.specs.declared.packets.Pid.TheVariants as Packets
@@ -10,13 +11,10 @@ use Rattle.word_mem.specs.Memory.{Mem}
 use Rattle.mem_bytes.specs.Bytes.{place}
 use Rattle.qh_qtd.specs.declared.qtd.Qtd.{Qtd}
 use Rattle.qh_qtd.specs.declared.queue_head.Qh.{Qh}
-use Rattle.toggle_error.specs.declared.host.HostSide.{HostSide}
 use Rattle.toggle_error.specs.declared.host.Outcome.{Outcome}
 use Rattle.toggle_error.specs.declared.host.Outcome.TheVariants as outcomes
-use Rattle.toggle_error.specs.Columns.{limit_of}
 use Rattle.transactions.specs.Calls.{got_of}
-use Rattle.hc_copy.specs.declared.held.Transaction.{Transaction}
-use Rattle.hc_copy.specs.Planning.{pid_at, carries}
+use Rattle.hc_copy.specs.Planning.{pid_at}
 use Rattle.hc_copy.specs.Overlay.{pages_of, buffer_place}
 use Rattle.hc_copy.specs.Transacting.{outcome_in, host_after}
 use Rattle.hc_interrupt.specs.Turns.{planned, is_last_of}
@@ -36,13 +34,6 @@ use Rattle.law_frames.proofs.QueueBacks.{split_prog, split_tag, split_marks}
 use Rattle.law_frames.proofs.Taking.{sound_there}
 
 -- ---- the bytes that go out
-
-few_if : (b : Bool) (host : HostSide) → (if b then limit_of host else 0) ≤ host.left
-few_if true host = omega arith
-few_if false host = omega arith
-
-bytes_few : (q : Qh) → (planned q).bytes ≤ q.token.total
-bytes_few q = let t : Transaction = planned q in few_if (carries t.split t.pipe.pid t.host.ping) t.host
 
 some_sent : (met : ℕ → Option Kind) (m : Mem) (parts : StructureSets) (c : Copy) → IsQueueVisit met m parts c → (w : IsWorking (parts c.at) c.queue) → HasBuffer (parts c.at) w.element w.element.token.total → AreAllSent m parts c
 some_sent met m parts c v w has =

@@ -1,6 +1,7 @@
 -- A queue head whose copy is settled: by a transaction, which may be split, or by a missed microframe; and what its write-back leaves of it.
 use Rattle.std.proofs.Common.{◌≡◌, ◌≢◌, ℕ, ◌+◌, ◌<◌, ◌≤◌, Bool, true, false, not, ◌&&◌, ◌==◌, if◌then◌else◌, List, [], length, take, slice_index, Option, Some, ap, refl, sym, subst, ◌∙◌, arith}
 use Rattle.std.proofs.lemmas.Bool.{and_parts, false≢true}
+use Rattle.law_ring.proofs.Common.{ended_after, received_alters}
 use Rattle.usb_base.specs.declared.endpoints.EndCause.TheVariants.{Miss}
 use Rattle.usb_base.specs.declared.packets.EpKind.TheVariants.{Interrupt}
 use Rattle.usb_base.specs.declared.packets.Pid.{Pid}
@@ -31,14 +32,13 @@ use Rattle.hc_interrupt.specs.Turns.{microframe_of, waits, is_missed, complete_t
 use Rattle.hc_interrupt.specs.Copies.{with_split, missed_queue, missed_copy}
 use Rattle.periodic_walk.specs.Walk.{Walk}
 use Rattle.law_structures.specs.lent_structures.Settles.{Leaves}
-use Rattle.law_structures.specs.lent_structures.Structures.{QueueHead, Element, Buffer, Structures, StructureSets, put}
-use Rattle.law_structures.specs.lent_structures.Changes.{relinked, overwritten}
+use Rattle.law_structures.specs.lent_structures.Structures.{QueueHead, Element, Structures, StructureSets, put}
+use Rattle.law_structures.specs.lent_structures.Changes.{relinked}
 use Rattle.law_structures.proofs.lemmas.lent_structures.Names.{put_here}
-use Rattle.law_structures.proofs.lemmas.lent_structures.Storing.{length-overwritten}
-use Rattle.law_structures.specs.lent_structures.WriteBack.{Received, Nothing, Into, IsReceived, received_parts, CanBeWritten, qtd_after, parts_back}
+use Rattle.law_structures.specs.lent_structures.WriteBack.{Received, received_parts, CanBeWritten, qtd_after, parts_back}
 use Rattle.law_structures.proofs.lemmas.lent_structures.WrittenBack.{head_is_no_buffer, received_else, between_element}
-use Rattle.law_structures.specs.lent_structures.Alters.{IsAfter, Alters}
-use Rattle.law_structures.proofs.lemmas.lent_structures.Altering.{is_itself, unaltered, altered_both, a_queue_head_alters_nothing, a_token_alters_its_qtd, buffer_put}
+use Rattle.law_structures.specs.lent_structures.Alters.{Alters}
+use Rattle.law_structures.proofs.lemmas.lent_structures.Altering.{altered_both, a_queue_head_alters_nothing, a_token_alters_its_qtd}
 use Rattle.law_ring.specs.Hand.{Copy, copied_queue, settled_queue_of}
 use Rattle.law_ring.proofs.Writing.{IsSettledCopy, IsWritten, settled_range as came_range}
 use Rattle.law_frames.specs.Met.{Kind}
@@ -189,16 +189,6 @@ hand_is_settled met parts w hand c z made k (was_missed is turn same) =
     (copied, subst (IsQueueSettled c.queue w.reply) (sym same) (miss_settles w.index c.queue w.reply turn small.0 small.1))
 
 -- ---- the parts after a write-back
-
-ended_after : (new : Qh) (t : Qtd) (b : Bool) → new.token.active ≡ b → IsAfter t (if b then t else record t { token = new.token })
-ended_after new t true e = is_itself t
-ended_after new t false e = record { token = new.token; is = refl; active = λ on. absurd (false≢true (sym e ∙ on)) }
-
-received_alters : (parts : StructureSets) (n : ℕ) (x : Qh) (got : List ℕ) (r : Received) → IsReceived (parts n) x got r → Alters (parts n) (received_parts parts n got r n)
-received_alters parts n x got Nothing is = unaltered (parts n)
-received_alters parts n x got (Into pages k bs j) is =
-    subst (Alters (parts n)) (sym (put_here parts n (place pages k) (Buffer pages k (overwritten bs j got))))
-    (buffer_put (parts n) (place pages k) pages k bs (overwritten bs j got) is.buffer (length-overwritten bs j got is.fits))
 
 pub back_alters : (parts : StructureSets) (n : ℕ) (q x : Qh) (count : ℕ) (got : List ℕ) (r : Received) (t : Qtd) → CanBeWritten parts n n q x got r t → Alters (parts n) (parts_back parts n n q x count got r t n)
 back_alters parts n q x count got r t can =

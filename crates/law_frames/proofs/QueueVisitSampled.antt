@@ -1,6 +1,7 @@
 -- The worked visit is one, and its two bytes are written back.
 use Rattle.std.proofs.Common.{◌≡◌, ℕ, zero, suc, ◌<◌, slice_index, Some, List, [], refl, sym, subst, ◌∙◌, ⊎_elim, arith}
 use Rattle.std.proofs.lemmas.Bool.{true≢false}
+use Rattle.law_structures.proofs.Common.{element_is}
 use Rattle.usb_base.specs.declared.packets.Reply.{Reply}
 use Rattle.usb_base.specs.declared.packets.Reply.TheVariants.{Bytes}
 use Rattle.qh_qtd.specs.declared.qtd.Qtd.{Qtd}
@@ -11,7 +12,6 @@ use Rattle.law_structures.proofs.lemmas.lent_structures.Names.{put_found}
 use Rattle.law_structures.proofs.lemmas.lent_structures.Writing.{word_put_queue}
 use Rattle.law_structures.proofs.lemmas.lent_structures.StructureSampled.{queue_range as first_range, sample_told}
 use Rattle.law_structures.specs.lent_structures.Sound.{IsSoundElement, IsSoundQueue}
-use Rattle.law_structures.proofs.lemmas.lent_structures.Altering.{same_element}
 use Rattle.law_frames.specs.Frame.{IsQueueSettled}
 use Rattle.law_frames.specs.Met.{IsMetQueue}
 use Rattle.law_frames.specs.Visits.{IsQueueVisit, IsWrittenBack}
@@ -37,7 +37,7 @@ pub the_first : (n a : ℕ) (t : Qtd) → small_parts n a ≡ Some (Element t) �
 the_first n a t found =
     ⊎_elim (λ (is : (n ≡ 0) × (a ≡ 100) × (Element t ≡ Buffer pages 100 bytes)). cc)
     (λ (second : put (put nothing 0 0 (QueueHead first)) 0 64 (Element element) n a ≡ Some (Element t)).
-    ⊎_elim (λ (is : (n ≡ 0) × (a ≡ 64) × (Element t ≡ Element element)). record { at = is.1; is = same_element t element is.2 })
+    ⊎_elim (λ (is : (n ≡ 0) × (a ≡ 64) × (Element t ≡ Element element)). record { at = is.1; is = element_is t element is.2 })
     (λ (third : put nothing 0 0 (QueueHead first) n a ≡ Some (Element t)).
     ⊎_elim (λ (is : (n ≡ 0) × (a ≡ 0) × (Element t ≡ QueueHead first)). cc) (λ (there : nothing n a ≡ Some (Element t)). cc)
     (put_found nothing 0 0 (QueueHead first) n a (Element t) third))

@@ -1,15 +1,17 @@
 -- Bytes of a buffer that is told, read and written from any place of its pages on.
-use Rattle.std.proofs.Common.{◌≡◌, ◌≢◌, ℕ, ◌+◌, ◌-◌, ◌<◌, ◌≤◌, Bool, true, ◌&&◌, nat_le, List, [], ◌∷◌, length, take, drop, slice_index, if◌then◌else◌, Some, ap, refl, sym, subst, ◌∙◌, ⊎_elim, arith}
-use Rattle.std.proofs.lemmas.Bool.{le-leb, cases_lt, cases_eq}
-use Rattle.std.proofs.lemmas.List.{take_all, length-take, length-drop}
+use Rattle.std.proofs.Common.{◌≡◌, ◌≢◌, ℕ, ◌+◌, ◌-◌, ◌<◌, ◌≤◌, true, List, [], ◌∷◌, length, take, drop, slice_index, Some, ap, refl, sym, subst, ◌∙◌, ⊎_elim, arith}
+use Rattle.std.proofs.lemmas.Bool.{cases_lt, cases_eq}
+use Rattle.std.proofs.lemmas.List.{length-take, length-drop}
 use Rattle.std.proofs.lemmas.Option.{same_Some}
-use Rattle.word_mem.specs.Memory.{Mem, refused}
-use Rattle.mem_bytes.specs.Bytes.{place, bytes_at, with_bytes, stored, all_reached, AreReached}
-use Rattle.mem_bytes.proofs.Reach.{all_reached_if, stored_all, with_bytes_none}
+use Rattle.law_structures.proofs.Common.{read_whole, wrote_bytes}
+use Rattle.law_frames.proofs.Common.{sitd_is_no_buffer}
+use Rattle.word_mem.specs.Memory.{Mem}
+use Rattle.mem_bytes.specs.Bytes.{place, with_bytes, AreReached}
+use Rattle.mem_bytes.proofs.Reach.{all_reached_if, with_bytes_none}
 use Rattle.mem_bytes.proofs.Loads.{bytes_at_none}
 use Rattle.itd_sitd.specs.declared.sitd.Sitd.{Sitd}
-use Rattle.hc_copy.specs.Buffer.{size_of, placed, bytes_read, bytes_written}
-use Rattle.law_structures.specs.lent_structures.Structures.{Structure, Buffer, SplitIsochronous, HoldsBuffer, Structures, StructureSets, put, Tells}
+use Rattle.hc_copy.specs.Buffer.{size_of, bytes_read, bytes_written}
+use Rattle.law_structures.specs.lent_structures.Structures.{Buffer, SplitIsochronous, HoldsBuffer, Structures, StructureSets, put, Tells}
 use Rattle.law_structures.specs.lent_structures.Changes.{overwritten}
 use Rattle.law_structures.proofs.lemmas.lent_structures.Names.{names_differ, put_same, put_else}
 use Rattle.law_structures.proofs.lemmas.lent_structures.Reading.{bytes_part, bytes_reached, part_reached}
@@ -20,15 +22,6 @@ use Rattle.law_frames.specs.FrameEffects.{AreReceivedAt}
 use Rattle.law_frames.specs.SitdBacks.{AreRead}
 
 -- ---- they are read
-
--- all of them lie in the pages, and the controller may touch them
-read_whole : (pages : List ℕ) (from n : ℕ) (m : Mem) (bs : List ℕ) → from + n ≤ size_of pages → all_reached m pages from n ≡ true → bytes_at m pages from n ≡ bs
-    → bytes_read pages from n m ≡ record { bytes = bs; memory = m; all = true }
-read_whole pages from n m bs within reached bytes =
-    let inside = le-leb (from + n) (size_of pages) within in
-    ap (λ (xs : List ℕ). record { bytes = xs; memory = if nat_le (from + n) (size_of pages) then (if all_reached m pages from n then m else refused m) else m; all = nat_le (from + n) (size_of pages) && all_reached m pages from n }) bytes
-    ∙ ap (λ (b : Bool). record { bytes = bs; memory = if b then (if all_reached m pages from n then m else refused m) else m; all = b && all_reached m pages from n }) inside
-    ∙ ap (λ (b : Bool). record { bytes = bs; memory = if b then m else refused m; all = b }) reached
 
 none_read : (part : Structures) (pages : List ℕ) (from n : ℕ) (m : Mem) → from ≤ size_of pages → n ≤ 0 → AreRead part pages from n m
 none_read part pages from n m inside few =
@@ -106,30 +99,13 @@ received_told m parts n pages from got (Into ps k bs j) told into =
     (subst (λ (at : ℕ). Tells (with_bytes m ps at got) (put parts n (place ps k) (Buffer ps k (overwritten bs j got)))) (sym into.place_is)
     (bytes_are_told m parts n (place ps k) ps k bs j got told into.buffer into.fits into.bytes))
 
-written_whole : (m : Mem) (pages : List ℕ) (from : ℕ) (got : List ℕ) → from + length got ≤ size_of pages → AreReached m pages from (length got)
-    → bytes_written pages from got m ≡ record { memory = with_bytes m pages from got; all = true }
-written_whole m pages from got fits reached =
-    let all : placed pages from got ≡ got = take_all (size_of pages - from) got (omega (arith, fits)) in
-    ap (λ (bs : List ℕ). record { memory = stored m pages from bs; all = all_reached m pages from (length bs) && nat_le (from + length got) (size_of pages) }) all
-    ∙ ap (λ (x : Mem). record { memory = x; all = all_reached m pages from (length got) && nat_le (from + length got) (size_of pages) }) (stored_all m pages from got reached)
-    ∙ ap (λ (b : Bool). record { memory = with_bytes m pages from got; all = b && nat_le (from + length got) (size_of pages) }) (all_reached_if m pages from (length got) reached)
-    ∙ ap (λ (b : Bool). record { memory = with_bytes m pages from got; all = b }) (le-leb (from + length got) (size_of pages) fits)
-
 pub received_written : (m : Mem) (parts : StructureSets) (n : ℕ) (pages : List ℕ) (from : ℕ) (got : List ℕ) (into : Received) → Tells m parts → from ≤ size_of pages
     → AreReceivedAt (parts n) pages from got into → bytes_written pages from got m ≡ record { memory = with_bytes m pages from got; all = true }
 received_written m parts n pages from got into told inside received =
-    written_whole m pages from got (received_fits m parts n pages from got into told inside received) (received_reached m parts n pages from got into told received)
+    wrote_bytes m pages from got (received_fits m parts n pages from got into told inside received)
+    (received_reached m parts n pages from got into told received)
 
 -- ---- what has a name then
-
-pub split_is_no_buffer : (v : Sitd) (pages : List ℕ) (k : ℕ) (bs : List ℕ) → SplitIsochronous v ≢ Buffer pages k bs
-split_is_no_buffer v pages k bs same = cc
-
-pub received_else : (parts : StructureSets) (n : ℕ) (pages : List ℕ) (from : ℕ) (got : List ℕ) (into : Received) (b : ℕ) (s : Structure) → AreReceivedAt (parts n) pages from got into
-    → parts n b ≡ Some s → ((ps : List ℕ) (k : ℕ) (bs : List ℕ) → s ≢ Buffer ps k bs) → received_parts parts n got into n b ≡ Some s
-received_else parts n pages from got Nothing b s none here other = here
-received_else parts n pages from got (Into ps k bs j) b s into here other =
-    put_else parts n (place ps k) (Buffer ps k (overwritten bs j got)) b (names_differ (parts n) b (place ps k) s (Buffer ps k bs) here into.buffer (other ps k bs)) ∙ here
 
 -- a buffer stays one, as long as it was
 pub record IsStill (part : Structures) (pages : List ℕ) (start : ℕ) (bytes : List ℕ) : Type 0 where
@@ -172,6 +148,6 @@ still_buffered parts n at from got into pages start bytes a v new received sitd 
       after = k.after;
       long = k.long;
       here = put_else (received_parts parts n got into) n a (SplitIsochronous new) (place pages start)
-          (λ same. names_differ (parts n) a (place pages start) (SplitIsochronous v) (Buffer pages start bytes) sitd here (split_is_no_buffer v pages start bytes) (sym same))
+          (λ same. names_differ (parts n) a (place pages start) (SplitIsochronous v) (Buffer pages start bytes) sitd here (sitd_is_no_buffer v pages start bytes) (sym same))
           ∙ k.here;
     }

@@ -1,7 +1,7 @@
 -- The microframe of a copy in hand: its place, its bytes, and the iTD once it is written back.
 use Rattle.std.proofs.Common.{◌≡◌, ◌≢◌, ℕ, suc, ◌+◌, ◌*◌, ◌/◌, ◌<◌, ◌≤◌, true, false, List, length, Option, Some, ap, refl, sym, subst, ◌∙◌, ⊎_elim, arith}
 use Rattle.std.proofs.lemmas.Bool.{cases_eq}
-use Rattle.std.proofs.lemmas.List.{get_or-set_same, get_or-set_other}
+use Rattle.std.proofs.lemmas.List.{get_or-set_same}
 use Rattle.std.proofs.lemmas.Option.{same_Some}
 use Rattle.word_mem.specs.Memory.{Mem, reaches}
 use Rattle.itd_sitd.specs.declared.itd.Itd.{Itd}
@@ -12,7 +12,7 @@ use Rattle.hc_copy.specs.Buffer.{size_of}
 use Rattle.hc_iso.specs.declared.held.HeldItd.{HeldItd}
 use Rattle.hc_iso.specs.Itd.{IsItdHeld}
 use Rattle.hc_iso.specs.WriteBack.{itd_pages, slot_place, done_slot}
-use Rattle.law_structures.specs.lent_structures.Structures.{Structure, Buffer, Isochronous, HoldsIsochronous, StructureSets, Tells}
+use Rattle.law_structures.specs.lent_structures.Structures.{Structure, Isochronous, HoldsIsochronous, StructureSets, Tells}
 use Rattle.law_structures.proofs.lemmas.lent_structures.Standing.{holds_lent, reaches_if, in_two}
 use Rattle.law_frames.specs.Met.{Kind, IsBuffered, IsMetItd}
 use Rattle.law_frames.specs.FrameHand.{ItdCopy}
@@ -20,9 +20,6 @@ use Rattle.law_frames.specs.Frame.{IsCopiedItd}
 use Rattle.law_frames.specs.FrameEffects.{itd_back}
 use Rattle.law_frames.proofs.Counted.{in_few}
 use Rattle.law_frames.proofs.Buffered.{part_buffered, buffered_within}
-
-pub itd_is_no_buffer : (v : Itd) (pages : List ℕ) (k : ℕ) (bs : List ℕ) → Isochronous v ≢ Buffer pages k bs
-itd_is_no_buffer v pages k bs same = cc
 
 abbrev as_itd : Structure → Itd → Itd
 as_itd (Isochronous v) other = v
@@ -100,9 +97,6 @@ slot_reached m a v k h below =
 -- the microframe in hand isn't active once it is written back, and each other one is as it was
 pub back_slot : (c : ItdCopy) → length c.itd.slots ≡ 8 → c.held.number < 8 → slot_of c.held.number (itd_back c) ≡ done_slot c.held
 back_slot c eight below = get_or-set_same c.itd.slots c.held.number (done_slot c.held) no_slot (omega (arith, eight, below))
-
-pub back_other : (c : ItdCopy) (u : ℕ) → u ≢ c.held.number → slot_of u (itd_back c) ≡ slot_of u c.itd
-back_other c u differs = get_or-set_other c.itd.slots c.held.number u (done_slot c.held) no_slot differs
 
 pub done_counts : (h : HeldItd) → (done_slot h).length ≡ h.moved
 unfolding done_slot

@@ -1,12 +1,10 @@
 -- Words 3 to 5 of a siTD that is told are written (EHCI 1.0, 3.4.3, 3.4.4 and 4.12.3.3).
 use Rattle.std.proofs.Common.{◌≡◌, ℕ, ◌+◌, ◌/◌, ◌%◌, ◌<◌, ◌≤◌, ◌⊎◌, Bool, true, false, List, ◌++◌, length, take, drop, slice_get, if◌then◌else◌, Some, ap, refl, sym, ◌∙◌, ⊎_elim, inl, inr, add_assoc, arith}
 use Rattle.std.proofs.lemmas.Bool.{cases_lt}
-use Rattle.std.proofs.lemmas.Option.{slice_get_within}
-use Rattle.word_mem.specs.Memory.{Mem, IsShaped, reaches, is_lent, refused}
+use Rattle.law_structures.proofs.Common.{block_inside}
+use Rattle.word_mem.specs.Memory.{Mem, reaches, is_lent, refused}
 use Rattle.word_mem.specs.Views.{words_in, words_at, with_words_in, with_words}
 use Rattle.word_mem.specs.declared.blocks.BlockState.{BlockState}
-use Rattle.word_mem.specs.declared.blocks.BlockState.TheVariants.{Lent}
-use Rattle.word_mem.proofs.Frames.{lent_if_reached}
 use Rattle.word_mem.proofs.Words.{length-with_words_in, words_in-with_words_in_same, words_in-with_words_in_apart}
 use Rattle.itd_sitd.specs.declared.sitd.Sitd.{Sitd}
 use Rattle.itd_sitd.specs.Sitd.{sitd_words, IsSitdInRange}
@@ -58,12 +56,6 @@ row_written ws a d new aligned room words front last =
     ∙ whole new
 
 -- ---- in its block
-
--- the words of a Lent block lie in memory
-block_inside : (m : Mem) (a : ℕ) → IsShaped m → a % 32 ≡ 0 → reaches m a ≡ true → a / 4 + 8 ≤ length m.words
-block_inside m a shape aligned reached =
-    let inside = slice_get_within m.states (a / 32) Lent (lent_if_reached m a reached) in
-    omega (arith, inside, shape.eight_each, aligned)
 
 -- a word outside the block lies before or after the three
 beside_one : (a other : ℕ) → a % 32 ≡ 0 → (other / 32 ≡ a / 32 → ⊥) → (other < a + 12) ⊎ (a + 24 ≤ other)

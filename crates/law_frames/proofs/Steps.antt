@@ -3,6 +3,7 @@ use Rattle.std.proofs.Common.{◌≡◌, ◌≢◌, ℕ, ◌<◌, Bool, true, fa
 use Rattle.std.specs.Prelude.{nat_lt}
 use Rattle.std.proofs.lemmas.Bool.{cases_eq}
 use Rattle.std.proofs.lemmas.Option.{same_Some}
+use Rattle.law_frames.proofs.Common.{early_below}
 use Rattle.usb_base.specs.declared.packets.Ask.{Ask}
 use Rattle.usb_base.specs.declared.packets.Reply.{Reply}
 use Rattle.usb_base.specs.declared.packets.Reply.TheVariants.{Bytes}
@@ -45,9 +46,6 @@ raised_base : (v : Sitd) (o : SplitOutcome) (r : RegisterFile) → base_of (sitd
 unfolding iso_raised
 raised_base v o r = refl
 
-microframe_low : (f : ℕ) → microframe_of f < 8
-microframe_low f = omega arith
-
 module _ {W : Type 0} (transacts : W → Ask → List ℕ → Reply → W → Type 0) (met : ℕ → Option Kind) (parts : StructureSets) (c : SitdCopy) (p : FramePlace) (wire : W) (new : FramePlace) (after : W) where
   abbrev Happens : WalkStep → Type 0
   Happens kind = FrameHappens transacts met parts (OfSitd c) wire after p new kind
@@ -87,7 +85,7 @@ module _ {W : Type 0} (transacts : W → Ask → List ℕ → Reply → W → Ty
       let read = sends met parts p.memory p.walk.reply c u k none turn in
       let asked : IsAsked transacts t.ask read.out (sitd_left_by t c.held p) wire new after = subst asking read.read leads in
       let small = heard_small heard t.ask read.out asked.reply asked.made in
-      let next = transacted_is_in_hand met parts p.memory p.walk.reply asked.reply c u k none turn (microframe_low p.walk.index) small in
+      let next = transacted_is_in_hand met parts p.memory p.walk.reply asked.reply c u k none turn (early_below p.walk.index) small in
       let left : IsFrame met parts (OfSitd (transacted u asked.reply c)) (sitd_left_by t c.held p asked.reply) = record {
         tells = frame.tells;
         members = frame.members;

@@ -1,7 +1,12 @@
 -- What is told of queue heads where the walk of the frames reads, passes on, takes, asks or writes back.
-use Rattle.std.proofs.Common.{◌≡◌, ◌≢◌, ℕ, ◌+◌, ◌-◌, ◌<◌, ◌≤◌, min, Bool, true, false, ◌&&◌, ◌==◌, if◌then◌else◌, List, [], ◌∷◌, length, take, drop, Option, Some, None, ap, refl, sym, subst, ◌∙◌, ⊎_elim, arith}
+use Rattle.std.proofs.Common.{◌≡◌, ◌≢◌, ℕ, ◌+◌, ◌-◌, ◌<◌, ◌≤◌, min, Bool, true, false, ◌&&◌, ◌==◌, if◌then◌else◌, List, length, take, drop, Option, Some, None, ap, refl, sym, subst, ◌∙◌, ⊎_elim, arith}
 use Rattle.std.proofs.lemmas.Bool.{cases_eq, cases_lt}
 use Rattle.std.proofs.lemmas.List.{length-take, length-drop}
+use Rattle.law_frames.proofs.Common.{bytes_few}
+use Rattle.law_frames.proofs.Common.{written_from}
+use Rattle.law_common.proofs.Lists.{no_bytes}
+use Rattle.law_common.proofs.Numbers.{other_number}
+use Rattle.law_ring.proofs.Common.{endpoint_kept}
 use Rattle.usb_base.specs.declared.packets.Ask.{Ask}
 use Rattle.usb_base.specs.declared.packets.EpKind.TheVariants.{Interrupt}
 use Rattle.usb_base.specs.declared.packets.Dir.TheVariants as Directions
@@ -15,11 +20,7 @@ use Rattle.qh_qtd.specs.declared.qtd.Qtd.{Qtd}
 use Rattle.qh_qtd.specs.declared.queue_head.Qh.{Qh}
 use Rattle.itd_sitd.specs.declared.itd.Itd.{Itd}
 use Rattle.itd_sitd.specs.declared.sitd.Sitd.{Sitd}
-use Rattle.toggle_error.specs.declared.host.HostSide.{HostSide}
-use Rattle.toggle_error.specs.Columns.{limit_of}
-use Rattle.hc_copy.specs.declared.held.Transaction.{Transaction}
 use Rattle.hc_copy.specs.Overlay.{settled_queue, pages_of, buffer_place, moved, advanced}
-use Rattle.hc_copy.specs.Planning.{carries}
 use Rattle.hc_copy.specs.WriteBack.{moved_by}
 use Rattle.hc_interrupt.specs.Turns.{planned, is_last_of}
 use Rattle.hc_interrupt.specs.Copies.{goes_on}
@@ -33,7 +34,7 @@ use Rattle.periodic_walk.specs.Place.{FramePlace}
 use Rattle.law_structures.specs.lent_structures.Structures.{QueueHead, Buffer, Isochronous, SplitIsochronous, Structures, StructureSets, Tells, put}
 use Rattle.law_structures.proofs.lemmas.lent_structures.Reading.{bytes_part}
 use Rattle.law_structures.specs.lent_structures.WriteBack.{received_parts}
-use Rattle.law_structures.proofs.lemmas.lent_structures.Names.{put_beside, not_same}
+use Rattle.law_structures.proofs.lemmas.lent_structures.Names.{put_beside}
 use Rattle.law_structures.proofs.lemmas.lent_structures.Found.{received_beside}
 use Rattle.law_structures.specs.lent_structures.Sound.{element_pages, buffer_name, HasBuffer, IsReady, IsWorking, IsSoundQueue}
 use Rattle.law_structures.proofs.lemmas.lent_structures.Altering.{found_queue}
@@ -43,13 +44,13 @@ use Rattle.law_ring.specs.Effects.{bytes_in, buffer_of, AreSent, Takes, in_frame
 use Rattle.law_ring.specs.Told.{works_on, told_bytes, settled_bytes, hand_bytes, Told, hand_toggle, HasToggle, Endpoint, endpoint_of, HasEndpoint, SameTold}
 use Rattle.law_ring.specs.Streams.{StreamEffect}
 use Rattle.law_ring.specs.Streams.StreamEffect.{same, aside, grows}
-use Rattle.law_ring.proofs.Keeping.{IsUnsettled as NothingSettled, empty_unsettled, copied_unsettled, unsettled_bytes, unsettled_toggle, bytes_kept, toggle_kept, endpoint_kept, same_kept, taking_tells_the_same}
+use Rattle.law_ring.proofs.Keeping.{IsUnsettled as NothingSettled, empty_unsettled, copied_unsettled, unsettled_bytes, unsettled_toggle, bytes_kept, toggle_kept, same_kept, taking_tells_the_same}
 use Rattle.law_ring.proofs.Growing.{overwritten_by_none, asked_grows}
 use Rattle.law_ring.proofs.Written.{WritesCopy, write_tells_the_same}
 use Rattle.law_frames.specs.Met.{Kind, AQueue, AnItd, ASitd, IsMetAs, IsMetQueue}
 use Rattle.law_frames.specs.FrameHand.{QueueSettlement, came, settled_in, ItdCopy, SitdCopy, FrameHand, Nothing, OfQueue, OfSettled, OfItd, OfSitd, queue_hand}
 use Rattle.law_frames.specs.Frame.{IsQueueSettled, IsCopiedQueue, IsCopiedItd, IsTurned, IsCopiedSitd, IsInFrame, IsFrame}
-use Rattle.law_frames.specs.FrameEffects.{AreOfBuffer, AreOut, IsUnsettled, Fetches, TakesOne, MakesOfQueue, MakesOfItd, MakesOfSitd, MakesOne, missed_settlement, queue_written, after_back, IsSettledFrom, was_worked, was_missed, WritesQueue, itd_back, WritesItd, IsWrittenFrom, made, missed, sitd_back, WritesSitd, WritesOne, of_queue, of_itd, of_sitd, FrameEffect}
+use Rattle.law_frames.specs.FrameEffects.{AreOfBuffer, AreOut, IsUnsettled, Fetches, TakesOne, MakesOfQueue, MakesOfItd, MakesOfSitd, MakesOne, missed_settlement, queue_written, after_back, IsSettledFrom, was_worked, was_missed, WritesQueue, itd_back, WritesItd, made, sitd_back, WritesSitd, WritesOne, of_queue, of_itd, of_sitd, FrameEffect}
 use Rattle.law_frames.specs.FrameEffects.FrameEffect.{fetches, passes, ends, takes, makes, writes}
 use Rattle.law_frames.specs.FrameStreams.{AsksIso, IsIsoAsk, FrameMovesStreams}
 use Rattle.law_frames.proofs.QueueBacks.{settled_facts, settled_range, written_facts, hand_is_settled}
@@ -140,7 +141,7 @@ missed_told parts c here = record {
     bytes_by n e q head t bs =
         ⊎_elim (λ (same_one : n ≡ c.at). missed_bytes c n e q t bs (queue_is n q head same_one) (c.at == n && works_on q e) refl)
         (λ (differs : n ≢ c.at). ap (λ (b : Bool). if b && works_on q e then settled_bytes q t
-        (came (missed_settlement c.queue)) bs else told_bytes q e t bs) (not_same c.at n (λ is. differs (sym is)))) (cases_eq n c.at)
+        (came (missed_settlement c.queue)) bs else told_bytes q e t bs) (other_number c.at n (λ is. differs (sym is)))) (cases_eq n c.at)
 
     toggle_at : (n : ℕ) (q : Qh) (b : Bool) → (b ≡ true → q ≡ c.queue)
         → (if b then c.queue.token.toggle else q.token.toggle) ≡ q.token.toggle
@@ -152,20 +153,9 @@ missed_told parts c here = record {
     toggle_by n q head =
         ⊎_elim (λ (same_one : n ≡ c.at). toggle_at n q (c.at == n) (λ on. queue_is n q head same_one))
         (λ (differs : n ≢ c.at). ap (λ (b : Bool). if b then c.queue.token.toggle else q.token.toggle)
-        (not_same c.at n (λ is. differs (sym is)))) (cases_eq n c.at)
+        (other_number c.at n (λ is. differs (sym is)))) (cases_eq n c.at)
 
 -- ---- the bytes that go out
-
-few_if : (b : Bool) (host : HostSide) → (if b then limit_of host else 0) ≤ host.left
-few_if true host = omega arith
-few_if false host = omega arith
-
-planned_few : (q : Qh) → (planned q).bytes ≤ q.token.total
-planned_few q = let t : Transaction = planned q in few_if (carries t.split t.pipe.pid t.host.ping) t.host
-
-no_bytes : (xs : List ℕ) → length xs ≡ 0 → xs ≡ []
-no_bytes [] e = refl
-no_bytes (x ∷ xs) e = absurd (omega (arith, e))
 
 -- those of a buffer are those of memory
 bytes_there : (m : Mem) (parts : StructureSets) (at : ℕ) (pages : List ℕ) (from n : ℕ) (out : List ℕ) → Tells m parts → 0 < n
@@ -265,10 +255,6 @@ no_sitd : (parts : StructureSets) (c : SitdCopy) → parts c.held.at c.held.at �
     → parts c.held.at c.held.at ≡ Some (QueueHead q) → ⊥
 no_sitd parts c here q head = let e : Some (QueueHead q) ≡ Some (SplitIsochronous c.sitd) = sym head ∙ here in cc
 
-written_from : (w : Walk) (copy back : SitdCopy) → IsWrittenFrom w copy back → back.held.at ≡ copy.held.at
-written_from w copy back (made is) = ap (λ (c : SitdCopy). c.held.at) is
-written_from w copy back (missed unsettled turn is) = ap (λ (c : SitdCopy). c.held.at) is
-
 -- ---- a queue head
 
 endpoint_written : (c : Copy) (z : QueueSettlement) → endpoint_of (queue_written c z) ≡ endpoint_of c.queue
@@ -337,7 +323,7 @@ module _ {W : Type 0} (transacts : W → Ask → List ℕ → Reply → W → Ty
         asked_as = in_frames (is_last_of p.walk.index r.copy.queue);
         out = r.out;
         sent = sent_so p.memory parts r.copy.at r.copy.queue (planned r.copy.queue).bytes r.out w k.tells
-            ((part.elements r.copy.queue.current w.element w.here).work w.published) (planned_few r.copy.queue) r.sent;
+            ((part.elements r.copy.queue.current w.element w.here).work w.published) (bytes_few r.copy.queue) r.sent;
         reply = r.reply;
         made = r.asked;
         held = r.copy;

@@ -2,6 +2,7 @@
 use Rattle.std.proofs.Common.{◌≡◌, ℕ, ◌+◌, ◌<◌, Bool, true, false, if◌then◌else◌, length, slice_index, Option, None, ap, refl, sym, subst, ◌∙◌, arith}
 use Rattle.std.specs.Prelude.{nat_le}
 use Rattle.std.proofs.lemmas.Bool.{leb-true}
+use Rattle.law_frames.proofs.Common.{missing}
 use Rattle.usb_base.specs.declared.packets.Pid.TheVariants as pids
 use Rattle.usb_base.specs.declared.packets.Reply.{Reply}
 use Rattle.usb_base.specs.declared.packets.Reply.TheVariants.{Silent, Bytes, Hand}
@@ -30,10 +31,6 @@ use Rattle.law_frames.specs.SitdBacks.{IsSitdInHand, transacted, missed}
 working : (b lost now : Bool) → turn_at b lost now ≡ turns.Work → b ≡ true
 working true lost now is = refl
 working false lost now is = cc
-
-missing : (b lost now : Bool) → turn_at b lost now ≡ turns.Miss → b ≡ true
-missing true lost now is = refl
-missing false lost now is = cc
 
 pub works_active : (u : ℕ) (v : Sitd) → sitd_turn u v ≡ turns.Work → v.active ≡ true
 works_active u v is = working v.active (sitd_missed u v) (comes u v) is

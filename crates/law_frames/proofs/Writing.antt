@@ -1,8 +1,8 @@
 -- What the transaction in hand came to is written back: the bytes received into the buffer, the overlay, and where the qTD ended its token.
 use Rattle.std.proofs.Common.{◌≡◌, ℕ, ◌+◌, ◌-◌, ◌<◌, ◌≤◌, Bool, true, not, ◌&&◌, ◌==◌, if◌then◌else◌, List, [], ◌∷◌, length, Option, Some, ap, refl, sym, subst, ◌∙◌, ⊎_elim, arith}
 use Rattle.std.specs.Prelude.{◌⊎◌}
-use Rattle.usb_base.specs.declared.packets.Pid.{Pid}
-use Rattle.usb_base.specs.declared.packets.Pid.TheVariants as Packets
+use Rattle.law_ring.proofs.Common.{got_few}
+use Rattle.law_structures.proofs.Common.{place_few}
 use Rattle.usb_base.specs.declared.packets.Reply.{Reply}
 use Rattle.word_mem.specs.Memory.{Mem}
 use Rattle.link_words.specs.declared.fields.ShortLink.{ShortLink}
@@ -10,15 +10,14 @@ use Rattle.link_words.specs.Links.{qtd_link_of}
 use Rattle.qh_qtd.specs.declared.qtd.Qtd.{Qtd}
 use Rattle.qh_qtd.specs.declared.queue_head.Qh.{Qh}
 use Rattle.qh_qtd.specs.QueueHead.{IsQhInRange}
-use Rattle.toggle_error.specs.declared.host.Outcome.{Outcome}
 use Rattle.hc_copy.specs.Overlay.{settled_queue, buffer_place, moved}
 use Rattle.hc_copy.specs.Planning.{pid_at, host_in}
 use Rattle.hc_copy.specs.WriteBack.{moved_by, received}
 use Rattle.hc_copy.proofs.Ranges.{moved_in_range}
-use Rattle.law_structures.specs.lent_structures.Settles.{Leaves, Brings}
+use Rattle.law_structures.specs.lent_structures.Settles.{Leaves}
 use Rattle.law_structures.specs.lent_structures.Structures.{QueueHead, Element, Buffer, Structures, StructureSets, HoldsBuffer, Tells}
 use Rattle.law_structures.specs.lent_structures.WriteBack.{Received, Into, IsReceived, CanBeWritten, parts_back}
-use Rattle.law_structures.proofs.lemmas.lent_structures.WrittenBack.{all_is_written, write_back_is_told, place_small}
+use Rattle.law_structures.proofs.lemmas.lent_structures.WrittenBack.{all_is_written, write_back_is_told}
 use Rattle.law_structures.proofs.lemmas.lent_structures.Found.{back_beside, back_element, back_head}
 use Rattle.law_structures.specs.lent_structures.Sound.{LeadsOn, element_pages, buffer_name, HasBuffer, IsReady, IsSoundElement, IsWorking, IsSoundQueue}
 use Rattle.law_structures.specs.lent_structures.Alters.{Alters}
@@ -53,10 +52,6 @@ unfolding settled_queue
 received_same c z reply = refl
 
 -- ---- the bytes received
-
-got_few : (pid : Pid) (o : Outcome) (got : List ℕ) → Brings pid o got → length got ≤ moved_by o
-got_few Packets.In o got brings = let e = brings.all refl in omega (arith, e)
-got_few pid o got brings = let e = ap length (brings.none (λ is. cc)) in omega (arith, e)
 
 host_leaves : (c : Copy) (z : QueueSettlement) (reply : Reply) → IsQueueSettled c.queue reply z → Leaves (host_in c.queue) z.outcome z.host
 host_leaves c z reply is = is.came_to.host
@@ -97,7 +92,7 @@ goes part c z reply w ready is (b ∷ bs) e =
 
 place_within : (m : Mem) (parts : StructureSets) (c : Copy) (z : QueueSettlement) (reply : Reply) (w : IsWorking (parts c.at) c.queue) → Tells m parts → IsReady (parts c.at) w.element → IsQhInRange (copied_queue c) → IsQueueSettled c.queue reply z → (moved_by z.outcome ≡ 0) ⊎ (0 < z.host.left) → buffer_place c.queue + moved_by z.outcome < 20480
 place_within m parts c z reply w tells ready range is some =
-    ⊎_elim (λ (none : moved_by z.outcome ≡ 0). let few = place_small (copied_queue c) range in omega (arith, none, few))
+    ⊎_elim (λ (none : moved_by z.outcome ≡ 0). let few = place_few (copied_queue c) range in omega (arith, none, few))
     (λ (left : 0 < z.host.left).
     let moved_is = (moved_few c z reply is).0 in
     let fewer = w.fewer in

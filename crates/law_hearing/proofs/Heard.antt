@@ -1,11 +1,11 @@
 -- Each ask is heard as the lines of the script and the ports of the hubs say.
-use Rattle.std.proofs.Common.{◌≡◌, ℕ, zero, suc, ◌+◌, ◌-◌, ◌<◌, ◌≤◌, Bool, true, false, List, [], ◌∷◌, Option, Some, None, option_map, refl, ap, sym, subst, ◌∙◌, inl, inr, arith, ⊎_elim}
-use Rattle.std.specs.Prelude.{◌==◌, ◌&&◌, ◌||◌, not, nat_lt, length, position, slice_get, slice_set, if◌then◌else◌}
+use Rattle.std.proofs.Common.{◌≡◌, ℕ, ◌+◌, ◌-◌, ◌<◌, Bool, true, false, List, Option, Some, None, option_map, refl, ap, sym, subst, ◌∙◌, inl, inr, arith, ⊎_elim}
+use Rattle.std.specs.Prelude.{◌==◌, ◌&&◌, ◌||◌, not, length, position, slice_get, slice_set, if◌then◌else◌}
 use Rattle.std.specs.Option.{option_and_then, option_map_or}
 use Rattle.std.proofs.lemmas.Bool.{false≢true}
-use Rattle.std.proofs.lemmas.Bool.Decides.{nat_tests}
 use Rattle.std.proofs.lemmas.List.{set-get_or}
 use Rattle.std.proofs.lemmas.Option.{get_or_from_slice_get}
+use Rattle.law_common.proofs.Lists.{there_at}
 use Rattle.usb_base.specs.Acknowledgement.{acknowledges}
 use Rattle.usb_base.specs.declared.packets.Ask.{Ask}
 use Rattle.usb_base.specs.declared.packets.Reply.{Reply}
@@ -263,12 +263,6 @@ module _ (b : Bus) (ask : Ask) (out : List ℕ) where
   party_same owner (Start hub port part) = named_same owner (stuff_of owner) (stuff_is owner) (position (λ h. h.address == hub) b.hubs)
   party_same owner (Complete hub port) = named_same owner (stuff_of owner) (stuff_is owner) (position (λ h. h.address == hub) b.hubs)
 
--- what stands at a place within a list
-pub element : {X : Type 0} (xs : List X) (i : ℕ) → i < length xs → (x : X) × (slice_get xs i ≡ Some x)
-element [] i h = absurd (omega arith)
-element (x ∷ xs) zero h = (x, refl)
-element (x ∷ xs) (suc i) h = element xs i (omega arith)
-
 pub asked_here : (fixed : Fixed) (ask : Ask) (place : ℕ) → IsFirst fixed.seats ask place → (seat : Seat)
     → slice_get fixed.seats place ≡ Some seat
     → IsAsked fixed.seats ask place seat
@@ -277,12 +271,6 @@ asked_here fixed ask place asked seat there = record {
   asked = sym (ap (λ (s : Seat). is_for ask s.name) (get_or_from_slice_get fixed.seats place seat seat there)) ∙ asked.asked seat;
   first = asked.first;
 }
-
-pub lt_test : (a b : ℕ) → a < b → nat_lt a b ≡ true
-lt_test a b h = grind (arith, nat_tests)
-
-pub ge_test : (a b : ℕ) → b ≤ a → nat_lt a b ≡ false
-ge_test a b h = grind (arith, nat_tests)
 
 module _ (fixed : Fixed) (b : Bus) (ask : Ask) (out : List ℕ) (sizes : length b.high ≡ length fixed.seats) where
   module _ (place : ℕ) (seat : Seat) (number : ℕ) (first : IsAsked fixed.seats ask place seat) (next : slice_get b.high place ≡ Some number)
@@ -353,8 +341,8 @@ module _ (fixed : Fixed) (b : Bus) (ask : Ask) (out : List ℕ) (sizes : length 
       )
   heard_at (Some place) is =
       let asked = first_asked fixed.seats ask place is in
-      let seat = element fixed.seats place asked.within in
-      let number = element b.high place (subst (λ (n : ℕ). place < n) (sym sizes) asked.within) in
+      let seat = there_at fixed.seats place asked.within in
+      let number = there_at b.high place (subst (λ (n : ℕ). place < n) (sym sizes) asked.within) in
       inr (transaction place seat.0 number.0 (asked_here fixed ask place asked seat.0 seat.1) number.1 is)
 
 pub asks_are_heard : AsksAreHeard

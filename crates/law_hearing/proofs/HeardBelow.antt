@@ -5,6 +5,8 @@ use Rattle.std.specs.Option.{option_and_then}
 use Rattle.std.proofs.lemmas.Bool.{cases_lt}
 use Rattle.std.proofs.lemmas.List.FromFn.{length-map-range_with_len, get_or-map-range_with_len}
 use Rattle.std.proofs.lemmas.Option.{slice_get-get_or, slice_get_past}
+use Rattle.law_common.proofs.Lists.{there_at}
+use Rattle.law_common.proofs.Numbers.{is_less, not_below}
 use Rattle.usb_base.specs.declared.packets.Ask.{Ask}
 use Rattle.usb_base.specs.declared.packets.Reply.{Reply}
 use Rattle.endpoint_script.specs.Device.{Device, answered, acked_by}
@@ -25,7 +27,7 @@ use Rattle.bus_wire.specs.WhoHeard.{asker_hears, left_by, later}
 use Rattle.claims_answers.specs.Hearing.{Party, packets, IsExchange, missed, IsAsked, nobody, is_behind, floor_device, floor_party, IsTransactionBelow, IsHeardBelow}
 use Rattle.law_hearing.specs.HearingLaws.{AsksAreHeardBelow}
 use Rattle.law_hearing.proofs.Asked.{none_asked, first_asked}
-use Rattle.law_hearing.proofs.Heard.{left_alone, left_at, exchanges, row_here, row_is, count_is, element, asked_here, lt_test, ge_test}
+use Rattle.law_hearing.proofs.Heard.{left_alone, left_at, exchanges, row_here, row_is, count_is, asked_here}
 
 -- ---- below a hub
 
@@ -37,11 +39,11 @@ port_is h port =
     ap (λ (o : Option Bool). unwrap_or o false)
     (slice_get-get_or (enabled_ports h) port false (omega (arith, length-map-range_with_len (λ (k : ℕ). is_enabled k h.ports) 0 16)))
     ∙ get_or-map-range_with_len (λ (k : ℕ). is_enabled k h.ports) 0 16 port port false lt (omega arith)
-    ∙ sym (ap (λ (c : Bool). c && is_enabled port h.ports) (lt_test port 16 lt)))
+    ∙ sym (ap (λ (c : Bool). c && is_enabled port h.ports) (is_less port 16 lt)))
     (λ (ge : 16 ≤ port).
     ap (λ (o : Option Bool). unwrap_or o false)
     (slice_get_past (enabled_ports h) port (omega (arith, length-map-range_with_len (λ (k : ℕ). is_enabled k h.ports) 0 16)))
-    ∙ sym (ap (λ (c : Bool). c && is_enabled port h.ports) (ge_test port 16 ge)))
+    ∙ sym (ap (λ (c : Bool). c && is_enabled port h.ports) (not_below port 16 ge)))
     (cases_lt port 16)
 
 module _ (fixed : Fixed) (h : HubContent) (floor : Floor) (ask : Ask) (out : List ℕ) where
@@ -164,8 +166,8 @@ module _ (fixed : Fixed) (h : HubContent) (floor : Floor) (ask : Ask) (out : Lis
         )
     below_at_place (Some place) is =
         let asked = first_asked fixed.seats ask place is in
-        let seat = element fixed.seats place asked.within in
-        let number = element floor.numbers place (subst (λ (n : ℕ). place < n) (sym sizes) asked.within) in
+        let seat = there_at fixed.seats place asked.within in
+        let number = there_at floor.numbers place (subst (λ (n : ℕ). place < n) (sym sizes) asked.within) in
         inr (transaction_below place seat.0 number.0 (asked_here fixed ask place asked seat.0 seat.1) number.1 is)
 
 pub asks_are_heard_below : AsksAreHeardBelow

@@ -1,33 +1,12 @@
 -- Where no two of what is placed have one key, each is found by its key.
-use Rattle.std.proofs.Common.{◌≡◌, Bool, true, false, cond, List, [], ◌∷◌, Some, refl, ap, ◌∙◌}
-use Rattle.std.specs.Prelude.{◌&&◌, ◌==◌}
+use Rattle.std.proofs.Common.{◌≡◌, Bool, false, cond, List, [], ◌∷◌, Some, ap, ◌∙◌}
 use Rattle.std.specs.List.{AllByRecursion}
-use Rattle.std.proofs.lemmas.Bool.{eq-eqb}
-use Rattle.usb_base.specs.declared.packets.Dir.{Dir}
-use Rattle.usb_base.specs.declared.packets.Dir.TheVariants.{In, Out}
-use Rattle.usb_base.specs.declared.packets.EpKind.{EpKind}
-use Rattle.usb_base.specs.declared.packets.EpKind.TheVariants.{Control, Iso, Bulk, Interrupt}
-use Rattle.hub_keys.specs.Keys.{is_same_direction, is_same_kind, is_same_key}
+use Rattle.law_translator.proofs.Common.{same_key}
+use Rattle.hub_keys.specs.Keys.{is_same_key}
 use Rattle.hub_keys.specs.declared.key.Key.{Key}
 use Rattle.bandwidth.specs.declared.placements.Placed.{Placed}
 use Rattle.law_hub_plans.specs.HubPlans.{placed_as, first_of, times_of, AreKeysApart}
 use Rattle.law_hub_plans.specs.Laws.{IsKeptIn, PlacesAreKept}
-
-same_direction : (d : Dir) → is_same_direction d d ≡ true
-same_direction In = refl
-same_direction Out = refl
-
-same_kind : (k : EpKind) → is_same_kind k k ≡ true
-same_kind Control = refl
-same_kind Iso = refl
-same_kind Bulk = refl
-same_kind Interrupt = refl
-
-same_key : (k : Key) → is_same_key k k ≡ true
-same_key k =
-    ap (λ (b : Bool). b && k.ep == k.ep && is_same_direction k.dir k.dir && is_same_kind k.kind k.kind) (eq-eqb k.addr k.addr refl)
-    ∙ ap (λ (b : Bool). b && is_same_direction k.dir k.dir && is_same_kind k.kind k.kind) (eq-eqb k.ep k.ep refl)
-    ∙ ap (λ (b : Bool). b && is_same_kind k.kind k.kind) (same_direction k.dir) ∙ same_kind k.kind
 
 module _ (key : Placed → Key) where
   abbrev pub IsFoundIn : List Placed → Placed → Type 0

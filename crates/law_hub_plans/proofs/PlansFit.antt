@@ -5,6 +5,7 @@ use Rattle.std.specs.List.{AllByRecursion}
 use Rattle.std.proofs.lemmas.Bool.Decides.{nat_tests}
 use Rattle.std.proofs.lemmas.Bool.{cases_lt}
 use Rattle.std.proofs.lemmas.List.Sums.{sum_by-cons}
+use Rattle.law_common.proofs.Numbers.{sum_up}
 use Rattle.usb_base.specs.Limits.{frame_list_length}
 use Rattle.hub_keys.specs.declared.key.Key.{Key}
 use Rattle.bandwidth.specs.declared.placements.Placed.{Placed}
@@ -73,9 +74,6 @@ one_counted hub port f u y small served active =
     ∙ ap (λ (b : Bool). if b then laid_in y.want y.placement ((8 * f + u) % 8) else 0) at
     ∙ ap (laid_in y.want y.placement) (part_of f u small) in
     subst (λ (n : ℕ). of_placed u y ≤ n) (sym is) (by_first (first_in y.placement.smask) (time_in y.want) u)
-
-sum_up : (a b c d : ℕ) → a ≤ b → c ≤ d → a + c ≤ b + d
-sum_up a b c d h i = omega (arith, h, i)
 
 more : (a b c : ℕ) → a ≤ c → a ≤ b + c
 more a b c h = omega (arith, h)

@@ -4,6 +4,7 @@ use Rattle.std.specs.Prelude.{◌==◌, ◌&&◌, find}
 use Rattle.std.specs.List.{AllByRecursion}
 use Rattle.std.proofs.lemmas.Bool.{and_parts, eqb-true, eq-eqb, true≢false, cases_Bool, cond-true, cond-false}
 use Rattle.std.proofs.lemmas.Option.{same_Some}
+use Rattle.law_common.proofs.Lists.{all_both, all_map, nth_all}
 use Rattle.usb_base.specs.declared.endpoints.EpName.{EpName}
 use Rattle.script_types.specs.declared.devices.HubText.{HubText}
 use Rattle.script_world.specs.Draft.{Draft, Placed, device_of, device_text, script_of}
@@ -17,7 +18,7 @@ use Rattle.bus_wire.specs.Seats.{suits, owner_at, seat_at, seats_from, hub_seats
 use Rattle.law_devices.specs.Senders.{sender_of_owner, sender_of_seat, sender_of_place, sender_of}
 use Rattle.law_devices.specs.scripted_takers.Takers.{taker_of_owner, taker_of_seat, taker_of_place, taker_of}
 use Rattle.law_devices.proofs.Drafts.{IsApart, AreApart, addresses, IsEpOf, HasOwn, IsDeclaredDraft}
-use Rattle.law_devices.proofs.Lists.{all_append, all_map, all_at, all_find, all_filter_map, found_passes, found_first, none_each}
+use Rattle.law_devices.proofs.Lists.{all_find, all_filter_map, found_passes, found_first, none_each}
 use Rattle.law_devices.proofs.lemmas.declared_controls.Places.{position_none}
 
 -- a seat of this address isn't that of a device on the high-speed bus
@@ -53,7 +54,7 @@ seats_not : (names : List EpName) (a k : ℕ) (ds : List Placed) → AllByRecurs
     → AllByRecursion (IsNotHigh a) (seats_from k (map device_text ds))
 seats_not names a k [] behind own = tt
 seats_not names a k (d ∷ ds) behind own =
-    all_append (IsNotHigh a) (map (seat_at k) d.eps) (seats_from (k + 1) (map device_text ds))
+    all_both (IsNotHigh a) (map (seat_at k) d.eps) (seats_from (k + 1) (map device_text ds))
     (all_map (IsEpOf names d.addr d.hub) (IsNotHigh a) (seat_at k) d.eps
     (λ e z same n is.
     let b : HasHub d = behind.0 (sym z.address ∙ same) in behind_high k b.hub e.desc.port e.stuff n e.desc.hub (z.behind ∙ b.is) is)
@@ -82,7 +83,7 @@ each_behind a h (x ∷ ds) d here hub apart =
 pub behind_not : (w : Draft) (a h : ℕ) (d : Placed) → IsDeclaredDraft w → device_of w.devices a ≡ Some d → d.hub ≡ Some h
     → AllByRecursion (IsNotHigh a) (seats_of (script_of w))
 behind_not w a h d k here hub =
-    all_append (IsNotHigh a) (hub_seats_from 0 w.hubs) _ (hub_not a 0 w.hubs)
+    all_both (IsNotHigh a) (hub_seats_from 0 w.hubs) _ (hub_not a 0 w.hubs)
     (all_filter_map (IsNotHigh a) (seat_named (seats_from 0 (map device_text w.devices))) w.endpoints
     (λ name. all_find (IsNotHigh a) (λ s. is_same_name s.name name) (seats_from 0 (map device_text w.devices))
     (seats_not w.endpoints a 0 w.devices (each_behind a h w.devices d here hub k.apart) k.own)))
@@ -113,7 +114,7 @@ module _ (w : Wired) (addr ep : ℕ) (each : AllByRecursion (IsNotHigh addr) w.f
   sender_by None is = ap (sender_of_place w addr ep) (position_none asked_in w.fixed.seats (none_each asked_in w.fixed.seats is))
   sender_by (Some seat) is =
       let z = found_first asked_in w.fixed.seats seat is in
-      let here = all_at (IsNotHigh addr) w.fixed.seats z.place seat each z.here
+      let here = nth_all (IsNotHigh addr) w.fixed.seats z.place seat each z.here
       (address_of seat _ (found_passes asked_in w.fixed.seats seat is)) in
       ap (sender_of_place w addr ep) z.at ∙ ap (sender_of_seat w.bus addr ep) z.here ∙ owner_sends w.bus addr ep seat.owner here
 
@@ -124,7 +125,7 @@ module _ (w : Wired) (addr ep : ℕ) (each : AllByRecursion (IsNotHigh addr) w.f
   taker_by None is = ap (taker_of_place w addr ep) (position_none asked_out w.fixed.seats (none_each asked_out w.fixed.seats is))
   taker_by (Some seat) is =
       let z = found_first asked_out w.fixed.seats seat is in
-      let here = all_at (IsNotHigh addr) w.fixed.seats z.place seat each z.here
+      let here = nth_all (IsNotHigh addr) w.fixed.seats z.place seat each z.here
       (address_of seat _ (found_passes asked_out w.fixed.seats seat is)) in
       ap (taker_of_place w addr ep) z.at ∙ ap (taker_of_seat w.bus addr ep) z.here ∙ owner_takes w.bus addr ep seat.owner here
 

@@ -1,7 +1,9 @@
 -- Each endpoint that a text opens has its sender or its taker on the bus just where it is a bulk or interrupt one at high speed.
 use Rattle.std.proofs.Common.{◌≡◌, ℕ, Bool, true, false, List, Option, Some, None, refl, sym, ap, subst, ◌∙◌, inl, inr}
-use Rattle.std.specs.Prelude.{◌&&◌, not, is_some}
+use Rattle.std.specs.Prelude.{not, is_some}
 use Rattle.std.specs.List.{AllByRecursion}
+use Rattle.law_common.proofs.Booleans.{both_not, and_on, not_high}
+use Rattle.law_common.proofs.Lists.{nth_all}
 use Rattle.usb_base.specs.declared.commands.Cmd.TheVariants as commands
 use Rattle.usb_base.specs.declared.endpoints.EpDesc.{EpDesc}
 use Rattle.usb_base.specs.declared.packets.EpKind.{EpKind}
@@ -27,7 +29,6 @@ use Rattle.law_devices.specs.declared_controls.Names.{HasItsName, NamesLine}
 use Rattle.law_devices.specs.declared_controls.Zero.{IsNoStream}
 use Rattle.law_devices.specs.scripted_takers.Takers.{taker_of_part}
 use Rattle.law_devices.proofs.Drafts.{IsKnownDesc, IsDeclaredDraft}
-use Rattle.law_devices.proofs.Lists.{all_at}
 use Rattle.law_devices.proofs.Senders.{IsDeclaredAt, empty_declared, second_declared, line_declares, sender_is, rooted}
 use Rattle.law_devices.proofs.Texts.{IsScriptOf, spelled_kept}
 use Rattle.law_devices.proofs.lemmas.declared_controls.Alone.{zero_is_no_stream}
@@ -53,21 +54,9 @@ takes_by kinds.Interrupt t fits = refl
 takes_by kinds.Iso t fits = refl
 takes_by kinds.Control t fits = absurd fits
 
-and_on : (a b : Bool) → b ≡ true → (a && b) ≡ a
-and_on true b is = is
-and_on false b is = refl
-
-and_off : (a b : Bool) → b ≡ false → (a && b) ≡ false
-and_off true b is = is
-and_off false b is = refl
-
 no_hub_high : (b : Bool) → false ≡ not b → b ≡ true
 no_hub_high true is = refl
 no_hub_high false is = cc
-
-hub_low : (b : Bool) → true ≡ not b → b ≡ false
-hub_low true is = cc
-hub_low false is = refl
 
 -- ---- an endpoint that was declared
 
@@ -89,7 +78,7 @@ module _ (w : Draft) (h : IsDeclaredDraft w) (name : Name) (x : EpDesc) (k : IsD
         (sym (ap (λ (o : Option ℕ). is_some o) is) ∙ below)))
     in_by (Some hub) is way fits =
         ap is_some (no_sender (opening_wired (script_of w)) y.name.addr y.name.num (behind hub is))
-        ∙ sym (and_off (has_stream y.kind) (is_high y.speed) (hub_low (is_high y.speed)
+        ∙ sym (both_not (has_stream y.kind) (is_high y.speed) (not_high (is_high y.speed)
         (sym (ap (λ (o : Option ℕ). is_some o) is) ∙ below)))
 
     out_by : (o : Option ℕ) → y.hub ≡ o → y.name.way ≡ ways.Out → IsOfWay ways.Out y.kind → HasItsStream (script_of w) y ways.Out
@@ -100,7 +89,7 @@ module _ (w : Draft) (h : IsDeclaredDraft w) (name : Name) (x : EpDesc) (k : IsD
         (sym (ap (λ (o : Option ℕ). is_some o) is) ∙ below)))
     out_by (Some hub) is way fits =
         ap is_some (no_taker (opening_wired (script_of w)) y.name.addr y.name.num (behind hub is))
-        ∙ sym (and_off (has_stream y.kind) (is_high y.speed) (hub_low (is_high y.speed)
+        ∙ sym (both_not (has_stream y.kind) (is_high y.speed) (not_high (is_high y.speed)
         (sym (ap (λ (o : Option ℕ). is_some o) is) ∙ below)))
 
 -- ---- an endpoint that is opened
@@ -139,7 +128,7 @@ module _ (script : List ℕ) (s : Script) (spelled : Spells script s) (x : EpDes
 
   slow : IsBelowWhenSlow x
   slow =
-      (all_at (λ l. IsFitLine l.1) s.lines o.place (o.number, lines.Command (commands.OpenEp x))
+      (nth_all (λ l. IsFitLine l.1) s.lines o.place (o.number, lines.Command (commands.OpenEp x))
       (spelled_fits script s spelled).lines o.here).2.below
 
   drafted : IsScriptOf IsDeclaredDraft s
@@ -160,7 +149,7 @@ module _ (script : List ℕ) (s : Script) (spelled : Spells script s) (x : EpDes
 
   named : HasItsName x
   named =
-      all_at (λ l. NamesLine l.1) s.lines o.place (o.number, lines.Command (commands.OpenEp x))
+      nth_all (λ l. NamesLine l.1) s.lines o.place (o.number, lines.Command (commands.OpenEp x))
       (texts_name_endpoints script s spelled).opened o.here
 
   of_ctl : x.name.way ≡ ways.Ctl → HasItsStream s x ways.Ctl

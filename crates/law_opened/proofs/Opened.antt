@@ -3,6 +3,8 @@ use Rattle.std.proofs.Common.{◌≡◌, ◌≢◌, ℕ, true, List, Option, Som
 use Rattle.std.specs.Prelude.{◌==◌, find, option_map, option_and_then}
 use Rattle.std.proofs.lemmas.Bool.{and_parts, eqb-true}
 use Rattle.std.proofs.lemmas.Option.{same_Some}
+use Rattle.law_devices.proofs.Common.{ways_equal}
+use Rattle.law_common.proofs.Lists.{nth_all}
 use Rattle.usb_base.specs.declared.commands.Cmd.TheVariants as commands
 use Rattle.usb_base.specs.declared.endpoints.EpDesc.{EpDesc}
 use Rattle.usb_base.specs.declared.endpoints.EpName.{EpName}
@@ -13,7 +15,7 @@ use Rattle.script_types.specs.declared.scripts.Line.TheVariants as lines
 use Rattle.script_forms.specs.declared.statements.Name.{Name}
 use Rattle.script_world.specs.Draft.{Draft, Placed, device_of, ep_of, is_named, same_way, script_of}
 use Rattle.law_devices.proofs.Drafts.{IsEpOf, HasOwn, ep_in, IsNamedIn, IsKnownDesc, IsKnownLine, IsDeclaredDraft}
-use Rattle.law_devices.proofs.Lists.{Holds, all_at, all_find, found_passes}
+use Rattle.law_devices.proofs.Lists.{Holds, all_find, found_passes}
 use Rattle.law_devices.proofs.Senders.{IsDeclaredAt, empty_declared, second_declared, line_declares}
 use Rattle.law_devices.proofs.Texts.{IsScriptOf, spelled_kept}
 use Rattle.usb_base.specs.declared.packets.EpKind.{EpKind}
@@ -24,17 +26,6 @@ use Rattle.law_devices.proofs.lemmas.declared_controls.Controls.{texts_name_endp
 use Rattle.law_opened.specs.Opened.{IsOpened, OpensOnce, TextsOpenFit, TextsOpenOnce}
 
 -- ---- one name, one endpoint
-
-ways_equal : (a b : Way) → same_way a b ≡ true → a ≡ b
-ways_equal ways.In ways.In is = refl
-ways_equal ways.In ways.Out is = cc
-ways_equal ways.In ways.Ctl is = cc
-ways_equal ways.Out ways.In is = cc
-ways_equal ways.Out ways.Out is = refl
-ways_equal ways.Out ways.Ctl is = cc
-ways_equal ways.Ctl ways.In is = cc
-ways_equal ways.Ctl ways.Out is = cc
-ways_equal ways.Ctl ways.Ctl is = refl
 
 text_by : (ds : List Placed) (name : Name) (x : EpDesc) (d : Placed) (o : Option EpText) → device_of ds name.addr ≡ Some d
     → find (is_named name) d.eps ≡ o → option_map (λ (e : EpText). e.desc) o ≡ Some x → IsDeclaredAt ds name x
@@ -87,7 +78,7 @@ one_desc w h x y (inr kx) (inr ky) same other =
     same_Some x y (sym kx.here ∙ ap (λ (n : Name). ep_in w.devices n) names ∙ ky.here)
 
 pub known : (w : Draft) (h : IsDeclaredDraft w) (x : EpDesc) → IsOpened (script_of w) x → IsKnownDesc w.devices x
-known w h x o = all_at (λ l. IsKnownLine w.devices l.1) w.lines o.place (o.number, lines.Command (commands.OpenEp x)) h.opened o.here
+known w h x o = nth_all (λ l. IsKnownLine w.devices l.1) w.lines o.place (o.number, lines.Command (commands.OpenEp x)) h.opened o.here
 
 draft_opens_once : (w : Draft) → IsDeclaredDraft w → OpensOnce (script_of w)
 draft_opens_once w h x y ox oy same other = one_desc w h x y (known w h x ox) (known w h y oy) same other
@@ -123,5 +114,5 @@ name_fits kinds.Iso name k = iso_fits name.way k.way
 pub texts_open_fit : TextsOpenFit
 texts_open_fit text s spelled x o =
     name_fits x.kind x.name
-    (all_at (λ l. NamesLine l.1) s.lines o.place (o.number, lines.Command (commands.OpenEp x))
+    (nth_all (λ l. NamesLine l.1) s.lines o.place (o.number, lines.Command (commands.OpenEp x))
     (texts_name_endpoints text s spelled).opened o.here).name

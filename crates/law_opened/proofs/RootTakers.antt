@@ -5,8 +5,9 @@ use Rattle.std.specs.List.{AllByRecursion, list_any}
 use Rattle.std.specs.Option.{option_map}
 use Rattle.std.proofs.lemmas.Bool.{and_parts, eqb-true}
 use Rattle.std.proofs.lemmas.Option.{slice_get-map}
+use Rattle.law_devices.proofs.Common.{out_is, out_way}
+use Rattle.law_common.proofs.Lists.{all_both, all_more, nth_all}
 use Rattle.usb_base.specs.declared.endpoints.EpDesc.{EpDesc}
-use Rattle.usb_base.specs.declared.packets.Way.{Way}
 use Rattle.usb_base.specs.declared.packets.Way.TheVariants as way
 use Rattle.script_types.specs.declared.devices.EpText.{EpText}
 use Rattle.script_types.specs.declared.devices.HubText.{HubText}
@@ -19,23 +20,13 @@ use Rattle.bus_wire.specs.Seats.{suits, seats_from, hub_seats_from, seats_of}
 use Rattle.bus_wire.specs.Bus.{opening_bus, opening_wired}
 use Rattle.law_devices.specs.scripted_takers.Takers.{taker_of_part, taker_of_device, taker_of}
 use Rattle.law_devices.proofs.lemmas.scripted_takers.Asking.{taker_through, device_taker}
-use Rattle.law_devices.proofs.Lists.{Holds, all_append, all_more, all_at, all_find, any_later, any_found, found_passes, IsFirst}
+use Rattle.law_devices.proofs.Lists.{Holds, all_find, any_later, any_found, found_passes, IsFirst}
 use Rattle.law_devices.proofs.Lists.{found_first}
 use Rattle.law_devices.proofs.Lists.{none_each, find_same, find_map}
 use Rattle.law_devices.proofs.Drafts.{addresses, IsEpOf, HasOwn, IsDeclaredDraft}
 use Rattle.law_devices.proofs.Seats.{IsAt, owners, hub_owners, named_owners}
 use Rattle.law_devices.proofs.Senders.{IsDeclaredAt}
 use Rattle.law_devices.proofs.lemmas.declared_takers.Seats.{has_out_seat}
-
--- ---- ways
-
-out_is : (v : Way) → same_way way.Out v ≡ true → v ≡ way.Out
-out_is way.Out e = refl
-out_is _ e = cc
-
-out_way : (v : Way) → is_way v way.Out ≡ same_way v way.Out
-out_way way.In = refl
-out_way _ = refl
 
 -- ---- what the bus has for it
 
@@ -107,12 +98,12 @@ module _ (w : Draft) (h : IsDeclaredDraft w) (name : Name) (x : EpDesc) (k : IsD
   no_hubs : AllByRecursion (λ (x : HubText). (x.addr == k.device.addr) ≡ false) w.hubs
   no_hubs =
       none_each (λ (x : HubText). x.addr == k.device.addr) w.hubs
-      (all_at (λ a. hub_of w.hubs a ≡ None) (addresses w.devices) first.place k.device.addr h.no_hub
+      (nth_all (λ a. hub_of w.hubs a ≡ None) (addresses w.devices) first.place k.device.addr h.no_hub
       (slice_get-map (λ (d : Placed). d.addr) w.devices first.place ∙ ap (option_map (λ (d : Placed). d.addr)) first.here))
 
   seats_own : k.device.hub ≡ None → AllByRecursion (IsAt k.device.addr first.place) seats
   seats_own root =
-      all_append (IsAt k.device.addr first.place) (hub_seats_from 0 w.hubs) _ (hub_owners k.device.addr first.place 0 w.hubs no_hubs)
+      all_both (IsAt k.device.addr first.place) (hub_seats_from 0 w.hubs) _ (hub_owners k.device.addr first.place 0 w.hubs no_hubs)
       (named_owners k.device.addr first.place (seats_from 0 (map device_text w.devices)) w.endpoints
       (owners w.endpoints k.device.addr first.place 0 first.place w.devices k.device first.here refl (omega arith) root h.apart h.own))
 
@@ -128,7 +119,7 @@ module _ (w : Draft) (h : IsDeclaredDraft w) (name : Name) (x : EpDesc) (k : IsD
       let z = found_first test seats found.first found.is in
       let t = found_passes test seats found.first found.is in
       let named = eqb-true found.first.name.addr y.name.addr (and_parts (found.first.name.addr == y.name.addr) _ t).0 in
-      let owner = all_at (IsAt k.device.addr first.place) seats z.place found.first
+      let owner = nth_all (IsAt k.device.addr first.place) seats z.place found.first
       (seats_own (sym text.behind ∙ root)) z.here (named ∙ text.address) in
       taker_through (opening_wired (script_of w)) y.name.addr y.name.num z.place found.first first.place (opening_bus (script_of w))
       z.at z.here owner

@@ -3,6 +3,7 @@ use Rattle.std.proofs.Common.{◌≡◌, ℕ, Bool, false, slice_get, Some, ap, 
 use Rattle.std.specs.Prelude.{◌==◌, ◌&&◌, if◌then◌else◌}
 use Rattle.std.specs.List.{AllByRecursion}
 use Rattle.std.proofs.lemmas.Bool.{false≢true, true≢false, eq-eqb}
+use Rattle.law_common.proofs.Lists.{nth_all}
 use Rattle.usb_base.specs.declared.commands.Cmd.TheVariants as commands
 use Rattle.usb_base.specs.declared.endpoints.EpDesc.{EpDesc}
 use Rattle.usb_base.specs.declared.endpoints.EpName.{EpName}
@@ -12,7 +13,6 @@ use Rattle.script_types.specs.declared.scripts.Line.{Line}
 use Rattle.script_types.specs.declared.scripts.Line.TheVariants as lines
 use Rattle.drv_table.specs.Words.{is_high}
 use Rattle.law_driver.specs.queued_drivers.Queued.{FitsKind}
-use Rattle.law_devices.proofs.Lists.{all_at}
 use Rattle.law_opened.specs.Opened.{IsOpened, OpensOnce, OpensFit}
 use Rattle.law_opened.specs.Samples.{key, sink, board, beside_split, opened_twice}
 
@@ -29,7 +29,8 @@ pub not_opened : (place number : ℕ)
     → slice_get beside_split.lines place ≡ Some (number, lines.Command (commands.OpenEp (record board { speed = High }))) → ⊥
 not_opened place number here =
     true≢false
-    (all_at (λ l. opens_high l.1 ≡ false) beside_split.lines place (number, lines.Command (commands.OpenEp (record board { speed = High })))
+    (nth_all (λ l. opens_high l.1 ≡ false) beside_split.lines place
+    (number, lines.Command (commands.OpenEp (record board { speed = High })))
     none_high here)
 
 -- ---- each endpoint by its name
@@ -48,7 +49,7 @@ each_own : AllByRecursion (λ l. OpensOwn l.1) beside_split.lines
 each_own = ((refl, tt), ((refl, tt), ((refl, tt), (tt, (tt, (tt, (tt, tt)))))))
 
 own_of : (x : EpDesc) → IsOpened beside_split x → ItsOwn x
-own_of x o = all_at (λ l. OpensOwn l.1) beside_split.lines o.place (o.number, lines.Command (commands.OpenEp x)) each_own o.here
+own_of x o = nth_all (λ l. OpensOwn l.1) beside_split.lines o.place (o.number, lines.Command (commands.OpenEp x)) each_own o.here
 
 pub opens_once : OpensOnce beside_split
 opens_once x y ox oy same other = (own_of x ox).0 ∙ ap by_name same ∙ sym (own_of y oy).0

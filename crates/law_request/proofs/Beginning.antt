@@ -1,7 +1,9 @@
 -- The SETUP: its request begins, with a data stage or with its status.
-use Rattle.std.proofs.Common.{◌≡◌, ℕ, ◌-◌, ◌==◌, ◌&&◌, Bool, true, false, not, if◌then◌else◌, List, [], ◌∷◌, ◌++◌, length, take, inl, Option, Some, None, refl, sym, ap, ◌∙◌, subst, arith}
+use Rattle.std.proofs.Common.{◌≡◌, ℕ, ◌-◌, ◌==◌, ◌&&◌, Bool, true, false, not, if◌then◌else◌, List, [], ◌++◌, length, inl, Some, refl, sym, ap, ◌∙◌, subst, arith}
 use Rattle.std.proofs.Math.Bool.{false≢true}
 use Rattle.std.proofs.lemmas.Bool.{eqb-true}
+use Rattle.law_common.proofs.Lists.{no_bytes}
+use Rattle.law_request.proofs.Common.{nothing_sent}
 use Rattle.usb_base.specs.declared.packets.Pid.TheVariants as Pids
 use Rattle.dev_control.specs.declared.rows.StageRow.TheVariants.{Begins, Ignores}
 use Rattle.dev_control.specs.Stages.{Stages, is_read, wanted_of, begun_with}
@@ -20,16 +22,8 @@ use Rattle.law_request.proofs.Rows.{ignores_kept}
 
 -- ---- the stage after the SETUP
 
-nothing_read : (r : Request) (known : Option (List ℕ)) → wanted_of r.setup ≡ 0 → read_with r.setup known ≡ []
-nothing_read r None h = refl
-nothing_read r (Some reply) h = ap (λ n. take n reply) h
-
-no_bytes : (bytes : List ℕ) → length bytes ≡ 0 → bytes ≡ []
-no_bytes [] k = refl
-no_bytes (b ∷ bs) k = absurd cc
-
 nothing_with : (e : Endpoint) (r : Request) (read : Bool) → IsRequest r → is_read r.setup ≡ read → wanted_of r.setup ≡ 0 → (if read then read_with r.setup (e.known r.setup) else r.bytes) ≡ []
-nothing_with e r true q i h = nothing_read r (e.known r.setup) h
+nothing_with e r true q i h = nothing_sent r (e.known r.setup) h
 nothing_with e r false q i h = no_bytes r.bytes (q.bytes i ∙ h)
 
 -- a request with a wLength of 0 has no data

@@ -8,3 +8,4 @@ pub mod Steps
 pub mod Counts
 pub mod Told
 pub mod Scripts
+pub mod Common

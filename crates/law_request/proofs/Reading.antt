@@ -7,6 +7,7 @@ use Rattle.std.proofs.lemmas.Bool.Decides.{leb_tells}
 use Rattle.std.proofs.lemmas.Grind.{common_steps}
 use Rattle.std.proofs.lemmas.List.{append_assoc, length-take, take-append-drop}
 use Rattle.std.specs.Prelude.{nat_le}
+use Rattle.law_common.proofs.Lists.{take_whole}
 use Rattle.usb_base.specs.declared.packets.Pid.TheVariants as Pids
 use Rattle.usb_base.specs.declared.packets.Reply.TheVariants.{Bytes}
 use Rattle.dev_control.specs.declared.control.Request.{Request as UnderWay}
@@ -60,9 +61,6 @@ last_packet m left moved wanted later h k s = elim s [
   | inl short ↦ omega (arith, short, length-take m later)
   | inr full ↦ omega (arith, full, h, k, length-take m later)
 ]
-
-pub take_whole : (m : ℕ) (xs : List ℕ) → length xs ≤ m → take m xs ≡ xs
-take_whole m xs h = grind (arith, common_steps)
 
 -- a sum of conditions that fails, fails at one of them
 which : (a b : Bool) → (a && not b && true) ≡ false → (a ≡ false) ⊎ (b ≡ true)

@@ -2,6 +2,7 @@
 use Rattle.std.proofs.Common.{◌≡◌, ℕ, ◌+◌, ◌≤◌, if◌then◌else◌, List, [], ◌∷◌, length, inl, inr, refl, sym, ap, ◌∙◌, arith}
 use Rattle.std.specs.Prelude.{min, map, filter}
 use Rattle.std.specs.List.{concat, AllByRecursion}
+use Rattle.law_common.proofs.Numbers.{kept_number, capped}
 use Rattle.usb_base.specs.declared.endpoints.EndCause.{EndCause}
 use Rattle.usb_base.specs.declared.reports.What.TheVariants as Tells
 use Rattle.dev_control.specs.Stages.{Stages}
@@ -39,17 +40,11 @@ filter_counts : (r : Request) (acts : List (List ℕ)) (ws : List Window)
 filter_counts r [] ws = omega arith
 filter_counts r (a ∷ more) ws = omega arith
 
-kept_number : (n most : ℕ) → n ≤ most → n ≡ min (n + 0) most
-kept_number n most h = omega (arith, h)
-
 once_counts : (setup : List ℕ) (acts : List (List ℕ)) (n : ℕ) → IsOnce setup acts → n ≤ 4294967295 → counted acts n ≡ min (n + number_of acts) 4294967295
 once_counts setup acts n o h = elim o [
   | inl e ↦ ap (λ x. counted x n) e ∙ kept_number n 4294967295 h ∙ ap (λ x. min (n + number_of x) 4294967295) (sym e)
   | inr e ↦ ap (λ x. counted x n) e ∙ ap (λ x. min (n + number_of x) 4294967295) (sym e)
 ]
-
-capped : (n a k most : ℕ) → min (min (n + a) most + k) most ≡ min (n + (a + k)) most
-capped n a k most = omega arith
 
 below : (n most : ℕ) → min n most ≤ most
 below n most = omega arith

@@ -6,6 +6,8 @@ use Rattle.std.proofs.lemmas.Bool.{eqb-true}
 use Rattle.std.proofs.lemmas.Grind.{common_steps}
 use Rattle.std.proofs.lemmas.List.{length-take}
 use Rattle.std.specs.Prelude.{nat_le}
+use Rattle.law_request.proofs.Common.{expected_next}
+use Rattle.law_common.proofs.Lists.{take_whole}
 use Rattle.usb_base.specs.declared.packets.EpKind.TheVariants.{Control}
 use Rattle.usb_base.specs.declared.packets.Pid.{Pid}
 use Rattle.usb_base.specs.declared.packets.Pid.TheVariants as Pids
@@ -29,7 +31,7 @@ use Rattle.law_request.specs.Host.{Endpoint, Host, goes_on, heard_by, next_bytes
 use Rattle.law_request.specs.Line.{reply_under, made}
 use Rattle.law_request.specs.Standing.{sight_of, GoesOut, Moves, Stands, under_way}
 use Rattle.law_request.proofs.Hearing.{line, IsKept, made_stands, quiet_row, stands_quiet, bytes_are_data, true_not_false}
-use Rattle.law_request.proofs.Reading.{data_host, take_whole, whole_after}
+use Rattle.law_request.proofs.Reading.{data_host, whole_after}
 use Rattle.law_request.proofs.Rows.{IsStage, IsRefusing, IsNoData, IsReading, IsAllRead, IsWriting, IsAllWritten, device_stage, naks_kept, stalls_kept, room_kept, unless_kept, ping_kept}
 
 -- ---- the call of an OUT, which goes out as a PING in the ping state
@@ -47,10 +49,6 @@ out_call e token side out = record {
 not_not : (b : Bool) → not (not b) ≡ b
 not_not true = refl
 not_not false = refl
-
-pub next_sequence : (turn : Bool) → sequence_of turn (expected_pid turn) ≡ Next
-next_sequence true = refl
-next_sequence false = refl
 
 pub repeat_sequence : (turn : Bool) → sequence_of turn (expected_pid (not turn)) ≡ Repeat
 repeat_sequence true = refl
@@ -75,10 +73,6 @@ write_stands e r side moved d a i w hm dm x = record {
   device_max = dm;
   stage = record { wanted = w; way = subst (λ b. Moves b e r (sight_of (line (data_host side moved) d a))) (sym i) x };
 }
-
-both : (b c : Bool) → (not b && c) ≡ true → b ≡ false
-both true c h = absurd (false≢true h)
-both false c h = refl
 
 one : (b : Bool) → (not b && true) ≡ false → b ≡ true
 one true h = refl
@@ -200,13 +194,13 @@ write_row_kept e r side moved c a x _ status fits (IsReading reply k h j) i w s 
 write_row_kept e r side moved c a x _ status fits (IsAllRead h j) i w s = true_not_false (sym j ∙ i)
 write_row_kept e r side moved c a x _ status fits (IsWriting h j) i w s = elim x.near [
   | inl k ↦ subst (λ q. IsKept e r (write_call e r side moved) (data_host side moved) c a (out_row Writing q status (if fits then Some (x.at + length (packet_of r side moved)) else None)))
-      (sym (ap (λ b. sequence_of x.turn (expected_pid b)) k.1 ∙ next_sequence x.turn)) (next_kept e r side moved c a x status fits i w k.0 k.1 s)
+      (sym (ap (λ b. sequence_of x.turn (expected_pid b)) k.1 ∙ expected_next x.turn)) (next_kept e r side moved c a x status fits i w k.0 k.1 s)
   | inr k ↦ subst (λ q. IsKept e r (write_call e r side moved) (data_host side moved) c a (out_row Writing q status (if fits then Some (x.at + length (packet_of r side moved)) else None)))
       (sym (ap (λ b. sequence_of x.turn (expected_pid b)) k.1 ∙ repeat_sequence x.turn)) (drops_kept e r side moved c a x i w k.0 k.1 s)
 ]
 write_row_kept e r side moved c a x _ status fits (IsAllWritten h j) i w s = elim x.near [
   | inl k ↦ subst (λ q. IsKept e r (write_call e r side moved) (data_host side moved) c a (out_row AllWritten q status (if fits then Some (x.at + length (packet_of r side moved)) else None)))
-      (sym (ap (λ b. sequence_of x.turn (expected_pid b)) k.1 ∙ next_sequence x.turn)) (out_stalls e r side moved c a s)
+      (sym (ap (λ b. sequence_of x.turn (expected_pid b)) k.1 ∙ expected_next x.turn)) (out_stalls e r side moved c a s)
   | inr k ↦ subst (λ q. IsKept e r (write_call e r side moved) (data_host side moved) c a (out_row AllWritten q status (if fits then Some (x.at + length (packet_of r side moved)) else None)))
       (sym (ap (λ b. sequence_of x.turn (expected_pid b)) k.1 ∙ repeat_sequence x.turn)) (drops_kept e r side moved c a x i w k.0 k.1 s)
 ]

@@ -4,6 +4,8 @@ use Rattle.std.specs.Prelude.{is_some}
 use Rattle.std.proofs.lemmas.Bool.{cases_lt, cases_eq, false≢true}
 use Rattle.std.proofs.lemmas.Option.{same_Some, slice_get_within}
 use Rattle.std.proofs.lemmas.Result.{IfOk-at_ok}
+use Rattle.law_common.proofs.Lists.{push_which, set_here, pushed_last}
+use Rattle.law_driver.proofs.Common.{iso_frames}
 use Rattle.usb_base.specs.declared.endpoints.EndCause.{EndCause}
 use Rattle.usb_base.specs.declared.endpoints.EpDesc.{EpDesc}
 use Rattle.word_mem.specs.Memory.{Mem}
@@ -24,10 +26,8 @@ use Rattle.claims_driver.specs.Leaving.{owes, leaves_ring, leaves_frames, leaver
 use Rattle.law_driver.specs.run_owners.Accepts.{Accepts, opens, chains, places, transfers, describes, cancels, unchains}
 use Rattle.law_driver.proofs.lemmas.run_owners.Commands.{each_command_has_its_reason}
 use Rattle.law_driver.proofs.lemmas.run_owners.Goes.{begun_orderly}
-use Rattle.law_driver.proofs.lemmas.run_owners.Ordered.{pushed, pushed_below, iso_periodic}
+use Rattle.law_driver.proofs.lemmas.run_owners.Ordered.{pushed_below}
 use Rattle.law_driver.proofs.lemmas.run_owners.Orders.{owes_nothing, set_case, IsLike, endpoint_changed}
-use Rattle.law_driver.proofs.lemmas.run_owners.Released.{set_here}
-use Rattle.law_driver.proofs.lemmas.chained_transfers.Chained.{pushed_last}
 use Rattle.law_resting.specs.Counted.{IsFirstUntold, IsNextIn, counted, AreCounted, HasSomeIn, IsCounted, CommandsKeepCounts, NewDriverIsCounted}
 use Rattle.law_resting.proofs.Counting.{next_on, IsAs, endpoint_as}
 use Rattle.law_resting.proofs.Described.{some_described}
@@ -40,7 +40,7 @@ past_is : (f : Option Endpoint → ℕ) (xs : List Endpoint) (y : Endpoint) (i :
 past_is f xs y i None none new past is = none
 past_is f xs y i (Some z) none new past is =
     ⊎_elim (λ (w : slice_get xs i ≡ Some z). absurd (omega (arith, past, slice_get_within xs i z w)))
-    (λ (w : (i ≡ length xs) × (z ≡ y)). ap (λ (v : Endpoint). f (Some v)) w.1 ∙ new) (pushed xs y i z is)
+    (λ (w : (i ≡ length xs) × (z ≡ y)). ap (λ (v : Endpoint). f (Some v)) w.1 ∙ new) (push_which xs y i z is)
 
 endpoint_pushed : {r : Returns} {ts : List Transfer} {xs : List Endpoint} (y : Endpoint) → y.cancelled ≡ false → y.next ≡ None
     → leaves_ring (Some y) ≡ 0 → leaves_frames (Some y) ≡ 0
@@ -59,12 +59,12 @@ endpoint_pushed {r = r} {ts = ts} {xs = xs} y fresh idle ring frames within old 
   cancelled = λ i z there over on.
       ⊎_elim (λ (w : slice_get xs i ≡ Some z). old.cancelled i z w over on)
       (λ (w : (i ≡ length xs) × (z ≡ y)). absurd (false≢true (sym (ap (λ (v : Endpoint). v.cancelled) w.1 ∙ fresh) ∙ over)))
-      (pushed xs y i z there);
+      (push_which xs y i z there);
   next = λ i z there goes.
       ⊎_elim (λ (w : slice_get xs i ≡ Some z). old.next i z w goes)
       (λ (w : (i ≡ length xs) × (z ≡ y)).
       subst (IsNextIn ts i) (sym (ap (λ (v : Endpoint). v.next) w.1 ∙ idle)) (λ u v at of. absurd (omega (arith, within u v at, of, w.0))))
-      (pushed xs y i z there);
+      (push_which xs y i z there);
 }
 
 -- ---- one more transfer
@@ -75,7 +75,7 @@ next_pushed ts n i o differs old =
     next_on ts (ts ++ n ∷ []) i o
     (λ u z there at.
     ⊎_elim (λ (w : slice_get ts u ≡ Some z). record { one = z; here = w; endpoint = at; told = λ told. told })
-    (λ (w : (u ≡ length ts) × (z ≡ n)). absurd (differs (ap (λ (v : Transfer). v.endpoint) (sym w.1) ∙ at))) (pushed ts n u z there))
+    (λ (w : (u ≡ length ts) × (z ≡ n)). absurd (differs (ap (λ (v : Transfer). v.endpoint) (sym w.1) ∙ at))) (push_which ts n u z there))
     (λ u y there at untold. record {
       one = y;
       here = pushed_below ts n u (slice_get_within ts u y there) ∙ there;
@@ -126,7 +126,7 @@ transfer_pushed {r = r} {ts = ts} {xs = xs} {l = l} e x y n here of untold like 
           (λ same going. old.harvests t v x w (ap (slice_get xs) (sym same) ∙ here) (like.ended going))
           (λ differs was same going. old.harvests t v z w was going) refl goes)
           (λ (w : (t ≡ length ts) × (v ≡ n)). let none = owes_nothing v (ap (λ (u : Transfer). u.reported) w.1 ∙ untold) in omega
-          (arith, none)) (pushed ts n t v there);
+          (arith, none)) (push_which ts n t v there);
       leaving = λ i. omega (arith, same_leaves leaves_ring xs e (record y { next = x.next }) y i refl, between.leaving i);
       removed = λ i. omega (arith, same_leaves leaves_frames xs e (record y { next = x.next }) y i refl, between.removed i);
       cancelled = λ i z there left on.
@@ -155,7 +155,7 @@ transfer_more {r = r} {ts = ts} {xs = xs} e n of untold asks old = record {
   harvests = λ t v z there at goes.
       ⊎_elim (λ (w : slice_get ts t ≡ Some v). old.harvests t v z w at goes)
       (λ (w : (t ≡ length ts) × (v ≡ n)). let none = owes_nothing v (ap (λ (u : Transfer). u.reported) w.1 ∙ untold) in omega (arith, none))
-      (pushed ts n t v there);
+      (push_which ts n t v there);
   leaving = old.leaving;
   removed = old.removed;
   cancelled = old.cancelled;
@@ -294,7 +294,7 @@ accepted_counted d m o (places why) some order old =
     (record {
       counts = subst (λ (c : Option Command). AreCounted (returns_of d) d.transfers
           (d.endpoints ++ placed_endpoint why.desc why.placement 0 0 ∷ []) (leaver c)) (sym why.idle)
-          (placed_counted d why.idle order old why.desc why.placement 0 0 (iso_periodic why.desc.kind why.isochronous));
+          (placed_counted d why.idle order old why.desc why.placement 0 0 (iso_frames why.desc.kind why.isochronous));
       kinds = λ e x leaves here. absurd (none_leaves_then d why.idle e leaves);
       bell = old.bell;
     })

@@ -3,6 +3,7 @@ use Rattle.std.proofs.Common.{◌≡◌, ℕ, suc, Bool, true, false, cond, nat_
 use Rattle.std.specs.Prelude.{is_some, is_none}
 use Rattle.std.proofs.lemmas.Bool.{false≢true}
 use Rattle.std.proofs.lemmas.Option.{same_Some}
+use Rattle.law_driver.proofs.Common.{ring_queue}
 use Rattle.usb_base.specs.declared.reports.What.TheVariants as lines
 use Rattle.mem_runs.specs.Book.{Book, holding, lend_taken}
 use Rattle.drv_chains.specs.declared.members.Member.{Member}
@@ -33,7 +34,6 @@ use Rattle.law_driver.proofs.lemmas.run_owners.Orders.{IsLeft, IsRemoved}
 use Rattle.law_driver.proofs.lemmas.run_owners.Leaves.{first_left, first_removed, GoesBy, let_go_goes, let_waiting_goes, none_of, less_cleared, less_removed, read_orderly}
 use Rattle.law_driver.proofs.lemmas.run_owners.Goes.{begun_orderly}
 use Rattle.law_driver.proofs.lemmas.run_owners.Reasons.{each_event_is_due}
-use Rattle.law_driver.proofs.lemmas.run_owners.Rows.{not_iso}
 use Rattle.law_footprints.proofs.Fields.{bell_stays, rung_stays, command_stays}
 use Rattle.law_footprints.specs.Footprint.{footprint}
 use Rattle.law_resting.specs.Counted.{HasKind, AreCounted, IsOfItsKind, IsCounted, EventsKeepCounts}
@@ -258,7 +258,7 @@ endpoint_row p e (Some x) here first none order old = told (is_told x)
         endpoint_gone (returns_of p.driver) (record (returns_of p.driver) { cleared = drop 1 p.driver.cleared }) p.driver.transfers
         p.driver.endpoints (leaver p.driver.command) e x (let_go e line) here
         (over_is x (order.steady e x here) off out) off out (less_cleared e x here ring first order)
-        (λ t y there. let_go_goes e line (returns_of p.driver) t y (none_of e x here (not_iso x.desc.kind ring) none order t y there))
+        (λ t y there. let_go_goes e line (returns_of p.driver) t y (none_of e x here (ring_queue x.desc.kind ring) none order t y there))
         old.counts
 
     told : (line : Bool)

@@ -2,31 +2,21 @@
 use Rattle.std.proofs.Common.{◌≡◌, ◌≢◌, ℕ, ◌+◌, ◌≤◌, ◌==◌, Bool, true, false, cond, not, ◌||◌, ◌&&◌, List, [], ◌∷◌, ◌++◌, map, drop, set, slice_get, Option, Some, None, option_map, ap, sym, ◌∙◌, ⊎_elim, refl, arith}
 use Rattle.std.proofs.lemmas.Bool.{cases_eq, cases_Bool, false≢true}
 use Rattle.std.proofs.lemmas.Option.{same_Some, slice_get-map}
+use Rattle.law_driver.proofs.Common.{frames_most}
+use Rattle.law_driver.proofs.Common.{gone_was, ring_most}
+use Rattle.law_common.proofs.Lists.{set_here, set_there}
 use Rattle.drv_periodic_table.specs.Periodic.{is_periodic}
 use Rattle.drv_periodic_table.specs.declared.content.Removal.{Removal}
 use Rattle.drv_periodic_table.specs.declared.content.Removed.TheVariants as removed
 use Rattle.drv_table.specs.declared.content.Endpoint.{Endpoint}
 use Rattle.drv_table.specs.declared.content.Transfer.{Transfer}
 use Rattle.claims_driver.specs.Leaving.{times, endpoint_before, transfers_in, endpoints_in, owes, leaves_ring, leaves_frames, IsSteady, Returns}
-use Rattle.law_driver.proofs.lemmas.run_owners.Released.{set_here, set_there}
 use Rattle.law_driver.proofs.lemmas.run_owners.Orders.{times_push, times_first, one_same, none_other, removed_first, endpoints_kept, transfers_push, endpoints_push, set_case, same_count}
 use Rattle.law_driver.proofs.lemmas.run_owners.Leaves.{HasGone, GoesBy, IsLess}
 use Rattle.law_resting.specs.Counted.{IsNextIn, counted, AreCounted}
 use Rattle.law_resting.proofs.Counting.{next_on, next_changed}
 
 -- ---- at most once
-
-one_most : (b : Bool) → cond b 0 1 ≤ 1
-one_most true = omega arith
-one_most false = omega arith
-
-pub ring_most : (o : Option Endpoint) → leaves_ring o ≤ 1
-ring_most None = omega arith
-ring_most (Some x) = one_most (x.linked || x.gone || is_periodic x.desc.kind)
-
-pub frames_most : (o : Option Endpoint) → leaves_frames o ≤ 1
-frames_most None = omega arith
-frames_most (Some x) = one_most (x.chained || x.gone || not (is_periodic x.desc.kind))
 
 most_one : (b : Bool) → cond b 1 0 ≤ 1
 most_one true = omega arith
@@ -161,11 +151,6 @@ descriptor_gone {r = r} t x m here first what old =
     (λ e. ap (times e) (sym (endpoints_kept t r.removals m first what))) old
 
 -- ---- an endpoint is given back
-
-gone_was : (go : Transfer → Transfer) (ts : List Transfer) (t : ℕ) (o : Option Transfer) (z : Transfer) → slice_get ts t ≡ o
-    → option_map go o ≡ Some z → (y : Transfer) × (slice_get ts t ≡ Some y) × (go y ≡ z)
-gone_was go ts t None z there is = absurd (cc)
-gone_was go ts t (Some y) z there is = (y, there, same_Some (go y) z is)
 
 module _ (r s : Returns) (ts : List Transfer) (xs : List Endpoint) (l : Option ℕ) (e : ℕ) (x : Endpoint) (go : Transfer → Transfer)
     (here : slice_get xs e ≡ Some x) (over : x.ended ≡ None → ⊥)

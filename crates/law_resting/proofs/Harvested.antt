@@ -1,7 +1,9 @@
 -- What is to be given back, and what is next, stays counted where a token or a descriptor is read.
-use Rattle.std.proofs.Common.{◌≡◌, ◌≢◌, ℕ, zero, suc, ◌+◌, ◌<◌, ◌≤◌, true, ◌||◌, List, [], ◌∷◌, ◌++◌, drop, set, slice_get, Option, Some, None, option_map, ap, sym, subst, ◌∙◌, refl, arith}
+use Rattle.std.proofs.Common.{◌≡◌, ◌≢◌, ℕ, suc, ◌+◌, ◌<◌, ◌≤◌, true, ◌||◌, List, [], ◌∷◌, ◌++◌, set, slice_get, Option, Some, None, option_map, ap, sym, subst, ◌∙◌, refl, arith}
 use Rattle.std.specs.Prelude.{position}
 use Rattle.std.proofs.lemmas.Option.{same_Some}
+use Rattle.law_resting.proofs.Common.{drop_set}
+use Rattle.law_common.proofs.Lists.{set_here, set_there}
 use Rattle.usb_base.specs.declared.endpoints.EndCause.{EndCause}
 use Rattle.drv_periodic_table.specs.Periodic.{is_periodic}
 use Rattle.drv_table.specs.declared.content.Endpoint.{Endpoint}
@@ -9,7 +11,6 @@ use Rattle.drv_table.specs.declared.content.Transfer.{Transfer}
 use Rattle.drv_table.specs.DriverContent.{waits_for, next_after}
 use Rattle.claims_driver.specs.Leaving.{owes, leaves_ring, leaves_frames, Returns}
 use Rattle.law_driver.specs.chained_transfers.Turns.{Turn, turn_of, turn_in, AreReportedTo}
-use Rattle.law_driver.proofs.lemmas.run_owners.Released.{set_here, set_there}
 use Rattle.law_driver.proofs.lemmas.run_owners.Orders.{times_push, one_same, set_case, same_count}
 use Rattle.law_driver.proofs.lemmas.chained_transfers.Harvesting.{turn_at, next_waits}
 use Rattle.law_resting.specs.Counted.{IsFirstUntold, IsNextIn, counted, AreCounted}
@@ -38,11 +39,6 @@ next_behind ts e t earlier =
     (next_waits ts e t (λ u z low there at.
     let y = turn_at ts u z there in
     ap (λ (v : Turn). v.reported) y.2 ∙ earlier u y.0 low y.1 (sym (ap (λ (v : Turn). v.endpoint) y.2) ∙ at)))
-
-drop_set : (ts : List Transfer) (t : ℕ) (y : Transfer) → drop (suc t) (set ts t y) ≡ drop (suc t) ts
-drop_set [] t y = refl
-drop_set (x ∷ ts) zero y = refl
-drop_set (x ∷ ts) (suc t) y = drop_set ts t y
 
 pub after_told : (ts : List Transfer) (e t : ℕ) (y : Transfer) → next_after (set ts t y) e t ≡ next_after ts e t
 after_told ts e t y = ap (λ (us : List Transfer). option_map (λ (i : ℕ). suc t + i) (position (waits_for e) us)) (drop_set ts t y)

@@ -11,3 +11,4 @@ pub mod Storing
 pub mod Resting
 pub mod Turns
 pub mod Samples
+pub mod Common

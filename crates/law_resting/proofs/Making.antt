@@ -4,9 +4,9 @@ use Rattle.std.specs.Prelude.{is_none}
 use Rattle.std.proofs.lemmas.Bool.{false≢true}
 use Rattle.std.proofs.lemmas.Bool.Decides.{nat_tests}
 use Rattle.std.proofs.lemmas.Option.{same_Some}
+use Rattle.law_resting.proofs.Common.{unchained_command}
 use Rattle.word_mem.specs.Memory.{Mem}
 use Rattle.mem_runs.specs.Book.{holding, lend_taken}
-use Rattle.drv_periodic_table.specs.declared.content.Removed.TheVariants as removed
 use Rattle.drv_periodic_table.specs.Linking.{begun_next}
 use Rattle.drv_table.specs.declared.content.Command.{Command}
 use Rattle.drv_table.specs.declared.content.Command.TheVariants as unfinished
@@ -15,7 +15,7 @@ use Rattle.drv_table.specs.declared.rows.DriverRow.{DriverRow}
 use Rattle.drv_table.specs.declared.rows.DriverRow.TheVariants as rows
 use Rattle.drv_table.specs.Accepting.{Offered}
 use Rattle.drv_table.specs.CancelOffers.{with_cancel, endpoint_members}
-use Rattle.drv_table.specs.Commands.{events_of, links, removes_members, leave_ring, leave_frames, no_command, removal_of, finished, list_after, or_finished, linked_on, advanced_by, advance}
+use Rattle.drv_table.specs.Commands.{events_of, links, removes_members, leave_ring, no_command, finished, list_after, or_finished, linked_on, advanced_by, advance}
 use Rattle.drv_table.specs.DriverContent.{DriverContent}
 use Rattle.drv_table.specs.FrameChoice.{framed_notes, with_notes, placement_at, framed_by, linked_by}
 use Rattle.drv_table.specs.Parts.{Parts}
@@ -46,24 +46,13 @@ left_none d e (Some x) =
     (cond b (record (no_command d) { waiting = d.waiting ++ e ∷ []; endpoints = set d.endpoints e (record x { linked = false }) })
     (no_command d)).command ≡ None) [ true ↦ refl | false ↦ refl ]
 
-frames_none : (d : DriverContent) (e : ℕ) (o : Option Endpoint) → (leave_frames (no_command d) e o).command ≡ None
-frames_none d e None = refl
-frames_none d e (Some x) =
-    elim x.chained as (λ (b : Bool).
-    (cond b (record (no_command d) {
-      endpoints = set d.endpoints e (record x { chained = false });
-      periodic = record d.periodic
-          { removals = d.periodic.removals ++ removal_of (removed.Endpoint e) ∷ [] };
-    }) (no_command d)).command ≡ None)
-    [ true ↦ refl | false ↦ refl ]
-
 pub finished_none : (d : DriverContent) (c : Command) → (finished d c).command ≡ None
 finished_none d (unfinished.Open queue) = refl
 finished_none d (unfinished.Publish b words) = refl
 finished_none d (unfinished.Unlink e b link) = left_none d e (slice_get d.endpoints e)
 finished_none d unfinished.Chain = refl
 finished_none d (unfinished.Iso e t count) = refl
-finished_none d (unfinished.Unchain e) = frames_none d e (slice_get d.endpoints e)
+finished_none d (unfinished.Unchain e) = unchained_command d e (slice_get d.endpoints e)
 
 or_making : (d : DriverContent) (c : Command) → d.command ≡ Some c → links c ≡ true → IsMaking (or_finished d c)
 or_making d c is on = at (is_none d.periodic.list.work)

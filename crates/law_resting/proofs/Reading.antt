@@ -3,6 +3,8 @@ use Rattle.std.proofs.Common.{◌≡◌, ◌≢◌, ℕ, zero, suc, ◌+◌, ◌
 use Rattle.std.proofs.lemmas.Bool.{cases_eq}
 use Rattle.std.proofs.lemmas.List.{set-set, length-set}
 use Rattle.std.proofs.lemmas.Option.{same_Some, slice_get_within}
+use Rattle.law_common.proofs.Lists.{set_here}
+use Rattle.law_driver.proofs.Common.{waits_is}
 use Rattle.usb_base.specs.declared.endpoints.EndCause.{EndCause}
 use Rattle.usb_base.specs.declared.endpoints.EndCause.TheVariants as causes
 use Rattle.usb_base.specs.declared.endpoints.EpName.{EpName}
@@ -16,8 +18,7 @@ use Rattle.drv_table.specs.DriverContent.{DriverContent, waits_for, next_after}
 use Rattle.drv_table.specs.Harvests.{note_at, noted, is_stall, end_of, reported}
 use Rattle.drv_table.specs.Harvesting.{served, told_with, behind_one, behind, mends_of, stalled, after_end, harvested_as, after_harvest}
 use Rattle.claims_driver.specs.Leaving.{leaver, Returns, returns_of}
-use Rattle.law_driver.proofs.lemmas.run_owners.Released.{set_here}
-use Rattle.law_driver.proofs.lemmas.chained_transfers.Harvesting.{waits_is, waits_not}
+use Rattle.law_driver.proofs.lemmas.chained_transfers.Harvesting.{waits_not}
 use Rattle.law_driver.proofs.lemmas.chained_transfers.Stalled.{behind_tells}
 use Rattle.law_resting.specs.Counted.{IsFirstUntold, IsNextIn, AreCounted}
 use Rattle.law_resting.proofs.Counting.{endpoint_as, transfer_as}

@@ -7,6 +7,9 @@ use Rattle.std.proofs.lemmas.Bool.Decides.{nat_tests}
 use Rattle.std.proofs.lemmas.Option.{same_Some, slice_get-get_or, slice_get-map, slice_get_within, get_or_from_slice_get}
 use Rattle.std.proofs.lemmas.List.Quantifiers.{position-Some}
 use Rattle.std.proofs.lemmas.List.Sums.{fails_before_first}
+use Rattle.law_common.proofs.Numbers.{same_number}
+use Rattle.law_common.proofs.Booleans.{both_parts}
+use Rattle.law_driver.proofs.Common.{get_drop}
 use Rattle.drv_chains.specs.Boundary.{is_seen}
 use Rattle.drv_periodic.specs.declared.work.Store.{Store}
 use Rattle.drv_periodic.specs.Periodic.{next_store}
@@ -200,12 +203,6 @@ position_is (x ∷ xs) i e =
     let at = position-Some works (x ∷ xs) i x e in
     record { endpoint = get_or (x ∷ xs) i x; here = slice_get-get_or (x ∷ xs) i x at.0; works = at.1 }
 
-get_drop : (xs : List Endpoint) (k i : ℕ) → slice_get (drop k xs) i ≡ slice_get xs (k + i)
-get_drop [] zero i = refl
-get_drop [] (suc k) i = refl
-get_drop (x ∷ xs) zero i = let e : i ≡ 0 + i = omega arith in ap (slice_get (x ∷ xs)) e
-get_drop (x ∷ xs) (suc k) i = let e : suc k + i ≡ suc (k + i) = omega arith in get_drop xs k i ∙ ap (slice_get (x ∷ xs)) (sym e)
-
 worker_is : (xs : List Endpoint) (k e : ℕ) → worker_from xs k ≡ Some e → IsWorker xs e
 worker_is xs k e found = at (position works (drop k xs)) refl found
   where
@@ -216,11 +213,6 @@ worker_is xs k e found = at (position works (drop k xs)) refl found
         subst (IsWorker xs) (same_Some (k + i) e f)
         (record { endpoint = w.endpoint; here = sym (get_drop xs k i) ∙ w.here; works = w.works })
 
--- an endpoint that works has a transfer to read
-both_true : (a b : Bool) → a && b ≡ true → (a ≡ true) × (b ≡ true)
-both_true true b e = (refl, e)
-both_true false b e = absurd (false≢true e)
-
 none_is : (o : Option EndCause) → is_none o ≡ true → o ≡ None
 none_is None w = refl
 none_is (Some c) w = absurd (false≢true w)
@@ -229,23 +221,21 @@ some_is : (o : Option ℕ) → is_some o ≡ true → (t : ℕ) × (o ≡ Some t
 some_is None w = absurd (false≢true w)
 some_is (Some t) w = (t, refl)
 
-same_test : (n : ℕ) → (n == n) ≡ true
-same_test n = grind (arith, nat_tests)
-
 reads : (p : Parts) (e : ℕ) → IsWorker p.driver.endpoints e → IsCounted p.driver → worker_row p.driver p.memory (Some e) ≡ None → ⊥
 reads p e w old is = never (found_of p.driver p.memory f.transfer f.transfer.sort) (sym row_is ∙ is)
   where
     goes : w.endpoint.ended ≡ None
-    goes = none_is w.endpoint.ended (both_true (is_some w.endpoint.next) (is_none w.endpoint.ended) w.works).1
+    goes = none_is w.endpoint.ended (both_parts (is_some w.endpoint.next) (is_none w.endpoint.ended) w.works).1
 
     next : (t : ℕ) × (w.endpoint.next ≡ Some t)
-    next = some_is w.endpoint.next (both_true (is_some w.endpoint.next) (is_none w.endpoint.ended) w.works).0
+    next = some_is w.endpoint.next (both_parts (is_some w.endpoint.next) (is_none w.endpoint.ended) w.works).0
 
     f : IsFirstUntold p.driver.transfers e next.0
     f = subst (IsNextIn p.driver.transfers e) next.1 (old.counts.next e w.endpoint w.here goes)
 
     waits : waits_for e f.transfer ≡ true
-    waits = ap (λ (n : ℕ). (n == e) && not f.transfer.reported) f.endpoint ∙ ap (λ (b : Bool). b && not f.transfer.reported) (same_test e) ∙
+    waits = ap (λ (n : ℕ). (n == e) && not f.transfer.reported) f.endpoint
+        ∙ ap (λ (b : Bool). b && not f.transfer.reported) (same_number e) ∙
         ap not f.untold
 
     never : (found : Found) → ◌≡◌ {A = Option DriverRow} (Some (rows.Harvest e next.0 found)) None → ⊥

@@ -4,6 +4,7 @@ use Rattle.std.specs.Prelude.{is_none}
 use Rattle.std.proofs.lemmas.Bool.{false≢true}
 use Rattle.std.proofs.lemmas.Bool.Decides.{nat_tests}
 use Rattle.std.proofs.lemmas.Option.{same_Some}
+use Rattle.law_resting.proofs.Common.{no_work_is}
 use Rattle.word_mem.specs.Memory.{Mem}
 use Rattle.mem_runs.specs.Book.{holding, lend_taken}
 use Rattle.drv_chains.specs.declared.members.Member.{Member}
@@ -37,11 +38,8 @@ use Rattle.law_resting.proofs.Making.{finished_none}
 
 -- ---- the list
 
-no_work : (w : Work) → ◌≡◌ {A = Option Work} None (Some w) → ⊥
-no_work w is = cc
-
 working_after : (p : Periodic) (o : Option Work) → p.work ≡ o → IsWorking (after_work p o)
-working_after p None none = λ w is. absurd (no_work w (sym none ∙ is))
+working_after p None none = λ w is. absurd (no_work_is w (sym none ∙ is))
 working_after p (Some v) some = at (is_more p.members.schedule v) refl
   where
     at : (b : Bool) → is_more p.members.schedule v ≡ b
@@ -49,7 +47,7 @@ working_after p (Some v) some = at (is_more p.members.schedule v) refl
         (record { list = p.list; members = members_after p.members v; work = None }))
     at true more = λ w is.
         subst (IsLeft p.members.schedule) (same_Some (record v { made = v.made + 1 }) w is) (inr (grind (arith, nat_tests)))
-    at false last = λ w is. absurd (no_work w is)
+    at false last = λ w is. absurd (no_work_is w is)
 
 begun_working : (removes : Bool) (p : Periodic) (m : Member) → IsWorking p → IsWorking (begun removes p m)
 begun_working true p m old = at (may_unlink p m)
@@ -230,7 +228,7 @@ pub commands_keep_storing : CommandsKeepStoring
 commands_keep_storing d m cmd o old is = accepted_storing d m o old (each_command_has_its_reason d m cmd o is)
 
 pub a_new_driver_is_storing : NewDriverIsStoring
-a_new_driver_is_storing n room = (λ c is on. absurd (none_some c is), λ w is. absurd (no_work w is))
+a_new_driver_is_storing n room = (λ c is on. absurd (none_some c is), λ w is. absurd (no_work_is w is))
   where
     none_some : (c : Command) → ◌≡◌ {A = Option Command} None (Some c) → ⊥
     none_some c w = cc

@@ -2,6 +2,8 @@
 use Rattle.std.proofs.Common.{◌≡◌, ◌≢◌, ℕ, ◌+◌, ◌≤◌, ◌==◌, ◌&&◌, not, Bool, true, if◌then◌else◌, List, [], ◌∷◌, ◌++◌, Some, ap, refl, sym, subst, ◌∙◌, ⊎_elim, inl, inr, arith}
 use Rattle.std.proofs.lemmas.Bool.{cases_eq, eq-eqb}
 use Rattle.std.proofs.lemmas.List.{append_assoc, append-nil}
+use Rattle.law_ring.proofs.Common.{through_head, through_bytes}
+use Rattle.law_common.proofs.Numbers.{other_number}
 use Rattle.usb_base.specs.declared.packets.Ask.{Ask}
 use Rattle.usb_base.specs.declared.packets.Reply.{Reply}
 use Rattle.link_words.specs.Links.{qtd_link_of}
@@ -10,11 +12,10 @@ use Rattle.qh_qtd.specs.declared.queue_head.Qh.{Qh}
 use Rattle.hc_copy.specs.Overlay.{advanced, moved}
 use Rattle.hc_copy.specs.WriteBack.{moved_by}
 use Rattle.async_walk.specs.declared.state.WalkStep.{WalkStep}
-use Rattle.mem_bytes.specs.Bytes.{place as place_of_byte}
-use Rattle.law_structures.specs.lent_structures.Changes.{relinked, overwritten}
-use Rattle.law_structures.specs.lent_structures.Structures.{QueueHead, Element, Buffer, Structures, StructureSets, put}
-use Rattle.law_structures.proofs.lemmas.lent_structures.Names.{not_same, put_same, put_beside, put_found}
-use Rattle.law_structures.specs.lent_structures.WriteBack.{Received, Nothing, Into, received_parts, qtd_after}
+use Rattle.law_structures.specs.lent_structures.Changes.{relinked}
+use Rattle.law_structures.specs.lent_structures.Structures.{QueueHead, Element, Structures, StructureSets, put}
+use Rattle.law_structures.proofs.lemmas.lent_structures.Names.{put_same, put_beside, put_found}
+use Rattle.law_structures.specs.lent_structures.WriteBack.{Received, received_parts, qtd_after}
 use Rattle.law_structures.specs.lent_structures.Sound.{IsWorking, IsSoundQueue}
 use Rattle.law_structures.specs.lent_structures.Alters.{HadElement, Alters}
 use Rattle.law_structures.proofs.lemmas.lent_structures.Altering.{found_queue}
@@ -136,7 +137,7 @@ module _ {W : Type 0} (Beside : Ask → Type 0) (transacts : W → Ask → List 
       (current_grows xs m g (subst (λ (i : ℕ). Accounts order place out hand parts i xs) is acc))))
       (λ (differs : n ≢ m.copy.at).
       subst (λ (b : Bool). AllTold later parts n out (xs ++ (if b then moved_by_it m else [])))
-      (sym (not_same m.copy.at n (λ is. differs (sym is))))
+      (sym (other_number m.copy.at n (λ is. differs (sym is))))
       (subst (AllTold later parts n out) (sym (append-nil xs))
       (told_still hand later parts parts n out xs (λ e x among. g.other_bytes n e x (λ both. differs both.0)) acc.told)))
       (cases_eq n m.copy.at))
@@ -167,27 +168,6 @@ taken_placed order place n part q a t k here = record {
   alternate = λ b leads. let less = k.alternate a t b here leads in omega (arith, less);
   current = λ on. refl;
 }
-
--- a qTD that is found where a queue head or bytes were put was there before
-no_head : (q : Qh) (u : Qtd) → Element u ≡ QueueHead q → ⊥
-no_head q u e = cc
-
-no_buffer : (pages : List ℕ) (k : ℕ) (bs : List ℕ) (u : Qtd) → Element u ≡ Buffer pages k bs → ⊥
-no_buffer pages k bs u e = cc
-
-through_head : (ps : StructureSets) (a : ℕ) (q : Qh) (i b : ℕ) (u : Qtd) → put ps a a (QueueHead q) i b ≡ Some (Element u)
-    → ps i b ≡ Some (Element u)
-through_head ps a q i b u found =
-    ⊎_elim (λ (is : (i ≡ a) × (b ≡ a) × (Element u ≡ QueueHead q)). absurd (no_head q u is.2))
-    (λ (before : ps i b ≡ Some (Element u)). before) (put_found ps a a (QueueHead q) i b (Element u) found)
-
-through_bytes : (ps : StructureSets) (a : ℕ) (got : List ℕ) (r : Received) (i b : ℕ) (u : Qtd)
-    → received_parts ps a got r i b ≡ Some (Element u) → ps i b ≡ Some (Element u)
-through_bytes ps a got Nothing i b u found = found
-through_bytes ps a got (Into pages k bs j) i b u found =
-    ⊎_elim (λ (is : (i ≡ a) × (b ≡ place_of_byte pages k) × (Element u ≡ Buffer pages k (overwritten bs j got))). absurd
-    (no_buffer pages k (overwritten bs j got) u is.2)) (λ (before : ps i b ≡ Some (Element u)). before)
-    (put_found ps a (place_of_byte pages k) (Buffer pages k (overwritten bs j got)) i b (Element u) found)
 
 module _ (parts : StructureSets) (hand : Hand) (now : StructureSets) (later : Hand) (order : ℕ → ℕ) (place n : ℕ)
     (t : Takes parts hand now later) (there : parts t.copy.at t.copy.at ≡ Some (QueueHead t.copy.queue)) where

@@ -2,6 +2,7 @@
 use Rattle.std.proofs.Common.{◌≡◌, ℕ, Bool, true, false, if◌then◌else◌, List, Option, Some, None, ap, refl, sym, subst, ◌∙◌}
 use Rattle.std.proofs.lemmas.Bool.{true≢false}
 use Rattle.std.proofs.lemmas.Option.{same_Some}
+use Rattle.law_ring.proofs.Common.{one_link}
 use Rattle.usb_base.specs.declared.packets.Ask.{Ask}
 use Rattle.usb_base.specs.declared.packets.Reply.{Reply}
 use Rattle.word_mem.specs.Memory.{Mem, refused}
@@ -136,9 +137,6 @@ link_address (links.Qh a) = a
 link_address (links.Sitd a) = a
 link_address (links.Fstn a) = a
 
-same_queue_link : (a b : ℕ) → links.Qh a ≡ links.Qh b → a ≡ b
-same_queue_link a b same = ap link_address same
-
 held_none : (hand : Hand) (narrow : ℕ → Bool) → None ≡ held_of hand → IsHandAmong narrow hand
 held_none Empty narrow held = tt
 held_none _ narrow held = cc
@@ -185,7 +183,7 @@ hand_among base member narrow parts (Stale n q) now new k ring closed heads held
 head_among : (base : Base) (member narrow : ℕ → Bool) (parts : StructureSets) (hand : Hand) (new : WalkPlace) (k : HoldsHead new) → IsRing base member parts hand new → IsClosed narrow parts → HasHeads member narrow parts → narrow k.at ≡ true
 head_among base member narrow parts hand new k ring closed heads =
     let to : links.Qh ring.cursor.to ≡ links.Qh k.at = sym ring.cursor.leads ∙ ap (cursor_link new.registers) k.cursor in
-    let same : ring.cursor.to ≡ k.at = same_queue_link ring.cursor.to k.at to in
+    let same : ring.cursor.to ≡ k.at = one_link ring.cursor.to k.at to in
     let m : IsMember member ring.cursor.to (parts ring.cursor.to) = ring.members ring.cursor.to ring.cursor.on in
     ap narrow (sym same) ∙ (among_copy base member narrow parts hand new k ring.cursor.to k.queue.link m.queue ring closed heads ring.cursor.on m.here same refl).0
 

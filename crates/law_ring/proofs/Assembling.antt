@@ -3,6 +3,8 @@ use Rattle.std.proofs.Common.{◌≡◌, ◌≢◌, ℕ, ◌-◌, ◌==◌, min,
 use Rattle.std.specs.Prelude.{◌⊎◌}
 use Rattle.std.proofs.lemmas.Bool.{cases_eq, eq-eqb, false≢true}
 use Rattle.std.proofs.lemmas.List.{append-nil}
+use Rattle.law_ring.proofs.Common.{bytes_beside_element, by_none}
+use Rattle.law_common.proofs.Numbers.{other_number}
 use Rattle.usb_base.specs.declared.packets.Ask.{Ask}
 use Rattle.usb_base.specs.declared.packets.Pid.TheVariants as Packets
 use Rattle.usb_base.specs.declared.packets.Reply.{Reply}
@@ -16,9 +18,9 @@ use Rattle.hc_copy.specs.WriteBack.{moved_by}
 use Rattle.async_walk.specs.declared.state.WalkStep.{WalkStep}
 use Rattle.async_walk.specs.Naks.{kind_at}
 use Rattle.law_structures.specs.lent_structures.Settles.{is_moved}
-use Rattle.law_structures.specs.lent_structures.Structures.{QueueHead, Element, Structures, StructureSets, put, with_structure}
+use Rattle.law_structures.specs.lent_structures.Structures.{QueueHead, Element, Structures, StructureSets, put}
 use Rattle.law_structures.specs.lent_structures.Changes.{relinked}
-use Rattle.law_structures.proofs.lemmas.lent_structures.Names.{not_same, put_beside, put_here, with_here, with_there}
+use Rattle.law_structures.proofs.lemmas.lent_structures.Names.{put_beside, put_here}
 use Rattle.law_structures.specs.lent_structures.WriteBack.{CanBeWritten, Nothing, qtd_after, parts_back}
 use Rattle.law_structures.proofs.lemmas.lent_structures.WrittenBack.{between_element}
 use Rattle.law_structures.proofs.lemmas.lent_structures.Found.{back_head, back_beside}
@@ -43,7 +45,6 @@ use Rattle.law_ring.specs.OutPipes.{IsOut, IsNext, IsUnmoved, OutAgrees, level, 
 use Rattle.law_ring.specs.OutPipeLaws.{SendsNone, IsBeside, IsOnlyEndpoint}
 use Rattle.law_ring.proofs.Stopping.{out_only}
 use Rattle.law_ring.proofs.Transporting.{carried, out_still}
-use Rattle.law_ring.proofs.OutPipeAgreeing.{moved_none}
 use Rattle.law_ring.proofs.OutPipeEvents.{unmoved_made, made_by}
 
 -- ---- a write-back without bytes leaves all buffers
@@ -51,11 +52,6 @@ use Rattle.law_ring.proofs.OutPipeEvents.{unmoved_made, made_by}
 endpoint_written : (c : Copy) (z : Settlement) → endpoint_of (queue_written c z) ≡ endpoint_of c.queue
 unfolding moved settled_queue
 endpoint_written c z = refl
-
-bytes_beside_element : (part : Structures) (a : ℕ) (t u : Qtd) (b : ℕ) → part a ≡ Some (Element t) → bytes_in (with_structure part a (Element u) b) ≡ bytes_in (part b)
-bytes_beside_element part a t u b here =
-    ⊎_elim (λ (same_one : b ≡ a). ap bytes_in (ap (with_structure part a (Element u)) same_one ∙ with_here part a (Element u)) ∙ sym (ap bytes_in (ap part same_one ∙ here)))
-    (λ (differs : b ≢ a). ap bytes_in (with_there part a (Element u) b differs)) (cases_eq b a)
 
 silent_bytes : (parts : StructureSets) (n : ℕ) (q c : Qh) (count : ℕ) (t : Qtd) (a : ℕ) → CanBeWritten parts n n q c [] Nothing t → bytes_in (parts_back parts n n q c count [] Nothing t n a) ≡ bytes_in (parts n a)
 silent_bytes parts n q c count t a can =
@@ -83,7 +79,7 @@ module _ {W : Type 0} (transacts : W → Ask → List ℕ → Reply → W → Ty
       let t0_is : w0.element ≡ next.element = found_element (parts n q.current) w0.element next.element w0.here next.here in
       let t1_is : w1.element ≡ next.element = kept ∙ found_element (parts n q.current) had.qtd next.element (ap (parts n) (sym v.current) ∙ had.here) next.here in
       let none : w.settled.got ≡ [] = settled.bytes.none (λ e. not_in (ap pid_at (sym pid) ∙ e)) in
-      let zero = moved_none w.settled.outcome still in
+      let zero = by_none w.settled.outcome still in
       let left = settled.host.left in
       let total_is = v.total in
       let total : r.token.total ≡ q.token.total = omega (arith, zero, left, total_is) in
@@ -277,7 +273,7 @@ module _ {W : Type 0} (transacts : W → Ask → List ℕ → Reply → W → Ty
         is = bus.others wire (call_in (transaction_of m.kind q) m.out m.last).ask
             (call_in (transaction_of m.kind q) m.out m.last).out m.reply after x.addr x.ep s m.made only.streamed pipe.is
             (unasked beside beside.apart);
-        agrees = subst (λ (xs : List ℕ). OutAgrees (now n) later n has.queue pipe.toggle xs s) (sym (append-nil known) ∙ ap (λ (xs : List ℕ). known ++ xs) (sym (ap (λ (b : Bool). if b then grown m else []) (not_same m.copy.at n (λ (e : m.copy.at ≡ n). differs (sym e))))))
+        agrees = subst (λ (xs : List ℕ). OutAgrees (now n) later n has.queue pipe.toggle xs s) (sym (append-nil known) ∙ ap (λ (xs : List ℕ). known ++ xs) (sym (ap (λ (b : Bool). if b then grown m else []) (other_number m.copy.at n (λ (e : m.copy.at ≡ n). differs (sym e))))))
             (still (ap (λ (ps : StructureSets). ps n) all)
             (unmoved_at (Settled m.held (came_to m)) m.later_is (λ (e : m.held.at ≡ n). absurd (differs (sym e ∙ m.at_same)))) has);
       }
@@ -297,7 +293,7 @@ module _ {W : Type 0} (transacts : W → Ask → List ℕ → Reply → W → Ty
           mk.sound).work m.works in
           out_only m.copy.queue.token.pid false (m.copy.queue.token.pid == 1) (transaction_of m.kind m.copy.queue).split
           (pinged m.kind m.copy.queue.token.ping)
-          (not_same m.copy.queue.token.pid 0 (λ (i : m.copy.queue.token.pid ≡ 0). none m.copy.queue.current w0.element w0.here
+          (other_number m.copy.queue.token.pid 0 (λ (i : m.copy.queue.token.pid ≡ 0). none m.copy.queue.current w0.element w0.here
           w0.published (sym w0.pid ∙ i))) refl refl asked.token
 
   -- those that are beside the queue heads ask no such endpoint

@@ -1,6 +1,7 @@
 -- The direction of a queue head's qTDs stays, and so does what it asks.
-use Rattle.std.proofs.Common.{◌≡◌, ◌≢◌, ℕ, Bool, true, false, ◌==◌, if◌then◌else◌, ap, refl, sym, ◌∙◌}
-use Rattle.std.proofs.lemmas.Bool.{eq-eqb}
+use Rattle.std.proofs.Common.{◌≡◌, ◌≢◌, ℕ, Bool, true, false, ◌==◌, if◌then◌else◌, ap, sym, ◌∙◌}
+use Rattle.law_structures.proofs.Common.{in_token}
+use Rattle.law_common.proofs.Numbers.{other_number}
 use Rattle.usb_base.specs.declared.packets.Pid.{Pid}
 use Rattle.usb_base.specs.declared.packets.Pid.TheVariants as Packets
 use Rattle.usb_base.specs.declared.packets.EpKind.{EpKind}
@@ -9,11 +10,9 @@ use Rattle.usb_base.specs.declared.packets.Split.{Split}
 use Rattle.usb_base.specs.declared.packets.Split.TheVariants as Splits
 use Rattle.qh_qtd.specs.declared.qtd.Qtd.{Qtd}
 use Rattle.qh_qtd.specs.declared.queue_head.Qh.{Qh}
-use Rattle.transactions.specs.declared.pipe.Pipe.{Pipe}
 use Rattle.transactions.specs.Asks.{pinged, token_pid}
-use Rattle.hc_copy.specs.Planning.{pid_at, split_at}
+use Rattle.hc_copy.specs.Planning.{pid_at}
 use Rattle.law_structures.specs.lent_structures.Structures.{Structures}
-use Rattle.law_structures.proofs.lemmas.lent_structures.Names.{not_same}
 use Rattle.law_structures.specs.lent_structures.Sound.{IsWorking, IsSoundQueue}
 use Rattle.law_structures.specs.lent_structures.Alters.{HadElement, Alters}
 use Rattle.law_structures.proofs.lemmas.lent_structures.Members.{still_active}
@@ -35,13 +34,6 @@ not_in_still part now alters nots a u here on is =
 
 -- ---- what is asked
 
-pub plain_split : (eps : ℕ) (waiting : Bool) (pipe : Pipe) → eps ≡ 2 → split_at (eps == 2) waiting pipe ≡ Splits.Plain
-plain_split eps waiting pipe high = ap (λ (b : Bool). split_at b waiting pipe) (eq-eqb eps 2 high)
-
-in_token : (split : Split) (out : Pid) → token_pid split Packets.In out ≡ Packets.In
-in_token Splits.Plain out = refl
-in_token _ out = refl
-
 pub in_asked : (code : ℕ) (split : Split) (out : Pid) → code ≡ 1 → token_pid split (pid_at code) out ≡ Packets.In
 in_asked code split out is = ap (λ (c : ℕ). token_pid split (pid_at c) out) is ∙ in_token split out
 
@@ -62,7 +54,7 @@ not_asked split kind ping false false off = setup_token split (pinged kind ping)
 not_asked split kind ping false true off = absurd cc
 
 pub other_asked : (code : ℕ) (split : Split) (kind : EpKind) (ping : Bool) → code ≢ 1 → token_pid split (pid_at code) (pinged kind ping) ≢ Packets.In
-other_asked code split kind ping other = not_asked split kind ping (code == 0) (code == 1) (not_same code 1 other)
+other_asked code split kind ping other = not_asked split kind ping (code == 0) (code == 1) (other_number code 1 other)
 
 -- the overlay that works has the PID of its qTD
 pub works_in : (part : Structures) (q : Qh) → IsSoundQueue part q → q.token.active ≡ true → IsIn part → q.token.pid ≡ 1

@@ -1,11 +1,12 @@
 -- A ring under a driver's stores, lends and returns of runs.
-use Rattle.std.proofs.Common.{◌≡◌, ◌≢◌, ℕ, ◌+◌, ◌*◌, ◌<◌, Bool, true, false, ◌==◌, if◌then◌else◌, set, Option, Some, None, ap, refl, sym, subst, ◌∙◌, ⊎_elim, ◌⊎◌, inl, inr, arith}
+use Rattle.std.proofs.Common.{◌≡◌, ◌≢◌, ℕ, ◌+◌, ◌*◌, ◌<◌, Bool, true, false, ◌==◌, if◌then◌else◌, set, Some, None, ap, refl, sym, subst, ◌∙◌, ⊎_elim, arith}
 use Rattle.std.proofs.lemmas.Bool.{cases_eq, true≢false, eq-eqb, eqb-true}
+use Rattle.law_common.proofs.Booleans.{on_or_off}
+use Rattle.law_ring.proofs.Common.{element_no_head, relinked_sound, sound_still, settled_linked, wider_link, none_some}
 use Rattle.word_mem.specs.Memory.{Mem, with_word}
 use Rattle.link_words.specs.declared.fields.LinkBits.{LinkBits}
 use Rattle.link_words.specs.Layout.{word_of}
 use Rattle.link_words.specs.Fields.{link_rows}
-use Rattle.link_words.specs.Links.{qtd_link_of}
 use Rattle.qh_qtd.specs.declared.qtd.Qtd.{Qtd}
 use Rattle.qh_qtd.specs.declared.queue_head.Qh.{Qh}
 use Rattle.qh_qtd.specs.Qtd.{qtd_words, IsQtdInRange}
@@ -14,7 +15,6 @@ use Rattle.qh_qtd.proofs.QhLaws.{qh_words-link}
 use Rattle.usb_base.specs.declared.packets.Reply.{Reply}
 use Rattle.hc_copy.specs.declared.held.Held.{Held}
 use Rattle.hc_copy.specs.Overlay.{settled_queue}
-use Rattle.hc_copy.specs.Visits.{next_pointer}
 use Rattle.async_walk.specs.Rows.{WalkPlace}
 use Rattle.law_structures.specs.lent_structures.Structures.{Structure, QueueHead, Element, Structures, StructureSets, with_structure, put, without_structure, without, Holds, Has, Tells}
 use Rattle.law_structures.specs.lent_structures.Changes.{Leaves, IsNew}
@@ -22,14 +22,13 @@ use Rattle.law_structures.proofs.lemmas.lent_structures.Names.{with_here, with_t
 use Rattle.law_structures.proofs.lemmas.lent_structures.Telling.{new_is_told, another_is_told, fewer_are_told}
 use Rattle.law_structures.proofs.lemmas.lent_structures.Writing.{word_put_queue, word_put_element}
 use Rattle.law_structures.specs.lent_structures.Sound.{LeadsAmong, IsSoundElement, IsSoundQueue, IsMember}
-use Rattle.law_structures.specs.lent_structures.Alters.{Alters}
 use Rattle.law_structures.proofs.lemmas.lent_structures.Altering.{found_queue, no_two, a_queue_head_alters_nothing}
-use Rattle.law_structures.proofs.lemmas.lent_structures.Members.{leads_still, an_altered_part_is_sound}
+use Rattle.law_structures.proofs.lemmas.lent_structures.Members.{an_altered_part_is_sound}
 use Rattle.law_ring.specs.Hand.{Copy, copied_queue, Settlement, Hand, Empty, Copied, Settled, Stale, held_of}
 use Rattle.claims_base.specs.Controller.{Base}
 use Rattle.law_ring.specs.Ring.{IsCopied, IsSettled, IsInHand, IsRing}
 use Rattle.law_ring.specs.Stores.{KeepsQueueHeads, IsUnnamed, copy_linked, hand_linked, hand_stale, IsWider, IsClosed, IsHandAmong, IsAmong}
-use Rattle.law_ring.proofs.Parting.{some_none, member_stored}
+use Rattle.law_ring.proofs.Parting.{member_stored}
 
 -- ---- any change that leaves each queue head
 
@@ -80,9 +79,6 @@ keeps_without parts n a no_head i q here =
     ap (λ (j : ℕ). without parts n a j j) owner ∙ without_else parts n a n (λ same. no_head q (ap (parts n) (sym same) ∙ there)) ∙ there)
     (λ (differs : i ≢ n). ap (λ (part : Structures). part i) (without_beside parts n a i differs) ∙ here) (cases_eq i n)
 
-element_no_head : (o : Option Structure) (d : Qtd) (q : Qh) → o ≡ Some (Element d) → o ≡ Some (QueueHead q) → ⊥
-element_no_head o d q element head = cc
-
 -- ---- a word of an inactive qTD
 
 pub element_store_leaves_ring : (base : Base) (member : ℕ → Bool) (parts : StructureSets) (hand : Hand) (p : WalkPlace) (n a : ℕ) (d new : Qtd) (k v : ℕ) → IsRing base member parts hand p → parts n a ≡ Some (Element d) → d.token.active ≡ false → k < 8 → qtd_words new ≡ set (qtd_words d) k v → IsQtdInRange new → (member n ≡ true → IsSoundElement (parts n) new × IsUnnamed (parts n) a new) → IsRing base member (put parts n a (Element new)) hand (record p { memory = with_word p.memory (a + 4 * k) v })
@@ -100,14 +96,14 @@ lend_leaves_ring base member parts hand p n a s after ring left fresh none owes 
     other_parts_leave_ring base member parts (put parts n a s) hand p after ring
     (new_is_told p.memory after parts n a s ring.tells left fresh)
     (members_but_one member parts (put parts n a s) n (put_beside parts n a s) (λ on. member_put member parts n a s (owes on)) ring.members)
-    (keeps_put parts n a s (λ q head. some_none (parts n a) (QueueHead q) none head))
+    (keeps_put parts n a s (λ q head. none_some (parts n a) (QueueHead q) none head))
 
 pub another_leaves_ring : (base : Base) (member : ℕ → Bool) (parts : StructureSets) (hand : Hand) (p : WalkPlace) (n a : ℕ) (s : Structure) → IsRing base member parts hand p → Holds p.memory a s → ((b k c : ℕ) (u : Structure) → Has a s b → parts k c ≡ Some u → Has c u b → ⊥) → parts n a ≡ None → (member n ≡ true → IsMember member n (with_structure (parts n) a s)) → IsRing base member (put parts n a s) hand p
 another_leaves_ring base member parts hand p n a s ring holds apart none owes =
     other_parts_leave_ring base member parts (put parts n a s) hand p p.memory ring
     (another_is_told p.memory parts n a s ring.tells holds apart)
     (members_but_one member parts (put parts n a s) n (put_beside parts n a s) (λ on. member_put member parts n a s (owes on)) ring.members)
-    (keeps_put parts n a s (λ q head. some_none (parts n a) (QueueHead q) none head))
+    (keeps_put parts n a s (λ q head. none_some (parts n a) (QueueHead q) none head))
 
 -- ---- a structure is told no more
 
@@ -145,24 +141,6 @@ strangers_leave_ring base member parts hand p n a ring off = record {
 
 -- ---- the link of a queue head
 
-on_or_off : (b : Bool) → (b ≡ true) ⊎ (b ≡ false)
-on_or_off true = inl refl
-on_or_off false = inr refl
-
--- a queue head is as sound with another link
-relinked_sound : (part : Structures) (q : Qh) (l : LinkBits) → IsSoundQueue part q → IsSoundQueue part (record q { link = l })
-relinked_sound part q l s = record {
-  rest = s.rest;
-  work = λ on. let w = s.work on in record { element = w.element; here = w.here; published = w.published; goes_on = w.goes_on; pid = w.pid; pages = w.pages; next = w.next; alternate = w.alternate; fewer = w.fewer; place = w.place };
-}
-
--- and where qTDs and buffers are altered at most
-queue_still : (part now : Structures) (q : Qh) → Alters part now → ((a : ℕ) (t : Qtd) → part a ≡ Some (Element t) → now a ≡ Some (Element t)) → IsSoundQueue part q → IsSoundQueue now q
-queue_still part now q alters same s = record {
-  rest = λ off idle. leads_still part now (qtd_link_of (next_pointer q)) alters (s.rest off idle);
-  work = λ on. let w = s.work on in record { element = w.element; here = same q.current w.element w.here; published = w.published; goes_on = w.goes_on; pid = w.pid; pages = w.pages; next = w.next; alternate = w.alternate; fewer = w.fewer; place = w.place };
-}
-
 linked_by : (b : Bool) (l : LinkBits) (c : Copy) → copied_queue (record c { queue = if b then record c.queue { link = l } else c.queue }) ≡ copied_queue c
 linked_by true l c = refl
 linked_by false l c = refl
@@ -174,13 +152,6 @@ held_same : (n : ℕ) (l : LinkBits) (hand : Hand) → held_of hand ≡ held_of 
 held_same n l (Copied c) = ap (λ (q : Qh). let h : Held = record { at = c.at; queue_head = q; settled = None } in Some h) (sym (copied_same n l c))
 held_same n l (Settled c s) = ap (λ (q : Qh). let h : Held = record { at = c.at; queue_head = settled_queue s.host q; settled = Some s.outcome } in Some h) (sym (copied_same n l c))
 held_same n l _ = refl
-
-settled_linked : (b : Bool) (l : LinkBits) (q : Qh) (reply : Reply) (s : Settlement) → IsSettled q reply s → IsSettled (if b then record q { link = l } else q) reply s
-settled_linked true l q reply s k = record { works = k.works; host = k.host; bytes = k.bytes; got = k.got; are_bytes = k.are_bytes }
-settled_linked false l q reply s k = k
-
-wider_link : (member wider : ℕ → Bool) (l : LinkBits) → IsWider member wider → LeadsAmong member l → LeadsAmong wider l
-wider_link member wider l more k = record { to = k.to; leads = k.leads; on = more k.to k.on }
 
 pub wider_member : (member wider : ℕ → Bool) (n : ℕ) (part : Structures) → IsWider member wider → IsMember member n part → IsMember wider n part
 wider_member member wider n part more m = record { queue = m.queue; here = m.here; link = wider_link member wider m.queue.link more m.link; sound = m.sound; elements = m.elements; own = m.own }
@@ -214,7 +185,8 @@ member_relinked wider n part q l m is head link =
     let now = with_structure part n (QueueHead (record q { link = l })) in
     let alters = a_queue_head_alters_nothing part n q (record q { link = l }) head in
     an_altered_part_is_sound wider n part now (record q { link = l }) m alters (with_here part n (QueueHead (record q { link = l }))) link
-    (relinked_sound now q l (queue_still part now q alters (λ a t here. with_there part n (QueueHead (record q { link = l })) a (no_two part a n (Element t) (QueueHead q) here head (λ e. cc)) ∙ here) (subst (IsSoundQueue part) is m.sound)))
+    (relinked_sound now q l (sound_still part now q alters (λ a t here. with_there part n (QueueHead (record q { link = l })) a
+    (no_two part a n (Element t) (QueueHead q) here head (λ e. cc)) ∙ here) (subst (IsSoundQueue part) is m.sound)))
 
 wider_members : (member wider : ℕ → Bool) (parts : StructureSets) → IsWider member wider → ((i : ℕ) → member i ≡ true → IsMember member i (parts i)) → ((i : ℕ) → wider i ≡ true → member i ≡ false → IsMember wider i (parts i)) → (i : ℕ) → wider i ≡ true → IsMember wider i (parts i)
 wider_members member wider parts more members comes i on =
@@ -286,7 +258,8 @@ mended_member member parts n q new head link sound m =
     let alters = a_queue_head_alters_nothing (parts n) n q new head in
     member_put member parts n n (QueueHead new)
     (an_altered_part_is_sound member n (parts n) now new m alters (with_here (parts n) n (QueueHead new)) link
-    (queue_still (parts n) now new alters (λ a t here. with_there (parts n) n (QueueHead new) a (no_two (parts n) a n (Element t) (QueueHead q) here head (λ e. cc)) ∙ here) sound))
+    (sound_still (parts n) now new alters (λ a t here. with_there (parts n) n (QueueHead new) a
+    (no_two (parts n) a n (Element t) (QueueHead q) here head (λ e. cc)) ∙ here) sound))
 
 pub mending_leaves_ring : (base : Base) (member : ℕ → Bool) (parts : StructureSets) (hand : Hand) (p : WalkPlace) (n : ℕ) (q new : Qh) (k v : ℕ) → IsRing base member parts hand p → parts n n ≡ Some (QueueHead q) → q.token.halted ≡ true → k < 12 → qh_words new ≡ set (qh_words q) k v → IsQhInRange new → (member n ≡ true → LeadsAmong member new.link × IsSoundQueue (parts n) new) → IsRing base member (put parts n n (QueueHead new)) (hand_stale n hand) (record p { memory = with_word p.memory (n + 4 * k) v })
 mending_leaves_ring base member parts hand p n q new k v ring head halted below is range sound = record {

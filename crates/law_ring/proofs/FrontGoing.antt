@@ -1,6 +1,7 @@
 -- The front goes on with each event of the walk.
 use Rattle.std.proofs.Common.{◌≡◌, ◌≢◌, ℕ, ◌+◌, ◌<◌, ◌≤◌, ◌==◌, ◌&&◌, not, Bool, true, false, if◌then◌else◌, List, length, Some, ap, refl, sym, subst, ◌∙◌, ⊎_elim, inl, inr, arith}
 use Rattle.std.proofs.lemmas.Bool.{cases_eq, true≢false}
+use Rattle.law_ring.proofs.Common.{through_head, through_bytes, link_there, pointer_rises, same_pointer, own_there, pointer_within, behind_later, passed_later}
 use Rattle.usb_base.specs.declared.packets.Ask.{Ask}
 use Rattle.usb_base.specs.declared.packets.Reply.{Reply}
 use Rattle.link_words.specs.declared.fields.ShortLink.{ShortLink}
@@ -14,13 +15,11 @@ use Rattle.hc_copy.specs.Overlay.{advanced}
 use Rattle.hc_copy.specs.Visits.{next_pointer}
 use Rattle.hc_copy.specs.WriteBack.{moved_by}
 use Rattle.async_walk.specs.declared.state.WalkStep.{WalkStep}
-use Rattle.mem_bytes.specs.Bytes.{place as place_of_byte}
-use Rattle.law_structures.specs.lent_structures.Changes.{overwritten}
-use Rattle.law_structures.specs.lent_structures.Structures.{QueueHead, Element, Buffer, Structures, StructureSets, put}
+use Rattle.law_structures.specs.lent_structures.Structures.{QueueHead, Element, Structures, StructureSets, put}
 use Rattle.law_structures.proofs.lemmas.lent_structures.Names.{put_same, put_else, put_beside, put_found}
-use Rattle.law_structures.specs.lent_structures.WriteBack.{CanBeWritten, Received, Nothing, Into, received_parts}
+use Rattle.law_structures.specs.lent_structures.WriteBack.{CanBeWritten, Received, received_parts}
 use Rattle.law_structures.proofs.lemmas.lent_structures.Found.{back_head, back_element, back_other_element, back_beside}
-use Rattle.law_structures.specs.lent_structures.Sound.{IsElement, LeadsOn, buffer_name, IsSoundElement, IsWorking, IsSoundQueue, IsMember}
+use Rattle.law_structures.specs.lent_structures.Sound.{buffer_name, IsWorking, IsSoundQueue, IsMember}
 use Rattle.law_structures.specs.lent_structures.Alters.{HadElement, Alters}
 use Rattle.law_structures.proofs.lemmas.lent_structures.Members.{still_active}
 use Rattle.law_structures.proofs.lemmas.lent_structures.Altering.{found_queue, found_element, no_two}
@@ -32,7 +31,7 @@ use Rattle.law_ring.proofs.Writing.{settled_copy, settled_range, is_written, que
 use Rattle.law_ring.specs.Streams.{AreMembers}
 use Rattle.law_ring.proofs.Altered.{effect_alters, length_still}
 use Rattle.law_ring.specs.Order.{IsFresh, IsAmong}
-use Rattle.law_ring.specs.Front.{LinksWithin, HasTail, own_pointer, IsFront, IsBehind, IsPassed, Passes, LinksRise, HasFront, FrontGoesOn, SameRest, IsSparedOrNew, FrontIsSpared, FrontIsRenumbered}
+use Rattle.law_ring.specs.Front.{HasTail, own_pointer, IsFront, IsBehind, IsPassed, Passes, LinksRise, HasFront, FrontGoesOn, SameRest, IsSparedOrNew, FrontIsSpared, FrontIsRenumbered}
 
 -- ---- where the front stands once a qTD is done
 
@@ -47,55 +46,10 @@ front_past : (order : ℕ → ℕ) (a : ℕ) (l : QtdLink) → ((b : ℕ) → l 
 front_past order a qtd_links.End rises = omega arith
 front_past order a (qtd_links.To b) rises = rises b refl
 
-pointer_rises : (order : ℕ → ℕ) (part : Structures) (a : ℕ) (t : Qtd) (c : Bool) (b : ℕ) → LinksRise order part → part a ≡ Some (Element t) → qtd_link_of (if c then t.alternate else t.next) ≡ qtd_links.To b → order a < order b
-pointer_rises order part a t true b rise here to = rise.alternate a t b here to
-pointer_rises order part a t false b rise here to = rise.next a t b here to
-
 -- and no further than its links lead
 front_within : (order : ℕ → ℕ) (a top : ℕ) (l : QtdLink) → order a < top → ((b : ℕ) → l ≡ qtd_links.To b → order b ≤ top) → front_at order a l ≤ top
 front_within order a top qtd_links.End below leads = omega (arith, below)
 front_within order a top (qtd_links.To b) below leads = leads b refl
-
-pointer_within : (order : ℕ → ℕ) (c : ℕ) (part : Structures) (a : ℕ) (t : Qtd) (short : Bool) (b : ℕ) → LinksWithin order c part → part a ≡ Some (Element t) → t.token.active ≡ true → order a ≤ order c → qtd_link_of (if short then t.alternate else t.next) ≡ qtd_links.To b → order b ≤ order c
-pointer_within order c part a t true b within here on reached to = within.alternate a b t here on reached to
-pointer_within order c part a t false b within here on reached to = within.next a b t here on reached to
-
--- a queue head and a qTD with one pair of links and as many bytes left go on at one
-same_pointer : (q : Qh) (t : Qtd) → q.next ≡ t.next → q.alternate ≡ t.alternate → q.token.total ≡ t.token.total → next_pointer q ≡ own_pointer t
-same_pointer q t next alternate total =
-    ap (λ (n : ℕ). if not (n == 0) && not q.alternate.t then q.alternate else q.next) total
-    ∙ ap (λ (l : ShortLink). if not (t.token.total == 0) && not l.t then l else q.next) alternate
-    ∙ ap (λ (l : ShortLink). if not (t.token.total == 0) && not t.alternate.t then t.alternate else l) next
-
-behind_later : (order : ℕ → ℕ) (front later : ℕ) (part now : Structures) (a : ℕ) → front ≤ later → ((t : Qtd) → part a ≡ Some (Element t) → t.token.active ≡ false → now a ≡ Some (Element t)) → IsBehind order front part a → IsBehind order later now a
-behind_later order front later part now a grows still k = record {
-  qtd = k.qtd;
-  here = still k.qtd k.here k.done;
-  done = k.done;
-  before = (let less = k.before in omega (arith, less, grows));
-  leads = λ b off to. let at = k.leads b off to in omega (arith, at, grows);
-}
-
-passed_later : (order : ℕ → ℕ) (front later : ℕ) (part now : Structures) (a : ℕ) → front ≤ later → ((t : Qtd) → part a ≡ Some (Element t) → now a ≡ Some (Element t)) → IsPassed order front part a → IsPassed order later now a
-passed_later order front later part now a grows still k = record { qtd = k.qtd; here = still k.qtd k.here; published = k.published; before = (let less = k.before in omega (arith, less, grows)) }
-
--- ---- what is found after an event was there before
-
-no_head : (q : Qh) (u : Qtd) → Element u ≡ QueueHead q → ⊥
-no_head q u e = cc
-
-no_buffer : (pages : List ℕ) (k : ℕ) (bs : List ℕ) (u : Qtd) → Element u ≡ Buffer pages k bs → ⊥
-no_buffer pages k bs u e = cc
-
-through_head : (ps : StructureSets) (a : ℕ) (q : Qh) (i b : ℕ) (u : Qtd) → put ps a a (QueueHead q) i b ≡ Some (Element u) → ps i b ≡ Some (Element u)
-through_head ps a q i b u found =
-    ⊎_elim (λ (is : (i ≡ a) × (b ≡ a) × (Element u ≡ QueueHead q)). absurd (no_head q u is.2)) (λ (before : ps i b ≡ Some (Element u)). before) (put_found ps a a (QueueHead q) i b (Element u) found)
-
-through_bytes : (ps : StructureSets) (a : ℕ) (got : List ℕ) (r : Received) (i b : ℕ) (u : Qtd) → received_parts ps a got r i b ≡ Some (Element u) → ps i b ≡ Some (Element u)
-through_bytes ps a got Nothing i b u found = found
-through_bytes ps a got (Into pages k bs j) i b u found =
-    ⊎_elim (λ (is : (i ≡ a) × (b ≡ place_of_byte pages k) × (Element u ≡ Buffer pages k (overwritten bs j got))). absurd (no_buffer pages k (overwritten bs j got) u is.2)) (λ (before : ps i b ≡ Some (Element u)). before)
-    (put_found ps a (place_of_byte pages k) (Buffer pages k (overwritten bs j got)) i b (Element u) found)
 
 -- ---- the qTD that is taken or written
 
@@ -415,13 +369,6 @@ front_is_spared order front out out_now n part now k head spared = record {
 }
 
 -- ---- orders
-
-link_there : (part : Structures) (l : QtdLink) (b : ℕ) → LeadsOn part l → l ≡ qtd_links.To b → IsElement part b
-link_there part l b leads is = subst (LeadsOn part) is leads
-
-own_there : (part : Structures) (t : Qtd) (c : Bool) (b : ℕ) → IsSoundElement part t → qtd_link_of (if c then t.alternate else t.next) ≡ qtd_links.To b → IsElement part b
-own_there part t true b sound to = link_there part (qtd_link_of t.alternate) b sound.alternate to
-own_there part t false b sound to = link_there part (qtd_link_of t.next) b sound.next to
 
 pub front_is_renumbered : FrontIsRenumbered
 front_is_renumbered member order order_now front out n part m same k = record {

@@ -1,8 +1,10 @@
 -- A transaction: the bytes of the current qTD grow by those that it moved.
-use Rattle.std.proofs.Common.{◌≡◌, ◌≢◌, ℕ, ◌+◌, ◌-◌, ◌<◌, ◌≤◌, Bool, true, false, ◌&&◌, ◌==◌, if◌then◌else◌, List, [], ◌∷◌, ◌++◌, length, take, drop, Some, ap, refl, sym, subst, ◌∙◌, ⊎_elim, inl, inr, arith}
+use Rattle.std.proofs.Common.{◌≡◌, ◌≢◌, ℕ, ◌+◌, ◌-◌, ◌<◌, ◌≤◌, Bool, true, false, ◌&&◌, ◌==◌, if◌then◌else◌, List, [], ◌++◌, length, take, drop, Some, ap, refl, sym, subst, ◌∙◌, ⊎_elim, inl, inr, arith}
 use Rattle.std.specs.Prelude.{◌⊎◌}
 use Rattle.std.proofs.lemmas.Bool.{cases_eq, cases_lt, eq-eqb, eqb-true}
 use Rattle.std.proofs.lemmas.List.{take-append-drop, take-take, drop-take, take_at, length-take, length-append, append_assoc, append-nil}
+use Rattle.law_common.proofs.Lists.{no_bytes}
+use Rattle.law_common.proofs.Numbers.{other_number}
 use Rattle.usb_base.specs.declared.packets.Ask.{Ask}
 use Rattle.usb_base.specs.declared.packets.Pid.TheVariants as pids
 use Rattle.usb_base.specs.declared.packets.Reply.{Reply}
@@ -16,7 +18,6 @@ use Rattle.law_structures.specs.lent_structures.Settles.{Leaves, Brings, Settles
 use Rattle.law_structures.proofs.lemmas.lent_structures.Settling.{a_transaction_settles}
 use Rattle.law_structures.specs.lent_structures.Structures.{QueueHead, Structures, StructureSets}
 use Rattle.law_structures.specs.lent_structures.Changes.{overwritten}
-use Rattle.law_structures.proofs.lemmas.lent_structures.Names.{not_same}
 use Rattle.law_structures.specs.lent_structures.Sound.{HasBuffer, IsReady, IsWorking, IsSoundQueue, IsMember}
 use Rattle.law_structures.proofs.lemmas.lent_structures.Altering.{found_queue, found_element}
 use Rattle.law_ring.specs.Hand.{Copy, Settlement, Hand, Settled}
@@ -42,10 +43,6 @@ grown_out bs j n =
     sym (take-append-drop j (take (j + n) bs))
     ∙ ap (λ (xs : List ℕ). xs ++ drop j (take (j + n) bs)) (take-take j (j + n) bs (omega arith))
     ∙ ap (λ (xs : List ℕ). take j bs ++ xs) (drop-take j n bs)
-
-no_length : (xs : List ℕ) → length xs ≡ 0 → xs ≡ []
-no_length [] e = refl
-no_length (x ∷ xs) e = absurd (omega (arith, e))
 
 -- ---- the PID
 
@@ -98,7 +95,7 @@ grown_by q t z bs false is (inl (few, place)) host bytes =
 grown_by q t z bs true is (inr zero) host bytes =
     let left = host.left in
     let got = bytes.all (in_at q.token.pid is) in
-    let none : z.got ≡ [] = no_length z.got (omega (arith, got, left, zero)) in
+    let none : z.got ≡ [] = no_bytes z.got (omega (arith, got, left, zero)) in
     let same : length bs - z.host.left ≡ length bs - q.token.total = omega (arith, left, zero) in
     ap (λ (got : List ℕ). take (length bs - z.host.left) (overwritten bs (buffer_place q - t.offset) got)) none
     ∙ ap (take (length bs - z.host.left)) (overwritten_by_none bs (buffer_place q - t.offset)) ∙ ap (λ (i : ℕ). take i bs) same
@@ -119,7 +116,7 @@ pub works_here : (q : Qh) → q.token.active ≡ true → works_on q q.current �
 works_here q on = ap (λ (b : Bool). b && q.current == q.current) on ∙ eq-eqb q.current q.current refl
 
 pub works_not : (q : Qh) (e : ℕ) → q.current ≢ e → works_on q e ≡ false
-works_not q e differs = ap (λ (b : Bool). q.token.active && b) (not_same q.current e differs) ∙ and_off q.token.active
+works_not q e differs = ap (λ (b : Bool). q.token.active && b) (other_number q.current e differs) ∙ and_off q.token.active
   where
     and_off : (b : Bool) → (b && false) ≡ false
     and_off true = refl
@@ -130,7 +127,7 @@ pub hand_here : (at n : ℕ) (b : Bool) → at ≡ n → (at == n && b) ≡ b
 hand_here at n b same = ap (λ (x : Bool). x && b) (eq-eqb at n same)
 
 pub hand_not : (at n : ℕ) (b : Bool) → at ≢ n → (at == n && b) ≡ false
-hand_not at n b differs = ap (λ (x : Bool). x && b) (not_same at n differs)
+hand_not at n b differs = ap (λ (x : Bool). x && b) (other_number at n differs)
 
 module _ {W : Type 0} (transacts : W → Ask → List ℕ → Reply → W → Type 0) (parts : StructureSets) (hand : Hand) (wire after : W)
     (later : Hand) (m : Asks transacts parts hand wire after later) where
@@ -228,7 +225,7 @@ module _ {W : Type 0} (transacts : W → Ask → List ℕ → Reply → W → Ty
       is = has.is ∙ unsettled_toggle hand n has.queue un
           ∙ sym (ap (λ (h : Hand). hand_toggle h n has.queue) m.later_is ∙ ap
           (λ (x : Bool). if x then made.host.toggle else has.queue.token.toggle)
-          (not_same m.held.at n (λ e. differs (sym e ∙ m.at_same))));
+          (other_number m.held.at n (λ e. differs (sym e ∙ m.at_same))));
     };
   }
 

@@ -1,10 +1,11 @@
 -- A queue head that was halted.
 use Rattle.std.proofs.Common.{◌≡◌, ◌≢◌, ℕ, ◌/◌, ◌⊎◌, true, false, Some, ap, refl, sym, subst, ◌∙◌, ⊎_elim, inl, inr, arith}
 use Rattle.std.proofs.lemmas.Bool.{true≢false}
+use Rattle.law_structures.proofs.Common.{element_is}
 use Rattle.qh_qtd.specs.declared.qtd.Qtd.{Qtd}
 use Rattle.qh_qtd.specs.declared.queue_head.Qh.{Qh}
 use Rattle.law_structures.specs.lent_structures.Structures.{QueueHead, Element, with_structure}
-use Rattle.law_structures.proofs.lemmas.lent_structures.Altering.{found_queue, same_element}
+use Rattle.law_structures.proofs.lemmas.lent_structures.Altering.{found_queue}
 use Rattle.law_ring.proofs.Parting.{found_with}
 use Rattle.law_ring.specs.Order.{IsFresh}
 use Rattle.law_ring.specs.Front.{IsFront, IsBehind, HasFront}
@@ -16,9 +17,9 @@ halted = record { done = refl; halted = refl }
 
 two : (a : ℕ) (t : Qtd) → halted_part a ≡ Some (Element t) → ((a ≡ 128) × (halted_element ≡ t)) ⊎ ((a ≡ 192) × (published_element ≡ t))
 two a t found =
-    ⊎_elim (λ (is : (a ≡ 192) × (Element published_element ≡ Element t)). inr (is.0, same_element published_element t is.1))
+    ⊎_elim (λ (is : (a ≡ 192) × (Element published_element ≡ Element t)). inr (is.0, element_is published_element t is.1))
     (λ (second : (a ≢ 192) × (with_structure (with_structure none 64 (QueueHead halted_queue)) 128 (Element halted_element) a ≡ Some (Element t))).
-    ⊎_elim (λ (is : (a ≡ 128) × (Element halted_element ≡ Element t)). inl (is.0, same_element halted_element t is.1))
+    ⊎_elim (λ (is : (a ≡ 128) × (Element halted_element ≡ Element t)). inl (is.0, element_is halted_element t is.1))
     (λ (first : (a ≢ 128) × (with_structure none 64 (QueueHead halted_queue) a ≡ Some (Element t))).
     ⊎_elim (λ (is : (a ≡ 64) × (QueueHead halted_queue ≡ Element t)). cc) (λ (there : (a ≢ 64) × (none a ≡ Some (Element t))). let e = there.1 in cc)
     (found_with none 64 a (QueueHead halted_queue) (Element t) first.1))

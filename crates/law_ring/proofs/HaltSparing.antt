@@ -1,6 +1,7 @@
 -- What a halt gives, and a driver's rows.
-use Rattle.std.proofs.Common.{◌≡◌, ◌≢◌, ℕ, ◌-◌, ◌<◌, ◌⊎◌, ◌&&◌, ◌==◌, Bool, true, false, if◌then◌else◌, List, [], ◌∷◌, ◌++◌, length, take, Some, ap, refl, sym, subst, ◌∙◌, ⊎_elim, inl, inr, arith}
+use Rattle.std.proofs.Common.{◌≡◌, ◌≢◌, ℕ, ◌-◌, ◌<◌, ◌&&◌, ◌==◌, Bool, true, false, if◌then◌else◌, List, [], ◌++◌, length, take, Some, ap, refl, sym, subst, ◌∙◌, ⊎_elim, inl, inr, arith}
 use Rattle.std.proofs.lemmas.Bool.{true≢false}
+use Rattle.law_ring.proofs.Common.{among_either, no_element, fewer_some}
 use Rattle.qh_qtd.specs.declared.qtd.Qtd.{Qtd}
 use Rattle.qh_qtd.specs.declared.queue_head.Qh.{Qh}
 use Rattle.qh_qtd.specs.declared.token.Token.{Token}
@@ -10,7 +11,6 @@ use Rattle.law_structures.proofs.lemmas.lent_structures.Altering.{found_queue, f
 use Rattle.law_structures.specs.lent_structures.Sound.{IsSoundQueue}
 use Rattle.law_ring.specs.Hand.{Hand, Settled}
 use Rattle.law_ring.specs.Effects.{buffer_of}
-use Rattle.law_ring.proofs.ReleaseGoing.{found_fewer}
 use Rattle.law_ring.specs.Told.{works_on, told_bytes, settled_bytes, hand_bytes}
 use Rattle.law_ring.specs.Order.{IsAmong}
 use Rattle.law_ring.specs.Halted.{NoneBehindIsMoved, OneIsHalted, IsKeptOrPublished, HaltIsSpared, HaltIsRenumbered, StoreKeepsHalts, LendKeepsHalts, ReleaseKeepsHalts, FewerKeepHalts}
@@ -88,15 +88,7 @@ halt_is_renumbered order order_now out n part same k = record {
       let first = same a t among here in let second = same e u also there in k.later a e t u among here is also (omega (arith, less, first, second)) there;
 }
 
-among_either : (p : ℕ) (xs ys : List ℕ) → IsAmong p (xs ++ ys) → IsAmong p xs ⊎ IsAmong p ys
-among_either p [] ys is = inr is
-among_either p (x ∷ xs) ys (inl same) = inl (inl same)
-among_either p (x ∷ xs) ys (inr rest) = ⊎_elim (λ (first : IsAmong p xs). inl (inr first)) (λ (second : IsAmong p ys). inr second) (among_either p xs ys rest)
-
 -- a qTD is stored
-
-no_element : (q : Qh) (t : Qtd) → QueueHead q ≡ Element t → ⊥
-no_element q t e = cc
 
 pub store_keeps_halts : StoreKeepsHalts
 store_keeps_halts order out out_now n e parts new beside k =
@@ -124,9 +116,9 @@ lend_keeps_halts order order_now out new n part now rest same old published k =
 
 pub release_keeps_halts : ReleaseKeepsHalts
 release_keeps_halts order out out_now n part goes few k = record {
-  head = λ a t q among here is head. k.head a t q (few a among) (found_fewer goes part a (Element t) here).1 is (found_fewer goes part n (QueueHead q) head).1;
+  head = λ a t q among here is head. k.head a t q (few a among) (fewer_some goes part a (Element t) here).1 is (fewer_some goes part n (QueueHead q) head).1;
   later = λ a e t u among here is also less there.
-      k.later a e t u (few a among) (found_fewer goes part a (Element t) here).1 is (few e also) less (found_fewer goes part e (Element u) there).1;
+      k.later a e t u (few a among) (fewer_some goes part a (Element t) here).1 is (few e also) less (fewer_some goes part e (Element u) there).1;
 }
 
 pub fewer_keep_halts : FewerKeepHalts

@@ -1,11 +1,13 @@
 -- Where nothing is told otherwise: a queue head is read, the visit is over, or a qTD is taken.
 use Rattle.std.proofs.Common.{◌≡◌, ◌≢◌, ℕ, ◌-◌, Bool, true, false, ◌&&◌, ◌==◌, if◌then◌else◌, List, length, take, Some, ap, refl, sym, subst, ◌∙◌, ⊎_elim}
 use Rattle.std.proofs.lemmas.Bool.{cases_eq, eq-eqb}
+use Rattle.law_ring.proofs.Common.{endpoint_kept}
+use Rattle.law_common.proofs.Numbers.{other_number}
 use Rattle.qh_qtd.specs.declared.qtd.Qtd.{Qtd}
 use Rattle.qh_qtd.specs.declared.queue_head.Qh.{Qh}
 use Rattle.hc_copy.specs.Overlay.{advanced}
 use Rattle.law_structures.specs.lent_structures.Structures.{QueueHead, Element, Structures, StructureSets, with_structure}
-use Rattle.law_structures.proofs.lemmas.lent_structures.Names.{not_same, put_here, put_beside, with_here, with_there}
+use Rattle.law_structures.proofs.lemmas.lent_structures.Names.{put_here, put_beside, with_here, with_there}
 use Rattle.law_structures.specs.lent_structures.Sound.{buffer_name}
 use Rattle.law_structures.proofs.lemmas.lent_structures.Altering.{found_queue, found_element, no_two}
 use Rattle.law_ring.specs.Hand.{Copy, Settlement, Hand, Empty, Copied, Settled}
@@ -56,9 +58,6 @@ toggle_kept hand later parts now n b same hands has = record {
   is = has.is ∙ sym (hands has.queue);
 }
 
-pub endpoint_kept : (parts now : StructureSets) (n : ℕ) (x : Endpoint) → now n ≡ parts n → HasEndpoint parts n x → HasEndpoint now n x
-endpoint_kept parts now n x same has = record { queue = has.queue; head = ap (λ (part : Structures). part n) same ∙ has.head; is = has.is }
-
 -- neither hand has a transaction, and all structures stay
 pub same_kept : (hand later : Hand) (parts now : StructureSets) → now ≡ parts → IsUnsettled hand → IsUnsettled later → SameTold hand parts later now
 same_kept hand later parts now same before after = record {
@@ -100,7 +99,7 @@ left_taken part q a t e u taken here on =
     left_on (advanced q a t) e u (v.active ∙ on)
     ∙ ap (λ (x : ℕ). if x == e then (advanced q a t).token.total else u.token.total) v.current
     ∙ ⊎_elim (λ (same : a ≡ e). ap (λ (b : Bool). if b then (advanced q a t).token.total else u.token.total) (eq-eqb a e same) ∙ v.total ∙ ap (λ (x : Qtd). x.token.total) (found_element (part e) t u (ap part (sym same) ∙ taken) here))
-    (λ (differs : a ≢ e). ap (λ (b : Bool). if b then (advanced q a t).token.total else u.token.total) (not_same a e differs)) (cases_eq a e)
+    (λ (differs : a ≢ e). ap (λ (b : Bool). if b then (advanced q a t).token.total else u.token.total) (other_number a e differs)) (cases_eq a e)
 
 -- what a taking knows
 module _ (parts : StructureSets) (hand : Hand) (now : StructureSets) (later : Hand) (k : Takes parts hand now later) where

@@ -37,3 +37,4 @@ pub mod Transporting
 pub mod OutPipeAgreeing
 pub mod OutPipeEvents
 pub mod Assembling
+pub mod Common

@@ -2,6 +2,7 @@
 use Rattle.std.proofs.Common.{◌≡◌, ℕ, zero, suc, ◌+◌, ◌-◌, ◌<◌, ◌≤◌, nat_le, Bool, true, false, ◌&&◌, if◌then◌else◌, List, [], length, take, drop, slice_index, Option, Some, None, ap, refl, sym, subst, ◌∙◌, arith}
 use Rattle.std.proofs.lemmas.Bool.{le-leb}
 use Rattle.std.proofs.lemmas.List.{length-take, length-drop}
+use Rattle.law_structures.proofs.Common.{few_if, place_few}
 use Rattle.usb_base.specs.declared.packets.Ask.{Ask}
 use Rattle.usb_base.specs.declared.packets.Pid.{Pid}
 use Rattle.usb_base.specs.declared.packets.Pid.TheVariants as Packets
@@ -12,10 +13,8 @@ use Rattle.mem_bytes.specs.Bytes.{places, bytes_at, all_reached}
 use Rattle.qh_qtd.specs.declared.qtd.Qtd.{Qtd}
 use Rattle.qh_qtd.specs.declared.queue_head.Qh.{Qh}
 use Rattle.qh_qtd.specs.QueueHead.{IsQhInRange}
-use Rattle.toggle_error.specs.declared.host.HostSide.{HostSide}
 use Rattle.toggle_error.specs.declared.host.Outcome.{Outcome}
 use Rattle.toggle_error.specs.declared.host.Outcome.TheVariants as outcomes
-use Rattle.toggle_error.specs.Columns.{limit_of}
 use Rattle.transactions.specs.Calls.{got_of}
 use Rattle.hc_copy.specs.declared.held.Held.{Held}
 use Rattle.hc_copy.specs.declared.held.Transaction.{Transaction}
@@ -42,13 +41,6 @@ use Rattle.law_ring.specs.Effects.Effect.{makes}
 use Rattle.law_ring.proofs.Ringing.{cursor_same, ring_at}
 
 -- ---- the bytes that go out
-
-pub place_few : (q : Qh) → IsQhInRange q → buffer_place q < 20480
-place_few q (link, (chars, (caps, (current, (next, (alternate, ((total, (page, (errors, pid))), ((page0, (offset, _)), rest)))))))) = omega (arith, page, offset)
-
-bytes_few : (b : Bool) (host : HostSide) → (if b then limit_of host else 0) ≤ host.left
-bytes_few true host = omega arith
-bytes_few false host = omega arith
 
 -- what a read of the buffer at the place of the overlay gives
 record IsRead (m : Mem) (part : Structures) (q : Qh) (t : Qtd) (n : ℕ) (r : Reading) : Type 0 where
@@ -134,7 +126,7 @@ module _ {W : Type 0} (transacts : W → Ask → List ℕ → Reply → W → Ty
   make_event s new c k heard on w ready lead =
       let t : Transaction = planned (copied_queue c) in
       let read : Reading = sending t (copied_queue c) s.memory in
-      let is : IsRead s.memory (parts c.at) c.queue w.element t.bytes read = told_read s.memory parts c.at c.queue w t.bytes k.tells ready (place_few (copied_queue c) k.in_hand.range) (bytes_few (carries t.split t.pipe.pid t.host.ping) t.host) in
+      let is : IsRead s.memory (parts c.at) c.queue w.element t.bytes read = told_read s.memory parts c.at c.queue w t.bytes k.tells ready (place_few (copied_queue c) k.in_hand.range) (few_if (carries t.split t.pipe.pid t.host.ping) t.host) in
       let sent : Transacted transacts t (held_copy c) read.bytes (record s { memory = read.memory }) wire new after =
       subst (λ (b : Bool). SentAt transacts b t (held_copy c) read s wire new after) is.all (subst (λ (o : Option Held). Sends transacts t s o wire new after) k.held lead) in
       let kind : sent_step t s.memory s.walk.held ≡ steps.Transact = ap (sent_step t s.memory) k.held ∙ ap (λ (b : Bool). if b then steps.Transact else steps.Fault) is.all in

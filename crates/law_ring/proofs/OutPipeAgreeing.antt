@@ -1,8 +1,10 @@
 -- Each event keeps both sides of the pipe of an OUT endpoint agreed.
-use Rattle.std.proofs.Common.{◌≡◌, ◌≢◌, ℕ, ◌-◌, ◌==◌, min, Bool, true, false, not, if◌then◌else◌, List, [], ◌++◌, length, take, drop, None, ap, refl, sym, subst, ◌∙◌, inl, inr}
+use Rattle.std.proofs.Common.{◌≡◌, ◌≢◌, ℕ, ◌-◌, min, Bool, true, false, not, if◌then◌else◌, List, [], ◌++◌, length, take, drop, None, ap, refl, sym, subst, ◌∙◌, inl, inr}
 use Rattle.std.specs.Prelude.{◌⊎◌}
-use Rattle.std.proofs.lemmas.Bool.{eq-eqb, false≢true}
+use Rattle.std.proofs.lemmas.Bool.{false≢true}
 use Rattle.std.proofs.lemmas.List.{append-nil}
+use Rattle.law_common.proofs.Booleans.{not_itself}
+use Rattle.law_ring.proofs.Common.{plain_split}
 use Rattle.usb_base.specs.declared.packets.Ask.{Ask}
 use Rattle.usb_base.specs.declared.packets.EpKind.{EpKind}
 use Rattle.usb_base.specs.declared.packets.EpKind.TheVariants as Kinds
@@ -14,15 +16,12 @@ use Rattle.usb_base.specs.declared.packets.Split.TheVariants as Splits
 use Rattle.qh_qtd.specs.declared.qtd.Qtd.{Qtd}
 use Rattle.qh_qtd.specs.declared.queue_head.Qh.{Qh}
 use Rattle.toggle_error.specs.declared.host.Outcome.{Outcome}
-use Rattle.toggle_error.specs.declared.host.Outcome.TheVariants as outcomes
 use Rattle.toggle_error.specs.declared.rows.AskToken.TheVariants as tokens
 use Rattle.toggle_error.specs.Columns.{expected_pid, limit_of, out_token}
-use Rattle.transactions.specs.declared.pipe.Pipe.{Pipe}
 use Rattle.transactions.specs.Asks.{pinged, token_pid}
 use Rattle.hc_copy.specs.Overlay.{buffer_place}
-use Rattle.hc_copy.specs.Planning.{pid_at, speed_at, split_at, host_in, carries, transaction_of}
+use Rattle.hc_copy.specs.Planning.{pid_at, speed_at, host_in, carries, transaction_of}
 use Rattle.hc_copy.specs.Transacting.{call_in}
-use Rattle.hc_copy.specs.WriteBack.{moved_by}
 use Rattle.async_walk.specs.Naks.{kind_at}
 use Rattle.law_structures.specs.lent_structures.Settles.{is_moved}
 use Rattle.law_structures.proofs.lemmas.lent_structures.Moving.{Moves}
@@ -40,10 +39,6 @@ pid_same true true e = refl
 pid_same false false e = refl
 pid_same true false e = cc
 pid_same false true e = cc
-
-pub not_itself : (b : Bool) → b ≡ not b → ⊥
-not_itself true e = false≢true (sym e)
-not_itself false e = false≢true e
 
 the_other : (a b : Bool) → a ≢ b → b ≡ not a
 the_other true false e = refl
@@ -110,9 +105,6 @@ module _ (part : Structures) (hand later : Hand) (n : ℕ) (q : Qh) (h now : Boo
 
 -- ---- the transaction of an OUT
 
-plain_split : (eps : ℕ) (waiting : Bool) (pipe : Pipe) → eps ≡ 2 → split_at (eps == 2) waiting pipe ≡ Splits.Plain
-plain_split eps waiting pipe high = ap (λ (b : Bool). split_at b waiting pipe) (eq-eqb eps 2 high)
-
 -- the token that goes out, by the ping state
 pinged_by : (dtc ping : Bool) → pinged (kind_at dtc) ping ≡ (if ping then Packets.Ping else Packets.Out)
 pinged_by true true = refl
@@ -141,10 +133,6 @@ out_token_as q _ _ (in_frames last) = inr refl
 
 unmoved_by : (o : Outcome) → Moves o None → is_moved o ≡ false
 unmoved_by o m = m.1
-
-pub moved_none : (o : Outcome) → is_moved o ≡ false → moved_by o ≡ 0
-moved_none (outcomes.Moved n) e = absurd (false≢true (sym e))
-moved_none _ e = refl
 
 -- what is known of the transaction
 pub record IsOutCall (kind : EpKind) (q : Qh) (out : List ℕ) (last : Bool) : Type 0 where

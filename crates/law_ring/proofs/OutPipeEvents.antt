@@ -1,6 +1,7 @@
 -- Each event keeps the pipe of an OUT endpoint, by its effect.
 use Rattle.std.proofs.Common.{◌≡◌, ℕ, ◌-◌, ◌==◌, min, Bool, true, false, not, if◌then◌else◌, List, [], ◌++◌, length, take, drop, Option, Some, None, ap, refl, sym, subst, ◌∙◌, inl, inr}
 use Rattle.std.specs.Prelude.{◌⊎◌}
+use Rattle.law_common.proofs.Booleans.{not_itself}
 use Rattle.usb_base.specs.declared.packets.Ask.{Ask}
 use Rattle.usb_base.specs.declared.packets.EpKind.{EpKind}
 use Rattle.usb_base.specs.declared.packets.Pid.{Pid}
@@ -34,7 +35,7 @@ use Rattle.law_ring.specs.Streams.{moved_bytes}
 use Rattle.law_ring.specs.OutBus.{Taker, is_acknowledgement, Takes, HasTaken, IsOutAsk, IsOutBus}
 use Rattle.law_ring.specs.OutPipes.{IsNext, IsUnmoved, OutAgrees}
 use Rattle.law_ring.proofs.Stopping.{out_moves, OutMoves, unpinged_moves, ping_none, row_stops}
-use Rattle.law_ring.proofs.OutPipeAgreeing.{not_itself, out_step, still_agrees, IsOutCall, out_call, bytes_are, take_whole, out_token_as}
+use Rattle.law_ring.proofs.OutPipeAgreeing.{out_step, still_agrees, IsOutCall, out_call, bytes_are, take_whole, out_token_as}
 
 settled_by : (o : Outcome) (sent : ℕ) (b : Bool) → Moves o (if b then Some sent else None) → (is_moved o ≡ b) × (moved_by o ≡ (if b then sent else 0))
 settled_by o sent true m = (ap is_moved m, ap moved_by m)

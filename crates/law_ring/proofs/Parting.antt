@@ -1,7 +1,9 @@
 -- What a part of a member's structures owes once a qTD or a buffer is put there, or taken away.
-use Rattle.std.proofs.Common.{◌≡◌, ◌≢◌, ℕ, Bool, true, false, List, Option, Some, None, ap, sym, subst, ◌∙◌, ⊎_elim, ◌⊎◌, inl, inr}
-use Rattle.std.proofs.lemmas.Bool.{cases_eq, true≢false}
+use Rattle.std.proofs.Common.{◌≡◌, ◌≢◌, ℕ, Bool, true, false, List, Some, None, ap, sym, subst, ◌∙◌, ⊎_elim, ◌⊎◌, inl, inr}
+use Rattle.std.proofs.lemmas.Bool.{cases_eq}
 use Rattle.std.proofs.lemmas.Option.{same_Some}
+use Rattle.law_ring.proofs.Common.{none_some, buffer_before, element_not_buffer, element_not_head, changed_active, nothing_there, leads_without, buffer_beside, leads_beside_buffer}
+use Rattle.law_structures.proofs.Common.{element_is}
 use Rattle.link_words.specs.declared.kinds.QtdLink.{QtdLink}
 use Rattle.link_words.specs.declared.kinds.QtdLink.TheVariants as qtd_links
 use Rattle.link_words.specs.Links.{qtd_link_of}
@@ -11,7 +13,7 @@ use Rattle.hc_copy.specs.Visits.{next_pointer}
 use Rattle.law_structures.specs.lent_structures.Structures.{Structure, QueueHead, Element, Buffer, Structures, with_structure, without_structure}
 use Rattle.law_structures.proofs.lemmas.lent_structures.Names.{with_here, with_there, gone_here, gone_there}
 use Rattle.law_structures.specs.lent_structures.Sound.{IsElement, LeadsOn, element_pages, buffer_name, HasBuffer, IsSoundElement, IsSoundQueue, AreOwn, IsMember}
-use Rattle.law_structures.proofs.lemmas.lent_structures.Altering.{same_element, found_element, no_two}
+use Rattle.law_structures.proofs.lemmas.lent_structures.Altering.{no_two}
 use Rattle.law_ring.specs.Stores.{IsUnnamed, NamesOne, IsUnled, IsUnused}
 
 -- ---- a part that has all that another has
@@ -55,19 +57,10 @@ queue_spanned part now q spans active sound = record {
 
 -- ---- kinds
 
-pub some_none : (o : Option Structure) (s : Structure) → o ≡ None → o ≡ Some s → ⊥
-some_none o s none some = cc
-
 pub found_with : (part : Structures) (a b : ℕ) (s t : Structure) → with_structure part a s b ≡ Some t → ((b ≡ a) × (s ≡ t)) ⊎ ((b ≢ a) × (part b ≡ Some t))
 found_with part a b s t found =
     ⊎_elim (λ (same : b ≡ a). inl (same, same_Some s t (sym (with_here part a s) ∙ ap (with_structure part a s) (sym same) ∙ found)))
     (λ (differs : b ≢ a). inr (differs, sym (with_there part a s b differs) ∙ found)) (cases_eq b a)
-
-element_not_buffer : (part : Structures) (a b : ℕ) (t : Qtd) (pages : List ℕ) (k : ℕ) (bs : List ℕ) → part a ≡ Some (Element t) → part b ≡ Some (Buffer pages k bs) → b ≢ a
-element_not_buffer part a b t pages k bs element buffer = no_two part b a (Buffer pages k bs) (Element t) buffer element (λ e. cc)
-
-element_not_head : (part : Structures) (a b : ℕ) (t : Qtd) (q : Qh) → part a ≡ Some (Element t) → part b ≡ Some (QueueHead q) → b ≢ a
-element_not_head part a b t q element head = no_two part b a (QueueHead q) (Element t) head element (λ e. cc)
 
 -- ---- an inactive qTD changes
 
@@ -79,29 +72,18 @@ changed_spans part a d new at = record {
   buffer = λ b pages k bs here. with_there part a (Element new) b (element_not_buffer part a b d pages k bs at here) ∙ here;
 }
 
-changed_active : (part : Structures) (a : ℕ) (d new : Qtd) → part a ≡ Some (Element d) → d.token.active ≡ false → (b : ℕ) (t : Qtd) → part b ≡ Some (Element t) → t.token.active ≡ true → with_structure part a (Element new) b ≡ Some (Element t)
-changed_active part a d new at off b t here on =
-    with_there part a (Element new) b
-    (λ same. true≢false (sym on ∙ ap (λ (x : Qtd). x.token.active) (found_element (part b) t d here (ap part same ∙ at)) ∙ off)) ∙ here
-
--- what is at the name of a buffer was there before
-buffer_before : (part : Structures) (a b : ℕ) (new : Qtd) (pages : List ℕ) (k : ℕ) (bs : List ℕ) → with_structure part a (Element new) b ≡ Some (Buffer pages k bs) → part b ≡ Some (Buffer pages k bs)
-buffer_before part a b new pages k bs found =
-    ⊎_elim (λ (is : (b ≡ a) × (Element new ≡ Buffer pages k bs)). cc) (λ (there : (b ≢ a) × (part b ≡ Some (Buffer pages k bs))). there.1)
-    (found_with part a b (Element new) (Buffer pages k bs) found)
-
 new_own : (part : Structures) (a : ℕ) (new : Qtd) → IsUnnamed part a new → AreOwn part → AreOwn (with_structure part a (Element new))
 new_own part a new unnamed own b c t u pages k bs one other same there =
     let buffer = buffer_before part a (buffer_name t) new pages k bs there in
     ⊎_elim (λ (first : (b ≡ a) × (Element new ≡ Element t)).
-    let is_new : new ≡ t = same_element new t first.1 in
+    let is_new : new ≡ t = element_is new t first.1 in
     ⊎_elim (λ (second : (c ≡ a) × (Element new ≡ Element u)). first.0 ∙ sym second.0)
     (λ (second : (c ≢ a) × (part c ≡ Some (Element u))).
     absurd (unnamed c u second.0 second.1 (sym same ∙ ap buffer_name (sym is_new)) (record { pages = pages; start = k; bytes = bs; here = ap part (ap buffer_name is_new) ∙ buffer })))
     (found_with part a c (Element new) (Element u) other))
     (λ (first : (b ≢ a) × (part b ≡ Some (Element t))).
     ⊎_elim (λ (second : (c ≡ a) × (Element new ≡ Element u)).
-    let is_new : new ≡ u = same_element new u second.1 in
+    let is_new : new ≡ u = element_is new u second.1 in
     absurd (unnamed b t first.0 first.1 (same ∙ ap buffer_name (sym is_new)) (record { pages = pages; start = k; bytes = bs; here = ap part (ap buffer_name is_new ∙ sym same) ∙ buffer })))
     (λ (second : (c ≢ a) × (part c ≡ Some (Element u))). own b c t u pages k bs first.1 second.1 same buffer)
     (found_with part a c (Element new) (Element u) other))
@@ -117,15 +99,12 @@ member_stored member n part a d new m at off sound unnamed =
       link = m.link;
       sound = queue_spanned part now m.queue spans (changed_active part a d new at off) m.sound;
       elements = λ b t found.
-          ⊎_elim (λ (is : (b ≡ a) × (Element new ≡ Element t)). subst (IsSoundElement now) (same_element new t is.1) (sound_spanned part now new spans sound))
+          ⊎_elim (λ (is : (b ≡ a) × (Element new ≡ Element t)). subst (IsSoundElement now) (element_is new t is.1) (sound_spanned part now new spans sound))
           (λ (there : (b ≢ a) × (part b ≡ Some (Element t))). sound_spanned part now t spans (m.elements b t there.1)) (found_with part a b (Element new) (Element t) found);
       own = new_own part a new unnamed m.own;
     }
 
 -- ---- a qTD or a buffer is added at a name that nothing has
-
-nothing_there : (part : Structures) (a b : ℕ) (s : Structure) → part a ≡ None → part b ≡ Some s → b ≢ a
-nothing_there part a b s none some same = some_none (part b) s (ap part same ∙ none) some
 
 added_spans : (part : Structures) (a : ℕ) (s : Structure) → part a ≡ None → Spans part (with_structure part a s)
 added_spans part a s none = record {
@@ -143,7 +122,7 @@ member_element_added member n part a new m none sound unnamed =
       link = m.link;
       sound = queue_spanned part now m.queue spans (λ b t here on. with_there part a (Element new) b (nothing_there part a b (Element t) none here) ∙ here) m.sound;
       elements = λ b t found.
-          ⊎_elim (λ (is : (b ≡ a) × (Element new ≡ Element t)). subst (IsSoundElement now) (same_element new t is.1) (sound_spanned part now new spans sound))
+          ⊎_elim (λ (is : (b ≡ a) × (Element new ≡ Element t)). subst (IsSoundElement now) (element_is new t is.1) (sound_spanned part now new spans sound))
           (λ (there : (b ≢ a) × (part b ≡ Some (Element t))). sound_spanned part now t spans (m.elements b t there.1)) (found_with part a b (Element new) (Element t) found);
       own = new_own part a new unnamed m.own;
     }
@@ -179,23 +158,12 @@ member_buffer_added member n part a pages k bs m none one_name =
 
 pub found_without : (part : Structures) (a b : ℕ) (t : Structure) → without_structure part a b ≡ Some t → (b ≢ a) × (part b ≡ Some t)
 found_without part a b t found =
-    ⊎_elim (λ (same : b ≡ a). absurd (some_none (without_structure part a b) t (ap (without_structure part a) same ∙ gone_here part a) found))
+    ⊎_elim (λ (same : b ≡ a). absurd (none_some (without_structure part a b) t (ap (without_structure part a) same ∙ gone_here part a) found))
     (λ (differs : b ≢ a). (differs, sym (gone_there part a b differs) ∙ found)) (cases_eq b a)
-
-leads_without : (part : Structures) (a : ℕ) (l : QtdLink) → l ≢ qtd_links.To a → LeadsOn part l → LeadsOn (without_structure part a) l
-leads_without part a qtd_links.End other leads = tt
-leads_without part a (qtd_links.To b) other leads = record { qtd = leads.qtd; here = gone_there part a b (λ same. other (ap qtd_links.To same)) ∙ leads.here }
 
 fewer_own : (part : Structures) (a : ℕ) → AreOwn part → AreOwn (without_structure part a)
 fewer_own part a own b c t u pages k bs one other same there =
     own b c t u pages k bs (found_without part a b (Element t) one).1 (found_without part a c (Element u) other).1 same (found_without part a (buffer_name t) (Buffer pages k bs) there).1
-
-buffer_beside : (part : Structures) (a : ℕ) (d : Qtd) (t : Qtd) (n : ℕ) → part a ≡ Some (Element d) → HasBuffer part t n → HasBuffer (without_structure part a) t n
-buffer_beside part a d t n at has = record {
-  bytes = has.bytes;
-  here = gone_there part a (buffer_name t) (element_not_buffer part a (buffer_name t) d (element_pages t) t.offset has.bytes at has.here) ∙ has.here;
-  size = has.size;
-}
 
 pub member_element_gone : (member : ℕ → Bool) (n : ℕ) (part : Structures) (a : ℕ) (d : Qtd) → (m : IsMember member n part) → part a ≡ Some (Element d) → IsUnled part m.queue a → IsMember member n (without_structure part a)
 member_element_gone member n part a d m at unled = record {
@@ -227,13 +195,6 @@ member_element_gone member n part a d m at unled = record {
         work = λ on. let ready = sound.work on in record { goes_on = ready.goes_on; start = ready.start; buffer = λ some. buffer_beside part a d t t.token.total at (ready.buffer some) };
       };
   own = fewer_own part a m.own;
-}
-
-leads_beside_buffer : (part : Structures) (a : ℕ) (pages : List ℕ) (k : ℕ) (bs : List ℕ) (l : QtdLink) → part a ≡ Some (Buffer pages k bs) → LeadsOn part l → LeadsOn (without_structure part a) l
-leads_beside_buffer part a pages k bs qtd_links.End at leads = tt
-leads_beside_buffer part a pages k bs (qtd_links.To b) at leads = record {
-  qtd = leads.qtd;
-  here = gone_there part a b (λ same. element_not_buffer part b a leads.qtd pages k bs leads.here at (sym same)) ∙ leads.here;
 }
 
 pub member_buffer_gone : (member : ℕ → Bool) (n : ℕ) (part : Structures) (a : ℕ) (pages : List ℕ) (k : ℕ) (bs : List ℕ) → IsMember member n part → part a ≡ Some (Buffer pages k bs) → IsUnused part a → IsMember member n (without_structure part a)

@@ -3,6 +3,8 @@ use Rattle.std.proofs.Common.{◌≡◌, ◌≢◌, ℕ, ◌≤◌, Bool, true, 
 use Rattle.std.specs.List.{concat}
 use Rattle.std.proofs.lemmas.Bool.{cases_eq, eq-eqb, false≢true}
 use Rattle.std.proofs.lemmas.List.{append-nil}
+use Rattle.law_common.proofs.Numbers.{other_number}
+use Rattle.law_ring.proofs.Common.{plain_split}
 use Rattle.usb_base.specs.declared.packets.Ask.{Ask}
 use Rattle.usb_base.specs.declared.packets.Pid.{Pid}
 use Rattle.usb_base.specs.declared.packets.Pid.TheVariants as Packets
@@ -20,7 +22,6 @@ use Rattle.async_walk.specs.Rows.{WalkPlace, at_event, event_row, step_of, Leads
 use Rattle.law_structures.specs.lent_structures.Settles.{Brings, Settles}
 use Rattle.law_structures.proofs.lemmas.lent_structures.Settling.{a_transaction_settles}
 use Rattle.law_structures.specs.lent_structures.Structures.{StructureSets}
-use Rattle.law_structures.proofs.lemmas.lent_structures.Names.{not_same}
 use Rattle.law_structures.specs.lent_structures.Sound.{IsSoundQueue}
 use Rattle.law_structures.specs.lent_structures.Alters.{Alters}
 use Rattle.law_structures.proofs.lemmas.lent_structures.Altering.{found_queue}
@@ -38,7 +39,7 @@ use Rattle.claims_base.specs.Prefix.{IsPrefix}
 use Rattle.law_pipe.proofs.Agreement.{accepted_begins}
 use Rattle.law_ring.specs.Bus.{Sender, IsStreamAsk, IsBus}
 use Rattle.law_ring.specs.Pipes.{pipe_at, IsHalf, IsPipe, AreEndpoints, IsElsewhere, ArePiped, grown, IsToldBy, GoesOn}
-use Rattle.law_ring.proofs.Direction.{in_still, not_in_still, plain_split, in_asked, other_asked, works_in, works_not_in}
+use Rattle.law_ring.proofs.Direction.{in_still, not_in_still, in_asked, other_asked, works_in, works_not_in}
 use Rattle.law_ring.proofs.Settling.{in_moves, InStep, in_step}
 
 -- ---- the packets taken
@@ -47,7 +48,7 @@ pub grown_here : (acc : ℕ → List (List ℕ)) (at : ℕ) (more : List (List �
 grown_here acc at more = ap (λ (b : Bool). if b then acc at ++ more else acc at) (eq-eqb at at refl)
 
 pub grown_beside : (acc : ℕ → List (List ℕ)) (at : ℕ) (more : List (List ℕ)) (n : ℕ) → n ≢ at → grown acc at more n ≡ acc n
-grown_beside acc at more n differs = ap (λ (b : Bool). if b then acc n ++ more else acc n) (not_same n at differs)
+grown_beside acc at more n differs = ap (λ (b : Bool). if b then acc n ++ more else acc n) (other_number n at differs)
 
 none_grown : (xs : List (List ℕ)) (b : Bool) → (if b then xs ++ [] else xs) ≡ xs
 none_grown xs true = append-nil xs

@@ -1,13 +1,14 @@
 -- A part without some of its qTDs and buffers.
 use Rattle.std.proofs.Common.{◌≡◌, ℕ, Bool, true, false, if◌then◌else◌, Option, Some, None, ap, refl, ◌∙◌}
+use Rattle.law_ring.proofs.Common.{fewer_some, own_fewer}
 use Rattle.link_words.specs.declared.kinds.QtdLink.{QtdLink}
 use Rattle.link_words.specs.declared.kinds.QtdLink.TheVariants as qtd_links
 use Rattle.link_words.specs.Links.{qtd_link_of}
 use Rattle.qh_qtd.specs.declared.qtd.Qtd.{Qtd}
 use Rattle.qh_qtd.specs.declared.queue_head.Qh.{Qh}
 use Rattle.hc_copy.specs.Visits.{next_pointer}
-use Rattle.law_structures.specs.lent_structures.Structures.{Structure, Element, Buffer, Structures}
-use Rattle.law_structures.specs.lent_structures.Sound.{LeadsOn, buffer_name, HasBuffer, IsReady, IsSoundElement, IsWorking, IsSoundQueue, AreOwn, IsMember}
+use Rattle.law_structures.specs.lent_structures.Structures.{Structure, Element, Structures}
+use Rattle.law_structures.specs.lent_structures.Sound.{LeadsOn, buffer_name, HasBuffer, IsReady, IsSoundElement, IsWorking, IsSoundQueue, IsMember}
 use Rattle.law_ring.specs.Fewer.{fewer_structures, MayGo}
 
 pub stays : (goes : ℕ → Bool) (part : Structures) (a : ℕ) → goes a ≡ false → fewer_structures goes part a ≡ part a
@@ -16,9 +17,6 @@ stays goes part a off = ap (λ (b : Bool). if b then None else part a) off
 by_test : (b : Bool) (o : Option Structure) (s : Structure) → (if b then None else o) ≡ Some s → (b ≡ false) × (o ≡ Some s)
 by_test false o s found = (refl, found)
 by_test true o s found = absurd (cc)
-
-pub found_fewer : (goes : ℕ → Bool) (part : Structures) (a : ℕ) (s : Structure) → fewer_structures goes part a ≡ Some s → (goes a ≡ false) × (part a ≡ Some s)
-found_fewer goes part a s found = by_test (goes a) (part a) s found
 
 leads_fewer : (goes : ℕ → Bool) (part : Structures) (l : QtdLink) → ((b : ℕ) → l ≡ qtd_links.To b → goes b ≡ false) → LeadsOn part l → LeadsOn (fewer_structures goes part) l
 leads_fewer goes part qtd_links.End off leads = tt
@@ -55,10 +53,6 @@ queue_fewer goes n part q may sound = record {
       };
 }
 
-own_fewer : (goes : ℕ → Bool) (part : Structures) → AreOwn part → AreOwn (fewer_structures goes part)
-own_fewer goes part own a b t u pages k bs one other same there =
-    own a b t u pages k bs (found_fewer goes part a (Element t) one).1 (found_fewer goes part b (Element u) other).1 same (found_fewer goes part (buffer_name t) (Buffer pages k bs) there).1
-
 pub part_may_lose : (member : ℕ → Bool) (n : ℕ) (part : Structures) (goes : ℕ → Bool) → (m : IsMember member n part) → MayGo goes n part m.queue → IsMember member n (fewer_structures goes part)
 part_may_lose member n part goes m may = record {
   queue = m.queue;
@@ -66,7 +60,7 @@ part_may_lose member n part goes m may = record {
   link = m.link;
   sound = queue_fewer goes n part m.queue may m.sound;
   elements = λ a t found.
-      let there = found_fewer goes part a (Element t) found in
+      let there = fewer_some goes part a (Element t) found in
       element_fewer goes n part m.queue a t may there.1 there.0 (m.elements a t there.1);
   own = own_fewer goes part m.own;
 }

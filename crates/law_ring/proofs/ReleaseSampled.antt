@@ -1,13 +1,13 @@
 -- The worked part may lose the qTD that was passed over.
 use Rattle.std.proofs.Common.{◌≡◌, ◌≢◌, ℕ, ◌==◌, false, Some, None, ap, refl, sym, ◌∙◌, ⊎_elim}
 use Rattle.std.proofs.lemmas.Bool.{true≢false}
+use Rattle.law_structures.proofs.Common.{element_is}
 use Rattle.link_words.specs.declared.kinds.QtdLink.{QtdLink}
 use Rattle.link_words.specs.declared.kinds.QtdLink.TheVariants as qtd_links
 use Rattle.link_words.specs.Links.{qtd_link_of}
 use Rattle.qh_qtd.specs.Blank.{blank_qtd}
 use Rattle.qh_qtd.specs.declared.qtd.Qtd.{Qtd}
 use Rattle.law_structures.specs.lent_structures.Structures.{QueueHead, Element, Structures, with_structure}
-use Rattle.law_structures.proofs.lemmas.lent_structures.Altering.{same_element}
 use Rattle.law_ring.proofs.Parting.{found_with}
 use Rattle.law_ring.specs.Fewer.{MayGo}
 use Rattle.law_ring.specs.ReleaseSamples.{rested, passed, nothing, part, goes}
@@ -29,7 +29,7 @@ none_there a t found =
 -- a qTD that stays is the inactive one
 other_is : (a : ℕ) (t : Qtd) → part a ≡ Some (Element t) → goes a ≡ false → blank_qtd ≡ t
 other_is a t found stays =
-    ⊎_elim (λ (is : (a ≡ 192) × (Element blank_qtd ≡ Element t)). same_element blank_qtd t is.1)
+    ⊎_elim (λ (is : (a ≡ 192) × (Element blank_qtd ≡ Element t)). element_is blank_qtd t is.1)
     (λ (there : (a ≢ 192) × (both a ≡ Some (Element t))).
     ⊎_elim (λ (is : (a ≡ 128) × (Element passed ≡ Element t)). absurd (true≢false (ap (λ (b : ℕ). b == 128) (sym is.0) ∙ stays))) (λ (other : (a ≢ 128) × (first a ≡ Some (Element t))). absurd (none_there a t other.1))
     (found_with first 128 a (Element passed) (Element t) there.1))

@@ -1,6 +1,8 @@
 -- Structures and runs are given back under the walk.
 use Rattle.std.proofs.Common.{◌≡◌, ◌≢◌, ℕ, ◌+◌, ◌≤◌, Bool, true, false, ◌==◌, if◌then◌else◌, length, Some, ap, refl, sym, subst, ◌∙◌, ⊎_elim, arith}
-use Rattle.std.proofs.lemmas.Bool.{cases_eq, eq-eqb}
+use Rattle.std.proofs.lemmas.Bool.{cases_eq}
+use Rattle.law_ring.proofs.Common.{those_here, fewer_some}
+use Rattle.law_common.proofs.Numbers.{other_number}
 use Rattle.word_mem.specs.Runs.{Run, HasBlock}
 use Rattle.word_mem.specs.Memory.{Mem, with_states, released}
 use Rattle.word_mem.specs.declared.blocks.BlockState.TheVariants.{Kept}
@@ -10,7 +12,6 @@ use Rattle.mem_runs.proofs.Standing.{released_once}
 use Rattle.qh_qtd.specs.declared.queue_head.Qh.{Qh}
 use Rattle.async_walk.specs.Rows.{WalkPlace}
 use Rattle.law_structures.specs.lent_structures.Structures.{Structure, QueueHead, Structures, StructureSets, Has, Tells}
-use Rattle.law_structures.proofs.lemmas.lent_structures.Names.{not_same}
 use Rattle.law_structures.proofs.lemmas.lent_structures.Lending.{got_back_is_told, released_is_told}
 use Rattle.law_structures.specs.lent_structures.Sound.{IsMember}
 use Rattle.law_ring.specs.Hand.{Hand}
@@ -18,25 +19,22 @@ use Rattle.claims_base.specs.Controller.{Base}
 use Rattle.law_ring.specs.Ring.{IsRing}
 use Rattle.law_ring.proofs.Driving.{other_parts_leave_ring}
 use Rattle.law_ring.specs.Fewer.{fewer_structures, without_those, MayGo}
-use Rattle.law_ring.proofs.ReleaseGoing.{stays, found_fewer, part_may_lose}
-
-pub those_here : (parts : StructureSets) (n : ℕ) (goes : ℕ → Bool) → without_those parts n goes n ≡ fewer_structures goes (parts n)
-those_here parts n goes = ap (λ (b : Bool). if b then fewer_structures goes (parts n) else parts n) (eq-eqb n n refl)
+use Rattle.law_ring.proofs.ReleaseGoing.{stays, part_may_lose}
 
 pub those_beside : (parts : StructureSets) (n : ℕ) (goes : ℕ → Bool) (k : ℕ) → k ≢ n → without_those parts n goes k ≡ parts k
-those_beside parts n goes k differs = ap (λ (b : Bool). if b then fewer_structures goes (parts k) else parts k) (not_same k n differs)
+those_beside parts n goes k differs = ap (λ (b : Bool). if b then fewer_structures goes (parts k) else parts k) (other_number k n differs)
 
 -- what is still there was there
 pub those_found : (parts : StructureSets) (n : ℕ) (goes : ℕ → Bool) (k a : ℕ) (s : Structure) → without_those parts n goes k a ≡ Some s → parts k a ≡ Some s
 those_found parts n goes k a s found = by_test (k == n) found
   where
     by_test : (b : Bool) → (if b then fewer_structures goes (parts k) else parts k) a ≡ Some s → parts k a ≡ Some s
-    by_test true there = (found_fewer goes (parts k) a s there).1
+    by_test true there = (fewer_some goes (parts k) a s there).1
     by_test false there = there
 
 -- and its name doesn't go
 pub those_stay : (parts : StructureSets) (n : ℕ) (goes : ℕ → Bool) (a : ℕ) (s : Structure) → without_those parts n goes n a ≡ Some s → goes a ≡ false
-those_stay parts n goes a s found = (found_fewer goes (parts n) a s (ap (λ (part : Structures). part a) (sym (those_here parts n goes)) ∙ found)).0
+those_stay parts n goes a s found = (fewer_some goes (parts n) a s (ap (λ (part : Structures). part a) (sym (those_here parts n goes)) ∙ found)).0
 
 pub those_else : (parts : StructureSets) (n : ℕ) (goes : ℕ → Bool) (k a : ℕ) → goes a ≡ false → without_those parts n goes k a ≡ parts k a
 those_else parts n goes k a off = by_test (k == n)

@@ -1,15 +1,13 @@
 -- A ring at another place with the same memory, and the row of an event.
 use Rattle.std.proofs.Common.{◌≡◌, ◌≢◌, ℕ, Bool, true, false, if◌then◌else◌, ap, refl, sym, subst, ◌∙◌, ⊎_elim, List}
 use Rattle.std.proofs.lemmas.Bool.{cases_eq}
+use Rattle.law_ring.proofs.Common.{same_cursor}
 use Rattle.usb_base.specs.declared.packets.Ask.{Ask}
 use Rattle.usb_base.specs.declared.packets.Reply.{Reply}
 use Rattle.word_mem.specs.Memory.{Mem}
-use Rattle.link_words.specs.declared.kinds.Link.TheVariants as links
 use Rattle.op_registers.specs.RegisterFile.{RegisterFile}
 use Rattle.op_registers.specs.Events.{after_advance, after_reclamation}
 use Rattle.async_walk.specs.declared.rows.WalkRow.{WalkRow}
-use Rattle.async_walk.specs.declared.state.Cursor.{Cursor}
-use Rattle.async_walk.specs.declared.state.Cursor.TheVariants as cursors
 use Rattle.async_walk.specs.Rows.{WalkPlace, started, started_registers, cursor_link, walk_row, was_read, step_of, Leads, fetched_registers}
 use Rattle.law_structures.specs.lent_structures.Structures.{StructureSets, Tells}
 use Rattle.law_structures.specs.lent_structures.Sound.{IsMember}
@@ -19,10 +17,6 @@ use Rattle.law_ring.specs.Ring.{IsCursorAmong, IsInHand, IsRing}
 use Rattle.law_ring.specs.Effects.{Happens}
 
 -- ---- registers
-
-link_same : (r s : RegisterFile) (c : Cursor) → s.async_list_address ≡ r.async_list_address → cursor_link s c ≡ cursor_link r c
-link_same r s cursors.Start same = ap links.Qh same
-link_same r s (cursors.At link) same = refl
 
 pub address_same : (r s : RegisterFile) → base_of s ≡ base_of r → s.async_list_address ≡ r.async_list_address
 address_same r s same = ap (λ (b : Base). b.async_list_address) same
@@ -44,7 +38,7 @@ started_base false r = refl
 pub cursor_same : (member : ℕ → Bool) (p q : WalkPlace) → base_of q.registers ≡ base_of p.registers → q.walk.cursor ≡ p.walk.cursor → IsCursorAmong member p → IsCursorAmong member q
 cursor_same member p q registers cursor k = record {
   to = k.to;
-  leads = ap (cursor_link q.registers) cursor ∙ link_same p.registers q.registers p.walk.cursor (address_same p.registers q.registers registers) ∙ k.leads;
+  leads = ap (cursor_link q.registers) cursor ∙ same_cursor p.registers q.registers p.walk.cursor (address_same p.registers q.registers registers) ∙ k.leads;
   on = k.on;
 }
 

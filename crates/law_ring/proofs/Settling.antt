@@ -3,6 +3,7 @@ use Rattle.std.proofs.Common.{◌≡◌, ℕ, zero, suc, ◌+◌, ◌≤◌, nat
 use Rattle.std.specs.List.{concat}
 use Rattle.std.proofs.lemmas.Bool.{false≢true, leb-true, le-leb}
 use Rattle.std.proofs.lemmas.List.{append-nil}
+use Rattle.law_common.proofs.Lists.{no_bytes}
 use Rattle.usb_base.specs.declared.packets.Ask.{Ask}
 use Rattle.usb_base.specs.declared.packets.Pid.{Pid}
 use Rattle.usb_base.specs.declared.packets.Pid.TheVariants as Packets
@@ -58,14 +59,10 @@ other_toggle false false expected off = absurd (false≢true (sym off))
 
 -- ---- the host's side
 
-no_length : (xs : List ℕ) → length xs ≡ 0 → xs ≡ []
-no_length [] e = refl
-no_length (x ∷ xs) e = absurd (omega (arith, e))
-
 not_taken : (host : HostSide) (o : Outcome) (got : List ℕ) (after : HostSide) → Moves o None → Leaves host o after → Brings Packets.In o got → (after.toggle ≡ host.toggle) × (got ≡ [])
 not_taken host o got after none leaves brings = (
   leaves.toggle ∙ ap (λ (b : Bool). if b then not host.toggle else host.toggle) none.1,
-  no_length got (brings.all refl ∙ none.0),
+  no_bytes got (brings.all refl ∙ none.0),
 )
 
 is_taken : (host : HostSide) (n : ℕ) (o : Outcome) (got : List ℕ) (pid : Pid) (x : List ℕ) (after : HostSide) → o ≡ outcomes.Moved n → got ≡ got_of Packets.In o (Bytes pid x) → Leaves host o after → (after.toggle ≡ not host.toggle) × (got ≡ x)

@@ -1,6 +1,7 @@
 -- What an OUT and a PING come to, by what is heard; and that a transfer that ends without moving anything is halted.
 use Rattle.std.proofs.Common.{◌≡◌, ◌≢◌, ℕ, ◌==◌, nat_le, Bool, true, false, not, ◌&&◌, ◌||◌, if◌then◌else◌, length, Some, None, ap, refl, sym, subst, ◌∙◌}
 use Rattle.std.proofs.lemmas.Bool.{false≢true}
+use Rattle.law_common.proofs.Booleans.{is_not}
 use Rattle.usb_base.specs.declared.packets.Ask.{Ask}
 use Rattle.usb_base.specs.declared.packets.Pid.{Pid}
 use Rattle.usb_base.specs.declared.packets.Pid.TheVariants as Packets
@@ -117,12 +118,9 @@ ping_none ask sent last reply host plain token =
 
 -- ---- an end without bytes is a halt
 
-true_not : (b : Bool) → b ≡ true → b ≡ false → ⊥
-true_not b on off = false≢true (sym off ∙ on)
-
 erred_stops : (last active halted : Bool) → active ≡ true → (not last && active) ≡ false → (last || halted) ≡ true
 erred_stops true active halted on off = refl
-erred_stops false active halted on off = absurd (true_not active on off)
+erred_stops false active halted on off = absurd (is_not active on off)
 
 plain_stops : (row : PlainRow) (host : HostSide) → host.active ≡ true → is_moved (plain_outcome row host) ≡ false → (after_plain row host).active ≡ false → (after_plain row host).halted ≡ true
 plain_stops (Received n) host on moved off = absurd (false≢true (sym moved))
@@ -132,14 +130,14 @@ plain_stops Failed host on moved off = erred_stops (is_last_error host) host.act
 plain_stops FailedPinged host on moved off = erred_stops (is_last_error host) host.active host.halted on off
 plain_stops Babbled host on moved off = refl
 plain_stops Stalled host on moved off = refl
-plain_stops _ host on moved off = absurd (true_not host.active on off)
+plain_stops _ host on moved off = absurd (is_not host.active on off)
 
 start_stops : (row : StartRow) (host : HostSide) → host.active ≡ true → (after_start row host).active ≡ false → (after_start row host).halted ≡ true
 start_stops Unheard host on off = erred_stops (is_last_error host) host.active host.halted on off
-start_stops _ host on off = absurd (true_not host.active on off)
+start_stops _ host on off = absurd (is_not host.active on off)
 
 complete_stops : (row : CompleteRow) (host : HostSide) → host.active ≡ true → is_moved (complete_outcome row host) ≡ false → (after_complete row host).active ≡ false → (after_complete row host).halted ≡ true
-complete_stops Pending host on moved off = absurd (true_not host.active on off)
+complete_stops Pending host on moved off = absurd (is_not host.active on off)
 complete_stops (Answered row) host on moved off = plain_stops row host on moved off
 complete_stops _ host on moved off = erred_stops (is_last_error host) host.active host.halted on off
 

@@ -1,6 +1,7 @@
 -- The worked ring is one.
 use Rattle.std.proofs.Common.{◌≡◌, ◌≢◌, ℕ, zero, suc, ◌+◌, ◌<◌, ◌≤◌, ◌⊎◌, Bool, true, false, ◌||◌, ◌==◌, Some, None, refl, sym, subst, ◌∙◌, ⊎_elim, inl, inr, arith}
 use Rattle.std.proofs.lemmas.Bool.{eqb-true, true≢false}
+use Rattle.law_structures.proofs.Common.{element_is}
 use Rattle.word_mem.specs.Memory.{Mem, IsShaped}
 use Rattle.word_mem.specs.Views.{words_in}
 use Rattle.mem_bytes.specs.Bytes.{places, bytes_at, AreReached}
@@ -11,7 +12,6 @@ use Rattle.law_structures.specs.lent_structures.Structures.{Structure, QueueHead
 use Rattle.law_structures.proofs.lemmas.lent_structures.Names.{put_found}
 use Rattle.law_structures.proofs.lemmas.lent_structures.Telling.{another_is_told}
 use Rattle.law_structures.specs.lent_structures.Sound.{IsSoundElement, IsMember}
-use Rattle.law_structures.proofs.lemmas.lent_structures.Altering.{same_element}
 use Rattle.law_ring.specs.Hand.{Empty}
 use Rattle.law_ring.specs.Ring.{IsRing}
 use Rattle.law_ring.specs.StoreSamples.{head, queue, element, bytes, pages, memory, nothing, parts, member, base, ring}
@@ -190,7 +190,7 @@ pub one_element : (a : ℕ) (t : Qtd) → queue_part a ≡ Some (Element t) → 
 one_element a t found =
     ⊎_elim (λ (is : (a ≡ 160) × (Buffer pages 160 bytes ≡ Element t)). cc)
     (λ (second : (a ≢ 160) × (with_structure (with_structure no_part 64 (QueueHead queue)) 128 (Element element) a ≡ Some (Element t))).
-    ⊎_elim (λ (is : (a ≡ 128) × (Element element ≡ Element t)). (is.0, same_element element t is.1))
+    ⊎_elim (λ (is : (a ≡ 128) × (Element element ≡ Element t)). (is.0, element_is element t is.1))
     (λ (first : (a ≢ 128) × (with_structure no_part 64 (QueueHead queue) a ≡ Some (Element t))).
     ⊎_elim (λ (is : (a ≡ 64) × (QueueHead queue ≡ Element t)). cc) (λ (there : (a ≢ 64) × (no_part a ≡ Some (Element t))). absurd (none_there a t there.1))
     (found_with no_part 64 a (QueueHead queue) (Element t) first.1))

@@ -1,6 +1,7 @@
 -- A halt stays at each event of the walk.
 use Rattle.std.proofs.Common.{◌≡◌, ◌≢◌, ℕ, ◌<◌, Bool, true, false, if◌then◌else◌, List, Some, ap, refl, sym, subst, ◌∙◌, ⊎_elim, arith}
 use Rattle.std.proofs.lemmas.Bool.{cases_eq, true≢false}
+use Rattle.law_ring.proofs.Common.{through_head, through_bytes}
 use Rattle.usb_base.specs.declared.packets.Ask.{Ask}
 use Rattle.usb_base.specs.declared.packets.Reply.{Reply}
 use Rattle.qh_qtd.specs.declared.qtd.Qtd.{Qtd}
@@ -8,11 +9,9 @@ use Rattle.qh_qtd.specs.declared.queue_head.Qh.{Qh}
 use Rattle.hc_copy.specs.Overlay.{advanced}
 use Rattle.hc_copy.specs.WriteBack.{moved_by}
 use Rattle.async_walk.specs.declared.state.WalkStep.{WalkStep}
-use Rattle.mem_bytes.specs.Bytes.{place as place_of_byte}
-use Rattle.law_structures.specs.lent_structures.Changes.{overwritten}
-use Rattle.law_structures.specs.lent_structures.Structures.{QueueHead, Element, Buffer, StructureSets, put}
+use Rattle.law_structures.specs.lent_structures.Structures.{QueueHead, Element, StructureSets, put}
 use Rattle.law_structures.proofs.lemmas.lent_structures.Names.{put_beside, put_found}
-use Rattle.law_structures.specs.lent_structures.WriteBack.{CanBeWritten, Received, Nothing, Into, received_parts}
+use Rattle.law_structures.specs.lent_structures.WriteBack.{CanBeWritten, Received, received_parts}
 use Rattle.law_structures.proofs.lemmas.lent_structures.Found.{back_head, back_element, back_beside}
 use Rattle.law_structures.specs.lent_structures.Sound.{IsWorking, IsSoundQueue, IsMember}
 use Rattle.law_structures.proofs.lemmas.lent_structures.Altering.{found_queue, found_element}
@@ -25,22 +24,6 @@ use Rattle.law_ring.specs.Streams.{AreMembers}
 use Rattle.law_ring.specs.Order.{IsAmong}
 use Rattle.law_ring.specs.Front.{HasFront}
 use Rattle.law_ring.specs.Halted.{IsHalted, HaltStops, WalkKeepsHalts, HaltedQueueStays}
-
-no_head : (q : Qh) (u : Qtd) → Element u ≡ QueueHead q → ⊥
-no_head q u e = cc
-
-no_buffer : (pages : List ℕ) (k : ℕ) (bs : List ℕ) (u : Qtd) → Element u ≡ Buffer pages k bs → ⊥
-no_buffer pages k bs u e = cc
-
-through_head : (ps : StructureSets) (a : ℕ) (q : Qh) (i b : ℕ) (u : Qtd) → put ps a a (QueueHead q) i b ≡ Some (Element u) → ps i b ≡ Some (Element u)
-through_head ps a q i b u found =
-    ⊎_elim (λ (is : (i ≡ a) × (b ≡ a) × (Element u ≡ QueueHead q)). absurd (no_head q u is.2)) (λ (before : ps i b ≡ Some (Element u)). before) (put_found ps a a (QueueHead q) i b (Element u) found)
-
-through_bytes : (ps : StructureSets) (a : ℕ) (got : List ℕ) (r : Received) (i b : ℕ) (u : Qtd) → received_parts ps a got r i b ≡ Some (Element u) → ps i b ≡ Some (Element u)
-through_bytes ps a got Nothing i b u found = found
-through_bytes ps a got (Into pages k bs j) i b u found =
-    ⊎_elim (λ (is : (i ≡ a) × (b ≡ place_of_byte pages k) × (Element u ≡ Buffer pages k (overwritten bs j got))). absurd (no_buffer pages k (overwritten bs j got) u is.2)) (λ (before : ps i b ≡ Some (Element u)). before)
-    (put_found ps a (place_of_byte pages k) (Buffer pages k (overwritten bs j got)) i b (Element u) found)
 
 module _ {W : Type 0} (transacts : W → Ask → List ℕ → Reply → W → Type 0) (member : ℕ → Bool) (parts : StructureSets) (hand : Hand) (reply : Reply) (wire after : W) (now : StructureSets) (later : Hand) (n : ℕ) (members : AreMembers member parts) (in_hand : IsInHand member parts reply hand) where
   -- the queue head whose transaction is written back works, and isn't halted

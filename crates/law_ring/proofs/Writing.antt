@@ -1,10 +1,9 @@
 -- The transaction in hand is written back: the bytes received into the buffer, the overlay, and where the qTD ended its token.
-use Rattle.std.proofs.Common.{◌≡◌, ◌≢◌, ℕ, ◌+◌, ◌-◌, ◌<◌, ◌≤◌, Bool, true, false, not, ◌&&◌, ◌==◌, if◌then◌else◌, List, [], ◌∷◌, length, take, Option, Some, None, ap, refl, sym, subst, ◌∙◌, ⊎_elim, arith}
+use Rattle.std.proofs.Common.{◌≡◌, ◌≢◌, ℕ, ◌+◌, ◌-◌, ◌<◌, ◌≤◌, Bool, true, not, ◌&&◌, ◌==◌, if◌then◌else◌, List, [], ◌∷◌, length, take, Option, Some, None, ap, refl, sym, subst, ◌∙◌, ⊎_elim, arith}
 use Rattle.std.specs.Prelude.{◌⊎◌}
-use Rattle.std.proofs.lemmas.Bool.{false≢true}
+use Rattle.law_ring.proofs.Common.{ended_after, received_beside, received_alters, got_few}
+use Rattle.law_structures.proofs.Common.{place_few}
 use Rattle.usb_base.specs.declared.packets.Ask.{Ask}
-use Rattle.usb_base.specs.declared.packets.Pid.{Pid}
-use Rattle.usb_base.specs.declared.packets.Pid.TheVariants as Packets
 use Rattle.usb_base.specs.declared.packets.Reply.{Reply}
 use Rattle.word_mem.specs.Memory.{Mem}
 use Rattle.mem_bytes.specs.Bytes.{place}
@@ -27,16 +26,14 @@ use Rattle.async_walk.specs.declared.state.Cursor.TheVariants as cursors
 use Rattle.async_walk.specs.declared.state.WalkStep.{WalkStep}
 use Rattle.async_walk.specs.declared.state.WalkStep.TheVariants as steps
 use Rattle.async_walk.specs.Rows.{WalkPlace, step_of, Leads, passed_walk, wrote, wrote_place, wrote_step}
-use Rattle.law_structures.specs.lent_structures.Settles.{Brings}
 use Rattle.law_structures.specs.lent_structures.Structures.{QueueHead, Element, Buffer, Structures, StructureSets, put, HoldsBuffer, Tells}
-use Rattle.law_structures.specs.lent_structures.Changes.{relinked, overwritten}
+use Rattle.law_structures.specs.lent_structures.Changes.{relinked}
 use Rattle.law_structures.proofs.lemmas.lent_structures.Names.{put_here, put_beside, put_same, put_else}
-use Rattle.law_structures.proofs.lemmas.lent_structures.Storing.{length-overwritten}
-use Rattle.law_structures.specs.lent_structures.WriteBack.{Received, Nothing, Into, IsReceived, received_parts, CanBeWritten, qtd_after, parts_back}
+use Rattle.law_structures.specs.lent_structures.WriteBack.{Received, Into, IsReceived, received_parts, CanBeWritten, qtd_after, parts_back}
 use Rattle.law_structures.proofs.lemmas.lent_structures.WrittenBack.{head_is_no_buffer, received_else, between_element, all_is_written, write_back_is_told}
 use Rattle.law_structures.specs.lent_structures.Sound.{LeadsOn, element_pages, buffer_name, HasBuffer, IsReady, IsSoundElement, IsWorking, IsSoundQueue, LeadsAmong, IsMember}
-use Rattle.law_structures.specs.lent_structures.Alters.{IsAfter, Alters}
-use Rattle.law_structures.proofs.lemmas.lent_structures.Altering.{found_queue, no_two, is_itself, unaltered, altered_both, a_queue_head_alters_nothing, a_token_alters_its_qtd, buffer_put}
+use Rattle.law_structures.specs.lent_structures.Alters.{Alters}
+use Rattle.law_structures.proofs.lemmas.lent_structures.Altering.{found_queue, no_two, altered_both, a_queue_head_alters_nothing, a_token_alters_its_qtd}
 use Rattle.law_structures.proofs.lemmas.lent_structures.Members.{leads_still, pointer_leads, an_altered_part_is_sound}
 use Rattle.law_ring.specs.Hand.{Copy, copied_queue, Settlement, settled_queue_of, Empty, Settled}
 use Rattle.claims_base.specs.Controller.{Base, base_of}
@@ -44,7 +41,6 @@ use Rattle.law_ring.specs.Ring.{IsSettled, IsRing}
 use Rattle.law_ring.specs.Effects.{bytes_in, buffer_of, received_into, Happens}
 use Rattle.law_ring.specs.Effects.Effect.{writes_back}
 use Rattle.law_ring.proofs.Ringing.{members_after}
-use Rattle.law_ring.proofs.Making.{place_few}
 
 -- ---- the copy that is written
 
@@ -103,10 +99,6 @@ received_same c z reply = refl
 
 -- ---- the bytes received
 
-got_few : (pid : Pid) (o : Outcome) (got : List ℕ) → Brings pid o got → length got ≤ moved_by o
-got_few Packets.In o got brings = let e = brings.all refl in omega (arith, e)
-got_few pid o got brings = let e = ap length (brings.none (λ is. cc)) in omega (arith, e)
-
 moved_few : (c : Copy) (z : Settlement) (reply : Reply) → IsSettled c.queue reply z → (moved_by z.outcome + z.host.left ≡ c.queue.token.total) × (length z.got ≤ moved_by z.outcome)
 moved_few c z reply is = let left = is.host.left in (omega (arith, left), got_few (pid_at c.queue.token.pid) z.outcome z.got is.bytes)
 
@@ -153,22 +145,6 @@ place_within m parts c z reply w tells ready range is some =
     let room = h.within in
     let size = has.size in
     omega (arith, left, moved_is, fewer, place, room, size)) some
-
--- ---- what is altered
-
-ended_after : (new : Qh) (t : Qtd) (b : Bool) → new.token.active ≡ b → IsAfter t (if b then t else record t { token = new.token })
-ended_after new t true e = is_itself t
-ended_after new t false e = record { token = new.token; is = refl; active = λ on. absurd (false≢true (sym e ∙ on)) }
-
-received_alters : (parts : StructureSets) (n : ℕ) (x : Qh) (got : List ℕ) (r : Received) → IsReceived (parts n) x got r → Alters (parts n) (received_parts parts n got r n)
-received_alters parts n x got Nothing is = unaltered (parts n)
-received_alters parts n x got (Into pages k bs j) is =
-    subst (Alters (parts n)) (sym (put_here parts n (place pages k) (Buffer pages k (overwritten bs j got))))
-    (buffer_put (parts n) (place pages k) pages k bs (overwritten bs j got) is.buffer (length-overwritten bs j got is.fits))
-
-received_beside : (parts : StructureSets) (n : ℕ) (got : List ℕ) (r : Received) (k : ℕ) → k ≢ n → received_parts parts n got r k ≡ parts k
-received_beside parts n got Nothing k differs = refl
-received_beside parts n got (Into pages i bs j) k differs = put_beside parts n (place pages i) (Buffer pages i (overwritten bs j got)) k differs
 
 -- ---- the parts after it
 

@@ -1,6 +1,8 @@
 -- A write-back: words tell what the copy in hand told.
 use Rattle.std.proofs.Common.{◌≡◌, ◌≢◌, ℕ, ◌-◌, Bool, true, false, ◌&&◌, ◌==◌, if◌then◌else◌, List, [], ◌∷◌, length, take, Some, ap, refl, sym, subst, ◌∙◌, ⊎_elim}
 use Rattle.std.proofs.lemmas.Bool.{cases_eq, eq-eqb}
+use Rattle.law_ring.proofs.Common.{bytes_beside_element, endpoint_kept}
+use Rattle.law_common.proofs.Numbers.{other_number}
 use Rattle.usb_base.specs.declared.packets.Reply.{Reply}
 use Rattle.qh_qtd.specs.declared.token.Token.{Token}
 use Rattle.qh_qtd.specs.declared.qtd.Qtd.{Qtd}
@@ -8,9 +10,9 @@ use Rattle.qh_qtd.specs.declared.queue_head.Qh.{Qh}
 use Rattle.qh_qtd.specs.QueueHead.{IsQhInRange}
 use Rattle.hc_copy.specs.Overlay.{settled_queue, buffer_place, moved}
 use Rattle.hc_copy.specs.WriteBack.{moved_by}
-use Rattle.law_structures.specs.lent_structures.Structures.{QueueHead, Element, Buffer, Structures, StructureSets, put, with_structure}
+use Rattle.law_structures.specs.lent_structures.Structures.{QueueHead, Element, Buffer, Structures, StructureSets, put}
 use Rattle.law_structures.specs.lent_structures.Changes.{relinked, overwritten}
-use Rattle.law_structures.proofs.lemmas.lent_structures.Names.{not_same, put_here, put_same, put_else, with_here, with_there}
+use Rattle.law_structures.proofs.lemmas.lent_structures.Names.{put_here, put_same, put_else}
 use Rattle.law_structures.proofs.lemmas.lent_structures.Storing.{length-overwritten}
 use Rattle.law_structures.specs.lent_structures.WriteBack.{Received, IsReceived, received_parts, CanBeWritten, qtd_after, parts_back}
 use Rattle.law_structures.proofs.lemmas.lent_structures.WrittenBack.{received_else, between_element, head_is_no_buffer}
@@ -22,15 +24,10 @@ use Rattle.law_ring.specs.Ring.{IsCopied, IsSettled}
 use Rattle.law_ring.specs.Effects.{bytes_in, buffer_of, received_into, WritesBack}
 use Rattle.law_ring.proofs.Writing.{IsSettledCopy, settled_copy, settled_range, IsWritten, is_written, queue_written}
 use Rattle.law_ring.specs.Told.{works_on, left_of, told_bytes, settled_bytes, hand_bytes, Told, hand_toggle, HasToggle, Endpoint, endpoint_of, HasEndpoint, SameTold}
-use Rattle.law_ring.proofs.Keeping.{IsUnsettled, empty_unsettled, unsettled_bytes, unsettled_toggle, bytes_kept, toggle_kept, endpoint_kept, bytes_beside_head}
+use Rattle.law_ring.proofs.Keeping.{IsUnsettled, empty_unsettled, unsettled_bytes, unsettled_toggle, bytes_kept, toggle_kept, bytes_beside_head}
 use Rattle.law_ring.proofs.Growing.{overwritten_by_none, works_here, works_not, hand_here, hand_not}
 
 -- ---- bytes of a part
-
-bytes_beside_element : (part : Structures) (a : ℕ) (t u : Qtd) (b : ℕ) → part a ≡ Some (Element t) → bytes_in (with_structure part a (Element u) b) ≡ bytes_in (part b)
-bytes_beside_element part a t u b here =
-    ⊎_elim (λ (same : b ≡ a). ap bytes_in (ap (with_structure part a (Element u)) same ∙ with_here part a (Element u)) ∙ sym (ap bytes_in (ap part same ∙ here)))
-    (λ (differs : b ≢ a). ap bytes_in (with_there part a (Element u) b differs)) (cases_eq b a)
 
 -- the buffer that received them has them, and no other one does
 into_here : (parts : StructureSets) (n : ℕ) (q : Qh) (t : Qtd) (got : List ℕ) → bytes_in (received_parts parts n got (received_into (parts n) q t got) n (buffer_name t)) ≡ overwritten (buffer_of (parts n) t) (buffer_place q - t.offset) got
@@ -220,7 +217,7 @@ module _ (parts : StructureSets) (hand : Hand) (now : StructureSets) (later : Ha
   beside_toggle n differs q =
       unsettled_toggle later n q k.unsettled
       ∙ sym (ap (λ (h : Hand). hand_toggle h n q) k.in_hand ∙ ap (λ (b : Bool). if b then came.host.toggle else q.token.toggle)
-      (not_same owner n (λ is. differs (sym is))))
+      (other_number owner n (λ is. differs (sym is))))
 
   owner_toggle : (b : Bool) → HasToggle hand parts owner b → HasToggle later now owner b
   owner_toggle b has =

@@ -1,9 +1,11 @@
 -- Each line leaves addresses and numbers in their ranges.
-use Rattle.std.proofs.Common.{◌≡◌, ℕ, ◌<◌, Bool, true, List, [], ◌∷◌, Option, Some, None, arith}
+use Rattle.std.proofs.Common.{◌≡◌, ℕ, ◌<◌, Bool, true, List, Option, Some, None, arith}
 use Rattle.std.specs.Prelude.{◌==◌, ◌&&◌, nat_le, is_some}
 use Rattle.std.specs.List.{AllByRecursion, find}
 use Rattle.std.specs.Option.{option_map, option_map_or, option_and_then, option_or}
 use Rattle.std.proofs.lemmas.Bool.{cond_both, and_parts, leb-true}
+use Rattle.law_scripts.proofs.Common.{all_change}
+use Rattle.law_common.proofs.Lists.{all_both}
 use Rattle.usb_base.specs.declared.packets.Way.TheVariants as way
 use Rattle.usb_base.specs.declared.endpoints.EpDesc.{EpDesc}
 use Rattle.usb_base.specs.declared.commands.Cmd.{Cmd}
@@ -21,7 +23,7 @@ use Rattle.script_world.specs.Rows.{is_known, answered, counted, roomier, stuffe
 use Rattle.script_world.specs.Rows.{bytes_len, commanded, where_known, put_room, control_name, after_hub, after_below, after}
 use Rattle.claims_driver.specs.Walk.{IsNumbered}
 use Rattle.law_driver_ring.specs.walk_members.Reached.{OpensNumbered}
-use Rattle.law_scripts.proofs.lemmas.byte_answers.Lists.{Holds, all_append, found}
+use Rattle.law_scripts.proofs.lemmas.byte_answers.Lists.{Holds, found}
 use Rattle.law_scripts.specs.Numbers.{NumbersLine}
 
 abbrev pub IsNumberedEp : EpText → Type 0
@@ -38,11 +40,6 @@ pub record IsNumberedDraft (w : Draft) : Type 0 where
   pub hubs : AllByRecursion IsNumberedHub w.hubs
   pub devices : AllByRecursion IsNumberedDevice w.devices
   pub lines : AllByRecursion (λ x. NumbersLine x.1) w.lines
-
-all_change : {X : Type 0} (P : X → Type 0) (p : X → Bool) (f : X → X) (xs : List X) → ((x : X) → P x → P (f x)) → AllByRecursion P xs → AllByRecursion P (change p f xs)
-all_change P p f [] g h = tt
-all_change P p f (x ∷ xs) g h =
-    cond_both (p x) (f x ∷ xs) (x ∷ change p f xs) (AllByRecursion P) (λ _. (g x h.0, h.1)) (λ _. (h.0, all_change P p f xs g h.1))
 
 -- ---- endpoints that are known
 
@@ -89,7 +86,7 @@ num_low l e =
     omega (arith, most)
 
 with_ep_numbers : (l : EpLine) (d : Placed) → l.name.num < 16 → IsNumberedDevice d → IsNumberedDevice (with_ep l d)
-with_ep_numbers l d num h = record { addr = h.addr; eps = all_append IsNumberedEp d.eps _ h.eps ((h.addr, num), tt) }
+with_ep_numbers l d num h = record { addr = h.addr; eps = all_both IsNumberedEp d.eps _ h.eps ((h.addr, num), tt) }
 
 at_ep_numbers : (name : Name) (f : EpText → EpText) (ds : List Placed) → ((e : EpText) → IsNumberedEp e → IsNumberedEp (f e)) → AllByRecursion IsNumberedDevice ds → AllByRecursion IsNumberedDevice (at_ep name f ds)
 at_ep_numbers name f ds g h =
@@ -103,7 +100,7 @@ put_room_numbers name n ds h =
 hub_numbers : (w : Draft) (addr ports : ℕ) (multi : Bool) → IsNumberedDraft w → IsNumberedDraft (after_hub w addr ports multi)
 hub_numbers w addr ports multi h =
     cond_both (within 1 127 addr && within 1 15 ports) _ w IsNumberedDraft
-    (λ e. record { hubs = all_append IsNumberedHub w.hubs _ h.hubs (low addr (and_parts (within 1 127 addr) (within 1 15 ports) e).0, tt); devices = h.devices; lines = h.lines })
+    (λ e. record { hubs = all_both IsNumberedHub w.hubs _ h.hubs (low addr (and_parts (within 1 127 addr) (within 1 15 ports) e).0, tt); devices = h.devices; lines = h.lines })
     (λ _. h)
 
 below_numbers : (w : Draft) (b : Below) → IsNumberedDraft w → IsNumberedDraft (after_below w b)
@@ -112,7 +109,7 @@ below_numbers w b h =
     (λ e. record {
       hubs = all_change IsNumberedHub (λ x. x.addr == b.hub) (attach b.port b.speed) w.hubs (λ x k. k) h.hubs;
       devices =
-          all_append IsNumberedDevice w.devices _ h.devices
+          all_both IsNumberedDevice w.devices _ h.devices
           (record { addr = low b.addr (and_parts (within 1 127 b.addr) (nat_le b.hub 127) (and_parts (within 1 127 b.addr && nat_le b.hub 127) (is_known w (says.DevBelow b)) e).0).0; eps = tt }, tt);
       lines = h.lines;
     })
@@ -121,7 +118,7 @@ below_numbers w b h =
 -- ---- commands
 
 commanded_numbers : (w : Draft) (n : ℕ) (c : Cmd) → OpensNumbered c → IsNumberedDraft w → IsNumberedDraft (commanded w n c)
-commanded_numbers w n c k h = record { hubs = h.hubs; devices = h.devices; lines = all_append (λ x. NumbersLine x.1) w.lines _ h.lines (k, tt) }
+commanded_numbers w n c k h = record { hubs = h.hubs; devices = h.devices; lines = all_both (λ x. NumbersLine x.1) w.lines _ h.lines (k, tt) }
 
 where_numbers : (w : Draft) (name : Name) (v : Draft) → IsNumberedDraft w → IsNumberedDraft v → IsNumberedDraft (where_known w name v)
 where_numbers w name v h k = cond_both (is_some (known w name)) v w IsNumberedDraft (λ _. k) (λ _. h)
@@ -136,7 +133,7 @@ pub after_numbers : (w : Draft) (n : ℕ) (s : Statement) → IsNumberedDraft w 
 after_numbers w n (says.Hub addr ports multi) h = hub_numbers w addr ports multi h
 after_numbers w n (says.DevHigh addr) h =
     cond_both (within 1 127 addr) _ w IsNumberedDraft
-    (λ e. record { hubs = h.hubs; devices = all_append IsNumberedDevice w.devices _ h.devices (record { addr = low addr e; eps = tt }, tt); lines = h.lines }) (λ _. h)
+    (λ e. record { hubs = h.hubs; devices = all_both IsNumberedDevice w.devices _ h.devices (record { addr = low addr e; eps = tt }, tt); lines = h.lines }) (λ _. h)
 after_numbers w n (says.DevBelow b) h = below_numbers w b h
 after_numbers w n (says.Ep l) h =
     cond_both (is_endpoint l && is_some (device_of w.devices l.name.addr)) _ w IsNumberedDraft
@@ -166,6 +163,6 @@ after_numbers w n (says.Control c) h =
     (commanded_numbers (record w { scripted = counted w.scripted (bytes_len c.bytes) }) n _ tt (record { hubs = h.hubs; devices = h.devices; lines = h.lines }))
 after_numbers w n (says.Iso l) h =
     cond_both (is_slots l) _ w IsNumberedDraft (λ _. where_numbers w l.name _ h (commanded_numbers w n (cmd.Iso (name_of l.name) l.count l.len l.seed) tt h)) (λ _. h)
-after_numbers w n (says.Order event k) h = record { hubs = h.hubs; devices = h.devices; lines = all_append (λ x. NumbersLine x.1) w.lines _ h.lines (tt, tt) }
-after_numbers w n (says.Micro k) h = record { hubs = h.hubs; devices = h.devices; lines = all_append (λ x. NumbersLine x.1) w.lines _ h.lines (tt, tt) }
+after_numbers w n (says.Order event k) h = record { hubs = h.hubs; devices = h.devices; lines = all_both (λ x. NumbersLine x.1) w.lines _ h.lines (tt, tt) }
+after_numbers w n (says.Micro k) h = record { hubs = h.hubs; devices = h.devices; lines = all_both (λ x. NumbersLine x.1) w.lines _ h.lines (tt, tt) }
 after_numbers w n _ h = record { hubs = h.hubs; devices = h.devices; lines = h.lines }

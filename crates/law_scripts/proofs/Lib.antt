@@ -1,3 +1,4 @@
 pub mod lemmas
 pub mod Drafts
 pub mod Texts
+pub mod Common

@@ -5,3 +5,4 @@ pub mod Lengths
 pub mod Still
 pub mod Passing
 pub mod PassingSamples
+pub mod Common

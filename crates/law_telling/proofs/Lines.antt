@@ -3,6 +3,7 @@ use Rattle.std.proofs.Common.{◌≡◌, ℕ, zero, suc, ◌-◌, ◌<◌, Bool,
 use Rattle.std.specs.Prelude.{nat_le}
 use Rattle.std.proofs.lemmas.Bool.{cases_Bool, false≢true}
 use Rattle.std.proofs.lemmas.List.{get_or-set_same, get_or-set_other}
+use Rattle.law_driver.proofs.Common.{waits_is}
 use Rattle.usb_base.specs.declared.endpoints.EndCause.{EndCause}
 use Rattle.usb_base.specs.declared.endpoints.EndCause.TheVariants as causes
 use Rattle.usb_base.specs.declared.reports.Report.{Report}
@@ -28,7 +29,6 @@ use Rattle.drv_table.specs.Rows.{driver_row, after_driver_row}
 use Rattle.drv_table.specs.Words.{is_control}
 use Rattle.law_driver.specs.run_owners.Due.{IsDue, IsHarvestDue}
 use Rattle.law_driver.proofs.lemmas.run_owners.Reasons.{each_event_is_due}
-use Rattle.law_driver.proofs.lemmas.chained_transfers.Harvesting.{waits_is}
 use Rattle.law_driver.proofs.lemmas.chained_transfers.Stalled.{IsToldOf, told_set, told_both, behind_tells}
 use Rattle.law_footprints.proofs.Fields.{reports_stays, store_stays}
 use Rattle.law_footprints.specs.Footprint.{footprint}

@@ -1,8 +1,8 @@
 -- Transfers that stay what they are, in lists.
 use Rattle.std.proofs.Common.{◌≡◌, ℕ, zero, suc, Bool, true, false, cond, ◌||◌, List, [], ◌∷◌, length, map, set, slice_get, Some, ap, sym, subst, ◌∙◌, refl}
 use Rattle.std.specs.Prelude.{◌==◌}
-use Rattle.std.proofs.lemmas.Bool.{false≢true}
 use Rattle.std.proofs.lemmas.Option.{same_Some}
+use Rattle.law_common.proofs.Booleans.{left_or}
 use Rattle.drv_table.specs.declared.content.Transfer.{Transfer}
 use Rattle.drv_table.specs.DriverContent.{waits_for}
 use Rattle.drv_table.specs.Releases.{let_go}
@@ -96,10 +96,6 @@ returned_still y = record {
   stays = record { place = refl; left = refl };
 }
 
-pub or_still : (a b : Bool) → a ≡ true → (a || b) ≡ true
-or_still true b is = refl
-or_still false b is = absurd (false≢true is)
-
 pub gone_still : (told : Bool) (y : Transfer) → IsStill y (record y { reported = y.reported || told; released = true })
 gone_still told y = record {
   later = record {
@@ -108,7 +104,7 @@ gone_still told y = record {
     first = refl;
     qtds = refl;
     most = refl;
-    told = or_still y.reported told;
+    told = left_or y.reported told;
     returned = λ r. refl;
   };
   stays = record { place = refl; left = refl };

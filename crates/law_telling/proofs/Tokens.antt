@@ -3,6 +3,7 @@ use Rattle.std.proofs.Common.{◌≡◌, ◌≢◌, ℕ, Bool, true, false, cond
 use Rattle.std.specs.Prelude.{nat_eq, nat_le, ◌⊎◌, ◌||◌}
 use Rattle.std.proofs.lemmas.Bool.{false≢true}
 use Rattle.std.proofs.lemmas.Bool.Decides.{nat_tests}
+use Rattle.law_telling.proofs.Common.{none_ended}
 use Rattle.usb_base.specs.declared.endpoints.EndCause.TheVariants as causes
 use Rattle.usb_base.specs.declared.reports.What.{What}
 use Rattle.usb_base.specs.declared.reports.What.TheVariants as lines
@@ -107,13 +108,9 @@ queue_ends p y n what queue is =
       count = e.count;
     }
 
-slots_ended : (b : Bool) (e n : ℕ) (what : What) → cond b (founds.Served e) founds.Active ≡ founds.Ended n what → ⊥
-slots_ended true e n what is = not_served e n what is
-slots_ended false e n what is = not_active n what is
-
 pub found_ends : (p : Parts) (y : Transfer) (n : ℕ) (what : What) (sort : Sort) → y.sort ≡ sort
     → found_of p.driver p.memory y sort ≡ founds.Ended n what → IsEndedIn p y n what
-found_ends p y n what sorts.Descriptor s is = absurd (slots_ended _ _ n what is)
+found_ends p y n what sorts.Descriptor s is = absurd (none_ended _ _ n what is)
 found_ends p y n what sorts.Get s is =
     queue_ends p y n what (ap is_descriptor s)
     (ap (λ (k : Sort). found_in k (nat_le y.left 1) (note_at p.driver.notes y.place) (token_in p.memory y.place)) s ∙ is)

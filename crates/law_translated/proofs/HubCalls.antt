@@ -1,6 +1,7 @@
 -- Each call on the translators of a hub, and their work, key by key.
 use Rattle.std.proofs.Common.{◌≡◌, ◌≢◌, ℕ, zero, suc, Bool, true, false, List, [], ◌∷◌, Option, Some, None, slice_get, if◌then◌else◌, ◌%◌, ◌==◌, refl, sym, subst, ap, ◌∙◌}
 use Rattle.std.specs.Option.{option_map_or, option_and_then}
+use Rattle.law_translated.proofs.Common.{later_at}
 use Rattle.usb_base.specs.declared.packets.Ask.{Ask}
 use Rattle.usb_base.specs.declared.packets.Reply.{Reply}
 use Rattle.usb_base.specs.declared.packets.Reply.TheVariants.{Silent}
@@ -23,11 +24,6 @@ use Rattle.law_translated.proofs.TranslatorCalls.{asked_by_key, start_by_key, co
 
 -- ---- one translator of a list changes
 
-put_later : (o : Option Translator) (place : ℕ) (f : Translator → Translator) (t : Translator) (ts : List Translator)
-    → put_if o (suc place) f (t ∷ ts) ≡ t ∷ put_if o place f ts
-put_later None place f t ts = refl
-put_later (Some x) place f t ts = refl
-
 module _ (way : Way) (k : Key) where
   -- the key's own is found
   record IsFound (place : ℕ) (all : List Translator) (s : KeySlot) : Type 0 where
@@ -46,7 +42,7 @@ module _ (way : Way) (k : Key) where
   own_changed f place [] s new h each = absurd h
   own_changed f zero (t ∷ ts) s new h each = (each t refl h.0, h.1)
   own_changed f (suc place) (t ∷ ts) s new h each =
-      subst (λ (xs : List Translator). HasAt way k (suc place) xs new) (sym (put_later (slice_get ts place) place f t ts))
+      subst (λ (xs : List Translator). HasAt way k (suc place) xs new) (sym (later_at (slice_get ts place) place f t ts))
       (h.0, own_changed f place ts s new h.1 each)
 
   -- a change that leaves the key, or takes what was told
@@ -67,7 +63,7 @@ module _ (way : Way) (k : Key) where
   none_changed f q [] leaves h = h
   none_changed f zero (t ∷ ts) leaves h = (none_left f t leaves h.0, h.1)
   none_changed f (suc q) (t ∷ ts) leaves h =
-      subst (λ (xs : List Translator). HaveNone way k xs) (sym (put_later (slice_get ts q) q f t ts)) (h.0, none_changed f q ts leaves h.1)
+      subst (λ (xs : List Translator). HaveNone way k xs) (sym (later_at (slice_get ts q) q f t ts)) (h.0, none_changed f q ts leaves h.1)
 
   other_changed : (f : Translator → Translator) (q place : ℕ) (all : List Translator) (s : KeySlot) → Leaves f → HasAt way k place all s
       → LeavesOther way k place s (put_if (slice_get all q) q f all)
@@ -75,11 +71,11 @@ module _ (way : Way) (k : Key) where
   other_changed f zero zero (t ∷ ts) s leaves h = let r = leaves t s h.0 in record { slot = r.0; has = (r.1, h.1); step = r.2 }
   other_changed f zero (suc place) (t ∷ ts) s leaves h = record { slot = s; has = (none_left f t leaves h.0, h.1); step = stays }
   other_changed f (suc q) zero (t ∷ ts) s leaves h =
-      subst (λ (xs : List Translator). LeavesOther way k zero s xs) (sym (put_later (slice_get ts q) q f t ts))
+      subst (λ (xs : List Translator). LeavesOther way k zero s xs) (sym (later_at (slice_get ts q) q f t ts))
       (record { slot = s; has = (h.0, none_changed f q ts leaves h.1); step = stays })
   other_changed f (suc q) (suc place) (t ∷ ts) s leaves h =
       let r = other_changed f q place ts s leaves h.1 in
-      subst (λ (xs : List Translator). LeavesOther way k (suc place) s xs) (sym (put_later (slice_get ts q) q f t ts))
+      subst (λ (xs : List Translator). LeavesOther way k (suc place) s xs) (sym (later_at (slice_get ts q) q f t ts))
       (record { slot = r.slot; has = (h.0, r.has); step = r.step })
 
   other_at : (f : Translator → Translator) (o : Option ℕ) (place : ℕ) (all : List Translator) (s : KeySlot) → Leaves f
@@ -160,10 +156,10 @@ complete_beside way k ask place ts s kind apart h = by_place (place_of ts.multi 
     put zero zero (t ∷ ts) g = (each t s g.0, g.1)
     put zero (suc place) (t ∷ ts) g = (each t Empty g.0, g.1)
     put (suc q) zero (t ∷ ts) g =
-        subst (λ (xs : List Translator). HasAt way k zero xs s) (sym (put_later (slice_get ts q) q (completed ask) t ts))
+        subst (λ (xs : List Translator). HasAt way k zero xs s) (sym (later_at (slice_get ts q) q (completed ask) t ts))
         (g.0, none_changed way k (completed ask) q ts (λ t x has. (x, each t x has, stays)) g.1)
     put (suc q) (suc place) (t ∷ ts) g =
-        subst (λ (xs : List Translator). HasAt way k (suc place) xs s) (sym (put_later (slice_get ts q) q (completed ask) t ts))
+        subst (λ (xs : List Translator). HasAt way k (suc place) xs s) (sym (later_at (slice_get ts q) q (completed ask) t ts))
         (g.0, put q place ts g.1)
 
     by_place : (o : Option ℕ) → HasAt way k place (changed_place o (completed ask) ts.all) s
@@ -198,7 +194,7 @@ clear_beside way c k port place ts s apart h = by_place (place_of ts.multi port)
     nones q [] g = g
     nones zero (t ∷ ts) g = (empties t g.0, g.1)
     nones (suc q) (t ∷ ts) g =
-        subst (λ (xs : List Translator). HaveNone way k xs) (sym (put_later (slice_get ts q) q (cleared c) t ts)) (g.0, nones q ts g.1)
+        subst (λ (xs : List Translator). HaveNone way k xs) (sym (later_at (slice_get ts q) q (cleared c) t ts)) (g.0, nones q ts g.1)
 
     put : (q place : ℕ) (all : List Translator) → q ≢ place → HasAt way k place all s
         → HasAt way k place (put_if (slice_get all q) q (cleared c) all) s
@@ -206,9 +202,9 @@ clear_beside way c k port place ts s apart h = by_place (place_of ts.multi port)
     put zero zero (t ∷ ts) differs g = absurd (differs refl)
     put zero (suc place) (t ∷ ts) differs g = (empties t g.0, g.1)
     put (suc q) zero (t ∷ ts) differs g =
-        subst (λ (xs : List Translator). HasAt way k zero xs s) (sym (put_later (slice_get ts q) q (cleared c) t ts)) (g.0, nones q ts g.1)
+        subst (λ (xs : List Translator). HasAt way k zero xs s) (sym (later_at (slice_get ts q) q (cleared c) t ts)) (g.0, nones q ts g.1)
     put (suc q) (suc place) (t ∷ ts) differs g =
-        subst (λ (xs : List Translator). HasAt way k (suc place) xs s) (sym (put_later (slice_get ts q) q (cleared c) t ts))
+        subst (λ (xs : List Translator). HasAt way k (suc place) xs s) (sym (later_at (slice_get ts q) q (cleared c) t ts))
         (g.0, put q place ts (λ e. differs (ap suc e)) g.1)
 
     by_place : (o : Option ℕ) → o ≢ Some place → HasAt way k place (changed_place o (cleared c) ts.all) s

@@ -1,16 +1,13 @@
 -- The test of two keys is equality.
 use Rattle.std.proofs.Common.{◌≡◌, ℕ, ◌==◌, ◌&&◌, Bool, true, false, refl, sym, subst, ◌∙◌}
 use Rattle.std.proofs.lemmas.Bool.{eq-eqb, eqb-true}
+use Rattle.law_common.proofs.Booleans.{and_both}
 use Rattle.usb_base.specs.declared.packets.Dir.{Dir}
 use Rattle.usb_base.specs.declared.packets.Dir.TheVariants as Directions
 use Rattle.usb_base.specs.declared.packets.EpKind.{EpKind}
 use Rattle.usb_base.specs.declared.packets.EpKind.TheVariants.{Control, Iso, Bulk, Interrupt}
 use Rattle.hub_keys.specs.declared.key.Key.{Key}
 use Rattle.hub_keys.specs.Keys.{is_same_key, is_same_direction, is_same_kind}
-
-both : (a b : Bool) → (a && b) ≡ true → (a ≡ true) × (b ≡ true)
-both true b h = (refl, h)
-both false b h = absurd cc
 
 same_direction : (a b : Dir) → is_same_direction a b ≡ true → a ≡ b
 same_direction Directions.In Directions.In h = refl
@@ -34,9 +31,9 @@ made a = refl
 
 pub same_key : (a b : Key) → is_same_key a b ≡ true → a ≡ b
 same_key a b h =
-    let h1 = both _ (is_same_kind a.kind b.kind) h in
-    let h2 = both _ (is_same_direction a.dir b.dir) h1.0 in
-    let h3 = both _ (a.ep == b.ep) h2.0 in
+    let h1 = and_both _ (is_same_kind a.kind b.kind) h in
+    let h2 = and_both _ (is_same_direction a.dir b.dir) h1.0 in
+    let h3 = and_both _ (a.ep == b.ep) h2.0 in
     let e1 : a.addr ≡ b.addr = eqb-true _ _ h3.0 in
     let e2 : a.ep ≡ b.ep = eqb-true _ _ h3.1 in
     let e3 : a.dir ≡ b.dir = same_direction _ _ h2.1 in

@@ -20,3 +20,4 @@ pub mod WorkedSlots
 pub mod WorkedPipes
 pub mod WorkedRequests
 pub mod WorkedWindows
+pub mod Common

@@ -3,6 +3,7 @@ use Rattle.std.proofs.Common.{◌≡◌, ℕ, Bool, true, false, List, [], ◌�
 use Rattle.std.proofs.lemmas.List.{append_assoc}
 use Rattle.std.proofs.lemmas.List.Folds.{concat-append}
 use Rattle.std.specs.List.{concat}
+use Rattle.law_translated.proofs.Common.{ahead_ended}
 use Rattle.law_pipe.specs.Pipe.{alike, toggle_after}
 use Rattle.claims_base.specs.Prefix.{IsPrefix}
 use Rattle.law_translated.specs.Lift.{Way, Buffered, Piped, Keeps, at_rest, AllAlone, none, more, OnlyAlone}
@@ -15,9 +16,6 @@ use Rattle.law_translated.proofs.Lifting.{step_keeps, run_keeps, holds_gone, str
 use Rattle.law_translated.proofs.Streams.{longer, parity_turns, same_alike, next_unlike, never_both}
 
 -- ---- the host by itself
-
-ahead_ended : (s : Line) (b : Bool) → IsAhead s → IsAhead (record s { going = b })
-ahead_ended s b h = record { next = h.next; later = h.later; rest = h.rest; taken = h.taken }
 
 ahead_put : (s : Line) (x : List ℕ) → IsAhead s → IsAhead (record s { rest = s.rest ++ x ∷ [] })
 ahead_put s x h = record { next = h.next; later = h.later ++ x ∷ []; rest = ap (λ r. r ++ x ∷ []) h.rest; taken = h.taken }

@@ -2,6 +2,7 @@
 use Rattle.std.proofs.Common.{◌≡◌, ℕ, ◌+◌, Bool, true, false, List, [], ◌∷◌, ◌++◌, length, inl, inr, if◌then◌else◌, refl, sym, subst, ap, ◌∙◌, arith}
 use Rattle.std.proofs.lemmas.List.{append_assoc, append-nil}
 use Rattle.std.specs.List.{concat}
+use Rattle.law_translated.proofs.Common.{ahead_ended}
 use Rattle.law_pipe.specs.Pipe.{toggle_after}
 use Rattle.claims_base.specs.Prefix.{IsPrefix}
 use Rattle.law_translated.specs.Lift.{Keeps, at_rest}
@@ -41,9 +42,6 @@ going_agrees p b h = record {
   sends_parity = h.sends_parity;
   expects_parity = h.expects_parity;
 }
-
-going_ahead : (p : Pipe) (b : Bool) → IsAhead p → IsAhead (record p { going = b })
-going_ahead p b f = record { next = f.next; later = f.later; rest = f.rest; taken = f.taken }
 
 going_token : (p : Pipe) (b : Bool) (g : Stage) (a : Token) → token_at g p a → token_at g (record p { going = b }) a
 going_token p b AtSetup a i = i
@@ -85,7 +83,7 @@ module _ (packets : List (List ℕ)) where
   answered_by AtSetup Ack s b h = record { acts = h.acts; has = h.has; acted = h.acted; none = h.none; expects = h.expects }
   answered_by AtSetup Nak s b h = h
   answered_by AtSetup Stall s b h = h
-  answered_by AtData Ack s b h = record { data_stage = going_data s b h.data_stage; ahead = going_ahead s.pipe b h.ahead }
+  answered_by AtData Ack s b h = record { data_stage = going_data s b h.data_stage; ahead = ahead_ended s.pipe b h.ahead }
   answered_by AtData Nak s b h = going_data s b h
   answered_by AtData Stall s b h = going_data s b h
   answered_by AtStatus Ack s b h = record { has = h.has; taken = h.taken; acted = h.acted; acts = h.acts }

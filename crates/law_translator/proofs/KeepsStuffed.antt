@@ -1,5 +1,6 @@
 -- The law over all events, with stuffed bits.
 use Rattle.std.proofs.Common.{◌≡◌, ℕ, ◌+◌, ◌-◌, ◌*◌, ◌≤◌, true, List, [], ◌∷◌, ◌++◌, length, refl, sym, ◌∙◌, ap, subst, inl, inr, arith}
+use Rattle.law_common.proofs.Booleans.{on_or_off}
 use Rattle.usb_base.specs.declared.packets.Ask.{Ask}
 use Rattle.usb_base.specs.declared.packets.Reply.{Reply}
 use Rattle.hub_keys.specs.Asks.{stuffed}
@@ -19,7 +20,7 @@ use Rattle.law_translator.specs.Plans.{Plan, laid, Fits}
 use Rattle.law_translator.specs.Frames.{Event, Start, Complete, Work, Drop, Replan, Clear, Watched, Frame, entries_of, is_of, changed, begun, worked_all, next, run, opening}
 use Rattle.law_translator.specs.Premises.{FollowsRow, Fair, FairAll, AllLaidAs, KeepsUpStuffed, AllKeepUpStuffed}
 use Rattle.law_translator.proofs.Fronts.{weight, excess, weight_of, excess_of, Fronts}
-use Rattle.law_translator.proofs.Keys.{Distinct, AllIn, on_or_off, same_key, distinct_snoc, all_in_snoc}
+use Rattle.law_translator.proofs.Keys.{Distinct, AllIn, same_key, distinct_snoc, all_in_snoc}
 use Rattle.law_translator.proofs.Owing.{Came, unseen, partial, ended, Coming}
 use Rattle.law_translator.proofs.Replans.{coming_all_as, sorted_as, members_as}
 use Rattle.law_translator.proofs.Results.{result_is_there}

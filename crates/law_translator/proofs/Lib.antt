@@ -15,3 +15,4 @@ pub mod Answered
 pub mod Watching
 pub mod Works
 pub mod Stays
+pub mod Common

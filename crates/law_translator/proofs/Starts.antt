@@ -3,6 +3,8 @@ use Rattle.std.proofs.Common.{◌≡◌, ℕ, ◌+◌, ◌-◌, ◌*◌, ◌<◌
 use Rattle.std.specs.Prelude.{◌&&◌, ◌==◌}
 use Rattle.std.specs.List.{find}
 use Rattle.std.proofs.lemmas.Bool.{eqb-true}
+use Rattle.law_common.proofs.Booleans.{on_or_off}
+use Rattle.law_translator.proofs.Common.{same_key as itself}
 use Rattle.usb_base.specs.declared.packets.Ask.{Ask}
 use Rattle.usb_base.specs.declared.packets.EpKind.{EpKind}
 use Rattle.usb_base.specs.declared.packets.EpKind.TheVariants.{Iso}
@@ -28,7 +30,7 @@ use Rattle.tt_pipeline.specs.Work.{part_at, asked_part, nothing_brought, brought
 use Rattle.law_translator.specs.Plans.{Plan}
 use Rattle.law_translator.specs.Frames.{Watched, gap_between, entries_of, is_of, changed}
 use Rattle.law_translator.specs.Premises.{In, FirstPart, IsFirst, LaterPart, IsLater, LaterOf}
-use Rattle.law_translator.proofs.Keys.{Distinct, AllIn, on_or_off, same_key, itself}
+use Rattle.law_translator.proofs.Keys.{Distinct, AllIn, same_key}
 use Rattle.law_translator.proofs.Sums.{AllLater, Sorted, AllBy}
 use Rattle.law_translator.proofs.Owing.{Came, unseen, partial, ended, same, more, Seen, Coming, Owing, before_gaps, came_gaps, called_partial, not_both}
 use Rattle.law_translator.proofs.Work.{keys_of, All as Alls, AllOwe}

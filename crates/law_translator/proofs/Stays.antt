@@ -1,7 +1,8 @@
 -- An interrupt's answer that is there stays there.
 use Rattle.std.proofs.Common.{◌≡◌, ℕ, ◌-◌, ◌≤◌, Bool, true, false, if◌then◌else◌, List, [], ◌∷◌, refl, ap, arith}
-use Rattle.std.specs.Prelude.{nat_le, ◌&&◌}
+use Rattle.std.specs.Prelude.{nat_le}
 use Rattle.std.proofs.lemmas.Bool.{leb-true, le-leb}
+use Rattle.law_common.proofs.Booleans.{and_none}
 use Rattle.usb_base.specs.declared.packets.EpKind.TheVariants.{Interrupt}
 use Rattle.usb_base.specs.declared.packets.Reply.{Reply}
 use Rattle.tt_pipeline.specs.declared.entry.Brought.{Brought}
@@ -47,10 +48,6 @@ stay_moved true reply m e off row before alike = absurd cc
 stay_moved false reply m e off row before alike =
     (row, rw (row, before) (ap (λ (x : Exchange). result_at x) alike))
 
-not_due : (x y : Bool) → x ≡ false → (x && y) ≡ false
-not_due true y h = absurd cc
-not_due false y h = refl
-
 stay_one : (p : Plan) (now room : ℕ) (reply : Reply) (w : Watched) → Coming 6 p now w → Stays w (worked_one room reply w)
 stay_one p now room reply w o = λ kind whole row.
     let m : Entry = moved room w.entry in
@@ -59,7 +56,7 @@ stay_one p now room reply w o = λ kind whole row.
     let c : called_for m ≡ called_for w.entry = ap (λ (x : Brought). stuffed (called w.entry.ask x) w.entry.stuff) b in
     let le : called_for w.entry ≤ w.entry.done = leb-true _ _ (worked_out w.entry.exchange w.entry kind row) in
     let all : nat_le (called_for m) m.done ≡ true = le-leb _ _ (omega arith) in
-    stay_moved (is_due m) reply m w.entry (not_due (is_ahead w.entry.exchange) _ made) (there w.entry.exchange m made kind all) row refl
+    stay_moved (is_due m) reply m w.entry (and_none (is_ahead w.entry.exchange) _ made) (there w.entry.exchange m made kind all) row refl
 
 stay_all : (p : Plan) (now room : ℕ) (replies : List Reply) (ws : List Watched) → All (Coming 6 p now) ws
     → AllStay ws (worked_all room replies ws)

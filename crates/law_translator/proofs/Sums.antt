@@ -1,6 +1,7 @@
 -- Sums over some of the keys of a plan, and what follows where the plan fits.
 use Rattle.std.proofs.Common.{◌≡◌, ℕ, zero, suc, length, ◌+◌, ◌-◌, ◌*◌, ◌<◌, ◌≤◌, min, List, [], ◌∷◌, ◌++◌, refl, sym, ◌∙◌, inl, inr, ◌⊎◌, arith, ap}
 use Rattle.std.proofs.lemmas.Bool.{cases_lt}
+use Rattle.law_common.proofs.Numbers.{sum_up}
 use Rattle.hub_keys.specs.declared.key.Key.{Key}
 use Rattle.law_translator.specs.Plans.{Plan, laid, laid_at, sum_at, Fits}
 use Rattle.law_translator.specs.Premises.{In}
@@ -48,9 +49,6 @@ due_at p k v = laid p k v - laid p k (v - 1)
 
 due_laid : (a s v : ℕ) → min a (188 * (v - s)) - min a (188 * (v - 1 - s)) ≤ min a (188 * (v - 1 + 1 - s)) - min a (188 * (v - 1 - s))
 due_laid a s v = omega arith
-
-sum_up : (a b c d : ℕ) → a ≤ b → c ≤ d → a + c ≤ b + d
-sum_up a b c d h i = omega arith
 
 total_due : (p : Plan) (v : ℕ) (ks : List Key) → total (λ k. due_at p k v) ks ≤ sum_at p (v - 1) ks
 total_due p v [] = omega arith

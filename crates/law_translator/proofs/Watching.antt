@@ -1,5 +1,6 @@
 -- The entries of a watched pipeline are those of the pipeline.
 use Rattle.std.proofs.Common.{◌≡◌, ℕ, ◌-◌, List, [], ◌∷◌, ◌++◌, length, refl, ◌∙◌, ap, inl, inr}
+use Rattle.law_common.proofs.Booleans.{on_or_off}
 use Rattle.usb_base.specs.declared.packets.Ask.{Ask}
 use Rattle.usb_base.specs.declared.packets.Reply.{Reply}
 use Rattle.hub_keys.specs.Keys.{key_of}
@@ -12,7 +13,6 @@ use Rattle.tt_pipeline.specs.Starting.{has_key, with_first, without_first, start
 use Rattle.tt_pipeline.specs.Work.{fresh, joined}
 use Rattle.tt_pipeline.specs.Working.{used_at, turned, turned_all, first_reply, later_replies}
 use Rattle.law_translator.specs.Frames.{Event, Start, Complete, Work, Watched, Frame, entries_of, is_of, changed, begun, worked_all, next, run, contents_after, run_contents}
-use Rattle.law_translator.proofs.Keys.{on_or_off}
 
 with_entries : (k : Key) (f : Entry → Entry) (ws : List Watched) → entries_of (with_first (is_of k) (changed f) ws) ≡ with_first (has_key k) f (entries_of ws)
 with_entries k f [] = refl

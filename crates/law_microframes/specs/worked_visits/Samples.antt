@@ -171,10 +171,10 @@ abbrev pub placed_keyboard : Placed
 placed_keyboard = record { want = keyboard; placement = placed 8 0 0x01 0x1C }
 
 abbrev pub placed_speaker : Placed
-placed_speaker = record { want = record speaker { max = 400 }; placement = placed 8 0 0x0E 0 }
+placed_speaker = record { want = speaker 400; placement = placed 8 0 0x0E 0 }
 
 abbrev pub placed_microphone : Placed
-placed_microphone = record { want = record speaker { dir = dirs.In; max = 300 }; placement = placed 8 0 0x01 0x1C }
+placed_microphone = record { want = record (speaker 300) { dir = dirs.In }; placement = placed 8 0 0x01 0x1C }
 
 abbrev pub speaker_desc : EpDesc
 speaker_desc = record {

@@ -3,7 +3,6 @@ pub mod ControllerParts
 pub mod ControllerRests
 pub mod Controller
 pub mod Opening
-pub mod Unfinished
 pub mod HarvestOwed
 pub mod Stepping
 pub mod Next

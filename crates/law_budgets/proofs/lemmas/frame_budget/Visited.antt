@@ -1,8 +1,9 @@
 -- The visits of a frame's queue heads are of different placed endpoints, so they cost together at most the load.
-use Rattle.std.proofs.Common.{◌≡◌, ◌≢◌, ℕ, ◌<◌, ◌≤◌, Bool, true, false, List, [], ◌∷◌, Some, refl, ap, sym, subst, ◌∙◌, arith}
+use Rattle.std.proofs.Common.{◌≡◌, ◌≢◌, ℕ, ◌<◌, ◌≤◌, true, List, [], ◌∷◌, Some, ap, sym, subst, ◌∙◌, arith}
 use Rattle.std.specs.Prelude.{count_by}
 use Rattle.std.specs.List.{AllByRecursion}
 use Rattle.std.proofs.lemmas.Bool.Decides.{nat_tests}
+use Rattle.law_budgets.proofs.Common.{one_more}
 use Rattle.bandwidth.specs.declared.placements.Placed.{Placed}
 use Rattle.bandwidth.specs.Sums.{Fits, load}
 use Rattle.drv_chains.specs.declared.members.QueueHead.{QueueHead}
@@ -26,10 +27,6 @@ among d (q ∷ qs) [] h = absurd h
 
 named_itself : (q : QueueHead) → is_named q.id q ≡ true
 named_itself q = grind (arith, nat_tests)
-
-one_more : (b : Bool) → b ≡ true → one_if b ≡ 1
-one_more true e = refl
-one_more false e = absurd (cc)
 
 none_less : (q : QueueHead) (qs : List QueueHead) (id : ℕ) → count_by (is_named id) (q ∷ qs) ≤ 1 → count_by (is_named id) qs ≤ 1
 none_less q qs id h = omega (arith, count_first (is_named id) q qs, h)

@@ -4,6 +4,8 @@ use Rattle.std.specs.Prelude.{count_by, nat_eq, filter}
 use Rattle.std.specs.List.{AllByRecursion}
 use Rattle.std.proofs.lemmas.Bool.{false≢true, eq-eqb}
 use Rattle.std.proofs.lemmas.Option.{same_Some}
+use Rattle.law_common.proofs.Lists.{all_both}
+use Rattle.law_budgets.proofs.Common.{one_more}
 use Rattle.usb_base.specs.declared.packets.EpKind.{EpKind}
 use Rattle.usb_base.specs.declared.packets.EpKind.TheVariants.{Interrupt}
 use Rattle.bandwidth.specs.declared.placements.Placed.{Placed}
@@ -13,7 +15,7 @@ use Rattle.drv_chains.specs.declared.members.QueueHead.{QueueHead}
 use Rattle.drv_chains.specs.Chains.{descriptors_in}
 use Rattle.drv_members.specs.Ranks.{is_called}
 use Rattle.drv_members.specs.Members.{IsKept}
-use Rattle.drv_members.proofs.Splits.{one_if, count_first}
+use Rattle.drv_members.proofs.Splits.{count_first}
 use Rattle.drv_table.specs.declared.content.Endpoint.{Endpoint}
 use Rattle.drv_table.specs.Kinds.{is_iso}
 use Rattle.drv_table.specs.DriverContent.{DriverContent}
@@ -25,10 +27,6 @@ use Rattle.law_budgets.proofs.lemmas.frame_budget.Visited.{of_placed}
 use Rattle.law_budgets.specs.iso_budget.Visited.{AreDifferent, IsDescriptorVisit, AreDescriptorVisits, AreVisits}
 
 -- ---- lists
-
-all_both : {X : Type 0} (P : X → Type 0) (xs ys : List X) → AllByRecursion P xs → AllByRecursion P ys → AllByRecursion P (xs ++ ys)
-all_both P [] ys h k = k
-all_both P (x ∷ xs) ys h k = (h.0, all_both P xs ys h.1 k)
 
 apart_both : (vs ws : List Visit) → AreApart vs → AreApart ws → AllByRecursion (λ v. AllByRecursion (λ w. w.of.want.id ≢ v.of.want.id) ws) vs → AreApart (vs ++ ws)
 apart_both [] ws h k cross = k
@@ -109,19 +107,19 @@ all_leave d f u vs ks ws due each h good fits small = visits_leave_a_fifth d.per
 called_itself : (k : Descriptor) → is_called k.id k ≡ true
 called_itself k = eq-eqb k.id k.id refl
 
-one_of : (b : Bool) → b ≡ true → one_if b ≡ 1
-one_of b e = ap one_if e
-
 none_called : (k : Descriptor) (ks : List Descriptor) → count_by (is_called k.id) ks ≤ 0 → AllByRecursion (λ l. l ≢ k) ks
 none_called k [] few = tt
 none_called k (l ∷ ks) few =
-    let count = count_first (is_called k.id) l ks in
-    ((λ e. let own = one_of (is_called k.id l) (subst (λ (x : Descriptor). is_called k.id x ≡ true) (sym e) (called_itself k)) in omega (arith, count, own, few)), none_called k ks (omega (arith, count, few)))
+    let count = count_first (is_called k.id) l ks in (
+      (λ e. let own = one_more (is_called k.id l) (subst (λ (x : Descriptor). is_called k.id x ≡ true) (sym e) (called_itself k)) in omega
+          (arith, count, own, few)),
+      none_called k ks (omega (arith, count, few)),
+    )
 
 once_different : (ks : List Descriptor) → ((id : ℕ) → count_by (is_called id) ks ≤ 1) → AreDifferent ks
 once_different [] once = tt
 once_different (k ∷ ks) once =
-    let own = one_of (is_called k.id k) (called_itself k) in
+    let own = one_more (is_called k.id k) (called_itself k) in
     let count = count_first (is_called k.id) k ks in
     let all = once k.id in
     (none_called k ks (omega (arith, own, count, all)), once_different ks (λ id. let c = count_first (is_called id) k ks in let a = once id in omega (arith, c, a)))

@@ -1,6 +1,8 @@
 -- What a fetch leaves is a visit that begins.
-use Rattle.std.proofs.Common.{◌≡◌, ℕ, ◌≤◌, Bool, true, false, Option, None, refl, ap, sym, subst, ◌∙◌, arith}
-use Rattle.std.specs.Prelude.{min, max, if◌then◌else◌}
+use Rattle.std.proofs.Common.{◌≡◌, ℕ, None, refl, ap, sym, subst, ◌∙◌, arith}
+use Rattle.std.specs.Prelude.{max}
+use Rattle.law_budgets.proofs.Common.{fetched}
+use Rattle.law_common.proofs.Numbers.{few_packets}
 use Rattle.usb_base.specs.declared.packets.Reply.{Reply}
 use Rattle.qh_qtd.specs.declared.queue_head.Qh.{Qh}
 use Rattle.itd_sitd.specs.declared.itd.Itd.{Itd}
@@ -8,20 +10,11 @@ use Rattle.itd_sitd.specs.Itd.{slot_of}
 use Rattle.hc_interrupt.specs.Turns.{microframe_of}
 use Rattle.hc_iso.specs.Itd.{packets_for, packets_of, fetched_itd}
 use Rattle.bandwidth.specs.declared.placements.Placed.{Placed}
-use Rattle.periodic_walk.specs.declared.chain.ChainRow.{ChainRow}
 use Rattle.periodic_walk.specs.declared.chain.ChainRow.TheVariants as rows
-use Rattle.periodic_walk.specs.declared.state.Hand.{Hand}
-use Rattle.periodic_walk.specs.Chain.{chain_row, chain_read, chain_after}
-use Rattle.periodic_walk.specs.Place.{FramePlace, reading}
-use Rattle.periodic_walk.specs.Rows.{effect_at}
-use Rattle.law_budgets.specs.visit_prices.Prices.{left_by, after}
+use Rattle.periodic_walk.specs.Place.{FramePlace}
+use Rattle.law_budgets.specs.visit_prices.Prices.{after}
 use Rattle.law_budgets.specs.visit_prices.Spent.{MeetsHead, MeetsDescriptor}
 use Rattle.law_budgets.specs.visit_prices.Fetched.{queue_copy, itd_copy, FetchesHead, FetchesDescriptor}
-
-fetched : (p : FramePlace) (r : Reply) (row : ChainRow) → p.walk.hand ≡ None → chain_row p.memory p.walk.cursor ≡ row → after p r ≡ chain_after row (reading (chain_read p.memory p.walk.cursor) p)
-fetched p r row free is =
-    ap (λ (o : Option Hand). left_by (effect_at p o) r) free
-    ∙ ap (λ (w : ChainRow). chain_after w (reading (chain_read p.memory p.walk.cursor) p)) is
 
 pub fetches_of_queue_heads_begin_visits : (x : Placed) (p : FramePlace) (a : ℕ) (q : Qh) (r : Reply) → FetchesHead x p a q
     → MeetsHead x (after p r) (queue_copy a q)
@@ -33,11 +26,6 @@ fetches_of_queue_heads_begin_visits x p a q r f =
       begun = record { unsettled = refl; none = refl; active = f.active; pid = f.pid; few = f.few };
       frame = f.frame;
     })
-
--- no more packets than Multi, and one at least
-few_packets : (b : Bool) (multi n : ℕ) → 1 ≤ multi → (1 ≤ (if b then multi else max 1 (min multi n))) × ((if b then multi else max 1 (min multi n)) ≤ multi)
-few_packets true multi n some = (some, omega arith)
-few_packets false multi n some = (omega arith, omega (arith, some))
 
 copy_packets : (a u : ℕ) (v : Itd) → (fetched_itd a u v).rest ≡ packets_of v (slot_of u v)
 unfolding fetched_itd

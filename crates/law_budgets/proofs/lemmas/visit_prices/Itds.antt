@@ -1,7 +1,10 @@
 -- A visit to the descriptor of a high-speed isochronous endpoint: the packets of this microframe, each of at most its largest.
-use Rattle.std.proofs.Common.{◌≡◌, ℕ, ◌+◌, ◌-◌, ◌*◌, ◌<◌, ◌≤◌, Bool, true, false, List, length, Option, Some, None, refl, ap, sym, subst, arith}
-use Rattle.std.specs.Prelude.{min, nat_lt, nat_le, ◌&&◌, ◌==◌, if◌then◌else◌}
+use Rattle.std.proofs.Common.{◌≡◌, ℕ, ◌-◌, ◌*◌, ◌<◌, ◌≤◌, Bool, true, false, List, length, Option, Some, None, refl, ap, sym, subst, arith}
+use Rattle.std.specs.Prelude.{nat_lt, nat_le, ◌==◌, if◌then◌else◌}
 use Rattle.std.proofs.lemmas.Bool.Decides.{nat_tests}
+use Rattle.law_common.proofs.Booleans.{both_not}
+use Rattle.law_budgets.proofs.Common.{by_way}
+use Rattle.law_common.proofs.Numbers.{in_order, not_below}
 use Rattle.usb_base.specs.Cost.{bus_time}
 use Rattle.usb_base.specs.declared.packets.Ask.{Ask}
 use Rattle.usb_base.specs.declared.packets.Dir.{Dir}
@@ -15,7 +18,7 @@ use Rattle.hc_iso.specs.declared.held.IsoEnd.{IsoEnd}
 use Rattle.hc_iso.specs.declared.held.IsoEnd.TheVariants.{Whole}
 use Rattle.hc_iso.specs.declared.held.Heard.{Heard}
 use Rattle.hc_iso.specs.declared.held.Heard.TheVariants.{Packet, TooLong, Wrong}
-use Rattle.hc_iso.specs.Itd.{limit_of, itd_in, itd_out, itd_transaction, number_of, is_in_order, heard_numbered, heard_in, with_packet, after_heard, after_in, after_out}
+use Rattle.hc_iso.specs.Itd.{limit_of, itd_transaction, number_of, is_in_order, heard_numbered, heard_in, with_packet, after_heard, after_in, after_out}
 use Rattle.hc_iso.specs.WriteBack.{itd_sending, itd_written}
 use Rattle.periodic_walk.specs.declared.itd.ItdRow.TheVariants as rows
 use Rattle.periodic_walk.specs.declared.state.Hand.{Hand}
@@ -28,23 +31,13 @@ use Rattle.law_budgets.specs.visit_prices.Prices.{prices, Costs}
 use Rattle.claims_world.specs.InTime.{is_late, is_late_at, is_late_itd}
 use Rattle.law_budgets.proofs.lemmas.visit_prices.Visits.{Goes, along}
 use Rattle.law_budgets.proofs.lemmas.visit_prices.Times.{IsHighHand, Keeps, Prompt}
-use Rattle.law_budgets.proofs.lemmas.visit_prices.Queues.{enough_one, not_late}
+use Rattle.law_budgets.proofs.lemmas.visit_prices.Queues.{enough_one}
 
 -- ---- the price of its transaction
 
 pub same_iso : (d : Dir) (n : ℕ) → bus_time High Iso d n ≡ bus_time High Iso directions.In n
 same_iso directions.In n = refl
 same_iso directions.Out n = refl
-
-most_limit : (size n : ℕ) → min size n ≤ size
-most_limit size n = omega arith
-
-out_price : (size n : ℕ) → bus_time High Iso directions.Out (min size n) ≤ bus_time High Iso directions.In size
-out_price size n = omega (arith, most_limit size n)
-
-by_way : (b : Bool) (h : HeldItd) → (if b then itd_in h else itd_out h).price.0 ≤ bus_time High Iso directions.In h.itd.max
-by_way true h = omega arith
-by_way false h = out_price h.itd.max (h.slot.length - h.moved)
 
 itd_price : (size : ℕ) (h : HeldItd) → h.itd.max ≡ size → (itd_transaction h).price.0 ≤ bus_time High Iso directions.In size
 itd_price size h e = subst (λ n. (itd_transaction h).price.0 ≤ bus_time High Iso directions.In n) e (by_way h.itd.dir_in h)
@@ -55,10 +48,6 @@ abbrev IsFewer : HeldItd → Heard → Type 0
 IsFewer h (Packet k n) = k < h.rest
 IsFewer h TooLong = Unit {0}
 IsFewer h Wrong = Unit {0}
-
-in_order : (first : Bool) (k rest : ℕ) → (if first then nat_lt k rest else k + 1 == rest) ≡ true → k < rest
-in_order true k rest e = grind (arith, nat_tests, e)
-in_order false k rest e = grind (arith, nat_tests, e)
 
 fitting : (h : HeldItd) (b : Bool) (k n : ℕ) → k < h.rest → IsFewer h (if b then Packet k n else TooLong)
 fitting h true k n less = less
@@ -165,15 +154,11 @@ itd_high size n p _ e v = absurd (subst (InHand size n) e v.hand)
 pub itd_keeps : (size : ℕ) → Keeps (ItdVisit size) (bus_time High Iso directions.In size)
 itd_keeps size = record { high = λ n p hand e v. itd_high size n p hand e v; goes = λ n p hand e v. hand_goes size n p hand e v }
 
-both_not : (b c : Bool) → c ≡ false → (b && c) ≡ false
-both_not true c e = e
-both_not false c e = refl
-
 ended_prompt : (size n : ℕ) (p : FramePlace) (h : HeldItd) (o : Option IsoEnd) → h.itd.max ≡ size → Next n h.rest o → n * bus_time High Iso directions.In size ≤ p.walk.left → is_late_itd p.walk.left h o ≡ false
 ended_prompt size n p h (Some ended) e next enough = refl
 ended_prompt size n p h None e next enough =
     both_not h.slot.active (nat_lt p.walk.left (itd_transaction h).price.0)
-    (not_late p.walk.left (itd_transaction h).price.0
+    (not_below p.walk.left (itd_transaction h).price.0
     (enough_one n (bus_time High Iso directions.In size) p.walk.left (itd_transaction h).price.0 (omega (arith, next.0, next.1)) enough (itd_price size h e)))
 
 hand_prompt : (size n : ℕ) (p : FramePlace) (hand : Hand) → p.walk.hand ≡ Some hand → ItdVisit size n p → n * bus_time High Iso directions.In size ≤ p.walk.left → is_late p ≡ false

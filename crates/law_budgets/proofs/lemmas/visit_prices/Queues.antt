@@ -1,13 +1,12 @@
 -- A visit to the queue head of a high-speed interrupt endpoint: up to Mult transactions, each of at most its largest packet.
-use Rattle.std.proofs.Common.{◌≡◌, ℕ, zero, suc, ◌+◌, ◌-◌, ◌*◌, ◌<◌, ◌≤◌, Bool, true, false, List, Option, Some, None, refl, ap, sym, subst, ◌∙◌, arith, inl, inr, ◌⊎◌}
-use Rattle.std.specs.Prelude.{min, nat_lt, ◌&&◌, ◌==◌, if◌then◌else◌}
+use Rattle.std.proofs.Common.{◌≡◌, ℕ, ◌+◌, ◌-◌, ◌*◌, ◌<◌, ◌≤◌, Bool, true, false, List, Option, Some, None, refl, ap, sym, subst, ◌∙◌, arith, inl, inr, ◌⊎◌}
+use Rattle.std.specs.Prelude.{nat_lt, ◌&&◌, ◌==◌, if◌then◌else◌}
 use Rattle.std.proofs.lemmas.Bool.{and_parts}
 use Rattle.std.proofs.lemmas.Bool.Decides.{nat_tests}
 use Rattle.usb_base.specs.Cost.{bus_time}
 use Rattle.usb_base.specs.declared.packets.Dir.{Dir}
 use Rattle.usb_base.specs.declared.packets.Dir.TheVariants as directions
 use Rattle.usb_base.specs.declared.packets.EpKind.TheVariants.{Interrupt}
-use Rattle.usb_base.specs.declared.packets.Pid.{Pid}
 use Rattle.usb_base.specs.declared.packets.Pid.TheVariants.{In, Out}
 use Rattle.usb_base.specs.declared.packets.Reply.{Reply}
 use Rattle.usb_base.specs.declared.packets.Speed.TheVariants.{High}
@@ -23,7 +22,7 @@ use Rattle.hc_copy.specs.declared.held.Held.{Held}
 use Rattle.hc_copy.specs.declared.held.Transaction.{Transaction}
 use Rattle.link_words.specs.Links.{qtd_link_of}
 use Rattle.hc_copy.specs.Visits.{visit_at, next_pointer}
-use Rattle.hc_copy.specs.Planning.{pid_at, host_in, bytes_out, carries}
+use Rattle.hc_copy.specs.Planning.{host_in, bytes_out, carries}
 use Rattle.hc_copy.specs.Overlay.{settled_queue, moved}
 use Rattle.hc_copy.specs.Transacting.{host_after, call_in}
 use Rattle.hc_copy.specs.WriteBack.{moved_by}
@@ -43,6 +42,8 @@ use Rattle.periodic_walk.specs.Rows.{effect_at, effect_of}
 use Rattle.periodic_walk.specs.Queue.{turn_row, turn_read, settled_row, settled_read, queue_effect, queue_left_by, wrote_at, writing}
 use Rattle.law_budgets.specs.visit_prices.Prices.{prices, Costs}
 use Rattle.std.proofs.Math.Nat.{mul-le-mul_right}
+use Rattle.law_common.proofs.Numbers.{not_below, few_bytes}
+use Rattle.law_budgets.proofs.Common.{dearer, visit_index, pid_few, priced, plain}
 use Rattle.claims_world.specs.InTime.{is_late, is_late_at, is_late_queue, is_late_turn}
 use Rattle.law_budgets.proofs.lemmas.visit_prices.Visits.{Goes, along}
 use Rattle.law_budgets.proofs.lemmas.visit_prices.Times.{IsHighHand, Keeps, Prompt}
@@ -53,32 +54,16 @@ pub same_dir : (d : Dir) (n : ℕ) → bus_time High Interrupt d n ≡ bus_time 
 same_dir directions.In n = refl
 same_dir directions.Out n = refl
 
-dearer : (n m : ℕ) → n ≤ m → bus_time High Interrupt directions.In n ≤ bus_time High Interrupt directions.In m
-dearer n m h = omega (arith, h)
-
 out_price : (ping : Bool) (size n : ℕ) → n ≤ size
     → bus_time High Interrupt (dir_of (token_pid Plain Out (pinged Interrupt ping))) (priced_bytes Plain (token_pid Plain Out (pinged Interrupt ping)) Interrupt size n) ≤ bus_time High Interrupt directions.In size
 out_price true size n h = dearer 0 size (omega arith)
 out_price false size n h = dearer n size h
-
-few_bytes : (b : Bool) (size left : ℕ) → (if b then min size left else 0) ≤ size
-few_bytes true size left = omega arith
-few_bytes false size left = omega arith
 
 pub record IsHigh (size most : ℕ) (q : Qh) : Type 0 where
   pub high : q.eps ≡ 2
   pub max : q.max ≡ size
   pub multi : most_of q ≡ most
   pub pid : q.token.pid ≤ 1
-
-pid_few : (n : ℕ) → n ≤ 1 → (pid_at n ≡ Out) ⊎ (pid_at n ≡ In)
-pid_few zero h = inl refl
-pid_few (suc zero) h = inr refl
-pid_few (suc (suc n)) h = absurd (omega (arith, h))
-
-priced : (q : Qh) (pid : Pid) → q.eps ≡ 2 → pid_at q.token.pid ≡ pid
-    → (planned q).price.0 ≡ bus_time High Interrupt (dir_of (token_pid Plain pid (pinged Interrupt q.token.ping))) (priced_bytes Plain (token_pid Plain pid (pinged Interrupt q.token.ping)) Interrupt q.max (bytes_out Plain pid (host_in q)))
-priced q pid high is = rw (high, is) refl
 
 planned_price : (size most : ℕ) (q : Qh) → IsHigh size most q → (planned q).price.0 ≤ bus_time High Interrupt directions.In size
 planned_price size most q h =
@@ -89,9 +74,6 @@ planned_price size most q h =
           omega (arith, same, out_price q.token.ping q.max (bytes_out Plain Out (host_in q)) (few_bytes (carries Plain Out q.token.ping) q.max q.token.total))
       | inr e ↦ let same = priced q In h.high e in omega (arith, same)
     ])
-
-plain : (q : Qh) → q.eps ≡ 2 → (planned q).split ≡ Plain
-plain q high = rw high refl
 
 -- ---- what a transaction and a write-back leave of the copy
 
@@ -157,11 +139,6 @@ visited f size most n h outcome w true e high few left =
       next = (moved_active h.copy.queue_head (moved_by outcome) ∙ on.0, λ own. (omega (arith, on.1, high.multi, left), left));
     }
 visited f size most n h outcome w false e high few left = tt
-
-visit_index : (h : HeldQueue) (outcome : Outcome) (w : Walk) (b : Bool)
-    → (if b then holding (hands.Queue (record h { copy = again_copy outcome h.copy })) w else passed h.copy.queue_head.link w).index ≡ w.index
-visit_index h outcome w true = refl
-visit_index h outcome w false = refl
 
 wrote_visit : (f size most n : ℕ) (all : Bool) (h : HeldQueue) (outcome : Outcome) (p : FramePlace) → p.walk.index ≡ f → IsHigh size most h.copy.queue_head → most ≤ 255 → most ≤ h.made + n
     → QueueVisit f size most n (wrote_at all h outcome p)
@@ -261,9 +238,6 @@ pub enough_one : (n c left price : ℕ) → 1 ≤ n → n * c ≤ left → price
 enough_one n c left price some enough small =
     let one : 1 * c ≤ n * c = mul-le-mul_right c some in omega (arith, one, enough, small)
 
-pub not_late : (left price : ℕ) → price ≤ left → nat_lt left price ≡ false
-not_late left price h = grind (arith, nat_tests, h)
-
 settled_prompt : (f size most n : ℕ) (p : FramePlace) (h : HeldQueue) (o : Option Outcome) → p.walk.index ≡ f → IsHigh size most h.copy.queue_head → Next f most n h.made h.copy.queue_head o
     → n * bus_time High Interrupt directions.In size ≤ p.walk.left → is_late_queue p.walk.left p.walk.index h.copy.queue_head o ≡ false
 settled_prompt f size most n p h (Some outcome) at high next enough = refl
@@ -273,7 +247,7 @@ settled_prompt f size most n p h None at high next enough =
       | inr e ↦
           let ready = next.1 (subst (λ k. has h.copy.queue_head.smask (microframe_of k) ≡ true) at e.own) in
           subst (λ (turn : Turn). is_late_turn p.walk.left h.copy.queue_head turn ≡ false) (sym e.turn)
-          (not_late p.walk.left (planned h.copy.queue_head).price.0
+          (not_below p.walk.left (planned h.copy.queue_head).price.0
           (enough_one n (bus_time High Interrupt directions.In size) p.walk.left (planned h.copy.queue_head).price.0 ready.0 enough (planned_price size most h.copy.queue_head high)))
     ]
 

@@ -2,10 +2,10 @@
 use Rattle.std.proofs.Common.{◌≡◌, ◌≢◌, ℕ, zero, suc, ◌+◌, ◌-◌, ◌*◌, ◌/◌, ◌%◌, ◌≤◌, Bool, true, false, List, [], ◌∷◌, slice_get, Some, refl, ap, sym, subst, ◌∙◌, arith}
 use Rattle.std.specs.Prelude.{sum_by, filter, not, nat_eq, length, ◌&&◌, if◌then◌else◌}
 use Rattle.std.specs.List.{AllByRecursion}
-use Rattle.std.proofs.lemmas.Bool.Decides.{nat_tests}
 use Rattle.std.proofs.lemmas.List.Filters.{sum_by-filter_both}
 use Rattle.std.proofs.lemmas.List.Sums.{sum_by-cons}
 use Rattle.std.proofs.Math.Nat.{mul-le-mul_right}
+use Rattle.law_common.proofs.Numbers.{not_its, its_own}
 use Rattle.usb_base.specs.declared.packets.Speed.{Speed}
 use Rattle.usb_base.specs.declared.packets.Speed.TheVariants.{High}
 use Rattle.bandwidth.specs.declared.placements.Want.{Want}
@@ -68,12 +68,6 @@ others x ys = filter (λ y. not (nat_eq y.want.id x.want.id)) ys
 others_less : (f : Placed → ℕ) (x : Placed) (ys : List Placed) → sum_by f (others x ys) ≤ sum_by f ys
 others_less f x ys =
     omega (arith, sum_by-filter_both (λ y. not (nat_eq y.want.id x.want.id)) (λ y. not (not (nat_eq y.want.id x.want.id))) (λ y. refl) f ys)
-
-its_own : (n : ℕ) → not (nat_eq n n) ≡ false
-its_own n = grind (arith, nat_tests)
-
-not_its : (n m : ℕ) → n ≢ m → not (nat_eq n m) ≡ true
-not_its n m h = grind (arith, nat_tests, h)
 
 dropped : (f : Placed → ℕ) (b : Bool) (y : Placed) (ys zs : List Placed) (n : ℕ) → n + sum_by f zs ≤ sum_by f ys → n + sum_by f (if b then y ∷ zs else zs) ≤ f y + sum_by f ys
 dropped f true y ys zs n h = omega (arith, h, sum_by-cons f y zs)

@@ -2,12 +2,14 @@
 use Rattle.std.proofs.Common.{◌≡◌, ℕ, ◌+◌, ◌-◌, ◌*◌, ◌≤◌, Bool, true, false, List, [], ◌∷◌, ◌++◌, Option, Some, None, refl, ap, sym, subst, ◌∙◌, arith}
 use Rattle.std.specs.Prelude.{is_none, is_some, ◌&&◌, ◌||◌, if◌then◌else◌}
 use Rattle.std.proofs.lemmas.List.Sums.{sum_by-cons}
+use Rattle.law_common.proofs.Booleans.{none_late}
+use Rattle.law_budgets.proofs.Common.{visit_left}
 use Rattle.usb_base.specs.declared.packets.Ask.{Ask}
 use Rattle.usb_base.specs.declared.packets.Reply.{Reply}
 use Rattle.toggle_error.specs.declared.host.Outcome.{Outcome}
 use Rattle.hc_copy.specs.Buffer.{sending}
 use Rattle.hc_copy.specs.Transacting.{call_in}
-use Rattle.hc_interrupt.specs.Copies.{goes_on, again_copy}
+use Rattle.hc_interrupt.specs.Copies.{goes_on}
 use Rattle.hc_interrupt.specs.Turns.{is_last_of}
 use Rattle.mem_queues.specs.Structures.{reaches_queue_head}
 use Rattle.hc_iso.specs.declared.held.HeldItd.{HeldItd}
@@ -20,8 +22,7 @@ use Rattle.periodic_walk.specs.declared.itd.ItdRow.TheVariants as itd_rows
 use Rattle.periodic_walk.specs.declared.state.HeldQueue.{HeldQueue}
 use Rattle.periodic_walk.specs.declared.state.Hand.{Hand}
 use Rattle.periodic_walk.specs.declared.state.Hand.TheVariants as hands
-use Rattle.periodic_walk.specs.Walk.{Walk}
-use Rattle.periodic_walk.specs.Place.{FramePlace, holding, passed, Effect, sent}
+use Rattle.periodic_walk.specs.Place.{FramePlace, Effect, sent}
 use Rattle.periodic_walk.specs.Place.Effect.{Leaves, Asks}
 use Rattle.periodic_walk.specs.Rows.{effect_at, effect_of}
 use Rattle.periodic_walk.specs.Queue.{queue_effect, queue_row, queue_left_by, wrote_at as queue_wrote_at, writing, missed, miss_outcome}
@@ -38,11 +39,6 @@ use Rattle.law_budgets.proofs.lemmas.visit_prices.Visits.{Goes}
 abbrev pub Timed : ℕ → Effect → Type 0
 Timed left (Leaves q) = q.walk.left ≡ left
 Timed left (Asks ask out by) = (r : Reply) → (by r).walk.left ≤ left
-
-visit_left : (h : HeldQueue) (outcome : Outcome) (w : Walk) (b : Bool)
-    → (if b then holding (hands.Queue (record h { copy = again_copy outcome h.copy })) w else passed h.copy.queue_head.link w).left ≡ w.left
-visit_left h outcome w true = refl
-visit_left h outcome w false = refl
 
 wrote_left : (all : Bool) (h : HeldQueue) (outcome : Outcome) (p : FramePlace) → (queue_wrote_at all h outcome p).walk.left ≡ p.walk.left
 wrote_left true h outcome p = visit_left h outcome p.walk (goes_on h.made h.copy.queue_head outcome)
@@ -114,9 +110,6 @@ prompt_by : (Holds : ℕ → FramePlace → Type 0) (c n : ℕ) (p : FramePlace)
     → Timed p.walk.left e → n * c ≤ p.walk.left → late_in (left_by e r) rs ≡ false
 prompt_by Holds c n p r rs (Leaves q) rest g t enough = rest n q g (omega (arith, t, enough))
 prompt_by Holds c n p r rs (Asks ask out by) rest g t enough = rest (n - 1) (by r) (g.1 r).1 (one_less n c p.walk.left (by r).walk.left g.0 enough (g.1 r).0)
-
-none_late : (late rest : Bool) → late ≡ false → rest ≡ false → (late || rest) ≡ false
-none_late late rest h k = rw (h, k) refl
 
 prompt_hand : (c n : ℕ) (p : FramePlace) (r : Reply) (rs : List Reply) (hand : Option Hand) → ((k : Hand) → hand ≡ Some k → is_late p ≡ false) → ((k : Hand) → hand ≡ Some k → late_in (after p r) rs ≡ false)
     → (is_some hand && (is_late p || late_in (after p r) rs)) ≡ false

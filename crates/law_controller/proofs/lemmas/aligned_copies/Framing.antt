@@ -1,6 +1,8 @@
 -- Each event of the walk of a frame's chain leaves its addresses multiples of 32.
 use Rattle.std.proofs.Common.{◌≡◌, ℕ, ◌%◌, ◌<◌, Bool, true, false, List, Option, None, Some, ap, refl, sym, subst, ◌∙◌, arith}
 use Rattle.std.specs.Prelude.{IfSome, nat_lt}
+use Rattle.law_controller.proofs.Common.{split_heard_same}
+use Rattle.law_common.proofs.Booleans.{either}
 use Rattle.usb_base.specs.declared.packets.Ask.{Ask}
 use Rattle.usb_base.specs.declared.packets.Reply.{Reply}
 use Rattle.usb_base.specs.declared.packets.Split.{Split}
@@ -37,11 +39,10 @@ use Rattle.hc_iso.specs.declared.held.Heard.TheVariants as heards
 use Rattle.hc_iso.specs.declared.held.HeldSitd.{HeldSitd}
 use Rattle.hc_iso.specs.declared.held.IsoEnd.{IsoEnd}
 use Rattle.hc_iso.specs.declared.held.SplitHeard.{SplitHeard}
-use Rattle.hc_iso.specs.declared.held.SplitHeard.TheVariants as split_heards
 use Rattle.hc_iso.specs.declared.held.SplitOutcome.{SplitOutcome}
 use Rattle.hc_iso.specs.declared.held.SplitOutcome.TheVariants.{Failed}
 use Rattle.hc_iso.specs.Itd.{fetched_itd, after_heard, after_in, after_out, heard_in, itd_after}
-use Rattle.hc_iso.specs.Sitd.{missed_copy, missed_sitd, after_split_heard, after_complete, after_start, after_part, heard_by, in_after, sitd_after}
+use Rattle.hc_iso.specs.Sitd.{missed_copy, missed_sitd, after_complete, after_start, after_part, heard_by, in_after, sitd_after}
 use Rattle.hc_iso.specs.WriteBack.{iso_raised, itd_sending, itd_written, sitd_sending}
 use Rattle.periodic_walk.specs.declared.chain.ChainRow.{ChainRow}
 use Rattle.periodic_walk.specs.declared.chain.ChainRow.TheVariants as chain_rows
@@ -63,7 +64,7 @@ use Rattle.periodic_walk.specs.Itd.{itd_row, itd_effect, wrote_at as itd_wrote_a
 use Rattle.periodic_walk.specs.Sitd.{sitd_row, sitd_effect, wrote_at as sitd_wrote_at, wrote as sitd_wrote, writing as sitd_writing}
 use Rattle.periodic_walk.specs.Rows.{effect_at, effect_of, Leads}
 use Rattle.law_controller.specs.aligned_copies.Aligned.{IsQueueAligned, IsElementAligned, IsCopyAligned, IsItdAligned, IsHandAligned, IsFrameAligned}
-use Rattle.law_controller.proofs.lemmas.aligned_copies.Reading.{either, link_aligned, pointer_aligned, heads_aligned, elements_aligned, itds_aligned, sitds_aligned}
+use Rattle.law_controller.proofs.lemmas.aligned_copies.Reading.{link_aligned, pointer_aligned, heads_aligned, elements_aligned, itds_aligned, sitds_aligned}
 use Rattle.law_controller.proofs.lemmas.aligned_copies.Ringing.{advanced_aligned, settled_aligned}
 
 -- the walk's addresses are so, and the ring begins where it began
@@ -279,10 +280,6 @@ itd_keeps (itd_rows.WriteBack ended) h p is held =
     itd_wrote w.all h ended p w.memory is held
 
 -- ---- a siTD
-
-split_heard_same : (heard : SplitHeard) (v : Sitd) → (after_split_heard heard v).link ≡ v.link
-split_heard_same (split_heards.Data last n) v = refl
-split_heard_same _ v = refl
 
 complete_same : (u : ℕ) (heard : SplitHeard) (v : Sitd) → (after_complete u heard v).link ≡ v.link
 unfolding after_complete

@@ -2,6 +2,7 @@
 use Rattle.std.proofs.Common.{◌≡◌, ℕ, ◌%◌, Bool, true, false, if◌then◌else◌, List, Option, None, Some, arith}
 use Rattle.std.specs.Prelude.{IfSome, ◌==◌, slice_index}
 use Rattle.std.specs.Result.{result_ok}
+use Rattle.law_common.proofs.Booleans.{either}
 use Rattle.word_mem.specs.Memory.{Mem, reaches}
 use Rattle.word_mem.specs.Views.{words_at}
 use Rattle.link_words.specs.declared.refusal.Bad.{Bad}
@@ -22,10 +23,6 @@ use Rattle.mem_queues.specs.Structures.{qtd_at_address, queue_head_at_address, r
 use Rattle.mem_descriptors.specs.Descriptors.{itd_at_address, sitd_at_address, reaches_itd}
 use Rattle.hc_copy.specs.Visits.{next_pointer}
 use Rattle.law_controller.specs.aligned_copies.Aligned.{IsQueueAligned, IsElementAligned}
-
-pub either : {A : Type 0} (P : A → Type 0) (b : Bool) (x y : A) → P x → P y → P (if b then x else y)
-either P true x y one other = one
-either P false x y one other = other
 
 -- ---- links
 

@@ -1,6 +1,8 @@
 -- Each event of the ring's walk leaves its addresses multiples of 32.
 use Rattle.std.proofs.Common.{◌≡◌, ℕ, ◌%◌, Bool, true, false, List, Option, None, Some, ap, refl, sym, subst, ◌∙◌}
 use Rattle.std.specs.Prelude.{IfSome, not, ◌&&◌, nat_lt}
+use Rattle.law_controller.proofs.Common.{cursor_aligned}
+use Rattle.law_common.proofs.Booleans.{either}
 use Rattle.usb_base.specs.declared.packets.Ask.{Ask}
 use Rattle.usb_base.specs.declared.packets.Reply.{Reply}
 use Rattle.word_mem.specs.Memory.{Mem}
@@ -24,15 +26,13 @@ use Rattle.hc_copy.specs.Buffer.{Reading, Writing, sending}
 use Rattle.hc_copy.specs.WriteBack.{raised}
 use Rattle.async_walk.specs.declared.rows.WalkRow.{WalkRow}
 use Rattle.async_walk.specs.declared.rows.WalkRow.TheVariants as rows
-use Rattle.async_walk.specs.declared.state.Cursor.{Cursor}
-use Rattle.async_walk.specs.declared.state.Cursor.TheVariants as cursors
 use Rattle.async_walk.specs.declared.state.ReloadMode.{ReloadMode}
 use Rattle.async_walk.specs.declared.state.ReloadMode.TheVariants.{Reload}
 use Rattle.async_walk.specs.Walk.{Walk, IsCursor}
 use Rattle.async_walk.specs.Naks.{may_work, mode_after, reloaded, counted_queue, planned}
 use Rattle.async_walk.specs.Rows.{WalkPlace, cursor_link, started, started_registers, fetch_row, ring_row, work_row, taken_row, take_row, visit_row, held_row, row_at, faulted, head_read, fetched_registers, fetched, passed, passed_walk, took, wrote, wrote_place, wrote_settled, writing, ring_copy, transacted, SentAt, Sends, Leads, at_event, event_row}
 use Rattle.law_controller.specs.aligned_copies.Aligned.{IsQueueAligned, IsElementAligned, IsCopyAligned, IsRingAligned}
-use Rattle.law_controller.proofs.lemmas.aligned_copies.Reading.{either, link_aligned, pointer_aligned, heads_aligned, elements_aligned}
+use Rattle.law_controller.proofs.lemmas.aligned_copies.Reading.{link_aligned, pointer_aligned, heads_aligned, elements_aligned}
 
 -- ---- which row it is
 
@@ -75,10 +75,6 @@ visit_aligned m left q true false false l is = take_aligned m l is
 held_aligned : (m : Mem) (left : ℕ) (q : Qh) (o : Option Outcome) → IsQueueAligned q → RowAligned (held_row m left q o)
 held_aligned m left q None is = visit_aligned m left q (may_work q) q.token.halted q.token.active (qtd_link_of (next_pointer q)) (pointer_aligned q is)
 held_aligned m left q (Some s) is = tt
-
-cursor_aligned : (r : RegisterFile) (c : Cursor) → r.async_list_address % 32 ≡ 0 → IsCursor c → IsAligned (cursor_link r c)
-cursor_aligned r cursors.Start start is = start
-cursor_aligned r (cursors.At l) start is = is
 
 row_aligned : (p : WalkPlace) (o : Option Held) → p.registers.async_list_address % 32 ≡ 0 → IsCursor p.walk.cursor → IfSome o IsCopyAligned → RowAligned (row_at p o)
 row_aligned p None start cursor is = ring_aligned p.memory p.registers.reclamation (cursor_link p.registers p.walk.cursor) (cursor_aligned p.registers p.walk.cursor start cursor)

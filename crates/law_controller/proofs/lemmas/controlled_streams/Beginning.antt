@@ -1,18 +1,18 @@
 -- One stream more.
 use Rattle.std.proofs.Common.{◌≡◌, ◌≢◌, ℕ, ◌==◌, ◌||◌, Bool, true, false, if◌then◌else◌, List, [], Option, ap, refl, sym, subst, ◌∙◌, ⊎_elim, inr, arith}
 use Rattle.std.proofs.lemmas.Bool.{cases_eq, eq-eqb, false≢true}
+use Rattle.law_controller.proofs.Common.{heads_stay, elements_stay}
+use Rattle.law_common.proofs.Numbers.{streamed_apart, other_number}
 use Rattle.link_words.specs.declared.kinds.QtdLink.{QtdLink}
 use Rattle.link_words.specs.declared.kinds.QtdLink.TheVariants as qtd_links
 use Rattle.link_words.specs.Links.{qtd_link_of}
 use Rattle.qh_qtd.specs.declared.queue_head.Qh.{Qh}
 use Rattle.law_structures.specs.lent_structures.Structures.{Structures, StructureSets}
-use Rattle.law_structures.proofs.lemmas.lent_structures.Names.{not_same}
 use Rattle.law_structures.proofs.lemmas.lent_structures.Altering.{found_queue}
 use Rattle.law_ring.specs.Hand.{Hand}
-use Rattle.law_ring.specs.Effects.{buffer_of}
 use Rattle.law_ring.specs.Told.{Endpoint, HasEndpoint, HasToggle}
 use Rattle.law_ring.specs.Order.{IsOrdered, none_out}
-use Rattle.law_ring.specs.Sparing.{SameHand, SparesHead, SparesElement}
+use Rattle.law_ring.specs.Sparing.{SameHand}
 use Rattle.law_ring.proofs.SparedSparing.{spared_has_toggle, spared_endpoint, accounts_are_spared}
 use Rattle.law_pipe.specs.Pipe.{PipeAgrees}
 use Rattle.law_pipe.proofs.Agreement.{opening_agrees}
@@ -35,7 +35,7 @@ stream_old streams n k on = by_test (k == n)
     by_test false = on
 
 pub stream_beside : (streams : ℕ → Bool) (n k : ℕ) → k ≢ n → with_stream streams n k ≡ true → streams k ≡ true
-stream_beside streams n k differs on = ap (λ (b : Bool). b || streams k) (sym (not_same k n differs)) ∙ on
+stream_beside streams n k differs on = ap (λ (b : Bool). b || streams k) (sym (other_number k n differs)) ∙ on
 
 none_beside : (streams : ℕ → Bool) (n k : ℕ) → with_stream streams n k ≡ false → (k ≢ n) × (streams k ≡ false)
 none_beside streams n k off = (λ same. false≢true (sym off ∙ ap (with_stream streams n) same ∙ stream_here streams n), by_test (streams k) refl)
@@ -44,20 +44,17 @@ none_beside streams n k off = (λ same. false≢true (sym off ∙ ap (with_strea
     by_test true on = absurd (false≢true (sym off ∙ stream_old streams n k on))
     by_test false none = none
 
-streamed_apart : (streams : ℕ → Bool) (n i : ℕ) → streams n ≡ false → streams i ≡ true → i ≢ n
-streamed_apart streams n i off on same = false≢true (sym off ∙ ap streams (sym same) ∙ on)
-
 pub end_here : (endpoint : ℕ → Endpoint) (n : ℕ) (x : Endpoint) → with_end endpoint n x n ≡ x
 end_here endpoint n x = ap (λ (b : Bool). if b then x else endpoint n) (eq-eqb n n refl)
 
 pub end_beside : (endpoint : ℕ → Endpoint) (n : ℕ) (x : Endpoint) (k : ℕ) → k ≢ n → with_end endpoint n x k ≡ endpoint k
-end_beside endpoint n x k differs = ap (λ (b : Bool). if b then x else endpoint k) (not_same k n differs)
+end_beside endpoint n x k differs = ap (λ (b : Bool). if b then x else endpoint k) (other_number k n differs)
 
 pub list_here : {A : Type 0} (lists : ℕ → List A) (n : ℕ) → with_none lists n n ≡ []
 list_here {A} lists n = ap (λ (b : Bool). if b then [] else lists n) (eq-eqb n n refl)
 
 pub list_beside : {A : Type 0} (lists : ℕ → List A) (n k : ℕ) → k ≢ n → with_none lists n k ≡ lists k
-list_beside {A} lists n k differs = ap (λ (b : Bool). if b then [] else lists k) (not_same k n differs)
+list_beside {A} lists n k differs = ap (λ (b : Bool). if b then [] else lists k) (other_number k n differs)
 
 -- ---- the endpoints
 
@@ -81,21 +78,6 @@ ends_with_one stream member wider streams endpoint n x more met on high unopened
       each_end streams endpoint n x (λ (h : ℕ) (y : Endpoint). (endpoint l).addr ≡ y.addr → (endpoint l).ep ≡ y.ep → l ≡ h) (λ addr ep. absurd (unopened l streamed addr ep))
       (λ h other also addr ep. k.apart l h streamed also addr ep) j second)
       i first;
-}
-
--- ---- the structures stay
-
-heads_stay : (parts now : StructureSets) (k : ℕ) → now k ≡ parts k → SparesHead parts now k
-heads_stay parts now k same q here = record {
-  queue = q;
-  here = ap (λ (part : Structures). part k) same ∙ here;
-  overlay = record { token = refl; current = refl; offset = refl; endpoint = refl };
-}
-
-elements_stay : (parts now : StructureSets) (k e : ℕ) → now k ≡ parts k → SparesElement parts now k e
-elements_stay parts now k e same = record {
-  element = λ t here. ap (λ (part : Structures). part e) same ∙ here;
-  bytes = λ t here. ap (λ (part : Structures). buffer_of part t) same;
 }
 
 -- ---- the pipes

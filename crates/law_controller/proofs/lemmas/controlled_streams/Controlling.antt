@@ -1,5 +1,7 @@
 -- Each event of the controller over a ring.
-use Rattle.std.proofs.Common.{◌≡◌, ◌≢◌, ℕ, ◌+◌, ◌*◌, ◌/◌, ◌%◌, ◌<◌, Bool, true, false, not, ◌&&◌, if◌then◌else◌, List, length, get_or, slice_index, Option, Some, ap, refl, sym, subst, ◌∙◌, arith}
+use Rattle.std.proofs.Common.{◌≡◌, ◌≢◌, ℕ, ◌+◌, ◌*◌, ◌/◌, ◌%◌, ◌<◌, Bool, true, false, not, ◌&&◌, if◌then◌else◌, List, length, get_or, slice_index, Some, ap, refl, sym, subst, ◌∙◌, arith}
+use Rattle.law_controller.proofs.Common.{over_not_periodic, asynchronous_not_periodic as entered_part, asynchronous_not_periodic, copied_in_hand, periodic_not_asynchronous, over_apart, table_apart, later_empty}
+use Rattle.law_common.proofs.Booleans.{and_false}
 use Rattle.usb_base.specs.declared.packets.Ask.{Ask}
 use Rattle.usb_base.specs.declared.packets.Reply.{Reply}
 use Rattle.word_mem.specs.Memory.{word_at, reaches}
@@ -9,7 +11,6 @@ use Rattle.op_registers.specs.RegisterFile.{RegisterFile}
 use Rattle.op_registers.specs.Events.{after_begin, next_index}
 use Rattle.hc_copy.specs.Overlay.{advanced}
 use Rattle.hc_copy.specs.WriteBack.{moved_by}
-use Rattle.qh_qtd.specs.declared.queue_head.Qh.{Qh}
 use Rattle.async_walk.specs.declared.state.WalkStep.{WalkStep}
 use Rattle.async_walk.specs.declared.state.WalkStep.TheVariants as walks
 use Rattle.async_walk.specs.Rows.{WalkPlace}
@@ -19,10 +20,10 @@ use Rattle.hc_core.specs.declared.controller.MicroframePart.TheVariants.{Over, P
 use Rattle.hc_core.specs.declared.controller.ControllerRow.{ControllerRow}
 use Rattle.hc_core.specs.declared.controller.ControllerRow.TheVariants as rows
 use Rattle.hc_core.specs.Controller.{Content, microframe_row, part_row, enter_row, ring_row, element_address, begun_at, began, time_of, begun_control, entered, walk_place, walk_step, part_after, Walks, HasRow}
-use Rattle.law_structures.specs.lent_structures.Structures.{Structure, QueueHead, Table, HoldsTable, Structures as StructurePart, StructureSets}
+use Rattle.law_structures.specs.lent_structures.Structures.{QueueHead, Table, HoldsTable, Structures as StructurePart, StructureSets}
 use Rattle.law_structures.proofs.lemmas.lent_structures.Names.{put_beside}
 use Rattle.law_structures.proofs.lemmas.lent_structures.Found.{back_beside}
-use Rattle.law_ring.specs.Hand.{Copy, Settlement, settled_queue_of, Hand, Empty, Copied, Settled}
+use Rattle.law_ring.specs.Hand.{Copy, Settlement, settled_queue_of, Hand, Empty, Settled}
 use Rattle.claims_base.specs.Controller.{Base, base_of}
 use Rattle.law_ring.specs.Ring.{IsCopied, IsSettled, IsInHand, IsRing}
 use Rattle.law_ring.specs.Effects.{received_into, Effect, reads, passes, ends, takes, makes, writes_back, AreBytesHeard}
@@ -80,19 +81,9 @@ begun_frameless : (base : Base) (member : ℕ → Bool) (parts : StructureSets) 
 begun_frameless base member parts hand c allowed k (off is) = off is
 begun_frameless base member parts hand c allowed k (empty none before) = empty none (λ part. begun_over base member parts hand c allowed k none)
 
-over_apart : (p : MicroframePart) → p ≡ Over → p ≡ Asynchronous → ⊥
-over_apart p one other = let e : Over ≡ Asynchronous = sym one ∙ other in cc
-
-entered_part : Asynchronous ≡ Periodic → ⊥
-entered_part same = cc
-
 entered_frameless : (base : Base) (words : List ℕ) (c : Content) → IsFrameless base words c → IsFrameless base words (entered c)
 entered_frameless base words c (off is) = off is
 entered_frameless base words c (empty none before) = empty none (λ part. absurd (entered_part part))
-
-and_false : (b : Bool) → (b && false) ≡ false
-and_false true = refl
-and_false false = refl
 
 begun_ring : (base : Base) (member : ℕ → Bool) (parts : StructureSets) (hand : Hand) (c : Content) (allowed : Bool) → IsControlled base member parts hand c → c.control.part ≡ Over → IsControlled base member parts hand (begun_content allowed c)
 begun_ring base member parts hand c allowed k over = record {
@@ -105,15 +96,8 @@ begun_ring base member parts hand c allowed k over = record {
 
 -- ---- an event of the ring's walk
 
--- a copy in hand is of a queue head, and so not of a table
-copied_in_hand : (base : Base) (member : ℕ → Bool) (parts : StructureSets) (hand : Hand) (p : WalkPlace) (c : Copy) → IsRing base member parts hand p → hand ≡ Copied c → IsCopied member parts c
-copied_in_hand base member parts hand p c k is = subst (IsInHand member parts p.walk.reply) is k.in_hand
-
 settled_in_hand : (base : Base) (member : ℕ → Bool) (parts : StructureSets) (hand : Hand) (p : WalkPlace) (c : Copy) (s : Settlement) → IsRing base member parts hand p → hand ≡ Settled c s → IsCopied member parts c
 settled_in_hand base member parts hand p c s k is = let both : IsCopied member parts c × IsSettled c.queue p.walk.reply s = subst (IsInHand member parts p.walk.reply) is k.in_hand in both.0
-
-table_apart : (o : Option Structure) (q : Qh) (ws : List ℕ) → o ≡ Some (QueueHead q) → o ≡ Some (Table ws) → ⊥
-table_apart o q ws head table = cc
 
 apart_of : (member : ℕ → Bool) (parts : StructureSets) (c : Copy) (n : ℕ) (ws : List ℕ) → IsCopied member parts c → parts n n ≡ Some (Table ws) → n ≢ c.at
 apart_of member parts c n ws k here same = table_apart (parts n n) c.queue ws (ap (λ (i : ℕ). parts i i) same ∙ k.here) here
@@ -136,21 +120,6 @@ list_kept transacts base member parts hand p wire after now later _ n ws k (writ
 -- the part goes on, or nothing is in hand any more
 still_part : (p : MicroframePart) → p ≡ Asynchronous → p ≢ Asynchronous → ⊥
 still_part p is differs = differs is
-
-later_empty : {W : Type 0} (transacts : W → Ask → List ℕ → Reply → W → Type 0) (parts : StructureSets) (hand : Hand) (wire after : W) (now : StructureSets) (later : Hand) (kind : WalkStep) (part : MicroframePart) → Effect transacts parts hand wire after now later kind → part ≡ part_after Asynchronous kind → part ≢ Asynchronous → later ≡ Empty
-later_empty transacts parts hand wire after now later _ part (reads r same quiet) is over = absurd (over is)
-later_empty transacts parts hand wire after now later _ part (passes r same quiet) is over = absurd (over is)
-later_empty transacts parts hand wire after now later _ part (ends r same quiet) is over = r.nothing
-later_empty transacts parts hand wire after now later _ part (takes r quiet) is over = absurd (over is)
-later_empty transacts parts hand wire after now later _ part (makes r same) is over = absurd (over is)
-later_empty transacts parts hand wire after now later _ part (writes_back r quiet) is over = absurd (over is)
-
--- it isn't the periodic part after it
-over_not_periodic : Over ≡ Periodic → ⊥
-over_not_periodic same = cc
-
-asynchronous_not_periodic : Asynchronous ≡ Periodic → ⊥
-asynchronous_not_periodic same = cc
 
 not_periodic : (kind : WalkStep) (part : MicroframePart) → part ≡ part_after Asynchronous kind → part ≡ Periodic → ⊥
 not_periodic walks.Ended part is same = over_not_periodic (sym is ∙ same)
@@ -190,9 +159,6 @@ enters base member parts hand c k nothing = record {
 
 -- ---- each row
 
-periodic_not : Periodic ≡ Asynchronous → ⊥
-periodic_not same = cc
-
 -- the row is told by the part
 part_says : (base : Base) (member : ℕ → Bool) (parts : StructureSets) (hand : Hand) (c : Content) → IsControlled base member parts hand c → IsOn base → microframe_row c.registers c.control ≡ part_row c.registers c.control.frame c.control.part
 part_says base member parts hand c k on = ap (λ (b : Bool). if b then part_row c.registers c.control.frame c.control.part else rows.Idle) (ap (λ (b : Base). b.run) k.ring.registers ∙ on.run)
@@ -217,7 +183,7 @@ by_part begins transacts base member parts hand c wire new after Over part k on 
       effect = a_microframe (record { index = next_index c.registers.frame_index; allowed = row.allowed; asked = row.asked; parts_stay = refl; hand_stays = refl });
     })
 by_part begins transacts base member parts hand c wire new after Periodic part k on heard row =
-    let nothing = k.between (λ same. periodic_not (sym part ∙ same)) in
+    let nothing = k.between (λ same. periodic_not_asynchronous (sym part ∙ same)) in
     subst (λ (h : Hand). Controls begins transacts base member parts h wire after new) (sym nothing)
     (walked begins transacts base member parts Empty (entered c) wire new after (enters base member parts hand c k nothing) heard
     (subst (λ (r : ControllerRow). HasRow begins transacts r c wire new after) (periodic_row base member parts hand c k on part) row))

@@ -1,6 +1,7 @@
 -- Each event of the walk, and each of the controller.
-use Rattle.std.proofs.Common.{◌≡◌, ℕ, Bool, true, false, if◌then◌else◌, List, Some, ap, refl, sym, subst, ◌∙◌}
-use Rattle.std.proofs.lemmas.Bool.{false≢true}
+use Rattle.std.proofs.Common.{◌≡◌, ℕ, Bool, true, List, Some, ap, refl, sym, subst, ◌∙◌}
+use Rattle.law_controller.proofs.Common.{copied_in_hand}
+use Rattle.law_ring.proofs.Common.{ended_after}
 use Rattle.usb_base.specs.declared.packets.Ask.{Ask}
 use Rattle.usb_base.specs.declared.packets.Reply.{Reply}
 use Rattle.mem_bytes.specs.Bytes.{place}
@@ -18,9 +19,8 @@ use Rattle.law_structures.proofs.lemmas.lent_structures.Storing.{length-overwrit
 use Rattle.law_structures.specs.lent_structures.WriteBack.{Received, Nothing, Into, IsReceived, received_parts, qtd_after, parts_back}
 use Rattle.law_structures.proofs.lemmas.lent_structures.WrittenBack.{head_is_no_buffer, element_is_no_buffer, element_is_no_head, received_else}
 use Rattle.law_structures.specs.lent_structures.Sound.{IsWorking, IsSoundQueue, IsMember}
-use Rattle.law_structures.specs.lent_structures.Alters.{IsAfter}
-use Rattle.law_structures.proofs.lemmas.lent_structures.Altering.{found_queue, found_element, is_itself}
-use Rattle.law_ring.specs.Hand.{Copy, Settlement, settled_queue_of, Hand, Copied, Settled}
+use Rattle.law_structures.proofs.lemmas.lent_structures.Altering.{found_queue, found_element}
+use Rattle.law_ring.specs.Hand.{Copy, Settlement, settled_queue_of, Hand, Settled}
 use Rattle.claims_base.specs.Controller.{Base}
 use Rattle.law_ring.specs.Ring.{IsCopied, IsSettled, IsInHand, IsRing}
 use Rattle.law_ring.specs.Effects.{received_into, Effect, reads, passes, ends, takes, makes, writes_back, WritesBack}
@@ -44,10 +44,6 @@ settled_current c z = refl
 
 -- ---- a write-back
 
-ended_after : (new : Qh) (t : Qtd) (b : Bool) → new.token.active ≡ b → IsAfter t (if b then t else record t { token = new.token })
-ended_after new t true e = is_itself t
-ended_after new t false e = record { token = new.token; is = refl; active = λ on. absurd (false≢true (sym e ∙ on)) }
-
 received_kept : (parts : StructureSets) (n : ℕ) (c : Qh) (got : List ℕ) (r : Received) → IsReceived (parts n) c got r → KeepsEach parts (received_parts parts n got r)
 received_kept parts n c got Nothing none = kept_each parts
 received_kept parts n c got (Into pages k bs j) into =
@@ -67,9 +63,6 @@ back_kept parts n a q c count got r t same on head element received =
     (kept_put two n c.current (Element (qtd_after x t)) (kept_element (two n) c.current t (qtd_after x t) element_two on (ended_after x t x.token.active refl))))
 
 -- ---- an event of the walk
-
-in_copy : (base : Base) (member : ℕ → Bool) (parts : StructureSets) (hand : Hand) (p : WalkPlace) (c : Copy) → IsRing base member parts hand p → hand ≡ Copied c → IsCopied member parts c
-in_copy base member parts hand p c k is = subst (IsInHand member parts p.walk.reply) is k.in_hand
 
 in_settled : (base : Base) (member : ℕ → Bool) (parts : StructureSets) (hand : Hand) (p : WalkPlace) (c : Copy) (z : Settlement) → IsRing base member parts hand p → hand ≡ Settled c z → IsCopied member parts c × IsSettled c.queue p.walk.reply z
 in_settled base member parts hand p c z k is = subst (IsInHand member parts p.walk.reply) is k.in_hand
@@ -97,7 +90,7 @@ effect_keeps transacts base member parts hand p wire after now later _ k (passes
 effect_keeps transacts base member parts hand p wire after now later _ k (ends r same quiet) = kept_same parts now same
 effect_keeps transacts base member parts hand p wire after now later _ k (makes r same) = kept_same parts now same
 effect_keeps transacts base member parts hand p wire after now later _ k (takes r quiet) =
-    let c = in_copy base member parts hand p r.copy k r.in_hand in
+    let c = copied_in_hand base member parts hand p r.copy k r.in_hand in
     let new : Qh = advanced r.copy.queue r.element r.qtd in
     subst (KeepsEach parts) (sym r.now_is) (kept_put parts r.copy.at r.copy.at (QueueHead new) (kept_head (parts r.copy.at) r.copy.at r.copy.queue new c.here (advanced_bare r.copy.queue r.element r.qtd)))
 effect_keeps transacts base member parts hand p wire after now later _ k (writes_back r quiet) = wrote_kept base member parts hand p now later k r

@@ -1,7 +1,7 @@
 -- Each event of the controller, and each step that spares it, keeps the stream of an OUT endpoint.
-use Rattle.std.proofs.Common.{◌≡◌, ◌≢◌, ℕ, ◌+◌, ◌*◌, ◌-◌, ◌==◌, min, Bool, true, false, if◌then◌else◌, List, [], ◌∷◌, ◌++◌, length, take, drop, Option, Some, ap, sym, subst, ◌∙◌, inl, inr}
-use Rattle.std.specs.Prelude.{◌⊎◌}
+use Rattle.std.proofs.Common.{◌≡◌, ℕ, ◌+◌, ◌*◌, ◌-◌, ◌==◌, min, Bool, true, false, if◌then◌else◌, List, [], ◌∷◌, ◌++◌, length, take, drop, Option, Some, ap, sym, subst, ◌∙◌}
 use Rattle.std.proofs.lemmas.List.{append_assoc, append-nil}
+use Rattle.law_controller.proofs.Common.{apart_still}
 use Rattle.usb_base.specs.declared.packets.Ask.{Ask}
 use Rattle.usb_base.specs.declared.packets.Reply.{Reply}
 use Rattle.qh_qtd.specs.declared.token.Token.{Token}
@@ -11,9 +11,7 @@ use Rattle.hc_copy.specs.Overlay.{buffer_place}
 use Rattle.hc_core.specs.Controller.{Content, microframe_row, HasRow, walk_place}
 use Rattle.law_structures.specs.lent_structures.Structures.{Element, Structures, StructureSets}
 use Rattle.law_structures.specs.lent_structures.Sound.{IsMember}
-use Rattle.law_structures.specs.lent_structures.Alters.{HadElement, Alters}
 use Rattle.law_structures.proofs.lemmas.lent_structures.Altering.{found_queue}
-use Rattle.law_structures.proofs.lemmas.lent_structures.Members.{still_active}
 use Rattle.law_ring.specs.Hand.{Copy, Hand, Empty, Copied, Stale, copied_queue}
 use Rattle.claims_base.specs.Controller.{Base}
 use Rattle.law_ring.specs.Ring.{IsRing}
@@ -30,7 +28,7 @@ use Rattle.law_ring.specs.Sparing.{SameOverlay, HasOverlay, SparesElement}
 use Rattle.law_ring.proofs.SparedSparing.{spared_has_toggle, spared_endpoint}
 use Rattle.law_ring.specs.OutBus.{Taker, IsOutBus, KeepsTakers}
 use Rattle.law_ring.specs.OutPipes.{IsNext, IsUnmoved, OutAgrees, level, ahead, ended, IsOutPipe}
-use Rattle.law_ring.specs.OutPipeLaws.{SendsNone, IsBeside, IsOnlyEndpoint}
+use Rattle.law_ring.specs.OutPipeLaws.{IsBeside, IsOnlyEndpoint}
 use Rattle.law_ring.proofs.Assembling.{each_event_keeps_an_out_pipe}
 use Rattle.law_controller.specs.controlled_streams.Reported.{IsReported}
 use Rattle.law_controller.proofs.lemmas.controlled_streams.Reporting.{a_harvest_adds_to_the_report}
@@ -38,22 +36,12 @@ use Rattle.law_controller.specs.controlled_streams.Outs.{IsOutStream, OutGoesOn,
 
 -- ---- no other queue head asks the endpoint
 
-none_still : (part now : Structures) → Alters part now → SendsNone part → SendsNone now
-none_still part now alters none a u here on =
-    let had : HadElement part a u = alters.element_before a u here in
-    let kept : u ≡ had.qtd = still_active had.qtd u had.after on in
-    subst (λ (t : Qtd). t.token.pid ≢ 0) (sym kept) (none a had.qtd had.here (ap (λ (t : Qtd). t.token.active) (sym kept) ∙ on))
-
 named_still : {W : Type 0} {Beside : Ask → Type 0} {transacts : W → Ask → List ℕ → Reply → W → Type 0} {parts : StructureSets}
     {hand : Hand} {wire after : W} {now : StructureSets} {later : Hand} (n : ℕ) (x : Endpoint)
     → StreamEffect Beside transacts parts hand wire after now later → HasEndpoint parts n x → HasEndpoint now n x
 named_still n x (same told quiet) has = told.endpoint n x has
 named_still n x (aside told ask out reply beside made) has = told.endpoint n x has
 named_still n x (grows m all g) has = subst (λ (ps : StructureSets). HasEndpoint ps n x) (sym all) has
-
-apart_still : (part now : Structures) (x y : Endpoint) → Alters part now → ((x.addr ≡ y.addr → x.ep ≡ y.ep → ⊥)) ⊎ SendsNone part → ((x.addr ≡ y.addr → x.ep ≡ y.ep → ⊥)) ⊎ SendsNone now
-apart_still part now x y alters (inl apart) = inl apart
-apart_still part now x y alters (inr none) = inr (none_still part now alters none)
 
 -- ---- an event of the walk
 

@@ -4,12 +4,12 @@ use Rattle.std.specs.List.{concat}
 use Rattle.std.proofs.lemmas.Bool.{cases_eq, eq-eqb, false≢true}
 use Rattle.std.proofs.lemmas.List.{append_assoc, append-nil}
 use Rattle.std.proofs.lemmas.List.Folds.{concat-append}
+use Rattle.law_common.proofs.Numbers.{other_number}
 use Rattle.usb_base.specs.declared.packets.Ask.{Ask}
 use Rattle.usb_base.specs.declared.packets.Reply.{Reply}
 use Rattle.qh_qtd.specs.declared.qtd.Qtd.{Qtd}
 use Rattle.hc_core.specs.Controller.{Content, walk_place}
 use Rattle.law_structures.specs.lent_structures.Structures.{Element, StructureSets}
-use Rattle.law_structures.proofs.lemmas.lent_structures.Names.{not_same}
 use Rattle.law_structures.specs.lent_structures.Sound.{IsMember}
 use Rattle.law_structures.proofs.lemmas.lent_structures.Altering.{found_element}
 use Rattle.law_ring.specs.Hand.{Hand}
@@ -56,7 +56,7 @@ sum_after {parts = parts} streams acc at more n reported told (grows m all g) on
     ap (λ (b : Bool). reported ++ (told ++ (if b then moved else []))) (eq-eqb m.copy.at n here)
     ∙ some_more reported told moved (acc n) more k.1 sum ∙ ap concat (sym (grown_here acc n more) ∙ ap (λ (i : ℕ). grown acc i more n) (sym (k.0 ∙ here))))
     (λ (differs : m.copy.at ≢ n).
-    ap (λ (b : Bool). reported ++ (told ++ (if b then moved else []))) (not_same m.copy.at n differs)
+    ap (λ (b : Bool). reported ++ (told ++ (if b then moved else []))) (other_number m.copy.at n differs)
     ∙ none_more reported told (acc n) (grown acc at more n) (beside (streams m.copy.at) refl differs) sum) (cases_eq m.copy.at n)
   where
     beside : (b : Bool) → streams m.copy.at ≡ b → m.copy.at ≢ n → grown acc at more n ≡ acc n

@@ -1,10 +1,11 @@
 -- What stays is told as before.
 use Rattle.std.proofs.Common.{◌≡◌, ◌≢◌, ℕ, ◌-◌, ◌<◌, Bool, true, false, if◌then◌else◌, List, [], ◌∷◌, ◌++◌, length, take, Option, Some, ap, refl, sym, subst, ◌∙◌, ⊎_elim, inl, inr, arith}
 use Rattle.std.proofs.lemmas.Bool.{cases_eq, true≢false, eq-eqb}
+use Rattle.law_controller.proofs.Common.{no_bytes}
+use Rattle.law_common.proofs.Numbers.{other_number}
 use Rattle.qh_qtd.specs.declared.qtd.Qtd.{Qtd}
 use Rattle.qh_qtd.specs.declared.queue_head.Qh.{Qh}
-use Rattle.law_structures.specs.lent_structures.Structures.{Structure, QueueHead, Element, Buffer, Structures, StructureSets}
-use Rattle.law_structures.proofs.lemmas.lent_structures.Names.{not_same}
+use Rattle.law_structures.specs.lent_structures.Structures.{QueueHead, Element, Buffer, Structures, StructureSets}
 use Rattle.law_structures.specs.lent_structures.Sound.{buffer_name}
 use Rattle.law_ring.specs.Hand.{Hand}
 use Rattle.law_ring.specs.Effects.{bytes_in, buffer_of}
@@ -58,11 +59,6 @@ sorted_stays order goes [] sorted = tt
 sorted_stays order goes (b ∷ bs) sorted = sorted_by order (goes b) b (staying goes bs) (after_stays order goes b bs sorted.0) (sorted_stays order goes bs sorted.1)
 
 -- ---- one queue head
-
--- what isn't there has no bytes
-no_bytes : (o : Option Structure) → ((pages : List ℕ) (k : ℕ) (bs : List ℕ) → o ≡ Some (Buffer pages k bs) → ⊥) → bytes_in o ≡ []
-no_bytes (Some (Buffer pages k bs)) none = absurd (none pages k bs refl)
-no_bytes _ none = refl
 
 module _ (parts : StructureSets) (n : ℕ) (goes : ℕ → Bool) (off : goes n ≡ false) where
   abbrev now : StructureSets
@@ -162,7 +158,7 @@ reported_are_returned streams order out hand parts acc reported n goes off keep 
     (λ (differs : k ≢ n). record {
       place = was.place;
       told = was.told;
-      accounts = subst (λ (b : Bool). Accounts (order k) was.place (if b then staying goes (out k) else out k) hand now k was.told) (sym (not_same k n differs))
+      accounts = subst (λ (b : Bool). Accounts (order k) was.place (if b then staying goes (out k) else out k) hand now k was.told) (sym (other_number k n differs))
           (beside_accounts (order k) was.place (out k) hand parts n k goes was.told differs was.accounts);
       sum = was.sum;
     }) (cases_eq k n)

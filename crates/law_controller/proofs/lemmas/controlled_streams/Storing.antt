@@ -1,21 +1,19 @@
 -- What the structures are once a qTD was stored in the place of one.
 use Rattle.std.proofs.Common.{◌≡◌, ◌≢◌, ℕ, ◌<◌, ◌⊎◌, true, List, [], ◌∷◌, ◌++◌, length, Some, ap, refl, sym, subst, ◌∙◌, ⊎_elim, inl, inr, arith}
 use Rattle.std.proofs.lemmas.Bool.{cases_eq}
+use Rattle.law_controller.proofs.Common.{lower_one}
+use Rattle.law_structures.proofs.Common.{element_is}
 use Rattle.link_words.specs.Links.{qtd_link_of}
 use Rattle.qh_qtd.specs.declared.qtd.Qtd.{Qtd}
 use Rattle.qh_qtd.specs.declared.queue_head.Qh.{Qh}
 use Rattle.law_structures.specs.lent_structures.Structures.{Structure, QueueHead, Element, Structures, StructureSets}
 use Rattle.law_structures.proofs.lemmas.lent_structures.Names.{put_beside, put_same, put_else, put_found}
 use Rattle.law_structures.specs.lent_structures.Sound.{buffer_name}
-use Rattle.law_structures.proofs.lemmas.lent_structures.Altering.{no_two, same_element}
-use Rattle.law_ring.specs.Hand.{Hand}
+use Rattle.law_structures.proofs.lemmas.lent_structures.Altering.{no_two}
 use Rattle.law_ring.specs.Effects.{bytes_in}
 use Rattle.law_ring.specs.Order.{IsFresh, IsOrdered, IsAmong, AreAfter, IsSorted}
-use Rattle.law_ring.specs.Sparing.{SameHand, SparesHead, SparesElement}
+use Rattle.law_ring.specs.Sparing.{SparesHead, SparesElement}
 use Rattle.law_controller.specs.controlled_streams.Storing.{LeadsLater, stored_parts}
-
-pub same_hand : (hand : Hand) → SameHand hand hand
-same_hand hand = record { bytes = λ n q e t bs. refl; toggle = λ n q. refl }
 
 module _ (parts : StructureSets) (n e : ℕ) (old new : Qtd) (here : parts n e ≡ Some (Element old)) where
   abbrev now : StructureSets
@@ -48,7 +46,7 @@ module _ (parts : StructureSets) (n e : ℕ) (old new : Qtd) (here : parts n e �
 
   pub element_found : (m a : ℕ) (u : Qtd) → now m a ≡ Some (Element u) → ((m ≡ n) × (a ≡ e) × (u ≡ new)) ⊎ (parts m a ≡ Some (Element u))
   element_found m a u is =
-      ⊎_elim (λ (put_there : (m ≡ n) × (a ≡ e) × (Element u ≡ Element new)). inl (put_there.0, put_there.1, same_element u new put_there.2))
+      ⊎_elim (λ (put_there : (m ≡ n) × (a ≡ e) × (Element u ≡ Element new)). inl (put_there.0, put_there.1, element_is u new put_there.2))
       (λ (was : parts m a ≡ Some (Element u)). inr was) (put_found parts n e (Element new) m a (Element u) is)
 
   pub bytes_stay : (m a : ℕ) → bytes_in (now m a) ≡ bytes_in (parts m a)
@@ -96,17 +94,12 @@ after_less : (order : ℕ → ℕ) (e a : ℕ) (before after : List ℕ) → Are
 after_less order e a [] after k = k.1
 after_less order e a (b ∷ bs) after k = (k.0, after_less order e a bs after k.1)
 
-after_each : (order : ℕ → ℕ) (a b : ℕ) (bs : List ℕ) → AreAfter order a bs → IsAmong b bs → order a < order b
-after_each order a b [] k is = absurd is
-after_each order a b (c ∷ cs) k (inl is) = subst (λ (i : ℕ). order a < order i) (sym is) k.0
-after_each order a b (c ∷ cs) k (inr is) = after_each order a b cs k.1 is
-
 not_itself : (order : ℕ → ℕ) (a b : ℕ) → order a < order b → a ≡ b → ⊥
 not_itself order a b less same = let e = ap order same in omega (arith, less, e)
 
 -- none of the others stands there
 pub out_apart : (order : ℕ → ℕ) (e : ℕ) (before after : List ℕ) → IsSorted order (before ++ e ∷ after) → (a : ℕ) → IsAmong a (before ++ after) → a ≢ e
-out_apart order e [] after k a is same = not_itself order e a (after_each order e a after k.0 is) (sym same)
+out_apart order e [] after k a is same = not_itself order e a (lower_one order e a after k.0 is) (sym same)
 out_apart order e (b ∷ bs) after k a (inl is) same = not_itself order b e (after_head order e b bs after k.0) (sym is ∙ same)
 out_apart order e (b ∷ bs) after k a (inr is) same = out_apart order e bs after k.1 a is same
 
@@ -114,10 +107,6 @@ pub among_with : (e : ℕ) (before after : List ℕ) (a : ℕ) → IsAmong a (be
 among_with e [] after a is = inr is
 among_with e (b ∷ bs) after a (inl is) = inl is
 among_with e (b ∷ bs) after a (inr is) = inr (among_with e bs after a is)
-
-pub among_new : (e : ℕ) (before after : List ℕ) → IsAmong e (before ++ e ∷ after)
-among_new e [] after = inl refl
-among_new e (b ∷ bs) after = inr (among_new e bs after)
 
 pub among_either : (e : ℕ) (before after : List ℕ) (a : ℕ) → IsAmong a (before ++ e ∷ after) → (a ≡ e) ⊎ IsAmong a (before ++ after)
 among_either e [] after a (inl is) = inl is

@@ -1,10 +1,12 @@
 -- The streams beside a store.
 use Rattle.std.proofs.Common.{◌≡◌, ◌≢◌, ℕ, ◌-◌, ◌==◌, ◌&&◌, Bool, true, false, if◌then◌else◌, List, [], ◌∷◌, ◌++◌, length, take, Option, Some, ap, refl, sym, subst, ◌∙◌, ⊎_elim, inl, inr, arith}
 use Rattle.std.proofs.lemmas.Bool.{cases_eq, eq-eqb, false≢true}
+use Rattle.law_common.proofs.Numbers.{other_number}
+use Rattle.law_controller.proofs.Common.{same_hand, here_among}
 use Rattle.qh_qtd.specs.declared.qtd.Qtd.{Qtd}
 use Rattle.qh_qtd.specs.declared.queue_head.Qh.{Qh}
 use Rattle.law_structures.specs.lent_structures.Structures.{QueueHead, Element, StructureSets}
-use Rattle.law_structures.proofs.lemmas.lent_structures.Names.{not_same, put_same}
+use Rattle.law_structures.proofs.lemmas.lent_structures.Names.{put_same}
 use Rattle.law_structures.specs.lent_structures.Sound.{buffer_name, IsWorking, IsSoundQueue}
 use Rattle.law_structures.proofs.lemmas.lent_structures.Altering.{found_queue, found_element}
 use Rattle.law_ring.specs.Hand.{Hand}
@@ -20,7 +22,7 @@ use Rattle.law_controller.specs.controlled_streams.Reported.{IsReported}
 use Rattle.law_ring.proofs.SparedSparing.{spared_endpoint, spared_pipes_agree, accounts_are_spared, all_spared}
 use Rattle.law_controller.specs.controlled_streams.Storing.{LeadsLater, out_with, with_out, stored_parts}
 use Rattle.law_controller.specs.controlled_streams.PublishedLaws.{IdleStoreLeavesReports, LastStoreLeavesReports, StoreLeavesPipes}
-use Rattle.law_controller.proofs.lemmas.controlled_streams.Storing.{same_hand, head_stays, bytes_stay, element_found, spares_head, spares_element, ordered_beside, ordered_here, out_apart, among_with, among_new, among_either}
+use Rattle.law_controller.proofs.lemmas.controlled_streams.Storing.{head_stays, bytes_stay, element_found, spares_head, spares_element, ordered_beside, ordered_here, out_apart, among_with, among_either}
 
 module _ (parts : StructureSets) (n e : ℕ) (old new : Qtd) (here : parts n e ≡ Some (Element old)) (hand : Hand) where
   abbrev now : StructureSets
@@ -118,7 +120,7 @@ module _ (parts : StructureSets) (n e : ℕ) (old new : Qtd) (here : parts n e �
               ⊎_elim (λ (name : a ≡ e). ap (λ (x : Qtd). x.token.active) (found_element (now n a) u new is (ap (now n) name ∙ put_same parts n e (Element new))) ∙ on)
               (λ (other : IsAmong a (before ++ after)). k.accounts.published a u other was from) (among_either e before after a among)) (element_found parts n e old new here n a u is);
           complete = λ a u is active.
-              ⊎_elim (λ (put_there : (n ≡ n) × (a ≡ e) × (u ≡ new)). subst (λ (i : ℕ). IsAmong i (before ++ e ∷ after)) (sym put_there.1) (among_new e before after))
+              ⊎_elim (λ (put_there : (n ≡ n) × (a ≡ e) × (u ≡ new)). subst (λ (i : ℕ). IsAmong i (before ++ e ∷ after)) (sym put_there.1) (here_among e before after))
               (λ (was : parts n a ≡ Some (Element u)). among_with e before after a (k.accounts.complete a u was active)) (element_found parts n e old new here n a u is);
           told = all_with before after k.told (told_new off (fresh ∙ ap length (sym (bytes_stay parts n e old new here n (buffer_name new)))) m) spared;
         };
@@ -140,7 +142,7 @@ pub out_here : (out : ℕ → List ℕ) (n : ℕ) (now : List ℕ) → with_out 
 out_here out n now = ap (λ (b : Bool). if b then now else out n) (eq-eqb n n refl)
 
 pub out_beside : (out : ℕ → List ℕ) (n : ℕ) (now : List ℕ) (m : ℕ) → m ≢ n → with_out out n now m ≡ out m
-out_beside out n now m differs = ap (λ (b : Bool). if b then now else out m) (not_same m n differs)
+out_beside out n now m differs = ap (λ (b : Bool). if b then now else out m) (other_number m n differs)
 
 pub last_store_leaves_reports : LastStoreLeavesReports
 last_store_leaves_reports streams order out hand parts acc reported n e old new s on fresh mem k m streamed =

@@ -1,9 +1,10 @@
 -- Each event of the controller writes words of Lent blocks alone, and leaves the first three words of every queue head.
 use Rattle.std.proofs.Common.{◌≡◌, ℕ, ◌%◌, Bool, true, false, not, ◌&&◌, if◌then◌else◌, List, Option, Some, None, ap, refl, sym, subst, ◌∙◌}
 use Rattle.std.specs.Prelude.{IfSome}
+use Rattle.law_controller.proofs.Common.{ring_off, enter_off, goes_to, begun_writes}
 use Rattle.usb_base.specs.declared.packets.Ask.{Ask}
 use Rattle.usb_base.specs.declared.packets.Reply.{Reply}
-use Rattle.word_mem.specs.Memory.{Mem, reaches}
+use Rattle.word_mem.specs.Memory.{reaches}
 use Rattle.op_registers.specs.Events.{after_begin}
 use Rattle.qh_qtd.specs.declared.queue_head.Qh.{Qh}
 use Rattle.qh_qtd.specs.QueueHead.{IsQhInRange}
@@ -16,7 +17,7 @@ use Rattle.hc_core.specs.declared.controller.MicroframePart.{MicroframePart}
 use Rattle.hc_core.specs.declared.controller.MicroframePart.TheVariants.{Over, Periodic, Asynchronous}
 use Rattle.hc_core.specs.declared.controller.ControllerRow.{ControllerRow}
 use Rattle.hc_core.specs.declared.controller.ControllerRow.TheVariants as rows
-use Rattle.hc_core.specs.Controller.{Content, microframe_row, part_row, enter_row, ring_row, element_address, begun_at, began, entered, walk_place, HasRow}
+use Rattle.hc_core.specs.Controller.{Content, microframe_row, part_row, enter_row, element_address, began, entered, walk_place, HasRow}
 use Rattle.law_structures.specs.lent_structures.Structures.{QueueHead, HoldsQueueHead, StructureSets}
 use Rattle.law_structures.specs.lent_structures.Sound.{IsMember}
 use Rattle.law_ring.specs.Hand.{Copy, copied_queue, Settlement, settled_queue_of, Hand, Empty, Copied, Settled, Stale, held_of}
@@ -26,7 +27,7 @@ use Rattle.law_ring.specs.Effects.{AreBytesHeard}
 use Rattle.law_controller.specs.controlled_streams.Control.{IsOn, IsFrameless, off, empty, IsControlled, ControlEffect, a_microframe, a_step, Controls}
 use Rattle.law_controller.proofs.lemmas.controlled_streams.Controlling.{each_event_of_the_controller}
 use Rattle.law_ring.specs.walk_writes.Writes.{WritesLent, IsPlaced}
-use Rattle.law_ring.proofs.lemmas.walk_writes.Lent.{same_writes, refused_writes}
+use Rattle.law_ring.proofs.lemmas.walk_writes.Lent.{same_writes}
 use Rattle.law_ring.proofs.lemmas.walk_writes.Walking.{each_event_writes_lent_words}
 use Rattle.law_controller.specs.controller_writes.Leaving.{LeavesRest}
 use Rattle.law_controller.proofs.lemmas.controller_writes.Fronts.{KeepsFronts, same_fronts, effect_fronts, fronts_stay}
@@ -70,37 +71,22 @@ no_frame base words c false same here frameless part = refl
 no_frame base words c true same here (off is) part = absurd (let e : true ≡ false = sym here ∙ ap (λ (b : Base). b.periodic_enable) same ∙ is in cc)
 no_frame base words c true same here (empty none over) part = ap not (over part)
 
-enter_not_frame : (b : Bool) → enter_row b ≡ rows.Frame → ⊥
-enter_not_frame true is = cc
-enter_not_frame false is = cc
-
-ring_not_frame : (b : Bool) → ring_row b ≡ rows.Frame → ⊥
-ring_not_frame true is = cc
-ring_not_frame false is = cc
-
 periodic_not_frame : (b more : Bool) → more ≡ false → (if more then rows.Frame else enter_row b) ≡ rows.Frame → ⊥
 periodic_not_frame b true none is = cc
-periodic_not_frame b false none is = enter_not_frame b is
+periodic_not_frame b false none is = enter_off b is
 
 part_not_frame : (base : Base) (words : List ℕ) (c : Content) (part : MicroframePart) → base_of c.registers ≡ base → IsFrameless base words c → c.control.part ≡ part → part_row c.registers c.control.frame part ≡ rows.Frame → ⊥
 part_not_frame base words c Over same frameless part is = cc
 part_not_frame base words c Periodic same frameless part is =
     periodic_not_frame c.registers.async_enable (c.registers.periodic_enable && not (is_over c.control.frame))
     (no_frame base words c c.registers.periodic_enable same refl frameless part) is
-part_not_frame base words c Asynchronous same frameless part is = ring_not_frame c.registers.async_enable is
+part_not_frame base words c Asynchronous same frameless part is = ring_off c.registers.async_enable is
 
 run_not_frame : (base : Base) (words : List ℕ) (c : Content) (run : Bool) → base_of c.registers ≡ base → IsFrameless base words c → (if run then part_row c.registers c.control.frame c.control.part else rows.Idle) ≡ rows.Frame → ⊥
 run_not_frame base words c true same frameless is = part_not_frame base words c c.control.part same frameless refl is
 run_not_frame base words c false same frameless is = cc
 
 -- ---- what it writes
-
-goes_to : (m : Mem) (new expected : Content) → new ≡ expected → WritesLent m expected.memory → WritesLent m new.memory
-goes_to m new expected is writes = subst (λ (x : Content). WritesLent m x.memory) (sym is) writes
-
-begun_writes : (c : Content) (b allowed : Bool) → WritesLent c.memory (begun_at b allowed c).memory
-begun_writes c true allowed = same_writes c.memory c.memory refl refl
-begun_writes c false allowed = refused_writes c.memory
 
 row_writes : {W : Type 0} (begins : W → ℕ → Bool → W → Type 0) (transacts : W → Ask → List ℕ → Reply → W → Type 0) (base : Base) (member : ℕ → Bool) (parts : StructureSets) (hand : Hand) (c : Content) (wire : W) (new : Content) (after : W) (row : ControllerRow) → microframe_row c.registers c.control ≡ row → IsControlled base member parts hand c → HasRow begins transacts row c wire new after → WritesLent c.memory new.memory
 row_writes begins transacts base member parts hand c wire new after rows.Idle is k row = goes_to c.memory new c row.0 (same_writes c.memory c.memory refl refl)

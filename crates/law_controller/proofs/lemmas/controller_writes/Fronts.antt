@@ -2,6 +2,8 @@
 use Rattle.std.proofs.Common.{◌≡◌, ◌≢◌, ℕ, ◌+◌, ◌*◌, ◌<◌, Bool, List, take, get_or, Option, Some, ap, refl, sym, subst, ◌∙◌, ⊎_elim, arith}
 use Rattle.std.proofs.lemmas.Bool.{cases_eq}
 use Rattle.std.proofs.lemmas.List.{get_or-take}
+use Rattle.law_controller.proofs.Common.{copied_in_hand}
+use Rattle.law_ring.proofs.Common.{element_no_head}
 use Rattle.usb_base.specs.declared.packets.Ask.{Ask}
 use Rattle.usb_base.specs.declared.packets.Reply.{Reply}
 use Rattle.word_mem.specs.Memory.{Mem, word_at}
@@ -20,7 +22,7 @@ use Rattle.law_structures.proofs.lemmas.lent_structures.Names.{names_differ, put
 use Rattle.law_structures.specs.lent_structures.WriteBack.{Received, Nothing, Into, IsReceived, received_parts, qtd_after, parts_back}
 use Rattle.law_structures.proofs.lemmas.lent_structures.WrittenBack.{head_is_no_buffer, element_is_no_buffer, element_is_no_head, received_else}
 use Rattle.law_structures.proofs.lemmas.lent_structures.Altering.{found_queue}
-use Rattle.law_ring.specs.Hand.{Copy, Settlement, settled_queue_of, Hand, Copied, Settled}
+use Rattle.law_ring.specs.Hand.{Copy, Settlement, settled_queue_of, Hand, Settled}
 use Rattle.claims_base.specs.Controller.{Base}
 use Rattle.law_ring.specs.Ring.{IsCopied, IsSettled, IsInHand, IsRing}
 use Rattle.law_ring.specs.Effects.{received_into, Effect, reads, passes, ends, takes, makes, writes_back}
@@ -61,9 +63,6 @@ head_fronts parts n a q new here front =
     put_fronts parts n a (QueueHead new)
     (λ r found. record { queue = new; here = refl; front = front ∙ ap (λ (x : Qh). take 3 (qh_words x)) (found_queue (parts n a) q r here found) })
 
-element_no_head : (o : Option Structure) (t : Qtd) (q : Qh) → o ≡ Some (Element t) → o ≡ Some (QueueHead q) → ⊥
-element_no_head o t q one other = cc
-
 buffer_no_head : (o : Option Structure) (pages : List ℕ) (k : ℕ) (bs : List ℕ) (q : Qh) → o ≡ Some (Buffer pages k bs) → o ≡ Some (QueueHead q) → ⊥
 buffer_no_head o pages k bs q one other = cc
 
@@ -91,9 +90,6 @@ back_fronts parts n a q c count got r t head element received front =
 
 -- ---- an event of the walk
 
-copied_there : (base : Base) (member : ℕ → Bool) (parts : StructureSets) (hand : Hand) (p : WalkPlace) (c : Copy) → IsRing base member parts hand p → hand ≡ Copied c → IsCopied member parts c
-copied_there base member parts hand p c k is = subst (IsInHand member parts p.walk.reply) is k.in_hand
-
 settled_there : (base : Base) (member : ℕ → Bool) (parts : StructureSets) (hand : Hand) (p : WalkPlace) (c : Copy) (s : Settlement) → IsRing base member parts hand p → hand ≡ Settled c s → IsCopied member parts c
 settled_there base member parts hand p c s k is = let both : IsCopied member parts c × IsSettled c.queue p.walk.reply s = subst (IsInHand member parts p.walk.reply) is k.in_hand in both.0
 
@@ -115,7 +111,7 @@ effect_fronts transacts base member parts hand p wire after now later _ k (passe
 effect_fronts transacts base member parts hand p wire after now later _ k (ends r same quiet) = same_fronts parts now same
 effect_fronts transacts base member parts hand p wire after now later _ k (makes r same) = same_fronts parts now same
 effect_fronts transacts base member parts hand p wire after now later _ k (takes r quiet) =
-    let c = copied_there base member parts hand p r.copy k r.in_hand in
+    let c = copied_in_hand base member parts hand p r.copy k r.in_hand in
     subst (KeepsFronts parts) (sym r.now_is) (head_fronts parts r.copy.at r.copy.at r.copy.queue (advanced r.copy.queue r.element r.qtd) c.here (front_advanced r.copy.queue r.element r.qtd))
 effect_fronts transacts base member parts hand p wire after now later _ k (writes_back r quiet) =
     let c = settled_there base member parts hand p r.copy r.settled k r.in_hand in

@@ -1,15 +1,14 @@
 -- A word beside what is written stays.
 use Rattle.std.proofs.Common.{◌≡◌, ◌≢◌, ℕ, suc, ◌+◌, ◌*◌, ◌/◌, ◌<◌, ◌≤◌, Bool, true, false, if◌then◌else◌, List, [], ◌∷◌, length, take, drop, ap, refl, ◌∙◌, arith}
 use Rattle.std.specs.Prelude.{◌-◌, nat_le}
-use Rattle.std.proofs.lemmas.List.{get_or-set_other, length-take, length-drop}
+use Rattle.std.proofs.lemmas.List.{get_or-set_other, length-take}
+use Rattle.law_structures.proofs.Common.{nine_words}
 use Rattle.word_mem.specs.Memory.{Mem, word_at, reaches, refused, with_word}
 use Rattle.word_mem.specs.Views.{with_words_in, with_words}
 use Rattle.mem_bytes.specs.Bytes.{reached, all_reached, stored, with_bytes}
 use Rattle.mem_bytes.proofs.Frames.{word_at-with_bytes}
 use Rattle.qh_qtd.specs.declared.queue_head.Qh.{Qh}
 use Rattle.qh_qtd.specs.Token.{token_word}
-use Rattle.qh_qtd.specs.QueueHead.{qh_words}
-use Rattle.qh_qtd.proofs.QhLaws.{qh_words-length}
 use Rattle.itd_sitd.specs.declared.sitd.Sitd.{Sitd}
 use Rattle.itd_sitd.specs.Slot.{slot_word}
 use Rattle.itd_sitd.specs.Sitd.{sitd_words}
@@ -43,9 +42,6 @@ words_stay [] at m a apart = refl
 words_stay (v ∷ vs) at m a apart =
     words_stay vs at (with_word m a v) (a + 4) (λ i below same. apart (suc i) (omega (arith, below)) (let e : a + 4 + 4 * i ≡ a + 4 * suc i = omega arith in same ∙ ap (λ (n : ℕ). n / 4) e))
     ∙ word_stays at m a v (λ same. apart 0 (omega arith) (let e : a ≡ a + 4 * 0 = omega arith in same ∙ ap (λ (n : ℕ). n / 4) e))
-
-nine_words : (q : Qh) → length (overlay_words q) ≡ 9
-nine_words q = let l = length-drop 3 (qh_words q) in let n = qh_words-length q in omega (arith, l, n)
 
 overlay_stays : (at : ℕ) (m : Mem) (a : ℕ) (ws : List ℕ) → length ws ≡ 9 → ((i : ℕ) → i < 9 → at / 4 ≢ (a + 12 + 4 * i) / 4) → Stays at m (overlay_written m a ws)
 overlay_stays at m a ws nine apart =

@@ -1,6 +1,7 @@
 -- The controller over a ring alone is the controller over both where no frame has a structure.
 use Rattle.std.proofs.Common.{◌≡◌, ℕ, Bool, true, List, slice_index, Option, Some, None, ap, refl, sym, subst, ◌∙◌}
 use Rattle.std.proofs.lemmas.Bool.{true≢false}
+use Rattle.law_frames.proofs.Common.{none_some}
 use Rattle.link_words.specs.declared.kinds.Link.{Link}
 use Rattle.link_words.specs.declared.kinds.Link.TheVariants as links
 use Rattle.link_words.specs.Links.{link_read, is_end}
@@ -13,20 +14,17 @@ use Rattle.law_structures.specs.lent_structures.Structures.{StructureSets}
 use Rattle.law_ring.specs.Hand.{Hand}
 use Rattle.claims_base.specs.Controller.{Base}
 use Rattle.law_controller.specs.controlled_streams.Control.{AreEmpty, IsFrameless, off, empty, IsControlled}
-use Rattle.law_frames.specs.Met.{Kind, AQueue, AnItd, ASitd, LeadsTo}
+use Rattle.law_frames.specs.Met.{AQueue, AnItd, ASitd, LeadsTo}
 use Rattle.law_frames.specs.FrameHand.{Nothing}
 use Rattle.law_frames.specs.Frame.{IsFrameWalk}
 use Rattle.law_controller.specs.frame_control.Both.{RunsBoth}
 
-none_met : (k : Kind) → None ≡ Some k → ⊥
-none_met k e = cc
-
 -- a link that leads to none ends its chain
 ends : (l : Link) → LeadsTo (λ n. None) l → l ≡ links.End
 ends links.End to = refl
-ends (links.Itd a) to = absurd (none_met AnItd to)
-ends (links.Qh a) to = absurd (none_met AQueue to)
-ends (links.Sitd a) to = absurd (none_met ASitd to)
+ends (links.Itd a) to = absurd (none_some AnItd to)
+ends (links.Qh a) to = absurd (none_some AQueue to)
+ends (links.Sitd a) to = absurd (none_some ASitd to)
 ends (links.Fstn a) to = absurd to
 
 leads : (l : Link) → l ≡ links.End → LeadsTo (λ n. None) l
@@ -68,8 +66,8 @@ a_frameless_list_has_nothing_met base member parts hand c on k = record {
   between = k.between;
   list = k.list;
   elements = λ i below. leads (link_read (slice_index k.list.words i)) (empty_words base k.list.words c on k.frameless i below);
-  members = λ n kind is. absurd (none_met kind is);
-  apart = λ n kind is. absurd (none_met kind is);
+  members = λ n kind is. absurd (none_some kind is);
+  apart = λ n kind is. absurd (none_some kind is);
   walk = λ part. over_walk parts (frame_place c) (over_before base k.list.words c on k.frameless part);
   outside = λ part. refl;
 }

@@ -1,6 +1,7 @@
 -- What an event of the controller does to the streams of all queue heads, by the walk that it is of.
 use Rattle.std.proofs.Common.{◌≡◌, ◌≢◌, ℕ, Bool, List, Option, ap, refl, sym, subst, ◌∙◌, inl, inr}
 use Rattle.std.specs.Prelude.{◌⊎◌}
+use Rattle.law_controller.proofs.Common.{over_not_periodic, asynchronous_not_periodic}
 use Rattle.usb_base.specs.declared.packets.Ask.{Ask}
 use Rattle.usb_base.specs.declared.packets.Reply.{Reply}
 use Rattle.hc_core.specs.declared.controller.MicroframePart.{MicroframePart}
@@ -31,15 +32,6 @@ joined_frame hand (OfQueue c made) none = refl
 joined_frame hand (OfSettled c s made) none = refl
 joined_frame hand (OfItd c) none = none
 joined_frame hand (OfSitd c) none = none
-
-periodic_not_asynchronous : Periodic ≡ Asynchronous → ⊥
-periodic_not_asynchronous e = cc
-
-over_not_periodic : Over ≡ Periodic → ⊥
-over_not_periodic e = cc
-
-asynchronous_not_periodic : Asynchronous ≡ Periodic → ⊥
-asynchronous_not_periodic e = cc
 
 not_periodic : (part other : MicroframePart) → part ≡ other → (other ≡ Periodic → ⊥) → part ≢ Periodic
 not_periodic part other is not same_one = not (sym is ∙ same_one)

@@ -1,13 +1,14 @@
 -- Each event of the controller over a ring and the frames.
 use Rattle.std.proofs.Common.{◌≡◌, ◌≢◌, ℕ, ◌+◌, ◌*◌, ◌/◌, ◌%◌, ◌<◌, Bool, true, false, not, ◌&&◌, if◌then◌else◌, List, length, get_or, slice_index, Option, Some, None, ap, refl, sym, subst, ◌∙◌, ⊎_elim, inl, inr, arith}
 use Rattle.std.proofs.lemmas.Bool.{and_parts, true≢false}
+use Rattle.law_controller.proofs.Common.{over_not_periodic, asynchronous_not_periodic, periodic_not_asynchronous, table_head, over_apart, later_empty}
+use Rattle.law_frames.proofs.Common.{none_some}
 use Rattle.usb_base.specs.declared.packets.Ask.{Ask}
 use Rattle.usb_base.specs.declared.packets.Reply.{Reply}
 use Rattle.word_mem.specs.Memory.{Mem, word_at, reaches}
 use Rattle.word_mem.proofs.Words.{get_or-words_in}
 use Rattle.link_words.specs.declared.kinds.Link.{Link}
 use Rattle.link_words.specs.Links.{link_read}
-use Rattle.qh_qtd.specs.declared.queue_head.Qh.{Qh}
 use Rattle.itd_sitd.specs.declared.itd.Itd.{Itd}
 use Rattle.itd_sitd.specs.declared.sitd.Sitd.{Sitd}
 use Rattle.op_registers.specs.RegisterFile.{RegisterFile}
@@ -22,12 +23,12 @@ use Rattle.hc_core.specs.declared.controller.MicroframePart.TheVariants.{Over, P
 use Rattle.hc_core.specs.declared.controller.ControllerRow.{ControllerRow}
 use Rattle.hc_core.specs.declared.controller.ControllerRow.TheVariants as rows
 use Rattle.hc_core.specs.Controller.{Control, Content, microframe_row, part_row, enter_row, ring_row, element_address, begun_at, began, time_of, begun_control, entered, frame_place, walk_place, frame_step, walk_step, part_after, WalksFrame, Walks, HasRow}
-use Rattle.law_structures.specs.lent_structures.Structures.{Structure, QueueHead, Table, Isochronous, SplitIsochronous, HoldsTable, Structures, StructureSets, Tells}
+use Rattle.law_structures.specs.lent_structures.Structures.{Structure, Table, Isochronous, SplitIsochronous, HoldsTable, Structures, StructureSets, Tells}
 use Rattle.law_structures.specs.lent_structures.Sound.{IsMember}
 use Rattle.law_ring.specs.Hand.{Hand, Empty}
 use Rattle.claims_base.specs.Controller.{Base, base_of}
 use Rattle.law_ring.specs.Ring.{IsInHand, IsRing}
-use Rattle.law_ring.specs.Effects.{Effect, reads, passes, ends, takes, makes, writes_back, AreBytesHeard}
+use Rattle.law_ring.specs.Effects.{AreBytesHeard}
 use Rattle.law_ring.proofs.Ringing.{ring_at, cursor_same}
 use Rattle.law_ring.specs.Streams.{Streams}
 use Rattle.law_ring.proofs.StreamEvents.{each_event_moves_one_stream}
@@ -44,18 +45,6 @@ use Rattle.law_controller.proofs.lemmas.frame_control.Staying.{ring_leaves}
 
 -- ---- parts of a microframe
 
-over_apart : (p : MicroframePart) → p ≡ Over → p ≡ Asynchronous → ⊥
-over_apart p one other = let e : Over ≡ Asynchronous = sym one ∙ other in cc
-
-over_not_periodic : Over ≡ Periodic → ⊥
-over_not_periodic same = cc
-
-periodic_not_asynchronous : Periodic ≡ Asynchronous → ⊥
-periodic_not_asynchronous same = cc
-
-asynchronous_not_periodic : Asynchronous ≡ Periodic → ⊥
-asynchronous_not_periodic same = cc
-
 -- after an event of the ring's walk it isn't the periodic part
 not_periodic : (kind : WalkStep) (part : MicroframePart) → part ≡ part_after Asynchronous kind → part ≢ Periodic
 not_periodic walks.Ended part is same = over_not_periodic (sym is ∙ same)
@@ -63,12 +52,6 @@ not_periodic walks.Fault part is same = over_not_periodic (sym is ∙ same)
 not_periodic _ part is same = asynchronous_not_periodic (sym is ∙ same)
 
 -- ---- whose parts are beside
-
-none_some : (k : Kind) → None ≡ Some k → ⊥
-none_some k e = cc
-
-table_no_queue : (o : Option Structure) (ws : List ℕ) (q : Qh) → o ≡ Some (Table ws) → o ≡ Some (QueueHead q) → ⊥
-table_no_queue o ws q table head = cc
 
 table_no_itd : (o : Option Structure) (ws : List ℕ) (v : Itd) → o ≡ Some (Table ws) → o ≡ Some (Isochronous v) → ⊥
 table_no_itd o ws v table itd = cc
@@ -78,12 +61,12 @@ table_no_sitd o ws v table sitd = cc
 
 -- a table is no structure of a queue head of the ring, and none of one that is met
 table_beside_ring : (member : ℕ → Bool) (parts : StructureSets) (n : ℕ) (ws : List ℕ) → ((a : ℕ) → member a ≡ true → IsMember member a (parts a)) → parts n n ≡ Some (Table ws) → (a : ℕ) → member a ≡ true → n ≢ a
-table_beside_ring member parts n ws members here a on same = table_no_queue (parts n n) ws (members a on).queue here (ap (λ (i : ℕ). parts i i) same ∙ (members a on).here)
+table_beside_ring member parts n ws members here a on same = table_head (parts n n) ws (members a on).queue here (ap (λ (i : ℕ). parts i i) same ∙ (members a on).here)
 
 table_beside_met : (met : ℕ → Option Kind) (parts : StructureSets) (n : ℕ) (ws : List ℕ) → AreMet met parts → parts n n ≡ Some (Table ws) → (a : ℕ) (kind : Kind) → met a ≡ Some kind → n ≢ a
 table_beside_met met parts n ws members here a AQueue on same =
     let k : IsMetQueue met a (parts a) = members a AQueue on in
-    table_no_queue (parts n n) ws k.part_is.queue here (ap (λ (i : ℕ). parts i i) same ∙ k.part_is.here)
+    table_head (parts n n) ws k.part_is.queue here (ap (λ (i : ℕ). parts i i) same ∙ k.part_is.here)
 table_beside_met met parts n ws members here a AnItd on same =
     let k : IsMetItd met a (parts a) = members a AnItd on in
     table_no_itd (parts n n) ws k.itd here (ap (λ (i : ℕ). parts i i) same ∙ k.here)
@@ -101,14 +84,6 @@ abbrev list_stays : (base : Base) (parts now : StructureSets) → FrameList part
 list_stays base parts now k same = record { words = k.words; here = ap (λ (part : Structures). part base.periodic_list_base) same ∙ k.here; size = k.size }
 
 -- ---- an event of the ring's walk
-
-later_empty : {W : Type 0} (transacts : W → Ask → List ℕ → Reply → W → Type 0) (parts : StructureSets) (hand : Hand) (wire after : W) (now : StructureSets) (later : Hand) (kind : WalkStep) (part : MicroframePart) → Effect transacts parts hand wire after now later kind → part ≡ part_after Asynchronous kind → part ≢ Asynchronous → later ≡ Empty
-later_empty transacts parts hand wire after now later _ part (reads r same quiet) is over = absurd (over is)
-later_empty transacts parts hand wire after now later _ part (passes r same quiet) is over = absurd (over is)
-later_empty transacts parts hand wire after now later _ part (ends r same quiet) is over = r.nothing
-later_empty transacts parts hand wire after now later _ part (takes r quiet) is over = absurd (over is)
-later_empty transacts parts hand wire after now later _ part (makes r same) is over = absurd (over is)
-later_empty transacts parts hand wire after now later _ part (writes_back r quiet) is over = absurd (over is)
 
 -- .. from the contents at which it begins; there is nothing in the frames' hand
 ring_goes : {W : Type 0} (begins : W → ℕ → Bool → W → Type 0) (transacts : W → Ask → List ℕ → Reply → W → Type 0) (base : Base) (member : ℕ → Bool) (met : ℕ → Option Kind) (parts : StructureSets) (hand : Hand) (frame before : FrameHand) (c : Content) (old : Control) (wire : W) (new : Content) (after : W)

@@ -1,22 +1,22 @@
 -- A ring and the frames beside it, under a driver's stores, lends and returns of runs.
-use Rattle.std.proofs.Common.{◌≡◌, ◌≢◌, ℕ, ◌+◌, ◌*◌, ◌/◌, ◌%◌, ◌<◌, Bool, true, false, List, [], length, get_or, set, slice_index, Option, Some, None, ap, refl, sym, subst, ◌∙◌, ⊎_elim, arith}
-use Rattle.std.proofs.lemmas.Bool.{cases_eq, true≢false}
+use Rattle.std.proofs.Common.{◌≡◌, ◌≢◌, ℕ, ◌+◌, ◌*◌, ◌/◌, ◌%◌, ◌<◌, Bool, true, false, List, [], length, set, slice_index, Option, Some, None, ap, refl, sym, subst, ◌∙◌, ⊎_elim, arith}
+use Rattle.std.proofs.lemmas.Bool.{cases_eq}
 use Rattle.std.proofs.lemmas.Option.{same_Some}
 use Rattle.std.proofs.lemmas.List.{get_or-set_same, get_or-set_other, length-set}
+use Rattle.law_controller.proofs.Common.{over_not_periodic, table_apart, frame_at, none_table, word_there, over_not_asynchronous}
+use Rattle.law_common.proofs.Numbers.{streamed_apart}
 use Rattle.usb_base.specs.declared.packets.Reply.{Reply}
 use Rattle.word_mem.specs.Memory.{Mem, with_word, word_at, reaches}
-use Rattle.word_mem.proofs.Words.{get_or-words_in}
 use Rattle.link_words.specs.declared.fields.LinkBits.{LinkBits}
 use Rattle.link_words.specs.Layout.{word_of, IsWordInRange}
 use Rattle.link_words.specs.Fields.{link_rows}
 use Rattle.link_words.specs.Links.{link_of, link_read, link_fields, IsLinkWord}
-use Rattle.qh_qtd.specs.declared.queue_head.Qh.{Qh}
 use Rattle.op_registers.specs.RegisterFile.{RegisterFile}
 use Rattle.op_registers.specs.Events.{after_begin}
 use Rattle.async_walk.specs.Rows.{WalkPlace}
-use Rattle.hc_core.specs.declared.controller.MicroframePart.TheVariants.{Over, Periodic, Asynchronous}
+use Rattle.hc_core.specs.declared.controller.MicroframePart.TheVariants.{Over, Periodic}
 use Rattle.hc_core.specs.Controller.{Content, element_address, begun_at, began, time_of, begun_control, frame_place, walk_place}
-use Rattle.law_structures.specs.lent_structures.Structures.{Structure, QueueHead, Table, HoldsTable, Structures, StructureSets, put, without, Holds, Has, Tells}
+use Rattle.law_structures.specs.lent_structures.Structures.{Structure, Table, HoldsTable, Structures, StructureSets, put, without, Holds, Has, Tells}
 use Rattle.law_structures.specs.lent_structures.Changes.{Leaves, IsNew}
 use Rattle.law_structures.proofs.lemmas.lent_structures.Names.{put_beside, put_same, put_else, without_beside, without_else}
 use Rattle.law_structures.proofs.lemmas.lent_structures.Telling.{rest_is_told, new_is_told, another_is_told, fewer_are_told}
@@ -29,7 +29,6 @@ use Rattle.law_ring.proofs.Ringing.{ring_at, cursor_same}
 use Rattle.law_controller.specs.controlled_streams.Control.{FrameList}
 use Rattle.law_frames.specs.Met.{Kind, LeadsTo, IsMetAs}
 use Rattle.law_frames.specs.FrameHand.{FrameHand, Nothing}
-use Rattle.law_frames.specs.Frame.{IsFrame}
 use Rattle.law_controller.specs.frame_control.Both.{LeadToMet, AreMet, AreApart, RunsBoth}
 use Rattle.law_controller.specs.frame_stores.Stores.{HasLink, linked, frame_linked, KeepsMet, LeavesMet, LeavesMembers, IsMetFurther, AreMetAmong, IsFrameAmong}
 use Rattle.law_controller.proofs.lemmas.frame_stores.Linking.{link_told, all_met_linked, link_store_leaves_frame, fields_range, fields_word, fields_lead}
@@ -58,20 +57,11 @@ other_owners_leave_ring base member parts now hand p after k told stays = record
   in_hand = in_hand_left member parts now p.walk.reply hand stays k.in_hand;
 }
 
-off_members : (member : ℕ → Bool) (n i : ℕ) → member n ≡ false → member i ≡ true → i ≢ n
-off_members member n i off on same = true≢false (sym on ∙ ap member same ∙ off)
-
 pub members_put : (member : ℕ → Bool) (parts : StructureSets) (n a : ℕ) (s : Structure) → member n ≡ false → LeavesMembers member parts (put parts n a s)
-members_put member parts n a s off i on = put_beside parts n a s i (off_members member n i off on)
+members_put member parts n a s off i on = put_beside parts n a s i (streamed_apart member n i off on)
 
 members_without : (member : ℕ → Bool) (parts : StructureSets) (n a : ℕ) → member n ≡ false → LeavesMembers member parts (without parts n a)
-members_without member parts n a off i on = without_beside parts n a i (off_members member n i off on)
-
--- ---- the walk of the frames
-
--- in the periodic part
-frame_at : (base : Base) (member : ℕ → Bool) (met : ℕ → Option Kind) (parts : StructureSets) (hand : Hand) (frame : FrameHand) (c : Content) → RunsBoth base member met parts hand frame c → c.control.part ≡ Periodic → IsFrame met parts frame (frame_place c)
-frame_at base member met parts hand frame c k part = record { tells = k.ring.tells; members = k.members; walk = k.walk part }
+members_without member parts n a off i on = without_beside parts n a i (streamed_apart member n i off on)
 
 -- ---- other structures change
 
@@ -94,10 +84,6 @@ unmet_parts_leave_both base member met parts now hand frame c after k told stays
 pub rest_leaves_both : (base : Base) (member : ℕ → Bool) (met : ℕ → Option Kind) (parts : StructureSets) (hand : Hand) (frame : FrameHand) (c : Content) (after : Mem) → RunsBoth base member met parts hand frame c → Leaves c.memory after → RunsBoth base member met parts hand frame (record c { memory = after })
 rest_leaves_both base member met parts hand frame c after k left =
     unmet_parts_leave_both base member met parts parts hand frame c after k (rest_is_told c.memory after parts left k.ring.tells) (λ n on. refl) (λ n kind on. refl) refl
-
--- a table stays where nothing is in its place
-none_table : (o : Option Structure) (words : List ℕ) → o ≡ None → o ≡ Some (Table words) → ⊥
-none_table o words none table = cc
 
 table_put : (parts : StructureSets) (n a : ℕ) (s : Structure) (b : ℕ) (words : List ℕ) → parts n a ≡ None → parts b b ≡ Some (Table words) → put parts n a s b b ≡ parts b b
 table_put parts n a s b words none here =
@@ -168,12 +154,8 @@ link_word_leaves_both base member met parts hand frame c n s v k here has is off
     subst (λ (w : ℕ). RunsBoth base member met (put parts n n (linked l s)) hand (frame_linked n l frame) (record c { memory = with_word c.memory n w })) (fields_word v is)
     (link_store_leaves_both base member met parts hand frame c n s l k here has (fields_range v) off (λ kind on. fields_lead met v (link kind on)))
 
--- an element of the frame list
-head_no_table : (o : Option Structure) (q : Qh) (words : List ℕ) → o ≡ Some (QueueHead q) → o ≡ Some (Table words) → ⊥
-head_no_table o q words head table = cc
-
 table_off : (member : ℕ → Bool) (parts : StructureSets) (n : ℕ) (words : List ℕ) → ((i : ℕ) → member i ≡ true → IsMember member i (parts i)) → parts n n ≡ Some (Table words) → member n ≡ true → ⊥
-table_off member parts n words members here on = let m = members n on in head_no_table (parts n n) m.queue words m.here here
+table_off member parts n words members here on = let m = members n on in table_apart (parts n n) m.queue words m.here here
 
 table_members : (member : ℕ → Bool) (parts : StructureSets) (n : ℕ) (words : List ℕ) (s : Structure) → ((i : ℕ) → member i ≡ true → IsMember member i (parts i)) → parts n n ≡ Some (Table words) → LeavesMembers member parts (put parts n n s)
 table_members member parts n words s members here i on = put_beside parts n n s i (λ same. table_off member parts n words members here (ap member (sym same) ∙ on))
@@ -290,11 +272,6 @@ element_low i = omega arith
 table_there : (m : Mem) (base : Base) (parts : StructureSets) → Tells m parts → (list : FrameList parts base) → HoldsTable m base.periodic_list_base list.words
 table_there m base parts told list = told.each base.periodic_list_base base.periodic_list_base (Table list.words) list.here
 
-word_there : (m : Mem) (base : Base) (parts : StructureSets) (i : ℕ) → Tells m parts → (list : FrameList parts base) → i < 1024 → word_at m (base.periodic_list_base + 4 * i) ≡ slice_index list.words i
-word_there m base parts i told list below =
-    sym (get_or-words_in m.words base.periodic_list_base (length list.words) i (let size = list.size in omega (arith, below, size)))
-    ∙ ap (λ ws. get_or ws i 0) (table_there m base parts told list).words
-
 reached_there : (m : Mem) (base : Base) (parts : StructureSets) (i : ℕ) → Tells m parts → (list : FrameList parts base) → i < 1024 → reaches m (base.periodic_list_base + 4 * i) ≡ true
 reached_there m base parts i told list below = (table_there m base parts told list).lent i (let size = list.size in omega (arith, below, size))
 
@@ -321,12 +298,6 @@ unfolding begun_content
 begin_is_at_element base narrow parts c allowed told is list elements =
     subst (λ (x : Content). IsFrameAmong narrow Nothing (frame_place x)) (sym (began_is base parts c allowed told is list))
     (record { cursor = begun_at_element base narrow parts c told is list elements; in_hand = tt })
-
-over_not_periodic : Over ≡ Periodic → ⊥
-over_not_periodic same = cc
-
-over_not_asynchronous : Over ≡ Asynchronous → ⊥
-over_not_asynchronous same = cc
 
 -- the walk is at the link of an element, with nothing in hand
 begun_both : (base : Base) (member : ℕ → Bool) (met : ℕ → Option Kind) (parts : StructureSets) (hand : Hand) (c : Content) (allowed : Bool) → IsRing base member parts hand (walk_place c) → hand ≡ Empty → (list : FrameList parts base) → LeadToMet met list.words → AreMet met parts → AreApart member met → RunsBoth base member met parts hand Nothing (begun_content allowed c)

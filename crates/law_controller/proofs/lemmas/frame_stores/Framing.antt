@@ -2,6 +2,7 @@
 use Rattle.std.proofs.Common.{◌≡◌, ◌≢◌, ℕ, ◌+◌, ◌*◌, ◌<◌, List, length, set, Option, Some, None, ap, refl, sym, subst, ◌∙◌, ⊎_elim}
 use Rattle.std.proofs.lemmas.Bool.{cases_eq}
 use Rattle.std.proofs.lemmas.Option.{same_Some}
+use Rattle.law_ring.proofs.Common.{none_some}
 use Rattle.usb_base.specs.declared.packets.Reply.{Reply}
 use Rattle.word_mem.specs.Memory.{Mem, with_word}
 use Rattle.link_words.specs.declared.kinds.Link.{Link}
@@ -71,9 +72,6 @@ pub there : (met : ℕ → Option Kind) (n : ℕ) (part : Structures) (kind : Ki
 there met n part AQueue m = record { structure = QueueHead m.part_is.queue; here = m.part_is.here; no_table = λ words e. cc; no_element = λ t e. cc }
 there met n part AnItd m = record { structure = Isochronous m.itd; here = m.here; no_table = λ words e. cc; no_element = λ t e. cc }
 there met n part ASitd m = record { structure = SplitIsochronous m.sitd; here = m.here; no_table = λ words e. cc; no_element = λ t e. cc }
-
-none_some : (o : Option Structure) (s : Structure) → o ≡ None → o ≡ Some s → ⊥
-none_some o s none some = cc
 
 pub apart_from_none : (met : ℕ → Option Kind) (parts : StructureSets) (n a : ℕ) (kind : Kind) → AreMet met parts → met n ≡ Some kind → parts n a ≡ None → n ≢ a
 apart_from_none met parts n a kind members on none same =

@@ -2,6 +2,7 @@
 use Rattle.std.proofs.Common.{◌≡◌, ◌≢◌, ℕ, ◌+◌, ◌*◌, ◌%◌, Bool, true, false, ◌==◌, if◌then◌else◌, List, Option, Some, None, ap, refl, sym, subst, ◌∙◌, ⊎_elim, arith}
 use Rattle.std.proofs.lemmas.Bool.{cases_eq, true≢false, eq-eqb, eqb-true}
 use Rattle.std.proofs.lemmas.Option.{same_Some}
+use Rattle.law_ring.proofs.Common.{relinked_sound, sound_still, settled_linked}
 use Rattle.usb_base.specs.declared.packets.Reply.{Reply}
 use Rattle.word_mem.specs.Memory.{Mem, with_word}
 use Rattle.link_words.specs.declared.kinds.Link.{Link}
@@ -9,9 +10,8 @@ use Rattle.link_words.specs.declared.kinds.Link.TheVariants as links
 use Rattle.link_words.specs.declared.fields.LinkBits.{LinkBits}
 use Rattle.link_words.specs.Layout.{word_of, IsWordInRange, bits, is_set, high_bits}
 use Rattle.link_words.specs.Fields.{link_rows}
-use Rattle.link_words.specs.Links.{typed, link_of, qtd_link_of, link_read, link_fields, IsAligned, IsLinkWord}
+use Rattle.link_words.specs.Links.{typed, link_of, link_read, link_fields, IsAligned, IsLinkWord}
 use Rattle.link_words.proofs.LinkLaws.{link_word-read, word_of-fields, link_of-fields}
-use Rattle.qh_qtd.specs.declared.qtd.Qtd.{Qtd}
 use Rattle.qh_qtd.specs.declared.queue_head.Qh.{Qh}
 use Rattle.qh_qtd.specs.QueueHead.{IsQhInRange}
 use Rattle.qh_qtd.proofs.QhLaws.{qh_words-link}
@@ -24,7 +24,6 @@ use Rattle.itd_sitd.proofs.ItdLaws.{itd_words-link}
 use Rattle.itd_sitd.proofs.SitdLaws.{sitd_words-link}
 use Rattle.mem_bytes.specs.Bytes.{place}
 use Rattle.hc_copy.specs.Overlay.{settled_queue}
-use Rattle.hc_copy.specs.Visits.{next_pointer}
 use Rattle.hc_iso.specs.declared.held.SplitOutcome.{SplitOutcome}
 use Rattle.periodic_walk.specs.declared.state.HeldQueue.{HeldQueue}
 use Rattle.periodic_walk.specs.declared.state.Hand.TheVariants as hands
@@ -35,9 +34,7 @@ use Rattle.law_structures.proofs.lemmas.lent_structures.Writing.{word_put_queue,
 use Rattle.law_structures.specs.lent_structures.Sound.{IsSoundQueue}
 use Rattle.law_structures.specs.lent_structures.Alters.{Alters}
 use Rattle.law_structures.proofs.lemmas.lent_structures.Altering.{no_two, a_queue_head_alters_nothing}
-use Rattle.law_structures.proofs.lemmas.lent_structures.Members.{leads_still}
-use Rattle.law_ring.specs.Hand.{Copy, Settlement}
-use Rattle.law_ring.specs.Ring.{IsSettled}
+use Rattle.law_ring.specs.Hand.{Copy}
 use Rattle.law_ring.specs.Stores.{copy_linked}
 use Rattle.law_ring.proofs.Driving.{copied_same}
 use Rattle.law_frames.specs.Met.{Kind, AQueue, AnItd, ASitd, LeadsTo, IsBuffered, IsMetQueue, IsMetItd, IsMetSitd, IsMetAs}
@@ -80,18 +77,6 @@ link_told m parts n a s l told here has range =
     (first_told m parts n a s l told here (range_linked m a s l (told.each n a s here) has range))
 
 -- ---- what is met is sound
-
-relinked_sound : (part : Structures) (q : Qh) (l : LinkBits) → IsSoundQueue part q → IsSoundQueue part (record q { link = l })
-relinked_sound part q l s = record {
-  rest = s.rest;
-  work = λ on. let w = s.work on in record { element = w.element; here = w.here; published = w.published; goes_on = w.goes_on; pid = w.pid; pages = w.pages; next = w.next; alternate = w.alternate; fewer = w.fewer; place = w.place };
-}
-
-sound_still : (part now : Structures) (q : Qh) → Alters part now → ((a : ℕ) (t : Qtd) → part a ≡ Some (Element t) → now a ≡ Some (Element t)) → IsSoundQueue part q → IsSoundQueue now q
-sound_still part now q alters same s = record {
-  rest = λ off idle. leads_still part now (qtd_link_of (next_pointer q)) alters (s.rest off idle);
-  work = λ on. let w = s.work on in record { element = w.element; here = same q.current w.element w.here; published = w.published; goes_on = w.goes_on; pid = w.pid; pages = w.pages; next = w.next; alternate = w.alternate; fewer = w.fewer; place = w.place };
-}
 
 queue_linked : (met : ℕ → Option Kind) (n : ℕ) (part : Structures) (l : LinkBits) → (m : IsMetQueue met n part) → LeadsTo met (link_of l) → IsMetQueue met n (with_structure part n (linked l (QueueHead m.part_is.queue)))
 queue_linked met n part l m link =
@@ -187,10 +172,6 @@ queue_copy_linked met parts n s l c there k = record {
   link = k.link;
   range = subst IsQhInRange (sym (copied_same n l c)) k.range;
 }
-
-settled_linked : (b : Bool) (l : LinkBits) (q : Qh) (reply : Reply) (s : Settlement) → IsSettled q reply s → IsSettled (if b then record q { link = l } else q) reply s
-settled_linked true l q reply s k = record { works = k.works; host = k.host; bytes = k.bytes; got = k.got; are_bytes = k.are_bytes }
-settled_linked false l q reply s k = k
 
 queue_settled_linked : (b : Bool) (l : LinkBits) (q : Qh) (reply : Reply) (z : QueueSettlement) → IsQueueSettled q reply z → IsQueueSettled (if b then record q { link = l } else q) reply z
 queue_settled_linked b l q reply z k = record { came_to = settled_linked b l q reply (came z) k.came_to; prog = k.prog; tag = k.tag }

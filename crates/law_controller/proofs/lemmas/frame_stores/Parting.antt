@@ -1,13 +1,13 @@
 -- What the part of a queue head that is met owes once a qTD or a buffer is put there, or taken away, as in a ring.
-use Rattle.std.proofs.Common.{◌≡◌, ◌≢◌, ℕ, ◌+◌, ◌*◌, ◌<◌, Bool, true, false, List, set, Option, Some, None, ap, sym, subst, ◌∙◌, ⊎_elim}
-use Rattle.std.proofs.lemmas.Bool.{cases_eq, true≢false}
+use Rattle.std.proofs.Common.{◌≡◌, ◌≢◌, ℕ, ◌+◌, ◌*◌, ◌<◌, Bool, false, List, set, Option, Some, None, ap, sym, subst, ◌∙◌, ⊎_elim}
+use Rattle.std.proofs.lemmas.Bool.{cases_eq}
 use Rattle.std.proofs.lemmas.Option.{same_Some}
-use Rattle.link_words.specs.declared.kinds.QtdLink.{QtdLink}
-use Rattle.link_words.specs.declared.kinds.QtdLink.TheVariants as qtd_links
+use Rattle.law_controller.proofs.Common.{new_own}
+use Rattle.law_ring.proofs.Common.{element_not_buffer, element_not_head, changed_active, nothing_there, leads_without, buffer_beside, leads_beside_buffer}
+use Rattle.law_structures.proofs.Common.{element_is}
 use Rattle.link_words.specs.Links.{qtd_link_of}
 use Rattle.word_mem.specs.Memory.{with_word}
 use Rattle.qh_qtd.specs.declared.qtd.Qtd.{Qtd}
-use Rattle.qh_qtd.specs.declared.queue_head.Qh.{Qh}
 use Rattle.qh_qtd.specs.Qtd.{qtd_words, IsQtdInRange}
 use Rattle.hc_copy.specs.Visits.{next_pointer}
 use Rattle.periodic_walk.specs.Place.{FramePlace}
@@ -15,12 +15,12 @@ use Rattle.hc_core.specs.Controller.{Content}
 use Rattle.law_structures.specs.lent_structures.Structures.{Structure, QueueHead, Element, Buffer, Table, Structures, StructureSets, with_structure, put, without_structure}
 use Rattle.law_structures.proofs.lemmas.lent_structures.Names.{with_here, with_there, gone_there, put_beside, put_else}
 use Rattle.law_structures.proofs.lemmas.lent_structures.Writing.{word_put_element}
-use Rattle.law_structures.specs.lent_structures.Sound.{LeadsOn, element_pages, buffer_name, HasBuffer, IsSoundElement, AreOwn}
-use Rattle.law_structures.proofs.lemmas.lent_structures.Altering.{same_element, found_element, no_two}
+use Rattle.law_structures.specs.lent_structures.Sound.{buffer_name, IsSoundElement, AreOwn}
+use Rattle.law_structures.proofs.lemmas.lent_structures.Altering.{no_two}
 use Rattle.law_ring.specs.Hand.{Hand}
 use Rattle.claims_base.specs.Controller.{Base}
 use Rattle.law_ring.specs.Stores.{IsUnnamed, NamesOne, IsUnled, IsUnused}
-use Rattle.law_ring.proofs.Parting.{Spans, sound_spanned, queue_spanned, some_none, found_with, found_without}
+use Rattle.law_ring.proofs.Parting.{Spans, sound_spanned, queue_spanned, found_with, found_without}
 use Rattle.law_frames.specs.Met.{Kind, IsMetQueue, IsMetAs}
 use Rattle.law_frames.specs.FrameHand.{FrameHand}
 use Rattle.law_frames.specs.Frame.{IsFrame}
@@ -28,14 +28,6 @@ use Rattle.law_controller.specs.frame_control.Both.{AreMet, RunsBoth}
 use Rattle.law_controller.proofs.lemmas.frame_stores.Linking.{met_put}
 use Rattle.law_controller.proofs.lemmas.frame_stores.Framing.{there, keeps_put, other_parts_leave_frame}
 use Rattle.law_controller.proofs.lemmas.frame_stores.Beside.{members_put, other_parts_leave_both}
-
--- ---- kinds
-
-element_not_buffer : (part : Structures) (a b : ℕ) (t : Qtd) (pages : List ℕ) (k : ℕ) (bs : List ℕ) → part a ≡ Some (Element t) → part b ≡ Some (Buffer pages k bs) → b ≢ a
-element_not_buffer part a b t pages k bs element buffer = no_two part b a (Buffer pages k bs) (Element t) buffer element (λ e. cc)
-
-element_not_head : (part : Structures) (a b : ℕ) (t : Qtd) (q : Qh) → part a ≡ Some (Element t) → part b ≡ Some (QueueHead q) → b ≢ a
-element_not_head part a b t q element head = no_two part b a (QueueHead q) (Element t) head element (λ e. cc)
 
 -- ---- an inactive qTD changes
 
@@ -47,34 +39,6 @@ changed_spans part a d new at = record {
   buffer = λ b pages k bs here. with_there part a (Element new) b (element_not_buffer part a b d pages k bs at here) ∙ here;
 }
 
-changed_active : (part : Structures) (a : ℕ) (d new : Qtd) → part a ≡ Some (Element d) → d.token.active ≡ false → (b : ℕ) (t : Qtd) → part b ≡ Some (Element t) → t.token.active ≡ true → with_structure part a (Element new) b ≡ Some (Element t)
-changed_active part a d new at off b t here on =
-    with_there part a (Element new) b
-    (λ same. true≢false (sym on ∙ ap (λ (x : Qtd). x.token.active) (found_element (part b) t d here (ap part same ∙ at)) ∙ off)) ∙ here
-
--- what is at the name of a buffer was there before
-buffer_before : (part : Structures) (a b : ℕ) (new : Qtd) (pages : List ℕ) (k : ℕ) (bs : List ℕ) → with_structure part a (Element new) b ≡ Some (Buffer pages k bs) → part b ≡ Some (Buffer pages k bs)
-buffer_before part a b new pages k bs found =
-    ⊎_elim (λ (is : (b ≡ a) × (Element new ≡ Buffer pages k bs)). cc) (λ (there : (b ≢ a) × (part b ≡ Some (Buffer pages k bs))). there.1)
-    (found_with part a b (Element new) (Buffer pages k bs) found)
-
-new_own : (part : Structures) (a : ℕ) (new : Qtd) → IsUnnamed part a new → AreOwn part → AreOwn (with_structure part a (Element new))
-new_own part a new unnamed own b c t u pages k bs one other same there =
-    let buffer = buffer_before part a (buffer_name t) new pages k bs there in
-    ⊎_elim (λ (first : (b ≡ a) × (Element new ≡ Element t)).
-    let is_new : new ≡ t = same_element new t first.1 in
-    ⊎_elim (λ (second : (c ≡ a) × (Element new ≡ Element u)). first.0 ∙ sym second.0)
-    (λ (second : (c ≢ a) × (part c ≡ Some (Element u))).
-    absurd (unnamed c u second.0 second.1 (sym same ∙ ap buffer_name (sym is_new)) (record { pages = pages; start = k; bytes = bs; here = ap part (ap buffer_name is_new) ∙ buffer })))
-    (found_with part a c (Element new) (Element u) other))
-    (λ (first : (b ≢ a) × (part b ≡ Some (Element t))).
-    ⊎_elim (λ (second : (c ≡ a) × (Element new ≡ Element u)).
-    let is_new : new ≡ u = same_element new u second.1 in
-    absurd (unnamed b t first.0 first.1 (same ∙ ap buffer_name (sym is_new)) (record { pages = pages; start = k; bytes = bs; here = ap part (ap buffer_name is_new ∙ sym same) ∙ buffer })))
-    (λ (second : (c ≢ a) × (part c ≡ Some (Element u))). own b c t u pages k bs first.1 second.1 same buffer)
-    (found_with part a c (Element new) (Element u) other))
-    (found_with part a b (Element new) (Element t) one)
-
 pub met_element_may_change : (met : ℕ → Option Kind) (n : ℕ) (part : Structures) (a : ℕ) (d new : Qtd) → IsMetQueue met n part → part a ≡ Some (Element d) → d.token.active ≡ false → IsSoundElement part new → IsUnnamed part a new → IsMetQueue met n (with_structure part a (Element new))
 met_element_may_change met n part a d new m at off sound unnamed =
     let now = with_structure part a (Element new) in
@@ -85,7 +49,7 @@ met_element_may_change met n part a d new m at off sound unnamed =
         here = with_there part a (Element new) n (element_not_head part a n d m.part_is.queue at m.part_is.here) ∙ m.part_is.here;
         sound = queue_spanned part now m.part_is.queue spans (changed_active part a d new at off) m.part_is.sound;
         elements = λ b t found.
-            ⊎_elim (λ (is : (b ≡ a) × (Element new ≡ Element t)). subst (IsSoundElement now) (same_element new t is.1) (sound_spanned part now new spans sound))
+            ⊎_elim (λ (is : (b ≡ a) × (Element new ≡ Element t)). subst (IsSoundElement now) (element_is new t is.1) (sound_spanned part now new spans sound))
             (λ (there : (b ≢ a) × (part b ≡ Some (Element t))). sound_spanned part now t spans (m.part_is.elements b t there.1)) (found_with part a b (Element new) (Element t) found);
         own = new_own part a new unnamed m.part_is.own;
       };
@@ -93,9 +57,6 @@ met_element_may_change met n part a d new m at off sound unnamed =
     }
 
 -- ---- a qTD or a buffer is added at a name that nothing has
-
-nothing_there : (part : Structures) (a b : ℕ) (s : Structure) → part a ≡ None → part b ≡ Some s → b ≢ a
-nothing_there part a b s none some same = some_none (part b) s (ap part same ∙ none) some
 
 added_spans : (part : Structures) (a : ℕ) (s : Structure) → part a ≡ None → Spans part (with_structure part a s)
 added_spans part a s none = record {
@@ -113,7 +74,7 @@ met_element_may_come met n part a new m none sound unnamed =
         here = with_there part a (Element new) n (nothing_there part a n (QueueHead m.part_is.queue) none m.part_is.here) ∙ m.part_is.here;
         sound = queue_spanned part now m.part_is.queue spans (λ b t here on. with_there part a (Element new) b (nothing_there part a b (Element t) none here) ∙ here) m.part_is.sound;
         elements = λ b t found.
-            ⊎_elim (λ (is : (b ≡ a) × (Element new ≡ Element t)). subst (IsSoundElement now) (same_element new t is.1) (sound_spanned part now new spans sound))
+            ⊎_elim (λ (is : (b ≡ a) × (Element new ≡ Element t)). subst (IsSoundElement now) (element_is new t is.1) (sound_spanned part now new spans sound))
             (λ (there : (b ≢ a) × (part b ≡ Some (Element t))). sound_spanned part now t spans (m.part_is.elements b t there.1)) (found_with part a b (Element new) (Element t) found);
         own = new_own part a new unnamed m.part_is.own;
       };
@@ -151,20 +112,9 @@ met_buffer_may_come met n part a pages k bs m none one_name =
 
 -- ---- a qTD or a buffer is taken away
 
-leads_without : (part : Structures) (a : ℕ) (l : QtdLink) → l ≢ qtd_links.To a → LeadsOn part l → LeadsOn (without_structure part a) l
-leads_without part a qtd_links.End other leads = tt
-leads_without part a (qtd_links.To b) other leads = record { qtd = leads.qtd; here = gone_there part a b (λ same. other (ap qtd_links.To same)) ∙ leads.here }
-
 fewer_own : (part : Structures) (a : ℕ) → AreOwn part → AreOwn (without_structure part a)
 fewer_own part a own b c t u pages k bs one other same there =
     own b c t u pages k bs (found_without part a b (Element t) one).1 (found_without part a c (Element u) other).1 same (found_without part a (buffer_name t) (Buffer pages k bs) there).1
-
-buffer_beside : (part : Structures) (a : ℕ) (d : Qtd) (t : Qtd) (n : ℕ) → part a ≡ Some (Element d) → HasBuffer part t n → HasBuffer (without_structure part a) t n
-buffer_beside part a d t n at has = record {
-  bytes = has.bytes;
-  here = gone_there part a (buffer_name t) (element_not_buffer part a (buffer_name t) d (element_pages t) t.offset has.bytes at has.here) ∙ has.here;
-  size = has.size;
-}
 
 pub met_element_may_go : (met : ℕ → Option Kind) (n : ℕ) (part : Structures) (a : ℕ) (d : Qtd) → (m : IsMetQueue met n part) → part a ≡ Some (Element d) → IsUnled part m.part_is.queue a → IsMetQueue met n (without_structure part a)
 met_element_may_go met n part a d m at unled = record {
@@ -198,13 +148,6 @@ met_element_may_go met n part a d m at unled = record {
     own = fewer_own part a m.part_is.own;
   };
   link = m.link;
-}
-
-leads_beside_buffer : (part : Structures) (a : ℕ) (pages : List ℕ) (k : ℕ) (bs : List ℕ) (l : QtdLink) → part a ≡ Some (Buffer pages k bs) → LeadsOn part l → LeadsOn (without_structure part a) l
-leads_beside_buffer part a pages k bs qtd_links.End at leads = tt
-leads_beside_buffer part a pages k bs (qtd_links.To b) at leads = record {
-  qtd = leads.qtd;
-  here = gone_there part a b (λ same. element_not_buffer part b a leads.qtd pages k bs leads.here at (sym same)) ∙ leads.here;
 }
 
 pub met_buffer_may_go : (met : ℕ → Option Kind) (n : ℕ) (part : Structures) (a : ℕ) (pages : List ℕ) (k : ℕ) (bs : List ℕ) → IsMetQueue met n part → part a ≡ Some (Buffer pages k bs) → IsUnused part a → IsMetQueue met n (without_structure part a)

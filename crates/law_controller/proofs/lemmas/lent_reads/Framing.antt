@@ -1,6 +1,7 @@
 -- Each event of the walk of a frame's chain is the same over memories that are the same in Lent blocks.
 use Rattle.std.proofs.Common.{◌≡◌, ℕ, ◌+◌, Bool, true, false, if◌then◌else◌, List, Option, None, Some, ap, refl, sym, subst, ◌∙◌}
 use Rattle.std.specs.Prelude.{IfSome}
+use Rattle.law_common.proofs.Booleans.{either}
 use Rattle.usb_base.specs.declared.packets.Ask.{Ask}
 use Rattle.usb_base.specs.declared.packets.Reply.{Reply}
 use Rattle.word_mem.specs.Memory.{Mem}
@@ -51,7 +52,7 @@ use Rattle.periodic_walk.specs.Itd.{itd_row, itd_effect, itd_step, wrote_at as i
 use Rattle.periodic_walk.specs.Sitd.{sitd_row, sitd_effect, sitd_step, wrote_step as sitd_wrote_step, wrote_at as sitd_wrote_at, wrote as sitd_wrote, writing as sitd_writing}
 use Rattle.periodic_walk.specs.Rows.{step_at, step_of, effect_at, effect_of, Leads}
 use Rattle.law_controller.specs.aligned_copies.Aligned.{IsQueueAligned, IsHandAligned, IsFrameAligned}
-use Rattle.law_controller.proofs.lemmas.aligned_copies.Reading.{pointer_aligned, either}
+use Rattle.law_controller.proofs.lemmas.aligned_copies.Reading.{pointer_aligned}
 use Rattle.claims_base.specs.Controller.{IsSameWhereLent}
 use Rattle.law_controller.proofs.lemmas.lent_reads.Same.{same_both, read_same, AreSameRead, AreSameWritten}
 use Rattle.law_controller.proofs.lemmas.lent_reads.Structures.{head_same, element_same, itd_same, sitd_same, head_was_same, element_was_same, itd_was_same, sitd_was_same, overlay_after_same, back_same, itd_back_same, sitd_back_same}

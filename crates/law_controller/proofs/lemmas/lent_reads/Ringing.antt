@@ -1,6 +1,7 @@
 -- Each event of the ring's walk is the same over memories that are the same in Lent blocks.
 use Rattle.std.proofs.Common.{◌≡◌, ℕ, ◌+◌, ◌%◌, Bool, true, false, if◌then◌else◌, List, Option, None, Some, ap, refl, sym, subst, ◌∙◌}
 use Rattle.std.specs.Prelude.{IfSome}
+use Rattle.law_controller.proofs.Common.{cursor_aligned}
 use Rattle.usb_base.specs.declared.packets.Ask.{Ask}
 use Rattle.usb_base.specs.declared.packets.Reply.{Reply}
 use Rattle.word_mem.specs.Memory.{Mem}
@@ -25,8 +26,6 @@ use Rattle.hc_copy.specs.WriteBack.{received}
 use Rattle.hc_copy.specs.Transacting.{call_in}
 use Rattle.async_walk.specs.declared.rows.WalkRow.{WalkRow}
 use Rattle.async_walk.specs.declared.rows.WalkRow.TheVariants as rows
-use Rattle.async_walk.specs.declared.state.Cursor.{Cursor}
-use Rattle.async_walk.specs.declared.state.Cursor.TheVariants as cursors
 use Rattle.async_walk.specs.declared.state.WalkStep.TheVariants as steps
 use Rattle.async_walk.specs.Walk.{IsCursor}
 use Rattle.async_walk.specs.Naks.{may_work}
@@ -57,10 +56,6 @@ visit_row_same m n left q true false false l k is = take_row_same m n l k is
 held_row_same : (m n : Mem) (left : ℕ) (q : Qh) (o : Option Outcome) → IsSameWhereLent m n → IsQueueAligned q → held_row n left q o ≡ held_row m left q o
 held_row_same m n left q None k is = visit_row_same m n left q (may_work q) q.token.halted q.token.active (qtd_link_of (next_pointer q)) k (pointer_aligned q is)
 held_row_same m n left q (Some s) k is = refl
-
-cursor_aligned : (r : RegisterFile) (c : Cursor) → r.async_list_address % 32 ≡ 0 → IsCursor c → IsAligned (cursor_link r c)
-cursor_aligned r cursors.Start start is = start
-cursor_aligned r (cursors.At l) start is = is
 
 abbrev over : WalkPlace → Mem → WalkPlace
 over p n = record p { memory = n }

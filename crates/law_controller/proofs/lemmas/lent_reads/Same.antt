@@ -2,15 +2,17 @@
 use Rattle.std.proofs.Common.{◌≡◌, ◌≢◌, ℕ, zero, suc, ◌+◌, ◌*◌, ◌/◌, ◌%◌, ◌<◌, Bool, true, false, if◌then◌else◌, List, [], ◌∷◌, length, take, set, get_or, slice_get, ap, refl, sym, subst, ◌∙◌, ⊎_elim, arith}
 use Rattle.std.specs.Prelude.{◌&&◌, ◌-◌, ◌^◌, nat_le, min}
 use Rattle.std.specs.List.{list_all, prefix_len}
-use Rattle.std.proofs.lemmas.Bool.{cases_eq, false≢true}
+use Rattle.std.proofs.lemmas.Bool.{cases_eq}
 use Rattle.std.proofs.lemmas.List.{get_or-set_other, length-set, length-take}
 use Rattle.std.proofs.lemmas.List.Sums.{prefix_len_passes, prefix_len-le-length}
+use Rattle.law_common.proofs.Booleans.{and_right}
+use Rattle.law_ring.proofs.Common.{reached_by}
 use Rattle.word_mem.specs.Memory.{Mem, word_at, reaches, is_lent, refused, with_word}
 use Rattle.word_mem.specs.Views.{words_in, words_at, with_words_in, with_words}
 use Rattle.word_mem.specs.declared.blocks.BlockState.{BlockState}
 use Rattle.mem_bytes.specs.Bytes.{bytes_of, word_of, place, places, put_byte, put_bytes, reached, all_reached, AreReached, stored, with_bytes, bytes_at}
 use Rattle.mem_bytes.proofs.Frames.{bytes_at_same}
-use Rattle.mem_bytes.proofs.Reach.{length-places, get_or-places, all_reached_no}
+use Rattle.mem_bytes.proofs.Reach.{length-places, get_or-places}
 use Rattle.hc_copy.specs.Buffer.{Reading, Writing, size_of, placed, bytes_read, bytes_written}
 use Rattle.hc_copy.specs.WriteBack.{then_write}
 use Rattle.claims_base.specs.Controller.{IsSameWhereLent}
@@ -88,10 +90,6 @@ pub all_alike : (m n : Mem) (pages : List ℕ) (at count : ℕ) → IsSameWhereL
 unfolding all_reached
 all_alike m n pages at count k = ap (λ (ss : List BlockState). list_all (λ a. is_lent (slice_get ss (a / 32))) (places pages at count)) k.states
 
-reached_by : (m : Mem) (pages : List ℕ) (k n i : ℕ) (b : Bool) → i < n → all_reached m pages k n ≡ true → reaches m (place pages (k + i)) ≡ b → reaches m (place pages (k + i)) ≡ true
-reached_by m pages k n i true below all is = is
-reached_by m pages k n i false below all is = absurd (false≢true (sym (all_reached_no m pages k n i below is) ∙ all))
-
 pub all_are_reached : (m : Mem) (pages : List ℕ) (k n : ℕ) → all_reached m pages k n ≡ true → AreReached m pages k n
 all_are_reached m pages k n all i below = reached_by m pages k n i (reaches m (place pages (k + i))) below all refl
 
@@ -144,10 +142,6 @@ pub record AreSameRead (x y : Reading) : Type 0 where
   pub all : y.all ≡ x.all
   pub memory : IsSameWhereLent x.memory y.memory
   pub bytes : x.all ≡ true → y.bytes ≡ x.bytes
-
-and_right : (a b : Bool) → (a && b) ≡ true → b ≡ true
-and_right true b is = is
-and_right false b is = absurd (false≢true is)
 
 pub read_same : (m n : Mem) (pages : List ℕ) (from count : ℕ) → IsSameWhereLent m n → AreSameRead (bytes_read pages from count m) (bytes_read pages from count n)
 read_same m n pages from count k =

@@ -3,6 +3,7 @@ use Rattle.std.proofs.Common.{◌≡◌, ℕ, ◌+◌, ◌*◌, ◌%◌, ◌<◌
 use Rattle.std.specs.Prelude.{◌&&◌}
 use Rattle.std.specs.Result.{result_ok}
 use Rattle.std.proofs.lemmas.Bool.{cases_lt, false≢true}
+use Rattle.law_common.proofs.Booleans.{and_both}
 use Rattle.word_mem.specs.Memory.{Mem, reaches, refused, with_word}
 use Rattle.word_mem.specs.Views.{words_at, with_words}
 use Rattle.qh_qtd.specs.declared.queue_head.Qh.{Qh}
@@ -36,10 +37,6 @@ there_same x y true true is same = same refl
 there_same x y false false is same = refl
 there_same x y true false is same = absurd (false≢true is)
 there_same x y false true is same = absurd (false≢true (sym is))
-
-and_both : (a b : Bool) → (a && b) ≡ true → (a ≡ true) × (b ≡ true)
-and_both true b is = (refl, is)
-and_both false b is = absurd (false≢true is)
 
 in_blocks : (m : Mem) (a i count : ℕ) → a % 32 ≡ 0 → count ≤ 16 → (reaches m a && reaches m (a + 32)) ≡ true → i < count → reaches m (a + 4 * i) ≡ true
 in_blocks m a i count aligned most both below =

@@ -1,16 +1,16 @@
 -- Each event of the controller writes words of Lent blocks alone.
-use Rattle.std.proofs.Common.{◌≡◌, ℕ, Bool, true, false, List, Option, Some, None, sym, subst}
+use Rattle.std.proofs.Common.{ℕ, Bool, List, Option, Some, None}
 use Rattle.std.specs.Prelude.{IfSome}
+use Rattle.law_controller.proofs.Common.{goes_to, begun_writes}
 use Rattle.usb_base.specs.declared.packets.Ask.{Ask}
 use Rattle.usb_base.specs.declared.packets.Reply.{Reply}
-use Rattle.word_mem.specs.Memory.{Mem, reaches}
+use Rattle.word_mem.specs.Memory.{reaches}
 use Rattle.op_registers.specs.Events.{after_begin}
 use Rattle.hc_copy.specs.declared.held.Held.{Held}
 use Rattle.hc_core.specs.declared.controller.ControllerRow.{ControllerRow}
 use Rattle.hc_core.specs.declared.controller.ControllerRow.TheVariants as rows
-use Rattle.hc_core.specs.Controller.{Content, microframe_row, element_address, begun_at, began, entered, frame_place, walk_place, HasRow}
+use Rattle.hc_core.specs.Controller.{Content, microframe_row, element_address, began, entered, frame_place, walk_place, HasRow}
 use Rattle.law_ring.specs.walk_writes.Writes.{WritesLent, IsPlaced}
-use Rattle.law_ring.proofs.lemmas.walk_writes.Lent.{refused_writes}
 use Rattle.law_ring.proofs.lemmas.walk_writes.Walking.{unchanged, each_event_writes_lent_words}
 use Rattle.law_controller.specs.lent_writes.Hands.{IsCopyPlaced, ArePlaced}
 use Rattle.law_controller.proofs.lemmas.lent_writes.Framing.{frame_writes}
@@ -18,13 +18,6 @@ use Rattle.law_controller.proofs.lemmas.lent_writes.Framing.{frame_writes}
 held_placed : (o : Option Held) → IfSome o IsCopyPlaced → IfSome o IsPlaced
 held_placed None is = tt
 held_placed (Some h) is = record { at = is.at; current = λ outcome settled. is.current }
-
-goes_to : (m : Mem) (new expected : Content) → new ≡ expected → WritesLent m expected.memory → WritesLent m new.memory
-goes_to m new expected is writes = subst (λ (x : Content). WritesLent m x.memory) (sym is) writes
-
-begun_writes : (c : Content) (b allowed : Bool) → WritesLent c.memory (begun_at b allowed c).memory
-begun_writes c true allowed = unchanged c.memory
-begun_writes c false allowed = refused_writes c.memory
 
 row_writes : {W : Type 0} (begins : W → ℕ → Bool → W → Type 0) (transacts : W → Ask → List ℕ → Reply → W → Type 0) (c : Content) (wire : W) (new : Content) (after : W) (row : ControllerRow) → ArePlaced c.control → HasRow begins transacts row c wire new after → WritesLent c.memory new.memory
 row_writes begins transacts c wire new after rows.Idle k row = goes_to c.memory new c row.0 (unchanged c.memory)

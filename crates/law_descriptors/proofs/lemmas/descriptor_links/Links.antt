@@ -1,6 +1,6 @@
 -- What stands first in a frame has a link word for a name.
-use Rattle.std.proofs.Common.{◌≡◌, ℕ, ◌+◌, ◌*◌, ◌%◌, ◌<◌, Bool, true, false, List, [], ◌∷◌, Option, Some, None, if◌then◌else◌, ap, sym, subst, arith}
-use Rattle.std.specs.List.{AllByRecursion}
+use Rattle.std.proofs.Common.{◌≡◌, ℕ, ◌+◌, ◌*◌, ◌%◌, ◌<◌, Bool, true, false, Option, Some, None, if◌then◌else◌, ap, sym, subst, arith}
+use Rattle.law_frame_list.proofs.Common.{first_next}
 use Rattle.drv_chains.specs.declared.members.Descriptor.{Descriptor}
 use Rattle.drv_chains.specs.declared.members.Member.{Member}
 use Rattle.drv_chains.specs.declared.members.Member.TheVariants.{Once, Each}
@@ -14,14 +14,10 @@ use Rattle.drv_periodic_table.specs.Linking.{may_link}
 use Rattle.drv_table.specs.DriverContent.{DriverContent}
 use Rattle.law_driver.specs.listed_members.Members.{IsListed, IsQueueOf, IsStanding}
 use Rattle.law_frame_list.proofs.lemmas.list_spread.Spreading.{queue_there, standing_there}
-use Rattle.law_frame_list.specs.list_closed.Closed.{IsInFrame, IsNext}
+use Rattle.law_frame_list.specs.list_closed.Closed.{IsNext}
 use Rattle.law_frame_list.proofs.lemmas.list_closed.Chained.{chain_in_frame}
 use Rattle.law_frame_list.proofs.lemmas.list_queued.Leading.{new_next}
 use Rattle.law_descriptors.specs.Written.{AreLinks}
-
-first_next : (s : Schedule) (f : ℕ) (ms : List Member) → AllByRecursion (IsInFrame s f) ms → IsNext s f (first_of ms)
-first_next s f [] all = tt
-first_next s f (m ∷ ms) all = all.0
 
 named_small : (split : Bool) (b n : ℕ) → n ≡ (if split then 32 * b + 4 else 32 * b) → n % 32 < 8
 named_small true b n is = omega (arith, is)

@@ -1,7 +1,9 @@
 -- Write-backs keep parts: of a queue head and its qTD, of an iTD, and of a siTD, each after received bytes.
-use Rattle.std.proofs.Common.{◌≡◌, ◌≢◌, ℕ, zero, suc, ◌+◌, ◌<◌, ◌≤◌, Bool, true, false, if◌then◌else◌, List, [], ◌∷◌, slice_set, Some, None, ap, refl, sym, ◌∙◌, arith}
+use Rattle.std.proofs.Common.{◌≡◌, ℕ, zero, suc, ◌+◌, ◌<◌, ◌≤◌, true, false, List, [], ◌∷◌, slice_set, Some, None, ap, refl, sym, ◌∙◌, arith}
 use Rattle.std.specs.Prelude.{slice_index_or}
 use Rattle.std.proofs.lemmas.Bool.{false≢true}
+use Rattle.law_ring.proofs.Common.{ended_after}
+use Rattle.law_frames.proofs.Common.{received_else, itd_is_no_buffer, sitd_is_no_buffer}
 use Rattle.usb_base.specs.declared.packets.Reply.{Reply}
 use Rattle.mem_bytes.specs.Bytes.{place}
 use Rattle.qh_qtd.specs.declared.qtd.Qtd.{Qtd}
@@ -15,15 +17,14 @@ use Rattle.hc_iso.specs.declared.held.HeldItd.{HeldItd}
 use Rattle.hc_iso.specs.declared.held.SplitOutcome.{SplitOutcome}
 use Rattle.hc_iso.specs.Sitd.{sitd_place, moved_sitd, missed_sitd, missed_copy}
 use Rattle.hc_iso.specs.WriteBack.{done_slot, moved_by}
-use Rattle.law_structures.specs.lent_structures.Structures.{Structure, QueueHead, Element, Buffer, Isochronous, SplitIsochronous, Structures, StructureSets, put}
+use Rattle.law_structures.specs.lent_structures.Structures.{QueueHead, Element, Buffer, Isochronous, SplitIsochronous, Structures, StructureSets, put}
 use Rattle.law_structures.specs.lent_structures.Changes.{relinked, overwritten}
 use Rattle.law_structures.proofs.lemmas.lent_structures.Names.{names_differ, put_else}
 use Rattle.law_structures.proofs.lemmas.lent_structures.Storing.{length-overwritten}
 use Rattle.law_structures.specs.lent_structures.WriteBack.{Received, Nothing, Into, IsReceived, received_parts, qtd_after, parts_back}
 use Rattle.law_structures.proofs.lemmas.lent_structures.WrittenBack.{head_is_no_buffer, element_is_no_buffer, element_is_no_head}
 use Rattle.law_structures.specs.lent_structures.Sound.{IsWorking, IsSoundQueue}
-use Rattle.law_structures.specs.lent_structures.Alters.{IsAfter}
-use Rattle.law_structures.proofs.lemmas.lent_structures.Altering.{found_element, is_itself}
+use Rattle.law_structures.proofs.lemmas.lent_structures.Altering.{found_element}
 use Rattle.law_ring.specs.Hand.{Copy, Settlement, settled_queue_of}
 use Rattle.law_controller.specs.controlled_streams.Kept.{bare}
 use Rattle.law_frames.specs.FrameHand.{QueueSettlement, settled_in, SitdCopy}
@@ -39,13 +40,6 @@ received_keeps : (parts : StructureSets) (n : ℕ) (pages : List ℕ) (from : �
 received_keeps parts n pages from got Nothing none = parts_itself parts parts refl
 received_keeps parts n pages from got (Into into k bs j) is =
     parts_put parts n (place into k) (Buffer into k (overwritten bs j got)) (buffer_keeps (parts n) (place into k) into k bs (overwritten bs j got) is.buffer (length-overwritten bs j got is.fits))
-
--- what isn't the buffer is as before
-received_there : (parts : StructureSets) (n : ℕ) (pages : List ℕ) (from : ℕ) (got : List ℕ) (r : Received) (b : ℕ) (s : Structure) → AreReceivedAt (parts n) pages from got r → parts n b ≡ Some s
-    → ((ps : List ℕ) (k : ℕ) (bs : List ℕ) → s ≢ Buffer ps k bs) → received_parts parts n got r n b ≡ Some s
-received_there parts n pages from got Nothing b s none here other = here
-received_there parts n pages from got (Into into k bs j) b s is here other =
-    put_else parts n (place into k) (Buffer into k (overwritten bs j got)) b (names_differ (parts n) b (place into k) s (Buffer into k bs) here is.buffer (other into k bs)) ∙ here
 
 -- those of a queue head are received so too
 received_at : (part : Structures) (c : Qh) (got : List ℕ) (r : Received) → IsReceived part c got r → AreReceivedAt part (pages_of c) (buffer_place c) got r
@@ -81,10 +75,6 @@ published part q t sound on here =
     let w : IsWorking part q = sound.work on in
     ap (λ (x : Qtd). x.token.active) (found_element (part q.current) t w.element here w.here) ∙ w.published
 
-ended_after : (new : Qh) (t : Qtd) (b : Bool) → new.token.active ≡ b → IsAfter t (if b then t else record t { token = new.token })
-ended_after new t true e = is_itself t
-ended_after new t false e = record { token = new.token; is = refl; active = λ on. absurd (false≢true (sym e ∙ on)) }
-
 pub back_keeps : (parts : StructureSets) (n a : ℕ) (q c : Qh) (count : ℕ) (got : List ℕ) (r : Received) (t : Qtd) → bare (relinked q (moved c count)) ≡ bare q → t.token.active ≡ true → parts n a ≡ Some (QueueHead q)
     → parts n c.current ≡ Some (Element t) → IsReceived (parts n) c got r → KeepsParts parts (parts_back parts n a q c count got r t)
 back_keeps parts n a q c count got r t same on head element received =
@@ -92,8 +82,8 @@ back_keeps parts n a q c count got r t same on head element received =
     let at : AreReceivedAt (parts n) (pages_of c) (buffer_place c) got r = received_at (parts n) c got r received in
     let one : StructureSets = received_parts parts n got r in
     let two : StructureSets = put one n a (QueueHead (relinked q x)) in
-    let head_there : one n a ≡ Some (QueueHead q) = received_there parts n (pages_of c) (buffer_place c) got r a (QueueHead q) at head (head_is_no_buffer q) in
-    let element_there : one n c.current ≡ Some (Element t) = received_there parts n (pages_of c) (buffer_place c) got r c.current (Element t) at element (element_is_no_buffer t) in
+    let head_there : one n a ≡ Some (QueueHead q) = received_else parts n (pages_of c) (buffer_place c) got r a (QueueHead q) at head (head_is_no_buffer q) in
+    let element_there : one n c.current ≡ Some (Element t) = received_else parts n (pages_of c) (buffer_place c) got r c.current (Element t) at element (element_is_no_buffer t) in
     let element_two : two n c.current ≡ Some (Element t) =
     put_else one n a (QueueHead (relinked q x)) c.current (names_differ (parts n) c.current a (Element t) (QueueHead q) element head (element_is_no_head t q)) ∙ element_there in
     parts_both parts one (parts_back parts n a q c count got r t) (received_keeps parts n (pages_of c) (buffer_place c) got r at)
@@ -118,26 +108,20 @@ done_off h = refl
 pub itd_after_back : (v : Itd) (h : HeldItd) → IsItdAfter v (record v { slots = slice_set v.slots h.number (done_slot h) })
 itd_after_back v h = record { same = refl; active = λ u on. one_slot v.slots h.number u (done_slot h) (done_off h) on }
 
-itd_is_no_buffer : (v : Itd) (pages : List ℕ) (k : ℕ) (bs : List ℕ) → Isochronous v ≢ Buffer pages k bs
-itd_is_no_buffer v pages k bs same = cc
-
 pub itd_back_keeps : (parts : StructureSets) (n : ℕ) (pages : List ℕ) (from : ℕ) (got : List ℕ) (r : Received) (v w : Itd) → parts n n ≡ Some (Isochronous v) → IsItdAfter v w → AreReceivedAt (parts n) pages from got r
     → KeepsParts parts (put (received_parts parts n got r) n n (Isochronous w))
 itd_back_keeps parts n pages from got r v w here after received =
     let one : StructureSets = received_parts parts n got r in
-    let there : one n n ≡ Some (Isochronous v) = received_there parts n pages from got r n (Isochronous v) received here (itd_is_no_buffer v) in
+    let there : one n n ≡ Some (Isochronous v) = received_else parts n pages from got r n (Isochronous v) received here (itd_is_no_buffer v) in
     parts_both parts one (put one n n (Isochronous w)) (received_keeps parts n pages from got r received) (parts_put one n n (Isochronous w) (itd_keeps (one n) n v w there after))
 
 -- ---- a siTD (4.12.3)
-
-sitd_is_no_buffer : (v : Sitd) (pages : List ℕ) (k : ℕ) (bs : List ℕ) → SplitIsochronous v ≢ Buffer pages k bs
-sitd_is_no_buffer v pages k bs same = cc
 
 pub sitd_back_keeps : (parts : StructureSets) (n : ℕ) (pages : List ℕ) (from : ℕ) (got : List ℕ) (r : Received) (v w : Sitd) → parts n n ≡ Some (SplitIsochronous v) → IsSitdAfter v w → AreReceivedAt (parts n) pages from got r
     → KeepsParts parts (put (received_parts parts n got r) n n (SplitIsochronous w))
 sitd_back_keeps parts n pages from got r v w here after received =
     let one : StructureSets = received_parts parts n got r in
-    let there : one n n ≡ Some (SplitIsochronous v) = received_there parts n pages from got r n (SplitIsochronous v) received here (sitd_is_no_buffer v) in
+    let there : one n n ≡ Some (SplitIsochronous v) = received_else parts n pages from got r n (SplitIsochronous v) received here (sitd_is_no_buffer v) in
     parts_both parts one (put one n n (SplitIsochronous w)) (received_keeps parts n pages from got r received) (parts_put one n n (SplitIsochronous w) (sitd_keeps (one n) n v w there after))
 
 -- its transaction was made, where the bytes that were left lie in two pages

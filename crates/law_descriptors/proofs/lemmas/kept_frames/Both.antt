@@ -1,20 +1,15 @@
 -- Each event over both walks keeps structures, and what it leaves of memory.
-use Rattle.std.proofs.Common.{◌≡◌, ◌≢◌, ℕ, Bool, true, false, List, Option, ap, sym, ◌∙◌}
+use Rattle.std.proofs.Common.{◌≡◌, ◌≢◌, ℕ, Bool, true, false, List, ap, sym, ◌∙◌}
 use Rattle.std.proofs.lemmas.Bool.{false≢true}
+use Rattle.law_controller.proofs.Common.{frame_at}
 use Rattle.usb_base.specs.declared.packets.Ask.{Ask}
 use Rattle.usb_base.specs.declared.packets.Reply.{Reply}
-use Rattle.hc_core.specs.Controller.{Content, frame_place, walk_place}
-use Rattle.hc_core.specs.declared.controller.MicroframePart.TheVariants.{Periodic}
+use Rattle.hc_core.specs.Controller.{frame_place, walk_place}
 use Rattle.law_controller.proofs.lemmas.lent_writes.Controlling.{each_event_of_the_controller_writes_lent_words}
 use Rattle.law_controller.proofs.lemmas.aligned_copies.Controlling.{aligned_placed}
 use Rattle.law_structures.specs.lent_structures.Structures.{StructureSets}
-use Rattle.law_ring.specs.Hand.{Hand}
-use Rattle.claims_base.specs.Controller.{Base}
 use Rattle.law_controller.specs.controlled_streams.Control.{a_microframe, a_step}
-use Rattle.law_frames.specs.Met.{Kind}
-use Rattle.law_frames.specs.FrameHand.{FrameHand}
-use Rattle.law_frames.specs.Frame.{IsFrame}
-use Rattle.law_controller.specs.frame_control.Both.{RunsBoth, of_ring, of_frame}
+use Rattle.law_controller.specs.frame_control.Both.{of_ring, of_frame}
 use Rattle.law_frames.proofs.Leaving.{frame_leaves}
 use Rattle.law_controller.proofs.lemmas.frame_control.Staying.{ring_leaves}
 use Rattle.law_descriptors.proofs.lemmas.frame_keeps.Framing.{frame_keeps}
@@ -22,16 +17,11 @@ use Rattle.law_descriptors.proofs.lemmas.frame_keeps.Ringing.{control_keeps}
 use Rattle.law_descriptors.proofs.lemmas.frame_keeps.Words.{kept_is_left}
 use Rattle.law_descriptors.specs.kept_frames.Laws.{EventsKeepBoth, EventsLeaveWords, RingLeavesFrames, FramesLeaveRing}
 
--- the walk of the frames is at a frame in the periodic part
-frame_there : (base : Base) (member : ℕ → Bool) (met : ℕ → Option Kind) (parts : StructureSets) (hand : Hand) (frame : FrameHand) (c : Content) → RunsBoth base member met parts hand frame c → c.control.part ≡ Periodic
-    → IsFrame met parts frame (frame_place c)
-frame_there base member met parts hand frame c k part = record { tells = k.ring.tells; members = k.members; walk = k.walk part }
-
 pub events_keep_both : {W : Type 0} (begins : W → ℕ → Bool → W → Type 0) (transacts : W → Ask → List ℕ → Reply → W → Type 0) → EventsKeepBoth begins transacts
 events_keep_both begins transacts base member met parts hand frame c wire after now later frame_later k (of_ring effect nothing) =
     control_keeps begins transacts base member parts hand c wire after now later k.ring effect
 events_keep_both begins transacts base member met parts hand frame c wire after now later frame_later k (of_frame w) =
-    frame_keeps transacts met parts frame (frame_place c) wire after now frame_later w.kind (frame_there base member met parts hand frame c k w.part) w.effect
+    frame_keeps transacts met parts frame (frame_place c) wire after now frame_later w.kind (frame_at base member met parts hand frame c k w.part) w.effect
 
 pub events_leave_words : {W : Type 0} (begins : W → ℕ → Bool → W → Type 0) (transacts : W → Ask → List ℕ → Reply → W → Type 0) → EventsLeaveWords begins transacts
 events_leave_words begins transacts base member met parts hand frame c wire new after k aligned row e =

@@ -1,5 +1,6 @@
 -- A driver whose descriptors stand beside its queues is told, and what is kept of structures keeps each descriptor.
-use Rattle.std.proofs.Common.{◌≡◌, ℕ, ◌*◌, Bool, true, false, Option, Some, None, ap, refl, sym, subst, ◌∙◌}
+use Rattle.std.proofs.Common.{◌≡◌, ℕ, ◌*◌, Bool, true, false, Some, ap, refl, sym, subst, ◌∙◌}
+use Rattle.law_ring.proofs.Common.{none_some}
 use Rattle.drv_table.specs.DriverContent.{DriverContent}
 use Rattle.claims_driver.specs.Owners.{TransferRuns, views_of}
 use Rattle.law_structures.specs.lent_structures.Structures.{Structure, Structures, StructureSets}
@@ -16,9 +17,6 @@ use Rattle.law_descriptors.specs.list_beside.Laws.{DescribedIsTold, DescribedAre
 has_descriptor : (split : Bool) (part : Structures) (n : ℕ) → HasDescriptor split part n → IsDescriptor (part n)
 has_descriptor true part n k = a_sitd k.sitd k.here
 has_descriptor false part n k = an_itd k.itd k.here
-
-none_some : (o : Option Structure) (s : Structure) → o ≡ None → o ≡ Some s → ⊥
-none_some o s none some = cc
 
 queues_within : (d : DriverContent) (descs parts : StructureSets) (b : Bool) (n a : ℕ) (s : Structure) → IsDescribing d descs parts → owns descs n ≡ b → parts n a ≡ Some s → both descs parts n a ≡ Some s
 queues_within d descs parts true n a s k on here = absurd (none_some (parts n a) s (descriptors_apart d descs parts k n a on) here)

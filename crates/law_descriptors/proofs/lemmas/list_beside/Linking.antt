@@ -4,6 +4,7 @@ use Rattle.std.specs.Prelude.{◌⊎◌}
 use Rattle.std.specs.List.{AllByRecursion}
 use Rattle.std.proofs.lemmas.Bool.{false≢true, and_parts, cases_Bool}
 use Rattle.std.proofs.lemmas.Option.{same_Some}
+use Rattle.law_common.proofs.Booleans.{not_on}
 use Rattle.word_mem.specs.Runs.{Run}
 use Rattle.word_mem.specs.Memory.{Mem, word_at, is_lent, reaches}
 use Rattle.mem_runs.specs.declared.slots.Slot.{Slot}
@@ -83,10 +84,6 @@ record IsHead (o : Option Structure) : Type 0 where
 head_of : (o : Option Structure) → option_map sort_of o ≡ Some OfQueueHead → IsHead o
 head_of (Some (QueueHead q)) is = record { queue = q; here = refl }
 head_of _ is = absurd cc
-
-not_on : (b : Bool) → not b ≡ true → b ≡ false
-not_on true e = absurd (false≢true e)
-not_on false e = refl
 
 -- ---- the members of a driver's list
 

@@ -1,6 +1,8 @@
 -- Both sides of the pipe of an OUT endpoint agree where an event of either walk tells nothing otherwise, whichever queue head it is of.
 use Rattle.std.proofs.Common.{◌≡◌, ◌≢◌, ℕ, ◌-◌, min, Bool, true, false, not, if◌then◌else◌, List, [], take, drop, Option, Some, ap, refl, sym, subst, ◌∙◌, ⊎_elim, arith}
 use Rattle.std.proofs.lemmas.Bool.{cases_eq, eq-eqb, false≢true}
+use Rattle.law_queues.proofs.Common2.{silent_bytes}
+use Rattle.law_ring.proofs.Common.{by_none}
 use Rattle.usb_base.specs.declared.packets.Ask.{Ask}
 use Rattle.usb_base.specs.declared.packets.Pid.TheVariants as Packets
 use Rattle.usb_base.specs.declared.packets.Reply.{Reply}
@@ -13,11 +15,10 @@ use Rattle.async_walk.specs.declared.state.WalkStep.{WalkStep}
 use Rattle.periodic_walk.specs.Place.{FramePlace}
 use Rattle.hc_core.specs.Controller.{Content, walk_place, frame_place}
 use Rattle.law_structures.specs.lent_structures.Settles.{is_moved}
-use Rattle.law_structures.specs.lent_structures.Structures.{Structure, QueueHead, Element, Structures, StructureSets, put, with_structure}
+use Rattle.law_structures.specs.lent_structures.Structures.{Structure, QueueHead, Element, Structures, StructureSets, with_structure}
 use Rattle.law_structures.specs.lent_structures.Changes.{relinked}
-use Rattle.law_structures.proofs.lemmas.lent_structures.Names.{put_beside, put_here, with_here, with_there}
-use Rattle.law_structures.specs.lent_structures.WriteBack.{CanBeWritten, Nothing as Nowhere, qtd_after, parts_back}
-use Rattle.law_structures.proofs.lemmas.lent_structures.WrittenBack.{between_element}
+use Rattle.law_structures.proofs.lemmas.lent_structures.Names.{put_beside, with_here, with_there}
+use Rattle.law_structures.specs.lent_structures.WriteBack.{CanBeWritten, Nothing as Nowhere, parts_back}
 use Rattle.law_structures.specs.lent_structures.Sound.{buffer_name, IsWorking, IsSoundQueue}
 use Rattle.law_structures.specs.lent_structures.Alters.{HadElement, Alters}
 use Rattle.law_structures.proofs.lemmas.lent_structures.Altering.{found_queue, found_element}
@@ -35,7 +36,6 @@ use Rattle.law_ring.proofs.Written.{WritesCopy, can, beside, head_now, ring_writ
 use Rattle.law_ring.specs.OutBus.{Taker}
 use Rattle.law_ring.specs.OutPipes.{IsOut, IsNext, IsUnmoved, OutAgrees, level, ahead, ended}
 use Rattle.law_ring.proofs.Transporting.{carried}
-use Rattle.law_ring.proofs.OutPipeAgreeing.{moved_none}
 use Rattle.law_ring.proofs.OutPipeEvents.{unmoved_made}
 use Rattle.law_controller.specs.controlled_streams.Control.{ControlEffect, a_microframe, a_step}
 use Rattle.law_frames.specs.Met.{Kind}
@@ -66,17 +66,6 @@ unread part a u b was is =
     ⊎_elim (λ (same_one : b ≡ a). ap (λ (i : ℕ). bytes_in (with_structure part a u i)) same_one ∙ ap bytes_in (with_here part a u) ∙ is
     ∙ sym (ap (λ (i : ℕ). bytes_in (part i)) same_one ∙ was))
     (λ (differs : b ≢ a). ap bytes_in (with_there part a u b differs)) (cases_eq b a)
-
-silent_bytes : (parts : StructureSets) (n : ℕ) (q c : Qh) (count : ℕ) (t : Qtd) (a : ℕ) → CanBeWritten parts n n q c [] Nowhere t
-    → bytes_in (parts_back parts n n q c count [] Nowhere t n a) ≡ bytes_in (parts n a)
-silent_bytes parts n q c count t a can_be =
-    let head : Structure = QueueHead (relinked q (moved c count)) in
-    let mid : StructureSets = put parts n n head in
-    ap (λ (part : Structures). bytes_in (part a)) (put_here mid n c.current (Element (qtd_after (moved c count) t)))
-    ∙ unread (mid n) c.current (Element (qtd_after (moved c count) t)) a
-    (ap bytes_in (between_element parts n n q c (moved c count) [] Nowhere t can_be)) refl
-    ∙ ap (λ (part : Structures). bytes_in (part a)) (put_here parts n n head)
-    ∙ unread (parts n) n head a (ap bytes_in can_be.copy.head) refl
 
 -- ---- both sides agree still
 
@@ -184,7 +173,7 @@ module _ (parts : StructureSets) (hand : Hand) (now : StructureSets) (later : Ha
         let t0_is : w0.element ≡ next.element = found_element (parts n q.current) w0.element next.element w0.here next.here in
         let t1_is : w1.element ≡ next.element = kept ∙ found_element (parts n q.current) had.qtd next.element
         (ap (parts n) (sym w.written.current) ∙ had.here) next.here in
-        let zero = moved_none z.outcome still in
+        let zero = by_none z.outcome still in
         let left = settled.host.left in
         let total_is = w.written.total in
         let total : new.token.total ≡ q.token.total = omega (arith, zero, left, total_is) in

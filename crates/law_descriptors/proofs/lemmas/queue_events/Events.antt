@@ -1,5 +1,6 @@
 -- The laws.
 use Rattle.std.proofs.Common.{◌≡◌, ℕ, ◌*◌, Bool, true, false, List, Option, Some, None, ap, refl, sym, subst, ◌∙◌, arith}
+use Rattle.law_common.proofs.Lists.{all_more}
 use Rattle.usb_base.specs.declared.packets.Ask.{Ask}
 use Rattle.usb_base.specs.declared.packets.Reply.{Reply}
 use Rattle.qh_qtd.specs.declared.queue_head.Qh.{Qh}
@@ -19,7 +20,6 @@ use Rattle.law_descriptors.specs.Both.{both, parts_now}
 use Rattle.law_frames.proofs.lemmas.framed_fronts.Fronts.{links_rise}
 use Rattle.law_queues.specs.mended_heads.Owed.{StalledQueue}
 use Rattle.law_queues.specs.mended_heads.Waiting.{StandsHalted, AreAllPublished, Waits}
-use Rattle.law_queues.proofs.lemmas.mended_heads.Content.{all_on}
 use Rattle.law_queues.proofs.lemmas.fed_events.Beside.{fed_stays_beside, last_stays_beside}
 use Rattle.law_queues.proofs.lemmas.standing_fronts.Walking.{stands_on}
 use Rattle.law_queues.proofs.lemmas.standing_fronts.Reaching.{reaches_on}
@@ -143,7 +143,7 @@ both_keeps_mends begins transacts base member met descs parts hand frame c wire 
   are = record {
     mends = m.are.mends;
     owed = m.are.owed;
-    wait = all_on (λ (s : StalledQueue). Waits s parts out) (λ (s : StalledQueue). Waits s (parts_now descs parts now) out) m.queues
+    wait = all_more (λ (s : StalledQueue). Waits s parts out) (λ (s : StalledQueue). Waits s (parts_now descs parts now) out) m.queues
         (λ s w. waits_on begins transacts base member met descs parts hand frame c wire after now later frame_later k effect out s w) m.are.wait;
     apart = m.are.apart;
   };

@@ -3,20 +3,19 @@ use Rattle.std.proofs.Common.{◌≡◌, ◌≢◌, ℕ, ◌-◌, ◌==◌, Bool
 use Rattle.std.specs.Prelude.{◌⊎◌}
 use Rattle.std.proofs.lemmas.Bool.{cases_eq, eq-eqb}
 use Rattle.std.proofs.lemmas.List.{append-nil}
+use Rattle.law_controller.proofs.Common.{apart_still}
+use Rattle.law_common.proofs.Numbers.{other_number}
 use Rattle.usb_base.specs.declared.packets.Ask.{Ask}
 use Rattle.usb_base.specs.declared.packets.Reply.{Reply}
-use Rattle.qh_qtd.specs.declared.qtd.Qtd.{Qtd}
 use Rattle.qh_qtd.specs.declared.queue_head.Qh.{Qh}
 use Rattle.transactions.specs.Asks.{pinged}
 use Rattle.hc_copy.specs.Overlay.{buffer_place}
 use Rattle.hc_copy.specs.Planning.{transaction_of}
 use Rattle.hc_copy.specs.Transacting.{call_in}
 use Rattle.law_structures.specs.lent_structures.Structures.{QueueHead, Structures, StructureSets}
-use Rattle.law_structures.proofs.lemmas.lent_structures.Names.{not_same}
 use Rattle.law_structures.specs.lent_structures.Sound.{IsWorking, IsSoundQueue}
-use Rattle.law_structures.specs.lent_structures.Alters.{HadElement, Alters}
+use Rattle.law_structures.specs.lent_structures.Alters.{Alters}
 use Rattle.law_structures.proofs.lemmas.lent_structures.Altering.{found_queue}
-use Rattle.law_structures.proofs.lemmas.lent_structures.Members.{still_active}
 use Rattle.law_ring.specs.Hand.{Settlement, Hand}
 use Rattle.law_ring.specs.QueueParts.{IsQueuePart}
 use Rattle.law_ring.specs.Effects.{buffer_of, AreSent, Asks, came_to}
@@ -34,17 +33,6 @@ use Rattle.law_descriptors.specs.queue_events.OutPipes.{OutPipeGoesOn}
 use Rattle.law_descriptors.proofs.lemmas.queue_events.Carrying.{Carries}
 
 -- ---- no other queue head asks the endpoint
-
-pub none_still : (part now : Structures) → Alters part now → SendsNone part → SendsNone now
-none_still part now alters none a u here on =
-    let had : HadElement part a u = alters.element_before a u here in
-    let kept : u ≡ had.qtd = still_active had.qtd u had.after on in
-    subst (λ (t : Qtd). t.token.pid ≢ 0) (sym kept) (none a had.qtd had.here (ap (λ (t : Qtd). t.token.active) (sym kept) ∙ on))
-
-apart_still : (part now : Structures) (x y : Endpoint) → Alters part now → ((x.addr ≡ y.addr → x.ep ≡ y.ep → ⊥)) ⊎ SendsNone part
-    → ((x.addr ≡ y.addr → x.ep ≡ y.ep → ⊥)) ⊎ SendsNone now
-apart_still part now x y alters (inl apart) = inl apart
-apart_still part now x y alters (inr none) = inr (none_still part now alters none)
 
 module _ {W : Type 0} (transacts : W → Ask → List ℕ → Reply → W → Type 0) (stream : ℕ → ℕ → Bool) (taker : W → ℕ → ℕ → Option Taker)
     (bus : IsOutBus transacts stream taker) (near : ℕ → Bool) (parts : StructureSets) (hand : Hand) (wire after : W)
@@ -168,7 +156,7 @@ module _ {W : Type 0} (transacts : W → Ask → List ℕ → Reply → W → Ty
         (subst (IsSoundQueue (parts m.copy.at)) (found_queue (parts m.copy.at m.copy.at) mk.queue q mk.here m.here) mk.sound).work
         m.works in
         out_only q.token.pid false (q.token.pid == 1) (transaction_of m.kind q).split (pinged m.kind q.token.ping)
-        (not_same q.token.pid 0 (λ (i : q.token.pid ≡ 0). none q.current w0.element w0.here w0.published (sym w0.pid ∙ i))) refl refl
+        (other_number q.token.pid 0 (λ (i : q.token.pid ≡ 0). none q.current w0.element w0.here w0.published (sym w0.pid ∙ i))) refl refl
         asked.token
 
     other_pipe : near m.copy.at ≡ true → n ≢ m.copy.at
@@ -190,7 +178,7 @@ module _ {W : Type 0} (transacts : W → Ask → List ℕ → Reply → W → Ty
               (unasked beside beside.apart);
           agrees = subst (λ (xs : List ℕ). OutAgrees (now n) later n has.queue pipe.toggle xs s)
               (sym (append-nil known) ∙ ap (λ (xs : List ℕ). known ++ xs)
-              (sym (ap (λ (b : Bool). if b then grown else []) (not_same m.copy.at n (λ (e : m.copy.at ≡ n). differs (sym e))))))
+              (sym (ap (λ (b : Bool). if b then grown else []) (other_number m.copy.at n (λ (e : m.copy.at ≡ n). differs (sym e))))))
               (carried (parts n) (now n) hand later n pipe.expects.queue has.queue pipe.toggle known s part_stays
               (found_queue (parts n n) has.queue pipe.expects.queue (sym (ap (λ (part : Structures). part n) part_stays) ∙ has.head)
               pipe.expects.head) un pipe.agrees);

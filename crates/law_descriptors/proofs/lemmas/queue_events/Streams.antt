@@ -1,5 +1,6 @@
 -- The streams of a driver's queues at an event of either walk, and what it adds to them.
 use Rattle.std.proofs.Common.{◌≡◌, ℕ, ◌≤◌, Bool, true, false, if◌then◌else◌, List, Option, Some, ap, refl, sym, subst, ◌∙◌}
+use Rattle.law_ring.proofs.Common.{endpoint_kept}
 use Rattle.usb_base.specs.declared.packets.Ask.{Ask}
 use Rattle.usb_base.specs.declared.packets.Reply.{Reply}
 use Rattle.qh_qtd.specs.declared.qtd.Qtd.{Qtd}
@@ -19,7 +20,7 @@ use Rattle.law_ring.specs.Effects.{AreSent, Asks}
 use Rattle.law_ring.specs.Told.{SameTold}
 use Rattle.law_ring.specs.Streams.{StreamEffect}
 use Rattle.law_ring.specs.Streams.StreamEffect.{same, aside, grows}
-use Rattle.law_ring.proofs.Keeping.{bytes_kept, toggle_kept, endpoint_kept}
+use Rattle.law_ring.proofs.Keeping.{bytes_kept, toggle_kept}
 use Rattle.law_ring.proofs.Growing.{asked_grows}
 use Rattle.law_ring.specs.Order.{IsOrdered, Accounts, GoesOnInOrder}
 use Rattle.law_ring.proofs.Adding.{Placed, same_placed, placed_by, element_before, goes_on_in_order}

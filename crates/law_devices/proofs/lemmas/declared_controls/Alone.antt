@@ -2,6 +2,8 @@
 use Rattle.std.proofs.Common.{◌≡◌, ℕ, ◌==◌, false, List, [], ◌∷◌, map, slice_get, Option, Some, None, refl, ap, ◌∙◌}
 use Rattle.std.specs.List.{AllByRecursion}
 use Rattle.std.proofs.lemmas.Bool.{cond_both, cond-true, eq-eqb}
+use Rattle.law_devices.proofs.Common2.{named_begun}
+use Rattle.law_common.proofs.Lists.{all_map, all_set}
 use Rattle.usb_base.specs.declared.packets.Ask.{Ask}
 use Rattle.usb_base.specs.declared.packets.Way.TheVariants as way
 use Rattle.script_types.specs.declared.devices.DeviceText.{DeviceText}
@@ -24,15 +26,14 @@ use Rattle.bus_wire.specs.Seats.{place_for}
 use Rattle.claims_report.specs.ControlSides.{Device as Side}
 use Rattle.law_devices.specs.Senders.{sender_of_endpoint, sender_of_device, sender_of_owner, sender_of_seat, sender_of_place}
 use Rattle.law_devices.proofs.Devices.{device_changes}
-use Rattle.law_devices.proofs.Beginning.{named_begun}
 use Rattle.law_devices.proofs.Asking.{sender_through}
 use Rattle.law_devices.specs.scripted_takers.Takers.{taker_of_endpoint, taker_of_device, taker_of_owner, taker_of_seat, taker_of_place}
 use Rattle.law_devices.proofs.lemmas.scripted_takers.Asking.{taker_through}
 use Rattle.law_devices.proofs.lemmas.scripted_requests.Finding.{HasControl, control_found}
-use Rattle.law_devices.proofs.Lists.{Holds, all_map}
+use Rattle.law_devices.proofs.Lists.{Holds}
 use Rattle.law_devices.specs.declared_controls.Zero.{IsZeroAlone, AreZeroesAlone, IsNoStream}
 use Rattle.law_devices.specs.declared_controls.Laws.{TransactionLeavesZero, MicroframeLeavesZero, ZeroIsNoStream, ControlIsNoStream}
-use Rattle.law_devices.proofs.lemmas.declared_controls.Places.{position_none, all_get, all_set}
+use Rattle.law_devices.proofs.lemmas.declared_controls.Places.{position_none, all_get}
 use Rattle.law_devices.proofs.lemmas.declared_controls.Names.{not_zero}
 use Rattle.law_devices.proofs.lemmas.declared_controls.Drafts.{HasName, HasNames, IsToldDraft}
 

@@ -1,10 +1,12 @@
 -- The high-speed control endpoints of devices that a script opens, and what else holds of the script of a text.
 use Rattle.std.proofs.Common.{◌≡◌, ℕ, Bool, true, false, List, [], ◌∷◌, map, position, Option, Some, None, refl, sym, ap, subst, ◌∙◌, inl, inr, ◌⊎◌, arith}
-use Rattle.std.specs.Prelude.{◌==◌, ◌&&◌, find, if◌then◌else◌, slice_get, is_some, not}
+use Rattle.std.specs.Prelude.{◌==◌, ◌&&◌, find, if◌then◌else◌, slice_get, not}
 use Rattle.std.specs.List.{AllByRecursion, list_any, flat_map}
 use Rattle.std.specs.Option.{option_map, option_and_then}
 use Rattle.std.proofs.lemmas.Bool.{and_parts, eqb-true, eq-eqb, true≢false, cases_Bool, cond-true, cond-false}
 use Rattle.std.proofs.lemmas.Option.{same_Some, slice_get-map}
+use Rattle.law_common.proofs.Options.{no_hub}
+use Rattle.law_common.proofs.Lists.{all_both as all_append, nth_all, all_more}
 use Rattle.usb_base.specs.declared.packets.Way.{Way}
 use Rattle.usb_base.specs.declared.packets.Way.TheVariants as way
 use Rattle.usb_base.specs.declared.endpoints.EpDesc.{EpDesc}
@@ -40,7 +42,7 @@ use Rattle.claims_report.specs.ControlSides.{Device as Side}
 use Rattle.law_devices.specs.request_calls.Bus.{device_of as side_of}
 use Rattle.claims_report.specs.Controls.{control_of_part, control_of_device, control_of_owner, control_of_seat, is_at, control_of_place, control_of, is_of_hub}
 use Rattle.law_devices.proofs.lemmas.scripted_requests.Finding.{device_control}
-use Rattle.law_devices.proofs.Lists.{Holds, all_append, all_at, all_find, all_more, any_later, any_found, found_passes, IsFirst, found_first, none_each, find_append, find_later, find_same, find_map}
+use Rattle.law_devices.proofs.Lists.{Holds, all_find, any_later, any_found, found_passes, IsFirst, found_first, none_each, find_append, find_later, find_same, find_map}
 use Rattle.law_devices.proofs.Drafts.{addresses, IsEpOf, HasOwn, IsNamedIn, IsDeclaredDraft}
 use Rattle.law_devices.proofs.Texts.{IsScriptOf}
 use Rattle.law_devices.proofs.Seats.{IsAt, same_name, owners, hub_owners, named_owners}
@@ -81,10 +83,6 @@ ctl_way _ = refl
 ctl_same_way : (v : Way) → is_same_way v way.Ctl ≡ same_way v way.Ctl
 ctl_same_way way.In = refl
 ctl_same_way _ = refl
-
-no_hub : (o : Option ℕ) → is_some o ≡ false → o ≡ None
-no_hub None e = refl
-no_hub (Some x) e = cc
 
 -- ---- what the script gives it
 
@@ -191,7 +189,8 @@ module _ (w : Draft) (h : IsDeclaredDraft w) (g : IsToldDraft w) (name : Name) (
   no_hubs : AllByRecursion (λ (x : HubText). (x.addr == k.device.addr) ≡ false) w.hubs
   no_hubs =
       none_each (λ (x : HubText). x.addr == k.device.addr) w.hubs
-      (all_at (λ a. hub_of w.hubs a ≡ None) (addresses w.devices) first.place k.device.addr h.no_hub (slice_get-map (λ (d : Placed). d.addr) w.devices first.place ∙ ap (option_map (λ (d : Placed). d.addr)) first.here))
+      (nth_all (λ a. hub_of w.hubs a ≡ None) (addresses w.devices) first.place k.device.addr h.no_hub
+      (slice_get-map (λ (d : Placed). d.addr) w.devices first.place ∙ ap (option_map (λ (d : Placed). d.addr)) first.here))
 
   seats_own : k.device.hub ≡ None → AllByRecursion (IsAt k.device.addr first.place) (seats_of (script_of w))
   seats_own root =
@@ -218,7 +217,8 @@ module _ (w : Draft) (h : IsDeclaredDraft w) (g : IsToldDraft w) (name : Name) (
       let z = found_first test (seats_of (script_of w)) found.first found.is in
       let t = found_passes test (seats_of (script_of w)) found.first found.is in
       let named = eqb-true found.first.name.addr k.text.desc.name.addr (and_parts (found.first.name.addr == k.text.desc.name.addr) _ t).0 in
-      let owner = all_at (IsAt k.device.addr first.place) (seats_of (script_of w)) z.place found.first (seats_own (sym text.behind ∙ root)) z.here (named ∙ text.address) in
+      let owner = nth_all (IsAt k.device.addr first.place) (seats_of (script_of w)) z.place found.first (seats_own (sym text.behind ∙ root))
+      z.here (named ∙ text.address) in
       let seat : Option Side = control_of_seat (opening_bus (script_of w)) k.text.desc.name.addr k.text.desc.name.num (slice_get (seats_of (script_of w)) z.place) in
       ap (control_of_place (opening_wired (script_of w)) k.text.desc.name.addr k.text.desc.name.num) z.at
       ∙ ap (λ (o : Option ℕ). if is_at z.place o && is_at z.place (position (λ (s : Seat). suits s.name k.text.desc.name.addr k.text.desc.name.num Out) (seats_of (script_of w))) then seat else None) (in_alike ∙ z.at)

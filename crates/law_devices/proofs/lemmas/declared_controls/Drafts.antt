@@ -4,6 +4,8 @@ use Rattle.std.specs.Prelude.{◌==◌, ◌&&◌, ◌||◌, find, nat_le, is_som
 use Rattle.std.specs.List.{AllByRecursion, list_any}
 use Rattle.std.specs.Option.{option_map, option_map_or, option_and_then, option_or}
 use Rattle.std.proofs.lemmas.Bool.{cond_both, and_parts, cases_Bool, eqb-true}
+use Rattle.law_common.proofs.Lists.{all_both, all_more}
+use Rattle.law_common.proofs.Booleans.{left_or, right_or}
 use Rattle.usb_base.specs.declared.packets.Speed.TheVariants.{High, Full, Low}
 use Rattle.usb_base.specs.declared.packets.Way.TheVariants as way
 use Rattle.usb_base.specs.declared.endpoints.EpDesc.{EpDesc}
@@ -21,7 +23,7 @@ use Rattle.script_world.specs.Draft.{Draft, Placed, speed_of, device_of, hub_of,
 use Rattle.script_world.specs.Ranges.{in_range, within, is_endpoint, is_placed, is_slots, suits}
 use Rattle.script_world.specs.Rows.{is_known, answered, counted, roomier, stuffed, at_ep, name_of, desc_of, with_ep, content_bytes}
 use Rattle.script_world.specs.Rows.{content_len, bytes_len, commanded, where_known, put_room, control_name, attach, by_of, after}
-use Rattle.law_devices.proofs.Lists.{Holds, all_append, all_more, all_change, any_more, all_find, found_passes, or_left, or_right, then_append, then_change, map_append, map_find_change}
+use Rattle.law_devices.proofs.Lists.{Holds, all_change, any_more, all_find, found_passes, then_append, then_change, map_append, map_find_change}
 use Rattle.law_devices.proofs.Drafts.{IsNamedIn, KeepsEps}
 use Rattle.law_devices.specs.declared_controls.Names.{IsZero, HasItsName}
 use Rattle.law_devices.proofs.lemmas.declared_controls.Names.{line_named, hub_named}
@@ -76,7 +78,7 @@ told_keeps : (hubs more : List HubText) (ds es : List Placed) (ls : List (ℕ ×
 told_keeps hubs more ds es ls f g h = all_more (λ l. IsToldLine hubs ds l.1) (λ l. IsToldLine more es l.1) ls (λ l k. line_keeps hubs more ds es l.1 f g k) h
 
 told_more : (hubs : List HubText) (ds : List Placed) (ls : List (ℕ × Line)) (n : ℕ) (l : Line) → IsToldLine hubs ds l → AreTold hubs ds ls → AreTold hubs ds (ls ++ (n, l) ∷ [])
-told_more hubs ds ls n l k h = all_append (λ l. IsToldLine hubs ds l.1) ls ((n, l) ∷ []) h (k, tt)
+told_more hubs ds ls n l k h = all_both (λ l. IsToldLine hubs ds l.1) ls ((n, l) ∷ []) h (k, tt)
 
 -- ---- hubs
 
@@ -96,8 +98,8 @@ found_any : {X : Type 0} (p : X → Bool) (xs : List X) (x : X) → find p xs �
 found_any p [] x e = cc
 found_any p (y ∷ ys) x e =
     elim (cases_Bool (p y)) [
-      | inl t ↦ or_left (p y) (list_any p ys) t
-      | inr f ↦ or_right (p y) (list_any p ys) (found_any p ys x (sym (ap (λ b. if b then Some y else find p ys) f) ∙ e))
+      | inl t ↦ left_or (p y) (list_any p ys) t
+      | inr f ↦ right_or (p y) (list_any p ys) (found_any p ys x (sym (ap (λ b. if b then Some y else find p ys) f) ∙ e))
     ]
 
 told_hub : (hubs : List HubText) (ds : List Placed) (addr : ℕ) (o : Option HubText) → hub_of hubs addr ≡ o → Holds (IsToldDesc hubs ds) (option_map (λ (h : HubText). hub_desc h.addr) o)
@@ -186,7 +188,7 @@ ep_told w n l t h =
     (λ _. record {
       devices =
           all_change_first HasNames (λ d. d.addr == l.name.addr) (with_ep l) w.devices
-          (λ d at k. all_append HasName d.eps _ k (line_named l d b.1 (suits_at w l d _ a.1 at), tt)) h.devices;
+          (λ d at k. all_both HasName d.eps _ k (line_named l d b.1 (suits_at w l d _ a.1 at), tt)) h.devices;
       lines = told_keeps w.hubs w.hubs w.devices (change (λ d. d.addr == l.name.addr) (with_ep l) w.devices) w.lines (same_hubs w.hubs) (new_keeps l w.devices) h.lines;
     })
     (λ _. h)
@@ -198,7 +200,7 @@ appended_keeps ds es name x e = then_append (λ (d : Placed). d.addr == name.add
 
 device_told : (w : Draft) (hubs : List HubText) (d : Placed) → d.eps ≡ [] → KeepsHubs w.hubs hubs → IsToldDraft w → IsToldDraft (record w { declaring = true; hubs = hubs; devices = w.devices ++ d ∷ [] })
 device_told w hubs d none more h = record {
-  devices = all_append HasNames w.devices (d ∷ []) h.devices (subst (AllByRecursion HasName) (sym none) tt, tt);
+  devices = all_both HasNames w.devices (d ∷ []) h.devices (subst (AllByRecursion HasName) (sym none) tt, tt);
   lines = told_keeps w.hubs hubs w.devices (w.devices ++ d ∷ []) w.lines more (appended_keeps w.devices (d ∷ [])) h.lines;
 }
 

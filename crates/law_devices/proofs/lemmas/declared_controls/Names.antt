@@ -2,6 +2,7 @@
 use Rattle.std.proofs.Common.{◌≡◌, ℕ, ◌≤◌, true, false, refl, ap, subst, ◌∙◌, inl, inr, arith}
 use Rattle.std.specs.Prelude.{◌==◌, ◌&&◌, ◌||◌, not, nat_le}
 use Rattle.std.proofs.lemmas.Bool.{and_parts, or_cases, cases_Bool, eqb-true, leb-true}
+use Rattle.law_devices.proofs.Common.{zero_by}
 use Rattle.usb_base.specs.declared.packets.EpKind.{EpKind}
 use Rattle.usb_base.specs.declared.packets.EpKind.TheVariants as kinds
 use Rattle.usb_base.specs.declared.packets.Speed.{Speed}
@@ -9,7 +10,6 @@ use Rattle.usb_base.specs.declared.packets.Speed.TheVariants as speeds
 use Rattle.usb_base.specs.declared.packets.Way.{Way}
 use Rattle.usb_base.specs.declared.packets.Way.TheVariants as way
 use Rattle.usb_base.specs.declared.endpoints.EpDesc.{EpDesc}
-use Rattle.usb_base.specs.declared.endpoints.EpName.{EpName}
 use Rattle.script_forms.specs.declared.statements.EpLine.{EpLine}
 use Rattle.script_forms.specs.declared.statements.Name.{Name}
 use Rattle.script_world.specs.Draft.{Placed, same_way, hub_desc}
@@ -80,10 +80,6 @@ pub hub_named : (addr : ℕ) → HasItsName (hub_desc addr)
 hub_named addr = record { name = record { number = refl; way = refl }; most = λ _. omega arith; high = λ _ _. refl }
 
 -- ---- number 0
-
-zero_by : (kind : EpKind) (name : EpName) → IsNameOf kind name → name.num ≡ 0 → name.way ≡ way.Ctl
-zero_by kinds.Control name h e = h.way
-zero_by _ name h e = absurd (omega (arith, h.least, e))
 
 pub zero_is : (x : EpDesc) → HasItsName x → x.name.num ≡ 0 → x.name.way ≡ way.Ctl
 zero_is x h e = zero_by x.kind x.name h.name e

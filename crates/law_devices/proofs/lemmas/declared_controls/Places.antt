@@ -1,5 +1,5 @@
 -- The place of the first element that passes a test, and the elements of a list of which one has changed.
-use Rattle.std.proofs.Common.{◌≡◌, ℕ, zero, suc, nat_lt, Bool, false, cond, List, [], ◌∷◌, length, slice_get, slice_set, Some, None, refl, ap, ◌∙◌, arith}
+use Rattle.std.proofs.Common.{◌≡◌, ℕ, zero, suc, nat_lt, Bool, false, cond, List, [], ◌∷◌, length, slice_get, Some, None, refl, ap, ◌∙◌, arith}
 use Rattle.std.specs.Prelude.{position}
 use Rattle.std.specs.List.{AllByRecursion, position_or_len}
 use Rattle.law_devices.proofs.Lists.{Holds}
@@ -28,11 +28,6 @@ pub all_get : {X : Type 0} (P : X → Type 0) (xs : List X) (i : ℕ) → AllByR
 all_get P [] i h = tt
 all_get P (x ∷ xs) zero h = h.0
 all_get P (x ∷ xs) (suc i) h = all_get P xs i h.1
-
-pub all_set : {X : Type 0} (P : X → Type 0) (xs : List X) (i : ℕ) (y : X) → AllByRecursion P xs → P y → AllByRecursion P (slice_set xs i y)
-all_set P [] i y h k = tt
-all_set P (x ∷ xs) zero y h k = (k, h.1)
-all_set P (x ∷ xs) (suc i) y h k = (h.0, all_set P xs i y h.1 k)
 
 pub all_both : {X : Type 0} (P Q R : X → Type 0) (xs : List X) → ((x : X) → P x → Q x → R x) → AllByRecursion P xs → AllByRecursion Q xs → AllByRecursion R xs
 all_both P Q R [] g h k = tt

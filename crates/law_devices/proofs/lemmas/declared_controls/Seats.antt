@@ -2,8 +2,11 @@
 use Rattle.std.proofs.Common.{◌≡◌, ℕ, zero, suc, ◌+◌, Bool, true, List, [], ◌∷◌, map, Option, Some, None, refl, sym, ap, subst, ◌∙◌, inl, inr}
 use Rattle.std.specs.Prelude.{◌==◌, ◌&&◌, find, filter_map, slice_get}
 use Rattle.std.specs.List.{AllByRecursion, list_any}
-use Rattle.std.proofs.lemmas.Bool.{and_from, eq-eqb, eqb-true, or_cases, cases_Bool, cond-true, cond-false}
+use Rattle.std.proofs.lemmas.Bool.{and_from, eq-eqb, eqb-true, or_cases, cases_Bool}
 use Rattle.std.proofs.lemmas.Option.{same_Some}
+use Rattle.law_devices.proofs.Common.{any_here}
+use Rattle.law_common.proofs.Lists.{all_both, all_more, all_map}
+use Rattle.law_common.proofs.Booleans.{left_or, right_or}
 use Rattle.usb_base.specs.declared.packets.Way.TheVariants as way
 use Rattle.usb_base.specs.declared.endpoints.EpName.{EpName}
 use Rattle.script_types.specs.declared.devices.EpText.{EpText}
@@ -14,20 +17,12 @@ use Rattle.bus_wire.specs.declared.seats.TokenKind.{TokenKind}
 use Rattle.bus_wire.specs.declared.seats.TokenKind.TheVariants.{Setup}
 use Rattle.bus_wire.specs.Fates.{is_same_name}
 use Rattle.bus_wire.specs.Seats.{suits, takes_token, seat_at, seats_from, hub_seats_from, seats_of, seat_named}
-use Rattle.law_devices.proofs.Lists.{all_append, all_more, all_map, all_find, all_filter_map, filter_skips, filter_takes, or_left, or_right, any_later, any_more, any_found, found_passes}
+use Rattle.law_devices.proofs.Lists.{all_find, all_filter_map, filter_skips, filter_takes, any_later, any_more, any_found, found_passes}
 use Rattle.law_devices.proofs.Seats.{AreSame, same_name}
 use Rattle.law_devices.proofs.lemmas.declared_controls.Names.{zero_is}
 use Rattle.law_devices.proofs.lemmas.declared_controls.Drafts.{HasName, HasNames, IsToldDraft}
 
 -- ---- among the seats of its device
-
-any_here : (p : Seat → Bool) (k : ℕ) (es : List EpText) (r : EpText → Bool) (e : EpText) → find r es ≡ Some e → p (seat_at k e) ≡ true → list_any p (map (seat_at k) es) ≡ true
-any_here p k [] r e found t = cc
-any_here p k (x ∷ es) r e found t =
-    elim (cases_Bool (r x)) [
-      | inl y ↦ or_left (p (seat_at k x)) _ (subst (λ z. p (seat_at k z) ≡ true) (sym (same_Some x e (sym (cond-true _ _ _ y) ∙ found))) t)
-      | inr y ↦ or_right (p (seat_at k x)) _ (any_here p k es r e (sym (cond-false _ _ _ y) ∙ found) t)
-    ]
 
 any_seat : (p : Seat → Bool) (k m : ℕ) (ds : List Placed) (d : Placed) (r : EpText → Bool) (e : EpText) → slice_get ds m ≡ Some d → find r d.eps ≡ Some e
     → ((i : ℕ) → p (seat_at i e) ≡ true) → list_any p (seats_from k (map device_text ds)) ≡ true
@@ -58,7 +53,7 @@ named_suits seats e (n ∷ names) isctl has listed =
 
     later : (o : Option Seat) → seat_named seats n ≡ o → list_any test (filter_map (seat_named seats) names) ≡ true → list_any test (filter_map (seat_named seats) (n ∷ names)) ≡ true
     later None is t = subst (λ xs. list_any test xs ≡ true) (sym (filter_skips (seat_named seats) n names is)) t
-    later (Some s) is t = subst (λ xs. list_any test xs ≡ true) (sym (filter_takes (seat_named seats) n names s is)) (or_right (test s) _ t)
+    later (Some s) is t = subst (λ xs. list_any test xs ≡ true) (sym (filter_takes (seat_named seats) n names s is)) (right_or (test s) _ t)
 
     first : is_same_name e n ≡ true → list_any test (filter_map (seat_named seats) (n ∷ names)) ≡ true
     first t =
@@ -66,7 +61,7 @@ named_suits seats e (n ∷ names) isctl has listed =
         let a = same_name k.first.name n (found_passes (λ (s : Seat). is_same_name s.name n) seats k.first k.is) in
         let b = same_name e n t in
         let same : AreSame k.first.name e = record { addr = a.addr ∙ sym b.addr; num = a.num ∙ sym b.num; way = a.way ∙ sym b.way } in
-        subst (λ xs. list_any test xs ≡ true) (sym (filter_takes (seat_named seats) n names k.first k.is)) (or_left (test k.first) _ (suits_same k.first.name e same isctl))
+        subst (λ xs. list_any test xs ≡ true) (sym (filter_takes (seat_named seats) n names k.first k.is)) (left_or (test k.first) _ (suits_same k.first.name e same isctl))
 
 pub has_control_seat : (names : List EpName) (m : ℕ) (ds : List Placed) (d : Placed) (r : EpText → Bool) (e : EpText) → slice_get ds m ≡ Some d → find r d.eps ≡ Some e
     → e.desc.name.way ≡ way.Ctl → list_any (is_same_name e.desc.name) names ≡ true
@@ -87,12 +82,13 @@ hub_zeroes k (x ∷ hs) = ((λ _. refl), hub_zeroes (k + 1) hs)
 device_zeroes : (k : ℕ) (ds : List Placed) → AllByRecursion HasNames ds → AllByRecursion IsZeroSeat (seats_from k (map device_text ds))
 device_zeroes k [] h = tt
 device_zeroes k (d ∷ ds) h =
-    all_append IsZeroSeat (map (seat_at k) d.eps) (seats_from (k + 1) (map device_text ds)) (all_map HasName IsZeroSeat (seat_at k) d.eps (λ e z is. zero_is e.desc z is) h.0)
+    all_both IsZeroSeat (map (seat_at k) d.eps) (seats_from (k + 1) (map device_text ds))
+    (all_map HasName IsZeroSeat (seat_at k) d.eps (λ e z is. zero_is e.desc z is) h.0)
     (device_zeroes (k + 1) ds h.1)
 
 zeroes : (w : Draft) → IsToldDraft w → AllByRecursion IsZeroSeat (seats_of (script_of w))
 zeroes w h =
-    all_append IsZeroSeat (hub_seats_from 0 w.hubs) _ (hub_zeroes 0 w.hubs)
+    all_both IsZeroSeat (hub_seats_from 0 w.hubs) _ (hub_zeroes 0 w.hubs)
     (all_filter_map IsZeroSeat (seat_named (seats_from 0 (map device_text w.devices))) w.endpoints
     (λ name. all_find IsZeroSeat (λ s. is_same_name s.name name) (seats_from 0 (map device_text w.devices)) (device_zeroes 0 w.devices h.devices)))
 

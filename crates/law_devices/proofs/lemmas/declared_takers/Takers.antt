@@ -1,10 +1,13 @@
 -- The taker of a high-speed bulk OUT endpoint that a script opens.
 use Rattle.std.proofs.Common.{◌≡◌, ℕ, Bool, true, false, List, [], ◌∷◌, map, Option, Some, None, refl, sym, ap, subst, ◌∙◌, inl, inr, arith}
-use Rattle.std.specs.Prelude.{◌==◌, ◌&&◌, find, slice_get, is_some, not}
+use Rattle.std.specs.Prelude.{◌==◌, ◌&&◌, find, slice_get, not}
 use Rattle.std.specs.List.{AllByRecursion, list_any}
 use Rattle.std.specs.Option.{option_map, option_and_then}
 use Rattle.std.proofs.lemmas.Bool.{and_parts, eqb-true}
 use Rattle.std.proofs.lemmas.Option.{same_Some, slice_get-map}
+use Rattle.law_common.proofs.Options.{no_hub}
+use Rattle.law_devices.proofs.Common.{out_is, out_way}
+use Rattle.law_common.proofs.Lists.{all_both, all_more, nth_all}
 use Rattle.usb_base.specs.declared.packets.Way.{Way}
 use Rattle.usb_base.specs.declared.packets.Way.TheVariants as way
 use Rattle.usb_base.specs.declared.packets.EpKind.TheVariants as kinds
@@ -28,7 +31,7 @@ use Rattle.bus_wire.specs.Seats.{suits, seats_from, hub_seats_from, seats_of}
 use Rattle.bus_wire.specs.Bus.{opening_bus, opening_wired}
 use Rattle.law_devices.specs.scripted_takers.Takers.{taker_of_part, taker_of_device, taker_of}
 use Rattle.law_devices.proofs.lemmas.scripted_takers.Asking.{taker_through, device_taker}
-use Rattle.law_devices.proofs.Lists.{Holds, all_append, all_more, all_at, all_find, any_later, any_found, found_passes, IsFirst, found_first, none_each, find_same, find_map}
+use Rattle.law_devices.proofs.Lists.{Holds, all_find, any_later, any_found, found_passes, IsFirst, found_first, none_each, find_same, find_map}
 use Rattle.law_devices.proofs.Drafts.{addresses, IsEpOf, HasOwn, IsKnownDesc, IsKnownLine, IsDeclaredDraft}
 use Rattle.law_devices.proofs.Texts.{spelled_kept}
 use Rattle.law_devices.proofs.Seats.{IsAt, owners, hub_owners, named_owners}
@@ -45,20 +48,6 @@ text_by ds name x d (Some t) here is e = record { device = d; device_is = here; 
 device_by : (ds : List Placed) (name : Name) (x : EpDesc) (o : Option Placed) → device_of ds name.addr ≡ o → option_and_then (λ d. ep_of d.eps name) o ≡ Some x → IsDeclaredAt ds name x
 device_by ds name x None is e = cc
 device_by ds name x (Some d) is e = text_by ds name x d (find (is_named name) d.eps) is refl e
-
--- ---- ways
-
-out_is : (v : Way) → same_way way.Out v ≡ true → v ≡ way.Out
-out_is way.Out e = refl
-out_is _ e = cc
-
-out_way : (v : Way) → is_way v way.Out ≡ same_way v way.Out
-out_way way.In = refl
-out_way _ = refl
-
-no_hub : (o : Option ℕ) → is_some o ≡ false → o ≡ None
-no_hub None e = refl
-no_hub (Some x) e = cc
 
 -- ---- what the bus has for it
 
@@ -115,11 +104,12 @@ module _ (w : Draft) (h : IsDeclaredDraft w) (name : Name) (x : EpDesc) (k : IsD
   no_hubs : AllByRecursion (λ (x : HubText). (x.addr == k.device.addr) ≡ false) w.hubs
   no_hubs =
       none_each (λ (x : HubText). x.addr == k.device.addr) w.hubs
-      (all_at (λ a. hub_of w.hubs a ≡ None) (addresses w.devices) first.place k.device.addr h.no_hub (slice_get-map (λ (d : Placed). d.addr) w.devices first.place ∙ ap (option_map (λ (d : Placed). d.addr)) first.here))
+      (nth_all (λ a. hub_of w.hubs a ≡ None) (addresses w.devices) first.place k.device.addr h.no_hub
+      (slice_get-map (λ (d : Placed). d.addr) w.devices first.place ∙ ap (option_map (λ (d : Placed). d.addr)) first.here))
 
   seats_own : k.device.hub ≡ None → AllByRecursion (IsAt k.device.addr first.place) (seats_of (script_of w))
   seats_own root =
-      all_append (IsAt k.device.addr first.place) (hub_seats_from 0 w.hubs) _ (hub_owners k.device.addr first.place 0 w.hubs no_hubs)
+      all_both (IsAt k.device.addr first.place) (hub_seats_from 0 w.hubs) _ (hub_owners k.device.addr first.place 0 w.hubs no_hubs)
       (named_owners k.device.addr first.place (seats_from 0 (map device_text w.devices)) w.endpoints
       (owners w.endpoints k.device.addr first.place 0 first.place w.devices k.device first.here refl (omega arith) root h.apart h.own))
 
@@ -132,7 +122,8 @@ module _ (w : Draft) (h : IsDeclaredDraft w) (name : Name) (x : EpDesc) (k : IsD
       let z = found_first test (seats_of (script_of w)) found.first found.is in
       let t = found_passes test (seats_of (script_of w)) found.first found.is in
       let named = eqb-true found.first.name.addr k.text.desc.name.addr (and_parts (found.first.name.addr == k.text.desc.name.addr) _ t).0 in
-      let owner = all_at (IsAt k.device.addr first.place) (seats_of (script_of w)) z.place found.first (seats_own (sym text.behind ∙ root)) z.here (named ∙ text.address) in
+      let owner = nth_all (IsAt k.device.addr first.place) (seats_of (script_of w)) z.place found.first (seats_own (sym text.behind ∙ root))
+      z.here (named ∙ text.address) in
       taker_through (opening_wired (script_of w)) k.text.desc.name.addr k.text.desc.name.num z.place found.first first.place (opening_bus (script_of w)) z.at z.here owner
       ∙ ap (taker_of_device k.text.desc.name.addr k.text.desc.name.num) device_there ∙ taker_there
 

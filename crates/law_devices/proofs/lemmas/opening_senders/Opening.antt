@@ -4,7 +4,8 @@ use Rattle.std.specs.List.{AllByRecursion, flat_map}
 use Rattle.std.proofs.lemmas.Bool.{eq-eqb, false≢true}
 use Rattle.std.proofs.lemmas.Option.{same_Some, slice_get-map, get_or_from_slice_get}
 use Rattle.std.proofs.lemmas.List.Quantifiers.{position-Some}
-use Rattle.law_structures.proofs.lemmas.lent_structures.Names.{not_same}
+use Rattle.law_common.proofs.Booleans.{and_both}
+use Rattle.law_common.proofs.Numbers.{other_number}
 use Rattle.usb_base.specs.declared.endpoints.EpName.{EpName}
 use Rattle.usb_base.specs.declared.packets.EpKind.{EpKind}
 use Rattle.usb_base.specs.declared.packets.EpKind.TheVariants as Kinds
@@ -58,10 +59,6 @@ in_is : (way : Way) → is_way way Ways.In ≡ true → way ≡ Ways.In
 in_is Ways.In is = refl
 in_is _ is = absurd (false≢true is)
 
-and_both : (a b : Bool) → (a && b) ≡ true → (a ≡ true) × (b ≡ true)
-and_both true b e = (refl, e)
-and_both false b e = absurd (false≢true e)
-
 abbrev in_name : ℕ → ℕ → EpName
 in_name addr ep = record { addr = addr; num = ep; way = Ways.In }
 
@@ -71,7 +68,7 @@ own_name addr ep t own =
     ap (λ (b : Bool). b && (t.desc.name.num == ep && is_same_way t.desc.name.way Ways.In)) (eq-eqb t.desc.name.addr addr own) ∙ ap (λ (b : Bool). t.desc.name.num == ep && b) (ways_same t.desc.name.way)
 
 other_name : (addr ep : ℕ) (t : EpText) → t.desc.name.addr ≢ addr → is_same_name t.desc.name (in_name addr ep) ≡ false
-other_name addr ep t differs = ap (λ (b : Bool). b && (t.desc.name.num == ep && is_same_way t.desc.name.way Ways.In)) (not_same t.desc.name.addr addr differs)
+other_name addr ep t differs = ap (λ (b : Bool). b && (t.desc.name.num == ep && is_same_way t.desc.name.way Ways.In)) (other_number t.desc.name.addr addr differs)
 
 -- ---- the part of an IN endpoint
 

@@ -1,6 +1,8 @@
 -- The call that a queue head makes is that of the request's stage.
-use Rattle.std.proofs.Common.{◌≡◌, ◌≢◌, ℕ, zero, suc, ◌==◌, Bool, true, false, if◌then◌else◌, List, [], ◌∷◌, take, length, ap, refl, sym, subst, ◌∙◌, ⊎_elim}
+use Rattle.std.proofs.Common.{◌≡◌, ◌≢◌, ℕ, ◌==◌, Bool, true, false, if◌then◌else◌, List, [], take, length, ap, refl, sym, subst, ◌∙◌, ⊎_elim}
 use Rattle.std.proofs.lemmas.Bool.{cases_eq}
+use Rattle.law_common.proofs.Lists.{take_again}
+use Rattle.law_common.proofs.Numbers.{other_number}
 use Rattle.usb_base.specs.declared.packets.EpKind.TheVariants.{Control}
 use Rattle.usb_base.specs.declared.packets.DataPart.TheVariants.{All}
 use Rattle.usb_base.specs.declared.packets.Pid.{Pid}
@@ -15,7 +17,6 @@ use Rattle.toggle_error.specs.declared.host.Outcome.TheVariants.{Moved}
 use Rattle.toggle_error.specs.Columns.{limit_of, heard_of}
 use Rattle.toggle_error.specs.PlainRows.{plain_outcome, after_plain}
 use Rattle.toggle_error.specs.Settle.{outcome_of, settled}
-use Rattle.law_structures.proofs.lemmas.lent_structures.Names.{not_same}
 use Rattle.transactions.specs.declared.pipe.Pipe.{Pipe}
 use Rattle.transactions.specs.Calls.{Call, call_of, high_call, got_of}
 use Rattle.hc_copy.specs.Planning.{pid_at, bytes_out}
@@ -44,14 +45,8 @@ in_bytes o n Silent e = sym (ap (λ (p : Outcome). got_of Packets.In p Silent) e
 in_bytes o n (Hand pid) e = sym (ap (λ (p : Outcome). got_of Packets.In p (Hand pid)) e)
 in_bytes o n (Bytes pid bs) e = sym (ap (λ (p : Outcome). got_of Packets.In p (Bytes pid bs)) e)
 
--- as many bytes as went out
-same_taken : (k : ℕ) (xs : List ℕ) → take (length (take k xs)) xs ≡ take k xs
-same_taken zero xs = refl
-same_taken (suc k) [] = refl
-same_taken (suc k) (x ∷ xs) = ap (λ (ys : List ℕ). x ∷ ys) (same_taken k xs)
-
 out_bytes : (o : Outcome) (n k : ℕ) (reply : Reply) (source : List ℕ) → o ≡ Moved n → (got_with reply (take k source) ≡ take k source) × (n ≡ length (take k source)) → got_with reply (take k source) ≡ take (moved_by o) source
-out_bytes o n k reply source e both = both.0 ∙ sym (ap (λ (i : ℕ). take i source) (ap moved_by e ∙ both.1) ∙ same_taken k source)
+out_bytes o n k reply source e both = both.0 ∙ sym (ap (λ (i : ℕ). take i source) (ap moved_by e ∙ both.1) ∙ take_again k source)
 
 module _ (e : Endpoint) (hub port : ℕ) (reply : Reply) (source : List ℕ) where
   in_alike : (host : HostSide) → AreAlike reply host true Packets.In source (own_call e hub port Packets.In host source) (high_call (endpoint_pipe e Packets.In) host [])
@@ -109,5 +104,5 @@ module _ (e : Endpoint) (hub port : ℕ) (reply : Reply) (source : List ℕ) whe
       ⊎_elim {C = Alike host (code == 1) (pid_at code)} (λ (is : code ≡ 0). subst (λ (c : ℕ). Alike host (c == 1) (pid_at c)) (sym is) (out_alike host host.ping))
       (λ (other : code ≢ 0). ⊎_elim {C = Alike host (code == 1) (pid_at code)} (λ (is : code ≡ 1). subst (λ (c : ℕ). Alike host (c == 1) (pid_at c)) (sym is) (in_alike host))
       (λ (neither : code ≢ 1).
-      subst (λ (b : Bool). Alike host b (if code == 0 then Packets.Out else if b then Packets.In else Packets.Setup)) (sym (not_same code 1 neither))
-      (subst (λ (b : Bool). Alike host false (if b then Packets.Out else Packets.Setup)) (sym (not_same code 0 other)) (setup_alike host))) (cases_eq code 1)) (cases_eq code 0)
+      subst (λ (b : Bool). Alike host b (if code == 0 then Packets.Out else if b then Packets.In else Packets.Setup)) (sym (other_number code 1 neither))
+      (subst (λ (b : Bool). Alike host false (if b then Packets.Out else Packets.Setup)) (sym (other_number code 0 other)) (setup_alike host))) (cases_eq code 1)) (cases_eq code 0)

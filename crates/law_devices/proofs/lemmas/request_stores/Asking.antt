@@ -2,13 +2,15 @@
 use Rattle.std.proofs.Common.{◌≡◌, ◌≢◌, ℕ, ◌<◌, ◌≤◌, true, Some, None, refl, inl, inr, ap, sym, ◌∙◌, subst, ⊎_elim, arith}
 use Rattle.std.specs.Prelude.{◌⊎◌, List, replicate}
 use Rattle.std.proofs.lemmas.Bool.{cases_eq, false≢true}
+use Rattle.law_devices.proofs.Common.{first_low}
+use Rattle.law_structures.proofs.Common.{element_is}
 use Rattle.qh_qtd.specs.Blank.{blank_qtd}
 use Rattle.qh_qtd.specs.declared.qtd.Qtd.{Qtd}
 use Rattle.qh_qtd.specs.declared.queue_head.Qh.{Qh}
 use Rattle.law_structures.specs.lent_structures.Structures.{Structure, QueueHead, Element, Buffer, Structures, StructureSets, put}
 use Rattle.law_structures.proofs.lemmas.lent_structures.Names.{put_else, put_beside, put_found}
 use Rattle.law_structures.specs.lent_structures.Sound.{buffer_name, HasBuffer}
-use Rattle.law_structures.proofs.lemmas.lent_structures.Altering.{same_element, found_element}
+use Rattle.law_structures.proofs.lemmas.lent_structures.Altering.{found_element}
 use Rattle.law_request.specs.Host.{Stage, Setup, Data, Status}
 use Rattle.law_request.specs.Samples.{described, get_device, get_configuration}
 use Rattle.law_ring.specs.Hand.{Empty}
@@ -85,7 +87,7 @@ abbrev IsKept : Qtd → Type 0
 IsKept t = lent_parts 32 (buffer_name t) ≡ one_parts 32 (buffer_name t)
 
 kept_as : (t u : Qtd) → Element t ≡ Element u → IsKept u → IsKept t
-kept_as t u same kept = subst IsKept (sym (same_element t u same)) kept
+kept_as t u same kept = subst IsKept (sym (element_is t u same)) kept
 
 no_buffer : {t : Qtd} {pages : List ℕ} {k : ℕ} {bs : List ℕ} → Element t ≡ Buffer pages k bs → ⊥
 no_buffer e = cc
@@ -106,10 +108,6 @@ buffers_still b t found =
     found_else (IsKept t) (put (put nothing 32 32 (QueueHead queue)) 32 64 (Element setup)) 96 (Element read) b t found (λ at same. kept_as t read same refl) (λ found.
     found_else (IsKept t) (put nothing 32 32 (QueueHead queue)) 64 (Element setup) b t found (λ at same. kept_as t setup same refl) (λ found.
     found_else (IsKept t) nothing 32 (QueueHead queue) b t found (λ at same. absurd (no_head same)) (λ found. absurd (nothing_there b found)))))))))
-
-first_low : (s : Stage) → place_at (stand_at 0) s ≤ 128
-first_low Setup = omega (arith)
-first_low _ = omega (arith)
 
 -- higher than the first request's, which has a tail
 aside : (a b : ℕ) (t : Qtd) → a ≡ b → 128 < b → IsAside first_only (one_parts 32) a t

@@ -1,9 +1,9 @@
 -- The last store publishes the first request of an endpoint: its window opens, and all others stand as they did.
 use Rattle.std.proofs.Common.{◌≡◌, ◌≢◌, ℕ, ◌<◌, ◌||◌, Bool, true, false, if◌then◌else◌, Option, Some, ap, refl, sym, subst, ◌∙◌, ⊎_elim, arith}
 use Rattle.std.proofs.lemmas.Bool.{cases_eq, eq-eqb, false≢true}
+use Rattle.law_common.proofs.Numbers.{other_number}
 use Rattle.qh_qtd.specs.declared.qtd.Qtd.{Qtd}
 use Rattle.law_structures.specs.lent_structures.Structures.{Element, Structures, StructureSets, put}
-use Rattle.law_structures.proofs.lemmas.lent_structures.Names.{not_same}
 use Rattle.law_request.specs.Windows.{IsRequest}
 use Rattle.claims_report.specs.ControlSides.{Device}
 use Rattle.law_ring.specs.Hand.{Hand}
@@ -37,19 +37,19 @@ module _ (member windows : ℕ → Bool) (parts : StructureSets) (n : ℕ) (v : 
     windows_here j at = ap (λ (b : Bool). b || windows j) (eq-eqb j n at)
 
     windows_beside : (j : ℕ) → j ≢ n → windows_with windows n j ≡ windows j
-    windows_beside j differs = ap (λ (b : Bool). b || windows j) (not_same j n differs)
+    windows_beside j differs = ap (λ (b : Bool). b || windows j) (other_number j n differs)
 
     sent_here : (j : ℕ) → j ≡ n → first_sent sent n v j ≡ v
     sent_here j at = ap (λ (b : Bool). if b then v else sent j) (eq-eqb j n at)
 
     sent_beside : (j : ℕ) → j ≢ n → first_sent sent n v j ≡ sent j
-    sent_beside j differs = ap (λ (b : Bool). if b then v else sent j) (not_same j n differs)
+    sent_beside j differs = ap (λ (b : Bool). if b then v else sent j) (other_number j n differs)
 
     lines_here : (j : ℕ) → j ≡ n → first_lines lines n l j ≡ l
     lines_here j at = ap (λ (b : Bool). if b then l else lines j) (eq-eqb j n at)
 
     lines_beside : (j : ℕ) → j ≢ n → first_lines lines n l j ≡ lines j
-    lines_beside j differs = ap (λ (b : Bool). if b then l else lines j) (not_same j n differs)
+    lines_beside j differs = ap (λ (b : Bool). if b then l else lines j) (other_number j n differs)
 
     -- what holds of it and of each of the others
     each_one : (P : Queue → Lines → ℕ → Type 0) → P v l n → ((j : ℕ) → j ≢ n → windows j ≡ true → P (sent j) (lines j) j) → (j : ℕ) → windows_with windows n j ≡ true → P (first_sent sent n v j) (first_lines lines n l j) j

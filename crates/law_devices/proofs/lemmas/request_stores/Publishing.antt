@@ -1,10 +1,11 @@
 -- The last store publishes a request: it is one more of its endpoint's, behind the others, and all windows stand as they did.
 use Rattle.std.proofs.Common.{◌≡◌, ◌≢◌, ℕ, zero, suc, ◌-◌, ◌<◌, ◌≤◌, ◌==◌, ◌&&◌, Bool, true, false, if◌then◌else◌, List, [], length, take, Option, Some, None, ap, refl, sym, subst, ◌∙◌, ⊎_elim, inr, arith}
 use Rattle.std.proofs.lemmas.Bool.{cases_eq, eq-eqb}
+use Rattle.law_common.proofs.Booleans.{and_false}
+use Rattle.law_common.proofs.Numbers.{other_number}
 use Rattle.qh_qtd.specs.declared.qtd.Qtd.{Qtd}
 use Rattle.qh_qtd.specs.declared.queue_head.Qh.{Qh}
 use Rattle.law_structures.specs.lent_structures.Structures.{Element, Structures, StructureSets, put}
-use Rattle.law_structures.proofs.lemmas.lent_structures.Names.{not_same}
 use Rattle.law_structures.specs.lent_structures.Sound.{HasBuffer}
 use Rattle.dev_control.specs.Stages.{Stages}
 use Rattle.claims_report.specs.Requests.{Request}
@@ -29,13 +30,9 @@ not_worked : (q : Qh) (a : ℕ) (b : Bool) → q.token.active ≡ b → (q.token
 not_worked q a false off other = ap (λ (b : Bool). b && q.current == a) off
 not_worked q a true on other = works_not q a (other on)
 
-and_off : (b : Bool) → (b && false) ≡ false
-and_off true = refl
-and_off false = refl
-
 as_told : (hand : Hand) (n : ℕ) (q : Qh) (a : ℕ) (t : Qtd) (bs : List ℕ) → works_on q a ≡ false → hand_bytes hand n q a t bs ≡ told_bytes q a t bs
 as_told (Settled c z) n q a t bs off =
-    ap (λ (b : Bool). if c.at == n && b then settled_bytes q t z bs else told_bytes q a t bs) off ∙ ap (λ (b : Bool). if b then settled_bytes q t z bs else told_bytes q a t bs) (and_off (c.at == n))
+    ap (λ (b : Bool). if c.at == n && b then settled_bytes q t z bs else told_bytes q a t bs) off ∙ ap (λ (b : Bool). if b then settled_bytes q t z bs else told_bytes q a t bs) (and_false (c.at == n))
 as_told _ n q a t bs off = refl
 
 none_told : (hand : Hand) (n : ℕ) (q : Qh) (a : ℕ) (t : Qtd) (bs : List ℕ) → works_on q a ≡ false → length bs ≡ t.token.total → [] ≡ hand_bytes hand n q a t bs
@@ -48,7 +45,7 @@ none_told hand n q a t bs off size =
 
 module _ (v : Queue) (r : Request) (x : Places) where
   pub with_old : (i : ℕ) → i < v.count → sent_at (with_request v r x) i ≡ sent_at v i
-  with_old i few = ap (λ (b : Bool). record { endpoint = v.endpoint; request = if b then r else v.requests i; places = if b then x else v.places i }) (not_same i v.count (λ is. omega (arith, few, is)))
+  with_old i few = ap (λ (b : Bool). record { endpoint = v.endpoint; request = if b then r else v.requests i; places = if b then x else v.places i }) (other_number i v.count (λ is. omega (arith, few, is)))
 
   pub with_new : (i : ℕ) → i ≡ v.count → sent_at (with_request v r x) i ≡ new_sent v r x
   with_new i is = ap (λ (b : Bool). record { endpoint = v.endpoint; request = if b then r else v.requests i; places = if b then x else v.places i }) (eq-eqb i v.count is)
@@ -91,7 +88,7 @@ module _ (sent : ℕ → Queue) (n : ℕ) (r : Request) (x : Places) where
   sent_here k at = ap (λ (b : Bool). if b then with_request (sent k) r x else sent k) (eq-eqb k n at)
 
   sent_beside : (k : ℕ) → k ≢ n → sent_with sent n r x k ≡ sent k
-  sent_beside k differs = ap (λ (b : Bool). if b then with_request (sent k) r x else sent k) (not_same k n differs)
+  sent_beside k differs = ap (λ (b : Bool). if b then with_request (sent k) r x else sent k) (other_number k n differs)
 
   endpoint_by : (k : ℕ) (b : Bool) → (if b then with_request (sent k) r x else sent k).endpoint ≡ (sent k).endpoint
   endpoint_by k true = refl

@@ -1,6 +1,7 @@
 -- The worked request is laid out, and so are both; memory shows the second where the first is done, and once it is begun.
 use Rattle.std.proofs.Common.{◌≡◌, ◌≢◌, ℕ, zero, suc, ◌<◌, ◌≤◌, true, false, Some, None, refl, inl, inr, sym, ◌∙◌, subst, arith}
 use Rattle.std.proofs.lemmas.Bool.{eqb-true, false≢true}
+use Rattle.law_devices.proofs.Common.{first_low}
 use Rattle.link_words.specs.Links.{no_qtd}
 use Rattle.hc_copy.specs.Overlay.{advanced}
 use Rattle.law_structures.specs.lent_structures.Structures.{Element, Buffer, Structures}
@@ -99,10 +100,6 @@ below_two : (P : ℕ → Type 0) (i : ℕ) → P 0 → P 1 → i < 2 → P i
 below_two P zero first second few = first
 below_two P (suc zero) first second few = second
 below_two P (suc (suc i)) first second few = absurd (omega (arith, few))
-
-first_low : (s : Stage) → place_at (stand_at 0) s ≤ 128
-first_low Setup = omega (arith)
-first_low _ = omega (arith)
 
 second_high : (s : Stage) → 160 ≤ place_at (stand_at 1) s
 second_high Setup = omega (arith)

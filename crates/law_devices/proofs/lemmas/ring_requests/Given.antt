@@ -1,8 +1,10 @@
 -- The bytes that go out with a transaction of a queue head that works on a stage are those of the stage.
-use Rattle.std.proofs.Common.{◌≡◌, ◌≢◌, ℕ, zero, suc, ◌-◌, ◌<◌, ◌≤◌, ◌==◌, Bool, true, false, if◌then◌else◌, List, [], ◌∷◌, ◌++◌, length, take, drop, ap, refl, sym, ◌∙◌, ⊎_elim, inl, inr, arith}
+use Rattle.std.proofs.Common.{◌≡◌, ◌≢◌, ℕ, ◌-◌, ◌<◌, ◌≤◌, ◌==◌, Bool, true, false, if◌then◌else◌, List, [], ◌++◌, length, take, drop, ap, refl, sym, ◌∙◌, ⊎_elim, inl, inr, arith}
 use Rattle.std.specs.Prelude.{◌⊎◌}
 use Rattle.std.proofs.lemmas.Bool.{cases_eq, cases_lt, eq-eqb, false≢true}
 use Rattle.std.proofs.lemmas.List.{length-append}
+use Rattle.law_common.proofs.Lists.{take_whole}
+use Rattle.law_common.proofs.Numbers.{other_number}
 use Rattle.usb_base.specs.declared.packets.Pid.{Pid}
 use Rattle.usb_base.specs.declared.packets.Pid.TheVariants as pids
 use Rattle.qh_qtd.specs.declared.qtd.Qtd.{Qtd}
@@ -11,7 +13,6 @@ use Rattle.dev_control.specs.Stages.{is_read}
 use Rattle.toggle_error.specs.declared.host.HostSide.{HostSide}
 use Rattle.toggle_error.specs.Columns.{limit_of}
 use Rattle.law_structures.specs.lent_structures.Structures.{Structures}
-use Rattle.law_structures.proofs.lemmas.lent_structures.Names.{not_same}
 use Rattle.hc_copy.specs.Overlay.{buffer_place}
 use Rattle.hc_copy.specs.Planning.{pid_at}
 use Rattle.law_ring.specs.Effects.{bytes_in, buffer_of}
@@ -27,7 +28,7 @@ use Rattle.law_devices.specs.ring_requests.Laid.{HasBytes}
 pub in_code : (code : ℕ) → pid_at code ≡ pids.In → (code == 1) ≡ true
 in_code code is =
     ⊎_elim (λ (same : code ≡ 1). eq-eqb code 1 same)
-    (λ (differs : code ≢ 1). absurd (by (code == 0) (sym (ap (λ (b : Bool). if code == 0 then pids.Out else if b then pids.In else pids.Setup) (not_same code 1 differs)) ∙ is))) (cases_eq code 1)
+    (λ (differs : code ≢ 1). absurd (by (code == 0) (sym (ap (λ (b : Bool). if code == 0 then pids.Out else if b then pids.In else pids.Setup) (other_number code 1 differs)) ∙ is))) (cases_eq code 1)
   where
     by : (b : Bool) → (if b then pids.Out else pids.Setup) ≡ pids.In → ⊥
     by true e = cc
@@ -35,15 +36,9 @@ in_code code is =
 
 pub not_in_code : (code : ℕ) (p : Pid) → pid_at code ≡ p → p ≢ pids.In → (code == 1) ≡ false
 not_in_code code p is other =
-    ⊎_elim (λ (same : code ≡ 1). absurd (other (sym is ∙ ap pid_at same))) (λ (differs : code ≢ 1). not_same code 1 differs) (cases_eq code 1)
+    ⊎_elim (λ (same : code ≡ 1). absurd (other (sym is ∙ ap pid_at same))) (λ (differs : code ≢ 1). other_number code 1 differs) (cases_eq code 1)
 
 -- ---- lists
-
-take_whole : (n : ℕ) (xs : List ℕ) → length xs ≤ n → take n xs ≡ xs
-take_whole zero [] few = refl
-take_whole (suc n) [] few = refl
-take_whole zero (x ∷ xs) few = absurd (omega (arith, few))
-take_whole (suc n) (x ∷ xs) few = ap (λ (ys : List ℕ). x ∷ ys) (take_whole n xs (omega (arith, few)))
 
 none_left : (side : HostSide) (xs : List ℕ) → side.left ≡ 0 → take (limit_of side) xs ≡ []
 none_left side xs none = let z : limit_of side ≡ 0 = omega (arith, none) in ap (λ (n : ℕ). take n xs) z

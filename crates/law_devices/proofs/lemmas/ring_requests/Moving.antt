@@ -1,7 +1,8 @@
 -- What a transaction leaves of a request whose stage a queue head works on.
 use Rattle.std.proofs.Common.{◌≡◌, ◌≢◌, ℕ, Bool, true, false, if◌then◌else◌, List, [], ◌++◌, Some, ap, refl, sym, subst, ◌∙◌}
 use Rattle.std.proofs.lemmas.Bool.{false≢true}
-use Rattle.std.proofs.lemmas.List.{append-nil}
+use Rattle.law_devices.proofs.Common.{status_comes}
+use Rattle.law_common.proofs.Lists.{nothing_more}
 use Rattle.link_words.specs.declared.kinds.QtdLink.TheVariants.{To}
 use Rattle.link_words.specs.Links.{qtd_link_of}
 use Rattle.qh_qtd.specs.declared.qtd.Qtd.{Qtd}
@@ -20,10 +21,6 @@ use Rattle.law_devices.specs.ring_requests.Shown.{pointer_at, AreFresh, IsPendin
 use Rattle.law_devices.specs.ring_requests.Shown.Shows.{works, waits, ends, halts}
 use Rattle.law_devices.proofs.lemmas.ring_requests.Stages.{next_apart, pointer_to, pointer_behind}
 use Rattle.law_devices.proofs.lemmas.ring_requests.Outcomes.{LeavesActive}
-
-status_comes : (r : Request) (b : Bool) → comes r (if b then Data else Status) Status ≡ true
-status_comes r true = refl
-status_comes r false = refl
 
 pub fresh_pending : (e : Endpoint) (r : Request) (x : Places) (part : Structures) (s : Stage) → IsFresh e r x part s → IsPending part (place_at x s)
 fresh_pending e r x part s f = record { qtd = f.stage.qtd; here = f.stage.here; published = ap (λ (h : HostSide). h.active) (f.begins true) ∙ begun_active s }
@@ -98,9 +95,6 @@ module _ (e : Endpoint) (r : Request) (x : Places) (apart : AreApart x) (part : 
 goes_moved : (r : Request) (b : Bool) (side : HostSide) (moved : List ℕ) (h : Host) → (goes_on r b side moved h).moved ≡ moved
 goes_moved r true side moved h = refl
 goes_moved r false side moved h = refl
-
-nothing_more : (moved got : List ℕ) → got ≡ [] → moved ≡ moved ++ got
-nothing_more moved got none = sym (ap (λ (xs : List ℕ). moved ++ xs) none ∙ append-nil moved)
 
 pub moved_in_data : (r : Request) (o : Outcome) (side : HostSide) (got : List ℕ) (h : Host) → h.stage ≡ Data → (is_moved o ≡ false → got ≡ []) → (settled_by r o side got h).moved ≡ h.moved ++ got
 moved_in_data r (outcomes.Moved n) side got h is none = goes_moved r side.active side (moved_at h.stage h.moved got) h ∙ ap (λ (s : Stage). moved_at s h.moved got) is

@@ -1,6 +1,7 @@
 -- What an outcome says of the host's side: whether it goes on, and what was moved.
 use Rattle.std.proofs.Common.{◌≡◌, ℕ, ◌-◌, ◌==◌, Bool, true, false, not, ◌&&◌, ◌||◌, if◌then◌else◌, List, [], take, refl, sym, subst, ap}
 use Rattle.std.proofs.lemmas.Bool.{false≢true}
+use Rattle.law_ring.proofs.Common.{by_none}
 use Rattle.usb_base.specs.declared.endpoints.EndCause.TheVariants as Causes
 use Rattle.usb_base.specs.declared.packets.Pid.{Pid}
 use Rattle.usb_base.specs.declared.packets.Pid.TheVariants as Packets
@@ -59,10 +60,6 @@ got_none : (pid : Pid) (o : Outcome) (reply : Reply) → is_moved o ≡ false �
 got_none Packets.In (Moved n) reply off = absurd (false≢true (sym off))
 got_none Packets.In _ reply off = refl
 got_none _ o reply off = refl
-
-by_none : (o : Outcome) → is_moved o ≡ false → moved_by o ≡ 0
-by_none (Moved n) off = absurd (false≢true (sym off))
-by_none _ off = refl
 
 pub moved_none : (q : Qh) (o : Outcome) (reply : Reply) (source : List ℕ) → is_moved o ≡ false → moved_of q o reply source ≡ []
 moved_none q o reply source off = by (q.token.pid == 1)

@@ -1,8 +1,8 @@
 -- A queue that asks has an endpoint of its own, and once it is at rest the others go on without it.
 use Rattle.std.proofs.Common.{◌≡◌, ◌≢◌, ℕ, Bool, true, false, if◌then◌else◌, Option, ap, refl, sym, subst, ◌∙◌, ⊎_elim}
 use Rattle.std.proofs.lemmas.Bool.{cases_eq, eq-eqb, false≢true}
+use Rattle.law_common.proofs.Numbers.{other_number}
 use Rattle.law_structures.specs.lent_structures.Structures.{StructureSets}
-use Rattle.law_structures.proofs.lemmas.lent_structures.Names.{not_same}
 use Rattle.claims_report.specs.ControlSides.{Device}
 use Rattle.law_ring.specs.Hand.{Hand}
 use Rattle.law_ring.specs.Told.{endpoint_of}
@@ -29,7 +29,7 @@ module _ {W : Type 0} (device : W → ℕ → ℕ → Option Device) (member win
   but_here k at = ap (λ (b : Bool). if b then false else windows k) (eq-eqb k n at)
 
   but_beside : (k : ℕ) → k ≢ n → windows_but windows n k ≡ windows k
-  but_beside k differs = ap (λ (b : Bool). if b then false else windows k) (not_same k n differs)
+  but_beside k differs = ap (λ (b : Bool). if b then false else windows k) (other_number k n differs)
 
   but_other : (k : ℕ) → windows_but windows n k ≡ true → k ≢ n
   but_other k one at = false≢true (sym (but_here k at) ∙ one)

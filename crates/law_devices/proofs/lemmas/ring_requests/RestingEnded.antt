@@ -1,6 +1,7 @@
 -- The last request of a queue has ended, or its queue head is halted: the queue is at rest.
 use Rattle.std.proofs.Common.{◌≡◌, ◌≢◌, ℕ, suc, Bool, true, false, Option, Some, ap, refl, sym, subst, ◌∙◌, ⊎_elim, arith}
 use Rattle.std.proofs.lemmas.Bool.{cases_eq, false≢true}
+use Rattle.law_common.proofs.Booleans.{off_by}
 use Rattle.usb_base.specs.declared.packets.Reply.{Reply}
 use Rattle.link_words.specs.declared.kinds.QtdLink.TheVariants.{To}
 use Rattle.link_words.specs.Links.{qtd_link_of}
@@ -20,10 +21,6 @@ use Rattle.law_devices.specs.ring_requests.Windows.{Queue, sent_at, Lines, HasEn
 use Rattle.law_devices.specs.ring_requests.Resting.{IsAtRest, HasRest, IsStopped, DoneRests, HaltRests}
 use Rattle.law_devices.proofs.lemmas.ring_requests.Taking.{ends_only}
 use Rattle.law_devices.proofs.lemmas.ring_requests.Telling.{either_side, working, none_pending, stage_done, behind_pending, queue_ended}
-
-not_active : (b : Bool) → (b ≡ true → ⊥) → b ≡ false
-not_active false none = refl
-not_active true none = absurd (none refl)
 
 module _ (member : ℕ → Bool) (parts : StructureSets) (hand : Hand) (reply : Reply) (n i b : ℕ) (v : Queue) (l : Lines) (o : Option Device) (m : IsMember member n (parts n)) (in_hand : IsInHand member parts reply hand) (w : IsQueue v l hand parts n o) (last : suc i ≡ v.count) (behind : (v.places i).behind ≡ Some b) where
   abbrev q : Qh
@@ -53,7 +50,8 @@ module _ (member : ℕ → Bool) (parts : StructureSets) (hand : Hand) (reply : 
   halt_rests : IsStopped parts n → IsAtRest v.endpoint (l.line l.under).device b hand parts n o
   halt_rests k =
       let halted : q.token.halted ≡ true = ap (λ (x : Qh). x.token.halted) (found_queue (parts n n) q k.queue w.window.head k.head) ∙ k.halted in
-      rests (not_active q.token.active (λ on. let going : IsWorking (parts n) q = sound.work on in false≢true (sym going.goes_on ∙ halted))) (λ goes_on. absurd (false≢true (sym goes_on ∙ halted)))
+      rests (off_by q.token.active (λ on. let going : IsWorking (parts n) q = sound.work on in false≢true (sym going.goes_on ∙ halted)))
+      (λ goes_on. absurd (false≢true (sym goes_on ∙ halted)))
 
   -- ---- the last one is done
 
@@ -73,7 +71,7 @@ module _ (member : ℕ → Bool) (parts : StructureSets) (hand : Hand) (reply : 
     end = ends_only v.endpoint (v.requests l.under) (v.places l.under) (parts n) (hand_side hand n q) q (l.line l.under).host (ap is_done done) w.window.shown
 
     idle : q.token.active ≡ false
-    idle = not_active q.token.active (λ on.
+    idle = off_by q.token.active (λ on.
         none_pending member parts hand reply n m in_hand q w.window.head (sent_at v l.under) here (l.line l.under).host
         (subst (IsPending (parts n)) (end.worked on) (working member parts hand reply n m in_hand q w.window.head (sent_at v l.under) here (l.line l.under).host on)))
 

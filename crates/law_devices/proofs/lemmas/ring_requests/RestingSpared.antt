@@ -1,6 +1,8 @@
 -- What is written beside a queue at rest leaves it at rest: a store, a lend, or structures that are given back.
 use Rattle.std.proofs.Common.{◌≡◌, ◌≢◌, ℕ, ◌==◌, Bool, true, false, if◌then◌else◌, Option, Some, None, ap, refl, sym, subst, ◌∙◌, ⊎_elim}
 use Rattle.std.proofs.lemmas.Bool.{cases_eq, eq-eqb, false≢true}
+use Rattle.law_devices.proofs.Common.{pointer_still, is_same}
+use Rattle.law_common.proofs.Numbers.{other_number}
 use Rattle.usb_base.specs.declared.packets.Reply.{Reply}
 use Rattle.link_words.specs.declared.fields.LinkBits.{LinkBits}
 use Rattle.link_words.specs.Links.{qtd_link_of}
@@ -10,9 +12,8 @@ use Rattle.qh_qtd.specs.declared.queue_head.Qh.{Qh}
 use Rattle.toggle_error.specs.declared.host.HostSide.{HostSide}
 use Rattle.hc_host_side.specs.HostToken.{host_at}
 use Rattle.hc_copy.specs.Planning.{host_in}
-use Rattle.hc_copy.specs.Visits.{next_pointer}
 use Rattle.law_structures.specs.lent_structures.Structures.{Structure, QueueHead, Element, Structures, StructureSets, put}
-use Rattle.law_structures.proofs.lemmas.lent_structures.Names.{not_same, put_same, put_else, put_beside}
+use Rattle.law_structures.proofs.lemmas.lent_structures.Names.{put_same, put_else, put_beside}
 use Rattle.law_structures.proofs.lemmas.lent_structures.Altering.{found_queue, no_two}
 use Rattle.dev_control.specs.Stages.{Stages}
 use Rattle.law_request.specs.Host.{Endpoint}
@@ -25,9 +26,8 @@ use Rattle.law_ring.specs.Fewer.{fewer_structures, without_those}
 use Rattle.law_ring.specs.Front.{SameRest}
 use Rattle.law_ring.specs.Told.{HasEndpoint, endpoint_of, Endpoint as Characteristics}
 use Rattle.law_devices.specs.ring_requests.Laid.{IsIdle}
-use Rattle.law_devices.specs.ring_requests.Shown.{hand_side, pointer_at}
+use Rattle.law_devices.specs.ring_requests.Shown.{hand_side}
 use Rattle.law_devices.specs.ring_requests.Resting.{IsAtRest, IsOtherEndpoint, IsAlone, HeadStays, RestIsSame, RestIsSpared, AloneIsSpared, StoreSparesRest, LendSparesRest, ReleaseSparesRest, SameSide, LinkSparesRest, MendSparesRest, MendedRests}
-use Rattle.law_devices.proofs.lemmas.ring_requests.Stages.{pointer_same}
 
 -- ---- the queue head
 
@@ -42,9 +42,6 @@ endpoint_same e q r same is = record {
 
 pub host_same : (q r : Qh) → r.token ≡ q.token → r.max ≡ q.max → host_in r ≡ host_in q
 host_same q r token max = ap (λ (t : Token). host_at t r.max) token ∙ ap (λ (m : ℕ). host_at q.token m) max
-
-pointer_still : (q r : Qh) → SameRest q r → next_pointer r ≡ next_pointer q
-pointer_still q r same = ap (λ (t : Token). pointer_at t.total r) same.token ∙ pointer_same q.token.total q r same.next same.alternate
 
 module _ (q r : Qh) (host : host_in r ≡ host_in q) where
   by_copy : (b : Bool) (s : HostSide) → (if b then s else host_in q) ≡ host_in q → (if b then s else host_in r) ≡ host_in r
@@ -76,9 +73,6 @@ pub alone_is_spared : AloneIsSpared
 alone_is_spared member e n parts now heads alone k on differs = let o : IsOtherEndpoint e parts k = alone k on differs in record { own = o.own; has = heads k o.own differs o.has; other = o.other }
 
 -- ---- what stays
-
-is_same : (q : Qh) → SameRest q q
-is_same q = record { token = refl; current = refl; next = refl; alternate = refl }
 
 -- all queue heads stay
 module _ (member : ℕ → Bool) (e : Endpoint) (c : Stages) (b n : ℕ) (hand : Hand) (parts now : StructureSets) (o : Option Device) (heads : (k : ℕ) (q : Qh) → parts k k ≡ Some (QueueHead q) → now k k ≡ Some (QueueHead q)) where
@@ -129,7 +123,7 @@ module _ (parts : StructureSets) (k : ℕ) (goes : ℕ → Bool) where
       ⊎_elim {C = without_those parts k goes n b ≡ Some s}
       (λ (same : n ≡ k).
       ap (λ (x : Bool). (if x then fewer_structures goes (parts n) else parts n) b) (eq-eqb n k same) ∙ ap (λ (x : Bool). if x then None else parts n b) (stays same) ∙ there)
-      (λ (differs : n ≢ k). ap (λ (x : Bool). (if x then fewer_structures goes (parts n) else parts n) b) (not_same n k differs) ∙ there) (cases_eq n k)
+      (λ (differs : n ≢ k). ap (λ (x : Bool). (if x then fewer_structures goes (parts n) else parts n) b) (other_number n k differs) ∙ there) (cases_eq n k)
 
 pub release_spares_rest : ReleaseSparesRest
 release_spares_rest member e c b n hand parts o k goes head tail alone r =
@@ -209,7 +203,7 @@ idle_side member parts reply n q new (Settled c z) in_hand head idle =
     (λ (same : c.at ≡ n).
     let is : c.queue ≡ q = found_queue (parts n n) c.queue q (ap (λ (i : ℕ). parts i i) (sym same) ∙ in_hand.0.here) head in
     absurd (false≢true (sym idle ∙ ap (λ (x : Qh). x.token.active) (sym is) ∙ in_hand.1.works)))
-    (λ (differs : c.at ≢ n). ap (λ (b : Bool). if b then z.host else host_in new) (not_same c.at n differs)) (cases_eq c.at n)
+    (λ (differs : c.at ≢ n). ap (λ (b : Bool). if b then z.host else host_in new) (other_number c.at n differs)) (cases_eq c.at n)
 idle_side member parts reply n q new _ in_hand head idle = refl
 
 pub mended_rests : MendedRests

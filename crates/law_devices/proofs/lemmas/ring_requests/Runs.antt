@@ -2,7 +2,7 @@
 use Rattle.std.proofs.Common.{◌≡◌, ℕ, zero, suc, ◌<◌, Bool, if◌then◌else◌, List, [], ◌∷◌, ◌++◌, map, ap, refl, sym, ◌∙◌, arith}
 use Rattle.std.proofs.lemmas.Bool.{eq-eqb}
 use Rattle.std.proofs.lemmas.List.{map-append}
-use Rattle.law_structures.proofs.lemmas.lent_structures.Names.{not_same}
+use Rattle.law_common.proofs.Numbers.{other_number}
 use Rattle.dev_control.specs.Stages.{Stages}
 use Rattle.bus_wire.specs.declared.asked.Losses.{Losses}
 use Rattle.claims_report.specs.Requests.{Request}
@@ -64,7 +64,7 @@ run_goes_on v c l (Transaction losses) k = record {
   request = k.request;
   lines = k.lines
       ∙ first_same l.line (progressed v (Transaction losses) l).line l.under
-      (λ i less. ap (λ (b : Bool). if b then transacted v.endpoint (v.requests i) losses (l.line i) else l.line i) (sym (not_same i l.under (λ is. omega (arith, less, is)))));
+      (λ i less. ap (λ (b : Bool). if b then transacted v.endpoint (v.requests i) losses (l.line i) else l.line i) (sym (other_number i l.under (λ is. omega (arith, less, is)))));
   line = ap (λ (b : Bool). if b then transacted v.endpoint (v.requests l.under) losses (l.line l.under) else l.line l.under) (eq-eqb l.under l.under refl)
       ∙ ap (λ (x : Line). transacted v.endpoint (v.requests l.under) losses x) k.line
       ∙ ap (λ (r : Request). transacted v.endpoint r losses (window_of v.endpoint k.last (left_after v.endpoint k.earlier c))) (sym k.request)
@@ -77,7 +77,7 @@ run_goes_on v c l Advance k = record {
   request = refl;
   lines = run_windows v c l k
       ∙ first_same l.line (progressed v Advance l).line (suc l.under)
-      (λ i less. ap (λ (b : Bool). if b then opened v i (l.line l.under) else l.line i) (sym (not_same i (suc l.under) (λ is. omega (arith, less, is)))));
+      (λ i less. ap (λ (b : Bool). if b then opened v i (l.line l.under) else l.line i) (sym (other_number i (suc l.under) (λ is. omega (arith, less, is)))));
   line = ap (λ (b : Bool). if b then opened v (suc l.under) (l.line l.under) else l.line (suc l.under)) (eq-eqb (suc l.under) (suc l.under) refl)
       ∙ ap (λ (d : Stages). line_at v.endpoint (v.requests (suc l.under)) (l.line l.under).host.side.ping d) (sym (left_is v c l k));
 }

@@ -2,13 +2,14 @@
 use Rattle.std.proofs.Common.{◌≡◌, ◌≢◌, ℕ, ◌<◌, ◌≤◌, ◌==◌, Bool, true, false, if◌then◌else◌, List, Option, Some, ap, refl, sym, subst, ◌∙◌, ⊎_elim, inl, inr, arith}
 use Rattle.std.specs.Prelude.{◌⊎◌}
 use Rattle.std.proofs.lemmas.Bool.{cases_eq, cases_lt, false≢true}
+use Rattle.law_devices.proofs.Common.{status_comes}
+use Rattle.law_common.proofs.Numbers.{other_number}
 use Rattle.usb_base.specs.declared.packets.Reply.{Reply}
 use Rattle.qh_qtd.specs.declared.qtd.Qtd.{Qtd}
 use Rattle.qh_qtd.specs.declared.queue_head.Qh.{Qh}
 use Rattle.toggle_error.specs.declared.host.HostSide.{HostSide}
 use Rattle.hc_copy.specs.Planning.{host_in}
 use Rattle.law_structures.specs.lent_structures.Structures.{QueueHead, Element, Structures, StructureSets}
-use Rattle.law_structures.proofs.lemmas.lent_structures.Names.{not_same}
 use Rattle.law_structures.specs.lent_structures.Sound.{IsWorking, IsSoundQueue, IsMember}
 use Rattle.law_structures.proofs.lemmas.lent_structures.Altering.{found_queue, found_element}
 use Rattle.law_ring.specs.Hand.{Hand, Settled}
@@ -68,7 +69,7 @@ either_side P member (Settled c z) parts reply n q in_hand here as_told settled 
     (λ (same : c.at ≡ n).
     let is : c.queue ≡ q = found_queue (parts n n) c.queue q (ap (λ (i : ℕ). parts i i) (sym same) ∙ in_hand.0.here) here in
     settled (if c.at == n then z.host else host_in q) (ap (λ (x : Qh). x.token.active) (sym is) ∙ in_hand.1.works))
-    (λ (differs : c.at ≢ n). subst (λ (b : Bool). P (if b then z.host else host_in q)) (sym (not_same c.at n differs)) as_told) (cases_eq c.at n)
+    (λ (differs : c.at ≢ n). subst (λ (b : Bool). P (if b then z.host else host_in q)) (sym (other_number c.at n differs)) as_told) (cases_eq c.at n)
 either_side P member _ parts reply n q in_hand here as_told settled = as_told
 
 not_pending : (part : Structures) (a : ℕ) (t : Qtd) → part a ≡ Some (Element t) → t.token.active ≡ false → IsPending part a → ⊥
@@ -78,10 +79,6 @@ status_last : (r : Request) (s : Stage) → is_over s ≡ false → comes r s St
 status_last r Done going = absurd (false≢true (sym going))
 status_last r (Halted cause) going = absurd (false≢true (sym going))
 status_last r _ going = refl
-
-status_after : (r : Request) (b : Bool) → comes r (if b then Data else Status) Status ≡ true
-status_after r true = refl
-status_after r false = refl
 
 module _ (member : ℕ → Bool) (parts : StructureSets) (hand : Hand) (reply : Reply) (n : ℕ) (m : IsMember member n (parts n)) (in_hand : IsInHand member parts reply hand) (q : Qh) (head : parts n n ≡ Some (QueueHead q)) (v : Sent) (k : HasEnded v parts n) (h : Host) where
   pub working : q.token.active ≡ true → IsPending (parts n) q.current
@@ -99,7 +96,7 @@ module _ (member : ℕ → Bool) (parts : StructureSets) (hand : Hand) (reply : 
   by_stage : (s : Stage) → h.stage ≡ s → is_over s ≡ false → Works v.endpoint v.request v.places (parts n) (hand_side hand n q) q h → ⊥
   by_stage Status is going w = none_pending (subst (IsPending (parts n)) (w.current ∙ ap (place_at v.places) is) (working (active_side w.active)))
   by_stage Setup is going w =
-      none_pending (fresh_pending v.endpoint v.request v.places (parts n) Status (w.later Status (ap (λ (s : Stage). comes v.request (next_stage v.request s) Status) is ∙ status_after v.request (has_data v.request))))
+      none_pending (fresh_pending v.endpoint v.request v.places (parts n) Status (w.later Status (ap (λ (s : Stage). comes v.request (next_stage v.request s) Status) is ∙ status_comes v.request (has_data v.request))))
   by_stage Data is going w = none_pending (fresh_pending v.endpoint v.request v.places (parts n) Status (w.later Status (ap (λ (s : Stage). comes v.request (next_stage v.request s) Status) is)))
   by_stage _ is going w = false≢true (sym going)
 

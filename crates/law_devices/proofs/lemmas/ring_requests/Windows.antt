@@ -1,6 +1,8 @@
 -- Each event of the walk, by its effect, transaction_keeps the windows of all requests.
 use Rattle.std.proofs.Common.{◌≡◌, ◌≢◌, ℕ, suc, ◌-◌, ◌<◌, ◌≤◌, ◌==◌, ◌&&◌, Bool, true, false, if◌then◌else◌, List, [], ◌++◌, drop, Option, Some, None, ap, refl, sym, subst, ◌∙◌, ⊎_elim, arith}
 use Rattle.std.proofs.lemmas.Bool.{cases_eq, cases_lt, eq-eqb, false≢true}
+use Rattle.law_common.proofs.Booleans.{and_both}
+use Rattle.law_common.proofs.Numbers.{other_number}
 use Rattle.usb_base.specs.declared.endpoints.EndCause.{EndCause}
 use Rattle.usb_base.specs.declared.packets.Ask.{Ask}
 use Rattle.usb_base.specs.declared.packets.Reply.{Reply}
@@ -16,7 +18,7 @@ use Rattle.async_walk.specs.Rows.{WalkPlace, at_event, event_row, step_of, Leads
 use Rattle.law_structures.specs.lent_structures.Settles.{Settles}
 use Rattle.law_structures.proofs.lemmas.lent_structures.Settling.{a_transaction_settles}
 use Rattle.law_structures.specs.lent_structures.Structures.{QueueHead, Element, Structures, StructureSets, with_structure}
-use Rattle.law_structures.proofs.lemmas.lent_structures.Names.{not_same, put_here, put_beside, with_here}
+use Rattle.law_structures.proofs.lemmas.lent_structures.Names.{put_here, put_beside, with_here}
 use Rattle.law_structures.proofs.lemmas.lent_structures.Found.{back_beside}
 use Rattle.law_structures.specs.lent_structures.Sound.{AreOwn, IsWorking, IsSoundQueue, IsMember}
 use Rattle.law_structures.specs.lent_structures.Alters.{Alters}
@@ -66,7 +68,7 @@ side_here : (hand : Hand) (c : Copy) (z : Settlement) (q : Qh) → hand ≡ Sett
 side_here hand c z q is = ap (λ (h : Hand). hand_side h c.at q) is ∙ ap (λ (b : Bool). if b then z.host else host_in q) (eq-eqb c.at c.at refl)
 
 pub side_beside : (hand : Hand) (c : Copy) (z : Settlement) (n : ℕ) (q : Qh) → hand ≡ Settled c z → c.at ≢ n → hand_side hand n q ≡ host_in q
-side_beside hand c z n q is differs = ap (λ (h : Hand). hand_side h n q) is ∙ ap (λ (b : Bool). if b then z.host else host_in q) (not_same c.at n differs)
+side_beside hand c z n q is differs = ap (λ (h : Hand). hand_side h n q) is ∙ ap (λ (b : Bool). if b then z.host else host_in q) (other_number c.at n differs)
 
 -- ---- a window that goes on as it was
 
@@ -180,13 +182,7 @@ module _ (windows : ℕ → Bool) (lines : ℕ → Lines) where
 
 pub requests_behind_a_halted_one_are_not_begun : (windows : ℕ → Bool) (sent : ℕ → Queue) (lines : ℕ → Lines) (step : Option Step) (n : ℕ) (cause : EndCause) → HaltedStay windows lines step → windows n ≡ true → stage_of (lines n) ≡ Halted cause → stepped sent step lines n ≡ lines n
 requests_behind_a_halted_one_are_not_begun windows sent lines None n cause stay on halted = refl
-requests_behind_a_halted_one_are_not_begun windows sent lines (Some s) n cause stay on halted = ap (λ (b : Bool). if b then progressed (sent n) s.is (lines n) else lines n) (not_same n s.at (stay n cause on halted s refl))
-
-both_true : (a b : Bool) → (a && b) ≡ true → (a ≡ true) × (b ≡ true)
-both_true true true on = (refl, refl)
-both_true true false on = absurd (false≢true on)
-both_true false true on = absurd (false≢true on)
-both_true false false on = absurd (false≢true on)
+requests_behind_a_halted_one_are_not_begun windows sent lines (Some s) n cause stay on halted = ap (λ (b : Bool). if b then progressed (sent n) s.is (lines n) else lines n) (other_number n s.at (stay n cause on halted s refl))
 
 not_both : (a b : Bool) → (a && b) ≡ false → a ≡ true → b ≡ false
 not_both true false off on = refl
@@ -328,7 +324,7 @@ module _ {W : Type 0} (transacts : W → Ask → List ℕ → Reply → W → Ty
         taken_next : IsQueue (sent n) (progressed (sent n) Advance (lines n)) later now n (device_at wire n)
         taken_next =
             queue_next mine (lines n) hand later parts now n (device_at wire n) (device_at wire n) (λ j more few. fresh_taken_there j) (tail_still n (alters n)) next_lines more (done_is (stage_of (lines n)) done)
-            (λ j less. ap (λ (b : Bool). if b then opened mine j line_began else (lines n).line j) (not_same j (suc began) (λ same. omega (arith, less, same))))
+            (λ j less. ap (λ (b : Bool). if b then opened mine j line_began else (lines n).line j) (other_number j (suc began) (λ same. omega (arith, less, same))))
             (subst (λ (b : Bool). IsWindow (sent_at mine (suc began)) (if b then opened mine (suc began) line_began else (lines n).line (suc began)) later now n (device_at wire n)) (sym (eq-eqb (suc began) (suc began) refl)) next_window)
             (λ j. told.bytes n (mine.places j).data_at) w
 
@@ -347,7 +343,7 @@ module _ {W : Type 0} (transacts : W → Ask → List ℕ → Reply → W → Ty
         subst (λ (b : Bool). IsQueue (sent n) (if b then progressed (sent n) Advance (lines n) else lines n) later now n (device_at wire n)) (sym (eq-eqb n k.copy.at at))
         (taken_next n at one (all.each n one) (ap (λ (i : ℕ). is_done (stage_of (lines i))) at ∙ done)))
         (λ (differs : n ≢ k.copy.at).
-        subst (λ (b : Bool). IsQueue (sent n) (if b then progressed (sent n) Advance (lines n) else lines n) later now n (device_at wire n)) (sym (not_same n k.copy.at differs)) (taken_beside n differs (all.each n one)))
+        subst (λ (b : Bool). IsQueue (sent n) (if b then progressed (sent n) Advance (lines n) else lines n) later now n (device_at wire n)) (sym (other_number n k.copy.at differs)) (taken_beside n differs (all.each n one)))
         (cases_eq n k.copy.at)
 
     record TakesRest (o : Option Step) : Type 0 where
@@ -371,7 +367,7 @@ module _ {W : Type 0} (transacts : W → Ask → List ℕ → Reply → W → Ty
     }
       where
         both : (windows k.copy.at ≡ true) × (is_done (stage_of (lines k.copy.at)) ≡ true)
-        both = both_true (windows k.copy.at) (is_done (stage_of (lines k.copy.at))) on
+        both = and_both (windows k.copy.at) (is_done (stage_of (lines k.copy.at))) on
 
     taken_all : TakesRest (advance_at windows lines k.copy.at)
     taken_all = taken_by (windows k.copy.at && is_done (stage_of (lines k.copy.at))) refl
@@ -625,7 +621,7 @@ module _ {W : Type 0} (transacts : W → Ask → List ℕ → Reply → W → Ty
       queue_now =
           queue_goes queue (lines at) hand later parts now at (device_at wire at) (device_at after at) (λ j more few. subst (Fresh queue j) (sym (ap (λ (ps : StructureSets). ps at) same))) (subst (HasTail queue) (sym (ap (λ (ps : StructureSets). ps at) same)))
           (λ j. if j == i then transacted queue.endpoint (queue.requests j) turn.losses ((lines at).line j) else (lines at).line j)
-          (λ j less. ap (λ (b : Bool). if b then transacted queue.endpoint (queue.requests j) turn.losses ((lines at).line j) else (lines at).line j) (not_same j i (λ is. omega (arith, less, is))))
+          (λ j less. ap (λ (b : Bool). if b then transacted queue.endpoint (queue.requests j) turn.losses ((lines at).line j) else (lines at).line j) (other_number j i (λ is. omega (arith, less, is))))
           (subst (λ (b : Bool). IsWindow v (if b then transacted v.endpoint v.request turn.losses line else line) later now at (device_at after at)) (sym (eq-eqb i i refl)) window_now)
           (λ j few differs xs told. subst (λ (ps : StructureSets). Told later ps at (queue.places j).data_at xs) (sym same)
           (grows.other_bytes at (queue.places j).data_at xs (λ both. fixed.others at j i on few requests.within differs Data line.host.stage (both.1 ∙ work.current)) told)) requests
@@ -638,7 +634,7 @@ module _ {W : Type 0} (transacts : W → Ask → List ℕ → Reply → W → Ty
             subst (λ (i : ℕ). IsQueue (sent i) (stepped sent step_is lines i) later now i (device_at after i)) (sym is)
             (subst (λ (b : Bool). IsQueue queue (if b then progressed queue (Transaction turn.losses) (lines at) else lines at) later now at (device_at after at)) (sym (eq-eqb at at refl)) queue_now))
             (λ (differs : n ≢ m.copy.at).
-            subst (λ (b : Bool). IsQueue (sent n) (if b then progressed (sent n) (Transaction turn.losses) (lines n) else lines n) later now n (device_at after n)) (sym (not_same n at differs))
+            subst (λ (b : Bool). IsQueue (sent n) (if b then progressed (sent n) (Transaction turn.losses) (lines n) else lines n) later now n (device_at after n)) (sym (other_number n at differs))
             (beside_queue n differs one (not_other n differs one) (all.each n one))) (cases_eq n m.copy.at);
         others = λ n yes none. elsewhere_made n (all.others n yes none);
       }

@@ -1,8 +1,9 @@
 -- A transaction of the bus: the control endpoint that is asked answers by its stage, and every other one stays as it is.
 use Rattle.std.proofs.Common.{◌≡◌, ◌≢◌, ℕ, ◌==◌, true, false, List, slice_get, slice_set, Option, Some, None, ap, refl, sym, subst, ◌∙◌, ⊎_elim, position}
-use Rattle.std.specs.Option.{option_and_then, option_map, option_map_or}
+use Rattle.std.specs.Option.{option_and_then, option_map}
 use Rattle.std.proofs.lemmas.Bool.{cases_eq}
 use Rattle.std.proofs.lemmas.Option.{same_Some}
+use Rattle.law_devices.proofs.Common.{no_translator}
 use Rattle.usb_base.specs.declared.packets.Ask.{Ask}
 use Rattle.usb_base.specs.declared.packets.Pid.{Pid}
 use Rattle.usb_base.specs.declared.packets.Pid.TheVariants as Pids
@@ -58,11 +59,6 @@ who_seat b split place (Some seat) e is = who_packet b split place seat (slice_g
 who_place : (fixed : Fixed) (b : Bus) (split : Split) (o : Option ℕ) (e : Asked) → option_and_then (asked_at fixed b split) o ≡ Some e → IsWho b split e
 who_place fixed b split None e is = absurd cc
 who_place fixed b split (Some place) e is = who_seat b split place (slice_get fixed.seats place) e is
-
-no_translator : (o : Option ℕ) (stuff n : ℕ)
-    → option_map_or (λ (place : ℕ). Answerers.Translator place stuff) o Answerers.Nobody ≡ Answerers.Device n → ⊥
-no_translator None stuff n e = cc
-no_translator (Some k) stuff n e = cc
 
 -- a device is asked by a plain ask alone
 plain_only : (b : Bus) (split : Split) (owner : Owner) (n : ℕ) → hears b split owner ≡ Answerers.Device n → split ≡ Plain

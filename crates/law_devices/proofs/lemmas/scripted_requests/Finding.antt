@@ -1,8 +1,10 @@
 -- Where a control endpoint stands, and which ask is for it.
-use Rattle.std.proofs.Common.{◌≡◌, ◌≢◌, ℕ, ◌==◌, ◌&&◌, Bool, true, false, if◌then◌else◌, List, slice_get, Option, Some, None, ap, refl, sym, ◌∙◌, ⊎_elim, inl, inr}
-use Rattle.std.specs.Prelude.{◌⊎◌}
+use Rattle.std.proofs.Common.{◌≡◌, ◌≢◌, ℕ, ◌==◌, ◌&&◌, Bool, true, false, if◌then◌else◌, List, slice_get, Option, Some, None, ap, refl, sym, ◌∙◌, ⊎_elim}
 use Rattle.std.proofs.lemmas.Bool.{false≢true, eqb-true, eq-eqb}
 use Rattle.std.proofs.lemmas.Option.{same_Some}
+use Rattle.law_common.proofs.Booleans.{and_both}
+use Rattle.law_devices.proofs.Common.{either_found}
+use Rattle.law_common.proofs.Options.{if_found}
 use Rattle.usb_base.specs.declared.packets.Ask.{Ask}
 use Rattle.usb_base.specs.declared.packets.Way.{Way}
 use Rattle.usb_base.specs.declared.packets.Way.TheVariants as Ways
@@ -23,10 +25,6 @@ use Rattle.bus_wire.specs.Bus.{Bus, Wired}
 use Rattle.claims_report.specs.ControlSides.{Device as Side}
 use Rattle.law_devices.proofs.Places.{position_passes}
 use Rattle.claims_report.specs.Controls.{side_in, control_of_part, control_of_endpoint, is_nowhere, is_alone, control_of_device, control_of_owner, control_of_seat, is_at, control_of_place, control_of}
-
-and_both : (a b : Bool) → (a && b) ≡ true → (a ≡ true) × (b ≡ true)
-and_both true b e = (refl, e)
-and_both false b e = absurd (false≢true e)
 
 -- ---- where it stands
 
@@ -164,10 +162,6 @@ one_way : (own : Way) → is_way own Ways.Ctl ≡ true → (is_way own Ways.In �
 one_way Ways.Ctl e = (refl, refl)
 one_way _ e = absurd (false≢true e)
 
-either_found : (o other : Option ℕ) (k : ℕ) → or_else o other ≡ Some k → (o ≡ Some k) ⊎ (other ≡ Some k)
-either_found None other k e = inr e
-either_found (Some i) other k e = inl e
-
 module _ (es : List Endpoint) (num k : ℕ) (e : Endpoint) (found : place_named es num Ways.Ctl ≡ Some k) (here : slice_get es k ≡ Some e) where
   no_in : (n : ℕ) → place_named es n Ways.In ≡ Some k → ⊥
   no_in n is = false≢true (sym (one_way e.desc.name.way (named_is es num Ways.Ctl k e found here).way_is).0 ∙ (named_is es n Ways.In k e is here).way_is)
@@ -196,10 +190,6 @@ module _ (es : List Endpoint) (num k : ℕ) (e : Endpoint) (found : place_named 
         (either_found (place_named es n Ways.Out) (place_named es n Ways.Ctl) k is),
   )
   number_by Tokens.Other n is = absurd cc
-
-if_found : (b : Bool) (o : Option ℕ) (k : ℕ) → (if b then o else None) ≡ Some k → (b ≡ true) × (o ≡ Some k)
-if_found true o k e = (refl, e)
-if_found false o k e = absurd cc
 
 pub record IsOfControl (d : Device) (ask : Ask) (num : ℕ) : Type 0 where
   pub token : token_of ask.pid ≢ Tokens.Other

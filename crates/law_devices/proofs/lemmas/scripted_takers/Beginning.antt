@@ -2,6 +2,7 @@
 use Rattle.std.proofs.Common.{◌≡◌, ℕ, Bool, true, false, if◌then◌else◌, List, [], ◌∷◌, map, slice_get, Option, Some, None, ap, refl, sym, subst, ◌∙◌}
 use Rattle.std.specs.Option.{option_map}
 use Rattle.std.proofs.lemmas.Option.{same_Some, slice_get-map}
+use Rattle.law_devices.proofs.Common2.{named_begun}
 use Rattle.usb_base.specs.declared.packets.Ask.{Ask}
 use Rattle.usb_base.specs.declared.packets.Pid.{Pid}
 use Rattle.usb_base.specs.declared.packets.Way.TheVariants as Ways
@@ -21,7 +22,7 @@ use Rattle.bus_wire.specs.Seats.{token_kind, place_for}
 use Rattle.bus_wire.specs.Below.{Floor, Below, below_at, asked_below, devices_after, below_row, below_after_at, below_after, below_reply, floor_left, floor_worked}
 use Rattle.bus_wire.specs.Bus.{Wired, Fixed, begins_anew, begun_at, floor_of, begin_after, is_allowed}
 use Rattle.usb_base.specs.declared.packets.Pid.TheVariants as Pids
-use Rattle.law_devices.proofs.Beginning.{IsWhoBelow, below_place, not_high, named_begun}
+use Rattle.law_devices.proofs.Beginning.{IsWhoBelow, below_place, not_high}
 use Rattle.law_ring.specs.OutBus.{Taker, KeepsTakers}
 use Rattle.law_devices.specs.scripted_takers.Takers.{taker_of_part, taker_of_device, taker_of}
 use Rattle.law_devices.proofs.lemmas.scripted_takers.Outs.{IsOfOut}

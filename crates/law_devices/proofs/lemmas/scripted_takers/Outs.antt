@@ -2,6 +2,8 @@
 use Rattle.std.proofs.Common.{◌≡◌, ℕ, ◌==◌, true, false, List, slice_get, Some, refl, sym, ◌∙◌, ⊎_elim, inl, inr}
 use Rattle.std.specs.Prelude.{◌⊎◌}
 use Rattle.std.proofs.lemmas.Bool.{false≢true, eqb-true}
+use Rattle.law_devices.proofs.Common.{either_found}
+use Rattle.law_common.proofs.Options.{if_found}
 use Rattle.usb_base.specs.declared.packets.Ask.{Ask}
 use Rattle.usb_base.specs.declared.packets.Pid.{Pid}
 use Rattle.usb_base.specs.declared.packets.Pid.TheVariants as Pids
@@ -12,7 +14,7 @@ use Rattle.dev_control.specs.declared.rows.StageToken.TheVariants as Tokens
 use Rattle.dev_control.specs.Stages.{token_of}
 use Rattle.endpoint_script.specs.declared.endpoint.Endpoint.{Endpoint}
 use Rattle.endpoint_script.specs.Device.{Device, is_way, place_named, place_for, endpoint_asked}
-use Rattle.law_devices.proofs.Devices.{named_is, either_found, if_found}
+use Rattle.law_devices.proofs.Devices.{named_is}
 
 one_way : (own : Way) → is_way own Ways.Out ≡ true → (is_way own Ways.Ctl ≡ false) × (is_way own Ways.In ≡ false)
 one_way Ways.Out e = (refl, refl)

@@ -1,5 +1,6 @@
 -- What an OUT endpoint does with data, and what is heard of it.
 use Rattle.std.proofs.Common.{◌≡◌, ◌≢◌, ℕ, Bool, true, false, List, ◌∷◌, length, Option, Some, ap, refl, sym, subst, ◌∙◌}
+use Rattle.law_request.proofs.Common.{expected_next}
 use Rattle.usb_base.specs.declared.packets.Ask.{Ask}
 use Rattle.usb_base.specs.declared.packets.Pid.{Pid}
 use Rattle.usb_base.specs.declared.packets.Pid.TheVariants as Pids
@@ -38,10 +39,6 @@ next_is false Pids.Data1 e = absurd cc
 next_is true Pids.Data0 e = absurd cc
 next_is true _ e = absurd cc
 next_is false _ e = absurd cc
-
-expected_next : (toggle : Bool) → sequence_of toggle (expected_pid toggle) ≡ Next
-expected_next true = refl
-expected_next false = refl
 
 not_expected : (toggle : Bool) (pid : Pid) → sequence_of toggle pid ≢ Next → pid ≢ expected_pid toggle
 not_expected toggle pid differs e = differs (ap (sequence_of toggle) e ∙ expected_next toggle)

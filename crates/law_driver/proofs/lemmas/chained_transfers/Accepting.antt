@@ -1,10 +1,12 @@
 -- Each command of a script of bulk and control endpoints, where it is accepted, opens an endpoint, is a get, a put or a request, or cancels an endpoint.
-use Rattle.std.proofs.Common.{◌≡◌, ℕ, ◌≤◌, Bool, true, false, not, ◌&&◌, cond, nat_eq, nat_lt, List, [], ◌∷◌, ◌++◌, length, get_or, slice_get, Option, Some, None, Result, Ok, Err, unwrap_or, ap, sym, subst, ◌∙◌, inl, inr, refl, arith}
+use Rattle.std.proofs.Common.{◌≡◌, ℕ, ◌≤◌, Bool, true, false, not, cond, nat_eq, nat_lt, List, [], ◌∷◌, ◌++◌, length, get_or, slice_get, Option, Some, None, Result, Ok, Err, unwrap_or, ap, sym, subst, ◌∙◌, inl, inr, refl, arith}
 use Rattle.std.specs.Prelude.{option_and_then, is_some, position}
 use Rattle.std.proofs.lemmas.Bool.{false≢true}
 use Rattle.std.proofs.lemmas.Option.{slice_get-get_or}
 use Rattle.std.proofs.lemmas.List.Quantifiers.{position-Some}
 use Rattle.std.proofs.lemmas.Bool.Decides.{nat_tests}
+use Rattle.law_driver.proofs.Common.{ok_is, control_way}
+use Rattle.law_common.proofs.Booleans.{both_second}
 use Rattle.usb_base.specs.declared.endpoints.EpDesc.{EpDesc}
 use Rattle.usb_base.specs.declared.endpoints.EndCause.{EndCause}
 use Rattle.usb_base.specs.declared.endpoints.EndCause.TheVariants as causes
@@ -12,7 +14,6 @@ use Rattle.usb_base.specs.declared.commands.Cmd.{Cmd}
 use Rattle.usb_base.specs.declared.commands.Cmd.TheVariants as commands
 use Rattle.usb_base.specs.declared.reports.OfferError.{OfferError}
 use Rattle.usb_base.specs.declared.reports.OfferError.TheVariants as errors
-use Rattle.usb_base.specs.declared.packets.EpKind.{EpKind}
 use Rattle.usb_base.specs.declared.packets.Way.{Way}
 use Rattle.usb_base.specs.declared.packets.Way.TheVariants as ways
 use Rattle.word_mem.specs.Memory.{Mem}
@@ -25,7 +26,7 @@ use Rattle.drv_table.specs.declared.content.Command.{Command}
 use Rattle.drv_table.specs.declared.content.Sort.TheVariants as sorts
 use Rattle.drv_table.specs.Kinds.{is_iso}
 use Rattle.drv_table.specs.DriverContent.{DriverContent, is_same_way, endpoint_of, endpoint_named}
-use Rattle.drv_table.specs.Words.{request_length, request_stages, setup_stage, data_stage, status_stage, asks_in, needs, is_control}
+use Rattle.drv_table.specs.Words.{request_length, request_stages, setup_stage, data_stage, status_stage, asks_in, needs}
 use Rattle.drv_table.specs.Accepting.{Offered, take_runs}
 use Rattle.drv_table.specs.Offers.{Asked, taken_open, planned_open, offered_open, taken_transfer, open_transfer, found_transfer, is_queued, takes_get, takes_put, takes_control, offered_next, offered}
 use Rattle.drv_table.specs.IsoOffers.{offered_iso}
@@ -35,13 +36,10 @@ use Rattle.law_driver.specs.run_owners.Accepts.{AreShort, Opens, Transfers, Canc
 use Rattle.law_driver.specs.chained_transfers.Bulk.{IsDataWay, IsBulk, OpensBulk, OnlyBulk, OpensOrCancelsBulk}
 use Rattle.law_driver.specs.chained_transfers.Leaving.{IsAcceptedAs}
 use Rattle.law_driver.specs.chained_transfers.Accepted.{move_of, IsAsked, IsAccepted}
-use Rattle.claims_driver.specs.Scripts.{IsKindOf, IsAsynchronous, OpensAsynchronous}
+use Rattle.claims_driver.specs.Scripts.{IsAsynchronous, OpensAsynchronous}
 use Rattle.law_driver.specs.chained_transfers.Asynchronous.{OnlyAsynchronous, IsRequested, AcceptsAsynchronous}
 use Rattle.law_driver.proofs.lemmas.chained_transfers.BulkAndControl.{not_iso, not_periodic, bulk_asynchronous}
 use Rattle.law_driver.proofs.lemmas.chained_transfers.Ways.{sort_queued, same_in, same_out, stages_short, stages_some}
-
-ok_is : (o p : Offered) → ◌≡◌ {A = Result Offered OfferError} (Ok o) (Ok p) → p ≡ o
-ok_is o p e = cc
 
 -- what an endpoint of this way takes
 record IsMove (way : Way) (a : Asked) (most by : ℕ) (bytes : List ℕ) : Type 0 where
@@ -81,19 +79,11 @@ EachIsAsynchronous d = (e : ℕ) (x : Endpoint) → slice_get d.endpoints e ≡ 
 abbrev pub EachIsBulk : DriverContent → Type 0
 EachIsBulk d = (e : ℕ) (x : Endpoint) → slice_get d.endpoints e ≡ Some x → IsBulk x.desc × (x.placement ≡ None)
 
-both_second : (a b : Bool) → a && b ≡ true → b ≡ true
-both_second true b f = f
-both_second false b f = absurd (false≢true f)
-
 gets_in : (x : Endpoint) → takes_get x ≡ true → x.desc.name.way ≡ ways.In
 gets_in x is = same_in x.desc.name.way (both_second (is_queued x.desc.kind) (is_same_way x.desc.name.way ways.In) is)
 
 puts_out : (x : Endpoint) → takes_put x ≡ true → x.desc.name.way ≡ ways.Out
 puts_out x is = same_out x.desc.name.way (both_second (is_queued x.desc.kind) (is_same_way x.desc.name.way ways.Out) is)
-
-control_way : (way : Way) (k : EpKind) → IsKindOf way k → is_control k ≡ true → way ≡ ways.Ctl
-control_way ways.Ctl k kind is = refl
-control_way _ k kind is = absurd (false≢true (sym (ap is_control kind) ∙ is))
 
 -- the endpoint is opened as this one
 record OpensAs (d : DriverContent) (m : Mem) (o : Offered) (x : EpDesc) : Type 0 where

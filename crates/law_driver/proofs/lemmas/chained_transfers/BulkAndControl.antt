@@ -1,6 +1,6 @@
 -- Bulk and control endpoints of the asynchronous schedule; bulk ones alone.
-use Rattle.std.proofs.Common.{◌≡◌, ℕ, false, [], slice_get, Some, ap, ⊎_elim, inl, inr}
-use Rattle.std.specs.Prelude.{◌⊎◌}
+use Rattle.std.proofs.Common.{◌≡◌, ℕ, false, [], slice_get, Some, ap, ⊎_elim}
+use Rattle.law_driver.proofs.Common.{two_kinds}
 use Rattle.usb_base.specs.declared.endpoints.EpDesc.{EpDesc}
 use Rattle.usb_base.specs.declared.packets.EpKind.{EpKind}
 use Rattle.usb_base.specs.declared.packets.EpKind.TheVariants as kinds
@@ -17,10 +17,6 @@ use Rattle.law_driver.specs.chained_transfers.Asynchronous.{StandsAsynchronous, 
 use Rattle.law_driver.specs.chained_transfers.AsynchronousTurns.{AsynchronousTakesTurns}
 
 -- ---- an endpoint
-
-two_kinds : (way : Way) (k : EpKind) → IsKindOf way k → (k ≡ kinds.Bulk) ⊎ (k ≡ kinds.Control)
-two_kinds ways.Ctl k is = inr is
-two_kinds _ k is = inl is
 
 pub not_iso : (x : EpDesc) → IsAsynchronous x → is_iso x.kind ≡ false
 not_iso x s = ⊎_elim (λ (b : x.kind ≡ kinds.Bulk). ap is_iso b) (λ (c : x.kind ≡ kinds.Control). ap is_iso c) (two_kinds x.name.way x.kind s.kind)

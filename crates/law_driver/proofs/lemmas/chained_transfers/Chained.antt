@@ -2,13 +2,13 @@
 use Rattle.std.proofs.Common.{◌≡◌, ◌≢◌, ℕ, zero, suc, ◌<◌, ◌≤◌, Bool, true, false, ◌||◌, ◌==◌, cond, List, [], ◌∷◌, ◌++◌, length, map, set, slice_get, Option, Some, None, option_map, ap, sym, subst, ◌∙◌, ⊎_elim, refl, arith}
 use Rattle.std.proofs.lemmas.Bool.{cases_eq}
 use Rattle.std.proofs.lemmas.Option.{same_Some, slice_get-map}
+use Rattle.law_common.proofs.Lists.{set_here, set_there}
 use Rattle.mem_runs.specs.declared.slots.Slot.{Slot}
 use Rattle.drv_table.specs.declared.content.Endpoint.{Endpoint}
 use Rattle.drv_table.specs.declared.content.Transfer.{Transfer}
 use Rattle.drv_table.specs.Releases.{let_go}
 use Rattle.claims_driver.specs.Owners.{Owner, Element, IsPlaced, ArePieces, EndpointRuns, TransferRuns, NoteRuns, runs_of_endpoint, runs_of_transfer, endpoint_in, transfer_in, Views}
 use Rattle.law_driver.proofs.lemmas.run_owners.Accepted.{push_case}
-use Rattle.law_driver.proofs.lemmas.run_owners.Released.{set_here, set_there}
 use Rattle.law_driver.proofs.lemmas.run_owners.Runs.{AreSame}
 use Rattle.law_driver.specs.chained_transfers.Chains.{piece_at, NoneFrom, AreChained}
 
@@ -50,15 +50,6 @@ pub within_list : {X Y : Type 0} (f : X → Y) (xs : List X) (i : ℕ) (y : Y) �
 within_list f [] i y here = absurd (cc)
 within_list f (x ∷ xs) zero y here = omega arith
 within_list f (x ∷ xs) (suc i) y here = let rest = within_list f xs i y here in omega arith
-
-pub pushed_there : {X Y : Type 0} (f : X → Y) (xs : List X) (x : X) (i : ℕ) (y : Y) → option_map f (slice_get xs i) ≡ Some y → option_map f (slice_get (xs ++ x ∷ []) i) ≡ Some y
-pushed_there f [] x i y here = absurd (cc)
-pushed_there f (z ∷ xs) x zero y here = here
-pushed_there f (z ∷ xs) x (suc i) y here = pushed_there f xs x i y here
-
-pub pushed_last : {X : Type 0} (xs : List X) (x : X) → slice_get (xs ++ x ∷ []) (length xs) ≡ Some x
-pushed_last [] x = refl
-pushed_last (z ∷ xs) x = pushed_last xs x
 
 -- ---- an endpoint more, which has no transfer yet
 

@@ -1,8 +1,10 @@
 -- An accepted command leaves the transfers chained and in turn, where endpoints leave the ring, and where none does.
-use Rattle.std.proofs.Common.{◌≡◌, ◌≢◌, ℕ, zero, suc, ◌-◌, ◌<◌, ◌≤◌, Bool, true, false, ◌||◌, ◌==◌, cond, List, [], ◌∷◌, ◌++◌, length, set, take, drop, get_or, slice_get, Option, Some, None, Ok, option_map, ap, sym, subst, ◌∙◌, ⊎_elim, inl, inr, refl, arith}
+use Rattle.std.proofs.Common.{◌≡◌, ◌≢◌, ℕ, ◌-◌, ◌<◌, ◌≤◌, Bool, true, false, ◌||◌, List, [], ◌∷◌, ◌++◌, length, set, take, drop, get_or, slice_get, Option, Some, None, Ok, option_map, ap, sym, subst, ◌∙◌, ⊎_elim, refl, arith}
 use Rattle.std.specs.Prelude.{◌⊎◌}
 use Rattle.std.proofs.lemmas.Bool.{false≢true}
 use Rattle.std.proofs.lemmas.Option.{same_Some}
+use Rattle.law_common.proofs.Lists.{push_which, drop_first, set_here, pushed_there, pushed_last}
+use Rattle.law_driver.proofs.Common.{times_of}
 use Rattle.usb_base.specs.declared.endpoints.EndCause.{EndCause}
 use Rattle.usb_base.specs.declared.commands.Cmd.{Cmd}
 use Rattle.usb_base.specs.declared.commands.Cmd.TheVariants as commands
@@ -20,15 +22,14 @@ use Rattle.drv_table.specs.Accepting.{Offered, new_runs, first_waiting}
 use Rattle.drv_table.specs.Offers.{Asked, offered, new_endpoint, note_stages, accepted_open, accepted_transfer, with_queued, new_transfer}
 use Rattle.drv_table.specs.CancelOffers.{first_end, accepted_cancel}
 use Rattle.law_driver.specs.run_owners.Accepts.{Transfers, Cancels}
-use Rattle.claims_driver.specs.Leaving.{IsOrderly, times, HasOwners}
+use Rattle.claims_driver.specs.Leaving.{IsOrderly, HasOwners}
 use Rattle.claims_driver.specs.Owners.{Owner, Element, runs_of_endpoint, runs_of_transfer, runs_of_note, note_in, transfer_in, TransferRuns, views_of, IsOwned}
 use Rattle.law_driver.proofs.lemmas.run_owners.Runs.{placed_run}
 use Rattle.law_driver.proofs.lemmas.run_owners.Taking.{runs_taken}
 use Rattle.law_driver.proofs.lemmas.run_owners.Chains.{notes_apart}
-use Rattle.law_driver.proofs.lemmas.run_owners.Accepted.{drop_first, push_case}
-use Rattle.law_driver.proofs.lemmas.run_owners.Orders.{owed, one_same}
+use Rattle.law_driver.proofs.lemmas.run_owners.Accepted.{push_case}
+use Rattle.law_driver.proofs.lemmas.run_owners.Orders.{owed}
 use Rattle.law_driver.proofs.lemmas.run_owners.Transferred.{are_new, goes_on_alive}
-use Rattle.law_driver.proofs.lemmas.run_owners.Released.{set_here}
 use Rattle.law_driver.proofs.lemmas.run_owners.Stays.{stays_same, endpoint_stays}
 use Rattle.law_driver.specs.chained_transfers.Bulk.{IsBulk, OpensBulk, OpensOrCancelsBulk, sort_by, MovesAs, OnlyBulk}
 use Rattle.law_driver.specs.chained_transfers.Accepted.{IsOpened, IsAsked, IsAccepted}
@@ -41,30 +42,13 @@ use Rattle.law_driver.specs.chained_transfers.Asynchronous.{StandsAsynchronous, 
 use Rattle.law_driver.specs.chained_transfers.AsynchronousTurns.{AsynchronousTakesTurns}
 use Rattle.law_driver.proofs.lemmas.chained_transfers.BulkAndControl.{bulk_asynchronous, bulk_is_asynchronous, EachBulk, takes_bulk_turns}
 use Rattle.law_driver.proofs.lemmas.chained_transfers.Moves.{KeepDescs, descs_set, descs_push, moves_on, moves_same}
-use Rattle.law_driver.proofs.lemmas.chained_transfers.Chained.{pieces_same, same_chained, endpoint_chained, within_list, pushed_there, pushed_last}
+use Rattle.law_driver.proofs.lemmas.chained_transfers.Chained.{pieces_same, same_chained, endpoint_chained, within_list}
 use Rattle.law_driver.proofs.lemmas.chained_transfers.Queued.{not_dummy, transfer_chained}
 use Rattle.law_driver.proofs.lemmas.chained_transfers.Turning.{fewer_turns, IsChangedAt, which, changed_plain}
 use Rattle.law_driver.proofs.lemmas.chained_transfers.Ends.{ends_turns, changed_end, changed_stays, WasGone, returned_on, same_turn, same_gone, changed_gone}
 use Rattle.law_driver.proofs.lemmas.chained_transfers.Accepting.{asynchronous_command_is_accepted, command_accepted, command_received}
 use Rattle.law_driver.proofs.lemmas.chained_transfers.Rows.{ends_set}
 use Rattle.law_driver.proofs.lemmas.chained_transfers.Staying.{stands_alive, fresh_stands_linked, linked_stands_alive}
-
-push_which : {X : Type 0} (xs : List X) (x : X) (n : ℕ) (z : X) → slice_get (xs ++ x ∷ []) n ≡ Some z → (slice_get xs n ≡ Some z) ⊎ ((n ≡ length xs) × (z ≡ x))
-push_which [] x zero z here = inr (refl, sym (same_Some x z here))
-push_which [] x (suc n) z here = absurd (cc)
-push_which (y ∷ ys) x zero z here = inl here
-push_which (y ∷ ys) x (suc n) z here =
-    ⊎_elim (λ (was : slice_get ys n ≡ Some z). inl was) (λ (new : (n ≡ length ys) × (z ≡ x)). inr (ap suc new.0, new.1)) (push_which ys x n z here)
-
-push_there : {X : Type 0} (xs : List X) (x : X) (n : ℕ) (z : X) → slice_get xs n ≡ Some z → slice_get (xs ++ x ∷ []) n ≡ Some z
-push_there [] x n z here = absurd (cc)
-push_there (y ∷ ys) x zero z here = here
-push_there (y ∷ ys) x (suc n) z here = push_there ys x n z here
-
-low : {X : Type 0} (xs : List X) (n : ℕ) (z : X) → slice_get xs n ≡ Some z → n < length xs
-low [] n z here = absurd (cc)
-low (y ∷ ys) zero z here = omega arith
-low (y ∷ ys) (suc n) z here = let rest = low ys n z here in omega arith
 
 -- ---- an endpoint is opened
 
@@ -307,13 +291,6 @@ asked_places d m o owner stands why order old places =
 
 turn_which : (ts : List Transfer) (y : Transfer) (k : ℕ) (z : Turn) → turn_in (ts ++ y ∷ []) k ≡ Some z → (turn_in ts k ≡ Some z) ⊎ ((k ≡ length ts) × (z ≡ turn_of y))
 turn_which ts y k z here = push_case turn_of ts y k z here
-
-times_of : (hs : List ℕ) (i u : ℕ) → slice_get hs i ≡ Some u → 1 ≤ times u hs
-times_of [] i u here = absurd (cc)
-times_of (h ∷ hs) zero u here =
-    let is : h ≡ u = same_Some h u here in
-    let one : cond (h == u) 1 0 ≡ 1 = ap (λ (n : ℕ). cond (n == u) 1 0) is ∙ one_same u in omega (arith, one)
-times_of (h ∷ hs) (suc i) u here = let rest = times_of hs i u here in omega (arith, rest)
 
 -- what tells of turns
 abbrev TakeTurns : List Transfer → List Endpoint → List ℕ → Type 0

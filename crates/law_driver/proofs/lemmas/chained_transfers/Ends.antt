@@ -3,10 +3,12 @@ use Rattle.std.proofs.Common.{◌≡◌, ◌≢◌, ℕ, Bool, true, false, ◌|
 use Rattle.std.specs.Prelude.{◌⊎◌}
 use Rattle.std.proofs.lemmas.Bool.{cases_eq, false≢true}
 use Rattle.std.proofs.lemmas.Option.{same_Some, slice_get-map}
+use Rattle.law_common.proofs.Booleans.{first_true, second_true}
+use Rattle.law_common.proofs.Numbers.{same_number, other_number}
 use Rattle.drv_table.specs.declared.content.Endpoint.{Endpoint}
 use Rattle.drv_table.specs.declared.content.Transfer.{Transfer}
 use Rattle.drv_table.specs.Releases.{ended_by_cancel, let_go}
-use Rattle.law_driver.proofs.lemmas.run_owners.Released.{same_by_test, same_number, other_number}
+use Rattle.law_driver.proofs.lemmas.run_owners.Released.{same_by_test}
 use Rattle.law_driver.specs.endpoint_lives.Lives.{told_end}
 use Rattle.law_driver.proofs.lemmas.endpoint_lives.Lives.{told_gone}
 use Rattle.law_driver.specs.chained_transfers.Turns.{Turn, turn_of, turn_in, AreReportedTo, IsNotGone, AreTurnsOf, AreReturned}
@@ -105,14 +107,6 @@ pub record WasOf (v : ℕ → Option Turn) (e : ℕ) (told : Bool) (k : ℕ) (z 
 either_true : (a b : Bool) → a || b ≡ true → (a ≡ true) ⊎ (b ≡ true)
 either_true true b is = inl refl
 either_true false b is = inr is
-
-first_true : (a b : Bool) → a ≡ true → a || b ≡ true
-first_true true b is = refl
-first_true false b is = absurd (false≢true is)
-
-second_true : (a b : Bool) → b ≡ true → a || b ≡ true
-second_true true b is = refl
-second_true false b is = is
 
 module _ (v w : ℕ → Option Turn) (ends ends_now : ℕ → Option Endpoint) (hs : List ℕ) (e : ℕ) (a b : Endpoint) (told : Bool) where
   pub record IsGoing : Type 0 where

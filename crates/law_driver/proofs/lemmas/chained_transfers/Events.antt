@@ -1,6 +1,8 @@
 -- Each event of the driver leaves its transfers chained and in turn, where endpoints leave the ring, and where none does.
 use Rattle.std.proofs.Common.{◌≡◌, ℕ, zero, suc, Bool, true, false, not, ◌||◌, ◌&&◌, ◌==◌, cond, nat_le, List, [], ◌++◌, map, set, drop, slice_get, Option, Some, None, ap, sym, subst, ◌∙◌, refl, arith}
 use Rattle.std.proofs.lemmas.Bool.{false≢true}
+use Rattle.law_common.proofs.Lists.{none_there}
+use Rattle.law_driver.proofs.Common.{transfer_mends}
 use Rattle.usb_base.specs.declared.endpoints.EpDesc.{EpDesc}
 use Rattle.usb_base.specs.declared.reports.What.TheVariants as lines
 use Rattle.mem_runs.specs.Book.{Book, Holding, holding, lend_taken, slot_of}
@@ -270,9 +272,6 @@ unfinished_one d c is its = subst (λ (o : Option Command). IsBulkCommand o) is 
 pub its_command : (d : DriverContent) (c : Command) → d.command ≡ Some c → OnlyBulk d → IsBulkCommand (Some c)
 its_command d c is r = unfinished_one d c is r.command
 
-none_there : {X : Type 0} (xs : List X) (x : X) → xs ≡ [] → slice_get xs 0 ≡ Some x → ⊥
-none_there xs x none here = let e : ◌≡◌ {A = Option _} None (Some x) = sym (ap (λ ys. slice_get ys 0) none) ∙ here in cc
-
 both_empty : (xs ys : List ℕ) → xs ≡ [] → ys ≡ [] → xs ++ ys ≡ []
 both_empty xs ys one other = ap (λ (zs : List ℕ). zs ++ ys) one ∙ other
 
@@ -337,10 +336,6 @@ pub events_keep_asynchronous_turns : (p : Parts) → HasOwners p.driver → Asyn
 events_keep_asynchronous_turns p owners old = (due_leaves (driver_row p) p (each_event_is_due p) owners.orderly old).turns
 
 -- ---- bulk endpoints alone: none is owed a store
-
-transfer_mends : (p : Parts) (t : ℕ) (o : Option Transfer) (h : Holding) → (after_transfer p t o h).driver.mends ≡ p.driver.mends
-transfer_mends p t None h = refl
-transfer_mends p t (Some y) h = refl
 
 endpoint_mends : (p : Parts) (e : ℕ) (o : Option Endpoint) → (after_endpoint p e o).driver.mends ≡ p.driver.mends
 endpoint_mends p e None = refl

@@ -1,5 +1,5 @@
 -- A harvest leaves the transfers in turn, each at its place.
-use Rattle.std.proofs.Common.{◌≡◌, ◌≢◌, ℕ, zero, suc, ◌-◌, ◌≤◌, Bool, true, false, cond, nat_le, List, [], ◌∷◌, ◌++◌, length, set, slice_get, Option, Some, None, option_map, ap, sym, subst, ◌∙◌, ⊎_elim, refl, arith, inl, inr, nat_eq}
+use Rattle.std.proofs.Common.{◌≡◌, ◌≢◌, ℕ, suc, ◌-◌, ◌≤◌, Bool, true, false, cond, nat_le, List, [], ◌∷◌, ◌++◌, length, set, slice_get, Option, Some, None, option_map, ap, sym, subst, ◌∙◌, ⊎_elim, refl, arith, inl, inr, nat_eq}
 use Rattle.std.proofs.lemmas.Bool.{cases_eq, false≢true}
 use Rattle.std.proofs.lemmas.Bool.Decides.{nat_tests}
 use Rattle.std.proofs.lemmas.Option.{same_Some}
@@ -22,7 +22,6 @@ use Rattle.drv_table.specs.Harvests.{note_at, token_in, found_in, done_of, ends_
 use Rattle.drv_table.specs.Harvesting.{after_harvest, harvested_as, served, told_with, after_end, goes_on, stalled, mends_of}
 use Rattle.drv_table.specs.Releases.{ended_by_cancel}
 use Rattle.claims_driver.specs.Owners.{NoteRuns, runs_of_note, note_in}
-use Rattle.law_driver.proofs.lemmas.run_owners.Released.{set_here, set_there}
 use Rattle.law_driver.proofs.lemmas.run_owners.Stays.{same_item, same_view}
 use Rattle.law_driver.specs.endpoint_lives.Lives.{told_end}
 use Rattle.law_driver.proofs.lemmas.endpoint_lives.Lives.{none_told, told_uncancelled}
@@ -31,16 +30,14 @@ use Rattle.law_driver.specs.chained_transfers.Turns.{IsAtPlace, AreAtPlaces, Tur
 use Rattle.law_driver.proofs.lemmas.chained_transfers.Chained.{piece_same}
 use Rattle.law_driver.proofs.lemmas.chained_transfers.Turning.{AreInTurnOf, IsChangedAt, changed, changed_plain}
 use Rattle.law_driver.proofs.lemmas.chained_transfers.Reporting.{IsFirst, ended_turns, harvested_turns}
-use Rattle.law_driver.proofs.lemmas.chained_transfers.Harvesting.{waits_is, next_waits}
+use Rattle.law_driver.proofs.lemmas.chained_transfers.Harvesting.{next_waits}
 use Rattle.law_driver.proofs.lemmas.chained_transfers.Stalled.{OnlyTells, behind_tells, behind_turns}
 use Rattle.std.specs.Prelude.{◌⊎◌}
+use Rattle.law_driver.proofs.Common.{piece_next, waits_is}
+use Rattle.law_common.proofs.Lists.{set_here, set_there}
 use Rattle.drv_table.specs.Words.{is_control}
 
 -- ---- the next piece
-
-pub piece_next : (note : ℕ → NoteRuns) (b i : ℕ) → piece_at note b (suc i) ≡ (note (piece_at note b i)).next
-piece_next note b zero = refl
-piece_next note b (suc i) = piece_next note (note b).next i
 
 pub note_same : (notes : List QtdNote) (b n c : ℕ) → note_in (noted notes b n) c ≡ note_in notes c
 note_same notes b n c = same_item runs_of_note notes b (record (note_at notes b) { moved = n }) _ refl c

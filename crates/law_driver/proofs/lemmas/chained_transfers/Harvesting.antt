@@ -7,9 +7,10 @@ use Rattle.std.proofs.lemmas.List.Sums.{fails_before_first}
 use Rattle.std.proofs.lemmas.Option.{slice_get-get_or, same_Some}
 use Rattle.std.proofs.lemmas.Bool.{false≢true}
 use Rattle.std.proofs.lemmas.Bool.Decides.{nat_tests}
+use Rattle.law_driver.proofs.Common.{waits_is}
+use Rattle.law_common.proofs.Numbers.{same_number}
 use Rattle.drv_table.specs.declared.content.Transfer.{Transfer}
 use Rattle.drv_table.specs.DriverContent.{waits_for, next_after}
-use Rattle.law_driver.proofs.lemmas.run_owners.Released.{same_by_test, same_number}
 use Rattle.law_driver.specs.chained_transfers.Turns.{Turn, turn_of, turn_in, AreReportedTo}
 use Rattle.law_driver.proofs.lemmas.chained_transfers.Chained.{within_list}
 
@@ -57,18 +58,6 @@ found_or p (x ∷ xs) (Some i) is =
     }
 
 -- ---- the next transfer of the endpoint
-
-pub waits_is : (e : ℕ) (y : Transfer) → waits_for e y ≡ true → (y.endpoint ≡ e) × (y.reported ≡ false)
-waits_is e y is = (same_by_test y.endpoint e (first (y.endpoint == e) (not y.reported) is), second (y.endpoint == e) y.reported is)
-  where
-    first : (a b : Bool) → a && b ≡ true → a ≡ true
-    first true b f = refl
-    first false b f = f
-
-    second : (a b : Bool) → a && not b ≡ true → b ≡ false
-    second true true f = absurd (false≢true f)
-    second true false f = refl
-    second false b f = absurd (false≢true f)
 
 pub waits_not : (e : ℕ) (y : Transfer) → waits_for e y ≡ false → y.endpoint ≡ e → y.reported ≡ true
 waits_not e y is of_e = by y.reported refl

@@ -1,12 +1,13 @@
 -- Each transfer is one that its endpoint takes still where the endpoints keep what they were opened as.
-use Rattle.std.proofs.Common.{◌≡◌, ◌≢◌, ℕ, zero, suc, List, [], ◌∷◌, ◌++◌, set, slice_get, Some, ap, sym, ◌∙◌, ⊎_elim, refl}
+use Rattle.std.proofs.Common.{◌≡◌, ◌≢◌, ℕ, List, [], ◌∷◌, ◌++◌, set, slice_get, Some, ap, sym, ◌∙◌, ⊎_elim, refl}
 use Rattle.std.proofs.lemmas.Bool.{cases_eq}
 use Rattle.std.proofs.lemmas.Option.{same_Some}
+use Rattle.law_driver.proofs.Common.{pushed}
+use Rattle.law_common.proofs.Lists.{set_here, set_there}
 use Rattle.usb_base.specs.declared.endpoints.EpDesc.{EpDesc}
 use Rattle.drv_table.specs.declared.content.Endpoint.{Endpoint}
 use Rattle.drv_table.specs.declared.content.Transfer.{Transfer}
 use Rattle.drv_table.specs.DriverContent.{DriverContent}
-use Rattle.law_driver.proofs.lemmas.run_owners.Released.{set_here, set_there}
 use Rattle.law_driver.specs.chained_transfers.Bulk.{sort_by, MovesAs}
 
 pub record IsOpenedAs (xs : List Endpoint) (e : ℕ) (k : EpDesc) : Type 0 where
@@ -26,11 +27,6 @@ descs_set xs e x z here same k w there = ⊎_elim
     let is : w ≡ x = same_Some w x (sym there ∙ ap (slice_get xs) own ∙ here) in
     record { one = z; here = ap (slice_get (set xs e z)) own ∙ set_here xs e x z here; same = same ∙ ap (λ (r : Endpoint). r.desc) (sym is) })
     (λ (other : k ≢ e). record { one = w; here = set_there xs e k z other ∙ there; same = refl }) (cases_eq k e)
-
-pushed : (xs : List Endpoint) (x : Endpoint) (n : ℕ) (z : Endpoint) → slice_get xs n ≡ Some z → slice_get (xs ++ x ∷ []) n ≡ Some z
-pushed [] x n z here = absurd (cc)
-pushed (y ∷ ys) x zero z here = here
-pushed (y ∷ ys) x (suc n) z here = pushed ys x n z here
 
 pub descs_push : (xs : List Endpoint) (x : Endpoint) → KeepDescs xs (xs ++ x ∷ [])
 descs_push xs x e z here = record { one = z; here = pushed xs x e z here; same = refl }

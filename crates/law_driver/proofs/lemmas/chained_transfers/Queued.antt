@@ -1,8 +1,8 @@
 -- The chain grows by a transfer that is accepted: the inactive qTD at the end of its queue becomes its first.
-use Rattle.std.proofs.Common.{◌≡◌, ◌≢◌, ℕ, zero, suc, ◌-◌, ◌<◌, ◌≤◌, false, ◌||◌, List, [], ◌∷◌, length, take, drop, get_or, set, slice_get, Some, option_map, ap, sym, subst, ◌∙◌, ⊎_elim, inl, inr, refl, arith}
+use Rattle.std.proofs.Common.{◌≡◌, ◌≢◌, ℕ, zero, suc, ◌-◌, ◌<◌, ◌≤◌, false, ◌||◌, List, [], ◌∷◌, length, take, drop, get_or, set, Some, option_map, ap, sym, subst, ◌∙◌, ⊎_elim, inl, inr, refl, arith}
 use Rattle.std.specs.Prelude.{◌⊎◌}
 use Rattle.std.proofs.lemmas.List.{get_or-set_same, length-set}
-use Rattle.std.proofs.lemmas.Option.{same_Some}
+use Rattle.law_driver.proofs.Common.{get_case}
 use Rattle.word_mem.specs.Memory.{Mem}
 use Rattle.mem_runs.specs.Book.{holding, Stands, slot_of}
 use Rattle.mem_runs.specs.declared.slots.Slot.{Slot}
@@ -16,24 +16,17 @@ use Rattle.drv_table.specs.Accepting.{Offered, new_runs}
 use Rattle.drv_table.specs.Offers.{Asked, runs_of, note_for, note_stages, accepted_transfer, with_queued, new_transfer}
 use Rattle.law_driver.specs.run_owners.Accepts.{Transfers}
 use Rattle.claims_driver.specs.Leaving.{IsOrderly}
-use Rattle.law_driver.proofs.lemmas.run_owners.Released.{set_here, set_there}
-use Rattle.std.proofs.lemmas.Bool.{cases_eq}
+use Rattle.law_common.proofs.Lists.{next_of, drop_first, pushed_there, pushed_last}
 use Rattle.claims_driver.specs.Owners.{Owner, Element, Dummy, HasBlocks, EndpointRuns, TransferRuns, IsPlaced, runs_of_endpoint, runs_of_transfer, runs_of_note, endpoint_in, transfer_in, note_in, Views, views_of, AreOwned, IsOwned}
 use Rattle.law_driver.proofs.lemmas.run_owners.Runs.{placed_run}
 use Rattle.law_driver.proofs.lemmas.run_owners.Taking.{runs_taken}
 use Rattle.law_driver.proofs.lemmas.run_owners.Chains.{notes_apart}
-use Rattle.law_driver.proofs.lemmas.run_owners.Accepted.{push_case, drop_first, within_slots}
+use Rattle.law_driver.proofs.lemmas.run_owners.Accepted.{push_case, within_slots}
 use Rattle.law_driver.proofs.lemmas.run_owners.Transferred.{are_new, goes_on_alive}
 use Rattle.law_driver.specs.chained_transfers.Chains.{piece_at, end_of, NoneFrom, AreChained}
-use Rattle.law_driver.proofs.lemmas.chained_transfers.Chained.{pieces_same, within_list, pushed_there, pushed_last}
+use Rattle.law_driver.proofs.lemmas.chained_transfers.Chained.{pieces_same, within_list}
 
 -- ---- the blocks of the new chain
-
-next_of : (qtds : List ℕ) (i : ℕ) → get_or (get_or qtds 0 0 ∷ drop 1 qtds) i 0 ≡ get_or qtds i 0
-next_of [] zero = refl
-next_of [] (suc i) = refl
-next_of (q ∷ qtds) zero = refl
-next_of (q ∷ qtds) (suc i) = refl
 
 pub piece_noted : (notes : List QtdNote) (ss : List Stage) (b : ℕ) (qtds runs : List ℕ) → ((i : ℕ) → i < length ss → get_or (b ∷ qtds) i 0 < length notes)
     → ((i j : ℕ) → i < j → j < length ss → get_or (b ∷ qtds) j 0 ≢ get_or (b ∷ qtds) i 0) → (i : ℕ) → i ≤ length ss → piece_at (note_in (note_stages notes ss b qtds runs)) b i ≡ get_or (b ∷ qtds) i 0
@@ -57,11 +50,6 @@ piece_noted notes (s ∷ ss) b qtds runs within distinct (suc i) below =
 
 pub not_dummy : {slot : ℕ → Slot} {owner : ℕ → Owner} (b c e t : ℕ) → IsPlaced slot owner b (Dummy e) → IsPlaced slot owner c (Element t) → c ≢ b
 not_dummy {owner = owner} b c e t dummy p same = let is : Element t ≡ Dummy e = sym p.owned ∙ ap owner same ∙ dummy.owned in absurd (cc)
-
-get_case : {X Y : Type 0} (f : X → Y) (xs : List X) (e i : ℕ) (x y : X) (z : Y) → slice_get xs e ≡ Some x → option_map f (slice_get (set xs e y) i) ≡ Some z → ((i ≡ e) × (z ≡ f y)) ⊎ ((i ≢ e) × (option_map f (slice_get xs i) ≡ Some z))
-get_case f xs e i x y z here there =
-    ⊎_elim (λ (same : i ≡ e). inl (same, sym (same_Some (f y) z (sym (ap (option_map f) (ap (slice_get (set xs e y)) same ∙ set_here xs e x y here)) ∙ there))))
-    (λ (differs : i ≢ e). inr (differs, sym (ap (option_map f) (set_there xs e i y differs)) ∙ there)) (cases_eq i e)
 
 -- what a new transfer makes of the views, where b is the old end of the queue
 record IsQueued (v w : Views) (slot : ℕ → Slot) (owner : ℕ → Owner) (e b dummy number n : ℕ) : Type 0 where

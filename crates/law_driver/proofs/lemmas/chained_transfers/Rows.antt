@@ -3,6 +3,7 @@ use Rattle.std.proofs.Common.{◌≡◌, ◌≢◌, ℕ, suc, ◌-◌, Bool, tru
 use Rattle.std.specs.Prelude.{◌⊎◌}
 use Rattle.std.proofs.lemmas.Bool.{cases_eq, false≢true}
 use Rattle.std.proofs.lemmas.Option.{same_Some}
+use Rattle.law_common.proofs.Lists.{set_here, set_there}
 use Rattle.usb_base.specs.declared.endpoints.EpDesc.{EpDesc}
 use Rattle.usb_base.specs.declared.endpoints.EndCause.{EndCause}
 use Rattle.usb_base.specs.declared.packets.EpKind.TheVariants as kinds
@@ -21,7 +22,6 @@ use Rattle.drv_table.specs.Commands.{no_command, leave_ring, advanced_by, advanc
 use Rattle.drv_table.specs.Harvesting.{after_harvest, harvested_as, served, after_end, told_with, goes_on, stalled, mends_of}
 use Rattle.drv_table.specs.Releases.{ended_by_cancel}
 use Rattle.claims_driver.specs.Leaving.{leaver}
-use Rattle.law_driver.proofs.lemmas.run_owners.Released.{set_here, set_there}
 use Rattle.law_driver.specs.chained_transfers.Bulk.{MovesAs, IsBulkCommand}
 use Rattle.law_driver.specs.chained_transfers.Turns.{Turn, turn_of, turn_in, IsNotGone, AreInTurn}
 use Rattle.law_driver.specs.chained_transfers.Leaving.{IsStaying, NothingLeaves}

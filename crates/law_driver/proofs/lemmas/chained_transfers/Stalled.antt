@@ -2,6 +2,8 @@
 use Rattle.std.proofs.Common.{◌≡◌, ◌≢◌, ℕ, zero, suc, ◌+◌, ◌<◌, ◌≤◌, Bool, true, false, cond, List, [], ◌∷◌, ◌++◌, length, set, slice_get, Option, Some, None, option_map, ap, sym, subst, ◌∙◌, ⊎_elim, refl, arith}
 use Rattle.std.proofs.lemmas.Bool.{cases_eq, false≢true}
 use Rattle.std.proofs.lemmas.Option.{same_Some}
+use Rattle.law_common.proofs.Lists.{set_here, set_there}
+use Rattle.law_driver.proofs.Common.{waits_is}
 use Rattle.usb_base.specs.declared.endpoints.EpName.{EpName}
 use Rattle.usb_base.specs.declared.endpoints.EndCause.TheVariants as causes
 use Rattle.usb_base.specs.declared.reports.What.TheVariants as lines
@@ -10,13 +12,12 @@ use Rattle.drv_table.specs.declared.content.Transfer.{Transfer}
 use Rattle.drv_table.specs.DriverContent.{DriverContent, waits_for, next_after}
 use Rattle.drv_table.specs.Harvests.{reported}
 use Rattle.drv_table.specs.Harvesting.{behind_one, behind}
-use Rattle.law_driver.proofs.lemmas.run_owners.Released.{set_here, set_there}
 use Rattle.law_driver.proofs.lemmas.endpoint_lives.Lives.{none_told}
 use Rattle.law_driver.specs.chained_transfers.Turns.{Turn, turn_of, turn_in, AreTurnsOf}
 use Rattle.law_driver.proofs.lemmas.chained_transfers.Chained.{within_list}
 use Rattle.law_driver.proofs.lemmas.chained_transfers.Turning.{IsChangedAt, changed}
 use Rattle.law_driver.proofs.lemmas.chained_transfers.Reporting.{harvested_turns}
-use Rattle.law_driver.proofs.lemmas.chained_transfers.Harvesting.{waits_is, waits_not, turn_at, next_waits}
+use Rattle.law_driver.proofs.lemmas.chained_transfers.Harvesting.{waits_not, turn_at, next_waits}
 
 -- ---- transfers of which some are reported now
 

@@ -2,6 +2,7 @@
 use Rattle.std.proofs.Common.{◌≡◌, ℕ, zero, suc, ◌+◌, ◌-◌, ◌*◌, ◌≤◌, ◌⊎◌, inl, inr, true, false, nat_le, min, max, List, [], ◌∷◌, length, map, ap, sym, subst, ◌∙◌, refl, arith}
 use Rattle.std.proofs.lemmas.Bool.{false≢true}
 use Rattle.std.specs.List.{AllByRecursion, range_with_len}
+use Rattle.law_driver.proofs.Common.{out_way, in_way}
 use Rattle.usb_base.specs.declared.packets.Way.{Way}
 use Rattle.usb_base.specs.declared.packets.Way.TheVariants as ways
 use Rattle.word_mem.specs.Memory.{Mem}
@@ -36,27 +37,19 @@ way_receives ways.In is one = refl
 way_receives ways.Out is one = absurd (false≢true is)
 way_receives ways.Ctl is one = absurd one
 
-pub way_sends : (way : Way) → receives way ≡ false → way ≡ ways.Out
-way_sends ways.Out is = refl
-way_sends _ is = absurd (false≢true (sym is))
-
 -- where data go one way, an endpoint is an IN or an OUT endpoint
 pub data_comes_in : (way : Way) → IsDataWay way → comes_in way ≡ receives way
 data_comes_in ways.Ctl one = absurd one
 data_comes_in _ one = refl
 
-pub way_comes_in : (way : Way) → comes_in way ≡ true → way ≡ ways.In
-way_comes_in ways.In is = refl
-way_comes_in _ is = absurd (false≢true is)
-
 pub way_goes_out : (way : Way) → IsDataWay way → comes_in way ≡ false → way ≡ ways.Out
-way_goes_out way one is = way_sends way (sym (data_comes_in way one) ∙ is)
+way_goes_out way one is = out_way way (sym (data_comes_in way one) ∙ is)
 
 pub comes_in_receives : (way : Way) → comes_in way ≡ true → receives way ≡ true
-comes_in_receives way is = ap receives (way_comes_in way is)
+comes_in_receives way is = ap receives (in_way way is)
 
 pub sends_comes_not : (way : Way) → receives way ≡ false → comes_in way ≡ false
-sends_comes_not way is = ap comes_in (way_sends way is)
+sends_comes_not way is = ap comes_in (out_way way is)
 
 pub receives_pid : (way : Way) → receives way ≡ true → IsDataWay way → pid_by way ≡ 1
 receives_pid way is one = ap pid_by (way_receives way is one)
@@ -65,10 +58,10 @@ pub receives_sort : (way : Way) → receives way ≡ true → IsDataWay way → 
 receives_sort way is one = ap sort_by (way_receives way is one)
 
 pub sends_pid : (way : Way) → receives way ≡ false → pid_by way ≡ 0
-sends_pid way is = ap pid_by (way_sends way is)
+sends_pid way is = ap pid_by (out_way way is)
 
 pub sends_sort : (way : Way) → receives way ≡ false → sort_by way ≡ sorts.Put
-sends_sort way is = ap sort_by (way_sends way is)
+sends_sort way is = ap sort_by (out_way way is)
 
 -- a get or a put is taken by an endpoint of its way
 pub same_in : (way : Way) → is_same_way way ways.In ≡ true → way ≡ ways.In
@@ -106,7 +99,7 @@ stage_in ways.Out n is = absurd (false≢true is)
 stage_in _ n is = refl
 
 pub stage_out : (way : Way) (n : ℕ) → receives way ≡ false → stage_by way n ≡ out_stage n
-stage_out way n is = ap (λ (w : Way). stage_by w n) (way_sends way is)
+stage_out way n is = ap (λ (w : Way). stage_by w n) (out_way way is)
 
 -- the qTD of the stage is one of this way
 abbrev pub IsBy : Way → Stage → Type 0

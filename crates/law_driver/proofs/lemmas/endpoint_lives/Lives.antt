@@ -1,6 +1,7 @@
 -- Of an endpoint on its way out of the ring: why it has ended, and whether it may still be met.
 use Rattle.std.proofs.Common.{◌≡◌, ◌≢◌, ◌⊎◌, ℕ, zero, suc, ◌==◌, Bool, true, false, not, ◌&&◌, ◌||◌, List, [], ◌∷◌, ◌++◌, slice_get, Option, Some, None, if◌then◌else◌, ap, sym, subst, ◌∙◌, ⊎_elim, inl, inr, refl}
 use Rattle.std.proofs.lemmas.Bool.{false≢true, eqb-true, eq-eqb, and_parts, or_cases, or_left, or_right, or_parts, or_from}
+use Rattle.law_common.proofs.Booleans.{or_joined}
 use Rattle.usb_base.specs.declared.endpoints.EndCause.{EndCause}
 use Rattle.usb_base.specs.declared.endpoints.EndCause.TheVariants as causes
 use Rattle.drv_table.specs.declared.content.Endpoint.{Endpoint}
@@ -28,10 +29,6 @@ there_any f [] e x here is = absurd (cc)
 there_any f (y ∷ ys) zero x here is =
     let same : y ≡ x = cc in or_left (f zero y) (any_at (λ e z. f (suc e) z) ys) (ap (f zero) same ∙ is)
 there_any f (y ∷ ys) (suc e) x here is = or_right (f zero y) (any_at (λ e z. f (suc e) z) ys) (there_any (λ e z. f (suc e) z) ys e x here is)
-
-or_joined : (a b c : Bool) → (a || (b || c)) ≡ ((a || b) || c)
-or_joined true b c = refl
-or_joined false b c = refl
 
 pub one_of_joined : (e : ℕ) (es fs : List ℕ) → is_one_of e (es ++ fs) ≡ (is_one_of e es || is_one_of e fs)
 one_of_joined e [] fs = refl

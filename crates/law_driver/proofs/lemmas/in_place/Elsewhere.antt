@@ -1,5 +1,6 @@
 -- What the controller writes elsewhere leaves everything in place; and so does any move, and any run.
 use Rattle.std.proofs.Common.{◌≡◌, ℕ, ◌+◌, ◌*◌, ◌%◌, ◌≤◌, true, List, [], ◌∷◌, ◌++◌, length, slice_get, Option, Some, None, Result, Ok, Err, ap, sym, ◌∙◌, ⊎_elim, refl, arith}
+use Rattle.law_driver.proofs.Common.{ring_queue, pushed, newest_get}
 use Rattle.usb_base.specs.declared.commands.Cmd.{Cmd}
 use Rattle.usb_base.specs.declared.reports.OfferError.{OfferError}
 use Rattle.word_mem.specs.Memory.{Mem, word_at}
@@ -18,13 +19,12 @@ use Rattle.drv_table.specs.Accepting.{Offered}
 use Rattle.drv_table.specs.Offers.{offered, IsOffered}
 use Rattle.drv_table.specs.Parts.{Parts}
 use Rattle.claims_driver.specs.Leaving.{IsOrderly}
-use Rattle.law_driver.proofs.lemmas.run_owners.Rows.{not_iso}
 use Rattle.law_driver.proofs.lemmas.run_owners.Orders.{times_both}
 use Rattle.claims_driver.specs.Ring.{link_in, IsAmong}
 use Rattle.law_driver.specs.ring_members.Words.{IsOpening, StandsFor, IsRing}
 use Rattle.law_driver.proofs.lemmas.ring_members.Links.{linked_kept}
 use Rattle.law_driver.proofs.lemmas.ring_members.Placed.{left_ring, linked_alive}
-use Rattle.law_driver.proofs.lemmas.ring_members.Events.{KeepsRing, linked_apart, leaving_apart, command_apart, older_get, newest_get}
+use Rattle.law_driver.proofs.lemmas.ring_members.Events.{KeepsRing, linked_apart, leaving_apart, command_apart}
 use Rattle.claims_driver.specs.InPlace.{IsMet, IsFixed}
 use Rattle.law_driver.specs.in_place.InPlace.{IsInPlace}
 use Rattle.law_driver.specs.queue_head_words.Overlay.{HasQueueHead, of_ring, of_endpoint}
@@ -35,7 +35,7 @@ use Rattle.law_driver.proofs.lemmas.in_place.Laws.{commands_keep_all_in_place, e
 -- ---- the ring
 
 keeps_links : (d : DriverContent) (m new : Mem) → IsElsewhere d m new → KeepsRing d (link_in m) (link_in new)
-keeps_links d m new is = ((λ e x here ring alive. first x.queue (of_endpoint e x here (not_iso x.desc.kind ring) alive refl)), first head_block (of_ring refl))
+keeps_links d m new is = ((λ e x here ring alive. first x.queue (of_endpoint e x here (ring_queue x.desc.kind ring) alive refl)), first head_block (of_ring refl))
   where
     first : (b : ℕ) → HasQueueHead d b → link_in new b ≡ link_in m b
     first b there =
@@ -45,7 +45,7 @@ keeps_links d m new is = ((λ e x here ring alive. first x.queue (of_endpoint e 
 -- between the stores of an open
 opening_apart : (word now : ℕ → ℕ) (d : DriverContent) (q : ℕ) → IsOrderly d → KeepsRing d word now → IsOpening word d.endpoints q → IsOpening now d.endpoints q
 opening_apart word now d q order keeps s =
-    let there : (i : ℕ) (x : Endpoint) → slice_get s.older i ≡ Some x → slice_get d.endpoints i ≡ Some x = λ i x here. ap (λ (xs : List Endpoint). slice_get xs i) s.all ∙ older_get s.older s.new i x here in
+    let there : (i : ℕ) (x : Endpoint) → slice_get s.older i ≡ Some x → slice_get d.endpoints i ≡ Some x = λ i x here. ap (λ (xs : List Endpoint). slice_get xs i) s.all ∙ pushed s.older s.new i x here in
     let at : slice_get d.endpoints (length s.older) ≡ Some s.new = ap (λ (xs : List Endpoint). slice_get xs (length s.older)) s.all ∙ newest_get s.older s.new in
     let alive = linked_alive d (length s.older) s.new order at s.linked in
     record {
@@ -90,9 +90,10 @@ fixed_stay d m new b first second is there old =
 
 met_there : (d : DriverContent) (e : ℕ) (x : Endpoint) → IsOrderly d → slice_get d.endpoints e ≡ Some x → IsMet d e x → HasQueueHead d x.queue
 met_there d e x order here met =
-    ⊎_elim (λ (on : x.linked ≡ true). let l = linked_alive d e x order here on in of_endpoint e x here (not_iso x.desc.kind l.0) l.1 refl)
+    ⊎_elim (λ (on : x.linked ≡ true). let l =
+    linked_alive d e x order here on in of_endpoint e x here (ring_queue x.desc.kind l.0) l.1 refl)
     (λ (left : IsAmong e (d.rung ++ d.waiting)).
-    let l = left_ring d e x (d.rung ++ d.waiting) order (omega (arith, times_both e d.rung d.waiting)) left here in of_endpoint e x here (not_iso x.desc.kind l.0) l.1 refl) met
+    let l = left_ring d e x (d.rung ++ d.waiting) order (omega (arith, times_both e d.rung d.waiting)) left here in of_endpoint e x here (ring_queue x.desc.kind l.0) l.1 refl) met
 
 -- ---- the controller
 

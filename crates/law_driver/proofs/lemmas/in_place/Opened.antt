@@ -1,13 +1,12 @@
 -- A driver that was just built has everything in place.
-use Rattle.std.proofs.Common.{◌≡◌, ℕ, zero, suc, ◌+◌, ◌*◌, ◌/◌, ◌%◌, ◌<◌, ◌≤◌, List, [], ◌∷◌, ◌++◌, length, replicate, reverse, set, slice_get, Option, Some, ap, sym, subst, ◌∙◌, ⊎_elim, refl, arith}
+use Rattle.std.proofs.Common.{◌≡◌, ℕ, zero, suc, ◌+◌, ◌*◌, ◌/◌, ◌%◌, ◌<◌, ◌≤◌, List, [], ◌∷◌, ◌++◌, length, replicate, reverse, set, slice_get, Some, ap, sym, subst, ◌∙◌, ⊎_elim, refl, arith}
 use Rattle.std.proofs.lemmas.Bool.{cases_lt}
 use Rattle.std.proofs.lemmas.List.{get_or-set_same, get_or-set_other, length-set, set-set, same_lists, length-replicate}
-use Rattle.std.proofs.lemmas.Option.{same_Some}
+use Rattle.law_driver.proofs.Common.{not_both}
 use Rattle.word_mem.specs.Memory.{Mem, filled, fresh, with_word, with_states}
 use Rattle.word_mem.specs.Runs.{Run}
 use Rattle.word_mem.specs.Free.{IsTaken}
 use Rattle.word_mem.specs.Views.{with_words, with_words_in}
-use Rattle.word_mem.specs.declared.blocks.BlockState.{BlockState}
 use Rattle.word_mem.specs.declared.blocks.BlockState.TheVariants.{Free, Kept, Lent}
 use Rattle.word_mem.proofs.Filled.{length-filled, get_or-filled_inside, get_or-filled_before, get_or-filled_after}
 use Rattle.word_mem.proofs.Frames.{shaped_fresh, shaped_word, shaped_states, state_at-with_states_inside, state_at-with_states_after}
@@ -83,9 +82,6 @@ get_free zero b below = absurd (omega (arith, below))
 get_free (suc n) zero below = refl
 get_free (suc n) (suc b) below = get_free n b (omega (arith, below))
 
-lent_not_free_some : ◌≡◌ {A = Option BlockState} (Some Lent) (Some Free) → ⊥
-lent_not_free_some same = lent_not_free (same_Some Lent Free same)
-
 head_many : length (qh_words opening_head) ≡ 12
 unfolding qh_words
 head_many = refl
@@ -146,7 +142,9 @@ opening_good n room many few whole =
             lowest = λ other run.
                 ⊎_elim
                 (λ (low : other < 128).
-                absurd (lent_not_free_some (sym (state_at-with_states_inside (fresh n) list_run Lent other (omega (arith, states, many)) (record { from = omega arith; below = omega (arith, low) })) ∙ run.free other (omega arith) (omega arith)))) (λ (high : 128 ≤ other). high) (cases_lt other 128);
+                absurd (not_both (sym (state_at-with_states_inside (fresh n) list_run Lent other (omega (arith, states, many))
+                (record { from = omega arith; below = omega (arith, low) })) ∙ run.free other (omega arith) (omega arith))))
+                (λ (high : 128 ≤ other). high) (cases_lt other 128);
           },
         ) list
 

@@ -6,6 +6,8 @@ use Rattle.std.proofs.lemmas.Bool.{false≢true, cases_eq, cases_lt}
 use Rattle.std.proofs.lemmas.List.{get_or-set_other, get_or-drop}
 use Rattle.std.proofs.lemmas.Option.{same_Some}
 use Rattle.std.proofs.Math.Nat.{mul-le-mul_right}
+use Rattle.law_driver.proofs.Common.{last_pushed, newest_get, not_list}
+use Rattle.law_common.proofs.Lists.{append_none, drop_first, set_here}
 use Rattle.usb_base.specs.declared.endpoints.EpDesc.{EpDesc}
 use Rattle.usb_base.specs.declared.commands.Cmd.{Cmd}
 use Rattle.word_mem.specs.Memory.{Mem}
@@ -26,16 +28,15 @@ use Rattle.drv_table.specs.Offers.{offered, new_endpoint, placed_endpoint, with_
 use Rattle.drv_table.specs.IsoOffers.{total_of, slot_runs, iso_needs, descriptor_note, descriptor_transfer, one_descriptor, all_descriptors, Descriptors, entered_iso}
 use Rattle.drv_table.specs.CancelOffers.{first_end, with_cancel, endpoint_members, accepted_unchain}
 use Rattle.drv_members.proofs.Splits.{one_if, count_first}
-use Rattle.claims_driver.specs.Owners.{FrameList, Described, HasRun, is_descriptor}
+use Rattle.claims_driver.specs.Owners.{Described, HasRun, is_descriptor}
 use Rattle.claims_driver.specs.Leaving.{IsOrderly, HasOwners}
 use Rattle.law_driver.specs.run_owners.Accepts.{Accepts, opens, chains, places, transfers, describes, cancels, unchains, Transfers, Describes, Cancels, Unchains}
 use Rattle.law_driver.proofs.lemmas.run_owners.Commands.{each_command_has_its_reason}
 use Rattle.law_driver.proofs.lemmas.run_owners.Ordered.{pushed_below}
-use Rattle.law_driver.proofs.lemmas.run_owners.Released.{set_here}
 use Rattle.law_driver.proofs.lemmas.run_owners.Runs.{placed_run}
 use Rattle.law_driver.proofs.lemmas.run_owners.Taking.{runs_taken}
 use Rattle.claims_driver.specs.FrameListMembers.{Framed, framed_in, is_chained, Placed, placed_of, placed_in}
-use Rattle.law_driver.proofs.lemmas.listed_members.Standing.{transfer_of, descriptor_placed}
+use Rattle.law_driver.proofs.lemmas.listed_members.Standing.{descriptor_placed}
 use Rattle.law_driver.proofs.lemmas.listed_members.Stays.{SameEndpoints, all_transfers, endpoint_set, placed_by}
 use Rattle.law_driver.proofs.lemmas.listed_members.Opening.{framed_pushed, framed_within}
 use Rattle.law_driver.proofs.lemmas.listed_members.Accepted.{off_new}
@@ -69,17 +70,13 @@ old_frames d g e k j m =
     ∙ same_frames (placed_in d.endpoints d.transfers) (frame_in d.periodic.notes) (frame_in g.periodic.notes) e 0 (length d.transfers) (λ t b low high is. m.frames t b (omega (arith, high)) is)
     ∙ ap (λ n. map (frame_in d.periodic.notes) (waiting_from (placed_in d.endpoints d.transfers) e 0 n)) (sym m.cut_before)
 
-nothing_more : (fs : List ℕ) → fs ++ [] ≡ fs
-nothing_more [] = refl
-nothing_more (f ∷ fs) = ap (λ gs. f ∷ gs) (nothing_more fs)
-
 more_none : (d g : DriverContent) (e n : ℕ) → ((t : ℕ) → length d.transfers ≤ t → t < length d.transfers + n → mark e (placed_in g.endpoints g.transfers t) ≡ None)
     → waiting_from (placed_in g.endpoints g.transfers) e 0 (length d.transfers + n) ≡ waiting_from (placed_in g.endpoints g.transfers) e 0 (length d.transfers)
 more_none d g e n none =
     more_waiting (placed_in g.endpoints g.transfers) e 0 (length d.transfers) n
     ∙ ap (λ bs. waiting_from (placed_in g.endpoints g.transfers) e 0 (length d.transfers) ++ bs)
     (none_waiting (placed_in g.endpoints g.transfers) e (0 + length d.transfers) n (λ t low high. none t (omega (arith, low)) (omega (arith, high))))
-    ∙ nothing_more (waiting_from (placed_in g.endpoints g.transfers) e 0 (length d.transfers))
+    ∙ append_none (waiting_from (placed_in g.endpoints g.transfers) e 0 (length d.transfers))
 
 more_stepped : (d g : DriverContent) (e k j : ℕ) (p : Placement) → IsMore d g e k j → j ≤ k → next_in g.endpoints e ≡ next_in d.endpoints e
     → ((t : ℕ) → length d.transfers ≤ t → t < length d.transfers + k → mark e (placed_in g.endpoints g.transfers t) ≡ None) → IsStepped d e p → IsStepped g e p
@@ -137,10 +134,6 @@ within_same xs y ts within t = at (slice_get ts t) refl
 
 next_pushed : (xs : List Endpoint) (y : Endpoint) (i : ℕ) → i < length xs → next_in (xs ++ y ∷ []) i ≡ next_in xs i
 next_pushed xs y i low = ap (option_and_then (λ (x : Endpoint). x.next)) (pushed_below xs y i low)
-
-newest_get : (xs : List Endpoint) (y : Endpoint) → slice_get (xs ++ y ∷ []) (length xs) ≡ Some y
-newest_get [] y = refl
-newest_get (x ∷ xs) y = newest_get xs y
 
 idle_cut : (d : DriverContent) → d.command ≡ None → framed_to d.command d.made (length d.transfers) ≡ length d.transfers
 idle_cut d idle = ap (λ (c : Option Command). framed_to c d.made (length d.transfers)) idle
@@ -200,10 +193,6 @@ pushed_stepped d g y order ends ts notes cut idle fresh old e x p here iso chain
 
 -- ---- a transfer of another endpoint
 
-newest : (ts : List Transfer) (z : Transfer) → slice_get (ts ++ z ∷ []) (length ts) ≡ Some z
-newest [] z = refl
-newest (t ∷ ts) z = newest ts z
-
 below_get : (ts : List Transfer) (z : Transfer) (t : ℕ) → t < length ts → slice_get (ts ++ z ∷ []) t ≡ slice_get ts t
 below_get ts z t low = pushed_below ts z t low
 
@@ -242,7 +231,7 @@ transfer_stepped d m o why old =
     new_none : (e t : ℕ) → length d.transfers ≤ t → t < length d.transfers + 1 → mark e (placed_in g.endpoints g.transfers t) ≡ None
     new_none e t low high =
         let at : t ≡ length d.transfers = omega (arith, low, high) in
-        ap (λ k. mark e (placed_in g.endpoints g.transfers k)) at ∙ ap (λ (q : Option Transfer). mark e (option_and_then (placed_of g.endpoints) q)) (newest d.transfers z)
+        ap (λ k. mark e (placed_in g.endpoints g.transfers k)) at ∙ ap (λ (q : Option Transfer). mark e (option_and_then (placed_of g.endpoints) q)) (last_pushed d.transfers z)
         ∙ ap (λ b. mark e (cond b (Some (record { endpoint = z.endpoint; block = z.first; waits = not z.reported && is_chained (framed_in g.endpoints z.endpoint) })) None)) why.sort
 
     stepped : AreStepped g
@@ -285,18 +274,11 @@ are_new k e x s (suc n) seed rs a =
       new = λ t low high.
           ⊎_elim
           (λ (same : t ≡ length a.transfers).
-          record { transfer = z; there = rest.old t (omega (arith, many, same)) ∙ ap (slice_get (a.transfers ++ z ∷ [])) same ∙ newest a.transfers z; endpoint = refl })
+          record { transfer = z; there = rest.old t (omega (arith, many, same)) ∙ ap (slice_get (a.transfers ++ z ∷ [])) same ∙ last_pushed a.transfers z; endpoint = refl })
           (λ (differs : t ≢ length a.transfers). rest.new t (omega (arith, many, low, differs)) (omega (arith, many, high))) (cases_eq t (length a.transfers));
       elsewhere = λ c other.
           rest.elsewhere c (λ i same. other (suc (slot_runs s) + i) (same ∙ get_or-drop (suc (slot_runs s)) rs i 0)) ∙ get_or-set_other a.notes b c (descriptor_note s (drop 1 rs)) no_descriptor (other 0);
     }
-
-drop_first : (xs ys : List ℕ) → drop (length xs) (xs ++ ys) ≡ ys
-drop_first [] ys = refl
-drop_first (x ∷ xs) ys = drop_first xs ys
-
-not_list : (split : Bool) (t : ℕ) → FrameList ≡ Described split t → ⊥
-not_list split t same = let e : 0 ≡ suc t = ap transfer_of same in omega (arith, e)
 
 -- how many wait
 before_long : (m : Option ℕ) (bs : List ℕ) → length (before m bs) ≤ suc (length bs)

@@ -6,6 +6,8 @@ use Rattle.std.proofs.lemmas.Bool.{false≢true, cases_eq, cases_lt, eqb-true, a
 use Rattle.std.proofs.lemmas.List.{length-map}
 use Rattle.std.proofs.lemmas.Option.{same_Some, slice_get_within}
 use Rattle.std.proofs.Math.Nat.{mul-le-mul_right}
+use Rattle.law_driver.proofs.Common.{once_is, iso_frames}
+use Rattle.law_common.proofs.Booleans.{or_none}
 use Rattle.usb_base.specs.declared.commands.Cmd.{Cmd}
 use Rattle.word_mem.specs.Memory.{Mem}
 use Rattle.mem_runs.specs.Book.{holding, Stands}
@@ -13,7 +15,6 @@ use Rattle.bandwidth.specs.declared.placements.Placement.{Placement}
 use Rattle.bandwidth.specs.Placements.{frame_period}
 use Rattle.bandwidth.specs.Sums.{is_active}
 use Rattle.drv_chains.specs.declared.members.Descriptor.{Descriptor}
-use Rattle.drv_chains.specs.declared.members.Member.{Member}
 use Rattle.drv_chains.specs.declared.members.Member.TheVariants.{Once}
 use Rattle.drv_chains.specs.Chains.{id_of}
 use Rattle.drv_periodic_table.specs.Periodic.{note_at, descriptor_name}
@@ -29,11 +30,10 @@ use Rattle.drv_table.specs.Rows.{driver_row, after_driver_row}
 use Rattle.drv_table.specs.Accepting.{Offered}
 use Rattle.drv_table.specs.Offers.{offered, IsOffered}
 use Rattle.claims_driver.specs.Leaving.{HasOwners}
-use Rattle.law_driver.proofs.lemmas.run_owners.Ordered.{iso_periodic}
 use Rattle.claims_driver.specs.FrameListMembers.{framed_of, framed_in, is_chained, Placed, placed_in, is_among, member_of}
 use Rattle.law_driver.specs.listed_members.Members.{is_in_names, is_linked_by, IsStanding, IsUnderWay, IsListed}
 use Rattle.law_driver.proofs.lemmas.listed_members.Standing.{seen, in_frames}
-use Rattle.law_driver.proofs.lemmas.listed_members.Framing.{not_below, or_none}
+use Rattle.law_driver.proofs.lemmas.listed_members.Framing.{not_below}
 use Rattle.law_driver.specs.planned_endpoints.Planned.{IsPlanned}
 use Rattle.law_driver.proofs.lemmas.planned_endpoints.Laws.{endpoints_count_until_given_back}
 use Rattle.law_driver.specs.iso_frames.Steps.{AreApart}
@@ -136,7 +136,7 @@ waiting_own d k e has w =
     let at : s.transfer.endpoint ≡ e = sym s.endpoint ∙ w.endpoint in
     let here : slice_get d.endpoints e ≡ Some x.endpoint = ap (slice_get d.endpoints) (sym at) ∙ x.here in
     let iso : is_iso x.endpoint.desc.kind ≡ true = sym (has.orderly.sorts w.number s.transfer x.endpoint s.there x.here) ∙ s.sort in
-    let p = some_placement x.endpoint.placement ((has.orderly.steady e x.endpoint here).placed ∙ iso_periodic x.endpoint.desc.kind iso) in
+    let p = some_placement x.endpoint.placement ((has.orderly.steady e x.endpoint here).placed ∙ iso_frames x.endpoint.desc.kind iso) in
     record { endpoint = x.endpoint; here = here; iso = iso; chained = x.chained; placement = p.0; placed = p.1 }
 
 own_framed : (d : DriverContent) (e : ℕ) (x : IsOwn d e) → IsListed d → AreInFrames d → IsFramedFor d e x.placement
@@ -146,9 +146,6 @@ own_framed d e x listed h = framed_for d e x.placement listed (h.stepped e (fram
 
 own_mark : (d : DriverContent) (k : Descriptor) (e : ℕ) → (w : IsWaitingFor d k e) → mark e (placed_in d.endpoints d.transfers w.number) ≡ Some w.placed.block
 own_mark d k e w = ap (mark e) w.here ∙ mark_is e w.placed w.endpoint w.waits
-
-once_is : (k l : Descriptor) → ◌≡◌ {A = Member} (Once k) (Once l) → k ≡ l
-once_is k l e = cc
 
 own_frame : (d : DriverContent) (k : Descriptor) (e : ℕ) → (w : IsWaitingFor d k e) → frame_in d.periodic.notes w.placed.block ≡ k.frame
 own_frame d k e w = ap (λ (x : Descriptor). x.frame) (once_is (record { id = descriptor_name (note_at d.periodic.notes w.placed.block) w.placed.block; frame = (note_at d.periodic.notes w.placed.block).frame }) k w.is)

@@ -6,6 +6,7 @@ use Rattle.std.proofs.lemmas.Bool.{cases_eq, cases_lt}
 use Rattle.std.proofs.lemmas.List.{length-set, length-drop, length-take, get_or-set_other, get_or_past}
 use Rattle.std.proofs.lemmas.Grind.{get_or-set_at}
 use Rattle.std.proofs.lemmas.Option.{same_Some, slice_get_within}
+use Rattle.law_common.proofs.Lists.{all_both}
 use Rattle.bandwidth.specs.declared.placements.Placement.{Placement}
 use Rattle.bandwidth.specs.Placements.{IsPlace}
 use Rattle.bandwidth.specs.Sums.{is_active}
@@ -180,10 +181,6 @@ behind_last p n notes (b ∷ bs) (y ∷ ys) old =
   where
     steps_behind : (f : ℕ) → AreInStep p (frames_list p f (y ∷ ys)) → StepsTo p f (frames_list p (frames_from p f 1) ys)
     steps_behind f h = h
-
-pub all_joined : {X : Type 0} (P : X → Type 0) (xs ys : List X) → AllByRecursion P xs → AllByRecursion P ys → AllByRecursion P (xs ++ ys)
-all_joined P [] ys h k = k
-all_joined P (x ∷ xs) ys h k = (h.0, all_joined P xs ys h.1 k)
 
 last_active : (p : Placement) (notes : List DescriptorNote) (bs : List ℕ) (f : ℕ) → AllByRecursion (λ g. is_active p g ≡ true) (map (frame_in notes) bs) → option_map (frame_in notes) (last_or None bs) ≡ Some f → is_active p f ≡ true
 last_active p notes [] f all e = absurd (cc)
@@ -442,7 +439,8 @@ frames_stepped d n e0 first count is none has listed places old = subst AreStepp
         subst (λ k. IsStepped g k p) (sym hit)
         (of e0 p (subst (AreInStep p) (sym fs) (behind_last p n d.periodic.notes (waiting_from v e0 0 first) ts old_steps))
         (subst (AllByRecursion (λ k. is_active p k ≡ true)) (sym fs)
-        (all_joined (λ k. is_active p k ≡ true) (map (frame_in d.periodic.notes) (waiting_from v e0 0 first)) (frames_list p _ ts) old_active (list_active p _ ts place first_on))) h0))
+        (all_both (λ k. is_active p k ≡ true) (map (frame_in d.periodic.notes) (waiting_from v e0 0 first)) (frames_list p _ ts) old_active
+        (list_active p _ ts place first_on))) h0))
         (λ (miss : e ≢ e0).
         let fs = same_else e miss in
         of e p (subst (AreInStep p) (sym fs) h.steps) (subst (AllByRecursion (λ k. is_active p k ≡ true)) (sym fs) h.active) h) (cases_eq e e0)

@@ -6,6 +6,8 @@ use Rattle.std.proofs.lemmas.Bool.{false≢true, cases_eq, cases_lt, eq-eqb, lt-
 use Rattle.std.proofs.lemmas.List.{length-set, length-drop}
 use Rattle.std.proofs.lemmas.Option.{same_Some, slice_get_within}
 use Rattle.std.proofs.Math.Nat.{suc-mul}
+use Rattle.law_driver.proofs.Common.{one_behind, one_command}
+use Rattle.law_common.proofs.Lists.{set_here, set_there}
 use Rattle.usb_base.specs.declared.endpoints.EpName.{EpName}
 use Rattle.usb_base.specs.declared.endpoints.EndCause.{EndCause}
 use Rattle.usb_base.specs.declared.reports.What.{What}
@@ -25,11 +27,9 @@ use Rattle.drv_table.specs.Harvests.{is_stall, noted, end_of}
 use Rattle.drv_table.specs.Parts.{Parts}
 use Rattle.drv_table.specs.Kinds.{is_iso}
 use Rattle.drv_table.specs.Harvesting.{found_of, served, told_with, behind_one, behind, after_end, descriptor_told, harvested_as, after_harvest}
-use Rattle.law_admission.proofs.Events.{either}
 use Rattle.claims_driver.specs.Owners.{is_descriptor}
 use Rattle.claims_driver.specs.Leaving.{IsOrderly}
 use Rattle.law_driver.specs.run_owners.Due.{IsHarvestDue}
-use Rattle.law_driver.proofs.lemmas.run_owners.Released.{set_here, set_there}
 use Rattle.law_driver.proofs.lemmas.run_owners.Harvest.{Waits, waits_is, is_served_found}
 use Rattle.law_driver.proofs.lemmas.run_owners.Rows.{served_is}
 use Rattle.claims_driver.specs.FrameListMembers.{Framed, framed_of, framed_in, is_chained, Placed, placed_of, placed_in}
@@ -49,10 +49,6 @@ either_next : (i : ℕ) (b : Bool) (x y : DriverContent) (o : Option ℕ) → ne
 either_next i true x y o one two = one
 either_next i false x y o one two = two
 
-one_behind : (d : DriverContent) (e : ℕ) (name : EpName) (k : ℕ) (o : Option Transfer) → (behind_one d e name k o).endpoints ≡ d.endpoints
-one_behind d e name k None = refl
-one_behind d e name k (Some x) = either (λ (f : DriverContent). f.endpoints) (waits_for e x) _ d d.endpoints refl refl
-
 all_behind : (d : DriverContent) (e : ℕ) (name : EpName) (k n : ℕ) → (behind d e name k n).endpoints ≡ d.endpoints
 unfolding behind
 all_behind d e name k zero = refl
@@ -71,10 +67,6 @@ read_next d m e t i x y (founds.Ended n what) off =
 read_next d m e t i x y _ off = refl
 
 -- ---- no command begins
-
-one_command : (f : DriverContent) (e : ℕ) (name : EpName) (k : ℕ) (o : Option Transfer) → (behind_one f e name k o).command ≡ f.command
-one_command f e name k None = refl
-one_command f e name k (Some v) = either (λ (g : DriverContent). g.command) (waits_for e v) _ f f.command refl refl
 
 all_command : (f : DriverContent) (e : ℕ) (name : EpName) (k n : ℕ) → (behind f e name k n).command ≡ f.command
 unfolding behind

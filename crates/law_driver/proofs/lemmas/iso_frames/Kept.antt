@@ -4,6 +4,7 @@ use Rattle.std.specs.Prelude.{option_and_then, unwrap_or, is_none}
 use Rattle.std.specs.List.{AllByRecursion}
 use Rattle.std.proofs.lemmas.Bool.{cases_eq}
 use Rattle.std.proofs.lemmas.Option.{same_Some}
+use Rattle.law_common.proofs.Lists.{set_here, set_there}
 use Rattle.bandwidth.specs.declared.placements.Placement.{Placement}
 use Rattle.bandwidth.specs.Placements.{frame_period}
 use Rattle.bandwidth.specs.Sums.{is_active}
@@ -18,7 +19,6 @@ use Rattle.drv_table.specs.declared.content.Command.TheVariants as unfinished
 use Rattle.drv_table.specs.DriverContent.{DriverContent}
 use Rattle.drv_table.specs.Commands.{events_of, links, removes_members, no_command, leave_ring, leave_frames, finished, list_after, or_finished, linked_on, advanced_by}
 use Rattle.claims_driver.specs.Owners.{is_descriptor}
-use Rattle.law_driver.proofs.lemmas.run_owners.Released.{set_here, set_there}
 use Rattle.claims_driver.specs.FrameListMembers.{Framed, framed_of, framed_in, is_chained, placed_of, placed_in}
 use Rattle.law_driver.proofs.lemmas.listed_members.Stays.{SameEndpoints, SameTransfers, all_endpoints, all_transfers, endpoint_set, placed_by}
 use Rattle.law_driver.specs.iso_frames.Steps.{AreInStep}

@@ -1,14 +1,15 @@
 -- Each placement of the plan is a place, of the period that was asked.
-use Rattle.std.proofs.Common.{◌≡◌, ℕ, zero, suc, Bool, true, false, cond, nat_lt, List, [], ◌∷◌, ◌++◌, length, filter, slice_get, Option, Some, None, Result, Ok, Err, refl, ap, sym, subst, ◌∙◌}
+use Rattle.std.proofs.Common.{◌≡◌, ℕ, Bool, true, false, cond, nat_lt, List, [], ◌∷◌, ◌++◌, length, filter, slice_get, Option, Some, None, Result, Ok, Err, refl, ap, sym, subst, ◌∙◌}
 use Rattle.std.specs.Prelude.{IfOk}
 use Rattle.std.specs.List.{AllByRecursion}
 use Rattle.std.proofs.lemmas.Result.{IfOk-at_ok}
 use Rattle.std.proofs.lemmas.Bool.{false≢true}
-use Rattle.std.proofs.lemmas.Option.{same_Some}
+use Rattle.law_admission.proofs.Common.{refused_again}
+use Rattle.law_driver.proofs.Common.{all_at}
+use Rattle.law_common.proofs.Lists.{all_both}
 use Rattle.usb_base.specs.declared.packets.EpKind.{EpKind}
 use Rattle.usb_base.specs.declared.packets.EpKind.TheVariants as kinds
 use Rattle.usb_base.specs.declared.endpoints.EpDesc.{EpDesc}
-use Rattle.usb_base.specs.declared.endpoints.EndCause.{EndCause}
 use Rattle.usb_base.specs.declared.commands.Cmd.{Cmd}
 use Rattle.usb_base.specs.declared.commands.Cmd.TheVariants as commands
 use Rattle.usb_base.specs.declared.reports.OfferError.{OfferError}
@@ -41,7 +42,7 @@ use Rattle.claims_driver.specs.FrameListMembers.{Framed, framed_in}
 use Rattle.law_driver.specs.planned_endpoints.Planned.{IsPlanned}
 use Rattle.law_driver.proofs.lemmas.planned_endpoints.Laws.{endpoints_count_until_given_back}
 use Rattle.law_driver.specs.iso_frames.Frames.{HasPlace, ArePlaces}
-use Rattle.law_driver.proofs.lemmas.iso_frames.Framing.{framed_at, all_joined}
+use Rattle.law_driver.proofs.lemmas.iso_frames.Framing.{framed_at}
 
 -- ---- lists
 
@@ -52,11 +53,6 @@ all_filtered P test (y ∷ ps) h = at (test y) (all_filtered P test ps h.1)
     at : (b : Bool) → AllByRecursion P (filter test ps) → AllByRecursion P (cond b (y ∷ filter test ps) (filter test ps))
     at true rest = (h.0, rest)
     at false rest = rest
-
-all_at : (P : Counted → Type 0) (ps : List Counted) (i : ℕ) (y : Counted) → AllByRecursion P ps → slice_get ps i ≡ Some y → P y
-all_at P [] i y h e = absurd (cc)
-all_at P (z ∷ ps) zero y h e = subst P (same_Some z y e) h.0
-all_at P (z ∷ ps) (suc i) y h e = all_at P ps i y h.1 e
 
 -- ---- an event
 
@@ -96,7 +92,7 @@ opened_places d x (Ok g) h = h
 
 one_more : (d : DriverContent) (x : EpDesc) (p : Placement) → IsOption (want_of (length d.endpoints) x) p → ArePlaces d.periodic.plan.placed → ArePlaces (d.periodic.plan.placed ++ record { want = want_of (length d.endpoints) x; placement = p } ∷ [])
 one_more d x p option h =
-    all_joined HasPlace d.periodic.plan.placed (record { want = want_of (length d.endpoints) x; placement = p } ∷ []) h
+    all_both HasPlace d.periodic.plan.placed (record { want = want_of (length d.endpoints) x; placement = p } ∷ []) h
     (record { place = option.place; period = ap (λ (q : Placement). q.period) option.at }, tt)
 
 chain_places : (d : DriverContent) (x : EpDesc) (p : Placement) (r : Result Holding OfferError) → IsOption (want_of (length d.endpoints) x) p → ArePlaces d.periodic.plan.placed → IfOk (taken_chain d x p r) Places
@@ -117,10 +113,6 @@ new_places : (d : DriverContent) (m : Mem) (x : EpDesc) (b : Bool) → is_period
     → IfOk (cond b (planned_open d m x (answer d.periodic.plan (want_of (length d.endpoints) x))) (taken_open d x (take_runs (holding d.book m) (2 ∷ 1 ∷ [])))) Places
 new_places d m x true periodic want h = plan_places d m x (answer d.periodic.plan (want_of (length d.endpoints) x)) refl (want periodic) h
 new_places d m x false ring want h = opened_places d x (take_runs (holding d.book m) (2 ∷ 1 ∷ [])) h
-
-refused_again : (P : Offered → Type 0) (c : Option EndCause) → IfOk (elim c [ Some cause ↦ Err (errors.Closed cause) | None ↦ Err errors.AlreadyOpen ]) P
-refused_again P None = tt
-refused_again P (Some cause) = tt
 
 open_places : (d : DriverContent) (m : Mem) (x : EpDesc) (q : Option Endpoint) → IsOpened x → ArePlaces d.periodic.plan.placed → IfOk (offered_open d m x q) Places
 open_places d m x (Some old) want h = refused_again Places old.ended

@@ -1,9 +1,11 @@
 -- Each event of the driver leaves the descriptors in step.
-use Rattle.std.proofs.Common.{◌≡◌, ◌≢◌, ℕ, zero, suc, ◌≤◌, ◌==◌, ◌&&◌, ◌||◌, not, Bool, true, false, cond, List, length, map, set, slice_get, Option, Some, None, option_map, refl, ap, sym, subst, ◌∙◌, ⊎_elim, arith, inl, inr}
+use Rattle.std.proofs.Common.{◌≡◌, ◌≢◌, ℕ, zero, suc, ◌≤◌, ◌&&◌, ◌||◌, not, Bool, true, false, cond, List, length, map, set, slice_get, Option, Some, None, option_map, refl, ap, sym, subst, ◌∙◌, ⊎_elim, arith, inl, inr}
 use Rattle.std.specs.Prelude.{option_and_then}
 use Rattle.std.proofs.lemmas.Bool.{false≢true, cases_eq}
 use Rattle.std.proofs.lemmas.List.{length-map}
 use Rattle.std.proofs.lemmas.Option.{same_Some, slice_get-map}
+use Rattle.law_driver.proofs.Common.{let_go_same, ring_queue}
+use Rattle.law_common.proofs.Numbers.{other_number}
 use Rattle.word_mem.specs.Memory.{Mem}
 use Rattle.bandwidth.specs.declared.placements.Placement.{Placement}
 use Rattle.bandwidth.specs.Placements.{IsPlace}
@@ -29,9 +31,8 @@ use Rattle.drv_table.specs.Rows.{driver_row, after_driver_row}
 use Rattle.claims_driver.specs.Leaving.{IsOrderly, HasOwners}
 use Rattle.law_driver.specs.run_owners.Due.{IsRemovalDue, IsDue}
 use Rattle.law_driver.proofs.lemmas.run_owners.Reasons.{each_event_is_due}
-use Rattle.law_driver.proofs.lemmas.run_owners.Released.{other_number, cancel_same}
+use Rattle.law_driver.proofs.lemmas.run_owners.Released.{cancel_same}
 use Rattle.law_driver.proofs.lemmas.run_owners.Leaves.{first_left, first_removed}
-use Rattle.law_driver.proofs.lemmas.run_owners.Rows.{not_iso}
 use Rattle.claims_driver.specs.FrameListMembers.{Framed, framed_in, placed_of, placed_in}
 use Rattle.law_driver.specs.listed_members.Members.{AreKept, IsListed}
 use Rattle.law_driver.proofs.lemmas.listed_members.Stays.{all_endpoints, all_transfers, endpoint_set, transfer_set}
@@ -123,13 +124,6 @@ told_stays d m e x = either_stays d _ d (is_told x) (same_stays d _ (all_endpoin
 go_others : (e : ℕ) (told : Bool) (y : Transfer) → y.endpoint ≢ e → let_go e told y ≡ y
 go_others e told y off = ap (λ b. cond b (record y { reported = y.reported || told; released = true }) y) (other_number y.endpoint e off)
 
-go_endpoint : (e : ℕ) (told : Bool) (y : Transfer) → (let_go e told y).endpoint ≡ y.endpoint
-go_endpoint e told y = at (y.endpoint == e) (record y { reported = y.reported || told; released = true }) refl
-  where
-    at : (b : Bool) (z : Transfer) → z.endpoint ≡ y.endpoint → (cond b z y).endpoint ≡ y.endpoint
-    at true z same = same
-    at false z same = refl
-
 placed_others : (iso : Bool) (e : ℕ) (told : Bool) (y : Transfer) → y.endpoint ≢ e → let_go_placed iso e told y ≡ y
 placed_others true e told y off = ap (λ b. cond (b && not y.reported) (record y { reported = y.reported || told; released = true }) y) (other_number y.endpoint e off)
 placed_others false e told y off = go_others e told y off
@@ -140,7 +134,7 @@ placed_endpoint true e told y = at (waits_for e y) (record y { reported = y.repo
     at : (b : Bool) (z : Transfer) → z.endpoint ≡ y.endpoint → (cond b z y).endpoint ≡ y.endpoint
     at true z same = same
     at false z same = refl
-placed_endpoint false e told y = go_endpoint e told y
+placed_endpoint false e told y = let_go_same e told y
 
 endpoint_stepped : (p : Parts) (e : ℕ) (o : Option Endpoint) → slice_get p.driver.endpoints e ≡ o → ((x : Endpoint) → o ≡ Some x → is_iso x.desc.kind ≡ false) → AreStepped p.driver → AreStepped (after_endpoint p e o).driver
 endpoint_stepped p e None here plain old = old
@@ -155,7 +149,7 @@ endpoint_stepped p e (Some x) here plain old =
       endpoints = refl;
       transfers = refl;
       others = go_others e (is_told x);
-      endpoint = go_endpoint e (is_told x);
+      endpoint = let_go_same e (is_told x);
       notes = refl;
       command = refl;
       made = refl;
@@ -214,7 +208,7 @@ ring_plain : (p : Parts) (e : ℕ) → slice_get p.driver.cleared 0 ≡ Some e �
 ring_plain p e first order x is =
     let l = first_left e first order in
     let same : l.endpoint ≡ x = same_Some l.endpoint x (sym l.here ∙ is) in
-    not_iso x.desc.kind (ap (λ (z : Endpoint). is_periodic z.desc.kind) (sym same) ∙ l.ring)
+    ring_queue x.desc.kind (ap (λ (z : Endpoint). is_periodic z.desc.kind) (sym same) ∙ l.ring)
 
 -- ---- any event
 

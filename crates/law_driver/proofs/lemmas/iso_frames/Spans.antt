@@ -1,8 +1,12 @@
 -- Descriptors are accepted where those of the endpoint that wait span no more than the list with them.
-use Rattle.std.proofs.Common.{◌≡◌, ℕ, ◌+◌, ◌*◌, ◌≤◌, Bool, true, false, cond, List, [], ◌∷◌, ◌++◌, length, slice_get, Option, Some, None, Result, Ok, Err, refl, ap, sym, subst, ◌∙◌, inl, inr}
-use Rattle.std.specs.Prelude.{IfOk, unwrap_or, option_and_then, nat_lt, not, ◌||◌, count_by, is_none, is_some, if◌then◌else◌}
+use Rattle.std.proofs.Common.{◌≡◌, ℕ, ◌+◌, ◌*◌, ◌≤◌, Bool, true, false, cond, List, [], ◌∷◌, ◌++◌, length, slice_get, Option, Some, None, Result, Ok, Err, refl, ap, sym, subst, ◌∙◌}
+use Rattle.std.specs.Prelude.{IfOk, unwrap_or, nat_lt, not, ◌||◌, count_by, is_none, is_some, if◌then◌else◌}
 use Rattle.std.proofs.lemmas.Result.{IfOk-at_ok}
-use Rattle.std.proofs.lemmas.Bool.{false≢true, cases_lt, lt-ltb}
+use Rattle.std.proofs.lemmas.Bool.{false≢true}
+use Rattle.law_common.proofs.Booleans.{or_both}
+use Rattle.law_admission.proofs.Common.{refused_again}
+use Rattle.law_driver.proofs.Common.{there_by}
+use Rattle.law_common.proofs.Numbers.{not_less}
 use Rattle.usb_base.specs.declared.packets.EpKind.{EpKind}
 use Rattle.usb_base.specs.declared.packets.EpKind.TheVariants as kinds
 use Rattle.usb_base.specs.declared.endpoints.EpName.{EpName}
@@ -49,10 +53,6 @@ or_else : (P : Offered → Type 0) (b : Bool) (x y : Result Offered OfferError) 
 or_else P true x y one two = one
 or_else P false x y one two = two refl
 
-there_by : (xs : List Endpoint) (o : Option ℕ) (x : Endpoint) → option_and_then (λ e. slice_get xs e) o ≡ Some x → slice_get xs (unwrap_or o 0) ≡ Some x
-there_by xs None x e = absurd (cc)
-there_by xs (Some k) x e = e
-
 abbrev Stands : DriverContent → ℕ → Option Endpoint → Type 0
 Stands d e q = (x : Endpoint) → q ≡ Some x → slice_get d.endpoints e ≡ Some x
 
@@ -93,13 +93,6 @@ iso_taken d e x s n seed (Ok h) here few short = λ i t k is.
     let count : n ≡ k = ap count_in is in
     subst (λ j. IsSpanned d j k) number (subst (λ j. IsSpanned d e j) count (record { endpoint = x; here = here; few = few; short = short }))
 
-not_less : (a b : ℕ) → nat_lt a b ≡ false → b ≤ a
-not_less a b off = elim (cases_lt a b) [ inl h ↦ absurd (false≢true (sym off ∙ lt-ltb a b h)) | inr h ↦ h ]
-
-both_off : (a b : Bool) → (a || b) ≡ false → (a ≡ false) × (b ≡ false)
-both_off true b e = absurd (false≢true (sym e))
-both_off false b e = (refl, e)
-
 iso_opened : (d : DriverContent) (m : Mem) (e : ℕ) (x : Endpoint) (s : Slots) (n seed : ℕ) (c : Option EndCause) → slice_get d.endpoints e ≡ Some x → IfOk (open_iso d m e x s n seed c) (Spans d)
 iso_opened d m e x s n seed (Some cause) here = tt
 iso_opened d m e x s n seed None here =
@@ -107,7 +100,7 @@ iso_opened d m e x s n seed None here =
     (taken_iso d e x s n seed (take_runs (holding d.book m) (iso_needs s n))) tt
     (λ off.
     let w = n + count_by (waits_for e) d.transfers in
-    let b = both_off (nat_lt 8 w) (nat_lt 8192 (w * x.desc.period)) (both_off (spans_too_long x w) (not (has_slots x s)) off).0 in
+    let b = or_both (nat_lt 8 w) (nat_lt 8192 (w * x.desc.period)) (or_both (spans_too_long x w) (not (has_slots x s)) off).0 in
     iso_taken d e x s n seed (take_runs (holding d.book m) (iso_needs s n)) here (not_less 8 w b.0) (not_less 8192 (w * x.desc.period) b.1))
 
 iso_found : (d : DriverContent) (m : Mem) (e n len seed : ℕ) (q : Option Endpoint) → Stands d e q → IfOk (offered_iso d m e n len seed q) (Spans d)
@@ -155,10 +148,6 @@ place_open d m x p _ idle = chain_taken d m x p (take_runs (holding d.book m) (2
 plan_open : (d : DriverContent) (m : Mem) (x : EpDesc) (r : Result Placement Refused) → d.command ≡ None → IfOk (planned_open d m x r) (Spans d)
 plan_open d m x (Err why) idle = tt
 plan_open d m x (Ok p) idle = place_open d m x p x.kind idle
-
-refused_again : (P : Offered → Type 0) (c : Option EndCause) → IfOk (elim c [ Some cause ↦ Err (errors.Closed cause) | None ↦ Err errors.AlreadyOpen ]) P
-refused_again P None = tt
-refused_again P (Some cause) = tt
 
 open_found : (d : DriverContent) (m : Mem) (x : EpDesc) (q : Option Endpoint) → d.command ≡ None → IfOk (offered_open d m x q) (Spans d)
 open_found d m x (Some old) idle = refused_again (Spans d) old.ended

@@ -2,7 +2,7 @@
 use Rattle.std.proofs.Common.{◌≡◌, ◌≢◌, cond, ℕ, zero, suc, ◌+◌, ◌<◌, ◌≤◌, ◌==◌, ◌&&◌, Bool, true, false, List, [], ◌∷◌, ◌++◌, Option, Some, None, refl, ap, sym, ◌∙◌, ⊎_elim, arith}
 use Rattle.std.proofs.lemmas.Bool.{cases_eq, eq-eqb, eqb-true}
 use Rattle.std.proofs.lemmas.Option.{same_Some}
-use Rattle.law_driver.proofs.lemmas.run_owners.Released.{other_number}
+use Rattle.law_common.proofs.Numbers.{other_number}
 use Rattle.claims_driver.specs.FrameListMembers.{Placed}
 use Rattle.law_driver.specs.iso_frames.Frames.{mark, before, waiting_from}
 

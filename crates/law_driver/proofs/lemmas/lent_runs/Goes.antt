@@ -4,6 +4,7 @@ use Rattle.std.specs.List.{list_any}
 use Rattle.std.proofs.lemmas.Bool.{false≢true}
 use Rattle.std.proofs.lemmas.Bool.Decides.{nat_tests}
 use Rattle.std.proofs.lemmas.Option.{same_Some, slice_get-map}
+use Rattle.law_common.proofs.Booleans.{both_second}
 use Rattle.word_mem.specs.Memory.{Mem}
 use Rattle.mem_runs.specs.Book.{Book, Holding, holding, lend_taken, slot_of}
 use Rattle.drv_periodic.specs.declared.work.Store.{Store}
@@ -146,11 +147,6 @@ own_lent rows.Frames p c is there own old =
 own_lent rows.LendDescriptors p c is there own old = lends p.driver (linked_by p.driver p.memory p.driver.command) old
 own_lent _ p c is there own old = absurd (false≢true own)
 
--- .. and the stores of the frame list behind them
-both_true : (a b : Bool) → a && b ≡ true → b ≡ true
-both_true true b e = e
-both_true false b e = absurd (false≢true e)
-
 command_lent : (p : Parts) (c : Command) → p.driver.command ≡ Some c → AreLent p.driver → AreLent (after_driver_row (next_row p.driver c) p).driver
 command_lent p c is old = at (links c && nat_le (length (events_of c)) p.driver.made) refl
   where
@@ -165,7 +161,7 @@ command_lent p c is old = at (links c && nat_le (length (events_of c)) p.driver.
 
     at : (b : Bool) → links c && nat_le (length (events_of c)) p.driver.made ≡ b → AreLent (after_driver_row (cond b (link_row (next_store p.driver.periodic.list)) (command_row c p.driver.made)) p).driver
     at true e =
-        let le = both_true (links c) (nat_le (length (events_of c)) p.driver.made) e in
+        let le = both_second (links c) (nat_le (length (events_of c)) p.driver.made) e in
         stored (next_store p.driver.periodic.list) (grind (arith, nat_tests))
     at false e = own (slice_get (events_of c) p.driver.made) refl
 

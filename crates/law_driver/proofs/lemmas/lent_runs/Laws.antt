@@ -1,6 +1,7 @@
 -- The laws, in the form in which they are stated.
 use Rattle.std.proofs.Common.{◌≡◌, ℕ, zero, suc, ◌/◌, set, replicate, slice_get, Some, None, Ok, ap, sym, ◌∙◌, refl}
 use Rattle.std.proofs.lemmas.Bool.{false≢true}
+use Rattle.law_driver.proofs.Common.{lent_by, lends_keeps}
 use Rattle.usb_base.specs.declared.commands.Cmd.{Cmd}
 use Rattle.word_mem.specs.Memory.{Mem}
 use Rattle.word_mem.specs.Runs.{Run}
@@ -19,7 +20,7 @@ use Rattle.claims_driver.specs.Owners.{Owner, HasRun, SlotHas, IsPlaced}
 use Rattle.law_driver.proofs.lemmas.run_owners.Runs.{placed_run}
 use Rattle.law_driver.proofs.lemmas.run_owners.Commands.{each_command_has_its_reason}
 use Rattle.claims_driver.specs.LentRuns.{begins_in, AreLent, IsLent}
-use Rattle.law_driver.proofs.lemmas.lent_runs.Slots.{set_keeps, empty_keeps, lends_keeps}
+use Rattle.law_driver.proofs.lemmas.lent_runs.Slots.{set_keeps, empty_keeps}
 use Rattle.law_driver.proofs.lemmas.lent_runs.Offering.{accepted_lent}
 use Rattle.law_driver.proofs.lemmas.lent_runs.Goes.{idle_none}
 
@@ -41,12 +42,6 @@ opening_runs_are_lent n room =
 
 pub commands_keep_them : (d : DriverContent) (m : Mem) (cmd : Cmd) (o : Offered) → AreLent d → offered d m cmd ≡ Ok o → AreLent o.driver
 commands_keep_them d m cmd o old is = accepted_lent d m o (each_command_has_its_reason d m cmd o is) old
-
--- a run that isn't kept is lent
-lent_by : (s : Slot) → HasRun s → ((r : Run) → s ≡ Keeps r → ⊥) → IsLent s
-lent_by Empty run none = run
-lent_by (Keeps r) run none = none r refl
-lent_by (Lends r) run none = tt
 
 pub all_are_lent_between_commands : (d : DriverContent) (b : ℕ) → d.command ≡ None → AreLent d → HasRun (slot_of d.book.slots b) → IsLent (slot_of d.book.slots b)
 all_are_lent_between_commands d b idle old run =

@@ -3,6 +3,8 @@ use Rattle.std.proofs.Common.{◌≡◌, ◌≢◌, ℕ, zero, suc, ◌==◌, Bo
 use Rattle.std.proofs.lemmas.Bool.{cases_eq, false≢true}
 use Rattle.std.proofs.lemmas.List.{reverse-append}
 use Rattle.std.proofs.lemmas.List.Folds.{list_any-append}
+use Rattle.law_driver.proofs.Common.{ok_same, lends_keeps}
+use Rattle.law_common.proofs.Numbers.{same_number, other_number}
 use Rattle.usb_base.specs.declared.reports.OfferError.{OfferError}
 use Rattle.usb_base.specs.declared.reports.OfferError.TheVariants as errors
 use Rattle.word_mem.specs.Runs.{Run}
@@ -21,7 +23,6 @@ use Rattle.drv_table.specs.Accepting.{take_runs}
 use Rattle.drv_table.specs.Kinds.{is_iso}
 use Rattle.drv_table.specs.Releases.{free_runs, free_qtd, free_qtds, free_transfers, free_endpoint, is_held_of}
 use Rattle.drv_table.specs.Removals.{free_descriptor, free_descriptors, free_placed}
-use Rattle.law_driver.proofs.lemmas.run_owners.Released.{same_number, other_number}
 use Rattle.claims_driver.specs.LentRuns.{begins_in}
 
 -- ---- one slot is written, and keeps nothing
@@ -35,9 +36,6 @@ set_keeps (x ∷ xs) (suc i) (suc b) s r none is = set_keeps xs i b s r none is
 
 pub empty_keeps : (q : Run) → Empty ≡ Keeps q → ⊥
 empty_keeps q is = cc
-
-pub lends_keeps : (r q : Run) → Lends r ≡ Keeps q → ⊥
-lends_keeps r q is = cc
 
 -- ---- giving back
 
@@ -190,9 +188,6 @@ run_taken h g (Some r) kept is =
 
 abbrev then_runs : Holding → ℕ → List ℕ → Option Holding → Result Holding OfferError
 then_runs h n ns o = elim o [ None ↦ Err (errors.NoBlocks n (longest_run h.memory.states)) | Some more ↦ take_runs more ns ]
-
-ok_same : (h g : Holding) → ◌≡◌ {A = Result Holding OfferError} (Ok h) (Ok g) → h ≡ g
-ok_same h g e = cc
 
 first_taken : (h g : Holding) (n : ℕ) (ns : List ℕ) (o : Option Holding) → take_run h n ≡ o → KeepsTaken h → ((k : Holding) → KeepsTaken k → take_runs k ns ≡ Ok g → KeepsTaken g) → then_runs h n ns o ≡ Ok g → KeepsTaken g
 first_taken h g n ns None is kept rest e = absurd (cc)

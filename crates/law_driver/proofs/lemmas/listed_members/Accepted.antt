@@ -5,6 +5,10 @@ use Rattle.std.specs.List.{AllByRecursion}
 use Rattle.std.proofs.lemmas.Bool.{false≢true, and_parts, cases_lt, cases_eq}
 use Rattle.std.proofs.lemmas.List.{get_or-set_other, get_or-drop}
 use Rattle.std.proofs.lemmas.Option.{slice_get_within}
+use Rattle.law_driver.proofs.Common.{last_pushed, not_list}
+use Rattle.law_common.proofs.Lists.{drop_first, set_here}
+use Rattle.law_common.proofs.Numbers.{same_number, is_less}
+use Rattle.law_common.proofs.Booleans.{first_true, second_true, or_none}
 use Rattle.usb_base.specs.declared.endpoints.EpDesc.{EpDesc}
 use Rattle.usb_base.specs.declared.commands.Cmd.{Cmd}
 use Rattle.word_mem.specs.Memory.{Mem}
@@ -31,14 +35,12 @@ use Rattle.drv_table.specs.Accepting.{Offered, new_runs, first_waiting}
 use Rattle.drv_table.specs.IsoOffers.{Descriptors, total_of, slot_runs, iso_needs, descriptor_note, descriptor_transfer, one_descriptor, all_descriptors, entered_iso}
 use Rattle.drv_table.specs.CancelOffers.{first_end, outstanding_members}
 use Rattle.drv_table.specs.Offers.{offered, IsOffered}
-use Rattle.claims_driver.specs.Owners.{FrameList, Described, HasRun, is_descriptor}
+use Rattle.claims_driver.specs.Owners.{Described, HasRun, is_descriptor}
 use Rattle.law_driver.specs.run_owners.Accepts.{Accepts, opens, chains, places, transfers, describes, cancels, unchains, Describes, Unchains}
 use Rattle.claims_driver.specs.Leaving.{HasOwners}
 use Rattle.law_driver.proofs.lemmas.run_owners.Commands.{each_command_has_its_reason}
-use Rattle.law_driver.proofs.lemmas.run_owners.Accepted.{drop_first}
 use Rattle.law_driver.proofs.lemmas.run_owners.Harvest.{waits_is}
 use Rattle.law_driver.proofs.lemmas.run_owners.Ordered.{pushed_below}
-use Rattle.law_driver.proofs.lemmas.run_owners.Released.{same_number, set_here}
 use Rattle.law_driver.proofs.lemmas.run_owners.Runs.{placed_run}
 use Rattle.law_driver.proofs.lemmas.run_owners.Taking.{AreTaken, runs_taken}
 use Rattle.claims_driver.specs.FrameListMembers.{framed_of, framed_in, is_chained, Placed, placed_of, placed_in, is_among, member_of}
@@ -47,8 +49,8 @@ use Rattle.law_driver.proofs.lemmas.listed_members.Schedules.{same_members}
 use Rattle.law_driver.proofs.lemmas.listed_members.Standing.{seen, unlinks_reported, descriptor_placed, Owns, owns, transfer_of, descriptor_block, why_stands}
 use Rattle.law_driver.proofs.lemmas.listed_members.Stays.{is_still, still_linked, none_to_come, moved, SameEndpoints, placed_by, endpoint_set, same_queue}
 use Rattle.law_driver.proofs.lemmas.listed_members.Calm.{is_calm, calm_idle}
-use Rattle.law_driver.proofs.lemmas.listed_members.Ranges.{or_first, or_second, in_passed, passed_all, passed_once}
-use Rattle.law_driver.proofs.lemmas.listed_members.Framing.{not_below, is_below, or_none}
+use Rattle.law_driver.proofs.lemmas.listed_members.Ranges.{in_passed, passed_all, passed_once}
+use Rattle.law_driver.proofs.lemmas.listed_members.Framing.{not_below}
 use Rattle.law_driver.proofs.lemmas.listed_members.Unlinks.{placed_here, told_waits}
 use Rattle.law_driver.proofs.lemmas.listed_members.Unchaining.{no_descriptor as none_at_queue, elsewhere_on, begin_iso}
 use Rattle.law_driver.proofs.lemmas.listed_members.Leaving.{begin_queue}
@@ -57,10 +59,6 @@ use Rattle.law_driver.proofs.lemmas.listed_members.Rooms.{KeepsRoom, room_kept, 
 use Rattle.law_driver.proofs.lemmas.listed_members.Opening.{open_listed, place_listed, chain_listed, transfer_accepted, cancel_listed}
 
 -- ---- the new descriptors
-
-newest : (ts : List Transfer) (z : Transfer) → slice_get (ts ++ z ∷ []) (length ts) ≡ Some z
-newest [] z = refl
-newest (t ∷ ts) z = newest ts z
 
 -- a new descriptor of the endpoint
 record IsNew (e : ℕ) (us : List Transfer) (t : ℕ) : Type 0 where
@@ -104,7 +102,7 @@ are_new k e x s (suc n) seed rs a =
           (λ (same : t ≡ length a.transfers).
           record {
             transfer = z;
-            there = rest.old t (omega (arith, many, same)) ∙ ap (slice_get (a.transfers ++ z ∷ [])) same ∙ newest a.transfers z;
+            there = rest.old t (omega (arith, many, same)) ∙ ap (slice_get (a.transfers ++ z ∷ [])) same ∙ last_pushed a.transfers z;
             endpoint = refl;
             sort = refl;
             reported = refl;
@@ -130,9 +128,6 @@ off_new h g ns bs c taken some run i same =
     none [] j past = refl
     none (x ∷ xs) zero past = absurd (omega (arith, past))
     none (x ∷ xs) (suc j) past = none xs j (omega (arith, past))
-
-not_list : (split : Bool) (t : ℕ) → FrameList ≡ Described split t → ⊥
-not_list split t same = let e : 0 ≡ suc t = ap transfer_of same in omega (arith, e)
 
 describe_listed : (d : DriverContent) (m : Mem) (o : Offered) → Stands (holding d.book m) → Describes d m o → HasOwners d → KeepsRoom d o → IsListed d → IsListed o.driver
 describe_listed d m o stands why has room old = subst (λ (g : Offered). IsListed g.driver) (sym why.is) (now (subst (KeepsRoom d) why.is room))
@@ -214,7 +209,8 @@ describe_listed d m o stands why has room old = subst (λ (g : Offered). IsListe
     forth n s =
         let below = within s.number s.placed s.here in
         moved d f n s (placed s.number below ∙ s.here) (λ on. on)
-        (λ waits on. or_first (nat_lt s.number first) (nat_le 1 0 && not (is_in_names (id_of (member_of f.periodic s.placed)) f.periodic.queued)) (is_below s.number first below))
+        (λ waits on. first_true (nat_lt s.number first) (nat_le 1 0 && not
+        (is_in_names (id_of (member_of f.periodic s.placed)) f.periodic.queued)) (is_less s.number first below))
         (same_member s.number s.placed s.here (why_stands d n s))
 
     standing_below : (n : Member) → (s : IsStanding f n) → s.number < length d.transfers
@@ -332,8 +328,8 @@ unchain_listed d m o why has old = subst (λ (g : Offered). IsListed g.driver) (
         linked t v here waits =
             ap (λ (w : Option Work). not (v.endpoint == e) || is_in_names (id_of (member_of q v)) (under_way w ++ ms)) idle.work
             ∙ ⊎_elim
-            (λ (same : v.endpoint ≡ e). or_second (not (v.endpoint == e)) (is_in_names (id_of (member_of q v)) ms) (named t v here waits same))
-            (λ (differs : v.endpoint ≢ e). or_first (not (v.endpoint == e)) (is_in_names (id_of (member_of q v)) ms) (elsewhere_on v.endpoint e differs)) (cases_eq v.endpoint e)
+            (λ (same : v.endpoint ≡ e). second_true (not (v.endpoint == e)) (is_in_names (id_of (member_of q v)) ms) (named t v here waits same))
+            (λ (differs : v.endpoint ≢ e). first_true (not (v.endpoint == e)) (is_in_names (id_of (member_of q v)) ms) (elsewhere_on v.endpoint e differs)) (cases_eq v.endpoint e)
 
         forth : (n : Member) → IsStanding d n → IsStanding (f ms) n
         forth n s = moved d (f ms) n s (placed s.number ∙ s.here) (λ on. on) (λ waits on. linked s.number s.placed s.here waits) refl

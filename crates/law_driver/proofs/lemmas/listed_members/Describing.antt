@@ -1,10 +1,14 @@
 -- New descriptors are linked, one after the other.
-use Rattle.std.proofs.Common.{◌≡◌, ◌≢◌, ℕ, suc, ◌/◌, ◌<◌, ◌≤◌, Bool, true, false, not, ◌&&◌, ◌||◌, cond, nat_lt, nat_le, List, [], ◌∷◌, length, Option, Some, None, ap, sym, subst, ◌∙◌, ⊎_elim, inl, inr, refl, arith}
+use Rattle.std.proofs.Common.{◌≡◌, ◌≢◌, ℕ, suc, ◌/◌, ◌≤◌, Bool, true, false, not, ◌&&◌, ◌||◌, cond, nat_lt, nat_le, List, [], ◌∷◌, length, Option, Some, None, ap, sym, subst, ◌∙◌, ⊎_elim, inl, inr, refl, arith}
 use Rattle.std.specs.Prelude.{◌⊎◌, nat_eq, is_none}
 use Rattle.std.specs.List.{AllByRecursion}
 use Rattle.std.proofs.lemmas.Bool.{false≢true, cases_eq, eq-eqb}
 use Rattle.std.proofs.lemmas.Bool.Decides.{nat_tests}
 use Rattle.std.proofs.lemmas.Option.{same_Some}
+use Rattle.law_common.proofs.Numbers.{is_less, not_below as not_below_is}
+use Rattle.law_common.proofs.Booleans.{named_not, first_true, second_true}
+use Rattle.law_common.proofs.Lists.{all_more}
+use Rattle.law_driver.proofs.Common.{no_work}
 use Rattle.drv_chains.specs.declared.members.Descriptor.{Descriptor}
 use Rattle.drv_chains.specs.declared.members.QueueHead.{QueueHead as Queue}
 use Rattle.drv_chains.specs.declared.members.Member.{Member}
@@ -21,12 +25,10 @@ use Rattle.drv_table.specs.DriverContent.{DriverContent}
 use Rattle.drv_table.specs.Commands.{no_command, list_after, or_finished, linked_on, advanced_by}
 use Rattle.claims_driver.specs.FrameListMembers.{Placed, placed_in, is_among, member_of}
 use Rattle.law_driver.specs.listed_members.Members.{is_in_names, AreOnce, HasMembers, is_linked_by, IsStanding, IsQueueOf, IsWaitingOf, IsDescribing, IsUnderWay, to_come, IsListed}
-use Rattle.law_driver.proofs.lemmas.listed_members.Schedules.{all_more, unnamed, name_differs, one_longer, same_members, with_linked}
+use Rattle.law_driver.proofs.lemmas.listed_members.Schedules.{unnamed, name_differs, one_longer, same_members, with_linked}
 use Rattle.law_driver.proofs.lemmas.listed_members.Standing.{Owns, transfer_of, descriptor_block, one_number, queue_named_not}
 use Rattle.law_driver.proofs.lemmas.listed_members.Stays.{moved}
-use Rattle.law_driver.proofs.lemmas.listed_members.Stores.{no_work, KeepsMembers, list_kept}
-use Rattle.law_driver.proofs.lemmas.listed_members.Ranges.{or_first, or_second}
-use Rattle.law_driver.proofs.lemmas.listed_members.Framing.{not_below}
+use Rattle.law_driver.proofs.lemmas.listed_members.Stores.{KeepsMembers, list_kept}
 use Rattle.law_driver.proofs.lemmas.listed_members.Unlinks.{below_frames}
 
 -- ---- tests
@@ -41,19 +43,6 @@ more_named : (a b x y : Bool) → x ≡ false → a || (b && not y) ≡ true →
 more_named a b true y off on = absurd (false≢true (sym off))
 more_named a b false y off on = on
 
-named_not : (a b x : Bool) → x ≡ true → a ≡ false → a || (b && not x) ≡ true → ⊥
-named_not true b x named off on = false≢true (sym off)
-named_not false false x named off on = false≢true on
-named_not false true true named off on = false≢true on
-named_not false true false named off on = false≢true named
-
-not_below_is : (t first : ℕ) → first ≤ t → nat_lt t first ≡ false
-not_below_is t first low = at (nat_lt t first) refl
-  where
-    at : (b : Bool) → nat_lt t first ≡ b → b ≡ false
-    at true on = absurd (not_below t first low on)
-    at false off = refl
-
 some_made : (n : ℕ) → 1 ≤ n → (nat_le 1 n ≡ true) × (nat_eq n 0 ≡ false)
 some_made n some = (first (nat_le 1 n) refl, second (nat_eq n 0) refl)
   where
@@ -64,13 +53,6 @@ some_made n some = (first (nat_le 1 n) refl, second (nat_eq n 0) refl)
     second : (b : Bool) → nat_eq n 0 ≡ b → b ≡ false
     second false off = refl
     second true on = grind (arith, nat_tests)
-
-has_place : (n room : ℕ) → n < room → nat_lt n room ≡ true
-has_place n room small = at (nat_lt n room) refl
-  where
-    at : (b : Bool) → nat_lt n room ≡ b → b ≡ true
-    at true on = refl
-    at false off = grind (arith, nat_tests)
 
 -- ---- one is linked
 
@@ -117,7 +99,7 @@ insert_one d e first count t y ms is made owns none here later waits queued old 
         (λ (on : is_among stands.number q.unlinks ≡ true). false≢true (sym (owns.reported t y here (ap (λ n. is_among n q.unlinks) (sym at) ∙ on)) ∙ waits))
         (λ w.
         named_not (nat_lt stands.number first) (nat_le 1 d.made) (is_in_names (id_of (member_of q stands.placed)) q.queued)
-        (ap (λ (p : Placed). is_in_names (id_of (member_of q p)) q.queued) same_placed ∙ ap (is_in_names k.id) queued ∙ or_first (nat_eq k.id k.id) (is_in_names k.id ms) (eq-eqb k.id k.id refl))
+        (ap (λ (p : Placed). is_in_names (id_of (member_of q p)) q.queued) same_placed ∙ ap (is_in_names k.id) queued ∙ first_true (nat_eq k.id k.id) (is_in_names k.id ms) (eq-eqb k.id k.id refl))
         (ap (λ n. nat_lt n first) at ∙ not_below_is t first later) (sym (linked_as d e first count stands.number stands.placed is) ∙ w.1)) stands.stands
 
     free_name : has_name s k.id ≡ false
@@ -131,7 +113,7 @@ insert_one d e first count t y ms is made owns none here later waits queued old 
     place : has_room q.list.members (Once k) ≡ true
     place =
         let a = comes_as d e first count is made in
-        has_place (length s.descriptors) q.list.members.descriptor_room (omega (arith, a, long, old.list.many, old.list.room))
+        is_less (length s.descriptors) q.list.members.descriptor_room (omega (arith, a, long, old.list.many, old.list.room))
 
     may : may_link q.list (Once k) ≡ true
     may =
@@ -178,7 +160,8 @@ insert_one d e first count t y ms is made owns none here later waits queued old 
       stands = inr (
         waits,
         linked_as g e first count t y is
-            ∙ or_second (nat_lt t first) (nat_le 1 d.made && not (is_in_names k.id ms)) (ap (λ b. b && not (is_in_names k.id ms)) (some_made d.made made).0 ∙ ap not once.0),
+            ∙ second_true (nat_lt t first) (nat_le 1 d.made && not (is_in_names k.id ms))
+            (ap (λ b. b && not (is_in_names k.id ms)) (some_made d.made made).0 ∙ ap not once.0),
       );
       is = refl;
     }
@@ -270,7 +253,7 @@ all_linked d e first count is made none queued old = record {
     linked : (n : ℕ) (p : Placed) → is_linked_by d.command d.made q n p ≡ true
     linked n p =
         linked_as d e first count n p is ∙ ap (λ (ms : List Member). nat_lt n first || (nat_le 1 d.made && not (is_in_names (id_of (member_of q p)) ms))) queued
-        ∙ or_second (nat_lt n first) (nat_le 1 d.made && true) (ap (λ b. b && true) (some_made d.made made).0)
+        ∙ second_true (nat_lt n first) (nat_le 1 d.made && true) (ap (λ b. b && true) (some_made d.made made).0)
 
     forth : (m : Member) → IsStanding d m → IsStanding (no_command d) m
     forth m stands = moved d (no_command d) m stands stands.here (λ on. on) (λ wait on. refl) refl

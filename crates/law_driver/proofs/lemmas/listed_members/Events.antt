@@ -3,6 +3,8 @@ use Rattle.std.proofs.Common.{◌≡◌, ℕ, zero, suc, ◌≤◌, true, false,
 use Rattle.std.specs.Prelude.{is_some}
 use Rattle.std.proofs.lemmas.Bool.{false≢true, cases_Bool}
 use Rattle.std.proofs.lemmas.Option.{same_Some}
+use Rattle.law_driver.proofs.Common.{iso_frames}
+use Rattle.law_common.proofs.Lists.{all_more}
 use Rattle.mem_runs.specs.Book.{Book, holding, lend_taken}
 use Rattle.drv_chains.specs.declared.members.Member.{Member}
 use Rattle.drv_table.specs.declared.content.Endpoint.{Endpoint}
@@ -24,11 +26,10 @@ use Rattle.claims_driver.specs.Owners.{is_descriptor}
 use Rattle.claims_driver.specs.Leaving.{IsOrderly, HasOwners}
 use Rattle.law_driver.specs.run_owners.Due.{IsHarvestDue, IsDue}
 use Rattle.law_driver.proofs.lemmas.run_owners.Reasons.{each_event_is_due}
-use Rattle.law_driver.proofs.lemmas.run_owners.Ordered.{iso_periodic}
 use Rattle.law_driver.proofs.lemmas.run_owners.Harvest.{Waits, waits_is, is_served_found}
 use Rattle.law_driver.proofs.lemmas.run_owners.Rows.{served_is}
 use Rattle.law_driver.specs.listed_members.Members.{IsWaitingOf, IsUnderWay, IsListed}
-use Rattle.law_driver.proofs.lemmas.listed_members.Schedules.{all_more, same_members}
+use Rattle.law_driver.proofs.lemmas.listed_members.Schedules.{same_members}
 use Rattle.law_driver.proofs.lemmas.listed_members.Standing.{Owns, owns}
 use Rattle.law_driver.proofs.lemmas.listed_members.Stays.{moved, same_queue, all_endpoints, all_transfers, tables}
 use Rattle.law_driver.proofs.lemmas.listed_members.Calm.{is_calm, calm_listed, quiet_listed, goes_quiet, ArePlain, is_ended_found, ended_plain, harvest_quiet}
@@ -145,7 +146,7 @@ framed_row d n c is next own old = subst (λ (o : Option Command). IsListed (fra
 pub in_frames : (d : DriverContent) (e : ℕ) (x : Endpoint) → IsOrderly d → slice_get d.endpoints e ≡ Some x → x.ended ≡ None → is_iso x.desc.kind ≡ true → x.chained ≡ true
 in_frames d e x order here goes iso =
     let s = order.steady e x here in
-    let off : x.linked ≡ false = ⊎_elim (λ (on : x.linked ≡ true). absurd (false≢true (sym (s.ring on) ∙ iso_periodic x.desc.kind iso))) (λ (no : x.linked ≡ false). no) (cases_Bool x.linked) in
+    let off : x.linked ≡ false = ⊎_elim (λ (on : x.linked ≡ true). absurd (false≢true (sym (s.ring on) ∙ iso_frames x.desc.kind iso))) (λ (no : x.linked ≡ false). no) (cases_Bool x.linked) in
     ⊎_elim (λ (on : x.chained ≡ true). on) (λ (out : x.chained ≡ false). absurd (false≢true (ap (λ o. is_some o) (sym goes) ∙ s.ended off out))) (cases_Bool x.chained)
 
 pub plain_by : (d : DriverContent) (e t : ℕ) (x : Endpoint) (y : Transfer) → IsOrderly d → slice_get d.endpoints e ≡ Some x → slice_get d.transfers t ≡ Some y → y.endpoint ≡ e → is_descriptor y.sort ≡ false → ArePlain e d.transfers

@@ -6,6 +6,8 @@ use Rattle.std.proofs.lemmas.Bool.{false≢true, cases_lt}
 use Rattle.std.proofs.lemmas.Bool.Decides.{nat_tests}
 use Rattle.std.proofs.lemmas.List.{get_or-set_other}
 use Rattle.std.proofs.lemmas.Option.{same_Some, slice_get_within}
+use Rattle.law_common.proofs.Numbers.{is_less}
+use Rattle.law_common.proofs.Booleans.{or_none, first_true}
 use Rattle.bandwidth.specs.declared.placements.Placement.{Placement}
 use Rattle.drv_chains.specs.declared.members.QueueHead.{QueueHead as Queue}
 use Rattle.drv_chains.specs.declared.members.Member.{Member}
@@ -26,7 +28,7 @@ use Rattle.law_driver.specs.listed_members.Members.{is_in_names, is_linked_by, I
 use Rattle.law_driver.proofs.lemmas.listed_members.Schedules.{same_members}
 use Rattle.law_driver.proofs.lemmas.listed_members.Standing.{seen, Owns, transfer_of, descriptor_block}
 use Rattle.law_driver.proofs.lemmas.listed_members.Stays.{moved}
-use Rattle.law_driver.proofs.lemmas.listed_members.Ranges.{or_first, in_range, range_all, range_once, range_few}
+use Rattle.law_driver.proofs.lemmas.listed_members.Ranges.{in_range, range_all, range_once, range_few}
 
 -- ---- the notes
 
@@ -83,17 +85,6 @@ not_below t first low on = at (nat_lt t first) refl on
   where
     at : (b : Bool) → nat_lt t first ≡ b → b ≡ true → ⊥
     at b is on = grind (arith, nat_tests)
-
-pub is_below : (t first : ℕ) → t < first → nat_lt t first ≡ true
-is_below t first low = at (nat_lt t first) refl
-  where
-    at : (b : Bool) → nat_lt t first ≡ b → b ≡ true
-    at true on = refl
-    at false off = grind (arith, nat_tests)
-
-pub or_none : (a b : Bool) → b ≡ false → a || b ≡ true → a ≡ true
-or_none true b off on = refl
-or_none false b off on = absurd (false≢true (sym off ∙ on))
 
 range_blocks : (first count : ℕ) (xs : List Transfer) (c : ℕ) → ((t : ℕ) (y : Transfer) → slice_get xs t ≡ Some y → first ≤ t → c ≢ y.first) → AllByRecursion (λ (y : Transfer). c ≢ y.first) (take count (drop first xs))
 range_blocks zero zero xs c each = tt
@@ -187,12 +178,13 @@ frames_listed d n e first count is none owns old = subst IsListed (sym same) now
     linked_is t p = ap (λ (k : Option Command). is_linked_by k d.made d.periodic t p) is ∙ ap (λ j. is_linked_by (Some c) j d.periodic t p) none
 
     below_d : (t : ℕ) (p : Placed) → t < first → is_linked_by d.command d.made d.periodic t p ≡ true
-    below_d t p low = linked_is t p ∙ or_first (nat_lt t first) false (is_below t first low)
+    below_d t p low = linked_is t p ∙ first_true (nat_lt t first) false (is_less t first low)
 
     below_g : (t : ℕ) (p : Placed) → t < first → is_linked_by g.command g.made g.periodic t p ≡ true
     below_g t p low =
         ap (λ (k : Option Command). is_linked_by k 1 g.periodic t p) is
-        ∙ or_first (nat_lt t first) (nat_le 1 1 && not (is_in_names (id_of (member_of g.periodic p)) g.periodic.queued)) (is_below t first low)
+        ∙ first_true (nat_lt t first) (nat_le 1 1 && not (is_in_names (id_of (member_of g.periodic p)) g.periodic.queued))
+        (is_less t first low)
 
     why_of : (e : DriverContent) (m : Member) → (s : IsStanding e m) → (is_among s.number e.periodic.unlinks ≡ true) ⊎ (s.placed.waits ≡ true)
     why_of e m s = ⊎_elim (λ (on : is_among s.number e.periodic.unlinks ≡ true). inl on) (λ w. inr w.0) s.stands

@@ -5,6 +5,8 @@ use Rattle.std.specs.List.{AllByRecursion, list_any}
 use Rattle.std.proofs.lemmas.Bool.{false≢true, cases_Bool}
 use Rattle.std.proofs.lemmas.Bool.Decides.{nat_tests}
 use Rattle.std.proofs.lemmas.Option.{same_Some}
+use Rattle.law_common.proofs.Lists.{all_more}
+use Rattle.law_common.proofs.Booleans.{first_true}
 use Rattle.bandwidth.specs.declared.placements.Placement.{Placement}
 use Rattle.drv_chains.specs.declared.members.Descriptor.{Descriptor}
 use Rattle.drv_chains.specs.declared.members.QueueHead.{QueueHead as Queue}
@@ -24,11 +26,10 @@ use Rattle.drv_table.specs.DriverContent.{DriverContent}
 use Rattle.drv_table.specs.Commands.{finished, or_finished, linked_on, advanced_by}
 use Rattle.claims_driver.specs.FrameListMembers.{Framed, framed_in, Placed, placed_in, is_among, member_of}
 use Rattle.law_driver.specs.listed_members.Members.{is_in_names, AreOnce, HasMembers, under_way, is_linked_by, IsStanding, IsQueueOf, IsWaitingOf, IsUnchaining, IsUnderWay, HasList, IsListed}
-use Rattle.law_driver.proofs.lemmas.listed_members.Schedules.{all_more, any_none, name_differs, no_longer, this_same, same_members, without_unlinked, without_queue}
+use Rattle.law_driver.proofs.lemmas.listed_members.Schedules.{any_none, name_differs, no_longer, this_same, same_members, without_unlinked, without_queue}
 use Rattle.law_driver.proofs.lemmas.listed_members.Standing.{Owns, one_number}
 use Rattle.law_driver.proofs.lemmas.listed_members.Stays.{moved, same_queue}
 use Rattle.law_driver.proofs.lemmas.listed_members.Stores.{begun_none}
-use Rattle.law_driver.proofs.lemmas.listed_members.Ranges.{or_first}
 use Rattle.law_driver.proofs.lemmas.listed_members.Unchaining.{linked_as, none_comes, elsewhere_on, NoneLeft, all_unlinked, removing_listed, no_descriptor, begin_iso}
 
 -- ---- the queue head of an interrupt endpoint
@@ -84,7 +85,8 @@ begin_queue d e z x p owns is none queued here cancelled at iso place old = subs
     linked : (k : DriverContent) → k.command ≡ Some c → (t : ℕ) (y : Placed) → placed_in d.endpoints d.transfers t ≡ Some y → is_linked_by k.command k.made k.periodic t y ≡ true
     linked k command t y there =
         linked_as k e t y command
-        ∙ or_first (not (y.endpoint == e)) (is_in_names (id_of (member_of k.periodic y)) (under_way k.periodic.list.work ++ k.periodic.queued)) (elsewhere_on y.endpoint e (no_descriptor d e x t y owns at iso there))
+        ∙ first_true (not (y.endpoint == e)) (is_in_names (id_of (member_of k.periodic y))
+        (under_way k.periodic.list.work ++ k.periodic.queued)) (elsewhere_on y.endpoint e (no_descriptor d e x t y owns at iso there))
 
     list_g : HasList g
     list_g = record {
@@ -300,7 +302,9 @@ queue_last d e owns is way iso old =
     linked : (k : DriverContent) → k.command ≡ Some c → (t : ℕ) (y : Placed) → placed_in d.endpoints d.transfers t ≡ Some y → is_linked_by k.command k.made k.periodic t y ≡ true
     linked k command t y there =
         linked_as k e t y command
-        ∙ or_first (not (y.endpoint == e)) (is_in_names (id_of (member_of k.periodic y)) (under_way k.periodic.list.work ++ k.periodic.queued)) (elsewhere_on y.endpoint e (no_descriptor d e x t y owns way.at iso there))
+        ∙ first_true (not (y.endpoint == e)) (is_in_names (id_of (member_of k.periodic y))
+        (under_way k.periodic.list.work ++ k.periodic.queued))
+        (elsewhere_on y.endpoint e (no_descriptor d e x t y owns way.at iso there))
 
     once : (n : Member) → IsStanding d n → (k : Descriptor) × (n ≡ Once k)
     once n s = (record { id = descriptor_name (note_at q.notes s.placed.block) s.placed.block; frame = (note_at q.notes s.placed.block).frame }, sym s.is)

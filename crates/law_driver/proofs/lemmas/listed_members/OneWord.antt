@@ -4,6 +4,7 @@ use Rattle.std.specs.Prelude.{filter, nat_eq}
 use Rattle.std.specs.List.{AllByRecursion, flat_map}
 use Rattle.std.proofs.lemmas.Bool.{eqb-true}
 use Rattle.std.proofs.lemmas.Bool.Decides.{nat_tests}
+use Rattle.law_common.proofs.Lists.{all_more}
 use Rattle.drv_chains.specs.declared.members.Descriptor.{Descriptor}
 use Rattle.drv_chains.specs.declared.members.Member.{Member}
 use Rattle.drv_chains.specs.declared.members.Member.TheVariants.{Once}
@@ -12,7 +13,6 @@ use Rattle.drv_chains.specs.Chains.{Schedule, stands_in, predecessor, first_fram
 use Rattle.drv_chains.proofs.Orders.{in_order, comes_once}
 use Rattle.drv_members.proofs.Sorted.{none_pass}
 use Rattle.drv_periodic.specs.Periodic.{begun, is_more}
-use Rattle.law_driver.proofs.lemmas.listed_members.Schedules.{all_more}
 
 none_again : (c f : ℕ) (fs : List ℕ) → nat_eq c f ≡ true → AllByRecursion (ComesFirst f) fs → filter (λ g. nat_eq c g) fs ≡ []
 none_again c f fs same first =

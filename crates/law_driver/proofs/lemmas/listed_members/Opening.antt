@@ -3,6 +3,7 @@ use Rattle.std.proofs.Common.{◌≡◌, ℕ, zero, suc, ◌-◌, ◌/◌, ◌<�
 use Rattle.std.specs.Prelude.{is_none, option_and_then}
 use Rattle.std.proofs.lemmas.Bool.{false≢true, and_parts}
 use Rattle.std.proofs.lemmas.Option.{same_Some, slice_get_within}
+use Rattle.law_common.proofs.Lists.{push_which}
 use Rattle.word_mem.specs.Memory.{Mem}
 use Rattle.drv_chains.specs.declared.members.QueueHead.{QueueHead as Queue}
 use Rattle.drv_chains.specs.declared.members.Member.{Member}
@@ -25,7 +26,7 @@ use Rattle.drv_table.specs.CancelOffers.{first_end}
 use Rattle.claims_driver.specs.Owners.{is_descriptor}
 use Rattle.claims_driver.specs.Leaving.{IsOrderly}
 use Rattle.law_driver.specs.run_owners.Accepts.{Opens, Chains, Places, Transfers, Cancels}
-use Rattle.law_driver.proofs.lemmas.run_owners.Ordered.{pushed, pushed_below}
+use Rattle.law_driver.proofs.lemmas.run_owners.Ordered.{pushed_below}
 use Rattle.claims_driver.specs.FrameListMembers.{Framed, framed_of, framed_in, is_chained, Placed, placed_of, placed_in}
 use Rattle.law_driver.specs.listed_members.Members.{HasMembers, IsStanding, IsQueueOf, IsIdle, AreKept, to_come, IsListed}
 use Rattle.law_driver.proofs.lemmas.listed_members.Schedules.{same_members, with_queue_linked}
@@ -77,7 +78,7 @@ placed_pushed xs y ts within t = at (slice_get ts t) refl
 kept_pushed : (xs : List Endpoint) (y : Endpoint) → (is_periodic y.desc.kind ≡ true → y.chained ≡ true) → AreKept xs → AreKept (xs ++ y ∷ [])
 kept_pushed xs y new kept i z there periodic off =
     ⊎_elim (λ (w : slice_get xs i ≡ Some z). kept i z w periodic off)
-    (λ (w : (i ≡ length xs) × (z ≡ y)). ap (λ (v : Endpoint). v.chained) w.1 ∙ new (ap (λ (v : Endpoint). is_periodic v.desc.kind) (sym w.1) ∙ periodic)) (pushed xs y i z there)
+    (λ (w : (i ≡ length xs) × (z ≡ y)). ap (λ (v : Endpoint). v.chained) w.1 ∙ new (ap (λ (v : Endpoint). is_periodic v.desc.kind) (sym w.1) ∙ periodic)) (push_which xs y i z there)
 
 pushed_tables : (d e : DriverContent) (y : Endpoint) → IsOrderly d → e.endpoints ≡ d.endpoints ++ y ∷ [] → e.transfers ≡ d.transfers → e.periodic.list ≡ d.periodic.list → e.periodic.notes ≡ d.periodic.notes → e.periodic.unlinks ≡ d.periodic.unlinks → e.room.transfers ≡ d.room.transfers → (is_periodic y.desc.kind ≡ true → y.chained ≡ true) → SameTables d e
 pushed_tables d e y order endpoints transfers list notes unlinks room new = record {

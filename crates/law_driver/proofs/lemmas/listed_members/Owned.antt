@@ -1,5 +1,6 @@
 -- Each member begins a run of its own endpoint or transfer; and a descriptor that waits is one.
 use Rattle.std.proofs.Common.{ℕ, ◌/◌, Bool, not, ◌&&◌, ap, sym, subst, ◌∙◌, inr, refl}
+use Rattle.law_common.proofs.Lists.{all_more}
 use Rattle.drv_chains.specs.declared.members.Descriptor.{Descriptor}
 use Rattle.drv_chains.specs.declared.members.QueueHead.{QueueHead as Queue}
 use Rattle.drv_chains.specs.declared.members.Member.{Member}
@@ -13,7 +14,6 @@ use Rattle.claims_driver.specs.Leaving.{HasOwners}
 use Rattle.claims_driver.specs.FrameListMembers.{framed_in, is_chained, LinksWaiting}
 use Rattle.law_driver.specs.listed_members.Members.{IsStanding, IsQueueOf, IsListed}
 use Rattle.law_driver.specs.listed_members.Listed.{IsOwnedAs, HaveRuns}
-use Rattle.law_driver.proofs.lemmas.listed_members.Schedules.{all_more}
 use Rattle.law_driver.proofs.lemmas.listed_members.Standing.{descriptor_placed, frames_placed, standing_block, queue_block, why_stands}
 use Rattle.law_driver.proofs.lemmas.listed_members.Stays.{is_still, still_linked}
 use Rattle.law_driver.proofs.lemmas.listed_members.Unlinks.{placed_here, told_waits}

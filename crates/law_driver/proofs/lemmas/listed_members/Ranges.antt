@@ -1,23 +1,17 @@
 -- The members of some transfers in a row, and of those that pass a test.
-use Rattle.std.proofs.Common.{◌≡◌, ◌≢◌, ℕ, zero, suc, ◌+◌, ◌<◌, ◌≤◌, Bool, true, false, ◌||◌, cond, List, [], ◌∷◌, length, map, take, drop, slice_get, Some, ap, ◌∙◌, refl, arith}
+use Rattle.std.proofs.Common.{◌≡◌, ◌≢◌, ℕ, zero, suc, ◌+◌, ◌<◌, ◌≤◌, Bool, true, false, cond, List, [], ◌∷◌, length, map, take, drop, slice_get, Some, ap, ◌∙◌, refl, arith}
 use Rattle.std.specs.Prelude.{filter, nat_eq}
 use Rattle.std.specs.List.{AllByRecursion}
-use Rattle.std.proofs.lemmas.Bool.{false≢true, eq-eqb}
+use Rattle.std.proofs.lemmas.Bool.{eq-eqb}
 use Rattle.std.proofs.lemmas.List.{length-map}
 use Rattle.std.proofs.lemmas.Option.{same_Some}
+use Rattle.law_common.proofs.Booleans.{first_true, second_true}
+use Rattle.law_common.proofs.Lists.{all_more}
 use Rattle.drv_chains.specs.declared.members.Member.{Member}
 use Rattle.drv_chains.specs.Chains.{id_of}
 use Rattle.drv_table.specs.declared.content.Transfer.{Transfer}
 use Rattle.law_driver.specs.listed_members.Members.{is_in_names, AreOnce}
-use Rattle.law_driver.proofs.lemmas.listed_members.Schedules.{all_more, none_any, name_differs}
-
-pub or_first : (a b : Bool) → a ≡ true → a || b ≡ true
-or_first true b on = refl
-or_first false b on = absurd (false≢true on)
-
-pub or_second : (a b : Bool) → b ≡ true → a || b ≡ true
-or_second true b on = refl
-or_second false b on = on
+use Rattle.law_driver.proofs.lemmas.listed_members.Schedules.{none_any, name_differs}
 
 -- ---- those that stand in a list of members
 
@@ -26,9 +20,11 @@ in_first f zero xs t y there small = absurd (omega (arith, small))
 in_first f (suc n) [] t y there small = absurd (cc)
 in_first f (suc n) (x ∷ xs) zero y there small =
     let same : x ≡ y = same_Some x y there in
-    or_first (nat_eq (id_of (f x)) (id_of (f y))) (is_in_names (id_of (f y)) (map f (take n xs))) (eq-eqb (id_of (f x)) (id_of (f y)) (ap (λ z. id_of (f z)) same))
+    first_true (nat_eq (id_of (f x)) (id_of (f y))) (is_in_names (id_of (f y)) (map f (take n xs)))
+    (eq-eqb (id_of (f x)) (id_of (f y)) (ap (λ z. id_of (f z)) same))
 in_first f (suc n) (x ∷ xs) (suc t) y there small =
-    or_second (nat_eq (id_of (f x)) (id_of (f y))) (is_in_names (id_of (f y)) (map f (take n xs))) (in_first f n xs t y there (omega (arith, small)))
+    second_true (nat_eq (id_of (f x)) (id_of (f y))) (is_in_names (id_of (f y)) (map f (take n xs)))
+    (in_first f n xs t y there (omega (arith, small)))
 
 pub in_range : (f : Transfer → Member) (first n : ℕ) (xs : List Transfer) (t : ℕ) (y : Transfer) → slice_get xs t ≡ Some y → first ≤ t → t < first + n → is_in_names (id_of (f y)) (map f (take n (drop first xs))) ≡ true
 in_range f zero n xs t y there low high = in_first f n xs t y there (omega (arith, high))
@@ -81,11 +77,12 @@ in_passed f test [] t y there on = absurd (cc)
 in_passed f test (x ∷ xs) zero y there on =
     let same : x ≡ y = same_Some x y there in
     ap (λ b. is_in_names (id_of (f y)) (map f (cond b (x ∷ filter test xs) (filter test xs)))) (ap test same ∙ on)
-    ∙ or_first (nat_eq (id_of (f x)) (id_of (f y))) (is_in_names (id_of (f y)) (map f (filter test xs))) (eq-eqb (id_of (f x)) (id_of (f y)) (ap (λ z. id_of (f z)) same))
+    ∙ first_true (nat_eq (id_of (f x)) (id_of (f y))) (is_in_names (id_of (f y)) (map f (filter test xs)))
+    (eq-eqb (id_of (f x)) (id_of (f y)) (ap (λ z. id_of (f z)) same))
 in_passed f test (x ∷ xs) (suc t) y there on = at (test x) (in_passed f test xs t y there on)
   where
     at : (b : Bool) → is_in_names (id_of (f y)) (map f (filter test xs)) ≡ true → is_in_names (id_of (f y)) (map f (cond b (x ∷ filter test xs) (filter test xs))) ≡ true
-    at true rest = or_second (nat_eq (id_of (f x)) (id_of (f y))) (is_in_names (id_of (f y)) (map f (filter test xs))) rest
+    at true rest = second_true (nat_eq (id_of (f x)) (id_of (f y))) (is_in_names (id_of (f y)) (map f (filter test xs))) rest
     at false rest = rest
 
 pub passed_all : (P : Member → Type 0) (f : Transfer → Member) (test : Transfer → Bool) (xs : List Transfer) → ((t : ℕ) (y : Transfer) → slice_get xs t ≡ Some y → test y ≡ true → P (f y)) → AllByRecursion P (map f (filter test xs))

@@ -3,6 +3,7 @@ use Rattle.std.proofs.Common.{◌≡◌, ℕ, ◌==◌, Bool, true, false, not, 
 use Rattle.std.specs.Prelude.{option_and_then}
 use Rattle.std.proofs.lemmas.List.{length-map}
 use Rattle.std.proofs.lemmas.Option.{same_Some, slice_get-map}
+use Rattle.law_driver.proofs.Common.{ring_queue}
 use Rattle.word_mem.specs.Memory.{Mem}
 use Rattle.mem_runs.specs.Book.{Book, holding}
 use Rattle.drv_periodic_table.specs.Periodic.{is_periodic}
@@ -20,7 +21,6 @@ use Rattle.claims_driver.specs.Leaving.{IsOrderly}
 use Rattle.law_driver.specs.run_owners.Due.{IsRemovalDue}
 use Rattle.law_driver.proofs.lemmas.run_owners.Released.{same_by_test, cancel_same}
 use Rattle.law_driver.proofs.lemmas.run_owners.Leaves.{first_left, first_removed}
-use Rattle.law_driver.proofs.lemmas.run_owners.Rows.{not_iso}
 use Rattle.claims_driver.specs.FrameListMembers.{framed_of, framed_in, is_chained, placed_of, placed_in}
 use Rattle.law_driver.specs.listed_members.Members.{IsListed}
 use Rattle.law_driver.proofs.lemmas.listed_members.Stays.{SameTransfers, SameTables, tables, all_endpoints, all_transfers, endpoint_set, transfer_set}
@@ -92,7 +92,7 @@ endpoint_listed p e (Some x) here first order calm old =
     quiet_listed d (gone_with told e x (is_told x) book)
     (both d told (gone_with told e x (is_told x) book) q
     (gone_quiet told e x (is_told x) book (ap (λ (xs : List Endpoint). slice_get xs e) s.endpoints ∙ here)
-    (λ k y there at. order.sorts k y x (sym (ap (λ (ts : List Transfer). slice_get ts k) s.transfers) ∙ there) (ap (slice_get d.endpoints) at ∙ here) ∙ not_iso x.desc.kind ring))) calm old
+    (λ k y there at. order.sorts k y x (sym (ap (λ (ts : List Transfer). slice_get ts k) s.transfers) ∙ there) (ap (slice_get d.endpoints) at ∙ here) ∙ ring_queue x.desc.kind ring))) calm old
 
 -- ---- a periodic endpoint that left its frames
 

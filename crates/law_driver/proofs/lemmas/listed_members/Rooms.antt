@@ -1,6 +1,7 @@
 -- A command that is accepted takes as much of its room as it has transfers.
 use Rattle.std.proofs.Common.{◌≡◌, ℕ, zero, suc, ◌+◌, ◌≤◌, ◌%◌, Bool, true, false, not, ◌||◌, cond, nat_lt, List, [], ◌∷◌, ◌++◌, length, drop, get_or, slice_get, Option, Some, None, Result, Ok, Err, unwrap_or, ap, sym, subst, refl, arith, length-append}
 use Rattle.std.specs.Prelude.{is_some, is_none, count_by}
+use Rattle.law_driver.proofs.Common.{ok_is}
 use Rattle.usb_base.specs.declared.endpoints.EpDesc.{EpDesc}
 use Rattle.usb_base.specs.declared.endpoints.EndCause.{EndCause}
 use Rattle.usb_base.specs.declared.endpoints.EndCause.TheVariants as causes
@@ -32,9 +33,6 @@ use Rattle.drv_table.specs.Commands.{leave_frames, no_command, finished, or_fini
 
 abbrev pub KeepsRoom : DriverContent → Offered → Type 0
 KeepsRoom d o = length o.driver.transfers + o.driver.room.transfers ≤ length d.transfers + d.room.transfers
-
-ok_is : (o p : Offered) → ◌≡◌ {A = Result Offered OfferError} (Ok o) (Ok p) → p ≡ o
-ok_is o p e = cc
 
 by_ok : (d : DriverContent) (p o : Offered) → KeepsRoom d p → ◌≡◌ {A = Result Offered OfferError} (Ok p) (Ok o) → KeepsRoom d o
 by_ok d p o kept is = subst (λ (f : Offered). KeepsRoom d f) (sym (ok_is p o is)) kept

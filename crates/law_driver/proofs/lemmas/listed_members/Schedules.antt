@@ -2,9 +2,12 @@
 use Rattle.std.proofs.Common.{◌≡◌, ℕ, suc, ◌≤◌, Bool, true, false, not, ◌&&◌, ◌||◌, cond, List, [], ◌∷◌, ◌++◌, length, ap, sym, subst, ◌∙◌, ⊎_elim, refl, arith, length-append}
 use Rattle.std.specs.Prelude.{◌⊎◌, filter, nat_eq}
 use Rattle.std.specs.List.{AllByRecursion, list_any}
-use Rattle.std.proofs.lemmas.Bool.{false≢true, or_cases, eqb-true, eq-eqb, and_parts}
+use Rattle.std.proofs.lemmas.Bool.{false≢true, or_cases, eqb-true, eq-eqb}
 use Rattle.std.proofs.lemmas.List.Filters.{length-filter_both}
 use Rattle.std.proofs.lemmas.List.Folds.{list_any-append}
+use Rattle.law_common.proofs.Lists.{all_more}
+use Rattle.law_common.proofs.Booleans.{or_neither}
+use Rattle.law_driver.proofs.Common.{that_is}
 use Rattle.drv_chains.specs.declared.members.Descriptor.{Descriptor}
 use Rattle.drv_chains.specs.declared.members.QueueHead.{QueueHead}
 use Rattle.drv_chains.specs.declared.members.Member.{Member}
@@ -17,10 +20,6 @@ use Rattle.drv_members.specs.Members.{is_up_to, is_below, with_descriptor, with_
 use Rattle.law_driver.specs.listed_members.Members.{HasMembers}
 
 -- ---- lists
-
-pub all_more : {X : Type 0} (P Q : X → Type 0) (xs : List X) → ((x : X) → P x → Q x) → AllByRecursion P xs → AllByRecursion Q xs
-all_more P Q [] each all = tt
-all_more P Q (x ∷ xs) each all = (each x all.0, all_more P Q xs each all.1)
 
 -- of the elements that pass no test, where each of them is P
 pub all_less : {X : Type 0} (P Q : X → Type 0) (test : X → Bool) (xs : List X) → ((x : X) → P x → test x ≡ false → Q x) → AllByRecursion P xs → AllByRecursion Q (filter (λ x. not (test x)) xs)
@@ -97,17 +96,9 @@ pub none_any : {X : Type 0} (f : X → Bool) (xs : List X) → AllByRecursion (�
 none_any f [] all = refl
 none_any f (x ∷ xs) all = ap (λ t. t || list_any f xs) all.0 ∙ none_any f xs all.1
 
-or_neither : (a b : Bool) → a || b ≡ false → (a ≡ false) × (b ≡ false)
-or_neither true b h = absurd (false≢true (sym h))
-or_neither false b h = (refl, h)
-
 pub any_none : {X : Type 0} (f : X → Bool) (xs : List X) → list_any f xs ≡ false → AllByRecursion (λ x. f x ≡ false) xs
 any_none f [] h = tt
 any_none f (x ∷ xs) h = let b = or_neither (f x) (list_any f xs) h in (b.0, any_none f xs b.1)
-
-pub all_two : {X : Type 0} (P Q : X → Type 0) (xs : List X) → AllByRecursion P xs → AllByRecursion Q xs → AllByRecursion (λ x. P x × Q x) xs
-all_two P Q [] one two = tt
-all_two P Q (x ∷ xs) one two = ((one.0, two.0), all_two P Q xs one.1 two.1)
 
 -- ---- names
 
@@ -120,11 +111,6 @@ name_differs n id differs = at (nat_eq n id) refl
     at : (b : Bool) → nat_eq n id ≡ b → b ≡ false
     at true on = absurd (differs (eqb-true n id on))
     at false off = refl
-
-pub that_is : (k x : Descriptor) → is_that k x ≡ true → x ≡ k
-that_is k x h =
-    let b = and_parts (nat_eq x.id k.id) (nat_eq x.frame k.frame) h in
-    ap (λ (n : ℕ). record { id = n; frame = x.frame }) (eqb-true x.id k.id b.0) ∙ ap (λ (n : ℕ). record { id = k.id; frame = n }) (eqb-true x.frame k.frame b.1)
 
 pub that_same : (k : Descriptor) → is_that k k ≡ true
 that_same k = ap (λ b. b && nat_eq k.frame k.frame) (eq-eqb k.id k.id refl) ∙ eq-eqb k.frame k.frame refl

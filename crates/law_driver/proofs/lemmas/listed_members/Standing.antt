@@ -3,6 +3,8 @@ use Rattle.std.proofs.Common.{◌≡◌, ℕ, suc, ◌+◌, ◌*◌, ◌/◌, �
 use Rattle.std.specs.Prelude.{◌⊎◌, option_and_then}
 use Rattle.std.proofs.lemmas.Bool.{false≢true, and_parts, or_cases, cases_Bool}
 use Rattle.std.proofs.lemmas.Option.{same_Some}
+use Rattle.law_common.proofs.Booleans.{not_on}
+use Rattle.law_driver.proofs.Common.{same_endpoint}
 use Rattle.bandwidth.specs.declared.placements.Placement.{Placement}
 use Rattle.drv_chains.specs.declared.members.QueueHead.{QueueHead as Queue}
 use Rattle.drv_chains.specs.declared.members.Member.{Member}
@@ -47,10 +49,6 @@ seen xs ts t y here = at (slice_get ts t) refl here
     at : (o : Option Transfer) → slice_get ts t ≡ o → option_and_then (placed_of xs) o ≡ Some y → IsSeen xs ts t y
     at None there e = absurd (cc)
     at (Some z) there e = of z (is_descriptor z.sort) there refl e
-
-not_on : (b : Bool) → not b ≡ true → b ≡ false
-not_on true e = absurd (false≢true e)
-not_on false e = refl
 
 -- an endpoint that is in its frames
 pub record IsIn (xs : List Endpoint) (e : ℕ) : Type 0 where
@@ -182,10 +180,6 @@ endpoint_number : Owner → ℕ
 endpoint_number (QueueHead e) = suc e
 endpoint_number _ = 0
 
-pub one_endpoint : (e f : ℕ) → QueueHead e ≡ QueueHead f → e ≡ f
-unfolding endpoint_number
-one_endpoint e f same = omega (arith, ap endpoint_number same)
-
 -- the block that a name tells
 pub descriptor_block : (q : PeriodicContent) (b : ℕ) → id_of (descriptor_member q.notes b) / 32 ≡ b
 descriptor_block q b = at (note_at q.notes b).split
@@ -225,5 +219,5 @@ queue_named_not d q t y o s here waits same =
 -- queue heads of one name are those of one endpoint
 pub one_queue : (d : DriverContent) (q : Queue) (e : ℕ) (x : Framed) (p : Placement) → Owns d → (s : IsQueueOf d q) → framed_in d.endpoints e ≡ Some x → x.chained ≡ true → x.isochronous ≡ false → q.id ≡ id_of (queue_member x.queue p) → s.number ≡ e
 one_queue d q e x p o s here on queued same =
-    one_endpoint s.number e
+    same_endpoint s.number e
     (sym (queue_owner d q o s) ∙ ap (λ n. o.owner (n / 32)) same ∙ ap o.owner (queue_block x.queue p) ∙ o.queues e x here on queued)

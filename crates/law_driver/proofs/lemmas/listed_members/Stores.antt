@@ -1,8 +1,8 @@
 -- A store of the frame list that links, and an interrupt endpoint that is opened.
 use Rattle.std.proofs.Common.{◌≡◌, suc, ◌+◌, Bool, true, false, cond, nat_lt, [], length, Option, Some, None, ap, sym, subst, ◌∙◌, refl, arith}
 use Rattle.std.specs.Prelude.{is_none}
-use Rattle.std.proofs.lemmas.Bool.{false≢true}
 use Rattle.std.proofs.lemmas.Option.{same_Some}
+use Rattle.law_driver.proofs.Common.{no_work}
 use Rattle.drv_members.specs.Members.{with_schedule, without_member}
 use Rattle.drv_periodic.specs.declared.work.Work.{Work}
 use Rattle.drv_periodic.specs.Periodic.{Periodic, is_more, members_after, after_work, after_store}
@@ -14,10 +14,6 @@ use Rattle.drv_table.specs.DriverContent.{DriverContent}
 use Rattle.drv_table.specs.Commands.{events_of, no_command, list_after, or_finished, linked_on, advanced_by}
 use Rattle.law_driver.specs.listed_members.Members.{Links, IsUnderWay, IsListed}
 use Rattle.law_driver.proofs.lemmas.listed_members.Stays.{SameTables, all_endpoints, all_transfers, tables, tables_list, is_still}
-
-pub no_work : (o : Option Work) → is_none o ≡ true → o ≡ None
-no_work None none = refl
-no_work (Some w) none = absurd (false≢true none)
 
 -- the members stay, and what is under way goes on linking
 pub record KeepsMembers (p q : Periodic) : Type 0 where

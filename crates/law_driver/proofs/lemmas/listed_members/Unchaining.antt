@@ -4,6 +4,9 @@ use Rattle.std.specs.Prelude.{nat_eq, is_none}
 use Rattle.std.specs.List.{AllByRecursion}
 use Rattle.std.proofs.lemmas.Bool.{false≢true, eq-eqb}
 use Rattle.std.proofs.lemmas.Option.{same_Some}
+use Rattle.law_common.proofs.Booleans.{or_none, first_true, second_true}
+use Rattle.law_common.proofs.Numbers.{same_number, other_number}
+use Rattle.law_common.proofs.Lists.{set_here, set_there, all_more, all_two}
 use Rattle.drv_chains.specs.declared.members.Descriptor.{Descriptor}
 use Rattle.drv_chains.specs.declared.members.QueueHead.{QueueHead as Queue}
 use Rattle.drv_chains.specs.declared.members.Member.{Member}
@@ -21,15 +24,13 @@ use Rattle.drv_table.specs.declared.content.Command.TheVariants as unfinished
 use Rattle.drv_table.specs.DriverContent.{DriverContent}
 use Rattle.drv_table.specs.Commands.{no_command, removal_of, leave_frames, finished, or_finished}
 use Rattle.drv_periodic_table.specs.declared.content.Removed.TheVariants as removed
-use Rattle.law_driver.proofs.lemmas.run_owners.Released.{same_number, other_number, set_here, set_there}
 use Rattle.law_driver.proofs.lemmas.run_owners.Orders.{set_case}
 use Rattle.claims_driver.specs.FrameListMembers.{Framed, framed_of, framed_in, is_chained, Placed, placed_in, is_among, member_of}
 use Rattle.law_driver.specs.listed_members.Members.{is_in_names, AreOnce, under_way, is_linked_by, IsStanding, IsQueueOf, IsWaitingOf, AreLeaving, IsUnderWay, AreKept, to_come, HasList, IsListed}
-use Rattle.law_driver.proofs.lemmas.listed_members.Schedules.{all_more, all_two, same_members}
+use Rattle.law_driver.proofs.lemmas.listed_members.Schedules.{same_members}
 use Rattle.law_driver.proofs.lemmas.listed_members.Standing.{seen, Owns}
 use Rattle.law_driver.proofs.lemmas.listed_members.Stays.{moved, same_queue}
 use Rattle.law_driver.proofs.lemmas.listed_members.Stores.{begun_none}
-use Rattle.law_driver.proofs.lemmas.listed_members.Ranges.{or_first, or_second}
 use Rattle.law_driver.proofs.lemmas.listed_members.Unlinks.{below_frames, placed_here}
 
 -- what the command has left of the descriptors
@@ -38,10 +39,6 @@ linked_as d e t p is = ap (λ (k : Option Command). is_linked_by k d.made d.peri
 
 pub none_comes : (d : DriverContent) (e : ℕ) → d.command ≡ Some (unfinished.Unchain e) → to_come d.command d.made d.periodic.queued ≡ 0
 none_comes d e is = ap (λ (k : Option Command). to_come k d.made d.periodic.queued) is
-
-pub or_none : (a b : Bool) → b ≡ false → a || b ≡ true → a ≡ true
-or_none true b off on = refl
-or_none false b off on = absurd (false≢true (sym off ∙ on))
 
 pub elsewhere_test : (n e : ℕ) → not (n == e) ≡ true → n ≢ e
 elsewhere_test n e on same = false≢true (sym (ap not (ap (λ m. m == e) same ∙ same_number e)) ∙ on)
@@ -79,7 +76,7 @@ all_unlinked d e z is none queued here cancelled left old =
     elsewhere t p on = elsewhere_test p.endpoint e (or_none (not (p.endpoint == e)) (is_in_names (id_of (member_of q p)) (under_way q.list.work ++ q.queued)) (names p) (sym (linked_as d e t p is) ∙ on))
 
     linked : (t : ℕ) (p : Placed) → p.endpoint ≢ e → is_linked_by d.command d.made q t p ≡ true
-    linked t p differs = linked_as d e t p is ∙ or_first (not (p.endpoint == e)) (is_in_names (id_of (member_of q p)) (under_way q.list.work ++ q.queued)) (elsewhere_on p.endpoint e differs)
+    linked t p differs = linked_as d e t p is ∙ first_true (not (p.endpoint == e)) (is_in_names (id_of (member_of q p)) (under_way q.list.work ++ q.queued)) (elsewhere_on p.endpoint e differs)
 
     -- where it was out of its frames
     n : DriverContent
@@ -278,8 +275,9 @@ begin_iso d e z x (m ∷ ms) is none queued here cancelled at iso members once o
         w.waits,
         linked_as d e w.number w.placed is ∙ ap (λ (o : Option Work). not (w.placed.endpoint == e) || is_in_names (id_of (member_of q w.placed)) (under_way o ++ q.queued)) none
             ∙ ap (λ (rs : List Member). not (w.placed.endpoint == e) || is_in_names (id_of (member_of q w.placed)) rs) queued
-            ∙ or_second (not (w.placed.endpoint == e)) (is_in_names (id_of (member_of q w.placed)) (m ∷ ms))
-            (or_first (nat_eq (id_of m) (id_of (member_of q w.placed))) (is_in_names (id_of (member_of q w.placed)) ms) (eq-eqb (id_of m) (id_of (member_of q w.placed)) (ap id_of (sym w.is)))),
+            ∙ second_true (not (w.placed.endpoint == e)) (is_in_names (id_of (member_of q w.placed)) (m ∷ ms))
+            (first_true (nat_eq (id_of m) (id_of (member_of q w.placed))) (is_in_names (id_of (member_of q w.placed)) ms)
+            (eq-eqb (id_of m) (id_of (member_of q w.placed)) (ap id_of (sym w.is)))),
       );
       is = w.is;
     }

@@ -6,6 +6,10 @@ use Rattle.std.proofs.lemmas.Bool.Decides.{nat_tests}
 use Rattle.std.proofs.lemmas.List.{length-set}
 use Rattle.std.proofs.lemmas.List.Folds.{list_any-append}
 use Rattle.std.proofs.lemmas.Option.{same_Some}
+use Rattle.law_common.proofs.Booleans.{or_true, first_true}
+use Rattle.law_driver.proofs.Common.{among_first}
+use Rattle.law_common.proofs.Numbers.{same_number, other_number}
+use Rattle.law_common.proofs.Lists.{set_here, set_there}
 use Rattle.word_mem.specs.Memory.{Mem}
 use Rattle.drv_chains.specs.declared.members.Descriptor.{Descriptor}
 use Rattle.drv_chains.specs.declared.members.QueueHead.{QueueHead as Queue}
@@ -25,7 +29,7 @@ use Rattle.drv_table.specs.Removals.{after_unlink}
 use Rattle.drv_table.specs.Harvesting.{served, descriptor_told}
 use Rattle.claims_driver.specs.Owners.{is_descriptor}
 use Rattle.claims_driver.specs.Leaving.{times, owes, transfers_in, IsOrderly}
-use Rattle.law_driver.proofs.lemmas.run_owners.Released.{same_by_test, same_number, other_number, set_here, set_there}
+use Rattle.law_driver.proofs.lemmas.run_owners.Released.{same_by_test}
 use Rattle.law_driver.proofs.lemmas.run_owners.Orders.{times_first, one_same}
 use Rattle.claims_driver.specs.FrameListMembers.{framed_of, framed_in, is_chained, Placed, placed_of, placed_in, is_among}
 use Rattle.law_driver.specs.listed_members.Members.{HasMembers, IsStanding, IsQueueOf, IsIdle, IsListed}
@@ -37,24 +41,16 @@ use Rattle.law_driver.proofs.lemmas.listed_members.Calm.{is_calm, calm_still, ca
 
 -- ---- lists of numbers
 
-or_on : (a b : Bool) → a ≡ true → a || b ≡ true
-or_on true b on = refl
-or_on false b on = absurd (false≢true on)
-
 or_last : (a b : Bool) → a || (b || false) ≡ true → b ≡ false → a ≡ true
 or_last true b on off = refl
 or_last false true on off = absurd (false≢true (sym off))
 or_last false false on off = on
 
-or_here : (a : Bool) → a || true ≡ true
-or_here true = refl
-or_here false = refl
-
 among_pushed : (i t : ℕ) (ts : List ℕ) → is_among i ts ≡ true → is_among i (ts ++ t ∷ []) ≡ true
-among_pushed i t ts on = list_any-append (λ u. u == i) ts (t ∷ []) ∙ or_on (is_among i ts) ((t == i) || false) on
+among_pushed i t ts on = list_any-append (λ u. u == i) ts (t ∷ []) ∙ first_true (is_among i ts) ((t == i) || false) on
 
 among_last : (t : ℕ) (ts : List ℕ) → is_among t (ts ++ t ∷ []) ≡ true
-among_last t ts = list_any-append (λ u. u == t) ts (t ∷ []) ∙ ap (λ b. is_among t ts || (b || false)) (same_number t) ∙ or_here (is_among t ts)
+among_last t ts = list_any-append (λ u. u == t) ts (t ∷ []) ∙ ap (λ b. is_among t ts || (b || false)) (same_number t) ∙ or_true (is_among t ts)
 
 among_before : (i t : ℕ) (ts : List ℕ) → i ≢ t → is_among i (ts ++ t ∷ []) ≡ true → is_among i ts ≡ true
 among_before i t ts differs on = or_last (is_among i ts) (t == i) (sym (list_any-append (λ u. u == i) ts (t ∷ [])) ∙ on) (other_number t i (λ same. differs (sym same)))
@@ -72,10 +68,6 @@ among_all i (u ∷ ts) on = at (u == i)
     at : (b : Bool) → b || is_among i ts ≡ true
     at true = refl
     at false = on
-
-among_first : (t : ℕ) (ts : List ℕ) → slice_get ts 0 ≡ Some t → is_among t ts ≡ true
-among_first t [] first = absurd (cc)
-among_first t (u ∷ ts) first = let same : u ≡ t = cc in or_on (u == t) (is_among t ts) (ap (λ v. v == t) same ∙ same_number t)
 
 -- ---- the descriptor of a transfer
 

@@ -3,6 +3,7 @@ use Rattle.std.proofs.Common.{◌≡◌, ℕ, ◌+◌, Bool, true, false, not, �
 use Rattle.std.specs.Prelude.{is_some, is_none, count_by}
 use Rattle.std.proofs.lemmas.Bool.{false≢true}
 use Rattle.std.proofs.lemmas.List.{length-set}
+use Rattle.law_common.proofs.Lists.{set_here}
 use Rattle.usb_base.specs.declared.endpoints.EndCause.{EndCause}
 use Rattle.usb_base.specs.declared.endpoints.EndCause.TheVariants as causes
 use Rattle.usb_base.specs.declared.commands.Cmd.{Cmd}
@@ -32,7 +33,6 @@ use Rattle.drv_table.specs.CancelOffers.{first_end, accepted_cancel, endpoint_me
 use Rattle.law_driver.specs.run_owners.Accepts.{Unchains, Accepts, opens, chains, places, transfers, describes, cancels, unchains}
 use Rattle.claims_driver.specs.Leaving.{HasOwners}
 use Rattle.law_driver.proofs.lemmas.run_owners.Commands.{each_command_has_its_reason}
-use Rattle.law_driver.proofs.lemmas.run_owners.Released.{set_here}
 use Rattle.claims_driver.specs.FrameListMembers.{Framed, framed_of, framed_in, is_chained}
 use Rattle.law_driver.specs.listed_members.Members.{IsListed}
 use Rattle.law_driver.specs.listed_queues.Queues.{is_in_queues, HasQueues}

@@ -4,6 +4,8 @@ use Rattle.std.specs.Prelude.{is_none}
 use Rattle.std.specs.List.{AllByRecursion, list_any}
 use Rattle.std.proofs.lemmas.Bool.{cases_Bool, eqb-true, and_parts}
 use Rattle.std.proofs.lemmas.List.Filters.{length-filter_both}
+use Rattle.law_common.proofs.Lists.{all_more}
+use Rattle.law_driver.proofs.Common.{same_endpoint}
 use Rattle.bandwidth.specs.declared.placements.Placement.{Placement}
 use Rattle.drv_chains.specs.declared.members.Descriptor.{Descriptor}
 use Rattle.drv_chains.specs.declared.members.QueueHead.{QueueHead as Queue}
@@ -22,8 +24,8 @@ use Rattle.drv_table.specs.Commands.{no_command, finished, list_after, or_finish
 use Rattle.claims_driver.specs.FrameListMembers.{Framed, framed_in, is_chained}
 use Rattle.law_driver.specs.listed_members.Members.{Links, IsWaitingOf, IsDescribing, IsUnchaining, IsUnderWay, IsListed}
 use Rattle.law_driver.specs.listed_queues.Queues.{queue_of, is_in_queues, HasQueues}
-use Rattle.law_driver.proofs.lemmas.listed_members.Schedules.{all_more, any_left, name_differs}
-use Rattle.law_driver.proofs.lemmas.listed_members.Standing.{Owns, one_endpoint}
+use Rattle.law_driver.proofs.lemmas.listed_members.Schedules.{any_left, name_differs}
+use Rattle.law_driver.proofs.lemmas.listed_members.Standing.{Owns}
 use Rattle.law_driver.proofs.lemmas.listed_members.Stores.{KeepsMembers, list_kept, begun_none}
 use Rattle.law_driver.proofs.lemmas.listed_members.Calm.{is_calm, goes_quiet}
 use Rattle.law_driver.proofs.lemmas.listed_members.Leaving.{last_store, next_made, not_before, store_is}
@@ -186,7 +188,7 @@ queue_gone d e owns is way iso old =
     apart : (i : ℕ) (w : Framed) → i ≢ e → framed_in d.endpoints i ≡ Some w → w.chained ≡ true → w.isochronous ≡ false → queue_name w.queue ≢ queue_name x.queue
     apart i w differs here on queued same =
         let blocks : w.queue ≡ x.queue = omega (arith, same) in
-        differs (one_endpoint i e (sym (owns.queues i w here on queued) ∙ ap owns.owner blocks ∙ owns.queues e x way.at chained iso))
+        differs (same_endpoint i e (sym (owns.queues i w here on queued) ∙ ap owns.owner blocks ∙ owns.queues e x way.at chained iso))
 
     there : (i : ℕ) (w : Framed) (p : Placement) → i ≢ e → framed_in d.endpoints i ≡ Some w → w.chained ≡ true → w.isochronous ≡ false → w.placement ≡ Some p → list_any (is_this (queue_of w p)) (filter (λ y. not (is_named r.id y)) q.list.members.schedule.queues) ≡ true
     there i w p differs here on queued placed =

@@ -5,12 +5,13 @@ use Rattle.std.specs.List.{AllByRecursion, list_any}
 use Rattle.std.proofs.lemmas.Bool.{false≢true, or_cases, eqb-true}
 use Rattle.std.proofs.lemmas.List.Filters.{length-filter_both}
 use Rattle.std.proofs.lemmas.Option.{same_Some}
+use Rattle.law_driver.proofs.Common.{again_none, blocks_run}
+use Rattle.law_common.proofs.Lists.{all_more}
+use Rattle.law_common.proofs.Numbers.{is_less}
 use Rattle.usb_base.specs.declared.endpoints.EpDesc.{EpDesc}
-use Rattle.usb_base.specs.declared.endpoints.EndCause.{EndCause}
 use Rattle.usb_base.specs.declared.packets.EpKind.{EpKind}
 use Rattle.usb_base.specs.declared.packets.EpKind.TheVariants as kinds
 use Rattle.usb_base.specs.declared.reports.OfferError.{OfferError}
-use Rattle.usb_base.specs.declared.reports.OfferError.TheVariants as errors
 use Rattle.word_mem.specs.Memory.{Mem}
 use Rattle.mem_runs.specs.Book.{Holding, holding, slot_of, Stands}
 use Rattle.bandwidth.specs.declared.placements.Want.{Want}
@@ -38,13 +39,12 @@ use Rattle.drv_table.specs.Accepting.{Offered, new_runs, take_runs}
 use Rattle.drv_table.specs.Offers.{new_endpoint, placed_endpoint, accepted_chain, accepted_iso, taken_open, taken_chain, placed_open, planned_open, offered_open, IsOpened}
 use Rattle.claims_driver.specs.Owners.{FrameList, QueueHead}
 use Rattle.claims_driver.specs.Leaving.{HasOwners}
-use Rattle.law_driver.proofs.lemmas.run_owners.Taking.{runs_taken, blocks_some}
+use Rattle.law_driver.proofs.lemmas.run_owners.Taking.{runs_taken}
 use Rattle.claims_driver.specs.FrameListMembers.{Framed, framed_of, framed_in}
 use Rattle.law_driver.specs.listed_members.Members.{IsStanding, IsQueueOf, HasList, IsListed}
 use Rattle.law_driver.specs.listed_queues.Queues.{queue_of, is_in_queues, HasQueues}
-use Rattle.law_driver.proofs.lemmas.listed_members.Schedules.{all_more, any_around, any_here, this_same, unnamed}
+use Rattle.law_driver.proofs.lemmas.listed_members.Schedules.{any_around, any_here, this_same, unnamed}
 use Rattle.law_driver.proofs.lemmas.listed_members.Standing.{frames_placed}
-use Rattle.law_driver.proofs.lemmas.listed_members.Framing.{is_below}
 use Rattle.law_driver.proofs.lemmas.listed_members.Calm.{is_calm, calm_idle}
 use Rattle.law_driver.proofs.lemmas.listed_members.Accepted.{off_new}
 
@@ -91,7 +91,7 @@ some_period p (c ∷ ps) all on =
 valid_place : (p : Placement) (id : ℕ) → IsPlace p → is_queue (record { id = id; period = p.period; phase = p.phase }) ≡ true
 valid_place p id place =
     ap (λ b. b && nat_lt p.phase (frame_period p.period)) (some_period p.period asked (refl, (refl, (refl, (refl, (refl, (refl, (refl, (refl, (refl, (refl, (refl, (refl, (refl, (refl, tt)))))))))))))) place.period)
-    ∙ is_below p.phase (frame_period p.period) place.phase
+    ∙ is_less p.phase (frame_period p.period) place.phase
 
 chosen_is : (o : Option Placement) (p : Placement) → chosen o ≡ Ok p → o ≡ Some p
 chosen_is None p f = absurd (cc)
@@ -139,7 +139,7 @@ name_is_new d m h stands runs has list =
         let some : is.framed.queue ≢ 0 = λ none. (let f : FrameList ≡ QueueHead is.number = sym has.owned.each.list.owned ∙ sym (ap has.owner none) ∙ placed.owned in absurd (cc)) in
         let name : q.id ≡ queue_name is.framed.queue = ap id_of is.is in
         let block : is.framed.queue ≡ n = omega (arith, name, same) in
-        off_new (holding d.book m) h (2 ∷ 1 ∷ []) taken.blocks is.framed.queue taken.are some (blocks_some 2 (slot_of d.book.slots is.framed.queue) placed.run) 0 (block ∙ ap (λ (rs : List ℕ). get_or rs 0 0) new)
+        off_new (holding d.book m) h (2 ∷ 1 ∷ []) taken.blocks is.framed.queue taken.are some (blocks_run 2 (slot_of d.book.slots is.framed.queue) placed.run) 0 (block ∙ ap (λ (rs : List ℕ). get_or rs 0 0) new)
 
 longer_by_one : (qs : List Queue) (q : Queue) → length (with_queue qs q) ≡ suc (length qs)
 longer_by_one qs q =
@@ -208,7 +208,7 @@ chain_taken d m x p o (Ok h) idle stands has listed place runs some old f =
     e l = record (accepted_chain d x p h queue dummy).driver { periodic = record (accepted_chain d x p h queue dummy).driver.periodic { list = l } }
 
     room : nat_lt (length s.queues) list.members.queue_room ≡ true
-    room = is_below (length s.queues) list.members.queue_room (omega (arith, some, old.many, old.room))
+    room = is_less (length s.queues) list.members.queue_room (omega (arith, some, old.many, old.room))
 
     linked : may_link list (Each r) ≡ true
     linked =
@@ -243,16 +243,6 @@ new_queues : (d : DriverContent) (m : Mem) (x : EpDesc) (o : Offered) (b : Bool)
     → cond b (planned_open d m x (answer d.periodic.plan (want_of (length d.endpoints) x))) (taken_open d x (take_runs (holding d.book m) (2 ∷ 1 ∷ []))) ≡ Ok o → HasQueues o.driver
 new_queues d m x o true periodic want idle stands has listed some old f = planned_queues d m x o (answer d.periodic.plan (want_of (length d.endpoints) x)) refl (want periodic) idle stands has listed some old f
 new_queues d m x o false ring want idle stands has listed some old f = open_taken d x o (take_runs (holding d.book m) (2 ∷ 1 ∷ [])) some old f
-
-again_none : (d : DriverContent) (m : Mem) (x : EpDesc) (o : Offered) (old : Endpoint) (c : Option EndCause) → old.ended ≡ c → offered_open d m x (Some old) ≡ Ok o → ⊥
-again_none d m x o old (Some cause) is f = let e : offered_open d m x (Some old) ≡ Err (errors.Closed cause) = ap (λ (k : Option EndCause). again k) is in absurd (cc)
-  where
-    again : Option EndCause → Result Offered OfferError
-    again k = elim k [ Some cause ↦ Err (errors.Closed cause) | None ↦ Err errors.AlreadyOpen ]
-again_none d m x o old None is f = let e : offered_open d m x (Some old) ≡ Err errors.AlreadyOpen = ap (λ (k : Option EndCause). again k) is in absurd (cc)
-  where
-    again : Option EndCause → Result Offered OfferError
-    again k = elim k [ Some cause ↦ Err (errors.Closed cause) | None ↦ Err errors.AlreadyOpen ]
 
 pub open_queues : (d : DriverContent) (m : Mem) (x : EpDesc) (o : Offered) (q : Option Endpoint) → IsOpened x → d.command ≡ None → Stands (holding d.book m) → HasOwners d → IsListed d → 1 ≤ d.room.endpoints → HasQueues d → offered_open d m x q ≡ Ok o → HasQueues o.driver
 open_queues d m x o (Some z) want idle stands has listed some old f = absurd (again_none d m x o z z.ended refl f)

@@ -1,6 +1,7 @@
 -- Each event of the driver keeps the queue heads in their frames.
 use Rattle.std.proofs.Common.{◌≡◌, ℕ, zero, suc, Bool, true, false, cond, List, slice_get, take, drop, Option, Some, None, ap, sym, subst, ◌∙◌, inl, inr, refl}
 use Rattle.std.specs.Prelude.{nat_lt}
+use Rattle.law_driver.proofs.Common.{told_endpoints}
 use Rattle.word_mem.specs.Memory.{Mem}
 use Rattle.mem_runs.specs.Book.{Book, holding, lend_taken}
 use Rattle.drv_chains.specs.declared.members.Descriptor.{Descriptor}
@@ -99,9 +100,6 @@ told_same d m e x =
 either_endpoints : (d x : DriverContent) (b : Bool) → x.endpoints ≡ d.endpoints → (cond b x d).endpoints ≡ d.endpoints
 either_endpoints d x true same = same
 either_endpoints d x false same = refl
-
-told_endpoints : (d : DriverContent) (m : Mem) (e : ℕ) (x : Endpoint) → (cancel_told d m e x).endpoints ≡ d.endpoints
-told_endpoints d m e x = either_endpoints d _ (is_told x) refl
 
 endpoint_same : (p : Parts) (e : ℕ) (o : Option Endpoint) → slice_get p.driver.endpoints e ≡ o → SameQueues p.driver (after_endpoint p e o).driver
 endpoint_same p e None here = same_all p.driver

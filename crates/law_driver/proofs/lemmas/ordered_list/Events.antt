@@ -1,6 +1,7 @@
 -- Each event of the driver leaves its frame list in order.
 use Rattle.std.proofs.Common.{◌≡◌, ℕ, zero, suc, ◌-◌, Bool, true, false, length, slice_get, Option, Some, None, refl, ◌∙◌, subst, sym}
 use Rattle.std.specs.Prelude.{nat_lt, is_none, take, drop, if◌then◌else◌}
+use Rattle.law_common.proofs.Booleans.{either_if}
 use Rattle.usb_base.specs.declared.endpoints.EpName.{EpName}
 use Rattle.usb_base.specs.declared.endpoints.EndCause.{EndCause}
 use Rattle.word_mem.specs.Memory.{Mem}
@@ -28,7 +29,7 @@ use Rattle.drv_table.specs.Harvesting.{told_with, behind_one, behind, after_end,
 use Rattle.drv_periodic_table.specs.Periodic.{descriptor_member}
 use Rattle.drv_periodic.specs.Periodic.{Periodic, after_store}
 use Rattle.law_driver.specs.ordered_list.Ordered.{IsOrdered}
-use Rattle.law_driver.proofs.lemmas.ordered_list.Lists.{Ordered, either_kept, unlinking_kept, store_kept, next_kept}
+use Rattle.law_driver.proofs.lemmas.ordered_list.Lists.{Ordered, unlinking_kept, store_kept, next_kept}
 
 abbrev pub list_of : DriverContent → Periodic
 list_of d = d.periodic.list
@@ -61,15 +62,16 @@ or_done d c = either (is_none d.periodic.list.work) (finished d c) d (list_of d)
 
 linked : (d : DriverContent) (c : Command) → IsOrdered d → IsOrdered (linked_on d c)
 linked d c h =
-    let stored : Ordered (list_after d c) = either_kept Ordered (nat_lt d.made (length (events_of c))) d.periodic.list (after_store d.periodic.list) (λ e. h) (λ e. store_kept d.periodic.list h) in
+    let stored : Ordered (list_after d c) = either_if Ordered (nat_lt d.made (length (events_of c))) d.periodic.list (after_store d.periodic.list) (λ e. h) (λ e. store_kept d.periodic.list h) in
     let on : DriverContent = record d { made = length (events_of c); periodic = begun_next (removes_members c) (record d.periodic { list = list_after d c }) } in
     kept_by (or_finished on c) on (or_done on c) (next_kept (removes_members c) (record d.periodic { list = list_after d c }) stored)
 
 went_on : (d : DriverContent) (c : Option Command) → IsOrdered d → IsOrdered (advanced_by d c)
 went_on d None h = h
 went_on d (Some c) h =
-    either_kept IsOrdered (nat_lt (suc d.made) (length (events_of c))) (record d { made = suc d.made }) (if links c then linked_on d c else finished d c) (λ e. h)
-    (λ e. either_kept IsOrdered (links c) (linked_on d c) (finished d c) (λ k. linked d c h) (λ k. kept_by (finished d c) d (done d c) h))
+    either_if IsOrdered (nat_lt (suc d.made) (length (events_of c))) (record d { made = suc d.made })
+    (if links c then linked_on d c else finished d c) (λ e. h)
+    (λ e. either_if IsOrdered (links c) (linked_on d c) (finished d c) (λ k. linked d c h) (λ k. kept_by (finished d c) d (done d c) h))
 
 advanced : (d : DriverContent) → IsOrdered d → IsOrdered (advance d)
 advanced d h = went_on d d.command h

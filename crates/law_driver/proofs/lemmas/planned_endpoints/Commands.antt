@@ -1,8 +1,10 @@
 -- What each accepted command does to the placements of the endpoints.
 use Rattle.std.proofs.Common.{◌≡◌, ℕ, ◌+◌, Bool, true, false, List, [], ◌∷◌, ◌++◌, length, slice_get, Option, Some, None, Result, Ok, Err, refl, ◌∙◌}
-use Rattle.std.specs.Prelude.{IfOk, unwrap_or, option_and_then, nat_lt, not, ◌||◌, count_by, if◌then◌else◌}
+use Rattle.std.specs.Prelude.{IfOk, unwrap_or, nat_lt, not, ◌||◌, count_by, if◌then◌else◌}
 use Rattle.std.proofs.lemmas.Result.{IfOk-at_ok}
 use Rattle.std.proofs.lemmas.List.{append-nil}
+use Rattle.law_admission.proofs.Common.{or_else, refused_again}
+use Rattle.law_driver.proofs.Common.{there_by}
 use Rattle.usb_base.specs.declared.endpoints.EpName.{EpName}
 use Rattle.usb_base.specs.declared.endpoints.EpDesc.{EpDesc}
 use Rattle.usb_base.specs.declared.endpoints.EndCause.{EndCause}
@@ -33,15 +35,6 @@ use Rattle.law_driver.proofs.lemmas.planned_endpoints.Events.{placements, or_don
 
 abbrev pub Keeps : DriverContent → Offered → Type 0
 Keeps d o = placements o.driver ≡ placements d
-
-or_else : (P : Offered → Type 0) (b : Bool) (x y : Result Offered OfferError) → IfOk x P → IfOk y P → IfOk (if b then x else y) P
-or_else P true x y one two = one
-or_else P false x y one two = two
-
--- the endpoint of a name stands at its number
-there_by : (xs : List Endpoint) (o : Option ℕ) (x : Endpoint) → option_and_then (λ e. slice_get xs e) o ≡ Some x → slice_get xs (unwrap_or o 0) ≡ Some x
-there_by xs None x e = absurd (cc)
-there_by xs (Some k) x e = e
 
 abbrev Stands : DriverContent → ℕ → Option Endpoint → Type 0
 Stands d e q = (x : Endpoint) → q ≡ Some x → slice_get d.endpoints e ≡ Some x
@@ -118,10 +111,6 @@ kind_open : (d : DriverContent) (m : Mem) (x : EpDesc) (b : Bool)
     → IfOk (if b then planned_open d m x (answer d.periodic.plan (want_of (length d.endpoints) x)) else taken_open d x (take_runs (holding d.book m) (2 ∷ 1 ∷ []))) (KeepsIf d b)
 kind_open d m x true = any_planned d (planned_open d m x (answer d.periodic.plan (want_of (length d.endpoints) x)))
 kind_open d m x false = open_taken d x (take_runs (holding d.book m) (2 ∷ 1 ∷ []))
-
-refused_again : (P : Offered → Type 0) (c : Option EndCause) → IfOk (elim c [ Some cause ↦ Err (errors.Closed cause) | None ↦ Err errors.AlreadyOpen ]) P
-refused_again P None = tt
-refused_again P (Some cause) = tt
 
 open_found : (d : DriverContent) (m : Mem) (x : EpDesc) (q : Option Endpoint) → IfOk (offered_open d m x q) (KeepsIf d (is_periodic x.kind))
 open_found d m x (Some old) = refused_again (KeepsIf d (is_periodic x.kind)) old.ended

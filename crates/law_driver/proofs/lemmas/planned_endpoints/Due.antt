@@ -1,9 +1,12 @@
 -- The queue heads of a frame's chain are due in it, and none stands there twice.
-use Rattle.std.proofs.Common.{◌≡◌, ℕ, ◌%◌, ◌≤◌, Bool, true, false, List, [], ◌∷◌, ◌++◌, refl, ap, sym, subst, ◌∙◌, arith, Some, inl, inr, ◌⊎◌}
-use Rattle.std.specs.Prelude.{filter, not, nat_eq, count_by, ◌&&◌, ◌||◌, nat_lt, option_map}
+use Rattle.std.proofs.Common.{◌≡◌, ℕ, ◌%◌, ◌≤◌, Bool, true, false, List, [], ◌∷◌, ◌++◌, refl, ap, sym, subst, ◌∙◌, arith, Some, inl, inr}
+use Rattle.std.specs.Prelude.{filter, not, nat_eq, count_by, ◌&&◌, nat_lt, option_map}
 use Rattle.std.specs.List.{AllByRecursion, flat_map, list_all, list_any}
 use Rattle.std.proofs.lemmas.Bool.{and_parts}
 use Rattle.std.proofs.lemmas.Bool.Decides.{nat_tests}
+use Rattle.law_driver.proofs.Common.{any_left, any_right}
+use Rattle.law_common.proofs.Booleans.{not_on, right_or, left_or, either_one}
+use Rattle.law_common.proofs.Numbers.{same_test}
 use Rattle.drv_chains.specs.declared.members.QueueHead.{QueueHead}
 use Rattle.drv_chains.specs.Chains.{Schedule, periods, frame_period, is_active, at_place, queues_in, is_period}
 use Rattle.drv_members.specs.Ranks.{is_queue, is_named}
@@ -19,21 +22,7 @@ use Rattle.law_driver.specs.listed_members.Members.{IsListed}
 use Rattle.law_driver.specs.listed_queues.Queues.{HasQueues}
 use Rattle.law_driver.specs.planned_endpoints.Planned.{IsPlanned}
 use Rattle.claims_driver.specs.DueMembers.{IsPlacedQueue, IsDueIn, AreDue, HasAllDue}
-use Rattle.law_driver.proofs.lemmas.planned_endpoints.Queues.{same_test, queue_heads_are_of_placed_endpoints}
-
--- ---- tests
-
-either_one : (a b : Bool) → (a || b) ≡ true → (a ≡ true) ⊎ (b ≡ true)
-either_one true b e = inl refl
-either_one false b e = inr e
-
-one_true : (a b : Bool) → a ≡ true → (a || b) ≡ true
-one_true true b e = refl
-one_true false b e = absurd (cc)
-
-other_true : (a b : Bool) → b ≡ true → (a || b) ≡ true
-other_true true b e = refl
-other_true false b e = e
+use Rattle.law_driver.proofs.lemmas.planned_endpoints.Queues.{queue_heads_are_of_placed_endpoints}
 
 -- ---- each is due
 
@@ -130,14 +119,10 @@ are_apart : List ℕ → Bool
 are_apart [] = true
 are_apart (p ∷ ps) = list_all (λ r. not (nat_eq p r)) ps && are_apart ps
 
-not_equal : (b : Bool) → not b ≡ true → b ≡ false
-not_equal true e = absurd (cc)
-not_equal false e = refl
-
 apart_by : (p : ℕ) (rs : List ℕ) → list_all (λ r. not (nat_eq p r)) rs ≡ true → Apart p rs
 apart_by p [] e = tt
 apart_by p (r ∷ rs) e =
-    let parts = and_parts (not (nat_eq p r)) (list_all (λ x. not (nat_eq p x)) rs) e in (not_equal (nat_eq p r) parts.0, apart_by p rs parts.1)
+    let parts = and_parts (not (nat_eq p r)) (list_all (λ x. not (nat_eq p x)) rs) e in (not_on (nat_eq p r) parts.0, apart_by p rs parts.1)
 
 apart_all : (ps : List ℕ) → are_apart ps ≡ true → AreApart ps
 unfolding are_apart
@@ -163,14 +148,6 @@ queue_heads_of_a_frame_are_due d f has listed planned kept = record {
 abbrev its_queue : Endpoint → Placement → QueueHead
 its_queue x p = record { id = queue_name x.queue; period = p.period; phase = p.phase }
 
-any_first : {X : Type 0} (t : X → Bool) (xs ys : List X) → list_any t xs ≡ true → list_any t (xs ++ ys) ≡ true
-any_first t [] ys e = absurd (cc)
-any_first t (x ∷ xs) ys e = elim (either_one (t x) (list_any t xs) e) [ inl h ↦ one_true (t x) (list_any t (xs ++ ys)) h | inr h ↦ other_true (t x) (list_any t (xs ++ ys)) (any_first t xs ys h) ]
-
-any_later : {X : Type 0} (t : X → Bool) (xs ys : List X) → list_any t ys ≡ true → list_any t (xs ++ ys) ≡ true
-any_later t [] ys e = e
-any_later t (x ∷ xs) ys e = other_true (t x) (list_any t (xs ++ ys)) (any_later t xs ys e)
-
 -- it has the period and the phase of q
 record IsThis (q r : QueueHead) : Type 0 where
   period : r.period ≡ q.period
@@ -189,14 +166,14 @@ its_class f q r active is =
     rw (period, phase) refl
 
 kept_first : (f : ℕ) (q r : QueueHead) (rs : List QueueHead) (a : Bool) → class_of f q.period r ≡ a → list_any (is_this q) (filter (class_of f q.period) rs) ≡ true → list_any (is_this q) (filter (class_of f q.period) (r ∷ rs)) ≡ true
-kept_first f q r rs true e rest = rw e (other_true (is_this q r) (list_any (is_this q) (filter (class_of f q.period) rs)) rest)
+kept_first f q r rs true e rest = rw e (right_or (is_this q r) (list_any (is_this q) (filter (class_of f q.period) rs)) rest)
 kept_first f q r rs false e rest = rw e rest
 
 in_class : (f : ℕ) (q : QueueHead) (rs : List QueueHead) → is_active f q ≡ true → list_any (is_this q) rs ≡ true → list_any (is_this q) (filter (class_of f q.period) rs) ≡ true
 in_class f q [] active e = absurd (cc)
 in_class f q (r ∷ rs) active e =
     elim (either_one (is_this q r) (list_any (is_this q) rs) e) [
-      | inl h ↦ let own = its_class f q r active (this_is q r h) in rw own (one_true (is_this q r) (list_any (is_this q) (filter (class_of f q.period) rs)) h)
+      | inl h ↦ let own = its_class f q r active (this_is q r h) in rw own (left_or (is_this q r) (list_any (is_this q) (filter (class_of f q.period) rs)) h)
       | inr h ↦ kept_first f q r rs (class_of f q.period r) refl (in_class f q rs active h)
     ]
 
@@ -207,8 +184,9 @@ in_classes f q qs (p ∷ ps) e there =
     elim (either_one (nat_eq q.period p) (list_any (λ x. nat_eq q.period x) ps) e) [
       | inl h ↦
           let same : q.period ≡ p = same_number q.period p h in
-          any_first (is_this q) (filter (class_of f p) qs) (classes f qs ps) (subst (λ n. list_any (is_this q) (filter (class_of f n) qs) ≡ true) same there)
-      | inr h ↦ any_later (is_this q) (filter (class_of f p) qs) (classes f qs ps) (in_classes f q qs ps h there)
+          any_left (is_this q) (filter (class_of f p) qs) (classes f qs ps)
+          (subst (λ n. list_any (is_this q) (filter (class_of f n) qs) ≡ true) same there)
+      | inr h ↦ any_right (is_this q) (filter (class_of f p) qs) (classes f qs ps) (in_classes f q qs ps h there)
     ]
 
 has_period : (q : QueueHead) (rs : List QueueHead) → AllByRecursion (λ r. is_queue r ≡ true) rs → list_any (is_this q) rs ≡ true → is_period q.period ≡ true

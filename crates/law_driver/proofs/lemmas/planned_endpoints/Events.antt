@@ -1,6 +1,7 @@
 -- Each event of the driver leaves the placements of its endpoints, but for the one that it gives back.
 use Rattle.std.proofs.Common.{◌≡◌, ℕ, zero, suc, ◌-◌, Bool, true, false, List, length, slice_get, slice_set, Option, Some, None, refl, ap, ◌∙◌, arith}
 use Rattle.std.specs.Prelude.{nat_lt, is_none, take, drop, filter, if◌then◌else◌}
+use Rattle.law_driver.proofs.Common.{one_behind, told_endpoints}
 use Rattle.usb_base.specs.declared.endpoints.EpName.{EpName}
 use Rattle.usb_base.specs.declared.endpoints.EndCause.{EndCause}
 use Rattle.word_mem.specs.Memory.{Mem}
@@ -22,7 +23,7 @@ use Rattle.drv_table.specs.Parts.{Parts}
 use Rattle.drv_table.specs.Commands.{events_of, links, removes_members, no_command, leave_ring, leave_frames, finished, list_after, or_finished, linked_on, advanced_by, advance}
 use Rattle.drv_table.specs.FrameChoice.{framed_by, with_notes, framed_notes, placement_at, linked_by}
 use Rattle.drv_table.specs.Rows.{after_driver_row}
-use Rattle.drv_table.specs.Releases.{after_transfer, is_told, cancel_told, after_endpoint}
+use Rattle.drv_table.specs.Releases.{after_transfer, after_endpoint}
 use Rattle.drv_table.specs.Removals.{after_unlink, after_descriptor, after_placed, after_removed}
 use Rattle.drv_table.specs.Harvesting.{told_with, behind_one, behind, after_end, harvested_as, served, after_harvest}
 use Rattle.bandwidth.specs.declared.placements.Placed.{Placed}
@@ -73,13 +74,10 @@ transfer_let_go : (p : Parts) (t : ℕ) (o : Option Transfer) (h : Holding) → 
 transfer_let_go p t None h = refl
 transfer_let_go p t (Some x) h = refl
 
-told : (d : DriverContent) (m : Mem) (e : ℕ) (x : Endpoint) → (cancel_told d m e x).endpoints ≡ d.endpoints
-told d m e x = either (λ (f : DriverContent). f.endpoints) (is_told x) _ d d.endpoints refl refl
-
 endpoint_let_go : (p : Parts) (e : ℕ) (o : Option Endpoint) → slice_get p.driver.endpoints e ≡ o → ((x : Endpoint) → o ≡ Some x → x.placement ≡ None) → placements (after_endpoint p e o).driver ≡ placements p.driver
 endpoint_let_go p e None here alone = refl
 endpoint_let_go p e (Some x) here alone =
-    ap (λ (es : List Endpoint). planned 0 (slice_set es e (record x { gone = true }))) (told p.driver p.memory e x)
+    ap (λ (es : List Endpoint). planned 0 (slice_set es e (record x { gone = true }))) (told_endpoints p.driver p.memory e x)
     ∙ unplaced_back 0 e p.driver.endpoints x here (alone x refl)
 
 unlinked : (p : Parts) (t : ℕ) (o : Option Transfer) → placements (after_unlink p t o).driver ≡ placements p.driver
@@ -98,14 +96,10 @@ without_one ps e (Some x) = filter (other e) ps
 placed_let_go : (p : Parts) (e : ℕ) (o : Option Endpoint) → slice_get p.driver.endpoints e ≡ o → placements (after_placed p e o).driver ≡ without_one (placements p.driver) e o
 placed_let_go p e None here = refl
 placed_let_go p e (Some x) here =
-    ap (λ (es : List Endpoint). planned 0 (slice_set es e (record x { gone = true }))) (told p.driver p.memory e x)
+    ap (λ (es : List Endpoint). planned 0 (slice_set es e (record x { gone = true }))) (told_endpoints p.driver p.memory e x)
     ∙ given_back 0 e e p.driver.endpoints x (omega arith) here
 
 -- ---- a harvest
-
-one_behind : (d : DriverContent) (e : ℕ) (name : EpName) (k : ℕ) (o : Option Transfer) → (behind_one d e name k o).endpoints ≡ d.endpoints
-one_behind d e name k None = refl
-one_behind d e name k (Some x) = either (λ (f : DriverContent). f.endpoints) (waits_for e x) _ d d.endpoints refl refl
 
 all_behind : (d : DriverContent) (e : ℕ) (name : EpName) (k n : ℕ) → (behind d e name k n).endpoints ≡ d.endpoints
 unfolding behind

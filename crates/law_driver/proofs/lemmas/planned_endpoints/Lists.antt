@@ -3,7 +3,7 @@ use Rattle.std.proofs.Common.{◌≡◌, ◌≢◌, ℕ, zero, suc, ◌+◌, ◌
 use Rattle.std.specs.Prelude.{filter, not, nat_eq}
 use Rattle.std.proofs.lemmas.List.{append_assoc, append-nil}
 use Rattle.std.proofs.lemmas.List.Elements.{filter-append}
-use Rattle.std.proofs.lemmas.Bool.Decides.{nat_tests}
+use Rattle.law_common.proofs.Numbers.{not_its, its_own as is_own}
 use Rattle.usb_base.specs.declared.endpoints.EpDesc.{EpDesc}
 use Rattle.bandwidth.specs.declared.placements.Placement.{Placement}
 use Rattle.bandwidth.specs.declared.placements.Placed.{Placed}
@@ -32,16 +32,10 @@ one_more n (z ∷ zs) x =
 abbrev pub other : ℕ → Placed → Bool
 other k y = not (nat_eq y.want.id k)
 
-is_other : (n k : ℕ) → n ≢ k → not (nat_eq n k) ≡ true
-is_other n k h = grind (arith, nat_tests, h)
-
-is_own : (n : ℕ) → not (nat_eq n n) ≡ false
-is_own n = grind (arith, nat_tests)
-
 kept_by : (n k : ℕ) (x : EpDesc) (b : Bool) (p : Option Placement) → n ≢ k → filter (other k) (placed_by n x b p) ≡ placed_by n x b p
 kept_by n k x true p h = refl
 kept_by n k x false None h = refl
-kept_by n k x false (Some p) h = rw (is_other n k h) refl
+kept_by n k x false (Some p) h = rw (not_its n k h) refl
 
 out_by : (n : ℕ) (x : EpDesc) (b : Bool) (p : Option Placement) → filter (other n) (placed_by n x b p) ≡ []
 out_by n x true p = refl

@@ -1,13 +1,13 @@
 -- The queue heads of the frame list: each is that of a placed endpoint, and an endpoint has one.
-use Rattle.std.proofs.Common.{◌≡◌, ℕ, ◌%◌, Bool, true, false, List, [], ◌∷◌, slice_get, Option, Some, None, refl, ap, sym, ◌∙◌, arith}
-use Rattle.std.specs.Prelude.{nat_eq, option_map}
+use Rattle.std.proofs.Common.{◌≡◌, ℕ, ◌%◌, Bool, true, false, List, [], ◌∷◌, slice_get, Option, Some, None, refl, ap, sym, ◌∙◌}
+use Rattle.std.specs.Prelude.{option_map}
 use Rattle.std.specs.List.{AllByRecursion}
-use Rattle.std.proofs.lemmas.Bool.Decides.{nat_tests}
+use Rattle.law_driver.proofs.Common.{each_is}
+use Rattle.law_common.proofs.Numbers.{same_test}
 use Rattle.bandwidth.specs.declared.placements.Placement.{Placement}
 use Rattle.bandwidth.specs.Placements.{frame_period}
 use Rattle.bandwidth.specs.Sums.{is_active}
 use Rattle.drv_chains.specs.declared.members.QueueHead.{QueueHead}
-use Rattle.drv_chains.specs.declared.members.Member.{Member}
 use Rattle.drv_chains.specs.declared.members.Member.TheVariants.{Each}
 use Rattle.drv_chains.specs.Chains.{is_active as stands_in}
 use Rattle.drv_periodic_table.specs.Periodic.{queue_name, queue_member}
@@ -19,12 +19,6 @@ use Rattle.law_driver.specs.listed_members.Members.{IsQueueOf, IsListed}
 use Rattle.law_driver.specs.planned_endpoints.Planned.{IsPlanned}
 use Rattle.claims_driver.specs.DueMembers.{IsPlacedQueue}
 use Rattle.law_driver.proofs.lemmas.planned_endpoints.Laws.{some_is, endpoints_count_until_given_back}
-
-each_is : (q r : QueueHead) → ◌≡◌ {A = Member} (Each q) (Each r) → q ≡ r
-each_is q r e = cc
-
-pub same_test : (a b : ℕ) → nat_eq a b ≡ nat_eq b a
-same_test a b = grind (arith, nat_tests)
 
 -- it stands in the frames of its placement
 in_frames : (q : QueueHead) (b : ℕ) (p : Placement) (f : ℕ) → Each q ≡ queue_member b p → stands_in f q ≡ is_active p f

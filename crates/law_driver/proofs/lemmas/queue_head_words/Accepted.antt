@@ -1,12 +1,13 @@
 -- Each accepted command leaves the fixed words of queue heads, and those of a new one stand.
-use Rattle.std.proofs.Common.{◌≡◌, ◌≢◌, ℕ, ◌+◌, ◌-◌, ◌*◌, ◌/◌, ◌<◌, ◌≤◌, Bool, true, false, ◌||◌, cond, List, [], ◌∷◌, ◌++◌, length, take, drop, get_or, slice_get, slice_index, Some, option_map, ap, sym, subst, ◌∙◌, ⊎_elim, refl, arith}
+use Rattle.std.proofs.Common.{◌≡◌, ◌≢◌, ℕ, ◌+◌, ◌-◌, ◌*◌, ◌/◌, ◌<◌, ◌≤◌, true, false, ◌||◌, List, [], ◌∷◌, ◌++◌, length, take, drop, get_or, slice_get, slice_index, Some, option_map, ap, sym, subst, ◌∙◌, ⊎_elim, refl, arith}
 use Rattle.std.specs.Prelude.{◌⊎◌}
 use Rattle.std.proofs.lemmas.Option.{slice_get_past}
 use Rattle.std.proofs.lemmas.Bool.{false≢true}
 use Rattle.std.proofs.lemmas.Bool.Decides.{nat_tests}
-use Rattle.std.proofs.lemmas.List.{length-set}
+use Rattle.law_driver.proofs.Common.{stored_many, blocks_run}
+use Rattle.law_common.proofs.Lists.{drop_first, push_which}
 use Rattle.usb_base.specs.declared.endpoints.EpDesc.{EpDesc}
-use Rattle.word_mem.specs.Memory.{Mem, IsShaped, word_at, with_word}
+use Rattle.word_mem.specs.Memory.{Mem, IsShaped, word_at}
 use Rattle.qh_qtd.specs.QueueHead.{qh_words}
 use Rattle.qh_qtd.specs.Qtd.{qtd_words}
 use Rattle.mem_runs.specs.Book.{Book, Holding, holding, Stands, IsAt, slot_of, can_store, store, store_words}
@@ -33,9 +34,8 @@ use Rattle.law_driver.proofs.lemmas.run_owners.Orders.{times_both, set_case}
 use Rattle.law_driver.proofs.lemmas.run_owners.Transferred.{goes_on_alive}
 use Rattle.claims_driver.specs.Ring.{IsAmong}
 use Rattle.law_driver.proofs.lemmas.ring_members.Leaving.{among_times}
-use Rattle.law_driver.proofs.lemmas.run_owners.Taking.{AreTaken, runs_taken, blocks_some}
-use Rattle.law_driver.proofs.lemmas.run_owners.Accepted.{drop_first, fresh_differs}
-use Rattle.law_driver.proofs.lemmas.run_owners.Ordered.{pushed}
+use Rattle.law_driver.proofs.lemmas.run_owners.Taking.{AreTaken, runs_taken}
+use Rattle.law_driver.proofs.lemmas.run_owners.Accepted.{fresh_differs}
 use Rattle.law_driver.proofs.lemmas.run_owners.Apart.{has_within}
 use Rattle.law_driver.proofs.lemmas.ring_members.Stores.{slots_apart, words_elsewhere, first_stored}
 use Rattle.law_driver.proofs.lemmas.ring_members.Placed.{has_first, has_queue, queue_placed, queue_run, head_run_there}
@@ -58,13 +58,6 @@ can_at : (s : Slot) (b k : ℕ) → k < 32 → IsAt b s → HasRun s → can_sto
 can_at Empty b k small at run = absurd run
 can_at (Keeps r) b k small at run = let low : 32 * r.first ≤ 32 * b + k = omega (arith, at.0) in let high : 32 * b + k < 32 * (r.first + r.blocks) = omega (arith, at.0, at.1, small) in grind (arith, nat_tests)
 can_at (Lends r) b k small at run = let low : 32 * r.first ≤ 32 * b + k = omega (arith, at.0) in let high : 32 * b + k < 32 * (r.first + r.blocks) = omega (arith, at.0, at.1, small) in grind (arith, nat_tests)
-
-stored_many : (k : Book) (m : Mem) (b at v : ℕ) → length (store k m b at v).words ≡ length m.words
-stored_many k m b at v = by (can_store (slot_of k.slots b) at)
-  where
-    by : (can : Bool) → length (cond can (with_word m at v) m).words ≡ length m.words
-    by true = length-set m.words (at / 4) v
-    by false = refl
 
 second_stored : (k : Book) (m : Mem) (b at u v : ℕ) (vs : List ℕ) → can_store (slot_of k.slots b) (at + 4) ≡ true → (at + 4) / 4 < length m.words → word_at (store_words k m b at (u ∷ v ∷ vs)) (at + 4) ≡ v
 unfolding store_words
@@ -103,7 +96,7 @@ open_fixed d m desc g bs stands shape taken has old =
     words_elsewhere k mid dummy c (32 * dummy) (32 * c + n) (qtd_words dummy_qtd) apart (λ is. fresh_differs 1 c taken two there (sym is)) at
     ∙ words_elsewhere k g.memory queue c (32 * queue) (32 * c + n) (qh_words head) apart (λ is. fresh_differs 0 c taken (omega (arith, two)) there (sym is)) at
     ∙ ap (λ ws. slice_index ws ((32 * c + n) / 4)) taken.words in
-    let new_run = blocks_some 2 (slot_of k.slots queue) (taken.new 0 (omega (arith, two))) in
+    let new_run = blocks_run 2 (slot_of k.slots queue) (taken.new 0 (omega (arith, two))) in
     let made = new_fixed g queue desc link dummy taken.stands shape new_run in
     let after : (n : ℕ) → n < 32 → word_at now (32 * queue + n) ≡ word_at mid (32 * queue + n) = λ n small.
     words_elsewhere k mid dummy queue (32 * dummy) (32 * queue + n) (qtd_words dummy_qtd) apart (λ is. taken.distinct 0 1 (omega arith) two (sym is)) (has_fixed g queue n small taken.stands new_run) in
@@ -118,7 +111,7 @@ open_fixed d m desc g bs stands shape taken has old =
           (λ (w : (e ≡ length d.endpoints) × (x ≡ y)).
           subst (λ (z : Endpoint). IsFixed now z.queue (characteristics z.desc) (capabilities z.desc)) (sym w.1)
           (record { characteristics = after 4 (omega arith) ∙ made.characteristics; capabilities = after 8 (omega arith) ∙ made.capabilities }))
-          (pushed d.endpoints y e x there);
+          (push_which d.endpoints y e x there);
       head = record {
         characteristics = same head_block 4 (omega arith) (head_run_there d has) ∙ old.head.characteristics;
         capabilities = same head_block 8 (omega arith) (head_run_there d has) ∙ old.head.capabilities;
@@ -182,7 +175,7 @@ outside_met d ys y m n all rung waiting off has same old =
     let a = subst (λ (vs : List ℕ). IsAmong e (d.rung ++ vs)) waiting (subst (λ (vs : List ℕ). IsAmong e (vs ++ ys.waiting)) rung among) in
     let none = ap leaves_ring (slice_get_past d.endpoints e (omega (arith, w.0))) in
     omega (arith, none, among_times e (d.rung ++ d.waiting) a, times_both e d.rung d.waiting, has.orderly.leaving e)) met))
-    (pushed d.endpoints y e x (sym (ap (λ (xs : List Endpoint). slice_get xs e) all) ∙ here)))
+    (push_which d.endpoints y e x (sym (ap (λ (xs : List Endpoint). slice_get xs e) all) ∙ here)))
     (same head_block Head (head_run_there d has)) old
 
 chain_fixed : (d : DriverContent) (m : Mem) (desc : EpDesc) (p : Placement) (g : Holding) (bs : List ℕ) → AreTaken (holding d.book m) g (2 ∷ 1 ∷ []) bs → HasOwners d → AreFixed m d → AreFixed (accepted_chain d desc p g (get_or bs 0 0) (get_or bs 1 0)).memory (accepted_chain d desc p g (get_or bs 0 0) (get_or bs 1 0)).driver

@@ -3,9 +3,10 @@ use Rattle.std.proofs.Common.{◌≡◌, ◌≢◌, ℕ, suc, ◌+◌, ◌*◌, 
 use Rattle.std.specs.Prelude.{◌⊎◌, is_none}
 use Rattle.std.proofs.lemmas.Bool.{cases_eq, cases_lt, false≢true}
 use Rattle.std.proofs.lemmas.Option.{same_Some}
-use Rattle.std.proofs.lemmas.List.{get_or-set_other}
+use Rattle.law_driver.proofs.Common.{maybe, among_later}
+use Rattle.law_common.proofs.Lists.{set_here, set_there, append_none}
 use Rattle.usb_base.specs.declared.endpoints.EpDesc.{EpDesc}
-use Rattle.word_mem.specs.Memory.{Mem, IsShaped, word_at, with_word}
+use Rattle.word_mem.specs.Memory.{Mem, IsShaped, word_at}
 use Rattle.word_mem.proofs.Holders.{has_block_from}
 use Rattle.mem_runs.specs.declared.slots.Slot.{Slot}
 use Rattle.mem_runs.specs.declared.slots.Slot.TheVariants.{Empty, Keeps, Lends}
@@ -38,7 +39,7 @@ use Rattle.claims_driver.specs.Owners.{Owner, FrameList, Head, QueueHead, HasBlo
 use Rattle.law_driver.specs.run_owners.Due.{IsDue}
 use Rattle.claims_driver.specs.Leaving.{HasOwners}
 use Rattle.law_driver.proofs.lemmas.run_owners.Orders.{times_both, set_case}
-use Rattle.law_driver.proofs.lemmas.run_owners.Released.{cancel_same, set_here, set_there}
+use Rattle.law_driver.proofs.lemmas.run_owners.Released.{cancel_same}
 use Rattle.law_driver.proofs.lemmas.run_owners.Reasons.{each_event_is_due}
 use Rattle.law_driver.proofs.lemmas.run_owners.Laws.{events_keep_owners}
 use Rattle.law_driver.proofs.lemmas.run_owners.Runs.{placed_run}
@@ -50,7 +51,7 @@ use Rattle.law_driver.proofs.lemmas.ring_members.Stores.{slots_apart, store_else
 use Rattle.law_driver.proofs.lemmas.ring_members.Freed.{LeavesRest, lent_words, rest_qtds, rest_endpoint, rest_descriptor, rest_placed}
 use Rattle.law_driver.proofs.lemmas.ring_members.Placed.{has_first, queue_run, queue_placed, head_run_there, in_ring_alive, left_alive}
 use Rattle.law_driver.proofs.lemmas.ring_members.Harvests.{endpoint_set, harvest_stays, told_stays}
-use Rattle.law_driver.proofs.lemmas.ring_members.Events.{ring_back, first_mend, open_store, unlink_store, publish_store, stands_as, block_of, is_element, not_element, no_more, chain_never, iso_never, unchain_never, begun_members}
+use Rattle.law_driver.proofs.lemmas.ring_members.Events.{ring_back, first_mend, open_store, unlink_store, publish_store, stands_as, block_of, is_element, not_element, chain_never, iso_never, unchain_never, begun_members}
 use Rattle.law_driver.proofs.lemmas.ring_members.Aside.{AreApart as ListApart, IsListApart, list_apart}
 use Rattle.law_driver.proofs.lemmas.ring_members.Lists.{IsApartStore, store_is_apart}
 use Rattle.claims_driver.specs.InPlace.{characteristics, capabilities, IsMet, IsFixed, AreFixed}
@@ -98,10 +99,6 @@ fixed_same m n d e same among words head old =
     head old
 
 -- ---- words of other addresses
-
-maybe : (m : Mem) (at v other : ℕ) (can : Bool) → at / 4 ≢ other / 4 → word_at (cond can (with_word m at v) m) other ≡ word_at m other
-maybe m at v other true differs = get_or-set_other m.words (at / 4) (other / 4) v 0 (λ same. differs (sym same))
-maybe m at v other false differs = refl
 
 -- a store to the first word of a run
 pub first_leaves : (k : Book) (m : Mem) (b c v : ℕ) → FixedStay m (store k m b (32 * b) v) c
@@ -408,10 +405,6 @@ endpoint_fixed p e (Some x) here stands shape after old =
     (λ f a. subst (λ (vs : List ℕ). IsAmong f (d.rung ++ vs)) s.waiting (subst (λ (vs : List ℕ). IsAmong f (vs ++ told.waiting)) s.rung a))
     (λ f y at met. rest_leaves h g y.queue rest (met_run _ f y after at met)) (rest_leaves h g head_block rest (head_run_there _ after)) old
 
-among_later : (f : ℕ) (es fs : List ℕ) → IsAmong f fs → IsAmong f (es ++ fs)
-among_later f [] fs a = a
-among_later f (e ∷ es) fs a = later e (es ++ fs) (among_later f es fs a)
-
 -- what a row stores, where it is a store of a command
 stored_by : Book → Mem → DriverRow → Mem
 stored_by k m (rows.Store b at v) = store k m b at v
@@ -454,7 +447,7 @@ row_fixed (rows.ReleaseEndpoint e) p due stands shape has after apart ring old =
 row_fixed rows.ClearAdvance p due stands shape has after apart ring old =
     fixed_same p.memory p.memory p.driver _ (λ i. refl) (λ f a. among_later f p.driver.rung p.driver.waiting a) (λ f x here met. words_same p.memory p.memory x.queue refl) (words_same p.memory p.memory head_block refl) old
 row_fixed rows.RingBell p due stands shape has after apart ring old =
-    fixed_same p.memory p.memory p.driver _ (λ i. refl) (λ f a. subst (λ (es : List ℕ). IsAmong f es) (no_more (p.driver.rung ++ p.driver.waiting)) a) (λ f x here met. words_same p.memory p.memory x.queue refl) (words_same p.memory p.memory head_block refl) old
+    fixed_same p.memory p.memory p.driver _ (λ i. refl) (λ f a. subst (λ (es : List ℕ). IsAmong f es) (append_none (p.driver.rung ++ p.driver.waiting)) a) (λ f x here met. words_same p.memory p.memory x.queue refl) (words_same p.memory p.memory head_block refl) old
 row_fixed (rows.Harvest e t found) p due stands shape has after apart ring old =
     let s = harvest_stays p.driver p.memory e t found (slice_get p.driver.endpoints e) (slice_get p.driver.transfers t) refl in
     fixed_same p.memory p.memory p.driver (after_driver_row (rows.Harvest e t found) p).driver s.endpoints

@@ -1,5 +1,6 @@
 -- An accepted command leaves all words of the queue heads that there are.
 use Rattle.std.proofs.Common.{◌≡◌, ◌≢◌, ℕ, ◌+◌, ◌-◌, ◌*◌, ◌/◌, ◌<◌, ◌≤◌, false, ◌||◌, List, [], ◌∷◌, length, take, drop, get_or, slice_get, slice_index, Some, option_map, ap, sym, subst, ◌∙◌, arith}
+use Rattle.law_common.proofs.Lists.{drop_first}
 use Rattle.usb_base.specs.declared.endpoints.EpDesc.{EpDesc}
 use Rattle.word_mem.specs.Memory.{Mem, word_at}
 use Rattle.qh_qtd.specs.QueueHead.{qh_words}
@@ -22,7 +23,7 @@ use Rattle.claims_driver.specs.Owners.{Owner, FrameList, Head, QueueHead, Dummy,
 use Rattle.claims_driver.specs.Leaving.{HasOwners}
 use Rattle.law_driver.proofs.lemmas.run_owners.Runs.{placed_run}
 use Rattle.law_driver.proofs.lemmas.run_owners.Taking.{AreTaken, runs_taken}
-use Rattle.law_driver.proofs.lemmas.run_owners.Accepted.{drop_first, fresh_differs}
+use Rattle.law_driver.proofs.lemmas.run_owners.Accepted.{fresh_differs}
 use Rattle.law_driver.proofs.lemmas.ring_members.Stores.{slots_apart, words_elsewhere}
 use Rattle.law_driver.proofs.lemmas.ring_members.Placed.{has_queue, queue_placed}
 use Rattle.law_driver.proofs.lemmas.run_owners.Transferred.{goes_on_alive}

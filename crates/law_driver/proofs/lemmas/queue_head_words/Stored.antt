@@ -1,11 +1,11 @@
 -- What the driver's events store in queue heads.
-use Rattle.std.proofs.Common.{◌≡◌, ◌≢◌, ℕ, zero, suc, ◌+◌, ◌*◌, ◌/◌, ◌<◌, ◌≤◌, Bool, true, false, cond, List, [], ◌∷◌, take, drop, slice_get, slice_index, Option, Some, None, option_map, ap, sym, subst, ◌∙◌, ⊎_elim, inl, inr, refl, arith}
+use Rattle.std.proofs.Common.{◌≡◌, ◌≢◌, ℕ, zero, suc, ◌+◌, ◌*◌, ◌/◌, ◌<◌, ◌≤◌, false, List, [], ◌∷◌, take, drop, slice_get, slice_index, Option, Some, None, option_map, ap, sym, subst, ◌∙◌, ⊎_elim, inl, inr, refl, arith}
 use Rattle.std.specs.Prelude.{◌⊎◌}
 use Rattle.std.specs.List.{AllByRecursion}
 use Rattle.std.proofs.lemmas.Bool.{cases_eq}
 use Rattle.std.proofs.lemmas.Option.{same_Some}
-use Rattle.std.proofs.lemmas.List.{get_or-set_other}
-use Rattle.word_mem.specs.Memory.{Mem, IsShaped, word_at, with_word}
+use Rattle.law_driver.proofs.Common.{maybe, get_drop, all_got}
+use Rattle.word_mem.specs.Memory.{Mem, IsShaped, word_at}
 use Rattle.word_mem.proofs.Holders.{has_block_from}
 use Rattle.mem_runs.specs.Book.{Book, Holding, holding, Stands, IsAt, slot_of, can_store, store}
 use Rattle.mem_runs.specs.declared.slots.Slot.{Slot}
@@ -46,11 +46,11 @@ use Rattle.law_driver.specs.in_place.InPlace.{IsSound}
 use Rattle.law_driver.proofs.lemmas.ring_members.Aside.{AreApart as ListApart, IsListApart, list_apart}
 use Rattle.law_driver.proofs.lemmas.ring_members.Lists.{IsApartStore, store_is_apart}
 use Rattle.law_driver.proofs.lemmas.queue_head_words.Events.{past_list}
-use Rattle.law_driver.proofs.lemmas.ring_members.Links.{LeadsTo, oldest_is, dropped}
+use Rattle.law_driver.proofs.lemmas.ring_members.Links.{LeadsTo, oldest_is}
 use Rattle.law_driver.proofs.lemmas.ring_members.Stores.{slots_apart}
 use Rattle.law_driver.proofs.lemmas.ring_members.Freed.{LeavesRest, lent_words, rest_qtds, rest_endpoint, rest_descriptor, rest_placed}
 use Rattle.law_driver.proofs.lemmas.ring_members.Placed.{has_first, has_queue, queue_placed, queue_run, head_run_there, in_ring_alive}
-use Rattle.law_driver.proofs.lemmas.ring_members.Events.{first_mend, open_store, unlink_store, stands_as, block_of, is_element, not_element, chain_never, iso_never, unchain_never, begun_members, all_got, dropped_get}
+use Rattle.law_driver.proofs.lemmas.ring_members.Events.{first_mend, open_store, unlink_store, stands_as, block_of, is_element, not_element, chain_never, iso_never, unchain_never, begun_members, dropped_get}
 use Rattle.law_driver.specs.queue_head_words.Overlay.{HasQueueHead, of_ring, of_endpoint, stored_address, IsMendOf, StoresAt, LeavesWord}
 
 -- ---- where a queue head lies
@@ -102,7 +102,7 @@ oldest_run : (d : DriverContent) (n : ℕ) → HasOwners d → HasRun (slot_of d
 oldest_run d n has =
     ⊎_elim (λ (head : oldest_of (drop n d.endpoints) ≡ head_block). subst (λ k. HasRun (slot_of d.book.slots k)) (sym head) (head_run_there d has))
     (λ (l : LeadsTo (drop n d.endpoints) (oldest_of (drop n d.endpoints))).
-    let at : slice_get d.endpoints (n + l.number) ≡ Some l.endpoint = sym (dropped d.endpoints n l.number) ∙ l.here in
+    let at : slice_get d.endpoints (n + l.number) ≡ Some l.endpoint = sym (get_drop d.endpoints n l.number) ∙ l.here in
     subst (λ k. HasRun (slot_of d.book.slots k)) l.queue (queue_run d (n + l.number) l.endpoint has at (in_ring_alive d (n + l.number) l.endpoint has.orderly at l.linked)))
     (oldest_is (drop n d.endpoints))
 
@@ -189,10 +189,6 @@ stores_are_links_and_mends p b at sound there low high is =
     row_stores (driver_row p) p b at (each_event_is_due p) sound.stands sound.owners (list_apart p.driver p.memory sound.stands sound.shape sound.owners sound.listed) sound.ring there low high is
 
 -- ---- what any event leaves
-
-maybe : (m : Mem) (at v other : ℕ) (can : Bool) → at / 4 ≢ other / 4 → word_at (cond can (with_word m at v) m) other ≡ word_at m other
-maybe m at v other true differs = get_or-set_other m.words (at / 4) (other / 4) v 0 (λ same. differs (sym same))
-maybe m at v other false differs = refl
 
 store_apart : (k : Book) (m : Mem) (q at v other : ℕ) → at / 4 ≢ other / 4 → word_at (store k m q at v) other ≡ word_at m other
 store_apart k m q at v other differs = maybe m at v other (can_store (slot_of k.slots q) at) differs

@@ -3,6 +3,8 @@ use Rattle.std.proofs.Common.{◌≡◌, ℕ, Bool, true, false, ◌&&◌, cond,
 use Rattle.std.specs.Prelude.{map, option_and_then}
 use Rattle.std.proofs.lemmas.Bool.{false≢true}
 use Rattle.std.proofs.lemmas.List.{length-map, map-append, map-set}
+use Rattle.law_driver.proofs.Common.{control_kind as control_not_iso, control_told, of_queue, ring_queue, kind_in_ring, get_queued}
+use Rattle.law_common.proofs.Booleans.{both_parts}
 use Rattle.usb_base.specs.declared.endpoints.EpName.{EpName}
 use Rattle.usb_base.specs.declared.reports.OfferError.{OfferError}
 use Rattle.usb_base.specs.declared.reports.OfferError.TheVariants as errors
@@ -17,14 +19,14 @@ use Rattle.drv_table.specs.declared.content.Transfer.{Transfer}
 use Rattle.drv_table.specs.declared.content.QtdNote.{QtdNote}
 use Rattle.drv_table.specs.DriverContent.{DriverContent, is_same_way}
 use Rattle.drv_table.specs.Kinds.{is_iso}
-use Rattle.drv_table.specs.Words.{needs, is_control}
+use Rattle.drv_table.specs.Words.{needs}
 use Rattle.drv_table.specs.Accepting.{Offered, take_runs}
 use Rattle.drv_table.specs.Offers.{Asked, accepted_transfer, taken_transfer, open_transfer, found_transfer, offered_transfer, with_queued, new_transfer, is_queued, takes_get, takes_put, takes_control}
 use Rattle.claims_driver.specs.Owners.{is_descriptor}
 use Rattle.law_driver.proofs.lemmas.chained_transfers.Ways.{same_in, same_out}
-use Rattle.law_driver.specs.queued_drivers.Queued.{queued_kind, with_queue, queued_endpoint, sort_of_queue, queued_transfer, queued_command, queued, IsOfWay, FitsKind}
+use Rattle.law_driver.specs.queued_drivers.Queued.{queued_kind, with_queue, queued_endpoint, sort_of_queue, queued_transfer, queued_command, queued, FitsKind}
 use Rattle.law_driver.specs.queued_drivers.Commands.{told_of, TransfersAreOfQueues}
-use Rattle.law_driver.proofs.lemmas.queued_drivers.CommandFields.{of_queue, ring_queue, kind_in_ring, named_same, get_queued, transfers_set}
+use Rattle.law_driver.proofs.lemmas.queued_drivers.CommandFields.{named_same, transfers_set}
 use Rattle.law_driver.proofs.lemmas.queued_drivers.CommandReasons.{IsTakenOn}
 
 -- ---- what it makes
@@ -99,17 +101,9 @@ transfers_are_of_queues d m o w =
 
 -- ---- which endpoints take it
 
-both_parts : (a b : Bool) → a && b ≡ true → (a ≡ true) × (b ≡ true)
-both_parts true b f = (refl, f)
-both_parts false b f = absurd (false≢true f)
-
 queued_not_iso : (k : EpKind) → is_queued k ≡ true → is_iso k ≡ false
 queued_not_iso kinds.Iso is = absurd (false≢true is)
 queued_not_iso _ is = refl
-
-control_not_iso : (k : EpKind) → is_control k ≡ true → is_iso k ≡ false
-control_not_iso kinds.Iso is = absurd (false≢true is)
-control_not_iso _ is = refl
 
 pub gets_alike : (x : Endpoint) → takes_get x ≡ true → (is_iso x.desc.kind ≡ false) × (takes_get (with_queue x) ≡ true)
 gets_alike x is =
@@ -121,15 +115,5 @@ puts_alike x is =
     let b = both_parts (is_queued x.desc.kind) (is_same_way x.desc.name.way ways.Out) is in
     (queued_not_iso x.desc.kind b.0, ap (λ (w : Way). is_queued (queued_kind w) && is_same_way w ways.Out) (same_out x.desc.name.way b.1))
 
-control_kind : (way : Way) (k : EpKind) → IsOfWay way k → is_control k ≡ true → is_control (queued_kind way) ≡ true
-control_kind ways.Ctl k fits is = refl
-control_kind ways.In kinds.Bulk fits is = absurd (false≢true is)
-control_kind ways.In kinds.Interrupt fits is = absurd (false≢true is)
-control_kind ways.In kinds.Iso fits is = absurd (false≢true is)
-control_kind ways.Out kinds.Bulk fits is = absurd (false≢true is)
-control_kind ways.Out kinds.Interrupt fits is = absurd (false≢true is)
-control_kind ways.Out kinds.Iso fits is = absurd (false≢true is)
-control_kind _ kinds.Control fits is = absurd fits
-
 pub requests_alike : (x : Endpoint) → FitsKind x.desc → takes_control x ≡ true → (is_iso x.desc.kind ≡ false) × (takes_control (with_queue x) ≡ true)
-requests_alike x fits is = (control_not_iso x.desc.kind is, control_kind x.desc.name.way x.desc.kind fits is)
+requests_alike x fits is = (control_not_iso x.desc.kind is, control_told x.desc.name.way x.desc.kind fits is)

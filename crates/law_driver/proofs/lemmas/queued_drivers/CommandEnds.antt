@@ -3,6 +3,8 @@ use Rattle.std.proofs.Common.{◌≡◌, ℕ, zero, suc, ◌%◌, Bool, true, co
 use Rattle.std.specs.Prelude.{map, ◌+◌}
 use Rattle.std.specs.List.{AllByRecursion}
 use Rattle.std.proofs.lemmas.List.{append-nil, append_assoc, map-append, map-set}
+use Rattle.law_driver.proofs.Common.{of_none, get_queued}
+use Rattle.law_common.proofs.Lists.{set_same}
 use Rattle.usb_base.specs.declared.endpoints.EpDesc.{EpDesc}
 use Rattle.word_mem.specs.Memory.{Mem}
 use Rattle.mem_runs.specs.Book.{Book}
@@ -18,7 +20,7 @@ use Rattle.claims_driver.specs.Leaving.{IsOrderly}
 use Rattle.law_driver.specs.run_owners.Accepts.{Places}
 use Rattle.law_driver.specs.queued_drivers.Queued.{without_queue, queued_endpoint, sort_of_queue, queued_transfer, queued_command, queued}
 use Rattle.law_driver.specs.queued_drivers.Commands.{QueuesAlike, IsEndOpened, IsGivenBackOf, AreEndsTaken}
-use Rattle.law_driver.proofs.lemmas.queued_drivers.CommandFields.{of_none, set_same, get_queued, sorts_set, transfers_set, transfers_pushed}
+use Rattle.law_driver.proofs.lemmas.queued_drivers.CommandFields.{sorts_set, transfers_set, transfers_pushed}
 use Rattle.law_driver.proofs.lemmas.queued_drivers.CommandReasons.{IsDescribedAs}
 
 -- ---- an open

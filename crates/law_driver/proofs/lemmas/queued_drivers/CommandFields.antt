@@ -1,34 +1,24 @@
 -- What the endpoints, the transfers and the names of a driver are, as its queues tell them.
-use Rattle.std.proofs.Common.{◌≡◌, ◌≢◌, ℕ, zero, suc, ◌<◌, Bool, true, false, not, cond, nat_lt, List, [], ◌∷◌, ◌++◌, length, set, slice_get, Some, None, option_map, ap, ap₂, sym, ◌∙◌, ⊎_elim, refl, arith, length-append}
+use Rattle.std.proofs.Common.{◌≡◌, ◌≢◌, ℕ, zero, suc, ◌<◌, Bool, true, false, not, cond, nat_lt, List, [], ◌∷◌, ◌++◌, length, set, slice_get, Some, None, ap, ap₂, sym, ◌∙◌, ⊎_elim, refl, arith, length-append}
 use Rattle.std.specs.Prelude.{map, position, ◌-◌, ◌+◌}
 use Rattle.std.specs.List.{prefix_len}
-use Rattle.std.proofs.lemmas.Bool.{false≢true, cases_eq}
-use Rattle.std.proofs.lemmas.Option.{slice_get-map, same_Some}
+use Rattle.std.proofs.lemmas.Bool.{cases_eq}
 use Rattle.std.proofs.lemmas.List.{length-map}
+use Rattle.law_common.proofs.Lists.{set_here, set_there}
 use Rattle.usb_base.specs.declared.endpoints.EpDesc.{EpDesc}
 use Rattle.usb_base.specs.declared.endpoints.EpName.{EpName}
-use Rattle.usb_base.specs.declared.packets.EpKind.{EpKind}
-use Rattle.usb_base.specs.declared.packets.EpKind.TheVariants as kinds
 use Rattle.usb_base.specs.declared.packets.Way.{Way}
 use Rattle.usb_base.specs.declared.packets.Way.TheVariants as ways
-use Rattle.drv_periodic_table.specs.Periodic.{is_periodic}
 use Rattle.drv_table.specs.declared.content.Endpoint.{Endpoint}
 use Rattle.drv_table.specs.declared.content.Transfer.{Transfer}
 use Rattle.drv_table.specs.declared.content.Sort.{Sort}
 use Rattle.drv_table.specs.DriverContent.{DriverContent, is_same_name, endpoint_of}
 use Rattle.drv_table.specs.Kinds.{is_iso}
 use Rattle.claims_driver.specs.Owners.{is_descriptor}
-use Rattle.law_driver.proofs.lemmas.run_owners.Released.{set_here, set_there}
 use Rattle.claims_driver.specs.Scripts.{IsAsynchronous, IsKindOf}
 use Rattle.law_driver.specs.queued_drivers.Queued.{queued_kind, queued_desc, without_queue, with_queue, queued_endpoint, sort_of_queue, queued_transfer, queued}
 
 -- ---- an endpoint
-
-pub of_queue : (x : Endpoint) → is_iso x.desc.kind ≡ false → queued_endpoint x ≡ with_queue x
-of_queue x is = ap (λ (b : Bool). cond b (without_queue x) (with_queue x)) is
-
-pub of_none : (x : Endpoint) → is_iso x.desc.kind ≡ true → queued_endpoint x ≡ without_queue x
-of_none x is = ap (λ (b : Bool). cond b (without_queue x) (with_queue x)) is
 
 pub desc_same : (x : Endpoint) → (queued_endpoint x).desc ≡ queued_desc x.desc
 desc_same x = by (is_iso x.desc.kind)
@@ -47,29 +37,7 @@ kind_of_way _ = refl
 pub desc_asynchronous : (x : EpDesc) → IsAsynchronous (queued_desc x)
 desc_asynchronous x = record { kind = kind_of_way x.name.way; speed = refl }
 
-pub kind_in_ring : (way : Way) → is_periodic (queued_kind way) ≡ false
-kind_in_ring ways.In = refl
-kind_in_ring _ = refl
-
-pub ring_queue : (k : EpKind) → is_periodic k ≡ false → is_iso k ≡ false
-ring_queue kinds.Iso is = absurd (false≢true (sym is))
-ring_queue _ is = refl
-
-pub iso_frames : (k : EpKind) → is_iso k ≡ true → is_periodic k ≡ true
-iso_frames kinds.Iso is = refl
-iso_frames _ is = absurd (false≢true is)
-
 -- ---- lists
-
-pub set_again : {X : Type 0} (xs : List X) (e : ℕ) (x y : X) → set (set xs e x) e y ≡ set xs e y
-set_again [] e x y = refl
-set_again (z ∷ zs) zero x y = refl
-set_again (z ∷ zs) (suc e) x y = ap (λ (rest : List _). z ∷ rest) (set_again zs e x y)
-
-pub set_same : {X : Type 0} (xs : List X) (e : ℕ) (x : X) → slice_get xs e ≡ Some x → set xs e x ≡ xs
-set_same [] e x here = refl
-set_same (z ∷ zs) zero x here = ap (λ (y : _). y ∷ zs) (sym (same_Some z x here))
-set_same (z ∷ zs) (suc e) x here = ap (λ (rest : List _). z ∷ rest) (set_same zs e x here)
 
 pub push_get : {X : Type 0} (xs ys : List X) (n : ℕ) → n < length xs → slice_get (xs ++ ys) n ≡ slice_get xs n
 push_get [] ys n low = absurd (omega arith)
@@ -98,9 +66,6 @@ position_same f p q same xs =
 
 pub named_same : (d : DriverContent) (name : EpName) → endpoint_of (queued d) name ≡ endpoint_of d name
 named_same d name = position_same queued_endpoint _ (λ (x : Endpoint). is_same_name x.desc.name name) (λ x. ap (λ (n : EpName). is_same_name n name) (name_same x)) d.endpoints
-
-pub get_queued : (xs : List Endpoint) (e : ℕ) (x : Endpoint) → slice_get xs e ≡ Some x → slice_get (map queued_endpoint xs) e ≡ Some (queued_endpoint x)
-get_queued xs e x here = slice_get-map queued_endpoint xs e ∙ ap (option_map queued_endpoint) here
 
 -- ---- transfers
 

@@ -1,10 +1,11 @@
 -- A driver whose transfers take turns still does so with an endpoint more that was given back, and with transfers more of such an endpoint.
-use Rattle.std.proofs.Common.{◌≡◌, ℕ, zero, suc, ◌<◌, true, false, List, [], ◌∷◌, ◌++◌, length, slice_get, Option, Some, None, option_map, ap, sym, subst, ◌∙◌, ⊎_elim, inl, inr, refl, arith, length-append}
+use Rattle.std.proofs.Common.{◌≡◌, ℕ, suc, ◌<◌, true, false, List, [], ◌∷◌, ◌++◌, length, slice_get, Option, Some, None, option_map, ap, sym, subst, ◌∙◌, ⊎_elim, refl, arith, length-append}
 use Rattle.std.specs.Prelude.{◌⊎◌}
 use Rattle.std.specs.List.{AllByRecursion}
 use Rattle.std.proofs.lemmas.Bool.{false≢true}
 use Rattle.std.proofs.lemmas.List.{append-nil, append_assoc}
 use Rattle.std.proofs.lemmas.Option.{slice_get_within, same_Some}
+use Rattle.law_common.proofs.Lists.{push_which, pushed_there}
 use Rattle.mem_runs.specs.Book.{Book, slot_of}
 use Rattle.drv_periodic_table.specs.Periodic.{PeriodicContent}
 use Rattle.drv_table.specs.declared.content.Reserve.{Reserve}
@@ -22,7 +23,7 @@ use Rattle.law_driver.specs.chained_transfers.AsynchronousTurns.{AsynchronousTak
 use Rattle.law_driver.specs.chained_transfers.Chains.{NoneFrom, AreChained}
 use Rattle.law_driver.specs.chained_transfers.Turns.{Turn, turn_of, turn_in, AreReportedTo, AreTurns}
 use Rattle.law_driver.proofs.lemmas.chained_transfers.Moves.{moves_same, descs_push}
-use Rattle.law_driver.proofs.lemmas.chained_transfers.Chained.{endpoint_chained, within_list, pushed_there}
+use Rattle.law_driver.proofs.lemmas.chained_transfers.Chained.{endpoint_chained, within_list}
 use Rattle.law_driver.proofs.lemmas.queued_drivers.CommandFields.{push_get}
 
 -- ---- what turns don't tell
@@ -64,13 +65,6 @@ turns_within d r t y there = by (slice_get d.transfers t) refl there
     by None is f = absurd (cc)
     by (Some z) is f = subst (λ (k : Turn). k.endpoint < length d.endpoints) (same_Some (turn_of z) y f) (move_within d r t z is)
 
-pub pushed_which : {X : Type 0} (xs : List X) (x : X) (n : ℕ) (z : X) → slice_get (xs ++ x ∷ []) n ≡ Some z → (slice_get xs n ≡ Some z) ⊎ ((n ≡ length xs) × (z ≡ x))
-pushed_which [] x zero z here = inr (refl, sym (same_Some x z here))
-pushed_which [] x (suc n) z here = absurd (cc)
-pushed_which (y ∷ ys) x zero z here = inl here
-pushed_which (y ∷ ys) x (suc n) z here =
-    ⊎_elim (λ (was : slice_get ys n ≡ Some z). inl was) (λ (new : (n ≡ length ys) × (z ≡ x)). inr (ap suc new.0, new.1)) (pushed_which ys x n z here)
-
 -- ---- an endpoint more
 
 pub end_turns : (d : DriverContent) (x : Endpoint) → d.command ≡ None → StandsAsynchronous x → x.next ≡ None → AsynchronousTakesTurns d → AsynchronousTakesTurns (record d { endpoints = d.endpoints ++ x ∷ [] })
@@ -82,7 +76,7 @@ end_turns d x idle stands none old =
     record {
       asynchronous = record {
         endpoints = λ e z here. ⊎_elim (λ (was : slice_get d.endpoints e ≡ Some z). r.endpoints e z was)
-            (λ (new : (e ≡ length d.endpoints) × (z ≡ x)). subst (λ (y : Endpoint). StandsAsynchronous y) (sym new.1) stands) (pushed_which d.endpoints x e z here);
+            (λ (new : (e ≡ length d.endpoints) × (z ≡ x)). subst (λ (y : Endpoint). StandsAsynchronous y) (sym new.1) stands) (push_which d.endpoints x e z here);
         moves = moves_same d _ (descs_push d.endpoints x) r.moves;
         command = r.command;
         leaver = λ e z is here. let no : None ≡ Some e = sym (ap leaver idle) ∙ is in absurd (cc);
@@ -99,7 +93,7 @@ end_turns d x idle stands none old =
           next = λ e z here goes. ⊎_elim (λ (was : slice_get d.endpoints e ≡ Some z). s.next e z was goes)
               (λ (new : (e ≡ length d.endpoints) × (z ≡ x)).
               subst (λ (o : Option ℕ). AreReportedTo v e o) (sym (ap (λ (y : Endpoint). y.next) new.1 ∙ none))
-              (λ u y there of_e. let low = turns_within d r u y there in absurd (omega (arith, low, of_e, new.0)))) (pushed_which d.endpoints x e z here);
+              (λ u y there of_e. let low = turns_within d r u y there in absurd (omega (arith, low, of_e, new.0)))) (push_which d.endpoints x e z here);
           owed = λ t y z there here. s.owed t y z there (sym (at t y there) ∙ here);
           order = s.order;
         };
@@ -236,7 +230,7 @@ module _ (d : DriverContent) (e : ℕ) (x : Endpoint) (y : Transfer) (at : IsGiv
           moves = λ t z there. ⊎_elim (λ (was : slice_get d.transfers t ≡ Some z). let m = r.moves t z was in record { endpoint = m.endpoint; here = m.here; sort = m.sort })
               (λ (new : (t ≡ length d.transfers) × (z ≡ y)).
               record { endpoint = x; here = ap (λ (w : Transfer). slice_get d.endpoints w.endpoint) new.1 ∙ (ap (slice_get d.endpoints) is.endpoint ∙ at.here); sort = ap (λ (w : Transfer). w.sort) new.1 ∙ is.sort })
-              (pushed_which d.transfers y t z there);
+              (push_which d.transfers y t z there);
           command = r.command;
           leaver = r.leaver;
           unlinks = r.unlinks;
@@ -245,7 +239,7 @@ module _ (d : DriverContent) (e : ℕ) (x : Endpoint) (y : Transfer) (at : IsGiv
         chained = given_chained;
         turns = record {
           places = λ t z there held. ⊎_elim (λ (was : slice_get d.transfers t ≡ Some z). old.turns.places t z was held)
-              (λ (new : (t ≡ length d.transfers) × (z ≡ y)). absurd (false≢true (sym held ∙ (ap (λ (w : Transfer). w.released) new.1 ∙ is.released)))) (pushed_which d.transfers y t z there);
+              (λ (new : (t ≡ length d.transfers) × (z ≡ y)). absurd (false≢true (sym held ∙ (ap (λ (w : Transfer). w.released) new.1 ∙ is.released)))) (push_which d.transfers y t z there);
           turns = given_order;
           returned = λ t a z there here gone. ⊎_elim (λ (was : turn_in d.transfers t ≡ Some a). old.turns.returned t a z was here gone)
               (λ (new : IsIt t a). record { released = released_it t a new; told = λ on. reported_it t a new }) (turn_which t a there);

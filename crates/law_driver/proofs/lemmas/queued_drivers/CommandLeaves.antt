@@ -2,6 +2,8 @@
 use Rattle.std.proofs.Common.{◌≡◌, ℕ, Bool, true, false, cond, List, set, slice_get, ◌-◌, Option, Some, None, Result, Ok, Err, unwrap_or, ap, ap₂, sym, subst, ◌∙◌, inl, inr, refl}
 use Rattle.std.specs.Prelude.{◌⊎◌, map, is_some, is_none, option_and_then}
 use Rattle.std.proofs.lemmas.List.{map-set}
+use Rattle.law_common.proofs.Lists.{set_here, set_again, set_same}
+use Rattle.law_driver.proofs.Common.{of_queue, of_none, ring_queue, get_queued}
 use Rattle.usb_base.specs.declared.commands.Cmd.TheVariants as commands
 use Rattle.usb_base.specs.declared.endpoints.EpName.{EpName}
 use Rattle.usb_base.specs.declared.endpoints.EndCause.TheVariants as causes
@@ -21,10 +23,9 @@ use Rattle.drv_table.specs.CancelOffers.{first_end, accepted_cancel, with_cancel
 use Rattle.drv_table.specs.Offers.{offered}
 use Rattle.claims_driver.specs.Leaving.{IsOrderly}
 use Rattle.law_driver.specs.run_owners.Accepts.{Cancels, Unchains}
-use Rattle.law_driver.proofs.lemmas.run_owners.Released.{set_here}
 use Rattle.law_driver.specs.queued_drivers.Queued.{with_queue, queued_endpoint, queued_transfer, queued_command, queued_made, queued}
 use Rattle.law_driver.specs.queued_drivers.Commands.{QueuesAlike, unlink_of, left_queue, IsQueueLeft, IsEndLeft}
-use Rattle.law_driver.proofs.lemmas.queued_drivers.CommandFields.{of_queue, of_none, ring_queue, set_again, set_same, named_same, get_queued, transfers_set}
+use Rattle.law_driver.proofs.lemmas.queued_drivers.CommandFields.{named_same, transfers_set}
 use Rattle.law_driver.proofs.lemmas.queued_drivers.CommandOpens.{idle_offers}
 
 abbrev pub cancelled : Endpoint → Endpoint

@@ -2,6 +2,7 @@
 use Rattle.std.proofs.Common.{◌≡◌, ℕ, ◌<◌, Bool, true, false, cond, List, [], ◌∷◌, ◌++◌, length, slice_get, slice_index, Option, Some, None, Ok, Err, ap, ap₂, sym, subst, ◌∙◌, refl}
 use Rattle.std.specs.Prelude.{◌-◌, map, is_some, option_and_then}
 use Rattle.std.proofs.lemmas.List.{map-append}
+use Rattle.law_driver.proofs.Common.{kind_in_ring, ring_queue}
 use Rattle.usb_base.specs.declared.commands.Cmd.TheVariants as commands
 use Rattle.usb_base.specs.declared.endpoints.EpDesc.{EpDesc}
 use Rattle.usb_base.specs.declared.reports.OfferError.TheVariants as errors
@@ -24,7 +25,7 @@ use Rattle.claims_driver.specs.Leaving.{IsOrderly}
 use Rattle.law_driver.specs.run_owners.Accepts.{Opens, Chains}
 use Rattle.law_driver.specs.queued_drivers.Queued.{queued_desc, without_queue, queued_endpoint, queued_transfer, queue_of, queued_command, queued}
 use Rattle.law_driver.specs.queued_drivers.Commands.{opened_queue, IsQueueOpened}
-use Rattle.law_driver.proofs.lemmas.queued_drivers.CommandFields.{kind_in_ring, ring_queue, last_get, named_same, transfers_pushed}
+use Rattle.law_driver.proofs.lemmas.queued_drivers.CommandFields.{last_get, named_same, transfers_pushed}
 
 -- ---- a driver that isn't busy
 

@@ -4,6 +4,7 @@ use Rattle.std.specs.Prelude.{option_and_then, is_some, position, count_by}
 use Rattle.std.proofs.lemmas.Bool.{false≢true}
 use Rattle.std.proofs.lemmas.Option.{slice_get-get_or}
 use Rattle.std.proofs.lemmas.List.Quantifiers.{position-Some}
+use Rattle.law_driver.proofs.Common.{ok_is}
 use Rattle.usb_base.specs.declared.endpoints.EpDesc.{EpDesc}
 use Rattle.usb_base.specs.declared.endpoints.EpName.{EpName}
 use Rattle.usb_base.specs.declared.endpoints.EndCause.{EndCause}
@@ -32,9 +33,6 @@ use Rattle.drv_table.specs.Offers.{Asked, placed_open, planned_open, taken_open,
 use Rattle.drv_table.specs.IsoOffers.{total_of, iso_needs, all_descriptors, entered_iso, slots_of, spans_too_long, has_slots, taken_iso, open_iso, offered_iso}
 use Rattle.drv_table.specs.CancelOffers.{cancelled_by, offered_cancel}
 use Rattle.law_driver.specs.run_owners.Accepts.{Opens, Chains, Places, Cancels, Unchains}
-
-ok_is : (o p : Offered) → ◌≡◌ {A = Result Offered OfferError} (Ok o) (Ok p) → p ≡ o
-ok_is o p e = cc
 
 -- ---- what it comes to
 

@@ -3,6 +3,7 @@ use Rattle.std.proofs.Common.{◌≡◌, ℕ, true, false, List, [], ◌∷◌, 
 use Rattle.std.proofs.lemmas.Bool.{false≢true}
 use Rattle.std.proofs.lemmas.List.{append-nil}
 use Rattle.std.proofs.lemmas.Option.{same_Some}
+use Rattle.law_common.proofs.Lists.{set_here, push_which}
 use Rattle.usb_base.specs.declared.commands.Cmd.{Cmd}
 use Rattle.usb_base.specs.declared.commands.Cmd.TheVariants as commands
 use Rattle.usb_base.specs.declared.endpoints.EpDesc.{EpDesc}
@@ -18,13 +19,11 @@ use Rattle.drv_table.specs.Accepting.{Offered, first_waiting, new_runs}
 use Rattle.drv_table.specs.Offers.{Asked, new_endpoint, placed_endpoint, with_queued, new_transfer, accepted_transfer}
 use Rattle.drv_table.specs.IsoOffers.{Descriptors}
 use Rattle.claims_driver.specs.Leaving.{IsOrderly}
-use Rattle.law_driver.proofs.lemmas.run_owners.Released.{set_here}
 use Rattle.law_driver.proofs.lemmas.chained_transfers.Rows.{ends_set}
 use Rattle.law_driver.specs.queued_drivers.Queued.{FitsKind}
 use Rattle.law_driver.specs.queued_drivers.Commands.{OpensFitting}
 use Rattle.law_driver.proofs.lemmas.queued_drivers.CommandReasons.{IsNew, in_ring, in_frames, bare, IsTakenOn, IsDescribedAs, IsLeft, from_ring, from_frames, IsReasonOf}
 use Rattle.law_driver.proofs.lemmas.queued_drivers.CommandEnds.{described_more}
-use Rattle.law_driver.proofs.lemmas.queued_drivers.CommandGiven.{pushed_which}
 use Rattle.law_driver.proofs.lemmas.queued_drivers.CommandLeaves.{cancelled, Left, unchained}
 
 -- ---- endpoints
@@ -37,7 +36,7 @@ abbrev pub AllFit : List Endpoint → Type 0
 AllFit xs = (e : ℕ) (x : Endpoint) → slice_get xs e ≡ Some x → IsFit x
 
 fit_push : (xs : List Endpoint) (x : Endpoint) → IsFit x → AllFit xs → AllFit (xs ++ x ∷ [])
-fit_push xs x one all e z here = ⊎_elim (λ (was : slice_get xs e ≡ Some z). all e z was) (λ (new : (e ≡ length xs) × (z ≡ x)). subst IsFit (sym new.1) one) (pushed_which xs x e z here)
+fit_push xs x one all e z here = ⊎_elim (λ (was : slice_get xs e ≡ Some z). all e z was) (λ (new : (e ≡ length xs) × (z ≡ x)). subst IsFit (sym new.1) one) (push_which xs x e z here)
 
 -- ---- all else
 

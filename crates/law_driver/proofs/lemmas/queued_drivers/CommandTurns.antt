@@ -1,28 +1,27 @@
 -- An accepted command is one of the driver's queues, and leaves their transfers in turn.
-use Rattle.std.proofs.Common.{◌≡◌, ℕ, zero, suc, ◌≤◌, ◌==◌, Bool, true, false, cond, List, [], ◌∷◌, length, slice_get, Option, Some, None, Ok, Err, ap, sym, subst, ◌∙◌, ⊎_elim, inl, inr, refl, arith}
-use Rattle.std.specs.Prelude.{◌⊎◌, is_some}
+use Rattle.std.proofs.Common.{◌≡◌, ℕ, Bool, true, false, List, [], ◌∷◌, length, slice_get, Some, None, ap, sym, subst, ◌∙◌, ⊎_elim, inl, inr, refl, arith}
+use Rattle.std.specs.Prelude.{◌⊎◌}
 use Rattle.std.specs.List.{AllByRecursion}
 use Rattle.std.proofs.lemmas.List.{length-map}
-use Rattle.std.proofs.lemmas.Option.{slice_get_within, same_Some}
+use Rattle.std.proofs.lemmas.Option.{slice_get_within}
+use Rattle.law_driver.proofs.Common.{times_of, busy_idle, of_none, get_queued}
 use Rattle.usb_base.specs.declared.commands.Cmd.{Cmd}
 use Rattle.usb_base.specs.declared.commands.Cmd.TheVariants as commands
 use Rattle.usb_base.specs.declared.endpoints.EpDesc.{EpDesc}
 use Rattle.usb_base.specs.declared.endpoints.EpName.{EpName}
-use Rattle.usb_base.specs.declared.reports.OfferError.TheVariants as errors
 use Rattle.word_mem.specs.Memory.{Mem}
 use Rattle.mem_runs.specs.Book.{holding, Stands}
 use Rattle.drv_periodic_table.specs.Periodic.{is_periodic}
 use Rattle.drv_table.specs.declared.content.Endpoint.{Endpoint}
 use Rattle.drv_table.specs.declared.content.Transfer.{Transfer}
-use Rattle.drv_table.specs.declared.content.Command.{Command}
 use Rattle.drv_table.specs.DriverContent.{DriverContent}
 use Rattle.drv_table.specs.Kinds.{is_iso}
 use Rattle.drv_table.specs.Releases.{ended_by_cancel}
 use Rattle.drv_table.specs.Accepting.{Offered}
-use Rattle.drv_table.specs.Offers.{placed_endpoint, takes_get, takes_put, takes_control, offered_next}
+use Rattle.drv_table.specs.Offers.{placed_endpoint, takes_get, takes_put, takes_control}
 use Rattle.drv_table.specs.CancelOffers.{accepted_cancel}
-use Rattle.claims_driver.specs.Leaving.{IsOrderly, leaver, times, HasOwners}
-use Rattle.law_driver.proofs.lemmas.run_owners.Orders.{owed, one_same}
+use Rattle.claims_driver.specs.Leaving.{IsOrderly, leaver, HasOwners}
+use Rattle.law_driver.proofs.lemmas.run_owners.Orders.{owed}
 use Rattle.law_driver.specs.chained_transfers.Bulk.{IsBulkCommand, IsToUnlink, sort_by}
 use Rattle.law_driver.specs.chained_transfers.Asynchronous.{StandsAsynchronous}
 use Rattle.law_driver.specs.chained_transfers.AsynchronousTurns.{AsynchronousTakesTurns}
@@ -31,7 +30,7 @@ use Rattle.law_driver.proofs.lemmas.chained_transfers.Commands.{commands_keep_as
 use Rattle.law_driver.specs.queued_drivers.Queued.{without_queue, queued_endpoint, queued_desc, sort_of_queue, queued_command, queued, QueuesTakeTurns}
 use Rattle.law_driver.specs.queued_drivers.Commands.{opened_queue, told_of, IsQueueOpened, IsEndOpened, IsGivenBackOf, AreEndsTaken, unlink_of, IsQueueLeft, IsEndLeft, QueuesAccept, CommandsAreOfQueues, QueuesHaveOwners, CommandsKeepQueues}
 use Rattle.law_driver.proofs.lemmas.queued_drivers.CommandReasons.{IsNew, in_ring, in_frames, bare, IsLeft, from_ring, from_frames, get_of, put_of, request_of, IsReasonOf, reason_of}
-use Rattle.law_driver.proofs.lemmas.queued_drivers.CommandFields.{of_none, name_same, desc_asynchronous, push_get, get_queued}
+use Rattle.law_driver.proofs.lemmas.queued_drivers.CommandFields.{name_same, desc_asynchronous, push_get}
 use Rattle.law_driver.proofs.lemmas.queued_drivers.CommandOpens.{idle_offers, opens_are_of_queues, chains_are_of_queues}
 use Rattle.law_driver.proofs.lemmas.queued_drivers.CommandAsks.{taken_alike, gets_alike, puts_alike, requests_alike}
 use Rattle.law_driver.proofs.lemmas.queued_drivers.CommandEnds.{end_opened, ends_taken}
@@ -81,21 +80,9 @@ commands_are_of_queues d m cmd o order old is = accepts d m o order old cmd (rea
 
 -- ---- what holds before it
 
-busy_idle : (d : DriverContent) (m : Mem) (cmd : Cmd) (o : Offered) (c : Option Command) → d.command ≡ c → cond (is_some c) (Err errors.Busy) (offered_next d m cmd) ≡ Ok o → c ≡ None
-busy_idle d m cmd o (Some c) is f = absurd (cc)
-busy_idle d m cmd o None is f = refl
-
--- what is to be given back is there
-times_in : (hs : List ℕ) (i u : ℕ) → slice_get hs i ≡ Some u → 1 ≤ times u hs
-times_in [] i u here = absurd (cc)
-times_in (h ∷ hs) zero u here =
-    let is : h ≡ u = same_Some h u here in
-    let one : cond (h == u) 1 0 ≡ 1 = ap (λ (n : ℕ). cond (n == u) 1 0) is ∙ one_same u in omega (arith, one)
-times_in (h ∷ hs) (suc i) u here = let rest = times_in hs i u here in omega (arith, rest)
-
 pub listed : (d : DriverContent) → IsOrderly d → AreListed d.harvested (length d.transfers)
 listed d order i u here =
-    let y = owed d.transfers u (slice_get d.transfers u) refl (omega (arith, times_in d.harvested i u here, order.harvests u)) in
+    let y = owed d.transfers u (slice_get d.transfers u) refl (omega (arith, times_of d.harvested i u here, order.harvests u)) in
     slice_get_within d.transfers u y.transfer y.there
 
 -- ---- turns

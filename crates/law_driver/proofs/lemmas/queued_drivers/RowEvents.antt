@@ -2,6 +2,8 @@
 use Rattle.std.proofs.Common.{◌≡◌, ◌≢◌, ℕ, zero, suc, Bool, true, false, not, cond, nat_le, nat_lt, List, [], ◌∷◌, ◌++◌, length, map, set, take, drop, slice_get, Option, Some, None, option_map, ap, ap₂, sym, ◌∙◌, inl, refl}
 use Rattle.std.proofs.lemmas.List.{map-set}
 use Rattle.std.proofs.lemmas.Option.{slice_get-map}
+use Rattle.law_driver.proofs.Common.{others_wait}
+use Rattle.law_driver.proofs.Common.{ring_queue, of_queue as queue_told}
 use Rattle.usb_base.specs.declared.reports.What.TheVariants as lines
 use Rattle.word_mem.specs.Memory.{Mem}
 use Rattle.mem_runs.specs.Book.{Book, Holding, holding, lend_taken, store}
@@ -28,13 +30,12 @@ use Rattle.claims_driver.specs.Leaving.{IsOrderly, HasOwners}
 use Rattle.law_driver.specs.run_owners.Due.{IsNextOf, IsHarvestDue, IsDue}
 use Rattle.law_driver.proofs.lemmas.run_owners.Harvest.{waits_is}
 use Rattle.law_driver.proofs.lemmas.run_owners.Leaves.{first_left}
-use Rattle.law_driver.proofs.lemmas.run_owners.Rows.{not_iso}
 use Rattle.law_driver.specs.chained_transfers.Bulk.{IsBulkCommand}
 use Rattle.law_driver.proofs.lemmas.chained_transfers.Ways.{found_by}
 use Rattle.law_driver.proofs.lemmas.chained_transfers.Harvested.{not_served}
 use Rattle.law_driver.specs.queued_drivers.Queued.{with_queue, queued_endpoint, queued_transfer, queued_command, queued_made, queued, queued_parts, QueuesTakeTurns}
 use Rattle.law_driver.specs.queued_drivers.Rows.{IsOfQueues, IsToldAlike}
-use Rattle.law_driver.proofs.lemmas.queued_drivers.RowLists.{queue_told, transfer_told, queue_at, moves_at, transfers_stay, endpoints_set, command_stays, lists_told, HasNoDescriptors, told_test, others_wait, others_held, all_go_told}
+use Rattle.law_driver.proofs.lemmas.queued_drivers.RowLists.{transfer_told, queue_at, moves_at, transfers_stay, endpoints_set, command_stays, lists_told, HasNoDescriptors, told_test, others_held, all_go_told}
 use Rattle.law_driver.proofs.lemmas.queued_drivers.RowHarvests.{harvest_row_told}
 
 -- ---- transfers of an endpoint with a queue
@@ -84,14 +85,14 @@ module _ (e : ℕ) (x : Endpoint) (ring : is_periodic x.desc.kind ≡ false) whe
   gone_told : queued_endpoint (record x { gone = true }) ≡ record (with_queue x) { gone = true }
   gone_told =
       let z : Endpoint = record x { gone = true } in
-      queue_told z (not_iso x.desc.kind ring)
+      queue_told z (ring_queue x.desc.kind ring)
       ∙ ap (λ (b : Bool). record (with_queue z) { linked = cond b false x.linked }) ring
       ∙ sym (ap (λ (b : Bool). record (with_queue x) { gone = true; linked = cond b (not x.gone) x.linked }) ring)
 
   off_told : queued_endpoint (record x { linked = false }) ≡ record (with_queue x) { linked = false }
   off_told =
       let z : Endpoint = record x { linked = false } in
-      queue_told z (not_iso x.desc.kind ring) ∙ ap (λ (b : Bool). record (with_queue x) { linked = cond b (not x.gone) false }) ring
+      queue_told z (ring_queue x.desc.kind ring) ∙ ap (λ (b : Bool). record (with_queue x) { linked = cond b (not x.gone) false }) ring
 
   linked_told : (with_queue x).linked ≡ x.linked
   linked_told = ap (λ (b : Bool). cond b (not x.gone) x.linked) ring
@@ -115,7 +116,8 @@ module _ (e : ℕ) (x : Endpoint) (ring : is_periodic x.desc.kind ≡ false) whe
       ∙ ap (λ (f : DriverContent). record (queued_parts p) { driver = f; memory = h.memory }) (by (is_told x))
       ∙ ap₂ (λ (bs : List ℕ) (g : Holding). record (queued_parts p) { driver = gone_with (tell (is_told x) (queued p.driver) bs) e (with_queue x) (is_told x) g.book; memory = g.memory })
       (sym (bytes_told d.endpoints d.notes p.memory e x.queue d.transfers none)) (sym (freed_told d.endpoints d.notes e (free_runs (holding d.book p.memory) (x.queue ∷ x.dummy ∷ [])) d.transfers none))
-      ∙ sym (ap (λ (o : Option Endpoint). after_endpoint (queued_parts p) e o) (queue_at d.endpoints e x here (not_iso x.desc.kind ring)))
+      ∙ sym (ap (λ (o : Option Endpoint). after_endpoint (queued_parts p) e o)
+      (queue_at d.endpoints e x here (ring_queue x.desc.kind ring)))
     where
       d : DriverContent
       d = p.driver
@@ -174,7 +176,7 @@ left_told : (d : DriverContent) (e : ℕ) (o : Option Endpoint) → slice_get d.
 left_told d e None here ring = sym (ap (leave_ring (no_command (queued d)) e) (slice_get-map queued_endpoint d.endpoints e ∙ ap (option_map queued_endpoint) here))
 left_told d e (Some x) here ring =
     by x.linked
-    ∙ sym (ap (leave_ring (no_command (queued d)) e) (queue_at d.endpoints e x here (not_iso x.desc.kind off))
+    ∙ sym (ap (leave_ring (no_command (queued d)) e) (queue_at d.endpoints e x here (ring_queue x.desc.kind off))
     ∙ ap (λ (b : Bool). cond b (record (no_command (queued d)) { waiting = d.waiting ++ e ∷ []; endpoints = set (map queued_endpoint d.endpoints) e (record (with_queue x) { linked = false }) }) (no_command (queued d))) (linked_told e x off))
   where
     off : is_periodic x.desc.kind ≡ false
@@ -302,7 +304,7 @@ row_told (rows.ReleaseEndpoint e) p owners old due of_queue =
     let l = first_left e due.first owners.orderly in
     record {
       due = record { idle = idle_told p.driver due.idle; first = due.first; none_before = due.none_before };
-      same = endpoint_row_told e l.endpoint l.ring p l.here (no_descriptors p.driver e l.endpoint l.here (not_iso l.endpoint.desc.kind l.ring) owners.orderly);
+      same = endpoint_row_told e l.endpoint l.ring p l.here (no_descriptors p.driver e l.endpoint l.here (ring_queue l.endpoint.desc.kind l.ring) owners.orderly);
     }
 row_told rows.ClearAdvance p owners old due of_queue = record { due = (idle_told p.driver due.0, due.1); same = refl }
 row_told rows.RingBell p owners old due of_queue = record { due = (idle_told p.driver due.0, due.1); same = refl }

@@ -3,6 +3,8 @@ use Rattle.std.proofs.Common.{◌≡◌, ◌≢◌, ℕ, zero, suc, ◌-◌, ◌
 use Rattle.std.specs.Prelude.{is_none}
 use Rattle.std.proofs.lemmas.Bool.{false≢true}
 use Rattle.std.proofs.lemmas.Option.{same_Some}
+use Rattle.law_driver.proofs.Common.{none_made, of_none}
+use Rattle.law_common.proofs.Lists.{map_set_same}
 use Rattle.usb_base.specs.declared.reports.What.TheVariants as lines
 use Rattle.word_mem.specs.Memory.{Mem}
 use Rattle.mem_runs.specs.Book.{Book, Holding, holding, lend_taken}
@@ -38,7 +40,7 @@ use Rattle.law_driver.proofs.lemmas.run_owners.Harvest.{waits_is}
 use Rattle.law_driver.proofs.lemmas.run_owners.Orders.{one_same, removed_first}
 use Rattle.law_driver.specs.queued_drivers.Queued.{without_queue, queued_endpoint, queued_transfer, queue_of, queued_command, queued_made, queued, QueuesTakeTurns}
 use Rattle.law_driver.specs.queued_drivers.Rows.{QueuesAlike, TellsAlike, FinishesChain, LinksOn, IsLentAlike, IsFinishedAlike, IsOfFrames, LeavesQueues}
-use Rattle.law_driver.proofs.lemmas.queued_drivers.RowLists.{none_told, descriptor_told, returned_descriptor, transfers_stay, command_stays, map_set_same, map_same, map_both}
+use Rattle.law_driver.proofs.lemmas.queued_drivers.RowLists.{descriptor_told, returned_descriptor, transfers_stay, command_stays, map_same, map_both}
 
 -- ---- contents that tell the same
 
@@ -141,10 +143,6 @@ busy_idle d c command idle = let e : ◌≡◌ {A = Option Command} None (Some c
 some_made : (n : ℕ) → 1 ≤ n → queued_made (Some unfinished.Chain) n ≡ 1
 some_made zero some = absurd (omega (arith, some))
 some_made (suc n) some = refl
-
-none_made : (n : ℕ) → slice_get (events_of unfinished.Chain) n ≡ Some rows.Lend → n ≡ 0
-none_made zero next = refl
-none_made (suc n) next = absurd (cc)
 
 pub chain_lends_agree : (p : Parts) → IsDue p rows.Lend → LinksOn p rows.Lend → IsLentAlike p
 chain_lends_agree p due on = record {
@@ -356,7 +354,7 @@ module _ (d : DriverContent) (e : ℕ) (x : Endpoint) (here : slice_get d.endpoi
       by false waits = refl
 
   iso_told : (z : Endpoint) → z.desc ≡ x.desc → without_queue z ≡ without_queue x → queued_endpoint z ≡ queued_endpoint x
-  iso_told z same bare = none_told z (ap (λ k. is_iso k) (ap (λ r. r.kind) same) ∙ iso) ∙ bare ∙ sym (none_told x iso)
+  iso_told z same bare = of_none z (ap (λ k. is_iso k) (ap (λ r. r.kind) same) ∙ iso) ∙ bare ∙ sym (of_none x iso)
 
   all_go : (told : Bool) → map (queued_transfer (set d.endpoints e (record x { gone = true }))) (map (let_go_placed (is_iso x.desc.kind) e told) d.transfers) ≡ map (queued_transfer d.endpoints) d.transfers
   all_go told =

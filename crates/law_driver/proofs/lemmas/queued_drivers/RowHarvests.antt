@@ -3,14 +3,13 @@ use Rattle.std.proofs.Common.{◌≡◌, ◌≢◌, ℕ, zero, suc, ◌-◌, Boo
 use Rattle.std.proofs.lemmas.Bool.{cases_Bool, false≢true}
 use Rattle.std.proofs.lemmas.List.{map-set}
 use Rattle.std.proofs.lemmas.Option.{slice_get-map}
+use Rattle.law_driver.proofs.Common.{others_wait}
+use Rattle.law_driver.proofs.Common.{same_control, of_queue}
 use Rattle.usb_base.specs.declared.endpoints.EpName.{EpName}
 use Rattle.usb_base.specs.declared.endpoints.EpDesc.{EpDesc}
 use Rattle.usb_base.specs.declared.endpoints.EndCause.{EndCause}
 use Rattle.usb_base.specs.declared.endpoints.EndCause.TheVariants as causes
 use Rattle.usb_base.specs.declared.packets.EpKind.{EpKind}
-use Rattle.usb_base.specs.declared.packets.EpKind.TheVariants as kinds
-use Rattle.usb_base.specs.declared.packets.Way.{Way}
-use Rattle.usb_base.specs.declared.packets.Way.TheVariants as ways
 use Rattle.usb_base.specs.declared.reports.What.{What}
 use Rattle.usb_base.specs.declared.reports.What.TheVariants as lines
 use Rattle.word_mem.specs.Memory.{Mem}
@@ -25,20 +24,10 @@ use Rattle.drv_table.specs.Harvests.{note_at, end_of, is_stall, moved_bytes, rep
 use Rattle.drv_table.specs.Kinds.{is_iso}
 use Rattle.drv_table.specs.Harvesting.{served, moved_on, told_with, goes_on, behind_one, behind, mends_of, stalled, after_end, harvested_as, after_harvest}
 use Rattle.claims_driver.specs.Owners.{is_descriptor}
-use Rattle.law_driver.specs.queued_drivers.Queued.{queued_kind, with_queue, queued_endpoint, queued_transfer, queued_command, queued, FitsKind, IsOfWay}
-use Rattle.law_driver.proofs.lemmas.queued_drivers.RowLists.{queue_told, transfer_told, queue_at, transfer_at, moves_at, transfers_stay, endpoints_set, command_stays, with_told, lists_told, HasNoDescriptors, waits_told, others_wait, next_told, transfers_many, none_set}
+use Rattle.law_driver.specs.queued_drivers.Queued.{queued_kind, with_queue, queued_endpoint, queued_transfer, queued_command, queued, FitsKind}
+use Rattle.law_driver.proofs.lemmas.queued_drivers.RowLists.{transfer_told, queue_at, transfer_at, moves_at, transfers_stay, endpoints_set, command_stays, with_told, lists_told, HasNoDescriptors, waits_told, next_told, transfers_many, none_set}
 
 -- ---- how the endpoint ends
-
-same_control : (way : Way) (k : EpKind) → IsOfWay way k → is_control (queued_kind way) ≡ is_control k
-same_control ways.Ctl k fits = ap is_control (sym fits)
-same_control ways.In kinds.Iso fits = refl
-same_control ways.In kinds.Bulk fits = refl
-same_control ways.In kinds.Interrupt fits = refl
-same_control ways.Out kinds.Iso fits = refl
-same_control ways.Out kinds.Bulk fits = refl
-same_control ways.Out kinds.Interrupt fits = refl
-same_control _ kinds.Control fits = absurd fits
 
 end_by : (k l : EpKind) (what : What) → is_control k ≡ is_control l → end_of k what ≡ end_of l what
 end_by k l (lines.Halt causes.Stall) same = ap (λ (b : Bool). cond b None (Some causes.Stall)) same
@@ -113,7 +102,7 @@ module _ (e t : ℕ) (x : Endpoint) (queue : is_iso x.desc.kind ≡ false) where
   goes_told : (d : DriverContent) → slice_get d.endpoints e ≡ Some x → HasNoDescriptors e d.transfers → queued (goes_on d e t x) ≡ goes_on (queued d) e t (with_queue x)
   goes_told d here none =
       let z : Endpoint = record x { next = next_after d.transfers e t } in
-      ends_told d (record (queued d) { harvested = d.harvested ++ t ∷ [] }) z (record (with_queue x) { next = next_after d.transfers e t }) here refl refl (queue_told z queue)
+      ends_told d (record (queued d) { harvested = d.harvested ++ t ∷ [] }) z (record (with_queue x) { next = next_after d.transfers e t }) here refl refl (of_queue z queue)
       ∙ ap (λ (n : Option ℕ). record (queued d) { harvested = d.harvested ++ t ∷ []; endpoints = set (map queued_endpoint d.endpoints) e (record (with_queue x) { next = n }) }) (sym (next_told d.endpoints e t d.transfers none))
 
   stall_told : (d : DriverContent) → slice_get d.endpoints e ≡ Some x → HasNoDescriptors e d.transfers → queued (stalled d e t x) ≡ stalled (queued d) e t (with_queue x)
@@ -122,14 +111,14 @@ module _ (e t : ℕ) (x : Endpoint) (queue : is_iso x.desc.kind ≡ false) where
       let begun : DriverContent = record d { harvested = d.harvested ++ t ∷ []; endpoints = set d.endpoints e z; mends = d.mends ++ mends_of x } in
       behind_told e x.desc.name (length d.transfers - suc t) begun (suc t) none
       ∙ ap (λ (f : DriverContent). behind f e x.desc.name (suc t) (length d.transfers - suc t))
-      (ends_told d (record (queued d) { harvested = d.harvested ++ t ∷ []; mends = d.mends ++ mends_of x }) z (record (with_queue x) { next = None }) here refl refl (queue_told z queue))
+      (ends_told d (record (queued d) { harvested = d.harvested ++ t ∷ []; mends = d.mends ++ mends_of x }) z (record (with_queue x) { next = None }) here refl refl (of_queue z queue))
       ∙ ap (λ (n : ℕ). behind (record (queued d) { harvested = d.harvested ++ t ∷ []; endpoints = set (map queued_endpoint d.endpoints) e (record (with_queue x) { next = None }); mends = d.mends ++ mends_of x }) e x.desc.name (suc t) (n - suc t))
       (sym (transfers_many d.endpoints d.transfers))
 
   after_told : (d : DriverContent) (stall : Bool) (o : Option EndCause) → slice_get d.endpoints e ≡ Some x → HasNoDescriptors e d.transfers → queued (after_end d e t x stall o) ≡ after_end (queued d) e t (with_queue x) stall o
   after_told d stall (Some cause) here none =
       let z : Endpoint = record x { ended = Some cause } in
-      ends_told d (queued d) z (record (with_queue x) { ended = Some cause }) here refl refl (queue_told z queue)
+      ends_told d (queued d) z (record (with_queue x) { ended = Some cause }) here refl refl (of_queue z queue)
   after_told d true None here none = stall_told d here none
   after_told d false None here none = goes_told d here none
 

@@ -4,6 +4,10 @@ use Rattle.std.proofs.lemmas.Bool.{cases_eq, cases_Bool, false≢true}
 use Rattle.std.proofs.lemmas.List.{map-set, drop-map, length-set}
 use Rattle.std.proofs.lemmas.Option.{slice_get-map, same_Some}
 use Rattle.std.specs.List.{position, position_or_len}
+use Rattle.law_driver.proofs.Common.{others_wait}
+use Rattle.law_driver.proofs.Common.{of_queue, get_queued}
+use Rattle.law_common.proofs.Numbers.{other_number}
+use Rattle.law_common.proofs.Lists.{set_here, set_there}
 use Rattle.usb_base.specs.declared.endpoints.EpDesc.{EpDesc}
 use Rattle.drv_table.specs.declared.content.Endpoint.{Endpoint}
 use Rattle.drv_table.specs.declared.content.Transfer.{Transfer}
@@ -14,17 +18,10 @@ use Rattle.drv_table.specs.DriverContent.{DriverContent, waits_for, next_after}
 use Rattle.drv_table.specs.Kinds.{is_iso}
 use Rattle.drv_table.specs.Releases.{is_held_of, let_go}
 use Rattle.claims_driver.specs.Owners.{is_descriptor}
-use Rattle.law_driver.proofs.lemmas.run_owners.Released.{other_number, set_here, set_there}
 use Rattle.law_driver.specs.chained_transfers.Bulk.{sort_by}
-use Rattle.law_driver.specs.queued_drivers.Queued.{without_queue, with_queue, queued_endpoint, sort_of_queue, queued_transfer, queue_of, queued_command}
+use Rattle.law_driver.specs.queued_drivers.Queued.{with_queue, queued_endpoint, sort_of_queue, queued_transfer, queue_of, queued_command}
 
 -- ---- what each tells
-
-pub queue_told : (x : Endpoint) → is_iso x.desc.kind ≡ false → queued_endpoint x ≡ with_queue x
-queue_told x queue = ap (λ (b : Bool). cond b (without_queue x) (with_queue x)) queue
-
-pub none_told : (x : Endpoint) → is_iso x.desc.kind ≡ true → queued_endpoint x ≡ without_queue x
-none_told x iso = ap (λ (b : Bool). cond b (without_queue x) (with_queue x)) iso
 
 -- the descriptor as it is told
 abbrev pub returned_descriptor : List Endpoint → Transfer → Transfer
@@ -36,11 +33,8 @@ transfer_told xs y moves = ap (λ (b : Bool). cond b (returned_descriptor xs y) 
 pub descriptor_told : (xs : List Endpoint) (y : Transfer) → is_descriptor y.sort ≡ true → queued_transfer xs y ≡ returned_descriptor xs y
 descriptor_told xs y is = ap (λ (b : Bool). cond b (returned_descriptor xs y) y) is
 
-pub endpoint_at : (xs : List Endpoint) (e : ℕ) (x : Endpoint) → slice_get xs e ≡ Some x → slice_get (map queued_endpoint xs) e ≡ Some (queued_endpoint x)
-endpoint_at xs e x here = slice_get-map queued_endpoint xs e ∙ ap (option_map queued_endpoint) here
-
 pub queue_at : (xs : List Endpoint) (e : ℕ) (x : Endpoint) → slice_get xs e ≡ Some x → is_iso x.desc.kind ≡ false → slice_get (map queued_endpoint xs) e ≡ Some (with_queue x)
-queue_at xs e x here queue = endpoint_at xs e x here ∙ ap (λ (z : Endpoint). Some z) (queue_told x queue)
+queue_at xs e x here queue = get_queued xs e x here ∙ ap (λ (z : Endpoint). Some z) (of_queue x queue)
 
 pub transfer_at : (xs : List Endpoint) (ts : List Transfer) (t : ℕ) (y : Transfer) → slice_get ts t ≡ Some y → slice_get (map (queued_transfer xs) ts) t ≡ Some (queued_transfer xs y)
 transfer_at xs ts t y there = slice_get-map (queued_transfer xs) ts t ∙ ap (option_map (queued_transfer xs)) there
@@ -103,15 +97,6 @@ with_told f xs ts c = record f { endpoints = xs; transfers = ts; command = c }
 pub lists_told : (f : DriverContent) (xs ys : List Endpoint) (ts us : List Transfer) (c k : Option Command) → ys ≡ xs → us ≡ ts → k ≡ c → with_told f ys us k ≡ with_told f xs ts c
 lists_told f xs ys ts us c k one two three = ap (λ (zs : List Endpoint). with_told f zs us k) one ∙ ap (λ (vs : List Transfer). with_told f xs vs k) two ∙ ap (λ (j : Option Command). with_told f xs ts j) three
 
--- .. into one that is told as before
-set_same : {X : Type 0} (xs : List X) (e : ℕ) (x : X) → slice_get xs e ≡ Some x → set xs e x ≡ xs
-set_same [] e x here = refl
-set_same (w ∷ xs) zero x here = ap (λ v. v ∷ xs) (sym (same_Some w x here))
-set_same (w ∷ xs) (suc e) x here = ap (λ ys. w ∷ ys) (set_same xs e x here)
-
-pub map_set_same : {X Y : Type 0} (f : X → Y) (xs : List X) (e : ℕ) (x z : X) → slice_get xs e ≡ Some x → f z ≡ f x → map f (set xs e z) ≡ map f xs
-map_set_same f xs e x z here same = map-set f xs e z ∙ ap (λ v. set (map f xs) e v) same ∙ set_same (map f xs) e (f x) (slice_get-map f xs e ∙ ap (option_map f) here)
-
 pub map_same : {X Y : Type 0} (f g : X → Y) (xs : List X) → ((i : ℕ) (x : X) → slice_get xs i ≡ Some x → g x ≡ f x) → map g xs ≡ map f xs
 map_same f g [] same = refl
 map_same f g (x ∷ xs) same = ap (λ y. y ∷ map g xs) (same 0 x refl) ∙ ap (λ ys. f x ∷ ys) (map_same f g xs (λ i z here. same (suc i) z here))
@@ -135,9 +120,6 @@ told_test xs e y test other others none = ⊎_elim
     let differs : y.endpoint ≢ e = λ at. false≢true (sym (none at) ∙ is) in
     ap test (descriptor_told xs y is) ∙ others (returned_descriptor xs y) differs ∙ sym (others y differs))
     (λ (moves : is_descriptor y.sort ≡ false). ap test (transfer_told xs y moves)) (cases_Bool (is_descriptor y.sort))
-
-pub others_wait : (e : ℕ) (z : Transfer) → z.endpoint ≢ e → waits_for e z ≡ false
-others_wait e z differs = ap (λ (b : Bool). b && not z.reported) (other_number z.endpoint e differs)
 
 pub others_held : (e : ℕ) (z : Transfer) → z.endpoint ≢ e → is_held_of e z ≡ false
 others_held e z differs = ap (λ (b : Bool). b && not z.released) (other_number z.endpoint e differs)

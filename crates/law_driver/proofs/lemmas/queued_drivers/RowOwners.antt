@@ -3,8 +3,10 @@ use Rattle.std.proofs.Common.{◌≡◌, ◌≢◌, ℕ, zero, suc, ◌+◌, ◌
 use Rattle.std.specs.Prelude.{is_some}
 use Rattle.std.proofs.lemmas.Bool.{cases_Bool, false≢true}
 use Rattle.std.proofs.lemmas.Option.{same_Some, slice_get-map}
+use Rattle.law_driver.proofs.Common.{kind_in_ring, ring_queue, of_queue, of_none}
+use Rattle.law_common.proofs.Numbers.{leaves_none}
+use Rattle.law_common.proofs.Booleans.{not_not}
 use Rattle.usb_base.specs.declared.packets.Way.{Way}
-use Rattle.usb_base.specs.declared.packets.Way.TheVariants as ways
 use Rattle.drv_periodic_table.specs.Periodic.{is_periodic}
 use Rattle.drv_table.specs.declared.content.Endpoint.{Endpoint}
 use Rattle.drv_table.specs.declared.content.Transfer.{Transfer}
@@ -15,21 +17,16 @@ use Rattle.drv_table.specs.Kinds.{is_iso}
 use Rattle.claims_driver.specs.Owners.{Owner, EndpointRuns, TransferRuns, runs_of_endpoint, runs_of_transfer, endpoint_in, transfer_in, is_descriptor, IsPlaced, QueueHead, Dummy, views_of, IsOwned}
 use Rattle.claims_driver.specs.Leaving.{times, owes, leaves_ring, IsSteady, leaver, IsOrderly, HasOwners}
 use Rattle.law_driver.proofs.lemmas.run_owners.Orders.{none_other}
-use Rattle.law_driver.proofs.lemmas.run_owners.Rows.{not_iso}
 use Rattle.claims_driver.specs.LentRuns.{still_lends, AreLent}
 use Rattle.law_driver.proofs.lemmas.chained_transfers.Ways.{sort_queued}
 use Rattle.law_driver.specs.queued_drivers.Queued.{queued_kind, without_queue, with_queue, queued_endpoint, sort_of_queue, queued_transfer, queued_command, queued_made, queued, QueuesTakeTurns}
 use Rattle.law_driver.specs.queued_drivers.Rows.{LendsNoDescriptors}
-use Rattle.law_driver.proofs.lemmas.queued_drivers.RowLists.{queue_told, none_told, transfer_told, descriptor_told, returned_descriptor, mapped, endpoints_many}
+use Rattle.law_driver.proofs.lemmas.queued_drivers.RowLists.{transfer_told, descriptor_told, returned_descriptor, mapped, endpoints_many}
 
 -- ---- what the queues tell has no frames
 
-queued_ring : (way : Way) → is_periodic (queued_kind way) ≡ false
-queued_ring ways.In = refl
-queued_ring _ = refl
-
 queued_not_iso : (way : Way) → is_iso (queued_kind way) ≡ false
-queued_not_iso way = not_iso (queued_kind way) (queued_ring way)
+queued_not_iso way = ring_queue (queued_kind way) (kind_in_ring way)
 
 sort_no_descriptor : (o : Option Endpoint) → is_descriptor (sort_of_queue o) ≡ false
 sort_no_descriptor None = refl
@@ -38,8 +35,8 @@ sort_no_descriptor (Some x) = sort_queued x.desc.name.way
 -- by what an endpoint is
 endpoint_either : (P : Endpoint → Type 0) (x : Endpoint) → (is_iso x.desc.kind ≡ true → P (without_queue x)) → (is_iso x.desc.kind ≡ false → P (with_queue x)) → P (queued_endpoint x)
 endpoint_either P x none queue = ⊎_elim
-    (λ (iso : is_iso x.desc.kind ≡ true). subst P (sym (none_told x iso)) (none iso))
-    (λ (off : is_iso x.desc.kind ≡ false). subst P (sym (queue_told x off)) (queue off)) (cases_Bool (is_iso x.desc.kind))
+    (λ (iso : is_iso x.desc.kind ≡ true). subst P (sym (of_none x iso)) (none iso))
+    (λ (off : is_iso x.desc.kind ≡ false). subst P (sym (of_queue x off)) (queue off)) (cases_Bool (is_iso x.desc.kind))
 
 transfer_either : (P : Transfer → Type 0) (xs : List Endpoint) (y : Transfer) → (is_descriptor y.sort ≡ true → P (returned_descriptor xs y)) → (is_descriptor y.sort ≡ false → P y) → P (queued_transfer xs y)
 transfer_either P xs y none moves = ⊎_elim
@@ -130,28 +127,19 @@ ring_either P false true c frames ring = ring_at c frames ring
 ring_either P false false true frames ring = frames refl
 ring_either P false false false frames ring = ring refl
 
-leaves_none : (a b c : Bool) → c ≡ true → ◌≡◌ {A = ℕ} (cond (a || b || c) 0 1) 0
-leaves_none true b c is = refl
-leaves_none false true c is = refl
-leaves_none false false c is = ap (λ (k : Bool). cond k 0 1) is
-
 leaving_told : (xs : List Endpoint) (n : ℕ) (o : Option Endpoint) → n ≤ leaves_ring o → n ≤ leaves_ring (option_map queued_endpoint o)
 leaving_told xs n None few = few
 leaving_told xs n (Some x) few = ⊎_elim
     (λ (frames : is_periodic x.desc.kind ≡ true). let none = leaves_none x.linked x.gone (is_periodic x.desc.kind) frames in omega (arith, none, few))
     (λ (ring : is_periodic x.desc.kind ≡ false).
     let same : leaves_ring (Some (queued_endpoint x)) ≡ leaves_ring (Some x) =
-    ap (λ (w : Endpoint). leaves_ring (Some w)) (queue_told x (not_iso x.desc.kind ring))
+    ap (λ (w : Endpoint). leaves_ring (Some w)) (of_queue x (ring_queue x.desc.kind ring))
     ∙ ap (λ (b : Bool). cond (cond b (not x.gone) x.linked || x.gone || is_periodic (queued_kind x.desc.name.way)) 0 1) ring
-    ∙ ap (λ (b : Bool). cond (x.linked || x.gone || b) 0 1) (queued_ring x.desc.name.way ∙ sym ring) in
+    ∙ ap (λ (b : Bool). cond (x.linked || x.gone || b) 0 1) (kind_in_ring x.desc.name.way ∙ sym ring) in
     omega (arith, same, few)) (cases_Bool (is_periodic x.desc.kind))
 
 out_of_both : (x : Endpoint) → IsSteady x → x.gone ≡ true → is_some x.ended ≡ true
 out_of_both x s gone = let o = s.gone gone in s.ended o.0 o.1
-
-not_not : (b : Bool) → not b ≡ false → b ≡ true
-not_not true off = refl
-not_not false off = sym off
 
 steady_told : (x : Endpoint) → IsSteady x → IsSteady (queued_endpoint x)
 steady_told x s = endpoint_either IsSteady x
@@ -160,25 +148,25 @@ steady_told x s = endpoint_either IsSteady x
       gone = λ gone. (refl, refl);
       ring = λ linked. absurd (false≢true linked);
       frames = λ chained. absurd (false≢true chained);
-      placed = sym (queued_ring x.desc.name.way);
+      placed = sym (kind_in_ring x.desc.name.way);
     })
     (λ queue. ⊎_elim
     (λ (frames : is_periodic x.desc.kind ≡ true).
     subst (λ (b : Bool). IsSteady (record (with_queue x) { linked = cond b (not x.gone) x.linked })) (sym frames) (record {
       ended = λ linked chained. out_of_both x s (not_not x.gone linked);
       gone = λ gone. (ap not gone, refl);
-      ring = λ linked. queued_ring x.desc.name.way;
+      ring = λ linked. kind_in_ring x.desc.name.way;
       frames = λ chained. absurd (false≢true chained);
-      placed = sym (queued_ring x.desc.name.way);
+      placed = sym (kind_in_ring x.desc.name.way);
     }))
     (λ (ring : is_periodic x.desc.kind ≡ false).
     let out : x.chained ≡ false = ⊎_elim (λ (on : x.chained ≡ true). absurd (false≢true (sym ring ∙ s.frames on))) (λ (off : x.chained ≡ false). off) (cases_Bool x.chained) in
     subst (λ (b : Bool). IsSteady (record (with_queue x) { linked = cond b (not x.gone) x.linked })) (sym ring) (record {
       ended = λ linked chained. s.ended linked out;
       gone = λ gone. ((s.gone gone).0, refl);
-      ring = λ linked. queued_ring x.desc.name.way;
+      ring = λ linked. kind_in_ring x.desc.name.way;
       frames = λ chained. absurd (false≢true chained);
-      placed = sym (queued_ring x.desc.name.way);
+      placed = sym (kind_in_ring x.desc.name.way);
     })) (cases_Bool (is_periodic x.desc.kind)))
 
 leaver_told : (xs : List Endpoint) (c : Option Command) (e : ℕ) → leaver (queued_command xs c) ≡ Some e → leaver c ≡ Some e

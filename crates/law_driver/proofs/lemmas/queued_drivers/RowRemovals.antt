@@ -1,8 +1,10 @@
 -- An interrupt endpoint that left its frames is given back: its queue goes as one that had left the ring.
-use Rattle.std.proofs.Common.{◌≡◌, ℕ, zero, suc, Bool, true, false, not, cond, List, [], ◌∷◌, ◌++◌, map, set, slice_get, Option, Some, None, ap, sym, subst, ◌∙◌, ⊎_elim, refl, arith}
+use Rattle.std.proofs.Common.{◌≡◌, ℕ, Bool, true, false, not, cond, List, [], ◌∷◌, ◌++◌, map, set, slice_get, Option, Some, None, ap, sym, subst, ◌∙◌, ⊎_elim, refl, arith}
 use Rattle.std.specs.Prelude.{is_some}
 use Rattle.std.proofs.lemmas.Bool.{cases_Bool, false≢true}
 use Rattle.std.proofs.lemmas.Option.{same_Some}
+use Rattle.law_common.proofs.Lists.{set_again, set_here}
+use Rattle.law_driver.proofs.Common.{of_queue}
 use Rattle.usb_base.specs.declared.reports.What.TheVariants as lines
 use Rattle.mem_runs.specs.Book.{Book, Holding, holding}
 use Rattle.drv_periodic_table.specs.Periodic.{is_periodic}
@@ -20,7 +22,6 @@ use Rattle.drv_table.specs.Rows.{after_driver_row}
 use Rattle.claims_driver.specs.Leaving.{leaver, IsOrderly, HasOwners}
 use Rattle.law_driver.specs.run_owners.Due.{IsRemovalDue, IsDue}
 use Rattle.claims_driver.specs.Owners.{views_of}
-use Rattle.law_driver.proofs.lemmas.run_owners.Released.{set_here}
 use Rattle.law_driver.proofs.lemmas.run_owners.Orders.{IsRemoved, times_push}
 use Rattle.law_driver.proofs.lemmas.run_owners.Leaves.{first_removed, leave_orderly}
 use Rattle.law_driver.proofs.lemmas.run_owners.Stays.{stays_same, stays_owned, endpoint_stays, StaysPlaced}
@@ -34,14 +35,9 @@ use Rattle.law_driver.proofs.lemmas.chained_transfers.Moves.{descs_set, moves_sa
 use Rattle.law_driver.proofs.lemmas.chained_transfers.Rows.{no_leaver, ends_set}
 use Rattle.law_driver.specs.queued_drivers.Queued.{with_queue, queued_endpoint, queued_transfer, queued_command, queued, queued_parts, QueuesTakeTurns}
 use Rattle.law_driver.specs.queued_drivers.Rows.{QueuesAlike, TellsAlike, out_by, out_of_frames, IsGivenBackAlike}
-use Rattle.law_driver.proofs.lemmas.queued_drivers.RowLists.{queue_told, queue_at, endpoints_set, transfers_stay, command_stays, HasNoDescriptors, all_go_told}
+use Rattle.law_driver.proofs.lemmas.queued_drivers.RowLists.{queue_at, endpoints_set, transfers_stay, command_stays, HasNoDescriptors, all_go_told}
 use Rattle.law_driver.proofs.lemmas.queued_drivers.RowEvents.{no_descriptors, freed_told, bytes_told, idle_told}
 use Rattle.law_driver.proofs.lemmas.queued_drivers.RowOwners.{queued_owned, queued_orderly}
-
-set_twice : {X : Type 0} (xs : List X) (e : ℕ) (x y : X) → set (set xs e x) e y ≡ set xs e y
-set_twice [] e x y = refl
-set_twice (z ∷ xs) zero x y = refl
-set_twice (z ∷ xs) (suc e) x y = ap (λ ys. z ∷ ys) (set_twice xs e x y)
 
 module _ (p : Parts) (e : ℕ) (x : Endpoint) (owners : HasOwners p.driver) (old : QueuesTakeTurns p.driver) (due : IsRemovalDue p (removed.Endpoint e)) (here : slice_get p.driver.endpoints e ≡ Some x) (queue : is_iso x.desc.kind ≡ false) where
   abbrev d : DriverContent
@@ -170,8 +166,8 @@ module _ (p : Parts) (e : ℕ) (x : Endpoint) (owners : HasOwners p.driver) (old
   ends_same =
       let z : Endpoint = record x { gone = true } in
       endpoints_set d.endpoints e x z (record (with_queue x) { linked = false; gone = true }) here
-      (queue_told z queue ∙ ap (λ (b : Bool). record (with_queue x) { linked = cond b false x.linked; gone = true }) frames)
-      ∙ sym (set_twice (map queued_endpoint d.endpoints) e out_now (record (with_queue x) { linked = false; gone = true }))
+      (of_queue z queue ∙ ap (λ (b : Bool). record (with_queue x) { linked = cond b false x.linked; gone = true }) frames)
+      ∙ sym (set_again (map queued_endpoint d.endpoints) e out_now (record (with_queue x) { linked = false; gone = true }))
 
   moves_same_now : map (queued_transfer (set p.driver.endpoints e (record x { gone = true }))) (map (let_go_placed (is_iso x.desc.kind) e (is_told x)) p.driver.transfers) ≡ map (let_go e (is_told x)) (map (queued_transfer p.driver.endpoints) p.driver.transfers)
   moves_same_now =

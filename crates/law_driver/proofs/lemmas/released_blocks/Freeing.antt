@@ -3,6 +3,7 @@ use Rattle.std.proofs.Common.{◌≡◌, ◌≢◌, ℕ, zero, suc, ◌+◌, ◌
 use Rattle.std.specs.Prelude.{◌⊎◌}
 use Rattle.std.proofs.lemmas.Bool.{cases_eq, false≢true}
 use Rattle.std.proofs.lemmas.List.{get_or-set_same, get_or-set_other}
+use Rattle.law_common.proofs.Options.{same_Some}
 use Rattle.word_mem.specs.Memory.{Mem, filled}
 use Rattle.word_mem.specs.Runs.{Run}
 use Rattle.word_mem.specs.Owners.{has_block}
@@ -152,9 +153,6 @@ held_goes : (h g : Holding) (notes : List QtdNote) (y : Transfer) (b : Bool) →
     × (b ≡ true → ArePiecesFreed (slot_of h.book.slots) (note_in notes) (if b then free_qtds notes g y.first y.qtds else g).memory y.first y.qtds)
 held_goes h g notes y true none within frees = let one = qtds_go h g notes y.first y.qtds none within frees in (one.0, λ is. one.1)
 held_goes h g notes y false none within frees = (goes_none h g frees, λ is. absurd (false≢true is))
-
-same_Some : {A : Type 0} (x y : A) → ◌≡◌ {A = Option A} (Some x) (Some y) → x ≡ y
-same_Some x y is = cc
 
 pub transfers_go : (h g : Holding) (notes : List QtdNote) (e : ℕ) (ts : List Transfer) → HasNoneKept h → IsWithin h → Frees h g
     → Goes h g (free_transfers notes e g ts) × AreTransfersFreed h notes e ts (free_transfers notes e g ts).memory

@@ -1,10 +1,11 @@
 -- Each accepted command keeps the ring standing for the driver's content.
 use Rattle.std.proofs.Common.{Bool, append_assoc, length-take, ◌||◌, ◌≡◌, ◌≢◌, ℕ, zero, suc, ◌+◌, ◌-◌, ◌*◌, ◌/◌, ◌%◌, ◌<◌, ◌≤◌, true, false, cond, List, [], ◌∷◌, ◌++◌, length, take, drop, replicate, get_or, set, slice_get, slice_index, Option, Some, None, option_map, ap, sym, subst, ◌∙◌, ⊎_elim, refl, arith, length-append, length-drop}
 use Rattle.std.specs.Prelude.{is_some}
-use Rattle.std.specs.List.{AllByRecursion}
 use Rattle.std.proofs.lemmas.Bool.{cases_eq, false≢true}
 use Rattle.std.proofs.lemmas.Option.{same_Some}
 use Rattle.std.proofs.lemmas.List.{length-replicate, get_or-take, get_or-drop}
+use Rattle.law_driver.proofs.Common.{drop_old, blocks_run, iso_frames}
+use Rattle.law_common.proofs.Lists.{all_at, set_here, set_there, drop_first, push_which}
 use Rattle.usb_base.specs.declared.endpoints.EpDesc.{EpDesc}
 use Rattle.word_mem.specs.Memory.{Mem, IsShaped, word_at}
 use Rattle.qh_qtd.specs.QueueHead.{qh_words}
@@ -35,12 +36,10 @@ use Rattle.claims_driver.specs.Owners.{Owner, FrameList, Head, QueueHead, Dummy,
 use Rattle.claims_driver.specs.Leaving.{HasOwners}
 use Rattle.law_driver.proofs.lemmas.run_owners.Runs.{placed_run}
 use Rattle.law_driver.proofs.lemmas.run_owners.Orders.{times_both, set_case}
-use Rattle.law_driver.proofs.lemmas.run_owners.Released.{set_here, set_there}
-use Rattle.law_driver.proofs.lemmas.run_owners.Taking.{AreTaken, runs_taken, blocks_some}
+use Rattle.law_driver.proofs.lemmas.run_owners.Taking.{AreTaken, runs_taken}
 use Rattle.law_driver.proofs.lemmas.run_owners.Chains.{buffers_of}
-use Rattle.law_driver.proofs.lemmas.run_owners.Accepted.{drop_first, fresh_differs, within_slots}
+use Rattle.law_driver.proofs.lemmas.run_owners.Accepted.{fresh_differs, within_slots}
 use Rattle.law_driver.proofs.lemmas.run_owners.Transferred.{are_new, goes_on_alive}
-use Rattle.law_driver.proofs.lemmas.run_owners.Ordered.{pushed, iso_periodic}
 use Rattle.claims_driver.specs.Ring.{link_in}
 use Rattle.law_driver.specs.ring_members.Words.{step_to, LeadsFrom, AreLinked, AreLeaving, IsDescribing, StandsFor, IsRing}
 use Rattle.law_driver.proofs.lemmas.ring_members.Links.{linked_kept, linked_same}
@@ -102,7 +101,7 @@ open_ring d m desc g bs stands shape taken idle has old =
     words_elsewhere k mid dummy c (32 * dummy) (32 * c) (qtd_words dummy_qtd) apart (λ is. fresh_differs 1 c taken two there (sym is)) (run c there)
     ∙ words_elsewhere k g.memory queue c (32 * queue) (32 * c) (qh_words head) apart (λ is. fresh_differs 0 c taken (omega (arith, two)) there (sym is)) (run c there)
     ∙ ap (λ ws. slice_index ws (32 * c / 4)) taken.words in
-    let new_run = blocks_some 2 (slot_of k.slots queue) (taken.new 0 (omega (arith, two))) in
+    let new_run = blocks_run 2 (slot_of k.slots queue) (taken.new 0 (omega (arith, two))) in
     let f = link_first desc (newest_of d.endpoints) dummy in
     let link : now queue ≡ queue_head_link (newest_of d.endpoints) =
     words_elsewhere k mid dummy queue (32 * dummy) (32 * queue) (qtd_words dummy_qtd) apart (λ is. taken.distinct 0 1 (omega arith) two (sym is)) (has_word g queue taken.stands new_run)
@@ -124,7 +123,7 @@ open_ring d m desc g bs stands shape taken idle has old =
       kept = λ e x there ring fresh.
           ⊎_elim (λ (w : slice_get d.endpoints e ≡ Some x). old.kept e x w ring fresh)
           (λ (w : (e ≡ length d.endpoints) × (x ≡ new_endpoint desc queue dummy)). ap (λ (z : Endpoint). z.linked) w.1)
-          (pushed d.endpoints (new_endpoint desc queue dummy) e x there);
+          (push_which d.endpoints (new_endpoint desc queue dummy) e x there);
     }
 
 pub shaped_taken : {h g : Holding} {ns bs : List ℕ} → AreTaken h g ns bs → Stands h → IsShaped h.memory → IsShaped g.memory
@@ -150,7 +149,7 @@ outside_kept : (d : DriverContent) (y : Endpoint) → is_periodic y.desc.kind �
 outside_kept d y frames old e x there ring fresh =
     ⊎_elim (λ (w : slice_get d.endpoints e ≡ Some x). old e x w ring fresh)
     (λ (w : (e ≡ length d.endpoints) × (x ≡ y)). absurd (false≢true (sym ring ∙ ap (λ (z : Endpoint). is_periodic z.desc.kind) w.1 ∙ frames)))
-    (pushed d.endpoints y e x there)
+    (push_which d.endpoints y e x there)
 
 chain_ring : (d : DriverContent) (m : Mem) (desc : EpDesc) (p : Placement) (g : Holding) (bs : List ℕ) → AreTaken (holding d.book m) g (2 ∷ 1 ∷ []) bs → is_periodic desc.kind ≡ true → d.command ≡ None → HasOwners d → IsRing (link_in m) d → IsRing (link_in (accepted_chain d desc p g (get_or bs 0 0) (get_or bs 1 0)).memory) (accepted_chain d desc p g (get_or bs 0 0) (get_or bs 1 0)).driver
 chain_ring d m desc p g bs taken frames idle has old =
@@ -189,10 +188,6 @@ owner_kind (Buffer t) = 5
 
 pub other_kind : (owner : ℕ → Owner) (b c : ℕ) (o q : Owner) → owner b ≡ o → owner c ≡ q → owner_kind o ≢ owner_kind q → c ≢ b
 other_kind owner b c o q one two differ = λ same. differ (ap owner_kind (sym one) ∙ ap (λ k. owner_kind (owner k)) (sym same) ∙ ap owner_kind two)
-
-all_at : (P : ℕ → Type 0) (xs : List ℕ) → ((i : ℕ) → i < length xs → P (get_or xs i 0)) → AllByRecursion P xs
-all_at P [] each = tt
-all_at P (x ∷ xs) each = (each 0 (omega arith), all_at P xs (λ i below. each (suc i) (omega arith)))
 
 -- the stages after the first, from the block after it on
 tail_not : (notes : List QtdNote) (c b : ℕ) (ss : List Stage) → 1 ≤ length ss → AreNotAt notes c b (length ss) → AreNotAt notes c (note_at notes b).next (length (drop 1 ss))
@@ -349,10 +344,6 @@ descriptors_added k e x s (suc n) seed rs a =
         subst (λ (z : Transfer). (is_descriptor z.sort ≡ true) × (z.released ≡ false)) same one
     first_or (suc i) y t us there one each = each i y there
 
-drop_all : (xs ys : List Transfer) → drop (length xs) (xs ++ ys) ≡ ys
-drop_all [] ys = refl
-drop_all (x ∷ xs) ys = drop_all xs ys
-
 take_get : (n : ℕ) (ts : List Transfer) (i : ℕ) (y : Transfer) → slice_get (take n ts) i ≡ Some y → slice_get ts i ≡ Some y
 take_get zero ts i y there = absurd (cc)
 take_get (suc n) [] i y there = absurd (cc)
@@ -362,7 +353,7 @@ take_get (suc n) (t ∷ ts) (suc i) y there = take_get n ts i y there
 describing : (word : ℕ → ℕ) (xs : List Endpoint) (us vs : List Transfer) (n : ℕ) → AreLinked word head_block xs → AreAdded us vs n → IsDescribing word xs vs (length us) n
 describing word xs us vs n ring added = record {
   ring = ring;
-  described = λ i y there. added.each i y (sym (ap (λ (ws : List Transfer). slice_get ws i) (ap (drop (length us)) added.all ∙ drop_all us added.new)) ∙ take_get n (drop (length us) vs) i y there);
+  described = λ i y there. added.each i y (sym (ap (λ (ws : List Transfer). slice_get ws i) (ap (drop (length us)) added.all ∙ drop_old us added.new)) ∙ take_get n (drop (length us) vs) i y there);
 }
 
 -- a block of the book keeps its words, but for the frame list's
@@ -498,7 +489,7 @@ accepted_ring d m o (places why) stands shape has old =
       ring = subst (λ (c : Option Command). StandsFor (link_in m) (d.endpoints ++ y ∷ []) d.transfers c) (sym why.idle) (outside_ring (link_in m) head_block d.endpoints y refl (idle_linked (link_in m) d why.idle old));
       leaving = leaving_kept (link_in m) (link_in m) d.endpoints (d.endpoints ++ y ∷ []) (d.rung ++ d.waiting) (one_more_on d.endpoints y) (λ f z among here. refl) old.leaving;
       mends = old.mends;
-      kept = outside_kept d y (iso_periodic why.desc.kind why.isochronous) old.kept;
+      kept = outside_kept d y (iso_frames why.desc.kind why.isochronous) old.kept;
     })
 accepted_ring d m o (describes why) stands shape has old = describe_ring d m o stands why has old
 accepted_ring d m o (unchains why) stands shape has old =

@@ -7,6 +7,8 @@ use Rattle.std.proofs.Common.{◌≡◌, ◌≢◌, ℕ, ◌/◌, ◌<◌, Bool,
 use Rattle.std.proofs.lemmas.Bool.{false≢true}
 use Rattle.std.proofs.lemmas.Option.{same_Some}
 use Rattle.std.specs.List.{AllByRecursion}
+use Rattle.law_driver.proofs.Common.{ring_queue, same_endpoint}
+use Rattle.law_common.proofs.Lists.{all_more}
 use Rattle.drv_chains.specs.declared.members.Descriptor.{Descriptor}
 use Rattle.drv_chains.specs.declared.members.QueueHead.{QueueHead as Queue}
 use Rattle.drv_chains.specs.Chains.{Schedule}
@@ -20,12 +22,10 @@ use Rattle.claims_driver.specs.Owners.{Owner, Head, QueueHead, Described, HasRun
 use Rattle.claims_driver.specs.Leaving.{HasOwners}
 use Rattle.law_driver.proofs.lemmas.run_owners.Apart.{has_within}
 use Rattle.law_driver.proofs.lemmas.run_owners.Runs.{placed_run}
-use Rattle.law_driver.proofs.lemmas.run_owners.Rows.{not_iso}
 use Rattle.drv_chains.specs.declared.members.Member.TheVariants.{Once}
 use Rattle.claims_driver.specs.FrameListMembers.{Framed}
 use Rattle.law_driver.specs.listed_members.Members.{IsStanding, IsQueueOf, IsListed}
-use Rattle.law_driver.proofs.lemmas.listed_members.Schedules.{all_more}
-use Rattle.law_driver.proofs.lemmas.listed_members.Standing.{framed, one_endpoint}
+use Rattle.law_driver.proofs.lemmas.listed_members.Standing.{framed}
 use Rattle.law_driver.proofs.lemmas.listed_members.Owned.{descriptor_owned, queue_owned}
 use Rattle.law_driver.proofs.lemmas.ring_members.Placed.{has_queue, queue_placed, has_first}
 
@@ -62,7 +62,7 @@ one_apart d m id o stands shape has placed off =
       off = record {
         head = λ same. off.0 (sym placed.owned ∙ ap has.owner (sym same) ∙ has.owned.each.head.owned);
         endpoints = λ e x here ring alive same.
-            off.1 e x here ring (sym placed.owned ∙ ap has.owner (sym same) ∙ (queue_placed d e x has here (has_queue x (not_iso x.desc.kind ring) alive)).owned);
+            off.1 e x here ring (sym placed.owned ∙ ap has.owner (sym same) ∙ (queue_placed d e x has here (has_queue x (ring_queue x.desc.kind ring) alive)).owned);
       };
     }
 
@@ -71,7 +71,7 @@ described_off d split t = ((λ same. absurd (cc)), (λ e x here ring same. absur
 
 -- the queue head of a periodic endpoint
 frames_off : (d : DriverContent) (q : Queue) → HasOwners d → (s : IsQueueOf d q) → OffRing d (QueueHead s.number)
-frames_off d q has s = ((λ same. absurd (cc)), (λ e x here ring same. off e x here ring (one_endpoint s.number e same)))
+frames_off d q has s = ((λ same. absurd (cc)), (λ e x here ring same. off e x here ring (same_endpoint s.number e same)))
   where
     off : (e : ℕ) (x : Endpoint) → slice_get d.endpoints e ≡ Some x → is_periodic x.desc.kind ≡ false → s.number ≡ e → ⊥
     off e x here ring same =

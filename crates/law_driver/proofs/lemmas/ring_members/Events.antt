@@ -5,6 +5,8 @@ use Rattle.std.specs.List.{AllByRecursion}
 use Rattle.std.proofs.lemmas.Bool.{cases_eq, false≢true}
 use Rattle.std.proofs.lemmas.Option.{same_Some, slice_get-map}
 use Rattle.std.proofs.lemmas.List.{get_or-set_other}
+use Rattle.law_common.proofs.Lists.{append_none, set_here, set_there}
+use Rattle.law_driver.proofs.Common.{pushed, newest_get, all_got, lend_never, stored_as, ring_queue, get_drop}
 use Rattle.word_mem.specs.Memory.{Mem, IsShaped, with_word}
 use Rattle.mem_runs.specs.Book.{Book, Holding, holding, Stands, slot_of, can_store, store, lend_taken}
 use Rattle.mem_runs.specs.declared.slots.Slot.{Slot}
@@ -37,10 +39,9 @@ use Rattle.drv_table.specs.Removals.{stored_link, descriptor_leaving, after_unli
 use Rattle.law_driver.proofs.lemmas.run_owners.Runs.{placed_run}
 use Rattle.claims_driver.specs.Owners.{Owner, Head, QueueHead, Element, Described, HasRun, SlotHas, IsPlaced, NoteRuns, ArePieces, runs_of_transfer, note_in}
 use Rattle.claims_driver.specs.Leaving.{IsOrderly, HasOwners}
-use Rattle.law_driver.proofs.lemmas.run_owners.Rows.{not_iso}
 use Rattle.law_driver.specs.run_owners.Due.{IsDue, IsNextOf, IsLinkOf}
 use Rattle.law_driver.proofs.lemmas.run_owners.Orders.{times_both}
-use Rattle.law_driver.proofs.lemmas.run_owners.Released.{set_here, set_there, cancel_same}
+use Rattle.law_driver.proofs.lemmas.run_owners.Released.{cancel_same}
 use Rattle.law_driver.proofs.lemmas.run_owners.Laws.{events_keep_owners}
 use Rattle.law_driver.proofs.lemmas.run_owners.Reasons.{each_event_is_due}
 use Rattle.claims_driver.specs.Ring.{link_in}
@@ -48,7 +49,7 @@ use Rattle.law_driver.specs.ring_members.Words.{AreLinked, AreLeaving, IsOpening
 use Rattle.law_driver.specs.in_place.InPlace.{IsSound}
 use Rattle.law_driver.proofs.lemmas.ring_members.Aside.{IsOffRing, AreApart as ListApart, IsListApart, list_apart}
 use Rattle.law_driver.proofs.lemmas.ring_members.Lists.{store_is_apart}
-use Rattle.law_driver.proofs.lemmas.ring_members.Links.{RingOf, ring_of, SameRing, LeadsTo, linked_kept, linked_same, passed, joined, oldest_is, oldest_not, dropped}
+use Rattle.law_driver.proofs.lemmas.ring_members.Links.{RingOf, ring_of, SameRing, LeadsTo, linked_kept, linked_same, passed, joined, oldest_is, oldest_not}
 use Rattle.law_driver.proofs.lemmas.ring_members.Stores.{AreApart, slots_apart, store_elsewhere}
 use Rattle.law_driver.proofs.lemmas.ring_members.Freed.{LeavesRest, lent_words, rest_qtds, rest_endpoint, rest_descriptor, rest_placed}
 use Rattle.law_driver.proofs.lemmas.ring_members.Leaving.{same_go_on, leaving_kept, leaving_rest, leaving_more, LeavesOne, link_at, last_leaves}
@@ -241,7 +242,7 @@ stored_apart p b at v stands has off =
     let h = holding d.book p.memory in (
       (λ e x here ring alive.
           store_elsewhere d.book p.memory b x.queue at v (32 * x.queue) (slots_apart h stands) (off.endpoints e x here ring alive)
-          (has_word h x.queue stands (queue_run d e x has here (has_queue x (not_iso x.desc.kind ring) alive)))),
+          (has_word h x.queue stands (queue_run d e x has here (has_queue x (ring_queue x.desc.kind ring) alive)))),
       store_elsewhere d.book p.memory b head_block at v (32 * head_block) (slots_apart h stands) off.head (has_word h head_block stands (head_run_there d has)),
     )
 
@@ -261,10 +262,6 @@ described_elsewhere k list notes (y ∷ ts) m c apart here differ =
     let v = new_link list (descriptor_member notes y.first) in
     described_elsewhere k list notes ts (store k m y.first (32 * y.first) v) c apart here differ.1
     ∙ store_elsewhere k m y.first c (32 * y.first) v (32 * c) apart differ.0 here
-
-pub all_got : (P : Transfer → Type 0) (ts : List Transfer) → ((i : ℕ) (y : Transfer) → slice_get ts i ≡ Some y → P y) → AllByRecursion P ts
-all_got P [] each = tt
-all_got P (y ∷ ts) each = (each 0 y refl, all_got P ts (λ i z there. each (suc i) z there))
 
 pub dropped_get : (t n : ℕ) (ts : List Transfer) (i : ℕ) (y : Transfer) → slice_get (take n (drop t ts)) i ≡ Some y → slice_get ts (t + i) ≡ Some y
 dropped_get zero zero ts i y there = absurd (cc)
@@ -303,7 +300,7 @@ linked_by_apart p (Some (unfinished.Iso e t count)) is stands has old =
     let s = stands_as (link_in p.memory) d (unfinished.Iso e t count) is old in
     let ts = take count (drop t d.transfers) in (
       (λ f x here ring alive.
-          let q = queue_placed d f x has here (has_queue x (not_iso x.desc.kind ring) alive) in
+          let q = queue_placed d f x has here (has_queue x (ring_queue x.desc.kind ring) alive) in
           described_elsewhere d.book d.periodic.list d.periodic.notes ts p.memory x.queue (slots_apart h stands) (has_word h x.queue stands (placed_run x.queue (QueueHead f) q))
           (off_described d (link_in p.memory) t count x.queue (QueueHead f) has s q refl)),
       described_elsewhere d.book d.periodic.list d.periodic.notes ts p.memory head_block (slots_apart h stands) (has_word h head_block stands (head_run_there d has))
@@ -334,10 +331,6 @@ lend_first : (q made : ℕ) → slice_get (events_of (unfinished.Open q)) made �
 lend_first q zero e = refl
 lend_first q (suc zero) e = absurd (cc)
 lend_first q (suc (suc n)) e = absurd (cc)
-
-lend_never : (f b link made : ℕ) → slice_get (events_of (unfinished.Unlink f b link)) made ≡ Some rows.Lend → ⊥
-lend_never f b link zero e = cc
-lend_never f b link (suc n) e = cc
 
 publishing_ring : (word : ℕ → ℕ) (xs : List Endpoint) (ts : List Transfer) (b : ℕ) → IsPublishing word xs ts b → AreLinked word head_block xs
 publishing_ring word xs ts b p = p.ring
@@ -388,18 +381,9 @@ unchain_never f made b at v e = cc
 
 -- -- an open
 
-pub older_get : (xs : List Endpoint) (y : Endpoint) (i : ℕ) (x : Endpoint) → slice_get xs i ≡ Some x → slice_get (xs ++ y ∷ []) i ≡ Some x
-older_get [] y i x here = absurd (cc)
-older_get (z ∷ xs) y zero x here = here
-older_get (z ∷ xs) y (suc i) x here = older_get xs y i x here
-
-pub newest_get : (xs : List Endpoint) (y : Endpoint) → slice_get (xs ++ y ∷ []) (length xs) ≡ Some y
-newest_get [] y = refl
-newest_get (x ∷ xs) y = newest_get xs y
-
 open_done : (word now : ℕ → ℕ) (d : DriverContent) (q : ℕ) → HasOwners d → IsOpening word d.endpoints q → now head_block ≡ queue_head_link q → ((c : ℕ) → c ≢ head_block → now c ≡ word c) → AreLinked now head_block d.endpoints
 open_done word now d q has o head others =
-    let get : (i : ℕ) (x : Endpoint) → slice_get o.older i ≡ Some x → slice_get d.endpoints i ≡ Some x = λ i x here. ap (λ (xs : List Endpoint). slice_get xs i) o.all ∙ older_get o.older o.new i x here in
+    let get : (i : ℕ) (x : Endpoint) → slice_get o.older i ≡ Some x → slice_get d.endpoints i ≡ Some x = λ i x here. ap (λ (xs : List Endpoint). slice_get xs i) o.all ∙ pushed o.older o.new i x here in
     let new : slice_get d.endpoints (length o.older) ≡ Some o.new = ap (λ (xs : List Endpoint). slice_get xs (length o.older)) o.all ∙ newest_get o.older o.new in
     let off : (i : ℕ) (x : Endpoint) → slice_get d.endpoints i ≡ Some x → x.linked ≡ true → x.queue ≢ head_block = λ i x here on. queue_off_head d i x has here (in_ring_alive d i x has.orderly here on) in
     subst (λ (xs : List Endpoint). AreLinked now head_block xs) (sym o.all)
@@ -425,7 +409,7 @@ unlink_done word now d e b link x has u here on cancelled stored others old =
     let away : (f : ℕ) (z : Endpoint) → slice_get d.endpoints f ≡ Some z → is_iso z.desc.kind || z.gone ≡ false → (z.linked ≡ false ⊎ (f ≡ e)) → z.queue ≢ b = λ f z there alive out same.
     oldest_not z.queue (drop (suc e) d.endpoints) (λ h. queue_off_head d f z has there alive (sym h))
     (λ i w at also.
-    let g : slice_get d.endpoints (suc e + i) ≡ Some w = sym (dropped d.endpoints (suc e) i) ∙ at in
+    let g : slice_get d.endpoints (suc e + i) ≡ Some w = sym (get_drop d.endpoints (suc e) i) ∙ at in
     queues_apart d (suc e + i) f w z has g (in_ring_alive d (suc e + i) w has.orderly g also) there alive
     (λ k. ⊎_elim
     (λ (off : z.linked ≡ false). false≢true (sym off ∙ ap (λ (v : Endpoint). v.linked) (same_Some z w (sym there ∙ ap (slice_get d.endpoints) (sym k) ∙ g)) ∙ also))
@@ -508,11 +492,6 @@ open_leaving word now d has others all =
     others y.queue (queue_off_head d f y has there l.0))
     all
 
--- what a store of a command leaves, by the word that is stored
-stored_as : (P : Mem → Type 0) (k : Book) (m : Mem) (b c at to v w : ℕ) → b ≡ c → at ≡ to → v ≡ w → P (store k m c to w) → P (store k m b at v)
-stored_as P k m b c at to v w one two three p =
-    subst (λ x. P (store k m x at v)) (sym one) (subst (λ x. P (store k m c x v)) (sym two) (subst (λ x. P (store k m c to x)) (sym three) p))
-
 store_ring_by : (p : Parts) (c : Command) (b at v : ℕ) → p.driver.command ≡ Some c → slice_get (events_of c) p.driver.made ≡ Some (rows.Store b at v) → Stands (holding p.driver.book p.memory) → IsShaped p.memory → HasOwners p.driver → IsRing (link_in p.memory) p.driver → IsRing (link_in (store p.driver.book p.memory b at v)) (advance p.driver)
 store_ring_by p (unfinished.Open q) b at v is next stands shape has old =
     let d = p.driver in
@@ -558,7 +537,7 @@ store_ring_by p (unfinished.Unlink e f link) b at v is next stands shape has old
     subst (λ k. HasRun (slot_of d.book.slots k)) (sym u.from)
     (⊎_elim (λ (head : oldest_of (drop (suc e) d.endpoints) ≡ head_block). subst (λ k. HasRun (slot_of d.book.slots k)) (sym head) (head_run_there d has))
     (λ (l : LeadsTo (drop (suc e) d.endpoints) (oldest_of (drop (suc e) d.endpoints))).
-    let at : slice_get d.endpoints (suc e + l.number) ≡ Some l.endpoint = sym (dropped d.endpoints (suc e) l.number) ∙ l.here in
+    let at : slice_get d.endpoints (suc e + l.number) ≡ Some l.endpoint = sym (get_drop d.endpoints (suc e) l.number) ∙ l.here in
     subst (λ k. HasRun (slot_of d.book.slots k)) l.queue (queue_run d (suc e + l.number) l.endpoint has at (in_ring_alive d (suc e + l.number) l.endpoint has.orderly at l.linked)))
     (oldest_is (drop (suc e) d.endpoints))) in
     advance_by (IsRing now) d (unfinished.Unlink e f link) is
@@ -596,10 +575,6 @@ mend_word k m w c mending = at (can_store (slot_of k.slots w.queue) w.at)
 pub first_mend : (ws : List Mend) (w : Mend) → slice_get ws 0 ≡ Some w → AllByRecursion IsMending ws → IsMending w
 first_mend [] w here all = absurd (cc)
 first_mend (x ∷ ws) w here all = let same : x ≡ w = cc in subst IsMending same all.0
-
-pub no_more : (es : List ℕ) → es ++ [] ≡ es
-no_more [] = refl
-no_more (e ∷ es) = ap (λ fs. e ∷ fs) (no_more es)
 
 same_leaving : (word : ℕ → ℕ) (xs : List Endpoint) (rs qs ws vs : List ℕ) → qs ≡ rs → vs ≡ ws → AreLeaving word xs (rs ++ ws) → AreLeaving word xs (qs ++ vs)
 same_leaving word xs rs qs ws vs one two all =
@@ -710,7 +685,7 @@ row_ring rows.ClearAdvance p due stands shape has after apart old =
     idle_ring (link_in p.memory) (link_in p.memory) p.driver _ due.0 due.0 after (λ c run. refl) (λ i. refl) (leaving_rest (link_in p.memory) p.driver.endpoints p.driver.rung p.driver.waiting old.leaving) old.mends old
 row_ring rows.RingBell p due stands shape has after apart old =
     idle_ring (link_in p.memory) (link_in p.memory) p.driver _ due.0 due.0 after (λ c run. refl) (λ i. refl)
-    (subst (λ (es : List ℕ). AreLeaving (link_in p.memory) p.driver.endpoints es) (sym (no_more (p.driver.rung ++ p.driver.waiting))) old.leaving) old.mends old
+    (subst (λ (es : List ℕ). AreLeaving (link_in p.memory) p.driver.endpoints es) (sym (append_none (p.driver.rung ++ p.driver.waiting))) old.leaving) old.mends old
 row_ring (rows.Harvest e t found) p due stands shape has after apart old =
     let s = harvest_stays p.driver p.memory e t found (slice_get p.driver.endpoints e) (slice_get p.driver.transfers t) refl in
     idle_ring (link_in p.memory) (link_in p.memory) p.driver _ due.idle (s.command ∙ due.idle) after (λ c run. refl) s.endpoints

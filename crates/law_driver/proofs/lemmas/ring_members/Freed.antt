@@ -2,6 +2,7 @@
 use Rattle.std.proofs.Common.{◌≡◌, ◌≢◌, ℕ, zero, suc, ◌+◌, ◌*◌, ◌/◌, ◌<◌, ◌≤◌, Bool, true, false, cond, List, [], ◌∷◌, length, take, reverse, set, ap, sym, subst, ◌∙◌, ⊎_elim, refl, arith}
 use Rattle.std.proofs.lemmas.Bool.{cases_Bool}
 use Rattle.std.proofs.lemmas.List.{get_or-set_same, get_or-set_other}
+use Rattle.law_driver.proofs.Common.{lent_slot}
 use Rattle.word_mem.specs.Runs.{Run}
 use Rattle.word_mem.specs.Memory.{IsShaped, word_at}
 use Rattle.word_mem.specs.Owners.{has_block}
@@ -25,10 +26,6 @@ use Rattle.claims_driver.specs.Owners.{SlotHas}
 use Rattle.law_driver.proofs.lemmas.run_owners.Apart.{runs_apart}
 
 -- ---- lending
-
-lent_slot : (h : Holding) (b : ℕ) (s : Slot) → (lend_slot h b s).memory.words ≡ h.memory.words
-lent_slot h b Empty = refl
-lent_slot h b _ = refl
 
 lent_runs : (h : Holding) (bs : List ℕ) → (lend_runs h bs).memory.words ≡ h.memory.words
 unfolding lend_runs

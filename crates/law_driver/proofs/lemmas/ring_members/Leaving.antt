@@ -1,14 +1,15 @@
 -- The links of the endpoints that have left the ring.
-use Rattle.std.proofs.Common.{◌≡◌, ◌≢◌, ℕ, zero, suc, ◌<◌, ◌≤◌, Bool, true, List, [], ◌∷◌, ◌++◌, take, slice_get, Option, Some, None, option_map, ap, sym, subst, ◌∙◌, ⊎_elim, refl, arith}
+use Rattle.std.proofs.Common.{◌≡◌, ◌≢◌, ℕ, zero, suc, ◌<◌, ◌≤◌, true, List, [], ◌∷◌, ◌++◌, take, slice_get, Option, Some, None, option_map, ap, sym, subst, ◌∙◌, ⊎_elim, refl, arith}
 use Rattle.std.proofs.lemmas.Bool.{cases_eq}
 use Rattle.std.proofs.lemmas.Option.{same_Some}
+use Rattle.law_driver.proofs.Common.{leads_now}
 use Rattle.drv_table.specs.declared.content.Endpoint.{Endpoint}
 use Rattle.drv_table.specs.Words.{head_block, queue_head_link}
 use Rattle.claims_driver.specs.Leaving.{times}
 use Rattle.law_driver.proofs.lemmas.run_owners.Orders.{one_same}
 use Rattle.law_driver.specs.ring_members.Links.{newest_from}
 use Rattle.claims_driver.specs.Ring.{IsQueueOf, IsAmong, first, later}
-use Rattle.law_driver.specs.ring_members.Words.{LeadsFrom, AreLinked, step_to, IsTarget, to_head, to_member, to_later, Leaves, AreLeaving}
+use Rattle.law_driver.specs.ring_members.Words.{AreLinked, step_to, IsTarget, to_head, to_member, to_later, Leaves, AreLeaving}
 use Rattle.law_driver.proofs.lemmas.ring_members.Links.{RingOf, ring_of, SameRing, LeadsTo, newest_is}
 
 -- ---- endpoints that stay where they are, and in the ring if they were
@@ -105,9 +106,6 @@ leaving_more word now xs ys (f ∷ es) e one same last all =
     )
 
 -- ---- where one in the ring leads
-
-leads_now : (word : ℕ → ℕ) (x : Endpoint) (b : ℕ) → x.linked ≡ true → LeadsFrom word x.linked x.queue b → word x.queue ≡ queue_head_link b
-leads_now word x b on leads = subst (λ (t : Bool). LeadsFrom word t x.queue b) on leads
 
 pub link_at : (word : ℕ → ℕ) (b : ℕ) (xs : List Endpoint) (e : ℕ) (x : Endpoint) → slice_get xs e ≡ Some x → x.linked ≡ true → AreLinked word b xs → word x.queue ≡ queue_head_link (newest_from b (take e xs))
 link_at word b [] e x here on linked = absurd (cc)

@@ -2,6 +2,7 @@
 use Rattle.std.proofs.Common.{◌≡◌, ◌≢◌, ℕ, zero, suc, ◌+◌, Bool, true, false, cond, List, [], ◌∷◌, ◌++◌, take, drop, set, slice_get, Some, option_map, ap, sym, subst, ◌∙◌, inl, inr, refl, arith}
 use Rattle.std.specs.Prelude.{◌⊎◌}
 use Rattle.std.proofs.lemmas.Option.{same_Some}
+use Rattle.law_driver.proofs.Common.{get_drop}
 use Rattle.usb_base.specs.declared.endpoints.EpDesc.{EpDesc}
 use Rattle.drv_table.specs.declared.content.Endpoint.{Endpoint}
 use Rattle.drv_table.specs.Words.{head_block, queue_head_link}
@@ -68,12 +69,6 @@ passed_at : (word now : ℕ → ℕ) (b : ℕ) (x : Endpoint) (xs : List Endpoin
 passed_at word now b x xs on distinct linked there others =
     (tt, relinked word now x.queue b xs (rest_distinct x xs distinct) (subst (λ (t : Bool). AreLinked word (cond t x.queue b) xs) on linked.1) there others)
 
-pub dropped : (xs : List Endpoint) (k i : ℕ) → slice_get (drop k xs) i ≡ slice_get xs (k + i)
-dropped [] zero i = refl
-dropped [] (suc k) i = refl
-dropped (x ∷ xs) zero i = let e : i ≡ 0 + i = omega arith in ap (slice_get (x ∷ xs)) e
-dropped (x ∷ xs) (suc k) i = let e : suc k + i ≡ suc (k + i) = omega arith in dropped xs k i ∙ ap (slice_get (x ∷ xs)) (sym e)
-
 -- the link over the endpoint e is stored, and all others stay
 pub passed : (word now : ℕ → ℕ) (b : ℕ) (xs : List Endpoint) (e : ℕ) (x : Endpoint) → slice_get xs e ≡ Some x → x.linked ≡ true → AreDistinct xs → AreLinked word b xs → now (oldest_of (drop (suc e) xs)) ≡ queue_head_link (newest_from b (take e xs)) → ((c : ℕ) → c ≢ oldest_of (drop (suc e) xs) → now c ≡ word c) → AreLinked now b (set xs e (record x { linked = false }))
 passed word now b [] e x here on distinct linked there others = absurd (cc)
@@ -85,7 +80,7 @@ passed word now b (y ∷ xs) (suc e) x here on distinct linked there others = (
   leads_kept word now y.linked y.queue b
       (λ also. others y.queue (λ same.
       oldest_not y.queue (drop (suc e) xs) (λ h. distinct.off_head 0 y refl also (sym h))
-      (λ i z at on2. distinct.apart (suc (suc e + i)) 0 z y (sym (dropped xs (suc e) i) ∙ at) refl on2 also (λ k. omega (arith, k))) (sym same)))
+      (λ i z at on2. distinct.apart (suc (suc e + i)) 0 z y (sym (get_drop xs (suc e) i) ∙ at) refl on2 also (λ k. omega (arith, k))) (sym same)))
       linked.0,
   passed word now (step_to b y) xs e x here on (rest_distinct y xs distinct) linked.1 there others,
 )

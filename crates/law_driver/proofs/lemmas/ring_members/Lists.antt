@@ -1,8 +1,10 @@
 -- The stores of the frame list go to the list and to its members: where these begin off the ring, so does each.
-use Rattle.std.proofs.Common.{◌≡◌, ℕ, zero, suc, ◌<◌, ◌*◌, ◌^◌, ◌/◌, ◌%◌, Bool, true, false, cond, List, [], ◌∷◌, ◌++◌, map, filter, slice_get, Option, Some, None, option_map, ap, sym, subst, ◌∙◌, inl, inr, refl, arith}
+use Rattle.std.proofs.Common.{◌≡◌, ℕ, ◌<◌, ◌*◌, ◌^◌, ◌/◌, ◌%◌, Bool, true, false, cond, List, [], ◌∷◌, map, filter, slice_get, Option, Some, None, option_map, ap, sym, subst, ◌∙◌, inl, inr, refl, arith}
 use Rattle.std.specs.Prelude.{◌⊎◌, option_and_then, nat_eq}
 use Rattle.std.specs.List.{AllByRecursion, flat_map}
 use Rattle.std.proofs.lemmas.List.Elements.{recursion_from_All}
+use Rattle.law_common.proofs.Lists.{nth_all, all_both, all_kept}
+use Rattle.law_driver.proofs.Common.{ring_queue}
 use Rattle.drv_chains.specs.declared.members.Descriptor.{Descriptor}
 use Rattle.drv_chains.specs.declared.members.QueueHead.{QueueHead as Queue}
 use Rattle.drv_chains.specs.declared.members.Member.{Member}
@@ -20,23 +22,10 @@ use Rattle.drv_table.specs.DriverContent.{DriverContent}
 use Rattle.mem_runs.specs.Book.{slot_of}
 use Rattle.claims_driver.specs.Owners.{FrameList, QueueHead, HasRun}
 use Rattle.claims_driver.specs.Leaving.{HasOwners}
-use Rattle.law_driver.proofs.lemmas.run_owners.Rows.{not_iso}
 use Rattle.law_driver.proofs.lemmas.ring_members.Aside.{IsOffRing, IsMemberApart, AreApart}
 use Rattle.law_driver.proofs.lemmas.ring_members.Placed.{has_queue, queue_placed}
 
 -- ---- lists
-
-all_both : {X : Type 0} (P : X → Type 0) (xs ys : List X) → AllByRecursion P xs → AllByRecursion P ys → AllByRecursion P (xs ++ ys)
-all_both P [] ys one two = two
-all_both P (x ∷ xs) ys one two = (one.0, all_both P xs ys one.1 two)
-
-all_kept : {X : Type 0} (P : X → Type 0) (f : X → Bool) (xs : List X) → AllByRecursion P xs → AllByRecursion P (filter f xs)
-all_kept P f [] all = tt
-all_kept {X = X} P f (x ∷ xs) all = at (f x) (filter f xs) all.0 (all_kept P f xs all.1)
-  where
-    at : (b : Bool) (ys : List X) → P x → AllByRecursion P ys → AllByRecursion P (cond b (x ∷ ys) ys)
-    at true ys one rest = (one, rest)
-    at false ys one rest = rest
 
 all_mapped : {X Y : Type 0} (P : Y → Type 0) (f : X → Y) (xs : List X) → AllByRecursion (λ x. P (f x)) xs → AllByRecursion P (map f xs)
 all_mapped P f [] all = tt
@@ -45,11 +34,6 @@ all_mapped P f (x ∷ xs) all = (all.0, all_mapped P f xs all.1)
 all_joined : {X Y : Type 0} (P : Y → Type 0) (f : X → List Y) (xs : List X) → ((x : X) → AllByRecursion P (f x)) → AllByRecursion P (flat_map f xs)
 all_joined P f [] each = tt
 all_joined P f (x ∷ xs) each = all_both P (f x) (flat_map f xs) (each x) (all_joined P f xs each)
-
-all_at : {X : Type 0} (P : X → Type 0) (xs : List X) (i : ℕ) (x : X) → AllByRecursion P xs → slice_get xs i ≡ Some x → P x
-all_at P [] i x all there = absurd (cc)
-all_at P (y ∷ xs) zero x all there = let same : y ≡ x = cc in subst P same all.0
-all_at P (y ∷ xs) (suc i) x all there = all_at P xs i x all.1 there
 
 -- ---- the words that are stored
 
@@ -99,7 +83,7 @@ list_off : (d : DriverContent) → HasOwners d → IsOffRing d 0
 list_off d has = record {
   head = λ same. absurd (cc);
   endpoints = λ e x here ring alive same.
-      let q = queue_placed d e x has here (has_queue x (not_iso x.desc.kind ring) alive) in
+      let q = queue_placed d e x has here (has_queue x (ring_queue x.desc.kind ring) alive) in
       let clash : QueueHead e ≡ FrameList = sym q.owned ∙ ap has.owner same ∙ has.owned.each.list.owned in
       absurd (cc);
 }
@@ -130,7 +114,7 @@ stored_apart : (d : DriverContent) (s : Schedule) (w : Work) (x : Store) (o : Op
 stored_apart d s w x None has apart there is = absurd (cc)
 stored_apart d s w x (Some word) has apart there is =
     let same : store_at 0 word (value_of s w) ≡ x = cc in
-    subst (λ (y : Store). IsApartStore d y.block y.at) same (all_at (WordApart d) (words_of s w) w.made word (words_apart d s w.member has apart) there)
+    subst (λ (y : Store). IsApartStore d y.block y.at) same (nth_all (WordApart d) (words_of s w) w.made word (words_apart d s w.member has apart) there)
 
 work_apart : (d : DriverContent) (s : Schedule) (o : Option Work) (x : Store) → HasOwners d → AreApart d s → option_and_then (λ w. store_of 0 s w) o ≡ Some x → IsApartStore d x.block x.at
 work_apart d s None x has apart next = absurd (cc)

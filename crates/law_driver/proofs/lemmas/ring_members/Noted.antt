@@ -1,7 +1,8 @@
 -- A block that is none of the new ones is none of a new transfer's chain.
-use Rattle.std.proofs.Common.{◌≡◌, ◌≢◌, ℕ, zero, suc, ◌<◌, List, [], ◌∷◌, ◌++◌, length, take, drop, replicate, get_or, set, sym, subst, ◌∙◌, refl, arith}
+use Rattle.std.proofs.Common.{◌≡◌, ◌≢◌, ℕ, zero, suc, ◌<◌, List, [], ◌∷◌, ◌++◌, length, take, drop, replicate, get_or, set, sym, subst, ◌∙◌, arith}
 use Rattle.std.specs.List.{AllByRecursion}
 use Rattle.std.proofs.lemmas.List.{get_or-set_same, length-set}
+use Rattle.law_common.proofs.Lists.{shift}
 use Rattle.drv_table.specs.declared.content.QtdNote.{QtdNote}
 use Rattle.drv_table.specs.declared.content.Stage.{Stage}
 use Rattle.drv_table.specs.DriverContent.{no_note}
@@ -9,15 +10,6 @@ use Rattle.drv_table.specs.Harvests.{note_at}
 use Rattle.drv_table.specs.Offers.{runs_of, note_for, note_stages}
 use Rattle.law_driver.proofs.lemmas.run_owners.Chains.{notes_apart, dropped_all}
 use Rattle.law_driver.proofs.lemmas.ring_members.Stores.{AreNotAt, AreBuffersNotAt}
-
-next_of : (qtds : List ℕ) (i : ℕ) → get_or (get_or qtds 0 0 ∷ drop 1 qtds) i 0 ≡ get_or qtds i 0
-next_of [] zero = refl
-next_of [] (suc i) = refl
-next_of (q ∷ qtds) zero = refl
-next_of (q ∷ qtds) (suc i) = refl
-
-shift : (b : ℕ) (qtds : List ℕ) (i : ℕ) → get_or (get_or qtds 0 0 ∷ drop 1 qtds) i 0 ≡ get_or (b ∷ qtds) (suc i) 0
-shift b qtds i = next_of qtds i
 
 -- a list of other blocks, filled up with zeros
 all_apart : (c : ℕ) (xs : List ℕ) (j : ℕ) → c ≢ 0 → AllByRecursion (λ x. c ≢ x) xs → c ≢ get_or xs j 0

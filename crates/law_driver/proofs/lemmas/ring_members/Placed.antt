@@ -4,6 +4,7 @@ use Rattle.std.proofs.lemmas.Bool.{cases_Bool, false≢true}
 use Rattle.std.proofs.lemmas.Bool.Decides.{nat_tests}
 use Rattle.std.proofs.lemmas.Option.{same_Some}
 use Rattle.std.proofs.lemmas.List.{get_or-set_same, get_or-set_other}
+use Rattle.law_driver.proofs.Common.{ring_queue}
 use Rattle.word_mem.specs.Memory.{Mem, IsShaped, word_at, with_word}
 use Rattle.word_mem.proofs.Holders.{has_block_from}
 use Rattle.mem_runs.specs.Book.{Book, Holding, Stands, IsAt, slot_of, can_store, store}
@@ -17,7 +18,6 @@ use Rattle.claims_driver.specs.Leaving.{times, IsOrderly, HasOwners}
 use Rattle.law_driver.proofs.lemmas.run_owners.Runs.{placed_run}
 use Rattle.drv_periodic_table.specs.Periodic.{is_periodic}
 use Rattle.drv_table.specs.Kinds.{is_iso}
-use Rattle.law_driver.proofs.lemmas.run_owners.Rows.{not_iso}
 use Rattle.law_driver.proofs.lemmas.run_owners.Orders.{has_left}
 use Rattle.law_driver.proofs.lemmas.run_owners.Apart.{has_within}
 use Rattle.claims_driver.specs.Ring.{IsAmong, link_in}
@@ -85,7 +85,7 @@ has_queue x queued alive = ap (λ b. b || x.gone) queued ∙ alive
 pub in_ring_alive : (d : DriverContent) (e : ℕ) (x : Endpoint) → IsOrderly d → slice_get d.endpoints e ≡ Some x → x.linked ≡ true → is_iso x.desc.kind || x.gone ≡ false
 in_ring_alive d e x order here on =
     let steady = order.steady e x here in
-    has_queue x (not_iso x.desc.kind (steady.ring on))
+    has_queue x (ring_queue x.desc.kind (steady.ring on))
     (⊎_elim (λ (g : x.gone ≡ true). absurd (false≢true (sym (steady.gone g).0 ∙ on))) (λ (g : x.gone ≡ false). g) (cases_Bool x.gone))
 
 pub queue_placed : (d : DriverContent) (e : ℕ) (x : Endpoint) → (has : HasOwners d) → slice_get d.endpoints e ≡ Some x → is_iso x.desc.kind || x.gone ≡ false → IsPlaced (slot_of d.book.slots) has.owner x.queue (QueueHead e)
@@ -116,7 +116,8 @@ pub left_alive : (d : DriverContent) (e : ℕ) (x : Endpoint) (es : List ℕ) �
 left_alive d e x es order few among here =
     let l = has_left d.endpoints e (slice_get d.endpoints e) refl (omega (arith, few, among_times e es among, order.leaving e)) in
     let same = same_Some l.endpoint x (sym l.here ∙ here) in (
-      has_queue x (not_iso x.desc.kind (ap (λ (z : Endpoint). is_periodic z.desc.kind) (sym same) ∙ l.ring)) (ap (λ (z : Endpoint). z.gone) (sym same) ∙ l.gone),
+      has_queue x (ring_queue x.desc.kind (ap (λ (z : Endpoint). is_periodic z.desc.kind) (sym same) ∙ l.ring))
+          (ap (λ (z : Endpoint). z.gone) (sym same) ∙ l.gone),
       ap (λ (z : Endpoint). z.linked) (sym same) ∙ l.linked,
     )
 

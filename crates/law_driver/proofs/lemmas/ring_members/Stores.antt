@@ -1,15 +1,14 @@
 -- Which words stores leave as they are: those of runs of other owners.
 use Rattle.std.proofs.Common.{◌≡◌, ◌≢◌, ℕ, zero, suc, ◌+◌, ◌*◌, ◌/◌, ◌<◌, ◌≤◌, Bool, true, false, cond, List, [], ◌∷◌, length, take, drop, get_or, ap, subst, ◌∙◌, refl, arith}
-use Rattle.std.proofs.lemmas.Bool.{false≢true}
 use Rattle.std.proofs.lemmas.Bool.Decides.{nat_tests}
 use Rattle.std.proofs.lemmas.List.{get_or-set_other, get_or-set_same}
+use Rattle.law_driver.proofs.Common.{stores_in}
 use Rattle.word_mem.specs.Runs.{Run}
 use Rattle.word_mem.specs.Memory.{Mem, word_at, with_word}
 use Rattle.word_mem.specs.Owners.{has_block}
 use Rattle.word_mem.proofs.Holders.{has_block_from}
 use Rattle.mem_runs.specs.Book.{Book, Holding, Stands, slot_of, has_address, can_store, store, store_words}
 use Rattle.mem_runs.specs.declared.slots.Slot.{Slot}
-use Rattle.mem_runs.specs.declared.slots.Slot.TheVariants.{Empty, Keeps, Lends}
 use Rattle.drv_table.specs.declared.content.QtdNote.{QtdNote}
 use Rattle.drv_table.specs.declared.content.Stage.{Stage}
 use Rattle.drv_table.specs.Words.{pieces}
@@ -30,11 +29,6 @@ address_in : (r : Run) (at : ℕ) → has_address r at ≡ true → has_block r 
 address_in r at has =
     let parts : (32 * r.first ≤ at) × (at < 32 * (r.first + r.blocks)) = grind (arith, nat_tests) in
     has_block_from r (at / 32) (omega (arith, parts.0)) (omega (arith, parts.1))
-
-stores_in : (s : Slot) (at : ℕ) → can_store s at ≡ true → SlotHas s (at / 32)
-stores_in Empty at can = false≢true can
-stores_in (Keeps r) at can = address_in r at can
-stores_in (Lends r) at can = address_in r at can
 
 -- none of n qTDs from block b on, and none of their buffers, begins in block c
 abbrev pub AreNotAt : List QtdNote → ℕ → ℕ → ℕ → Type 0

@@ -3,6 +3,8 @@ use Rattle.std.proofs.Common.{◌≡◌, ◌≢◌, ℕ, zero, suc, ◌<◌, ◌
 use Rattle.std.specs.Prelude.{◌⊎◌}
 use Rattle.std.proofs.lemmas.Bool.{false≢true}
 use Rattle.std.proofs.lemmas.Option.{same_Some}
+use Rattle.law_common.proofs.Lists.{drop_first}
+use Rattle.law_common.proofs.Numbers.{same_number, other_number}
 use Rattle.word_mem.specs.Memory.{Mem}
 use Rattle.mem_runs.specs.Book.{Holding, holding, Stands, slot_of}
 use Rattle.mem_runs.specs.declared.slots.Slot.{Slot}
@@ -19,7 +21,6 @@ use Rattle.law_driver.specs.run_owners.Accepts.{Opens, Chains, Places, Cancels, 
 use Rattle.claims_driver.specs.Owners.{Owner, FrameList, Head, QueueHead, Dummy, Element, Described, Buffer, HasRun, IsRunFor, IsPlaced, EndpointRuns, runs_of_endpoint, endpoint_in, note_in, descriptor_in, Views, views_of, AreOwned, IsOwned}
 use Rattle.law_driver.proofs.lemmas.run_owners.Runs.{placed_run, pieces_still, described_still}
 use Rattle.law_driver.proofs.lemmas.run_owners.Stays.{stays_same, stays_both, stays_owned, endpoint_stays, begun_notes, or_done}
-use Rattle.law_driver.proofs.lemmas.run_owners.Released.{same_number, other_number}
 use Rattle.law_driver.proofs.lemmas.run_owners.Taking.{AreTaken, runs_taken}
 
 -- ---- one more of a list
@@ -30,10 +31,6 @@ push_case f [] y (suc i) z e = absurd (cc)
 push_case f (x ∷ xs) y zero z e = inl e
 push_case f (x ∷ xs) y (suc i) z e =
     ⊎_elim (λ (w : option_map f (slice_get xs i) ≡ Some z). inl w) (λ (w : (i ≡ length xs) × (z ≡ f y)). inr (ap suc w.0, w.1)) (push_case f xs y i z e)
-
-pub drop_first : (xs ys : List ℕ) → drop (length xs) (xs ++ ys) ≡ ys
-drop_first [] ys = refl
-drop_first (x ∷ xs) ys = drop_first xs ys
 
 -- ---- the owners of new runs
 

@@ -3,6 +3,7 @@ use Rattle.std.proofs.Common.{◌≡◌, ◌≢◌, ◌*◌, ℕ, zero, suc, ◌
 use Rattle.std.specs.List.{AllByRecursion, flat_map}
 use Rattle.std.proofs.lemmas.Bool.{cases_Bool}
 use Rattle.std.proofs.lemmas.List.{get_or-set_same, get_or-set_other, length-set, length-replicate}
+use Rattle.law_common.proofs.Lists.{shift}
 use Rattle.drv_table.specs.declared.content.QtdNote.{QtdNote}
 use Rattle.drv_table.specs.declared.content.Stage.{Stage}
 use Rattle.drv_table.specs.DriverContent.{no_note}
@@ -12,17 +13,6 @@ use Rattle.drv_table.specs.Offers.{runs_of, note_for, note_stages}
 use Rattle.mem_runs.specs.declared.slots.Slot.{Slot}
 use Rattle.law_driver.specs.run_owners.Accepts.{AreShort}
 use Rattle.claims_driver.specs.Owners.{Owner, Element, Buffer, IsPlaced, note_in, ArePieces}
-
--- ---- lists told by a first and the rest
-
-next_of : (qtds : List ℕ) (i : ℕ) → get_or (get_or qtds 0 0 ∷ drop 1 qtds) i 0 ≡ get_or qtds i 0
-next_of [] zero = refl
-next_of [] (suc i) = refl
-next_of (q ∷ qtds) zero = refl
-next_of (q ∷ qtds) (suc i) = refl
-
-shift : (b : ℕ) (qtds : List ℕ) (i : ℕ) → get_or (get_or qtds 0 0 ∷ drop 1 qtds) i 0 ≡ get_or (b ∷ qtds) (suc i) 0
-shift b qtds i = next_of qtds i
 
 -- ---- the notes of other blocks stay
 

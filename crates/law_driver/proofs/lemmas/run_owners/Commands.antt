@@ -1,13 +1,12 @@
 -- Each accepted command was accepted for a reason.
-use Rattle.std.proofs.Common.{◌≡◌, ℕ, zero, suc, ◌+◌, ◌-◌, ◌*◌, ◌≤◌, Bool, true, false, not, ◌&&◌, ◌||◌, cond, min, max, nat_lt, nat_le, nat_eq, List, [], ◌∷◌, ◌++◌, length, map, get_or, slice_get, Option, Some, None, Result, Ok, Err, unwrap_or, ap, sym, ◌∙◌, refl, arith}
-use Rattle.std.specs.Prelude.{option_and_then, is_some, position, count_by}
+use Rattle.std.proofs.Common.{◌≡◌, ℕ, zero, suc, ◌+◌, ◌-◌, ◌*◌, ◌≤◌, Bool, true, false, not, ◌&&◌, ◌||◌, cond, min, max, nat_lt, nat_le, nat_eq, List, [], ◌∷◌, ◌++◌, length, map, slice_get, Option, Some, None, Result, Ok, Err, unwrap_or, ap, sym, ◌∙◌, refl, arith}
+use Rattle.std.specs.Prelude.{option_and_then, is_some, count_by}
 use Rattle.std.proofs.lemmas.Bool.{false≢true}
 use Rattle.std.proofs.lemmas.List.Sums.{count_by-le-length}
 use Rattle.std.proofs.lemmas.Nat.{mul-le}
-use Rattle.std.proofs.lemmas.Option.{slice_get-get_or}
-use Rattle.std.proofs.lemmas.List.Quantifiers.{position-Some}
 use Rattle.std.specs.List.{range_with_len}
 use Rattle.std.proofs.lemmas.Bool.Decides.{nat_tests}
+use Rattle.law_driver.proofs.Common.{ok_is, control_kind, queue_kind, found_there}
 use Rattle.usb_base.specs.declared.endpoints.EpDesc.{EpDesc}
 use Rattle.usb_base.specs.declared.endpoints.EndCause.{EndCause}
 use Rattle.usb_base.specs.declared.endpoints.EndCause.TheVariants as causes
@@ -33,9 +32,9 @@ use Rattle.drv_periodic_table.specs.Periodic.{is_periodic, want_of}
 use Rattle.drv_periodic_table.specs.Descriptors.{slots_before, slot_limit}
 use Rattle.drv_table.specs.Kinds.{is_iso}
 use Rattle.drv_table.specs.DriverContent.{DriverContent, is_same_way, waits_for, endpoint_of, endpoint_named}
-use Rattle.drv_table.specs.Words.{pieces, in_stage, out_stage, get_stages, put_stages, request_length, request_stages, asks_in, setup_stage, data_stage, status_stage, needs, is_control}
+use Rattle.drv_table.specs.Words.{pieces, in_stage, out_stage, get_stages, put_stages, request_length, request_stages, asks_in, setup_stage, data_stage, status_stage, needs}
 use Rattle.drv_table.specs.Accepting.{Offered, take_runs}
-use Rattle.drv_table.specs.Offers.{Asked, taken_open, taken_chain, placed_open, planned_open, offered_open, taken_transfer, open_transfer, found_transfer, is_queued, takes_get, takes_put, takes_control, offered_next, offered}
+use Rattle.drv_table.specs.Offers.{Asked, taken_open, taken_chain, placed_open, planned_open, offered_open, taken_transfer, open_transfer, found_transfer, takes_get, takes_put, takes_control, offered_next, offered}
 use Rattle.drv_table.specs.IsoOffers.{total_of, slots_of, iso_needs, taken_iso, spans_too_long, has_slots, open_iso, offered_iso}
 use Rattle.drv_table.specs.CancelOffers.{cancelled_by, offered_cancel}
 use Rattle.claims_driver.specs.Owners.{is_descriptor}
@@ -87,9 +86,6 @@ control_asked setup bytes = record {
 
 -- ---- transfers
 
-ok_is : (o p : Offered) → ◌≡◌ {A = Result Offered OfferError} (Ok o) (Ok p) → p ≡ o
-ok_is o p e = cc
-
 taken_why : (d : DriverContent) (m : Mem) (e : ℕ) (x : Endpoint) (a : Asked) (o : Offered) (r : Result Holding OfferError) → d.command ≡ None → slice_get d.endpoints e ≡ Some x → x.ended ≡ None → is_iso x.desc.kind ≡ false → AreAsked a → a.most ≤ 20480 → take_runs (holding d.book m) (needs a.stages) ≡ r → taken_transfer d e x a r ≡ Ok o → Accepts d m o
 taken_why d m e x a o (Err why) idle here ended queued asked few is f = absurd (cc)
 taken_why d m e x a o (Ok h) idle here ended queued asked few is f =
@@ -130,15 +126,6 @@ found_why d m takes e a o (Some x) idle here queued asked f = takes_why d m e x 
 named_why : (d : DriverContent) (m : Mem) (takes : Endpoint → Bool) (a : Asked) (o : Offered) (q : Option ℕ) → d.command ≡ None → ((x : Endpoint) → takes x ≡ true → is_iso x.desc.kind ≡ false) → AreAsked a → found_transfer d m takes a (unwrap_or q 0) (option_and_then (λ e. slice_get d.endpoints e) q) ≡ Ok o → Accepts d m o
 named_why d m takes a o None idle queued asked f = absurd (cc)
 named_why d m takes a o (Some e) idle queued asked f = found_why d m takes e a o (slice_get d.endpoints e) idle refl queued asked f
-
--- an endpoint that takes transfers has a queue
-queue_kind : (k : EpKind) (b : Bool) → is_queued k && b ≡ true → is_iso k ≡ false
-queue_kind kinds.Iso b e = absurd (false≢true e)
-queue_kind _ b e = refl
-
-control_kind : (k : EpKind) → is_control k ≡ true → is_iso k ≡ false
-control_kind kinds.Iso e = absurd (false≢true e)
-control_kind _ e = refl
 
 -- ---- descriptors
 
@@ -206,11 +193,6 @@ iso_named d m len n seed o None idle f = absurd (cc)
 iso_named d m len n seed o (Some e) idle f = iso_found d m e len n seed o (slice_get d.endpoints e) idle refl f
 
 -- ---- an open
-
-found_there : (xs : List Endpoint) (p : Endpoint → Bool) (e : ℕ) → position p xs ≡ Some e → (y : Endpoint) × (slice_get xs e ≡ Some y)
-found_there [] p e f = absurd (cc)
-found_there (x ∷ xs) p e f =
-    let at = position-Some p (x ∷ xs) e x f in (get_or (x ∷ xs) e x, slice_get-get_or (x ∷ xs) e x at.0)
 
 opened_why : (d : DriverContent) (m : Mem) (x : EpDesc) (o : Offered) (r : Result Holding OfferError) → d.command ≡ None → endpoint_of d x.name ≡ None → is_periodic x.kind ≡ false → take_runs (holding d.book m) (2 ∷ 1 ∷ []) ≡ r → taken_open d x r ≡ Ok o → Accepts d m o
 opened_why d m x o (Err why) idle none ring is f = absurd (cc)

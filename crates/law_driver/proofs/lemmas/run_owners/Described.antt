@@ -4,6 +4,9 @@ use Rattle.std.specs.List.{AllByRecursion}
 use Rattle.std.proofs.lemmas.Bool.{false≢true}
 use Rattle.std.proofs.lemmas.List.{get_or-set_same, get_or-set_other, length-set, get_or-take, get_or-drop}
 use Rattle.std.proofs.lemmas.Option.{slice_get_past}
+use Rattle.law_common.proofs.Lists.{get_first, drop_first}
+use Rattle.law_common.proofs.Numbers.{same_number, other_number}
+use Rattle.law_driver.proofs.Common.{blocks_run}
 use Rattle.usb_base.specs.declared.endpoints.EpDesc.{EpDesc}
 use Rattle.word_mem.specs.Memory.{Mem}
 use Rattle.mem_runs.specs.Book.{Book, Holding, holding, Stands, slot_of}
@@ -21,10 +24,9 @@ use Rattle.law_driver.specs.run_owners.Accepts.{Describes}
 use Rattle.claims_driver.specs.Owners.{Owner, FrameList, Head, QueueHead, Dummy, Element, Described, Buffer, HasBlocks, IsPlaced, EndpointRuns, TransferRuns, runs_of_endpoint, runs_of_transfer, runs_of_descriptor, endpoint_in, transfer_in, note_in, descriptor_in, ArePieces, IsDescribed, Views, views_of, AreOwned, IsOwned}
 use Rattle.law_driver.proofs.lemmas.run_owners.Runs.{placed_run, pieces_still, described_still, owned_stays}
 use Rattle.law_driver.proofs.lemmas.run_owners.Stays.{same_view}
-use Rattle.law_driver.proofs.lemmas.run_owners.Released.{same_number, other_number}
-use Rattle.law_driver.proofs.lemmas.run_owners.Taking.{AreTaken, runs_taken, blocks_some}
+use Rattle.law_driver.proofs.lemmas.run_owners.Taking.{AreTaken, runs_taken}
 use Rattle.law_driver.proofs.lemmas.run_owners.Chains.{few_runs, filled_at}
-use Rattle.law_driver.proofs.lemmas.run_owners.Accepted.{push_case, drop_first, given, given_at, given_not, fresh_differs, still_placed, within_slots}
+use Rattle.law_driver.proofs.lemmas.run_owners.Accepted.{push_case, given, given_at, given_not, fresh_differs, still_placed, within_slots}
 use Rattle.law_driver.proofs.lemmas.run_owners.Transferred.{one_not}
 
 -- ---- runs that were taken and that nothing tells yet: the spare owner is one of a transfer that there isn't
@@ -75,10 +77,6 @@ pub record AreReady (v : Views) (owner : ℕ → Owner) (u : ℕ) (ns rs : List 
   pub long : length rs ≡ length ns
   pub runs : (i : ℕ) → i < length rs → HasBlocks (get_or ns i 0) (v.slot (get_or rs i 0))
   pub within : (i : ℕ) → i < length rs → get_or rs i 0 < length notes
-
-get_first : (rs : List ℕ) (i : ℕ) → get_or (drop 1 rs) i 0 ≡ get_or rs (suc i) 0
-get_first [] i = refl
-get_first (r ∷ rs) i = refl
 
 next_needs : (n i : ℕ) (ns ms : List ℕ) → length ns ≡ n → get_or (ns ++ ms) (n + i) 0 ≡ get_or ms i 0
 next_needs zero i [] ms long = let e : 0 + i ≡ i = omega arith in ap (λ k. get_or ms k 0) e
@@ -203,7 +201,7 @@ one_ready v owner u n seed k e x s rs a short below ready =
         filled_at (λ c. IsPlaced v.slot mine c (Buffer (length a.transfers))) (slot_runs s) 6 (drop 1 rs) (replicate 6 0) (few_runs 6 (total_of s) short (omega arith)) (omega (arith, length-drop 1 rs, enough))
         (λ i less.
         subst (λ c. IsPlaced v.slot mine c (Buffer (length a.transfers))) (sym (get_first rs i))
-        (record { owned = buffers i less; run = blocks_some (get_or (iso_needs s (suc n)) (suc i) 0) (v.slot (get_or rs (suc i) 0)) (ready.runs (suc i) (omega (arith, less, enough))) }))
+        (record { owned = buffers i less; run = blocks_run (get_or (iso_needs s (suc n)) (suc i) 0) (v.slot (get_or rs (suc i) 0)) (ready.runs (suc i) (omega (arith, less, enough))) }))
 
 -- ---- all of them
 
@@ -246,7 +244,7 @@ spare_ready {h = h} {g = g} {ns = ns} {bs = bs} d owner u taken slots old =
       long = taken.long;
       runs = taken.new;
       within = λ i below.
-          let w = within_slots (get_or bs i 0) taken (blocks_some (get_or ns i 0) (slot_of g.book.slots (get_or bs i 0)) (taken.new i below)) in
+          let w = within_slots (get_or bs i 0) taken (blocks_run (get_or ns i 0) (slot_of g.book.slots (get_or bs i 0)) (taken.new i below)) in
           let s = ap length slots in
           omega (arith, w, taken.many, old.as_many, s);
     }

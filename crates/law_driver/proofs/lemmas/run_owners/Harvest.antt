@@ -2,6 +2,8 @@
 use Rattle.std.proofs.Common.{◌≡◌, ℕ, zero, suc, ◌-◌, ◌≤◌, ◌==◌, Bool, true, false, not, ◌&&◌, cond, List, [], ◌∷◌, ◌++◌, length, set, slice_get, Option, Some, None, ap, sym, ◌∙◌, ⊎_elim, refl, arith}
 use Rattle.std.specs.Prelude.{is_some}
 use Rattle.std.proofs.lemmas.Bool.{cases_Bool, false≢true}
+use Rattle.law_driver.proofs.Common.{one_behind as one_same}
+use Rattle.law_common.proofs.Lists.{set_here}
 use Rattle.usb_base.specs.declared.endpoints.EpName.{EpName}
 use Rattle.usb_base.specs.declared.endpoints.EndCause.{EndCause}
 use Rattle.word_mem.specs.Memory.{Mem}
@@ -14,7 +16,7 @@ use Rattle.drv_table.specs.DriverContent.{DriverContent, waits_for, next_after}
 use Rattle.drv_table.specs.Harvests.{note_at, noted, is_stall, end_of}
 use Rattle.drv_table.specs.Harvesting.{served, told_with, behind_one, behind, mends_of, after_end, harvested_as, after_harvest}
 use Rattle.claims_driver.specs.Leaving.{owes, Returns, returns_of, AreOrderly, IsOrderly}
-use Rattle.law_driver.proofs.lemmas.run_owners.Released.{same_by_test, set_here}
+use Rattle.law_driver.proofs.lemmas.run_owners.Released.{same_by_test}
 use Rattle.law_driver.proofs.lemmas.run_owners.Orders.{counts, owes_nothing, owes_one, IsLike, transfer_changed, one_harvested, one_unlinked, endpoint_changed}
 
 pub record Waits (e : ℕ) (y : Transfer) : Type 0 where
@@ -63,14 +65,6 @@ one_behind d e name k x None here alive there old = old
 one_behind d e name k x (Some y) here alive there old =
     when IsOrderly (waits_for e y) _ d
     (λ on. let w = waits_is e y on in harvested_now k y there w.reported (unreleased e k x y here alive there w old) old) old
-
-either_way : (P : DriverContent → Type 0) (b : Bool) (x y : DriverContent) → P x → P y → P (cond b x y)
-either_way P true x y one two = one
-either_way P false x y one two = two
-
-one_same : (d : DriverContent) (e : ℕ) (name : EpName) (k : ℕ) (o : Option Transfer) → (behind_one d e name k o).endpoints ≡ d.endpoints
-one_same d e name k None = refl
-one_same d e name k (Some y) = either_way (λ g. g.endpoints ≡ d.endpoints) (waits_for e y) _ d refl refl
 
 behind_orderly : (d : DriverContent) (e : ℕ) (name : EpName) (k n : ℕ) (x : Endpoint) → slice_get d.endpoints e ≡ Some x → x.gone ≡ false → IsOrderly d → IsOrderly (behind d e name k n)
 unfolding behind

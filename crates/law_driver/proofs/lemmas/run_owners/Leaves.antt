@@ -3,7 +3,11 @@ use Rattle.std.proofs.Common.{◌≡◌, ◌≢◌, ℕ, ◌+◌, ◌<◌, ◌==
 use Rattle.std.specs.Prelude.{is_some, ◌⊎◌, ◌≤◌}
 use Rattle.std.proofs.lemmas.Bool.{cases_eq, cases_lt, cases_Bool, false≢true}
 use Rattle.std.proofs.lemmas.List.{length-set}
-use Rattle.std.proofs.lemmas.Option.{same_Some, slice_get-map}
+use Rattle.std.proofs.lemmas.Option.{slice_get-map}
+use Rattle.law_driver.proofs.Common.{frames_most}
+use Rattle.law_common.proofs.Numbers.{leaves_none}
+use Rattle.law_driver.proofs.Common.{gone_was, not_in_ring, ring_most}
+use Rattle.law_common.proofs.Lists.{set_here, set_there}
 use Rattle.drv_periodic_table.specs.Periodic.{is_periodic, read_again}
 use Rattle.drv_periodic_table.specs.declared.content.Removal.{Removal}
 use Rattle.drv_periodic_table.specs.declared.content.Removed.TheVariants as removed
@@ -17,7 +21,7 @@ use Rattle.drv_table.specs.Releases.{let_go}
 use Rattle.drv_table.specs.Removals.{let_go_waiting}
 use Rattle.claims_driver.specs.Owners.{is_descriptor}
 use Rattle.claims_driver.specs.Leaving.{times, transfer_before, endpoint_before, transfers_in, endpoints_in, owes, leaves_ring, leaves_frames, IsSteady, Returns, AreOrderly, IsOrderly}
-use Rattle.law_driver.proofs.lemmas.run_owners.Released.{same_by_test, set_here, set_there}
+use Rattle.law_driver.proofs.lemmas.run_owners.Released.{same_by_test}
 use Rattle.law_driver.proofs.lemmas.run_owners.Orders.{counts, times_push, times_both, times_first, one_same, none_other, none_at_all, transfers_push, endpoints_push, transfers_read, endpoints_read, transfers_kept, endpoint_first, IsLeft, has_left, IsRemoved, has_removed, owes_nothing, in_ring, out_of_ring, in_frames, out_of_frames, set_case, same_count}
 
 -- ---- the command goes on
@@ -212,10 +216,6 @@ pub record IsLess (r s : Returns) (e : ℕ) : Type 0 where
   pub none : times e s.waiting + times e s.rung + times e s.cleared ≡ 0
   pub out : times e (endpoints_in s.removals) ≡ 0
 
-gone_was : (go : Transfer → Transfer) (ts : List Transfer) (t : ℕ) (o : Option Transfer) (z : Transfer) → slice_get ts t ≡ o → option_map go o ≡ Some z → (y : Transfer) × (slice_get ts t ≡ Some y) × (go y ≡ z)
-gone_was go ts t None z there is = absurd (cc)
-gone_was go ts t (Some y) z there is = (y, there, same_Some (go y) z is)
-
 pub endpoint_gone : {r s : Returns} {ts : List Transfer} {xs : List Endpoint} {l : Option ℕ} (e : ℕ) (x : Endpoint) (go : Transfer → Transfer) → slice_get xs e ≡ Some x → x.linked ≡ false → x.chained ≡ false → IsLess r s e → ((t : ℕ) (y : Transfer) → slice_get ts t ≡ Some y → GoesBy e r t y (go y)) → AreOrderly r ts xs l → AreOrderly s (map go ts) (set xs e (record x { gone = true })) l
 endpoint_gone {r = r} {s = s} {ts = ts} {xs = xs} {l = l} e x go here off out less goes old =
     let y : Endpoint = record x { gone = true } in
@@ -329,24 +329,8 @@ one_most : (b : Bool) → ◌≡◌ {A = Bool} b b → cond b 0 1 ≤ 1
 one_most true e = omega arith
 one_most false e = omega arith
 
-ring_most : (o : Option Endpoint) → leaves_ring o ≤ 1
-ring_most None = omega arith
-ring_most (Some x) = one_most (x.linked || x.gone || is_periodic x.desc.kind) refl
-
-frames_most : (o : Option Endpoint) → leaves_frames o ≤ 1
-frames_most None = omega arith
-frames_most (Some x) = one_most (x.chained || x.gone || not (is_periodic x.desc.kind)) refl
-
-third_true : (a b c : Bool) → c ≡ true → ◌≡◌ {A = ℕ} (cond (a || b || c) 0 1) 0
-third_true true b c is = refl
-third_true false true c is = refl
-third_true false false c is = ap (λ k. cond k 0 1) is
-
 not_in_frames : (x : Endpoint) → is_periodic x.desc.kind ≡ false → leaves_frames (Some x) ≡ 0
-not_in_frames x ring = third_true x.chained x.gone (not (is_periodic x.desc.kind)) (ap not ring)
-
-not_in_ring : (x : Endpoint) → is_periodic x.desc.kind ≡ true → leaves_ring (Some x) ≡ 0
-not_in_ring x frames = third_true x.linked x.gone (is_periodic x.desc.kind) frames
+not_in_frames x ring = leaves_none x.chained x.gone (not (is_periodic x.desc.kind)) (ap not ring)
 
 pub less_cleared : {r : Returns} {ts : List Transfer} {xs : List Endpoint} {l : Option ℕ} (e : ℕ) (x : Endpoint) → slice_get xs e ≡ Some x → is_periodic x.desc.kind ≡ false → slice_get r.cleared 0 ≡ Some e → AreOrderly r ts xs l → IsLess r (record r { cleared = drop 1 r.cleared }) e
 less_cleared {r = r} {xs = xs} e x here ring first old = record {

@@ -1,8 +1,10 @@
 -- An accepted command keeps the order of what is to be given back.
-use Rattle.std.proofs.Common.{◌+◌, ◌%◌, drop, ◌≡◌, ℕ, zero, suc, ◌-◌, ◌<◌, ◌≤◌, true, false, List, [], ◌∷◌, ◌++◌, length, take, get_or, set, slice_get, Option, Some, None, ap, sym, subst, ◌∙◌, ⊎_elim, inl, inr, refl, arith, length-append}
-use Rattle.std.specs.Prelude.{◌⊎◌, is_some}
+use Rattle.std.proofs.Common.{◌+◌, ◌%◌, drop, ◌≡◌, ℕ, zero, suc, ◌-◌, ◌<◌, ◌≤◌, true, false, List, [], ◌∷◌, ◌++◌, length, take, get_or, set, slice_get, Option, Some, None, ap, sym, subst, ◌∙◌, ⊎_elim, refl, arith, length-append}
+use Rattle.std.specs.Prelude.{is_some}
 use Rattle.std.proofs.lemmas.Bool.{cases_lt, false≢true}
 use Rattle.std.proofs.lemmas.Option.{same_Some, slice_get_past, slice_get_within}
+use Rattle.law_common.proofs.Lists.{push_which, set_here}
+use Rattle.law_driver.proofs.Common.{iso_frames}
 use Rattle.usb_base.specs.declared.endpoints.EndCause.{EndCause}
 use Rattle.word_mem.specs.Memory.{Mem}
 use Rattle.drv_table.specs.declared.content.Endpoint.{Endpoint}
@@ -10,8 +12,6 @@ use Rattle.drv_table.specs.declared.content.Transfer.{Transfer}
 use Rattle.drv_table.specs.declared.content.Command.{Command}
 use Rattle.drv_table.specs.declared.content.Command.TheVariants as unfinished
 use Rattle.usb_base.specs.declared.endpoints.EpDesc.{EpDesc}
-use Rattle.usb_base.specs.declared.packets.EpKind.{EpKind}
-use Rattle.usb_base.specs.declared.packets.EpKind.TheVariants as kinds
 use Rattle.mem_runs.specs.Book.{Book}
 use Rattle.bandwidth.specs.declared.placements.Placement.{Placement}
 use Rattle.drv_periodic_table.specs.Periodic.{is_periodic}
@@ -25,19 +25,11 @@ use Rattle.drv_table.specs.Offers.{new_endpoint, placed_endpoint, with_queued, n
 use Rattle.law_driver.specs.run_owners.Accepts.{Accepts, opens, chains, places, transfers, describes, cancels, unchains}
 use Rattle.claims_driver.specs.Leaving.{owes, leaves_ring, leaves_frames, leaver, IsSteady, Returns, returns_of, AreOrderly, IsOrderly}
 use Rattle.claims_driver.specs.Owners.{is_descriptor}
-use Rattle.law_driver.proofs.lemmas.run_owners.Released.{set_here}
 use Rattle.law_driver.proofs.lemmas.run_owners.Orders.{IsLike, endpoint_changed}
 use Rattle.law_driver.proofs.lemmas.run_owners.Leaves.{no_command_orderly}
 use Rattle.law_driver.proofs.lemmas.run_owners.Goes.{begun_orderly, or_done_orderly}
 
 -- ---- one more of a list
-
-pub pushed : {X : Type 0} (xs : List X) (y : X) (i : ℕ) (z : X) → slice_get (xs ++ y ∷ []) i ≡ Some z → (slice_get xs i ≡ Some z) ⊎ ((i ≡ length xs) × (z ≡ y))
-pushed [] y zero z e = inr (refl, sym (same_Some y z e))
-pushed [] y (suc i) z e = absurd (cc)
-pushed (x ∷ xs) y zero z e = inl e
-pushed (x ∷ xs) y (suc i) z e =
-    ⊎_elim (λ (w : slice_get xs i ≡ Some z). inl w) (λ (w : (i ≡ length xs) × (z ≡ y)). inr (ap suc w.0, w.1)) (pushed xs y i z e)
 
 pub pushed_below : {X : Type 0} (xs : List X) (y : X) (i : ℕ) → i < length xs → slice_get (xs ++ y ∷ []) i ≡ slice_get xs i
 pushed_below [] y i below = absurd (omega arith)
@@ -58,7 +50,7 @@ endpoint_pushed {r = r} {ts = ts} {xs = xs} y new old = record {
   steady = λ i z there.
       ⊎_elim (λ (w : slice_get xs i ≡ Some z). old.steady i z w)
       (λ (w : (i ≡ length xs) × (z ≡ y)). subst IsSteady (sym w.1) new)
-      (pushed xs y i z there);
+      (push_which xs y i z there);
   within = λ t z there. omega (arith, length-append xs (y ∷ []), old.within t z there);
   sorts = λ t z w there at. old.sorts t z w there (sym (pushed_below xs y z.endpoint (old.within t z there)) ∙ at);
   unlinked = old.unlinked;
@@ -85,11 +77,6 @@ placed_steady x p queue dummy frames = record {
   placed = sym frames;
 }
 
-pub iso_periodic : (k : EpKind) → is_iso k ≡ true → is_periodic k ≡ true
-iso_periodic kinds.Bulk is = is
-iso_periodic kinds.Control is = is
-iso_periodic _ is = refl
-
 -- ---- a transfer
 
 transfer_pushed : {r : Returns} {ts : List Transfer} {xs : List Endpoint} {l : Option ℕ} (y : Transfer) (x : Endpoint) → slice_get xs y.endpoint ≡ Some x → y.released ≡ false → is_descriptor y.sort ≡ is_iso x.desc.kind → AreOrderly r ts xs l → AreOrderly r (ts ++ y ∷ []) xs None
@@ -102,17 +89,17 @@ transfer_pushed {r = r} {ts = ts} {xs = xs} y x here off sort old = record {
   steady = old.steady;
   within = λ t z there.
       ⊎_elim (λ (w : slice_get ts t ≡ Some z). old.within t z w)
-      (λ (w : (t ≡ length ts) × (z ≡ y)). subst (λ (v : Transfer). v.endpoint < length xs) (sym w.1) (slice_get_within xs y.endpoint x here)) (pushed ts y t z there);
+      (λ (w : (t ≡ length ts) × (z ≡ y)). subst (λ (v : Transfer). v.endpoint < length xs) (sym w.1) (slice_get_within xs y.endpoint x here)) (push_which ts y t z there);
   sorts = λ t z w there at.
       ⊎_elim (λ (v : slice_get ts t ≡ Some z). old.sorts t z w v at)
       (λ (v : (t ≡ length ts) × (z ≡ y)).
-      ap (λ (u : Transfer). is_descriptor u.sort) v.1 ∙ sort ∙ ap (λ (u : Endpoint). is_iso u.desc.kind) (same_Some x w (sym here ∙ ap (λ (u : Transfer). slice_get xs u.endpoint) (sym v.1) ∙ at))) (pushed ts y t z there);
+      ap (λ (u : Transfer). is_descriptor u.sort) v.1 ∙ sort ∙ ap (λ (u : Endpoint). is_iso u.desc.kind) (same_Some x w (sym here ∙ ap (λ (u : Transfer). slice_get xs u.endpoint) (sym v.1) ∙ at))) (push_which ts y t z there);
   unlinked = λ t z some there.
       ⊎_elim (λ (v : slice_get ts t ≡ Some z). old.unlinked t z some v)
-      (λ (v : (t ≡ length ts) × (z ≡ y)). let was = ap owes (slice_get_past ts t (omega (arith, v.0))) in absurd (omega (arith, was, some, old.harvests t))) (pushed ts y t z there);
+      (λ (v : (t ≡ length ts) × (z ≡ y)). let was = ap owes (slice_get_past ts t (omega (arith, v.0))) in absurd (omega (arith, was, some, old.harvests t))) (push_which ts y t z there);
   untold = λ t z there back told w at.
       ⊎_elim (λ (v : slice_get ts t ≡ Some z). old.untold t z v back told w at)
-      (λ (v : (t ≡ length ts) × (z ≡ y)). absurd (false≢true (sym (ap (λ (u : Transfer). u.released) v.1 ∙ off) ∙ back))) (pushed ts y t z there);
+      (λ (v : (t ≡ length ts) × (z ≡ y)). absurd (false≢true (sym (ap (λ (u : Transfer). u.released) v.1 ∙ off) ∙ back))) (push_which ts y t z there);
   leaver = λ i z is there. absurd (cc);
 }
 
@@ -179,7 +166,7 @@ accepted_orderly d m o (chains why) old =
 accepted_orderly d m o (places why) old =
     subst (λ (f : Offered). IsOrderly f.driver) (sym why.is)
     (subst (λ (c : Option Command). AreOrderly (returns_of d) d.transfers (d.endpoints ++ placed_endpoint why.desc why.placement 0 0 ∷ []) (leaver c)) (sym why.idle)
-    (endpoint_pushed (placed_endpoint why.desc why.placement 0 0) (placed_steady why.desc why.placement 0 0 (iso_periodic why.desc.kind why.isochronous)) old))
+    (endpoint_pushed (placed_endpoint why.desc why.placement 0 0) (placed_steady why.desc why.placement 0 0 (iso_frames why.desc.kind why.isochronous)) old))
 accepted_orderly d m o (transfers why) old =
     let dummy = get_or (take (length why.asked.stages) (new_runs d why.holding_after)) (length why.asked.stages - 1) 0 in
     let y = with_queued why.endpoint dummy (length d.transfers) in

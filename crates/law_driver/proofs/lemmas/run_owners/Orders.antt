@@ -4,6 +4,9 @@ use Rattle.std.specs.Prelude.{is_some, ◌⊎◌}
 use Rattle.std.proofs.lemmas.Bool.{cases_eq, false≢true}
 use Rattle.std.proofs.lemmas.List.{length-set}
 use Rattle.std.proofs.lemmas.Option.{same_Some}
+use Rattle.law_common.proofs.Booleans.{not_not}
+use Rattle.law_common.proofs.Numbers.{same_number, other_number}
+use Rattle.law_common.proofs.Lists.{set_here, set_there}
 use Rattle.drv_table.specs.declared.content.Endpoint.{Endpoint}
 use Rattle.drv_table.specs.declared.content.Transfer.{Transfer}
 use Rattle.drv_table.specs.declared.content.Sort.{Sort}
@@ -16,7 +19,6 @@ use Rattle.drv_periodic_table.specs.declared.content.Removed.{Removed}
 use Rattle.drv_periodic_table.specs.declared.content.Removed.TheVariants as removed
 use Rattle.claims_driver.specs.Owners.{is_descriptor}
 use Rattle.claims_driver.specs.Leaving.{times, transfer_before, endpoint_before, transfers_in, endpoints_in, owes, leaves_ring, leaves_frames, IsSteady, Returns, AreOrderly}
-use Rattle.law_driver.proofs.lemmas.run_owners.Released.{same_number, other_number, set_here, set_there}
 
 -- ---- how often
 
@@ -139,10 +141,6 @@ pub record IsRemoved (xs : List Endpoint) (e : ℕ) : Type 0 where
   pub chained : endpoint.chained ≡ false
   pub gone : endpoint.gone ≡ false
   pub frames : is_periodic endpoint.desc.kind ≡ true
-
-not_not : (b : Bool) → not b ≡ false → b ≡ true
-not_not true e = refl
-not_not false e = sym e
 
 pub has_removed : (xs : List Endpoint) (e : ℕ) (o : Option Endpoint) → slice_get xs e ≡ o → 1 ≤ leaves_frames o → IsRemoved xs e
 has_removed xs e None here h = absurd (omega arith)

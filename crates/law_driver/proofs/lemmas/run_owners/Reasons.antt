@@ -5,6 +5,8 @@ use Rattle.std.proofs.lemmas.Bool.{false≢true}
 use Rattle.std.proofs.lemmas.Bool.Decides.{nat_tests}
 use Rattle.std.proofs.lemmas.Option.{same_Some, slice_get-map, slice_get-get_or}
 use Rattle.std.proofs.lemmas.List.Quantifiers.{position-Some}
+use Rattle.law_common.proofs.Booleans.{both_parts}
+use Rattle.law_driver.proofs.Common.{get_drop}
 use Rattle.usb_base.specs.declared.endpoints.EndCause.{EndCause}
 use Rattle.drv_chains.specs.Boundary.{is_seen}
 use Rattle.drv_periodic.specs.declared.work.Store.{Store}
@@ -83,10 +85,6 @@ due_command p c (Some row) is next = due_next p c row is next (events_are c p.dr
 due_link : (p : Parts) (c : Command) (o : Option Store) → p.driver.command ≡ Some c → links c ≡ true → length (events_of c) ≤ p.driver.made → next_store p.driver.periodic.list ≡ o → IsDue p (link_row o)
 due_link p c None is on late next = tt
 due_link p c (Some s) is on late next = inr (record { command = c; unfinished = is; links = on; late = late; store = s; next = next; is = refl })
-
-both_true : (a b : Bool) → a && b ≡ true → (a ≡ true) × (b ≡ true)
-both_true true b e = (refl, e)
-both_true false b e = absurd (false≢true e)
 
 not_before : (m n : ℕ) (b : Bool) → nat_le m n ≡ b → b ≡ true → m ≤ n
 not_before m n b is on = grind (arith, nat_tests)
@@ -168,12 +166,6 @@ position_is (x ∷ xs) i e =
     let at = position-Some works (x ∷ xs) i x e in
     record { endpoint = get_or (x ∷ xs) i x; here = slice_get-get_or (x ∷ xs) i x at.0; works = at.1 }
 
-get_drop : (xs : List Endpoint) (k i : ℕ) → slice_get (drop k xs) i ≡ slice_get xs (k + i)
-get_drop [] zero i = refl
-get_drop [] (suc k) i = refl
-get_drop (x ∷ xs) zero i = let e : i ≡ 0 + i = omega arith in ap (slice_get (x ∷ xs)) e
-get_drop (x ∷ xs) (suc k) i = let e : suc k + i ≡ suc (k + i) = omega arith in get_drop xs k i ∙ ap (slice_get (x ∷ xs)) (sym e)
-
 worker_is : (xs : List Endpoint) (k e : ℕ) → worker_from xs k ≡ Some e → IsWorker xs e
 worker_is xs k e found = at (position works (drop k xs)) refl found
   where
@@ -234,7 +226,7 @@ due_turn p turns.Leaving idle = two p (leaving_row p.driver p.registers) (harves
 due_turn p turns.Harvest idle = two p (harvest_row p.driver p.memory) (leaving_row p.driver p.registers) (λ row. due_harvest p row idle) (λ row. due_leaving p row idle)
 
 due_for : (p : Parts) (o : Option Command) → p.driver.command ≡ o → IsDue p (row_for p o)
-due_for p (Some c) is = due_after p c (links c && nat_le (length (events_of c)) p.driver.made) is (λ on. let b = both_true (links c) (nat_le (length (events_of c)) p.driver.made) on in (b.0, not_before (length (events_of c)) p.driver.made (nat_le (length (events_of c)) p.driver.made) refl b.1))
+due_for p (Some c) is = due_after p c (links c && nat_le (length (events_of c)) p.driver.made) is (λ on. let b = both_parts (links c) (nat_le (length (events_of c)) p.driver.made) on in (b.0, not_before (length (events_of c)) p.driver.made (nat_le (length (events_of c)) p.driver.made) refl b.1))
 due_for p None is = due_turn p p.driver.turn is
 
 pub each_event_is_due : (p : Parts) → IsDue p (driver_row p)

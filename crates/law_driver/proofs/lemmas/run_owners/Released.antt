@@ -1,9 +1,10 @@
 -- What is given back: all else stands as before.
-use Rattle.std.proofs.Common.{◌≡◌, ◌≢◌, ℕ, zero, suc, ◌==◌, Bool, true, false, not, ◌&&◌, ◌||◌, cond, List, [], ◌∷◌, length, map, set, take, slice_get, Option, Some, None, option_map, ap, sym, subst, ◌∙◌, ⊎_elim, refl, arith}
+use Rattle.std.proofs.Common.{◌≡◌, ◌≢◌, ℕ, zero, suc, ◌==◌, Bool, true, false, not, ◌&&◌, ◌||◌, cond, List, [], ◌∷◌, length, map, set, take, slice_get, Option, Some, None, option_map, ap, sym, subst, ◌∙◌, ⊎_elim, refl}
 use Rattle.std.proofs.lemmas.Bool.{cases_eq, cases_Bool, false≢true}
-use Rattle.std.proofs.lemmas.Bool.Decides.{nat_tests}
 use Rattle.std.proofs.lemmas.List.{length-set}
 use Rattle.std.proofs.lemmas.Option.{same_Some, slice_get-map}
+use Rattle.law_common.proofs.Numbers.{same_number, other_number}
+use Rattle.law_common.proofs.Lists.{set_here, set_there}
 use Rattle.word_mem.specs.Memory.{Mem}
 use Rattle.mem_runs.specs.Book.{Holding, holding, slot_of, slot_at, release_slot, release_run}
 use Rattle.mem_runs.specs.declared.slots.Slot.{Slot}
@@ -63,28 +64,8 @@ many_descriptors notes e h (y ∷ ts) =
 
 -- ---- tests of numbers
 
-pub same_number : (n : ℕ) → (n == n) ≡ true
-same_number n = grind (arith, nat_tests)
-
-pub other_number : (m n : ℕ) → m ≢ n → (m == n) ≡ false
-other_number m n differs = grind (arith, nat_tests)
-
 pub same_by_test : (m n : ℕ) → (m == n) ≡ true → m ≡ n
 same_by_test m n test = ⊎_elim (λ (same : m ≡ n). same) (λ (differs : m ≢ n). absurd (false≢true (sym (other_number m n differs) ∙ test))) (cases_eq m n)
-
--- ---- one thing of a list is changed
-
-pub set_here : {X : Type 0} (xs : List X) (e : ℕ) (x y : X) → slice_get xs e ≡ Some x → slice_get (set xs e y) e ≡ Some y
-set_here [] e x y here = absurd (cc)
-set_here (z ∷ xs) zero x y here = refl
-set_here (z ∷ xs) (suc e) x y here = set_here xs e x y here
-
-pub set_there : {X : Type 0} (xs : List X) (e i : ℕ) (y : X) → i ≢ e → slice_get (set xs e y) i ≡ slice_get xs i
-set_there [] e i y differs = refl
-set_there (z ∷ xs) zero zero y differs = absurd (differs refl)
-set_there (z ∷ xs) zero (suc i) y differs = refl
-set_there (z ∷ xs) (suc e) zero y differs = refl
-set_there (z ∷ xs) (suc e) (suc i) y differs = set_there xs e i y (λ same. differs (ap suc same))
 
 -- ---- a transfer
 

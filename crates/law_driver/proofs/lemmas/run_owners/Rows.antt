@@ -2,14 +2,13 @@
 use Rattle.std.proofs.Common.{◌≡◌, ℕ, Bool, true, false, cond, nat_le, map, drop, set, slice_get, Option, Some, None, ap, sym, ◌∙◌, ⊎_elim, refl, arith}
 use Rattle.std.proofs.lemmas.Bool.{cases_Bool, false≢true}
 use Rattle.std.proofs.lemmas.Option.{same_Some}
+use Rattle.law_driver.proofs.Common.{ring_queue}
 use Rattle.mem_runs.specs.Book.{holding, lend_taken}
 use Rattle.drv_table.specs.declared.content.Endpoint.{Endpoint}
 use Rattle.drv_table.specs.declared.content.Transfer.{Transfer}
 use Rattle.drv_table.specs.declared.rows.DriverRow.{DriverRow}
 use Rattle.drv_table.specs.declared.rows.DriverRow.TheVariants as rows
 use Rattle.qh_qtd.specs.declared.token.Token.{Token}
-use Rattle.usb_base.specs.declared.packets.EpKind.{EpKind}
-use Rattle.usb_base.specs.declared.packets.EpKind.TheVariants as kinds
 use Rattle.drv_periodic_table.specs.Periodic.{is_periodic}
 use Rattle.drv_periodic_table.specs.declared.content.Removal.{Removal}
 use Rattle.drv_periodic_table.specs.declared.content.Removed.{Removed}
@@ -59,11 +58,6 @@ placed_row_owned : (p : Parts) (e : ℕ) (owner : ℕ → Owner) (o : Option End
 placed_row_owned p e owner None here on order old = old
 placed_row_owned p e owner (Some x) here on order old = placed_owned p e owner x here (on x refl) order old
 
--- no endpoint of the ring is isochronous
-pub not_iso : (k : EpKind) → is_periodic k ≡ false → is_iso k ≡ false
-not_iso kinds.Iso off = absurd (false≢true (sym off))
-not_iso _ off = refl
-
 first_owed : (d : DriverContent) (t : ℕ) (x : Transfer) → slice_get d.harvested 0 ≡ Some t → slice_get d.transfers t ≡ Some x → IsOrderly d → x.released ≡ false
 first_owed d t x first there order =
     let o = owed d.transfers t (slice_get d.transfers t) refl (omega (arith, times_first t t d.harvested first, one_same t, order.harvests t)) in
@@ -73,7 +67,7 @@ first_alive : (d : DriverContent) (e : ℕ) (x : Endpoint) → slice_get d.clear
 first_alive d e x first here order =
     let l = first_left e first order in
     let same = same_Some x l.endpoint (sym here ∙ l.here) in
-    (ap (λ (y : Endpoint). y.gone) same ∙ l.gone, not_iso x.desc.kind (ap (λ (y : Endpoint). is_periodic y.desc.kind) same ∙ l.ring))
+    (ap (λ (y : Endpoint). y.gone) same ∙ l.gone, ring_queue x.desc.kind (ap (λ (y : Endpoint). is_periodic y.desc.kind) same ∙ l.ring))
 
 -- what was unlinked first is a descriptor, or a periodic endpoint, that wasn't given back
 removed_owed : (d : DriverContent) (t : ℕ) (x : Transfer) (m : Removal) → slice_get d.periodic.removals 0 ≡ Some m → m.what ≡ removed.Descriptor t → slice_get d.transfers t ≡ Some x → IsOrderly d → (is_descriptor x.sort ≡ true) × (x.released ≡ false)
@@ -140,7 +134,7 @@ endpoint_row_orderly p e (Some x) here first none old = told_orderly (is_told x)
     now : (told : Bool) → AreOrderly (record (returns_of p.driver) { cleared = drop 1 p.driver.cleared }) (map (let_go e told) p.driver.transfers) (set p.driver.endpoints e (record x { gone = true })) (leaver p.driver.command)
     now told =
         endpoint_gone e x (let_go e told) here (ap (λ (z : Endpoint). z.linked) (sym same) ∙ left.linked) out (less_cleared e x here ring first old)
-        (λ t y there. let_go_goes e told (returns_of p.driver) t y (none_of e x here (not_iso x.desc.kind ring) none old t y there)) old
+        (λ t y there. let_go_goes e told (returns_of p.driver) t y (none_of e x here (ring_queue x.desc.kind ring) none old t y there)) old
 
     told_orderly : (told : Bool) → IsOrderly (gone_with (cond told (reported p.driver lines.Cancel x.desc.name (cancelled_bytes p.driver.notes p.memory e x.queue p.driver.transfers)) p.driver) e x (is_told x) (free_endpoint p.driver e x (holding p.driver.book p.memory)).book)
     told_orderly true = now (is_told x)

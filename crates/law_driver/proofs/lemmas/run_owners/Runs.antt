@@ -1,19 +1,14 @@
 -- What goes on standing as runs are taken, lent and given back.
 use Rattle.std.proofs.Common.{◌≡◌, ℕ, zero, suc, Bool, false, cond, List, [], ◌∷◌, Some, ap, sym, subst, ◌∙◌, refl}
 use Rattle.std.specs.List.{AllByRecursion}
+use Rattle.law_driver.proofs.Common.{blocks_run}
 use Rattle.mem_runs.specs.declared.slots.Slot.{Slot}
-use Rattle.mem_runs.specs.declared.slots.Slot.TheVariants.{Empty}
 use Rattle.drv_table.specs.Words.{head_block}
-use Rattle.claims_driver.specs.Owners.{Owner, FrameList, Head, QueueHead, Dummy, Element, Described, Buffer, HasBlocks, HasRun, IsRunFor, IsPlaced, EndpointRuns, TransferRuns, NoteRuns, DescriptorRuns, ArePieces, IsDescribed, Views, AreOwned}
+use Rattle.claims_driver.specs.Owners.{Owner, FrameList, Head, QueueHead, Dummy, Element, Described, Buffer, HasRun, IsRunFor, IsPlaced, EndpointRuns, TransferRuns, NoteRuns, DescriptorRuns, ArePieces, IsDescribed, Views, AreOwned}
 
 pub all_still : {P Q : ℕ → Type 0} (xs : List ℕ) → ((c : ℕ) → P c → Q c) → AllByRecursion P xs → AllByRecursion Q xs
 all_still [] each all = tt
 all_still (x ∷ xs) each all = (each x all.0, all_still xs each all.1)
-
--- a slot with blocks has a run
-blocks_run : (n : ℕ) (s : Slot) → HasBlocks n s → HasRun s
-blocks_run n Empty h = h
-blocks_run n _ h = tt
 
 pub has_run : (o : Owner) (s : Slot) → IsRunFor o s → HasRun s
 has_run FrameList s h = blocks_run 128 s h

@@ -3,6 +3,7 @@ use Rattle.std.proofs.Common.{◌≡◌, ◌≢◌, ℕ, zero, suc, ◌<◌, ◌
 use Rattle.std.proofs.lemmas.Bool.{cases_eq, cases_lt, cases_Bool, false≢true}
 use Rattle.std.proofs.lemmas.List.{get_or-set_same, get_or-set_other, length-set}
 use Rattle.std.proofs.lemmas.Option.{same_Some}
+use Rattle.law_driver.proofs.Common.{ok_same, blocks_run}
 use Rattle.usb_base.specs.declared.reports.OfferError.{OfferError}
 use Rattle.usb_base.specs.declared.reports.OfferError.TheVariants as errors
 use Rattle.word_mem.specs.Runs.{Run}
@@ -124,10 +125,6 @@ pub run_some : (s : Slot) → HasRun s → s ≢ Empty
 run_some Empty h e = h
 run_some _ h e = cc
 
-pub blocks_some : (n : ℕ) (s : Slot) → HasBlocks n s → HasRun s
-blocks_some n Empty h = h
-blocks_some n _ h = tt
-
 one_more : (h k g : Holding) (n b : ℕ) (ns bs : List ℕ) → IsTakenAt h k n b → AreTaken k g ns bs → AreTaken h g (n ∷ ns) (b ∷ bs)
 one_more h k g n b ns bs one rest =
     record {
@@ -145,7 +142,7 @@ one_more h k g n b ns bs one rest =
     }
   where
     later : (c : ℕ) → slot_of k.book.slots c ≡ Empty → c ≢ b
-    later c none same = run_some (slot_of k.book.slots b) (blocks_some n (slot_of k.book.slots b) one.new) (ap (slot_of k.book.slots) (sym same) ∙ none)
+    later c none same = run_some (slot_of k.book.slots b) (blocks_run n (slot_of k.book.slots b) one.new) (ap (slot_of k.book.slots) (sym same) ∙ none)
 
     fresh : (i : ℕ) → i < length (b ∷ bs) → slot_of h.book.slots (get_or (b ∷ bs) i 0) ≡ Empty
     fresh zero below = one.empty
@@ -154,7 +151,7 @@ one_more h k g n b ns bs one rest =
         sym (one.others (get_or bs i 0) (later (get_or bs i 0) none)) ∙ none
 
     new : (i : ℕ) → i < length (b ∷ bs) → HasBlocks (get_or (n ∷ ns) i 0) (slot_of g.book.slots (get_or (b ∷ bs) i 0))
-    new zero below = subst (HasBlocks n) (sym (rest.old b (blocks_some n (slot_of k.book.slots b) one.new))) one.new
+    new zero below = subst (HasBlocks n) (sym (rest.old b (blocks_run n (slot_of k.book.slots b) one.new))) one.new
     new (suc i) below = rest.new i (omega arith)
 
     distinct : (i j : ℕ) → i < j → j < length (b ∷ bs) → get_or (b ∷ bs) j 0 ≢ get_or (b ∷ bs) i 0
@@ -185,9 +182,6 @@ none_taken_yet h stands = record {
 
 abbrev then_runs : Holding → ℕ → List ℕ → Option Holding → Result Holding OfferError
 then_runs h n ns o = elim o [ None ↦ Err (errors.NoBlocks n (longest_run h.memory.states)) | Some more ↦ take_runs more ns ]
-
-ok_same : (h g : Holding) → ◌≡◌ {A = Result Holding OfferError} (Ok h) (Ok g) → h ≡ g
-ok_same h g e = cc
 
 taken_first : (h g : Holding) (n : ℕ) (ns : List ℕ) (o : Option Holding) → Stands h → take_run h n ≡ o → ((k : Holding) → Stands k → take_runs k ns ≡ Ok g → AreTakenSome k g ns) → then_runs h n ns o ≡ Ok g → AreTakenSome h g (n ∷ ns)
 taken_first h g n ns None stands is rest e = absurd (cc)

@@ -1,10 +1,12 @@
 -- What is taken for a transfer has its owners: the old inactive qTD becomes the first qTD, and the last new one is inactive.
-use Rattle.std.proofs.Common.{◌≡◌, ◌≢◌, ℕ, zero, suc, ◌+◌, ◌-◌, ◌<◌, ◌≤◌, Bool, true, false, ◌||◌, List, [], ◌∷◌, ◌++◌, length, take, drop, replicate, get_or, set, slice_get, Some, None, option_map, ap, sym, subst, ◌∙◌, ⊎_elim, inl, inr, refl, arith, length-append, length-take, length-drop}
-use Rattle.std.specs.Prelude.{◌⊎◌, is_some}
+use Rattle.std.proofs.Common.{◌≡◌, ◌≢◌, ℕ, zero, suc, ◌+◌, ◌-◌, ◌<◌, ◌≤◌, Bool, true, false, ◌||◌, List, [], ◌∷◌, ◌++◌, length, take, drop, replicate, get_or, set, slice_get, Some, None, option_map, ap, sym, subst, ◌∙◌, ⊎_elim, refl, arith, length-append, length-take, length-drop}
+use Rattle.std.specs.Prelude.{is_some}
 use Rattle.std.specs.List.{AllByRecursion}
-use Rattle.std.proofs.lemmas.Bool.{cases_eq, cases_Bool, false≢true}
+use Rattle.std.proofs.lemmas.Bool.{cases_Bool, false≢true}
 use Rattle.std.proofs.lemmas.List.{length-replicate, get_or-take, get_or-drop}
-use Rattle.std.proofs.lemmas.Option.{same_Some}
+use Rattle.law_driver.proofs.Common.{get_case}
+use Rattle.law_common.proofs.Lists.{all_at, drop_first}
+use Rattle.law_driver.proofs.Common.{blocks_run}
 use Rattle.word_mem.specs.Memory.{Mem}
 use Rattle.mem_runs.specs.Book.{Holding, holding, Stands, slot_of}
 use Rattle.mem_runs.specs.declared.slots.Slot.{Slot}
@@ -19,10 +21,9 @@ use Rattle.drv_table.specs.Kinds.{is_iso}
 use Rattle.claims_driver.specs.Leaving.{IsSteady, IsOrderly}
 use Rattle.claims_driver.specs.Owners.{Owner, FrameList, Head, QueueHead, Dummy, Element, Described, Buffer, HasBlocks, HasRun, IsPlaced, EndpointRuns, TransferRuns, is_descriptor, runs_of_endpoint, runs_of_transfer, runs_of_note, endpoint_in, transfer_in, note_in, descriptor_in, ArePieces, Views, views_of, AreOwned, IsOwned}
 use Rattle.law_driver.proofs.lemmas.run_owners.Runs.{placed_run, pieces_still, described_still}
-use Rattle.law_driver.proofs.lemmas.run_owners.Released.{set_here, set_there}
-use Rattle.law_driver.proofs.lemmas.run_owners.Taking.{AreTaken, runs_taken, blocks_some}
+use Rattle.law_driver.proofs.lemmas.run_owners.Taking.{AreTaken, runs_taken}
 use Rattle.law_driver.proofs.lemmas.run_owners.Chains.{buffers_of, notes_apart, notes_many, pieces_noted}
-use Rattle.law_driver.proofs.lemmas.run_owners.Accepted.{push_case, drop_first, given, given_at, given_not, fresh_differs, still_placed, within_slots}
+use Rattle.law_driver.proofs.lemmas.run_owners.Accepted.{push_case, given, given_at, given_not, fresh_differs, still_placed, within_slots}
 
 -- ---- owners differ
 
@@ -50,10 +51,6 @@ other_dummy {owner = owner} b c e i dummy differs p same =
     differs (sym (ap number_of p.owned) ∙ ap (λ k. number_of (owner k)) same ∙ ap number_of dummy.owned)
 
 -- ---- the new runs
-
-all_at : (P : ℕ → Type 0) (xs : List ℕ) → ((i : ℕ) → i < length xs → P (get_or xs i 0)) → AllByRecursion P xs
-all_at P [] each = tt
-all_at P (x ∷ xs) each = (each 0 (omega arith), all_at P xs (λ i below. each (suc i) (omega arith)))
 
 first_ones : (n i : ℕ) (ys : List ℕ) → i < n → get_or (replicate n 1 ++ ys) i 0 ≡ 1
 first_ones zero i ys below = absurd (omega arith)
@@ -139,7 +136,7 @@ are_new {h = h} {g = g} {bs = bs} ss owner b e t some taken was =
                 (λ same. taken.distinct (n - 1) (n + i) (omega (arith, some)) (omega (arith, below, rest)) (sym (run i) ∙ sym same ∙ qtd (n - 1) last))
                 (λ same. fresh_differs (n + i) b taken (omega (arith, below, rest)) was_run (sym (run i) ∙ sym same))
                 (λ j less same. taken.distinct j (n + i) (omega (arith, less, many)) (omega (arith, below, rest)) (sym (run i) ∙ sym same ∙ qtd j (omega (arith, less, many))));
-            run = subst (λ c. HasRun (slot_of g.book.slots c)) (sym (run i)) (blocks_some (get_or (needs ss) (n + i) 0) (slot_of g.book.slots (get_or bs (n + i) 0)) (taken.new (n + i) (omega (arith, below, rest))));
+            run = subst (λ c. HasRun (slot_of g.book.slots c)) (sym (run i)) (blocks_run (get_or (needs ss) (n + i) 0) (slot_of g.book.slots (get_or bs (n + i) 0)) (taken.new (n + i) (omega (arith, below, rest))));
           });
       distinct = distinct;
       apart = λ c has differs. apart c has differs;
@@ -174,11 +171,6 @@ are_new {h = h} {g = g} {bs = bs} ss owner b e t some taken was =
     apart c has differs (suc i) below same = fresh_differs i c taken (omega (arith, below, long)) has (sym (get_or-take (length ss) bs i 0 (omega (arith, below))) ∙ same)
 
 -- ---- a transfer
-
-get_case : {X Y : Type 0} (f : X → Y) (xs : List X) (e i : ℕ) (x y : X) (z : Y) → slice_get xs e ≡ Some x → option_map f (slice_get (set xs e y) i) ≡ Some z → ((i ≡ e) × (z ≡ f y)) ⊎ ((i ≢ e) × (option_map f (slice_get xs i) ≡ Some z))
-get_case f xs e i x y z here there =
-    ⊎_elim (λ (same : i ≡ e). inl (same, sym (same_Some (f y) z (sym (ap (option_map f) (ap (slice_get (set xs e y)) same ∙ set_here xs e x y here)) ∙ there))))
-    (λ (differs : i ≢ e). inr (differs, sym (ap (option_map f) (set_there xs e i y differs)) ∙ there)) (cases_eq i e)
 
 -- an endpoint that hasn't ended wasn't given back
 pub goes_on_alive : (x : Endpoint) → x.ended ≡ None → IsSteady x → x.gone ≡ false

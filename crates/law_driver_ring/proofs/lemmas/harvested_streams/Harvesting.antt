@@ -1,10 +1,10 @@
 -- What a harvest reads is what is told.
-use Rattle.std.proofs.Common.{◌≡◌, ℕ, ◌+◌, ◌-◌, ◌*◌, ◌≤◌, nat_le, Bool, true, false, cond, if◌then◌else◌, List, length, take, map, get_or, Option, Some, None, ap, refl, sym, ◌∙◌, arith}
+use Rattle.std.proofs.Common.{◌≡◌, ℕ, ◌+◌, ◌-◌, ◌*◌, ◌≤◌, Bool, true, false, cond, List, length, take, map, get_or, Option, Some, None, ap, refl, sym, ◌∙◌, arith}
 use Rattle.std.specs.List.{range_with_len}
 use Rattle.std.specs.Result.{result_ok}
-use Rattle.std.proofs.lemmas.Bool.{leb-false}
 use Rattle.std.proofs.lemmas.Option.{same_Some}
 use Rattle.std.proofs.lemmas.List.FromFn.{get_or-map-range_with_len, length-map-range_with_len}
+use Rattle.law_driver_ring.proofs.Common.{moved_is}
 use Rattle.word_mem.specs.Memory.{Mem, reaches}
 use Rattle.word_mem.specs.Views.{words_at, byte_at}
 use Rattle.word_mem.proofs.Words.{get_or-words_in}
@@ -67,13 +67,6 @@ bytes_are_read m parts n t bs note k tells here noted within =
     ∙ bytes_part m parts n (buffer_name t) (element_pages t) t.offset bs 0 k tells here (omega (arith, within))
 
 -- ---- a done qTD
-
-moved_by : (told left : ℕ) (b : Bool) → nat_le left told ≡ b → (if b then told - left else 0) ≡ told - left
-moved_by told left true is = refl
-moved_by told left false is = let more = leb-false left told is in omega (arith, more)
-
-moved_is : (told left : ℕ) → moved_of told left ≡ told - left
-moved_is told left = moved_by told left (nat_le left told) refl
 
 pub done_is_harvested : (member : ℕ → Bool) (m : Mem) (parts : StructureSets) (hand : Hand) (n b : ℕ) (t : Qtd) (bs : List ℕ) (note : QtdNote) (x : List ℕ) → Tells m parts → IsMember member n (parts n)
     → parts n (32 * b) ≡ Some (Element t) → parts n (buffer_name t) ≡ Some (Buffer (element_pages t) t.offset bs) → IsNoted note t bs → (token_in m b).active ≡ false

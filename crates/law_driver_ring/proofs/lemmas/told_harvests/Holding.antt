@@ -2,22 +2,12 @@
 use Rattle.std.proofs.Common.{◌≡◌, ◌≢◌, ℕ, suc, ◌+◌, ◌-◌, ◌*◌, List, [], ◌++◌, length, ap, refl, sym, subst, ◌∙◌, ⊎_elim, inl, inr}
 use Rattle.std.proofs.lemmas.Bool.{cases_eq}
 use Rattle.std.proofs.lemmas.List.{append_assoc, append-nil}
-use Rattle.qh_qtd.specs.declared.qtd.Qtd.{Qtd}
-use Rattle.qh_qtd.specs.declared.queue_head.Qh.{Qh}
+use Rattle.law_driver_ring.proofs.Common.{one_told}
 use Rattle.law_structures.specs.lent_structures.Structures.{StructureSets}
-use Rattle.law_structures.proofs.lemmas.lent_structures.Altering.{found_element, found_queue}
 use Rattle.law_ring.specs.Hand.{Hand}
-use Rattle.law_ring.specs.Effects.{buffer_of}
-use Rattle.law_ring.specs.Told.{Told, hand_bytes}
+use Rattle.law_ring.specs.Told.{Told}
 use Rattle.drv_table.specs.declared.content.QtdNote.{QtdNote}
 use Rattle.law_driver_ring.specs.told_harvests.Held.{IsDone, AreHeld, none_held, one_held, IsOneFrom, NotesMoved}
-
--- ---- of one qTD one list of bytes is told
-
-pub one_told : (hand : Hand) (parts : StructureSets) (n b : ℕ) (x y : List ℕ) → Told hand parts n b x → Told hand parts n b y → x ≡ y
-one_told hand parts n b x y one two =
-    one.are ∙ ap (λ (q : Qh). hand_bytes hand n q b one.qtd (buffer_of (parts n) one.qtd)) (found_queue (parts n n) one.queue two.queue one.head two.head)
-    ∙ ap (λ (t : Qtd). hand_bytes hand n two.queue b t (buffer_of (parts n) t)) (found_element (parts n b) one.qtd two.qtd one.here two.here) ∙ sym two.are
 
 -- ---- one more is harvested
 

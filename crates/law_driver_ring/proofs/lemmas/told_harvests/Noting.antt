@@ -1,6 +1,6 @@
 -- A qTD that is found done is noted with the bytes that were moved of it.
-use Rattle.std.proofs.Common.{◌≡◌, ◌≢◌, ℕ, zero, suc, ◌-◌, ◌*◌, ◌≤◌, nat_le, Bool, true, false, if◌then◌else◌, List, [], ◌∷◌, length, take, slice_set, slice_index_or, ap, refl, sym, ◌∙◌, arith}
-use Rattle.std.proofs.lemmas.Bool.{leb-false}
+use Rattle.std.proofs.Common.{◌≡◌, ℕ, zero, suc, ◌-◌, ◌*◌, ◌≤◌, false, List, [], ◌∷◌, length, take, slice_set, slice_index_or, ap, refl, sym, ◌∙◌, arith}
+use Rattle.law_driver_ring.proofs.Common.{moved_is, set_else}
 use Rattle.word_mem.specs.Memory.{Mem}
 use Rattle.qh_qtd.specs.declared.token.Token.{Token}
 use Rattle.law_structures.specs.lent_structures.Structures.{StructureSets, Tells}
@@ -14,13 +14,6 @@ use Rattle.drv_table.specs.Harvests.{note_at, noted, token_in, moved_of}
 use Rattle.law_driver_ring.proofs.lemmas.harvested_streams.Harvesting.{token_is_read}
 use Rattle.law_driver_ring.specs.told_harvests.Held.{IsDone, IsRead, NotesMoved}
 use Rattle.law_driver_ring.proofs.lemmas.told_harvests.Done.{done_in_part}
-
-moved_by : (told left : ℕ) (b : Bool) → nat_le left told ≡ b → (if b then told - left else 0) ≡ told - left
-moved_by told left true is = refl
-moved_by told left false is = let more = leb-false left told is in omega (arith, more)
-
-pub moved_is : (told left : ℕ) → moved_of told left ≡ told - left
-moved_is told left = moved_by told left (nat_le left told) refl
 
 length_of_taken : (k : ℕ) (xs : List ℕ) → k ≤ length xs → length (take k xs) ≡ k
 length_of_taken zero xs within = refl
@@ -47,13 +40,6 @@ set_there : (notes : List QtdNote) (c : ℕ) (new : QtdNote) → (slice_index_or
 set_there [] c new gone = sym (gone refl)
 set_there (a ∷ rest) zero new gone = refl
 set_there (a ∷ rest) (suc c) new gone = set_there rest c new gone
-
-set_else : (notes : List QtdNote) (c b : ℕ) (new : QtdNote) → b ≢ c → slice_index_or (slice_set notes c new) b no_note ≡ slice_index_or notes b no_note
-set_else [] c b new differs = refl
-set_else (a ∷ rest) zero zero new differs = absurd (differs refl)
-set_else (a ∷ rest) zero (suc b) new differs = refl
-set_else (a ∷ rest) (suc c) zero new differs = refl
-set_else (a ∷ rest) (suc c) (suc b) new differs = set_else rest c b new (λ e. differs (ap suc e))
 
 -- a block of which nothing is noted tells no bytes
 pub found_is_noted : (notes : List QtdNote) (c left : ℕ) → NotesMoved (note_at notes) (note_at (noted notes c (moved_of (note_at notes c).told left))) c (moved_of (note_at notes c).told left)

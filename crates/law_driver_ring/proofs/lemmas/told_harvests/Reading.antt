@@ -1,6 +1,7 @@
 -- What the report of a transfer tells: the bytes that were moved of each of its qTDs.
 use Rattle.std.proofs.Common.{◌≡◌, ℕ, zero, suc, ◌+◌, ◌-◌, ◌*◌, ◌≤◌, ◌<◌, List, [], ◌∷◌, ◌++◌, length, take, ap, refl, sym, ◌∙◌, arith}
 use Rattle.std.proofs.lemmas.List.{append_assoc, append-nil, length-append, take_all, nil_from_length}
+use Rattle.law_common.proofs.Lists.{take_again}
 use Rattle.word_mem.specs.Memory.{Mem}
 use Rattle.qh_qtd.specs.declared.qtd.Qtd.{Qtd}
 use Rattle.law_structures.specs.lent_structures.Structures.{StructureSets, Tells}
@@ -26,11 +27,6 @@ pub length_taken : (k : ℕ) (xs : List ℕ) → length (take k xs) ≤ length x
 length_taken zero xs = omega arith
 length_taken (suc k) [] = omega arith
 length_taken (suc k) (x ∷ xs) = let z = length_taken k xs in omega (arith, z)
-
-take_again : (k : ℕ) (xs : List ℕ) → take (length (take k xs)) xs ≡ take k xs
-take_again zero xs = refl
-take_again (suc k) [] = refl
-take_again (suc k) (x ∷ xs) = ap (λ (ys : List ℕ). x ∷ ys) (take_again k xs)
 
 module _ (m : Mem) (parts : StructureSets) (hand : Hand) (n : ℕ) (tells : Tells m parts) (at : IsQueuePart n (parts n)) where
   -- a done qTD's bytes are the first of its buffer

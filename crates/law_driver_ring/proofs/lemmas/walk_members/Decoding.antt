@@ -1,12 +1,11 @@
 -- What a queue head that is read says of its link and of the bit H.
-use Rattle.std.proofs.Common.{◌≡◌, ℕ, ◌+◌, ◌*◌, ◌/◌, ◌%◌, ◌^◌, ◌==◌, Bool, true, false, cond, List, get_or, Option, Some, None, ap, sym, ◌∙◌, refl, arith}
+use Rattle.std.proofs.Common.{◌≡◌, ℕ, ◌+◌, ◌*◌, ◌/◌, ◌%◌, ◌^◌, ◌==◌, Bool, true, false, cond, List, get_or, Some, None, ap, sym, ◌∙◌, refl, arith}
 use Rattle.std.specs.Result.{result_ok}
-use Rattle.std.proofs.lemmas.Option.{same_Some}
+use Rattle.law_driver_ring.proofs.Common.{unless_is}
 use Rattle.word_mem.specs.Memory.{Mem, word_at}
 use Rattle.word_mem.specs.Views.{words_at}
 use Rattle.word_mem.proofs.Words.{get_or-words_in}
-use Rattle.link_words.specs.Layout.{is_set, unless_bad}
-use Rattle.link_words.specs.declared.refusal.Bad.{Bad}
+use Rattle.link_words.specs.Layout.{is_set}
 use Rattle.link_words.specs.Fields.{link_at}
 use Rattle.link_words.specs.declared.kinds.Link.TheVariants as links
 use Rattle.link_words.specs.declared.fields.LinkBits.{LinkBits}
@@ -15,10 +14,6 @@ use Rattle.qh_qtd.specs.declared.queue_head.Qh.{Qh}
 use Rattle.qh_qtd.specs.QueueHead.{qh_read, qh_at, qh_bad}
 use Rattle.mem_queues.specs.Structures.{queue_head_at_address, reaches_queue_head}
 use Rattle.drv_table.specs.Words.{queue_head_link}
-
-unless_is : (o : Option Bad) (q r : Qh) → result_ok (unless_bad o q) ≡ Some r → q ≡ r
-unless_is None q r e = same_Some q r e
-unless_is (Some bad) q r e = absurd (cc)
 
 read_is : (ws : List ℕ) (q : Qh) → result_ok (qh_read ws) ≡ Some q → qh_at ws ≡ q
 unfolding qh_read

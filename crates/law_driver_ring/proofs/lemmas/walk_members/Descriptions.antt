@@ -2,13 +2,14 @@
 use Rattle.std.proofs.Common.{◌≡◌, ℕ, suc, ◌+◌, ◌/◌, ◌%◌, ◌^◌, ◌≤◌, ◌==◌, Bool, true, false, not, ◌||◌, cond, nat_lt, List, [], ◌∷◌, ◌++◌, length, take, drop, set, slice_get, Option, Some, None, Result, Ok, Err, unwrap_or, option_map, ap, sym, subst, ◌∙◌, ⊎_elim, refl, arith}
 use Rattle.std.specs.Prelude.{is_none, is_some, option_and_then, count_by}
 use Rattle.std.proofs.lemmas.Option.{same_Some}
+use Rattle.law_driver.proofs.Common.{ok_is}
+use Rattle.law_driver_ring.proofs.Common.{speed_small}
+use Rattle.law_common.proofs.Lists.{push_which}
 use Rattle.usb_base.specs.declared.endpoints.EpDesc.{EpDesc}
 use Rattle.usb_base.specs.declared.endpoints.EndCause.{EndCause}
 use Rattle.usb_base.specs.declared.endpoints.EndCause.TheVariants as causes
 use Rattle.usb_base.specs.declared.packets.EpKind.{EpKind}
 use Rattle.usb_base.specs.declared.packets.EpKind.TheVariants as kinds
-use Rattle.usb_base.specs.declared.packets.Speed.{Speed}
-use Rattle.usb_base.specs.declared.packets.Speed.TheVariants as speeds
 use Rattle.usb_base.specs.declared.commands.Cmd.{Cmd}
 use Rattle.usb_base.specs.declared.commands.Cmd.TheVariants as commands
 use Rattle.usb_base.specs.declared.reports.OfferError.{OfferError}
@@ -33,7 +34,7 @@ use Rattle.drv_table.specs.declared.content.Command.TheVariants as unfinished
 use Rattle.drv_table.specs.declared.rows.DriverRow.{DriverRow}
 use Rattle.drv_table.specs.declared.rows.DriverRow.TheVariants as rows
 use Rattle.drv_table.specs.DriverContent.{DriverContent, waits_for, endpoint_of, endpoint_named}
-use Rattle.drv_table.specs.Words.{speed_field, is_control, get_stages, put_stages, request_length, request_stages, needs}
+use Rattle.drv_table.specs.Words.{is_control, get_stages, put_stages, request_length, request_stages, needs}
 use Rattle.drv_table.specs.Accepting.{Offered, take_runs}
 use Rattle.drv_table.specs.Offers.{Asked, taken_open, taken_chain, placed_open, planned_open, offered_open, taken_transfer, open_transfer, found_transfer, takes_get, takes_put, takes_control, offered_next, offered}
 use Rattle.drv_table.specs.IsoOffers.{slots_of, iso_needs, taken_iso, spans_too_long, has_slots, open_iso, offered_iso}
@@ -47,7 +48,6 @@ use Rattle.drv_table.specs.Releases.{after_transfer, after_endpoint, freed_by, c
 use Rattle.drv_table.specs.Removals.{after_descriptor, after_placed, after_removed, after_unlink}
 use Rattle.law_driver.proofs.lemmas.run_owners.Stays.{same_view}
 use Rattle.law_driver.proofs.lemmas.run_owners.Released.{cancel_same}
-use Rattle.law_driver.proofs.lemmas.run_owners.Ordered.{pushed}
 use Rattle.law_driver.proofs.lemmas.ring_members.Links.{RingOf, ring_of, SameRing}
 use Rattle.law_driver.proofs.lemmas.ring_members.Harvests.{told_stays, harvest_stays}
 use Rattle.claims_driver.specs.InPlace.{characteristics}
@@ -60,13 +60,9 @@ flag_most : (b : Bool) → flag b ≤ 1
 flag_most true = omega arith
 flag_most false = omega arith
 
-speed_most : (s : Speed) → speed_field s ≤ 2
-speed_most speeds.Full = omega arith
-speed_most _ = omega arith
-
 bit_zero : (x : EpDesc) → IsNumbered x → characteristics x / 2 ^ 15 % 2 ≡ 0
 unfolding qh_words
-bit_zero x fits = omega (arith, fits.0, fits.1, flag_most (is_control x.kind), speed_most x.speed)
+bit_zero x fits = omega (arith, fits.0, fits.1, flag_most (is_control x.kind), speed_small x.speed)
 
 pub a_numbered_endpoint_is_no_head : (x : EpDesc) → IsNumbered x → is_set 15 (characteristics x) ≡ false
 a_numbered_endpoint_is_no_head x fits = ap (λ n. n == 1) (bit_zero x fits)
@@ -190,9 +186,6 @@ events_keep_the_numbers p all = numbered_by p.driver (after_driver_row (driver_r
 
 -- ---- commands
 
-ok_is : (o p : Offered) → ◌≡◌ {A = Result Offered OfferError} (Ok o) (Ok p) → p ≡ o
-ok_is o p e = cc
-
 accepted_same : (d : DriverContent) (o p : Offered) → SameDescs d.endpoints p.driver.endpoints → ◌≡◌ {A = Result Offered OfferError} (Ok p) (Ok o) → SameDescs d.endpoints o.driver.endpoints
 accepted_same d o p same is = subst (λ (f : Offered). SameDescs d.endpoints f.driver.endpoints) (sym (ok_is p o is)) same
 
@@ -271,7 +264,7 @@ pushed_numbers d o p y is fits all f =
     subst (λ (g : Offered). AreNumbered g.driver) (sym (ok_is p o f))
     (λ e x here.
     ⊎_elim (λ (w : slice_get d.endpoints e ≡ Some x). all e x w) (λ (w : (e ≡ length d.endpoints) × (x ≡ y)). subst (λ (z : Endpoint). IsNumbered z.desc) (sym w.1) fits)
-    (pushed d.endpoints y e x (sym (ap (λ (xs : List Endpoint). slice_get xs e) is) ∙ here)))
+    (push_which d.endpoints y e x (sym (ap (λ (xs : List Endpoint). slice_get xs e) is) ∙ here)))
 
 open_taken : (d : DriverContent) (x : EpDesc) (o : Offered) (r : Result Holding OfferError) → IsNumbered x → AreNumbered d → taken_open d x r ≡ Ok o → AreNumbered o.driver
 open_taken d x o (Err why) fits all f = absurd (cc)

@@ -2,6 +2,7 @@
 use Rattle.std.proofs.Common.{◌≡◌, ◌≢◌, ℕ, suc, Bool, true, false, cond, nat_lt, List, [], ◌∷◌, ◌++◌, length, take, drop, set, slice_get, Option, Some, None, ap, sym, subst, ◌∙◌, ⊎_elim, refl}
 use Rattle.std.specs.Prelude.{is_none}
 use Rattle.std.proofs.lemmas.Bool.{cases_eq, false≢true}
+use Rattle.law_driver.proofs.Common.{among_later}
 use Rattle.op_registers.specs.RegisterFile.{RegisterFile}
 use Rattle.mem_runs.specs.Book.{holding, lend_taken}
 use Rattle.async_walk.specs.Walk.{Walk}
@@ -33,7 +34,7 @@ use Rattle.law_driver.proofs.lemmas.ring_members.Leaving.{GoOn, same_go_on, amon
 use Rattle.law_driver.proofs.lemmas.ring_members.Harvests.{endpoint_set, told_stays, harvest_stays}
 use Rattle.law_driver.proofs.lemmas.ring_members.Events.{leaves_one}
 use Rattle.claims_driver.specs.Walk.{IsReached, at_head, at_member, at_waiting, at_rung, IsWalkIn, IsBellIn}
-use Rattle.law_driver_ring.proofs.lemmas.walk_members.Leading.{among_later, among_front}
+use Rattle.law_driver_ring.proofs.lemmas.walk_members.Leading.{among_front}
 
 -- ---- the walk, where what may be met is no less
 

@@ -2,19 +2,20 @@
 use Rattle.std.proofs.Common.{◌≡◌, ℕ, Bool, true, List, [], ◌∷◌, ◌++◌, length, take, slice_get, Option, Some, ap, sym, subst, ◌∙◌, ⊎_elim, inl, inr}
 use Rattle.std.specs.Prelude.{◌⊎◌}
 use Rattle.std.proofs.lemmas.Option.{same_Some}
+use Rattle.law_driver_ring.proofs.Common.{head_link}
+use Rattle.law_common.proofs.Lists.{push_which}
+use Rattle.law_driver.proofs.Common.{pushed as older_get}
 use Rattle.drv_table.specs.declared.content.Endpoint.{Endpoint}
 use Rattle.drv_table.specs.declared.content.Transfer.{Transfer}
 use Rattle.drv_table.specs.declared.content.Command.{Command}
 use Rattle.drv_table.specs.declared.content.Command.TheVariants as unfinished
 use Rattle.drv_table.specs.DriverContent.{DriverContent}
 use Rattle.drv_table.specs.Words.{head_block, queue_head_link}
-use Rattle.law_driver.proofs.lemmas.run_owners.Ordered.{pushed}
 use Rattle.law_driver.specs.ring_members.Links.{newest_from}
 use Rattle.claims_driver.specs.Ring.{IsAmong, first, later}
-use Rattle.law_driver.specs.ring_members.Words.{step_to, AreLinked, IsTarget, to_head, to_member, to_later, AreLeaving, StandsFor, IsRing}
+use Rattle.law_driver.specs.ring_members.Words.{AreLinked, IsTarget, to_head, to_member, to_later, AreLeaving, StandsFor, IsRing}
 use Rattle.law_driver.proofs.lemmas.ring_members.Links.{LeadsTo, newest_is}
 use Rattle.law_driver.proofs.lemmas.ring_members.Leaving.{link_at, get_take, leaving_rest}
-use Rattle.law_driver.proofs.lemmas.ring_members.Events.{older_get}
 use Rattle.claims_driver.specs.Walk.{IsReached, at_head, at_member, at_waiting, at_rung}
 
 -- a word leads to the head, or to one in the ring
@@ -22,10 +23,6 @@ pub record LeadsIn (w : ℕ) (xs : List Endpoint) : Type 0 where
   pub to : ℕ
   pub link : w ≡ queue_head_link to
   pub target : (to ≡ head_block) ⊎ LeadsTo xs to
-
-head_link : (word : ℕ → ℕ) (b : ℕ) (xs : List Endpoint) → AreLinked word b xs → word head_block ≡ queue_head_link (newest_from b xs)
-head_link word b [] linked = linked
-head_link word b (x ∷ xs) linked = head_link word (step_to b x) xs linked.1
 
 newest_in : (w : ℕ) (xs ys : List Endpoint) → ((i : ℕ) (y : Endpoint) → slice_get xs i ≡ Some y → slice_get ys i ≡ Some y) → w ≡ queue_head_link (newest_from head_block xs) → LeadsIn w ys
 newest_in w xs ys more link = record {
@@ -57,7 +54,7 @@ member_by word xs ts (Some (unfinished.Open q)) e x s here on =
     newest_in (word x.queue) (take e s.older) xs (λ i y there. more i y (get_take s.older e i y there).1) (link_at word head_block s.older e x w on s.ring))
     (λ (w : (e ≡ length s.older) × (x ≡ s.new)).
     newest_in (word x.queue) s.older xs more (ap (λ (z : Endpoint). word z.queue) w.1 ∙ ap word s.here ∙ s.link))
-    (pushed s.older s.new e x (sym (ap (λ (ys : List Endpoint). slice_get ys e) s.all) ∙ here))
+    (push_which s.older s.new e x (sym (ap (λ (ys : List Endpoint). slice_get ys e) s.all) ∙ here))
 member_by word xs ts (Some (unfinished.Publish b words)) e x s here on = member_in word xs e x s.ring here on
 member_by word xs ts (Some (unfinished.Unlink f b link)) e x s here on = member_in word xs e x s.ring here on
 member_by word xs ts (Some (unfinished.Iso f t count)) e x s here on = member_in word xs e x s.ring here on
@@ -103,10 +100,6 @@ among_split : (f : ℕ) (es fs : List ℕ) → IsAmong f (es ++ fs) → (IsAmong
 among_split f [] fs a = inr a
 among_split f (e ∷ es) fs (first _) = inl (first es)
 among_split f (e ∷ es) fs (later _ _ rest) = ⊎_elim (λ (w : IsAmong f es). inl (later e es w)) (λ (w : IsAmong f fs). inr w) (among_split f es fs rest)
-
-pub among_later : (f : ℕ) (es fs : List ℕ) → IsAmong f fs → IsAmong f (es ++ fs)
-among_later f [] fs a = a
-among_later f (e ∷ es) fs a = later e (es ++ fs) (among_later f es fs a)
 
 pub among_front : (f : ℕ) (es fs : List ℕ) → IsAmong f es → IsAmong f (es ++ fs)
 among_front f [] fs a = elim a [ ]

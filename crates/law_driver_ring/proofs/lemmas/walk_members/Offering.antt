@@ -2,6 +2,7 @@
 use Rattle.std.proofs.Common.{◌≡◌, ◌≢◌, ℕ, ◌-◌, Bool, true, List, length, take, get_or, set, slice_get, Some, Ok, ap, sym, subst, ◌∙◌, ⊎_elim, refl}
 use Rattle.std.proofs.lemmas.Bool.{cases_eq}
 use Rattle.std.proofs.lemmas.Option.{same_Some}
+use Rattle.law_common.proofs.Lists.{set_here, set_there}
 use Rattle.usb_base.specs.declared.commands.Cmd.{Cmd}
 use Rattle.word_mem.specs.Memory.{Mem}
 use Rattle.op_registers.specs.RegisterFile.{RegisterFile}
@@ -13,7 +14,6 @@ use Rattle.drv_table.specs.Accepting.{Offered, new_runs, first_waiting}
 use Rattle.drv_table.specs.Offers.{offered, new_endpoint, placed_endpoint, with_queued}
 use Rattle.drv_table.specs.CancelOffers.{endpoint_members, with_cancel, first_end}
 use Rattle.law_driver.specs.run_owners.Accepts.{Accepts, opens, chains, places, transfers, describes, cancels, unchains}
-use Rattle.law_driver.proofs.lemmas.run_owners.Released.{set_here, set_there}
 use Rattle.law_driver.proofs.lemmas.run_owners.Commands.{each_command_has_its_reason}
 use Rattle.law_driver.proofs.lemmas.ring_members.Leaving.{GoOn}
 use Rattle.law_driver.proofs.lemmas.ring_members.Accepted.{one_more_on}

@@ -3,6 +3,8 @@ use Rattle.std.proofs.Common.{◌≡◌, ℕ, ◌+◌, ◌*◌, Bool, true, fals
 use Rattle.std.specs.Prelude.{◌⊎◌}
 use Rattle.std.proofs.lemmas.Bool.{false≢true}
 use Rattle.std.proofs.lemmas.Option.{same_Some}
+use Rattle.law_driver_ring.proofs.Common.{head_address}
+use Rattle.law_driver.proofs.Common.{among_later}
 use Rattle.usb_base.specs.declared.packets.Ask.{Ask}
 use Rattle.usb_base.specs.declared.packets.Reply.{Reply}
 use Rattle.word_mem.specs.Memory.{Mem, word_at}
@@ -13,7 +15,7 @@ use Rattle.link_words.specs.declared.kinds.Link.TheVariants as links
 use Rattle.link_words.specs.declared.kinds.QtdLink.TheVariants as qtd_links
 use Rattle.link_words.specs.Links.{link_of}
 use Rattle.op_registers.specs.RegisterFile.{RegisterFile}
-use Rattle.op_registers.specs.Events.{after_advance, after_reclamation, after_fault}
+use Rattle.op_registers.specs.Events.{after_reclamation, after_fault}
 use Rattle.qh_qtd.specs.declared.queue_head.Qh.{Qh}
 use Rattle.qh_qtd.specs.declared.qtd.Qtd.{Qtd}
 use Rattle.toggle_error.specs.declared.host.HostSide.{HostSide}
@@ -45,7 +47,7 @@ use Rattle.law_driver.specs.ring_members.Words.{IsRing}
 use Rattle.claims_driver.specs.InPlace.{AreFixed}
 use Rattle.claims_driver.specs.Walk.{IsReached, at_head, at_member, at_waiting, at_rung, LeadsOn, IsCopyIn, IsWalkIn}
 use Rattle.law_driver_ring.specs.walk_members.Reached.{AreNoHeads}
-use Rattle.law_driver_ring.proofs.lemmas.walk_members.Leading.{WordLeads, head_leads, reached_leads, among_later, among_front}
+use Rattle.law_driver_ring.proofs.lemmas.walk_members.Leading.{WordLeads, head_leads, reached_leads, among_front}
 use Rattle.law_driver_ring.proofs.lemmas.walk_members.Decoding.{read_link, read_head, link_decoded}
 
 -- ---- what is read
@@ -197,10 +199,6 @@ none_in d rings h e = absurd (cc)
 
 fault_in : (d : DriverContent) (p : WalkPlace) → IsWalkIn d p.registers p.walk → IsWalkIn d (faulted p).registers (faulted p).walk
 fault_in d p old = with_copy d p.registers (after_fault p.registers) p.walk (stopped p.walk) refl refl refl (λ h there. none_in d p.registers.doorbell h there) old
-
-head_address : (r : RegisterFile) (b : Bool) → (cond b (after_advance r) r).async_list_address ≡ r.async_list_address
-head_address r true = refl
-head_address r false = refl
 
 fetched_address : (h : Bool) (r : RegisterFile) → (fetched_registers h r).async_list_address ≡ r.async_list_address
 fetched_address false r = refl

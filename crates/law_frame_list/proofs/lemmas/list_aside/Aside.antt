@@ -2,6 +2,7 @@
 use Rattle.std.proofs.Common.{◌≡◌, ◌≢◌, ℕ, ◌+◌, ◌*◌, ◌/◌, ◌<◌, true, false, slice_get, Some, ap, sym, ◌∙◌, arith}
 use Rattle.std.proofs.lemmas.Bool.{false≢true}
 use Rattle.std.proofs.lemmas.Option.{same_Some}
+use Rattle.law_driver.proofs.Common.{same_endpoint}
 use Rattle.word_mem.specs.Memory.{Mem, word_at}
 use Rattle.mem_runs.specs.Book.{holding, slot_of, IsAt, store, Stands}
 use Rattle.drv_chains.specs.declared.members.Member.{Member}
@@ -17,7 +18,7 @@ use Rattle.claims_driver.specs.Owners.{Owner, FrameList, Head, QueueHead, Elemen
 use Rattle.claims_driver.specs.Leaving.{HasOwners}
 use Rattle.claims_driver.specs.FrameListMembers.{Framed}
 use Rattle.law_driver.specs.listed_members.Members.{IsQueueOf, IsStanding, IsListed}
-use Rattle.law_driver.proofs.lemmas.listed_members.Standing.{framed, one_endpoint}
+use Rattle.law_driver.proofs.lemmas.listed_members.Standing.{framed}
 use Rattle.law_driver.proofs.lemmas.listed_members.Owned.{descriptor_owned, queue_owned}
 use Rattle.law_driver.proofs.lemmas.ring_members.Stores.{slots_apart, store_elsewhere}
 use Rattle.law_frame_words.specs.list_words.Spared.{LeavesList}
@@ -42,7 +43,7 @@ frames_other d has e x f number here ring s there chained same =
 queue_other : (d : DriverContent) → HasOwners d → (n : ℕ) (f : Framed) (s : Endpoint) → slice_get d.endpoints n ≡ Some s → s.chained ≡ true → IsOther d (QueueHead n)
 queue_other d has n f s there chained = record {
   head = λ same. absurd (cc);
-  ring = λ e x here ring same. frames_other d has e x f n here ring s there chained (one_endpoint n e same);
+  ring = λ e x here ring same. frames_other d has e x f n here ring s there chained (same_endpoint n e same);
   element = λ t same. absurd (cc);
 }
 

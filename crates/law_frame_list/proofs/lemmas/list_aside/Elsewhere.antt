@@ -2,6 +2,9 @@
 use Rattle.std.proofs.Common.{◌≡◌, ℕ, zero, suc, ◌/◌, Bool, true, false, if◌then◌else◌, List, [], length, drop, take, slice_get, Option, Some, None, inl, inr, ap, refl, sym, subst, ◌∙◌, ⊎_elim}
 use Rattle.std.specs.Prelude.{is_none, not, nat_lt}
 use Rattle.std.proofs.lemmas.Bool.{false≢true}
+use Rattle.law_common.proofs.Booleans.{not_on, either_if}
+use Rattle.law_frame_list.proofs.Common.{frames_first}
+use Rattle.law_driver.proofs.Common.{none_made, lend_never, get_drop}
 use Rattle.word_mem.specs.Memory.{Mem, IsShaped, word_at}
 use Rattle.mem_runs.specs.Book.{Book, Holding, holding, lend_taken, slot_of, IsAt, store, Stands}
 use Rattle.drv_chains.specs.declared.members.Member.{Member}
@@ -37,17 +40,13 @@ use Rattle.claims_driver.specs.Ring.{link_in}
 use Rattle.law_driver.specs.ring_members.Words.{IsUnlinking, IsPublishing}
 use Rattle.law_driver.specs.in_place.InPlace.{IsSound}
 use Rattle.law_driver.proofs.lemmas.ring_members.Freed.{LeavesRest, lent_words, rest_qtds, rest_endpoint, rest_descriptor, rest_placed}
-use Rattle.law_driver.proofs.lemmas.ring_members.Links.{LeadsTo, oldest_is, dropped}
+use Rattle.law_driver.proofs.lemmas.ring_members.Links.{LeadsTo, oldest_is}
 use Rattle.law_driver.proofs.lemmas.ring_members.Placed.{in_ring_alive, linked_alive, queue_placed}
 use Rattle.law_driver.proofs.lemmas.ring_members.Events.{open_store, unlink_store, publish_store, chain_never, iso_never, unchain_never, stands_as, block_of}
 use Rattle.law_driver_ring.specs.Driven.{is_quiet}
 use Rattle.law_frame_list.proofs.lemmas.list_stands.Listing.{it_stands_where_its_words_are_left, quiet_events_keep_it_standing}
 use Rattle.law_frame_list.specs.list_aside.Elsewhere.{links_now, is_elsewhere}
 use Rattle.law_frame_list.proofs.lemmas.list_aside.Aside.{IsAside, aside_by, rest_leaves, store_leaves}
-
-either_if : {A : Type 0} (P : A → Type 0) (b : Bool) (x y : A) → (b ≡ true → P x) → (b ≡ false → P y) → P (if b then x else y)
-either_if P true x y h k = h refl
-either_if P false x y h k = k refl
 
 abbrev list_of : DriverContent → Periodic
 list_of d = d.periodic.list
@@ -97,14 +96,6 @@ chain_list d made is first none =
 
 -- ---- lending
 
-chain_lends : (made : ℕ) → slice_get (events_of unfinished.Chain) made ≡ Some rows.Lend → made ≡ 0
-chain_lends zero e = refl
-chain_lends (suc n) e = absurd (cc)
-
-unlink_lends : (f b link made : ℕ) → slice_get (events_of (unfinished.Unlink f b link)) made ≡ Some rows.Lend → ⊥
-unlink_lends f b link zero e = cc
-unlink_lends f b link (suc n) e = cc
-
 iso_lends : (f t count made : ℕ) → slice_get (events_of (unfinished.Iso f t count)) made ≡ Some rows.Lend → ⊥
 iso_lends f t count (suc zero) e = cc
 iso_lends f t count _ e = cc
@@ -115,8 +106,8 @@ unchain_lends f made e = cc
 lent_list : (d : DriverContent) (book : Book) (c : Command) → d.command ≡ Some c → slice_get (events_of c) d.made ≡ Some rows.Lend → IsUnderWay d (Some c) → list_of (advanced_by (record d { book = book }) (Some c)) ≡ list_of d
 lent_list d book (unfinished.Open queue) is next way = aside_list (record d { book = book }) (unfinished.Open queue) refl
 lent_list d book (unfinished.Publish b words) is next way = aside_list (record d { book = book }) (unfinished.Publish b words) refl
-lent_list d book (unfinished.Unlink e b link) is next way = absurd (unlink_lends e b link d.made next)
-lent_list d book unfinished.Chain is next way = chain_list (record d { book = book }) d.made refl (chain_lends d.made next) way.1
+lent_list d book (unfinished.Unlink e b link) is next way = absurd (lend_never e b link d.made next)
+lent_list d book unfinished.Chain is next way = chain_list (record d { book = book }) d.made refl (none_made d.made next) way.1
 lent_list d book (unfinished.Iso e t count) is next way = absurd (iso_lends e t count d.made next)
 lent_list d book (unfinished.Unchain e) is next way = absurd (unchain_lends e d.made next)
 
@@ -143,7 +134,7 @@ oldest_aside : (d : DriverContent) (k : ℕ) → HasOwners d → IsListed d → 
 oldest_aside d k has listed =
     ⊎_elim (λ (head : oldest_of (drop k d.endpoints) ≡ head_block). subst (IsAside d) (sym head) (head_aside d has listed))
     (λ (l : LeadsTo (drop k d.endpoints) (oldest_of (drop k d.endpoints))).
-    subst (IsAside d) l.queue (ring_aside d _ l.endpoint has listed (sym (dropped d.endpoints k l.number) ∙ l.here) l.linked))
+    subst (IsAside d) l.queue (ring_aside d _ l.endpoint has listed (sym (get_drop d.endpoints k l.number) ∙ l.here) l.linked))
     (oldest_is (drop k d.endpoints))
 
 element_aside : (d : DriverContent) (b t : ℕ) → (has : HasOwners d) → IsListed d → IsPlaced (slot_of d.book.slots) has.owner b (Element t) → IsAside d b
@@ -168,12 +159,8 @@ store_stands p b at v c is next off sound old =
     (it_stands_where_its_words_are_left p.driver p.memory (store p.driver.book p.memory b at v)
     (store_leaves p.driver p.memory b at v sound.stands sound.owners sound.listed (command_aside p c b at v is next sound)) old)
 
-off_of : (b : Bool) → not b ≡ true → b ≡ false
-off_of true e = absurd (cc)
-off_of false e = refl
-
 links_off : (d : DriverContent) (c : Command) → d.command ≡ Some c → not (links_now d.command) ≡ true → links c ≡ false
-links_off d c is off = off_of (links c) (ap (λ (o : Option Command). not (links_now o)) (sym is) ∙ off)
+links_off d c is off = not_on (links c) (ap (λ (o : Option Command). not (links_now o)) (sym is) ∙ off)
 
 due_store : (p : Parts) (b at v : ℕ) → IsDue p (rows.Store b at v) → not (links_now p.driver.command) ≡ true → IsSound p.memory p.driver → ListStands p.memory p.driver
     → ListStands (after_driver_row (rows.Store b at v) p).memory (after_driver_row (rows.Store b at v) p).driver
@@ -182,11 +169,6 @@ due_store p b at v (inr link) off sound old = absurd (false≢true (sym (links_o
 
 -- ---- frames of descriptors
 
-iso_frames : (f t count made : ℕ) → slice_get (events_of (unfinished.Iso f t count)) made ≡ Some rows.Frames → made ≡ 0
-iso_frames f t count zero e = refl
-iso_frames f t count (suc zero) e = absurd (cc)
-iso_frames f t count (suc (suc n)) e = absurd (cc)
-
 framed_list : (d : DriverContent) (n : ℕ) (c : Command) → d.command ≡ Some c → slice_get (events_of c) d.made ≡ Some rows.Frames → list_of (framed_by d n (Some c)) ≡ list_of d
 framed_list d n (unfinished.Open queue) is next = refl
 framed_list d n (unfinished.Publish b words) is next = refl
@@ -194,7 +176,7 @@ framed_list d n (unfinished.Unlink e b link) is next = refl
 framed_list d n unfinished.Chain is next = refl
 framed_list d n (unfinished.Iso e t count) is next =
     let with : DriverContent = with_notes d n (take count (drop t d.transfers)) (framed_notes d n e t count (placement_at d e)) in
-    let first : d.made ≡ 0 = iso_frames e t count d.made next in
+    let first : d.made ≡ 0 = frames_first e t count d.made next in
     ap (λ (o : Option Command). list_of (advanced_by with o)) is ∙ by with first
   where
     by : (x : DriverContent) → x.made ≡ 0 → list_of (advanced_by x (Some (unfinished.Iso e t count))) ≡ list_of x

@@ -1,8 +1,13 @@
 -- What stands in the chains of a frame: linked members of that frame, each of them, and no word that is stored is the new member's own.
-use Rattle.std.proofs.Common.{◌≡◌, ℕ, ◌<◌, ◌%◌, Bool, true, false, List, [], ◌∷◌, ◌++◌, map, cond, nat_eq, if◌then◌else◌, inl, inr, ap, refl, sym, subst, ◌∙◌}
-use Rattle.std.specs.Prelude.{◌||◌, ◌&&◌, filter, not, nat_lt}
+use Rattle.std.proofs.Common.{◌≡◌, ℕ, ◌<◌, ◌%◌, Bool, true, false, List, [], ◌∷◌, map, cond, nat_eq, if◌then◌else◌, inl, inr, ap, refl, sym, subst, ◌∙◌}
+use Rattle.std.specs.Prelude.{◌&&◌, filter, not, nat_lt}
 use Rattle.std.specs.List.{AllByRecursion, list_any, flat_map}
 use Rattle.std.proofs.lemmas.Bool.{false≢true, eqb-true, or_cases, and_parts}
+use Rattle.law_driver.proofs.Common.{any_left, any_right}
+use Rattle.law_common.proofs.Booleans.{right_or, left_or}
+use Rattle.law_common.proofs.Lists.{all_two}
+use Rattle.law_frame_words.proofs.Common.{either_all}
+use Rattle.law_frame_list.proofs.Common.{first_next}
 use Rattle.drv_chains.specs.declared.members.Descriptor.{Descriptor}
 use Rattle.drv_chains.specs.declared.members.QueueHead.{QueueHead}
 use Rattle.drv_chains.specs.declared.members.Member.{Member}
@@ -10,7 +15,7 @@ use Rattle.drv_chains.specs.declared.members.Member.TheVariants.{Once, Each}
 use Rattle.drv_chains.specs.declared.members.Predecessor.{Predecessor}
 use Rattle.drv_chains.specs.declared.members.Predecessor.TheVariants.{Element, After}
 use Rattle.drv_chains.specs.Order.{frames}
-use Rattle.drv_chains.specs.Chains.{Schedule, is_the, is_period, is_active, frame_period, stands_in, first_frame, descriptors_in, queues_in, periods, first_of, before_the, behind_the, chain, predecessor, predecessors, word_met, successor, has_word}
+use Rattle.drv_chains.specs.Chains.{Schedule, is_the, is_period, is_active, frame_period, stands_in, first_frame, descriptors_in, queues_in, periods, before_the, behind_the, chain, predecessor, predecessors, word_met, successor, has_word}
 use Rattle.drv_chains.specs.Stores.{is_same, is_word, is_among}
 use Rattle.drv_chains.proofs.Orders.{both_parts}
 use Rattle.drv_chains.proofs.Words.{holds_after, after_all}
@@ -34,13 +39,10 @@ unmapped : (P : Predecessor → Type 0) (ms : List Member) → AllByRecursion P 
 unmapped P [] all = tt
 unmapped P (m ∷ ms) all = (all.0, unmapped P ms all.1)
 
-both_hold : {X : Type 0} (P Q : X → Type 0) (xs : List X) → AllByRecursion P xs → AllByRecursion Q xs → AllByRecursion (λ x. P x × Q x) xs
-both_hold P Q [] one two = tt
-both_hold P Q (x ∷ xs) one two = ((one.0, two.0), both_hold P Q xs one.1 two.1)
-
 pub chain_in_frame : (s : Schedule) (f : ℕ) → IsKept s → AllByRecursion (IsInFrame s f) (chain s f)
 chain_in_frame s f kept =
-    both_hold (IsIn s) (λ m. stands_in f m ≡ true) (chain s f) (chain_in s f kept) (unmapped (λ w. has_word f w ≡ true) (chain s f) (chain_words s f))
+    all_two (IsIn s) (λ m. stands_in f m ≡ true) (chain s f) (chain_in s f kept)
+    (unmapped (λ w. has_word f w ≡ true) (chain s f) (chain_words s f))
 
 pub fewer_in_frame : (s : Schedule) (m : Member) (f : ℕ) → IsKept s → AllByRecursion (IsInFrame s f) (chain (without_member s m) f)
 fewer_in_frame s m f kept =
@@ -48,25 +50,6 @@ fewer_in_frame s m f kept =
     (chain_in_frame (without_member s m) f (keeps_without s m kept))
 
 -- ---- each that is linked and stands in a frame is in its chain
-
-left_or : (a b : Bool) → a ≡ true → (a || b) ≡ true
-left_or true b here = refl
-left_or false b here = absurd (false≢true here)
-
-right_or : (a b : Bool) → b ≡ true → (a || b) ≡ true
-right_or true b later = refl
-right_or false b later = later
-
-any_left : {X : Type 0} (p : X → Bool) (xs ys : List X) → list_any p xs ≡ true → list_any p (xs ++ ys) ≡ true
-any_left p [] ys any = absurd (false≢true any)
-any_left p (x ∷ xs) ys any = elim (or_cases (p x) (list_any p xs) any) [
-  | inl here ↦ left_or (p x) (list_any p (xs ++ ys)) here
-  | inr later ↦ right_or (p x) (list_any p (xs ++ ys)) (any_left p xs ys later)
-]
-
-any_right : {X : Type 0} (p : X → Bool) (xs ys : List X) → list_any p ys ≡ true → list_any p (xs ++ ys) ≡ true
-any_right p [] ys any = any
-any_right p (x ∷ xs) ys any = right_or (p x) (list_any p (xs ++ ys)) (any_right p xs ys any)
 
 any_map : {X Y : Type 0} (r : Y → Bool) (t : X → Y) (xs : List X) → list_any (λ x. r (t x)) xs ≡ true → list_any r (map t xs) ≡ true
 any_map r t [] any = any
@@ -132,21 +115,13 @@ still_linked s (Each q) (Each r) other here =
 
 -- ---- the one behind a member
 
-either_all : (P : Member → Type 0) (xs ys : List Member) (b : Bool) → AllByRecursion P xs → AllByRecursion P ys → AllByRecursion P (if b then xs else ys)
-either_all P xs ys true one two = one
-either_all P xs ys false one two = two
-
 behind_all : (P : Member → Type 0) (m : Member) (ms : List Member) → AllByRecursion P ms → AllByRecursion P (behind_the m ms)
 unfolding behind_the
 behind_all P m [] all = tt
 behind_all P m (x ∷ xs) all = either_all P xs (behind_the m xs) (is_the m x) all.1 (behind_all P m xs all.1)
 
-first_is : (s : Schedule) (f : ℕ) (ms : List Member) → AllByRecursion (IsInFrame s f) ms → IsNext s f (first_of ms)
-first_is s f [] all = tt
-first_is s f (m ∷ ms) all = all.0
-
 pub successor_is : (s : Schedule) (m : Member) (f : ℕ) → IsKept s → IsNext s f (successor s m f)
-successor_is s m f kept = first_is s f (behind_the m (chain s f)) (behind_all (IsInFrame s f) m (chain s f) (chain_in_frame s f kept))
+successor_is s m f kept = first_next s f (behind_the m (chain s f)) (behind_all (IsInFrame s f) m (chain s f) (chain_in_frame s f kept))
 
 -- it is the same in each of its frames
 pub same_successor : (s : Schedule) (m : Member) (f : ℕ) → IsKept s → IsMember m → IsInFrame s f m → successor s m (frame_of m) ≡ successor s m f

@@ -1,8 +1,9 @@
 -- Where the words stand for a frame list, each link leads to a member of its frame, or is the end.
 use Rattle.std.proofs.Common.{◌≡◌, ◌≢◌, ℕ, zero, suc, ◌/◌, ◌*◌, ◌<◌, Bool, true, false, List, [], ◌∷◌, Option, Some, None, if◌then◌else◌, ap, refl, sym, subst, ◌∙◌, arith}
-use Rattle.std.specs.Prelude.{◌||◌}
 use Rattle.std.specs.List.{AllByRecursion, list_any}
 use Rattle.std.proofs.lemmas.Bool.{false≢true, eqb-true}
+use Rattle.law_frame_words.proofs.Common.{either_all}
+use Rattle.law_common.proofs.Booleans.{later}
 use Rattle.word_mem.specs.Memory.{Mem, word_at}
 use Rattle.drv_chains.specs.declared.members.Member.{Member}
 use Rattle.drv_chains.specs.declared.members.Predecessor.{Predecessor}
@@ -30,10 +31,6 @@ unfolding Leads
 first_led s f list word p [] all led = record { next = None; stands = tt; word = led }
 first_led s f list word p (m ∷ ms) all led = record { next = Some m; stands = all.0; word = led.0 }
 
-later : (a b : Bool) → (a || b) ≡ true → a ≡ false → b ≡ true
-later true b any none = absurd (false≢true (sym none))
-later false b any none = any
-
 here_or_later : (s : Schedule) (f list : ℕ) (word : ℕ → ℕ) (m x : Member) (b : Bool) → is_the m x ≡ b → LeadsInto s f (word (address_of list (After x))) → (b ≡ false → LeadsInto s f (word (address_of list (After m))))
     → LeadsInto s f (word (address_of list (After m)))
 here_or_later s f list word m x true is here behind = subst (λ (n : ℕ). LeadsInto s f (word (n / 32 * 32))) (eqb-true (id_of x) (id_of m) is) here
@@ -48,10 +45,6 @@ own_led s f list word m p (x ∷ xs) any all led =
     (λ other. own_led s f list word m (After x) xs (later (is_the m x) (list_any (is_the m) xs) any other) all.1 led.1)
 
 -- ---- while a member is linked or unlinked
-
-either_all : (P : Member → Type 0) (xs ys : List Member) (b : Bool) → AllByRecursion P xs → AllByRecursion P ys → AllByRecursion P (if b then xs else ys)
-either_all P xs ys true one two = one
-either_all P xs ys false one two = two
 
 either_any : (p : Member → Bool) (xs ys : List Member) (b : Bool) → list_any p xs ≡ true → list_any p ys ≡ true → list_any p (if b then xs else ys) ≡ true
 either_any p xs ys true one two = one

@@ -1,7 +1,10 @@
 -- An accepted open or cancel leaves the frame list standing.
-use Rattle.std.proofs.Common.{◌≡◌, ◌≢◌, ℕ, ◌*◌, ◌/◌, ◌<◌, Bool, true, false, if◌then◌else◌, List, [], ◌∷◌, ◌++◌, length, drop, get_or, slice_get, slice_index, Option, Some, None, inl, inr, ap, refl, sym, subst, ◌∙◌, arith}
+use Rattle.std.proofs.Common.{◌≡◌, ◌≢◌, ℕ, ◌*◌, ◌/◌, ◌<◌, true, List, [], ◌∷◌, length, drop, get_or, slice_get, slice_index, Option, Some, None, inl, inr, ap, refl, sym, subst, ◌∙◌, arith}
 use Rattle.std.specs.Prelude.{is_none}
 use Rattle.std.proofs.lemmas.Bool.{false≢true}
+use Rattle.law_frame_list.proofs.Common.{has_run}
+use Rattle.law_common.proofs.Booleans.{either}
+use Rattle.law_common.proofs.Lists.{drop_first}
 use Rattle.word_mem.specs.Memory.{Mem, word_at}
 use Rattle.mem_runs.specs.declared.slots.Slot.{Slot}
 use Rattle.mem_runs.specs.declared.slots.Slot.TheVariants.{Empty}
@@ -43,14 +46,6 @@ same_list m d e same old = record {
 }
 
 -- ---- an open
-
-drop_first : (xs ys : List ℕ) → drop (length xs) (xs ++ ys) ≡ ys
-drop_first [] ys = refl
-drop_first (x ∷ xs) ys = drop_first xs ys
-
-has_run : (s : Slot) (k : ℕ) → SlotHas s k → HasRun s
-has_run Empty k has = absurd has
-has_run _ k has = tt
 
 no_run : (s : Slot) → s ≡ Empty → HasRun s → ⊥
 no_run s is run = subst HasRun is run
@@ -94,13 +89,9 @@ place_stands d m o why old = subst (λ (f : Offered). ListStands f.memory f.driv
 cancel_stands : (d : DriverContent) (m : Mem) (o : Offered) → Cancels d m o → ListStands m d → ListStands o.memory o.driver
 cancel_stands d m o why old = subst (λ (f : Offered). ListStands f.memory f.driver) (sym why.is) (same_list m d (accepted_cancel d why.number why.endpoint) refl old)
 
-either_if : {A : Type 0} (P : A → Type 0) (b : Bool) (x y : A) → P x → P y → P (if b then x else y)
-either_if P true x y one other = one
-either_if P false x y one other = other
-
 frames_list : (d : DriverContent) (e : ℕ) (o : Option Endpoint) → list_of (leave_frames d e o) ≡ list_of d
 frames_list d e None = refl
-frames_list d e (Some x) = either_if (λ (f : DriverContent). list_of f ≡ list_of d) x.chained _ d refl refl
+frames_list d e (Some x) = either (λ (f : DriverContent). list_of f ≡ list_of d) x.chained _ d refl refl
 
 begun_stands : (d : DriverContent) (m : Mem) (e : ℕ) (x : Endpoint) (ms : List Member) → ListStands m d → ListStands m (with_cancel d e x ms)
 begun_stands d m e x ms old =
@@ -110,7 +101,7 @@ begun_stands d m e x ms old =
 
 ended_stands : (d : DriverContent) (m : Mem) (e : ℕ) → ListStands m d → ListStands m (or_finished d (unfinished.Unchain e))
 ended_stands d m e old =
-    either_if (ListStands m) (is_none d.periodic.list.work) (finished d (unfinished.Unchain e)) d
+    either (ListStands m) (is_none d.periodic.list.work) (finished d (unfinished.Unchain e)) d
     (same_list m d (finished d (unfinished.Unchain e)) (frames_list (no_command d) e (slice_get d.endpoints e)) old) old
 
 unchain_stands : (d : DriverContent) (m : Mem) (o : Offered) → Unchains d m o → ListStands m d → ListStands o.memory o.driver

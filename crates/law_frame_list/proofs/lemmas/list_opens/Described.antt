@@ -1,6 +1,9 @@
 -- Accepted isochronous descriptors are written into runs that are none of the frame list's.
 use Rattle.std.proofs.Common.{◌≡◌, ◌≢◌, ℕ, zero, suc, ◌+◌, ◌*◌, ◌/◌, ◌%◌, ◌<◌, ◌≤◌, Bool, true, false, cond, List, length, drop, get_or, slice_index, ap, refl, sym, subst, ◌∙◌, arith, length-append, length-drop}
 use Rattle.std.proofs.lemmas.List.{get_or-drop}
+use Rattle.law_common.proofs.Numbers.{other_than}
+use Rattle.law_common.proofs.Lists.{drop_first}
+use Rattle.law_driver_ring.proofs.Common.{has_room}
 use Rattle.usb_base.specs.declared.endpoints.EpDesc.{EpDesc}
 use Rattle.word_mem.specs.Memory.{Mem, IsShaped, word_at}
 use Rattle.mem_runs.specs.Book.{Book, Holding, holding, Stands, slot_of, store_words}
@@ -17,17 +20,14 @@ use Rattle.claims_driver.specs.Owners.{SlotHas}
 use Rattle.claims_driver.specs.Leaving.{HasOwners}
 use Rattle.law_driver.proofs.lemmas.run_owners.Taking.{AreTaken, runs_taken}
 use Rattle.law_driver.proofs.lemmas.run_owners.Chains.{few_runs}
-use Rattle.law_driver.proofs.lemmas.run_owners.Accepted.{drop_first, fresh_differs}
+use Rattle.law_driver.proofs.lemmas.run_owners.Accepted.{fresh_differs}
 use Rattle.law_driver.proofs.lemmas.ring_members.Stores.{AreApart, slots_apart, words_elsewhere}
 use Rattle.law_driver.specs.listed_members.Members.{IsListed}
 use Rattle.claims_driver.specs.FrameWords.{ListStands}
 use Rattle.law_frame_list.proofs.lemmas.list_stands.Listing.{it_stands_where_its_words_are_left}
 use Rattle.law_frame_list.proofs.lemmas.list_aside.Aside.{rest_leaves}
 use Rattle.law_frame_list.proofs.lemmas.list_opens.Linked.{run_there}
-use Rattle.law_frame_list.proofs.lemmas.list_opens.Noted.{has_room, filled, seeded_apart}
-
-other_than : (c a b : ℕ) → a ≡ b → c ≢ b → c ≢ a
-other_than c a b same differs is = differs (is ∙ same)
+use Rattle.law_frame_list.proofs.lemmas.list_opens.Noted.{filled, seeded_apart}
 
 descriptors_apart : (k : Book) (e : ℕ) (x : EpDesc) (s : Slots) (n seed : ℕ) (rs : List ℕ) (a : Descriptors) (c other : ℕ) → AreApart k.slots → SlotHas (slot_of k.slots c) (other / 32) → slot_runs s ≤ 6 → length (iso_needs s n) ≤ length rs
     → ((i : ℕ) → i < length rs → c ≢ get_or rs i 0) → word_at (all_descriptors k e x s n seed rs a).memory other ≡ word_at a.memory other

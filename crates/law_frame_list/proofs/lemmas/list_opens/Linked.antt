@@ -1,16 +1,17 @@
 -- The accepted open of an interrupt endpoint writes the link of its queue head, and begins to link it.
-use Rattle.std.proofs.Common.{◌≡◌, ℕ, zero, suc, ◌+◌, ◌*◌, ◌/◌, ◌%◌, ◌^◌, ◌<◌, ◌==◌, Bool, true, false, if◌then◌else◌, List, [], ◌∷◌, length, drop, get_or, slice_index, Option, Some, None, ap, refl, sym, subst, ◌∙◌, arith}
+use Rattle.std.proofs.Common.{◌≡◌, ℕ, ◌+◌, ◌*◌, ◌/◌, ◌%◌, ◌<◌, Bool, true, false, if◌then◌else◌, List, [], ◌∷◌, length, drop, get_or, slice_index, Option, Some, None, ap, sym, subst, ◌∙◌, arith}
 use Rattle.std.specs.Prelude.{is_none, not, ◌&&◌, option_map}
 use Rattle.std.specs.List.{AllByRecursion, find}
 use Rattle.std.proofs.lemmas.Bool.{and_parts}
+use Rattle.law_common.proofs.Booleans.{not_on, either_if}
+use Rattle.law_frame_list.proofs.Common.{has_run, link_again}
+use Rattle.law_driver.proofs.Common.{blocks_run}
+use Rattle.law_common.proofs.Lists.{drop_first, all_more}
 use Rattle.usb_base.specs.declared.endpoints.EpDesc.{EpDesc}
 use Rattle.word_mem.specs.Memory.{Mem, IsShaped, word_at}
-use Rattle.link_words.specs.Layout.{word_of, flag, bits, high_bits}
-use Rattle.link_words.specs.Fields.{link_rows, link_at}
 use Rattle.qh_qtd.specs.QueueHead.{qh_words}
 use Rattle.qh_qtd.specs.Qtd.{qtd_words}
 use Rattle.mem_runs.specs.declared.slots.Slot.{Slot}
-use Rattle.mem_runs.specs.declared.slots.Slot.TheVariants.{Empty}
 use Rattle.mem_runs.specs.Book.{Holding, holding, Stands, slot_of, store_words}
 use Rattle.bandwidth.specs.declared.placements.Placement.{Placement}
 use Rattle.drv_chains.specs.declared.members.QueueHead.{QueueHead as Queue}
@@ -34,35 +35,18 @@ use Rattle.drv_table.specs.Offers.{written_chain, accepted_chain}
 use Rattle.law_driver.specs.run_owners.Accepts.{Chains}
 use Rattle.claims_driver.specs.Owners.{HasRun, SlotHas}
 use Rattle.claims_driver.specs.Leaving.{HasOwners}
-use Rattle.law_driver.proofs.lemmas.run_owners.Taking.{AreTaken, runs_taken, blocks_some}
-use Rattle.law_driver.proofs.lemmas.run_owners.Accepted.{drop_first, fresh_differs}
+use Rattle.law_driver.proofs.lemmas.run_owners.Taking.{AreTaken, runs_taken}
+use Rattle.law_driver.proofs.lemmas.run_owners.Accepted.{fresh_differs}
 use Rattle.law_driver.proofs.lemmas.ring_members.Stores.{slots_apart, words_elsewhere, first_stored}
 use Rattle.law_driver.proofs.lemmas.ring_members.Placed.{has_word, can_begin, word_inside}
 use Rattle.law_driver.proofs.lemmas.ring_members.Accepted.{shaped_taken}
 use Rattle.law_driver.specs.listed_members.Members.{IsQueueOf, IsUnderWay, IsListed}
-use Rattle.law_driver.proofs.lemmas.listed_members.Schedules.{all_more}
 use Rattle.law_frame_words.specs.list_words.Spared.{LeavesList}
 use Rattle.law_frame_list.proofs.lemmas.list_stands.Listing.{it_stands_where_its_words_are_left}
 use Rattle.law_frame_list.proofs.lemmas.list_steps.Stepping.{PeriodicStands, next_stands}
 use Rattle.law_frame_list.proofs.lemmas.list_aside.Aside.{rest_leaves}
 
-either_if : {A : Type 0} (P : A → Type 0) (b : Bool) (x y : A) → (b ≡ true → P x) → (b ≡ false → P y) → P (if b then x else y)
-either_if P true x y h k = h refl
-either_if P false x y h k = k refl
-
-off : (b : Bool) → not b ≡ true → b ≡ false
-off true e = absurd (cc)
-off false e = refl
-
 -- ---- a link word is written from its fields as it was, where its bits 3 and 4 are 0
-
-pub link_again : (w : ℕ) → w % 32 < 8 → word_of link_rows (link_at w) ≡ w
-link_again w small = by (w % 2) refl (omega arith)
-  where
-    by : (n : ℕ) → w % 2 ≡ n → n < 2 → word_of link_rows (link_at w) ≡ w
-    by zero e below = subst (λ (k : ℕ). high_bits 5 w + (0 + (bits 2 1 w * 2 ^ 1 + (flag (k == 1) * 2 ^ 0 + 0))) ≡ w) (let f : 0 ≡ w / 2 ^ 0 % 2 = omega (arith, e) in f) (omega (arith, e, small))
-    by (suc zero) e below = subst (λ (k : ℕ). high_bits 5 w + (0 + (bits 2 1 w * 2 ^ 1 + (flag (k == 1) * 2 ^ 0 + 0))) ≡ w) (let f : 1 ≡ w / 2 ^ 0 % 2 = omega (arith, e) in f) (omega (arith, e, small))
-    by (suc (suc n)) e below = absurd (omega (arith, below))
 
 link_first : (x : EpDesc) (smask cmask link dummy : ℕ) → link % 32 < 8 → (ws : List ℕ) × (qh_words (interrupt_head x smask cmask link dummy) ≡ link ∷ ws)
 unfolding qh_words
@@ -87,15 +71,11 @@ small_link d b p listed order =
     let both = and_parts (is_none l.work) (takes l.members (Each q)) may in
     let one = and_parts (is_member (Each q)) (not (has_name s q.id) && has_room l.members (Each q)) both.1 in
     let new = and_parts (not (has_name s q.id)) (has_room l.members (Each q)) one.1 in
-    subst (λ (o : Option Member). link_to o % 32 < 8) (sym (behind_new_queue s q order.kept one.0 (off (has_name s q.id) new.0)))
+    subst (λ (o : Option Member). link_to o % 32 < 8) (sym (behind_new_queue s q order.kept one.0 (not_on (has_name s q.id) new.0)))
     (small_found (is_active q.phase) _ (all_kept (λ (x : Queue). x.id % 32 < 8) (λ x. not (is_up_to (rank_of q) x)) s.queues (all_more (IsQueueOf d) (λ (x : Queue). x.id % 32 < 8) s.queues (small_queue d) listed.list.members.queues))))
     (λ none. omega arith)
 
 -- ---- what is written
-
-has_run : (s : Slot) (k : ℕ) → SlotHas s k → HasRun s
-has_run Empty k has = absurd has
-has_run _ k has = tt
 
 -- a block of the book that is none of the new ones has its run as before
 pub run_there : {h g : Holding} {ns bs : List ℕ} (c k : ℕ) → AreTaken h g ns bs → SlotHas (slot_of h.book.slots c) k → HasRun (slot_of h.book.slots c) × SlotHas (slot_of g.book.slots c) k
@@ -131,7 +111,7 @@ own_word h x p link g bs shape taken small =
     let apart = slots_apart g taken.stands in
     let head = qh_words (interrupt_head x p.smask p.cmask link dummy) in
     let mid : Mem = store_words g.book g.memory queue (32 * queue) head in
-    let new_run = blocks_some 2 (slot_of g.book.slots queue) (taken.new 0 (omega (arith, two))) in
+    let new_run = blocks_run 2 (slot_of g.book.slots queue) (taken.new 0 (omega (arith, two))) in
     let f = link_first x p.smask p.cmask link dummy small in
     words_elsewhere g.book mid dummy queue (32 * dummy) (32 * queue) (qtd_words dummy_qtd) apart (λ is. taken.distinct 0 1 (omega arith) two (sym is)) (has_word g queue taken.stands new_run)
     ∙ ap (λ ws. word_at (store_words g.book g.memory queue (32 * queue) ws) (32 * queue)) f.1

@@ -1,8 +1,9 @@
 -- The qTDs of a new transfer, and the runs in which its bytes have room, are none of the blocks that stood before.
-use Rattle.std.proofs.Common.{◌≡◌, ◌≢◌, ℕ, zero, suc, ◌+◌, ◌*◌, ◌/◌, ◌<◌, ◌≤◌, Bool, true, false, if◌then◌else◌, List, [], ◌∷◌, ◌++◌, length, take, drop, replicate, get_or, set, sym, subst, ◌∙◌, refl, arith, length-append, length-drop, length-take}
-use Rattle.std.specs.Prelude.{nat_eq, nat_le}
-use Rattle.std.proofs.lemmas.Bool.{leb-true}
-use Rattle.std.proofs.lemmas.List.{get_or-set_same, get_or-take, get_or-drop, get_or_append_left, length-set, length-replicate}
+use Rattle.std.proofs.Common.{◌≡◌, ◌≢◌, ℕ, zero, suc, ◌+◌, ◌*◌, ◌/◌, ◌<◌, ◌≤◌, List, [], ◌∷◌, ◌++◌, length, take, drop, replicate, get_or, set, sym, subst, ◌∙◌, refl, arith, length-append, length-drop, length-take}
+use Rattle.std.proofs.lemmas.List.{get_or-set_same, get_or-take, get_or-drop, get_or_append_left, length-set}
+use Rattle.law_common.proofs.Lists.{shift}
+use Rattle.law_common.proofs.Numbers.{other_than}
+use Rattle.law_driver_ring.proofs.Common.{sends_room}
 use Rattle.word_mem.specs.Memory.{Mem, word_at}
 use Rattle.mem_runs.specs.Book.{Book, slot_of, store}
 use Rattle.drv_periodic_table.specs.Descriptors.{buffer_address as descriptor_address, seeded_word, write_seeded}
@@ -24,14 +25,6 @@ AreRunsNotAt notes c b (s ∷ ss) = ((j : ℕ) → j < runs_of s → c ≢ get_o
 
 -- ---- how many runs a buffer has
 
-room_by : (n : ℕ) (b : Bool) → nat_le (suc n) 4096 ≡ b → suc n ≤ 4096 * length (if b then pieces (suc n) 32 ∷ [] else replicate (pieces (suc n) 4096) 128)
-room_by n true is = let few = leb-true (suc n) 4096 is in omega (arith, few)
-room_by n false is = let long = length-replicate {A = ℕ} (pieces (suc n) 4096) 128 in omega (arith, long)
-
-pub has_room : (n : ℕ) → n ≤ 4096 * length (buffer_needs n)
-has_room zero = omega arith
-has_room (suc n) = room_by n (nat_le (suc n) 4096) refl
-
 -- the first entries of a list that is filled up
 pub filled : (k r : ℕ) (xs : List ℕ) (j : ℕ) → j < r → r ≤ k → r ≤ length xs → get_or (take k (take r xs ++ replicate k 0)) j 0 ≡ get_or xs j 0
 filled k r xs j below few many =
@@ -39,15 +32,6 @@ filled k r xs j below few many =
     get_or-take k (take r xs ++ replicate k 0) j 0 (omega (arith, below, few)) ∙ get_or_append_left (take r xs) (replicate k 0) 0 j (omega (arith, below, long)) ∙ get_or-take r xs j 0 below
 
 -- ---- the notes
-
-shift : (b : ℕ) (qtds : List ℕ) (i : ℕ) → get_or (get_or qtds 0 0 ∷ drop 1 qtds) i 0 ≡ get_or (b ∷ qtds) (suc i) 0
-shift b [] zero = refl
-shift b [] (suc i) = refl
-shift b (q ∷ qtds) zero = refl
-shift b (q ∷ qtds) (suc i) = refl
-
-other_than : (c a b : ℕ) → a ≡ b → c ≢ b → c ≢ a
-other_than c a b same differs is = differs (is ∙ same)
 
 pub are_noted : (c : ℕ) (notes : List QtdNote) (ss : List Stage) (b : ℕ) (qtds runs : List ℕ) → AreShort ss → length (buffers_of ss) ≤ length runs
     → ((i : ℕ) → i < length ss → get_or (b ∷ qtds) i 0 ≢ c) → ((i : ℕ) → i < length ss → get_or (b ∷ qtds) i 0 < length notes)
@@ -86,16 +70,6 @@ bytes_apart k m note bytes i zero r c other apart here not room = refl
 bytes_apart k m note bytes i (suc n) r c other apart here not room =
     bytes_apart k (store k m (get_or note.buffer (i / 4096) 0) (buffer_address note i) (word_from bytes i)) note bytes (i + 4) n r c other apart here not (omega (arith, room))
     ∙ store_elsewhere k m (get_or note.buffer (i / 4096) 0) c (buffer_address note i) (word_from bytes i) other apart (not (i / 4096) (omega (arith, room))) here
-
-sends_few : (s : Stage) → sends s ≤ s.long
-sends_few s = by (nat_eq s.pid 1)
-  where
-    by : (b : Bool) → (if b then 0 else s.long) ≤ s.long
-    by true = omega arith
-    by false = omega arith
-
-sends_room : (s : Stage) → 0 + 4 * pieces (sends s) 4 ≤ 4096 * runs_of s + 3
-sends_room s = let few = sends_few s in let room = has_room s.long in omega (arith, few, room)
 
 pub sends_apart : (k : Book) (m : Mem) (notes : List QtdNote) (ss : List Stage) (b : ℕ) (bytes : List ℕ) (c other : ℕ) → AreApart k.slots → SlotHas (slot_of k.slots c) (other / 32) → AreRunsNotAt notes c b ss
     → word_at (send_stages k m notes ss b bytes) other ≡ word_at m other

@@ -1,6 +1,7 @@
 -- An accepted transfer or request is written into runs that are none of the frame list's.
 use Rattle.std.proofs.Common.{◌≡◌, ◌≢◌, ℕ, ◌+◌, ◌-◌, ◌*◌, ◌/◌, ◌≤◌, true, false, ◌||◌, List, [], ◌∷◌, length, take, drop, replicate, get_or, slice_get, slice_index, Some, option_map, ap, sym, subst, ◌∙◌, arith, length-append, length-drop}
 use Rattle.std.proofs.lemmas.List.{length-replicate, get_or-take, get_or-drop}
+use Rattle.law_common.proofs.Lists.{drop_first}
 use Rattle.word_mem.specs.Memory.{Mem, IsShaped, word_at}
 use Rattle.qh_qtd.specs.Qtd.{qtd_words}
 use Rattle.mem_runs.specs.Book.{Holding, holding, Stands, IsAt, slot_of, store_words}
@@ -24,7 +25,7 @@ use Rattle.claims_driver.specs.Leaving.{HasOwners}
 use Rattle.law_driver.proofs.lemmas.run_owners.Runs.{placed_run}
 use Rattle.law_driver.proofs.lemmas.run_owners.Taking.{AreTaken, runs_taken}
 use Rattle.law_driver.proofs.lemmas.run_owners.Chains.{buffers_of}
-use Rattle.law_driver.proofs.lemmas.run_owners.Accepted.{drop_first, fresh_differs, within_slots}
+use Rattle.law_driver.proofs.lemmas.run_owners.Accepted.{fresh_differs, within_slots}
 use Rattle.law_driver.proofs.lemmas.run_owners.Transferred.{are_new, goes_on_alive}
 use Rattle.law_driver.proofs.lemmas.ring_members.Stores.{AreNotAt, slots_apart, words_elsewhere, stages_elsewhere}
 use Rattle.law_driver.proofs.lemmas.ring_members.Placed.{has_queue}

@@ -1,10 +1,11 @@
 -- The descriptors that a command has still to link stand in runs of their own, and in frames of their own.
 use Rattle.std.proofs.Common.{◌≡◌, ◌≢◌, ℕ, zero, suc, ◌/◌, ◌<◌, ◌≤◌, Bool, true, false, List, [], ◌∷◌, nat_eq, length, Some, inr, ap, refl, sym, subst, ◌∙◌, ⊎_elim, arith}
-use Rattle.std.specs.Prelude.{not, ◌&&◌, ◌||◌, nat_le, nat_lt}
+use Rattle.std.specs.Prelude.{◌||◌, nat_le, nat_lt}
 use Rattle.std.specs.List.{AllByRecursion}
 use Rattle.std.proofs.lemmas.Bool.{false≢true, eq-eqb, eqb-true}
-use Rattle.std.proofs.lemmas.Bool.Decides.{nat_tests}
 use Rattle.std.proofs.lemmas.Option.{same_Some, slice_get_within}
+use Rattle.law_common.proofs.Numbers.{not_below}
+use Rattle.law_common.proofs.Booleans.{named_not, or_neither}
 use Rattle.drv_chains.specs.declared.members.Descriptor.{Descriptor}
 use Rattle.drv_chains.specs.declared.members.QueueHead.{QueueHead as Queue}
 use Rattle.drv_chains.specs.declared.members.Member.{Member}
@@ -26,15 +27,6 @@ use Rattle.law_frame_list.proofs.lemmas.list_spread.Spreading.{queue_there, stan
 use Rattle.claims_driver.specs.DueMembers.{framed_to, IsWaitingFor, HasOneEach}
 use Rattle.law_frame_list.proofs.lemmas.list_queued.Leading.{FramesApart, AreOnces}
 
-named_not : (a b x : Bool) → x ≡ true → a ≡ false → a || (b && not x) ≡ true → ⊥
-named_not true b x named low e = false≢true (sym low)
-named_not false b false named low e = false≢true named
-named_not false false true named low e = false≢true e
-named_not false true true named low e = false≢true e
-
-not_below : (t first : ℕ) → first ≤ t → nat_lt t first ≡ false
-not_below t first le = grind (arith, nat_tests, le)
-
 -- the run of one that waits
 pub waiting_owned : (d : DriverContent) (e first : ℕ) (m : Member) → (has : HasOwners d) → (w : IsWaitingOf d e first m) → IsPlaced (slot_of d.book.slots) has.owner (id_of m / 32) (Described (note_at d.periodic.notes w.placed.block).split w.number)
 waiting_owned d e first m has w =
@@ -44,10 +36,6 @@ waiting_owned d e first m has w =
 number_of : Owner → ℕ
 number_of (Described split t) = suc t
 number_of _ = 0
-
-same_number : (one two : Bool) (t u : ℕ) → Described one t ≡ Described two u → t ≡ u
-unfolding number_of
-same_number one two t u same = let e = ap number_of same in omega (arith, e)
 
 -- it isn't linked yet
 pub standing_apart : (d : DriverContent) (e first count : ℕ) (m : Member) → d.command ≡ Some (unfinished.Iso e first count) → (has : HasOwners d) → (w : IsWaitingOf d e first m) → is_in_names (id_of m) d.periodic.queued ≡ true
@@ -86,10 +74,6 @@ list_apart d e first m has w same =
 
 -- ---- frames
 
-none_of : (b c : Bool) → b || c ≡ false → (b ≡ false) × (c ≡ false)
-none_of true c e = absurd (false≢true (sym e))
-none_of false c e = (refl, e)
-
 pub way_of : (d : DriverContent) (e first count : ℕ) → d.command ≡ Some (unfinished.Iso e first count) → IsListed d → IsDescribing d e first count
 way_of d e first count is listed = subst (IsUnderWay d) is listed.way
 
@@ -121,7 +105,7 @@ frame_apart : (d : DriverContent) (e first count : ℕ) (x : Member) (ys : List 
     → is_in_names (id_of x) ys ≡ false → AllByRecursion (λ y. nat_eq (frame_of x) (frame_of y) ≡ false) ys
 frame_apart d e first count x [] is made one w all none = tt
 frame_apart d e first count x (y ∷ ys) is made one w all none =
-    let n = none_of (nat_eq (id_of y) (id_of x)) (is_in_names (id_of x) ys) none in
+    let n = or_neither (nat_eq (id_of y) (id_of x)) (is_in_names (id_of x) ys) none in
     (differ (nat_eq (frame_of x) (frame_of y)) refl n.0, frame_apart d e first count x ys is made one w all.1 n.1)
   where
     differ : (b : Bool) → nat_eq (frame_of x) (frame_of y) ≡ b → nat_eq (id_of y) (id_of x) ≡ false → nat_eq (frame_of x) (frame_of y) ≡ false

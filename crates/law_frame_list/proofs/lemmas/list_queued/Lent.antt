@@ -3,8 +3,11 @@ use Rattle.std.proofs.Common.{◌≡◌, ◌≢◌, ℕ, zero, suc, ◌+◌, ◌
 use Rattle.std.specs.Prelude.{is_none, not, ◌&&◌, nat_lt, option_map}
 use Rattle.std.specs.List.{AllByRecursion}
 use Rattle.std.proofs.lemmas.Bool.{false≢true, cases_eq, lt-ltb}
-use Rattle.std.proofs.lemmas.List.{get_or-set_same, length-set}
+use Rattle.std.proofs.lemmas.List.{get_or-set_same}
 use Rattle.std.proofs.lemmas.Option.{same_Some, slice_get_within, slice_get-map}
+use Rattle.law_driver.proofs.Common.{stored_many, all_got}
+use Rattle.law_frame_list.proofs.Common.{dropped_at}
+use Rattle.law_common.proofs.Lists.{all_more}
 use Rattle.word_mem.specs.Memory.{Mem, word_at, with_word}
 use Rattle.mem_runs.specs.Book.{Book, Holding, holding, slot_of, can_store, store, lend_taken}
 use Rattle.drv_chains.specs.declared.members.Descriptor.{Descriptor}
@@ -41,7 +44,7 @@ use Rattle.law_driver.proofs.lemmas.ring_members.Freed.{lent_words}
 use Rattle.claims_driver.specs.FrameListMembers.{member_of}
 use Rattle.law_driver.specs.listed_members.Members.{is_in_names, to_come, IsStanding, IsQueueOf, IsWaitingOf, IsDescribing}
 use Rattle.law_driver.proofs.lemmas.listed_members.Standing.{IsSeen, seen, descriptor_placed, descriptor_block}
-use Rattle.law_driver.proofs.lemmas.listed_members.Schedules.{all_more, unnamed}
+use Rattle.law_driver.proofs.lemmas.listed_members.Schedules.{unnamed}
 use Rattle.law_driver.proofs.lemmas.listed_members.Unlinks.{seen_block, below_frames}
 use Rattle.claims_driver.specs.DueMembers.{HasOneEach}
 use Rattle.law_frame_list.proofs.lemmas.list_spread.Spreading.{IsHis, his, slot_has}
@@ -84,13 +87,6 @@ lends_iso (unfinished.Iso f t count) (suc (suc n)) e = absurd (cc)
 lends_iso (unfinished.Unchain f) made e = absurd (cc)
 
 -- ---- links are written
-
-stored_many : (k : Book) (m : Mem) (b at v : ℕ) → length (store k m b at v).words ≡ length m.words
-stored_many k m b at v = by (can_store (slot_of k.slots b) at)
-  where
-    by : (can : Bool) → length (cond can (with_word m at v) m).words ≡ length m.words
-    by true = length-set m.words (at / 4) v
-    by false = refl
 
 written_here : (k : Book) (m : Mem) (b v : ℕ) → can_store (slot_of k.slots b) (32 * b) ≡ true → 32 * b / 4 < length m.words → word_at (store k m b (32 * b) v) (32 * b) ≡ v
 written_here k m b v can inside = ap (λ (t : Bool). word_at (cond t (with_word m (32 * b) v) m) (32 * b)) can ∙ get_or-set_same m.words (32 * b / 4) v 0 inside
@@ -143,17 +139,8 @@ taken_get (suc n) i [] y small there = absurd (cc)
 taken_get (suc n) zero (t ∷ ts) y small there = there
 taken_get (suc n) (suc i) (t ∷ ts) y small there = taken_get n i ts y (omega (arith, small)) there
 
-dropped_at : (f i : ℕ) (ts : List Transfer) → slice_get (drop f ts) i ≡ slice_get ts (f + i)
-dropped_at zero i ts = let e : i ≡ 0 + i = omega arith in ap (slice_get ts) e
-dropped_at (suc f) i [] = refl
-dropped_at (suc f) i (t ∷ ts) = let e : suc (f + i) ≡ suc f + i = omega arith in dropped_at f i ts ∙ ap (slice_get (t ∷ ts)) e
-
 pub taken_there : (n f i : ℕ) (ts : List Transfer) (y : Transfer) → i < n → slice_get ts (f + i) ≡ Some y → slice_get (take n (drop f ts)) i ≡ Some y
 taken_there n f i ts y small there = taken_get n i (drop f ts) y small (dropped_at f i ts ∙ there)
-
-each_of : (P : Transfer → Type 0) (ts : List Transfer) → ((i : ℕ) (y : Transfer) → slice_get ts i ≡ Some y → P y) → AllByRecursion P ts
-each_of P [] each = tt
-each_of P (t ∷ ts) each = (each 0 t refl, each_of P ts (λ i y there. each (suc i) y there))
 
 -- what holds where its row comes next
 record IsLending (m : Mem) (d : DriverContent) (e first count : ℕ) : Type 0 where
@@ -168,7 +155,7 @@ lent_ones d first count = take count (drop first d.transfers)
 blocks_apart : (m : Mem) (d : DriverContent) (e first count c : ℕ) → IsLending m d e first count → ((x : Member) → IsWaitingOf d e first x → is_in_names (id_of x) d.periodic.queued ≡ true → c ≢ id_of x / 32) → AllByRecursion (λ (t : Transfer). c ≢ t.first) (lent_ones d first count)
 blocks_apart m d e first count c h others =
     let way : IsDescribing d e first count = way_of d e first count h.is h.sound.listed in
-    each_of (λ (t : Transfer). c ≢ t.first) (take count (drop first d.transfers))
+    all_got (λ (t : Transfer). c ≢ t.first) (take count (drop first d.transfers))
     (λ i y there.
     let here : slice_get d.transfers (first + i) ≡ Some y = dropped_get first count d.transfers i y there in
     let z = way.each (first + i) (omega arith) (slice_get_within d.transfers (first + i) y here) in

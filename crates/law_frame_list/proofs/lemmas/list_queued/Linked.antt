@@ -1,9 +1,10 @@
 -- After each store that links one of a command's descriptors, the others still lead on.
 use Rattle.std.proofs.Common.{◌≡◌, ◌≢◌, ℕ, suc, ◌*◌, ◌/◌, ◌≤◌, Bool, true, false, if◌then◌else◌, List, [], ◌∷◌, Option, Some, None, ap, refl, sym, subst, ◌∙◌, arith}
-use Rattle.std.specs.Prelude.{is_none, is_some, nat_lt}
+use Rattle.std.specs.Prelude.{is_none, is_some}
 use Rattle.std.specs.List.{AllByRecursion}
-use Rattle.std.proofs.lemmas.Bool.{false≢true, le-leb}
-use Rattle.std.proofs.lemmas.Bool.Decides.{nat_tests}
+use Rattle.std.proofs.lemmas.Bool.{false≢true}
+use Rattle.law_common.proofs.Numbers.{not_below}
+use Rattle.law_frame_list.proofs.Common.{row_is}
 use Rattle.word_mem.specs.Memory.{Mem, word_at}
 use Rattle.mem_runs.specs.Book.{holding, slot_of, store}
 use Rattle.drv_chains.specs.declared.members.Member.{Member}
@@ -17,8 +18,8 @@ use Rattle.drv_table.specs.declared.content.Command.TheVariants as unfinished
 use Rattle.drv_table.specs.declared.rows.DriverRow.{DriverRow}
 use Rattle.drv_table.specs.DriverContent.{DriverContent}
 use Rattle.drv_table.specs.Parts.{Parts}
-use Rattle.drv_table.specs.Rows.{driver_row, after_driver_row, row_for}
-use Rattle.drv_table.specs.Commands.{command_row, link_row, advance, advanced_by, linked_on, or_finished, no_command}
+use Rattle.drv_table.specs.Rows.{driver_row, after_driver_row}
+use Rattle.drv_table.specs.Commands.{link_row, advance, advanced_by, linked_on, or_finished, no_command}
 use Rattle.claims_driver.specs.Owners.{Described, SlotHas}
 use Rattle.law_driver.proofs.lemmas.run_owners.Runs.{placed_run}
 use Rattle.law_driver.specs.in_place.InPlace.{IsSound}
@@ -90,21 +91,13 @@ leads_if m g e first count all = by (is_none g.periodic.list.work)
     by true = λ f t n is made. absurd (false≢true (ap is_some is))
     by false = λ f t n is made. all
 
-not_less : (a b : ℕ) → b ≤ a → nat_lt a b ≡ false
-not_less a b le = grind (arith, nat_tests, le)
-
 -- a store of the list, or the end of the command
 pub goes_on : (d : DriverContent) (e first count : ℕ) → d.command ≡ Some (unfinished.Iso e first count) → 2 ≤ d.made
     → advance d ≡ or_finished (record d { made = 2; periodic = begun_next false (record d.periodic { list = after_store d.periodic.list }) }) (unfinished.Iso e first count)
 goes_on d e first count is late =
     ap (λ (o : Option Command). advanced_by d o) is
-    ∙ ap (λ (b : Bool). if b then record d { made = suc d.made } else linked_on d (unfinished.Iso e first count)) (not_less (suc d.made) 2 (omega (arith, late)))
-    ∙ ap (λ (b : Bool). or_finished (record d { made = 2; periodic = begun_next false (record d.periodic { list = if b then d.periodic.list else after_store d.periodic.list }) }) (unfinished.Iso e first count)) (not_less d.made 2 late)
-
-row_is : (p : Parts) (e first count : ℕ) → p.driver.command ≡ Some (unfinished.Iso e first count) → 2 ≤ p.driver.made → driver_row p ≡ link_row (next_store p.driver.periodic.list)
-row_is p e first count is late =
-    ap (λ (o : Option Command). row_for p o) is
-    ∙ ap (λ (b : Bool). if b then link_row (next_store p.driver.periodic.list) else command_row (unfinished.Iso e first count) p.driver.made) (le-leb 2 p.driver.made late)
+    ∙ ap (λ (b : Bool). if b then record d { made = suc d.made } else linked_on d (unfinished.Iso e first count)) (not_below (suc d.made) 2 (omega (arith, late)))
+    ∙ ap (λ (b : Bool). or_finished (record d { made = 2; periodic = begun_next false (record d.periodic { list = if b then d.periodic.list else after_store d.periodic.list }) }) (unfinished.Iso e first count)) (not_below d.made 2 late)
 
 by_store : (p : Parts) (e first count : ℕ) (o : Option Store) → next_store p.driver.periodic.list ≡ o → IsLinkingStep p (unfinished.Iso e first count) → IsSound p.memory p.driver → HasOneEach p.driver → AreLeading p.memory p.driver → ListStands p.memory p.driver
     → AreLeading (after_driver_row (link_row o) p).memory (after_driver_row (link_row o) p).driver

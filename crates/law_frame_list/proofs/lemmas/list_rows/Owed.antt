@@ -3,6 +3,8 @@ use Rattle.std.proofs.Common.{◌≡◌, ◌≢◌, ℕ, zero, suc, ◌-◌, ◌
 use Rattle.std.specs.Prelude.{is_none, nat_lt}
 use Rattle.std.specs.List.{AllByRecursion}
 use Rattle.std.proofs.lemmas.Bool.{false≢true}
+use Rattle.law_driver.proofs.Common.{control_kind}
+use Rattle.law_common.proofs.Booleans.{either}
 use Rattle.usb_base.specs.declared.commands.Cmd.{Cmd}
 use Rattle.usb_base.specs.declared.endpoints.EpName.{EpName}
 use Rattle.usb_base.specs.declared.endpoints.EndCause.{EndCause}
@@ -33,7 +35,6 @@ use Rattle.drv_table.specs.Accepting.{Offered}
 use Rattle.drv_table.specs.Offers.{offered}
 use Rattle.drv_table.specs.CancelOffers.{with_cancel, endpoint_members}
 use Rattle.drv_table.specs.Parts.{Parts}
-use Rattle.drv_table.specs.Kinds.{is_iso}
 use Rattle.drv_table.specs.Rows.{driver_row, after_driver_row}
 use Rattle.drv_table.specs.Commands.{events_of, links, advanced_by, linked_on, list_after, or_finished, finished, no_command, leave_ring, leave_frames, removes_members}
 use Rattle.drv_table.specs.FrameChoice.{framed_by, framed_notes, placement_at, with_notes, linked_by}
@@ -51,10 +52,6 @@ use Rattle.law_driver.proofs.lemmas.run_owners.Transferred.{goes_on_alive}
 use Rattle.law_driver.proofs.lemmas.ring_members.Placed.{has_queue, queue_placed}
 use Rattle.law_frame_list.specs.list_driver.Keeping.{MendsAside}
 
-either_if : {A : Type 0} (P : A → Type 0) (b : Bool) (x y : A) → P x → P y → P (if b then x else y)
-either_if P true x y one other = one
-either_if P false x y one other = other
-
 abbrev owed : DriverContent → List Mend
 owed d = d.mends
 
@@ -68,11 +65,11 @@ same_owed same old = subst AreAside (sym same) old
 
 ring_owed : (d : DriverContent) (e : ℕ) (o : Option Endpoint) → owed (leave_ring d e o) ≡ owed d
 ring_owed d e None = refl
-ring_owed d e (Some x) = either_if (λ (f : DriverContent). owed f ≡ owed d) x.linked _ d refl refl
+ring_owed d e (Some x) = either (λ (f : DriverContent). owed f ≡ owed d) x.linked _ d refl refl
 
 frames_owed : (d : DriverContent) (e : ℕ) (o : Option Endpoint) → owed (leave_frames d e o) ≡ owed d
 frames_owed d e None = refl
-frames_owed d e (Some x) = either_if (λ (f : DriverContent). owed f ≡ owed d) x.chained _ d refl refl
+frames_owed d e (Some x) = either (λ (f : DriverContent). owed f ≡ owed d) x.chained _ d refl refl
 
 finished_owed : (d : DriverContent) (c : Command) → owed (finished d c) ≡ owed d
 finished_owed d (unfinished.Unlink e b link) = ring_owed (no_command d) e (slice_get d.endpoints e)
@@ -80,13 +77,14 @@ finished_owed d (unfinished.Unchain e) = frames_owed (no_command d) e (slice_get
 finished_owed d _ = refl
 
 ended_owed : (d : DriverContent) (c : Command) → owed (or_finished d c) ≡ owed d
-ended_owed d c = either_if (λ (f : DriverContent). owed f ≡ owed d) (is_none d.periodic.list.work) (finished d c) d (finished_owed d c) refl
+ended_owed d c = either (λ (f : DriverContent). owed f ≡ owed d) (is_none d.periodic.list.work) (finished d c) d (finished_owed d c) refl
 
 goes_on : (d : DriverContent) (o : Option Command) → owed (advanced_by d o) ≡ owed d
 goes_on d None = refl
 goes_on d (Some c) =
-    either_if (λ (f : DriverContent). owed f ≡ owed d) (nat_lt (suc d.made) (length (events_of c))) (record d { made = suc d.made }) (if links c then linked_on d c else finished d c) refl
-    (either_if (λ (f : DriverContent). owed f ≡ owed d) (links c) (linked_on d c) (finished d c)
+    either (λ (f : DriverContent). owed f ≡ owed d) (nat_lt (suc d.made) (length (events_of c))) (record d { made = suc d.made })
+    (if links c then linked_on d c else finished d c) refl
+    (either (λ (f : DriverContent). owed f ≡ owed d) (links c) (linked_on d c) (finished d c)
     (ended_owed (record d { made = length (events_of c); periodic = begun_next (removes_members c) (record d.periodic { list = list_after d c }) }) c)
     (finished_owed d c))
 
@@ -97,7 +95,7 @@ framed_owed d n _ = refl
 -- ---- giving back
 
 told_owed : (d : DriverContent) (m : Mem) (e : ℕ) (x : Endpoint) → owed (cancel_told d m e x) ≡ owed d
-told_owed d m e x = either_if (λ (f : DriverContent). owed f ≡ owed d) (is_told x) _ d refl refl
+told_owed d m e x = either (λ (f : DriverContent). owed f ≡ owed d) (is_told x) _ d refl refl
 
 transfer_owed : (p : Parts) (t : ℕ) (o : Option Transfer) (h : Holding) → owed (after_transfer p t o h).driver ≡ owed p.driver
 transfer_owed p t None h = refl
@@ -127,7 +125,7 @@ removed_owed p (removed.Endpoint e) = placed_owed p e (slice_get p.driver.endpoi
 
 behind_one_owed : (d : DriverContent) (e : ℕ) (name : EpName) (k : ℕ) (o : Option Transfer) → owed (behind_one d e name k o) ≡ owed d
 behind_one_owed d e name k None = refl
-behind_one_owed d e name k (Some x) = either_if (λ (f : DriverContent). owed f ≡ owed d) (waits_for e x) _ d refl refl
+behind_one_owed d e name k (Some x) = either (λ (f : DriverContent). owed f ≡ owed d) (waits_for e x) _ d refl refl
 
 behind_owed : (d : DriverContent) (e : ℕ) (name : EpName) (k n : ℕ) → owed (behind d e name k n) ≡ owed d
 unfolding behind
@@ -181,11 +179,7 @@ harvest_aside : (d : DriverContent) (m : Mem) (e t : ℕ) (found : Found) (o : O
 harvest_aside d m e t found None q some old = old
 harvest_aside d m e t found (Some x) None some old = old
 harvest_aside d m e t found (Some x) (Some y) some old =
-    either_if MendsAside (waits_for e y) (served (harvested_as d m e t x y found) e) d (read_aside d m e t x y found (some x refl) old) old
-
-no_iso : (kind : EpKind) → is_control kind ≡ true → is_iso kind ≡ false
-no_iso kinds.Iso on = absurd (false≢true on)
-no_iso _ on = refl
+    either MendsAside (waits_for e y) (served (harvested_as d m e t x y found) e) d (read_aside d m e t x y found (some x refl) old) old
 
 some_from : (n : ℕ) → n ≢ 0 → 1 ≤ n
 some_from zero differs = absurd (differs refl)
@@ -194,7 +188,7 @@ some_from (suc n) differs = omega arith
 -- the queue head of a control endpoint that goes on has a run of its own
 queue_some : (d : DriverContent) (e : ℕ) (x : Endpoint) → HasOwners d → slice_get d.endpoints e ≡ Some x → x.ended ≡ None → is_control x.desc.kind ≡ true → 1 ≤ x.queue
 queue_some d e x has here on control =
-    let placed = queue_placed d e x has here (has_queue x (no_iso x.desc.kind control) (goes_on_alive x on (has.orderly.steady e x here))) in
+    let placed = queue_placed d e x has here (has_queue x (control_kind x.desc.kind control) (goes_on_alive x on (has.orderly.steady e x here))) in
     some_from x.queue (λ same. let one : FrameList ≡ QueueHead e = sym has.owned.each.list.owned ∙ ap has.owner (sym same) ∙ placed.owned in cc)
 
 -- ---- any event

@@ -1,8 +1,8 @@
 -- A harvested descriptor is unlinked by one store, and the words stand for the list without it.
-use Rattle.std.proofs.Common.{◌≡◌, ℕ, ◌^◌, ◌<◌, ◌==◌, Bool, true, if◌then◌else◌, List, [], ◌∷◌, slice_get, Option, Some, None, inl, ap, refl, sym, subst, ◌∙◌, arith}
-use Rattle.std.specs.Prelude.{is_none, not, ◌&&◌, ◌||◌, nat_eq, option_map}
-use Rattle.std.specs.List.{list_any}
+use Rattle.std.proofs.Common.{◌≡◌, ℕ, ◌^◌, ◌<◌, Bool, true, if◌then◌else◌, List, [], ◌∷◌, slice_get, Option, Some, None, inl, ap, refl, sym, subst, ◌∙◌, arith}
+use Rattle.std.specs.Prelude.{is_none, not, ◌&&◌, nat_eq, option_map}
 use Rattle.std.proofs.lemmas.Bool.{false≢true, and_parts, eq-eqb}
+use Rattle.law_driver.proofs.Common.{among_first}
 use Rattle.word_mem.specs.Memory.{Mem, IsShaped, word_at}
 use Rattle.mem_runs.specs.Book.{holding, Stands}
 use Rattle.drv_chains.specs.declared.members.Descriptor.{Descriptor}
@@ -35,7 +35,7 @@ use Rattle.law_driver.specs.run_owners.Due.{IsDue, IsUnlinkDue}
 use Rattle.claims_driver.specs.Leaving.{HasOwners}
 use Rattle.law_driver.proofs.lemmas.run_owners.Orders.{times_first, one_same}
 use Rattle.law_driver.proofs.lemmas.run_owners.Reasons.{each_event_is_due}
-use Rattle.claims_driver.specs.FrameListMembers.{is_chained, framed_in, is_among as is_in}
+use Rattle.claims_driver.specs.FrameListMembers.{is_chained, framed_in}
 use Rattle.law_driver.specs.listed_members.Members.{IsUnderWay, IsListed}
 use Rattle.law_driver.proofs.lemmas.listed_members.Unlinks.{placed_here, below_frames}
 use Rattle.law_driver.specs.in_place.InPlace.{IsSound}
@@ -56,10 +56,6 @@ first_word s k kept small on =
     some_of (predecessors s (Once k) (frames 10)) (predecessor s (Once k) k.frame) (and_parts (nat_eq k.frame k.frame) (is_among (predecessors s (Once k) (frames 10)) (predecessor s (Once k) k.frame)) made).1
 
 -- ---- it is linked
-
-among_first : (t : ℕ) (ts : List ℕ) → slice_get ts 0 ≡ Some t → is_in t ts ≡ true
-among_first t [] here = absurd (cc)
-among_first t (u ∷ ts) here = let same : u ≡ t = cc in ap (λ b. b || list_any (λ v. v == t) ts) (eq-eqb u t same)
 
 unfoldable pub named_of : DriverContent → Transfer → Descriptor
 named_of d y = record { id = descriptor_name (note_at d.periodic.notes y.first) y.first; frame = (note_at d.periodic.notes y.first).frame }

@@ -4,6 +4,8 @@ use Rattle.std.specs.Prelude.{◌&&◌, nat_le, nat_lt}
 use Rattle.std.specs.List.{AllByRecursion, list_any}
 use Rattle.std.proofs.lemmas.Bool.{or_cases, and_parts, and_from, eqb-true, le-leb, lt-ltb, cases_lt}
 use Rattle.std.proofs.lemmas.Option.{same_Some}
+use Rattle.law_driver.proofs.Common.{same_endpoint, that_is}
+use Rattle.law_frame_list.proofs.Common.{same_number, no_descriptor}
 use Rattle.word_mem.specs.Memory.{Mem}
 use Rattle.word_mem.specs.Runs.{Run}
 use Rattle.word_mem.specs.Owners.{has_block}
@@ -49,18 +51,11 @@ this_one q y is =
     ∙ ap (λ (i : ℕ). let z : Queue = record y { id = q.id; period = i } in z) b
     ∙ ap (λ (i : ℕ). let z : Queue = record { id = q.id; period = q.period; phase = i } in z) c
 
-that_one : (k y : Descriptor) → is_that k y ≡ true → y ≡ k
-that_one k y is =
-    let one = and_parts (nat_eq y.id k.id) (nat_eq y.frame k.frame) is in
-    let a : y.id ≡ k.id = eqb-true y.id k.id one.0 in
-    let b : y.frame ≡ k.frame = eqb-true y.frame k.frame one.1 in
-    ap (λ (i : ℕ). let z : Descriptor = record y { id = i } in z) a ∙ ap (λ (i : ℕ). let z : Descriptor = record { id = k.id; frame = i } in z) b
-
 pub queue_there : (d : DriverContent) (q : Queue) → IsListed d → is_linked d.periodic.list.members.schedule (Each q) ≡ true → IsQueueOf d q
 queue_there d q listed on = any_all (IsQueueOf d) is_this q d.periodic.list.members.schedule.queues (this_one q) listed.list.members.queues on
 
 pub standing_there : (d : DriverContent) (k : Descriptor) → IsListed d → is_linked d.periodic.list.members.schedule (Once k) ≡ true → IsStanding d (Once k)
-standing_there d k listed on = any_all (λ (x : Descriptor). IsStanding d (Once x)) is_that k d.periodic.list.members.schedule.descriptors (that_one k) listed.list.members.descriptors on
+standing_there d k listed on = any_all (λ (x : Descriptor). IsStanding d (Once x)) is_that k d.periodic.list.members.schedule.descriptors (that_is k) listed.list.members.descriptors on
 
 -- ---- whose its run is
 
@@ -113,14 +108,6 @@ number_of (Described split t) = t
 number_of (Buffer t) = t
 number_of _ = 0
 
-same_endpoint : (e f : ℕ) → QueueHead e ≡ QueueHead f → e ≡ f
-unfolding number_of
-same_endpoint e f same = ap number_of same
-
-same_number : (one two : Bool) (t u : ℕ) → Described one t ≡ Described two u → t ≡ u
-unfolding number_of
-same_number one two t u same = ap number_of same
-
 same_queue : (d : DriverContent) (q r : Queue) (one : IsQueueOf d q) (two : IsQueueOf d r) → one.number ≡ two.number → Each q ≡ Each r
 same_queue d q r one two e =
     let framed : one.framed ≡ two.framed = same_Some one.framed two.framed (sym one.here ∙ ap (framed_in d.endpoints) e ∙ two.here) in
@@ -131,9 +118,6 @@ same_descriptor : (d : DriverContent) (j k : Descriptor) (one : IsStanding d (On
 same_descriptor d j k one two e =
     let placed : one.placed ≡ two.placed = same_Some one.placed two.placed (sym one.here ∙ ap (placed_in d.endpoints d.transfers) e ∙ two.here) in
     sym one.is ∙ ap (λ (y : Placed). member_of d.periodic y) placed ∙ two.is
-
-queue_is_no_descriptor : (e t : ℕ) (split : Bool) → QueueHead e ≡ Described split t → ⊥
-queue_is_no_descriptor e t split same = cc
 
 standing_owned : (d : DriverContent) (k : Descriptor) → (has : HasOwners d) → (s : IsStanding d (Once k)) → IsOwnedAs d has.owner k.id (Described (note_at d.periodic.notes s.placed.block).split s.number)
 standing_owned d k has s =
@@ -156,12 +140,12 @@ own_block d (Each q) (Once k) has listed one two e =
     let s : IsQueueOf d q = queue_there d q listed one in
     let p : IsOwnedAs d has.owner q.id (QueueHead s.number) = queue_owned d q has s in
     let b = descriptor_owned d k has (standing_there d k listed two) in
-    absurd (queue_is_no_descriptor s.number b.1.0 b.0 (sym p.owned ∙ ap has.owner e ∙ b.1.1.owned))
+    absurd (no_descriptor s.number b.1.0 b.0 (sym p.owned ∙ ap has.owner e ∙ b.1.1.owned))
 own_block d (Once j) (Each r) has listed one two e =
     let t : IsQueueOf d r = queue_there d r listed two in
     let o : IsOwnedAs d has.owner r.id (QueueHead t.number) = queue_owned d r has t in
     let a = descriptor_owned d j has (standing_there d j listed one) in
-    absurd (queue_is_no_descriptor t.number a.1.0 a.0 (sym (sym a.1.1.owned ∙ ap has.owner e ∙ o.owned)))
+    absurd (no_descriptor t.number a.1.0 a.0 (sym (sym a.1.1.owned ∙ ap has.owner e ∙ o.owned)))
 
 -- ---- the members
 

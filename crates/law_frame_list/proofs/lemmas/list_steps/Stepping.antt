@@ -2,15 +2,16 @@
 use Rattle.std.proofs.Common.{◌≡◌, ℕ, suc, ◌≤◌, Bool, true, false, if◌then◌else◌, List, [], ◌∷◌, length, slice_get, Option, Some, None, inl, inr, ap, refl, sym, subst, ◌∙◌, arith}
 use Rattle.std.specs.Prelude.{is_none, not, ◌&&◌, nat_lt, nat_le}
 use Rattle.std.proofs.lemmas.Bool.{and_parts, le-leb, false≢true}
-use Rattle.std.proofs.lemmas.Bool.Decides.{nat_tests}
+use Rattle.law_common.proofs.Booleans.{not_on, either_if}
+use Rattle.law_common.proofs.Numbers.{not_below}
+use Rattle.law_driver.proofs.Common.{no_work, is_one}
+use Rattle.law_frame_list.proofs.Common.{none_queued}
 use Rattle.word_mem.specs.Memory.{Mem, IsShaped, word_at}
 use Rattle.mem_runs.specs.Book.{holding, Stands, store}
 use Rattle.drv_chains.specs.declared.members.Member.{Member}
-use Rattle.drv_chains.specs.declared.members.Member.TheVariants.{Once, Each}
 use Rattle.drv_chains.specs.declared.members.Predecessor.TheVariants.{After}
 use Rattle.drv_chains.specs.Chains.{has_name, id_of, successor}
-use Rattle.drv_members.specs.Members.{IsMember, is_member, is_linked, has_room, takes, with_member, frame_of}
-use Rattle.drv_periodic.specs.declared.work.Work.{Work}
+use Rattle.drv_members.specs.Members.{is_member, is_linked, has_room, takes, with_member, frame_of}
 use Rattle.drv_periodic.specs.declared.work.Store.{Store}
 use Rattle.drv_periodic.specs.Periodic.{Periodic, link_to, address_of, next_store, inserting, removing, after_store}
 use Rattle.drv_periodic_table.specs.Periodic.{PeriodicContent}
@@ -31,22 +32,6 @@ use Rattle.law_frame_list.specs.list_stores.Storing.{IsStoredFor}
 use Rattle.law_frame_list.proofs.lemmas.list_stores.Making.{each_store_of_the_list_is_made}
 use Rattle.law_frame_list.specs.list_steps.Steps.{IsLinkingStep, NextLeads, IsOfInterrupt}
 
-either_if : {A : Type 0} (P : A → Type 0) (b : Bool) (x y : A) → (b ≡ true → P x) → (b ≡ false → P y) → P (if b then x else y)
-either_if P true x y h k = h refl
-either_if P false x y h k = k refl
-
-is_one : (m : Member) → is_member m ≡ true → IsMember m
-is_one (Once d) e = grind (arith, nat_tests, e)
-is_one (Each q) e = e
-
-off : (b : Bool) → not b ≡ true → b ≡ false
-off true e = absurd (cc)
-off false e = refl
-
-idle : (o : Option Work) → is_none o ≡ true → o ≡ None
-idle None e = refl
-idle (Some w) e = absurd (false≢true e)
-
 -- ---- what is begun next
 
 pub record PeriodicStands (word : ℕ → ℕ) (p : Periodic) : Type 0 where
@@ -65,8 +50,8 @@ linking_stands word p x old own =
     let one = and_parts (is_member x) (not (has_name p.members.schedule (id_of x)) && has_room p.members x) both.1 in
     let new = and_parts (not (has_name p.members.schedule (id_of x))) (has_room p.members x) one.1 in
     record {
-      order = insert_in_order p x old.order (is_one x one.0) (off (has_name p.members.schedule (id_of x)) new.0);
-      words = insert_stands p x word old.order.kept (off (has_name p.members.schedule (id_of x)) new.0) (idle p.work both.0) (own e) old.words;
+      order = insert_in_order p x old.order (is_one x one.0) (not_on (has_name p.members.schedule (id_of x)) new.0);
+      words = insert_stands p x word old.order.kept (not_on (has_name p.members.schedule (id_of x)) new.0) (no_work p.work both.0) (own e) old.words;
     })
     (λ e. old)
 
@@ -78,7 +63,7 @@ unlinking_stands word p x old =
     let one = and_parts (is_member x) (is_linked p.members.schedule x) both.1 in
     record {
       order = remove_in_order p x old.order (is_one x one.0) one.1;
-      words = remove_stands p x word old.order.kept (is_one x one.0) one.1 (idle p.work both.0) old.words;
+      words = remove_stands p x word old.order.kept (is_one x one.0) one.1 (no_work p.work both.0) old.words;
     })
     (λ e. old)
 
@@ -117,15 +102,16 @@ finished_list d _ = refl
 ended_list : (d : DriverContent) (c : Command) → list_of (or_finished d c) ≡ list_of d
 ended_list d c = either_if (λ (f : DriverContent). list_of f ≡ list_of d) (is_none d.periodic.list.work) (finished d c) d (λ e. finished_list d c) (λ e. refl)
 
-not_below : (a b : ℕ) → b ≤ a → nat_lt a b ≡ false
-not_below a b le = grind (arith, nat_tests, le)
-
 -- behind its own events each event of such a command is a store of the list
 goes_by : (d : DriverContent) (c : Command) (b t : Bool) → links c ≡ true → b ≡ false → t ≡ false
     → list_of (if b then record d { made = suc d.made } else (if links c then or_finished (record d { made = length (events_of c); periodic = begun_next (removes_members c) (record d.periodic { list = if t then d.periodic.list else after_store d.periodic.list }) }) c else finished d c))
     ≡ (begun_next (removes_members c) (record d.periodic { list = after_store d.periodic.list })).list
-goes_by d c b t on off late =
-    rw (off, late, on) (ended_list (record d { made = length (events_of c); periodic = begun_next (removes_members c) (record d.periodic { list = after_store d.periodic.list }) }) c)
+goes_by d c b t on not_on late =
+    rw (not_on, late, on) (ended_list (record d {
+      made = length (events_of c);
+      periodic =
+          begun_next (removes_members c) (record d.periodic { list = after_store d.periodic.list });
+    }) c)
 
 pub goes_on_list : (d : DriverContent) (c : Command) → d.command ≡ Some c → links c ≡ true → length (events_of c) ≤ d.made
     → list_of (advance d) ≡ (begun_next (removes_members c) (record d.periodic { list = after_store d.periodic.list })).list
@@ -171,9 +157,6 @@ a_step_keeps_the_list_standing p c step stands shape has listed old own =
     (by_store p c (next_store p.driver.periodic.list) refl step stands shape has listed old own)
 
 -- ---- of interrupt endpoints
-
-none_queued : (x : Member) (xs : List Member) → ◌≡◌ {A = List Member} [] (x ∷ xs) → ⊥
-none_queued x xs is = cc
 
 chain_leads : (p : Parts) → p.driver.command ≡ Some unfinished.Chain → IsListed p.driver → NextLeads p
 chain_leads p is listed s x xs stored queued may =

@@ -1,16 +1,16 @@
 -- The next store of the list is made, and the words stand for the list.
-use Rattle.std.proofs.Common.{◌≡◌, ℕ, zero, suc, [], ◌∷◌, ◌+◌, ◌*◌, ◌/◌, ◌%◌, ◌<◌, ◌≤◌, Bool, true, false, nat_eq, List, length, slice_get, Option, Some, None, if◌then◌else◌, ap, refl, sym, subst, ◌∙◌, arith}
+use Rattle.std.proofs.Common.{◌≡◌, ℕ, ◌+◌, ◌*◌, ◌/◌, ◌%◌, ◌<◌, ◌≤◌, Bool, true, false, nat_eq, length, slice_get, Option, Some, None, if◌then◌else◌, ap, refl, sym, subst, ◌∙◌, arith}
 use Rattle.std.specs.Prelude.{nat_le, nat_lt, option_map, option_and_then}
-use Rattle.std.specs.List.{AllByRecursion}
 use Rattle.std.proofs.lemmas.Bool.{and_from, le-leb, lt-ltb, eqb-true, eq-eqb}
 use Rattle.std.proofs.lemmas.List.{get_or-set_same, get_or-set_other}
 use Rattle.std.proofs.lemmas.Option.{same_Some}
+use Rattle.law_common.proofs.Lists.{nth_all}
+use Rattle.law_frame_list.proofs.Common.{within_by, aligned}
 use Rattle.word_mem.specs.Memory.{Mem, IsShaped, word_at, with_word}
 use Rattle.word_mem.specs.Runs.{Run}
 use Rattle.mem_runs.specs.declared.slots.Slot.{Slot}
 use Rattle.mem_runs.specs.declared.slots.Slot.TheVariants as slots
 use Rattle.mem_runs.specs.Book.{holding, slot_of, IsAt, has_address, can_store, store, Stands}
-use Rattle.mem_runs.proofs.Standing.{keeps_within, lends_within}
 use Rattle.drv_chains.specs.declared.members.Member.{Member}
 use Rattle.drv_chains.specs.declared.members.Predecessor.{Predecessor}
 use Rattle.drv_chains.specs.declared.members.Predecessor.TheVariants.{Element, After}
@@ -41,11 +41,6 @@ pub record GoesTo (list : ℕ) (s : Schedule) (st : Store) : Type 0 where
   pub block : st.block ≡ block_of list word
   pub at : st.at ≡ address_of list word
 
-nth_all : {X : Type 0} (P : X → Type 0) (xs : List X) (n : ℕ) (x : X) → AllByRecursion P xs → slice_get xs n ≡ Some x → P x
-nth_all P [] n x all there = absurd cc
-nth_all P (y ∷ ys) zero x all there = subst P (same_Some y x there) all.0
-nth_all P (y ∷ ys) (suc n) x all there = nth_all P ys n x all.1 there
-
 goes_by : (list : ℕ) (s : Schedule) (w : Work) (st : Store) (o : Option Predecessor) → IsKept s → slice_get (words_of s w) w.made ≡ o → option_map (λ word. store_at list word (value_of s w)) o ≡ Some st → GoesTo list s st
 goes_by list s w st None kept there is = absurd cc
 goes_by list s w st (Some p) kept there is =
@@ -66,11 +61,6 @@ can_by : (s : Slot) (a n at : ℕ) → IsAt a s → HasBlocks n s → 32 * a ≤
 can_by slots.Empty a n at is run low high = absurd run
 can_by (slots.Keeps r) a n at is run low high = address_in r a n at is.0 run low high
 can_by (slots.Lends r) a n at is run low high = address_in r a n at is.0 run low high
-
-within_by : (ss : List Slot) (b n : ℕ) (s : Slot) → slot_of ss b ≡ s → HasBlocks n s → b < length ss
-within_by ss b n slots.Empty is run = absurd run
-within_by ss b n (slots.Keeps r) is run = keeps_within ss b r is
-within_by ss b n (slots.Lends r) is run = lends_within ss b r is
 
 pub record IsMade (d : DriverContent) (m : Mem) (w : Predecessor) : Type 0 where
   pub can : can_store (slot_of d.book.slots (block_of 0 w)) (address_of 0 w) ≡ true
@@ -102,10 +92,6 @@ made_at d m (Element f) stands shape has listed its = element_made d m f stands 
 made_at d m (After x) stands shape has listed its = member_made d m x stands shape has listed its
 
 -- ---- the words after it
-
-aligned : (list : ℕ) (w : Predecessor) → address_of list w % 4 ≡ 0
-aligned list (Element f) = omega arith
-aligned list (After x) = omega arith
 
 word_by : (m : Mem) (at v a : ℕ) (b : Bool) → nat_eq a at ≡ b → at % 4 ≡ 0 → a % 4 ≡ 0 → at / 4 < length m.words → (a ≡ at → b ≡ true) → word_at (with_word m at v) a ≡ (if b then v else word_at m a)
 word_by m at v a true is one two inside test = let e : a ≡ at = eqb-true a at is in ap (word_at (with_word m at v)) e ∙ get_or-set_same m.words (at / 4) v 0 inside

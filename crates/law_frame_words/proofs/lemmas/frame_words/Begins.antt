@@ -3,6 +3,7 @@ use Rattle.std.proofs.Common.{◌≡◌, ℕ, ◌*◌, ◌/◌, ◌%◌, ◌<◌
 use Rattle.std.specs.Prelude.{◌||◌, ◌&&◌, filter, not, is_some}
 use Rattle.std.specs.List.{AllByRecursion, list_any, flat_map}
 use Rattle.std.proofs.lemmas.Bool.{false≢true, eqb-true, or_cases, and_parts, leb-true, leb-false, ltb-true}
+use Rattle.law_common.proofs.Booleans.{not_on, right_or, left_or, later}
 use Rattle.drv_chains.specs.declared.members.Descriptor.{Descriptor}
 use Rattle.drv_chains.specs.declared.members.QueueHead.{QueueHead}
 use Rattle.drv_chains.specs.declared.members.Member.{Member}
@@ -24,13 +25,8 @@ use Rattle.drv_periodic.specs.Periodic.{Periodic, link_to, address_of, begun, in
 use Rattle.claims_driver.specs.FrameWords.{Leads, AllLead, Begun, StandsBy, StandFor}
 use Rattle.law_frame_words.proofs.lemmas.frame_words.Stored.{queue_out, descriptor_out}
 
--- a new member taken out again
-opened : (b : Bool) → not b ≡ true → b ≡ false
-opened true h = absurd (false≢true h)
-opened false h = refl
-
 above : (a b : ℕ) → not (leb a b) ≡ true → b < a
-above a b h = leb-false a b (opened (leb a b) h)
+above a b h = leb-false a b (not_on (leb a b) h)
 
 either : (b : Bool) → (b || not b) ≡ true
 either true = refl
@@ -99,23 +95,10 @@ here_or_later : (list : ℕ) (word : ℕ → ℕ) (m x : Member) (ms : List Memb
 here_or_later list word m x ms true e h f = ap word (sym (one_block list x m e)) ∙ first_led list word (After x) ms h
 here_or_later list word m x ms false e h f = f refl
 
-later : (a b : Bool) → (a || b) ≡ true → a ≡ false → b ≡ true
-later true b h e = absurd (false≢true (sym e))
-later false b h e = h
-
 own_led : (list : ℕ) (word : ℕ → ℕ) (m : Member) (p : Predecessor) (ms : List Member) → list_any (is_the m) ms ≡ true → Leads list word p ms → word (address_of list (After m)) ≡ link_to (first_of (behind_the m ms))
 unfolding Leads behind_the
 own_led list word m p [] h l = absurd (false≢true h)
 own_led list word m p (x ∷ xs) h l = here_or_later list word m x xs (is_the m x) refl l.1 (λ e. own_led list word m (After x) xs (later (is_the m x) (list_any (is_the m) xs) h e) l.1)
-
--- a member stands in the chain of its first frame
-left_or : (a b : Bool) → a ≡ true → (a || b) ≡ true
-left_or true b h = refl
-left_or false b h = absurd (false≢true h)
-
-right_or : (a b : Bool) → b ≡ true → (a || b) ≡ true
-right_or true b h = refl
-right_or false b h = h
 
 any_left : {X : Type 0} (p : X → Bool) (xs ys : List X) → list_any p xs ≡ true → list_any p (xs ++ ys) ≡ true
 any_left p [] ys h = absurd (false≢true h)

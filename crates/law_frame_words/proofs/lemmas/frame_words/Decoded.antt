@@ -1,8 +1,10 @@
 -- The link that a word is: which member has this name.
 use Rattle.std.proofs.Common.{◌≡◌, ℕ, ◌+◌, ◌*◌, ◌/◌, ◌<◌, ◌≤◌, Bool, true, false, List, [], ◌∷◌, ◌++◌, cond, nat_eq, ◌⊎◌, inl, inr, Some, None, Option, if◌then◌else◌, refl, ap, sym, ◌∙◌, arith}
-use Rattle.std.specs.Prelude.{◌||◌, ◌&&◌, is_some}
+use Rattle.std.specs.Prelude.{◌||◌, is_some}
 use Rattle.std.specs.List.{AllByRecursion, list_any, find}
-use Rattle.std.proofs.lemmas.Bool.{false≢true, eqb-true, eq-eqb, ne_eqb, and_from}
+use Rattle.std.proofs.lemmas.Bool.{false≢true, eqb-true, eq-eqb, ne_eqb}
+use Rattle.law_common.proofs.Lists.{each_none}
+use Rattle.law_frame_words.proofs.Common.{word_itself}
 use Rattle.drv_chains.specs.declared.members.Descriptor.{Descriptor}
 use Rattle.drv_chains.specs.declared.members.QueueHead.{QueueHead}
 use Rattle.drv_chains.specs.declared.members.Member.{Member}
@@ -10,7 +12,7 @@ use Rattle.drv_chains.specs.declared.members.Member.TheVariants.{Once, Each}
 use Rattle.drv_chains.specs.declared.members.Predecessor.{Predecessor}
 use Rattle.drv_chains.specs.declared.members.Predecessor.TheVariants.{Element, After}
 use Rattle.drv_chains.specs.Chains.{Schedule, id_of}
-use Rattle.drv_chains.specs.Stores.{IsChain, is_same, is_word, is_among, stored}
+use Rattle.drv_chains.specs.Stores.{IsChain, is_word, is_among, stored}
 use Rattle.drv_chains.proofs.Following.{one_word}
 use Rattle.drv_members.specs.Ranks.{is_named, is_called}
 use Rattle.drv_members.specs.Members.{IsKept, is_linked}
@@ -60,11 +62,6 @@ picked n None None h k = refl
 pub name_is : (s : Schedule) (n : ℕ) → id_of (member_of s n) ≡ n
 name_is s n = picked n (find (is_called n) s.descriptors) (find (is_named n) s.queues) (found_passes (is_called n) s.descriptors) (found_passes (is_named n) s.queues)
 
--- one that is alone with its name is found
-find_none : {X : Type 0} (p : X → Bool) (xs : List X) → AllByRecursion (λ x. p x ≡ false) xs → find p xs ≡ None
-find_none p [] h = refl
-find_none p (x ∷ xs) h = ap (λ b. cond b (Some x) (find p xs)) h.0 ∙ find_none p xs h.1
-
 find_one : {X : Type 0} (p : X → Bool) (x : X) (front back : List X) → AllByRecursion (λ y. p y ≡ false) front → p x ≡ true → find p (front ++ x ∷ back) ≡ Some x
 find_one p x [] back h k = ap (λ b. cond b (Some x) (find p back)) k
 find_one p x (y ∷ front) back h k = ap (λ b. cond b (Some y) (find p (front ++ x ∷ back))) h.0 ∙ find_one p x front back h.1 k
@@ -75,7 +72,7 @@ member_is s (Once d) k h =
     ap (λ o. pick d.id o (find (is_named d.id) s.queues)) (ap (λ ds. find (is_called d.id) ds) at.is ∙ find_one (is_called d.id) d at.front at.back at.before (eq-eqb d.id d.id refl))
 member_is s (Each q) k h =
     let at = queue_at s q k h in
-    ap (λ o. pick q.id o (find (is_named q.id) s.queues)) (find_none (is_called q.id) s.descriptors (queue_alone s q k at))
+    ap (λ o. pick q.id o (find (is_named q.id) s.queues)) (each_none (is_called q.id) s.descriptors (queue_alone s q k at))
     ∙ ap (λ o. pick q.id None o) (ap (λ qs. find (is_named q.id) qs) at.is ∙ find_one (is_named q.id) q at.front at.back at.before (eq-eqb q.id q.id refl))
 
 abbrev pub IsIn : Schedule → Member → Type 0
@@ -119,14 +116,6 @@ leads_by list s word p (m ∷ ms) h = (is_one s (word (address_of list p)) m (na
 abbrev pub IsWordOf : Schedule → Predecessor → Type 0
 IsWordOf s (Element f) = f < 1024
 IsWordOf s (After m) = IsIn s m
-
-itself : (m : Member) → is_same m m ≡ true
-itself (Once d) = and_from (nat_eq d.id d.id) (nat_eq d.frame d.frame) (eq-eqb d.id d.id refl) (eq-eqb d.frame d.frame refl)
-itself (Each q) = and_from (nat_eq q.id q.id) (nat_eq q.period q.period && nat_eq q.phase q.phase) (eq-eqb q.id q.id refl) (and_from (nat_eq q.period q.period) (nat_eq q.phase q.phase) (eq-eqb q.period q.period refl) (eq-eqb q.phase q.phase refl))
-
-word_itself : (p : Predecessor) → is_word p p ≡ true
-word_itself (Element f) = eq-eqb f f refl
-word_itself (After m) = itself m
 
 two_elements : (list f g : ℕ) → 32 * list + 4 * f ≡ 32 * list + 4 * g → f ≡ g
 two_elements list f g h = omega (arith, h)

@@ -1,18 +1,17 @@
 -- The members of a chain, and the words before them, are those of the schedule.
-use Rattle.std.proofs.Common.{◌≡◌, ℕ, ◌^◌, ◌<◌, Bool, true, false, List, [], ◌∷◌, map, cond, nat_eq, inl, inr, if◌then◌else◌, refl, sym, subst, arith}
-use Rattle.std.specs.Prelude.{◌||◌, ◌&&◌, filter, not}
+use Rattle.std.proofs.Common.{◌≡◌, ℕ, ◌<◌, Bool, true, false, List, [], ◌∷◌, map, cond, nat_eq, inl, inr, if◌then◌else◌, sym, subst}
+use Rattle.std.specs.Prelude.{filter, not}
 use Rattle.std.specs.List.{AllByRecursion, list_any, flat_map}
-use Rattle.std.proofs.lemmas.Bool.{false≢true, eq-eqb, and_from, or_cases}
-use Rattle.std.proofs.lemmas.List.Elements.{recursion_from_All}
-use Rattle.drv_chains.specs.declared.members.Descriptor.{Descriptor}
-use Rattle.drv_chains.specs.declared.members.QueueHead.{QueueHead}
+use Rattle.std.proofs.lemmas.Bool.{or_cases}
+use Rattle.law_common.proofs.Booleans.{right_or, left_or}
+use Rattle.law_frame_words.proofs.Common.{this_itself, that_itself, frames_below, either_all}
 use Rattle.drv_chains.specs.declared.members.Member.{Member}
 use Rattle.drv_chains.specs.declared.members.Member.TheVariants.{Once, Each}
 use Rattle.drv_chains.specs.declared.members.Predecessor.{Predecessor}
 use Rattle.drv_chains.specs.declared.members.Predecessor.TheVariants.{Element}
 use Rattle.drv_chains.specs.Order.{frames}
 use Rattle.drv_chains.specs.Chains.{Schedule, is_the, is_active, stands_in, first_frame, descriptors_in, first_of, before_the, behind_the, chain, predecessor, predecessors, word_met, successor}
-use Rattle.drv_chains.proofs.Orders.{all_below, both_parts}
+use Rattle.drv_chains.proofs.Orders.{both_parts}
 use Rattle.drv_chains.proofs.Words.{all_kept, holds_after, after_all}
 use Rattle.drv_chains.proofs.Beside.{each_map}
 use Rattle.drv_chains.proofs.Linking.{weaken}
@@ -21,25 +20,10 @@ use Rattle.drv_members.specs.Members.{IsKept, is_that, is_this, without_member}
 use Rattle.drv_members.proofs.Classes.{chain_is}
 use Rattle.law_frame_words.proofs.lemmas.frame_words.Decoded.{IsIn, IsInOr, IsWordOf}
 
--- each of a list is in it
-pub left_or : (a b : Bool) → a ≡ true → (a || b) ≡ true
-left_or true b h = refl
-left_or false b h = absurd (false≢true h)
-
-right_or : (a b : Bool) → b ≡ true → (a || b) ≡ true
-right_or true b h = refl
-right_or false b h = h
-
 self_in : {X : Type 0} (same : X → X → Bool) → ((x : X) → same x x ≡ true) → (xs : List X) → AllByRecursion (λ x. list_any (same x) xs ≡ true) xs
 self_in same own [] = tt
 self_in same own (x ∷ xs) =
     (left_or (same x x) (list_any (same x) xs) (own x), weaken (λ y. list_any (same y) xs ≡ true) (λ y. list_any (same y) (x ∷ xs) ≡ true) (λ y h. right_or (same y x) (list_any (same y) xs) h) xs (self_in same own xs))
-
-pub that_itself : (d : Descriptor) → is_that d d ≡ true
-that_itself d = and_from (nat_eq d.id d.id) (nat_eq d.frame d.frame) (eq-eqb d.id d.id refl) (eq-eqb d.frame d.frame refl)
-
-pub this_itself : (q : QueueHead) → is_this q q ≡ true
-this_itself q = and_from (nat_eq q.id q.id) (nat_eq q.period q.period && nat_eq q.phase q.phase) (eq-eqb q.id q.id refl) (and_from (nat_eq q.period q.period) (nat_eq q.phase q.phase) (eq-eqb q.period q.period refl) (eq-eqb q.phase q.phase refl))
 
 pub chain_in : (s : Schedule) (f : ℕ) → IsKept s → AllByRecursion (IsIn s) (chain s f)
 chain_in s f k =
@@ -76,14 +60,10 @@ unfolding before_the
 before_in P m [] h = tt
 before_in P m (x ∷ xs) h = front_or_not P x (before_the m xs) (is_the m x) h.0 (before_in P m xs h.1)
 
-either_of : (P : Member → Type 0) (xs ys : List Member) (b : Bool) → AllByRecursion P xs → AllByRecursion P ys → AllByRecursion P (if b then xs else ys)
-either_of P xs ys true h k = h
-either_of P xs ys false h k = k
-
 behind_in : (P : Member → Type 0) (m : Member) (ms : List Member) → AllByRecursion P ms → AllByRecursion P (behind_the m ms)
 unfolding behind_the
 behind_in P m [] h = tt
-behind_in P m (x ∷ xs) h = either_of P xs (behind_the m xs) (is_the m x) h.1 (behind_in P m xs h.1)
+behind_in P m (x ∷ xs) h = either_all P xs (behind_the m xs) (is_the m x) h.1 (behind_in P m xs h.1)
 
 first_in : (s : Schedule) (ms : List Member) → AllByRecursion (IsIn s) ms → IsInOr s (first_of ms)
 first_in s [] h = tt
@@ -93,7 +73,7 @@ pub successor_in : (s : Schedule) (m : Member) (f : ℕ) → IsKept s → IsInOr
 successor_in s m f k = first_in s (behind_the m (chain s f)) (behind_in (IsIn s) m (chain s f) (chain_in s f k))
 
 pub half_in : (s : Schedule) (xs ys : List Member) (b : Bool) → AllByRecursion (IsIn s) xs → AllByRecursion (IsIn s) ys → AllByRecursion (IsIn s) (if b then xs else ys)
-half_in s xs ys b h k = either_of (IsIn s) xs ys b h k
+half_in s xs ys b h k = either_all (IsIn s) xs ys b h k
 
 -- the words that are stored
 word_in : (s : Schedule) (m : Member) (f : ℕ) → IsKept s → f < 1024 → IsWordOf s (predecessor s m f)
@@ -106,9 +86,6 @@ met_or_not s w false h = tt
 met_in : (s : Schedule) (m : Member) (fs : List ℕ) → IsKept s → AllByRecursion (λ f. f < 1024) fs → AllByRecursion (IsWordOf s) (flat_map (word_met s m) fs)
 met_in s m [] k h = tt
 met_in s m (f ∷ fs) k h = both_parts (IsWordOf s) (word_met s m f) (flat_map (word_met s m) fs) (met_or_not s (predecessor s m f) (nat_eq (first_frame (predecessor s m f)) f) (word_in s m f k h.0)) (met_in s m fs k h.1)
-
-frames_below : AllByRecursion (λ f. f < 1024) (frames 10)
-frames_below = weaken (λ f. f < 2 ^ 10) (λ f. f < 1024) (λ f h. omega (arith, h)) (frames 10) (recursion_from_All (λ f. f < 2 ^ 10) (frames 10) (all_below 10))
 
 pub words_in : (s : Schedule) (m : Member) → IsKept s → AllByRecursion (IsWordOf s) (predecessors s m (frames 10))
 unfolding predecessors

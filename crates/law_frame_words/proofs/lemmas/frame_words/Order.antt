@@ -2,6 +2,8 @@
 use Rattle.std.proofs.Common.{◌≡◌, ℕ, ◌+◌, Bool, true, false, [], ◌∷◌, Some, None, Option, if◌then◌else◌, refl}
 use Rattle.std.specs.Prelude.{filter, not}
 use Rattle.std.specs.List.{list_any}
+use Rattle.law_common.proofs.Booleans.{left_or}
+use Rattle.law_frame_words.proofs.Common.{that_itself, this_itself}
 use Rattle.drv_chains.specs.declared.members.Member.{Member}
 use Rattle.drv_chains.specs.declared.members.Member.TheVariants.{Once, Each}
 use Rattle.drv_chains.specs.Chains.{Schedule, has_name, id_of}
@@ -11,7 +13,6 @@ use Rattle.drv_members.proofs.Keeping.{keeps_with, keeps_without, kept_at_first}
 use Rattle.drv_periodic.specs.declared.work.Work.{Work}
 use Rattle.drv_periodic.specs.Periodic.{Periodic, new_list, is_more, inserting, removing, members_after, after_work, after_store}
 use Rattle.claims_driver.specs.FrameWords.{HasMember, IsInOrder}
-use Rattle.law_frame_words.proofs.lemmas.frame_words.InChains.{left_or, that_itself, this_itself}
 use Rattle.law_frame_words.proofs.lemmas.frame_words.Begins.{any_right}
 
 new_linked : (s : Schedule) (m : Member) → is_linked (with_member s m) m ≡ true

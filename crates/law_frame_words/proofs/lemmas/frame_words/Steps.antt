@@ -4,6 +4,8 @@ use Rattle.std.specs.Prelude.{◌||◌, option_map, option_and_then, is_some}
 use Rattle.std.specs.List.{list_any, slice_get}
 use Rattle.std.proofs.lemmas.Bool.{false≢true, eqb-true, eq-eqb, ltb-false}
 use Rattle.std.proofs.lemmas.List.{take_all}
+use Rattle.law_common.proofs.Booleans.{or_false, or_joined}
+use Rattle.law_common.proofs.Numbers.{same_test}
 use Rattle.drv_chains.proofs.Links.{not_true}
 use Rattle.drv_chains.specs.declared.members.Member.{Member}
 use Rattle.drv_chains.specs.declared.members.Predecessor.{Predecessor}
@@ -48,24 +50,13 @@ take_next zero (y ∷ xs) x e = ap (λ o. first_or o x ∷ []) e
 take_next (suc n) [] x e = absurd (false≢true (ap is_some e))
 take_next (suc n) (y ∷ xs) x e = ap (λ zs. y ∷ zs) (take_next n xs x e)
 
-or_false : (b : Bool) → (b || false) ≡ b
-or_false true = refl
-or_false false = refl
-
-or_or : (a b c : Bool) → (a || (b || c)) ≡ ((a || b) || c)
-or_or true b c = refl
-or_or false b c = refl
-
 any_last : {X : Type 0} (p : X → Bool) (xs : List X) (x : X) → list_any p (xs ++ x ∷ []) ≡ (list_any p xs || p x)
 any_last p [] x = or_false (p x)
-any_last p (y ∷ xs) x = ap (λ b. p y || b) (any_last p xs x) ∙ or_or (p y) (list_any p xs) (p x)
+any_last p (y ∷ xs) x = ap (λ b. p y || b) (any_last p xs x) ∙ or_joined (p y) (list_any p xs) (p x)
 
 turned_by : (a b : ℕ) (c : Bool) → nat_eq a b ≡ c → nat_eq b a ≡ c
 turned_by a b true e = eq-eqb b a (sym (eqb-true a b e))
 turned_by a b false e = not_true (nat_eq b a) (λ t. false≢true (sym e ∙ eq-eqb a b (sym (eqb-true b a t))))
-
-turned : (a b : ℕ) → nat_eq a b ≡ nat_eq b a
-turned a b = sym (turned_by a b (nat_eq a b) refl)
 
 joined : (a c : Bool) (v n : ℕ) → (if c then v else (if a then v else n)) ≡ (if a || c then v else n)
 joined true true v n = refl
@@ -74,7 +65,7 @@ joined false c v n = refl
 
 more_set : (list : ℕ) (ps : List Predecessor) (x : Predecessor) (v : ℕ) (before word : ℕ → ℕ) → ((at : ℕ) → word at ≡ set_all list ps v before at) → (at : ℕ) → with_value word (address_of list x) v at ≡ set_all list (ps ++ x ∷ []) v before at
 more_set list ps x v before word since at =
-    ap (λ n. if nat_eq at (address_of list x) then v else n) (since at) ∙ ap (λ c. if c then v else (if list_any (is_at list at) ps then v else before at)) (turned at (address_of list x))
+    ap (λ n. if nat_eq at (address_of list x) then v else n) (since at) ∙ ap (λ c. if c then v else (if list_any (is_at list at) ps then v else before at)) (same_test at (address_of list x))
     ∙ joined (list_any (is_at list at) ps) (nat_eq (address_of list x) at) v (before at) ∙ ap (λ b. if b then v else before at) (sym (any_last (is_at list at) ps x))
 
 -- the store that comes next

@@ -1,7 +1,7 @@
 -- The front goes on with each event of a queue, and links lead where they led.
 use Rattle.std.proofs.Common.{◌≡◌, ◌≢◌, ℕ, ◌+◌, ◌<◌, ◌≤◌, ◌==◌, ◌&&◌, not, Bool, true, false, if◌then◌else◌, List, length, Some, ap, refl, sym, subst, ◌∙◌, ⊎_elim, arith}
 use Rattle.std.proofs.lemmas.Bool.{cases_eq, true≢false}
-use Rattle.link_words.specs.declared.fields.ShortLink.{ShortLink}
+use Rattle.law_ring.proofs.Common.{pointer_rises, same_pointer, pointer_within, behind_later, passed_later}
 use Rattle.link_words.specs.declared.kinds.QtdLink.{QtdLink}
 use Rattle.link_words.specs.declared.kinds.QtdLink.TheVariants as qtd_links
 use Rattle.link_words.specs.Links.{qtd_link_of}
@@ -16,7 +16,7 @@ use Rattle.law_structures.proofs.lemmas.lent_structures.Altering.{found_queue, f
 use Rattle.law_ring.specs.Effects.{buffer_of}
 use Rattle.law_ring.proofs.Altered.{length_still}
 use Rattle.law_ring.specs.Order.{IsFresh, IsAmong}
-use Rattle.law_ring.specs.Front.{LinksWithin, HasTail, own_pointer, IsFront, IsBehind, IsPassed, Passes, LinksRise, HasFront, FrontGoesOn}
+use Rattle.law_ring.specs.Front.{HasTail, own_pointer, IsFront, IsBehind, IsPassed, Passes, LinksRise, HasFront, FrontGoesOn}
 use Rattle.law_frames.proofs.lemmas.framed_fronts.Queues.{Advances, Settles, QueueEvent, stays, advances, settles}
 
 -- ---- links
@@ -44,37 +44,10 @@ front_past : (order : ℕ → ℕ) (a : ℕ) (l : QtdLink) → ((b : ℕ) → l 
 front_past order a qtd_links.End rises = omega arith
 front_past order a (qtd_links.To b) rises = rises b refl
 
-pointer_rises : (order : ℕ → ℕ) (part : Structures) (a : ℕ) (t : Qtd) (c : Bool) (b : ℕ) → LinksRise order part → part a ≡ Some (Element t) → qtd_link_of (if c then t.alternate else t.next) ≡ qtd_links.To b → order a < order b
-pointer_rises order part a t true b rise here to = rise.alternate a t b here to
-pointer_rises order part a t false b rise here to = rise.next a t b here to
-
 -- and no further than its links lead
 front_within : (order : ℕ → ℕ) (a top : ℕ) (l : QtdLink) → order a < top → ((b : ℕ) → l ≡ qtd_links.To b → order b ≤ top) → front_at order a l ≤ top
 front_within order a top qtd_links.End below leads = omega (arith, below)
 front_within order a top (qtd_links.To b) below leads = leads b refl
-
-pointer_within : (order : ℕ → ℕ) (c : ℕ) (part : Structures) (a : ℕ) (t : Qtd) (short : Bool) (b : ℕ) → LinksWithin order c part → part a ≡ Some (Element t) → t.token.active ≡ true → order a ≤ order c → qtd_link_of (if short then t.alternate else t.next) ≡ qtd_links.To b → order b ≤ order c
-pointer_within order c part a t true b within here on reached to = within.alternate a b t here on reached to
-pointer_within order c part a t false b within here on reached to = within.next a b t here on reached to
-
--- a queue head and a qTD with one pair of links and as many bytes left go on at one
-same_pointer : (q : Qh) (t : Qtd) → q.next ≡ t.next → q.alternate ≡ t.alternate → q.token.total ≡ t.token.total → next_pointer q ≡ own_pointer t
-same_pointer q t next alternate total =
-    ap (λ (n : ℕ). if not (n == 0) && not q.alternate.t then q.alternate else q.next) total
-    ∙ ap (λ (l : ShortLink). if not (t.token.total == 0) && not l.t then l else q.next) alternate
-    ∙ ap (λ (l : ShortLink). if not (t.token.total == 0) && not t.alternate.t then t.alternate else l) next
-
-behind_later : (order : ℕ → ℕ) (front later : ℕ) (part now : Structures) (a : ℕ) → front ≤ later → ((t : Qtd) → part a ≡ Some (Element t) → t.token.active ≡ false → now a ≡ Some (Element t)) → IsBehind order front part a → IsBehind order later now a
-behind_later order front later part now a grows still k = record {
-  qtd = k.qtd;
-  here = still k.qtd k.here k.done;
-  done = k.done;
-  before = (let less = k.before in omega (arith, less, grows));
-  leads = λ b off to. let at = k.leads b off to in omega (arith, at, grows);
-}
-
-passed_later : (order : ℕ → ℕ) (front later : ℕ) (part now : Structures) (a : ℕ) → front ≤ later → ((t : Qtd) → part a ≡ Some (Element t) → now a ≡ Some (Element t)) → IsPassed order front part a → IsPassed order later now a
-passed_later order front later part now a grows still k = record { qtd = k.qtd; here = still k.qtd k.here; published = k.published; before = (let less = k.before in omega (arith, less, grows)) }
 
 -- ---- the events
 

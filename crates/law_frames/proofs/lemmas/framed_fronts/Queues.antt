@@ -1,23 +1,23 @@
 -- What an event of the walk of the frames is to the queue of one queue head: none, or it takes a qTD, or one of its transactions is written back.
 use Rattle.std.proofs.Common.{◌≡◌, ◌≢◌, ℕ, true, false, if◌then◌else◌, List, Option, Some, ap, refl, sym, subst, ◌∙◌, ⊎_elim}
 use Rattle.std.proofs.lemmas.Bool.{cases_eq}
+use Rattle.law_ring.proofs.Common.{through_head, through_bytes}
+use Rattle.law_frames.proofs.Common.{no_itd, no_sitd}
 use Rattle.usb_base.specs.declared.packets.Ask.{Ask}
 use Rattle.usb_base.specs.declared.packets.Reply.{Reply}
 use Rattle.link_words.specs.declared.kinds.QtdLink.TheVariants as qtd_links
 use Rattle.link_words.specs.Links.{qtd_link_of}
 use Rattle.qh_qtd.specs.declared.qtd.Qtd.{Qtd}
 use Rattle.qh_qtd.specs.declared.queue_head.Qh.{Qh}
-use Rattle.mem_bytes.specs.Bytes.{place}
 use Rattle.hc_copy.specs.Overlay.{advanced, moved}
 use Rattle.hc_copy.specs.Visits.{next_pointer}
 use Rattle.hc_copy.specs.WriteBack.{moved_by}
 use Rattle.hc_iso.specs.WriteBack.{sitd_received, moved_by as sitd_moved_by}
 use Rattle.async_walk.specs.declared.state.WalkStep.{WalkStep}
 use Rattle.periodic_walk.specs.Walk.{Walk}
-use Rattle.law_structures.specs.lent_structures.Structures.{QueueHead, Element, Buffer, Isochronous, SplitIsochronous, Structures, StructureSets, put}
-use Rattle.law_structures.specs.lent_structures.Changes.{overwritten}
+use Rattle.law_structures.specs.lent_structures.Structures.{QueueHead, Element, Isochronous, SplitIsochronous, Structures, StructureSets, put}
 use Rattle.law_structures.proofs.lemmas.lent_structures.Names.{put_here, put_same, put_else, put_beside, put_found}
-use Rattle.law_structures.specs.lent_structures.WriteBack.{CanBeWritten, Received, Nothing as Nowhere, Into, received_parts, qtd_after, parts_back}
+use Rattle.law_structures.specs.lent_structures.WriteBack.{CanBeWritten, Received, received_parts, qtd_after, parts_back}
 use Rattle.law_structures.proofs.lemmas.lent_structures.Found.{received_beside, back_beside, back_head, back_element, back_other_element}
 use Rattle.law_structures.specs.lent_structures.Sound.{IsWorking, IsSoundQueue}
 use Rattle.law_structures.specs.lent_structures.Alters.{Alters}
@@ -25,7 +25,7 @@ use Rattle.law_structures.proofs.lemmas.lent_structures.Altering.{found_queue, f
 use Rattle.law_ring.specs.Hand.{Hand, Empty, Copied, Settled, Stale}
 use Rattle.law_ring.specs.Effects.{received_into, Takes}
 use Rattle.law_frames.specs.Met.{Kind, AQueue, IsMetQueue}
-use Rattle.law_frames.specs.FrameHand.{settled_in, ItdCopy, SitdCopy, FrameHand}
+use Rattle.law_frames.specs.FrameHand.{settled_in, SitdCopy, FrameHand}
 use Rattle.law_frames.specs.Frame.{IsQueueSettled, IsCopiedQueue, IsCopiedItd, IsCopiedSitd, IsInFrame}
 use Rattle.law_frames.specs.FrameEffects.{IsWrittenFrom, made as was_made, missed as was_missed, queue_written, itd_back, sitd_back, WritesQueue, WritesOne, of_queue, of_itd, of_sitd, TakesOne, FrameEffect, fetches, passes, ends, makes, takes, writes}
 use Rattle.law_frames.proofs.QueueBacks.{settled_facts, settled_range, written_facts, hand_is_settled, back_alters}
@@ -81,24 +81,6 @@ pub record HasEvent (n : ℕ) (part now : Structures) : Type 0 where
 
 same_part : (n : ℕ) (part now : Structures) → now ≡ part → HasEvent n part now
 same_part n part now same = record { event = stays same; alters = subst (Alters part) (sym same) (unaltered part) }
-
--- ---- what is found after an event was there before
-
-no_head : (q : Qh) (u : Qtd) → Element u ≡ QueueHead q → ⊥
-no_head q u e = cc
-
-no_buffer : (pages : List ℕ) (k : ℕ) (bs : List ℕ) (u : Qtd) → Element u ≡ Buffer pages k bs → ⊥
-no_buffer pages k bs u e = cc
-
-through_head : (ps : StructureSets) (a : ℕ) (q : Qh) (i b : ℕ) (u : Qtd) → put ps a a (QueueHead q) i b ≡ Some (Element u) → ps i b ≡ Some (Element u)
-through_head ps a q i b u found =
-    ⊎_elim (λ (is : (i ≡ a) × (b ≡ a) × (Element u ≡ QueueHead q)). absurd (no_head q u is.2)) (λ (before : ps i b ≡ Some (Element u)). before) (put_found ps a a (QueueHead q) i b (Element u) found)
-
-through_bytes : (ps : StructureSets) (a : ℕ) (got : List ℕ) (r : Received) (i b : ℕ) (u : Qtd) → received_parts ps a got r i b ≡ Some (Element u) → ps i b ≡ Some (Element u)
-through_bytes ps a got Nowhere i b u found = found
-through_bytes ps a got (Into pages k bs j) i b u found =
-    ⊎_elim (λ (is : (i ≡ a) × (b ≡ place pages k) × (Element u ≡ Buffer pages k (overwritten bs j got))). absurd (no_buffer pages k (overwritten bs j got) u is.2)) (λ (before : ps i b ≡ Some (Element u)). before)
-    (put_found ps a (place pages k) (Buffer pages k (overwritten bs j got)) i b (Element u) found)
 
 -- ---- a qTD is taken
 
@@ -222,12 +204,6 @@ module _ (parts : StructureSets) (walk : Walk) (hand : FrameHand) (now : Structu
 written_from : (w : Walk) (copy back : SitdCopy) → IsWrittenFrom w copy back → (back.held.at ≡ copy.held.at)
 written_from w copy back (was_made is) = ap (λ (c : SitdCopy). c.held.at) is
 written_from w copy back (was_missed unsettled turn is) = ap (λ (c : SitdCopy). c.held.at) is
-
-no_itd : (parts : StructureSets) (n : ℕ) (q : Qh) (c : ItdCopy) → parts n n ≡ Some (QueueHead q) → parts c.held.at c.held.at ≡ Some (Isochronous c.itd) → n ≢ c.held.at
-no_itd parts n q c here there same = let e : Some (QueueHead q) ≡ Some (Isochronous c.itd) = sym here ∙ ap (λ (i : ℕ). parts i i) same ∙ there in cc
-
-no_sitd : (parts : StructureSets) (n : ℕ) (q : Qh) (c : SitdCopy) → parts n n ≡ Some (QueueHead q) → parts c.held.at c.held.at ≡ Some (SplitIsochronous c.sitd) → n ≢ c.held.at
-no_sitd parts n q c here there same = let e : Some (QueueHead q) ≡ Some (SplitIsochronous c.sitd) = sym here ∙ ap (λ (i : ℕ). parts i i) same ∙ there in cc
 
 module _ (met : ℕ → Option Kind) (parts : StructureSets) (w : Walk) (hand : FrameHand) (now : StructureSets) (later : FrameHand) (n : ℕ) (q : Qh) (members : AreMet met parts) (in_hand : IsInFrame met parts w.got w.reply hand) (here : parts n n ≡ Some (QueueHead q)) where
   take_event : TakesOne parts hand now later → HasEvent n (parts n) (now n)

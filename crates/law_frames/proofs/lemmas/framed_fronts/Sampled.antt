@@ -1,6 +1,7 @@
 -- A queue head of an interrupt endpoint that works on its qTD.
 use Rattle.std.proofs.Common.{◌≡◌, ℕ, ◌/◌, [], ◌∷◌, true, Some, ap, refl, sym, subst, ◌∙◌, ⊎_elim, arith}
 use Rattle.std.proofs.lemmas.Bool.{true≢false}
+use Rattle.law_structures.proofs.Common.{element_is}
 use Rattle.link_words.specs.declared.kinds.QtdLink.TheVariants as qtd_links
 use Rattle.link_words.specs.Links.{qtd_link_of}
 use Rattle.qh_qtd.specs.declared.qtd.Qtd.{Qtd}
@@ -9,7 +10,7 @@ use Rattle.async_walk.specs.declared.state.WalkStep.TheVariants as steps
 use Rattle.law_structures.specs.lent_structures.Structures.{QueueHead, Element, Buffer, put}
 use Rattle.law_structures.specs.lent_structures.StructureSamples.{queue as first, element, bytes, pages, nothing, parts as small_parts}
 use Rattle.law_structures.proofs.lemmas.lent_structures.Names.{put_found}
-use Rattle.law_structures.proofs.lemmas.lent_structures.Altering.{same_element, found_queue}
+use Rattle.law_structures.proofs.lemmas.lent_structures.Altering.{found_queue}
 use Rattle.law_ring.specs.Order.{IsFresh}
 use Rattle.law_ring.specs.Front.{IsFront, LinksRise, HasFront, FrontGoesOn}
 use Rattle.law_ring.specs.Halted.{HaltStops}
@@ -31,7 +32,7 @@ the_first : (a : ℕ) (t : Qtd) → small_parts 0 a ≡ Some (Element t) → IsT
 the_first a t found =
     ⊎_elim (λ (is : (0 ≡ 0) × (a ≡ 100) × (Element t ≡ Buffer pages 100 bytes)). cc)
     (λ (second : put (put nothing 0 0 (QueueHead first)) 0 64 (Element element) 0 a ≡ Some (Element t)).
-    ⊎_elim (λ (is : (0 ≡ 0) × (a ≡ 64) × (Element t ≡ Element element)). record { at = is.1; is = same_element t element is.2 })
+    ⊎_elim (λ (is : (0 ≡ 0) × (a ≡ 64) × (Element t ≡ Element element)). record { at = is.1; is = element_is t element is.2 })
     (λ (third : put nothing 0 0 (QueueHead first) 0 a ≡ Some (Element t)).
     ⊎_elim (λ (is : (0 ≡ 0) × (a ≡ 0) × (Element t ≡ QueueHead first)). cc) (λ (there : nothing 0 a ≡ Some (Element t)). cc)
     (put_found nothing 0 0 (QueueHead first) 0 a (Element t) third))

@@ -2,13 +2,14 @@
 use Rattle.std.proofs.Common.{◌≡◌, ◌≢◌, ◌⊎◌, ℕ, ◌/◌, ◌==◌, Bool, true, false, Some, None, if◌then◌else◌, ap, refl, sym, subst, ◌∙◌, ⊎_elim, inl, inr, arith}
 use Rattle.std.proofs.lemmas.Bool.{eqb-true, true≢false}
 use Rattle.std.proofs.lemmas.Option.{same_Some}
+use Rattle.law_structures.proofs.Common.{element_is}
 use Rattle.qh_qtd.specs.declared.qtd.Qtd.{Qtd}
 use Rattle.qh_qtd.specs.declared.queue_head.Qh.{Qh}
 use Rattle.async_walk.specs.declared.state.WalkStep.TheVariants as steps
 use Rattle.law_structures.specs.lent_structures.Structures.{QueueHead, Element, Buffer}
 use Rattle.law_structures.specs.lent_structures.StructureSamples.{pages, bytes}
 use Rattle.law_structures.specs.lent_structures.Sound.{buffer_name, IsSoundElement, AreOwn}
-use Rattle.law_structures.proofs.lemmas.lent_structures.Altering.{found_queue, same_element}
+use Rattle.law_structures.proofs.lemmas.lent_structures.Altering.{found_queue}
 use Rattle.law_ring.proofs.Parting.{found_with}
 use Rattle.law_ring.specs.Order.{IsFresh}
 use Rattle.law_ring.specs.Front.{IsFront, IsBehind, HasFront}
@@ -39,9 +40,9 @@ two : (a : ℕ) (t : Qtd) → halted_part a ≡ Some (Element t) → ((a ≡ 64)
 two a t found =
     ⊎_elim (λ (is : (a ≡ 100) × (Buffer pages 100 bytes ≡ Element t)). cc)
     (λ (third : (a ≢ 100) × (both_part a ≡ Some (Element t))).
-    ⊎_elim (λ (is : (a ≡ 128) × (Element published_element ≡ Element t)). inr (is.0, same_element published_element t is.1))
+    ⊎_elim (λ (is : (a ≡ 128) × (Element published_element ≡ Element t)). inr (is.0, element_is published_element t is.1))
     (λ (second : (a ≢ 128) × (first_part a ≡ Some (Element t))).
-    ⊎_elim (λ (is : (a ≡ 64) × (Element halted_element ≡ Element t)). inl (is.0, same_element halted_element t is.1))
+    ⊎_elim (λ (is : (a ≡ 64) × (Element halted_element ≡ Element t)). inl (is.0, element_is halted_element t is.1))
     (λ (first : (a ≢ 64) × (head_part a ≡ Some (Element t))).
     ⊎_elim (λ (is : (a ≡ 0) × (QueueHead halted_queue ≡ Element t)). cc) (λ (there : (a ≢ 0) × (none a ≡ Some (Element t))). let e = there.1 in cc)
     (found_with none 0 a (QueueHead halted_queue) (Element t) first.1))

@@ -2,9 +2,9 @@
 -- 2.0, 8.5 and 8.6).
 use Rattle.std.proofs.Common.{◌≡◌, ℕ, ◌≤◌, ◌<◌, nat_le, Bool, true, false, if◌then◌else◌, List, [], ◌∷◌, length, slice_get, Option, Some}
 use Rattle.std.proofs.Common.{None, ap, refl, sym, subst, ◌∙◌, arith}
-use Rattle.std.specs.Prelude.{◌||◌}
 use Rattle.std.specs.Option.{option_and_then, option_map}
 use Rattle.std.proofs.lemmas.Bool.{eq-eqb, le-leb}
+use Rattle.law_common.proofs.Booleans.{none_late}
 use Rattle.usb_base.specs.Acknowledgement.{acknowledges}
 use Rattle.usb_base.specs.declared.endpoints.EpName.{EpName}
 use Rattle.usb_base.specs.declared.packets.Ask.{Ask}
@@ -84,11 +84,6 @@ answer_heard answer false true false true false s h u = refl
 answer_heard answer false true true acked lost s h u = absurd cc
 answer_heard answer false false unheard acked lost s h u = absurd cc
 answer_heard answer true has unheard acked lost s h u = absurd cc
-
-neither : (a b : Bool) → a ≡ false → b ≡ false → (a || b) ≡ false
-neither false false one other = refl
-neither false true one other = absurd cc
-neither true b one other = absurd cc
 
 -- ---- the endpoint that is asked
 
@@ -184,7 +179,7 @@ module _ (fixed : Fixed) (b : Bus) (name : EpName) (place packet : ℕ) (next : 
           (asked_is r tokens.In (ap (λ (w : Way). place_for fixed.seats name.addr name.num (token_by w)) (sym way) ∙ r.asked))
           (answer_is r ways.In ask [] way refl refl refl ∙ ap (sent_reply s.toggle) items)
           refl
-          (neither (is_unheard fixed.fates r.seat.name false (later packet 0))
+          (none_late (is_unheard fixed.fates r.seat.name false (later packet 0))
           (is_unheard fixed.fates r.seat.name false (later packet 0)) (good r 0 (omega arith)) (good r 0 (omega arith)))
           (good r 1 (omega arith))
 
@@ -212,7 +207,7 @@ module _ (fixed : Fixed) (b : Bus) (name : EpName) (place packet : ℕ) (next : 
           ∙ ap (λ (n : ℕ). row_reply r.device.speed (next_row t.items (has_room t n))) long
           ∙ ap (row_reply r.device.speed) takes)
           refl
-          (neither (is_unheard fixed.fates r.seat.name false (later packet 0))
+          (none_late (is_unheard fixed.fates r.seat.name false (later packet 0))
           (is_unheard fixed.fates r.seat.name false (later packet 1)) (good r 0 (omega arith)) (good r 1 (omega arith)))
           (good r 2 (omega arith))
 

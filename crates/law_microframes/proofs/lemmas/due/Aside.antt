@@ -2,6 +2,7 @@
 -- controller's.
 use Rattle.std.proofs.Common.{◌≡◌, ◌≢◌, ℕ, ◌+◌, ◌%◌, false, ap, refl, sym, ◌∙◌, ⊎_elim, arith}
 use Rattle.std.proofs.lemmas.Bool.{cases_eq}
+use Rattle.law_microframes.proofs.Common.{frame_row}
 use Rattle.usb_base.specs.declared.endpoints.EpName.{EpName}
 use Rattle.word_mem.specs.Memory.{word_at}
 use Rattle.link_words.specs.declared.kinds.QtdLink.TheVariants as qtd_links
@@ -30,7 +31,7 @@ use Rattle.claims_world.specs.SoFar.{SoFar}
 use Rattle.claims_world.specs.Due.{IsActiveToken}
 use Rattle.law_microframes.proofs.lemmas.due.Fields.{its_token}
 use Rattle.law_microframes.proofs.lemmas.due.Held.{GoesTo, to_itself, to_qtd, IsHeldAt, Stage, is_held, is_told, is_done, ready_as}
-use Rattle.law_microframes.proofs.lemmas.due.Turning.{frame_row, no_fault}
+use Rattle.law_microframes.proofs.lemmas.due.Turning.{no_fault}
 use Rattle.law_microframes.proofs.lemmas.due.Visiting.{turn_is, IsThere, is_there}
 
 -- the walks and the bus are as they were, and so is each word of the controller's

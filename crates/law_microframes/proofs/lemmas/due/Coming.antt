@@ -2,6 +2,7 @@
 use Rattle.std.proofs.Common.{◌≡◌, ℕ, ◌*◌, ◌%◌, ◌<◌, true, List, [], Option, Some, None, refl, sym, subst, inl, inr}
 use Rattle.std.specs.Prelude.{nat_eq}
 use Rattle.std.proofs.lemmas.Bool.{eqb-true, eq-eqb}
+use Rattle.law_microframes.proofs.Common.{in_list}
 use Rattle.script_types.specs.declared.scripts.Script.{Script}
 use Rattle.script_text.specs.Faults.{Spells}
 use Rattle.script_fits.proofs.Texts.{spelled_fits}
@@ -25,7 +26,6 @@ use Rattle.law_world.proofs.lemmas.memory.FittingTexts.{texts_open_fitting}
 use Rattle.law_world.proofs.lemmas.memory.Texts.{texts_fit}
 use Rattle.law_world.proofs.lemmas.memory.Together.{texts_stay_mixed}
 use Rattle.law_microframes.proofs.lemmas.visits.AheadMoments.{began_is_mixed}
-use Rattle.law_microframes.proofs.lemmas.visits.NoneLeftWorlds.{frame_low}
 use Rattle.law_microframes.proofs.lemmas.visits.VisitsKept.{texts_visit_each}
 use Rattle.law_microframes.proofs.lemmas.visits.VisitTexts.{lines_fit}
 use Rattle.claims_world.specs.SoFar.{SoFar, nothing_yet, found_too, found_next, so_far_after, so_far_next, so_far, HasFound}
@@ -93,7 +93,7 @@ visited_is_found s k =
 comes_to_each : (text : List ℕ) (s : Script) → Spells text s → ComesToEach s
 comes_to_each text s spelled k e q p past was is active =
     let f : ℕ = frame_in (moment s k).world.control.frame.index in
-    let low : f < 1024 = frame_low (moment s k).world.control.frame.index in
+    let low : f < 1024 = in_list (moment s k).world.control.frame.index in
     let f_is = visited_is_found s k (32 * q)
     (texts_visit_each text s spelled k (32 * q) past
     (its_frames_lead (began s k) e q p f

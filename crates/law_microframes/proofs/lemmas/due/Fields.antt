@@ -1,8 +1,8 @@
 -- What is read of a queue head and of a qTD has the fields of their words (EHCI 1.0, 3.5 and 3.6).
 use Rattle.std.proofs.Common.{◌≡◌, ℕ, ◌+◌, ◌/◌, ◌%◌, ◌<◌, Bool, true, false, if◌then◌else◌, List, slice_index, Some, None, Result, Ok}
-use Rattle.std.proofs.Common.{Err, ap, refl, sym, ◌∙◌, arith}
+use Rattle.std.proofs.Common.{ap, refl, sym, ◌∙◌, arith}
 use Rattle.std.specs.Result.{result_ok}
-use Rattle.std.proofs.lemmas.Option.{same_Some}
+use Rattle.law_microframes.proofs.Common.{ok_is}
 use Rattle.usb_base.specs.declared.endpoints.EpDesc.{EpDesc}
 use Rattle.word_mem.specs.Memory.{Mem, reaches, word_at}
 use Rattle.word_mem.specs.Views.{words_in, words_at}
@@ -23,10 +23,6 @@ use Rattle.hc_copy.specs.Visits.{next_pointer}
 use Rattle.drv_table.specs.Words.{interrupt_head}
 
 -- ---- read
-
-ok_is : {X : Type 0} (r : Result X Bad) (x : X) → result_ok r ≡ Some x → r ≡ Ok x
-ok_is (Ok y) x is = ap Ok (same_Some y x is)
-ok_is (Err bad) x is = absurd cc
 
 if_some : {X : Type 0} (b : Bool) (r : Result X Bad) (x : X) → (if b then result_ok r else None) ≡ Some x → r ≡ Ok x
 if_some true r x is = ok_is r x is

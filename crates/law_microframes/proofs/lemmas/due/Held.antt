@@ -1,6 +1,7 @@
 -- From the fetch of a queue head to the write-back of its transaction, event by event (EHCI 1.0, 4.10, 4.10.2 to 4.10.4).
 use Rattle.std.proofs.Common.{◌≡◌, ℕ, ◌+◌, ◌%◌, ◌≤◌, true, false, length, Some, None, ap, refl, sym, subst, ◌∙◌}
 use Rattle.std.specs.Prelude.{min, nat_lt}
+use Rattle.law_microframes.proofs.Common.{frame_row}
 use Rattle.usb_base.specs.declared.endpoints.EpName.{EpName}
 use Rattle.usb_base.specs.declared.packets.Reply.{Reply}
 use Rattle.usb_base.specs.declared.packets.Way.{Way}
@@ -41,7 +42,7 @@ use Rattle.claims_world.specs.SoFar.{SoFar, HasMoved}
 use Rattle.claims_world.specs.Due.{IsActiveToken, MovesPacket, by_packet, by_taking, bytes_moved, CanMove}
 use Rattle.law_microframes.proofs.lemmas.due.Answering.{ready_transactions_move}
 use Rattle.law_microframes.proofs.lemmas.due.Fields.{its_token}
-use Rattle.law_microframes.proofs.lemmas.due.Turning.{frame_row, no_fault, walked_to}
+use Rattle.law_microframes.proofs.lemmas.due.Turning.{no_fault, walked_to}
 use Rattle.law_microframes.proofs.lemmas.due.Visiting.{turn_is, call_made, bytes_read, transacts, asks, is_there, advances, is_taken}
 
 -- ---- what it goes on to: the token of that qTD stays as it was read, while links and buffer pointers aren't looked at

@@ -1,9 +1,11 @@
 -- The links of each frame of a placed interrupt endpoint lead to its queue head, while others are linked and unlinked (EHCI 1.0, 3.1, 3.6.1
 -- and 4.6).
 use Rattle.std.proofs.Common.{◌≡◌, ◌≢◌, ℕ, ◌+◌, ◌*◌, ◌/◌, ◌<◌, Bool, true, false, if◌then◌else◌, List, [], ◌∷◌, Option, Some, None}
-use Rattle.std.proofs.Common.{⊎_elim, ap, refl, sym, subst, ◌∙◌, arith}
+use Rattle.std.proofs.Common.{⊎_elim, ap, refl, sym, subst, ◌∙◌}
 use Rattle.std.specs.List.{AllByRecursion, list_any}
 use Rattle.std.proofs.lemmas.Bool.{false≢true, cases_Bool, eqb-true, or_cases}
+use Rattle.law_descriptors.proofs.Common.{others_led}
+use Rattle.law_common.proofs.Numbers.{first_word}
 use Rattle.word_mem.specs.Memory.{Mem, word_at}
 use Rattle.link_words.specs.Links.{link_read}
 use Rattle.drv_chains.specs.declared.members.Member.{Member}
@@ -76,9 +78,6 @@ module _ (s : Schedule) (f : ℕ) (x : Member) (kept : IsKept s) (on : is_linked
     shown_has = by_both (is_made s v.member (made_of s v) f) v.removes
 
 -- ---- along the words
-
-first_word : (b : ℕ) → 32 * b ≡ b * 32
-first_word b = omega arith
 
 module _ (m : Mem) (list : ℕ) (s : Schedule) (x : Member)
     (named : (y : Member) → is_linked s y ≡ true → name_of (link_read (id_of y)) ≡ Some (begins y)) where
@@ -153,18 +152,13 @@ in_chain_of s w f x k low on stands idle =
 
 -- ---- it is met as a queue head
 
-without_led : (s : Schedule) (v : Work) (x : Member) (b : Bool) → is_the v.member x ≡ false → is_linked s x ≡ true
-    → is_linked (if b then s else without_member s v.member) x ≡ true
-without_led s v x true other on = on
-without_led s v x false other on = still_linked s v.member x other on
-
 module _ (m : Mem) (d : DriverContent) (frames : HasFrames m d) (x : Member) (on : is_linked d.periodic.list.members.schedule x ≡ true)
     (idle : (v : Work) → d.periodic.list.work ≡ Some v → v.member ≢ x) where
   is_led_by : (o : Option Work) → d.periodic.list.work ≡ o → HasMember d.periodic.list.members.schedule o
       → is_linked (led_by d.periodic.list.members.schedule o) x ≡ true
   is_led_by None is member = on
   is_led_by (Some v) is member =
-      without_led d.periodic.list.members.schedule v x (is_led v)
+      others_led d.periodic.list.members.schedule v x (is_led v)
       (other_name m d frames x on idle v (idle v is) member.1) on
 
   pub is_led_to : is_linked (led d) x ≡ true

@@ -1,6 +1,7 @@
 -- Each event of the controller leaves what is due in a stage between its fetch and its write-back (EHCI 1.0, 4.4, 4.6, 4.10).
-use Rattle.std.proofs.Common.{◌≡◌, ◌≢◌, ℕ, ◌+◌, ◌*◌, ◌≤◌, Bool, true, false, if◌then◌else◌, List, ◌∷◌, Option, Some, None, ap, refl, sym}
+use Rattle.std.proofs.Common.{◌≡◌, ◌≢◌, ℕ, ◌*◌, ◌≤◌, List, ◌∷◌, Option, Some, None, ap, refl, sym}
 use Rattle.std.proofs.Common.{subst, ◌∙◌, inl, inr, ◌⊎◌, arith}
+use Rattle.law_microframes.proofs.Common.{repeats_less, frame_row}
 use Rattle.usb_base.specs.declared.endpoints.EpName.{EpName}
 use Rattle.toggle_error.specs.declared.host.Outcome.{Outcome}
 use Rattle.toggle_error.specs.declared.host.Outcome.TheVariants as outcomes
@@ -18,9 +19,8 @@ use Rattle.hc_core.specs.Controller.{frame_place}
 use Rattle.bus_wire.specs.Bus.{Fixed}
 use Rattle.bus_world.specs.World.{World, controller_parts, controller_row, controller_next, kind_next}
 use Rattle.claims_world.specs.InTime.{IsInTime}
-use Rattle.claims_world.specs.Prices.{cost_of}
 use Rattle.claims_world.specs.Visits.{fetched_by}
-use Rattle.claims_world.specs.WithinLoad.{is_again, repeats_at, repeats_after, repeats_next}
+use Rattle.claims_world.specs.WithinLoad.{repeats_at, repeats_after, repeats_next}
 use Rattle.law_world.specs.memory.Mixed.{IsMixedWorld}
 use Rattle.law_microframes.specs.visits.Belonging.{HeadsHaveFields}
 use Rattle.law_microframes.specs.time.DataQueues.{QueuesSendData}
@@ -30,7 +30,7 @@ use Rattle.law_microframes.proofs.lemmas.due.Aside.{IsAside, aside_stays}
 use Rattle.law_microframes.proofs.lemmas.due.Fetched.{is_found}
 use Rattle.law_microframes.proofs.lemmas.due.Held.{IsToldAt, Stage, is_held, is_told, is_done, held_goes_on}
 use Rattle.law_microframes.proofs.lemmas.due.FetchedKinds.{fetched_queue}
-use Rattle.law_microframes.proofs.lemmas.due.Turning.{frame_row, in_periodic, no_fault, kind_is}
+use Rattle.law_microframes.proofs.lemmas.due.Turning.{in_periodic, no_fault, kind_is}
 use Rattle.law_microframes.proofs.lemmas.due.Visiting.{writes}
 
 -- ---- what is carried
@@ -76,14 +76,6 @@ found_in : (w : World) (n : ℕ) (o : World) (hand : Option Hand) (row : ChainRo
     → IsNew w n o hand row ⊎ HasFound n o fs
 found_in w n o None row fs found = found_by w n o row (fetched_by row) fs refl found
 found_in w n o (Some hand) row fs found = inr found
-
-no_less : (b : Bool) (n m : ℕ) → n ≤ (if b then n + m else n)
-no_less true n m = omega arith
-no_less false n m = omega arith
-
-repeats_less : (hand : Option Hand) (step : HcStep) (n : ℕ) → n ≤ repeats_at hand step n
-repeats_less None step n = omega arith
-repeats_less (Some hand) step n = no_less (is_again hand) n (cost_of step hand)
 
 -- ---- an event of the controller
 

@@ -1,21 +1,19 @@
 -- No two endpoints have one name, along a run.
-use Rattle.std.proofs.Common.{◌≡◌, ℕ, zero, suc, ◌+◌, ◌==◌, ◌⊎◌, Bool, true, false, ◌&&◌, cond, List, [], ◌∷◌, ◌++◌, length, set, slice_get, Option, Some, None, Result, Ok, Err, option_map, ap, refl, sym, subst, ◌∙◌, ⊎_elim, inl, inr}
+use Rattle.std.proofs.Common.{◌≡◌, ℕ, zero, suc, ◌+◌, ◌⊎◌, Bool, true, false, cond, List, [], ◌∷◌, ◌++◌, length, set, slice_get, Option, Some, None, Result, Ok, Err, option_map, ap, refl, sym, subst, ◌∙◌, ⊎_elim, inl, inr}
 use Rattle.std.specs.Prelude.{is_none}
 use Rattle.std.specs.List.{position, position_from}
-use Rattle.std.proofs.lemmas.Bool.{eq-eqb}
 use Rattle.std.proofs.lemmas.Option.{same_Some}
 use Rattle.std.proofs.lemmas.Iterator.Adapters.{position_from-zero}
+use Rattle.law_common.proofs.Options.{some_not_none, by_test}
+use Rattle.law_queues.proofs.Common.{same_name}
 use Rattle.usb_base.specs.declared.commands.Cmd.{Cmd}
 use Rattle.usb_base.specs.declared.endpoints.EpDesc.{EpDesc}
-use Rattle.usb_base.specs.declared.endpoints.EpName.{EpName}
-use Rattle.usb_base.specs.declared.packets.Way.{Way}
-use Rattle.usb_base.specs.declared.packets.Way.TheVariants as ways
 use Rattle.usb_base.specs.declared.reports.OfferError.{OfferError}
 use Rattle.script_types.specs.declared.scripts.Script.{Script}
 use Rattle.word_mem.specs.Memory.{Mem}
 use Rattle.drv_table.specs.declared.content.Command.TheVariants as unfinished
 use Rattle.drv_table.specs.declared.content.Endpoint.{Endpoint}
-use Rattle.drv_table.specs.DriverContent.{DriverContent, is_same_way, is_same_name, endpoint_of}
+use Rattle.drv_table.specs.DriverContent.{DriverContent, is_same_name, endpoint_of}
 use Rattle.drv_table.specs.Accepting.{Offered}
 use Rattle.drv_table.specs.Commands.{leave_frames, no_command, finished, or_finished}
 use Rattle.drv_table.specs.CancelOffers.{endpoint_members, with_cancel}
@@ -66,13 +64,6 @@ set_apart xs e x y here same k = apart_by xs (set xs e y) (same_view desc_of xs 
 
 -- ---- an endpoint that is opened
 
-some_not_none : (i : ℕ) → ◌≡◌ {A = Option ℕ} (Some i) None → ⊥
-some_not_none i e = cc
-
-by_test : (b : Bool) (i : ℕ) (o : Option ℕ) → (o ≡ None → ⊥) → cond b (Some i) o ≡ None → ⊥
-by_test true i o later e = some_not_none i e
-by_test false i o later e = later e
-
 found_from : (t : Endpoint → Bool) (i : ℕ) (xs : List Endpoint) (j : ℕ) (x : Endpoint) → slice_get xs j ≡ Some x → t x ≡ true
     → position_from t i xs ≡ None → ⊥
 found_from t i [] j x there on none = cc
@@ -94,16 +85,6 @@ push_which (y ∷ ys) x zero z here = inl here
 push_which (y ∷ ys) x (suc n) z here =
     ⊎_elim (λ (was : slice_get ys n ≡ Some z). inl was) (λ (new : (n ≡ length ys) × (z ≡ x)). inr (ap suc new.0, new.1))
     (push_which ys x n z here)
-
-same_way : (w : Way) → is_same_way w w ≡ true
-same_way ways.In = refl
-same_way _ = refl
-
-same_name : (a b : EpName) → a.addr ≡ b.addr → a.num ≡ b.num → a.way ≡ b.way → is_same_name a b ≡ true
-same_name a b addr num way =
-    ap (λ (x : Bool). x && (a.num == b.num) && is_same_way a.way b.way) (eq-eqb a.addr b.addr addr)
-    ∙ ap (λ (x : Bool). x && is_same_way a.way b.way) (eq-eqb a.num b.num num) ∙ ap (λ (w : Way). is_same_way w b.way) way
-    ∙ same_way b.way
 
 abbrev IsNameOf : EpDesc → Endpoint → Type 0
 IsNameOf x z = (z.desc.name.addr ≡ x.name.addr) × (z.desc.name.num ≡ x.name.num) × (z.desc.name.way ≡ x.name.way)

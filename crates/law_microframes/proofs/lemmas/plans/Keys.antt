@@ -1,11 +1,11 @@
 -- What is placed by a driver has keys of its own, as its endpoints have names; so the plan of each translator fits.
-use Rattle.std.proofs.Common.{◌≡◌, ℕ, zero, suc, ◌<◌, ◌≤◌, ◌==◌, Bool, true, false, ◌&&◌, cond, List, [], ◌∷◌, ◌++◌, slice_get, Option, Some, None, refl, ap, sym, subst, ◌∙◌, arith}
+use Rattle.std.proofs.Common.{◌≡◌, ℕ, suc, ◌<◌, ◌≤◌, ◌==◌, Bool, true, false, ◌&&◌, cond, List, [], ◌∷◌, ◌++◌, slice_get, Option, Some, None, refl, ap, sym, subst, ◌∙◌, arith}
 use Rattle.std.specs.Prelude.{filter}
 use Rattle.std.specs.List.{AllByRecursion}
 use Rattle.std.proofs.lemmas.Bool.{and_parts, eqb-true}
+use Rattle.law_translator.proofs.Common.{same_dir}
+use Rattle.law_driver.proofs.Common.{all_at}
 use Rattle.usb_base.specs.declared.endpoints.EpDesc.{EpDesc}
-use Rattle.usb_base.specs.declared.packets.Dir.{Dir}
-use Rattle.usb_base.specs.declared.packets.Dir.TheVariants as dirs
 use Rattle.usb_base.specs.declared.packets.EpKind.{EpKind}
 use Rattle.usb_base.specs.declared.packets.EpKind.TheVariants as kinds
 use Rattle.usb_base.specs.declared.packets.Speed.{Speed}
@@ -41,12 +41,6 @@ use Rattle.law_microframes.proofs.lemmas.plans.Right.{scripts_place_right}
 use Rattle.law_microframes.proofs.lemmas.plans.Apart.{scripts_name_apart}
 
 -- ---- an endpoint in the plan is no control endpoint
-
-same_dir : (a b : Dir) → is_same_direction a b ≡ true → a ≡ b
-same_dir dirs.In dirs.In e = refl
-same_dir dirs.Out dirs.Out e = refl
-same_dir dirs.In dirs.Out e = absurd (cc)
-same_dir dirs.Out dirs.In e = absurd (cc)
 
 no_bytes : (s : Speed) → most_bytes s kinds.Control ≡ 0
 no_bytes speeds.High = refl
@@ -161,11 +155,6 @@ all_of : (P : Placed → Type 0) (ys : List Placed) → ((i : ℕ) (y : Placed) 
 all_of P [] each = tt
 all_of P (y ∷ ys) each = (each 0 y refl, all_of P ys (λ i z at. each (suc i) z at))
 
-one_of : (P : Placed → Type 0) (ys : List Placed) (i : ℕ) (y : Placed) → AllByRecursion P ys → slice_get ys i ≡ Some y → P y
-one_of P [] i y all at = absurd (cc)
-one_of P (z ∷ ys) zero y all at = let is : z ≡ y = cc in subst P is all.0
-one_of P (z ∷ ys) (suc i) y all at = one_of P ys i y all.1 at
-
 kept_others : (key : Placed → Key) (y : Placed) (test : Placed → Bool) (ys : List Placed)
     → AllByRecursion (λ z. is_same_key (key y) (key z) ≡ false) ys
     → AllByRecursion (λ z. is_same_key (key y) (key z) ≡ false) (filter test ys)
@@ -195,7 +184,7 @@ its_own d i y is kinds_fit right at =
       here = own.here;
       want = own.want;
       kind = kinds_fit y.want.id own.endpoint own.here;
-      right = (one_of IsPlacedRight d.periodic.plan.placed i y right at).want;
+      right = (all_at IsPlacedRight d.periodic.plan.placed i y right at).want;
     }
 
 -- ---- a moment

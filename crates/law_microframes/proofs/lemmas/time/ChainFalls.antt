@@ -1,6 +1,7 @@
 -- Each event of the walk of the frames with a copy in hand leaves fewer events of the visit, or takes its time; and a fetch leaves few (EHCI 1.0, 4.6, 4.7.1, 4.10 and 4.12).
 use Rattle.std.proofs.Common.{◌≡◌, ℕ, ◌+◌, ◌-◌, ◌*◌, ◌/◌, ◌<◌, ◌≤◌, Bool, true, false, List, Option, Some, None, refl, ap, sym, subst, arith}
 use Rattle.std.specs.Prelude.{nat_lt, if◌then◌else◌}
+use Rattle.law_common.proofs.Numbers.{not_less}
 use Rattle.usb_base.specs.declared.packets.Ask.{Ask}
 use Rattle.usb_base.specs.declared.packets.Reply.{Reply}
 use Rattle.itd_sitd.specs.declared.itd.Itd.{Itd}
@@ -29,7 +30,7 @@ use Rattle.periodic_walk.specs.Sitd as of_sitd
 use Rattle.periodic_walk.specs.Rows.{effect_at, effect_of}
 use Rattle.claims_world.specs.Microframes.{least_in_frames}
 use Rattle.law_microframes.specs.time.ChainEvents.{itd_rest, sitd_rest, hand_rest, visit_rest, LeavesFewer, ChainVisitsFall, BeginsVisit, ChainFetchesBegin}
-use Rattle.law_microframes.proofs.lemmas.time.ChainPrices.{IsUnder, Falls, none_under, paid, in_time, itd_is_dear, sitd_is_dear}
+use Rattle.law_microframes.proofs.lemmas.time.ChainPrices.{IsUnder, Falls, none_under, paid, itd_is_dear, sitd_is_dear}
 use Rattle.law_microframes.proofs.lemmas.time.ChainQueues.{queue_falls}
 
 -- ---- an iTD
@@ -51,7 +52,7 @@ itd_timed_falls : (p : FramePlace) (h : HeldItd) (late : Bool) → nat_lt p.walk
 itd_timed_falls p h true is = none_under 2 p.walk.left (record p { walk = passed h.itd.link p.walk }) (omega arith) refl refl
 itd_timed_falls p h false is =
     itd_sent_falls p (record p { memory = (itd_sending (itd_transaction h) h p.memory).memory }) h (itd_sending (itd_transaction h) h p.memory).all (itd_transaction h).ask
-    (itd_sending (itd_transaction h) h p.memory).bytes refl (in_time p.walk.left (itd_transaction h).price.0 is)
+    (itd_sending (itd_transaction h) h p.memory).bytes refl (not_less p.walk.left (itd_transaction h).price.0 is)
 
 itd_open_falls : (p : FramePlace) (h : HeldItd) (works : Bool) → Falls 2 p.walk.left (itd_effect (if works then timed_row p.walk.left (itd_transaction h) else itds.Skip) h p)
 itd_open_falls p h true = itd_timed_falls p h (nat_lt p.walk.left (itd_transaction h).price.0) refl
@@ -80,7 +81,7 @@ sitd_timed_falls p h true is = none_under 2 p.walk.left (record p { walk = passe
 sitd_timed_falls p h false is =
     sitd_sent_falls p (record p { memory = (sitd_sending (sitd_transaction h.sitd) h.sitd p.memory).memory }) h
     (sitd_sending (sitd_transaction h.sitd) h.sitd p.memory).all (sitd_transaction h.sitd).ask
-    (sitd_sending (sitd_transaction h.sitd) h.sitd p.memory).bytes refl (in_time p.walk.left (sitd_transaction h.sitd).price.0 is)
+    (sitd_sending (sitd_transaction h.sitd) h.sitd p.memory).bytes refl (not_less p.walk.left (sitd_transaction h.sitd).price.0 is)
 
 sitd_wrote_falls : (n : ℕ) (p there : FramePlace) (all : Bool) (h : HeldSitd) (outcome : SplitOutcome) → 1 ≤ n → there.walk.left ≡ p.walk.left
     → IsUnder n p.walk.left (of_sitd.wrote_at all h outcome there)

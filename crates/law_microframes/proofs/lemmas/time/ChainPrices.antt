@@ -1,7 +1,6 @@
 -- Each transaction of the walk of the frames costs the least price or more, and so leaves fewer events by two.
 use Rattle.std.proofs.Common.{◌≡◌, ℕ, ◌+◌, ◌-◌, ◌*◌, ◌/◌, ◌<◌, ◌≤◌, Bool, true, false, None, sym, subst, arith}
-use Rattle.std.specs.Prelude.{nat_lt, if◌then◌else◌}
-use Rattle.std.proofs.lemmas.Bool.Decides.{nat_tests}
+use Rattle.std.specs.Prelude.{if◌then◌else◌}
 use Rattle.usb_base.specs.Cost.{bus_time}
 use Rattle.usb_base.specs.declared.packets.Dir.{Dir}
 use Rattle.usb_base.specs.declared.packets.Dir.TheVariants.{In, Out}
@@ -85,6 +84,3 @@ paid n left price q few same dear enough = (
       (more_paid (visit_rest q.walk.hand) n ((left - price) / least_in_frames) (left / least_in_frames) few (fewer_paid left price dear enough)),
   omega (arith, same),
 )
-
-pub in_time : (left price : ℕ) → nat_lt left price ≡ false → price ≤ left
-in_time left price is = grind (arith, nat_tests, is)

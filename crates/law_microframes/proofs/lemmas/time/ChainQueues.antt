@@ -2,6 +2,7 @@
 use Rattle.std.proofs.Common.{◌≡◌, ℕ, ◌-◌, ◌≤◌, Bool, true, false, List, Option, Some, None, refl, ap, sym, subst, ◌∙◌, arith}
 use Rattle.std.specs.Prelude.{nat_lt, ◌&&◌, ◌==◌, if◌then◌else◌}
 use Rattle.std.proofs.lemmas.Bool.{and_parts}
+use Rattle.law_common.proofs.Numbers.{not_less}
 use Rattle.usb_base.specs.declared.packets.Ask.{Ask}
 use Rattle.word_mem.specs.Memory.{Mem}
 use Rattle.link_words.specs.declared.kinds.QtdLink.{QtdLink}
@@ -29,7 +30,7 @@ use Rattle.periodic_walk.specs.Place.{FramePlace, reading, holding, faulted, pas
 use Rattle.periodic_walk.specs.Queue.{turn_row, take_row, taken_row, settled_row, queue_row, queue_read, queue_effect, queue_left_by, with_queue, wrote_at, visit_after, writing, missed, miss_outcome}
 use Rattle.claims_world.specs.Microframes.{least_in_frames}
 use Rattle.law_microframes.specs.time.ChainEvents.{queue_rest}
-use Rattle.law_microframes.proofs.lemmas.time.ChainPrices.{IsUnder, Falls, under, none_under, paid, in_time, queue_is_dear}
+use Rattle.law_microframes.proofs.lemmas.time.ChainPrices.{IsUnder, Falls, under, none_under, paid, queue_is_dear}
 
 -- ---- numbers
 
@@ -84,7 +85,7 @@ Fits h left (rows.WriteBack outcome) = h.copy.settled ≡ Some outcome
 late_fits : (h : HeldQueue) (left : ℕ) (late : Bool) → nat_lt left (planned h.copy.queue_head).price.0 ≡ late → h.copy.settled ≡ None
     → Fits h left (if late then rows.Skip else rows.Transact (planned h.copy.queue_head))
 late_fits h left true is none = tt
-late_fits h left false is none = record { plan = refl; enough = in_time left (planned h.copy.queue_head).price.0 is; unsettled = none }
+late_fits h left false is none = record { plan = refl; enough = not_less left (planned h.copy.queue_head).price.0 is; unsettled = none }
 
 active_fits : (h : HeldQueue) (left a : ℕ) (t : Qtd) (b : Bool) → t.token.active ≡ b → h.copy.queue_head.token.active ≡ false → h.copy.settled ≡ None
     → Fits h left (if b then rows.Advance a t else rows.Skip)

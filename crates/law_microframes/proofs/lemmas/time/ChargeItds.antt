@@ -1,8 +1,11 @@
 -- An event at the descriptor of a high-speed isochronous endpoint in hand asks nothing and costs nothing, or makes one transaction, of at most its largest packet (EHCI 1.0, 4.7.1;
 -- USB 2.0, 5.9.2 and 5.11.3).
 use Rattle.std.proofs.Common.{◌≡◌, ℕ, ◌+◌, ◌-◌, ◌%◌, ◌<◌, ◌≤◌, Bool, true, false, List, length, Option, Some, None, refl, ap, sym, subst, ◌∙◌, arith}
-use Rattle.std.specs.Prelude.{min, nat_lt, nat_le, ◌==◌, ◌&&◌, if◌then◌else◌}
+use Rattle.std.specs.Prelude.{nat_lt, nat_le, ◌==◌, if◌then◌else◌}
 use Rattle.std.proofs.lemmas.Bool.Decides.{nat_tests}
+use Rattle.law_common.proofs.Booleans.{both_not}
+use Rattle.law_budgets.proofs.Common.{by_way}
+use Rattle.law_common.proofs.Numbers.{in_order, not_below}
 use Rattle.usb_base.specs.Cost.{bus_time}
 use Rattle.usb_base.specs.declared.packets.Ask.{Ask}
 use Rattle.usb_base.specs.declared.packets.Dir.TheVariants as directions
@@ -19,7 +22,7 @@ use Rattle.hc_iso.specs.declared.held.IsoEnd.{IsoEnd}
 use Rattle.hc_iso.specs.declared.held.IsoEnd.TheVariants.{Whole}
 use Rattle.hc_iso.specs.declared.held.Heard.{Heard}
 use Rattle.hc_iso.specs.declared.held.Heard.TheVariants.{Packet, TooLong, Wrong}
-use Rattle.hc_iso.specs.Itd.{limit_of, itd_in, itd_out, itd_transaction, number_of, is_in_order, heard_numbered, heard_in, with_packet, with_slot, after_heard, after_in, after_out, itd_after}
+use Rattle.hc_iso.specs.Itd.{limit_of, itd_transaction, number_of, is_in_order, heard_numbered, heard_in, with_packet, with_slot, after_heard, after_in, after_out, itd_after}
 use Rattle.hc_iso.specs.WriteBack.{itd_sending, itd_written}
 use Rattle.bandwidth.specs.declared.placements.Placed.{Placed}
 use Rattle.periodic_walk.specs.declared.itd.ItdRow.TheVariants as rows
@@ -29,21 +32,10 @@ use Rattle.periodic_walk.specs.Place.{FramePlace, sent}
 use Rattle.periodic_walk.specs.Itd.{timed_row, ended_row, itd_row, itd_effect, itd_left_by, wrote_at}
 use Rattle.law_budgets.specs.visit_prices.Spent.{IsItdOf, largest}
 use Rattle.claims_world.specs.InTime.{is_late_at, is_late_itd}
-use Rattle.law_budgets.proofs.lemmas.visit_prices.Queues.{not_late}
 use Rattle.law_budgets.proofs.lemmas.visit_prices.Itds.{same_iso}
 use Rattle.law_microframes.specs.time.Charges.{IsItdInHand, HasPackets, RestsAt, WorksAt, IsPriced}
 
 -- ---- the price of its transaction
-
-most_limit : (size n : ℕ) → min size n ≤ size
-most_limit size n = omega arith
-
-out_price : (size n : ℕ) → bus_time High Iso directions.Out (min size n) ≤ bus_time High Iso directions.In size
-out_price size n = omega (arith, most_limit size n)
-
-by_way : (b : Bool) (h : HeldItd) → (if b then itd_in h else itd_out h).price.0 ≤ bus_time High Iso directions.In h.itd.max
-by_way true h = omega arith
-by_way false h = out_price h.itd.max (h.slot.length - h.moved)
 
 largest_is : (x : Placed) (h : HeldItd) → IsItdOf x h.itd → bus_time High Iso directions.In h.itd.max ≡ largest x.want
 largest_is x h of =
@@ -58,10 +50,6 @@ abbrev IsFewer : HeldItd → Heard → Type 0
 IsFewer h (Packet k n) = k < h.rest
 IsFewer h TooLong = Unit {0}
 IsFewer h Wrong = Unit {0}
-
-in_order : (first : Bool) (k rest : ℕ) → (if first then nat_lt k rest else k + 1 == rest) ≡ true → k < rest
-in_order true k rest e = grind (arith, nat_tests, e)
-in_order false k rest e = grind (arith, nat_tests, e)
 
 fitting : (h : HeldItd) (b : Bool) (k n : ℕ) → k < h.rest → IsFewer h (if b then Packet k n else TooLong)
 fitting h true k n less = less
@@ -183,15 +171,11 @@ itd_priced x p h held = ended_priced x p h h.ended held held.room
 
 -- ---- in time
 
-both_not : (b c : Bool) → c ≡ false → (b && c) ≡ false
-both_not true c e = e
-both_not false c e = refl
-
 late_ended : (x : Placed) (left : ℕ) (h : HeldItd) (o : Option IsoEnd) → IsItdOf x h.itd → largest x.want ≤ left → is_late_itd left h o ≡ false
 late_ended x left h (Some ended) of enough = refl
 late_ended x left h None of enough =
     let price = most_price x h of in
-    both_not h.slot.active (nat_lt left (itd_transaction h).price.0) (not_late left (itd_transaction h).price.0 (omega (arith, price, enough)))
+    both_not h.slot.active (nat_lt left (itd_transaction h).price.0) (not_below left (itd_transaction h).price.0 (omega (arith, price, enough)))
 
 pub itd_in_time : (x : Placed) (p : FramePlace) (h : HeldItd) → IsItdInHand x h p.walk.index → largest x.want ≤ p.walk.left → is_late_at p (Some (hands.Itd h)) ≡ false
 itd_in_time x p h held enough = late_ended x p.walk.left h h.ended held.descriptor enough

@@ -1,15 +1,16 @@
 -- An event at the queue head of a high-speed interrupt endpoint in hand asks nothing and costs nothing, or makes one transaction, of at most its largest packet (EHCI 1.0, 4.10, 4.10.2
 -- and 4.10.3; USB 2.0, 5.11.3).
-use Rattle.std.proofs.Common.{◌≡◌, ℕ, zero, suc, ◌+◌, ◌%◌, ◌<◌, ◌≤◌, Bool, true, false, List, Option, Some, None, refl, ap, sym, subst, ◌∙◌, arith, inl, inr, ◌⊎◌}
+use Rattle.std.proofs.Common.{◌≡◌, ℕ, ◌+◌, ◌%◌, ◌<◌, ◌≤◌, Bool, true, false, List, Option, Some, None, refl, ap, sym, subst, ◌∙◌, arith, inl, inr}
 use Rattle.std.specs.Prelude.{min, nat_lt, ◌&&◌, ◌==◌, if◌then◌else◌}
 use Rattle.std.proofs.lemmas.Bool.{and_parts}
 use Rattle.std.proofs.lemmas.Bool.Decides.{nat_tests}
+use Rattle.law_budgets.proofs.Common.{dearer, visit_index, visit_left, pid_few, priced, plain}
+use Rattle.law_common.proofs.Numbers.{few_bytes, not_below}
 use Rattle.usb_base.specs.Cost.{bus_time}
 use Rattle.usb_base.specs.declared.packets.Ask.{Ask}
 use Rattle.usb_base.specs.declared.packets.Dir.TheVariants as directions
 use Rattle.usb_base.specs.declared.packets.EpKind.{EpKind}
 use Rattle.usb_base.specs.declared.packets.EpKind.TheVariants.{Interrupt}
-use Rattle.usb_base.specs.declared.packets.Pid.{Pid}
 use Rattle.usb_base.specs.declared.packets.Pid.TheVariants.{In, Out}
 use Rattle.usb_base.specs.declared.packets.Reply.{Reply}
 use Rattle.usb_base.specs.declared.packets.Speed.TheVariants.{High}
@@ -29,7 +30,7 @@ use Rattle.mem_queues.specs.Structures.{qtd_at_address, reaches_queue_head}
 use Rattle.hc_copy.specs.declared.held.Held.{Held}
 use Rattle.hc_copy.specs.declared.held.Transaction.{Transaction}
 use Rattle.hc_copy.specs.Visits.{visit_at, next_pointer}
-use Rattle.hc_copy.specs.Planning.{pid_at, host_in, bytes_out, carries}
+use Rattle.hc_copy.specs.Planning.{host_in, bytes_out, carries}
 use Rattle.hc_copy.specs.Overlay.{advanced, settled_queue, moved}
 use Rattle.hc_copy.specs.Transacting.{host_after, call_in}
 use Rattle.hc_copy.specs.WriteBack.{moved_by, overlay_after}
@@ -49,32 +50,16 @@ use Rattle.periodic_walk.specs.Place.{FramePlace, reading, holding, faulted, pas
 use Rattle.periodic_walk.specs.Queue.{turn_row, take_row, taken_row, settled_row, queue_row, queue_read, queue_effect, queue_left_by, transacted, with_queue, wrote_at, writing}
 use Rattle.law_budgets.specs.visit_prices.Spent.{IsHeadOf, largest}
 use Rattle.claims_world.specs.InTime.{is_late_at, is_late_queue, is_late_turn}
-use Rattle.law_budgets.proofs.lemmas.visit_prices.Queues.{same_dir, not_late}
+use Rattle.law_budgets.proofs.lemmas.visit_prices.Queues.{same_dir}
 use Rattle.law_microframes.specs.time.Charges.{IsHeadInHand, HasRoom, TakesData, GoesOnOrEnds, RestsAt, WorksAt, IsPriced}
 use Rattle.law_microframes.proofs.lemmas.time.ChainQueues.{moved_active}
 
 -- ---- the price of its transaction
 
-dearer : (n m : ℕ) → n ≤ m → bus_time High Interrupt directions.In n ≤ bus_time High Interrupt directions.In m
-dearer n m h = omega (arith, h)
-
 out_price : (ping : Bool) (size n : ℕ) → n ≤ size
     → bus_time High Interrupt (dir_of (token_pid Plain Out (pinged Interrupt ping))) (priced_bytes Plain (token_pid Plain Out (pinged Interrupt ping)) Interrupt size n) ≤ bus_time High Interrupt directions.In size
 out_price true size n h = dearer 0 size (omega arith)
 out_price false size n h = dearer n size h
-
-few_bytes : (b : Bool) (size left : ℕ) → (if b then min size left else 0) ≤ size
-few_bytes true size left = omega arith
-few_bytes false size left = omega arith
-
-pid_few : (n : ℕ) → n ≤ 1 → (pid_at n ≡ Out) ⊎ (pid_at n ≡ In)
-pid_few zero h = inl refl
-pid_few (suc zero) h = inr refl
-pid_few (suc (suc n)) h = absurd (omega (arith, h))
-
-priced : (q : Qh) (pid : Pid) → q.eps ≡ 2 → pid_at q.token.pid ≡ pid
-    → (planned q).price.0 ≡ bus_time High Interrupt (dir_of (token_pid Plain pid (pinged Interrupt q.token.ping))) (priced_bytes Plain (token_pid Plain pid (pinged Interrupt q.token.ping)) Interrupt q.max (bytes_out Plain pid (host_in q)))
-priced q pid high is = rw (high, is) refl
 
 planned_price : (q : Qh) → q.eps ≡ 2 → q.token.pid ≤ 1 → (planned q).price.0 ≤ bus_time High Interrupt directions.In q.max
 planned_price q high tame =
@@ -91,9 +76,6 @@ largest_is x q head =
 
 pub most_price : (x : Placed) (q : Qh) → IsHeadOf x q → q.token.pid ≤ 1 → (planned q).price.0 ≤ largest x.want
 most_price x q head tame = subst (λ n. (planned q).price.0 ≤ n) (largest_is x q head) (planned_price q head.high tame)
-
-plain : (q : Qh) → q.eps ≡ 2 → (planned q).split ≡ Plain
-plain q high = rw high refl
 
 -- ---- it stays a queue head of the endpoint
 
@@ -236,16 +218,6 @@ visited x u h outcome w true e held =
     }
 visited x u h outcome w false e held = tt
 
-visit_left : (h : HeldQueue) (outcome : Outcome) (w : Walk) (b : Bool)
-    → (if b then holding (hands.Queue (record h { copy = again_copy outcome h.copy })) w else passed h.copy.queue_head.link w).left ≡ w.left
-visit_left h outcome w true = refl
-visit_left h outcome w false = refl
-
-visit_index : (h : HeldQueue) (outcome : Outcome) (w : Walk) (b : Bool)
-    → (if b then holding (hands.Queue (record h { copy = again_copy outcome h.copy })) w else passed h.copy.queue_head.link w).index ≡ w.index
-visit_index h outcome w true = refl
-visit_index h outcome w false = refl
-
 wrote_priced : (x : Placed) (p there : FramePlace) (all : Bool) (h : HeldQueue) (outcome : Outcome) → there.walk ≡ p.walk → IsHeadInHand x h p.walk.index → RestsAt x p (hands.Queue h) (wrote_at all h outcome there)
 wrote_priced x p there true h outcome same held = record {
   left = visit_left h outcome there.walk (goes_on h.made h.copy.queue_head outcome) ∙ ap (λ (w : Walk). w.left) same;
@@ -327,7 +299,7 @@ late_turn : (x : Placed) (left : ℕ) (q : Qh) (may halted active : Bool) (link 
     → is_late_turn left q (start_turn (visit_at may halted active link)) ≡ false
 late_turn x left q false halted active link head pid enough = refl
 late_turn x left q true true active link head pid enough = refl
-late_turn x left q true false true link head pid enough = let price = most_price x q head (pid refl) in not_late left (planned q).price.0 (omega (arith, price, enough))
+late_turn x left q true false true link head pid enough = let price = most_price x q head (pid refl) in not_below left (planned q).price.0 (omega (arith, price, enough))
 late_turn x left q true false false link head pid enough = refl
 
 late_settled : (x : Placed) (left f : ℕ) (q : Qh) (o : Option Outcome) → IsHeadOf x q → (q.token.active ≡ true → q.token.pid ≤ 1) → largest x.want ≤ left → is_late_queue left f q o ≡ false

@@ -1,7 +1,9 @@
 -- The charges of a visit are summed, from its fetch on: they come to no more than its transactions may cost (EHCI 1.0, 4.7 and 4.10.3; USB 2.0, 5.9 and 5.11.3).
 use Rattle.std.proofs.Common.{◌≡◌, ℕ, zero, suc, ◌+◌, ◌*◌, ◌/◌, ◌%◌, ◌≤◌, Bool, true, false, Option, Some, None, refl, ap, sym, subst, ◌∙◌, arith, inl, inr}
-use Rattle.std.specs.Prelude.{min, max, if◌then◌else◌}
+use Rattle.std.specs.Prelude.{max}
 use Rattle.std.proofs.Math.Nat.{mul-le-mul_right}
+use Rattle.law_budgets.proofs.Common.{fetched}
+use Rattle.law_common.proofs.Numbers.{few_packets}
 use Rattle.usb_base.specs.declared.packets.Reply.{Reply}
 use Rattle.qh_qtd.specs.declared.queue_head.Qh.{Qh}
 use Rattle.itd_sitd.specs.declared.itd.Itd.{Itd}
@@ -10,15 +12,12 @@ use Rattle.hc_iso.specs.Itd.{packets_for, fetched_itd}
 use Rattle.bandwidth.specs.declared.placements.Placed.{Placed}
 use Rattle.bandwidth.specs.Placements.{has}
 use Rattle.bandwidth.specs.Sums.{is_active}
-use Rattle.periodic_walk.specs.declared.chain.ChainRow.{ChainRow}
 use Rattle.periodic_walk.specs.declared.chain.ChainRow.TheVariants as rows
 use Rattle.periodic_walk.specs.declared.state.Hand.{Hand}
 use Rattle.periodic_walk.specs.declared.state.Hand.TheVariants as hands
 use Rattle.toggle_error.specs.declared.host.Outcome.{Outcome}
-use Rattle.periodic_walk.specs.Chain.{chain_row, chain_read, chain_after}
-use Rattle.periodic_walk.specs.Place.{FramePlace, reading}
-use Rattle.periodic_walk.specs.Rows.{effect_at}
-use Rattle.law_budgets.specs.visit_prices.Prices.{left_by, after}
+use Rattle.periodic_walk.specs.Place.{FramePlace}
+use Rattle.law_budgets.specs.visit_prices.Prices.{after}
 use Rattle.law_budgets.specs.visit_prices.Spent.{largest, most_in}
 use Rattle.law_budgets.specs.visit_prices.Fetched.{queue_copy, itd_copy}
 use Rattle.law_microframes.specs.time.Charges.{charge, HasRoom, IsInHandOf, made_of, GoesOnOrEnds, RestsAt, WorksAt, IsCharging, IsCharged, IsHeldFor, IsHeldStill, IsSummed, BeginsHead, BeginsItd, Begins}
@@ -101,11 +100,6 @@ charges_are_summed x p q hand paid held (inr works) = works_summed x p q hand pa
 
 -- ---- a visit begins
 
-fetched : (p : FramePlace) (r : Reply) (row : ChainRow) → p.walk.hand ≡ None → chain_row p.memory p.walk.cursor ≡ row → after p r ≡ chain_after row (reading (chain_read p.memory p.walk.cursor) p)
-fetched p r row free is =
-    ap (λ (o : Option Hand). left_by (effect_at p o) r) free
-    ∙ ap (λ (w : ChainRow). chain_after w (reading (chain_read p.memory p.walk.cursor) p)) is
-
 least : (n m k : ℕ) → max 1 n ≡ m → 1 ≤ m
 least n m k e = omega (arith, e)
 
@@ -127,10 +121,6 @@ head_fetches_begin_charges x p a q r f =
         charged = omega arith;
       };
     })
-
-few_packets : (b : Bool) (multi n : ℕ) → 1 ≤ multi → (1 ≤ (if b then multi else max 1 (min multi n))) × ((if b then multi else max 1 (min multi n)) ≤ multi)
-few_packets true multi n some = (some, omega arith)
-few_packets false multi n some = (omega arith, omega (arith, some))
 
 pub descriptor_fetches_begin_charges : (x : Placed) (p : FramePlace) (a : ℕ) (v : Itd) (r : Reply) → BeginsItd x p a v → Begins x p (hands.Itd (itd_copy p a v)) (after p r)
 unfolding fetched_itd

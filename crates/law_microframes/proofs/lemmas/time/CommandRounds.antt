@@ -1,11 +1,14 @@
 -- A round of the ring goes on with each command, accepted or refused.
-use Rattle.std.proofs.Common.{◌≡◌, ◌≢◌, ℕ, ◌-◌, ◌*◌, Bool, true, false, ◌||◌, List, [], ◌∷◌, ◌++◌, length, take, set, slice_get, Option, Some, None, ap, refl, sym, subst, ◌∙◌, ⊎_elim, arith, inl, inr}
+use Rattle.std.proofs.Common.{◌≡◌, ◌≢◌, ℕ, ◌-◌, ◌*◌, Bool, true, false, ◌||◌, List, [], ◌∷◌, ◌++◌, length, take, set, slice_get, Some, None, ap, refl, sym, subst, ◌∙◌, ⊎_elim, arith, inl, inr}
 use Rattle.std.specs.Prelude.{◌⊎◌, slice_index, Result, Ok, Err}
 use Rattle.std.proofs.lemmas.Bool.{cases_eq, or_left, or_right}
 use Rattle.std.proofs.lemmas.Option.{same_Some}
+use Rattle.law_world.proofs.Common.{none_opens}
+use Rattle.law_common.proofs.Lists.{set_here, set_there}
+use Rattle.law_driver.proofs.Common.{among_later}
+use Rattle.law_driver_ring.proofs.Common.{head_link}
 use Rattle.usb_base.specs.declared.commands.Cmd.{Cmd}
 use Rattle.usb_base.specs.declared.reports.OfferError.{OfferError}
-use Rattle.drv_table.specs.declared.content.Command.{Command}
 use Rattle.drv_table.specs.declared.content.Command.TheVariants as unfinished
 use Rattle.drv_table.specs.declared.content.Endpoint.{Endpoint}
 use Rattle.drv_table.specs.DriverContent.{DriverContent}
@@ -18,7 +21,6 @@ use Rattle.claims_driver.specs.Leaving.{HasOwners}
 use Rattle.claims_base.specs.Controller.{opening_base}
 use Rattle.law_driver.proofs.lemmas.run_owners.Commands.{each_command_has_its_reason}
 use Rattle.law_driver.proofs.lemmas.run_owners.Orders.{times_both}
-use Rattle.law_driver.proofs.lemmas.run_owners.Released.{set_here, set_there}
 use Rattle.claims_driver.specs.Ring.{link_in, IsQueueOf, IsAmong}
 use Rattle.law_driver.specs.ring_members.Words.{IsOpening}
 use Rattle.law_driver.proofs.lemmas.ring_members.Events.{stands_as}
@@ -29,7 +31,7 @@ use Rattle.law_driver.specs.endpoint_lives.Lives.{is_one_of}
 use Rattle.law_driver_ring.specs.fed_queues.Places.{IsThere}
 use Rattle.claims_driver.specs.Walk.{IsReached, at_head, at_member, at_waiting, at_rung}
 use Rattle.law_driver_ring.proofs.lemmas.walk_members.Driving.{Reaches, goes_reach, or_done_reach}
-use Rattle.law_driver_ring.proofs.lemmas.walk_members.Leading.{among_later, among_front}
+use Rattle.law_driver_ring.proofs.lemmas.walk_members.Leading.{among_front}
 use Rattle.law_queues.specs.reached_rings.Reaching.{is_reached, ReachedAt}
 use Rattle.law_queues.proofs.lemmas.reached_rings.Computing.{among_one, reached_is_reached}
 use Rattle.law_structures.specs.lent_structures.Structures.{QueueHead}
@@ -47,7 +49,7 @@ use Rattle.law_microframes.proofs.lemmas.visits.ToldLinks.{HasOwn, told_same}
 use Rattle.law_microframes.specs.time.Heights.{head_at}
 use Rattle.law_microframes.specs.time.Rounds.{RoundsGoOn}
 use Rattle.law_microframes.specs.time.RingSplices.{RingAfter, CommandsLeaveRing}
-use Rattle.law_microframes.proofs.lemmas.time.RingSteps.{same_word, head_leads}
+use Rattle.law_microframes.proofs.lemmas.time.RingSteps.{same_word}
 use Rattle.law_microframes.specs.time.RoundLaws.{CommandLeavesRounds}
 use Rattle.law_microframes.proofs.lemmas.time.ReachedBefore.{same_back, or_done_back}
 use Rattle.law_microframes.proofs.lemmas.time.LinksFalling.{reached_at, reached_on, falls_on, behind_on}
@@ -98,9 +100,6 @@ more_on : (d f : DriverContent) (rings : Bool) (y : Endpoint) → f.endpoints �
 more_on d f rings y ends ws rs = goes_reach d f rings (subst (λ (zs : List Endpoint). GoOn d.endpoints zs) (sym ends) (one_more_on d.endpoints y)) ws rs
 
 -- ---- of a command
-
-none_opens : (o : Option Command) (q : ℕ) → o ≡ None → o ≡ Some (unfinished.Open q) → ⊥
-none_opens o q none some = cc
 
 not_both : (b : Bool) → b ≡ false → b ≡ true → ⊥
 not_both b off on = cc
@@ -247,7 +246,7 @@ module _ (s : Standing) (w : World) (k : IsMixedAt s w) (line : ℕ) (cmd : Cmd)
     new_leads why n at =
         let u : IsOpening (link_in o.memory) o.driver.endpoints (opened_by why).queue
         = stands_as (link_in o.memory) o.driver (unfinished.Open (opened_by why).queue) (command_by why) now.framed.place.sound.ring in
-        ap (next_of o.memory) at ∙ same_word o.memory (opened_by why).queue head_block (u.link ∙ sym (head_leads (link_in o.memory) head_block u.older u.ring))
+        ap (next_of o.memory) at ∙ same_word o.memory (opened_by why).queue head_block (u.link ∙ sym (head_link (link_in o.memory) head_block u.older u.ring))
 
     accepted_ring : RingAfter w (record w { driver = o.driver; memory = o.memory })
     accepted_ring = record {

@@ -1,6 +1,7 @@
 -- Between two visits to the head of the ring the walk of the ring visits no more queue heads than the largest memory has blocks.
-use Rattle.std.proofs.Common.{◌≡◌, ℕ, ◌*◌, ◌%◌, ◌==◌, Bool, true, false, List, [], ◌∷◌, Option, Some, None, if◌then◌else◌, refl, arith}
+use Rattle.std.proofs.Common.{◌≡◌, ℕ, ◌%◌, ◌==◌, Bool, true, false, List, [], ◌∷◌, Option, Some, None, if◌then◌else◌, refl, arith}
 use Rattle.std.specs.List.{AllByRecursion}
+use Rattle.law_common.proofs.Numbers.{block_aligned}
 use Rattle.script_fits.proofs.Texts.{spelled_fits}
 use Rattle.law_scripts.proofs.lemmas.script_bytes.Texts.{a_text_spells_bytes}
 use Rattle.word_mem.specs.Memory.{Mem, IsShaped}
@@ -76,9 +77,6 @@ after_low rows.Go c vs shape all = walk_low (walk_place c) vs shape all
 after_low _ c vs shape all = all
 
 -- ---- each is a block
-
-block_aligned : (v b : ℕ) → v ≡ 32 * b → v % 32 ≡ 0
-block_aligned v b is = omega (arith, is)
 
 reached_aligned : (d : DriverContent) (rings : Bool) (v : ℕ) → is_reached d rings v ≡ true → v % 32 ≡ 0
 reached_aligned d rings v on =

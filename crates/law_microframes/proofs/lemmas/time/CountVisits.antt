@@ -1,7 +1,8 @@
 -- In a microframe the walk of the frames visits no more structures than the largest memory has blocks.
-use Rattle.std.proofs.Common.{◌≡◌, ℕ, ◌*◌, ◌/◌, ◌%◌, ◌<◌, Bool, true, false, List, [], ◌∷◌, Option, Some, None, if◌then◌else◌, inl, inr, refl, sym, subst, arith}
+use Rattle.std.proofs.Common.{◌≡◌, ℕ, ◌*◌, ◌/◌, ◌%◌, ◌<◌, Bool, true, false, List, [], ◌∷◌, Option, Some, None, if◌then◌else◌, inl, inr, refl, sym, subst}
 use Rattle.std.specs.List.{AllByRecursion}
 use Rattle.std.proofs.lemmas.Bool.{and_parts}
+use Rattle.law_common.proofs.Numbers.{block_aligned}
 use Rattle.script_types.specs.declared.scripts.Script.{Script}
 use Rattle.script_fits.proofs.Texts.{spelled_fits}
 use Rattle.law_scripts.proofs.lemmas.script_bytes.Texts.{a_text_spells_bytes}
@@ -104,16 +105,13 @@ after_low _ c vs shape all = all
 
 -- ---- each is a block
 
-multiple : (v n : ℕ) → v ≡ 32 * n → v % 32 ≡ 0
-multiple v n is = omega (arith, is)
-
 was_aligned : (d : DriverContent) (frame v : ℕ) (what : Removed) → WasOfFrame d frame v what → v % 32 ≡ 0
-was_aligned d frame v _ (of_descriptor t y here sort at framed) = multiple v y.first at
-was_aligned d frame v _ (of_queue_head e x p here kind placed at active) = multiple v x.queue at
-was_aligned d frame v _ (of_waiting e t y here sort waits at framed) = multiple v y.first at
+was_aligned d frame v _ (of_descriptor t y here sort at framed) = block_aligned v y.first at
+was_aligned d frame v _ (of_queue_head e x p here kind placed at active) = block_aligned v x.queue at
+was_aligned d frame v _ (of_waiting e t y here sort waits at framed) = block_aligned v y.first at
 
 aligned_in : (d : DriverContent) (index frame v : ℕ) → IsInItsFrame d index frame v → v % 32 ≡ 0
-aligned_in d index frame v (inl m) = multiple v (id_of m.member / 32) (sym m.at)
+aligned_in d index frame v (inl m) = block_aligned v (id_of m.member / 32) (sym m.at)
 aligned_in d index frame v (inr was) = was_aligned d frame v was.0 was.1.0
 
 all_blocks : (d : DriverContent) (index frame : ℕ) (vs : List ℕ) → AllByRecursion (IsInItsFrame d index frame) vs → AllByRecursion IsLow vs → AllByRecursion (IsBlockBelow most_blocks) vs

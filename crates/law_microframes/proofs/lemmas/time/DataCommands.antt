@@ -4,6 +4,8 @@ use Rattle.std.specs.List.{AllByRecursion}
 use Rattle.std.proofs.lemmas.Bool.{false≢true}
 use Rattle.std.proofs.lemmas.Option.{same_Some}
 use Rattle.std.proofs.lemmas.List.{length-append, length-map}
+use Rattle.law_microframes.proofs.Common.{idle_by}
+use Rattle.law_common.proofs.Lists.{drop_first, push_which}
 use Rattle.usb_base.specs.declared.commands.Cmd.{Cmd}
 use Rattle.usb_base.specs.declared.packets.Dir.{Dir}
 use Rattle.usb_base.specs.declared.packets.Dir.TheVariants as directions
@@ -47,10 +49,8 @@ use Rattle.law_driver.specs.in_place.InPlace.{IsInPlace}
 use Rattle.law_driver_ring.proofs.Holding.{qtd_range, blocks_low}
 use Rattle.law_driver.proofs.lemmas.chained_transfers.Chained.{piece_same, pieces_same}
 use Rattle.law_driver.proofs.lemmas.chained_transfers.Queued.{not_dummy}
-use Rattle.law_driver.proofs.lemmas.run_owners.Accepted.{drop_first}
 use Rattle.law_driver.proofs.lemmas.run_owners.Chains.{notes_apart}
 use Rattle.law_driver.proofs.lemmas.run_owners.Commands.{each_command_has_its_reason}
-use Rattle.law_driver.proofs.lemmas.run_owners.Ordered.{pushed}
 use Rattle.law_driver.proofs.lemmas.run_owners.Runs.{placed_run}
 use Rattle.law_driver.proofs.lemmas.run_owners.Stays.{or_done as stays_or_done}
 use Rattle.law_driver.proofs.lemmas.run_owners.Taking.{runs_taken}
@@ -111,7 +111,7 @@ module _ (d : DriverContent) (o : Offered) where
   by_pushed new are e x below here =
       ⊎_elim {C = IsSeenIn d.endpoints e x} (λ (was : slice_get d.endpoints e ≡ Some x). record { endpoint = x; here = was; same = refl })
       (λ (is : (e ≡ length d.endpoints) × (x ≡ new)). let same = is.0 in absurd (omega (arith, same, below)))
-      (pushed d.endpoints new e x (ap (λ (xs : List Endpoint). slice_get xs e) (sym are) ∙ here))
+      (push_which d.endpoints new e x (ap (λ (xs : List Endpoint). slice_get xs e) (sym are) ∙ here))
 
   -- the same transfers, with the same notes
   same_transfers : o.driver.transfers ≡ d.transfers → (t : ℕ) (z : Transfer) → slice_get o.driver.transfers t ≡ Some z → is_descriptor z.sort ≡ false
@@ -163,7 +163,7 @@ module _ (d : DriverContent) (m : Mem) (o : Offered) (stands : Stands (holding d
               made = ap (λ (g : Offered). g.driver.made) why.is;
               newest = omega (arith, at, many, length-append d.transfers (y ∷ []));
             }))
-            (pushed d.transfers y t z (ap (λ (ts : List Transfer). slice_get ts t) (sym are) ∙ there));
+            (push_which d.transfers y t z (ap (λ (ts : List Transfer). slice_get ts t) (sym are) ∙ there));
         pieces_are = taken_pieces why;
         endpoints_are = by_seen d o (λ i. ap (λ (g : Offered). seen_in g.driver.endpoints i) why.is ∙ seen_set d.endpoints why.number i why.endpoint _ why.here refl);
       }
@@ -221,15 +221,6 @@ module _ (d : DriverContent) (m : Mem) (o : Offered) (stands : Stands (holding d
     endpoints_are = by_seen d o (λ i. ap (λ (g : Offered). seen_in g.driver.endpoints i) why.is ∙ seen_set d.endpoints why.number i why.endpoint _ why.here refl);
   }
   told_by (unchains why) = unchained_told why
-
-idle_by : (d : DriverContent) (m : Mem) (o : Offered) → Accepts d m o → d.command ≡ None
-idle_by d m o (opens why) = why.idle
-idle_by d m o (chains why) = why.idle
-idle_by d m o (places why) = why.idle
-idle_by d m o (transfers why) = why.idle
-idle_by d m o (describes why) = why.idle
-idle_by d m o (cancels why) = why.idle
-idle_by d m o (unchains why) = why.idle
 
 -- ---- a transfer that there was
 

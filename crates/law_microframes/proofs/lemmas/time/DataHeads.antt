@@ -4,6 +4,7 @@ use Rattle.std.specs.Prelude.{◌==◌, ◌&&◌}
 use Rattle.std.specs.Result.{result_ok}
 use Rattle.std.proofs.lemmas.Bool.{cases_eq, false≢true}
 use Rattle.std.proofs.lemmas.Option.{same_Some}
+use Rattle.law_world.proofs.Common.{same_queue}
 use Rattle.usb_base.specs.declared.packets.EpKind.{EpKind}
 use Rattle.usb_base.specs.declared.packets.EpKind.TheVariants.{Interrupt}
 use Rattle.word_mem.specs.Memory.{is_lent, reaches}
@@ -50,9 +51,6 @@ use Rattle.law_microframes.proofs.lemmas.visits.BelongQueues.{belongs_by}
 use Rattle.law_microframes.specs.time.DataQueues.{pid_of, way_of, GoesBy, QueuesSendData, MixedWorldsReadData, ScriptsReadData}
 use Rattle.law_microframes.proofs.lemmas.time.DataMoments.{scripts_send_data}
 use Rattle.law_microframes.proofs.lemmas.time.DataReads.{element_sends, copies_send_data, takes_send_data}
-
-open_same : (b c : ℕ) → ◌≡◌ {A = Option Command} (Some (unfinished.Open b)) (Some (unfinished.Open c)) → b ≡ c
-open_same b c same = cc
 
 head_by : (o : Option Structure) → option_map sort_of o ≡ Some OfQueueHead → (q : Qh) × (o ≡ Some (QueueHead q))
 head_by (Some (QueueHead q)) is = (q, refl)
@@ -109,9 +107,9 @@ module _ (s : Standing) (w : World) (k : IsMixedAt s w) (all : QueuesSendData w.
       open_rests : (queue : ℕ) → w.driver.command ≡ Some (unfinished.Open queue) → queue ≡ x.queue → IsOpenReady w.driver w.memory ⊎ IsOpenLent w.driver s.member s.parts → q.token.active ≡ false
       open_rests queue command same =
           ⊎_elim
-          (λ (r : IsOpenReady w.driver w.memory). absurd (not_kept r.endpoint.queue (open_same r.endpoint.queue queue (sym r.command ∙ command) ∙ same) r.opened.queue_kept))
+          (λ (r : IsOpenReady w.driver w.memory). absurd (not_kept r.endpoint.queue (same_queue r.endpoint.queue queue (sym r.command ∙ command) ∙ same) r.opened.queue_kept))
           (λ (r : IsOpenLent w.driver s.member s.parts).
-          let own : r.endpoint.queue ≡ x.queue = open_same r.endpoint.queue queue (sym r.command ∙ command) ∙ same in
+          let own : r.endpoint.queue ≡ x.queue = same_queue r.endpoint.queue queue (sym r.command ∙ command) ∙ same in
           opened_head (runs_of_endpoint r.endpoint) _ q n (sym (r.part n) ∙ ap (λ (b : ℕ). s.parts (32 * b) n) own ∙ part))
 
       chain_rests : w.driver.command ≡ Some unfinished.Chain → queued_command w.driver.endpoints (Some unfinished.Chain) ≡ Some (unfinished.Open x.queue)
@@ -123,16 +121,16 @@ module _ (s : Standing) (w : World) (k : IsMixedAt s w) (all : QueuesSendData w.
           let newest = t.newest in
           let number : length d.endpoints - 1 ≡ r.number = omega (arith, newest) in
           let own : queue_of (slice_get d.endpoints (length d.endpoints - 1)) ≡ r.endpoint.queue = ap (λ (i : ℕ). queue_of (slice_get d.endpoints i)) number ∙ ap queue_of r.here in
-          absurd (not_kept r.endpoint.queue (sym own ∙ open_same (queue_of (slice_get d.endpoints (length d.endpoints - 1))) x.queue is) r.opened.queue_kept))
+          absurd (not_kept r.endpoint.queue (sym own ∙ same_queue (queue_of (slice_get d.endpoints (length d.endpoints - 1))) x.queue is) r.opened.queue_kept))
           (λ (t : IsChainThere w.driver s.member s.recent s.parts).
           let r = t.there in
-          let own : r.endpoint.queue ≡ x.queue = open_same r.endpoint.queue x.queue (sym r.command ∙ ap (queued_command d.endpoints) command ∙ is) in
+          let own : r.endpoint.queue ≡ x.queue = same_queue r.endpoint.queue x.queue (sym r.command ∙ ap (queued_command d.endpoints) command ∙ is) in
           let same : r.part.queue ≡ q = found_queue (s.parts n n) r.part.queue q (subst (λ (b : ℕ). s.parts (32 * b) (32 * b) ≡ Some (QueueHead r.part.queue)) own r.part.here) part in
           ap (λ (z : Qh). z.token.active) (sym same) ∙ r.part.rests.idle)
 
       opening_rests : (c : Option Command) → w.driver.command ≡ c → queued_command w.driver.endpoints c ≡ Some (unfinished.Open x.queue) → IsUnderWay w.driver w.memory s.member s.recent s.parts c
           → q.token.active ≡ false
-      opening_rests (Some (unfinished.Open queue)) command is under = open_rests queue command (open_same queue x.queue is) under
+      opening_rests (Some (unfinished.Open queue)) command is under = open_rests queue command (same_queue queue x.queue is) under
       opening_rests (Some unfinished.Chain) command is under = chain_rests command is under
       opening_rests _ command is under = absurd (cc)
 
@@ -158,7 +156,7 @@ module _ (s : Standing) (w : World) (k : IsMixedAt s w) (all : QueuesSendData w.
           ⊎_elim {C = q.token.pid ≡ pid_of (way_of x)}
           (λ (own : f ≡ x.queue).
           absurd (false≢true (sym (opening_rests d.command refl (is ∙ ap (λ (b : ℕ). Some (unfinished.Open b)) own) k.under_way) ∙ on)))
-          (λ (other : f ≢ x.queue). working_sends (λ same. other (open_same f x.queue (sym is ∙ same))) on) (cases_eq f x.queue)
+          (λ (other : f ≢ x.queue). working_sends (λ same. other (same_queue f x.queue (sym is ∙ same))) on) (cases_eq f x.queue)
       by_command _ is on = working_sends (λ same. let e = sym is ∙ same in cc) on
 
   -- only what is lent is read

@@ -1,16 +1,12 @@
 -- The queues of interrupt endpoints carry data alone at each moment of each script.
-use Rattle.std.proofs.Common.{ℕ, List, [], ◌∷◌}
-use Rattle.std.specs.List.{AllByRecursion}
-use Rattle.script_types.specs.declared.scripts.Line.{Line}
-use Rattle.script_types.specs.declared.scripts.Line.TheVariants as lines
+use Rattle.law_world.proofs.Common.{lines_can}
 use Rattle.script_types.specs.declared.scripts.Script.{Script}
 use Rattle.bus_wire.specs.Bus.{fixed_of}
-use Rattle.law_world.specs.steps.receiving_runs.Runs.{KindOfLine, IsKeptBy}
+use Rattle.law_world.specs.steps.receiving_runs.Runs.{IsKeptBy}
 use Rattle.law_world.proofs.lemmas.steps.lemmas.receiving_runs.Runs.{holds_throughout}
 use Rattle.bus_world.specs.World.{World}
 use Rattle.law_world.specs.memory.Mixed.{IsMixedWorld}
 use Rattle.law_world.specs.memory.Laws.{OpensMixed}
-use Rattle.law_world.specs.memory.PlacedLaws.{MixedLine}
 use Rattle.law_world.proofs.lemmas.memory.Opening.{new_world_is_mixed}
 use Rattle.law_world.proofs.lemmas.memory.Controller.{controller_keeps_mixed}
 use Rattle.law_world.proofs.lemmas.memory.Driving.{driver_keeps_mixed}
@@ -23,14 +19,6 @@ use Rattle.law_microframes.proofs.lemmas.time.DataCommands.{command_keeps_data}
 record IsMixedWithData (w : World) : Type 0 where
   mixed : IsMixedWorld w
   data_alone : QueuesSendData w.driver w.memory
-
-line_can : (l : Line) → MixedLine l → KindOfLine OpensMixed l
-line_can (lines.Command cmd) fits = fits
-line_can _ fits = tt
-
-lines_can : (xs : List (ℕ × Line)) → AllByRecursion (λ x. MixedLine x.1) xs → AllByRecursion (λ x. KindOfLine OpensMixed x.1) xs
-lines_can [] fits = tt
-lines_can (x ∷ xs) fits = (line_can x.1 fits.0, lines_can xs fits.1)
 
 is_kept : (s : Script) → IsKeptBy (fixed_of s) OpensMixed IsMixedWithData
 is_kept s = record {

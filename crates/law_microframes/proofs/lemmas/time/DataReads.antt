@@ -1,8 +1,8 @@
 -- What the walk of the frames reads of the queues of interrupt endpoints are data alone.
 use Rattle.std.proofs.Common.{◌≡◌, ℕ, ◌*◌, ◌<◌, Bool, true, false, nat_lt, if◌then◌else◌, List, slice_get, Option, Some, None, option_map, ap, refl, sym, subst, ◌∙◌, arith}
-use Rattle.std.specs.Prelude.{◌||◌}
 use Rattle.std.proofs.lemmas.Bool.{false≢true}
 use Rattle.std.proofs.lemmas.Option.{same_Some}
+use Rattle.law_common.proofs.Booleans.{or_both}
 use Rattle.usb_base.specs.declared.packets.Dir.{Dir}
 use Rattle.usb_base.specs.declared.packets.Reply.{Reply}
 use Rattle.link_words.specs.declared.kinds.QtdLink.{QtdLink}
@@ -65,10 +65,6 @@ was_mapped : {X Y : Type 0} (f : X → Y) (o : Option X) (y : Y) → option_map 
 was_mapped f None y is = absurd (cc)
 was_mapped f (Some x) y is = record { item = x; here = refl; is = same_Some (f x) y is }
 
-neither : (a b : Bool) → (a || b) ≡ false → (a ≡ false) × (b ≡ false)
-neither true b is = absurd (cc)
-neither false b is = (refl, is)
-
 abbrev number_in : Owner → ℕ
 number_in (HeadOf e) = e
 number_in o = 0
@@ -107,7 +103,7 @@ module _ (s : Standing) (w : World) (k : IsMixedAt s w) (all : QueuesSendData w.
       → SendsData dir u
   dummy_sends dir e x u is lent here on =
       let z = was_mapped runs_of_endpoint (slice_get d.endpoints e) x is.here in
-      let alive = neither (is_iso z.item.desc.kind) z.item.gone (ap (λ (r : EndpointRuns). r.bare) z.is ∙ is.queued) in
+      let alive = or_both (is_iso z.item.desc.kind) z.item.gone (ap (λ (r : EndpointRuns). r.bare) z.is ∙ is.queued) in
       let there : s.parts (32 * z.item.queue) (32 * z.item.dummy) ≡ Some (Element dummy_qtd) =
       k.queues.queues.fed.dummies e (with_queue z.item) (queue_at d.endpoints e z.item z.here alive.0) alive.1 (subst (λ (r : EndpointRuns). IsLent (slot_of d.book.slots r.dummy)) (sym z.is) lent) in
       let same : dummy_qtd ≡ u =

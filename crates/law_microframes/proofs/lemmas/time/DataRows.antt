@@ -4,7 +4,7 @@ use Rattle.std.specs.Prelude.{◌⊎◌}
 use Rattle.std.proofs.lemmas.Bool.{cases_eq}
 use Rattle.std.specs.List.{AllByRecursion}
 use Rattle.std.proofs.lemmas.Option.{same_Some}
-use Rattle.std.proofs.lemmas.List.{get_or-set_other}
+use Rattle.law_driver.proofs.Common.{maybe}
 use Rattle.word_mem.specs.Memory.{Mem, IsShaped, word_at, with_word}
 use Rattle.mem_runs.specs.Book.{holding, Stands, slot_of, can_store, store}
 use Rattle.drv_members.specs.Members.{Members}
@@ -40,10 +40,6 @@ use Rattle.law_driver.proofs.lemmas.ring_members.Events.{open_store, unlink_stor
 use Rattle.law_driver.proofs.lemmas.ring_members.Aside.{AreApart as ListApart, IsListApart}
 use Rattle.law_driver.proofs.lemmas.ring_members.Lists.{IsApartStore, store_is_apart}
 use Rattle.law_microframes.proofs.lemmas.time.DataWords.{set_either}
-
-maybe : (m : Mem) (at v other : ℕ) (can : Bool) → at / 4 ≢ other / 4 → word_at (cond can (with_word m at v) m) other ≡ word_at m other
-maybe m at v other true differs = get_or-set_other m.words (at / 4) (other / 4) v 0 (λ same. differs (sym same))
-maybe m at v other false differs = refl
 
 -- the row publishes the qTD in block b: its token was stored
 pub record IsTokenStored (p : Parts) (new : Mem) (b : ℕ) : Type 0 where

@@ -1,6 +1,7 @@
 -- What is told of the qTDs of an interrupt endpoint's transfer: whose they are, and what stands in memory for them.
-use Rattle.std.proofs.Common.{◌≡◌, ℕ, zero, suc, ◌+◌, ◌*◌, ◌/◌, ◌<◌, ◌≤◌, Bool, true, false, slice_get, Option, Some, option_map, ap, refl, sym, subst, ◌∙◌, arith}
+use Rattle.std.proofs.Common.{◌≡◌, ℕ, ◌+◌, ◌*◌, ◌/◌, ◌<◌, ◌≤◌, Bool, true, false, slice_get, Some, option_map, ap, refl, sym, subst, ◌∙◌, arith}
 use Rattle.std.proofs.lemmas.Bool.{false≢true}
+use Rattle.law_queues.proofs.Common.{told_at}
 use Rattle.usb_base.specs.declared.packets.Dir.{Dir}
 use Rattle.usb_base.specs.declared.packets.Dir.TheVariants as directions
 use Rattle.usb_base.specs.declared.packets.EpKind.{EpKind}
@@ -14,12 +15,12 @@ use Rattle.drv_table.specs.declared.content.Endpoint.{Endpoint}
 use Rattle.drv_table.specs.declared.content.Transfer.{Transfer}
 use Rattle.drv_table.specs.DriverContent.{DriverContent}
 use Rattle.drv_table.specs.Kinds.{is_iso}
-use Rattle.claims_driver.specs.Owners.{Element, HasRun, SlotHas, is_descriptor, runs_of_endpoint, runs_of_transfer, note_in, Views, views_of}
+use Rattle.claims_driver.specs.Owners.{Element, HasRun, SlotHas, is_descriptor, runs_of_endpoint, runs_of_transfer, note_in, views_of}
 use Rattle.claims_driver.specs.Leaving.{HasOwners}
 use Rattle.law_driver.specs.chained_transfers.Bulk.{pid_by}
 use Rattle.law_driver.specs.chained_transfers.Chains.{piece_at}
 use Rattle.law_driver.specs.chained_transfers.Turns.{turn_of}
-use Rattle.law_driver_ring.specs.Inventory.{Sort, IsLent, sorts_of, IsPieceTold, AreTold, IsTransferIn, IsDriven}
+use Rattle.law_driver_ring.specs.Inventory.{IsLent, sorts_of, IsTransferIn, IsDriven}
 use Rattle.law_driver.proofs.lemmas.run_owners.Runs.{placed_run}
 use Rattle.law_driver.proofs.lemmas.ring_members.Placed.{has_first}
 use Rattle.law_structures.specs.lent_structures.Structures.{StructureSets}
@@ -42,11 +43,6 @@ pid_is ways.In kind fits is = refl
 pid_is ways.Out kind fits is = refl
 
 -- ---- its qTDs
-
-told_at : (v : Views) (sorts : ℕ → Option Sort) (b n i : ℕ) → AreTold v sorts b n → i < n → IsPieceTold v sorts (piece_at v.note b i)
-told_at v sorts b zero i told below = absurd (omega (arith, below))
-told_at v sorts b (suc n) zero told below = told.0
-told_at v sorts b (suc n) (suc i) told below = told_at v sorts (v.note b).next n i told.1 (omega (arith, below))
 
 -- its token is in its run
 pub token_in : (d : DriverContent) (m : Mem) (b : ℕ) → Stands (holding d.book m) → HasRun (slot_of d.book.slots b) → SlotHas (slot_of d.book.slots b) ((32 * b + 8) / 32)

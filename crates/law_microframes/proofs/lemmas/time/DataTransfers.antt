@@ -4,6 +4,7 @@ use Rattle.std.proofs.Common.{◌≡◌, ◌≢◌, ℕ, zero, suc, ◌-◌, Boo
 use Rattle.std.specs.Prelude.{◌||◌, ◌==◌, nat_lt, is_none, take, drop, if◌then◌else◌}
 use Rattle.std.proofs.lemmas.Bool.{cases_eq, true≢false}
 use Rattle.std.proofs.lemmas.Option.{same_Some}
+use Rattle.law_common.proofs.Lists.{set_here, set_there}
 use Rattle.usb_base.specs.declared.endpoints.EpName.{EpName}
 use Rattle.usb_base.specs.declared.endpoints.EndCause.{EndCause}
 use Rattle.word_mem.specs.Memory.{Mem}
@@ -30,7 +31,6 @@ use Rattle.drv_table.specs.Releases.{after_transfer, freed_by, is_told, cancel_t
 use Rattle.drv_table.specs.Removals.{let_go_placed, after_unlink, after_descriptor, after_placed, after_removed}
 use Rattle.drv_table.specs.Harvesting.{told_with, behind_one, behind, after_end, harvested_as, served, after_harvest}
 use Rattle.claims_driver.specs.Owners.{NoteRuns, note_in}
-use Rattle.law_driver.proofs.lemmas.run_owners.Released.{set_here, set_there}
 use Rattle.law_driver.proofs.lemmas.run_owners.Stays.{advanced as stays_advanced, framed as stays_framed, lent, unlinks, harvest_stays}
 use Rattle.law_admission.proofs.Events.{either}
 

@@ -1,11 +1,9 @@
 -- A round goes on where links go on leading down with the same heights, and whoever could be reached can be.
-use Rattle.std.proofs.Common.{◌≡◌, ℕ, ◌*◌, Bool, true, List, Some, ap, refl, sym, ◌∙◌}
+use Rattle.std.proofs.Common.{◌≡◌, ℕ, ◌*◌, Bool, true, List, Some, ap, sym, ◌∙◌}
+use Rattle.law_ring.proofs.Common.{same_cursor}
 use Rattle.word_mem.specs.Memory.{Mem, word_at}
-use Rattle.link_words.specs.declared.kinds.Link.TheVariants as links
 use Rattle.link_words.specs.Links.{link_read}
 use Rattle.op_registers.specs.RegisterFile.{RegisterFile}
-use Rattle.async_walk.specs.declared.state.Cursor.{Cursor}
-use Rattle.async_walk.specs.declared.state.Cursor.TheVariants as cursors
 use Rattle.async_walk.specs.Walk.{Walk}
 use Rattle.async_walk.specs.Rows.{cursor_link}
 use Rattle.drv_chains.proofs.Linking.{weaken}
@@ -60,10 +58,6 @@ same_links m mem f later words n on =
     next_by mem n at.block at.at ∙ ap (λ (v : ℕ). name_of (link_read v)) (words at.block at.reached) ∙ sym (next_by m n at.block at.at)
 
 -- ---- what was visited
-
-pub same_cursor : (r s : RegisterFile) (c : Cursor) → s.async_list_address ≡ r.async_list_address → cursor_link s c ≡ cursor_link r c
-same_cursor r s cursors.Start address = ap links.Qh address
-same_cursor r s (cursors.At link) address = refl
 
 pub behind_on : (d f : DriverContent) (height : ℕ → ℕ) (r s : RegisterFile) (walk : Walk) (vs : List ℕ) → IsBehind d height r walk vs → s.async_list_address ≡ r.async_list_address
     → Reaches d r.doorbell f s.doorbell → IsBehind f height s walk vs

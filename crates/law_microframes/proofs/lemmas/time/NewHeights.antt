@@ -1,12 +1,15 @@
 -- An open of an endpoint of the ring is accepted: its queue head, which the walk may reach from then on, gets the height that the head of the ring had, and the head one more. It
 -- leads to where the head does, and nothing leads to it yet.
-use Rattle.std.proofs.Common.{◌≡◌, ◌≢◌, ℕ, suc, ◌+◌, ◌-◌, ◌*◌, ◌<◌, Bool, true, false, ◌||◌, nat_eq, if◌then◌else◌, List, [], ◌∷◌, ◌++◌, length, take, slice_get, Option, Some, None, ap, sym, subst, ◌∙◌, ⊎_elim, inl, inr, refl, arith}
+use Rattle.std.proofs.Common.{◌≡◌, ◌≢◌, ℕ, suc, ◌*◌, ◌<◌, Bool, true, false, ◌||◌, nat_eq, if◌then◌else◌, List, [], ◌∷◌, ◌++◌, length, slice_get, Option, Some, None, ap, sym, subst, ◌∙◌, ⊎_elim, inl, inr, refl, arith}
 use Rattle.std.specs.Prelude.{◌⊎◌}
 use Rattle.std.specs.List.{AllByRecursion}
-use Rattle.std.proofs.Math.Seq.{take-append_seam}
 use Rattle.std.proofs.lemmas.Bool.{cases_eq, eq-eqb, ne_eqb}
-use Rattle.std.proofs.lemmas.List.{length-append}
 use Rattle.std.proofs.lemmas.Option.{same_Some}
+use Rattle.law_microframes.proofs.Common.{same_before}
+use Rattle.law_ring.proofs.Common.{one_link}
+use Rattle.law_common.proofs.Lists.{push_which, some_below}
+use Rattle.law_driver.proofs.Common.{ring_queue, pushed as older_get, newest_get, among_later}
+use Rattle.law_common.proofs.Numbers.{same_blocks}
 use Rattle.word_mem.specs.Memory.{Mem}
 use Rattle.link_words.specs.declared.kinds.Link.{Link}
 use Rattle.link_words.specs.declared.kinds.Link.TheVariants as links
@@ -22,22 +25,18 @@ use Rattle.drv_table.specs.Words.{head_block, queue_head_link}
 use Rattle.drv_table.specs.Accepting.{newest_of}
 use Rattle.drv_table.specs.Kinds.{is_iso}
 use Rattle.claims_driver.specs.Leaving.{HasOwners}
-use Rattle.law_driver.proofs.lemmas.run_owners.Ordered.{pushed}
-use Rattle.law_driver.proofs.lemmas.run_owners.Rows.{not_iso}
 use Rattle.claims_driver.specs.Ring.{link_in, IsQueueOf, IsAmong, first, later}
 use Rattle.law_driver.specs.ring_members.Words.{AreLeaving, IsOpening, IsRing}
 use Rattle.law_driver.specs.ring_members.Links.{newest_from}
 use Rattle.law_driver.proofs.lemmas.ring_members.Links.{LeadsTo, newest_is}
 use Rattle.law_driver.proofs.lemmas.ring_members.Placed.{has_queue, in_ring_alive, queue_off_head, queues_apart}
-use Rattle.law_driver.proofs.lemmas.ring_members.Events.{stands_as, older_get, newest_get}
+use Rattle.law_driver.proofs.lemmas.ring_members.Events.{stands_as}
 use Rattle.claims_driver.specs.Walk.{IsReached, at_head, at_member, at_waiting, at_rung, LeadsOn, IsWalkIn}
 use Rattle.law_driver_ring.proofs.lemmas.walk_members.Driving.{Reaches}
-use Rattle.law_driver_ring.proofs.lemmas.walk_members.Leading.{WordLeads, reached_leads, among_later, among_front}
-use Rattle.law_descriptors.proofs.Returning.{same_blocks}
+use Rattle.law_driver_ring.proofs.lemmas.walk_members.Leading.{WordLeads, reached_leads, among_front}
 use Rattle.law_queues.specs.reached_rings.Reaching.{is_reached, ReachedAt}
 use Rattle.law_queues.proofs.lemmas.reached_rings.Computing.{reached_is_reached}
 use Rattle.law_microframes.specs.visits.Ranks.{next_of}
-use Rattle.law_microframes.proofs.lemmas.visits.OwnSteps.{some_below}
 use Rattle.law_microframes.specs.time.Heights.{head_at, LinksFall, AreFalling}
 use Rattle.law_microframes.specs.time.Rounds.{link_from, link_ahead, IsBehind}
 use Rattle.law_microframes.proofs.lemmas.time.RingWords.{IsAlive, reached_alive}
@@ -68,25 +67,13 @@ module _ (word : ℕ → ℕ) (d f : DriverContent) (rings : Bool) (y : Endpoint
       ⊎_elim {C = IsReached d rings b ⊎ ((b ≡ y.queue) × (y.linked ≡ true))}
       (λ (old : slice_get d.endpoints g ≡ Some at.endpoint). inl (at_member g (record { endpoint = at.endpoint; here = old; queue = at.queue }) l))
       (λ (new : (g ≡ length d.endpoints) × (at.endpoint ≡ y)). inr (sym at.queue ∙ ap (λ (z : Endpoint). z.queue) new.1, ap (λ (z : Endpoint). z.linked) (sym new.1) ∙ l))
-      (pushed d.endpoints y g at.endpoint (ap (λ (xs : List Endpoint). slice_get xs g) (sym ends) ∙ at.here))
+      (push_which d.endpoints y g at.endpoint (ap (λ (xs : List Endpoint). slice_get xs g) (sym ends) ∙ at.here))
   pushed_back b (at_waiting g at a) =
       let w : IsAmong g d.waiting = subst (λ (es : List ℕ). IsAmong g es) ws a in inl (at_waiting g (was_there g b (among_later g d.rung d.waiting w) at) w)
   pushed_back b (at_rung g at a r) =
       let w : IsAmong g d.rung = subst (λ (es : List ℕ). IsAmong g es) rs a in inl (at_rung g (was_there g b (among_front g d.rung d.waiting w) at) w r)
 
-without_last : (xs : List Endpoint) (y : Endpoint) → take (length (xs ++ y ∷ []) - 1) (xs ++ y ∷ []) ≡ xs
-without_last xs y =
-    let n : length (xs ++ y ∷ []) ≡ length xs + 1 = length-append xs (y ∷ []) in
-    let e : length (xs ++ y ∷ []) - 1 ≡ length xs = omega (arith, n) in
-    ap (λ (k : ℕ). take k (xs ++ y ∷ [])) e ∙ take-append_seam xs (y ∷ [])
-
-same_before : (xs ys : List Endpoint) (x y : Endpoint) → xs ++ x ∷ [] ≡ ys ++ y ∷ [] → xs ≡ ys
-same_before xs ys x y same = sym (without_last xs x) ∙ ap (λ (zs : List Endpoint). take (length zs - 1) zs) same ∙ without_last ys y
-
 -- ---- where the walk goes on
-
-one_link : (a b : ℕ) → links.Qh a ≡ links.Qh b → a ≡ b
-one_link a b same = cc
 
 pub ahead_reached : (d : DriverContent) (r : RegisterFile) (walk : Walk) (k : ℕ) → IsWalkIn d r walk → link_ahead r walk ≡ links.Qh k → is_reached d r.doorbell k ≡ true
 ahead_reached d r walk k in_ring leads = by walk.held refl leads
@@ -128,7 +115,7 @@ module _ (m mem : Mem) (d f : DriverContent) (rings : Bool) (y : Endpoint) (owne
       (λ (a : IsAlive d y.queue).
       queues_apart f a.number (length d.endpoints) a.endpoint y owners
       (ap (λ (xs : List Endpoint). slice_get xs a.number) ends ∙ older_get d.endpoints y a.number a.endpoint a.here)
-      (has_queue a.endpoint (not_iso a.endpoint.desc.kind a.ring) a.alive) new_here new_alive
+      (has_queue a.endpoint (ring_queue a.endpoint.desc.kind a.ring) a.alive) new_here new_alive
       (λ same. let low = some_below d.endpoints a.number a.endpoint a.here in omega (arith, low, same)) a.queue)
       (reached_alive d rings y.queue owned.orderly reached)
 

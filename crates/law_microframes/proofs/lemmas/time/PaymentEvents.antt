@@ -2,6 +2,8 @@
 -- 3.3, 4.6, 4.7, 4.10 and 4.12): no such endpoint is given back in the microframe.
 use Rattle.std.proofs.Common.{◌≡◌, ◌≢◌, ℕ, List, [], ◌∷◌, Option, Some, None, Result, Ok, Err, ap, refl, sym, subst, ◌∙◌, inl, inr, ⊎_elim}
 use Rattle.std.specs.List.{AllByRecursion}
+use Rattle.law_common.proofs.Lists.{all_more}
+use Rattle.law_world.proofs.Common.{begins_over}
 use Rattle.usb_base.specs.declared.endpoints.EpName.{EpName}
 use Rattle.usb_base.specs.declared.reports.OfferError.{OfferError}
 use Rattle.bandwidth.specs.declared.placements.Placed.{Placed}
@@ -13,7 +15,6 @@ use Rattle.drv_table.specs.DriverContent.{DriverContent}
 use Rattle.drv_table.specs.Accepting.{Offered}
 use Rattle.drv_table.specs.Offers.{offered}
 use Rattle.drv_table.specs.Rows.{driver_row}
-use Rattle.law_driver.proofs.lemmas.listed_members.Schedules.{all_more}
 use Rattle.law_driver.proofs.lemmas.planned_endpoints.Laws.{events_keep_the_plan}
 use Rattle.law_frames.specs.Met.{Kind}
 use Rattle.law_descriptors.specs.Meeting.{met}
@@ -34,7 +35,7 @@ use Rattle.law_microframes.proofs.lemmas.visits.BelongSeen.{row_seen}
 use Rattle.law_microframes.proofs.lemmas.visits.BelongPlan.{row_more}
 use Rattle.law_microframes.proofs.lemmas.visits.BelongKeeps.{not_iso, stays_in, queue_stays}
 use Rattle.law_microframes.proofs.lemmas.visits.BelongCommands.{command_keeps_placed}
-use Rattle.law_microframes.proofs.lemmas.visits.VisitControlling.{begins_over, frame_periodic}
+use Rattle.law_microframes.proofs.lemmas.visits.VisitControlling.{frame_periodic}
 use Rattle.law_microframes.proofs.lemmas.visits.ReasonParts.{answered_control}
 use Rattle.law_microframes.proofs.lemmas.time.PaymentIsochronous.{StaysOf, driver_index, driver_iso, command_iso}
 use Rattle.law_microframes.proofs.lemmas.time.PaymentWalking.{paid_next}

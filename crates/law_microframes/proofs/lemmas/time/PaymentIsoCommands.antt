@@ -1,6 +1,7 @@
 -- A command with isochronous descriptors takes them on at an endpoint that is in its frames, and leaves the notes of those that there were
 -- (EHCI 1.0, 3.3, 3.4, 4.6 and 4.7).
 use Rattle.std.proofs.Common.{◌≡◌, ℕ, ◌⊎◌, Bool, true, false, List, length, set, slice_get, Some, ap, refl, ◌∙◌, ⊎_elim, inl, inr}
+use Rattle.law_common.proofs.Lists.{set_here}
 use Rattle.word_mem.specs.Memory.{Mem}
 use Rattle.drv_periodic_table.specs.Periodic.{note_at}
 use Rattle.drv_table.specs.declared.content.Endpoint.{Endpoint}
@@ -12,7 +13,6 @@ use Rattle.drv_table.specs.IsoOffers.{slots_of}
 use Rattle.claims_driver.specs.Owners.{is_descriptor}
 use Rattle.law_driver.specs.in_place.InPlace.{IsInPlace}
 use Rattle.law_driver.proofs.lemmas.listed_members.Events.{in_frames}
-use Rattle.law_driver.proofs.lemmas.run_owners.Released.{set_here}
 use Rattle.law_descriptors.proofs.Accepted.{made}
 use Rattle.law_microframes.proofs.lemmas.visits.BelongIso.{IsIsoAccepted, IsLater, made_is, IsByRuns, transfer_there, note_was, by_runs}
 use Rattle.law_microframes.proofs.lemmas.visits.BelongSeen.{seen_in, seen_set}

@@ -4,6 +4,12 @@ use Rattle.std.proofs.Common.{◌≡◌, ℕ, zero, suc, ◌*◌, ◌/◌, ◌�
 use Rattle.std.specs.Prelude.{◌==◌}
 use Rattle.std.proofs.lemmas.Bool.{true≢false, eq-eqb, and_parts}
 use Rattle.std.proofs.lemmas.Option.{same_Some}
+use Rattle.law_common.proofs.Booleans.{out_owed}
+use Rattle.law_descriptors.proofs.Common.{unlink_registers}
+use Rattle.law_world.proofs.Common.{descriptor_index, placed_index}
+use Rattle.law_driver.proofs.Common.{waits_is}
+use Rattle.law_frame_list.proofs.Common.{same_number, no_descriptor}
+use Rattle.law_common.proofs.Numbers.{same_blocks}
 use Rattle.usb_base.specs.declared.commands.Cmd.{Cmd}
 use Rattle.usb_base.specs.declared.commands.Cmd.TheVariants as commands
 use Rattle.usb_base.specs.declared.endpoints.EpDesc.{EpDesc}
@@ -32,7 +38,7 @@ use Rattle.drv_table.specs.Parts.{Parts}
 use Rattle.drv_table.specs.Kinds.{is_iso}
 use Rattle.drv_table.specs.Rows.{driver_row, after_driver_row}
 use Rattle.drv_table.specs.Releases.{after_transfer, after_endpoint}
-use Rattle.drv_table.specs.Removals.{after_unlink, after_descriptor, after_placed, after_removed}
+use Rattle.drv_table.specs.Removals.{after_removed}
 use Rattle.claims_driver.specs.Owners.{Described, is_descriptor, runs_of_transfer, runs_of_endpoint, views_of}
 use Rattle.claims_driver.specs.Leaving.{times, endpoints_in, endpoint_before, leaves_frames, HasOwners}
 use Rattle.law_driver.specs.run_owners.Accepts.{Accepts, opens, chains, places, transfers, describes, cancels, unchains}
@@ -43,7 +49,6 @@ use Rattle.claims_driver.specs.FrameListMembers.{framed_in, is_chained, is_among
 use Rattle.law_driver.specs.listed_members.Members.{IsStanding, IsListed}
 use Rattle.law_driver.proofs.lemmas.listed_members.Standing.{IsSeen, seen, IsIn, in_frames, IsReported, unlinks_reported, standing_block, why_stands}
 use Rattle.law_driver.proofs.lemmas.listed_members.Owned.{queue_owned}
-use Rattle.law_driver.proofs.lemmas.chained_transfers.Harvesting.{waits_is}
 use Rattle.law_admission.proofs.Commands.{commands_place_the_best}
 use Rattle.law_frame_list.proofs.lemmas.list_spread.Spreading.{queue_there, standing_there}
 use Rattle.law_driver.proofs.lemmas.queued_drivers.CommandReasons.{IsReasonOf, reason_of}
@@ -54,7 +59,7 @@ use Rattle.law_descriptors.specs.Meeting.{standing, or_recent, met}
 use Rattle.law_descriptors.proofs.Finding.{begins_at, member_at}
 use Rattle.law_descriptors.proofs.Leading.{led_linked}
 use Rattle.law_descriptors.proofs.GivenRow.{row_gives_back_passed}
-use Rattle.law_descriptors.proofs.Returning.{same_transfer, no_descriptor, same_blocks, one_of, endpoint_counts, not_open}
+use Rattle.law_descriptors.proofs.Returning.{one_of, endpoint_counts, not_open}
 use Rattle.law_descriptors.proofs.Waiting.{frames_most}
 use Rattle.law_budgets.specs.visit_prices.Spent.{IsAmong, placed_as}
 use Rattle.bus_world.specs.World.{World, driver_parts, driver_next, name_in, commanded, commanded_by}
@@ -88,10 +93,6 @@ one_removal e (m ∷ ms) (suc i) zero r q here there one two most =
     let later = endpoint_counts e ms i r here one in
     absurd (omega (arith, first, counts, later, most))
 one_removal e (m ∷ ms) (suc i) (suc j) r q here there one two most = let less = fewer e m.what ms in one_removal e ms i j r q here there one two (omega (arith, less, most))
-
-pub out_owed : (c g p : Bool) → 1 ≤ (if c || g || not p then 0 else 1) → c ≡ false
-out_owed true g p one = absurd (omega (arith, one))
-out_owed false g p one = refl
 
 -- ---- a descriptor that is met and waits
 
@@ -133,7 +134,7 @@ module _ (s : Standing) (w : World) (n : ℕ) (k : IsMixedAt s w) (b : IsDescrip
   pub one_transfer : (u : ℕ) (z : Transfer) → slice_get w.driver.transfers u ≡ Some z → is_descriptor z.sort ≡ true → z.released ≡ false → n ≡ 32 * z.first → z ≡ b.transfer
   one_transfer u z there sort held at =
       let o : IsMine u z = owned_by u z there sort held in
-      let same : u ≡ b.number = same_transfer o.split mine.split u b.number (sym o.owned ∙ ap has.owner (same_blocks z.first y.first (sym at ∙ b.name)) ∙ mine.owned) in
+      let same : u ≡ b.number = same_number o.split mine.split u b.number (sym o.owned ∙ ap has.owner (same_blocks z.first y.first (sym at ∙ b.name)) ∙ mine.owned) in
       same_Some z y (sym there ∙ ap (slice_get d.transfers) same ∙ b.there)
 
   no_queue : (f : ℕ) (v : Endpoint) → slice_get w.driver.endpoints f ≡ Some v → is_iso v.desc.kind ≡ false → v.gone ≡ false → n ≡ 32 * v.queue → ⊥
@@ -274,18 +275,6 @@ endpoint_index : (p : Parts) (f : ℕ) (o : Option Endpoint) → (after_endpoint
 endpoint_index p f None = refl
 endpoint_index p f (Some z) = refl
 
-unlink_index : (p : Parts) (t : ℕ) (o : Option Transfer) → (after_unlink p t o).registers ≡ p.registers
-unlink_index p t None = refl
-unlink_index p t (Some z) = refl
-
-descriptor_index : (p : Parts) (t : ℕ) (o : Option Transfer) → (after_descriptor p t o).registers ≡ p.registers
-descriptor_index p t None = refl
-descriptor_index p t (Some z) = refl
-
-placed_index : (p : Parts) (f : ℕ) (o : Option Endpoint) → (after_placed p f o).registers ≡ p.registers
-placed_index p f None = refl
-placed_index p f (Some z) = refl
-
 removed_index : (p : Parts) (what : Removed) → (after_removed p what).registers ≡ p.registers
 removed_index p (removed.Descriptor t) = descriptor_index p t (slice_get p.driver.transfers t)
 removed_index p (removed.Endpoint f) = placed_index p f (slice_get p.driver.endpoints f)
@@ -296,7 +285,7 @@ index_of r = r.frame_index
 row_index : (row : DriverRow) (p : Parts) → (after_driver_row row p).registers.frame_index ≡ p.registers.frame_index
 row_index (rows.ReleaseTransfer t) p = ap index_of (transfer_index p t (slice_get p.driver.transfers t) _)
 row_index (rows.ReleaseEndpoint f) p = ap index_of (endpoint_index p f (slice_get p.driver.endpoints f))
-row_index (rows.Unlink t) p = ap index_of (unlink_index p t (slice_get p.driver.transfers t))
+row_index (rows.Unlink t) p = ap index_of (unlink_registers p t (slice_get p.driver.transfers t))
 row_index (rows.ReleaseRemoved what) p = ap index_of (removed_index p what)
 row_index _ p = refl
 

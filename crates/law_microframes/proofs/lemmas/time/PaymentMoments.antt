@@ -1,12 +1,12 @@
 -- So it is at each moment of the run of a script.
 use Rattle.std.proofs.Common.{◌≡◌, ℕ, Bool, true, false, List, [], ◌∷◌, Option, Some, None, ap, sym, subst, ◌∙◌, refl}
 use Rattle.std.specs.Prelude.{if◌then◌else◌}
+use Rattle.law_controller.proofs.Common.{over_not_periodic}
 use Rattle.script_types.specs.declared.scripts.Script.{Script}
 use Rattle.script_fits.specs.Fits.{IsFit}
 use Rattle.law_scripts.specs.byte_answers.Bytes.{IsByteScript}
 use Rattle.periodic_walk.specs.declared.state.Hand.{Hand}
 use Rattle.periodic_walk.specs.declared.chain.ChainRow.{ChainRow}
-use Rattle.hc_core.specs.declared.controller.MicroframePart.TheVariants.{Over, Periodic}
 use Rattle.hc_core.specs.declared.controller.ControllerRow.{ControllerRow}
 use Rattle.hc_core.specs.declared.controller.ControllerRow.TheVariants as rows
 use Rattle.hc_core.specs.declared.controller.HcStep.{HcStep}
@@ -131,9 +131,6 @@ module _ (fixed : Fixed) where
     command = λ w n cmd rest z h paid. command_keeps_paying z.0 w n cmd z.1 (going z.0 w z.1 h paid);
   }
 
-over_no : Over ≡ Periodic → ⊥
-over_no e = cc
-
 pub pays_within : (s : Script) → ((k : ℕ) → HoldsAt (began s k) (moment s k).world (visited s k)) → (k : ℕ) → ArePaidIn (began s k) (moment s k).world (payments s k)
 pays_within s holds k =
     let both_are : (j : ℕ) → carried (both began_by payments_next) s (opening_world s, []) j ≡ (began s j, payments s j) = both_carried began_by payments_next s (opening_world s) [] in
@@ -142,7 +139,7 @@ pays_within s holds k =
     (λ j.
     subst (λ (z : World × List (ℕ × ℕ)). HoldsAt z.0 (moment s j).world (names_in z.1)) (sym (both_are j))
     (subst (λ (vs : List ℕ). HoldsAt (began s j) (moment s j).world vs) (sym (payments_are_of_visits s j)) (holds j)))
-    (record { entries = tt; hand = λ on. absurd (over_no on) }) k)
+    (record { entries = tt; hand = λ on. absurd (over_not_periodic on) }) k)
 
 pub scripts_are_paid : (s : Script) → IsFit s → IsByteScript s → FitsMixed s → SlotsFit s → (k : ℕ)
     → ArePaidIn (began s k) (moment s k).world (payments s k)

@@ -3,6 +3,8 @@
 use Rattle.std.proofs.Common.{◌≡◌, ℕ, ◌≤◌, ◌⊎◌, Bool, true, false, List, [], ◌∷◌, ◌++◌, length, slice_get, Option, Some, None, Result, Ok, Err, option_map, ap, refl, sym, subst, ◌∙◌, ⊎_elim, inl, inr, arith}
 use Rattle.std.proofs.lemmas.Bool.{true≢false}
 use Rattle.std.proofs.lemmas.Option.{same_Some, slice_get_within}
+use Rattle.law_common.proofs.Lists.{push_which}
+use Rattle.law_world.proofs.Common.{lines_can}
 use Rattle.usb_base.specs.declared.commands.Cmd.{Cmd}
 use Rattle.usb_base.specs.declared.commands.Cmd.TheVariants as commands
 use Rattle.usb_base.specs.declared.endpoints.EpDesc.{EpDesc}
@@ -27,7 +29,6 @@ use Rattle.drv_table.specs.Rows.{driver_row}
 use Rattle.claims_driver.specs.Owners.{is_descriptor}
 use Rattle.claims_driver.specs.Leaving.{HasOwners}
 use Rattle.law_driver.proofs.lemmas.run_owners.Reasons.{each_event_is_due}
-use Rattle.law_driver.proofs.lemmas.run_owners.Ordered.{pushed}
 use Rattle.law_driver.proofs.lemmas.run_owners.Stays.{begun_notes}
 use Rattle.claims_driver.specs.FrameListMembers.{framed_of, is_chained}
 use Rattle.claims_driver.specs.DueMembers.{framed_to}
@@ -51,7 +52,6 @@ use Rattle.law_microframes.proofs.lemmas.visits.BelongCommands.{taken_same, left
 use Rattle.law_microframes.proofs.lemmas.visits.OneDescriptorRows.{From, or_notes}
 use Rattle.law_microframes.proofs.lemmas.visits.OneDescriptorDriven.{Follows, row_follows}
 use Rattle.law_microframes.proofs.lemmas.visits.BelongTold.{or_left}
-use Rattle.law_microframes.proofs.lemmas.visits.OneDescriptorMoments.{lines_can}
 use Rattle.law_microframes.specs.time.PaymentLaws.{HasPeriodics}
 use Rattle.law_microframes.proofs.lemmas.time.PaymentFrames.{chained_active}
 use Rattle.law_microframes.proofs.lemmas.time.PaymentIsoCommands.{IsTaken, IsOld, seen_same, each_taken}
@@ -149,7 +149,7 @@ module _ (w : World) (k : IsMixedWorld w) (h : HasPeriodics w.driver) where
   pushed_ends o y are chained e x p here placed =
       ⊎_elim {C = IsSeenIn w.driver.endpoints e x ⊎ (x.chained ≡ true)} (λ (was : slice_get d.endpoints e ≡ Some x). inl (record { endpoint = x; here = was; same = refl }))
       (λ (is : (e ≡ length d.endpoints) × (x ≡ y)). inr (ap (λ (v : Endpoint). v.chained) is.1 ∙ chained p (ap (λ (v : Endpoint). v.placement) (sym is.1) ∙ placed)))
-      (pushed d.endpoints y e x (ap (λ (xs : List Endpoint). slice_get xs e) (sym are) ∙ here))
+      (push_which d.endpoints y e x (ap (λ (xs : List Endpoint). slice_get xs e) (sym are) ∙ here))
 
   none_placed : (p : Placement) → ◌≡◌ {A = Option Placement} None (Some p) → ⊥
   none_placed p is = cc
@@ -188,7 +188,8 @@ module _ (w : World) (k : IsMixedWorld w) (h : HasPeriodics w.driver) where
             (λ (was : slice_get d.transfers t ≡ Some z). inl (was, ap (λ (g : Offered). note_at g.driver.periodic.notes z.first) is))
             (λ (new : (t ≡ length d.transfers) × (z ≡ new_transfer why.number a why.endpoint.dummy)).
             absurd (true≢false (sym sort ∙ ap (λ (c : Transfer). is_descriptor c.sort) new.1 ∙ queued)))
-            (pushed d.transfers (new_transfer why.number a why.endpoint.dummy) t z (ap (λ (g : Offered). slice_get g.driver.transfers t) (sym is) ∙ there));
+            (push_which d.transfers (new_transfer why.number a why.endpoint.dummy) t z
+            (ap (λ (g : Offered). slice_get g.driver.transfers t) (sym is) ∙ there));
         ends = same_ends o (taken_same d w.memory o name takes a why);
       }
 

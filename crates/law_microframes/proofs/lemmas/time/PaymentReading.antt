@@ -5,6 +5,9 @@ use Rattle.std.proofs.Common.{◌≡◌, ℕ, ◌+◌, ◌*◌, ◌%◌, ◌<◌
 use Rattle.std.specs.Prelude.{max, ◌==◌}
 use Rattle.std.proofs.lemmas.Bool.{true≢false}
 use Rattle.std.proofs.lemmas.Option.{same_Some}
+use Rattle.law_driver.proofs.Common.{waits_is}
+use Rattle.law_common.proofs.Numbers.{same_blocks}
+use Rattle.law_common.proofs.Lists.{nth_all}
 use Rattle.usb_base.specs.declared.packets.Speed.{Speed}
 use Rattle.usb_base.specs.declared.packets.Speed.TheVariants.{Full, Low, High}
 use Rattle.word_mem.specs.Memory.{Mem, word_at}
@@ -34,7 +37,6 @@ use Rattle.drv_table.specs.Words.{speed_field}
 use Rattle.claims_driver.specs.Owners.{views_of}
 use Rattle.claims_driver.specs.Leaving.{HasOwners}
 use Rattle.law_driver_ring.specs.Inventory.{OfSplitIsochronous, sort_of, sorts_of, IsDriven}
-use Rattle.law_driver.proofs.lemmas.chained_transfers.Harvesting.{waits_is}
 use Rattle.law_structures.specs.lent_structures.Structures.{Isochronous, SplitIsochronous, Structures, StructureSets, HoldsIsochronous, HoldsSplitIsochronous}
 use Rattle.claims_driver.specs.DueMembers.{framed_to}
 use Rattle.law_frames.specs.Met.{AQueue, AnItd, ASitd, LeadsTo}
@@ -42,7 +44,6 @@ use Rattle.law_descriptors.specs.Described.{HasDescriptor, AreDescribed}
 use Rattle.law_descriptors.specs.Both.{owns, both}
 use Rattle.law_descriptors.specs.Meeting.{met}
 use Rattle.law_descriptors.proofs.Standing.{both_on, both_off, IsAtOwner, on_owner}
-use Rattle.law_descriptors.proofs.Returning.{same_blocks}
 use Rattle.law_budgets.specs.visit_prices.Spent.{IsHeadOf}
 use Rattle.law_budgets.specs.visit_prices.Fetched.{queue_copy}
 use Rattle.bus_world.specs.World.{World, controller_parts}
@@ -61,7 +62,6 @@ use Rattle.law_microframes.proofs.lemmas.visits.BelongDescriptors.{descriptor_be
 use Rattle.law_microframes.proofs.lemmas.visits.BelongItds.{read_is, itd_is_read, harvested_is_read, told_is}
 use Rattle.law_microframes.proofs.lemmas.visits.OneDescriptorMet.{met_is_active, met_split_is_active}
 use Rattle.claims_world.specs.FrameHeads.{IsAllowed, AreAllowed}
-use Rattle.law_world.proofs.lemmas.memory.lemmas.framed_memory.Masking.{one_of_all}
 use Rattle.law_microframes.specs.time.DataQueues.{pid_of, ReadsData}
 use Rattle.law_microframes.specs.time.SitdFields.{sitd_name, IsSitdAs, HaveSitdFields, SplitTransfer, SitdsStand}
 use Rattle.law_microframes.specs.time.SplitCharges.{IsPaidFor, at_high, at_split}
@@ -217,7 +217,7 @@ module _ (b : World) (s : Standing) (w : World) (k : IsMixedAt s w) (heads : Hea
 
     begins_split : (u : ℕ) → is_classic h.belongs.endpoint.desc.speed ≡ true → IsPaidFor x u (hands.Queue (queue_copy a q)) 0
     begins_split u classic =
-        let all : IsAllowed x = one_of_all IsAllowed w.driver.periodic.plan.placed h.belongs.planned.place x allowed
+        let all : IsAllowed x = nth_all IsAllowed w.driver.periodic.plan.placed h.belongs.planned.place x allowed
         h.belongs.planned.there in
         at_split (queue_copy a q) refl (record {
           head = record {
@@ -417,7 +417,7 @@ module _ (b : World) (s : Standing) (w : World) (k : IsMixedAt s w) (heads : Hea
         sitds.fields (of_split q) in
         let read : IsSitdAs (sitd_name q.belongs.endpoint.desc) x.placement.smask x.placement.cmask x.want.max v =
         read_as _ _ _ _ w.memory q.transfer.first a v q.name sitd_reads have.has in
-        let all : IsAllowed x = one_of_all IsAllowed w.driver.periodic.plan.placed q.belongs.planned.place x allowed
+        let all : IsAllowed x = nth_all IsAllowed w.driver.periodic.plan.placed q.belongs.planned.place x allowed
         q.belongs.planned.there in
         record {
           of = x;

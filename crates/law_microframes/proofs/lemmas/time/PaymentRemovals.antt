@@ -3,6 +3,7 @@
 use Rattle.std.proofs.Common.{◌≡◌, ℕ, zero, suc, ◌-◌, Bool, true, false, List, [], ◌∷◌, ◌++◌, length, take, drop, slice_get, Option, Some, None, option_map, refl, ap, sym, subst, ◌∙◌}
 use Rattle.std.specs.Prelude.{nat_lt, is_none, if◌then◌else◌}
 use Rattle.std.proofs.lemmas.Option.{same_Some, slice_get-map}
+use Rattle.law_descriptors.proofs.Common.{next_removals, open_again}
 use Rattle.usb_base.specs.declared.endpoints.EpName.{EpName}
 use Rattle.usb_base.specs.declared.endpoints.EndCause.{EndCause}
 use Rattle.word_mem.specs.Memory.{Mem}
@@ -32,8 +33,6 @@ use Rattle.drv_table.specs.Harvesting.{told_with, behind_one, behind, after_end,
 use Rattle.law_driver.specs.run_owners.Due.{IsDue}
 use Rattle.law_admission.proofs.Events.{either}
 use Rattle.claims_driver.specs.Unlinked.{IsOpenAt}
-use Rattle.law_microframes.proofs.lemmas.visits.OwnSteps.{next_removals}
-use Rattle.law_microframes.proofs.lemmas.visits.DriverVisits.{open_again}
 
 -- ---- boundaries
 

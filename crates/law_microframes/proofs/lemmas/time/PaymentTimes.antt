@@ -3,6 +3,7 @@ use Rattle.std.proofs.Common.{◌≡◌, ℕ, ◌+◌, ◌≤◌, ◌&&◌, Bool
 use Rattle.std.specs.Prelude.{nat_lt, if◌then◌else◌}
 use Rattle.std.specs.List.{AllByRecursion}
 use Rattle.std.proofs.lemmas.Bool.{true≢false}
+use Rattle.law_common.proofs.Numbers.{not_below}
 use Rattle.usb_base.specs.declared.commands.Cmd.{Cmd}
 use Rattle.usb_base.specs.declared.commands.Cmd.TheVariants as commands
 use Rattle.usb_base.specs.declared.endpoints.EpDesc.{EpDesc}
@@ -70,7 +71,6 @@ use Rattle.claims_world.specs.Scripts.{OpensHighPeriodics, HighPeriodicsLine, Hi
 use Rattle.law_microframes.specs.time.PaymentLaws.{TextsPayWithinLoad, IsOwnedBy, by_queue, by_descriptor, IsHandPaid, IsIdle, IsPassing, ArePaidByHand}
 use Rattle.law_microframes.specs.time.PaymentTimes.{TextsLeaveTheRest, TextsAreInTime}
 use Rattle.law_microframes.proofs.lemmas.time.ChargeEvents.{enough_time_skips_nothing}
-use Rattle.law_budgets.proofs.lemmas.visit_prices.Queues.{not_late}
 use Rattle.law_microframes.proofs.lemmas.time.ChargeLoads.{bus_short, transactions_are_short}
 use Rattle.law_microframes.proofs.lemmas.time.PaymentMoments.{ArePaidIn, scripts_are_paid}
 use Rattle.law_microframes.proofs.lemmas.time.PaymentTexts.{texts_load}
@@ -162,7 +162,7 @@ sitd_time left u v None enough = by (sitd_turn u v)
     by : (turn : SitdTurn) → is_late_split left v turn ≡ false
     by sitd_turns.Rest = refl
     by sitd_turns.Miss = refl
-    by sitd_turns.Work = let few = sitd_short v in not_late left (sitd_transaction v).price.0 (omega (arith, few, enough))
+    by sitd_turns.Work = let few = sitd_short v in not_below left (sitd_transaction v).price.0 (omega (arith, few, enough))
 
 module _ (b : World) (d : DriverContent) (now index : ℕ) (p : FramePlace) (same : p.walk.index ≡ index) (ps : List (ℕ × ℕ)) (short : AreShort d) (enough : 21000000 ≤ p.walk.left) where
   paid_time : (x : Placed) (paid : ℕ) (hand : Hand) → x.want.max ≤ 1024 → p.walk.hand ≡ Some hand → IsPaidFor x p.walk.index hand paid

@@ -2,6 +2,7 @@
 use Rattle.std.proofs.Common.{◌≡◌, ◌≢◌, ℕ, ◌+◌, Bool, true, false, not, List, [], ◌∷◌, Option, Some, None, ap, refl, sym, subst, ◌∙◌, arith}
 use Rattle.std.specs.Prelude.{if◌then◌else◌}
 use Rattle.std.proofs.lemmas.List.Sums.{sum_by-cons}
+use Rattle.law_controller.proofs.Common.{over_not_periodic}
 use Rattle.script_types.specs.declared.scripts.Script.{Script}
 use Rattle.word_mem.specs.Memory.{reaches}
 use Rattle.op_registers.specs.Events.{after_begin}
@@ -26,7 +27,7 @@ use Rattle.claims_world.specs.Carried.{carried}
 use Rattle.claims_world.specs.Prices.{cost_of}
 use Rattle.claims_world.specs.Visits.{TellsMicroframe, fetched_by}
 use Rattle.law_world.proofs.lemmas.memory.Carrying.{KeepsCarried, carrying, both, both_carried}
-use Rattle.law_microframes.proofs.lemmas.visits.VisitWalking.{over_no, async_no}
+use Rattle.law_microframes.proofs.lemmas.visits.VisitWalking.{async_no}
 use Rattle.law_microframes.proofs.lemmas.visits.ReasonParts.{InPart, row_in, command_control, command_bus}
 use Rattle.claims_world.specs.WithinLoad.{is_again, begun_too, paid_more, payments_at, payments_after, payments_next, payments, repeats_at, repeats_after, repeats_next, repeats, paid_by_all, LeavesTheRest}
 use Rattle.law_microframes.proofs.lemmas.time.ChainFalls.{chain_fetches_begin}
@@ -116,11 +117,11 @@ LeavesBy fixed ps again c b = c.part ≡ Periodic → c.frame.left + (paid_by_al
 begun_sum : (b allowed : Bool) (c : Content) → c.control.part ≡ Over → (begun_at b allowed c).control.part ≡ Periodic
     → (begun_at b allowed c).control.frame.left + (paid_by_all [] + 0) ≡ time_of allowed
 begun_sum true allowed c over on = let e : time_of allowed + (0 + 0) ≡ time_of allowed = omega arith in e
-begun_sum false allowed c over on = absurd (over_no (sym over ∙ on))
+begun_sum false allowed c over on = absurd (over_not_periodic (sym over ∙ on))
 
 begun_one : (b allowed : Bool) (c : Content) → c.control.part ≡ Over → HasVisit (begun_at b allowed c).control []
 begun_one true allowed c over = λ on. tt
-begun_one false allowed c over = λ on. absurd (over_no (sym over ∙ on))
+begun_one false allowed c over = λ on. absurd (over_not_periodic (sym over ∙ on))
 
 module _ (fixed : Fixed) (w : World) (ps : List (ℕ × ℕ)) (again : ℕ) (one : HasVisit w.control ps) where
   abbrev TurnedBy : ControllerRow → Type 0
@@ -144,7 +145,7 @@ module _ (fixed : Fixed) (w : World) (ps : List (ℕ × ℕ)) (again : ℕ) (one
       (hc_step (frame_step (controller_parts w))) ps (one at) has.walked
   one_by rows.Enter at has = λ on. absurd (async_no (walk_step (entered (controller_parts w))) on)
   one_by rows.Go at has = λ on. absurd (async_no (walk_step (controller_parts w)) on)
-  one_by rows.End at has = λ on. absurd (over_no on)
+  one_by rows.End at has = λ on. absurd (over_not_periodic on)
 
   controller_one : HasVisit (controller_next fixed w).control (payments_after (controller_row w) (kind_next w) (controller_parts w) ps)
   controller_one = one_by (controller_row w) (row_in w) (world_has_row fixed w)
@@ -181,7 +182,7 @@ module _ (fixed : Fixed) (w : World) (ps : List (ℕ × ℕ)) (again : ℕ) (one
         ∙ k at ∙ same_time (turned_by fixed rows.Frame (controller_parts w) w.bus).bus.microframe (stays (λ is. cc))
     by_row rows.Enter at has stays told = λ on. absurd (async_no (walk_step (entered (controller_parts w))) on)
     by_row rows.Go at has stays told = λ on. absurd (async_no (walk_step (controller_parts w)) on)
-    by_row rows.End at has stays told = λ on. absurd (over_no on)
+    by_row rows.End at has stays told = λ on. absurd (over_not_periodic on)
 
     controller_rest : TellsMicroframe fixed w
         → LeavesTheRest fixed (controller_next fixed w) (payments_after (controller_row w) (kind_next w) (controller_parts w) ps)
@@ -211,7 +212,7 @@ leaves_along : (s : Script) → ((k : ℕ) → TellsMicroframe (fixed_of s) (mom
 leaves_along s known k =
     carrying (both payments_next repeats_next) (λ w orders z. TellsMicroframe (fixed_of s) w) (Leaves (fixed_of s)) s ([], 0)
     (keeps_rest (fixed_of s)) known
-    (record { visit = λ on. absurd (over_no on); rest = λ on. absurd (over_no on) }) k
+    (record { visit = λ on. absurd (over_not_periodic on); rest = λ on. absurd (over_not_periodic on) }) k
 
 pub rest_along : (s : Script) → ((k : ℕ) → TellsMicroframe (fixed_of s) (moment s k).world) → (k : ℕ)
     → LeavesTheRest (fixed_of s) (moment s k).world (payments s k) (repeats s k)

@@ -3,6 +3,7 @@ use Rattle.std.proofs.Common.{◌≡◌, ℕ, ◌+◌, ◌-◌, ◌/◌, ◌%◌
 use Rattle.std.specs.Prelude.{if◌then◌else◌}
 use Rattle.std.specs.List.{AllByRecursion}
 use Rattle.std.proofs.lemmas.Option.{same_Some}
+use Rattle.law_controller.proofs.Common.{over_not_periodic}
 use Rattle.usb_base.specs.declared.packets.Ask.{Ask}
 use Rattle.usb_base.specs.declared.packets.Dir.{Dir}
 use Rattle.usb_base.specs.declared.packets.EpKind.TheVariants.{Interrupt, Iso}
@@ -62,7 +63,7 @@ use Rattle.law_microframes.specs.time.SitdParts.{IsInParts, IsSitdOf, IsSitdInHa
 use Rattle.law_microframes.specs.time.SplitCharges.{IsSplitInHand, IsPaidFor, at_high, at_split, at_sitd, TakesWay, added, IsPaidStill, GoesOnPaid, PaysBy}
 use Rattle.law_microframes.specs.time.ChargeLoads.{IsPaidIn}
 use Rattle.law_microframes.specs.visits.Belonging.{placed_of, IsQueueAt}
-use Rattle.law_microframes.proofs.lemmas.visits.VisitWalking.{over_no, async_no}
+use Rattle.law_microframes.proofs.lemmas.visits.VisitWalking.{async_no}
 use Rattle.claims_world.specs.Prices.{cost_of}
 use Rattle.claims_world.specs.WithinLoad.{is_again, begun_too, paid_more, payments_at, payments_after, microframe_in}
 use Rattle.law_microframes.specs.time.Payments.{names_in}
@@ -409,7 +410,8 @@ module _ {W : Type 0} (begins_with : W → ℕ → Bool → W → Type 0) (trans
   by_chain (chains.Queue a q) is periodic free walk part in_frames = fetched a q periodic free is walk in_frames.0
   by_chain (chains.Itd a v) is periodic free walk part in_frames = itd_fetched a v periodic free is walk
   by_chain (chains.Sitd a v) is periodic free walk part in_frames = sitd_fetched a v periodic free is walk
-  by_chain _ is periodic free walk part in_frames = over n.control (λ on. over_no (sym part ∙ on)) (ap (λ (w : FrameWalk). w.index) walk)
+  by_chain _ is periodic free walk part in_frames =
+      over n.control (λ on. over_not_periodic (sym part ∙ on)) (ap (λ (w : FrameWalk). w.index) walk)
 
   -- ---- an event with a copy in hand
 
@@ -542,7 +544,7 @@ module _ {W : Type 0} (begins_with : W → ℕ → Bool → W → Type 0) (trans
 
   begun : (reached allowed : Bool) → c.control.part ≡ Over → ArePaid old d n.registers.frame_index (begun_at reached allowed (record c { registers = after_begin c.registers })).control []
   begun true allowed is_over = record { entries = tt; hand = λ on. tt }
-  begun false allowed is_over = record { entries = tt; hand = λ on. absurd (over_no (sym is_over ∙ on)) }
+  begun false allowed is_over = record { entries = tt; hand = λ on. absurd (over_not_periodic (sym is_over ∙ on)) }
 
   -- ---- each row
 
@@ -565,4 +567,4 @@ module _ {W : Type 0} (begins_with : W → ℕ → Bool → W → Type 0) (trans
       at_index ps (ring_index transacts (walk_place (entered c)) wire (walk_place n) after_wire row.walked) (walked (entered c) refl row)
   paid_next rows.Go begins_over frame_there in_frames row = at_index ps (ring_index transacts (walk_place c) wire (walk_place n) after_wire row.walked) (walked c refl row)
   paid_next rows.End begins_over frame_there in_frames row =
-      at_index ps (ap (λ (x : Content). x.registers.frame_index) row.0) (subst (λ (x : Content). Paid x.control ps) (sym row.0) (over (ended c.control) over_no refl))
+      at_index ps (ap (λ (x : Content). x.registers.frame_index) row.0) (subst (λ (x : Content). Paid x.control ps) (sym row.0) (over (ended c.control) over_not_periodic refl))

@@ -1,6 +1,8 @@
 -- An event with a copy in hand takes of the time just the price of its transaction, or nothing where it makes none (EHCI 1.0, 4.7, 4.10.3 and 4.12; USB 2.0, 5.11.3).
 use Rattle.std.proofs.Common.{◌≡◌, ℕ, ◌+◌, ◌-◌, ◌≤◌, ◌⊎◌, inl, inr, Bool, true, false, List, Option, Some, None, refl, ap, sym, subst, ◌∙◌, arith, eqb-true}
 use Rattle.std.specs.Prelude.{nat_lt, ◌==◌, if◌then◌else◌}
+use Rattle.law_budgets.proofs.Common.{visit_left}
+use Rattle.law_common.proofs.Numbers.{not_less}
 use Rattle.usb_base.specs.Cost.{bus_time}
 use Rattle.usb_base.specs.declared.packets.Ask.{Ask}
 use Rattle.usb_base.specs.declared.packets.Dir.TheVariants as ways
@@ -17,7 +19,7 @@ use Rattle.hc_copy.specs.Transacting.{call_in}
 use Rattle.hc_copy.specs.WriteBack.{overlay_after}
 use Rattle.hc_copy.specs.Buffer.{sending}
 use Rattle.hc_interrupt.specs.Turns.{microframe_of, planned, is_last_of}
-use Rattle.hc_interrupt.specs.Copies.{goes_on, again_copy}
+use Rattle.hc_interrupt.specs.Copies.{goes_on}
 use Rattle.hc_iso.specs.declared.held.HeldItd.{HeldItd}
 use Rattle.hc_iso.specs.declared.held.HeldSitd.{HeldSitd}
 use Rattle.hc_iso.specs.declared.held.IsoEnd.{IsoEnd}
@@ -36,8 +38,7 @@ use Rattle.periodic_walk.specs.declared.sitd.SitdRow.TheVariants as sitds
 use Rattle.periodic_walk.specs.declared.state.HeldQueue.{HeldQueue}
 use Rattle.periodic_walk.specs.declared.state.Hand.{Hand}
 use Rattle.periodic_walk.specs.declared.state.Hand.TheVariants as hands
-use Rattle.periodic_walk.specs.Walk.{Walk}
-use Rattle.periodic_walk.specs.Place.{FramePlace, Effect, reading, holding, faulted, passed, sent, HasEffect}
+use Rattle.periodic_walk.specs.Place.{FramePlace, Effect, reading, holding, faulted, sent, HasEffect}
 use Rattle.periodic_walk.specs.Place.Effect.{Leaves, Asks}
 use Rattle.periodic_walk.specs.Queue.{queue_row, queue_read, queue_step, queue_effect, queue_left_by, with_queue, wrote_at, writing, missed, miss_outcome}
 use Rattle.periodic_walk.specs.Itd.{timed_row, ended_row, itd_step, itd_effect, itd_left_by}
@@ -47,7 +48,6 @@ use Rattle.periodic_walk.specs.Sitd as of_sitd
 use Rattle.periodic_walk.specs.Rows.{step_at, step_of, effect_at, effect_of, Leads}
 use Rattle.hc_core.specs.Controller.{hc_step}
 use Rattle.claims_world.specs.Prices.{queue_bytes, itd_bytes, sitd_bytes, price_of, cost_of}
-use Rattle.law_microframes.proofs.lemmas.time.ChainPrices.{in_time}
 use Rattle.law_microframes.proofs.lemmas.time.ChainQueues.{IsReady, Fits, settled_fits}
 
 -- ---- the prices
@@ -120,11 +120,6 @@ took_takes : (p written : FramePlace) (h : HeldQueue) (new : Qh) (b : Bool) → 
 took_takes p written h new true same = nothing p.walk.left p.walk.left refl
 took_takes p written h new false same = nothing written.walk.left p.walk.left same
 
-visit_left : (h : HeldQueue) (outcome : Outcome) (w : Walk) (b : Bool)
-    → (if b then holding (hands.Queue (record h { copy = again_copy outcome h.copy })) w else passed h.copy.queue_head.link w).left ≡ w.left
-visit_left h outcome w true = refl
-visit_left h outcome w false = refl
-
 wrote_takes : (p there : FramePlace) (all : Bool) (h k : HeldQueue) (outcome : Outcome) → there.walk.left ≡ p.walk.left
     → Takes (cost_of (hc_step (if all then steps.WriteBack else steps.Fault)) (hands.Queue h)) p (Leaves (wrote_at all k outcome there))
 wrote_takes p there true h k outcome same =
@@ -183,7 +178,7 @@ itd_timed_takes p h true is = nothing p.walk.left p.walk.left refl
 itd_timed_takes p h false is =
     itd_sent_takes p (record p { memory = (itd_sending (itd_transaction h) h p.memory).memory }) h
     (itd_sending (itd_transaction h) h p.memory).all (itd_transaction h).ask
-    (itd_sending (itd_transaction h) h p.memory).bytes refl (in_time p.walk.left (itd_transaction h).price.0 is)
+    (itd_sending (itd_transaction h) h p.memory).bytes refl (not_less p.walk.left (itd_transaction h).price.0 is)
 
 itd_open_takes : (p : FramePlace) (h : HeldItd) (works : Bool)
     → Takes (cost_of (hc_step (itd_step (if works then timed_row p.walk.left (itd_transaction h) else itds.Skip) h p)) (hands.Itd h)) p
@@ -221,7 +216,7 @@ sitd_timed_takes p h false is =
     sitd_sent_takes p (record p { memory = (sitd_sending (sitd_transaction h.sitd) h.sitd p.memory).memory }) h
     (sitd_sending (sitd_transaction h.sitd) h.sitd p.memory).all
     (sitd_transaction h.sitd).ask (sitd_sending (sitd_transaction h.sitd) h.sitd p.memory).bytes refl
-    (in_time p.walk.left (sitd_transaction h.sitd).price.0 is)
+    (not_less p.walk.left (sitd_transaction h.sitd).price.0 is)
 
 sitd_wrote_takes : (p there : FramePlace) (all : Bool) (h k : HeldSitd) (outcome : SplitOutcome) → there.walk.left ≡ p.walk.left
     → Takes (cost_of (hc_step (if all then steps.WriteBack else steps.Fault)) (hands.Sitd h)) p

@@ -3,6 +3,7 @@ use Rattle.std.proofs.Common.{◌≡◌, ◌≢◌, ℕ, suc, Bool, true, false,
 use Rattle.std.specs.Prelude.{◌⊎◌, is_none}
 use Rattle.std.proofs.lemmas.Bool.{cases_eq, true≢false}
 use Rattle.std.proofs.lemmas.Option.{same_Some}
+use Rattle.law_common.proofs.Lists.{set_here, set_there}
 use Rattle.mem_runs.specs.Book.{holding, lend_taken}
 use Rattle.drv_table.specs.declared.content.Endpoint.{Endpoint}
 use Rattle.drv_table.specs.declared.content.Transfer.{Transfer}
@@ -21,7 +22,7 @@ use Rattle.drv_table.specs.Rows.{after_driver_row}
 use Rattle.drv_table.specs.Releases.{after_transfer, after_endpoint, freed_by, cancel_told}
 use Rattle.drv_table.specs.Removals.{after_descriptor, after_placed, after_removed, after_unlink}
 use Rattle.law_driver.specs.run_owners.Due.{IsDue}
-use Rattle.law_driver.proofs.lemmas.run_owners.Released.{cancel_same, set_here, set_there}
+use Rattle.law_driver.proofs.lemmas.run_owners.Released.{cancel_same}
 use Rattle.claims_driver.specs.Ring.{IsQueueOf, IsAmong, first, later}
 use Rattle.law_driver.proofs.lemmas.ring_members.Leaving.{GoOn, same_go_on}
 use Rattle.law_driver.proofs.lemmas.ring_members.Harvests.{endpoint_set, told_stays, harvest_stays}

@@ -2,6 +2,7 @@
 use Rattle.std.proofs.Common.{◌≡◌, ℕ, Bool, true, false, refl, ap, sym, subst, ◌∙◌}
 use Rattle.std.specs.Prelude.{◌&&◌, nat_le, [], length, if◌then◌else◌}
 use Rattle.std.proofs.lemmas.Bool.{false≢true}
+use Rattle.law_common.proofs.Booleans.{and_false}
 use Rattle.usb_base.specs.declared.packets.Ask.{Ask}
 use Rattle.usb_base.specs.declared.packets.EpKind.{EpKind}
 use Rattle.usb_base.specs.declared.packets.EpKind.TheVariants.{Interrupt}
@@ -78,10 +79,6 @@ translators_say_words inward e k =
 
 -- ---- the host
 
-and_none : (b : Bool) → (b && false) ≡ false
-and_none true = refl
-and_none false = refl
-
 -- the token of an IN, and of an OUT of an interrupt endpoint
 abbrev asked_token : Bool → AskToken
 asked_token true = tokens.In
@@ -94,10 +91,10 @@ Again inward last sent heard host =
 
 hand_ends : (inward last : Bool) (sent : ℕ) (pid : Pid) (host : HostSide) → is_split_word inward (Hand pid) ≡ true
     → Again inward last sent (heard_hand pid) host ≡ false
-hand_ends inward true sent pids.Nyet host word = and_none (failed (error_outcome host))
+hand_ends inward true sent pids.Nyet host word = and_false (failed (error_outcome host))
 hand_ends inward false sent pids.Nyet host word = refl
-hand_ends inward true sent pids.Err host word = and_none (failed (error_outcome host))
-hand_ends inward false sent pids.Err host word = and_none (failed (error_outcome host))
+hand_ends inward true sent pids.Err host word = and_false (failed (error_outcome host))
+hand_ends inward false sent pids.Err host word = and_false (failed (error_outcome host))
 hand_ends true true sent pids.Nak host word = refl
 hand_ends true false sent pids.Nak host word = refl
 hand_ends false true sent pids.Nak host word = refl

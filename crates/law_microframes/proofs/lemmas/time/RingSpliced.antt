@@ -2,6 +2,8 @@
 use Rattle.std.proofs.Common.{◌≡◌, ◌≢◌, ℕ, suc, ◌+◌, ◌*◌, Bool, true, false, take, drop, slice_get, Option, Some, ap, refl, sym, subst, ◌∙◌, ⊎_elim}
 use Rattle.std.proofs.lemmas.Bool.{false≢true, true≢false}
 use Rattle.std.proofs.lemmas.Option.{same_Some}
+use Rattle.law_driver.proofs.Common.{get_drop, stored_as}
+use Rattle.law_driver_ring.proofs.Common.{head_link}
 use Rattle.word_mem.specs.Memory.{Mem}
 use Rattle.link_words.specs.Links.{link_read}
 use Rattle.mem_runs.specs.Book.{holding, store, slot_of}
@@ -26,7 +28,7 @@ use Rattle.law_driver.specs.ring_members.Words.{IsOpening, IsUnlinking}
 use Rattle.law_driver.specs.in_place.InPlace.{IsSound}
 use Rattle.law_driver.specs.ring_members.Links.{newest_from}
 use Rattle.law_driver.proofs.lemmas.ring_members.Leaving.{link_at}
-use Rattle.law_driver.proofs.lemmas.ring_members.Links.{LeadsTo, oldest_is, dropped}
+use Rattle.law_driver.proofs.lemmas.ring_members.Links.{LeadsTo, oldest_is}
 use Rattle.law_driver.proofs.lemmas.ring_members.Placed.{in_ring_alive, stored_here, stored_there, head_run_there, queue_run}
 use Rattle.law_driver.proofs.lemmas.ring_members.Events.{stands_as, open_store, unlink_store, chain_never, iso_never, unchain_never}
 use Rattle.claims_driver.specs.Walk.{IsReached}
@@ -39,7 +41,7 @@ use Rattle.law_microframes.specs.time.RingSplices.{IsJoined, OpenStoreJoins, IsP
 use Rattle.law_microframes.proofs.lemmas.time.ReachedBefore.{row_back}
 use Rattle.law_microframes.proofs.lemmas.time.RingWords.{publish_words, link_words, is_store, other_words}
 use Rattle.law_microframes.proofs.lemmas.time.LinksFalling.{next_is, next_by, reached_on, same_links}
-use Rattle.law_microframes.proofs.lemmas.time.RingSteps.{same_word, head_leads, stored_as, before_leads}
+use Rattle.law_microframes.proofs.lemmas.time.RingSteps.{same_word, before_leads}
 
 -- ---- the store of a command
 
@@ -89,7 +91,7 @@ module _ (s : Standing) (w : World) (k : IsMixedAt s w) where
       subst (λ (m : Mem). IsJoined w.memory m (32 * queue)) (sym (memory_is b at v row))
       (stored_as (λ (m : Mem). IsJoined w.memory m (32 * queue)) d.book w.memory b head_block at (32 * head_block) v (queue_head_link queue) t.1.0.0 t.1.0.1 t.1.1
       (record {
-        led = same_word w.memory queue head_block (o.link ∙ sym (head_leads (link_in w.memory) head_block o.older o.ring));
+        led = same_word w.memory queue head_block (o.link ∙ sym (head_link (link_in w.memory) head_block o.older o.ring));
         leads = stored head_block (queue_head_link queue) queue (head_run_there d sound.owners) refl;
         others = λ c differs. stays_there head_block (queue_head_link queue) c differs;
       }))
@@ -98,7 +100,7 @@ module _ (s : Standing) (w : World) (k : IsMixedAt s w) where
   run_before e =
       ⊎_elim (λ (h : oldest_of (drop (suc e) d.endpoints) ≡ head_block). subst (λ (i : ℕ). HasRun (slot_of d.book.slots i)) (sym h) (head_run_there d sound.owners))
       (λ (l : LeadsTo (drop (suc e) d.endpoints) (oldest_of (drop (suc e) d.endpoints))).
-      let at : slice_get d.endpoints (suc e + l.number) ≡ Some l.endpoint = sym (dropped d.endpoints (suc e) l.number) ∙ l.here in
+      let at : slice_get d.endpoints (suc e + l.number) ≡ Some l.endpoint = sym (get_drop d.endpoints (suc e) l.number) ∙ l.here in
       subst (λ (i : ℕ). HasRun (slot_of d.book.slots i)) l.queue
       (queue_run d (suc e + l.number) l.endpoint sound.owners at (in_ring_alive d (suc e + l.number) l.endpoint sound.owners.orderly at l.linked)))
       (oldest_is (drop (suc e) d.endpoints))

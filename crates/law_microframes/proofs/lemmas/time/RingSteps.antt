@@ -1,11 +1,13 @@
 -- The two stores of the ring: where links led down they do so again. The one links a queue head, which led to where the head of the ring did; the other leads past a queue head
 -- to where it leads.
-use Rattle.std.proofs.Common.{◌≡◌, ◌≢◌, ℕ, zero, suc, ◌*◌, ◌<◌, Bool, true, false, if◌then◌else◌, List, [], ◌∷◌, length, take, drop, slice_get, Some, ap, sym, subst, ◌∙◌, ⊎_elim, refl, arith}
+use Rattle.std.proofs.Common.{◌≡◌, ◌≢◌, ℕ, zero, suc, ◌*◌, ◌<◌, Bool, true, if◌then◌else◌, List, [], ◌∷◌, length, take, drop, slice_get, Some, ap, sym, subst, ◌∙◌, ⊎_elim, refl, arith}
 use Rattle.std.proofs.lemmas.Bool.{cases_eq}
 use Rattle.std.proofs.lemmas.Option.{same_Some}
+use Rattle.law_world.proofs.Common.{oldest_leads}
+use Rattle.law_driver.proofs.Common.{stored_as, newest_get}
 use Rattle.word_mem.specs.Memory.{Mem}
 use Rattle.link_words.specs.Links.{link_read}
-use Rattle.mem_runs.specs.Book.{Book, Holding, holding, store}
+use Rattle.mem_runs.specs.Book.{Holding, holding, store}
 use Rattle.drv_table.specs.declared.content.Endpoint.{Endpoint}
 use Rattle.drv_table.specs.declared.content.Command.TheVariants as unfinished
 use Rattle.drv_table.specs.declared.rows.DriverRow.TheVariants as rows
@@ -15,12 +17,11 @@ use Rattle.drv_table.specs.Accepting.{newest_of, oldest_of}
 use Rattle.drv_table.specs.Parts.{Parts}
 use Rattle.drv_table.specs.Commands.{events_of, advance}
 use Rattle.claims_driver.specs.Ring.{link_in}
-use Rattle.law_driver.specs.ring_members.Words.{step_to, LeadsFrom, AreLinked, IsOpening, IsUnlinking}
+use Rattle.law_driver.specs.ring_members.Words.{step_to, AreLinked, IsOpening, IsUnlinking}
 use Rattle.law_driver.specs.in_place.InPlace.{IsSound}
-use Rattle.law_driver.specs.ring_members.Links.{newest_from}
 use Rattle.law_driver.proofs.lemmas.ring_members.Leaving.{link_at}
 use Rattle.law_driver.proofs.lemmas.ring_members.Placed.{in_ring_alive, stored_here, stored_there, queue_off_head}
-use Rattle.law_driver.proofs.lemmas.ring_members.Events.{stands_as, open_store, unlink_store, newest_get}
+use Rattle.law_driver.proofs.lemmas.ring_members.Events.{stands_as, open_store, unlink_store}
 use Rattle.claims_driver.specs.Walk.{IsReached, at_member}
 use Rattle.law_queues.specs.reached_rings.Reaching.{is_reached, ReachedAt}
 use Rattle.law_queues.proofs.lemmas.reached_rings.Computing.{reached_is_reached}
@@ -35,22 +36,6 @@ use Rattle.law_microframes.proofs.lemmas.time.LinksFalling.{next_is, next_by, re
 pub same_word : (m : Mem) (a b : ℕ) → link_in m a ≡ link_in m b → next_of m (32 * a) ≡ next_of m (32 * b)
 same_word m a b same = next_by m (32 * a) a refl ∙ ap (λ (v : ℕ). name_of (link_read v)) same ∙ sym (next_by m (32 * b) b refl)
 
-pub head_leads : (word : ℕ → ℕ) (b : ℕ) (xs : List Endpoint) → AreLinked word b xs → word head_block ≡ queue_head_link (newest_from b xs)
-head_leads word b [] linked = linked
-head_leads word b (x ∷ xs) linked = head_leads word (step_to b x) xs linked.1
-
-leads_by : (word : ℕ → ℕ) (x : Endpoint) (b : ℕ) → x.linked ≡ true → LeadsFrom word x.linked x.queue b → word x.queue ≡ queue_head_link b
-leads_by word x b on leads = subst (λ (t : Bool). LeadsFrom word t x.queue b) on leads
-
--- the oldest of the ring leads to where the ring goes on
-oldest_leads : (word : ℕ → ℕ) (b : ℕ) (xs : List Endpoint) → AreLinked word b xs → word (oldest_of xs) ≡ queue_head_link b
-oldest_leads word b [] linked = linked
-oldest_leads word b (x ∷ xs) linked = by (λ rest. oldest_leads word b xs rest) x.linked refl
-  where
-    by : (AreLinked word b xs → word (oldest_of xs) ≡ queue_head_link b) → (t : Bool) → x.linked ≡ t → word (if t then x.queue else oldest_of xs) ≡ queue_head_link b
-    by more true on = leads_by word x b on linked.0
-    by more false off = more (subst (λ (c : ℕ). AreLinked word c xs) (ap (λ (t : Bool). if t then x.queue else b) off) linked.1)
-
 -- so the one before an endpoint leads to it
 pub before_leads : (word : ℕ → ℕ) (b : ℕ) (xs : List Endpoint) (e : ℕ) (x : Endpoint) → slice_get xs e ≡ Some x → x.linked ≡ true → AreLinked word b xs
     → word (oldest_of (drop (suc e) xs)) ≡ queue_head_link x.queue
@@ -62,10 +47,6 @@ before_leads word b (y ∷ xs) zero x here on linked =
 before_leads word b (y ∷ xs) (suc e) x here on linked = before_leads word (step_to b y) xs e x here on linked.1
 
 -- ---- a store of a command
-
-pub stored_as : (P : Mem → Type 0) (k : Book) (m : Mem) (b c at to v w : ℕ) → b ≡ c → at ≡ to → v ≡ w → P (store k m c to w) → P (store k m b at v)
-stored_as P k m b c at to v w one two three p =
-    subst (λ x. P (store k m x at v)) (sym one) (subst (λ x. P (store k m c x v)) (sym two) (subst (λ x. P (store k m c to x)) (sym three) p))
 
 module _ (p : Parts) (rings : Bool) (sound : IsSound p.memory p.driver) (height : ℕ → ℕ) (old : LinksFall p.memory p.driver rings height) where
   abbrev d : DriverContent

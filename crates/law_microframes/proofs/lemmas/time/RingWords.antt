@@ -4,6 +4,7 @@ use Rattle.std.specs.Prelude.{◌⊎◌}
 use Rattle.std.specs.List.{AllByRecursion}
 use Rattle.std.proofs.lemmas.Bool.{false≢true}
 use Rattle.std.proofs.lemmas.List.{get_or-set_other}
+use Rattle.law_driver.proofs.Common.{ring_queue, all_got, among_later}
 use Rattle.word_mem.specs.Memory.{Mem, IsShaped, with_word}
 use Rattle.mem_runs.specs.Book.{Book, Holding, holding, Stands, slot_of, can_store, store, lend_taken}
 use Rattle.drv_table.specs.declared.content.Endpoint.{Endpoint}
@@ -33,7 +34,6 @@ use Rattle.claims_driver.specs.Owners.{Owner, Head, QueueHead, Element, Describe
 use Rattle.claims_driver.specs.Leaving.{IsOrderly, HasOwners}
 use Rattle.law_driver.specs.run_owners.Due.{IsDue, IsLinkOf}
 use Rattle.law_driver.proofs.lemmas.run_owners.Runs.{placed_run}
-use Rattle.law_driver.proofs.lemmas.run_owners.Rows.{not_iso}
 use Rattle.law_driver.proofs.lemmas.run_owners.Orders.{times_both}
 use Rattle.claims_driver.specs.Ring.{link_in, IsQueueOf, IsAmong}
 use Rattle.law_driver.specs.ring_members.Words.{IsPublishing, IsDescribing, IsMending, IsRing}
@@ -43,9 +43,9 @@ use Rattle.law_driver.proofs.lemmas.ring_members.Lists.{store_is_apart}
 use Rattle.law_driver.proofs.lemmas.ring_members.Stores.{AreApart, slots_apart, store_elsewhere}
 use Rattle.law_driver.proofs.lemmas.ring_members.Freed.{LeavesRest, lent_words, rest_qtds, rest_endpoint, rest_descriptor, rest_placed}
 use Rattle.law_driver.proofs.lemmas.ring_members.Placed.{has_word, has_queue, left_ring, linked_alive, queue_placed, queue_run, head_run_there}
-use Rattle.law_driver.proofs.lemmas.ring_members.Events.{KeepsFirsts, KeepsRing, stored_apart, stands_as, all_got, dropped_get, publish_store, block_of, first_mend, begun_members}
+use Rattle.law_driver.proofs.lemmas.ring_members.Events.{KeepsFirsts, KeepsRing, stored_apart, stands_as, dropped_get, publish_store, block_of, first_mend, begun_members}
 use Rattle.claims_driver.specs.Walk.{IsReached, at_head, at_member, at_waiting, at_rung, IsBellIn}
-use Rattle.law_driver_ring.proofs.lemmas.walk_members.Leading.{among_later, among_front}
+use Rattle.law_driver_ring.proofs.lemmas.walk_members.Leading.{among_front}
 use Rattle.law_microframes.proofs.lemmas.time.ReachedBefore.{row_back}
 
 -- ---- whom the walk may reach is a queue head that wasn't given back
@@ -71,7 +71,7 @@ reached_alive d rings b order (at_waiting e at among) = inr (left_there d e b or
 reached_alive d rings b order (at_rung e at among on) = inr (left_there d e b order at (among_front e d.rung d.waiting among))
 
 pub alive_run : (d : DriverContent) (b : ℕ) → HasOwners d → (a : IsAlive d b) → HasRun (slot_of d.book.slots a.endpoint.queue)
-alive_run d b has a = queue_run d a.number a.endpoint has a.here (has_queue a.endpoint (not_iso a.endpoint.desc.kind a.ring) a.alive)
+alive_run d b has a = queue_run d a.number a.endpoint has a.here (has_queue a.endpoint (ring_queue a.endpoint.desc.kind a.ring) a.alive)
 
 pub reached_run : (d : DriverContent) (rings : Bool) (b : ℕ) → HasOwners d → IsReached d rings b → HasRun (slot_of d.book.slots b)
 reached_run d rings b has reached =
@@ -107,7 +107,7 @@ element_apart d rings q b t has owned reached same =
     ⊎_elim (λ (h : q ≡ head_block). no_head t (sym has.owned.each.head.owned ∙ ap has.owner (sym h ∙ same) ∙ owned))
     (λ (a : IsAlive d q).
     no_queue a.number t
-    (sym (queue_placed d a.number a.endpoint has a.here (has_queue a.endpoint (not_iso a.endpoint.desc.kind a.ring) a.alive)).owned ∙ ap has.owner (a.queue ∙ same) ∙ owned))
+    (sym (queue_placed d a.number a.endpoint has a.here (has_queue a.endpoint (ring_queue a.endpoint.desc.kind a.ring) a.alive)).owned ∙ ap has.owner (a.queue ∙ same) ∙ owned))
     (reached_alive d rings q has.orderly reached)
 
 pub publish_words : (p : Parts) (rings : Bool) (f : ℕ) (words : List ℕ) (b at v q : ℕ) → p.driver.command ≡ Some (unfinished.Publish f words)
@@ -187,7 +187,7 @@ linked_by_apart p (Some (unfinished.Iso e t count)) is stands has old =
     let s : IsDescribing (link_in p.memory) d.endpoints d.transfers t count = stands_as (link_in p.memory) d (unfinished.Iso e t count) is old in
     let ts = take count (drop t d.transfers) in (
       (λ f x here ring alive.
-          let q = queue_placed d f x has here (has_queue x (not_iso x.desc.kind ring) alive) in
+          let q = queue_placed d f x has here (has_queue x (ring_queue x.desc.kind ring) alive) in
           described_elsewhere d.book d.periodic.list d.periodic.notes ts p.memory x.queue (slots_apart h stands) (has_word h x.queue stands (placed_run x.queue (QueueHead f) q))
           (off_described d (link_in p.memory) t count x.queue (QueueHead f) has s q.owned (queue_described f))),
       described_elsewhere d.book d.periodic.list d.periodic.notes ts p.memory head_block (slots_apart h stands) (has_word h head_block stands (head_run_there d has))

@@ -1,5 +1,6 @@
 -- Each event of the controller goes on with the round of the walk of the ring.
 use Rattle.std.proofs.Common.{◌≡◌, ◌≢◌, ℕ, Bool, true, false, ◌&&◌, not, if◌then◌else◌, List, None, ap, refl, sym, subst, ◌∙◌}
+use Rattle.law_controller.proofs.Common.{periodic_not_asynchronous, over_not_asynchronous}
 use Rattle.usb_base.specs.declared.packets.Ask.{Ask}
 use Rattle.usb_base.specs.declared.packets.Reply.{Reply}
 use Rattle.word_mem.specs.Memory.{Mem, reaches}
@@ -54,19 +55,13 @@ not_enter e = cc
 idle_no_enter : rows.Idle ≡ rows.Enter → ⊥
 idle_no_enter e = cc
 
-over_no : Over ≡ Asynchronous → ⊥
-over_no e = cc
-
-periodic_no : Periodic ≡ Asynchronous → ⊥
-periodic_no e = cc
-
 ring_no_enter : (b : Bool) → ring_row b ≡ rows.Enter → ⊥
 ring_no_enter true e = cc
 ring_no_enter false e = cc
 
 part_enter : (r : RegisterFile) (frame : FrameWalk) (part : MicroframePart) → part_row r frame part ≡ rows.Enter → part ≢ Asynchronous
-part_enter r frame Over is on = over_no on
-part_enter r frame Periodic is on = periodic_no on
+part_enter r frame Over is on = over_not_asynchronous on
+part_enter r frame Periodic is on = periodic_not_asynchronous on
 part_enter r frame Asynchronous is on = absurd (ring_no_enter r.async_enable is)
 
 enters : (runs : Bool) (r : RegisterFile) (frame : FrameWalk) (part : MicroframePart) → (if runs then part_row r frame part else rows.Idle) ≡ rows.Enter → part ≢ Asynchronous

@@ -1,8 +1,10 @@
 -- No event of the controller writes a link of the ring (EHCI 1.0, 3.6, 4.8 and 4.10): of a queue head that it may reach it writes words 3 to 11 alone, and one of which the
 -- open is unfinished it doesn't meet.
-use Rattle.std.proofs.Common.{◌≡◌, ◌≢◌, ℕ, suc, ◌+◌, ◌*◌, ◌==◌, Bool, true, false, ◌||◌, List, [], ◌∷◌, ◌++◌, length, take, Option, Some, None, ap, refl, sym, subst, ◌∙◌, arith}
+use Rattle.std.proofs.Common.{◌≡◌, ◌≢◌, ℕ, suc, ◌+◌, ◌*◌, ◌==◌, Bool, true, false, ◌||◌, List, [], ◌∷◌, ◌++◌, length, Option, Some, None, ap, refl, sym, subst, ◌∙◌, arith}
 use Rattle.std.proofs.lemmas.Bool.{eqb-true, eq-eqb, or_left, or_right, false≢true}
-use Rattle.std.proofs.lemmas.List.{take_at}
+use Rattle.law_microframes.proofs.Common.{same_before}
+use Rattle.law_queues.proofs.Common.{same_queue}
+use Rattle.law_driver.proofs.Common.{among_later}
 use Rattle.word_mem.specs.Memory.{Mem, word_at}
 use Rattle.link_words.specs.Links.{link_read}
 use Rattle.drv_table.specs.declared.content.Command.{Command}
@@ -18,7 +20,7 @@ use Rattle.claims_driver.specs.Ring.{link_in, IsQueueOf, IsAmong}
 use Rattle.law_driver.specs.ring_members.Words.{StandsFor, IsRing}
 use Rattle.law_driver.proofs.lemmas.ring_members.Placed.{left_ring, linked_alive}
 use Rattle.claims_driver.specs.Walk.{IsReached, at_head, at_member, at_waiting, at_rung}
-use Rattle.law_driver_ring.proofs.lemmas.walk_members.Leading.{among_later, among_front}
+use Rattle.law_driver_ring.proofs.lemmas.walk_members.Leading.{among_front}
 use Rattle.law_driver.specs.endpoint_lives.Lives.{is_one_of, may_meet}
 use Rattle.law_driver_ring.specs.fed_queues.Places.{AreMet}
 use Rattle.law_queues.specs.reached_rings.Reaching.{is_reached}
@@ -34,15 +36,9 @@ length_snoc : (xs : List Endpoint) (x : Endpoint) → length (xs ++ x ∷ []) �
 length_snoc [] x = refl
 length_snoc (y ∷ xs) x = ap suc (length_snoc xs x)
 
-snoc_same : (xs ys : List Endpoint) (x y : Endpoint) → xs ++ x ∷ [] ≡ ys ++ y ∷ [] → xs ≡ ys
-snoc_same xs ys x y same =
-    let sizes : suc (length xs) ≡ suc (length ys) = sym (length_snoc xs x) ∙ (ap length same ∙ length_snoc ys y) in
-    let size : length xs ≡ length ys = omega (arith, sizes) in
-    sym (take_at xs (x ∷ []) (length xs) refl) ∙ (ap (take (length xs)) same ∙ (ap (λ n. take n (ys ++ y ∷ [])) size ∙ take_at ys (y ∷ []) (length ys) refl))
-
 opening_same : (word now : ℕ → ℕ) (xs : List Endpoint) (ts : List Transfer) (q : ℕ) → StandsFor word xs ts (Some (unfinished.Open q)) → StandsFor now xs ts (Some (unfinished.Open q)) → now q ≡ word q
 opening_same word now xs ts q old new =
-    let same : new.older ≡ old.older = snoc_same new.older old.older new.new old.new (sym new.all ∙ old.all) in
+    let same : new.older ≡ old.older = same_before new.older old.older new.new old.new (sym new.all ∙ old.all) in
     new.link ∙ (ap (λ ys. queue_head_link (newest_of ys)) same ∙ sym old.link)
 
 -- ---- every other one is met
@@ -76,9 +72,6 @@ first_left m new n same =
 no_open : (b : ℕ) → None ≡ Some (unfinished.Open b) → ⊥
 no_open b e = cc
 
-opens_same : (q b : ℕ) → Some (unfinished.Open q) ≡ Some (unfinished.Open b) → q ≡ b
-opens_same q b e = cc
-
 module _ (m new : Mem) (d : DriverContent) (member : ℕ → Bool) (parts : StructureSets) (met : AreMet d member) (orderly : IsOrderly d)
     (members : (n : ℕ) → member n ≡ true → IsMember member n (parts n)) (leaves : LeavesStructures parts m new) (old : IsRing (link_in m) d) (ring : IsRing (link_in new) d) where
   told : (rings : Bool) (b : ℕ) → IsReached d rings b → d.command ≢ Some (unfinished.Open b) → link_in new b ≡ link_in m b
@@ -91,7 +84,7 @@ module _ (m new : Mem) (d : DriverContent) (member : ℕ → Bool) (parts : Stru
       subst (λ (n : ℕ). link_in new n ≡ link_in m n) (eqb-true q b same)
       (opening_same (link_in m) (link_in new) d.endpoints d.transfers q (subst (StandsFor (link_in m) d.endpoints d.transfers) is old.ring)
       (subst (StandsFor (link_in new) d.endpoints d.transfers) is ring.ring))
-  opened rings b q reached is false other = told rings b reached (λ there. false≢true (sym other ∙ eq-eqb q b (opens_same q b (sym is ∙ there))))
+  opened rings b q reached is false other = told rings b reached (λ there. false≢true (sym other ∙ eq-eqb q b (same_queue q b (sym is ∙ there))))
 
   by_command : (rings : Bool) (b : ℕ) → IsReached d rings b → (o : Option Command) → d.command ≡ o → link_in new b ≡ link_in m b
   by_command rings b reached None is = told rings b reached (λ there. no_open b (sym is ∙ there))

@@ -1,8 +1,9 @@
 -- What was visited in a round is there once.
 use Rattle.std.proofs.Common.{ℕ, List}
+use Rattle.law_microframes.proofs.Common.{none_higher}
 use Rattle.bus_world.specs.World.{World}
 use Rattle.law_microframes.specs.time.Rounds.{RoundsGoOn, IsRounding}
-use Rattle.law_microframes.proofs.lemmas.time.RoundLists.{none_higher, falling_once}
+use Rattle.law_microframes.proofs.lemmas.time.RoundLists.{falling_once}
 use Rattle.law_microframes.specs.time.RoundLaws.{RoundsApart}
 
 pub rounds_apart : (w : World) (vs : List ℕ) → IsRounding w vs → RoundsApart w vs

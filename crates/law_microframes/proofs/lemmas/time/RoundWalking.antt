@@ -4,6 +4,10 @@ use Rattle.std.specs.Prelude.{◌⊎◌}
 use Rattle.std.specs.List.{AllByRecursion}
 use Rattle.std.proofs.lemmas.Bool.{false≢true, eqb-true, eq-eqb}
 use Rattle.std.proofs.lemmas.Option.{same_Some}
+use Rattle.law_microframes.proofs.Common.{all_higher}
+use Rattle.law_ring.proofs.Common.{same_cursor}
+use Rattle.law_driver_ring.proofs.Common.{head_address}
+use Rattle.law_driver.proofs.Common.{among_later}
 use Rattle.usb_base.specs.declared.packets.Ask.{Ask}
 use Rattle.usb_base.specs.declared.packets.Reply.{Reply}
 use Rattle.word_mem.specs.Memory.{Mem, word_at}
@@ -13,7 +17,7 @@ use Rattle.link_words.specs.declared.kinds.Link.TheVariants as links
 use Rattle.link_words.specs.declared.kinds.QtdLink.TheVariants as qtd_links
 use Rattle.link_words.specs.Links.{link_of, link_read}
 use Rattle.op_registers.specs.RegisterFile.{RegisterFile}
-use Rattle.op_registers.specs.Events.{after_advance, after_reclamation}
+use Rattle.op_registers.specs.Events.{after_reclamation}
 use Rattle.qh_qtd.specs.declared.queue_head.Qh.{Qh}
 use Rattle.qh_qtd.specs.declared.qtd.Qtd.{Qtd}
 use Rattle.toggle_error.specs.declared.host.HostSide.{HostSide}
@@ -29,8 +33,6 @@ use Rattle.hc_copy.specs.Buffer.{sending}
 use Rattle.hc_copy.specs.WriteBack.{overlay_after, raised}
 use Rattle.async_walk.specs.declared.rows.WalkRow.{WalkRow}
 use Rattle.async_walk.specs.declared.rows.WalkRow.TheVariants as rows
-use Rattle.async_walk.specs.declared.state.Cursor.{Cursor}
-use Rattle.async_walk.specs.declared.state.Cursor.TheVariants as cursors
 use Rattle.async_walk.specs.declared.state.ReloadMode.{ReloadMode}
 use Rattle.async_walk.specs.declared.state.ReloadMode.TheVariants.{Reload}
 use Rattle.async_walk.specs.Walk.{Walk, stopped}
@@ -41,14 +43,13 @@ use Rattle.drv_table.specs.Words.{head_block}
 use Rattle.claims_driver.specs.InPlace.{AreFixed}
 use Rattle.claims_driver.specs.Walk.{IsReached, at_head, at_member, at_waiting, at_rung, LeadsOn, IsCopyIn, IsWalkIn}
 use Rattle.law_driver_ring.specs.walk_members.Reached.{AreNoHeads}
-use Rattle.law_driver_ring.proofs.lemmas.walk_members.Leading.{among_later, among_front}
+use Rattle.law_driver_ring.proofs.lemmas.walk_members.Leading.{among_front}
 use Rattle.law_driver_ring.proofs.lemmas.walk_members.Decoding.{read_link, read_head}
 use Rattle.law_queues.specs.reached_rings.Reaching.{is_reached}
 use Rattle.law_queues.proofs.lemmas.reached_rings.Computing.{is_reached_reached}
 use Rattle.law_microframes.specs.visits.Ranks.{name_of, next_of}
 use Rattle.law_microframes.specs.time.Heights.{head_at, LinksFall, AreFalling}
 use Rattle.law_microframes.specs.time.Rounds.{round_read, dropped, round_by, link_from, link_ahead, IsNewest, IsBehind}
-use Rattle.law_microframes.proofs.lemmas.time.RoundLists.{all_higher}
 
 -- ---- the same in hand, and the same cursor
 
@@ -68,10 +69,6 @@ link_from_same None None l m same cursor = cursor
 link_from_same None (Some k) l m same cursor = absurd same
 link_from_same (Some h) None l m same cursor = absurd same
 link_from_same (Some h) (Some k) l m same cursor = ap link_of same.1
-
-same_link : (r s : RegisterFile) (c : Cursor) → s.async_list_address ≡ r.async_list_address → cursor_link s c ≡ cursor_link r c
-same_link r s cursors.Start address = ap links.Qh address
-same_link r s (cursors.At link) address = refl
 
 none_some : {A : Type 0} (x : A) → None ≡ Some x → ⊥
 none_some x e = cc
@@ -184,10 +181,6 @@ raised_same : (q : Qh) (o : Outcome) (r : RegisterFile) → ((raised q o r).door
 unfolding raised
 raised_same q o r = (refl, refl)
 
-head_address : (r : RegisterFile) (b : Bool) → (cond b (after_advance r) r).async_list_address ≡ r.async_list_address
-head_address r true = refl
-head_address r false = refl
-
 -- ---- the round goes on
 
 module _ (d : DriverContent) (height : ℕ → ℕ) where
@@ -208,7 +201,7 @@ module _ (d : DriverContent) (height : ℕ → ℕ) where
   pub stays_behind : (r s : RegisterFile) (w v : Walk) (vs : List ℕ) → s.doorbell ≡ r.doorbell → s.async_list_address ≡ r.async_list_address → v.cursor ≡ w.cursor → SameHand w.held v.held
       → IsBehind d height r w vs → IsBehind d height s v vs
   stays_behind r s w v vs bell address cursor same b =
-      let link : cursor_link s v.cursor ≡ cursor_link r w.cursor = ap (cursor_link s) cursor ∙ same_link r s w.cursor address in
+      let link : cursor_link s v.cursor ≡ cursor_link r w.cursor = ap (cursor_link s) cursor ∙ same_cursor r s w.cursor address in
       record {
         falling = b.falling;
         reached = subst (λ (x : Bool). AllByRecursion (λ n. is_reached d x n ≡ true) vs) (sym bell) b.reached;
@@ -384,7 +377,7 @@ module _ (d : DriverContent) (height : ℕ → ℕ) where
         record {
           start = same.1 ∙ walk.start;
           cursor = subst (λ (x : Bool). LeadsOn d x (cursor_link (started p).registers p.walk.cursor)) (sym same.0)
-              (record { block = walk.cursor.block; is = same_link p.registers (started p).registers p.walk.cursor same.1 ∙ walk.cursor.is; reached = walk.cursor.reached });
+              (record { block = walk.cursor.block; is = same_cursor p.registers (started p).registers p.walk.cursor same.1 ∙ walk.cursor.is; reached = walk.cursor.reached });
           copy = λ h there. subst (λ (x : Bool). IsCopyIn d x h) (sym same.0) (walk.copy h there);
         }
 

@@ -3,6 +3,9 @@
 use Rattle.std.proofs.Common.{◌≡◌, ℕ, zero, suc, ◌+◌, ◌*◌, ◌<◌, ◌≤◌, ◌⊎◌, Bool, true, false, List, length, drop, get_or, slice_get, Some, Result, Ok, Err, option_map, ap, refl, sym, subst, ◌∙◌, ⊎_elim, inl, inr, arith, if◌then◌else◌}
 use Rattle.std.proofs.lemmas.Option.{same_Some}
 use Rattle.std.proofs.lemmas.List.{get_or-drop, length-append, length-drop}
+use Rattle.law_driver.proofs.Common.{drop_old}
+use Rattle.law_common.proofs.Numbers.{same_blocks}
+use Rattle.law_microframes.proofs.Common.{idle_by}
 use Rattle.usb_base.specs.declared.commands.Cmd.{Cmd}
 use Rattle.usb_base.specs.declared.commands.Cmd.TheVariants as commands
 use Rattle.usb_base.specs.declared.endpoints.EpDesc.{EpDesc}
@@ -44,8 +47,7 @@ use Rattle.law_frames.specs.Frame.{IsCopiedSitd, IsInFrame}
 use Rattle.law_frames.specs.Met.{ASitd}
 use Rattle.law_descriptors.specs.Both.{both}
 use Rattle.law_descriptors.specs.Written.{HasFields, words_in as words_of_descriptor}
-use Rattle.law_descriptors.proofs.Accepted.{drop_old, made, all_transfers}
-use Rattle.law_descriptors.proofs.Returning.{same_blocks}
+use Rattle.law_descriptors.proofs.Accepted.{made, all_transfers}
 use Rattle.law_descriptors.specs.Meeting.{met}
 use Rattle.law_world.specs.memory.framed_memory.Isochronous.{AwaitsLend}
 use Rattle.law_world.proofs.lemmas.memory.lemmas.framed_memory.TakenOn.{commands_keep_awaiting}
@@ -55,7 +57,7 @@ use Rattle.law_microframes.specs.visits.Belonging.{IsDescriptorAt, IsHarvestedAt
 use Rattle.law_microframes.proofs.lemmas.visits.BelongDescriptors.{descriptor_belongs}
 use Rattle.law_microframes.proofs.lemmas.visits.BelongIso.{IsIsoAccepted, IsIsoOf, is_iso_of, IsLater, made_is, IsByRuns, Noted, transfer_there, note_was, noted, by_runs}
 use Rattle.law_world.proofs.lemmas.memory.LeavesLent.{leaves_lent}
-use Rattle.law_microframes.proofs.lemmas.visits.BelongItdCommands.{HasNoDescriptors, idle_by, old_words, IsTold, told_by}
+use Rattle.law_microframes.proofs.lemmas.visits.BelongItdCommands.{HasNoDescriptors, old_words, IsTold, told_by}
 use Rattle.law_microframes.proofs.lemmas.visits.BelongSeen.{Seen, IsSeenIn, seen_there}
 use Rattle.law_microframes.specs.time.SitdFields.{sitd_name, IsSitdAs, HaveSitdFields, SplitTransfer, SitdsStand}
 use Rattle.law_microframes.proofs.lemmas.time.PaymentIsoCommands.{seen_same}

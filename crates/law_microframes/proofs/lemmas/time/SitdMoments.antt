@@ -1,6 +1,7 @@
 -- The siTDs stand at each moment of each script.
 use Rattle.std.proofs.Common.{◌≡◌, ℕ, ◌*◌, ◌≤◌, true, List, [], ◌∷◌, slice_get, Some, Option, Result, Ok, Err, refl, ap, sym, subst, ◌∙◌, arith}
 use Rattle.std.specs.List.{AllByRecursion}
+use Rattle.law_driver.proofs.Common.{iso_frames}
 use Rattle.usb_base.specs.declared.commands.Cmd.{Cmd}
 use Rattle.usb_base.specs.declared.commands.Cmd.TheVariants as commands
 use Rattle.usb_base.specs.declared.endpoints.EpDesc.{EpDesc}
@@ -20,7 +21,6 @@ use Rattle.drv_table.specs.DriverContent.{DriverContent}
 use Rattle.drv_table.specs.Accepting.{Offered}
 use Rattle.drv_table.specs.Offers.{offered, IsOffered}
 use Rattle.drv_table.specs.Rows.{driver_row}
-use Rattle.law_driver.proofs.lemmas.run_owners.Ordered.{iso_periodic}
 use Rattle.law_world.specs.steps.receiving_runs.Runs.{KindOfLine, IsKeptBy}
 use Rattle.law_world.proofs.lemmas.steps.lemmas.receiving_runs.Runs.{holds_throughout}
 use Rattle.law_world.specs.memory.Mixed.{IsMixedWorld}
@@ -98,7 +98,7 @@ module _ (s : Script) where
       → AreSlotted s w.driver → CanHaveSlots w.driver name len
   can_have w cmd name count len seed is can k e v here iso classic named =
       let x = k e v here in
-      let periodic = iso_periodic v.desc.kind iso in
+      let periodic = iso_frames v.desc.kind iso in
       let one = one_transaction v.desc.speed classic in
       let some = x.some periodic in
       let most = x.most periodic in

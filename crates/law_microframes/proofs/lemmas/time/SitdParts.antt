@@ -1,9 +1,10 @@
 -- A transaction of a siTD leaves the parts that are to come within the largest packet, and costs no more than the placement has for its
 -- microframe (EHCI 1.0, 4.12.3; USB 2.0, 5.11.3 and 11.18.4).
 use Rattle.std.proofs.Common.{◌≡◌, ℕ, zero, suc, ◌+◌, ◌-◌, ◌*◌, ◌/◌, ◌%◌, ◌^◌, ◌<◌, ◌≤◌, inl, inr, min, max, Bool, true, false, refl, ap, sym, subst, ◌∙◌, arith, eqb-true}
-use Rattle.std.specs.Prelude.{not, ◌==◌, ◌&&◌, ◌||◌, nat_le, if◌then◌else◌}
+use Rattle.std.specs.Prelude.{not, ◌==◌, ◌&&◌, nat_le, if◌then◌else◌}
 use Rattle.std.proofs.lemmas.Bool.{and_parts, true≢false, cases_lt}
 use Rattle.std.proofs.lemmas.Bool.Decides.{nat_tests}
+use Rattle.law_common.proofs.Booleans.{or_both, off_by}
 use Rattle.usb_base.specs.Cost.{bus_time}
 use Rattle.usb_base.specs.declared.packets.Dir.{Dir}
 use Rattle.usb_base.specs.declared.packets.Dir.TheVariants as ways
@@ -104,10 +105,6 @@ stretch c s u small all =
 
 -- ---- no microframe before this one was missed
 
-neither : (a b : Bool) → (a || b) ≡ false → (a ≡ false) × (b ≡ false)
-neither true b is = absurd (true≢false is)
-neither false b is = (refl, is)
-
 marked_too : (a b : Bool) → (a && not b) ≡ false → a ≡ true → b ≡ true
 marked_too true true is on = refl
 marked_too true false is on = absurd (true≢false is)
@@ -117,7 +114,7 @@ none_lacking : (mask done u i : ℕ) → lacks mask done u ≡ false → i < u �
 unfolding lacks
 none_lacking mask done zero i none less own = absurd (omega (arith, less))
 none_lacking mask done (suc u) i none less own =
-    let parts = neither (lacks mask done u) (has mask u && not (has done u)) none in
+    let parts = or_both (lacks mask done u) (has mask u && not (has done u)) none in
     elim (cases_lt i u) [
       | inl under ↦ none_lacking mask done u i parts.0 under own
       | inr over ↦
@@ -197,10 +194,6 @@ no_lower m (suc (suc (suc (suc (suc (suc (suc zero))))))) (suc (suc (suc (suc (s
     absurd (omega (arith, less))
 no_lower m (suc (suc (suc (suc (suc (suc (suc (suc u)))))))) i small less none on = absurd (omega (arith, small))
 
-not_true : (b : Bool) → (b ≡ true → ⊥) → b ≡ false
-not_true true never = absurd (never refl)
-not_true false never = refl
-
 twice_not : (b : Bool) → not (not b) ≡ true → b ≡ true
 twice_not true is = refl
 twice_not false is = absurd (true≢false (sym is))
@@ -208,7 +201,7 @@ twice_not false is = absurd (true≢false (sym is))
 pub first_here : (m u : ℕ) → u < 8 → is_first m u ≡ true → (has m u ≡ true) × (u ≡ first_in m)
 first_here m u small is =
     let parts = and_parts (has m u) (not (is_after_first m u)) is in
-    (parts.0, first_is m u small (λ k less. not_true (has m k) (no_lower m u k small less (twice_not (m % 2 ^ u == 0) parts.1))) parts.0)
+    (parts.0, first_is m u small (λ k less. off_by (has m k) (no_lower m u k small less (twice_not (m % 2 ^ u == 0) parts.1))) parts.0)
 
 -- ---- what there is to do
 
@@ -384,9 +377,9 @@ some_power (suc u) = let p = some_power u in omega (arith, p)
 -- a microframe that is marked leaves a mark
 some_mark : (c u : ℕ) (b : Bool) → u < 8 → has c u ≡ b → ((if b then c else c + 2 ^ u) == 0) ≡ false
 some_mark c u true small on =
-    not_true (c == 0) (λ none. no_mark u small (subst (λ (n : ℕ). has n u ≡ true) (eqb-true c 0 none) on))
+    off_by (c == 0) (λ none. no_mark u small (subst (λ (n : ℕ). has n u ≡ true) (eqb-true c 0 none) on))
 some_mark c u false small off =
-    not_true (c + 2 ^ u == 0) (λ none. let e = eqb-true (c + 2 ^ u) 0 none in let p = some_power u in omega (arith, e, p))
+    off_by (c + 2 ^ u == 0) (λ none. let e = eqb-true (c + 2 ^ u) 0 none in let p = some_power u in omega (arith, e, p))
 
 out_stays : (v : Sitd) (most u : ℕ) → IsInParts v most → v.c_prog < 256 → u < 8 → v.dir_in ≡ false → IsInParts (after_part u v) most
 unfolding after_part

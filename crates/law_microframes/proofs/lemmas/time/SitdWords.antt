@@ -1,21 +1,17 @@
 -- A siTD by its words: words 1, 2, 3 and 5 tell all that is said of it (EHCI 1.0, 3.4).
 use Rattle.std.proofs.Common.{◌≡◌, ℕ, ◌+◌, ◌*◌, ◌<◌, ◌≤◌, Bool, true, false, List, [], ◌∷◌, slice_index, Some, None, Ok, ap, sym, subst, ◌∙◌, arith, if◌then◌else◌}
 use Rattle.std.specs.Result.{result_ok}
+use Rattle.law_microframes.proofs.Common.{words_are, ok_is}
 use Rattle.word_mem.specs.Memory.{Mem, word_at, reaches}
 use Rattle.word_mem.specs.Views.{words_at}
 use Rattle.word_mem.proofs.Words.{get_or-words_in}
 use Rattle.itd_sitd.specs.declared.sitd.Sitd.{Sitd}
-use Rattle.itd_sitd.specs.Sitd.{sitd_at, sitd_read, sitd_words}
-use Rattle.itd_sitd.proofs.SitdLaws.{sitd_read-words, sitd_read-is}
+use Rattle.itd_sitd.specs.Sitd.{sitd_at, sitd_read}
+use Rattle.itd_sitd.proofs.SitdLaws.{sitd_read-is}
 use Rattle.mem_descriptors.specs.Descriptors.{sitd_at_address}
 use Rattle.drv_periodic_table.specs.Descriptors.{sitd_in}
 use Rattle.law_structures.specs.lent_structures.Structures.{HoldsSplitIsochronous}
 use Rattle.law_microframes.specs.time.SitdFields.{SitdName, IsSitdAs}
-use Rattle.law_microframes.proofs.lemmas.visits.BelongReads.{ok_is}
-
--- a structure that stands there is what its words are
-words_are : (m : Mem) (a : ℕ) (v : Sitd) → HoldsSplitIsochronous m a v → sitd_at (words_at m a 7) ≡ v
-words_are m a v h = ap sitd_at h.words ∙ sym (sitd_read-is (sitd_words v) v (sitd_read-words v h.range))
 
 read_ok : (m : Mem) (a : ℕ) (v : Sitd) (b : Bool) → (if b then result_ok (sitd_read (words_at m a 7)) else None) ≡ Some v
     → sitd_read (words_at m a 7) ≡ Ok v

@@ -6,6 +6,8 @@ use Rattle.std.specs.List.{AllByRecursion, find}
 use Rattle.std.specs.Option.{option_map, option_map_or, option_and_then, option_or}
 use Rattle.std.proofs.lemmas.Bool.{cond_both, and_parts, eqb-true, leb-true, false≢true}
 use Rattle.std.proofs.lemmas.Option.{same_Some}
+use Rattle.law_devices.proofs.Common.{ways_equal}
+use Rattle.law_common.proofs.Lists.{all_both, all_more}
 use Rattle.usb_base.specs.declared.commands.Cmd.{Cmd}
 use Rattle.usb_base.specs.declared.commands.Cmd.TheVariants as cmd
 use Rattle.usb_base.specs.declared.endpoints.EpDesc.{EpDesc}
@@ -30,7 +32,7 @@ use Rattle.script_text.specs.Faults.{Spells}
 use Rattle.drv_table.specs.DriverContent.{is_same_way, is_same_name}
 use Rattle.drv_table.specs.Kinds.{is_iso}
 use Rattle.law_devices.specs.declared_controls.Names.{IsNameOf, NamesLine}
-use Rattle.law_devices.proofs.Lists.{Holds, all_append, all_more, all_find, found_passes, then_append, then_change, map_append, map_find_change}
+use Rattle.law_devices.proofs.Lists.{Holds, all_find, found_passes, then_append, then_change, map_append, map_find_change}
 use Rattle.law_devices.proofs.Drafts.{HasOwn, ep_in, IsNamedIn, IsKnownDesc, IsKnownLine, KeepsEps, IsDeclaredDraft}
 use Rattle.law_devices.proofs.Senders.{empty_declared, second_declared, line_declares}
 use Rattle.law_devices.proofs.Texts.{IsScriptOf, spelled_kept}
@@ -106,7 +108,7 @@ more_lines : (w v : Draft) (n : ℕ) (l : Line) → KeepsEps w.devices v.devices
     → Goes w v
 more_lines w v n l eps lines h = record {
   eps = eps;
-  slots = λ all. subst (AreSlots w.devices) (sym lines) (all_append (λ x. SlotLine w.devices x.1) w.lines ((n, l) ∷ []) all (h, tt));
+  slots = λ all. subst (AreSlots w.devices) (sym lines) (all_both (λ x. SlotLine w.devices x.1) w.lines ((n, l) ∷ []) all (h, tt));
 }
 
 where_goes : (w : Draft) (name : Name) (v : Draft) → (is_some (known w name) ≡ true → Goes w v) → Goes w (where_known w name v)
@@ -120,12 +122,6 @@ put_keeps : (name : Name) (n : ℕ) (ds : List Placed) → KeepsEps ds (put_room
 put_keeps name n ds =
     cond_both (same_way name.way way.Out) (at_ep name (roomier n) ds) ds (KeepsEps ds) (λ _. eps_changed name (roomier n) ds (λ e. refl))
     (λ _. same_eps ds)
-
-ways_equal : (a b : Way) → same_way a b ≡ true → a ≡ b
-ways_equal way.In way.In e = refl
-ways_equal way.Out way.Out e = refl
-ways_equal way.Ctl way.Ctl e = refl
-ways_equal _ _ e = cc
 
 -- what a line asks of a slot
 module _ (w : Draft) (l : IsoLine) (ranged : option_map_or (λ d. nat_le l.len (d.max * d.multi)) (known w l.name) true ≡ true)

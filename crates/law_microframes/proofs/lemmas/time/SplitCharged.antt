@@ -4,6 +4,8 @@ use Rattle.std.proofs.Common.{◌≡◌, ℕ, ◌+◌, ◌%◌, ◌<◌, ◌≤�
 use Rattle.std.specs.Prelude.{min, not, nat_lt, ◌&&◌, ◌==◌, if◌then◌else◌}
 use Rattle.std.proofs.lemmas.Bool.{and_parts, true≢false}
 use Rattle.std.proofs.lemmas.Bool.Decides.{nat_tests}
+use Rattle.law_budgets.proofs.Common.{visit_index}
+use Rattle.law_common.proofs.Numbers.{most_limit}
 use Rattle.usb_base.specs.Cost.{bus_time}
 use Rattle.usb_base.specs.declared.packets.Ask.{Ask}
 use Rattle.usb_base.specs.declared.packets.Dir.{Dir}
@@ -50,7 +52,7 @@ use Rattle.claims_world.specs.WithinLoad.{is_again}
 use Rattle.law_microframes.specs.time.DataQueues.{pid_of}
 use Rattle.law_microframes.proofs.lemmas.time.PriceTaken.{queue_price}
 use Rattle.law_microframes.specs.time.SplitCharges.{IsSplitHeadOf, IsSplitInHand, at_split, TakesWay, added, IsPaidStill, GoesOnPaid, PaysBy, SplitsArePriced}
-use Rattle.law_microframes.proofs.lemmas.time.SplitHeads.{few_left, start_by, complete_by, settled_head, settled_pid, moved_head, moved_pid, moved_active, advanced_head, advanced_pid, split_head, split_pid, missed_head, missed_active}
+use Rattle.law_microframes.proofs.lemmas.time.SplitHeads.{start_by, complete_by, settled_head, settled_pid, moved_head, moved_pid, moved_active, advanced_head, advanced_pid, split_head, split_pid, missed_head, missed_active}
 
 -- ---- what a row needs
 
@@ -242,12 +244,6 @@ visited x u h outcome w paid true held = (
 )
 visited x u h outcome w paid false held = tt
 
-visit_index : (h : HeldQueue) (outcome : Outcome) (w : Walk) (b : Bool)
-    → (if b then holding (hands.Queue (record h { copy = again_copy outcome h.copy })) w else passed h.copy.queue_head.link
-    w).index ≡ w.index
-visit_index h outcome w true = refl
-visit_index h outcome w false = refl
-
 wrote_pays : (x : Placed) (p there : FramePlace) (all : Bool) (h k : HeldQueue) (outcome : Outcome) (paid : ℕ)
     → there.walk.index ≡ p.walk.index → k.copy.at ≡ h.copy.at
     → IsSplitInHand x k p.walk.index paid
@@ -388,7 +384,7 @@ split_short x h u paid held active few =
     short_by q ways.Out false is below pid small =
         short (queue_bytes q)
         (let same : queue_bytes q ≡ min q.max q.token.total = rw (below, is, pid) refl in
-        omega (arith, same, small, few_left q.max q.token.total))
+        omega (arith, same, small, most_limit q.max q.token.total))
 
 late_at : (left price cost : ℕ) → price ≡ cost → cost ≤ 21000000 → 21000000 ≤ left → nat_lt left price ≡ false
 late_at left price cost is few enough = let least : price ≤ left = omega (arith, is, few, enough) in grind (arith, nat_tests, least)

@@ -3,6 +3,8 @@
 use Rattle.std.proofs.Common.{◌≡◌, ℕ, ◌*◌, ◌≤◌, true, false, refl, sym, subst, ◌∙◌, arith}
 use Rattle.std.specs.Prelude.{min}
 use Rattle.std.proofs.Math.Nat.{mul-le-mul_right}
+use Rattle.law_common.proofs.Numbers.{most_limit}
+use Rattle.law_budgets.proofs.Common.{dearer}
 use Rattle.usb_base.specs.Cost.{bus_time}
 use Rattle.usb_base.specs.declared.packets.Dir.{Dir}
 use Rattle.usb_base.specs.declared.packets.Dir.TheVariants as ways
@@ -29,9 +31,6 @@ use Rattle.law_microframes.specs.time.SplitCharges.{IsSplitHeadOf}
 pub some_times : (c m cost : ℕ) → 1 ≤ m → cost ≡ m * c → c ≤ cost
 some_times c m cost some is = let more : 1 * c ≤ m * c = mul-le-mul_right c some in omega (arith, is, more)
 
-dearer : (n m : ℕ) → n ≤ m → bus_time High Interrupt ways.In n ≤ bus_time High Interrupt ways.In m
-dearer n m h = omega (arith, h)
-
 in_start : (w : Want) (p : Placement) (m : ℕ) → has p.smask m ≡ true → is_classic w.speed ≡ true → w.kind ≡ Interrupt → w.dir ≡ ways.In
     → 1 ≤ w.multi
     → bus_time High Interrupt ways.In 0 ≤ cost_in w p m
@@ -56,9 +55,6 @@ out_complete : (w : Want) (p : Placement) (m : ℕ) → has p.smask m ≡ false 
 out_complete w p m off own kind dir some =
     some_times (bus_time High Interrupt ways.In 0) w.multi (cost_in w p m) some (rw (off, own, kind, dir) refl)
 
-pub few_left : (size total : ℕ) → min size total ≤ size
-few_left size total = omega arith
-
 -- the price of a start-split
 pub start_by : (x : Placed) (q : Qh) (m : ℕ) (dir : Dir) → x.want.dir ≡ dir → IsSplitHeadOf x q → q.token.split_state ≡ false
     → q.token.pid ≡ pid_of dir → has x.placement.smask m ≡ true
@@ -69,7 +65,7 @@ start_by x q m ways.In dir head starts pid own =
     (in_start x.want x.placement m own head.classic head.kind dir head.some)
 start_by x q m ways.Out dir head starts pid own =
     let same : queue_bytes q ≡ min q.max q.token.total = rw (head.below, starts, pid) refl in
-    let few : queue_bytes q ≤ x.want.max = omega (arith, same, few_left q.max q.token.total, head.max) in
+    let few : queue_bytes q ≤ x.want.max = omega (arith, same, most_limit q.max q.token.total, head.max) in
     let most = out_start x.want x.placement m own head.classic head.kind dir head.some in
     let less = dearer (queue_bytes q) x.want.max few in
     omega (arith, most, less)

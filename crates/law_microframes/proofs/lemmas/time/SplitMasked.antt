@@ -3,6 +3,7 @@ use Rattle.std.proofs.Common.{◌≡◌, ℕ, zero, suc, ◌+◌, ◌/◌, ◌<�
 use Rattle.std.specs.Prelude.{◌&&◌, nat_le, nat_lt, if◌then◌else◌}
 use Rattle.std.specs.List.{AllByRecursion, flat_map}
 use Rattle.std.proofs.lemmas.Bool.Decides.{nat_tests}
+use Rattle.law_common.proofs.Lists.{all_both, nth_all}
 use Rattle.usb_base.specs.declared.commands.Cmd.{Cmd}
 use Rattle.usb_base.specs.declared.commands.Cmd.TheVariants as commands
 use Rattle.usb_base.specs.declared.endpoints.EpDesc.{EpDesc}
@@ -35,10 +36,8 @@ use Rattle.law_admission.specs.Budgets.{Account, account_of, taken_out, account_
 use Rattle.law_admission.specs.Opens.{OpenAfter}
 use Rattle.law_admission.proofs.Events.{events_take_out_what_left}
 use Rattle.law_admission.proofs.Commands.{commands_place_the_best}
-use Rattle.law_driver.proofs.lemmas.iso_frames.Framing.{all_joined}
 use Rattle.law_world.specs.steps.receiving_runs.Runs.{KindOfLine, IsKeptBy}
 use Rattle.law_world.proofs.lemmas.steps.lemmas.receiving_runs.Runs.{holds_throughout}
-use Rattle.law_world.proofs.lemmas.memory.lemmas.framed_memory.Masking.{one_of_all}
 use Rattle.bus_wire.specs.Bus.{fixed_of}
 use Rattle.bus_world.specs.World.{World, driver_parts, name_in, commanded, commanded_by}
 use Rattle.claims_world.specs.FrameHeads.{IsAllowed, AreAllowed}
@@ -136,7 +135,7 @@ phase_split w phase (s ∷ starts) classic = (row_split w phase s classic, phase
 phases_split : (w : Want) (phases : List ℕ) → is_classic w.speed ≡ true → AllByRecursion HasSplitMasks (flat_map (in_phase w) phases)
 phases_split w [] classic = tt
 phases_split w (phase ∷ phases) classic =
-    all_joined HasSplitMasks (in_phase w phase) (flat_map (in_phase w) phases)
+    all_both HasSplitMasks (in_phase w phase) (flat_map (in_phase w) phases)
     (phase_split w phase (below (placement_row w).starts) classic) (phases_split w phases classic)
 
 all_split : (w : Want) → is_classic w.speed ≡ true → AllByRecursion HasSplitMasks (allowed w)
@@ -144,7 +143,7 @@ unfolding allowed
 all_split w classic = phases_split w (below (frame_period w.period)) classic
 
 pub allowed_are_split : AllowedAreSplit
-allowed_are_split y is classic = one_of_all HasSplitMasks (allowed y.want) is.place y.placement (all_split y.want classic) is.at
+allowed_are_split y is classic = nth_all HasSplitMasks (allowed y.want) is.place y.placement (all_split y.want classic) is.at
 
 -- ---- the driver
 
@@ -169,7 +168,7 @@ open_allowed : (d : DriverContent) (x : EpDesc) (o : Offered) (b : Bool) → Are
 open_allowed d x o true all why =
     let here = allowed_of_table d.periodic.plan.rules (asked d x) why.best.place why.placement why.best.at in
     subst InAccount (sym why.account)
-    (all_joined IsAllowed d.periodic.plan.placed (record { want = asked d x; placement = why.placement } ∷ []) all
+    (all_both IsAllowed d.periodic.plan.placed (record { want = asked d x; placement = why.placement } ∷ []) all
     (record { place = here.place; at = here.at }, tt))
 open_allowed d x o false all why = subst InAccount (sym why) all
 

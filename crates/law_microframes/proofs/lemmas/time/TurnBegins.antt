@@ -1,5 +1,6 @@
 -- A microframe that begins has fewer events ahead; an End is the last; and the controller runs.
 use Rattle.std.proofs.Common.{◌≡◌, ◌≢◌, ℕ, ◌<◌, Bool, true, false, List, [], ap, sym, subst, ◌∙◌, refl, arith}
+use Rattle.law_world.proofs.Common.{begins_over}
 use Rattle.word_mem.specs.Memory.{reaches}
 use Rattle.op_registers.specs.Events.{after_begin}
 use Rattle.hc_core.specs.declared.controller.ControllerRow.{ControllerRow}
@@ -13,7 +14,6 @@ use Rattle.bus_world.specs.World.{World, controller_parts, controller_row, contr
 use Rattle.law_world.specs.memory.Mixed.{IsMixedWorld}
 use Rattle.law_world.proofs.lemmas.memory.Controller.{controller_keeps_mixed}
 use Rattle.law_world.proofs.lemmas.memory.Working.{works}
-use Rattle.law_microframes.proofs.lemmas.visits.VisitControlling.{begins_over}
 use Rattle.claims_world.specs.Microframes.{microframe_whole}
 use Rattle.law_microframes.specs.time.Ahead.{events_in, events_ahead, RowLowers, EachRowLowers}
 

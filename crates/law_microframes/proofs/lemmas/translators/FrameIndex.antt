@@ -1,5 +1,6 @@
 -- In the periodic part the walk of the frames has the index of FRINDEX (EHCI 1.0, 2.3.4 and 4.4).
-use Rattle.std.proofs.Common.{◌≡◌, ◌≢◌, ℕ, Bool, true, false, if◌then◌else◌, List, Option, Some, None, Result, Ok, Err, refl, sym, ◌∙◌}
+use Rattle.std.proofs.Common.{◌≡◌, ℕ, Bool, true, false, if◌then◌else◌, List, Option, Some, None, Result, Ok, Err, refl, sym, ◌∙◌}
+use Rattle.law_microframes.proofs.Common.{ring_no, over_no}
 use Rattle.usb_base.specs.declared.endpoints.EpName.{EpName}
 use Rattle.usb_base.specs.declared.packets.Ask.{Ask}
 use Rattle.usb_base.specs.declared.packets.Reply.{Reply}
@@ -19,8 +20,6 @@ use Rattle.hc_iso.specs.declared.held.SplitOutcome.{SplitOutcome}
 use Rattle.hc_iso.specs.declared.held.SplitOutcome.TheVariants.{Failed}
 use Rattle.hc_iso.specs.Sitd.{missed_copy}
 use Rattle.hc_iso.specs.WriteBack.{iso_raised, itd_sending, itd_written, sitd_sending}
-use Rattle.async_walk.specs.declared.state.WalkStep.{WalkStep}
-use Rattle.async_walk.specs.declared.state.WalkStep.TheVariants as walk_steps
 use Rattle.periodic_walk.specs.declared.state.Hand.{Hand}
 use Rattle.periodic_walk.specs.declared.state.Hand.TheVariants as hands
 use Rattle.periodic_walk.specs.declared.state.HeldQueue.{HeldQueue}
@@ -46,8 +45,8 @@ use Rattle.periodic_walk.specs.Sitd as of_sitd
 use Rattle.periodic_walk.specs.Rows.{effect_at, effect_of}
 use Rattle.hc_core.specs.declared.controller.ControllerRow.{ControllerRow}
 use Rattle.hc_core.specs.declared.controller.ControllerRow.TheVariants as rows
-use Rattle.hc_core.specs.declared.controller.MicroframePart.TheVariants.{Over, Periodic, Asynchronous}
-use Rattle.hc_core.specs.Controller.{Content, begun_at, element_address, entered, frame_place, walk_step, part_after}
+use Rattle.hc_core.specs.declared.controller.MicroframePart.TheVariants.{Over, Periodic}
+use Rattle.hc_core.specs.Controller.{Content, begun_at, element_address, entered, frame_place, walk_step}
 use Rattle.bus_wire.specs.Bus.{Bus, Fixed, fixed_of, is_allowed}
 use Rattle.drv_table.specs.Accepting.{Offered}
 use Rattle.drv_table.specs.Offers.{offered}
@@ -146,13 +145,6 @@ by_keeps fixed p (Asks ask out left_by) b k = k _
 
 abbrev HasIndex : Content → Type 0
 HasIndex c = c.control.part ≡ Periodic → c.control.frame.index ≡ c.registers.frame_index
-
-over_no : Over ≢ Periodic
-over_no e = cc
-
-ring_no : (step : WalkStep) → part_after Asynchronous step ≢ Periodic
-ring_no walk_steps.Fetch e = cc
-ring_no _ e = cc
 
 begun_index : (reached allowed : Bool) (c : Content) → c.control.part ≡ Over → HasIndex (begun_at reached allowed c)
 begun_index true allowed c over = λ on. refl

@@ -4,6 +4,7 @@ use Rattle.std.proofs.Common.{◌≡◌, ℕ, ◌+◌, ◌-◌, ◌*◌, ◌%◌
 use Rattle.std.specs.Prelude.{◌==◌, ◌&&◌, ◌||◌, not, unwrap_or, nat_lt, nat_le, nat_eq, position}
 use Rattle.std.proofs.lemmas.Bool.{true≢false, lt-ltb, eq-eqb, and_from}
 use Rattle.std.proofs.lemmas.Option.{same_Some}
+use Rattle.law_common.proofs.Lists.{nth_all}
 use Rattle.usb_base.specs.declared.endpoints.EpDesc.{EpDesc}
 use Rattle.usb_base.specs.declared.packets.Ask.{Ask}
 use Rattle.usb_base.specs.declared.packets.DataPart.{DataPart}
@@ -56,7 +57,6 @@ use Rattle.law_descriptors.specs.Meeting.{met}
 use Rattle.law_world.specs.memory.Mixed.{Standing, IsMixedAt}
 use Rattle.law_world.specs.memory.framed_memory.Masks.{HasMasks}
 use Rattle.law_world.proofs.lemmas.memory.lemmas.framed_memory.ChainedRuns.{chained_head_is_in_range}
-use Rattle.law_devices.proofs.Lists.{all_at}
 use Rattle.law_translator.specs.Plans.{Plan}
 use Rattle.law_translator.specs.Premises.{IsFirst, FollowsRow}
 use Rattle.law_hub_plans.specs.HubPlans.{is_below, placed_below, AreKeysApart}
@@ -231,7 +231,7 @@ module _ (s : Script) (st : Standing) (w : World) (k : IsMixedAt st w) (fields :
         stands.port few (record { smask = omega arith; cmask = omega arith }))
 
     masks : HasMasks at.belongs.placement
-    masks = all_at (λ v. HasMasks v.placement) w.driver.periodic.plan.placed at.belongs.planned.place _ k.masks at.belongs.planned.there
+    masks = nth_all (λ v. HasMasks v.placement) w.driver.periodic.plan.placed at.belongs.planned.place _ k.masks at.belongs.planned.there
 
     two : Written (interrupt_head at.belongs.endpoint.desc at.belongs.placement.smask at.belongs.placement.cmask 0 0)
     two =

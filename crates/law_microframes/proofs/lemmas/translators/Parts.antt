@@ -18,10 +18,10 @@ use Rattle.tt_pipeline.specs.declared.rows.AnswerRow.{AnswerRow}
 use Rattle.tt_pipeline.specs.declared.rows.AnswerRow.TheVariants as Rows
 use Rattle.tt_pipeline.specs.Answers.{answer_row, given_at, given}
 use Rattle.std.proofs.lemmas.Option.{same_Some}
+use Rattle.law_common.proofs.Lists.{all_both}
 use Rattle.tt_pipeline.specs.Starting.{has_key, with_first, without_first, without, is_there, start_row, row_of_part, later_row, after_start, started}
 use Rattle.tt_pipeline.specs.Work.{asked_part, brought_by, nothing_brought, fresh, joined, moved, is_due, answered}
 use Rattle.tt_pipeline.specs.Working.{used_at, first_reply, later_replies}
-use Rattle.law_devices.proofs.Lists.{all_append}
 use Rattle.law_translator.proofs.Keys.{same_key}
 use Rattle.law_microframes.specs.time.SitdParts.{position_of, IsInParts}
 use Rattle.law_microframes.specs.translators.Parts.{EachOf, Lacks, IsEven, IsOnce, PartsGoOn, OtherStartsLeave, WorkLeavesLacking, WorkMakesEven, CompletesLeave, FoundLacks}
@@ -52,7 +52,7 @@ each_changed P k p f (e ∷ es) step all =
 
 each_last : (P : Entry → Type 0) (k : Key) (es : List Entry) (e : Entry) → EachOf P k es → (has_key k e ≡ true → P e)
     → EachOf P k (es ++ e ∷ [])
-each_last P k es e all one = all_append (λ x. has_key k x ≡ true → P x) es (e ∷ []) all (one, tt)
+each_last P k es e all one = all_both (λ x. has_key k x ≡ true → P x) es (e ∷ []) all (one, tt)
 
 -- ---- a start of another key
 

@@ -3,6 +3,10 @@
 use Rattle.std.proofs.Common.{◌≡◌, ℕ, ◌*◌, ◌/◌, ◌≤◌, Bool, true, false, not, ◌||◌, if◌then◌else◌, slice_get, Option, Some, None, option_map, ⊎_elim, ap, refl, sym, subst, ◌∙◌, arith}
 use Rattle.std.proofs.lemmas.Bool.{true≢false}
 use Rattle.std.proofs.lemmas.Option.{same_Some}
+use Rattle.law_driver.proofs.Common.{same_endpoint}
+use Rattle.law_frame_list.proofs.Common.{no_descriptor}
+use Rattle.law_common.proofs.Numbers.{same_blocks}
+use Rattle.law_common.proofs.Booleans.{out_owed}
 use Rattle.drv_chains.specs.declared.members.Member.{Member}
 use Rattle.drv_chains.specs.declared.members.Member.TheVariants.{Once, Each}
 use Rattle.drv_chains.specs.Chains.{id_of}
@@ -29,17 +33,14 @@ use Rattle.law_descriptors.specs.Removed.{IsRemovedAt, a_descriptor, a_queue, a_
 use Rattle.law_descriptors.specs.Meeting.{standing, or_recent, met}
 use Rattle.law_descriptors.proofs.Finding.{member_at}
 use Rattle.law_descriptors.proofs.Leading.{led_linked}
-use Rattle.law_descriptors.proofs.Returning.{no_descriptor, same_blocks, endpoint_counts}
+use Rattle.law_descriptors.proofs.Returning.{endpoint_counts}
 use Rattle.law_descriptors.proofs.Waiting.{frames_most}
 use Rattle.bus_world.specs.World.{World}
 use Rattle.law_world.specs.memory.Mixed.{Standing, IsMixedAt}
 use Rattle.law_microframes.specs.visits.Belonging.{IsQueueAt}
 use Rattle.law_microframes.proofs.lemmas.visits.BelongQueues.{endpoint_same, alive, removed_kept, unchained_in, waiting_held, removed_held}
-use Rattle.law_microframes.proofs.lemmas.time.PaymentIsochronous.{one_removal, out_owed}
+use Rattle.law_microframes.proofs.lemmas.time.PaymentIsochronous.{one_removal}
 use Rattle.law_microframes.proofs.lemmas.time.PaymentRemovals.{AreOpen}
-
-same_endpoint : (e f : ℕ) → QueueHead e ≡ QueueHead f → e ≡ f
-same_endpoint e f same = cc
 
 module _ (s : Standing) (w : World) (n : ℕ) (k : IsMixedAt s w) (b : IsQueueAt w.driver n) where
   abbrev d : DriverContent

@@ -5,8 +5,6 @@ use Rattle.std.proofs.lemmas.Bool.{true≢false}
 use Rattle.usb_base.specs.declared.commands.Cmd.{Cmd}
 use Rattle.usb_base.specs.declared.commands.Cmd.TheVariants as commands
 use Rattle.usb_base.specs.declared.endpoints.EpDesc.{EpDesc}
-use Rattle.usb_base.specs.declared.packets.Dir.{Dir}
-use Rattle.usb_base.specs.declared.packets.Dir.TheVariants as ways
 use Rattle.usb_base.specs.declared.reports.OfferError.{OfferError}
 use Rattle.script_types.specs.declared.scripts.Script.{Script}
 use Rattle.script_text.specs.Faults.{Spells}
@@ -21,14 +19,10 @@ use Rattle.bus_world.specs.Budgets.{moment}
 use Rattle.law_world.specs.steps.receiving_runs.Runs.{IsKeptBy}
 use Rattle.law_world.proofs.lemmas.steps.lemmas.receiving_runs.Runs.{holds_throughout}
 use Rattle.law_world.proofs.lemmas.memory.lemmas.framed_memory.EndpointFacts.{after_row, IsOfOpened, after_command}
-use Rattle.law_microframes.specs.time.SitdParts.{marks, is_in}
+use Rattle.law_microframes.specs.time.SitdParts.{marks}
 use Rattle.law_microframes.specs.translators.Short.{IsShort, OpensShort, OutsAreShort, AllShort}
 
 -- ---- small facts
-
-pub out_dir : (w : Dir) → is_in w ≡ false → w ≡ ways.Out
-out_dir ways.In is = absurd (true≢false is)
-out_dir ways.Out is = refl
 
 pub marked : (c : ℕ) → c < 256 → (c == 0) ≡ false → 1 ≤ marks c
 marked zero small some = absurd (true≢false some)

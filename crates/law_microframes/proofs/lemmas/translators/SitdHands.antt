@@ -4,6 +4,9 @@ use Rattle.std.proofs.Common.{◌≡◌, ℕ, ◌%◌, ◌<◌, Bool, true, fals
 use Rattle.std.specs.Prelude.{◌==◌, nat_lt, nat_eq, unwrap_or, position}
 use Rattle.std.proofs.lemmas.Bool.{true≢false, lt-ltb, eq-eqb, and_from}
 use Rattle.std.proofs.lemmas.Option.{same_Some}
+use Rattle.law_driver.proofs.Common.{waits_is}
+use Rattle.law_common.proofs.Numbers.{same_blocks}
+use Rattle.law_microframes.proofs.Common.{out_dir}
 use Rattle.usb_base.specs.declared.endpoints.EpDesc.{EpDesc}
 use Rattle.usb_base.specs.declared.packets.Ask.{Ask}
 use Rattle.usb_base.specs.declared.packets.DataPart.{DataPart}
@@ -39,13 +42,11 @@ use Rattle.claims_world.specs.FrameHeads.{IsAllowed}
 use Rattle.claims_world.specs.Visits.{frame_in}
 use Rattle.law_budgets.specs.visit_prices.Spent.{placed_as}
 use Rattle.law_driver.specs.queued_drivers.Queued.{IsOfWay, FitsKind}
-use Rattle.law_driver.proofs.lemmas.chained_transfers.Harvesting.{waits_is}
 use Rattle.law_structures.specs.lent_structures.Structures.{SplitIsochronous}
 use Rattle.law_frames.specs.Met.{ASitd}
 use Rattle.law_frames.specs.Frame.{IsCopiedSitd, IsTurned, IsFrameWalk, IsInFrame}
 use Rattle.law_descriptors.specs.Both.{both}
 use Rattle.law_descriptors.specs.Meeting.{met}
-use Rattle.law_descriptors.proofs.Returning.{same_blocks}
 use Rattle.law_world.specs.memory.Mixed.{Standing, IsMixedAt}
 use Rattle.law_hub_plans.specs.HubPlans.{is_below, placed_below, AreKeysApart}
 use Rattle.law_hub_plans.specs.Laws.{IsPlacedRight}
@@ -72,7 +73,7 @@ use Rattle.law_microframes.proofs.lemmas.translators.Hands.{numbered}
 use Rattle.law_microframes.proofs.lemmas.translators.Owned.{owned_planned}
 use Rattle.law_microframes.proofs.lemmas.translators.Placing.{one_of}
 use Rattle.law_microframes.specs.translators.Short.{AllShort}
-use Rattle.law_microframes.proofs.lemmas.translators.ShortOuts.{out_dir, marked}
+use Rattle.law_microframes.proofs.lemmas.translators.ShortOuts.{marked}
 use Rattle.law_microframes.proofs.lemmas.translators.SitdStarts.{in_ask, out_ask, in_transaction, out_transaction, in_key, in_follows, out_key, out_follows}
 
 -- ---- small facts

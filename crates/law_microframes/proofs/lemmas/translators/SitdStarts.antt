@@ -4,6 +4,7 @@ use Rattle.std.specs.Prelude.{◌==◌, ◌&&◌, not, nat_le}
 use Rattle.std.specs.List.{find}
 use Rattle.std.proofs.lemmas.Bool.{true≢false}
 use Rattle.std.proofs.lemmas.Bool.Decides.{nat_tests}
+use Rattle.law_microframes.proofs.Common.{out_dir as out_way}
 use Rattle.usb_base.specs.Cost.{byte_times}
 use Rattle.usb_base.specs.declared.endpoints.EpDesc.{EpDesc}
 use Rattle.usb_base.specs.declared.packets.Ask.{Ask}
@@ -53,10 +54,6 @@ full_times speeds.Low n most is h = omega (arith, h)
 in_way : (d : Dir) → is_in d ≡ true → d ≡ dirs.In
 in_way dirs.In is = refl
 in_way dirs.Out is = absurd (true≢false (sym is))
-
-out_way : (d : Dir) → is_in d ≡ false → d ≡ dirs.Out
-out_way dirs.In is = absurd (true≢false is)
-out_way dirs.Out is = refl
 
 not_high : speeds.Full ≡ speeds.High → ⊥
 not_high e = cc

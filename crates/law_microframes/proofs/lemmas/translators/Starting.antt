@@ -1,5 +1,6 @@
 -- Each start-split of an interrupt endpoint follows its plan, at each moment of a script that a text spells; so the translators keep up.
-use Rattle.std.proofs.Common.{◌≡◌, ℕ, ◌%◌, ◌==◌, ◌≤◌, min, arith, if◌then◌else◌, Bool, true, false, List, ◌∷◌, length, Option, Some, sym, ap, subst, ◌∙◌, ⊎_elim}
+use Rattle.std.proofs.Common.{◌≡◌, ℕ, ◌%◌, ◌==◌, ◌≤◌, arith, true, List, ◌∷◌, length, Option, Some, sym, ap, subst, ◌∙◌, ⊎_elim}
+use Rattle.law_common.proofs.Numbers.{few_bytes}
 use Rattle.usb_base.specs.declared.endpoints.EpDesc.{EpDesc}
 use Rattle.usb_base.specs.declared.packets.Ask.{Ask}
 use Rattle.usb_base.specs.declared.packets.EpKind.TheVariants as kinds
@@ -81,15 +82,11 @@ use Rattle.law_microframes.proofs.lemmas.translators.Promises.{keep_up, answer_i
 no_start : (hub port : ℕ) (part : DataPart) → splits.Plain ≡ splits.Start hub port part → ⊥
 no_start hub port part e = cc
 
-limit_most : (carries : Bool) (most left : ℕ) → (if carries then min most left else 0) ≤ most
-limit_most true most left = omega arith
-limit_most false most left = omega arith
-
 -- no more is sent than goes into a packet
 sending_most : (q : Qh) (m : Mem) → length (sending (planned q) q m).bytes ≤ q.max
 sending_most q m =
     let n = length-bytes_at m (pages_of q) (buffer_place q) (planned q).bytes in
-    let most = limit_most (carries (planned q).split (planned q).pipe.pid (planned q).host.ping) q.max q.token.total in
+    let most = few_bytes (carries (planned q).split (planned q).pipe.pid (planned q).host.ping) q.max q.token.total in
     omega (arith, n, most)
 
 -- ---- a moment

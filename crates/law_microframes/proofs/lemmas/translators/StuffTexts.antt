@@ -4,6 +4,7 @@ use Rattle.std.specs.Prelude.{◌==◌, ◌&&◌, nat_le, is_some}
 use Rattle.std.specs.List.{AllByRecursion}
 use Rattle.std.specs.Option.{option_map_or}
 use Rattle.std.proofs.lemmas.Bool.{cond_both, leb-true}
+use Rattle.law_common.proofs.Lists.{all_both, nth_all}
 use Rattle.usb_base.specs.declared.commands.Cmd.TheVariants as cmd
 use Rattle.usb_base.specs.declared.endpoints.EpDesc.{EpDesc}
 use Rattle.usb_base.specs.declared.packets.Way.TheVariants as way
@@ -20,7 +21,7 @@ use Rattle.script_world.specs.Rows.{is_known, answered, roomier, stuffed, at_ep,
 use Rattle.bus_wire.specs.declared.seats.Seat.{Seat}
 use Rattle.bus_wire.specs.Bus.{fixed_of, stuff_of}
 use Rattle.bus_wire.specs.Seats.{owner_at, seat_at, seats_from, hub_seats_from, seat_named, device_seats, seats_of}
-use Rattle.law_devices.proofs.Lists.{all_append, all_at, all_change, all_find, all_filter_map}
+use Rattle.law_devices.proofs.Lists.{all_change, all_find, all_filter_map}
 use Rattle.law_microframes.specs.translators.Watching.{StuffsAtMost}
 use Rattle.law_microframes.proofs.lemmas.due.lemmas.repeats.SaidTexts.{spelled_said}
 
@@ -55,15 +56,15 @@ put_few name k ds h =
 
 line_few : (w : Draft) (n : ℕ) (s : Statement) → IsFew w → IsFew (after w n s)
 line_few w n (says.Hub addr ports multi) h = cond_both (within 1 127 addr && within 1 15 ports) _ w IsFew (λ _. h) (λ _. h)
-line_few w n (says.DevHigh addr) h = cond_both (within 1 127 addr) _ w IsFew (λ _. all_append IsFewDevice w.devices (_ ∷ []) h (tt, tt))
+line_few w n (says.DevHigh addr) h = cond_both (within 1 127 addr) _ w IsFew (λ _. all_both IsFewDevice w.devices (_ ∷ []) h (tt, tt))
     (λ _. h)
 line_few w n (says.DevBelow b) h =
     cond_both (within 1 127 b.addr && nat_le b.hub 127 && is_known w (says.DevBelow b)) _ w IsFew
-    (λ _. all_append IsFewDevice w.devices (_ ∷ []) h (tt, tt)) (λ _. h)
+    (λ _. all_both IsFewDevice w.devices (_ ∷ []) h (tt, tt)) (λ _. h)
 line_few w n (says.Ep l) h =
     cond_both (is_endpoint l && is_some (device_of w.devices l.name.addr)) _ w IsFew
     (λ _. all_change IsFewDevice (λ d. d.addr == l.name.addr) (with_ep l) w.devices
-    (λ d _ k. all_append IsFewEp d.eps (_ ∷ []) k (omega arith, tt)) h)
+    (λ d _ k. all_both IsFewEp d.eps (_ ∷ []) k (omega arith, tt)) h)
     (λ _. h)
 line_few w n (says.Reply name a) h = at_ep_few name (answered a) w.devices (λ e z. z) h
 line_few w n (says.Fate f) h = where_few w f.name _ h h
@@ -95,7 +96,7 @@ device_seats_few k (e ∷ es) few = (owner_few k e.desc.hub e.desc.port e.stuff 
 seats_few : (k : ℕ) (ds : List Placed) → AllByRecursion IsFewDevice ds → AllByRecursion IsFewSeat (seats_from k (map device_text ds))
 seats_few k [] few = tt
 seats_few k (d ∷ ds) few =
-    all_append IsFewSeat (map (seat_at k) d.eps) (seats_from (k + 1) (map device_text ds))
+    all_both IsFewSeat (map (seat_at k) d.eps) (seats_from (k + 1) (map device_text ds))
     (device_seats_few k d.eps few.0) (seats_few (k + 1) ds few.1)
 
 hub_seats_few : (k : ℕ) (hs : List HubText) → AllByRecursion IsFewSeat (hub_seats_from k hs)
@@ -104,10 +105,10 @@ hub_seats_few k (h ∷ hs) = (omega arith, hub_seats_few (k + 1) hs)
 
 few_stuffed : (w : Draft) → IsFew w → StuffsAtMost 6 (fixed_of (script_of w))
 few_stuffed w h place seat there =
-    let all = all_append IsFewSeat (hub_seats_from 0 w.hubs) (device_seats (script_of w)) (hub_seats_few 0 w.hubs)
+    let all = all_both IsFewSeat (hub_seats_from 0 w.hubs) (device_seats (script_of w)) (hub_seats_few 0 w.hubs)
     (all_filter_map IsFewSeat (seat_named (seats_from 0 (map device_text w.devices))) w.endpoints
     (λ name. all_find IsFewSeat (λ s. _) (seats_from 0 (map device_text w.devices)) (seats_few 0 w.devices h))) in
-    all_at IsFewSeat (seats_of (script_of w)) place seat all there
+    nth_all IsFewSeat (seats_of (script_of w)) place seat all there
 
 pub texts_have_few_stuffed_bits : (text : List ℕ) (s : Script) → Spells text s → StuffsAtMost 6 (fixed_of s)
 texts_have_few_stuffed_bits text s e =

@@ -4,6 +4,7 @@ use Rattle.std.proofs.Common.{◌≡◌, ℕ, ◌*◌, ◌<◌, ◌≤◌, Bool,
 use Rattle.std.specs.Prelude.{◌==◌, not}
 use Rattle.std.proofs.lemmas.Bool.{cases_lt}
 use Rattle.std.proofs.lemmas.Option.{slice_get_within}
+use Rattle.law_microframes.proofs.Common.{idle_by}
 use Rattle.usb_base.specs.declared.commands.Cmd.{Cmd}
 use Rattle.usb_base.specs.declared.commands.Cmd.TheVariants as commands
 use Rattle.usb_base.specs.declared.endpoints.EpName.{EpName}
@@ -29,7 +30,7 @@ use Rattle.law_microframes.specs.visits.OneDescriptor.{IsActiveTransfer, WasActi
 use Rattle.law_microframes.specs.time.SitdFields.{SplitTransfer, SitdsStand}
 use Rattle.law_microframes.specs.translators.Parts.{EachOf, Lacks, IsEven, key_asked}
 use Rattle.law_microframes.specs.translators.Turns.{pipeline_for, EntriesAre, IsInHand, OutsGoOn, CommandKeepsOuts}
-use Rattle.law_microframes.proofs.lemmas.visits.BelongItdCommands.{HasNoDescriptors, idle_by, old_words, IsTold, told_by}
+use Rattle.law_microframes.proofs.lemmas.visits.BelongItdCommands.{HasNoDescriptors, old_words, IsTold, told_by}
 use Rattle.law_microframes.proofs.lemmas.visits.OneDescriptorOffered.{by_accept}
 use Rattle.law_microframes.proofs.lemmas.time.SitdCommands.{IsOldSplit, IsNewSplit, CanHaveSlots, refused_split, told_old, iso_split}
 use Rattle.law_microframes.proofs.lemmas.translators.Turns.{words_stay}

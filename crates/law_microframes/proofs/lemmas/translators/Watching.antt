@@ -3,6 +3,7 @@ use Rattle.std.proofs.Common.{◌≡◌, ℕ, ◌+◌, ◌-◌, ◌*◌, ◌≤�
 use Rattle.std.specs.Prelude.{◌||◌, not, nat_lt}
 use Rattle.std.specs.List.{AllByRecursion, find}
 use Rattle.std.proofs.lemmas.Bool.{cases_Bool}
+use Rattle.law_translator.proofs.Common.{same_key as itself}
 use Rattle.usb_base.specs.declared.packets.Ask.{Ask}
 use Rattle.usb_base.specs.declared.packets.Reply.{Reply}
 use Rattle.hub_keys.specs.Keys.{key_of, is_same_key}
@@ -20,7 +21,7 @@ use Rattle.tt_pipeline.specs.Working.{budget, used_at, turned, turned_all, first
 use Rattle.law_translator.specs.Plans.{Plan, Fits}
 use Rattle.law_translator.specs.Frames.{Event, Start, Complete, Work, Replan, Clear, Watched, Frame, gap_between, gap_of, is_of, changed, begun, worked_all, next, opening, entries_of}
 use Rattle.law_translator.specs.Premises.{In, Fair, Follows, AllLaidAs}
-use Rattle.law_translator.proofs.Keys.{Distinct, itself, same_key}
+use Rattle.law_translator.proofs.Keys.{Distinct, same_key}
 use Rattle.law_translator.proofs.Owing.{Grew, same, more, Coming, called_partial}
 use Rattle.law_translator.proofs.Work.{keys_of, All}
 use Rattle.law_microframes.specs.translators.Watching.{is_seen, gaps_at, watched_one, watched_of, gaps_more, gaps_worked}

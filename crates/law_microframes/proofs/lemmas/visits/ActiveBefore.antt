@@ -3,6 +3,7 @@ use Rattle.std.proofs.Common.{◌≡◌, ℕ, ◌*◌, ◌<◌, ◌≤◌, true,
 use Rattle.std.specs.Prelude.{is_none, Ok}
 use Rattle.std.proofs.lemmas.Bool.{false≢true}
 use Rattle.std.proofs.lemmas.Option.{slice_get_within}
+use Rattle.law_common.proofs.Booleans.{either_if}
 use Rattle.usb_base.specs.declared.commands.Cmd.{Cmd}
 use Rattle.word_mem.specs.Memory.{Mem}
 use Rattle.mem_runs.specs.Book.{slot_of}
@@ -24,7 +25,6 @@ use Rattle.law_frames.specs.Met.{Kind}
 use Rattle.law_descriptors.specs.Both.{both}
 use Rattle.law_descriptors.specs.ListRows.{HasPart}
 use Rattle.law_descriptors.specs.Meeting.{met}
-use Rattle.law_descriptors.proofs.ListRows.{either_if}
 use Rattle.bus_world.specs.World.{World, driver_next}
 use Rattle.law_world.specs.memory.framed_memory.Isochronous.{AreAwaiting}
 use Rattle.law_world.specs.memory.Mixed.{Standing, IsMixedAt}

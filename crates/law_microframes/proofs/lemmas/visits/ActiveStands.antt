@@ -3,6 +3,9 @@ use Rattle.std.proofs.Common.{◌≡◌, ◌⊎◌, ℕ, ◌*◌, ◌/◌, Bool,
 use Rattle.std.specs.Prelude.{◌||◌}
 use Rattle.std.proofs.lemmas.Bool.{true≢false, eqb-true}
 use Rattle.std.proofs.lemmas.Option.{same_Some}
+use Rattle.law_driver.proofs.Common.{waits_is}
+use Rattle.law_frame_list.proofs.Common.{same_number, no_descriptor}
+use Rattle.law_common.proofs.Numbers.{same_blocks}
 use Rattle.mem_runs.specs.Book.{slot_of}
 use Rattle.drv_chains.specs.declared.members.Member.{Member}
 use Rattle.drv_chains.specs.declared.members.Member.TheVariants.{Once, Each}
@@ -25,7 +28,6 @@ use Rattle.law_driver.specs.listed_members.Members.{IsStanding, IsQueueOf, IsLis
 use Rattle.law_driver.specs.listed_members.Listed.{IsOwnedAs}
 use Rattle.law_driver.proofs.lemmas.listed_members.Standing.{standing_block}
 use Rattle.law_driver.proofs.lemmas.listed_members.Owned.{queue_owned}
-use Rattle.law_driver.proofs.lemmas.chained_transfers.Harvesting.{waits_is}
 use Rattle.law_frame_list.proofs.lemmas.list_spread.Spreading.{queue_there, standing_there}
 use Rattle.law_structures.specs.lent_structures.Structures.{Structure, QueueHead, Isochronous, SplitIsochronous}
 use Rattle.law_frames.specs.Met.{Kind, AQueue, AnItd, ASitd, IsMetAs}
@@ -38,7 +40,6 @@ use Rattle.law_descriptors.specs.Recent.{AreRecent}
 use Rattle.law_descriptors.proofs.Standing.{both_off, IsAtOwner, on_owner}
 use Rattle.law_descriptors.proofs.Finding.{IsMemberAt}
 use Rattle.law_descriptors.proofs.Leading.{led_linked}
-use Rattle.law_descriptors.proofs.Returning.{same_transfer, no_descriptor, same_blocks}
 use Rattle.bus_world.specs.World.{World}
 use Rattle.law_world.specs.memory.Mixed.{Standing, IsMixedAt}
 use Rattle.claims_world.specs.Visits.{begins}
@@ -63,7 +64,7 @@ same_run d has t u n y z here there sort_y sort_z held_y held_z at_y at_z =
     let one = (has.owned.each.described t (runs_of_transfer y) (ap (option_map runs_of_transfer) here) sort_y held_y).descriptor in
     let two = (has.owned.each.described u (runs_of_transfer z) (ap (option_map runs_of_transfer) there) sort_z held_z).descriptor in
     let same : t ≡ u =
-    same_transfer ((views_of d).descriptor y.first).split ((views_of d).descriptor z.first).split t u
+    same_number ((views_of d).descriptor y.first).split ((views_of d).descriptor z.first).split t u
     (sym one.owned ∙ ap has.owner (same_blocks y.first z.first (sym at_y ∙ at_z)) ∙ two.owned) in
     same_Some y z (sym here ∙ ap (slice_get d.transfers) same ∙ there)
 

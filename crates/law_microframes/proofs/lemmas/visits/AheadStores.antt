@@ -4,6 +4,8 @@ use Rattle.std.proofs.Common.{◌≡◌, ◌≢◌, ℕ, ◌<◌, ◌⊎◌, Boo
 use Rattle.std.specs.Prelude.{◌||◌, ◌&&◌, ◌==◌, not}
 use Rattle.std.proofs.lemmas.Bool.{false≢true, cases_eq, eq-eqb, eqb-true, and_parts, and_from}
 use Rattle.std.proofs.lemmas.Option.{same_Some}
+use Rattle.law_common.proofs.Lists.{nth_all}
+use Rattle.law_frame_words.proofs.Common.{frames_below}
 use Rattle.word_mem.specs.Memory.{Mem}
 use Rattle.link_words.specs.Links.{link_read}
 use Rattle.drv_chains.specs.declared.members.QueueHead.{QueueHead}
@@ -20,7 +22,7 @@ use Rattle.drv_table.specs.DriverContent.{DriverContent}
 use Rattle.law_microframes.specs.visits.Ranks.{name_of, next_of}
 use Rattle.claims_world.specs.Visits.{begins}
 use Rattle.law_microframes.specs.visits.Visited.{IsFirstIn}
-use Rattle.law_microframes.proofs.lemmas.visits.SpliceWords.{IsBefore, all_before, nth_all, frames_low}
+use Rattle.law_microframes.proofs.lemmas.visits.SpliceWords.{IsBefore, all_before}
 use Rattle.law_microframes.proofs.lemmas.visits.LinkSteps.{ListStep, GoesAt, at_element, at_member, next_name, g as its_word, goes, own, value_false, value_true, before_false, before_true}
 
 -- ---- a queue head
@@ -50,7 +52,7 @@ module _ (m mem : Mem) (d new : DriverContent) (p : Periodic) (w : Work) (st : S
 
   pub word_before : IsBefore p.members.schedule w.member (its_word m mem d new p w st k).word
   word_before =
-      nth_all (IsBefore p.members.schedule w.member) (words_of p.members.schedule w) w.made (its_word m mem d new p w st k).word (all_before p.members.schedule w.member (frames 10) frames_low)
+      nth_all (IsBefore p.members.schedule w.member) (words_of p.members.schedule w) w.made (its_word m mem d new p w st k).word (all_before p.members.schedule w.member (frames 10) frames_below)
       (its_word m mem d new p w st k).here
 
   -- where its word is none of the list

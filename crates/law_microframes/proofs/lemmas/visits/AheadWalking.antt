@@ -1,5 +1,6 @@
 -- An event of the controller that begins no microframe goes on to where its links led (EHCI 1.0, 4.6, 4.7 and 4.12).
 use Rattle.std.proofs.Common.{◌≡◌, ℕ, Bool, true, List, Option, Some, None, ap, refl, sym, subst, ◌∙◌}
+use Rattle.law_controller.proofs.Common.{over_not_periodic}
 use Rattle.usb_base.specs.declared.packets.Ask.{Ask}
 use Rattle.usb_base.specs.declared.packets.Reply.{Reply}
 use Rattle.link_words.specs.declared.kinds.Link.{Link}
@@ -20,7 +21,7 @@ use Rattle.law_microframes.specs.visits.Ranks.{name_of, next_of}
 use Rattle.law_microframes.specs.visits.Visited.{link_held, link_ahead}
 use Rattle.law_microframes.proofs.lemmas.visits.VisitSteps.{Goes, hand_goes, led_on}
 use Rattle.law_microframes.proofs.lemmas.visits.VisitLinks.{IsReadAt, queue_is_read, itd_is_read, sitd_is_read}
-use Rattle.law_microframes.proofs.lemmas.visits.VisitWalking.{over_no, async_no}
+use Rattle.law_microframes.proofs.lemmas.visits.VisitWalking.{async_no}
 
 abbrev pub GoesTo : (ℕ → Bool) → Control → Type 0
 GoesTo ahead to = (k : ℕ) → to.part ≡ Periodic → name_of (link_ahead to.frame.hand to.frame.cursor) ≡ Some k → ahead k ≡ true
@@ -45,7 +46,7 @@ module _ {W : Type 0} (begins_with : W → ℕ → Bool → W → Type 0) (trans
       fetched a (link_of v.link) periodic held (itd_is_read c.memory c.control.frame.cursor a v is) (ap (λ (x : FrameWalk). link_ahead x.hand x.cursor) walk)
   by_chain (chains.Sitd a v) is periodic held walk part =
       fetched a (link_of v.link) periodic held (sitd_is_read c.memory c.control.frame.cursor a v is) (ap (λ (x : FrameWalk). link_ahead x.hand x.cursor) walk)
-  by_chain _ is periodic held walk part = over n.control (λ on. over_no (sym part ∙ on))
+  by_chain _ is periodic held walk part = over n.control (λ on. over_not_periodic (sym part ∙ on))
 
   by_hand : (o : Option Hand) → c.control.frame.hand ≡ o → c.control.part ≡ Periodic → n.control.part ≡ part_after Periodic (step_at (frame_place c) o)
       → HasEffect transacts (effect_at (frame_place c) o) wire (frame_place n) after → GoesTo ahead n.control
@@ -66,4 +67,5 @@ module _ {W : Type 0} (begins_with : W → ℕ → Bool → W → Type 0) (trans
   goes_to rows.Frame other frame_there row = by_hand c.control.frame.hand refl (frame_there refl) row.part row.walked
   goes_to rows.Enter other frame_there row = walked (entered c) row
   goes_to rows.Go other frame_there row = walked c row
-  goes_to rows.End other frame_there row = subst (λ (x : Content). GoesTo ahead x.control) (sym row.0) (over (ended c.control) over_no)
+  goes_to rows.End other frame_there row =
+      subst (λ (x : Content). GoesTo ahead x.control) (sym row.0) (over (ended c.control) over_not_periodic)

@@ -2,6 +2,10 @@
 use Rattle.std.proofs.Common.{◌≡◌, ◌≢◌, ℕ, suc, ◌-◌, ◌*◌, ◌||◌, not, Bool, true, false, length, slice_get, Option, Some, None, option_map, if◌then◌else◌, ap, refl, sym, subst, ◌∙◌, ⊎_elim, arith}
 use Rattle.std.specs.Prelude.{◌⊎◌}
 use Rattle.std.proofs.lemmas.Bool.{false≢true}
+use Rattle.law_world.proofs.Common.{same_queue}
+use Rattle.law_descriptors.proofs.Common.{none_some}
+use Rattle.law_driver.proofs.Common.{ring_queue}
+use Rattle.law_common.proofs.Numbers.{same_blocks}
 use Rattle.usb_base.specs.declared.packets.EpKind.{EpKind}
 use Rattle.usb_base.specs.declared.packets.EpKind.TheVariants as kinds
 use Rattle.qh_qtd.specs.declared.queue_head.Qh.{Qh}
@@ -17,10 +21,9 @@ use Rattle.claims_driver.specs.Leaving.{HasOwners}
 use Rattle.claims_driver.specs.Owners.{EndpointRuns, runs_of_endpoint, views_of, IsQueueIn}
 use Rattle.law_driver.specs.endpoint_lives.Lives.{is_one_of}
 use Rattle.law_driver.specs.queued_drivers.Queued.{with_queue, queued_command, queue_of, queued}
-use Rattle.law_driver.proofs.lemmas.queued_drivers.CommandFields.{ring_queue}
 use Rattle.law_driver.proofs.lemmas.queued_drivers.RowLists.{queue_at}
 use Rattle.law_driver.proofs.lemmas.ring_members.Placed.{in_ring_alive}
-use Rattle.law_structures.specs.lent_structures.Structures.{Structure, QueueHead, Element, with_structure}
+use Rattle.law_structures.specs.lent_structures.Structures.{QueueHead, Element, with_structure}
 use Rattle.law_structures.proofs.lemmas.lent_structures.Names.{with_here, with_there}
 use Rattle.law_structures.proofs.lemmas.lent_structures.Altering.{found_queue}
 use Rattle.law_ring.specs.Hand.{Copy}
@@ -36,7 +39,6 @@ use Rattle.law_descriptors.specs.Both.{both}
 use Rattle.law_descriptors.specs.Meeting.{met}
 use Rattle.law_queues.specs.open_laws.Lends.{IsOpenReady}
 use Rattle.law_queues.specs.open_laws.Opens.{IsOpenLent}
-use Rattle.law_queues.proofs.lemmas.publish_laws.Apart.{thirty_two}
 use Rattle.bus_world.specs.World.{World, controller_parts}
 use Rattle.law_world.specs.memory.framed_memory.Chained.{chained_queue}
 use Rattle.law_world.specs.memory.Mixed.{IsChainToLend, IsChainThere, IsUnderWay, Standing, IsMixedAt}
@@ -44,12 +46,6 @@ use Rattle.law_world.proofs.lemmas.memory.RingBasis.{linked_still, near_ring}
 use Rattle.law_microframes.specs.visits.AskedHeads.{AskedIsNear}
 use Rattle.law_microframes.specs.visits.Belonging.{IsQueueAt}
 use Rattle.law_microframes.proofs.lemmas.visits.BelongQueues.{queue_belongs}
-
-some_none : (s : Structure) → ◌≡◌ {A = Option Structure} None (Some s) → ⊥
-some_none s same = cc
-
-same_opened : (b q : ℕ) → ◌≡◌ {A = Option Command} (Some (unfinished.Open b)) (Some (unfinished.Open q)) → b ≡ q
-same_opened b q same = cc
 
 interrupt_periodic : (kind : EpKind) → kind ≡ kinds.Interrupt → (is_periodic kind ≡ true) × (is_iso kind ≡ false)
 interrupt_periodic kind is = (ap is_periodic is, ap is_iso is)
@@ -62,7 +58,7 @@ newest_is n e is = omega (arith, is)
 part_head : (x : EndpointRuns) (q : Qh) → x.queue ≢ x.dummy → opened_part x q (32 * x.queue) ≡ Some (QueueHead q)
 part_head x q differs =
     with_there (with_structure no_part (32 * x.queue) (QueueHead q)) (32 * x.dummy) (Element dummy_qtd) (32 * x.queue)
-    (λ same. differs (thirty_two x.queue x.dummy same))
+    (λ same. differs (same_blocks x.queue x.dummy same))
     ∙ with_here no_part (32 * x.queue) (QueueHead q)
 
 module _ (s : Standing) (w : World) (k : IsMixedAt s w) (copy : Copy) (here : s.parts copy.at copy.at ≡ Some (QueueHead copy.queue))
@@ -76,7 +72,7 @@ module _ (s : Standing) (w : World) (k : IsMixedAt s w) (copy : Copy) (here : s.
   -- ---- one that is being opened
 
   absent : (q : ℕ) → copy.at ≡ 32 * q → s.parts (32 * q) (32 * q) ≡ None → ⊥
-  absent q at none = some_none (QueueHead copy.queue) (sym none ∙ ap (λ (i : ℕ). s.parts i i) (sym at) ∙ here)
+  absent q at none = none_some (QueueHead copy.queue) (sym none ∙ ap (λ (i : ℕ). s.parts i i) (sym at) ∙ here)
 
   rests : (q : ℕ) (x : Qh) → copy.at ≡ 32 * q → s.parts (32 * q) (32 * q) ≡ Some (QueueHead x) → x.token.active ≡ false → ⊥
   rests q x at there idle =
@@ -94,11 +90,11 @@ module _ (s : Standing) (w : World) (k : IsMixedAt s w) (copy : Copy) (here : s.
   in_ring b q same is at stand =
       ⊎_elim
       (λ (r : IsOpenReady w.driver w.memory).
-      let one : r.endpoint.queue ≡ q = same_opened r.endpoint.queue b (sym r.command ∙ is) ∙ same in
+      let one : r.endpoint.queue ≡ q = same_queue r.endpoint.queue b (sym r.command ∙ is) ∙ same in
       unlent r.number (runs_of_endpoint r.endpoint) (queue_head r.endpoint.desc r.link r.endpoint.dummy) r.opened
       (at ∙ ap (λ (i : ℕ). 32 * i) (sym one)))
       (λ (l : IsOpenLent w.driver s.member s.parts).
-      let one : l.endpoint.queue ≡ q = same_opened l.endpoint.queue b (sym l.command ∙ is) ∙ same in
+      let one : l.endpoint.queue ≡ q = same_queue l.endpoint.queue b (sym l.command ∙ is) ∙ same in
       let runs : EndpointRuns = runs_of_endpoint l.endpoint in
       let queued_in : IsQueueIn (views_of w.driver) l.number runs = record {
         here = ap (option_map runs_of_endpoint) l.here;
@@ -117,11 +113,11 @@ module _ (s : Standing) (w : World) (k : IsMixedAt s w) (copy : Copy) (here : s.
       let last : slice_get w.driver.endpoints (length w.driver.endpoints - 1) ≡ Some r.ready.endpoint =
       ap (slice_get w.driver.endpoints) (newest_is (length w.driver.endpoints) r.ready.number r.newest) ∙ r.ready.here in
       let one : r.ready.endpoint.queue ≡ q = ap queue_of (sym last)
-      ∙ same_opened (queue_of (slice_get w.driver.endpoints (length w.driver.endpoints - 1))) q same in
+      ∙ same_queue (queue_of (slice_get w.driver.endpoints (length w.driver.endpoints - 1))) q same in
       unlent r.ready.number (runs_of_endpoint r.ready.endpoint) (chained_queue r.ready.endpoint r.ready.place r.ready.link) r.ready.opened
       (at ∙ ap (λ (i : ℕ). 32 * i) (sym one)))
       (λ (t : IsChainThere w.driver s.member s.recent s.parts).
-      let one : t.there.endpoint.queue ≡ q = same_opened t.there.endpoint.queue q
+      let one : t.there.endpoint.queue ≡ q = same_queue t.there.endpoint.queue q
       (sym t.there.command ∙ ap (queued_command w.driver.endpoints) is ∙ same) in
       rests t.there.endpoint.queue t.there.part.queue (at ∙ ap (λ (i : ℕ). 32 * i) (sym one)) t.there.part.here t.there.part.rests.idle)
       stand
@@ -129,7 +125,7 @@ module _ (s : Standing) (w : World) (k : IsMixedAt s w) (copy : Copy) (here : s.
   not_opened : (c : Option Command) → w.driver.command ≡ c → (q : ℕ) → queued_command w.driver.endpoints c ≡ Some (unfinished.Open q)
       → copy.at ≡ 32 * q → ⊥
   not_opened (Some (unfinished.Open b)) is q same at =
-      in_ring b q (same_opened b q same) is at
+      in_ring b q (same_queue b q same) is at
       (subst (IsUnderWay w.driver w.memory s.member s.recent s.parts) is k.under_way)
   not_opened (Some unfinished.Chain) is q same at =
       in_frames q same is at (subst (IsUnderWay w.driver w.memory s.member s.recent s.parts) is k.under_way)

@@ -1,20 +1,19 @@
 -- Each command, refused or accepted, leaves the fields of the queue heads of interrupt endpoints in memory, and their placements in the plan; a new queue head has its own.
 use Rattle.std.proofs.Common.{◌≡◌, ℕ, zero, suc, ◌+◌, ◌*◌, ◌≤◌, max, Bool, true, false, List, [], ◌∷◌, ◌++◌, length, slice_get, slice_index, Option, Some, None, Result, Ok, Err, option_map, ap, refl, sym, subst, ◌∙◌, ⊎_elim, arith}
-use Rattle.std.specs.List.{AllByRecursion}
 use Rattle.std.proofs.lemmas.Bool.{true≢false}
+use Rattle.law_world.proofs.Common.{multi_few}
+use Rattle.law_common.proofs.Lists.{last_of_all, push_which}
 use Rattle.usb_base.specs.declared.commands.Cmd.{Cmd}
 use Rattle.usb_base.specs.declared.commands.Cmd.TheVariants as commands
 use Rattle.usb_base.specs.declared.endpoints.EpName.{EpName}
 use Rattle.usb_base.specs.declared.endpoints.EpDesc.{EpDesc}
-use Rattle.usb_base.specs.declared.packets.Speed.{Speed}
-use Rattle.usb_base.specs.declared.packets.Speed.TheVariants as speeds
 use Rattle.usb_base.specs.declared.reports.OfferError.{OfferError}
 use Rattle.word_mem.specs.Memory.{Mem, word_at}
 use Rattle.word_mem.specs.Views.{words_at}
 use Rattle.qh_qtd.specs.declared.queue_head.Qh.{Qh}
 use Rattle.qh_qtd.specs.QueueHead.{IsQhInRange, qh_words}
 use Rattle.qh_qtd.proofs.QhLaws.{qh_read-words}
-use Rattle.bandwidth.specs.Placements.{IsWant, most_multi}
+use Rattle.bandwidth.specs.Placements.{IsWant}
 use Rattle.bandwidth.specs.declared.placements.Placement.{Placement}
 use Rattle.bandwidth.specs.declared.placements.Placed.{Placed}
 use Rattle.drv_periodic_table.specs.Periodic.{is_periodic, want_of, queue_member}
@@ -31,7 +30,6 @@ use Rattle.law_driver.specs.run_owners.Accepts.{Accepts, Chains}
 use Rattle.law_driver.specs.in_place.InPlace.{IsInPlace}
 use Rattle.law_driver.specs.queue_head_words.Overlay.{HasQueueHead, of_endpoint}
 use Rattle.law_driver.proofs.lemmas.run_owners.Commands.{each_command_has_its_reason}
-use Rattle.law_driver.proofs.lemmas.run_owners.Ordered.{pushed}
 use Rattle.law_driver.proofs.lemmas.queue_head_words.Offering.{accepted_leaves}
 use Rattle.law_admission.specs.Budgets.{Account, account_of}
 use Rattle.law_admission.specs.Opens.{OpenAfter}
@@ -96,10 +94,6 @@ new_fields m b x p link dummy range some words =
       capabilities = sym two ∙ same_second x p link dummy;
     }
 
-multi_few : (speed : Speed) (n : ℕ) → n ≤ most_multi speed → n ≤ 3
-multi_few speeds.High n most = most
-multi_few _ n most = omega (arith, most)
-
 -- ---- an accepted command
 
 -- each endpoint is seen as it was
@@ -156,10 +150,6 @@ open_plan d x o false why y at = subst (λ (a : Account). IsAmong a.plan.placed 
 
 -- ---- the fields
 
-last_of_all : {X : Type 0} (P : X → Type 0) (xs : List X) (x : X) → AllByRecursion P (xs ++ x ∷ []) → P x
-last_of_all P [] x all = all.0
-last_of_all P (y ∷ ys) x all = last_of_all P ys x all.1
-
 module _ (d : DriverContent) (m : Mem) (o : Offered) (place : IsInPlace m d) (planned : IsPlanned d) (reason : Accepts d m o) (have : HeadsHaveFields d m) where
   old_fields : (e : ℕ) (x : Endpoint) (p : Placement) → slice_get d.endpoints e ≡ Some x → is_iso x.desc.kind ≡ false → x.gone ≡ false → x.placement ≡ Some p → FieldsAt o.memory x.queue x.desc p
   old_fields e x p here queue kept placed =
@@ -180,7 +170,7 @@ module _ (d : DriverContent) (m : Mem) (o : Offered) (place : IsInPlace m d) (pl
       ⊎_elim (λ (was : slice_get d.endpoints e ≡ Some z). old_fields e z p was queue kept placed)
       (λ (is : (e ≡ length d.endpoints) × (z ≡ y)).
       subst (λ (v : Endpoint). is_iso v.desc.kind ≡ false → v.placement ≡ Some p → FieldsAt o.memory v.queue v.desc p) (sym is.1) (new p) queue placed)
-      (pushed d.endpoints y e z (ap (λ (xs : List Endpoint). slice_get xs e) (sym are) ∙ here))
+      (push_which d.endpoints y e z (ap (λ (xs : List Endpoint). slice_get xs e) (sym are) ∙ here))
 
   none_placed : (p : Placement) → ◌≡◌ {A = Option Placement} None (Some p) → ⊥
   none_placed p is = cc

@@ -3,6 +3,8 @@ use Rattle.std.proofs.Common.{◌≡◌, ◌≢◌, ℕ, ◌*◌, ◌⊎◌, Boo
 use Rattle.std.specs.Prelude.{◌||◌, not}
 use Rattle.std.proofs.lemmas.Bool.{false≢true, and_parts}
 use Rattle.std.proofs.lemmas.Option.{same_Some}
+use Rattle.law_frame_list.proofs.Common.{no_descriptor}
+use Rattle.law_common.proofs.Numbers.{same_blocks}
 use Rattle.usb_base.specs.declared.packets.EpKind.{EpKind}
 use Rattle.usb_base.specs.declared.packets.EpKind.TheVariants as kinds
 use Rattle.drv_chains.specs.declared.members.Member.{Member}
@@ -36,7 +38,6 @@ use Rattle.law_descriptors.specs.Removed.{IsRemovedAt, a_descriptor, a_queue, a_
 use Rattle.law_descriptors.proofs.Standing.{both_off, IsAtOwner, on_owner}
 use Rattle.law_descriptors.proofs.Finding.{begins_at, member_kind, member_at}
 use Rattle.law_descriptors.proofs.Leading.{led_linked, led_spread}
-use Rattle.law_descriptors.proofs.Returning.{no_descriptor, same_blocks}
 use Rattle.bus_world.specs.World.{World}
 use Rattle.law_world.specs.memory.Mixed.{Standing, IsMixedAt}
 use Rattle.law_microframes.specs.visits.Belonging as belonging

@@ -7,6 +7,9 @@ use Rattle.std.proofs.lemmas.Result.{IfOk-at_ok}
 use Rattle.std.specs.List.{position}
 use Rattle.std.proofs.lemmas.List.{get_or-set_same, get_or-drop, length-append, length-drop, length-set}
 use Rattle.std.proofs.lemmas.List.Quantifiers.{position-Some}
+use Rattle.law_admission.proofs.Common.{or_else}
+use Rattle.law_driver.proofs.Common.{blocks_run, drop_old}
+use Rattle.law_common.proofs.Lists.{drop_first}
 use Rattle.usb_base.specs.declared.commands.Cmd.TheVariants as commands
 use Rattle.usb_base.specs.declared.endpoints.EpName.{EpName}
 use Rattle.usb_base.specs.declared.endpoints.EpDesc.{EpDesc}
@@ -44,12 +47,11 @@ use Rattle.drv_table.specs.Offers.{offered, offered_next}
 use Rattle.claims_driver.specs.Owners.{HasRun, is_descriptor, runs_of_transfer}
 use Rattle.law_driver.specs.in_place.InPlace.{IsInPlace}
 use Rattle.law_driver_ring.proofs.Lists.{IsOneOf}
-use Rattle.law_driver.proofs.lemmas.run_owners.Taking.{AreTaken, runs_taken, run_some, blocks_some}
+use Rattle.law_driver.proofs.lemmas.run_owners.Taking.{AreTaken, runs_taken, run_some}
 use Rattle.law_driver.specs.run_owners.Accepts.{Accepts}
-use Rattle.law_driver.proofs.lemmas.run_owners.Accepted.{drop_first}
 use Rattle.law_driver.proofs.lemmas.run_owners.Runs.{placed_run}
 use Rattle.law_descriptors.specs.Written.{HasFields, words_in as words_of_descriptor}
-use Rattle.law_descriptors.proofs.Accepted.{drop_old, made, all_transfers, notes_other}
+use Rattle.law_descriptors.proofs.Accepted.{made, all_transfers, notes_other}
 use Rattle.law_world.specs.memory.framed_memory.Isochronous.{AwaitsLend, AreAwaiting}
 use Rattle.law_microframes.specs.visits.DescriptorFields.{itd_in, HaveItdFields, IsServed, ItdsStand}
 use Rattle.law_microframes.proofs.lemmas.visits.BelongSeen.{Seen, seen_in, IsSeenIn, seen_set, seen_there}
@@ -78,10 +80,6 @@ pub record IsIsoOf (d : DriverContent) (m : Mem) (name : EpName) (len : ℕ) (o 
   pub accepted : IsIsoAccepted d m o
   pub named : is_same_name accepted.endpoint.desc.name name ≡ true
   pub same : accepted.len ≡ len
-
-or_else : (P : Offered → Type 0) (b : Bool) (x y : Result Offered OfferError) → IfOk x P → IfOk y P → IfOk (if b then x else y) P
-or_else P true x y one two = one
-or_else P false x y one two = two
 
 module _ (d : DriverContent) (m : Mem) (idle : d.command ≡ None) (name : EpName) where
   iso_taken : (e : ℕ) (x : Endpoint) (len n seed : ℕ) (r : Result Holding OfferError) → slice_get d.endpoints e ≡ Some x
@@ -307,7 +305,7 @@ module _ (d : DriverContent) (m : Mem) (o : Offered) (place : IsInPlace m d) (k 
         (new_noted k.after.book k.number k.endpoint.desc s k.count k.seed bs first new.index z enough
         (λ j below.
         let b = get_or bs j 0 in
-        let inside = slot_below k.after.book.slots b (slot_of k.after.book.slots b) refl (blocks_some _ (slot_of k.after.book.slots b) (by.taken.new j below)) in
+        let inside = slot_below k.after.book.slots b (slot_of k.after.book.slots b) refl (blocks_run _ (slot_of k.after.book.slots b) (by.taken.new j below)) in
         let many = by.taken.many in
         let as_many = place.sound.owners.owned.as_many in
         omega (arith, inside, many, as_many)) new.there)

@@ -1,6 +1,8 @@
 -- Each command that takes on no isochronous descriptors leaves the iTDs as they stand.
 use Rattle.std.proofs.Common.{if◌then◌else◌, ◌≡◌, ℕ, ◌+◌, ◌*◌, ◌/◌, ◌<◌, Bool, true, false, List, [], ◌∷◌, length, slice_get, Option, Some, None, Result, Ok, Err, option_map, ap, refl, sym, subst, ◌∙◌, ⊎_elim, arith}
 use Rattle.std.proofs.lemmas.Bool.{true≢false}
+use Rattle.law_microframes.proofs.Common.{idle_by}
+use Rattle.law_common.proofs.Lists.{push_which}
 use Rattle.usb_base.specs.declared.commands.Cmd.{Cmd}
 use Rattle.usb_base.specs.declared.commands.Cmd.TheVariants as commands
 use Rattle.usb_base.specs.declared.endpoints.EpName.{EpName}
@@ -24,12 +26,11 @@ use Rattle.drv_table.specs.DriverContent.{DriverContent}
 use Rattle.drv_table.specs.Accepting.{Offered}
 use Rattle.drv_table.specs.Offers.{Asked, offered, new_transfer}
 use Rattle.drv_table.specs.CancelOffers.{with_cancel, endpoint_members}
-use Rattle.law_driver.specs.run_owners.Accepts.{Accepts, opens, chains, places, transfers, describes, cancels, unchains}
+use Rattle.law_driver.specs.run_owners.Accepts.{Accepts}
 use Rattle.claims_driver.specs.Owners.{HasBlocks, DescriptorRuns, is_descriptor, runs_of_transfer}
 use Rattle.claims_driver.specs.LentRuns.{still_lends, begins_in}
 use Rattle.law_driver.specs.in_place.InPlace.{IsInPlace}
 use Rattle.law_driver.proofs.lemmas.run_owners.Commands.{each_command_has_its_reason}
-use Rattle.law_driver.proofs.lemmas.run_owners.Ordered.{pushed}
 use Rattle.law_driver.proofs.lemmas.run_owners.Stays.{or_done, begun_notes}
 use Rattle.law_structures.specs.lent_structures.Changes.{Leaves}
 use Rattle.law_driver.proofs.lemmas.queued_drivers.CommandReasons.{IsNew, in_ring, in_frames, bare, IsTakenOn, IsLeft, from_ring, from_frames, IsReasonOf, reason_of}
@@ -47,15 +48,6 @@ HasNoDescriptors (commands.Iso name count len seed) = ⊥
 HasNoDescriptors _ = Unit {0}
 
 -- ---- what is lent stays
-
-pub idle_by : (d : DriverContent) (m : Mem) (o : Offered) → Accepts d m o → d.command ≡ None
-idle_by d m o (opens why) = why.idle
-idle_by d m o (chains why) = why.idle
-idle_by d m o (places why) = why.idle
-idle_by d m o (transfers why) = why.idle
-idle_by d m o (describes why) = why.idle
-idle_by d m o (cancels why) = why.idle
-idle_by d m o (unchains why) = why.idle
 
 -- while no command is unfinished each descriptor is lent, and its words stay
 pub old_words : (d : DriverContent) (m new : Mem) (b n i : ℕ) → IsInPlace m d → d.command ≡ None → Leaves m new
@@ -102,7 +94,7 @@ module _ (d : DriverContent) (m : Mem) (o : Offered) where
   seen_pushed h e x below here =
       ⊎_elim {C = IsSeenIn d.endpoints e x} (λ (was : slice_get d.endpoints e ≡ Some x). record { endpoint = x; here = was; same = refl })
       (λ (is : (e ≡ length d.endpoints) × (x ≡ h.new)). let same = is.0 in absurd (omega (arith, same, below)))
-      (pushed d.endpoints h.new e x (ap (λ (xs : List Endpoint). slice_get xs e) (sym h.endpoints) ∙ here))
+      (push_which d.endpoints h.new e x (ap (λ (xs : List Endpoint). slice_get xs e) (sym h.endpoints) ∙ here))
 
   ok_is : {p q : Offered} → ◌≡◌ {A = Result Offered OfferError} (Ok p) (Ok q) → q ≡ p
   ok_is e = cc
@@ -115,7 +107,8 @@ module _ (d : DriverContent) (m : Mem) (o : Offered) where
             ⊎_elim (λ (was : slice_get d.transfers t ≡ Some z). was)
             (λ (new : (t ≡ length d.transfers) × (z ≡ new_transfer why.number a why.endpoint.dummy)).
             absurd (true≢false (sym sort ∙ ap (λ (c : Transfer). is_descriptor c.sort) new.1 ∙ queued)))
-            (pushed d.transfers (new_transfer why.number a why.endpoint.dummy) t z (ap (λ (g : Offered). slice_get g.driver.transfers t) (sym is) ∙ there));
+            (push_which d.transfers (new_transfer why.number a why.endpoint.dummy) t z
+            (ap (λ (g : Offered). slice_get g.driver.transfers t) (sym is) ∙ there));
         splits = λ b. ap (λ (g : Offered). (note_at g.driver.periodic.notes b).split) is;
         endpoints_are = seen_same (taken_same d m o name takes a why);
       }

@@ -1,4 +1,5 @@
 -- The fields of iTDs stand in memory at each moment of each script.
+use Rattle.law_world.proofs.Common.{lines_can}
 use Rattle.script_types.specs.declared.scripts.Script.{Script}
 use Rattle.bus_wire.specs.Bus.{fixed_of}
 use Rattle.law_world.specs.steps.receiving_runs.Runs.{IsKeptBy}
@@ -14,7 +15,6 @@ use Rattle.law_microframes.specs.visits.DescriptorFields.{ItdsStand, ScriptsKeep
 use Rattle.law_microframes.proofs.lemmas.visits.BelongItds.{new_itds_stand, controller_keeps_itds}
 use Rattle.law_microframes.proofs.lemmas.visits.BelongServed.{driver_keeps_itds}
 use Rattle.law_microframes.proofs.lemmas.visits.BelongItdAll.{command_keeps_itds}
-use Rattle.law_microframes.proofs.lemmas.visits.OneDescriptorMoments.{lines_can}
 
 record IsMixedWithItds (w : World) : Type 0 where
   mixed : IsMixedWorld w

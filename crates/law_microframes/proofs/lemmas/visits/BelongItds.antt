@@ -4,6 +4,9 @@ use Rattle.std.specs.Prelude.{is_some}
 use Rattle.std.specs.Result.{result_ok}
 use Rattle.std.proofs.lemmas.Bool.{false≢true, false_from_ne_true}
 use Rattle.std.proofs.lemmas.Option.{same_Some}
+use Rattle.law_driver.proofs.Common.{waits_is}
+use Rattle.law_common.proofs.Numbers.{same_blocks}
+use Rattle.law_microframes.proofs.Common.{ok_is}
 use Rattle.bus_wire.specs.Bus.{Fixed}
 use Rattle.word_mem.specs.Memory.{Mem, is_lent, reaches}
 use Rattle.word_mem.specs.Views.{words_at}
@@ -24,7 +27,6 @@ use Rattle.claims_driver.specs.Owners.{HasBlocks, TransferRuns, is_descriptor, r
 use Rattle.claims_driver.specs.Leaving.{HasOwners}
 use Rattle.claims_base.specs.Controller.{opening_base}
 use Rattle.law_driver_ring.specs.Inventory.{OfIsochronous, sort_of, IsLent, sorts_of, IsDriven}
-use Rattle.law_driver.proofs.lemmas.chained_transfers.Harvesting.{waits_is}
 use Rattle.law_structures.specs.lent_structures.Structures.{Isochronous, SplitIsochronous, Structures, StructureSets, HoldsIsochronous}
 use Rattle.law_ring.specs.walk_writes.Writes.{WritesLent}
 use Rattle.law_controller.proofs.lemmas.lent_writes.Controlling.{each_event_of_the_controller_writes_lent_words}
@@ -34,7 +36,6 @@ use Rattle.law_descriptors.specs.Described.{IsDescriptorLent, HasDescriptor, Has
 use Rattle.law_descriptors.specs.Both.{owns, both}
 use Rattle.law_descriptors.specs.Meeting.{met}
 use Rattle.law_descriptors.proofs.Standing.{both_on, both_off, IsAtOwner, on_owner}
-use Rattle.law_descriptors.proofs.Returning.{same_blocks}
 use Rattle.law_descriptors.specs.frame_keeps.Kept.{IsItdAfter, HasItdAfter, KeepsParts}
 use Rattle.law_descriptors.proofs.lemmas.kept_frames.Both.{events_keep_both}
 use Rattle.law_world.specs.steps.Streaming.{begins_by, transacts_by, wired}
@@ -44,7 +45,6 @@ use Rattle.law_world.specs.memory.Mixed.{Standing, IsMixedAt}
 use Rattle.law_microframes.specs.visits.DescriptorFields.{itd_in, ItdIsRead, HarvestedIsRead, NewItdsStand, ControllerKeepsItds}
 use Rattle.law_microframes.proofs.lemmas.visits.BelongDescriptors.{not_driven}
 use Rattle.law_microframes.proofs.lemmas.visits.BelongFields.{event_of}
-use Rattle.law_microframes.proofs.lemmas.visits.BelongReads.{ok_is}
 
 -- ---- what is read
 

@@ -1,4 +1,5 @@
 -- The fields of the queue heads of interrupt endpoints stand in memory at each moment of each script.
+use Rattle.law_world.proofs.Common.{lines_can}
 use Rattle.script_types.specs.declared.scripts.Script.{Script}
 use Rattle.bus_wire.specs.Bus.{fixed_of}
 use Rattle.law_world.specs.steps.receiving_runs.Runs.{IsKeptBy}
@@ -13,7 +14,6 @@ use Rattle.law_world.proofs.lemmas.memory.CommandKeeping.{command_keeps_mixed}
 use Rattle.law_microframes.specs.visits.Belonging.{HeadsHaveFields, ScriptsKeepFields}
 use Rattle.law_microframes.proofs.lemmas.visits.BelongFields.{new_heads_have_fields, controller_keeps_fields, driver_keeps_fields}
 use Rattle.law_microframes.proofs.lemmas.visits.BelongCommands.{command_keeps_fields}
-use Rattle.law_microframes.proofs.lemmas.visits.OneDescriptorMoments.{lines_can}
 
 record IsMixedWithFields (w : World) : Type 0 where
   mixed : IsMixedWorld w

@@ -1,9 +1,8 @@
 -- What the plan has after an event of the driver: all that it had, but for the placement of the endpoint that is given back.
-use Rattle.std.proofs.Common.{◌≡◌, ◌≢◌, ℕ, zero, suc, Bool, true, false, cond, List, [], ◌∷◌, filter, slice_get, Option, Some, None, ap, sym, subst, ◌∙◌, arith}
-use Rattle.std.specs.Prelude.{not, nat_eq}
+use Rattle.std.proofs.Common.{◌≡◌, ◌≢◌, ℕ, zero, suc, Bool, true, false, cond, List, [], ◌∷◌, filter, slice_get, Option, Some, None, ap, sym, subst, ◌∙◌}
 use Rattle.std.proofs.lemmas.Bool.{false≢true}
-use Rattle.std.proofs.lemmas.Bool.Decides.{nat_tests}
 use Rattle.std.proofs.lemmas.Option.{same_Some}
+use Rattle.law_common.proofs.Numbers.{not_its}
 use Rattle.bandwidth.specs.declared.placements.Placement.{Placement}
 use Rattle.bandwidth.specs.declared.placements.Placed.{Placed}
 use Rattle.drv_periodic_table.specs.declared.content.Removed.TheVariants as removed
@@ -49,9 +48,6 @@ more test (x ∷ xs) y (suc i) is on = by (test x) (more test xs y i is on)
     by true k = further y x (filter test xs) k
     by false k = k
 
-not_equal : (a b : ℕ) → a ≢ b → not (nat_eq a b) ≡ true
-not_equal a b differs = grind (arith, nat_tests, differs)
-
 -- ---- the account
 
 abbrev Plan : Account → List Placed
@@ -63,7 +59,7 @@ taken_less a e (Some x) y at = less _ a.plan.placed y at
 
 taken_more : (a : Account) (e : ℕ) (o : Option Endpoint) (y : Placed) → y.want.id ≢ e → IsAmong (Plan a) y → IsAmong (Plan (taken_out a e o)) y
 taken_more a e None y differs at = at
-taken_more a e (Some x) y differs at = more _ a.plan.placed y at.place at.there (not_equal y.want.id e differs)
+taken_more a e (Some x) y differs at = more _ a.plan.placed y at.place at.there (not_its y.want.id e differs)
 
 after_less : (row : DriverRow) (d : DriverContent) (y : Placed) → IsAmong (Plan (account_after row d)) y → IsAmong d.periodic.plan.placed y
 after_less (rows.ReleaseRemoved (removed.Endpoint e)) d y at = taken_less (account_of d) e (slice_get d.endpoints e) y at

@@ -3,6 +3,10 @@ use Rattle.std.proofs.Common.{◌≡◌, ℕ, ◌*◌, ◌/◌, ◌≤◌, Bool,
 use Rattle.std.specs.Prelude.{◌||◌, ◌&&◌, ◌==◌, not, is_some}
 use Rattle.std.proofs.lemmas.Bool.{false≢true, true≢false, and_from, eq-eqb}
 use Rattle.std.proofs.lemmas.Option.{same_Some}
+use Rattle.law_driver.proofs.Common.{waits_is}
+use Rattle.law_frame_list.proofs.Common.{no_descriptor}
+use Rattle.law_common.proofs.Numbers.{same_blocks}
+use Rattle.law_common.proofs.Booleans.{owed_by}
 use Rattle.usb_base.specs.declared.packets.EpKind.{EpKind}
 use Rattle.usb_base.specs.declared.packets.EpKind.TheVariants as kinds
 use Rattle.drv_chains.specs.declared.members.Member.{Member}
@@ -29,7 +33,6 @@ use Rattle.law_driver.proofs.lemmas.planned_endpoints.Laws.{endpoints_count_unti
 use Rattle.law_frame_list.proofs.lemmas.list_spread.Spreading.{queue_there, members_share_no_block}
 use Rattle.law_structures.specs.lent_structures.Structures.{Structure, QueueHead, StructureSets}
 use Rattle.law_driver_ring.specs.Inventory.{Sort, OfQueueHead, sort_of, sorts_of, IsDriverOwned, the_head, a_queue as of_a_queue, IsDriven}
-use Rattle.law_driver.proofs.lemmas.chained_transfers.Harvesting.{waits_is}
 use Rattle.law_frames.specs.Met.{Kind, AQueue, IsMetQueue}
 use Rattle.law_descriptors.specs.Described.{HasDescriptor, AreDescribed}
 use Rattle.law_descriptors.specs.Both.{owns, both}
@@ -39,7 +42,7 @@ use Rattle.law_descriptors.specs.Removed.{IsRemovedAt, a_descriptor, a_queue, a_
 use Rattle.law_descriptors.proofs.Standing.{both_on, both_off, IsAtOwner, on_owner}
 use Rattle.law_descriptors.proofs.Finding.{begins_at, member_kind, member_at}
 use Rattle.law_descriptors.proofs.Leading.{led_linked, led_spread}
-use Rattle.law_descriptors.proofs.Returning.{no_descriptor, same_blocks, owed_by, frames_owed, transfer_counts, endpoint_counts}
+use Rattle.law_descriptors.proofs.Returning.{frames_owed, transfer_counts, endpoint_counts}
 use Rattle.bus_world.specs.World.{World}
 use Rattle.law_world.specs.memory.Mixed.{Standing, IsMixedAt}
 use Rattle.law_microframes.specs.visits.Belonging as belonging

@@ -1,11 +1,10 @@
 -- What is read of a queue head has the fields that stand in memory, and an endpoint has one.
-use Rattle.std.proofs.Common.{◌≡◌, ℕ, ◌+◌, ◌*◌, ◌/◌, max, Bool, true, false, List, slice_get, slice_index, Some, None, Result, Ok, Err, ap, refl, sym, subst, ◌∙◌, arith, if◌then◌else◌}
-use Rattle.std.specs.Result.{result_ok}
+use Rattle.std.proofs.Common.{◌≡◌, ℕ, ◌+◌, ◌*◌, ◌/◌, max, List, slice_get, slice_index, Some, Ok, ap, refl, sym, subst, ◌∙◌, arith}
 use Rattle.std.proofs.lemmas.Option.{same_Some}
+use Rattle.law_microframes.proofs.Common.{read_ok}
 use Rattle.word_mem.specs.Memory.{Mem, word_at}
 use Rattle.word_mem.specs.Views.{words_in, words_at}
 use Rattle.link_words.specs.Layout.{bits}
-use Rattle.link_words.specs.declared.refusal.Bad.{Bad}
 use Rattle.qh_qtd.specs.declared.queue_head.Qh.{Qh}
 use Rattle.qh_qtd.specs.QueueHead.{qh_at, qh_read}
 use Rattle.qh_qtd.proofs.QhLaws.{qh_read-is}
@@ -30,14 +29,6 @@ fields_at ws = record { eps = refl; longest = refl; mult = refl; smask = refl; c
 
 pub fields_read : (ws : List ℕ) (q : Qh) → qh_read ws ≡ Ok q → HasReadFields (slice_index ws 1) (slice_index ws 2) q
 fields_read ws q is = subst (HasReadFields (slice_index ws 1) (slice_index ws 2)) (sym (qh_read-is ws q is)) (fields_at ws)
-
-pub ok_is : {X : Type 0} (r : Result X Bad) (x : X) → result_ok r ≡ Some x → r ≡ Ok x
-ok_is (Ok y) x is = ap Ok (same_Some y x is)
-ok_is (Err bad) x is = absurd (cc)
-
-read_ok : (m : Mem) (a : ℕ) (q : Qh) (b : Bool) → (if b then result_ok (qh_read (words_at m a 12)) else None) ≡ Some q → qh_read (words_at m a 12) ≡ Ok q
-read_ok m a q true is = ok_is (qh_read (words_at m a 12)) q is
-read_ok m a q false is = absurd (cc)
 
 pub word_one : (ws : List ℕ) (a : ℕ) → slice_index (words_in ws a 12) 1 ≡ slice_index ws ((a + 4) / 4)
 unfolding words_in

@@ -1,9 +1,9 @@
 -- An event of the driver leaves the words of each descriptor that it has before and after it, but for its link (EHCI 1.0, 3.3, 3.3.1 and 4.6).
-use Rattle.std.proofs.Common.{◌≡◌, ◌≢◌, ℕ, ◌+◌, ◌*◌, ◌/◌, ◌<◌, ◌≤◌, Bool, true, false, cond, List, [], ◌∷◌, drop, take, slice_get, slice_index, Option, Some, None, option_map, if◌then◌else◌, ap, refl, sym, subst, ◌∙◌, ⊎_elim, inl, inr, arith}
+use Rattle.std.proofs.Common.{◌≡◌, ◌≢◌, ℕ, ◌+◌, ◌*◌, ◌/◌, ◌<◌, ◌≤◌, Bool, true, false, List, [], ◌∷◌, drop, take, slice_get, slice_index, Option, Some, None, option_map, if◌then◌else◌, ap, refl, sym, subst, ◌∙◌, ⊎_elim, inl, inr, arith}
 use Rattle.std.specs.Prelude.{◌⊎◌}
 use Rattle.std.proofs.lemmas.Bool.{cases_eq}
-use Rattle.std.proofs.lemmas.List.{get_or-set_other}
-use Rattle.word_mem.specs.Memory.{Mem, IsShaped, word_at, with_word}
+use Rattle.law_driver.proofs.Common.{maybe, not_list}
+use Rattle.word_mem.specs.Memory.{Mem, IsShaped, word_at}
 use Rattle.mem_runs.specs.Book.{holding, Stands, slot_of, can_store, store}
 use Rattle.drv_members.specs.Members.{Members}
 use Rattle.drv_periodic.specs.declared.work.Store.{Store}
@@ -27,7 +27,7 @@ use Rattle.drv_table.specs.Commands.{events_of}
 use Rattle.drv_table.specs.FrameChoice.{linked_descriptors, linked_by}
 use Rattle.drv_table.specs.Releases.{after_transfer, after_endpoint, freed_by}
 use Rattle.drv_table.specs.Removals.{stored_link, descriptor_leaving, after_unlink, after_descriptor, after_placed, after_removed}
-use Rattle.claims_driver.specs.Owners.{FrameList, Described, HasBlocks, HasRun, SlotHas, IsPlaced, is_descriptor, runs_of_transfer, views_of}
+use Rattle.claims_driver.specs.Owners.{Described, HasBlocks, HasRun, SlotHas, IsPlaced, is_descriptor, runs_of_transfer, views_of}
 use Rattle.law_driver.specs.run_owners.Due.{IsDue}
 use Rattle.claims_driver.specs.Leaving.{HasOwners}
 use Rattle.claims_driver.specs.Ring.{link_in}
@@ -42,13 +42,6 @@ use Rattle.law_driver.specs.in_place.InPlace.{IsInPlace}
 use Rattle.law_driver.proofs.lemmas.in_place.Laws.{events_keep_all_in_place}
 use Rattle.law_microframes.specs.visits.DescriptorFields.{IsMendedAt, ItdWordsStay}
 use Rattle.law_driver.proofs.lemmas.ring_members.Lists.{IsApartStore, store_is_apart}
-
-maybe : (m : Mem) (at v other : ℕ) (can : Bool) → at / 4 ≢ other / 4 → word_at (cond can (with_word m at v) m) other ≡ word_at m other
-maybe m at v other true differs = get_or-set_other m.words (at / 4) (other / 4) v 0 (λ same. differs (sym same))
-maybe m at v other false differs = refl
-
-list_not : (split : Bool) (t : ℕ) → FrameList ≡ Described split t → ⊥
-list_not split t same = cc
 
 abbrev IsOther : DriverRow → Type 0
 IsOther (rows.Mend w) = ⊥
@@ -99,7 +92,7 @@ module _ (p : Parts) (b t i : ℕ) (split : Bool) (stands : Stands (holding p.dr
   list_stored q at v k =
       stored p.memory q at v
       (λ same.
-      ⊎_elim (λ (w : (q ≡ 0) × (at < 4096)). absurd (list_not split t (sym has.owned.each.list.owned ∙ ap has.owner (sym w.0 ∙ same) ∙ placed.owned)))
+      ⊎_elim (λ (w : (q ≡ 0) × (at < 4096)). absurd (not_list split t (sym has.owned.each.list.owned ∙ ap has.owner (sym w.0 ∙ same) ∙ placed.owned)))
       (λ (w : HasRun (slot_of p.driver.book.slots q) × (at ≡ 32 * q)). w.1 ∙ ap (λ (k : ℕ). 32 * k) same) k.there)
 
   maybe_stored : (list : Periodic) (o : Option Store) → next_store list ≡ o → list.list ≡ 0 → ListApart p.driver list.members.schedule → Same (stored_link p.driver.book p.memory o)

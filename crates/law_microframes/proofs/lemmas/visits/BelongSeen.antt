@@ -3,6 +3,7 @@ use Rattle.std.proofs.Common.{◌≡◌, ◌≢◌, ℕ, zero, suc, ◌-◌, Boo
 use Rattle.std.specs.Prelude.{nat_lt, is_none, take, drop, if◌then◌else◌}
 use Rattle.std.proofs.lemmas.Bool.{cases_eq}
 use Rattle.std.proofs.lemmas.Option.{same_Some}
+use Rattle.law_common.proofs.Lists.{set_here, set_there}
 use Rattle.usb_base.specs.declared.endpoints.EpName.{EpName}
 use Rattle.usb_base.specs.declared.endpoints.EpDesc.{EpDesc}
 use Rattle.usb_base.specs.declared.endpoints.EndCause.{EndCause}
@@ -29,7 +30,6 @@ use Rattle.drv_table.specs.Rows.{after_driver_row}
 use Rattle.drv_table.specs.Releases.{after_transfer, is_told, cancel_told, after_endpoint}
 use Rattle.drv_table.specs.Removals.{after_unlink, after_descriptor, after_placed, after_removed}
 use Rattle.drv_table.specs.Harvesting.{told_with, behind_one, behind, after_end, harvested_as, served, after_harvest}
-use Rattle.law_driver.proofs.lemmas.run_owners.Released.{set_here, set_there}
 use Rattle.law_admission.proofs.Events.{either}
 
 -- ---- what an endpoint is

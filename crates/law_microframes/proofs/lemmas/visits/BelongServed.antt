@@ -4,6 +4,8 @@ use Rattle.std.specs.Prelude.{◌⊎◌}
 use Rattle.std.specs.List.{list_any}
 use Rattle.std.proofs.lemmas.Bool.{false≢true, or_parts, cases_eq, not-true}
 use Rattle.std.proofs.lemmas.Option.{same_Some}
+use Rattle.law_common.proofs.Lists.{set_there}
+use Rattle.law_driver.proofs.Common.{waits_is}
 use Rattle.word_mem.specs.Memory.{Mem}
 use Rattle.word_mem.specs.Views.{words_in}
 use Rattle.itd_sitd.specs.Slot.{slot_at}
@@ -26,8 +28,6 @@ use Rattle.drv_table.specs.Rows.{driver_row, after_driver_row}
 use Rattle.law_driver.specs.run_owners.Due.{IsDue, IsHarvestDue}
 use Rattle.claims_driver.specs.Owners.{is_descriptor}
 use Rattle.law_driver.proofs.lemmas.run_owners.Reasons.{each_event_is_due}
-use Rattle.law_driver.proofs.lemmas.run_owners.Released.{set_there}
-use Rattle.law_driver.proofs.lemmas.chained_transfers.Harvesting.{waits_is}
 use Rattle.bus_world.specs.World.{World, driver_parts, driver_next}
 use Rattle.law_world.specs.memory.Mixed.{IsMixedWorld}
 use Rattle.law_microframes.specs.visits.DescriptorFields.{itd_in, IsServed, HarvestedAreServed, DriverKeepsItds}

@@ -1,6 +1,8 @@
 -- The visits go on with each command, accepted or refused: it stores nothing that may be met, and whatever it begins to link or unlink has no store yet.
 use Rattle.std.proofs.Common.{◌≡◌, ℕ, ◌-◌, true, List, take, ◌∷◌, [], length, slice_get, Some, ap, refl, sym, subst, ◌∙◌}
 use Rattle.std.specs.Prelude.{is_some, slice_index, Result, Ok, Err}
+use Rattle.law_world.proofs.Common2.{linking_led, next_led}
+use Rattle.law_common.proofs.Lists.{still_there}
 use Rattle.usb_base.specs.declared.commands.Cmd.{Cmd}
 use Rattle.usb_base.specs.declared.reports.OfferError.{OfferError}
 use Rattle.drv_chains.specs.declared.members.Member.{Member}
@@ -27,8 +29,7 @@ use Rattle.law_world.proofs.lemmas.memory.CommandMemory.{placed_now, described_n
 use Rattle.law_world.proofs.lemmas.memory.lemmas.framed_memory.Chained.{chain_keeps_now}
 use Rattle.law_world.proofs.lemmas.memory.lemmas.framed_memory.Now.{now_has_frames}
 use Rattle.law_world.proofs.lemmas.memory.lemmas.framed_memory.QueueAccepting.{open_keeps_now, transfer_keeps_now, cancel_keeps_now, unchain_keeps_now}
-use Rattle.law_world.proofs.lemmas.memory.lemmas.framed_memory.Steps.{linking_led}
-use Rattle.law_world.proofs.lemmas.memory.lemmas.framed_memory.StillStanding.{IsThereStill, pushed_there, pushed_still, set_still, recent_still, unchain_recent_still, described_recent}
+use Rattle.law_world.proofs.lemmas.memory.lemmas.framed_memory.StillStanding.{IsThereStill, pushed_still, set_still, recent_still, unchain_recent_still, described_recent}
 use Rattle.law_frames.specs.Met.{Kind}
 use Rattle.law_microframes.specs.visits.Belonging.{IsQueueAt, IsStillAt}
 use Rattle.law_microframes.specs.visits.Ranks.{next_of}
@@ -41,7 +42,7 @@ use Rattle.law_microframes.proofs.lemmas.visits.DriverVisits.{half_led}
 use Rattle.law_microframes.proofs.lemmas.visits.FramedThere.{command_framed}
 use Rattle.law_microframes.proofs.lemmas.visits.InFrames.{same_back}
 use Rattle.law_microframes.proofs.lemmas.visits.InFramesCommands.{command_back}
-use Rattle.law_microframes.proofs.lemmas.visits.OwnSteps.{same_list, linking_half, linking_kept, next_led, next_half, next_kept, ended_list}
+use Rattle.law_microframes.proofs.lemmas.visits.OwnSteps.{same_list, linking_half, linking_kept, next_half, next_kept, ended_list}
 use Rattle.law_microframes.proofs.lemmas.visits.ToldLinks.{HasOwn, own_met, told_same}
 
 module _ (s : Standing) (w : World) (k : IsMixedAt s w) (start : World) (vs : List ℕ) (v : VisitsGoOnAt s start w vs) (line : ℕ) (cmd : Cmd) where
@@ -136,7 +137,7 @@ module _ (s : Standing) (w : World) (k : IsMixedAt s w) (start : World) (vs : Li
         subst (λ (f : Offered). IsThereStill f.driver.endpoints e x) (sym why.is)
         (set_still w.driver.endpoints why.number why.endpoint (with_queued why.endpoint dummy (length w.driver.transfers)) why.here refl refl e x at))
         (λ t y at.
-        subst (λ (f : Offered). slice_get f.driver.transfers t ≡ Some y) (sym why.is) (pushed_there w.driver.transfers (new_transfer why.number why.asked why.endpoint.dummy ∷ []) t y at))
+        subst (λ (f : Offered). slice_get f.driver.transfers t ≡ Some y) (sym why.is) (still_there w.driver.transfers (new_transfer why.number why.asked why.endpoint.dummy ∷ []) t y at))
         (ap (λ (f : Offered). f.driver.periodic.removals) why.is) v.visits.left_are
     recent_by (describes why) = described_recent w.driver w.memory o why v.visits.left w.registers.frame_index v.visits.left_are
     recent_by (cancels why) =

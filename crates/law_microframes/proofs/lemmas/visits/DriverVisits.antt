@@ -1,20 +1,19 @@
 -- The visits go on with each event of the driver that stores nothing of its frame list.
 use Rattle.std.proofs.Common.{◌≡◌, ◌≢◌, ℕ, zero, suc, ◌+◌, ◌*◌, ◌/◌, ◌≤◌, ◌<◌, ◌⊎◌, Bool, true, false, inl, inr, cond, if◌then◌else◌, List, length, slice_get, Option, Some, None, ⊎_elim, ap, refl, sym, subst, ◌∙◌, arith}
-use Rattle.std.specs.Prelude.{◌||◌, slice_index, nat_eq, nat_lt, option_map, drop, take}
-use Rattle.std.proofs.lemmas.Bool.{true≢false, false≢true, eq-eqb, lt-ltb, and_parts}
+use Rattle.std.specs.Prelude.{◌||◌, slice_index, nat_lt, option_map, drop, take}
+use Rattle.std.proofs.lemmas.Bool.{false≢true, lt-ltb, and_parts}
 use Rattle.std.proofs.lemmas.List.{get_or-set_other}
 use Rattle.std.proofs.lemmas.Option.{same_Some, slice_get-map}
+use Rattle.law_descriptors.proofs.Common.{removed_again, no_unchain}
+use Rattle.law_common.proofs.Lists.{some_below}
 use Rattle.word_mem.specs.Memory.{Mem, word_at, reaches, with_word}
 use Rattle.link_words.specs.Links.{link_read}
 use Rattle.mem_runs.specs.Book.{Book, Holding, holding, slot_of, store, can_store, lend_taken}
-use Rattle.drv_chains.specs.declared.boundary.Boundary.{Boundary}
-use Rattle.drv_chains.specs.declared.boundary.Boundary.TheVariants.{Unread, Since, Seen}
-use Rattle.drv_chains.specs.Boundary.{frame_number, after_reading}
 use Rattle.drv_chains.specs.Chains.{Schedule, id_of}
 use Rattle.drv_members.specs.Members.{is_linked, without_member}
 use Rattle.drv_periodic.specs.declared.work.Work.{Work}
 use Rattle.drv_periodic_table.specs.declared.content.Removal.{Removal}
-use Rattle.drv_periodic_table.specs.Periodic.{read_once, read_again}
+use Rattle.drv_periodic_table.specs.Periodic.{read_again}
 use Rattle.drv_table.specs.declared.content.Command.{Command}
 use Rattle.drv_table.specs.declared.content.Command.TheVariants as unfinished
 use Rattle.drv_table.specs.declared.content.Endpoint.{Endpoint}
@@ -35,7 +34,7 @@ use Rattle.law_driver.proofs.lemmas.ring_members.Freed.{lent_words}
 use Rattle.law_driver.proofs.lemmas.run_owners.Reasons.{each_event_is_due}
 use Rattle.claims_driver.specs.FrameWords.{HasMember}
 use Rattle.law_frames.specs.Met.{Kind}
-use Rattle.claims_driver.specs.Unlinked.{is_led, led_by, led, IsOpenAt}
+use Rattle.claims_driver.specs.Unlinked.{is_led, led_by, led}
 use Rattle.law_descriptors.specs.Removed.{IsRemovedSince, IsUnchainedNow}
 use Rattle.law_descriptors.specs.Meeting.{met}
 use Rattle.law_descriptors.specs.Recent.{AreRecent}
@@ -62,27 +61,9 @@ use Rattle.law_descriptors.specs.Lent.{IsLending}
 use Rattle.law_descriptors.proofs.Lends.{lend_leaves}
 use Rattle.law_descriptors.proofs.lemmas.descriptor_links.Links.{descriptors_are_given_links}
 use Rattle.law_world.specs.memory.framed_memory.Isochronous.{AwaitsLend}
-use Rattle.law_microframes.proofs.lemmas.visits.OwnSteps.{same_list, own_leaves, without_command, own_recent, some_below}
+use Rattle.law_microframes.proofs.lemmas.visits.OwnSteps.{same_list, own_leaves, own_recent}
 
 -- ---- a reading of FRINDEX
-
-same_frame : (index first : ℕ) (b : Bool) → first ≡ frame_number index → nat_eq (frame_number index) first ≡ b → IsOpenAt index (if b then Since first else Seen)
-same_frame index first true still is = still
-same_frame index first false still is = absurd (true≢false (sym (eq-eqb (frame_number index) first (sym still)) ∙ is))
-
-pub open_again : (index : ℕ) (b : Boundary) → IsOpenAt index b → IsOpenAt index (after_reading index b)
-open_again index Unread still = refl
-open_again index (Since first) still = same_frame index first (nat_eq (frame_number index) first) still refl
-open_again index Seen still = absurd still
-
-removed_again : (xs : List Endpoint) (ts : List Transfer) (rs : List Removal) (index n : ℕ) → IsRemovedSince xs ts rs index n → IsRemovedSince xs ts (read_again index rs) index n
-removed_again xs ts rs index n r = record {
-  place = r.place;
-  removal = read_once index r.removal;
-  here = slice_get-map (read_once index) rs r.place ∙ ap (option_map (read_once index)) r.here;
-  what = r.what;
-  within = open_again index r.removal.boundary r.within;
-}
 
 -- one whose removals were read once more
 read_recent : (d f : DriverContent) (left : ℕ → Option Kind) (index : ℕ) → f.endpoints ≡ d.endpoints → f.transfers ≡ d.transfers → f.command ≡ d.command → f.periodic.removals ≡ read_again index d.periodic.removals
@@ -265,7 +246,7 @@ module _ (s : Standing) (w : World) (k : IsMixedAt s w) (start : World) (vs : Li
   stays row next = not_unchain w.driver.command next.command next.unfinished (no_events next.command w.driver.made row next.next)
 
   dropped : (row : DriverRow) → IsNextOf (driver_parts w) row → AreRecent (no_command w.driver) w.registers.frame_index v.visits.left
-  dropped row next = without_command w.driver v.visits.left w.registers.frame_index (stays row next) v.visits.left_are
+  dropped row next = no_unchain w.driver v.visits.left w.registers.frame_index (stays row next) v.visits.left_are
 
   pub lend_visits : driver_row (driver_parts w) ≡ rows.Lend → VisitsGoOn start (driver_next w) vs
   lend_visits is =

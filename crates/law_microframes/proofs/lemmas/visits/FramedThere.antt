@@ -3,6 +3,10 @@ use Rattle.std.proofs.Common.{◌≡◌, ◌≢◌, ℕ, zero, suc, ◌+◌, ◌
 use Rattle.std.specs.Prelude.{is_none}
 use Rattle.std.proofs.lemmas.Bool.{true≢false, false≢true, not-true, and_parts, eqb-true, cases_lt}
 use Rattle.std.proofs.lemmas.Option.{same_Some, slice_get_within}
+use Rattle.law_common.proofs.Booleans.{out_owed, either_if}
+use Rattle.law_driver.proofs.Common.{once_is, waits_is, blocks_run}
+use Rattle.law_frame_list.proofs.Common.{no_descriptor}
+use Rattle.law_common.proofs.Numbers.{same_blocks}
 use Rattle.drv_chains.specs.declared.members.Descriptor.{Descriptor}
 use Rattle.drv_chains.specs.declared.members.QueueHead.{QueueHead as Queue}
 use Rattle.drv_chains.specs.declared.members.Member.{Member}
@@ -31,19 +35,16 @@ use Rattle.law_driver.specs.listed_members.Members.{IsDescribing, IsStanding, Is
 use Rattle.claims_driver.specs.Leaving.{leaves_frames, HasOwners}
 use Rattle.claims_driver.specs.Owners.{HasRun, is_descriptor, runs_of_transfer, views_of}
 use Rattle.law_descriptors.specs.Removed.{IsRemovedAt, a_descriptor, a_queue, a_waiting, IsRemovedSince, IsUnchainedNow}
-use Rattle.law_driver.proofs.lemmas.chained_transfers.Harvesting.{waits_is}
 use Rattle.law_driver.proofs.lemmas.listed_members.Standing.{IsSeen, seen, standing_block}
 use Rattle.law_driver.proofs.lemmas.listed_members.Owned.{queue_owned}
 use Rattle.law_driver.proofs.lemmas.run_owners.Reasons.{each_event_is_due}
 use Rattle.law_driver.proofs.lemmas.run_owners.Stays.{begun_notes}
-use Rattle.law_driver.proofs.lemmas.run_owners.Taking.{blocks_some}
 use Rattle.law_driver.specs.run_owners.Accepts.{Accepts, opens, chains, places, transfers, describes, cancels, unchains, Transfers, Describes, Unchains}
 use Rattle.law_frame_list.proofs.lemmas.list_spread.Spreading.{queue_there, standing_there}
 use Rattle.law_frames.specs.Met.{Kind}
 use Rattle.law_descriptors.specs.Meeting.{standing, or_recent, met}
 use Rattle.law_descriptors.specs.Recent.{AreRecent}
-use Rattle.law_descriptors.proofs.ListRows.{either_if}
-use Rattle.law_descriptors.proofs.Returning.{no_descriptor, same_blocks, endpoint_counts}
+use Rattle.law_descriptors.proofs.Returning.{endpoint_counts}
 use Rattle.bus_world.specs.World.{World, driver_parts, driver_next}
 use Rattle.claims_world.specs.Visits.{begins}
 use Rattle.law_world.specs.memory.Mixed.{Standing, IsMixedAt}
@@ -56,11 +57,6 @@ use Rattle.law_microframes.proofs.lemmas.visits.OneDescriptorDriven.{Follows, on
 use Rattle.law_microframes.proofs.lemmas.visits.LeftOwned.{HasName, has_name}
 use Rattle.law_microframes.proofs.lemmas.visits.OneDescriptorOffered.{either_pushed, describes_framed}
 use Rattle.law_microframes.proofs.lemmas.visits.OneDescriptorRows.{From, done_transfers, done_notes}
-
--- an endpoint that left its frames isn't in them
-out_of_frames : (c g p : Bool) → 1 ≤ (if c || g || not p then 0 else 1) → c ≡ false
-out_of_frames false g p one = refl
-out_of_frames true g p one = absurd (omega (arith, one))
 
 module _ (s : Standing) (w : World) (k : IsMixedAt s w) where
   abbrev d : DriverContent
@@ -147,7 +143,7 @@ module _ (s : Standing) (w : World) (k : IsMixedAt s w) where
         let owes_it : leaves_frames
         (slice_get w.driver.endpoints f) ≡ (if x.chained || x.gone || not (is_periodic x.desc.kind) then 0 else 1) = ap leaves_frames
         in_list in
-        true≢false (sym on ∙ out_of_frames x.chained x.gone (is_periodic x.desc.kind) (omega (arith, counts, most, owes_it)))
+        true≢false (sym on ∙ out_owed x.chained x.gone (is_periodic x.desc.kind) (omega (arith, counts, most, owes_it)))
 
     unchained_old : (g : ℕ) → w.driver.command ≡ Some (unfinished.Unchain g) → ⊥
     unchained_old g is = let same : Some (unfinished.Iso e first count) ≡ Some (unfinished.Unchain g) = sym taking ∙ is in cc
@@ -206,9 +202,6 @@ module _ (s : Standing) (w : World) (k : IsMixedAt s w) where
   lent_stays_framed n x low framed = follows_framed (driver_next w).driver n x its_follows low framed
 
 -- ---- a member of the list
-
-once_is : (a b : Descriptor) → ◌≡◌ {A = Member} (Once a) (Once b) → a ≡ b
-once_is a b e = cc
 
 module _ (d : DriverContent) (has : HasOwners d) (listed : IsListed d) (n : ℕ) where
   descriptor_framed : (c : Descriptor) → is_linked d.periodic.list.members.schedule (Once c) ≡ true → begins (Once c) ≡ n
@@ -278,7 +271,7 @@ module _ (s : Standing) (w : World) (k : IsMixedAt s w) (o : Offered) (left : �
       (λ e other. no_command_there w.driver.command e why.idle other) are n kind is in
       describes_framed w.driver w.memory o why sound k.now.framed.place.lent n x
       (λ b at. subst (λ (i : ℕ). HasRun (slot_of w.driver.book.slots i)) (same_blocks h.block b (sym h.at ∙ at))
-      (blocks_some h.run.0 (slot_of w.driver.book.slots h.block) h.run.1.1)) framed
+      (blocks_run h.run.0 (slot_of w.driver.book.slots h.block) h.run.1.1)) framed
     where
       no_command_there : (c : Option Command) (e : ℕ) → c ≡ None → c ≡ Some (unfinished.Unchain e) → ⊥
       no_command_there c e none some = cc

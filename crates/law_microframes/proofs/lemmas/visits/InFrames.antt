@@ -2,6 +2,9 @@
 -- no queue head for that of another endpoint, nor changes a placement.
 use Rattle.std.proofs.Common.{◌≡◌, ℕ, ◌*◌, ◌/◌, ◌%◌, true, false, List, slice_get, Some, option_map, ap, sym, subst, ◌∙◌}
 use Rattle.std.proofs.lemmas.Option.{same_Some}
+use Rattle.law_driver.proofs.Common.{each_is, same_endpoint}
+use Rattle.law_common.proofs.Numbers.{same_test, same_blocks}
+use Rattle.law_frame_list.proofs.Common.{no_descriptor}
 use Rattle.drv_chains.specs.declared.members.Descriptor.{Descriptor}
 use Rattle.drv_chains.specs.declared.members.QueueHead.{QueueHead as Queue}
 use Rattle.drv_chains.specs.declared.members.Member.{Member}
@@ -23,12 +26,10 @@ use Rattle.claims_driver.specs.Leaving.{HasOwners}
 use Rattle.claims_driver.specs.FrameListMembers.{Framed}
 use Rattle.law_driver.specs.listed_members.Members.{IsQueueOf, IsListed}
 use Rattle.law_driver.proofs.lemmas.listed_members.Owned.{queue_owned, descriptor_owned}
-use Rattle.law_driver.proofs.lemmas.listed_members.Standing.{IsFramed, framed, one_endpoint}
+use Rattle.law_driver.proofs.lemmas.listed_members.Standing.{IsFramed, framed}
 use Rattle.law_driver.proofs.lemmas.ring_members.Placed.{queue_placed, has_queue}
 use Rattle.law_driver.specs.planned_endpoints.Planned.{IsPlanned}
-use Rattle.law_driver.proofs.lemmas.planned_endpoints.Queues.{same_test}
 use Rattle.law_frame_list.proofs.lemmas.list_spread.Spreading.{queue_there, standing_there}
-use Rattle.law_descriptors.proofs.Returning.{no_descriptor, same_blocks}
 use Rattle.law_budgets.specs.visit_prices.Spent.{IsAmong, placed_as}
 use Rattle.claims_world.specs.Visits.{begins}
 use Rattle.law_microframes.specs.visits.Visited.{IsActiveAs}
@@ -46,7 +47,7 @@ module _ (d : DriverContent) (has : HasOwners d) (n : ℕ) where
   number_by : (b : IsQueueAt d n) (block e : ℕ) → n ≡ 32 * block → has.owner block ≡ QueueHead e → b.belongs.number ≡ e
   number_by b block e at owned =
       let same : b.belongs.endpoint.queue ≡ block = same_blocks b.belongs.endpoint.queue block (sym b.name ∙ at) in
-      one_endpoint b.belongs.number e (sym (owned_at b) ∙ ap has.owner same ∙ owned)
+      same_endpoint b.belongs.number e (sym (owned_at b) ∙ ap has.owner same ∙ owned)
 
   pub one_number : (b c : IsQueueAt d n) → b.belongs.number ≡ c.belongs.number
   one_number b c = number_by b c.belongs.endpoint.queue c.belongs.number c.name (owned_at c)
@@ -70,9 +71,6 @@ module _ (d : DriverContent) (has : HasOwners d) (n : ℕ) where
       no_descriptor b.belongs.number t ((views_of d).descriptor y.first).split (sym (owned_at b) ∙ ap has.owner same ∙ o.descriptor.owned)
 
 -- ---- a member of the list
-
-each_is : (q r : Queue) → ◌≡◌ {A = Member} (Each q) (Each r) → q ≡ r
-each_is q r e = cc
 
 frames_of : (q : Queue) (b : ℕ) (p : Placement) (f : ℕ) → Each q ≡ queue_member b p → queue_stands f q ≡ is_active p f
 frames_of q b p f e =

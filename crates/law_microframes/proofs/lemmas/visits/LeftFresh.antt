@@ -1,5 +1,9 @@
 -- A queue head that is in the frame list, or is to be, wasn't unlinked in this microframe: its endpoint is in its frames, so it isn't among what left them.
 use Rattle.std.proofs.Common.{◌≡◌, ℕ, ◌*◌, ◌/◌, ◌≤◌, Bool, true, false, not, ◌&&◌, ◌||◌, cond, if◌then◌else◌, slice_get, Option, Some, None, option_map, ⊎_elim, ap, refl, sym, ◌∙◌, arith}
+use Rattle.law_driver.proofs.Common.{same_endpoint}
+use Rattle.law_frame_list.proofs.Common.{no_descriptor}
+use Rattle.law_common.proofs.Numbers.{same_blocks}
+use Rattle.law_common.proofs.Booleans.{owed_by}
 use Rattle.drv_chains.specs.declared.members.QueueHead.{QueueHead as Queue}
 use Rattle.drv_chains.specs.declared.members.Member.TheVariants.{Each}
 use Rattle.drv_members.specs.Members.{is_linked}
@@ -15,13 +19,13 @@ use Rattle.claims_driver.specs.Owners.{QueueHead, is_descriptor, runs_of_transfe
 use Rattle.claims_driver.specs.Leaving.{times, endpoints_in, owes, leaves_frames, HasOwners}
 use Rattle.claims_driver.specs.FrameListMembers.{Framed}
 use Rattle.law_driver.specs.listed_members.Members.{IsQueueOf, IsListed}
-use Rattle.law_driver.proofs.lemmas.listed_members.Standing.{IsFramed, framed, one_endpoint}
+use Rattle.law_driver.proofs.lemmas.listed_members.Standing.{IsFramed, framed}
 use Rattle.law_driver.proofs.lemmas.listed_members.Owned.{queue_owned}
 use Rattle.law_frame_list.proofs.lemmas.list_spread.Spreading.{queue_there}
 use Rattle.law_frames.specs.Met.{Kind}
 use Rattle.law_descriptors.specs.Removed.{IsRemovedAt, a_descriptor, a_queue, a_waiting, IsRemovedSince, IsUnchainedNow}
 use Rattle.law_descriptors.specs.Recent.{AreRecent}
-use Rattle.law_descriptors.proofs.Returning.{no_descriptor, same_blocks, owed_by, frames_owed, transfer_counts, endpoint_counts}
+use Rattle.law_descriptors.proofs.Returning.{frames_owed, transfer_counts, endpoint_counts}
 use Rattle.law_microframes.proofs.lemmas.visits.BelongQueues.{waiting_held}
 
 module _ (d : DriverContent) (left : ℕ → Option Kind) (index : ℕ) (q : Queue) (has : HasOwners d) (listed : IsListed d) (on : is_linked d.periodic.list.members.schedule (Each q) ≡ true)
@@ -71,7 +75,7 @@ module _ (d : DriverContent) (left : ℕ → Option Kind) (index : ℕ) (q : Que
   removed_not k r _ at what (a_queue g v in_list bulk n) =
       let kept : v.gone ≡ false = gone_not g v in_list (endpoint_counts g d.periodic.removals k r at what) in
       let o = has.owned.each.queue g (runs_of_endpoint v) (ap (option_map runs_of_endpoint) in_list) (ap (λ (b : Bool). b || v.gone) bulk ∙ kept) in
-      let same : g ≡ s.number = one_endpoint g s.number (sym o.owned ∙ ap has.owner (sym (same_blocks (q.id / 32) v.queue n)) ∙ mine) in
+      let same : g ≡ s.number = same_endpoint g s.number (sym o.owned ∙ ap has.owner (sym (same_blocks (q.id / 32) v.queue n)) ∙ mine) in
       never k r at (what ∙ ap removed.Endpoint same)
   removed_not k r _ at what (a_waiting g u v z in_endpoints iso in_list is waiting n) =
       let kept : v.gone ≡ false = gone_not g v in_endpoints (endpoint_counts g d.periodic.removals k r at what) in

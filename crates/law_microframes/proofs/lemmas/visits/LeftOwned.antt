@@ -3,6 +3,8 @@
 use Rattle.std.proofs.Common.{◌≡◌, ◌≢◌, ℕ, suc, ◌*◌, ◌/◌, ◌≤◌, Bool, true, false, not, ◌&&◌, ◌||◌, if◌then◌else◌, slice_get, drop, Option, Some, None, option_map, ⊎_elim, ap, refl, sym, ◌∙◌, arith}
 use Rattle.std.proofs.lemmas.Bool.{true≢false}
 use Rattle.std.proofs.lemmas.Option.{same_Some}
+use Rattle.law_driver.proofs.Common.{get_drop, same_endpoint}
+use Rattle.law_common.proofs.Booleans.{owed_by}
 use Rattle.mem_runs.specs.declared.slots.Slot.{Slot}
 use Rattle.mem_runs.specs.Book.{holding, slot_of, store, IsAt}
 use Rattle.drv_chains.specs.Chains.{id_of}
@@ -27,10 +29,9 @@ use Rattle.link_words.specs.Links.{link_read}
 use Rattle.claims_driver.specs.Owners.{Owner, QueueHead, Described, SlotHas, HasBlocks, is_descriptor, runs_of_transfer, runs_of_endpoint, views_of}
 use Rattle.claims_driver.specs.Leaving.{times, endpoints_in, owes, leaves_frames, HasOwners}
 use Rattle.law_driver.specs.listed_members.Members.{IsListed}
-use Rattle.law_driver.proofs.lemmas.ring_members.Links.{LeadsTo, oldest_is, dropped}
+use Rattle.law_driver.proofs.lemmas.ring_members.Links.{LeadsTo, oldest_is}
 use Rattle.law_driver.proofs.lemmas.ring_members.Events.{open_store, unlink_store, publish_store, chain_never, iso_never, unchain_never, stands_as, block_of}
 use Rattle.law_driver.proofs.lemmas.ring_members.Stores.{slots_apart, store_elsewhere}
-use Rattle.law_driver.proofs.lemmas.listed_members.Standing.{one_endpoint}
 use Rattle.law_frame_list.proofs.lemmas.list_spread.Spreading.{IsHis, his, slot_has}
 use Rattle.law_frame_list.proofs.lemmas.list_aside.Aside.{IsOther, IsOwn, own}
 use Rattle.law_frames.specs.Met.{Kind}
@@ -40,7 +41,7 @@ use Rattle.law_descriptors.specs.Removed.{IsRemovedAt, a_descriptor, a_queue, a_
 use Rattle.law_descriptors.specs.Recent.{AreRecent}
 use Rattle.law_descriptors.proofs.Finding.{IsMemberAt}
 use Rattle.law_descriptors.proofs.Leading.{led_linked}
-use Rattle.law_descriptors.proofs.Returning.{owed_by, frames_owed, transfer_counts, endpoint_counts}
+use Rattle.law_descriptors.proofs.Returning.{frames_owed, transfer_counts, endpoint_counts}
 use Rattle.law_microframes.specs.visits.Ranks.{name_of, next_of}
 use Rattle.law_microframes.proofs.lemmas.visits.DriverGoesOn.{member_stands}
 use Rattle.law_microframes.proofs.lemmas.visits.BelongQueues.{waiting_held}
@@ -105,7 +106,7 @@ module _ (d : DriverContent) (left : ℕ → Option Kind) (index : ℕ) (has : H
         other = record {
           head = λ same. absurd (cc);
           ring = λ e x here ring same.
-              (let one : x ≡ v = same_Some x v (sym here ∙ ap (slice_get d.endpoints) (sym (one_endpoint g e same)) ∙ in_list) in
+              (let one : x ≡ v = same_Some x v (sym here ∙ ap (slice_get d.endpoints) (sym (same_endpoint g e same)) ∙ in_list) in
               true≢false (sym periodic ∙ ap (λ (z : Endpoint). is_periodic z.desc.kind) (sym one) ∙ ring));
           element = λ t same. absurd (cc);
         };
@@ -155,7 +156,7 @@ module _ (p : Parts) (sound : IsSound p.memory p.driver) where
   oldest_apart k whose q other owned same =
       ⊎_elim (λ (head : oldest_of (drop k p.driver.endpoints) ≡ head_block). head_apart whose q other owned (same ∙ head))
       (λ (l : LeadsTo (drop k p.driver.endpoints) (oldest_of (drop k p.driver.endpoints))).
-      ring_apart _ l.endpoint whose q (sym (dropped p.driver.endpoints k l.number) ∙ l.here) l.linked other owned (same ∙ sym l.queue))
+      ring_apart _ l.endpoint whose q (sym (get_drop p.driver.endpoints k l.number) ∙ l.here) l.linked other owned (same ∙ sym l.queue))
       (oldest_is (drop k p.driver.endpoints))
 
   own_apart : (c : Command) (b at v : ℕ) (whose : Owner) (q : ℕ) → p.driver.command ≡ Some c → slice_get (events_of c) p.driver.made ≡ Some (rows.Store b at v) → IsOther p.driver whose → sound.owners.owner q ≡ whose → q ≢ b

@@ -20,21 +20,24 @@ use Rattle.drv_periodic_table.specs.Periodic.{PeriodicContent, note_at}
 use Rattle.claims_driver.specs.Unlinked.{led_in, led, is_led, led_by}
 use Rattle.law_descriptors.specs.RowLaws.{HasFrames}
 use Rattle.law_microframes.specs.visits.Splices.{passed, IsSplice}
-use Rattle.law_microframes.proofs.lemmas.visits.SpliceWords.{nth_all, next_store_splices}
+use Rattle.law_microframes.proofs.lemmas.visits.SpliceWords.{next_store_splices}
 use Rattle.drv_chains.specs.Chains.{Schedule, id_of, is_the, stands_in, has_word, successor}
 use Rattle.drv_members.specs.Members.{Members, IsMember, is_linked, without_member, with_schedule, frame_of}
 use Rattle.drv_periodic.specs.Periodic.{Periodic, link_to, address_of, words_of, value_of, store_at, store_of, is_more, next_store, after_work, after_store}
 use Rattle.law_frame_words.specs.frame_words.InWords.{IsSpread}
 use Rattle.claims_driver.specs.FrameWords.{IsInOrder, StandsBy, StandFor, Begun, HasMember}
 use Rattle.law_frame_words.proofs.lemmas.frame_words.InChains.{fewer_in, words_in}
-use Rattle.law_frame_list.proofs.lemmas.list_closed.Chained.{still_linked, successor_is, same_successor, first_frame_is, member_of_kept}
-use Rattle.std.specs.Prelude.{◌||◌, ◌&&◌, nat_lt, slice_get, option_map, option_and_then}
-use Rattle.std.proofs.lemmas.Bool.{true≢false, and_from, eq-eqb, eqb-true, ne_eqb, ltb-true, cases_eq}
+use Rattle.law_frame_list.proofs.lemmas.list_closed.Chained.{successor_is, same_successor, first_frame_is, member_of_kept}
+use Rattle.std.specs.Prelude.{◌||◌, nat_lt, slice_get, option_map, option_and_then}
+use Rattle.std.proofs.lemmas.Bool.{true≢false, eq-eqb, eqb-true, ne_eqb, ltb-true, cases_eq}
+use Rattle.law_frame_words.proofs.Common.{same_itself}
+use Rattle.law_descriptors.proofs.Common.{others_led}
+use Rattle.law_common.proofs.Lists.{nth_all}
+use Rattle.law_common.proofs.Numbers.{same_blocks}
 use Rattle.law_frames.specs.Met.{Kind, AQueue, AnItd, ASitd, LeadsTo}
 use Rattle.law_descriptors.specs.Meeting.{kind_of, standing}
 use Rattle.law_descriptors.proofs.Finding.{IsMemberAt}
 use Rattle.law_descriptors.proofs.Leading.{led_linked, elements_lead_to_standing}
-use Rattle.law_descriptors.proofs.Returning.{same_blocks}
 use Rattle.law_microframes.specs.visits.Ranks.{name_of, next_of, height_to, IsRanked}
 use Rattle.claims_world.specs.Visits.{begins}
 use Rattle.law_microframes.proofs.lemmas.visits.DriverGoesOn.{IsListSpread, linked_stands, member_stands}
@@ -105,17 +108,8 @@ leads_met met (links.Fstn a) j leads is = absurd leads
 
 -- ---- members
 
-pub same_itself : (x : Member) → is_same x x ≡ true
-same_itself (Once d) = and_from (nat_eq d.id d.id) (nat_eq d.frame d.frame) (eq-eqb d.id d.id refl) (eq-eqb d.frame d.frame refl)
-same_itself (Each q) = and_from (nat_eq q.id q.id) (nat_eq q.period q.period && nat_eq q.phase q.phase) (eq-eqb q.id q.id refl)
-    (and_from (nat_eq q.period q.period) (nat_eq q.phase q.phase) (eq-eqb q.period q.period refl) (eq-eqb q.phase q.phase refl))
-
 first_word : (b : ℕ) → b * 32 ≡ 32 * b
 first_word b = omega arith
-
-others_led : (s : Schedule) (w : Work) (x : Member) (b : Bool) → is_the w.member x ≡ false → is_linked s x ≡ true → is_linked (if b then s else without_member s w.member) x ≡ true
-others_led s w x true other on = on
-others_led s w x false other on = still_linked s w.member x other on
 
 after_fewer : (p : Periodic) (x : Member) (o : Option Work) → is_linked (led_in (after_work p o)) x ≡ true → is_linked p.members.schedule x ≡ true
 after_fewer p x None on = led_linked p.members.schedule p.work x on

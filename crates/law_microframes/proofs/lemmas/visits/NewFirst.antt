@@ -3,6 +3,7 @@ use Rattle.std.proofs.Common.{map, ◌≡◌, ℕ, ◌<◌, ◌+◌, Bool, true,
 use Rattle.std.specs.Prelude.{filter, nat_lt, is_none}
 use Rattle.std.proofs.lemmas.Bool.{true≢false, eq-eqb, eqb-true, ltb-true}
 use Rattle.std.proofs.lemmas.Option.{same_Some}
+use Rattle.law_common.proofs.Booleans.{either}
 use Rattle.drv_chains.specs.declared.members.Descriptor.{Descriptor}
 use Rattle.drv_chains.specs.declared.members.Member.{Member}
 use Rattle.drv_chains.specs.declared.members.Member.TheVariants.{Once, Each}
@@ -14,7 +15,6 @@ use Rattle.drv_periodic.specs.declared.work.Work.{Work}
 use Rattle.drv_periodic.specs.Periodic.{Periodic, begun as begun_work, inserting, removing, is_more, members_after, after_work, after_store}
 use Rattle.drv_periodic_table.specs.Linking.{may_link, may_unlink, linking, unlinking, begun, with_first, begun_next}
 use Rattle.drv_periodic_table.specs.Periodic.{PeriodicContent}
-use Rattle.law_controller.proofs.lemmas.aligned_copies.Reading.{either}
 use Rattle.law_descriptors.proofs.Returning.{none_some}
 use Rattle.law_microframes.specs.visits.Visited.{IsFirstIn, NewIsFirst}
 use Rattle.law_microframes.proofs.lemmas.visits.SpliceWords.{rest_in, with_chain}

@@ -1,9 +1,13 @@
 -- What the words of memory link in a frame stands there, also while a member is linked or unlinked (EHCI 1.0, 3.1, 3.3.1 and 4.6).
-use Rattle.std.proofs.Common.{◌≡◌, ℕ, ◌*◌, ◌/◌, ◌<◌, Bool, true, false, List, [], ◌∷◌, Option, Some, None, if◌then◌else◌, ⊎_elim, ap, refl, sym, subst, ◌∙◌, arith}
+use Rattle.std.proofs.Common.{◌≡◌, ℕ, ◌/◌, ◌<◌, Bool, true, false, List, [], ◌∷◌, Option, Some, None, if◌then◌else◌, ⊎_elim, ap, refl, sym, subst, ◌∙◌}
 use Rattle.std.specs.Prelude.{◌&&◌, ◌||◌, nat_lt, take}
 use Rattle.std.specs.List.{AllByRecursion}
 use Rattle.std.proofs.lemmas.Bool.{true≢false, cases_Bool}
 use Rattle.std.proofs.lemmas.Option.{same_Some}
+use Rattle.law_common.proofs.Booleans.{and_false}
+use Rattle.law_common.proofs.Numbers.{first_word}
+use Rattle.law_microframes.proofs.Common.{no_work}
+use Rattle.law_descriptors.proofs.Common.{gone}
 use Rattle.word_mem.specs.Memory.{Mem, word_at}
 use Rattle.link_words.specs.Links.{link_read}
 use Rattle.drv_chains.specs.declared.members.Member.{Member}
@@ -31,7 +35,6 @@ use Rattle.claims_world.specs.Visits.{name_of, next_of, IsLedTo, begins}
 use Rattle.law_microframes.specs.visits.Coverage.{ChainIsStanding}
 use Rattle.law_microframes.specs.visits.Visited.{StandsIn}
 use Rattle.law_microframes.proofs.lemmas.visits.NoneLeft.{way_on, no_way}
-use Rattle.law_microframes.proofs.lemmas.visits.NoneLeftStores.{gone}
 use Rattle.law_microframes.proofs.lemmas.visits.VisitElements.{structure_name}
 
 -- ---- each that is shown stands in the frame
@@ -40,13 +43,6 @@ record IsShownAs (s : Schedule) (o : Option Work) (f : ℕ) (x : Member) : Type 
   linked : is_linked (led_by s o) x ≡ true
   in_frame : stands_in f x ≡ true
   stays : (v : Work) → o ≡ Some v → v.removes ≡ true → v.member ≡ x → is_made s v.member (made_of s v) f ≡ false
-
-no_work : (v : Work) → None ≡ Some v → ⊥
-no_work v is = cc
-
-and_false : (b : Bool) → (b && false) ≡ false
-and_false true = refl
-and_false false = refl
 
 -- before the first store none is made
 pub unmade : (s : Schedule) (v : Work) (f : ℕ) → v.made ≡ 0 → is_made s v.member (made_of s v) f ≡ false
@@ -152,9 +148,6 @@ record IsFound (P : Member → Type 0) (n : ℕ) : Type 0 where
   member : Member
   at : begins member ≡ n
   is : P member
-
-first_word : (b : ℕ) → 32 * b ≡ b * 32
-first_word b = omega arith
 
 module _ (m : Mem) (list n : ℕ) (P : Member → Type 0) (ends : name_of (link_read 1) ≡ None)
     (named : (x : Member) → P x → name_of (link_read (id_of x)) ≡ Some (begins x)) where

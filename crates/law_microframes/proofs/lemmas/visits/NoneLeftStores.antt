@@ -1,21 +1,23 @@
 -- A store of the frame list leaves each way of the frame's to a structure, unless it unlinks that there: it puts a member between two others of the way, or takes one out of it (EHCI 1.0,
 -- 3.1, 3.3.1 and 4.6).
-use Rattle.std.proofs.Common.{◌≡◌, ◌≢◌, ℕ, zero, suc, ◌+◌, ◌<◌, ◌⊎◌, Bool, true, false, not, nat_eq, List, [], ◌∷◌, ◌++◌, Option, Some, None, if◌then◌else◌, ⊎_elim, ap, refl, sym, subst, ◌∙◌, arith}
-use Rattle.std.specs.Prelude.{◌&&◌, ◌||◌, slice_get, take}
-use Rattle.std.proofs.lemmas.Bool.{true≢false, false≢true, and_parts, and_from, or_cases, eq-eqb, eqb-true, cases_eq, cases_Bool}
-use Rattle.std.proofs.lemmas.Map.Views.{any-filter_same}
+use Rattle.std.proofs.Common.{◌≡◌, ◌≢◌, ℕ, zero, suc, ◌+◌, ◌<◌, ◌⊎◌, Bool, true, false, List, [], ◌∷◌, ◌++◌, Option, Some, None, if◌then◌else◌, ⊎_elim, ap, refl, sym, subst, ◌∙◌, arith}
+use Rattle.std.specs.Prelude.{◌||◌, slice_get, take}
+use Rattle.std.proofs.lemmas.Bool.{true≢false, false≢true, and_parts, and_from, or_cases, eqb-true, cases_eq, cases_Bool}
 use Rattle.std.proofs.lemmas.Option.{same_Some}
+use Rattle.law_common.proofs.Booleans.{right_or}
+use Rattle.law_descriptors.proofs.Common.{gone}
+use Rattle.law_frame_words.proofs.Common.{word_itself}
 use Rattle.word_mem.specs.Memory.{Mem}
 use Rattle.link_words.specs.Links.{link_read}
 use Rattle.drv_chains.specs.declared.members.Member.{Member}
 use Rattle.drv_chains.specs.declared.members.Member.TheVariants.{Once, Each}
 use Rattle.drv_chains.specs.declared.members.Predecessor.{Predecessor}
-use Rattle.drv_chains.specs.declared.members.Predecessor.TheVariants.{Element, After}
+use Rattle.drv_chains.specs.declared.members.Predecessor.TheVariants.{Element}
 use Rattle.drv_chains.specs.Chains.{Schedule, of_lists, is_period, stands_in, has_word, predecessor, successor}
 use Rattle.drv_chains.specs.Stores.{is_word, is_among, is_made}
 use Rattle.drv_chains.proofs.Following.{follows}
-use Rattle.drv_members.specs.Ranks.{is_named, is_called}
-use Rattle.drv_members.specs.Members.{IsKept, IsMember, is_that, is_this, is_linked, without_member, with_schedule, frame_of}
+use Rattle.drv_members.specs.Ranks.{is_named}
+use Rattle.drv_members.specs.Members.{IsKept, IsMember, is_linked, without_member, with_schedule, frame_of}
 use Rattle.drv_members.proofs.Keeping.{queue_at, queue_named}
 use Rattle.drv_members.proofs.Splits.{IsAt}
 use Rattle.drv_periodic.specs.declared.work.Work.{Work}
@@ -29,19 +31,9 @@ use Rattle.claims_world.specs.Visits.{name_of, next_of, IsLedTo, is_there, leads
 use Rattle.law_microframes.specs.visits.Ranks.{IsRanked}
 use Rattle.law_microframes.specs.visits.Visited.{StandsIn}
 use Rattle.law_microframes.proofs.lemmas.visits.AheadStores.{word_before}
-use Rattle.law_microframes.proofs.lemmas.visits.LinkSteps.{ListStep, GoesAt, at_element, at_member, next_name, g as its_word, goes, its as its_way, schedule, one_name, same_itself, all_led, then_linked, other_led, own, value_false, value_true, before_false, before_true}
+use Rattle.law_microframes.proofs.lemmas.visits.LinkSteps.{ListStep, GoesAt, at_element, at_member, next_name, g as its_word, goes, its as its_way, schedule, one_name, all_led, then_linked, other_led, own, value_false, value_true, before_false, before_true}
 use Rattle.law_microframes.proofs.lemmas.visits.NoneLeft.{way_on}
 use Rattle.law_microframes.proofs.lemmas.visits.SpliceWords.{IsBefore, serves_by}
-
--- ---- a member that was taken out isn't linked
-
-pub gone : (s : Schedule) (m : Member) → is_linked (without_member s m) m ≡ false
-gone s (Once d) =
-    any-filter_same (is_that d) (λ x. not (is_called d.id x)) false
-    (λ x is. ap not (and_parts (nat_eq x.id d.id) (nat_eq x.frame d.frame) is).0) s.descriptors
-gone s (Each q) =
-    any-filter_same (is_this q) (λ x. not (is_named q.id x)) false
-    (λ x is. ap not (and_parts (nat_eq x.id q.id) (nat_eq x.period q.period && nat_eq x.phase q.phase) is).0) s.queues
 
 -- ---- a member's word in each frame that has it
 
@@ -62,14 +54,6 @@ same_word s (Each q) f g kept is on stands has =
     ∙ ap (λ (t : Schedule). predecessor t (Each q) g) (sym put)
 
 -- ---- which stores were made
-
-word_itself : (v : Predecessor) → is_word v v ≡ true
-word_itself (Element f) = eq-eqb f f refl
-word_itself (After x) = same_itself x
-
-right_or : (a b : Bool) → b ≡ true → (a || b) ≡ true
-right_or true b on = refl
-right_or false b on = on
 
 pub among_next : (ws : List Predecessor) (k : ℕ) (v : Predecessor) → slice_get ws k ≡ Some v → is_among (take (suc k) ws) v ≡ true
 among_next [] k v there = absurd cc

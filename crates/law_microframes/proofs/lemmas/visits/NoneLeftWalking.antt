@@ -1,14 +1,12 @@
 -- An event of the controller that begins no microframe goes on to what is to come, or visits it (EHCI 1.0, 4.6, 4.7, 4.10 and 4.12).
 use Rattle.std.proofs.Common.{◌≡◌, ◌≢◌, ℕ, ◌⊎◌, Bool, true, false, inl, inr, if◌then◌else◌, List, ◌∷◌, Option, Some, None, ⊎_elim, ap, refl, sym, subst, ◌∙◌}
+use Rattle.law_microframes.proofs.Common.{no_queue_end, no_itd_end, no_sitd_end}
 use Rattle.usb_base.specs.declared.packets.Ask.{Ask}
 use Rattle.usb_base.specs.declared.packets.Reply.{Reply}
 use Rattle.word_mem.specs.Memory.{Mem}
 use Rattle.link_words.specs.declared.kinds.Link.{Link}
 use Rattle.link_words.specs.declared.kinds.Link.TheVariants as links
 use Rattle.link_words.specs.Links.{link_of}
-use Rattle.qh_qtd.specs.declared.queue_head.Qh.{Qh}
-use Rattle.itd_sitd.specs.declared.itd.Itd.{Itd}
-use Rattle.itd_sitd.specs.declared.sitd.Sitd.{Sitd}
 use Rattle.mem_queues.specs.Structures.{reaches_queue_head, queue_head_at_address}
 use Rattle.mem_descriptors.specs.Descriptors.{itd_at_address, sitd_at_address}
 use Rattle.hc_copy.specs.Buffer.{sending}
@@ -33,7 +31,7 @@ use Rattle.periodic_walk.specs.declared.chain.ChainRow.{ChainRow}
 use Rattle.periodic_walk.specs.declared.chain.ChainRow.TheVariants as chains
 use Rattle.periodic_walk.specs.Walk.{Walk as FrameWalk, is_over}
 use Rattle.periodic_walk.specs.Place.{FramePlace, HasEffect, reading}
-use Rattle.periodic_walk.specs.Chain.{chain_row, chain_walk, chain_step, queue_fetch, itd_fetch, sitd_fetch}
+use Rattle.periodic_walk.specs.Chain.{chain_row, chain_walk, chain_step}
 use Rattle.periodic_walk.specs.Queue.{queue_row, queue_read, queue_step, missed, miss_outcome, writing}
 use Rattle.periodic_walk.specs.Itd.{itd_row, itd_step}
 use Rattle.periodic_walk.specs.Sitd.{sitd_row, sitd_step, writing as sitd_writing}
@@ -93,18 +91,6 @@ still_periodic steps.Ended is other = absurd is
 still_periodic steps.Fault is other = absurd (other refl)
 
 -- ---- where the chain ends nothing is ahead
-
-no_queue_end : (a : ℕ) (o : Option Qh) → queue_fetch a o ≡ chains.Ends → ⊥
-no_queue_end a None is = cc
-no_queue_end a (Some q) is = cc
-
-no_itd_end : (a : ℕ) (o : Option Itd) → itd_fetch a o ≡ chains.Ends → ⊥
-no_itd_end a None is = cc
-no_itd_end a (Some v) is = cc
-
-no_sitd_end : (a : ℕ) (o : Option Sitd) → sitd_fetch a o ≡ chains.Ends → ⊥
-no_sitd_end a None is = cc
-no_sitd_end a (Some v) is = cc
 
 ends_there : (m : Mem) (cursor : Link) → chain_row m cursor ≡ chains.Ends → name_of cursor ≡ None
 ends_there m links.End is = refl

@@ -1,16 +1,13 @@
 -- What is linked in a frame by the words of a mixed world stands there (EHCI 1.0, 2.3.6, 3.1, 4.6).
-use Rattle.std.proofs.Common.{◌≡◌, ℕ, ◌+◌, ◌*◌, ◌<◌, ap, subst, ◌∙◌, arith}
+use Rattle.std.proofs.Common.{◌≡◌, ℕ, ◌+◌, ◌*◌, ◌<◌, ap, subst, ◌∙◌}
 use Rattle.claims_base.specs.Controller.{Base, opening_base}
 use Rattle.law_descriptors.specs.RowLaws.{HasFrames}
 use Rattle.bus_world.specs.World.{World, controller_parts}
 use Rattle.law_world.specs.memory.Mixed.{Standing, IsMixedAt}
 use Rattle.law_world.proofs.lemmas.memory.lemmas.framed_memory.Now.{now_has_frames, begins_there}
-use Rattle.claims_world.specs.Visits.{next_of, IsLedTo, IsInChain, frame_in}
+use Rattle.claims_world.specs.Visits.{next_of, IsLedTo, IsInChain}
 use Rattle.law_microframes.specs.visits.Visited.{StandsIn}
 use Rattle.law_microframes.proofs.lemmas.visits.NoneLeftChains.{chain_is_standing}
-
-pub frame_low : (index : ℕ) → frame_in index < 1024
-frame_low index = omega arith
 
 pub in_chain_stands : (s : Standing) (w : World) (f n : ℕ) → IsMixedAt s w → f < 1024 → IsInChain w f n → StandsIn w.driver f n
 in_chain_stands s w f n k low led =

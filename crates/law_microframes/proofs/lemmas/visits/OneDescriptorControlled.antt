@@ -1,6 +1,8 @@
 -- An event of the controller sets nothing of a descriptor active.
 use Rattle.std.proofs.Common.{◌≡◌, ◌≢◌, ℕ, Bool, true, false, List, Option, Some, refl, ap, sym, subst, ◌∙◌, ⊎_elim}
 use Rattle.std.proofs.lemmas.Bool.{true≢false, cases_eq}
+use Rattle.law_world.proofs.Common.{head_no_sitd, head_no_itd}
+use Rattle.law_ring.proofs.Common.{received_beside}
 use Rattle.usb_base.specs.declared.packets.Ask.{Ask}
 use Rattle.usb_base.specs.declared.packets.Reply.{Reply}
 use Rattle.qh_qtd.specs.declared.queue_head.Qh.{Qh}
@@ -34,7 +36,7 @@ use Rattle.law_controller.proofs.lemmas.frame_control.Staying.{ring_leaves}
 use Rattle.law_descriptors.specs.frame_keeps.Kept.{IsItdAfter}
 use Rattle.law_descriptors.proofs.lemmas.frame_keeps.Keeping.{found_itd, found_sitd}
 use Rattle.law_descriptors.proofs.lemmas.frame_keeps.Framing.{frame_keeps}
-use Rattle.law_descriptors.proofs.Events.{received_beside, back_beside}
+use Rattle.law_descriptors.proofs.Events.{back_beside}
 
 as_copy : Hand → Copy → Copy
 as_copy (Copied c) other = c
@@ -43,12 +45,6 @@ as_copy _ other = other
 same_copy : (c d : Copy) → Copied c ≡ Copied d → c ≡ d
 unfolding as_copy
 same_copy c d e = ap (λ (h : Hand). as_copy h c) e
-
-head_no_sitd : (o : Option Structure) (q : Qh) (v : Sitd) → o ≡ Some (QueueHead q) → o ≡ Some (SplitIsochronous v) → ⊥
-head_no_sitd o q v one two = absurd (let e : Some (QueueHead q) ≡ Some (SplitIsochronous v) = sym one ∙ two in cc)
-
-head_no_itd : (o : Option Structure) (q : Qh) (v : Itd) → o ≡ Some (QueueHead q) → o ≡ Some (Isochronous v) → ⊥
-head_no_itd o q v one two = absurd (let e : Some (QueueHead q) ≡ Some (Isochronous v) = sym one ∙ two in cc)
 
 itd_no_sitd : (o : Option Structure) (w : Itd) (v : Sitd) → o ≡ Some (Isochronous w) → o ≡ Some (SplitIsochronous v) → ⊥
 itd_no_sitd o w v one two = absurd (let e : Some (Isochronous w) ≡ Some (SplitIsochronous v) = sym one ∙ two in cc)

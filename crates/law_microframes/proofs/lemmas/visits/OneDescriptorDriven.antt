@@ -3,6 +3,7 @@ use Rattle.std.proofs.Common.{◌≡◌, ◌≢◌, ℕ, zero, suc, ◌+◌, ◌
 use Rattle.std.specs.Prelude.{option_and_then, slice_set, slice_index}
 use Rattle.std.proofs.lemmas.Bool.{true≢false, and_parts}
 use Rattle.std.proofs.lemmas.Option.{same_Some, slice_get-map, slice_get_within}
+use Rattle.law_frame_list.proofs.Common.{frames_first, same_number}
 use Rattle.usb_base.specs.declared.reports.What.{What}
 use Rattle.usb_base.specs.declared.endpoints.EpName.{EpName}
 use Rattle.word_mem.specs.Memory.{Mem}
@@ -49,7 +50,6 @@ use Rattle.law_driver.proofs.lemmas.listed_members.Stays.{endpoint_set}
 use Rattle.law_admission.proofs.Events.{either}
 use Rattle.claims_driver.specs.DueMembers.{framed_to}
 use Rattle.law_driver.proofs.lemmas.iso_frames.Harvested.{get_dropped}
-use Rattle.law_descriptors.proofs.Returning.{same_transfer}
 use Rattle.law_microframes.proofs.lemmas.visits.OneDescriptorWords.{AreCalm, same}
 use Rattle.law_microframes.proofs.lemmas.visits.OneDescriptorStores.{AllCalm, both_calm, all_calm, more_calm, either_calm, lend_calm, runs_calm, qtds_calm, transfers_calm, descriptors_calm, first_word, other_run, linked_calm, link_calm}
 use Rattle.law_microframes.proofs.lemmas.visits.OneDescriptorRows.{Back, Out, back_same, out_same, back_released, back_all, back_placed, advanced_transfers, advanced_notes, advanced_out, iso_endpoints, framed_elsewhere, harvest_back, harvest_out, harvest_notes}
@@ -140,7 +140,8 @@ pub one_block : (d : DriverContent) (t u : ℕ) (y z : Transfer) → HasOwners d
 one_block d t u y z owners one two sort_y sort_z held_y held_z first =
     let a = (owners.owned.each.described t (runs_of_transfer y) (ap (option_map runs_of_transfer) one) sort_y held_y).descriptor in
     let b = (owners.owned.each.described u (runs_of_transfer z) (ap (option_map runs_of_transfer) two) sort_z held_z).descriptor in
-    same_transfer (note_at d.periodic.notes y.first).split (note_at d.periodic.notes z.first).split t u (sym a.owned ∙ ap owners.owner first ∙ b.owned)
+    same_number (note_at d.periodic.notes y.first).split (note_at d.periodic.notes z.first).split t u
+    (sym a.owned ∙ ap owners.owner first ∙ b.owned)
 
 module _ (d : DriverContent) (m : Mem) (sound : IsSound m d) (n e t count : ℕ) (is : d.command ≡ Some (unfinished.Iso e t count)) (none : d.made ≡ 0) where
   abbrev us : List Transfer
@@ -215,12 +216,6 @@ chosen d m n (Some (unfinished.Iso e t count)) sound is none = frames_go d m sou
 chosen d m n _ sound is none = untouched d m d refl refl refl
 
 -- ---- any row
-
--- the frames are chosen first
-frames_first : (e t count made : ℕ) → slice_get (events_of (unfinished.Iso e t count)) made ≡ Some rows.Frames → made ≡ 0
-frames_first e t count zero next = refl
-frames_first e t count (suc zero) next = absurd (cc)
-frames_first e t count (suc (suc made)) next = absurd (cc)
 
 pub row_follows : (row : DriverRow) (p : Parts) → IsDue p row → IsSound p.memory p.driver → Follows p.driver p.memory (after_driver_row row p).driver
 row_follows rows.Lend p due sound = went_on p.driver p.memory (record p.driver { book = (lend_taken (holding p.driver.book p.memory)).book }) refl refl refl

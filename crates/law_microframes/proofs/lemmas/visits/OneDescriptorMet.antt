@@ -2,8 +2,7 @@
 use Rattle.std.proofs.Common.{◌≡◌, ℕ, ◌+◌, ◌*◌, ◌/◌, ◌<◌, Bool, true, false, not, if◌then◌else◌, List, slice_get, Option, Some, None, option_map, refl, ap, sym, subst, ◌∙◌, arith}
 use Rattle.std.proofs.lemmas.Bool.{true≢false}
 use Rattle.std.proofs.lemmas.Option.{same_Some}
-use Rattle.word_mem.specs.Memory.{Mem, state_at, is_lent, reaches}
-use Rattle.word_mem.specs.declared.blocks.BlockState.TheVariants.{Kept}
+use Rattle.law_driver_ring.proofs.Common.{not_reached}
 use Rattle.word_mem.specs.Runs.{Run}
 use Rattle.mem_runs.specs.declared.slots.Slot.{Slot}
 use Rattle.mem_runs.specs.declared.slots.Slot.TheVariants.{Empty, Keeps, Lends}
@@ -159,9 +158,6 @@ met_split_is_active s w n v k here active =
     of_owner s w n k on (λ b at has. sitd_active s w n k b v here on active at has)
 
 -- ---- the controller
-
-not_reached : (m : Mem) (at : ℕ) → state_at m (at / 32) ≡ Some Kept → reaches m at ≡ false
-not_reached m at kept = ap is_lent kept
 
 module _ (fixed : Fixed) (s : Standing) (w : World) (k : IsMixedAt s w) where
   abbrev new : World

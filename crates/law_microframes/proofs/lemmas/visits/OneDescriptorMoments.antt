@@ -1,14 +1,10 @@
 -- At each moment of a script's run, whatever endpoints it opens, of an endpoint and a frame at most one descriptor is active.
-use Rattle.std.proofs.Common.{ℕ, List, [], ◌∷◌}
-use Rattle.std.specs.List.{AllByRecursion}
-use Rattle.script_types.specs.declared.scripts.Line.{Line}
-use Rattle.script_types.specs.declared.scripts.Line.TheVariants as lines
+use Rattle.law_world.proofs.Common.{lines_can}
 use Rattle.script_types.specs.declared.scripts.Script.{Script}
 use Rattle.bus_wire.specs.Bus.{fixed_of}
-use Rattle.law_world.specs.steps.receiving_runs.Runs.{KindOfLine, IsKeptBy}
+use Rattle.law_world.specs.steps.receiving_runs.Runs.{IsKeptBy}
 use Rattle.law_world.proofs.lemmas.steps.lemmas.receiving_runs.Runs.{holds_throughout}
 use Rattle.law_world.specs.memory.Laws.{OpensMixed}
-use Rattle.law_world.specs.memory.PlacedLaws.{MixedLine}
 use Rattle.law_world.proofs.lemmas.memory.Opening.{new_world_is_mixed}
 use Rattle.law_world.proofs.lemmas.memory.Controller.{controller_keeps_mixed}
 use Rattle.law_world.proofs.lemmas.memory.Driving.{driver_keeps_mixed}
@@ -17,14 +13,6 @@ use Rattle.law_microframes.specs.visits.OneDescriptor.{IsMixedOnce, EachMomentHa
 use Rattle.law_microframes.proofs.lemmas.visits.OneDescriptorMet.{controller_keeps_one_active}
 use Rattle.law_microframes.proofs.lemmas.visits.OneDescriptorWorlds.{new_has_one_active, driver_keeps_one_active}
 use Rattle.law_microframes.proofs.lemmas.visits.OneDescriptorOffered.{command_keeps_one_active}
-
-line_can : (l : Line) → MixedLine l → KindOfLine OpensMixed l
-line_can (lines.Command cmd) fits = fits
-line_can _ fits = tt
-
-pub lines_can : (xs : List (ℕ × Line)) → AllByRecursion (λ x. MixedLine x.1) xs → AllByRecursion (λ x. KindOfLine OpensMixed x.1) xs
-lines_can [] fits = tt
-lines_can (x ∷ xs) fits = (line_can x.1 fits.0, lines_can xs fits.1)
 
 is_kept : (s : Script) → IsKeptBy (fixed_of s) OpensMixed IsMixedOnce
 is_kept s = record {

@@ -3,6 +3,8 @@ use Rattle.std.proofs.Common.{◌≡◌, ◌≢◌, ℕ, zero, suc, ◌+◌, ◌
 use Rattle.std.specs.Prelude.{slice_index, is_none}
 use Rattle.std.proofs.lemmas.Bool.{false≢true, true≢false, cases_lt}
 use Rattle.std.proofs.lemmas.Option.{same_Some}
+use Rattle.law_driver.proofs.Common.{blocks_run}
+use Rattle.law_common.proofs.Lists.{drop_first}
 use Rattle.usb_base.specs.declared.commands.Cmd.{Cmd}
 use Rattle.usb_base.specs.declared.reports.OfferError.{OfferError}
 use Rattle.word_mem.specs.Memory.{Mem, is_lent}
@@ -29,8 +31,8 @@ use Rattle.drv_table.specs.CancelOffers.{with_cancel, accepted_unchain, endpoint
 use Rattle.drv_table.specs.Commands.{finished}
 use Rattle.claims_driver.specs.Owners.{Described, IsPlaced, HasBlocks, HasRun, is_descriptor, runs_of_transfer, IsOneOf}
 use Rattle.law_driver.specs.run_owners.Accepts.{Chains, Describes, Accepts, opens, chains, places, transfers, describes, cancels, unchains}
-use Rattle.law_driver.proofs.lemmas.run_owners.Taking.{AreTaken, runs_taken, blocks_some}
-use Rattle.law_driver.proofs.lemmas.run_owners.Accepted.{drop_first, fresh_differs}
+use Rattle.law_driver.proofs.lemmas.run_owners.Taking.{AreTaken, runs_taken}
+use Rattle.law_driver.proofs.lemmas.run_owners.Accepted.{fresh_differs}
 use Rattle.law_driver.proofs.lemmas.run_owners.Commands.{each_command_has_its_reason}
 use Rattle.law_driver.proofs.lemmas.run_owners.Stays.{begun_notes}
 use Rattle.claims_driver.specs.LentRuns.{begins_in, still_lends, AreLent}
@@ -166,7 +168,7 @@ module _ (d : DriverContent) (m : Mem) (o : Offered) (why : Describes d m o) (so
     noted t y here sort held =
         let placed = (sound.owners.owned.each.described t (runs_of_transfer y) (ap (option_map runs_of_transfer) here) sort held).descriptor in
         notes_other g.book why.number why.endpoint.desc why.slots why.count why.seed bs (record { notes = d.periodic.notes; transfers = d.transfers; memory = g.memory }) y.first enough
-        (not_fresh (holding d.book m) g (iso_needs why.slots why.count) bs taken y.first (blocks_some _ (slot_of d.book.slots y.first) placed.run))
+        (not_fresh (holding d.book m) g (iso_needs why.slots why.count) bs taken y.first (blocks_run _ (slot_of d.book.slots y.first) placed.run))
 
     either_one : (t : ℕ) (z : Transfer) → slice_get new.transfers t ≡ Some z → (slice_get d.transfers t ≡ Some z) ⊎ ((z.endpoint ≡ why.number) × (z.reported ≡ false))
     either_one t z here =
@@ -310,7 +312,7 @@ module _ (s : Standing) (w : World) (k : IsMixedAt s w) where
       let r = runs_taken (holding d.book w.memory) g (2 ∷ 1 ∷ []) sound.stands why.runs in
       let news : new_runs d g ≡ r.blocks = ap (drop (length d.book.taken)) r.are.taken ∙ drop_first d.book.taken r.blocks in
       let placed = (sound.owners.owned.each.described t (runs_of_transfer y) (ap (option_map runs_of_transfer) here) sort held).descriptor in
-      let run = blocks_some _ (slot_of d.book.slots y.first) placed.run in
+      let run = blocks_run _ (slot_of d.book.slots y.first) placed.run in
       let split = (note_at d.periodic.notes y.first).split in
       let its : HasBlocks (if split then 1 else 2) (slot_of g.book.slots y.first) = subst (HasBlocks (if split then 1 else 2)) (sym (r.are.old y.first run)) placed.run in
       let long = r.are.long in

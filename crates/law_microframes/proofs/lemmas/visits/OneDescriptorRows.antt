@@ -4,6 +4,7 @@ use Rattle.std.specs.Prelude.{option_and_then, is_none, nat_lt, slice_set, ◌==
 use Rattle.std.proofs.lemmas.Bool.{false≢true, true≢false, cases_eq}
 use Rattle.std.proofs.lemmas.List.{get_or-set_other}
 use Rattle.std.proofs.lemmas.Option.{same_Some, slice_get-map}
+use Rattle.law_common.proofs.Lists.{set_here, set_there}
 use Rattle.word_mem.specs.Memory.{Mem}
 use Rattle.bandwidth.specs.declared.placements.Placement.{Placement}
 use Rattle.drv_periodic_table.specs.declared.content.DescriptorNote.{DescriptorNote}
@@ -29,7 +30,6 @@ use Rattle.drv_table.specs.Harvesting.{found_of, served, descriptor_told, after_
 use Rattle.claims_driver.specs.Owners.{is_descriptor, runs_of_transfer, TransferRuns}
 use Rattle.claims_driver.specs.Leaving.{IsOrderly}
 use Rattle.law_driver.specs.run_owners.Due.{IsHarvestDue}
-use Rattle.law_driver.proofs.lemmas.run_owners.Released.{set_here, set_there}
 use Rattle.law_driver.proofs.lemmas.run_owners.Harvest.{Waits, waits_is, is_served_found}
 use Rattle.law_driver.proofs.lemmas.run_owners.Stays.{begun_notes, StaysPlaced, harvest_stays}
 use Rattle.claims_driver.specs.FrameListMembers.{Placed, placed_of, placed_in, framed_of, framed_in, is_chained}

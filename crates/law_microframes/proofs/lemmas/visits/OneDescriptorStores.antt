@@ -3,14 +3,14 @@ use Rattle.std.proofs.Common.{◌≡◌, ◌≢◌, ℕ, zero, suc, ◌+◌, ◌
 use Rattle.std.specs.Prelude.{slice_set}
 use Rattle.std.proofs.lemmas.Bool.{cases_eq}
 use Rattle.std.proofs.lemmas.List.{get_or-set_other}
+use Rattle.law_driver.proofs.Common.{stores_in}
 use Rattle.word_mem.specs.Memory.{Mem, word_at, filled}
 use Rattle.word_mem.specs.Runs.{Run}
 use Rattle.word_mem.specs.Owners.{has_block}
-use Rattle.word_mem.proofs.Holders.{has_block_from, has_block_is}
+use Rattle.word_mem.proofs.Holders.{has_block_is}
 use Rattle.mem_runs.specs.declared.slots.Slot.{Slot}
 use Rattle.mem_runs.specs.declared.slots.Slot.TheVariants.{Empty, Keeps, Lends}
 use Rattle.mem_runs.specs.Book.{Book, Holding, holding, Stands, IsAt, slot_of, slot_at, can_store, store, release_slot, release_run, lend_taken}
-use Rattle.mem_runs.proofs.Standing.{in_run_from}
 use Rattle.claims_driver.specs.Owners.{HasBlocks, SlotHas}
 use Rattle.law_driver.proofs.lemmas.run_owners.Apart.{runs_apart}
 use Rattle.law_driver.proofs.lemmas.ring_members.Freed.{lent_words}
@@ -132,11 +132,6 @@ run_within r i b first few has =
     let high = is.below in
     (omega (arith, first, low), omega (arith, first, few, high))
 
-slot_stores : (s : Slot) (at : ℕ) → can_store s at ≡ true → SlotHas s (at / 32)
-slot_stores Empty at on = absurd (cc)
-slot_stores (Keeps r) at on = let is = in_run_from r at on in let from = is.from in let below = is.below in has_block_from r (at / 32) (omega (arith, from)) (omega (arith, below))
-slot_stores (Lends r) at on = let is = in_run_from r at on in let from = is.from in let below = is.below in has_block_from r (at / 32) (omega (arith, from)) (omega (arith, below))
-
 module _ (k : Book) (m : Mem) (stands : Stands (holding k m)) (b : ℕ) (split : Bool) (run : HasBlocks (if split then 1 else 2) (slot_of k.slots b)) where
   -- it goes to another run, or to the first word of this one
   abbrev pub IsHarmless : ℕ → ℕ → Type 0
@@ -151,7 +146,7 @@ module _ (k : Book) (m : Mem) (stands : Stands (holding k m)) (b : ℕ) (split :
           (λ (this : c ≡ b). let is = harmless this on in off (omega (arith, hit, is)))
           (λ (apart : c ≢ b).
           let block : at / 32 ≡ other / 32 = omega (arith, hit) in
-          runs_apart (holding k m) b c (at / 32) stands apart (subst (SlotHas (slot_of k.slots b)) (sym block) has) (slot_stores (slot_of k.slots c) at on)) (cases_eq c b)
+          runs_apart (holding k m) b c (at / 32) stands apart (subst (SlotHas (slot_of k.slots b)) (sym block) has) (stores_in (slot_of k.slots c) at on)) (cases_eq c b)
 
       by : (t : Bool) → can_store (slot_of k.slots c) at ≡ t → Calms (word_at q other) (word_at (if t then record q { words = slice_set q.words (at / 4) v } else q) other)
       by true on = same (get_or-set_other q.words (at / 4) (other / 4) v 0 (differ on))
@@ -202,7 +197,7 @@ module _ (k : Book) (m : Mem) (stands : Stands (holding k m)) (b : ℕ) (split :
   link_calm q list (After x) v off =
       store_calm q (id_of x / 32 % 65536) (id_of x / 32 * 32) v
       (λ is on.
-      let has = slot_stores (slot_of k.slots (id_of x / 32 % 65536)) (id_of x / 32 * 32) on in
+      let has = stores_in (slot_of k.slots (id_of x / 32 % 65536)) (id_of x / 32 * 32) on in
       let its = in_run (slot_of k.slots b) (id_of x / 32 * 32 / 32) (stands.placed b) run (subst (λ (i : ℕ). SlotHas (slot_of k.slots i) (id_of x / 32 * 32 / 32)) is has) in
       let low = its.0 in
       let high = its.1 in

@@ -1,8 +1,8 @@
 -- Whether something of a descriptor is active, by its words and by the structure that they are.
 use Rattle.std.proofs.Common.{◌≡◌, ℕ, zero, suc, ◌+◌, ◌*◌, ◌<◌, Bool, true, false, not, cond, List, [], ◌∷◌, refl, ap, sym, ◌∙◌, arith, get_or}
-use Rattle.std.specs.Prelude.{◌||◌}
 use Rattle.std.specs.List.{list_any}
 use Rattle.std.proofs.lemmas.Bool.{not-true, or_parts}
+use Rattle.law_common.proofs.Booleans.{none_late}
 use Rattle.word_mem.specs.Memory.{Mem, word_at}
 use Rattle.word_mem.proofs.Words.{get_or-words_in}
 use Rattle.bandwidth.specs.Placements.{below}
@@ -19,18 +19,15 @@ use Rattle.law_structures.specs.lent_structures.Structures.{HoldsIsochronous, Ho
 
 -- ---- of eight
 
-none_or : (a b : Bool) → a ≡ false → b ≡ false → (a || b) ≡ false
-none_or true b one two = one
-none_or false b one two = two
-
 pub any_none : (p : ℕ → Bool) → ((u : ℕ) → u < 8 → p u ≡ false) → list_any p (below 8) ≡ false
 any_none p each =
-    none_or (p 0) _ (each 0 (omega arith))
-    (none_or (p 1) _ (each 1 (omega arith))
-    (none_or (p 2) _ (each 2 (omega arith))
-    (none_or (p 3) _ (each 3 (omega arith))
-    (none_or (p 4) _ (each 4 (omega arith))
-    (none_or (p 5) _ (each 5 (omega arith)) (none_or (p 6) _ (each 6 (omega arith)) (none_or (p 7) false (each 7 (omega arith)) refl)))))))
+    none_late (p 0) _ (each 0 (omega arith))
+    (none_late (p 1) _ (each 1 (omega arith))
+    (none_late (p 2) _ (each 2 (omega arith))
+    (none_late (p 3) _ (each 3 (omega arith))
+    (none_late (p 4) _ (each 4 (omega arith))
+    (none_late (p 5) _ (each 5 (omega arith)) (none_late (p 6) _ (each 6 (omega arith))
+    (none_late (p 7) false (each 7 (omega arith)) refl)))))))
 
 pub none_any : (p : ℕ → Bool) → list_any p (below 8) ≡ false → (u : ℕ) → u < 8 → p u ≡ false
 none_any p none u few =

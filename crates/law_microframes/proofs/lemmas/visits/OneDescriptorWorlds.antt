@@ -4,6 +4,7 @@ use Rattle.std.specs.Prelude.{option_and_then}
 use Rattle.std.specs.List.{AllByRecursion}
 use Rattle.std.proofs.lemmas.Bool.{true≢false}
 use Rattle.std.proofs.lemmas.Option.{same_Some, slice_get_within}
+use Rattle.law_common.proofs.Lists.{all_more, all_both}
 use Rattle.word_mem.specs.Memory.{Mem}
 use Rattle.mem_runs.specs.Book.{slot_of}
 use Rattle.drv_chains.specs.declared.members.Descriptor.{Descriptor}
@@ -23,11 +24,9 @@ use Rattle.law_driver_ring.specs.Inventory.{Sort, OfQueueHead, sort_of, IsDriver
 use Rattle.claims_driver.specs.FrameListMembers.{Placed, placed_of, framed_in, is_chained}
 use Rattle.law_driver.specs.listed_members.Members.{IsListed}
 use Rattle.law_driver.proofs.lemmas.listed_members.Standing.{descriptor_block}
-use Rattle.law_driver.proofs.lemmas.listed_members.Schedules.{all_more}
 use Rattle.claims_driver.specs.DueMembers.{framed_to, IsWaitingFor}
 use Rattle.law_driver.specs.iso_frames.Frames.{AreInFrames}
 use Rattle.law_driver.proofs.lemmas.iso_frames.Due.{an_endpoint_has_one_descriptor_a_frame}
-use Rattle.law_driver.proofs.lemmas.iso_frames.Framing.{all_joined}
 use Rattle.law_queues.specs.mended_heads.Owed.{StalledQueue, left_of, all_left, mends_at}
 use Rattle.law_queues.specs.mended_heads.Waiting.{Waits}
 use Rattle.bus_world.specs.World.{World, driver_parts, driver_next}
@@ -73,7 +72,7 @@ left_all P s own = all_drop (λ w. P w.queue) s.made (mends_at s.queue s.onward)
 
 mends_all : (P : ℕ → Type 0) (ss : List StalledQueue) → AllByRecursion (λ s. P s.queue) ss → AllByRecursion (λ w. P w.queue) (all_left ss)
 mends_all P [] all = tt
-mends_all P (s ∷ ss) all = all_joined (λ w. P w.queue) (left_of s) (all_left ss) (left_all P s all.0) (mends_all P ss all.1)
+mends_all P (s ∷ ss) all = all_both (λ w. P w.queue) (left_of s) (all_left ss) (left_all P s all.0) (mends_all P ss all.1)
 
 first_all : {X : Type 0} (P : X → Type 0) (xs : List X) (x : X) → AllByRecursion P xs → slice_get xs 0 ≡ Some x → P x
 first_all P [] x all here = absurd (cc)

@@ -1,9 +1,12 @@
 -- An event of a command's own, and one that begins to link or unlink the next member: whoever may be led to may be still, none is half linked that wasn't, and what was
 -- unlinked in this microframe is what it was.
-use Rattle.std.proofs.Common.{◌≡◌, ℕ, zero, suc, ◌+◌, ◌≤◌, ◌<◌, Bool, true, false, inl, if◌then◌else◌, List, [], ◌∷◌, length, slice_get, Option, Some, None, ⊎_elim, ap, refl, sym, subst, ◌∙◌, arith}
+use Rattle.std.proofs.Common.{◌≡◌, ℕ, zero, suc, ◌+◌, ◌≤◌, ◌<◌, Bool, true, false, if◌then◌else◌, List, [], ◌∷◌, length, slice_get, Option, Some, None, ap, refl, sym, subst, ◌∙◌, arith}
 use Rattle.std.specs.Prelude.{◌&&◌, nat_lt, is_none}
 use Rattle.std.proofs.lemmas.Bool.{true≢false, lt-ltb}
 use Rattle.std.proofs.lemmas.Option.{same_Some}
+use Rattle.law_world.proofs.Common2.{next_led}
+use Rattle.law_descriptors.proofs.Common.{next_removals}
+use Rattle.law_common.proofs.Booleans.{either_if}
 use Rattle.drv_chains.specs.declared.members.Member.{Member}
 use Rattle.drv_members.specs.Members.{IsKept, takes}
 use Rattle.drv_periodic.specs.declared.work.Work.{Work}
@@ -18,28 +21,13 @@ use Rattle.drv_table.specs.DriverContent.{DriverContent}
 use Rattle.drv_table.specs.Commands.{events_of, links, removes_members, leave_ring, leave_frames, no_command, finished, list_after, or_finished, linked_on, advanced_by}
 use Rattle.law_frames.specs.Met.{Kind}
 use Rattle.claims_driver.specs.Unlinked.{led_in}
-use Rattle.law_descriptors.specs.Removed.{IsRemovedSince, IsUnchainedNow}
 use Rattle.law_descriptors.specs.Recent.{AreRecent}
-use Rattle.law_descriptors.proofs.ListRows.{either_if, unlinking_led}
-use Rattle.law_world.proofs.lemmas.memory.lemmas.framed_memory.Steps.{linking_led}
 use Rattle.law_world.proofs.lemmas.memory.lemmas.framed_memory.StillStanding.{IsThereStill, set_still, recent_still}
 use Rattle.law_microframes.specs.visits.Visited.{NewIsFirst}
 use Rattle.law_microframes.proofs.lemmas.visits.NewFirst.{next_first}
 use Rattle.law_microframes.proofs.lemmas.visits.DriverGoesOn.{LeavesMembers}
 
 -- ---- the next member begins
-
-begun_led : (removes : Bool) (p : Periodic) (x : Member) → IsKept p.members.schedule → led_in (begun removes p x) ≡ led_in p
-begun_led true p x kept = unlinking_led p x
-begun_led false p x kept = linking_led p x kept
-
-first_led : (removes : Bool) (q : PeriodicContent) (ms : List Member) → IsKept q.list.members.schedule → led_in (with_first removes q ms).list ≡ led_in q.list
-first_led removes q [] kept = refl
-first_led removes q (x ∷ xs) kept = begun_led removes q.list x kept
-
-pub next_led : (removes : Bool) (q : PeriodicContent) → IsKept q.list.members.schedule → led_in (begun_next removes q).list ≡ led_in q.list
-next_led removes q kept =
-    either_if (λ (r : PeriodicContent). led_in r.list ≡ led_in q.list) (is_none q.list.work) (with_first removes q q.queued) q (λ e. first_led removes q q.queued kept) (λ e. refl)
 
 -- one that begins has no store yet
 no_begun : (x : Work) (m : Member) → Some (begun_work m false) ≡ Some x → 1 ≤ x.made → ⊥
@@ -122,11 +110,6 @@ same_list d new same = record {
   first = subst NewIsFirst (sym same);
 }
 
-pub some_below : {X : Type 0} (xs : List X) (n : ℕ) (x : X) → slice_get xs n ≡ Some x → n < length xs
-some_below [] n x here = absurd (cc)
-some_below (y ∷ ys) zero x here = omega arith
-some_below (y ∷ ys) (suc n) x here = let low = some_below ys n x here in omega (arith, low)
-
 -- of a driver with the list, and the command, of d
 module _ (d g : DriverContent) (c : Command) (list : g.periodic.list ≡ d.periodic.list) (below : g.made < length (events_of c)) (kept : IsKept d.periodic.list.members.schedule) where
   abbrev begun_on : DriverContent
@@ -159,19 +142,6 @@ module _ (d g : DriverContent) (c : Command) (list : g.periodic.list ≡ d.perio
       (λ last. either_if (λ (f : DriverContent). LeavesMembers d f) (links c) (linked_on g c) (finished g c) (λ on. begun_leaves) (λ off. same_list d (finished g c) (finished_list g c ∙ list)))
 
 -- ---- what was unlinked in this microframe
-
--- no members are unlinked
-pub without_command : (d : DriverContent) (left : ℕ → Option Kind) (index : ℕ) → ((e : ℕ) → d.command ≡ Some (unfinished.Unchain e) → ⊥) → AreRecent d index left → AreRecent (no_command d) index left
-without_command d left index none are n kind on =
-    ⊎_elim (λ (since : IsRemovedSince d.endpoints d.transfers d.periodic.removals index n). inl since)
-    (λ (now : IsUnchainedNow d.endpoints d.transfers d.command n). absurd (none now.endpoint now.command)) (are n kind on)
-
-first_removals : (removes : Bool) (q : PeriodicContent) (ms : List Member) → (with_first removes q ms).removals ≡ q.removals
-first_removals removes q [] = refl
-first_removals removes q (x ∷ xs) = refl
-
-pub next_removals : (removes : Bool) (q : PeriodicContent) → (begun_next removes q).removals ≡ q.removals
-next_removals removes q = either_if (λ (r : PeriodicContent). r.removals ≡ q.removals) (is_none q.list.work) (with_first removes q q.queued) q (λ e. first_removals removes q q.queued) (λ e. refl)
 
 -- what is recent goes by these alone
 record SameRemoved (d f : DriverContent) : Type 0 where

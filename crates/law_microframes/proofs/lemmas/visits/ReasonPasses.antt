@@ -2,6 +2,7 @@
 use Rattle.std.proofs.Common.{◌≡◌, ◌≢◌, ℕ, ◌≤◌, Bool, true, false, not, ◌&&◌, if◌then◌else◌, inl, inr, Option, Some, None, ap, sym, subst, ◌∙◌, refl}
 use Rattle.std.specs.Prelude.{nat_lt, ◌⊎◌}
 use Rattle.std.proofs.lemmas.Bool.{ltb-true, ltb-false, true≢false, and_left, and_right, not-true, and_parts}
+use Rattle.law_world.proofs.Common.{skipped}
 use Rattle.word_mem.specs.Memory.{Mem}
 use Rattle.link_words.specs.declared.kinds.QtdLink.{QtdLink}
 use Rattle.link_words.specs.declared.kinds.QtdLink.TheVariants as qtd_links
@@ -253,10 +254,6 @@ module _ (p : FramePlace) (h : HeldQueue) (in_hand : p.walk.hand ≡ Some (hands
   passed_for_each_reason k = skips_for_each_reason p (nothing_of k)
 
 -- ---- of a world
-
-skipped : (k : WalkStep) → hc_step k ≡ steps.Skip → k ≡ walks.Skip
-skipped walks.Skip is = refl
-skipped _ is = absurd cc
 
 kind_is : (w : World) → controller_row w ≡ rows.Frame → kind_next w ≡ hc_step (frame_step (controller_parts w))
 kind_is w is = ap (λ (row : ControllerRow). kind_of row (controller_parts w)) is

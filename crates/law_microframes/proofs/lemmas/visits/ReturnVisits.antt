@@ -1,8 +1,10 @@
 -- The visits go on where the driver gives back what has passed: the runs of what may be met stay, with their words.
-use Rattle.std.proofs.Common.{◌≡◌, ◌≢◌, ℕ, ◌*◌, ◌/◌, true, false, inl, inr, List, slice_get, set, map, Option, Some, None, ⊎_elim, ap, refl, sym, subst, ◌∙◌}
-use Rattle.std.proofs.lemmas.Bool.{cases_eq}
-use Rattle.law_driver.proofs.lemmas.run_owners.Released.{AreUntouched, cancel_same, set_here, set_there}
-use Rattle.std.proofs.lemmas.Option.{same_Some}
+use Rattle.std.proofs.Common.{◌≡◌, ℕ, ◌/◌, true, false, inl, inr, List, slice_get, set, map, Option, Some, None, ⊎_elim, ap, refl, sym, subst, ◌∙◌}
+use Rattle.law_frame_list.proofs.Common.{told_command}
+use Rattle.law_descriptors.proofs.Common.{let_go}
+use Rattle.law_driver.proofs.Common.{ring_queue}
+use Rattle.law_common.proofs.Booleans.{either_if}
+use Rattle.law_driver.proofs.lemmas.run_owners.Released.{AreUntouched, cancel_same}
 use Rattle.word_mem.specs.Memory.{Mem, IsShaped, word_at}
 use Rattle.link_words.specs.Links.{link_read}
 use Rattle.mem_runs.specs.Book.{Holding, holding, slot_of, IsAt, Stands}
@@ -13,7 +15,7 @@ use Rattle.drv_table.specs.declared.content.Endpoint.{Endpoint}
 use Rattle.drv_table.specs.declared.content.Transfer.{Transfer}
 use Rattle.drv_table.specs.declared.rows.DriverRow.{DriverRow}
 use Rattle.drv_table.specs.declared.rows.DriverRow.TheVariants as rows
-use Rattle.drv_table.specs.DriverContent.{DriverContent, waits_for}
+use Rattle.drv_table.specs.DriverContent.{DriverContent}
 use Rattle.drv_table.specs.Parts.{Parts}
 use Rattle.drv_table.specs.Kinds.{is_iso}
 use Rattle.drv_table.specs.Releases.{let_go as let_go_of, freed_by, after_transfer, is_told, cancel_told, after_endpoint}
@@ -23,22 +25,20 @@ use Rattle.law_driver.specs.run_owners.Due.{IsDue, IsEndpointDue}
 use Rattle.claims_driver.specs.Leaving.{HasOwners}
 use Rattle.law_driver.specs.listed_members.Members.{IsListed}
 use Rattle.op_registers.specs.RegisterFile.{RegisterFile}
-use Rattle.claims_driver.specs.Owners.{SlotHas, is_descriptor}
+use Rattle.claims_driver.specs.Owners.{SlotHas}
 use Rattle.claims_base.specs.Controller.{opening_base}
 use Rattle.law_driver.proofs.lemmas.ring_members.Freed.{rest_qtds, rest_endpoint, rest_descriptor, rest_placed}
 use Rattle.law_driver.proofs.lemmas.run_owners.Reasons.{each_event_is_due}
 use Rattle.law_driver.proofs.lemmas.run_owners.Orders.{IsLeft}
 use Rattle.law_driver.proofs.lemmas.run_owners.Leaves.{first_left}
-use Rattle.law_driver.proofs.lemmas.run_owners.Rows.{not_iso}
 use Rattle.drv_periodic_table.specs.Periodic.{PeriodicContent}
 use Rattle.law_world.proofs.lemmas.memory.lemmas.framed_memory.LeavingRuns.{still_removed}
 use Rattle.drv_members.specs.Members.{is_linked}
 use Rattle.drv_chains.specs.Chains.{Schedule}
 use Rattle.law_frames.specs.Met.{Kind}
 use Rattle.claims_driver.specs.Unlinked.{led, led_in}
-use Rattle.law_descriptors.specs.Removed.{IsRemovedAt, a_descriptor, a_queue, a_waiting, IsRemovedSince, IsUnchainedNow}
+use Rattle.law_descriptors.specs.Removed.{IsRemovedSince, IsUnchainedNow}
 use Rattle.law_descriptors.specs.Recent.{AreRecent}
-use Rattle.law_descriptors.proofs.ListRows.{either_if}
 use Rattle.law_descriptors.proofs.GivenRow.{row_gives_back_passed}
 use Rattle.law_descriptors.proofs.GivenRecent.{endpoint_leaves_recent}
 use Rattle.law_descriptors.proofs.RowStaying.{release_leaves_recent}
@@ -67,9 +67,6 @@ none_rest p stands = record { list = refl; command = refl; registers = refl; wor
 
 told_list : (d : DriverContent) (m : Mem) (e : ℕ) (x : Endpoint) → (cancel_told d m e x).periodic.list ≡ d.periodic.list
 told_list d m e x = either_if (λ (f : DriverContent). f.periodic.list ≡ d.periodic.list) (is_told x) _ d (λ on. refl) (λ on. refl)
-
-told_command : (d : DriverContent) (m : Mem) (e : ℕ) (x : Endpoint) → (cancel_told d m e x).command ≡ d.command
-told_command d m e x = either_if (λ (f : DriverContent). f.command ≡ d.command) (is_told x) _ d (λ on. refl) (λ on. refl)
 
 transfer_rest : (p : Parts) (t : ℕ) (o : Option Transfer) → Stands (holding p.driver.book p.memory) → IsShaped p.memory → IsRest p (after_transfer p t o (freed_by p.driver (holding p.driver.book p.memory) o))
 transfer_rest p t None stands shape = none_rest p stands
@@ -100,22 +97,6 @@ removed_rest p (removed.Descriptor t) stands shape = descriptor_rest p t (slice_
 removed_rest p (removed.Endpoint e) stands shape = placed_rest p e (slice_get p.driver.endpoints e) stands shape
 
 -- ---- what was unlinked
-
--- a transfer is given back
-let_go : (xs : List Endpoint) (ts : List Transfer) (n t : ℕ) (y : Transfer) (w : Removed) → slice_get ts t ≡ Some y → IsRemovedAt xs ts n w → IsRemovedAt xs (set ts t (record y { released = true })) n w
-let_go xs ts n t y _ there (a_descriptor u z at is) =
-    ⊎_elim (λ (same : u ≡ t).
-    let one : z ≡ y = same_Some z y (sym at ∙ ap (slice_get ts) same ∙ there) in
-    subst (λ (i : ℕ). IsRemovedAt xs (set ts t (record y { released = true })) n (removed.Descriptor i)) (sym same)
-    (a_descriptor t (record y { released = true }) (set_here ts t y (record y { released = true }) there) (subst (λ (v : Transfer). n ≡ 32 * v.first) one is)))
-    (λ (differs : u ≢ t). a_descriptor u z (set_there ts t u (record y { released = true }) differs ∙ at) is) (cases_eq u t)
-let_go xs ts n t y _ there (a_queue f z at queued is) = a_queue f z at queued is
-let_go xs ts n t y _ there (a_waiting f u x z at iso in_list sort waits is) =
-    ⊎_elim (λ (same : u ≡ t).
-    let one : z ≡ y = same_Some z y (sym in_list ∙ ap (slice_get ts) same ∙ there) in
-    a_waiting f t x (record y { released = true }) at iso (set_here ts t y (record y { released = true }) there) (subst (λ (v : Transfer). is_descriptor v.sort ≡ true) one sort)
-    (subst (λ (v : Transfer). waits_for f v ≡ true) one waits) (subst (λ (v : Transfer). n ≡ 32 * v.first) one is))
-    (λ (differs : u ≢ t). a_waiting f u x z at iso (set_there ts t u (record y { released = true }) differs ∙ in_list) sort waits is) (cases_eq u t)
 
 transfer_recent : (p : Parts) (left : ℕ → Option Kind) (index t : ℕ) (h : Holding) (o : Option Transfer) → slice_get p.driver.transfers t ≡ o → AreRecent p.driver index left
     → AreRecent (after_transfer p t o h).driver index left
@@ -215,7 +196,7 @@ module _ (s : Standing) (w : World) (k : IsMixedAt s w) (start : World) (vs : Li
       let due : IsEndpointDue (driver_parts w) e = subst (IsDue (driver_parts w)) is (each_event_is_due (driver_parts w)) in
       let sound = k.now.framed.place.sound in
       let gone : IsLeft w.driver.endpoints e = first_left e due.first sound.owners.orderly in
-      let queued : is_iso gone.endpoint.desc.kind ≡ false = not_iso gone.endpoint.desc.kind gone.ring in
+      let queued : is_iso gone.endpoint.desc.kind ≡ false = ring_queue gone.endpoint.desc.kind gone.ring in
       let stays : (f : ℕ) → w.driver.command ≡ Some (unfinished.Unchain f) → ⊥ = no_unfinished w.driver.command due.idle in
       returned (rows.ReleaseEndpoint e) is (endpoint_rest (driver_parts w) e (slice_get w.driver.endpoints e) sound.stands sound.shape) stays
       (subst (λ (o : Option Endpoint). AreRecent (after_endpoint (driver_parts w) e o).driver w.registers.frame_index v.visits.left) (sym gone.here)

@@ -1,8 +1,12 @@
 -- The visits go on with each event of the driver by which it links or unlinks members of its frame list.
 use Rattle.std.proofs.Common.{◌≡◌, ℕ, ◌*◌, ◌/◌, Bool, true, false, nat_eq, if◌then◌else◌, List, Option, Some, None, ⊎_elim, ap, refl, sym, subst, ◌∙◌}
-use Rattle.std.specs.Prelude.{◌==◌, ◌&&◌, not, nat_lt, option_and_then}
-use Rattle.std.proofs.lemmas.Bool.{true≢false, and_parts, eq-eqb, eqb-true, cases_Bool}
+use Rattle.std.specs.Prelude.{◌==◌, nat_lt, option_and_then}
+use Rattle.std.proofs.lemmas.Bool.{true≢false, and_parts, eqb-true, cases_Bool}
 use Rattle.std.proofs.lemmas.Option.{same_Some}
+use Rattle.law_world.proofs.Common2.{next_led}
+use Rattle.law_descriptors.proofs.Common.{chain_unchain, leaves_it, also_here, gone}
+use Rattle.law_common.proofs.Booleans.{or_both}
+use Rattle.law_common.proofs.Numbers.{same_blocks}
 use Rattle.drv_chains.specs.declared.members.Member.{Member}
 use Rattle.drv_chains.specs.declared.members.Member.TheVariants.{Once, Each}
 use Rattle.drv_chains.specs.Chains.{Schedule, id_of}
@@ -10,10 +14,9 @@ use Rattle.drv_members.specs.Members.{is_linked, is_that, is_this, without_membe
 use Rattle.drv_members.specs.Ranks.{is_named, is_called}
 use Rattle.drv_periodic.specs.declared.work.Work.{Work}
 use Rattle.drv_periodic.specs.declared.work.Store.{Store}
-use Rattle.drv_periodic.specs.Periodic.{Periodic, is_more, store_of, after_store}
+use Rattle.drv_periodic.specs.Periodic.{Periodic, store_of, after_store}
 use Rattle.drv_periodic_table.specs.Periodic.{PeriodicContent, queue_member}
 use Rattle.drv_periodic_table.specs.Linking.{begun_next}
-use Rattle.drv_table.specs.declared.content.Command.{Command}
 use Rattle.drv_table.specs.declared.content.Command.TheVariants as unfinished
 use Rattle.drv_table.specs.declared.rows.DriverRow.{DriverRow}
 use Rattle.drv_table.specs.DriverContent.{DriverContent}
@@ -31,13 +34,12 @@ use Rattle.law_descriptors.specs.Meeting.{kind_of, standing, or_recent, met}
 use Rattle.law_descriptors.specs.Growing.{IsLeftOut}
 use Rattle.law_descriptors.specs.Recent.{AreRecent}
 use Rattle.law_descriptors.specs.Staying.{also}
-use Rattle.law_descriptors.specs.ListRows.{leaves_by, leaves_now, recent_with, Comes, ComesFirst}
+use Rattle.law_descriptors.specs.ListRows.{leaves_now, recent_with, Comes, ComesFirst}
 use Rattle.law_descriptors.specs.RowLaws.{HasFrames}
 use Rattle.law_descriptors.proofs.Finding.{IsMemberAt}
-use Rattle.law_descriptors.proofs.Leading.{no_removal, none_made, led_linked}
+use Rattle.law_descriptors.proofs.Leading.{none_made, led_linked}
 use Rattle.law_descriptors.proofs.ListRecent.{link_recent}
 use Rattle.law_descriptors.proofs.Queued.{descriptors_come_first, leaving_come_first}
-use Rattle.law_descriptors.proofs.Returning.{same_blocks}
 use Rattle.bus_world.specs.World.{World, driver_parts, controller_parts, driver_next}
 use Rattle.law_world.specs.memory.framed_memory.Chained.{IsChainLent}
 use Rattle.law_world.specs.memory.framed_memory.NowRows.{FramedLinked}
@@ -51,13 +53,9 @@ use Rattle.law_microframes.proofs.lemmas.visits.LinkSteps.{ListStep, IsMetThere}
 use Rattle.law_microframes.proofs.lemmas.visits.LeftFresh.{queue_fresh}
 use Rattle.law_microframes.proofs.lemmas.visits.NewFirst.{next_first, store_first}
 use Rattle.law_microframes.proofs.lemmas.visits.ListGoesOn.{store_goes_on, member_comes}
-use Rattle.law_microframes.proofs.lemmas.visits.NoneLeftStores.{gone}
-use Rattle.law_microframes.proofs.lemmas.visits.OwnSteps.{next_led, next_half, next_kept, stored_half}
+use Rattle.law_microframes.proofs.lemmas.visits.OwnSteps.{next_half, next_kept, stored_half}
 
 -- ---- what leaves, and what was unlinked stays so
-
-also_here : (n i : ℕ) (kind : Kind) (left : ℕ → Option Kind) → i ≡ n → also n kind left i ≡ Some kind
-also_here n i kind left is = ap (λ (b : Bool). if b then Some kind else left i) (eq-eqb i n is)
 
 pub also_met : (n i : ℕ) (kind one : Kind) (left : ℕ → Option Kind) → left i ≡ Some one → IsMetThere (also n kind left) i
 also_met n i kind one left is = by (i == n) refl
@@ -69,12 +67,6 @@ also_met n i kind one left is = by (i == n) refl
 pub with_met : (q : PeriodicContent) (o : Option Member) (left : ℕ → Option Kind) (n : ℕ) (kind : Kind) → left n ≡ Some kind → IsMetThere (recent_with q o left) n
 with_met q None left n kind is = record { kind = kind; is = is }
 with_met q (Some m) left n kind is = also_met (32 * (id_of m / 32)) n (kind_of q m) kind left is
-
-leaves_it : (p : Periodic) (w : Work) (x : Member) → p.work ≡ Some w → IsLeftOut p w x → leaves_now p ≡ Some w.member
-leaves_it p w x under out =
-    ap (leaves_by p.members.schedule) under
-    ∙ ap (λ (b : Bool). if b && not (is_more p.members.schedule w) then Some w.member else None) out.removes
-    ∙ ap (λ (b : Bool). if not b then Some w.member else None) out.last
 
 pub leaver_met : (q : PeriodicContent) (p : Periodic) (w : Work) (x : Member) (left : ℕ → Option Kind) → p.work ≡ Some w → IsLeftOut p w x → IsMetThere (recent_with q (leaves_now p) left) (begins x)
 leaver_met q p w x left under out = record {
@@ -185,7 +177,7 @@ module _ (s : Standing) (w : World) (k : IsMixedAt s w) (start : World) (vs : Li
       (λ (on : is_led way.work ≡ true).
       store_goes_on s w k start vs v w.driver.periodic.list way.work why.store step e.event.now e.event.frame_later e.event.stored e.event.runs.ring.tells later left_are stays_left leaves first_then on)
       (λ (off : is_led way.work ≡ false).
-      let parted = no_removal way.work.removes (nat_lt 0 way.work.made) off in
+      let parted = or_both way.work.removes (nat_lt 0 way.work.made) off in
       let zero : way.work.made ≡ 0 = none_made way.work.made parted.1 in
       let c : Comes s.member s.recent (both s.descs s.parts) (begins way.work.member) (kind_of w.driver.periodic way.work.member) = comes way.work way.under parted.0 zero in
       let linked : is_linked w.driver.periodic.list.members.schedule way.work.member ≡ true = on_way w.driver.periodic.list.members.schedule w.driver.periodic.list.work way.work way.under frames.list.order.member in
@@ -210,9 +202,6 @@ module _ (s : Standing) (w : World) (k : IsMixedAt s w) (left : ℕ → Option K
   pub unchained_first : (e : ℕ) → w.driver.command ≡ Some (unfinished.Unchain e) → ComesFirst s.member left (both s.descs s.parts) w.driver w.driver.periodic.list
   unchained_first e is = leaving_come_first s.member left (both s.descs s.parts) w.driver e k.now.framed.place.sound.listed is
 
-chain_only : (o : Option Command) (e : ℕ) → o ≡ Some unfinished.Chain → o ≡ Some (unfinished.Unchain e) → ⊥
-chain_only o e one two = cc
-
 module _ (s : Standing) (w : World) (k : IsMixedAt s w) (start : World) (vs : List ℕ) (v : VisitsGoOnAt s start w vs) (why : IsLinkOf (driver_parts w) (driver_row (driver_parts w)))
     (e : FramedLinked opening_base s.member s.recent s.descs s.parts s.hand s.frame (controller_parts w) w.driver why.store) where
   pub described_visits : (f t count : ℕ) → w.driver.command ≡ Some (unfinished.Iso f t count) → VisitsGoOn start (driver_next w) vs
@@ -236,4 +225,4 @@ module _ (s : Standing) (w : World) (k : IsMixedAt s w) (start : World) (vs : Li
           let linked : is_linked w.driver.periodic.list.members.schedule x.member ≡ true = (subst (HasMember w.driver.periodic.list.members.schedule) under frames.list.order.member).1 in
           ap (λ (m : Member). v.visits.left (begins m)) same
           ∙ queue_fresh w.driver v.visits.left w.registers.frame_index _ k.now.framed.place.sound.owners frames.listed (ap (is_linked w.driver.periodic.list.members.schedule) (sym same) ∙ linked)
-          (λ f other. chain_only w.driver.command f t.command other) v.visits.left_are
+          (λ f other. chain_unchain w.driver.command f t.command other) v.visits.left_are

@@ -1,11 +1,12 @@
 -- The next store of a frame list: where its word leads before it, and where the link of its member does.
-use Rattle.std.proofs.Common.{◌≡◌, ℕ, zero, suc, ◌^◌, ◌<◌, Bool, true, false, List, [], ◌∷◌, ◌++◌, map, take, cond, nat_eq, inl, inr, Some, if◌then◌else◌, ⊎_elim, ap, refl, sym, subst, ◌∙◌, arith}
+use Rattle.std.proofs.Common.{◌≡◌, ℕ, zero, ◌<◌, Bool, true, false, List, [], ◌∷◌, ◌++◌, map, take, cond, nat_eq, inl, inr, Some, if◌then◌else◌, ⊎_elim, ap, refl, sym, subst, ◌∙◌}
 use Rattle.std.specs.Prelude.{◌&&◌, filter, slice_get}
 use Rattle.std.specs.List.{AllByRecursion, list_any, flat_map}
 use Rattle.std.proofs.lemmas.Bool.{false≢true, eqb-true, and_parts, cases_Bool}
 use Rattle.std.proofs.lemmas.List.{map-append, append_assoc}
-use Rattle.std.proofs.lemmas.List.Elements.{filter-append, recursion_from_All}
-use Rattle.std.proofs.lemmas.Option.{same_Some}
+use Rattle.std.proofs.lemmas.List.Elements.{filter-append}
+use Rattle.law_common.proofs.Lists.{nth_all}
+use Rattle.law_frame_words.proofs.Common.{frames_below}
 use Rattle.drv_chains.specs.declared.members.Descriptor.{Descriptor}
 use Rattle.drv_chains.specs.declared.members.QueueHead.{QueueHead}
 use Rattle.drv_chains.specs.declared.members.Member.{Member}
@@ -15,8 +16,7 @@ use Rattle.drv_chains.specs.declared.members.Predecessor.TheVariants.{Element, A
 use Rattle.drv_chains.specs.Order.{frames}
 use Rattle.drv_chains.specs.Chains.{Schedule, of_lists, has_name, is_the, is_period, stands_in, has_word, id_of, queues_in, periods, first_frame, word_after, before_the, behind_the, first_of, chain, predecessor, predecessors, word_met, successor}
 use Rattle.drv_chains.specs.Stores.{is_word, is_among, is_made}
-use Rattle.drv_chains.proofs.Orders.{all_below, both_parts}
-use Rattle.drv_chains.proofs.Linking.{weaken}
+use Rattle.drv_chains.proofs.Orders.{both_parts}
 use Rattle.drv_chains.proofs.Words.{holds_after, after_all, all_kept, of_kept}
 use Rattle.drv_chains.proofs.Beside.{once_in, among, none_named, left_false, front_of, each_map, ahead, behind, old_chain, new_chain, before_it, behind_it, word_is, next_is}
 use Rattle.drv_chains.proofs.Following.{follows, first_ones}
@@ -136,14 +136,6 @@ unfolding predecessors
 all_before s m [] below = tt
 all_before s m (f ∷ fs) below = stands_or_not s m f (filter (λ g. stands_in g m) fs) (stands_in f m) below.0 refl (all_before s m fs below.1)
 
-pub nth_all : {X : Type 0} (P : X → Type 0) (xs : List X) (n : ℕ) (x : X) → AllByRecursion P xs → slice_get xs n ≡ Some x → P x
-nth_all P [] n x all there = absurd cc
-nth_all P (y ∷ ys) zero x all there = subst P (same_Some y x there) all.0
-nth_all P (y ∷ ys) (suc n) x all there = nth_all P ys n x all.1 there
-
-pub frames_low : AllByRecursion (λ f. f < 1024) (frames 10)
-frames_low = weaken (λ f. f < 2 ^ 10) (λ f. f < 1024) (λ f h. omega (arith, h)) (frames 10) (recursion_from_All (λ f. f < 2 ^ 10) (frames 10) (all_below 10))
-
 -- ---- the member stands in each frame that has the word
 
 elsewhere : (xs : List Descriptor) (g f : ℕ) → nat_eq g f ≡ false → has_word f (word_after (Element g) (once_in xs g)) ≡ false
@@ -216,7 +208,7 @@ module _ (list : ℕ) (s : Schedule) (w : Work) (word : ℕ → ℕ) (kept : IsK
   is_splice_at : (p : Predecessor) → slice_get (words_of s w) w.made ≡ Some p → IsSplice list s w word p
   is_splice_at p here =
       let its : IsWordOf s p = nth_all (IsWordOf s) (words_of s w) w.made p (words_in s w.member kept) here in
-      let b : IsBefore s w.member p = nth_all (IsBefore s w.member) (words_of s w) w.made p (all_before s w.member (frames 10) frames_low) here in
+      let b : IsBefore s w.member p = nth_all (IsBefore s w.member) (words_of s w) w.made p (all_before s w.member (frames 10) frames_below) here in
       let unmade : is_among (made_of s w) p ≡ false → word (address_of list p) ≡ passed s w
       = λ off. ap (λ (v : Predecessor). word (address_of list v)) b.is
       ∙ unmade_leads b.frame b.below b.stands (ap (is_among (made_of s w)) (sym b.is) ∙ off) in

@@ -1,10 +1,10 @@
 -- The link words that structures tell: of one that may be met, and what a store of the frame list leaves of them.
-use Rattle.std.proofs.Common.{◌≡◌, ◌≢◌, ℕ, ◌+◌, ◌*◌, ◌/◌, ◌<◌, inl, List, length, get_or, Option, Some, ap, refl, sym, subst, ◌∙◌, arith}
+use Rattle.std.proofs.Common.{◌≡◌, ◌≢◌, ℕ, ◌+◌, ◌*◌, ◌/◌, ◌<◌, List, length, Option, Some, ap, sym, subst, ◌∙◌, arith}
 use Rattle.std.specs.Prelude.{slice_index, slice_set}
 use Rattle.std.proofs.lemmas.Option.{same_Some}
+use Rattle.law_descriptors.proofs.Common.{first_of_words}
+use Rattle.law_world.proofs.Common.{own_block}
 use Rattle.word_mem.specs.Memory.{Mem, word_at}
-use Rattle.word_mem.specs.Views.{words_at}
-use Rattle.word_mem.proofs.Words.{get_or-words_in}
 use Rattle.link_words.specs.Links.{link_read, link_fields}
 use Rattle.qh_qtd.specs.QueueHead.{qh_words}
 use Rattle.qh_qtd.proofs.QhLaws.{qh_read-words, qh_read-link}
@@ -12,7 +12,7 @@ use Rattle.itd_sitd.specs.Itd.{itd_words}
 use Rattle.itd_sitd.specs.Sitd.{sitd_words}
 use Rattle.itd_sitd.proofs.ItdLaws.{itd_read-words, itd_read-link}
 use Rattle.itd_sitd.proofs.SitdLaws.{sitd_read-words, sitd_read-link}
-use Rattle.law_structures.specs.lent_structures.Structures.{Structure, QueueHead, Element as Qtd, Buffer, Table, Isochronous, SplitIsochronous, StructureSets, Has, Holds, Tells}
+use Rattle.law_structures.specs.lent_structures.Structures.{Structure, QueueHead, Element as Qtd, Buffer, Table, Isochronous, SplitIsochronous, StructureSets, Holds, Tells}
 use Rattle.law_structures.proofs.lemmas.lent_structures.Names.{put_beside, put_same}
 use Rattle.claims_base.specs.Controller.{Base}
 use Rattle.law_controller.specs.controlled_streams.Control.{FrameList}
@@ -24,11 +24,6 @@ use Rattle.law_descriptors.specs.ListRows.{HasPart, IsStoredIn, an_element, a_li
 use Rattle.law_microframes.specs.visits.Ranks.{name_of, next_of}
 
 -- ---- the first word of a structure is its link
-
-first_of_words : (m : Mem) (a n : ℕ) → 0 < n → slice_index (words_at m a n) 0 ≡ word_at m a
-first_of_words m a n many =
-    let same : (a + 4 * 0) / 4 ≡ a / 4 = omega arith in
-    get_or-words_in m.words a n 0 many ∙ ap (λ (k : ℕ). get_or m.words k 0) same
 
 pub told_link : (m : Mem) (a : ℕ) (s : Structure) → Holds m a s → HasLink s → link_read (word_at m a) ≡ link_in s
 told_link m a (QueueHead q) h has =
@@ -65,12 +60,6 @@ told_same m mem parts now n told after own same =
     told_next mem now n own.structure after (same ∙ own.here) own.link ∙ sym (told_next m parts n own.structure told own.here own.link)
 
 -- ---- none is in the frame list
-
-own_block : (n : ℕ) (s : Structure) → HasLink s → Has n s (n / 32)
-own_block n (QueueHead q) has = inl refl
-own_block n (Isochronous v) has = inl refl
-own_block n (SplitIsochronous v) has = refl
-own_block n _ has = absurd has
 
 no_table : (words : List ℕ) (s : Structure) → Table words ≡ s → HasLink s → ⊥
 no_table words s same has = subst HasLink (sym same) has

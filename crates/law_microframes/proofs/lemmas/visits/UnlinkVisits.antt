@@ -1,13 +1,13 @@
 -- The visits go on with the store that unlinks a harvested descriptor.
 use Rattle.std.proofs.Common.{◌≡◌, ℕ, ◌*◌, ◌/◌, ◌⊎◌, Bool, true, false, inl, inr, if◌then◌else◌, List, slice_get, Option, Some, None, ⊎_elim, ap, refl, sym, subst, ◌∙◌}
 use Rattle.std.specs.Prelude.{◌&&◌, ◌||◌, nat_lt, is_none}
-use Rattle.std.proofs.lemmas.Bool.{true≢false, and_parts, ltb-true, eq-eqb, eqb-true}
+use Rattle.std.proofs.lemmas.Bool.{true≢false, and_parts, eq-eqb, eqb-true}
 use Rattle.std.proofs.lemmas.Option.{same_Some}
+use Rattle.law_driver.proofs.Common.{is_one}
 use Rattle.word_mem.specs.Memory.{word_at}
 use Rattle.drv_chains.specs.declared.members.Member.{Member}
-use Rattle.drv_chains.specs.declared.members.Member.TheVariants.{Once, Each}
 use Rattle.drv_chains.specs.Chains.{id_of}
-use Rattle.drv_members.specs.Members.{IsMember, is_member, is_linked}
+use Rattle.drv_members.specs.Members.{is_member, is_linked}
 use Rattle.drv_periodic.specs.declared.work.Work.{Work}
 use Rattle.drv_periodic.specs.Periodic.{Periodic, begun, removing, after_store}
 use Rattle.drv_periodic_table.specs.Linking.{may_unlink, unlinking}
@@ -50,10 +50,6 @@ use Rattle.law_microframes.proofs.lemmas.visits.RowVisits.{HasWay, has_way, also
 
 -- ---- it begins to leave
 
-member_is : (m : Member) → is_member m ≡ true → IsMember m
-member_is (Once d) is = ltb-true d.frame 1024 is
-member_is (Each q) is = is
-
 record Leaving (l : Periodic) (m : Member) (word : ℕ → ℕ) (p : Periodic) : Type 0 where
   list : p.list ≡ l.list
   members : p.members ≡ l.members
@@ -76,8 +72,8 @@ leaving l m word order stands = by (may_unlink l m) refl
         record {
           list = refl;
           members = refl;
-          order = record { kept = order.kept; member = (member_is m its.0, its.1) };
-          words = remove_stands l m word order.kept (member_is m its.0) its.1 (idle l.work both.0) stands;
+          order = record { kept = order.kept; member = (is_one m its.0, its.1) };
+          words = remove_stands l m word order.kept (is_one m its.0) its.1 (idle l.work both.0) stands;
           work = λ x is. inr (sym (same_Some (begun m true) x is));
         }
 

@@ -1,5 +1,5 @@
 -- Each event of the controller goes on with the visits.
-use Rattle.std.proofs.Common.{◌≡◌, ◌≢◌, ℕ, ◌+◌, ◌*◌, ◌<◌, ◌⊎◌, Bool, true, false, ◌&&◌, not, if◌then◌else◌, inl, inr, List, [], Option, Some, None, ⊎_elim, ap, refl, sym, subst, ◌∙◌, arith}
+use Rattle.std.proofs.Common.{◌≡◌, ◌≢◌, ℕ, ◌+◌, ◌*◌, ◌<◌, ◌⊎◌, Bool, true, false, ◌&&◌, not, if◌then◌else◌, inl, inr, List, [], Option, Some, None, ⊎_elim, ap, refl, sym, subst, ◌∙◌}
 use Rattle.std.proofs.lemmas.Bool.{false≢true}
 use Rattle.usb_base.specs.declared.packets.Ask.{Ask}
 use Rattle.usb_base.specs.declared.packets.Reply.{Reply}
@@ -17,8 +17,12 @@ use Rattle.hc_core.specs.declared.controller.MicroframePart.{MicroframePart}
 use Rattle.hc_core.specs.declared.controller.MicroframePart.TheVariants.{Over, Periodic, Asynchronous}
 use Rattle.hc_core.specs.declared.controller.ControllerRow.{ControllerRow}
 use Rattle.hc_core.specs.declared.controller.ControllerRow.TheVariants as rows
-use Rattle.hc_core.specs.Controller.{Control, Content, part_row, enter_row, ring_row, element_address, begun_at, entered, frame_place, frame_step, walk_place, HasRow}
+use Rattle.hc_core.specs.Controller.{Control, Content, part_row, enter_row, element_address, begun_at, entered, frame_place, frame_step, walk_place, HasRow}
 use Rattle.std.proofs.lemmas.Option.{same_Some}
+use Rattle.law_frames.proofs.Common.{none_some}
+use Rattle.law_controller.proofs.Common.{ring_off}
+use Rattle.law_microframes.proofs.Common.{in_list}
+use Rattle.law_world.proofs.Common.{not_idle, begins_over}
 use Rattle.drv_periodic_table.specs.Periodic.{note_at}
 use Rattle.drv_periodic_table.specs.Descriptors.{is_served}
 use Rattle.drv_table.specs.declared.content.Transfer.{Transfer}
@@ -67,34 +71,6 @@ use Rattle.law_microframes.proofs.lemmas.visits.VisitWalking.{behind_next}
 
 -- ---- which part of a microframe it is
 
-no_enter : (b : Bool) → enter_row b ≡ rows.Begin → ⊥
-no_enter true is = cc
-no_enter false is = cc
-
-no_ring : (b : Bool) → ring_row b ≡ rows.Begin → ⊥
-no_ring true is = cc
-no_ring false is = cc
-
-no_frame : (goes async : Bool) → (if goes then rows.Frame else enter_row async) ≡ rows.Begin → ⊥
-no_frame true async is = cc
-no_frame false async is = no_enter async is
-
-not_idle : rows.Idle ≡ rows.Begin → ⊥
-not_idle is = cc
-
-part_over : (r : RegisterFile) (frame : FrameWalk) (part : MicroframePart) → part_row r frame part ≡ rows.Begin → part ≡ Over
-part_over r frame Over is = refl
-part_over r frame Periodic is = absurd (no_frame (r.periodic_enable && not (is_over frame)) r.async_enable is)
-part_over r frame Asynchronous is = absurd (no_ring r.async_enable is)
-
-pub begins_over : (runs : Bool) (r : RegisterFile) (frame : FrameWalk) (part : MicroframePart) → (if runs then part_row r frame part else rows.Idle) ≡ rows.Begin → part ≡ Over
-begins_over true r frame part is = part_over r frame part is
-begins_over false r frame part is = absurd (not_idle is)
-
-ring_no_frame : (b : Bool) → ring_row b ≡ rows.Frame → ⊥
-ring_no_frame true is = cc
-ring_no_frame false is = cc
-
 begin_no_frame : rows.Begin ≡ rows.Frame → ⊥
 begin_no_frame is = cc
 
@@ -113,14 +89,11 @@ idle_no_frame is = cc
 part_periodic : (r : RegisterFile) (frame : FrameWalk) (part : MicroframePart) → part_row r frame part ≡ rows.Frame → part ≡ Periodic
 part_periodic r frame Over is = absurd (begin_no_frame is)
 part_periodic r frame Periodic is = refl
-part_periodic r frame Asynchronous is = absurd (ring_no_frame r.async_enable is)
+part_periodic r frame Asynchronous is = absurd (ring_off r.async_enable is)
 
 pub frame_periodic : (runs : Bool) (r : RegisterFile) (frame : FrameWalk) (part : MicroframePart) → (if runs then part_row r frame part else rows.Idle) ≡ rows.Frame → part ≡ Periodic
 frame_periodic true r frame part is = part_periodic r frame part is
 frame_periodic false r frame part is = absurd (idle_no_frame is)
-
-none_some : (kind : Kind) → None ≡ Some kind → ⊥
-none_some kind e = cc
 
 -- past the walk of the frames it is over
 goes_over : (over async : Bool) (r : ControllerRow) → (if not over then rows.Frame else enter_row async) ≡ r → IsPast r → over ≡ true
@@ -140,9 +113,6 @@ pub past_over : (runs : Bool) (r : RegisterFile) (frame : FrameWalk) (part : Mic
     → r.periodic_enable ≡ true → part ≡ Periodic → is_over frame ≡ true
 past_over true r frame part row is past on periodic = part_over_by r frame part row is past on periodic
 past_over false r frame part row is past on periodic = absurd (subst IsPast (sym is) past)
-
-in_list : (index : ℕ) → frame_in index < 1024
-in_list index = omega arith
 
 -- ---- what was unlinked
 

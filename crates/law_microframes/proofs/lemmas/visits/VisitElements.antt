@@ -1,6 +1,7 @@
 -- Where a microframe begins, the link of its element of the frame list leads to one that stands in its frame (EHCI 1.0, 3.1, 3.3.1, 4.4 and 4.6).
-use Rattle.std.proofs.Common.{◌≡◌, ℕ, ◌*◌, ◌/◌, ◌<◌, Bool, true, false, if◌then◌else◌, Option, Some, None, ap, refl, sym, subst, ◌∙◌, arith}
+use Rattle.std.proofs.Common.{◌≡◌, ℕ, ◌*◌, ◌/◌, ◌<◌, Bool, true, false, if◌then◌else◌, Option, Some, None, ap, refl, sym, subst, ◌∙◌}
 use Rattle.std.proofs.lemmas.Option.{same_Some}
+use Rattle.law_common.proofs.Numbers.{same_block}
 use Rattle.word_mem.specs.Memory.{Mem, word_at}
 use Rattle.link_words.specs.declared.kinds.Link.TheVariants as links
 use Rattle.link_words.specs.Links.{link_read}
@@ -41,9 +42,6 @@ split_name false a = refl
 pub structure_name : (q : PeriodicContent) (x : Member) → name_of (structure q (Some x)) ≡ Some (begins x)
 structure_name q (Each x) = refl
 structure_name q (Once k) = split_name (note_at q.notes (k.id / 32)).split (32 * (k.id / 32))
-
-same_block : (a b : ℕ) → 32 * (a / 32) ≡ 32 * (b / 32) → a / 32 ≡ b / 32
-same_block a b same = omega (arith, same)
 
 module _ (m : Mem) (d : DriverContent) (frames : HasFrames m d) where
   -- the one member of the driver's that begins there is one to which a word may lead

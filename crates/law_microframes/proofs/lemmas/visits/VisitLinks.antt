@@ -1,18 +1,19 @@
 -- Where links lead, by words and by the structures that tell them (EHCI 1.0, 3.1, 3.3 to 3.6 and 4.6).
-use Rattle.std.proofs.Common.{◌≡◌, ℕ, ◌+◌, ◌*◌, ◌/◌, ◌<◌, Bool, true, false, if◌then◌else◌, get_or, Option, Some, None, Result, Ok, Err, inl, ap, refl, sym, subst, ◌∙◌, arith}
+use Rattle.std.proofs.Common.{◌≡◌, ℕ, ◌+◌, ◌*◌, Bool, true, false, if◌then◌else◌, Option, Some, None, Result, Ok, Err, inl, ap, refl, sym, subst, ◌∙◌, arith}
 use Rattle.std.specs.Prelude.{slice_index}
 use Rattle.std.specs.Result.{result_ok}
 use Rattle.std.proofs.lemmas.Option.{same_Some}
+use Rattle.law_world.proofs.Common2.{queue_told}
+use Rattle.law_descriptors.proofs.Common.{first_of_words}
 use Rattle.word_mem.specs.Memory.{Mem, word_at}
 use Rattle.word_mem.specs.Views.{words_at}
-use Rattle.word_mem.proofs.Words.{get_or-words_in}
 use Rattle.link_words.specs.declared.kinds.Link.{Link}
 use Rattle.link_words.specs.declared.kinds.Link.TheVariants as links
 use Rattle.link_words.specs.declared.refusal.Bad.{Bad}
 use Rattle.link_words.specs.Links.{link_of, link_read}
 use Rattle.qh_qtd.specs.declared.queue_head.Qh.{Qh}
-use Rattle.qh_qtd.specs.QueueHead.{qh_read, qh_words}
-use Rattle.qh_qtd.proofs.QhLaws.{qh_read-words, qh_read-link}
+use Rattle.qh_qtd.specs.QueueHead.{qh_read}
+use Rattle.qh_qtd.proofs.QhLaws.{qh_read-link}
 use Rattle.itd_sitd.specs.declared.itd.Itd.{Itd}
 use Rattle.itd_sitd.specs.declared.sitd.Sitd.{Sitd}
 use Rattle.itd_sitd.specs.Itd.{itd_read, itd_words}
@@ -23,22 +24,13 @@ use Rattle.mem_queues.specs.Structures.{reaches_queue_head, queue_head_at_addres
 use Rattle.mem_descriptors.specs.Descriptors.{itd_at_address, sitd_at_address}
 use Rattle.periodic_walk.specs.declared.chain.ChainRow.TheVariants as chains
 use Rattle.periodic_walk.specs.Chain.{chain_row, queue_fetch, itd_fetch, sitd_fetch}
-use Rattle.law_structures.specs.lent_structures.Structures.{QueueHead, Isochronous, SplitIsochronous, StructureSets, HoldsQueueHead, HoldsIsochronous, HoldsSplitIsochronous, Tells}
+use Rattle.law_structures.specs.lent_structures.Structures.{QueueHead, Isochronous, SplitIsochronous, StructureSets, HoldsIsochronous, HoldsSplitIsochronous, Tells}
 use Rattle.law_frames.specs.Met.{Kind, AQueue, AnItd, ASitd, LeadsTo, IsMetAs}
 use Rattle.law_controller.specs.frame_control.Both.{AreMet}
 use Rattle.law_descriptors.specs.frame_keeps.Leaving.{LeavesStructures}
 use Rattle.law_microframes.specs.visits.Ranks.{name_of, next_of}
 
 -- ---- the first word of a structure is its link
-
-first_of_words : (m : Mem) (a n : ℕ) → 0 < n → slice_index (words_at m a n) 0 ≡ word_at m a
-first_of_words m a n many =
-    let same : (a + 4 * 0) / 4 ≡ a / 4 = omega arith in
-    get_or-words_in m.words a n 0 many ∙ ap (λ (k : ℕ). get_or m.words k 0) same
-
-queue_told : (m : Mem) (a : ℕ) (q : Qh) → HoldsQueueHead m a q → link_of q.link ≡ link_read (word_at m a)
-queue_told m a q h =
-    qh_read-link (qh_words q) q (qh_read-words q h.range) ∙ ap (λ ws. link_read (slice_index ws 0)) (sym h.words) ∙ ap link_read (first_of_words m a 12 (omega arith))
 
 itd_told : (m : Mem) (a : ℕ) (v : Itd) → HoldsIsochronous m a v → link_of v.link ≡ link_read (word_at m a)
 itd_told m a v h =

@@ -1,8 +1,9 @@
 -- Those whose links lead down may be taken to be such that each may be met, and what was unlinked in this microframe to be all that may be met and doesn't stand.
-use Rattle.std.proofs.Common.{◌≡◌, ℕ, ◌⊎◌, Bool, true, false, ◌&&◌, List, [], ◌∷◌, Option, Some, None, ap, refl, sym, subst}
+use Rattle.std.proofs.Common.{◌≡◌, ℕ, ◌⊎◌, Bool, true, ◌&&◌, List, [], ◌∷◌, Option, Some, None, ap, refl, sym, subst}
 use Rattle.std.specs.Prelude.{is_some}
 use Rattle.std.specs.List.{AllByRecursion}
 use Rattle.std.proofs.lemmas.Bool.{and_parts, false≢true}
+use Rattle.law_common.proofs.Booleans.{both_true}
 use Rattle.usb_base.specs.declared.packets.Reply.{Reply}
 use Rattle.link_words.specs.declared.kinds.Link.{Link}
 use Rattle.hc_copy.specs.Overlay.{settled_queue}
@@ -47,10 +48,6 @@ narrowed kept met n = kept n && is_some (met n)
 some_of : (o : Option Kind) → is_some o ≡ true → (kind : Kind) × (o ≡ Some kind)
 some_of None is = absurd (false≢true is)
 some_of (Some kind) is = (kind, refl)
-
-both_true : (a b : Bool) → a ≡ true → b ≡ true → (a && b) ≡ true
-both_true true b one two = two
-both_true false b one two = one
 
 is_narrowed : (kept : ℕ → Bool) (met : ℕ → Option Kind) (n : ℕ) (kind : Kind) → kept n ≡ true → met n ≡ Some kind → narrowed kept met n ≡ true
 is_narrowed kept met n kind one two = both_true (kept n) (is_some (met n)) one (ap is_some two)

@@ -1,6 +1,9 @@
 -- Before the first line of a script nothing was visited, and no link leads anywhere.
-use Rattle.std.proofs.Common.{◌≡◌, ℕ, true, false, [], Some, None}
+use Rattle.std.proofs.Common.{◌≡◌, ℕ, true, false, []}
 use Rattle.std.proofs.lemmas.Bool.{false≢true}
+use Rattle.law_controller.proofs.Common.{over_not_periodic}
+use Rattle.law_frames.proofs.Common.{none_some}
+use Rattle.law_microframes.proofs.Common.{no_work, in_list}
 use Rattle.script_types.specs.declared.scripts.Script.{Script}
 use Rattle.script_fits.specs.Fits.{IsFit}
 use Rattle.law_scripts.specs.byte_answers.Bytes.{IsByteScript}
@@ -8,9 +11,6 @@ use Rattle.drv_chains.specs.declared.members.Member.{Member}
 use Rattle.drv_chains.specs.declared.members.Member.TheVariants.{Once, Each}
 use Rattle.drv_chains.specs.Chains.{of_lists}
 use Rattle.drv_members.specs.Members.{is_linked}
-use Rattle.drv_periodic.specs.declared.work.Work.{Work}
-use Rattle.hc_core.specs.declared.controller.MicroframePart.TheVariants.{Over, Periodic}
-use Rattle.law_frames.specs.Met.{Kind}
 use Rattle.law_descriptors.specs.Meeting.{no_recent}
 use Rattle.bus_world.specs.Opening.{opening_world}
 use Rattle.law_world.specs.memory.Mixed.{IsMixedWorld}
@@ -18,16 +18,7 @@ use Rattle.law_world.proofs.lemmas.memory.Opening.{new_world_is_mixed}
 use Rattle.claims_world.specs.Visits.{IsInChain, frame_in}
 use Rattle.law_microframes.specs.visits.Visited.{StandsIn}
 use Rattle.law_microframes.specs.visits.VisitLaws.{NewIsVisiting}
-use Rattle.law_microframes.proofs.lemmas.visits.NoneLeftWorlds.{frame_low, in_chain_stands}
-
-none_stands : (kind : Kind) → None ≡ Some kind → ⊥
-none_stands kind e = cc
-
-no_work : (w : Work) → None ≡ Some w → ⊥
-no_work w e = cc
-
-over_no : Over ≡ Periodic → ⊥
-over_no e = cc
+use Rattle.law_microframes.proofs.lemmas.visits.NoneLeftWorlds.{in_chain_stands}
 
 none_linked : (x : Member) → is_linked (of_lists [] []) x ≡ true → ⊥
 none_linked (Once d) on = false≢true on
@@ -40,7 +31,7 @@ none_in_chain s fit bytes n led =
     let k : IsMixedWorld (opening_world s) = new_world_is_mixed s fit bytes in
     let h : StandsIn (opening_world s).driver (frame_in (opening_world s).control.frame.index) n
     = in_chain_stands k.standing (opening_world s) (frame_in (opening_world s).control.frame.index) n k.mixed
-    (frame_low (opening_world s).control.frame.index) led in
+    (in_list (opening_world s).control.frame.index) led in
     none_linked h.member h.linked
 
 pub new_is_visiting : NewIsVisiting
@@ -48,12 +39,12 @@ new_is_visiting s fit bytes = record {
   mixed = new_world_is_mixed s fit bytes;
   visits = record {
     left = no_recent;
-    left_are = λ n kind is. absurd (none_stands kind is);
+    left_are = λ n kind is. absurd (none_some kind is);
     kept = λ n. false;
     height = λ n. 0;
     who = λ n. Once (record { id = 0; frame = 0 });
     ranked = record {
-      standing_are = λ n kind is. absurd (none_stands kind is);
+      standing_are = λ n kind is. absurd (none_some kind is);
       closed = λ n k on. absurd (false≢true on);
       falls = λ n on. absurd (false≢true on);
       shares = λ n k f below on. absurd (false≢true on);
@@ -61,14 +52,14 @@ new_is_visiting s fit bytes = record {
       stand = λ x on. absurd (none_linked x on);
       linking = λ w is. absurd (no_work w is);
     };
-    behind = record { once = tt; were = tt; next = λ k part. absurd (over_no part) };
+    behind = record { once = tt; were = tt; next = λ k part. absurd (over_not_periodic part) };
     active = λ n on. absurd (false≢true on);
     were_active = tt;
     goes = record {
       ahead = λ n. false;
       are_kept = λ n on. absurd (false≢true on);
       closed = λ n k on. absurd (false≢true on);
-      next = λ k part. absurd (over_no part);
+      next = λ k part. absurd (over_not_periodic part);
       first = λ x is. absurd (no_work x is);
       old = λ e f n on. absurd (false≢true on);
     };

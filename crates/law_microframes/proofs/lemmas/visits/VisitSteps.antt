@@ -1,5 +1,6 @@
 -- An event with a copy in hand leaves the link by which the walk goes on, and FRINDEX of its microframe (EHCI 1.0, 4.6, 4.7.1, 4.10 and 4.12).
 use Rattle.std.proofs.Common.{◌≡◌, ℕ, Bool, true, false, if◌then◌else◌, List, Some, ap, refl, sym, subst}
+use Rattle.law_controller.proofs.Common.{over_not_periodic, split_heard_same}
 use Rattle.usb_base.specs.declared.packets.Ask.{Ask}
 use Rattle.usb_base.specs.declared.packets.Reply.{Reply}
 use Rattle.usb_base.specs.declared.packets.Split.{Split}
@@ -21,17 +22,16 @@ use Rattle.hc_iso.specs.declared.held.HeldSitd.{HeldSitd}
 use Rattle.hc_iso.specs.declared.held.Heard.{Heard}
 use Rattle.hc_iso.specs.declared.held.Heard.TheVariants.{Packet}
 use Rattle.hc_iso.specs.declared.held.SplitHeard.{SplitHeard}
-use Rattle.hc_iso.specs.declared.held.SplitHeard.TheVariants as heards
 use Rattle.hc_iso.specs.declared.held.IsoEnd.{IsoEnd}
 use Rattle.hc_iso.specs.declared.held.SplitOutcome.{SplitOutcome}
 use Rattle.hc_iso.specs.declared.held.SplitOutcome.TheVariants.{Failed}
 use Rattle.hc_iso.specs.Itd.{heard_in, after_heard, after_in, after_out}
-use Rattle.hc_iso.specs.Sitd.{missed_copy, missed_sitd, after_split_heard, after_complete, after_start, after_part, heard_by, in_after}
+use Rattle.hc_iso.specs.Sitd.{missed_copy, missed_sitd, after_complete, after_start, after_part, heard_by, in_after}
 use Rattle.hc_iso.specs.WriteBack.{itd_sending, itd_written, sitd_sending}
 use Rattle.hc_interrupt.specs.Turns.{microframe_of}
 use Rattle.async_walk.specs.declared.state.WalkStep.{WalkStep}
 use Rattle.async_walk.specs.declared.state.WalkStep.TheVariants as steps
-use Rattle.hc_core.specs.declared.controller.MicroframePart.TheVariants.{Over, Periodic}
+use Rattle.hc_core.specs.declared.controller.MicroframePart.TheVariants.{Periodic}
 use Rattle.hc_core.specs.Controller.{part_after}
 use Rattle.periodic_walk.specs.declared.state.Hand.{Hand}
 use Rattle.periodic_walk.specs.declared.state.Hand.TheVariants as hands
@@ -57,9 +57,6 @@ use Rattle.law_microframes.specs.visits.Visited.{link_held, link_ahead}
 
 -- ---- what an event leaves, where it isn't the fault
 
-over_periodic : Over ≡ Periodic → ⊥
-over_periodic e = cc
-
 -- after an event of this kind, where the walk would go on by the link l, in the microframe of this FRINDEX
 pub record Goes (l : Link) (index : ℕ) (kind : WalkStep) (q : FramePlace) : Type 0 where
   pub index_stays : q.walk.index ≡ index
@@ -70,7 +67,7 @@ Going l index kind (Leaves q) = Goes l index kind q
 Going l index kind (Asks ask out left_by) = (reply : Reply) → Goes l index kind (left_by reply)
 
 faults : (l : Link) (index : ℕ) (q : FramePlace) → q.walk.index ≡ index → Goes l index steps.Fault q
-faults l index q same = record { index_stays = same; ahead = λ on. absurd (over_periodic on) }
+faults l index q same = record { index_stays = same; ahead = λ on. absurd (over_not_periodic on) }
 
 goes : (l : Link) (index : ℕ) (kind : WalkStep) (q : FramePlace) → q.walk.index ≡ index → link_ahead q.walk.hand q.walk.cursor ≡ l → Goes l index kind q
 goes l index kind q same is = record { index_stays = same; ahead = λ on. is }
@@ -172,13 +169,9 @@ itd_goes (itds.WriteBack o) h p =
 
 -- ---- a siTD
 
-split_sitd : (x : SplitHeard) (v : Sitd) → (after_split_heard x v).link ≡ v.link
-split_sitd (heards.Data last n) v = refl
-split_sitd _ v = refl
-
 complete_sitd : (u : ℕ) (x : SplitHeard) (v : Sitd) → (after_complete u x v).link ≡ v.link
 unfolding after_complete
-complete_sitd u x v = split_sitd x v
+complete_sitd u x v = split_heard_same x v
 
 start_sitd : (v : Sitd) → (after_start v).link ≡ v.link
 unfolding after_start

@@ -1,6 +1,9 @@
 -- What was visited stays behind the walk of the frames, whatever event of the controller comes (EHCI 1.0, 4.6, 4.7, 4.10 and 4.12).
-use Rattle.std.proofs.Common.{◌≡◌, ◌≢◌, ℕ, ◌<◌, Bool, true, false, List, [], ◌∷◌, Option, Some, None, ap, refl, sym, subst, ◌∙◌, arith}
+use Rattle.std.proofs.Common.{◌≡◌, ℕ, ◌<◌, Bool, true, false, List, [], ◌∷◌, Option, Some, None, ap, refl, sym, subst, ◌∙◌}
 use Rattle.std.specs.List.{AllByRecursion}
+use Rattle.law_microframes.proofs.Common.{all_higher}
+use Rattle.law_controller.proofs.Common.{over_not_periodic}
+use Rattle.law_microframes.proofs.Common.{in_list, none_higher}
 use Rattle.usb_base.specs.declared.packets.Ask.{Ask}
 use Rattle.usb_base.specs.declared.packets.Reply.{Reply}
 use Rattle.word_mem.specs.Memory.{word_at, reaches}
@@ -25,7 +28,6 @@ use Rattle.hc_core.specs.Controller.{Control, Content, element_address, begun_at
 use Rattle.drv_table.specs.DriverContent.{DriverContent}
 use Rattle.law_frames.specs.Met.{Kind}
 use Rattle.law_descriptors.specs.Meeting.{met, no_recent}
-use Rattle.claims_world.specs.Memory.{IsNone}
 use Rattle.law_world.specs.memory.framed_memory.Now.{recent_then}
 use Rattle.law_microframes.specs.visits.Ranks.{name_of, next_of, height_to, IsRanked}
 use Rattle.claims_world.specs.Visits.{fetched_by, visited_too, visits_at, visits_after, frame_in}
@@ -35,34 +37,9 @@ use Rattle.law_microframes.proofs.lemmas.visits.VisitLinks.{IsReadAt, queue_is_r
 
 -- ---- parts of a microframe
 
-pub over_no : Over ≡ Periodic → ⊥
-over_no e = cc
-
 pub async_no : (kind : WalkStep) → part_after Asynchronous kind ≡ Periodic → ⊥
 async_no steps.Fetch e = cc
 async_no _ e = cc
-
--- ---- lists
-
-not_higher : (height : ℕ → ℕ) (a v : ℕ) → height a < height v → a ≢ v
-not_higher height a v less same = itself (height a) (subst (λ (x : ℕ). height a < height x) (sym same) less)
-  where
-    itself : (n : ℕ) → n < n → ⊥
-    itself n less = omega (arith, less)
-
-none_higher : (height : ℕ → ℕ) (a : ℕ) (vs : List ℕ) → AllByRecursion (λ v. height a < height v) vs → IsNone a vs
-none_higher height a [] all = tt
-none_higher height a (v ∷ vs) all = (not_higher height a v all.0, none_higher height a vs all.1)
-
-between : (a b c : ℕ) → a < b → b < c → a < c
-between a b c one two = omega (arith, one, two)
-
-all_higher : (height : ℕ → ℕ) (k a : ℕ) (vs : List ℕ) → height k < height a → AllByRecursion (λ v. height a < height v) vs → AllByRecursion (λ v. height k < height v) vs
-all_higher height k a [] less all = tt
-all_higher height k a (v ∷ vs) less all = (between (height k) (height a) (height v) less all.0, all_higher height k a vs less all.1)
-
-in_list : (index : ℕ) → frame_in index < 1024
-in_list index = omega arith
 
 -- ---- an event
 
@@ -113,7 +90,7 @@ module _ {W : Type 0} (begins_with : W → ℕ → Bool → W → Type 0) (trans
       fetched a (link_of v.link) periodic held (itd_is_read c.memory c.control.frame.cursor a v is) (ap (λ (x : FrameWalk). x.index) walk) (ap (λ (x : FrameWalk). link_ahead x.hand x.cursor) walk)
   by_chain (chains.Sitd a v) is periodic held walk part =
       fetched a (link_of v.link) periodic held (sitd_is_read c.memory c.control.frame.cursor a v is) (ap (λ (x : FrameWalk). x.index) walk) (ap (λ (x : FrameWalk). link_ahead x.hand x.cursor) walk)
-  by_chain _ is periodic held walk part = over n.control (λ on. over_no (sym part ∙ on)) (ap (λ (x : FrameWalk). x.index) walk)
+  by_chain _ is periodic held walk part = over n.control (λ on. over_not_periodic (sym part ∙ on)) (ap (λ (x : FrameWalk). x.index) walk)
 
   by_hand : (o : Option Hand) → c.control.frame.hand ≡ o → c.control.part ≡ Periodic → n.control.part ≡ part_after Periodic (step_at (frame_place c) o)
       → HasEffect transacts (effect_at (frame_place c) o) wire (frame_place n) after → Behind n.control (visits_at o (chain_row c.memory c.control.frame.cursor) vs)
@@ -142,7 +119,7 @@ module _ {W : Type 0} (begins_with : W → ℕ → Bool → W → Type 0) (trans
       → ((k : ℕ) → name_of (link_read (word_at c.memory (element_address (after_begin c.registers)))) ≡ Some k → IsNext kept height who (frame_in (after_begin c.registers).frame_index) [] k)
       → IsBehind d no_recent kept height who (begun_at reached allowed (record c { registers = after_begin c.registers })).control []
   begun true allowed is_over first = record { once = tt; were = tt; next = λ k part is. first k is }
-  begun false allowed is_over first = record { once = tt; were = tt; next = λ k part is. absurd (over_no (sym is_over ∙ part)) }
+  begun false allowed is_over first = record { once = tt; were = tt; next = λ k part is. absurd (over_not_periodic (sym is_over ∙ part)) }
 
   -- ---- each row
 
@@ -159,4 +136,4 @@ module _ {W : Type 0} (begins_with : W → ℕ → Bool → W → Type 0) (trans
   behind_next rows.Frame begins_over frame_there first row = by_hand c.control.frame.hand refl (frame_there refl) row.part row.walked
   behind_next rows.Enter begins_over frame_there first row = walked (entered c) refl row
   behind_next rows.Go begins_over frame_there first row = walked c refl row
-  behind_next rows.End begins_over frame_there first row = subst (λ (x : Content). Behind x.control vs) (sym row.0) (over (ended c.control) over_no refl)
+  behind_next rows.End begins_over frame_there first row = subst (λ (x : Content). Behind x.control vs) (sym row.0) (over (ended c.control) over_not_periodic refl)

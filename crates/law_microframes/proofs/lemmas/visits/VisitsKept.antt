@@ -1,6 +1,7 @@
 -- Each event of the driver and each command goes on with the visits; so in no run is a structure visited twice in a microframe.
 use Rattle.drv_table.specs.Rows.{driver_row}
 use Rattle.std.proofs.Common.{ℕ, ◌⊎◌, List, [], ⊎_elim, subst, refl}
+use Rattle.law_microframes.proofs.Common.{in_list}
 use Rattle.script_fits.proofs.Texts.{spelled_fits}
 use Rattle.law_scripts.proofs.lemmas.script_bytes.Texts.{a_text_spells_bytes}
 use Rattle.bus_wire.specs.Bus.{Fixed, fixed_of}
@@ -20,7 +21,7 @@ use Rattle.law_microframes.specs.visits.VisitLaws.{DriverKeepsVisiting, CommandK
 use Rattle.law_microframes.proofs.lemmas.visits.CommandVisits.{command_leaves_visits}
 use Rattle.law_microframes.proofs.lemmas.visits.DriverTogether.{each_row_keeps_visiting}
 use Rattle.law_microframes.proofs.lemmas.visits.NoneLeft.{none_to_come}
-use Rattle.law_microframes.proofs.lemmas.visits.NoneLeftWorlds.{frame_low, in_chain_stands}
+use Rattle.law_microframes.proofs.lemmas.visits.NoneLeftWorlds.{in_chain_stands}
 use Rattle.law_microframes.proofs.lemmas.visits.VisitMeeting.{visits_meet_now}
 use Rattle.law_microframes.proofs.lemmas.visits.VisitOpening.{new_is_visiting}
 use Rattle.law_microframes.proofs.lemmas.visits.VisitControlling.{controller_keeps_visiting}
@@ -68,7 +69,7 @@ texts_visit_each text s spelled k n past led now =
     absurd (none_to_come (moment s k).world.memory (moment s k).world.control n (past t.periodic) t))
     (h.visits.none.each n led
     (in_chain_stands h.mixed.standing (moment s k).world (frame_in (moment s k).world.control.frame.index) n h.mixed.mixed
-    (frame_low (moment s k).world.control.frame.index) now))
+    (in_list (moment s k).world.control.frame.index) now))
 
 pub texts_visit_each_once : TextsVisitEachOnce
 texts_visit_each_once text s spelled k =

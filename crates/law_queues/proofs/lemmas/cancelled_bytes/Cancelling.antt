@@ -6,9 +6,10 @@ use Rattle.std.specs.Option.{option_map}
 use Rattle.std.proofs.lemmas.Bool.{cases_eq, eq-eqb}
 use Rattle.std.proofs.lemmas.Option.{same_Some}
 use Rattle.std.proofs.lemmas.List.{append_assoc, take_all}
+use Rattle.law_queues.proofs.Common.{none_of, first_out}
+use Rattle.law_common.proofs.Numbers.{other_number}
 use Rattle.word_mem.specs.Memory.{Mem}
 use Rattle.law_structures.specs.lent_structures.Structures.{StructureSets}
-use Rattle.law_structures.proofs.lemmas.lent_structures.Names.{not_same}
 use Rattle.law_ring.specs.Hand.{Hand}
 use Rattle.law_ring.specs.Told.{Told}
 use Rattle.law_ring.specs.Order.{IsAmong, AllTold, none_out, one_out, Accounts}
@@ -21,7 +22,7 @@ use Rattle.drv_table.specs.Harvests.{note_at, bytes_now}
 use Rattle.drv_table.specs.Releases.{cancelled_bytes}
 use Rattle.claims_driver.specs.Owners.{NoteRuns, note_in}
 use Rattle.law_driver.specs.chained_transfers.Turns.{Turn, turn_of, turn_in, IsNext, AreReportedTo}
-use Rattle.law_driver.specs.chained_transfers.Out.{pieces_from, unpublished, passed, out_of_transfer, if_last, out_of, out_now}
+use Rattle.law_driver.specs.chained_transfers.Out.{pieces_from, passed, out_of_transfer, out_of, out_now}
 use Rattle.law_driver_ring.specs.told_harvests.Held.{AreHeld, none_held}
 use Rattle.law_queues.specs.harvest_laws.Holds.{IsUnderWay, IsToCome}
 use Rattle.law_controller.specs.controlled_streams.Reported.{IsReported}
@@ -56,16 +57,6 @@ no_bytes_told hand parts n (a ∷ out) xs none (one_out e es x ys told others) =
 
 -- ---- which qTDs are out while no command is unfinished
 
-all_out : (ys : List Transfer) (made n : ℕ) → if_last ys (unpublished None made n) ≡ 0
-all_out [] made n = refl
-all_out (y ∷ ys) made n = refl
-
-first_out : (note : ℕ → NoteRuns) (e made : ℕ) (y : Transfer) (ys : List Transfer) → out_of note e None made (y ∷ ys) ≡ out_of_transfer note e 0 y ++ out_of note e None made ys
-first_out note e made y ys = ap (λ (i : ℕ). out_of_transfer note e i y ++ out_of note e None made ys) (all_out ys made y.qtds)
-
-none_of : (note : ℕ → NoteRuns) (e : ℕ) (y : Transfer) → y.endpoint ≢ e → out_of_transfer note e 0 y ≡ []
-none_of note e y differs = ap (λ (b : Bool). if b && not y.released then drop (0 + passed y.reported) (pieces_from note y.place y.left) else []) (not_same y.endpoint e differs)
-
 left_out : (note : ℕ → NoteRuns) (e : ℕ) (y : Transfer) → y.endpoint ≡ e → y.released ≡ false → y.reported ≡ false → out_of_transfer note e 0 y ≡ pieces_from note y.place y.left
 left_out note e y at kept waits =
     ap (λ (b : Bool). if b && not y.released then drop (0 + passed y.reported) (pieces_from note y.place y.left) else []) (eq-eqb y.endpoint e at)
@@ -86,7 +77,7 @@ unfolding cancelled_bytes
 none_in_line notes m e queue = refl
 
 other_in_line : (notes : List QtdNote) (m : Mem) (e queue : ℕ) (y : Transfer) → y.endpoint ≢ e → bytes_in_line notes m e queue y ≡ []
-other_in_line notes m e queue y differs = ap (λ (b : Bool). if b && not y.reported then take y.most (bytes_now notes m queue y.first y.qtds y.left) else []) (not_same y.endpoint e differs)
+other_in_line notes m e queue y differs = ap (λ (b : Bool). if b && not y.reported then take y.most (bytes_now notes m queue y.first y.qtds y.left) else []) (other_number y.endpoint e differs)
 
 reported_in_line : (notes : List QtdNote) (m : Mem) (e queue : ℕ) (y : Transfer) → y.reported ≡ true → bytes_in_line notes m e queue y ≡ []
 reported_in_line notes m e queue y told =

@@ -1,13 +1,14 @@
 -- Of a qTD that wasn't harvested the overlay or its token counts the bytes that are told of it.
-use Rattle.std.proofs.Common.{◌≡◌, ℕ, zero, suc, ◌+◌, ◌-◌, ◌*◌, ◌≤◌, ◌&&◌, nat_eq, Bool, true, false, cond, if◌then◌else◌, List, [], ◌∷◌, length, take, get_or, Option, Some, None, ap, refl, sym, ◌∙◌, arith}
+use Rattle.std.proofs.Common.{◌≡◌, ℕ, zero, suc, ◌+◌, ◌-◌, ◌*◌, ◌≤◌, ◌&&◌, nat_eq, Bool, true, false, cond, if◌then◌else◌, List, [], length, take, get_or, Some, None, ap, refl, sym, ◌∙◌, arith}
 use Rattle.std.specs.Result.{result_ok}
-use Rattle.std.proofs.lemmas.Option.{same_Some}
 use Rattle.std.proofs.lemmas.List.{nil_from_length}
+use Rattle.law_driver_ring.proofs.Common.{unless_is, moved_is}
+use Rattle.law_common.proofs.Lists.{take_again}
+use Rattle.law_common.proofs.Numbers.{other_number}
 use Rattle.word_mem.specs.Memory.{Mem, word_at}
 use Rattle.word_mem.specs.Views.{words_at}
 use Rattle.word_mem.proofs.Words.{get_or-words_in}
-use Rattle.link_words.specs.Layout.{high_bits, unless_bad}
-use Rattle.link_words.specs.declared.refusal.Bad.{Bad}
+use Rattle.link_words.specs.Layout.{high_bits}
 use Rattle.qh_qtd.specs.declared.token.Token.{Token}
 use Rattle.qh_qtd.specs.declared.qtd.Qtd.{Qtd}
 use Rattle.qh_qtd.specs.declared.queue_head.Qh.{Qh}
@@ -16,7 +17,6 @@ use Rattle.qh_qtd.specs.QueueHead.{qh_read, qh_at, qh_bad}
 use Rattle.mem_queues.specs.Structures.{reaches_queue_head}
 use Rattle.law_structures.specs.lent_structures.Structures.{QueueHead, StructureSets, Tells}
 use Rattle.law_structures.proofs.lemmas.lent_structures.Reading.{head_read}
-use Rattle.law_structures.proofs.lemmas.lent_structures.Names.{not_same}
 use Rattle.law_structures.specs.lent_structures.Sound.{HasBuffer}
 use Rattle.law_structures.proofs.lemmas.lent_structures.Altering.{found_element}
 use Rattle.law_ring.specs.Hand.{Hand, Settled}
@@ -27,15 +27,10 @@ use Rattle.drv_table.specs.Harvests.{token_in, buffer_bytes, is_current, left_no
 use Rattle.law_driver_ring.specs.harvested_streams.Harvested.{IsNoted}
 use Rattle.law_driver_ring.proofs.lemmas.harvested_streams.Harvesting.{token_is_read, bytes_are_read}
 use Rattle.law_driver_ring.specs.told_harvests.Held.{IsDone, IsRead}
-use Rattle.law_driver_ring.proofs.lemmas.told_harvests.Noting.{moved_is}
 use Rattle.law_driver_ring.proofs.lemmas.told_harvests.Reading.{length_taken}
 use Rattle.law_queues.specs.cancelled_bytes.Cancelled.{SettlesElsewhere}
 
 -- ---- the queue head
-
-unless_is : (o : Option Bad) (q r : Qh) → result_ok (unless_bad o q) ≡ Some r → q ≡ r
-unless_is None q r e = same_Some q r e
-unless_is (Some bad) q r e = absurd (cc)
 
 read_is : (ws : List ℕ) (q : Qh) → result_ok (qh_read ws) ≡ Some q → qh_at ws ≡ q
 unfolding qh_read
@@ -78,7 +73,7 @@ module _ (m : Mem) (parts : StructureSets) (queue : ℕ) (q : Qh) (tells : Tells
 -- ---- what is told where its transaction was written back
 
 pub words_tell : (hand : Hand) (n : ℕ) (q : Qh) (e : ℕ) (t : Qtd) (bs : List ℕ) → SettlesElsewhere hand n → hand_bytes hand n q e t bs ≡ told_bytes q e t bs
-words_tell (Settled c z) n q e t bs k = ap (λ (b : Bool). if b && works_on q e then settled_bytes q t z bs else told_bytes q e t bs) (not_same c.at n k)
+words_tell (Settled c z) n q e t bs k = ap (λ (b : Bool). if b && works_on q e then settled_bytes q t z bs else told_bytes q e t bs) (other_number c.at n k)
 words_tell _ n q e t bs k = refl
 
 -- ---- its bytes
@@ -93,11 +88,6 @@ no_list = []
 take_none : (k : ℕ) → take k no_list ≡ no_list
 take_none zero = refl
 take_none (suc k) = refl
-
-take_again : (k : ℕ) (xs : List ℕ) → take (length (take k xs)) xs ≡ take k xs
-take_again zero xs = refl
-take_again (suc k) [] = refl
-take_again (suc k) (x ∷ xs) = ap (λ (ys : List ℕ). x ∷ ys) (take_again k xs)
 
 module _ (m : Mem) (parts : StructureSets) (hand : Hand) (queue : ℕ) (tells : Tells m parts) (elsewhere : SettlesElsewhere hand (32 * queue)) where
   told_is : (b : ℕ) (note : QtdNote) (z : List ℕ) → (r : IsRead (parts (32 * queue)) note b) → Told hand parts (32 * queue) (32 * b) z

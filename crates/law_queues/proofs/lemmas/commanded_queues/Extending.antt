@@ -1,7 +1,10 @@
 -- Buffers stay in their runs along accepted commands.
-use Rattle.std.proofs.Common.{◌≡◌, ◌≢◌, ℕ, zero, suc, ◌-◌, ◌*◌, List, [], ◌∷◌, length, take, drop, get_or, Option, Some, option_map, ap, refl, sym, subst, ◌∙◌, ⊎_elim, inl, inr, arith}
+use Rattle.std.proofs.Common.{◌≡◌, ◌≢◌, ℕ, zero, suc, ◌-◌, ◌*◌, List, [], ◌∷◌, length, take, drop, get_or, Option, Some, option_map, ap, refl, sym, subst, ◌∙◌, ⊎_elim, inl, inr}
 use Rattle.std.proofs.lemmas.Bool.{cases_eq}
 use Rattle.std.proofs.lemmas.Option.{same_Some}
+use Rattle.law_queues.proofs.Common.{piece_told}
+use Rattle.law_driver_ring.proofs.Common.{lent_of}
+use Rattle.law_common.proofs.Lists.{drop_first}
 use Rattle.mem_runs.specs.declared.slots.Slot.{Slot}
 use Rattle.mem_runs.specs.declared.slots.Slot.TheVariants.{Empty}
 use Rattle.mem_runs.specs.Book.{Holding, holding, slot_of}
@@ -10,11 +13,10 @@ use Rattle.drv_table.specs.Accepting.{Offered, new_runs}
 use Rattle.drv_table.specs.Offers.{note_stages, new_endpoint, accepted_open, accepted_transfer}
 use Rattle.claims_driver.specs.Owners.{Owner, Element, HasRun, SlotHas, IsPlaced, ArePieces, EndpointRuns, TransferRuns, NoteRuns, Views, runs_of_endpoint, views_of, IsPieceOf}
 use Rattle.law_driver.proofs.lemmas.run_owners.Taking.{AreTaken, runs_taken}
-use Rattle.law_driver.proofs.lemmas.run_owners.Accepted.{drop_first}
 use Rattle.law_driver.proofs.lemmas.run_owners.Transferred.{goes_on_alive}
 use Rattle.law_driver.proofs.lemmas.ring_members.Placed.{has_queue}
 use Rattle.law_structures.specs.lent_structures.Structures.{StructureSets}
-use Rattle.law_driver_ring.specs.Inventory.{Sort, OfElement, OfBuffer, sort_of, sorts_of, IsLent, IsBufferTold, AreTold, IsTransferIn, IsDriverOwned, the_list, the_head, a_queue, a_dummy, a_piece, a_buffer, IsDriven}
+use Rattle.law_driver_ring.specs.Inventory.{Sort, OfElement, OfBuffer, sort_of, sorts_of, IsLent, IsTransferIn, IsDriven}
 use Rattle.law_driver_ring.proofs.Opens.{open_one_more}
 use Rattle.law_driver_ring.proofs.Transfers.{moved_end, one_transfer, OneTransfer}
 use Rattle.law_driver_ring.proofs.AcceptNoted.{transfer_one}
@@ -30,14 +32,6 @@ record HadBuffer (v : Views) (t b c : ℕ) (cs : List ℕ) (y : TransferRuns) (x
   piece : IsPieceOf v.note y.first y.qtds b
   first : (v.note b).buffer ≡ c ∷ cs
   queue : endpoint.queue ≡ x.queue
-
-lent_of : (w : Views) (n a : ℕ) (s : Sort) (c : ℕ) → s ≡ OfBuffer → a ≡ 32 * c → IsDriverOwned w n a s → IsLent (w.slot c)
-lent_of w _ _ _ c is at the_list = absurd (cc)
-lent_of w _ _ _ c is at the_head = absurd (cc)
-lent_of w _ _ _ c is at (a_queue e z queued lent) = absurd (cc)
-lent_of w _ _ _ c is at (a_dummy e z queued lent) = absurd (cc)
-lent_of w _ _ _ c is at (a_piece u b r e transfer piece lent) = absurd (cc)
-lent_of w _ _ _ c is at (a_buffer u b g gs r e transfer piece first lent) = subst (λ (i : ℕ). IsLent (w.slot i)) (let same : g ≡ c = omega (arith, at) in same) lent
 
 extents_by : (v w : Views) (parts : StructureSets) → ((c k : ℕ) → SlotHas (v.slot c) k → SlotHas (w.slot c) k)
     → ((t b c : ℕ) (cs : List ℕ) (y : TransferRuns) (x : EndpointRuns) → IsTransferIn w t y x → IsPieceOf w.note y.first y.qtds b → (w.note b).buffer ≡ c ∷ cs → IsLent (w.slot c) → HadBuffer v t b c cs y x)
@@ -104,12 +98,6 @@ piece_back slot owner note other t b (suc n) c same pieces (inl is) = record { i
 piece_back slot owner note other t b (suc n) c same pieces (inr is) =
     let rest = piece_back slot owner note other t (note b).next n c same pieces.1 (subst (λ (k : ℕ). IsPieceOf other k n c) (ap (λ (r : NoteRuns). r.next) (same b pieces.0.element)) is) in
     record { is = inr rest.is; same = rest.same }
-
--- what is told of the buffer of a qTD
-piece_told : (v : Views) (sorts : ℕ → Option Sort) (b n e c : ℕ) (cs : List ℕ) → AreTold v sorts b n → IsPieceOf v.note b n e → (v.note e).buffer ≡ c ∷ cs → IsLent (v.slot c) → sorts (32 * c) ≡ Some OfBuffer
-piece_told v sorts b zero e c cs told piece runs lent = absurd piece
-piece_told v sorts b (suc n) e c cs told (inl is) runs lent = (subst (IsBufferTold v.slot sorts) (ap (λ (i : ℕ). (v.note i).buffer) (sym is) ∙ runs) told.0.buffer) lent
-piece_told v sorts b (suc n) e c cs told (inr more) runs lent = piece_told v sorts (v.note b).next n e c cs told.1 more runs lent
 
 module _ (v w : Views) (owner : ℕ → Owner) (number : ℕ) (x : EndpointRuns) (dummy count n : ℕ) (one : OneTransfer v w owner number x dummy count n) where
   -- nothing of the new transfer is lent yet but its first qTD

@@ -1,14 +1,17 @@
 -- Fronts and tails along accepted commands.
-use Rattle.std.proofs.Common.{◌≡◌, ◌≢◌, ℕ, ◌+◌, ◌-◌, ◌*◌, ◌==◌, ◌≤◌, Bool, false, cond, if◌then◌else◌, List, length, replicate, take, drop, get_or, slice_get, Some, ap, refl, sym, subst, ◌∙◌, ⊎_elim, arith, Option, None}
+use Rattle.std.proofs.Common.{◌≡◌, ◌≢◌, ℕ, ◌+◌, ◌-◌, ◌*◌, ◌==◌, ◌≤◌, Bool, false, cond, if◌then◌else◌, List, length, replicate, take, drop, get_or, slice_get, Some, ap, refl, sym, subst, ◌∙◌, ⊎_elim, arith}
 use Rattle.std.proofs.lemmas.Bool.{eq-eqb}
 use Rattle.std.proofs.lemmas.List.{get_or-take, length-append, length-replicate}
 use Rattle.std.proofs.lemmas.Option.{slice_get_past}
+use Rattle.law_queues.proofs.Common.{none_open}
+use Rattle.law_common.proofs.Lists.{drop_first, push_which}
+use Rattle.law_common.proofs.Numbers.{other_number}
+use Rattle.law_driver.proofs.Common.{times_of}
 use Rattle.word_mem.specs.Memory.{Mem}
 use Rattle.mem_runs.specs.Book.{holding, Stands, slot_of, Holding}
 use Rattle.drv_table.specs.declared.content.Endpoint.{Endpoint}
 use Rattle.drv_table.specs.declared.content.Transfer.{Transfer}
 use Rattle.drv_table.specs.declared.content.QtdNote.{QtdNote}
-use Rattle.drv_table.specs.declared.content.Command.{Command}
 use Rattle.drv_table.specs.declared.content.Command.TheVariants as unfinished
 use Rattle.drv_table.specs.DriverContent.{DriverContent}
 use Rattle.drv_table.specs.Words.{needs}
@@ -18,19 +21,16 @@ use Rattle.law_driver.specs.run_owners.Accepts.{Transfers}
 use Rattle.claims_driver.specs.Leaving.{owes, HasOwners}
 use Rattle.claims_driver.specs.Owners.{note_in}
 use Rattle.law_driver.proofs.lemmas.run_owners.Taking.{runs_taken}
-use Rattle.law_driver.proofs.lemmas.run_owners.Accepted.{drop_first}
 use Rattle.law_driver.proofs.lemmas.run_owners.Chains.{buffers_of}
 use Rattle.law_structures.specs.lent_structures.Structures.{StructureSets}
-use Rattle.law_structures.proofs.lemmas.lent_structures.Names.{not_same}
 use Rattle.law_driver_ring.specs.Inventory.{IsLent}
 use Rattle.law_driver_ring.proofs.Taken.{new_not_lent}
 use Rattle.law_driver.specs.chained_transfers.Chains.{piece_at}
-use Rattle.law_queues.proofs.lemmas.fed_lends.Asked.{push_which, set_which, IsTakenOn, dummy_in, notes_in, taken_on}
+use Rattle.law_queues.proofs.lemmas.fed_lends.Asked.{set_which, IsTakenOn, dummy_in, notes_in, taken_on}
 use Rattle.law_ring.specs.Front.{IsPassed}
 use Rattle.law_queues.specs.released_queues.Fronts.{piece_address}
 use Rattle.law_queues.specs.standing_fronts.Along.{WasOwed}
 use Rattle.law_queues.specs.standing_fronts.Reaching.{Reaches}
-use Rattle.law_queues.proofs.lemmas.standing_fronts.Lists.{times_some}
 use Rattle.law_queues.specs.commanded_queues.Accepted.{ReachEnds, ReachesOpen, ReachesAsked}
 use Rattle.law_driver_ring.specs.fed_queues.Places.{IsMet}
 use Rattle.law_driver_ring.proofs.lemmas.fed_queues.Places.{SameLife, same_life, life_back, met_as}
@@ -82,9 +82,6 @@ open_reaches_in d f x parts order out i harvested transfers notes k =
       places = λ j most. ap (λ (ns : List QtdNote). 32 * piece_at (note_in ns) z.first j) notes;
     }) k
 
-none_some : (q : ℕ) → ◌≡◌ {A = Option Command} None (Some (unfinished.Open q)) → ⊥
-none_some q bad = cc
-
 pub reaches_open : ReachesOpen
 reaches_open d m o parts order out why ends e x here met =
     let w = why in
@@ -95,7 +92,7 @@ reaches_open d m o parts order out why ends e x here met =
     let near : may_meet o.driver e x ≡ may_meet d e x = met_alike d o.driver e x x refl (ap (λ (p : Offered). p.driver.waiting) w.is) (ap (λ (p : Offered). p.driver.rung) w.is) in
     ⊎_elim
     (λ (was : slice_get d.endpoints e ≡ Some x).
-    open_reaches_in d o.driver x parts order out e (ap (λ (p : Offered). p.driver.harvested) w.is) (ap (λ (p : Offered). p.driver.transfers) w.is) (ap (λ (p : Offered). p.driver.notes) w.is) (ends e x was (record { there = record { linked = λ opens. none_some x.queue (sym w.idle ∙ opens); kept = met.there.kept }; near = sym near ∙ met.near })))
+    open_reaches_in d o.driver x parts order out e (ap (λ (p : Offered). p.driver.harvested) w.is) (ap (λ (p : Offered). p.driver.transfers) w.is) (ap (λ (p : Offered). p.driver.notes) w.is) (ends e x was (record { there = record { linked = λ opens. none_open x.queue (sym w.idle ∙ opens); kept = met.there.kept }; near = sym near ∙ met.near })))
     (λ (is : (e ≡ length d.endpoints) × (x ≡ new)). absurd (met.there.linked (ap (λ (p : Offered). p.driver.command) w.is ∙ ap (λ (y : Endpoint). Some (unfinished.Open y.queue)) (sym is.1))))
     (push_which d.endpoints new e x (ap (λ (p : Offered). slice_get p.driver.endpoints e) (sym w.is) ∙ here))
 
@@ -104,7 +101,7 @@ reaches_open d m o parts order out why ends e x here met =
 -- what is to be given back is a transfer that there was
 none_owed : (d : DriverContent) (h u : ℕ) → HasOwners d → slice_get d.harvested h ≡ Some u → u ≢ length d.transfers
 none_owed d h u owners at is =
-    let some = times_some d.harvested h u at in
+    let some = times_of d.harvested h u at in
     let most = owners.orderly.harvests u in
     let none : owes (slice_get d.transfers u) ≡ 0 = ap owes (slice_get_past d.transfers u (omega (arith, is))) in
     omega (arith, some, most, none)
@@ -130,7 +127,7 @@ module _ (d : DriverContent) (owners : HasOwners d) (e : ℕ) (x : Endpoint) (a 
       (push_which d.transfers (new_transfer e a x.dummy) u z there)
 
   was_met : (i : ℕ) (y z : Endpoint) → SameLife y z → IsMet f i z → IsMet d i y
-  was_met i y z life met = met_as f d i z y (record { waiting = refl; rung = refl; opens = λ c is. absurd (none_some c (sym k.idle ∙ is)) }) (life_back y z life) met
+  was_met i y z life met = met_as f d i z y (record { waiting = refl; rung = refl; opens = λ c is. absurd (none_open c (sym k.idle ∙ is)) }) (life_back y z life) met
 
   taken_reaches_in : (parts : StructureSets) (order : ℕ → ℕ → ℕ) (out : ℕ → List ℕ) → ReachEnds d parts order out → (i : ℕ) (z : Endpoint) → slice_get f.endpoints i ≡ Some z → IsMet f i z
       → Reaches f (parts (32 * z.queue)) (order (32 * z.queue)) (out (32 * z.queue)) i z (32 * (if e == i then x.dummy else z.dummy))
@@ -141,7 +138,7 @@ module _ (d : DriverContent) (owners : HasOwners d) (e : ℕ) (x : Endpoint) (a 
       subst (λ (b : Bool). Reaches f (parts (32 * z.queue)) (order (32 * z.queue)) (out (32 * z.queue)) i z (32 * cond b x.dummy z.dummy)) (sym (eq-eqb e i (sym own.0)))
       (reaches_alike d f parts order out i (32 * x.dummy) x z (ap (λ (y : Endpoint). y.queue) own.1) refl was_owed (ends i x at (was_met i x z (record { desc = ap (λ (y : Endpoint). y.desc) own.1; queue = ap (λ (y : Endpoint). y.queue) own.1; linked = ap (λ (y : Endpoint). y.linked) own.1; gone = ap (λ (y : Endpoint). y.gone) own.1 }) met))))
       (λ (other : (i ≢ e) × (slice_get d.endpoints i ≡ Some z)).
-      subst (λ (b : Bool). Reaches f (parts (32 * z.queue)) (order (32 * z.queue)) (out (32 * z.queue)) i z (32 * cond b x.dummy z.dummy)) (sym (not_same e i (λ is. other.0 (sym is))))
+      subst (λ (b : Bool). Reaches f (parts (32 * z.queue)) (order (32 * z.queue)) (out (32 * z.queue)) i z (32 * cond b x.dummy z.dummy)) (sym (other_number e i (λ is. other.0 (sym is))))
       (reaches_alike d f parts order out i (32 * z.dummy) z z refl refl was_owed (ends i z other.1 (was_met i z z (same_life z) met))))
       (set_which d.endpoints e i x (with_queued x dummy (length d.transfers)) z k.here here)
 

@@ -3,6 +3,7 @@ use Rattle.std.proofs.Common.{◌≡◌, ℕ, ◌+◌, Bool, true, false, not, �
 use Rattle.std.specs.Prelude.{is_some, is_none, count_by}
 use Rattle.std.proofs.lemmas.Bool.{true≢false}
 use Rattle.std.proofs.lemmas.Option.{same_Some}
+use Rattle.law_common.proofs.Lists.{pushed_last}
 use Rattle.usb_base.specs.declared.endpoints.EpDesc.{EpDesc}
 use Rattle.usb_base.specs.declared.endpoints.EndCause.{EndCause}
 use Rattle.usb_base.specs.declared.endpoints.EndCause.TheVariants as causes
@@ -31,7 +32,6 @@ use Rattle.drv_table.specs.CancelOffers.{endpoint_members, with_cancel, cancelle
 use Rattle.law_driver.specs.run_owners.Accepts.{Opens}
 use Rattle.claims_driver.specs.Scripts.{OpensAsynchronous}
 use Rattle.law_driver.proofs.lemmas.chained_transfers.BulkAndControl.{not_periodic}
-use Rattle.law_driver.proofs.lemmas.chained_transfers.Chained.{pushed_last}
 use Rattle.law_queues.specs.commanded_queues.Accepted.{OpensItsOwn}
 
 is_open : Option Command → Bool

@@ -1,5 +1,6 @@
 -- An event of the controller leaves the queues.
 use Rattle.std.proofs.Common.{◌≡◌, ℕ, ◌+◌, ◌-◌, ◌*◌, List, length, ap, refl, sym, subst, ◌∙◌, arith}
+use Rattle.law_driver_ring.proofs.Common.{partly_idle}
 use Rattle.mem_bytes.specs.Bytes.{place}
 use Rattle.qh_qtd.specs.declared.qtd.Qtd.{Qtd}
 use Rattle.qh_qtd.specs.declared.token.Token.{Token}
@@ -16,7 +17,6 @@ use Rattle.law_ring.specs.Effects.{buffer_of}
 use Rattle.law_ring.proofs.Altered.{length_still}
 use Rattle.law_controller.specs.controlled_streams.Kept.{KeepsEach}
 use Rattle.law_driver_ring.specs.Published.{partly}
-use Rattle.law_driver_ring.proofs.Publishing.{idle}
 use Rattle.law_queues.proofs.lemmas.publish_laws.Keeping.{publishable_still}
 use Rattle.claims_driver.specs.Owners.{note_in}
 use Rattle.law_driver.specs.chained_transfers.Chains.{piece_at}
@@ -80,7 +80,7 @@ published_still d parts now b words keeps k = record {
   active = k.active;
   pid = k.pid;
   total = k.total;
-  stored = (keeps (32 * k.endpoint.queue)).idle (32 * b) (partly k.qtd (d.made - 1)) k.stored (idle k.qtd (d.made - 1) (let few = k.few in omega (arith, few)));
+  stored = (keeps (32 * k.endpoint.queue)).idle (32 * b) (partly k.qtd (d.made - 1)) k.stored (partly_idle k.qtd (d.made - 1) (let few = k.few in omega (arith, few)));
   places = k.places;
   blank = k.blank;
   few = k.few;

@@ -1,10 +1,12 @@
 -- A harvest takes the first qTD out that no short packet passed over.
-use Rattle.std.proofs.Common.{◌≡◌, ◌≢◌, ℕ, zero, suc, ◌+◌, ◌-◌, ◌*◌, ◌≤◌, Bool, true, false, ◌||◌, ◌==◌, cond, nat_le, List, [], ◌∷◌, ◌++◌, set, drop, slice_get, Option, Some, None, option_map, ap, sym, subst, ◌∙◌, ⊎_elim, refl, arith}
+use Rattle.std.proofs.Common.{◌≡◌, ◌≢◌, ℕ, zero, suc, ◌+◌, ◌-◌, ◌*◌, ◌≤◌, Bool, true, false, ◌||◌, ◌==◌, cond, nat_le, List, ◌∷◌, ◌++◌, set, drop, slice_get, Option, Some, None, option_map, ap, sym, subst, ◌∙◌, ⊎_elim, refl, arith}
 use Rattle.std.proofs.lemmas.Bool.{cases_eq, false≢true}
 use Rattle.std.proofs.lemmas.Option.{same_Some}
+use Rattle.law_common.proofs.Lists.{set_same, set_here, set_there}
+use Rattle.law_queues.proofs.Common.{bulk_unstalled, none_of, own_out}
+use Rattle.law_common.proofs.Numbers.{same_number, other_number}
+use Rattle.law_driver.proofs.Common.{waits_is}
 use Rattle.usb_base.specs.declared.endpoints.EndCause.{EndCause}
-use Rattle.usb_base.specs.declared.packets.EpKind.{EpKind}
-use Rattle.usb_base.specs.declared.packets.EpKind.TheVariants as kinds
 use Rattle.usb_base.specs.declared.reports.What.{What}
 use Rattle.drv_table.specs.declared.content.Endpoint.{Endpoint}
 use Rattle.drv_table.specs.declared.content.Transfer.{Transfer}
@@ -23,7 +25,6 @@ use Rattle.drv_table.specs.Harvesting.{after_harvest, harvested_as, served, afte
 use Rattle.law_driver.specs.run_owners.Due.{IsHarvestDue}
 use Rattle.claims_driver.specs.Leaving.{HasOwners}
 use Rattle.claims_driver.specs.Owners.{Owner, QueueHead, NoteRuns, runs_of_endpoint, note_in}
-use Rattle.law_driver.proofs.lemmas.run_owners.Released.{set_here, set_there, same_number, other_number}
 use Rattle.law_driver.proofs.lemmas.run_owners.Stays.{same_item}
 use Rattle.law_structures.specs.lent_structures.Structures.{StructureSets}
 use Rattle.law_ring.specs.Told.{Endpoint as Told}
@@ -31,23 +32,17 @@ use Rattle.law_driver.specs.chained_transfers.Turns.{turn_of}
 use Rattle.law_driver.specs.chained_transfers.AsynchronousTurns.{AsynchronousTakesTurns}
 use Rattle.law_driver.specs.chained_transfers.Out.{pieces_from, passed, out_of_transfer, out_of, out_now}
 use Rattle.law_driver.proofs.lemmas.chained_transfers.Ways.{found_by, moves_queued}
-use Rattle.law_driver.proofs.lemmas.chained_transfers.Harvesting.{waits_is}
-use Rattle.law_driver.proofs.lemmas.chained_transfers.Harvested.{no_stall, not_served, note_same}
+use Rattle.law_driver.proofs.lemmas.chained_transfers.Harvested.{not_served, note_same}
 use Rattle.law_driver_ring.specs.fed_queues.Places.{AreStillOut, IsThere}
 use Rattle.law_queues.specs.fed_lends.Commands.{QueuesStand}
 use Rattle.law_queues.proofs.lemmas.fed_lends.Asked.{set_which}
 use Rattle.law_queues.specs.fed_harvests.Harvests.{IsLike, Harvested, with_out, HarvestLeaves, UnstalledStands, HarvestStands, WaitStands}
 use Rattle.law_queues.proofs.lemmas.fed_harvests.Like.{alike_stands}
-use Rattle.law_queues.proofs.lemmas.fed_harvests.Lists.{all_of, all_out, all_same, splits, all_set, others_none, own_out}
+use Rattle.law_queues.proofs.lemmas.fed_harvests.Lists.{all_of, all_out, all_same, splits, all_set}
 use Rattle.law_driver_ring.proofs.lemmas.fed_queues.Places.{SameQueues, same_ends, met_stays, streams_stay}
 use Rattle.law_driver.proofs.lemmas.chained_transfers.BulkAndControl.{not_iso, bulk_is_asynchronous}
 use Rattle.law_driver.proofs.lemmas.chained_transfers.Staying.{stands_alive}
 use Rattle.law_queues.specs.mended_heads.Stalling.{IsStall}
-
-set_self : {X : Type 0} (xs : List X) (e : ℕ) (x : X) → slice_get xs e ≡ Some x → set xs e x ≡ xs
-set_self [] e x here = refl
-set_self (y ∷ ys) zero x here = ap (λ z. z ∷ ys) (sym (same_Some y x here))
-set_self (y ∷ ys) (suc e) x here = ap (λ zs. y ∷ zs) (set_self ys e x here)
 
 -- ---- a content after a harvest
 
@@ -147,7 +142,7 @@ module _ (d : DriverContent) (e t : ℕ) (x : Endpoint) (y : Transfer) (idle : d
   same_out : (f : DriverContent) (k : Becomes f) (i : ℕ) → y.endpoint ≢ i → out_now f i ≡ out_now d i
   same_out f k i differs =
       later_of f k i
-      ∙ all_set (note_in d.notes) i d.transfers t y k.y_now there (others_none (note_in d.notes) i k.y_now (λ same. differs (sym k.y_like.0 ∙ same)) ∙ sym (others_none (note_in d.notes) i y differs))
+      ∙ all_set (note_in d.notes) i d.transfers t y k.y_now there (none_of (note_in d.notes) i k.y_now (λ same. differs (sym k.y_like.0 ∙ same)) ∙ sym (none_of (note_in d.notes) i y differs))
       ∙ sym (now_of d i idle)
 
 -- ---- the three ways
@@ -314,7 +309,7 @@ module _ (p : Parts) (e t : ℕ) (found : Found) (due : IsHarvestDue p e t found
         moved = n;
         notes = refl;
         x_now = due.endpoint;
-        endpoints = sym (set_self p.driver.endpoints e due.endpoint due.here);
+        endpoints = sym (set_same p.driver.endpoints e due.endpoint due.here);
         x_like = (refl, refl, refl, refl, refl);
         y_now = z;
         transfers = refl;
@@ -339,11 +334,6 @@ module _ (p : Parts) (e t : ℕ) (found : Found) (due : IsHarvestDue p e t found
 
 pub unstalled_stands : UnstalledStands
 unstalled_stands p e t found member streams ends parts order out due differs unstalled owners turns old = leaves p e t found due owners turns member streams ends parts order out old differs unstalled
-
--- a bulk endpoint doesn't go on after a STALL
-pub bulk_unstalled : (kind : EpKind) (found : Found) → kind ≡ kinds.Bulk → IsStall kind found → ⊥
-bulk_unstalled kind (founds.Ended n what) bulk stall = false≢true (sym (no_stall kind what bulk stall.1) ∙ stall.0)
-bulk_unstalled kind _ bulk stall = stall
 
 pub harvest_stands : HarvestStands
 harvest_stands p e t found member streams ends parts order out due differs owners turns old =

@@ -1,5 +1,6 @@
 -- Contents that tell the same of queues have the same structures.
 use Rattle.std.proofs.Common.{◌≡◌, ℕ, ◌+◌, ◌*◌, ◌/◌, ◌%◌, ◌<◌, Bool, List, get_or, slice_get, Option, Some, None, ap, sym, subst, ◌∙◌, arith}
+use Rattle.law_queues.proofs.Common.{none_unpublished}
 use Rattle.mem_runs.specs.Book.{slot_of}
 use Rattle.mem_runs.specs.declared.slots.Slot.{Slot}
 use Rattle.drv_table.specs.declared.content.QtdNote.{QtdNote}
@@ -19,7 +20,6 @@ use Rattle.law_driver.proofs.lemmas.chained_transfers.Chained.{piece_same}
 use Rattle.law_driver_ring.specs.fed_queues.Fed.{IsAlternate, size_of, sized, IsPieceFed}
 use Rattle.law_driver_ring.specs.fed_queues.Places.{IsLast, AreStillOut}
 use Rattle.law_queues.specs.fed_lends.Commands.{QueuesStand}
-use Rattle.law_queues.proofs.lemmas.fed_lends.Asked.{same_unpublished}
 use Rattle.law_queues.specs.fed_harvests.Harvests.{IsLike, AlikeStands}
 use Rattle.law_driver_ring.proofs.lemmas.fed_queues.Places.{SameQueues, met_stays, streams_stay}
 
@@ -89,7 +89,7 @@ module _ (d f : DriverContent) (k : IsLike d f) where
       pieces = λ t i y z there held here from below.
           let u = k.transfers t y there in
           let w = k.ends y.endpoint z here in
-          let none = same_unpublished d t u.transfer k.idle in
+          let none = none_unpublished d t u.transfer k.idle in
           let many = u.qtds in
           let fed = old.fed.pieces t i u.transfer w.endpoint u.there (sym u.released ∙ held) (ap (slice_get d.endpoints) (sym u.endpoint) ∙ w.there) (omega (arith, none)) (omega (arith, below, many)) in
           subst (λ (q : ℕ). IsPieceFed y.sort (parts (32 * q)) (sized y.sort i (note_at f.notes (piece_at (note_in f.notes) y.first i))) (piece_at (note_in f.notes) y.first i) (piece_at (note_in f.notes) y.first y.qtds)) (sym w.queue)

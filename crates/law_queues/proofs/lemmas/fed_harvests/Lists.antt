@@ -1,12 +1,12 @@
 -- The list of what is out, where one of its transfers goes on by one qTD.
-use Rattle.std.proofs.Common.{◌≡◌, ◌≢◌, ℕ, zero, suc, ◌+◌, ◌*◌, ◌<◌, Bool, false, not, ◌&&◌, ◌==◌, cond, List, [], ◌∷◌, ◌++◌, set, drop, slice_get, Some, None, ap, sym, ◌∙◌, ⊎_elim, inl, inr, refl, arith}
-use Rattle.std.specs.Prelude.{◌⊎◌}
+use Rattle.std.proofs.Common.{◌≡◌, ℕ, zero, suc, ◌+◌, ◌<◌, not, ◌&&◌, ◌==◌, cond, List, [], ◌∷◌, ◌++◌, set, drop, slice_get, Some, None, ap, sym, ◌∙◌, ⊎_elim, refl, arith}
 use Rattle.std.proofs.lemmas.Option.{same_Some}
+use Rattle.law_ring.proofs.Common.{among_either}
+use Rattle.law_queues.proofs.Common.{pieces_same}
 use Rattle.drv_table.specs.declared.content.Transfer.{Transfer}
 use Rattle.claims_driver.specs.Owners.{NoteRuns}
-use Rattle.law_driver.proofs.lemmas.run_owners.Released.{same_number, other_number}
 use Rattle.law_ring.specs.Order.{IsAmong}
-use Rattle.law_driver.specs.chained_transfers.Out.{pieces_from, passed, out_of_transfer, out_of}
+use Rattle.law_driver.specs.chained_transfers.Out.{passed, out_of_transfer, out_of}
 use Rattle.law_queues.proofs.lemmas.fed_lends.Asked.{both_lists}
 
 -- where no command is unfinished
@@ -19,21 +19,12 @@ unfolding all_of
 all_out note e made (y ∷ z ∷ ts) = ap (λ xs. out_of_transfer note e 0 y ++ xs) (all_out note e made (z ∷ ts))
 all_out note e made _ = refl
 
-pieces_same : (note other : ℕ → NoteRuns) (b n : ℕ) → ((c : ℕ) → other c ≡ note c) → pieces_from other b n ≡ pieces_from note b n
-pieces_same note other b zero same = refl
-pieces_same note other b (suc n) same = ap (λ (r : NoteRuns). 32 * b ∷ pieces_from other r.next n) (same b) ∙ ap (λ xs. 32 * b ∷ xs) (pieces_same note other (note b).next n same)
-
 pub all_same : (note other : ℕ → NoteRuns) (e : ℕ) (ts : List Transfer) → ((c : ℕ) → other c ≡ note c) → all_of other e ts ≡ all_of note e ts
 unfolding all_of
 all_same note other e [] same = refl
 all_same note other e (y ∷ ys) same =
     both_lists (out_of_transfer other e 0 y) (all_of other e ys) (out_of_transfer note e 0 y) (all_of note e ys)
     (ap (λ xs. cond (y.endpoint == e && not y.released) (drop (0 + passed y.reported) xs) []) (pieces_same note other y.place y.left same)) (all_same note other e ys same)
-
-pub among_either : (p : ℕ) (xs ys : List ℕ) → IsAmong p (xs ++ ys) → IsAmong p xs ⊎ IsAmong p ys
-among_either p [] ys in_ys = inr in_ys
-among_either p (x ∷ xs) ys (inl here) = inl (inl here)
-among_either p (x ∷ xs) ys (inr later) = ⊎_elim (λ (a : IsAmong p xs). inl (inr a)) (λ (b : IsAmong p ys). inr b) (among_either p xs ys later)
 
 pub append_assoc : (xs ys zs : List ℕ) → xs ++ (ys ++ zs) ≡ (xs ++ ys) ++ zs
 append_assoc [] ys zs = refl
@@ -86,12 +77,3 @@ unfolding all_of
 all_set note e [] t y z here same = refl
 all_set note e (w ∷ ts) zero y z here same = ap (λ xs. xs ++ all_of note e ts) (same ∙ ap (λ (v : Transfer). out_of_transfer note e 0 v) (sym (same_Some w y here)))
 all_set note e (w ∷ ts) (suc t) y z here same = ap (λ xs. out_of_transfer note e 0 w ++ xs) (all_set note e ts t y z here same)
-
-pub others_none : (note : ℕ → NoteRuns) (e : ℕ) (y : Transfer) → y.endpoint ≢ e → out_of_transfer note e 0 y ≡ []
-others_none note e y differs = ap (λ (b : Bool). cond (b && not y.released) (drop (0 + passed y.reported) (pieces_from note y.place y.left)) []) (other_number y.endpoint e differs)
-
-pub own_out : (note : ℕ → NoteRuns) (e : ℕ) (y : Transfer) → y.endpoint ≡ e → y.released ≡ false → out_of_transfer note e 0 y ≡ drop (0 + passed y.reported) (pieces_from note y.place y.left)
-own_out note e y of_e held =
-    ap (λ (n : ℕ). cond (n == e && not y.released) (drop (0 + passed y.reported) (pieces_from note y.place y.left)) []) of_e
-    ∙ ap (λ (b : Bool). cond (b && not y.released) (drop (0 + passed y.reported) (pieces_from note y.place y.left)) []) (same_number e)
-    ∙ ap (λ (b : Bool). cond (not b) (drop (0 + passed y.reported) (pieces_from note y.place y.left)) []) held

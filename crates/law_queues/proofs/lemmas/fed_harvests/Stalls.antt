@@ -3,6 +3,10 @@ use Rattle.std.proofs.Common.{◌≡◌, ◌≢◌, ℕ, suc, ◌-◌, ◌*◌, 
 use Rattle.std.specs.Prelude.{◌⊎◌}
 use Rattle.std.proofs.lemmas.Bool.{cases_eq}
 use Rattle.std.proofs.lemmas.Option.{same_Some}
+use Rattle.law_common.proofs.Lists.{set_here, pushed}
+use Rattle.law_common.proofs.Numbers.{same_number, other_number}
+use Rattle.law_driver.proofs.Common.{waits_is}
+use Rattle.law_queues.proofs.Common.{own_out}
 use Rattle.usb_base.specs.declared.endpoints.EndCause.{EndCause}
 use Rattle.usb_base.specs.declared.reports.What.{What}
 use Rattle.drv_table.specs.declared.content.Endpoint.{Endpoint}
@@ -21,7 +25,6 @@ use Rattle.drv_table.specs.Harvesting.{after_harvest, harvested_as, served, afte
 use Rattle.law_driver.specs.run_owners.Due.{IsHarvestDue}
 use Rattle.claims_driver.specs.Leaving.{HasOwners}
 use Rattle.claims_driver.specs.Owners.{note_in}
-use Rattle.law_driver.proofs.lemmas.run_owners.Released.{set_here, same_number, other_number}
 use Rattle.law_driver.proofs.lemmas.endpoint_lives.Lives.{none_told}
 use Rattle.law_structures.specs.lent_structures.Structures.{StructureSets}
 use Rattle.law_ring.specs.Told.{Endpoint as Told}
@@ -29,7 +32,6 @@ use Rattle.law_driver.specs.chained_transfers.AsynchronousTurns.{AsynchronousTak
 use Rattle.law_driver.specs.chained_transfers.Turns.{turn_of, turn_in, IsNext, IsNotGone, AreReportedTo}
 use Rattle.law_driver.specs.chained_transfers.Out.{out_of_transfer, out_of, out_now}
 use Rattle.law_driver.proofs.lemmas.chained_transfers.Harvested.{harvest_in_turn}
-use Rattle.law_driver.proofs.lemmas.chained_transfers.Harvesting.{waits_is}
 use Rattle.law_driver.proofs.lemmas.chained_transfers.Staying.{stands_fresh}
 use Rattle.law_driver.proofs.lemmas.chained_transfers.Turning.{AreInTurnOf}
 use Rattle.law_driver.proofs.lemmas.chained_transfers.Ways.{found_by, moves_queued}
@@ -39,8 +41,8 @@ use Rattle.law_queues.specs.fed_lends.Commands.{QueuesStand}
 use Rattle.law_queues.specs.fed_harvests.Harvests.{IsLike, with_out}
 use Rattle.law_queues.specs.fed_harvests.Stalls.{Stalled, StallLeaves, StallStands}
 use Rattle.law_queues.proofs.lemmas.fed_harvests.Like.{alike_stands}
-use Rattle.law_queues.proofs.lemmas.fed_harvests.Lists.{all_of, all_out, all_same, own_out}
-use Rattle.law_queues.proofs.lemmas.fed_harvests.Told.{AreTold, all_told, told_set, WasIn, was_in, IsOf, was_of, pushed, OnlyTellsOf, behind_tells_of, others_same, told_out, stall_splits}
+use Rattle.law_queues.proofs.lemmas.fed_harvests.Lists.{all_of, all_out, all_same}
+use Rattle.law_queues.proofs.lemmas.fed_harvests.Told.{AreTold, all_told, told_set, WasIn, was_in, IsOf, was_of, OnlyTellsOf, behind_tells_of, others_same, told_out, stall_splits}
 use Rattle.law_queues.proofs.lemmas.fed_harvests.Harvests.{like, remains, held, rest_of, all_pieces, first_out, apart}
 
 now_of : (c : DriverContent) (i : ℕ) → c.command ≡ None → out_now c i ≡ all_of (note_in c.notes) i c.transfers

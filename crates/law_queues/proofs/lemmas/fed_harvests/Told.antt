@@ -3,6 +3,10 @@ use Rattle.std.proofs.Common.{◌≡◌, ◌≢◌, ℕ, zero, suc, ◌+◌, ◌
 use Rattle.std.specs.Prelude.{◌⊎◌}
 use Rattle.std.proofs.lemmas.Bool.{cases_eq}
 use Rattle.std.proofs.lemmas.Option.{same_Some}
+use Rattle.law_queues.proofs.Common.{among_left, among_right, its_endpoint, none_of}
+use Rattle.law_common.proofs.Lists.{pushed, set_here, set_there}
+use Rattle.law_driver.proofs.Common.{waits_is}
+use Rattle.law_ring.proofs.Common.{among_either}
 use Rattle.usb_base.specs.declared.endpoints.EpName.{EpName}
 use Rattle.usb_base.specs.declared.endpoints.EndCause.TheVariants as causes
 use Rattle.usb_base.specs.declared.reports.What.TheVariants as lines
@@ -11,13 +15,11 @@ use Rattle.drv_table.specs.DriverContent.{DriverContent, waits_for}
 use Rattle.drv_table.specs.Harvests.{reported}
 use Rattle.drv_table.specs.Harvesting.{behind_one, behind}
 use Rattle.claims_driver.specs.Owners.{NoteRuns}
-use Rattle.law_driver.proofs.lemmas.run_owners.Released.{set_here, set_there}
 use Rattle.law_ring.specs.Order.{IsAmong}
 use Rattle.law_driver.specs.chained_transfers.Out.{pieces_from, passed, out_of_transfer}
-use Rattle.law_driver.proofs.lemmas.chained_transfers.Harvesting.{waits_is}
 use Rattle.law_queues.proofs.lemmas.fed_lends.Asked.{both_lists}
 use Rattle.law_queues.specs.fed_harvests.Stalls.{out_told}
-use Rattle.law_queues.proofs.lemmas.fed_harvests.Lists.{all_of, IsBefore, among_either, append_assoc, others_none}
+use Rattle.law_queues.proofs.lemmas.fed_harvests.Lists.{all_of, IsBefore, append_assoc}
 
 -- ---- each is as it was, or waited and is reported now
 
@@ -88,12 +90,6 @@ was_of e ts us u z told there of_e =
       of_e = ⊎_elim (λ (same : z ≡ w.one). ap (λ (r : Transfer). r.endpoint) (sym same) ∙ of_e) (λ (now : (waits_for e w.one ≡ true) × (z ≡ record w.one { reported = true })). (waits_is e w.one now.0).0) w.is;
     }
 
-pub pushed : (hs : List ℕ) (t i u : ℕ) → slice_get (hs ++ t ∷ []) i ≡ Some u → (slice_get hs i ≡ Some u) ⊎ (u ≡ t)
-pushed [] t zero u at = inr (sym (same_Some t u at))
-pushed [] t (suc i) u at = absurd (cc)
-pushed (h ∷ hs) t zero u at = inl at
-pushed (h ∷ hs) t (suc i) u at = pushed hs t i u at
-
 -- ---- one after the other
 
 pub record OnlyTellsOf (e : ℕ) (d f : DriverContent) : Type 0 where
@@ -140,15 +136,13 @@ behind_tells_of d e name k n =
 
 -- ---- what is out
 
-own_of : (e : ℕ) (y : Transfer) → waits_for e y ≡ true → y.endpoint ≡ e
-own_of e y waits = (waits_is e y waits).0
-
 other_same : (note : ℕ → NoteRuns) (e i : ℕ) (y z : Transfer) → i ≢ e → (z ≡ y) ⊎ ((waits_for e y ≡ true) × (z ≡ record y { reported = true })) → out_of_transfer note i 0 z ≡ out_of_transfer note i 0 y
 other_same note e i y z differs one =
     ⊎_elim (λ (same : z ≡ y). ap (out_of_transfer note i 0) same)
     (λ (told : (waits_for e y ≡ true) × (z ≡ record y { reported = true })).
-    let of_e = own_of e y told.0 in
-    others_none note i z (λ is. differs (sym is ∙ ap (λ (r : Transfer). r.endpoint) told.1 ∙ of_e)) ∙ sym (others_none note i y (λ is. differs (sym is ∙ of_e)))) one
+    let of_e = its_endpoint e y told.0 in
+    none_of note i z (λ is. differs (sym is ∙ ap (λ (r : Transfer). r.endpoint) told.1 ∙ of_e))
+    ∙ sym (none_of note i y (λ is. differs (sym is ∙ of_e)))) one
 
 -- of another endpoint the same
 pub others_same : (note : ℕ → NoteRuns) (e i : ℕ) (ts us : List Transfer) → i ≢ e → AreTold e ts us → all_of note i us ≡ all_of note i ts
@@ -163,7 +157,7 @@ others_same note e i (y ∷ ts) (z ∷ us) differs told =
 told_is : (note : ℕ → NoteRuns) (e : ℕ) (y : Transfer) → (y.endpoint ≡ e → y.reported ≡ true) → out_of_transfer note e 0 y ≡ out_of_transfer note e 0 (record y { reported = true })
 told_is note e y told =
     ⊎_elim (λ (own : y.endpoint ≡ e). ap (λ (b : Bool). out_of_transfer note e 0 (record y { reported = b })) (told own))
-    (λ (other : y.endpoint ≢ e). others_none note e y other ∙ sym (others_none note e (record y { reported = true }) other)) (cases_eq y.endpoint e)
+    (λ (other : y.endpoint ≢ e). none_of note e y other ∙ sym (none_of note e (record y { reported = true }) other)) (cases_eq y.endpoint e)
 
 own_told : (note : ℕ → NoteRuns) (e : ℕ) (y z : Transfer) → (z.endpoint ≡ e → z.reported ≡ true) → (z ≡ y) ⊎ ((waits_for e y ≡ true) × (z ≡ record y { reported = true }))
     → out_of_transfer note e 0 z ≡ out_of_transfer note e 0 (record y { reported = true })
@@ -182,17 +176,8 @@ told_out note e (y ∷ ts) (z ∷ us) told each =
 
 -- ---- fewer are
 
-in_first : (p : ℕ) (xs ys : List ℕ) → IsAmong p xs → IsAmong p (xs ++ ys)
-in_first p [] ys among = absurd among
-in_first p (x ∷ xs) ys (inl here) = inl here
-in_first p (x ∷ xs) ys (inr later) = inr (in_first p xs ys later)
-
-in_second : (p : ℕ) (xs ys : List ℕ) → IsAmong p ys → IsAmong p (xs ++ ys)
-in_second p [] ys among = among
-in_second p (x ∷ xs) ys among = inr (in_second p xs ys among)
-
 pub in_both : (p : ℕ) (xs ys us vs : List ℕ) → (IsAmong p xs → IsAmong p us) → (IsAmong p ys → IsAmong p vs) → IsAmong p (xs ++ ys) → IsAmong p (us ++ vs)
-in_both p xs ys us vs one two among = ⊎_elim (λ (own : IsAmong p xs). in_first p us vs (one own)) (λ (later : IsAmong p ys). in_second p us vs (two later)) (among_either p xs ys among)
+in_both p xs ys us vs one two among = ⊎_elim (λ (own : IsAmong p xs). among_left p us vs (one own)) (λ (later : IsAmong p ys). among_right p us vs (two later)) (among_either p xs ys among)
 
 less_one : (p : ℕ) (xs : List ℕ) → IsAmong p (drop 1 xs) → IsAmong p xs
 less_one p [] among = among

@@ -1,22 +1,22 @@
 -- A get, put or request that was accepted is to be lent.
-use Rattle.std.proofs.Common.{◌≡◌, ℕ, suc, ◌-◌, ◌≤◌, Bool, nat_eq, List, [], ◌∷◌, ◌++◌, length, take, drop, get_or, slice_get, Some, ap, refl, sym, subst, ◌∙◌, arith, length-append, None}
+use Rattle.std.proofs.Common.{◌≡◌, ℕ, suc, ◌-◌, ◌≤◌, Bool, nat_eq, List, [], ◌∷◌, length, take, drop, get_or, slice_get, Some, ap, refl, sym, subst, ◌∙◌, arith, length-append, None}
 use Rattle.std.specs.List.{AllByRecursion}
+use Rattle.law_driver.proofs.Common.{last_pushed}
+use Rattle.law_queues.proofs.Common.{last_is}
+use Rattle.law_common.proofs.Lists.{set_here}
 use Rattle.word_mem.specs.Memory.{Mem, IsShaped}
 use Rattle.mem_runs.specs.Book.{Holding, holding, Stands}
 use Rattle.drv_table.specs.declared.content.Endpoint.{Endpoint}
-use Rattle.drv_table.specs.declared.content.Transfer.{Transfer}
 use Rattle.drv_table.specs.declared.content.QtdNote.{QtdNote}
 use Rattle.drv_table.specs.declared.content.Stage.{Stage}
 use Rattle.drv_table.specs.declared.content.Command.TheVariants as unfinished
 use Rattle.drv_table.specs.DriverContent.{DriverContent}
 use Rattle.drv_table.specs.Accepting.{Offered, new_runs}
-use Rattle.drv_table.specs.Offers.{Asked, note_stages, first_of, is_last, stage_words, new_transfer, with_queued, accepted_transfer}
+use Rattle.drv_table.specs.Offers.{Asked, note_stages, first_of, stage_words, new_transfer, with_queued, accepted_transfer}
 use Rattle.claims_driver.specs.Owners.{runs_of_endpoint, runs_of_transfer}
 use Rattle.law_driver.specs.run_owners.Accepts.{Transfers}
 use Rattle.claims_driver.specs.Leaving.{HasOwners}
 use Rattle.claims_driver.specs.LentRuns.{AreLent}
-use Rattle.law_driver.proofs.lemmas.run_owners.Released.{set_here}
-use Rattle.law_structures.proofs.lemmas.lent_structures.Names.{not_same}
 use Rattle.law_driver.specs.chained_transfers.Bulk.{sort_by}
 use Rattle.law_driver.proofs.lemmas.chained_transfers.Ways.{asked_by}
 use Rattle.law_driver_ring.specs.Written.{AwaitsLend}
@@ -26,16 +26,6 @@ use Rattle.law_queues.specs.fed_lends.ToLend.{AreStagesBy, IsToBeLent}
 use Rattle.law_queues.specs.fed_lends.Accepted.{AskedIsToBeLent, RequestedIsToBeLent, ToBeLentStays}
 use Rattle.law_queues.proofs.lemmas.fed_lends.Stages.{by_data, requested_by, stages_pids}
 use Rattle.law_queues.proofs.lemmas.fed_lends.Fed.{one_command}
-
--- ---- small facts
-
-last_is : (ss : List Stage) → nat_eq (suc (length ss)) 1 ≡ is_last ss
-last_is [] = refl
-last_is (s ∷ ss) = not_same (suc (suc (length ss))) 1 (λ same. omega (arith, same))
-
-last_pushed : (ts : List Transfer) (t : Transfer) → slice_get (ts ++ t ∷ []) (length ts) ≡ Some t
-last_pushed [] t = refl
-last_pushed (u ∷ ts) t = last_pushed ts t
 
 -- ---- it is to be lent
 

@@ -4,6 +4,8 @@ use Rattle.std.specs.Prelude.{◌⊎◌}
 use Rattle.std.proofs.lemmas.Bool.{cases_eq, false≢true}
 use Rattle.std.proofs.lemmas.Bool.Decides.{nat_tests}
 use Rattle.std.proofs.lemmas.Option.{same_Some}
+use Rattle.law_common.proofs.Lists.{push_which, some_below, drop_first, set_here, set_there}
+use Rattle.law_queues.proofs.Common.{piece_more, none_unpublished, drop_all}
 use Rattle.word_mem.specs.Memory.{Mem}
 use Rattle.mem_runs.specs.Book.{Holding, holding, Stands, slot_of}
 use Rattle.mem_runs.specs.declared.slots.Slot.{Slot}
@@ -24,8 +26,6 @@ use Rattle.claims_driver.specs.Owners.{Owner, Element, Dummy, HasRun, IsPlaced, 
 use Rattle.law_driver.proofs.lemmas.run_owners.Runs.{placed_run}
 use Rattle.law_driver.proofs.lemmas.run_owners.Taking.{runs_taken}
 use Rattle.law_driver.proofs.lemmas.run_owners.Chains.{notes_apart}
-use Rattle.law_driver.proofs.lemmas.run_owners.Accepted.{drop_first}
-use Rattle.law_driver.proofs.lemmas.run_owners.Released.{set_here, set_there}
 use Rattle.law_driver.proofs.lemmas.run_owners.Transferred.{are_new, goes_on_alive}
 use Rattle.claims_driver.specs.LentRuns.{begins_in, still_lends, AreLent}
 use Rattle.law_structures.specs.lent_structures.Structures.{Element as ElementAt, StructureSets}
@@ -86,10 +86,6 @@ pieces_list note other b (suc n) same =
     ap (λ (r : NoteRuns). 32 * b ∷ pieces_from other r.next n) here
     ∙ ap (λ xs. 32 * b ∷ xs) (pieces_list note other (note b).next n (λ i below. same (suc i) (omega arith)))
 
-pub piece_more : (note : ℕ → NoteRuns) (b i j : ℕ) → piece_at note (piece_at note b i) j ≡ piece_at note b (i + j)
-piece_more note b zero j = ap (piece_at note b) (let e : j ≡ 0 + j = omega arith in e)
-piece_more note b (suc i) j = let e : suc i + j ≡ suc (i + j) = omega arith in piece_more note (note b).next i j ∙ ap (piece_at note b) (sym e)
-
 abbrev pub dummy_in : ℕ → List ℕ → ℕ
 dummy_in n rs = get_or (take n rs) (n - 1) 0
 
@@ -138,29 +134,10 @@ taken_on d m o why stands owners lent only =
 
 -- ---- what it leaves
 
-pub push_which : {X : Type 0} (xs : List X) (x : X) (n : ℕ) (z : X) → slice_get (xs ++ x ∷ []) n ≡ Some z → (slice_get xs n ≡ Some z) ⊎ ((n ≡ length xs) × (z ≡ x))
-push_which [] x zero z here = inr (refl, sym (same_Some x z here))
-push_which [] x (suc n) z here = absurd (cc)
-push_which (y ∷ ys) x zero z here = inl here
-push_which (y ∷ ys) x (suc n) z here =
-    ⊎_elim (λ (was : slice_get ys n ≡ Some z). inl was) (λ (new : (n ≡ length ys) × (z ≡ x)). inr (ap suc new.0, new.1)) (push_which ys x n z here)
-
-pub low : {X : Type 0} (xs : List X) (n : ℕ) (z : X) → slice_get xs n ≡ Some z → n < length xs
-low [] n z here = absurd (cc)
-low (y ∷ ys) zero z here = omega arith
-low (y ∷ ys) (suc n) z here = let rest = low ys n z here in omega arith
-
 pub set_which : {X : Type 0} (xs : List X) (t k : ℕ) (x y z : X) → slice_get xs t ≡ Some x → slice_get (set xs t y) k ≡ Some z → ((k ≡ t) × (z ≡ y)) ⊎ ((k ≢ t) × (slice_get xs k ≡ Some z))
 set_which xs t k x y z here there = ⊎_elim
     (λ (own : k ≡ t). inl (own, sym (same_Some y z (sym (set_here xs t x y here) ∙ ap (slice_get (set xs t y)) (sym own) ∙ there))))
     (λ (other : k ≢ t). inr (other, sym (set_there xs t k y other) ∙ there)) (cases_eq k t)
-
-pub same_unpublished : (d : DriverContent) (t : ℕ) (y : Transfer) → d.command ≡ None → unpublished_of d t y ≡ 0
-same_unpublished d t y idle = by (nat_eq (suc t) (length d.transfers)) ∙ refl
-  where
-    by : (b : Bool) → cond b (unpublished d.command d.made y.qtds) 0 ≡ 0
-    by true = ap (λ (c : Option Command). unpublished c d.made y.qtds) idle
-    by false = refl
 
 unpublished_older : (c : Option Command) (made t n q : ℕ) → t < n → cond (nat_eq (suc t) (suc n)) (unpublished c made q) 0 ≡ 0
 unpublished_older c made t n q less = by (nat_eq (suc t) (suc n)) refl
@@ -207,10 +184,6 @@ out_older note other e c made (z ∷ []) y same none =
 out_older note other e c made (z ∷ w ∷ ts) y same none =
     both_lists (out_of_transfer other e 0 z) (out_of other e c made ((w ∷ ts) ++ y ∷ [])) (out_of_transfer note e 0 z) (out_of note e None 0 (w ∷ ts))
     (out_first note other e z (same 0 z refl)) (out_older note other e c made (w ∷ ts) y (λ t v here. same (suc t) v here) none)
-
-drop_all : (note : ℕ → NoteRuns) (b n : ℕ) → drop n (pieces_from note b n) ≡ []
-drop_all note b zero = refl
-drop_all note b (suc n) = drop_all note (note b).next n
 
 none_of_new : (note : ℕ → NoteRuns) (e : ℕ) (b : Bool) (first n : ℕ) → cond b (drop (n + 0) (pieces_from note first n)) [] ≡ []
 none_of_new note e true first n = let k : n + 0 ≡ n = omega arith in ap (λ i. drop i (pieces_from note first n)) k ∙ drop_all note first n
@@ -317,7 +290,7 @@ taken_stands d e x a h dummy notes member streams ends parts order out k places 
     }
 
     zero_from : (c : DriverContent) (t : ℕ) (y : Transfer) → c.command ≡ None → (i : ℕ) → unpublished_of c t y ≤ i
-    zero_from c t y idle i = let none = same_unpublished c t y idle in omega (arith, none)
+    zero_from c t y idle i = let none = none_unpublished c t y idle in omega (arith, none)
 
     moved : (t i : ℕ) (y : Transfer) (z : Endpoint) (w : WasEnd d y.endpoint z) → slice_get d.transfers t ≡ Some y → y.released ≡ false → i < y.qtds
         → IsPieceFed y.sort (parts (32 * w.endpoint.queue)) (sized y.sort i (note_at d.notes (piece_at (note_in d.notes) y.first i))) (piece_at (note_in d.notes) y.first i) (piece_at (note_in d.notes) y.first y.qtds)
@@ -344,7 +317,7 @@ taken_stands d e x a h dummy notes member streams ends parts order out k places 
         → IsLast (order (32 * z.queue)) (parts (32 * z.queue)) (32 * b)
     first_last b words t y z is newest_one there here =
         let many = pushed_length d.transfers (new_transfer e a x.dummy) in
-        ⊎_elim (λ (older : slice_get d.transfers t ≡ Some y). let l = low d.transfers t y older in absurd (omega (arith, l, newest_one, many)))
+        ⊎_elim (λ (older : slice_get d.transfers t ≡ Some y). let l = some_below d.transfers t y older in absurd (omega (arith, l, newest_one, many)))
         (λ (new : (t ≡ length d.transfers) × (y ≡ new_transfer e a x.dummy)).
         let at : y.endpoint ≡ e = ap (λ (r : Transfer). r.endpoint) new.1 in
         let w = was y.endpoint z here in

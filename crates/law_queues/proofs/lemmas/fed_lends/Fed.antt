@@ -1,12 +1,10 @@
 -- Queues are fed once a transfer is lent.
-use Rattle.std.proofs.Common.{◌≡◌, ◌≢◌, ℕ, zero, suc, ◌-◌, ◌*◌, ◌<◌, ◌≤◌, ◌||◌, false, true, List, [], ◌∷◌, length, nat_eq, cond, slice_get, Option, Some, None, option_map, Ok, Result, ap, sym, subst, ◌∙◌, ⊎_elim, arith}
+use Rattle.std.proofs.Common.{◌≡◌, ◌≢◌, ℕ, zero, suc, ◌-◌, ◌*◌, ◌<◌, ◌≤◌, ◌||◌, false, true, List, [], ◌∷◌, length, nat_eq, cond, slice_get, Option, Some, None, option_map, ap, sym, subst, ◌∙◌, ⊎_elim, arith}
 use Rattle.std.proofs.lemmas.Bool.{cases_eq, eq-eqb}
 use Rattle.std.proofs.lemmas.Option.{same_Some}
+use Rattle.law_queues.proofs.Common.{one_qtd, end_is}
 use Rattle.word_mem.specs.Memory.{Mem, IsShaped}
-use Rattle.link_words.specs.declared.refusal.Bad.{Bad}
 use Rattle.qh_qtd.specs.declared.qtd.Qtd.{Qtd}
-use Rattle.qh_qtd.specs.Qtd.{qtd_words, qtd_read, IsQtdInRange}
-use Rattle.qh_qtd.proofs.QtdLaws.{qtd_read-words}
 use Rattle.mem_runs.specs.declared.slots.Slot.{Slot}
 use Rattle.mem_runs.specs.Book.{holding, slot_of, Stands}
 use Rattle.drv_table.specs.declared.content.Endpoint.{Endpoint}
@@ -43,7 +41,7 @@ use Rattle.law_driver_ring.proofs.TransferLending.{lent_on_views}
 use Rattle.law_queues.specs.fed_lends.ToLend.{IsToBeLent, lent_now}
 use Rattle.law_queues.proofs.lemmas.fed_lends.Reporting.{long_new}
 use Rattle.law_queues.proofs.lemmas.fed_lends.Stages.{stages_are}
-use Rattle.law_queues.proofs.lemmas.fed_lends.Feeding.{new_fed, end_is}
+use Rattle.law_queues.proofs.lemmas.fed_lends.Feeding.{new_fed}
 use Rattle.law_queues.proofs.lemmas.fed_lends.Names.{older_published}
 use Rattle.law_driver.proofs.lemmas.chained_transfers.BulkAndControl.{not_iso}
 use Rattle.law_driver.proofs.lemmas.chained_transfers.Staying.{stands_alive}
@@ -173,12 +171,6 @@ pieces_fed d m b words parts now l t i y x there held here from below =
     (cases_eq t k.number)
 
 -- ---- the first qTD
-
-ok_same : (p q : Qtd) → ◌≡◌ {A = Result Qtd Bad} (Ok p) (Ok q) → p ≡ q
-ok_same p q same = cc
-
-one_qtd : (p q : Qtd) → IsQtdInRange p → IsQtdInRange q → qtd_words p ≡ qtd_words q → p ≡ q
-one_qtd p q one two same = ok_same p q (sym (qtd_read-words p one) ∙ ap qtd_read same ∙ qtd_read-words q two)
 
 pub one_command : (b c : ℕ) (ws vs : List ℕ) → ◌≡◌ {A = Option Command} (Some (unfinished.Publish b ws)) (Some (unfinished.Publish c vs)) → (b ≡ c) × (ws ≡ vs)
 one_command b c ws vs same = (ap (λ o. block_of o) same, ap (λ o. words_of o) same)

@@ -2,6 +2,7 @@
 use Rattle.std.proofs.Common.{◌≡◌, ℕ, zero, suc, ◌+◌, ◌*◌, ◌/◌, ◌%◌, ◌<◌, ◌≤◌, Bool, List, [], ◌∷◌, length, take, get_or, replicate, Some, ap, refl, sym, subst, ◌∙◌, ⊎_elim, inl, inr, arith}
 use Rattle.std.specs.List.{AllByRecursion}
 use Rattle.std.proofs.lemmas.List.{length-replicate}
+use Rattle.law_common.proofs.Numbers.{same_numbers}
 use Rattle.mem_bytes.specs.Bytes.{place}
 use Rattle.mem_runs.specs.declared.slots.Slot.{Slot}
 use Rattle.mem_runs.specs.Book.{Holding, slot_of, Stands}
@@ -18,7 +19,7 @@ use Rattle.law_structures.specs.lent_structures.Structures.{Element, Buffer, Str
 use Rattle.law_structures.specs.lent_structures.Sound.{HasBuffer}
 use Rattle.law_driver.specs.chained_transfers.Chains.{piece_at}
 use Rattle.law_driver_ring.specs.fed_queues.Fed.{IsAlternate, IsNotedQtd, IsPieceFed}
-use Rattle.law_driver_ring.specs.Written.{AreRuns, next_blocks, last_block, IsStageNoted, AreNoted}
+use Rattle.law_driver_ring.specs.Written.{AreRuns, next_blocks, IsStageNoted, AreNoted}
 use Rattle.law_driver_ring.specs.Pieces.{stage_qtd, AreStanding, AreBuffered}
 use Rattle.law_driver_ring.proofs.Lists.{IsOneOf}
 use Rattle.law_driver_ring.proofs.Buffers.{take_same, runs_at, needs_case, pages_from}
@@ -26,11 +27,6 @@ use Rattle.law_queues.proofs.lemmas.fed_lends.Stages.{LeadsAs, IsLater}
 use Rattle.law_queues.proofs.lemmas.fed_lends.Reporting.{long_new}
 
 -- ---- where its bytes stand
-
-same_numbers : (p j : ℕ) → j < p → get_or (replicate {A = ℕ} p 128) j 0 ≡ 128
-same_numbers zero j below = absurd (omega (arith, below))
-same_numbers (suc p) zero below = refl
-same_numbers (suc p) (suc j) below = same_numbers p j (omega (arith, below))
 
 page_at : (buffer : List ℕ) (j : ℕ) → j < 5 → get_or (pages_from buffer) j 0 ≡ get_or buffer j 0 / 128
 page_at buffer (suc (suc (suc (suc (suc j))))) below = absurd (omega (arith, below))
@@ -88,10 +84,6 @@ places_new h note s j stands noted short inside =
     (needs_case s.long (omega (arith, inside)))
 
 -- ---- a chain's end
-
-pub end_is : (notes : List QtdNote) (ss : List Stage) (b : ℕ) → piece_at (note_in notes) b (length ss) ≡ last_block notes ss b
-end_is notes [] b = refl
-end_is notes (s ∷ ss) b = end_is notes ss (note_at notes b).next
 
 pub later_block : (notes : List QtdNote) (ss : List Stage) (b i : ℕ) → i < length ss → IsOneOf (piece_at (note_in notes) (note_at notes b).next i) (next_blocks notes ss b)
 later_block notes [] b i below = absurd (omega (arith, below))

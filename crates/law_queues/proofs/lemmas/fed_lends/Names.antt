@@ -2,6 +2,7 @@
 use Rattle.std.proofs.Common.{◌≡◌, ◌≢◌, ℕ, zero, suc, ◌-◌, ◌*◌, ◌/◌, ◌<◌, ◌≤◌, ◌⊎◌, false, List, [], ◌∷◌, length, get_or, nat_eq, cond, slice_get, Option, Some, None, option_map, ap, refl, sym, subst, ◌∙◌, ⊎_elim, inl, inr, arith, ◌||◌, Bool}
 use Rattle.std.proofs.lemmas.Bool.{cases_eq, cases_lt, or_parts}
 use Rattle.std.proofs.lemmas.Option.{same_Some}
+use Rattle.law_common.proofs.Numbers.{other_number}
 use Rattle.word_mem.specs.Memory.{Mem}
 use Rattle.mem_bytes.specs.Bytes.{place}
 use Rattle.qh_qtd.specs.declared.qtd.Qtd.{Qtd}
@@ -15,7 +16,6 @@ use Rattle.drv_table.specs.Words.{dummy_qtd}
 use Rattle.drv_table.specs.Harvests.{note_at}
 use Rattle.claims_driver.specs.Owners.{EndpointRuns, TransferRuns, NoteRuns, Views, runs_of_endpoint, runs_of_transfer, note_in, views_of, IsPieceOf}
 use Rattle.law_structures.specs.lent_structures.Structures.{Element, StructureSets}
-use Rattle.law_structures.proofs.lemmas.lent_structures.Names.{not_same}
 use Rattle.law_structures.specs.lent_structures.Sound.{element_pages, buffer_name}
 use Rattle.law_structures.proofs.lemmas.lent_structures.Altering.{found_element}
 use Rattle.law_driver_ring.specs.Inventory.{Sort, sort_of, sorts_of, OfElement, OfBuffer, IsLent, IsDriverOwned, the_list, the_head, a_queue, a_dummy, a_piece, a_buffer, IsDriven}
@@ -91,7 +91,7 @@ piece_number note b (suc n) c (inr is) = let p = piece_number note (note b).next
 -- of another transfer than the newest one all are published
 pub older_published : (d : DriverContent) (m : Mem) (b t : ℕ) (words : List ℕ) (y : Transfer) → (k : IsToBeLent d m b words) → t ≢ k.number → unpublished_of d t y ≡ 0
 older_published d m b t words y k differs =
-    let other : nat_eq (suc t) (length d.transfers) ≡ false = not_same (suc t) (length d.transfers) (λ same. differs (let e = k.newest in omega (arith, e, same))) in
+    let other : nat_eq (suc t) (length d.transfers) ≡ false = other_number (suc t) (length d.transfers) (λ same. differs (let e = k.newest in omega (arith, e, same))) in
     ap (λ c. cond c (unpublished d.command d.made y.qtds) 0) other
 
 -- a further qTD of the newest one isn't lent

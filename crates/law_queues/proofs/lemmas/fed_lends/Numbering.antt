@@ -1,6 +1,8 @@
 -- The numbers of the qTDs of a transfer more.
 use Rattle.std.proofs.Common.{◌≡◌, ◌≢◌, ℕ, suc, ◌+◌, ◌*◌, ◌<◌, ◌≤◌, ◌⊎◌, ◌==◌, Bool, true, false, List, [], ◌∷◌, length, if◌then◌else◌, ap, refl, sym, ◌∙◌, ⊎_elim, inl, inr, arith}
 use Rattle.std.proofs.lemmas.Bool.{cases_Bool, eq-eqb, eqb-true}
+use Rattle.law_queues.proofs.Common.{one_target}
+use Rattle.law_common.proofs.Numbers.{other_number}
 use Rattle.link_words.specs.declared.kinds.QtdLink.{QtdLink}
 use Rattle.link_words.specs.declared.kinds.QtdLink.TheVariants as qtd_links
 use Rattle.link_words.specs.Links.{qtd_link_of}
@@ -13,7 +15,6 @@ use Rattle.drv_table.specs.Words.{dummy_qtd, alternate_link}
 use Rattle.drv_table.specs.Harvests.{note_at}
 use Rattle.drv_table.specs.Offers.{is_last}
 use Rattle.claims_driver.specs.Owners.{note_in}
-use Rattle.law_structures.proofs.lemmas.lent_structures.Names.{not_same}
 use Rattle.law_ring.specs.Order.{AreAfter, IsSorted}
 use Rattle.law_driver.specs.chained_transfers.Out.{pieces_from}
 use Rattle.law_driver_ring.specs.Written.{AreAllApart, next_blocks, last_block}
@@ -66,7 +67,7 @@ numbers_are notes (s ∷ ss) b k order apart =
     let later = numbered notes ss next (suc k) order in (
       ap (λ (t : Bool). if t then k else later (32 * b)) (eq-eqb (32 * b) (32 * b) refl),
       numbers_same later (numbered notes (s ∷ ss) b k order) notes ss next (suc k)
-          (λ c one. ap (λ (t : Bool). if t then k else later (32 * c)) (not_same (32 * c) (32 * b) (λ same. each_of (λ i. i ≢ b) c (next ∷ next_blocks notes ss next) apart.0 one (omega (arith, same)))))
+          (λ c one. ap (λ (t : Bool). if t then k else later (32 * c)) (other_number (32 * c) (32 * b) (λ same. each_of (λ i. i ≢ b) c (next ∷ next_blocks notes ss next) apart.0 one (omega (arith, same)))))
           (numbers_are notes ss next (suc k) order apart.1),
     )
 
@@ -93,9 +94,6 @@ new_before f notes dummy (s ∷ ss) b k a u are (inr new) differs = let e = new_
 
 no_end : {X : Type 0} (c : ℕ) → ◌≡◌ {A = QtdLink} qtd_links.End (qtd_links.To c) → X
 no_end c same = absurd (cc)
-
-one_target : (b c : ℕ) → qtd_links.To b ≡ qtd_links.To c → b ≡ c
-one_target b c same = cc
 
 pub next_rises : (f : ℕ → ℕ) (notes : List QtdNote) (dummy : ℕ) (ss : List Stage) (b k a : ℕ) (u : Qtd) (c : ℕ) → AreNumbered f notes ss b k → IsNewQtd notes dummy ss b a u → qtd_link_of u.next ≡ qtd_links.To c → f a < f c
 next_rises f notes dummy [] b k a u c are new leads = no_end c (sym (ap (λ (t : Qtd). qtd_link_of t.next) new.1) ∙ leads)

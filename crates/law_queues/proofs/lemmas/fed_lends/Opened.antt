@@ -1,5 +1,7 @@
 -- An accepted open leaves what is fed: its endpoint has no transfer yet, and its queue head isn't met yet.
-use Rattle.std.proofs.Common.{◌≡◌, ◌≢◌, ℕ, zero, suc, ◌*◌, ◌<◌, Bool, false, ◌||◌, List, [], ◌∷◌, ◌++◌, length, drop, get_or, slice_get, Option, Some, None, option_map, ap, sym, subst, ◌∙◌, ⊎_elim, inl, inr, refl, arith}
+use Rattle.std.proofs.Common.{◌≡◌, ◌≢◌, ℕ, ◌*◌, ◌<◌, Bool, false, ◌||◌, List, [], ◌∷◌, ◌++◌, length, drop, get_or, slice_get, Option, Some, None, option_map, ap, sym, subst, ◌∙◌, ⊎_elim, inl, inr, refl, arith}
+use Rattle.law_common.proofs.Lists.{push_there, drop_first, push_which}
+use Rattle.law_queues.proofs.Common.{none_unpublished}
 use Rattle.usb_base.specs.declared.endpoints.EpDesc.{EpDesc}
 use Rattle.mem_runs.specs.Book.{Holding, holding, slot_of}
 use Rattle.mem_runs.specs.declared.slots.Slot.{Slot}
@@ -15,7 +17,7 @@ use Rattle.drv_table.specs.Offers.{new_endpoint, accepted_open}
 use Rattle.claims_driver.specs.Owners.{QueueHead, Dummy, runs_of_endpoint, note_in}
 use Rattle.law_driver.proofs.lemmas.run_owners.Runs.{placed_run}
 use Rattle.law_driver.proofs.lemmas.run_owners.Taking.{runs_taken}
-use Rattle.law_driver.proofs.lemmas.run_owners.Accepted.{drop_first, fresh_differs}
+use Rattle.law_driver.proofs.lemmas.run_owners.Accepted.{fresh_differs}
 use Rattle.law_driver_ring.proofs.Taken.{new_not_lent}
 use Rattle.law_structures.specs.lent_structures.Structures.{StructureSets}
 use Rattle.law_driver_ring.specs.Inventory.{IsLent}
@@ -24,12 +26,7 @@ use Rattle.law_driver.specs.chained_transfers.Out.{unpublished}
 use Rattle.law_driver_ring.specs.fed_queues.Places.{IsMet, HasHead, IsThere}
 use Rattle.law_queues.specs.fed_lends.Commands.{QueuesStand, OpenStands}
 use Rattle.law_queues.proofs.lemmas.fed_lends.Fed.{bare_is}
-use Rattle.law_queues.proofs.lemmas.fed_lends.Asked.{push_which, same_unpublished, out_idle}
-
-push_there : {X : Type 0} (xs : List X) (x : X) (n : ℕ) (z : X) → slice_get xs n ≡ Some z → slice_get (xs ++ x ∷ []) n ≡ Some z
-push_there [] x n z here = absurd (cc)
-push_there (y ∷ ys) x zero z here = here
-push_there (y ∷ ys) x (suc n) z here = push_there ys x n z here
+use Rattle.law_queues.proofs.lemmas.fed_lends.Asked.{out_idle}
 
 -- what an open leaves of the endpoints before it
 record IsTakenIn (d : DriverContent) (slot : ℕ → Slot) (queue dummy : ℕ) : Type 0 where
@@ -62,7 +59,7 @@ opened d desc g q dummy member streams ends parts order out k old = record {
         (λ (new : (i ≡ length d.endpoints) × (z ≡ new_endpoint desc q dummy)). absurd (k.kept (subst (λ (r : Endpoint). IsLent (slot_of g.book.slots r.dummy)) new.1 lent)))
         (push_which d.endpoints (new_endpoint desc q dummy) i z here);
     pieces = λ t i y z there held here from below.
-        let none = same_unpublished d t y k.idle in
+        let none = none_unpublished d t y k.idle in
         old.fed.pieces t i y z there held (of_transfer t y z there here) (omega (arith, none)) below;
     publishes = λ b words is. cc;
   };

@@ -2,6 +2,8 @@
 use Rattle.std.proofs.Common.{◌≡◌, ◌≢◌, ℕ, zero, suc, ◌+◌, ◌-◌, ◌*◌, ◌<◌, Bool, List, [], ◌∷◌, ◌++◌, length, take, drop, slice_get, Option, Some, None, option_map, if◌then◌else◌, ap, refl, sym, subst, ◌∙◌, arith, false}
 use Rattle.std.proofs.lemmas.Bool.{eq-eqb}
 use Rattle.std.proofs.lemmas.List.{append-nil, length-take-le}
+use Rattle.law_common.proofs.Numbers.{other_number}
+use Rattle.law_queues.proofs.Common.{drop_all, not_its_out, piece_more}
 use Rattle.word_mem.specs.Memory.{Mem}
 use Rattle.mem_runs.specs.Book.{slot_of}
 use Rattle.drv_table.specs.declared.content.Endpoint.{Endpoint}
@@ -11,7 +13,6 @@ use Rattle.drv_table.specs.declared.content.Command.TheVariants as unfinished
 use Rattle.drv_table.specs.DriverContent.{DriverContent}
 use Rattle.claims_driver.specs.Owners.{QueueHead, Element as ElementOwner, ArePieces, runs_of_endpoint, runs_of_transfer, note_in}
 use Rattle.law_structures.specs.lent_structures.Structures.{StructureSets}
-use Rattle.law_structures.proofs.lemmas.lent_structures.Names.{not_same}
 use Rattle.law_ring.specs.Order.{IsAmong}
 use Rattle.law_driver.specs.chained_transfers.Chains.{piece_at}
 use Rattle.law_driver.specs.chained_transfers.Turns.{AreInTurn}
@@ -19,7 +20,7 @@ use Rattle.law_driver.specs.chained_transfers.Out.{pieces_from, unpublished, out
 use Rattle.law_queues.specs.fed_lends.Numbers.{at_queue}
 use Rattle.law_queues.specs.fed_lends.Streams.{new_out}
 use Rattle.law_queues.specs.fed_lends.ToLend.{IsToBeLent, lent_now}
-use Rattle.law_queues.proofs.lemmas.fed_lends.Outs.{last_apart, out_apart, drop_all, its_out, not_its_out, piece_add, IsOwnedTransfer, out_owner, out_qtd}
+use Rattle.law_queues.proofs.lemmas.fed_lends.Outs.{last_apart, out_apart, its_out, IsOwnedTransfer, out_owner, out_qtd}
 use Rattle.law_queues.proofs.lemmas.fed_lends.Reporting.{StandsAt}
 use Rattle.law_queues.proofs.lemmas.fed_lends.Names.{older_published}
 use Rattle.law_queues.proofs.lemmas.fed_lends.Fed.{y_of, IsLending, bare_is, its_alive}
@@ -30,7 +31,7 @@ pub at_here : {X : Type 0} (f : ℕ → X) (n : ℕ) (y : X) → at_queue f n y 
 at_here f n y = ap (λ (t : Bool). if t then y else f n) (eq-eqb n n refl)
 
 pub at_else : {X : Type 0} (f : ℕ → X) (n : ℕ) (y : X) (i : ℕ) → i ≢ n → at_queue f n y i ≡ f i
-at_else f n y i differs = ap (λ (t : Bool). if t then y else f i) (not_same i n differs)
+at_else f n y i differs = ap (λ (t : Bool). if t then y else f i) (other_number i n differs)
 
 -- ---- other queues
 
@@ -125,7 +126,7 @@ early_stands d m b words parts now l turns a among =
     let none = older_published d m b o.number words y k (λ same. omega (arith, low, same)) in
     let fed = l.fed.pieces o.number i y k.endpoint was.1 o.held (ap (slice_get d.endpoints) o.owner ∙ k.here) (omega (arith, none)) (omega (arith, below, most)) in
     let is : a ≡ 32 * piece_at note y.first i =
-    o.piece.at ∙ ap (λ (c : ℕ). 32 * piece_at note c o.piece.number) at.place ∙ ap (λ (c : ℕ). 32 * c) (piece_add note y.first (y.qtds - y.left) o.piece.number) in
+    o.piece.at ∙ ap (λ (c : ℕ). 32 * piece_at note c o.piece.number) at.place ∙ ap (λ (c : ℕ). 32 * c) (piece_more note y.first (y.qtds - y.left) o.piece.number) in
     record { qtd = fed.qtd; here = ap (parts n) is ∙ fed.here }
 
 pub early_owner : (d : DriverContent) (m : Mem) (b : ℕ) (words : List ℕ) (parts now : StructureSets) → (l : IsLending d m b words parts now) → AreInTurn d → IsAmong (32 * l.ready.transfer.first) (early d l.ready.number l.ready.transfer.endpoint) → ⊥

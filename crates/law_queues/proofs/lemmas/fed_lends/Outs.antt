@@ -1,13 +1,15 @@
 -- What is out of the driver's transfers, the newest aside.
-use Rattle.std.proofs.Common.{◌≡◌, ◌≢◌, ℕ, zero, suc, ◌+◌, ◌-◌, ◌*◌, ◌<◌, ◌≤◌, ◌⊎◌, ◌==◌, Bool, true, false, not, ◌&&◌, cond, List, [], ◌∷◌, ◌++◌, length, take, drop, slice_get, Option, Some, None, ap, refl, sym, subst, ◌∙◌, ⊎_elim, inl, inr, arith, append_assoc}
+use Rattle.std.proofs.Common.{◌≡◌, ℕ, zero, suc, ◌+◌, ◌-◌, ◌*◌, ◌<◌, ◌≤◌, ◌==◌, Bool, true, false, not, ◌&&◌, cond, List, [], ◌∷◌, ◌++◌, length, take, drop, slice_get, Option, Some, None, ap, refl, sym, subst, ◌∙◌, ⊎_elim, inl, inr, arith, append_assoc}
 use Rattle.std.proofs.lemmas.Bool.{eq-eqb, eqb-true}
 use Rattle.std.proofs.lemmas.List.{append-nil}
 use Rattle.std.proofs.lemmas.Option.{same_Some}
+use Rattle.law_ring.proofs.Common.{among_either}
+use Rattle.law_common.proofs.Booleans.{waits_by}
+use Rattle.law_queues.proofs.Common.{if_zero, piece_more}
 use Rattle.mem_runs.specs.declared.slots.Slot.{Slot}
 use Rattle.drv_table.specs.declared.content.Transfer.{Transfer}
 use Rattle.drv_table.specs.declared.content.Command.{Command}
 use Rattle.claims_driver.specs.Owners.{Owner, Element, NoteRuns, ArePieces}
-use Rattle.law_structures.proofs.lemmas.lent_structures.Names.{not_same}
 use Rattle.law_ring.specs.Order.{IsAmong}
 use Rattle.law_driver.specs.chained_transfers.Chains.{piece_at}
 use Rattle.law_driver.specs.chained_transfers.Out.{pieces_from, unpublished, out_of_transfer, if_last, out_of}
@@ -24,22 +26,14 @@ followed : (ts : List Transfer) (y : Transfer) (n : ℕ) → if_last (ts ++ y �
 followed [] y n = refl
 followed (z ∷ ts) y n = refl
 
-never_last : (ts : List Transfer) → if_last ts 0 ≡ 0
-never_last [] = refl
-never_last (z ∷ ts) = refl
-
 pub out_apart : (note : ℕ → NoteRuns) (e : ℕ) (c : Option Command) (made : ℕ) (ts : List Transfer) (y : Transfer) → out_of note e c made (ts ++ y ∷ []) ≡ out_of note e None 0 ts ++ out_of_transfer note e (unpublished c made y.qtds) y
 out_apart note e c made [] y = append-nil (out_of_transfer note e (unpublished c made y.qtds) y)
 out_apart note e c made (z ∷ ts) y =
-    ap (λ (k : ℕ). out_of_transfer note e k z ++ out_of note e c made (ts ++ y ∷ [])) (followed ts y (unpublished c made z.qtds) ∙ sym (never_last ts))
+    ap (λ (k : ℕ). out_of_transfer note e k z ++ out_of note e c made (ts ++ y ∷ [])) (followed ts y (unpublished c made z.qtds) ∙ sym (if_zero ts))
     ∙ ap (λ (es : List ℕ). out_of_transfer note e (if_last ts 0) z ++ es) (out_apart note e c made ts y)
     ∙ sym (append_assoc (out_of_transfer note e (if_last ts 0) z) (out_of note e None 0 ts) (out_of_transfer note e (unpublished c made y.qtds) y))
 
 -- ---- what is out of it
-
-pub drop_all : (note : ℕ → NoteRuns) (b n : ℕ) → drop n (pieces_from note b n) ≡ []
-drop_all note b zero = refl
-drop_all note b (suc n) = drop_all note (note b).next n
 
 pub its_out : (note : ℕ → NoteRuns) (e first : ℕ) (y : Transfer) → y.endpoint ≡ e → y.released ≡ false → y.reported ≡ false → out_of_transfer note e first y ≡ drop first (pieces_from note y.place y.left)
 its_out note e first y at held waits =
@@ -47,9 +41,6 @@ its_out note e first y at held waits =
     ap (λ (t : Bool). cond (t && not y.released) all []) (eq-eqb y.endpoint e at) ∙ ap (λ (t : Bool). cond (not t) all []) held
     ∙ ap (λ (t : Bool). drop (first + cond t 1 0) (pieces_from note y.place y.left)) waits
     ∙ ap (λ (k : ℕ). drop k (pieces_from note y.place y.left)) (let z : first + 0 ≡ first = omega arith in z)
-
-pub not_its_out : (note : ℕ → NoteRuns) (e first : ℕ) (y : Transfer) → y.endpoint ≢ e → out_of_transfer note e first y ≡ []
-not_its_out note e first y differs = ap (λ (t : Bool). cond (t && not y.released) (drop (first + cond y.reported 1 0) (pieces_from note y.place y.left)) []) (not_same y.endpoint e differs)
 
 -- ---- whose they are
 
@@ -79,15 +70,6 @@ among_cond : (t : Bool) (xs : List ℕ) (a : ℕ) → IsAmong a (cond t xs []) �
 among_cond true xs a among = (refl, among)
 among_cond false xs a among = absurd among
 
-and_parts : (b c : Bool) → (b && not c) ≡ true → (b ≡ true) × (c ≡ false)
-and_parts true false e = (refl, refl)
-and_parts true true e = absurd (cc)
-and_parts false c e = absurd (cc)
-
-pub piece_add : (note : ℕ → NoteRuns) (b j i : ℕ) → piece_at note (piece_at note b j) i ≡ piece_at note b (j + i)
-piece_add note b zero i = let e : 0 + i ≡ i = omega arith in ap (piece_at note b) (sym e)
-piece_add note b (suc j) i = piece_add note (note b).next j i ∙ sym (ap (piece_at note b) (let e : suc j + i ≡ suc (j + i) = omega arith in e))
-
 pub piece_owner : (slot : ℕ → Slot) (owner : ℕ → Owner) (note : ℕ → NoteRuns) (t b n i : ℕ) → ArePieces slot owner note t b n → i < n → owner (piece_at note b i) ≡ Element t
 piece_owner slot owner note t b zero i pieces below = absurd (omega (arith, below))
 piece_owner slot owner note t b (suc n) zero pieces below = pieces.0.element.owned
@@ -99,23 +81,18 @@ pub record IsOwnedTransfer (slot : ℕ → Slot) (owner : ℕ → Owner) (note :
   pub most : y.left ≤ y.qtds
   pub place : y.place ≡ piece_at note y.first (y.qtds - y.left)
 
-among_either : (e : ℕ) (xs ys : List ℕ) → IsAmong e (xs ++ ys) → IsAmong e xs ⊎ IsAmong e ys
-among_either e [] ys is = inr is
-among_either e (x ∷ xs) ys (inl is) = inl (inl is)
-among_either e (x ∷ xs) ys (inr is) = ⊎_elim (λ (left : IsAmong e xs). inl (inr left)) (λ (right : IsAmong e ys). inr right) (among_either e xs ys is)
-
 pub out_owner : (slot : ℕ → Slot) (owner : ℕ → Owner) (note : ℕ → NoteRuns) (e : ℕ) (ts : List Transfer) (k a : ℕ) → ((i : ℕ) (y : Transfer) → slice_get ts i ≡ Some y → y.released ≡ false → IsOwnedTransfer slot owner note (k + i) y) → IsAmong a (out_of note e None 0 ts) → IsOutOf owner (k + length ts) a
 out_owner slot owner note e [] k a each among = absurd among
 out_owner slot owner note e (y ∷ ts) k a each among =
     ⊎_elim
     (λ (mine : IsAmong a (out_of_transfer note e (if_last ts 0) y)).
     let c = among_cond (y.endpoint == e && not y.released) (drop (if_last ts 0 + cond y.reported 1 0) (pieces_from note y.place y.left)) a mine in
-    let held = (and_parts (y.endpoint == e) y.released c.0).1 in
+    let held = (waits_by (y.endpoint == e) y.released c.0).1 in
     let p = among_pieces note y.place y.left a (among_drop (if_last ts 0 + cond y.reported 1 0) (pieces_from note y.place y.left) a c.1) in
     let o = each 0 y refl held in
     let below = p.below in
     let most = o.most in
-    let is : piece_at note y.place p.number ≡ piece_at note y.first ((y.qtds - y.left) + p.number) = ap (λ (b : ℕ). piece_at note b p.number) o.place ∙ piece_add note y.first (y.qtds - y.left) p.number in
+    let is : piece_at note y.place p.number ≡ piece_at note y.first ((y.qtds - y.left) + p.number) = ap (λ (b : ℕ). piece_at note b p.number) o.place ∙ piece_more note y.first (y.qtds - y.left) p.number in
     record {
       block = piece_at note y.place p.number;
       at = p.at;
@@ -143,7 +120,7 @@ out_qtd note e (y ∷ ts) a among =
     ⊎_elim
     (λ (mine : IsAmong a (out_of_transfer note e (if_last ts 0) y)).
     let c = among_cond (y.endpoint == e && not y.released) (drop (if_last ts 0 + cond y.reported 1 0) (pieces_from note y.place y.left)) a mine in
-    let both = and_parts (y.endpoint == e) y.released c.0 in
+    let both = waits_by (y.endpoint == e) y.released c.0 in
     record {
       number = 0;
       transfer = y;

@@ -2,6 +2,7 @@
 use Rattle.std.proofs.Common.{◌≡◌, ◌≢◌, ℕ, ◌*◌, true, false, List, [], ◌∷◌, Option, Some, ap, sym, subst, ◌∙◌, ⊎_elim, inl, inr}
 use Rattle.std.specs.List.{AllByRecursion}
 use Rattle.std.proofs.lemmas.Bool.{cases_eq, true≢false}
+use Rattle.law_controller.proofs.Common.{same_hand}
 use Rattle.qh_qtd.specs.declared.qtd.Qtd.{Qtd}
 use Rattle.mem_runs.specs.declared.slots.Slot.{Slot}
 use Rattle.drv_table.specs.declared.content.QtdNote.{QtdNote}
@@ -16,7 +17,7 @@ use Rattle.law_ring.proofs.SparedSparing.{spared_endpoint, spared_pipes_agree}
 use Rattle.law_driver_ring.specs.Pieces.{IsNewQtd}
 use Rattle.law_driver_ring.specs.TransferLaws.{HasPieces}
 use Rattle.law_queues.specs.fed_lends.Streams.{second, LendLeavesPipes}
-use Rattle.law_queues.proofs.lemmas.fed_lends.Reporting.{same_hand, spares_heads}
+use Rattle.law_queues.proofs.lemmas.fed_lends.Reporting.{spares_heads}
 
 -- ---- what the qTDs ask for
 

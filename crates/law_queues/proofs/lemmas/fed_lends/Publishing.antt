@@ -1,6 +1,8 @@
 -- An accepted get, put or request, told by its stages.
 use Rattle.std.proofs.Common.{◌≡◌, ℕ, suc, ◌-◌, ◌*◌, ◌≤◌, Bool, nat_eq, List, [], ◌∷◌, ◌++◌, length, take, get_or, slice_get, Option, Some, ap, sym, subst, ◌∙◌, refl, arith, None}
 use Rattle.std.specs.List.{AllByRecursion}
+use Rattle.law_queues.proofs.Common.{end_is}
+use Rattle.law_common.proofs.Lists.{set_here, pushed_last}
 use Rattle.usb_base.specs.declared.packets.Way.{Way}
 use Rattle.word_mem.specs.Memory.{Mem, IsShaped}
 use Rattle.mem_runs.specs.Book.{Holding, holding, Stands, slot_of}
@@ -22,7 +24,6 @@ use Rattle.drv_table.specs.Offers.{Asked, first_of, accepted_transfer, with_queu
 use Rattle.law_driver.specs.run_owners.Accepts.{Transfers}
 use Rattle.claims_driver.specs.Leaving.{HasOwners}
 use Rattle.claims_driver.specs.Owners.{note_in, runs_of_transfer, runs_of_endpoint}
-use Rattle.law_driver.proofs.lemmas.run_owners.Released.{set_here}
 use Rattle.claims_driver.specs.LentRuns.{AreLent}
 use Rattle.law_structures.specs.lent_structures.Structures.{Element as ElementAt, StructureSets}
 use Rattle.law_driver_ring.specs.Inventory.{IsLent}
@@ -35,7 +36,6 @@ use Rattle.law_driver.specs.chained_transfers.Bulk.{sort_by}
 use Rattle.law_driver.specs.chained_transfers.AsynchronousTurns.{AsynchronousTakesTurns}
 use Rattle.law_driver.specs.chained_transfers.Chains.{piece_at}
 use Rattle.law_driver.proofs.lemmas.chained_transfers.Ways.{asked_by}
-use Rattle.law_driver.proofs.lemmas.chained_transfers.Chained.{pushed_last}
 use Rattle.law_driver_ring.specs.fed_queues.Fed.{size_of, IsNotedQtd, IsPublished}
 use Rattle.law_queues.specs.fed_lends.ToLend.{AreStagesBy}
 use Rattle.law_queues.proofs.lemmas.fed_lends.Stages.{LeadsAs, IsFirst, by_data, requested_by, stages_are, stages_pids}
@@ -57,10 +57,6 @@ some_stages way [] some all = absurd (omega arith)
 some_stages way (s ∷ ss) some all = record { first = s; rest = ss; are = refl; stage = (stages_are way (s ∷ ss) all).0; pids = stages_pids way (s ∷ ss) all }
 
 -- ---- its last block
-
-piece_last : (notes : List QtdNote) (ss : List Stage) (b : ℕ) → piece_at (note_in notes) b (length ss) ≡ last_block notes ss b
-piece_last notes [] b = refl
-piece_last notes (s ∷ ss) b = piece_last notes ss (note_at notes b).next
 
 all_last : (P : ℕ → Type 0) (notes : List QtdNote) (s : Stage) (ss : List Stage) (b : ℕ) → AllByRecursion P (next_blocks notes (s ∷ ss) b) → P (last_block notes (s ∷ ss) b)
 all_last P notes s [] b all = all.0
@@ -88,7 +84,7 @@ published d m e x a h dummy notes parts k words sort here going stands shape r i
     let way = x.desc.name.way in
     let all : first_of a.stages ≡ k.first = ap first_of k.are in
     let size : size_of a.sort 0 note.told ≡ k.first.long = ap (λ (c : Sort). size_of c 0 note.told) sort ∙ ap (size_of (sort_by way) 0) r.noted.0.told ∙ k.stage.size in
-    let end : piece_at (note_in notes) b (length a.stages) ≡ dummy = ap (λ ss. piece_at (note_in notes) b (length ss)) k.are ∙ piece_last notes (k.first ∷ k.rest) b ∙ r.ends in
+    let end : piece_at (note_in notes) b (length a.stages) ≡ dummy = ap (λ ss. piece_at (note_in notes) b (length ss)) k.are ∙ end_is notes (k.first ∷ k.rest) b ∙ r.ends in
     record {
       number = length d.transfers;
       transfer = new_transfer e a x.dummy;

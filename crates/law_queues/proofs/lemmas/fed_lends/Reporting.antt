@@ -1,10 +1,11 @@
 -- A lend leaves what was reported, and what is still to be harvested.
-use Rattle.std.proofs.Common.{◌≡◌, ◌≢◌, ℕ, zero, suc, ◌+◌, ◌*◌, ◌<◌, ◌≤◌, ◌⊎◌, Bool, true, List, [], ◌∷◌, ◌++◌, length, take, Option, Some, None, ap, refl, sym, subst, ◌∙◌, ⊎_elim, inl, inr, arith, append_assoc}
+use Rattle.std.proofs.Common.{◌≡◌, ◌≢◌, ℕ, zero, suc, ◌+◌, ◌*◌, ◌<◌, ◌≤◌, Bool, true, List, [], ◌∷◌, ◌++◌, length, take, Option, Some, ap, refl, sym, subst, ◌∙◌, ⊎_elim, inl, inr, arith, append_assoc}
 use Rattle.std.proofs.lemmas.Bool.{cases_eq, cases_lt, true≢false}
 use Rattle.std.proofs.lemmas.List.{append-nil}
+use Rattle.law_ring.proofs.Common.{among_either, none_some, link_there}
+use Rattle.law_queues.proofs.Common.{among_left, among_right}
+use Rattle.law_controller.proofs.Common.{same_hand, no_bytes}
 use Rattle.word_mem.specs.Memory.{Mem}
-use Rattle.link_words.specs.declared.kinds.QtdLink.{QtdLink}
-use Rattle.link_words.specs.declared.kinds.QtdLink.TheVariants as qtd_links
 use Rattle.link_words.specs.Links.{qtd_link_of}
 use Rattle.qh_qtd.specs.declared.qtd.Qtd.{Qtd}
 use Rattle.qh_qtd.specs.declared.queue_head.Qh.{Qh}
@@ -18,13 +19,13 @@ use Rattle.drv_table.specs.Harvests.{note_at}
 use Rattle.drv_table.specs.Offers.{is_last}
 use Rattle.claims_driver.specs.Owners.{EndpointRuns, TransferRuns, note_in}
 use Rattle.law_structures.specs.lent_structures.Structures.{Structure, QueueHead, Element, Buffer, Structures, StructureSets}
-use Rattle.law_structures.specs.lent_structures.Sound.{IsElement, LeadsOn, buffer_name, HasBuffer, IsSoundQueue}
+use Rattle.law_structures.specs.lent_structures.Sound.{buffer_name, HasBuffer, IsSoundQueue}
 use Rattle.law_ring.specs.QueueParts.{IsQueuePart}
 use Rattle.law_structures.proofs.lemmas.lent_structures.Altering.{found_queue, found_element}
 use Rattle.law_ring.specs.Hand.{Hand}
 use Rattle.law_ring.specs.Effects.{bytes_in, buffer_of}
 use Rattle.law_ring.specs.Order.{IsFresh, IsOrdered, AreAfter, IsSorted, IsAmong, AllTold, none_out, one_out}
-use Rattle.law_ring.specs.Sparing.{SameHand, SparesHead}
+use Rattle.law_ring.specs.Sparing.{SparesHead}
 use Rattle.law_ring.proofs.SparedSparing.{spared_is_told, published_adds_nothing}
 use Rattle.law_driver.specs.chained_transfers.Out.{pieces_from}
 use Rattle.law_driver_ring.specs.fed_queues.Places.{IsLast}
@@ -39,9 +40,6 @@ use Rattle.law_queues.proofs.lemmas.fed_lends.Numbering.{IsNumbered, numbered_ca
 
 -- ---- what is known of the lend
 
-pub some_none : (o : Option Structure) (s : Structure) → o ≡ None → o ≡ Some s → ⊥
-some_none o s none some = cc
-
 pub numbers : (d : DriverContent) (m : Mem) (t : ℕ) (y : TransferRuns) (x : EndpointRuns) (s : Stage) (ss : List Stage) (k : ℕ) (order : ℕ → ℕ) → AwaitsLend d m t y x s ss → AreNumbered (new_order d y ss k order) d.notes ss (second d y) k
 numbers d m t y x s ss k order r =
     numbers_are d.notes ss (second d y) k order (apart_left (next_blocks d.notes (s ∷ ss) y.first) (buffer_blocks d.notes (s ∷ ss) y.first) (subst AreAllApart r.taken r.apart))
@@ -50,7 +48,7 @@ numbers d m t y x s ss k order r =
 pub old_number : (d : DriverContent) (y : TransferRuns) (x : EndpointRuns) (s : Stage) (ss : List Stage) (slot : ℕ → Slot) (parts now : StructureSets) (k : ℕ) (order : ℕ → ℕ) (a : ℕ) (u : Structure) → HasPieces d slot parts now y x s ss → parts (32 * x.queue) a ≡ Some u → new_order d y ss k order a ≡ order a
 old_number d y x s ss slot parts now k order a u has there =
     ⊎_elim (λ (same : new_order d y ss k order a ≡ order a). same)
-    (λ (new : IsNumbered d.notes x.dummy ss (second d y) k order a). absurd (some_none (parts (32 * x.queue) a) u (has.none_before a new.qtd new.new) there))
+    (λ (new : IsNumbered d.notes x.dummy ss (second d y) k order a). absurd (none_some (parts (32 * x.queue) a) u (has.none_before a new.qtd new.new) there))
     (numbered_case d.notes x.dummy ss (second d y) k order a)
 
 -- a number that is low stays so
@@ -60,14 +58,6 @@ low_number d y dummy ss k order a place most low =
     (λ (new : IsNumbered d.notes dummy ss (second d y) k order a). let e = new.from in omega (arith, e, most)) (numbered_case d.notes dummy ss (second d y) k order a)
 
 -- ---- the order
-
--- where a link leads in a sound part something stands
-led_there : (part : Structures) (l : QtdLink) (c : ℕ) → LeadsOn part l → l ≡ qtd_links.To c → IsElement part c
-led_there part l c leads is = subst (LeadsOn part) is leads
-
-none_in : (o : Option Structure) → ((pages : List ℕ) (k : ℕ) (bs : List ℕ) → o ≡ Some (Buffer pages k bs) → ⊥) → bytes_in o ≡ []
-none_in (Some (Buffer pages k bs)) never = absurd (never pages k bs refl)
-none_in _ never = refl
 
 zero_name : (slot : ℕ → Slot) (notes : List QtdNote) (s : Stage) (b dummy : ℕ) (last : Bool) → IsStageNoted slot (note_at notes b) s → s.long ≤ 0 → buffer_name (stage_qtd notes s b dummy last) ≡ 0
 zero_name slot notes s b dummy last noted none =
@@ -88,7 +78,7 @@ long_new slot part notes s b dummy last noted has none =
     (λ (some : 0 < s.long). let h = has some in ap (λ (o : Option Structure). length (bytes_in o)) h.here ∙ h.size)
     (λ (zero : s.long ≤ 0).
     let name = zero_name slot notes s b dummy last noted zero in
-    let e : length (buffer_of part (stage_qtd notes s b dummy last)) ≡ 0 = ap (λ (i : ℕ). length (bytes_in (part i))) name ∙ ap length (none_in (part 0) none) in
+    let e : length (buffer_of part (stage_qtd notes s b dummy last)) ≡ 0 = ap (λ (i : ℕ). length (bytes_in (part i))) name ∙ ap length (no_bytes (part 0) none) in
     let z : s.long ≡ 0 = omega (arith, zero) in e ∙ sym z)
     (cases_lt 0 s.long)
 
@@ -111,7 +101,7 @@ ordered_on d m t y x s ss slot parts now order place k r has on most old =
       next = λ a u c found leads.
           ⊎_elim
           (λ (was : parts n a ≡ Some (Element u)).
-          let to = led_there (parts n) (qtd_link_of u.next) c (on.elements a u was).next leads in
+          let to = link_there (parts n) (qtd_link_of u.next) c (on.elements a u was).next leads in
           let one = old_number d y x s ss slot parts now k order a (Element u) has was in
           let two = old_number d y x s ss slot parts now k order c (Element to.qtd) has to.here in
           let less = old.next a u c was leads in omega (arith, one, two, less))
@@ -120,7 +110,7 @@ ordered_on d m t y x s ss slot parts now order place k r has on most old =
       alternate = λ a u c found leads.
           ⊎_elim
           (λ (was : parts n a ≡ Some (Element u)).
-          let to = led_there (parts n) (qtd_link_of u.alternate) c (on.elements a u was).alternate leads in
+          let to = link_there (parts n) (qtd_link_of u.alternate) c (on.elements a u was).alternate leads in
           let one = old_number d y x s ss slot parts now k order a (Element u) has was in
           let two = old_number d y x s ss slot parts now k order c (Element to.qtd) has to.here in
           let less = old.alternate a u c was leads in omega (arith, one, two, less))
@@ -158,9 +148,6 @@ all_there hand parts n _ _ e none_out among = absurd among
 all_there hand parts n _ _ e (one_out b es x xs told rest) (inl is) = record { qtd = told.qtd; here = ap (parts n) is ∙ told.here }
 all_there hand parts n _ _ e (one_out b es x xs told rest) (inr among) = all_there hand parts n es xs e rest among
 
-pub same_hand : (hand : Hand) → SameHand hand hand
-same_hand hand = record { bytes = λ n q e t bs. refl; toggle = λ n q. refl }
-
 pub spares_heads : (d : DriverContent) (y : TransferRuns) (x : EndpointRuns) (s : Stage) (ss : List Stage) (slot : ℕ → Slot) (parts now : StructureSets) (n : ℕ) → HasPieces d slot parts now y x s ss → SparesHead parts now n
 spares_heads d y x s ss slot parts now n has q here = record {
   queue = q;
@@ -188,20 +175,6 @@ told_more f place n hand now q notes dummy (s ∷ ss) b k out xs ordered head ar
     (published_adds_nothing f place out hand now n e q (stage_qtd notes s b dummy (is_last ss)) xs ordered head stand.0 refl (let g = are.0 in omega (arith, g, most)) told))
 
 -- ---- the list
-
-among_either : (e : ℕ) (xs ys : List ℕ) → IsAmong e (xs ++ ys) → IsAmong e xs ⊎ IsAmong e ys
-among_either e [] ys is = inr is
-among_either e (x ∷ xs) ys (inl is) = inl (inl is)
-among_either e (x ∷ xs) ys (inr is) = ⊎_elim (λ (left : IsAmong e xs). inl (inr left)) (λ (right : IsAmong e ys). inr right) (among_either e xs ys is)
-
-pub among_left : (e : ℕ) (xs ys : List ℕ) → IsAmong e xs → IsAmong e (xs ++ ys)
-among_left e [] ys is = absurd is
-among_left e (x ∷ xs) ys (inl is) = inl is
-among_left e (x ∷ xs) ys (inr is) = inr (among_left e xs ys is)
-
-pub among_right : (e : ℕ) (xs ys : List ℕ) → IsAmong e ys → IsAmong e (xs ++ ys)
-among_right e [] ys is = is
-among_right e (x ∷ xs) ys is = inr (among_right e xs ys is)
 
 after_both : (f : ℕ → ℕ) (e : ℕ) (xs ys : List ℕ) → AreAfter f e xs → AreAfter f e ys → AreAfter f e (xs ++ ys)
 after_both f e [] ys one two = two

@@ -2,6 +2,7 @@
 use Rattle.std.proofs.Common.{◌≡◌, ◌≢◌, ℕ, suc, ◌*◌, ◌<◌, ◌≤◌, Bool, true, List, ◌∷◌, ◌++◌, slice_get, Some, ap, sym, subst, ◌∙◌, ⊎_elim, arith, false, length}
 use Rattle.std.proofs.lemmas.Bool.{cases_eq, cases_Bool, true≢false}
 use Rattle.std.proofs.lemmas.Option.{same_Some}
+use Rattle.law_controller.proofs.Common.{same_hand}
 use Rattle.word_mem.specs.Memory.{Mem}
 use Rattle.mem_runs.specs.declared.slots.Slot.{Slot}
 use Rattle.mem_runs.specs.Book.{slot_of}
@@ -26,7 +27,7 @@ use Rattle.law_queues.specs.fed_lends.Numbers.{at_queue}
 use Rattle.law_queues.specs.fed_lends.Streams.{second, new_order, new_out}
 use Rattle.law_queues.specs.fed_lends.ToLend.{IsToBeLent, lent_now}
 use Rattle.law_queues.proofs.lemmas.fed_lends.Numbering.{all_after, all_sorted}
-use Rattle.law_queues.proofs.lemmas.fed_lends.Reporting.{StandsAt, numbers, old_number, same_hand, spares_heads, sorted_both, sorted_same, lend_leaves_reports, lend_ends_queue}
+use Rattle.law_queues.proofs.lemmas.fed_lends.Reporting.{StandsAt, numbers, old_number, spares_heads, sorted_both, sorted_same, lend_leaves_reports, lend_ends_queue}
 use Rattle.law_queues.proofs.lemmas.fed_lends.Names.{first_stands}
 use Rattle.law_queues.proofs.lemmas.fed_lends.Fed.{y_of, x_of, IsLending, buffers_same, other_lent, its_alive}
 use Rattle.law_queues.proofs.lemmas.fed_lends.Order.{at_here, at_else, queue_apart, early, out_before, out_after, out_then, out_other, early_stands, early_owner}

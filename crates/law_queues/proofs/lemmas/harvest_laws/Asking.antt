@@ -3,8 +3,9 @@ use Rattle.std.proofs.Common.{◌≡◌, ◌≢◌, ℕ, zero, suc, ◌-◌, ◌
 use Rattle.std.specs.Prelude.{◌⊎◌}
 use Rattle.std.proofs.lemmas.Bool.{cases_eq}
 use Rattle.std.proofs.lemmas.Option.{same_Some, slice_get_within}
+use Rattle.law_queues.proofs.Common.{one_placed, set_which}
+use Rattle.law_common.proofs.Lists.{set_here, set_there, drop_first, push_which}
 use Rattle.word_mem.specs.Memory.{Mem}
-use Rattle.mem_runs.specs.declared.slots.Slot.{Slot}
 use Rattle.mem_runs.specs.Book.{Holding, holding, Stands, slot_of}
 use Rattle.law_structures.specs.lent_structures.Structures.{StructureSets}
 use Rattle.law_ring.specs.Hand.{Hand}
@@ -19,12 +20,11 @@ use Rattle.drv_table.specs.Accepting.{Offered, new_runs, first_waiting}
 use Rattle.drv_table.specs.Offers.{Asked, note_stages, accepted_transfer, with_queued, new_transfer}
 use Rattle.law_driver.specs.run_owners.Accepts.{Transfers}
 use Rattle.claims_driver.specs.Leaving.{HasOwners}
-use Rattle.claims_driver.specs.Owners.{Owner, Element, IsPlaced, ArePieces, runs_of_endpoint, runs_of_transfer, note_in}
-use Rattle.law_driver.proofs.lemmas.run_owners.Released.{set_here, set_there}
+use Rattle.claims_driver.specs.Owners.{Element, runs_of_endpoint, runs_of_transfer, note_in}
 use Rattle.law_driver.proofs.lemmas.run_owners.Runs.{placed_run}
 use Rattle.law_driver.proofs.lemmas.run_owners.Taking.{runs_taken}
 use Rattle.law_driver.proofs.lemmas.run_owners.Chains.{notes_apart}
-use Rattle.law_driver.proofs.lemmas.run_owners.Accepted.{drop_first, within_slots}
+use Rattle.law_driver.proofs.lemmas.run_owners.Accepted.{within_slots}
 use Rattle.law_driver.proofs.lemmas.run_owners.Transferred.{are_new, goes_on_alive}
 use Rattle.law_driver.specs.endpoint_lives.Lives.{told_end}
 use Rattle.law_driver.specs.chained_transfers.Turns.{IsAtPlace, AreAtPlaces}
@@ -38,7 +38,6 @@ use Rattle.law_queues.specs.harvest_laws.Holds.{IsUnderWay, IsToCome, HoldsEach}
 use Rattle.law_queues.proofs.lemmas.harvest_laws.Places.{one_sooner, one_later, unmoved_noted}
 use Rattle.law_queues.specs.harvest_laws.HeldLaws.{AreThere}
 use Rattle.law_queues.proofs.lemmas.harvest_laws.Stages.{AreBlocks, told_in_all, stages_unmoved, stages_told, cut_told, request_told}
-use Rattle.law_queues.proofs.lemmas.harvest_laws.Opening.{push_which, set_which}
 
 -- ---- notes that stay
 
@@ -49,12 +48,6 @@ told_alike note now b (suc i) same =
     let one : (now b).told ≡ (note b).told = ap (λ (z : QtdNote). z.told) here in
     let rest : told_of now (now b).next i ≡ told_of note (note b).next i = ap (λ (z : QtdNote). told_of now z.next i) here ∙ told_alike note now (note b).next i (λ a among. same a (inr among)) in
     omega (arith, one, rest)
-
--- one of a transfer's qTDs is placed
-one_placed : (slot : ℕ → Slot) (owner : ℕ → Owner) (notes : List QtdNote) (t b n a : ℕ) → ArePieces slot owner (note_in notes) t b n → IsOneFrom (note_at notes) b n a → IsPlaced slot owner a (Element t)
-one_placed slot owner notes t b zero a k one = absurd one
-one_placed slot owner notes t b (suc n) a k (inl is) = subst (λ (c : ℕ). IsPlaced slot owner c (Element t)) (sym is) k.0.element
-one_placed slot owner notes t b (suc n) a k (inr one) = one_placed slot owner notes t (note_at notes b).next n a k.1 one
 
 -- ---- one transfer more
 

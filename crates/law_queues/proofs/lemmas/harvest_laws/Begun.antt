@@ -1,5 +1,6 @@
 -- A driver that was just built.
-use Rattle.std.proofs.Common.{◌≡◌, ℕ, zero, suc, [], slice_get, Some, refl}
+use Rattle.std.proofs.Common.{◌≡◌, ℕ, zero, suc, [], Some, refl}
+use Rattle.law_common.proofs.Lists.{nothing_at}
 use Rattle.law_structures.specs.lent_structures.Structures.{StructureSets}
 use Rattle.law_ring.specs.Hand.{Hand}
 use Rattle.drv_table.specs.declared.content.Reserve.{Reserve}
@@ -7,16 +8,12 @@ use Rattle.drv_table.specs.Opening.{opening}
 use Rattle.law_queues.specs.told_endpoints.Telling.{Named, named_in, TellsEach}
 use Rattle.law_queues.specs.harvest_laws.Holds.{HoldsEach}
 
-none_there : {X : Type 0} (i : ℕ) (x : X) → slice_get [] i ≡ Some x → ⊥
-none_there zero x is = cc
-none_there (suc i) x is = cc
-
 pub opening_holds : (n : ℕ) (room : Reserve) (hand : Hand) (parts : StructureSets) → HoldsEach (opening n room).driver hand parts (λ (e : ℕ). [])
 opening_holds n room hand parts = record {
-  next = λ e t x y is on. absurd (none_there e x is.endpoint);
+  next = λ e t x y is on. absurd (nothing_at e x is.endpoint);
   none = λ e x here last on. refl;
-  to_come = λ t y here waits kept other. absurd (none_there t y here);
-  within = λ t y here kept. absurd (none_there t y here);
+  to_come = λ t y here waits kept other. absurd (nothing_at t y here);
+  within = λ t y here kept. absurd (nothing_at t y here);
 }
 
 none_named : (e : ℕ) (x : Named) → named_in [] e ≡ Some x → ⊥

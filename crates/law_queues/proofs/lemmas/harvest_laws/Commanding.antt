@@ -1,9 +1,12 @@
 -- What is told of each queue where a command is accepted.
-use Rattle.std.proofs.Common.{◌≡◌, ◌≢◌, ℕ, zero, suc, ◌+◌, ◌*◌, ◌<◌, nat_lt, not, Bool, true, false, cond, if◌then◌else◌, ◌==◌, List, [], ◌∷◌, ◌++◌, length, position, slice_get, slice_set, slice_index, Option, Some, None, option_map, ap, refl, sym, subst, ◌∙◌, ⊎_elim, arith}
+use Rattle.std.proofs.Common.{◌≡◌, ◌≢◌, ℕ, ◌*◌, nat_lt, Bool, true, false, cond, if◌then◌else◌, ◌==◌, List, [], ◌∷◌, ◌++◌, length, position, slice_get, slice_set, slice_index, Option, Some, None, option_map, ap, refl, sym, subst, ◌∙◌, ⊎_elim, arith}
 use Rattle.std.specs.Prelude.{◌⊎◌}
 use Rattle.std.specs.List.{position_or_len}
 use Rattle.std.proofs.lemmas.Bool.{cases_eq, false≢true}
 use Rattle.std.proofs.lemmas.Option.{same_Some, slice_get_within, slice_get_past}
+use Rattle.law_common.proofs.Numbers.{is_less}
+use Rattle.law_common.proofs.Lists.{pushed_last, pushed_beside, set_here, set_there, push_which}
+use Rattle.law_queues.proofs.Common.{has_place, set_which}
 use Rattle.usb_base.specs.declared.reports.Report.{Report}
 use Rattle.word_mem.specs.Memory.{Mem}
 use Rattle.mem_runs.specs.Book.{holding, Stands}
@@ -18,7 +21,6 @@ use Rattle.drv_table.specs.Offers.{new_endpoint}
 use Rattle.claims_driver.specs.Owners.{note_in}
 use Rattle.law_driver.specs.run_owners.Accepts.{Opens, Transfers}
 use Rattle.claims_driver.specs.Leaving.{HasOwners}
-use Rattle.law_driver.proofs.lemmas.run_owners.Released.{set_here, set_there}
 use Rattle.law_driver.specs.chained_transfers.Turns.{AreAtPlaces}
 use Rattle.law_driver.specs.chained_transfers.Accepted.{IsAsked}
 use Rattle.law_driver.specs.chained_transfers.Asynchronous.{IsRequested}
@@ -28,7 +30,7 @@ use Rattle.law_queues.proofs.lemmas.told_endpoints.Names.{driver_name}
 use Rattle.law_queues.proofs.lemmas.told_endpoints.Tellings.{keeps_names, open_adds_endpoint}
 use Rattle.law_queues.proofs.lemmas.harvest_laws.RowRows.{cleared_at}
 use Rattle.law_queues.specs.harvest_laws.HeldLaws.{AreThere}
-use Rattle.law_queues.proofs.lemmas.harvest_laws.Opening.{push_which, set_which, open_holds}
+use Rattle.law_queues.proofs.lemmas.harvest_laws.Opening.{open_holds}
 use Rattle.law_queues.proofs.lemmas.harvest_laws.Asking.{asked_holds, requested_holds}
 use Rattle.law_queues.specs.harvest_laws.Holds.{HoldsEach}
 use Rattle.law_queues.specs.harvest_laws.Told.{ToldStands}
@@ -36,37 +38,9 @@ use Rattle.law_driver_ring.specs.fed_queues.Places.{IsThere}
 
 -- ---- lists
 
-pushed_last : {X : Type 0} (xs : List X) (x : X) → slice_get (xs ++ x ∷ []) (length xs) ≡ Some x
-pushed_last [] x = refl
-pushed_last (y ∷ ys) x = pushed_last ys x
-
-pushed_beside : {X : Type 0} (xs : List X) (x : X) (k : ℕ) → k ≢ length xs → slice_get (xs ++ x ∷ []) k ≡ slice_get xs k
-pushed_beside [] x zero differs = absurd (differs refl)
-pushed_beside [] x (suc k) differs = refl
-pushed_beside (y ∷ ys) x zero differs = refl
-pushed_beside (y ∷ ys) x (suc k) differs = pushed_beside ys x k (λ is. differs (ap suc is))
-
--- where the first that passes isn't found none passes
-passing_within : (p : Endpoint → Bool) (xs : List Endpoint) (k : ℕ) (y : Endpoint) → slice_get xs k ≡ Some y → p y ≡ true → position_or_len p xs < length xs
-passing_within p [] zero y here is = absurd cc
-passing_within p [] (suc k) y here is = absurd cc
-passing_within p (x ∷ xs) zero y here is = by_first (p x) (ap p (same_Some x y here) ∙ is)
-  where
-    by_first : (b : Bool) → b ≡ true → cond (not b) (1 + position_or_len p xs) 0 < suc (length xs)
-    by_first true found = omega arith
-    by_first false found = absurd (false≢true found)
-passing_within p (x ∷ xs) (suc k) y here is = by_first (p x) (passing_within p xs k y here is)
-  where
-    by_first : (b : Bool) → position_or_len p xs < length xs → cond (not b) (1 + position_or_len p xs) 0 < suc (length xs)
-    by_first true later = omega arith
-    by_first false later = omega (arith, later)
-
 not_found : (b : Bool) (i : ℕ) → cond b (Some i) None ≡ None → b ≡ false
 not_found true i is = absurd cc
 not_found false i is = refl
-
-is_less : (a b : ℕ) → a < b → nat_lt a b ≡ true
-is_less a b less = grind arith
 
 pub none_passes : (p : Endpoint → Bool) (xs : List Endpoint) → position p xs ≡ None → (k : ℕ) (y : Endpoint) → slice_get xs k ≡ Some y → p y ≡ false
 none_passes p xs none k y here = by_pass (p y) refl
@@ -74,7 +48,7 @@ none_passes p xs none k y here = by_pass (p y) refl
     by_pass : (b : Bool) → p y ≡ b → b ≡ false
     by_pass false is = refl
     by_pass true is =
-        absurd (false≢true (sym (not_found (nat_lt (position_or_len p xs) (length xs)) (position_or_len p xs) none) ∙ is_less (position_or_len p xs) (length xs) (passing_within p xs k y here is)))
+        absurd (false≢true (sym (not_found (nat_lt (position_or_len p xs) (length xs)) (position_or_len p xs) none) ∙ is_less (position_or_len p xs) (length xs) (has_place p xs k y here is)))
 
 -- ---- what is told depends on the endpoints that there are
 

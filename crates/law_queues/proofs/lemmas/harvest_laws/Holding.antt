@@ -1,8 +1,9 @@
 -- What is held back after a harvest.
-use Rattle.std.proofs.Common.{◌≡◌, ◌≢◌, ℕ, suc, ◌-◌, ◌*◌, ◌≤◌, true, false, List, [], ◌++◌, slice_get, slice_set, Some, None, ap, sym, subst, ◌∙◌, ⊎_elim, inl, inr, arith}
-use Rattle.std.specs.Prelude.{◌⊎◌}
+use Rattle.std.proofs.Common.{◌≡◌, ◌≢◌, ℕ, suc, ◌-◌, ◌*◌, ◌≤◌, true, false, List, [], ◌++◌, slice_get, slice_set, Some, None, ap, sym, subst, ◌∙◌, ⊎_elim, arith}
 use Rattle.std.proofs.lemmas.Bool.{cases_eq, false≢true}
 use Rattle.std.proofs.lemmas.Option.{same_Some}
+use Rattle.law_queues.proofs.Common.{set_which}
+use Rattle.law_common.proofs.Lists.{set_here, set_there}
 use Rattle.law_structures.specs.lent_structures.Structures.{StructureSets}
 use Rattle.law_ring.specs.Hand.{Hand}
 use Rattle.claims_report.specs.Streams.{has_stream}
@@ -13,7 +14,6 @@ use Rattle.drv_table.specs.DriverContent.{DriverContent}
 use Rattle.drv_table.specs.Harvests.{note_at}
 use Rattle.law_driver.specs.endpoint_lives.Lives.{told_end}
 use Rattle.claims_driver.specs.Owners.{note_in}
-use Rattle.law_driver.proofs.lemmas.run_owners.Released.{set_here, set_there}
 use Rattle.law_driver.specs.chained_transfers.Turns.{IsAtPlace}
 use Rattle.law_queues.specs.told_endpoints.Steps.{Grows, Clears}
 use Rattle.law_driver_ring.specs.told_harvests.Held.{IsDone, AreHeld, none_held, AreUnmoved, told_of, IsOneFrom, NotesMoved}
@@ -36,13 +36,6 @@ holds_the_same d new hand parts held ends transfers notes k = record {
   within = λ t y here held_still.
       subst (λ (ns : List QtdNote). told_of (note_at ns) y.first y.qtds ≤ y.most) (sym notes) (k.within t y (ap (λ (ts : List Transfer). slice_get ts t) (sym transfers) ∙ here) held_still);
 }
-
--- ---- at the changed place, and elsewhere
-
-set_which : {X : Type 0} (xs : List X) (t k : ℕ) (x y z : X) → slice_get xs t ≡ Some x → slice_get (slice_set xs t y) k ≡ Some z → ((k ≡ t) × (z ≡ y)) ⊎ ((k ≢ t) × (slice_get xs k ≡ Some z))
-set_which xs t k x y z was here =
-    ⊎_elim (λ (is : k ≡ t). inl (is, same_Some z y (sym here ∙ ap (slice_get (slice_set xs t y)) is ∙ set_here xs t x y was)))
-    (λ (differs : k ≢ t). inr (differs, sym (set_there xs t k y differs) ∙ here)) (cases_eq k t)
 
 -- ---- the notes of one qTD change
 

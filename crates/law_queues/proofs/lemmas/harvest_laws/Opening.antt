@@ -1,8 +1,10 @@
 -- What is held back where an endpoint is opened, and where a transfer is given back.
-use Rattle.std.proofs.Common.{◌≡◌, ◌≢◌, ℕ, zero, suc, ◌*◌, ◌≤◌, true, List, [], ◌∷◌, ◌++◌, length, slice_get, slice_set, slice_index, Some, None, ap, refl, sym, subst, ◌∙◌, ⊎_elim, inl, inr, arith}
+use Rattle.std.proofs.Common.{◌≡◌, ◌≢◌, ℕ, ◌*◌, ◌≤◌, true, List, [], ◌∷◌, ◌++◌, length, slice_get, slice_set, slice_index, Some, None, ap, refl, sym, subst, ◌∙◌, ⊎_elim, arith}
 use Rattle.std.specs.Prelude.{◌⊎◌}
-use Rattle.std.proofs.lemmas.Bool.{cases_eq, false≢true}
+use Rattle.std.proofs.lemmas.Bool.{false≢true}
 use Rattle.std.proofs.lemmas.Option.{same_Some, slice_get_within}
+use Rattle.law_common.proofs.Lists.{nothing_at, push_which, push_there}
+use Rattle.law_queues.proofs.Common.{set_which}
 use Rattle.word_mem.specs.Memory.{Mem}
 use Rattle.law_structures.specs.lent_structures.Structures.{StructureSets}
 use Rattle.law_ring.specs.Hand.{Hand}
@@ -15,35 +17,11 @@ use Rattle.drv_table.specs.declared.content.Reserve.{Reserve}
 use Rattle.drv_table.specs.Opening.{opening}
 use Rattle.drv_table.specs.Accepting.{Offered, new_runs}
 use Rattle.drv_table.specs.Offers.{new_endpoint}
-use Rattle.law_driver.proofs.lemmas.run_owners.Released.{set_here, set_there}
 use Rattle.law_driver.specs.run_owners.Accepts.{Opens}
 use Rattle.law_queues.specs.told_endpoints.Steps.{Clears}
 use Rattle.law_driver_ring.specs.told_harvests.Held.{told_of}
 use Rattle.law_queues.specs.harvest_laws.Holds.{IsUnderWay, IsToCome, HoldsEach}
 use Rattle.law_queues.specs.harvest_laws.HeldLaws.{AreThere}
-
--- ---- one more at the end of a list
-
-pub push_which : {X : Type 0} (xs : List X) (x : X) (n : ℕ) (z : X) → slice_get (xs ++ x ∷ []) n ≡ Some z → (slice_get xs n ≡ Some z) ⊎ ((n ≡ length xs) × (z ≡ x))
-push_which [] x zero z here = inr (refl, sym (same_Some x z here))
-push_which [] x (suc n) z here = absurd cc
-push_which (y ∷ ys) x zero z here = inl here
-push_which (y ∷ ys) x (suc n) z here =
-    ⊎_elim (λ (was : slice_get ys n ≡ Some z). inl was) (λ (new : (n ≡ length ys) × (z ≡ x)). inr (ap suc new.0, new.1)) (push_which ys x n z here)
-
-pub push_stays : {X : Type 0} (xs : List X) (x : X) (n : ℕ) (z : X) → slice_get xs n ≡ Some z → slice_get (xs ++ x ∷ []) n ≡ Some z
-push_stays [] x n z here = absurd (not_there n here)
-  where
-    not_there : (i : ℕ) → slice_get [] i ≡ Some z → ⊥
-    not_there zero is = cc
-    not_there (suc i) is = cc
-push_stays (y ∷ ys) x zero z here = here
-push_stays (y ∷ ys) x (suc n) z here = push_stays ys x n z here
-
-pub set_which : {X : Type 0} (xs : List X) (t k : ℕ) (x y z : X) → slice_get xs t ≡ Some x → slice_get (slice_set xs t y) k ≡ Some z → ((k ≡ t) × (z ≡ y)) ⊎ ((k ≢ t) × (slice_get xs k ≡ Some z))
-set_which xs t k x y z was here =
-    ⊎_elim (λ (is : k ≡ t). inl (is, same_Some z y (sym here ∙ ap (slice_get (slice_set xs t y)) is ∙ set_here xs t x y was)))
-    (λ (differs : k ≢ t). inr (differs, sym (set_there xs t k y differs) ∙ here)) (cases_eq k t)
 
 -- ---- an endpoint is opened
 
@@ -70,7 +48,7 @@ module _ (d new : DriverContent) (x : Endpoint) (hand : Hand) (parts : Structure
     to_come = λ t y here waits kept other.
         subst (λ (ns : List QtdNote). IsToCome (note_at ns) y) (sym notes)
         (k.to_come t y (ap (λ (ts : List Transfer). slice_get ts t) (sym transfers) ∙ here) waits kept
-        (λ w there is. other w (ap (λ (xs : List Endpoint). slice_get xs y.endpoint) ends ∙ push_stays d.endpoints x y.endpoint w there) is));
+        (λ w there is. other w (ap (λ (xs : List Endpoint). slice_get xs y.endpoint) ends ∙ push_there d.endpoints x y.endpoint w there) is));
     within = λ t y here kept.
         subst (λ (ns : List QtdNote). told_of (note_at ns) y.first y.qtds ≤ y.most) (sym notes) (k.within t y (ap (λ (ts : List Transfer). slice_get ts t) (sym transfers) ∙ here) kept);
   }
@@ -107,10 +85,6 @@ return_holds d new t y hand parts held here told there ends transfers notes k = 
     which u z at = set_which d.transfers t u y (record y { released = true }) z here (ap (λ (ts : List Transfer). slice_get ts u) (sym transfers) ∙ at)
 
 -- ---- a driver that was just built
-
-nothing_at : {X : Type 0} (i : ℕ) (z : X) → slice_get [] i ≡ Some z → ⊥
-nothing_at zero z is = cc
-nothing_at (suc i) z is = cc
 
 pub opening_there : (n : ℕ) (room : Reserve) → AreThere (opening n room).driver
 opening_there n room = λ e t x here going next. absurd (nothing_at e x here)

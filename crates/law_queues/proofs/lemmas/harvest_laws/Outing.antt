@@ -1,10 +1,9 @@
 -- Which qTDs are out around a harvest.
-use Rattle.std.proofs.Common.{◌≡◌, ◌≢◌, ℕ, zero, suc, ◌+◌, ◌-◌, ◌*◌, ◌==◌, ◌&&◌, not, Bool, true, false, if◌then◌else◌, List, [], ◌∷◌, ◌++◌, drop, slice_get, slice_set, Option, Some, None, ap, refl, sym, ◌∙◌, ⊎_elim, inl, inr, arith}
-use Rattle.std.specs.Prelude.{◌⊎◌}
-use Rattle.std.proofs.lemmas.Bool.{eq-eqb}
+use Rattle.std.proofs.Common.{◌≡◌, ◌≢◌, ℕ, zero, suc, ◌+◌, ◌-◌, ◌*◌, ◌==◌, ◌&&◌, not, Bool, true, false, if◌then◌else◌, List, [], ◌∷◌, ◌++◌, drop, slice_get, slice_set, Option, Some, None, ap, refl, sym, ◌∙◌, ⊎_elim, arith}
 use Rattle.std.proofs.lemmas.Option.{same_Some}
 use Rattle.std.proofs.lemmas.List.{append_assoc}
-use Rattle.law_structures.proofs.lemmas.lent_structures.Names.{not_same}
+use Rattle.law_ring.proofs.Common.{among_either}
+use Rattle.law_queues.proofs.Common.{none_of, first_out, pieces_same, own_out}
 use Rattle.drv_table.specs.declared.content.Transfer.{Transfer}
 use Rattle.drv_table.specs.declared.content.Command.{Command}
 use Rattle.claims_driver.specs.Owners.{NoteRuns}
@@ -14,30 +13,13 @@ use Rattle.law_queues.specs.harvest_laws.Outs.{IsOutEarlier, SplitsOut}
 
 -- ---- what it depends on
 
-pub pieces_alike : (note now : ℕ → NoteRuns) (b i : ℕ) → ((c : ℕ) → now c ≡ note c) → pieces_from now b i ≡ pieces_from note b i
-pieces_alike note now b zero same = refl
-pieces_alike note now b (suc i) same =
-    ap (λ (xs : List ℕ). 32 * b ∷ xs) (ap (λ (z : NoteRuns). pieces_from now z.next i) (same b) ∙ pieces_alike note now (note b).next i same)
-
 pub out_alike : (note now : ℕ → NoteRuns) (e : ℕ) (c : Option Command) (made : ℕ) (ts : List Transfer) → ((b : ℕ) → now b ≡ note b) → out_of now e c made ts ≡ out_of note e c made ts
 out_alike note now e c made [] same = refl
 out_alike note now e c made (y ∷ ys) same =
-    ap (λ (xs : List ℕ). (if y.endpoint == e && not y.released then drop (if_last ys (unpublished c made y.qtds) + passed y.reported) xs else []) ++ out_of now e c made ys) (pieces_alike note now y.place y.left same)
+    ap (λ (xs : List ℕ). (if y.endpoint == e && not y.released then drop (if_last ys (unpublished c made y.qtds) + passed y.reported) xs else []) ++ out_of now e c made ys) (pieces_same note now y.place y.left same)
     ∙ ap (λ (xs : List ℕ). out_of_transfer note e (if_last ys (unpublished c made y.qtds)) y ++ xs) (out_alike note now e c made ys same)
 
--- ---- no command is unfinished
-
-all_out : (ys : List Transfer) (made n : ℕ) → if_last ys (unpublished None made n) ≡ 0
-all_out [] made n = refl
-all_out (y ∷ ys) made n = refl
-
-first_out : (note : ℕ → NoteRuns) (e made : ℕ) (y : Transfer) (ys : List Transfer) → out_of note e None made (y ∷ ys) ≡ out_of_transfer note e 0 y ++ out_of note e None made ys
-first_out note e made y ys = ap (λ (i : ℕ). out_of_transfer note e i y ++ out_of note e None made ys) (all_out ys made y.qtds)
-
 -- ---- another endpoint
-
-none_of : (note : ℕ → NoteRuns) (e : ℕ) (y : Transfer) → y.endpoint ≢ e → out_of_transfer note e 0 y ≡ []
-none_of note e y differs = ap (λ (b : Bool). if b && not y.released then drop (0 + passed y.reported) (pieces_from note y.place y.left) else []) (not_same y.endpoint e differs)
 
 pub out_beside : (note : ℕ → NoteRuns) (e t made : ℕ) (ts : List Transfer) (y z : Transfer) → slice_get ts t ≡ Some y → y.endpoint ≢ e → z.endpoint ≢ e → out_of note e None made (slice_set ts t z) ≡ out_of note e None made ts
 out_beside note e t made [] y z here was now = refl
@@ -49,28 +31,20 @@ out_beside note e (suc t) made (a ∷ ts) y z here was now =
 
 -- ---- the one that is read
 
-mine : (note : ℕ → NoteRuns) (e : ℕ) (y : Transfer) → y.endpoint ≡ e → y.released ≡ false → out_of_transfer note e 0 y ≡ drop (0 + passed y.reported) (pieces_from note y.place y.left)
-mine note e y at kept =
-    ap (λ (b : Bool). if b && not y.released then drop (0 + passed y.reported) (pieces_from note y.place y.left) else []) (eq-eqb y.endpoint e at)
-    ∙ ap (λ (b : Bool). if true && not b then drop (0 + passed y.reported) (pieces_from note y.place y.left) else []) kept
-
 it_is : (note : ℕ → NoteRuns) (e l : ℕ) (y : Transfer) → y.endpoint ≡ e → y.released ≡ false → y.reported ≡ false → y.left ≡ suc l → out_of_transfer note e 0 y ≡ 32 * y.place ∷ pieces_from note (note y.place).next l
 it_is note e l y at kept waits left =
-    mine note e y at kept ∙ ap (λ (b : Bool). drop (0 + passed b) (pieces_from note y.place y.left)) waits ∙ ap (pieces_from note y.place) left
+    own_out note e y at kept ∙ ap (λ (b : Bool). drop (0 + passed b) (pieces_from note y.place y.left)) waits
+    ∙ ap (pieces_from note y.place) left
 
 pub goes_on_out : (note : ℕ → NoteRuns) (e l : ℕ) (y : Transfer) → y.endpoint ≡ e → y.released ≡ false → y.reported ≡ false → y.left ≡ suc l
     → out_of_transfer note e 0 (record y { place = (note y.place).next; left = y.left - 1 }) ≡ pieces_from note (note y.place).next l
 goes_on_out note e l y at kept waits left =
-    mine note e (record y { place = (note y.place).next; left = y.left - 1 }) at kept ∙ ap (λ (b : Bool). drop (0 + passed b) (pieces_from note (note y.place).next (y.left - 1))) waits
+    own_out note e (record y { place = (note y.place).next; left = y.left - 1 }) at kept
+    ∙ ap (λ (b : Bool). drop (0 + passed b) (pieces_from note (note y.place).next (y.left - 1))) waits
     ∙ ap (pieces_from note (note y.place).next) (let e : y.left - 1 ≡ l = omega (arith, left) in e)
 
 pub ends_out : (note : ℕ → NoteRuns) (e l : ℕ) (y : Transfer) → y.endpoint ≡ e → y.released ≡ false → y.left ≡ suc l → out_of_transfer note e 0 (record y { reported = true }) ≡ pieces_from note (note y.place).next l
-ends_out note e l y at kept left = mine note e (record y { reported = true }) at kept ∙ ap (λ (i : ℕ). drop 1 (pieces_from note y.place i)) left
-
-among_either : (p : ℕ) (xs ys : List ℕ) → IsAmong p (xs ++ ys) → IsAmong p xs ⊎ IsAmong p ys
-among_either p [] ys k = inr k
-among_either p (x ∷ xs) ys (inl is) = inl (inl is)
-among_either p (x ∷ xs) ys (inr k) = ⊎_elim (λ (front : IsAmong p xs). inl (inr front)) (λ (back : IsAmong p ys). inr back) (among_either p xs ys k)
+ends_out note e l y at kept left = own_out note e (record y { reported = true }) at kept ∙ ap (λ (i : ℕ). drop 1 (pieces_from note y.place i)) left
 
 pub out_splits : (note : ℕ → NoteRuns) (e t made l : ℕ) (ts : List Transfer) (y : Transfer) → slice_get ts t ≡ Some y → y.endpoint ≡ e → y.released ≡ false → y.reported ≡ false → y.left ≡ suc l → SplitsOut note e t made ts y l
 out_splits note e t made l [] y here at kept waits left = absurd cc

@@ -1,12 +1,14 @@
 -- Places along the qTDs of a transfer, and notes of some of them.
 use Rattle.std.proofs.Common.{◌≡◌, ◌≢◌, ℕ, zero, suc, ◌+◌, ◌*◌, ◌≤◌, ◌<◌, List, [], ◌∷◌, ◌++◌, ap, refl, sym, subst, ◌∙◌, ⊎_elim, inl, inr, arith}
 use Rattle.std.proofs.lemmas.Bool.{cases_eq}
+use Rattle.law_controller.proofs.Common.{lower_one}
+use Rattle.law_queues.proofs.Common.{among_left}
 use Rattle.mem_runs.specs.declared.slots.Slot.{Slot}
 use Rattle.law_structures.specs.lent_structures.Structures.{Structures}
 use Rattle.drv_table.specs.declared.content.QtdNote.{QtdNote}
 use Rattle.drv_table.specs.Harvests.{note_at}
 use Rattle.claims_driver.specs.Owners.{Owner, Element, ArePieces, note_in, runs_of_note}
-use Rattle.law_ring.specs.Order.{AreAfter, IsSorted, IsAmong}
+use Rattle.law_ring.specs.Order.{IsSorted, IsAmong}
 use Rattle.law_driver.specs.chained_transfers.Chains.{piece_at}
 use Rattle.law_driver.specs.chained_transfers.Out.{pieces_from}
 use Rattle.law_driver_ring.specs.told_harvests.Held.{AreUnmoved, told_of, IsOneFrom, IsRead, AreRead, NotesMoved}
@@ -37,16 +39,6 @@ among_pieces notes b zero c k = k
 among_pieces notes b (suc i) c (inl is) = inl (ap (λ (j : ℕ). 32 * j) is)
 among_pieces notes b (suc i) c (inr k) = inr (among_pieces notes (note_at notes b).next i c k)
 
-pub among_front : (a : ℕ) (xs ys : List ℕ) → IsAmong a xs → IsAmong a (xs ++ ys)
-among_front a [] ys k = absurd k
-among_front a (x ∷ xs) ys (inl is) = inl is
-among_front a (x ∷ xs) ys (inr k) = inr (among_front a xs ys k)
-
-after_among : (order : ℕ → ℕ) (e a : ℕ) (bs : List ℕ) → AreAfter order e bs → IsAmong a bs → order e < order a
-after_among order e a [] k among = absurd among
-after_among order e a (b ∷ bs) k (inl is) = let less = k.0 in let same = ap order is in omega (arith, less, same)
-after_among order e a (b ∷ bs) k (inr among) = after_among order e a bs k.1 among
-
 sorted_from : (order : ℕ → ℕ) (xs ys : List ℕ) → IsSorted order (xs ++ ys) → IsSorted order ys
 sorted_from order [] ys k = k
 sorted_from order (x ∷ xs) ys k = sorted_from order xs ys k.1
@@ -54,8 +46,9 @@ sorted_from order (x ∷ xs) ys k = sorted_from order xs ys k.1
 -- where qTDs are sorted none stands twice
 pub not_again : (order : ℕ → ℕ) (passed rest : List ℕ) (notes : List QtdNote) (c b i : ℕ) → IsSorted order (passed ++ 32 * c ∷ (pieces_from (note_in notes) b i ++ rest)) → IsOneFrom (note_at notes) b i c → ⊥
 not_again order passed rest notes c b i sorted one =
-    let less = after_among order (32 * c) (32 * c) (pieces_from (note_in notes) b i ++ rest) (sorted_from order passed (32 * c ∷ (pieces_from (note_in notes) b i ++ rest)) sorted).0
-    (among_front (32 * c) (pieces_from (note_in notes) b i) rest (among_pieces notes b i c one)) in
+    let less = lower_one order (32 * c) (32 * c) (pieces_from (note_in notes) b i ++ rest)
+    (sorted_from order passed (32 * c ∷ (pieces_from (note_in notes) b i ++ rest)) sorted).0
+    (among_left (32 * c) (pieces_from (note_in notes) b i) rest (among_pieces notes b i c one)) in
     omega (arith, less)
 
 -- ---- notes of other blocks

@@ -1,7 +1,8 @@
 -- The row of a harvest.
-use Rattle.std.proofs.Common.{◌≡◌, ◌≢◌, ℕ, zero, suc, ◌-◌, ◌*◌, ◌<◌, ◌≤◌, ◌==◌, ◌&&◌, ◌||◌, not, nat_eq, nat_le, Bool, true, false, if◌then◌else◌, List, [], slice_get, length, Option, Some, None, option_map, ap, refl, sym, subst, ◌∙◌, inl, arith}
-use Rattle.std.proofs.lemmas.Bool.{false≢true, eqb-true}
+use Rattle.std.proofs.Common.{◌≡◌, ◌≢◌, ℕ, zero, suc, ◌-◌, ◌*◌, ◌≤◌, ◌||◌, nat_le, Bool, true, false, if◌then◌else◌, List, [], slice_get, Some, None, option_map, ap, refl, sym, subst, ◌∙◌, inl, arith}
 use Rattle.std.proofs.lemmas.Option.{same_Some}
+use Rattle.law_driver.proofs.Common.{waits_is, same_endpoint}
+use Rattle.law_queues.proofs.Common.{none_unpublished, same_piece, after_is, all_read}
 use Rattle.mem_runs.specs.Book.{slot_of}
 use Rattle.law_structures.specs.lent_structures.Structures.{Structures, StructureSets, Tells}
 use Rattle.law_ring.specs.QueueParts.{IsQueuePart}
@@ -14,15 +15,14 @@ use Rattle.usb_base.specs.declared.packets.Way.TheVariants as ways
 use Rattle.drv_table.specs.declared.content.Endpoint.{Endpoint}
 use Rattle.drv_table.specs.declared.content.Transfer.{Transfer}
 use Rattle.drv_table.specs.declared.content.QtdNote.{QtdNote}
-use Rattle.drv_table.specs.declared.content.Command.{Command}
 use Rattle.drv_table.specs.declared.content.Sort.{Sort}
 use Rattle.drv_table.specs.declared.rows.DriverRow.TheVariants as rows
 use Rattle.drv_table.specs.declared.rows.Found.{Found}
 use Rattle.drv_table.specs.declared.rows.Found.TheVariants as founds
-use Rattle.drv_table.specs.DriverContent.{DriverContent, waits_for}
+use Rattle.drv_table.specs.DriverContent.{DriverContent}
 use Rattle.drv_table.specs.Harvests.{note_at, token_in, moved_of, halt_of, done_of, ends_by}
 use Rattle.drv_table.specs.Parts.{Parts}
-use Rattle.drv_table.specs.Harvesting.{served, after_harvest}
+use Rattle.drv_table.specs.Harvesting.{served}
 use Rattle.drv_table.specs.Rows.{after_driver_row}
 use Rattle.claims_driver.specs.Owners.{Element, QueueHead, IsPlaced, is_descriptor, runs_of_endpoint, runs_of_transfer, note_in}
 use Rattle.claims_driver.specs.Leaving.{HasOwners}
@@ -32,7 +32,7 @@ use Rattle.law_driver.specs.chained_transfers.Chains.{piece_at}
 use Rattle.law_driver.specs.chained_transfers.Turns.{IsAtPlace, Turn, turn_of, turn_in, AreReportedTo}
 use Rattle.claims_driver.specs.Scripts.{IsKindOf}
 use Rattle.law_driver.specs.chained_transfers.AsynchronousTurns.{AsynchronousTakesTurns}
-use Rattle.law_driver.specs.chained_transfers.Out.{out_now, unpublished}
+use Rattle.law_driver.specs.chained_transfers.Out.{out_now}
 use Rattle.law_driver.proofs.lemmas.chained_transfers.BulkAndControl.{not_iso}
 use Rattle.law_driver.proofs.lemmas.chained_transfers.Ways.{found_by, moves_queued}
 use Rattle.law_driver_ring.specs.told_harvests.Held.{IsOneFrom, IsRead, AreRead}
@@ -41,7 +41,7 @@ use Rattle.law_queues.specs.harvest_laws.RowLaws.{IsReadNext}
 use Rattle.law_queues.specs.harvest_laws.Outs.{IsOutEarlier}
 use Rattle.law_queues.proofs.lemmas.harvest_laws.Places.{one_later, owner_is}
 use Rattle.law_controller.specs.controlled_streams.Reported.{IsReported}
-use Rattle.law_driver_ring.specs.fed_queues.Fed.{AreFed, IsPieceFed, unpublished_of, is_request}
+use Rattle.law_driver_ring.specs.fed_queues.Fed.{AreFed, IsPieceFed, is_request}
 use Rattle.law_driver_ring.proofs.lemmas.fed_queues.Sized.{told_fed}
 use Rattle.law_queues.specs.harvest_laws.Told.{ToldStands}
 use Rattle.law_queues.specs.harvest_laws.ToldLaws.{HarvestReports}
@@ -52,34 +52,8 @@ use Rattle.law_driver.proofs.lemmas.endpoint_lives.Lives.{none_told}
 use Rattle.law_driver.proofs.lemmas.chained_transfers.Staying.{told_stands_alive}
 use Rattle.law_driver.proofs.lemmas.chained_transfers.Holding.{stands_unreleased}
 
-waits_by : (a b : Bool) → (a && not b) ≡ true → (a ≡ true) × (b ≡ false)
-waits_by true false is = (refl, refl)
-waits_by true true is = absurd (false≢true is)
-waits_by false b is = absurd (false≢true is)
-
-waits_is : (e : ℕ) (z : Transfer) → waits_for e z ≡ true → (z.endpoint ≡ e) × (z.reported ≡ false)
-waits_is e z is = let both = waits_by (z.endpoint == e) z.reported is in (eqb-true z.endpoint e both.0, both.1)
-
--- each qTD of a transfer can be read
-all_read : (part : Structures) (notes : List QtdNote) (b n : ℕ) → ((i : ℕ) → i < n → IsRead part (note_at notes (piece_at (note_in notes) b i)) (piece_at (note_in notes) b i)) → AreRead part (note_at notes) b n
-all_read part notes b zero each = tt
-all_read part notes b (suc n) each = (each 0 (omega arith), all_read part notes (note_at notes b).next n (λ i below. each (suc i) (omega (arith, below))))
-
 fed_read : (sort : Sort) (part : Structures) (note : QtdNote) (b end : ℕ) → IsPieceFed sort part note b end → IsRead part note b
 fed_read sort part note b end k = record { qtd = k.qtd; here = k.here; long = k.long; buffer = k.buffer; places = k.places }
-
-none_unpublished : (d : DriverContent) (t : ℕ) (y : Transfer) → d.command ≡ None → unpublished_of d t y ≡ 0
-none_unpublished d t y idle = by_newest (nat_eq (suc t) (length d.transfers))
-  where
-    by_newest : (b : Bool) → (if b then unpublished d.command d.made y.qtds else 0) ≡ 0
-    by_newest true = ap (λ (c : Option Command). unpublished c d.made y.qtds) idle
-    by_newest false = refl
-
-same_element : (t u : ℕ) → Element t ≡ Element u → t ≡ u
-same_element t u is = cc
-
-same_head : (e k : ℕ) → QueueHead e ≡ QueueHead k → e ≡ k
-same_head e k is = cc
 
 -- a bulk endpoint takes no requests
 no_request : (way : Way) (kind : EpKind) → IsKindOf way kind → kind ≡ kinds.Bulk → is_request (sort_by way) ≡ false
@@ -134,12 +108,14 @@ module _ (p : Parts) (e t : ℕ) (found : Found) (due : IsHarvestDue p e t found
     waits = next_waits;
     unreleased = kept;
     places = λ u z there waits still. turns.turns.places u z there still;
-    others = λ u z there waits still differs one. differs (same_element u t (sym (pieces_of u z there still due.transfer.place one) ∙ pieces_of t due.transfer due.there held due.transfer.place its_place));
+    others = λ u z there waits still differs one. differs (same_piece u t (sym (pieces_of u z there still due.transfer.place one) ∙ pieces_of t due.transfer due.there held due.transfer.place its_place));
   }
 
   pub queue_alone : (k : ℕ) (z : Endpoint) → slice_get p.driver.endpoints k ≡ Some z → z.gone ≡ false → z.queue ≡ due.endpoint.queue → k ≡ e
   queue_alone k z there alone same =
-      same_head k e (sym (placed k z there alone).owned ∙ ap owners.owner same ∙ (placed e due.endpoint due.here (told_stands_alive due.endpoint (turns.asynchronous.endpoints e due.endpoint due.here) goes)).owned)
+      same_endpoint k e (sym (placed k z there alone).owned ∙ ap owners.owner same
+      ∙ (placed e due.endpoint due.here (told_stands_alive due.endpoint (turns.asynchronous.endpoints e due.endpoint due.here)
+      goes)).owned)
     where
       placed : (i : ℕ) (w : Endpoint) → slice_get p.driver.endpoints i ≡ Some w → w.gone ≡ false → IsPlaced (slot_of p.driver.book.slots) owners.owner w.queue (QueueHead i)
       placed i w here alone =
@@ -173,10 +149,6 @@ module _ (p : Parts) (e t : ℕ) (found : Found) (due : IsHarvestDue p e t found
       by_active true is =
           absurd (differs (due.tells ∙ found_by p.driver p.memory due.transfer due.transfer.sort its_sort
           ∙ ap (λ (b : Bool). if b then founds.Active else if (token_in p.memory due.transfer.place).halted then founds.Ended (moved_of (note_at p.driver.notes due.transfer.place).told (token_in p.memory due.transfer.place).total) (halt_of (token_in p.memory due.transfer.place)) else done_of (ends_by due.transfer.sort (nat_le due.transfer.left 1) (token_in p.memory due.transfer.place).total) (moved_of (note_at p.driver.notes due.transfer.place).told (token_in p.memory due.transfer.place).total)) is))
-
-pub after_is : (p : Parts) (e t : ℕ) (found : Found) (due : IsHarvestDue p e t found) → (after_driver_row (rows.Harvest e t found) p).driver ≡ after_harvest p.driver p.memory e t found (Some due.endpoint) (Some due.transfer)
-after_is p e t found due =
-    ap (λ (o : Option Endpoint). after_harvest p.driver p.memory e t found o (slice_get p.driver.transfers t)) due.here ∙ ap (after_harvest p.driver p.memory e t found (Some due.endpoint)) due.there
 
 pub harvest_row_is_told : (order : ℕ → ℕ) (p : Parts) (parts : StructureSets) (hand : Hand) (e t : ℕ) (found : Found) (acc : List (List ℕ)) (reported : ℕ → List ℕ) → (due : IsHarvestDue p e t found) → found ≢ founds.Active
     → HasOwners p.driver → AsynchronousTakesTurns p.driver → due.endpoint.desc.kind ≡ kinds.Bulk → AreFed p.driver parts → Tells p.memory parts → IsQueuePart (32 * due.endpoint.queue) (parts (32 * due.endpoint.queue))

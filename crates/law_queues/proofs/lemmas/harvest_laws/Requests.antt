@@ -3,6 +3,9 @@ use Rattle.std.proofs.Common.{◌≡◌, ◌≢◌, ℕ, zero, suc, ◌-◌, ◌
 use Rattle.std.specs.Prelude.{◌⊎◌}
 use Rattle.std.proofs.lemmas.Bool.{cases_eq, false≢true}
 use Rattle.std.proofs.lemmas.Option.{same_Some}
+use Rattle.law_common.proofs.Lists.{set_here, set_there}
+use Rattle.law_driver.proofs.Common.{waits_is}
+use Rattle.law_queues.proofs.Common.{set_which, after_is}
 use Rattle.usb_base.specs.declared.endpoints.EpName.{EpName}
 use Rattle.usb_base.specs.declared.endpoints.EndCause.{EndCause}
 use Rattle.usb_base.specs.declared.endpoints.EndCause.TheVariants as causes
@@ -30,11 +33,9 @@ use Rattle.drv_table.specs.Rows.{after_driver_row}
 use Rattle.claims_driver.specs.Owners.{note_in}
 use Rattle.claims_driver.specs.Leaving.{HasOwners}
 use Rattle.law_driver.specs.run_owners.Due.{IsHarvestDue}
-use Rattle.law_driver.proofs.lemmas.run_owners.Released.{set_here, set_there}
 use Rattle.law_driver.specs.chained_transfers.AsynchronousTurns.{AsynchronousTakesTurns}
 use Rattle.law_driver.specs.chained_transfers.Out.{out_of}
 use Rattle.law_driver.proofs.lemmas.chained_transfers.Ways.{found_by}
-use Rattle.law_driver.proofs.lemmas.chained_transfers.Harvesting.{waits_is}
 use Rattle.law_queues.specs.told_endpoints.Telling.{named_of, named_in, TellsEach}
 use Rattle.law_queues.proofs.lemmas.told_endpoints.Tellings.{requests_add_no_stream}
 use Rattle.law_driver_ring.specs.told_harvests.Held.{told_of, NotesMoved}
@@ -46,12 +47,11 @@ use Rattle.law_queues.specs.harvest_laws.ReadLaws.{LeavesStreams}
 use Rattle.law_queues.specs.harvest_laws.Told.{ToldStands}
 use Rattle.law_queues.proofs.lemmas.harvest_laws.Places.{runs_noted, told_noted}
 use Rattle.law_queues.proofs.lemmas.harvest_laws.Outing.{out_beside}
-use Rattle.law_queues.proofs.lemmas.harvest_laws.Opening.{set_which}
 use Rattle.law_queues.proofs.lemmas.harvest_laws.Holding.{under_way_beside, to_come_beside}
 use Rattle.law_queues.proofs.lemmas.harvest_laws.RowRows.{names_at}
 use Rattle.law_queues.proofs.lemmas.harvest_laws.RowHarvesting.{out_new}
 use Rattle.law_queues.proofs.lemmas.harvest_laws.Standing.{alike_is_told}
-use Rattle.law_queues.proofs.lemmas.harvest_laws.ReadRows.{read_next, its_sort, after_is}
+use Rattle.law_queues.proofs.lemmas.harvest_laws.ReadRows.{read_next, its_sort}
 
 -- ---- the requests that wait behind a stalled one
 

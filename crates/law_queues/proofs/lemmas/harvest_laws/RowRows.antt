@@ -1,9 +1,12 @@
 -- The row of a harvest.
 use Rattle.std.proofs.Common.{◌≡◌, ◌≢◌, ℕ, zero, suc, ◌+◌, ◌-◌, ◌*◌, ◌≤◌, ◌==◌, ◌&&◌, ◌||◌, not, nat_eq, nat_le, Bool, true, false, if◌then◌else◌, List, [], ◌∷◌, ◌++◌, length, take, drop, position, slice_get, slice_set, Option, Some, None, ap, refl, sym, subst, ◌∙◌, ⊎_elim, arith}
 use Rattle.std.specs.Option.{option_map}
-use Rattle.std.proofs.lemmas.Bool.{cases_eq, eq-eqb, eqb-true, false≢true, leb-false}
+use Rattle.std.proofs.lemmas.Bool.{cases_eq, eq-eqb, leb-false}
 use Rattle.std.proofs.lemmas.Option.{same_Some, get_or_from_slice_get}
 use Rattle.std.proofs.lemmas.List.Quantifiers.{position-Some}
+use Rattle.law_driver.proofs.Common.{waits_is}
+use Rattle.law_common.proofs.Numbers.{other_number}
+use Rattle.law_common.proofs.Lists.{set_here, set_there}
 use Rattle.usb_base.specs.declared.endpoints.EndCause.{EndCause}
 use Rattle.usb_base.specs.declared.endpoints.EndCause.TheVariants as causes
 use Rattle.usb_base.specs.declared.packets.EpKind.{EpKind}
@@ -13,7 +16,6 @@ use Rattle.usb_base.specs.declared.reports.What.{What}
 use Rattle.usb_base.specs.declared.reports.What.TheVariants as lines
 use Rattle.word_mem.specs.Memory.{Mem}
 use Rattle.law_structures.specs.lent_structures.Structures.{StructureSets}
-use Rattle.law_structures.proofs.lemmas.lent_structures.Names.{not_same}
 use Rattle.law_ring.specs.Hand.{Hand}
 use Rattle.claims_report.specs.Reports.{is_refusal, is_end}
 use Rattle.claims_report.specs.Streams.{has_stream}
@@ -29,7 +31,6 @@ use Rattle.drv_table.specs.Harvests.{note_at, noted, token_in, moved_of, moved_b
 use Rattle.drv_table.specs.Releases.{ended_by_cancel}
 use Rattle.drv_table.specs.Harvesting.{found_of, served, moved_on, told_with, goes_on as goes_on_with, after_end, harvested_as, after_harvest}
 use Rattle.claims_driver.specs.Owners.{note_in}
-use Rattle.law_driver.proofs.lemmas.run_owners.Released.{set_here, set_there}
 use Rattle.law_driver.specs.chained_transfers.Turns.{IsAtPlace}
 use Rattle.law_driver.proofs.lemmas.chained_transfers.Ways.{found_by}
 use Rattle.law_queues.specs.told_endpoints.Telling.{named_of, named_in, TellsEach}
@@ -45,14 +46,6 @@ use Rattle.law_queues.proofs.lemmas.harvest_laws.Places.{runs_noted, told_noted,
 use Rattle.law_queues.proofs.lemmas.harvest_laws.Holding.{holds_the_same, moved_holds, ended_holds, done_more, rest_less}
 
 -- ---- the next one that waits
-
-waits_by : (a b : Bool) → (a && not b) ≡ true → (a ≡ true) × (b ≡ false)
-waits_by true false is = (refl, refl)
-waits_by true true is = absurd (false≢true is)
-waits_by false b is = absurd (false≢true is)
-
-waits_is : (e : ℕ) (z : Transfer) → waits_for e z ≡ true → (z.endpoint ≡ e) × (z.reported ≡ false)
-waits_is e z is = let both = waits_by (z.endpoint == e) z.reported is in (eqb-true z.endpoint e both.0, both.1)
 
 got_dropped : (ts : List Transfer) (n i : ℕ) → slice_get (drop n ts) i ≡ slice_get ts (n + i)
 got_dropped ts zero i = ap (slice_get ts) (let e : i ≡ 0 + i = omega arith in e)
@@ -79,13 +72,13 @@ next_waits_for ts e t u z is there =
 pub grown_at : (e : ℕ) (more : List ℕ) (held : ℕ → List ℕ) → Grows e more held (λ f. if f == e then held f ++ more else held f)
 grown_at e more held = record {
   here = ap (λ (b : Bool). if b then held e ++ more else held e) (eq-eqb e e refl);
-  beside = λ f differs. ap (λ (b : Bool). if b then held f ++ more else held f) (not_same f e differs);
+  beside = λ f differs. ap (λ (b : Bool). if b then held f ++ more else held f) (other_number f e differs);
 }
 
 pub cleared_at : (e : ℕ) (held : ℕ → List ℕ) → Clears e held (λ f. if f == e then [] else held f)
 cleared_at e held = record {
   here = ap (λ (b : Bool). if b then [] else held e) (eq-eqb e e refl);
-  beside = λ f differs. ap (λ (b : Bool). if b then [] else held f) (not_same f e differs);
+  beside = λ f differs. ap (λ (b : Bool). if b then [] else held f) (other_number f e differs);
 }
 
 pub names_at : (xs : List Endpoint) (e : ℕ) (x w : Endpoint) → slice_get xs e ≡ Some x → NamesAt e (named_of w) (named_in xs) (named_in (slice_set xs e w))

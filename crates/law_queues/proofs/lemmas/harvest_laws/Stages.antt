@@ -3,6 +3,7 @@ use Rattle.std.proofs.Common.{◌≡◌, ◌≢◌, ℕ, zero, suc, ◌+◌, ◌
 use Rattle.std.specs.List.{range_with_len}
 use Rattle.std.proofs.Math.Nat.{suc-mul}
 use Rattle.std.proofs.lemmas.List.{get_or-set_same, length-set}
+use Rattle.law_common.proofs.Lists.{next_of}
 use Rattle.usb_base.specs.declared.packets.Way.{Way}
 use Rattle.drv_table.specs.declared.content.QtdNote.{QtdNote}
 use Rattle.drv_table.specs.declared.content.Stage.{Stage}
@@ -14,12 +15,6 @@ use Rattle.law_driver.proofs.lemmas.run_owners.Chains.{notes_apart}
 use Rattle.law_driver.specs.chained_transfers.Bulk.{stage_by}
 use Rattle.law_driver.proofs.lemmas.chained_transfers.Ways.{stage_told}
 use Rattle.law_driver_ring.specs.told_harvests.Held.{AreUnmoved, told_of}
-
-next_of : (qtds : List ℕ) (i : ℕ) → get_or (get_or qtds 0 0 ∷ drop 1 qtds) i 0 ≡ get_or qtds i 0
-next_of [] zero = refl
-next_of [] (suc i) = refl
-next_of (q ∷ qtds) zero = refl
-next_of (q ∷ qtds) (suc i) = refl
 
 -- the blocks of the qTDs are among the notes, and no two of them are one
 pub record AreBlocks (notes : List QtdNote) (ss : List Stage) (b : ℕ) (qtds : List ℕ) : Type 0 where

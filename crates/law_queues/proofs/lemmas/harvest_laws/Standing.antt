@@ -1,6 +1,8 @@
 -- What is told of each queue where structures change, or the driver's content in other ways.
-use Rattle.std.proofs.Common.{◌≡◌, ◌≢◌, ℕ, zero, suc, ◌-◌, ◌*◌, Bool, true, List, [], ◌∷◌, ◌++◌, length, slice_get, slice_set, Option, Some, None, ap, sym, subst, ◌∙◌, ⊎_elim, arith}
+use Rattle.std.proofs.Common.{◌≡◌, ◌≢◌, ℕ, ◌-◌, ◌*◌, Bool, true, List, [], ◌∷◌, ◌++◌, length, slice_get, slice_set, Option, Some, None, ap, sym, subst, ◌∙◌, ⊎_elim, arith}
 use Rattle.std.proofs.lemmas.Bool.{cases_eq}
+use Rattle.law_common.proofs.Lists.{nothing_at}
+use Rattle.law_queues.proofs.Common.{same_queue}
 use Rattle.usb_base.specs.declared.packets.Ask.{Ask}
 use Rattle.usb_base.specs.declared.packets.Reply.{Reply}
 use Rattle.usb_base.specs.declared.reports.Report.{Report}
@@ -34,10 +36,6 @@ use Rattle.law_controller.specs.controlled_streams.Kept.{KeepsEach}
 use Rattle.law_queues.specs.harvest_laws.Told.{ToldStands}
 use Rattle.law_queues.specs.harvest_laws.ToldLaws.{SparesDone, IsAlike}
 use Rattle.law_driver_ring.specs.fed_queues.Places.{IsThere}
-
-nothing_at : {X : Type 0} (i : ℕ) (z : X) → slice_get [] i ≡ Some z → ⊥
-nothing_at zero z is = cc
-nothing_at (suc i) z is = cc
 
 pub new_is_told : (n : ℕ) (room : Reserve) (hand : Hand) (parts : StructureSets) (reported : ℕ → List ℕ) → ToldStands (opening n room).driver hand parts reported
 new_is_told n room hand parts reported = record {
@@ -99,10 +97,6 @@ alike_is_told d new hand parts reported a met opens k = record {
 queue_in : Option Command → ℕ
 queue_in (Some (unfinished.Open b)) = b
 queue_in _ = 0
-
-same_queue : (b c : ℕ) → Some (unfinished.Open b) ≡ Some (unfinished.Open c) → b ≡ c
-unfolding queue_in
-same_queue b c is = ap queue_in is
 
 pub met_is_told : (d new : DriverContent) (hand : Hand) (parts : StructureSets) (reported now : ℕ → List ℕ) (b : ℕ) → IsAlike d new → d.command ≡ Some (unfinished.Open b) → new.command ≡ None
     → now (32 * b) ≡ [] → ((k : ℕ) → k ≢ 32 * b → now k ≡ reported k) → ToldStands d hand parts reported → ToldStands new hand parts now

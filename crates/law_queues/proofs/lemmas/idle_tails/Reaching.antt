@@ -2,6 +2,9 @@
 use Rattle.std.proofs.Common.{◌≡◌, ◌≢◌, ℕ, suc, ◌+◌, ◌-◌, ◌*◌, ◌<◌, ◌≤◌, ◌==◌, ◌&&◌, ◌||◌, not, Bool, true, false, if◌then◌else◌, List, length, slice_get, Some, None, option_map, ap, refl, sym, subst, ◌∙◌, ⊎_elim, arith}
 use Rattle.std.specs.Prelude.{nat_eq}
 use Rattle.std.proofs.lemmas.Bool.{cases_eq, cases_lt, true≢false}
+use Rattle.law_driver_ring.proofs.Common.{lent_slot}
+use Rattle.law_queues.proofs.Common.{piece_more}
+use Rattle.law_driver.proofs.Common.{piece_next}
 use Rattle.link_words.specs.declared.fields.ShortLink.{ShortLink}
 use Rattle.link_words.specs.declared.kinds.QtdLink.{QtdLink}
 use Rattle.link_words.specs.declared.kinds.QtdLink.TheVariants as qtd_links
@@ -9,8 +12,6 @@ use Rattle.link_words.specs.Links.{qtd_link_of}
 use Rattle.qh_qtd.specs.declared.qtd.Qtd.{Qtd}
 use Rattle.qh_qtd.specs.declared.queue_head.Qh.{Qh}
 use Rattle.mem_runs.specs.Book.{slot_of}
-use Rattle.mem_runs.specs.declared.slots.Slot.{Slot}
-use Rattle.mem_runs.specs.declared.slots.Slot.TheVariants.{Empty}
 use Rattle.hc_copy.specs.Visits.{next_pointer}
 use Rattle.drv_table.specs.declared.content.Endpoint.{Endpoint}
 use Rattle.drv_table.specs.declared.content.Transfer.{Transfer}
@@ -24,7 +25,7 @@ use Rattle.law_driver.specs.chained_transfers.Chains.{piece_at}
 use Rattle.law_driver.specs.chained_transfers.AsynchronousTurns.{AsynchronousTakesTurns}
 use Rattle.law_driver.proofs.lemmas.chained_transfers.BulkAndControl.{not_iso}
 use Rattle.law_driver.specs.chained_transfers.Turns.{IsAtPlace}
-use Rattle.claims_driver.specs.LentRuns.{AreLent, IsLent as IsLentSlot}
+use Rattle.claims_driver.specs.LentRuns.{AreLent}
 use Rattle.law_driver.proofs.lemmas.lent_runs.Laws.{all_are_lent_between_commands}
 use Rattle.law_structures.specs.lent_structures.Structures.{QueueHead, Element, Structures, StructureSets}
 use Rattle.law_structures.specs.lent_structures.Sound.{IsElement, LeadsOn, IsSoundQueue}
@@ -37,15 +38,10 @@ use Rattle.law_ring.specs.Front.{own_pointer, IsFront, IsBehind, HasFront, Links
 use Rattle.law_driver_ring.specs.fed_queues.Fed.{IsPieceFed, unpublished_of, AreFed, sized}
 use Rattle.law_driver_ring.specs.fed_queues.Places.{IsMet, IsLast, AreLast, AreStillOut}
 use Rattle.law_queues.specs.released_queues.Fronts.{piece_address, end_at, StandsAt}
-use Rattle.law_queues.proofs.lemmas.released_queues.Pieces.{piece_on, piece_next}
 use Rattle.law_queues.proofs.lemmas.released_queues.Queues.{none_yet}
 use Rattle.law_queues.proofs.lemmas.released_queues.Outs.{out_is, IsOutIn, out_in}
 use Rattle.law_queues.specs.standing_fronts.Reaching.{Reaches}
 use Rattle.law_queues.specs.idle_tails.Idle.{SoundQueuesReach, IdleQueuesReach}
-
-lent_slot : (s : Slot) → IsLentSlot s → IsLent s
-lent_slot Empty lent = lent
-lent_slot _ lent = lent
 
 either_leads : (part : Structures) (b : Bool) (l r : ShortLink) → LeadsOn part (qtd_link_of l) → LeadsOn part (qtd_link_of r) → LeadsOn part (qtd_link_of (if b then l else r))
 either_leads part true l r one two = one
@@ -124,7 +120,7 @@ module _ (d : DriverContent) (parts : StructureSets) (order : ℕ → ℕ → �
       let i : ℕ = k.transfer.qtds - k.transfer.left + k.is.dropped.number in
       let f = piece k.number i k.transfer k.here k.is.held k.is.endpoint (omega (arith, more, less)) in
       let address : c ≡ piece_address d k.transfer i =
-      k.is.dropped.at ∙ ap (λ (b : ℕ). 32 * piece_at note b k.is.dropped.number) place.place ∙ ap (λ (b : ℕ). 32 * b) (piece_on note k.transfer.first (k.transfer.qtds - k.transfer.left) k.is.dropped.number) in
+      k.is.dropped.at ∙ ap (λ (b : ℕ). 32 * piece_at note b k.is.dropped.number) place.place ∙ ap (λ (b : ℕ). 32 * b) (piece_more note k.transfer.first (k.transfer.qtds - k.transfer.left) k.is.dropped.number) in
       let same : f.qtd ≡ dummy_qtd = found_element (part c) f.qtd dummy_qtd (ap part address ∙ f.here) there in
       true≢false (sym (ap (λ (q : Qtd). q.next.t) same) ∙ ap (λ (l : ShortLink). l.t) f.noted.next)
 

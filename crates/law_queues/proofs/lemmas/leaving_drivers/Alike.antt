@@ -1,5 +1,6 @@
 -- What is as before of the queues: which of them are there, which are met, and what is out of them.
 use Rattle.std.proofs.Common.{◌≡◌, ◌≢◌, ℕ, suc, ◌*◌, Bool, true, false, nat_eq, cond, List, [], ◌∷◌, ◌++◌, length, slice_get, Option, Some, None, ap, sym, ◌∙◌, refl}
+use Rattle.law_queues.proofs.Common.{not_open}
 use Rattle.drv_table.specs.declared.content.Endpoint.{Endpoint}
 use Rattle.drv_table.specs.declared.content.Transfer.{Transfer}
 use Rattle.drv_table.specs.declared.content.QtdNote.{QtdNote}
@@ -35,11 +36,6 @@ pub near_fewer : (d f : DriverContent) → NearSame d f → NearFewer d f
 near_fewer d f near e x z was now on = sym (near e x z was now) ∙ on
 
 -- ---- commands
-
-pub not_open : (o : Option Command) (q : ℕ) → UnlinksAtMost o → o ≢ Some (unfinished.Open q)
-not_open None q may is = cc
-not_open (Some (unfinished.Unlink e b link)) q may is = cc
-not_open _ q may is = may
 
 pub not_publish : (o : Option Command) (b : ℕ) (words : List ℕ) → UnlinksAtMost o → o ≢ Some (unfinished.Publish b words)
 not_publish None b words may is = cc

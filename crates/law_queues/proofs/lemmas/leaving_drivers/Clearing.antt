@@ -1,7 +1,8 @@
 -- What the driver finds when it clears Async Advance.
-use Rattle.std.proofs.Common.{◌≡◌, ℕ, Bool, true, false, cond, List, [], ◌∷◌, slice_get, Option, Some, None, option_map, ap, sym, subst, ◌∙◌, refl}
+use Rattle.std.proofs.Common.{◌≡◌, ℕ, Bool, true, false, cond, [], slice_get, Option, Some, None, option_map, ap, sym, subst, ◌∙◌, refl}
 use Rattle.std.specs.Prelude.{option_and_then}
 use Rattle.std.proofs.lemmas.Option.{same_Some}
+use Rattle.law_common.proofs.Lists.{none_first}
 use Rattle.drv_table.specs.declared.content.Transfer.{Transfer}
 use Rattle.drv_table.specs.declared.content.Turn.{Turn}
 use Rattle.drv_table.specs.declared.content.Turn.TheVariants as turns
@@ -58,10 +59,6 @@ turn_clears turns.Harvest leaving (Some row) other is = absurd (not_clear row (o
 first_none : {X : Type 0} (f : X → DriverRow) (o : Option X) (later : Option DriverRow) → ((a : X) → IsOther (f a)) → first_row (option_map f o) later ≡ Some rows.ClearAdvance → (o ≡ None) × (later ≡ Some rows.ClearAdvance)
 first_none f None later other is = (refl, is)
 first_none f (Some a) later other is = absurd (not_clear (f a) (other a) (same_Some (f a) rows.ClearAdvance is))
-
-none_first : (xs : List ℕ) → slice_get xs 0 ≡ None → xs ≡ []
-none_first [] is = refl
-none_first (x ∷ xs) is = absurd (cc)
 
 clear_next : (p : Parts) → p.driver.command ≡ None → leaving_row p.driver p.registers ≡ Some rows.ClearAdvance → (p.driver.harvested ≡ []) × (p.driver.cleared ≡ [])
 clear_next p idle is =

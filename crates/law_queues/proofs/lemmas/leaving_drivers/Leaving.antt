@@ -3,6 +3,8 @@ use Rattle.std.proofs.Common.{◌≡◌, ◌≢◌, ℕ, suc, Bool, true, false,
 use Rattle.std.specs.Prelude.{◌⊎◌}
 use Rattle.std.proofs.lemmas.Bool.{cases_eq, false≢true}
 use Rattle.std.proofs.lemmas.Option.{same_Some}
+use Rattle.law_common.proofs.Booleans.{either_way, less_met}
+use Rattle.law_common.proofs.Lists.{set_here, set_there}
 use Rattle.usb_base.specs.declared.endpoints.EndCause.{EndCause}
 use Rattle.word_mem.specs.Memory.{Mem}
 use Rattle.drv_table.specs.declared.content.Endpoint.{Endpoint}
@@ -19,7 +21,6 @@ use Rattle.drv_table.specs.Rows.{after_driver_row}
 use Rattle.law_driver.specs.endpoint_lives.Lives.{is_one_of, told_end, may_meet}
 use Rattle.law_driver.proofs.lemmas.endpoint_lives.Lives.{one_of_joined, one_of_end, one_of_others, none_told, told_uncancelled, told_other, told_alike, linked_met, waiting_met}
 use Rattle.law_driver.specs.run_owners.Accepts.{Cancels}
-use Rattle.law_driver.proofs.lemmas.run_owners.Released.{set_here, set_there}
 use Rattle.law_driver.specs.chained_transfers.Asynchronous.{StandsAsynchronous}
 use Rattle.law_driver.specs.chained_transfers.AsynchronousTurns.{AsynchronousTakesTurns}
 use Rattle.law_driver.proofs.lemmas.chained_transfers.Rows.{left}
@@ -240,12 +241,6 @@ unlink_is_as_before p e b link c at v is =
 
 -- ---- the doorbell
 
-or_swap : (a b : Bool) → (a || b) ≡ (b || a)
-or_swap true true = refl
-or_swap true false = refl
-or_swap false true = refl
-or_swap false false = refl
-
 pub bell_is_as_before : (p : Parts) → p.driver.command ≡ None → IsAsBefore p.driver (after_driver_row rows.RingBell p).driver × NearSame p.driver (after_driver_row rows.RingBell p).driver
 bell_is_as_before p idle =
     let d = p.driver in
@@ -264,7 +259,7 @@ bell_is_as_before p idle =
         ends_now = ends_by f d refl;
       },
       near_by d f refl (λ k x.
-          ap (λ (b : Bool). x.linked || b) (one_of_joined k d.rung d.waiting ∙ or_swap (is_one_of k d.rung) (is_one_of k d.waiting))),
+          ap (λ (b : Bool). x.linked || b) (one_of_joined k d.rung d.waiting ∙ either_way (is_one_of k d.rung) (is_one_of k d.waiting))),
     )
 
 pub status_is_as_before : (p : Parts) (heard : Bool) → p.driver.command ≡ None
@@ -310,11 +305,6 @@ frame_is_as_before p n idle =
     )
 
 -- ---- Async Advance is cleared
-
-less_met : (l w r : Bool) → (l || (w || false)) ≡ true → (l || (w || r)) ≡ true
-less_met true w r on = refl
-less_met false true r on = refl
-less_met false false r on = absurd (false≢true on)
 
 pub clear_is_as_before : (p : Parts) → p.driver.command ≡ None → IsAsBefore p.driver (after_driver_row rows.ClearAdvance p).driver × NearFewer p.driver (after_driver_row rows.ClearAdvance p).driver
 clear_is_as_before p idle =

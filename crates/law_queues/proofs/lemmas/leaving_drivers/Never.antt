@@ -1,6 +1,7 @@
 -- The rows that a driver of bulk and control endpoints never has: nothing is in the frame list.
-use Rattle.std.proofs.Common.{◌≡◌, ℕ, zero, suc, ◌+◌, ◌*◌, List, [], slice_get, slice_index, Option, Some, None, option_map, ap, sym, subst, ◌∙◌}
+use Rattle.std.proofs.Common.{◌≡◌, ℕ, zero, suc, ◌+◌, ◌*◌, slice_get, slice_index, Option, Some, None, option_map, sym, subst, ◌∙◌}
 use Rattle.std.proofs.lemmas.Option.{same_Some, slice_get-map}
+use Rattle.law_common.proofs.Lists.{none_there}
 use Rattle.drv_table.specs.declared.content.Command.{Command}
 use Rattle.drv_table.specs.declared.content.Command.TheVariants as unfinished
 use Rattle.drv_table.specs.declared.rows.DriverRow.{DriverRow}
@@ -35,9 +36,6 @@ events_row (unfinished.Unlink n b link) (suc i) row is e = absurd (cc)
 events_row unfinished.Chain i row is e = absurd is
 events_row (unfinished.Iso e t count) i row is f = absurd is
 events_row (unfinished.Unchain e) i row is f = absurd is
-
-none_there : {X : Type 0} (xs : List X) (x : X) → xs ≡ [] → slice_get xs 0 ≡ Some x → ⊥
-none_there xs x none here = let e : ◌≡◌ {A = Option _} None (Some x) = sym (ap (λ ys. slice_get ys 0) none) ∙ here in cc
 
 next_row : (p : Parts) (row : DriverRow) → OnlyAsynchronous p.driver → IsNextOf p row → IsAsynchronousRow row
 next_row p row r due = events_row due.command p.driver.made row (subst IsBulkCommand due.unfinished r.command) due.next

@@ -1,13 +1,15 @@
 -- What is to be given back belongs to endpoints that a walk may meet, after each event and each accepted command.
-use Rattle.std.proofs.Common.{◌≡◌, ℕ, zero, suc, ◌<◌, Bool, true, false, cond, List, [], ◌∷◌, ◌++◌, length, take, drop, slice_get, Option, Some, None, Ok, ap, sym, subst, ◌∙◌, ⊎_elim, inl, inr, refl, arith}
+use Rattle.std.proofs.Common.{◌≡◌, ℕ, zero, suc, ◌<◌, true, false, List, [], ◌∷◌, ◌++◌, length, take, drop, slice_get, Option, Some, None, Ok, ap, sym, subst, ◌∙◌, ⊎_elim, inl, inr, refl, arith}
 use Rattle.std.specs.Prelude.{◌⊎◌}
 use Rattle.std.proofs.lemmas.Bool.{or_left}
 use Rattle.std.proofs.lemmas.Option.{same_Some}
+use Rattle.law_common.proofs.Lists.{some_below, drop_one, none_first}
+use Rattle.law_queues.proofs.Common.{let_go_harvested, owed_none}
+use Rattle.law_driver.proofs.Common.{times_of}
 use Rattle.usb_base.specs.declared.commands.Cmd.{Cmd}
 use Rattle.usb_base.specs.declared.commands.Cmd.TheVariants as commands
-use Rattle.usb_base.specs.declared.reports.What.TheVariants as lines
 use Rattle.word_mem.specs.Memory.{Mem}
-use Rattle.mem_runs.specs.Book.{Book, Holding, holding, lend_taken}
+use Rattle.mem_runs.specs.Book.{Holding, holding, lend_taken}
 use Rattle.drv_table.specs.declared.content.Reserve.{Reserve}
 use Rattle.drv_table.specs.declared.content.Endpoint.{Endpoint}
 use Rattle.drv_table.specs.declared.content.Transfer.{Transfer}
@@ -21,9 +23,8 @@ use Rattle.drv_table.specs.Accepting.{Offered, new_runs}
 use Rattle.drv_table.specs.Offers.{offered, new_endpoint, accepted_open, accepted_transfer, with_queued, new_transfer, note_stages}
 use Rattle.drv_table.specs.Parts.{Parts}
 use Rattle.drv_table.specs.Commands.{advance}
-use Rattle.drv_table.specs.Releases.{after_transfer, freed_by, free_endpoint, cancelled_bytes, gone_with, after_endpoint, is_told}
+use Rattle.drv_table.specs.Releases.{after_transfer, freed_by}
 use Rattle.drv_table.specs.Rows.{driver_row, after_driver_row}
-use Rattle.drv_table.specs.Harvests.{reported}
 use Rattle.law_driver.specs.endpoint_lives.Lives.{is_one_of, may_meet}
 use Rattle.law_driver.proofs.lemmas.endpoint_lives.Lives.{one_of_joined, one_of_end, linked_met, waiting_met, rung_met, met_where, IsNear, in_ring, has_left, is_rung, met_alike}
 use Rattle.law_driver.specs.run_owners.Due.{IsDue, IsHarvestDue}
@@ -43,7 +44,6 @@ use Rattle.law_queues.specs.leaving_drivers.Owed.{AreOwedMet, IsClearing}
 use Rattle.law_queues.proofs.lemmas.leaving_drivers.Clearing.{clear_finds}
 use Rattle.law_queues.proofs.lemmas.leaving_drivers.Leaving.{cancel_is_as_before, bell_is_as_before, status_is_as_before, frame_is_as_before}
 use Rattle.law_queues.proofs.lemmas.leaving_drivers.Reading.{IsTransferOf, read_row}
-use Rattle.law_queues.proofs.lemmas.leaving_drivers.Unmet.{times_of}
 use Rattle.law_queues.proofs.lemmas.leaving_drivers.Never.{IsAsynchronousRow, asynchronous_row}
 
 -- ---- from what they were
@@ -70,9 +70,6 @@ owed_on d f o old i t y x at there here =
     let w = o.turns t y l there in
     let n = o.nears t w.one x w.here (ap (slice_get f.endpoints) (sym w.endpoint) ∙ here) in
     ap (λ (k : ℕ). may_meet f k x) w.endpoint ∙ n.near (old l.at t w.one n.one l.here w.here n.here)
-
-owed_none : (d : DriverContent) → d.harvested ≡ [] → AreOwedMet d
-owed_none d none i t y x at there here = let e : ◌≡◌ {A = Option ℕ} None (Some t) = sym (ap (λ (hs : List ℕ). slice_get hs i) none) ∙ at in absurd (cc)
 
 listed_as : (hs : List ℕ) (i t : ℕ) → slice_get hs i ≡ Some t → IsInList hs t
 listed_as hs i t at = record { at = i; here = at }
@@ -124,10 +121,6 @@ advanced_owed d r old = advanced_or_left AreOwedMet d d.command r.command old ol
 
 -- ---- a transfer is given back
 
-drop_one : (hs : List ℕ) (i t : ℕ) → slice_get (drop 1 hs) i ≡ Some t → slice_get hs (suc i) ≡ Some t
-drop_one [] i t here = here
-drop_one (h ∷ hs) i t here = here
-
 release_owed : (p : Parts) (t : ℕ) (o : Option Transfer) (h : Holding) → slice_get p.driver.transfers t ≡ o → AreOwedMet p.driver → AreOwedMet (after_transfer p t o h).driver
 release_owed p t None h there old = old
 release_owed p t (Some y) h there old =
@@ -143,23 +136,6 @@ release_owed p t (Some y) h there old =
       nears = λ u z x at here. was_near d f z.endpoint x here refl;
     })
     old
-
--- ---- an endpoint is given back: nothing is to be given back before it
-
-let_go_harvested : (p : Parts) (e : ℕ) (o : Option Endpoint) → (after_endpoint p e o).driver.harvested ≡ p.driver.harvested
-let_go_harvested p e None = refl
-let_go_harvested p e (Some x) = by (is_told x)
-  where
-    book : Book
-    book = (free_endpoint p.driver e x (holding p.driver.book p.memory)).book
-
-    by : (b : Bool) → (gone_with (cond b (reported p.driver lines.Cancel x.desc.name (cancelled_bytes p.driver.notes p.memory e x.queue p.driver.transfers)) p.driver) e x (is_told x) book).harvested ≡ p.driver.harvested
-    by true = refl
-    by false = refl
-
-none_first : (hs : List ℕ) → slice_get hs 0 ≡ None → hs ≡ []
-none_first [] is = refl
-none_first (h ∷ hs) is = absurd (cc)
 
 -- ---- a harvest
 
@@ -222,16 +198,11 @@ push_which [] x (suc n) z here = absurd (cc)
 push_which (y ∷ ys) x zero z here = inl here
 push_which (y ∷ ys) x (suc n) z here = ⊎_elim (λ (was : slice_get ys n ≡ Some z). inl was) (λ (new : n ≡ length ys). inr (ap suc new)) (push_which ys x n z here)
 
-low : {X : Type 0} (xs : List X) (n : ℕ) (z : X) → slice_get xs n ≡ Some z → n < length xs
-low [] n z here = absurd (cc)
-low (y ∷ ys) zero z here = omega arith
-low (y ∷ ys) (suc n) z here = let rest = low ys n z here in omega arith
-
 -- what is to be given back is there
 listed_there : (d : DriverContent) (t : ℕ) → IsOrderly d → IsInList d.harvested t → t < length d.transfers
 listed_there d t order l =
     let o = owed d.transfers t (slice_get d.transfers t) refl (omega (arith, times_of d.harvested l.at t l.here, order.harvests t)) in
-    low d.transfers t o.transfer o.there
+    some_below d.transfers t o.transfer o.there
 
 open_owed : (d : DriverContent) (m : Mem) (o : Offered) → IsOrderly d → Opens d m o → AreOwedMet d → AreOwedMet o.driver
 open_owed d m o order why old = subst (λ (g : Offered). AreOwedMet g.driver) (sym why.is) (now _ _)

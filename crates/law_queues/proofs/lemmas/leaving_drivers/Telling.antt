@@ -5,6 +5,8 @@ use Rattle.std.proofs.lemmas.Bool.{cases_eq, false≢true}
 use Rattle.std.proofs.lemmas.List.{append_assoc, append-nil}
 use Rattle.std.proofs.lemmas.Option.{same_Some}
 use Rattle.std.specs.List.{AllByRecursion}
+use Rattle.law_common.proofs.Lists.{push_there, set_here, set_there}
+use Rattle.law_common.proofs.Booleans.{refused_by}
 use Rattle.usb_base.specs.declared.commands.Cmd.{Cmd}
 use Rattle.usb_base.specs.declared.commands.Cmd.TheVariants as commands
 use Rattle.usb_base.specs.declared.endpoints.EpDesc.{EpDesc}
@@ -37,7 +39,6 @@ use Rattle.claims_driver.specs.Leaving.{HasOwners, IsOrderly}
 use Rattle.law_driver.proofs.lemmas.run_owners.Leaves.{first_left}
 use Rattle.law_driver.proofs.lemmas.run_owners.Orders.{IsLeft}
 use Rattle.law_driver.proofs.lemmas.run_owners.Reasons.{each_event_is_due}
-use Rattle.law_driver.proofs.lemmas.run_owners.Released.{set_here, set_there}
 use Rattle.law_driver.specs.run_owners.Accepts.{Opens, Transfers}
 use Rattle.claims_driver.specs.Scripts.{OpensAsynchronous}
 use Rattle.law_driver.specs.chained_transfers.Asynchronous.{OnlyAsynchronous, AcceptsAsynchronous}
@@ -75,10 +76,6 @@ told_beside d f name other once l differs =
     ∙ ap (told_in f.store) (lines_not name other d.reports l.lines l.named differs)
     ∙ ap (λ (xs : List ℕ). told_in xs (lines_in name d.reports)) l.store
     ∙ told_more (lines_in name d.reports) d.store l.bytes (stored_filtered (is_line_of name) d.reports (length d.store) once.stored)
-
-refused_by : (a b : Bool) → b ≡ true → (a && not b) ≡ false
-refused_by true b is = ap not is
-refused_by false b is = refl
 
 pub refusals_tell_nothing : (d f : DriverContent) (line : Report) → is_refusal line.what ≡ true → f.reports ≡ d.reports ++ line ∷ [] → f.store ≡ d.store → (name : EpName) → told_to f name ≡ told_to d name
 refusals_tell_nothing d f line refusal reports store name =
@@ -288,11 +285,6 @@ events_only_tell p owners turns once = gone_before p.driver (after_driver_row (d
 
 abbrev NoneGiven : ℕ → Type 0
 NoneGiven i = ⊥
-
-push_there : {X : Type 0} (xs : List X) (x : X) (n : ℕ) (z : X) → slice_get xs n ≡ Some z → slice_get (xs ++ x ∷ []) n ≡ Some z
-push_there [] x n z here = absurd (cc)
-push_there (y ∷ ys) x zero z here = here
-push_there (y ∷ ys) x (suc n) z here = push_there ys x n z here
 
 push_which : {X : Type 0} (xs : List X) (x : X) (n : ℕ) (z : X) → slice_get (xs ++ x ∷ []) n ≡ Some z → (slice_get xs n ≡ Some z) ⊎ (z ≡ x)
 push_which [] x zero z here = inr (sym (same_Some x z here))

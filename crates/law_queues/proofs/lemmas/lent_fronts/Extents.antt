@@ -1,8 +1,8 @@
 -- Buffers stay in their runs, once a transfer is lent.
-use Rattle.std.proofs.Common.{◌≡◌, ◌≢◌, ℕ, zero, suc, ◌+◌, ◌*◌, ◌%◌, ◌<◌, ◌≤◌, ◌||◌, ◌==◌, Bool, true, false, List, [], ◌∷◌, length, take, get_or, Option, Some, option_map, ap, refl, sym, subst, ◌∙◌, ⊎_elim, inl, inr, arith}
-use Rattle.std.specs.List.{AllByRecursion}
+use Rattle.std.proofs.Common.{◌≡◌, ◌≢◌, ℕ, zero, suc, ◌+◌, ◌*◌, ◌%◌, ◌<◌, ◌≤◌, ◌||◌, ◌==◌, Bool, true, false, List, [], ◌∷◌, length, take, get_or, Some, option_map, ap, refl, sym, subst, ◌∙◌, ⊎_elim, inl, inr, arith}
 use Rattle.std.proofs.lemmas.Bool.{cases_Bool, cases_eq, eqb-true, false≢true}
 use Rattle.std.proofs.lemmas.Option.{same_Some}
+use Rattle.law_queues.proofs.Common.{piece_told, one_buffer, piece_placed}
 use Rattle.word_mem.specs.Memory.{Mem}
 use Rattle.mem_bytes.specs.Bytes.{place}
 use Rattle.qh_qtd.specs.declared.qtd.Qtd.{Qtd}
@@ -15,12 +15,12 @@ use Rattle.drv_table.specs.DriverContent.{DriverContent}
 use Rattle.drv_table.specs.Words.{buffer_needs}
 use Rattle.drv_table.specs.Harvests.{note_at}
 use Rattle.drv_table.specs.Offers.{is_last}
-use Rattle.claims_driver.specs.Owners.{Owner, FrameList, QueueHead, Element as ElementOwner, Dummy, Buffer as BufferOwner, IsPlaced, ArePieces, SlotHas, HasRun, EndpointRuns, TransferRuns, NoteRuns, Views, runs_of_endpoint, note_in, views_of, IsPieceOf, IsOneOf as IsOneRun}
+use Rattle.claims_driver.specs.Owners.{FrameList, QueueHead, Element as ElementOwner, Dummy, Buffer as BufferOwner, SlotHas, HasRun, EndpointRuns, TransferRuns, runs_of_endpoint, note_in, views_of, IsPieceOf, IsOneOf as IsOneRun}
 use Rattle.law_driver.proofs.lemmas.run_owners.Runs.{placed_run}
 use Rattle.claims_driver.specs.LentRuns.{AreLent, begins_in}
-use Rattle.law_structures.specs.lent_structures.Structures.{Structure, Buffer, Structures, StructureSets, Has}
+use Rattle.law_structures.specs.lent_structures.Structures.{Buffer, Structures, StructureSets, Has}
 use Rattle.law_structures.specs.lent_structures.Sound.{element_pages, buffer_name, HasBuffer}
-use Rattle.law_driver_ring.specs.Inventory.{Sort, sort_of, sorts_of, OfBuffer, IsLent, IsBufferTold, AreTold, IsTransferIn, IsDriven}
+use Rattle.law_driver_ring.specs.Inventory.{sort_of, sorts_of, OfBuffer, IsLent, IsTransferIn, IsDriven}
 use Rattle.law_driver_ring.specs.Extents.{InRuns, AreInRuns}
 use Rattle.law_driver.specs.run_owners.Accepts.{AreShort}
 use Rattle.law_driver_ring.specs.Written.{AreRuns, IsStageNoted, AreNoted}
@@ -61,9 +61,6 @@ runs_still l cs j r = record { at = r.at; among = r.among; has = slot_still l r.
 
 -- ---- a new buffer
 
-one_buffer : (p q : List ℕ) (k i : ℕ) (bs cs : List ℕ) → ◌≡◌ {A = Option Structure} (Some (Buffer p k bs)) (Some (Buffer q i cs)) → (p ≡ q) × (k ≡ i) × (bs ≡ cs)
-one_buffer p q k i bs cs same = (cc, cc, cc)
-
 stage_in_runs : (h : Holding) (part : Structures) (note : QtdNote) (s : Stage) (t : Qtd) (c : ℕ) (cs pages bs : List ℕ) (k j : ℕ) → Stands h → IsStageNoted (slot_of h.book.slots) note s → s.long ≤ 20480 → element_pages t ≡ pages_from note.buffer → t.offset ≡ 32 * (get_or note.buffer 0 0 % 128) → (0 < s.long → HasBuffer part t s.long) → take note.runs note.buffer ≡ c ∷ cs → part (32 * c) ≡ Some (Buffer pages k bs) → Has (32 * c) (Buffer pages k bs) j
     → InRuns (slot_of h.book.slots) (c ∷ cs) j
 stage_in_runs h part note s t c cs pages bs k j stands noted short pages_are offset_is has runs here inside =
@@ -99,17 +96,6 @@ chain_in_runs h part notes dummy (s ∷ ss) b e c cs pages bs k j stands noted s
     chain_in_runs h part notes dummy ss (note_at notes b).next e c cs pages bs k j stands noted.1 short.1 buffered.1 more runs here inside
 
 -- ---- an old buffer
-
--- the buffer that a piece's note tells
-piece_told : (v : Views) (sorts : ℕ → Option Sort) (b n e c : ℕ) (cs : List ℕ) → AreTold v sorts b n → IsPieceOf v.note b n e → (v.note e).buffer ≡ c ∷ cs → IsLent (v.slot c) → sorts (32 * c) ≡ Some OfBuffer
-piece_told v sorts b zero e c cs told piece runs lent = absurd piece
-piece_told v sorts b (suc n) e c cs told (inl is) runs lent = (subst (IsBufferTold v.slot sorts) (ap (λ (i : ℕ). (v.note i).buffer) (sym is) ∙ runs) told.0.buffer) lent
-piece_told v sorts b (suc n) e c cs told (inr more) runs lent = piece_told v sorts (v.note b).next n e c cs told.1 more runs lent
-
-piece_placed : (slot : ℕ → Slot) (owner : ℕ → Owner) (note : ℕ → NoteRuns) (t b n e c : ℕ) (cs : List ℕ) → ArePieces slot owner note t b n → IsPieceOf note b n e → (note e).buffer ≡ c ∷ cs → IsPlaced slot owner c (BufferOwner t)
-piece_placed slot owner note t b zero e c cs pieces piece runs = absurd piece
-piece_placed slot owner note t b (suc n) e c cs pieces (inl is) runs = (subst (AllByRecursion (λ k. IsPlaced slot owner k (BufferOwner t))) (ap (λ (i : ℕ). (note i).buffer) (sym is) ∙ runs) pieces.0.buffers).0
-piece_placed slot owner note t b (suc n) e c cs pieces (inr more) runs = piece_placed slot owner note t (note b).next n e c cs pieces.1 more runs
 
 begins_one : (c : ℕ) (bs : List ℕ) → begins_in c bs ≡ true → IsOneOf c bs
 begins_one c [] is = absurd (false≢true is)

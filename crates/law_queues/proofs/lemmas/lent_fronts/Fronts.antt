@@ -1,7 +1,9 @@
 -- The front of each queue, once a transfer is lent.
-use Rattle.std.proofs.Common.{◌<◌, ◌≡◌, ◌≢◌, ℕ, zero, suc, ◌+◌, ◌-◌, ◌*◌, ◌≤◌, ◌⊎◌, Bool, true, false, not, ◌&&◌, cond, List, [], ◌∷◌, ◌++◌, length, slice_get, Some, ap, refl, sym, subst, ◌∙◌, ⊎_elim, inl, inr, arith}
-use Rattle.std.proofs.lemmas.Bool.{cases_eq, eq-eqb, false≢true}
+use Rattle.std.proofs.Common.{◌<◌, ◌≡◌, ◌≢◌, ℕ, zero, suc, ◌-◌, ◌*◌, ◌≤◌, Bool, true, false, not, ◌&&◌, cond, List, [], ◌∷◌, ◌++◌, length, slice_get, Some, ap, refl, sym, subst, ◌∙◌, ⊎_elim, inl, inr, arith}
+use Rattle.std.proofs.lemmas.Bool.{cases_eq, false≢true}
 use Rattle.std.proofs.lemmas.Option.{same_Some}
+use Rattle.law_ring.proofs.Common.{among_either, none_some}
+use Rattle.law_driver.proofs.Common.{times_of}
 use Rattle.word_mem.specs.Memory.{Mem}
 use Rattle.qh_qtd.specs.declared.qtd.Qtd.{Qtd}
 use Rattle.link_words.specs.declared.kinds.QtdLink.TheVariants as qtd_links
@@ -14,7 +16,7 @@ use Rattle.drv_table.specs.declared.content.Stage.{Stage}
 use Rattle.drv_table.specs.DriverContent.{DriverContent}
 use Rattle.drv_table.specs.Harvests.{note_at}
 use Rattle.drv_table.specs.Offers.{is_last}
-use Rattle.claims_driver.specs.Leaving.{times, owes}
+use Rattle.claims_driver.specs.Leaving.{owes}
 use Rattle.claims_driver.specs.Owners.{NoteRuns, note_in}
 use Rattle.law_structures.specs.lent_structures.Structures.{Element, QueueHead, Structures, StructureSets}
 use Rattle.law_structures.specs.lent_structures.Sound.{IsElement, LeadsOn, IsSoundQueue}
@@ -31,7 +33,7 @@ use Rattle.law_driver_ring.specs.Pieces.{stage_qtd, IsNewQtd}
 use Rattle.law_queues.specs.fed_lends.Streams.{second, new_out}
 use Rattle.law_queues.specs.fed_lends.ToLend.{lent_now}
 use Rattle.law_queues.proofs.lemmas.fed_lends.Numbering.{new_from}
-use Rattle.law_queues.proofs.lemmas.fed_lends.Reporting.{numbers, old_number, fresh_new, new_active, some_none}
+use Rattle.law_queues.proofs.lemmas.fed_lends.Reporting.{numbers, old_number, fresh_new, new_active}
 use Rattle.law_queues.proofs.lemmas.fed_lends.Names.{older_published}
 use Rattle.law_queues.proofs.lemmas.fed_lends.Fed.{y_of, x_of, IsLending, buffers_same}
 use Rattle.law_queues.proofs.lemmas.fed_lends.Order.{at_here, at_else, queue_apart}
@@ -46,14 +48,6 @@ pub record HasNew (notes : List QtdNote) (dummy : ℕ) (ss : List Stage) (b a : 
 
 -- ---- what is to be given back was reported
 
-times_some : (ts : List ℕ) (i t : ℕ) → slice_get ts i ≡ Some t → 1 ≤ times t ts
-times_some [] i t there = absurd (cc)
-times_some (u ∷ ts) zero t there =
-    let same : u ≡ t = same_Some u t there in
-    let one : times t (u ∷ ts) ≡ 1 + times t ts = ap (λ (c : Bool). cond c 1 0 + times t ts) (eq-eqb u t same) in
-    omega (arith, one)
-times_some (u ∷ ts) (suc i) t there = let rest = times_some ts i t there in omega (arith, rest)
-
 owed_reported : (r g : Bool) → 1 ≤ cond (r && not g) 1 0 → r ≡ true
 owed_reported true g some = refl
 owed_reported false g some = absurd (omega (arith, some))
@@ -63,17 +57,12 @@ pub not_newest : {d : DriverContent} {m : Mem} {b : ℕ} {words : List ℕ} {par
 not_newest {d = d} l i t y at there same =
     let k = l.ready in
     let is : y ≡ k.transfer = same_Some y k.transfer (sym there ∙ ap (slice_get d.transfers) same ∙ k.there) in
-    let some = times_some d.harvested i t at in
+    let some = times_of d.harvested i t at in
     let owed = l.has.orderly.harvests t in
     let worth : owes (slice_get d.transfers t) ≡ cond (y.reported && not y.released) 1 0 = ap owes there in
     false≢true (sym k.fresh ∙ ap (λ (z : Transfer). z.reported) (sym is) ∙ owed_reported y.reported y.released (omega (arith, some, owed, worth)))
 
 -- ---- small facts
-
-among_either : (e : ℕ) (xs ys : List ℕ) → IsAmong e (xs ++ ys) → IsAmong e xs ⊎ IsAmong e ys
-among_either e [] ys is = inr is
-among_either e (x ∷ xs) ys (inl is) = inl (inl is)
-among_either e (x ∷ xs) ys (inr is) = ⊎_elim (λ (left : IsAmong e xs). inl (inr left)) (λ (right : IsAmong e ys). inr right) (among_either e xs ys is)
 
 next_piece : (note : ℕ → NoteRuns) (b i : ℕ) → (note (piece_at note b i)).next ≡ piece_at note b (suc i)
 next_piece note b zero = refl
@@ -89,7 +78,7 @@ not_there : (d : DriverContent) (m : Mem) (b : ℕ) (words : List ℕ) (parts no
 not_there d m b words parts now l a t among there =
     let k = l.ready in
     let r = new_named d.notes k.endpoint.dummy k.further (second d (y_of k)) a among in
-    some_none (parts (32 * k.endpoint.queue) a) (Element t) (l.pieces.none_before a r.qtd r.new) there
+    none_some (parts (32 * k.endpoint.queue) a) (Element t) (l.pieces.none_before a r.qtd r.new) there
 
 -- a transfer that wasn't given back has a qTD
 o_some : {d : DriverContent} {m : Mem} {b : ℕ} {words : List ℕ} {parts now : StructureSets} {order : ℕ → ℕ → ℕ} {out : ℕ → List ℕ} → IsOrdering d m b words parts now order out → (t : ℕ) (y : Transfer) → slice_get d.transfers t ≡ Some y → y.released ≡ false → 1 ≤ y.qtds
@@ -127,7 +116,7 @@ its_front {d = d} {m = m} {b = b} {words = words} {parts = parts} {now = now} {o
     ⊎_elim
     (λ (before : IsAmong a (out n)).
     let z = out_stands o a before in
-    absurd (some_none (parts n a) (Element z.qtd) (p.none_before a t fresh) z.here))
+    absurd (none_some (parts n a) (Element z.qtd) (p.none_before a t fresh) z.here))
     (λ (more : IsAmong a new).
     let on = new_active (now n) d.notes k.endpoint.dummy k.further (second d (y_of k)) a t p.standing more here in
     let low = new_from f d.notes k.endpoint.dummy k.further (second d (y_of k)) from a t are fresh in

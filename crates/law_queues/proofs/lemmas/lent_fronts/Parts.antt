@@ -1,8 +1,7 @@
 -- The part of a queue head, once a transfer is lent.
-use Rattle.std.proofs.Common.{◌≡◌, ℕ, ◌*◌, ◌==◌, ◌&&◌, ◌⊎◌, not, Bool, true, false, if◌then◌else◌, List, Some, subst, ◌∙◌, ⊎_elim, arith}
+use Rattle.std.proofs.Common.{◌≡◌, ℕ, ◌*◌, ◌==◌, ◌&&◌, ◌⊎◌, not, Bool, if◌then◌else◌, List, Some, subst, ◌∙◌, ⊎_elim, arith}
+use Rattle.law_ring.proofs.Common.{link_there, own_there}
 use Rattle.word_mem.specs.Memory.{Mem, IsShaped}
-use Rattle.link_words.specs.declared.kinds.QtdLink.{QtdLink}
-use Rattle.link_words.specs.declared.kinds.QtdLink.TheVariants as qtd_links
 use Rattle.link_words.specs.Links.{qtd_link_of}
 use Rattle.qh_qtd.specs.declared.qtd.Qtd.{Qtd}
 use Rattle.hc_copy.specs.Visits.{next_pointer}
@@ -12,7 +11,7 @@ use Rattle.drv_table.specs.DriverContent.{DriverContent}
 use Rattle.claims_driver.specs.Owners.{EndpointRuns, TransferRuns, views_of}
 use Rattle.claims_driver.specs.Leaving.{HasOwners}
 use Rattle.law_structures.specs.lent_structures.Structures.{Structure, QueueHead, Element, Structures, StructureSets}
-use Rattle.law_structures.specs.lent_structures.Sound.{IsElement, LeadsOn, IsSoundElement, IsSoundQueue, AreOwn, IsMember}
+use Rattle.law_structures.specs.lent_structures.Sound.{IsSoundElement, IsSoundQueue, AreOwn, IsMember}
 use Rattle.law_structures.proofs.lemmas.lent_structures.Altering.{found_queue}
 use Rattle.law_ring.specs.Front.{HasFront}
 use Rattle.law_ring.specs.Together.{Item, put_all}
@@ -35,13 +34,6 @@ pub member_head : (member : ℕ → Bool) (n : ℕ) (part : Structures) → IsMe
 member_head member n part m = (a_members_part_is_linked member n part m).part_is
 
 -- ---- orders
-
-link_there : (part : Structures) (l : QtdLink) (b : ℕ) → LeadsOn part l → l ≡ qtd_links.To b → IsElement part b
-link_there part l b leads is = subst (LeadsOn part) is leads
-
-own_there : (part : Structures) (t : Qtd) (c : Bool) (b : ℕ) → IsSoundElement part t → qtd_link_of (if c then t.alternate else t.next) ≡ qtd_links.To b → IsElement part b
-own_there part t true b sound to = link_there part (qtd_link_of t.alternate) b sound.alternate to
-own_there part t false b sound to = link_there part (qtd_link_of t.next) b sound.next to
 
 -- where each qTD that is there has the order that it had, the front stays
 pub front_renumbered : (order order_now : ℕ → ℕ) (front : ℕ) (out : List ℕ) (n : ℕ) (part : Structures) → IsQueuePart n part → ((a : ℕ) (t : Qtd) → part a ≡ Some (Element t) → order_now a ≡ order a) → HasFront order front out n part → HasFront order_now front out n part

@@ -2,6 +2,7 @@
 use Rattle.std.proofs.Common.{◌≡◌, ◌≢◌, ℕ, ◌-◌, ◌*◌, ◌==◌, Bool, false, cond, List, length, slice_get, Option, Some, option_map, ap, refl, sym, subst, ◌∙◌, ⊎_elim, arith}
 use Rattle.std.proofs.lemmas.Bool.{cases_eq, eq-eqb}
 use Rattle.std.proofs.lemmas.Option.{same_Some}
+use Rattle.law_common.proofs.Numbers.{other_number}
 use Rattle.word_mem.specs.Memory.{Mem}
 use Rattle.mem_runs.specs.Book.{slot_of}
 use Rattle.drv_table.specs.declared.content.Endpoint.{Endpoint}
@@ -15,7 +16,6 @@ use Rattle.claims_driver.specs.Leaving.{HasOwners}
 use Rattle.law_driver.proofs.lemmas.run_owners.Runs.{placed_run}
 use Rattle.claims_driver.specs.LentRuns.{AreLent}
 use Rattle.law_structures.specs.lent_structures.Structures.{Element, StructureSets}
-use Rattle.law_structures.proofs.lemmas.lent_structures.Names.{not_same}
 use Rattle.law_structures.specs.lent_structures.Sound.{IsElement}
 use Rattle.law_driver_ring.specs.Inventory.{IsLent}
 use Rattle.law_driver.specs.chained_transfers.Asynchronous.{OnlyAsynchronous}
@@ -75,6 +75,6 @@ tail_stands d m b words parts e x k has lent only fed here kept =
     record { qtd = dummy_qtd; here = ap (parts (32 * x.queue)) at ∙ first })
     (λ (differs : k.transfer.endpoint ≢ e).
     let dummy = fed.dummies e x here kept (other_dummy_lent d m b words e x k has lent only here kept (λ same. differs (sym same))) in
-    let at : 32 * cond (k.transfer.endpoint == e) b x.dummy ≡ 32 * x.dummy = ap (λ (c : Bool). 32 * cond c b x.dummy) (not_same k.transfer.endpoint e differs) in
+    let at : 32 * cond (k.transfer.endpoint == e) b x.dummy ≡ 32 * x.dummy = ap (λ (c : Bool). 32 * cond c b x.dummy) (other_number k.transfer.endpoint e differs) in
     record { qtd = dummy_qtd; here = ap (parts (32 * x.queue)) at ∙ dummy })
     (cases_eq k.transfer.endpoint e))

@@ -2,6 +2,7 @@
 use Rattle.std.proofs.Common.{◌≡◌, ℕ, zero, suc, Bool, true, false, not, ◌&&◌, cond, List, [], ◌∷◌, ◌++◌, length, drop, set, slice_get, Option, Some, None, Ok, ap, sym, subst, ◌∙◌, refl}
 use Rattle.std.proofs.lemmas.Bool.{false≢true}
 use Rattle.std.proofs.lemmas.Option.{same_Some}
+use Rattle.law_common.proofs.Lists.{set_here, pushed_last}
 use Rattle.usb_base.specs.declared.commands.Cmd.{Cmd}
 use Rattle.usb_base.specs.declared.endpoints.EndCause.{EndCause}
 use Rattle.usb_base.specs.declared.endpoints.EpDesc.{EpDesc}
@@ -26,7 +27,7 @@ use Rattle.law_driver.specs.endpoint_lives.Lives.{told_end}
 use Rattle.law_driver.specs.run_owners.Accepts.{Accepts, opens, chains, places, transfers, describes, cancels, unchains}
 use Rattle.law_driver.proofs.lemmas.run_owners.Commands.{each_command_has_its_reason}
 use Rattle.law_queues.specs.mended_heads.Owed.{GoesOnAt}
-use Rattle.law_queues.proofs.lemmas.mended_heads.Content.{set_at, newest, KeepFirsts, firsts_same, firsts_both, firsts_pushed, goes_on_still, IsOwedStill, KeepOwed, owed_set, owed_pushed, OwesAlike, alike_both, or_done}
+use Rattle.law_queues.proofs.lemmas.mended_heads.Content.{KeepFirsts, firsts_same, firsts_both, firsts_pushed, goes_on_still, IsOwedStill, KeepOwed, owed_set, owed_pushed, OwesAlike, alike_both, or_done}
 
 -- of control endpoints
 abbrev pub is_one : ℕ → Endpoint → Type 0
@@ -45,7 +46,7 @@ opened_alike d f y mends ends same = record {
 
 -- it begins at the old end of the queue, and is next where none was
 queued_onward : (ts : List Transfer) (x : Endpoint) (y : Transfer) (dummy b : ℕ) (next : Option ℕ) → y.first ≡ x.dummy → GoesOnAt ts x.dummy next b → GoesOnAt (ts ++ y ∷ []) dummy (first_waiting next (length ts)) b
-queued_onward ts x y dummy b None first is = record { transfer = y; here = newest ts y; first = is ∙ sym first }
+queued_onward ts x y dummy b None first is = record { transfer = y; here = pushed_last ts y; first = is ∙ sym first }
 queued_onward ts x y dummy b (Some t) first is = goes_on_still ts (ts ++ y ∷ []) x.dummy b (Some t) (firsts_pushed ts y) is
 
 queued_still : (d : DriverContent) (e : ℕ) (x z : Endpoint) (y : Transfer) (dummy : ℕ) → slice_get d.endpoints e ≡ Some x → slice_get d.endpoints e ≡ Some z → y.first ≡ x.dummy
@@ -55,7 +56,7 @@ queued_still d e x z y dummy here there first =
     subst (IsOwedStill d.transfers (set d.endpoints e now) (d.transfers ++ y ∷ []) e) (same_Some x z (sym here ∙ there))
     (record {
       endpoint = now;
-      here = set_at d.endpoints e x now here;
+      here = set_here d.endpoints e x now here;
       desc = refl;
       gone = refl;
       going = λ kept goes. goes;
@@ -133,7 +134,7 @@ cancelled_alike d f e x here fresh mends ends same =
           subst (IsOwedStill d.transfers (set d.endpoints e now) d.transfers e) (same_Some x z (sym here ∙ there))
           (record {
             endpoint = now;
-            here = set_at d.endpoints e x now here;
+            here = set_here d.endpoints e x now here;
             desc = refl;
             gone = refl;
             going = λ kept goes. cancelled_end x fresh kept goes;

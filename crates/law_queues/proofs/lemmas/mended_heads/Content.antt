@@ -1,9 +1,10 @@
 -- What tells of the stores that are owed stays where other things of the driver's content change.
-use Rattle.std.proofs.Common.{◌≡◌, ◌≢◌, ℕ, zero, suc, Bool, true, false, cond, nat_lt, List, [], ◌∷◌, ◌++◌, length, set, slice_get, Option, Some, None, ap, sym, subst, ◌∙◌, ⊎_elim, refl}
+use Rattle.std.proofs.Common.{◌≡◌, ◌≢◌, ℕ, suc, Bool, true, false, cond, nat_lt, List, [], ◌∷◌, ◌++◌, length, set, slice_get, Option, Some, None, ap, sym, subst, ◌∙◌, ⊎_elim, refl}
 use Rattle.std.specs.Prelude.{is_none}
 use Rattle.std.specs.List.{AllByRecursion}
 use Rattle.std.proofs.lemmas.Bool.{cases_eq}
 use Rattle.std.proofs.lemmas.Option.{same_Some}
+use Rattle.law_common.proofs.Lists.{push_there, set_here, set_there}
 use Rattle.usb_base.specs.declared.endpoints.EpDesc.{EpDesc}
 use Rattle.drv_table.specs.declared.content.Endpoint.{Endpoint}
 use Rattle.drv_table.specs.declared.content.Transfer.{Transfer}
@@ -17,31 +18,6 @@ use Rattle.law_driver.specs.endpoint_lives.Lives.{told_end}
 use Rattle.law_queues.specs.mended_heads.Owed.{StalledQueue, GoesOnAt, IsOwed}
 
 -- ---- lists
-
-pub set_at : {X : Type 0} (xs : List X) (e : ℕ) (x y : X) → slice_get xs e ≡ Some x → slice_get (set xs e y) e ≡ Some y
-set_at [] e x y here = absurd (cc)
-set_at (z ∷ xs) zero x y here = refl
-set_at (z ∷ xs) (suc e) x y here = set_at xs e x y here
-
-pub set_beside : {X : Type 0} (xs : List X) (e i : ℕ) (y : X) → i ≢ e → slice_get (set xs e y) i ≡ slice_get xs i
-set_beside [] e i y differs = refl
-set_beside (z ∷ xs) zero zero y differs = absurd (differs refl)
-set_beside (z ∷ xs) zero (suc i) y differs = refl
-set_beside (z ∷ xs) (suc e) zero y differs = refl
-set_beside (z ∷ xs) (suc e) (suc i) y differs = set_beside xs e i y (λ same. differs (ap suc same))
-
-pub pushed : {X : Type 0} (xs : List X) (x : X) (n : ℕ) (z : X) → slice_get xs n ≡ Some z → slice_get (xs ++ x ∷ []) n ≡ Some z
-pushed [] x n z here = absurd (cc)
-pushed (y ∷ ys) x zero z here = here
-pushed (y ∷ ys) x (suc n) z here = pushed ys x n z here
-
-pub newest : {X : Type 0} (xs : List X) (x : X) → slice_get (xs ++ x ∷ []) (length xs) ≡ Some x
-newest [] x = refl
-newest (y ∷ ys) x = newest ys x
-
-pub all_on : {X : Type 0} (P Q : X → Type 0) (xs : List X) → ((x : X) → P x → Q x) → AllByRecursion P xs → AllByRecursion Q xs
-all_on P Q [] each all = tt
-all_on P Q (x ∷ xs) each all = (each x all.0, all_on P Q xs each all.1)
 
 pub all_both : {X : Type 0} (P R Q : X → Type 0) (xs : List X) → ((x : X) → P x → R x → Q x) → AllByRecursion P xs → AllByRecursion R xs → AllByRecursion Q xs
 all_both P R Q [] each all also = tt
@@ -75,11 +51,11 @@ firsts_set ts t y z there same k w here =
     ⊎_elim {C = BeginsStill (set ts t z) k w}
     (λ (own : k ≡ t).
     let is : y ≡ w = same_Some y w (sym there ∙ ap (slice_get ts) (sym own) ∙ here) in
-    record { transfer = z; here = ap (slice_get (set ts t z)) own ∙ set_at ts t y z there; first = same ∙ ap (λ (r : Transfer). r.first) is })
-    (λ (other : k ≢ t). record { transfer = w; here = set_beside ts t k z other ∙ here; first = refl }) (cases_eq k t)
+    record { transfer = z; here = ap (slice_get (set ts t z)) own ∙ set_here ts t y z there; first = same ∙ ap (λ (r : Transfer). r.first) is })
+    (λ (other : k ≢ t). record { transfer = w; here = set_there ts t k z other ∙ here; first = refl }) (cases_eq k t)
 
 pub firsts_pushed : (ts : List Transfer) (z : Transfer) → KeepFirsts ts (ts ++ z ∷ [])
-firsts_pushed ts z t y here = record { transfer = y; here = pushed ts z t y here; first = refl }
+firsts_pushed ts z t y here = record { transfer = y; here = push_there ts z t y here; first = refl }
 
 pub goes_on_still : (ts us : List Transfer) (dummy b : ℕ) (next : Option ℕ) → KeepFirsts ts us → GoesOnAt ts dummy next b → GoesOnAt us dummy next b
 goes_on_still ts us dummy b None firsts is = is
@@ -137,10 +113,10 @@ pub owed_set : (P : ℕ → Endpoint → Type 0) (xs : List Endpoint) (ts us : L
 owed_set P xs ts us e y firsts one i x p here =
     ⊎_elim {C = IsOwedStill ts (set xs e y) us i x}
     (λ (same : i ≡ e). subst (λ (j : ℕ). IsOwedStill ts (set xs e y) us j x) (sym same) (one x (subst (λ (j : ℕ). P j x) same p) (ap (slice_get xs) (sym same) ∙ here)))
-    (λ (differs : i ≢ e). same_still ts us (set xs e y) i x firsts (set_beside xs e i y differs ∙ here)) (cases_eq i e)
+    (λ (differs : i ≢ e). same_still ts us (set xs e y) i x firsts (set_there xs e i y differs ∙ here)) (cases_eq i e)
 
 pub owed_pushed : (P : ℕ → Endpoint → Type 0) (xs : List Endpoint) (ts : List Transfer) (y : Endpoint) → KeepOwed P xs ts (xs ++ y ∷ []) ts
-owed_pushed P xs ts y e x p here = same_still ts ts (xs ++ y ∷ []) e x (firsts_same ts) (pushed xs y e x here)
+owed_pushed P xs ts y e x p here = same_still ts ts (xs ++ y ∷ []) e x (firsts_same ts) (push_there xs y e x here)
 
 -- what was owed is owed
 pub owed_on : (P : ℕ → Endpoint → Type 0) (d f : DriverContent) (s : StalledQueue) → KeepOwed P d.endpoints d.transfers f.endpoints f.transfers → (k : IsOwed d s) → P k.number k.endpoint → IsOwed f s
@@ -199,7 +175,7 @@ ring_left : (d : DriverContent) (e : ℕ) (x z : Endpoint) → slice_get d.endpo
 ring_left d e x z here there =
     let is : x ≡ z = same_Some x z (sym here ∙ there) in
     subst (IsOwedStill d.transfers (set d.endpoints e (record x { linked = false })) d.transfers e) is
-    (out_still d.transfers (set d.endpoints e (record x { linked = false })) e x (record x { linked = false }) (set_at d.endpoints e x (record x { linked = false }) here) refl refl refl refl refl refl)
+    (out_still d.transfers (set d.endpoints e (record x { linked = false })) e x (record x { linked = false }) (set_here d.endpoints e x (record x { linked = false }) here) refl refl refl refl refl refl)
 
 left_ring : (d : DriverContent) (e : ℕ) (o : Option Endpoint) → slice_get d.endpoints e ≡ o → OwesAlike any_one d (leave_ring d e o)
 left_ring d e None here = alike_same any_one d d refl refl refl
@@ -212,7 +188,7 @@ frames_left : (d : DriverContent) (e : ℕ) (x z : Endpoint) → slice_get d.end
 frames_left d e x z here there =
     let is : x ≡ z = same_Some x z (sym here ∙ there) in
     subst (IsOwedStill d.transfers (set d.endpoints e (record x { chained = false })) d.transfers e) is
-    (out_still d.transfers (set d.endpoints e (record x { chained = false })) e x (record x { chained = false }) (set_at d.endpoints e x (record x { chained = false }) here) refl refl refl refl refl refl)
+    (out_still d.transfers (set d.endpoints e (record x { chained = false })) e x (record x { chained = false }) (set_here d.endpoints e x (record x { chained = false }) here) refl refl refl refl refl refl)
 
 left_frames : (d : DriverContent) (e : ℕ) (o : Option Endpoint) → slice_get d.endpoints e ≡ o → OwesAlike any_one d (leave_frames d e o)
 left_frames d e None here = alike_same any_one d d refl refl refl

@@ -1,8 +1,9 @@
 -- What is left of the stores of stalled queues, once one is made, and where one more queue is stalled.
 use Rattle.std.proofs.Common.{◌≡◌, ◌≢◌, ℕ, zero, suc, ◌<◌, List, [], ◌∷◌, ◌++◌, drop, slice_get, Some, ap, ◌∙◌, refl, arith}
 use Rattle.std.specs.List.{AllByRecursion}
+use Rattle.law_queues.proofs.Common.{first_of}
 use Rattle.drv_table.specs.declared.content.Mend.{Mend}
-use Rattle.law_queues.specs.mended_heads.Owed.{StalledQueue, mends_at, left_of, all_left, store_by, store_due, AreApart}
+use Rattle.law_queues.specs.mended_heads.Owed.{StalledQueue, mends_at, left_of, all_left, store_due, AreApart}
 use Rattle.law_queues.proofs.lemmas.mended_heads.Content.{all_more}
 
 -- ---- one queue more
@@ -24,10 +25,6 @@ apart_more [] s apart all = (tt, tt)
 apart_more (r ∷ ss) s apart all = (all_more (λ (q : StalledQueue). q.queue ≢ r.queue) ss s apart.0 all.0, apart_more ss s apart.1 all.1)
 
 -- ---- a store is made
-
-first_of : (q b made : ℕ) (ws : List Mend) → made < 3 → slice_get (drop made (mends_at q b) ++ ws) 0 ≡ Some (store_by q b made)
-first_of q b (suc (suc (suc n))) ws below = absurd (omega (arith, below))
-first_of q b _ ws below = refl
 
 pub first_left : (s : StalledQueue) (ss : List StalledQueue) → s.made < 3 → slice_get (all_left (s ∷ ss)) 0 ≡ Some (store_due s)
 first_left s ss below = first_of s.queue s.onward s.made (all_left ss) below

@@ -1,6 +1,7 @@
 -- A harvest: other endpoints are owed what they were, and the endpoint of a stall its three stores.
 use Rattle.std.proofs.Common.{◌≡◌, ◌≢◌, ℕ, zero, suc, ◌-◌, Bool, true, false, cond, List, [], ◌∷◌, ◌++◌, length, set, slice_get, Option, Some, None, ap, sym, subst, ◌∙◌, refl}
 use Rattle.std.proofs.lemmas.Bool.{false≢true}
+use Rattle.law_common.proofs.Lists.{set_here}
 use Rattle.usb_base.specs.declared.endpoints.EpName.{EpName}
 use Rattle.usb_base.specs.declared.endpoints.EndCause.{EndCause}
 use Rattle.usb_base.specs.declared.reports.What.{What}
@@ -12,7 +13,7 @@ use Rattle.drv_table.specs.declared.rows.Found.TheVariants as founds
 use Rattle.drv_table.specs.DriverContent.{DriverContent, waits_for}
 use Rattle.drv_table.specs.Harvests.{is_stall, end_of, noted}
 use Rattle.drv_table.specs.Harvesting.{served, moved_on, told_with, goes_on, behind_one, behind, mends_of, stalled, descriptor_told, after_end, harvested_as, after_harvest}
-use Rattle.law_queues.proofs.lemmas.mended_heads.Content.{KeepFirsts, firsts_same, firsts_both, firsts_set, KeepOwed, owed_same, owed_set, set_at}
+use Rattle.law_queues.proofs.lemmas.mended_heads.Content.{KeepFirsts, firsts_same, firsts_both, firsts_set, KeepOwed, owed_same, owed_set}
 
 abbrev IsOther : ℕ → ℕ → Endpoint → Type 0
 IsOther e i x = i ≢ e
@@ -95,7 +96,7 @@ module _ (d : DriverContent) (m : Mem) (e t : ℕ) (x : Endpoint) (y : Transfer)
       record {
         mends = b.mends;
         others = others_set d (stalled f e t x) e (record x { next = None }) b.endpoints (firsts_both d.transfers f.transfers (stalled f e t x).transfers (told_firsts what n) b.firsts);
-        own = ap (λ (ys : List Endpoint). slice_get ys e) b.endpoints ∙ set_at d.endpoints e x (record x { next = None }) here;
+        own = ap (λ (ys : List Endpoint). slice_get ys e) b.endpoints ∙ set_here d.endpoints e x (record x { next = None }) here;
       }
 
   end_owes_none : (what : What) (n : ℕ) (cause : EndCause) (stall : Bool) → NothingMore (after_end (told what n) e t x stall (Some cause))

@@ -1,10 +1,10 @@
 -- Which qTDs of a control endpoint's queue memory has: the one at which the queue goes on, and the one that is read next, which is out.
-use Rattle.std.proofs.Common.{◌≡◌, ◌≢◌, ℕ, zero, suc, ◌+◌, ◌-◌, ◌*◌, ◌<◌, ◌≤◌, ◌==◌, Bool, true, false, not, ◌&&◌, ◌||◌, cond, List, [], ◌∷◌, ◌++◌, drop, slice_get, Option, Some, None, option_map, ap, sym, subst, ◌∙◌, ⊎_elim, inl, inr, refl, arith}
+use Rattle.std.proofs.Common.{◌≡◌, ◌≢◌, ℕ, zero, suc, ◌+◌, ◌-◌, ◌*◌, ◌<◌, ◌≤◌, ◌==◌, Bool, true, false, not, ◌&&◌, ◌||◌, cond, List, [], ◌∷◌, drop, slice_get, Option, Some, None, option_map, ap, sym, subst, ◌∙◌, inl, refl, arith}
 use Rattle.std.proofs.lemmas.Bool.{false≢true, true≢false, eq-eqb}
 use Rattle.std.proofs.lemmas.Option.{same_Some}
-use Rattle.usb_base.specs.declared.packets.EpKind.{EpKind}
-use Rattle.usb_base.specs.declared.packets.EpKind.TheVariants as kinds
-use Rattle.qh_qtd.specs.declared.qtd.Qtd.{Qtd}
+use Rattle.law_queues.proofs.Common2.{element_by}
+use Rattle.law_queues.proofs.Common.{among_left, among_right, if_zero, told_at}
+use Rattle.law_driver.proofs.Common.{control_kind}
 use Rattle.mem_runs.specs.Book.{slot_of}
 use Rattle.mem_runs.specs.declared.slots.Slot.{Slot}
 use Rattle.drv_table.specs.declared.content.Endpoint.{Endpoint}
@@ -12,17 +12,16 @@ use Rattle.drv_table.specs.declared.content.Transfer.{Transfer}
 use Rattle.drv_table.specs.declared.content.Command.{Command}
 use Rattle.drv_table.specs.declared.content.Command.TheVariants as unfinished
 use Rattle.drv_table.specs.DriverContent.{DriverContent}
-use Rattle.drv_table.specs.Words.{is_control}
 use Rattle.drv_table.specs.Kinds.{is_iso}
 use Rattle.claims_driver.specs.Owners.{Owner, QueueHead, Dummy, Element as OfTransfer, HasRun, IsPlaced, ArePieces, NoteRuns, Views, views_of, note_in, runs_of_endpoint, runs_of_transfer, is_descriptor, IsQueueIn}
 use Rattle.claims_driver.specs.Leaving.{HasOwners}
 use Rattle.law_driver.proofs.lemmas.run_owners.Runs.{placed_run}
 use Rattle.claims_driver.specs.LentRuns.{AreLent}
 use Rattle.law_driver.proofs.lemmas.lent_runs.Laws.{all_are_lent_between_commands}
-use Rattle.law_structures.specs.lent_structures.Structures.{Structure, Element, StructureSets}
+use Rattle.law_structures.specs.lent_structures.Structures.{StructureSets}
 use Rattle.law_structures.specs.lent_structures.Sound.{IsElement}
 use Rattle.law_ring.specs.Order.{IsAmong}
-use Rattle.law_driver_ring.specs.Inventory.{Sort, OfElement, sort_of, sorts_of, IsPieceTold, AreTold, IsDriven}
+use Rattle.law_driver_ring.specs.Inventory.{OfElement, sorts_of, IsDriven}
 use Rattle.law_driver.specs.chained_transfers.Chains.{piece_at, AreChained}
 use Rattle.law_driver.specs.chained_transfers.Turns.{Turn, turn_of, turn_in, AreReportedTo, AreInTurn}
 use Rattle.law_driver.specs.chained_transfers.Out.{pieces_from, passed, out_of_transfer, if_last, out_of}
@@ -30,10 +29,6 @@ use Rattle.law_driver_ring.specs.fed_queues.Places.{AreStillOut}
 use Rattle.law_queues.specs.mended_heads.Owed.{StalledQueue, GoesOnAt, IsOwed}
 
 -- ---- control endpoints have queues
-
-pub not_iso : (kind : EpKind) → is_control kind ≡ true → is_iso kind ≡ false
-not_iso kinds.Iso is = absurd (false≢true is)
-not_iso _ is = refl
 
 -- its endpoint, as the runs are told
 pub queued_in : (d : DriverContent) (e : ℕ) (x : Endpoint) → slice_get d.endpoints e ≡ Some x → is_iso x.desc.kind ≡ false → x.gone ≡ false → IsQueueIn (views_of d) e (runs_of_endpoint x)
@@ -44,17 +39,8 @@ queue_placed d has e x here queued kept = let q = queued_in d e x here queued ke
 
 -- ---- elements
 
-element_by : (o : Option Structure) → option_map sort_of o ≡ Some OfElement → (t : Qtd) × (o ≡ Some (Element t))
-element_by (Some (Element t)) is = (t, refl)
-element_by _ is = absurd (cc)
-
 pub is_element : (parts : StructureSets) (n a : ℕ) → sorts_of parts n a ≡ Some OfElement → IsElement (parts n) a
 is_element parts n a is = let e = element_by (parts n a) is in record { qtd = e.0; here = e.1 }
-
-told_at : (v : Views) (sorts : ℕ → Option Sort) (b n i : ℕ) → AreTold v sorts b n → i < n → IsPieceTold v sorts (piece_at v.note b i)
-told_at v sorts b zero i told below = absurd (omega (arith, below))
-told_at v sorts b (suc n) zero told below = told.0
-told_at v sorts b (suc n) (suc i) told below = told_at v sorts (v.note b).next n i told.1 (omega (arith, below))
 
 placed_at : (slot : ℕ → Slot) (owner : ℕ → Owner) (note : ℕ → NoteRuns) (t b n i : ℕ) → ArePieces slot owner note t b n → i < n → IsPlaced slot owner (piece_at note b i) (OfTransfer t)
 placed_at slot owner note t b zero i all below = absurd (omega (arith, below))
@@ -118,21 +104,9 @@ pub onward_there : (d : DriverContent) (parts : StructureSets) (s : StalledQueue
     → IsElement (parts (32 * s.queue)) (32 * s.onward)
 onward_there d parts s has lent chained turns idle driven k =
     subst (λ (q : ℕ). IsElement (parts (32 * q)) (32 * s.onward)) k.queue
-    (onward_by d has lent idle parts driven k.number k.endpoint k.here (not_iso k.endpoint.desc.kind k.control) k.kept k.endpoint.next s.onward chained turns (turns.turns.next k.number k.endpoint k.here k.going) k.onward)
+    (onward_by d has lent idle parts driven k.number k.endpoint k.here (control_kind k.endpoint.desc.kind k.control) k.kept k.endpoint.next s.onward chained turns (turns.turns.next k.number k.endpoint k.here k.going) k.onward)
 
 -- ---- the one that is read next is out
-
-none_last : (ys : List Transfer) → if_last ys 0 ≡ 0
-none_last [] = refl
-none_last (y ∷ ys) = refl
-
-among_left : (a : ℕ) (xs ys : List ℕ) → IsAmong a xs → IsAmong a (xs ++ ys)
-among_left a [] ys is = absurd is
-among_left a (x ∷ xs) ys is = ⊎_elim {C = IsAmong a ((x ∷ xs) ++ ys)} (λ (same : a ≡ x). inl same) (λ (later : IsAmong a xs). inr (among_left a xs ys later)) is
-
-among_right : (a : ℕ) (xs ys : List ℕ) → IsAmong a ys → IsAmong a (xs ++ ys)
-among_right a [] ys is = is
-among_right a (x ∷ xs) ys is = inr (among_right a xs ys is)
 
 first_out : (note : ℕ → NoteRuns) (b n : ℕ) → 1 ≤ n → IsAmong (32 * b) (pieces_from note b n)
 first_out note b zero some = absurd (omega (arith, some))
@@ -154,7 +128,7 @@ place_among note e t made [] y there own held waits some = absurd (cc)
 place_among note e zero made (z ∷ zs) y there own held waits some =
     let same : z ≡ y = cc in
     among_left (32 * y.place) (out_of_transfer note e (if_last zs 0) z) (out_of note e None made zs)
-    (subst (λ (n : ℕ). IsAmong (32 * y.place) (out_of_transfer note e n z)) (sym (none_last zs))
+    (subst (λ (n : ℕ). IsAmong (32 * y.place) (out_of_transfer note e n z)) (sym (if_zero zs))
     (subst (λ (w : Transfer). IsAmong (32 * y.place) (out_of_transfer note e 0 w)) (sym same) (place_out note e y own held waits some)))
 place_among note e (suc t) made (z ∷ zs) y there own held waits some =
     among_right (32 * y.place) (out_of_transfer note e (if_last zs 0) z) (out_of note e None made zs) (place_among note e t made zs y there own held waits some)

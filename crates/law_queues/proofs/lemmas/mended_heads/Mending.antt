@@ -1,6 +1,7 @@
 -- A queue head after the next of its three stores, and the ring beside it.
 use Rattle.std.proofs.Common.{◌≡◌, ℕ, zero, suc, ◌*◌, ◌<◌, ◌≤◌, Bool, true, false, Some, ap, refl, sym, subst, ◌∙◌, arith}
 use Rattle.std.proofs.lemmas.Bool.{true≢false}
+use Rattle.law_queues.proofs.Common.{one_target}
 use Rattle.word_mem.specs.Memory.{Mem}
 use Rattle.link_words.specs.declared.kinds.QtdLink.TheVariants as qtd_links
 use Rattle.link_words.specs.Links.{no_qtd, qtd_link_of}
@@ -60,9 +61,6 @@ stores_alternate b (suc (suc n)) q some alternate = alternate (omega arith)
 pub last_leads : (b n : ℕ) (q : Qh) → q.next ≡ to_qtd b → qtd_link_of (next_pointer (mended_by b (suc (suc n)) q)) ≡ qtd_links.To (32 * b)
 last_leads b n q next = ap qtd_link_of next
 
-to_same : (a c : ℕ) → qtd_links.To a ≡ qtd_links.To c → a ≡ c
-to_same a c same = cc
-
 pub idle_leads : (b made : ℕ) (q : Qh) → q.token.halted ≡ true → (1 ≤ made → q.next ≡ to_qtd b) → (mended_by b made q).token.halted ≡ false
     → qtd_link_of (next_pointer (mended_by b made q)) ≡ qtd_links.To (32 * b)
 idle_leads b (suc (suc n)) q halted next off = last_leads b n q (next (omega arith))
@@ -70,7 +68,7 @@ idle_leads b _ q halted next off = absurd (true≢false (sym halted ∙ off))
 
 pub idle_goes : (b made c : ℕ) (q : Qh) → q.token.halted ≡ true → (1 ≤ made → q.next ≡ to_qtd b) → (mended_by b made q).token.halted ≡ false
     → qtd_link_of (next_pointer (mended_by b made q)) ≡ qtd_links.To c → c ≡ 32 * b
-idle_goes b made c q halted next off to = to_same c (32 * b) (sym to ∙ idle_leads b made q halted next off)
+idle_goes b made c q halted next off to = one_target c (32 * b) (sym to ∙ idle_leads b made q halted next off)
 
 pub is_active : (b made : ℕ) (q : Qh) → (mended_by b made q).token.active ≡ true → (q.token.active ≡ true) × ((mended_by b made q).current ≡ q.current)
 is_active b (suc (suc n)) q on = absurd (true≢false (sym on))

@@ -1,10 +1,9 @@
 -- The streams of other queue heads, fronts and tails, and the driver's queues, once the store that is owed is made.
-use Rattle.std.proofs.Common.{◌≡◌, ◌≢◌, ℕ, ◌*◌, ◌≤◌, ◌⊎◌, Bool, true, false, List, length, Option, Some, None, ap, sym, subst, ◌∙◌, ⊎_elim, inl, inr}
-use Rattle.std.proofs.lemmas.Bool.{false≢true}
+use Rattle.std.proofs.Common.{◌≡◌, ◌≢◌, ℕ, ◌*◌, ◌≤◌, ◌⊎◌, Bool, false, List, length, Option, Some, ap, sym, subst, ◌∙◌, ⊎_elim, inl, inr}
+use Rattle.law_queues.proofs.Common.{none_published}
+use Rattle.law_common.proofs.Numbers.{streamed_apart}
 use Rattle.qh_qtd.specs.declared.qtd.Qtd.{Qtd}
 use Rattle.qh_qtd.specs.declared.queue_head.Qh.{Qh}
-use Rattle.drv_table.specs.declared.content.Command.{Command}
-use Rattle.drv_table.specs.declared.content.Command.TheVariants as unfinished
 use Rattle.drv_table.specs.declared.content.Endpoint.{Endpoint}
 use Rattle.drv_table.specs.declared.content.QtdNote.{QtdNote}
 use Rattle.drv_table.specs.declared.content.Sort.{Sort}
@@ -31,13 +30,6 @@ use Rattle.law_queues.specs.mended_heads.Queues.{MendLeavesPipes, MendLeavesAcco
 use Rattle.law_queues.proofs.lemmas.mended_heads.Mending.{idle_goes, still_front}
 use Rattle.law_queues.proofs.lemmas.mended_heads.Parts.{stays, spares_head, had_rest, head_was, element_stays, element_was, buffer_stays, spares_element, front_stays, passed_stays, within_stays, tail_stays}
 use Rattle.law_queues.proofs.lemmas.mended_heads.Row.{mend_row, mend_spares_heads, mend_spares_endpoints}
-
-none_published : (b : ℕ) (words : List ℕ) → ◌≡◌ {A = Option Command} None (Some (unfinished.Publish b words)) → ⊥
-none_published b words same = cc
-
--- a queue head with a stream is another one
-pub not_own : (streams : ℕ → Bool) (n m : ℕ) → streams n ≡ false → streams m ≡ true → m ≢ n
-not_own streams n m off on same = false≢true (sym off ∙ ap streams (sym same) ∙ on)
 
 module _ (p : DriverParts) (parts : StructureSets) (out : ℕ → List ℕ) (k : IsAtMend p parts out) where
   abbrev s : StalledQueue
@@ -172,7 +164,8 @@ pub leaves_pipes : {W : Type 0} (sender : W → ℕ → ℕ → Option Sender) �
 leaves_pipes sender stream packets member streams ends acc wire hand p parts out k off piped =
     let own = 32 * k.stalled.queue in
     spared_pipes_agree sender stream packets member member streams ends acc hand (hand_then k hand) parts (parts_then k) wire (stale_hand_is_same own hand)
-    (λ n on. mend_spares_heads p parts out k n (not_own streams own n off on)) (λ n on. ins_stay p parts out k n (piped.pipes n on).ins)
+    (λ n on. mend_spares_heads p parts out k n (streamed_apart streams own n off on))
+    (λ n on. ins_stay p parts out k n (piped.pipes n on).ins)
     (λ n on none. elsewhere_stays p parts out k stream n (ends n) (piped.others n on none)) piped
 
 pub mend_leaves_accounts : MendLeavesAccounts

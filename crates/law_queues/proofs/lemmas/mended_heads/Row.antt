@@ -2,6 +2,9 @@
 use Rattle.std.proofs.Common.{◌≡◌, ◌≢◌, ℕ, zero, suc, ◌+◌, ◌*◌, ◌<◌, ◌≤◌, true, List, [], ◌∷◌, drop, slice_get, Option, Some, None, ap, refl, sym, subst, ◌∙◌, arith}
 use Rattle.std.proofs.lemmas.Bool.Decides.{nat_tests}
 use Rattle.std.proofs.lemmas.Option.{same_Some}
+use Rattle.law_queues.proofs.Common.{queue_of}
+use Rattle.law_common.proofs.Lists.{all_more}
+use Rattle.law_driver.proofs.Common.{control_kind}
 use Rattle.word_mem.specs.Memory.{Mem}
 use Rattle.qh_qtd.specs.declared.qtd.Qtd.{Qtd}
 use Rattle.qh_qtd.specs.declared.queue_head.Qh.{Qh}
@@ -33,9 +36,9 @@ use Rattle.law_driver_ring.proofs.Storing.{store_made}
 use Rattle.law_queues.specs.mended_heads.Owed.{StalledQueue, store_by, store_due, IsOwed}
 use Rattle.law_queues.specs.mended_heads.Waiting.{AreAllPublished, Waits, AreStalled, MendsStand}
 use Rattle.law_queues.specs.mended_heads.Mended.{mended_by, mended, driver_mended, IsAtMend, head_at, parts_then, hand_then, MendIsDue, MendRow, MendKeepsMends, IsMendedWhole, LastMendEnds, MendLeavesRing, MendSparesHeads, MendSparesEndpoints, MendSparesElements, MendSparesHand, MendLeavesHalts}
-use Rattle.law_queues.proofs.lemmas.mended_heads.Content.{all_on, all_both}
+use Rattle.law_queues.proofs.lemmas.mended_heads.Content.{all_both}
 use Rattle.law_queues.proofs.lemmas.mended_heads.Groups.{first_left, rest_by, rest_left, rest_all, rest_apart}
-use Rattle.law_queues.proofs.lemmas.mended_heads.Lent.{not_iso, queue_placed, onward_there}
+use Rattle.law_queues.proofs.lemmas.mended_heads.Lent.{queue_placed, onward_there}
 use Rattle.law_queues.proofs.lemmas.mended_heads.Mending.{keeps_endpoint, keeps_halted, stores_next, stores_alternate, last_leads, drives_by}
 use Rattle.law_queues.proofs.lemmas.mended_heads.Parts.{here_now, head_beside, spares_head, endpoint_stays, element_was, spares_element, halts_stay}
 
@@ -53,7 +56,7 @@ in_run (Lends r) q b (suc (suc n)) at run = let low : 32 * r.first ≤ 32 * q + 
 
 can_mend : (d : DriverContent) (m : Mem) (s : StalledQueue) → Stands (holding d.book m) → HasOwners d → IsOwed d s → can_store (slot_of d.book.slots s.queue) (store_due s).at ≡ true
 can_mend d m s stands has k =
-    let placed = queue_placed d has k.number k.endpoint k.here (not_iso k.endpoint.desc.kind k.control) k.kept in
+    let placed = queue_placed d has k.number k.endpoint k.here (control_kind k.endpoint.desc.kind k.control) k.kept in
     let run : HasRun (slot_of d.book.slots k.endpoint.queue) = placed_run k.endpoint.queue (OfEndpoint k.number) placed in
     let run_there : HasRun (slot_of d.book.slots s.queue) = subst (λ (q : ℕ). HasRun (slot_of d.book.slots q)) k.queue run in
     in_run (slot_of d.book.slots s.queue) s.queue s.onward s.made (stands.placed s.queue) run_there
@@ -83,11 +86,6 @@ mend_is_due p parts out w row stands has lent chained turns driven k =
     at_mend p parts out w k.queues row due.0 due.1 stands has lent chained turns driven k.are
 
 -- ---- what stands after it
-
--- the store is into the block of the queue head
-queue_of : (q b made : ℕ) → (store_by q b made).queue ≡ q
-queue_of q b (suc zero) = refl
-queue_of q b _ = refl
 
 pub mend_row : MendRow
 mend_row p parts out k =
@@ -165,7 +163,7 @@ module _ (p : DriverParts) (parts : StructureSets) (out : ℕ → List ℕ) (k :
   stalled_then : AreStalled (driver_mended p.driver) (parts_then k) out (rest_by s.made s k.others)
   stalled_then = record {
     mends = ap (drop 1) k.are.mends ∙ rest_left s k.others k.are.owed.0.some;
-    owed = rest_all (IsOwed (driver_mended p.driver)) s k.others s.made k.are.owed.0.some own_owed (all_on (IsOwed p.driver) (IsOwed (driver_mended p.driver)) k.others owed_then k.are.owed.1);
+    owed = rest_all (IsOwed (driver_mended p.driver)) s k.others s.made k.are.owed.0.some own_owed (all_more (IsOwed p.driver) (IsOwed (driver_mended p.driver)) k.others owed_then k.are.owed.1);
     wait = rest_all (λ (r : StalledQueue). Waits r (parts_then k) out) s k.others s.made k.are.owed.0.some own_waits
         (all_both (λ (r : StalledQueue). r.queue ≢ s.queue) (λ (r : StalledQueue). Waits r parts out) (λ (r : StalledQueue). Waits r (parts_then k) out) k.others other_waits k.are.apart.0 k.are.wait.1);
     apart = rest_apart s k.others s.made k.are.apart;

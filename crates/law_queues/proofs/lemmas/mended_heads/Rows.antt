@@ -2,6 +2,7 @@
 use Rattle.std.proofs.Common.{◌≡◌, ℕ, Bool, true, false, cond, List, [], ◌∷◌, slice_get, Option, Some, None, option_map, ap, sym, ◌∙◌, refl}
 use Rattle.std.proofs.lemmas.Bool.{false≢true}
 use Rattle.std.proofs.lemmas.Option.{same_Some}
+use Rattle.law_driver.proofs.Common.{transfer_mends}
 use Rattle.word_mem.specs.Memory.{Mem}
 use Rattle.mem_runs.specs.Book.{Holding, holding, lend_taken}
 use Rattle.drv_periodic_table.specs.declared.content.Removed.{Removed}
@@ -22,7 +23,7 @@ use Rattle.drv_table.specs.Leaving.{first_row, removal_row, bell_row}
 use Rattle.drv_table.specs.Rows.{turn_row, row_for, driver_row, after_driver_row}
 use Rattle.drv_table.specs.Commands.{advance, after_lend}
 use Rattle.drv_table.specs.FrameChoice.{with_notes, framed_notes, placement_at, framed_by, linked_by}
-use Rattle.drv_table.specs.Releases.{freed_by, after_transfer, is_told, cancel_told, after_endpoint}
+use Rattle.drv_table.specs.Releases.{freed_by, is_told, cancel_told, after_endpoint}
 use Rattle.drv_table.specs.Removals.{after_unlink, after_descriptor, after_placed, after_removed}
 use Rattle.law_driver.specs.run_owners.Due.{IsDue}
 use Rattle.law_driver.proofs.lemmas.run_owners.Reasons.{each_event_is_due}
@@ -73,10 +74,6 @@ gives_back (rows.ReleaseEndpoint e) = true
 gives_back (rows.Unlink t) = true
 gives_back (rows.ReleaseRemoved what) = true
 gives_back _ = false
-
-transfer_mends : (p : Parts) (t : ℕ) (o : Option Transfer) (h : Holding) → (after_transfer p t o h).driver.mends ≡ p.driver.mends
-transfer_mends p t None h = refl
-transfer_mends p t (Some x) h = refl
 
 either_mends : (b : Bool) (d e f : DriverContent) → e.mends ≡ d.mends → f.mends ≡ d.mends → (cond b e f).mends ≡ d.mends
 either_mends true d e f one two = one

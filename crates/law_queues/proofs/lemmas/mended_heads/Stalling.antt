@@ -1,8 +1,11 @@
 -- A harvest finds nothing of a queue that waits, and the endpoint of a stall is owed its three stores.
-use Rattle.std.proofs.Common.{◌≡◌, ◌≢◌, ℕ, ◌*◌, ◌==◌, Bool, true, false, not, nat_le, if◌then◌else◌, cond, List, [], ◌∷◌, ◌++◌, slice_get, Option, Some, None, ◌⊎◌, ap, refl, sym, subst, ◌∙◌, ⊎_elim, inl, inr, arith}
+use Rattle.std.proofs.Common.{◌≡◌, ◌≢◌, ℕ, ◌*◌, ◌==◌, Bool, true, false, not, nat_le, if◌then◌else◌, cond, List, [], ◌∷◌, ◌++◌, slice_get, Option, Some, None, ap, refl, sym, subst, ◌∙◌, ⊎_elim, arith}
 use Rattle.std.specs.Prelude.{is_some}
 use Rattle.std.proofs.lemmas.Bool.{cases_eq, eqb-true, false≢true, and_parts}
 use Rattle.std.proofs.lemmas.Option.{same_Some}
+use Rattle.law_common.proofs.Booleans.{not_on}
+use Rattle.law_driver.proofs.Common.{same_endpoint, control_kind}
+use Rattle.law_queues.proofs.Common.{stall_or, after_is}
 use Rattle.usb_base.specs.declared.endpoints.EndCause.{EndCause}
 use Rattle.usb_base.specs.declared.endpoints.EndCause.TheVariants as causes
 use Rattle.usb_base.specs.declared.packets.EpKind.{EpKind}
@@ -17,7 +20,6 @@ use Rattle.drv_table.specs.declared.content.Mend.{Mend}
 use Rattle.drv_table.specs.declared.content.Sort.{Sort}
 use Rattle.drv_table.specs.declared.content.Sort.TheVariants as sorts
 use Rattle.drv_table.specs.declared.content.QtdNote.{QtdNote}
-use Rattle.drv_table.specs.declared.rows.DriverRow.TheVariants as rows
 use Rattle.drv_table.specs.declared.rows.Found.{Found}
 use Rattle.drv_table.specs.declared.rows.Found.TheVariants as founds
 use Rattle.drv_table.specs.DriverContent.{DriverContent, waits_for}
@@ -25,13 +27,12 @@ use Rattle.drv_table.specs.Words.{is_control}
 use Rattle.drv_table.specs.Harvests.{note_at, token_in, halt_of, moved_of, done_of, ends_by, found_in, is_stall, end_of}
 use Rattle.drv_table.specs.Parts.{Parts as DriverParts}
 use Rattle.drv_table.specs.Harvesting.{found_of, served, after_harvest}
-use Rattle.drv_table.specs.Rows.{after_driver_row}
 use Rattle.drv_periodic_table.specs.Descriptors.{is_served, errors_in}
 use Rattle.drv_periodic_table.specs.Periodic.{note_at as descriptor_note}
 use Rattle.law_driver.proofs.lemmas.endpoint_lives.Lives.{none_told}
 use Rattle.law_driver.specs.run_owners.Due.{IsHarvestDue}
 use Rattle.claims_driver.specs.Leaving.{HasOwners}
-use Rattle.claims_driver.specs.Owners.{QueueHead as OfEndpoint, views_of, is_descriptor}
+use Rattle.claims_driver.specs.Owners.{views_of, is_descriptor}
 use Rattle.claims_driver.specs.LentRuns.{AreLent}
 use Rattle.law_driver.specs.chained_transfers.Turns.{AreInTurn}
 use Rattle.law_driver.proofs.lemmas.chained_transfers.Ways.{found_by}
@@ -46,7 +47,7 @@ use Rattle.law_queues.specs.mended_heads.Stalling.{IsStall, StallIsHalted, Halts
 use Rattle.law_queues.proofs.lemmas.mended_heads.Content.{all_both, all_more, owed_on}
 use Rattle.law_queues.proofs.lemmas.mended_heads.Groups.{left_more, apart_more}
 use Rattle.law_queues.proofs.lemmas.mended_heads.Harvested.{OwesMore, harvest_owes_none, harvest_owes}
-use Rattle.law_queues.proofs.lemmas.mended_heads.Lent.{not_iso, queue_placed, IsUntold, untold_by, place_is_out, place_there}
+use Rattle.law_queues.proofs.lemmas.mended_heads.Lent.{queue_placed, IsUntold, untold_by, place_is_out, place_there}
 
 -- ---- what is found
 
@@ -126,25 +127,7 @@ not_stalled kind found none n what is stall end = none (stall_is kind found (rec
 some_none : (c : EndCause) → ◌≡◌ {A = Option EndCause} (Some c) None → ⊥
 some_none c same = cc
 
-stall_or : (kind : EpKind) (found : Found) → IsStall kind found ⊎ (IsStall kind found → ⊥)
-stall_or kind founds.Active = inr (λ stall. stall)
-stall_or kind (founds.Moved n) = inr (λ stall. stall)
-stall_or kind (founds.Served errors) = inr (λ stall. stall)
-stall_or kind (founds.Ended n what) = by (is_stall what) (end_of kind what) refl refl
-  where
-    by : (b : Bool) (o : Option EndCause) → is_stall what ≡ b → end_of kind what ≡ o → ((is_stall what ≡ true) × (end_of kind what ≡ None)) ⊎ ((is_stall what ≡ true) × (end_of kind what ≡ None) → ⊥)
-    by true None one two = inl (one, two)
-    by true (Some c) one two = inr (λ both. some_none c (sym two ∙ both.1))
-    by false o one two = inr (λ both. false≢true (sym one ∙ both.0))
-
 -- ---- the harvested transfer
-
-not_reported : (b : Bool) → not b ≡ true → b ≡ false
-not_reported false is = refl
-not_reported true is = absurd (false≢true is)
-
-same_number : (k e : ℕ) → OfEndpoint k ≡ OfEndpoint e → k ≡ e
-same_number k e same = cc
 
 stall_differs : (kind : EpKind) (found : Found) → IsStall kind found → found ≢ founds.Active
 stall_differs kind found stall active = subst (IsStall kind) active stall
@@ -176,7 +159,7 @@ module _ (p : DriverParts) (e t : ℕ) (found : Found) (parts : StructureSets) (
   untold : IsUntold d e t y
   untold =
       let both = and_parts (y.endpoint == e) (not y.reported) due.waits in
-      untold_by d e t x y turns due.here kept due.there (eqb-true y.endpoint e both.0) (not_reported y.reported both.1)
+      untold_by d e t x y turns due.here kept due.there (eqb-true y.endpoint e both.0) (not_on y.reported both.1)
 
   -- nothing is found of a queue that waits
   active_by : (s : StalledQueue) → (o : IsOwed d s) → Waits s parts out → o.number ≡ e → found ≡ founds.Active
@@ -184,7 +167,7 @@ module _ (p : DriverParts) (e t : ℕ) (found : Found) (parts : StructureSets) (
       let is : o.endpoint ≡ x = same_Some o.endpoint x (sym o.here ∙ ap (slice_get d.endpoints) same ∙ due.here) in
       let control : is_control x.desc.kind ≡ true = ap (λ (z : Endpoint). is_control z.desc.kind) (sym is) ∙ o.control in
       let queue : x.queue ≡ s.queue = ap (λ (z : Endpoint). z.queue) (sym is) ∙ o.queue in
-      let queued = not_iso x.desc.kind control in
+      let queued = control_kind x.desc.kind control in
       let element = place_there d parts e t x y has lent turns due.idle driven due.here queued kept untold in
       let among = place_is_out d out e t x y turns still due.idle due.here kept untold in
       let on = w.published (32 * y.place) element.qtd (subst (λ (q : ℕ). IsAmong (32 * y.place) (out (32 * q))) queue among) (subst (λ (q : ℕ). parts (32 * q) (32 * y.place) ≡ Some (Element element.qtd)) queue element.here) in
@@ -232,9 +215,9 @@ module _ (p : DriverParts) (e t : ℕ) (found : Found) (parts : StructureSets) (
 
   queue_differs : (control : is_control x.desc.kind ≡ true) (s : StalledQueue) (o : IsOwed d s) → o.number ≢ e → x.queue ≢ s.queue
   queue_differs control s o differs same =
-      let mine = queue_placed d has e x due.here (not_iso x.desc.kind control) kept in
-      let other = queue_placed d has o.number o.endpoint o.here (not_iso o.endpoint.desc.kind o.control) o.kept in
-      differs (same_number o.number e (sym other.owned ∙ ap has.owner (o.queue ∙ sym same) ∙ mine.owned))
+      let mine = queue_placed d has e x due.here (control_kind x.desc.kind control) kept in
+      let other = queue_placed d has o.number o.endpoint o.here (control_kind o.endpoint.desc.kind o.control) o.kept in
+      differs (same_endpoint o.number e (sym other.owned ∙ ap has.owner (o.queue ∙ sym same) ∙ mine.owned))
 
   own_waits : HaltsQueue (later (32 * x.queue)) parts (32 * x.queue) → Waits new parts later
   own_waits h = record {
@@ -266,10 +249,6 @@ module _ (p : DriverParts) (e t : ℕ) (found : Found) (parts : StructureSets) (
   harvested halts k =
       ⊎_elim {C = MendsStand content_then parts later} (λ (stall : IsStall x.desc.kind found). with_stall stall (halts stall) k)
       (λ (none : IsStall x.desc.kind found → ⊥). no_stall (not_stalled x.desc.kind found none) k) (stall_or x.desc.kind found)
-
-after_is : (p : DriverParts) (e t : ℕ) (found : Found) (due : IsHarvestDue p e t found) → (after_driver_row (rows.Harvest e t found) p).driver ≡ after_harvest p.driver p.memory e t found (Some due.endpoint) (Some due.transfer)
-after_is p e t found due =
-    ap (λ (o : Option Endpoint). after_harvest p.driver p.memory e t found o (slice_get p.driver.transfers t)) due.here ∙ ap (after_harvest p.driver p.memory e t found (Some due.endpoint)) due.there
 
 pub harvest_keeps_mends : HarvestKeepsMends
 harvest_keeps_mends p e t found parts out later due has lent turns tells driven still fewer halts k =

@@ -1,6 +1,9 @@
 -- The stores that are owed stand at each event of the controller, and where a row or a command leaves what is owed and the queues that wait.
 use Rattle.std.proofs.Common.{◌≡◌, ◌≢◌, ℕ, ◌+◌, ◌*◌, ◌<◌, ◌==◌, Bool, true, false, List, [], get_or, Option, Some, None, if◌then◌else◌, ap, refl, sym, subst, ◌∙◌, ⊎_elim, inl, inr}
 use Rattle.std.proofs.lemmas.Bool.{cases_eq, eq-eqb, false≢true}
+use Rattle.law_common.proofs.Numbers.{other_number}
+use Rattle.law_structures.proofs.Common.{element_is}
+use Rattle.law_common.proofs.Lists.{all_more}
 use Rattle.usb_base.specs.declared.packets.Ask.{Ask}
 use Rattle.usb_base.specs.declared.packets.Reply.{Reply}
 use Rattle.word_mem.specs.Memory.{Mem, word_at}
@@ -14,8 +17,8 @@ use Rattle.drv_table.specs.declared.rows.DriverRow.TheVariants as rows
 use Rattle.drv_table.specs.DriverContent.{DriverContent}
 use Rattle.drv_table.specs.Rows.{driver_row, after_driver_row}
 use Rattle.law_structures.specs.lent_structures.Structures.{Structure, QueueHead, Element, Structures, StructureSets, put, Tells}
-use Rattle.law_structures.proofs.lemmas.lent_structures.Names.{not_same, put_same, put_else, put_beside, put_found}
-use Rattle.law_structures.proofs.lemmas.lent_structures.Altering.{found_queue, same_element, no_two}
+use Rattle.law_structures.proofs.lemmas.lent_structures.Names.{put_same, put_else, put_beside, put_found}
+use Rattle.law_structures.proofs.lemmas.lent_structures.Altering.{found_queue, no_two}
 use Rattle.law_ring.specs.Fewer.{fewer_structures, without_those}
 use Rattle.law_ring.specs.Halted.{IsKeptOrPublished}
 use Rattle.law_ring.specs.Order.{IsAmong}
@@ -23,7 +26,7 @@ use Rattle.law_ring.proofs.Walking.{halted_queue_stays}
 use Rattle.law_queues.specs.mended_heads.Owed.{StalledQueue, IsOwed}
 use Rattle.law_queues.specs.mended_heads.Waiting.{StandsHalted, AreAllPublished, Waits, MendsStand}
 use Rattle.law_queues.specs.mended_heads.Standing.{NewDriverOwesNone, WalkKeepsMends, HaltedWordsStay, HasRest, KeepsHalted, StoreKeepsHalted, LinkKeepsHalted, LendKeepsHalted, ReleaseKeepsHalted, CommandsKeepMends, is_beside, RowsKeepMends}
-use Rattle.law_queues.proofs.lemmas.mended_heads.Content.{all_on, all_both, owed_on, any_one}
+use Rattle.law_queues.proofs.lemmas.mended_heads.Content.{all_both, owed_on, any_one}
 use Rattle.law_queues.proofs.lemmas.mended_heads.Rows.{is_plain, plain_alike, gives_back, given_mends, given_owes_none}
 use Rattle.law_queues.proofs.lemmas.mended_heads.Commands.{is_one, command_alike}
 
@@ -49,7 +52,7 @@ walk_keeps_mends transacts member parts hand reply wire after now later kind d o
   are = record {
     mends = k.are.mends;
     owed = k.are.owed;
-    wait = all_on (λ (s : StalledQueue). Waits s parts out) (λ (s : StalledQueue). Waits s now out) k.queues
+    wait = all_more (λ (s : StalledQueue). Waits s parts out) (λ (s : StalledQueue). Waits s now out) k.queues
         (λ s w. waits_same s parts now out (halted_queue_stays transacts member parts hand reply wire after now later kind (32 * s.queue) w.stands.head members in_hand effect w.stands.here w.stands.halted) w)
         k.are.wait;
     apart = k.are.apart;
@@ -85,7 +88,7 @@ store_keeps_halted parts out later n k e old new here own beside = record {
       ⊎_elim {C = IsKeptOrPublished (out n) (parts n) a t}
       (λ (put_there : (n ≡ k) × (a ≡ e) × (Element t ≡ Element new)).
       ⊎_elim {C = IsKeptOrPublished (out n) (parts n) a t} (λ (other : IsAmong a (out n) × (a ≢ e)). absurd (other.1 put_there.1))
-      (λ (published : (a ≡ e) × (new.token.active ≡ true)). inr (ap (λ (u : Qtd). u.token.active) (same_element t new put_there.2) ∙ published.1)) (own put_there.0 a among))
+      (λ (published : (a ≡ e) × (new.token.active ≡ true)). inr (ap (λ (u : Qtd). u.token.active) (element_is t new put_there.2) ∙ published.1)) (own put_there.0 a among))
       (λ (was : parts n a ≡ Some (Element t)).
       ⊎_elim {C = IsKeptOrPublished (out n) (parts n) a t}
       (λ (same : n ≡ k).
@@ -137,7 +140,7 @@ release_keeps_halted parts out later n k goes head fewer = record {
       (⊎_elim {C = without_those parts k goes n n ≡ Some (QueueHead q)}
       (λ (same : n ≡ k).
       ap (λ (b : Bool). (if b then fewer_structures goes (parts n) else parts n) n) (eq-eqb n k same) ∙ ap (λ (b : Bool). if b then None else parts n n) (head same) ∙ is)
-      (λ (differs : n ≢ k). ap (λ (b : Bool). (if b then fewer_structures goes (parts n) else parts n) n) (not_same n k differs) ∙ is) (cases_eq n k));
+      (λ (differs : n ≢ k). ap (λ (b : Bool). (if b then fewer_structures goes (parts n) else parts n) n) (other_number n k differs) ∙ is) (cases_eq n k));
   published = λ a t among is. inl (fewer a among, was (n == k) a t is);
 }
   where
@@ -174,7 +177,7 @@ stand_on d f parts now out later mends owed keeps k = record {
   queues = k.queues;
   are = record {
     mends = mends ∙ k.are.mends;
-    owed = all_on (IsOwed d) (IsOwed f) k.queues owed k.are.owed;
+    owed = all_more (IsOwed d) (IsOwed f) k.queues owed k.are.owed;
     wait = all_both (IsOwed d) (λ (s : StalledQueue). Waits s parts out) (λ (s : StalledQueue). Waits s now later) k.queues (λ s is w. waits_on s parts now out later (keeps s is) w) k.are.owed k.are.wait;
     apart = k.are.apart;
   };

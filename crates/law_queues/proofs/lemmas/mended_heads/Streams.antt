@@ -1,9 +1,10 @@
 -- The streams of OUT endpoints, and the reports, once the store that is owed is made.
 use Rattle.std.proofs.Common.{◌*◌}
+use Rattle.law_common.proofs.Numbers.{streamed_apart}
 use Rattle.law_controller.proofs.lemmas.controlled_streams.Outs.{stale_is_unmoved, out_is_spared}
 use Rattle.law_queues.specs.mended_heads.Mended.{parts_then, hand_then}
 use Rattle.law_queues.specs.mended_heads.Streams.{MendLeavesOutPipe, MendLeavesReports}
-use Rattle.law_queues.proofs.lemmas.mended_heads.Queues.{not_own, mend_adds_none, mend_leaves_accounts}
+use Rattle.law_queues.proofs.lemmas.mended_heads.Queues.{mend_adds_none, mend_leaves_accounts}
 use Rattle.law_queues.proofs.lemmas.mended_heads.Row.{mend_spares_heads, mend_spares_elements, mend_spares_hand}
 
 pub mend_leaves_out_pipe : MendLeavesOutPipe
@@ -17,6 +18,6 @@ mend_leaves_reports heads order sent acc reported hand p parts out k off right n
     record {
       place = r.place;
       told = r.told;
-      accounts = mend_leaves_accounts (order n) r.place (sent n) hand n r.told p parts out k (not_own heads (32 * k.stalled.queue) n off on) r.accounts;
+      accounts = mend_leaves_accounts (order n) r.place (sent n) hand n r.told p parts out k (streamed_apart heads (32 * k.stalled.queue) n off on) r.accounts;
       sum = r.sum;
     }

@@ -1,5 +1,6 @@
 -- An accepted open.
 use Rattle.std.proofs.Common.{◌≡◌, ◌≢◌, ℕ, length, get_or, slice_get, Some, refl, sym, subst, arith}
+use Rattle.law_common.proofs.Lists.{pushed_last}
 use Rattle.drv_table.specs.declared.content.Endpoint.{Endpoint}
 use Rattle.drv_table.specs.declared.content.Transfer.{Transfer}
 use Rattle.drv_table.specs.DriverContent.{DriverContent}
@@ -8,7 +9,6 @@ use Rattle.drv_table.specs.Accepting.{Offered, new_runs, newest_of}
 use Rattle.drv_table.specs.Offers.{new_endpoint, accepted_open}
 use Rattle.claims_driver.specs.Owners.{runs_of_endpoint}
 use Rattle.claims_driver.specs.Leaving.{HasOwners}
-use Rattle.law_driver.proofs.lemmas.chained_transfers.Chained.{pushed_last}
 use Rattle.law_driver_ring.specs.LendOpened.{IsOpened, opened_runs, opened_head}
 use Rattle.law_driver_ring.proofs.Ready.{open_is_ready}
 use Rattle.law_driver_ring.proofs.Beside.{opened_stays}

@@ -2,6 +2,8 @@
 use Rattle.std.proofs.Common.{◌≡◌, ◌≢◌, ℕ, suc, ◌*◌, ◌||◌, ◌==◌, Bool, true, false, nat_eq, if◌then◌else◌, List, [], ◌∷◌, ◌++◌, length, slice_get, Option, Some, None, ap, refl, sym, ◌∙◌, ⊎_elim, inl, inr, arith}
 use Rattle.std.proofs.lemmas.Bool.{cases_eq, eq-eqb}
 use Rattle.std.proofs.lemmas.Option.{same_Some}
+use Rattle.law_common.proofs.Numbers.{other_number, same_blocks}
+use Rattle.law_queues.proofs.Common.{not_its_out}
 use Rattle.drv_table.specs.declared.content.Endpoint.{Endpoint}
 use Rattle.drv_table.specs.declared.content.Transfer.{Transfer}
 use Rattle.drv_table.specs.declared.content.Command.{Command}
@@ -11,7 +13,6 @@ use Rattle.drv_table.specs.Words.{head_block, queue_head}
 use Rattle.claims_driver.specs.Leaving.{HasOwners}
 use Rattle.claims_driver.specs.Owners.{NoteRuns, note_in}
 use Rattle.law_structures.specs.lent_structures.Structures.{StructureSets}
-use Rattle.law_structures.proofs.lemmas.lent_structures.Names.{not_same}
 use Rattle.law_ring.specs.Told.{Endpoint as Told, endpoint_of}
 use Rattle.law_driver_ring.specs.Linked.{with_member, head_at}
 use Rattle.law_controller.specs.controlled_streams.Opened.{with_end, with_none}
@@ -23,8 +24,7 @@ use Rattle.law_driver.specs.chained_transfers.Out.{unpublished, out_of_transfer,
 use Rattle.law_driver_ring.specs.fed_queues.Fed.{unpublished_of, AreFed}
 use Rattle.law_driver_ring.specs.fed_queues.Places.{IsMet, HasHead, AreMet, HaveStreams, AreLast, AreStillOut, IsThere}
 use Rattle.law_queues.specs.publish_laws.Stores.{QueuesThen}
-use Rattle.law_queues.proofs.lemmas.publish_laws.Outs.{other_part}
-use Rattle.law_queues.proofs.lemmas.publish_laws.Apart.{queue_placed, queues_same, thirty_two}
+use Rattle.law_queues.proofs.lemmas.publish_laws.Apart.{queue_placed, queues_same}
 use Rattle.law_queues.specs.open_laws.Opens.{end_then, streams_then}
 use Rattle.law_queues.specs.open_laws.Queues.{IsOpenThere, open_finished, OpenFinishes}
 use Rattle.law_driver.proofs.lemmas.chained_transfers.Staying.{linked_stands_alive}
@@ -34,9 +34,9 @@ use Rattle.law_driver.proofs.lemmas.endpoint_lives.Lives.{linked_met}
 
 pub none_out : (note : ℕ → NoteRuns) (e : ℕ) (ts : List Transfer) → ((t : ℕ) (y : Transfer) → slice_get ts t ≡ Some y → y.endpoint ≢ e) → out_of note e None 0 ts ≡ []
 none_out note e [] none = refl
-none_out note e (z ∷ []) none = ap (λ (xs : List ℕ). xs ++ []) (other_part note e 0 z (none 0 z refl))
+none_out note e (z ∷ []) none = ap (λ (xs : List ℕ). xs ++ []) (not_its_out note e 0 z (none 0 z refl))
 none_out note e (z ∷ w ∷ zs) none =
-    ap (λ (xs : List ℕ). xs ++ out_of note e None 0 (w ∷ zs)) (other_part note e 0 z (none 0 z refl)) ∙ none_out note e (w ∷ zs) (λ t y there. none (suc t) y there)
+    ap (λ (xs : List ℕ). xs ++ out_of note e None 0 (w ∷ zs)) (not_its_out note e 0 z (none 0 z refl)) ∙ none_out note e (w ∷ zs) (λ t y there. none (suc t) y there)
 
 pub open_out : (note : ℕ → NoteRuns) (e queue made : ℕ) (ts : List Transfer) → out_of note e (Some (unfinished.Open queue)) made ts ≡ out_of note e None 0 ts
 open_out note e queue made (z ∷ w ∷ zs) = ap (λ (xs : List ℕ). out_of_transfer note e 0 z ++ xs) (open_out note e queue made (w ∷ zs))
@@ -55,7 +55,8 @@ pub then_here : (streams : ℕ → Bool) (x : Endpoint) → streams_then streams
 then_here streams x = ap (λ (b : Bool). if b then comes_in x.desc.name.way else streams (32 * x.queue)) (eq-eqb (32 * x.queue) (32 * x.queue) refl)
 
 pub then_beside : (streams : ℕ → Bool) (x : Endpoint) (m : ℕ) → m ≢ 32 * x.queue → streams_then streams x m ≡ streams m
-then_beside streams x m differs = ap (λ (b : Bool). if b then comes_in x.desc.name.way else streams m) (not_same m (32 * x.queue) differs)
+then_beside streams x m differs =
+    ap (λ (b : Bool). if b then comes_in x.desc.name.way else streams m) (other_number m (32 * x.queue) differs)
 
 -- ---- members
 
@@ -70,7 +71,7 @@ member_old member n m on = by_test (m == n)
     by_test false = on
 
 pub member_beside : (member : ℕ → Bool) (n m : ℕ) → m ≢ n → with_member member n m ≡ true → member m ≡ true
-member_beside member n m differs on = ap (λ (b : Bool). b || member m) (sym (not_same m n differs)) ∙ on
+member_beside member n m differs on = ap (λ (b : Bool). b || member m) (sym (other_number m n differs)) ∙ on
 
 module _ (d : DriverContent) (member streams : ℕ → Bool) (ends : ℕ → Told) (parts : StructureSets) (order : ℕ → ℕ → ℕ) (out : ℕ → List ℕ) (owners : HasOwners d) (turns : AsynchronousTakesTurns d) (k : IsOpenThere d parts) (stand : QueuesThen d member streams ends parts order out) where
   abbrev x : Endpoint
@@ -133,7 +134,7 @@ module _ (d : DriverContent) (member streams : ℕ → Bool) (ends : ℕ → Tol
   is_new e y there same = same_Some y x (sym there ∙ ap (slice_get d.endpoints) same ∙ k.here)
 
   pub apart : (e : ℕ) (y : Endpoint) → slice_get d.endpoints e ≡ Some y → y.gone ≡ false → e ≢ k.number → 32 * y.queue ≢ n
-  apart e y there kept differs same = differs (same_number e y there kept (thirty_two y.queue x.queue same))
+  apart e y there kept differs same = differs (same_number e y there kept (same_blocks y.queue x.queue same))
 
   head_new : (m : ℕ) → m ≡ n → HasHead f m
   head_new m same = record { number = k.number; endpoint = x; here = k.here; met = record { there = record { linked = none_open x.queue; kept = its_alive }; near = linked_met f k.number x k.fresh }; at = same }

@@ -1,6 +1,8 @@
 -- The lend of an accepted open.
 use Rattle.std.proofs.Common.{◌≡◌, ◌≢◌, ℕ, ◌*◌, Bool, true, false, List, Option, Some, ap, refl, sym, subst, ◌∙◌, ⊎_elim, inl, inr}
 use Rattle.std.proofs.lemmas.Bool.{false≢true}
+use Rattle.law_controller.proofs.Common.{heads_stay, elements_stay, same_hand}
+use Rattle.law_common.proofs.Numbers.{same_blocks}
 use Rattle.word_mem.specs.Memory.{Mem}
 use Rattle.qh_qtd.specs.declared.queue_head.Qh.{Qh}
 use Rattle.async_walk.specs.Walk.{Walk}
@@ -19,7 +21,6 @@ use Rattle.claims_driver.specs.Owners.{EndpointRuns, runs_of_endpoint}
 use Rattle.law_structures.specs.lent_structures.Structures.{Structures, StructureSets}
 use Rattle.law_ring.specs.Hand.{Hand}
 use Rattle.claims_base.specs.Controller.{Base}
-use Rattle.law_ring.specs.Effects.{buffer_of}
 use Rattle.law_ring.specs.Told.{Endpoint as Told}
 use Rattle.law_ring.specs.Order.{IsOrdered}
 use Rattle.law_driver_ring.specs.Driven.{DrivesRing}
@@ -27,33 +28,17 @@ use Rattle.law_driver_ring.specs.LendOpened.{opened_parts}
 use Rattle.law_driver_ring.specs.Linked.{opened_part}
 use Rattle.law_driver_ring.proofs.LendOpening.{lend_opens_drives}
 use Rattle.law_driver_ring.proofs.Unmet.{open_is_unmet}
-use Rattle.law_ring.specs.Sparing.{SparesHead, SparesElement}
 use Rattle.law_ring.proofs.SparedSparing.{spared_has_toggle, spared_endpoint, accounts_are_spared}
-use Rattle.law_controller.proofs.lemmas.controlled_streams.Storing.{same_hand}
 use Rattle.law_ring.specs.Bus.{Sender}
 use Rattle.law_ring.specs.Pipes.{IsIn, IsNotIn, ArePiped}
 use Rattle.law_controller.specs.controlled_streams.Reported.{AreReported}
 use Rattle.law_driver_ring.specs.fed_queues.Places.{HasThere}
 use Rattle.law_queues.specs.publish_laws.Stores.{QueuesThen}
-use Rattle.law_queues.proofs.lemmas.publish_laws.Apart.{thirty_two}
 use Rattle.law_queues.specs.open_laws.Opens.{IsOpenLent, next_of}
 use Rattle.law_queues.specs.open_laws.Lends.{IsOpenReady, IsAtLend, LendDrives, LendStands, LendPipes, LendReports}
 use Rattle.law_queues.specs.open_laws.Queues.{IsOpenToLend}
 use Rattle.law_queues.proofs.lemmas.open_laws.LentQueues as queues
 use Rattle.law_queues.proofs.lemmas.open_laws.Newest.{new_heads_rest}
-
-heads_stay : (parts now : StructureSets) (k : ℕ) → now k ≡ parts k → SparesHead parts now k
-heads_stay parts now k same q here = record {
-  queue = q;
-  here = ap (λ (part : Structures). part k) same ∙ here;
-  overlay = record { token = refl; current = refl; offset = refl; endpoint = refl };
-}
-
-elements_stay : (parts now : StructureSets) (k e : ℕ) → now k ≡ parts k → SparesElement parts now k e
-elements_stay parts now k e same = record {
-  element = λ t here. ap (λ (part : Structures). part e) same ∙ here;
-  bytes = λ t here. ap (λ (part : Structures). buffer_of part t) same;
-}
 
 -- what is to be lent, whatever is to lead to it
 abbrev pub to_lend : {d : DriverContent} {m : Mem} → IsOpenReady d m → IsOpenToLend d m
@@ -171,7 +156,7 @@ module _ (base : Base) (w : Walk) (hand : Hand) (p : DriverParts) (member stream
   -- no endpoint that is there has its queue head
   there_apart : (m : ℕ) → HasThere d m → m ≢ n
   there_apart m h same =
-      let number = queues.same_number p.driver p.memory member streams ends parts order out k.sound.owners k.turns drives.driven k.stand (to_lend k.ready) h.number h.endpoint h.here h.there.kept (thirty_two h.endpoint.queue x.queue (sym h.at ∙ same)) in
+      let number = queues.same_number p.driver p.memory member streams ends parts order out k.sound.owners k.turns drives.driven k.stand (to_lend k.ready) h.number h.endpoint h.here h.there.kept (same_blocks h.endpoint.queue x.queue (sym h.at ∙ same)) in
       h.there.linked (k.ready.command ∙ ap (λ (z : Endpoint). Some (unfinished.Open z.queue)) (sym (queues.is_new p.driver p.memory member streams ends parts order out k.sound.owners k.turns drives.driven k.stand (to_lend k.ready) h.number h.endpoint h.here number)))
 
   pub reports_by : (acc : ℕ → List (List ℕ)) (reported : ℕ → List ℕ) (heads : ℕ → Bool) → ((m : ℕ) → heads m ≡ true → HasThere d m) → AreReported heads order out hand parts acc reported → AreReported heads order out hand now acc reported

@@ -2,6 +2,7 @@
 use Rattle.std.proofs.Common.{◌≡◌, ◌≢◌, ℕ, suc, ◌*◌, Bool, false, ◌==◌, nat_eq, nat_lt, if◌then◌else◌, List, length, slice_get, Option, Some, None, ap, refl, sym, subst, ◌∙◌, ⊎_elim, arith}
 use Rattle.std.proofs.lemmas.Bool.{cases_eq}
 use Rattle.std.proofs.lemmas.Option.{same_Some}
+use Rattle.law_common.proofs.Numbers.{same_blocks}
 use Rattle.word_mem.specs.Memory.{Mem}
 use Rattle.mem_runs.specs.Book.{Book, holding, slot_of, lend_taken}
 use Rattle.drv_table.specs.declared.content.Endpoint.{Endpoint}
@@ -32,7 +33,7 @@ use Rattle.law_driver_ring.specs.fed_queues.Fed.{IsPieceFed, unpublished_of, Are
 use Rattle.law_driver_ring.specs.fed_queues.Places.{AreMet, HaveStreams, IsLast, AreLast, AreStillOut}
 use Rattle.law_driver_ring.proofs.lemmas.fed_queues.Places.{SameQueues, same_ends, met_stays, streams_stay}
 use Rattle.law_queues.specs.publish_laws.Stores.{QueuesThen}
-use Rattle.law_queues.proofs.lemmas.publish_laws.Apart.{queue_placed, dummy_placed, queues_same, thirty_two}
+use Rattle.law_queues.proofs.lemmas.publish_laws.Apart.{queue_placed, dummy_placed, queues_same}
 use Rattle.law_queues.specs.open_laws.Queues.{IsNewPart, IsOpenToLend, IsOpenThere, parts_opened, open_lent, OpenLendIsMade, OpenLendStands}
 use Rattle.law_queues.proofs.lemmas.open_laws.FinishedQueues.{open_out, none_either}
 use Rattle.law_queues.proofs.lemmas.open_laws.Newest.{queue_and_dummy, new_part}
@@ -112,7 +113,7 @@ module _ (d : DriverContent) (m : Mem) (member streams : ℕ → Bool) (ends : �
   is_new e y there same = same_Some y x (sym there ∙ ap (slice_get d.endpoints) same ∙ k.here)
 
   pub apart : (e : ℕ) (y : Endpoint) → slice_get d.endpoints e ≡ Some y → y.gone ≡ false → e ≢ number → 32 * y.queue ≢ n
-  apart e y there kept differs same = differs (same_number e y there kept (thirty_two y.queue x.queue same))
+  apart e y there kept differs same = differs (same_number e y there kept (same_blocks y.queue x.queue same))
 
   -- the slot of another endpoint's inactive qTD stays
   slot_stays : (e : ℕ) (y : Endpoint) → slice_get d.endpoints e ≡ Some y → y.gone ≡ false → e ≢ number → slot_of lent_book.slots y.dummy ≡ slot_of d.book.slots y.dummy

@@ -1,12 +1,10 @@
 -- The premises of the store of the head's link: the head leads where the new queue head leads.
-use Rattle.std.proofs.Common.{◌≡◌, ◌≢◌, ℕ, suc, ◌+◌, ◌*◌, ◌/◌, Bool, true, false, cond, nat_lt, if◌then◌else◌, List, [], ◌∷◌, get_or, Option, Some, None, ap, refl, sym, subst, ◌∙◌, arith}
+use Rattle.std.proofs.Common.{◌≡◌, ◌≢◌, ℕ, suc, ◌+◌, ◌*◌, ◌/◌, Bool, true, false, cond, nat_lt, if◌then◌else◌, List, get_or, Some, None, ap, refl, sym, subst, ◌∙◌, arith}
 use Rattle.std.specs.Result.{result_ok}
-use Rattle.std.proofs.lemmas.Option.{same_Some}
+use Rattle.law_driver_ring.proofs.Common.{unless_is, head_link}
 use Rattle.word_mem.specs.Memory.{Mem, word_at}
 use Rattle.word_mem.specs.Views.{words_at}
 use Rattle.word_mem.proofs.Words.{get_or-words_in}
-use Rattle.link_words.specs.Layout.{unless_bad}
-use Rattle.link_words.specs.declared.refusal.Bad.{Bad}
 use Rattle.link_words.specs.Fields.{link_at}
 use Rattle.qh_qtd.specs.declared.queue_head.Qh.{Qh}
 use Rattle.qh_qtd.specs.QueueHead.{qh_read, qh_at, qh_bad}
@@ -19,12 +17,11 @@ use Rattle.drv_table.specs.DriverContent.{DriverContent}
 use Rattle.drv_table.specs.Parts.{Parts as DriverParts}
 use Rattle.drv_table.specs.Rows.{row_for, driver_row, after_driver_row}
 use Rattle.drv_table.specs.Commands.{command_row, advanced_by}
-use Rattle.drv_table.specs.Words.{head_block, to_queue_head, queue_head_link, queue_head}
+use Rattle.drv_table.specs.Words.{head_block, to_queue_head, queue_head}
 use Rattle.claims_driver.specs.Owners.{Head, runs_of_endpoint}
 use Rattle.law_driver.proofs.lemmas.run_owners.Runs.{placed_run}
 use Rattle.claims_driver.specs.Ring.{link_in}
-use Rattle.law_driver.specs.ring_members.Words.{step_to, AreLinked, IsOpening, StandsFor}
-use Rattle.law_driver.specs.ring_members.Links.{newest_from}
+use Rattle.law_driver.specs.ring_members.Words.{IsOpening, StandsFor}
 use Rattle.law_driver.proofs.lemmas.ring_members.Placed.{can_begin}
 use Rattle.async_walk.specs.Walk.{Walk}
 use Rattle.async_walk.specs.Rows.{place}
@@ -41,10 +38,6 @@ use Rattle.law_queues.specs.open_laws.Opens.{IsAtOpen, head_then, hand_then, nex
 use Rattle.law_driver.proofs.lemmas.chained_transfers.Staying.{linked_stands_alive}
 
 -- ---- the link of a queue head by its word
-
-unless_is : (o : Option Bad) (q r : Qh) → result_ok (unless_bad o q) ≡ Some r → q ≡ r
-unless_is None q r e = same_Some q r e
-unless_is (Some bad) q r e = absurd (cc)
 
 read_is : (ws : List ℕ) (q : Qh) → result_ok (qh_read ws) ≡ Some q → qh_at ws ≡ q
 unfolding qh_read
@@ -71,12 +64,8 @@ same_links m parts b c q r tells one other same =
 
 -- ---- the words of the ring
 
-head_word : (word : ℕ → ℕ) (b : ℕ) (xs : List Endpoint) → AreLinked word b xs → word head_block ≡ queue_head_link (newest_from b xs)
-head_word word b [] k = k
-head_word word b (x ∷ xs) k = head_word word (step_to b x) xs k.1
-
 pub words_same : (word : ℕ → ℕ) (xs : List Endpoint) (queue : ℕ) → IsOpening word xs queue → word head_block ≡ word queue
-words_same word xs queue k = head_word word head_block k.older k.ring ∙ sym k.link
+words_same word xs queue k = head_link word head_block k.older k.ring ∙ sym k.link
 
 -- ---- the row
 

@@ -1,7 +1,10 @@
 -- The stream of the new queue head begins, if it is that of an IN endpoint; that of an OUT or a control one has none.
-use Rattle.std.proofs.Common.{◌≡◌, ◌≢◌, ℕ, ◌*◌, ◌||◌, ◌==◌, Bool, true, false, if◌then◌else◌, List, slice_get, Option, Some, None, ap, refl, sym, ◌∙◌, ⊎_elim, inl, inr}
+use Rattle.std.proofs.Common.{◌≡◌, ◌≢◌, ℕ, ◌*◌, ◌||◌, ◌==◌, Bool, true, false, if◌then◌else◌, List, slice_get, Option, Some, ap, refl, sym, ◌∙◌, ⊎_elim, inl, inr}
 use Rattle.std.proofs.lemmas.Bool.{cases_eq, false≢true}
 use Rattle.std.proofs.lemmas.Option.{same_Some}
+use Rattle.law_driver_ring.proofs.Common.{one_element}
+use Rattle.law_common.proofs.Numbers.{other_number, same_blocks}
+use Rattle.law_driver.proofs.Common.{in_way as way_comes_in}
 use Rattle.usb_base.specs.declared.packets.Reply.{Reply}
 use Rattle.usb_base.specs.declared.packets.EpKind.{EpKind}
 use Rattle.usb_base.specs.declared.packets.Way.{Way}
@@ -14,19 +17,18 @@ use Rattle.drv_table.specs.declared.content.Command.TheVariants as unfinished
 use Rattle.drv_table.specs.DriverContent.{DriverContent}
 use Rattle.drv_table.specs.Parts.{Parts as DriverParts}
 use Rattle.drv_table.specs.Words.{head_block, to_queue_head, queue_head, dummy_qtd, is_control, speed_field}
-use Rattle.claims_driver.specs.Owners.{EndpointRuns, Head, QueueHead as QueueOf, runs_of_endpoint}
+use Rattle.claims_driver.specs.Owners.{Head, QueueHead as QueueOf, runs_of_endpoint}
 use Rattle.async_walk.specs.Walk.{Walk}
 use Rattle.async_walk.specs.Rows.{place}
-use Rattle.law_structures.specs.lent_structures.Structures.{Structure, QueueHead, Element, Structures, StructureSets, with_structure}
-use Rattle.law_structures.proofs.lemmas.lent_structures.Names.{not_same, put_beside, put_same}
-use Rattle.law_structures.proofs.lemmas.lent_structures.Altering.{found_queue, same_element}
+use Rattle.law_structures.specs.lent_structures.Structures.{QueueHead, Element, Structures, StructureSets}
+use Rattle.law_structures.proofs.lemmas.lent_structures.Names.{put_beside, put_same}
+use Rattle.law_structures.proofs.lemmas.lent_structures.Altering.{found_queue}
 use Rattle.law_ring.specs.Hand.{Hand, Settled}
 use Rattle.claims_base.specs.Controller.{Base}
 use Rattle.law_ring.specs.Ring.{IsInHand}
 use Rattle.law_ring.specs.Told.{hand_toggle, HasToggle, Endpoint as Told, endpoint_of}
-use Rattle.law_ring.proofs.Parting.{found_with}
 use Rattle.law_driver_ring.specs.Driven.{DrivesRing}
-use Rattle.law_driver_ring.specs.Linked.{no_part, opened_part, with_member, head_at}
+use Rattle.law_driver_ring.specs.Linked.{with_member, head_at}
 use Rattle.law_ring.specs.Sparing.{SparesHead}
 use Rattle.law_ring.proofs.SparedSparing.{linked_hand_is_same, spared_endpoint}
 use Rattle.law_controller.specs.controlled_streams.Reported.{AreReported}
@@ -37,29 +39,11 @@ use Rattle.law_controller.specs.controlled_streams.Opened.{with_stream, with_end
 use Rattle.law_controller.proofs.lemmas.controlled_streams.Beginning.{ends_with_one, pipes_with_one, reports_with_one, unopened_less_one, ends_with_other, pipes_with_other, unopened_with_other}
 use Rattle.law_controller.proofs.lemmas.controlled_streams.Alike.{alike_ends, alike_pipes, alike_unopened}
 use Rattle.claims_driver.specs.Scripts.{comes_in, IsKindOf}
-use Rattle.law_driver.proofs.lemmas.chained_transfers.Ways.{way_comes_in}
 use Rattle.law_driver_ring.specs.fed_queues.Places.{HasHead, HasThere}
-use Rattle.law_queues.proofs.lemmas.publish_laws.Apart.{queue_placed, thirty_two}
+use Rattle.law_queues.proofs.lemmas.publish_laws.Apart.{queue_placed}
 use Rattle.law_queues.specs.open_laws.Opens.{AreNamesApart, IsAtOpen, head_then, hand_then, end_then, streams_then, OpenPipes, OpenReports}
 use Rattle.law_queues.proofs.lemmas.open_laws.Linking.{here}
 use Rattle.law_queues.proofs.lemmas.open_laws.Standing.{then_here, then_beside, member_here, member_old, member_beside, element_was, its_alive, same_number}
-
--- ---- its part
-
-one_element : (r : EndpointRuns) (q : Qh) (a : ℕ) (t : Qtd) → opened_part r q a ≡ Some (Element t) → dummy_qtd ≡ t
-one_element r q a t found =
-    let one : Structures = with_structure no_part (32 * r.queue) (QueueHead q) in
-    ⊎_elim (λ (new : (a ≡ 32 * r.dummy) × (Element dummy_qtd ≡ Element t)). same_element dummy_qtd t new.1)
-    (λ (old : (a ≢ 32 * r.dummy) × (one a ≡ Some (Element t))).
-    ⊎_elim (λ (head : (a ≡ 32 * r.queue) × (QueueHead q ≡ Element t)). absurd (never head.1))
-    (λ (none : (a ≢ 32 * r.queue) × (no_part a ≡ Some (Element t))). absurd (nothing none.1)) (found_with no_part (32 * r.queue) a (QueueHead q) (Element t) old.1))
-    (found_with one (32 * r.dummy) a (Element dummy_qtd) (Element t) found)
-  where
-    never : QueueHead q ≡ Element t → ⊥
-    never same = cc
-
-    nothing : ◌≡◌ {A = Option Structure} None (Some (Element t)) → ⊥
-    nothing none = cc
 
 -- ---- its way
 
@@ -77,7 +61,7 @@ own_toggle _ kind is gets = absurd (false≢true gets)
 -- no transaction in hand is its
 toggle_off : (member : ℕ → Bool) (parts : StructureSets) (reply : Reply) (n : ℕ) (q : Qh) (hand : Hand) → member n ≡ false → q.token.toggle ≡ false → IsInHand member parts reply hand → hand_toggle hand n q ≡ false
 toggle_off member parts reply n q (Settled c z) off none k =
-    ap (λ (b : Bool). if b then z.host.toggle else q.token.toggle) (not_same c.at n (λ same. false≢true (sym off ∙ ap member (sym same) ∙ k.0.on))) ∙ none
+    ap (λ (b : Bool). if b then z.host.toggle else q.token.toggle) (other_number c.at n (λ same. false≢true (sym off ∙ ap member (sym same) ∙ k.0.on))) ∙ none
 toggle_off member parts reply n q _ off none k = none
 
 module _ (base : Base) (w : Walk) (hand : Hand) (p : DriverParts) (member streams : ℕ → Bool) (ends : ℕ → Told) (parts : StructureSets) (order : ℕ → ℕ → ℕ) (out : ℕ → List ℕ) (k : IsAtOpen p.driver p.memory member streams ends parts order out) (drives : DrivesRing base member parts hand (place w p.registers p.memory) p.driver) where
@@ -102,7 +86,7 @@ module _ (base : Base) (w : Walk) (hand : Hand) (p : DriverParts) (member stream
   -- a queue head of an endpoint isn't the head of the ring
   not_head : (e : ℕ) (y : Endpoint) → slice_get d.endpoints e ≡ Some y → y.gone ≡ false → 32 * y.queue ≢ head_at
   not_head e y there kept same =
-      never (sym (queue_placed d k.sound.owners e y there (k.turns.asynchronous.endpoints e y there) kept).owned ∙ ap k.sound.owners.owner (thirty_two y.queue head_block same) ∙ k.sound.owners.owned.each.head.owned)
+      never (sym (queue_placed d k.sound.owners e y there (k.turns.asynchronous.endpoints e y there) kept).owned ∙ ap k.sound.owners.owner (same_blocks y.queue head_block same) ∙ k.sound.owners.owned.each.head.owned)
     where
       never : QueueOf e ≡ Head → ⊥
       never z = cc
@@ -147,7 +131,7 @@ module _ (base : Base) (w : Walk) (hand : Hand) (p : DriverParts) (member stream
         by_test : (b : Bool) → those n ≡ b → those n ≡ false
         by_test true on =
             let h : HasThere d n = had n on in
-            let number = same_number p member streams ends parts order out k h.number h.endpoint h.here h.there.kept (thirty_two h.endpoint.queue x.queue (sym h.at)) in
+            let number = same_number p member streams ends parts order out k h.number h.endpoint h.here h.there.kept (same_blocks h.endpoint.queue x.queue (sym h.at)) in
             let same : h.endpoint ≡ x = same_Some h.endpoint x (sym h.here ∙ ap (slice_get d.endpoints) number ∙ k.lent.here) in
             absurd (h.there.linked (k.lent.command ∙ ap (λ (z : Endpoint). Some (unfinished.Open z.queue)) (sym same)))
         by_test false off = off

@@ -1,16 +1,15 @@
 -- No two endpoints have one name.
-use Rattle.std.proofs.Common.{◌≡◌, ℕ, zero, suc, ◌+◌, ◌-◌, ◌==◌, ◌⊎◌, Bool, true, false, ◌&&◌, cond, List, [], ◌∷◌, ◌++◌, length, take, drop, get_or, slice_get, Option, Some, None, option_map, ap, refl, sym, subst, ◌∙◌, ⊎_elim, inl, inr}
+use Rattle.std.proofs.Common.{◌≡◌, ℕ, zero, suc, ◌+◌, ◌-◌, Bool, true, cond, List, [], ◌∷◌, ◌++◌, length, take, drop, get_or, slice_get, Option, Some, None, option_map, ap, refl, sym, subst, ◌∙◌, ⊎_elim}
 use Rattle.std.specs.List.{position, position_from}
-use Rattle.std.proofs.lemmas.Bool.{eq-eqb}
 use Rattle.std.proofs.lemmas.Option.{same_Some}
 use Rattle.std.proofs.lemmas.Iterator.Adapters.{position_from-zero}
+use Rattle.law_common.proofs.Lists.{push_which}
+use Rattle.law_queues.proofs.Common.{no_endpoint, same_name}
+use Rattle.law_common.proofs.Options.{some_not_none, by_test}
 use Rattle.usb_base.specs.declared.endpoints.EpDesc.{EpDesc}
-use Rattle.usb_base.specs.declared.endpoints.EpName.{EpName}
-use Rattle.usb_base.specs.declared.packets.Way.{Way}
-use Rattle.usb_base.specs.declared.packets.Way.TheVariants as ways
 use Rattle.word_mem.specs.Memory.{Mem}
 use Rattle.drv_table.specs.declared.content.Endpoint.{Endpoint}
-use Rattle.drv_table.specs.DriverContent.{DriverContent, is_same_way, is_same_name}
+use Rattle.drv_table.specs.DriverContent.{DriverContent, is_same_name}
 use Rattle.drv_table.specs.Accepting.{Offered, new_runs}
 use Rattle.drv_table.specs.Offers.{new_endpoint, note_stages, with_queued, accepted_transfer}
 use Rattle.drv_table.specs.Rows.{driver_row, after_driver_row}
@@ -45,23 +44,13 @@ apart_by d f same k e g x y one other addr num way =
 pub names_stay_apart : NamesStayApart
 names_stay_apart p k = apart_by p.driver (after_driver_row (driver_row p) p).driver (row_left (driver_row p) p) k
 
-nothing_there : (e : ℕ) (x : Endpoint) → slice_get {X = Endpoint} [] e ≡ Some x → ⊥
-nothing_there e x there = cc
-
 pub new_names_are_apart : NewNamesAreApart
-new_names_are_apart n room e f x y one other addr num way = absurd (nothing_there e x one)
+new_names_are_apart n room e f x y one other addr num way = absurd (no_endpoint e x one)
 
 -- ---- an endpoint that is opened
 
-some_not_none : (i : ℕ) → ◌≡◌ {A = Option ℕ} (Some i) None → ⊥
-some_not_none i e = cc
-
-by_test : (b : Bool) (i : ℕ) (o : Option ℕ) → (o ≡ None → ⊥) → cond b (Some i) o ≡ None → ⊥
-by_test true i o later e = some_not_none i e
-by_test false i o later e = later e
-
 found_from : (t : Endpoint → Bool) (i : ℕ) (xs : List Endpoint) (j : ℕ) (x : Endpoint) → slice_get xs j ≡ Some x → t x ≡ true → position_from t i xs ≡ None → ⊥
-found_from t i [] j x there on none = nothing_there j x there
+found_from t i [] j x there on none = no_endpoint j x there
 found_from t i (z ∷ zs) zero x there on none =
     let same : z ≡ x = same_Some z x there in
     some_not_none i (sym (ap (λ (b : Bool). cond b (Some i) (position_from t (i + 1) zs)) (ap t same ∙ on)) ∙ none)
@@ -69,22 +58,6 @@ found_from t i (z ∷ zs) (suc j) x there on none = by_test (t z) i (position_fr
 
 no_position : (t : Endpoint → Bool) (xs : List Endpoint) (j : ℕ) (x : Endpoint) → slice_get xs j ≡ Some x → t x ≡ true → position t xs ≡ None → ⊥
 no_position t xs j x there on none = found_from t 0 xs j x there on (sym (position_from-zero t xs) ∙ none)
-
-push_which : {X : Type 0} (xs : List X) (x : X) (n : ℕ) (z : X) → slice_get (xs ++ x ∷ []) n ≡ Some z → (slice_get xs n ≡ Some z) ⊎ ((n ≡ length xs) × (z ≡ x))
-push_which [] x zero z here = inr (refl, sym (same_Some x z here))
-push_which [] x (suc n) z here = absurd cc
-push_which (y ∷ ys) x zero z here = inl here
-push_which (y ∷ ys) x (suc n) z here =
-    ⊎_elim (λ (was : slice_get ys n ≡ Some z). inl was) (λ (new : (n ≡ length ys) × (z ≡ x)). inr (ap suc new.0, new.1)) (push_which ys x n z here)
-
-same_way : (w : Way) → is_same_way w w ≡ true
-same_way ways.In = refl
-same_way _ = refl
-
-same_name : (a b : EpName) → a.addr ≡ b.addr → a.num ≡ b.num → a.way ≡ b.way → is_same_name a b ≡ true
-same_name a b addr num way =
-    ap (λ (x : Bool). x && (a.num == b.num) && is_same_way a.way b.way) (eq-eqb a.addr b.addr addr)
-    ∙ ap (λ (x : Bool). x && is_same_way a.way b.way) (eq-eqb a.num b.num num) ∙ ap (λ (w : Way). is_same_way w b.way) way ∙ same_way b.way
 
 module _ (d : DriverContent) (m : Mem) (o : Offered) (why : Opens d m o) (k : AreNamesApart d) where
   never_old : (e : ℕ) (x : Endpoint) → slice_get d.endpoints e ≡ Some x → x.desc.name.addr ≡ why.desc.name.addr → x.desc.name.num ≡ why.desc.name.num → x.desc.name.way ≡ why.desc.name.way → ⊥

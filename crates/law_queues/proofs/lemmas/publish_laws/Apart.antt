@@ -1,5 +1,5 @@
 -- The qTD that is being published stands in a block of its own.
-use Rattle.std.proofs.Common.{◌≡◌, ◌≢◌, ℕ, zero, suc, ◌*◌, ◌<◌, ◌≤◌, ◌||◌, Bool, false, List, [], length, slice_get, Option, Some, option_map, ap, refl, sym, ◌∙◌, arith}
+use Rattle.std.proofs.Common.{◌≡◌, ◌≢◌, ℕ, zero, suc, ◌<◌, ◌≤◌, ◌||◌, Bool, false, List, [], length, slice_get, Option, Some, option_map, ap, refl, sym, ◌∙◌, arith}
 use Rattle.std.proofs.lemmas.Bool.{false≢true}
 use Rattle.std.proofs.lemmas.Option.{slice_get_within}
 use Rattle.mem_runs.specs.declared.slots.Slot.{Slot}
@@ -60,9 +60,6 @@ pieces_apart {owner = owner} b c t u differs one other same = differs (ap number
 
 pub queues_same : {slot : ℕ → Slot} {owner : ℕ → Owner} (b c e f : ℕ) → b ≡ c → IsPlaced slot owner b (QueueHead e) → IsPlaced slot owner c (QueueHead f) → e ≡ f
 queues_same {owner = owner} b c e f same one other = ap number_of (sym one.owned ∙ ap owner same ∙ other.owned)
-
-pub thirty_two : (b c : ℕ) → 32 * b ≡ 32 * c → b ≡ c
-thirty_two b c same = omega (arith, same)
 
 -- ---- all runs are lent
 

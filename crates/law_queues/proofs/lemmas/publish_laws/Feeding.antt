@@ -2,6 +2,7 @@
 use Rattle.std.proofs.Common.{◌≡◌, ◌≢◌, ℕ, zero, suc, ◌-◌, ◌*◌, ◌<◌, ◌≤◌, Bool, true, false, nat_eq, if◌then◌else◌, List, [], length, slice_get, Option, Some, None, ap, refl, sym, subst, ◌∙◌, ⊎_elim, arith}
 use Rattle.std.proofs.lemmas.Bool.{cases_eq, eq-eqb}
 use Rattle.std.proofs.lemmas.Option.{same_Some}
+use Rattle.law_common.proofs.Numbers.{other_number}
 use Rattle.qh_qtd.specs.declared.qtd.Qtd.{Qtd}
 use Rattle.mem_runs.specs.Book.{slot_of}
 use Rattle.drv_table.specs.declared.content.Endpoint.{Endpoint}
@@ -15,7 +16,7 @@ use Rattle.drv_table.specs.Harvests.{note_at}
 use Rattle.drv_table.specs.Words.{dummy_qtd}
 use Rattle.claims_driver.specs.Owners.{note_in}
 use Rattle.law_structures.specs.lent_structures.Structures.{Element, Buffer, Structures, StructureSets}
-use Rattle.law_structures.proofs.lemmas.lent_structures.Names.{not_same, put_here, put_same}
+use Rattle.law_structures.proofs.lemmas.lent_structures.Names.{put_here, put_same}
 use Rattle.law_structures.specs.lent_structures.Sound.{element_pages, buffer_name, HasBuffer}
 use Rattle.law_structures.proofs.lemmas.lent_structures.Altering.{no_two}
 use Rattle.law_ring.specs.Effects.{buffer_of}
@@ -209,7 +210,7 @@ module _ (d : DriverContent) (parts : StructureSets) (b : ℕ) (words : List ℕ
     where
       other_from : t ≢ k.number → unpublished_of d t y ≤ j
       other_from differs =
-          let none : one_if (nat_eq (suc t) (length d.transfers)) ≡ 0 = ap one_if (not_same (suc t) (length d.transfers) (λ same. differs (let newest = k.newest in omega (arith, same, newest)))) in
+          let none : one_if (nat_eq (suc t) (length d.transfers)) ≡ 0 = ap one_if (other_number (suc t) (length d.transfers) (λ same. differs (let newest = k.newest in omega (arith, same, newest)))) in
           let e : unpublished_of d t y ≡ 0 = count_now t y ∙ none in omega (arith, e)
 
       by_piece : t ≡ k.number → (l : ℕ) → l < y.qtds

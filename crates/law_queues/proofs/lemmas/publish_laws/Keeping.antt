@@ -1,24 +1,17 @@
 -- What a qTD that is to be published needs of its part stays where structures are kept.
-use Rattle.std.proofs.Common.{ℕ, ◌*◌, Bool, sym, ◌∙◌}
+use Rattle.std.proofs.Common.{ℕ, ◌*◌, Bool}
+use Rattle.law_queues.proofs.Common.{unnamed_still}
+use Rattle.law_driver_ring.proofs.Common.{partly_idle}
 use Rattle.qh_qtd.specs.declared.qtd.Qtd.{Qtd}
 use Rattle.drv_table.specs.DriverContent.{DriverContent}
 use Rattle.drv_table.specs.Words.{dummy_qtd}
 use Rattle.law_structures.specs.lent_structures.Structures.{Structures, StructureSets}
 use Rattle.law_structures.specs.lent_structures.Alters.{Alters}
-use Rattle.law_structures.specs.lent_structures.Sound.{buffer_name}
 use Rattle.law_structures.proofs.lemmas.lent_structures.Altering.{is_itself}
-use Rattle.law_structures.proofs.lemmas.lent_structures.Members.{element_still, name_after}
-use Rattle.law_ring.specs.Stores.{IsUnnamed}
+use Rattle.law_structures.proofs.lemmas.lent_structures.Members.{element_still}
 use Rattle.law_controller.specs.controlled_streams.Kept.{KeepsEach}
 use Rattle.law_driver_ring.specs.Published.{partly, IsPublishable}
-use Rattle.law_driver_ring.proofs.Publishing.{idle}
 use Rattle.law_queues.specs.publish_laws.Publishing.{IsBeingPublished}
-
-pub unnamed_still : (part now : Structures) (a : ℕ) (t : Qtd) → Alters part now → IsUnnamed part a t → IsUnnamed now a t
-unnamed_still part now a t alters free b u differs here name has =
-    let before = alters.element_before b u here in
-    let buffer = alters.buffer_before (buffer_name t) has.pages has.start has.bytes has.here in
-    free b before.qtd differs before.here (sym (name_after before.qtd u before.after) ∙ name) (record { pages = has.pages; start = has.start; bytes = buffer.bytes; here = buffer.here })
 
 pub publishable_still : (part now : Structures) (a : ℕ) (t : Qtd) → Alters part now → IsPublishable part a t → IsPublishable now a t
 publishable_still part now a t alters k = record {
@@ -32,7 +25,7 @@ it_goes_on_beside_the_controller d member parts now n b t k keeps is = record {
   command = is.command;
   made = is.made;
   below = is.below;
-  here = (keeps n).idle (32 * b) (partly t k) is.here (idle t k is.below);
+  here = (keeps n).idle (32 * b) (partly t k) is.here (partly_idle t k is.below);
   range = is.range;
   may = λ on. publishable_still (parts n) (now n) (32 * b) t (keeps n).alters (is.may on);
 }

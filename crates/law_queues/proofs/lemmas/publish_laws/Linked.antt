@@ -1,6 +1,7 @@
 -- Its links lead to later ones.
-use Rattle.std.proofs.Common.{◌≡◌, ◌≢◌, ℕ, zero, suc, ◌*◌, ◌<◌, ◌≤◌, false, List, [], ◌∷◌, ◌++◌, length, slice_get, Option, Some, None, option_map, ap, refl, sym, subst, ◌∙◌, ⊎_elim, inl, inr, arith}
+use Rattle.std.proofs.Common.{◌≡◌, ◌≢◌, ℕ, zero, suc, ◌*◌, ◌<◌, ◌≤◌, false, List, [], ◌∷◌, ◌++◌, length, slice_get, Option, Some, None, option_map, ap, refl, sym, subst, ◌∙◌, ⊎_elim, arith}
 use Rattle.std.proofs.lemmas.Bool.{cases_lt}
+use Rattle.law_controller.proofs.Common.{lower_one}
 use Rattle.link_words.specs.declared.kinds.QtdLink.TheVariants as qtd_links
 use Rattle.link_words.specs.declared.fields.ShortLink.{ShortLink}
 use Rattle.link_words.specs.Links.{qtd_link_of, no_qtd}
@@ -12,7 +13,7 @@ use Rattle.drv_table.specs.declared.content.Transfer.{Transfer}
 use Rattle.drv_table.specs.DriverContent.{DriverContent}
 use Rattle.drv_table.specs.Words.{to_qtd}
 use Rattle.claims_driver.specs.Owners.{NoteRuns, TransferRuns, runs_of_endpoint, runs_of_transfer, views_of, note_in}
-use Rattle.law_ring.specs.Order.{IsAmong, AreAfter, IsSorted}
+use Rattle.law_ring.specs.Order.{IsAmong, IsSorted}
 use Rattle.law_driver_ring.specs.Published.{partly}
 use Rattle.law_controller.specs.controlled_streams.Storing.{LeadsLater}
 use Rattle.law_driver.specs.chained_transfers.Chains.{piece_at, AreChained}
@@ -33,13 +34,8 @@ partly_later order e t _ later = record { next = later.next; alternate = later.a
 
 -- ---- what stands behind it
 
-after_each : (order : ℕ → ℕ) (a b : ℕ) (bs : List ℕ) → AreAfter order a bs → IsAmong b bs → order a < order b
-after_each order a b [] k is = absurd is
-after_each order a b (c ∷ cs) k (inl is) = subst (λ (i : ℕ). order a < order i) (sym is) k.0
-after_each order a b (c ∷ cs) k (inr is) = after_each order a b cs k.1 is
-
 pub sorted_after : (order : ℕ → ℕ) (e : ℕ) (before after : List ℕ) → IsSorted order (before ++ e ∷ after) → (a : ℕ) → IsAmong a after → order e < order a
-sorted_after order e [] after k a is = after_each order e a after k.0 is
+sorted_after order e [] after k a is = lower_one order e a after k.0 is
 sorted_after order e (b ∷ bs) after k a is = sorted_after order e bs after k.1 a is
 
 -- the last piece leads to the end of the queue

@@ -2,7 +2,7 @@
 use Rattle.std.proofs.Common.{◌≡◌, ◌≢◌, ℕ, zero, suc, ◌+◌, ◌*◌, ◌==◌, ◌<◌, ◌≤◌, Bool, true, false, not, ◌&&◌, if◌then◌else◌, List, [], ◌∷◌, ◌++◌, length, drop, slice_get, Some, None, ap, refl, sym, ◌∙◌, inl, inr, arith}
 use Rattle.std.proofs.lemmas.Bool.{eq-eqb}
 use Rattle.std.proofs.lemmas.List.{append_assoc}
-use Rattle.law_structures.proofs.lemmas.lent_structures.Names.{not_same}
+use Rattle.law_queues.proofs.Common.{not_its_out}
 use Rattle.drv_table.specs.declared.content.Transfer.{Transfer}
 use Rattle.drv_table.specs.declared.content.Command.TheVariants as unfinished
 use Rattle.claims_driver.specs.Owners.{NoteRuns}
@@ -30,9 +30,6 @@ newest_part note e b n first y k =
     ∙ ap (λ (x : Bool). if true && not x then drop (first + passed y.reported) (pieces_from note y.place y.left) else []) k.held
     ∙ ap (λ (x : Bool). drop (first + passed x) (pieces_from note y.place y.left)) k.waits
     ∙ ap (λ (i : ℕ). drop (first + 0) (pieces_from note i y.left)) k.place ∙ ap (λ (i : ℕ). drop (first + 0) (pieces_from note b i)) k.left
-
-pub other_part : (note : ℕ → NoteRuns) (e first : ℕ) (y : Transfer) → y.endpoint ≢ e → out_of_transfer note e first y ≡ []
-other_part note e first y differs = ap (λ (x : Bool). if x && not y.released then drop (first + passed y.reported) (pieces_from note y.place y.left) else []) (not_same y.endpoint e differs)
 
 -- the pieces are among them
 pub piece_among : (note : ℕ → NoteRuns) (b n i : ℕ) (more : List ℕ) → i < n → IsAmong (32 * piece_at note b i) (pieces_from note b n ++ more)
@@ -84,8 +81,8 @@ pub other_out : (note : ℕ → NoteRuns) (e c : ℕ) (words : List ℕ) (ts : L
 other_out note e c words [] t made y last there differs = absurd (omega (arith, last))
 other_out note e c words (z ∷ []) zero made y last there differs =
     let same : z ≡ y = cc in
-    ap (λ (x : Transfer). out_of_transfer note e 1 x ++ []) same ∙ ap (λ (xs : List ℕ). xs ++ []) (other_part note e 1 y differs)
-    ∙ sym (ap (λ (x : Transfer). out_of_transfer note e 0 x ++ []) same ∙ ap (λ (xs : List ℕ). xs ++ []) (other_part note e 0 y differs))
+    ap (λ (x : Transfer). out_of_transfer note e 1 x ++ []) same ∙ ap (λ (xs : List ℕ). xs ++ []) (not_its_out note e 1 y differs)
+    ∙ sym (ap (λ (x : Transfer). out_of_transfer note e 0 x ++ []) same ∙ ap (λ (xs : List ℕ). xs ++ []) (not_its_out note e 0 y differs))
 other_out note e c words (z ∷ []) (suc t) made y last there differs = absurd (let l : suc (suc t) ≡ 1 = last in omega (arith, l))
 other_out note e c words (z ∷ x ∷ xs) zero made y last there differs = absurd (let l : 1 ≡ suc (suc (length xs)) = last in omega (arith, l))
 other_out note e c words (z ∷ x ∷ xs) (suc t) made y last there differs =

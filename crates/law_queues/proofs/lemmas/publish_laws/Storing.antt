@@ -2,6 +2,8 @@
 use Rattle.std.proofs.Common.{◌≡◌, ◌≢◌, ℕ, suc, ◌-◌, ◌*◌, ◌<◌, ◌≤◌, ◌⊎◌, Bool, true, false, if◌then◌else◌, List, ◌∷◌, ◌++◌, slice_get, Option, Some, None, option_map, ap, refl, sym, subst, ◌∙◌, ⊎_elim, inl, inr, arith}
 use Rattle.std.proofs.lemmas.Bool.{cases_eq, cases_lt, lt-ltb, false≢true}
 use Rattle.std.proofs.lemmas.Option.{same_Some}
+use Rattle.law_driver_ring.proofs.Common.{partly_idle as idle}
+use Rattle.law_common.proofs.Numbers.{same_blocks}
 use Rattle.usb_base.specs.declared.packets.Way.{Way}
 use Rattle.usb_base.specs.declared.packets.Way.TheVariants as ways
 use Rattle.mem_runs.specs.Book.{slot_of}
@@ -26,7 +28,6 @@ use Rattle.law_controller.specs.controlled_streams.Reported.{IsReported, AreRepo
 use Rattle.law_driver_ring.specs.Inventory.{IsLent}
 use Rattle.law_driver_ring.specs.Driven.{DrivesRing}
 use Rattle.law_driver_ring.specs.Published.{partly}
-use Rattle.law_driver_ring.proofs.Publishing.{idle}
 use Rattle.law_queues.specs.publish_laws.Publishing.{IsBeingPublished}
 use Rattle.law_queues.proofs.lemmas.publish_laws.Rows.{counted, after_is, store_is_made}
 use Rattle.law_controller.specs.controlled_streams.Storing.{LeadsLater, IsStore, with_out, stored_parts}
@@ -41,7 +42,7 @@ use Rattle.law_driver_ring.specs.fed_queues.Fed.{IsPublished}
 use Rattle.law_driver_ring.specs.fed_queues.Places.{IsMet, IsLast, AreLast, AreStillOut, IsThere}
 use Rattle.law_queues.specs.publish_laws.Stores.{IsAtStore, published_by, parts_then, out_then, QueuesThen, next_of, StorePublishes, StorePipes, StoreReports, StoreStands}
 use Rattle.law_queues.proofs.lemmas.publish_laws.Outs.{IsNewest, IsSplit, split_out, other_out, same_out}
-use Rattle.law_queues.proofs.lemmas.publish_laws.Apart.{dummy_placed, queue_placed, piece_placed, dummy_apart, pieces_apart, queues_same, thirty_two, all_lent}
+use Rattle.law_queues.proofs.lemmas.publish_laws.Apart.{dummy_placed, queue_placed, piece_placed, dummy_apart, pieces_apart, queues_same, all_lent}
 use Rattle.law_queues.proofs.lemmas.publish_laws.Linked.{partly_later, sorted_after, end_is, piece_later, leads_later}
 use Rattle.law_queues.proofs.lemmas.publish_laws.Feeding.{IsHere, more, done, fed_more, fed_done}
 use Rattle.law_driver_ring.proofs.lemmas.fed_queues.Places.{SameQueues, same_ends, stands_met, met_stays, streams_stay}
@@ -145,7 +146,7 @@ module _ (p : DriverParts) (member streams : ℕ → Bool) (ends : ℕ → Told)
   before_dummy : order n (32 * b) < order n (32 * g.endpoint.dummy)
   before_dummy =
       k.last.dummies y.endpoint g.endpoint g.here its_alive lent_dummy (32 * b) (partly g.qtd i) g.stored
-      (λ same. dummies_apart y.endpoint g.endpoint g.here its_alive (sym (thirty_two b g.endpoint.dummy same)))
+      (λ same. dummies_apart y.endpoint g.endpoint g.here its_alive (sym (same_blocks b g.endpoint.dummy same)))
 
   ends_at : piece_at note b (suc q) ≡ g.endpoint.dummy
   ends_at =
@@ -229,7 +230,7 @@ module _ (p : DriverParts) (member streams : ℕ → Bool) (ends : ℕ → Told)
 
   same_queue : (e : ℕ) (x : Endpoint) → slice_get d.endpoints e ≡ Some x → x.gone ≡ false → 32 * x.queue ≡ n → e ≡ y.endpoint
   same_queue e x there kept same =
-      queues_same x.queue g.endpoint.queue e y.endpoint (thirty_two x.queue g.endpoint.queue same)
+      queues_same x.queue g.endpoint.queue e y.endpoint (same_blocks x.queue g.endpoint.queue same)
       (queue_placed d k.sound.owners e x there (k.turns.asynchronous.endpoints e x there) kept) (queue_placed d k.sound.owners y.endpoint g.endpoint g.here standing its_alive)
 
   other_end : (e : ℕ) (x : Endpoint) → slice_get d.endpoints e ≡ Some x → 32 * x.queue ≢ n → y.endpoint ≢ e

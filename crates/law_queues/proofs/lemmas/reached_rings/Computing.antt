@@ -1,28 +1,23 @@
 -- What is computed from the driver's content is where a walk may go.
-use Rattle.std.proofs.Common.{◌≡◌, ℕ, zero, suc, ◌*◌, ◌==◌, Bool, true, false, ◌&&◌, ◌||◌, List, [], ◌∷◌, ◌++◌, slice_get, Some, ap, sym, subst, ◌∙◌, ⊎_elim, refl, arith}
+use Rattle.std.proofs.Common.{◌≡◌, ℕ, zero, suc, ◌*◌, ◌==◌, Bool, true, false, ◌&&◌, ◌||◌, List, [], ◌∷◌, ◌++◌, slice_get, Some, ap, sym, ◌∙◌, ⊎_elim, refl, arith}
 use Rattle.std.proofs.lemmas.Bool.{false≢true, eqb-true, eq-eqb, and_parts, and_from, or_cases, or_left, or_right}
+use Rattle.law_queues.proofs.Common2.{one_among}
+use Rattle.law_driver.proofs.Common.{ring_queue, among_later}
 use Rattle.drv_table.specs.declared.content.Endpoint.{Endpoint}
 use Rattle.drv_table.specs.DriverContent.{DriverContent}
 use Rattle.drv_table.specs.Words.{head_block}
 use Rattle.claims_driver.specs.Leaving.{IsOrderly}
-use Rattle.law_driver.proofs.lemmas.run_owners.Rows.{not_iso}
 use Rattle.law_driver.proofs.lemmas.run_owners.Orders.{times_both}
 use Rattle.claims_driver.specs.Ring.{IsQueueOf, IsAmong, first, later}
 use Rattle.law_driver.proofs.lemmas.ring_members.Placed.{left_ring, linked_alive}
 use Rattle.law_driver.specs.queue_head_words.Overlay.{HasQueueHead, of_ring, of_endpoint}
 use Rattle.claims_driver.specs.Walk.{IsReached, at_head, at_member, at_waiting, at_rung}
-use Rattle.law_driver_ring.proofs.lemmas.walk_members.Leading.{among_later, among_front}
+use Rattle.law_driver_ring.proofs.lemmas.walk_members.Leading.{among_front}
 use Rattle.law_driver.specs.endpoint_lives.Lives.{any_at, is_one_of}
 use Rattle.law_driver.proofs.lemmas.endpoint_lives.Lives.{any_there, there_any}
 use Rattle.law_queues.specs.reached_rings.Reaching.{may_reach, is_reached, ReachedIsReached, IsReachedReached, ReachedHasQueueHead, AnswerReachesFewer}
 
 -- ---- one of a list
-
-pub one_among : (e : ℕ) (es : List ℕ) → is_one_of e es ≡ true → IsAmong e es
-one_among e [] on = absurd (false≢true on)
-one_among e (f ∷ es) on =
-    ⊎_elim (λ (same : (e == f) ≡ true). subst (λ (g : ℕ). IsAmong e (g ∷ es)) (eqb-true e f same) (first es)) (λ (rest : is_one_of e es ≡ true). later f es (one_among e es rest))
-    (or_cases (e == f) (is_one_of e es) on)
 
 pub among_one : (e : ℕ) (es : List ℕ) → IsAmong e es → is_one_of e es ≡ true
 among_one e [] among = elim among [ ]
@@ -74,11 +69,11 @@ is_reached_reached d rings b (at_rung e at among on) =
 left_there : (d : DriverContent) (e b : ℕ) → IsOrderly d → IsQueueOf d.endpoints e b → IsAmong e (d.rung ++ d.waiting) → HasQueueHead d b
 left_there d e b order at among =
     let l = left_ring d e at.endpoint (d.rung ++ d.waiting) order (omega (arith, times_both e d.rung d.waiting)) among at.here in
-    of_endpoint e at.endpoint at.here (not_iso at.endpoint.desc.kind l.0) l.1 at.queue
+    of_endpoint e at.endpoint at.here (ring_queue at.endpoint.desc.kind l.0) l.1 at.queue
 
 there_by : (d : DriverContent) (rings : Bool) (b : ℕ) → IsOrderly d → IsReached d rings b → HasQueueHead d b
 there_by d rings b order (at_head h) = of_ring h
-there_by d rings b order (at_member e at on) = let l = linked_alive d e at.endpoint order at.here on in of_endpoint e at.endpoint at.here (not_iso at.endpoint.desc.kind l.0) l.1 at.queue
+there_by d rings b order (at_member e at on) = let l = linked_alive d e at.endpoint order at.here on in of_endpoint e at.endpoint at.here (ring_queue at.endpoint.desc.kind l.0) l.1 at.queue
 there_by d rings b order (at_waiting e at among) = left_there d e b order at (among_later e d.rung d.waiting among)
 there_by d rings b order (at_rung e at among on) = left_there d e b order at (among_front e d.rung d.waiting among)
 

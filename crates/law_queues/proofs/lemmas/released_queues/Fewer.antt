@@ -1,16 +1,16 @@
 -- A queue head's part without some of its qTDs and buffers is sound, and its links lead on.
-use Rattle.std.proofs.Common.{◌≡◌, ℕ, Bool, false, Some, refl, ◌∙◌}
-use Rattle.link_words.specs.declared.kinds.QtdLink.{QtdLink}
-use Rattle.link_words.specs.declared.kinds.QtdLink.TheVariants as qtd_links
+use Rattle.std.proofs.Common.{ℕ, Bool, Some, ◌∙◌}
+use Rattle.law_queues.proofs.Common.{leads_fewer}
+use Rattle.law_ring.proofs.Common.{fewer_some}
 use Rattle.link_words.specs.Links.{qtd_link_of}
 use Rattle.qh_qtd.specs.declared.qtd.Qtd.{Qtd}
 use Rattle.hc_copy.specs.Visits.{next_pointer}
 use Rattle.law_structures.specs.lent_structures.Structures.{Element, Buffer, Structures, StructureSets}
-use Rattle.law_structures.specs.lent_structures.Sound.{LeadsOn, buffer_name, IsReady, IsWorking}
+use Rattle.law_structures.specs.lent_structures.Sound.{buffer_name, IsReady, IsWorking}
 use Rattle.law_ring.specs.Fewer.{fewer_structures, without_those, MayGo}
 use Rattle.law_ring.specs.Front.{LinksRise}
 use Rattle.law_ring.proofs.Returning.{those_found}
-use Rattle.law_ring.proofs.ReleaseGoing.{stays, found_fewer}
+use Rattle.law_ring.proofs.ReleaseGoing.{stays}
 use Rattle.law_frames.specs.Met.{IsQueuePart}
 
 pub fewer_rise : (parts : StructureSets) (n : ℕ) (goes : ℕ → Bool) (order : ℕ → ℕ) (m : ℕ) → LinksRise order (parts m) → LinksRise order (without_those parts n goes m)
@@ -18,10 +18,6 @@ fewer_rise parts n goes order m r = record {
   next = λ a t b found to. r.next a t b (those_found parts n goes m a (Element t) found) to;
   alternate = λ a t b found to. r.alternate a t b (those_found parts n goes m a (Element t) found) to;
 }
-
-leads_fewer : (goes : ℕ → Bool) (part : Structures) (l : QtdLink) → ((b : ℕ) → l ≡ qtd_links.To b → goes b ≡ false) → LeadsOn part l → LeadsOn (fewer_structures goes part) l
-leads_fewer goes part qtd_links.End off leads = tt
-leads_fewer goes part (qtd_links.To b) off leads = record { qtd = leads.qtd; here = stays goes part b (off b refl) ∙ leads.here }
 
 pub part_fewer : (n : ℕ) (part : Structures) (goes : ℕ → Bool) → (k : IsQueuePart n part) → MayGo goes n part k.queue → IsQueuePart n (fewer_structures goes part)
 part_fewer n part goes k may = record {
@@ -45,7 +41,7 @@ part_fewer n part goes k may = record {
         };
   };
   elements = λ a t found.
-      let there = found_fewer goes part a (Element t) found in
+      let there = fewer_some goes part a (Element t) found in
       let sound = k.elements a t there.1 in
       record {
         next = leads_fewer goes part (qtd_link_of t.next) (λ b to. may.next a b t there.1 there.0 to) sound.next;
@@ -61,5 +57,5 @@ part_fewer n part goes k may = record {
             };
       };
   own = λ a b t u pages i bs one other same there.
-      k.own a b t u pages i bs (found_fewer goes part a (Element t) one).1 (found_fewer goes part b (Element u) other).1 same (found_fewer goes part (buffer_name t) (Buffer pages i bs) there).1;
+      k.own a b t u pages i bs (fewer_some goes part a (Element t) one).1 (fewer_some goes part b (Element u) other).1 same (fewer_some goes part (buffer_name t) (Buffer pages i bs) there).1;
 }

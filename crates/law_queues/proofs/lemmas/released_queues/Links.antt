@@ -1,6 +1,7 @@
 -- What views tell, and where links lead.
-use Rattle.std.proofs.Common.{◌≡◌, ℕ, ◌*◌, Bool, true, false, if◌then◌else◌, Option, Some, None, option_map, ap, refl, sym, subst, ◌∙◌, ⊎_elim, inl, inr, ◌⊎◌}
+use Rattle.std.proofs.Common.{◌≡◌, ℕ, ◌*◌, Bool, true, false, if◌then◌else◌, Option, Some, None, option_map, ap, refl, sym, ◌∙◌, ⊎_elim, inl, inr, ◌⊎◌}
 use Rattle.std.proofs.lemmas.Option.{same_Some}
+use Rattle.law_queues.proofs.Common.{one_target, no_end}
 use Rattle.link_words.specs.declared.kinds.QtdLink.{QtdLink}
 use Rattle.link_words.specs.declared.kinds.QtdLink.TheVariants as qtd_links
 use Rattle.link_words.specs.declared.fields.ShortLink.{ShortLink}
@@ -10,8 +11,6 @@ use Rattle.drv_table.specs.declared.content.Command.{Command}
 use Rattle.drv_table.specs.declared.content.Sort.{Sort as Sorted}
 use Rattle.drv_table.specs.declared.content.Sort.TheVariants as sorts
 use Rattle.law_driver.specs.chained_transfers.Out.{unpublished}
-use Rattle.law_structures.specs.lent_structures.Structures.{Structures}
-use Rattle.law_structures.specs.lent_structures.Sound.{IsElement, LeadsOn}
 use Rattle.law_driver_ring.specs.fed_queues.Fed.{IsAlternate}
 
 -- ---- what views tell
@@ -27,23 +26,13 @@ none_yet o made n b free = ap (λ (c : Option Command). if b then unpublished c 
     either true = refl
     either false = refl
 
-pub link_there : (part : Structures) (l : QtdLink) (b : ℕ) → LeadsOn part l → l ≡ qtd_links.To b → IsElement part b
-link_there part l b leads is = subst (LeadsOn part) is leads
-
 target : QtdLink → ℕ → ℕ
 target qtd_links.End a = a
 target (qtd_links.To b) a = b
 
-leads_nowhere : (b : ℕ) → qtd_links.End ≡ qtd_links.To b → ⊥
-leads_nowhere b is = cc
-
-pub same_target : (b c : ℕ) → qtd_links.To b ≡ qtd_links.To c → b ≡ c
-unfolding target
-same_target b c is = ap (λ (l : QtdLink). target l b) is
-
 -- an alternate that leads anywhere leads to the end, or where the next does
 pub alternate_to : (sort : Sorted) (l : ShortLink) (next end b : ℕ) → IsAlternate sort l next end → qtd_link_of l ≡ qtd_links.To b → (32 * end ≡ b) ⊎ (32 * next ≡ b)
-alternate_to sorts.Get l next end b is to = inl (same_target (32 * end) b (sym (ap qtd_link_of is) ∙ to))
+alternate_to sorts.Get l next end b is to = inl (one_target (32 * end) b (sym (ap qtd_link_of is) ∙ to))
 alternate_to sorts.Request l next end b is to =
-    ⊎_elim (λ (none : l ≡ no_qtd). absurd (leads_nowhere b (sym (ap qtd_link_of none) ∙ to))) (λ (on : l ≡ to_qtd next). inr (same_target (32 * next) b (sym (ap qtd_link_of on) ∙ to))) is
-alternate_to _ l next end b is to = absurd (leads_nowhere b (sym (ap qtd_link_of is) ∙ to))
+    ⊎_elim (λ (none : l ≡ no_qtd). absurd (no_end b (sym (ap qtd_link_of none) ∙ to))) (λ (on : l ≡ to_qtd next). inr (one_target (32 * next) b (sym (ap qtd_link_of on) ∙ to))) is
+alternate_to _ l next end b is to = absurd (no_end b (sym (ap qtd_link_of is) ∙ to))

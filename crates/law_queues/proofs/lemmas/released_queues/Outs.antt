@@ -1,24 +1,20 @@
 -- What is out once a transfer was given back.
-use Rattle.std.proofs.Common.{◌≡◌, ◌≢◌, ℕ, zero, suc, ◌+◌, ◌*◌, ◌==◌, ◌&&◌, not, ◌<◌, ◌≤◌, ◌⊎◌, Bool, true, false, if◌then◌else◌, List, [], ◌∷◌, ◌++◌, drop, set, slice_get, Option, Some, None, ap, refl, sym, ◌∙◌, ⊎_elim, inl, inr, arith}
-use Rattle.std.proofs.lemmas.Bool.{false≢true}
+use Rattle.std.proofs.Common.{◌≡◌, ◌≢◌, ℕ, zero, suc, ◌+◌, ◌*◌, ◌==◌, ◌&&◌, not, ◌<◌, ◌≤◌, Bool, true, false, if◌then◌else◌, List, [], ◌∷◌, ◌++◌, drop, set, slice_get, Option, Some, None, ap, refl, sym, ◌∙◌, ⊎_elim, inl, inr, arith}
 use Rattle.std.proofs.lemmas.Option.{same_Some}
+use Rattle.law_ring.proofs.Common.{among_either}
+use Rattle.law_common.proofs.Booleans.{waits_by}
+use Rattle.law_queues.proofs.Common.{if_zero, none_of}
 use Rattle.drv_table.specs.declared.content.Command.{Command}
 use Rattle.drv_table.specs.declared.content.Transfer.{Transfer}
 use Rattle.drv_table.specs.DriverContent.{DriverContent}
 use Rattle.claims_driver.specs.Owners.{NoteRuns, note_in}
 use Rattle.law_driver.proofs.lemmas.run_owners.Released.{same_by_test}
-use Rattle.law_structures.proofs.lemmas.lent_structures.Names.{not_same}
 use Rattle.law_driver.specs.chained_transfers.Chains.{piece_at}
-use Rattle.law_driver.specs.chained_transfers.Out.{pieces_from, passed, if_last, out_of_transfer, out_of, out_now}
+use Rattle.law_driver.specs.chained_transfers.Out.{pieces_from, passed, out_of_transfer, out_of, out_now}
 use Rattle.law_ring.specs.Order.{IsAmong}
 use Rattle.law_controller.specs.controlled_streams.Returned.{staying}
 
 -- ---- lists
-
-among_joined : (a : ℕ) (xs ys : List ℕ) → IsAmong a (xs ++ ys) → IsAmong a xs ⊎ IsAmong a ys
-among_joined a [] ys among = inr among
-among_joined a (b ∷ xs) ys (inl same) = inl (inl same)
-among_joined a (b ∷ xs) ys (inr among) = ⊎_elim (λ (first : IsAmong a xs). inl (inr first)) (λ (second : IsAmong a ys). inr second) (among_joined a xs ys among)
 
 stays_more : (goes : ℕ → Bool) (c : Bool) (b : ℕ) (xs ys : List ℕ) → (if c then xs ++ ys else b ∷ (xs ++ ys)) ≡ (if c then xs else b ∷ xs) ++ ys
 stays_more goes true b xs ys = refl
@@ -44,14 +40,10 @@ abbrev pub out_plain : (ℕ → NoteRuns) → ℕ → List Transfer → List ℕ
 out_plain note e [] = []
 out_plain note e (y ∷ ys) = out_of_transfer note e 0 y ++ out_plain note e ys
 
-last_none : (ys : List Transfer) → if_last ys 0 ≡ 0
-last_none [] = refl
-last_none (y ∷ ys) = refl
-
 plain_is : (note : ℕ → NoteRuns) (e made : ℕ) (ys : List Transfer) → out_of note e None made ys ≡ out_plain note e ys
 plain_is note e made [] = refl
 plain_is note e made (y ∷ ys) =
-    ap (λ (i : ℕ). out_of_transfer note e i y ++ out_of note e None made ys) (last_none ys) ∙ ap (λ (rest : List ℕ). out_of_transfer note e 0 y ++ rest) (plain_is note e made ys)
+    ap (λ (i : ℕ). out_of_transfer note e i y ++ out_of note e None made ys) (if_zero ys) ∙ ap (λ (rest : List ℕ). out_of_transfer note e 0 y ++ rest) (plain_is note e made ys)
 
 pub out_is : (d : DriverContent) (e : ℕ) → d.command ≡ None → out_now d e ≡ out_plain (note_in d.notes) e d.transfers
 out_is d e free = ap (λ (c : Option Command). out_of (note_in d.notes) e c d.made d.transfers) free ∙ plain_is (note_in d.notes) e d.made d.transfers
@@ -83,17 +75,12 @@ pub record IsOutOf (note : ℕ → NoteRuns) (e : ℕ) (y : Transfer) (a : ℕ) 
   pub held : y.released ≡ false
   pub dropped : IsDropped note y.place (0 + passed y.reported) y.left a
 
-and_both : (b c : Bool) → (b && not c) ≡ true → (b ≡ true) × (c ≡ false)
-and_both true false on = (refl, refl)
-and_both true true on = absurd (false≢true on)
-and_both false c on = absurd (false≢true on)
-
 pub out_of_one : (note : ℕ → NoteRuns) (e : ℕ) (y : Transfer) (a : ℕ) → IsAmong a (out_of_transfer note e 0 y) → IsOutOf note e y a
 out_of_one note e y a among = by_test (y.endpoint == e && not y.released) refl among
   where
     by_test : (c : Bool) → (y.endpoint == e && not y.released) ≡ c → IsAmong a (if c then drop (0 + passed y.reported) (pieces_from note y.place y.left) else []) → IsOutOf note e y a
     by_test true is there =
-        let both = and_both (y.endpoint == e) y.released is in
+        let both = waits_by (y.endpoint == e) y.released is in
         record { endpoint = same_by_test y.endpoint e both.0; held = both.1; dropped = in_dropped note y.place (0 + passed y.reported) y.left a there }
     by_test false is there = absurd there
 
@@ -108,7 +95,7 @@ out_in note e [] a among = absurd among
 out_in note e (y ∷ ys) a among =
     ⊎_elim (λ (first : IsAmong a (out_of_transfer note e 0 y)). record { number = 0; transfer = y; here = refl; is = out_of_one note e y a first })
     (λ (rest : IsAmong a (out_plain note e ys)). let k = out_in note e ys a rest in record { number = suc k.number; transfer = k.transfer; here = k.here; is = k.is })
-    (among_joined a (out_of_transfer note e 0 y) (out_plain note e ys) among)
+    (among_either a (out_of_transfer note e 0 y) (out_plain note e ys) among)
 
 -- ---- a transfer is given back
 
@@ -121,9 +108,6 @@ none_of_gone note e y = by_test (y.endpoint == e)
     by_test : (c : Bool) → (if c && not true then drop (0 + passed y.reported) (pieces_from note y.place y.left) else []) ≡ []
     by_test true = refl
     by_test false = refl
-
-none_of_other : (note : ℕ → NoteRuns) (e : ℕ) (y : Transfer) → y.endpoint ≢ e → out_of_transfer note e 0 y ≡ []
-none_of_other note e y differs = ap (λ (c : Bool). if c && not y.released then drop (0 + passed y.reported) (pieces_from note y.place y.left) else []) (not_same y.endpoint e differs)
 
 pub plain_stays : (goes : ℕ → Bool) (note : ℕ → NoteRuns) (e : ℕ) (ts : List Transfer) → ((u a : ℕ) (z : Transfer) → slice_get ts u ≡ Some z → IsAmong a (out_of_transfer note e 0 z) → goes a ≡ false) → staying goes (out_plain note e ts) ≡ out_plain note e ts
 plain_stays goes note e [] each = refl
@@ -149,5 +133,5 @@ pub plain_other : (note : ℕ → NoteRuns) (e : ℕ) (ts : List Transfer) (t : 
 plain_other note e [] t y here differs = absurd (cc)
 plain_other note e (z ∷ zs) zero y here differs =
     let is : z ≡ y = same_Some z y here in
-    ap (λ (xs : List ℕ). xs ++ out_plain note e zs) (none_of_gone note e y ∙ sym (ap (out_of_transfer note e 0) is ∙ none_of_other note e y differs))
+    ap (λ (xs : List ℕ). xs ++ out_plain note e zs) (none_of_gone note e y ∙ sym (ap (out_of_transfer note e 0) is ∙ none_of note e y differs))
 plain_other note e (z ∷ zs) (suc t) y here differs = ap (λ (xs : List ℕ). out_of_transfer note e 0 z ++ xs) (plain_other note e zs t y here differs)

@@ -29,14 +29,6 @@ number_of note b (suc n) c (inr is) =
     let less = k.below in
     record { number = suc k.number; below = omega (arith, less); at = k.at }
 
-pub piece_next : (note : ℕ → NoteRuns) (b i : ℕ) → piece_at note b (suc i) ≡ (note (piece_at note b i)).next
-piece_next note b zero = refl
-piece_next note b (suc i) = piece_next note (note b).next i
-
-pub piece_on : (note : ℕ → NoteRuns) (b i j : ℕ) → piece_at note (piece_at note b i) j ≡ piece_at note b (i + j)
-piece_on note b zero j = ap (piece_at note b) (let e : j ≡ 0 + j = omega arith in e)
-piece_on note b (suc i) j = piece_on note (note b).next i j ∙ ap (piece_at note b) (let e : suc (i + j) ≡ suc i + j = omega arith in e)
-
 -- ---- orders
 
 -- what rises from each to the next rises to the end

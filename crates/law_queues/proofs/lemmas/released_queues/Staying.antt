@@ -1,8 +1,12 @@
 -- What the row leaves.
-use Rattle.std.proofs.Common.{◌≡◌, ◌≢◌, ℕ, suc, ◌+◌, ◌-◌, ◌*◌, ◌<◌, ◌≤◌, Bool, true, false, if◌then◌else◌, List, [], ◌∷◌, drop, length, set, slice_get, Option, Some, None, option_map, ap, refl, sym, subst, ◌∙◌, ⊎_elim, inl, inr, arith}
+use Rattle.std.proofs.Common.{◌≡◌, ◌≢◌, ℕ, suc, ◌+◌, ◌-◌, ◌*◌, ◌<◌, ◌≤◌, Bool, true, false, if◌then◌else◌, List, length, set, slice_get, Option, Some, None, option_map, ap, refl, sym, subst, ◌∙◌, ⊎_elim, inl, inr, arith}
 use Rattle.std.specs.Prelude.{nat_eq}
 use Rattle.std.proofs.lemmas.Bool.{cases_eq, true≢false, eq-eqb}
 use Rattle.std.proofs.lemmas.Option.{same_Some}
+use Rattle.law_common.proofs.Lists.{drop_one, set_here, set_there}
+use Rattle.law_common.proofs.Numbers.{other_number}
+use Rattle.law_ring.proofs.Common.{those_here}
+use Rattle.law_queues.proofs.Common.{piece_more}
 use Rattle.qh_qtd.specs.declared.qtd.Qtd.{Qtd}
 use Rattle.mem_runs.specs.Book.{Holding, holding, slot_of}
 use Rattle.drv_table.specs.declared.content.Command.{Command}
@@ -17,19 +21,17 @@ use Rattle.drv_table.specs.Releases.{freed_by, free_runs, free_qtds, after_trans
 use Rattle.drv_table.specs.Rows.{after_driver_row}
 use Rattle.drv_table.specs.Harvests.{note_at}
 use Rattle.claims_driver.specs.Owners.{TransferRuns, NoteRuns, runs_of_endpoint, runs_of_transfer, transfer_in, note_in, views_of}
-use Rattle.law_driver.proofs.lemmas.run_owners.Released.{set_here, set_there}
 use Rattle.law_driver.specs.chained_transfers.Chains.{piece_at}
 use Rattle.law_driver.specs.chained_transfers.Turns.{IsAtPlace}
 use Rattle.law_driver.specs.chained_transfers.Out.{passed, out_of_transfer, out_now}
 use Rattle.law_structures.specs.lent_structures.Structures.{Element as ElementOf, Structures, StructureSets}
-use Rattle.law_structures.proofs.lemmas.lent_structures.Names.{not_same}
 use Rattle.law_structures.specs.lent_structures.Sound.{element_pages, buffer_name}
 use Rattle.law_structures.proofs.lemmas.lent_structures.Altering.{found_element}
 use Rattle.law_ring.specs.Hand.{Hand}
 use Rattle.law_ring.specs.Effects.{buffer_of}
 use Rattle.law_ring.specs.Order.{IsAmong}
 use Rattle.law_ring.specs.Fewer.{without_those}
-use Rattle.law_ring.proofs.Returning.{those_here, those_found, those_else, those_beside}
+use Rattle.law_ring.proofs.Returning.{those_found, those_else, those_beside}
 use Rattle.law_ring.specs.Front.{IsPassed, LinksRise, HasFront}
 use Rattle.law_controller.specs.controlled_streams.Returned.{staying, staying_of, GoUntold}
 use Rattle.law_controller.proofs.lemmas.controlled_streams.Returning.{front_is_returned, passed_has_none, spares_element}
@@ -40,7 +42,6 @@ use Rattle.law_driver_ring.proofs.Freeing.{IsLess, runs_less}
 use Rattle.law_driver_ring.specs.fed_queues.Fed.{IsPieceFed, unpublished_of, AreFed, sized}
 use Rattle.law_driver_ring.specs.fed_queues.Places.{IsMet, AreLast, AreStillOut, IsThere}
 use Rattle.law_queues.specs.released_queues.Fronts.{piece_address, StandsAt, FrontsStand}
-use Rattle.law_queues.proofs.lemmas.released_queues.Pieces.{piece_on}
 use Rattle.law_queues.proofs.lemmas.released_queues.Outs.{out_is, IsDropped, out_of_one, out_in, gone, plain_gone, plain_other}
 use Rattle.law_frames.specs.Met.{IsQueuePart}
 use Rattle.law_queues.specs.released_queues.Released.{IsReturning}
@@ -60,10 +61,6 @@ lent_was h notes b m c lent =
     by_less : IsLess (slot_of (free_runs h (blocks_of (note_in notes) b m)).book.slots c) (slot_of h.book.slots c) → IsLent (slot_of (free_runs h (blocks_of (note_in notes) b m)).book.slots c) → IsLent (slot_of h.book.slots c)
     by_less (inl same) now = subst IsLent same now
     by_less (inr empty) now = absurd (subst IsLent empty now)
-
-dropped_one : (hs : List ℕ) (i t : ℕ) → slice_get (drop 1 hs) i ≡ Some t → slice_get hs (suc i) ≡ Some t
-dropped_one [] i t at = absurd (cc)
-dropped_one (h ∷ hs) i t at = at
 
 module _ (parts : StructureSets) (p : DriverParts) (order : ℕ → ℕ → ℕ) (out : ℕ → List ℕ) (t : ℕ) (y : Transfer) (x : Endpoint) (s : QueuesAreTold parts p order out) (k : IsReturning p.driver t y x) (whole : IsQueuePart (32 * x.queue) (parts (32 * x.queue))) where
   abbrev d : DriverContent
@@ -186,7 +183,7 @@ module _ (parts : StructureSets) (p : DriverParts) (order : ℕ → ℕ → ℕ)
       let below = dropped.below in
       let i : ℕ = z.qtds - z.left + dropped.number in (
         i,
-        dropped.at ∙ ap (λ (c : ℕ). 32 * piece_at note c dropped.number) at.place ∙ ap (λ (c : ℕ). 32 * c) (piece_on note z.first (z.qtds - z.left) dropped.number),
+        dropped.at ∙ ap (λ (c : ℕ). 32 * piece_at note c dropped.number) at.place ∙ ap (λ (c : ℕ). 32 * c) (piece_more note z.first (z.qtds - z.left) dropped.number),
         omega (arith, from),
         omega (arith, most, below),
       )
@@ -218,7 +215,7 @@ module _ (parts : StructureSets) (p : DriverParts) (order : ℕ → ℕ → ℕ)
       ap (λ (b : Bool). if b then staying goes (out (32 * z.queue)) else out (32 * z.queue)) (eq-eqb (32 * z.queue) n same)
       ∙ ap (staying goes) (s.still_out i z here (there_before z is) ∙ ap (out_now d) one.0) ∙ out_here ∙ ap (out_now e) (sym one.0))
       (λ (differs : 32 * z.queue ≢ n).
-      ap (λ (b : Bool). if b then staying goes (out (32 * z.queue)) else out (32 * z.queue)) (not_same (32 * z.queue) n differs)
+      ap (λ (b : Bool). if b then staying goes (out (32 * z.queue)) else out (32 * z.queue)) (other_number (32 * z.queue) n differs)
       ∙ s.still_out i z here (there_before z is) ∙ out_beside i (λ one. differs (ap (λ (c : Endpoint). 32 * c.queue) (same_Some z x (sym here ∙ ap (slice_get d.endpoints) (sym one) ∙ k.endpoint))))) (cases_eq (32 * z.queue) n)
 
   untold_now : (hand : Hand) → GoUntold goes (out n) hand parts n
@@ -250,17 +247,17 @@ module _ (parts : StructureSets) (p : DriverParts) (order : ℕ → ℕ → ℕ)
       (front_is_returned (order n) f (out n) parts n goes (head_stays parts p order out t y x s k whole) (buffers_stay parts p order out t y x s k whole)
       (subst (λ (i : ℕ). HasFront (order i) f (out i) i (parts i)) same has))))
       (λ (differs : m ≢ n).
-      subst (λ (b : Bool). HasFront (order m) f (if b then staying goes (out m) else out m) m (now m)) (sym (not_same m n differs))
+      subst (λ (b : Bool). HasFront (order m) f (if b then staying goes (out m) else out m) m (now m)) (sym (other_number m n differs))
       (subst (HasFront (order m) f (out m) m) (sym (those_beside parts n goes m differs)) has)) (cases_eq m n)
 
   stands_now : (i : ℕ) (z : Endpoint) → StandsAt d (parts (32 * z.queue)) (order (32 * z.queue)) (out (32 * z.queue)) i z → StandsAt e (now (32 * z.queue)) (order (32 * z.queue)) (staying_of n goes out (32 * z.queue)) i z
   stands_now i z f = record {
     front = f.front;
     has = front_now (32 * z.queue) f.front f.has;
-    ended = λ h u c at there held same. let was = was_there u c there held in f.ended (suc h) u c (dropped_one d.harvested h u at) was.1 held same;
+    ended = λ h u c at there held same. let was = was_there u c there held in f.ended (suc h) u c (drop_one d.harvested h u at) was.1 held same;
     passed = λ h u j c at there held same from below.
         let was = was_there u c there held in
-        let over = f.passed (suc h) u j c (dropped_one d.harvested h u at) was.1 held same from below in
+        let over = f.passed (suc h) u j c (drop_one d.harvested h u at) was.1 held same from below in
         record { qtd = over.qtd; here = those_else parts n goes (32 * z.queue) (piece_address d c j) (off_piece u j c was.1 held below was.0) ∙ over.here; published = over.published; before = over.before };
   }
 

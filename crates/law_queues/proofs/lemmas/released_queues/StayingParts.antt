@@ -3,6 +3,10 @@ use Rattle.std.proofs.Common.{◌≡◌, ◌≢◌, ℕ, suc, ◌*◌, ◌<◌, 
 use Rattle.std.specs.List.{AllByRecursion}
 use Rattle.std.proofs.lemmas.Bool.{cases_eq, true≢false}
 use Rattle.std.proofs.lemmas.Option.{same_Some}
+use Rattle.law_common.proofs.Numbers.{other_number}
+use Rattle.law_driver.proofs.Common.{piece_next}
+use Rattle.law_ring.proofs.Common.{link_there}
+use Rattle.law_queues.proofs.Common.{one_target}
 use Rattle.link_words.specs.declared.kinds.QtdLink.TheVariants as qtd_links
 use Rattle.link_words.specs.Links.{qtd_link_of}
 use Rattle.qh_qtd.specs.declared.qtd.Qtd.{Qtd}
@@ -17,7 +21,6 @@ use Rattle.drv_table.specs.Harvests.{note_at}
 use Rattle.claims_driver.specs.Owners.{Buffer, IsPlaced, TransferRuns, NoteRuns, runs_of_transfer, note_in, Views, views_of, IsPieceOf}
 use Rattle.law_driver.specs.chained_transfers.Chains.{piece_at}
 use Rattle.law_structures.specs.lent_structures.Structures.{Element as ElementOf, QueueHead, Buffer as BufferOf, StructureSets}
-use Rattle.law_structures.proofs.lemmas.lent_structures.Names.{not_same}
 use Rattle.law_structures.specs.lent_structures.Sound.{IsElement, element_pages, buffer_name, HasBuffer, IsWorking, IsSoundQueue}
 use Rattle.law_structures.proofs.lemmas.lent_structures.Altering.{found_queue, found_element}
 use Rattle.law_ring.specs.Fewer.{MayGo}
@@ -28,12 +31,12 @@ use Rattle.law_driver_ring.specs.Released.{goes_of}
 use Rattle.law_driver_ring.proofs.Blocks.{mine, placed_buffer}
 use Rattle.law_driver_ring.specs.fed_queues.Fed.{IsPieceFed, sized}
 use Rattle.law_queues.specs.released_queues.Fronts.{piece_address, StandsAt}
-use Rattle.law_queues.proofs.lemmas.released_queues.Pieces.{HasNumber, number_of, piece_next, rises_below, first_taken, name_noted}
+use Rattle.law_queues.proofs.lemmas.released_queues.Pieces.{HasNumber, number_of, rises_below, first_taken, name_noted}
 use Rattle.law_driver_ring.specs.fed_queues.Places.{IsMet}
 use Rattle.law_frames.specs.Met.{IsQueuePart}
 use Rattle.law_queues.specs.released_queues.Released.{IsReturning}
 use Rattle.law_queues.specs.released_queues.Staying.{QueuesAreTold}
-use Rattle.law_queues.proofs.lemmas.released_queues.Links.{mapped, link_there, same_target, alternate_to}
+use Rattle.law_queues.proofs.lemmas.released_queues.Links.{mapped, alternate_to}
 use Rattle.law_queues.proofs.lemmas.released_queues.StayingQueues.{its_alive, met as its_met, goes_off, goes_on, head_off, InQueue, is_dummy, is_piece, in_queue, one_queue, fed_piece, piece_off, link_off, end_off, dummy_off}
 
 module _ (parts : StructureSets) (p : DriverParts) (order : ℕ → ℕ → ℕ) (out : ℕ → List ℕ) (t : ℕ) (y : Transfer) (x : Endpoint) (s : QueuesAreTold parts p order out) (k : IsReturning p.driver t y x) (whole : IsQueuePart (32 * x.queue) (parts (32 * x.queue))) where
@@ -131,7 +134,7 @@ module _ (parts : StructureSets) (p : DriverParts) (order : ℕ → ℕ → ℕ)
           let f = fed u i z there held same below in
           let is : q ≡ f.qtd = found_element (parts n a) q f.qtd here (ap (parts n) at ∙ f.here) in
           ⊎_elim (λ (to : qtd_link_of q.next ≡ qtd_links.To b).
-          let b_is : 32 * (note (piece_at note z.first i)).next ≡ b = same_target (32 * (note (piece_at note z.first i)).next) b (sym (ap qtd_link_of f.noted.next) ∙ ap (λ (r : Qtd). qtd_link_of r.next) (sym is) ∙ to) in
+          let b_is : 32 * (note (piece_at note z.first i)).next ≡ b = one_target (32 * (note (piece_at note z.first i)).next) b (sym (ap qtd_link_of f.noted.next) ∙ ap (λ (r : Qtd). qtd_link_of r.next) (sym is) ∙ to) in
           ap goes (sym b_is ∙ ap (λ (c : ℕ). 32 * c) (sym (piece_next note z.first i))) ∙ link_off parts p order out t y x s k u i z there held same differs below)
           (λ (to : qtd_link_of q.alternate ≡ qtd_links.To b).
           let next : ℕ = (note (piece_at note z.first i)).next in
@@ -165,7 +168,7 @@ module _ (parts : StructureSets) (p : DriverParts) (order : ℕ → ℕ → ℕ)
       let name_is : buffer_name f.qtd ≡ 32 * g = name_noted y.sort f.qtd (sized y.sort place.number (note_at d.notes (piece_at note y.first place.number))) (piece_at note y.first y.qtds) f.noted ∙ ap (λ (i : ℕ). 32 * i) first_is in
       let same : b ≡ piece_address d y place.number = whole.own b (piece_address d y place.number) q f.qtd pages j bs here f.here (sym name ∙ sym name_is) (ap (parts n) (sym name) ∙ there) in
       absurd (true≢false (sym (on place.number place.below) ∙ ap goes (sym same) ∙ stay)))
-      (λ (differs : u ≢ t). off g (ap (mine t) mine_first.0.owned ∙ not_same u t differs)) (cases_eq u t)
+      (λ (differs : u ≢ t). off g (ap (mine t) mine_first.0.owned ∙ other_number u t differs)) (cases_eq u t)
 
   pub buffers_stay : KeepsBuffers goes (parts n)
   buffers_stay a q here stay buffer =

@@ -4,6 +4,8 @@ use Rattle.std.specs.Prelude.{nat_eq}
 use Rattle.std.specs.List.{AllByRecursion}
 use Rattle.std.proofs.lemmas.Bool.{cases_lt, true≢false}
 use Rattle.std.proofs.lemmas.Option.{same_Some}
+use Rattle.law_common.proofs.Numbers.{other_number}
+use Rattle.law_driver_ring.proofs.Common.{piece_among}
 use Rattle.qh_qtd.specs.declared.qtd.Qtd.{Qtd}
 use Rattle.drv_table.specs.declared.content.Endpoint.{Endpoint}
 use Rattle.drv_table.specs.declared.content.Transfer.{Transfer}
@@ -17,11 +19,10 @@ use Rattle.law_driver.proofs.lemmas.chained_transfers.Ways.{moves_queued}
 use Rattle.law_driver.proofs.lemmas.chained_transfers.Chained.{within_list}
 use Rattle.law_driver.proofs.lemmas.chained_transfers.BulkAndControl.{not_iso}
 use Rattle.law_structures.specs.lent_structures.Structures.{Element as ElementOf, StructureSets}
-use Rattle.law_structures.proofs.lemmas.lent_structures.Names.{not_same}
 use Rattle.law_driver_ring.specs.Inventory.{Sort, sort_of, OfElement, IsLent, IsTransferIn, IsDriverOwned, the_list, the_head, a_queue, a_dummy, a_piece, a_buffer}
 use Rattle.law_driver_ring.proofs.LendOwning.{number_of as owner_number}
 use Rattle.law_driver_ring.specs.Released.{blocks_of, goes_of, IsToGo}
-use Rattle.law_driver_ring.proofs.Blocks.{mine, all_mine, none_mine, is_named, is_not_named, piece_among, placed_buffer}
+use Rattle.law_driver_ring.proofs.Blocks.{mine, all_mine, none_mine, is_named, is_not_named, placed_buffer}
 use Rattle.law_driver_ring.specs.fed_queues.Fed.{IsPieceFed, unpublished_of, sized}
 use Rattle.law_queues.specs.released_queues.Fronts.{piece_address}
 use Rattle.law_queues.specs.released_queues.Released.{IsReturning}
@@ -150,7 +151,7 @@ module _ (parts : StructureSets) (p : DriverParts) (order : ℕ → ℕ → ℕ)
       (placed_buffer v.slot owner v.note u z.first z.qtds (piece_at note z.first i) (pieces_of u z here held) (piece_is note z.first z.qtds i below)).0
 
   pub piece_off : (u i : ℕ) (z : Transfer) → slice_get d.transfers u ≡ Some z → z.released ≡ false → i < z.qtds → u ≢ t → mine t (owner (piece_at note z.first i)) ≡ false
-  piece_off u i z here held below differs = ap (mine t) (piece_placed u i z here held below).owned ∙ not_same u t differs
+  piece_off u i z here held below differs = ap (mine t) (piece_placed u i z here held below).owned ∙ other_number u t differs
 
   none_at_all : (u : ℕ) (z : Transfer) → NoneFrom v z.endpoint (suc u) (suc u + length d.transfers) → (to : ℕ) → NoneFrom v z.endpoint (suc u) to
   none_at_all u z none to i r after below there =
@@ -179,7 +180,8 @@ module _ (parts : StructureSets) (p : DriverParts) (order : ℕ → ℕ → ℕ)
       let first : end_of v (runs_of_transfer z) ≡ found.transfer.first = s.chained.next u found.number (runs_of_transfer z) found.transfer there held found.here less found.endpoint found.none in
       let placed = (placed_buffer v.slot owner v.note found.number found.transfer.first found.transfer.qtds found.transfer.first (s.owners.owned.each.pieces found.number found.transfer found.here off) (piece_is v.note found.transfer.first found.transfer.qtds 0 some)).0 in
       let later = is_later u z here held same differs in
-      ap (λ (i : ℕ). mine t (owner i)) first ∙ ap (mine t) placed.owned ∙ not_same found.number t (λ one. omega (arith, one, later, less)))
+      ap (λ (i : ℕ). mine t (owner i)) first ∙ ap (mine t) placed.owned
+      ∙ other_number found.number t (λ one. omega (arith, one, later, less)))
       (λ (none : NoneFrom v z.endpoint (suc u) (suc u + length d.transfers)).
       let last : end_of v (runs_of_transfer z) ≡ x.dummy = s.chained.last u (runs_of_transfer z) (runs_of_endpoint x) there held (ap (option_map runs_of_endpoint) (same_endpoint z same)) (none_at_all u z none) in
       ap (λ (i : ℕ). mine t (owner i)) last ∙ dummy_off y.endpoint x k.endpoint its_alive)

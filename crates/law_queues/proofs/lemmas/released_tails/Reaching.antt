@@ -1,7 +1,11 @@
 -- The row leaves fronts and tails.
-use Rattle.std.proofs.Common.{◌≡◌, ◌≢◌, ℕ, suc, ◌*◌, ◌<◌, Bool, false, if◌then◌else◌, List, [], ◌∷◌, drop, set, slice_get, Option, Some, ap, sym, subst, ◌∙◌, ⊎_elim}
+use Rattle.std.proofs.Common.{◌≡◌, ◌≢◌, ℕ, suc, ◌*◌, ◌<◌, Bool, false, if◌then◌else◌, List, set, slice_get, Option, Some, ap, sym, subst, ◌∙◌, ⊎_elim}
 use Rattle.std.proofs.lemmas.Bool.{cases_eq, true≢false, eq-eqb}
 use Rattle.std.proofs.lemmas.Option.{same_Some}
+use Rattle.law_queues.proofs.Common2.{fewer_within}
+use Rattle.law_common.proofs.Lists.{drop_one, set_here, set_there}
+use Rattle.law_queues.proofs.Common.{fewer_tail}
+use Rattle.law_common.proofs.Numbers.{other_number}
 use Rattle.async_walk.specs.Walk.{Walk}
 use Rattle.mem_runs.specs.Book.{holding}
 use Rattle.drv_table.specs.declared.content.Endpoint.{Endpoint}
@@ -11,15 +15,13 @@ use Rattle.drv_table.specs.Parts.{Parts as DriverParts}
 use Rattle.drv_table.specs.Releases.{freed_by, free_qtds, after_transfer}
 use Rattle.drv_table.specs.Rows.{after_driver_row}
 use Rattle.claims_driver.specs.Owners.{NoteRuns, note_in}
-use Rattle.law_driver.proofs.lemmas.run_owners.Released.{set_here, set_there}
 use Rattle.law_driver.specs.chained_transfers.Chains.{piece_at}
-use Rattle.law_structures.specs.lent_structures.Structures.{QueueHead, Element, StructureSets}
-use Rattle.law_structures.proofs.lemmas.lent_structures.Names.{not_same}
+use Rattle.law_structures.specs.lent_structures.Structures.{StructureSets}
 use Rattle.law_ring.specs.Hand.{Hand}
 use Rattle.claims_base.specs.Controller.{Base}
 use Rattle.law_ring.specs.Fewer.{without_those}
-use Rattle.law_ring.proofs.Returning.{those_found, those_else, those_beside}
-use Rattle.law_ring.specs.Front.{HasFront, LinksWithin, HasTail}
+use Rattle.law_ring.proofs.Returning.{those_else, those_beside}
+use Rattle.law_ring.specs.Front.{HasFront}
 use Rattle.law_controller.specs.controlled_streams.Returned.{staying, staying_of}
 use Rattle.law_controller.proofs.lemmas.controlled_streams.Returning.{front_is_returned}
 use Rattle.law_driver_ring.specs.Released.{goes_of, release_row}
@@ -30,24 +32,6 @@ use Rattle.law_queues.proofs.lemmas.released_queues.Going.{buffers_stay, head_st
 use Rattle.law_queues.proofs.lemmas.released_queues.Outs.{gone}
 use Rattle.law_queues.specs.standing_fronts.Reaching.{Reaches}
 use Rattle.law_queues.specs.released_tails.Tails.{ReleaseKeepsReaches}
-
-dropped_one : (hs : List ℕ) (i t : ℕ) → slice_get (drop 1 hs) i ≡ Some t → slice_get hs (suc i) ≡ Some t
-dropped_one [] i t at = absurd (cc)
-dropped_one (h ∷ hs) i t at = at
-
--- fewer structures lead no further
-pub fewer_within : (parts : StructureSets) (n : ℕ) (goes : ℕ → Bool) (order : ℕ → ℕ) (m c : ℕ) → LinksWithin order c (parts m) → LinksWithin order c (without_those parts n goes m)
-fewer_within parts n goes order m c k = record {
-  below = λ a q found on most. k.below a q (those_found parts n goes m a (Element q) found) on most;
-  next = λ a b q found on most leads. k.next a b q (those_found parts n goes m a (Element q) found) on most leads;
-  alternate = λ a b q found on most leads. k.alternate a b q (those_found parts n goes m a (Element q) found) on most leads;
-}
-
-pub fewer_tail : (parts : StructureSets) (n : ℕ) (goes : ℕ → Bool) (order : ℕ → ℕ) (m c front : ℕ) → HasTail order c front m (parts m) → HasTail order c front m (without_those parts n goes m)
-fewer_tail parts n goes order m c front k = record {
-  most = k.most;
-  rest = λ q b found goes_on idle to. k.rest q b (those_found parts n goes m m (QueueHead q) found) goes_on idle to;
-}
 
 module _ (base : Base) (member : ℕ → Bool) (parts : StructureSets) (hand : Hand) (w : Walk) (p : DriverParts) (order : ℕ → ℕ → ℕ) (out : ℕ → List ℕ) (t : ℕ) (y : Transfer) (x : Endpoint) (s : ReleaseStands base member parts hand w p order out) (k : IsReturning p.driver t y x) where
   abbrev d : DriverContent
@@ -92,7 +76,7 @@ module _ (base : Base) (member : ℕ → Bool) (parts : StructureSets) (hand : H
       (front_is_returned (order n) f (out n) parts n goes (head_stays base member parts hand w p order out t y x s k) (buffers_stay base member parts hand w p order out t y x s k)
       (subst (λ (i : ℕ). HasFront (order i) f (out i) i (parts i)) same has))))
       (λ (differs : m ≢ n).
-      subst (λ (b : Bool). HasFront (order m) f (if b then staying goes (out m) else out m) m (now m)) (sym (not_same m n differs))
+      subst (λ (b : Bool). HasFront (order m) f (if b then staying goes (out m) else out m) m (now m)) (sym (other_number m n differs))
       (subst (HasFront (order m) f (out m) m) (sym (those_beside parts n goes m differs)) has)) (cases_eq m n)
 
   stands_now : (i : ℕ) (z : Endpoint) → (f : StandsAt d (parts (32 * z.queue)) (order (32 * z.queue)) (out (32 * z.queue)) i z)
@@ -100,10 +84,10 @@ module _ (base : Base) (member : ℕ → Bool) (parts : StructureSets) (hand : H
   stands_now i z f has = record {
     front = f.front;
     has = has;
-    ended = λ h u c at there held same. let was = was_there u c there held in f.ended (suc h) u c (dropped_one d.harvested h u at) was.1 held same;
+    ended = λ h u c at there held same. let was = was_there u c there held in f.ended (suc h) u c (drop_one d.harvested h u at) was.1 held same;
     passed = λ h u j c at there held same from below.
         let was = was_there u c there held in
-        let over = f.passed (suc h) u j c (dropped_one d.harvested h u at) was.1 held same from below in
+        let over = f.passed (suc h) u j c (drop_one d.harvested h u at) was.1 held same from below in
         record { qtd = over.qtd; here = those_else parts n goes (32 * z.queue) (piece_address d c j) (off_piece u j c was.1 held below was.0) ∙ over.here; published = over.published; before = over.before };
   }
 

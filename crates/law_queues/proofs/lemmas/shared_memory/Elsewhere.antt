@@ -1,5 +1,6 @@
 -- What leaves the words outside Lent blocks, and the first three of each queue head that is told, writes elsewhere.
-use Rattle.std.proofs.Common.{◌≡◌, ℕ, ◌+◌, ◌*◌, ◌/◌, ◌<◌, Bool, true, false, ◌||◌, get_or, slice_get, Option, Some, option_map, ap, refl, sym, subst, ◌∙◌, arith}
+use Rattle.std.proofs.Common.{◌≡◌, ℕ, ◌+◌, ◌*◌, ◌/◌, ◌<◌, get_or, slice_get, Option, Some, option_map, ap, refl, sym, subst, ◌∙◌, arith}
+use Rattle.law_common.proofs.Booleans.{none_late}
 use Rattle.word_mem.specs.Memory.{Mem, word_at, is_lent}
 use Rattle.word_mem.specs.Runs.{Run}
 use Rattle.word_mem.specs.declared.blocks.BlockState.TheVariants.{Free}
@@ -48,10 +49,6 @@ kept_kept parts m new d b i r leaves place is below =
     let kept = keeps_all (holding d.book m) b r stands is b (omega (arith, first)) (omega (arith, first, some)) in
     leaves.lent.words (32 * b + 4 * i) (ap (λ (k : ℕ). is_lent (slice_get m.states k)) block ∙ ap is_lent kept)
 
-either_false : (b c : Bool) → b ≡ false → c ≡ false → (b || c) ≡ false
-either_false true c one other = absurd cc
-either_false false c one other = other
-
 endpoint_kept : (parts : StructureSets) (m new : Mem) (d : DriverContent) (e : ℕ) (x : Endpoint) (i : ℕ) (s : Slot) → LeavesRest parts m new → IsInPlace m d → IsDriven (views_of d) (sorts_of parts)
     → IsQueueIn (views_of d) e (runs_of_endpoint x) → slot_of d.book.slots x.queue ≡ s → i < 3 → word_at new (32 * x.queue + 4 * i) ≡ word_at m (32 * x.queue + 4 * i)
 endpoint_kept parts m new d e x i slots.Empty leaves place driven is slot below =
@@ -70,7 +67,7 @@ head_kept parts m new d b i leaves place driven (of_ring is) below =
 head_kept parts m new d b i leaves place driven (of_endpoint e x here queued alive is) below =
     subst (λ (k : ℕ). word_at new (32 * k + 4 * i) ≡ word_at m (32 * k + 4 * i)) is
     (endpoint_kept parts m new d e x i (slot_of d.book.slots x.queue) leaves place driven
-    (record { here = ap (option_map runs_of_endpoint) here; queued = either_false (is_iso x.desc.kind) x.gone queued alive }) refl below)
+    (record { here = ap (option_map runs_of_endpoint) here; queued = none_late (is_iso x.desc.kind) x.gone queued alive }) refl below)
 
 -- ---- elsewhere
 

@@ -1,11 +1,12 @@
 -- The opening is shared, and each event of the controller and each quiet one of the driver keep it so.
 use Rattle.std.proofs.Common.{◌≡◌, ℕ, ◌%◌, ◌≤◌, Bool, true, List, ap, refl, sym, ◌∙◌}
 use Rattle.std.proofs.lemmas.List.{length-replicate, get_or-replicate}
+use Rattle.law_controller.proofs.Common.{over_not_periodic}
+use Rattle.law_queues.proofs.Common.{is_on}
 use Rattle.usb_base.specs.declared.packets.Ask.{Ask}
 use Rattle.usb_base.specs.declared.packets.Reply.{Reply}
 use Rattle.link_words.specs.Links.{link_read}
 use Rattle.periodic_walk.specs.Walk.{is_over}
-use Rattle.hc_core.specs.declared.controller.MicroframePart.TheVariants.{Over, Periodic}
 use Rattle.hc_core.specs.Controller.{Control, Content, content, new_control, walk_place, microframe_row, HasRow}
 use Rattle.drv_table.specs.declared.content.Reserve.{Reserve}
 use Rattle.drv_table.specs.DriverContent.{DriverContent}
@@ -16,11 +17,11 @@ use Rattle.law_structures.specs.lent_structures.Structures.{StructureSets}
 use Rattle.law_ring.specs.Hand.{Hand, Empty}
 use Rattle.claims_base.specs.Controller.{Base, opening_base}
 use Rattle.law_ring.specs.Effects.{AreBytesHeard}
-use Rattle.law_controller.specs.controlled_streams.Control.{IsOn, AreEmpty, IsFrameless, off, empty, IsControlled, ControlEffect, a_microframe, a_step, Controls}
+use Rattle.law_controller.specs.controlled_streams.Control.{AreEmpty, IsFrameless, off, empty, IsControlled, ControlEffect, a_microframe, a_step, Controls}
 use Rattle.law_controller.proofs.lemmas.controlled_streams.Controlling.{each_event_of_the_controller}
 use Rattle.law_controller.proofs.lemmas.controller_writes.Controlling.{each_event_leaves_the_rest}
 use Rattle.law_driver_ring.specs.Inventory.{SameSorts}
-use Rattle.law_driver_ring.specs.Driven.{IsOperating, DrivesRing, is_quiet}
+use Rattle.law_driver_ring.specs.Driven.{DrivesRing, is_quiet}
 use Rattle.law_driver_ring.specs.PartOpened.{empty_list, opening_parts, is_head}
 use Rattle.law_driver_ring.proofs.Sorts.{same_parts, effect_same, driven_same}
 use Rattle.law_driver_ring.proofs.Quiet.{quiet_drives}
@@ -32,17 +33,11 @@ use Rattle.law_driver.proofs.lemmas.in_place.Elsewhere.{the_controller_keeps_all
 use Rattle.law_queues.specs.shared_memory.Shared.{IsShared, StaysShared, parts_of, next_parts, after_driver}
 use Rattle.law_queues.proofs.lemmas.shared_memory.Elsewhere.{leaves_elsewhere}
 
-is_on : (base : Base) → IsOperating base → IsOn base
-is_on base is = record { run = is.run; async_enable = is.async_enable }
-
 -- ---- the opening
 
 all_end : AreEmpty empty_list
 unfolding link_read
 all_end i below = ap link_read (get_or-replicate 1024 i 1 0 below)
-
-over_is_not_periodic : Over ≡ Periodic → ⊥
-over_is_not_periodic same = cc
 
 pub the_opening_is_shared : (n : ℕ) (room : Reserve) → 2048 ≤ n → n ≤ 262144 → n % 1024 ≡ 0 → IsShared opening_base is_head opening_parts Empty (content new_control (opening n room).registers (opening n room).memory) (opening n room).driver
 the_opening_is_shared n room many few whole =
@@ -54,7 +49,7 @@ the_opening_is_shared n room many few whole =
         ring = d.ring;
         between = λ part. refl;
         list = record { words = empty_list; here = refl; size = length-replicate {A = ℕ} 1024 1 };
-        frameless = empty all_end (λ part. absurd (over_is_not_periodic part));
+        frameless = empty all_end (λ part. absurd (over_not_periodic part));
       };
       driven = d.driven;
     }

@@ -1,6 +1,11 @@
 -- A STALL was found, so the queue is halted, and what is out of it yet is published.
-use Rattle.std.proofs.Common.{◌≡◌, ℕ, suc, ◌+◌, ◌-◌, ◌*◌, ◌<◌, Bool, true, List, [], ◌∷◌, ◌++◌, length, slice_get, Option, Some, option_map, ap, sym, subst, ◌∙◌, ⊎_elim, inl, inr, refl, arith}
+use Rattle.std.proofs.Common.{◌≡◌, ℕ, suc, ◌+◌, ◌-◌, ◌*◌, Bool, true, List, [], ◌∷◌, ◌++◌, length, slice_get, Option, Some, option_map, ap, sym, subst, ◌∙◌, ⊎_elim, inr, arith}
 use Rattle.std.specs.Prelude.{nat_eq}
+use Rattle.law_queues.proofs.Common.{behind_less}
+use Rattle.law_controller.proofs.Common.{here_among}
+use Rattle.law_driver.proofs.Common.{waits_is}
+use Rattle.law_ring.proofs.Common.{among_either}
+use Rattle.law_queues.proofs.Common.{piece_more}
 use Rattle.qh_qtd.specs.declared.qtd.Qtd.{Qtd}
 use Rattle.drv_table.specs.declared.content.Endpoint.{Endpoint}
 use Rattle.drv_table.specs.declared.content.Transfer.{Transfer}
@@ -17,7 +22,7 @@ use Rattle.law_driver.proofs.lemmas.endpoint_lives.Lives.{none_told}
 use Rattle.law_structures.specs.lent_structures.Structures.{Element, Structures, StructureSets, Tells}
 use Rattle.law_structures.proofs.lemmas.lent_structures.Altering.{found_element}
 use Rattle.law_ring.specs.Told.{Endpoint as Told}
-use Rattle.law_ring.specs.Order.{AreAfter, IsSorted, IsAmong}
+use Rattle.law_ring.specs.Order.{IsSorted, IsAmong}
 use Rattle.law_ring.specs.Halted.{IsHalted, HaltStops}
 use Rattle.law_frames.specs.Met.{IsQueuePart}
 use Rattle.law_frames.proofs.Queues.{a_members_part_is_linked}
@@ -25,7 +30,6 @@ use Rattle.law_driver.specs.chained_transfers.AsynchronousTurns.{AsynchronousTak
 use Rattle.law_driver.specs.chained_transfers.Chains.{piece_at}
 use Rattle.law_driver.specs.chained_transfers.Turns.{IsAtPlace, turn_of, turn_in, IsNext, AreReportedTo}
 use Rattle.law_driver.specs.chained_transfers.Out.{passed, out_now}
-use Rattle.law_driver.proofs.lemmas.chained_transfers.Harvesting.{waits_is}
 use Rattle.law_driver_ring.specs.fed_queues.Fed.{IsPieceFed, unpublished_of, sized}
 use Rattle.law_driver_ring.specs.fed_queues.Places.{IsMet}
 use Rattle.law_queues.specs.mended_heads.Stalling.{IsStall, HaltsQueue}
@@ -34,28 +38,13 @@ use Rattle.law_queues.specs.fed_lends.Commands.{QueuesStand}
 use Rattle.law_queues.specs.fed_harvests.Harvests.{IsPassed}
 use Rattle.law_queues.specs.fed_harvests.Stalls.{StallLeaves}
 use Rattle.law_queues.proofs.lemmas.fed_harvests.Harvests.{held}
-use Rattle.law_queues.proofs.lemmas.fed_harvests.Lists.{among_either}
 use Rattle.law_queues.proofs.lemmas.fed_harvests.Stalls.{stall_leaves}
 use Rattle.law_queues.specs.released_queues.Fronts.{piece_address, FrontsStand}
-use Rattle.law_queues.proofs.lemmas.released_queues.Pieces.{piece_on}
 use Rattle.law_queues.proofs.lemmas.released_queues.Queues.{none_yet}
 use Rattle.law_queues.proofs.lemmas.released_queues.Outs.{out_of_one}
 use Rattle.law_queues.specs.stalled_fronts.Stalled.{StallStopsQueue, StallHaltsQueue}
 
 -- ---- what stands behind one in the order
-
-after_less : (o : ℕ → ℕ) (h a : ℕ) (xs : List ℕ) → AreAfter o h xs → IsAmong a xs → o h < o a
-after_less o h a [] after among = absurd among
-after_less o h a (x ∷ xs) after (inl same) = let is = ap o same in let less = after.0 in omega (arith, is, less)
-after_less o h a (x ∷ xs) after (inr more) = after_less o h a xs after.1 more
-
-behind_less : (o : ℕ → ℕ) (h a : ℕ) (before behind : List ℕ) → IsSorted o (before ++ h ∷ behind) → IsAmong a behind → o h < o a
-behind_less o h a [] behind sorted among = after_less o h a behind sorted.0 among
-behind_less o h a (x ∷ before) behind sorted among = behind_less o h a before behind sorted.1 among
-
-here_among : (h : ℕ) (before behind : List ℕ) → IsAmong h (before ++ h ∷ behind)
-here_among h [] behind = inl refl
-here_among h (x ∷ before) behind = inr (here_among h before behind)
 
 behind_among : (h a : ℕ) (before behind : List ℕ) → IsAmong a behind → IsAmong a (before ++ h ∷ behind)
 behind_among h a [] behind among = inr among
@@ -123,7 +112,7 @@ module _ (p : Parts) (e t : ℕ) (found : Found) (due : IsHarvestDue p e t found
       let below = i.dropped.below in
       let most = at_place.most in
       let j : ℕ = z.qtds - z.left + i.dropped.number in
-      let address : a ≡ piece_address d z j = i.dropped.at ∙ ap (λ (b : ℕ). 32 * piece_at note b i.dropped.number) at_place.place ∙ ap (λ (b : ℕ). 32 * b) (piece_on note z.first (z.qtds - z.left) i.dropped.number) in
+      let address : a ≡ piece_address d z j = i.dropped.at ∙ ap (λ (b : ℕ). 32 * piece_at note b i.dropped.number) at_place.place ∙ ap (λ (b : ℕ). 32 * b) (piece_more note z.first (z.qtds - z.left) i.dropped.number) in
       let g = (fronts e x due.here met).passed owed.at k.number j z owed.here k.here i.held i.endpoint (omega (arith, one, from)) (omega (arith, below, most)) in
       ap (λ (q : Qtd). q.token.active) (found_element (part a) u g.qtd at (ap part address ∙ g.here)) ∙ g.published
 

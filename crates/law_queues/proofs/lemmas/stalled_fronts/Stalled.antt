@@ -3,31 +3,30 @@ use Rattle.std.proofs.Common.{◌≡◌, ◌≢◌, ℕ, suc, ◌+◌, ◌-◌, 
 use Rattle.std.specs.Prelude.{◌⊎◌, nat_eq}
 use Rattle.std.proofs.lemmas.Bool.{cases_eq, true≢false}
 use Rattle.std.proofs.lemmas.Option.{same_Some}
+use Rattle.law_driver_ring.proofs.Common.{lent_slot}
+use Rattle.law_queues.proofs.Common.{after_is, piece_more}
+use Rattle.law_driver.proofs.Common.{piece_next}
 use Rattle.link_words.specs.declared.kinds.QtdLink.TheVariants as qtd_links
 use Rattle.link_words.specs.Links.{qtd_link_of}
 use Rattle.qh_qtd.specs.declared.qtd.Qtd.{Qtd}
 use Rattle.qh_qtd.specs.declared.queue_head.Qh.{Qh}
 use Rattle.mem_runs.specs.Book.{slot_of}
-use Rattle.mem_runs.specs.declared.slots.Slot.{Slot}
-use Rattle.mem_runs.specs.declared.slots.Slot.TheVariants.{Empty}
 use Rattle.drv_table.specs.declared.content.Endpoint.{Endpoint}
 use Rattle.drv_table.specs.declared.content.Transfer.{Transfer}
 use Rattle.drv_table.specs.declared.content.Command.{Command}
 use Rattle.drv_table.specs.declared.content.Command.TheVariants as unfinished
 use Rattle.drv_table.specs.declared.rows.Found.{Found}
-use Rattle.drv_table.specs.declared.rows.DriverRow.TheVariants as rows
 use Rattle.drv_table.specs.DriverContent.{DriverContent, waits_for}
 use Rattle.drv_table.specs.Words.{dummy_qtd}
 use Rattle.drv_table.specs.Harvests.{note_at}
 use Rattle.drv_table.specs.Parts.{Parts}
-use Rattle.drv_table.specs.Rows.{after_driver_row}
 use Rattle.drv_table.specs.Harvesting.{after_harvest}
 use Rattle.law_driver.specs.run_owners.Due.{IsHarvestDue}
 use Rattle.claims_driver.specs.Leaving.{HasOwners}
 use Rattle.claims_driver.specs.Owners.{Dummy, NoteRuns, runs_of_endpoint, note_in}
 use Rattle.law_driver.proofs.lemmas.run_owners.Runs.{placed_run}
 use Rattle.law_driver.proofs.lemmas.endpoint_lives.Lives.{met_alike}
-use Rattle.claims_driver.specs.LentRuns.{AreLent, IsLent as IsLentSlot}
+use Rattle.claims_driver.specs.LentRuns.{AreLent}
 use Rattle.law_driver.proofs.lemmas.lent_runs.Laws.{all_are_lent_between_commands}
 use Rattle.law_structures.specs.lent_structures.Structures.{QueueHead, Element, Structures, StructureSets}
 use Rattle.law_structures.specs.lent_structures.Sound.{IsElement, LeadsOn, IsSoundQueue}
@@ -52,15 +51,10 @@ use Rattle.law_queues.proofs.lemmas.fed_harvests.Told.{IsOf, WasIn, was_in, in_b
 use Rattle.law_queues.proofs.lemmas.fed_harvests.Harvests.{remains}
 use Rattle.law_queues.proofs.lemmas.fed_harvests.Stalls.{Tells, tells, in_turn, each_told, same_out, is_stalled}
 use Rattle.law_queues.specs.released_queues.Fronts.{piece_address, end_at, StandsAt, FrontsStand}
-use Rattle.law_queues.proofs.lemmas.released_queues.Pieces.{piece_on, piece_next}
 use Rattle.law_queues.proofs.lemmas.released_queues.Queues.{none_yet}
 use Rattle.law_queues.proofs.lemmas.released_queues.Outs.{out_is}
 use Rattle.law_queues.proofs.lemmas.standing_fronts.Lists.{in_out}
 use Rattle.law_queues.specs.stalled_fronts.Stalled.{StallMovesFronts, StallKeepsFronts}
-
-lent_slot : (s : Slot) → IsLentSlot s → IsLent s
-lent_slot Empty lent = lent
-lent_slot _ lent = lent
 
 -- ---- a transfer that may be reported now
 
@@ -196,7 +190,7 @@ module _ (p : Parts) (e t : ℕ) (found : Found) (due : IsHarvestDue p e t found
           number = number;
           from = omega (arith, told, from);
           below = omega (arith, less, from, few);
-          at = sym (ap (λ (b : ℕ). 32 * piece_at (note_in f.notes) b number) place.place ∙ ap (λ (b : ℕ). 32 * b) (piece_on (note_in f.notes) z.first i number ∙ ap (piece_at (note_in f.notes) z.first) sum));
+          at = sym (ap (λ (b : ℕ). 32 * piece_at (note_in f.notes) b number) place.place ∙ ap (λ (b : ℕ). 32 * b) (piece_more (note_in f.notes) z.first i number ∙ ap (piece_at (note_in f.notes) z.first) sum));
         };
       }))
 
@@ -329,10 +323,6 @@ module _ (p : Parts) (e t : ℕ) (found : Found) (due : IsHarvestDue p e t found
       subst (λ (j : ℕ). StandsAt f (parts (32 * z.queue)) (order (32 * z.queue)) (later (32 * z.queue)) j z) (sym own)
       (own_stands z (ap (slice_get f.endpoints) (sym own) ∙ at_z) (subst (λ (j : ℕ). IsMet f j z) own meets)))
       (λ (other : i ≢ e). other_stands i z at_z meets other) (cases_eq i e)
-
-after_is : (p : Parts) (e t : ℕ) (found : Found) (due : IsHarvestDue p e t found) → (after_driver_row (rows.Harvest e t found) p).driver ≡ after_harvest p.driver p.memory e t found (Some due.endpoint) (Some due.transfer)
-after_is p e t found due =
-    ap (λ (o : Option Endpoint). after_harvest p.driver p.memory e t found o (slice_get p.driver.transfers t)) due.here ∙ ap (after_harvest p.driver p.memory e t found (Some due.endpoint)) due.there
 
 pub stall_moves_fronts : StallMovesFronts
 stall_moves_fronts p e t found member streams ends parts order out later due stall owners lent turns old still on halts fronts =

@@ -1,12 +1,13 @@
 -- Contents that are alike, and stores of an inactive qTD.
 use Rattle.std.proofs.Common.{◌≡◌, ◌≢◌, ℕ, ◌*◌, ◌<◌, ◌≤◌, ◌⊎◌, Bool, true, false, if◌then◌else◌, List, [], ◌∷◌, ◌++◌, length, slice_get, Some, ap, refl, sym, subst, ◌∙◌, ⊎_elim, inl, inr, arith}
 use Rattle.std.proofs.lemmas.Bool.{cases_eq, true≢false, eq-eqb}
+use Rattle.law_common.proofs.Numbers.{other_number}
 use Rattle.qh_qtd.specs.declared.qtd.Qtd.{Qtd}
 use Rattle.qh_qtd.specs.declared.queue_head.Qh.{Qh}
 use Rattle.drv_table.specs.declared.content.Endpoint.{Endpoint}
 use Rattle.drv_table.specs.DriverContent.{DriverContent}
 use Rattle.law_structures.specs.lent_structures.Structures.{QueueHead, Element, Structures, StructureSets}
-use Rattle.law_structures.proofs.lemmas.lent_structures.Names.{not_same, put_same, put_else, put_beside, put_found}
+use Rattle.law_structures.proofs.lemmas.lent_structures.Names.{put_same, put_else, put_beside, put_found}
 use Rattle.law_structures.specs.lent_structures.Sound.{buffer_name}
 use Rattle.law_structures.proofs.lemmas.lent_structures.Altering.{found_element}
 use Rattle.law_ring.specs.Effects.{bytes_in, buffer_of}
@@ -162,5 +163,5 @@ last_store_keeps_fronts d parts order out n e old new s on fresh stand reached i
     (published_at d parts (order m) s.before s.after i e x old new (ap (λ (j : ℕ). parts j e) same ∙ s.here) s.idle (subst (λ (j : ℕ). IsSorted (order j) (s.before ++ e ∷ s.after)) (sym same) s.sorted) on
     (subst (λ (j : ℕ). IsFresh (parts j) new) (sym same) fresh) h.0 least)))
     (λ (differs : m ≢ n).
-    subst (λ (b : Bool). StandsAt d (stored_parts parts n e new m) (order m) (if b then s.before ++ e ∷ s.after else out m) i x) (sym (not_same m n differs))
+    subst (λ (b : Bool). StandsAt d (stored_parts parts n e new m) (order m) (if b then s.before ++ e ∷ s.after else out m) i x) (sym (other_number m n differs))
     (subst (λ (part : Structures). StandsAt d part (order m) (out m) i x) (sym (put_beside parts n e (Element new) m differs)) g)) (cases_eq m n)

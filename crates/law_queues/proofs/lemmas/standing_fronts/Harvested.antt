@@ -3,6 +3,9 @@ use Rattle.std.proofs.Common.{◌≡◌, ◌≢◌, ℕ, suc, ◌+◌, ◌-◌, 
 use Rattle.std.specs.Prelude.{nat_eq}
 use Rattle.std.proofs.lemmas.Bool.{cases_eq}
 use Rattle.std.proofs.lemmas.Option.{same_Some}
+use Rattle.law_common.proofs.Lists.{set_here, set_there}
+use Rattle.law_driver.proofs.Common.{piece_next}
+use Rattle.law_queues.proofs.Common.{piece_more}
 use Rattle.link_words.specs.declared.kinds.QtdLink.TheVariants as qtd_links
 use Rattle.link_words.specs.Links.{qtd_link_of}
 use Rattle.qh_qtd.specs.declared.qtd.Qtd.{Qtd}
@@ -12,13 +15,11 @@ use Rattle.drv_table.specs.declared.content.Transfer.{Transfer}
 use Rattle.drv_table.specs.DriverContent.{DriverContent}
 use Rattle.drv_table.specs.Harvests.{note_at}
 use Rattle.claims_driver.specs.Owners.{NoteRuns, note_in}
-use Rattle.law_driver.proofs.lemmas.run_owners.Released.{set_here, set_there}
 use Rattle.law_driver.specs.chained_transfers.Chains.{piece_at}
 use Rattle.law_driver.specs.chained_transfers.AsynchronousTurns.{AsynchronousTakesTurns}
 use Rattle.law_driver.specs.chained_transfers.Turns.{IsAtPlace}
 use Rattle.law_driver.specs.chained_transfers.Out.{passed, out_now}
 use Rattle.law_driver.proofs.lemmas.chained_transfers.Chained.{piece_same}
-use Rattle.law_driver.proofs.lemmas.chained_transfers.Harvested.{piece_next}
 use Rattle.law_structures.specs.lent_structures.Structures.{Element, Structures, StructureSets}
 use Rattle.law_structures.proofs.lemmas.lent_structures.Altering.{found_element}
 use Rattle.law_ring.specs.Order.{IsAmong}
@@ -26,7 +27,7 @@ use Rattle.law_ring.specs.Front.{own_pointer, IsPassed, HasFront}
 use Rattle.law_driver_ring.specs.fed_queues.Fed.{IsPieceFed, unpublished_of, AreFed, sized}
 use Rattle.law_driver_ring.specs.fed_queues.Places.{IsMet, AreStillOut, IsThere}
 use Rattle.law_queues.specs.released_queues.Fronts.{piece_address, end_at, StandsAt, FrontsStand}
-use Rattle.law_queues.proofs.lemmas.released_queues.Pieces.{rises_below, piece_on}
+use Rattle.law_queues.proofs.lemmas.released_queues.Pieces.{rises_below}
 use Rattle.law_queues.proofs.lemmas.released_queues.Queues.{none_yet}
 use Rattle.law_queues.proofs.lemmas.released_queues.Outs.{out_plain, out_is, IsDropped, IsOutOf, out_in}
 use Rattle.law_queues.specs.standing_fronts.Along.{LinksOfQueuesRise}
@@ -104,7 +105,8 @@ module _ (d f : DriverContent) (parts : StructureSets) (order : ℕ → ℕ → 
   at_place = turns.turns.places t y k.here k.held
 
   address_is : (j : ℕ) → 32 * piece_at note y.place j ≡ piece_address d y (y.qtds - y.left + j)
-  address_is j = ap (λ (c : ℕ). 32 * piece_at note c j) at_place.place ∙ ap (λ (c : ℕ). 32 * c) (piece_on note y.first (y.qtds - y.left) j)
+  address_is j = ap (λ (c : ℕ). 32 * piece_at note c j) at_place.place
+      ∙ ap (λ (c : ℕ). 32 * c) (piece_more note y.first (y.qtds - y.left) j)
 
   place_is : 32 * y.place ≡ piece_address d y (y.qtds - y.left)
   place_is = ap (λ (c : ℕ). 32 * c) at_place.place

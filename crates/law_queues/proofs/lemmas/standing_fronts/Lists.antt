@@ -1,23 +1,14 @@
 -- Which qTDs are out, told by their transfers.
-use Rattle.std.proofs.Common.{◌≡◌, ℕ, zero, suc, ◌+◌, ◌*◌, ◌==◌, ◌&&◌, not, ◌<◌, ◌≤◌, ◌⊎◌, Bool, if◌then◌else◌, List, [], ◌∷◌, ◌++◌, drop, slice_get, Some, ap, refl, sym, subst, ◌∙◌, inl, inr, arith}
+use Rattle.std.proofs.Common.{◌≡◌, ℕ, zero, suc, ◌+◌, ◌*◌, ◌&&◌, not, ◌<◌, ◌≤◌, Bool, if◌then◌else◌, List, [], ◌∷◌, drop, slice_get, Some, ap, refl, sym, subst, ◌∙◌, inl, inr, arith}
 use Rattle.std.proofs.lemmas.Bool.{eq-eqb}
+use Rattle.law_queues.proofs.Common.{among_left, among_right}
 use Rattle.drv_table.specs.declared.content.Transfer.{Transfer}
 use Rattle.claims_driver.specs.Owners.{NoteRuns}
-use Rattle.claims_driver.specs.Leaving.{times}
 use Rattle.law_driver.specs.chained_transfers.Chains.{piece_at}
 use Rattle.law_driver.specs.chained_transfers.Out.{pieces_from, passed, out_of_transfer}
 use Rattle.law_driver.proofs.lemmas.chained_transfers.Chained.{piece_same}
 use Rattle.law_ring.specs.Order.{IsAmong}
 use Rattle.law_queues.proofs.lemmas.released_queues.Outs.{out_plain, IsDropped, IsOutOf}
-
-among_left : (a : ℕ) (xs ys : List ℕ) → IsAmong a xs → IsAmong a (xs ++ ys)
-among_left a [] ys among = absurd among
-among_left a (b ∷ xs) ys (inl same) = inl same
-among_left a (b ∷ xs) ys (inr among) = inr (among_left a xs ys among)
-
-among_right : (a : ℕ) (xs ys : List ℕ) → IsAmong a ys → IsAmong a (xs ++ ys)
-among_right a [] ys among = among
-among_right a (b ∷ xs) ys among = inr (among_right a xs ys among)
 
 pub dropped_among : (note : ℕ → NoteRuns) (b m l j : ℕ) → m ≤ j → j < l → IsAmong (32 * piece_at note b j) (drop m (pieces_from note b l))
 dropped_among note b m zero j from below = absurd (omega (arith, below))
@@ -44,25 +35,3 @@ in_out note e (r ∷ rs) (suc u) a z here is = among_right a (out_of_transfer no
 -- where notes lead alike
 pub dropped_same : (note other : ℕ → NoteRuns) (b m l a : ℕ) → ((c : ℕ) → other c ≡ note c) → IsDropped other b m l a → IsDropped note b m l a
 dropped_same note other b m l a same k = record { number = k.number; from = k.from; below = k.below; at = k.at ∙ ap (λ (c : ℕ). 32 * c) (piece_same note other b k.number same) }
-
--- ---- what is owed
-
-pub times_some : (hs : List ℕ) (i t : ℕ) → slice_get hs i ≡ Some t → 1 ≤ times t hs
-times_some [] i t at = absurd (cc)
-times_some (h ∷ hs) zero t at =
-    let same : h ≡ t = first h t at in
-    let one : ◌≡◌ {A = ℕ} (if h == t then 1 else 0) 1 = ap (λ (b : Bool). if b then 1 else 0) (eq-eqb h t same) in
-    omega (arith, one)
-  where
-    first : (h t : ℕ) → Some h ≡ Some t → h ≡ t
-    first h t same = cc
-times_some (h ∷ hs) (suc i) t at = let rest = times_some hs i t at in omega (arith, rest)
-
-pub pushed_one : (hs : List ℕ) (t i u : ℕ) → slice_get (hs ++ t ∷ []) i ≡ Some u → (slice_get hs i ≡ Some u) ⊎ (u ≡ t)
-pushed_one [] t zero u at = inr (sym (first t u at))
-  where
-    first : (h t : ℕ) → Some h ≡ Some t → h ≡ t
-    first h t same = cc
-pushed_one [] t (suc i) u at = absurd (cc)
-pushed_one (h ∷ hs) t zero u at = inl at
-pushed_one (h ∷ hs) t (suc i) u at = pushed_one hs t i u at

@@ -1,13 +1,14 @@
 -- The row of a harvest, by what it found.
-use Rattle.std.proofs.Common.{◌≡◌, ◌≢◌, ℕ, zero, suc, ◌+◌, ◌-◌, ◌*◌, ◌==◌, ◌&&◌, not, ◌<◌, ◌≤◌, ◌⊎◌, Bool, true, false, cond, if◌then◌else◌, List, [], ◌∷◌, set, slice_get, length, Option, Some, None, ap, refl, sym, subst, ◌∙◌, ⊎_elim, inl, inr, arith}
+use Rattle.std.proofs.Common.{◌≡◌, ◌≢◌, ℕ, suc, ◌+◌, ◌-◌, ◌*◌, ◌==◌, ◌&&◌, not, ◌<◌, ◌≤◌, ◌⊎◌, Bool, true, false, cond, if◌then◌else◌, List, set, slice_get, length, Option, Some, None, ap, refl, sym, subst, ◌∙◌, ⊎_elim, inl, inr, arith}
 use Rattle.std.specs.Prelude.{nat_eq, nat_le}
 use Rattle.std.proofs.lemmas.Bool.{cases_eq, cases_lt, true≢false}
 use Rattle.std.proofs.lemmas.Bool.Decides.{nat_tests}
 use Rattle.std.proofs.lemmas.Option.{same_Some}
+use Rattle.law_common.proofs.Lists.{set_same, set_here, set_there, pushed}
+use Rattle.law_driver.proofs.Common.{piece_next, waits_is, times_of}
 use Rattle.usb_base.specs.declared.endpoints.EndCause.{EndCause}
 use Rattle.usb_base.specs.declared.endpoints.EndCause.TheVariants as causes
 use Rattle.usb_base.specs.declared.packets.EpKind.{EpKind}
-use Rattle.usb_base.specs.declared.packets.EpKind.TheVariants as kinds
 use Rattle.usb_base.specs.declared.reports.What.{What}
 use Rattle.usb_base.specs.declared.reports.What.TheVariants as lines
 use Rattle.link_words.specs.declared.fields.ShortLink.{ShortLink}
@@ -32,13 +33,11 @@ use Rattle.drv_table.specs.Rows.{after_driver_row}
 use Rattle.law_driver.specs.run_owners.Due.{IsHarvestDue}
 use Rattle.claims_driver.specs.Leaving.{HasOwners, owes}
 use Rattle.claims_driver.specs.Owners.{note_in}
-use Rattle.law_driver.proofs.lemmas.run_owners.Released.{set_here, set_there}
 use Rattle.law_driver.specs.chained_transfers.Chains.{piece_at}
 use Rattle.law_driver.specs.chained_transfers.AsynchronousTurns.{AsynchronousTakesTurns}
 use Rattle.law_driver.specs.chained_transfers.Turns.{IsAtPlace}
 use Rattle.law_driver.specs.chained_transfers.Out.{passed}
-use Rattle.law_driver.proofs.lemmas.chained_transfers.Harvested.{piece_next, note_same, not_served, no_stall}
-use Rattle.law_driver.proofs.lemmas.chained_transfers.Harvesting.{waits_is}
+use Rattle.law_driver.proofs.lemmas.chained_transfers.Harvested.{note_same, not_served}
 use Rattle.law_driver.proofs.lemmas.chained_transfers.Ways.{found_by, moves_queued}
 use Rattle.law_driver_ring.proofs.lemmas.harvested_streams.Harvesting.{token_is_read}
 use Rattle.law_structures.specs.lent_structures.Structures.{Element, StructureSets, Tells}
@@ -49,7 +48,6 @@ use Rattle.law_queues.proofs.lemmas.released_queues.Queues.{none_yet}
 use Rattle.law_queues.proofs.lemmas.released_queues.Outs.{IsDropped}
 use Rattle.law_queues.specs.mended_heads.Stalling.{IsStall}
 use Rattle.law_queues.specs.standing_fronts.Along.{HarvestKeepsFronts}
-use Rattle.law_queues.proofs.lemmas.standing_fronts.Lists.{times_some, pushed_one}
 use Rattle.law_queues.proofs.lemmas.standing_fronts.Harvested.{EndsThere, HarvestChanges, fronts_follow}
 use Rattle.law_driver_ring.proofs.lemmas.fed_queues.Places.{stands_met}
 use Rattle.law_driver.proofs.lemmas.chained_transfers.Holding.{stands_unreleased}
@@ -87,11 +85,6 @@ halt_by kind false false false is stall = true≢false stall
 
 halt_ends : (kind : EpKind) (t : Token) → end_of kind (halt_of t) ≡ None → is_stall (halt_of t) ≡ false → ⊥
 halt_ends kind t is stall = halt_by kind t.missed t.babble (nat_eq t.cerr 0) is stall
-
--- a stall ends a bulk endpoint
-pub bulk_unstalled : (kind : EpKind) (found : Found) → kind ≡ kinds.Bulk → IsStall kind found → ⊥
-bulk_unstalled kind (founds.Ended n what) bulk stall = true≢false (sym stall.0 ∙ no_stall kind what bulk stall.1)
-bulk_unstalled kind _ bulk stall = stall
 
 is_unstalled : (kind : EpKind) (found : Found) (n : ℕ) (what : What) → (IsStall kind found → ⊥) → found ≡ founds.Ended n what → end_of kind what ≡ None → is_stall what ≡ false
 is_unstalled kind found n what unstalled is none = by (is_stall what) refl
@@ -134,11 +127,6 @@ ends_set es e i x z c here queue linked gone there =
     (x, ap (slice_get es) same ∙ here, ap (λ (b : Endpoint). b.queue) is ∙ queue, ap (λ (b : Endpoint). b.linked) is ∙ linked, ap (λ (b : Endpoint). b.gone) is ∙ gone))
     (λ (differs : i ≢ e). (c, sym (set_there es e i z differs) ∙ there, refl, refl, refl)) (cases_eq i e)
 
-set_self : {X : Type 0} (xs : List X) (e : ℕ) (x : X) → slice_get xs e ≡ Some x → set xs e x ≡ xs
-set_self [] e x here = absurd (cc)
-set_self (z ∷ xs) zero x here = ap (λ (y : _). y ∷ xs) (same_Some x z (sym here))
-set_self (z ∷ xs) (suc e) x here = ap (λ (ys : List _). z ∷ ys) (set_self xs e x here)
-
 module _ (p : Parts) (e t : ℕ) (found : Found) (parts : StructureSets) (order : ℕ → ℕ → ℕ) (out : ℕ → List ℕ) (due : IsHarvestDue p e t found) (owners : HasOwners p.driver) (turns : AsynchronousTakesTurns p.driver) (unstalled : IsStall due.endpoint.desc.kind found → ⊥) (tells : Tells p.memory parts) (fed : AreFed p.driver parts) where
   abbrev d : DriverContent
   d = p.driver
@@ -170,7 +158,7 @@ module _ (p : Parts) (e t : ℕ) (found : Found) (parts : StructureSets) (order 
   -- it isn't to be given back yet
   not_owed : (i u : ℕ) → slice_get d.harvested i ≡ Some u → u ≢ t
   not_owed i u at same =
-      let some = times_some d.harvested i t (at ∙ ap Some same) in
+      let some = times_of d.harvested i t (at ∙ ap Some same) in
       let most = owners.orderly.harvests t in
       let none : owes (slice_get d.transfers t) ≡ 0 = ap owes due.there ∙ ap (λ (b : Bool). if b && not y.released then 1 else 0) y_is.1 in
       omega (arith, some, most, none)
@@ -195,7 +183,7 @@ module _ (p : Parts) (e t : ℕ) (found : Found) (parts : StructureSets) (order 
     here = due.there;
     held = held;
     waits = y_is.1;
-    transfers = sym (set_self d.transfers t y due.there);
+    transfers = sym (set_same d.transfers t y due.there);
     endpoint = refl;
     first = refl;
     qtds = refl;
@@ -315,7 +303,7 @@ module _ (p : Parts) (e t : ℕ) (found : Found) (parts : StructureSets) (order 
     released = refl;
     fewer = told_fewer;
     harvested = λ i u at.
-        ⊎_elim (λ (old : slice_get d.harvested i ≡ Some u). inl (kept i u old)) (λ (new : u ≡ t). inr (new, refl, ends_there what none stall ended)) (pushed_one d.harvested t i u at);
+        ⊎_elim (λ (old : slice_get d.harvested i ≡ Some u). inl (kept i u old)) (λ (new : u ≡ t). inr (new, refl, ends_there what none stall ended)) (pushed d.harvested t i u at);
   }
 
   -- ---- the row

@@ -1,9 +1,9 @@
 -- One more line of a report.
 use Rattle.std.proofs.Common.{◌≡◌, ℕ, zero, suc, ◌+◌, ◌≤◌, ◌&&◌, ◌||◌, not, Bool, true, false, if◌then◌else◌, List, [], ◌∷◌, ◌++◌, length, take, drop, filter, ap, refl, sym, ◌∙◌, arith}
-use Rattle.std.proofs.lemmas.Bool.{false≢true}
 use Rattle.std.proofs.lemmas.List.{append_assoc, append-nil, take-append-le, take_all}
 use Rattle.std.proofs.lemmas.List.Elements.{filter-append}
 use Rattle.std.proofs.Math.Seq.{drop-append_seam}
+use Rattle.law_common.proofs.Booleans.{or_both}
 use Rattle.usb_base.specs.declared.endpoints.EpName.{EpName}
 use Rattle.usb_base.specs.declared.reports.Report.{Report}
 use Rattle.report_text.specs.ReportText.{bytes_of, AreStored}
@@ -55,10 +55,6 @@ told_more (line ∷ rest) store more k =
     either_more (is_end line.what) (bytes_of line (store ++ more)) (bytes_of line store) (told_in (store ++ more) rest) (told_in store rest) (bytes_more line store more k.0) (told_more rest store more k.1)
 
 -- ---- lines, and one behind them
-
-or_both : (a b : Bool) → (a || b) ≡ false → (a ≡ false) × (b ≡ false)
-or_both false b e = (refl, e)
-or_both true b e = absurd (false≢true (sym e))
 
 -- none of them ends it
 pub told_then : (lines : List Report) (line : Report) (store : List ℕ) → has_end lines ≡ false → told_in store (lines ++ line ∷ []) ≡ told_in store lines ++ bytes_of line store

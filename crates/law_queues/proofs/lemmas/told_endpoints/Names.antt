@@ -1,15 +1,13 @@
 -- Names that are the same.
-use Rattle.std.proofs.Common.{◌≡◌, ℕ, ◌==◌, ◌&&◌, Bool, true, false, ap, refl, ◌∙◌}
+use Rattle.std.proofs.Common.{◌≡◌, ◌==◌, ◌&&◌, Bool, true, false, ap, refl, ◌∙◌}
 use Rattle.std.proofs.lemmas.Bool.{false≢true, eqb-true, eq-eqb}
+use Rattle.law_common.proofs.Booleans.{and_both}
+use Rattle.law_queues.proofs.Common.{name_is}
 use Rattle.usb_base.specs.declared.endpoints.EpName.{EpName}
 use Rattle.usb_base.specs.declared.packets.Way.{Way}
 use Rattle.usb_base.specs.declared.packets.Way.TheVariants as Ways
 use Rattle.bus_wire.specs.Fates.{is_same_way, is_same_name}
 use Rattle.drv_table.specs.DriverContent.{is_same_way as is_driver_way, is_same_name as is_driver_name}
-
-and_both : (a b : Bool) → (a && b) ≡ true → (a ≡ true) × (b ≡ true)
-and_both true b e = (refl, e)
-and_both false b e = absurd (false≢true e)
 
 same_way_is : (a b : Way) → is_same_way a b ≡ true → a ≡ b
 same_way_is Ways.In Ways.In e = refl
@@ -25,10 +23,6 @@ same_way_is Ways.Ctl Ways.Out e = absurd (false≢true e)
 way_is_same : (a : Way) → is_same_way a a ≡ true
 way_is_same Ways.In = refl
 way_is_same _ = refl
-
-name_is : (a b : EpName) → a.addr ≡ b.addr → a.num ≡ b.num → a.way ≡ b.way → a ≡ b
-name_is a b addr num way =
-    ap (λ (i : ℕ). record { addr = i; num = a.num; way = a.way }) addr ∙ ap (λ (i : ℕ). record { addr = b.addr; num = i; way = a.way }) num ∙ ap (λ (w : Way). record { addr = b.addr; num = b.num; way = w }) way
 
 pub same_name_is : (a b : EpName) → is_same_name a b ≡ true → a ≡ b
 same_name_is a b e =

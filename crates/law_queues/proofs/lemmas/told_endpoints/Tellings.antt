@@ -3,6 +3,7 @@ use Rattle.std.proofs.Common.{◌≡◌, ◌≢◌, ℕ, ◌+◌, ◌≤◌, ◌
 use Rattle.std.proofs.lemmas.Bool.{cases_eq, false≢true}
 use Rattle.std.proofs.lemmas.Option.{same_Some}
 use Rattle.std.proofs.lemmas.List.{append_assoc, append-nil, length-append}
+use Rattle.law_queues.proofs.Common2.{not_same}
 use Rattle.usb_base.specs.declared.endpoints.EpName.{EpName}
 use Rattle.usb_base.specs.declared.endpoints.EndCause.{EndCause}
 use Rattle.usb_base.specs.declared.reports.Report.{Report}
@@ -140,10 +141,6 @@ line_by name line a is tells = ap (λ (b : Bool). b && not (is_refusal line.what
     and_true : (b : Bool) → (b && true) ≡ b
     and_true true = refl
     and_true false = refl
-
-not_same : (a b : EpName) (c : Bool) → is_same_name a b ≡ c → (is_same_name a b ≡ true → ⊥) → c ≡ false
-not_same a b true is never = absurd (never is)
-not_same a b false is never = refl
 
 -- what it leaves of the others
 pub line_placed : (reports : List Report) (store bytes : List ℕ) (named after : ℕ → Option Named) (held later told now : ℕ → List ℕ) (e : ℕ) (x y : Named) (line : Report) → named e ≡ Some x → NamesAt e y named after

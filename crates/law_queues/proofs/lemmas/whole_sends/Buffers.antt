@@ -1,18 +1,16 @@
 -- The walk changes no byte of the buffers of an OUT endpoint.
 use Rattle.std.proofs.Common.{◌≡◌, ◌≢◌, ℕ, Bool, List, [], ◌∷◌, ◌++◌, Option, Some, ap, refl, sym, subst, ◌∙◌, ⊎_elim}
 use Rattle.std.proofs.lemmas.Bool.{cases_eq}
+use Rattle.law_queues.proofs.Common2.{silent_bytes}
 use Rattle.usb_base.specs.declared.packets.Ask.{Ask}
 use Rattle.usb_base.specs.declared.packets.Reply.{Reply}
-use Rattle.qh_qtd.specs.declared.qtd.Qtd.{Qtd}
 use Rattle.qh_qtd.specs.declared.queue_head.Qh.{Qh}
-use Rattle.hc_copy.specs.Overlay.{advanced, moved}
+use Rattle.hc_copy.specs.Overlay.{advanced}
 use Rattle.hc_copy.specs.WriteBack.{moved_by}
 use Rattle.async_walk.specs.declared.state.WalkStep.{WalkStep}
-use Rattle.law_structures.specs.lent_structures.Structures.{Structure, QueueHead, Element, Structures, StructureSets, with_structure, put}
-use Rattle.law_structures.specs.lent_structures.Changes.{relinked}
-use Rattle.law_structures.proofs.lemmas.lent_structures.Names.{put_here, put_beside, with_here, with_there}
-use Rattle.law_structures.specs.lent_structures.WriteBack.{CanBeWritten, Nothing, qtd_after, parts_back}
-use Rattle.law_structures.proofs.lemmas.lent_structures.WrittenBack.{between_element}
+use Rattle.law_structures.specs.lent_structures.Structures.{Structure, QueueHead, Element, Structures, StructureSets, put}
+use Rattle.law_structures.proofs.lemmas.lent_structures.Names.{put_here, put_beside}
+use Rattle.law_structures.specs.lent_structures.WriteBack.{CanBeWritten, Nothing, parts_back}
 use Rattle.law_structures.proofs.lemmas.lent_structures.Found.{back_beside}
 use Rattle.law_structures.specs.lent_structures.Sound.{buffer_name, IsWorking, IsSoundQueue, IsMember}
 use Rattle.law_structures.specs.lent_structures.Alters.{Alters}
@@ -30,20 +28,6 @@ use Rattle.law_ring.specs.OutPipes.{IsOut}
 use Rattle.law_queues.specs.whole_sends.Whole.{bytes_of_element, buffers_of}
 use Rattle.law_queues.specs.whole_sends.Laws.{WalkKeepsBuffers}
 use Rattle.law_queues.proofs.lemmas.whole_sends.Telling.{silent}
-
--- ---- a write-back without bytes
-
-bytes_beside_element : (part : Structures) (a : ℕ) (t u : Qtd) (b : ℕ) → part a ≡ Some (Element t) → bytes_in (with_structure part a (Element u) b) ≡ bytes_in (part b)
-bytes_beside_element part a t u b here =
-    ⊎_elim (λ (same_one : b ≡ a). ap bytes_in (ap (with_structure part a (Element u)) same_one ∙ with_here part a (Element u)) ∙ sym (ap bytes_in (ap part same_one ∙ here)))
-    (λ (differs : b ≢ a). ap bytes_in (with_there part a (Element u) b differs)) (cases_eq b a)
-
-silent_bytes : (parts : StructureSets) (n : ℕ) (q c : Qh) (count : ℕ) (t : Qtd) (a : ℕ) → CanBeWritten parts n n q c [] Nothing t → bytes_in (parts_back parts n n q c count [] Nothing t n a) ≡ bytes_in (parts n a)
-silent_bytes parts n q c count t a can =
-    let mid : StructureSets = put parts n n (QueueHead (relinked q (moved c count))) in
-    ap (λ (part : Structures). bytes_in (part a)) (put_here mid n c.current (Element (qtd_after (moved c count) t)))
-    ∙ bytes_beside_element (mid n) c.current t (qtd_after (moved c count) t) a (between_element parts n n q c (moved c count) [] Nothing t can)
-    ∙ ap (λ (part : Structures). bytes_in (part a)) (put_here parts n n (QueueHead (relinked q (moved c count)))) ∙ bytes_beside_head (parts n) n q (relinked q (moved c count)) a can.copy.head
 
 -- ---- an event
 

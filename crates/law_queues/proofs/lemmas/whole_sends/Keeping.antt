@@ -1,9 +1,10 @@
 -- The steps of a driver keep what is sent whole, and in turn.
-use Rattle.std.proofs.Common.{◌≡◌, ◌≢◌, ℕ, ◌<◌, ◌==◌, ◌&&◌, not, Bool, true, false, if◌then◌else◌, List, [], ◌∷◌, ◌++◌, Some, ap, refl, sym, subst, ◌∙◌, ⊎_elim, inl, inr, arith}
+use Rattle.std.proofs.Common.{◌≡◌, ◌≢◌, ℕ, ◌==◌, ◌&&◌, not, Bool, true, false, if◌then◌else◌, List, [], ◌∷◌, ◌++◌, Some, ap, refl, sym, subst, ◌∙◌, ⊎_elim, inl, inr, arith}
 use Rattle.std.specs.Prelude.{◌⊎◌}
 use Rattle.std.proofs.lemmas.Bool.{cases_eq, true≢false}
+use Rattle.law_ring.proofs.Common.{link_there, no_element, fewer_some}
+use Rattle.law_queues.proofs.Common.{lower}
 use Rattle.link_words.specs.declared.fields.ShortLink.{ShortLink}
-use Rattle.link_words.specs.declared.kinds.QtdLink.{QtdLink}
 use Rattle.link_words.specs.declared.kinds.QtdLink.TheVariants as qtd_links
 use Rattle.link_words.specs.Links.{qtd_link_of}
 use Rattle.qh_qtd.specs.declared.qtd.Qtd.{Qtd}
@@ -12,12 +13,11 @@ use Rattle.qh_qtd.specs.declared.queue_head.Qh.{Qh}
 use Rattle.hc_copy.specs.Visits.{next_pointer}
 use Rattle.law_structures.specs.lent_structures.Structures.{Structure, QueueHead, Element, Structures, StructureSets, put}
 use Rattle.law_structures.proofs.lemmas.lent_structures.Names.{put_same, put_found}
-use Rattle.law_structures.specs.lent_structures.Sound.{IsElement, LeadsOn, IsWorking, IsSoundQueue, IsMember}
+use Rattle.law_structures.specs.lent_structures.Sound.{IsElement, IsWorking, IsSoundQueue, IsMember}
 use Rattle.law_structures.proofs.lemmas.lent_structures.Altering.{found_queue, found_element}
 use Rattle.law_ring.specs.Hand.{Copy, copied_queue, Hand, Empty, Copied, Settled, Stale}
 use Rattle.law_ring.specs.Fewer.{fewer_structures, without_those}
-use Rattle.law_ring.proofs.ReleaseGoing.{found_fewer}
-use Rattle.law_ring.specs.Order.{AreAfter, IsSorted, IsAmong}
+use Rattle.law_ring.specs.Order.{IsAmong}
 use Rattle.law_ring.specs.Front.{IsBehind, SameRest, HadRest}
 use Rattle.law_queues.specs.whole_sends.Whole.{EndsWhole, IsFirst, GoesInTurn, AreSentWhole}
 use Rattle.law_queues.specs.whole_sends.Laws.{LinkedEndsWhole, StaleEndsWhole, StrangerEndsWhole, SparedIsWhole, ReturnedIsWhole, RenumberedIsWhole, IsNewBehind, AddedIsWhole, IdleStoreIsWhole, LastStoreIsWhole, BeginningIsWhole}
@@ -83,7 +83,7 @@ found_stays : (parts : StructureSets) (k : ℕ) (goes : ℕ → Bool) (n a : ℕ
 found_stays parts k goes n a s found = by (n == k) found
   where
     by : (b : Bool) → (if b then fewer_structures goes (parts n) else parts n) a ≡ Some s → parts n a ≡ Some s
-    by true there = (found_fewer goes (parts n) a s there).1
+    by true there = (fewer_some goes (parts n) a s there).1
     by false there = there
 
 pub returned_is_whole : ReturnedIsWhole
@@ -92,9 +92,6 @@ returned_is_whole order out out_now hand n parts k goes fewer old =
     (λ r here. itself (parts n) n r (found_stays parts k goes n n (QueueHead r) here)) (λ a t here. found_stays parts k goes n a (Element t) here) old
 
 -- ---- orders
-
-link_there : (part : Structures) (l : QtdLink) (b : ℕ) → LeadsOn part l → l ≡ qtd_links.To b → IsElement part b
-link_there part l b leads is = subst (LeadsOn part) is leads
 
 sound_head : (member : ℕ → Bool) (n : ℕ) (part : Structures) (q : Qh) → IsMember member n part → part n ≡ Some (QueueHead q) → IsSoundQueue part q
 sound_head member n part q m here = subst (IsSoundQueue part) (found_queue (part n) m.queue q m.here here) m.sound
@@ -173,9 +170,6 @@ added_is_whole member order out out_now hand n part now m fewer head each k = re
 
 -- ---- a qTD is stored over one that isn't active
 
-no_element : (q : Qh) (t : Qtd) → QueueHead q ≡ Element t → ⊥
-no_element q t e = cc
-
 head_was : (parts : StructureSets) (n e : ℕ) (new : Qtd) (q : Qh) → put parts n e (Element new) n n ≡ Some (QueueHead q) → parts n n ≡ Some (QueueHead q)
 head_was parts n e new q found =
     ⊎_elim (λ (is : (n ≡ n) × (n ≡ e) × (QueueHead q ≡ Element new)). absurd (no_element q new is.2)) (λ (there : parts n n ≡ Some (QueueHead q)). there) (put_found parts n e (Element new) n n (QueueHead q) found)
@@ -235,16 +229,6 @@ among_but e b [] behind differs (inl same) = absurd (differs same)
 among_but e b [] behind differs (inr among) = among
 among_but e b (d ∷ ds) behind differs (inl same) = inl same
 among_but e b (d ∷ ds) behind differs (inr among) = inr (among_but e b ds behind differs among)
-
--- those ahead of it have lower numbers
-lower : (order : ℕ → ℕ) (e a : ℕ) (ahead behind : List ℕ) → IsSorted order (ahead ++ e ∷ behind) → IsAmong a ahead → order a < order e
-lower order e a [] behind sorted among = absurd among
-lower order e a (d ∷ ds) behind sorted (inl same) = let less = past d ds sorted.0 in let at = ap order same in omega (arith, less, at)
-  where
-    past : (d : ℕ) (ds : List ℕ) → AreAfter order d (ds ++ e ∷ behind) → order d < order e
-    past d [] after = after.0
-    past d (x ∷ xs) after = past d xs after.1
-lower order e a (d ∷ ds) behind sorted (inr among) = lower order e a ds behind sorted.1 among
 
 pub last_store_is_whole : LastStoreIsWhole
 last_store_is_whole order front ahead behind hand n parts e old new here idle on sorted fronts within tail complete leads k = record {

@@ -2,6 +2,8 @@
 use Rattle.std.proofs.Common.{◌≡◌, ◌≢◌, ℕ, ◌+◌, ◌<◌, ◌≤◌, ◌==◌, ◌||◌, true, false, List, [], ◌∷◌, ◌++◌, Some, ap, refl, sym, subst, ◌∙◌, ⊎_elim, inl, inr, arith}
 use Rattle.std.specs.Prelude.{◌⊎◌}
 use Rattle.std.proofs.lemmas.Bool.{eqb-true, true≢false, false≢true}
+use Rattle.law_structures.proofs.Common.{element_is}
+use Rattle.law_ring.proofs.Common.{fewer_some}
 use Rattle.usb_base.specs.declared.packets.Ask.{Ask}
 use Rattle.usb_base.specs.declared.packets.Pid.TheVariants as Packets
 use Rattle.usb_base.specs.declared.packets.Reply.{Reply}
@@ -16,14 +18,13 @@ use Rattle.hc_copy.specs.Overlay.{settled_queue, moved}
 use Rattle.async_walk.specs.declared.state.WalkStep.TheVariants as steps
 use Rattle.law_structures.specs.lent_structures.Structures.{Structure, QueueHead, Element, Buffer, Structures, with_structure}
 use Rattle.law_structures.specs.lent_structures.Sound.{buffer_name, IsSoundElement, AreOwn, IsMember}
-use Rattle.law_structures.proofs.lemmas.lent_structures.Altering.{found_queue, same_element}
+use Rattle.law_structures.proofs.lemmas.lent_structures.Altering.{found_queue}
 use Rattle.law_ring.specs.Hand.{copied_queue, Empty}
 use Rattle.law_ring.specs.Ring.{IsInHand}
 use Rattle.law_ring.specs.Effects.{Effect}
 use Rattle.law_ring.specs.Effects.Effect.{writes_back}
 use Rattle.law_ring.specs.Streams.{AreMembers}
 use Rattle.law_ring.proofs.Parting.{found_with}
-use Rattle.law_ring.proofs.ReleaseGoing.{found_fewer}
 use Rattle.law_ring.specs.Order.{IsPlaced, IsFresh, IsOrdered, IsSorted, IsAmong, none_out, one_out, Accounts}
 use Rattle.law_ring.specs.Front.{IsFront, IsBehind, LinksWithin, HasFront, HasTail}
 use Rattle.law_ring.specs.OutPipes.{IsOut, IsNext}
@@ -36,7 +37,7 @@ use Rattle.law_queues.proofs.lemmas.whole_sends.Walking.{with_hand, walk_keeps_w
 
 on_element : (P : ℕ → Qtd → Type 0) (part : Structures) (b : ℕ) (u : Qtd) → P b u → ((a : ℕ) (t : Qtd) → part a ≡ Some (Element t) → P a t) → (a : ℕ) (t : Qtd) → with_structure part b (Element u) a ≡ Some (Element t) → P a t
 on_element P part b u this rest a t found =
-    ⊎_elim (λ (is : (a ≡ b) × (Element u ≡ Element t)). subst (λ (i : ℕ). P i t) (sym is.0) (subst (P b) (same_element u t is.1) this)) (λ (there : (a ≢ b) × (part a ≡ Some (Element t))). rest a t there.1)
+    ⊎_elim (λ (is : (a ≡ b) × (Element u ≡ Element t)). subst (λ (i : ℕ). P i t) (sym is.0) (subst (P b) (element_is u t is.1) this)) (λ (there : (a ≢ b) × (part a ≡ Some (Element t))). rest a t there.1)
     (found_with part b a (Element u) (Element t) found)
 
 on_other : (P : ℕ → Qtd → Type 0) (part : Structures) (b : ℕ) (s : Structure) → ((t : Qtd) → s ≡ Element t → ⊥) → ((a : ℕ) (t : Qtd) → part a ≡ Some (Element t) → P a t) → (a : ℕ) (t : Qtd) → with_structure part b s a ≡ Some (Element t) → P a t
@@ -292,7 +293,7 @@ has_tail = record { most = omega arith; rest = λ q b at off idle to. absurd (tr
 
 others_below : (b : ℕ) (u : Qtd) → earlier b ≡ Some (Element u) → order b ≤ 7
 others_below b u found =
-    let old = found_fewer (λ a. a == 256 || a == 288) part b (Element u) found in
+    let old = fewer_some (λ a. a == 256 || a == 288) part b (Element u) found in
     each (λ a t. (a == 256 || a == 288) ≡ false → order a ≤ 7) working second (λ stays. omega arith) (λ stays. omega arith) (λ stays. omega arith) (λ stays. absurd (true≢false stays)) (λ stays. absurd (true≢false stays)) b u old.1 old.0
 
 active_below : (c : ℕ) (u : Qtd) → part c ≡ Some (Element u) → u.token.active ≡ true → order c ≤ 8

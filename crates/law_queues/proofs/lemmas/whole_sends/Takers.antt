@@ -3,6 +3,8 @@ use Rattle.std.proofs.Common.{◌≡◌, ◌≢◌, ℕ, ◌==◌, Bool, true, f
 use Rattle.std.specs.Prelude.{◌⊎◌}
 use Rattle.std.proofs.lemmas.Bool.{true≢false}
 use Rattle.std.proofs.lemmas.List.{append_assoc}
+use Rattle.law_queues.proofs.Common.{after_both}
+use Rattle.law_common.proofs.Numbers.{other_number}
 use Rattle.claims_base.specs.Prefix.{IsPrefix}
 use Rattle.usb_base.specs.declared.packets.Ask.{Ask}
 use Rattle.usb_base.specs.declared.packets.Reply.{Reply}
@@ -11,7 +13,6 @@ use Rattle.transactions.specs.Asks.{pinged}
 use Rattle.hc_copy.specs.Transacting.{call_in}
 use Rattle.hc_copy.specs.Planning.{transaction_of}
 use Rattle.law_structures.specs.lent_structures.Structures.{QueueHead, StructureSets}
-use Rattle.law_structures.proofs.lemmas.lent_structures.Names.{not_same}
 use Rattle.law_structures.specs.lent_structures.Sound.{IsWorking, IsSoundQueue, IsMember}
 use Rattle.law_structures.proofs.lemmas.lent_structures.Altering.{found_queue}
 use Rattle.law_ring.specs.Hand.{Hand}
@@ -44,7 +45,8 @@ unasked transacts stream member parts hand later wire after x members m copied b
     let w : IsWorking (parts m.copy.at) m.copy.queue = (subst (IsSoundQueue (parts m.copy.at)) (found_queue (parts m.copy.at m.copy.at) k.queue m.copy.queue k.here copied.here) k.sound).work m.works in
     out_only m.copy.queue.token.pid false (m.copy.queue.token.pid == 1) (transaction_of m.kind m.copy.queue).split
     (pinged m.kind m.copy.queue.token.ping)
-    (not_same m.copy.queue.token.pid 0 (λ (i : m.copy.queue.token.pid ≡ 0). none m.copy.queue.current w.element w.here w.published (sym w.pid ∙ i))) refl refl asked.token
+    (other_number m.copy.queue.token.pid 0 (λ (i : m.copy.queue.token.pid ≡ 0). none m.copy.queue.current w.element w.here w.published
+    (sym w.pid ∙ i))) refl refl asked.token
 
 pub idle_takes_nothing : {W : Type 0} (transacts : W → Ask → List ℕ → Reply → W → Type 0) → IdleTakesNothing transacts
 idle_takes_nothing transacts stream taker member parts hand reply wire after now later n x s q bus members in_hand (same told quiet) only is head idle = (ap (λ w. taker w x.addr x.ep) quiet ∙ is, refl)
@@ -58,13 +60,10 @@ idle_takes_nothing transacts stream taker member parts hand reply wire after now
           (call_in (transaction_of m.kind m.copy.queue) m.out m.last).out m.reply after x.addr x.ep s m.made only.streamed is
           (unasked transacts stream member parts hand later wire after x members m copied beside beside.apart),
       ap (λ (b : Bool). if b then moved_bytes m.copy.queue m.sent.element (came_to m)
-          (buffer_of (parts m.copy.at) m.sent.element) else []) (not_same m.copy.at n other),
+          (buffer_of (parts m.copy.at) m.sent.element) else []) (other_number m.copy.at n other),
     )
 
 -- ---- what the device took
-
-after_both : (h a b : List ℕ) → IsPrefix a b → IsPrefix (h ++ a) (h ++ b)
-after_both h a b (rest, e) = (rest, append_assoc h a rest ∙ ap (λ (zs : List ℕ). h ++ zs) e)
 
 taken_begins : (parts : StructureSets) (hand : Hand) (n : ℕ) (q : Qh) (h : Bool) (told harvested bytes : List ℕ) (s : Taker) → parts n n ≡ Some (QueueHead q) → IsPrefix told bytes
     → ((y : List ℕ) → q.token.active ≡ true → IsUnmoved hand n → IsNext (parts n) q y → IsPrefix (told ++ y) bytes) → (IsStopped parts n → IsPrefix s.taken (harvested ++ bytes)) → OutAgrees (parts n) hand n q h (harvested ++ told) s → IsPrefix s.taken (harvested ++ bytes)

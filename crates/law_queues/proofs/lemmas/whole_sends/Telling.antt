@@ -2,7 +2,11 @@
 use Rattle.std.proofs.Common.{◌≡◌, ◌≢◌, ℕ, ◌+◌, ◌-◌, ◌<◌, min, Bool, true, false, if◌then◌else◌, List, [], ◌∷◌, ◌++◌, length, take, drop, Some, ap, refl, sym, subst, ◌∙◌, ⊎_elim, inl, inr, arith}
 use Rattle.std.specs.Prelude.{◌⊎◌}
 use Rattle.std.proofs.lemmas.Bool.{cases_eq, true≢false}
-use Rattle.std.proofs.lemmas.List.{append_assoc, append-nil, take-append-drop, take_all}
+use Rattle.std.proofs.lemmas.List.{append_assoc, take-append-drop, take_all}
+use Rattle.law_ring.proofs.Common.{among_either, by_none}
+use Rattle.law_controller.proofs.Common.{lower_one}
+use Rattle.law_queues.proofs.Common.{among_left, among_right, last_one}
+use Rattle.law_common.proofs.Lists.{nothing_more}
 use Rattle.claims_base.specs.Prefix.{IsPrefix}
 use Rattle.usb_base.specs.declared.packets.Pid.TheVariants as Packets
 use Rattle.usb_base.specs.declared.packets.Reply.{Reply}
@@ -22,7 +26,6 @@ use Rattle.law_ring.specs.Order.{AreAfter, IsSorted, IsAmong, AllTold, none_out,
 use Rattle.law_ring.proofs.Ordering.{not_worked, works_by, a_done_qtd_is_told_by_memory}
 use Rattle.law_ring.specs.Front.{HasFront, HasTail}
 use Rattle.law_ring.specs.OutPipes.{IsOut, IsNext, IsUnmoved}
-use Rattle.law_ring.proofs.OutPipeAgreeing.{moved_none}
 use Rattle.law_queues.specs.whole_sends.Whole.{AreSentWhole, bytes_of_element, buffer_at, buffers_of}
 use Rattle.law_queues.specs.whole_sends.Laws.{AreFresh, ToldIsInOrder, NextIsInOrder, AllIsTold, ToldIsAhead, NextIsAhead, NothingPastHalted}
 
@@ -38,12 +41,6 @@ next_prefix j i bs =
 
 whole_then : (x b ys c : List ℕ) → x ≡ b → IsPrefix ys c → IsPrefix (x ++ ys) (b ++ c)
 whole_then x b ys c is (rest, e) = (rest, append_assoc x ys rest ∙ ap (λ (zs : List ℕ). x ++ zs) e ∙ ap (λ (zs : List ℕ). zs ++ c) is)
-
-last_one : (x b c : List ℕ) → IsPrefix x b → IsPrefix x (b ++ c)
-last_one x b c (rest, e) = (rest ++ c, sym (append_assoc x rest c) ∙ ap (λ (zs : List ℕ). zs ++ c) e)
-
-none_then : (x ys : List ℕ) → ys ≡ [] → x ≡ x ++ ys
-none_then x ys none = sym (append-nil x) ∙ ap (λ (zs : List ℕ). x ++ zs) (sym none)
 
 -- ---- an OUT receives nothing
 
@@ -72,7 +69,7 @@ module _ (member : ℕ → Bool) (parts : StructureSets) (reply : Reply) (n : �
         left = z.host.left;
         is = ap (λ (b : Bool). if b then settled_bytes q t z bs else told_bytes q q.current t bs) (hand_here c.at n (works_on q q.current) at ∙ works_here q on)
             ∙ ap (λ (got : List ℕ). settled_bytes q t (record z { got = got }) bs) none ∙ ap (λ (ys : List ℕ). take (length bs - z.host.left) ys) (overwritten_by_none bs (buffer_place q - t.offset));
-        still = λ un. let moved = moved_none z.outcome (un at).0 in let left = both.1.host.left in let total = ap (λ (x : Qh). x.token.total) same in omega (arith, moved, left, total);
+        still = λ un. let moved = by_none z.outcome (un at).0 in let left = both.1.host.left in let total = ap (λ (x : Qh). x.token.total) same in omega (arith, moved, left, total);
       }
   settled_by c z both (inr differs) = record {
     left = q.token.total;
@@ -89,11 +86,6 @@ module _ (member : ℕ → Bool) (parts : StructureSets) (reply : Reply) (n : �
 after_all : (order : ℕ → ℕ) (e : ℕ) (es : List ℕ) → ((b : ℕ) → IsAmong b es → order e < order b) → AreAfter order e es
 after_all order e [] below = tt
 after_all order e (b ∷ bs) below = (below b (inl refl), after_all order e bs (λ c among. below c (inr among)))
-
-lower_one : (order : ℕ → ℕ) (e b : ℕ) (es : List ℕ) → AreAfter order e es → IsAmong b es → order e < order b
-lower_one order e b [] after among = absurd among
-lower_one order e b (d ∷ ds) after (inl same) = let less = after.0 in let at = ap order same in omega (arith, less, at)
-lower_one order e b (d ∷ ds) after (inr among) = lower_one order e b ds after.1 among
 
 module _ (member : ℕ → Bool) (parts : StructureSets) (hand : Hand) (order : ℕ → ℕ) (out : List ℕ) (n : ℕ) (m : IsMember member n (parts n)) (k : AreSentWhole order out hand n (parts n)) where
   abbrev part : Structures
@@ -179,7 +171,7 @@ module _ (member : ℕ → Bool) (parts : StructureSets) (hand : Hand) (order : 
         stops : (first.qtd.token.active ≡ false → first.qtd.token.halted ≡ false → ⊥) → IsPrefix (x ++ xs) (buffer_at part e ++ buffers_of part bs)
         stops stopped =
             let none : xs ≡ [] = none_past fresh e first.qtd bs xs first.here stopped sorted.0 (λ b among. inside b (inr among)) rest in
-            subst (λ (zs : List ℕ). IsPrefix zs (buffer_at part e ++ buffers_of part bs)) (none_then x xs none) (last_one x (buffer_at part e) (buffers_of part bs) (one_prefix e x first))
+            subst (λ (zs : List ℕ). IsPrefix zs (buffer_at part e ++ buffers_of part bs)) (nothing_more x xs none) (last_one x (buffer_at part e) (buffers_of part bs) (one_prefix e x first))
 
         by : IsPrefix xs (buffers_of part bs) → (c d : Bool) → first.qtd.token.active ≡ c → first.qtd.token.halted ≡ d → IsPrefix (x ++ xs) (buffer_at part e ++ buffers_of part bs)
         by further true d on halted = stops (λ off goes. true≢false (sym on ∙ off))
@@ -233,7 +225,7 @@ module _ (member : ℕ → Bool) (parts : StructureSets) (hand : Hand) (order : 
           by then_on (inl is) =
               let active : first.qtd.token.active ≡ true = ap (λ (u : Qtd). u.token.active) (found_element (part e) first.qtd works.element first.here (ap part (sym is) ∙ works.here)) ∙ works.published in
               let none : xs ≡ [] = none_past fresh e first.qtd bs xs first.here (λ off goes. true≢false (sym active ∙ off)) sorted.0 (λ b in_it. inside b (inr in_it)) rest in
-              subst (λ (zs : List ℕ). IsPrefix (zs ++ y) (buffer_at part e ++ buffers_of part bs)) (none_then x xs none)
+              subst (λ (zs : List ℕ). IsPrefix (zs ++ y) (buffer_at part e ++ buffers_of part bs)) (nothing_more x xs none)
               (last_one (x ++ y) (buffer_at part e) (buffers_of part bs) (subst (λ (i : ℕ). IsPrefix (x ++ y) (buffer_at part i)) is (current_next (inside q.current among) x (subst (λ (i : ℕ). Told hand parts n i x) (sym is) first))))
           by then_on (inr differs) =
               let done = is_done differs in
@@ -241,20 +233,6 @@ module _ (member : ℕ → Bool) (parts : StructureSets) (hand : Hand) (order : 
               (whole_then x (buffer_at part e) (xs ++ y) (buffers_of part bs) (whole_told e x first done.0 done.1) (then_on differs))
 
 -- ---- those before the tail
-
-among_left : (b : ℕ) (es fs : List ℕ) → IsAmong b es → IsAmong b (es ++ fs)
-among_left b [] fs among = absurd among
-among_left b (e ∷ es) fs (inl same) = inl same
-among_left b (e ∷ es) fs (inr among) = inr (among_left b es fs among)
-
-among_right : (b : ℕ) (es fs : List ℕ) → IsAmong b fs → IsAmong b (es ++ fs)
-among_right b [] fs among = among
-among_right b (e ∷ es) fs among = inr (among_right b es fs among)
-
-among_either : (b : ℕ) (es fs : List ℕ) → IsAmong b (es ++ fs) → IsAmong b es ⊎ IsAmong b fs
-among_either b [] fs among = inr among
-among_either b (e ∷ es) fs (inl same) = inl (inl same)
-among_either b (e ∷ es) fs (inr among) = ⊎_elim (λ (one : IsAmong b es). inl (inr one)) (λ (other : IsAmong b fs). inr other) (among_either b es fs among)
 
 after_left : (order : ℕ → ℕ) (e : ℕ) (es fs : List ℕ) → AreAfter order e (es ++ fs) → AreAfter order e es
 after_left order e [] fs after = tt

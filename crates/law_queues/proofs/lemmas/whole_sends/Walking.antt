@@ -2,6 +2,8 @@
 use Rattle.std.proofs.Common.{◌≡◌, ◌≢◌, ℕ, ◌<◌, ◌≤◌, ◌==◌, ◌&&◌, not, Bool, true, false, if◌then◌else◌, List, [], ◌∷◌, Some, ap, refl, sym, subst, ◌∙◌, ⊎_elim, inl, inr, arith}
 use Rattle.std.specs.Prelude.{◌⊎◌}
 use Rattle.std.proofs.lemmas.Bool.{cases_eq, cases_lt, true≢false}
+use Rattle.law_controller.proofs.Common.{lower_one}
+use Rattle.law_ring.proofs.Common.{through_head, through_bytes}
 use Rattle.usb_base.specs.declared.packets.Ask.{Ask}
 use Rattle.usb_base.specs.declared.packets.Reply.{Reply}
 use Rattle.link_words.specs.declared.fields.ShortLink.{ShortLink}
@@ -12,11 +14,10 @@ use Rattle.hc_copy.specs.Overlay.{advanced, moved}
 use Rattle.hc_copy.specs.Visits.{next_pointer}
 use Rattle.hc_copy.specs.WriteBack.{moved_by}
 use Rattle.async_walk.specs.declared.state.WalkStep.{WalkStep}
-use Rattle.mem_bytes.specs.Bytes.{place as place_of_byte}
-use Rattle.law_structures.specs.lent_structures.Changes.{relinked, overwritten}
-use Rattle.law_structures.specs.lent_structures.Structures.{QueueHead, Element, Buffer, Structures, StructureSets, put}
+use Rattle.law_structures.specs.lent_structures.Changes.{relinked}
+use Rattle.law_structures.specs.lent_structures.Structures.{QueueHead, Element, Structures, StructureSets, put}
 use Rattle.law_structures.proofs.lemmas.lent_structures.Names.{put_same, put_beside, put_found}
-use Rattle.law_structures.specs.lent_structures.WriteBack.{Received, Nothing, Into, received_parts, qtd_after}
+use Rattle.law_structures.specs.lent_structures.WriteBack.{Received, received_parts, qtd_after}
 use Rattle.law_structures.specs.lent_structures.Sound.{IsWorking, IsSoundQueue}
 use Rattle.law_structures.proofs.lemmas.lent_structures.Altering.{found_queue, found_element}
 use Rattle.law_ring.specs.Hand.{Copy, Settlement, settled_queue_of, Hand, Settled}
@@ -29,7 +30,7 @@ use Rattle.law_ring.proofs.Keeping.{IsUnsettled, empty_unsettled, copied_unsettl
 use Rattle.law_ring.proofs.Growing.{ring_asks}
 use Rattle.law_ring.proofs.Written.{WritesCopy, beside, head_now, current_now, ring_writes}
 use Rattle.law_ring.specs.Streams.{AreMembers}
-use Rattle.law_ring.specs.Order.{AreAfter, IsSorted, IsAmong, Accounts}
+use Rattle.law_ring.specs.Order.{IsSorted, IsAmong, Accounts}
 use Rattle.law_controller.specs.controlled_streams.Control.{a_microframe, a_step}
 use Rattle.law_ring.specs.OutPipes.{IsOut}
 use Rattle.law_queues.specs.whole_sends.Whole.{EndsWhole, IsFirst, GoesInTurn, AreSentWhole}
@@ -38,36 +39,13 @@ use Rattle.law_queues.proofs.lemmas.whole_sends.Ending.{ends_whole}
 
 -- ---- an order
 
-after_one : (order : ℕ → ℕ) (e b : ℕ) (es : List ℕ) → AreAfter order e es → IsAmong b es → order e < order b
-after_one order e b [] after among = absurd among
-after_one order e b (d ∷ ds) after (inl same) = let less = after.0 in let at = ap order same in omega (arith, less, at)
-after_one order e b (d ∷ ds) after (inr among) = after_one order e b ds after.1 among
-
 -- no two of those in order have one number
 pub apart : (order : ℕ → ℕ) (a b : ℕ) (es : List ℕ) → IsSorted order es → IsAmong a es → IsAmong b es → a ≢ b → order a ≢ order b
 apart order a b [] sorted one other differs same = absurd one
 apart order a b (e ∷ es) sorted (inl first) (inl second) differs same = differs (first ∙ sym second)
-apart order a b (e ∷ es) sorted (inl first) (inr other) differs same = let less = after_one order e b es sorted.0 other in let at = ap order first in omega (arith, less, at, same)
-apart order a b (e ∷ es) sorted (inr one) (inl second) differs same = let less = after_one order e a es sorted.0 one in let at = ap order second in omega (arith, less, at, same)
+apart order a b (e ∷ es) sorted (inl first) (inr other) differs same = let less = lower_one order e b es sorted.0 other in let at = ap order first in omega (arith, less, at, same)
+apart order a b (e ∷ es) sorted (inr one) (inl second) differs same = let less = lower_one order e a es sorted.0 one in let at = ap order second in omega (arith, less, at, same)
 apart order a b (e ∷ es) sorted (inr one) (inr other) differs same = apart order a b es sorted.1 one other differs same
-
--- ---- what is found after an event was there before
-
-no_head : (q : Qh) (u : Qtd) → Element u ≡ QueueHead q → ⊥
-no_head q u e = cc
-
-no_buffer : (pages : List ℕ) (k : ℕ) (bs : List ℕ) (u : Qtd) → Element u ≡ Buffer pages k bs → ⊥
-no_buffer pages k bs u e = cc
-
-through_head : (ps : StructureSets) (a : ℕ) (q : Qh) (i b : ℕ) (u : Qtd) → put ps a a (QueueHead q) i b ≡ Some (Element u) → ps i b ≡ Some (Element u)
-through_head ps a q i b u found =
-    ⊎_elim (λ (is : (i ≡ a) × (b ≡ a) × (Element u ≡ QueueHead q)). absurd (no_head q u is.2)) (λ (before : ps i b ≡ Some (Element u)). before) (put_found ps a a (QueueHead q) i b (Element u) found)
-
-through_bytes : (ps : StructureSets) (a : ℕ) (got : List ℕ) (r : Received) (i b : ℕ) (u : Qtd) → received_parts ps a got r i b ≡ Some (Element u) → ps i b ≡ Some (Element u)
-through_bytes ps a got Nothing i b u found = found
-through_bytes ps a got (Into pages k bs j) i b u found =
-    ⊎_elim (λ (is : (i ≡ a) × (b ≡ place_of_byte pages k) × (Element u ≡ Buffer pages k (overwritten bs j got))). absurd (no_buffer pages k (overwritten bs j got) u is.2)) (λ (before : ps i b ≡ Some (Element u)). before)
-    (put_found ps a (place_of_byte pages k) (Buffer pages k (overwritten bs j got)) i b (Element u) found)
 
 -- ---- what is in hand
 

@@ -1,10 +1,11 @@
 -- An accepted command adds what it asks for.
-use Rattle.std.proofs.Common.{◌≡◌, ℕ, zero, suc, get_or, ◌+◌, ◌-◌, ◌%◌, ◌≤◌, Bool, true, false, cond, not, ◌||◌, ◌&&◌, nat_eq, nat_lt, List, [], ◌∷◌, ◌++◌, length, take, drop, map, set, slice_get, Option, Some, None, option_map, unwrap_or, Result, Ok, Err, refl, ap, sym, subst, ◌∙◌, arith, append_assoc}
+use Rattle.std.proofs.Common.{◌≡◌, ℕ, zero, suc, get_or, ◌+◌, ◌-◌, ◌%◌, ◌≤◌, Bool, true, false, cond, not, ◌||◌, nat_eq, nat_lt, List, [], ◌∷◌, ◌++◌, length, take, drop, map, set, slice_get, Option, Some, None, option_map, unwrap_or, Result, Ok, Err, refl, ap, sym, subst, ◌∙◌, arith, append_assoc}
 use Rattle.std.specs.List.{AllByRecursion, sum_by}
 use Rattle.std.specs.Prelude.{option_and_then, is_some, is_none, count_by, slice_index}
-use Rattle.std.proofs.lemmas.Bool.{false≢true}
 use Rattle.std.proofs.lemmas.List.{append-nil, map-append, map-set}
 use Rattle.std.proofs.lemmas.Option.{same_Some}
+use Rattle.law_driver.proofs.Common.{control_kind, queue_kind}
+use Rattle.law_common.proofs.Lists.{drop_first}
 use Rattle.usb_base.specs.declared.commands.Cmd.{Cmd}
 use Rattle.usb_base.specs.declared.commands.Cmd.TheVariants as commands
 use Rattle.usb_base.specs.declared.endpoints.EndCause.{EndCause}
@@ -32,8 +33,8 @@ use Rattle.drv_table.specs.DriverContent.{DriverContent, endpoint_of, endpoint_n
 use Rattle.drv_table.specs.Harvests.{note_at}
 use Rattle.drv_table.specs.IsoOffers.{Descriptors, slots_of, total_of, slot_runs, iso_needs, descriptor_transfer, one_descriptor, all_descriptors, taken_iso, spans_too_long, has_slots, open_iso, offered_iso}
 use Rattle.drv_table.specs.Kinds.{is_iso}
-use Rattle.drv_table.specs.Offers.{Asked, note_stages, new_transfer, with_queued, taken_open, taken_chain, placed_open, planned_open, offered_open, accepted_transfer, taken_transfer, open_transfer, found_transfer, is_queued, takes_get, takes_put, takes_control, offered_next}
-use Rattle.drv_table.specs.Words.{needs, request_length, request_stages, setup_stage, data_stage, status_stage, asks_in, is_control}
+use Rattle.drv_table.specs.Offers.{Asked, note_stages, new_transfer, with_queued, taken_open, taken_chain, placed_open, planned_open, offered_open, accepted_transfer, taken_transfer, open_transfer, found_transfer, takes_get, takes_put, takes_control, offered_next}
+use Rattle.drv_table.specs.Words.{needs, request_length, request_stages, setup_stage, data_stage, status_stage, asks_in}
 use Rattle.script_fits.specs.Fits.{IsFitCommand}
 use Rattle.claims_driver.specs.Leaving.{HasOwners}
 use Rattle.claims_driver.specs.Owners.{Element, runs_of_endpoint}
@@ -42,7 +43,7 @@ use Rattle.claims_answers.specs.Refusals.{number_for}
 use Rattle.claims_answers.specs.Telling.{qtds_of}
 use Rattle.law_answers.proofs.Needs.{total_is}
 use Rattle.law_driver.proofs.lemmas.chained_transfers.Ways.{stages_some}
-use Rattle.law_driver.proofs.lemmas.run_owners.Accepted.{drop_first, within_slots}
+use Rattle.law_driver.proofs.lemmas.run_owners.Accepted.{within_slots}
 use Rattle.law_driver.proofs.lemmas.run_owners.Runs.{placed_run}
 use Rattle.law_driver.proofs.lemmas.run_owners.Taking.{runs_taken}
 use Rattle.law_driver.proofs.lemmas.run_owners.Transferred.{are_new, goes_on_alive}
@@ -162,15 +163,6 @@ module _ (d : DriverContent) (m : Mem) (o : Offered) (a : Asked) where
     endpoints = ap (λ (p : Offered). standings p.driver) k.is
         ∙ same_standings d.endpoints e k.endpoint (with_queued k.endpoint _ (length d.transfers)) k.here refl;
   }
-
--- an endpoint that takes transfers has a queue
-queue_kind : (k : EpKind) (b : Bool) → is_queued k && b ≡ true → is_iso k ≡ false
-queue_kind kinds.Iso b e = absurd (false≢true e)
-queue_kind _ b e = refl
-
-control_kind : (k : EpKind) → is_control k ≡ true → is_iso k ≡ false
-control_kind kinds.Iso e = absurd (false≢true e)
-control_kind _ e = refl
 
 request_some : (setup : List ℕ) → 1 ≤ length (request_stages setup)
 request_some setup = at (nat_eq (request_length setup) 0)

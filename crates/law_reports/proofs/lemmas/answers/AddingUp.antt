@@ -7,12 +7,12 @@ use Rattle.std.proofs.lemmas.Bool.{false≢true, eq-eqb}
 use Rattle.std.proofs.lemmas.List.{map-append, map-set}
 use Rattle.std.proofs.lemmas.List.Sums.{sum_by-cons}
 use Rattle.std.proofs.lemmas.Option.{same_Some, slice_get-map}
+use Rattle.law_common.proofs.Lists.{set_same}
+use Rattle.law_queues.proofs.Common.{same_way}
 use Rattle.usb_base.specs.declared.commands.Cmd.{Cmd}
 use Rattle.usb_base.specs.declared.commands.Cmd.TheVariants as commands
 use Rattle.usb_base.specs.declared.endpoints.EpDesc.{EpDesc}
 use Rattle.usb_base.specs.declared.endpoints.EpName.{EpName}
-use Rattle.usb_base.specs.declared.packets.Way.{Way}
-use Rattle.usb_base.specs.declared.packets.Way.TheVariants as ways
 use Rattle.usb_base.specs.declared.reports.OfferError.TheVariants as errors
 use Rattle.usb_base.specs.declared.reports.Report.{Report}
 use Rattle.usb_base.specs.declared.reports.What.TheVariants as lines
@@ -63,16 +63,6 @@ name_at : (d : DriverContent) (e : ℕ) (x : Endpoint) → slice_get d.endpoints
 name_at d e x here = slice_get-map name_of d.endpoints e ∙ ap (option_map name_of) here
 
 -- ---- an accepted command
-
-set_back : {X : Type 0} (xs : List X) (n : ℕ) (x : X) → slice_get xs n ≡ Some x → set xs n x ≡ xs
-set_back [] n x here = refl
-set_back (y ∷ ys) zero x here = ap (λ z. z ∷ ys) (sym (same_Some y x here))
-set_back (y ∷ ys) (suc n) x here = ap (λ zs. y ∷ zs) (set_back ys n x here)
-
-same_way : (w : Way) → is_same_way w w ≡ true
-same_way ways.In = refl
-same_way ways.Out = refl
-same_way ways.Ctl = refl
 
 self_named : (a : EpName) → is_same_name a a ≡ true
 self_named a =
@@ -133,7 +123,7 @@ module _ (d : DriverContent) (m : Mem) (new : DriverContent) (old : Tallied d) (
       (sym (names_stand new.endpoints) ∙ ap (map name_in_standing) k.endpoints
       ∙ map-set name_in_standing (standings d) n _
       ∙ ap (λ (ns : List EpName). set ns n k.endpoint.desc.name) (names_stand d.endpoints)
-      ∙ set_back (names_of d) n k.endpoint.desc.name (name_at d n k.endpoint k.here))
+      ∙ set_same (names_of d) n k.endpoint.desc.name (name_at d n k.endpoint k.here))
       k.transfers old
 
   transfer_tallied : (cmd : Cmd) → AddsTransfer d cmd new → Tallied new

@@ -1,11 +1,13 @@
 -- The lines that close a report tell what is pending.
-use Rattle.std.proofs.Common.{◌≡◌, ℕ, zero, suc, ◌+◌, ◌≤◌, Bool, true, false, cond, nat_lt, nat_eq, ◌||◌, ◌&&◌, List, [], ◌∷◌, ◌++◌, length, slice_get, Option, Some, None, ap, sym, ◌∙◌, refl, arith}
+use Rattle.std.proofs.Common.{◌≡◌, ℕ, zero, suc, ◌+◌, ◌≤◌, Bool, true, false, cond, nat_lt, nat_eq, ◌&&◌, List, [], ◌∷◌, length, slice_get, Option, Some, None, ap, sym, ◌∙◌, refl, arith}
 use Rattle.std.specs.List.{AllByRecursion, list_any, flat_map}
 use Rattle.std.specs.Prelude.{find, is_some, is_none, ◌==◌, count_by}
-use Rattle.std.proofs.lemmas.Bool.{false≢true, eq-eqb, and_from, lt-ltb}
+use Rattle.std.proofs.lemmas.Bool.{eq-eqb, and_from, lt-ltb}
 use Rattle.std.proofs.lemmas.Bool.Decides.{nat_tests}
-use Rattle.std.proofs.lemmas.List.Folds.{list_any-append}
 use Rattle.std.proofs.lemmas.Option.{same_Some}
+use Rattle.law_driver.proofs.Common.{any_left, any_right}
+use Rattle.law_common.proofs.Booleans.{left_or}
+use Rattle.law_common.proofs.Lists.{all_both}
 use Rattle.usb_base.specs.declared.endpoints.EndCause.{EndCause}
 use Rattle.usb_base.specs.declared.endpoints.EpName.{EpName}
 use Rattle.usb_base.specs.declared.packets.EpKind.{EpKind}
@@ -29,10 +31,6 @@ use Rattle.law_reports.proofs.lemmas.requests.lemmas.told_requests.Waiting.{set_
 use Rattle.law_reports.specs.answers.Counting.{ClosingsTellPending, a_line, OneLineForOneGet, TwoLinesForOneGet, AGetAddsUp, ALineIsMissing}
 
 -- ---- each line tells what is pending
-
-all_both : {X : Type 0} (P : X → Type 0) (xs ys : List X) → AllByRecursion P xs → AllByRecursion P ys → AllByRecursion P (xs ++ ys)
-all_both P [] ys one two = two
-all_both P (x ∷ xs) ys one two = (one.0, all_both P xs ys one.1 two)
 
 module _ (d : DriverContent) where
   device_tells : (way : Way) (kind : EpKind) (name : EpName) (o : Device) → AllByRecursion (TellsPending d) (device_closing way kind name o)
@@ -81,20 +79,6 @@ seats_tell w (s ∷ rest) = all_both (TellsPending w.driver) (seat_closings w s)
 
 -- ---- all that is pending is told
 
-or_left : (a b : Bool) → a ≡ true → (a || b) ≡ true
-or_left true b is = refl
-or_left false b is = absurd (false≢true is)
-
-or_right : (a b : Bool) → b ≡ true → (a || b) ≡ true
-or_right true b is = refl
-or_right false b is = is
-
-any_left : {X : Type 0} (f : X → Bool) (xs ys : List X) → list_any f xs ≡ true → list_any f (xs ++ ys) ≡ true
-any_left f xs ys is = list_any-append f xs ys ∙ or_left (list_any f xs) (list_any f ys) is
-
-any_right : {X : Type 0} (f : X → Bool) (xs ys : List X) → list_any f ys ≡ true → list_any f (xs ++ ys) ≡ true
-any_right f xs ys is = list_any-append f xs ys ∙ or_right (list_any f xs) (list_any f ys) is
-
 module _ (w : World) (name : EpName) (n : ℕ) (now : IsPendingNow w.driver name n) where
   waits_so : waiting w.driver name ≡ n
   waits_so =
@@ -110,7 +94,7 @@ module _ (w : World) (name : EpName) (n : ℕ) (now : IsPendingNow w.driver name
   waiting_told : list_any (is_told_pending name n) (waiting_closing name (waiting w.driver name)) ≡ true
   waiting_told =
       ap (λ (b : Bool). list_any (is_told_pending name n) (cond b (Pending name (waiting w.driver name) ∷ []) [])) more
-      ∙ or_left (is_same_name name name && nat_eq (waiting w.driver name) n) false
+      ∙ left_or (is_same_name name name && nat_eq (waiting w.driver name) n) false
       (and_from (is_same_name name name) (nat_eq (waiting w.driver name) n) (name_is_same name) (eq-eqb (waiting w.driver name) n waits_so))
 
   seat_told : (s : Seat) → s.name ≡ name → list_any (is_told_pending name n) (seat_closings w s) ≡ true

@@ -5,6 +5,8 @@ use Rattle.std.specs.Prelude.{count_by}
 use Rattle.std.proofs.lemmas.List.{append-nil, length-append}
 use Rattle.std.proofs.lemmas.List.Sums.{sum_by-cons}
 use Rattle.std.proofs.lemmas.Option.{same_Some}
+use Rattle.law_common.proofs.Booleans.{and_false, or_false}
+use Rattle.law_common.proofs.Lists.{set_here}
 use Rattle.usb_base.specs.declared.endpoints.EndCause.{EndCause}
 use Rattle.usb_base.specs.declared.endpoints.EndCause.TheVariants.{Stall}
 use Rattle.usb_base.specs.declared.endpoints.EpName.{EpName}
@@ -32,7 +34,6 @@ use Rattle.qh_qtd.specs.declared.token.Token.{Token}
 use Rattle.claims_answers.specs.Telling.{HasReason, done, missed, babbled, failed, stalled as stalled_so}
 use Rattle.law_driver.specs.run_owners.Due.{IsDue, IsHarvestDue}
 use Rattle.law_driver.proofs.lemmas.run_owners.Reasons.{each_event_is_due}
-use Rattle.law_driver.proofs.lemmas.run_owners.Released.{set_here}
 use Rattle.law_telling.proofs.Tokens.{found_ends}
 use Rattle.claims_world.specs.Pending.{without_line, IsOf, is_of_transfer, IsGivenBack, IsFewer, one_each, cancelled, IsCountedDown}
 use Rattle.law_reports.specs.requests.told_requests.Rows.{adds_lines}
@@ -74,10 +75,6 @@ both_wrote e name a b c one two = record {
       let all = length-append one.lines two.lines in omega (arith, all, one.fewer, two.fewer);
 }
 
-and_off : (a : Bool) → (a && false) ≡ false
-and_off true = refl
-and_off false = refl
-
 -- ---- a harvest
 
 one_behind : (d : DriverContent) (e k : ℕ) (name : EpName) (o : Option Transfer) → slice_get d.transfers k ≡ o
@@ -91,7 +88,7 @@ one_behind d e k name (Some y) here = at (waits_for e y) refl
           harvested = d.harvested ++ k ∷ [];
         }) d)
     at true on = one_wrote e name d _ _ refl refl refl (set_less e d.transfers k y (record y { reported = true }) here on
-        (and_off (y.endpoint == e)))
+        (and_false (y.endpoint == e)))
     at false off = none_wrote e name d d refl refl
 
 all_behind : (d : DriverContent) (e k n : ℕ) (name : EpName) → Wrote e name d (behind d e name k n)
@@ -126,12 +123,12 @@ found_wrote d m e t x y founds.Active its here on = none_wrote e x.desc.name d d
 found_wrote d m e t x y (founds.Moved n) its here on = none_wrote e x.desc.name d _ refl (set_same e d.transfers t y _ here refl)
 found_wrote d m e t x y (founds.Served errors) its here on =
     one_wrote e x.desc.name d _ _ refl refl refl (set_less e d.transfers t y (record y { reported = true }) here on
-    (and_off (y.endpoint == e)))
+    (and_false (y.endpoint == e)))
 found_wrote d m e t x y (founds.Ended n what) its here on =
     let told : DriverContent = told_with d m t y what x.desc.name (noted d.notes y.place n) in
     both_wrote e x.desc.name d told (after_end told e t x (is_stall what) (end_of x.desc.kind what))
     (one_wrote e x.desc.name d told _ refl refl its
-    (set_less e d.transfers t y (record y { reported = true }) here on (and_off (y.endpoint == e))))
+    (set_less e d.transfers t y (record y { reported = true }) here on (and_false (y.endpoint == e))))
     (end_wrote told e t x (is_stall what) (end_of x.desc.kind what))
 
 -- ---- as the clause says it
@@ -188,15 +185,11 @@ or_true : (a : Bool) → (a || true) ≡ true
 or_true true = refl
 or_true false = refl
 
-or_false : (a : Bool) → (a || false) ≡ a
-or_false true = refl
-or_false false = refl
-
 go_none : (e : ℕ) (y : Transfer) → waits_for e (let_go e true y) ≡ false
 go_none e y = at (y.endpoint == e) refl
   where
     at : (b : Bool) → (y.endpoint == e) ≡ b → waits_for e (cond b (record y { reported = y.reported || true; released = true }) y) ≡ false
-    at true own = ap (λ (r : Bool). (y.endpoint == e) && not r) (or_true y.reported) ∙ and_off (y.endpoint == e)
+    at true own = ap (λ (r : Bool). (y.endpoint == e) && not r) (or_true y.reported) ∙ and_false (y.endpoint == e)
     at false other = ap (λ (b : Bool). b && not y.reported) other
 
 go_same : (e : ℕ) (y : Transfer) → waits_for e (let_go e false y) ≡ waits_for e y
@@ -210,7 +203,7 @@ waiting_none : (e : ℕ) (y : Transfer) → waits_for e (let_go_waiting e true y
 waiting_none e y = at (waits_for e y) refl
   where
     at : (b : Bool) → waits_for e y ≡ b → waits_for e (cond b (record y { reported = y.reported || true; released = true }) y) ≡ false
-    at true own = ap (λ (r : Bool). (y.endpoint == e) && not r) (or_true y.reported) ∙ and_off (y.endpoint == e)
+    at true own = ap (λ (r : Bool). (y.endpoint == e) && not r) (or_true y.reported) ∙ and_false (y.endpoint == e)
     at false other = other
 
 waiting_same : (e : ℕ) (y : Transfer) → waits_for e (let_go_waiting e false y) ≡ waits_for e y

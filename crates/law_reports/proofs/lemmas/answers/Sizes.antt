@@ -1,10 +1,10 @@
 -- The qTDs of a new transfer have just the bytes that are asked for.
-use Rattle.std.proofs.Common.{◌≡◌, ℕ, zero, suc, ◌+◌, ◌-◌, ◌*◌, ◌/◌, ◌≤◌, ◌<◌, min, max, nat_eq, not, Bool, true, false, cond, List, [], ◌∷◌, map, ap, refl, ◌∙◌, ⊎_elim, arith}
+use Rattle.std.proofs.Common.{◌≡◌, ℕ, zero, suc, ◌+◌, ◌-◌, ◌*◌, ◌≤◌, min, max, nat_eq, not, Bool, true, false, cond, List, [], ◌∷◌, map, ap, refl, ◌∙◌, arith}
 use Rattle.std.specs.List.{range_with_len, sum_by}
-use Rattle.std.proofs.Math.Nat.{suc-mul, lt-div-mul-add}
-use Rattle.std.proofs.lemmas.Bool.{cases_lt}
+use Rattle.std.proofs.Math.Nat.{suc-mul}
 use Rattle.std.proofs.lemmas.Bool.Decides.{nat_tests}
 use Rattle.std.proofs.lemmas.List.Sums.{sum_by-cons}
+use Rattle.law_world.proofs.Common.{enough}
 use Rattle.usb_base.specs.declared.packets.Way.{Way}
 use Rattle.drv_table.specs.declared.content.QtdNote.{QtdNote}
 use Rattle.drv_table.specs.Harvests.{note_at}
@@ -28,21 +28,6 @@ cut_all way len by a (suc n) all =
     let next : (a + 1) * by ≡ a * by + by = ap (λ (i : ℕ). i * by) (let e : a + 1 ≡ suc a = omega arith in e) ∙ suc-mul a by in
     let one = stage_told way (min by (len - a * by)) in
     omega (arith, rest, next, one)
-
--- there are pieces enough
-enough : (len by : ℕ) → 1 ≤ by → len ≤ (0 + max 1 (pieces len by)) * by
-enough len by some =
-    let q = (len + (by - 1)) / by in
-    let below = lt-div-mul-add {a = len + (by - 1)} {b = by} (omega (arith, some)) in
-    let few : len ≤ q * by = omega (arith, below, some) in
-    ⊎_elim
-    (λ (none : q < 1).
-    let zero_pieces : q * by ≡ 0 = ap (λ (i : ℕ). i * by) (let e : q ≡ 0 = omega (arith, none) in e) ∙
-    (let z : 0 * by ≡ 0 = omega arith in z) in
-    omega (arith, few, zero_pieces))
-    (λ (one : 1 ≤ q). let same : (0 + max 1 q) * by ≡ q * by = ap (λ (i : ℕ). i * by) (let e : 0 + max 1 q ≡ q = omega (arith, one) in e) in
-    omega (arith, few, same))
-    (cases_lt q 1)
 
 pub cut_sum : (way : Way) (len by : ℕ) → 1 ≤ by → told_in_all (map (stage_by way) (cut len by)) ≡ len
 cut_sum way len by some =

@@ -7,6 +7,8 @@ use Rattle.std.proofs.lemmas.Bool.Decides.{nat_tests}
 use Rattle.std.proofs.lemmas.List.Folds.{list_any-append}
 use Rattle.std.proofs.lemmas.List.Sums.{sum_by-append, sum_by-cons}
 use Rattle.std.proofs.lemmas.Option.{same_Some, slice_get_within}
+use Rattle.law_common.proofs.Booleans.{or_both, both_not, and_none}
+use Rattle.law_common.proofs.Lists.{all_both, all_more, still_there}
 use Rattle.usb_base.specs.declared.endpoints.EpName.{EpName}
 use Rattle.usb_base.specs.declared.reports.Report.{Report}
 use Rattle.usb_base.specs.declared.reports.What.TheVariants.{Cancel}
@@ -43,25 +45,6 @@ count_alike p q (x ∷ xs) all =
     let one : ◌≡◌ {A = ℕ} (cond (p x) 1 0) (cond (q x) 1 0) = ap (λ (b : Bool). cond b 1 0) all.0 in
     let rest = count_alike p q xs all.1 in omega (arith, a, b, one, rest)
 
-all_by : {X : Type 0} (R S : X → Type 0) (xs : List X) → ((x : X) → R x → S x) → AllByRecursion R xs → AllByRecursion S xs
-all_by R S [] each all = tt
-all_by R S (x ∷ xs) each all = (each x all.0, all_by R S xs each all.1)
-
-all_join : {X : Type 0} (R : X → Type 0) (xs ys : List X) → AllByRecursion R xs → AllByRecursion R ys → AllByRecursion R (xs ++ ys)
-all_join R [] ys one two = two
-all_join R (x ∷ xs) ys one two = (one.0, all_join R xs ys one.1 two)
-
-and_off : (a b : Bool) → b ≡ false → (a && b) ≡ false
-and_off true b is = is
-and_off false b is = refl
-
-and_none : (a b : Bool) → a ≡ false → (a && b) ≡ false
-and_none a b is = ap (λ (c : Bool). c && b) is
-
-or_none : (a b : Bool) → (a || b) ≡ false → (a ≡ false) × (b ≡ false)
-or_none true b is = absurd (false≢true (sym is))
-or_none false b is = (refl, is)
-
 -- ---- the whole
 
 abbrev pub is_at : ℕ → Transfer → Bool
@@ -90,9 +73,9 @@ pub names_same : (names now : List EpName) (rs : List Report) (ts : List Transfe
     → ((e : ℕ) → slice_get now e ≡ slice_get names e) → IsTallied names rs ts → IsTallied now rs ts
 names_same names now rs ts same k = record {
   apart = λ e f a one two. k.apart e f a (sym (same e) ∙ one) (sym (same f) ∙ two);
-  named = all_by (IsNamed names) (IsNamed now) rs
+  named = all_more (IsNamed names) (IsNamed now) rs
       (λ l was on. let w = was on in record { number = w.number; is = same w.number ∙ w.is }) k.named;
-  within = all_by (λ (y : Transfer). HasName names y.endpoint) (λ (y : Transfer). HasName now y.endpoint) ts
+  within = all_more (λ (y : Transfer). HasName names y.endpoint) (λ (y : Transfer). HasName now y.endpoint) ts
       (λ y w. record { name = w.name; is = same y.endpoint ∙ w.is }) k.within;
   adds = λ e a at none. k.adds e a (sym (same e) ∙ at) none;
 }
@@ -103,13 +86,13 @@ pub other_line : (names : List EpName) (rs : List Report) (ts : List Transfer) (
     → is_cancel l.what ≡ false → IsTallied names rs ts → IsTallied names (rs ++ l ∷ []) ts
 other_line names rs ts l off uncancelled k = record {
   apart = k.apart;
-  named = all_join (IsNamed names) rs (l ∷ []) k.named ((λ on. absurd (false≢true (sym off ∙ on))), tt);
+  named = all_both (IsNamed names) rs (l ∷ []) k.named ((λ on. absurd (false≢true (sym off ∙ on))), tt);
   within = k.within;
   adds = λ e a at none.
-      let first = or_none (list_any (cancels_of a) rs) (list_any (cancels_of a) (l ∷ []))
+      let first = or_both (list_any (cancels_of a) rs) (list_any (cancels_of a) (l ∷ []))
       (sym (list_any-append (cancels_of a) rs (l ∷ [])) ∙ none) in
       let sum = counts_join (tells_of a) rs (l ∷ []) in
-      let zero_more = count_none (tells_of a) (l ∷ []) (and_off (is_same_name l.name a) (is_of_transfer l.what) off, tt) in
+      let zero_more = count_none (tells_of a) (l ∷ []) (both_not (is_same_name l.name a) (is_of_transfer l.what) off, tt) in
       let old = k.adds e a at first.0 in
       omega (arith, sum, zero_more, old);
 }
@@ -122,14 +105,14 @@ pub more_transfers : (names : List EpName) (rs : List Report) (ts more : List Tr
 more_transfers names rs ts more new k = record {
   apart = k.apart;
   named = k.named;
-  within = all_join (λ (y : Transfer). HasName names y.endpoint) ts more k.within
-      (all_by (λ (y : Transfer). (y.reported ≡ false) × HasName names y.endpoint) (λ (y : Transfer). HasName names y.endpoint) more
+  within = all_both (λ (y : Transfer). HasName names y.endpoint) ts more k.within
+      (all_more (λ (y : Transfer). (y.reported ≡ false) × HasName names y.endpoint) (λ (y : Transfer). HasName names y.endpoint) more
       (λ y w. w.1) new);
   adds = λ e a at none.
       let waiting = counts_join (waits_for e) ts more in
       let all = counts_join (is_at e) ts more in
       let same = count_alike (waits_for e) (is_at e) more
-      (all_by (λ (y : Transfer). (y.reported ≡ false) × HasName names y.endpoint) (λ (y : Transfer). waits_for e y ≡ is_at e y) more
+      (all_more (λ (y : Transfer). (y.reported ≡ false) × HasName names y.endpoint) (λ (y : Transfer). waits_for e y ≡ is_at e y) more
       (λ y w. unreported e y w.0) new) in
       let old = k.adds e a at none in
       omega (arith, waiting, all, same, old);
@@ -153,12 +136,6 @@ at_last (y ∷ ys) x (suc n) z is =
     ⊎_elim (λ (was : slice_get ys n ≡ Some z). inl was) (λ (new : (n ≡ length ys) × (x ≡ z)). inr (ap suc new.0, new.1))
     (at_last ys x n z is)
 
-still_there : {X : Type 0} (xs ys : List X) (n : ℕ) (z : X) → slice_get xs n ≡ Some z → slice_get (xs ++ ys) n ≡ Some z
-still_there [] ys zero z is = absurd cc
-still_there [] ys (suc n) z is = absurd cc
-still_there (x ∷ xs) ys zero z is = is
-still_there (x ∷ xs) ys (suc n) z is = still_there xs ys n z is
-
 pub one_endpoint : (names : List EpName) (name : EpName) (rs : List Report) (ts : List Transfer)
     → ((e : ℕ) → slice_get names e ≡ Some name → ⊥) → IsTallied names rs ts → IsTallied (names ++ name ∷ []) rs ts
 one_endpoint names name rs ts fresh k = record {
@@ -169,19 +146,19 @@ one_endpoint names name rs ts fresh k = record {
       (λ (new : (e ≡ length names) × (name ≡ a)).
       ⊎_elim (λ (too : slice_get names f ≡ Some a). absurd (fresh f (too ∙ ap Some (sym new.1))))
       (λ (also : (f ≡ length names) × (name ≡ a)). new.0 ∙ sym also.0) (at_last names name f a two)) (at_last names name e a one);
-  named = all_by (IsNamed names) (IsNamed (names ++ name ∷ [])) rs
+  named = all_more (IsNamed names) (IsNamed (names ++ name ∷ [])) rs
       (λ l was on. let w = was on in record { number = w.number; is = still_there names (name ∷ []) w.number l.name w.is }) k.named;
-  within = all_by (λ (y : Transfer). HasName names y.endpoint) (λ (y : Transfer). HasName (names ++ name ∷ []) y.endpoint) ts
+  within = all_more (λ (y : Transfer). HasName names y.endpoint) (λ (y : Transfer). HasName (names ++ name ∷ []) y.endpoint) ts
       (λ y w. record { name = w.name; is = still_there names (name ∷ []) y.endpoint w.name w.is }) k.within;
   adds = λ e a at none.
       ⊎_elim (λ (was : slice_get names e ≡ Some a). k.adds e a was none)
       (λ (new : (e ≡ length names) × (name ≡ a)).
-      let lines = count_none (tells_of a) rs (all_by (IsNamed names) (λ l. tells_of a l ≡ false) rs (untold a new.1) k.named) in
+      let lines = count_none (tells_of a) rs (all_more (IsNamed names) (λ l. tells_of a l ≡ false) rs (untold a new.1) k.named) in
       let waiting = count_none (waits_for e) ts
-      (all_by (λ (y : Transfer). HasName names y.endpoint) (λ (y : Transfer). waits_for e y ≡ false) ts
+      (all_more (λ (y : Transfer). HasName names y.endpoint) (λ (y : Transfer). waits_for e y ≡ false) ts
       (λ y w. and_none (y.endpoint == e) (not y.reported) (elsewhere e new.0 y w)) k.within) in
       let all = count_none (is_at e) ts
-      (all_by (λ (y : Transfer). HasName names y.endpoint) (λ (y : Transfer). is_at e y ≡ false) ts (elsewhere e new.0) k.within) in
+      (all_more (λ (y : Transfer). HasName names y.endpoint) (λ (y : Transfer). is_at e y ≡ false) ts (elsewhere e new.0) k.within) in
       omega (arith, lines, waiting, all))
       (at_last names name e a at);
 }
@@ -224,11 +201,11 @@ pub after_lines : (names : List EpName) (rs lines : List Report) (ts us : List T
     → IsTallied names rs ts → IsTallied names (rs ++ lines) us
 after_lines names rs lines ts us i w k = record {
   apart = k.apart;
-  named = all_join (IsNamed names) rs lines k.named
-      (all_by (λ (l : Report). slice_get names i ≡ Some l.name) (IsNamed names) lines (λ l is on. record { number = i; is = is }) w.of);
+  named = all_both (IsNamed names) rs lines k.named
+      (all_more (λ (l : Report). slice_get names i ≡ Some l.name) (IsNamed names) lines (λ l is on. record { number = i; is = is }) w.of);
   within = w.within;
   adds = λ e a at none. by_number e a at
-      (or_none (list_any (cancels_of a) rs) (list_any (cancels_of a) lines) (sym (list_any-append (cancels_of a) rs lines) ∙ none));
+      (or_both (list_any (cancels_of a) rs) (list_any (cancels_of a) lines) (sym (list_any-append (cancels_of a) rs lines) ∙ none));
 }
   where
     own : (e : ℕ) (a : EpName) → slice_get names e ≡ Some a → list_any (cancels_of a) lines ≡ false → i ≡ e
@@ -264,7 +241,7 @@ after_lines names rs lines ts us i w k = record {
     other : (e : ℕ) (a : EpName) → slice_get names e ≡ Some a → i ≢ e → count_by (tells_of a) lines ≡ 0
     other e a at differs =
         count_none (tells_of a) lines
-        (all_by (λ (l : Report). slice_get names i ≡ Some l.name) (λ (l : Report). tells_of a l ≡ false) lines
+        (all_more (λ (l : Report). slice_get names i ≡ Some l.name) (λ (l : Report). tells_of a l ≡ false) lines
         (λ l is. by (is_same_name l.name a) (is_of_transfer l.what) l is refl) w.of)
       where
         by : (b c : Bool) (l : Report) → slice_get names i ≡ Some l.name → is_same_name l.name a ≡ b → (b && c) ≡ false

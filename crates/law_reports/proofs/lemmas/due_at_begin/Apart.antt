@@ -1,16 +1,17 @@
 -- An event of the walk of the frames changes the structures of the one in hand alone, and goes on with that one, or with none (EHCI 1.0,
 -- 4.6, 4.7.1, 4.10 and 4.12.3).
-use Rattle.std.proofs.Common.{◌≡◌, ◌≢◌, ℕ, Bool, true, false, if◌then◌else◌, List, Option, Some, None, ap, refl, sym, subst, ◌∙◌}
+use Rattle.std.proofs.Common.{◌≡◌, ◌≢◌, ℕ, Bool, true, false, if◌then◌else◌, List, Some, None, ap, refl, sym, subst, ◌∙◌}
 use Rattle.std.proofs.lemmas.Option.{same_Some}
+use Rattle.law_common.proofs.Options.{none_some}
+use Rattle.law_frames.proofs.Common.{written_from}
+use Rattle.law_microframes.proofs.Common.{heard_at}
 use Rattle.usb_base.specs.declared.packets.Ask.{Ask}
 use Rattle.usb_base.specs.declared.packets.Reply.{Reply}
 use Rattle.hc_copy.specs.Overlay.{advanced}
 use Rattle.hc_copy.specs.WriteBack.{moved_by}
 use Rattle.hc_interrupt.specs.Copies.{goes_on}
 use Rattle.hc_iso.specs.declared.held.HeldItd.{HeldItd}
-use Rattle.hc_iso.specs.declared.held.Heard.{Heard}
-use Rattle.hc_iso.specs.declared.held.Heard.TheVariants.{Packet, TooLong, Wrong}
-use Rattle.hc_iso.specs.Itd.{heard_in, after_heard, after_in, after_out, itd_after}
+use Rattle.hc_iso.specs.Itd.{heard_in, after_in, after_out, itd_after}
 use Rattle.hc_iso.specs.WriteBack.{sitd_received, moved_by as sitd_moved_by}
 use Rattle.async_walk.specs.declared.state.WalkStep.{WalkStep}
 use Rattle.async_walk.specs.declared.state.WalkStep.TheVariants as steps
@@ -24,14 +25,11 @@ use Rattle.law_ring.specs.Effects.{received_into}
 use Rattle.law_frames.specs.FrameHand.{QueueSettlement, settled_in, ItdCopy, SitdCopy, FrameHand, Nothing, OfQueue, OfSettled, OfItd}
 use Rattle.law_frames.specs.FrameHand.{OfSitd}
 use Rattle.law_frames.specs.FrameHand.{frame_held}
-use Rattle.law_frames.specs.FrameEffects.{IsSettledFrom, was_worked, was_missed, IsWrittenFrom, made, missed, itd_back, sitd_back}
+use Rattle.law_frames.specs.FrameEffects.{IsSettledFrom, was_worked, was_missed, itd_back, sitd_back}
 use Rattle.law_frames.specs.FrameEffects.{MakesOne, WritesOne, of_queue, of_itd, of_sitd, FrameEffect, fetches, passes, ends, takes, makes}
 use Rattle.law_frames.specs.FrameEffects.{writes}
 
 -- ---- where it is
-
-none_some : (a : ℕ) → ◌≡◌ {A = Option ℕ} None (Some a) → ⊥
-none_some a is = cc
 
 at_queue : (hand : FrameHand) (c : Copy) (m : ℕ) → hand ≡ OfQueue c m → held_address (frame_held hand) ≡ Some c.at
 at_queue hand c m is = ap (λ (h : FrameHand). held_address (frame_held h)) is
@@ -60,15 +58,6 @@ settled_from : (w : Walk) (hand : FrameHand) (c : Copy) (z : QueueSettlement) (m
     → held_address (frame_held hand) ≡ Some c.at
 settled_from w hand c z m (was_worked is) = at_settled hand c z m is
 settled_from w hand c z m (was_missed is turn same) = at_queue hand c m is
-
-written_from : (w : Walk) (copy back : SitdCopy) → IsWrittenFrom w copy back → back.held.at ≡ copy.held.at
-written_from w copy back (made is) = ap (λ (c : SitdCopy). c.held.at) is
-written_from w copy back (missed unsettled turn is) = ap (λ (c : SitdCopy). c.held.at) is
-
-heard_at : (h : HeldItd) (x : Heard) → (after_heard h x).at ≡ h.at
-heard_at h (Packet k n) = refl
-heard_at h TooLong = refl
-heard_at h Wrong = refl
 
 asked_at : (h : HeldItd) (reply : Reply) (b : Bool) → (if b then after_in h reply else after_out h).at ≡ h.at
 unfolding after_in after_out

@@ -5,6 +5,8 @@ use Rattle.std.proofs.Common.{Option, Some, None, is_none, option_map, ap, refl,
 use Rattle.std.specs.Prelude.{nat_le}
 use Rattle.std.proofs.lemmas.Bool.{cases_Bool, true≢false}
 use Rattle.std.proofs.lemmas.Option.{same_Some}
+use Rattle.law_world.proofs.Common.{none_some}
+use Rattle.law_resting.proofs.Common.{no_work_is}
 use Rattle.usb_base.specs.declared.packets.EpKind.TheVariants.{Interrupt}
 use Rattle.drv_chains.specs.declared.members.Member.{Member}
 use Rattle.drv_chains.specs.Chains.{id_of}
@@ -33,9 +35,6 @@ use Rattle.law_microframes.proofs.lemmas.visits.BelongQueues.{alive}
 use Rattle.law_reports.proofs.lemmas.pipes.Names.{same_number}
 
 -- ---- members
-
-no_command_is : (c : Command) → ◌≡◌ {A = Option Command} None (Some c) → ⊥
-no_command_is c is = cc
 
 pub member_queue : (a b : ℕ) (p r : Placement) → queue_member a p ≡ queue_member b r → 32 * a ≡ 32 * b
 member_queue a b p r same =
@@ -109,9 +108,6 @@ Goes d f = (v : Work) → f.command ≡ Some unfinished.Chain → f.periodic.lis
 itself_goes : (d : DriverContent) → Goes d d
 itself_goes d v command is = record { work = v; is = is; member = refl }
 
-no_work_is : (v : Work) → ◌≡◌ {A = Option Work} None (Some v) → ⊥
-no_work_is v is = cc
-
 begun_none : (b removes : Bool) (r : PeriodicContent) → cond b (with_first removes r []) r ≡ r
 begun_none true removes r = refl
 begun_none false removes r = refl
@@ -145,7 +141,7 @@ module _ (d : DriverContent) (command : d.command ≡ Some unfinished.Chain) (qu
       ∙ begun_none (is_none started.list.work) false started
 
   by_end : (b : Bool) → Goes d (cond b (no_command left) left)
-  by_end true v chain is = absurd (no_command_is unfinished.Chain chain)
+  by_end true v chain is = absurd (none_some unfinished.Chain chain)
   by_end false v chain is =
       by_list (nat_lt d.made 1) v (ap (λ (r : PeriodicContent). r.list.work) (sym started_is) ∙ is)
 

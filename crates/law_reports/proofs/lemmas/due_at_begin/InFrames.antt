@@ -1,10 +1,12 @@
 -- An endpoint that is in its frames is there after an event of the driver, and after a command, unless it is cancelled then (EHCI 1.0,
 -- 4.6).
-use Rattle.std.proofs.Common.{◌≡◌, ◌≢◌, ℕ, zero, suc, ◌+◌, ◌*◌, ◌<◌, Bool, true, false, cond, List, [], ◌∷◌, ◌++◌, length, slice_get}
+use Rattle.std.proofs.Common.{◌≡◌, ◌≢◌, ℕ, ◌+◌, ◌*◌, Bool, true, false, cond, List, [], ◌∷◌, ◌++◌, length, slice_get}
 use Rattle.std.proofs.Common.{Option, Some}
 use Rattle.std.proofs.Common.{None, Result, Ok, Err, is_none, ap, refl, sym, subst, ◌∙◌, ⊎_elim, arith}
 use Rattle.std.proofs.lemmas.Option.{same_Some}
 use Rattle.std.proofs.lemmas.List.{length-append}
+use Rattle.law_common.proofs.Lists.{some_below, push_which}
+use Rattle.law_resting.proofs.Common.{unchained_command}
 use Rattle.usb_base.specs.declared.commands.Cmd.{Cmd}
 use Rattle.usb_base.specs.declared.endpoints.EpDesc.{EpDesc}
 use Rattle.usb_base.specs.declared.endpoints.EpName.{EpName}
@@ -28,7 +30,6 @@ use Rattle.claims_world.specs.Coming.{IsInItsFrames}
 use Rattle.claims_world.specs.DueAtBegin.{IsUncancelled}
 use Rattle.law_driver.specs.run_owners.Accepts.{Accepts, Chains, opens, chains, places, transfers, describes, cancels, unchains}
 use Rattle.law_driver.proofs.lemmas.run_owners.Commands.{each_command_has_its_reason}
-use Rattle.law_driver.proofs.lemmas.run_owners.Ordered.{pushed}
 use Rattle.law_frames.specs.Met.{AQueue}
 use Rattle.law_world.specs.memory.Mixed.{IsChainToLend, IsChainThere, IsUnderWay, IsMixedWorld}
 use Rattle.law_microframes.specs.visits.Belonging.{a_queue, BelongsTo}
@@ -46,11 +47,6 @@ use Rattle.law_reports.proofs.lemmas.due_at_begin.Uncancelled.{IsAt, step_back, 
 pub record IsStillIn (w : World) (e q : ℕ) (p : Placement) (desc : EpDesc) : Type 0 where
   pub frames : IsInItsFrames w.driver e q p
   pub same : frames.endpoint.desc ≡ desc
-
-low_of : {X : Type 0} (xs : List X) (i : ℕ) (x : X) → slice_get xs i ≡ Some x → i < length xs
-low_of [] i x here = absurd (cc here)
-low_of (v ∷ xs) zero x here = omega arith
-low_of (v ∷ xs) (suc i) x here = let low = low_of xs i x here in omega (arith, low)
 
 module _ (w : World) (k : IsMixedWorld w) (e q : ℕ) (p : Placement) (i : IsInItsFrames w.driver e q p) where
   belongs : BelongsTo w.driver (32 * q)
@@ -132,10 +128,6 @@ choose_command : (b : Bool) (f g : DriverContent) → f.command ≡ None → g.c
 choose_command true f g one other = one
 choose_command false f g one other = other
 
-unchained_command : (g : DriverContent) (e : ℕ) (o : Option Endpoint) → (leave_frames (no_command g) e o).command ≡ None
-unchained_command g e None = refl
-unchained_command g e (Some x) = choose_command x.chained _ (no_command g) refl refl
-
 no_chain : (b : Bool) (g : DriverContent) (e : ℕ) → g.command ≡ Some (unfinished.Unchain e)
     → (cond b (leave_frames (no_command g) e (slice_get g.endpoints e)) g).command ≡ Some unfinished.Chain → ⊥
 no_chain true g e is chain =
@@ -163,17 +155,17 @@ module _ (w : World) (k : IsMixedWorld w) (n : ℕ) (name : EpName) (e q : ℕ) 
       let long : length o.driver.endpoints ≡ length w.driver.endpoints + 1 =
       ap length ends ∙ length-append w.driver.endpoints (_ ∷ []) in
       let newest = t.newest in
-      let low = low_of w.driver.endpoints e i.endpoint i.here in
+      let low = some_below w.driver.endpoints e i.endpoint i.here in
       ⊎_elim
       (λ (was : slice_get w.driver.endpoints t.ready.number ≡ Some t.ready.endpoint).
-      let less = low_of w.driver.endpoints t.ready.number t.ready.endpoint was in omega (arith, less, newest, long))
+      let less = some_below w.driver.endpoints t.ready.number t.ready.endpoint was in omega (arith, less, newest, long))
       (λ (new : (t.ready.number ≡ length w.driver.endpoints) × (t.ready.endpoint ≡ _)).
       let number : t.ready.number ≡ e =
       same_number o.driver l.mixed.now.framed.place.sound.owners t.ready.number e t.ready.endpoint z t.ready.here here
       (ap (λ (x : Endpoint). x.gone) new.1, ap (λ (x : Endpoint). is_iso x.desc.kind) new.1 ∙ why.queued) (kept, ap is_iso kind) at in
       let at_end = new.0 in
       omega (arith, number, at_end, low))
-      (pushed w.driver.endpoints _ t.ready.number t.ready.endpoint
+      (push_which w.driver.endpoints _ t.ready.number t.ready.endpoint
       (ap (λ (xs : List Endpoint). slice_get xs t.ready.number) (sym ends) ∙ t.ready.here)))
       (λ (t : IsChainThere o.driver l.standing.member l.standing.recent l.standing.parts).
       let made : 0 ≡ 1 = sym (ap (λ (g : Offered). g.driver.made) why.is) ∙ t.lent.made in omega (arith, made))

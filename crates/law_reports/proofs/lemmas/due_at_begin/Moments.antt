@@ -1,6 +1,7 @@
 -- At each moment of a script's run what was due as the microframe began is ahead of the walk of the frames, or the walk came to it; so it
 -- is done once the walk is over.
 use Rattle.std.proofs.Common.{◌≡◌, ◌≢◌, ℕ, zero, suc, ◌*◌, ◌≤◌, true, List, [], ◌∷◌, ap, refl, sym, subst, ◌∙◌}
+use Rattle.law_microframes.proofs.Common.{in_list}
 use Rattle.usb_base.specs.declared.commands.Cmd.{Cmd}
 use Rattle.script_types.specs.declared.scripts.Event.TheVariants as events
 use Rattle.script_types.specs.declared.scripts.Script.{Script}
@@ -42,7 +43,6 @@ use Rattle.law_microframes.proofs.lemmas.due.Moments.{texts_do_what_is_due}
 use Rattle.law_microframes.proofs.lemmas.time.DataMoments.{scripts_send_data}
 use Rattle.law_microframes.proofs.lemmas.visits.BelongMoments.{scripts_keep_fields}
 use Rattle.law_microframes.proofs.lemmas.visits.NoneLeftWalking.{index_stays}
-use Rattle.law_microframes.proofs.lemmas.visits.NoneLeftWorlds.{frame_low}
 use Rattle.law_microframes.proofs.lemmas.visits.ReasonHeld.{texts_keep_held_time}
 use Rattle.law_microframes.proofs.lemmas.visits.ReasonParts.{command_control, command_bus}
 use Rattle.law_microframes.proofs.lemmas.visits.VisitTexts.{lines_fit}
@@ -160,7 +160,7 @@ module _ (fixed : Fixed) (x : Sides) (b w : World) (t : SoFar) (k : IsKnown fixe
           frames = s.frames;
           index = ap (λ (c : Control). c.frame.index) aside.control ∙ old.index;
           waits = aside_waits fixed w later k.mixed l aside k.heads heads_then e q d.due.placement old.frames s.frames s.same
-              (frame_in (controller_next fixed b).control.frame.index) (frame_low (controller_next fixed b).control.frame.index) d.active
+              (frame_in (controller_next fixed b).control.frame.index) (in_list (controller_next fixed b).control.frame.index) d.active
               d.due.there.endpoint.desc (controller_next fixed b).control.frame.index (bytes_moved d.due.transfer.ready.answers) t
               old.waits;
         }

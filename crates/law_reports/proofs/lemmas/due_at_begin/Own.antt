@@ -1,10 +1,10 @@
 -- The endpoint of a device that hears the tokens of a high-speed interrupt endpoint is found there by its own way: the device has a stream
 -- for it (USB 2.0, 8.4.1 and 8.6).
 use Rattle.std.proofs.Common.{◌≡◌, ◌≢◌, ℕ, ◌*◌, Bool, true, false, List, if◌then◌else◌, slice_get, Option, Some, None, ap, refl, sym, subst}
-use Rattle.std.proofs.Common.{◌∙◌, ⊎_elim, inl, inr}
-use Rattle.std.specs.Prelude.{◌&&◌, ◌||◌, ◌⊎◌, not}
-use Rattle.std.proofs.lemmas.Bool.{cases_eq}
+use Rattle.std.proofs.Common.{◌∙◌, ⊎_elim}
+use Rattle.std.specs.Prelude.{◌&&◌, ◌||◌, not}
 use Rattle.std.proofs.lemmas.Option.{same_Some}
+use Rattle.law_world.proofs.Common.{met_or_not}
 use Rattle.usb_base.specs.declared.endpoints.EpName.{EpName}
 use Rattle.usb_base.specs.declared.packets.EpKind.{EpKind}
 use Rattle.usb_base.specs.declared.packets.EpKind.TheVariants.{Interrupt}
@@ -15,7 +15,6 @@ use Rattle.endpoint_script.specs.declared.endpoint.Endpoint.{Endpoint as DeviceE
 use Rattle.endpoint_script.specs.declared.endpoint.Role.{Role}
 use Rattle.endpoint_script.specs.Device.{place_named, endpoint_at}
 use Rattle.drv_periodic_table.specs.Periodic.{is_periodic}
-use Rattle.drv_table.specs.declared.content.Command.{Command}
 use Rattle.drv_table.specs.declared.content.Command.TheVariants as unfinished
 use Rattle.drv_table.specs.declared.content.Endpoint.{Endpoint}
 use Rattle.drv_table.specs.Kinds.{is_iso}
@@ -43,22 +42,6 @@ use Rattle.law_reports.specs.pipes.Piped.{Heads, IsOpening, IsUnused, IsPiped}
 use Rattle.law_reports.proofs.lemmas.lines.IsoGoing.{told_apart}
 use Rattle.law_reports.proofs.lemmas.pipes.Begun.{named, on_ins, on_outs}
 use Rattle.law_reports.proofs.lemmas.pipes.Names.{name_is}
-
--- ---- an open, or none
-
-same_open : (a b : ℕ) → Some (unfinished.Open a) ≡ Some (unfinished.Open b) → a ≡ b
-same_open a b is = cc
-
-opens_or : (o : Option Command) (q : ℕ) → (o ≡ Some (unfinished.Open q)) ⊎ (o ≢ Some (unfinished.Open q))
-opens_or None q = inr (λ is. cc)
-opens_or (Some (unfinished.Open a)) q =
-    ⊎_elim (λ (same : a ≡ q). inl (ap (λ (b : ℕ). Some (unfinished.Open b)) same))
-    (λ (other : a ≢ q). inr (λ is. other (same_open a q is))) (cases_eq a q)
-opens_or (Some (unfinished.Publish b words)) q = inr (λ is. cc)
-opens_or (Some (unfinished.Unlink e b link)) q = inr (λ is. cc)
-opens_or (Some unfinished.Chain) q = inr (λ is. cc)
-opens_or (Some (unfinished.Iso e t count)) q = inr (λ is. cc)
-opens_or (Some (unfinished.Unchain e)) q = inr (λ is. cc)
 
 -- ---- the place of who sends, or takes
 
@@ -130,7 +113,7 @@ module _ (fixed : Fixed) (x : Sides) (s : Standing) (m : Lines) (h : Heads) (w :
         record {
           sender = p.sender;
           is = ap (λ (u : Told). sender_of (wired fixed w) u.addr u.ep) (sym (named fixed x s m h w k e z here met)) ∙ p.is;
-        }) (opens_or (queued w.driver).command z.queue)
+        }) (met_or_not (queued w.driver).command z.queue)
 
     -- ---- it takes
 
@@ -150,7 +133,7 @@ module _ (fixed : Fixed) (x : Sides) (s : Standing) (m : Lines) (h : Heads) (w :
         record {
           taker = p.taker;
           is = ap (λ (u : Told). taker_of (wired fixed w) u.addr u.ep) (sym (named fixed x s m h w k e z here met)) ∙ p.is;
-        }) (opens_or (queued w.driver).command z.queue)
+        }) (met_or_not (queued w.driver).command z.queue)
 
     -- ---- where it stands
 

@@ -1,7 +1,8 @@
 -- The controller can come to the queue head of an interrupt endpoint in its frames, by the links of each of them (EHCI 1.0, 3.1, 4.4 and
 -- 4.6).
-use Rattle.std.proofs.Common.{◌≡◌, ℕ, ◌+◌, ◌*◌, ◌<◌, true, Option, Some, None, ap, refl, sym, subst, ◌∙◌, inr}
+use Rattle.std.proofs.Common.{◌≡◌, ℕ, ◌+◌, ◌*◌, ◌<◌, true, Option, Some, ap, refl, sym, subst, ◌∙◌, inr}
 use Rattle.std.proofs.lemmas.Option.{same_Some}
+use Rattle.law_common.proofs.Options.{none_some}
 use Rattle.word_mem.specs.Memory.{word_at}
 use Rattle.link_words.specs.declared.kinds.Link.{Link}
 use Rattle.link_words.specs.declared.kinds.Link.TheVariants as links
@@ -32,9 +33,6 @@ use Rattle.law_microframes.proofs.lemmas.visits.VisitLinks.{queue_is_read, itd_i
 use Rattle.law_microframes.proofs.lemmas.due.Coming.{its_frames_lead}
 use Rattle.law_microframes.proofs.lemmas.due.FetchedKinds.{begins_there, its_member}
 use Rattle.law_microframes.proofs.lemmas.due.Linked.{queue_met}
-
-no_name : (n : ℕ) → ◌≡◌ {A = Option ℕ} None (Some n) → ⊥
-no_name n is = cc
 
 not_itd : ◌≡◌ {A = Option Kind} (Some AQueue) (Some AnItd) → ⊥
 not_itd is = cc
@@ -69,7 +67,7 @@ module _ (s : Standing) (w : World) (k : IsMixedAt s w) (n : ℕ) (on : met w.dr
 
   -- the structure is there already, or its link leads on
   there : (l : Link) → name_of l ≡ Some n → Leads l → Reaches (controller_parts w) (QueueAt n)
-  there links.End is way = absurd (no_name n is)
+  there links.End is way = absurd (none_some n is)
   there (links.Itd a) is way =
       absurd (not_itd (sym on ∙ ap (met w.driver s.recent) (sym (same_Some a n is)) ∙ itd_at a (way (ItdAt a) refl)))
   there (links.Qh a) is way = subst (λ (i : ℕ). Reaches (controller_parts w) (QueueAt i)) (same_Some a n is) (way (QueueAt a) refl)
@@ -80,7 +78,7 @@ module _ (s : Standing) (w : World) (k : IsMixedAt s w) (n : ℕ) (on : met w.dr
 
   reach_on : (o : Option ℕ) → IsLedTo w.memory n o → (l : Link) → name_of l ≡ o → Leads l → Reaches (controller_parts w) (QueueAt n)
   reach_on _ is_there l is way = there l is way
-  reach_on _ (leads_on a more) links.End is way = absurd (no_name a is)
+  reach_on _ (leads_on a more) links.End is way = absurd (none_some a is)
   reach_on _ (leads_on a more) (links.Itd b) is way =
       let m : IsMetItd (met w.driver s.recent) b (both s.descs s.parts b) = runs.members b AnItd (itd_at b (way (ItdAt b) refl)) in
       let read : itd_at_address w.memory b ≡ Some m.itd = itd_read_there w.memory all b b m.itd runs.ring.tells m.here in

@@ -3,6 +3,7 @@ use Rattle.std.proofs.Common.{◌≡◌, ◌≢◌, ℕ, suc, ◌+◌, ◌*◌, 
 use Rattle.std.proofs.Common.{⊎_elim, arith}
 use Rattle.std.proofs.lemmas.Bool.{cases_eq}
 use Rattle.std.proofs.lemmas.Option.{same_Some}
+use Rattle.law_common.proofs.Options.{none_some}
 use Rattle.word_mem.specs.Memory.{Mem, word_at}
 use Rattle.word_mem.proofs.Words.{get_or-words_in}
 use Rattle.link_words.specs.declared.kinds.Link.{Link}
@@ -115,19 +116,16 @@ module _ (w : World) (k : IsMixedWorld w) (n : ℕ) (way : Reaches (controller_p
 
 -- ---- what the walk fetches there
 
-no_some : (n : ℕ) → ◌≡◌ {A = Option ℕ} None (Some n) → ⊥
-no_some n is = cc
-
 itd_at : (a : ℕ) (o : Option Itd) (n : ℕ) → fetched_by (itd_fetch a o) ≡ Some n → a ≡ n
-itd_at a None n is = absurd (no_some n is)
+itd_at a None n is = absurd (none_some n is)
 itd_at a (Some v) n is = same_Some a n is
 
 queue_at : (a : ℕ) (o : Option Qh) (n : ℕ) → fetched_by (queue_fetch a o) ≡ Some n → a ≡ n
-queue_at a None n is = absurd (no_some n is)
+queue_at a None n is = absurd (none_some n is)
 queue_at a (Some v) n is = same_Some a n is
 
 sitd_at : (a : ℕ) (o : Option Sitd) (n : ℕ) → fetched_by (sitd_fetch a o) ≡ Some n → a ≡ n
-sitd_at a None n is = absurd (no_some n is)
+sitd_at a None n is = absurd (none_some n is)
 sitd_at a (Some v) n is = same_Some a n is
 
 other_queue : ◌≡◌ {A = Option Kind} (Some AnItd) (Some AQueue) → ⊥
@@ -138,14 +136,14 @@ other_sitd is = cc
 
 pub fetched_itd_there : (m : Mem) (met_as : ℕ → Option Kind) (l : Link) (n : ℕ) (v : Itd) → LeadsTo met_as l → met_as n ≡ Some AnItd
     → itd_at_address m n ≡ Some v → fetched_by (chain_row m l) ≡ Some n → chain_row m l ≡ chains.Itd n v
-fetched_itd_there m met_as links.End n v leads on read is = absurd (no_some n is)
+fetched_itd_there m met_as links.End n v leads on read is = absurd (none_some n is)
 fetched_itd_there m met_as (links.Itd a) n v leads on read is =
     ap (λ (i : ℕ). itd_fetch i (itd_at_address m i)) (itd_at a (itd_at_address m a) n is) ∙ ap (itd_fetch n) read
 fetched_itd_there m met_as (links.Qh a) n v leads on read is =
     absurd (other_queue (sym on ∙ ap met_as (sym (queue_at a (queue_head_at_address m a) n is)) ∙ leads))
 fetched_itd_there m met_as (links.Sitd a) n v leads on read is =
     absurd (other_sitd (sym on ∙ ap met_as (sym (sitd_at a (sitd_at_address m a) n is)) ∙ leads))
-fetched_itd_there m met_as (links.Fstn a) n v leads on read is = absurd (no_some n is)
+fetched_itd_there m met_as (links.Fstn a) n v leads on read is = absurd (none_some n is)
 
 -- ---- an event of the walk of the frames
 

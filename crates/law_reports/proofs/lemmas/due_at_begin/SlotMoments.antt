@@ -4,6 +4,9 @@ use Rattle.std.proofs.Common.{◌≡◌, ◌≢◌, ℕ, zero, suc, ◌+◌, ◌
 use Rattle.std.proofs.Common.{None, ap, refl, sym, subst, ◌∙◌, ⊎_elim, inl, inr, arith}
 use Rattle.std.proofs.lemmas.Bool.{true≢false, cases_eq}
 use Rattle.std.proofs.lemmas.Option.{same_Some}
+use Rattle.law_common.proofs.Options.{none_some}
+use Rattle.law_frames.proofs.Common.{early_below}
+use Rattle.law_microframes.proofs.Common.{in_list}
 use Rattle.script_types.specs.declared.scripts.Event.TheVariants as events
 use Rattle.script_types.specs.declared.scripts.Script.{Script}
 use Rattle.script_text.specs.Faults.{Spells}
@@ -44,7 +47,7 @@ use Rattle.law_world.proofs.lemmas.memory.Together.{texts_stay_mixed}
 use Rattle.law_world.proofs.lemmas.steps.StreamTurning.{world_has_row}
 use Rattle.law_microframes.proofs.lemmas.due.lemmas.slots.Moments.{texts_serve_slots}
 use Rattle.law_microframes.proofs.lemmas.visits.NoneLeftWalking.{index_stays}
-use Rattle.law_microframes.proofs.lemmas.visits.NoneLeftWorlds.{frame_low, in_chain_stands}
+use Rattle.law_microframes.proofs.lemmas.visits.NoneLeftWorlds.{in_chain_stands}
 use Rattle.law_microframes.proofs.lemmas.visits.ReasonParts.{command_control}
 use Rattle.law_microframes.proofs.lemmas.visits.VisitsKept.{texts_visit_each}
 use Rattle.law_reports.specs.due_at_begin.Laws.{TextsDoSlotsAtBegin}
@@ -78,9 +81,6 @@ pub record IsSlotKnown (b w : World) (vs : List ℕ) : Type 0 where
   pub comes : (n : ℕ) → IsPastFrames w → IsInChain b (frame_in w.control.frame.index) n
       → IsInChain w (frame_in w.control.frame.index) n → HasVisited n vs
 
-low_u : (index : ℕ) → microframe_of index < 8
-low_u index = omega arith
-
 -- ---- what is fetched is found
 
 more_if : (b : Bool) (n a : ℕ) (bs : List ℕ) → HasVisited n bs → HasVisited n (if b then a ∷ bs else bs)
@@ -107,9 +107,6 @@ off_at : (n : ℕ) (hand : Option Hand) (row : ChainRow) (vs : List ℕ) → (ha
     → (HasVisited n vs → ⊥) → HasVisited n (visits_at hand row vs) → ⊥
 off_at n None row vs off none was = off_too n (fetched_by row) vs (off refl) none was
 off_at n (Some hand) row vs off none was = none was
-
-none_some : (b : ℕ) → ◌≡◌ {A = Option ℕ} None (Some b) → ⊥
-none_some b is = cc
 
 some_none : (b : Hand) → ◌≡◌ {A = Option Hand} (Some b) None → ⊥
 some_none b is = cc
@@ -189,7 +186,7 @@ module _ (P Q : ℕ → Type 0) (fixed : Fixed) (b w : World) (vs : List ℕ) (t
         was = old.was;
         index = index_on other ∙ old.index;
         waits = slot_goes row n (here n (back n q)) (microframe_of (controller_next fixed b).control.frame.index)
-            (low_u (controller_next fixed b).control.frame.index) (ap (λ (i : ℕ). microframe_of i) old.index) old.waits;
+            (early_below (controller_next fixed b).control.frame.index) (ap (λ (i : ℕ). microframe_of i) old.index) old.waits;
       }
 
   past_goes : controller_row w ≢ rows.Frame → controller_row w ≢ rows.Begin → ((n : ℕ) → Q n → P n)
@@ -243,7 +240,8 @@ module _ (P Q : ℕ → Type 0) (fixed : Fixed) (b w : World) (vs : List ℕ) (t
         unvisited = λ was. was;
         apart = λ a is. absurd (none_some a
             (sym (ap held_address (ap (λ (v : World). v.control.frame.hand) next_is ∙ has_begun.nothing)) ∙ is));
-        active = active_read new l n d.linked.reached (microframe_of new.control.frame.index) d.itd (low_u new.control.frame.index) d.read
+        active = active_read new l n d.linked.reached (microframe_of new.control.frame.index) d.itd (early_below new.control.frame.index)
+            d.read
             d.active;
       });
     }
@@ -277,7 +275,8 @@ module _ (P Q : ℕ → Type 0) (fixed : Fixed) (b w : World) (vs : List ℕ) (t
         unvisited = a.unvisited;
         apart = λ x is. a.apart x (ap (λ (c : Control). held_address c.frame.hand) (sym control) ∙ is);
         active = aside_active w k.mixed n (here n (back n q)).reached later.memory leaves
-            (microframe_of (controller_next fixed b).control.frame.index) (low_u (controller_next fixed b).control.frame.index) a.active;
+            (microframe_of (controller_next fixed b).control.frame.index) (early_below (controller_next fixed b).control.frame.index)
+            a.active;
       })
 
   stays_so : ((n : ℕ) → Q n → P n) → SlotsWait Q fixed b w vs t
@@ -330,7 +329,7 @@ module _ (text : List ℕ) (s : Script) (spelled : Spells text s) where
       let l = linked_at 0 n stays in
       let x = in_chain_stands (texts_stay_mixed text s spelled 0).standing (moment s 0).world
       (frame_in (moment s 0).world.control.frame.index) n (texts_stay_mixed text s spelled 0).mixed
-      (frame_low (moment s 0).world.control.frame.index) l.chain in
+      (in_list (moment s 0).world.control.frame.index) l.chain in
       unlinked x.member x.linked
     where
       unlinked : (m : Member) → is_linked (led (opening_world s).driver) m ≡ true → ⊥

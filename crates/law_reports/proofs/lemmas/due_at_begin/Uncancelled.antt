@@ -3,6 +3,8 @@ use Rattle.std.proofs.Common.{◌≡◌, ◌≢◌, ℕ, zero, suc, Bool, true, 
 use Rattle.std.proofs.Common.{refl, sym, subst, ◌∙◌, ⊎_elim, is_none}
 use Rattle.std.proofs.lemmas.Bool.{cases_eq, true≢false}
 use Rattle.std.proofs.lemmas.Option.{same_Some}
+use Rattle.law_common.proofs.Lists.{set_here, set_there}
+use Rattle.law_queues.proofs.Common.{set_which}
 use Rattle.word_mem.specs.Memory.{Mem}
 use Rattle.drv_chains.specs.declared.members.Member.{Member}
 use Rattle.drv_table.specs.declared.content.Endpoint.{Endpoint}
@@ -11,9 +13,7 @@ use Rattle.drv_table.specs.CancelOffers.{endpoint_members, with_cancel, accepted
 use Rattle.drv_table.specs.Commands.{no_command, leave_frames}
 use Rattle.drv_table.specs.DriverContent.{DriverContent}
 use Rattle.law_driver.specs.run_owners.Accepts.{Accepts, opens, chains, places, transfers, describes, cancels, unchains}
-use Rattle.law_driver.proofs.lemmas.run_owners.Released.{set_here, set_there}
 use Rattle.law_footprints.specs.Changes.{EndpointChange, off_ring, off_frames, let_go, over, onward, EndpointsStep, same, one}
-use Rattle.law_queues.proofs.lemmas.harvest_laws.Opening.{set_which}
 
 -- ---- of two lists of endpoints
 

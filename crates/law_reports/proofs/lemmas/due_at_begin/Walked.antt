@@ -4,6 +4,8 @@ use Rattle.std.proofs.Common.{◌≡◌, ◌≢◌, ℕ, ◌*◌, Bool, true, fa
 use Rattle.std.proofs.Common.{◌∙◌, inr}
 use Rattle.std.specs.Prelude.{◌&&◌, not}
 use Rattle.std.proofs.lemmas.Option.{same_Some}
+use Rattle.law_controller.proofs.Common.{ring_off, enter_off}
+use Rattle.law_microframes.proofs.Common.{no_queue_end, no_itd_end, no_sitd_end}
 use Rattle.usb_base.specs.declared.packets.EpKind.TheVariants as kinds
 use Rattle.usb_base.specs.declared.packets.EpKind.TheVariants.{Interrupt}
 use Rattle.usb_base.specs.declared.packets.Speed.TheVariants.{High}
@@ -17,8 +19,6 @@ use Rattle.link_words.specs.declared.kinds.QtdLink.TheVariants as qtd_links
 use Rattle.link_words.specs.Links.{qtd_link_of}
 use Rattle.qh_qtd.specs.declared.qtd.Qtd.{Qtd}
 use Rattle.qh_qtd.specs.declared.queue_head.Qh.{Qh}
-use Rattle.itd_sitd.specs.declared.itd.Itd.{Itd}
-use Rattle.itd_sitd.specs.declared.sitd.Sitd.{Sitd}
 use Rattle.mem_queues.specs.Structures.{qtd_at_address, queue_head_at_address}
 use Rattle.mem_descriptors.specs.Descriptors.{itd_at_address, sitd_at_address}
 use Rattle.bandwidth.specs.declared.placements.Placement.{Placement}
@@ -30,14 +30,14 @@ use Rattle.async_walk.specs.declared.state.WalkStep.TheVariants as steps
 use Rattle.periodic_walk.specs.declared.chain.ChainRow.{ChainRow}
 use Rattle.periodic_walk.specs.declared.chain.ChainRow.TheVariants as chains
 use Rattle.periodic_walk.specs.declared.state.Hand.{Hand}
-use Rattle.periodic_walk.specs.Chain.{chain_row, chain_step, chain_walk, queue_fetch, itd_fetch, sitd_fetch}
+use Rattle.periodic_walk.specs.Chain.{chain_row, chain_step, chain_walk}
 use Rattle.periodic_walk.specs.Place.{FramePlace, HasEffect}
 use Rattle.periodic_walk.specs.Rows.{step_at, step_of, effect_at}
 use Rattle.periodic_walk.specs.Walk.{Walk, held_address, is_over, over_at}
 use Rattle.hc_core.specs.declared.controller.ControllerRow.TheVariants as rows
 use Rattle.hc_core.specs.declared.controller.MicroframePart.{MicroframePart}
 use Rattle.hc_core.specs.declared.controller.MicroframePart.TheVariants.{Over, Periodic, Asynchronous}
-use Rattle.hc_core.specs.Controller.{enter_row, ring_row, part_row, part_after, frame_place}
+use Rattle.hc_core.specs.Controller.{enter_row, part_row, part_after, frame_place}
 use Rattle.op_registers.specs.RegisterFile.{RegisterFile}
 use Rattle.bus_wire.specs.Bus.{Bus, Fixed, transact_after}
 use Rattle.claims_base.specs.Controller.{opening_base}
@@ -75,14 +75,6 @@ use Rattle.law_reports.proofs.lemmas.due_at_begin.Reached.{its_kind}
 
 -- ---- the walk isn't over
 
-enter_off : (b : Bool) → enter_row b ≡ rows.Frame → ⊥
-enter_off true is = cc is
-enter_off false is = cc is
-
-ring_off : (b : Bool) → ring_row b ≡ rows.Frame → ⊥
-ring_off true is = cc is
-ring_off false is = cc is
-
 goes_by : (on over b : Bool) → (if on && not over then rows.Frame else enter_row b) ≡ rows.Frame → over ≡ false
 goes_by true true b is = absurd (enter_off b is)
 goes_by true false b is = refl
@@ -99,18 +91,6 @@ pub not_over : (w : World) → controller_row w ≡ rows.Frame → is_over w.con
 not_over w row = part_goes w.registers.run w.registers w.control.frame w.control.part row
 
 -- ---- the chain ends where its cursor does
-
-no_queue_end : (a : ℕ) (o : Option Qh) → queue_fetch a o ≡ chains.Ends → ⊥
-no_queue_end a None is = cc
-no_queue_end a (Some q) is = cc
-
-no_itd_end : (a : ℕ) (o : Option Itd) → itd_fetch a o ≡ chains.Ends → ⊥
-no_itd_end a None is = cc
-no_itd_end a (Some v) is = cc
-
-no_sitd_end : (a : ℕ) (o : Option Sitd) → sitd_fetch a o ≡ chains.Ends → ⊥
-no_sitd_end a None is = cc
-no_sitd_end a (Some v) is = cc
 
 ends_over : (m : Mem) (l : Link) → chain_row m l ≡ chains.Ends → over_at None l ≡ true
 ends_over m links.End is = refl

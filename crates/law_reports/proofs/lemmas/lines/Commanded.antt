@@ -1,11 +1,13 @@
 -- A command, accepted or refused, tells the same of each queue: nothing was moved of a new one, and an isochronous endpoint has none.
 use Rattle.std.proofs.Common.{◌≡◌, ◌≢◌, ℕ, ◌-◌, ◌*◌, true, false, List, [], ◌∷◌, length, take, drop, slice_get}
-use Rattle.std.proofs.Common.{get_or, Option, Some, None, Ok, option_map, ap, refl, sym, ◌∙◌, ⊎_elim, arith}
+use Rattle.std.proofs.Common.{get_or, Some, None, Ok, option_map, ap, refl, sym, ◌∙◌, ⊎_elim, arith}
 use Rattle.std.specs.Prelude.{◌||◌, slice_index}
+use Rattle.law_world.proofs.Common.{same_queue, none_some}
+use Rattle.law_common.proofs.Lists.{drop_first, push_which}
+use Rattle.law_queues.proofs.Common.{set_which}
 use Rattle.usb_base.specs.declared.commands.Cmd.{Cmd}
 use Rattle.usb_base.specs.declared.endpoints.EpDesc.{EpDesc}
 use Rattle.mem_runs.specs.Book.{holding}
-use Rattle.drv_table.specs.declared.content.Command.{Command}
 use Rattle.drv_table.specs.declared.content.Command.TheVariants as unfinished
 use Rattle.drv_table.specs.declared.content.Endpoint.{Endpoint}
 use Rattle.drv_table.specs.DriverContent.{DriverContent}
@@ -17,7 +19,7 @@ use Rattle.claims_report.specs.Streams.{has_stream}
 use Rattle.law_driver.specs.run_owners.Accepts.{Transfers}
 use Rattle.law_driver.proofs.lemmas.run_owners.Runs.{placed_run}
 use Rattle.law_driver.proofs.lemmas.run_owners.Taking.{runs_taken}
-use Rattle.law_driver.proofs.lemmas.run_owners.Accepted.{drop_first, fresh_differs}
+use Rattle.law_driver.proofs.lemmas.run_owners.Accepted.{fresh_differs}
 use Rattle.law_driver.specs.chained_transfers.Asynchronous.{IsRequested}
 use Rattle.law_driver.specs.chained_transfers.Accepted.{IsAsked}
 use Rattle.law_driver.specs.queued_drivers.Queued.{queued}
@@ -29,7 +31,6 @@ use Rattle.law_queues.specs.harvest_laws.Told.{ToldStands}
 use Rattle.law_queues.specs.leaving_drivers.Before.{IsAsBefore}
 use Rattle.law_queues.proofs.lemmas.fed_lends.Fed.{bare_is}
 use Rattle.law_queues.proofs.lemmas.harvest_laws.Commanding.{opened_is_told, asked_is_told, requested_is_told}
-use Rattle.law_queues.proofs.lemmas.harvest_laws.Opening.{push_which, set_which}
 use Rattle.law_queues.proofs.lemmas.harvest_laws.Standing.{alike_is_told}
 use Rattle.law_world.specs.streams.Feeding.{there_of}
 use Rattle.law_world.proofs.lemmas.streams.There.{there_now}
@@ -37,7 +38,6 @@ use Rattle.law_world.proofs.lemmas.streams.Told.{HasBulkThere, there_by, bulk_th
 use Rattle.law_world.proofs.lemmas.streams.lemmas.left_reports.Before.{leaves_are_told}
 use Rattle.law_world.specs.memory.Mixed.{Standing}
 use Rattle.law_world.proofs.lemmas.memory.CommandShared.{IsAccepted, place, idle_queues, owners}
-use Rattle.law_world.proofs.lemmas.memory.Unfinished.{none_unfinished}
 use Rattle.bus_world.specs.World.{World, name_in, commanded_by}
 use Rattle.law_reports.specs.lines.Lined.{in_hand, Lines, IsTelling}
 use Rattle.law_reports.proofs.lemmas.lines.Heads.{before_there}
@@ -68,7 +68,7 @@ there_idle d f idle was n on =
         endpoint = v.endpoint;
         here = v.here;
         there = record {
-          linked = λ is. none_unfinished (unfinished.Open v.endpoint.queue) (sym idle ∙ is);
+          linked = λ is. none_some (unfinished.Open v.endpoint.queue) (sym idle ∙ is);
           kept = sym v.gone
               ∙ b.has.there.kept;
         };
@@ -95,11 +95,6 @@ periodic_told c g hand parts reported k told =
 
 periodic_there : (c g : DriverContent) → QueuesAlike c g → (n : ℕ) → there_of c n ≡ true → there_of g n ≡ true
 periodic_there c g k n on = sym (ap (λ (f : DriverContent). there_of f n) k) ∙ on
-
--- ---- the runs of a new queue head are new
-
-same_queue : (b c : ℕ) → ◌≡◌ {A = Option Command} (Some (unfinished.Open b)) (Some (unfinished.Open c)) → b ≡ c
-same_queue b c same = cc
 
 -- ---- an accepted command
 

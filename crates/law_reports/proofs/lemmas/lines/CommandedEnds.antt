@@ -1,9 +1,11 @@
 -- A command of an isochronous endpoint tells the same of each queue: it is told as one that was given back, and so are its descriptors.
-use Rattle.std.proofs.Common.{◌≡◌, ◌≢◌, ℕ, zero, suc, ◌*◌, Bool, true, false, cond, List, [], ◌∷◌, ◌++◌, length, slice_get}
+use Rattle.std.proofs.Common.{◌≡◌, ◌≢◌, ℕ, ◌*◌, Bool, true, false, cond, List, [], ◌∷◌, ◌++◌, length, slice_get}
 use Rattle.std.proofs.Common.{Option, Some, None, Ok, option_map, ap, refl, sym, subst, ◌∙◌, ⊎_elim, arith}
 use Rattle.std.specs.Prelude.{◌⊎◌, ◌==◌}
 use Rattle.std.proofs.lemmas.Bool.{eq-eqb, false≢true}
 use Rattle.std.proofs.lemmas.Option.{same_Some, slice_get_within, slice_get_past}
+use Rattle.law_common.proofs.Lists.{pushed_beside, pushed_last, push_which, push_there, all_more, still_there}
+use Rattle.law_world.proofs.Common.{none_some as none_unfinished}
 use Rattle.usb_base.specs.declared.commands.Cmd.{Cmd}
 use Rattle.usb_base.specs.declared.endpoints.EpDesc.{EpDesc}
 use Rattle.usb_base.specs.declared.endpoints.EpName.{EpName}
@@ -19,7 +21,6 @@ use Rattle.drv_table.specs.Offers.{placed_endpoint}
 use Rattle.drv_table.specs.declared.content.Reserve.{Reserve}
 use Rattle.law_driver.specs.run_owners.Accepts.{Places}
 use Rattle.law_driver.proofs.lemmas.run_owners.Released.{same_by_test}
-use Rattle.law_driver.proofs.lemmas.chained_transfers.Chained.{pushed_last}
 use Rattle.law_driver.specs.chained_transfers.Turns.{Turn, turn_of, turn_in, IsNext, AreReportedTo, AreInTurn}
 use Rattle.law_driver.specs.endpoint_lives.Lives.{told_end}
 use Rattle.law_driver.specs.queued_drivers.Queued.{without_queue, queued}
@@ -32,16 +33,12 @@ use Rattle.law_ring.specs.Hand.{Hand}
 use Rattle.law_queues.specs.harvest_laws.Holds.{IsUnderWay, HoldsEach}
 use Rattle.law_queues.specs.harvest_laws.Told.{ToldStands}
 use Rattle.law_queues.proofs.lemmas.harvest_laws.Commanding.{none_passes, named_there, tells_like}
-use Rattle.law_queues.proofs.lemmas.harvest_laws.Opening.{push_which}
-use Rattle.law_queues.proofs.lemmas.mended_heads.Content.{pushed, all_on}
 use Rattle.law_queues.proofs.lemmas.told_endpoints.Names.{driver_name}
 use Rattle.law_queues.proofs.lemmas.told_endpoints.Tellings.{endpoint_more}
 use Rattle.law_queues.proofs.lemmas.harvest_laws.Standing.{alike_is_told}
-use Rattle.law_world.proofs.lemmas.memory.lemmas.owned_blocks.Taken.{pushed_there}
 use Rattle.law_world.specs.memory.Mixed.{Standing}
 use Rattle.law_world.proofs.lemmas.memory.CommandShared.{IsAccepted, idle_queues}
 use Rattle.law_world.proofs.lemmas.memory.CommandWider.{AreReleased, held_before}
-use Rattle.law_world.proofs.lemmas.memory.Unfinished.{none_unfinished}
 use Rattle.bus_world.specs.World.{World, name_in, commanded_by}
 use Rattle.law_reports.specs.lines.Lined.{in_hand, Lines, IsTelling}
 use Rattle.law_reports.proofs.lemmas.lines.Commanded.{Was, itself, there_idle, telling_of}
@@ -50,12 +47,6 @@ use Rattle.law_reports.proofs.lemmas.lines.Commanded.{Was, itself, there_idle, t
 
 abbrev with_gone : DriverContent → Endpoint → Reserve → DriverContent
 with_gone d x room = record d { endpoints = d.endpoints ++ x ∷ []; room = room }
-
-push_beside : {X : Type 0} (xs : List X) (x : X) (e : ℕ) → e ≢ length xs → slice_get (xs ++ x ∷ []) e ≡ slice_get xs e
-push_beside [] x zero differs = absurd (differs refl)
-push_beside [] x (suc e) differs = refl
-push_beside (y ∷ ys) x zero differs = refl
-push_beside (y ∷ ys) x (suc e) differs = push_beside ys x e (λ is. differs (ap suc is))
 
 module _ (d : DriverContent) (x : Endpoint) (room : Reserve) (gone : x.gone ≡ true) (idle : d.command ≡ None) where
   abbrev none_at : (lists : ℕ → List ℕ) → ℕ → List ℕ
@@ -100,7 +91,7 @@ module _ (d : DriverContent) (x : Endpoint) (room : Reserve) (gone : x.gone ≡ 
         ⊎_elim (λ (was : slice_get d.endpoints e ≡ Some z). beside held e z was ∙ k.none e z was ends on)
         (λ (own : (e ≡ length d.endpoints) × (z ≡ x)). ap (none_at held) own.0 ∙ none_here held) (which e z here);
     to_come = λ t y there waits kept other. k.to_come t y there waits kept
-        (λ z here is. other z (pushed d.endpoints x y.endpoint z here) is);
+        (λ z here is. other z (push_there d.endpoints x y.endpoint z here) is);
     within = k.within;
   }
     where
@@ -118,7 +109,7 @@ module _ (d : DriverContent) (x : Endpoint) (room : Reserve) (gone : x.gone ≡ 
         (length d.endpoints) (named_of x) (ap (option_map named_of) (slice_get_past d.endpoints (length d.endpoints) (omega arith)))
         (record {
           here = ap (option_map named_of) (pushed_last d.endpoints x);
-          beside = λ e differs. ap (option_map named_of) (push_beside d.endpoints x e differs);
+          beside = λ e differs. ap (option_map named_of) (pushed_beside d.endpoints x e differs);
         })
         others (none_here k.held) (none_here k.told)
         (tells_like d.reports d.store (named_in d.endpoints) k.held (none_at k.held) k.told (none_at k.told)
@@ -159,7 +150,7 @@ module _ (d : DriverContent) (book : Book) (ys : List Transfer) (room : Reserve)
           endpoint = n.endpoint;
           going = n.going;
           next = n.next;
-          transfer = u.1 ∙ ap Some (same_Some u.0 y (sym (pushed_there d.transfers ys t u.0 u.1) ∙ n.transfer));
+          transfer = u.1 ∙ ap Some (same_Some u.0 y (sym (still_there d.transfers ys t u.0 u.1) ∙ n.transfer));
         }) on;
     none = k.none;
     to_come = λ t y there waits kept other. k.to_come t y (held_before d.transfers ys all t y there kept) waits kept other;
@@ -210,7 +201,7 @@ module _ (s : Standing) (m : Lines) (w : World) (line : ℕ) (cmd : Cmd) (o : Of
     pub taken_telling : AreEndsTaken w.driver w.memory o → IsTelling s m (commanded_by w line (name_in cmd) (Ok o))
     taken_telling k =
         let all : AreReleased k.given =
-        all_on (IsGivenBackOf w.driver k.number) (λ (y : Transfer). y.released ≡ true) k.given (λ y is. is.released) k.each in
+        all_more (IsGivenBackOf w.driver k.number) (λ (y : Transfer). y.released ≡ true) k.given (λ y is. is.released) k.each in
         telling_of s m w line cmd o a g (with_given d o.driver.book k.given o.driver.room) k.alike
         (given_told d o.driver.book k.given o.driver.room all (has_nexts d a.mixed.turns.turns.turns) (in_hand s) s.parts m.reported g.told)
         (there_idle d (with_given d o.driver.book k.given o.driver.room) (idle_queues s w line cmd o a)

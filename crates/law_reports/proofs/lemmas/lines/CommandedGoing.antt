@@ -2,6 +2,8 @@
 use Rattle.std.proofs.Common.{◌≡◌, ◌≢◌, ℕ, Bool, true, false, List, [], ◌∷◌, ◌++◌, length, set, slice_get}
 use Rattle.std.proofs.Common.{Some, None, Result, Ok, Err, ap, refl, sym, subst, ◌∙◌, ⊎_elim}
 use Rattle.std.specs.Prelude.{◌&&◌, not}
+use Rattle.law_common.proofs.Lists.{push_which}
+use Rattle.law_queues.proofs.Common.{set_which}
 use Rattle.usb_base.specs.declared.commands.Cmd.{Cmd}
 use Rattle.usb_base.specs.declared.endpoints.EpDesc.{EpDesc}
 use Rattle.usb_base.specs.declared.endpoints.EpName.{EpName}
@@ -23,7 +25,6 @@ use Rattle.law_structures.specs.lent_structures.Structures.{StructureSets}
 use Rattle.law_ring.specs.Hand.{Hand}
 use Rattle.law_queues.specs.told_endpoints.Telling.{lines_in, has_end}
 use Rattle.law_queues.specs.harvest_laws.Told.{ToldStands}
-use Rattle.law_queues.proofs.lemmas.harvest_laws.Opening.{push_which, set_which}
 use Rattle.law_queues.proofs.lemmas.told_endpoints.Lines.{line_of_other}
 use Rattle.bus_world.specs.World.{World, refused_line, commanded_by}
 use Rattle.law_reports.specs.lines.Lined.{AreIsoGoing}

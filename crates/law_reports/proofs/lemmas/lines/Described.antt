@@ -1,6 +1,7 @@
 -- What is found of a descriptor that waits for its harvest: it isn't served yet, or it is (EHCI 1.0, 3.3.2 and 3.4.3).
 use Rattle.std.proofs.Common.{◌≡◌, ℕ, Bool, true, false, cond, slice_get, Option, Some, ap, refl, sym, ◌∙◌}
 use Rattle.std.proofs.lemmas.Bool.{false≢true}
+use Rattle.law_telling.proofs.Common.{none_ended}
 use Rattle.usb_base.specs.declared.reports.What.{What}
 use Rattle.word_mem.specs.Memory.{Mem}
 use Rattle.claims_driver.specs.Owners.{is_descriptor}
@@ -29,10 +30,6 @@ found_as d m y sorts.Request is = absurd (false≢true is)
 none_moved : (b : Bool) (n k : ℕ) → cond b (founds.Served n) founds.Active ≡ founds.Moved k → ⊥
 none_moved true n k is = cc
 none_moved false n k is = cc
-
-none_ended : (b : Bool) (n k : ℕ) (what : What) → cond b (founds.Served n) founds.Active ≡ founds.Ended k what → ⊥
-none_ended true n k what is = cc
-none_ended false n k what is = cc
 
 module _ (p : Parts) (e t : ℕ) (found : Found) (due : IsHarvestDue p e t found) where
   pub read_is : (z : Found) → found ≡ z

@@ -1,5 +1,6 @@
 -- Each event of the driver tells the same of each queue, but a harvest, which tells more, and an open, which tells of a new one.
 use Rattle.std.proofs.Common.{◌≡◌, ◌≢◌, ℕ, Some, None, ap, refl, sym, subst, ◌∙◌}
+use Rattle.law_world.proofs.Common.{none_some}
 use Rattle.drv_table.specs.declared.content.Command.TheVariants as unfinished
 use Rattle.drv_table.specs.Rows.{driver_row}
 use Rattle.law_driver.proofs.lemmas.run_owners.Reasons.{each_event_is_due}
@@ -8,7 +9,6 @@ use Rattle.law_driver.specs.queued_drivers.Rows.{TellsAlike}
 use Rattle.law_world.specs.memory.Mixed.{Standing, IsMixedAt}
 use Rattle.law_world.specs.memory.Steps.{AreStill, HasNoStep, left_alike, left_by_frames, left_by_bell, left_by_status, left_by_command}
 use Rattle.law_world.specs.memory.Steps.{QueueStep, stays, harvests, returns, lends, stores, mends, begins, opens, unlinks, narrows, goes}
-use Rattle.law_world.proofs.lemmas.memory.Unfinished.{none_unfinished}
 use Rattle.bus_world.specs.World.{World, driver_parts, driver_next}
 use Rattle.law_reports.specs.lines.Lined.{in_hand, Lines, IsTelling, AreIsoGoing}
 use Rattle.law_reports.specs.lines.TellingLaws.{IsTellingNext, DriverKeepsTelling, RowsKeepIsoGoing}
@@ -31,7 +31,7 @@ same_report : (w : World) (q : ℕ) → (queued w.driver).command ≡ Some (unfi
 same_report w q opening =
     let p = driver_parts w in
     let busy : w.driver.command ≢ None =
-    λ idle. none_unfinished (unfinished.Open q) (sym (ap (queued_command w.driver.endpoints) idle) ∙ opening) in
+    λ idle. none_some (unfinished.Open q) (sym (ap (queued_command w.driver.endpoints) idle) ∙ opening) in
     let tells = busy_tells (driver_row (driver_parts w)) p (each_event_is_due p) busy in
     record { reports = tells.reports; store = tells.store }
 

@@ -4,9 +4,10 @@ use Rattle.std.specs.Prelude.{◌&&◌, not, if◌then◌else◌, is_some, is_no
 use Rattle.std.specs.List.{list_any}
 use Rattle.std.proofs.lemmas.Bool.{cases_Bool, false≢true}
 use Rattle.std.proofs.lemmas.Option.{slice_get-map, same_Some}
+use Rattle.law_reports.proofs.Common.{one_way}
+use Rattle.law_driver.proofs.Common.{get_queued}
 use Rattle.usb_base.specs.declared.endpoints.EndCause.{EndCause}
 use Rattle.usb_base.specs.declared.endpoints.EpName.{EpName}
-use Rattle.usb_base.specs.declared.packets.Way.{Way}
 use Rattle.usb_base.specs.declared.packets.Way.TheVariants as ways
 use Rattle.usb_base.specs.declared.reports.Report.{Report}
 use Rattle.bus_wire.specs.Bus.{Fixed, fixed_of}
@@ -21,7 +22,7 @@ use Rattle.drv_table.specs.Kinds.{is_iso}
 use Rattle.law_driver.specs.endpoint_lives.Lives.{told_end}
 use Rattle.law_driver.proofs.lemmas.endpoint_lives.Lives.{told_some}
 use Rattle.law_driver.specs.queued_drivers.Queued.{queued_kind, with_queue, without_queue, queued_endpoint, queued}
-use Rattle.law_driver.proofs.lemmas.queued_drivers.CommandFields.{name_same, get_queued}
+use Rattle.law_driver.proofs.lemmas.queued_drivers.CommandFields.{name_same}
 use Rattle.law_queues.specs.told_endpoints.Telling.{Named, named_of, named_in, lines_in, has_end, IsToldTo}
 use Rattle.law_queues.proofs.lemmas.told_endpoints.Lines.{once_without}
 use Rattle.law_world.proofs.lemmas.streams.lemmas.right_reports.Named.{HasNamed, NoneNamed, search, named_is, none_pending}
@@ -31,11 +32,6 @@ use Rattle.law_reports.specs.lines.Lined.{in_hand}
 use Rattle.law_reports.specs.lines.TellingLaws.{IsToldWorld, ScriptsEndOnce, TextsEndOnce}
 use Rattle.law_reports.proofs.lemmas.lines.IsoGoing.{told_apart}
 use Rattle.law_reports.proofs.lemmas.lines.Telling.{scripts_are_told, texts_are_told}
-
--- as its queues tell it, an endpoint whose data go one way has a stream
-one_way : (way : Way) → way ≢ ways.Ctl → has_stream (queued_kind way) ≡ true
-one_way ways.Ctl other = absurd (other refl)
-one_way _ other = refl
 
 queued_way : (x : Endpoint) (b : Bool) → is_iso x.desc.kind ≡ b → (queued_endpoint x).desc.kind ≡ queued_kind x.desc.name.way
 queued_way x true is = ap (λ (b : Bool). (if b then without_queue x else with_queue x).desc.kind) is

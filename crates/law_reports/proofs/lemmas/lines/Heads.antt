@@ -1,27 +1,23 @@
 -- The queue heads whose bytes are counted, by the content of the driver.
-use Rattle.std.proofs.Common.{◌≡◌, ℕ, ◌*◌, true, false, slice_get, Option, Some, ap, refl, sym, subst, ◌∙◌}
+use Rattle.std.proofs.Common.{◌≡◌, ℕ, ◌*◌, true, false, slice_get, Option, Some, ap, sym, subst, ◌∙◌}
 use Rattle.std.proofs.lemmas.Bool.{false≢true}
 use Rattle.std.proofs.lemmas.Option.{same_Some}
+use Rattle.law_common.proofs.Numbers.{same_blocks}
+use Rattle.law_world.proofs.Common.{no_control}
 use Rattle.usb_base.specs.declared.endpoints.EpDesc.{EpDesc}
-use Rattle.usb_base.specs.declared.packets.EpKind.{EpKind}
-use Rattle.usb_base.specs.declared.packets.EpKind.TheVariants as kinds
-use Rattle.usb_base.specs.declared.packets.Way.{Way}
-use Rattle.usb_base.specs.declared.packets.Way.TheVariants as ways
 use Rattle.drv_table.specs.declared.content.Command.{Command}
 use Rattle.drv_table.specs.declared.content.Command.TheVariants as unfinished
 use Rattle.drv_table.specs.declared.content.Endpoint.{Endpoint}
 use Rattle.drv_table.specs.DriverContent.{DriverContent}
-use Rattle.drv_table.specs.Kinds.{is_iso}
 use Rattle.drv_table.specs.Words.{is_control}
 use Rattle.claims_driver.specs.Leaving.{HasOwners}
 use Rattle.claims_report.specs.Streams.{has_stream}
 use Rattle.law_driver.specs.chained_transfers.Asynchronous.{OnlyAsynchronous}
-use Rattle.law_driver.specs.queued_drivers.Queued.{queued_kind, IsOfWay}
 use Rattle.law_driver_ring.specs.fed_queues.Places.{IsThere}
-use Rattle.law_queues.proofs.lemmas.publish_laws.Apart.{queue_placed, queues_same, thirty_two}
+use Rattle.law_queues.proofs.lemmas.publish_laws.Apart.{queue_placed, queues_same}
 use Rattle.law_queues.specs.leaving_drivers.Before.{WasSame, UnlinksAtMost, IsAsBefore}
 use Rattle.law_world.specs.streams.Feeding.{there_of}
-use Rattle.law_world.proofs.lemmas.streams.Told.{HasBulkThere, there_by, bulk_there, control_stream}
+use Rattle.law_world.proofs.lemmas.streams.Told.{HasBulkThere, there_by, bulk_there}
 
 -- ---- one queue head is that of one endpoint
 
@@ -35,7 +31,7 @@ pub there_one : (d : DriverContent) (e : ℕ) (x : Endpoint) → HasOwners d →
 there_one d e x owners only here kept on =
     let b : HasBulkThere d (32 * x.queue) = bulk_there d (32 * x.queue) on in
     let same : e ≡ b.has.number =
-    queues_same x.queue b.has.endpoint.queue e b.has.number (thirty_two x.queue b.has.endpoint.queue b.has.at)
+    queues_same x.queue b.has.endpoint.queue e b.has.number (same_blocks x.queue b.has.endpoint.queue b.has.at)
     (queue_placed d owners e x here (only.endpoints e x here) kept)
     (queue_placed d owners b.has.number b.has.endpoint b.has.here (only.endpoints b.has.number b.has.endpoint b.has.here) b.has.there.kept)
     in
@@ -47,7 +43,7 @@ pub there_alone : (d : DriverContent) (e : ℕ) (x : Endpoint) → HasOwners d �
     → x.gone ≡ false
     → is_control x.desc.kind ≡ true → there_of d (32 * x.queue) ≡ true → ⊥
 there_alone d e x owners only here kept control on =
-    false≢true (sym (control_stream x.desc.kind (there_one d e x owners only here kept on).stream) ∙ control)
+    false≢true (sym (no_control x.desc.kind (there_one d e x owners only here kept on).stream) ∙ control)
 
 -- nor is that of one that is being opened
 pub there_opened : (d : DriverContent) (e : ℕ) (x : Endpoint) → HasOwners d → OnlyAsynchronous d → slice_get d.endpoints e ≡ Some x
@@ -76,23 +72,10 @@ before_there d f n k on =
       stream = ap (λ (c : EpDesc). has_stream c.kind) (sym v.desc) ∙ b.stream;
     })
 
--- ---- a control endpoint is told as one
-
-pub control_told : (way : Way) (kind : EpKind) → IsOfWay way kind → is_control kind ≡ true → is_control (queued_kind way) ≡ true
-control_told ways.Ctl kind fits on = refl
-control_told ways.In kinds.Control fits on = absurd fits
-control_told ways.In _ fits on = absurd (false≢true on)
-control_told ways.Out kinds.Control fits on = absurd fits
-control_told ways.Out _ fits on = absurd (false≢true on)
-
-pub control_queue : (kind : EpKind) → is_control kind ≡ true → is_iso kind ≡ false
-control_queue kinds.Control on = refl
-control_queue _ on = absurd (false≢true on)
-
 -- ---- while one is opened
 
 -- its queue head is none of those
 pub opening_uncounted : (d : DriverContent) (q : ℕ) → d.command ≡ Some (unfinished.Open q) → there_of d (32 * q) ≡ true → ⊥
 opening_uncounted d q opens on =
     let b : HasBulkThere d (32 * q) = bulk_there d (32 * q) on in
-    b.has.there.linked (opens ∙ ap (λ (c : ℕ). Some (unfinished.Open c)) (thirty_two q b.has.endpoint.queue b.has.at))
+    b.has.there.linked (opens ∙ ap (λ (c : ℕ). Some (unfinished.Open c)) (same_blocks q b.has.endpoint.queue b.has.at))

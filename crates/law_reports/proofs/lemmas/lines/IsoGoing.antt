@@ -4,6 +4,10 @@ use Rattle.std.proofs.Common.{Option, Some, None, option_map, ap, refl, sym, sub
 use Rattle.std.specs.List.{AllByRecursion}
 use Rattle.std.proofs.lemmas.Bool.{cases_eq, cases_Bool, false≢true}
 use Rattle.std.proofs.lemmas.Option.{same_Some}
+use Rattle.law_queues.proofs.Common2.{not_same}
+use Rattle.law_driver.proofs.Common.{get_queued}
+use Rattle.law_common.proofs.Lists.{set_here}
+use Rattle.law_queues.proofs.Common.{set_which}
 use Rattle.usb_base.specs.declared.endpoints.EpDesc.{EpDesc}
 use Rattle.usb_base.specs.declared.endpoints.EpName.{EpName}
 use Rattle.usb_base.specs.declared.reports.Report.{Report}
@@ -34,15 +38,13 @@ use Rattle.law_footprints.proofs.Fields.{reports_stays}
 use Rattle.law_driver.specs.run_owners.Due.{IsHarvestDue, IsDue}
 use Rattle.law_driver.specs.queued_drivers.Queued.{queued_endpoint, queued, queued_parts, QueuesTakeTurns}
 use Rattle.law_driver.specs.queued_drivers.Rows.{IsToldAlike}
-use Rattle.law_driver.proofs.lemmas.queued_drivers.CommandFields.{name_same, get_queued}
+use Rattle.law_driver.proofs.lemmas.queued_drivers.CommandFields.{name_same}
 use Rattle.law_driver.proofs.lemmas.queued_drivers.RowEvents.{row_told}
 use Rattle.law_driver.proofs.lemmas.run_owners.Harvest.{waits_is}
-use Rattle.law_driver.proofs.lemmas.run_owners.Released.{set_here}
 use Rattle.law_structures.specs.lent_structures.Structures.{StructureSets}
 use Rattle.law_ring.specs.Hand.{Hand}
 use Rattle.law_queues.specs.told_endpoints.Telling.{named_of, lines_in, has_end}
 use Rattle.law_queues.specs.harvest_laws.Told.{ToldStands}
-use Rattle.law_queues.proofs.lemmas.harvest_laws.Opening.{set_which}
 use Rattle.law_queues.proofs.lemmas.leaving_drivers.Reading.{read_row}
 use Rattle.law_queues.proofs.lemmas.leaving_drivers.Telling.{lines_not}
 use Rattle.law_queues.proofs.lemmas.told_endpoints.Lines.{none_then, line_of_it}
@@ -100,10 +102,6 @@ iso_still d f going reports step e y here iso kept =
     ∙ ap (λ (ls : List Report). has_end (lines_in v.endpoint.desc.name ls)) reports
     ∙ going e v.endpoint v.here (sym (ap (λ (c : EpDesc). is_iso c.kind) v.desc) ∙ iso) v.alive
 
-unlike : (a b : EpName) (c : Bool) → is_same_name a b ≡ c → (is_same_name a b ≡ true → ⊥) → c ≡ false
-unlike a b true is never = absurd (never is)
-unlike a b false is never = refl
-
 module _ (d f : DriverContent) (going : AreIsoGoing d) (apart : AreApart d) (step : EndpointsStep d.endpoints f.endpoints) (e : ℕ)
     (x : Endpoint)
     (here : slice_get d.endpoints e ≡ Some x) where
@@ -113,7 +111,7 @@ module _ (d f : DriverContent) (going : AreIsoGoing d) (apart : AreApart d) (ste
   beside_goes more reports named i y differs there iso kept =
       let v = was_alive d.endpoints f.endpoints step i y there kept in
       let other : is_same_name x.desc.name v.endpoint.desc.name ≡ false =
-      unlike x.desc.name v.endpoint.desc.name (is_same_name x.desc.name v.endpoint.desc.name) refl
+      not_same x.desc.name v.endpoint.desc.name (is_same_name x.desc.name v.endpoint.desc.name) refl
       (λ alike. differs (sym (apart e i x v.endpoint here v.here alike))) in
       ap (λ (c : EpDesc). has_end (lines_in c.name f.reports)) v.desc
       ∙ ap (λ (ls : List Report). has_end (lines_in v.endpoint.desc.name ls)) reports

@@ -2,6 +2,8 @@
 use Rattle.std.proofs.Common.{◌≡◌, ◌≢◌, ℕ, ◌*◌, true, List, length, slice_get, Some, ap, refl, sym, subst, ◌∙◌, ⊎_elim}
 use Rattle.std.proofs.lemmas.Bool.{cases_eq}
 use Rattle.std.proofs.lemmas.Option.{same_Some}
+use Rattle.law_world.proofs.Common.{hand_tells}
+use Rattle.law_controller.proofs.Common.{same_hand as hand_itself}
 use Rattle.link_words.specs.declared.fields.LinkBits.{LinkBits}
 use Rattle.qh_qtd.specs.declared.qtd.Qtd.{Qtd}
 use Rattle.qh_qtd.specs.declared.queue_head.Qh.{Qh}
@@ -20,14 +22,13 @@ use Rattle.law_ring.proofs.SparedSparing.{linked_hand_is_same, accounts_are_spar
 use Rattle.law_frames.specs.FrameHand.{FrameHand, came, Nothing, OfQueue, OfSettled, OfItd, OfSitd}
 use Rattle.law_controller.specs.controlled_streams.Reported.{IsReported}
 use Rattle.law_controller.specs.frame_control.Joined.{joined}
-use Rattle.law_controller.proofs.lemmas.controlled_streams.Storing.{same_hand as hand_itself}
 use Rattle.law_queues.specs.harvest_laws.Told.{ToldStands}
 use Rattle.law_queues.specs.harvest_laws.ToldLaws.{SparesDone}
 use Rattle.law_queues.proofs.lemmas.harvest_laws.Standing.{spared_is_told}
 use Rattle.law_world.specs.memory.SameQueues.{IsRelinked, IsSameQueue}
 use Rattle.law_world.proofs.lemmas.memory.Alike.{same_itself}
 use Rattle.law_world.specs.memory.Mixed.{Standing}
-use Rattle.law_world.specs.memory.Steps.{HandStays, same_hand, linked_hand, FrameStays, same_frame, linked_frame, AreTold}
+use Rattle.law_world.specs.memory.Steps.{FrameStays, same_frame, linked_frame, AreTold}
 use Rattle.law_reports.specs.lines.Lined.{in_hand}
 
 -- ---- what either walk has in hand
@@ -39,10 +40,6 @@ ring_hand hand later (OfQueue c made) k = hand_itself (Copied c)
 ring_hand hand later (OfSettled c z made) k = hand_itself (Settled c (came z))
 ring_hand hand later (OfItd c) k = k
 ring_hand hand later (OfSitd c) k = k
-
-hand_tells : (hand later : Hand) → HandStays hand later → SameHand hand later
-hand_tells hand _ same_hand = hand_itself hand
-hand_tells hand _ (linked_hand n l) = linked_hand_is_same n l hand
 
 linked_tells : (n : ℕ) (frame : FrameHand) (hand later : Hand) (later_frame : FrameHand) → FrameStays frame later_frame
     → SameHand hand later

@@ -1,5 +1,6 @@
 -- Where nothing is told of a queue head, no transaction of it waits for its write-back, whichever walk made it.
 use Rattle.std.proofs.Common.{◌≡◌, ◌≢◌, ℕ, Bool, Option, Some, ap, refl, sym, subst, ◌∙◌, inl}
+use Rattle.law_controller.proofs.Common.{over_not_periodic, asynchronous_not_periodic}
 use Rattle.qh_qtd.specs.declared.queue_head.Qh.{Qh}
 use Rattle.hc_core.specs.declared.controller.MicroframePart.{MicroframePart}
 use Rattle.hc_core.specs.declared.controller.MicroframePart.TheVariants.{Over, Periodic, Asynchronous}
@@ -14,12 +15,6 @@ use Rattle.law_frames.specs.Met.{Kind}
 use Rattle.law_controller.specs.frame_control.Both.{RunsBoth}
 use Rattle.law_controller.specs.frame_control.Joined.{joined}
 use Rattle.law_queues.specs.cancelled_bytes.Cancelled.{SettlesElsewhere}
-
-over_not_periodic : Over ≡ Periodic → ⊥
-over_not_periodic e = cc
-
-asynchronous_not_periodic : Asynchronous ≡ Periodic → ⊥
-asynchronous_not_periodic e = cc
 
 module _ (base : Base) (member : ℕ → Bool) (met : ℕ → Option Kind) (parts : StructureSets) (hand : Hand) (frame : FrameHand) (c : Content)
     (k : RunsBoth base member met parts hand frame c) (n : ℕ) (none : (q : Qh) → parts n n ≡ Some (QueueHead q) → ⊥) where

@@ -1,8 +1,10 @@
 -- Each moment of each script is told: a new world has nothing to tell, and each event and each command leaves it told.
-use Rattle.std.proofs.Common.{◌≡◌, ℕ, zero, suc, true, List, [], ◌∷◌, ◌++◌, slice_get, Some, ap, refl, ◌∙◌}
+use Rattle.std.proofs.Common.{◌≡◌, ℕ, true, List, [], ◌∷◌, ◌++◌, ap, refl, ◌∙◌}
 use Rattle.std.specs.List.{concat}
 use Rattle.std.proofs.lemmas.List.{append-nil}
 use Rattle.std.proofs.lemmas.List.Folds.{concat-append}
+use Rattle.law_common.proofs.Lists.{nothing_at}
+use Rattle.law_world.proofs.Common.{lines_can}
 use Rattle.usb_base.specs.declared.commands.Cmd.{Cmd}
 use Rattle.script_types.specs.declared.scripts.Script.{Script}
 use Rattle.script_fits.proofs.Texts.{spelled_fits}
@@ -33,7 +35,6 @@ use Rattle.law_world.proofs.lemmas.memory.CommandKeeping.{command_keeps_standing
 use Rattle.law_world.proofs.lemmas.memory.Controller.{controller_tells_event}
 use Rattle.law_world.proofs.lemmas.memory.Driving.{driver_tells_step}
 use Rattle.law_world.proofs.lemmas.memory.FittingTexts.{texts_open_fitting}
-use Rattle.law_world.proofs.lemmas.memory.Moments.{lines_can}
 use Rattle.law_world.proofs.lemmas.memory.Opening.{new_world_is_mixed}
 use Rattle.law_world.proofs.lemmas.memory.Texts.{texts_fit}
 use Rattle.law_world.proofs.lemmas.memory.Together.{lines_fit}
@@ -45,10 +46,6 @@ use Rattle.law_reports.proofs.lemmas.lines.Driven.{driver_keeps_telling, rows_ke
 use Rattle.law_reports.proofs.lemmas.lines.ToldEvents.{controller_keeps_telling}
 
 -- ---- before the first line
-
-nothing_at : {X : Type 0} (i : ℕ) (z : X) → slice_get [] i ≡ Some z → ⊥
-nothing_at zero z is = cc
-nothing_at (suc i) z is = cc
 
 abbrev no_lines : Lines
 no_lines = record { acc = λ n. []; reported = λ n. [] }

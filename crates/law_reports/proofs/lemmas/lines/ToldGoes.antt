@@ -4,6 +4,10 @@ use Rattle.std.proofs.Common.{◌≡◌, ◌≢◌, ℕ, ◌*◌, Bool, true, fa
 use Rattle.std.specs.Prelude.{if◌then◌else◌}
 use Rattle.std.proofs.lemmas.Bool.{cases_eq, eq-eqb, false≢true}
 use Rattle.std.proofs.lemmas.Option.{same_Some, slice_get-map}
+use Rattle.law_world.proofs.Common.{no_end, none_some}
+use Rattle.law_common.proofs.Lists.{set_here, set_there}
+use Rattle.law_controller.proofs.Common.{same_hand}
+use Rattle.law_common.proofs.Numbers.{same_blocks}
 use Rattle.qh_qtd.specs.declared.queue_head.Qh.{Qh}
 use Rattle.claims_base.specs.Controller.{opening_base}
 use Rattle.claims_driver.specs.Leaving.{HasOwners}
@@ -20,7 +24,6 @@ use Rattle.drv_table.specs.Parts.{Parts}
 use Rattle.drv_table.specs.Rows.{driver_row, after_driver_row}
 use Rattle.law_structures.specs.lent_structures.Structures.{Structure, Structures, QueueHead, StructureSets}
 use Rattle.law_driver.specs.run_owners.Due.{IsEndpointDue, IsRemovalDue}
-use Rattle.law_driver.proofs.lemmas.run_owners.Released.{set_here, set_there}
 use Rattle.law_driver.specs.chained_transfers.AsynchronousTurns.{AsynchronousTakesTurns}
 use Rattle.law_driver.specs.chained_transfers.Out.{out_now}
 use Rattle.law_driver.proofs.lemmas.chained_transfers.Rows.{set_which}
@@ -34,9 +37,8 @@ use Rattle.law_ring.specs.Hand.{Hand}
 use Rattle.law_ring.specs.QueueParts.{IsQueuePart}
 use Rattle.law_controller.specs.controlled_streams.Reported.{IsReported}
 use Rattle.law_controller.specs.frame_control.Joined.{joined}
-use Rattle.law_controller.proofs.lemmas.controlled_streams.Storing.{same_hand as hand_itself}
 use Rattle.law_driver_ring.specs.fed_queues.Places.{IsThere}
-use Rattle.law_queues.proofs.lemmas.publish_laws.Apart.{queue_placed, queues_same, thirty_two}
+use Rattle.law_queues.proofs.lemmas.publish_laws.Apart.{queue_placed, queues_same}
 use Rattle.law_queues.specs.cancelled_bytes.Cancelled.{SettlesElsewhere}
 use Rattle.law_queues.specs.harvest_laws.Told.{ToldStands}
 use Rattle.law_queues.specs.leaving_drivers.Before.{WasSame, UnlinksAtMost, IsAsBefore}
@@ -59,7 +61,6 @@ use Rattle.law_world.specs.memory.Steps.{told_parts, LeftBy, left_the_ring, left
 use Rattle.law_world.proofs.lemmas.memory.HarvestKept.{owners_of, tells_of, describes}
 use Rattle.law_world.proofs.lemmas.memory.RingBasis.{due_is, queued_next, row_alike}
 use Rattle.law_world.proofs.lemmas.memory.RingReleasing.{other_by, was}
-use Rattle.law_world.proofs.lemmas.memory.Unfinished.{none_unfinished}
 use Rattle.bus_world.specs.World.{World, driver_parts, controller_parts, driver_next}
 use Rattle.law_reports.specs.lines.Lined.{in_hand, Lines, IsTelling}
 use Rattle.law_reports.specs.lines.TellingSteps.{ReleaseTells}
@@ -161,9 +162,6 @@ pub record IsKnown (w : World) (e : ℕ) (x : Endpoint) (d : DriverContent) : Ty
   pub turns : AsynchronousTakesTurns d
   pub tells : TellsAlike (given_by (told_parts w) e d) (queued (driver_next w).driver)
   pub memory : (driver_next w).memory ≡ (after_driver_row (rows.ReleaseEndpoint e) (record (told_parts w) { driver = d })).memory
-
-no_end : (x : Endpoint) → ◌≡◌ {A = Option Endpoint} None (Some x) → ⊥
-no_end x e = cc
 
 module _ (s : Standing) (w : World) (k : IsMixedAt s w) (e : ℕ) (x : Endpoint) where
   no_command : (queued w.driver).command ≡ None → UnlinksAtMost (queued w.driver).command
@@ -275,7 +273,7 @@ module _ (s : Standing) (m : Lines) (w : World) (k : IsMixedAt s w) (g : IsTelli
   what = known s w k e x d b.left b.leaves
 
   there : IsThere d x
-  there = record { linked = λ opens. none_unfinished (unfinished.Open x.queue) (sym what.idle ∙ opens); kept = b.leaves.held }
+  there = record { linked = λ opens. none_some (unfinished.Open x.queue) (sym what.idle ∙ opens); kept = b.leaves.held }
 
   none_there : t.parts (32 * x.queue) (32 * x.queue) ≡ None
   none_there =
@@ -330,7 +328,7 @@ module _ (s : Standing) (m : Lines) (w : World) (k : IsMixedAt s w) (g : IsTelli
       record {
         apart = λ same.
             differs
-            (queues_same h.has.endpoint.queue x.queue h.has.number e (thirty_two h.has.endpoint.queue x.queue (sym h.has.at ∙ same))
+            (queues_same h.has.endpoint.queue x.queue h.has.number e (same_blocks h.has.endpoint.queue x.queue (sym h.has.at ∙ same))
             (queue_placed d what.owners h.has.number h.has.endpoint here
             (what.turns.asynchronous.endpoints h.has.number h.has.endpoint here) h.has.there.kept)
             (queue_placed d what.owners e x b.leaves.here (what.turns.asynchronous.endpoints e x b.leaves.here) b.leaves.held));
@@ -342,7 +340,7 @@ module _ (s : Standing) (m : Lines) (w : World) (k : IsMixedAt s w) (g : IsTelli
                 endpoint = h.has.endpoint;
                 here = here;
                 there = record {
-                  linked = λ opens. none_unfinished (unfinished.Open h.has.endpoint.queue) (sym what.idle ∙ opens);
+                  linked = λ opens. none_some (unfinished.Open h.has.endpoint.queue) (sym what.idle ∙ opens);
                   kept = h.has.there.kept;
                 };
                 at = h.has.at;
@@ -406,7 +404,7 @@ module _ (s : Standing) (m : Lines) (w : World) (k : IsMixedAt s w) (g : IsTelli
         (subst (λ (ps : StructureSets). IsReported (s.order i) (s.out i) (in_hand s) ps i (m.acc i) (m.reported i)) (sym without.parts)
         (relinked_reported s.parts now i (same_at s.parts now i (queue_beside s.parts n i c.apart)) (s.order i) (s.out i) (in_hand s)
         (in_hand s) (m.acc i)
-        (m.reported i) (hand_itself (in_hand s)) (g.moved i c.counted_before)))));
+        (m.reported i) (same_hand (in_hand s)) (g.moved i c.counted_before)))));
     sound = λ i on.
         let c : WasCounted i = was_counted i on in
         subst (λ (ps : StructureSets). IsQueuePart i (ps i)) (sym without.parts)

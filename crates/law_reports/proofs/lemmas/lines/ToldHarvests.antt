@@ -4,6 +4,9 @@ use Rattle.std.specs.Prelude.{◌==◌, ◌||◌, if◌then◌else◌}
 use Rattle.std.proofs.lemmas.Bool.{cases_eq, eq-eqb}
 use Rattle.std.proofs.lemmas.List.{append-nil}
 use Rattle.std.proofs.lemmas.Option.{same_Some}
+use Rattle.law_common.proofs.Numbers.{other_number}
+use Rattle.law_queues.proofs.Common.{bulk_unstalled}
+use Rattle.law_world.proofs.Common.{control_kind, none_some}
 use Rattle.usb_base.specs.declared.endpoints.EpDesc.{EpDesc}
 use Rattle.usb_base.specs.declared.packets.EpKind.TheVariants as kinds
 use Rattle.drv_table.specs.declared.content.Endpoint.{Endpoint}
@@ -26,7 +29,6 @@ use Rattle.law_driver.specs.chained_transfers.AsynchronousTurns.{AsynchronousTak
 use Rattle.law_driver.specs.chained_transfers.Out.{out_now}
 use Rattle.law_driver.proofs.lemmas.chained_transfers.BulkAndControl.{not_iso}
 use Rattle.law_driver.specs.queued_drivers.Queued.{queued}
-use Rattle.law_structures.proofs.lemmas.lent_structures.Names.{not_same}
 use Rattle.law_ring.specs.Hand.{Hand}
 use Rattle.law_ring.specs.QueueParts.{IsQueuePart}
 use Rattle.law_driver_ring.proofs.Viewing.{harvest_views}
@@ -35,18 +37,16 @@ use Rattle.law_driver_ring.specs.fed_queues.Places.{IsMet, HasThere}
 use Rattle.law_driver_ring.proofs.lemmas.fed_queues.Places.{stands_met}
 use Rattle.law_controller.specs.controlled_streams.Reported.{IsReported, AreReported}
 use Rattle.law_queues.specs.fed_harvests.Harvests.{Harvested, with_out}
-use Rattle.law_queues.proofs.lemmas.fed_harvests.Harvests.{bulk_unstalled}
 use Rattle.law_queues.specs.harvest_laws.Told.{ToldStands}
 use Rattle.law_queues.specs.harvest_laws.ToldLaws.{HarvestReports}
 use Rattle.law_queues.proofs.lemmas.harvest_laws.ReadRows.{harvest_row_is_told, wait_is_told}
 use Rattle.law_queues.proofs.lemmas.harvest_laws.Requests.{other_harvest_is_told}
 use Rattle.law_world.specs.streams.Feeding.{there_of}
 use Rattle.law_world.proofs.lemmas.streams.FeedingPassed.{passed_are_untold}
-use Rattle.law_world.proofs.lemmas.streams.Told.{HasBulkThere, there_by, there_on, bulk_there, stream_kind, bulk_kind, control_kind}
+use Rattle.law_world.proofs.lemmas.streams.Told.{HasBulkThere, there_by, there_on, bulk_there, stream_kind, bulk_kind}
 use Rattle.law_world.specs.memory.Mixed.{Standing, IsMixedAt}
 use Rattle.law_world.specs.memory.Steps.{told_parts, IsToldRow, OutAfter, waits, passes, stalls}
 use Rattle.law_world.proofs.lemmas.memory.HarvestKept.{owners_of, tells_of, fronts_of}
-use Rattle.law_world.proofs.lemmas.memory.Unfinished.{none_unfinished}
 use Rattle.bus_world.specs.World.{World}
 use Rattle.law_reports.specs.lines.Lined.{in_hand, Lines, IsTelling}
 use Rattle.law_reports.specs.lines.TellingLaws.{IsToldMore}
@@ -95,7 +95,7 @@ harvest_there p e t found only due n is_there =
         endpoint = b.endpoint;
         here = b.here;
         there = record {
-          linked = λ is. none_unfinished (unfinished.Open b.endpoint.queue) (sym due.idle ∙ is);
+          linked = λ is. none_some (unfinished.Open b.endpoint.queue) (sym due.idle ∙ is);
           kept = sym gone
               ∙ h.there.kept;
         };
@@ -129,7 +129,7 @@ module _ (s : Standing) (m : Lines) (w : World) (k : IsMixedAt s w) (g : IsTelli
 
   met : IsMet (queued w.driver) e due.endpoint
   met = stands_met (queued w.driver) e due.endpoint (turns.asynchronous.endpoints e due.endpoint due.here) due.goes_on
-      (λ is. none_unfinished (unfinished.Open due.endpoint.queue) (sym due.idle ∙ is))
+      (λ is. none_some (unfinished.Open due.endpoint.queue) (sym due.idle ∙ is))
 
   part : IsQueuePart (32 * due.endpoint.queue) (s.parts (32 * due.endpoint.queue))
   part = k.queues.sound e due.endpoint due.here met
@@ -156,7 +156,7 @@ module _ (s : Standing) (m : Lines) (w : World) (k : IsMixedAt s w) (g : IsTelli
       (eq-eqb (32 * due.endpoint.queue) (32 * due.endpoint.queue) refl)
 
   out_beside : (out : List ℕ) (j : ℕ) → j ≢ 32 * due.endpoint.queue → with_out s.out (32 * due.endpoint.queue) out j ≡ s.out j
-  out_beside out j differs = ap (λ (b : Bool). if b then out else s.out j) (not_same j (32 * due.endpoint.queue) differs)
+  out_beside out j differs = ap (λ (b : Bool). if b then out else s.out j) (other_number j (32 * due.endpoint.queue) differs)
 
   -- ---- it isn't done
 
@@ -248,7 +248,7 @@ module _ (s : Standing) (m : Lines) (w : World) (k : IsMixedAt s w) (g : IsTelli
 
         now_beside : (j : ℕ) → j ≢ 32 * due.endpoint.queue → now j ≡ m.reported j
         now_beside j other = ap (λ (b : Bool). if b then m.reported j ++ hr.bytes else m.reported j)
-            (not_same j (32 * due.endpoint.queue) other)
+            (other_number j (32 * due.endpoint.queue) other)
 
         later_here : later (32 * due.endpoint.queue) ≡ out_now f e
         later_here = out_here (h.before ++ h.behind) ∙ sym h.now

@@ -3,6 +3,7 @@
 use Rattle.std.proofs.Common.{◌≡◌, ◌≢◌, ℕ, ◌*◌, ◌<◌, ◌≤◌, true, List, slice_get, Option, Some, ap, refl, sym, subst, ◌∙◌, ⊎_elim, inl, inr, arith}
 use Rattle.std.specs.Prelude.{◌⊎◌}
 use Rattle.std.proofs.lemmas.Bool.{cases_eq, cases_lt}
+use Rattle.law_controller.proofs.Common.{same_hand}
 use Rattle.qh_qtd.specs.declared.qtd.Qtd.{Qtd}
 use Rattle.qh_qtd.specs.declared.queue_head.Qh.{Qh}
 use Rattle.mem_runs.specs.Book.{slot_of}
@@ -20,7 +21,6 @@ use Rattle.law_ring.specs.Order.{IsPlaced}
 use Rattle.law_ring.specs.QueueParts.{IsQueuePart}
 use Rattle.law_ring.specs.Sparing.{SparesElement}
 use Rattle.law_ring.proofs.Joining.{all_beside}
-use Rattle.law_controller.proofs.lemmas.controlled_streams.Storing.{same_hand as hand_itself}
 use Rattle.law_controller.specs.controlled_streams.Reported.{IsReported}
 use Rattle.law_driver_ring.specs.TransferLaws.{lent_driver}
 use Rattle.law_driver_ring.specs.fed_queues.Places.{IsMet, IsLast}
@@ -124,7 +124,7 @@ module _ (s : Standing) (m : Lines) (w new : World) (k : IsMixedAt s w) (g : IsT
       (alike_is_told (queued w.driver) (lent_now (queued w.driver) w.memory) (in_hand s) now m.reported
       (record { reports = refl; store = refl; endpoints = refl; transfers = refl; notes = refl })
       (λ x there. record { linked = there.linked; kept = there.kept }) (λ x opens. opens)
-      (spared_is_told (queued w.driver) (in_hand s) (in_hand s) s.parts now m.reported (hand_itself (in_hand s))
+      (spared_is_told (queued w.driver) (in_hand s) (in_hand s) s.parts now m.reported (same_hand (in_hand s))
       (record { heads = λ e x here on. h.heads (32 * x.queue); done = λ e t x y a next on one. spared (32 * x.queue) (32 * a) }) g.told))
 
   -- ---- what was moved
@@ -149,7 +149,7 @@ module _ (s : Standing) (m : Lines) (w new : World) (k : IsMixedAt s w) (g : IsT
       (subst (λ (es : List ℕ). IsReported (s.order i) es (in_hand s) now i (m.acc i) (m.reported i)) (sym (l.out_beside i differs))
       (relinked_reported s.parts now i (same_at s.parts now i (l.pieces.beside i differs)) (s.order i) (s.out i) (in_hand s) (in_hand s)
       (m.acc i) (m.reported i)
-      (hand_itself (in_hand s)) (g.moved i on)))
+      (same_hand (in_hand s)) (g.moved i on)))
 
   lent_moved : (i : ℕ) → there_of (queued w.driver) i ≡ true
       → IsReported (order i) (out i) (in_hand s) (parts_with get s.parts) i (m.acc i) (m.reported i)

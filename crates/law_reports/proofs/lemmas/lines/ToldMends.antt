@@ -1,6 +1,8 @@
 -- The next store that a stalled control endpoint is owed leaves what is told of each bulk and interrupt endpoint's queue.
 use Rattle.std.proofs.Common.{◌≡◌, ◌≢◌, ℕ, ◌*◌, true, false, List, slice_get, None, Some, ap, refl, sym, subst, ◌∙◌}
 use Rattle.std.proofs.lemmas.Bool.{false_from_ne_true, false≢true}
+use Rattle.law_world.proofs.Common.{none_some}
+use Rattle.law_driver.proofs.Common.{control_told, control_kind}
 use Rattle.drv_table.specs.declared.content.Command.TheVariants as unfinished
 use Rattle.drv_table.specs.declared.content.Endpoint.{Endpoint}
 use Rattle.drv_table.specs.declared.content.Transfer.{Transfer}
@@ -33,10 +35,9 @@ use Rattle.law_world.proofs.lemmas.streams.Told.{there_on, there_same}
 use Rattle.law_world.specs.memory.Mixed.{Standing, IsMixedAt}
 use Rattle.law_world.specs.memory.Steps.{told_parts, IsToldRow}
 use Rattle.law_world.proofs.lemmas.memory.HarvestKept.{owners_of}
-use Rattle.law_world.proofs.lemmas.memory.Unfinished.{none_unfinished}
 use Rattle.bus_world.specs.World.{World, driver_parts}
 use Rattle.law_reports.specs.lines.Lined.{in_hand, Lines, IsTelling}
-use Rattle.law_reports.proofs.lemmas.lines.Heads.{there_alone, control_told, control_queue}
+use Rattle.law_reports.proofs.lemmas.lines.Heads.{there_alone}
 use Rattle.law_reports.proofs.lemmas.lines.Same.{ring_hand}
 
 module _ (s : Standing) (m : Lines) (w new : World) (k : IsMixedAt s w) (g : IsTelling s m w)
@@ -58,7 +59,7 @@ module _ (s : Standing) (m : Lines) (w new : World) (k : IsMixedAt s w) (g : IsT
 
   -- the endpoint as the queues tell it
   here : slice_get (queued w.driver).endpoints owed.number ≡ Some (with_queue owed.endpoint)
-  here = queue_at w.driver.endpoints owed.number owed.endpoint owed.here (control_queue owed.endpoint.desc.kind owed.control)
+  here = queue_at w.driver.endpoints owed.number owed.endpoint owed.here (control_kind owed.endpoint.desc.kind owed.control)
 
   control : is_control (with_queue owed.endpoint).desc.kind ≡ true
   control =
@@ -88,7 +89,7 @@ module _ (s : Standing) (m : Lines) (w new : World) (k : IsMixedAt s w) (g : IsT
       apart (32 * x.queue)
       (there_on (queued w.driver) e x is.endpoint
       (record {
-        linked = λ opens. none_unfinished (unfinished.Open x.queue) (sym idle ∙ opens);
+        linked = λ opens. none_some (unfinished.Open x.queue) (sym idle ∙ opens);
         kept = told_stands_alive x (k.turns.turns.asynchronous.endpoints e x is.endpoint) is.going;
       }) stream)
 

@@ -3,6 +3,9 @@
 use Rattle.std.proofs.Common.{◌≡◌, ◌≢◌, ℕ, ◌*◌, Bool, true, false, List, [], slice_get, Some, ap, refl, sym, subst, ◌∙◌, ⊎_elim, arith}
 use Rattle.std.specs.Prelude.{◌||◌, if◌then◌else◌}
 use Rattle.std.proofs.lemmas.Bool.{cases_eq, eq-eqb, false≢true}
+use Rattle.law_common.proofs.Numbers.{other_number, same_blocks}
+use Rattle.law_controller.proofs.Common.{same_hand}
+use Rattle.law_world.proofs.Common.{same_queue, none_some}
 use Rattle.link_words.specs.declared.kinds.QtdLink.{QtdLink}
 use Rattle.link_words.specs.declared.kinds.QtdLink.TheVariants as qtd_links
 use Rattle.link_words.specs.Links.{qtd_link_of}
@@ -19,28 +22,26 @@ use Rattle.law_driver.specs.queued_drivers.Rows.{QueuesAlike, TellsAlike}
 use Rattle.law_driver.proofs.lemmas.chained_transfers.Staying.{told_stands_alive, linked_stands_alive}
 use Rattle.law_structures.specs.lent_structures.Structures.{QueueHead, Element, StructureSets, put}
 use Rattle.law_structures.proofs.lemmas.lent_structures.Altering.{found_queue, found_element}
-use Rattle.law_structures.proofs.lemmas.lent_structures.Names.{not_same, put_beside}
+use Rattle.law_structures.proofs.lemmas.lent_structures.Names.{put_beside}
 use Rattle.law_ring.specs.Hand.{Hand}
 use Rattle.law_ring.specs.Order.{none_out}
 use Rattle.law_ring.specs.QueueParts.{IsQueuePart}
-use Rattle.law_controller.proofs.lemmas.controlled_streams.Storing.{same_hand as hand_itself}
 use Rattle.law_controller.specs.controlled_streams.Opened.{with_none}
 use Rattle.law_controller.specs.controlled_streams.Reported.{IsReported}
 use Rattle.law_driver_ring.proofs.lemmas.told_harvests.Keeping.{spared_is_done}
-use Rattle.law_queues.proofs.lemmas.publish_laws.Apart.{queue_placed, queues_same, thirty_two}
+use Rattle.law_queues.proofs.lemmas.publish_laws.Apart.{queue_placed, queues_same}
 use Rattle.law_queues.specs.harvest_laws.Holds.{IsNextOf}
 use Rattle.law_queues.specs.harvest_laws.Told.{ToldStands}
 use Rattle.law_queues.proofs.lemmas.harvest_laws.Standing.{still_told, alike_is_told, met_is_told}
 use Rattle.law_queues.specs.open_laws.Queues.{IsOpenToLend, IsOpenThere, IsNewPart, parts_opened, open_lent, open_finished}
 use Rattle.law_world.specs.streams.Feeding.{there_of}
-use Rattle.law_world.proofs.lemmas.streams.Told.{HasBulkThere, there_by, bulk_there, there_same, same_queue as same_open}
+use Rattle.law_world.proofs.lemmas.streams.Told.{HasBulkThere, there_by, bulk_there, there_same}
 use Rattle.law_world.proofs.lemmas.streams.lemmas.left_reports.Leaver.{next_waits}
 use Rattle.law_world.specs.memory.Mixed.{Standing, IsMixedAt}
 use Rattle.law_world.specs.memory.SameQueues.{IsSameQueue}
 use Rattle.law_world.specs.memory.Steps.{HasOpened}
 use Rattle.law_world.proofs.lemmas.memory.Alike.{queue_part}
 use Rattle.law_world.proofs.lemmas.memory.HarvestKept.{owners_of}
-use Rattle.law_world.proofs.lemmas.memory.Unfinished.{none_unfinished}
 use Rattle.bus_world.specs.World.{World}
 use Rattle.law_reports.specs.lines.Lined.{in_hand, Lines, IsTelling}
 use Rattle.law_reports.specs.lines.TellingLaws.{IsNewlyTold}
@@ -87,7 +88,7 @@ module _ (s : Standing) (m : Lines) (w new : World) (k : IsMixedAt s w) (g : IsT
   next_apart e u x y is same =
       let stands = k.turns.turns.asynchronous.endpoints e x is.endpoint in
       let number : e ≡ at.number =
-      queues_same x.queue at.endpoint.queue e at.number (thirty_two x.queue at.endpoint.queue same)
+      queues_same x.queue at.endpoint.queue e at.number (same_blocks x.queue at.endpoint.queue same)
       (queue_placed d (owners_of s w k) e x is.endpoint stands (told_stands_alive x stands is.going))
       (queue_placed d (owners_of s w k) at.number at.endpoint at.here (k.turns.turns.asynchronous.endpoints at.number at.endpoint at.here)
       alive) in
@@ -109,7 +110,7 @@ module _ (s : Standing) (m : Lines) (w new : World) (k : IsMixedAt s w) (g : IsT
       (λ e u x y a i z next on one done.
       let same : IsSameQueue (32 * x.queue) (s.parts (32 * x.queue)) (now (32 * x.queue)) =
       same_at s.parts now (32 * x.queue) (beside (32 * x.queue) (next_apart e u x y next)) in
-      spared_is_done (in_hand s) (in_hand s) s.parts now (32 * x.queue) a i z (hand_itself (in_hand s))
+      spared_is_done (in_hand s) (in_hand s) s.parts now (32 * x.queue) a i z (same_hand (in_hand s))
       (relinked_head s.parts now (32 * x.queue) same)
       (relinked_element s.parts now (32 * x.queue) same (32 * a)) done) g.told)
 
@@ -119,7 +120,7 @@ module _ (s : Standing) (m : Lines) (w new : World) (k : IsMixedAt s w) (g : IsT
     moved = λ i on.
         relinked_reported s.parts now i (same_at s.parts now i (beside i (lent_apart i on))) (s.order i) (s.out i) (in_hand s) (in_hand s)
         (m.acc i)
-        (m.reported i) (hand_itself (in_hand s)) (g.moved i (lent_was i on));
+        (m.reported i) (same_hand (in_hand s)) (g.moved i (lent_was i on));
     sound = λ i on. subst (IsQueuePart i) (sym (beside i (lent_apart i on))) (g.sound i (lent_was i on));
   }
 
@@ -186,7 +187,7 @@ module _ (s t : Standing) (m : Lines) (w new : World) (k : IsMixedAt s w) (g : I
 
   none_beside : {A : Type 0} (lists : ℕ → List A) (i : ℕ) → i ≢ 32 * at.endpoint.queue
       → with_none lists (32 * at.endpoint.queue) i ≡ lists i
-  none_beside lists i differs = ap (λ (b : Bool). if b then [] else lists i) (not_same i own differs)
+  none_beside lists i differs = ap (λ (b : Bool). if b then [] else lists i) (other_number i own differs)
 
   pub newly : IsNewlyTold (32 * at.endpoint.queue) m lines_then
   newly = record {
@@ -207,7 +208,7 @@ module _ (s t : Standing) (m : Lines) (w new : World) (k : IsMixedAt s w) (g : I
           endpoint = b.has.endpoint;
           here = ap (λ (xs : List Endpoint). slice_get xs b.has.number) (sym alike.endpoints) ∙ b.has.here;
           there = record {
-            linked = λ opens. differs (b.has.at ∙ ap (λ (c : ℕ). 32 * c) (same_open b.has.endpoint.queue q (sym opens ∙ at.command)));
+            linked = λ opens. differs (b.has.at ∙ ap (λ (c : ℕ). 32 * c) (same_queue b.has.endpoint.queue q (sym opens ∙ at.command)));
             kept = b.has.there.kept;
           };
           at = b.has.at;
@@ -267,7 +268,7 @@ module _ (s t : Standing) (m : Lines) (w new : World) (k : IsMixedAt s w) (g : I
       subst (λ (j : ℕ). IsQueuePart j (t.parts j)) (sym same)
       (mixed.queues.sound at.number at.endpoint (ap (λ (xs : List Endpoint). slice_get xs at.number) alike.endpoints ∙ at.here)
       (record {
-        there = record { linked = λ opens. none_unfinished (unfinished.Open at.endpoint.queue) (sym alike.command ∙ opens); kept = alive };
+        there = record { linked = λ opens. none_some (unfinished.Open at.endpoint.queue) (sym alike.command ∙ opens); kept = alive };
         near = near;
       })))
       (λ (differs : i ≢ own). queue_part i (s.parts i) (t.parts i) (opened.told.parts i) (g.sound i (opened_was i differs on)))

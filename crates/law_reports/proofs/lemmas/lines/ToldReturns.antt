@@ -3,6 +3,8 @@
 use Rattle.std.proofs.Common.{◌≡◌, ◌≢◌, ℕ, ◌-◌, ◌*◌, Bool, true, false, slice_get, Option, Some, ap, refl, sym, subst, ◌∙◌, ⊎_elim, arith}
 use Rattle.std.proofs.lemmas.Bool.{cases_eq, true≢false}
 use Rattle.std.proofs.lemmas.Option.{same_Some}
+use Rattle.law_common.proofs.Numbers.{other_number}
+use Rattle.law_controller.proofs.Common.{same_hand}
 use Rattle.mem_runs.specs.Book.{holding, slot_of}
 use Rattle.drv_table.specs.declared.content.Endpoint.{Endpoint}
 use Rattle.drv_table.specs.declared.content.Transfer.{Transfer}
@@ -14,7 +16,6 @@ use Rattle.drv_table.specs.Releases.{freed_by, after_transfer}
 use Rattle.drv_table.specs.Rows.{after_driver_row}
 use Rattle.claims_driver.specs.Owners.{Element}
 use Rattle.law_structures.specs.lent_structures.Structures.{Structures, StructureSets}
-use Rattle.law_structures.proofs.lemmas.lent_structures.Names.{not_same}
 use Rattle.law_driver.specs.chained_transfers.AsynchronousTurns.{AsynchronousTakesTurns}
 use Rattle.law_driver.specs.queued_drivers.Queued.{queued}
 use Rattle.law_ring.specs.Effects.{buffer_of}
@@ -23,7 +24,6 @@ use Rattle.law_ring.proofs.Returning.{those_beside}
 use Rattle.law_ring.specs.Sparing.{SparesElement}
 use Rattle.law_controller.specs.controlled_streams.Returned.{staying_of}
 use Rattle.law_controller.proofs.lemmas.controlled_streams.Returning.{spares_head, spares_element, reported_are_returned}
-use Rattle.law_controller.proofs.lemmas.controlled_streams.Storing.{same_hand as hand_itself}
 use Rattle.law_driver_ring.specs.Released.{goes_of}
 use Rattle.law_driver_ring.proofs.Blocks.{mine}
 use Rattle.law_driver_ring.specs.told_harvests.Held.{IsOneFrom}
@@ -92,7 +92,8 @@ module _ (s : Standing) (m : Lines) (w new : World) (k : IsMixedAt s w) (g : IsT
       owner_is (slot_of w.driver.book.slots) told_all.owners.owner w.driver.notes u v.first v.qtds a
       (pieces_of s.parts (told_parts w) s.order s.out t y x told_all r u v is.transfer one_next.1)
       (one_sooner (note_at w.driver.notes) v.first (v.qtds - v.left) v.qtds a (omega arith) one) in
-      goes_off s.parts (told_parts w) s.order s.out t y x told_all r a (ap (mine t) owned ∙ not_same u t (λ same. differs same one_next.0))
+      goes_off s.parts (told_parts w) s.order s.out t y x told_all r a
+      (ap (mine t) owned ∙ other_number u t (λ same. differs same one_next.0))
     where
       differs : u ≡ t → v.reported ≡ false → ⊥
       differs same waits =
@@ -140,7 +141,7 @@ module _ (s : Standing) (m : Lines) (w new : World) (k : IsMixedAt s w) (g : IsT
             (returned_is_told (queued w.driver) after.driver t y (in_hand s) now m.reported r.here r.reported
             (there_now (queued w.driver) turns)
             refl refl refl refl refl refl
-            (spared_is_told (queued w.driver) (in_hand s) (in_hand s) s.parts now m.reported (hand_itself (in_hand s)) spares g.told));
+            (spared_is_told (queued w.driver) (in_hand s) (in_hand s) s.parts now m.reported (same_hand (in_hand s)) spares g.told));
         moved = λ i on.
             reported_are_returned (there_of (queued w.driver)) s.order s.out (in_hand s) s.parts m.acc m.reported n goes leaves.head
             leaves.buffers

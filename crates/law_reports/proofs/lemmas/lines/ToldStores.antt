@@ -1,15 +1,19 @@
 -- A word of the first qTD of a transfer is stored: nothing was moved of it, also once it is published, and what is told of each queue
 -- stays.
-use Rattle.std.proofs.Common.{◌≡◌, ◌≢◌, ℕ, suc, ◌-◌, ◌*◌, ◌<◌, ◌≤◌, true, List, slice_get, Option, Some, None, option_map, Bool, ap, refl, sym, subst, ◌∙◌, ⊎_elim, arith}
+use Rattle.std.proofs.Common.{◌≡◌, ◌≢◌, ℕ, suc, ◌-◌, ◌*◌, ◌<◌, ◌≤◌, true, List, slice_get, Some, option_map, Bool, ap, refl, sym, subst, ◌∙◌, ⊎_elim, arith}
 use Rattle.std.specs.Prelude.{Result, Ok}
 use Rattle.std.proofs.lemmas.Bool.{cases_eq, cases_lt}
 use Rattle.std.proofs.lemmas.Option.{same_Some}
+use Rattle.law_queues.proofs.Common.{none_open, ok_same, same_piece}
+use Rattle.law_controller.proofs.Common.{same_hand}
+use Rattle.law_driver_ring.proofs.Common.{partly_idle as idle}
+use Rattle.law_common.proofs.Numbers.{same_blocks}
+use Rattle.law_world.proofs.Common.{none_some}
 use Rattle.link_words.specs.declared.refusal.Bad.{Bad}
 use Rattle.qh_qtd.specs.declared.qtd.Qtd.{Qtd}
 use Rattle.qh_qtd.specs.Qtd.{qtd_read}
 use Rattle.qh_qtd.proofs.QtdLaws.{qtd_read-words}
 use Rattle.mem_runs.specs.Book.{slot_of}
-use Rattle.drv_table.specs.declared.content.Command.{Command}
 use Rattle.drv_table.specs.declared.content.Command.TheVariants as unfinished
 use Rattle.drv_table.specs.declared.content.Endpoint.{Endpoint}
 use Rattle.drv_table.specs.declared.content.Transfer.{Transfer}
@@ -27,10 +31,9 @@ use Rattle.law_ring.specs.QueueParts.{IsQueuePart}
 use Rattle.law_ring.specs.Told.{Endpoint as Told}
 use Rattle.law_controller.specs.controlled_streams.Reported.{IsReported, AreReported}
 use Rattle.law_controller.specs.controlled_streams.Storing.{IsStore, with_out, stored_parts}
-use Rattle.law_controller.proofs.lemmas.controlled_streams.Storing.{same_hand as hand_itself, spares_head, spares_element}
+use Rattle.law_controller.proofs.lemmas.controlled_streams.Storing.{spares_head, spares_element}
 use Rattle.law_controller.proofs.lemmas.controlled_streams.Streams.{idle_store_leaves_reports, last_store_leaves_reports, out_here, out_beside}
 use Rattle.law_driver_ring.specs.Published.{partly}
-use Rattle.law_driver_ring.proofs.Publishing.{idle}
 use Rattle.law_driver_ring.specs.fed_queues.Fed.{IsPublished}
 use Rattle.law_driver_ring.specs.fed_queues.Places.{IsMet}
 use Rattle.law_driver_ring.specs.told_harvests.Held.{IsOneFrom}
@@ -40,7 +43,6 @@ use Rattle.law_queues.specs.harvest_laws.ToldLaws.{SparesDone}
 use Rattle.law_queues.proofs.lemmas.harvest_laws.Places.{one_sooner, owner_is}
 use Rattle.law_queues.proofs.lemmas.harvest_laws.Standing.{alike_is_told, spared_is_told}
 use Rattle.law_queues.specs.publish_laws.Stores.{parts_then, out_then, next_of}
-use Rattle.law_queues.proofs.lemmas.publish_laws.Apart.{thirty_two}
 use Rattle.law_queues.proofs.lemmas.publish_laws.Feeding.{more, done}
 use Rattle.law_queues.proofs.lemmas.publish_laws.Linked.{partly_later}
 use Rattle.law_world.specs.streams.Feeding.{there_of}
@@ -50,17 +52,10 @@ use Rattle.law_world.specs.memory.Mixed.{Standing, IsMixedAt}
 use Rattle.law_world.specs.memory.Steps.{told_parts, IsNextStore}
 use Rattle.law_world.proofs.lemmas.memory.HarvestKept.{owners_of}
 use Rattle.law_world.proofs.lemmas.memory.PublishStores.{IsStoring, published_by, below, parts_are, split, sorted, element, here, links, never_opens, met_now, there_now, out_is, out_more, then_more, then_done, eighth_by, by_store, one_more, finished}
-use Rattle.law_world.proofs.lemmas.memory.Unfinished.{none_unfinished}
 use Rattle.law_driver.proofs.lemmas.queued_drivers.RowOwners.{queued_are_lent}
 use Rattle.bus_world.specs.World.{World}
 use Rattle.law_reports.specs.lines.Lined.{in_hand, Lines, IsTelling}
 use Rattle.law_reports.specs.lines.TellingSteps.{StoreTells}
-
-same_piece : (t u : ℕ) → PieceOf t ≡ PieceOf u → t ≡ u
-same_piece t u is = cc
-
-none_not_open : (c : ℕ) → ◌≡◌ {A = Option Command} None (Some (unfinished.Open c)) → ⊥
-none_not_open c same = cc
 
 -- ---- of a driver
 
@@ -175,14 +170,14 @@ module _ (p : DriverParts) (member streams : ℕ → Bool) (ends : ℕ → Told)
     heads = λ e x is stream. spares_head parts n (32 * b) (partly g.qtd i) (partly g.qtd d.made) g.stored (32 * x.queue);
     done = λ e t x z a is stream one.
         spares_element parts n (32 * b) (partly g.qtd i) (partly g.qtd d.made) g.stored (32 * x.queue) (32 * a)
-        (λ name owner. not_read e t x z a is one (thirty_two a b name));
+        (λ name owner. not_read e t x z a is one (same_blocks a b name));
   }
 
   pub told_stored : (hand : Hand) (reported : ℕ → List ℕ) → ToldStands p.driver hand parts reported
       → ToldStands (next_of p).driver hand (parts_then g) reported
   told_stored hand reported told =
       let spared : ToldStands d hand (parts_then g) reported
-      = spared_is_told d hand hand parts (parts_then g) reported (hand_itself hand) spares_done told in
+      = spared_is_told d hand hand parts (parts_then g) reported (same_hand hand) spares_done told in
       by_store p member streams ends parts order out b words k (λ (f : DriverContent). ToldStands f hand (parts_then g) reported)
       (λ low.
       alike_is_told d (one_more p member streams ends parts order out b words k) hand (parts_then g) reported
@@ -191,7 +186,7 @@ module _ (p : DriverParts) (member streams : ℕ → Bool) (ends : ℕ → Told)
       (λ eighth.
       alike_is_told d (finished p member streams ends parts order out b words k) hand (parts_then g) reported
       (record { reports = refl; store = refl; endpoints = refl; transfers = refl; notes = refl })
-      (λ x meets. there_now p member streams ends parts order out b words k x meets.kept) (λ x is. absurd (none_not_open x.queue is))
+      (λ x meets. there_now p member streams ends parts order out b words k x meets.kept) (λ x is. absurd (none_open x.queue is))
       spared)
 
   pub stored_there : (j : ℕ) → there_of (next_of p).driver j ≡ true → there_of p.driver j ≡ true
@@ -207,7 +202,7 @@ module _ (p : DriverParts) (member streams : ℕ → Bool) (ends : ℕ → Told)
       by_store p member streams ends parts order out b words k (λ (f : DriverContent). IsMet f y.endpoint g.endpoint)
       (λ low. record { there = record { linked = its_met.there.linked; kept = its_met.there.kept }; near = its_met.near })
       (λ eighth. record {
-        there = record { linked = λ is. none_not_open g.endpoint.queue is; kept = its_met.there.kept };
+        there = record { linked = λ is. none_open g.endpoint.queue is; kept = its_met.there.kept };
         near = its_met.near;
       })
 
@@ -222,10 +217,6 @@ ok_in : Result Qtd Bad → Qtd → Qtd
 ok_in (Ok q) other = q
 ok_in _ other = other
 
-same_ok : (q r : Qtd) → ◌≡◌ {A = Result Qtd Bad} (Ok q) (Ok r) → q ≡ r
-unfolding ok_in
-same_ok q r is = ap (λ (o : Result Qtd Bad). ok_in o q) is
-
 module _ (d : DriverContent) (parts : StructureSets) (b : ℕ) (words : List ℕ) (g h : IsPublished d parts b words) where
   number : g.number ≡ h.number
   number = let one = g.newest in let other = h.newest in omega (arith, one, other)
@@ -238,7 +229,7 @@ module _ (d : DriverContent) (parts : StructureSets) (b : ℕ) (words : List ℕ
       same_Some g.endpoint h.endpoint (sym g.here ∙ ap (λ (y : Transfer). slice_get d.endpoints y.endpoint) transfer ∙ h.here)
 
   one_qtd : g.qtd ≡ h.qtd
-  one_qtd = same_ok g.qtd h.qtd (sym (qtd_read-words g.qtd g.range) ∙ ap qtd_read (sym g.are ∙ h.are) ∙ qtd_read-words h.qtd h.range)
+  one_qtd = ok_same g.qtd h.qtd (sym (qtd_read-words g.qtd g.range) ∙ ap qtd_read (sym g.are ∙ h.are) ∙ qtd_read-words h.qtd h.range)
 
   pub one_parts : parts_then g ≡ parts_then h
   one_parts =
@@ -255,7 +246,7 @@ module _ (d : DriverContent) (parts : StructureSets) (b : ℕ) (words : List ℕ
 module _ (s : Standing) (m : Lines) (w new : World) (k : IsMixedAt s w) (g : IsTelling s m w) (b : ℕ) (words : List ℕ)
     (p : IsPublished (queued w.driver) s.parts b words) (is : IsNextStore s w new b words p) where
   publish_not_iso : (e t count : ℕ) → w.driver.command ≡ Some (unfinished.Iso e t count) → ⊥
-  publish_not_iso e t count iso = none_unfinished (unfinished.Publish b words) (sym (ap (queued_command w.driver.endpoints) iso)
+  publish_not_iso e t count iso = none_some (unfinished.Publish b words) (sym (ap (queued_command w.driver.endpoints) iso)
       ∙ is.command)
 
   storing : IsStoring (queued w.driver) s.near s.streams s.ends s.parts s.order s.out b words

@@ -4,6 +4,11 @@ use Rattle.std.proofs.Common.{◌≡◌, ◌≢◌, ℕ, suc, ◌<◌, Bool, tru
 use Rattle.std.proofs.Common.{Result, Ok, ap, refl, sym, subst, ◌∙◌, ⊎_elim, arith, zero, suc}
 use Rattle.std.proofs.lemmas.Bool.{cases_eq}
 use Rattle.std.proofs.lemmas.Option.{same_Some}
+use Rattle.law_queues.proofs.Common.{none_open, set_which}
+use Rattle.law_world.proofs.Common.{unlink_open}
+use Rattle.law_reports.proofs.Common.{publish_open}
+use Rattle.law_driver.proofs.Common.{ring_queue}
+use Rattle.law_common.proofs.Lists.{set_here, set_there}
 use Rattle.usb_base.specs.declared.commands.Cmd.{Cmd}
 use Rattle.usb_base.specs.declared.commands.Cmd.TheVariants as commands
 use Rattle.usb_base.specs.declared.endpoints.EpDesc.{EpDesc}
@@ -20,12 +25,10 @@ use Rattle.drv_table.specs.Offers.{Asked, accepted_iso}
 use Rattle.law_driver.specs.run_owners.Accepts.{Opens, Chains, Places, Cancels, Unchains}
 use Rattle.law_driver.specs.queued_drivers.Queued.{queue_of, queued_command, queued}
 use Rattle.law_driver.specs.queued_drivers.Rows.{TellsAlike}
-use Rattle.law_driver.proofs.lemmas.queued_drivers.CommandFields.{last_get, ring_queue}
+use Rattle.law_driver.proofs.lemmas.queued_drivers.CommandFields.{last_get}
 use Rattle.law_driver.proofs.lemmas.queued_drivers.CommandLeaves.{IsUnchained, unchained}
 use Rattle.law_driver.proofs.lemmas.queued_drivers.CommandReasons.{in_ring, in_frames, bare, IsTakenOn, IsDescribedAs, from_ring}
 use Rattle.law_driver.proofs.lemmas.queued_drivers.CommandReasons.{from_frames, IsReasonOf}
-use Rattle.law_driver.proofs.lemmas.run_owners.Released.{set_here, set_there}
-use Rattle.law_queues.proofs.lemmas.harvest_laws.Opening.{set_which}
 use Rattle.law_reports.proofs.lemmas.pipes.Across.{ComesOf, WasIn, IsNowIn}
 
 -- a new endpoint, of the command's description
@@ -38,16 +41,6 @@ pub data EndsThen (d f : DriverContent) (cmd : Cmd) : Type 0 where
       → TellsAlike d f → EndsThen d f cmd
   one_anew : (e : ℕ) (y z : Endpoint) → slice_get d.endpoints e ≡ Some y → f.endpoints ≡ set d.endpoints e z → ComesOf y z
       → z.gone ≡ y.gone → ((q : ℕ) → (queued f).command ≡ Some (unfinished.Open q) → ⊥) → TellsAlike d f → EndsThen d f cmd
-
-none_open : (q : ℕ) → ◌≡◌ {A = Option Command} None (Some (unfinished.Open q)) → ⊥
-none_open q e = cc
-
-publish_open : (b : ℕ) (words : List ℕ) (q : ℕ)
-    → ◌≡◌ {A = Option Command} (Some (unfinished.Publish b words)) (Some (unfinished.Open q)) → ⊥
-publish_open b words q e = cc
-
-unlink_open : (e b link q : ℕ) → ◌≡◌ {A = Option Command} (Some (unfinished.Unlink e b link)) (Some (unfinished.Open q)) → ⊥
-unlink_open e b link q is = cc
 
 ok_is : {p q : Offered} → ◌≡◌ {A = Result Offered OfferError} (Ok p) (Ok q) → q ≡ p
 ok_is e = cc
@@ -126,11 +119,6 @@ module _ (d : DriverContent) (m : Mem) (o : Offered) where
   ends_then _ w = absurd w
 
 -- ---- endpoints
-
-pub now_pushed : (xs : List Endpoint) (x : Endpoint) (e : ℕ) (y : Endpoint) → slice_get xs e ≡ Some y → slice_get (xs ++ x ∷ []) e ≡ Some y
-now_pushed [] x e y here = absurd cc
-now_pushed (v ∷ vs) x zero y here = here
-now_pushed (v ∷ vs) x (suc e) y here = now_pushed vs x e y here
 
 pub below : (xs : List Endpoint) (e : ℕ) (y : Endpoint) → slice_get xs e ≡ Some y → e < length xs
 below [] e y here = absurd cc

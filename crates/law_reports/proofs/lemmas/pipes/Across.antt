@@ -4,6 +4,9 @@ use Rattle.std.proofs.Common.{is_none, ap, refl, sym, subst, ◌∙◌, ⊎_elim
 use Rattle.std.specs.Prelude.{◌⊎◌, ◌++◌, ◌∷◌, [], take, drop}
 use Rattle.std.proofs.lemmas.Bool.{false≢true, cases_eq}
 use Rattle.std.proofs.lemmas.Option.{same_Some}
+use Rattle.law_world.proofs.Common2.{done_none}
+use Rattle.law_queues.proofs.Common.{none_open, set_which}
+use Rattle.law_common.proofs.Lists.{set_here, set_there}
 use Rattle.drv_periodic_table.specs.Linking.{begun_next}
 use Rattle.drv_periodic_table.specs.Periodic.{PeriodicContent}
 use Rattle.drv_table.specs.declared.content.Command.{Command}
@@ -12,18 +15,16 @@ use Rattle.drv_table.specs.declared.content.Endpoint.{Endpoint}
 use Rattle.drv_table.specs.declared.rows.DriverRow.{DriverRow}
 use Rattle.drv_table.specs.declared.rows.DriverRow.TheVariants as rows
 use Rattle.drv_table.specs.DriverContent.{DriverContent}
-use Rattle.drv_table.specs.Commands.{events_of, links, removes_members, no_command, leave_ring, leave_frames, finished, list_after}
+use Rattle.drv_table.specs.Commands.{events_of, links, removes_members, leave_ring, leave_frames, finished, list_after}
 use Rattle.drv_table.specs.Commands.{advanced_by, advance}
 use Rattle.drv_table.specs.FrameChoice.{with_notes, framed_notes, placement_at, framed_by}
 use Rattle.drv_table.specs.Parts.{Parts}
 use Rattle.drv_table.specs.Rows.{after_driver_row}
 use Rattle.law_driver.specs.queued_drivers.Queued.{queued_command, queued}
 use Rattle.law_driver.proofs.lemmas.queued_drivers.RowLists.{command_stays as queued_stays}
-use Rattle.law_driver.proofs.lemmas.run_owners.Released.{set_here, set_there}
 use Rattle.law_footprints.specs.Changes.{EndpointChange, off_ring, off_frames, let_go, over, onward, EndpointsStep, same, one}
 use Rattle.law_footprints.proofs.EndpointsChanged.{endpoints_step}
 use Rattle.law_footprints.proofs.Fields.{command_stays}
-use Rattle.law_queues.proofs.lemmas.harvest_laws.Opening.{set_which}
 
 -- ---- endpoints
 
@@ -104,11 +105,6 @@ frames_left : (d : DriverContent) (e : ℕ) (o : Option Endpoint) → (leave_fra
 frames_left d e None = refl
 frames_left d e (Some x) = either x.chained _ d refl
 
-done_none : (d : DriverContent) (c : Command) → (finished d c).command ≡ None
-done_none d (unfinished.Unlink e b link) = ring_left (no_command d) e (slice_get d.endpoints e)
-done_none d (unfinished.Unchain e) = frames_left (no_command d) e (slice_get d.endpoints e)
-done_none d _ = refl
-
 went_on : (d : DriverContent) (o : Option Command) → d.command ≡ o → StaysOrEnds d.command (advanced_by d o).command
 went_on d None is = inl refl
 went_on d (Some c) is =
@@ -151,9 +147,6 @@ row_command rows.Rest p = inl refl
 
 -- ---- .. as the queues tell it
 
-open_is : (q : ℕ) → ◌≡◌ {A = Option Command} None (Some (unfinished.Open q)) → ⊥
-open_is q is = cc
-
 told_command : (old new : List Endpoint) → EndpointsStep old new → (c : Option Command) → queued_command new c ≡ queued_command old c
 told_command old _ same c = refl
 told_command old _ (one e x y at change) c = queued_stays old e x y at (changed x y change).queue c
@@ -165,7 +158,7 @@ opened_before d f step command q opens =
     ⊎_elim
     (λ (is : f.command ≡ d.command).
     ap (queued_command d.endpoints) (sym is) ∙ sym (told_command d.endpoints f.endpoints step f.command) ∙ opens)
-    (λ (none : f.command ≡ None). absurd (open_is q (sym (ap (queued_command f.endpoints) none) ∙ opens))) command
+    (λ (none : f.command ≡ None). absurd (none_open q (sym (ap (queued_command f.endpoints) none) ∙ opens))) command
 
 -- ---- an event
 

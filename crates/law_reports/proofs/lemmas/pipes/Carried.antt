@@ -1,7 +1,9 @@
 -- What is known of names and ways is carried to a later content of the driver, where its endpoints come of those before, and no other queue
 -- heads are met.
-use Rattle.std.proofs.Common.{◌≡◌, ℕ, ◌*◌, ◌&&◌, Bool, true, false, slice_get, Some, ap, refl, sym, subst, ◌∙◌, ⊎_elim, inl, inr}
+use Rattle.std.proofs.Common.{◌≡◌, ℕ, ◌*◌, ◌&&◌, Bool, true, false, slice_get, Some, ap, sym, subst, ◌∙◌, ⊎_elim, inl, inr}
 use Rattle.std.proofs.lemmas.Option.{same_Some}
+use Rattle.law_common.proofs.Booleans.{and_on}
+use Rattle.law_common.proofs.Numbers.{same_blocks}
 use Rattle.usb_base.specs.declared.endpoints.EpDesc.{EpDesc}
 use Rattle.usb_base.specs.declared.packets.Way.{Way}
 use Rattle.usb_base.specs.declared.packets.Way.TheVariants as ways
@@ -15,7 +17,6 @@ use Rattle.law_driver.specs.queued_drivers.Queued.{queued_endpoint, queued}
 use Rattle.law_driver.proofs.lemmas.ring_members.Placed.{has_queue, queue_off_head}
 use Rattle.law_ring.specs.Told.{Endpoint as Told}
 use Rattle.law_driver_ring.specs.fed_queues.Places.{IsMet, AreMet}
-use Rattle.law_queues.proofs.lemmas.publish_laws.Apart.{thirty_two}
 use Rattle.law_world.specs.memory.pipe_steps.Pipes.{AsksTheWay, AreByWay, AreStillMet}
 use Rattle.law_reports.specs.pipes.Declared.{Sides, IsDeclared, AreDeclared}
 use Rattle.law_reports.specs.pipes.Piped.{asked_as, AreEndsNamed, IsOpening, AreFresh}
@@ -47,13 +48,8 @@ declared_carried x d f was declared e z here =
 
 -- ---- fewer queue heads
 
-fewer_on : (a b : Bool) → b ≡ true → (a && b) ≡ a
-fewer_on true true on = refl
-fewer_on true false on = on
-fewer_on false b on = refl
-
 pub still_on : (narrow those left : ℕ → Bool) → AreStillMet narrow those left → (n : ℕ) → narrow n ≡ true → left n ≡ those n
-still_on narrow those left still n on = still n ∙ fewer_on (those n) (narrow n) on
+still_on narrow those left still n on = still n ∙ and_on (those n) (narrow n) on
 
 asks_still : (sends takes : ℕ → ℕ → Bool) (ins outs left gone : ℕ → Bool) (ends : ℕ → Told) (n : ℕ) (way : Way) → left n ≡ ins n
     → gone n ≡ outs n → AsksTheWay sends takes ins outs ends n way → AsksTheWay sends takes left gone ends n way
@@ -88,7 +84,7 @@ module _ (d f : DriverContent) (near narrow : ℕ → Bool) (owners : HasOwners 
         before = v;
         met = ⊎_elim
             (λ (head : 32 * y.queue ≡ 32 * head_block).
-            absurd (queue_off_head d e y owners v.here (has_queue y alive.1 alive.0) (thirty_two y.queue head_block head)))
+            absurd (queue_off_head d e y owners v.here (has_queue y alive.1 alive.0) (same_blocks y.queue head_block head)))
             (λ (h : IsMetHead d (32 * y.queue)).
             let one : h.number ≡ e =
             same_number d owners h.number e h.endpoint y h.here v.here (kept_as h.endpoint h.met.there.kept) alive (sym h.at) in

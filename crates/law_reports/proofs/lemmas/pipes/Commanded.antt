@@ -3,6 +3,10 @@ use Rattle.std.proofs.Common.{◌≡◌, ℕ, ◌*◌, ◌&&◌, Bool, true, fal
 use Rattle.std.proofs.Common.{refl, sym, subst, ◌∙◌, ⊎_elim, arith}
 use Rattle.std.specs.Prelude.{◌⊎◌}
 use Rattle.std.proofs.lemmas.Bool.{true≢false}
+use Rattle.law_common.proofs.Numbers.{zero_one}
+use Rattle.law_common.proofs.Lists.{push_which}
+use Rattle.law_world.proofs.Common.{none_some, same_queue}
+use Rattle.law_driver.proofs.Common.{pushed}
 use Rattle.usb_base.specs.declared.commands.Cmd.{Cmd}
 use Rattle.usb_base.specs.declared.packets.Way.{Way}
 use Rattle.usb_base.specs.declared.packets.Way.TheVariants as ways
@@ -19,13 +23,10 @@ use Rattle.law_driver.specs.queued_drivers.Queued.{queued_endpoint, queued}
 use Rattle.law_driver.proofs.lemmas.queued_drivers.CommandReasons.{reason_of}
 use Rattle.law_driver.proofs.lemmas.ring_members.Placed.{has_queue, queues_apart}
 use Rattle.law_driver_ring.specs.fed_queues.Places.{IsMet}
-use Rattle.law_queues.proofs.lemmas.harvest_laws.Opening.{push_which}
 use Rattle.law_world.specs.memory.Mixed.{Standing, IsMixedAt}
 use Rattle.law_world.specs.memory.Opens.{OpensMixed}
 use Rattle.law_world.specs.memory.pipe_steps.Pipes.{AreStillMet}
 use Rattle.law_world.proofs.lemmas.memory.CommandKeeping.{command_keeps_standing}
-use Rattle.law_world.proofs.lemmas.memory.Unfinished.{none_unfinished}
-use Rattle.law_world.proofs.lemmas.streams.Told.{same_queue as same_open}
 use Rattle.law_reports.specs.lines.Lined.{in_hand, Lines, IsTelling, AreIsoGoing}
 use Rattle.law_reports.proofs.lemmas.lines.Commanding.{command_keeps_telling}
 use Rattle.law_reports.proofs.lemmas.lines.CommandedGoing.{command_goes}
@@ -35,7 +36,7 @@ use Rattle.law_reports.specs.pipes.Piped.{Heads, asked_as, IsOpening, AreFresh, 
 use Rattle.law_reports.specs.pipes.DescriptorNames.{AreDescriptorsNamed}
 use Rattle.law_reports.specs.pipes.PipedLaws.{OpensDeclared}
 use Rattle.law_reports.proofs.lemmas.pipes.NamesCommanded.{command_keeps_names}
-use Rattle.law_reports.proofs.lemmas.pipes.Accepted.{IsNewest, is_opening, is_bare, EndsThen, one_more, one_anew, ends_then, now_pushed, below}
+use Rattle.law_reports.proofs.lemmas.pipes.Accepted.{IsNewest, is_opening, is_bare, EndsThen, one_more, one_anew, ends_then, below}
 use Rattle.law_reports.proofs.lemmas.pipes.Accepted.{was_anew, now_anew}
 use Rattle.law_reports.proofs.lemmas.pipes.Across.{ComesOf, WasIn, IsNowIn}
 use Rattle.law_reports.proofs.lemmas.pipes.Carried.{fresh_carried, declared_carried, named_carried, by_way_carried}
@@ -44,9 +45,6 @@ use Rattle.law_reports.proofs.lemmas.pipes.Names.{queue_same, kept_as}
 on_and : (a b : Bool) → (a ≡ true → b ≡ true) → a ≡ (a && b)
 on_and true b on = sym (on refl)
 on_and false b on = refl
-
-zero_one : ◌≡◌ {A = ℕ} 0 1 → ⊥
-zero_one e = cc
 
 module _ (fixed : Fixed) (x : Sides) (s : Standing) (m : Lines) (h : Heads) (w : World) (k : IsPiped fixed x s m h w) where
   ins_still : AreStillMet s.near h.ins h.ins
@@ -111,7 +109,7 @@ module _ (fixed : Fixed) (x : Sides) (s : Standing) (m : Lines) (h : Heads) (w :
       which e z here = push_which w.driver.endpoints y e z (ap (λ (xs : List Endpoint). slice_get xs e) (sym ends) ∙ here)
 
       now_more : (e : ℕ) (v : Endpoint) → slice_get w.driver.endpoints e ≡ Some v → slice_get o.driver.endpoints e ≡ Some v
-      now_more e v here = ap (λ (xs : List Endpoint). slice_get xs e) ends ∙ now_pushed w.driver.endpoints y e v here
+      now_more e v here = ap (λ (xs : List Endpoint). slice_get xs e) ends ∙ pushed w.driver.endpoints y e v here
 
       -- it isn't met
       unmet : (e : ℕ) → IsNewest o.driver y → IsMet (queued o.driver) e (queued_endpoint y) → ⊥
@@ -138,7 +136,7 @@ module _ (fixed : Fixed) (x : Sides) (s : Standing) (m : Lines) (h : Heads) (w :
         where
           by : IsNewest o.driver y → IsNewHead s (32 * z.queue) (asked_as z.desc)
           by (is_opening queue opens none) = absurd (zero_one (sym none ∙ made))
-          by (is_bare iso none) = absurd (none_unfinished (unfinished.Open z.queue) (sym none ∙ opening.command))
+          by (is_bare iso none) = absurd (none_some (unfinished.Open z.queue) (sym none ∙ opening.command))
 
       owners : HasOwners o.driver
       owners = mixed.now.framed.place.sound.owners
@@ -156,8 +154,8 @@ module _ (fixed : Fixed) (x : Sides) (s : Standing) (m : Lines) (h : Heads) (w :
           let low = below w.driver.endpoints e v here in
           queues_apart o.driver e (length w.driver.endpoints) v y owners (now_more e v here)
           (has_queue v opening.queue opening.kept) its_place
-          (has_queue y queue kept) (λ same. omega (arith, low, same)) (same_open v.queue y.queue (sym opening.command ∙ opens))
-      none_opens e v here opening (is_bare iso none) = none_unfinished (unfinished.Open v.queue) (sym none ∙ opening.command)
+          (has_queue y queue kept) (λ same. omega (arith, low, same)) (same_queue v.queue y.queue (sym opening.command ∙ opens))
+      none_opens e v here opening (is_bare iso none) = none_some (unfinished.Open v.queue) (sym none ∙ opening.command)
 
       fresh_more : (way : Way) (has : ℕ → ℕ → Bool) (P : ℕ → ℕ → Type 0) → AreFresh w.driver way has P → AreFresh o.driver way has P
       fresh_more way has P fresh addr ep on unused =

@@ -5,6 +5,7 @@ use Rattle.std.specs.List.{concat}
 use Rattle.std.proofs.lemmas.Bool.{true≢false}
 use Rattle.std.proofs.lemmas.List.{append-nil}
 use Rattle.std.proofs.lemmas.Option.{same_Some}
+use Rattle.law_driver.proofs.Common.{of_queue}
 use Rattle.usb_base.specs.declared.packets.Way.TheVariants as ways
 use Rattle.bus_wire.specs.Bus.{Wired, Fixed}
 use Rattle.claims_base.specs.Controller.{opening_base}
@@ -16,7 +17,6 @@ use Rattle.drv_table.specs.declared.content.Endpoint.{Endpoint}
 use Rattle.drv_table.specs.DriverContent.{DriverContent}
 use Rattle.law_driver.specs.endpoint_lives.Lives.{may_meet}
 use Rattle.law_driver.specs.queued_drivers.Queued.{queued_endpoint, queued}
-use Rattle.law_driver.proofs.lemmas.queued_drivers.CommandFields.{of_queue}
 use Rattle.qh_qtd.specs.declared.queue_head.Qh.{Qh}
 use Rattle.law_structures.specs.lent_structures.Structures.{QueueHead}
 use Rattle.law_ring.specs.Bus.{Sender}

@@ -1,13 +1,15 @@
 -- What each step of a queue but the end of an open leaves of an endpoint that is being opened, of the packets that moved, and of the queue
 -- heads that are met.
-use Rattle.std.proofs.Common.{◌≡◌, ℕ, ◌*◌, ◌==◌, not, Bool, true, false, List, slice_get, Option, Some, None, Result, Ok, Err, ap, refl}
+use Rattle.std.proofs.Common.{◌≡◌, ℕ, ◌*◌, ◌==◌, not, Bool, true, false, slice_get, Some, None, Result, Ok, Err, ap, refl}
 use Rattle.std.proofs.Common.{sym, subst, ◌∙◌}
 use Rattle.std.proofs.lemmas.Bool.{and_parts}
+use Rattle.law_world.proofs.Common.{unlink_open, none_some}
+use Rattle.law_reports.proofs.Common.{publish_open}
+use Rattle.law_microframes.proofs.Common.{idle_by}
 use Rattle.usb_base.specs.declared.commands.Cmd.{Cmd}
 use Rattle.usb_base.specs.declared.endpoints.EpDesc.{EpDesc}
 use Rattle.usb_base.specs.declared.reports.OfferError.{OfferError}
 use Rattle.drv_periodic_table.specs.declared.content.Removed.TheVariants as removed
-use Rattle.drv_table.specs.declared.content.Command.{Command}
 use Rattle.drv_table.specs.declared.content.Command.TheVariants as unfinished
 use Rattle.drv_table.specs.declared.content.Endpoint.{Endpoint}
 use Rattle.drv_table.specs.declared.rows.DriverRow.{DriverRow}
@@ -27,11 +29,9 @@ use Rattle.law_world.specs.memory.Steps.{left_alike, left_by_frames, left_by_bel
 use Rattle.law_world.specs.memory.Steps.{QueueStep, stays, harvests, returns, lends, stores, mends, begins, opens, unlinks, narrows, goes}
 use Rattle.law_world.specs.memory.pipe_steps.Laws.{IsNoOpening}
 use Rattle.law_world.proofs.lemmas.memory.RingBasis.{due_is}
-use Rattle.law_world.proofs.lemmas.memory.Unfinished.{none_unfinished}
 use Rattle.law_world.proofs.lemmas.memory.lemmas.pipe_steps.Stays.{stays_tells_one_hand}
 use Rattle.law_reports.specs.lines.Lined.{in_hand, Lines}
 use Rattle.law_reports.specs.lines.TellingLaws.{LinesAfter}
-use Rattle.law_microframes.proofs.lemmas.visits.BelongItdCommands.{idle_by}
 use Rattle.bus_world.specs.World.{World, driver_parts, driver_next, name_in, commanded_by}
 use Rattle.law_reports.specs.pipes.Piped.{asked_as, IsOpening, IsNewHead, HaveNewHeads}
 use Rattle.law_reports.proofs.lemmas.pipes.Across.{WasIn, was_in, opened_before, row_command, row_ends}
@@ -71,13 +71,6 @@ none_nearer s w new _ (goes e x d t back is) other n on = (and_parts (s.near n) 
 
 -- ---- an endpoint that is being opened
 
-publish_open : (b : ℕ) (words : List ℕ) (q : ℕ)
-    → ◌≡◌ {A = Option Command} (Some (unfinished.Publish b words)) (Some (unfinished.Open q)) → ⊥
-publish_open b words q e = cc
-
-unlink_open : (e b link q : ℕ) → ◌≡◌ {A = Option Command} (Some (unfinished.Unlink e b link)) (Some (unfinished.Open q)) → ⊥
-unlink_open e b link q is = cc
-
 module _ (s : Standing) (w : World) (mixed : IsMixedAt s w) (heads : HaveNewHeads w.driver s) where
   abbrev new : World
   new = driver_next w
@@ -114,7 +107,7 @@ module _ (s : Standing) (w : World) (mixed : IsMixedAt s w) (heads : HaveNewHead
   none_opens t never e z here o made = absurd (never z.queue (opening_then z.queue o.command))
 
   idle_opens : (t : Standing) → (queued w.driver).command ≡ None → HaveNewHeads (driver_next w).driver t
-  idle_opens t idle = none_opens t (λ q is. none_unfinished (unfinished.Open q) (sym idle ∙ is))
+  idle_opens t idle = none_opens t (λ q is. none_some (unfinished.Open q) (sym idle ∙ is))
 
   -- its queue head is told as before
   carry : (t : Standing) → ((n : ℕ) (u : Told) → IsNewHead s n u → IsNewHead t n u)

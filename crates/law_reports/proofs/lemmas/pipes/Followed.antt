@@ -3,12 +3,15 @@
 use Rattle.std.proofs.Common.{◌≡◌, ◌≢◌, ℕ, ◌*◌, Bool, true, false, List, [], ◌++◌, slice_get, Some, option_map, ap, refl, sym, subst}
 use Rattle.std.proofs.Common.{◌∙◌, ⊎_elim}
 use Rattle.std.specs.List.{concat}
-use Rattle.std.proofs.lemmas.Bool.{cases_Bool, cases_eq, false≢true, true≢false}
+use Rattle.std.proofs.lemmas.Bool.{cases_Bool, cases_eq, true≢false}
 use Rattle.std.proofs.lemmas.Option.{same_Some}
+use Rattle.law_reports.proofs.Common.{one_way, no_iso, queue_open}
+use Rattle.law_driver.proofs.Common.{of_queue, get_queued}
+use Rattle.law_queues.proofs.Common.{not_open}
+use Rattle.law_common.proofs.Numbers.{same_blocks}
+use Rattle.law_world.proofs.Common.{same_queue, begins_both}
 use Rattle.usb_base.specs.declared.endpoints.EpDesc.{EpDesc}
 use Rattle.usb_base.specs.declared.endpoints.EpName.{EpName}
-use Rattle.usb_base.specs.declared.packets.EpKind.{EpKind}
-use Rattle.usb_base.specs.declared.packets.EpKind.TheVariants as kinds
 use Rattle.usb_base.specs.declared.packets.Way.{Way}
 use Rattle.usb_base.specs.declared.packets.Way.TheVariants as ways
 use Rattle.usb_base.specs.declared.reports.Report.{Report}
@@ -22,21 +25,18 @@ use Rattle.drv_table.specs.Kinds.{is_iso}
 use Rattle.drv_table.specs.Releases.{is_told}
 use Rattle.drv_table.specs.Rows.{driver_row}
 use Rattle.law_controller.specs.controlled_streams.Reported.{IsReported}
-use Rattle.law_driver.specs.queued_drivers.Queued.{queued_kind, queued_endpoint, queued}
+use Rattle.law_driver.specs.queued_drivers.Queued.{queued_endpoint, queued}
 use Rattle.law_driver.specs.queued_drivers.Rows.{TellsAlike}
-use Rattle.law_driver.proofs.lemmas.queued_drivers.CommandFields.{of_queue, desc_same, name_same, get_queued}
+use Rattle.law_driver.proofs.lemmas.queued_drivers.CommandFields.{desc_same, name_same}
 use Rattle.law_driver.proofs.lemmas.run_owners.Reasons.{each_event_is_due}
 use Rattle.law_driver_ring.specs.fed_queues.Places.{IsThere}
 use Rattle.law_queues.specs.leaving_drivers.Before.{WasSame, IsAsBefore}
 use Rattle.law_queues.specs.leaving_drivers.Told.{told_to}
 use Rattle.law_queues.specs.open_laws.Queues.{IsOpenThere}
 use Rattle.law_queues.specs.told_endpoints.Telling.{named_of, lines_in, IsToldTo}
-use Rattle.law_queues.proofs.lemmas.leaving_drivers.Alike.{not_open}
-use Rattle.law_queues.proofs.lemmas.publish_laws.Apart.{thirty_two}
 use Rattle.law_world.specs.streams.Feeding.{there_of}
 use Rattle.law_world.specs.streams.left_reports.Leaver.{IsToldGone}
-use Rattle.law_world.proofs.lemmas.streams.Told.{there_on, same_queue as same_open}
-use Rattle.law_world.proofs.lemmas.streams.lemmas.put_laws.Rests.{prefix_join}
+use Rattle.law_world.proofs.lemmas.streams.Told.{there_on}
 use Rattle.law_world.specs.memory.Mixed.{Standing, IsMixedAt}
 use Rattle.law_world.specs.memory.Steps.{told_parts, IsGivenBack, given_by, IsWithout}
 use Rattle.law_world.specs.memory.Steps.{QueueStep}
@@ -57,21 +57,6 @@ use Rattle.law_reports.proofs.lemmas.pipes.Leaving.{IsNoReturn, step_keeps, step
 use Rattle.law_reports.proofs.lemmas.pipes.Names.{queue_same, kept_as}
 
 -- ---- kinds
-
-pub no_iso : (kind : EpKind) → has_stream kind ≡ true → is_iso kind ≡ false
-no_iso kinds.Iso is = absurd (false≢true is)
-no_iso kinds.Bulk is = refl
-no_iso kinds.Interrupt is = refl
-no_iso kinds.Control is = refl
-
--- as its queues tell it, an endpoint whose data go one way has a stream
-one_way : (way : Way) → way ≢ ways.Ctl → has_stream (queued_kind way) ≡ true
-one_way ways.Ctl other = absurd (other refl)
-one_way ways.In other = refl
-one_way ways.Out other = refl
-
-queue_open : (b c : ℕ) → b ≡ c → Some (unfinished.Open b) ≡ Some (unfinished.Open c)
-queue_open b c is = ap (λ (q : ℕ). Some (unfinished.Open q)) is
 
 module _ (fixed : Fixed) (x : Sides) (s : Standing) (m : Lines) (h : Heads) (w : World) (k : IsPiped fixed x s m h w) where
   -- ---- what is told of one that is there begins what moved of it
@@ -99,7 +84,7 @@ module _ (fixed : Fixed) (x : Sides) (s : Standing) (m : Lines) (h : Heads) (w :
 
     pub told_first : IsPrefix (told_to w.driver y.desc.name) (concat (m.acc (32 * y.queue)))
     told_first =
-        prefix_join (told_to w.driver y.desc.name) (k.telling.told.told e) (concat (m.acc (32 * y.queue))) (
+        begins_both (told_to w.driver y.desc.name) (k.telling.told.told e) (concat (m.acc (32 * y.queue))) (
           k.telling.told.held e,
           ap (λ (n : EpName). told_to w.driver n ++ k.telling.told.held e) (sym (name_same y)) ∙ to.sum,
         ) moved
@@ -224,7 +209,7 @@ module _ (fixed : Fixed) (x : Sides) (s : Standing) (m : Lines) (h : Heads) (w :
               kept = v.comes.alive its.0;
               queue = ap (λ (c : EpDesc). is_iso c.kind) (sym v.comes.desc) ∙ its.1;
               command = at.command ∙ queue_open at.endpoint.queue v.endpoint.queue
-                  (sym (thirty_two v.endpoint.queue at.endpoint.queue same));
+                  (sym (same_blocks v.endpoint.queue at.endpoint.queue same));
             } in
             back_at e z v (λ q. concat (l.acc (32 * q)))
             (subst (λ (xs : List (List ℕ)). P v.endpoint.desc.name.addr v.endpoint.desc.name.num (concat xs))
@@ -234,7 +219,7 @@ module _ (fixed : Fixed) (x : Sides) (s : Standing) (m : Lines) (h : Heads) (w :
         another differs =
             let was_there : IsThere (queued w.driver) (queued_endpoint v.endpoint) =
             there_by e z v there.kept (λ opening.
-            differs (ap (λ (q : ℕ). 32 * q) (same_open v.endpoint.queue at.endpoint.queue (sym opening ∙ at.command)))) in
+            differs (ap (λ (q : ℕ). 32 * q) (same_queue v.endpoint.queue at.endpoint.queue (sym opening ∙ at.command)))) in
             back_at e z v (λ q. concat (l.acc (32 * q)))
             (subst (λ (xs : List (List ℕ)). P v.endpoint.desc.name.addr v.endpoint.desc.name.num (concat xs))
             (sym (told.moved (32 * v.endpoint.queue) differs)) (begun e v.endpoint v.here o.its_way o.on was_there))

@@ -3,6 +3,9 @@ use Rattle.std.proofs.Common.{◌≡◌, ℕ, ◌*◌, Bool, true, List, length,
 use Rattle.std.proofs.Common.{subst, ◌∙◌, ◌⊎◌, ⊎_elim, inl, inr}
 use Rattle.std.specs.List.{concat}
 use Rattle.std.proofs.lemmas.Bool.{true≢false}
+use Rattle.law_common.proofs.Lists.{push_which}
+use Rattle.law_world.proofs.Common.{none_some}
+use Rattle.law_microframes.proofs.Common.{idle_by}
 use Rattle.usb_base.specs.declared.commands.Cmd.{Cmd}
 use Rattle.usb_base.specs.declared.endpoints.EpDesc.{EpDesc}
 use Rattle.usb_base.specs.declared.endpoints.EpName.{EpName}
@@ -23,14 +26,11 @@ use Rattle.law_driver_ring.specs.fed_queues.Places.{IsThere}
 use Rattle.law_queues.specs.leaving_drivers.Told.{told_to}
 use Rattle.law_queues.proofs.lemmas.leaving_drivers.Telling.{refusals_tell_nothing}
 use Rattle.law_queues.specs.told_endpoints.Telling.{lines_in}
-use Rattle.law_queues.proofs.lemmas.harvest_laws.Opening.{push_which}
 use Rattle.claims_report.specs.Streams.{told_in}
 use Rattle.usb_base.specs.declared.reports.Report.{Report}
 use Rattle.law_world.specs.steps.Streaming.{wired}
 use Rattle.law_world.specs.memory.Mixed.{Standing}
 use Rattle.law_world.specs.memory.Opens.{OpensMixed}
-use Rattle.law_world.proofs.lemmas.memory.Unfinished.{none_unfinished}
-use Rattle.law_microframes.proofs.lemmas.visits.BelongItdCommands.{idle_by}
 use Rattle.law_reports.specs.lines.Lined.{Lines}
 use Rattle.bus_world.specs.World.{World, name_in, commanded_by, commanded, refused_line}
 use Rattle.law_reports.specs.pipes.Declared.{Sides}
@@ -131,7 +131,7 @@ module _ (fixed : Fixed) (x : Sides) (s : Standing) (m : Lines) (h : Heads) (w :
       → P y.desc.name.addr y.desc.name.num (concat (m.acc (32 * y.queue)))) → AreLeft w.driver m.acc way has P
       → AreLeft f m.acc way has P
   accepted_left f cmd idle ends way has P begun left =
-      left_then f (λ q is. absurd (none_unfinished (unfinished.Open q) (sym idle ∙ is))) (was_by f cmd ends)
+      left_then f (λ q is. absurd (none_some (unfinished.Open q) (sym idle ∙ is))) (was_by f cmd ends)
       (accepted_keeps w.driver f cmd ends) (tells_by f cmd ends) way has P begun left
 
 module _ (fixed : Fixed) (x : Sides) (s : Standing) (m : Lines) (h : Heads) (w : World) (f : IsFollowed fixed x s m h w) (line : ℕ)

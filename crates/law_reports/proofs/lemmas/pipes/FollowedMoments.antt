@@ -1,4 +1,5 @@
 -- Each moment of each script has its streams so, with those of the endpoints that left.
+use Rattle.law_world.proofs.Common.{lines_can}
 use Rattle.script_types.specs.declared.scripts.Script.{Script}
 use Rattle.script_fits.proofs.Texts.{spelled_fits}
 use Rattle.bus_wire.specs.Bus.{fixed_of}
@@ -6,7 +7,6 @@ use Rattle.law_scripts.proofs.lemmas.script_bytes.Texts.{a_text_spells_bytes}
 use Rattle.law_world.specs.steps.receiving_runs.Runs.{IsKeptBy}
 use Rattle.law_world.proofs.lemmas.steps.lemmas.receiving_runs.Runs.{holds_throughout}
 use Rattle.law_world.proofs.lemmas.memory.FittingTexts.{texts_open_fitting}
-use Rattle.law_world.proofs.lemmas.memory.Moments.{lines_can}
 use Rattle.law_world.proofs.lemmas.memory.Texts.{texts_fit}
 use Rattle.law_world.proofs.lemmas.memory.Together.{lines_fit}
 use Rattle.law_reports.specs.pipes.Declared.{sides_of}

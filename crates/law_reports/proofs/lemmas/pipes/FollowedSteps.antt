@@ -3,6 +3,7 @@ use Rattle.std.proofs.Common.{◌≡◌, ◌≢◌, ℕ, true, List, [], slice_g
 use Rattle.std.specs.List.{concat}
 use Rattle.std.proofs.lemmas.Bool.{and_parts}
 use Rattle.std.proofs.lemmas.Option.{same_Some}
+use Rattle.law_world.proofs.Common.{begins_both}
 use Rattle.usb_base.specs.declared.packets.Way.TheVariants as ways
 use Rattle.bus_wire.specs.Bus.{Fixed}
 use Rattle.claims_base.specs.Prefix.{IsPrefix}
@@ -13,7 +14,6 @@ use Rattle.law_devices.specs.scripted_takers.Takers.{taker_of}
 use Rattle.law_world.specs.steps.Outs.{IsUntaken}
 use Rattle.law_world.specs.steps.Streaming.{wired}
 use Rattle.law_queues.specs.leaving_drivers.Told.{told_to}
-use Rattle.law_world.proofs.lemmas.streams.lemmas.put_laws.Rests.{prefix_join}
 use Rattle.law_world.specs.memory.Mixed.{Standing, IsMixedAt}
 use Rattle.law_world.specs.memory.Steps.{IsMixedNext}
 use Rattle.law_world.specs.memory.Steps.{QueueStep, stays, harvests, returns, lends, stores, mends, begins, opens, unlinks, narrows, goes}
@@ -42,7 +42,7 @@ out_way e = cc
 
 pub in_less : (x : Sides) (addr ep : ℕ) (bytes more : List ℕ) → IsPrefix bytes more → IsPrefix more (concat (x.packets addr ep))
     → IsPrefix bytes (concat (x.packets addr ep))
-in_less x addr ep bytes more front all = prefix_join bytes more (concat (x.packets addr ep)) front all
+in_less x addr ep bytes more front all = begins_both bytes more (concat (x.packets addr ep)) front all
 
 module _ (fixed : Fixed) (x : Sides) (s : Standing) (m : Lines) (h : Heads) (w : World) (f : IsFollowed fixed x s m h w) where
   abbrev k : IsPiped fixed x s m h w
@@ -57,7 +57,7 @@ module _ (fixed : Fixed) (x : Sides) (s : Standing) (m : Lines) (h : Heads) (w :
   out_less : (addr ep : ℕ) (bytes more : List ℕ) → IsPrefix bytes more → HasTakenAtLeast (taker_of (wired fixed w) addr ep) more
       → HasTakenAtLeast (taker_of (wired fixed w) addr ep) bytes
   out_less addr ep bytes more front all =
-      record { taker = all.taker; is = all.is; begins = prefix_join bytes more all.taker.taken front all.begins }
+      record { taker = all.taker; is = all.is; begins = begins_both bytes more all.taker.taken front all.begins }
 
   ins_stream : (e : ℕ) (y : Endpoint) → slice_get w.driver.endpoints e ≡ Some y → y.desc.name.way ≡ ways.In
       → x.sends y.desc.name.addr y.desc.name.num ≡ true → has_stream y.desc.kind ≡ true

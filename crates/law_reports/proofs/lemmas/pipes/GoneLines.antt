@@ -26,7 +26,7 @@ use Rattle.drv_table.specs.Rows.{after_driver_row}
 use Rattle.law_driver.specs.run_owners.Due.{IsHarvestDue, IsDue}
 use Rattle.law_driver.specs.queued_drivers.Queued.{queued_endpoint, queued_parts, QueuesTakeTurns}
 use Rattle.law_driver.specs.queued_drivers.Rows.{IsToldAlike, TellsAlike}
-use Rattle.law_driver.proofs.lemmas.queued_drivers.CommandFields.{name_same, get_queued}
+use Rattle.law_driver.proofs.lemmas.queued_drivers.CommandFields.{name_same}
 use Rattle.law_driver.proofs.lemmas.queued_drivers.RowEvents.{row_told}
 use Rattle.law_queues.specs.told_endpoints.Telling.{lines_in}
 use Rattle.law_queues.proofs.lemmas.leaving_drivers.Reading.{read_row, AddsLines}
@@ -34,6 +34,7 @@ use Rattle.law_queues.proofs.lemmas.leaving_drivers.Telling.{lines_not}
 use Rattle.law_queues.proofs.lemmas.told_endpoints.Lines.{told_more, stored_filtered}
 use Rattle.law_reports.proofs.lemmas.lines.Described.{read_is, never_moved, never_ended}
 use Rattle.std.specs.Prelude.{is_some}
+use Rattle.law_driver.proofs.Common.{get_queued}
 use Rattle.claims_report.specs.Streams.{told_in}
 use Rattle.report_text.specs.ReportText.{AreStored}
 use Rattle.law_queues.specs.leaving_drivers.Told.{told_to}

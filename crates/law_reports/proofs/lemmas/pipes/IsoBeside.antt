@@ -3,6 +3,7 @@ use Rattle.std.proofs.Common.{◌≡◌, ℕ, zero, suc, ◌*◌, ◌<◌, ◌&&
 use Rattle.std.proofs.Common.{None, option_map, ap, refl, sym, subst, ◌∙◌, if◌then◌else◌}
 use Rattle.std.proofs.lemmas.Bool.{false≢true, true≢false}
 use Rattle.std.proofs.lemmas.Option.{same_Some}
+use Rattle.law_microframes.proofs.Common.{words_are}
 use Rattle.usb_base.specs.declared.endpoints.EpDesc.{EpDesc}
 use Rattle.usb_base.specs.declared.packets.Ask.{Ask}
 use Rattle.usb_base.specs.declared.packets.EpKind.{EpKind}
@@ -39,7 +40,6 @@ use Rattle.bus_world.specs.World.{World}
 use Rattle.law_reports.specs.pipes.Declared.{Sides, IsDeclaredBy, AreDeclared}
 use Rattle.law_reports.specs.pipes.DescriptorNames.{TellsName, TellsBy, AreDescriptorsNamed, NamesKeepBeside}
 use Rattle.law_reports.proofs.lemmas.pipes.NameWords.{ItdTells, SitdTells, words_sitd_tell}
-use Rattle.law_reports.proofs.lemmas.pipes.NamesKept.{sitd_told}
 
 -- ---- an isochronous endpoint has no stream
 
@@ -196,7 +196,7 @@ module _ (x : Sides) (s : Standing) (w : World) (k : IsMixedAt s w) (declared : 
       let holds : HoldsSplitIsochronous w.memory n v = k.now.framed.runs.ring.tells.each n n (SplitIsochronous v) here in
       named_by n i true (sitd_split (note_at d.periodic.notes i.transfer.first).split (s.descs n) n v here_in i.has)
       (slice_get d.endpoints i.transfer.endpoint) refl v.addr v.ep v.dir_in
-      (λ y h. subst (λ (u : Sitd). TellsName u.addr u.ep u.dir_in y.desc) (sitd_told w.memory n v holds)
+      (λ y h. subst (λ (u : Sitd). TellsName u.addr u.ep u.dir_in y.desc) (words_are w.memory n v holds)
       (subst (λ (a : ℕ). SitdTells (words_at w.memory a 7) y.desc) (sym i.at) (words_sitd_tell w.memory i.transfer.first y.desc h)))
 
   -- ---- what is asked

@@ -3,6 +3,7 @@ use Rattle.std.proofs.Common.{◌≡◌, ◌≢◌, ℕ, suc, ◌-◌, Bool, tru
 use Rattle.std.proofs.Common.{ap}
 use Rattle.std.proofs.Common.{refl, sym, subst, ◌∙◌, ⊎_elim, List}
 use Rattle.std.proofs.lemmas.Option.{same_Some}
+use Rattle.law_queues.proofs.Common.{set_which}
 use Rattle.usb_base.specs.declared.endpoints.EndCause.{EndCause}
 use Rattle.word_mem.specs.Memory.{Mem}
 use Rattle.mem_runs.specs.Book.{holding, lend_taken}
@@ -24,7 +25,6 @@ use Rattle.drv_table.specs.Parts.{Parts}
 use Rattle.drv_table.specs.Rows.{after_driver_row}
 use Rattle.law_footprints.proofs.Fields.{endpoints_stays}
 use Rattle.law_footprints.proofs.Frame.{listed, advanced_stays, all_behind}
-use Rattle.law_queues.proofs.lemmas.harvest_laws.Opening.{set_which}
 
 -- who is given back was so
 abbrev pub KeepsGone : List Endpoint → List Endpoint → Type 0

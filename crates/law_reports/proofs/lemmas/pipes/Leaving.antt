@@ -1,11 +1,14 @@
 -- Which endpoints a step of a queue gives back, and that one that is being opened stays so until its open ends.
-use Rattle.std.proofs.Common.{◌≡◌, ℕ, ◌*◌, true, false, List, slice_get, Option, Some, None, Result, Ok, Err, ap, refl, sym, subst, ◌∙◌}
+use Rattle.std.proofs.Common.{◌≡◌, ℕ, ◌*◌, true, false, List, slice_get, Some, None, Result, Ok, Err, ap, refl, sym, subst, ◌∙◌}
 use Rattle.std.proofs.Common.{zero, suc, [], ◌∷◌, ◌++◌}
 use Rattle.std.proofs.lemmas.Option.{same_Some}
+use Rattle.law_world.proofs.Common.{unlink_open, none_some}
+use Rattle.law_reports.proofs.Common.{publish_open}
+use Rattle.law_driver.proofs.Common.{of_queue, get_queued}
+use Rattle.law_microframes.proofs.Common.{idle_by}
 use Rattle.usb_base.specs.declared.commands.Cmd.{Cmd}
 use Rattle.usb_base.specs.declared.reports.OfferError.{OfferError}
 use Rattle.drv_periodic_table.specs.declared.content.Removed.TheVariants as removed
-use Rattle.drv_table.specs.declared.content.Command.{Command}
 use Rattle.drv_table.specs.declared.content.Command.TheVariants as unfinished
 use Rattle.drv_table.specs.declared.content.Endpoint.{Endpoint}
 use Rattle.drv_table.specs.declared.rows.DriverRow.{DriverRow}
@@ -17,7 +20,6 @@ use Rattle.drv_table.specs.Offers.{offered}
 use Rattle.drv_table.specs.Parts.{Parts}
 use Rattle.drv_table.specs.Rows.{driver_row}
 use Rattle.law_driver.specs.queued_drivers.Queued.{queued_endpoint, queued}
-use Rattle.law_driver.proofs.lemmas.queued_drivers.CommandFields.{of_queue, get_queued}
 use Rattle.law_driver.proofs.lemmas.queued_drivers.CommandReasons.{reason_of}
 use Rattle.law_driver.proofs.lemmas.queued_drivers.RowEvents.{idle_told}
 use Rattle.law_driver.proofs.lemmas.run_owners.Commands.{each_command_has_its_reason}
@@ -30,18 +32,9 @@ use Rattle.law_world.specs.memory.Steps.{left_alike, left_by_frames, left_by_bel
 use Rattle.law_world.specs.memory.Steps.{QueueStep, stays, harvests, returns, lends, stores, mends, begins, opens, unlinks, narrows, goes}
 use Rattle.law_world.specs.memory.pipe_steps.Laws.{IsNoOpening}
 use Rattle.law_world.proofs.lemmas.memory.RingBasis.{due_is}
-use Rattle.law_world.proofs.lemmas.memory.Unfinished.{none_unfinished}
-use Rattle.law_microframes.proofs.lemmas.visits.BelongItdCommands.{idle_by}
 use Rattle.bus_world.specs.World.{World, driver_next, name_in, commanded_by}
 use Rattle.law_reports.proofs.lemmas.pipes.Accepted.{EndsThen, one_more, one_anew, ends_then}
 use Rattle.law_reports.proofs.lemmas.pipes.KeepsGone.{KeepsGone, IsNoRelease, same, one, row_keeps}
-
-publish_open : (b : ℕ) (words : List ℕ) (q : ℕ)
-    → ◌≡◌ {A = Option Command} (Some (unfinished.Publish b words)) (Some (unfinished.Open q)) → ⊥
-publish_open b words q e = cc
-
-unlink_open : (e b link q : ℕ) → ◌≡◌ {A = Option Command} (Some (unfinished.Unlink e b link)) (Some (unfinished.Open q)) → ⊥
-unlink_open e b link q is = cc
 
 -- as the queues tell it, and so of an endpoint with a queue
 abbrev pub KeepsQueues : DriverContent → DriverContent → Type 0
@@ -127,7 +120,7 @@ module _ (s : Standing) (w : World) (mixed : IsMixedAt s w) where
       (subst (λ (f : DriverContent). KeepsGone (queued w.driver).endpoints f.endpoints) (sym is.told)
       (row_keeps (driver_row (told_parts w)) (told_parts w)
       (busy_gives_none (driver_row (told_parts w)) (told_parts w) (each_event_is_due (told_parts w))
-      (λ none. none_unfinished (unfinished.Publish b words) (sym none ∙ is.command)))))
+      (λ none. none_some (unfinished.Publish b words) (sym none ∙ is.command)))))
   step_keeps _ (mends k is) other = told_row (rows.Mend (store_due k.stalled)) tt is
   step_keeps _ (begins k is alike) other = alike_keeps alike.endpoints
   step_keeps _ (opens k t alike opened) other = alike_keeps alike.endpoints
@@ -138,7 +131,7 @@ module _ (s : Standing) (w : World) (mixed : IsMixedAt s w) where
   -- ---- an open
 
   idle_never : (queued w.driver).command ≡ None → (q : ℕ) → (queued w.driver).command ≡ Some (unfinished.Open q) → ⊥
-  idle_never idle q is = none_unfinished (unfinished.Open q) (sym idle ∙ is)
+  idle_never idle q is = none_some (unfinished.Open q) (sym idle ∙ is)
 
   abbrev OpensStill : Type 0
   OpensStill = (q : ℕ) → (queued w.driver).command ≡ Some (unfinished.Open q) → (queued (driver_next w).driver).command ≡ Some

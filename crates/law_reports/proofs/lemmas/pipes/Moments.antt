@@ -5,6 +5,7 @@ use Rattle.script_types.specs.declared.scripts.Line.{Line}
 use Rattle.script_types.specs.declared.scripts.Line.TheVariants as lines
 use Rattle.script_types.specs.declared.scripts.Script.{Script}
 use Rattle.std.specs.List.{AllByRecursion}
+use Rattle.law_world.proofs.Common.{lines_can}
 use Rattle.bus_wire.specs.Bus.{Fixed, fixed_of}
 use Rattle.bus_world.specs.World.{World, driver_next}
 use Rattle.law_world.specs.steps.receiving_runs.Runs.{KindOfLine, IsKeptBy}
@@ -20,7 +21,6 @@ use Rattle.script_fits.proofs.Texts.{spelled_fits}
 use Rattle.law_world.proofs.lemmas.memory.FittingTexts.{texts_open_fitting}
 use Rattle.law_world.proofs.lemmas.memory.Texts.{texts_fit}
 use Rattle.law_world.proofs.lemmas.memory.Together.{lines_fit}
-use Rattle.law_world.proofs.lemmas.memory.Moments.{lines_can}
 use Rattle.law_reports.specs.lines.Lined.{Lines}
 use Rattle.law_reports.specs.lines.TellingLaws.{IsTellingNext}
 use Rattle.law_reports.proofs.lemmas.lines.Driven.{driver_keeps_telling}

@@ -2,7 +2,7 @@
 use Rattle.std.proofs.Common.{◌≡◌, ℕ, ◌+◌, ◌*◌, ◌/◌, ◌<◌, ◌≤◌, Bool, true, false, List, [], ◌∷◌, slice_index, refl, sym, subst, arith}
 use Rattle.std.specs.Prelude.{unwrap_or}
 use Rattle.std.proofs.lemmas.Bool.{eq-eqb}
-use Rattle.law_structures.proofs.lemmas.lent_structures.Names.{not_same}
+use Rattle.law_common.proofs.Numbers.{other_number}
 use Rattle.usb_base.specs.declared.endpoints.EpDesc.{EpDesc}
 use Rattle.word_mem.specs.Memory.{Mem, word_at}
 use Rattle.word_mem.specs.Views.{words_at, words_in}
@@ -49,14 +49,14 @@ itd_dir : (x : EpDesc) (smask slot : ℕ) (runs : List ℕ) → x.max ≤ 1024 �
     → (itd_at (itd_words (record (new_itd x smask slot runs) { dir_in = b }))).dir_in ≡ b
 unfolding itd_at itd_words
 itd_dir x smask slot runs few true = eq-eqb _ _ (omega (arith, few))
-itd_dir x smask slot runs few false = not_same _ _ (λ e. omega (arith, few, e))
+itd_dir x smask slot runs few false = other_number _ _ (λ e. omega (arith, few, e))
 
 sitd_dir : (x : EpDesc) (smask cmask slot : ℕ) (runs : List ℕ) → x.name.addr < 128 → x.name.num < 16 → unwrap_or x.hub 0 < 128
     → x.port < 128 → (b : Bool)
     → (sitd_at (sitd_words (record (new_sitd x smask cmask slot runs) { dir_in = b }))).dir_in ≡ b
 unfolding sitd_at sitd_words
 sitd_dir x smask cmask slot runs addr num hub port true = eq-eqb _ _ (omega (arith, addr, num, hub, port))
-sitd_dir x smask cmask slot runs addr num hub port false = not_same _ _ (λ e. omega (arith, addr, num, hub, port, e))
+sitd_dir x smask cmask slot runs addr num hub port false = other_number _ _ (λ e. omega (arith, addr, num, hub, port, e))
 
 sitd_addr : (x : EpDesc) (smask cmask slot : ℕ) (runs : List ℕ) → x.name.addr < 128
     → (sitd_at (sitd_words (new_sitd x smask cmask slot runs))).addr ≡ x.name.addr

@@ -4,6 +4,9 @@ use Rattle.std.proofs.Common.{sym, subst, ◌∙◌, ⊎_elim, inl, inr}
 use Rattle.std.specs.Prelude.{◌⊎◌}
 use Rattle.std.proofs.lemmas.Bool.{cases_eq, true≢false, false≢true}
 use Rattle.std.proofs.lemmas.Option.{slice_get-map, same_Some}
+use Rattle.law_common.proofs.Booleans.{off_by}
+use Rattle.law_driver.proofs.Common.{of_queue, of_none, get_queued}
+use Rattle.law_common.proofs.Numbers.{same_blocks}
 use Rattle.usb_base.specs.declared.endpoints.EpName.{EpName}
 use Rattle.usb_base.specs.declared.packets.Way.{Way}
 use Rattle.usb_base.specs.declared.packets.Way.TheVariants as ways
@@ -14,12 +17,11 @@ use Rattle.drv_table.specs.DriverContent.{DriverContent}
 use Rattle.drv_table.specs.Kinds.{is_iso}
 use Rattle.drv_table.specs.Words.{head_block}
 use Rattle.law_driver.specs.queued_drivers.Queued.{without_queue, with_queue, queued_endpoint, queued}
-use Rattle.law_driver.proofs.lemmas.queued_drivers.CommandFields.{of_queue, of_none, name_same, get_queued}
+use Rattle.law_driver.proofs.lemmas.queued_drivers.CommandFields.{name_same}
 use Rattle.law_driver.proofs.lemmas.ring_members.Placed.{has_queue, queues_apart, queue_off_head}
 use Rattle.law_ring.specs.Told.{Endpoint as Told}
 use Rattle.law_controller.specs.controlled_streams.Unopened.{IsUnopened}
 use Rattle.law_driver_ring.specs.fed_queues.Places.{IsMet, HasHead, AreMet}
-use Rattle.law_queues.proofs.lemmas.publish_laws.Apart.{thirty_two}
 use Rattle.law_queues.proofs.lemmas.told_endpoints.Names.{name_is_same}
 use Rattle.law_world.specs.memory.pipe_steps.Pipes.{AsksTheWay, AreByWay}
 use Rattle.law_reports.specs.pipes.Piped.{AreEndsNamed}
@@ -64,7 +66,7 @@ same_number d owners e f y v here there kept also same =
     ⊎_elim (λ (is : e ≡ f). is)
     (λ (differs : e ≢ f).
     absurd (queues_apart d e f y v owners here (has_queue y kept.1 kept.0) there (has_queue v also.1 also.0) differs
-    (thirty_two y.queue v.queue same))) (cases_eq e f)
+    (same_blocks y.queue v.queue same))) (cases_eq e f)
 
 -- ---- those that are met
 
@@ -95,19 +97,15 @@ pub met_near : (d : DriverContent) (near : ℕ → Bool) → AreMet (queued d) n
 met_near d near k e y here met =
     ap (λ (q : ℕ). near (32 * q)) (sym (queue_same y)) ∙ k.each e (queued_endpoint y) (get_queued d.endpoints e y here) met
 
-pub off_unless : (b : Bool) → (b ≡ true → ⊥) → b ≡ false
-off_unless false never = refl
-off_unless true never = absurd (never refl)
-
 -- it is none of these
 pub unmet_off : (d : DriverContent) (near : ℕ → Bool) → HasOwners d → AreMet (queued d) near → (e : ℕ) (y : Endpoint)
     → slice_get d.endpoints e ≡ Some y → (queued_endpoint y).gone ≡ false → (IsMet (queued d) e (queued_endpoint y) → ⊥)
     → near (32 * y.queue) ≡ false
 unmet_off d near owners k e y here kept unmet =
-    off_unless (near (32 * y.queue)) (λ on.
+    off_by (near (32 * y.queue)) (λ on.
     ⊎_elim
     (λ (head : 32 * y.queue ≡ 32 * head_block).
-    queue_off_head d e y owners here (has_queue y (kept_as y kept).1 (kept_as y kept).0) (thirty_two y.queue head_block head))
+    queue_off_head d e y owners here (has_queue y (kept_as y kept).1 (kept_as y kept).0) (same_blocks y.queue head_block head))
     (λ (h : IsMetHead d (32 * y.queue)).
     let same : h.number ≡ e =
     same_number d owners h.number e h.endpoint y h.here here (kept_as h.endpoint h.met.there.kept) (kept_as y kept) (sym h.at) in

@@ -2,6 +2,8 @@
 use Rattle.std.proofs.Common.{◌≡◌, ℕ, ◌+◌, ◌*◌, ◌<◌, Bool, true, false, List, length, drop, slice_get, Some, Result, Ok, Err, option_map}
 use Rattle.std.proofs.Common.{ap, refl, sym, subst, ◌∙◌, ⊎_elim, arith, if◌then◌else◌}
 use Rattle.std.proofs.lemmas.Option.{same_Some}
+use Rattle.law_driver.proofs.Common.{drop_old}
+use Rattle.law_microframes.proofs.Common.{idle_by}
 use Rattle.usb_base.specs.declared.commands.Cmd.{Cmd}
 use Rattle.usb_base.specs.declared.commands.Cmd.TheVariants as commands
 use Rattle.usb_base.specs.declared.endpoints.EpDesc.{EpDesc}
@@ -27,13 +29,13 @@ use Rattle.law_driver.specs.run_owners.Accepts.{Accepts}
 use Rattle.law_driver.proofs.lemmas.run_owners.Commands.{each_command_has_its_reason}
 use Rattle.law_driver.proofs.lemmas.queued_drivers.CommandReasons.{reason_of}
 use Rattle.law_descriptors.specs.Written.{HasFields, words_in as words_of_descriptor}
-use Rattle.law_descriptors.proofs.Accepted.{drop_old, made, all_transfers}
+use Rattle.law_descriptors.proofs.Accepted.{made, all_transfers}
 use Rattle.law_world.specs.memory.Mixed.{Standing, IsMixedAt}
 use Rattle.law_world.specs.memory.framed_memory.Isochronous.{AwaitsLend, AreAwaiting}
 use Rattle.law_world.proofs.lemmas.memory.CommandKeeping.{command_keeps_standing}
 use Rattle.law_world.proofs.lemmas.memory.LeavesLent.{leaves_lent}
 use Rattle.law_microframes.proofs.lemmas.visits.BelongIso.{IsIsoAccepted, is_iso_accepted, IsLater, made_is, IsByRuns, transfer_there, note_was, by_runs}
-use Rattle.law_microframes.proofs.lemmas.visits.BelongItdCommands.{HasNoDescriptors, idle_by, old_words, IsTold, told_by}
+use Rattle.law_microframes.proofs.lemmas.visits.BelongItdCommands.{HasNoDescriptors, old_words, IsTold, told_by}
 use Rattle.law_microframes.proofs.lemmas.visits.BelongSeen.{Seen, seen_in, IsSeenIn, seen_there, seen_set}
 use Rattle.bus_world.specs.World.{World, name_in, commanded_by, commanded}
 use Rattle.law_reports.specs.pipes.DescriptorNames.{TellsBy, AreDescriptorsNamed, CommandKeepsNames}

@@ -2,9 +2,10 @@
 use Rattle.std.proofs.Common.{◌≡◌, ◌≢◌, ℕ, ◌+◌, ◌*◌, ◌/◌, ◌<◌, ◌≤◌, Bool, true, false, slice_get, Some, option_map, ap, refl, sym, subst}
 use Rattle.std.proofs.Common.{◌∙◌, ⊎_elim, arith, if◌then◌else◌}
 use Rattle.std.specs.Prelude.{is_some}
+use Rattle.law_microframes.proofs.Common.{words_are}
 use Rattle.usb_base.specs.declared.endpoints.EpDesc.{EpDesc}
 use Rattle.bus_wire.specs.Bus.{Fixed}
-use Rattle.word_mem.specs.Memory.{Mem, is_lent, word_at}
+use Rattle.word_mem.specs.Memory.{is_lent, word_at}
 use Rattle.word_mem.specs.Views.{words_at}
 use Rattle.word_mem.specs.Runs.{Run}
 use Rattle.mem_runs.specs.declared.slots.Slot.{Slot}
@@ -13,8 +14,6 @@ use Rattle.mem_runs.specs.Book.{holding, slot_of}
 use Rattle.mem_runs.proofs.Standing.{keeps_at, keeps_all}
 use Rattle.itd_sitd.specs.declared.itd.Itd.{Itd}
 use Rattle.itd_sitd.specs.declared.sitd.Sitd.{Sitd}
-use Rattle.itd_sitd.specs.Sitd.{sitd_at, sitd_words}
-use Rattle.itd_sitd.proofs.SitdLaws.{sitd_read-words, sitd_read-is}
 use Rattle.claims_base.specs.Controller.{opening_base}
 use Rattle.law_driver.specs.in_place.InPlace.{IsInPlace}
 use Rattle.claims_driver.specs.Owners.{HasBlocks, SlotHas, is_descriptor, runs_of_transfer, views_of}
@@ -63,9 +62,6 @@ pub new_descriptors_named : NewDescriptorsNamed
 new_descriptors_named s t y x there sort held here = absurd (cc)
 
 -- ---- the controller
-
-pub sitd_told : (m : Mem) (a : ℕ) (v : Sitd) → HoldsSplitIsochronous m a v → sitd_at (words_at m a 7) ≡ v
-sitd_told m a v h = ap sitd_at h.words ∙ sym (sitd_read-is (sitd_words v) v (sitd_read-words v h.range))
 
 abbrev NamesItd : Itd → EpDesc → Type 0
 NamesItd v x = TellsName v.addr v.ep v.dir_in x
@@ -125,13 +121,13 @@ module _ (fixed : Fixed) (w : World) (s : Standing) (k : IsMixedAt s w) (x : EpD
       let a : HasSitdAfter (e.now n) n v = (keeps n).sitd n v here in
       let before : HoldsSplitIsochronous w.memory n v = k.now.framed.runs.ring.tells.each n n (SplitIsochronous v) here in
       let after : HoldsSplitIsochronous new.memory n a.sitd = e.runs.ring.tells.each n n (SplitIsochronous a.sitd) a.here in
-      let was : NamesSitd v x = subst (λ (u : Sitd). NamesSitd u x) (sitd_told w.memory n v before) h in
+      let was : NamesSitd v x = subst (λ (u : Sitd). NamesSitd u x) (words_are w.memory n v before) h in
       let is : NamesSitd a.sitd x = record {
         address = ap (λ (u : Sitd). u.addr) a.after.same ∙ was.address;
         number = ap (λ (u : Sitd). u.ep) a.after.same ∙ was.number;
         way = ap (λ (u : Sitd). u.dir_in) a.after.same ∙ was.way;
       } in
-      subst (λ (u : Sitd). NamesSitd u x) (sym (sitd_told new.memory n a.sitd after)) is
+      subst (λ (u : Sitd). NamesSitd u x) (sym (words_are new.memory n a.sitd after)) is
 
   module _ (t : ℕ) (y : Transfer) (there : slice_get w.driver.transfers t ≡ Some y) (sort : is_descriptor y.sort ≡ true)
       (held : y.released ≡ false) where

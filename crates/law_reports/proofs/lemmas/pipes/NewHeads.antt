@@ -3,6 +3,8 @@ use Rattle.std.proofs.Common.{◌≡◌, ◌≢◌, ℕ, ◌*◌, Bool, false, i
 use Rattle.std.proofs.Common.{sym, subst, ◌∙◌, ⊎_elim, inl, inr, arith}
 use Rattle.std.specs.Prelude.{◌⊎◌}
 use Rattle.std.proofs.lemmas.Option.{same_Some}
+use Rattle.law_world.proofs.Common.{none_some, same_queue}
+use Rattle.law_common.proofs.Numbers.{zero_one, other_number}
 use Rattle.link_words.specs.declared.refusal.Bad.{Bad}
 use Rattle.word_mem.specs.Memory.{Mem}
 use Rattle.word_mem.specs.Views.{words_at}
@@ -23,7 +25,6 @@ use Rattle.law_structures.specs.lent_structures.Structures.{Structure, QueueHead
 use Rattle.law_structures.proofs.lemmas.lent_structures.Names.{put_same, put_else}
 use Rattle.law_ring.specs.Hand.{Hand, Empty, Copied, Settled, Stale}
 use Rattle.law_ring.specs.Told.{Endpoint as Told, endpoint_of, hand_toggle}
-use Rattle.law_structures.proofs.lemmas.lent_structures.Names.{not_same}
 use Rattle.law_frames.specs.Met.{Kind}
 use Rattle.law_driver_ring.proofs.LendOpening.{two_lent}
 use Rattle.law_driver_ring.proofs.LendOwning.{queue_no_dummy, none_there}
@@ -36,7 +37,6 @@ use Rattle.law_descriptors.specs.Both.{both}
 use Rattle.law_descriptors.specs.Meeting.{met}
 use Rattle.law_descriptors.proofs.Rings.{other_off}
 use Rattle.law_descriptors.proofs.Standing.{both_off}
-use Rattle.law_world.proofs.lemmas.streams.Told.{same_queue as same_open}
 use Rattle.law_world.specs.memory.Mixed.{IsChainToLend, IsChainThere, IsUnderWay, Standing, IsMixedAt}
 use Rattle.law_world.specs.memory.framed_memory.Chained.{chained_queue}
 use Rattle.law_world.proofs.lemmas.memory.ChainReady.{its_own, last}
@@ -58,9 +58,6 @@ pub record IsReadyHead (d : DriverContent) (m : Mem) : Type 0 where
   pub opened : IsOpened d m number (runs_of_endpoint endpoint) queue
   pub asks : endpoint_of queue ≡ asked_as endpoint.desc
   pub first : queue.token.toggle ≡ false
-
-none_is : (c : Command) → ◌≡◌ {A = Option Command} None (Some c) → ⊥
-none_is c e = cc
 
 -- they are to be lent still, or are
 module _ (d : DriverContent) (m : Mem) (owners : HasOwners d) (member : ℕ → Bool) (recent : ℕ → Option Kind) (parts : StructureSets)
@@ -112,13 +109,13 @@ module _ (d : DriverContent) (m : Mem) (owners : HasOwners d) (member : ℕ → 
   not_unlink e b link s = cc
 
   pub stage : (c : Option Command) → d.command ≡ c → IsUnderWay d m member recent parts c → Stage
-  stage None is u = absurd (none_is (unfinished.Open q) (other None is))
+  stage None is u = absurd (none_some (unfinished.Open q) (other None is))
   stage (Some (unfinished.Open queue)) is u = ⊎_elim (λ (r : IsOpenReady d m). inl (of_ring r)) lent_once u
   stage (Some (unfinished.Publish b words)) is u = absurd (not_publish b words (other (Some (unfinished.Publish b words)) is))
   stage (Some (unfinished.Unlink e b link)) is u = absurd (not_unlink e b link (other (Some (unfinished.Unlink e b link)) is))
   stage (Some unfinished.Chain) is u = ⊎_elim (λ (r : IsChainToLend d m). inl (of_frames r)) chained_once u
-  stage (Some (unfinished.Iso e t count)) is u = absurd (none_is (unfinished.Open q) (other (Some (unfinished.Iso e t count)) is))
-  stage (Some (unfinished.Unchain e)) is u = absurd (none_is (unfinished.Open q) (other (Some (unfinished.Unchain e)) is))
+  stage (Some (unfinished.Iso e t count)) is u = absurd (none_some (unfinished.Open q) (other (Some (unfinished.Iso e t count)) is))
+  stage (Some (unfinished.Unchain e)) is u = absurd (none_some (unfinished.Open q) (other (Some (unfinished.Unchain e)) is))
 
 -- ---- its words tell it
 
@@ -144,7 +141,7 @@ module _ (s : Standing) (w : World) (mixed : IsMixedAt s w) where
       (λ (r : IsReadyHead w.driver w.memory).
       absurd (none_is_head k.part.queue
       (sym (none_told r (32 * r.endpoint.queue)) ∙ ap (λ (q : ℕ). s.parts (32 * q) (32 * q))
-      (same_open r.endpoint.queue k.endpoint.queue (sym r.command ∙ k.command)) ∙ k.part.here)))
+      (same_queue r.endpoint.queue k.endpoint.queue (sym r.command ∙ k.command)) ∙ k.part.here)))
       (λ (one : (queued w.driver).made ≡ 1). one)
       (stage w.driver w.memory mixed.now.framed.place.sound.owners s.member s.recent s.parts k.endpoint.queue k.command
       w.driver.command refl mixed.under_way)
@@ -153,9 +150,6 @@ module _ (s : Standing) (w : World) (mixed : IsMixedAt s w) where
       none_is_head q e = cc
 
 -- ---- the lend
-
-zero_one : ◌≡◌ {A = ℕ} 0 1 → ⊥
-zero_one e = cc
 
 module _ (s : Standing) (w : World) (mixed : IsMixedAt s w) (k : IsOpenToLend (queued w.driver) w.memory) where
   abbrev n : ℕ
@@ -171,7 +165,7 @@ module _ (s : Standing) (w : World) (mixed : IsMixedAt s w) (k : IsOpenToLend (q
       (stage w.driver w.memory owners s.member s.recent s.parts k.endpoint.queue k.command w.driver.command refl mixed.under_way)
 
   one_queue : k.endpoint.queue ≡ r.endpoint.queue
-  one_queue = same_open k.endpoint.queue r.endpoint.queue (sym k.command ∙ r.command)
+  one_queue = same_queue k.endpoint.queue r.endpoint.queue (sym k.command ∙ r.command)
 
   head_is : k.queue ≡ r.queue
   head_is = same_head k.queue r.queue k.opened.range r.opened.range
@@ -205,14 +199,14 @@ module _ (s : Standing) (w : World) (mixed : IsMixedAt s w) (k : IsOpenToLend (q
   first_by Empty other = sym (ap (λ (q : Qh). q.token.toggle) head_is ∙ r.first)
   first_by (Copied c) other = sym (ap (λ (q : Qh). q.token.toggle) head_is ∙ r.first)
   first_by (Settled c z) other =
-      sym (ap (λ (b : Bool). if b then z.host.toggle else k.queue.token.toggle) (not_same c.at n other)
+      sym (ap (λ (b : Bool). if b then z.host.toggle else k.queue.token.toggle) (other_number c.at n other)
       ∙ ap (λ (q : Qh). q.token.toggle) head_is ∙ r.first)
   first_by (Stale at old) other = sym (ap (λ (q : Qh). q.token.toggle) head_is ∙ r.first)
 
   pub lent_head : (e : ℕ) (y : Endpoint) → slice_get w.driver.endpoints e ≡ Some y → IsOpening w.driver y
       → IsNewHead (record s { parts = parts_opened k s.parts }) (32 * y.queue) (asked_as y.desc)
   lent_head e y here opening =
-      let queue_is : y.queue ≡ r.endpoint.queue = same_open y.queue r.endpoint.queue (sym opening.command ∙ r.command) in
+      let queue_is : y.queue ≡ r.endpoint.queue = same_queue y.queue r.endpoint.queue (sym opening.command ∙ r.command) in
       let one : e ≡ r.number = its_own w.driver owners r.number e r.endpoint y r.here r.opened.here.queued here
       (has_queue y opening.queue opening.kept) queue_is in
       let is : y ≡ r.endpoint = same_Some y r.endpoint (sym here ∙ ap (slice_get w.driver.endpoints) one ∙ r.here) in

@@ -3,9 +3,10 @@ use Rattle.std.proofs.Common.{◌≡◌, ◌≢◌, ℕ, ◌*◌, ◌&&◌, ◌|
 use Rattle.std.proofs.Common.{◌∙◌, ⊎_elim, inl, inr}
 use Rattle.std.proofs.lemmas.Bool.{cases_eq, eq-eqb, false≢true, true≢false, and_parts}
 use Rattle.std.proofs.lemmas.Option.{same_Some}
+use Rattle.law_world.proofs.Common.{no_control, none_some}
+use Rattle.law_common.proofs.Numbers.{other_number, same_blocks}
+use Rattle.law_common.proofs.Booleans.{off_by}
 use Rattle.usb_base.specs.declared.endpoints.EpDesc.{EpDesc}
-use Rattle.usb_base.specs.declared.packets.EpKind.{EpKind}
-use Rattle.usb_base.specs.declared.packets.EpKind.TheVariants as kinds
 use Rattle.usb_base.specs.declared.packets.Speed.{Speed}
 use Rattle.usb_base.specs.declared.packets.Speed.TheVariants as speeds
 use Rattle.usb_base.specs.declared.packets.Way.{Way}
@@ -17,18 +18,16 @@ use Rattle.drv_table.specs.declared.content.Command.TheVariants as unfinished
 use Rattle.drv_table.specs.declared.content.Endpoint.{Endpoint}
 use Rattle.drv_table.specs.DriverContent.{DriverContent}
 use Rattle.drv_table.specs.Kinds.{is_iso}
-use Rattle.drv_table.specs.Words.{head_block, is_control, is_high, speed_field}
+use Rattle.drv_table.specs.Words.{head_block, is_high, speed_field}
 use Rattle.law_driver.specs.queued_drivers.Queued.{queued_endpoint, queued}
 use Rattle.law_driver.specs.queued_drivers.Rows.{QueuesAlike}
 use Rattle.law_driver.proofs.lemmas.chained_transfers.Staying.{linked_stands_alive}
 use Rattle.law_driver.proofs.lemmas.ring_members.Placed.{has_queue, queue_off_head}
-use Rattle.law_structures.proofs.lemmas.lent_structures.Names.{not_same}
 use Rattle.law_ring.specs.Told.{Endpoint as Told, SameTold}
 use Rattle.law_controller.specs.controlled_streams.Opened.{with_stream, with_end}
 use Rattle.law_controller.specs.controlled_streams.Unopened.{IsUntouched, IsUnopened}
 use Rattle.law_driver_ring.specs.fed_queues.Places.{IsMet, AreMet}
 use Rattle.law_queues.specs.open_laws.Queues.{IsOpenThere, open_finished}
-use Rattle.law_queues.proofs.lemmas.publish_laws.Apart.{thirty_two}
 use Rattle.law_devices.specs.Senders.{sender_of}
 use Rattle.law_devices.specs.scripted_takers.Takers.{taker_of}
 use Rattle.law_world.specs.steps.Outs.{IsUntaken}
@@ -37,7 +36,6 @@ use Rattle.law_world.specs.memory.Mixed.{Standing, IsMixedAt}
 use Rattle.law_world.specs.memory.Steps.{HasOpened, opens}
 use Rattle.law_world.specs.memory.pipe_steps.Laws.{IsBegun, as_in, as_out, as_none}
 use Rattle.law_world.specs.memory.pipe_steps.Pipes.{AsksTheWay, AreByWay}
-use Rattle.law_world.proofs.lemmas.memory.Unfinished.{none_unfinished}
 use Rattle.law_world.proofs.lemmas.memory.lemmas.pipe_steps.Opens.{an_open_begins_pipes}
 use Rattle.law_world.proofs.lemmas.memory.lemmas.pipe_steps.Stays.{stays_tells_one_hand}
 use Rattle.law_reports.specs.lines.Lined.{in_hand, Lines}
@@ -51,15 +49,11 @@ use Rattle.law_reports.proofs.lemmas.pipes.Across.{WasIn}
 use Rattle.law_reports.proofs.lemmas.pipes.Carried.{WasMet, was_met, fresh_carried, declared_carried}
 use Rattle.law_reports.proofs.lemmas.pipes.Driven.{was_end, now_end}
 use Rattle.law_reports.proofs.lemmas.pipes.Names.{WasQueued, was_queued, queue_same, kept_as, same_number, met_near, unmet_off, by_real, by_queued}
-use Rattle.law_reports.proofs.lemmas.pipes.Names.{unasked, name_is, off_unless}
+use Rattle.law_reports.proofs.lemmas.pipes.Names.{unasked, name_is}
 use Rattle.law_reports.proofs.lemmas.pipes.NamesKept.{driver_keeps_names}
 use Rattle.law_reports.proofs.lemmas.pipes.NewHeads.{made_once}
 
 -- ---- kinds and speeds
-
-no_control : (kind : EpKind) → has_stream kind ≡ true → is_control kind ≡ false
-no_control kinds.Control on = absurd (false≢true on)
-no_control _ on = refl
 
 high_field : (speed : Speed) → is_high speed ≡ true → speed_field speed ≡ 2
 high_field speeds.High on = refl
@@ -179,7 +173,7 @@ module _ (fixed : Fixed) (x : Sides) (s : Standing) (m : Lines) (h : Heads) (w :
         y.desc.name.way
 
   stream_beside : (those : ℕ → Bool) (i : ℕ) → i ≢ 32 * at.endpoint.queue → with_stream those (32 * at.endpoint.queue) i ≡ those i
-  stream_beside those i differs = ap (λ (b : Bool). b || those i) (not_same i n differs)
+  stream_beside those i differs = ap (λ (b : Bool). b || those i) (other_number i n differs)
 
   stream_here : (those : ℕ → Bool) → with_stream those (32 * at.endpoint.queue) (32 * at.endpoint.queue) ≡ true
   stream_here those = ap (λ (b : Bool). b || those n) (eq-eqb n n refl)
@@ -188,13 +182,13 @@ module _ (fixed : Fixed) (x : Sides) (s : Standing) (m : Lines) (h : Heads) (w :
   end_here = ap (λ (b : Bool). if b then its_end else h.ends n) (eq-eqb n n refl)
 
   end_beside : (i : ℕ) → i ≢ 32 * at.endpoint.queue → with_end h.ends (32 * at.endpoint.queue) (asked_as y.desc) i ≡ h.ends i
-  end_beside i differs = ap (λ (b : Bool). if b then its_end else h.ends i) (not_same i n differs)
+  end_beside i differs = ap (λ (b : Bool). if b then its_end else h.ends i) (other_number i n differs)
 
   ins_off : h.ins (32 * at.endpoint.queue) ≡ false
-  ins_off = off_unless (h.ins n) (λ on. true≢false (sym (k.pipes.in_ends.members n on) ∙ off))
+  ins_off = off_by (h.ins n) (λ on. true≢false (sym (k.pipes.in_ends.members n on) ∙ off))
 
   outs_off : h.outs (32 * at.endpoint.queue) ≡ false
-  outs_off = off_unless (h.outs n) (λ on. true≢false (sym (k.pipes.out_ends.members n on) ∙ off))
+  outs_off = off_by (h.outs n) (λ on. true≢false (sym (k.pipes.out_ends.members n on) ∙ off))
 
   -- it is one at high speed
   its_speed : (has_stream y.desc.kind && is_high y.desc.speed) ≡ true → ((asked_as y.desc).speed ≡ 2) × ((asked_as y.desc).dtc ≡ false)
@@ -283,7 +277,7 @@ module _ (fixed : Fixed) (x : Sides) (s : Standing) (m : Lines) (h : Heads) (w :
   -- the one that was opened, or one that was met before
   near_was : (i : ℕ) → t.near i ≡ true → i ≢ 32 * at.endpoint.queue → s.near i ≡ true
   near_was i on differs =
-      sym (ap (λ (c : Bool). c || s.near i) (not_same i n differs)) ∙ sym (ap (λ (near : ℕ → Bool). near i) opened.near) ∙ on
+      sym (ap (λ (c : Bool). c || s.near i) (other_number i n differs)) ∙ sym (ap (λ (near : ℕ → Bool). near i) opened.near) ∙ on
 
   opened_one : (e : ℕ) (z : Endpoint) → slice_get (driver_next w).driver.endpoints e ≡ Some z
       → IsMet (queued (driver_next w).driver) e (queued_endpoint z) → 32 * z.queue ≡ 32 * at.endpoint.queue → z.desc ≡ y.desc
@@ -357,7 +351,7 @@ module _ (fixed : Fixed) (x : Sides) (s : Standing) (m : Lines) (h : Heads) (w :
   off_head : 32 * head_block ≢ 32 * at.endpoint.queue
   off_head same =
       queue_off_head w.driver at.number y owners its.here (has_queue y kept.1 kept.0)
-      (sym queue_is ∙ sym (thirty_two head_block at.endpoint.queue same))
+      (sym queue_is ∙ sym (same_blocks head_block at.endpoint.queue same))
 
   by_way : AreByWay (queued (driver_next w).driver) x.sends x.takes b.ins b.outs
       (with_end h.ends (32 * at.endpoint.queue) (asked_as y.desc))
@@ -372,7 +366,7 @@ module _ (fixed : Fixed) (x : Sides) (s : Standing) (m : Lines) (h : Heads) (w :
   -- ---- the whole
 
   never : (q : ℕ) → (queued (driver_next w).driver).command ≡ Some (unfinished.Open q) → ⊥
-  never q opens_it = none_unfinished (unfinished.Open q) (sym no_command ∙ opens_it)
+  never q opens_it = none_some (unfinished.Open q) (sym no_command ∙ opens_it)
 
   pub opened_piped : IsPiped fixed x t next.lines heads_opened (driver_next w)
   opened_piped = record {

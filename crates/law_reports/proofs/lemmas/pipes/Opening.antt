@@ -1,6 +1,7 @@
 -- A new world has its streams so: no endpoint is there, and nothing was moved.
-use Rattle.std.proofs.Common.{◌≡◌, ◌≢◌, ℕ, ◌==◌, Bool, true, false, cond, [], slice_get, Some, None, refl, sym, subst, inl, inr, List}
+use Rattle.std.proofs.Common.{◌≡◌, ◌≢◌, ℕ, ◌==◌, Bool, true, false, cond, [], Some, None, refl, sym, subst, inl, inr, List}
 use Rattle.std.proofs.lemmas.Bool.{eqb-true, false≢true}
+use Rattle.law_common.proofs.Lists.{nothing_at}
 use Rattle.script_types.specs.declared.scripts.Script.{Script}
 use Rattle.script_fits.specs.Fits.{IsFit}
 use Rattle.drv_table.specs.DriverContent.{DriverContent}
@@ -93,9 +94,6 @@ new_mixed s fit bytes = record {
   bytes = opened_bytes s bytes;
   owed = λ i t y x at. absurd (cc);
 }
-
-nothing_at : {X : Type 0} (i : ℕ) (z : X) → slice_get [] i ≡ Some z → ⊥
-nothing_at i z e = cc
 
 new_telling : (s : Script) → IsTelling new_standing no_lines (opening_world s)
 new_telling s =

@@ -3,6 +3,7 @@ use Rattle.std.proofs.Common.{◌≡◌, ◌≢◌, ℕ, ◌==◌, Bool, true, f
 use Rattle.std.proofs.Common.{inr}
 use Rattle.std.specs.Prelude.{◌⊎◌}
 use Rattle.std.proofs.lemmas.Bool.{false≢true}
+use Rattle.law_common.proofs.Numbers.{other_number}
 use Rattle.usb_base.specs.declared.packets.Ask.{Ask}
 use Rattle.usb_base.specs.declared.packets.Reply.{Reply}
 use Rattle.transactions.specs.Asks.{pinged}
@@ -12,7 +13,6 @@ use Rattle.qh_qtd.specs.declared.queue_head.Qh.{Qh}
 use Rattle.law_structures.specs.lent_structures.Structures.{QueueHead, StructureSets}
 use Rattle.law_structures.specs.lent_structures.Sound.{IsWorking, IsSoundQueue}
 use Rattle.law_structures.proofs.lemmas.lent_structures.Altering.{found_queue}
-use Rattle.law_structures.proofs.lemmas.lent_structures.Names.{not_same}
 use Rattle.law_ring.specs.Hand.{Hand}
 use Rattle.law_ring.specs.QueueParts.{IsQueuePart}
 use Rattle.law_ring.specs.Effects.{Asks}
@@ -96,7 +96,7 @@ module _ {W : Type 0} (begins : W → ℕ → Bool → W → Type 0) (Beside : A
         let q = m.copy.queue in
         let w0 : IsWorking (parts m.copy.at) q = (sound m).work m.works in
         out_only q.token.pid false (q.token.pid == 1) (transaction_of m.kind q).split (pinged m.kind q.token.ping)
-        (not_same q.token.pid 0 (λ (i : q.token.pid ≡ 0). none q.current w0.element w0.here w0.published (sym w0.pid ∙ i))) refl refl
+        (other_number q.token.pid 0 (λ (i : q.token.pid ≡ 0). none q.current w0.element w0.here w0.published (sym w0.pid ∙ i))) refl refl
         s.token
 
     module _ (addr ep : ℕ) (on : takes addr ep ≡ true) (u : Taker) (is : taker wire addr ep ≡ Some u) where
@@ -156,7 +156,7 @@ module _ {W : Type 0} (begins : W → ℕ → Bool → W → Type 0) (Beside : A
     none_moved (moved (same told quiet)) = refl
     none_moved (moved (aside told ask out reply other made)) = refl
     none_moved (moved (grows m all g)) =
-        if_off (m.copy.at == n) _ (not_same m.copy.at n (λ is. apart m (sym is)))
+        if_off (m.copy.at == n) _ (other_number m.copy.at n (λ is. apart m (sym is)))
 
     pub named_still : (x : Endpoint) → BothStreamEffect begins Beside transacts parts hand wire after now later → HasEndpoint parts n x
         → HasEndpoint now n x

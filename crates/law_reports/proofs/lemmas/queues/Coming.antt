@@ -4,6 +4,8 @@ use Rattle.std.specs.Prelude.{nat_eq}
 use Rattle.std.proofs.lemmas.Bool.{cases_eq, cases_lt, false≢true, true≢false}
 use Rattle.std.proofs.lemmas.List.{length-map}
 use Rattle.std.proofs.lemmas.Option.{same_Some, slice_get_within}
+use Rattle.law_queues.proofs.Common.{one_target, no_end}
+use Rattle.law_common.proofs.Numbers.{other_number, same_blocks}
 use Rattle.usb_base.specs.declared.packets.EpKind.{EpKind}
 use Rattle.usb_base.specs.declared.packets.Way.{Way}
 use Rattle.usb_base.specs.declared.packets.Way.TheVariants as ways
@@ -33,7 +35,6 @@ use Rattle.law_driver.proofs.lemmas.chained_transfers.Staying.{stands_alive}
 use Rattle.law_structures.specs.lent_structures.Structures.{QueueHead, Element, Structures, Tells}
 use Rattle.law_structures.specs.lent_structures.Sound.{LeadsOn, IsElement}
 use Rattle.law_structures.proofs.lemmas.lent_structures.Altering.{found_element}
-use Rattle.law_structures.proofs.lemmas.lent_structures.Names.{not_same}
 use Rattle.law_structures.proofs.lemmas.lent_structures.Reading.{head_read, element_read}
 use Rattle.law_ring.specs.Front.{own_pointer, LinksRise}
 use Rattle.law_ring.specs.QueueParts.{IsQueuePart}
@@ -42,7 +43,6 @@ use Rattle.law_driver_ring.specs.fed_queues.Fed.{IsPieceFed, IsPublished, unpubl
 use Rattle.law_driver_ring.specs.fed_queues.Places.{IsLast, IsMet}
 use Rattle.law_driver_ring.proofs.lemmas.fed_queues.Places.{stands_met}
 use Rattle.law_queues.specs.released_queues.Fronts.{piece_address, end_at}
-use Rattle.law_queues.proofs.lemmas.publish_laws.Apart.{thirty_two}
 use Rattle.law_scripts.proofs.lemmas.script_bytes.Texts.{a_text_spells_bytes}
 use Rattle.bus_world.specs.World.{World}
 use Rattle.law_world.specs.memory.Mixed.{Standing, IsMixedAt}
@@ -71,12 +71,6 @@ told_plain : (way : Way) (kind : EpKind) → IsOfWay way kind → is_control kin
 told_plain ways.Ctl kind fits plain = absurd (false≢true (sym plain ∙ ap is_control fits))
 told_plain ways.In kind fits plain = refl
 told_plain ways.Out kind fits plain = refl
-
-no_end : (b : ℕ) → qtd_links.End ≡ qtd_links.To b → ⊥
-no_end b same = cc
-
-same_to : (a b : ℕ) → qtd_links.To a ≡ qtd_links.To b → a ≡ b
-same_to a b same = cc
 
 module _ (s : Standing) (w : World) (mixed : IsMixedAt s w) (g : GoOnward s (queued w.driver)) (e : ℕ) (x : Endpoint) (q : Qh)
     (here : slice_get w.driver.endpoints e ≡ Some x) (iso : is_iso x.desc.kind ≡ false) (plain : is_control x.desc.kind ≡ false)
@@ -114,7 +108,7 @@ module _ (s : Standing) (w : World) (mixed : IsMixedAt s w) (g : GoOnward s (que
   near = mixed.queues.queues.met.each e z there met
 
   other : 32 * x.queue ≢ 32 * head_block
-  other same = queue_off_head d e z (owners_of s w mixed) there (has_queue z (told_queue x) kept) (thirty_two x.queue head_block same)
+  other same = queue_off_head d e z (owners_of s w mixed) there (has_queue z (told_queue x) kept) (same_blocks x.queue head_block same)
 
   pipe : (s.ends (32 * x.queue)).dtc ≡ false
   pipe = ap (λ (t : Told). t.dtc) (mixed.queues.queues.streams_are.each e z there met).1
@@ -155,7 +149,7 @@ module _ (s : Standing) (w : World) (mixed : IsMixedAt s w) (g : GoOnward s (que
       (unpublished d.command d.made y.qtds)
       (all_published d.command d.made y.qtds (not_publishing newest)))
       (λ (older : suc u.number ≢ length d.transfers). ap (λ (b : Bool). if b then unpublished d.command d.made y.qtds else 0)
-      (not_same (suc u.number) (length d.transfers) older)) (cases_eq (suc u.number) (length d.transfers))
+      (other_number (suc u.number) (length d.transfers) older)) (cases_eq (suc u.number) (length d.transfers))
 
   stored_from : (i : ℕ) → unpublished_of (queued w.driver) u.number u.transfer ≤ i
   stored_from i = let none = stored in omega (arith, none)
@@ -213,7 +207,7 @@ module _ (s : Standing) (w : World) (mixed : IsMixedAt s w) (g : GoOnward s (que
       ⊎_elim
       (λ (less : i < u.piece).
       let leads = u.whole i k.qtd less (read_at i k.qtd (ap part (sym its) ∙ k.here)) k.done in
-      let to_is : k.to ≡ piece_address d y (suc i) = same_to k.to (piece_address d y (suc i))
+      let to_is : k.to ≡ piece_address d y (suc i) = one_target k.to (piece_address d y (suc i))
       (sym k.leads ∙ leads ∙ ap (λ (b : ℕ). qtd_links.To (32 * b)) (block_is w.driver.notes y.first (suc i))) in
       let to_order = ap o to_is in
       let up = along d s.parts o mixed.turns.turns mixed.queues.queues.fed e z there rise u.number (suc i) u.piece y moves u.held
@@ -274,7 +268,7 @@ module _ (s : Standing) (w : World) (mixed : IsMixedAt s w) (g : GoOnward s (que
             (not_iso g.endpoint.desc (mixed.turns.turns.asynchronous.endpoints g.transfer.endpoint g.endpoint g.here).asynchronous) ∙ alive;
       } in
       let block : g.endpoint.queue ≡ x.queue =
-      ap (λ (c : Endpoint). c.queue) (sym one) ∙ sym (thirty_two x.queue un.endpoint.queue un.its) in
+      ap (λ (c : Endpoint). c.queue) (sym one) ∙ sym (same_blocks x.queue un.endpoint.queue un.its) in
       let its : g.transfer.endpoint ≡ e =
       (one_queue d s.parts (owners_of s w mixed) mixed.turns.turns (driven_of s w mixed) e z there kept g.transfer.endpoint
       (runs_of_endpoint g.endpoint) queue block).0 in

@@ -2,6 +2,7 @@
 use Rattle.std.proofs.Common.{◌≡◌, ◌≢◌, ℕ, ◌-◌, ◌*◌, ◌<◌, ◌≤◌, ◌⊎◌, ◌==◌, ◌&&◌, not, Bool, true, false, if◌then◌else◌, List, [], ◌∷◌, length, slice_get, Option, Some, option_map, ap, refl, sym, subst, ◌∙◌, ⊎_elim, inl, inr, arith}
 use Rattle.std.proofs.lemmas.Bool.{cases_eq, eq-eqb, true≢false}
 use Rattle.std.proofs.lemmas.Option.{same_Some}
+use Rattle.law_ring.proofs.Common.{own_there}
 use Rattle.link_words.specs.declared.kinds.QtdLink.{QtdLink}
 use Rattle.link_words.specs.declared.kinds.QtdLink.TheVariants as qtd_links
 use Rattle.link_words.specs.Links.{qtd_link_of}
@@ -21,7 +22,7 @@ use Rattle.drv_table.specs.Parts.{Parts}
 use Rattle.claims_driver.specs.Owners.{EndpointRuns, TransferRuns, runs_of_endpoint, runs_of_transfer, views_of}
 use Rattle.law_driver.specs.queued_drivers.Queued.{queued}
 use Rattle.law_structures.specs.lent_structures.Structures.{Structure, QueueHead, Element, Structures, StructureSets}
-use Rattle.law_structures.specs.lent_structures.Sound.{LeadsOn, IsElement, IsSoundElement, IsSoundQueue}
+use Rattle.law_structures.specs.lent_structures.Sound.{LeadsOn, IsElement, IsSoundQueue}
 use Rattle.law_structures.proofs.lemmas.lent_structures.Altering.{found_queue}
 use Rattle.law_ring.specs.QueueParts.{IsQueuePart}
 use Rattle.law_driver_ring.specs.Pieces.{IsNewQtd}
@@ -54,11 +55,6 @@ new_kind : (notes : List QtdNote) (dummy : ℕ) (ss : List Stage) (b a : ℕ) (u
 new_kind notes dummy [] b a u new = inr (ap (λ (t : Qtd). t.token.active) new.1, new.0)
 new_kind notes dummy (s ∷ ss) b a u (inl new) = inl (ap (λ (t : Qtd). t.token.active) new.1, ap (λ (t : Qtd). t.next.t) new.1)
 new_kind notes dummy (s ∷ ss) b a u (inr new) = new_kind notes dummy ss (note_at notes b).next a u new
-
-own_element : (part : Structures) (t : Qtd) (c : Bool) (b : ℕ) → IsSoundElement part t
-    → qtd_link_of (if c then t.alternate else t.next) ≡ qtd_links.To b → IsElement part b
-own_element part t true b sound to = subst (LeadsOn part) to sound.alternate
-own_element part t false b sound to = subst (LeadsOn part) to sound.next
 
 module _ (s : Standing) (w new : World) (mixed : IsMixedAt s w) (b : ℕ) (words : List ℕ)
     (get : IsToBeLent (queued w.driver) w.memory b words) (order : ℕ → ℕ → ℕ) (out : ℕ → List ℕ) (is : IsToldRow w new rows.Lend)
@@ -253,7 +249,7 @@ module _ (s : Standing) (w new : World) (mixed : IsMixedAt s w) (b : ℕ) (words
   skipped : (a : ℕ) → order n a ≡ s.order n a → IsSkipped (s.order n) part a → IsSkipped (order n) (now n) a
   skipped a same z =
       let by_same = old_order z.by (Element z.qtd) z.here in
-      let to : IsElement part z.to = own_element part z.qtd (not (z.qtd.token.total == 0) && not z.qtd.alternate.t) z.to
+      let to : IsElement part z.to = own_there part z.qtd (not (z.qtd.token.total == 0) && not z.qtd.alternate.t) z.to
       (sound.elements z.by z.qtd z.here) z.leads in
       let to_same = old_order z.to (Element to.qtd) to.here in
       let from = z.from in

@@ -2,9 +2,10 @@
 use Rattle.std.proofs.Common.{◌≡◌, ◌≢◌, ℕ, zero, suc, ◌*◌, ◌||◌, Bool, true, false, slice_get, Some, ap, refl, sym, subst, ◌∙◌, ⊎_elim, arith}
 use Rattle.std.proofs.lemmas.Bool.{cases_eq, false≢true, true≢false}
 use Rattle.std.proofs.lemmas.Option.{same_Some}
-use Rattle.usb_base.specs.declared.packets.EpKind.{EpKind}
-use Rattle.usb_base.specs.declared.packets.EpKind.TheVariants as kinds
-use Rattle.usb_base.specs.declared.packets.Way.{Way}
+use Rattle.law_world.proofs.Common.{its_way, queue_kind}
+use Rattle.law_world.proofs.Common2.{control_kind}
+use Rattle.law_driver.proofs.Common.{control_kind as not_iso}
+use Rattle.law_common.proofs.Numbers.{same_blocks}
 use Rattle.usb_base.specs.declared.packets.Way.TheVariants as ways
 use Rattle.link_words.specs.declared.fields.ShortLink.{ShortLink}
 use Rattle.qh_qtd.specs.declared.qtd.Qtd.{Qtd}
@@ -15,8 +16,7 @@ use Rattle.drv_table.specs.DriverContent.{DriverContent}
 use Rattle.drv_table.specs.Kinds.{is_iso}
 use Rattle.drv_table.specs.Words.{head_block, queue_head, is_control}
 use Rattle.claims_driver.specs.Leaving.{HasOwners}
-use Rattle.claims_driver.specs.Scripts.{IsKindOf}
-use Rattle.law_driver.specs.queued_drivers.Queued.{IsOfWay, with_queue, queued}
+use Rattle.law_driver.specs.queued_drivers.Queued.{with_queue, queued}
 use Rattle.law_driver.proofs.lemmas.queued_drivers.RowLists.{queue_at}
 use Rattle.law_driver.proofs.lemmas.queued_drivers.RowOwners.{queued_has_owners}
 use Rattle.law_driver.proofs.lemmas.ring_members.Placed.{has_queue, queues_apart}
@@ -27,8 +27,6 @@ use Rattle.law_ring.specs.Told.{Endpoint as Told, endpoint_of}
 use Rattle.law_driver_ring.specs.fed_queues.Places.{HasHead}
 use Rattle.law_queues.specs.mended_heads.Mended.{IsAtMend, parts_then, head_at, mended, mended_by}
 use Rattle.law_queues.specs.mended_heads.Owed.{IsOwed}
-use Rattle.law_queues.proofs.lemmas.mended_heads.Lent.{not_iso}
-use Rattle.law_queues.proofs.lemmas.publish_laws.Apart.{thirty_two}
 use Rattle.bus_world.specs.World.{World, driver_parts}
 use Rattle.law_world.specs.memory.Mixed.{Standing, IsMixedAt}
 use Rattle.law_world.proofs.lemmas.memory.QueueViews.{told_queue}
@@ -37,21 +35,6 @@ use Rattle.law_reports.specs.queues.OnwardLaws.{GoOnward}
 use Rattle.law_reports.proofs.lemmas.queues.Places.{head_of}
 use Rattle.law_reports.proofs.lemmas.queues.Quiet.{spared_onward, idle_stored}
 use Rattle.law_reports.proofs.lemmas.queues.Spared.{spared_same}
-
--- a control endpoint's way, and its kind
-its_way : (way : Way) (kind : EpKind) → IsOfWay way kind → is_control kind ≡ true → way ≡ ways.Ctl
-its_way ways.Ctl kind fits control = refl
-its_way ways.In kinds.Control fits control = absurd fits
-its_way ways.Out kinds.Control fits control = absurd fits
-its_way _ _ fits control = absurd (false≢true control)
-
-queue_kind : (way : Way) (kind : EpKind) → IsKindOf way kind → is_iso kind ≡ false
-queue_kind ways.Ctl kind is = ap is_iso is
-queue_kind ways.In kind is = ap is_iso is
-queue_kind ways.Out kind is = ap is_iso is
-
-control_kind : (way : Way) (kind : EpKind) → way ≡ ways.Ctl → IsKindOf way kind → is_control kind ≡ true
-control_kind way kind is fits = ap is_control (subst (λ (v : Way). IsKindOf v kind) is fits)
 
 module _ (s : Standing) (w : World) (mixed : IsMixedAt s w) (k : IsAtMend (driver_parts w) s.parts s.out) where
   abbrev d : DriverContent
@@ -87,7 +70,7 @@ module _ (s : Standing) (w : World) (mixed : IsMixedAt s w) (k : IsAtMend (drive
       let its = queue_kind h.endpoint.desc.name.way h.endpoint.desc.kind
       (mixed.turns.turns.asynchronous.endpoints h.number h.endpoint h.here).asynchronous.kind in
       let same_queue : h.endpoint.queue ≡ (with_queue owed.endpoint).queue
-      = sym (thirty_two k.stalled.queue h.endpoint.queue h.at) ∙ sym owed.queue in
+      = sym (same_blocks k.stalled.queue h.endpoint.queue h.at) ∙ sym owed.queue in
       ⊎_elim
       (λ (same : h.number ≡ owed.number).
       let one : h.endpoint ≡ with_queue owed.endpoint = same_Some h.endpoint (with_queue owed.endpoint)

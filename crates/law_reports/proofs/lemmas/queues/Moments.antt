@@ -1,5 +1,7 @@
 -- At each moment of each script queue heads go onward.
 use Rattle.std.proofs.Common.{◌≡◌, ℕ, zero, suc, ◌*◌, [], slice_get, Some, option_map, ap, refl}
+use Rattle.law_common.proofs.Lists.{nothing_at}
+use Rattle.law_world.proofs.Common.{lines_can}
 use Rattle.script_types.specs.declared.scripts.Script.{Script}
 use Rattle.bus_wire.specs.Bus.{Fixed, fixed_of}
 use Rattle.drv_table.specs.DriverContent.{DriverContent}
@@ -19,7 +21,6 @@ use Rattle.law_world.proofs.lemmas.memory.CommandKeeping.{command_keeps_standing
 use Rattle.law_world.proofs.lemmas.memory.Controller.{controller_tells_event}
 use Rattle.law_world.proofs.lemmas.memory.Driving.{driver_tells_step}
 use Rattle.law_world.proofs.lemmas.memory.HarvestKept.{driven_of}
-use Rattle.law_world.proofs.lemmas.memory.Moments.{lines_can}
 use Rattle.law_world.proofs.lemmas.memory.Opening.{new_world_is_mixed}
 use Rattle.law_reports.specs.queues.OnwardLaws.{GoOnward, IsOnwardWorld, NewWorldGoesOnward, ScriptsGoOnward}
 use Rattle.law_reports.proofs.lemmas.queues.Controlled.{controller_keeps_onward}
@@ -28,10 +29,6 @@ use Rattle.law_reports.proofs.lemmas.queues.Quiet.{command_keeps_onward}
 use Rattle.law_reports.proofs.lemmas.queues.Steps.{driver_keeps_onward}
 
 -- ---- before the first line
-
-nothing_at : {X : Type 0} (i : ℕ) (z : X) → slice_get [] i ≡ Some z → ⊥
-nothing_at zero z is = cc
-nothing_at (suc i) z is = cc
 
 nothing_in : {X Y : Type 0} (f : X → Y) (i : ℕ) (z : Y) → option_map f (slice_get [] i) ≡ Some z → ⊥
 nothing_in f zero z is = cc

@@ -1,6 +1,8 @@
 -- An endpoint with a transfer isn't one whose open is unfinished.
 use Rattle.std.proofs.Common.{◌≡◌, ◌≢◌, ℕ, ◌||◌, false, List, slice_get, Option, Some, None, ap, refl, sym, ◌∙◌, ⊎_elim}
 use Rattle.std.proofs.lemmas.Bool.{cases_eq}
+use Rattle.law_world.proofs.Common.{same_queue}
+use Rattle.law_reports.proofs.Common.{none_opens}
 use Rattle.drv_table.specs.declared.content.Command.{Command}
 use Rattle.drv_table.specs.declared.content.Command.TheVariants as unfinished
 use Rattle.drv_table.specs.declared.content.Endpoint.{Endpoint}
@@ -36,12 +38,6 @@ other_queue d e t x y queue owners here alive at own k same =
     ⊎_elim (λ (one : e ≡ k.number). k.none t y at (own ∙ one))
     (λ (differs : e ≢ k.number). queues_apart d e k.number x k.endpoint owners here alive k.here k.alive differs (same ∙ sym k.its))
     (cases_eq e k.number)
-
-open_queue : (a b : ℕ) → ◌≡◌ {A = Option Command} (Some (unfinished.Open a)) (Some (unfinished.Open b)) → a ≡ b
-open_queue a b same = cc
-
-none_opens : {q : ℕ} → ◌≡◌ {A = Option Command} None (Some (unfinished.Open q)) → ⊥
-none_opens same = cc
 
 publish_opens : {b q : ℕ} {words : List ℕ} → ◌≡◌ {A = Option Command} (Some (unfinished.Publish b words)) (Some (unfinished.Open q)) → ⊥
 publish_opens same = cc
@@ -80,18 +76,18 @@ module _ (s : Standing) (w : World) (mixed : IsMixedAt s w) (e : ℕ) (x : Endpo
         endpoint = r.endpoint;
         here = r.here;
         alive = in_ring_alive w.driver r.number r.endpoint owners.orderly r.here r.fresh;
-        its = open_queue r.endpoint.queue queue (sym r.command ∙ is);
+        its = same_queue r.endpoint.queue queue (sym r.command ∙ is);
         none = r.none;
-      }) (open_queue x.queue queue (sym opening)))
+      }) (same_queue x.queue queue (sym opening)))
       (λ (l : IsOpenLent w.driver s.member s.parts).
       real_none queue (record {
         number = l.number;
         endpoint = l.endpoint;
         here = l.here;
         alive = in_ring_alive w.driver l.number l.endpoint owners.orderly l.here l.fresh;
-        its = open_queue l.endpoint.queue queue (sym l.command ∙ is);
+        its = same_queue l.endpoint.queue queue (sym l.command ∙ is);
         none = l.none;
-      }) (open_queue x.queue queue (sym opening))) u
+      }) (same_queue x.queue queue (sym opening))) u
   not_by (Some unfinished.Chain) is u opening =
       let command : (queued w.driver).command ≡ Some (unfinished.Open x.queue) = ap (queued_command d.endpoints) is ∙ opening in
       let told : HasOwners (queued w.driver) = queued_has_owners w.driver owners mixed.turns in
@@ -103,7 +99,7 @@ module _ (s : Standing) (w : World) (mixed : IsMixedAt s w) (e : ℕ) (x : Endpo
         endpoint = k.endpoint;
         here = k.here;
         alive = in_ring_alive (queued w.driver) k.number k.endpoint told.orderly k.here k.fresh;
-        its = open_queue k.endpoint.queue x.queue (sym k.command ∙ command);
+        its = same_queue k.endpoint.queue x.queue (sym k.command ∙ command);
         none = k.none;
       }) refl)
       (λ (c : IsChainThere w.driver s.member s.recent s.parts).
@@ -113,7 +109,7 @@ module _ (s : Standing) (w : World) (mixed : IsMixedAt s w) (e : ℕ) (x : Endpo
         endpoint = k.endpoint;
         here = k.here;
         alive = in_ring_alive (queued w.driver) k.number k.endpoint told.orderly k.here k.fresh;
-        its = open_queue k.endpoint.queue x.queue (sym k.command ∙ command);
+        its = same_queue k.endpoint.queue x.queue (sym k.command ∙ command);
         none = k.none;
       }) refl) u
   not_by (Some (unfinished.Publish b words)) is u opening = publish_opens opening

@@ -1,7 +1,11 @@
 -- An endpoint is opened: its queue head leads to its inactive qTD, and nothing of its queue was left behind.
-use Rattle.std.proofs.Common.{◌≡◌, ◌≢◌, ℕ, ◌*◌, ◌||◌, Bool, true, false, if◌then◌else◌, List, [], ◌∷◌, Option, Some, None, Result, Ok, ap, refl, sym, subst, ◌∙◌, ⊎_elim, inl, inr, arith}
+use Rattle.std.proofs.Common.{◌≡◌, ◌≢◌, ℕ, ◌*◌, Bool, true, false, if◌then◌else◌, List, [], ◌∷◌, Option, Some, None, Result, Ok, ap, refl, sym, subst, ◌∙◌, ⊎_elim, inl, inr, arith}
 use Rattle.std.specs.Prelude.{◌⊎◌}
 use Rattle.std.proofs.lemmas.Bool.{cases_eq, false≢true}
+use Rattle.law_reports.proofs.Common.{none_opens}
+use Rattle.law_world.proofs.Common.{member_beside}
+use Rattle.law_common.proofs.Numbers.{other_number}
+use Rattle.law_structures.proofs.Common.{element_is}
 use Rattle.qh_qtd.specs.declared.qtd.Qtd.{Qtd}
 use Rattle.qh_qtd.specs.declared.queue_head.Qh.{Qh}
 use Rattle.qh_qtd.specs.QueueHead.{qh_words, qh_read, IsQhInRange}
@@ -16,12 +20,11 @@ use Rattle.claims_driver.specs.Owners.{EndpointRuns, runs_of_endpoint}
 use Rattle.law_driver.specs.queued_drivers.Queued.{queued, queued_command, queued_made}
 use Rattle.law_driver.proofs.lemmas.queued_drivers.RowOwners.{queued_has_owners}
 use Rattle.law_structures.specs.lent_structures.Structures.{QueueHead, Element, StructureSets, put}
-use Rattle.law_structures.proofs.lemmas.lent_structures.Names.{not_same, put_beside, put_found}
-use Rattle.law_structures.proofs.lemmas.lent_structures.Altering.{found_element, same_queue, same_element}
+use Rattle.law_structures.proofs.lemmas.lent_structures.Names.{put_beside, put_found}
+use Rattle.law_structures.proofs.lemmas.lent_structures.Altering.{found_element, same_queue}
 use Rattle.law_ring.specs.Told.{Endpoint as Told}
 use Rattle.law_controller.specs.controlled_streams.Opened.{with_end}
 use Rattle.law_driver_ring.specs.LendOpened.{IsOpened}
-use Rattle.law_driver_ring.specs.Linked.{with_member}
 use Rattle.law_queues.specs.open_laws.Lends.{IsOpenReady}
 use Rattle.law_queues.specs.open_laws.Opens.{IsOpenLent, end_then}
 use Rattle.law_queues.specs.open_laws.Queues.{IsOpenToLend, IsOpenThere, parts_opened}
@@ -34,9 +37,6 @@ use Rattle.law_reports.specs.queues.Onward.{LeadsOnward, StandsOnward}
 use Rattle.law_reports.specs.queues.OnwardLaws.{GoOnward}
 use Rattle.law_reports.proofs.lemmas.queues.Quiet.{spared_onward}
 use Rattle.law_reports.proofs.lemmas.queues.Spared.{IsSpared, spared_same, spared_relinked, spared_links, spared_stands, stores, none_stored}
-
-none_opens : {q : ℕ} → ◌≡◌ {A = Option Command} None (Some (unfinished.Open q)) → ⊥
-none_opens same = cc
 
 -- ---- the queue head that was written
 
@@ -119,7 +119,7 @@ module _ (s : Standing) (w : World) (mixed : IsMixedAt s w) (k : IsOpenToLend (q
 
   element_was : (m a : ℕ) (u : Qtd) → now m a ≡ Some (Element u) → (u ≡ dummy_qtd) ⊎ (s.parts m a ≡ Some (Element u))
   element_was m a u here =
-      ⊎_elim (λ (is : (m ≡ n) × (a ≡ 32 * k.endpoint.dummy) × (Element u ≡ Element dummy_qtd)). inl (same_element u dummy_qtd is.2))
+      ⊎_elim (λ (is : (m ≡ n) × (a ≡ 32 * k.endpoint.dummy) × (Element u ≡ Element dummy_qtd)). inl (element_is u dummy_qtd is.2))
       (λ (mid : head m a ≡ Some (Element u)).
       ⊎_elim (λ (is : (m ≡ n) × (a ≡ n) × (Element u ≡ QueueHead k.queue)). absurd (no_head u k.queue is.2))
       (λ (was : s.parts m a ≡ Some (Element u)). inr was) (put_found s.parts n n (QueueHead k.queue) m a (Element u) mid))
@@ -157,11 +157,8 @@ module _ (s : Standing) (w : World) (mixed : IsMixedAt s w) (k : IsOpenToLend (q
 
 -- ---- the open is finished
 
-member_beside : (near : ℕ → Bool) (n k : ℕ) → k ≢ n → with_member near n k ≡ true → near k ≡ true
-member_beside near n k differs on = sym (ap (λ (b : Bool). b || near k) (not_same k n differs)) ∙ on
-
 end_beside : (ends : ℕ → Told) (n k : ℕ) (y : Told) → k ≢ n → with_end ends n y k ≡ ends k
-end_beside ends n k y differs = ap (λ (b : Bool). if b then y else ends k) (not_same k n differs)
+end_beside ends n k y differs = ap (λ (b : Bool). if b then y else ends k) (other_number k n differs)
 
 module _ (s t : Standing) (w new : World) (k : IsOpenThere (queued w.driver) s.parts) (o : HasOpened s t k.endpoint)
     (g : GoOnward s (queued w.driver)) where

@@ -2,6 +2,9 @@
 use Rattle.std.proofs.Common.{◌≡◌, ◌≢◌, ℕ, zero, suc, ◌+◌, ◌-◌, ◌*◌, ◌<◌, ◌≤◌, ◌⊎◌, ◌==◌, ◌&&◌, ◌||◌, not, Bool, true, false, if◌then◌else◌, length, slice_get, Option, Some, None, option_map, ap, refl, sym, subst, ◌∙◌, ⊎_elim, inl, inr, arith}
 use Rattle.std.proofs.lemmas.Bool.{cases_eq, cases_lt, true≢false}
 use Rattle.std.proofs.lemmas.Option.{same_Some, slice_get_within}
+use Rattle.law_queues.proofs.Common.{one_target, no_end}
+use Rattle.law_common.proofs.Numbers.{other_number}
+use Rattle.law_driver.proofs.Common.{piece_next}
 use Rattle.link_words.specs.declared.fields.ShortLink.{ShortLink}
 use Rattle.link_words.specs.declared.kinds.QtdLink.TheVariants as qtd_links
 use Rattle.link_words.specs.Links.{qtd_link_of}
@@ -22,28 +25,21 @@ use Rattle.law_driver.specs.chained_transfers.Turns.{turn_of}
 use Rattle.law_driver.proofs.lemmas.chained_transfers.BulkAndControl.{not_iso}
 use Rattle.law_structures.specs.lent_structures.Structures.{Element, Structures, StructureSets}
 use Rattle.law_structures.proofs.lemmas.lent_structures.Altering.{found_element}
-use Rattle.law_structures.proofs.lemmas.lent_structures.Names.{not_same}
 use Rattle.law_ring.specs.Front.{own_pointer, LinksRise}
 use Rattle.law_driver_ring.specs.Inventory.{Sort as Kind, sort_of, sorts_of, OfElement, IsLent, IsDriverOwned, the_list, the_head, a_queue, a_dummy, a_piece, a_buffer, IsDriven}
 use Rattle.law_driver_ring.proofs.LendOwning.{number_of as owner_number}
 use Rattle.law_driver_ring.specs.fed_queues.Fed.{IsAlternate, unpublished_of, AreFed}
 use Rattle.law_queues.specs.released_queues.Fronts.{piece_address, end_at}
-use Rattle.law_queues.proofs.lemmas.released_queues.Pieces.{piece_next, number_of}
+use Rattle.law_queues.proofs.lemmas.released_queues.Pieces.{number_of}
 use Rattle.law_queues.proofs.lemmas.released_queues.Links.{mapped}
 
 -- ---- links
 
-same_to : (a b : ℕ) → qtd_links.To a ≡ qtd_links.To b → a ≡ b
-same_to a b same = cc
-
-no_end : (b : ℕ) → qtd_links.End ≡ qtd_links.To b → ⊥
-no_end b same = cc
-
 alternate_to : (sort : Sort) (l : ShortLink) (next end to : ℕ) → IsAlternate sort l next end → qtd_link_of l ≡ qtd_links.To to
     → (to ≡ 32 * end) ⊎ (to ≡ 32 * next)
-alternate_to sorts.Get l next end to is leads = inl (same_to to (32 * end) (sym leads ∙ ap qtd_link_of is))
+alternate_to sorts.Get l next end to is leads = inl (one_target to (32 * end) (sym leads ∙ ap qtd_link_of is))
 alternate_to sorts.Request l next end to (inl none) leads = absurd (no_end to (sym (ap qtd_link_of none) ∙ leads))
-alternate_to sorts.Request l next end to (inr is) leads = inr (same_to to (32 * next) (sym leads ∙ ap qtd_link_of is))
+alternate_to sorts.Request l next end to (inr is) leads = inr (one_target to (32 * next) (sym leads ∙ ap qtd_link_of is))
 alternate_to sorts.Put l next end to is leads = absurd (no_end to (sym (ap qtd_link_of is) ∙ leads))
 alternate_to sorts.Descriptor l next end to is leads = absurd (no_end to (sym (ap qtd_link_of is) ∙ leads))
 
@@ -110,7 +106,7 @@ module _ (d : DriverContent) (parts : StructureSets) (o : ℕ → ℕ) (turns : 
           → IsAlternate y.sort q.alternate next (piece_at (note_in d.notes) y.first y.qtds) → (b : Bool)
           → qtd_link_of (if b then q.alternate else q.next) ≡ qtd_links.To to → o to ≤ o (end_at d y)
       by next on next_leads alternate false leads =
-          let same = ap o (same_to to (32 * next) (sym leads ∙ next_leads)) in
+          let same = ap o (one_target to (32 * next) (sym leads ∙ next_leads)) in
           omega (arith, same, on)
       by next on next_leads alternate true leads =
           ⊎_elim (λ (is : to ≡ end_at d y). let same = ap o is in omega (arith, same))
@@ -128,7 +124,7 @@ module _ (d : DriverContent) (parts : StructureSets) (o : ℕ → ℕ) (turns : 
     stored_before k v less =
         let low = slice_get_within d.transfers t z next in
         ap (λ (b : Bool). if b then unpublished d.command d.made v.qtds else 0)
-        (not_same (suc k) (length d.transfers) (λ same. omega (arith, low, less, same)))
+        (other_number (suc k) (length d.transfers) (λ same. omega (arith, low, less, same)))
 
     run_of : (i : ℕ) (y : Transfer) → slice_get d.transfers i ≡ Some y → (views_of d).transfer i ≡ Some (runs_of_transfer y)
     run_of i y at = ap (option_map runs_of_transfer) at

@@ -1,6 +1,7 @@
 -- One queue head goes onward with each event of its queue.
 use Rattle.std.proofs.Common.{◌≡◌, ◌≢◌, ℕ, ◌<◌, ◌≤◌, ◌⊎◌, ◌==◌, ◌&&◌, not, Bool, true, false, if◌then◌else◌, Some, ap, refl, sym, subst, ◌∙◌, ⊎_elim, inl, inr, arith}
 use Rattle.std.proofs.lemmas.Bool.{cases_eq, cases_lt, true≢false}
+use Rattle.law_ring.proofs.Common.{pointer_rises, same_pointer}
 use Rattle.link_words.specs.declared.fields.ShortLink.{ShortLink}
 use Rattle.link_words.specs.declared.kinds.QtdLink.TheVariants as qtd_links
 use Rattle.link_words.specs.Links.{qtd_link_of}
@@ -46,19 +47,6 @@ followed : (short none : Bool) (next alternate : ShortLink) → alternate.t ≡ 
 followed true false next alternate is on = is
 followed true true next alternate is on = on
 followed false none next alternate is on = on
-
--- a queue head and a qTD with one pair of links and as many bytes left go on at one
-same_pointer : (q : Qh) (t : Qtd) → q.next ≡ t.next → q.alternate ≡ t.alternate → q.token.total ≡ t.token.total
-    → next_pointer q ≡ own_pointer t
-same_pointer q t next alternate total =
-    ap (λ (n : ℕ). if not (n == 0) && not q.alternate.t then q.alternate else q.next) total
-    ∙ ap (λ (l : ShortLink). if not (t.token.total == 0) && not l.t then l else q.next) alternate
-    ∙ ap (λ (l : ShortLink). if not (t.token.total == 0) && not t.alternate.t then t.alternate else l) next
-
-pointer_rises : (order : ℕ → ℕ) (part : Structures) (a : ℕ) (t : Qtd) (c : Bool) (b : ℕ) → LinksRise order part
-    → part a ≡ Some (Element t) → qtd_link_of (if c then t.alternate else t.next) ≡ qtd_links.To b → order a < order b
-pointer_rises order part a t true b rise here to = rise.alternate a t b here to
-pointer_rises order part a t false b rise here to = rise.next a t b here to
 
 -- ---- the links
 

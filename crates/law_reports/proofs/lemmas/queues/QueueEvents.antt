@@ -1,19 +1,18 @@
 -- What an event of either walk is to the queue of one queue head.
 use Rattle.std.proofs.Common.{◌≡◌, ◌≢◌, ℕ, Bool, List, Option, Some, ap, refl, sym, subst, ◌∙◌, ⊎_elim}
 use Rattle.std.proofs.lemmas.Bool.{cases_eq}
+use Rattle.law_ring.proofs.Common.{through_head, through_bytes}
 use Rattle.usb_base.specs.declared.packets.Ask.{Ask}
 use Rattle.usb_base.specs.declared.packets.Reply.{Reply}
 use Rattle.qh_qtd.specs.declared.qtd.Qtd.{Qtd}
 use Rattle.qh_qtd.specs.declared.queue_head.Qh.{Qh}
-use Rattle.mem_bytes.specs.Bytes.{place}
 use Rattle.hc_copy.specs.Overlay.{advanced}
 use Rattle.hc_copy.specs.WriteBack.{moved_by}
 use Rattle.hc_core.specs.Controller.{Content, walk_place}
 use Rattle.async_walk.specs.declared.state.WalkStep.{WalkStep}
-use Rattle.law_structures.specs.lent_structures.Changes.{overwritten}
-use Rattle.law_structures.specs.lent_structures.Structures.{QueueHead, Element, Buffer, StructureSets, put}
+use Rattle.law_structures.specs.lent_structures.Structures.{QueueHead, Element, StructureSets, put}
 use Rattle.law_structures.proofs.lemmas.lent_structures.Names.{put_same, put_else, put_beside, put_found}
-use Rattle.law_structures.specs.lent_structures.WriteBack.{CanBeWritten, Received, Nothing, Into, received_parts}
+use Rattle.law_structures.specs.lent_structures.WriteBack.{CanBeWritten, Received, received_parts}
 use Rattle.law_structures.proofs.lemmas.lent_structures.Found.{back_head, back_element, back_other_element, back_beside}
 use Rattle.law_structures.specs.lent_structures.Sound.{IsWorking, IsSoundQueue, IsMember}
 use Rattle.law_structures.proofs.lemmas.lent_structures.Altering.{found_queue, found_element, no_two}
@@ -31,27 +30,6 @@ use Rattle.law_frames.specs.FrameHand.{FrameHand}
 use Rattle.law_frames.proofs.lemmas.framed_fronts.Queues.{QueueEvent, stays, advances, settles, event_of}
 
 -- ---- what is found after an event was there before
-
-no_head : (q : Qh) (u : Qtd) → Element u ≡ QueueHead q → ⊥
-no_head q u e = cc
-
-no_buffer : (pages : List ℕ) (k : ℕ) (bs : List ℕ) (u : Qtd) → Element u ≡ Buffer pages k bs → ⊥
-no_buffer pages k bs u e = cc
-
-through_head : (ps : StructureSets) (a : ℕ) (q : Qh) (i b : ℕ) (u : Qtd) → put ps a a (QueueHead q) i b ≡ Some (Element u)
-    → ps i b ≡ Some (Element u)
-through_head ps a q i b u found =
-    ⊎_elim (λ (is : (i ≡ a) × (b ≡ a) × (Element u ≡ QueueHead q)). absurd (no_head q u is.2))
-    (λ (before : ps i b ≡ Some (Element u)). before)
-    (put_found ps a a (QueueHead q) i b (Element u) found)
-
-through_bytes : (ps : StructureSets) (a : ℕ) (got : List ℕ) (r : Received) (i b : ℕ) (u : Qtd)
-    → received_parts ps a got r i b ≡ Some (Element u) → ps i b ≡ Some (Element u)
-through_bytes ps a got Nothing i b u found = found
-through_bytes ps a got (Into pages k bs j) i b u found =
-    ⊎_elim (λ (is : (i ≡ a) × (b ≡ place pages k) × (Element u ≡ Buffer pages k (overwritten bs j got))).
-    absurd (no_buffer pages k (overwritten bs j got) u is.2)) (λ (before : ps i b ≡ Some (Element u)). before)
-    (put_found ps a (place pages k) (Buffer pages k (overwritten bs j got)) i b (Element u) found)
 
 advanced_is : (q : Qh) (a : ℕ) (t : Qtd) → ((advanced q a t).token.active ≡ t.token.active) × ((advanced q a t).current ≡ a)
 unfolding advanced

@@ -2,6 +2,7 @@
 use Rattle.std.proofs.Common.{◌≡◌, ◌≢◌, ℕ, ◌-◌, ◌*◌, ◌≤◌, ◌==◌, ◌&&◌, not, Bool, true, false, if◌then◌else◌, List, length, slice_get, Option, Some, None, Result, Ok, Err, ap, refl, sym, subst, ◌∙◌, ⊎_elim}
 use Rattle.std.specs.Prelude.{is_some}
 use Rattle.std.proofs.lemmas.Bool.{cases_eq, eq-eqb, false≢true}
+use Rattle.law_ring.proofs.Common.{those_here}
 use Rattle.usb_base.specs.declared.commands.Cmd.{Cmd}
 use Rattle.qh_qtd.specs.declared.qtd.Qtd.{Qtd}
 use Rattle.qh_qtd.specs.declared.queue_head.Qh.{Qh}
@@ -31,7 +32,7 @@ use Rattle.law_world.specs.memory.Steps.{AreStill, HasNoStep, left_alike, left_b
 use Rattle.law_world.proofs.lemmas.memory.RingBasis.{due_is}
 use Rattle.law_reports.specs.queues.Onward.{LeadsOnward, IsUnpublished, StandsOnward}
 use Rattle.law_reports.specs.queues.OnwardLaws.{GoOnward, CommandKeepsOnward}
-use Rattle.law_reports.proofs.lemmas.queues.Returns.{fewer_links, those_here, those_beside}
+use Rattle.law_reports.proofs.lemmas.queues.Returns.{fewer_links, those_beside}
 use Rattle.law_reports.proofs.lemmas.queues.Spared.{IsSpared, spared_itself, spared_same, spared_relinked, spared_links, spared_stands, stores, none_stored}
 
 -- ---- what is being stored is being stored yet

@@ -1,8 +1,11 @@
 -- The blocks of a transfer are given back: what it skipped goes with it, so all that is left was skipped by what is left.
-use Rattle.std.proofs.Common.{◌≡◌, ◌≢◌, ℕ, suc, ◌*◌, ◌<◌, ◌≤◌, ◌⊎◌, Bool, true, false, if◌then◌else◌, length, slice_get, Option, Some, None, ap, refl, sym, subst, ◌∙◌, ⊎_elim, inl, inr, arith}
+use Rattle.std.proofs.Common.{◌≡◌, ◌≢◌, ℕ, suc, ◌*◌, ◌<◌, ◌≤◌, ◌⊎◌, Bool, true, false, if◌then◌else◌, length, slice_get, Some, None, ap, refl, sym, subst, ◌∙◌, ⊎_elim, inl, inr, arith}
 use Rattle.std.specs.Prelude.{nat_eq}
-use Rattle.std.proofs.lemmas.Bool.{cases_eq, eq-eqb, false≢true, true≢false}
+use Rattle.std.proofs.lemmas.Bool.{cases_eq, false≢true, true≢false}
 use Rattle.std.proofs.lemmas.Option.{same_Some}
+use Rattle.law_ring.proofs.Common.{fewer_some}
+use Rattle.law_common.proofs.Numbers.{other_number}
+use Rattle.law_world.proofs.Common.{none_some}
 use Rattle.link_words.specs.declared.kinds.QtdLink.TheVariants as qtd_links
 use Rattle.link_words.specs.Links.{qtd_link_of}
 use Rattle.qh_qtd.specs.declared.qtd.Qtd.{Qtd}
@@ -17,7 +20,6 @@ use Rattle.law_driver.specs.chained_transfers.Chains.{piece_at}
 use Rattle.law_driver.proofs.lemmas.chained_transfers.Holding.{held_alive}
 use Rattle.law_driver.specs.queued_drivers.Queued.{queued, queued_parts}
 use Rattle.law_structures.specs.lent_structures.Structures.{Structure, QueueHead, Element, Structures, StructureSets}
-use Rattle.law_structures.proofs.lemmas.lent_structures.Names.{not_same}
 use Rattle.law_structures.proofs.lemmas.lent_structures.Altering.{found_element}
 use Rattle.law_ring.specs.Fewer.{fewer_structures, without_those}
 use Rattle.law_ring.specs.Front.{own_pointer, LinksRise}
@@ -33,7 +35,6 @@ use Rattle.law_queues.proofs.lemmas.released_queues.StayingQueues.{goes_on, goes
 use Rattle.bus_world.specs.World.{World, driver_parts}
 use Rattle.law_world.specs.memory.Mixed.{Standing, IsMixedAt}
 use Rattle.law_world.proofs.lemmas.memory.HarvestKept.{owners_of, driven_of, runs_of, fronts_of}
-use Rattle.law_world.proofs.lemmas.memory.Unfinished.{none_unfinished}
 use Rattle.law_reports.specs.queues.Onward.{LeadsOnward, place_of, IsSkipped, IsUnpublished, StandsOnward}
 use Rattle.law_reports.proofs.lemmas.queues.Passing.{last_fewer}
 use Rattle.law_reports.proofs.lemmas.queues.Ordered.{InQueue, is_dummy, is_piece, in_queue, along, own_within, later}
@@ -41,24 +42,12 @@ use Rattle.law_reports.proofs.lemmas.queues.Spared.{none_stored}
 
 -- ---- the structures that stay
 
-pub fewer_some : (goes : ℕ → Bool) (part : Structures) (a : ℕ) (u : Structure) → fewer_structures goes part a ≡ Some u
-    → (goes a ≡ false) × (part a ≡ Some u)
-fewer_some goes part a u here = by (goes a) refl
-  where
-    by : (b : Bool) → goes a ≡ b → (goes a ≡ false) × (part a ≡ Some u)
-    by false is = (is, sym (ap (λ (c : Bool). if c then None else part a) is) ∙ here)
-    by true is = absurd (let bad : ◌≡◌ {A = Option Structure} None (Some u) =
-        sym (ap (λ (c : Bool). if c then None else part a) is) ∙ here in cc)
-
 pub fewer_still : (goes : ℕ → Bool) (part : Structures) (a : ℕ) (u : Structure) → goes a ≡ false → part a ≡ Some u
     → fewer_structures goes part a ≡ Some u
 fewer_still goes part a u off here = ap (λ (c : Bool). if c then None else part a) off ∙ here
 
-pub those_here : (parts : StructureSets) (n : ℕ) (goes : ℕ → Bool) → without_those parts n goes n ≡ fewer_structures goes (parts n)
-those_here parts n goes = ap (λ (b : Bool). if b then fewer_structures goes (parts n) else parts n) (eq-eqb n n refl)
-
 pub those_beside : (parts : StructureSets) (n m : ℕ) (goes : ℕ → Bool) → m ≢ n → without_those parts n goes m ≡ parts m
-those_beside parts n m goes differs = ap (λ (b : Bool). if b then fewer_structures goes (parts m) else parts m) (not_same m n differs)
+those_beside parts n m goes differs = ap (λ (b : Bool). if b then fewer_structures goes (parts m) else parts m) (other_number m n differs)
 
 pub fewer_links : (n : ℕ) (goes : ℕ → Bool) (part : Structures) → LeadsOnward n part → LeadsOnward n (fewer_structures goes part)
 fewer_links n goes part k = record {
@@ -88,7 +77,7 @@ module _ (s : Standing) (w : World) (mixed : IsMixedAt s w) (t : ℕ) (y : Trans
 
   met : IsMet (queued w.driver) y.endpoint x
   met = record {
-    there = record { linked = λ is. none_unfinished (unfinished.Open x.queue) (sym r.free ∙ is); kept = alive };
+    there = record { linked = λ is. none_some (unfinished.Open x.queue) (sym r.free ∙ is); kept = alive };
     near = r.near;
   }
 

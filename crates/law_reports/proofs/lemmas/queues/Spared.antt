@@ -1,6 +1,7 @@
 -- What leaves a queue as it is, but for links of queue heads, leaves how far it has come.
-use Rattle.std.proofs.Common.{◌≡◌, ℕ, ◌<◌, ◌⊎◌, ◌==◌, ◌&&◌, not, Bool, true, false, if◌then◌else◌, Option, Some, ap, refl, sym, subst, ◌∙◌, ⊎_elim, inl, inr, arith}
+use Rattle.std.proofs.Common.{◌≡◌, ℕ, ◌<◌, ◌⊎◌, Bool, true, false, if◌then◌else◌, Option, Some, ap, refl, sym, subst, ◌∙◌, ⊎_elim, inl, inr, arith}
 use Rattle.std.proofs.lemmas.Bool.{false≢true}
+use Rattle.law_devices.proofs.Common.{pointer_still}
 use Rattle.link_words.specs.declared.fields.ShortLink.{ShortLink}
 use Rattle.link_words.specs.Links.{qtd_link_of}
 use Rattle.qh_qtd.specs.declared.qtd.Qtd.{Qtd}
@@ -53,17 +54,11 @@ spared_relinked n part now k = record {
 
 -- ---- where it stands
 
-pointer_same : (q r : Qh) → SameRest q r → next_pointer r ≡ next_pointer q
-pointer_same q r same =
-    ap (λ (t : Token). if not (t.total == 0) && not r.alternate.t then r.alternate else r.next) same.token
-    ∙ ap (λ (l : ShortLink). if not (q.token.total == 0) && not l.t then l else r.next) same.alternate
-    ∙ ap (λ (l : ShortLink). if not (q.token.total == 0) && not q.alternate.t then q.alternate else l) same.next
-
 place_same : (order : ℕ → ℕ) (q r : Qh) → SameRest q r → place_of order r ≡ place_of order q
 place_same order q r same =
     ap (λ (t : Token). if t.active then order r.current else place_at order (qtd_link_of (next_pointer r))) same.token
     ∙ ap (λ (c : ℕ). if q.token.active then order c else place_at order (qtd_link_of (next_pointer r))) same.current
-    ∙ ap (λ (l : ShortLink). if q.token.active then order q.current else place_at order (qtd_link_of l)) (pointer_same q r same)
+    ∙ ap (λ (l : ShortLink). if q.token.active then order q.current else place_at order (qtd_link_of l)) (pointer_still q r same)
 
 -- ---- one queue
 
@@ -72,7 +67,7 @@ spared_links n part now s k = record {
   next = λ a u here on. k.next a u (s.were a u here) on;
   rest = λ r here off idle.
       let had : HadRest part n r = s.head r here in
-      ap (λ (l : ShortLink). l.t) (pointer_same had.queue r had.rest)
+      ap (λ (l : ShortLink). l.t) (pointer_still had.queue r had.rest)
       ∙ k.rest had.queue had.here (ap (λ (t : Token). t.halted) (sym had.rest.token) ∙ off)
       (ap (λ (t : Token). t.active) (sym had.rest.token) ∙ idle);
 }

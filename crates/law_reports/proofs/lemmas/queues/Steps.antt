@@ -1,6 +1,7 @@
 -- Each event of the driver keeps queue heads going onward.
 use Rattle.std.proofs.Common.{◌≡◌, ◌≢◌, ℕ, ◌*◌, Bool, false, List, Some, ap, refl, sym, subst, ◌∙◌, ⊎_elim}
 use Rattle.std.proofs.lemmas.Bool.{cases_eq}
+use Rattle.law_ring.proofs.Common.{those_here}
 use Rattle.qh_qtd.specs.declared.queue_head.Qh.{Qh}
 use Rattle.drv_table.specs.declared.rows.DriverRow.TheVariants as rows
 use Rattle.drv_table.specs.declared.content.Endpoint.{Endpoint}
@@ -22,7 +23,7 @@ use Rattle.law_reports.proofs.lemmas.queues.Lends.{lent_links, lent_stands}
 use Rattle.law_reports.proofs.lemmas.queues.Mends.{mends_onward}
 use Rattle.law_reports.proofs.lemmas.queues.Opens.{begins_onward, opens_onward}
 use Rattle.law_reports.proofs.lemmas.queues.Quiet.{stays_onward, same_onward, unlinks_onward, goes_onward}
-use Rattle.law_reports.proofs.lemmas.queues.Returns.{fewer_links, those_here, those_beside, returned_stands}
+use Rattle.law_reports.proofs.lemmas.queues.Returns.{fewer_links, those_beside, returned_stands}
 use Rattle.law_reports.proofs.lemmas.queues.Spared.{spared_same, spared_stands, stores as is_storing, none_stored}
 use Rattle.law_reports.proofs.lemmas.queues.Stores.{stored_links, stored_stands}
 

@@ -2,6 +2,9 @@
 use Rattle.std.proofs.Common.{◌≡◌, ◌≢◌, ℕ, ◌-◌, ◌*◌, ◌<◌, ◌≤◌, ◌⊎◌, Bool, true, false, if◌then◌else◌, List, length, slice_get, Option, Some, ap, refl, sym, subst, ◌∙◌, ⊎_elim, inl, inr, arith}
 use Rattle.std.proofs.lemmas.Bool.{cases_eq, cases_lt, eq-eqb, false≢true}
 use Rattle.std.proofs.lemmas.Option.{same_Some}
+use Rattle.law_world.proofs.Common.{no_open, same_block, none_some}
+use Rattle.law_ring.proofs.Common.{no_element}
+use Rattle.law_driver_ring.proofs.Common.{partly_idle}
 use Rattle.link_words.specs.declared.fields.ShortLink.{ShortLink}
 use Rattle.qh_qtd.specs.declared.qtd.Qtd.{Qtd}
 use Rattle.qh_qtd.specs.declared.queue_head.Qh.{Qh}
@@ -17,7 +20,6 @@ use Rattle.law_structures.proofs.lemmas.lent_structures.Names.{put_same, put_els
 use Rattle.law_structures.proofs.lemmas.lent_structures.Altering.{found_element}
 use Rattle.law_controller.specs.controlled_streams.Storing.{stored_parts}
 use Rattle.law_driver_ring.specs.Published.{partly}
-use Rattle.law_driver_ring.proofs.Publishing.{idle}
 use Rattle.law_driver_ring.specs.fed_queues.Fed.{IsPublished}
 use Rattle.law_driver_ring.specs.fed_queues.Places.{IsLast, IsMet}
 use Rattle.law_driver_ring.proofs.lemmas.fed_queues.Places.{stands_met}
@@ -28,21 +30,10 @@ use Rattle.law_world.specs.memory.Mixed.{Standing, IsMixedAt}
 use Rattle.law_world.specs.memory.Steps.{told_parts, IsNextStore}
 use Rattle.law_world.proofs.lemmas.memory.HarvestKept.{owners_of}
 use Rattle.law_world.proofs.lemmas.memory.PublishStores.{IsStoring, then_more}
-use Rattle.law_world.proofs.lemmas.memory.Unfinished.{none_unfinished}
 use Rattle.law_reports.specs.queues.Onward.{LeadsOnward, place_of, IsSkipped, IsUnpublished, StandsOnward}
 use Rattle.law_reports.proofs.lemmas.queues.Passing.{last_fewer}
 use Rattle.law_reports.proofs.lemmas.queues.Places.{place_most}
 use Rattle.law_reports.proofs.lemmas.queues.Spared.{spared_same, spared_stands}
-
-never_opens : (b q : ℕ) (words : List ℕ) → ◌≡◌ {A = Option Command} (Some (unfinished.Publish b words)) (Some (unfinished.Open q)) → ⊥
-never_opens b q words is = cc
-
-same_block : (b c : ℕ) (xs ys : List ℕ)
-    → ◌≡◌ {A = Option Command} (Some (unfinished.Publish b xs)) (Some (unfinished.Publish c ys)) → b ≡ c
-same_block b c xs ys is = cc
-
-no_head : (q : Qh) (u : Qtd) → QueueHead q ≡ Element u → ⊥
-no_head q u e = cc
 
 module _ (s : Standing) (w new : World) (mixed : IsMixedAt s w) (b : ℕ) (words : List ℕ)
     (g : IsPublished (queued w.driver) s.parts b words) (next : IsNextStore s w new b words g) where
@@ -73,10 +64,10 @@ module _ (s : Standing) (w new : World) (mixed : IsMixedAt s w) (b : ℕ) (words
   met : IsMet (queued w.driver) g.transfer.endpoint g.endpoint
   met = stands_met (queued w.driver) g.transfer.endpoint g.endpoint
       (mixed.turns.turns.asynchronous.endpoints g.transfer.endpoint g.endpoint g.here) g.going
-      (λ is. never_opens b g.endpoint.queue words (sym next.command ∙ is))
+      (λ is. no_open b g.endpoint.queue words (sym next.command ∙ is))
 
   off : (partly g.qtd ((queued w.driver).made - 1)).token.active ≡ false
-  off = idle g.qtd ((queued w.driver).made - 1) (let some = next.made in let few = g.few in omega (arith, some, few))
+  off = partly_idle g.qtd ((queued w.driver).made - 1) (let some = next.made in let few = g.few in omega (arith, some, few))
 
   newest_is : slice_get (queued w.driver).transfers (length (queued w.driver).transfers - 1) ≡ Some g.transfer
   newest_is =
@@ -100,7 +91,7 @@ module _ (s : Standing) (w new : World) (mixed : IsMixedAt s w) (b : ℕ) (words
 
   publish_not_iso : (e t count : ℕ) → w.driver.command ≡ Some (unfinished.Iso e t count) → ⊥
   publish_not_iso e t count iso =
-      none_unfinished (unfinished.Publish b words) (sym (ap (queued_command w.driver.endpoints) iso) ∙ next.command)
+      none_some (unfinished.Publish b words) (sym (ap (queued_command w.driver.endpoints) iso) ∙ next.command)
 
   storing : IsStoring (queued w.driver) s.near s.streams s.ends s.parts s.order s.out b words
   storing = record {
@@ -141,7 +132,7 @@ module _ (s : Standing) (w new : World) (mixed : IsMixedAt s w) (b : ℕ) (words
   stored_next : (partly g.qtd (queued w.driver).made).token.active ≡ true → (partly g.qtd (queued w.driver).made).next.t ≡ false
   stored_next on =
       let few = g.few in
-      ⊎_elim (λ (low : d.made < 8). absurd (false≢true (sym (idle g.qtd d.made low) ∙ on)))
+      ⊎_elim (λ (low : d.made < 8). absurd (false≢true (sym (partly_idle g.qtd d.made low) ∙ on)))
       (λ (over : 8 ≤ d.made).
       let eighth : d.made ≡ 8 = omega (arith, few, over) in
       ap (λ (j : ℕ). (partly g.qtd j).next.t) eighth ∙ ap (λ (l : ShortLink). l.t) g.noted.next)
@@ -150,7 +141,7 @@ module _ (s : Standing) (w new : World) (mixed : IsMixedAt s w) (b : ℕ) (words
   -- a queue head stood there
   head_was : (q : Qh) → now n n ≡ Some (QueueHead q) → part n ≡ Some (QueueHead q)
   head_was q here =
-      ⊎_elim (λ (is : (n ≡ n) × (n ≡ 32 * b) × (QueueHead q ≡ Element stored)). absurd (no_head q stored is.2))
+      ⊎_elim (λ (is : (n ≡ n) × (n ≡ 32 * b) × (QueueHead q ≡ Element stored)). absurd (no_element q stored is.2))
       (λ (was : part n ≡ Some (QueueHead q)). was) (put_found s.parts n (32 * b) (Element stored) n n (QueueHead q) here)
 
   -- each other qTD did so

@@ -4,6 +4,8 @@ use Rattle.std.specs.Prelude.{nat_eq}
 use Rattle.std.specs.List.{AllByRecursion}
 use Rattle.std.proofs.lemmas.Bool.{cases_eq}
 use Rattle.std.proofs.lemmas.Option.{same_Some}
+use Rattle.law_common.proofs.Numbers.{other_number}
+use Rattle.law_world.proofs.Common.{none_some}
 use Rattle.link_words.specs.Links.{qtd_link_of}
 use Rattle.mem_runs.specs.declared.slots.Slot.{Slot}
 use Rattle.mem_runs.specs.Book.{slot_of}
@@ -20,7 +22,6 @@ use Rattle.law_driver.specs.chained_transfers.Chains.{piece_at}
 use Rattle.law_driver.specs.chained_transfers.Out.{unpublished}
 use Rattle.law_driver.specs.queued_drivers.Queued.{queued, queued_command, queued_made}
 use Rattle.law_driver.proofs.lemmas.queued_drivers.RowOwners.{queued_are_lent}
-use Rattle.law_structures.proofs.lemmas.lent_structures.Names.{not_same}
 use Rattle.law_ring.specs.Front.{LinksRise}
 use Rattle.law_driver_ring.specs.Inventory.{IsLent}
 use Rattle.law_driver_ring.specs.Written.{IsPageRun, next_blocks}
@@ -32,7 +33,6 @@ use Rattle.law_world.specs.memory.Mixed.{Standing, IsUnderWay, IsMixedAt}
 use Rattle.law_world.specs.memory.Steps.{told_parts}
 use Rattle.law_world.proofs.lemmas.memory.HarvestKept.{owners_of}
 use Rattle.law_world.proofs.lemmas.memory.PublishStores.{IsStoring, links}
-use Rattle.law_world.proofs.lemmas.memory.Unfinished.{none_unfinished}
 use Rattle.law_reports.proofs.lemmas.queues.Ordered.{along}
 
 -- ---- commands
@@ -122,7 +122,7 @@ module _ (s : Standing) (w : World) (mixed : IsMixedAt s w) (e : ℕ) (z : Endpo
       → suc v ≡ length (queued w.driver).transfers → o (32 * t.first) < o (piece_address (queued w.driver) t 1)
   first_step b words command made newest =
       let not_iso = λ (f : ℕ) (u : ℕ) (count : ℕ) (iso : w.driver.command ≡ Some (unfinished.Iso f u count)).
-      none_unfinished (unfinished.Publish b words) (sym (ap (queued_command w.driver.endpoints) iso) ∙ command) in
+      none_some (unfinished.Publish b words) (sym (ap (queued_command w.driver.endpoints) iso) ∙ command) in
       let storing : IsStoring (queued w.driver) s.near s.streams s.ends s.parts s.order s.out b words = record {
         command = command;
         made = made;
@@ -178,7 +178,8 @@ module _ (s : Standing) (w : World) (mixed : IsMixedAt s w) (e : ℕ) (z : Endpo
       (λ (p : IsPublish w.driver.command).
       ⊎_elim (λ (newest : suc v ≡ length d.transfers). by_command p.0 p.1 p.2 newest i below lent)
       (λ (older : suc v ≢ length d.transfers).
-      absurd (some (ap (λ (b : Bool). if b then unpublished d.command d.made t.qtds else 0) (not_same (suc v) (length d.transfers) older))))
+      absurd (some (ap (λ (b : Bool). if b then unpublished d.command d.made t.qtds else 0)
+      (other_number (suc v) (length d.transfers) older))))
       (cases_eq (suc v) (length d.transfers)))
       (λ (never : (b : ℕ) (words : List ℕ) → w.driver.command ≢ Some (unfinished.Publish b words)).
       absurd (some (none_left (nat_eq (suc v) (length d.transfers)) (unpublished d.command d.made t.qtds)

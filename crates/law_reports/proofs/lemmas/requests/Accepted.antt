@@ -2,6 +2,7 @@
 use Rattle.std.proofs.Common.{◌≡◌, ◌≢◌, ℕ, ◌*◌, Bool, true, false, List, [], ◌∷◌, ◌++◌, length, Some, ap, refl, sym, subst, ◌∙◌, arith}
 use Rattle.std.specs.Prelude.{slice_get, option_map}
 use Rattle.std.proofs.lemmas.Option.{same_Some, slice_get_past}
+use Rattle.law_reports.proofs.Common.{asked_before}
 use Rattle.usb_base.specs.declared.commands.Cmd.{Cmd}
 use Rattle.usb_base.specs.declared.commands.Cmd.TheVariants as commands
 use Rattle.usb_base.specs.declared.endpoints.EpDesc.{EpDesc}
@@ -25,7 +26,7 @@ use Rattle.claims_world.specs.Requests.{wired, Windows, asks_then, numbers_of}
 use Rattle.law_reports.specs.requests.driver_requests.Requests.{IsOfEndpoint}
 use Rattle.law_reports.specs.requests.driver_requests.Rows.{EndpointStays}
 use Rattle.law_reports.proofs.lemmas.requests.lemmas.driver_requests.Accepting.{endpoint_stays}
-use Rattle.law_reports.proofs.lemmas.requests.lemmas.driver_requests.Ordering.{numbers_more, numbers_still, asked_before}
+use Rattle.law_reports.proofs.lemmas.requests.lemmas.driver_requests.Ordering.{numbers_more, numbers_still}
 use Rattle.law_queues.specs.told_endpoints.Telling.{lines_in}
 use Rattle.law_reports.specs.requests.told_requests.Told.{has_cancel}
 use Rattle.law_reports.specs.requests.Courses.{Course, has_queue, queue_in, have_queues, CoursesStand}

@@ -3,6 +3,10 @@ use Rattle.std.proofs.Common.{◌≡◌, ◌≢◌, ℕ, zero, suc, ◌-◌, ◌
 use Rattle.std.specs.Prelude.{◌⊎◌}
 use Rattle.std.proofs.lemmas.Bool.{cases_eq, false≢true}
 use Rattle.std.proofs.lemmas.Option.{same_Some, slice_get_within}
+use Rattle.law_queues.proofs.Common.{none_open}
+use Rattle.law_common.proofs.Numbers.{other_number}
+use Rattle.law_common.proofs.Lists.{set_here, set_there, push_which}
+use Rattle.law_world.proofs.Common.{newest_there}
 use Rattle.word_mem.specs.Memory.{Mem}
 use Rattle.mem_runs.specs.Book.{Holding}
 use Rattle.bus_wire.specs.Bus.{Wired}
@@ -16,10 +20,9 @@ use Rattle.drv_table.specs.Harvests.{note_at}
 use Rattle.drv_table.specs.Offers.{Asked, first_of, stage_words, new_transfer, with_queued, accepted_transfer}
 use Rattle.drv_table.specs.Words.{is_control}
 use Rattle.claims_driver.specs.Owners.{note_in}
-use Rattle.law_driver.proofs.lemmas.run_owners.Released.{other_number, set_here, set_there}
 use Rattle.law_driver.specs.endpoint_lives.Lives.{told_end}
 use Rattle.law_driver.specs.chained_transfers.Turns.{IsAtPlace, AreAtPlaces}
-use Rattle.law_queues.proofs.lemmas.fed_lends.Asked.{push_which, set_which}
+use Rattle.law_queues.proofs.lemmas.fed_lends.Asked.{set_which}
 use Rattle.law_driver_ring.specs.told_harvests.Held.{IsOneFrom}
 use Rattle.law_queues.proofs.lemmas.harvest_laws.Places.{one_later, unmoved_noted}
 use Rattle.law_structures.specs.lent_structures.Structures.{StructureSets}
@@ -34,17 +37,10 @@ use Rattle.law_reports.specs.requests.Records.{Numbers, AreRecords}
 use Rattle.law_reports.specs.requests.Telling.{AddsTransfer}
 use Rattle.law_reports.proofs.lemmas.requests.Telling.{other_accepted_keeps_telling}
 use Rattle.law_queues.specs.standing_fronts.Tails.{tail_block}
-use Rattle.law_world.proofs.lemmas.streams.Tail.{newest_there}
 use Rattle.law_reports.specs.requests.Asking.{Sides, IsGiven, Asking, has_left, is_publishing, is_next_of, HasCourse, IsPublishing, DataIsRead, IsReadTo, HasTelling, IsControlOf, IsMetControl}
 use Rattle.law_reports.proofs.lemmas.requests.Inside.{AsksIn, IsCountedOn}
 use Rattle.law_reports.proofs.lemmas.requests.Noting.{NotesStay}
 use Rattle.law_reports.proofs.lemmas.requests.Storing.{next_first}
-
-no_open : (b c : ℕ) (words : List ℕ) → ◌≡◌ {A = Option Command} (Some (unfinished.Publish b words)) (Some (unfinished.Open c)) → ⊥
-no_open b c words same = cc
-
-none_open : (c : ℕ) → ◌≡◌ {A = Option Command} None (Some (unfinished.Open c)) → ⊥
-none_open c same = cc
 
 module _ (sides : Sides) (member : ℕ → Bool) (parts : StructureSets) (hand : Hand) (a : Asking) (v : Windows) (asks : ℕ → Request) (d : DriverContent) (m : Mem) (wire : Wired) (world : AsksIn sides member parts hand a v asks d m wire)
     (number : ℕ) (x : Endpoint) (q : Asked) (h : Holding) (dummy : ℕ) (notes : List QtdNote) (idle : d.command ≡ None) (here : slice_get d.endpoints number ≡ Some x) (places : AreAtPlaces (note_in d.notes) d.transfers)

@@ -3,6 +3,7 @@ use Rattle.std.proofs.Common.{◌≡◌, ◌≢◌, ℕ, suc, ◌<◌, ◌==◌,
 use Rattle.std.specs.Prelude.{◌⊎◌}
 use Rattle.std.proofs.lemmas.Bool.{eq-eqb, false≢true}
 use Rattle.std.proofs.lemmas.Option.{same_Some}
+use Rattle.law_common.proofs.Lists.{none_more}
 use Rattle.law_structures.specs.lent_structures.Structures.{StructureSets}
 use Rattle.law_driver.proofs.lemmas.run_owners.Released.{same_by_test}
 use Rattle.bus_wire.specs.Bus.{Fixed}
@@ -63,10 +64,6 @@ stepped_acts sent lines n (Some s) none = by (n == s.at) none
         → acted_between ((lines n).line (lines n).under).device ((if b then progressed (sent n) s.is (lines n) else lines n).line (if b then progressed (sent n) s.is (lines n) else lines n).under).device ≡ []
     by true none = step_acts (sent n) (lines n) s.is none
     by false none = none_acted ((lines n).line (lines n).under).device
-
-none_more : (b : Bool) (xs : List (List ℕ)) → (if b then [] ++ xs else xs) ≡ xs
-none_more true xs = refl
-none_more false xs = refl
 
 module _ (fixed : Fixed) (base : Base) (member windows : ℕ → Bool) (sent : ℕ → Queue) (parts : StructureSets) (hand : Hand) (lines : ℕ → Lines) (endpoint : ℕ → ℕ) (number : ℕ → ℕ → ℕ) (w : World) (v : Windows) (k : IsRequesting fixed base member windows sent parts hand lines w) (t : AreTransfers w.driver windows sent lines parts endpoint number) (r : IsRecorded windows sent endpoint number lines v) (g : ControlWindowsGoOn begins_by transacts_by control_of base member windows sent lines parts hand (wired fixed w) (wired fixed (controller_next fixed w)) (controller_parts (controller_next fixed w))) where
   abbrev latest : ℕ → Option ℕ

@@ -1,12 +1,11 @@
 -- A transfer that waits for its lend has one chain of qTDs, whatever its stages are taken to be.
-use Rattle.std.proofs.Common.{◌≡◌, ◌≢◌, ℕ, ◌*◌, ◌≤◌, ◌⊎◌, Bool, true, false, List, [], ◌∷◌, ◌++◌, length, if◌then◌else◌, Some, Ok, Result, ap, refl, sym, subst, ◌∙◌, ⊎_elim, inl, inr, arith}
+use Rattle.std.proofs.Common.{◌≡◌, ◌≢◌, ℕ, ◌*◌, ◌≤◌, ◌⊎◌, Bool, true, false, List, [], ◌∷◌, ◌++◌, length, if◌then◌else◌, Some, ap, refl, sym, subst, ◌∙◌, ⊎_elim, inl, inr, arith}
 use Rattle.std.specs.List.{AllByRecursion}
 use Rattle.std.proofs.lemmas.Option.{same_Some}
+use Rattle.law_queues.proofs.Common.{one_qtd}
 use Rattle.word_mem.specs.Memory.{Mem, IsShaped}
-use Rattle.link_words.specs.declared.refusal.Bad.{Bad}
 use Rattle.qh_qtd.specs.declared.qtd.Qtd.{Qtd}
-use Rattle.qh_qtd.specs.Qtd.{qtd_words, qtd_read, IsQtdInRange}
-use Rattle.qh_qtd.proofs.QtdLaws.{qtd_read-words}
+use Rattle.qh_qtd.specs.Qtd.{IsQtdInRange}
 use Rattle.mem_runs.specs.declared.slots.Slot.{Slot}
 use Rattle.mem_runs.specs.Book.{holding, slot_of, Stands}
 use Rattle.drv_table.specs.declared.content.QtdNote.{QtdNote}
@@ -30,12 +29,6 @@ use Rattle.law_request.specs.Host.{has_data}
 use Rattle.law_devices.specs.ring_requests.Laid.{Places, AreApart}
 use Rattle.law_reports.specs.requests.request_bytes.Fresh.{data_places, other_places, next_of, request_places}
 use Rattle.law_reports.proofs.lemmas.requests.lemmas.request_bytes.Requests.{no_data, with_data, request_case}
-
-ok_same : (t u : Qtd) → ◌≡◌ {A = Result Qtd Bad} (Ok t) (Ok u) → t ≡ u
-ok_same t u same = cc
-
-pub one_qtd : (t u : Qtd) → IsQtdInRange t → IsQtdInRange u → qtd_words t ≡ qtd_words u → t ≡ u
-one_qtd t u one two same = ok_same t u (sym (qtd_read-words t one) ∙ ap qtd_read same ∙ qtd_read-words u two)
 
 -- ---- one chain of qTDs
 

@@ -1,12 +1,13 @@
 -- The endpoint of a queue of requests, and queues beside which structures change.
 use Rattle.std.proofs.Common.{◌≡◌, ℕ, ◌*◌, Bool, true, false, slice_get, Option, Some, ap, refl, sym, ◌∙◌, ⊎_elim}
 use Rattle.std.proofs.lemmas.Option.{same_Some}
+use Rattle.law_common.proofs.Numbers.{same_blocks}
 use Rattle.bus_wire.specs.Bus.{Fixed}
 use Rattle.drv_table.specs.declared.content.Endpoint.{Endpoint}
 use Rattle.drv_table.specs.Words.{head_block, is_control}
 use Rattle.law_driver_ring.specs.fed_queues.Places.{HasHead}
 use Rattle.law_structures.specs.lent_structures.Structures.{StructureSets}
-use Rattle.law_queues.proofs.lemmas.publish_laws.Apart.{queue_placed, queues_same, thirty_two}
+use Rattle.law_queues.proofs.lemmas.publish_laws.Apart.{queue_placed, queues_same}
 use Rattle.claims_report.specs.Requests.{Request}
 use Rattle.claims_report.specs.ControlSides.{Device}
 use Rattle.law_ring.specs.Hand.{Hand}
@@ -47,7 +48,7 @@ module _ (g : Sides) (fixed : Fixed) (member : ℕ → Bool) (x : Streams) (s : 
       (λ (head : n ≡ 32 * head_block). absurd (not_head w.driver (a.numbers n).endpoint o.own f.working.place.sound.owners f.turns.asynchronous o.here o.held (sym o.queue ∙ head)))
       (λ (h : HasHead w.driver n).
       let same : h.number ≡ (a.numbers n).endpoint =
-      one_queue h.number (a.numbers n).endpoint h.endpoint o.own h.here o.here h.met.there.kept o.held (thirty_two h.endpoint.queue o.own.queue (sym h.at ∙ o.queue)) in
+      one_queue h.number (a.numbers n).endpoint h.endpoint o.own h.here o.here h.met.there.kept o.held (same_blocks h.endpoint.queue o.own.queue (sym h.at ∙ o.queue)) in
       let one : o.own ≡ h.endpoint = same_Some o.own h.endpoint (sym o.here ∙ ap (slice_get w.driver.endpoints) (sym same) ∙ h.here) in
       record {
         number = h.number;

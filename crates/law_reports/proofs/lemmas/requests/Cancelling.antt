@@ -3,20 +3,21 @@ use Rattle.std.proofs.Common.{◌≡◌, ◌≢◌, ℕ, suc, ◌-◌, ◌*◌, 
 use Rattle.std.specs.Prelude.{◌⊎◌}
 use Rattle.std.proofs.lemmas.Bool.{cases_eq, false≢true}
 use Rattle.std.proofs.lemmas.Option.{same_Some}
+use Rattle.law_queues.proofs.Common.{none_open}
+use Rattle.law_common.proofs.Lists.{set_here, set_there}
+use Rattle.law_reports.proofs.Common.{regone}
 use Rattle.usb_base.specs.declared.endpoints.EndCause.{EndCause}
 use Rattle.usb_base.specs.declared.endpoints.EndCause.TheVariants as causes
 use Rattle.usb_base.specs.declared.endpoints.EpDesc.{EpDesc}
 use Rattle.word_mem.specs.Memory.{Mem}
 use Rattle.bus_wire.specs.Bus.{Wired}
 use Rattle.drv_table.specs.declared.content.Command.{Command}
-use Rattle.drv_table.specs.declared.content.Command.TheVariants as unfinished
 use Rattle.drv_table.specs.declared.content.Endpoint.{Endpoint}
 use Rattle.drv_table.specs.DriverContent.{DriverContent}
 use Rattle.drv_table.specs.Harvests.{note_at}
 use Rattle.drv_table.specs.CancelOffers.{first_end, accepted_cancel}
 use Rattle.drv_table.specs.Releases.{ended_by_cancel}
 use Rattle.drv_table.specs.Words.{is_control}
-use Rattle.law_driver.proofs.lemmas.run_owners.Released.{set_here, set_there}
 use Rattle.law_driver.specs.endpoint_lives.Lives.{told_end, is_one_of}
 use Rattle.law_driver.specs.chained_transfers.Asynchronous.{OnlyAsynchronous}
 use Rattle.law_queues.proofs.lemmas.fed_lends.Asked.{set_which}
@@ -30,11 +31,7 @@ use Rattle.law_reports.specs.requests.Courses.{Course, queue_in}
 use Rattle.law_reports.proofs.lemmas.requests.Rows.{accepted_keeps_records}
 use Rattle.law_queues.specs.standing_fronts.Tails.{tail_block}
 use Rattle.law_reports.specs.requests.Asking.{Sides, IsGiven, Asking, left_with, has_left, is_publishing, HasCourse, IsReadTo, HasTelling, IsMetControl}
-use Rattle.law_reports.proofs.lemmas.requests.Commanding.{regone}
 use Rattle.law_reports.proofs.lemmas.requests.Inside.{AsksIn}
-
-none_open : (c : ℕ) → ◌≡◌ {A = Option Command} None (Some (unfinished.Open c)) → ⊥
-none_open c same = cc
 
 -- what its report has of its end stays: its cancel isn't told yet
 same_end : (x : Endpoint) (o : Option EndCause) → x.ended ≡ o → (ended_by_cancel o ≡ true → x.cancelled ≡ true) → x.cancelled ≡ false → x.gone ≡ false → told_end (record x { cancelled = true; ended = first_end o }) ≡ told_end x

@@ -1,7 +1,8 @@
 -- Once Async Advance is cleared no more is told of the queues of the control endpoints that have left the ring.
-use Rattle.std.proofs.Common.{◌≡◌, ℕ, ◌*◌, ◌||◌, ◌&&◌, not, ◌++◌, if◌then◌else◌, Bool, true, false, [], slice_get, Option, Some, None, ap, refl, sym, subst, ◌∙◌, ⊎_elim, inl, inr}
+use Rattle.std.proofs.Common.{◌≡◌, ℕ, ◌*◌, ◌&&◌, not, ◌++◌, if◌then◌else◌, Bool, true, false, [], slice_get, Option, Some, None, ap, refl, sym, subst, ◌∙◌, ⊎_elim, inl, inr}
 use Rattle.std.specs.Prelude.{◌⊎◌}
 use Rattle.std.proofs.lemmas.Bool.{false≢true}
+use Rattle.law_common.proofs.Booleans.{first_of_both, less_met, is_left}
 use Rattle.bus_wire.specs.Bus.{Fixed}
 use Rattle.drv_table.specs.declared.content.Bell.TheVariants as bells
 use Rattle.drv_table.specs.declared.content.Turn.TheVariants as turns
@@ -43,21 +44,9 @@ use Rattle.law_reports.proofs.lemmas.requests.Leaving.{idle_quiet, same_endpoint
 abbrev cleared : DriverContent → DriverContent
 cleared d = record d { cleared = d.cleared ++ d.rung; rung = []; bell = bells.Quiet; turn = turns.Harvest }
 
-near_by : (a b c : Bool) → (a || (b || false)) ≡ true → (a || (b || c)) ≡ true
-near_by true b c on = refl
-near_by false true c on = refl
-near_by false false c on = absurd (false≢true on)
-
 not_both : (a b : Bool) → (a && not b) ≡ true → b ≡ false → a ≡ true
 not_both true b on off = refl
 not_both false b on off = absurd (false≢true on)
-
-is_left : (a b : Bool) → a ≡ true → b ≡ false → (a && not b) ≡ true
-is_left a b on off = ap (λ (c : Bool). c && not b) on ∙ ap (λ (c : Bool). true && not c) off
-
-first_of_both : (a b : Bool) → (a && b) ≡ true → a ≡ true
-first_of_both true b on = refl
-first_of_both false b on = absurd (false≢true on)
 
 module _ (g : Sides) (fixed : Fixed) (takes : ℕ → ℕ → Bool) (member : ℕ → Bool) (x : Streams) (s : Standing) (a : Asking) (v : Windows) (asks : ℕ → Request) (w : World) (row : driver_row (driver_parts w) ≡ rows.ClearAdvance) (head : IsHeadOfNone x) (k : IsWhole fixed takes member x s w) (z : IsAskingWorld g fixed member s a v asks w) where
   abbrev narrow : ℕ → Bool
@@ -70,7 +59,7 @@ module _ (g : Sides) (fixed : Fixed) (takes : ℕ → ℕ → Bool) (member : �
   idle = (clear_finds (driver_parts w) row).idle
 
   near : (e : ℕ) (y : Endpoint) → may_meet (cleared w.driver) e y ≡ true → may_meet w.driver e y ≡ true
-  near e y on = near_by y.linked _ _ on
+  near e y on = less_met y.linked _ _ on
 
   leaves : RowLeaves w.driver (cleared w.driver)
   unfolding same_endpoint

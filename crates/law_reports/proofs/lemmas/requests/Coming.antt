@@ -3,6 +3,8 @@ use Rattle.std.proofs.Common.{◌≡◌, ◌≢◌, ℕ, Bool, true, false, if�
 use Rattle.std.specs.Prelude.{◌⊎◌}
 use Rattle.std.proofs.lemmas.Bool.{cases_eq, false≢true}
 use Rattle.std.proofs.lemmas.Option.{same_Some}
+use Rattle.law_devices.proofs.Common.{status_comes}
+use Rattle.law_queues.proofs.Common.{unnamed_still}
 use Rattle.usb_base.specs.declared.endpoints.EndCause.{EndCause}
 use Rattle.usb_base.specs.declared.packets.Ask.{Ask}
 use Rattle.usb_base.specs.declared.packets.Reply.{Reply}
@@ -16,7 +18,7 @@ use Rattle.hc_core.specs.Controller.{Content, walk_place}
 use Rattle.law_structures.specs.lent_structures.Structures.{QueueHead, Element, Buffer, Structures, StructureSets, put, with_structure}
 use Rattle.law_structures.specs.lent_structures.WriteBack.{CanBeWritten}
 use Rattle.law_structures.specs.lent_structures.Sound.{element_pages, buffer_name, HasBuffer, IsWorking, IsSoundQueue, IsMember}
-use Rattle.law_structures.specs.lent_structures.Alters.{Alters, HadElement, HasBytes as HadBytes}
+use Rattle.law_structures.specs.lent_structures.Alters.{Alters}
 use Rattle.law_structures.proofs.lemmas.lent_structures.Names.{put_same, put_else, put_here, put_beside}
 use Rattle.law_structures.proofs.lemmas.lent_structures.Altering.{found_queue, found_element, no_two}
 use Rattle.law_structures.proofs.lemmas.lent_structures.Found.{IsNotInto, back_beside, back_other_element, back_other_buffer}
@@ -67,10 +69,6 @@ which r s on = later_by r (has_data r) s refl on
 comes_data : (r : Request) (b : Bool) → has_data r ≡ b → b ≡ true → comes r (if b then Data else Status) Data ≡ true
 comes_data r true is on = refl
 comes_data r false is on = absurd (false≢true on)
-
-comes_status : (r : Request) (b : Bool) → comes r (if b then Data else Status) Status ≡ true
-comes_status r true = refl
-comes_status r false = refl
 
 setup_data : Setup ≡ Data → ⊥
 setup_data same = cc
@@ -247,7 +245,7 @@ module _ (v : Queue) (r : Request) (x : Places) (b d n : ℕ) (s : Qtd) (parts :
     begins = k.first.begins;
   }
   fresh_all Data on = after.later Data (comes_data r (has_data r) refl on)
-  fresh_all Status on = after.later Status (comes_status r (has_data r))
+  fresh_all Status on = after.later Status (status_comes r (has_data r))
   fresh_all _ on = absurd (false≢true on)
 
   coming_published : IsPublishedAt v r x b d parts n s
@@ -269,12 +267,6 @@ pub coming_is_published : ComingIsPublished
 coming_is_published v r x b d n s parts line idle k = coming_published v r x b d n s parts line idle k
 
 -- ---- an event of the walk
-
-unnamed_still : (part now : Structures) (b : ℕ) (s : Qtd) → Alters part now → IsUnnamed part b s → IsUnnamed now b s
-unnamed_still part now b s alters none c u differs here same buf =
-    let had : HadElement part c u = alters.element_before c u here in
-    let z : HadBytes part (buffer_name s) buf.pages buf.start _ = alters.buffer_before (buffer_name s) buf.pages buf.start buf.bytes buf.here in
-    none c had.qtd differs had.here (sym (ap buffer_name had.after.is) ∙ same) (record { pages = buf.pages; start = buf.start; bytes = z.bytes; here = z.here })
 
 not_into : (part : Structures) (q : Qh) (t : Qtd) (got : List ℕ) (a : ℕ) → a ≢ buffer_name t → IsNotInto (received_into part q t got) a
 not_into part q t [] a differs = tt

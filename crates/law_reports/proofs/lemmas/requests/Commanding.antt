@@ -3,6 +3,12 @@ use Rattle.std.proofs.Common.{◌≡◌, ◌≢◌, ℕ, zero, suc, ◌-◌, ◌
 use Rattle.std.specs.List.{AllByRecursion}
 use Rattle.std.proofs.lemmas.Bool.{cases_eq, eq-eqb, false≢true}
 use Rattle.std.proofs.lemmas.Option.{same_Some, slice_get_past}
+use Rattle.law_queues.proofs.Common.{none_open}
+use Rattle.law_driver.proofs.Common.{control_way}
+use Rattle.law_reports.proofs.Common.{regone}
+use Rattle.law_common.proofs.Lists.{set_here, set_there}
+use Rattle.law_common.proofs.Numbers.{other_number}
+use Rattle.law_world.proofs.Common.{newest_there}
 use Rattle.usb_base.specs.declared.commands.Cmd.TheVariants as commands
 use Rattle.usb_base.specs.declared.endpoints.EpName.{EpName}
 use Rattle.usb_base.specs.declared.packets.EpKind.{EpKind}
@@ -24,7 +30,6 @@ use Rattle.drv_table.specs.Words.{is_control}
 use Rattle.law_driver.specs.run_owners.Accepts.{Transfers}
 use Rattle.claims_driver.specs.Leaving.{HasOwners}
 use Rattle.claims_driver.specs.Owners.{note_in}
-use Rattle.law_driver.proofs.lemmas.run_owners.Released.{set_here, set_there, other_number}
 use Rattle.claims_driver.specs.LentRuns.{AreLent}
 use Rattle.law_driver.specs.endpoint_lives.Lives.{told_end, may_meet}
 use Rattle.law_driver.proofs.lemmas.endpoint_lives.Lives.{told_some}
@@ -60,7 +65,6 @@ use Rattle.law_reports.proofs.lemmas.requests.Rows.{other_is_accepted, request_i
 use Rattle.law_reports.specs.requests.Telling.{IsTelling}
 use Rattle.law_reports.proofs.lemmas.requests.Telling.{accepted_keeps_telling}
 use Rattle.law_queues.specs.standing_fronts.Tails.{tail_block}
-use Rattle.law_world.proofs.lemmas.streams.Tail.{newest_there}
 use Rattle.law_reports.specs.requests.Asking.{Sides, Asking, left_with, has_left, is_publishing, is_next_of, next_with, HasCourse, IsHeldRequest, IsPublishingAt, IsPublishing, IsReadTo, HasTelling, IsMetControl}
 use Rattle.law_reports.proofs.lemmas.requests.Accepting.{adds, read_first, OwnAsks, accepted_asks}
 use Rattle.law_reports.proofs.lemmas.requests.Inside.{AsksIn, IsCountedOn}
@@ -68,19 +72,12 @@ use Rattle.law_reports.proofs.lemmas.requests.Noting.{NotesStay, notes_stay, Len
 use Rattle.law_reports.proofs.lemmas.requests.Requested.{TakesRequest}
 use Rattle.law_reports.proofs.lemmas.requests.Storing.{next_first}
 
-none_open : (c : ℕ) → ◌≡◌ {A = Option Command} None (Some (unfinished.Open c)) → ⊥
-none_open c same = cc
-
 none_some : {X : Type 0} (x : X) → ◌≡◌ {A = Option X} None (Some x) → ⊥
 none_some x is = cc
 
 data_kind : (way : Way) (k : EpKind) → IsDataWay way → IsKindOf way k → is_control k ≡ false
 data_kind ways.Ctl k data_way kind = absurd data_way
 data_kind _ k data_way kind = ap is_control kind
-
-pub regone : (d : DriverContent) (asks : ℕ → Request) (courses : ℕ → Course) (numbers : ℕ → Numbers) (gone later : ℕ → Bool) (v : Windows) → ((i : ℕ) → later i ≡ true → gone i ≡ true) → AreRecords d asks courses numbers gone v
-    → AreRecords d asks courses numbers later v
-regone d asks courses numbers gone later v fewer rec = record { each = rec.each; left = λ e on. rec.left e (fewer e on); none = rec.none }
 
 left_before : (d : DriverContent) (number : ℕ) (x : Endpoint) (q : Asked) (h : Holding) (dummy : ℕ) (notes : List QtdNote) → slice_get d.endpoints number ≡ Some x → (i : ℕ) → has_left (accepted_transfer d number x q h dummy notes).driver i ≡ true → has_left d i ≡ true
 left_before d number x q h dummy notes here i on =
@@ -91,10 +88,6 @@ left_before d number x q h dummy notes here i on =
     subst (λ (j : ℕ). has_left d j ≡ true) (sym same)
     (ap (left_with d number) here ∙ sym (ap (left_with taken number) (set_here d.endpoints number x end here)) ∙ subst (λ (j : ℕ). has_left taken j ≡ true) same on))
     (λ (differs : i ≢ number). ap (left_with d i) (sym (set_there d.endpoints number i end differs)) ∙ on) (cases_eq i number)
-
-control_way : (way : Way) (k : EpKind) → IsKindOf way k → is_control k ≡ true → way ≡ ways.Ctl
-control_way ways.Ctl k kind is = refl
-control_way _ k kind is = absurd (false≢true (sym (ap is_control kind) ∙ is))
 
 -- the first of an endpoint's requests, once there is one more
 next_more : (count t : ℕ) (f : ℕ → ℕ) (o : Option ℕ) → o ≡ next_with count (f 0) → first_waiting o t ≡ next_with (suc count) (number_with count f t 0)

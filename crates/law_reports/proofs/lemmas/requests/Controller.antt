@@ -3,6 +3,8 @@ use Rattle.std.proofs.Common.{◌≡◌, ℕ, ◌*◌, ◌≤◌, Bool, true, fa
 use Rattle.std.specs.List.{AllByRecursion}
 use Rattle.std.proofs.lemmas.Bool.{false≢true, true≢false, and_from, and_parts}
 use Rattle.std.proofs.lemmas.Option.{same_Some}
+use Rattle.law_reports.proofs.Common.{queue_still, has_still}
+use Rattle.law_world.proofs.Common2.{opens_is, opened_is}
 use Rattle.usb_base.specs.declared.packets.Ask.{Ask}
 use Rattle.usb_base.specs.declared.packets.Reply.{Reply}
 use Rattle.bus_wire.specs.Bus.{Fixed}
@@ -62,19 +64,11 @@ use Rattle.law_world.proofs.lemmas.streams.Beside.{beside, after_event as standi
 use Rattle.law_reports.specs.requests.Asking.{Sides, Asking, has_left, left_with, HasCourse, IsWritten, IsHeldRequest, IsPublishingAt, IsPublishingBy, IsReadTo, HasTelling, IsCounted, IsControlOf, IsMetControl, IsAskingWorld}
 use Rattle.law_reports.specs.requests.AskingLaws.{ControllerKeepsAsking}
 use Rattle.law_reports.proofs.lemmas.requests.Has.{asking_of}
-use Rattle.law_reports.proofs.lemmas.requests.Names.{opens_is, opened_is, left_is, not_met, one_of, has_device}
+use Rattle.law_reports.proofs.lemmas.requests.Names.{left_is, not_met, one_of, has_device}
 use Rattle.law_reports.specs.requests.Missed.{NoneMissed, MissesNone}
 use Rattle.law_reports.proofs.lemmas.requests.Missed.{walk_misses_none}
 
 -- ---- queues whose windows go on
-
-queue_still : (step : Option Step) (n : ℕ) (c : Course) → queue_in (course_after step n c) ≡ queue_in c
-queue_still step n NoQueue = refl
-queue_still step n _ = refl
-
-has_still : (step : Option Step) (n : ℕ) (c : Course) → has_queue (course_after step n c) ≡ has_queue c
-has_still step n NoQueue = refl
-has_still step n _ = refl
 
 course_still : (g : Sides) (d : DriverContent) (e : ℕ) (x : DriverEndpoint) (a : Numbers) (step : Option Step) (n : ℕ) (c : Course) → HasCourse g d e x c a → HasCourse g d e x (course_after step n c) a
 course_still g d e x a step n NoQueue h = absurd (false≢true h.queue)

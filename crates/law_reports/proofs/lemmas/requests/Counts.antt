@@ -2,6 +2,7 @@
 use Rattle.std.proofs.Common.{◌≡◌, ◌≢◌, ℕ, zero, suc, ◌+◌, ◌<◌, ◌≤◌, if◌then◌else◌, min, List, [], ◌∷◌, ◌++◌, length, map, filter, ap, refl, sym, ◌∙◌, ⊎_elim, arith}
 use Rattle.std.specs.List.{AllByRecursion}
 use Rattle.std.proofs.lemmas.Bool.{cases_eq}
+use Rattle.law_common.proofs.Numbers.{kept_number, capped}
 use Rattle.claims_report.specs.Acts.{IsOnce}
 use Rattle.law_device.specs.Acts.{counted}
 use Rattle.claims_report.specs.Requests.{Request, Window, is_some_act, has_acted}
@@ -39,16 +40,10 @@ filter_counts : (r : Request) (acts : List (List ℕ)) (ws : List Window) → le
 filter_counts r [] ws = omega arith
 filter_counts r (a ∷ more) ws = omega arith
 
-kept_number : (n most : ℕ) → n ≤ most → n ≡ min (n + 0) most
-kept_number n most h = omega (arith, h)
-
 once_counts : (setup : List ℕ) (acts : List (List ℕ)) (n : ℕ) → IsOnce setup acts → n ≤ 4294967295 → counted acts n ≡ min (n + number_of acts) 4294967295
 once_counts setup acts n o h =
     ⊎_elim {C = counted acts n ≡ min (n + number_of acts) 4294967295} (λ e. ap (λ x. counted x n) e ∙ kept_number n 4294967295 h ∙ ap (λ x. min (n + number_of x) 4294967295) (sym e))
     (λ e. ap (λ x. counted x n) e ∙ ap (λ x. min (n + number_of x) 4294967295) (sym e)) o
-
-capped : (n a k most : ℕ) → min (min (n + a) most + k) most ≡ min (n + (a + k)) most
-capped n a k most = omega arith
 
 below : (n most : ℕ) → min n most ≤ most
 below n most = omega arith

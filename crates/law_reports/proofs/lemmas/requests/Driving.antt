@@ -1,6 +1,7 @@
 -- Each event of the driver leaves the requests of a world as they must stand.
 use Rattle.std.proofs.Common.{◌≡◌, ℕ, ◌*◌, cond, nat_eq, Bool, true, false, Option, Some, refl, sym, ap, ◌∙◌, subst}
 use Rattle.std.specs.Prelude.{nat_le}
+use Rattle.law_world.proofs.Common.{control_kind}
 use Rattle.usb_base.specs.declared.endpoints.EndCause.{EndCause}
 use Rattle.usb_base.specs.declared.endpoints.EndCause.TheVariants as causes
 use Rattle.usb_base.specs.declared.packets.EpKind.TheVariants as kinds
@@ -25,7 +26,6 @@ use Rattle.law_driver.proofs.lemmas.chained_transfers.Ways.{found_by, moves_queu
 use Rattle.bus_world.specs.World.{World, driver_parts, driver_next}
 use Rattle.law_world.specs.steps.Streaming.{Streams, Standing}
 use Rattle.claims_world.specs.Requests.{Windows}
-use Rattle.law_world.proofs.lemmas.streams.Told.{control_kind}
 use Rattle.law_world.specs.streams.Whole.{IsWhole}
 use Rattle.law_world.proofs.lemmas.streams.Leaving.{due}
 use Rattle.law_world.proofs.lemmas.streams.Rows.{after_each}

@@ -4,6 +4,10 @@ use Rattle.std.specs.Prelude.{nat_le, nat_eq}
 use Rattle.std.proofs.lemmas.Bool.{cases_eq, leb-true, false≢true}
 use Rattle.std.proofs.lemmas.List.{append-nil}
 use Rattle.std.proofs.lemmas.Option.{same_Some}
+use Rattle.law_common.proofs.Booleans.{or_both}
+use Rattle.law_queues.proofs.Common.{none_unpublished, after_is}
+use Rattle.law_reports.proofs.Common.{less_one}
+use Rattle.law_driver.proofs.Common.{waits_is}
 use Rattle.usb_base.specs.declared.endpoints.EpName.{EpName}
 use Rattle.usb_base.specs.declared.endpoints.EndCause.TheVariants as causes
 use Rattle.usb_base.specs.declared.packets.EpKind.TheVariants as kinds
@@ -34,17 +38,15 @@ use Rattle.claims_driver.specs.Leaving.{HasOwners}
 use Rattle.claims_driver.specs.Owners.{note_in}
 use Rattle.law_driver.specs.chained_transfers.Chains.{piece_at}
 use Rattle.law_driver.specs.chained_transfers.Turns.{IsAtPlace}
-use Rattle.law_driver.proofs.lemmas.chained_transfers.Harvesting.{waits_is}
-use Rattle.law_driver.specs.chained_transfers.Out.{unpublished}
 use Rattle.law_structures.specs.lent_structures.Structures.{Element, Tells}
 use Rattle.law_structures.specs.lent_structures.Sound.{IsMember}
 use Rattle.law_structures.proofs.lemmas.lent_structures.Altering.{found_element}
-use Rattle.law_driver_ring.specs.fed_queues.Fed.{IsPieceFed, sized, unpublished_of}
+use Rattle.law_driver_ring.specs.fed_queues.Fed.{IsPieceFed, sized}
 use Rattle.law_driver_ring.specs.fed_queues.Places.{IsMet}
 use Rattle.law_driver_ring.proofs.lemmas.fed_queues.Places.{stands_met}
 use Rattle.law_driver_ring.proofs.lemmas.harvested_streams.Harvesting.{token_is_read}
 use Rattle.law_driver_ring.specs.told_harvests.Held.{IsRead}
-use Rattle.law_queues.proofs.lemmas.harvest_laws.ReadRows.{not_active, after_is}
+use Rattle.law_queues.proofs.lemmas.harvest_laws.ReadRows.{not_active}
 use Rattle.claims_report.specs.Reports.{is_line_of}
 use Rattle.claims_report.specs.Requests.{Request}
 use Rattle.law_queues.specs.told_endpoints.Telling.{lines_in}
@@ -83,24 +85,12 @@ use Rattle.law_reports.proofs.lemmas.requests.Reading.{found_is, read_is_moved, 
 
 -- ---- lists
 
-from_first : (f : ℕ → ℕ) (n : ℕ) → first_of f (suc n) ≡ f 0 ∷ first_of (λ k. f (suc k)) n
-from_first f zero = refl
-from_first f (suc n) = ap (λ (ks : List ℕ). ks ++ f (suc n) ∷ []) (from_first f n)
-
-pub less_one : (f : ℕ → ℕ) (n : ℕ) → 0 < n → first_of f n ≡ f 0 ∷ first_of (λ k. f (suc k)) (n - 1)
-less_one f zero some = absurd (omega (arith, some))
-less_one f (suc n) some = let same : n ≡ suc n - 1 = omega arith in from_first f n ∙ ap (λ (k : ℕ). f 0 ∷ first_of (λ k. f (suc k)) k) same
-
 one_line : (name : EpName) (line : Report) → is_cancel line.what ≡ false → has_cancel (lines_in name (line ∷ [])) ≡ false
 one_line name line none = by (is_line_of name line)
   where
     by : (b : Bool) → has_cancel (if b then line ∷ [] else []) ≡ false
     by true = ap (λ (c : Bool). c || false) none
     by false = refl
-
-neither : (a b : Bool) → (a || b) ≡ false → (a ≡ false) × (b ≡ false)
-neither true b is = absurd cc
-neither false b is = (refl, is)
 
 -- a line more that isn't that of a cancel
 pub uncancelled_more : (name : EpName) (reports : List Report) (line : Report) → is_cancel line.what ≡ false → has_cancel (lines_in name reports) ≡ false → has_cancel (lines_in name (reports ++ line ∷ [])) ≡ false
@@ -110,7 +100,7 @@ uncancelled_more name (r ∷ rest) line none before = by (is_line_of name r) (λ
     by : (b : Bool) → (has_cancel (lines_in name rest) ≡ false → has_cancel (lines_in name (rest ++ line ∷ [])) ≡ false) → has_cancel (if b then r ∷ lines_in name rest else lines_in name rest) ≡ false
         → has_cancel (if b then r ∷ lines_in name (rest ++ line ∷ []) else lines_in name (rest ++ line ∷ [])) ≡ false
     by true later is =
-        let both = neither (is_cancel r.what) (has_cancel (lines_in name rest)) is in
+        let both = or_both (is_cancel r.what) (has_cancel (lines_in name rest)) is in
         ap (λ (c : Bool). c || has_cancel (lines_in name (rest ++ line ∷ []))) both.0 ∙ later both.1
     by false later is = later is
 
@@ -176,13 +166,6 @@ module _ (d : DriverContent) (t : ℕ) (r : Request) (x : Places) (y : Transfer)
 side_active : (r : Request) (max : ℕ) (s : Stage) → (side_at r max true s).active ≡ true
 side_active r max Setup = refl
 side_active r max _ = refl
-
-none_unpublished : (d : DriverContent) (t : ℕ) (y : Transfer) → d.command ≡ None → unpublished_of d t y ≡ 0
-none_unpublished d t y idle = by_newest (nat_eq (suc t) (length d.transfers))
-  where
-    by_newest : (b : Bool) → (if b then unpublished d.command d.made y.qtds else 0) ≡ 0
-    by_newest true = ap (λ (c : Option Command). unpublished c d.made y.qtds) idle
-    by_newest false = refl
 
 -- ---- the request that is read
 

@@ -2,6 +2,11 @@
 use Rattle.std.proofs.Common.{◌≡◌, ◌≢◌, ℕ, zero, suc, ◌-◌, ◌*◌, ◌<◌, Bool, true, false, not, ◌&&◌, ◌||◌, if◌then◌else◌, List, [], ◌++◌, length, slice_get, slice_set, Option, Some, None, option_map, ap, refl, sym, subst, ◌∙◌, ⊎_elim, arith}
 use Rattle.std.proofs.lemmas.Bool.{cases_eq, false≢true}
 use Rattle.std.proofs.lemmas.Option.{same_Some}
+use Rattle.law_common.proofs.Lists.{set_here, set_there}
+use Rattle.law_queues.proofs.Common.{after_is}
+use Rattle.law_common.proofs.Numbers.{same_blocks}
+use Rattle.law_reports.proofs.Common.{regone}
+use Rattle.law_driver_ring.proofs.Common.{set_else}
 use Rattle.usb_base.specs.declared.endpoints.EpDesc.{EpDesc}
 use Rattle.usb_base.specs.declared.endpoints.EpName.{EpName}
 use Rattle.usb_base.specs.declared.reports.What.{What}
@@ -27,14 +32,12 @@ use Rattle.law_driver_ring.specs.fed_queues.Places.{IsMet}
 use Rattle.law_driver_ring.proofs.lemmas.fed_queues.Places.{stands_met}
 use Rattle.law_driver.specs.run_owners.Due.{IsHarvestDue}
 use Rattle.claims_driver.specs.Owners.{note_in}
-use Rattle.law_driver.proofs.lemmas.run_owners.Released.{set_here, set_there}
 use Rattle.law_driver.specs.chained_transfers.AsynchronousTurns.{AsynchronousTakesTurns}
 use Rattle.law_driver.specs.chained_transfers.Turns.{Turn, turn_of, turn_in, IsNext, AreReportedTo, IsAtPlace}
 use Rattle.law_driver_ring.specs.told_harvests.Held.{IsOneFrom}
 use Rattle.law_queues.specs.harvest_laws.RowLaws.{IsReadNext}
 use Rattle.law_queues.proofs.lemmas.harvest_laws.Places.{unmoved_noted, one_later}
-use Rattle.law_queues.proofs.lemmas.harvest_laws.ReadRows.{after_is, read_next}
-use Rattle.law_queues.proofs.lemmas.publish_laws.Apart.{thirty_two}
+use Rattle.law_queues.proofs.lemmas.harvest_laws.ReadRows.{read_next}
 use Rattle.claims_report.specs.Requests.{Request}
 use Rattle.law_ring.specs.Told.{endpoint_of}
 use Rattle.law_request.specs.Host.{has_data}
@@ -64,8 +67,8 @@ use Rattle.law_reports.specs.requests.Endings.{EndedBesideKeepsAsking}
 use Rattle.law_reports.proofs.lemmas.requests.Beside.{one_queue}
 use Rattle.law_reports.proofs.lemmas.requests.Ending.{TransferEnds, end_with, stall_owes, ends_so, IsSameBut, end_same, WasEndpoint, owed_at, appended_at}
 use Rattle.law_reports.proofs.lemmas.requests.Has.{asking_of}
-use Rattle.law_reports.proofs.lemmas.requests.Leaving.{IsQuiet, idle_quiet, IsEndpointStill, gone_by}
-use Rattle.law_reports.proofs.lemmas.requests.Moves.{set_else, first_one, second_one}
+use Rattle.law_reports.proofs.lemmas.requests.Leaving.{IsQuiet, idle_quiet, IsEndpointStill}
+use Rattle.law_reports.proofs.lemmas.requests.Moves.{first_one, second_one}
 use Rattle.law_reports.proofs.lemmas.requests.Names.{one_of}
 use Rattle.law_reports.proofs.lemmas.requests.Missed.{idle_misses}
 
@@ -368,14 +371,14 @@ module _ (g : Sides) (fixed : Fixed) (takes : ℕ → ℕ → Bool) (member : �
         ⊎_elim {C = P i z (b.courses (32 * z.queue)) (b.numbers (32 * z.queue))}
         (λ (at : i ≡ e). subst (λ (j : ℕ). P j z (b.courses (32 * z.queue)) (b.numbers (32 * z.queue))) (sym at) (mine z (subst (λ (j : ℕ). IsMetControl new j z) at is)))
         (λ (differs : i ≢ e).
-        let apart : 32 * z.queue ≢ 32 * is_due.endpoint.queue = λ same. queues_apart i z is differs (sym (thirty_two z.queue is_due.endpoint.queue same)) in
+        let apart : 32 * z.queue ≢ 32 * is_due.endpoint.queue = λ same. queues_apart i z is differs (sym (same_blocks z.queue is_due.endpoint.queue same)) in
         let same = beside (32 * z.queue) apart in
         subst (λ (c : Course). P i z c (b.numbers (32 * z.queue))) (sym same.0) (subst (P i z (a.courses (32 * z.queue))) (sym same.1) (others i z is differs))) (cases_eq i e)
 
     asking_new : IsAskingWorld g fixed member (record s { out = left.out; reported = left.reported }) b v asks (record w { driver = ended_driver w e t (founds.Ended m what) })
     asking_new = record {
       stand = stand;
-      records = gone_by new asks b.courses b.numbers (has_left w.driver) (has_left new) v fewer records;
+      records = regone new asks b.courses b.numbers (has_left w.driver) (has_left new) v fewer records;
       each = of_each (λ i z c n. HasCourse g new i z c n) own_each course_beside;
       publishing = λ i z is on. absurd (false≢true (sym (quiet_now.none i) ∙ on));
       read = λ i u z y is going next there.

@@ -1,8 +1,12 @@
 -- A harvest that ends a transfer: what its row leaves of the driver's content.
-use Rattle.std.proofs.Common.{◌≡◌, ◌≢◌, ℕ, zero, suc, ◌+◌, ◌-◌, ◌<◌, ◌≤◌, Bool, true, false, not, ◌&&◌, cond, List, [], ◌∷◌, ◌++◌, length, slice_get, slice_set, Option, Some, None, if◌then◌else◌, ap, refl, sym, subst, ◌∙◌, ◌⊎◌, inl, inr, arith}
+use Rattle.std.proofs.Common.{◌≡◌, ◌≢◌, ℕ, zero, suc, ◌+◌, ◌-◌, ◌<◌, ◌≤◌, Bool, true, false, not, List, [], ◌∷◌, ◌++◌, length, slice_get, slice_set, Option, Some, None, if◌then◌else◌, ap, refl, sym, subst, ◌∙◌, ◌⊎◌, inl, inr, arith}
 use Rattle.std.specs.Prelude.{◌==◌}
 use Rattle.std.proofs.lemmas.Bool.{false≢true, eq-eqb}
 use Rattle.std.proofs.lemmas.Option.{same_Some}
+use Rattle.law_common.proofs.Booleans.{and_none}
+use Rattle.law_driver.proofs.Common.{either_way}
+use Rattle.law_reports.proofs.Common.{told_by}
+use Rattle.law_common.proofs.Lists.{set_here}
 use Rattle.usb_base.specs.declared.endpoints.EndCause.{EndCause}
 use Rattle.usb_base.specs.declared.endpoints.EndCause.TheVariants as causes
 use Rattle.usb_base.specs.declared.endpoints.EpName.{EpName}
@@ -19,7 +23,6 @@ use Rattle.drv_table.specs.Harvests.{noted, end_of, is_stall}
 use Rattle.drv_table.specs.Harvesting.{behind_one, behind, mends_of, told_with, after_end}
 use Rattle.drv_table.specs.Releases.{ended_by_cancel}
 use Rattle.law_driver.specs.endpoint_lives.Lives.{told_end}
-use Rattle.law_driver.proofs.lemmas.run_owners.Released.{set_here}
 use Rattle.law_driver.proofs.lemmas.chained_transfers.Stalled.{IsToldOf, told_set, told_both, behind_tells}
 use Rattle.claims_report.specs.Reports.{is_refusal}
 use Rattle.law_queues.specs.told_endpoints.Telling.{lines_in}
@@ -28,17 +31,9 @@ use Rattle.claims_world.specs.Requests.{numbers_from}
 
 -- ---- lines of other endpoints, and stores that are owed
 
-neither_line : (b c : Bool) → b ≡ false → (b && c) ≡ false
-neither_line true c is = absurd (false≢true (sym is))
-neither_line false c is = refl
-
 other_line : (name other : EpName) (reports : List Report) (line : Report) → line.name ≡ other → is_same_name other name ≡ false → lines_in name (reports ++ line ∷ []) ≡ lines_in name reports
 other_line name other reports line own differs =
-    line_of_other name reports line (neither_line (is_same_name line.name name) (not (is_refusal line.what)) (ap (λ (n : EpName). is_same_name n name) own ∙ differs))
-
-either : (P : DriverContent → Type 0) (b : Bool) (c d : DriverContent) → P c → P d → P (cond b c d)
-either P true c d one two = one
-either P false c d one two = two
+    line_of_other name reports line (and_none (is_same_name line.name name) (not (is_refusal line.what)) (ap (λ (n : EpName). is_same_name n name) own ∙ differs))
 
 -- the lines of other endpoints, and what is owed
 pub record IsAside (name : EpName) (d c : DriverContent) : Type 0 where
@@ -48,7 +43,7 @@ pub record IsAside (name : EpName) (d c : DriverContent) : Type 0 where
 one_aside : (d f : DriverContent) (e : ℕ) (name : EpName) (k : ℕ) (o : Option Transfer) → IsAside name d f → IsAside name d (behind_one f e name k o)
 one_aside d f e name k None old = old
 one_aside d f e name k (Some y) old =
-    either (IsAside name d) (waits_for e y) _ f
+    either_way (IsAside name d) (waits_for e y) _ f
     (record {
       lines = λ other differs. other_line other name f.reports (record { name = name; what = lines.Halt causes.Stall; from = length f.store; len = length {A = ℕ} [] }) refl differs ∙ old.lines other differs;
       mends = old.mends;
@@ -176,11 +171,6 @@ appended_at (r ∷ ms) more zero p here = inl here
 appended_at (r ∷ ms) more (suc j) p here = appended_at ms more j p here
 
 -- ---- what is told of it
-
-told_by : (a b c : Bool) (o : Option EndCause) → b ≡ false → (if a && b && c then None else o) ≡ o
-told_by a true c o is = absurd (false≢true (sym is))
-told_by true false c o is = refl
-told_by false false c o is = refl
 
 none_some : (z : Endpoint) (c : EndCause) → z.cancelled ≡ false → z.ended ≡ Some c → told_end z ≡ None → ⊥
 none_some z c on ends none = let same : ◌≡◌ {A = Option EndCause} None (Some c) = sym none ∙ told_by (ended_by_cancel z.ended) z.cancelled (not z.gone) z.ended on ∙ ends in cc

@@ -2,6 +2,11 @@
 use Rattle.std.proofs.Common.{◌≡◌, ◌≢◌, ℕ, zero, suc, ◌+◌, ◌-◌, ◌*◌, ◌<◌, ◌≤◌, Bool, true, false, if◌then◌else◌, List, [], ◌∷◌, ◌++◌, slice_get, slice_set, Option, Some, None, option_map, ap, refl, sym, subst, ◌∙◌, ⊎_elim, ◌⊎◌, inl, inr, arith}
 use Rattle.std.proofs.lemmas.Bool.{cases_eq, cases_lt, eq-eqb, false≢true}
 use Rattle.std.proofs.lemmas.Option.{same_Some}
+use Rattle.law_reports.proofs.Common.{first_unmoved, less_one}
+use Rattle.law_common.proofs.Numbers.{other_number}
+use Rattle.law_common.proofs.Lists.{set_there}
+use Rattle.law_driver.proofs.Common.{waits_is}
+use Rattle.law_world.proofs.Common.{control_kind}
 use Rattle.usb_base.specs.declared.endpoints.EndCause.{EndCause}
 use Rattle.usb_base.specs.declared.endpoints.EpDesc.{EpDesc}
 use Rattle.usb_base.specs.declared.packets.EpKind.TheVariants as kinds
@@ -10,7 +15,6 @@ use Rattle.usb_base.specs.declared.reports.What.TheVariants as lines
 use Rattle.bus_wire.specs.Bus.{Fixed}
 use Rattle.drv_table.specs.declared.content.Endpoint.{Endpoint}
 use Rattle.drv_table.specs.declared.content.Mend.{Mend}
-use Rattle.drv_table.specs.declared.content.QtdNote.{QtdNote}
 use Rattle.drv_table.specs.declared.content.Transfer.{Transfer}
 use Rattle.drv_table.specs.declared.rows.DriverRow.TheVariants as rows
 use Rattle.drv_table.specs.declared.rows.Found.TheVariants as founds
@@ -21,9 +25,8 @@ use Rattle.drv_table.specs.Words.{head_block, opening_head, is_control}
 use Rattle.law_driver.specs.endpoint_lives.Lives.{told_end}
 use Rattle.law_driver.proofs.lemmas.endpoint_lives.Lives.{none_told}
 use Rattle.law_driver.specs.run_owners.Due.{IsHarvestDue}
-use Rattle.law_driver.proofs.lemmas.run_owners.Released.{other_number, set_there}
 use Rattle.law_driver.specs.chained_transfers.Turns.{Turn, turn_of, turn_in, IsNext, AreReportedTo}
-use Rattle.law_driver.proofs.lemmas.chained_transfers.Harvesting.{turn_at, waits_is}
+use Rattle.law_driver.proofs.lemmas.chained_transfers.Harvesting.{turn_at}
 use Rattle.law_driver_ring.specs.told_harvests.Held.{AreUnmoved}
 use Rattle.law_queues.specs.harvest_laws.Holds.{IsToCome}
 use Rattle.law_queues.proofs.lemmas.harvest_laws.Places.{unmoved_noted}
@@ -35,7 +38,6 @@ use Rattle.law_reports.specs.requests.told_requests.Told.{has_cancel}
 use Rattle.bus_world.specs.World.{World, driver_parts, driver_next}
 use Rattle.law_world.specs.steps.Streaming.{Streams, Standing}
 use Rattle.claims_world.specs.Requests.{Windows, numbers_of}
-use Rattle.law_world.proofs.lemmas.streams.Told.{control_kind}
 use Rattle.law_reports.specs.requests.driver_requests.Requests.{IsOfTransfer}
 use Rattle.law_reports.specs.requests.Courses.{Course, queue_in, is_asking, with_course}
 use Rattle.law_reports.specs.requests.Records.{Numbers, IsRecord}
@@ -46,7 +48,7 @@ use Rattle.law_reports.specs.requests.Asking.{Sides, Asking, next_with, next_in,
 use Rattle.law_reports.specs.requests.Reading.{AreSilent}
 use Rattle.law_reports.specs.requests.Ended.{ReadsFirst, ended_driver, RequestEnds}
 use Rattle.law_reports.specs.requests.Endings.{DoneKeepsAsking, HaltKeepsAsking}
-use Rattle.law_reports.proofs.lemmas.requests.Ended.{less_one, has, rec, reads, uncancelled, done_ends}
+use Rattle.law_reports.proofs.lemmas.requests.Ended.{has, rec, reads, uncancelled, done_ends}
 use Rattle.law_reports.proofs.lemmas.requests.Halted.{halt_ends}
 use Rattle.law_reports.proofs.lemmas.requests.Ending.{end_with, stall_owes, appended_at, end_told, halted_next, IsHeadWithin, next_within}
 use Rattle.law_reports.proofs.lemmas.requests.EndedBeside.{data_three, is_number, is_due, ends, same_but, own_now, was_of, quiet, quiet_now, due_met, turns_now, next_now, transfer_was, next_read, note_kept, placed, asking_then, whole_then}
@@ -55,10 +57,6 @@ use Rattle.law_reports.proofs.lemmas.requests.Has.{asking_of}
 -- at one queue head, and at the others
 changed_at : (courses : ℕ → Course) (numbers : ℕ → Numbers) (n : ℕ) (c : Course) (u : Numbers) (P : Course → Numbers → Type 0) (k : ℕ) → k ≡ n → P c u → P (with_course courses n c k) (with_numbers numbers n u k)
 changed_at courses numbers n c u P k at mine = subst (λ (z : Bool). P (if z then c else courses k) (if z then u else numbers k)) (sym (eq-eqb k n at)) mine
-
-first_unmoved : (note : ℕ → QtdNote) (b n : ℕ) → 1 ≤ n → AreUnmoved note b n → (note b).moved ≡ 0
-first_unmoved note b zero some none = absurd (omega (arith, some))
-first_unmoved note b (suc n) some none = none.0
 
 told_again : (d : DriverContent) (asks : ℕ → Request) (e : ℕ) (x y : Endpoint) (g : Sides) (v : Windows) (a : Numbers) → x.desc ≡ y.desc → told_end x ≡ told_end y → HasTelling d asks e y g.whole v a → HasTelling d asks e x g.whole v a
 told_again d asks e x y g v a same ends h = record {

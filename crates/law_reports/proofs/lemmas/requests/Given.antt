@@ -3,13 +3,13 @@ use Rattle.std.proofs.Common.{◌≡◌, ℕ, ◌≤◌, true, false, List, [], 
 use Rattle.std.specs.Prelude.{◌==◌, find}
 use Rattle.std.specs.List.{AllByRecursion}
 use Rattle.std.specs.Option.{option_map, option_and_then}
-use Rattle.std.proofs.lemmas.Bool.{true≢false, false≢true}
+use Rattle.std.proofs.lemmas.Bool.{true≢false}
 use Rattle.std.proofs.lemmas.Option.{same_Some}
+use Rattle.law_world.proofs.Common.{control_kind}
+use Rattle.law_common.proofs.Lists.{all_more}
 use Rattle.usb_base.specs.declared.commands.Cmd.TheVariants as cmd
 use Rattle.usb_base.specs.declared.endpoints.EpDesc.{EpDesc}
 use Rattle.usb_base.specs.declared.endpoints.EpName.{EpName}
-use Rattle.usb_base.specs.declared.packets.EpKind.{EpKind}
-use Rattle.usb_base.specs.declared.packets.EpKind.TheVariants as kinds
 use Rattle.script_types.specs.declared.scripts.Line.{Line}
 use Rattle.script_types.specs.declared.scripts.Line.TheVariants as line
 use Rattle.script_types.specs.declared.scripts.Script.{Script}
@@ -23,7 +23,7 @@ use Rattle.drv_table.specs.Words.{is_control}
 use Rattle.claims_report.specs.Reports.{WholeReport}
 use Rattle.claims_report.specs.Requests.{requests}
 use Rattle.claims_driver.specs.Scripts.{IsAsynchronous, AsynchronousLine}
-use Rattle.law_devices.proofs.Lists.{Holds, all_find, all_more}
+use Rattle.law_devices.proofs.Lists.{Holds, all_find}
 use Rattle.law_devices.proofs.Drafts.{IsEpOf, HasOwn, IsNamedIn, IsDeclaredDraft}
 use Rattle.law_devices.proofs.Texts.{IsScriptOf}
 use Rattle.law_devices.proofs.Senders.{IsDeclaredAt, empty_declared, second_declared, line_declares}
@@ -119,10 +119,6 @@ requests_few text s r name e =
     omega (arith, most, same, commands, few)
 
 -- ---- a line
-
-control_kind : (kind : EpKind) → is_control kind ≡ true → kind ≡ kinds.Control
-control_kind kinds.Control on = refl
-control_kind _ on = absurd (false≢true on)
 
 open_given : (s : Script) (x : EpDesc) → IsAsynchronous x → HasItsControl s x → HasItsName x → (is_of_hub s x.name.addr ≡ false → 1 ≤ x.name.addr) → (is_control x.kind ≡ true → is_of_hub s x.name.addr ≡ false)
     → is_control x.kind ≡ true → IsGiven (sides_of s) x

@@ -2,6 +2,9 @@
 use Rattle.std.proofs.Common.{◌≡◌, ◌≢◌, ℕ, ◌*◌, ◌||◌, ◌&&◌, not, Bool, true, false, if◌then◌else◌, List, length, map, slice_get, slice_set, Option, Some, None, ap, refl, sym, subst, ◌∙◌, ⊎_elim, inl}
 use Rattle.std.proofs.lemmas.Bool.{cases_eq, false≢true, true≢false}
 use Rattle.std.proofs.lemmas.Option.{same_Some}
+use Rattle.law_world.proofs.Common.{kept_by}
+use Rattle.law_controller.proofs.Common.{heads_stay, elements_stay, same_hand}
+use Rattle.law_reports.proofs.Common.{regone}
 use Rattle.usb_base.specs.declared.endpoints.EpDesc.{EpDesc}
 use Rattle.usb_base.specs.declared.endpoints.EpName.{EpName}
 use Rattle.usb_base.specs.declared.reports.What.TheVariants as lines
@@ -25,7 +28,6 @@ use Rattle.law_driver.proofs.lemmas.run_owners.Reasons.{each_event_is_due}
 use Rattle.law_driver.specs.endpoint_lives.Lives.{is_one_of, told_end, may_meet}
 use Rattle.law_driver.proofs.lemmas.chained_transfers.Chained.{gone_from}
 use Rattle.law_structures.specs.lent_structures.Structures.{StructureSets}
-use Rattle.law_structures.proofs.lemmas.lent_structures.Names.{not_same}
 use Rattle.law_world.specs.steps.endpoint_releases.Released.{without_queue}
 use Rattle.law_world.proofs.lemmas.steps.lemmas.endpoint_releases.Owning.{queue_beside}
 use Rattle.law_world.proofs.lemmas.steps.lemmas.left_queues.Unmet.{cleared_unmet}
@@ -38,11 +40,10 @@ use Rattle.law_queues.proofs.lemmas.told_endpoints.Names.{same_name_is}
 use Rattle.law_driver_ring.proofs.lemmas.told_harvests.Keeping.{spared_is_done}
 use Rattle.bus_world.specs.World.{World, driver_parts, driver_next, with_parts}
 use Rattle.law_world.specs.steps.Streaming.{Streams, Standing}
-use Rattle.law_world.proofs.lemmas.steps.Joining.{heads_stay, elements_stay}
 use Rattle.claims_world.specs.Requests.{wired, Windows, numbers_of, opens, is_opening}
 use Rattle.law_reports.proofs.lemmas.requests.lemmas.driver_requests.RowOrder.{row_numbers}
 use Rattle.law_reports.specs.requests.Courses.{have_queues, CoursesStand}
-use Rattle.law_reports.proofs.lemmas.requests.Writing.{same_hand, same_side}
+use Rattle.law_reports.proofs.lemmas.requests.Writing.{same_side}
 use Rattle.law_reports.specs.requests.Records.{AreRecords}
 use Rattle.law_reports.proofs.lemmas.requests.Rows.{row_keeps_records}
 use Rattle.law_reports.specs.requests.Telling.{IsTelling}
@@ -53,7 +54,7 @@ use Rattle.law_world.proofs.lemmas.streams.LeavingReleased.{leaver, endpoint_rel
 use Rattle.law_reports.specs.requests.Asking.{Sides, Asking, left_with, has_left, IsUnheard, IsMetControl, IsReadTo, IsAskingWorld, HasAskingWorld}
 use Rattle.law_reports.specs.requests.Rows.{EndpointReleaseKeepsAsking, IsHeadOfNone}
 use Rattle.law_reports.proofs.lemmas.requests.Has.{asking_of}
-use Rattle.law_reports.proofs.lemmas.requests.Leaving.{idle_quiet, WasEndpoint, IsEndpointStill, RowLeaves, LinesLeave, gone_by, each_still, world_left}
+use Rattle.law_reports.proofs.lemmas.requests.Leaving.{idle_quiet, WasEndpoint, IsEndpointStill, RowLeaves, LinesLeave, each_still, world_left}
 use Rattle.law_reports.proofs.lemmas.requests.Beside.{owner_of, stand_beside}
 use Rattle.law_reports.proofs.lemmas.requests.Names.{one_of}
 use Rattle.law_reports.proofs.lemmas.requests.Releasing.{next_is}
@@ -63,10 +64,6 @@ use Rattle.law_reports.proofs.lemmas.requests.Missed.{release_misses_none}
 told_same : {X : Type 0} (f : DriverContent → X) (g d : DriverContent) (b : Bool) → f g ≡ f d → f (if b then g else d) ≡ f d
 told_same f g d true same = same
 told_same f g d false same = refl
-
--- the transfer of another endpoint
-kept_by : (e : ℕ) (cut : Bool) (y : Transfer) → y.endpoint ≢ e → let_go e cut y ≡ y
-kept_by e cut y differs = ap (λ (b : Bool). if b then record y { reported = y.reported || cut; released = true } else y) (not_same y.endpoint e differs)
 
 module _ (g : Sides) (fixed : Fixed) (takes : ℕ → ℕ → Bool) (member : ℕ → Bool) (x : Streams) (s : Standing) (a : Asking) (v : Windows) (asks : ℕ → Request) (w : World) (f : ℕ) (row : driver_row (driver_parts w) ≡ rows.ReleaseEndpoint f) (head : IsHeadOfNone x) (k : IsWhole fixed takes member x s w) (z : IsAskingWorld g fixed member s a v asks w) where
   abbrev d : DriverContent
@@ -224,7 +221,8 @@ module _ (g : Sides) (fixed : Fixed) (takes : ℕ → ℕ → Bool) (member : �
 
   recorded : AreRecords after.driver asks a.courses a.numbers (has_left after.driver) v
   recorded =
-      gone_by after.driver asks a.courses a.numbers (has_left w.driver) (has_left after.driver) v (λ e on. left_by e (slice_get after.driver.endpoints e) refl on)
+      regone after.driver asks a.courses a.numbers (has_left w.driver) (has_left after.driver) v
+      (λ e on. left_by e (slice_get after.driver.endpoints e) refl on)
       (subst (λ (q : Parts). AreRecords q.driver asks a.courses a.numbers (has_left w.driver) v) row_is
       (row_keeps_records (driver_parts w) (rows.ReleaseEndpoint f) asks a.courses a.numbers (has_left w.driver) v other_queue
       (λ j i has few given. let never : ◌≡◌ {A = Option ℕ} None (Some ((a.numbers j).number i)) = given in cc) z.records))

@@ -1,6 +1,7 @@
 -- The first of several requests has ended: the others go on.
-use Rattle.std.proofs.Common.{◌≡◌, ℕ, zero, suc, ◌<◌, Bool, true, false, Option, ap, refl, sym, subst, ◌∙◌, arith}
+use Rattle.std.proofs.Common.{◌≡◌, ℕ, zero, suc, ◌<◌, Bool, false, Option, ap, refl, sym, subst, ◌∙◌, arith}
 use Rattle.std.proofs.lemmas.Bool.{false≢true}
+use Rattle.law_common.proofs.Booleans.{off_by}
 use Rattle.usb_base.specs.declared.packets.Reply.{Reply}
 use Rattle.toggle_error.specs.declared.host.HostSide.{HostSide}
 use Rattle.hc_copy.specs.Planning.{host_in}
@@ -20,10 +21,6 @@ use Rattle.law_devices.proofs.lemmas.ring_requests.Telling.{either_side, working
 use Rattle.law_devices.specs.request_stores.Published.{without_first}
 use Rattle.law_reports.specs.requests.Courses.{AreInLine}
 use Rattle.law_reports.specs.requests.QueueChanges.{lines_from, IsFirstDone, FirstEnds}
-
-pub not_active : (b : Bool) → (b ≡ true → ⊥) → b ≡ false
-not_active false none = refl
-not_active true none = absurd (none refl)
 
 module _ (member : ℕ → Bool) (parts : StructureSets) (hand : Hand) (reply : Reply) (n b : ℕ) (v : Queue) (l : Lines) (o : Option Device) (m : IsMember member n (parts n)) (in_hand : IsInHand member parts reply hand) (line : AreInLine v b) (w : IsQueue v l hand parts n o) (some : 1 < v.count) (ended : HasEnded (sent_at v 0) parts n) where
   once : IsActedOnce (sent_at v 0) (l.line 0) hand parts n
@@ -45,7 +42,7 @@ module _ (member : ℕ → Bool) (parts : StructureSets) (hand : Hand) (reply : 
     end = ends_only v.endpoint (v.requests 0) (v.places 0) (parts n) (hand_side hand n window.queue) window.queue first.host (ap is_done done) window.shown
 
     idle : window.queue.token.active ≡ false
-    idle = not_active window.queue.token.active (λ on.
+    idle = off_by window.queue.token.active (λ on.
         none_pending member parts hand reply n m in_hand window.queue window.head (sent_at v 0) ended first.host
         (subst (IsPending (parts n)) (end.worked on) (working member parts hand reply n m in_hand window.queue window.head (sent_at v 0) ended first.host on)))
 

@@ -1,11 +1,14 @@
 -- The harvest of a control request that halted.
-use Rattle.std.proofs.Common.{◌≡◌, ◌≢◌, ℕ, zero, suc, ◌+◌, ◌-◌, ◌*◌, ◌<◌, Bool, true, false, ◌||◌, ◌&&◌, not, cond, if◌then◌else◌, List, [], ◌∷◌, ◌++◌, length, take, drop, slice_get, Option, Some, None, option_map, ap, refl, sym, subst, ◌∙◌, inl, inr, arith}
+use Rattle.std.proofs.Common.{◌≡◌, ◌≢◌, ℕ, zero, suc, ◌+◌, ◌-◌, ◌*◌, ◌<◌, Bool, true, false, ◌||◌, not, cond, if◌then◌else◌, List, [], ◌∷◌, ◌++◌, length, take, drop, slice_get, Option, Some, None, option_map, ap, refl, sym, subst, ◌∙◌, arith}
 use Rattle.std.specs.Prelude.{nat_le, count_by}
 use Rattle.std.proofs.lemmas.Bool.{false≢true}
 use Rattle.std.proofs.lemmas.List.{append-nil, append_assoc, take_all}
 use Rattle.std.proofs.lemmas.Option.{same_Some}
 use Rattle.std.proofs.Math.ListN.{drop_of_length-le}
 use Rattle.std.proofs.lemmas.List.Sums.{sum_by-cons}
+use Rattle.law_controller.proofs.Common.{here_among}
+use Rattle.law_reports.proofs.Common.{told_by, either_way, less_one}
+use Rattle.law_driver.proofs.Common.{waits_is}
 use Rattle.usb_base.specs.declared.endpoints.EndCause.{EndCause}
 use Rattle.usb_base.specs.declared.endpoints.EndCause.TheVariants as causes
 use Rattle.usb_base.specs.declared.endpoints.EpName.{EpName}
@@ -30,7 +33,6 @@ use Rattle.drv_table.specs.Words.{is_control}
 use Rattle.law_driver.specs.endpoint_lives.Lives.{told_end}
 use Rattle.law_driver.specs.run_owners.Due.{IsHarvestDue}
 use Rattle.law_driver.specs.chained_transfers.Out.{out_now}
-use Rattle.law_driver.proofs.lemmas.chained_transfers.Harvesting.{waits_is}
 use Rattle.law_driver.specs.chained_transfers.Turns.{turn_of, turn_in, IsNext, AreReportedTo}
 use Rattle.law_driver_ring.proofs.lemmas.harvested_streams.Harvesting.{token_is_read}
 use Rattle.law_queues.proofs.lemmas.fed_harvests.Harvests.{unstalled_stands}
@@ -64,13 +66,9 @@ use Rattle.law_reports.specs.requests.Asking.{Sides, Asking, has_left, HasTellin
 use Rattle.law_reports.specs.requests.Reading.{AreSilent, IsAtRequest}
 use Rattle.law_reports.specs.requests.Ended.{ReadsFirst, ended_driver, RequestEnds, HaltEnds}
 use Rattle.law_reports.proofs.lemmas.requests.Reading.{found_is, read_is_moved, moved_begin}
-use Rattle.law_reports.proofs.lemmas.requests.Ended.{less_one, uncancelled_more, met, has, going, on, tells, piece_here, qtd_here, off, reads, uncancelled, kept, new_is, whole_is, tell, telling_first, closed_is}
+use Rattle.law_reports.proofs.lemmas.requests.Ended.{uncancelled_more, met, has, going, on, tells, piece_here, qtd_here, off, reads, uncancelled, kept, new_is, whole_is, tell, telling_first, closed_is}
 
 -- ---- lists
-
-here_among : (h : ℕ) (before later : List ℕ) → IsAmong h (before ++ h ∷ later)
-here_among h [] later = inl refl
-here_among h (x ∷ before) later = inr (here_among h before later)
 
 count_cons : (e : ℕ) (y : Transfer) (ys : List Transfer) → count_by (waits_for e) (y ∷ ys) ≡ cond (waits_for e y) 1 0 + count_by (waits_for e) ys
 count_cons e y ys = sum_by-cons (λ z. cond (waits_for e z) 1 0) y ys
@@ -90,10 +88,6 @@ count_front e (z ∷ ts) (suc t) y here waits none =
     omega (arith, first, later)
 
 -- ---- lines of those behind a stalled one
-
-either_way : (P : DriverContent → Type 0) (b : Bool) (c d : DriverContent) → P c → P d → P (if b then c else d)
-either_way P true c d one two = one
-either_way P false c d one two = two
 
 one_behind : (d : DriverContent) (e : ℕ) (name : EpName) (k : ℕ) (o : Option Transfer) → has_cancel (lines_in name d.reports) ≡ false → has_cancel (lines_in name (behind_one d e name k o).reports) ≡ false
 one_behind d e name k None before = before
@@ -124,11 +118,6 @@ halted_by false false true note t is = absurd cc
 halted_by false false false note t is = absurd cc
 
 -- ---- an endpoint that ended
-
-told_by : (a b c : Bool) (o : Option EndCause) → b ≡ false → (if a && b && c then None else o) ≡ o
-told_by a true c o is = absurd cc
-told_by true false c o is = refl
-told_by false false c o is = refl
 
 pub told_ended : (z : Endpoint) (c : EndCause) → z.cancelled ≡ false → z.ended ≡ Some c → told_end z ≡ Some c
 told_ended z c on ends = told_by (ended_by_cancel z.ended) z.cancelled (not z.gone) z.ended on ∙ ends

@@ -1,20 +1,23 @@
 -- What holds of the requests of control endpoints at each moment, where their queues, records and lines stand as they must.
-use Rattle.std.proofs.Common.{◌≡◌, ℕ, ◌+◌, ◌≤◌, ◌*◌, ◌<◌, zero, suc, nat_lt, cond, Bool, true, false, ◌||◌, List, [], ◌∷◌, length, map, filter, slice_get, Option, Some, None, is_some, ap, refl, sym, subst, ◌∙◌, arith}
+use Rattle.std.proofs.Common.{◌≡◌, ℕ, ◌≤◌, ◌*◌, cond, Bool, true, false, List, [], length, map, filter, slice_get, Option, Some, None, is_some, ap, refl, sym, subst, ◌∙◌, arith}
 use Rattle.std.specs.Prelude.{◌==◌, ◌&&◌, ◌≢◌, not}
 use Rattle.std.specs.List.{AllByRecursion, position_or_len}
 use Rattle.std.proofs.lemmas.Bool.{and_parts, eqb-true, eq-eqb, true≢false, false≢true}
-use Rattle.std.proofs.lemmas.Option.{same_Some, get_or_from_slice_get}
+use Rattle.std.proofs.lemmas.Option.{get_or_from_slice_get}
 use Rattle.std.proofs.lemmas.List.{length-map, length-append}
 use Rattle.std.proofs.lemmas.List.Quantifiers.{position-Some}
+use Rattle.law_common.proofs.Booleans.{left_or}
+use Rattle.law_common.proofs.Numbers.{is_less}
+use Rattle.law_world.proofs.Common.{control_kind}
+use Rattle.law_queues.proofs.Common.{has_place, name_is}
+use Rattle.law_reports.proofs.Common.{windows_once}
 use Rattle.usb_base.specs.declared.endpoints.EpDesc.{EpDesc}
-use Rattle.usb_base.specs.declared.endpoints.EpName.{EpName}
 use Rattle.usb_base.specs.declared.packets.EpKind.{EpKind}
 use Rattle.usb_base.specs.declared.packets.EpKind.TheVariants as kinds
 use Rattle.usb_base.specs.declared.packets.Way.{Way}
 use Rattle.usb_base.specs.declared.packets.Way.TheVariants as ways
 use Rattle.script_types.specs.declared.scripts.Script.{Script}
 use Rattle.script_text.specs.Faults.{Spells}
-use Rattle.claims_report.specs.Acts.{IsOnce}
 use Rattle.bus_wire.specs.declared.seats.Seat.{Seat}
 use Rattle.bus_wire.specs.declared.seats.TokenKind.TheVariants.{Setup}
 use Rattle.bus_wire.specs.Bus.{Fixed, fixed_of}
@@ -59,14 +62,6 @@ use Rattle.law_reports.proofs.lemmas.requests.Moments.{StaysAsking, stay_asking}
 
 -- ---- small facts
 
-windows_once : (asks : ℕ → Request) (v : Windows) (ts : List ℕ) → AllByRecursion (IsOnceAt asks v) ts → AllByRecursion (λ w. IsOnce w.request.setup w.acts) (map (window_at asks v) ts)
-windows_once asks v [] all = tt
-windows_once asks v (t ∷ ts) all = (all.0, windows_once asks v ts all.1)
-
-control_kind : (kind : EpKind) → is_control kind ≡ true → kind ≡ kinds.Control
-control_kind kinds.Control on = refl
-control_kind _ on = absurd (false≢true on)
-
 control_way : (way : Way) (kind : EpKind) → IsKindOf way kind → kind ≡ kinds.Control → way ≡ ways.Ctl
 control_way ways.Ctl kind is on = refl
 control_way _ kind is on = absurd (let same : kinds.Bulk ≡ kinds.Control = sym is ∙ on in false≢true (ap is_control same))
@@ -75,35 +70,7 @@ setup_way : (way : Way) → takes_token way Setup ≡ true → way ≡ ways.Ctl
 setup_way ways.Ctl on = refl
 setup_way _ on = absurd (false≢true on)
 
-or_here : (a b : Bool) → a ≡ true → (a || b) ≡ true
-or_here true b on = refl
-or_here false b on = absurd (false≢true on)
-
-name_by : (a b : EpName) → a.addr ≡ b.addr → a.num ≡ b.num → a.way ≡ b.way → a ≡ b
-name_by a b addr num way =
-    let at : ℕ → EpName = λ n. record { addr = n; num = a.num; way = a.way } in
-    let numbered : ℕ → EpName = λ n. record { addr = b.addr; num = n; way = a.way } in
-    let going : Way → EpName = λ v. record { addr = b.addr; num = b.num; way = v } in
-    ap at addr ∙ ap numbered num ∙ ap going way
-
 -- ---- an endpoint by its name
-
-has_place : (test : Endpoint → Bool) (xs : List Endpoint) (k : ℕ) (x : Endpoint) → slice_get xs k ≡ Some x → test x ≡ true → position_or_len test xs < length xs
-has_place test [] zero x here on = absurd (cc)
-has_place test [] (suc k) x here on = absurd (cc)
-has_place test (y ∷ ys) zero x here on = by_test (test y) (ap test (same_Some y x here) ∙ on)
-  where
-    by_test : (b : Bool) → b ≡ true → cond (not b) (1 + position_or_len test ys) 0 < suc (length ys)
-    by_test true is = omega arith
-    by_test false is = absurd (false≢true is)
-has_place test (y ∷ ys) (suc k) x here on = by_test (test y) (has_place test ys k x here on)
-  where
-    by_test : (b : Bool) → position_or_len test ys < length ys → cond (not b) (1 + position_or_len test ys) 0 < suc (length ys)
-    by_test true less = omega arith
-    by_test false less = omega (arith, less)
-
-is_less : (a b : ℕ) → a < b → nat_lt a b ≡ true
-is_less a b less = grind arith
 
 is_opened : (d : DriverContent) (e : ℕ) (x : Endpoint) → slice_get d.endpoints e ≡ Some x → opened d x.desc.name ≡ true
 is_opened d e x here =
@@ -164,7 +131,7 @@ module _ (g : Sides) (fixed : Fixed) (takes : ℕ → ℕ → Bool) (stream : �
 
   pub lines_tell : x.cancelled ≡ false → AreTold (g.whole x.desc.name) (report_of fixed w).store (windows_of w.driver asks v e) (lines_of (report_of fixed w) x.desc.name)
   lines_tell going =
-      let t = h.world.telling e x (met (or_here x.linked _ (linked going x.linked refl))) going in
+      let t = h.world.telling e x (met (left_or x.linked _ (linked going x.linked refl))) going in
       report_tells fixed w x.desc.name (g.whole x.desc.name) (windows_of w.driver asks v e) _ (telling_is_told w.driver asks e x.desc.name (g.whole x.desc.name) v t.reported _ t.telling)
 
   -- ---- the device counts them
@@ -188,7 +155,8 @@ module _ (g : Sides) (fixed : Fixed) (takes : ℕ → ℕ → Bool) (stream : �
     seat_name =
         let first = and_parts (found.seat.name.addr == x.desc.name.addr) (found.seat.name.num == x.desc.name.num && takes_token found.seat.name.way Setup) seat_suits in
         let second = and_parts (found.seat.name.num == x.desc.name.num) (takes_token found.seat.name.way Setup) first.1 in
-        name_by found.seat.name x.desc.name (eqb-true found.seat.name.addr x.desc.name.addr first.0) (eqb-true found.seat.name.num x.desc.name.num second.0) (setup_way found.seat.name.way second.1 ∙ sym its_way)
+        name_is found.seat.name x.desc.name (eqb-true found.seat.name.addr x.desc.name.addr first.0)
+        (eqb-true found.seat.name.num x.desc.name.num second.0) (setup_way found.seat.name.way second.1 ∙ sym its_way)
 
     abbrev seated : EpDesc
     seated = record x.desc { kind = found.seat.kind }

@@ -154,12 +154,6 @@ module _ (d c : DriverContent) (k : RowLeaves d c) where
   unheard_was : (name : EpName) → IsUnheard c name → IsUnheard d name
   unheard_was name u e x here same = let y = k.still e x here in opening_was e x here ∙ u e y.now y.here (ap (λ (t : EpDesc). t.name) y.desc ∙ same)
 
--- ---- what is recorded of those that are gone
-
-pub gone_by : (d : DriverContent) (asks : ℕ → Request) (courses : ℕ → Course) (numbers : ℕ → Numbers) (gone now : ℕ → Bool) (v : Windows) → ((e : ℕ) → now e ≡ true → gone e ≡ true)
-    → AreRecords d asks courses numbers gone v → AreRecords d asks courses numbers now v
-gone_by d asks courses numbers gone now v fewer rec = record { each = rec.each; left = λ e on. rec.left e (fewer e on); none = rec.none }
-
 -- ---- the world
 
 pub record LinesLeave (d c : DriverContent) (asks : ℕ → Request) (v : Windows) (e : ℕ) (name : EpName) (whole : Request → List ℕ) : Type 0 where

@@ -3,6 +3,10 @@ use Rattle.std.proofs.Common.{◌≡◌, ◌≢◌, ℕ, suc, ◌-◌, ◌*◌, 
 use Rattle.std.specs.Prelude.{◌⊎◌}
 use Rattle.std.proofs.lemmas.Bool.{cases_eq}
 use Rattle.std.proofs.lemmas.Option.{same_Some}
+use Rattle.law_world.proofs.Common.{no_open}
+use Rattle.law_reports.proofs.Common.{one_head}
+use Rattle.law_controller.proofs.Common.{same_hand}
+use Rattle.law_queues.proofs.Common.{one_qtd}
 use Rattle.word_mem.specs.Memory.{Mem, IsShaped}
 use Rattle.qh_qtd.specs.declared.qtd.Qtd.{Qtd}
 use Rattle.qh_qtd.specs.Qtd.{qtd_words, IsQtdInRange}
@@ -27,10 +31,9 @@ use Rattle.law_driver.proofs.lemmas.chained_transfers.Staying.{stands_alive}
 use Rattle.law_driver.specs.endpoint_lives.Lives.{told_end}
 use Rattle.law_driver_ring.specs.fed_queues.Fed.{IsPublished, AreFed}
 use Rattle.law_queues.specs.fed_lends.ToLend.{IsToBeLent, lent_now}
-use Rattle.law_queues.proofs.lemmas.fed_lends.Reporting.{same_hand}
 use Rattle.law_queues.proofs.lemmas.fed_lends.Row.{after_is}
 use Rattle.law_queues.proofs.lemmas.publish_laws.Apart.{dummy_placed}
-use Rattle.law_structures.specs.lent_structures.Structures.{Element, StructureSets, Tells, Structure, Structures, QueueHead}
+use Rattle.law_structures.specs.lent_structures.Structures.{Element, StructureSets, Tells, Structures, QueueHead}
 use Rattle.law_driver_ring.specs.Pieces.{stage_qtd, IsNewQtd}
 use Rattle.law_driver_ring.specs.Published.{partly, IsPublishable}
 use Rattle.law_driver_ring.specs.TransferLaws.{HasPieces, lent_driver, lent_memory}
@@ -56,7 +59,7 @@ use Rattle.law_world.specs.streams.LendFeeds.{LendsTransfer}
 use Rattle.law_world.specs.streams.Whole.{IsWhole}
 use Rattle.law_world.proofs.lemmas.streams.Lending.{lends, after_lend}
 use Rattle.law_reports.specs.requests.Asking.{Sides, Asking, is_publishing, is_next_of, HasCourse, IsWritten, IsHeldRequest, IsPublishingAt, IsPublishingBy, IsPublishing, IsReadTo, IsMetControl, IsAskingWorld}
-use Rattle.law_reports.proofs.lemmas.requests.Awaited.{one_qtd, ranged, pieces_as, apart_awaits}
+use Rattle.law_reports.proofs.lemmas.requests.Awaited.{ranged, pieces_as, apart_awaits}
 use Rattle.law_reports.proofs.lemmas.requests.Inside.{AsksIn, inside, outside, goes_on}
 use Rattle.law_reports.proofs.lemmas.requests.Newest.{tail_next, fewer, same_places, laid_at, owner_at, not_asked}
 use Rattle.law_reports.specs.requests.Missed.{NoneMissed, PublishesNoneBy}
@@ -91,12 +94,6 @@ new_unmissed : (notes : List QtdNote) (dummy : ℕ) (ss : List Stage) (b c : ℕ
 new_unmissed notes dummy [] b c t new = ap (λ (u : Qtd). u.token.missed) new.1
 new_unmissed notes dummy (s ∷ ss) b c t (inl new) = ap (λ (u : Qtd). u.token.missed) new.1
 new_unmissed notes dummy (s ∷ ss) b c t (inr new) = new_unmissed notes dummy ss (note_at notes b).next c t new
-
-one_head : (q h : Qh) → ◌≡◌ {A = Option Structure} (Some (QueueHead q)) (Some (QueueHead h)) → q ≡ h
-one_head q h same = cc
-
-no_open : (b c : ℕ) (words : List ℕ) → ◌≡◌ {A = Option Command} (Some (unfinished.Publish b words)) (Some (unfinished.Open c)) → ⊥
-no_open b c words same = cc
 
 module _ (g : Sides) (fixed : Fixed) (takes : ℕ → ℕ → Bool) (member : ℕ → Bool) (x : Streams) (s : Standing) (a : Asking) (v : Windows) (asks : ℕ → Request) (w : World) (b : ℕ) (words : List ℕ) (get : IsToBeLent w.driver w.memory b words)
     (k : IsWhole fixed takes member x s w) (world : IsAskingWorld g fixed member s a v asks w) where

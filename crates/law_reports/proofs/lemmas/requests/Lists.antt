@@ -1,5 +1,5 @@
 -- What holds of all numbers of a list, and of all transfers of an endpoint.
-use Rattle.std.proofs.Common.{◌≡◌, ℕ, suc, ◌+◌, ◌==◌, Bool, true, false, if◌then◌else◌, List, [], ◌∷◌, ◌++◌, Some, ap, refl, subst, ◌∙◌, arith}
+use Rattle.std.proofs.Common.{◌≡◌, ℕ, suc, ◌+◌, ◌==◌, Bool, true, false, if◌then◌else◌, List, [], ◌∷◌, Some, ap, refl, subst, ◌∙◌, arith}
 use Rattle.std.specs.Prelude.{slice_get, option_map}
 use Rattle.std.specs.List.{AllByRecursion}
 use Rattle.drv_table.specs.declared.content.Transfer.{Transfer}
@@ -14,10 +14,6 @@ all_map P Q each (t ∷ ts) all = (each t all.0, all_map P Q each ts all.1)
 pub all_both : (P Q R : ℕ → Type 0) → ((t : ℕ) → P t → Q t → R t) → (ts : List ℕ) → AllByRecursion P ts → AllByRecursion Q ts → AllByRecursion R ts
 all_both P Q R each [] one other = tt
 all_both P Q R each (t ∷ ts) one other = (each t one.0 other.0, all_both P Q R each ts one.1 other.1)
-
-pub all_more : (P : ℕ → Type 0) (ts us : List ℕ) → AllByRecursion P ts → AllByRecursion P us → AllByRecursion P (ts ++ us)
-all_more P [] us one other = other
-all_more P (t ∷ ts) us one other = (one.0, all_more P ts us one.1 other)
 
 numbers_by : (e n : ℕ) (y : Transfer) (ys : List Transfer) (P : ℕ → Type 0) (b : Bool) → (b ≡ true → P n) → AllByRecursion P (numbers_from e (suc n) ys) → AllByRecursion P (if b then n ∷ numbers_from e (suc n) ys else numbers_from e (suc n) ys)
 numbers_by e n y ys P true first rest = (first refl, rest)

@@ -3,6 +3,10 @@ use Rattle.std.proofs.Common.{◌≡◌, ◌≢◌, ℕ, zero, suc, ◌*◌, ◌
 use Rattle.std.specs.List.{AllByRecursion}
 use Rattle.std.proofs.lemmas.Bool.{cases_eq, false≢true, true≢false}
 use Rattle.std.proofs.lemmas.Option.{same_Some}
+use Rattle.law_common.proofs.Booleans.{and_false}
+use Rattle.law_queues.proofs.Common.{queue_of, first_of}
+use Rattle.law_common.proofs.Numbers.{same_blocks}
+use Rattle.law_reports.proofs.Common.{regone}
 use Rattle.usb_base.specs.declared.endpoints.EndCause.{EndCause}
 use Rattle.qh_qtd.specs.declared.qtd.Qtd.{Qtd}
 use Rattle.bus_wire.specs.Bus.{Fixed}
@@ -23,11 +27,10 @@ use Rattle.law_driver.specs.endpoint_lives.Lives.{told_end}
 use Rattle.law_structures.specs.lent_structures.Structures.{QueueHead, StructureSets}
 use Rattle.law_structures.proofs.lemmas.lent_structures.Names.{put_same, put_beside}
 use Rattle.law_structures.proofs.lemmas.lent_structures.Altering.{found_queue}
-use Rattle.law_queues.specs.mended_heads.Owed.{StalledQueue, mends_at, store_by, store_due, all_left, IsOwed, GoesOnAt}
+use Rattle.law_queues.specs.mended_heads.Owed.{StalledQueue, mends_at, store_due, all_left, IsOwed, GoesOnAt}
 use Rattle.law_queues.specs.mended_heads.Mended.{mended_by, IsAtMend, IsMended, IsMendedWhole, mended as mended_head, head_at, driver_mended, parts_then, hand_then}
 use Rattle.law_queues.proofs.lemmas.mended_heads.Row.{mend_row, last_mend_ends, mend_spares_heads, mend_spares_endpoints, mend_spares_elements}
 use Rattle.law_queues.proofs.lemmas.mended_heads.Mending.{keeps_endpoint, keeps_halted}
-use Rattle.law_queues.proofs.lemmas.publish_laws.Apart.{thirty_two}
 use Rattle.claims_report.specs.Requests.{Request}
 use Rattle.law_ring.specs.Hand.{Hand, Settled}
 use Rattle.law_ring.specs.Effects.{buffer_of}
@@ -62,19 +65,11 @@ use Rattle.law_world.proofs.lemmas.streams.Mending.{whole_mended}
 use Rattle.law_reports.specs.requests.Asking.{Sides, Asking, has_left, next_with, next_in, HasCourse, IsMetControl, IsReadTo, IsAskingWorld, HasAskingWorld}
 use Rattle.law_reports.specs.requests.Rows.{MendKeepsAsking, IsHeadOfNone}
 use Rattle.law_reports.proofs.lemmas.requests.Has.{asking_of}
-use Rattle.law_reports.proofs.lemmas.requests.Leaving.{idle_quiet, same_endpoint, RowLeaves, gone_by, each_still, world_left}
+use Rattle.law_reports.proofs.lemmas.requests.Leaving.{idle_quiet, same_endpoint, RowLeaves, each_still, world_left}
 use Rattle.law_reports.proofs.lemmas.requests.Beside.{HasOwner, one_queue, owner_of, stand_beside}
 use Rattle.law_reports.proofs.lemmas.requests.Missed.{writing_misses_none, stale_unmissed}
 
 -- ---- the stores that are left
-
-first_by : (q b made : ℕ) (rest : List Mend) → made < 3 → slice_get (drop made (mends_at q b) ++ rest) 0 ≡ Some (store_by q b made)
-first_by q b (suc (suc (suc k))) rest few = absurd (omega (arith, few))
-first_by q b _ rest few = refl
-
-queue_by : (q b made : ℕ) → (store_by q b made).queue ≡ q
-queue_by q b (suc zero) = refl
-queue_by q b _ = refl
 
 last_left : (q b made : ℕ) (rest : List Mend) → made ≡ 2 → drop 1 (drop made (mends_at q b) ++ rest) ≡ rest
 last_left q b made rest is = ap (λ (k : ℕ). drop 1 (drop k (mends_at q b) ++ rest)) is
@@ -99,7 +94,7 @@ each_in P (r ∷ rs) all zero m at = subst P (same_Some r m at) all.0
 each_in P (r ∷ rs) all (suc i) m at = each_in P rs all.1 i m at
 
 first_stored : (d : DriverContent) (p : Parts) (parts : StructureSets) (out : ℕ → List ℕ) → (k : IsAtMend p parts out) → slice_get p.driver.mends 0 ≡ Some (store_due k.stalled)
-first_stored d p parts out k = ap (λ (ms : List Mend). slice_get ms 0) k.are.mends ∙ first_by k.stalled.queue k.stalled.onward k.stalled.made (all_left k.others) k.are.owed.0.some
+first_stored d p parts out k = ap (λ (ms : List Mend). slice_get ms 0) k.are.mends ∙ first_of k.stalled.queue k.stalled.onward k.stalled.made (all_left k.others) k.are.owed.0.some
 
 -- ---- where a request begins
 
@@ -119,10 +114,6 @@ still_idle b _ q off = off
 mended_unmissed : (b made : ℕ) (q : Qh) → q.token.missed ≡ false → (mended_by b made q).token.missed ≡ false
 mended_unmissed b (suc (suc k)) q off = refl
 mended_unmissed b _ q off = off
-
-and_false : (b : Bool) → (b && false) ≡ false
-and_false true = refl
-and_false false = refl
 
 told_idle : (q : Qh) (e : ℕ) (t : Qtd) (bs : List ℕ) → q.token.active ≡ false → told_bytes q e t bs ≡ take (length bs - t.token.total) bs
 told_idle q e t bs off = ap (λ (b : Bool). take (length bs - (if b && q.current == e then q.token.total else t.token.total)) bs) off
@@ -223,7 +214,7 @@ module _ (g : Sides) (fixed : Fixed) (takes : ℕ → ℕ → Bool) (member : �
     owner = owner_of g fixed member x s a v asks w k.feeding z n has
 
     same_number : owner.number ≡ owed.number
-    same_number = one_queue g fixed member x s a v asks w k.feeding z owner.number owed.number owner.endpoint owed.endpoint owner.control.is.here owed.here owner.control.met.there.kept owed.kept (thirty_two owner.endpoint.queue owed.endpoint.queue (sym owner.at ∙ ap (λ (b : ℕ). 32 * b) (sym owed.queue)))
+    same_number = one_queue g fixed member x s a v asks w k.feeding z owner.number owed.number owner.endpoint owed.endpoint owner.control.is.here owed.here owner.control.met.there.kept owed.kept (same_blocks owner.endpoint.queue owed.endpoint.queue (sym owner.at ∙ ap (λ (b : ℕ). 32 * b) (sym owed.queue)))
 
     same_endpoint_is : owed.endpoint ≡ owner.endpoint
     same_endpoint_is = same_Some owed.endpoint owner.endpoint (sym owed.here ∙ ap (slice_get w.driver.endpoints) (sym same_number) ∙ owner.control.is.here)
@@ -232,7 +223,7 @@ module _ (g : Sides) (fixed : Fixed) (takes : ℕ → ℕ → Bool) (member : �
     course_at = subst (λ (b : ℕ). HasCourse g w.driver owner.number owner.endpoint (a.courses b) (a.numbers b)) (sym owner.at) (z.each owner.number owner.endpoint owner.control)
 
     off : is_asking (a.courses n) ≡ false
-    off = course_at.owed 0 (store_due at.stalled) (first_stored w.driver (driver_parts w) s.parts s.out at) (queue_by q.queue q.onward q.made ∙ sym owed.queue ∙ ap (λ (y : Endpoint). y.queue) same_endpoint_is)
+    off = course_at.owed 0 (store_due at.stalled) (first_stored w.driver (driver_parts w) s.parts s.out at) (queue_of q.queue q.onward q.made ∙ sym owed.queue ∙ ap (λ (y : Endpoint). y.queue) same_endpoint_is)
 
     -- all its requests are published
     all_there : (a.numbers n).requests.count ≡ (queue_in (a.courses n)).count
@@ -342,7 +333,7 @@ module _ (g : Sides) (fixed : Fixed) (takes : ℕ → ℕ → Bool) (member : �
 
   recorded : AreRecords (driver_mended w.driver) asks a.courses a.numbers (has_left (driver_mended w.driver)) v
   recorded =
-      gone_by (driver_mended w.driver) asks a.courses a.numbers (has_left w.driver) (has_left (driver_mended w.driver)) v (λ e on. on)
+      regone (driver_mended w.driver) asks a.courses a.numbers (has_left w.driver) (has_left (driver_mended w.driver)) v (λ e on. on)
       (subst (λ (c : DriverContent). AreRecords c asks a.courses a.numbers (has_left w.driver) v) is_mended.driver
       (row_keeps_records (driver_parts w) (driver_row (driver_parts w)) asks a.courses a.numbers (has_left w.driver) v
       (λ j has. subst (λ (r : DriverRow). KeepsEndpoint r (a.numbers j).endpoint) (sym row) tt)
@@ -386,14 +377,14 @@ module _ (g : Sides) (fixed : Fixed) (takes : ℕ → ℕ → Bool) (member : �
         subst (λ (r : Course). HasCourse g (driver_mended w.driver) e y r (a.numbers n)) is
         (subst (λ (j : ℕ). HasCourse g (driver_mended w.driver) e y (a.courses j) (a.numbers j)) (sym own) (each_still g fixed member s a v asks w then_parts leaves z e y m)) in
         course_mended g (driver_mended w.driver) e y u b c new.token.ping (a.numbers n) u.count h (going_at own e y m refl)
-        (λ i r at_r mine. let none = apart_now i r at_r in none (mine ∙ sym (thirty_two q.queue y.queue own))))
+        (λ i r at_r mine. let none = apart_now i r at_r in none (mine ∙ sym (same_blocks q.queue y.queue own))))
         (λ j differs own. subst (λ (i : ℕ). HasCourse g (driver_mended w.driver) e y (a.courses i) (a.numbers i)) (sym own) (each_still g fixed member s a v asks w then_parts leaves z e y m))
         (32 * y.queue) refl
       where
         going_at : n ≡ 32 * y.queue → (e : ℕ) (t : Endpoint) → IsMetControl (driver_mended w.driver) e t → t.queue ≡ y.queue → told_end t ≡ None
         going_at own e t m same =
             let number : e ≡ owed.number =
-            one_queue g fixed member x s a v asks w k.feeding z e owed.number t owed.endpoint m.is.here owed.here m.met.there.kept owed.kept (same ∙ sym (thirty_two q.queue y.queue own) ∙ sym owed.queue) in
+            one_queue g fixed member x s a v asks w k.feeding z e owed.number t owed.endpoint m.is.here owed.here m.met.there.kept owed.kept (same ∙ sym (same_blocks q.queue y.queue own) ∙ sym owed.queue) in
             ap told_end (same_Some t owed.endpoint (sym m.is.here ∙ ap (slice_get w.driver.endpoints) number ∙ owed.here)) ∙ owed.going
 
         apart_now : (i : ℕ) (r : Mend) → slice_get (drop 1 w.driver.mends) i ≡ Some r → r.queue ≢ q.queue

@@ -1,8 +1,11 @@
 -- A harvest that finds a qTD done which doesn't end its transfer.
-use Rattle.std.proofs.Common.{◌≡◌, ◌≢◌, ℕ, zero, suc, ◌-◌, ◌*◌, ◌<◌, ◌≤◌, Bool, true, false, if◌then◌else◌, List, [], ◌∷◌, length, slice_get, slice_set, Option, Some, None, ap, refl, sym, subst, ◌∙◌, ⊎_elim, inl, inr, arith}
-use Rattle.std.specs.Prelude.{slice_index_or}
+use Rattle.std.proofs.Common.{◌≡◌, ◌≢◌, ℕ, zero, suc, ◌-◌, ◌*◌, ◌<◌, ◌≤◌, Bool, true, false, if◌then◌else◌, List, length, slice_get, slice_set, Option, Some, None, ap, refl, sym, subst, ◌∙◌, ⊎_elim, inl, inr, arith}
 use Rattle.std.proofs.lemmas.Bool.{cases_eq, false≢true}
 use Rattle.std.proofs.lemmas.Option.{same_Some}
+use Rattle.law_driver_ring.proofs.Common.{set_else}
+use Rattle.law_driver.proofs.Common.{waits_is}
+use Rattle.law_queues.proofs.Common.{set_which, after_is}
+use Rattle.law_world.proofs.Common.{control_kind}
 use Rattle.usb_base.specs.declared.packets.EpKind.TheVariants as kinds
 use Rattle.bus_wire.specs.Bus.{Fixed}
 use Rattle.drv_table.specs.declared.content.Command.{Command}
@@ -13,7 +16,7 @@ use Rattle.drv_table.specs.declared.rows.DriverRow.{DriverRow}
 use Rattle.drv_table.specs.declared.rows.DriverRow.TheVariants as rows
 use Rattle.drv_table.specs.declared.rows.Found.{Found}
 use Rattle.drv_table.specs.declared.rows.Found.TheVariants as founds
-use Rattle.drv_table.specs.DriverContent.{DriverContent, no_note}
+use Rattle.drv_table.specs.DriverContent.{DriverContent}
 use Rattle.drv_table.specs.Harvests.{note_at, noted}
 use Rattle.drv_table.specs.Rows.{driver_row, after_driver_row}
 use Rattle.drv_table.specs.Harvesting.{served, moved_on}
@@ -22,12 +25,10 @@ use Rattle.law_driver.specs.endpoint_lives.Lives.{told_end}
 use Rattle.law_driver.specs.run_owners.Due.{IsHarvestDue}
 use Rattle.claims_driver.specs.Owners.{note_in}
 use Rattle.law_driver.specs.chained_transfers.Turns.{IsAtPlace}
-use Rattle.law_driver.proofs.lemmas.chained_transfers.Harvesting.{waits_is}
 use Rattle.law_driver_ring.specs.told_harvests.Held.{IsOneFrom}
 use Rattle.law_queues.specs.harvest_laws.RowLaws.{IsReadNext}
-use Rattle.law_queues.proofs.lemmas.harvest_laws.Opening.{set_which}
 use Rattle.law_queues.proofs.lemmas.harvest_laws.Places.{unmoved_noted, one_later}
-use Rattle.law_queues.proofs.lemmas.harvest_laws.ReadRows.{after_is, read_next}
+use Rattle.law_queues.proofs.lemmas.harvest_laws.ReadRows.{read_next}
 use Rattle.claims_report.specs.Requests.{Request}
 use Rattle.law_request.specs.Host.{has_data}
 use Rattle.law_devices.specs.ring_requests.Windows.{Queue, Sent}
@@ -44,7 +45,6 @@ use Rattle.law_reports.specs.requests.Records.{AreRecords}
 use Rattle.law_reports.proofs.lemmas.requests.Rows.{row_keeps_records}
 use Rattle.law_world.specs.streams.HarvestFeeds.{HarvestLeaves}
 use Rattle.law_queues.specs.standing_fronts.Tails.{tail_of, tail_block}
-use Rattle.law_world.proofs.lemmas.streams.Told.{control_kind}
 use Rattle.law_world.specs.streams.Whole.{IsWhole}
 use Rattle.law_world.proofs.lemmas.streams.Leaving.{due, leaves, whole_harvested}
 use Rattle.law_reports.specs.requests.Asking.{Sides, Asking, has_left, is_next_of, is_publishing, next_with, DataIsRead, HasCourse, IsPublishingBy, IsMetControl, IsReadTo, IsAskingWorld}
@@ -57,13 +57,6 @@ use Rattle.law_reports.proofs.lemmas.requests.Ended.{reads, same_sent}
 use Rattle.law_reports.proofs.lemmas.requests.Missed.{idle_misses}
 
 -- ---- notes of other blocks
-
-pub set_else : (notes : List QtdNote) (c b : ℕ) (new : QtdNote) → b ≢ c → slice_index_or (slice_set notes c new) b no_note ≡ slice_index_or notes b no_note
-set_else [] c b new differs = refl
-set_else (a ∷ rest) zero zero new differs = absurd (differs refl)
-set_else (a ∷ rest) zero (suc b) new differs = refl
-set_else (a ∷ rest) (suc c) zero new differs = refl
-set_else (a ∷ rest) (suc c) (suc b) new differs = set_else rest c b new (λ e. differs (ap suc e))
 
 pub first_one : (note : ℕ → QtdNote) (b n : ℕ) → 1 ≤ n → IsOneFrom note b n b
 first_one note b zero some = absurd (omega (arith, some))

@@ -1,7 +1,10 @@
 -- Names of control endpoints in a world: each is that of one endpoint alone, and its device is on the bus.
 use Rattle.std.proofs.Common.{◌≡◌, ℕ, ◌*◌, ◌≤◌, Bool, true, false, not, slice_get, Option, Some, ap, refl, sym, subst, ◌∙◌, ⊎_elim, arith}
-use Rattle.std.proofs.lemmas.Bool.{false≢true, and_parts, eq-eqb, eqb-true}
+use Rattle.std.proofs.lemmas.Bool.{false≢true, and_parts}
 use Rattle.std.proofs.lemmas.Option.{same_Some}
+use Rattle.law_common.proofs.Booleans.{not_on}
+use Rattle.law_devices.proofs.Common.{zero_by}
+use Rattle.law_reports.proofs.Common.{one_head}
 use Rattle.usb_base.specs.declared.endpoints.EpName.{EpName}
 use Rattle.usb_base.specs.declared.packets.EpKind.{EpKind}
 use Rattle.usb_base.specs.declared.packets.EpKind.TheVariants as kinds
@@ -9,8 +12,6 @@ use Rattle.usb_base.specs.declared.packets.Way.TheVariants as ways
 use Rattle.bus_wire.specs.Bus.{Fixed}
 use Rattle.qh_qtd.specs.declared.queue_head.Qh.{Qh}
 use Rattle.qh_qtd.specs.Blank.{blank_head}
-use Rattle.drv_table.specs.declared.content.Command.{Command}
-use Rattle.drv_table.specs.declared.content.Command.TheVariants as unfinished
 use Rattle.drv_table.specs.declared.content.Endpoint.{Endpoint as DriverEndpoint}
 use Rattle.drv_table.specs.DriverContent.{DriverContent}
 use Rattle.drv_table.specs.Words.{is_control, head_block, opening_head, queue_head}
@@ -24,22 +25,9 @@ use Rattle.law_ring.specs.Told.{HasEndpoint, Endpoint as Characteristics, endpoi
 use Rattle.claims_report.specs.Controls.{control_of}
 use Rattle.bus_world.specs.World.{World}
 use Rattle.law_world.specs.steps.Streaming.{Streams, Standing}
-use Rattle.claims_world.specs.Requests.{wired, Windows, opens, is_opening}
+use Rattle.claims_world.specs.Requests.{wired, Windows, is_opening}
 use Rattle.law_world.specs.streams.Whole.{IsWhole}
 use Rattle.law_reports.specs.requests.Asking.{Sides, IsGiven, Asking, has_left, left_with, IsControlOf, IsAskingWorld}
-
--- ---- an unfinished open
-
-pub opens_is : (o : Option Command) (b : ℕ) → o ≡ Some (unfinished.Open b) → opens o b ≡ true
-opens_is o b is = ap (λ (c : Option Command). opens c b) is ∙ eq-eqb b b refl
-
-pub opened_is : (o : Option Command) (b : ℕ) → opens o b ≡ true → o ≡ Some (unfinished.Open b)
-opened_is (Some (unfinished.Open queue)) b on = ap (λ (c : ℕ). Some (unfinished.Open c)) (eqb-true queue b on)
-opened_is _ b on = absurd (false≢true on)
-
-not_true : (b : Bool) → not b ≡ true → b ≡ false
-not_true true is = absurd (false≢true is)
-not_true false is = refl
 
 -- ---- the endpoint of a queue head
 
@@ -47,18 +35,10 @@ qh_in : Option Structure → Qh
 qh_in (Some (QueueHead q)) = q
 qh_in _ = blank_head
 
-same_queue : (q r : Qh) → ◌≡◌ {A = Option Structure} (Some (QueueHead q)) (Some (QueueHead r)) → q ≡ r
-unfolding qh_in
-same_queue q r is = ap qh_in is
-
 pub one_endpoint : (parts : StructureSets) (n : ℕ) (x y : Characteristics) → HasEndpoint parts n x → HasEndpoint parts n y → x ≡ y
-one_endpoint parts n x y h k = h.is ∙ ap endpoint_of (same_queue h.queue k.queue (sym h.head ∙ k.head)) ∙ sym k.is
+one_endpoint parts n x y h k = h.is ∙ ap endpoint_of (one_head h.queue k.queue (sym h.head ∙ k.head)) ∙ sym k.is
 
 -- ---- number 0 is that of control endpoints
-
-zero_way : (kind : EpKind) (name : EpName) → IsNameOf kind name → name.num ≡ 0 → name.way ≡ ways.Ctl
-zero_way kinds.Control name is zero = is.way
-zero_way _ name is zero = let least = is.least in absurd (omega (arith, least, zero))
 
 control_zero : (kind : EpKind) (name : EpName) → is_control kind ≡ true → IsNameOf kind name → (name.num ≡ 0) × (name.way ≡ ways.Ctl)
 control_zero kinds.Control name on is = (is.number, is.way)
@@ -67,7 +47,7 @@ control_zero _ name on is = absurd (false≢true on)
 pub left_is : (d : DriverContent) (e : ℕ) (z : DriverEndpoint) → slice_get d.endpoints e ≡ Some z → has_left d e ≡ true → (is_control z.desc.kind ≡ true) × (may_meet d e z ≡ false)
 left_is d e z here on =
     let both = and_parts (is_control z.desc.kind) (not (may_meet d e z)) (sym (ap (λ (o : Option DriverEndpoint). left_with d e o) here) ∙ on) in
-    (both.0, not_true (may_meet d e z) both.1)
+    (both.0, not_on (may_meet d e z) both.1)
 
 module _ (fixed : Fixed) (takes : ℕ → ℕ → Bool) (member : ℕ → Bool) (x : Streams) (s : Standing) (w : World) (k : IsWhole fixed takes member x s w) (ring : x.endpoint (32 * head_block) ≡ endpoint_of opening_head) where
   abbrev d : DriverContent
@@ -78,7 +58,7 @@ module _ (fixed : Fixed) (takes : ℕ → ℕ → Bool) (member : ℕ → Bool) 
       → y.desc.name.addr ≡ z.desc.name.addr → y.desc.name.num ≡ z.desc.name.num → e ≡ f
   one_of e f z y here on there address number =
       let its = control_zero z.desc.kind z.desc.name on (k.left.named e z here) in
-      k.names e f z y here there (sym address) (sym number) (its.1 ∙ sym (zero_way y.desc.kind y.desc.name (k.left.named f y there) (number ∙ its.0)))
+      k.names e f z y here there (sym address) (sym number) (its.1 ∙ sym (zero_by y.desc.kind y.desc.name (k.left.named f y there) (number ∙ its.0)))
 
   -- ---- whom the walk may meet
 

@@ -2,6 +2,8 @@
 use Rattle.std.proofs.Common.{◌≡◌, ℕ, zero, suc, ◌*◌, ◌≤◌, Bool, true, List, [], length, slice_get, Option, Some, ap, refl, subst, arith, None}
 use Rattle.std.proofs.lemmas.Bool.{false≢true}
 use Rattle.std.proofs.lemmas.List.{length-replicate}
+use Rattle.law_queues.proofs.Common.{no_endpoint}
+use Rattle.law_world.proofs.Common.{no_transfer}
 use Rattle.script_types.specs.declared.scripts.Script.{Script}
 use Rattle.script_fits.specs.Fits.{IsFit}
 use Rattle.law_scripts.specs.byte_answers.Bytes.{IsByteScript}
@@ -10,7 +12,7 @@ use Rattle.drv_table.specs.declared.content.Endpoint.{Endpoint as DriverEndpoint
 use Rattle.drv_table.specs.declared.content.Reserve.{Reserve}
 use Rattle.drv_table.specs.DriverContent.{DriverContent}
 use Rattle.drv_table.specs.Opening.{opening}
-use Rattle.claims_driver.specs.Owners.{TransferRuns, transfer_in, views_of}
+use Rattle.claims_driver.specs.Owners.{views_of}
 use Rattle.law_structures.specs.lent_structures.Structures.{Structure, Table, QueueHead, Element}
 use Rattle.law_driver_ring.specs.PartOpened.{empty_list, opening_parts, is_head, no_parts, list_parts}
 use Rattle.law_driver_ring.specs.Extents.{AreInRuns}
@@ -38,10 +40,6 @@ use Rattle.law_reports.proofs.lemmas.requests.Has.{asking_of}
 use Rattle.law_reports.proofs.lemmas.requests.Names.{named_by}
 use Rattle.law_reports.specs.requests.Missed.{NoneMissed, MissesNone}
 use Rattle.law_reports.proofs.lemmas.requests.Missed.{writing_misses_none}
-
-no_endpoint : (e : ℕ) (x : DriverEndpoint) → slice_get {X = DriverEndpoint} [] e ≡ Some x → ⊥
-no_endpoint zero x here = cc
-no_endpoint (suc e) x here = cc
 
 none_left : (d : DriverContent) (e : ℕ) → left_with d e (slice_get {X = DriverEndpoint} [] e) ≡ true → ⊥
 none_left d zero on = false≢true on
@@ -86,10 +84,6 @@ module _ (s : Script) (g : Sides) (first : IsFirst s g) (takes : ℕ → ℕ →
   }
 
 -- ---- the world is whole
-
-no_transfer : (t : ℕ) (y : TransferRuns) → transfer_in [] t ≡ Some y → ⊥
-no_transfer zero y here = cc
-no_transfer (suc t) y here = cc
 
 words_in : Option Structure → List ℕ
 words_in (Some (Table words)) = words

@@ -3,6 +3,7 @@ use Rattle.std.proofs.Common.{◌≡◌, ◌≢◌, ℕ, suc, ◌+◌, ◌-◌, 
 use Rattle.std.specs.Prelude.{◌⊎◌}
 use Rattle.std.proofs.lemmas.Bool.{eq-eqb, false≢true}
 use Rattle.std.proofs.lemmas.Option.{same_Some}
+use Rattle.law_world.proofs.Common.{no_open}
 use Rattle.word_mem.specs.Memory.{Mem}
 use Rattle.bus_wire.specs.Bus.{Wired}
 use Rattle.drv_table.specs.declared.content.Command.{Command}
@@ -39,9 +40,6 @@ tail_at (Some y) e dummy b words is = ap (λ (z : Bool). if z then b else dummy)
 pub tail_next : (c : Option Command) (o : Option Transfer) (e dummy b : ℕ) (words : List ℕ) → c ≡ Some (unfinished.Publish b words) → is_publishing c o e ≡ true → tail_block c o e dummy ≡ b
 tail_next c o e dummy b words command is =
     ap (λ (z : Option Command). tail_block z o e dummy) command ∙ tail_at o e dummy b words (sym (ap (λ (z : Option Command). is_publishing z o e) command) ∙ is)
-
-no_open : (b c : ℕ) (words : List ℕ) → ◌≡◌ {A = Option Command} (Some (unfinished.Publish b words)) (Some (unfinished.Open c)) → ⊥
-no_open b c words same = cc
 
 -- ---- where its qTDs stand
 

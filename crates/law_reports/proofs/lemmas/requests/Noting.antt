@@ -1,8 +1,10 @@
 -- What is noted of the qTDs of older transfers stays where a further one is accepted, and of its own nothing is noted as moved.
-use Rattle.std.proofs.Common.{◌≡◌, ℕ, zero, suc, ◌-◌, ◌≤◌, ◌||◌, false, Bool, List, [], ◌∷◌, ◌++◌, length, take, drop, get_or, nat_eq, slice_get, Some, None, option_map, ap, refl, sym, subst, ◌∙◌, inl, inr, arith, length-append}
+use Rattle.std.proofs.Common.{◌≡◌, ℕ, suc, ◌-◌, ◌≤◌, ◌||◌, false, Bool, List, [], ◌∷◌, length, take, drop, get_or, nat_eq, slice_get, Some, None, option_map, ap, refl, sym, subst, ◌∙◌, arith, length-append}
 use Rattle.std.specs.List.{AllByRecursion}
+use Rattle.law_driver.proofs.Common.{last_pushed}
+use Rattle.law_queues.proofs.Common.{last_is, one_placed}
+use Rattle.law_common.proofs.Lists.{drop_first, set_here}
 use Rattle.word_mem.specs.Memory.{Mem, IsShaped}
-use Rattle.mem_runs.specs.declared.slots.Slot.{Slot}
 use Rattle.mem_runs.specs.Book.{Holding, holding, Stands, slot_of}
 use Rattle.drv_table.specs.declared.content.Command.TheVariants as unfinished
 use Rattle.drv_table.specs.declared.content.Endpoint.{Endpoint}
@@ -12,19 +14,17 @@ use Rattle.drv_table.specs.declared.content.Transfer.{Transfer}
 use Rattle.drv_table.specs.DriverContent.{DriverContent}
 use Rattle.drv_table.specs.Harvests.{note_at}
 use Rattle.drv_table.specs.Accepting.{Offered, new_runs}
-use Rattle.drv_table.specs.Offers.{Asked, note_stages, first_of, is_last, stage_words, new_transfer, with_queued, accepted_transfer}
+use Rattle.drv_table.specs.Offers.{Asked, note_stages, first_of, stage_words, new_transfer, with_queued, accepted_transfer}
 use Rattle.drv_table.specs.Words.{needs}
 use Rattle.law_driver.specs.run_owners.Accepts.{Transfers}
 use Rattle.claims_driver.specs.Leaving.{HasOwners}
-use Rattle.claims_driver.specs.Owners.{Owner, Element, IsPlaced, ArePieces, runs_of_endpoint, runs_of_transfer, note_in}
-use Rattle.law_driver.proofs.lemmas.run_owners.Accepted.{drop_first, within_slots}
+use Rattle.claims_driver.specs.Owners.{Element, runs_of_endpoint, runs_of_transfer}
+use Rattle.law_driver.proofs.lemmas.run_owners.Accepted.{within_slots}
 use Rattle.law_driver.proofs.lemmas.run_owners.Chains.{notes_apart}
-use Rattle.law_driver.proofs.lemmas.run_owners.Released.{set_here}
 use Rattle.law_driver.proofs.lemmas.run_owners.Runs.{placed_run}
 use Rattle.law_driver.proofs.lemmas.run_owners.Taking.{runs_taken}
 use Rattle.law_driver.proofs.lemmas.run_owners.Transferred.{are_new, goes_on_alive}
 use Rattle.claims_driver.specs.LentRuns.{AreLent}
-use Rattle.law_structures.proofs.lemmas.lent_structures.Names.{not_same}
 use Rattle.law_driver.specs.chained_transfers.Asynchronous.{IsRequested}
 use Rattle.law_driver.specs.chained_transfers.Bulk.{sort_by}
 use Rattle.law_driver.proofs.lemmas.chained_transfers.Queued.{not_dummy}
@@ -35,11 +35,6 @@ use Rattle.law_driver_ring.proofs.TransferAccepting.{accepted_awaits_lend}
 use Rattle.law_queues.specs.fed_lends.ToLend.{AreStagesBy, IsToBeLent}
 use Rattle.law_queues.proofs.lemmas.fed_lends.Fed.{one_command}
 use Rattle.law_queues.proofs.lemmas.fed_lends.Stages.{requested_by, stages_pids}
-
-one_placed : (slot : ℕ → Slot) (owner : ℕ → Owner) (notes : List QtdNote) (t b n a : ℕ) → ArePieces slot owner (note_in notes) t b n → IsOneFrom (note_at notes) b n a → IsPlaced slot owner a (Element t)
-one_placed slot owner notes t b zero a k one = absurd one
-one_placed slot owner notes t b (suc n) a k (inl is) = subst (λ (c : ℕ). IsPlaced slot owner c (Element t)) (sym is) k.0.element
-one_placed slot owner notes t b (suc n) a k (inr one) = one_placed slot owner notes t (note_at notes b).next n a k.1 one
 
 pub record NotesStay (d : DriverContent) (dummy count : ℕ) (notes : List QtdNote) : Type 0 where
   pub same : (t : ℕ) (y : Transfer) (c : ℕ) → slice_get d.transfers t ≡ Some y → y.released ≡ false → IsOneFrom (note_at d.notes) y.first y.qtds c → note_at notes c ≡ note_at d.notes c
@@ -74,14 +69,6 @@ notes_stay d m o why stands owners =
     (subst (λ (rs : List ℕ). NotesStay d x.dummy n (note_stages d.notes ss x.dummy (take n rs) (drop n rs))) (sym made) now)
 
 -- ---- a request that is accepted is to be lent, with these stages
-
-last_is : (ss : List Stage) → nat_eq (suc (length ss)) 1 ≡ is_last ss
-last_is [] = refl
-last_is (s ∷ ss) = not_same (suc (suc (length ss))) 1 (λ same. omega (arith, same))
-
-last_pushed : (ts : List Transfer) (t : Transfer) → slice_get (ts ++ t ∷ []) (length ts) ≡ Some t
-last_pushed [] t = refl
-last_pushed (u ∷ ts) t = last_pushed ts t
 
 pub record LendsBy (f : Offered) (rs : List Stage) (b : ℕ) (words : List ℕ) : Type 0 where
   pub lends : IsToBeLent f.driver f.memory b words

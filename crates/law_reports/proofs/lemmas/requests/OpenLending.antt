@@ -1,5 +1,8 @@
 -- The lend of an open's queue head and of its inactive qTD leaves the queues of all control endpoints as they stand.
 use Rattle.std.proofs.Common.{◌≡◌, ◌≢◌, ℕ, ◌*◌, Bool, true, List, slice_get, Option, Some, None, ap, refl, sym, subst, ◌∙◌}
+use Rattle.law_common.proofs.Numbers.{same_blocks}
+use Rattle.law_controller.proofs.Common.{same_hand}
+use Rattle.law_reports.proofs.Common.{regone}
 use Rattle.usb_base.specs.declared.endpoints.EpName.{EpName}
 use Rattle.bus_wire.specs.Bus.{Fixed}
 use Rattle.drv_table.specs.declared.content.Command.TheVariants as unfinished
@@ -17,7 +20,6 @@ use Rattle.law_driver.specs.endpoint_lives.Lives.{told_end, may_meet}
 use Rattle.mem_runs.specs.Book.{holding, lend_taken}
 use Rattle.claims_driver.specs.Leaving.{HasOwners}
 use Rattle.law_structures.specs.lent_structures.Structures.{Structures, StructureSets, put, QueueHead, Element}
-use Rattle.law_queues.proofs.lemmas.publish_laws.Apart.{thirty_two}
 use Rattle.claims_report.specs.Requests.{Request}
 use Rattle.law_ring.specs.Effects.{buffer_of}
 use Rattle.law_ring.specs.Sparing.{SparesElement}
@@ -29,7 +31,7 @@ use Rattle.law_world.specs.steps.Streaming.{Streams, Standing}
 use Rattle.claims_world.specs.Requests.{wired, Windows, numbers_of, is_opening}
 use Rattle.law_reports.specs.requests.driver_requests.Rows.{given_by, KeepsEndpoint}
 use Rattle.law_reports.specs.requests.Courses.{have_queues, CoursesStand}
-use Rattle.law_reports.proofs.lemmas.requests.Writing.{same_hand, same_side}
+use Rattle.law_reports.proofs.lemmas.requests.Writing.{same_side}
 use Rattle.law_reports.specs.requests.Records.{AreRecords}
 use Rattle.law_reports.proofs.lemmas.requests.Rows.{row_keeps_records}
 use Rattle.law_world.specs.streams.Whole.{IsWhole}
@@ -38,7 +40,7 @@ use Rattle.law_reports.specs.requests.Asking.{Sides, Asking, has_left, IsMetCont
 use Rattle.law_reports.specs.requests.Rows.{OpenLendKeepsAsking, IsHeadOfNone}
 use Rattle.law_reports.proofs.lemmas.requests.Has.{asking_of}
 use Rattle.law_reports.proofs.lemmas.requests.Beside.{HasOwner, owner_of, stand_beside}
-use Rattle.law_reports.proofs.lemmas.requests.Leaving.{open_quiet, same_endpoint, RowLeaves, LinesLeave, gone_by, was_met, each_still, world_left}
+use Rattle.law_reports.proofs.lemmas.requests.Leaving.{open_quiet, same_endpoint, RowLeaves, LinesLeave, was_met, each_still, world_left}
 use Rattle.law_reports.proofs.lemmas.requests.Missed.{writing_misses_none}
 use Rattle.drv_table.specs.Words.{queue_head, dummy_qtd}
 
@@ -83,7 +85,7 @@ module _ (g : Sides) (fixed : Fixed) (takes : ℕ → ℕ → Bool) (member : �
   beside : (n : ℕ) → have_queues a.courses n ≡ true → n ≢ 32 * ready.endpoint.queue
   beside n has same =
       let o : HasOwner w a n = owner_of g fixed member x s a v asks w k.feeding z n has in
-      o.control.met.there.linked (ready.command ∙ ap (λ (b : ℕ). Some (unfinished.Open b)) (sym (thirty_two o.endpoint.queue ready.endpoint.queue (sym o.at ∙ same))))
+      o.control.met.there.linked (ready.command ∙ ap (λ (b : ℕ). Some (unfinished.Open b)) (sym (same_blocks o.endpoint.queue ready.endpoint.queue (sym o.at ∙ same))))
 
   part_same : (n : ℕ) → have_queues a.courses n ≡ true → now n ≡ s.parts n
   part_same n has = stay (driver_parts w) ready owners s.parts k.feeding.working.driven n (beside n has)
@@ -103,7 +105,8 @@ module _ (g : Sides) (fixed : Fixed) (takes : ℕ → ℕ → Bool) (member : �
 
   recorded : AreRecords new asks a.courses a.numbers (has_left new) v
   recorded =
-      gone_by new asks a.courses a.numbers (has_left w.driver) (has_left new) v (λ e on. sym (same_of (λ (c : DriverContent). has_left c e ≡ has_left w.driver e) refl) ∙ on)
+      regone new asks a.courses a.numbers (has_left w.driver) (has_left new) v
+      (λ e on. sym (same_of (λ (c : DriverContent). has_left c e ≡ has_left w.driver e) refl) ∙ on)
       (row_keeps_records (driver_parts w) (driver_row (driver_parts w)) asks a.courses a.numbers (has_left w.driver) v
       (λ j has. subst (λ (r : DriverRow). KeepsEndpoint r (a.numbers j).endpoint) (sym row_is) tt)
       (λ j i has few given. let never : ◌≡◌ {A = Option ℕ} None (Some ((a.numbers j).number i)) = ap given_by (sym row_is) ∙ given in cc) z.records)

@@ -4,9 +4,10 @@ use Rattle.std.proofs.Common.{◌≡◌, ◌≢◌, ◌⊎◌, ℕ, suc, ◌+◌
 use Rattle.std.proofs.lemmas.Bool.{cases_eq, eq-eqb, false≢true, true≢false}
 use Rattle.std.proofs.lemmas.Option.{same_Some}
 use Rattle.std.proofs.lemmas.List.Sums.{sum_by-cons}
+use Rattle.law_common.proofs.Booleans.{and_none, refused_by}
+use Rattle.law_world.proofs.Common.{control_kind}
+use Rattle.law_common.proofs.Numbers.{other_number, same_blocks}
 use Rattle.usb_base.specs.declared.endpoints.EpName.{EpName}
-use Rattle.usb_base.specs.declared.packets.EpKind.{EpKind}
-use Rattle.usb_base.specs.declared.packets.EpKind.TheVariants as kinds
 use Rattle.usb_base.specs.declared.packets.Reply.{Reply}
 use Rattle.usb_base.specs.declared.reports.Report.{Report}
 use Rattle.bus_wire.specs.Bus.{Fixed, Wired}
@@ -26,8 +27,7 @@ use Rattle.law_driver.proofs.lemmas.chained_transfers.Staying.{linked_stands_ali
 use Rattle.law_driver_ring.specs.fed_queues.Places.{IsMet}
 use Rattle.law_structures.specs.lent_structures.Structures.{Structures, StructureSets, QueueHead, Element, with_structure}
 use Rattle.law_structures.specs.lent_structures.Sound.{IsMember}
-use Rattle.law_structures.proofs.lemmas.lent_structures.Names.{not_same, put_beside, with_here}
-use Rattle.law_queues.proofs.lemmas.publish_laws.Apart.{thirty_two}
+use Rattle.law_structures.proofs.lemmas.lent_structures.Names.{put_beside, with_here}
 use Rattle.report_text.specs.ReportText.{AreStored}
 use Rattle.law_queues.specs.told_endpoints.Telling.{lines_in}
 use Rattle.law_reports.specs.requests.told_requests.Told.{left_after, has_cancel}
@@ -80,13 +80,13 @@ use Rattle.law_reports.proofs.lemmas.requests.Missed.{writing_misses_none, linke
 no_numbers : (e n : ℕ) (ts : List Transfer) → ((t : ℕ) (y : Transfer) → slice_get ts t ≡ Some y → y.endpoint ≢ e) → numbers_from e n ts ≡ []
 no_numbers e n [] none = refl
 no_numbers e n (y ∷ ys) none =
-    ap (λ (b : Bool). if b then n ∷ numbers_from e (suc n) ys else numbers_from e (suc n) ys) (not_same y.endpoint e (none 0 y refl)) ∙ no_numbers e (suc n) ys (λ t z there. none (suc t) z there)
+    ap (λ (b : Bool). if b then n ∷ numbers_from e (suc n) ys else numbers_from e (suc n) ys) (other_number y.endpoint e (none 0 y refl)) ∙ no_numbers e (suc n) ys (λ t z there. none (suc t) z there)
 
 no_waiting : (e : ℕ) (ts : List Transfer) → ((t : ℕ) (y : Transfer) → slice_get ts t ≡ Some y → y.endpoint ≢ e) → count_by (waits_for e) ts ≡ 0
 no_waiting e [] none = refl
 no_waiting e (y ∷ ys) none =
     let first : count_by (waits_for e) (y ∷ ys) ≡ 0 + count_by (waits_for e) ys =
-    sum_by-cons (λ z. cond (waits_for e z) 1 0) y ys ∙ ap (λ (b : Bool). cond (b && not y.reported) 1 0 + count_by (waits_for e) ys) (not_same y.endpoint e (none 0 y refl)) in
+    sum_by-cons (λ z. cond (waits_for e z) 1 0) y ys ∙ ap (λ (b : Bool). cond (b && not y.reported) 1 0 + count_by (waits_for e) ys) (other_number y.endpoint e (none 0 y refl)) in
     let later = no_waiting e ys (λ t z there. none (suc t) z there) in
     omega (arith, first, later)
 
@@ -111,25 +111,12 @@ no_queue _ off = absurd (true≢false off)
 -- nothing of it is in hand
 no_side : (member : ℕ → Bool) (parts : StructureSets) (reply : Reply) (k n : ℕ) (l : LinkBits) (q : Qh) (hand : Hand) → member n ≡ false → IsInHand member parts reply hand → hand_side (hand_linked k l hand) n q ≡ host_in q
 no_side member parts reply k n l q (Settled c z) off i =
-    ap (λ (b : Bool). if b then z.host else host_in q) (not_same c.at n (λ same. false≢true (sym off ∙ ap member (sym same) ∙ i.0.on)))
+    ap (λ (b : Bool). if b then z.host else host_in q) (other_number c.at n (λ same. false≢true (sym off ∙ ap member (sym same) ∙ i.0.on)))
 no_side member parts reply k n l q _ off i = refl
 
 not_with : (b c : Bool) → b ≡ false → (b || c) ≡ true → c ≡ true
 not_with false c off on = on
 not_with true c off on = absurd (true≢false off)
-
-gone_off : (b c : Bool) → c ≡ true → (b && not c) ≡ false
-gone_off true true on = refl
-gone_off false true on = refl
-gone_off b false on = absurd (false≢true on)
-
-off_by : (b c : Bool) → b ≡ false → (b && c) ≡ false
-off_by false c off = refl
-off_by true c off = absurd (true≢false off)
-
-of_kind : (kind : EpKind) → is_control kind ≡ true → kind ≡ kinds.Control
-of_kind kinds.Control on = refl
-of_kind _ on = absurd (false≢true on)
 
 module _ (g : Sides) (fixed : Fixed) (takes : ℕ → ℕ → Bool) (member : ℕ → Bool) (x : Streams) (s : Standing) (a : Asking) (v : Windows) (asks : ℕ → Request) (w : World) (lent : IsOpenLent w.driver member s.parts) (head : IsHeadOfNone x) (k : IsWhole fixed takes member x s w) (z : IsAskingWorld g fixed member s a v asks w) where
   abbrev e : Endpoint
@@ -198,9 +185,11 @@ module _ (g : Sides) (fixed : Fixed) (takes : ℕ → ℕ → Bool) (member : �
   not_opening i y there other = by y.gone refl
     where
       by : (b : Bool) → y.gone ≡ b → is_opening w.driver y ≡ false
-      by true gone = gone_off (opens w.driver.command y.queue) y.gone gone
+      by true gone = refused_by (opens w.driver.command y.queue) y.gone gone
       by false kept =
-          off_by (opens w.driver.command y.queue) (not y.gone) (ap (λ (c : Option Command). opens c y.queue) lent.command ∙ not_same lent.endpoint.queue y.queue (queue_differs i y there kept other))
+          and_none (opens w.driver.command y.queue) (not y.gone)
+          (ap (λ (c : Option Command). opens c y.queue) lent.command
+          ∙ other_number lent.endpoint.queue y.queue (queue_differs i y there kept other))
 
   -- ---- the queues
 
@@ -245,7 +234,7 @@ module _ (g : Sides) (fixed : Fixed) (takes : ℕ → ℕ → Bool) (member : �
       (λ i on.
       ⊎_elim {C = (member i ≡ true) ⊎ IsElsewhere (have_queues a.courses) (queues a.courses) later.parts i}
       (λ (same : i ≡ n). inr (subst (IsElsewhere (have_queues a.courses) (queues a.courses) later.parts) (sym same) elsewhere))
-      (λ (other : i ≢ n). inl (not_with (i == n) (member i) (not_same i n other) on)) (cases_eq i n)) stand_linked
+      (λ (other : i ≢ n). inl (not_with (i == n) (member i) (other_number i n other) on)) (cases_eq i n)) stand_linked
 
   recorded : AreRecords new asks a.courses a.numbers (has_left new) v
   recorded = accepted_keeps_records w.driver new asks a.courses a.numbers (has_left w.driver) v (same_requests w.driver w.driver.book 0 None) refl z.records
@@ -323,7 +312,7 @@ module _ (g : Sides) (fixed : Fixed) (takes : ℕ → ℕ → Bool) (member : �
       (own : is_control lent.endpoint.desc.kind ≡ true → HasCourse g new lent.number lent.endpoint (now.courses n) (now.numbers n))
       (empty : is_control lent.endpoint.desc.kind ≡ true → ((now.numbers n).closed ≡ []) × ((now.numbers n).requests.count ≡ 0)) where
     beside : (i : ℕ) (y : Endpoint) → slice_get w.driver.endpoints i ≡ Some y → y.gone ≡ false → i ≢ lent.number → 32 * y.queue ≢ n
-    beside i y there kept other same = queue_differs i y there kept other (sym (thirty_two y.queue lent.endpoint.queue same))
+    beside i y there kept other same = queue_differs i y there kept other (sym (same_blocks y.queue lent.endpoint.queue same))
 
     -- of the new one, and of another one
     by_one : (P : ℕ → Endpoint → Type 0) → (i : ℕ) (y : Endpoint) → slice_get w.driver.endpoints i ≡ Some y → (i ≡ lent.number → P lent.number lent.endpoint) → (i ≢ lent.number → P i y) → P i y
@@ -451,7 +440,7 @@ module _ (g : Sides) (fixed : Fixed) (takes : ℕ → ℕ → Bool) (member : �
     -- no other queue head is one of its endpoint
     other_head : (i : ℕ) (its : Characteristics) → i ≢ n → wider i ≡ true → HasEndpoint later.parts i its → (g.endpoint lent.endpoint.desc).addr ≡ its.addr → (g.endpoint lent.endpoint.desc).num ≡ its.ep → ⊥
     other_head i its other met has address num =
-        let was : member i ≡ true = not_with (i == n) (member i) (not_same i n other) met in
+        let was : member i ≡ true = not_with (i == n) (member i) (other_number i n other) met in
         let h : HasEndpoint s.parts i (x.endpoint i) = named_by fixed takes member x s w k head i was in
         let o = spares_head s.parts head_at ring.queue link ring.here i h.queue h.head in
         let same : its ≡ x.endpoint i = one_endpoint later.parts i its (x.endpoint i) has (record { queue = o.queue; head = o.here; is = h.is ∙ sym o.overlay.endpoint }) in
@@ -480,7 +469,7 @@ module _ (g : Sides) (fixed : Fixed) (takes : ℕ → ℕ → Bool) (member : �
           endpoint = record {
             own = lent.endpoint;
             here = lent.here;
-            control = of_kind lent.endpoint.desc.kind on;
+            control = control_kind lent.endpoint.desc.kind on;
             queue = refl;
             held = alive;
             address = sym given.address;
@@ -512,7 +501,7 @@ module _ (g : Sides) (fixed : Fixed) (takes : ℕ → ℕ → Bool) (member : �
     control_world =
         more_world now (course_begins control_of wider a.courses later.parts later.hand wire n b queue given.stages is_new stand_wider)
         (course_is_recorded new asks a.courses a.numbers (has_left new) v n course number record_new recorded) (course_beside a.courses n course)
-        (λ i other. ap (λ (t : Bool). if t then number else a.numbers i) (not_same i n other))
+        (λ i other. ap (λ (t : Bool). if t then number else a.numbers i) (other_number i n other))
         (λ control. subst (λ (h : Numbers). HasCourse g new lent.number lent.endpoint (now.courses n) h) (sym number_is) (subst (λ (c : Course). HasCourse g new lent.number lent.endpoint c number) (sym course_is) course_new))
         (λ control. (ap (λ (h : Numbers). h.closed) number_is, ap (λ (h : Numbers). h.requests.count) number_is))
 
@@ -526,7 +515,7 @@ module _ (g : Sides) (fixed : Fixed) (takes : ℕ → ℕ → Bool) (member : �
           asking_of g fixed takes wider (more fixed member x s w lent k.feeding) later now v asks (driver_next w) (linked_whole fixed takes member x s w lent k)
           (subst (λ (c : DriverContent). IsAskingWorld g fixed wider later now v asks (with_parts w (record { driver = c; registers = (driver_next w).registers; memory = (driver_next w).memory })))
           (sym (driver_is (driver_parts w) member x.streams x.endpoint s.parts s.order s.out (at_open fixed member x s w lent k.feeding))) there)
-          (ap (λ (t : Bool). if t then end_then lent.endpoint else x.endpoint head_at) (not_same head_at n (λ same. apart (sym same))) ∙ head)
+          (ap (λ (t : Bool). if t then end_then lent.endpoint else x.endpoint head_at) (other_number head_at n (λ same. apart (sym same))) ∙ head)
 
       by : (t : Bool) → is_control lent.endpoint.desc.kind ≡ t → HasAskingWorld g fixed takes x.stream x.packets v asks (driver_next w)
       by false off = world_of a (bulk_world off)

@@ -2,6 +2,11 @@
 use Rattle.std.proofs.Common.{◌≡◌, ◌≢◌, ℕ, suc, ◌-◌, ◌*◌, ◌==◌, ◌&&◌, ◌||◌, not, Bool, true, false, List, [], ◌∷◌, length, drop, get_or, slice_get, if◌then◌else◌, Option, Some, None, Result, Ok, option_map, ap, refl, sym, subst, ◌∙◌, ⊎_elim, arith}
 use Rattle.std.specs.Prelude.{◌⊎◌}
 use Rattle.std.proofs.lemmas.Bool.{false≢true, and_parts, eqb-true}
+use Rattle.law_queues.proofs.Common.{none_open}
+use Rattle.law_common.proofs.Booleans.{not_on}
+use Rattle.law_common.proofs.Lists.{drop_first, push_which, still_there}
+use Rattle.law_reports.proofs.Common.{regone}
+use Rattle.law_world.proofs.Common2.{opens_is}
 use Rattle.usb_base.specs.declared.commands.Cmd.TheVariants as commands
 use Rattle.usb_base.specs.declared.endpoints.EpDesc.{EpDesc}
 use Rattle.usb_base.specs.declared.reports.OfferError.{OfferError}
@@ -19,13 +24,11 @@ use Rattle.drv_table.specs.Words.{is_control}
 use Rattle.claims_driver.specs.Owners.{QueueHead, runs_of_endpoint}
 use Rattle.law_driver.proofs.lemmas.run_owners.Runs.{placed_run}
 use Rattle.law_driver.proofs.lemmas.run_owners.Taking.{runs_taken}
-use Rattle.law_driver.proofs.lemmas.run_owners.Accepted.{drop_first, fresh_differs}
+use Rattle.law_driver.proofs.lemmas.run_owners.Accepted.{fresh_differs}
 use Rattle.law_driver.specs.chained_transfers.Asynchronous.{IsOpenedAsynchronous}
 use Rattle.law_driver.proofs.lemmas.chained_transfers.Accepting.{asynchronous_command_is_accepted}
 use Rattle.law_driver.proofs.lemmas.chained_transfers.BulkAndControl.{not_iso}
 use Rattle.law_queues.proofs.lemmas.commanded_queues.Which.{opens_its_own}
-use Rattle.law_queues.proofs.lemmas.fed_lends.Asked.{push_which}
-use Rattle.law_world.proofs.lemmas.streams.lemmas.put_laws.Mapped.{push_there}
 use Rattle.law_structures.specs.lent_structures.Structures.{StructureSets}
 use Rattle.claims_report.specs.Requests.{Request}
 use Rattle.law_ring.specs.Hand.{Hand}
@@ -41,17 +44,8 @@ use Rattle.law_world.proofs.lemmas.streams.Commanding.{whole_commanded}
 use Rattle.law_reports.specs.requests.Asking.{Sides, IsGiven, Asking, left_with, has_left, is_publishing, IsMetControl, IsAskingWorld}
 use Rattle.law_reports.specs.requests.Commanding.{OpenKeepsAsking}
 use Rattle.law_reports.specs.requests.Given.{GivesOpened}
-use Rattle.law_reports.proofs.lemmas.requests.Commanding.{regone}
 use Rattle.law_reports.proofs.lemmas.requests.Has.{asking_of}
 use Rattle.law_reports.proofs.lemmas.requests.Inside.{AsksIn, inside, outside}
-use Rattle.law_reports.proofs.lemmas.requests.Names.{opens_is}
-
-none_open : (c : ℕ) → ◌≡◌ {A = Option Command} None (Some (unfinished.Open c)) → ⊥
-none_open c same = cc
-
-not_true : (b : Bool) → not b ≡ true → b ≡ false
-not_true true is = absurd (false≢true is)
-not_true false is = refl
 
 module _ (sides : Sides) (member : ℕ → Bool) (parts : StructureSets) (hand : Hand) (a : Asking) (v : Windows) (asks : ℕ → Request) (d : DriverContent) (m : Mem) (wire : Wired) (world : AsksIn sides member parts hand a v asks d m wire)
     (idle : d.command ≡ None) (desc : EpDesc) (h : Holding) (queue dummy : ℕ) (apart : (i : ℕ) (z : Endpoint) → slice_get d.endpoints i ≡ Some z → z.gone ≡ false → queue ≢ z.queue)
@@ -80,11 +74,11 @@ module _ (sides : Sides) (member : ℕ → Bool) (parts : StructureSets) (hand :
   not_opening : (i : ℕ) (z : Endpoint) → slice_get d.endpoints i ≡ Some z → is_opening (accepted_open d desc h queue dummy).driver z ≡ true → ⊥
   not_opening i z there on =
       let both = and_parts (queue == z.queue) (not z.gone) on in
-      apart i z there (not_true z.gone both.1) (eqb-true queue z.queue both.0)
+      apart i z there (not_on z.gone both.1) (eqb-true queue z.queue both.0)
 
   keeps : (i : ℕ) → KeepsRequests None d (accepted_open d desc h queue dummy).driver i
   keeps i = record {
-    endpoint = λ u at. record { own = u; here = push_there d.endpoints (new ∷ []) i u at; desc = refl; queue = refl; gone = refl };
+    endpoint = λ u at. record { own = u; here = still_there d.endpoints (new ∷ []) i u at; desc = refl; queue = refl; gone = refl };
     transfers = λ t y there of. record { own = y; here = there; endpoint = refl; sort = refl; first = refl; qtds = refl; held = λ other. refl };
     notes = λ t b y there of held piece. refl;
   }
@@ -133,8 +127,8 @@ module _ (sides : Sides) (member : ℕ → Bool) (parts : StructureSets) (hand :
         absurd (false≢true (sym off ∙ ap (λ (z : Endpoint). is_opening more z) own.1 ∙ ap (λ (b : Bool). b && true) (opens_is (Some (unfinished.Open queue)) queue refl)))) (which i u is.here) in
         let f = world.counts i u (record { here = was; control = is.control }) (ap (λ (z : Option Command). opens z u.queue && not u.gone) idle) in
         record { device = f.device; is = f.is; acted = f.acted };
-    unopened = λ addr num c least none first. world.unopened addr num c least (λ i z there one two. absurd (not_opening i z there (none i z (push_there d.endpoints (new ∷ []) i z there) one two))) first;
-    untold = λ name unheard. world.untold name (λ i z there named. absurd (not_opening i z there (unheard i z (push_there d.endpoints (new ∷ []) i z there) named)));
+    unopened = λ addr num c least none first. world.unopened addr num c least (λ i z there one two. absurd (not_opening i z there (none i z (still_there d.endpoints (new ∷ []) i z there) one two))) first;
+    untold = λ name unheard. world.untold name (λ i z there named. absurd (not_opening i z there (unheard i z (still_there d.endpoints (new ∷ []) i z there) named)));
     unmissed = record { structures = world.unmissed.structures; in_hand = world.unmissed.in_hand; first = tt };
   }
 

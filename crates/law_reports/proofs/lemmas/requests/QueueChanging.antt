@@ -2,8 +2,8 @@
 use Rattle.std.proofs.Common.{◌≡◌, ◌≢◌, ℕ, Bool, true, false, if◌then◌else◌, Option, ap, refl, sym, subst, ◌∙◌, ⊎_elim}
 use Rattle.std.specs.Prelude.{◌⊎◌}
 use Rattle.std.proofs.lemmas.Bool.{cases_eq, eq-eqb, false≢true}
+use Rattle.law_common.proofs.Numbers.{other_number}
 use Rattle.law_structures.specs.lent_structures.Structures.{StructureSets}
-use Rattle.law_structures.proofs.lemmas.lent_structures.Names.{not_same}
 use Rattle.law_request.specs.Host.{Endpoint}
 use Rattle.claims_report.specs.ControlSides.{Device}
 use Rattle.law_ring.specs.Hand.{Hand}
@@ -48,7 +48,7 @@ module _ (courses : ℕ → Course) (n : ℕ) (c : Course) where
   with_here k at = ap (λ (b : Bool). if b then c else courses k) (eq-eqb k n at)
 
   pub with_beside : (k : ℕ) → k ≢ n → with_course courses n c k ≡ courses k
-  with_beside k differs = ap (λ (b : Bool). if b then c else courses k) (not_same k n differs)
+  with_beside k differs = ap (λ (b : Bool). if b then c else courses k) (other_number k n differs)
 
   pub each_with : (P : ℕ → Course → Type 0) → P n c → ((k : ℕ) → k ≢ n → P k (courses k)) → (k : ℕ) → P k (with_course courses n c k)
   each_with P mine others k =

@@ -1,6 +1,7 @@
 -- Each event of the controller keeps the queues of control endpoints.
-use Rattle.std.proofs.Common.{◌≡◌, ◌≢◌, ℕ, Bool, true, false, List, [], Option, Some, None, ap, refl, sym, subst, ◌∙◌}
+use Rattle.std.proofs.Common.{◌≡◌, ◌≢◌, ℕ, Bool, true, false, List, [], Option, Some, ap, refl, sym, subst, ◌∙◌}
 use Rattle.std.proofs.lemmas.Bool.{false≢true}
+use Rattle.law_reports.proofs.Common.{queue_still, has_still, stepped_is}
 use Rattle.usb_base.specs.declared.packets.Ask.{Ask}
 use Rattle.usb_base.specs.declared.packets.Reply.{Reply}
 use Rattle.qh_qtd.specs.declared.queue_head.Qh.{Qh}
@@ -23,7 +24,7 @@ use Rattle.law_ring.specs.Told.{Told, hand_bytes, HasEndpoint, endpoint_of, Endp
 use Rattle.law_ring.proofs.Ordering.{not_worked, works_by}
 use Rattle.law_controller.specs.controlled_streams.Control.{IsControlled, ControlEffect, a_microframe, a_step}
 use Rattle.law_devices.specs.ring_requests.Shown.{AreFresh}
-use Rattle.law_devices.specs.ring_requests.Windows.{Queue, sent_at, Lines, IsQueue, IsBehind, IsElsewhere, Step, stepped}
+use Rattle.law_devices.specs.ring_requests.Windows.{Queue, sent_at, Lines, IsQueue, IsBehind, IsElsewhere}
 use Rattle.law_devices.specs.ring_requests.Resting.{IsOtherEndpoint, IsAlone}
 use Rattle.law_devices.specs.control_requests.Rests.{ControlRestStays}
 use Rattle.law_devices.proofs.lemmas.control_requests.Keeping.{Rest, rest_of}
@@ -31,20 +32,6 @@ use Rattle.law_devices.proofs.lemmas.control_requests.Resting.{an_event_leaves_a
 use Rattle.law_reports.specs.requests.Courses.{Course, NoQueue, Asks, Rests, has_queue, is_asking, queue_in, lines_in, IsAsking, IsResting, IsCourse, queues, have_queues, are_asking, all_lines, CoursesStand}
 use Rattle.law_reports.specs.requests.QueueEvents.{line_after, course_after, courses_after, CoursesGoOn, EventKeepsCourses, EventLeavesDevice}
 use Rattle.law_reports.proofs.lemmas.requests.Courses.{sent_are, windows_are, queue_alone}
-
--- ---- steps
-
-stepped_is : (sent : ℕ → Queue) (lines : ℕ → Lines) (n : ℕ) (step : Option Step) → stepped sent step lines n ≡ line_after step n (sent n) (lines n)
-stepped_is sent lines n None = refl
-stepped_is sent lines n (Some s) = refl
-
-has_after : (step : Option Step) (n : ℕ) (c : Course) → has_queue (course_after step n c) ≡ has_queue c
-has_after step n NoQueue = refl
-has_after step n _ = refl
-
-queue_after : (step : Option Step) (n : ℕ) (c : Course) → queue_in (course_after step n c) ≡ queue_in c
-queue_after step n NoQueue = refl
-queue_after step n _ = refl
 
 -- ---- a queue head that isn't active, whatever is in hand
 
@@ -144,8 +131,8 @@ module _ {W : Type 0} (begins : W → ℕ → Bool → W → Type 0) (transacts 
         own = w.own;
         has = w.has;
         other = λ k on addr num.
-            other_by n met off w.own w.has.queue w.has.head w.has.is w.other k (courses k) refl (sym (has_after asked.step k (courses k)) ∙ on)
-            (ap (λ (x : Queue). x.endpoint.addr) (sym (queue_after asked.step k (courses k))) ∙ addr) (ap (λ (x : Queue). x.endpoint.num) (sym (queue_after asked.step k (courses k))) ∙ num);
+            other_by n met off w.own w.has.queue w.has.head w.has.is w.other k (courses k) refl (sym (has_still asked.step k (courses k)) ∙ on)
+            (ap (λ (x : Queue). x.endpoint.addr) (sym (queue_still asked.step k (courses k))) ∙ addr) (ap (λ (x : Queue). x.endpoint.num) (sym (queue_still asked.step k (courses k))) ∙ num);
       }
     where
       not_asking : (c : Course) → has_queue c ≡ false → is_asking c ≡ false
@@ -158,12 +145,12 @@ module _ {W : Type 0} (begins : W → ℕ → Bool → W → Type 0) (transacts 
     step = asked.step;
     stand = record {
       each = λ n. after_by n (courses n) refl;
-      members = λ n on. stand.members n (sym (has_after asked.step n (courses n)) ∙ on);
+      members = λ n on. stand.members n (sym (has_still asked.step n (courses n)) ∙ on);
       apart = λ n k on one addr num.
-          stand.apart n k (sym (has_after asked.step n (courses n)) ∙ on) (sym (has_after asked.step k (courses k)) ∙ one)
-          (ap (λ (x : Queue). x.endpoint.addr) (sym (queue_after asked.step n (courses n))) ∙ addr ∙ ap (λ (x : Queue). x.endpoint.addr) (queue_after asked.step k (courses k)))
-          (ap (λ (x : Queue). x.endpoint.num) (sym (queue_after asked.step n (courses n))) ∙ num ∙ ap (λ (x : Queue). x.endpoint.num) (queue_after asked.step k (courses k)));
-      others = λ n met off. others_after n met (sym (has_after asked.step n (courses n)) ∙ off);
+          stand.apart n k (sym (has_still asked.step n (courses n)) ∙ on) (sym (has_still asked.step k (courses k)) ∙ one)
+          (ap (λ (x : Queue). x.endpoint.addr) (sym (queue_still asked.step n (courses n))) ∙ addr ∙ ap (λ (x : Queue). x.endpoint.addr) (queue_still asked.step k (courses k)))
+          (ap (λ (x : Queue). x.endpoint.num) (sym (queue_still asked.step n (courses n))) ∙ num ∙ ap (λ (x : Queue). x.endpoint.num) (queue_still asked.step k (courses k)));
+      others = λ n met off. others_after n met (sym (has_still asked.step n (courses n)) ∙ off);
     };
     windows = asked.windows_are;
     is = asked.is;

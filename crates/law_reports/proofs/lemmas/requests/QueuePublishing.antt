@@ -1,6 +1,7 @@
 -- A request is published at the end of a queue: behind those that are asked, as the first one, or behind those that wait until the queue head is mended.
 use Rattle.std.proofs.Common.{◌≡◌, ◌≢◌, ℕ, suc, ◌-◌, ◌<◌, Bool, true, false, if◌then◌else◌, List, [], length, take, Option, Some, ap, refl, sym, subst, ◌∙◌, ⊎_elim, arith}
 use Rattle.std.proofs.lemmas.Bool.{cases_eq, eq-eqb, false≢true}
+use Rattle.law_controller.proofs.Common.{same_hand}
 use Rattle.qh_qtd.specs.declared.qtd.Qtd.{Qtd}
 use Rattle.qh_qtd.specs.declared.queue_head.Qh.{Qh}
 use Rattle.law_structures.specs.lent_structures.Structures.{QueueHead, Element, Structures, StructureSets, put}
@@ -27,7 +28,7 @@ use Rattle.law_reports.specs.requests.QueueChanges.{IsPublishedAt, AskedStore, R
 use Rattle.law_reports.proofs.lemmas.requests.Courses.{sent_are, windows_are}
 use Rattle.law_reports.proofs.lemmas.requests.QueueChanging.{one_changes}
 use Rattle.law_reports.proofs.lemmas.requests.Keeping.{behind_idle}
-use Rattle.law_reports.proofs.lemmas.requests.Writing.{tail_of, same_kept, same_side, same_hand, endpoints_still, store_head, store_qtds}
+use Rattle.law_reports.proofs.lemmas.requests.Writing.{tail_of, same_kept, same_side, endpoints_still, store_head, store_qtds}
 
 -- ---- the requests with it
 

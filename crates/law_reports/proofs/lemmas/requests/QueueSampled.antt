@@ -1,7 +1,7 @@
 -- The worked queue.
 use Rattle.std.proofs.Common.{◌≡◌, ◌≢◌, ℕ, ◌==◌, true, false, refl, ap, sym, ◌∙◌, arith}
 use Rattle.std.proofs.lemmas.Bool.{eqb-true, false≢true}
-use Rattle.law_structures.proofs.lemmas.lent_structures.Names.{not_same}
+use Rattle.law_common.proofs.Numbers.{other_number}
 use Rattle.dev_control.specs.Stages.{opened}
 use Rattle.law_request.specs.Samples.{get_device}
 use Rattle.law_request.specs.Windows.{IsRequest}
@@ -22,7 +22,7 @@ abbrev none : ℕ → Course
 none n = NoQueue
 
 one_is : (n : ℕ) → (n == 32) ≡ true → n ≢ 32 → ⊥
-one_is n on differs = false≢true (sym (not_same n 32 differs) ∙ on)
+one_is n on differs = false≢true (sym (other_number n 32 differs) ∙ on)
 
 -- before the endpoint is told of
 elsewhere : (n : ℕ) → (n == 32) ≡ true → IsElsewhere (have_queues none) (queues none) waiting_parts n

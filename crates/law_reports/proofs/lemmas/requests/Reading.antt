@@ -4,6 +4,9 @@ use Rattle.std.specs.Prelude.{nat_le, not, ◌==◌}
 use Rattle.std.proofs.lemmas.Bool.{cases_eq, leb-false, eqb-true, false≢true}
 use Rattle.std.proofs.lemmas.List.{append-nil, nil_from_length}
 use Rattle.std.proofs.lemmas.Option.{same_Some}
+use Rattle.law_reports.proofs.Common.{first_unmoved}
+use Rattle.law_request.proofs.Common.{nothing_sent}
+use Rattle.law_driver_ring.proofs.Common.{one_told, moved_is}
 use Rattle.claims_base.specs.Prefix.{IsPrefix}
 use Rattle.word_mem.specs.Memory.{Mem}
 use Rattle.qh_qtd.specs.declared.token.Token.{Token}
@@ -38,8 +41,7 @@ use Rattle.law_devices.specs.ring_requests.Windows.{Queue, Lines, sent_at, IsWin
 use Rattle.law_reports.specs.requests.request_bytes.Fresh.{next_of}
 use Rattle.law_reports.proofs.lemmas.requests.lemmas.driver_requests.Owning.{qtds_case, places_with_data}
 use Rattle.law_driver_ring.specs.told_harvests.Held.{IsDone, AreHeld, none_held, one_held, AreUnmoved, told_of, IsRead, NotesMoved}
-use Rattle.law_driver_ring.proofs.lemmas.told_harvests.Holding.{one_told}
-use Rattle.law_driver_ring.proofs.lemmas.told_harvests.Noting.{moved_is, found_is_done, found_is_noted}
+use Rattle.law_driver_ring.proofs.lemmas.told_harvests.Noting.{found_is_done, found_is_noted}
 use Rattle.law_driver_ring.proofs.lemmas.told_harvests.Reading.{report_read}
 use Rattle.law_reports.specs.requests.told_requests.Rows.{bytes_with}
 use Rattle.law_queues.proofs.lemmas.harvest_laws.Places.{unmoved_noted, told_noted, read_noted}
@@ -99,10 +101,6 @@ first_none : (notes : List QtdNote) (m : Mem) (b i : ℕ) → (note_at notes b).
 first_none notes m b i none =
     one_more notes m b i ∙ ap (λ (k : ℕ). buffer_bytes m (note_at notes b) k ++ moved_bytes notes m (note_at notes b).next i) none
     ∙ ap (λ (zs : List ℕ). zs ++ moved_bytes notes m (note_at notes b).next i) (no_bytes m (note_at notes b))
-
-first_unmoved : (note : ℕ → QtdNote) (b i : ℕ) → 1 ≤ i → AreUnmoved note b i → (note b).moved ≡ 0
-first_unmoved note b zero some k = absurd (omega (arith, some))
-first_unmoved note b (suc i) some k = k.0
 
 later_unmoved : (note : ℕ → QtdNote) (b i : ℕ) → AreUnmoved note b i → AreUnmoved note (note b).next (i - 1)
 later_unmoved note b zero k = tt
@@ -365,10 +363,6 @@ moved_is_read member p e t n due parts hand r x k =
     is_read_on member p e t n (founds.Moved n) due parts hand r x refl k (let more = leb-false y.left 1 last in omega (arith, more))
 
 -- ---- of which request they are
-
-nothing_sent : (r : Request) (o : Option (List ℕ)) → wanted_of r.setup ≡ 0 → read_with r.setup o ≡ []
-nothing_sent r None none = refl
-nothing_sent r (Some reply) none = ap (λ (i : ℕ). take i reply) none
 
 -- a request with a wLength of 0 has no data
 nothing : (e : Endpoint) (r : Request) → IsRequest r → has_data r ≡ false → data_of e r ≡ []

@@ -1,9 +1,11 @@
 -- A command that is refused leaves the requests of a world as they must stand: its line tells of no transfer.
-use Rattle.std.proofs.Common.{◌≡◌, ℕ, ◌<◌, ◌*◌, ◌&&◌, not, Bool, true, false, List, [], ◌∷◌, ◌++◌, length, map, slice_get, Option, Some, None, Result, option_map, ap, refl, sym, subst, ◌∙◌, inl, inr}
+use Rattle.std.proofs.Common.{◌≡◌, ℕ, ◌<◌, ◌*◌, Bool, true, List, [], ◌∷◌, ◌++◌, length, map, slice_get, Option, Some, None, Result, option_map, ap, refl, sym, subst, ◌∙◌, inl, inr}
 use Rattle.std.specs.Prelude.{◌⊎◌, ◌≤◌}
 use Rattle.std.specs.List.{AllByRecursion}
-use Rattle.std.proofs.lemmas.Bool.{cases_lt, false≢true}
+use Rattle.std.proofs.lemmas.Bool.{cases_lt}
 use Rattle.std.proofs.lemmas.Option.{slice_get_past}
+use Rattle.law_common.proofs.Booleans.{refused_by}
+use Rattle.law_reports.proofs.Common.{asked_before}
 use Rattle.usb_base.specs.declared.endpoints.EpName.{EpName}
 use Rattle.usb_base.specs.declared.reports.OfferError.{OfferError}
 use Rattle.usb_base.specs.declared.reports.What.TheVariants.{Refused}
@@ -23,7 +25,6 @@ use Rattle.law_queues.proofs.lemmas.told_endpoints.Lines.{line_of_other}
 use Rattle.law_reports.specs.requests.told_requests.Told.{has_cancel, AreToldTo}
 use Rattle.law_reports.proofs.lemmas.requests.lemmas.told_requests.Driver.{refusal_stays}
 use Rattle.law_reports.specs.requests.driver_requests.Rows.{KeepsRequests}
-use Rattle.law_reports.proofs.lemmas.requests.lemmas.driver_requests.Ordering.{asked_before}
 use Rattle.bus_world.specs.World.{World, name_in, refused_line, commanded_by}
 use Rattle.law_world.specs.steps.Streaming.{Standing}
 use Rattle.claims_world.specs.Requests.{Windows, endpoint_of as transfers_endpoint, numbers_of, window_at, asks_then}
@@ -85,14 +86,9 @@ module _ (d : DriverContent) (asks now : ℕ → Request) (v : Windows) (same : 
 
 -- ---- the line
 
-no_line : (a b : Bool) → b ≡ true → (a && not b) ≡ false
-no_line true true is = refl
-no_line false true is = refl
-no_line a false is = absurd (false≢true is)
-
 lines_same : (d : DriverContent) (n : ℕ) (other name : EpName) (why : OfferError) → lines_in name (refused_line d n other why).reports ≡ lines_in name d.reports
 lines_same d n other name why =
-    line_of_other name d.reports (record { name = other; what = Refused n why; from = length d.store; len = 0 }) (no_line (is_same_name other name) true refl)
+    line_of_other name d.reports (record { name = other; what = Refused n why; from = length d.store; len = 0 }) (refused_by (is_same_name other name) true refl)
 
 module _ (g : Sides) (fixed : Fixed) (member : ℕ → Bool) (s : Standing) (a : Asking) (v : Windows) (asks now : ℕ → Request) (w : World) (line : ℕ) (name : EpName) (why : OfferError) (same : (t e : ℕ) → transfers_endpoint w.driver t ≡ Some e → now t ≡ asks t) (q : IsAskingWorld g fixed member s a v asks w) where
   abbrev d : DriverContent

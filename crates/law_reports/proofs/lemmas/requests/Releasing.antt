@@ -3,6 +3,9 @@ use Rattle.std.proofs.Common.{◌≡◌, ◌≢◌, ℕ, zero, suc, ◌+◌, ◌
 use Rattle.std.specs.Prelude.{◌⊎◌}
 use Rattle.std.proofs.lemmas.Bool.{cases_eq, false≢true, true≢false}
 use Rattle.std.proofs.lemmas.Option.{same_Some}
+use Rattle.law_common.proofs.Numbers.{other_number}
+use Rattle.law_controller.proofs.Common.{same_hand}
+use Rattle.law_reports.proofs.Common.{regone}
 use Rattle.usb_base.specs.declared.endpoints.EndCause.{EndCause}
 use Rattle.bus_wire.specs.Bus.{Fixed}
 use Rattle.mem_runs.specs.Book.{holding}
@@ -19,7 +22,6 @@ use Rattle.claims_driver.specs.Owners.{note_in}
 use Rattle.law_driver.specs.endpoint_lives.Lives.{told_end}
 use Rattle.law_driver.specs.chained_transfers.Turns.{AreReportedTo, IsNext, turn_of, turn_in}
 use Rattle.law_structures.specs.lent_structures.Structures.{Structures, StructureSets}
-use Rattle.law_structures.proofs.lemmas.lent_structures.Names.{not_same}
 use Rattle.claims_base.specs.Controller.{opening_base}
 use Rattle.law_driver_ring.specs.Released.{names_one, blocks_of, goes_of}
 use Rattle.law_driver_ring.proofs.Blocks.{mine}
@@ -45,7 +47,7 @@ use Rattle.law_reports.proofs.lemmas.requests.lemmas.driver_requests.Owning.{qtd
 use Rattle.law_reports.proofs.lemmas.requests.lemmas.driver_requests.RowOrder.{row_numbers}
 use Rattle.law_reports.specs.requests.Courses.{queues, have_queues, CoursesStand}
 use Rattle.law_reports.specs.requests.Spared.{GoBeside}
-use Rattle.law_reports.proofs.lemmas.requests.Writing.{release_spares, same_hand}
+use Rattle.law_reports.proofs.lemmas.requests.Writing.{release_spares}
 use Rattle.law_reports.specs.requests.Records.{AreRecords}
 use Rattle.law_reports.proofs.lemmas.requests.Rows.{row_keeps_records}
 use Rattle.law_reports.specs.requests.Telling.{IsTelling}
@@ -56,7 +58,7 @@ use Rattle.law_world.proofs.lemmas.streams.Releasing.{standing, whole_released}
 use Rattle.law_reports.specs.requests.Asking.{Sides, Asking, left_with, has_left, next_with, HasCourse, IsMetControl, IsReadTo, IsAskingWorld, HasAskingWorld}
 use Rattle.law_reports.specs.requests.Rows.{ReleaseKeepsAsking, IsHeadOfNone}
 use Rattle.law_reports.proofs.lemmas.requests.Has.{asking_of}
-use Rattle.law_reports.proofs.lemmas.requests.Leaving.{idle_quiet, same_endpoint, RowLeaves, LinesLeave, gone_by, each_still, world_left}
+use Rattle.law_reports.proofs.lemmas.requests.Leaving.{idle_quiet, same_endpoint, RowLeaves, LinesLeave, each_still, world_left}
 use Rattle.law_reports.proofs.lemmas.requests.Beside.{HasOwner, owner_of}
 use Rattle.law_reports.proofs.lemmas.requests.Missed.{release_misses_none}
 
@@ -73,7 +75,7 @@ next_is (suc i) t u is = (omega arith, same_Some t u is)
 -- no block begins there
 odd_stays : (bs : List ℕ) (b : ℕ) → names_one bs (32 * b + 1) ≡ false
 odd_stays [] b = refl
-odd_stays (c ∷ bs) b = ap (λ (t : Bool). t || names_one bs (32 * b + 1)) (not_same (32 * b + 1) (32 * c) (λ same. omega (arith, same))) ∙ odd_stays bs b
+odd_stays (c ∷ bs) b = ap (λ (t : Bool). t || names_one bs (32 * b + 1)) (other_number (32 * b + 1) (32 * c) (λ same. omega (arith, same))) ∙ odd_stays bs b
 
 -- ---- a qTD of a request
 
@@ -195,7 +197,7 @@ module _ (g : Sides) (fixed : Fixed) (takes : ℕ → ℕ → Bool) (member : �
   piece_stays : (u c : ℕ) (r : Transfer) → u ≢ t → slice_get w.driver.transfers u ≡ Some r → IsQtdAt w.driver r c → r.released ≡ false → goes c ≡ false
   piece_stays u c r differs there at held =
       ap goes at.at
-      ∙ off at.block (ap (mine t) (owned_piece w.driver (stand fixed takes member x s w t row k).owners u at.block r there held at.piece) ∙ not_same u t differs)
+      ∙ off at.block (ap (mine t) (owned_piece w.driver (stand fixed takes member x s w t row k).owners u at.block r there held at.piece) ∙ other_number u t differs)
 
   laid_at : (j i : ℕ) → have_queues a.courses j ≡ true → i < (a.numbers j).requests.count → IsLaidOut w.driver ((a.numbers j).number i) ((a.numbers j).requests.requests i) ((a.numbers j).requests.places i)
   laid_at j i has few = (z.records.each j has).numbered.own.laid i (omega arith) few
@@ -240,7 +242,8 @@ module _ (g : Sides) (fixed : Fixed) (takes : ℕ → ℕ → Bool) (member : �
 
   recorded : AreRecords after.driver asks a.courses a.numbers (has_left after.driver) v
   recorded =
-      gone_by after.driver asks a.courses a.numbers (has_left w.driver) (has_left after.driver) v (λ e on. left_by e (slice_get w.driver.endpoints e) refl on)
+      regone after.driver asks a.courses a.numbers (has_left w.driver) (has_left after.driver) v
+      (λ e on. left_by e (slice_get w.driver.endpoints e) refl on)
       (subst (λ (q : Parts). AreRecords q.driver asks a.courses a.numbers (has_left w.driver) v) row_is
       (row_keeps_records (driver_parts w) (rows.ReleaseTransfer t) asks a.courses a.numbers (has_left w.driver) v (λ j has. tt)
       (λ j i has few given. other j i has few (sym (same_Some t ((a.numbers j).number i) given))) z.records))

@@ -2,6 +2,7 @@
 use Rattle.std.proofs.Common.{◌≡◌, ℕ, ◌≤◌, Bool, true, false, nat_eq, nat_lt, cond, List, [], ◌∷◌, ◌++◌, length, slice_get, Option, Some, None, unwrap_or, Result, Ok, Err, refl, arith}
 use Rattle.std.specs.Prelude.{option_and_then, is_some, not}
 use Rattle.std.proofs.lemmas.Bool.Decides.{nat_tests}
+use Rattle.law_driver.proofs.Common.{ok_is}
 use Rattle.usb_base.specs.declared.commands.Cmd.TheVariants as commands
 use Rattle.usb_base.specs.declared.endpoints.EndCause.{EndCause}
 use Rattle.usb_base.specs.declared.endpoints.EpName.{EpName}
@@ -39,9 +40,6 @@ pub record TakesRequest (d : DriverContent) (m : Mem) (o : Offered) (setup bytes
   pub transfers : Transfers d m o
   pub control : is_control transfers.endpoint.desc.kind ≡ true
   pub asked : transfers.asked ≡ request_of setup bytes
-
-ok_is : (p q : Offered) → ◌≡◌ {A = Result Offered OfferError} (Ok p) (Ok q) → q ≡ p
-ok_is p q same = cc
 
 module _ (d : DriverContent) (m : Mem) (o : Offered) (idle : d.command ≡ None) (only : OnlyAsynchronous d) (setup bytes : List ℕ) where
   abbrev a : Asked

@@ -1,12 +1,11 @@
 -- What is right of a control endpoint at one moment.
-use Rattle.std.proofs.Common.{◌≡◌, ℕ, List, [], ◌∷◌, map, Option, refl, subst, ◌∙◌}
+use Rattle.std.proofs.Common.{◌≡◌, ℕ, map, Option, refl, subst, ◌∙◌}
 use Rattle.std.specs.List.{AllByRecursion}
-use Rattle.claims_report.specs.Acts.{IsOnce}
-use Rattle.claims_report.specs.Requests.{Request}
+use Rattle.law_reports.proofs.Common.{windows_once}
 use Rattle.claims_report.specs.ControlSides.{Device}
 use Rattle.law_devices.specs.ring_requests.Windows.{Queue, Lines, IsQueue}
 use Rattle.claims_report.specs.Controls.{control_of}
-use Rattle.claims_world.specs.Requests.{wired, Windows, numbers_of, window_at}
+use Rattle.claims_world.specs.Requests.{wired, numbers_of, window_at}
 use Rattle.law_reports.specs.requests.Courses.{Asks, IsCourse}
 use Rattle.law_reports.specs.requests.Records.{IsOnceAt}
 use Rattle.law_reports.proofs.lemmas.requests.TransferChanging.{once_by}
@@ -14,10 +13,6 @@ use Rattle.law_reports.proofs.lemmas.requests.Counts.{counts_are_acts}
 use Rattle.law_reports.specs.requests.ReportAsking.{IsTold}
 use Rattle.law_reports.specs.requests.Right.{AskingIsRight, GoneIsOnce}
 use Rattle.law_reports.proofs.lemmas.requests.Telling.{telling_is_told}
-
-windows_once : (asks : ℕ → Request) (v : Windows) (ts : List ℕ) → AllByRecursion (IsOnceAt asks v) ts → AllByRecursion (λ w. IsOnce w.request.setup w.acts) (map (window_at asks v) ts)
-windows_once asks v [] all = tt
-windows_once asks v (t ∷ ts) all = (all.0, windows_once asks v ts all.1)
 
 pub gone_is_once : GoneIsOnce
 gone_is_once d asks courses numbers gone v rec e out = windows_once asks v (numbers_of d e) (rec.left e out)

@@ -4,6 +4,8 @@ use Rattle.std.specs.Prelude.{◌⊎◌, option_map, slice_get}
 use Rattle.std.specs.List.{AllByRecursion}
 use Rattle.std.proofs.lemmas.Bool.{cases_eq, cases_lt, false≢true}
 use Rattle.std.proofs.lemmas.Option.{same_Some, slice_get_past}
+use Rattle.law_common.proofs.Lists.{still_there}
+use Rattle.law_reports.proofs.Common.{asked_before}
 use Rattle.usb_base.specs.declared.commands.Cmd.{Cmd}
 use Rattle.usb_base.specs.declared.commands.Cmd.TheVariants as commands
 use Rattle.usb_base.specs.declared.endpoints.EpName.{EpName}
@@ -28,10 +30,10 @@ use Rattle.law_reports.specs.requests.world_requests.Recording.{IsOpened}
 use Rattle.law_reports.specs.requests.driver_requests.Requests.{IsOfEndpoint, AreOfEndpoint}
 use Rattle.law_reports.specs.requests.driver_requests.Behind.{AreBehind}
 use Rattle.law_reports.specs.requests.driver_requests.Rows.{KeepsRequests, number_with, given_by}
-use Rattle.law_reports.proofs.lemmas.requests.lemmas.driver_requests.Accepting.{still_there, accepted_requests_stay, accepted_request_comes}
+use Rattle.law_reports.proofs.lemmas.requests.lemmas.driver_requests.Accepting.{accepted_requests_stay, accepted_request_comes}
 use Rattle.law_reports.proofs.lemmas.requests.lemmas.driver_requests.Behind.{rows_leave_behind, accepted_behind, accepted_beside}
 use Rattle.law_reports.proofs.lemmas.requests.lemmas.driver_requests.Keeping.{requests_stay, number_new, number_old}
-use Rattle.law_reports.proofs.lemmas.requests.lemmas.driver_requests.Ordering.{numbers_still, asked_before}
+use Rattle.law_reports.proofs.lemmas.requests.lemmas.driver_requests.Ordering.{numbers_still}
 use Rattle.law_reports.proofs.lemmas.requests.lemmas.driver_requests.RowOrder.{row_same, row_numbers}
 use Rattle.law_reports.proofs.lemmas.requests.lemmas.driver_requests.Rows.{each_row_keeps_requests}
 use Rattle.law_reports.specs.requests.Courses.{Course, NoQueue, Asks, Rests, has_queue, queue_in, have_queues}

@@ -1,12 +1,13 @@
 -- The second request of the worked queue, once it is lent.
 use Rattle.std.proofs.Common.{◌≡◌, ℕ, Some, refl, sym, subst, ⊎_elim, arith}
 use Rattle.std.specs.Prelude.{List, replicate}
+use Rattle.law_structures.proofs.Common.{element_is}
 use Rattle.qh_qtd.specs.Blank.{blank_qtd}
 use Rattle.qh_qtd.specs.declared.qtd.Qtd.{Qtd}
 use Rattle.qh_qtd.specs.declared.queue_head.Qh.{Qh}
 use Rattle.law_structures.specs.lent_structures.Structures.{Structure, QueueHead, Element, Buffer, StructureSets, put}
 use Rattle.law_structures.specs.lent_structures.Sound.{buffer_name, HasBuffer}
-use Rattle.law_structures.proofs.lemmas.lent_structures.Altering.{same_element, found_element}
+use Rattle.law_structures.proofs.lemmas.lent_structures.Altering.{found_element}
 use Rattle.law_structures.proofs.lemmas.lent_structures.Names.{put_else, put_found}
 use Rattle.law_request.specs.Samples.{get_device, get_configuration}
 use Rattle.law_devices.specs.ring_requests.Samples.{queue, setup, read, status, pages_at, parts, qtds, nothing, first_status, second_setup, second_read}
@@ -24,7 +25,7 @@ found_else : (ps : StructureSets) (a : ℕ) (s : Structure) (b : ℕ) (u : Qtd) 
 found_else ps a s b u found one other = ⊎_elim {C = IsOther u} (λ (k : (32 ≡ 32) × (b ≡ a) × (Element u ≡ s)). one k.2) other (put_found ps 32 a s 32 b (Element u) found)
 
 is_other : (u t : Qtd) → Element u ≡ Element t → IsOther t → IsOther u
-is_other u t same other = subst IsOther (sym (same_element u t same)) other
+is_other u t same other = subst IsOther (sym (element_is u t same)) other
 
 no_buffer : {u : Qtd} {pages : List ℕ} {k : ℕ} {bs : List ℕ} → Element u ≡ Buffer pages k bs → ⊥
 no_buffer e = cc

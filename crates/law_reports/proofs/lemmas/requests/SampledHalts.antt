@@ -2,12 +2,12 @@
 use Rattle.std.proofs.Common.{◌≡◌, ℕ, ◌==◌, true, false, refl, ap, sym, subst, ◌∙◌, inl, inr, arith}
 use Rattle.std.specs.Prelude.{replicate}
 use Rattle.std.proofs.lemmas.Bool.{eqb-true, false≢true}
+use Rattle.law_common.proofs.Numbers.{other_number}
 use Rattle.usb_base.specs.declared.packets.Reply.TheVariants.{Silent}
 use Rattle.qh_qtd.specs.Blank.{blank_qtd}
 use Rattle.qh_qtd.specs.declared.qtd.Qtd.{Qtd}
 use Rattle.law_structures.specs.lent_structures.Sound.{HasBuffer}
 use Rattle.law_structures.proofs.lemmas.lent_structures.Altering.{found_element}
-use Rattle.law_structures.proofs.lemmas.lent_structures.Names.{not_same}
 use Rattle.dev_control.specs.Stages.{opened}
 use Rattle.law_request.specs.Host.{Stage, Setup, Data, Status}
 use Rattle.law_request.specs.Samples.{described, get_configuration}
@@ -61,7 +61,7 @@ stopped = record { queue = stalled_queue; head = refl; halted = refl }
 pub halted_stands : CoursesStand the_device is_one halted halted_parts Empty 0
 halted_stands =
     course_begins the_device is_one none halted_parts Empty 0 32 160 empty (opened 64 0)
-    (record { met = refl; new = refl; none = refl; whole = omega arith; rest = halted_rests; other = λ k own differs met has addr num. false≢true (sym (not_same k 32 differs) ∙ met) }) opening
+    (record { met = refl; new = refl; none = refl; whole = omega arith; rest = halted_rests; other = λ k own differs met has addr num. false≢true (sym (other_number k 32 differs) ∙ met) }) opening
 
 -- ---- a request is published
 

@@ -4,6 +4,7 @@ use Rattle.std.specs.Prelude.{◌==◌, ◌&&◌, not, nat_le, nat_lt, is_some, 
 use Rattle.std.specs.List.{AllByRecursion}
 use Rattle.std.specs.Option.{option_map_or}
 use Rattle.std.proofs.lemmas.Bool.{cond_both, and_parts, leb-true}
+use Rattle.law_common.proofs.Lists.{all_both}
 use Rattle.usb_base.specs.declared.packets.Way.TheVariants as way
 use Rattle.usb_base.specs.declared.endpoints.EpDesc.{EpDesc}
 use Rattle.usb_base.specs.declared.commands.Cmd.{Cmd}
@@ -17,7 +18,7 @@ use Rattle.script_forms.specs.declared.statements.Statement.TheVariants as says
 use Rattle.script_world.specs.Draft.{Draft, Placed, empty, device_of, known, same_way}
 use Rattle.script_world.specs.Ranges.{in_range, within, is_endpoint, is_slots}
 use Rattle.script_world.specs.Rows.{cause_of, has_room, may_command, may_script, is_known, is_twice, counted, roomier, at_ep, name_of, with_ep, content_bytes, content_len, bytes_len, commanded, where_known, put_room, control_name, by_of, after}
-use Rattle.law_devices.proofs.Lists.{all_append, all_change, filter_skips, filter_takes}
+use Rattle.law_devices.proofs.Lists.{all_change, filter_skips, filter_takes}
 use Rattle.claims_report.specs.Reports.{WholeReport}
 use Rattle.usb_base.specs.declared.endpoints.EpName.{EpName}
 use Rattle.claims_report.specs.Streams.{is_refused, command_in, accepted_in}
@@ -104,12 +105,12 @@ pub after_counted : (w : Draft) (n : ℕ) (s : Statement) → cause_of w s ≡ N
 after_counted w n (says.Hub addr ports multi) e h =
     cond_both (within 1 127 addr && within 1 15 ports) _ w IsCounted (λ _. record { addressed = h.addressed; commands = h.commands; few = h.few }) (λ _. h)
 after_counted w n (says.DevHigh addr) e h =
-    cond_both (within 1 127 addr) _ w IsCounted (λ in_field. record { addressed = all_append IsAddressed w.devices _ h.addressed (above addr in_field, tt); commands = h.commands; few = h.few }) (λ _. h)
+    cond_both (within 1 127 addr) _ w IsCounted (λ in_field. record { addressed = all_both IsAddressed w.devices _ h.addressed (above addr in_field, tt); commands = h.commands; few = h.few }) (λ _. h)
 after_counted w n (says.DevBelow b) e h =
     cond_both (within 1 127 b.addr && nat_le b.hub 127 && is_known w (says.DevBelow b)) _ w IsCounted
     (λ in_field. record {
       addressed =
-          all_append IsAddressed w.devices _ h.addressed
+          all_both IsAddressed w.devices _ h.addressed
           (above b.addr (and_parts (within 1 127 b.addr) (nat_le b.hub 127) (and_parts (within 1 127 b.addr && nat_le b.hub 127) (is_known w (says.DevBelow b)) in_field).0).0, tt);
       commands = h.commands;
       few = h.few;

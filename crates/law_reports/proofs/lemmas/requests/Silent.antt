@@ -2,6 +2,8 @@
 use Rattle.std.proofs.Common.{◌≡◌, ◌≢◌, ℕ, zero, suc, ◌-◌, Bool, true, false, ◌==◌, ◌||◌, cond, if◌then◌else◌, map, List, [], ◌∷◌, ◌++◌, length, set, slice_get, Option, Some, None, option_map, ap, sym, subst, ◌∙◌, refl, ⊎_elim}
 use Rattle.std.proofs.lemmas.Bool.{cases_eq, false≢true}
 use Rattle.std.proofs.lemmas.Option.{same_Some, slice_get-map}
+use Rattle.law_world.proofs.Common.{one_notes, framed_same}
+use Rattle.law_common.proofs.Lists.{set_here, set_there, none_there}
 use Rattle.usb_base.specs.declared.endpoints.EndCause.{EndCause}
 use Rattle.usb_base.specs.declared.endpoints.EpName.{EpName}
 use Rattle.usb_base.specs.declared.reports.What.TheVariants as lines
@@ -25,13 +27,12 @@ use Rattle.drv_table.specs.Rows.{driver_row, after_driver_row}
 use Rattle.law_driver.specs.run_owners.Due.{IsDue}
 use Rattle.claims_driver.specs.Owners.{NoteRuns, note_in}
 use Rattle.law_driver.proofs.lemmas.run_owners.Reasons.{each_event_is_due}
-use Rattle.law_driver.proofs.lemmas.run_owners.Released.{set_here, set_there}
 use Rattle.law_driver.proofs.lemmas.run_owners.Stays.{same_item}
 use Rattle.law_reports.specs.requests.request_bytes.Fresh.{next_of}
 use Rattle.law_driver.specs.chained_transfers.Chains.{piece_at}
 use Rattle.law_driver.specs.chained_transfers.Asynchronous.{OnlyAsynchronous}
 use Rattle.law_reports.proofs.lemmas.requests.lemmas.driver_requests.Rows.{TransferView, transfer_view, StayAlike, advanced, lent, harvested, told_transfers}
-use Rattle.law_world.proofs.lemmas.streams.lemmas.put_laws.Rows.{advanced_keeps, framed_same, none_there}
+use Rattle.law_world.proofs.lemmas.streams.lemmas.put_laws.Rows.{advanced_keeps}
 use Rattle.law_reports.specs.requests.Reading.{AreSilent}
 use Rattle.law_reports.specs.requests.Silent.{RowKeepsSilent}
 
@@ -101,14 +102,6 @@ same_silent d f transfers notes = record {
 
 noted_told : (notes : List QtdNote) (b moved c : ℕ) → (note_at (noted notes b moved) c).told ≡ (note_at notes c).told
 noted_told notes b moved c = same_item (λ (n : QtdNote). n.told) notes b (record (note_at notes b) { moved = moved }) no_note refl c
-
-either : (d f g : DriverContent) (b : Bool) → f.notes ≡ d.notes → g.notes ≡ d.notes → (cond b f g).notes ≡ d.notes
-either d f g true one two = one
-either d f g false one two = two
-
-one_notes : (d : DriverContent) (e : ℕ) (name : EpName) (k : ℕ) (o : Option Transfer) → (behind_one d e name k o).notes ≡ d.notes
-one_notes d e name k None = refl
-one_notes d e name k (Some y) = either d _ d (waits_for e y) refl refl
 
 behind_notes : (d : DriverContent) (e : ℕ) (name : EpName) (k n : ℕ) → (behind d e name k n).notes ≡ d.notes
 unfolding behind

@@ -1,6 +1,7 @@
 -- Each command leaves the requests of a driver silent: nothing is told of the SETUP and of the status of a new one.
-use Rattle.std.proofs.Common.{◌≡◌, ℕ, zero, suc, ◌-◌, ◌≤◌, ◌<◌, nat_eq, Bool, true, false, not, if◌then◌else◌, ◌||◌, List, [], ◌∷◌, length, take, drop, get_or, set, slice_get, Some, Result, Ok, Err, ap, sym, subst, ◌∙◌, refl, ⊎_elim, option_map, arith}
+use Rattle.std.proofs.Common.{◌≡◌, ℕ, suc, ◌-◌, ◌≤◌, ◌<◌, nat_eq, Bool, true, false, not, if◌then◌else◌, ◌||◌, List, [], ◌∷◌, length, take, drop, get_or, set, slice_get, Some, Result, Ok, Err, ap, sym, subst, ◌∙◌, refl, ⊎_elim, option_map, arith}
 use Rattle.std.proofs.lemmas.List.{get_or-set_same, length-set}
+use Rattle.law_common.proofs.Lists.{next_of, drop_first, push_which}
 use Rattle.usb_base.specs.declared.commands.Cmd.{Cmd}
 use Rattle.usb_base.specs.declared.commands.Cmd.TheVariants as commands
 use Rattle.usb_base.specs.declared.packets.Way.{Way}
@@ -20,7 +21,7 @@ use Rattle.drv_table.specs.Words.{needs, asks_in, request_length, request_stages
 use Rattle.law_driver.specs.run_owners.Accepts.{Transfers}
 use Rattle.claims_driver.specs.Leaving.{HasOwners}
 use Rattle.claims_driver.specs.Owners.{Element, IsPlaced, note_in, runs_of_endpoint, runs_of_note, runs_of_transfer}
-use Rattle.law_driver.proofs.lemmas.run_owners.Accepted.{drop_first, within_slots}
+use Rattle.law_driver.proofs.lemmas.run_owners.Accepted.{within_slots}
 use Rattle.law_driver.proofs.lemmas.run_owners.Chains.{notes_apart}
 use Rattle.law_driver.proofs.lemmas.run_owners.Runs.{placed_run}
 use Rattle.law_driver.proofs.lemmas.run_owners.Taking.{runs_taken}
@@ -35,7 +36,6 @@ use Rattle.law_driver.proofs.lemmas.chained_transfers.Accepting.{asynchronous_co
 use Rattle.law_driver.proofs.lemmas.chained_transfers.Chained.{pieces_same}
 use Rattle.law_driver.proofs.lemmas.chained_transfers.Queued.{not_dummy}
 use Rattle.law_queues.proofs.lemmas.fed_lends.Asked.{piece_placed}
-use Rattle.law_queues.proofs.lemmas.harvest_laws.Opening.{push_which}
 use Rattle.law_queues.proofs.lemmas.harvest_laws.Stages.{AreBlocks}
 use Rattle.law_reports.specs.requests.Reading.{IsSilent, AreSilent}
 use Rattle.law_reports.specs.requests.Silent.{CommandKeepsSilent}
@@ -43,22 +43,16 @@ use Rattle.law_reports.proofs.lemmas.requests.Silent.{stays_silent, same_silent}
 
 -- ---- the notes of new qTDs
 
-next_block : (qtds : List ℕ) (i : ℕ) → get_or (get_or qtds 0 0 ∷ drop 1 qtds) i 0 ≡ get_or qtds i 0
-next_block [] zero = refl
-next_block [] (suc i) = refl
-next_block (q ∷ qtds) zero = refl
-next_block (q ∷ qtds) (suc i) = refl
-
 later_blocks : (notes : List QtdNote) (s : Stage) (ss : List Stage) (b : ℕ) (qtds : List ℕ) (n : QtdNote) → AreBlocks notes (s ∷ ss) b qtds → AreBlocks (set notes b n) ss (get_or qtds 0 0) (drop 1 qtds)
 later_blocks notes s ss b qtds n k = record {
-  within = λ i below. let l = length-set notes b n in let w = k.within (suc i) (omega (arith, below)) in let e = next_block qtds i in omega (arith, l, w, e);
-  distinct = λ i j less below same. k.distinct (suc i) (suc j) (omega (arith, less)) (omega (arith, below)) (sym (next_block qtds j) ∙ same ∙ next_block qtds i);
+  within = λ i below. let l = length-set notes b n in let w = k.within (suc i) (omega (arith, below)) in let e = next_of qtds i in omega (arith, l, w, e);
+  distinct = λ i j less below same. k.distinct (suc i) (suc j) (omega (arith, less)) (omega (arith, below)) (sym (next_of qtds j) ∙ same ∙ next_of qtds i);
 }
 
 first_note : (notes : List QtdNote) (s : Stage) (ss : List Stage) (b : ℕ) (qtds runs : List ℕ) → AreBlocks notes (s ∷ ss) b qtds → note_at (note_stages notes (s ∷ ss) b qtds runs) b ≡ note_for s (get_or qtds 0 0) runs
 first_note notes s ss b qtds runs k =
     let q = get_or qtds 0 0 in
-    notes_apart (set notes b (note_for s q runs)) ss q (drop 1 qtds) (drop (runs_of s) runs) b (λ i below same. k.distinct 0 (suc i) (omega arith) (omega (arith, below)) (sym (next_block qtds i) ∙ same))
+    notes_apart (set notes b (note_for s q runs)) ss q (drop 1 qtds) (drop (runs_of s) runs) b (λ i below same. k.distinct 0 (suc i) (omega arith) (omega (arith, below)) (sym (next_of qtds i) ∙ same))
     ∙ get_or-set_same notes b (note_for s q runs) no_note (k.within 0 (omega arith))
 
 -- nothing is told of the first of them, and of the last

@@ -4,6 +4,12 @@ use Rattle.std.specs.Prelude.{◌⊎◌}
 use Rattle.std.specs.List.{AllByRecursion}
 use Rattle.std.proofs.lemmas.Bool.{cases_eq, cases_Bool, eq-eqb, false≢true}
 use Rattle.std.proofs.lemmas.Option.{same_Some}
+use Rattle.law_world.proofs.Common.{no_open}
+use Rattle.law_driver.proofs.Common.{same_endpoint}
+use Rattle.law_driver_ring.proofs.Common.{partly_idle}
+use Rattle.law_common.proofs.Numbers.{other_number}
+use Rattle.law_controller.proofs.Common.{same_hand}
+use Rattle.law_queues.proofs.Common.{one_qtd}
 use Rattle.word_mem.specs.Memory.{Mem}
 use Rattle.qh_qtd.specs.declared.qtd.Qtd.{Qtd}
 use Rattle.qh_qtd.specs.declared.queue_head.Qh.{Qh}
@@ -19,14 +25,12 @@ use Rattle.drv_table.specs.Kinds.{is_iso}
 use Rattle.drv_table.specs.Words.{is_control}
 use Rattle.claims_driver.specs.Owners.{Owner, QueueHead as QueueOwner, Element as ElementOwner, runs_of_endpoint, note_in}
 use Rattle.claims_driver.specs.Leaving.{HasOwners}
-use Rattle.law_driver.proofs.lemmas.run_owners.Released.{other_number}
 use Rattle.law_driver.specs.chained_transfers.Asynchronous.{OnlyAsynchronous}
 use Rattle.law_driver.proofs.lemmas.chained_transfers.BulkAndControl.{not_iso}
 use Rattle.law_driver.proofs.lemmas.chained_transfers.Staying.{stands_alive}
 use Rattle.law_driver.specs.endpoint_lives.Lives.{told_end}
 use Rattle.law_driver.proofs.lemmas.endpoint_lives.Lives.{told_some}
 use Rattle.law_driver_ring.specs.fed_queues.Fed.{IsPublished}
-use Rattle.law_queues.proofs.lemmas.fed_lends.Reporting.{same_hand}
 use Rattle.law_structures.specs.lent_structures.Structures.{QueueHead, Element, StructureSets, put}
 use Rattle.law_structures.proofs.lemmas.lent_structures.Altering.{found_queue}
 use Rattle.law_controller.proofs.lemmas.controlled_streams.Storing.{spares_head, spares_element}
@@ -61,7 +65,6 @@ use Rattle.law_world.proofs.lemmas.streams.FeedingStores.{at, after_store}
 use Rattle.law_world.proofs.lemmas.streams.Storing.{by_store, element}
 use Rattle.law_world.specs.streams.Whole.{IsWhole}
 use Rattle.law_reports.specs.requests.Asking.{Sides, Asking, has_left, is_publishing, is_next_of, next_with, HasCourse, IsWritten, IsPublishingAt, IsPublishingBy, IsPublishing, IsReadTo, HasTelling, IsMetControl, IsAskingWorld}
-use Rattle.law_reports.proofs.lemmas.requests.Awaited.{one_qtd}
 use Rattle.law_reports.proofs.lemmas.requests.Inside.{AsksIn, inside, outside, same_requests, goes_on}
 use Rattle.law_reports.proofs.lemmas.requests.Lending.{next_is}
 use Rattle.law_reports.proofs.lemmas.requests.Newest.{tail_next, laid_at, owner_at, its_next, its_control, not_asked}
@@ -106,12 +109,6 @@ owed_halted parts out (s ∷ ss) i m waits is =
     (λ (later : IsBehind (all_left ss) m). owed_halted parts out ss later.place m waits.1 later.is)
     (mend_in (left_of s) (all_left ss) i m is)
 
--- ---- the qTD before its last store
-
-partly_idle : (t : Qtd) (k : ℕ) → k < 8 → (partly t k).token.active ≡ false
-partly_idle t (suc (suc (suc (suc (suc (suc (suc (suc k)))))))) low = absurd (omega (arith, low))
-partly_idle t _ low = refl
-
 -- ---- numbers
 
 pub next_first : (count f t : ℕ) → Some t ≡ next_with count f → (0 < count) × (f ≡ t)
@@ -121,13 +118,6 @@ next_first (suc count) f t is = (omega arith, sym (same_Some t f is))
 queue_of : Owner → ℕ
 queue_of (QueueOwner e) = e
 queue_of _ = 0
-
-same_queue : (e f : ℕ) → QueueOwner e ≡ QueueOwner f → e ≡ f
-unfolding queue_of
-same_queue e f is = ap queue_of is
-
-no_open : (b c : ℕ) (words : List ℕ) → ◌≡◌ {A = Option Command} (Some (unfinished.Publish b words)) (Some (unfinished.Open c)) → ⊥
-no_open b c words same = cc
 
 -- at one queue head, and at the others
 changed_each : (courses : ℕ → Course) (numbers : ℕ → Numbers) (n : ℕ) (c : Course) (u : Numbers) (P : ℕ → Course → Numbers → Type 0) (k : ℕ) → (k ≡ n → P n c u) → (k ≢ n → P k (courses k) (numbers k)) → P k (with_course courses n c k) (with_numbers numbers n u k)
@@ -199,7 +189,7 @@ module _ (sides : Sides) (fixed : Fixed) (takes : ℕ → ℕ → Bool) (member 
   queue_apart : (i : ℕ) (u : Endpoint) → slice_get w.driver.endpoints i ≡ Some u → u.gone ≡ false → i ≢ p.transfer.endpoint → 32 * u.queue ≢ 32 * p.endpoint.queue
   queue_apart i u here kept differs same =
       let one : u.queue ≡ p.endpoint.queue = omega (arith, same) in
-      differs (same_queue i e (sym (queue_owner i u here kept) ∙ ap has.owner one ∙ queue_owner e p.endpoint p.here its_kept))
+      differs (same_endpoint i e (sym (queue_owner i u here kept) ∙ ap has.owner one ∙ queue_owner e p.endpoint p.here its_kept))
 
   same_end : (i : ℕ) (u : Endpoint) → slice_get w.driver.endpoints i ≡ Some u → i ≡ p.transfer.endpoint → u ≡ p.endpoint
   same_end i u here same = same_Some u p.endpoint (sym here ∙ ap (slice_get d.endpoints) same ∙ p.here)

@@ -4,12 +4,12 @@ use Rattle.std.specs.List.{AllByRecursion}
 use Rattle.std.proofs.lemmas.Bool.{eq-eqb, false≢true}
 use Rattle.std.proofs.lemmas.List.{map-append, append_assoc, length-append, length-map, length-drop, take-append-drop}
 use Rattle.std.proofs.lemmas.Option.{slice_get_within}
+use Rattle.law_common.proofs.Numbers.{other_number}
 use Rattle.usb_base.specs.declared.endpoints.EpName.{EpName}
 use Rattle.usb_base.specs.declared.endpoints.EndCause.TheVariants.{Stall}
 use Rattle.usb_base.specs.declared.reports.Report.{Report}
 use Rattle.usb_base.specs.declared.reports.What.{What}
 use Rattle.usb_base.specs.declared.reports.What.TheVariants as lines
-use Rattle.law_structures.proofs.lemmas.lent_structures.Names.{not_same}
 use Rattle.claims_report.specs.Requests.{Request, Window, left_by}
 use Rattle.drv_table.specs.declared.content.Transfer.{Transfer}
 use Rattle.drv_table.specs.declared.rows.DriverRow.TheVariants as rows
@@ -190,7 +190,7 @@ module _ (d c : DriverContent) (y : Transfer) (asks now : ℕ → Request) (e : 
 
   others : y.endpoint ≢ e → IsTelling c now e name whole v reported waits
   others other =
-      let more = transfer_adds_waiting d c y e adds.transfers ∙ ap (λ (j : ℕ). waiting d e + j) (waits_by false adds.fresh (not_same y.endpoint e other)) in
+      let more = transfer_adds_waiting d c y e adds.transfers ∙ ap (λ (j : ℕ). waiting d e + j) (waits_by false adds.fresh (other_number y.endpoint e other)) in
       let long = k.wait in
       record {
         numbers = numbers_still d c e y adds.transfers other ∙ k.numbers;

@@ -1,12 +1,13 @@
 -- What is recorded of requests where one is published, is done or halts, and where an endpoint comes or goes.
 use Rattle.std.proofs.Common.{◌≡◌, ◌≢◌, ℕ, zero, suc, ◌-◌, ◌<◌, ◌≤◌, ◌==◌, ◌||◌, ◌&&◌, Bool, true, false, if◌then◌else◌, List, [], ◌∷◌, ◌++◌, Option, Some, ap, refl, sym, subst, ◌∙◌, ⊎_elim, inl, inr, arith}
-use Rattle.std.specs.Prelude.{◌⊎◌, option_map}
+use Rattle.std.specs.Prelude.{◌⊎◌}
 use Rattle.std.specs.List.{AllByRecursion}
 use Rattle.std.proofs.lemmas.Bool.{cases_eq, cases_lt, eq-eqb, false≢true}
+use Rattle.law_reports.proofs.Common.{of_transfer}
+use Rattle.law_common.proofs.Numbers.{other_number}
+use Rattle.law_common.proofs.Lists.{all_joined}
 use Rattle.law_structures.specs.lent_structures.Structures.{StructureSets}
-use Rattle.law_structures.proofs.lemmas.lent_structures.Names.{not_same}
 use Rattle.claims_report.specs.Acts.{IsOnce}
-use Rattle.drv_table.specs.declared.content.Transfer.{Transfer}
 use Rattle.drv_table.specs.DriverContent.{DriverContent}
 use Rattle.law_driver.proofs.lemmas.run_owners.Released.{same_by_test}
 use Rattle.dev_control.specs.Stages.{Stages}
@@ -19,9 +20,9 @@ use Rattle.law_devices.specs.ring_requests.Windows.{Sent, Queue, sent_at, Lines,
 use Rattle.law_devices.specs.ring_requests.Runs.{first_of}
 use Rattle.law_devices.specs.request_stores.Published.{new_sent, without_first}
 use Rattle.law_devices.proofs.lemmas.request_stores.Publishing.{with_old, with_new}
-use Rattle.claims_world.specs.Requests.{endpoint_of, Windows, numbers_of}
+use Rattle.claims_world.specs.Requests.{Windows, numbers_of}
 use Rattle.law_reports.specs.requests.world_requests.Recording.{AreRecorded}
-use Rattle.law_reports.specs.requests.driver_requests.Requests.{IsOfTransfer, AreOfEndpoint}
+use Rattle.law_reports.specs.requests.driver_requests.Requests.{AreOfEndpoint}
 use Rattle.law_reports.specs.requests.driver_requests.Behind.{AreBehind}
 use Rattle.law_reports.proofs.lemmas.requests.lemmas.driver_requests.Keeping.{request_ends}
 use Rattle.law_reports.proofs.lemmas.requests.lemmas.driver_requests.Behind.{first_goes}
@@ -30,14 +31,11 @@ use Rattle.law_reports.specs.requests.QueueChanges.{lines_from, lines_behind, me
 use Rattle.law_reports.proofs.lemmas.requests.QueueChanging.{with_here, with_beside}
 use Rattle.law_reports.specs.requests.Records.{Numbers, IsAhead, IsNumbered, IsOnceAt, IsClosed, IsRecord, AreRecords}
 use Rattle.law_reports.specs.requests.TransferChanges.{with_numbers, CourseIsRecorded, next_request, BehindIsPublished, FirstIsPublished, HaltedIsPublished, MendedIsRecorded, first_closed, FirstIsClosed, LastIsClosed, all_closed, AllAreClosed, NewIsRecorded, CourseIsGone}
-use Rattle.law_reports.proofs.lemmas.requests.Lists.{all_map, all_more}
-
-pub of_transfer : (d : DriverContent) (e t : ℕ) → IsOfTransfer d e t → endpoint_of d t ≡ Some e
-of_transfer d e t k = ap (option_map (λ (y : Transfer). y.endpoint)) k.here ∙ ap (λ (i : ℕ). Some i) k.endpoint
+use Rattle.law_reports.proofs.lemmas.requests.Lists.{all_map}
 
 pub all_first : (P : ℕ → Type 0) (number : ℕ → ℕ) (count : ℕ) → ((i : ℕ) → i < count → P (number i)) → AllByRecursion P (first_of number count)
 all_first P number zero each = tt
-all_first P number (suc count) each = all_more P (first_of number count) (number count ∷ []) (all_first P number count (λ i few. each i (omega (arith, few)))) (each count (omega arith), tt)
+all_first P number (suc count) each = all_joined P (first_of number count) (number count ∷ []) (all_first P number count (λ i few. each i (omega (arith, few)))) (each count (omega arith), tt)
 
 -- ---- a queue changes
 
@@ -49,14 +47,14 @@ module _ (courses : ℕ → Course) (numbers : ℕ → Numbers) (n : ℕ) (c : C
       subst (λ (x : Course). P k x (with_numbers numbers n a k)) (sym (with_here courses n c k at))
       (subst (P k c) (sym (ap (λ (b : Bool). if b then a else numbers k) (eq-eqb k n at))) (subst (λ (j : ℕ). P j c a) (sym at) mine)))
       (λ (differs : k ≢ n).
-      subst (λ (x : Course). P k x (with_numbers numbers n a k)) (sym (with_beside courses n c k differs)) (subst (P k (courses k)) (sym (ap (λ (b : Bool). if b then a else numbers k) (not_same k n differs))) (others k differs)))
+      subst (λ (x : Course). P k x (with_numbers numbers n a k)) (sym (with_beside courses n c k differs)) (subst (P k (courses k)) (sym (ap (λ (b : Bool). if b then a else numbers k) (other_number k n differs))) (others k differs)))
       (cases_eq k n)
 
 pub numbers_each : (courses : ℕ → Course) (numbers : ℕ → Numbers) (n : ℕ) (a : Numbers) (P : ℕ → Course → Numbers → Type 0) → P n (courses n) a → ((k : ℕ) → k ≢ n → P k (courses k) (numbers k)) → (k : ℕ) → P k (courses k) (with_numbers numbers n a k)
 numbers_each courses numbers n a P mine others k =
     ⊎_elim {C = P k (courses k) (with_numbers numbers n a k)}
     (λ (at : k ≡ n). subst (P k (courses k)) (sym (ap (λ (b : Bool). if b then a else numbers k) (eq-eqb k n at))) (subst (λ (j : ℕ). P j (courses j) a) (sym at) mine))
-    (λ (differs : k ≢ n). subst (P k (courses k)) (sym (ap (λ (b : Bool). if b then a else numbers k) (not_same k n differs))) (others k differs)) (cases_eq k n)
+    (λ (differs : k ≢ n). subst (P k (courses k)) (sym (ap (λ (b : Bool). if b then a else numbers k) (other_number k n differs))) (others k differs)) (cases_eq k n)
 
 pub course_is_recorded : CourseIsRecorded
 course_is_recorded d asks courses numbers gone v n c a mine rec = record {
@@ -138,7 +136,7 @@ module _ (d : DriverContent) (asks : ℕ → Request) (n b : ℕ) (q : Queue) (l
 
   closed_now : AllByRecursion (IsClosed d asks (first_closed a) v) (a.closed ++ a.number 0 ∷ [])
   closed_now =
-      all_more (IsClosed d asks (first_closed a) v) a.closed (a.number 0 ∷ [])
+      all_joined (IsClosed d asks (first_closed a) v) a.closed (a.number 0 ∷ [])
       (all_map (IsClosed d asks a v) (IsClosed d asks (first_closed a) v) (λ t z. record { of = z.of; beside = λ i few. z.beside (suc i) (omega (arith, few)); once = z.once }) a.closed k.closed) (
         record {
           of = of_transfer d a.endpoint (a.number 0) (k.numbered.own.transfers 0 here);
@@ -217,7 +215,7 @@ module _ (d : DriverContent) (asks : ℕ → Request) (n : ℕ) (a : Numbers) (v
   module _ (c : Course) (numbered : IsNumbered d asks n c a) (closed : AllByRecursion (IsClosed d asks a v) a.closed) (once : (i : ℕ) → i < a.requests.count → IsOnceAt asks v (a.number i)) where
     closed_all : AllByRecursion (IsClosed d asks (all_closed a) v) (a.closed ++ first_of a.number a.requests.count)
     closed_all =
-        all_more (IsClosed d asks (all_closed a) v) a.closed (first_of a.number a.requests.count)
+        all_joined (IsClosed d asks (all_closed a) v) a.closed (first_of a.number a.requests.count)
         (all_map (IsClosed d asks a v) (IsClosed d asks (all_closed a) v) (λ t z. record { of = z.of; beside = λ i few. absurd (omega (arith, few)); once = z.once }) a.closed closed)
         (all_first (IsClosed d asks (all_closed a) v) a.number a.requests.count
         (λ i few. record { of = of_transfer d a.endpoint (a.number i) (numbered.own.transfers i few); beside = λ j less. absurd (omega (arith, less)); once = once i few }))

@@ -1,17 +1,18 @@
 -- Each event of the controller keeps what is recorded of the requests of control endpoints.
 use Rattle.std.proofs.Common.{◌≡◌, ◌≢◌, ℕ, suc, ◌<◌, ◌≤◌, Bool, true, false, List, [], ◌++◌, Option, Some, None, ap, refl, sym, subst, ◌∙◌, ⊎_elim, arith}
-use Rattle.std.specs.Prelude.{◌⊎◌, ◌==◌, slice_get, option_map, if◌then◌else◌}
+use Rattle.std.specs.Prelude.{◌⊎◌, ◌==◌, slice_get, if◌then◌else◌}
 use Rattle.std.specs.List.{AllByRecursion}
 use Rattle.std.proofs.lemmas.Bool.{cases_eq, cases_lt, eq-eqb, false≢true}
 use Rattle.std.proofs.lemmas.Option.{same_Some}
+use Rattle.law_reports.proofs.Common.{of_transfer, stepped_is}
+use Rattle.law_common.proofs.Numbers.{other_number}
+use Rattle.law_common.proofs.Lists.{all_joined}
 use Rattle.claims_report.specs.Acts.{IsOnce}
 use Rattle.law_device.specs.Acts.{counted}
 use Rattle.bus_wire.specs.declared.asked.Losses.{Losses}
 use Rattle.drv_table.specs.declared.content.Endpoint.{Endpoint as DriverEndpoint}
-use Rattle.drv_table.specs.declared.content.Transfer.{Transfer}
 use Rattle.drv_table.specs.DriverContent.{DriverContent}
 use Rattle.law_structures.specs.lent_structures.Structures.{StructureSets}
-use Rattle.law_structures.proofs.lemmas.lent_structures.Names.{not_same}
 use Rattle.bus_wire.specs.Bus.{Fixed}
 use Rattle.law_request.specs.Host.{Endpoint}
 use Rattle.law_request.specs.Line.{Line, transacted}
@@ -23,7 +24,7 @@ use Rattle.claims_report.specs.Requests.{Request}
 use Rattle.law_ring.specs.Hand.{Hand}
 use Rattle.claims_base.specs.Controller.{Base}
 use Rattle.law_controller.specs.controlled_streams.Control.{IsOn, IsControlled, Controls}
-use Rattle.law_devices.specs.ring_requests.Windows.{Sent, Queue, Lines, Progress, Transaction, Advance, opened, progressed, Step, stepped}
+use Rattle.law_devices.specs.ring_requests.Windows.{Sent, Queue, Lines, Progress, Transaction, Advance, opened, progressed, Step}
 use Rattle.law_devices.specs.ring_requests.Runs.{first_of}
 use Rattle.law_devices.specs.control_requests.Events.{ControlWindowsGoOn}
 use Rattle.claims_report.specs.Controls.{control_of}
@@ -35,7 +36,7 @@ use Rattle.law_reports.specs.requests.world_requests.Recording.{AreTransfers, Is
 use Rattle.law_reports.proofs.lemmas.requests.lemmas.world_requests.Acting.{none_acted}
 use Rattle.law_reports.proofs.lemmas.requests.lemmas.world_requests.Following.{event_kept}
 use Rattle.law_reports.proofs.lemmas.requests.lemmas.world_requests.Queues.{quiet_acts}
-use Rattle.law_reports.specs.requests.driver_requests.Requests.{IsOfEndpoint, IsOfTransfer, IsLaidOut, AreOfEndpoint, AreOfDriver, AreUnderWay}
+use Rattle.law_reports.specs.requests.driver_requests.Requests.{IsOfEndpoint, IsLaidOut, AreOfEndpoint, AreOfDriver, AreUnderWay}
 use Rattle.law_reports.proofs.lemmas.requests.lemmas.driver_requests.Telling.{transfers_are_told}
 use Rattle.law_reports.specs.requests.Courses.{Course, NoQueue, Asks, Rests, has_queue, is_asking, queue_in, lines_in, IsCourse, queues, are_asking, all_lines, CoursesStand}
 use Rattle.law_reports.specs.requests.QueueEvents.{line_after, course_after, courses_after, CoursesGoOn}
@@ -46,10 +47,7 @@ use Rattle.law_reports.specs.requests.Counts.{counted_all, Counts, side_at, Even
 use Rattle.law_reports.proofs.lemmas.requests.Acting.{others_kept}
 use Rattle.law_reports.proofs.lemmas.requests.Counts.{counted_more, counted_same, counted_first}
 use Rattle.law_reports.proofs.lemmas.requests.TransferChanging.{all_first}
-use Rattle.law_reports.proofs.lemmas.requests.Lists.{all_map, all_both, all_more, numbers_are}
-
-of_transfer : (d : DriverContent) (e t : ℕ) → IsOfTransfer d e t → endpoint_of d t ≡ Some e
-of_transfer d e t k = ap (option_map (λ (y : Transfer). y.endpoint)) k.here ∙ ap (λ (i : ℕ). Some i) k.endpoint
+use Rattle.law_reports.proofs.lemmas.requests.Lists.{all_map, all_both, numbers_are}
 
 -- ---- the requests of the queue are the first of them
 
@@ -68,10 +66,6 @@ module _ (d : DriverContent) (asks : ℕ → Request) (n : ℕ) (a : Numbers) wh
   restricted_record : (v : Windows) (c : Course) → is_asking c ≡ true → IsNumbered d asks n c a → AreActs c a v → AreRecorded (queue_in c) a.number (v.opened a.endpoint) v.acts (lines_in c)
   restricted_record v (Asks q b l) on k r = let few = k.ahead.few in record { begun = r.begun; behind = λ i after less. r.behind i after (omega (arith, less, few)); is_open = r.is_open }
   restricted_record v _ on k r = absurd (false≢true on)
-
-stepped_is : (sent : ℕ → Queue) (lines : ℕ → Lines) (n : ℕ) (step : Option Step) → stepped sent step lines n ≡ line_after step n (sent n) (lines n)
-stepped_is sent lines n None = refl
-stepped_is sent lines n (Some s) = refl
 
 acted_same : (o : Option Device) → acted_with o o ≡ []
 acted_same None = refl
@@ -281,7 +275,8 @@ module _ (fixed : Fixed) (base : Base) (member : ℕ → Bool) (courses : ℕ �
     all_counted same =
         ap (λ (ts : List ℕ). counted_all later ts 0) (before n b q l is).numbered.order.numbers
         ∙ counted_same v later ((numbers n).closed ++ first_of own_number (numbers n).requests.count) 0
-        (all_more Stays (numbers n).closed (first_of own_number (numbers n).requests.count) (closed_by n (Asks q b l) is refl) (all_first Stays own_number (numbers n).requests.count same))
+        (all_joined Stays (numbers n).closed (first_of own_number (numbers n).requests.count) (closed_by n (Asks q b l) is refl)
+        (all_first Stays own_number (numbers n).requests.count same))
         ∙ sym (ap (λ (ts : List ℕ). counted_all v ts 0) (before n b q l is).numbered.order.numbers)
 
     -- where one transaction was made
@@ -328,7 +323,7 @@ module _ (fixed : Fixed) (base : Base) (member : ℕ → Bool) (courses : ℕ �
           ∙ ap (λ (z : Bool). (if z then opened q i (l.line l.under) else l.line i).acts) (eq-eqb i (suc l.under) next) ∙ sym ((before n b q l is).acts.behind i (omega (arith, next)) few))
           (λ (differs : i ≢ suc l.under).
           record_m.begun i (omega (arith, upto, up)) ∙ ap (λ (x : Lines). (x.line i).acts) same
-          ∙ ap (λ (z : Bool). (if z then opened q i (l.line l.under) else l.line i).acts) (not_same i (suc l.under) differs) ∙ sym ((before n b q l is).acts.begun i (omega (arith, upto, differs)))) (cases_eq i (suc l.under)))
+          ∙ ap (λ (z : Bool). (if z then opened q i (l.line l.under) else l.line i).acts) (other_number i (suc l.under) differs) ∙ sym ((before n b q l is).acts.begun i (omega (arith, upto, differs)))) (cases_eq i (suc l.under)))
           (cases_lt (suc l.under) i)))
 
       -- one transaction was made
@@ -346,7 +341,7 @@ module _ (fixed : Fixed) (base : Base) (member : ℕ → Bool) (courses : ℕ �
           ∙ sym (counted_so later none
           ∙ ap (λ (xs : List (List ℕ)). counted xs (base_count later)) (now.begun u (omega arith) ∙ ap (λ (x : Line). x.acts) line_is)
           ∙ ap (counted made.acts)
-          (base_same whole.line (λ i less. ap (λ (z : Bool). if z then transacted q.endpoint (q.requests i) losses (l.line i) else l.line i) (not_same i u (λ at. omega (arith, at, less)))) now))
+          (base_same whole.line (λ i less. ap (λ (z : Bool). if z then transacted q.endpoint (q.requests i) losses (l.line i) else l.line i) (other_number i u (λ at. omega (arith, at, less)))) now))
 
     counted_by : (k : (l.line l.under).device.acted ≡ counted_all v (numbers_of w.driver (numbers n).endpoint) 0) (step : Option Step) → g.step ≡ step
         → device_now (line_after g.step n q l) ≡ counted_all (after_event fixed w v) (numbers_of w.driver (numbers n).endpoint) 0

@@ -1,5 +1,6 @@
 -- Requests stand as they must where a get, a put or a request is accepted, and where an endpoint is cancelled.
 use Rattle.std.proofs.Common.{◌≡◌, ℕ, ◌<◌, Bool, Result, Ok, sym, subst}
+use Rattle.law_common.proofs.Lists.{all_joined}
 use Rattle.usb_base.specs.declared.commands.Cmd.{Cmd}
 use Rattle.usb_base.specs.declared.commands.Cmd.TheVariants as commands
 use Rattle.usb_base.specs.declared.endpoints.EpName.{EpName}
@@ -15,7 +16,6 @@ use Rattle.claims_report.specs.Requests.{Request}
 use Rattle.bus_world.specs.World.{World, name_in, commanded_by, commanded}
 use Rattle.law_world.specs.steps.Streaming.{Streams, Standing}
 use Rattle.claims_world.specs.Requests.{Windows, asks_then, wired}
-use Rattle.law_reports.proofs.lemmas.requests.Lists.{all_more}
 use Rattle.law_world.specs.streams.Whole.{IsWhole}
 use Rattle.law_world.proofs.lemmas.streams.Commanding.{whole_commanded}
 use Rattle.law_reports.specs.requests.Asking.{Sides, Asking, IsAskingWorld}
@@ -50,7 +50,7 @@ module _ (g : Sides) (fixed : Fixed) (takes : ℕ → ℕ → Bool) (member : �
       let only = k.feeding.turns.asynchronous in
       let places = k.feeding.turns.turns.places in
       let t : TakesRequest w.driver w.memory o setup more = request_taken w.driver w.memory name setup more o only is in
-      let all = all_more (λ (b : ℕ). b < 256) setup more bytes.0 bytes.1 in
+      let all = all_joined (λ (b : ℕ). b < 256) setup more bytes.0 bytes.1 in
       let shape = k.feeding.working.streaming.controlled.ring.tells.shape in
       record {
         asking = record {

@@ -2,6 +2,7 @@
 use Rattle.std.proofs.Common.{◌≡◌, ◌≢◌, ℕ, ◌*◌, ◌||◌, ◌&&◌, not, ◌++◌, Bool, true, false, [], ◌∷◌, slice_get, Option, Some, None, ap, refl, sym, subst, ◌∙◌, ⊎_elim}
 use Rattle.std.proofs.lemmas.Bool.{cases_eq, false≢true}
 use Rattle.std.proofs.lemmas.Option.{same_Some}
+use Rattle.law_reports.proofs.Common.{regone}
 use Rattle.bus_wire.specs.Bus.{Fixed}
 use Rattle.drv_table.specs.declared.content.Command.{Command}
 use Rattle.drv_table.specs.declared.content.Command.TheVariants as unfinished
@@ -37,7 +38,7 @@ use Rattle.law_world.proofs.lemmas.streams.LeavingUnlinked.{unlink_whole}
 use Rattle.law_reports.specs.requests.Asking.{Sides, Asking, left_with, has_left, IsMetControl, IsReadTo, IsAskingWorld, HasAskingWorld}
 use Rattle.law_reports.specs.requests.Rows.{UnlinkKeepsAsking, IsHeadOfNone}
 use Rattle.law_reports.proofs.lemmas.requests.Has.{asking_of}
-use Rattle.law_reports.proofs.lemmas.requests.Leaving.{idle_quiet, unlink_quiet, WasEndpoint, IsEndpointStill, RowLeaves, gone_by, was_met, each_still, world_left}
+use Rattle.law_reports.proofs.lemmas.requests.Leaving.{idle_quiet, unlink_quiet, WasEndpoint, IsEndpointStill, RowLeaves, was_met, each_still, world_left}
 use Rattle.law_reports.proofs.lemmas.requests.Missed.{writing_misses_none, linked_unmissed}
 use Rattle.law_structures.specs.lent_structures.Structures.{QueueHead}
 
@@ -129,7 +130,7 @@ module _ (g : Sides) (fixed : Fixed) (takes : ℕ → ℕ → Bool) (member : �
 
   recorded : AreRecords new asks a.courses a.numbers (has_left new) v
   recorded =
-      gone_by new asks a.courses a.numbers (has_left w.driver) (has_left new) v (λ e on. left_by e (slice_get new.endpoints e) refl on)
+      regone new asks a.courses a.numbers (has_left w.driver) (has_left new) v (λ e on. left_by e (slice_get new.endpoints e) refl on)
       (subst (λ (c : DriverContent). AreRecords c asks a.courses a.numbers (has_left w.driver) v) row.driver
       (row_keeps_records (driver_parts w) (driver_row (driver_parts w)) asks a.courses a.numbers (has_left w.driver) v
       (λ j has. subst (λ (r : DriverRow). KeepsEndpoint r (a.numbers j).endpoint) (sym row.row) tt)

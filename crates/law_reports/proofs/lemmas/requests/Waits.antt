@@ -1,5 +1,6 @@
 -- A harvest that finds a qTD not done yet.
 use Rattle.std.proofs.Common.{◌≡◌, ℕ, ◌*◌, Bool, if◌then◌else◌, List, Option, None, ap, refl, sym, subst, ◌∙◌}
+use Rattle.law_queues.proofs.Common.{after_is}
 use Rattle.bus_wire.specs.Bus.{Fixed}
 use Rattle.drv_table.specs.declared.content.Command.{Command}
 use Rattle.drv_table.specs.declared.content.Endpoint.{Endpoint}
@@ -10,7 +11,6 @@ use Rattle.drv_table.specs.DriverContent.{DriverContent}
 use Rattle.drv_table.specs.Rows.{driver_row, after_driver_row}
 use Rattle.drv_table.specs.Harvesting.{served}
 use Rattle.law_driver.specs.run_owners.Due.{IsHarvestDue}
-use Rattle.law_queues.proofs.lemmas.harvest_laws.ReadRows.{after_is}
 use Rattle.claims_report.specs.Requests.{Request}
 use Rattle.bus_world.specs.World.{World, driver_parts, driver_next, with_parts}
 use Rattle.law_world.specs.steps.Streaming.{Streams, Standing}

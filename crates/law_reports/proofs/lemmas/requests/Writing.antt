@@ -1,12 +1,15 @@
 -- What is written beside the requests: a store, a lend, structures that are given back, and a link.
-use Rattle.std.proofs.Common.{◌≡◌, ◌≢◌, ℕ, suc, ◌-◌, ◌<◌, Bool, true, false, if◌then◌else◌, List, [], Option, Some, None, ap, refl, sym, subst, ◌∙◌, ⊎_elim, arith}
+use Rattle.std.proofs.Common.{◌≡◌, ◌≢◌, ℕ, suc, ◌-◌, ◌<◌, Bool, true, false, if◌then◌else◌, List, Option, Some, None, ap, refl, sym, subst, ◌∙◌, ⊎_elim, arith}
 use Rattle.std.specs.Prelude.{◌⊎◌}
 use Rattle.std.proofs.lemmas.Bool.{cases_eq, eq-eqb, false≢true}
+use Rattle.law_controller.proofs.Common.{same_hand, no_bytes}
+use Rattle.law_devices.proofs.Common.{is_same}
+use Rattle.law_common.proofs.Numbers.{other_number}
 use Rattle.qh_qtd.specs.declared.qtd.Qtd.{Qtd}
 use Rattle.qh_qtd.specs.declared.queue_head.Qh.{Qh}
 use Rattle.law_structures.specs.lent_structures.Structures.{Structure, QueueHead, Element, Buffer, Structures, StructureSets, put}
 use Rattle.law_structures.specs.lent_structures.Sound.{buffer_name}
-use Rattle.law_structures.proofs.lemmas.lent_structures.Names.{not_same, put_same, put_else, put_beside}
+use Rattle.law_structures.proofs.lemmas.lent_structures.Names.{put_same, put_else, put_beside}
 use Rattle.law_structures.proofs.lemmas.lent_structures.Altering.{found_queue, no_two}
 use Rattle.law_request.specs.Host.{Stage}
 use Rattle.claims_report.specs.ControlSides.{Device}
@@ -39,18 +42,12 @@ module _ {W : Type 0} (device : W → ℕ → ℕ → Option Device) (parts : St
 
 -- ---- the queue head
 
-same_rest : (q : Qh) → SameRest q q
-same_rest q = record { token = refl; current = refl; next = refl; alternate = refl }
-
 same_overlay : (q : Qh) → SameOverlay q q
 same_overlay q = record { token = refl; current = refl; offset = refl; endpoint = refl }
 
-pub same_hand : (hand : Hand) → SameHand hand hand
-same_hand hand = record { bytes = λ n q e t bs. refl; toggle = λ n q. refl }
-
 module _ (parts now : StructureSets) (n : ℕ) (still : (q : Qh) → parts n n ≡ Some (QueueHead q) → now n n ≡ Some (QueueHead q)) where
   pub head_stays : (v : Queue) → HasHead parts n v → HeadStays (parts n) (now n) n
-  head_stays v h = record { queue = h.queue; here = h.head; later = h.queue; there = still h.queue h.head; rest = same_rest h.queue; own = refl }
+  head_stays v h = record { queue = h.queue; here = h.head; later = h.queue; there = still h.queue h.head; rest = is_same h.queue; own = refl }
 
   pub head_spared : SparesHead parts now n
   head_spared q here = record { queue = q; here = still q here; overlay = same_overlay q }
@@ -181,10 +178,6 @@ lend_spares device member courses parts now hand wire k stand =
 
 -- ---- structures that are given back
 
-no_bytes : (o : Option Structure) → ((pages : List ℕ) (j : ℕ) (bytes : List ℕ) → o ≡ Some (Buffer pages j bytes) → ⊥) → bytes_in o ≡ []
-no_bytes (Some (Buffer pages j bytes)) other = absurd (other pages j bytes refl)
-no_bytes _ other = refl
-
 module _ (parts : StructureSets) (k : ℕ) (goes : ℕ → Bool) where
   abbrev left : StructureSets
   left = without_those parts k goes
@@ -193,7 +186,7 @@ module _ (parts : StructureSets) (k : ℕ) (goes : ℕ → Bool) where
   left_at n b same = ap (λ (x : Bool). (if x then fewer_structures goes (parts n) else parts n) b) (eq-eqb n k same)
 
   left_beside : (n b : ℕ) → n ≢ k → without_those parts k goes n b ≡ parts n b
-  left_beside n b differs = ap (λ (x : Bool). (if x then fewer_structures goes (parts n) else parts n) b) (not_same n k differs)
+  left_beside n b differs = ap (λ (x : Bool). (if x then fewer_structures goes (parts n) else parts n) b) (other_number n k differs)
 
   left_else : (n b : ℕ) → (n ≡ k → goes b ≡ false) → without_those parts k goes n b ≡ parts n b
   left_else n b stays =
@@ -297,7 +290,7 @@ module _ (parts : StructureSets) (k : ℕ) (q new : Qh) (here : parts k k ≡ So
     linked_stays n v h =
         ⊎_elim {C = HeadStays (parts n) (linked n) n}
         (λ (same : n ≡ k). record { queue = q; here = ap (λ (i : ℕ). parts i i) same ∙ here; later = new; there = linked_here n same; rest = rest; own = overlay.endpoint })
-        (λ (differs : n ≢ k). record { queue = h.queue; here = h.head; later = h.queue; there = linked_else n n (λ one. absurd (differs one)) ∙ h.head; rest = same_rest h.queue; own = refl }) (cases_eq n k)
+        (λ (differs : n ≢ k). record { queue = h.queue; here = h.head; later = h.queue; there = linked_else n n (λ one. absurd (differs one)) ∙ h.head; rest = is_same h.queue; own = refl }) (cases_eq n k)
 
     linked_overlay : (n : ℕ) → SparesHead parts (put parts k k (QueueHead new)) n
     linked_overlay n r head =

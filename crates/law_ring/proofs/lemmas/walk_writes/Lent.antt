@@ -1,20 +1,20 @@
 -- Writes of words of Lent blocks, and one after the other.
 use Rattle.std.proofs.Common.{◌≡◌, ℕ, suc, ◌+◌, ◌*◌, ◌/◌, ◌%◌, ◌<◌, ◌≤◌, Bool, true, false, if◌then◌else◌, List, [], ◌∷◌, length, take, get_or, slice_get, ap, refl, sym, ◌∙◌, ⊎_elim, arith}
 use Rattle.std.proofs.lemmas.Bool.{cases_lt, false≢true}
-use Rattle.std.proofs.lemmas.List.{get_or-set_other, length-set, length-take, length-take-le, length-drop}
+use Rattle.std.proofs.lemmas.List.{get_or-set_other, length-set, length-take, length-take-le}
 use Rattle.std.proofs.lemmas.List.Sums.{prefix_len_passes, prefix_len-le-length}
+use Rattle.law_structures.proofs.Common.{nine_words}
+use Rattle.law_ring.proofs.Common.{reached_by}
 use Rattle.word_mem.specs.Memory.{Mem, reaches, is_lent, refused, with_word}
 use Rattle.word_mem.specs.Views.{with_words_in, with_words}
 use Rattle.word_mem.specs.declared.blocks.BlockState.{BlockState}
 use Rattle.mem_bytes.specs.Bytes.{place, places, reached, all_reached, AreReached, stored, with_bytes}
 use Rattle.mem_bytes.proofs.Frames.{word_at-with_bytes}
-use Rattle.mem_bytes.proofs.Reach.{length-places, get_or-places, all_reached_no}
+use Rattle.mem_bytes.proofs.Reach.{length-places, get_or-places}
 use Rattle.mem_bytes.proofs.Stores.{length-put_bytes}
 use Rattle.qh_qtd.specs.declared.token.Token.{Token}
 use Rattle.qh_qtd.specs.declared.queue_head.Qh.{Qh}
 use Rattle.qh_qtd.specs.Token.{token_word}
-use Rattle.qh_qtd.specs.QueueHead.{qh_words}
-use Rattle.qh_qtd.proofs.QhLaws.{qh_words-length}
 use Rattle.mem_queues.specs.Structures.{qtd_was_read, queue_head_was_read, reaches_queue_head, overlay_words, overlay_written, token_written}
 use Rattle.law_ring.specs.walk_writes.Writes.{WritesLent}
 
@@ -74,9 +74,6 @@ head_read_writes m a = either_writes m m (refused m) (reaches_queue_head m a) (s
 
 -- ---- an overlay and a token
 
-nine_words : (q : Qh) → length (overlay_words q) ≡ 9
-nine_words q = let l = length-drop 3 (qh_words q) in let n = qh_words-length q in omega (arith, l, n)
-
 -- a word of the two blocks of a queue head
 in_both : (m : Mem) (a i : ℕ) → a % 32 ≡ 0 → reaches m a ≡ true → reaches m (a + 32) ≡ true → i < 9 → reaches m (a + 12 + 4 * i) ≡ true
 in_both m a i aligned first second below =
@@ -111,10 +108,6 @@ bytes_write m pages k bs each = record {
   size = length-put_bytes m.words pages k bs;
   words = λ other apart. word_at-with_bytes m pages k bs other (λ i below same. reach_apart m (place pages (k + i)) other (each i below) apart (sym same));
 }
-
-reached_by : (m : Mem) (pages : List ℕ) (k n i : ℕ) (b : Bool) → i < n → all_reached m pages k n ≡ true → reaches m (place pages (k + i)) ≡ b → reaches m (place pages (k + i)) ≡ true
-reached_by m pages k n i true below all is = is
-reached_by m pages k n i false below all is = absurd (false≢true (sym (all_reached_no m pages k n i below is) ∙ all))
 
 -- the bytes before the first that the controller may not touch
 before_reached : (m : Mem) (pages : List ℕ) (k n i : ℕ) → i < reached m pages k n → reaches m (place pages (k + i)) ≡ true

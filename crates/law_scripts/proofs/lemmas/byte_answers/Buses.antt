@@ -2,6 +2,7 @@
 use Rattle.std.proofs.Common.{ℕ, List, [], ◌∷◌, map, slice_get, Option, Some, None}
 use Rattle.std.specs.List.{AllByRecursion}
 use Rattle.std.proofs.lemmas.Bool.{cond_both}
+use Rattle.law_common.proofs.Lists.{all_set, all_map}
 use Rattle.usb_base.specs.declared.packets.Ask.{Ask}
 use Rattle.usb_base.specs.declared.packets.Reply.{Reply}
 use Rattle.script_types.specs.declared.scripts.Script.{Script}
@@ -22,7 +23,7 @@ use Rattle.bus_wire.specs.Asking.{device_after, hub_after, translator_after, dev
 use Rattle.bus_wire.specs.Below.{Below, Floor, below_at, asked_below, floor_answer, below_row, devices_after, below_reply_at, below_reply, below_after_at, below_after, floor_left, hubs_worked, floor_worked}
 use Rattle.bus_wire.specs.Bus.{Fixed, Bus, opening_bus, floor_of, begins_anew, begun_at, begin_after, asked_of, answer_by, bus_row, changed_by, reply_at, reply_of, after_at, transact_after}
 use Rattle.law_scripts.specs.byte_answers.Bytes.{IsByteReply, IsByteText, IsByteScript, IsByteDevice, IsByteHub, IsByteBus}
-use Rattle.law_scripts.proofs.lemmas.byte_answers.Lists.{Holds, all_set, all_get, all_map}
+use Rattle.law_scripts.proofs.lemmas.byte_answers.Lists.{Holds, all_get}
 use Rattle.law_scripts.proofs.lemmas.byte_answers.Devices.{answer_bytes, answered_bytes, acked_bytes, begun_bytes, device_opens}
 use Rattle.law_scripts.proofs.lemmas.byte_answers.Hubs.{translator_bytes, translator_left, hub_bytes, hub_left, hub_acked_left, hub_opens, work_bytes}
 

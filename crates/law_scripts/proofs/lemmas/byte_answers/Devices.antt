@@ -4,6 +4,7 @@ use Rattle.std.specs.Prelude.{◌==◌, nat_le}
 use Rattle.std.specs.List.{AllByRecursion}
 use Rattle.std.specs.Option.{option_map}
 use Rattle.std.proofs.lemmas.Bool.{cond_both}
+use Rattle.law_common.proofs.Lists.{all_set, all_map}
 use Rattle.usb_base.specs.declared.packets.Ask.{Ask}
 use Rattle.usb_base.specs.declared.packets.EpKind.{EpKind}
 use Rattle.usb_base.specs.declared.packets.EpKind.TheVariants as Kinds
@@ -34,7 +35,7 @@ use Rattle.endpoint_script.specs.Streaming.{Streaming, due_of, first_of, streami
 use Rattle.endpoint_script.specs.Device.{Device, opened_part, opened_endpoint, opening, part_begun, endpoint_begun, begun, part_reply, part_answered, endpoint_answered, part_acked}
 use Rattle.endpoint_script.specs.Device.{endpoint_acked, reply_from, answer_of, answered, answered_in, answered_at, acked_by, acked_in, acked_at, endpoint_asked, endpoint_at}
 use Rattle.law_scripts.specs.byte_answers.Bytes.{IsByteReply, IsByteItem, IsByteText, IsByteRequest, IsByteRole, IsByteEndpoint, IsByteDevice}
-use Rattle.law_scripts.proofs.lemmas.byte_answers.Lists.{Holds, all_set, all_get, all_map, all_take, all_drop, all_kept}
+use Rattle.law_scripts.proofs.lemmas.byte_answers.Lists.{Holds, all_get, all_take, all_drop, all_kept}
 
 -- ---- items
 

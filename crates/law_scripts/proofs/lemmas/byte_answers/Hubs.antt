@@ -4,6 +4,7 @@ use Rattle.std.specs.Prelude.{◌==◌, ◌%◌}
 use Rattle.std.specs.List.{AllByRecursion, find}
 use Rattle.std.specs.Option.{option_and_then, option_map_or}
 use Rattle.std.proofs.lemmas.Bool.{cond_both}
+use Rattle.law_common.proofs.Lists.{all_both, all_set}
 use Rattle.usb_base.specs.declared.packets.Ask.{Ask}
 use Rattle.usb_base.specs.declared.packets.Pid.{Pid}
 use Rattle.usb_base.specs.declared.packets.Pid.TheVariants as Pids
@@ -54,7 +55,7 @@ use Rattle.hub_class.specs.Translating.{split_reply, after_split, transact_reply
 use Rattle.hub_class.specs.Microframe.{turn_hears, wire_tried, wire_half, buffers_worked, wire_between, translator_worked, wire_of_translator, translators_worked, hub_worked}
 use Rattle.hub_class.proofs.Microframe.{translator_keeps}
 use Rattle.law_scripts.specs.byte_answers.Bytes.{IsByteReply, IsByteAnswer, IsByteBuffer, AreByteBuffers, IsByteExchange, IsByteEntry, IsByteTranslator, IsByteHub}
-use Rattle.law_scripts.proofs.lemmas.byte_answers.Lists.{Holds, all_append, all_drop, all_get, all_set, all_take, found}
+use Rattle.law_scripts.proofs.lemmas.byte_answers.Lists.{Holds, all_drop, all_get, all_take, found}
 use Rattle.law_scripts.proofs.lemmas.byte_answers.Devices.{stages_bytes}
 
 -- ---- the two buffers
@@ -154,7 +155,7 @@ appended_bytes bytes (Made reply) h = h
 entry_started : (row : StartRow) (ask : Ask) (bytes : List ℕ) (stuff : ℕ) (es : List Entry) → AreByteEntries es
     → AreByteEntries (after_start row ask bytes stuff es)
 entry_started starts.Enters ask bytes stuff es h =
-    all_append IsByteEntry _ (fresh ask bytes stuff ∷ []) (first_dropped (has_key (key_of ask)) es h) (tt, tt)
+    all_both IsByteEntry _ (fresh ask bytes stuff ∷ []) (first_dropped (has_key (key_of ask)) es h) (tt, tt)
 entry_started starts.Joins ask bytes stuff es h =
     first_changed (has_key (key_of ask)) (joined ask bytes) es (λ e k. appended_bytes bytes e.exchange k) h
 entry_started starts.Forgotten ask bytes stuff es h = h

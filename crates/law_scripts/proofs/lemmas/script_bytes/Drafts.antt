@@ -1,10 +1,12 @@
 -- Each line leaves a script of bytes.
-use Rattle.std.proofs.Common.{ℕ, zero, suc, ◌+◌, ◌%◌, ◌<◌, Bool, List, [], ◌∷◌, length, map, drop, Option, Some, None, arith}
+use Rattle.std.proofs.Common.{ℕ, zero, suc, ◌+◌, ◌%◌, ◌<◌, List, [], ◌∷◌, length, map, drop, Option, Some, None, arith}
 use Rattle.std.specs.Prelude.{◌==◌, ◌&&◌, nat_le, is_some, unwrap_or}
 use Rattle.std.specs.List.{AllByRecursion, range_with_len}
 use Rattle.std.specs.Option.{option_map_or}
 use Rattle.std.specs.Simd.{first_chunks}
 use Rattle.std.proofs.lemmas.Bool.{cond_both}
+use Rattle.law_scripts.proofs.Common.{all_change}
+use Rattle.law_common.proofs.Lists.{all_both, all_map}
 use Rattle.usb_base.specs.declared.packets.Way.TheVariants as way
 use Rattle.usb_base.specs.declared.endpoints.EpDesc.{EpDesc}
 use Rattle.usb_base.specs.declared.commands.Cmd.{Cmd}
@@ -24,7 +26,7 @@ use Rattle.script_world.specs.Ranges.{within, is_endpoint, is_slots}
 use Rattle.script_world.specs.Rows.{is_known, items_of, answered, counted, roomier, stuffed, at_ep, name_of, with_ep, content_bytes}
 use Rattle.script_world.specs.Rows.{content_len, bytes_len, commanded, where_known, put_room, control_name, after}
 use Rattle.law_scripts.specs.byte_answers.Bytes.{IsByteItem, IsByteText, IsByteCommand, IsByteLine}
-use Rattle.law_scripts.proofs.lemmas.byte_answers.Lists.{Holds, all_append, all_map, all_take, all_drop}
+use Rattle.law_scripts.proofs.lemmas.byte_answers.Lists.{Holds, all_take, all_drop}
 use Rattle.law_scripts.proofs.lemmas.script_bytes.Statements.{IsByteAnswered, IsByteContent, IsByteStatement}
 
 abbrev pub IsBytePlaced : Placed → Type 0
@@ -33,11 +35,6 @@ IsBytePlaced d = AllByRecursion IsByteText d.eps
 pub record IsByteDraft (w : Draft) : Type 0 where
   pub devices : AllByRecursion IsBytePlaced w.devices
   pub lines : AllByRecursion (λ x. IsByteLine x.1) w.lines
-
-all_change : {X : Type 0} (P : X → Type 0) (p : X → Bool) (f : X → X) (xs : List X) → ((x : X) → P x → P (f x)) → AllByRecursion P xs → AllByRecursion P (change p f xs)
-all_change P p f [] g h = tt
-all_change P p f (x ∷ xs) g h =
-    cond_both (p x) (f x ∷ xs) (x ∷ change p f xs) (AllByRecursion P) (λ _. (g x h.0, h.1)) (λ _. (h.0, all_change P p f xs g h.1))
 
 always : {X : Type 0} (xs : List X) → AllByRecursion (λ _. Unit {0}) xs
 always [] = tt
@@ -59,7 +56,7 @@ items_bytes max (answer.Request setup bytes) h = (h, tt)
 items_bytes max _ h = (tt, tt)
 
 answered_bytes : (a : Answer) (e : EpText) → IsByteAnswered a → IsByteText e → IsByteText (answered a e)
-answered_bytes a e k h = all_append IsByteItem e.items (items_of e.desc.max a) h (items_bytes e.desc.max a k)
+answered_bytes a e k h = all_both IsByteItem e.items (items_of e.desc.max a) h (items_bytes e.desc.max a k)
 
 at_ep_bytes : (name : Name) (f : EpText → EpText) (ds : List Placed) → ((e : EpText) → IsByteText e → IsByteText (f e)) → AllByRecursion IsBytePlaced ds → AllByRecursion IsBytePlaced (at_ep name f ds)
 at_ep_bytes name f ds g h =
@@ -72,7 +69,7 @@ put_room_bytes name n ds h =
 -- ---- commands
 
 commanded_bytes : (w : Draft) (n : ℕ) (c : Cmd) → IsByteCommand c → IsByteDraft w → IsByteDraft (commanded w n c)
-commanded_bytes w n c k h = record { devices = h.devices; lines = all_append (λ x. IsByteLine x.1) w.lines _ h.lines (k, tt) }
+commanded_bytes w n c k h = record { devices = h.devices; lines = all_both (λ x. IsByteLine x.1) w.lines _ h.lines (k, tt) }
 
 where_bytes : (w : Draft) (name : Name) (v : Draft) → IsByteDraft w → IsByteDraft v → IsByteDraft (where_known w name v)
 where_bytes w name v h k = cond_both (is_some (known w name)) v w IsByteDraft (λ _. k) (λ _. h)
@@ -95,13 +92,13 @@ pub after_bytes : (w : Draft) (n : ℕ) (s : Statement) → IsByteStatement s �
 after_bytes w n (says.Hub addr ports multi) said h =
     cond_both (within 1 127 addr && within 1 15 ports) _ w IsByteDraft (λ _. record { devices = h.devices; lines = h.lines }) (λ _. h)
 after_bytes w n (says.DevHigh addr) said h =
-    cond_both (within 1 127 addr) _ w IsByteDraft (λ _. record { devices = all_append IsBytePlaced w.devices _ h.devices (tt, tt); lines = h.lines }) (λ _. h)
+    cond_both (within 1 127 addr) _ w IsByteDraft (λ _. record { devices = all_both IsBytePlaced w.devices _ h.devices (tt, tt); lines = h.lines }) (λ _. h)
 after_bytes w n (says.DevBelow b) said h =
     cond_both (within 1 127 b.addr && nat_le b.hub 127 && is_known w (says.DevBelow b)) _ w IsByteDraft
-    (λ _. record { devices = all_append IsBytePlaced w.devices _ h.devices (tt, tt); lines = h.lines }) (λ _. h)
+    (λ _. record { devices = all_both IsBytePlaced w.devices _ h.devices (tt, tt); lines = h.lines }) (λ _. h)
 after_bytes w n (says.Ep l) said h =
     cond_both (is_endpoint l && is_some (device_of w.devices l.name.addr)) _ w IsByteDraft
-    (λ _. record { devices = all_change IsBytePlaced (λ d. d.addr == l.name.addr) (with_ep l) w.devices (λ d k. all_append IsByteText d.eps _ k (tt, tt)) h.devices; lines = h.lines }) (λ _. h)
+    (λ _. record { devices = all_change IsBytePlaced (λ d. d.addr == l.name.addr) (with_ep l) w.devices (λ d k. all_both IsByteText d.eps _ k (tt, tt)) h.devices; lines = h.lines }) (λ _. h)
 after_bytes w n (says.Reply name a) said h =
     record { devices = at_ep_bytes name (answered a) w.devices (λ e k. answered_bytes a e said k) h.devices; lines = h.lines }
 after_bytes w n (says.Fate f) said h = where_bytes w f.name _ h (record { devices = h.devices; lines = h.lines })
@@ -122,6 +119,6 @@ after_bytes w n (says.Control c) said h =
     (commanded_bytes (record w { scripted = counted w.scripted (bytes_len c.bytes) }) n _ (said.0, given_bytes c.bytes said.1) (record { devices = h.devices; lines = h.lines }))
 after_bytes w n (says.Iso l) said h =
     cond_both (is_slots l) _ w IsByteDraft (λ _. where_bytes w l.name _ h (commanded_bytes w n (cmd.Iso (name_of l.name) l.count l.len l.seed) tt h)) (λ _. h)
-after_bytes w n (says.Order event k) said h = record { devices = h.devices; lines = all_append (λ x. IsByteLine x.1) w.lines _ h.lines (tt, tt) }
-after_bytes w n (says.Micro k) said h = record { devices = h.devices; lines = all_append (λ x. IsByteLine x.1) w.lines _ h.lines (tt, tt) }
+after_bytes w n (says.Order event k) said h = record { devices = h.devices; lines = all_both (λ x. IsByteLine x.1) w.lines _ h.lines (tt, tt) }
+after_bytes w n (says.Micro k) said h = record { devices = h.devices; lines = all_both (λ x. IsByteLine x.1) w.lines _ h.lines (tt, tt) }
 after_bytes w n _ said h = record { devices = h.devices; lines = h.lines }

@@ -4,6 +4,7 @@ use Rattle.std.specs.Prelude.{if◌then◌else◌, nat_lt, not, ◌==◌, codes}
 use Rattle.std.specs.List.{list_all, list_any, AllByRecursion}
 use Rattle.std.specs.Str.{bytes_eq}
 use Rattle.std.proofs.lemmas.Bool.{cond_both}
+use Rattle.law_common.proofs.Lists.{all_map}
 use Rattle.script_types.specs.declared.devices.DeviceText.{DeviceText}
 use Rattle.script_types.specs.declared.scripts.Script.{Script}
 use Rattle.script_forms.specs.declared.causes.TextWhy.{TextWhy}
@@ -20,7 +21,6 @@ use Rattle.script_text.specs.Reading.{lines_in, words_in, says, may_stand, no_by
 use Rattle.script_text.specs.Reading.{text_read, script_read}
 use Rattle.script_text.specs.Faults.{Spells}
 use Rattle.law_scripts.specs.byte_answers.Bytes.{IsByteText, IsByteScript}
-use Rattle.law_scripts.proofs.lemmas.byte_answers.Lists.{all_map}
 use Rattle.law_scripts.proofs.lemmas.script_bytes.Statements.{IsByteStatement, form_bytes}
 use Rattle.law_scripts.proofs.lemmas.script_bytes.Drafts.{IsBytePlaced, IsByteDraft, after_bytes}
 

@@ -2,6 +2,7 @@
 use Rattle.std.proofs.Common.{◌≡◌, ◌≢◌, ℕ, List, length, Option, Some, ap, refl, sym, subst, ◌∙◌, ⊎_elim}
 use Rattle.std.proofs.lemmas.Bool.{cases_eq}
 use Rattle.std.proofs.lemmas.Option.{same_Some}
+use Rattle.law_structures.proofs.Common.{element_is}
 use Rattle.qh_qtd.specs.declared.qtd.Qtd.{Qtd}
 use Rattle.qh_qtd.specs.declared.queue_head.Qh.{Qh}
 use Rattle.qh_qtd.specs.declared.token.Token.{Token}
@@ -23,9 +24,6 @@ abbrev as_element : Structure → Qtd → Qtd
 as_element (Element t) other = t
 as_element s other = other
 
-pub same_element : (t u : Qtd) → Element t ≡ Element u → t ≡ u
-same_element t u e = ap (λ (s : Structure). as_element s t) e
-
 abbrev as_queue : Structure → Qh → Qh
 as_queue (QueueHead q) other = q
 as_queue s other = other
@@ -34,7 +32,7 @@ pub same_queue : (q r : Qh) → QueueHead q ≡ QueueHead r → q ≡ r
 same_queue q r e = ap (λ (s : Structure). as_queue s q) e
 
 pub found_element : (o : Option Structure) (t u : Qtd) → o ≡ Some (Element t) → o ≡ Some (Element u) → t ≡ u
-found_element o t u one other = same_element t u (same_Some (Element t) (Element u) (sym one ∙ other))
+found_element o t u one other = element_is t u (same_Some (Element t) (Element u) (sym one ∙ other))
 
 pub found_queue : (o : Option Structure) (q r : Qh) → o ≡ Some (QueueHead q) → o ≡ Some (QueueHead r) → q ≡ r
 found_queue o q r one other = same_queue q r (same_Some (QueueHead q) (QueueHead r) (sym one ∙ other))
@@ -126,7 +124,7 @@ a_token_alters_its_qtd part a t u at after = record {
       ⊎_elim (λ (same : b ≡ a). record {
         qtd = t;
         here = ap part same ∙ at;
-        after = subst (λ (x : Qtd). IsAfter t x) (same_element u v (found_here part a b (Element u) (Element v) same here)) after;
+        after = subst (λ (x : Qtd). IsAfter t x) (element_is u v (found_here part a b (Element u) (Element v) same here)) after;
       })
       (λ (differs : b ≢ a). record { qtd = v; here = beside part a b (Element u) (Some (Element v)) differs here; after = is_itself v }) (cases_eq b a);
   buffer = λ b pages k bs here. record { bytes = bs; here = there part a b (Element u) (Buffer pages k bs) (no_two part b a (Buffer pages k bs) (Element t) here at (λ e. cc)) here; size = refl };

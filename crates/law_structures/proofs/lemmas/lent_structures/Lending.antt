@@ -1,8 +1,9 @@
 -- Runs that are lent, got back, taken and released, and words written where the driver alone may touch them (EHCI 1.0, 4.8 and 4.10).
-use Rattle.std.proofs.Common.{◌≡◌, ◌≢◌, ℕ, ◌+◌, ◌/◌, ◌<◌, ◌≤◌, ◌⊎◌, true, false, length, Option, Some, ap, refl, sym, ◌∙◌, ⊎_elim, inl, inr, arith}
+use Rattle.std.proofs.Common.{◌≡◌, ◌≢◌, ℕ, ◌+◌, ◌/◌, ◌<◌, ◌≤◌, ◌⊎◌, true, false, length, Some, ap, refl, sym, ◌∙◌, ⊎_elim, inl, inr, arith}
 use Rattle.std.proofs.lemmas.Bool.{cases_lt, true≢false}
 use Rattle.std.proofs.lemmas.List.{get_or-set_other}
 use Rattle.std.proofs.lemmas.Option.{same_Some}
+use Rattle.law_structures.proofs.Common.{kept_no_lent}
 use Rattle.word_mem.specs.Runs.{Run, HasBlock}
 use Rattle.word_mem.specs.Memory.{Mem, IsShaped, word_at, state_at, is_lent, reaches, AreAll, with_word, with_states, released}
 use Rattle.word_mem.specs.declared.blocks.BlockState.{BlockState}
@@ -39,14 +40,11 @@ lend_leaves m r within shape = record {
   words = λ other reached. refl;
 }
 
-kept_not_lent : (o : Option BlockState) → o ≡ Some Kept → o ≡ Some Lent → ⊥
-kept_not_lent o kept lent = cc
-
 -- a structure in a run that was Kept is new
 pub lent_new : (m : Mem) (r : Run) (a : ℕ) (s : Structure) → AreAll m Kept r → ((b : ℕ) → Has a s b → HasBlock r b) → Holds (with_states m r Lent) a s → IsNew m (with_states m r Lent) a s
 lent_new m r a s kept inside holds = record {
   holds = holds;
-  fresh = λ b has lent. let here : HasBlock r b = inside b has in kept_not_lent (state_at m b) (kept b here.from here.below) lent;
+  fresh = λ b has lent. let here : HasBlock r b = inside b has in kept_no_lent (state_at m b) (kept b here.from here.below) lent;
 }
 
 pub lent_is_told : (m : Mem) (parts : StructureSets) (n a : ℕ) (s : Structure) (r : Run) → Tells m parts → r.first + r.blocks ≤ length m.states → AreAll m Kept r → ((b : ℕ) → Has a s b → HasBlock r b) → Holds (with_states m r Lent) a s → Tells (with_states m r Lent) (put parts n a s)

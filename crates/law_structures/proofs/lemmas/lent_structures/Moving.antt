@@ -2,6 +2,7 @@
 use Rattle.std.proofs.Common.{◌≡◌, ℕ, ◌-◌, ◌==◌, ◌<◌, ◌≤◌, Bool, true, false, not, ◌&&◌, ◌||◌, nat_le, if◌then◌else◌, List, length, Option, Some, None, ap, refl, sym, ◌∙◌, arith, inl, inr}
 use Rattle.std.specs.Prelude.{IfSome}
 use Rattle.std.proofs.lemmas.Bool.{leb-true, false≢true}
+use Rattle.law_common.proofs.Booleans.{and_both, none_late}
 use Rattle.usb_base.specs.declared.packets.EpKind.{EpKind}
 use Rattle.usb_base.specs.declared.packets.EpKind.TheVariants as Kinds
 use Rattle.usb_base.specs.declared.packets.Pid.{Pid}
@@ -141,14 +142,6 @@ not_or : (a b : Bool) → (not a && b) ≡ true → (a ≡ false) × (b ≡ true
 not_or false b e = (refl, e)
 not_or true b e = absurd (false≢true e)
 
-or_off : (a b : Bool) → a ≡ false → b ≡ false → (a || b) ≡ false
-or_off false b e f = f
-or_off true b e f = absurd (false≢true (sym e))
-
-and_both : (a b : Bool) → (a && b) ≡ true → (a ≡ true) × (b ≡ true)
-and_both true b e = (refl, e)
-and_both false b e = absurd (false≢true e)
-
 left_some : (n : ℕ) → not (n == 0) ≡ true → 0 < n
 left_some n e = grind (arith, e)
 
@@ -168,7 +161,7 @@ erred_leaves : (host : HostSide) (after : HostSide) → after.left ≡ host.left
 erred_leaves host after left packets errors toggle active halted =
     stays host (error_outcome host) after (error_moves host (is_last_error host) refl) left packets (omega (arith, errors)) toggle
     (λ on. (not_or (is_last_error host) host.active (sym active ∙ on)).1)
-    (λ off on. halted ∙ or_off (is_last_error host) host.halted (not_or (is_last_error host) host.active (sym active ∙ on)).0 off)
+    (λ off on. halted ∙ none_late (is_last_error host) host.halted (not_or (is_last_error host) host.active (sym active ∙ on)).0 off)
 
 moves : (host : HostSide) (n : ℕ) (after : HostSide) → n ≤ host.left → after.left ≡ host.left - n → after.max ≡ host.max → after.cerr ≡ host.cerr → after.toggle ≡ not host.toggle → after.halted ≡ host.halted → (after.active ≡ true → (not (host.left - n == 0) ≡ true) × (host.active ≡ true)) → Leaves host (outcomes.Moved n) after
 moves host n after within left packets errors toggle halted active = record {

@@ -2,6 +2,7 @@
 use Rattle.std.proofs.Common.{◌≡◌, ◌≢◌, ℕ, ◌⊎◌, Bool, true, false, ◌==◌, Option, Some, None, if◌then◌else◌, ap, refl, sym, ◌∙◌, ⊎_elim, inl, inr}
 use Rattle.std.proofs.lemmas.Bool.{eq-eqb, eqb-true, cases_eq}
 use Rattle.std.proofs.lemmas.Option.{same_Some}
+use Rattle.law_common.proofs.Numbers.{other_number}
 use Rattle.law_structures.specs.lent_structures.Structures.{Structure, Structures, StructureSets, with_structure, put, without_structure, without}
 
 -- ---- two names
@@ -9,9 +10,6 @@ use Rattle.law_structures.specs.lent_structures.Structures.{Structure, Structure
 differ_test : (x : Bool) (a b : ℕ) → a ≢ b → (a == b) ≡ x → x ≡ false
 differ_test false a b differs is = refl
 differ_test true a b differs is = absurd (differs (eqb-true a b is))
-
-pub not_same : (a b : ℕ) → a ≢ b → (a == b) ≡ false
-not_same a b differs = differ_test (a == b) a b differs refl
 
 -- structures that differ have names that differ
 pub names_differ : (part : Structures) (a b : ℕ) (s t : Structure) → part a ≡ Some s → part b ≡ Some t → s ≢ t → a ≢ b
@@ -23,7 +21,7 @@ pub with_here : (part : Structures) (a : ℕ) (s : Structure) → with_structure
 with_here part a s = ap (λ (x : Bool). if x then Some s else part a) (eq-eqb a a refl)
 
 pub with_there : (part : Structures) (a : ℕ) (s : Structure) (b : ℕ) → b ≢ a → with_structure part a s b ≡ part b
-with_there part a s b differs = ap (λ (x : Bool). if x then Some s else part b) (not_same b a differs)
+with_there part a s b differs = ap (λ (x : Bool). if x then Some s else part b) (other_number b a differs)
 
 -- ---- the parts of all owners
 
@@ -31,7 +29,7 @@ pub put_here : (parts : StructureSets) (n a : ℕ) (s : Structure) → put parts
 put_here parts n a s = ap (λ (x : Bool). if x then with_structure (parts n) a s else parts n) (eq-eqb n n refl)
 
 pub put_beside : (parts : StructureSets) (n a : ℕ) (s : Structure) (k : ℕ) → k ≢ n → put parts n a s k ≡ parts k
-put_beside parts n a s k differs = ap (λ (x : Bool). if x then with_structure (parts n) a s else parts k) (not_same k n differs)
+put_beside parts n a s k differs = ap (λ (x : Bool). if x then with_structure (parts n) a s else parts k) (other_number k n differs)
 
 -- the structure put, and every other one
 pub put_same : (parts : StructureSets) (n a : ℕ) (s : Structure) → put parts n a s n a ≡ Some s
@@ -54,13 +52,13 @@ pub gone_here : (part : Structures) (a : ℕ) → without_structure part a a ≡
 gone_here part a = ap (λ (x : Bool). if x then None else part a) (eq-eqb a a refl)
 
 pub gone_there : (part : Structures) (a b : ℕ) → b ≢ a → without_structure part a b ≡ part b
-gone_there part a b differs = ap (λ (x : Bool). if x then None else part b) (not_same b a differs)
+gone_there part a b differs = ap (λ (x : Bool). if x then None else part b) (other_number b a differs)
 
 pub without_here : (parts : StructureSets) (n a : ℕ) → without parts n a n ≡ without_structure (parts n) a
 without_here parts n a = ap (λ (x : Bool). if x then without_structure (parts n) a else parts n) (eq-eqb n n refl)
 
 pub without_beside : (parts : StructureSets) (n a k : ℕ) → k ≢ n → without parts n a k ≡ parts k
-without_beside parts n a k differs = ap (λ (x : Bool). if x then without_structure (parts n) a else parts k) (not_same k n differs)
+without_beside parts n a k differs = ap (λ (x : Bool). if x then without_structure (parts n) a else parts k) (other_number k n differs)
 
 pub without_same : (parts : StructureSets) (n a : ℕ) → without parts n a n a ≡ None
 without_same parts n a = ap (λ (part : Structures). part a) (without_here parts n a) ∙ gone_here (parts n) a

@@ -1,6 +1,7 @@
 -- What the transaction of a queue head leaves, whatever is heard.
-use Rattle.std.proofs.Common.{◌≡◌, ℕ, ◌≤◌, Bool, true, false, if◌then◌else◌, List, [], length, Option, ap, refl, sym, subst, ◌∙◌, arith}
+use Rattle.std.proofs.Common.{◌≡◌, ℕ, ◌≤◌, Bool, false, List, [], length, Option, ap, refl, sym, subst, ◌∙◌, arith}
 use Rattle.std.specs.Prelude.{IfSome}
+use Rattle.law_structures.proofs.Common.{few_if, in_token}
 use Rattle.usb_base.specs.declared.packets.Ask.{Ask}
 use Rattle.usb_base.specs.declared.packets.EpKind.{EpKind}
 use Rattle.usb_base.specs.declared.packets.Pid.{Pid}
@@ -15,7 +16,7 @@ use Rattle.toggle_error.specs.declared.host.Outcome.{Outcome}
 use Rattle.toggle_error.specs.declared.host.Outcome.TheVariants as outcomes
 use Rattle.toggle_error.specs.declared.rows.AskToken.{AskToken}
 use Rattle.toggle_error.specs.declared.rows.AskToken.TheVariants as tokens
-use Rattle.toggle_error.specs.Columns.{limit_of, heard_of, out_token, token_at, token_of}
+use Rattle.toggle_error.specs.Columns.{heard_of, out_token, token_at, token_of}
 use Rattle.toggle_error.specs.PlainRows.{plain_row}
 use Rattle.toggle_error.specs.Settle.{row_at, outcome_of_row, settle_row, outcome_of}
 use Rattle.transactions.specs.Asks.{ask_of, token_pid, pinged}
@@ -28,10 +29,6 @@ use Rattle.law_structures.specs.lent_structures.Settles.{is_moved, Settles}
 use Rattle.law_structures.proofs.lemmas.lent_structures.Moving.{row_moves, Moves, row_is, row_fits, plain_fits, in_fits, heard_fits, row_leaves}
 
 -- ---- what an acknowledgement moves is no more than is left
-
-bytes_few : (b : Bool) (host : HostSide) → (if b then limit_of host else 0) ≤ host.left
-bytes_few true host = omega arith
-bytes_few false host = omega arith
 
 complete_few : (pid : Pid) (host : HostSide) → complete_sent pid host ≤ host.left
 complete_few Packets.Out host = omega arith
@@ -48,11 +45,6 @@ fits ask sent last reply host within =
     (plain_fits P (token_of ask) (heard_of host reply) sent tt (heard_fits P host reply tt (λ pid bs is few. omega (arith, few))) within)
 
 -- ---- the bytes received
-
--- an IN goes out as an IN, split or not
-in_goes_out : (split : Split) (out : Pid) → token_pid split Packets.In out ≡ Packets.In
-in_goes_out Splits.Plain out = refl
-in_goes_out _ out = refl
 
 -- other tokens receive none
 none_got : (pid : Pid) (o : Outcome) (reply : Reply) → (pid ≡ Packets.In → ⊥) → got_of pid o reply ≡ []
@@ -89,12 +81,12 @@ pub a_transaction_settles : (kind : EpKind) (q : Qh) (out : List ℕ) (last : Bo
 a_transaction_settles kind q out last reply long =
     let t : Transaction = transaction_of kind q in
     let sent : ℕ = moving_of t.split t.pipe.pid t.host (length out) in
-    let few : length out ≤ t.host.left = let b = bytes_few (carries t.split t.pipe.pid t.host.ping) t.host in omega (arith, long, b) in
+    let few : length out ≤ t.host.left = let b = few_if (carries t.split t.pipe.pid t.host.ping) t.host in omega (arith, long, b) in
     record {
       host = row_leaves (settle_row (ask_of t.split t.pipe t.host) sent last reply t.host) t.host (fits (ask_of t.split t.pipe t.host) sent last reply t.host (moving_few t.split t.pipe.pid t.host (length out) few));
       bytes = record {
         all = λ is. subst (λ (p : Pid). length (got_of p (outcome_in t out last reply) reply) ≡ moved_by (outcome_in t out last reply)) (sym is)
-            (in_brings (ask_of t.split t.pipe t.host) sent last reply t.host (ap (λ (p : Pid). token_pid t.split p (pinged t.pipe.kind t.host.ping)) is ∙ in_goes_out t.split (pinged t.pipe.kind t.host.ping)));
+            (in_brings (ask_of t.split t.pipe t.host) sent last reply t.host (ap (λ (p : Pid). token_pid t.split p (pinged t.pipe.kind t.host.ping)) is ∙ in_token t.split (pinged t.pipe.kind t.host.ping)));
         none = λ other. none_got (pid_at q.token.pid) (outcome_in t out last reply) reply other;
       };
     }

@@ -1,6 +1,8 @@
 -- A structure goes on standing where its blocks stay Lent and their words stay, and its blocks are Lent.
-use Rattle.std.proofs.Common.{◌≡◌, ℕ, ◌+◌, ◌*◌, ◌/◌, ◌%◌, ◌<◌, ◌≤◌, Bool, true, false, ◌&&◌, List, length, Some, ap, refl, sym, ◌∙◌, arith, ⊎_elim, inl, inr}
-use Rattle.std.proofs.lemmas.Bool.{cases_lt, false≢true}
+use Rattle.std.proofs.Common.{◌≡◌, ℕ, ◌+◌, ◌*◌, ◌/◌, ◌%◌, ◌<◌, ◌≤◌, true, ◌&&◌, List, length, Some, ap, refl, sym, ◌∙◌, arith, ⊎_elim, inl, inr}
+use Rattle.std.proofs.lemmas.Bool.{cases_lt}
+use Rattle.law_common.proofs.Booleans.{and_both, both_true}
+use Rattle.law_common.proofs.Numbers.{in_one}
 use Rattle.word_mem.specs.Memory.{Mem, state_at, reaches, is_lent}
 use Rattle.word_mem.specs.declared.blocks.BlockState.TheVariants.{Lent}
 use Rattle.word_mem.proofs.Frames.{lent_if_reached}
@@ -14,14 +16,6 @@ use Rattle.itd_sitd.specs.declared.sitd.Sitd.{Sitd}
 use Rattle.law_structures.specs.lent_structures.Structures.{Structure, QueueHead, Element, Buffer, Table, Isochronous, SplitIsochronous, HoldsQueueHead, HoldsElement, HoldsBuffer, HoldsTable, HoldsIsochronous, HoldsSplitIsochronous, Holds, IsOneOfTwo, Has}
 use Rattle.law_structures.specs.lent_structures.Changes.{Stays}
 
-pub and_both : (b c : Bool) → (b && c) ≡ true → (b ≡ true) × (c ≡ true)
-and_both true c e = (refl, e)
-and_both false c e = absurd (false≢true e)
-
-pub both_true : (b c : Bool) → b ≡ true → c ≡ true → (b && c) ≡ true
-both_true true c one other = other
-both_true false c one other = one
-
 -- the controller reaches the words of a Lent block, and no others
 pub reaches_if : (m : Mem) (at : ℕ) → state_at m (at / 32) ≡ Some Lent → reaches m at ≡ true
 reaches_if m at lent = ap is_lent lent
@@ -33,9 +27,6 @@ reached_still m after at still reached = reaches_if after at (still (lent_if_rea
 pub in_two : (a k : ℕ) → a % 32 ≡ 0 → k < 16 → IsOneOfTwo a ((a + 4 * k) / 32)
 in_two a k aligned below =
     ⊎_elim (λ (low : k < 8). inl (omega (arith, aligned, low))) (λ (high : 8 ≤ k). inr (omega (arith, aligned, high, below))) (cases_lt k 8)
-
-pub in_one : (a k : ℕ) → a % 32 ≡ 0 → k < 8 → (a + 4 * k) / 32 ≡ a / 32
-in_one a k aligned below = omega (arith, aligned, below)
 
 pub second_block : (a : ℕ) → (a + 32) / 32 ≡ a / 32 + 1
 second_block a = omega arith

@@ -1,8 +1,12 @@
 -- Words written in structures that are told: one word, the overlay of a queue head, and the token of a qTD (EHCI 1.0, 3.5, 3.6 and 4.10).
 use Rattle.std.proofs.Common.{◌≡◌, ℕ, ◌+◌, ◌*◌, ◌/◌, ◌%◌, ◌<◌, ◌≤◌, ◌⊎◌, Bool, true, ◌&&◌, List, ◌++◌, zero, suc, ◌∷◌, length, take, set, slice_get, ◌-◌, get_or, if◌then◌else◌, Some, ap, refl, sym, subst, ◌∙◌, ⊎_elim, inl, inr, zero-add, suc-add, arith}
 use Rattle.std.proofs.lemmas.Bool.{cases_lt}
-use Rattle.std.proofs.lemmas.List.{length-drop, length-set, get_or-set_other, take-append-drop, take-append-le, take_all}
+use Rattle.std.proofs.lemmas.List.{length-set, get_or-set_other, take-append-drop}
 use Rattle.std.proofs.lemmas.Option.{slice_get_within}
+use Rattle.law_structures.proofs.Common.{nine_words, block_inside}
+use Rattle.law_common.proofs.Lists.{first_eight}
+use Rattle.law_common.proofs.Booleans.{and_both}
+use Rattle.law_common.proofs.Numbers.{in_one}
 use Rattle.word_mem.specs.Memory.{Mem, IsShaped, reaches, is_lent, refused, with_word}
 use Rattle.word_mem.specs.Views.{words_in, words_at, with_words_in, with_words}
 use Rattle.word_mem.specs.declared.blocks.BlockState.{BlockState}
@@ -16,7 +20,6 @@ use Rattle.qh_qtd.specs.declared.queue_head.Qh.{Qh}
 use Rattle.qh_qtd.specs.Token.{token_rows, token_word}
 use Rattle.qh_qtd.specs.Qtd.{qtd_words, IsQtdInRange}
 use Rattle.qh_qtd.specs.QueueHead.{qh_words, IsQhInRange}
-use Rattle.qh_qtd.proofs.QhLaws.{qh_words-length}
 use Rattle.qh_qtd.proofs.QtdLaws.{qtd_words-token}
 use Rattle.itd_sitd.specs.declared.itd.Itd.{Itd}
 use Rattle.itd_sitd.specs.declared.sitd.Sitd.{Sitd}
@@ -26,7 +29,7 @@ use Rattle.mem_queues.specs.Structures.{reaches_queue_head, overlay_words, overl
 use Rattle.mem_queues.proofs.WriteBack.{overlay_outside, overlay_states, overlay_size}
 use Rattle.law_structures.specs.lent_structures.Structures.{Structure, StructureSets, QueueHead, Element, Table, Isochronous, SplitIsochronous, HoldsQueueHead, HoldsElement, HoldsTable, HoldsIsochronous, HoldsSplitIsochronous, IsOneOfTwo, put, Has, Tells}
 use Rattle.law_structures.specs.lent_structures.Changes.{Changes, relinked}
-use Rattle.law_structures.proofs.lemmas.lent_structures.Standing.{and_both, in_one, in_two}
+use Rattle.law_structures.proofs.lemmas.lent_structures.Standing.{in_two}
 use Rattle.law_structures.proofs.lemmas.lent_structures.Telling.{change_is_told}
 
 -- ---- one word
@@ -42,12 +45,6 @@ word_changes m a s at v has = record {
   outside = λ other outside. get_or-set_other m.words (at / 4) (other / 4) v 0
       (λ same. outside (subst (Has a s) (sym (same_word_block at other (sym same))) has));
 }
-
--- the words of a Lent block lie in memory
-pub block_inside : (m : Mem) (a : ℕ) → IsShaped m → a % 32 ≡ 0 → reaches m a ≡ true → a / 4 + 8 ≤ length m.words
-block_inside m a shape aligned reached =
-    let inside = slice_get_within m.states (a / 32) Lent (lent_if_reached m a reached) in
-    omega (arith, inside, shape.eight_each, aligned)
 
 two_inside : (m : Mem) (a : ℕ) → IsShaped m → a % 32 ≡ 0 → (reaches m a && reaches m (a + 32)) ≡ true → a / 4 + 16 ≤ length m.words
 two_inside m a shape aligned reached =
@@ -152,15 +149,9 @@ words_in-add ws at (suc n) k =
     let e : at + 4 + 4 * n ≡ at + 4 * suc n = omega arith in
     ap (words_in ws at) (suc-add n k) ∙ ap (λ xs. get_or ws (at / 4) 0 ∷ xs) (words_in-add ws (at + 4) n k ∙ ap (λ (b : ℕ). words_in ws (at + 4) n ++ words_in ws b k) e)
 
-take_front : (xs ys : List ℕ) (n : ℕ) → length xs ≡ n → take n (xs ++ ys) ≡ xs
-take_front xs ys n long = take-append-le n xs ys (omega (arith, long)) ∙ take_all n xs (omega (arith, long))
-
-pub nine_words : (q : Qh) → length (overlay_words q) ≡ 9
-nine_words q = let l = length-drop 3 (qh_words q) in let n = qh_words-length q in omega (arith, l, n)
-
 first_three : (m : Mem) (a : ℕ) (q : Qh) → words_at m a 12 ≡ qh_words q → words_at m a 3 ≡ take 3 (qh_words q)
 first_three m a q words =
-    sym (ap (take 3) (words_in-add m.words a 3 9) ∙ take_front (words_in m.words a 3) (words_in m.words (a + 12) 9) 3 (length-words_in m.words a 3)) ∙ ap (take 3) words
+    sym (ap (take 3) (words_in-add m.words a 3 9) ∙ first_eight (words_in m.words a 3) (words_in m.words (a + 12) 9) 3 (length-words_in m.words a 3)) ∙ ap (take 3) words
 
 -- the words of a queue head with this overlay
 head_words_back : (m : Mem) (a : ℕ) (q : Qh) → IsShaped m → a % 32 ≡ 0 → reaches_queue_head m a ≡ true → words_at m a 3 ≡ take 3 (qh_words q) → words_at (overlay_written m a (overlay_words q)) a 12 ≡ qh_words q

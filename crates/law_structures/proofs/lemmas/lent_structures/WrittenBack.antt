@@ -1,10 +1,9 @@
 -- A write-back of which nothing is refused, and the structures that it leaves.
-use Rattle.std.proofs.Common.{◌≡◌, ◌≢◌, ℕ, ◌+◌, ◌-◌, ◌<◌, ◌≤◌, Bool, true, false, ◌&&◌, nat_le, List, [], length, take, drop, if◌then◌else◌, Some, ap, refl, sym, subst, ◌∙◌, arith}
-use Rattle.std.proofs.lemmas.Bool.{le-leb}
-use Rattle.std.proofs.lemmas.List.{take_all}
-use Rattle.word_mem.specs.Memory.{Mem, reaches, refused}
-use Rattle.mem_bytes.specs.Bytes.{place, bytes_at, with_bytes, stored, all_reached, AreReached}
-use Rattle.mem_bytes.proofs.Reach.{all_reached_if, stored_all, with_bytes_none}
+use Rattle.std.proofs.Common.{◌≡◌, ◌≢◌, ℕ, ◌+◌, ◌≤◌, Bool, true, false, List, [], length, take, drop, if◌then◌else◌, Some, ap, refl, sym, subst, ◌∙◌, arith}
+use Rattle.law_structures.proofs.Common.{read_whole, wrote_bytes, place_few}
+use Rattle.word_mem.specs.Memory.{Mem, reaches}
+use Rattle.mem_bytes.specs.Bytes.{place, with_bytes, AreReached}
+use Rattle.mem_bytes.proofs.Reach.{all_reached_if, with_bytes_none}
 use Rattle.mem_bytes.proofs.Loads.{bytes_at_none}
 use Rattle.link_words.specs.Layout.{IsWordInRange}
 use Rattle.qh_qtd.specs.declared.qtd.Qtd.{Qtd}
@@ -15,7 +14,7 @@ use Rattle.toggle_error.specs.declared.host.Outcome.{Outcome}
 use Rattle.mem_queues.specs.Structures.{token_written}
 use Rattle.hc_copy.specs.declared.held.Transaction.{Transaction}
 use Rattle.hc_copy.specs.Overlay.{advanced, pages_of, buffer_place, moved}
-use Rattle.hc_copy.specs.Buffer.{Writing, size_of, bytes_read, sending, placed, bytes_written}
+use Rattle.hc_copy.specs.Buffer.{Writing, size_of, bytes_read, sending}
 use Rattle.hc_copy.specs.WriteBack.{moved_by, then_write, overlay_after, overlay_back, token_back, written_back}
 use Rattle.hc_copy.proofs.Ranges.{advanced_in_range, moved_in_range}
 use Rattle.law_structures.specs.lent_structures.Structures.{Structure, QueueHead, Element, Buffer, HoldsElement, HoldsBuffer, StructureSets, put, Tells}
@@ -52,14 +51,6 @@ advance_is_told m parts n a q c e t told copy element =
 
 -- ---- the bytes that a transaction sends
 
--- all of them lie in the pages, and the controller may touch them
-read_whole : (pages : List ℕ) (from n : ℕ) (m : Mem) (bs : List ℕ) → from + n ≤ size_of pages → all_reached m pages from n ≡ true → bytes_at m pages from n ≡ bs → bytes_read pages from n m ≡ record { bytes = bs; memory = m; all = true }
-read_whole pages from n m bs within reached bytes =
-    let inside = le-leb (from + n) (size_of pages) within in
-    ap (λ (xs : List ℕ). record { bytes = xs; memory = if nat_le (from + n) (size_of pages) then (if all_reached m pages from n then m else refused m) else m; all = nat_le (from + n) (size_of pages) && all_reached m pages from n }) bytes
-    ∙ ap (λ (b : Bool). record { bytes = bs; memory = if b then (if all_reached m pages from n then m else refused m) else m; all = b && all_reached m pages from n }) inside
-    ∙ ap (λ (b : Bool). record { bytes = bs; memory = if b then m else refused m; all = b }) reached
-
 pub sent_is_told : (m : Mem) (parts : StructureSets) (n b : ℕ) (t : Transaction) (c : Qh) (k : ℕ) (bs : List ℕ) (j : ℕ) → Tells m parts → parts n b ≡ Some (Buffer (pages_of c) k bs) → buffer_place c ≡ k + j → j + t.bytes ≤ length bs → sending t c m ≡ record { bytes = take t.bytes (drop j bs); memory = m; all = true }
 sent_is_told m parts n b t c k bs j told buffer at within =
     let h : HoldsBuffer m b (pages_of c) k bs = told.each n b (Buffer (pages_of c) k bs) buffer in
@@ -68,13 +59,9 @@ sent_is_told m parts n b t c k bs j told buffer at within =
     ∙ read_whole (pages_of c) (k + j) t.bytes m (take t.bytes (drop j bs)) (omega (arith, room, within))
     (bytes_reached m parts n b (pages_of c) k bs j t.bytes told buffer within) (bytes_part m parts n b (pages_of c) k bs j t.bytes told buffer within)
 
--- the place of the next byte lies in the five pages
-pub place_small : (c : Qh) → IsQhInRange c → buffer_place c < 20480
-place_small c (link, (chars, (caps, (current, (next, (alternate, ((total, (page, (errors, pid))), ((page0, (offset, _)), rest)))))))) = omega (arith, page, offset)
-
 pub nothing_is_sent : (m : Mem) (t : Transaction) (c : Qh) → IsQhInRange c → t.bytes ≡ 0 → sending t c m ≡ record { bytes = []; memory = m; all = true }
 nothing_is_sent m t c range none =
-    let low = place_small c range in
+    let low = place_few c range in
     ap (λ (n : ℕ). bytes_read (pages_of c) (buffer_place c) n m) none
     ∙ read_whole (pages_of c) (buffer_place c) 0 m [] (omega (arith, low)) (all_reached_if m (pages_of c) (buffer_place c) 0 (λ i below. absurd (omega (arith, below)))) (bytes_at_none m (pages_of c) (buffer_place c))
 
@@ -82,7 +69,7 @@ nothing_is_sent m t c range none =
 
 -- they lie in the pages, and the controller may touch them
 pub received_fits : (m : Mem) (parts : StructureSets) (n : ℕ) (c : Qh) (got : List ℕ) (r : Received) → Tells m parts → IsQhInRange c → IsReceived (parts n) c got r → buffer_place c + length got ≤ size_of (pages_of c)
-received_fits m parts n c got Nothing told range none = let low = place_small c range in let l = ap length none in omega (arith, low, l)
+received_fits m parts n c got Nothing told range none = let low = place_few c range in let l = ap length none in omega (arith, low, l)
 received_fits m parts n c got (Into pages k bs j) told range into =
     let h : HoldsBuffer m (place pages k) pages k bs = told.each n (place pages k) (Buffer pages k bs) into.buffer in
     let room = h.within in
@@ -113,14 +100,6 @@ received_else parts n c got (Into pages k bs j) b s into here other =
     put_else parts n (place pages k) (Buffer pages k (overwritten bs j got)) b (names_differ (parts n) b (place pages k) s (Buffer pages k bs) here into.buffer (other pages k bs)) ∙ here
 
 -- ---- the three writes
-
-wrote_bytes : (m : Mem) (pages : List ℕ) (from : ℕ) (got : List ℕ) → from + length got ≤ size_of pages → AreReached m pages from (length got) → bytes_written pages from got m ≡ record { memory = with_bytes m pages from got; all = true }
-wrote_bytes m pages from got fits reached =
-    let all : placed pages from got ≡ got = take_all (size_of pages - from) got (omega (arith, fits)) in
-    ap (λ (bs : List ℕ). record { memory = stored m pages from bs; all = all_reached m pages from (length bs) && nat_le (from + length got) (size_of pages) }) all
-    ∙ ap (λ (x : Mem). record { memory = x; all = all_reached m pages from (length got) && nat_le (from + length got) (size_of pages) }) (stored_all m pages from got reached)
-    ∙ ap (λ (b : Bool). record { memory = with_bytes m pages from got; all = b && nat_le (from + length got) (size_of pages) }) (all_reached_if m pages from (length got) reached)
-    ∙ ap (λ (b : Bool). record { memory = with_bytes m pages from got; all = b }) (le-leb (from + length got) (size_of pages) fits)
 
 -- memory after the bytes and the overlay
 abbrev with_overlay : Mem → ℕ → Qh → Qh → List ℕ → Mem

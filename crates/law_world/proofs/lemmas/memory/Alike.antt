@@ -3,6 +3,7 @@ use Rattle.std.proofs.Common.{◌≡◌, ◌≢◌, ℕ, ◌*◌, Bool, false, L
 use Rattle.std.specs.Prelude.{◌⊎◌, slice_set}
 use Rattle.std.proofs.lemmas.Bool.{cases_eq}
 use Rattle.std.proofs.lemmas.Option.{same_Some}
+use Rattle.law_common.proofs.Lists.{all_more}
 use Rattle.link_words.specs.Links.{link_read, link_fields, qtd_link_of}
 use Rattle.link_words.specs.declared.fields.LinkBits.{LinkBits}
 use Rattle.link_words.specs.declared.kinds.QtdLink.{QtdLink}
@@ -42,7 +43,6 @@ use Rattle.law_queues.specs.standing_fronts.Reaching.{Reaches}
 use Rattle.law_queues.specs.mended_heads.Owed.{StalledQueue, IsOwed}
 use Rattle.law_queues.specs.mended_heads.Waiting.{MendsStand}
 use Rattle.law_queues.specs.mended_heads.Standing.{KeepsHalted}
-use Rattle.law_queues.proofs.lemmas.mended_heads.Content.{all_on}
 use Rattle.law_queues.proofs.lemmas.mended_heads.Standing.{stand_on}
 use Rattle.law_world.specs.steps.control_queues.Controls.{ControlsStand}
 use Rattle.law_frames.specs.Met.{IsQueuePart}
@@ -139,7 +139,7 @@ module _ (d h : DriverContent) (near : NearAlike d h) where
   mends_near : (parts : StructureSets) (out : ℕ → List ℕ) → MendsStand d parts out → MendsStand f parts out
   mends_near parts out k = record {
     queues = k.queues;
-    are = record { mends = k.are.mends; owed = all_on (IsOwed d) (IsOwed f) k.queues owed_near k.are.owed; wait = k.are.wait; apart = k.are.apart };
+    are = record { mends = k.are.mends; owed = all_more (IsOwed d) (IsOwed f) k.queues owed_near k.are.owed; wait = k.are.wait; apart = k.are.apart };
   }
 
   module _ (dummies : DummiesWereLent d h) (member streams : ℕ → Bool) (ends : ℕ → Told) (parts : StructureSets) (order : ℕ → ℕ → ℕ) (out : ℕ → List ℕ) where

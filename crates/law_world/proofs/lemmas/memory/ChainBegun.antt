@@ -3,6 +3,7 @@ use Rattle.std.proofs.Common.{◌≡◌, ℕ, cond, Bool, true, false, List, [],
 use Rattle.std.specs.List.{AllByRecursion, list_any}
 use Rattle.std.proofs.lemmas.Bool.{and_parts, or_cases, eqb-true, false≢true}
 use Rattle.std.proofs.lemmas.Option.{slice_get_past}
+use Rattle.law_common.proofs.Lists.{pushed_last, pushed_there}
 use Rattle.word_mem.specs.Memory.{Mem}
 use Rattle.drv_chains.specs.declared.members.Member.{Member}
 use Rattle.drv_chains.specs.declared.members.QueueHead.{QueueHead as Queue}
@@ -22,7 +23,6 @@ use Rattle.law_driver.specs.in_place.InPlace.{IsInPlace}
 use Rattle.claims_driver.specs.Leaving.{HasOwners}
 use Rattle.claims_driver.specs.Owners.{Owner, QueueHead}
 use Rattle.law_driver.specs.run_owners.Accepts.{Chains}
-use Rattle.law_driver.proofs.lemmas.chained_transfers.Chained.{pushed_last, pushed_there}
 use Rattle.law_driver.proofs.lemmas.listed_members.Standing.{frames_placed}
 
 -- one of these queue heads has the name of r

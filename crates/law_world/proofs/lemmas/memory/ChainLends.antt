@@ -1,5 +1,7 @@
 -- The structures of an accepted open of an interrupt endpoint are lent: the world goes on, and the open waits for its first store.
 use Rattle.std.proofs.Common.{◌≡◌, ◌≢◌, ℕ, ◌*◌, false, Option, Some, ap, sym, subst, ◌∙◌, inr}
+use Rattle.law_common.proofs.Numbers.{same_blocks}
+use Rattle.law_world.proofs.Common.{none_some}
 use Rattle.mem_runs.specs.Book.{Book, holding, lend_taken}
 use Rattle.drv_table.specs.declared.content.Command.{Command}
 use Rattle.drv_table.specs.declared.content.Command.TheVariants as unfinished
@@ -29,11 +31,9 @@ use Rattle.law_driver.specs.queued_drivers.Queued.{queued, queued_parts}
 use Rattle.law_driver.specs.queued_drivers.Rows.{QueuesAlike, LinksOn, IsLentAlike}
 use Rattle.law_driver.proofs.lemmas.queued_drivers.RowFrames.{chain_lends_agree as lends_alike}
 use Rattle.law_driver.proofs.lemmas.queued_drivers.RowOwners.{queued_has_owners}
-use Rattle.law_queues.proofs.lemmas.publish_laws.Apart.{thirty_two}
 use Rattle.bus_world.specs.World.{World, driver_parts, controller_parts, driver_next}
 use Rattle.law_world.specs.memory.Mixed.{QueuesGoOn, IsChainToLend, IsChainThere, IsUnderWay, Standing, IsMixedAt}
 use Rattle.law_world.specs.memory.Steps.{QueueStep, begins, IsMixedNext}
-use Rattle.law_world.proofs.lemmas.memory.Unfinished.{none_unfinished}
 use Rattle.law_world.proofs.lemmas.memory.Next.{mixed_next}
 use Rattle.law_world.proofs.lemmas.memory.QueueViews.{queued_driven}
 use Rattle.law_world.proofs.lemmas.memory.Alike.{same_lent, goes_on_alike, there_alike}
@@ -98,7 +98,7 @@ module _ (s : Standing) (w : World) (k : IsMixedAt s w) (t : IsChainToLend w.dri
   lent_sound : PartsStand lent parts
   lent_sound e x here m =
       let differs : 32 * x.queue ≢ 32 * t.ready.endpoint.queue =
-      λ same. m.there.linked (lending.command ∙ ap (λ (q : ℕ). Some (unfinished.Open q)) (sym (thirty_two x.queue t.ready.endpoint.queue same))) in
+      λ same. m.there.linked (lending.command ∙ ap (λ (q : ℕ). Some (unfinished.Open q)) (sym (same_blocks x.queue t.ready.endpoint.queue same))) in
       subst (IsQueuePart (32 * x.queue)) (sym (stays (32 * x.queue) differs)) (k.queues.sound e x here (record { there = record { linked = m.there.linked; kept = m.there.kept }; near = m.near }))
 
   lent_goes : QueuesGoOn lent s.near s.streams s.ends parts s.order s.out
@@ -124,7 +124,7 @@ module _ (s : Standing) (w : World) (k : IsMixedAt s w) (t : IsChainToLend w.dri
       ∙ chain_stays (record d { book = book }) d.periodic t.work t.begun ∙ t.ready.command
 
   links_on : LinksOn (driver_parts w) rows.Lend
-  links_on = record { chain = t.ready.command; unfinished = λ none. none_unfinished unfinished.Chain (sym none ∙ on) }
+  links_on = record { chain = t.ready.command; unfinished = λ none. none_some unfinished.Chain (sym none ∙ on) }
 
   like : IsLentAlike (driver_parts w)
   like = lends_alike p due links_on

@@ -3,6 +3,8 @@ use Rattle.std.proofs.Common.{◌≡◌, ◌≢◌, ℕ, suc, ◌-◌, ◌*◌, 
 use Rattle.std.specs.Prelude.{not, is_some}
 use Rattle.std.proofs.lemmas.Bool.{true≢false, false_from_ne_true, eq-eqb, and_from, or_left, or_right, or_parts}
 use Rattle.std.proofs.lemmas.Option.{same_Some}
+use Rattle.law_common.proofs.Booleans.{and_true}
+use Rattle.law_world.proofs.Common2.{queued_owner}
 use Rattle.word_mem.specs.Memory.{Mem}
 use Rattle.drv_periodic_table.specs.Periodic.{is_periodic}
 use Rattle.drv_table.specs.declared.content.Endpoint.{Endpoint}
@@ -24,13 +26,9 @@ use Rattle.law_queues.specs.open_laws.Queues.{IsOpenToLend}
 use Rattle.law_queues.proofs.lemmas.open_laws.Newest.{new_heads_rest}
 use Rattle.law_driver.specs.queued_drivers.Queued.{queue_of, with_queue, queued_endpoint, queued_transfer, queued_command, queued_made, queued}
 use Rattle.law_driver.proofs.lemmas.queued_drivers.RowLists.{queue_at, IsMapped, mapped}
-use Rattle.law_world.proofs.lemmas.memory.QueueViews.{told_queue, end_same}
+use Rattle.law_world.proofs.lemmas.memory.QueueViews.{told_queue}
 
 -- ---- the queue head of an endpoint that isn't in the ring
-
-pub and_true : (b : Bool) → b && true ≡ b
-and_true true = refl
-and_true false = refl
 
 abbrev is_there : DriverContent → ℕ → ℕ → Endpoint → Bool
 is_there d n e x = (n == 32 * x.queue) && may_reach d true e x
@@ -89,7 +87,7 @@ module _ (d : DriverContent) (m : Mem) (owners : HasOwners d) (k : IsChainReady 
   pub none_of : (t : ℕ) (y : Transfer) → slice_get (map (queued_transfer d.endpoints) d.transfers) t ≡ Some y → y.endpoint ≢ k.number
   none_of t y there same =
       let w : IsMapped (queued_transfer d.endpoints) d.transfers t y = mapped (queued_transfer d.endpoints) d.transfers t y there in
-      k.opened.no_transfer t (runs_of_transfer w.one) (ap (option_map runs_of_transfer) w.here) (sym (end_same d.endpoints w.one) ∙ ap (λ (z : Transfer). z.endpoint) w.is ∙ same)
+      k.opened.no_transfer t (runs_of_transfer w.one) (ap (option_map runs_of_transfer) w.here) (sym (queued_owner d.endpoints w.one) ∙ ap (λ (z : Transfer). z.endpoint) w.is ∙ same)
 
   pub none_in : (t : ℕ) (o : Option Transfer) (y : TransferRuns) → slice_get (map (queued_transfer d.endpoints) d.transfers) t ≡ o → option_map runs_of_transfer o ≡ Some y → y.endpoint ≢ k.number
   none_in t None y there is same = absurd (cc)

@@ -2,6 +2,7 @@
 use Rattle.std.proofs.Common.{◌≡◌, ℕ, suc, ◌*◌, ◌⊎◌, Bool, true, false, cond, List, Option, Some, None, nat_lt, ap, refl, sym, subst, ◌∙◌, ⊎_elim, inl, inr}
 use Rattle.std.specs.Prelude.{is_none}
 use Rattle.std.proofs.lemmas.Bool.{cases_eq}
+use Rattle.law_world.proofs.Common.{none_some}
 use Rattle.drv_periodic.specs.declared.work.Work.{Work}
 use Rattle.drv_periodic_table.specs.Periodic.{PeriodicContent}
 use Rattle.drv_periodic_table.specs.Linking.{with_first, begun_next}
@@ -26,7 +27,6 @@ use Rattle.law_world.proofs.lemmas.steps.lemmas.control_queues.Opens.{open_is_wh
 use Rattle.law_driver.specs.queued_drivers.Queued.{queued}
 use Rattle.law_descriptors.specs.queue_events.Events.{PartsStand}
 use Rattle.law_world.specs.memory.Mixed.{QueuesGoOn}
-use Rattle.law_world.proofs.lemmas.memory.Unfinished.{none_unfinished}
 use Rattle.law_world.proofs.lemmas.memory.ChainNew.{new_sound}
 
 -- ---- the driver's content
@@ -72,7 +72,7 @@ chain_stays g q v work =
 -- the walk of the ring meets the same queue heads
 module _ (d f : DriverContent) (was : d.command ≡ Some unfinished.Chain) (a : SameRing d f) where
   never_opens : (o : Option Command) → (o ≡ Some unfinished.Chain) ⊎ (o ≡ None) → (q : ℕ) → o ≡ Some (unfinished.Open q) → ⊥
-  never_opens o which q is = ⊎_elim (λ (chain : o ≡ Some unfinished.Chain). one (sym chain ∙ is)) (λ (none : o ≡ None). none_unfinished (unfinished.Open q) (sym none ∙ is)) which
+  never_opens o which q is = ⊎_elim (λ (chain : o ≡ Some unfinished.Chain). one (sym chain ∙ is)) (λ (none : o ≡ None). none_some (unfinished.Open q) (sym none ∙ is)) which
     where
       one : ◌≡◌ {A = Option Command} (Some unfinished.Chain) (Some (unfinished.Open q)) → ⊥
       one same = cc

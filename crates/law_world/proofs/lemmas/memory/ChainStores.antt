@@ -1,5 +1,6 @@
 -- The queue head of an interrupt endpoint is linked in its frames by one store after the other: the world goes on with each, and the last finishes the open.
 use Rattle.std.proofs.Common.{◌≡◌, ◌≢◌, ℕ, ◌*◌, false, List, Option, Some, None, ap, refl, sym, subst, ◌∙◌, ⊎_elim, inr}
+use Rattle.law_world.proofs.Common.{none_some}
 use Rattle.drv_table.specs.declared.content.Command.{Command}
 use Rattle.drv_table.specs.declared.content.Command.TheVariants as unfinished
 use Rattle.drv_table.specs.declared.rows.DriverRow.{DriverRow}
@@ -30,7 +31,6 @@ use Rattle.bus_world.specs.World.{World, driver_parts, controller_parts, driver_
 use Rattle.law_world.specs.memory.Mixed.{QueuesGoOn, IsChainToLend, IsChainThere, IsUnderWay, Standing, IsMixedAt}
 use Rattle.law_world.specs.memory.SameQueues.{IsSameQueue}
 use Rattle.law_world.specs.memory.Steps.{AreTold, left_alike, QueueStep, stays, opens, IsMixedNext}
-use Rattle.law_world.proofs.lemmas.memory.Unfinished.{none_unfinished}
 use Rattle.law_world.proofs.lemmas.memory.Next.{mixed_next}
 use Rattle.law_world.proofs.lemmas.memory.Stepping.{told_stored}
 use Rattle.law_world.proofs.lemmas.memory.FrameRegisters.{rest_mixed}
@@ -111,7 +111,7 @@ module _ (s : Standing) (w : World) (k : IsMixedAt s w) (t : IsChainThere w.driv
 
   module _ (on : f.command ≡ Some unfinished.Chain) where
     leaves : LeavesQueues (driver_parts w) (rows.Store why.store.block why.store.at why.store.value)
-    leaves = frames_leave row p owners k.turns due (record { link = link; goes_on = λ same none. none_unfinished unfinished.Chain (sym none ∙ on) })
+    leaves = frames_leave row p owners k.turns due (record { link = link; goes_on = λ same none. none_some unfinished.Chain (sym none ∙ on) })
 
     goes_on : QueuesGoOn (queued f) s.near s.streams s.ends parts s.order s.out
     goes_on = goes_on_alike (queued d) (queued f) s.near s.streams s.ends parts s.order s.out leaves.queues (same_lent (queued d) (queued f) (leaves.book refl)) stored_goes

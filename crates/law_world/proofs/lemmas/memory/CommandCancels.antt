@@ -1,5 +1,6 @@
 -- An endpoint is cancelled: it is to leave the ring, or its frames. Nothing of its queue changes by that.
 use Rattle.std.proofs.Common.{◌≡◌, ℕ, ◌*◌, true, false, Option, Some, None, ap, refl, sym, subst, ◌∙◌, ⊎_elim}
+use Rattle.law_world.proofs.Common.{none_some}
 use Rattle.usb_base.specs.declared.commands.Cmd.TheVariants as commands
 use Rattle.usb_base.specs.declared.endpoints.EpName.{EpName}
 use Rattle.drv_periodic_table.specs.Periodic.{is_periodic}
@@ -28,7 +29,6 @@ use Rattle.law_driver.specs.queued_drivers.Commands.{unlink_of, left_queue, IsQu
 use Rattle.law_driver.proofs.lemmas.queued_drivers.CommandLeaves.{cancelled, Left, unchained}
 use Rattle.bus_world.specs.World.{World, controller_parts}
 use Rattle.law_world.specs.memory.Mixed.{QueuesGoOn, IsUnderWay, Standing}
-use Rattle.law_world.proofs.lemmas.memory.Unfinished.{none_unfinished}
 use Rattle.law_world.proofs.lemmas.memory.CommandBeside.{by_alike}
 use Rattle.law_world.proofs.lemmas.memory.CommandMet.{set_met}
 use Rattle.law_world.proofs.lemmas.memory.CommandTails.{ends_idle, all_stand}
@@ -129,7 +129,7 @@ unchain_leaves s w line name o a queues why =
     let no_open : (q : ℕ) → u.command ≡ Some (unfinished.Open q) → ⊥ = λ q is.
     ⊎_elim (λ (on : u.command ≡ Some (unfinished.Unchain why.number)).
     let both : Some (unfinished.Unchain why.number) ≡ Some (unfinished.Open q) = sym on ∙ is in absurd (cc))
-    (λ (off : u.command ≡ None). none_unfinished (unfinished.Open q) (sym off ∙ is)) u.which in
+    (λ (off : u.command ≡ None). none_some (unfinished.Open q) (sym off ∙ is)) u.which in
     record {
       now = unchain_keeps_now opening_base s.member s.recent s.descs s.parts s.hand s.frame (controller_parts w) d cmd o a.mixed.now why a.room a.is;
       ring = subst (λ (g : DriverContent). AreMet g s.member) (sym u.is)

@@ -1,6 +1,9 @@
 -- An isochronous endpoint is opened or cancelled, or its descriptors are taken on: no queue changes by that.
 use Rattle.std.proofs.Common.{◌≡◌, ℕ, true, false, [], ◌∷◌, ◌++◌, map, length, slice_get, Option, Some, None, option_map, ap, refl, sym, subst, ◌∙◌, ⊎_elim}
 use Rattle.std.proofs.lemmas.Bool.{false≢true}
+use Rattle.law_common.proofs.Lists.{push_which, push_there, all_more, still_there}
+use Rattle.law_driver.proofs.Common.{iso_frames}
+use Rattle.law_world.proofs.Common.{none_some}
 use Rattle.usb_base.specs.declared.commands.Cmd.{Cmd}
 use Rattle.usb_base.specs.declared.commands.Cmd.TheVariants as commands
 use Rattle.usb_base.specs.declared.endpoints.EpDesc.{EpDesc}
@@ -22,17 +25,13 @@ use Rattle.law_driver_ring.specs.Inventory.{IsLent}
 use Rattle.claims_base.specs.Controller.{opening_base}
 use Rattle.law_driver_ring.specs.fed_queues.Places.{AreMet}
 use Rattle.law_queues.proofs.lemmas.fed_lends.Fed.{bare_is}
-use Rattle.law_queues.proofs.lemmas.fed_lends.Asked.{not_taken, push_which}
-use Rattle.law_queues.proofs.lemmas.mended_heads.Content.{pushed, all_on}
-use Rattle.law_world.proofs.lemmas.memory.lemmas.framed_memory.StillStanding.{pushed_there}
+use Rattle.law_queues.proofs.lemmas.fed_lends.Asked.{not_taken}
 use Rattle.law_driver.specs.queued_drivers.Queued.{queued_endpoint, without_queue, queued}
 use Rattle.law_driver.specs.queued_drivers.Commands.{IsEndOpened, IsGivenBackOf, AreEndsTaken, IsEndLeft}
-use Rattle.law_driver.proofs.lemmas.queued_drivers.CommandFields.{iso_frames}
 use Rattle.law_driver.proofs.lemmas.queued_drivers.CommandLeaves.{unchained}
 use Rattle.law_driver.proofs.lemmas.queued_drivers.CommandReasons.{IsDescribedAs}
 use Rattle.bus_world.specs.World.{World, controller_parts}
 use Rattle.law_world.specs.memory.Mixed.{QueuesGoOn, IsUnderWay, Standing}
-use Rattle.law_world.proofs.lemmas.memory.Unfinished.{none_unfinished}
 use Rattle.law_world.proofs.lemmas.memory.RingBasis.{near_ring}
 use Rattle.law_world.proofs.lemmas.memory.CommandBeside.{by_alike}
 use Rattle.law_world.proofs.lemmas.memory.CommandMet.{pushed_met, set_met}
@@ -63,7 +62,7 @@ module _ (s : Standing) (w : World) (line : ℕ) (cmd : Cmd) (o : Offered) (a : 
           ⊎_elim (λ (was : slice_get (map queued_endpoint w.driver.endpoints) i ≡ Some z). was)
           (λ (new : (i ≡ length (map queued_endpoint w.driver.endpoints)) × (z ≡ gone)). absurd (false≢true (sym kept ∙ ap (λ (y : Endpoint). y.gone) new.1)))
           (push_which (map queued_endpoint w.driver.endpoints) gone i z here);
-      ends_now = λ i z here. pushed (map queued_endpoint w.driver.endpoints) gone i z here;
+      ends_now = λ i z here. push_there (map queued_endpoint w.driver.endpoints) gone i z here;
       moves = λ t y there held. there;
       moves_now = λ t y there. there;
       lent = ends_lent;
@@ -93,13 +92,13 @@ module _ (s : Standing) (w : World) (line : ℕ) (cmd : Cmd) (o : Offered) (a : 
 
   pub ends_taken_queues : AreEndsTaken w.driver w.memory o → QueuesGoOn (queued o.driver) s.near s.streams s.ends s.parts s.order s.out
   ends_taken_queues k =
-      let all : AreReleased k.given = all_on (IsGivenBackOf w.driver k.number) (λ (y : Transfer). y.released ≡ true) k.given (λ y g. g.released) k.each in
+      let all : AreReleased k.given = all_more (IsGivenBackOf w.driver k.number) (λ (y : Transfer). y.released ≡ true) k.given (λ y g. g.released) k.each in
       let more : IsWider d o.driver.book d.endpoints (d.transfers ++ k.given) 0 o.driver.room = record {
         idle = idle_queues s w line cmd o a;
         ends = λ i z here kept. here;
         ends_now = λ i z here. here;
         moves = λ t y there held. held_before d.transfers k.given all t y there held;
-        moves_now = λ t y there. pushed_there d.transfers k.given t y there;
+        moves_now = λ t y there. still_there d.transfers k.given t y there;
         lent = ends_lent;
         within = (owners s w line cmd o a).orderly.within;
         outs = λ e. same_out (note_in d.notes) e d.transfers k.given all;
@@ -120,7 +119,7 @@ place_leaves s w line x o a queues why =
     record {
       now = placed_now opening_base s.member s.recent s.descs s.parts s.hand s.frame (controller_parts w) d cmd o a.mixed.now why a.room a.is;
       ring = pushed_met d o.driver new s.member why.idle (ap (λ (g : Offered). g.driver.endpoints) why.is) (ap (λ (g : Offered). g.driver.waiting) why.is)
-          (ap (λ (g : Offered). g.driver.rung) why.is) (λ e z here met is. none_unfinished (unfinished.Open z.queue) (sym command ∙ is))
+          (ap (λ (g : Offered). g.driver.rung) why.is) (λ e z here met is. none_some (unfinished.Open z.queue) (sym command ∙ is))
           (λ e z here is met.
           false≢true (sym (near_ring o.driver e z n.sound.owners here met.near).0 ∙ (ap (λ (y : Endpoint). is_periodic y.desc.kind) is ∙ iso_frames why.desc.kind why.isochronous))) a.mixed.ring;
       queues = queues;

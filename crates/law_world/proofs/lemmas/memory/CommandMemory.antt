@@ -1,5 +1,6 @@
 -- Memory stays framed where an isochronous endpoint is opened, and where descriptors are taken on, whatever other endpoints the driver has.
 use Rattle.std.proofs.Common.{◌≡◌, ℕ, Bool, [], ◌∷◌, Option, Ok, ap, refl, sym, subst}
+use Rattle.law_driver_ring.proofs.Common.{leaves_itself}
 use Rattle.usb_base.specs.declared.commands.Cmd.{Cmd}
 use Rattle.drv_table.specs.DriverContent.{DriverContent}
 use Rattle.drv_table.specs.Accepting.{Offered}
@@ -25,7 +26,6 @@ use Rattle.law_world.proofs.lemmas.memory.lemmas.framed_memory.Now.{told_now}
 use Rattle.law_world.proofs.lemmas.memory.lemmas.framed_memory.Placing.{placed_driven, placed_extents}
 use Rattle.law_world.proofs.lemmas.memory.lemmas.framed_memory.StillStanding.{pushed_still, recent_still, described_stands, described_recent}
 use Rattle.law_world.proofs.lemmas.memory.lemmas.framed_memory.QueueAccepting.{AcceptsBeside, accepted}
-use Rattle.law_driver_ring.proofs.Lent.{leaves_itself}
 
 module _ (base : Base) (member : ℕ → Bool) (recent : ℕ → Option Kind) (descs parts : StructureSets) (hand : Hand) (frame : FrameHand) (c : Content) (d : DriverContent) (cmd : Cmd) (o : Offered) (k : IsFramedNow base member recent descs parts hand frame c d) where
   told : IsToldBy (views_of d) descs parts

@@ -2,6 +2,8 @@
 use Rattle.std.proofs.Common.{◌≡◌, ◌≢◌, ℕ, ◌*◌, Bool, List, [], ◌∷◌, ◌++◌, length, set, slice_get, Some, None, ap, sym, subst, ◌∙◌, ⊎_elim, inl, inr, refl}
 use Rattle.std.proofs.lemmas.Bool.{cases_eq}
 use Rattle.std.proofs.lemmas.Option.{same_Some}
+use Rattle.law_common.proofs.Lists.{push_which, push_there, set_here, set_there}
+use Rattle.law_world.proofs.Common.{none_some}
 use Rattle.drv_table.specs.declared.content.Endpoint.{Endpoint}
 use Rattle.drv_table.specs.declared.content.Command.TheVariants as unfinished
 use Rattle.drv_table.specs.DriverContent.{DriverContent}
@@ -10,9 +12,7 @@ use Rattle.law_driver.specs.endpoint_lives.Lives.{may_meet}
 use Rattle.law_driver.proofs.lemmas.endpoint_lives.Lives.{met_alike}
 use Rattle.law_driver_ring.specs.fed_queues.Places.{IsMet, HasHead, AreMet}
 use Rattle.law_driver_ring.proofs.lemmas.fed_queues.Places.{SameLife, same_life, WasLike, SameRing, SameQueues, met_stays}
-use Rattle.law_queues.proofs.lemmas.fed_lends.Asked.{push_which, set_which}
-use Rattle.law_queues.proofs.lemmas.mended_heads.Content.{pushed, set_at, set_beside}
-use Rattle.law_world.proofs.lemmas.memory.Unfinished.{none_unfinished}
+use Rattle.law_queues.proofs.lemmas.fed_lends.Asked.{set_which}
 
 -- ---- an endpoint more
 
@@ -24,7 +24,7 @@ pushed_met d f new member idle ends waiting rung apart unmet old = record {
   each = λ e z here met.
       ⊎_elim
       (λ (was : slice_get d.endpoints e ≡ Some z).
-      old.each e z was (record { there = record { linked = λ is. none_unfinished (unfinished.Open z.queue) (sym idle ∙ is); kept = met.there.kept }; near = sym (near e z) ∙ met.near }))
+      old.each e z was (record { there = record { linked = λ is. none_some (unfinished.Open z.queue) (sym idle ∙ is); kept = met.there.kept }; near = sym (near e z) ∙ met.near }))
       (λ (own : (e ≡ length d.endpoints) × (z ≡ new)). absurd (unmet e z here own.1 met))
       (push_which d.endpoints new e z (ap (λ (xs : List Endpoint). slice_get xs e) (sym ends) ∙ here));
   only = λ n on. ⊎_elim (λ (head : n ≡ 32 * head_block). inl head) (λ (h : HasHead d n). inr (head_now n h)) (old.only n on);
@@ -37,7 +37,7 @@ pushed_met d f new member idle ends waiting rung apart unmet old = record {
     head_now n h = record {
       number = h.number;
       endpoint = h.endpoint;
-      here = ap (λ (xs : List Endpoint). slice_get xs h.number) ends ∙ pushed d.endpoints new h.number h.endpoint h.here;
+      here = ap (λ (xs : List Endpoint). slice_get xs h.number) ends ∙ push_there d.endpoints new h.number h.endpoint h.here;
       met = record { there = record { linked = apart h.number h.endpoint h.here h.met; kept = h.met.there.kept }; near = near h.number h.endpoint ∙ h.met.near };
       at = h.at;
     }
@@ -57,9 +57,9 @@ set_queues d f e x z here ends life ring back = record {
       ⊎_elim
       (λ (own : i ≡ e).
       let same : x ≡ y = same_Some x y (sym here ∙ ap (slice_get d.endpoints) (sym own) ∙ at) in
-      let own_at : WasLike f i x = record { endpoint = z; here = ap (λ (xs : List Endpoint). slice_get xs i) ends ∙ ap (slice_get (set d.endpoints e z)) own ∙ set_at d.endpoints e x z here; life = record { desc = sym life.desc; queue = sym life.queue; linked = sym life.linked; gone = sym life.gone } } in
+      let own_at : WasLike f i x = record { endpoint = z; here = ap (λ (xs : List Endpoint). slice_get xs i) ends ∙ ap (slice_get (set d.endpoints e z)) own ∙ set_here d.endpoints e x z here; life = record { desc = sym life.desc; queue = sym life.queue; linked = sym life.linked; gone = sym life.gone } } in
       subst (λ (v : Endpoint). WasLike f i v) same own_at)
-      (λ (other : i ≢ e). record { endpoint = y; here = ap (λ (xs : List Endpoint). slice_get xs i) ends ∙ set_beside d.endpoints e i z other ∙ at; life = same_life y })
+      (λ (other : i ≢ e). record { endpoint = y; here = ap (λ (xs : List Endpoint). slice_get xs i) ends ∙ set_there d.endpoints e i z other ∙ at; life = same_life y })
       (cases_eq i e);
 }
 
@@ -70,4 +70,4 @@ set_met d f e x z member idle other here ends life waiting rung old =
     met_stays d f member
     (set_queues d f e x z here ends life
     (record { waiting = waiting; rung = rung; opens = λ q is. absurd (other q is) })
-    (record { waiting = sym waiting; rung = sym rung; opens = λ q is. absurd (none_unfinished (unfinished.Open q) (sym idle ∙ is)) })) old
+    (record { waiting = sym waiting; rung = sym rung; opens = λ q is. absurd (none_some (unfinished.Open q) (sym idle ∙ is)) })) old

@@ -1,25 +1,26 @@
 -- An endpoint with a queue is opened, in the ring or in frames: its queue head and its inactive qTD are to be lent.
-use Rattle.std.proofs.Common.{◌≡◌, ◌≢◌, ℕ, ◌+◌, ◌*◌, ◌<◌, ◌≤◌, Bool, true, false, if◌then◌else◌, ◌||◌, List, [], ◌∷◌, ◌++◌, length, drop, get_or, slice_get, Option, Some, None, option_map, unwrap_or, ap, refl, sym, subst, ◌∙◌, ⊎_elim, inl, arith}
+use Rattle.std.proofs.Common.{◌≡◌, ◌≢◌, ℕ, ◌+◌, ◌*◌, ◌<◌, ◌≤◌, Bool, true, false, if◌then◌else◌, ◌||◌, List, [], ◌∷◌, length, drop, get_or, slice_get, Option, Some, None, option_map, unwrap_or, ap, refl, sym, subst, ◌∙◌, ⊎_elim, inl, arith}
 use Rattle.std.specs.Prelude.{slice_index}
-use Rattle.std.specs.List.{AllByRecursion}
 use Rattle.std.proofs.lemmas.Bool.{false≢true}
 use Rattle.std.proofs.lemmas.List.{length-append}
+use Rattle.law_world.proofs.Common.{same_queue, multi_few, none_some, open_tail}
+use Rattle.law_driver_ring.proofs.Common.{speed_small}
+use Rattle.law_common.proofs.Lists.{last_of_all, drop_first, push_which}
+use Rattle.law_driver.proofs.Common.{ring_queue}
 use Rattle.usb_base.specs.declared.commands.Cmd.TheVariants as commands
 use Rattle.usb_base.specs.declared.endpoints.EpDesc.{EpDesc}
-use Rattle.usb_base.specs.declared.packets.Speed.{Speed}
-use Rattle.usb_base.specs.declared.packets.Speed.TheVariants as speeds
 use Rattle.word_mem.specs.Memory.{Mem}
 use Rattle.mem_runs.specs.Book.{Holding, holding, Stands}
 use Rattle.qh_qtd.specs.QueueHead.{IsQhInRange}
 use Rattle.bandwidth.specs.declared.placements.Placed.{Placed}
-use Rattle.bandwidth.specs.Placements.{most_multi, IsWant}
+use Rattle.bandwidth.specs.Placements.{IsWant}
 use Rattle.drv_periodic.specs.Periodic.{begun}
 use Rattle.drv_periodic_table.specs.Periodic.{is_periodic, want_of, queue_member}
 use Rattle.drv_table.specs.declared.content.Endpoint.{Endpoint}
 use Rattle.drv_table.specs.declared.content.Command.{Command}
 use Rattle.drv_table.specs.declared.content.Command.TheVariants as unfinished
 use Rattle.drv_table.specs.DriverContent.{DriverContent}
-use Rattle.drv_table.specs.Words.{is_high, speed_field, queue_head}
+use Rattle.drv_table.specs.Words.{is_high, queue_head}
 use Rattle.drv_table.specs.Kinds.{is_iso}
 use Rattle.drv_table.specs.Accepting.{Offered, new_runs, newest_of}
 use Rattle.drv_table.specs.Offers.{new_endpoint, placed_endpoint, accepted_open}
@@ -29,13 +30,11 @@ use Rattle.claims_driver.specs.Leaving.{HasOwners}
 use Rattle.claims_driver.specs.Owners.{QueueHead, runs_of_endpoint}
 use Rattle.law_driver.proofs.lemmas.run_owners.Laws.{commands_keep_owners}
 use Rattle.law_driver.proofs.lemmas.run_owners.Runs.{placed_run}
-use Rattle.law_driver.proofs.lemmas.run_owners.Rows.{not_iso}
 use Rattle.law_driver.proofs.lemmas.run_owners.Taking.{runs_taken}
-use Rattle.law_driver.proofs.lemmas.run_owners.Accepted.{drop_first, fresh_differs}
+use Rattle.law_driver.proofs.lemmas.run_owners.Accepted.{fresh_differs}
 use Rattle.law_driver_ring.specs.LendOpened.{opened_head}
 use Rattle.claims_base.specs.Controller.{opening_base}
 use Rattle.law_driver_ring.specs.fed_queues.Places.{IsThere, IsMet}
-use Rattle.law_queues.proofs.lemmas.fed_lends.Asked.{push_which}
 use Rattle.law_queues.proofs.lemmas.fed_lends.Opened.{open_stands}
 use Rattle.law_queues.proofs.lemmas.open_laws.AcceptWaiting.{open_becomes_ready}
 use Rattle.law_queues.specs.standing_fronts.Reaching.{Reaches}
@@ -55,11 +54,10 @@ use Rattle.law_driver.specs.queued_drivers.Commands.{opened_queue, IsQueueOpened
 use Rattle.law_driver.proofs.lemmas.queued_drivers.CommandFields.{desc_asynchronous}
 use Rattle.bus_world.specs.World.{World, controller_parts}
 use Rattle.law_world.specs.memory.Mixed.{QueuesGoOn, IsChainToLend, IsUnderWay, Standing}
-use Rattle.law_world.proofs.lemmas.memory.Unfinished.{none_unfinished}
 use Rattle.law_world.proofs.lemmas.memory.RingBasis.{near_ring}
 use Rattle.law_world.proofs.lemmas.memory.CommandBeside.{sound_by, by_alike}
 use Rattle.law_world.proofs.lemmas.memory.CommandMet.{pushed_met}
-use Rattle.law_world.proofs.lemmas.memory.CommandTails.{open_tail, idle_ends}
+use Rattle.law_world.proofs.lemmas.memory.CommandTails.{idle_ends}
 use Rattle.law_world.proofs.lemmas.memory.ChainBegun.{chain_begun}
 use Rattle.law_world.proofs.lemmas.memory.CommandShared.{IsAccepted, LeavesMixed, place, in_place, idle, idle_queues, owners, lent}
 
@@ -70,7 +68,7 @@ opened_there d desc h queue dummy idle i x here there =
     let new = new_endpoint desc queue dummy in
     ⊎_elim
     (λ (was : slice_get d.endpoints i ≡ Some x).
-    let t : IsThere d x = record { linked = λ is. none_unfinished (unfinished.Open x.queue) (sym idle ∙ is); kept = there.kept } in
+    let t : IsThere d x = record { linked = λ is. none_some (unfinished.Open x.queue) (sym idle ∙ is); kept = there.kept } in
     record { endpoint = x; here = was; there = t; queue = refl; met = λ m. record { there = t; near = m.near } })
     (λ (is : (i ≡ length d.endpoints) × (x ≡ new)). absurd (there.linked (ap (λ (y : Endpoint). Some (unfinished.Open y.queue)) (sym is.1))))
     (push_which d.endpoints new i x here)
@@ -107,10 +105,6 @@ module _ (s : Standing) (w : World) (line : ℕ) (x : EpDesc) (o : Offered) (a :
   opened_queues = by_alike (queued o.driver) c.driver s.near s.streams s.ends s.parts s.order s.out k.alike ring_queues
 
 -- ---- the fields of a queue head of the ring, at any speed (3.6.2)
-
-speed_small : (s : Speed) → speed_field s ≤ 2
-speed_small speeds.Full = omega arith
-speed_small _ = omega arith
 
 either_below : (b : Bool) (n k : ℕ) → n < k → (if b then 0 else n) < k
 either_below true n k below = omega (arith, below)
@@ -155,9 +149,6 @@ ring_head_range x link dummy fits most port =
 
 -- ---- in the ring
 
-same_queue : (b c : ℕ) → ◌≡◌ {A = Option Command} (Some (unfinished.Open b)) (Some (unfinished.Open c)) → b ≡ c
-same_queue b c same = cc
-
 -- the new queue head has blocks of its own
 new_apart : (d : DriverContent) (m : Mem) (o : Offered) (why : Opens d m o) (e : ℕ) (z : Endpoint) → HasOwners d → Stands (holding d.book m) → slice_get d.endpoints e ≡ Some z → IsMet d e z
     → o.driver.command ≢ Some (unfinished.Open z.queue)
@@ -167,7 +158,7 @@ new_apart d m o why e z has stands here met is =
     let bs = all.blocks in
     let two : length bs ≡ 2 = all.are.long in
     let runs : new_runs d why.holding_after ≡ bs = ap (drop (length d.book.taken)) all.are.taken ∙ drop_first d.book.taken bs in
-    let alive : is_iso z.desc.kind || z.gone ≡ false = ap (λ (b : Bool). b || z.gone) (not_iso z.desc.kind ring.0) ∙ ring.1 in
+    let alive : is_iso z.desc.kind || z.gone ≡ false = ap (λ (b : Bool). b || z.gone) (ring_queue z.desc.kind ring.0) ∙ ring.1 in
     let command : o.driver.command ≡ Some (unfinished.Open (slice_index (new_runs d why.holding_after) 0)) = ap (λ (p : Offered). p.driver.command) why.is in
     fresh_differs 0 z.queue all.are (omega (arith, two))
     (placed_run z.queue (QueueHead e) (has.owned.each.queue e (runs_of_endpoint z) (ap (option_map runs_of_endpoint) here) alive))
@@ -197,14 +188,6 @@ open_leaves s w line x o a queues why same =
     }
 
 -- ---- in frames
-
-multi_few : (speed : Speed) (n : ℕ) → n ≤ most_multi speed → n ≤ 3
-multi_few speeds.High n most = most
-multi_few _ n most = omega (arith, most)
-
-last_of_all : {X : Type 0} (P : X → Type 0) (xs : List X) (x : X) → AllByRecursion P (xs ++ x ∷ []) → P x
-last_of_all P [] x all = all.0
-last_of_all P (y ∷ ys) x all = last_of_all P ys x all.1
 
 chain_masks : (d : DriverContent) (m : Mem) (o : Offered) (why : Chains d m o) → AreMasked o.driver → HasMasks why.placement
 chain_masks d m o why all = last_of_all (λ (y : Placed). HasMasks y.placement) d.periodic.plan.placed _ (subst (λ (g : Offered). AreMasked g.driver) why.is all)

@@ -1,15 +1,13 @@
 -- What every accepted command leaves of a mixed world, and what is left for each to show.
-use Rattle.std.proofs.Common.{◌≡◌, ℕ, cond, Option, Some, None, Ok, Err, ap, sym, ◌∙◌, refl}
-use Rattle.std.specs.Prelude.{is_some}
+use Rattle.std.proofs.Common.{◌≡◌, ℕ, Option, Some, None, Ok, ap, sym, ◌∙◌, refl}
+use Rattle.law_driver.proofs.Common.{busy_idle}
 use Rattle.usb_base.specs.declared.commands.Cmd.{Cmd}
 use Rattle.usb_base.specs.declared.commands.Cmd.TheVariants as commands
-use Rattle.usb_base.specs.declared.reports.OfferError.TheVariants as errors
-use Rattle.word_mem.specs.Memory.{Mem}
 use Rattle.drv_table.specs.declared.content.Command.{Command}
 use Rattle.drv_table.specs.declared.content.Command.TheVariants as unfinished
 use Rattle.drv_table.specs.DriverContent.{DriverContent}
 use Rattle.drv_table.specs.Accepting.{Offered}
-use Rattle.drv_table.specs.Offers.{offered, offered_next, IsOffered}
+use Rattle.drv_table.specs.Offers.{offered, IsOffered}
 use Rattle.claims_driver.specs.Leaving.{HasOwners}
 use Rattle.claims_driver.specs.LentRuns.{AreLent}
 use Rattle.law_driver.specs.in_place.InPlace.{IsInPlace}
@@ -62,10 +60,6 @@ pub record LeavesMixed (s : Standing) (w : World) (o : Offered) : Type 0 where
   pub ring : AreMet o.driver s.member
   pub queues : QueuesGoOn (queued o.driver) s.near s.streams s.ends s.parts s.order s.out
   pub under_way : IsUnderWay o.driver o.memory s.member s.recent s.parts o.driver.command
-
-busy_idle : (d : DriverContent) (m : Mem) (cmd : Cmd) (o : Offered) (c : Option Command) → d.command ≡ c → cond (is_some c) (Err errors.Busy) (offered_next d m cmd) ≡ Ok o → c ≡ None
-busy_idle d m cmd o (Some c) is f = absurd (cc)
-busy_idle d m cmd o None is f = refl
 
 lends_none : (d : DriverContent) → d.command ≡ None → LendsNoDescriptors d
 lends_none d idle e t count is = let a : ◌≡◌ {A = Option Command} None (Some (unfinished.Iso e t count)) = sym idle ∙ is in absurd (cc)

@@ -1,5 +1,6 @@
 -- A get, a put or a request is accepted: its first qTD is to be lent.
 use Rattle.std.proofs.Common.{◌≡◌, ℕ, ◌*◌, ◌==◌, nat_eq, if◌then◌else◌, List, length, Option, Some, None, Ok, ap, refl, sym, subst, ◌∙◌, ⊎_elim, inl}
+use Rattle.law_world.proofs.Common.{none_some, newest_there}
 use Rattle.usb_base.specs.declared.commands.Cmd.{Cmd}
 use Rattle.word_mem.specs.Memory.{Mem}
 use Rattle.drv_table.specs.declared.content.Endpoint.{Endpoint}
@@ -31,10 +32,9 @@ use Rattle.law_driver.specs.queued_drivers.Commands.{told_of, IsQueueAsked, IsQu
 use Rattle.law_driver.proofs.lemmas.queued_drivers.CommandLeaves.{unchained}
 use Rattle.bus_world.specs.World.{World, controller_parts}
 use Rattle.law_world.specs.memory.Mixed.{QueuesGoOn, IsUnderWay, Standing}
-use Rattle.law_world.proofs.lemmas.memory.Unfinished.{none_unfinished}
 use Rattle.law_world.proofs.lemmas.memory.CommandBeside.{sound_by}
 use Rattle.law_world.proofs.lemmas.memory.CommandMet.{set_met}
-use Rattle.law_world.proofs.lemmas.memory.CommandTails.{newest_there, idle_ends}
+use Rattle.law_world.proofs.lemmas.memory.CommandTails.{idle_ends}
 use Rattle.law_world.proofs.lemmas.memory.CommandShared.{IsAccepted, LeavesMixed, place, in_place, idle, idle_queues, owners, lent}
 
 -- ---- what it was accepted for
@@ -59,7 +59,7 @@ module _ (d : DriverContent) (m : Mem) (o : Offered) (b : ℕ) (words : List ℕ
 
 asked_there : (d : DriverContent) (m : Mem) (o : Offered) → Transfers d m o → ThereAlike d o.driver
 asked_there d m o w =
-    subst (λ (q : Offered). ThereAlike d q.driver) (sym w.is) (told_alike d _ w.number w.endpoint (with_queued w.endpoint _ (length d.transfers)) w.here refl refl refl refl (λ q is. absurd (none_unfinished (unfinished.Open q) (sym w.idle ∙ is))) refl refl)
+    subst (λ (q : Offered). ThereAlike d q.driver) (sym w.is) (told_alike d _ w.number w.endpoint (with_queued w.endpoint _ (length d.transfers)) w.here refl refl refl refl (λ q is. absurd (none_some (unfinished.Open q) (sym w.idle ∙ is))) refl refl)
 
 module _ (s : Standing) (w : World) (line : ℕ) (cmd : Cmd) (o : Offered) (a : IsAccepted s w line cmd o) (why : Transfers (queued w.driver) w.memory (told_of o)) where
   abbrev d : DriverContent

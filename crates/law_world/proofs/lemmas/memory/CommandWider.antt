@@ -1,8 +1,11 @@
 -- What is told of queues stays, where endpoints that were given back, and transfers that were given back, come to a content.
-use Rattle.std.proofs.Common.{◌≡◌, ℕ, zero, suc, ◌+◌, ◌*◌, ◌<◌, ◌==◌, ◌&&◌, Bool, true, false, not, if◌then◌else◌, List, [], ◌∷◌, ◌++◌, drop, length, get_or, slice_get, Option, Some, None, ap, refl, sym, subst, ◌∙◌, ⊎_elim, inl, inr, arith}
+use Rattle.std.proofs.Common.{◌≡◌, ℕ, zero, suc, ◌*◌, ◌<◌, ◌&&◌, Bool, true, false, if◌then◌else◌, List, [], ◌∷◌, ◌++◌, length, get_or, slice_get, Option, Some, None, ap, refl, sym, subst, ◌∙◌, ⊎_elim, inl, inr, arith}
 use Rattle.std.specs.List.{AllByRecursion}
 use Rattle.std.proofs.lemmas.Bool.{true≢false}
 use Rattle.std.proofs.lemmas.Option.{same_Some, slice_get-get_or}
+use Rattle.law_queues.proofs.Common.{if_zero, none_unpublished}
+use Rattle.law_world.proofs.Common.{one_out, none_some}
+use Rattle.law_common.proofs.Lists.{nth_all}
 use Rattle.mem_runs.specs.Book.{Book, slot_of}
 use Rattle.drv_table.specs.declared.content.Reserve.{Reserve}
 use Rattle.drv_table.specs.declared.content.Endpoint.{Endpoint}
@@ -15,20 +18,18 @@ use Rattle.claims_driver.specs.Owners.{NoteRuns, note_in}
 use Rattle.law_driver_ring.specs.Inventory.{IsLent}
 use Rattle.law_structures.specs.lent_structures.Structures.{StructureSets}
 use Rattle.law_ring.specs.Told.{Endpoint as Told}
-use Rattle.law_driver.specs.chained_transfers.Out.{pieces_from, passed, unpublished, out_of_transfer, if_last, out_of}
+use Rattle.law_driver.specs.chained_transfers.Out.{unpublished, out_of_transfer, if_last, out_of}
 use Rattle.law_queues.specs.leaving_drivers.Before.{UnlinksAtMost}
 use Rattle.law_driver_ring.specs.fed_queues.Places.{IsThere, IsMet, HasHead}
 use Rattle.law_queues.specs.fed_lends.Commands.{QueuesStand}
-use Rattle.law_queues.proofs.lemmas.fed_lends.Asked.{same_unpublished, out_idle}
+use Rattle.law_queues.proofs.lemmas.fed_lends.Asked.{out_idle}
 use Rattle.law_queues.specs.standing_fronts.Tails.{TailsStand}
 use Rattle.law_queues.proofs.lemmas.commanded_queues.Tails.{reaches_alike}
 use Rattle.law_queues.proofs.lemmas.mended_heads.Content.{any_one, KeepFirsts, KeepOwed, same_still, owed_on}
 use Rattle.law_queues.proofs.lemmas.mended_heads.Standing.{stand_on, keeps_same}
 use Rattle.law_world.specs.steps.control_queues.Controls.{ControlsStand}
 use Rattle.law_world.proofs.lemmas.steps.lemmas.control_queues.Alike.{ThereAlike, stand_still}
-use Rattle.law_world.proofs.lemmas.memory.lemmas.framed_memory.Masking.{one_of_all}
 use Rattle.law_world.specs.memory.Mixed.{QueuesGoOn}
-use Rattle.law_world.proofs.lemmas.memory.Unfinished.{none_unfinished}
 use Rattle.law_world.proofs.lemmas.memory.CommandBeside.{sound_by}
 use Rattle.law_world.proofs.lemmas.memory.CommandTails.{idle_ends, ends_idle}
 
@@ -70,7 +71,7 @@ module _ (d : DriverContent) (book : Book) (es : List Endpoint) (ts : List Trans
         at ∙ ap Some (same_Some z x (sym (k.ends_now y.endpoint z at) ∙ here))
 
     no_publish : (b : ℕ) (words : List ℕ) → d.command ≡ Some (unfinished.Publish b words) → ⊥
-    no_publish b words is = none_unfinished (unfinished.Publish b words) (sym k.idle ∙ is)
+    no_publish b words is = none_some (unfinished.Publish b words) (sym k.idle ∙ is)
 
     no_unpublished : (m n : ℕ) → unpublished d.command m n ≡ 0
     no_unpublished m n = ap (λ (c : Option Command). unpublished c m n) k.idle
@@ -94,7 +95,7 @@ module _ (d : DriverContent) (book : Book) (es : List Endpoint) (ts : List Trans
           dummies = λ i z here kept lent. let was = k.ends i z here kept in old.fed.dummies i z was kept (k.lent i z was kept);
           pieces = λ t i y x there held here from below.
               let was = k.moves t y there held in
-              let none = same_unpublished d t y k.idle in
+              let none = none_unpublished d t y k.idle in
               old.fed.pieces t i y x was held (holder t y x was here) (omega (arith, none)) below;
           publishes = λ b words is. absurd (no_publish b words is);
         };
@@ -134,22 +135,13 @@ abbrev pub AreReleased : List Transfer → Type 0
 AreReleased ys = AllByRecursion (λ y. y.released ≡ true) ys
 
 pub held_before : (ts ys : List Transfer) → AreReleased ys → (t : ℕ) (y : Transfer) → slice_get (ts ++ ys) t ≡ Some y → y.released ≡ false → slice_get ts t ≡ Some y
-held_before [] ys all t y there held = absurd (true≢false (sym (one_of_all (λ (z : Transfer). z.released ≡ true) ys t y all there) ∙ held))
+held_before [] ys all t y there held = absurd (true≢false (sym (nth_all (λ (z : Transfer). z.released ≡ true) ys t y all there) ∙ held))
 held_before (x ∷ xs) ys all zero y there held = there
 held_before (x ∷ xs) ys all (suc t) y there held = held_before xs ys all t y there held
-
-if_zero : (ts : List Transfer) → if_last ts 0 ≡ 0
-if_zero [] = refl
-if_zero (y ∷ ys) = refl
 
 either_none : (b : Bool) (xs : List ℕ) → (if b && false then xs else []) ≡ []
 either_none true xs = refl
 either_none false xs = refl
-
-one_out : (note : ℕ → NoteRuns) (e n : ℕ) (y : Transfer) → y.released ≡ true → out_of_transfer note e n y ≡ []
-one_out note e n y is =
-    ap (λ (b : Bool). if y.endpoint == e && not b then drop (n + passed y.reported) (pieces_from note y.place y.left) else []) is
-    ∙ either_none (y.endpoint == e) (drop (n + passed y.reported) (pieces_from note y.place y.left))
 
 none_out : (note : ℕ → NoteRuns) (e : ℕ) (ys : List Transfer) → AreReleased ys → out_of note e None 0 ys ≡ []
 none_out note e [] all = refl

@@ -2,6 +2,7 @@
 -- then (EHCI 1.0, 4.10.2). It has no qTD to take, and nothing to write back.
 use Rattle.std.proofs.Common.{◌≡◌, ◌≢◌, ℕ, ◌*◌, Bool, true, false, List, Option, Some, ap, refl, sym, subst, ◌∙◌, ⊎_elim}
 use Rattle.std.proofs.lemmas.Bool.{cases_eq, true≢false}
+use Rattle.law_frames.proofs.Common.{written_from, no_itd, no_sitd}
 use Rattle.usb_base.specs.declared.packets.Ask.{Ask}
 use Rattle.usb_base.specs.declared.packets.Reply.{Reply}
 use Rattle.qh_qtd.specs.declared.qtd.Qtd.{Qtd}
@@ -25,26 +26,9 @@ use Rattle.law_ring.specs.Effects.{received_into}
 use Rattle.law_controller.specs.controlled_streams.Control.{a_microframe, a_step}
 use Rattle.law_queues.specs.open_laws.Queues.{IsNewPart}
 use Rattle.law_frames.specs.Met.{Kind}
-use Rattle.law_frames.specs.FrameHand.{settled_in, ItdCopy, SitdCopy, FrameHand}
+use Rattle.law_frames.specs.FrameHand.{settled_in, FrameHand}
 use Rattle.law_frames.specs.Frame.{IsQueueSettled, IsCopiedQueue, IsCopiedItd, IsCopiedSitd, IsInFrame}
-use Rattle.law_frames.specs.FrameEffects.{
-  IsWrittenFrom,
-  made as was_made,
-  missed as was_missed,
-  itd_back,
-  sitd_back,
-  WritesOne,
-  of_queue,
-  of_itd,
-  of_sitd,
-  FrameEffect,
-  fetches,
-  passes,
-  ends,
-  makes,
-  takes,
-  writes,
-}
+use Rattle.law_frames.specs.FrameEffects.{itd_back, sitd_back, WritesOne, of_queue, of_itd, of_sitd, FrameEffect, fetches, passes, ends, makes, takes, writes}
 use Rattle.law_frames.proofs.QueueBacks.{hand_is_settled}
 use Rattle.law_controller.specs.frame_control.Both.{RunsBoth, BothEffect, of_ring, of_frame}
 use Rattle.law_controller.proofs.lemmas.frame_control.Staying.{ring_leaves}
@@ -66,16 +50,6 @@ none_published x part a t k here published =
     true≢false (sym published ∙ ap (λ (u : Qtd). u.token.active) dummy)
 
 -- ---- an event of the walk of the frames
-
-written_from : (w : Walk) (copy back : SitdCopy) → IsWrittenFrom w copy back → back.held.at ≡ copy.held.at
-written_from w copy back (was_made is) = ap (λ (c : SitdCopy). c.held.at) is
-written_from w copy back (was_missed unsettled turn is) = ap (λ (c : SitdCopy). c.held.at) is
-
-no_itd : (parts : StructureSets) (n : ℕ) (q : Qh) (c : ItdCopy) → parts n n ≡ Some (QueueHead q) → parts c.held.at c.held.at ≡ Some (Isochronous c.itd) → n ≢ c.held.at
-no_itd parts n q c here there same = let e : Some (QueueHead q) ≡ Some (Isochronous c.itd) = sym here ∙ ap (λ (i : ℕ). parts i i) same ∙ there in cc
-
-no_sitd : (parts : StructureSets) (n : ℕ) (q : Qh) (c : SitdCopy) → parts n n ≡ Some (QueueHead q) → parts c.held.at c.held.at ≡ Some (SplitIsochronous c.sitd) → n ≢ c.held.at
-no_sitd parts n q c here there same = let e : Some (QueueHead q) ≡ Some (SplitIsochronous c.sitd) = sym here ∙ ap (λ (i : ℕ). parts i i) same ∙ there in cc
 
 module _ (met : ℕ → Option Kind) (parts : StructureSets) (w : Walk) (hand : FrameHand) (now : StructureSets) (later : FrameHand) (x : Endpoint) (k : IsNewPart x (parts (32 * x.queue))) (in_hand : IsInFrame met parts w.got w.reply hand) where
   abbrev n : ℕ

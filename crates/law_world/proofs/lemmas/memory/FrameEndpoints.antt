@@ -5,6 +5,8 @@ use Rattle.std.proofs.Common.{slice_get, Some, is_some, ap, refl, sym, subst, �
 use Rattle.std.specs.Prelude.{slice_index}
 use Rattle.std.proofs.lemmas.Bool.{true≢false, cases_eq}
 use Rattle.std.proofs.lemmas.Option.{same_Some}
+use Rattle.law_world.proofs.Common2.{linking_led, next_led}
+use Rattle.law_common.proofs.Lists.{set_here, set_there, push_there}
 use Rattle.word_mem.specs.Memory.{Mem}
 use Rattle.drv_chains.specs.declared.members.Member.{Member}
 use Rattle.drv_members.specs.Members.{IsKept}
@@ -18,12 +20,10 @@ use Rattle.law_driver.specs.listed_members.Members.{IsListed}
 use Rattle.claims_driver.specs.Leaving.{HasOwners}
 use Rattle.claims_driver.specs.Unlinked.{led_in, led}
 use Rattle.law_driver.proofs.lemmas.queued_drivers.CommandLeaves.{unchained}
-use Rattle.law_driver.proofs.lemmas.run_owners.Released.{set_here, set_there}
 use Rattle.law_driver.specs.run_owners.Accepts.{Accepts, opens, chains, places, transfers, describes, cancels, unchains}
 use Rattle.law_footprints.specs.Changes.{EndpointChange, off_ring, off_frames, let_go, over, onward, EndpointsStep, same as none_changes}
 use Rattle.law_footprints.specs.Changes.{one as one_changes}
-use Rattle.law_queues.proofs.lemmas.mended_heads.Content.{pushed}
-use Rattle.law_world.proofs.lemmas.memory.FrameFlips.{ended_list, linking_led, next_led}
+use Rattle.law_world.proofs.lemmas.memory.FrameFlips.{ended_list}
 
 -- ---- what an event leaves of an endpoint
 
@@ -73,7 +73,7 @@ step_then xs _ (one_changes i v y at change) e x here = set_then xs i v y at (ch
 pushed_then : (xs ys : List Endpoint) (y : Endpoint) → ys ≡ xs ++ y ∷ [] → (e : ℕ) (x : Endpoint) → slice_get xs e ≡ Some x → Then ys e x
 pushed_then xs ys y is e x here = record {
   endpoint = x;
-  here = ap (λ (zs : List Endpoint). slice_get zs e) is ∙ pushed xs y e x here;
+  here = ap (λ (zs : List Endpoint). slice_get zs e) is ∙ push_there xs y e x here;
   keeps = keeps_itself x;
 }
 

@@ -1,6 +1,7 @@
 -- Endpoints where an event of the frames is next: each stays where it is in the ring.
 use Rattle.std.proofs.Common.{◌≡◌, ℕ, suc, ◌-◌, Bool, true, false, cond, nat_lt, List, ◌∷◌, [], ◌++◌, length, set, take, drop, slice_get, Option, Some, None, ap, refl, ◌∙◌, inl, inr}
 use Rattle.std.specs.Prelude.{is_none}
+use Rattle.law_driver.proofs.Common.{iso_frames}
 use Rattle.usb_base.specs.declared.endpoints.EndCause.{EndCause}
 use Rattle.usb_base.specs.declared.reports.What.TheVariants as lines
 use Rattle.word_mem.specs.Memory.{Mem}
@@ -24,7 +25,6 @@ use Rattle.drv_table.specs.Releases.{is_told, cancelled_bytes}
 use Rattle.drv_table.specs.Removals.{removed_with, free_placed, after_unlink, after_descriptor, after_placed}
 use Rattle.drv_table.specs.Harvesting.{told_with, mends_of, served, after_end, harvested_as, after_harvest}
 use Rattle.law_driver.proofs.lemmas.chained_transfers.Stalled.{behind_tells}
-use Rattle.law_driver.proofs.lemmas.queued_drivers.CommandFields.{iso_frames}
 use Rattle.law_world.specs.memory.framed_memory.Isochronous.{IsFramesCommand}
 use Rattle.law_world.proofs.lemmas.memory.FrameNext.{EndsStay, same, one}
 

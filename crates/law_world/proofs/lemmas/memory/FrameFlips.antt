@@ -1,24 +1,26 @@
 -- Which events of the driver take a member out of the frame list: stores of the list alone.
-use Rattle.std.proofs.Common.{◌≡◌, ℕ, zero, suc, ◌<◌, ◌≤◌, Bool, true, false, not, ◌&&◌, nat_lt, nat_eq}
+use Rattle.std.proofs.Common.{◌≡◌, ℕ, suc, ◌<◌, ◌≤◌, Bool, true, false, nat_lt, nat_eq}
 use Rattle.std.proofs.Common.{if◌then◌else◌, List, [], ◌∷◌, ◌++◌, length, map, filter, slice_get, is_none, Option, Some, None, ap, refl}
 use Rattle.std.proofs.Common.{sym, subst, ◌∙◌, ⊎_elim, arith}
 use Rattle.std.specs.Prelude.{count_by}
 use Rattle.std.specs.List.{AllByRecursion}
-use Rattle.std.proofs.lemmas.Bool.{and_parts, lt-ltb}
+use Rattle.std.proofs.lemmas.Bool.{lt-ltb}
 use Rattle.std.proofs.lemmas.Option.{same_Some}
+use Rattle.law_world.proofs.Common2.{next_led}
+use Rattle.law_common.proofs.Booleans.{either_if}
+use Rattle.law_common.proofs.Lists.{some_below}
 use Rattle.mem_runs.specs.Book.{holding, lend_taken}
 use Rattle.drv_chains.specs.declared.members.Descriptor.{Descriptor}
 use Rattle.drv_chains.specs.declared.members.Member.{Member}
 use Rattle.drv_chains.specs.declared.members.Member.TheVariants.{Once, Each}
 use Rattle.drv_chains.specs.declared.members.QueueHead.{QueueHead}
-use Rattle.drv_chains.specs.Chains.{Schedule, chain, descriptors_in, is_active, is_the, id_of, has_name, behind_the, first_of, successor}
-use Rattle.drv_members.specs.Members.{IsKept, is_member, takes, has_room}
+use Rattle.drv_chains.specs.Chains.{Schedule, chain, descriptors_in, is_active, is_the, id_of, behind_the, first_of, successor}
+use Rattle.drv_members.specs.Members.{IsKept}
 use Rattle.drv_members.specs.Ranks.{is_named, is_called}
 use Rattle.drv_members.proofs.Classes.{chain_is}
 use Rattle.drv_members.proofs.Splits.{count_first, count_two, count_fewer, none_counted, one_if}
-use Rattle.drv_periodic.specs.declared.work.Work.{Work}
-use Rattle.drv_periodic.specs.Periodic.{Periodic, after_store, inserting}
-use Rattle.drv_periodic_table.specs.Linking.{may_link, linking, begun, with_first, begun_next}
+use Rattle.drv_periodic.specs.Periodic.{Periodic, after_store}
+use Rattle.drv_periodic_table.specs.Linking.{begun_next}
 use Rattle.drv_periodic_table.specs.Periodic.{PeriodicContent}
 use Rattle.drv_periodic_table.specs.declared.content.Removed.TheVariants as removed
 use Rattle.drv_table.specs.declared.content.Command.{Command}
@@ -34,49 +36,9 @@ use Rattle.drv_table.specs.FrameChoice.{with_notes, framed_notes, placement_at, 
 use Rattle.drv_table.specs.Parts.{Parts}
 use Rattle.drv_table.specs.Rows.{after_driver_row}
 use Rattle.claims_driver.specs.Unlinked.{led_in, led}
-use Rattle.law_descriptors.proofs.ListRows.{idle_led, unlinking_led}
 use Rattle.law_driver.specs.run_owners.Due.{IsDue, IsNextOf, IsLinkOf}
 use Rattle.law_footprints.proofs.Fields.{list_stays}
 use Rattle.law_footprints.specs.Footprint.{footprint}
-use Rattle.law_frame_words.proofs.lemmas.frame_words.Begins.{out_again}
-
-pub either_if : {A : Type 0} (P : A → Type 0) (b : Bool) (x y : A) → (b ≡ true → P x) → (b ≡ false → P y) → P (if b then x else y)
-either_if P true x y h k = h refl
-either_if P false x y h k = k refl
-
-idle : (o : Option Work) → is_none o ≡ true → o ≡ None
-idle None e = refl
-idle (Some w) e = absurd (cc)
-
-off : (b : Bool) → not b ≡ true → b ≡ false
-off true e = absurd (cc)
-off false e = refl
-
--- ---- a member that is begun next has no store yet
-
-pub linking_led : (p : Periodic) (x : Member) → IsKept p.members.schedule → led_in (linking p x) ≡ led_in p
-linking_led p x kept =
-    either_if (λ (r : Periodic). led_in r ≡ led_in p) (may_link p x) (inserting p x) p
-    (λ e.
-    let both = and_parts (is_none p.work) (takes p.members x) e in
-    let one = and_parts (is_member x) (not (has_name p.members.schedule (id_of x)) && has_room p.members x) both.1 in
-    let new = and_parts (not (has_name p.members.schedule (id_of x))) (has_room p.members x) one.1 in
-    out_again p.members.schedule x kept (off (has_name p.members.schedule (id_of x)) new.0) ∙ sym (idle_led p (idle p.work both.0)))
-    (λ e. refl)
-
-begun_led : (removes : Bool) (p : Periodic) (x : Member) → IsKept p.members.schedule → led_in (begun removes p x) ≡ led_in p
-begun_led true p x kept = unlinking_led p x
-begun_led false p x kept = linking_led p x kept
-
-first_led : (removes : Bool) (q : PeriodicContent) (ms : List Member) → IsKept q.list.members.schedule
-    → led_in (with_first removes q ms).list ≡ led_in q.list
-first_led removes q [] kept = refl
-first_led removes q (x ∷ xs) kept = begun_led removes q.list x kept
-
-pub next_led : (removes : Bool) (q : PeriodicContent) → IsKept q.list.members.schedule → led_in (begun_next removes q).list ≡ led_in q.list
-next_led removes q kept =
-    either_if (λ (r : PeriodicContent). led_in r.list ≡ led_in q.list) (is_none q.list.work) (with_first removes q q.queued) q
-    (λ e. first_led removes q q.queued kept) (λ e. refl)
 
 -- ---- the command's own events
 
@@ -119,16 +81,11 @@ early_led d c early kept =
     (λ last. either_if (λ (f : DriverContent). led f ≡ led d) (links c) (linked_on d c) (finished d c) (λ on. linked_led d c early kept)
     (λ none. ap led_in (finished_list d c)))
 
-below : {X : Type 0} (xs : List X) (i : ℕ) (x : X) → slice_get xs i ≡ Some x → i < length xs
-below [] i x here = absurd (cc)
-below (y ∷ xs) zero x here = omega arith
-below (y ∷ xs) (suc i) x here = let low = below xs i x here in omega (arith, low)
-
 own_led : (d g : DriverContent) (row : DriverRow) (c : Command) → d.command ≡ Some c → slice_get (events_of c) d.made ≡ Some row
     → g.command ≡ d.command → g.made ≡ d.made → list_of g ≡ list_of d → IsKept d.periodic.list.members.schedule → led (advance g) ≡ led d
 own_led d g row c is next command made list kept =
     ap (λ (o : Option Command). led (advanced_by g o)) (command ∙ is)
-    ∙ early_led g c (let low = below (events_of c) d.made row next in omega (arith, made, low))
+    ∙ early_led g c (let low = some_below (events_of c) d.made row next in omega (arith, made, low))
     (subst (λ (p : Periodic). IsKept p.members.schedule) (sym list) kept) ∙ ap led_in list
 
 framed_led : (d : DriverContent) (n : ℕ) (c : Command) → d.command ≡ Some c → slice_get (events_of c) d.made ≡ Some rows.Frames

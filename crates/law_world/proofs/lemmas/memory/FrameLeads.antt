@@ -1,5 +1,6 @@
 -- Where the elements of the frame list and its members lead.
 use Rattle.std.proofs.Common.{◌≡◌, ℕ, ◌*◌, ◌/◌, ◌<◌, Bool, true, false, Option, Some, None, if◌then◌else◌, ap, sym, subst, ◌∙◌, arith}
+use Rattle.law_common.proofs.Numbers.{same_block}
 use Rattle.word_mem.specs.Memory.{Mem, word_at}
 use Rattle.link_words.specs.declared.kinds.Link.TheVariants as links
 use Rattle.link_words.specs.Links.{link_read}
@@ -21,9 +22,6 @@ use Rattle.law_descriptors.specs.Meeting.{standing, kind_of}
 use Rattle.law_descriptors.specs.RowLaws.{HasFrames}
 use Rattle.law_descriptors.proofs.Finding.{begins_at, member_kind, IsMemberAt, member_at}
 use Rattle.law_descriptors.proofs.Leading.{led_linked, led_spread, elements_lead_to_standing, members_lead_to_standing}
-
-same_block : (a b : ℕ) → 32 * (a / 32) ≡ 32 * (b / 32) → a / 32 ≡ b / 32
-same_block a b same = omega (arith, same)
 
 turned : (a : ℕ) → 32 * (a / 32) ≡ a / 32 * 32
 turned a = omega arith

@@ -5,6 +5,11 @@ use Rattle.std.specs.Prelude.{option_and_then}
 use Rattle.std.specs.List.{AllByRecursion, list_any}
 use Rattle.std.proofs.lemmas.Bool.{true≢false, eqb-true, cases_Bool, and_parts}
 use Rattle.std.proofs.lemmas.Option.{same_Some}
+use Rattle.law_world.proofs.Common2.{next_led}
+use Rattle.law_descriptors.proofs.Common.{way_by}
+use Rattle.law_frame_words.proofs.Common.{that_itself, this_itself}
+use Rattle.law_common.proofs.Booleans.{either_if}
+use Rattle.law_common.proofs.Lists.{nth_all}
 use Rattle.word_mem.specs.Memory.{Mem, word_at}
 use Rattle.mem_runs.specs.Book.{slot_of, can_store, store}
 use Rattle.drv_chains.specs.declared.members.Descriptor.{Descriptor}
@@ -36,7 +41,7 @@ use Rattle.drv_table.specs.Rows.{driver_row, after_driver_row}
 use Rattle.bus_world.specs.World.{World, driver_parts, controller_parts, driver_next}
 use Rattle.claims_base.specs.Controller.{opening_base}
 use Rattle.law_driver.specs.listed_members.Members.{IsUnderWay}
-use Rattle.claims_driver.specs.FrameWords.{Begun, HasMember, StandsBy, is_at, made_of}
+use Rattle.claims_driver.specs.FrameWords.{Begun, StandsBy, is_at, made_of}
 use Rattle.claims_driver.specs.Ring.{link_in}
 use Rattle.claims_driver.specs.Unlinked.{led_in, led}
 use Rattle.claims_world.specs.Links.{EndsOrLeads, ends, leads}
@@ -53,20 +58,16 @@ use Rattle.law_frame_list.proofs.lemmas.list_steps.Stepping.{goes_on_list}
 use Rattle.law_frame_list.specs.list_closed.Closed.{IsNext}
 use Rattle.law_frame_words.proofs.lemmas.frame_words.Begins.{remove_stands}
 use Rattle.law_frame_words.proofs.lemmas.frame_words.Decoded.{IsWordOf}
-use Rattle.law_frame_words.proofs.lemmas.frame_words.InChains.{words_in, that_itself, this_itself}
+use Rattle.law_frame_words.proofs.lemmas.frame_words.InChains.{words_in}
 use Rattle.law_frame_words.proofs.lemmas.frame_words.Order.{store_in_order}
 use Rattle.law_world.specs.memory.Mixed.{Standing, IsMixedAt}
-use Rattle.law_world.proofs.lemmas.memory.FrameFlips.{LedThen, same, a_link, an_unlink, row_led, next_led, either_if, successor_apart}
-use Rattle.law_world.proofs.lemmas.memory.LinkWords.{NextWord, next_word, nth_all, stored_off}
+use Rattle.law_world.proofs.lemmas.memory.FrameFlips.{LedThen, same, a_link, an_unlink, row_led, successor_apart}
+use Rattle.law_world.proofs.lemmas.memory.LinkWords.{NextWord, next_word, stored_off}
 use Rattle.law_world.proofs.lemmas.memory.lemmas.framed_memory.Now.{now_has_frames}
 
 itself_word : (x : Member) → is_word (After x) (After x) ≡ true
 itself_word (Once c) = that_itself c
 itself_word (Each q) = this_itself q
-
-way_by : (s : Schedule) (o : Option Work) (w : Work) → o ≡ Some w → HasMember s o → is_linked s w.member ≡ true
-way_by s None w is has = absurd (cc)
-way_by s (Some v) w is has = subst (λ (x : Work). is_linked s x.member ≡ true) (same_Some v w is) has.1
 
 -- the members to which a word may lead once the last store is made
 led_out : (p : Periodic) (w : Work) → p.work ≡ Some w → is_more p.members.schedule w ≡ false → w.removes ≡ true

@@ -4,6 +4,8 @@ use Rattle.std.specs.Prelude.{◌⊎◌, option_map, slice_index}
 use Rattle.std.specs.List.{AllByRecursion}
 use Rattle.std.proofs.lemmas.Bool.{or_right, false≢true, true≢false, eqb-true}
 use Rattle.std.proofs.lemmas.Option.{slice_get-map}
+use Rattle.law_common.proofs.Booleans.{either_one}
+use Rattle.law_driver.proofs.Common.{of_queue, of_none}
 use Rattle.word_mem.specs.Memory.{Mem}
 use Rattle.mem_runs.specs.Book.{holding, lend_taken, slot_of}
 use Rattle.mem_runs.specs.declared.slots.Slot.{Slot}
@@ -31,7 +33,7 @@ use Rattle.law_driver_ring.specs.Inventory.{IsLent}
 use Rattle.law_driver.proofs.lemmas.iso_frames.Harvested.{get_dropped}
 use Rattle.law_driver.specs.queued_drivers.Queued.{queued, queued_endpoint}
 use Rattle.law_driver.specs.queued_drivers.Rows.{IsOfFrames}
-use Rattle.law_driver.proofs.lemmas.queued_drivers.RowLists.{IsMapped, mapped, queue_told, none_told}
+use Rattle.law_driver.proofs.lemmas.queued_drivers.RowLists.{IsMapped, mapped}
 use Rattle.law_descriptors.specs.Written.{runs_of}
 use Rattle.law_world.specs.memory.framed_memory.Isochronous.{IsFramesCommand, AwaitsLend}
 use Rattle.law_world.proofs.lemmas.memory.lemmas.framed_memory.Lending.{lend_keeps_now}
@@ -44,17 +46,13 @@ use Rattle.law_world.proofs.lemmas.memory.FrameEnds.{advance_ends}
 
 -- ---- runs that begin in a block
 
-by_or : (a b : Bool) → (a || b) ≡ true → (a ≡ true) ⊎ (b ≡ true)
-by_or true b on = inl refl
-by_or false b on = inr on
-
 begins_either : (b : ℕ) (xs ys : List ℕ) → begins_in b (xs ++ ys) ≡ true → (begins_in b xs ≡ true) ⊎ (begins_in b ys ≡ true)
 begins_either b [] ys on = inr on
 begins_either b (x ∷ xs) ys on =
     ⊎_elim {C = (begins_in b (x ∷ xs) ≡ true) ⊎ (begins_in b ys ≡ true)} (λ (first : (x == b) ≡ true). inl (ap (λ (t : Bool). t || begins_in b xs) first))
     (λ (later : begins_in b (xs ++ ys) ≡ true).
     ⊎_elim {C = (begins_in b (x ∷ xs) ≡ true) ⊎ (begins_in b ys ≡ true)} (λ (one : begins_in b xs ≡ true). inl (ap (λ (t : Bool). (x == b) || t) one ∙ or_right (x == b) true refl))
-    (λ (other : begins_in b ys ≡ true). inr other) (begins_either b xs ys later)) (by_or (x == b) (begins_in b (xs ++ ys)) on)
+    (λ (other : begins_in b ys ≡ true). inr other) (begins_either b xs ys later)) (either_one (x == b) (begins_in b (xs ++ ys)) on)
 
 -- ---- what a command with descriptors took
 
@@ -75,7 +73,7 @@ module _ (d : DriverContent) (m : Mem) (e t : ℕ) (has : HasOwners d) (lent : A
   buffer_owned b u [] all on = absurd (false≢true on)
   buffer_owned b u (c ∷ cs) all on =
       ⊎_elim (λ (first : (c == b) ≡ true). ap has.owner (sym (eqb-true c b first)) ∙ all.0.owned) (λ (later : begins_in b cs ≡ true). buffer_owned b u cs all.1 later)
-      (by_or (c == b) (begins_in b cs) on)
+      (either_one (c == b) (begins_in b cs) on)
 
   no_buffer : (k u : ℕ) → ◌≡◌ {A = Owner} (Dummy k) (Buffer u) → ⊥
   no_buffer k u bad = cc
@@ -95,7 +93,7 @@ module _ (d : DriverContent) (m : Mem) (e t : ℕ) (has : HasOwners d) (lent : A
       ⊎_elim (λ (buffer : begins_in b bs ≡ true). no_buffer k h.number (sym its ∙ buffer_owned b h.number bs h.described.buffers buffer))
       (λ (other : begins_in b (runs_of d.periodic.notes ys) ≡ true). none_dummy ys (λ i z at. own (suc i) z at) b k its other)
       (begins_either b bs (runs_of d.periodic.notes ys) later))
-      (by_or (y.first == b) (begins_in b (bs ++ runs_of d.periodic.notes ys)) on)
+      (either_one (y.first == b) (begins_in b (bs ++ runs_of d.periodic.notes ys)) on)
 
   dummy_lent : (k : ℕ) (x : Endpoint) → slice_get d.endpoints k ≡ Some x → (is_iso x.desc.kind || x.gone) ≡ false → IsLent (slot_of d.book.slots x.dummy)
   dummy_lent k x here bare = by (slot_of d.book.slots x.dummy) refl placed.run
@@ -114,9 +112,9 @@ module _ (d : DriverContent) (m : Mem) (e t : ℕ) (has : HasOwners d) (lent : A
   real_queue y kept = by (is_iso y.desc.kind) refl
     where
       by : (b : Bool) → is_iso y.desc.kind ≡ b → ((is_iso y.desc.kind || y.gone) ≡ false) × ((queued_endpoint y).dummy ≡ y.dummy)
-      by true iso = absurd (true≢false (sym (ap (λ (z : Endpoint). z.gone) (none_told y iso)) ∙ kept))
+      by true iso = absurd (true≢false (sym (ap (λ (z : Endpoint). z.gone) (of_none y iso)) ∙ kept))
       by false off =
-          let is = queue_told y off in
+          let is = of_queue y off in
           (ap (λ (b : Bool). b || y.gone) off ∙ sym (ap (λ (z : Endpoint). z.gone) is) ∙ kept, ap (λ (z : Endpoint). z.dummy) is)
 
   pub lent_dummies : (f : DriverContent) → DummiesWereLent (queued d) f

@@ -1,7 +1,10 @@
 -- Which descriptors an event of the driver puts into the frame list: the first of those that its command still has to link.
-use Rattle.std.proofs.Common.{◌≡◌, ℕ, zero, suc, Bool, true, false, not, ◌&&◌, nat_lt, if◌then◌else◌, List, [], ◌∷◌, length, slice_get}
+use Rattle.std.proofs.Common.{◌≡◌, ℕ, suc, Bool, true, false, not, ◌&&◌, nat_lt, if◌then◌else◌, List, [], ◌∷◌, length, slice_get}
 use Rattle.std.proofs.Common.{is_none, Option, Some, None, ap, refl, sym, ◌∙◌, ⊎_elim, inl, inr, take, drop, ◌⊎◌}
 use Rattle.std.proofs.lemmas.Bool.{and_parts, eqb-true}
+use Rattle.law_world.proofs.Common2.{done_none}
+use Rattle.law_common.proofs.Booleans.{not_on, either_if}
+use Rattle.law_frame_list.proofs.Common.{frames_first}
 use Rattle.mem_runs.specs.Book.{holding, lend_taken}
 use Rattle.drv_chains.specs.declared.members.Descriptor.{Descriptor}
 use Rattle.drv_chains.specs.declared.members.Member.{Member}
@@ -15,12 +18,11 @@ use Rattle.drv_periodic_table.specs.Periodic.{PeriodicContent, descriptor_member
 use Rattle.drv_periodic_table.specs.declared.content.Removed.TheVariants as removed
 use Rattle.drv_table.specs.declared.content.Command.{Command}
 use Rattle.drv_table.specs.declared.content.Command.TheVariants as unfinished
-use Rattle.drv_table.specs.declared.content.Endpoint.{Endpoint}
 use Rattle.drv_table.specs.declared.content.Transfer.{Transfer}
 use Rattle.drv_table.specs.declared.rows.DriverRow.{DriverRow}
 use Rattle.drv_table.specs.declared.rows.DriverRow.TheVariants as rows
 use Rattle.drv_table.specs.DriverContent.{DriverContent}
-use Rattle.drv_table.specs.Commands.{events_of, links, removes_members, no_command, leave_ring, leave_frames, finished, or_finished}
+use Rattle.drv_table.specs.Commands.{events_of, links, removes_members, finished, or_finished}
 use Rattle.drv_table.specs.Commands.{list_after, linked_on, advanced_by}
 use Rattle.drv_table.specs.FrameChoice.{with_notes, framed_notes, placement_at, framed_by, linked_by}
 use Rattle.drv_table.specs.Parts.{Parts}
@@ -32,11 +34,7 @@ use Rattle.law_footprints.specs.Footprint.{footprint}
 use Rattle.law_frame_list.proofs.lemmas.list_closed.Chained.{still_linked}
 use Rattle.law_frame_words.proofs.lemmas.frame_words.Begins.{out_again}
 use Rattle.law_frame_words.proofs.lemmas.frame_words.InChains.{fewer_in}
-use Rattle.law_world.proofs.lemmas.memory.FrameFlips.{either_if, ended_list, finished_list}
-
-pub not_on : (b : Bool) → not b ≡ true → b ≡ false
-not_on true e = absurd (cc)
-not_on false e = refl
+use Rattle.law_world.proofs.lemmas.memory.FrameFlips.{ended_list, finished_list}
 
 -- descriptor k stands in this list
 abbrev Stands : Periodic → Descriptor → Type 0
@@ -141,11 +139,6 @@ module _ (d g : DriverContent) (k : Descriptor) (kept : AreKeptThen g.periodic.l
 
 -- ---- each row
 
-first_event : (e t count n : ℕ) → slice_get (events_of (unfinished.Iso e t count)) n ≡ Some rows.Frames → n ≡ 0
-first_event e t count zero is = refl
-first_event e t count (suc zero) is = absurd (cc)
-first_event e t count (suc (suc n)) is = absurd (cc)
-
 module _ (p : Parts) (kept : AreKeptThen p.driver.periodic.list) (k : Descriptor) where
   abbrev d : DriverContent
   d = p.driver
@@ -163,7 +156,7 @@ module _ (p : Parts) (kept : AreKeptThen p.driver.periodic.list) (k : Descriptor
       → Stands p.driver.periodic.list k
   framed_by_first n made (unfinished.Iso e t count) at next is on =
       let g : DriverContent = with_notes d n (take count (drop t d.transfers)) (framed_notes d n e t count (placement_at d e)) in
-      let zero_made : d.made ≡ 0 = sym at ∙ first_event e t count made next in
+      let zero_made : d.made ≡ 0 = sym at ∙ frames_first e t count made next in
       ap (λ (i : ℕ). is_linked (if nat_lt (suc i) 2 then record g { made = suc d.made }
       else linked_on g (unfinished.Iso e t count)).periodic.list.members.schedule (Once k)) (sym zero_made)
       ∙ ap (λ (o : Option Command). is_linked (advanced_by g o).periodic.list.members.schedule (Once k)) (sym is) ∙ on
@@ -204,21 +197,8 @@ module _ (p : Parts) (kept : AreKeptThen p.driver.periodic.list) (k : Descriptor
 
 -- ---- the command stays, or none is unfinished
 
-finished_none : (d : DriverContent) (c : Command) → (finished d c).command ≡ None
-finished_none d (unfinished.Unlink e b link) = ring_left (slice_get d.endpoints e)
-  where
-    ring_left : (o : Option Endpoint) → (leave_ring (no_command d) e o).command ≡ None
-    ring_left None = refl
-    ring_left (Some x) = either_if (λ (f : DriverContent). f.command ≡ None) x.linked _ (no_command d) (λ on. refl) (λ on. refl)
-finished_none d (unfinished.Unchain e) = frames_left (slice_get d.endpoints e)
-  where
-    frames_left : (o : Option Endpoint) → (leave_frames (no_command d) e o).command ≡ None
-    frames_left None = refl
-    frames_left (Some x) = either_if (λ (f : DriverContent). f.command ≡ None) x.chained _ (no_command d) (λ on. refl) (λ on. refl)
-finished_none d _ = refl
-
 not_finished : (d : DriverContent) (c e : Command) (A : Type 0) → (finished d c).command ≡ Some e → A
-not_finished d c e A is = let none : None ≡ Some e = sym (finished_none d c) ∙ is in absurd (cc)
+not_finished d c e A is = let none : None ≡ Some e = sym (done_none d c) ∙ is in absurd (cc)
 
 advanced_command : (g : DriverContent) (o : Option Command) (e : Command) → g.command ≡ o → (advanced_by g o).command ≡ Some e → o ≡ Some e
 advanced_command g None e same = λ is. sym same ∙ is

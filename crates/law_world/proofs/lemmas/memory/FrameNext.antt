@@ -3,6 +3,10 @@ use Rattle.std.proofs.Common.{◌≡◌, ◌≢◌, ℕ, ◌*◌, Bool, true, fa
 use Rattle.std.specs.Prelude.{◌⊎◌}
 use Rattle.std.proofs.lemmas.Bool.{or_right, cases_eq, false≢true}
 use Rattle.std.proofs.lemmas.Option.{same_Some}
+use Rattle.law_driver_ring.proofs.Common.{lent_slot}
+use Rattle.law_common.proofs.Lists.{set_here, set_there}
+use Rattle.law_queues.proofs.Common.{not_one}
+use Rattle.law_world.proofs.Common.{none_some}
 use Rattle.word_mem.specs.Memory.{Mem}
 use Rattle.mem_runs.specs.Book.{slot_of}
 use Rattle.mem_runs.specs.declared.slots.Slot.{Slot}
@@ -20,17 +24,14 @@ use Rattle.law_driver.proofs.lemmas.endpoint_lives.Lives.{met_alike}
 use Rattle.claims_driver.specs.Owners.{HasBlocks, HasRun}
 use Rattle.claims_driver.specs.Leaving.{times, leaves_ring, HasOwners}
 use Rattle.law_driver.proofs.lemmas.run_owners.Reasons.{each_event_is_due}
-use Rattle.law_driver.proofs.lemmas.run_owners.Released.{set_here, set_there}
-use Rattle.claims_driver.specs.LentRuns.{AreLent, IsLent as IsLentRun}
+use Rattle.claims_driver.specs.LentRuns.{AreLent}
 use Rattle.law_driver.proofs.lemmas.lent_runs.Laws.{all_are_lent_between_commands}
 use Rattle.law_structures.specs.lent_structures.Structures.{StructureSets}
 use Rattle.law_ring.specs.Hand.{Hand}
 use Rattle.claims_base.specs.Controller.{opening_base}
-use Rattle.law_driver_ring.specs.Inventory.{IsLent}
 use Rattle.law_driver.proofs.lemmas.chained_transfers.Rows.{set_which}
 use Rattle.law_driver_ring.specs.fed_queues.Places.{IsMet, HasHead, AreMet}
 use Rattle.law_queues.proofs.lemmas.publish_laws.Apart.{dummy_placed}
-use Rattle.law_queues.proofs.lemmas.leaving_drivers.Unmet.{none_of}
 use Rattle.law_driver.specs.queued_drivers.Queued.{queued, queued_command, QueuesTakeTurns}
 use Rattle.law_driver.specs.queued_drivers.Rows.{QueuesAlike, IsOfFrames, keeps_book}
 use Rattle.law_driver.proofs.lemmas.queued_drivers.RowOwners.{queued_has_owners}
@@ -42,7 +43,6 @@ use Rattle.law_world.specs.memory.framed_memory.Isochronous.{IsFramesCommand}
 use Rattle.bus_world.specs.World.{World, driver_parts, controller_parts, driver_next}
 use Rattle.law_world.specs.memory.Mixed.{QueuesGoOn, IsUnderWay, Standing, IsMixedAt}
 use Rattle.law_world.specs.memory.Steps.{AreTold, left_by_frames, stays as step_stays, IsMixedNext}
-use Rattle.law_world.proofs.lemmas.memory.Unfinished.{none_unfinished}
 use Rattle.law_world.proofs.lemmas.memory.Next.{mixed_next}
 use Rattle.law_world.proofs.lemmas.memory.Alike.{DummiesWereLent, same_lent, goes_on_alike}
 
@@ -74,7 +74,7 @@ pub frames_still : (d f : DriverContent) → QueuesAlike (queued d) (queued f) �
 frames_still d f k frames = queued_none f.endpoints f.command (k.command ∙ none_queued d.endpoints d.command frames)
 
 pub never_publishes : (d : DriverContent) → IsFramesCommand d.command → (b : ℕ) (words : List ℕ) → (queued d).command ≢ Some (unfinished.Publish b words)
-never_publishes d frames b words is = none_unfinished (unfinished.Publish b words) (sym (none_queued d.endpoints d.command frames) ∙ is)
+never_publishes d frames b words is = none_some (unfinished.Publish b words) (sym (none_queued d.endpoints d.command frames) ∙ is)
 
 pub none_under_way : (d : DriverContent) (m : Mem) (member : ℕ → Bool) (recent : ℕ → Option Kind) (parts : StructureSets) (o : Option Command) → IsFramesCommand o
     → IsUnderWay d m member recent parts o
@@ -104,8 +104,8 @@ periodic_unmet d e x has here periodic near = false≢true (sym unmet ∙ near)
 
     unmet : may_meet d e x ≡ false
     unmet =
-        ap (λ (b : Bool). b || (is_one_of e d.waiting || is_one_of e d.rung)) (by x.linked refl) ∙ ap (λ (b : Bool). b || is_one_of e d.rung) (none_of e d.waiting none_waits)
-        ∙ none_of e d.rung none_rung
+        ap (λ (b : Bool). b || (is_one_of e d.waiting || is_one_of e d.rung)) (by x.linked refl) ∙ ap (λ (b : Bool). b || is_one_of e d.rung) (not_one e d.waiting none_waits)
+        ∙ not_one e d.rung none_rung
 
 -- at most one endpoint is told anew, in its place in the ring, and that of a periodic one may be given back
 pub data EndsStay (xs ys : List Endpoint) : Type 0 where
@@ -181,10 +181,6 @@ module _ (d f : DriverContent) (has : HasOwners d) (waiting : f.waiting ≡ d.wa
 
 -- ---- dummies
 
-lent_run : (s : Slot) → IsLentRun s → IsLent s
-lent_run (slots.Lends r) lent = tt
-lent_run _ lent = lent
-
 one_run : (s : Slot) → HasBlocks 1 s → HasRun s
 one_run slots.Empty has = has
 one_run _ has = tt
@@ -193,7 +189,7 @@ one_run _ has = tt
 pub idle_dummies : (d f : DriverContent) → HasOwners d → QueuesTakeTurns d → AreLent d → d.command ≡ None → DummiesWereLent (queued d) f
 idle_dummies d f has turns lent idle e x here kept was =
     let placed = dummy_placed (queued d) (queued_has_owners d has turns) e x here (turns.turns.asynchronous.endpoints e x here) kept in
-    lent_run (slot_of d.book.slots x.dummy) (all_are_lent_between_commands d x.dummy idle lent
+    lent_slot (slot_of d.book.slots x.dummy) (all_are_lent_between_commands d x.dummy idle lent
     (one_run (slot_of d.book.slots x.dummy) placed.run))
 
 -- ---- the world

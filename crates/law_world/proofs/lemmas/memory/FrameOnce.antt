@@ -6,6 +6,7 @@ use Rattle.std.specs.Prelude.{◌⊎◌}
 use Rattle.std.specs.List.{AllByRecursion}
 use Rattle.std.proofs.lemmas.Bool.{true≢false, and_parts, cases_Bool}
 use Rattle.std.proofs.lemmas.Option.{same_Some}
+use Rattle.law_common.proofs.Booleans.{not_on}
 use Rattle.usb_base.specs.declared.commands.Cmd.{Cmd}
 use Rattle.usb_base.specs.declared.reports.OfferError.{OfferError}
 use Rattle.script_types.specs.declared.scripts.Event.TheVariants as events
@@ -65,7 +66,7 @@ use Rattle.law_world.specs.memory.Mixed.{Standing, IsMixedWorld}
 use Rattle.law_world.specs.memory.Owners.{EndsActive}
 use Rattle.law_world.proofs.lemmas.memory.Driving.{driver_keeps_mixed}
 use Rattle.law_world.proofs.lemmas.memory.FrameLeft.{member_leads, schedule_gone, unlinking_now}
-use Rattle.law_world.proofs.lemmas.memory.FrameNew.{AreKeptThen, ComesBy, was, linked_now, not_on, row_command, row_comes}
+use Rattle.law_world.proofs.lemmas.memory.FrameNew.{AreKeptThen, ComesBy, was, linked_now, row_command, row_comes}
 use Rattle.law_world.proofs.lemmas.memory.FrameTransfers.{Then, IsOlder, step_then, accepted_there, accepted_older, accepted_stood}
 use Rattle.law_world.proofs.lemmas.memory.FrameQueues.{LeadsLater, later, leads_on, command_led}
 use Rattle.law_world.proofs.lemmas.memory.LetGo.{moment_then}

@@ -5,6 +5,7 @@ use Rattle.std.proofs.Common.{slice_get, Some, option_map, Result, Ok, Err, ap, 
 use Rattle.std.specs.Prelude.{◌||◌}
 use Rattle.std.proofs.lemmas.Bool.{true≢false}
 use Rattle.std.proofs.lemmas.Option.{same_Some}
+use Rattle.law_driver.proofs.Common.{same_endpoint}
 use Rattle.usb_base.specs.declared.commands.Cmd.{Cmd}
 use Rattle.usb_base.specs.declared.reports.OfferError.{OfferError}
 use Rattle.script_types.specs.declared.scripts.Event.TheVariants as events
@@ -45,7 +46,7 @@ use Rattle.law_structures.proofs.lemmas.lent_structures.Telling.{told_lent}
 use Rattle.law_structures.specs.lent_structures.Structures.{QueueHead as AQueueHead}
 use Rattle.law_frames.specs.Met.{IsMetQueue, AQueue}
 use Rattle.law_driver.proofs.lemmas.listed_members.Owned.{descriptor_owned, queue_owned}
-use Rattle.law_driver.proofs.lemmas.listed_members.Standing.{framed, one_endpoint, queue_block}
+use Rattle.law_driver.proofs.lemmas.listed_members.Standing.{framed, queue_block}
 use Rattle.law_driver.proofs.lemmas.ring_members.Placed.{has_queue, queue_placed}
 use Rattle.law_driver.proofs.lemmas.run_owners.Commands.{each_command_has_its_reason}
 use Rattle.law_driver.proofs.lemmas.run_owners.Runs.{placed_run}
@@ -101,7 +102,7 @@ module _ (d : DriverContent) (has : HasOwners d) (e : ℕ) (x : Endpoint) (here 
         let s : IsQueueIn d r = queue_there d r listed on in
         let f = framed d.endpoints s.number s.framed s.here in
         let one : s.number ≡ e
-        = one_endpoint s.number e
+        = same_endpoint s.number e
         (sym (queue_owned d r has s).owned ∙ ap has.owner same ∙ (queue_placed d e x has here queued).owned) in
         let is : f.endpoint ≡ x = same_Some f.endpoint x (sym f.here ∙ ap (slice_get d.endpoints) one ∙ here) in
         true≢false (sym s.chained ∙ ap (λ (z : Framed). z.chained) f.is ∙ ap (λ (z : Endpoint). z.chained) is ∙ off)
@@ -118,7 +119,7 @@ module _ (d : DriverContent) (has : HasOwners d) (e : ℕ) (x : Endpoint) (here 
       head = λ same. cc same;
       element = λ t same. cc same;
       ring = λ f y there on same.
-          let one : e ≡ f = one_endpoint e f same in
+          let one : e ≡ f = same_endpoint e f same in
           let is : x ≡ y = same_Some x y (sym here ∙ ap (slice_get d.endpoints) one ∙ there) in
           true≢false (sym periodic ∙ ap (λ (z : Endpoint). is_periodic z.desc.kind) is ∙ (has.orderly.steady f y there).ring on);
       members = no_member;

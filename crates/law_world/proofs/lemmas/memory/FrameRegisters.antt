@@ -1,5 +1,6 @@
 -- Events of registers leave a world with endpoints of every kind one: FRINDEX and USBSTS are read, the doorbell is rung, or there is nothing to do.
-use Rattle.std.proofs.Common.{◌≡◌, ℕ, Bool, true, false, ◌||◌, List, [], ◌++◌, ap, refl, sym, subst, ◌∙◌}
+use Rattle.std.proofs.Common.{◌≡◌, ℕ, Bool, true, ◌||◌, List, [], ◌++◌, ap, refl, sym, subst, ◌∙◌}
+use Rattle.law_common.proofs.Booleans.{either_way}
 use Rattle.drv_table.specs.declared.content.Endpoint.{Endpoint}
 use Rattle.drv_table.specs.declared.rows.DriverRow.{DriverRow}
 use Rattle.drv_table.specs.declared.rows.DriverRow.TheVariants as rows
@@ -53,12 +54,6 @@ frame_read_mixed n s w k is =
     (told_same s s.recent s.descs)
 
 -- ---- USBSTS is read, and the doorbell is rung
-
-either_way : (a b : Bool) → (a || b) ≡ (b || a)
-either_way true true = refl
-either_way true false = refl
-either_way false true = refl
-either_way false false = refl
 
 -- who waits is rung for
 rung_near : (e : ℕ) (x : Endpoint) (waiting rung : List ℕ) → (x.linked || (is_one_of e [] || is_one_of e (rung ++ waiting))) ≡ (x.linked || (is_one_of e waiting || is_one_of e rung))

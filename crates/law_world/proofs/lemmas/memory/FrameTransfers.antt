@@ -4,6 +4,8 @@ use Rattle.std.proofs.Common.{ap, refl, sym, subst, ◌∙◌, ⊎_elim, arith}
 use Rattle.std.specs.Prelude.{slice_index}
 use Rattle.std.proofs.lemmas.Bool.{true≢false}
 use Rattle.std.proofs.lemmas.Option.{same_Some}
+use Rattle.law_common.proofs.Lists.{push_there}
+use Rattle.law_common.proofs.Booleans.{either_if}
 use Rattle.word_mem.specs.Memory.{Mem}
 use Rattle.drv_chains.specs.declared.members.Descriptor.{Descriptor}
 use Rattle.drv_chains.specs.declared.members.Member.{Member}
@@ -24,8 +26,7 @@ use Rattle.law_driver.proofs.lemmas.queued_drivers.CommandEnds.{described_more}
 use Rattle.law_driver.proofs.lemmas.queued_drivers.CommandLeaves.{unchained}
 use Rattle.law_driver.specs.run_owners.Accepts.{Accepts, opens, chains, places, transfers, describes, cancels, unchains}
 use Rattle.law_footprints.specs.Changes.{TransferChange, TransfersStep, stays, moved, told, given_back, with_endpoint}
-use Rattle.law_queues.proofs.lemmas.mended_heads.Content.{pushed}
-use Rattle.law_world.proofs.lemmas.memory.FrameFlips.{either_if, ended_list}
+use Rattle.law_world.proofs.lemmas.memory.FrameFlips.{ended_list}
 use Rattle.law_world.proofs.lemmas.memory.FrameLeft.{next_members}
 
 -- ---- an event
@@ -74,7 +75,7 @@ accepted_there d m o (opens why) t x here = ap (λ (g : Offered). slice_get g.dr
 accepted_there d m o (chains why) t x here = ap (λ (g : Offered). slice_get g.driver.transfers t) why.is ∙ here
 accepted_there d m o (places why) t x here = ap (λ (g : Offered). slice_get g.driver.transfers t) why.is ∙ here
 accepted_there d m o (transfers why) t x here =
-    ap (λ (g : Offered). slice_get g.driver.transfers t) why.is ∙ pushed d.transfers _ t x here
+    ap (λ (g : Offered). slice_get g.driver.transfers t) why.is ∙ push_there d.transfers _ t x here
 accepted_there d m o (describes why) t x here =
     let a : Descriptors = record { notes = d.periodic.notes; transfers = d.transfers; memory = why.holding_after.memory } in
     let more = described_more why.holding_after.book why.number why.endpoint.desc why.slots why.count why.seed

@@ -1,6 +1,8 @@
 -- The harvest of a get, a put or a request leaves a world mixed, wherever its queue head stands.
 use Rattle.std.proofs.Common.{◌≡◌, ◌≢◌, ℕ, ◌*◌, Bool, false, if◌then◌else◌, List, ◌++◌, slice_get, Some, ap, refl, sym, subst, ◌∙◌, ⊎_elim}
 use Rattle.std.proofs.lemmas.Bool.{eq-eqb}
+use Rattle.law_world.proofs.Common.{none_some}
+use Rattle.law_queues.proofs.Common.{stall_or}
 use Rattle.drv_table.specs.declared.content.Command.TheVariants as unfinished
 use Rattle.drv_table.specs.declared.content.Transfer.{Transfer}
 use Rattle.drv_table.specs.declared.rows.DriverRow.{DriverRow}
@@ -37,9 +39,8 @@ use Rattle.law_descriptors.specs.queue_events.Events.{PartsStand}
 use Rattle.bus_world.specs.World.{World, controller_parts, driver_parts, driver_next}
 use Rattle.law_world.specs.memory.Mixed.{Standing, IsMixedAt}
 use Rattle.law_world.specs.memory.Steps.{OutAfter, waits as none_read, passes, stalls, harvests, IsMixedNext}
-use Rattle.law_world.proofs.lemmas.memory.Unfinished.{none_unfinished}
 use Rattle.law_world.proofs.lemmas.memory.HarvestTold.{ToldAnew, due_told, same_queues}
-use Rattle.law_world.proofs.lemmas.memory.HarvestControls.{stall_or, harvest_keeps_queues}
+use Rattle.law_world.proofs.lemmas.memory.HarvestControls.{harvest_keeps_queues}
 use Rattle.law_world.proofs.lemmas.memory.HarvestKept.{idle_lent, owners_of, tells_of, driven_of, fronts_of, IsIdleNext, idle_mixed}
 use Rattle.law_world.proofs.lemmas.memory.RingBasis.{due_is, row_alike, queued_next, told_row}
 
@@ -85,7 +86,7 @@ module _ (s : Standing) (w : World) (k : IsMixedAt s w) (e t : ℕ) (found : Fou
   fronts = fronts_of s w k
 
   met : IsMet (queued w.driver) e due.endpoint
-  met = stands_met (queued w.driver) e due.endpoint (turns.asynchronous.endpoints e due.endpoint due.here) due.goes_on (λ is. none_unfinished (unfinished.Open due.endpoint.queue) (sym due.idle ∙ is))
+  met = stands_met (queued w.driver) e due.endpoint (turns.asynchronous.endpoints e due.endpoint due.here) due.goes_on (λ is. none_some (unfinished.Open due.endpoint.queue) (sym due.idle ∙ is))
 
   part : IsQueuePart (32 * due.endpoint.queue) (s.parts (32 * due.endpoint.queue))
   part = k.queues.sound e due.endpoint due.here met

@@ -1,10 +1,11 @@
 -- A harvest leaves what stands of control queues, wherever their queue heads stand: fewer of their qTDs are out, in their order, and where one was halted by a STALL its
 -- queue waits.
-use Rattle.std.proofs.Common.{◌≡◌, ◌≢◌, ℕ, ◌+◌, ◌*◌, ◌==◌, Bool, true, false, not, ◌&&◌, List, [], ◌∷◌, ◌++◌, drop, slice_get, Option, Some, None, if◌then◌else◌, ap, refl, sym, subst, ◌∙◌, ⊎_elim, inl, inr, ◌⊎◌}
-use Rattle.std.proofs.lemmas.Bool.{cases_eq, false≢true}
+use Rattle.std.proofs.Common.{◌≡◌, ◌≢◌, ℕ, ◌+◌, ◌*◌, ◌==◌, Bool, true, false, not, ◌&&◌, List, [], ◌∷◌, ◌++◌, drop, slice_get, Option, Some, if◌then◌else◌, ap, sym, subst, ◌∙◌, ⊎_elim}
+use Rattle.std.proofs.lemmas.Bool.{cases_eq}
 use Rattle.std.proofs.lemmas.Option.{same_Some}
-use Rattle.usb_base.specs.declared.endpoints.EndCause.{EndCause}
-use Rattle.usb_base.specs.declared.packets.EpKind.{EpKind}
+use Rattle.law_queues.proofs.Common.{stall_or}
+use Rattle.law_common.proofs.Lists.{set_here, set_there}
+use Rattle.law_world.proofs.Common.{none_some}
 use Rattle.drv_table.specs.declared.content.Command.{Command}
 use Rattle.drv_table.specs.declared.content.Command.TheVariants as unfinished
 use Rattle.drv_table.specs.declared.content.Endpoint.{Endpoint}
@@ -13,7 +14,6 @@ use Rattle.drv_table.specs.declared.rows.DriverRow.TheVariants as rows
 use Rattle.drv_table.specs.declared.rows.Found.{Found}
 use Rattle.drv_table.specs.declared.rows.Found.TheVariants as founds
 use Rattle.drv_table.specs.DriverContent.{DriverContent}
-use Rattle.drv_table.specs.Harvests.{end_of, is_stall}
 use Rattle.drv_table.specs.Parts.{Parts as DriverParts}
 use Rattle.drv_table.specs.Rows.{after_driver_row}
 use Rattle.law_driver.specs.run_owners.Due.{IsHarvestDue}
@@ -37,7 +37,6 @@ use Rattle.law_queues.proofs.lemmas.fed_harvests.Harvests.{unstalled_stands, wai
 use Rattle.law_queues.proofs.lemmas.fed_harvests.Lists.{all_of, all_out}
 use Rattle.law_queues.proofs.lemmas.fed_harvests.Stalls.{stall_stands}
 use Rattle.law_queues.specs.mended_heads.Stalling.{IsStall, HaltsQueue}
-use Rattle.law_queues.proofs.lemmas.mended_heads.Content.{set_at, set_beside}
 use Rattle.law_queues.proofs.lemmas.mended_heads.Stalling.{harvest_keeps_mends}
 use Rattle.law_queues.specs.released_queues.Fronts.{FrontsStand}
 use Rattle.law_queues.proofs.lemmas.stalled_fronts.Halted.{stall_stops_queue}
@@ -45,7 +44,6 @@ use Rattle.law_world.specs.steps.control_queues.Controls.{ControlsStand}
 use Rattle.law_world.proofs.lemmas.steps.lemmas.control_queues.Alike.{ThereAlike, told_alike, stand_by}
 use Rattle.law_world.proofs.lemmas.steps.lemmas.control_queues.Lists.{IsPart, ends, drops, all_part, both_parts, one_less, part_among, part_sorted}
 use Rattle.law_controller.proofs.lemmas.controlled_streams.Streams.{out_here, out_beside}
-use Rattle.law_world.proofs.lemmas.memory.Unfinished.{none_unfinished}
 use Rattle.law_world.proofs.lemmas.memory.HarvestTold.{ToldAnew, due_told}
 
 -- ---- what a STALL leaves out, in its order
@@ -64,22 +62,6 @@ told_part note e (y ∷ ys) =
     by true true = all_part (drop 1 (pieces_from note y.place y.left))
     by true false = dropped_one (pieces_from note y.place y.left)
     by false r = ends
-
--- ---- whether it is a STALL
-
-pub stall_or : (kind : EpKind) (found : Found) → IsStall kind found ⊎ (IsStall kind found → ⊥)
-stall_or kind founds.Active = inr (λ stall. stall)
-stall_or kind (founds.Moved n) = inr (λ stall. stall)
-stall_or kind (founds.Served errors) = inr (λ stall. stall)
-stall_or kind (founds.Ended n what) = by (is_stall what) (end_of kind what) refl refl
-  where
-    never : (c : EndCause) → ◌≡◌ {A = Option EndCause} None (Some c) → ⊥
-    never c same = cc
-
-    by : (b : Bool) (o : Option EndCause) → is_stall what ≡ b → end_of kind what ≡ o → IsStall kind (founds.Ended n what) ⊎ (IsStall kind (founds.Ended n what) → ⊥)
-    by true None is none = inl (is, none)
-    by true (Some c) is some = inr (λ stall. never c (sym stall.1 ∙ some))
-    by false o is other = inr (λ stall. false≢true (sym is ∙ stall.0))
 
 -- ---- the law
 
@@ -102,7 +84,7 @@ module _ (p : DriverParts) (e t : ℕ) (found : Found) (member streams : ℕ →
   alike = told_alike d f e due.endpoint told.new due.here told.endpoints told.queue told.gone told.linked (λ q is. told.command ∙ is) told.waiting told.rung
 
   met : IsMet d e due.endpoint
-  met = stands_met d e due.endpoint (turns.asynchronous.endpoints e due.endpoint due.here) due.goes_on (λ is. none_unfinished (unfinished.Open due.endpoint.queue) (sym due.idle ∙ is))
+  met = stands_met d e due.endpoint (turns.asynchronous.endpoints e due.endpoint due.here) due.goes_on (λ is. none_some (unfinished.Open due.endpoint.queue) (sym due.idle ∙ is))
 
   -- an endpoint that isn't given back is there afterwards
   stays_out : (lists : ℕ → List ℕ) → AreStillOut f lists → (i : ℕ) (x : Endpoint) → slice_get d.endpoints i ≡ Some x → x.gone ≡ false → lists (32 * x.queue) ≡ out_now f i
@@ -111,12 +93,13 @@ module _ (p : DriverParts) (e t : ℕ) (found : Found) (member streams : ℕ →
       (λ (own : i ≡ e).
       let is : x ≡ due.endpoint = same_Some x due.endpoint (sym here ∙ ap (slice_get d.endpoints) own ∙ due.here) in
       ap (λ (z : Endpoint). lists (32 * z.queue)) is ∙ ap (λ (q : ℕ). lists (32 * q)) (sym told.queue)
-      ∙ stays e told.new (ap (λ (xs : List Endpoint). slice_get xs e) told.endpoints ∙ set_at d.endpoints e due.endpoint told.new due.here)
-      (record { linked = λ is. none_unfinished (unfinished.Open told.new.queue) (sym due.idle ∙ sym told.command ∙ is); kept = told.gone ∙ met.there.kept })
+      ∙ stays e told.new (ap (λ (xs : List Endpoint). slice_get xs e) told.endpoints
+      ∙ set_here d.endpoints e due.endpoint told.new due.here)
+      (record { linked = λ is. none_some (unfinished.Open told.new.queue) (sym due.idle ∙ sym told.command ∙ is); kept = told.gone ∙ met.there.kept })
       ∙ ap (out_now f) (sym own))
       (λ (other : i ≢ e).
-      stays i x (ap (λ (xs : List Endpoint). slice_get xs i) told.endpoints ∙ set_beside d.endpoints e i told.new other ∙ here)
-      (record { linked = λ is. none_unfinished (unfinished.Open x.queue) (sym due.idle ∙ sym told.command ∙ is); kept = kept }))
+      stays i x (ap (λ (xs : List Endpoint). slice_get xs i) told.endpoints ∙ set_there d.endpoints e i told.new other ∙ here)
+      (record { linked = λ is. none_some (unfinished.Open x.queue) (sym due.idle ∙ sym told.command ∙ is); kept = kept }))
       (cases_eq i e)
 
   -- what is out of an endpoint afterwards was out, in the same order

@@ -1,5 +1,6 @@
 -- A row of a queue leaves a world mixed, where no command is unfinished: what it leaves of memory and of the queues, as they tell it.
 use Rattle.std.proofs.Common.{◌≡◌, ◌*◌, None, sym, subst, ◌∙◌}
+use Rattle.law_world.proofs.Common.{none_some}
 use Rattle.drv_table.specs.declared.content.Command.TheVariants as unfinished
 use Rattle.drv_table.specs.DriverContent.{DriverContent}
 use Rattle.claims_driver.specs.Owners.{views_of}
@@ -27,7 +28,6 @@ use Rattle.law_world.specs.memory.framed_memory.Now.{IsFramedNow}
 use Rattle.bus_world.specs.World.{World, controller_parts, driver_parts, driver_next}
 use Rattle.law_world.specs.memory.Mixed.{Standing, IsUnderWay, IsMixedAt}
 use Rattle.law_world.specs.memory.Steps.{QueueStep, IsMixedNext}
-use Rattle.law_world.proofs.lemmas.memory.Unfinished.{none_unfinished}
 use Rattle.law_world.proofs.lemmas.memory.Next.{mixed_next}
 use Rattle.law_world.proofs.lemmas.memory.QueueViews.{queued_driven, queued_runs, queues_told}
 use Rattle.law_world.proofs.lemmas.memory.CommandTails.{idle_tail}
@@ -35,7 +35,7 @@ use Rattle.law_world.proofs.lemmas.memory.CommandTails.{idle_tail}
 -- ---- no command is unfinished
 
 pub idle_lent : (d : DriverContent) → d.command ≡ None → AreLent d → AreLent (queued d)
-idle_lent d idle lent = queued_are_lent d lent (λ e t count is. absurd (none_unfinished (unfinished.Iso e t count) (sym idle ∙ is)))
+idle_lent d idle lent = queued_are_lent d lent (λ e t count is. absurd (none_some (unfinished.Iso e t count) (sym idle ∙ is)))
 
 -- ---- what is known before the row
 

@@ -1,8 +1,10 @@
 -- What is to be given back is of queue heads that a walk may still meet, after each event of a driver, whatever endpoints it has, as its queues tell it.
-use Rattle.std.proofs.Common.{◌≡◌, ◌≢◌, ℕ, suc, Bool, true, false, cond, List, [], ◌∷◌, drop, slice_get, Option, Some, None, ap, refl, sym, subst, ◌∙◌, ⊎_elim}
+use Rattle.std.proofs.Common.{◌≡◌, ◌≢◌, ℕ, suc, Bool, true, false, cond, List, [], slice_get, Option, Some, None, ap, refl, sym, subst, ◌∙◌, ⊎_elim}
 use Rattle.std.proofs.lemmas.Option.{same_Some}
+use Rattle.law_common.proofs.Lists.{drop_one, none_first}
+use Rattle.law_queues.proofs.Common.{let_go_harvested, owed_none}
 use Rattle.usb_base.specs.declared.reports.What.TheVariants as lines
-use Rattle.mem_runs.specs.Book.{Book, Holding, holding, lend_taken}
+use Rattle.mem_runs.specs.Book.{Holding, holding, lend_taken}
 use Rattle.drv_periodic_table.specs.declared.content.Removed.TheVariants as removed
 use Rattle.drv_table.specs.declared.content.Endpoint.{Endpoint}
 use Rattle.drv_table.specs.declared.content.Transfer.{Transfer}
@@ -12,7 +14,7 @@ use Rattle.drv_table.specs.declared.rows.Found.{Found}
 use Rattle.drv_table.specs.DriverContent.{DriverContent}
 use Rattle.drv_table.specs.Harvests.{reported}
 use Rattle.drv_table.specs.Parts.{Parts}
-use Rattle.drv_table.specs.Releases.{after_transfer, freed_by, free_endpoint, cancelled_bytes, gone_with, after_endpoint, is_told}
+use Rattle.drv_table.specs.Releases.{after_transfer, freed_by, cancelled_bytes, is_told}
 use Rattle.drv_table.specs.Removals.{after_placed}
 use Rattle.drv_table.specs.Rows.{driver_row, after_driver_row}
 use Rattle.law_driver.specs.endpoint_lives.Lives.{may_meet}
@@ -46,21 +48,7 @@ owed_same d f endpoints transfers harvested waiting rung old i t y x at there he
 owed_alike : (d f : DriverContent) → QueuesAlike d f → AreOwedMet d → AreOwedMet f
 owed_alike d f k = owed_same d f k.endpoints k.transfers k.harvested k.waiting k.rung
 
-none_listed : (t : ℕ) → ◌≡◌ {A = Option ℕ} None (Some t) → ⊥
-none_listed t same = cc
-
-owed_none : (d : DriverContent) → d.harvested ≡ [] → AreOwedMet d
-owed_none d none i t y x at there here = absurd (none_listed t (sym (ap (λ (hs : List ℕ). slice_get hs i) none) ∙ at))
-
-none_first : (hs : List ℕ) → slice_get hs 0 ≡ None → hs ≡ []
-none_first [] is = refl
-none_first (h ∷ hs) is = absurd (cc)
-
 -- ---- rows of queues, of a driver of bulk and control endpoints
-
-drop_one : (hs : List ℕ) (i t : ℕ) → slice_get (drop 1 hs) i ≡ Some t → slice_get hs (suc i) ≡ Some t
-drop_one [] i t here = here
-drop_one (h ∷ hs) i t here = here
 
 release_owed : (p : Parts) (t : ℕ) (o : Option Transfer) (h : Holding) → slice_get p.driver.transfers t ≡ o → AreOwedMet p.driver → AreOwedMet (after_transfer p t o h).driver
 release_owed p t None h there old = old
@@ -73,17 +61,6 @@ release_owed p t (Some y) h there old = λ i u z x at is here.
     ∙ old (suc i) u y x (drop_one d.harvested i u at) (ap (slice_get d.transfers) own.0 ∙ there) (ap (slice_get d.endpoints) (sym e) ∙ here))
     (λ (other : (u ≢ t) × (slice_get d.transfers u ≡ Some z)). old (suc i) u z x (drop_one d.harvested i u at) other.1 here)
     (set_which d.transfers t u y (record y { released = true }) z there is)
-
-endpoint_harvested : (p : Parts) (e : ℕ) (o : Option Endpoint) → (after_endpoint p e o).driver.harvested ≡ p.driver.harvested
-endpoint_harvested p e None = refl
-endpoint_harvested p e (Some x) = by (is_told x)
-  where
-    book : Book
-    book = (free_endpoint p.driver e x (holding p.driver.book p.memory)).book
-
-    by : (b : Bool) → (gone_with (cond b (reported p.driver lines.Cancel x.desc.name (cancelled_bytes p.driver.notes p.memory e x.queue p.driver.transfers)) p.driver) e x (is_told x) book).harvested ≡ p.driver.harvested
-    by true = refl
-    by false = refl
 
 harvest_owed : (p : Parts) (e t : ℕ) (found : Found) → IsHarvestDue p e t found → OnlyAsynchronous p.driver → AreOwedMet p.driver → AreOwedMet (after_driver_row (rows.Harvest e t found) p).driver
 harvest_owed p e t found due only old i u z w at there here =
@@ -117,7 +94,7 @@ queue_owes (rows.Mend w) p q is due clears only old = old
 queue_owes (rows.ReleaseTransfer t) p q is due clears only old =
     release_owed q t (slice_get q.driver.transfers t) (freed_by q.driver (holding q.driver.book q.memory) (slice_get q.driver.transfers t)) refl old
 queue_owes (rows.ReleaseEndpoint e) p q is due clears only old =
-    owed_none (after_driver_row (rows.ReleaseEndpoint e) q).driver (endpoint_harvested q e (slice_get q.driver.endpoints e) ∙ none_first q.driver.harvested due.none_before)
+    owed_none (after_driver_row (rows.ReleaseEndpoint e) q).driver (let_go_harvested q e (slice_get q.driver.endpoints e) ∙ none_first q.driver.harvested due.none_before)
 queue_owes rows.ClearAdvance p q is due clears only old = owed_none (after_driver_row rows.ClearAdvance q).driver (clears refl)
 queue_owes rows.RingBell p q is due clears only old = let b = bell_is_as_before q due.0 in owed_before q.driver (after_driver_row rows.RingBell q).driver b.0 b.1 old
 queue_owes (rows.ReadStatus heard) p q is due clears only old =

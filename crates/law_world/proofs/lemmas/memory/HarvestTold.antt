@@ -2,6 +2,7 @@
 use Rattle.std.proofs.Common.{◌≡◌, ◌≢◌, ℕ, zero, suc, ◌-◌, Bool, true, false, cond, List, [], ◌∷◌, ◌++◌, length, set, slice_get, Option, Some, None, ap, refl, sym, subst, ◌∙◌, ⊎_elim}
 use Rattle.std.proofs.lemmas.Bool.{cases_eq}
 use Rattle.std.proofs.lemmas.Option.{same_Some}
+use Rattle.law_common.proofs.Lists.{set_self, set_here, set_there}
 use Rattle.usb_base.specs.declared.endpoints.EndCause.{EndCause}
 use Rattle.usb_base.specs.declared.endpoints.EndCause.TheVariants as causes
 use Rattle.usb_base.specs.declared.endpoints.EpName.{EpName}
@@ -20,7 +21,6 @@ use Rattle.drv_table.specs.Rows.{after_driver_row}
 use Rattle.law_driver.specs.run_owners.Due.{IsHarvestDue}
 use Rattle.law_queues.proofs.lemmas.fed_lends.Asked.{set_which}
 use Rattle.law_driver_ring.proofs.lemmas.fed_queues.Places.{SameQueues}
-use Rattle.law_queues.proofs.lemmas.mended_heads.Content.{set_at, set_beside}
 
 -- ---- the driver's content
 
@@ -59,11 +59,6 @@ pub record ToldAnew (d f : DriverContent) (e : ℕ) (x : Endpoint) : Type 0 wher
   pub command : f.command ≡ d.command
   pub waiting : f.waiting ≡ d.waiting
   pub rung : f.rung ≡ d.rung
-
-set_self : {X : Type 0} (xs : List X) (e : ℕ) (x : X) → slice_get xs e ≡ Some x → xs ≡ set xs e x
-set_self [] e x here = refl
-set_self (y ∷ ys) zero x here = ap (λ z. z ∷ ys) (same_Some y x here)
-set_self (y ∷ ys) (suc e) x here = ap (λ zs. y ∷ zs) (set_self ys e x here)
 
 end_told : (d : DriverContent) (e t : ℕ) (x : Endpoint) (stall : Bool) (o : Option EndCause) → ToldAnew d (after_end d e t x stall o) e x
 end_told d e t x stall (Some cause) = record { new = record x { ended = Some cause }; endpoints = refl; queue = refl; gone = refl; linked = refl; desc = refl; command = refl; waiting = refl; rung = refl }
@@ -121,7 +116,8 @@ same_queues d f e x here k = record {
       let same : z ≡ x = same_Some z x (sym at ∙ ap (slice_get d.endpoints) own ∙ here) in
       record {
         endpoint = k.new;
-        here = ap (slice_get f.endpoints) own ∙ ap (λ (xs : List Endpoint). slice_get xs e) k.endpoints ∙ set_at d.endpoints e x k.new here;
+        here = ap (slice_get f.endpoints) own ∙ ap (λ (xs : List Endpoint). slice_get xs e) k.endpoints
+            ∙ set_here d.endpoints e x k.new here;
         life = record {
           desc = ap (λ (r : Endpoint). r.desc) same ∙ sym k.desc;
           queue = ap (λ (r : Endpoint). r.queue) same ∙ sym k.queue;
@@ -130,6 +126,6 @@ same_queues d f e x here k = record {
         };
       })
       (λ (other : i ≢ e).
-      record { endpoint = z; here = ap (λ (xs : List Endpoint). slice_get xs i) k.endpoints ∙ set_beside d.endpoints e i k.new other ∙ at; life = record { desc = refl; queue = refl; linked = refl; gone = refl } })
+      record { endpoint = z; here = ap (λ (xs : List Endpoint). slice_get xs i) k.endpoints ∙ set_there d.endpoints e i k.new other ∙ at; life = record { desc = refl; queue = refl; linked = refl; gone = refl } })
       (cases_eq i e);
 }

@@ -1,9 +1,11 @@
 -- Each line leaves the addresses of hubs in their range: 7 bits.
-use Rattle.std.proofs.Common.{◌≡◌, ℕ, ◌<◌, Bool, true, List, [], ◌∷◌, Option, Some, None, arith}
+use Rattle.std.proofs.Common.{◌≡◌, ℕ, ◌<◌, Bool, true, List, Option, Some, None, arith}
 use Rattle.std.specs.Prelude.{◌==◌, ◌&&◌, nat_le, is_some, unwrap_or}
 use Rattle.std.specs.List.{AllByRecursion, find}
 use Rattle.std.specs.Option.{option_map, option_map_or, option_and_then, option_or}
 use Rattle.std.proofs.lemmas.Bool.{cond_both, and_parts, leb-true}
+use Rattle.law_scripts.proofs.Common.{all_change}
+use Rattle.law_common.proofs.Lists.{all_both}
 use Rattle.usb_base.specs.declared.packets.Way.TheVariants as way
 use Rattle.usb_base.specs.declared.endpoints.EpDesc.{EpDesc}
 use Rattle.usb_base.specs.declared.commands.Cmd.{Cmd}
@@ -21,7 +23,7 @@ use Rattle.script_world.specs.Draft.{Draft, Placed, device_ep, hub_ep, hub_desc,
 use Rattle.script_world.specs.Ranges.{within, is_endpoint, is_slots}
 use Rattle.script_world.specs.Rows.{is_known, answered, counted, roomier, stuffed, at_ep, name_of, with_ep, content_len, bytes_len}
 use Rattle.script_world.specs.Rows.{commanded, where_known, put_room, control_name, after_hub, after_below, after}
-use Rattle.law_scripts.proofs.lemmas.byte_answers.Lists.{Holds, all_append, found}
+use Rattle.law_scripts.proofs.lemmas.byte_answers.Lists.{Holds, found}
 
 abbrev pub IsBelow : EpDesc → Type 0
 IsBelow x = unwrap_or x.hub 0 < 128
@@ -44,11 +46,6 @@ pub record IsBelowDevice (d : Placed) : Type 0 where
 pub record IsBelowDraft (w : Draft) : Type 0 where
   pub devices : AllByRecursion IsBelowDevice w.devices
   pub lines : AllByRecursion (λ x. BelowLine x.1) w.lines
-
-all_change : {X : Type 0} (P : X → Type 0) (p : X → Bool) (f : X → X) (xs : List X) → ((x : X) → P x → P (f x)) → AllByRecursion P xs → AllByRecursion P (change p f xs)
-all_change P p f [] g h = tt
-all_change P p f (x ∷ xs) g h =
-    cond_both (p x) (f x ∷ xs) (x ∷ change p f xs) (AllByRecursion P) (λ _. (g x h.0, h.1)) (λ _. (h.0, all_change P p f xs g h.1))
 
 -- ---- endpoints that are known
 
@@ -88,7 +85,7 @@ known_below w name h =
 -- ---- what is declared
 
 with_ep_below : (l : EpLine) (d : Placed) → IsBelowDevice d → IsBelowDevice (with_ep l d)
-with_ep_below l d h = record { hub = h.hub; eps = all_append IsBelowEp d.eps _ h.eps (h.hub, tt) }
+with_ep_below l d h = record { hub = h.hub; eps = all_both IsBelowEp d.eps _ h.eps (h.hub, tt) }
 
 at_ep_below : (name : Name) (f : EpText → EpText) (ds : List Placed) → ((e : EpText) → IsBelowEp e → IsBelowEp (f e)) → AllByRecursion IsBelowDevice ds → AllByRecursion IsBelowDevice (at_ep name f ds)
 at_ep_below name f ds g h =
@@ -111,7 +108,7 @@ below_below w b h =
     cond_both (within 1 127 b.addr && nat_le b.hub 127 && is_known w (says.DevBelow b)) _ w IsBelowDraft
     (λ e. record {
       devices =
-          all_append IsBelowDevice w.devices _ h.devices (
+          all_both IsBelowDevice w.devices _ h.devices (
             record {
               hub = low b.hub (and_parts (within 1 127 b.addr) (nat_le b.hub 127) (and_parts (within 1 127 b.addr && nat_le b.hub 127) (is_known w (says.DevBelow b)) e).0).1;
               eps = tt;
@@ -125,7 +122,7 @@ below_below w b h =
 -- ---- commands
 
 commanded_below : (w : Draft) (n : ℕ) (c : Cmd) → OpensBelow c → IsBelowDraft w → IsBelowDraft (commanded w n c)
-commanded_below w n c k h = record { devices = h.devices; lines = all_append (λ x. BelowLine x.1) w.lines _ h.lines (k, tt) }
+commanded_below w n c k h = record { devices = h.devices; lines = all_both (λ x. BelowLine x.1) w.lines _ h.lines (k, tt) }
 
 where_below : (w : Draft) (name : Name) (v : Draft) → IsBelowDraft w → IsBelowDraft v → IsBelowDraft (where_known w name v)
 where_below w name v h k = cond_both (is_some (known w name)) v w IsBelowDraft (λ _. k) (λ _. h)
@@ -140,7 +137,7 @@ pub after_below_hubs : (w : Draft) (n : ℕ) (s : Statement) → IsBelowDraft w 
 after_below_hubs w n (says.Hub addr ports multi) h = hub_below w addr ports multi h
 after_below_hubs w n (says.DevHigh addr) h =
     cond_both (within 1 127 addr) _ w IsBelowDraft
-    (λ e. record { devices = all_append IsBelowDevice w.devices _ h.devices (record { hub = omega arith; eps = tt }, tt); lines = h.lines }) (λ _. h)
+    (λ e. record { devices = all_both IsBelowDevice w.devices _ h.devices (record { hub = omega arith; eps = tt }, tt); lines = h.lines }) (λ _. h)
 after_below_hubs w n (says.DevBelow b) h = below_below w b h
 after_below_hubs w n (says.Ep l) h =
     cond_both (is_endpoint l && is_some (device_of w.devices l.name.addr)) _ w IsBelowDraft
@@ -165,6 +162,6 @@ after_below_hubs w n (says.Control c) h =
     where_below w (control_name c.addr) _ h (commanded_below (record w { scripted = counted w.scripted (bytes_len c.bytes) }) n _ tt (record { devices = h.devices; lines = h.lines }))
 after_below_hubs w n (says.Iso l) h =
     cond_both (is_slots l) _ w IsBelowDraft (λ _. where_below w l.name _ h (commanded_below w n (cmd.Iso (name_of l.name) l.count l.len l.seed) tt h)) (λ _. h)
-after_below_hubs w n (says.Order event k) h = record { devices = h.devices; lines = all_append (λ x. BelowLine x.1) w.lines _ h.lines (tt, tt) }
-after_below_hubs w n (says.Micro k) h = record { devices = h.devices; lines = all_append (λ x. BelowLine x.1) w.lines _ h.lines (tt, tt) }
+after_below_hubs w n (says.Order event k) h = record { devices = h.devices; lines = all_both (λ x. BelowLine x.1) w.lines _ h.lines (tt, tt) }
+after_below_hubs w n (says.Micro k) h = record { devices = h.devices; lines = all_both (λ x. BelowLine x.1) w.lines _ h.lines (tt, tt) }
 after_below_hubs w n _ h = record { devices = h.devices; lines = h.lines }

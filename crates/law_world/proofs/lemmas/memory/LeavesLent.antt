@@ -1,5 +1,7 @@
 -- Each accepted command leaves what is Lent.
 use Rattle.std.proofs.Common.{◌≡◌, ℕ, List, [], ◌∷◌, length, drop, get_or, ap, sym, subst, ◌∙◌}
+use Rattle.law_common.proofs.Lists.{drop_first}
+use Rattle.law_driver_ring.proofs.Common.{leaves_itself}
 use Rattle.word_mem.specs.Memory.{Mem}
 use Rattle.mem_runs.specs.Book.{holding}
 use Rattle.drv_table.specs.DriverContent.{DriverContent}
@@ -8,10 +10,8 @@ use Rattle.drv_table.specs.Offers.{accepted_open, accepted_chain}
 use Rattle.law_driver.specs.run_owners.Accepts.{Accepts, opens, chains, places, transfers, describes, cancels, unchains}
 use Rattle.law_driver.specs.in_place.InPlace.{IsInPlace}
 use Rattle.law_driver.proofs.lemmas.run_owners.Taking.{AreTaken, runs_taken}
-use Rattle.law_driver.proofs.lemmas.run_owners.Accepted.{drop_first}
 use Rattle.law_driver_ring.proofs.PartAccepting.{open_leaves}
 use Rattle.law_driver_ring.proofs.Sending.{transfer_leaves}
-use Rattle.law_driver_ring.proofs.Lent.{leaves_itself}
 use Rattle.law_descriptors.proofs.CommandAccepting.{describes_leaves}
 use Rattle.law_structures.specs.lent_structures.Changes.{Leaves}
 use Rattle.law_world.proofs.lemmas.memory.lemmas.framed_memory.Chained.{chain_leaves}

@@ -3,6 +3,8 @@ use Rattle.std.proofs.Common.{◌≡◌, ◌≢◌, ℕ, List, [], ◌∷◌, �
 use Rattle.std.proofs.Common.{set, slice_get, Option, Some, None, Result, Ok, Err, ap, refl, sym, subst, ◌∙◌, ⊎_elim, inl}
 use Rattle.std.proofs.lemmas.Bool.{cases_eq}
 use Rattle.std.proofs.lemmas.Option.{same_Some}
+use Rattle.law_common.proofs.Lists.{set_here, set_there, push_there}
+use Rattle.law_world.proofs.Common.{without_last}
 use Rattle.usb_base.specs.declared.commands.Cmd.{Cmd}
 use Rattle.usb_base.specs.declared.reports.OfferError.{OfferError}
 use Rattle.word_mem.specs.declared.blocks.BlockState.TheVariants.{Lent}
@@ -21,16 +23,13 @@ use Rattle.claims_world.specs.Memory.{linked_to}
 use Rattle.claims_world.specs.Links.{IsLive, the_head, a_queue, IsLiveOrLater, live, left_later}
 use Rattle.law_driver.proofs.lemmas.queued_drivers.CommandLeaves.{unchained}
 use Rattle.law_driver.proofs.lemmas.run_owners.Commands.{each_command_has_its_reason}
-use Rattle.law_driver.proofs.lemmas.run_owners.Released.{set_here, set_there}
 use Rattle.law_driver.specs.run_owners.Accepts.{Accepts, opens, chains, places, transfers, describes, cancels, unchains}
-use Rattle.law_queues.proofs.lemmas.mended_heads.Content.{pushed}
 use Rattle.law_world.specs.memory.Links.{IsOut, AreOut, HasCleared, CommandKeepsCleared, ControllerKeepsCleared}
 use Rattle.law_world.specs.memory.Mixed.{Standing, IsMixedAt}
 use Rattle.law_world.specs.memory.Owners.{EndsActive}
 use Rattle.law_world.proofs.lemmas.memory.LinkLent.{queue_told, command_leaves_aside, controller_leaves_aside}
 use Rattle.law_world.proofs.lemmas.memory.RingGoes.{IsNow}
 use Rattle.law_world.proofs.lemmas.memory.ReleaseCommands.{waiting_same, rung_same, cleared_same}
-use Rattle.law_world.proofs.lemmas.memory.Rings.{without_last}
 use Rattle.law_world.proofs.lemmas.memory.LeftLinks.{IsCleared, left_is, queued, cleared_run, LiveThen, still, all_then, linked_before}
 
 -- ---- a command
@@ -53,7 +52,7 @@ pushed_goes d new y is shows = record {
 }
   where
     there : (e : ℕ) (x : Endpoint) → slice_get d.endpoints e ≡ Some x → slice_get new.endpoints e ≡ Some x
-    there e x here = ap (λ (xs : List Endpoint). slice_get xs e) is ∙ pushed d.endpoints y e x here
+    there e x here = ap (λ (xs : List Endpoint). slice_get xs e) is ∙ push_there d.endpoints y e x here
 
     one : (e : ℕ) (x z : Endpoint) → slice_get d.endpoints e ≡ Some x → slice_get new.endpoints e ≡ Some z → x ≡ z
     one e x z here now = same_Some x z (sym (there e x here) ∙ now)
@@ -112,7 +111,8 @@ command_goes d m o (opens why) =
     ∙ ap (λ (xs : List Endpoint). slice_get xs e) (without_last d.endpoints _) ∙ here)
 command_goes d m o (chains why) =
     pushed_goes d o.driver _ (ap (λ (g : Offered). g.driver.endpoints) why.is)
-    (λ e z here. ap (λ (g : Offered). slice_get (linked_to g.driver.command g.driver.endpoints) e) why.is ∙ pushed d.endpoints _ e z here)
+    (λ e z here. ap (λ (g : Offered). slice_get (linked_to g.driver.command g.driver.endpoints) e) why.is
+    ∙ push_there d.endpoints _ e z here)
 command_goes d m o (places why) =
     let y : Endpoint = placed_endpoint why.desc why.placement 0 0 in
     let ends : o.driver.endpoints ≡ d.endpoints ++ y ∷ [] = ap (λ (g : Offered). g.driver.endpoints) why.is in
@@ -120,7 +120,7 @@ command_goes d m o (places why) =
     (λ e z here.
     ap (λ (xs : List Endpoint). slice_get xs e) (whole_by o.driver None (ap (λ (g : Offered). g.driver.command) why.is ∙ why.idle) refl ∙
     ends)
-    ∙ pushed d.endpoints y e z here)
+    ∙ push_there d.endpoints y e z here)
 command_goes d m o (transfers why) =
     set_goes d o.driver why.number why.endpoint _ why.here (ap (λ (g : Offered). g.driver.endpoints) why.is) refl refl refl
     (whole_by o.driver _ (ap (λ (g : Offered). g.driver.command) why.is) refl)

@@ -1,10 +1,12 @@
 -- Where the queue heads lead for which Async Advance was cleared, until they are given back: to live ones, or to ones that left later.
 use Rattle.std.proofs.Common.{◌≡◌, ℕ, zero, suc, ◌+◌, ◌-◌, ◌/◌, ◌<◌, ◌≤◌, ◌⊎◌, true, false, List, [], ◌∷◌, ◌++◌, length}
-use Rattle.std.proofs.Common.{take, drop, slice_get, Option, Some, None, ap, refl, sym, subst, ◌∙◌, arith, ⊎_elim, inl, inr}
+use Rattle.std.proofs.Common.{take, drop, slice_get, Option, Some, None, ap, refl, sym, subst, ◌∙◌, arith, ⊎_elim, inl}
 use Rattle.std.proofs.Common.{append_assoc, length-set}
 use Rattle.std.specs.Prelude.{◌||◌}
 use Rattle.std.proofs.lemmas.Bool.{false≢true}
 use Rattle.std.proofs.lemmas.Option.{same_Some}
+use Rattle.law_driver.proofs.Common.{among_later, same_endpoint, ring_queue}
+use Rattle.law_world.proofs.Common2.{among_either}
 use Rattle.word_mem.specs.declared.blocks.BlockState.TheVariants.{Lent}
 use Rattle.word_mem.specs.Memory.{Mem, state_at}
 use Rattle.mem_runs.specs.Book.{slot_of}
@@ -24,11 +26,9 @@ use Rattle.claims_driver.specs.Ring.{link_in, IsAmong, first, later, IsQueueOf}
 use Rattle.law_driver.specs.in_place.InPlace.{IsSound}
 use Rattle.claims_world.specs.Memory.{linked_to}
 use Rattle.claims_world.specs.Links.{IsLive, the_head, a_queue, IsLiveOrLater, live, left_later, HasLeftBefore, AreLeft}
-use Rattle.law_driver.proofs.lemmas.listed_members.Standing.{one_endpoint}
 use Rattle.law_driver.proofs.lemmas.ring_members.Leaving.{among_times, get_take}
 use Rattle.law_driver.proofs.lemmas.ring_members.Placed.{has_queue, queue_placed}
 use Rattle.law_driver.proofs.lemmas.run_owners.Orders.{has_left}
-use Rattle.law_driver.proofs.lemmas.run_owners.Rows.{not_iso}
 use Rattle.law_driver.proofs.lemmas.run_owners.Runs.{placed_run}
 use Rattle.law_footprints.proofs.EndpointsChanged.{endpoints_step}
 use Rattle.law_footprints.specs.Changes.{EndpointsStep, same as none_changes, one as one_changes}
@@ -66,7 +66,7 @@ left_is d has e x among here =
 module _ (d : DriverContent) (has : HasOwners d) (e : ℕ) (x : Endpoint) (k : IsCleared d e x) (here : slice_get d.endpoints e ≡ Some x)
   where
     pub queued : is_iso x.desc.kind || x.gone ≡ false
-    queued = has_queue x (not_iso x.desc.kind k.ring) k.alive
+    queued = has_queue x (ring_queue x.desc.kind k.ring) k.alive
 
     pub cleared_run : HasRun (slot_of d.book.slots x.queue)
     cleared_run = placed_run x.queue (QueueHead e) (queue_placed d e x has here queued)
@@ -79,7 +79,7 @@ module _ (d : DriverContent) (has : HasOwners d) (e : ℕ) (x : Endpoint) (k : I
       head = λ same. cc same;
       element = λ t same. cc same;
       ring = λ f y there on same.
-          let one : e ≡ f = one_endpoint e f same in
+          let one : e ≡ f = same_endpoint e f same in
           let is : x ≡ y = same_Some x y (sym here ∙ ap (slice_get d.endpoints) one ∙ there) in
           false≢true (sym k.off ∙ ap (λ (z : Endpoint). z.linked) is ∙ on);
       members = λ m on same.
@@ -95,10 +95,6 @@ pub data LiveThen (new : DriverContent) (fs : List ℕ) (b : ℕ) : Type 0 where
   still : IsLive new b → LiveThen new fs b
   meanwhile : (g : ℕ) → IsAmong g fs → IsQueueOf new.endpoints g b → LiveThen new fs b
 
-among_right : (g : ℕ) (es fs : List ℕ) → IsAmong g fs → IsAmong g (es ++ fs)
-among_right g [] fs a = a
-among_right g (e ∷ es) fs a = later e (es ++ fs) (among_right g es fs a)
-
 among_left : (g : ℕ) (es fs : List ℕ) → IsAmong g es → IsAmong g (es ++ fs)
 among_left g [] fs a = elim a [ ]
 among_left g (e ∷ es) fs (first _) = first (es ++ fs)
@@ -108,12 +104,6 @@ among_more : (es fs gs : List ℕ) → ((g : ℕ) → IsAmong g fs → IsAmong g
 among_more [] fs gs more g a = more g a
 among_more (e ∷ es) fs gs more g (first _) = first (es ++ gs)
 among_more (e ∷ es) fs gs more g (later _ _ rest) = later e (es ++ gs) (among_more es fs gs more g rest)
-
-among_either : (g : ℕ) (es fs : List ℕ) → IsAmong g (es ++ fs) → IsAmong g es ⊎ IsAmong g fs
-among_either g [] fs a = inr a
-among_either g (e ∷ es) fs (first _) = inl (first es)
-among_either g (e ∷ es) fs (later _ _ rest) =
-    ⊎_elim (λ (a : IsAmong g es). inl (later e es a)) (λ (a : IsAmong g fs). inr a) (among_either g es fs rest)
 
 among_rest : (g : ℕ) (es : List ℕ) → IsAmong g (drop 1 es) → IsAmong g es
 among_rest g [] a = elim a [ ]
@@ -136,7 +126,7 @@ module _ (m new_m : Mem) (d new : DriverContent) (fs gs : List ℕ)
 
   live_then : (es : List ℕ) (b : ℕ) → LiveThen new gs b → IsLiveOrLater new (es ++ gs) b
   live_then es b (still l) = live l
-  live_then es b (meanwhile g a at) = left_later g (among_right g es gs a) at
+  live_then es b (meanwhile g a at) = left_later g (among_later g es gs a) at
 
   target_then : (es : List ℕ) (b : ℕ) → IsLiveOrLater d (es ++ fs) b → IsLiveOrLater new (es ++ gs) b
   target_then es b (live l) = live_then es b (stays b l)
@@ -294,7 +284,7 @@ module _ (s : Standing) (w : World) (k : IsMixedAt s w) (cleared : HasCleared w)
 
   stays : (b : ℕ) → IsLive w.driver b → LiveThen (driver_next w).driver ((driver_next w).driver.rung ++ (driver_next w).driver.waiting) b
   stays =
-      live_stays d new goes.command size (new.rung ++ new.waiting) (λ e a. among_right e new.rung new.waiting a) goes.ends
+      live_stays d new goes.command size (new.rung ++ new.waiting) (λ e a. among_later e new.rung new.waiting a) goes.ends
 
   abbrev Then : List ℕ → Type 0
   Then es = AreOut (driver_next w).memory (driver_next w).driver ((driver_next w).driver.rung ++ (driver_next w).driver.waiting) es

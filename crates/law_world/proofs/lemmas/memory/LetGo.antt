@@ -3,6 +3,7 @@ use Rattle.std.proofs.Common.{◌≡◌, ◌≢◌, ℕ, zero, suc, ◌<◌, Boo
 use Rattle.std.proofs.Common.{Result, Ok, Err, cond, ap, refl, sym, subst, ◌∙◌, arith}
 use Rattle.std.specs.List.{AllByRecursion}
 use Rattle.std.specs.Prelude.{IfSome}
+use Rattle.law_common.proofs.Lists.{all_more}
 use Rattle.usb_base.specs.declared.commands.Cmd.{Cmd}
 use Rattle.usb_base.specs.declared.commands.Cmd.TheVariants as commands
 use Rattle.usb_base.specs.declared.reports.OfferError.{OfferError}
@@ -30,7 +31,6 @@ use Rattle.bus_world.specs.Opening.{opening_world}
 use Rattle.bus_world.specs.Orders.{Left, Events, Microframes, Answer, Command, Plugs, OrderedWorld, at_place, orders_of, tick, tick_at}
 use Rattle.bus_world.specs.Orders.{tick_by, ticks}
 use Rattle.bus_world.specs.Budgets.{moment}
-use Rattle.law_devices.proofs.Lists.{all_more}
 use Rattle.law_driver.specs.run_owners.Due.{IsDue, IsEndpointDue, IsRemovalDue}
 use Rattle.law_driver.proofs.lemmas.run_owners.Reasons.{each_event_is_due}
 use Rattle.claims_world.specs.Releases.{is_drivers, Does, Reads, LeavesRing, LeavesFrames, HeardAdvance, SawTwoFrames, IsUnlinkedAt}

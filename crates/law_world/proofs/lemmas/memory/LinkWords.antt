@@ -1,11 +1,13 @@
 -- The link of a structure that stands aside, in a run that is neither the head's, nor a queue head's in the ring, nor a member's of the
 -- frame list, stays whatever event comes, and its first block stays Lent: the controller writes no link, and the driver stores elsewhere.
-use Rattle.std.proofs.Common.{◌≡◌, ◌≢◌, ℕ, zero, suc, ◌+◌, ◌*◌, ◌/◌, ◌≤◌, Bool, true, false, cond, List, [], ◌∷◌, drop}
+use Rattle.std.proofs.Common.{◌≡◌, ◌≢◌, ℕ, suc, ◌+◌, ◌*◌, ◌/◌, ◌≤◌, Bool, true, false, cond, drop}
 use Rattle.std.proofs.Common.{slice_get, get_or, Option, Some, None, ap, refl, sym, subst, ◌∙◌, arith, ⊎_elim}
 use Rattle.std.specs.Prelude.{◌⊎◌, option_and_then, option_map}
 use Rattle.std.specs.List.{AllByRecursion}
 use Rattle.std.proofs.lemmas.List.{get_or-set_other}
 use Rattle.std.proofs.lemmas.Option.{same_Some}
+use Rattle.law_common.proofs.Lists.{nth_all}
+use Rattle.law_driver.proofs.Common.{get_drop}
 use Rattle.word_mem.specs.declared.blocks.BlockState.TheVariants.{Lent}
 use Rattle.word_mem.specs.Memory.{Mem, with_word, reaches, state_at}
 use Rattle.mem_runs.specs.Book.{Holding, holding, slot_of, can_store, store}
@@ -47,7 +49,7 @@ use Rattle.law_driver.proofs.lemmas.queue_head_words.Events.{past_list}
 use Rattle.law_driver.proofs.lemmas.ring_members.Events.{begun_members, block_of, chain_never, first_mend, iso_never, open_store}
 use Rattle.law_driver.proofs.lemmas.ring_members.Events.{publish_store, stands_as, unchain_never, unlink_store}
 use Rattle.law_driver.proofs.lemmas.ring_members.Freed.{LeavesRest, lent_words, rest_qtds, rest_endpoint, rest_descriptor, rest_placed}
-use Rattle.law_driver.proofs.lemmas.ring_members.Links.{LeadsTo, oldest_is, dropped}
+use Rattle.law_driver.proofs.lemmas.ring_members.Links.{LeadsTo, oldest_is}
 use Rattle.law_driver.proofs.lemmas.ring_members.Placed.{has_word, in_ring_alive, queue_placed}
 use Rattle.law_driver.proofs.lemmas.ring_members.Stores.{slots_apart, store_elsewhere}
 use Rattle.law_driver.proofs.lemmas.run_owners.Reasons.{each_event_is_due}
@@ -89,11 +91,6 @@ pub next_word : (p : Periodic) (st : Store) (o : Option Work) → p.work ≡ o
     → option_and_then (λ w. store_of p.list p.members.schedule w) o ≡ Some st → NextWord p st
 next_word p st None under is = absurd (cc)
 next_word p st (Some w) under is = next_by p w st (slice_get (words_of p.members.schedule w) w.made) under refl is
-
-pub nth_all : {X : Type 0} (P : X → Type 0) (xs : List X) (n : ℕ) (x : X) → AllByRecursion P xs → slice_get xs n ≡ Some x → P x
-nth_all P [] n x all there = absurd (cc)
-nth_all P (y ∷ ys) zero x all there = subst P (same_Some y x there) all.0
-nth_all P (y ∷ ys) (suc n) x all there = nth_all P ys n x all.1 there
 
 pub stored_off : (m : Mem) (b : Bool) (st v c : ℕ) → st / 4 ≢ 8 * c → link_in (cond b (with_word m st v) m) c ≡ link_in m c
 stored_off m true st v c off =
@@ -168,7 +165,7 @@ module _ (s : Standing) (w : World) (k : IsMixedAt s w) where
         (λ (head : oldest_of (drop n d.endpoints) ≡ head_block).
         aside.head (owned_by head_block Head sound.owners.owned.each.head.owned (same ∙ from ∙ head)))
         (λ (l : LeadsTo (drop n d.endpoints) (oldest_of (drop n d.endpoints))).
-        let here : slice_get d.endpoints (n + l.number) ≡ Some l.endpoint = sym (dropped d.endpoints n l.number) ∙ l.here in
+        let here : slice_get d.endpoints (n + l.number) ≡ Some l.endpoint = sym (get_drop d.endpoints n l.number) ∙ l.here in
         aside.ring (n + l.number) l.endpoint here l.linked
         (owned_by l.endpoint.queue (QueueHead (n + l.number))
         (queue_placed d (n + l.number) l.endpoint sound.owners here

@@ -2,6 +2,10 @@
 use Rattle.std.proofs.Common.{◌≡◌, ◌≢◌, ℕ, ◌*◌, ◌||◌, not, Bool, true, false, if◌then◌else◌, ◌∷◌, slice_get, Some, None, ap, sym, subst, ◌∙◌, ⊎_elim}
 use Rattle.std.proofs.lemmas.Bool.{cases_eq}
 use Rattle.std.proofs.lemmas.Option.{same_Some}
+use Rattle.law_common.proofs.Numbers.{same_blocks}
+use Rattle.law_common.proofs.Lists.{all_more}
+use Rattle.law_driver.proofs.Common.{control_kind, of_queue}
+use Rattle.law_world.proofs.Common.{none_some}
 use Rattle.drv_periodic_table.specs.Periodic.{is_periodic}
 use Rattle.drv_table.specs.declared.content.Command.TheVariants as unfinished
 use Rattle.drv_table.specs.declared.content.Endpoint.{Endpoint}
@@ -17,14 +21,13 @@ use Rattle.claims_driver.specs.LentRuns.{AreLent}
 use Rattle.law_structures.specs.lent_structures.Structures.{QueueHead, StructureSets}
 use Rattle.law_structures.proofs.lemmas.lent_structures.Names.{put_beside}
 use Rattle.claims_base.specs.Controller.{opening_base}
-use Rattle.law_queues.proofs.lemmas.publish_laws.Apart.{queues_same, thirty_two}
+use Rattle.law_queues.proofs.lemmas.publish_laws.Apart.{queues_same}
 use Rattle.law_frames.specs.Met.{IsQueuePart}
 use Rattle.law_driver_ring.specs.fed_queues.Places.{IsMet}
 use Rattle.law_queues.specs.fed_lends.Commands.{QueuesStand}
 use Rattle.law_queues.specs.mended_heads.Owed.{IsOwed, store_due}
 use Rattle.law_queues.specs.mended_heads.Mended.{IsAtMend, mended, head_at, parts_then, hand_then, driver_mended}
-use Rattle.law_queues.proofs.lemmas.mended_heads.Content.{all_on}
-use Rattle.law_queues.proofs.lemmas.mended_heads.Lent.{not_iso, queue_placed}
+use Rattle.law_queues.proofs.lemmas.mended_heads.Lent.{queue_placed}
 use Rattle.law_queues.proofs.lemmas.mended_heads.Queues.{mend_leaves_met}
 use Rattle.law_queues.specs.released_queues.Fronts.{FrontsStand}
 use Rattle.law_queues.specs.standing_fronts.Reaching.{Reaches}
@@ -38,14 +41,13 @@ use Rattle.law_world.proofs.lemmas.memory.lemmas.framed_memory.LeavingUnmet.{rin
 use Rattle.law_driver.specs.queued_drivers.Queued.{with_queue, queued_endpoint, queued, queued_parts}
 use Rattle.law_driver.specs.queued_drivers.Rows.{IsToldAlike}
 use Rattle.law_driver.proofs.lemmas.queued_drivers.RowEvents.{idle_told}
-use Rattle.law_driver.proofs.lemmas.queued_drivers.RowLists.{queue_told, IsMapped, mapped}
+use Rattle.law_driver.proofs.lemmas.queued_drivers.RowLists.{IsMapped, mapped}
 use Rattle.law_descriptors.specs.queue_events.Events.{PartsStand}
 use Rattle.law_queues.proofs.lemmas.lent_fronts.Parts.{member_head}
 use Rattle.bus_world.specs.World.{World, controller_parts, driver_parts, driver_next}
 use Rattle.law_world.specs.memory.Mixed.{Standing, IsMixedAt}
 use Rattle.law_world.specs.memory.Steps.{mends, IsMixedNext}
 use Rattle.law_world.specs.memory.Laws.{RowKeepsMixed}
-use Rattle.law_world.proofs.lemmas.memory.Unfinished.{none_unfinished}
 use Rattle.law_world.proofs.lemmas.memory.HarvestKept.{idle_lent, owners_of, describes, driven_of, IsIdleNext, idle_mixed}
 use Rattle.law_world.proofs.lemmas.memory.RingBasis.{due_is, row_alike, queued_next, told_row}
 use Rattle.law_world.proofs.lemmas.memory.CommandTails.{idle_tail}
@@ -92,7 +94,8 @@ module _ (s : Standing) (w : World) (k : IsMixedAt s w) (m : Mend) (row : driver
     idle = due.0;
     are = record {
       mends = at.are.mends;
-      owed = all_on (IsOwed (turned (queued w.driver))) (IsOwed w.driver) (at.stalled ∷ at.others) (λ i o. owed_of w.driver i k.turns o) at.are.owed;
+      owed = all_more (IsOwed (turned (queued w.driver))) (IsOwed w.driver) (at.stalled ∷ at.others) (λ i o. owed_of w.driver i k.turns o)
+          at.are.owed;
       wait = at.are.wait;
       apart = at.are.apart;
     };
@@ -142,7 +145,7 @@ module _ (s : Standing) (w : World) (k : IsMixedAt s w) (m : Mend) (row : driver
     off = has_queue its.one z its.is is.there.kept
 
     told_as : with_queue its.one ≡ z
-    told_as = sym (queue_told its.one off) ∙ its.is
+    told_as = sym (of_queue its.one off) ∙ its.is
 
     queue : its.one.queue ≡ at.stalled.queue
     queue = ap (λ (i : Endpoint). i.queue) told_as ∙ same
@@ -153,7 +156,7 @@ module _ (s : Standing) (w : World) (k : IsMixedAt s w) (m : Mend) (row : driver
     number : e ≡ owed.number
     number =
         queues_same its.one.queue owed.endpoint.queue e owed.number (queue ∙ sym owed.queue) (queue_placed w.driver owners e its.one its.here off kept)
-        (queue_placed w.driver owners owed.number owed.endpoint owed.here (not_iso owed.endpoint.desc.kind owed.control) owed.kept)
+        (queue_placed w.driver owners owed.number owed.endpoint owed.here (control_kind owed.endpoint.desc.kind owed.control) owed.kept)
 
     itself : its.one ≡ owed.endpoint
     itself = same_Some its.one owed.endpoint (sym its.here ∙ ap (slice_get w.driver.endpoints) number ∙ owed.here)
@@ -169,7 +172,7 @@ module _ (s : Standing) (w : World) (k : IsMixedAt s w) (m : Mend) (row : driver
     on : s.member (32 * at.stalled.queue) ≡ true
     on =
         ap (λ (b : ℕ). s.member (32 * b)) (sym queue)
-        ∙ k.ring.each e its.one its.here (record { there = record { linked = λ opens. none_unfinished (unfinished.Open its.one.queue) (sym due.0 ∙ opens); kept = kept }; near = near })
+        ∙ k.ring.each e its.one its.here (record { there = record { linked = λ opens. none_some (unfinished.Open its.one.queue) (sym due.0 ∙ opens); kept = kept }; near = near })
 
     sound_own : IsQueuePart (32 * z.queue) (parts_then at (32 * z.queue))
     sound_own =
@@ -185,7 +188,7 @@ module _ (s : Standing) (w : World) (k : IsMixedAt s w) (m : Mend) (row : driver
       ⊎_elim (λ (same : z.queue ≡ at.stalled.queue). sound_own e z here was same)
       (λ (differs : z.queue ≢ at.stalled.queue).
       subst (IsQueuePart (32 * z.queue))
-      (sym (put_beside s.parts n n (QueueHead (mended at.stalled (head_at at))) (32 * z.queue) (λ names. differs (thirty_two z.queue at.stalled.queue names))))
+      (sym (put_beside s.parts n n (QueueHead (mended at.stalled (head_at at))) (32 * z.queue) (λ names. differs (same_blocks z.queue at.stalled.queue names))))
       (k.queues.sound e z here was)) (cases_eq z.queue at.stalled.queue)
 
   -- ---- the world

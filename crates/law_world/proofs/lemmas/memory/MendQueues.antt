@@ -3,12 +3,12 @@
 use Rattle.std.proofs.Common.{◌≡◌, ◌≢◌, ℕ, ◌*◌, ◌≤◌, ◌||◌, Bool, true, false, List, slice_get, Option, Some, None, option_map, ap, refl, sym, subst, ◌∙◌, ⊎_elim, arith}
 use Rattle.std.proofs.lemmas.Bool.{cases_eq, true≢false}
 use Rattle.std.proofs.lemmas.Option.{same_Some}
+use Rattle.law_driver_ring.proofs.Common.{lent_slot}
+use Rattle.law_common.proofs.Numbers.{same_blocks}
 use Rattle.word_mem.specs.Memory.{Mem}
 use Rattle.op_registers.specs.RegisterFile.{RegisterFile}
 use Rattle.qh_qtd.specs.declared.queue_head.Qh.{Qh}
 use Rattle.mem_runs.specs.Book.{slot_of}
-use Rattle.mem_runs.specs.declared.slots.Slot.{Slot}
-use Rattle.mem_runs.specs.declared.slots.Slot.TheVariants.{Empty}
 use Rattle.drv_table.specs.declared.content.Endpoint.{Endpoint}
 use Rattle.drv_table.specs.DriverContent.{DriverContent}
 use Rattle.drv_table.specs.Parts.{Parts}
@@ -16,7 +16,7 @@ use Rattle.law_driver.specs.endpoint_lives.Lives.{told_end}
 use Rattle.claims_driver.specs.Owners.{Dummy, runs_of_endpoint}
 use Rattle.claims_driver.specs.Leaving.{HasOwners}
 use Rattle.law_driver.proofs.lemmas.run_owners.Runs.{placed_run}
-use Rattle.claims_driver.specs.LentRuns.{AreLent, IsLent as IsLentSlot}
+use Rattle.claims_driver.specs.LentRuns.{AreLent}
 use Rattle.law_driver.proofs.lemmas.lent_runs.Laws.{all_are_lent_between_commands}
 use Rattle.law_structures.specs.lent_structures.Structures.{QueueHead, Structures, StructureSets}
 use Rattle.law_structures.specs.lent_structures.Sound.{IsElement, IsSoundQueue}
@@ -34,7 +34,7 @@ use Rattle.law_queues.specs.fed_harvests.Harvests.{IsLike}
 use Rattle.law_queues.proofs.lemmas.fed_harvests.Like.{alike_stands}
 use Rattle.law_queues.specs.released_queues.Fronts.{piece_address, StandsAt, FrontsStand}
 use Rattle.law_queues.specs.standing_fronts.Reaching.{Reaches}
-use Rattle.law_queues.proofs.lemmas.publish_laws.Apart.{queue_placed, queues_same, thirty_two}
+use Rattle.law_queues.proofs.lemmas.publish_laws.Apart.{queue_placed, queues_same}
 use Rattle.law_queues.specs.mended_heads.Owed.{IsOwed, GoesOnAt}
 use Rattle.law_queues.specs.mended_heads.Waiting.{AreAllPublished}
 use Rattle.law_queues.specs.mended_heads.Mended.{IsAtMend, parts_then, driver_mended}
@@ -47,10 +47,6 @@ use Rattle.law_world.proofs.lemmas.steps.lemmas.control_queues.Heads.{mend_keeps
 use Rattle.law_descriptors.specs.queue_events.Events.{PartsStand}
 use Rattle.law_world.proofs.lemmas.memory.MendOnward.{ends_before, pieces_before}
 use Rattle.law_world.proofs.lemmas.memory.MendTurned.{turned, turned_parts}
-
-lent_slot : (s : Slot) → IsLentSlot s → IsLent s
-lent_slot Empty lent = lent
-lent_slot _ lent = lent
 
 -- queues reach as far as the inactive qTDs at their ends
 abbrev pub AllReach : DriverContent → StructureSets → (ℕ → ℕ → ℕ) → (ℕ → List ℕ) → Type 0
@@ -228,7 +224,7 @@ module _ (d : DriverContent) (r : RegisterFile) (m : Mem) (near streams : ℕ �
       stands_then : StandsAt (driver_mended d) (parts_then k (32 * z.queue)) o sent e z
       stands_then =
           ⊎_elim (λ (same : z.queue ≡ k.stalled.queue). own_stands same)
-          (λ (differs : z.queue ≢ k.stalled.queue). stands_on old.stands (λ own. absurd (differs (thirty_two z.queue k.stalled.queue own)))) (cases_eq z.queue k.stalled.queue)
+          (λ (differs : z.queue ≢ k.stalled.queue). stands_on old.stands (λ own. absurd (differs (same_blocks z.queue k.stalled.queue own)))) (cases_eq z.queue k.stalled.queue)
 
     pub fronts_then : FrontsStand (driver_mended d) (parts_then k) order out
     fronts_then e z here met = stands_then e z here (record { there = record { linked = met.there.linked; kept = met.there.kept }; near = met.near })

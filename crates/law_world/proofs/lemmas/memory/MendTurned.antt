@@ -5,10 +5,9 @@
 --     OwedAlike              an endpoint that is owed stores, as the queues tell it, is one of the driver
 use Rattle.std.proofs.Common.{◌≡◌, ℕ, true, false, List, map, slice_get, Option, Some, None, option_map, ap, refl, sym, subst, ◌∙◌, ⊎_elim}
 use Rattle.std.proofs.lemmas.Bool.{cases_Bool, true≢false, false≢true}
+use Rattle.law_driver.proofs.Common.{same_control, of_queue, of_none}
 use Rattle.usb_base.specs.declared.packets.EpKind.{EpKind}
 use Rattle.usb_base.specs.declared.packets.EpKind.TheVariants as kinds
-use Rattle.usb_base.specs.declared.packets.Way.{Way}
-use Rattle.usb_base.specs.declared.packets.Way.TheVariants as ways
 use Rattle.word_mem.specs.Memory.{Mem}
 use Rattle.op_registers.specs.RegisterFile.{RegisterFile}
 use Rattle.mem_runs.specs.Book.{holding, Stands}
@@ -38,8 +37,8 @@ use Rattle.law_queues.specs.mended_heads.Mended.{IsAtMend}
 use Rattle.law_queues.proofs.lemmas.mended_heads.Content.{KeepFirsts, goes_on_still, any_one, alike_same}
 use Rattle.law_queues.proofs.lemmas.mended_heads.Row.{mend_is_due}
 use Rattle.law_world.proofs.lemmas.steps.lemmas.control_queues.Alike.{mends_by}
-use Rattle.law_driver.specs.queued_drivers.Queued.{queued_kind, with_queue, queued_endpoint, queued_transfer, queued, IsOfWay, QueuesTakeTurns}
-use Rattle.law_driver.proofs.lemmas.queued_drivers.RowLists.{queue_told, none_told, transfer_told, descriptor_told, IsMapped, mapped}
+use Rattle.law_driver.specs.queued_drivers.Queued.{with_queue, queued_endpoint, queued_transfer, queued, QueuesTakeTurns}
+use Rattle.law_driver.proofs.lemmas.queued_drivers.RowLists.{transfer_told, descriptor_told, IsMapped, mapped}
 
 -- ---- turns
 
@@ -69,16 +68,6 @@ mend_at d r m w parts out idle first stands owners lent turns driven mends =
 
 -- ---- a control endpoint of the driver
 
-same_control : (way : Way) (k : EpKind) → IsOfWay way k → is_control (queued_kind way) ≡ is_control k
-same_control ways.Ctl k fits = ap is_control (sym fits)
-same_control ways.In kinds.Iso fits = refl
-same_control ways.In kinds.Bulk fits = refl
-same_control ways.In kinds.Interrupt fits = refl
-same_control ways.Out kinds.Iso fits = refl
-same_control ways.Out kinds.Bulk fits = refl
-same_control ways.Out kinds.Interrupt fits = refl
-same_control _ kinds.Control fits = absurd fits
-
 pub of_ring : (k : EpKind) → is_control k ≡ true → is_periodic k ≡ false
 of_ring kinds.Interrupt is = absurd (false≢true is)
 of_ring kinds.Iso is = absurd (false≢true is)
@@ -87,7 +76,7 @@ of_ring _ is = refl
 -- one that isn't given back has a queue
 pub has_queue : (x z : Endpoint) → queued_endpoint x ≡ z → z.gone ≡ false → is_iso x.desc.kind ≡ false
 has_queue x z is kept = ⊎_elim
-    (λ (iso : is_iso x.desc.kind ≡ true). absurd (true≢false (ap (λ (y : Endpoint). y.gone) (sym (none_told x iso) ∙ is) ∙ kept)))
+    (λ (iso : is_iso x.desc.kind ≡ true). absurd (true≢false (ap (λ (y : Endpoint). y.gone) (sym (of_none x iso) ∙ is) ∙ kept)))
     (λ (off : is_iso x.desc.kind ≡ false). off) (cases_Bool (is_iso x.desc.kind))
 
 first_told : (xs : List Endpoint) (y : Transfer) → (queued_transfer xs y).first ≡ y.first
@@ -104,7 +93,7 @@ pub owed_of : (d : DriverContent) (s : StalledQueue) → QueuesTakeTurns d → I
 owed_of d s turns o =
     let w : IsMapped queued_endpoint d.endpoints o.number o.endpoint = mapped queued_endpoint d.endpoints o.number o.endpoint o.here in
     let off : is_iso w.one.desc.kind ≡ false = has_queue w.one o.endpoint w.is o.kept in
-    let same : with_queue w.one ≡ o.endpoint = sym (queue_told w.one off) ∙ w.is in
+    let same : with_queue w.one ≡ o.endpoint = sym (of_queue w.one off) ∙ w.is in
     record {
       number = o.number;
       endpoint = w.one;

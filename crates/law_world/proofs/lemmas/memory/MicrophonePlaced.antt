@@ -1,6 +1,7 @@
 -- A microphone is placed by a driver that was just built: it has one placement, which fits.
-use Rattle.std.proofs.Common.{◌≡◌, ℕ, zero, suc, ◌/◌, ◌%◌, ◌≤◌, Bool, true, false, List, [], ◌∷◌, slice_get, Option, Some, None, Ok, subst, refl, ap, ◌∙◌, arith, lit≤}
-use Rattle.std.specs.Prelude.{if◌then◌else◌}
+use Rattle.std.proofs.Common.{◌≡◌, ℕ, ◌/◌, ◌%◌, ◌≤◌, List, [], ◌∷◌, slice_get, Option, Some, None, Ok, subst, refl, ap, ◌∙◌, arith, lit≤}
+use Rattle.law_admission.proofs.Common.{in_one}
+use Rattle.law_common.proofs.Numbers.{either_within}
 use Rattle.usb_base.specs.declared.commands.Cmd.TheVariants.{OpenEp}
 use Rattle.word_mem.specs.Memory.{Mem}
 use Rattle.usb_base.specs.declared.rules.Rules.{Rules}
@@ -24,18 +25,10 @@ one_place : (rules : Rules) → allowed_by rules (want_of 0 microphone) ≡ each
 unfolding allowed_by allowed mask
 one_place rules = refl
 
-in_one : (i : ℕ) (p : Placement) → slice_get (each_microframe ∷ []) i ≡ Some p → p ≡ each_microframe
-in_one zero p e = cc
-in_one (suc i) p e = absurd (cc)
-
 its_place : (rules : Rules) (i : ℕ) (p : Placement) → slice_get (allowed_by rules (want_of 0 microphone)) i ≡ Some p → p ≡ each_microframe
 its_place rules i p at = in_one i p (subst (λ (ps : List Placement). slice_get ps i ≡ Some p) (one_place rules) at)
 
 -- ---- it fits
-
-either_within : (b : Bool) (x y n : ℕ) → x ≤ n → y ≤ n → (if b then x else y) ≤ n
-either_within true x y n one two = one
-either_within false x y n one two = two
 
 its_cost : (m : ℕ) → cost_in (want_of 0 microphone) each_microframe m ≤ 100000000
 its_cost m =

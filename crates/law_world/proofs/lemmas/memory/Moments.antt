@@ -1,15 +1,12 @@
 -- Each moment of the run of a script, whatever endpoints it opens.
-use Rattle.std.proofs.Common.{ℕ, List, [], ◌∷◌}
-use Rattle.std.specs.List.{AllByRecursion}
-use Rattle.script_types.specs.declared.scripts.Line.{Line}
-use Rattle.script_types.specs.declared.scripts.Line.TheVariants as lines
+use Rattle.law_world.proofs.Common.{lines_can}
 use Rattle.script_types.specs.declared.scripts.Script.{Script}
 use Rattle.bus_wire.specs.Bus.{fixed_of}
-use Rattle.law_world.specs.steps.receiving_runs.Runs.{KindOfLine, IsKeptBy}
+use Rattle.law_world.specs.steps.receiving_runs.Runs.{IsKeptBy}
 use Rattle.law_world.proofs.lemmas.steps.lemmas.receiving_runs.Runs.{holds_throughout}
 use Rattle.law_world.specs.memory.Mixed.{IsMixedWorld}
 use Rattle.law_world.specs.memory.Laws.{OpensMixed, NewWorldIsMixed, ControllerKeepsMixed, DriverKeepsMixed, CommandKeepsMixed}
-use Rattle.law_world.specs.memory.PlacedLaws.{MixedLine, ScriptsStayMixed}
+use Rattle.law_world.specs.memory.PlacedLaws.{ScriptsStayMixed}
 
 -- all that is to be shown of the world's events
 pub record StaysMixed : Type 0 where
@@ -17,14 +14,6 @@ pub record StaysMixed : Type 0 where
   pub controller : ControllerKeepsMixed
   pub driver : DriverKeepsMixed
   pub command : CommandKeepsMixed
-
-line_can : (l : Line) → MixedLine l → KindOfLine OpensMixed l
-line_can (lines.Command cmd) fits = fits
-line_can _ fits = tt
-
-pub lines_can : (xs : List (ℕ × Line)) → AllByRecursion (λ x. MixedLine x.1) xs → AllByRecursion (λ x. KindOfLine OpensMixed x.1) xs
-lines_can [] fits = tt
-lines_can (x ∷ xs) fits = (line_can x.1 fits.0, lines_can xs fits.1)
 
 is_kept : StaysMixed → (s : Script) → IsKeptBy (fixed_of s) OpensMixed IsMixedWorld
 is_kept stays s = record {

@@ -5,6 +5,7 @@ use Rattle.std.specs.List.{AllByRecursion}
 use Rattle.std.specs.Prelude.{option_and_then}
 use Rattle.std.proofs.lemmas.Bool.{true≢false}
 use Rattle.std.proofs.lemmas.Option.{same_Some}
+use Rattle.law_common.proofs.Lists.{all_more}
 use Rattle.usb_base.specs.declared.commands.Cmd.{Cmd}
 use Rattle.usb_base.specs.declared.reports.OfferError.{OfferError}
 use Rattle.script_types.specs.declared.scripts.Event.TheVariants as events
@@ -35,7 +36,6 @@ use Rattle.bus_world.specs.Budgets.{moment}
 use Rattle.claims_driver.specs.Walk.{IsBellIn}
 use Rattle.claims_world.specs.Links.{LeftWithin, IsOneBatch, IsPending}
 use Rattle.claims_world.specs.Releases.{is_drivers, LeavesRing}
-use Rattle.law_devices.proofs.Lists.{all_more}
 use Rattle.law_driver.specs.run_owners.Due.{IsDue}
 use Rattle.law_driver.proofs.lemmas.run_owners.Reasons.{each_event_is_due}
 use Rattle.law_footprints.proofs.Fields.{rung_stays, bell_stays}

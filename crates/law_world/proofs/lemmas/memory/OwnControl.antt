@@ -2,6 +2,7 @@
 use Rattle.std.proofs.Common.{◌≡◌, ◌≢◌, ℕ, ◌%◌, Bool, true, false, if◌then◌else◌, List, Option, Some, None, ap, refl, sym, subst, ◌∙◌}
 use Rattle.std.proofs.Common.{⊎_elim, inl, inr}
 use Rattle.std.specs.Prelude.{◌⊎◌, ◌&&◌, not, IfSome}
+use Rattle.law_controller.proofs.Common.{ring_off}
 use Rattle.usb_base.specs.declared.packets.Ask.{Ask}
 use Rattle.usb_base.specs.declared.packets.Reply.{Reply}
 use Rattle.word_mem.specs.Memory.{Mem, reaches, word_at}
@@ -16,7 +17,7 @@ use Rattle.hc_core.specs.declared.controller.ControllerRow.{ControllerRow}
 use Rattle.hc_core.specs.declared.controller.ControllerRow.TheVariants as rows
 use Rattle.hc_core.specs.declared.controller.MicroframePart.{MicroframePart}
 use Rattle.hc_core.specs.declared.controller.MicroframePart.TheVariants.{Over, Periodic, Asynchronous}
-use Rattle.hc_core.specs.Controller.{Content, microframe_row, part_row, enter_row, ring_row, element_address, begun_at, began, entered}
+use Rattle.hc_core.specs.Controller.{Content, microframe_row, part_row, element_address, begun_at, began, entered}
 use Rattle.hc_core.specs.Controller.{frame_place}
 use Rattle.hc_core.specs.Controller.{walk_place, HasRow}
 use Rattle.claims_base.specs.Controller.{Base}
@@ -39,14 +40,6 @@ use Rattle.law_world.proofs.lemmas.memory.OwnFrames.{frame_left}
 use Rattle.law_world.proofs.lemmas.memory.OwnHands.{copied, settled, itd_own, sitd_own}
 
 -- ---- an event of the frames comes in the periodic part
-
-enter_off : (b : Bool) → enter_row b ≡ rows.Frame → ⊥
-enter_off true is = cc is
-enter_off false is = cc is
-
-ring_off : (b : Bool) → ring_row b ≡ rows.Frame → ⊥
-ring_off true is = cc is
-ring_off false is = cc is
 
 frame_part : (runs : Bool) (r : RegisterFile) (f : FrameWalk) (part : MicroframePart)
     → (if runs then part_row r f part else rows.Idle) ≡ rows.Frame → part ≡ Periodic

@@ -1,7 +1,10 @@
 -- No event of the driver writes a word of the controller, and no command does.
-use Rattle.std.proofs.Common.{◌≡◌, ◌≢◌, ℕ, zero, suc, ◌+◌, ◌*◌, ◌/◌, ◌%◌, ◌<◌, ◌≤◌, Bool, true, false, List, length, get_or, slice_get}
+use Rattle.std.proofs.Common.{◌≡◌, ◌≢◌, ℕ, zero, suc, ◌+◌, ◌*◌, ◌/◌, ◌%◌, ◌≤◌, Bool, true, false, List, length, get_or, slice_get}
 use Rattle.std.proofs.Common.{Option, Some, None, Result, Ok, Err, ap, refl, sym, subst, ◌∙◌, arith, ⊎_elim, inl, inr}
 use Rattle.std.specs.Prelude.{◌⊎◌}
+use Rattle.law_world.proofs.Common.{in_first}
+use Rattle.law_driver_ring.proofs.Common.{places_below, partly_idle}
+use Rattle.law_world.proofs.Common2.{same_mend}
 use Rattle.usb_base.specs.declared.commands.Cmd.{Cmd}
 use Rattle.usb_base.specs.declared.reports.OfferError.{OfferError}
 use Rattle.word_mem.specs.Memory.{Mem, word_at, reaches}
@@ -42,10 +45,9 @@ use Rattle.law_controller.specs.frame_control.Both.{RunsBoth}
 use Rattle.law_driver_ring.specs.Linked.{head_at}
 use Rattle.law_driver_ring.specs.Published.{partly, place_in}
 use Rattle.law_driver_ring.proofs.PartSlots.{found_lent, lent_has}
-use Rattle.law_driver_ring.proofs.Publishing.{idle}
 use Rattle.law_queues.specs.fed_lends.ToLend.{IsToBeLent}
 use Rattle.law_queues.specs.mended_heads.Mended.{IsAtMend}
-use Rattle.law_queues.specs.mended_heads.Owed.{store_by, store_due}
+use Rattle.law_queues.specs.mended_heads.Owed.{store_due}
 use Rattle.law_queues.specs.mended_heads.Waiting.{StandsHalted}
 use Rattle.law_world.specs.steps.unlinked_streams.Unlinks.{IsAtUnlink}
 use Rattle.law_descriptors.specs.Both.{both}
@@ -134,30 +136,11 @@ module _ (p : Parts) (place : IsInPlace p.memory p.driver) where
 
 -- ---- where a row stores
 
-due_at : (q b n : ℕ) → (store_by q b n).at / 32 ≡ 32 * q / 32
-due_at q b zero = omega arith
-due_at q b (suc zero) = omega arith
-due_at q b (suc (suc n)) = omega arith
-
-place_low : (i : ℕ) → i < 8 → place_in i < 8
-place_low zero low = omega arith
-place_low (suc zero) low = omega arith
-place_low (suc (suc zero)) low = omega arith
-place_low (suc (suc (suc zero))) low = omega arith
-place_low (suc (suc (suc (suc zero)))) low = omega arith
-place_low (suc (suc (suc (suc (suc zero))))) low = omega arith
-place_low (suc (suc (suc (suc (suc (suc zero)))))) low = omega arith
-place_low (suc (suc (suc (suc (suc (suc (suc zero))))))) low = omega arith
-place_low (suc (suc (suc (suc (suc (suc (suc (suc i)))))))) low = absurd (omega (arith, low))
-
 same_store : (b c at to v u : ℕ) → rows.Store b at v ≡ rows.Store c to u → at ≡ to
 same_store b c at to v u is = cc is
 
 same_row : (r q : DriverRow) → Some r ≡ Some q → r ≡ q
 same_row r q is = cc is
-
-same_mend : (m n : Mend) → rows.Mend m ≡ rows.Mend n → m ≡ n
-same_mend m n is = cc is
 
 same_before : (e b link f c to : ℕ) → Some (unfinished.Unlink e b link) ≡ Some (unfinished.Unlink f c to) → b ≡ c
 same_before e b link f c to is = cc is
@@ -228,7 +211,7 @@ module _ (s : Standing) (w : World) (k : IsMixedAt s w) where
   publish_store b words c to v command made row =
       let g : IsPublishPlace w s.parts b = publish_place s w b words k command made in
       let low = g.low in
-      let few = place_low g.number low in
+      let few = places_below g.number low in
       let is : 32 * b + 4 * place_in g.number ≡ to = same_store b c (32 * b + 4 * place_in g.number) to _ v (sym g.row ∙ row) in
       record {
         owner = g.owner;
@@ -237,7 +220,7 @@ module _ (s : Standing) (w : World) (k : IsMixedAt s w) where
         here = queue_found w.driver s.descs s.parts describing g.owner (32 * b) (Element (partly g.qtd g.number)) g.here;
         has = omega (arith, few, is);
         not_own = λ at on same. element_off at (32 * b) (Element (partly g.qtd g.number)) (partly g.qtd g.number) refl
-            (idle g.qtd g.number low);
+            (partly_idle g.qtd g.number low);
       }
 
   -- the store of the command's own
@@ -305,7 +288,7 @@ module _ (s : Standing) (w : World) (k : IsMixedAt s w) where
         name = 32 * a.stalled.queue;
         structure = QueueHead x.head;
         here = queue_found w.driver s.descs s.parts describing (32 * a.stalled.queue) (32 * a.stalled.queue) (QueueHead x.head) x.here;
-        has = inl (due_at a.stalled.queue a.stalled.onward a.stalled.made);
+        has = inl (in_first a.stalled.queue a.stalled.onward a.stalled.made);
         not_own = λ at on same. halted_off at (32 * a.stalled.queue) (QueueHead x.head) x.head refl x.halted;
       })
 

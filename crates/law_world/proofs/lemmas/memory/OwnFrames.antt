@@ -3,6 +3,8 @@ use Rattle.std.proofs.Common.{◌≡◌, ◌≢◌, ℕ, ◌+◌, ◌*◌, ◌/�
 use Rattle.std.proofs.Common.{None, Some, ap, refl, sym, subst, ◌∙◌, arith}
 use Rattle.std.specs.Prelude.{IfSome, ◌==◌, nat_lt}
 use Rattle.std.proofs.lemmas.Bool.{and_parts}
+use Rattle.law_common.proofs.Booleans.{not_on}
+use Rattle.law_frames.proofs.Common.{missing}
 use Rattle.usb_base.specs.declared.packets.Ask.{Ask}
 use Rattle.usb_base.specs.declared.packets.Pid.{Pid}
 use Rattle.usb_base.specs.declared.packets.Pid.TheVariants as pids
@@ -44,7 +46,7 @@ use Rattle.hc_iso.specs.declared.held.SitdTurn.TheVariants as sitd_turns
 use Rattle.hc_iso.specs.declared.held.SplitOutcome.{SplitOutcome}
 use Rattle.hc_iso.specs.declared.held.SplitOutcome.TheVariants as split_outcomes
 use Rattle.hc_iso.specs.Itd.{itd_transaction}
-use Rattle.hc_iso.specs.Sitd.{missed_copy, missed_sitd, sitd_place, sitd_turn, turn_at, sitd_missed, comes, sitd_transaction}
+use Rattle.hc_iso.specs.Sitd.{missed_copy, missed_sitd, sitd_place, sitd_turn, sitd_missed, comes, sitd_transaction}
 use Rattle.hc_iso.specs.WriteBack.{itd_pages, slot_place, itd_sending, itd_written, sitd_pages, sitd_sending, sitd_received}
 use Rattle.periodic_walk.specs.declared.queue.QueueRow.{QueueRow}
 use Rattle.periodic_walk.specs.declared.queue.QueueRow.TheVariants as queue_rows
@@ -95,10 +97,6 @@ miss_waits false missed there true true active l is = absurd (cc is)
 miss_waits false missed there true false true l is = absurd (cc is)
 miss_waits false missed there true false false l is = absurd (cc is)
 
-not_true : (b : Bool) → not b ≡ true → b ≡ false
-not_true false is = refl
-not_true true is = absurd (cc is)
-
 miss_is : (f : ℕ) (q : Qh) → turn_of f q ≡ turns.Miss → (q.token.active ≡ true) × (q.token.halted ≡ false)
 miss_is f q is =
     let w : waits q ≡ true =
@@ -108,11 +106,7 @@ miss_is f q is =
     let one = and_parts (not (q.eps == 2)) (q.token.split_state && (q.token.active && not q.token.halted)) w in
     let two = and_parts q.token.split_state (q.token.active && not q.token.halted) one.1 in
     let three = and_parts q.token.active (not q.token.halted) two.1 in
-    (three.0, not_true q.token.halted three.1)
-
-sitd_misses : (active missed there : Bool) → turn_at active missed there ≡ sitd_turns.Miss → active ≡ true
-sitd_misses true missed there is = refl
-sitd_misses false missed there is = absurd (cc is)
+    (three.0, not_on q.token.halted three.1)
 
 -- a miss brings no bytes
 no_bytes : (pid : Pid) (cause : EndCause) (reply : Reply) → length (got_of pid (outcomes.Halt cause) reply) ≡ 0
@@ -303,7 +297,7 @@ module _ (at : ℕ) where
       (sitd_transaction h.sitd) h p
   sitd_turn_stays sitd_turns.Miss left u h p same is =
       sitd_wrote_stays (missed_copy h) split_outcomes.Failed p (is.state
-      (λ none. sitd_misses h.sitd.active (sitd_missed u h.sitd) (comes u h.sitd) same))
+      (λ none. missing h.sitd.active (sitd_missed u h.sitd) (comes u h.sitd) same))
       (λ i below. let none = none_failed (missed_sitd h.sitd).dir_in p.walk.reply in absurd (omega (arith, below, none)))
 
   sitd_stays : (o : Option SplitOutcome) (left u : ℕ) (h : HeldSitd) (p : FramePlace) → h.settled ≡ o → IsSitdLeft h p.walk.reply at

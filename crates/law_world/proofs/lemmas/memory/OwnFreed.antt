@@ -5,6 +5,7 @@ use Rattle.std.proofs.Common.{ap, refl, sym, subst, ◌∙◌, arith, ⊎_elim, 
 use Rattle.std.specs.Prelude.{◌⊎◌, ◌&&◌}
 use Rattle.std.specs.Result.{result_ok}
 use Rattle.std.proofs.lemmas.Bool.{cases_lt, and_parts}
+use Rattle.law_common.proofs.Numbers.{in_one}
 use Rattle.word_mem.specs.Memory.{Mem, reaches, word_at, state_at, is_lent}
 use Rattle.word_mem.specs.Views.{words_at}
 use Rattle.word_mem.proofs.Words.{words_in_same}
@@ -45,9 +46,6 @@ is_read : {X : Type 0} (b : Bool) (o : Option X) (x : X) → b ≡ true → o �
 is_read true o x there is = is
 is_read false o x there is = absurd (cc there)
 
-in_first : (a k : ℕ) → a % 32 ≡ 0 → k < 8 → (a + 4 * k) / 32 ≡ a / 32
-in_first a k low few = omega (arith, low, few)
-
 in_second : (a k : ℕ) → a % 32 ≡ 0 → 8 ≤ k → k < 16 → (a + 4 * k) / 32 ≡ (a + 32) / 32
 in_second a k low most few = omega (arith, low, most, few)
 
@@ -69,14 +67,14 @@ module _ (base : Base) (member : ℕ → Bool) (met : ℕ → Option Kind) (part
   one_block : (a size : ℕ) → a % 32 ≡ 0 → size ≤ 8 → reaches m a ≡ true → words_at m a size ≡ words_at c.memory a size
   one_block a size low few there =
       words_in_same c.memory.words m.words a size
-      (λ i below. back (a + 4 * i) (block_reached m (a + 4 * i) a (in_first a i low (omega (arith, below, few))) there))
+      (λ i below. back (a + 4 * i) (block_reached m (a + 4 * i) a (in_one a i low (omega (arith, below, few))) there))
 
   two_blocks : (a size : ℕ) → a % 32 ≡ 0 → size ≤ 16 → reaches m a ≡ true → reaches m (a + 32) ≡ true
       → words_at m a size ≡ words_at c.memory a size
   two_blocks a size low few one two =
       words_in_same c.memory.words m.words a size
       (λ i below.
-      ⊎_elim (λ (first : i < 8). back (a + 4 * i) (block_reached m (a + 4 * i) a (in_first a i low first) one))
+      ⊎_elim (λ (first : i < 8). back (a + 4 * i) (block_reached m (a + 4 * i) a (in_one a i low first) one))
       (λ (second : 8 ≤ i). back (a + 4 * i) (block_reached m (a + 4 * i) (a + 32)
       (in_second a i low second (omega (arith, below, few))) two)) (cases_lt i 8))
 

@@ -4,6 +4,7 @@ use Rattle.std.proofs.Common.{ap, refl, sym, subst, ◌∙◌, arith, ⊎_elim, 
 use Rattle.std.specs.Prelude.{◌⊎◌}
 use Rattle.std.proofs.lemmas.Bool.{cases_lt, cases_eq}
 use Rattle.std.proofs.lemmas.List.{get_or-set_other}
+use Rattle.law_world.proofs.Common.{own_block as first_block}
 use Rattle.word_mem.specs.Memory.{Mem, word_at, with_word, reaches}
 use Rattle.mem_bytes.specs.Bytes.{place}
 use Rattle.mem_runs.specs.Book.{Book, slot_of, can_store, store}
@@ -135,14 +136,6 @@ link_low m a (Buffer pages k bs) has h = absurd has
 link_low m a (Table ws) has h = absurd has
 link_low m a (Isochronous v) has h = h.aligned
 link_low m a (SplitIsochronous v) has h = h.aligned
-
-first_block : (a : ℕ) (s : Structure) → HasLink s → Has a s (a / 32)
-first_block a (QueueHead q) has = inl refl
-first_block a (Element t) has = absurd has
-first_block a (Buffer pages k bs) has = absurd has
-first_block a (Table ws) has = absurd has
-first_block a (Isochronous v) has = inl refl
-first_block a (SplitIsochronous v) has = refl
 
 pub link_store : (m : Mem) (parts : StructureSets) (n a : ℕ) (s : Structure) → Tells m parts → parts n a ≡ Some s → HasLink s
     → IsStoreIn parts a

@@ -1,6 +1,7 @@
 -- A word of the first qTD of a transfer is stored, in a world with endpoints of every kind.
 use Rattle.std.proofs.Common.{◌≡◌, ◌≢◌, ℕ, suc, ◌-◌, ◌*◌, ◌<◌, ◌≤◌, Bool, if◌then◌else◌, List, Option, Some, None, ap, refl, sym, subst, ◌∙◌, ⊎_elim, inr, arith}
 use Rattle.std.proofs.lemmas.Bool.{cases_eq, cases_lt, lt-ltb, false≢true}
+use Rattle.law_world.proofs.Common.{none_some}
 use Rattle.word_mem.specs.Memory.{Mem}
 use Rattle.qh_qtd.specs.declared.qtd.Qtd.{Qtd}
 use Rattle.drv_table.specs.declared.content.Command.{Command}
@@ -33,7 +34,6 @@ use Rattle.law_driver.proofs.lemmas.queued_drivers.RowOwners.{queued_has_owners,
 use Rattle.bus_world.specs.World.{World, driver_parts, controller_parts, driver_next}
 use Rattle.law_world.specs.memory.Mixed.{QueuesGoOn, IsUnderWay, Standing, IsMixedAt}
 use Rattle.law_world.specs.memory.Steps.{QueueStep, stores, IsMixedNext}
-use Rattle.law_world.proofs.lemmas.memory.Unfinished.{none_unfinished}
 use Rattle.law_world.proofs.lemmas.memory.Next.{mixed_next}
 use Rattle.law_world.proofs.lemmas.memory.PublishStores.{IsStoring, published_by, made_is, below, being, by_store, stands_by, met_now, met_still}
 use Rattle.law_world.proofs.lemmas.memory.PublishControls.{controls_then}
@@ -215,7 +215,7 @@ module _ (s : Standing) (w : World) (b : ℕ) (words : List ℕ) (k : IsMixedAt 
       (met_stays w.driver more s.member
       (same_ends w.driver more (record { waiting = refl; rung = refl; opens = λ c is. is }) (record { waiting = refl; rung = refl; opens = λ c is. is }) refl) k.ring)
       (met_stays w.driver done s.member
-      (same_ends w.driver done (record { waiting = refl; rung = refl; opens = λ c is. absurd (none_unfinished (unfinished.Open c) is) })
+      (same_ends w.driver done (record { waiting = refl; rung = refl; opens = λ c is. absurd (none_some (unfinished.Open c) is) })
       (record { waiting = refl; rung = refl; opens = λ c is. absurd (publish_not_open c (sym command ∙ is)) }) refl) k.ring)
 
   under_way_then : (m : Mem) → IsUnderWay (driver_next w).driver m s.member s.recent now (driver_next w).driver.command

@@ -2,6 +2,8 @@
 use Rattle.std.proofs.Common.{◌≡◌, ◌≢◌, ℕ, suc, ◌-◌, ◌*◌, ◌<◌, ◌≤◌, Bool, true, false, if◌then◌else◌, List, ◌∷◌, ◌++◌, slice_get, Option, Some, None, option_map, ap, refl, sym, subst, ◌∙◌, ⊎_elim, arith}
 use Rattle.std.proofs.lemmas.Bool.{cases_eq, cases_lt, lt-ltb}
 use Rattle.std.proofs.lemmas.Option.{same_Some}
+use Rattle.law_common.proofs.Numbers.{same_blocks}
+use Rattle.law_world.proofs.Common.{none_some}
 use Rattle.mem_runs.specs.Book.{slot_of}
 use Rattle.drv_table.specs.declared.content.Endpoint.{Endpoint}
 use Rattle.drv_table.specs.declared.content.Transfer.{Transfer}
@@ -32,12 +34,11 @@ use Rattle.law_driver_ring.specs.fed_queues.Fed.{IsPublished}
 use Rattle.law_driver_ring.specs.fed_queues.Places.{IsMet, IsLast, AreLast, AreStillOut, IsThere}
 use Rattle.law_queues.specs.publish_laws.Stores.{parts_then, out_then, next_of}
 use Rattle.law_queues.proofs.lemmas.publish_laws.Outs.{IsNewest, IsSplit, split_out, other_out, same_out}
-use Rattle.law_queues.proofs.lemmas.publish_laws.Apart.{dummy_placed, queue_placed, piece_placed, dummy_apart, pieces_apart, queues_same, thirty_two, all_lent}
+use Rattle.law_queues.proofs.lemmas.publish_laws.Apart.{dummy_placed, queue_placed, piece_placed, dummy_apart, pieces_apart, queues_same, all_lent}
 use Rattle.law_queues.proofs.lemmas.publish_laws.Linked.{sorted_after, end_is, piece_later, leads_later}
 use Rattle.law_queues.proofs.lemmas.publish_laws.Feeding.{IsHere, more, done, fed_more, fed_done}
 use Rattle.law_driver_ring.proofs.lemmas.fed_queues.Places.{SameQueues, same_ends, stands_met, met_stays, streams_stay}
 use Rattle.law_driver.proofs.lemmas.chained_transfers.Staying.{stands_alive}
-use Rattle.law_world.proofs.lemmas.memory.Unfinished.{none_unfinished}
 
 -- the qTD was lent, and not all of its words are stored
 pub record IsStoring (d : DriverContent) (member streams : ℕ → Bool) (ends : ℕ → Told) (parts : StructureSets) (order : ℕ → ℕ → ℕ) (out : ℕ → List ℕ) (b : ℕ) (words : List ℕ) : Type 0 where
@@ -143,7 +144,7 @@ module _ (p : DriverParts) (member streams : ℕ → Bool) (ends : ℕ → Told)
   before_dummy : order n (32 * b) < order n (32 * g.endpoint.dummy)
   before_dummy =
       k.queues.last.dummies y.endpoint g.endpoint g.here its_alive lent_dummy (32 * b) (partly g.qtd i) g.stored
-      (λ same. dummies_apart y.endpoint g.endpoint g.here its_alive (sym (thirty_two b g.endpoint.dummy same)))
+      (λ same. dummies_apart y.endpoint g.endpoint g.here its_alive (sym (same_blocks b g.endpoint.dummy same)))
 
   ends_at : piece_at note b (suc q) ≡ g.endpoint.dummy
   ends_at =
@@ -177,7 +178,7 @@ module _ (p : DriverParts) (member streams : ℕ → Bool) (ends : ℕ → Told)
 
   queues_done : SameQueues d (done d parts b words g i here k.queues.fed)
   queues_done =
-      same_ends d (done d parts b words g i here k.queues.fed) (record { waiting = refl; rung = refl; opens = λ c is. absurd (none_unfinished (unfinished.Open c) is) })
+      same_ends d (done d parts b words g i here k.queues.fed) (record { waiting = refl; rung = refl; opens = λ c is. absurd (none_some (unfinished.Open c) is) })
       (record { waiting = refl; rung = refl; opens = λ c is. absurd (never_opens c is) }) refl
 
   -- ---- the order
@@ -201,8 +202,8 @@ module _ (p : DriverParts) (member streams : ℕ → Bool) (ends : ℕ → Told)
   last_done : AreLast (done d parts b words g i here k.queues.fed) now order
   last_done = record {
     dummies = λ e x there kept lent. is_last (32 * x.queue) (32 * x.dummy) (k.queues.last.dummies e x there kept lent);
-    taken = λ c ws t z x command made newest there first own. absurd (none_unfinished (unfinished.Publish c ws) command);
-    sorted = λ c ws t z x command made newest there first own. absurd (none_unfinished (unfinished.Publish c ws) command);
+    taken = λ c ws t z x command made newest there first own. absurd (none_some (unfinished.Publish c ws) command);
+    sorted = λ c ws t z x command made newest there first own. absurd (none_some (unfinished.Publish c ws) command);
   }
 
   -- ---- what is out
@@ -218,7 +219,7 @@ module _ (p : DriverParts) (member streams : ℕ → Bool) (ends : ℕ → Told)
 
   same_queue : (e : ℕ) (x : Endpoint) → slice_get d.endpoints e ≡ Some x → x.gone ≡ false → 32 * x.queue ≡ n → e ≡ y.endpoint
   same_queue e x there kept same =
-      queues_same x.queue g.endpoint.queue e y.endpoint (thirty_two x.queue g.endpoint.queue same)
+      queues_same x.queue g.endpoint.queue e y.endpoint (same_blocks x.queue g.endpoint.queue same)
       (queue_placed d k.owners e x there (k.turns.asynchronous.endpoints e x there) kept) (queue_placed d k.owners y.endpoint g.endpoint g.here standing its_alive)
 
   other_end : (e : ℕ) (x : Endpoint) → slice_get d.endpoints e ≡ Some x → 32 * x.queue ≢ n → y.endpoint ≢ e

@@ -2,6 +2,9 @@
 use Rattle.std.proofs.Common.{◌≡◌, ◌≢◌, ℕ, suc, ◌-◌, ◌*◌, ◌==◌, ◌<◌, ◌≤◌, Bool, true, false, if◌then◌else◌, List, ◌∷◌, ◌++◌, length, slice_get, Option, Some, None, ap, refl, sym, subst, ◌∙◌, ⊎_elim, arith}
 use Rattle.std.proofs.lemmas.Bool.{cases_eq, eq-eqb, true≢false}
 use Rattle.std.proofs.lemmas.Option.{same_Some}
+use Rattle.law_world.proofs.Common2.{reaches_by}
+use Rattle.law_common.proofs.Numbers.{other_number, same_blocks}
+use Rattle.law_driver_ring.proofs.Common.{partly_idle}
 use Rattle.qh_qtd.specs.declared.qtd.Qtd.{Qtd}
 use Rattle.mem_runs.specs.Book.{slot_of}
 use Rattle.drv_table.specs.declared.content.Endpoint.{Endpoint}
@@ -13,7 +16,7 @@ use Rattle.drv_table.specs.Parts.{Parts as DriverParts}
 use Rattle.drv_table.specs.Words.{dummy_qtd}
 use Rattle.claims_driver.specs.Owners.{NoteRuns, note_in}
 use Rattle.law_structures.specs.lent_structures.Structures.{Element, Structures, StructureSets}
-use Rattle.law_structures.proofs.lemmas.lent_structures.Names.{not_same, put_same, put_beside}
+use Rattle.law_structures.proofs.lemmas.lent_structures.Names.{put_same, put_beside}
 use Rattle.link_words.specs.declared.kinds.QtdLink.{QtdLink}
 use Rattle.link_words.specs.declared.kinds.QtdLink.TheVariants as qtd_links
 use Rattle.link_words.specs.Links.{qtd_link_of}
@@ -25,7 +28,6 @@ use Rattle.law_ring.specs.Order.{IsFresh, IsAmong}
 use Rattle.law_ring.specs.Front.{LinksWithin}
 use Rattle.law_driver_ring.specs.Inventory.{IsLent}
 use Rattle.law_driver_ring.specs.Published.{partly}
-use Rattle.law_driver_ring.proofs.Publishing.{idle}
 use Rattle.law_controller.specs.controlled_streams.Storing.{with_out, stored_parts}
 use Rattle.law_controller.proofs.lemmas.controlled_streams.Storing.{out_apart}
 use Rattle.law_controller.proofs.lemmas.controlled_streams.Streams.{out_here, out_beside}
@@ -38,7 +40,7 @@ use Rattle.law_queues.specs.standing_fronts.Reaching.{Reaches}
 use Rattle.law_queues.proofs.lemmas.standing_fronts.Reaching.{reaches_idle_store, reaches_last_store}
 use Rattle.law_queues.specs.publish_laws.Stores.{parts_then, out_then, next_of}
 use Rattle.law_queues.proofs.lemmas.publish_laws.Outs.{IsSplit, same_out}
-use Rattle.law_queues.proofs.lemmas.publish_laws.Apart.{queue_placed, queues_same, thirty_two}
+use Rattle.law_queues.proofs.lemmas.publish_laws.Apart.{queue_placed, queues_same}
 use Rattle.law_queues.specs.standing_fronts.Tails.{tail_block, tail_of, TailsStand}
 use Rattle.law_world.proofs.lemmas.memory.PublishStores.{IsStoring, published_by, made_is, below, one_more, finished, by_store, met_now, met_still}
 use Rattle.law_world.proofs.lemmas.memory.PublishStores as storing
@@ -58,10 +60,6 @@ sound_tail order c n part t m here idle_there last = record {
     reaches b l leads is =
         let there : IsElement part b = subst (LeadsOn part) is leads in
         ⊎_elim (λ (same : b ≡ c). let e = ap order same in omega (arith, e)) (λ (differs : b ≢ c). let less = last b there.qtd there.here differs in omega (arith, less)) (cases_eq b c)
-
--- a front tells nothing of the command
-reaches_by : (d : DriverContent) (c : Option Command) (made : ℕ) (part : Structures) (order : ℕ → ℕ) (out : List ℕ) (e : ℕ) (x : Endpoint) (a : ℕ) → Reaches d part order out e x a → Reaches (record d { command = c; made = made }) part order out e x a
-reaches_by d c made part order out e x a k = record { stands = record { front = k.stands.front; has = k.stands.has; ended = k.stands.ended; passed = k.stands.passed }; within = k.within; tail = k.tail }
 
 module _ (p : DriverParts) (member streams : ℕ → Bool) (ends : ℕ → Told) (parts : StructureSets) (order : ℕ → ℕ → ℕ) (out : ℕ → List ℕ) (b : ℕ) (words : List ℕ) (k : IsStoring p.driver member streams ends parts order out b words) where
   abbrev d : DriverContent
@@ -98,7 +96,7 @@ module _ (p : DriverParts) (member streams : ℕ → Bool) (ends : ℕ → Told)
   done = finished p member streams ends parts order out b words k
 
   old_idle : old.token.active ≡ false
-  old_idle = idle g.qtd i (below p member streams ends parts order out b words k)
+  old_idle = partly_idle g.qtd i (below p member streams ends parts order out b words k)
 
   own_met : IsMet d y.endpoint g.endpoint
   own_met = met_now p member streams ends parts order out b words k
@@ -129,7 +127,7 @@ module _ (p : DriverParts) (member streams : ℕ → Bool) (ends : ℕ → Told)
       let m : ℕ = 32 * x.queue in
       ⊎_elim (λ (same : m ≡ n).
       subst (λ (j : ℕ). Reaches d (stored_parts parts j (32 * b) new m) (order m) (out m) e x a) same
-      (reaches_idle_store d parts (order m) (out m) e (32 * b) x old new a (ap (λ (j : ℕ). parts j (32 * b)) same ∙ g.stored) old_idle (idle g.qtd d.made low)
+      (reaches_idle_store d parts (order m) (out m) e (32 * b) x old new a (ap (λ (j : ℕ). parts j (32 * b)) same ∙ g.stored) old_idle (partly_idle g.qtd d.made low)
       (λ c among. out_apart (order n) (32 * b) split.before split.after (storing.sorted p member streams ends parts order out b words k) c (subst (IsAmong c) (ap out same ∙ out_split) among)) was))
       (λ (differs : m ≢ n). subst (λ (part : Structures). Reaches d part (order m) (out m) e x a) (sym (put_beside parts n (32 * b) (Element new) m differs)) was) (cases_eq m n)
 
@@ -153,7 +151,7 @@ module _ (p : DriverParts) (member streams : ℕ → Bool) (ends : ℕ → Told)
   tail_here = tail_is y.endpoint g.endpoint ∙ ap (λ (t : Bool). 32 * (if t then b else g.endpoint.dummy)) (eq-eqb y.endpoint y.endpoint refl)
 
   tail_beside : (e : ℕ) (x : Endpoint) → e ≢ y.endpoint → tail_of d e x ≡ 32 * x.dummy
-  tail_beside e x differs = tail_is e x ∙ ap (λ (t : Bool). 32 * (if t then b else x.dummy)) (not_same y.endpoint e (λ same. differs (sym same)))
+  tail_beside e x differs = tail_is e x ∙ ap (λ (t : Bool). 32 * (if t then b else x.dummy)) (other_number y.endpoint e (λ same. differs (sym same)))
 
   lent_dummy : IsLent (slot_of d.book.slots g.endpoint.dummy)
   lent_dummy = storing.lent_dummy p member streams ends parts order out b words k
@@ -161,7 +159,7 @@ module _ (p : DriverParts) (member streams : ℕ → Bool) (ends : ℕ → Told)
   queue_apart : (e : ℕ) (x : Endpoint) → slice_get d.endpoints e ≡ Some x → x.gone ≡ false → e ≢ y.endpoint → 32 * x.queue ≢ n
   queue_apart e x here kept differs same =
       differs
-      (queues_same x.queue g.endpoint.queue e y.endpoint (thirty_two x.queue g.endpoint.queue same) (queue_placed d k.owners e x here (k.turns.asynchronous.endpoints e x here) kept)
+      (queues_same x.queue g.endpoint.queue e y.endpoint (same_blocks x.queue g.endpoint.queue same) (queue_placed d k.owners e x here (k.turns.asynchronous.endpoints e x here) kept)
       (queue_placed d k.owners y.endpoint g.endpoint g.here (k.turns.asynchronous.endpoints y.endpoint g.endpoint g.here) own_met.there.kept))
 
   module _ (eighth : d.made ≡ 8) (stands : QueuesStand done member streams ends (parts_then g) order (out_then out done g)) (mem : IsQueuePart n (parts_then g n)) (tails : TailsStand d parts order out) where

@@ -2,6 +2,7 @@
 use Rattle.std.proofs.Common.{◌≡◌, ℕ, zero, suc, ◌*◌, Bool, true, false, ◌||◌, List, map, slice_get, Option, Some, None, option_map, ap, refl, sym, ◌∙◌, ⊎_elim}
 use Rattle.std.proofs.lemmas.Bool.{cases_Bool, false≢true}
 use Rattle.std.proofs.lemmas.Option.{same_Some, slice_get-map}
+use Rattle.law_driver.proofs.Common.{of_queue, of_none, kind_in_ring, ring_queue}
 use Rattle.drv_table.specs.declared.content.Endpoint.{Endpoint}
 use Rattle.drv_table.specs.declared.content.Transfer.{Transfer}
 use Rattle.drv_table.specs.DriverContent.{DriverContent}
@@ -10,7 +11,6 @@ use Rattle.claims_driver.specs.Owners.{EndpointRuns, TransferRuns, runs_of_endpo
 use Rattle.law_driver_ring.specs.Inventory.{Sort, Inventory, AreTold, IsTransferIn, IsDriverOwned, the_list, the_head, a_queue, a_dummy, a_piece, a_buffer, IsDriven}
 use Rattle.law_structures.specs.lent_structures.Structures.{StructureSets, Tells}
 use Rattle.law_driver.specs.queued_drivers.Queued.{queued_kind, queued_endpoint, queued_transfer, queued}
-use Rattle.law_driver.proofs.lemmas.queued_drivers.CommandFields.{of_queue, of_none, kind_in_ring, ring_queue}
 use Rattle.law_driver.proofs.lemmas.queued_drivers.RowLists.{transfer_told, descriptor_told}
 use Rattle.word_mem.specs.Memory.{Mem}
 use Rattle.drv_table.specs.declared.content.Stage.{Stage}
@@ -45,11 +45,6 @@ endpoint_runs xs e = ap (option_map runs_of_endpoint) (slice_get-map queued_endp
     by (Some x) = ap (λ (r : EndpointRuns). Some r) (runs_same x)
 
 -- ---- transfers
-
-pub end_same : (xs : List Endpoint) (y : Transfer) → (queued_transfer xs y).endpoint ≡ y.endpoint
-end_same xs y =
-    ⊎_elim (λ (is : is_descriptor y.sort ≡ true). ap (λ (z : Transfer). z.endpoint) (descriptor_told xs y is)) (λ (off : is_descriptor y.sort ≡ false). ap (λ (z : Transfer). z.endpoint) (transfer_told xs y off))
-    (cases_Bool (is_descriptor y.sort))
 
 released_told : (xs : List Endpoint) (y : Transfer) → is_descriptor y.sort ≡ true → (queued_transfer xs y).released ≡ true
 released_told xs y is = ap (λ (z : Transfer). z.released) (descriptor_told xs y is)

@@ -1,7 +1,8 @@
--- In a mixed world the asynchronous part ends for a reason, and so is a queue head passed.
+-- In a mixed world the asynchronous part ends for a reason, and so is a queue head skipped.
 use Rattle.std.proofs.Common.{◌≡◌, ◌≢◌, ℕ, ◌⊎◌, Bool, true, false, not, ◌&&◌, if◌then◌else◌, List, Some, None, ⊎_elim, ap, sym, subst, ◌∙◌, refl}
 use Rattle.std.specs.Prelude.{◌==◌, ◌||◌}
 use Rattle.std.proofs.lemmas.Bool.{eqb-true, eqb-false}
+use Rattle.law_world.proofs.Common.{skipped}
 use Rattle.usb_base.specs.declared.packets.Ask.{Ask}
 use Rattle.usb_base.specs.declared.packets.Reply.{Reply}
 use Rattle.link_words.specs.declared.kinds.QtdLink.{QtdLink}
@@ -64,11 +65,7 @@ ended walks.Ended is none = refl
 ended walks.Fault is none = absurd (none refl)
 ended _ is none = absurd (cc)
 
-passed : (k : WalkStep) → hc_step k ≡ steps.Skip → k ≡ walks.Skip
-passed walks.Skip is = refl
-passed _ is = absurd (cc)
-
--- ---- a queue head that is passed
+-- ---- a queue head that is skipped
 
 used_up_at : (q : Qh) (uncounted none_left : Bool) → (q.rl == 0) ≡ uncounted → (q.nak_cnt == 0) ≡ none_left
     → (uncounted || not none_left) ≡ false → NaksAreUsedUp q
@@ -230,11 +227,11 @@ module _ (fixed : Fixed) (w : World) (k : IsMixedWorld w) where
   passes_for = record {
     going = λ is skip.
         passed_there (walk_place c)
-        (passed_at (started (walk_place c)) (skips_for_a_reason (walk_place c) (passed (walk_step c) (sym (kind_is rows.Go is) ∙ skip))));
+        (passed_at (started (walk_place c)) (skips_for_a_reason (walk_place c) (skipped (walk_step c) (sym (kind_is rows.Go is) ∙ skip))));
     beginning = λ is skip.
         none_passed (started (walk_place (entered c))) refl
         (passed_at (started (walk_place (entered c)))
-        (skips_for_a_reason (walk_place (entered c)) (passed (walk_step (entered c)) (sym (kind_is rows.Enter is) ∙ skip))));
+        (skips_for_a_reason (walk_place (entered c)) (skipped (walk_step (entered c)) (sym (kind_is rows.Enter is) ∙ skip))));
   }
 
   works_in_ring : WorksInRing w

@@ -1,5 +1,9 @@
 -- The row that gives back the blocks of a harvested get, put or request leaves a world mixed, wherever its queue head stands.
-use Rattle.std.proofs.Common.{◌≡◌, ℕ, zero, suc, ◌*◌, ◌<◌, ◌≤◌, ◌==◌, Bool, true, false, if◌then◌else◌, List, [], ◌∷◌, length, slice_get, Option, Some, None, ap, refl, sym, subst, ◌∙◌, inl, arith}
+use Rattle.std.proofs.Common.{◌≡◌, ℕ, ◌*◌, ◌≤◌, ◌==◌, Bool, true, false, if◌then◌else◌, List, [], slice_get, Option, Some, None, ap, refl, sym, subst, ◌∙◌, inl, arith}
+use Rattle.law_common.proofs.Lists.{there_at}
+use Rattle.law_driver.proofs.Common.{times_of}
+use Rattle.law_common.proofs.Booleans.{owed_by}
+use Rattle.law_world.proofs.Common.{none_some}
 use Rattle.mem_runs.specs.Book.{holding}
 use Rattle.drv_table.specs.declared.content.Command.TheVariants as unfinished
 use Rattle.drv_table.specs.declared.content.Endpoint.{Endpoint}
@@ -36,7 +40,6 @@ use Rattle.law_queues.proofs.lemmas.released_queues.Fewer.{fewer_rise}
 use Rattle.law_queues.proofs.lemmas.released_queues.Releasing.{release_keeps_met}
 use Rattle.law_queues.proofs.lemmas.released_queues.Staying.{release_stays}
 use Rattle.law_queues.specs.released_queues.Fronts.{FrontsStand}
-use Rattle.law_queues.proofs.lemmas.standing_fronts.Lists.{times_some}
 use Rattle.law_world.specs.steps.control_queues.Controls.{ControlsStand}
 use Rattle.law_world.proofs.lemmas.steps.lemmas.control_queues.Alike.{same_there, stand_by}
 use Rattle.law_world.proofs.lemmas.steps.lemmas.control_queues.Lists.{IsPart, all_part, staying_part, part_among, part_sorted}
@@ -45,12 +48,10 @@ use Rattle.law_driver.specs.queued_drivers.Queued.{with_queue, queued, queued_pa
 use Rattle.law_driver.specs.queued_drivers.Rows.{IsToldAlike}
 use Rattle.law_driver.proofs.lemmas.queued_drivers.RowLists.{queue_at, moves_at}
 use Rattle.law_descriptors.specs.queue_events.Events.{PartsStand}
-use Rattle.law_descriptors.proofs.Returning.{owed_by}
 use Rattle.bus_world.specs.World.{World, controller_parts, driver_parts, driver_next}
 use Rattle.law_world.specs.memory.Mixed.{Standing, IsMixedAt}
 use Rattle.law_world.specs.memory.Steps.{returns, IsMixedNext}
 use Rattle.law_world.specs.memory.Laws.{RowKeepsMixed}
-use Rattle.law_world.proofs.lemmas.memory.Unfinished.{none_unfinished}
 use Rattle.law_world.proofs.lemmas.memory.QueueViews.{queue_back}
 use Rattle.law_world.proofs.lemmas.memory.HarvestKept.{owners_of, driven_of, runs_of, fronts_of, IsIdleNext, idle_mixed}
 use Rattle.law_world.proofs.lemmas.memory.RingBasis.{due_is, row_alike, queued_next, told_row}
@@ -66,11 +67,6 @@ record IsOwed (o : Option Transfer) : Type 0 where
 owed_one : (o : Option Transfer) → 1 ≤ owes o → IsOwed o
 owed_one None some = absurd (omega (arith, some))
 owed_one (Some y) some = let both = owed_by y.reported y.released some in record { transfer = y; here = refl; reported = both.0; held = both.1 }
-
-there_at : {X : Type 0} (xs : List X) (i : ℕ) → i < length xs → (x : X) × (slice_get xs i ≡ Some x)
-there_at [] i below = absurd (omega (arith, below))
-there_at (x ∷ xs) zero below = (x, refl)
-there_at (x ∷ xs) (suc i) below = there_at xs i (omega (arith, below))
 
 -- ---- structures that are gone
 
@@ -110,7 +106,7 @@ module _ (s : Standing) (w : World) (k : IsMixedAt s w) (t : ℕ) (row : driver_
 
   owed : IsOwed (slice_get w.driver.transfers t)
   owed =
-      let some = times_some w.driver.harvested 0 t due.first in
+      let some = times_of w.driver.harvested 0 t due.first in
       let most = k.now.framed.place.sound.owners.orderly.harvests t in
       owed_one (slice_get w.driver.transfers t) (omega (arith, some, most))
 
@@ -164,7 +160,7 @@ module _ (s : Standing) (w : World) (k : IsMixedAt s w) (t : ℕ) (row : driver_
 
   met : IsMet (queued w.driver) owed.transfer.endpoint (with_queue its_endpoint.0)
   met = record {
-    there = record { linked = λ is. none_unfinished (unfinished.Open its_endpoint.0.queue) (sym now_due.idle ∙ is); kept = held_alive (queued w.driver) t owed.transfer (with_queue its_endpoint.0) k.turns.turns.turns there owed.held here };
+    there = record { linked = λ is. none_some (unfinished.Open its_endpoint.0.queue) (sym now_due.idle ∙ is); kept = held_alive (queued w.driver) t owed.transfer (with_queue its_endpoint.0) k.turns.turns.turns there owed.held here };
     near = returning.near;
   }
 

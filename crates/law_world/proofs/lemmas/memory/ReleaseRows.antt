@@ -3,6 +3,8 @@ use Rattle.std.proofs.Common.{◌≡◌, ℕ, zero, suc, Bool, true, false, List
 use Rattle.std.proofs.Common.{Some, None, cond, is_none, nat_lt, nat_le, ◌&&◌, ap, refl, sym, subst, ◌∙◌}
 use Rattle.std.specs.List.{AllByRecursion}
 use Rattle.std.specs.Prelude.{if◌then◌else◌, slice_set}
+use Rattle.law_descriptors.proofs.Common.{next_removals}
+use Rattle.law_common.proofs.Lists.{all_both, all_more, set_here}
 use Rattle.usb_base.specs.declared.commands.Cmd.{Cmd}
 use Rattle.usb_base.specs.declared.commands.Cmd.TheVariants as commands
 use Rattle.usb_base.specs.declared.reports.What.TheVariants as lines
@@ -15,7 +17,7 @@ use Rattle.drv_periodic_table.specs.declared.content.DescriptorNote.{DescriptorN
 use Rattle.drv_periodic_table.specs.declared.content.Removal.{Removal}
 use Rattle.drv_periodic_table.specs.declared.content.Removed.{Removed}
 use Rattle.drv_periodic_table.specs.declared.content.Removed.TheVariants as removed
-use Rattle.drv_periodic_table.specs.Linking.{begun_next, with_first}
+use Rattle.drv_periodic_table.specs.Linking.{begun_next}
 use Rattle.drv_periodic_table.specs.Periodic.{PeriodicContent, read_once, read_again}
 use Rattle.drv_table.specs.declared.content.Bell.{Bell}
 use Rattle.drv_table.specs.declared.content.Bell.TheVariants as bells
@@ -36,8 +38,6 @@ use Rattle.drv_table.specs.Harvests.{reported}
 use Rattle.drv_table.specs.Releases.{after_endpoint, cancel_told, cancelled_bytes, is_told}
 use Rattle.drv_table.specs.Removals.{after_unlink, after_descriptor, after_placed}
 use Rattle.drv_table.specs.Rows.{after_driver_row}
-use Rattle.law_devices.proofs.Lists.{all_append, all_more}
-use Rattle.law_driver.proofs.lemmas.run_owners.Released.{set_here}
 use Rattle.law_footprints.specs.Footprint.{footprint, offer_footprint}
 use Rattle.law_footprints.proofs.Fields.{waiting_stays, rung_stays, cleared_stays, bell_stays, removals_stays}
 use Rattle.claims_world.specs.Releases.{LeavesRing, LeavesFrames, frindex_read}
@@ -65,7 +65,7 @@ module _ (P : ℕ → Type 0) where
             (record x { linked = false });
       } else d).waiting
   left_by d e x true is here new w =
-      all_append P d.waiting (e ∷ []) w (
+      all_both P d.waiting (e ∷ []) w (
         new
             (record {
               before = x;
@@ -120,7 +120,7 @@ module _ (P : ℕ → Type 0) where
 
   pub rung_then : (row : DriverRow) (p : Parts) → (row ≡ rows.RingBell → All P p.driver.waiting) → All P p.driver.rung
       → All P (after_driver_row row p).driver.rung
-  rung_then rows.RingBell p rings rung = all_append P p.driver.rung p.driver.waiting rung (rings refl)
+  rung_then rows.RingBell p rings rung = all_both P p.driver.rung p.driver.waiting rung (rings refl)
   rung_then rows.ClearAdvance p rings rung = tt
   rung_then row p rings rung = subst (All P) (sym (rung_stays row p p.driver.command refl refl)) rung
 
@@ -140,7 +140,7 @@ module _ (P : ℕ → Type 0) where
 
   pub cleared_then : (row : DriverRow) (p : Parts) → (row ≡ rows.ClearAdvance → All P p.driver.rung) → All P p.driver.cleared
       → All P (after_driver_row row p).driver.cleared
-  cleared_then rows.ClearAdvance p clears cleared = all_append P p.driver.cleared p.driver.rung cleared (clears refl)
+  cleared_then rows.ClearAdvance p clears cleared = all_both P p.driver.cleared p.driver.rung cleared (clears refl)
   cleared_then (rows.ReleaseEndpoint e) p clears cleared = endpoint_cleared p e (slice_get p.driver.endpoints e) cleared
   cleared_then row p clears cleared = subst (All P) (sym (cleared_stays row p p.driver.command refl refl)) cleared
 
@@ -160,17 +160,6 @@ heard_then row p P Q more was now is =
 
 -- ---- what left the frame list
 
-begun_same : (removes : Bool) (q : PeriodicContent) → (begun_next removes q).removals ≡ q.removals
-begun_same removes q = by_work (is_none q.list.work)
-  where
-    by_first : (ms : List Member) → (with_first removes q ms).removals ≡ q.removals
-    by_first [] = refl
-    by_first (m ∷ ms) = refl
-
-    by_work : (b : Bool) → (cond b (with_first removes q q.queued) q).removals ≡ q.removals
-    by_work true = by_first q.queued
-    by_work false = refl
-
 abbrev frames_out : DriverContent → ℕ → Endpoint → Bool → DriverContent
 frames_out d e x on = cond on (record d {
   endpoints = slice_set d.endpoints e (record x { chained = false });
@@ -185,7 +174,7 @@ module _ (P : Removal → Type 0) where
   gone_from : (d : DriverContent) (e : ℕ) (x : Endpoint) (on : Bool) → x.chained ≡ on → slice_get d.endpoints e ≡ Some x
       → NewGone d.endpoints (frames_out d e x on).endpoints e → All P d.periodic.removals → All P (frames_out d e x on).periodic.removals
   gone_from d e x true is here new r =
-      all_append P d.periodic.removals (removal_of (removed.Endpoint e) ∷ []) r (
+      all_both P d.periodic.removals (removal_of (removed.Endpoint e) ∷ []) r (
         new (record {
           before = x;
           after = record x { chained = false };
@@ -216,7 +205,7 @@ module _ (P : Removal → Type 0) where
   linked_unchain d e new r =
       let q : PeriodicContent = record d.periodic { list = list_after d (unfinished.Unchain e) } in
       let h : DriverContent = record d { made = length (events_of (unfinished.Unchain e)); periodic = begun_next true q } in
-      finished_by h e (is_none h.periodic.list.work) new (subst (All P) (sym (begun_same true q)) r)
+      finished_by h e (is_none h.periodic.list.work) new (subst (All P) (sym (next_removals true q)) r)
 
   unchain_by : (d : DriverContent) (e : ℕ) (more : Bool) → NewGone d.endpoints
       (cond more (record d { made = suc d.made }) (linked_on d (unfinished.Unchain e))).endpoints e
@@ -250,7 +239,7 @@ module _ (P : Removal → Type 0) where
         there = l.there;
         unlinked = l.unlinked;
       }))
-      (subst (All P) (sym (begun_same true (record d.periodic { queued = ms }))) r)
+      (subst (All P) (sym (next_removals true (record d.periodic { queued = ms }))) r)
     where
       is_chained : Option Endpoint → Bool
       is_chained None = false
@@ -267,7 +256,7 @@ module _ (Q : Removal → Type 0) where
   unlink_out : (p : Parts) (t : ℕ) (o : Option Transfer) → Q (removal_of (removed.Descriptor t)) → All Q p.driver.periodic.removals
       → All Q (after_unlink p t o).driver.periodic.removals
   unlink_out p t None new r = r
-  unlink_out p t (Some x) new r = all_append Q p.driver.periodic.removals (removal_of (removed.Descriptor t) ∷ []) r (new, tt)
+  unlink_out p t (Some x) new r = all_both Q p.driver.periodic.removals (removal_of (removed.Descriptor t) ∷ []) r (new, tt)
 
   descriptor_out : (p : Parts) (t : ℕ) (o : Option Transfer) → All Q p.driver.periodic.removals
       → All Q (after_descriptor p t o).driver.periodic.removals

@@ -3,11 +3,14 @@ use Rattle.std.proofs.Common.{◌≡◌, ◌≢◌, ℕ, ◌-◌, ◌*◌, ◌==
 use Rattle.std.specs.Prelude.{not}
 use Rattle.std.proofs.lemmas.Bool.{or_right, true≢false, false≢true, cases_eq, and_parts, and_from, false_from_ne_true}
 use Rattle.std.proofs.lemmas.Option.{same_Some}
+use Rattle.law_world.proofs.Common2.{idle_there}
+use Rattle.law_common.proofs.Lists.{set_here, set_there}
+use Rattle.law_world.proofs.Common.{times_one, told_same}
+use Rattle.law_common.proofs.Booleans.{and_true}
 use Rattle.mem_runs.specs.Book.{Book, holding}
 use Rattle.drv_periodic_table.specs.Periodic.{is_periodic}
 use Rattle.drv_periodic_table.specs.declared.content.Removed.TheVariants as removed
 use Rattle.drv_table.specs.declared.content.Command.{Command}
-use Rattle.drv_table.specs.declared.content.Command.TheVariants as unfinished
 use Rattle.drv_table.specs.declared.content.Endpoint.{Endpoint}
 use Rattle.drv_table.specs.declared.rows.DriverRow.{DriverRow}
 use Rattle.drv_table.specs.declared.rows.DriverRow.TheVariants as rows
@@ -22,7 +25,7 @@ use Rattle.law_driver.specs.run_owners.Due.{IsRemovalDue}
 use Rattle.claims_driver.specs.Leaving.{HasOwners, leaves_ring}
 use Rattle.law_driver.proofs.lemmas.run_owners.Leaves.{first_removed}
 use Rattle.law_driver.proofs.lemmas.run_owners.Orders.{IsRemoved}
-use Rattle.law_driver.proofs.lemmas.run_owners.Released.{set_here, set_there, cancel_same}
+use Rattle.law_driver.proofs.lemmas.run_owners.Released.{cancel_same}
 use Rattle.law_driver.specs.endpoint_lives.Lives.{is_one_of, may_meet}
 use Rattle.law_driver.proofs.lemmas.endpoint_lives.Lives.{met_alike}
 use Rattle.law_structures.specs.lent_structures.Structures.{StructureSets}
@@ -33,7 +36,7 @@ use Rattle.claims_base.specs.Controller.{opening_base}
 use Rattle.law_driver.specs.chained_transfers.AsynchronousTurns.{AsynchronousTakesTurns}
 use Rattle.law_descriptors.proofs.GivenRow.{row_gives_back_passed}
 use Rattle.law_queues.proofs.lemmas.fed_lends.Asked.{set_which}
-use Rattle.law_driver_ring.specs.fed_queues.Places.{IsThere, IsMet, HasHead, AreMet, HaveStreams}
+use Rattle.law_driver_ring.specs.fed_queues.Places.{IsMet, HasHead, AreMet, HaveStreams}
 use Rattle.law_frames.specs.Met.{IsQueuePart}
 use Rattle.law_world.specs.memory.framed_memory.Now.{FramedNext}
 use Rattle.law_world.specs.steps.endpoint_releases.Released.{without_queue, IsToLeave}
@@ -43,7 +46,7 @@ use Rattle.law_queues.specs.leaving_drivers.Before.{WasSame, UnlinksAtMost, IsAs
 use Rattle.law_world.specs.steps.left_queues.Standing.{IdleTailsStand, AllStand, met_streams}
 use Rattle.law_world.proofs.lemmas.steps.lemmas.left_queues.Returned.{endpoint_release_stands}
 use Rattle.law_world.proofs.lemmas.steps.lemmas.left_queues.Same.{fed_now, last_now, still_out_now, fronts_now, tails_now}
-use Rattle.law_world.proofs.lemmas.steps.lemmas.left_queues.Unmet.{times_one, apart_by, off_head_by}
+use Rattle.law_world.proofs.lemmas.steps.lemmas.left_queues.Unmet.{apart_by, off_head_by}
 use Rattle.law_queues.proofs.lemmas.mended_heads.Rows.{gives_back, given_mends, given_owes_none}
 use Rattle.law_queues.specs.standing_fronts.Reaching.{Reaches}
 use Rattle.law_queues.specs.standing_fronts.Tails.{tail_block}
@@ -59,16 +62,11 @@ use Rattle.law_driver.proofs.lemmas.listed_members.Unchaining.{elsewhere_on, els
 use Rattle.bus_world.specs.World.{World, driver_parts, controller_parts, driver_next}
 use Rattle.law_world.specs.memory.Mixed.{QueuesGoOn, IsUnderWay, Standing, IsMixedAt}
 use Rattle.law_world.specs.memory.Steps.{left_its_frames, QueueStep, goes as step_goes, IsMixedNext}
-use Rattle.law_world.proofs.lemmas.memory.Unfinished.{none_unfinished}
 use Rattle.law_world.proofs.lemmas.memory.Next.{mixed_next}
 use Rattle.law_world.proofs.lemmas.memory.QueueViews.{told_queue}
 use Rattle.law_world.proofs.lemmas.memory.CommandTails.{idle_ends}
 use Rattle.law_world.proofs.lemmas.memory.Alike.{same_lent, goes_on_alike}
-use Rattle.law_world.proofs.lemmas.memory.ChainReady.{and_true, off_ring}
-use Rattle.law_world.proofs.lemmas.memory.RingReleasing.{told_same}
-
-idle_there : (d : DriverContent) (x : Endpoint) → d.command ≡ None → x.gone ≡ false → IsThere d x
-idle_there d x idle kept = record { linked = λ is. none_unfinished (unfinished.Open x.queue) (sym idle ∙ is); kept = kept }
+use Rattle.law_world.proofs.lemmas.memory.ChainReady.{off_ring}
 
 -- ---- an endpoint leaves the ring at once: neither the doorbell nor its answer is waited for
 

@@ -5,6 +5,7 @@ use Rattle.std.proofs.Common.{slice_get, is_none, Option, Some, None, option_map
 use Rattle.std.proofs.lemmas.Bool.{cases_eq}
 use Rattle.std.proofs.lemmas.List.{append_assoc}
 use Rattle.std.proofs.lemmas.Option.{same_Some}
+use Rattle.law_common.proofs.Lists.{append_none, set_here, set_there}
 use Rattle.usb_base.specs.declared.reports.What.TheVariants as lines
 use Rattle.word_mem.specs.Memory.{Mem}
 use Rattle.mem_runs.specs.Book.{holding, lend_taken}
@@ -26,10 +27,9 @@ use Rattle.drv_table.specs.Releases.{after_endpoint, cancel_told, cancelled_byte
 use Rattle.drv_table.specs.Removals.{after_placed}
 use Rattle.drv_table.specs.Rows.{after_driver_row}
 use Rattle.claims_driver.specs.Ring.{IsAmong, first, later}
-use Rattle.law_driver.proofs.lemmas.ring_members.Events.{no_more}
 use Rattle.law_driver.proofs.lemmas.ring_members.Harvests.{endpoint_set, harvest_stays}
 use Rattle.law_driver.proofs.lemmas.ring_members.Links.{RingOf, ring_of, SameRing}
-use Rattle.law_driver.proofs.lemmas.run_owners.Released.{set_here, set_there, cancel_same}
+use Rattle.law_driver.proofs.lemmas.run_owners.Released.{cancel_same}
 use Rattle.law_footprints.proofs.Fields.{endpoints_stays, command_stays, cleared_stays, rung_stays, waiting_stays}
 use Rattle.law_footprints.specs.Footprint.{footprint}
 
@@ -91,7 +91,7 @@ same_lists xs ys is i = ap (λ (zs : List Endpoint). option_map ring_of (slice_g
 
 more_none : (b : Before) (new : DriverContent) → new.cleared ≡ b.cleared → new.rung ≡ b.rung → new.waiting ≡ b.waiting → NextLeft b new
 more_none b new cleared rung waiting =
-    goes_on [] cleared (ap (λ es. es ++ new.waiting) rung ∙ ap (λ es. b.rung ++ es) waiting ∙ sym (no_more (b.rung ++ b.waiting)))
+    goes_on [] cleared (ap (λ es. es ++ new.waiting) rung ∙ ap (λ es. b.rung ++ es) waiting ∙ sym (append_none (b.rung ++ b.waiting)))
 
 stays : (b : Before) (new : DriverContent) → SameRing b.endpoints new.endpoints → (new.command ≡ b.command) ⊎ (new.command ≡ None)
     → new.cleared ≡ b.cleared → new.rung ≡ b.rung → new.waiting ≡ b.waiting → Goes b new
@@ -228,7 +228,7 @@ told_cleared d m e x = told_by (is_told x) d (reported d lines.Cancel x.desc.nam
 endpoint_left : (p : Parts) (e : ℕ) (o : Option Endpoint)
     → (after_endpoint p e o).driver.rung ++ (after_endpoint p e o).driver.waiting ≡ p.driver.rung ++ p.driver.waiting
     → NextLeft (before_of p.driver) (after_endpoint p e o).driver
-endpoint_left p e None same = goes_on [] refl (sym (no_more (p.driver.rung ++ p.driver.waiting)))
+endpoint_left p e None same = goes_on [] refl (sym (append_none (p.driver.rung ++ p.driver.waiting)))
 endpoint_left p e (Some x) same = gives (ap (λ (es : List ℕ). drop 1 es) (told_cleared p.driver p.memory e x)) same
 
 -- ---- each row

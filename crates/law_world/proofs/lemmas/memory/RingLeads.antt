@@ -1,18 +1,22 @@
 -- Where the queue heads of the ring lead, and those that have left it.
 use Rattle.std.proofs.Common.{◌≡◌, ◌≢◌, ℕ, ◌+◌, ◌*◌, ◌/◌, ◌≤◌, true, List, [], ◌∷◌, ◌++◌, length, take, slice_get, get_or}
-use Rattle.std.proofs.Common.{Option, Some, ap, sym, subst, ◌∙◌, ⊎_elim, inl, inr, refl, arith}
-use Rattle.std.specs.Prelude.{◌⊎◌, ◌-◌, slice_index}
+use Rattle.std.proofs.Common.{Option, Some, ap, sym, subst, ◌∙◌, ⊎_elim, inl, refl, arith}
+use Rattle.std.specs.Prelude.{◌-◌, slice_index}
 use Rattle.std.proofs.lemmas.Bool.{false≢true, cases_eq}
 use Rattle.std.proofs.lemmas.Option.{same_Some}
+use Rattle.law_world.proofs.Common2.{queue_told}
+use Rattle.law_driver_ring.proofs.Common.{head_link}
+use Rattle.law_ring.proofs.Common.{one_link}
+use Rattle.law_world.proofs.Common2.{among_either}
+use Rattle.law_common.proofs.Lists.{push_which}
+use Rattle.law_driver.proofs.Common.{newest_get}
+use Rattle.law_world.proofs.Common.{without_last}
 use Rattle.word_mem.specs.declared.blocks.BlockState.TheVariants.{Lent}
 use Rattle.word_mem.specs.Memory.{Mem, word_at, state_at}
 use Rattle.word_mem.specs.Views.{words_at}
 use Rattle.word_mem.proofs.Words.{get_or-words_in}
 use Rattle.link_words.specs.declared.kinds.Link.TheVariants as links
-use Rattle.link_words.specs.Links.{link_of, link_read}
-use Rattle.qh_qtd.specs.declared.queue_head.Qh.{Qh}
-use Rattle.qh_qtd.specs.QueueHead.{qh_words}
-use Rattle.qh_qtd.proofs.QhLaws.{qh_read-words, qh_read-link}
+use Rattle.link_words.specs.Links.{link_read}
 use Rattle.drv_table.specs.declared.content.Command.{Command}
 use Rattle.drv_table.specs.declared.content.Command.TheVariants as unfinished
 use Rattle.drv_table.specs.declared.content.Endpoint.{Endpoint}
@@ -22,17 +26,15 @@ use Rattle.bus_world.specs.World.{World, controller_parts}
 use Rattle.claims_base.specs.Controller.{opening_base}
 use Rattle.claims_driver.specs.Leaving.{HasOwners, times}
 use Rattle.claims_driver.specs.Ring.{link_in, IsAmong, first, later, IsQueueOf}
-use Rattle.law_driver.specs.ring_members.Words.{AreLinked, step_to, IsTarget, to_head, to_member, to_later, AreLeaving, IsOpening, StandsFor}
+use Rattle.law_driver.specs.ring_members.Words.{AreLinked, IsTarget, to_head, to_member, to_later, AreLeaving, IsOpening, StandsFor}
 use Rattle.claims_world.specs.Memory.{linked_to}
 use Rattle.claims_world.specs.Links.{IsLive, the_head, a_queue, LeadsTo, IsLiveOrLater, live, left_later, AreLeft}
 use Rattle.law_driver.specs.ring_members.Links.{newest_from}
 use Rattle.law_driver.specs.endpoint_lives.Lives.{may_meet}
 use Rattle.law_driver.proofs.lemmas.endpoint_lives.Lives.{waiting_met, rung_met}
-use Rattle.law_driver.proofs.lemmas.run_owners.Ordered.{pushed}
 use Rattle.law_driver.proofs.lemmas.run_owners.Orders.{times_both}
 use Rattle.law_driver.proofs.lemmas.ring_members.Links.{LeadsTo as LeadsIn, newest_is}
 use Rattle.law_driver.proofs.lemmas.ring_members.Leaving.{link_at, get_take}
-use Rattle.law_driver.proofs.lemmas.ring_members.Events.{newest_get}
 use Rattle.law_driver.proofs.lemmas.ring_members.Placed.{left_alive, left_ring, in_ring_alive, queues_apart}
 use Rattle.law_driver_ring.proofs.lemmas.walk_members.Decoding.{link_decoded}
 use Rattle.law_driver_ring.specs.fed_queues.Places.{IsMet, HasHead}
@@ -44,13 +46,9 @@ use Rattle.law_descriptors.specs.Both.{both}
 use Rattle.law_descriptors.specs.Meeting.{met}
 use Rattle.law_controller.specs.frame_control.Both.{RunsBoth}
 use Rattle.law_world.specs.memory.Mixed.{Standing, IsMixedAt}
-use Rattle.law_world.proofs.lemmas.memory.Rings.{without_last, linked_now}
+use Rattle.law_world.proofs.lemmas.memory.Rings.{linked_now}
 
 -- ---- those in the ring
-
-head_newest : (word : ℕ → ℕ) (b : ℕ) (xs : List Endpoint) → AreLinked word b xs → word head_block ≡ queue_head_link (newest_from b xs)
-head_newest word b [] linked = linked
-head_newest word b (x ∷ xs) linked = head_newest word (step_to b x) xs linked.1
 
 to_newest : (d : DriverContent) (zs : List Endpoint)
     → ((i : ℕ) (y : Endpoint) → slice_get zs i ≡ Some y → slice_get (linked_to d.command d.endpoints) i ≡ Some y)
@@ -70,7 +68,7 @@ live_leads m d stands b (the_head at) =
     let xs : List Endpoint = linked_to d.command d.endpoints in
     let linked : AreLinked (link_in m) head_block xs = linked_now (link_in m) d.endpoints d.transfers d.command stands in
     subst (λ (c : ℕ). LeadsTo (IsLive d) (link_in m c)) (sym at)
-    (to_newest d xs (λ i y there. there) (link_in m head_block) (head_newest (link_in m) head_block xs linked))
+    (to_newest d xs (λ i y there. there) (link_in m head_block) (head_link (link_in m) head_block xs linked))
 live_leads m d stands b (a_queue e x here on at) =
     let xs : List Endpoint = linked_to d.command d.endpoints in
     let linked : AreLinked (link_in m) head_block xs = linked_now (link_in m) d.endpoints d.transfers d.command stands in
@@ -80,12 +78,6 @@ live_leads m d stands b (a_queue e x here on at) =
 
 -- ---- those that left may still be met
 
-among_parts : (f : ℕ) (es fs : List ℕ) → IsAmong f (es ++ fs) → IsAmong f es ⊎ IsAmong f fs
-among_parts f [] fs a = inr a
-among_parts f (e ∷ es) fs (first _) = inl (first es)
-among_parts f (e ∷ es) fs (later _ _ rest) =
-    ⊎_elim (λ (w : IsAmong f es). inl (later e es w)) (λ (w : IsAmong f fs). inr w) (among_parts f es fs rest)
-
 module _ (d : DriverContent) (has : HasOwners d) where
   few : (e : ℕ) → times e (d.rung ++ d.waiting) ≤ times e d.rung + times e d.waiting
   few e = omega (arith, times_both e d.rung d.waiting)
@@ -93,7 +85,7 @@ module _ (d : DriverContent) (has : HasOwners d) where
   left_met : (e : ℕ) (x : Endpoint) → IsAmong e (d.rung ++ d.waiting) → may_meet d e x ≡ true
   left_met e x among =
       ⊎_elim (λ (w : IsAmong e d.rung). rung_met d e x (among_one e d.rung w))
-      (λ (w : IsAmong e d.waiting). waiting_met d e x (among_one e d.waiting w)) (among_parts e d.rung d.waiting among)
+      (λ (w : IsAmong e d.waiting). waiting_met d e x (among_one e d.waiting w)) (among_either e d.rung d.waiting among)
 
   -- it isn't the one that an unfinished open links
   not_opening : (m : Mem) (e : ℕ) (x : Endpoint) → StandsFor (link_in m) d.endpoints d.transfers d.command → IsAmong e (d.rung ++ d.waiting)
@@ -129,17 +121,9 @@ first_of_words m a n many =
     let same : (a + 4 * 0) / 4 ≡ a / 4 = omega arith in
     get_or-words_in m.words a n 0 many ∙ ap (λ (k : ℕ). get_or m.words k 0) same
 
-held_link : (m : Mem) (a : ℕ) (q : Qh) → HoldsQueueHead m a q → link_of q.link ≡ link_read (word_at m a)
-held_link m a q h =
-    qh_read-link (qh_words q) q (qh_read-words q h.range) ∙ ap (λ ws. link_read (slice_index ws 0)) (sym h.words)
-    ∙ ap link_read (first_of_words m a 12 (omega arith))
-
 read_as : (b : ℕ) → link_read (queue_head_link b) ≡ links.Qh (32 * b)
 unfolding link_read
 read_as b = link_decoded b
-
-same_to : (a c : ℕ) → links.Qh a ≡ links.Qh c → a ≡ c
-same_to a c same = cc
 
 module _ (s : Standing) (w : World) (k : IsMixedAt s w) where
   abbrev d : DriverContent
@@ -163,8 +147,8 @@ module _ (s : Standing) (w : World) (k : IsMixedAt s w) where
       let member : IsMember s.member (32 * b) (both s.descs s.parts (32 * b)) = runs.ring.members (32 * b) on in
       let holds : HoldsQueueHead m (32 * b) member.queue = runs.ring.tells.each (32 * b) (32 * b) (QueueHead member.queue) member.here in
       let same : links.Qh member.link.to ≡ links.Qh (32 * to)
-      = sym member.link.leads ∙ held_link m (32 * b) member.queue holds ∙ ap link_read link ∙ read_as to in
-      subst (λ (n : ℕ). s.member n ≡ true) (same_to member.link.to (32 * to) same) member.link.on
+      = sym member.link.leads ∙ queue_told m (32 * b) member.queue holds ∙ ap link_read link ∙ read_as to in
+      subst (λ (n : ℕ). s.member n ≡ true) (one_link member.link.to (32 * to) same) member.link.on
 
   -- and it is Lent
   pub left_lent : (e : ℕ) (x : Endpoint) → IsAmong e (w.driver.rung ++ w.driver.waiting) → slice_get w.driver.endpoints e ≡ Some x
@@ -197,7 +181,7 @@ module _ (s : Standing) (w : World) (k : IsMixedAt s w) where
       (λ (h : HasHead d (32 * b)).
       absurd (h.met.there.linked (is ∙ ap (λ (n : ℕ). Some (unfinished.Open n)) (sym itself ∙ same_block b h.endpoint.queue h.at))))
       (k.ring.only (32 * b) on))
-      (pushed o.older o.new e at.endpoint (sym (ap (λ (xs : List Endpoint). slice_get xs e) o.all) ∙ at.here))
+      (push_which o.older o.new e at.endpoint (sym (ap (λ (xs : List Endpoint). slice_get xs e) o.all) ∙ at.here))
 
   live_by : (e b : ℕ) (o : Option Command) → d.command ≡ o → s.member (32 * b) ≡ true → (at : IsQueueOf d.endpoints e b)
       → at.endpoint.linked ≡ true → IsLive d b

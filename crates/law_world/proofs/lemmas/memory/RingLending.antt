@@ -1,5 +1,7 @@
 -- A new queue head of the ring is lent, in a world with endpoints of every kind: it waits for the link of the head.
 use Rattle.std.proofs.Common.{◌≡◌, ◌≢◌, ℕ, ◌*◌, Bool, false, ◌||◌, slice_get, Option, Some, option_map, ap, sym, subst, ◌∙◌, inr}
+use Rattle.law_common.proofs.Numbers.{same_blocks}
+use Rattle.law_driver.proofs.Common.{ring_queue}
 use Rattle.qh_qtd.specs.declared.queue_head.Qh.{Qh}
 use Rattle.drv_periodic_table.specs.Periodic.{is_periodic}
 use Rattle.drv_table.specs.declared.content.Endpoint.{Endpoint}
@@ -21,7 +23,6 @@ use Rattle.law_driver_ring.specs.Inventory.{sorts_of, IsDriven}
 use Rattle.law_driver_ring.specs.LendOpened.{IsOpened}
 use Rattle.claims_base.specs.Controller.{opening_base}
 use Rattle.law_driver.specs.chained_transfers.AsynchronousTurns.{AsynchronousTakesTurns}
-use Rattle.law_queues.proofs.lemmas.publish_laws.Apart.{thirty_two}
 use Rattle.law_queues.specs.open_laws.Lends.{IsOpenReady, parts_lent}
 use Rattle.law_queues.specs.open_laws.Queues.{IsOpenToLend, open_lent}
 use Rattle.law_queues.proofs.lemmas.open_laws.LentQueues.{open_lend_is_made}
@@ -32,7 +33,6 @@ use Rattle.law_descriptors.specs.queue_events.Events.{PartsStand}
 use Rattle.law_frames.specs.Met.{IsQueuePart}
 use Rattle.law_world.proofs.lemmas.memory.lemmas.framed_memory.RingLinksWaiting.{open_lend_meets, open_lend_now}
 use Rattle.law_driver.specs.queued_drivers.Queued.{with_queue, queued_command, queued_made, queued, queued_parts}
-use Rattle.law_driver.proofs.lemmas.queued_drivers.CommandFields.{ring_queue}
 use Rattle.law_driver.proofs.lemmas.queued_drivers.RowLists.{queue_at}
 use Rattle.law_driver.proofs.lemmas.queued_drivers.RowOwners.{queued_has_owners}
 use Rattle.bus_world.specs.World.{World, driver_parts, controller_parts, driver_next}
@@ -138,7 +138,7 @@ module _ (s : Standing) (w : World) (k : IsMixedAt s w) (r : IsOpenReady w.drive
 
   sound : PartsStand (open_lent q w.memory) now
   sound e y at met =
-      let differs : 32 * y.queue ≢ n = λ same. met.there.linked (command ∙ ap (λ (b : ℕ). Some (unfinished.Open b)) (sym (thirty_two y.queue x.queue same))) in
+      let differs : 32 * y.queue ≢ n = λ same. met.there.linked (command ∙ ap (λ (b : ℕ). Some (unfinished.Open b)) (sym (same_blocks y.queue x.queue same))) in
       subst (λ (part : Structures). IsQueuePart (32 * y.queue) part) (sym (stay (32 * y.queue) differs))
       (k.queues.sound e y at (record { there = record { linked = met.there.linked; kept = met.there.kept }; near = met.near }))
 

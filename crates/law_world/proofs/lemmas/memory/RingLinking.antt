@@ -2,6 +2,9 @@
 use Rattle.std.proofs.Common.{◌≡◌, ◌≢◌, ℕ, suc, ◌*◌, Bool, false, nat_lt, if◌then◌else◌, List, slice_get, Option, Some, None, ap, refl, sym, subst, ◌∙◌, ⊎_elim}
 use Rattle.std.proofs.lemmas.Bool.{cases_eq}
 use Rattle.std.proofs.lemmas.Option.{same_Some}
+use Rattle.law_common.proofs.Numbers.{same_blocks}
+use Rattle.law_driver.proofs.Common.{ring_queue}
+use Rattle.law_world.proofs.Common.{none_some}
 use Rattle.qh_qtd.specs.declared.queue_head.Qh.{Qh}
 use Rattle.drv_periodic_table.specs.Periodic.{is_periodic}
 use Rattle.drv_table.specs.declared.content.Endpoint.{Endpoint}
@@ -26,7 +29,7 @@ use Rattle.claims_base.specs.Controller.{opening_base}
 use Rattle.law_controller.specs.controlled_streams.Opened.{with_end, with_none}
 use Rattle.law_driver.specs.chained_transfers.AsynchronousTurns.{AsynchronousTakesTurns}
 use Rattle.law_queues.specs.publish_laws.Stores.{QueuesThen}
-use Rattle.law_queues.proofs.lemmas.publish_laws.Apart.{bare_not, thirty_two}
+use Rattle.law_queues.proofs.lemmas.publish_laws.Apart.{bare_not}
 use Rattle.law_queues.specs.standing_fronts.Reaching.{Reaches}
 use Rattle.law_queues.specs.standing_fronts.Tails.{tail_of, TailsStand}
 use Rattle.law_queues.specs.open_laws.Opens.{IsOpenLent, head_then, hand_then, end_then, streams_then}
@@ -45,14 +48,12 @@ use Rattle.law_world.proofs.lemmas.memory.lemmas.framed_memory.RingLinksMet.{hea
 use Rattle.law_world.proofs.lemmas.memory.lemmas.framed_memory.RingLinksOpen.{open_link_now}
 use Rattle.law_queues.specs.shared_memory.Shared.{next_parts, after_driver}
 use Rattle.law_driver.specs.queued_drivers.Queued.{with_queue, queued_command, queued_made, queued, queued_parts}
-use Rattle.law_driver.proofs.lemmas.queued_drivers.CommandFields.{ring_queue}
 use Rattle.law_driver.proofs.lemmas.queued_drivers.RowLists.{queue_at}
 use Rattle.law_driver.proofs.lemmas.queued_drivers.RowOwners.{queued_has_owners}
 use Rattle.law_queues.proofs.lemmas.lent_fronts.Parts.{member_head}
 use Rattle.bus_world.specs.World.{World, driver_parts, controller_parts, driver_next}
 use Rattle.law_world.specs.memory.Mixed.{QueuesGoOn, IsUnderWay, Standing, IsMixedAt}
 use Rattle.law_world.specs.memory.Steps.{QueueStep, opens as step_opens, linked_hand, same_frame, IsMixedNext}
-use Rattle.law_world.proofs.lemmas.memory.Unfinished.{none_unfinished}
 use Rattle.law_world.proofs.lemmas.memory.Next.{mixed_next}
 use Rattle.law_world.proofs.lemmas.memory.Alike.{relinked_same}
 use Rattle.law_world.proofs.lemmas.memory.Stepping.{queues_are}
@@ -175,12 +176,12 @@ module _ (s : Standing) (w : World) (k : IsMixedAt s w) (l : IsOpenLent w.driver
   stay : (e : ℕ) (y : Endpoint) → slice_get q.endpoints e ≡ Some y → y.gone ≡ false → now (32 * y.queue) ≡ s.parts (32 * y.queue)
   stay e y at kept =
       put_beside s.parts head_at head_at (QueueHead linked) (32 * y.queue)
-      (λ same. queue_off_head q e y told_owners at (bare_not y (turns.asynchronous.endpoints e y at) kept) (thirty_two y.queue head_block same))
+      (λ same. queue_off_head q e y told_owners at (bare_not y (turns.asynchronous.endpoints e y at) kept) (same_blocks y.queue head_block same))
 
   queues : QueuesThen f near streams ends now s.order out
   queues =
       let u = whole.queues in
-      head_keeps_queues f near streams ends s.parts s.order out head_at first.queue linked first.here (λ b words. none_unfinished (unfinished.Publish b words))
+      head_keeps_queues f near streams ends s.parts s.order out head_at first.queue linked first.here (λ b words. none_some (unfinished.Publish b words))
       (record { met = u.met; streams_are = u.streams_are; fed = u.fed; last = u.last; out_are = u.out_are })
 
   tails : TailsStand f now s.order out

@@ -2,6 +2,9 @@
 use Rattle.std.proofs.Common.{◌≡◌, ◌≢◌, ℕ, ◌*◌, Bool, true, false, cond, List, [], set, slice_get, Option, Some, None, option_map, unwrap_or, ap, refl, sym, subst, ◌∙◌, ⊎_elim, inl, inr}
 use Rattle.std.proofs.lemmas.Bool.{false≢true}
 use Rattle.std.proofs.lemmas.Option.{same_Some}
+use Rattle.law_world.proofs.Common.{told_same, near_alive}
+use Rattle.law_common.proofs.Lists.{set_here, set_there}
+use Rattle.law_common.proofs.Numbers.{same_blocks}
 use Rattle.usb_base.specs.declared.reports.What.TheVariants as lines
 use Rattle.mem_runs.specs.Book.{Book, holding}
 use Rattle.drv_table.specs.declared.content.Endpoint.{Endpoint}
@@ -22,7 +25,6 @@ use Rattle.law_driver.specs.endpoint_lives.Lives.{may_meet}
 use Rattle.law_driver.proofs.lemmas.endpoint_lives.Lives.{met_alike}
 use Rattle.law_driver.specs.run_owners.Due.{IsEndpointDue}
 use Rattle.claims_driver.specs.Leaving.{HasOwners}
-use Rattle.law_driver.proofs.lemmas.run_owners.Released.{set_here, set_there}
 use Rattle.law_driver.proofs.lemmas.ring_members.Placed.{has_queue, queue_off_head, queues_apart}
 use Rattle.law_structures.specs.lent_structures.Structures.{Structures, StructureSets}
 use Rattle.claims_base.specs.Controller.{opening_base}
@@ -34,7 +36,7 @@ use Rattle.law_world.proofs.lemmas.steps.lemmas.endpoint_releases.Owning.{queue_
 use Rattle.law_world.proofs.lemmas.steps.lemmas.endpoint_releases.Releasing.{due_is_to_leave}
 use Rattle.law_world.specs.steps.left_queues.Standing.{AllStand}
 use Rattle.law_world.proofs.lemmas.steps.lemmas.left_queues.Returned.{endpoint_release_stands}
-use Rattle.law_world.proofs.lemmas.steps.lemmas.left_queues.Unmet.{same_block, apart_by, IsCleared, cleared_is, near_other, cleared_unmet}
+use Rattle.law_world.proofs.lemmas.steps.lemmas.left_queues.Unmet.{apart_by, IsCleared, cleared_is, near_other, cleared_unmet}
 use Rattle.law_world.specs.steps.control_queues.Controls.{ControlsStand}
 use Rattle.law_world.proofs.lemmas.steps.lemmas.control_queues.Beside.{same_keep_controls}
 use Rattle.law_world.proofs.lemmas.steps.lemmas.control_queues.Returns.{leaver_keeps_controls}
@@ -53,15 +55,10 @@ use Rattle.law_world.specs.memory.Laws.{RowKeepsMixed}
 use Rattle.law_world.proofs.lemmas.memory.Next.{mixed_next}
 use Rattle.law_world.proofs.lemmas.memory.Stepping.{queues_are, near_without, streams_within}
 use Rattle.law_world.proofs.lemmas.memory.QueueViews.{told_queue}
-use Rattle.law_world.proofs.lemmas.memory.RingBasis.{near_alive, due_is, queued_next}
+use Rattle.law_world.proofs.lemmas.memory.RingBasis.{due_is, queued_next}
 use Rattle.law_world.proofs.lemmas.memory.CommandTails.{all_stand, tails_stand}
 
 -- ---- what the row changes
-
--- whether a line of the report tells it, the rest of the content is the same
-pub told_same : {X : Type 0} (f : DriverContent → X) (g d : DriverContent) (b : Bool) → f g ≡ f d → f (cond b g d) ≡ f d
-told_same f g d true same = same
-told_same f g d false same = refl
 
 module _ (p : Parts) (e : ℕ) (x : Endpoint) (here : slice_get p.driver.endpoints e ≡ Some x) where
   abbrev old : DriverContent
@@ -232,7 +229,7 @@ module _ (s : Standing) (w : World) (k : IsMixedAt s w) (e : ℕ) (row : driver_
   alone : HasHead d n → ⊥
   alone h =
       queues_apart d h.number e h.endpoint x owners h.here (near_alive d h.number h.endpoint owners h.here h.met.near) leaver.leaves.here (has_queue x leaver.leaves.queued leaver.leaves.held)
-      (near_other d e x leaver.leaves.here cleared.near h.number h.endpoint h.here h.met.near) (same_block h.endpoint.queue x.queue (sym h.at))
+      (near_other d e x leaver.leaves.here cleared.near h.number h.endpoint h.here h.met.near) (same_blocks h.endpoint.queue x.queue (sym h.at))
 
   unmet : s.member n ≡ false
   unmet = by (s.member n) refl
@@ -242,7 +239,7 @@ module _ (s : Standing) (w : World) (k : IsMixedAt s w) (e : ℕ) (row : driver_
       by true is =
           absurd
           (⊎_elim
-          (λ (head : n ≡ 32 * head_block). queue_off_head d e x owners leaver.leaves.here (has_queue x leaver.leaves.queued leaver.leaves.held) (same_block x.queue head_block head))
+          (λ (head : n ≡ 32 * head_block). queue_off_head d e x owners leaver.leaves.here (has_queue x leaver.leaves.queued leaver.leaves.held) (same_blocks x.queue head_block head))
           (λ (h : HasHead d n). alone h) (k.ring.only n is))
 
   framed : FramedNext opening_base s.member s.recent s.descs now s.hand s.frame (controller_parts w) d

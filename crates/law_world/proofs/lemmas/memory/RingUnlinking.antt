@@ -1,6 +1,8 @@
 -- A cancelled endpoint's queue head leaves the ring, in a world with endpoints of every kind: the queue head before it leads past it, and it waits for the doorbell.
 use Rattle.std.proofs.Common.{◌≡◌, ◌≢◌, ℕ, ◌*◌, ◌||◌, Bool, true, false, slice_get, Option, Some, None, ap, sym, subst, ◌∙◌, ⊎_elim}
 use Rattle.std.proofs.lemmas.Bool.{cases_eq}
+use Rattle.law_world.proofs.Common.{unlink_open}
+use Rattle.law_driver.proofs.Common.{ring_queue}
 use Rattle.drv_periodic_table.specs.Periodic.{is_periodic}
 use Rattle.drv_table.specs.declared.content.Endpoint.{Endpoint}
 use Rattle.drv_table.specs.declared.content.Command.{Command}
@@ -40,7 +42,6 @@ use Rattle.law_world.proofs.lemmas.memory.lemmas.framed_memory.RingLinksLeave.{u
 use Rattle.law_world.proofs.lemmas.memory.lemmas.framed_memory.RingLinksMet.{unlink_meets}
 use Rattle.law_queues.specs.shared_memory.Shared.{next_parts, after_driver}
 use Rattle.law_driver.specs.queued_drivers.Queued.{with_queue, queued_command, queued_made, queued, queued_parts}
-use Rattle.law_driver.proofs.lemmas.queued_drivers.CommandFields.{ring_queue}
 use Rattle.law_driver.proofs.lemmas.queued_drivers.RowLists.{queue_at}
 use Rattle.law_queues.proofs.lemmas.lent_fronts.Parts.{member_head}
 use Rattle.bus_world.specs.World.{World, driver_parts, controller_parts, driver_next}
@@ -49,9 +50,6 @@ use Rattle.law_world.specs.memory.Steps.{QueueStep, unlinks, IsMixedNext}
 use Rattle.law_world.proofs.lemmas.memory.Next.{mixed_next}
 use Rattle.law_world.proofs.lemmas.memory.RingBasis.{linked_still, near_ring, queued_next, told_row as told_by}
 use Rattle.law_world.proofs.lemmas.memory.CommandTails.{idle_tail}
-
-never_opens : (e before link b : ℕ) → ◌≡◌ {A = Option Command} (Some (unfinished.Unlink e before link)) (Some (unfinished.Open b)) → ⊥
-never_opens e before link b same = cc
 
 module _ (s : Standing) (w : World) (k : IsMixedAt s w) (at : IsAtUnlink w.driver s.member s.parts) where
   abbrev p : Parts
@@ -103,7 +101,7 @@ module _ (s : Standing) (w : World) (k : IsMixedAt s w) (at : IsAtUnlink w.drive
       let own : is_periodic y.desc.kind ≡ false = (near_ring d h.number y owners h.here h.met.near).0 in
       let met : IsMet q h.number (with_queue y)
       = record {
-        there = record { linked = λ opens. never_opens at.number at.before (queue_head_link at.after) y.queue (sym command ∙ opens); kept = h.met.there.kept };
+        there = record { linked = λ opens. unlink_open at.number at.before (queue_head_link at.after) y.queue (sym command ∙ opens); kept = h.met.there.kept };
         near = ap (λ (b : Bool). b || (is_one_of h.number d.waiting || is_one_of h.number d.rung)) (linked_still y own) ∙ h.met.near;
       } in
       ap s.near h.at ∙ k.queues.queues.met.each h.number (with_queue y) (queue_at d.endpoints h.number y h.here (ring_queue y.desc.kind own)) met) (k.ring.only n at.met)

@@ -1,9 +1,9 @@
 -- The ring of a driver, as the words of memory tell it.
-use Rattle.std.proofs.Common.{◌≡◌, ◌≢◌, ℕ, zero, suc, ◌+◌, ◌-◌, Bool, true, false, not, cond, if◌then◌else◌, List, [], ◌∷◌, ◌++◌, length, take, slice_get, Option, Some, option_map, ap, sym, subst, ◌∙◌, ⊎_elim, refl, arith}
+use Rattle.std.proofs.Common.{◌≡◌, ◌≢◌, ℕ, zero, suc, ◌-◌, Bool, true, false, not, cond, if◌then◌else◌, List, [], ◌∷◌, length, take, slice_get, Option, Some, option_map, ap, sym, subst, ◌∙◌, ⊎_elim, refl, arith}
 use Rattle.std.proofs.lemmas.Bool.{cases_Bool, false≢true}
-use Rattle.std.proofs.Math.Seq.{take-append_seam}
-use Rattle.std.proofs.lemmas.List.{length-append}
 use Rattle.std.proofs.lemmas.Option.{slice_get-map}
+use Rattle.law_world.proofs.Common.{without_last}
+use Rattle.law_driver.proofs.Common.{ring_queue}
 use Rattle.word_mem.specs.Memory.{Mem}
 use Rattle.drv_periodic_table.specs.Periodic.{is_periodic}
 use Rattle.drv_table.specs.Kinds.{is_iso}
@@ -20,7 +20,6 @@ use Rattle.law_driver.proofs.lemmas.ring_members.Links.{AreDistinct, rest_distin
 use Rattle.law_driver.proofs.lemmas.ring_members.Placed.{ring_distinct}
 use Rattle.law_driver.specs.chained_transfers.Asynchronous.{StandsAsynchronous}
 use Rattle.law_driver.specs.queued_drivers.Queued.{without_queue, with_queue, queued_endpoint, QueuesTakeTurns}
-use Rattle.law_driver.proofs.lemmas.queued_drivers.CommandFields.{ring_queue}
 use Rattle.claims_world.specs.Memory.{linked_to, IsNone, AreOnce, ReadsRing}
 
 -- ---- each once
@@ -66,12 +65,6 @@ taken_distinct n xs distinct = record {
   off_head = λ i x here on. distinct.off_head i x (taken_there n xs i x here) on;
   apart = λ i j x y here there on also differ. distinct.apart i j x y (taken_there n xs i x here) (taken_there n xs j y there) on also differ;
 }
-
-pub without_last : (xs : List Endpoint) (y : Endpoint) → take (length (xs ++ y ∷ []) - 1) (xs ++ y ∷ []) ≡ xs
-without_last xs y =
-    let n : length (xs ++ y ∷ []) ≡ length xs + 1 = length-append xs (y ∷ []) in
-    let e : length (xs ++ y ∷ []) - 1 ≡ length xs = omega (arith, n) in
-    ap (λ (k : ℕ). take k (xs ++ y ∷ [])) e ∙ take-append_seam xs (y ∷ [])
 
 -- ---- the ring as it is read
 

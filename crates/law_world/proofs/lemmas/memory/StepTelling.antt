@@ -1,5 +1,7 @@
 -- What memory and a hand tell of the queues is the same, where only links of queue heads differ.
 use Rattle.std.proofs.Common.{◌≡◌, ℕ, refl, subst}
+use Rattle.law_world.proofs.Common.{hand_tells}
+use Rattle.law_controller.proofs.Common.{same_hand as hand_itself}
 use Rattle.link_words.specs.declared.fields.LinkBits.{LinkBits}
 use Rattle.law_structures.specs.lent_structures.Sound.{buffer_name}
 use Rattle.law_structures.specs.lent_structures.Structures.{StructureSets}
@@ -9,17 +11,12 @@ use Rattle.law_ring.specs.Stores.{hand_linked}
 use Rattle.law_ring.specs.Told.{Endpoint, HasEndpoint, SameTold}
 use Rattle.law_ring.proofs.SparedSparing.{linked_hand_is_same, spared_is_told, spared_has_toggle}
 use Rattle.law_frames.specs.FrameHand.{FrameHand, queue_hand, Nothing, OfQueue, OfSettled, OfItd, OfSitd}
-use Rattle.law_controller.proofs.lemmas.controlled_streams.Storing.{same_hand as hand_itself}
 use Rattle.law_controller.specs.frame_stores.Stores.{frame_linked}
 use Rattle.law_world.specs.memory.SameQueues.{IsRelinked, IsSameQueue}
-use Rattle.law_world.specs.memory.Steps.{HandStays, same_hand, linked_hand, FrameStays, same_frame, linked_frame}
+use Rattle.law_world.specs.memory.Steps.{FrameStays, same_frame, linked_frame}
 use Rattle.law_world.specs.memory.StepLaws.{StaysTellsTheSame}
 
 -- ---- the hands
-
-hand_tells : (hand later : Hand) → HandStays hand later → SameHand hand later
-hand_tells hand _ same_hand = hand_itself hand
-hand_tells hand _ (linked_hand n l) = linked_hand_is_same n l hand
 
 linked_queue : (n : ℕ) (l : LinkBits) (frame : FrameHand) → hand_linked n l (queue_hand frame) ≡ queue_hand (frame_linked n l frame)
 linked_queue n l Nothing = refl

@@ -2,14 +2,12 @@
 use Rattle.std.proofs.Common.{◌≡◌, ◌≢◌, ℕ, Bool, false, if◌then◌else◌, List, ◌∷◌, ◌++◌, Option, Some, ap, refl, sym, subst, ◌∙◌, ⊎_elim}
 use Rattle.std.proofs.lemmas.Bool.{cases_eq, eq-eqb}
 use Rattle.std.proofs.lemmas.List.{append_assoc}
+use Rattle.law_driver_ring.proofs.Common.{one_told}
+use Rattle.law_common.proofs.Numbers.{other_number}
 use Rattle.qh_qtd.specs.declared.qtd.Qtd.{Qtd}
-use Rattle.qh_qtd.specs.declared.queue_head.Qh.{Qh}
 use Rattle.law_structures.specs.lent_structures.Structures.{Element, StructureSets}
-use Rattle.law_structures.proofs.lemmas.lent_structures.Names.{not_same}
-use Rattle.law_structures.proofs.lemmas.lent_structures.Altering.{found_queue, found_element}
 use Rattle.law_ring.specs.Hand.{Hand}
-use Rattle.law_ring.specs.Effects.{buffer_of}
-use Rattle.law_ring.specs.Told.{hand_bytes, Told, Endpoint}
+use Rattle.law_ring.specs.Told.{Told, Endpoint}
 use Rattle.law_ring.specs.OutBus.{Taker}
 use Rattle.law_ring.specs.OutPipes.{IsOutPipe}
 use Rattle.law_controller.specs.controlled_streams.Outs.{IsOutStream}
@@ -19,17 +17,11 @@ use Rattle.law_driver_ring.specs.told_harvests.Passed.{IsNoneTold, HarvestsFirst
 use Rattle.law_driver_ring.proofs.lemmas.told_harvests.Passing.{harvest_takes_first}
 use Rattle.law_world.specs.steps.Harvests.{with_more, HarvestLeavesOuts}
 
--- what is told of a qTD are the same bytes
-told_one : (hand : Hand) (parts : StructureSets) (n e : ℕ) (xs ys : List ℕ) → Told hand parts n e xs → Told hand parts n e ys → xs ≡ ys
-told_one hand parts n e xs ys a b =
-    a.are ∙ ap (λ (q : Qh). hand_bytes hand n q e a.qtd (buffer_of (parts n) a.qtd)) (found_queue (parts n n) a.queue b.queue a.head b.head)
-    ∙ ap (λ (t : Qtd). hand_bytes hand n b.queue e t (buffer_of (parts n) t)) (found_element (parts n e) a.qtd b.qtd a.here b.here) ∙ sym b.are
-
 more_here : (lists : ℕ → List ℕ) (n : ℕ) (more : List ℕ) → with_more lists n more n ≡ lists n ++ more
 more_here lists n more = ap (λ (b : Bool). if b then lists n ++ more else lists n) (eq-eqb n n refl)
 
 more_beside : (lists : ℕ → List ℕ) (n : ℕ) (more : List ℕ) (k : ℕ) → k ≢ n → with_more lists n more k ≡ lists k
-more_beside lists n more k differs = ap (λ (b : Bool). if b then lists k ++ more else lists k) (not_same k n differs)
+more_beside lists n more k differs = ap (λ (b : Bool). if b then lists k ++ more else lists k) (other_number k n differs)
 
 -- of one queue head
 pub first_out_harvested : (stream : ℕ → ℕ → Bool) (o : Option Taker) (member : ℕ → Bool) (order : ℕ → ℕ) (e : ℕ) (passed rest bytes : List ℕ) (parts : StructureSets) (hand : Hand) (n : ℕ) (x : Endpoint) (harvested : List ℕ) (t : Qtd)
@@ -37,7 +29,7 @@ pub first_out_harvested : (stream : ℕ → ℕ → Bool) (o : Option Taker) (me
     → IsOutStream stream o member order (passed ++ rest) parts hand n x (harvested ++ bytes)
 first_out_harvested stream o member order e passed rest bytes parts hand n x harvested t here off none told k =
     let f : HarvestsFirst order k.place e (passed ++ rest) hand parts n k.told = harvest_takes_first order k.place e passed rest hand parts n k.told t here off none k.accounts in
-    let is : f.bytes ≡ bytes = told_one hand parts n e f.bytes bytes f.told told in
+    let is : f.bytes ≡ bytes = one_told hand parts n e f.bytes bytes f.told told in
     record {
       only = k.only;
       place = k.place;

@@ -1,8 +1,9 @@
 -- What the stream of an OUT endpoint is made of.
 use Rattle.std.proofs.Common.{◌≡◌, ◌≢◌, ℕ, ◌==◌, Bool, true, false, List, [], ◌∷◌, ◌++◌, Option, ap, refl, sym, subst, ◌∙◌, inl, inr}
 use Rattle.std.specs.List.{concat}
-use Rattle.std.proofs.lemmas.Bool.{eq-eqb, eqb-true, false≢true}
+use Rattle.std.proofs.lemmas.Bool.{eqb-true, false≢true}
 use Rattle.std.proofs.lemmas.List.{append_assoc, append-nil}
+use Rattle.law_controller.proofs.Common.{heads_stay, elements_stay}
 use Rattle.law_structures.specs.lent_structures.Structures.{Structures, StructureSets}
 use Rattle.law_ring.specs.Hand.{Hand}
 use Rattle.law_ring.specs.Told.{Endpoint, HasEndpoint}
@@ -13,9 +14,8 @@ use Rattle.law_ring.specs.OutPipes.{IsOutPipe}
 use Rattle.law_ring.specs.OutPipeLaws.{IsBeside, IsOnlyEndpoint}
 use Rattle.law_controller.specs.controlled_streams.Outs.{IsOutStream, Begins}
 use Rattle.law_controller.proofs.lemmas.controlled_streams.Outs.{known_begins_taken}
-use Rattle.law_ring.specs.Sparing.{SameHand, SparesHead, SparesElement}
+use Rattle.law_ring.specs.Sparing.{SameHand}
 use Rattle.law_ring.proofs.SparedSparing.{accounts_are_spared}
-use Rattle.law_ring.specs.Effects.{buffer_of}
 use Rattle.law_controller.specs.controlled_streams.Reported.{IsReported}
 use Rattle.law_world.specs.steps.Outs.{IsAside, AreAside, HaveOutStreams}
 use Rattle.law_world.specs.steps.Joining.{EachIsOnly, PipesAreStreams, HarvestedIsTaken}
@@ -24,9 +24,6 @@ use Rattle.law_world.specs.steps.Joining.{EachIsOnly, PipesAreStreams, Harvested
 
 pub at_one : (P : ℕ → Type 0) (n : ℕ) → P n → (k : ℕ) → (k == n) ≡ true → P k
 at_one P n here k is = subst P (sym (eqb-true k n is)) here
-
-pub one_here : (n : ℕ) → (n == n) ≡ true
-one_here n = eq-eqb n n refl
 
 -- ---- no other queue head sends to its endpoint
 
@@ -109,22 +106,6 @@ harvested_taken taker stream member outs ends order out harvested parts hand wir
     record { taker = b.taker; is = b.is; unheard = was.told ++ b.unheard; taken = b.taken ∙ append_assoc (harvested n) was.told b.unheard }
 
 -- ---- structures that stay
-
-pub same_hand : (hand : Hand) → SameHand hand hand
-same_hand hand = record { bytes = λ n q e t bs. refl; toggle = λ n q. refl }
-
-pub heads_stay : (parts now : StructureSets) (k : ℕ) → now k ≡ parts k → SparesHead parts now k
-heads_stay parts now k same q here = record {
-  queue = q;
-  here = ap (λ (part : Structures). part k) same ∙ here;
-  overlay = record { token = refl; current = refl; offset = refl; endpoint = refl };
-}
-
-pub elements_stay : (parts now : StructureSets) (k e : ℕ) → now k ≡ parts k → SparesElement parts now k e
-elements_stay parts now k e same = record {
-  element = λ t here. ap (λ (part : Structures). part e) same ∙ here;
-  bytes = λ t here. ap (λ (part : Structures). buffer_of part t) same;
-}
 
 pub reported_stays : (order : ℕ → ℕ) (out : List ℕ) (hand later : Hand) (parts now : StructureSets) (k : ℕ) (acc : List (List ℕ)) (harvested : List ℕ) → SameHand hand later → now k ≡ parts k → IsReported order out hand parts k acc harvested → IsReported order out later now k acc harvested
 reported_stays order out hand later parts now k acc harvested hands same r = record {

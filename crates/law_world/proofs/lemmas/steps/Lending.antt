@@ -2,6 +2,9 @@
 use Rattle.std.proofs.Common.{◌≡◌, ℕ, ◌≤◌, ◌⊎◌, Bool, true, false, List, [], ◌∷◌, ◌++◌, length, Option, Some, ap, refl, sym, subst, ◌∙◌, ⊎_elim, inl, inr, arith}
 use Rattle.std.proofs.lemmas.Bool.{cases_Bool, false≢true}
 use Rattle.std.proofs.lemmas.List.{append_assoc, append-nil}
+use Rattle.law_ring.proofs.Common.{among_either}
+use Rattle.law_queues.proofs.Common.{among_left, among_right}
+use Rattle.law_controller.proofs.Common.{same_hand}
 use Rattle.qh_qtd.specs.declared.qtd.Qtd.{Qtd}
 use Rattle.qh_qtd.specs.declared.queue_head.Qh.{Qh}
 use Rattle.law_structures.specs.lent_structures.Structures.{QueueHead, Element, Structures, StructureSets}
@@ -19,24 +22,10 @@ use Rattle.law_controller.specs.controlled_streams.Reported.{IsReported}
 use Rattle.law_world.specs.steps.Outs.{IsAside, AreAside, GoesAs}
 use Rattle.law_world.specs.steps.Spared.{SparesWork}
 use Rattle.law_world.specs.steps.Lends.{AreAdded, AreNewAs, IsNewPiece, GetsMore, LendLeavesOutPipes, LendLeavesOuts}
-use Rattle.law_world.proofs.lemmas.steps.Joining.{streams_all, same_hand}
+use Rattle.law_world.proofs.lemmas.steps.Joining.{streams_all}
 use Rattle.law_world.proofs.lemmas.steps.Spared.{spared_pipe, out_goes, none_goes}
 
 -- ---- lists
-
-among_either : (e : ℕ) (xs ys : List ℕ) → IsAmong e (xs ++ ys) → IsAmong e xs ⊎ IsAmong e ys
-among_either e [] ys is = inr is
-among_either e (x ∷ xs) ys (inl is) = inl (inl is)
-among_either e (x ∷ xs) ys (inr is) = ⊎_elim (λ (left : IsAmong e xs). inl (inr left)) (λ (right : IsAmong e ys). inr right) (among_either e xs ys is)
-
-among_left : (e : ℕ) (xs ys : List ℕ) → IsAmong e xs → IsAmong e (xs ++ ys)
-among_left e [] ys is = absurd is
-among_left e (x ∷ xs) ys (inl is) = inl is
-among_left e (x ∷ xs) ys (inr is) = inr (among_left e xs ys is)
-
-among_right : (e : ℕ) (xs ys : List ℕ) → IsAmong e ys → IsAmong e (xs ++ ys)
-among_right e [] ys is = is
-among_right e (x ∷ xs) ys is = inr (among_right e xs ys is)
 
 -- each qTD that is told stands
 record StandsAt (part : Structures) (e : ℕ) : Type 0 where

@@ -1,6 +1,8 @@
 -- The streams of OUT endpoints beside qTDs and buffers that are given back.
 use Rattle.std.proofs.Common.{◌≡◌, ◌≢◌, ℕ, ◌==◌, Bool, false, List, [], ◌∷◌, ◌++◌, Option, sym, subst, ⊎_elim, inl, inr}
 use Rattle.std.proofs.lemmas.Bool.{cases_eq}
+use Rattle.law_common.proofs.Numbers.{same_number}
+use Rattle.law_controller.proofs.Common.{same_hand}
 use Rattle.law_structures.specs.lent_structures.Structures.{Element, StructureSets}
 use Rattle.law_ring.specs.Hand.{Hand}
 use Rattle.law_ring.specs.Told.{Endpoint}
@@ -16,7 +18,7 @@ use Rattle.law_controller.proofs.lemmas.controlled_streams.Returning.{spares_hea
 use Rattle.law_world.specs.steps.Outs.{IsAside, AreAside}
 use Rattle.law_world.specs.steps.Spared.{SparesWork}
 use Rattle.law_world.specs.steps.Returns.{KeepsWork, ReturnLeavesOutPipes, ReturnLeavesOuts}
-use Rattle.law_world.proofs.lemmas.steps.Joining.{at_one, one_here, reported_in, streams_all, same_hand}
+use Rattle.law_world.proofs.lemmas.steps.Joining.{at_one, reported_in, streams_all}
 use Rattle.law_world.proofs.lemmas.steps.Spared.{spared_pipe, work_stays}
 
 module _ (parts : StructureSets) (n : ℕ) (goes : ℕ → Bool) (off : goes n ≡ false) where
@@ -58,7 +60,7 @@ return_streams taker stream member outs ends order out harvested parts hand wire
     record {
       known = known;
       reported = reported_are_returned (λ i. i == m) order out hand parts (λ i. known ∷ []) (λ i. harvested m) n goes off keep untold
-          (at_one (λ (i : ℕ). IsReported (order i) (out i) hand parts i (known ∷ []) (harvested m)) m (reported_in stream o member (order m) (out m) parts hand m (ends m) (harvested m) was)) m (one_here m);
+          (at_one (λ (i : ℕ). IsReported (order i) (out i) hand parts i (known ∷ []) (harvested m)) m (reported_in stream o member (order m) (out m) parts hand m (ends m) (harvested m) was)) m (same_number m);
       pipe = pipe_kept parts n goes off keep works m (ends m) o known hand was.pipe;
     })
     (asides_stay parts n goes off stream member outs ends k.others)

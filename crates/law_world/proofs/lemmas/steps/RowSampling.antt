@@ -2,6 +2,7 @@
 use Rattle.std.proofs.Common.{◌≡◌, ℕ, ◌≤◌, ◌==◌, Bool, true, false, List, [], ◌∷◌, ◌++◌, Some, ap, refl, sym, subst, ◌∙◌, ⊎_elim, inl, inr, arith}
 use Rattle.std.proofs.lemmas.Option.{same_Some}
 use Rattle.std.proofs.lemmas.Bool.{eqb-true, false≢true}
+use Rattle.law_structures.proofs.Common.{element_is as same_element}
 use Rattle.qh_qtd.specs.declared.qtd.Qtd.{Qtd}
 use Rattle.qh_qtd.specs.declared.queue_head.Qh.{Qh}
 use Rattle.link_words.specs.declared.kinds.QtdLink.{QtdLink}
@@ -10,7 +11,7 @@ use Rattle.link_words.specs.Links.{qtd_link_of}
 use Rattle.law_structures.specs.lent_structures.Structures.{QueueHead, Element, Buffer, Structures, StructureSets, put}
 use Rattle.law_structures.specs.lent_structures.StructureSamples.{bytes, pages, nothing}
 use Rattle.law_structures.proofs.lemmas.lent_structures.Names.{put_found}
-use Rattle.law_structures.proofs.lemmas.lent_structures.Altering.{same_element, found_queue}
+use Rattle.law_structures.proofs.lemmas.lent_structures.Altering.{found_queue}
 use Rattle.law_ring.specs.Hand.{Hand, Empty}
 use Rattle.law_ring.specs.Told.{endpoint_of}
 use Rattle.law_ring.specs.Order.{IsFresh, IsOrdered, IsSorted, IsAmong, AllTold, none_out, one_out, Accounts}

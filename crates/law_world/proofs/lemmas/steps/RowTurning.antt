@@ -1,20 +1,19 @@
 -- The streams of OUT endpoints beside an event of the controller.
-use Rattle.std.proofs.Common.{◌≡◌, ◌≢◌, ℕ, ◌==◌, Bool, true, false, List, [], ◌++◌, Option, Some, ap, refl, sym, subst, ◌∙◌, inl, inr}
+use Rattle.std.proofs.Common.{◌≡◌, ℕ, ◌==◌, Bool, true, false, List, [], ◌++◌, Option, Some, ap, refl, sym, subst, ◌∙◌, inl, inr}
 use Rattle.std.proofs.lemmas.Bool.{false≢true}
 use Rattle.std.proofs.lemmas.List.{append-nil}
+use Rattle.law_controller.proofs.Common.{none_still}
+use Rattle.law_common.proofs.Numbers.{other_number}
 use Rattle.usb_base.specs.declared.packets.Ask.{Ask}
 use Rattle.usb_base.specs.declared.packets.Reply.{Reply}
-use Rattle.qh_qtd.specs.declared.qtd.Qtd.{Qtd}
 use Rattle.transactions.specs.Asks.{pinged}
 use Rattle.hc_copy.specs.Transacting.{call_in}
 use Rattle.hc_copy.specs.Planning.{transaction_of}
 use Rattle.hc_core.specs.Controller.{Content, walk_place}
-use Rattle.law_structures.specs.lent_structures.Structures.{Structures, StructureSets}
-use Rattle.law_structures.proofs.lemmas.lent_structures.Names.{not_same}
+use Rattle.law_structures.specs.lent_structures.Structures.{StructureSets}
 use Rattle.law_structures.specs.lent_structures.Sound.{IsWorking, IsSoundQueue, IsMember}
-use Rattle.law_structures.specs.lent_structures.Alters.{HadElement, Alters}
+use Rattle.law_structures.specs.lent_structures.Alters.{Alters}
 use Rattle.law_structures.proofs.lemmas.lent_structures.Altering.{found_queue}
-use Rattle.law_structures.proofs.lemmas.lent_structures.Members.{still_active}
 use Rattle.law_ring.specs.Hand.{Hand}
 use Rattle.claims_base.specs.Controller.{Base}
 use Rattle.law_ring.specs.Ring.{IsCopied, IsInHand, IsRing}
@@ -27,7 +26,6 @@ use Rattle.law_controller.specs.controlled_streams.Control.{IsControlled, Begins
 use Rattle.law_ring.specs.Pipes.{AreEndpoints}
 use Rattle.law_ring.specs.OutBus.{Taker, IsOutAsk, IsOutBus, KeepsTakers}
 use Rattle.law_ring.specs.OutPipes.{IsOutPipe}
-use Rattle.law_ring.specs.OutPipeLaws.{SendsNone}
 use Rattle.law_ring.proofs.Stopping.{out_only}
 use Rattle.law_ring.proofs.Assembling.{each_event_keeps_an_out_pipe}
 use Rattle.law_controller.proofs.lemmas.controlled_streams.Outs.{event_keeps_stream}
@@ -42,12 +40,6 @@ use Rattle.law_world.specs.steps.Events.{sent_in, EventLeavesOutPipes, EventLeav
 use Rattle.law_world.proofs.lemmas.steps.Joining.{only_at}
 
 -- ---- queue heads without an OUT stream
-
-none_still : (part now : Structures) → Alters part now → SendsNone part → SendsNone now
-none_still part now alters none a u here on =
-    let had : HadElement part a u = alters.element_before a u here in
-    let kept : u ≡ had.qtd = still_active had.qtd u had.after on in
-    subst (λ (t : Qtd). t.token.pid ≢ 0) (sym kept) (none a had.qtd had.here (ap (λ (t : Qtd). t.token.active) (sym kept) ∙ on))
 
 named_still : {W : Type 0} {Beside : Ask → Type 0} {transacts : W → Ask → List ℕ → Reply → W → Type 0} {parts : StructureSets}
     {hand : Hand} {wire after : W} {now : StructureSets} {later : Hand} (n : ℕ) (x : Endpoint)
@@ -140,7 +132,8 @@ module _ {W : Type 0} (begins : W → ℕ → Bool → W → Type 0) (transacts 
         let w : IsWorking (parts m.copy.at) m.copy.queue = working in
         out_only m.copy.queue.token.pid false (m.copy.queue.token.pid == 1) (transaction_of m.kind m.copy.queue).split
         (pinged m.kind m.copy.queue.token.ping)
-        (not_same m.copy.queue.token.pid 0 (λ (i : m.copy.queue.token.pid ≡ 0). none m.copy.queue.current w.element w.here w.published (sym w.pid ∙ i))) refl refl s.token
+        (other_number m.copy.queue.token.pid 0 (λ (i : m.copy.queue.token.pid ≡ 0). none m.copy.queue.current w.element w.here w.published
+        (sym w.pid ∙ i))) refl refl s.token
 
     never : (b : Bool) → outs m.copy.at ≡ b → IsOutAsk stream asked → (addr ≡ asked.addr) × (ep ≡ asked.ep) → ⊥
     never true one s both =

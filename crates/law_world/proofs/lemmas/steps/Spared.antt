@@ -1,6 +1,7 @@
 -- Steps that spare the queue heads with OUT streams.
 use Rattle.std.proofs.Common.{◌≡◌, ℕ, ◌∙◌, Bool, true, false, List, Option, sym, subst, inl, inr}
 use Rattle.std.proofs.lemmas.Bool.{false≢true}
+use Rattle.law_controller.proofs.Common.{heads_stay, elements_stay}
 use Rattle.qh_qtd.specs.declared.qtd.Qtd.{Qtd}
 use Rattle.law_structures.specs.lent_structures.Structures.{StructureSets}
 use Rattle.law_ring.specs.Hand.{Hand}
@@ -11,7 +12,6 @@ use Rattle.law_ring.specs.OutPipes.{IsOut, IsUnmoved, IsOutPipe}
 use Rattle.law_controller.proofs.lemmas.controlled_streams.Outs.{out_is_spared}
 use Rattle.law_world.specs.steps.Outs.{GoesAs}
 use Rattle.law_world.specs.steps.Spared.{SparesWork, OutPipesAreSpared}
-use Rattle.law_world.proofs.lemmas.steps.Joining.{heads_stay, elements_stay}
 
 pub spared_pipe : (hand later : Hand) (parts now : StructureSets) (n : ℕ) (x : Endpoint) (o : Option Taker) (known : List ℕ) → SameHand hand later → (IsUnmoved hand n → IsUnmoved later n) → SparesWork parts now n → IsOut (now n) → IsOutPipe o known parts hand n x → IsOutPipe o known now later n x
 spared_pipe hand later parts now n x o known hands un works outs pipe = out_is_spared hand later parts now n x o known hands un works.head works.work outs pipe

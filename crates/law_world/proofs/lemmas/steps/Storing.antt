@@ -1,6 +1,8 @@
 -- The streams of OUT endpoints beside a store over a qTD that isn't active.
 use Rattle.std.proofs.Common.{◌≡◌, ◌≢◌, ℕ, ◌==◌, Bool, true, false, List, [], ◌∷◌, ◌++◌, Option, Some, ap, sym, subst, ◌∙◌, ⊎_elim, inl, inr}
 use Rattle.std.proofs.lemmas.Bool.{false≢true}
+use Rattle.law_common.proofs.Numbers.{same_number}
+use Rattle.law_controller.proofs.Common.{same_hand}
 use Rattle.qh_qtd.specs.declared.qtd.Qtd.{Qtd}
 use Rattle.qh_qtd.specs.declared.queue_head.Qh.{Qh}
 use Rattle.law_structures.specs.lent_structures.Structures.{QueueHead, Element, StructureSets}
@@ -24,7 +26,7 @@ use Rattle.law_controller.proofs.lemmas.controlled_streams.Streams.{idle_store_l
 use Rattle.law_world.specs.steps.Outs.{IsAside, AreAside, HaveOutStreams, GoesAs}
 use Rattle.law_world.specs.steps.Spared.{SparesWork}
 use Rattle.law_world.specs.steps.Stores.{StoreLeavesOutPipes, IdleStoreLeavesOuts, LastStoreLeavesOuts, OtherStoreLeavesOuts}
-use Rattle.law_world.proofs.lemmas.steps.Joining.{at_one, one_here, reported_in, streams_all, same_hand, reported_stays}
+use Rattle.law_world.proofs.lemmas.steps.Joining.{at_one, reported_in, streams_all, reported_stays}
 use Rattle.law_world.proofs.lemmas.steps.Spared.{spared_pipe, out_goes, none_goes}
 
 module _ (parts : StructureSets) (n e : ℕ) (old new : Qtd) (here : parts n e ≡ Some (Element old)) (off : old.token.active ≡ false) where
@@ -88,7 +90,7 @@ idle_store taker stream member outs ends order out harvested parts hand wire n e
     record {
       known = known;
       reported = idle_store_leaves_reports (λ i. i == m) order out hand parts (λ i. known ∷ []) (λ i. harvested m) n e old new s idle
-          (at_one (λ (i : ℕ). IsReported (order i) (out i) hand parts i (known ∷ []) (harvested m)) m (reported_in stream o member (order m) (out m) parts hand m (ends m) (harvested m) was)) m (one_here m);
+          (at_one (λ (i : ℕ). IsReported (order i) (out i) hand parts i (known ∷ []) (harvested m)) m (reported_in stream o member (order m) (out m) parts hand m (ends m) (harvested m) was)) m (same_number m);
       pipe = pipe_after parts n e old new s.here s.idle member outs m (ends m) o known hand (members m (ends_are.members m on)) on goes was.pipe;
     })
     (asides_after parts n e old new s.here s.idle stream member outs ends goes k.others)
@@ -124,7 +126,7 @@ last_here taker stream member outs ends order out harvested parts hand wire n e 
     record {
       known = known;
       reported = last_store_leaves_reports (λ i. i == m) order out hand parts (λ i. known ∷ []) (λ i. harvested m) n e old new s active fresh (member_part member n (parts n) (members n (ends_are.members n one)))
-          (at_one (λ (i : ℕ). IsReported (order i) (out i) hand parts i (known ∷ []) (harvested m)) m (reported_in stream o member (order m) (out m) parts hand m (ends m) (harvested m) was)) m (one_here m);
+          (at_one (λ (i : ℕ). IsReported (order i) (out i) hand parts i (known ∷ []) (harvested m)) m (reported_in stream o member (order m) (out m) parts hand m (ends m) (harvested m) was)) m (same_number m);
       pipe = pipe_after parts n e old new s.here s.idle member outs m (ends m) o known hand (members m (ends_are.members m on)) on (λ a. way) was.pipe;
     })
     (asides_after parts n e old new s.here s.idle stream member outs ends (λ a. way) k.others)

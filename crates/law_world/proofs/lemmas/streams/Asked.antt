@@ -1,5 +1,6 @@
 -- A get, a put or a request is accepted: its first qTD is to be lent.
 use Rattle.std.proofs.Common.{◌≡◌, ℕ, ◌*◌, ◌==◌, Bool, true, false, nat_eq, if◌then◌else◌, List, length, Option, Some, Ok, ap, sym, subst, ◌∙◌, inl, inr}
+use Rattle.law_world.proofs.Common.{newest_there}
 use Rattle.usb_base.specs.declared.endpoints.EpName.{EpName}
 use Rattle.bus_wire.specs.Bus.{Fixed}
 use Rattle.drv_table.specs.declared.content.Endpoint.{Endpoint}
@@ -31,7 +32,7 @@ use Rattle.law_world.specs.streams.Left.{IsLeft}
 use Rattle.law_world.specs.streams.Whole.{IsWhole}
 use Rattle.law_world.specs.streams.Taking.{HaveSides}
 use Rattle.law_world.proofs.lemmas.streams.There.{there_now}
-use Rattle.law_world.proofs.lemmas.streams.Tail.{newest_there, idle_ends}
+use Rattle.law_world.proofs.lemmas.streams.Tail.{idle_ends}
 
 module _ (fixed : Fixed) (takes : ℕ → ℕ → Bool) (member : ℕ → Bool) (x : Streams) (s : Standing) (w : World) (o : Offered) (k : IsWhole fixed takes member x s w) (why : Transfers w.driver w.memory o) where
   abbrev d : DriverContent

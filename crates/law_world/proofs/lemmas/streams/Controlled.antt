@@ -4,6 +4,8 @@ use Rattle.std.specs.List.{concat}
 use Rattle.std.proofs.lemmas.Bool.{false≢true, eq-eqb, and_from, not_from_false}
 use Rattle.std.proofs.lemmas.List.{append-nil}
 use Rattle.std.proofs.lemmas.List.Folds.{concat-append}
+use Rattle.law_common.proofs.Booleans.{off_by}
+use Rattle.law_common.proofs.Numbers.{other_number}
 use Rattle.bus_wire.specs.Bus.{Fixed}
 use Rattle.qh_qtd.specs.declared.qtd.Qtd.{Qtd}
 use Rattle.drv_table.specs.declared.content.Endpoint.{Endpoint}
@@ -12,7 +14,6 @@ use Rattle.drv_table.specs.Words.{head_block, is_control}
 use Rattle.law_driver.specs.endpoint_lives.Lives.{may_meet}
 use Rattle.claims_driver.specs.Owners.{Owner, Head, QueueHead as QueueOf, EndpointRuns, Views, AreOwned, views_of, IsQueueIn}
 use Rattle.law_structures.specs.lent_structures.Structures.{Element, Structures, StructureSets}
-use Rattle.law_structures.proofs.lemmas.lent_structures.Names.{not_same}
 use Rattle.hc_core.specs.Controller.{walk_place}
 use Rattle.law_ring.specs.Hand.{Hand}
 use Rattle.law_ring.specs.Ring.{IsCopied, IsInHand}
@@ -81,10 +82,6 @@ no_element v owner parts a t owned k here = none_at_head v owner (32 * head_bloc
 none_more : (acc : List (List ℕ)) → concat (acc ++ [] ∷ []) ≡ concat acc
 none_more acc = concat-append acc ([] ∷ []) ∙ append-nil (concat acc)
 
-off_by : (b : Bool) → (b ≡ true → ⊥) → b ≡ false
-off_by true never = absurd (never refl)
-off_by false never = refl
-
 -- ---- the event
 
 module _ (fixed : Fixed) (takes : ℕ → ℕ → Bool) (member : ℕ → Bool) (x : Streams) (s : Standing) (w : World) (f : IsFeeding fixed member x s w) (k : IsTaking fixed takes member x s w) (g : GoesOnBeside fixed member x s w) (l : IsLeft fixed takes x.packets s.acc w) where
@@ -118,7 +115,7 @@ module _ (fixed : Fixed) (takes : ℕ → ℕ → Bool) (member : ℕ → Bool) 
   no_bytes_of n unmet (grows m all goes) =
       let differs : m.copy.at ≢ n = λ is. false≢true (sym unmet ∙ ap member (sym is) ∙ (copied m).on) in
       ap (λ (b : Bool). if b then moved_bytes m.copy.queue m.sent.element (came_to m)
-      (buffer_of (s.parts m.copy.at) m.sent.element) else []) (not_same m.copy.at n differs)
+      (buffer_of (s.parts m.copy.at) m.sent.element) else []) (other_number m.copy.at n differs)
 
   no_bytes : (n : ℕ) → member n ≡ false → (z : ControlEffect begins_by transacts_by s.parts s.hand (wired fixed w) (wired fixed new) now later) → bytes_of_event n z ≡ []
   no_bytes n unmet (a_microframe b) = refl
@@ -226,7 +223,7 @@ module _ (fixed : Fixed) (takes : ℕ → ℕ → Bool) (member : ℕ → Bool) 
   taker_stays addr ep t shut some is =
       aside_takers_wait begins_by transacts_by closed taker_of opening_base member x.endpoint s.parts s.hand (controller_parts w) (wired fixed w) (wired fixed new) now later (a_scripted_bus_takes_its_streams closed)
       (a_microframe_keeps_its_takers closed) controlled all_aside moves addr ep t
-      (and_from (not (takes addr ep)) (not (ep == 0)) (not_from_false (takes addr ep) shut) (not_from_false (ep == 0) (not_same ep 0 some))) is
+      (and_from (not (takes addr ep)) (not (ep == 0)) (not_from_false (takes addr ep) shut) (not_from_false (ep == 0) (other_number ep 0 some))) is
 
   -- what begins what a taker had taken begins what it has taken
   told_stays : (addr ep : ℕ) (told : List ℕ) → takes addr ep ≡ false → ep ≢ 0 → IsToldTaken told (bytes_taken (taker_of (wired fixed w) addr ep))

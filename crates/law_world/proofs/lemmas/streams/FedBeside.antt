@@ -1,13 +1,11 @@
 -- Where an endpoint leaves the ring, each queue keeps its front and its tail, and what is told of it.
-use Rattle.std.proofs.Common.{◌≡◌, ℕ, ◌*◌, length, ◌-◌, slice_get, Option, Some, None, Result, Ok, Err, sym, subst, refl}
+use Rattle.std.proofs.Common.{◌≡◌, ℕ, ◌*◌, length, ◌-◌, slice_get, Result, Ok, Err, sym, subst, refl}
+use Rattle.law_world.proofs.Common.{unlinks_block}
 use Rattle.usb_base.specs.declared.commands.Cmd.TheVariants as commands
 use Rattle.usb_base.specs.declared.endpoints.EpName.{EpName}
 use Rattle.usb_base.specs.declared.reports.OfferError.{OfferError}
 use Rattle.usb_base.specs.declared.reports.Report.{Report}
 use Rattle.usb_base.specs.declared.reports.What.TheVariants.{Refused}
-use Rattle.drv_table.specs.declared.content.Command.{Command}
-use Rattle.drv_table.specs.declared.content.Command.TheVariants as unfinished
-use Rattle.drv_table.specs.declared.content.Transfer.{Transfer}
 use Rattle.drv_table.specs.declared.rows.DriverRow.{DriverRow}
 use Rattle.drv_table.specs.declared.rows.DriverRow.TheVariants as rows
 use Rattle.drv_table.specs.Accepting.{Offered}
@@ -18,7 +16,7 @@ use Rattle.law_driver.proofs.lemmas.chained_transfers.Accepting.{asynchronous_co
 use Rattle.law_queues.specs.standing_fronts.Reaching.{Reaches}
 use Rattle.law_queues.proofs.lemmas.commanded_queues.Tails.{reaches_alike}
 use Rattle.law_queues.proofs.lemmas.harvest_laws.Standing.{refused_is_told}
-use Rattle.law_queues.specs.leaving_drivers.Before.{UnlinksAtMost, IsAsBefore, NearFewer}
+use Rattle.law_queues.specs.leaving_drivers.Before.{IsAsBefore, NearFewer}
 use Rattle.law_queues.proofs.lemmas.leaving_drivers.Alike.{near_fewer}
 use Rattle.law_queues.proofs.lemmas.leaving_drivers.Leaving.{cancel_is_as_before, clear_is_as_before}
 use Rattle.law_queues.proofs.lemmas.leaving_drivers.Clearing.{clear_finds}
@@ -26,21 +24,15 @@ use Rattle.law_world.proofs.lemmas.steps.lemmas.left_queues.Same.{tails_now}
 use Rattle.law_world.proofs.lemmas.streams.lemmas.left_reports.Before.{leaves_are_told}
 use Rattle.bus_world.specs.World.{World, driver_parts, with_parts, refused_line, commanded_by}
 use Rattle.law_world.specs.steps.Streaming.{Standing}
-use Rattle.law_queues.specs.standing_fronts.Tails.{tail_block, tail_of}
+use Rattle.law_queues.specs.standing_fronts.Tails.{tail_of}
 use Rattle.law_world.specs.streams.Beside.{IsTold, LeaveKeepsTails, CancelKeepsTold, ClearKeepsTold}
-
--- where no transfer is published the tail is the inactive qTD at the end
-end_is_tail : (c : Option Command) (y : Option Transfer) (e n : ℕ) → UnlinksAtMost c → tail_block c y e n ≡ n
-end_is_tail None y e n may = refl
-end_is_tail (Some (unfinished.Unlink i b link)) y e n may = refl
-end_is_tail _ y e n may = absurd may
 
 pub leave_keeps_tails : LeaveKeepsTails
 leave_keeps_tails d f parts order out b near old e x here met =
-    subst (λ (c : ℕ). Reaches f (parts (32 * x.queue)) (order (32 * x.queue)) (out (32 * x.queue)) e x (32 * c)) (sym (end_is_tail f.command (slice_get f.transfers (length f.transfers - 1)) e x.dummy b.idle_now))
+    subst (λ (c : ℕ). Reaches f (parts (32 * x.queue)) (order (32 * x.queue)) (out (32 * x.queue)) e x (32 * c)) (sym (unlinks_block f.command (slice_get f.transfers (length f.transfers - 1)) e x.dummy b.idle_now))
     (tails_now d f b near parts order out
     (λ i z at meets.
-    subst (λ (c : ℕ). Reaches d (parts (32 * z.queue)) (order (32 * z.queue)) (out (32 * z.queue)) i z (32 * c)) (end_is_tail d.command (slice_get d.transfers (length d.transfers - 1)) i z.dummy b.idle)
+    subst (λ (c : ℕ). Reaches d (parts (32 * z.queue)) (order (32 * z.queue)) (out (32 * z.queue)) i z (32 * c)) (unlinks_block d.command (slice_get d.transfers (length d.transfers - 1)) i z.dummy b.idle)
     (old i z at meets)) e x here met)
 
 leave_told : (s : Standing) (w v : World) → IsAsBefore w.driver v.driver → NearFewer w.driver v.driver → IsTold s w → IsTold s v

@@ -1,11 +1,12 @@
 -- The row that gives back an endpoint that has left the ring leaves queues fed.
-use Rattle.std.proofs.Common.{◌≡◌, ◌≢◌, ℕ, ◌*◌, Bool, true, false, cond, List, set, slice_get, Option, Some, None, ap, sym, subst, ◌∙◌, refl}
+use Rattle.std.proofs.Common.{◌≡◌, ◌≢◌, ℕ, ◌*◌, Bool, true, false, List, set, slice_get, Some, ap, sym, subst, ◌∙◌, refl}
 use Rattle.std.proofs.lemmas.Bool.{false≢true}
 use Rattle.std.proofs.lemmas.Option.{same_Some}
+use Rattle.law_common.proofs.Booleans.{off_by}
+use Rattle.law_world.proofs.Common.{told_same, none_opens}
+use Rattle.law_common.proofs.Lists.{set_here, set_there}
 use Rattle.bus_wire.specs.Bus.{Fixed}
 use Rattle.drv_table.specs.declared.content.Endpoint.{Endpoint}
-use Rattle.drv_table.specs.declared.content.Command.{Command}
-use Rattle.drv_table.specs.declared.content.Command.TheVariants as unfinished
 use Rattle.drv_table.specs.declared.rows.DriverRow.{DriverRow}
 use Rattle.drv_table.specs.declared.rows.DriverRow.TheVariants as rows
 use Rattle.drv_table.specs.DriverContent.{DriverContent}
@@ -15,7 +16,6 @@ use Rattle.drv_table.specs.Releases.{after_endpoint, is_told}
 use Rattle.law_driver.specs.run_owners.Due.{IsDue, IsEndpointDue}
 use Rattle.claims_driver.specs.Owners.{views_of}
 use Rattle.law_driver.proofs.lemmas.run_owners.Reasons.{each_event_is_due}
-use Rattle.law_driver.proofs.lemmas.run_owners.Released.{set_here, set_there}
 use Rattle.law_structures.specs.lent_structures.Structures.{Structures, StructureSets}
 use Rattle.law_controller.specs.controlled_streams.Control.{IsFrameless, off, empty}
 use Rattle.law_controller.specs.controlled_streams.Reported.{AreReported}
@@ -45,18 +45,6 @@ use Rattle.law_world.proofs.lemmas.steps.lemmas.control_queues.Returns.{leaver_k
 use Rattle.law_world.proofs.lemmas.streams.Names.{row_apart}
 use Rattle.law_world.proofs.lemmas.streams.Told.{HasBulkThere, there_by, bulk_there}
 use Rattle.law_world.specs.streams.Releases.{released, EndpointReleaseFeeds, IsGivenBack}
-
--- whether a line of the report tells it, the rest of the content is the same
-told_same : {X : Type 0} (f : DriverContent → X) (g d : DriverContent) (b : Bool) → f g ≡ f d → f (cond b g d) ≡ f d
-told_same f g d true same = same
-told_same f g d false same = refl
-
-off_by : (b : Bool) → (b ≡ true → ⊥) → b ≡ false
-off_by true never = absurd (never refl)
-off_by false never = refl
-
-no_open : (c : Option Command) (q : ℕ) → c ≡ None → c ≡ Some (unfinished.Open q) → ⊥
-no_open c q idle is = absurd (cc)
 
 module _ (fixed : Fixed) (member : ℕ → Bool) (x : Streams) (s : Standing) (w : World) (e : ℕ) (row : driver_row (driver_parts w) ≡ rows.ReleaseEndpoint e) (lies : AreInRuns (views_of w.driver) s.parts) (tails : IdleTailsStand w.driver s.parts s.order s.out) (f : IsFeeding fixed member x s w) where
   abbrev p : DriverParts
@@ -117,7 +105,7 @@ module _ (fixed : Fixed) (member : ℕ → Bool) (x : Streams) (s : Standing) (w
           let is : record z { gone = true } ≡ h.endpoint = same_Some (record z { gone = true }) h.endpoint (sym (ap (slice_get (set d.endpoints e (record z { gone = true }))) own ∙ set_here d.endpoints e z (record z { gone = true }) leaver.leaves.here) ∙ there) in
           false≢true (sym h.there.kept ∙ sym (ap (λ (r : Endpoint). r.gone) is)) in
           let was : slice_get d.endpoints h.number ≡ Some h.endpoint = sym (set_there d.endpoints e h.number (record z { gone = true }) other) ∙ there in (
-            there_by d i (record { has = record { number = h.number; endpoint = h.endpoint; here = was; there = record { linked = λ is. no_open d.command h.endpoint.queue due.idle is; kept = h.there.kept }; at = h.at }; stream = b.stream }),
+            there_by d i (record { has = record { number = h.number; endpoint = h.endpoint; here = was; there = record { linked = λ is. none_opens d.command h.endpoint.queue due.idle is; kept = h.there.kept }; at = h.at }; stream = b.stream }),
             λ same. apart_by d h.number e h.endpoint z g.place.sound.owners f.turns was h.there.kept leaver.leaves.here leaver.leaves.held other (sym h.at ∙ same),
           )
 

@@ -3,6 +3,7 @@ use Rattle.std.proofs.Common.{◌≡◌, ℕ, Bool, true, false, if◌then◌els
 use Rattle.std.specs.List.{concat}
 use Rattle.std.proofs.lemmas.List.{append_assoc, append-nil}
 use Rattle.std.proofs.lemmas.List.Folds.{concat-append}
+use Rattle.law_world.proofs.Common.{after_off}
 use Rattle.usb_base.specs.declared.packets.Ask.{Ask}
 use Rattle.usb_base.specs.declared.packets.Reply.{Reply}
 use Rattle.bus_wire.specs.Bus.{Fixed}
@@ -42,9 +43,6 @@ use Rattle.law_world.proofs.lemmas.streams.Heads.{right_of}
 
 after_on : (streams : ℕ → Bool) (acc : ℕ → List (List ℕ)) (at : ℕ) (more : List (List ℕ)) (bytes : ℕ → List ℕ) (n : ℕ) → streams n ≡ true → acc_after streams acc at more bytes n ≡ grown acc at more n
 after_on streams acc at more bytes n on = ap (λ (b : Bool). if b then grown acc at more n else acc n ++ bytes n ∷ []) on
-
-after_off : (streams : ℕ → Bool) (acc : ℕ → List (List ℕ)) (at : ℕ) (more : List (List ℕ)) (bytes : ℕ → List ℕ) (n : ℕ) → streams n ≡ false → acc_after streams acc at more bytes n ≡ acc n ++ bytes n ∷ []
-after_off streams acc at more bytes n off = ap (λ (b : Bool). if b then grown acc at more n else acc n ++ bytes n ∷ []) off
 
 -- pipes tell only of those of the streams
 pipes_by : {W : Type 0} (stream : ℕ → ℕ → Bool) (packets : ℕ → ℕ → List (List ℕ)) (sender : W → ℕ → ℕ → Option Sender) (member streams : ℕ → Bool) (ends : ℕ → Told) (acc now : ℕ → List (List ℕ)) (parts : StructureSets) (hand : Hand) (wire : W)

@@ -1,5 +1,6 @@
 -- A command leaves queues fed: it is refused, or an endpoint or a transfer more is accepted, or a cancel.
 use Rattle.std.proofs.Common.{◌≡◌, ◌≢◌, ℕ, ◌*◌, Bool, true, false, length, get_or, take, ◌-◌, slice_get, Option, Some, None, Result, Ok, Err, ap, sym, ◌∙◌, ⊎_elim, refl}
+use Rattle.law_common.proofs.Lists.{push_which}
 use Rattle.usb_base.specs.declared.commands.Cmd.{Cmd}
 use Rattle.usb_base.specs.declared.commands.Cmd.TheVariants as commands
 use Rattle.usb_base.specs.declared.reports.OfferError.{OfferError}
@@ -28,7 +29,7 @@ use Rattle.law_driver.proofs.lemmas.chained_transfers.Accepting.{asynchronous_co
 use Rattle.law_driver.proofs.lemmas.chained_transfers.Commands.{commands_keep_asynchronous_turns}
 use Rattle.claims_report.specs.Streams.{has_stream}
 use Rattle.law_queues.specs.fed_lends.Commands.{QueuesStand}
-use Rattle.law_queues.proofs.lemmas.fed_lends.Asked.{push_which, set_which}
+use Rattle.law_queues.proofs.lemmas.fed_lends.Asked.{set_which}
 use Rattle.law_queues.proofs.lemmas.fed_lends.Opened.{open_stands}
 use Rattle.law_queues.proofs.lemmas.fed_lends.Publishing.{asked_stands, requested_stands}
 use Rattle.async_walk.specs.Rows.{place}

@@ -2,13 +2,15 @@
 use Rattle.std.proofs.Common.{◌≡◌, ◌≢◌, ◌⊎◌, ℕ, ◌*◌, ◌==◌, ◌||◌, Bool, true, false, if◌then◌else◌, List, ◌++◌, slice_get, Option, Some, None, option_map, ap, refl, sym, subst, ◌∙◌, ⊎_elim, inl, inr}
 use Rattle.std.proofs.lemmas.Bool.{cases_eq, eq-eqb, false≢true}
 use Rattle.std.proofs.lemmas.Option.{same_Some}
+use Rattle.law_queues.proofs.Common.{stall_or, bulk_unstalled}
+use Rattle.law_common.proofs.Numbers.{other_number}
+use Rattle.law_world.proofs.Common.{control_kind}
 use Rattle.usb_base.specs.declared.endpoints.EpDesc.{EpDesc}
 use Rattle.usb_base.specs.declared.packets.EpKind.{EpKind}
 use Rattle.usb_base.specs.declared.packets.EpKind.TheVariants as kinds
 use Rattle.usb_base.specs.declared.endpoints.EndCause.{EndCause}
 use Rattle.usb_base.specs.declared.reports.What.{What}
 use Rattle.law_structures.specs.lent_structures.Sound.{IsMember}
-use Rattle.law_structures.proofs.lemmas.lent_structures.Names.{not_same}
 use Rattle.bus_wire.specs.Bus.{Fixed}
 use Rattle.drv_table.specs.declared.content.Endpoint.{Endpoint}
 use Rattle.drv_table.specs.declared.content.Command.TheVariants as unfinished
@@ -43,7 +45,7 @@ use Rattle.law_driver_ring.proofs.lemmas.fed_queues.Places.{stands_met}
 use Rattle.law_queues.specs.fed_lends.Commands.{QueuesStand}
 use Rattle.law_queues.specs.fed_harvests.Harvests.{with_out, HarvestLeaves}
 use Rattle.law_queues.specs.fed_harvests.Stalls.{StallLeaves}
-use Rattle.law_queues.proofs.lemmas.fed_harvests.Harvests.{bulk_unstalled, unstalled_stands, wait_stands}
+use Rattle.law_queues.proofs.lemmas.fed_harvests.Harvests.{unstalled_stands, wait_stands}
 use Rattle.law_queues.proofs.lemmas.fed_harvests.Stalls.{stall_stands}
 use Rattle.law_queues.specs.mended_heads.Stalling.{IsStall, HaltsQueue}
 use Rattle.law_queues.proofs.lemmas.stalled_fronts.Halted.{stall_halts_queue}
@@ -59,7 +61,7 @@ use Rattle.law_world.proofs.lemmas.streams.FeedingPassed.{passed_are_untold}
 use Rattle.claims_report.specs.Streams.{has_stream}
 use Rattle.law_world.proofs.lemmas.steps.lemmas.control_queues.Harvests.{harvest_keeps_controls}
 use Rattle.law_world.proofs.lemmas.streams.Names.{row_apart}
-use Rattle.law_world.proofs.lemmas.streams.Told.{HasBulkThere, there_by, bulk_there, stream_kind, bulk_kind, control_kind}
+use Rattle.law_world.proofs.lemmas.streams.Told.{HasBulkThere, there_by, bulk_there, stream_kind, bulk_kind}
 use Rattle.law_world.proofs.lemmas.streams.Heads.{queue_reported, rising, right_of, control_head}
 use Rattle.law_queues.proofs.lemmas.standing_fronts.Rows.{harvest_keeps_fronts}
 use Rattle.claims_driver.specs.Leaving.{HasOwners}
@@ -93,10 +95,6 @@ stall_by kind k what true (Some cause) is ends = inr (λ stall. some (sym ends �
     some : ◌≡◌ {A = Option EndCause} (Some cause) None → ⊥
     some same = cc
 stall_by kind k what false c is ends = inr (λ stall. false≢true (sym is ∙ stall.0))
-
-is_stalled : (kind : EpKind) (found : Found) → IsStall kind found ⊎ (IsStall kind found → ⊥)
-is_stalled kind (founds.Ended k what) = stall_by kind k what (is_stall what) (end_of kind what) refl refl
-is_stalled kind _ = inr (λ stall. stall)
 
 -- ---- what is the same at every harvest
 
@@ -212,7 +210,7 @@ module _ (fixed : Fixed) (member : ℕ → Bool) (x : Streams) (s : Standing) (w
   out_here out = ap (λ (b : Bool). if b then out else s.out (32 * due.endpoint.queue)) (eq-eqb (32 * due.endpoint.queue) (32 * due.endpoint.queue) refl)
 
   out_beside : (out : List ℕ) (k : ℕ) → k ≢ 32 * due.endpoint.queue → with_out s.out (32 * due.endpoint.queue) out k ≡ s.out k
-  out_beside out k differs = ap (λ (b : Bool). if b then out else s.out k) (not_same k (32 * due.endpoint.queue) differs)
+  out_beside out k differs = ap (λ (b : Bool). if b then out else s.out k) (other_number k (32 * due.endpoint.queue) differs)
 
   -- ---- .. of a control endpoint
 
@@ -289,7 +287,7 @@ module _ (fixed : Fixed) (member : ℕ → Bool) (x : Streams) (s : Standing) (w
         now_here = ap (λ (b : Bool). if b then s.reported (32 * due.endpoint.queue) ++ hr.bytes else s.reported (32 * due.endpoint.queue)) (eq-eqb (32 * due.endpoint.queue) (32 * due.endpoint.queue) refl)
 
         now_beside : (k : ℕ) → k ≢ 32 * due.endpoint.queue → now k ≡ s.reported k
-        now_beside k differs = ap (λ (b : Bool). if b then s.reported k ++ hr.bytes else s.reported k) (not_same k (32 * due.endpoint.queue) differs)
+        now_beside k differs = ap (λ (b : Bool). if b then s.reported k ++ hr.bytes else s.reported k) (other_number k (32 * due.endpoint.queue) differs)
 
         later_here : later (32 * due.endpoint.queue) ≡ out_now new.driver e
         later_here = out_here (hl.harvested.before ++ hl.harvested.behind) ∙ sym hl.harvested.now
@@ -308,7 +306,7 @@ module _ (fixed : Fixed) (member : ℕ → Bool) (x : Streams) (s : Standing) (w
 
   by_kind : found ≢ founds.Active → (b : Bool) → is_control due.endpoint.desc.kind ≡ b → Leaves fixed member x s new
   by_kind differs true control =
-      ⊎_elim (λ (stall : IsStall due.endpoint.desc.kind found). stalled control stall) (λ (unstalled : IsNoStall). control_done differs control unstalled) (is_stalled due.endpoint.desc.kind found)
+      ⊎_elim (λ (stall : IsStall due.endpoint.desc.kind found). stalled control stall) (λ (unstalled : IsNoStall). control_done differs control unstalled) (stall_or due.endpoint.desc.kind found)
   by_kind differs false bulk = bulk_done bulk differs
 
   is_done : found ≢ founds.Active → Leaves fixed member x s new

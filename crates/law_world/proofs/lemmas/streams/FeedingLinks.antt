@@ -1,6 +1,7 @@
 -- The store by which an open is finished.
 use Rattle.std.proofs.Common.{◌≡◌, ◌≢◌, ℕ, ◌*◌, Bool, true, List, slice_get, Some, ap, sym, ◌∙◌, ⊎_elim, arith}
 use Rattle.std.proofs.lemmas.Bool.{cases_eq}
+use Rattle.law_world.proofs.Common.{same_queue}
 use Rattle.bus_wire.specs.Bus.{Fixed}
 use Rattle.qh_qtd.specs.declared.queue_head.Qh.{Qh}
 use Rattle.drv_table.specs.declared.content.Endpoint.{Endpoint}
@@ -35,7 +36,7 @@ use Rattle.law_world.specs.streams.OpenFeeds.{LinkFeeds}
 use Rattle.law_world.proofs.lemmas.streams.FeedingStores.{put_apart}
 use Rattle.law_world.proofs.lemmas.steps.lemmas.control_queues.Opens.{open_link_keeps_controls}
 use Rattle.law_world.proofs.lemmas.streams.Names.{row_apart}
-use Rattle.law_world.proofs.lemmas.streams.Told.{same_queue, there_by, bulk_there, has_there}
+use Rattle.law_world.proofs.lemmas.streams.Told.{there_by, bulk_there, has_there}
 use Rattle.law_world.proofs.lemmas.streams.Heads.{stream_on}
 use Rattle.law_world.proofs.lemmas.streams.OpenBeside.{streams_at, still_frameless}
 

@@ -1,7 +1,9 @@
 -- Of what a short packet passed over no bytes are told.
-use Rattle.std.proofs.Common.{◌≡◌, ℕ, zero, suc, ◌+◌, ◌-◌, ◌*◌, ◌<◌, ◌≤◌, ◌==◌, ◌&&◌, not, Bool, true, false, if◌then◌else◌, List, [], ◌∷◌, ◌++◌, drop, slice_get, Option, Some, None, option_map, ap, refl, sym, subst, ◌∙◌, inl, inr, arith}
-use Rattle.std.proofs.lemmas.Bool.{false≢true, eqb-true}
+use Rattle.std.proofs.Common.{◌≡◌, ℕ, zero, suc, ◌+◌, ◌-◌, ◌*◌, ◌<◌, ◌≤◌, ◌==◌, ◌&&◌, not, Bool, true, false, if◌then◌else◌, List, [], ◌∷◌, drop, slice_get, Option, Some, None, option_map, ap, refl, sym, subst, ◌∙◌, inl, inr, arith}
+use Rattle.std.proofs.lemmas.Bool.{eqb-true}
 use Rattle.std.proofs.lemmas.Option.{same_Some}
+use Rattle.law_queues.proofs.Common.{among_left, among_right, piece_more, all_out}
+use Rattle.law_common.proofs.Booleans.{waits_by}
 use Rattle.qh_qtd.specs.declared.qtd.Qtd.{Qtd}
 use Rattle.law_structures.specs.lent_structures.Structures.{StructureSets}
 use Rattle.law_structures.proofs.lemmas.lent_structures.Altering.{found_element}
@@ -29,11 +31,6 @@ among_by : (b : Bool) (p : ℕ) (xs : List ℕ) → IsAmong p (if b then xs else
 among_by true p xs k = (refl, k)
 among_by false p xs k = absurd k
 
-mine_by : (a b : Bool) → (a && not b) ≡ true → (a ≡ true) × (b ≡ false)
-mine_by true false is = (refl, refl)
-mine_by true true is = absurd (false≢true is)
-mine_by false b is = absurd (false≢true is)
-
 record IsLater (note : ℕ → NoteRuns) (b n i p : ℕ) : Type 0 where
   at : ℕ
   from : i ≤ at
@@ -54,24 +51,7 @@ later_of note b (suc n) (suc i) p k =
     let from = l.from in
     record { at = suc l.at; from = omega (arith, from); below = omega (arith, less); is = l.is }
 
-piece_more : (note : ℕ → NoteRuns) (b i j : ℕ) → piece_at note (piece_at note b i) j ≡ piece_at note b (i + j)
-piece_more note b zero j = ap (piece_at note b) (let e : j ≡ 0 + j = omega arith in e)
-piece_more note b (suc i) j = let e : suc i + j ≡ suc (i + j) = omega arith in piece_more note (note b).next i j ∙ ap (piece_at note b) (sym e)
-
 -- ---- it is out
-
-among_front : (a : ℕ) (xs ys : List ℕ) → IsAmong a xs → IsAmong a (xs ++ ys)
-among_front a [] ys k = absurd k
-among_front a (x ∷ xs) ys (inl is) = inl is
-among_front a (x ∷ xs) ys (inr k) = inr (among_front a xs ys k)
-
-among_back : (a : ℕ) (xs ys : List ℕ) → IsAmong a ys → IsAmong a (xs ++ ys)
-among_back a [] ys k = k
-among_back a (x ∷ xs) ys k = inr (among_back a xs ys k)
-
-none_first : (ys : List Transfer) (made n : ℕ) → if_last ys (unpublished None made n) ≡ 0
-none_first [] made n = refl
-none_first (y ∷ ys) made n = refl
 
 is_out : (note : ℕ → NoteRuns) (e made n p : ℕ) (ts : List Transfer) (z : Transfer) → slice_get ts n ≡ Some z → IsAmong p (out_of_transfer note e 0 z) → IsAmong p (out_of note e None made ts)
 is_out note e made n p [] z here k = absurd (none n here)
@@ -80,9 +60,9 @@ is_out note e made n p [] z here k = absurd (none n here)
     none zero is = cc
     none (suc i) is = cc
 is_out note e made zero p (y ∷ ys) z here k =
-    among_front p (out_of_transfer note e (if_last ys (unpublished None made y.qtds)) y) (out_of note e None made ys)
-    (subst (λ (i : ℕ). IsAmong p (out_of_transfer note e i y)) (sym (none_first ys made y.qtds)) (subst (λ (v : Transfer). IsAmong p (out_of_transfer note e 0 v)) (sym (same_Some y z here)) k))
-is_out note e made (suc n) p (y ∷ ys) z here k = among_back p (out_of_transfer note e (if_last ys (unpublished None made y.qtds)) y) (out_of note e None made ys) (is_out note e made n p ys z here k)
+    among_left p (out_of_transfer note e (if_last ys (unpublished None made y.qtds)) y) (out_of note e None made ys)
+    (subst (λ (i : ℕ). IsAmong p (out_of_transfer note e i y)) (sym (all_out ys made y.qtds)) (subst (λ (v : Transfer). IsAmong p (out_of_transfer note e 0 v)) (sym (same_Some y z here)) k))
+is_out note e made (suc n) p (y ∷ ys) z here k = among_right p (out_of_transfer note e (if_last ys (unpublished None made y.qtds)) y) (out_of note e None made ys) (is_out note e made n p ys z here k)
 
 pub passed_are_untold : (d : DriverContent) (parts : StructureSets) (hand : Hand) (order : ℕ → ℕ → ℕ) (out : ℕ → List ℕ) (e t : ℕ) (x : Endpoint) (a : ℕ) (z : List ℕ) → d.command ≡ None → AreInTurn d → AreStillOut d out → FrontsStand d parts order out
     → slice_get d.endpoints e ≡ Some x → IsMet d e x → x.ended ≡ None → x.next ≡ Some t → IsOutEarlier (note_in d.notes) e t d.transfers a → Told hand parts (32 * x.queue) a z → z ≡ []
@@ -97,7 +77,7 @@ passed_are_untold d parts hand order out e t x a z idle turns still fronts here 
     split = among_by (k.transfer.endpoint == e && not k.transfer.released) a (drop (0 + passed k.transfer.reported) (pieces_from (note_in d.notes) k.transfer.place k.transfer.left)) k.among
 
     own : (k.transfer.endpoint ≡ e) × (k.transfer.released ≡ false)
-    own = let both = mine_by (k.transfer.endpoint == e) k.transfer.released split.0 in (eqb-true k.transfer.endpoint e both.0, both.1)
+    own = let both = waits_by (k.transfer.endpoint == e) k.transfer.released split.0 in (eqb-true k.transfer.endpoint e both.0, both.1)
 
     stand : StandsAt d (parts (32 * x.queue)) (order (32 * x.queue)) (out (32 * x.queue)) e x
     stand = fronts e x here met

@@ -1,6 +1,7 @@
 -- Rows of the driver that store no word and read no token leave queues fed.
-use Rattle.std.proofs.Common.{◌≡◌, ℕ, ◌*◌, ◌||◌, Bool, true, false, List, ◌++◌, slice_get, Option, Some, None, ap, sym, ◌∙◌, ⊎_elim, inl, inr, refl}
+use Rattle.std.proofs.Common.{◌≡◌, ℕ, ◌*◌, ◌||◌, Bool, true, List, ◌++◌, slice_get, Option, Some, None, ap, sym, ◌∙◌, ⊎_elim, inl, inr, refl}
 use Rattle.std.proofs.lemmas.Bool.{false≢true}
+use Rattle.law_common.proofs.Booleans.{either_way}
 use Rattle.mem_runs.specs.Book.{Book}
 use Rattle.drv_table.specs.declared.content.Endpoint.{Endpoint}
 use Rattle.drv_table.specs.declared.content.Transfer.{Transfer}
@@ -60,13 +61,6 @@ same_stands d f member streams ends parts order out idle idle_now book endpoints
     (record { linked = λ is. let a : ◌≡◌ {A = Option Command} None (Some (unfinished.Open x.queue)) = sym idle ∙ is in absurd (cc); kept = met.kept })
     ∙ sym (ap (λ (ns : List QtdNote). out_of (note_in ns) e f.command f.made f.transfers) notes ∙ ap (λ (c : Option Command). out_of (note_in d.notes) e c f.made f.transfers) (idle_now ∙ sym idle)
     ∙ ap (λ (n : ℕ). out_of (note_in d.notes) e d.command n f.transfers) made ∙ ap (λ (ts : List Transfer). out_of (note_in d.notes) e d.command d.made ts) transfers)) old
-
--- those that have left are rung: these are met until the doorbell is answered
-either_way : (a b : Bool) → (a || b) ≡ (b || a)
-either_way true true = refl
-either_way true false = refl
-either_way false true = refl
-either_way false false = refl
 
 near_rung : (d : DriverContent) (e : ℕ) (z : Endpoint) → (z.linked || is_one_of e (d.rung ++ d.waiting)) ≡ may_meet d e z
 near_rung d e z = ap (λ (b : Bool). z.linked || b) (one_of_joined e d.rung d.waiting ∙ either_way (is_one_of e d.rung) (is_one_of e d.waiting))

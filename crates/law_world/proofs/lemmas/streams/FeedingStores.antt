@@ -1,5 +1,6 @@
 -- A store of the first qTD of a transfer leaves queues fed.
 use Rattle.std.proofs.Common.{◌≡◌, ◌≢◌, ℕ, ◌*◌, ◌≤◌, Bool, true, false, ◌||◌, cond, List, slice_get, Option, Some, None, option_map, ap, refl, sym, ◌∙◌, arith}
+use Rattle.law_common.proofs.Numbers.{other_number}
 use Rattle.bus_wire.specs.Bus.{Fixed}
 use Rattle.drv_table.specs.declared.content.Endpoint.{Endpoint}
 use Rattle.drv_table.specs.declared.content.Command.{Command}
@@ -10,7 +11,6 @@ use Rattle.drv_table.specs.Kinds.{is_iso}
 use Rattle.drv_table.specs.Rows.{driver_row}
 use Rattle.claims_driver.specs.Leaving.{HasOwners}
 use Rattle.claims_driver.specs.Owners.{FrameList, QueueHead, runs_of_endpoint}
-use Rattle.law_driver.proofs.lemmas.run_owners.Released.{other_number}
 use Rattle.law_structures.specs.lent_structures.Structures.{Structure, Element, StructureSets, with_structure, put}
 use Rattle.law_ring.proofs.QueueParts.{member_part}
 use Rattle.law_controller.specs.controlled_streams.Reported.{AreReported}

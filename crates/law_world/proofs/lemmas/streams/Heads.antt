@@ -2,6 +2,8 @@
 use Rattle.std.proofs.Common.{◌≡◌, ◌≢◌, ℕ, ◌*◌, Bool, true, false, not, ◌&&◌, if◌then◌else◌, List, slice_get, Some, ap, refl, sym, ◌∙◌, ⊎_elim}
 use Rattle.std.proofs.lemmas.Bool.{cases_eq, eq-eqb, false≢true, false_from_ne_true, and_parts, not-true}
 use Rattle.std.proofs.lemmas.Option.{same_Some}
+use Rattle.law_common.proofs.Numbers.{other_number, same_blocks}
+use Rattle.law_world.proofs.Common.{no_control}
 use Rattle.bus_wire.specs.Bus.{Fixed}
 use Rattle.drv_table.specs.declared.content.Endpoint.{Endpoint}
 use Rattle.drv_table.specs.DriverContent.{DriverContent}
@@ -9,7 +11,6 @@ use Rattle.drv_table.specs.Words.{head_block, is_control}
 use Rattle.claims_driver.specs.Owners.{Head, QueueHead as QueueOf}
 use Rattle.claims_driver.specs.Leaving.{HasOwners}
 use Rattle.law_structures.specs.lent_structures.Structures.{StructureSets}
-use Rattle.law_structures.proofs.lemmas.lent_structures.Names.{not_same}
 use Rattle.law_ring.specs.Hand.{Hand}
 use Rattle.law_ring.specs.Told.{Endpoint as Told}
 use Rattle.law_ring.specs.Front.{LinksRise}
@@ -19,12 +20,12 @@ use Rattle.claims_driver.specs.Scripts.{comes_in, IsAsynchronous}
 use Rattle.law_driver.specs.chained_transfers.Asynchronous.{OnlyAsynchronous}
 use Rattle.claims_report.specs.Streams.{has_stream}
 use Rattle.law_driver_ring.specs.fed_queues.Places.{IsThere, IsMet, HasHead, AreMet, HaveStreams}
-use Rattle.law_queues.proofs.lemmas.publish_laws.Apart.{queue_placed, queues_same, thirty_two}
+use Rattle.law_queues.proofs.lemmas.publish_laws.Apart.{queue_placed, queues_same}
 use Rattle.law_queues.specs.standing_fronts.Along.{LinksOfQueuesRise}
 use Rattle.bus_world.specs.World.{World}
 use Rattle.law_world.specs.steps.Streaming.{Streams, Standing}
 use Rattle.law_world.specs.streams.Feeding.{heads_of, there_of, IsFeeding}
-use Rattle.law_world.proofs.lemmas.streams.Told.{HasBulkThere, there_on, there_by, bulk_there, stream_kind, stream_in, way_control, control_stream}
+use Rattle.law_world.proofs.lemmas.streams.Told.{HasBulkThere, there_on, there_by, bulk_there, stream_kind, stream_in, way_control}
 
 -- ---- by the walk's members
 
@@ -34,13 +35,13 @@ and_on false = refl
 
 pub head_of : (member : ℕ → Bool) (ends : ℕ → Told) (n : ℕ) → n ≢ 32 * head_block → (ends n).dtc ≡ false → heads_of member ends n ≡ member n
 head_of member ends n differs own =
-    ap (λ (b : Bool). if b then false else (member n && not (ends n).dtc)) (not_same n (32 * head_block) differs) ∙ ap (λ (b : Bool). member n && not b) own ∙ and_on (member n)
+    ap (λ (b : Bool). if b then false else (member n && not (ends n).dtc)) (other_number n (32 * head_block) differs) ∙ ap (λ (b : Bool). member n && not b) own ∙ and_on (member n)
 
 pub head_on : (member : ℕ → Bool) (ends : ℕ → Told) (n : ℕ) → heads_of member ends n ≡ true → (n ≢ 32 * head_block) × (member n ≡ true) × ((ends n).dtc ≡ false)
 head_on member ends n on =
     ⊎_elim (λ (same : n ≡ 32 * head_block). absurd (false≢true (sym (ap (λ (b : Bool). if b then false else (member n && not (ends n).dtc)) (eq-eqb n (32 * head_block) same)) ∙ on)))
     (λ (differs : n ≢ 32 * head_block).
-    let both = and_parts (member n) (not (ends n).dtc) (sym (ap (λ (b : Bool). if b then false else (member n && not (ends n).dtc)) (not_same n (32 * head_block) differs)) ∙ on) in
+    let both = and_parts (member n) (not (ends n).dtc) (sym (ap (λ (b : Bool). if b then false else (member n && not (ends n).dtc)) (other_number n (32 * head_block) differs)) ∙ on) in
     (differs, both.0, not-true (ends n).dtc both.1)) (cases_eq n (32 * head_block))
 
 -- ---- by the driver's endpoints
@@ -48,7 +49,7 @@ head_on member ends n on =
 -- the queue head of an endpoint isn't the head of the ring
 pub not_head : (d : DriverContent) (e : ℕ) (x : Endpoint) → HasOwners d → OnlyAsynchronous d → slice_get d.endpoints e ≡ Some x → x.gone ≡ false → 32 * x.queue ≢ 32 * head_block
 not_head d e x owners only here kept same =
-    never (sym (queue_placed d owners e x here (only.endpoints e x here) kept).owned ∙ ap owners.owner (thirty_two x.queue head_block same) ∙ owners.owned.each.head.owned)
+    never (sym (queue_placed d owners e x here (only.endpoints e x here) kept).owned ∙ ap owners.owner (same_blocks x.queue head_block same) ∙ owners.owned.each.head.owned)
   where
     never : QueueOf e ≡ Head → ⊥
     never is = cc
@@ -115,11 +116,11 @@ module _ (fixed : Fixed) (member : ℕ → Bool) (x : Streams) (s : Standing) (w
           let b : HasBulkThere w.driver (32 * z.queue) = bulk_there w.driver (32 * z.queue) on in
           let owners = f.working.place.sound.owners in
           let same : e ≡ b.has.number =
-          queues_same z.queue b.has.endpoint.queue e b.has.number (thirty_two z.queue b.has.endpoint.queue b.has.at)
+          queues_same z.queue b.has.endpoint.queue e b.has.number (same_blocks z.queue b.has.endpoint.queue b.has.at)
           (queue_placed w.driver owners e z here (f.turns.asynchronous.endpoints e z here) kept)
           (queue_placed w.driver owners b.has.number b.has.endpoint b.has.here (f.turns.asynchronous.endpoints b.has.number b.has.endpoint b.has.here) b.has.there.kept) in
           let one : z ≡ b.has.endpoint = same_Some z b.has.endpoint (sym here ∙ ap (slice_get w.driver.endpoints) same ∙ b.has.here) in
-          let off : is_control z.desc.kind ≡ false = control_stream z.desc.kind (ap (λ (y : Endpoint). has_stream y.desc.kind) one ∙ b.stream) in
+          let off : is_control z.desc.kind ≡ false = no_control z.desc.kind (ap (λ (y : Endpoint). has_stream y.desc.kind) one ∙ b.stream) in
           false≢true (sym off ∙ control)
 
   pub control_streamless : (e : ℕ) (z : Endpoint) → slice_get w.driver.endpoints e ≡ Some z → z.gone ≡ false → is_control z.desc.kind ≡ true → x.streams (32 * z.queue) ≡ false

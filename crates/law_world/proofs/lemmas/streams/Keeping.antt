@@ -1,5 +1,6 @@
 -- What an event of the controller leaves of the unfinished command, of the extents of structures and of tails.
 use Rattle.std.proofs.Common.{◌≡◌, ℕ, ◌*◌, Bool, false, List, Option, Some, refl, sym, subst, inl, inr}
+use Rattle.law_driver_ring.proofs.Common.{extents_same}
 use Rattle.usb_base.specs.declared.packets.Ask.{Ask}
 use Rattle.usb_base.specs.declared.packets.Reply.{Reply}
 use Rattle.word_mem.specs.Memory.{Mem, word_at, reaches}
@@ -39,15 +40,9 @@ under_way_stays d m new member parts now _ owners stands same lent k = tt
 
 -- ---- an event of the controller
 
-same_extents : (parts now : StructureSets) → now ≡ parts → KeepExtents parts now
-same_extents parts now same = subst (KeepExtents parts) (sym same) (record {
-  buffers = λ n a pages k bs here. record { bytes = bs; here = here; size = refl };
-  tables = λ n a ws here. record { words = ws; here = here; size = refl };
-})
-
 module _ {W : Type 0} (begins : W → ℕ → Bool → W → Type 0) (transacts : W → Ask → List ℕ → Reply → W → Type 0) (base : Base) (member : ℕ → Bool) (parts : StructureSets) (hand : Hand) (c : Content) (wire after : W) (now : StructureSets) (later : Hand) (controlled : IsControlled base member parts hand c) where
   control_extents : ControlEffect begins transacts parts hand wire after now later → KeepExtents parts now
-  control_extents (a_microframe b) = same_extents parts now b.parts_stay
+  control_extents (a_microframe b) = extents_same parts now b.parts_stay
   control_extents (a_step s) = walk_keeps_extents transacts member parts hand (walk_place c).walk.reply wire after now later s.kind controlled.ring.in_hand s.effect
 
   pub runs_stay : (v : Views) → ControlEffect begins transacts parts hand wire after now later → AreInRuns v parts → AreInRuns v now

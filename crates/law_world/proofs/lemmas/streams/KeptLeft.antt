@@ -2,6 +2,7 @@
 use Rattle.std.proofs.Common.{◌≡◌, ◌≢◌, ℕ, ◌*◌, ◌==◌, Bool, true, false, if◌then◌else◌, List, [], Option, Some, None, ap, sym, subst, ◌∙◌, inl, refl}
 use Rattle.std.proofs.lemmas.Bool.{false≢true}
 use Rattle.std.specs.List.{concat}
+use Rattle.law_world.proofs.Common.{no_command}
 use Rattle.drv_table.specs.declared.content.Command.{Command}
 use Rattle.drv_table.specs.declared.rows.DriverRow.{DriverRow}
 use Rattle.drv_table.specs.declared.rows.DriverRow.TheVariants as rows
@@ -35,9 +36,6 @@ whole_of fixed takes member x s w k = record {
   ins_were = are_same x.stream;
   outs_were = are_same takes;
 }
-
-pub no_command : (o : Option Command) (c : Command) → o ≡ None → o ≡ Some c → ⊥
-no_command o c idle busy = let e : ◌≡◌ {A = Option Command} None (Some c) = sym idle ∙ busy in cc
 
 -- ---- what was moved of a queue that is new
 

@@ -1,5 +1,6 @@
 -- What a harvest leaves of all that a world carries.
-use Rattle.std.proofs.Common.{◌≡◌, ℕ, ◌-◌, ◌*◌, Bool, true, false, length, slice_get, Option, Some, None, ap, refl, sym, subst, ◌∙◌}
+use Rattle.std.proofs.Common.{◌≡◌, ℕ, ◌-◌, ◌*◌, Bool, true, false, length, slice_get, Option, None, ap, refl, sym, subst, ◌∙◌}
+use Rattle.law_queues.proofs.Common.{none_open}
 use Rattle.mem_runs.specs.declared.slots.Slot.{Slot}
 use Rattle.drv_table.specs.declared.content.Command.{Command}
 use Rattle.drv_table.specs.declared.content.Command.TheVariants as unfinished
@@ -36,9 +37,6 @@ use Rattle.law_world.specs.streams.Taking.{HaveSides}
 use Rattle.law_world.proofs.lemmas.streams.Names.{row_apart}
 
 -- ---- what is the same
-
-no_open : (b : ℕ) → ◌≡◌ {A = Option Command} None (Some (unfinished.Open b)) → ⊥
-no_open b bad = cc
 
 runs_stay : (v w : Views) (parts : StructureSets) → SameViews v w → AreInRuns v parts → AreInRuns w parts
 runs_stay v w parts same k =
@@ -77,7 +75,7 @@ module _ (fixed : Fixed) (takes : ℕ → ℕ → Bool) (member : ℕ → Bool) 
 
   -- none is being opened
   sides : (way : Bool) (has : ℕ → ℕ → Bool) → HaveSides way new has
-  sides way has i z here opens = absurd (no_open z.queue (sym command ∙ opens))
+  sides way has i z here opens = absurd (none_open z.queue (sym command ∙ opens))
 
   runs : AreInRuns (views_of new) s.parts
   runs =

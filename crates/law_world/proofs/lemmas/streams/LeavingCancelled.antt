@@ -1,5 +1,6 @@
 -- A cancel, accepted or refused, leaves a world whole.
 use Rattle.std.proofs.Common.{◌≡◌, ℕ, Bool, true, false, Result, Ok, Err, ap, sym, subst, ◌∙◌, refl}
+use Rattle.law_queues.proofs.Common.{not_open}
 use Rattle.usb_base.specs.declared.commands.Cmd.TheVariants as commands
 use Rattle.usb_base.specs.declared.endpoints.EpDesc.{EpDesc}
 use Rattle.usb_base.specs.declared.endpoints.EpName.{EpName}
@@ -22,7 +23,6 @@ use Rattle.law_driver_ring.proofs.Extending.{extents_stay}
 use Rattle.law_driver_ring.proofs.Opens.{cancel_views}
 use Rattle.law_queues.specs.open_laws.Opens.{AreNamesApart}
 use Rattle.law_queues.specs.leaving_drivers.Before.{WasSame, UnlinksAtMost, IsAsBefore}
-use Rattle.law_queues.proofs.lemmas.leaving_drivers.Alike.{not_open}
 use Rattle.law_queues.proofs.lemmas.leaving_drivers.Leaving.{cancel_is_as_before}
 use Rattle.law_world.specs.streams.Beside.{IsTold}
 use Rattle.law_world.proofs.lemmas.streams.FedBeside.{cancel_keeps_told}

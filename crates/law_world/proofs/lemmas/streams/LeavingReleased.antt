@@ -1,15 +1,15 @@
 -- The row that gives back an endpoint that has left the ring leaves a world whole.
-use Rattle.std.proofs.Common.{◌≡◌, ℕ, ◌*◌, Bool, true, false, cond, List, slice_get, Option, Some, None, sym, subst, ◌∙◌, refl, inl}
+use Rattle.std.proofs.Common.{◌≡◌, ℕ, ◌*◌, Bool, true, false, List, slice_get, Option, None, sym, subst, ◌∙◌, inl}
+use Rattle.law_world.proofs.Common.{none_opens}
+use Rattle.law_frame_list.proofs.Common.{endpoint_command}
 use Rattle.bus_wire.specs.Bus.{Fixed}
 use Rattle.drv_table.specs.declared.content.Command.{Command}
-use Rattle.drv_table.specs.declared.content.Command.TheVariants as unfinished
 use Rattle.drv_table.specs.declared.content.Endpoint.{Endpoint}
 use Rattle.drv_table.specs.declared.rows.DriverRow.{DriverRow}
 use Rattle.drv_table.specs.declared.rows.DriverRow.TheVariants as rows
 use Rattle.drv_table.specs.DriverContent.{DriverContent}
 use Rattle.drv_table.specs.Parts.{Parts}
 use Rattle.drv_table.specs.Rows.{driver_row, after_driver_row}
-use Rattle.drv_table.specs.Releases.{after_endpoint, is_told}
 use Rattle.law_driver.specs.run_owners.Due.{IsDue, IsEndpointDue}
 use Rattle.law_driver.proofs.lemmas.run_owners.Reasons.{each_event_is_due}
 use Rattle.law_driver.specs.chained_transfers.Out.{out_now}
@@ -41,19 +41,6 @@ use Rattle.law_world.proofs.lemmas.streams.LeavingCancelled.{idle_sides}
 use Rattle.law_world.proofs.lemmas.streams.Names.{row_apart}
 use Rattle.law_world.proofs.lemmas.streams.Fewer.{are_same}
 
-no_open : (c : Option Command) (b : ℕ) → c ≡ None → c ≡ Some (unfinished.Open b) → ⊥
-no_open c b idle opens = cc
-
--- whether a line of the report tells it, the rest of the content is the same
-told_same : {X : Type 0} (f : DriverContent → X) (g d : DriverContent) (b : Bool) → f g ≡ f d → f (cond b g d) ≡ f d
-told_same f g d true same = same
-told_same f g d false same = refl
-
--- the unfinished command stays
-row_command : (p : Parts) (e : ℕ) (o : Option Endpoint) → (after_endpoint p e o).driver.command ≡ p.driver.command
-row_command p e None = refl
-row_command p e (Some z) = told_same (λ (d : DriverContent). d.command) _ p.driver (is_told z) refl
-
 module _ (fixed : Fixed) (takes : ℕ → ℕ → Bool) (member : ℕ → Bool) (x : Streams) (s : Standing) (w : World) (e : ℕ) (row : driver_row (driver_parts w) ≡ rows.ReleaseEndpoint e) (k : IsWhole fixed takes member x s w) where
   abbrev p : Parts
   p = driver_parts w
@@ -81,7 +68,7 @@ module _ (fixed : Fixed) (takes : ℕ → ℕ → Bool) (member : ℕ → Bool) 
   by_row P here = subst (λ (r : DriverRow). P (after_driver_row r (driver_parts w)).driver) (sym row) here
 
   command : new.command ≡ None
-  command = by_row (λ (d : DriverContent). d.command ≡ None) (row_command p e (slice_get w.driver.endpoints e) ∙ due.idle)
+  command = by_row (λ (d : DriverContent). d.command ≡ None) (endpoint_command p e (slice_get w.driver.endpoints e) ∙ due.idle)
 
   idle : UnlinksAtMost new.command
   idle = subst UnlinksAtMost (sym command) tt
@@ -89,7 +76,7 @@ module _ (fixed : Fixed) (takes : ℕ → ℕ → Bool) (member : ℕ → Bool) 
   -- ---- what is told of it
 
   there : IsThere w.driver z
-  there = record { linked = λ opens. no_open w.driver.command z.queue due.idle opens; kept = leaver.leaves.held }
+  there = record { linked = λ opens. none_opens w.driver.command z.queue due.idle opens; kept = leaver.leaves.held }
 
   leaves : IsLeaver s.parts s.hand p e z
   leaves = record {

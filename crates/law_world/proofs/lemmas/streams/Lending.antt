@@ -1,5 +1,6 @@
 -- A world that is whole is so still, once its driver has lent a transfer.
 use Rattle.std.proofs.Common.{◌≡◌, ℕ, ◌-◌, ◌*◌, ◌≤◌, Bool, List, Option, Some, ap, refl, sym, subst, ◌∙◌, inl, inr, arith}
+use Rattle.law_controller.proofs.Common.{same_hand}
 use Rattle.word_mem.specs.Memory.{Mem}
 use Rattle.qh_qtd.specs.declared.qtd.Qtd.{Qtd}
 use Rattle.drv_table.specs.declared.content.Command.{Command}
@@ -18,7 +19,6 @@ use Rattle.law_queues.specs.released_queues.Fronts.{FrontsStand}
 use Rattle.law_queues.specs.standing_fronts.Reaching.{Reaches}
 use Rattle.law_queues.specs.open_laws.Opens.{AreNamesApart}
 use Rattle.law_queues.specs.fed_lends.ToLend.{IsToBeLent, lent_now}
-use Rattle.law_queues.proofs.lemmas.fed_lends.Reporting.{same_hand}
 use Rattle.bus_wire.specs.Bus.{Fixed}
 use Rattle.bus_world.specs.World.{World, driver_next}
 use Rattle.law_world.specs.steps.Streaming.{Streams, Standing}

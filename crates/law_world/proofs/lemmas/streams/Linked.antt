@@ -1,5 +1,6 @@
 -- The store by which an open is finished leaves a world whole.
-use Rattle.std.proofs.Common.{◌≡◌, ℕ, ◌*◌, Bool, false, Option, Some, None, ap, sym, subst, ◌∙◌}
+use Rattle.std.proofs.Common.{◌≡◌, ℕ, ◌*◌, Bool, false, Option, ap, sym, subst, ◌∙◌}
+use Rattle.law_queues.proofs.Common.{none_open}
 use Rattle.drv_table.specs.declared.content.Endpoint.{Endpoint}
 use Rattle.drv_table.specs.declared.content.Command.{Command}
 use Rattle.drv_table.specs.declared.content.Command.TheVariants as unfinished
@@ -26,9 +27,6 @@ use Rattle.law_world.proofs.lemmas.streams.FeedingLinks.{linked, found, at_open,
 use Rattle.law_world.proofs.lemmas.streams.Linking.{tails_then, runs_then, told_then}
 use Rattle.law_world.proofs.lemmas.streams.TakingOpens.{link_taking}
 use Rattle.law_world.specs.streams.Feeding.{AreControlsApart}
-
-no_open : (b : ℕ) → ◌≡◌ {A = Option Command} None (Some (unfinished.Open b)) → ⊥
-no_open b bad = cc
 
 module _ (fixed : Fixed) (takes : ℕ → ℕ → Bool) (member : ℕ → Bool) (x : Streams) (s : Standing) (w : World) (lent : IsOpenLent w.driver member s.parts) (k : IsWhole fixed takes member x s w) where
   abbrev e : Endpoint
@@ -62,8 +60,8 @@ module _ (fixed : Fixed) (takes : ℕ → ℕ → Bool) (member : ℕ → Bool) 
         feeding = link_feeding fixed member x s w lent k.feeding k.names (k.senders lent.number e lent.here lent.command alive);
         under_way = subst (λ (c : Option Command). IsUnderWay next (driver_next w).memory (with_member member n) now c) (ap (λ (d : DriverContent). d.command) is) tt;
         names = subst (λ (d : DriverContent). AreNamesApart d) is k.names;
-        senders = λ i z there opens. absurd (no_open z.queue (ap (λ (d : DriverContent). d.command) is ∙ opens));
-        takers = λ i z there opens. absurd (no_open z.queue (ap (λ (d : DriverContent). d.command) is ∙ opens));
+        senders = λ i z there opens. absurd (none_open z.queue (ap (λ (d : DriverContent). d.command) is ∙ opens));
+        takers = λ i z there opens. absurd (none_open z.queue (ap (λ (d : DriverContent). d.command) is ∙ opens));
         controls_apart = subst (λ (d : DriverContent). AreControlsApart d takes) is k.controls_apart;
         taking = link_taking fixed takes member x s w lent k;
         runs = subst (λ (d : DriverContent). AreInRuns (views_of d) now) is (runs_then p member x.streams x.endpoint s.parts s.order s.out at k.runs);

@@ -2,7 +2,11 @@
 use Rattle.std.proofs.Common.{◌≡◌, ◌≢◌, ℕ, ◌*◌, ◌-◌, Bool, true, false, List, [], length, slice_get, Option, Some, None, ap, refl, sym, subst, ◌∙◌, ⊎_elim, arith}
 use Rattle.std.proofs.lemmas.Bool.{cases_eq, true≢false}
 use Rattle.std.proofs.lemmas.Option.{same_Some}
-use Rattle.link_words.specs.declared.kinds.QtdLink.TheVariants as qtd_links
+use Rattle.law_queues.proofs.Common.{one_target, same_queue}
+use Rattle.law_driver_ring.proofs.Common.{one_element}
+use Rattle.law_common.proofs.Numbers.{same_blocks}
+use Rattle.law_controller.proofs.Common.{heads_stay, elements_stay}
+use Rattle.law_world.proofs.Common2.{reach_beside}
 use Rattle.link_words.specs.Links.{qtd_link_of}
 use Rattle.hc_copy.specs.Visits.{next_pointer}
 use Rattle.qh_qtd.specs.declared.qtd.Qtd.{Qtd}
@@ -10,18 +14,16 @@ use Rattle.qh_qtd.specs.declared.queue_head.Qh.{Qh}
 use Rattle.drv_table.specs.declared.content.Endpoint.{Endpoint}
 use Rattle.drv_table.specs.declared.content.Transfer.{Transfer}
 use Rattle.drv_table.specs.declared.content.Command.{Command}
-use Rattle.drv_table.specs.declared.content.Command.TheVariants as unfinished
 use Rattle.drv_table.specs.DriverContent.{DriverContent}
 use Rattle.drv_table.specs.Parts.{Parts as DriverParts}
 use Rattle.drv_table.specs.Words.{head_block, to_queue_head, queue_head, dummy_qtd}
-use Rattle.claims_driver.specs.Owners.{EndpointRuns, Head, QueueHead as QueueOf, runs_of_endpoint, views_of}
-use Rattle.law_structures.specs.lent_structures.Structures.{Structure, QueueHead, Element, Structures, StructureSets, with_structure}
+use Rattle.claims_driver.specs.Owners.{Head, QueueHead as QueueOf, runs_of_endpoint, views_of}
+use Rattle.law_structures.specs.lent_structures.Structures.{QueueHead, Element, Structures, StructureSets}
 use Rattle.law_structures.proofs.lemmas.lent_structures.Names.{put_beside, put_same}
-use Rattle.law_structures.proofs.lemmas.lent_structures.Altering.{found_queue, same_element}
+use Rattle.law_structures.proofs.lemmas.lent_structures.Altering.{found_queue}
 use Rattle.law_ring.specs.Hand.{Hand}
-use Rattle.law_ring.proofs.Parting.{found_with}
 use Rattle.law_ring.specs.Told.{Endpoint as Told, endpoint_of}
-use Rattle.law_driver_ring.specs.Linked.{no_part, opened_part, head_at}
+use Rattle.law_driver_ring.specs.Linked.{head_at}
 use Rattle.law_driver_ring.specs.Extents.{AreInRuns}
 use Rattle.law_driver_ring.proofs.Extending.{extents_stay, head_put}
 use Rattle.law_ring.specs.Sparing.{SparesHead}
@@ -31,7 +33,7 @@ use Rattle.law_controller.proofs.lemmas.controlled_streams.Beginning.{list_here,
 use Rattle.law_driver.specs.chained_transfers.Asynchronous.{StandsAsynchronous}
 use Rattle.law_driver.proofs.lemmas.chained_transfers.Staying.{linked_stands_alive, told_stands_alive}
 use Rattle.law_driver_ring.specs.fed_queues.Places.{IsMet}
-use Rattle.law_queues.proofs.lemmas.publish_laws.Apart.{queue_placed, queues_same, thirty_two}
+use Rattle.law_queues.proofs.lemmas.publish_laws.Apart.{queue_placed, queues_same}
 use Rattle.law_queues.specs.harvest_laws.Told.{ToldStands}
 use Rattle.law_queues.proofs.lemmas.harvest_laws.Standing.{spared_is_told, met_is_told}
 use Rattle.law_queues.specs.standing_fronts.Reaching.{Reaches}
@@ -39,28 +41,8 @@ use Rattle.law_queues.specs.open_laws.Opens.{IsAtOpen, head_then, hand_then}
 use Rattle.law_queues.proofs.lemmas.open_laws.Linking.{here}
 use Rattle.law_queues.proofs.lemmas.open_laws.Standing.{element_was}
 use Rattle.law_queues.specs.standing_fronts.Tails.{tail_block, tail_of, TailsStand}
-use Rattle.law_world.proofs.lemmas.streams.OpenBeside.{heads_stay, elements_stay, reaches_beside}
 
 -- ---- a new queue
-
--- the one qTD of a new endpoint
-one_element : (r : EndpointRuns) (q : Qh) (a : ℕ) (t : Qtd) → opened_part r q a ≡ Some (Element t) → dummy_qtd ≡ t
-one_element r q a t found =
-    let one : Structures = with_structure no_part (32 * r.queue) (QueueHead q) in
-    ⊎_elim (λ (new : (a ≡ 32 * r.dummy) × (Element dummy_qtd ≡ Element t)). same_element dummy_qtd t new.1)
-    (λ (old : (a ≢ 32 * r.dummy) × (one a ≡ Some (Element t))).
-    ⊎_elim (λ (head : (a ≡ 32 * r.queue) × (QueueHead q ≡ Element t)). absurd (never head.1))
-    (λ (none : (a ≢ 32 * r.queue) × (no_part a ≡ Some (Element t))). absurd (nothing none.1)) (found_with no_part (32 * r.queue) a (QueueHead q) (Element t) old.1))
-    (found_with one (32 * r.dummy) a (Element dummy_qtd) (Element t) found)
-  where
-    never : QueueHead q ≡ Element t → ⊥
-    never same = cc
-
-    nothing : ◌≡◌ {A = Option Structure} None (Some (Element t)) → ⊥
-    nothing none = cc
-
-same_address : (a b : ℕ) → qtd_links.To a ≡ qtd_links.To b → a ≡ b
-same_address a b same = cc
 
 -- its front is before all, and its inactive qTD is its tail
 new_reaches : (d : DriverContent) (part : Structures) (order : ℕ → ℕ) (e : ℕ) (x : Endpoint) (link : ℕ) → part (32 * x.queue) ≡ Some (QueueHead (queue_head x.desc link x.dummy))
@@ -85,7 +67,7 @@ new_reaches d part order e x link head idle none = record {
   tail = record {
     most = omega arith;
     rest = λ q b found going off leads.
-        let to : 32 * x.dummy ≡ b = same_address (32 * x.dummy) b (ap (λ (z : Qh). qtd_link_of (next_pointer z)) (sym (is q found)) ∙ leads) in
+        let to : 32 * x.dummy ≡ b = one_target (32 * x.dummy) b (ap (λ (z : Qh). qtd_link_of (next_pointer z)) (sym (is q found)) ∙ leads) in
         let same : order (32 * x.dummy) ≡ order b = ap order to in
         omega (arith, same);
   };
@@ -98,9 +80,6 @@ new_reaches d part order e x link head idle none = record {
     off_is a t found on = true≢false (sym on ∙ ap (λ (u : Qtd). u.token.active) (sym (idle a t found)))
 
 -- ---- the store
-
-one_open : (b c : ℕ) → Some (unfinished.Open b) ≡ Some (unfinished.Open c) → b ≡ c
-one_open b c same = cc
 
 module _ (p : DriverParts) (member streams : ℕ → Bool) (ends : ℕ → Told) (parts : StructureSets) (order : ℕ → ℕ → ℕ) (out : ℕ → List ℕ) (k : IsAtOpen p.driver p.memory member streams ends parts order out) where
   abbrev d : DriverContent
@@ -134,7 +113,7 @@ module _ (p : DriverParts) (member streams : ℕ → Bool) (ends : ℕ → Told)
 
   not_head : (e : ℕ) (y : Endpoint) → slice_get d.endpoints e ≡ Some y → y.gone ≡ false → 32 * y.queue ≢ head_at
   not_head e y there kept same =
-      never (sym (queue_placed d k.sound.owners e y there (k.turns.asynchronous.endpoints e y there) kept).owned ∙ ap k.sound.owners.owner (thirty_two y.queue head_block same) ∙ k.sound.owners.owned.each.head.owned)
+      never (sym (queue_placed d k.sound.owners e y there (k.turns.asynchronous.endpoints e y there) kept).owned ∙ ap k.sound.owners.owner (same_blocks y.queue head_block same) ∙ k.sound.owners.owned.each.head.owned)
     where
       never : QueueOf e ≡ Head → ⊥
       never z = cc
@@ -168,12 +147,12 @@ module _ (p : DriverParts) (member streams : ℕ → Bool) (ends : ℕ → Told)
 
   met_before : (e : ℕ) (y : Endpoint) → slice_get d.endpoints e ≡ Some y → e ≢ k.lent.number → IsMet f e y → IsMet d e y
   met_before e y there differs met = record {
-    there = record { linked = λ same. differs (same_number e y there met.there.kept (one_open y.queue x.queue (sym same ∙ k.lent.command))); kept = met.there.kept };
+    there = record { linked = λ same. differs (same_number e y there met.there.kept (same_queue y.queue x.queue (sym same ∙ k.lent.command))); kept = met.there.kept };
     near = met.near;
   }
 
   apart : (e : ℕ) (y : Endpoint) → slice_get d.endpoints e ≡ Some y → y.gone ≡ false → e ≢ k.lent.number → 32 * y.queue ≢ n
-  apart e y there kept differs same = differs (same_number e y there kept (thirty_two y.queue x.queue same))
+  apart e y there kept differs same = differs (same_number e y there kept (same_blocks y.queue x.queue same))
 
   -- ---- fronts and tails
 
@@ -188,7 +167,7 @@ module _ (p : DriverParts) (member streams : ℕ → Bool) (ends : ℕ → Told)
       → Reaches f (now (32 * y.queue)) (order (32 * y.queue)) (with_none out n (32 * y.queue)) e y (32 * y.dummy)
   old_front e y there kept differs was =
       let m = 32 * y.queue in
-      reaches_beside d d.book None 0 (now m) (order m) (with_none out n m) e y (32 * y.dummy)
+      reach_beside d d.book None 0 (now m) (order m) (with_none out n m) e y (32 * y.dummy)
       (subst (λ (xs : List ℕ). Reaches d (now m) (order m) xs e y (32 * y.dummy)) (sym (list_beside out n m (apart e y there kept differs)))
       (subst (λ (part : Structures). Reaches d part (order m) (out m) e y (32 * y.dummy)) (sym (stay e y there kept))
       (subst (λ (c : Option Command). Reaches d (parts m) (order m) (out m) e y (32 * tail_block c (slice_get d.transfers (length d.transfers - 1)) e y.dummy)) k.lent.command was)))

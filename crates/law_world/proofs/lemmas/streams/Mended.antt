@@ -4,10 +4,10 @@ use Rattle.std.proofs.Common.{◌≡◌, ◌≢◌, ℕ, ◌*◌, ◌≤◌, ◌
 use Rattle.std.specs.List.{concat}
 use Rattle.std.proofs.lemmas.Bool.{cases_eq, false≢true, true≢false}
 use Rattle.std.proofs.lemmas.Option.{same_Some}
+use Rattle.law_driver_ring.proofs.Common.{lent_slot}
+use Rattle.law_common.proofs.Numbers.{same_blocks}
 use Rattle.qh_qtd.specs.declared.queue_head.Qh.{Qh}
 use Rattle.mem_runs.specs.Book.{slot_of}
-use Rattle.mem_runs.specs.declared.slots.Slot.{Slot}
-use Rattle.mem_runs.specs.declared.slots.Slot.TheVariants.{Empty}
 use Rattle.bus_wire.specs.Bus.{Fixed}
 use Rattle.drv_table.specs.declared.content.Endpoint.{Endpoint}
 use Rattle.drv_table.specs.declared.content.Command.{Command}
@@ -17,7 +17,6 @@ use Rattle.drv_table.specs.Parts.{Parts as DriverParts}
 use Rattle.law_driver.specs.endpoint_lives.Lives.{told_end}
 use Rattle.claims_driver.specs.Owners.{Dummy, runs_of_endpoint}
 use Rattle.law_driver.proofs.lemmas.run_owners.Runs.{placed_run}
-use Rattle.claims_driver.specs.LentRuns.{IsLent as IsLentSlot}
 use Rattle.law_driver.proofs.lemmas.lent_runs.Laws.{all_are_lent_between_commands}
 use Rattle.law_structures.specs.lent_structures.Structures.{QueueHead, Structures}
 use Rattle.law_structures.specs.lent_structures.Sound.{IsElement, IsSoundQueue, IsMember}
@@ -30,7 +29,7 @@ use Rattle.law_driver.proofs.lemmas.chained_transfers.Staying.{told_stands_alive
 use Rattle.law_driver_ring.specs.fed_queues.Places.{IsThere, IsMet}
 use Rattle.law_queues.specs.released_queues.Fronts.{piece_address}
 use Rattle.law_queues.specs.standing_fronts.Reaching.{Reaches}
-use Rattle.law_queues.proofs.lemmas.publish_laws.Apart.{queue_placed, queues_same, thirty_two}
+use Rattle.law_queues.proofs.lemmas.publish_laws.Apart.{queue_placed, queues_same}
 use Rattle.law_queues.specs.harvest_laws.Told.{ToldStands}
 use Rattle.law_driver_ring.proofs.lemmas.told_harvests.Keeping.{spared_is_done}
 use Rattle.law_queues.proofs.lemmas.harvest_laws.Standing.{still_told, alike_is_told}
@@ -53,10 +52,6 @@ use Rattle.law_world.proofs.lemmas.streams.TakingAlike.{out_on}
 use Rattle.law_world.proofs.lemmas.streams.Heads.{heads_are_there}
 use Rattle.law_world.proofs.lemmas.streams.FedMending.{headless}
 use Rattle.law_world.proofs.lemmas.streams.Onward.{ends_before, pieces_before}
-
-lent_slot : (s : Slot) → IsLentSlot s → IsLent s
-lent_slot Empty lent = lent
-lent_slot _ lent = lent
 
 module _ (fixed : Fixed) (member : ℕ → Bool) (x : Streams) (s : Standing) (w : World) (k : IsAtMend (driver_parts w) s.parts s.out) (f : IsFeeding fixed member x s w) where
   abbrev p : DriverParts
@@ -245,7 +240,7 @@ module _ (fixed : Fixed) (member : ℕ → Bool) (x : Streams) (s : Standing) (w
       reaches_then =
           ⊎_elim (λ (same : z.queue ≡ k.stalled.queue). own_reaches same)
           (λ (differs : z.queue ≢ k.stalled.queue).
-          reaches_on old (λ own. absurd (differs (thirty_two z.queue k.stalled.queue own))) (λ own. absurd (differs (thirty_two z.queue k.stalled.queue own)))) (cases_eq z.queue k.stalled.queue)
+          reaches_on old (λ own. absurd (differs (same_blocks z.queue k.stalled.queue own))) (λ own. absurd (differs (same_blocks z.queue k.stalled.queue own)))) (cases_eq z.queue k.stalled.queue)
 
     tails_then : IdleTailsStand (driver_next w).driver (mended s k).parts s.order s.out
     tails_then =

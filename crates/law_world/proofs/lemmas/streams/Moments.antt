@@ -2,6 +2,7 @@
 use Rattle.std.proofs.Common.{◌≡◌, ℕ, Bool, true, false, List, [], ◌∷◌, Ok, ap, subst, ◌∙◌, ⊎_elim}
 use Rattle.std.specs.Prelude.{is_some}
 use Rattle.std.specs.List.{AllByRecursion}
+use Rattle.law_driver.proofs.Common.{in_way, out_way}
 use Rattle.usb_base.specs.declared.commands.Cmd.{Cmd}
 use Rattle.usb_base.specs.declared.commands.Cmd.TheVariants as commands
 use Rattle.usb_base.specs.declared.endpoints.EpDesc.{EpDesc}
@@ -40,7 +41,6 @@ use Rattle.bus_world.specs.World.{World, driver_next, controller_next, commanded
 use Rattle.bus_world.specs.Budgets.{moment}
 use Rattle.law_world.specs.steps.Streaming.{Streams}
 use Rattle.claims_driver.specs.Scripts.{IsKindOf, IsAsynchronous, OpensAsynchronous, AsynchronousLine, AsynchronousOnly}
-use Rattle.law_driver.proofs.lemmas.chained_transfers.Ways.{way_comes_in, way_sends}
 use Rattle.law_world.specs.streams.narrowed_streams.Narrowed.{IsOnSide}
 use Rattle.law_world.specs.streams.right_worlds.Right.{AreOfScript}
 use Rattle.law_world.proofs.lemmas.streams.lemmas.right_worlds.Beginning.{world_is_right}
@@ -88,8 +88,8 @@ control_alone s x zeroes only named way =
 opens_to : (s : Script) (cmd : Cmd) → AreZeroesAlone (opening_bus s) → OpensAsynchronous cmd → OpensItsSender s (lines.Command cmd) → OpensItsTaker s (lines.Command cmd) → NamesLine (lines.Command cmd)
     → OpensTo (streams_of s).stream (takes_of s) cmd
 opens_to s (commands.OpenEp x) zeroes only sends takes named = (
-  λ comes. let way = way_comes_in x.name.way comes in ap is_some (sends (subst (λ (v : Way). IsKindOf v x.kind) way only.kind) only.speed way),
-  λ goes. let way = way_sends x.name.way goes in ap is_some (takes (subst (λ (v : Way). IsKindOf v x.kind) way only.kind) only.speed way),
+  λ comes. let way = in_way x.name.way comes in ap is_some (sends (subst (λ (v : Way). IsKindOf v x.kind) way only.kind) only.speed way),
+  λ goes. let way = out_way x.name.way goes in ap is_some (takes (subst (λ (v : Way). IsKindOf v x.kind) way only.kind) only.speed way),
   control_alone s x zeroes only named,
 )
 opens_to s (commands.Get name len by) zeroes only sends takes named = tt

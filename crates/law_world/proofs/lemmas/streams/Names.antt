@@ -1,6 +1,7 @@
 -- What is known of each endpoint's description stays known: no row changes one, and a command adds at most the one that it opens.
 use Rattle.std.proofs.Common.{◌≡◌, ◌≢◌, ℕ, ◌-◌, Bool, false, List, length, get_or, take, slice_get, Option, Some, None, Ok, option_map, ap, refl, sym, subst, ◌∙◌, ⊎_elim}
 use Rattle.std.proofs.lemmas.Option.{same_Some}
+use Rattle.law_common.proofs.Lists.{push_which}
 use Rattle.usb_base.specs.declared.commands.Cmd.{Cmd}
 use Rattle.usb_base.specs.declared.commands.Cmd.TheVariants as commands
 use Rattle.usb_base.specs.declared.endpoints.EpDesc.{EpDesc}
@@ -20,7 +21,7 @@ use Rattle.law_driver.specs.chained_transfers.Asynchronous.{AcceptsAsynchronous}
 use Rattle.law_driver.specs.chained_transfers.AsynchronousTurns.{AsynchronousTakesTurns}
 use Rattle.law_driver.proofs.lemmas.chained_transfers.Accepting.{asynchronous_command_is_accepted}
 use Rattle.law_queues.proofs.lemmas.commanded_queues.Which.{opens_its_own}
-use Rattle.law_queues.proofs.lemmas.fed_lends.Asked.{push_which, set_which}
+use Rattle.law_queues.proofs.lemmas.fed_lends.Asked.{set_which}
 use Rattle.law_queues.specs.leaving_drivers.Before.{WasSame}
 use Rattle.law_queues.proofs.lemmas.leaving_drivers.Leaving.{cancel_is_as_before}
 use Rattle.bus_world.specs.World.{World}

@@ -1,13 +1,14 @@
 -- An endpoint keeps its name and its side from when it was opened, and no other is opened by them (USB 2.0, 5.3.1 and 8.3.2).
-use Rattle.std.proofs.Common.{◌≡◌, ℕ, zero, suc, Bool, true, cond, ◌-◌, List, [], ◌∷◌, ◌++◌, length, take, get_or, slice_get, Option, Some, None, Result, Ok, Err, option_map, ap, refl, sym, subst, ◌∙◌, ⊎_elim, inr}
+use Rattle.std.proofs.Common.{◌≡◌, ℕ, Bool, true, cond, ◌-◌, List, [], ◌∷◌, ◌++◌, length, take, get_or, slice_get, Option, Some, None, Result, Ok, Err, option_map, ap, refl, sym, subst, ◌∙◌, ⊎_elim, inr}
 use Rattle.std.specs.Prelude.{is_some}
 use Rattle.std.proofs.lemmas.Option.{same_Some}
+use Rattle.law_common.proofs.Lists.{still_there}
+use Rattle.law_queues.proofs.Common.{name_is}
+use Rattle.law_driver.proofs.Common.{again_none}
 use Rattle.usb_base.specs.declared.commands.Cmd.{Cmd}
 use Rattle.usb_base.specs.declared.commands.Cmd.TheVariants as commands
-use Rattle.usb_base.specs.declared.endpoints.EndCause.{EndCause}
 use Rattle.usb_base.specs.declared.endpoints.EpDesc.{EpDesc}
 use Rattle.usb_base.specs.declared.endpoints.EpName.{EpName}
-use Rattle.usb_base.specs.declared.packets.Way.{Way}
 use Rattle.usb_base.specs.declared.reports.OfferError.{OfferError}
 use Rattle.usb_base.specs.declared.reports.OfferError.TheVariants as errors
 use Rattle.word_mem.specs.Memory.{Mem}
@@ -59,15 +60,9 @@ descs_named d f same way addr ep k = by_place d f way addr ep k (slice_get f.end
 before_named : (d f : DriverContent) → IsAsBefore d f → KeepsNames d f
 before_named d f before way addr ep k = let now = before.ends_now k.number k.endpoint k.here in same_named d f way addr ep k now.endpoint now.here (sym now.desc)
 
--- an endpoint more
-stays_before : {X : Type 0} (xs ys : List X) (n : ℕ) (x : X) → slice_get xs n ≡ Some x → slice_get (xs ++ ys) n ≡ Some x
-stays_before [] ys n x here = absurd cc
-stays_before (y ∷ xs) ys zero x here = here
-stays_before (y ∷ xs) ys (suc n) x here = stays_before xs ys n x here
-
 more_named : (d f : DriverContent) (new : Endpoint) → f.endpoints ≡ d.endpoints ++ new ∷ [] → KeepsNames d f
 more_named d f new is way addr ep k =
-    same_named d f way addr ep k k.endpoint (ap (λ (xs : List Endpoint). slice_get xs k.number) is ∙ stays_before d.endpoints (new ∷ []) k.number k.endpoint k.here) refl
+    same_named d f way addr ep k k.endpoint (ap (λ (xs : List Endpoint). slice_get xs k.number) is ∙ still_there d.endpoints (new ∷ []) k.number k.endpoint k.here) refl
 
 -- ---- along events and commands
 
@@ -110,25 +105,9 @@ stays_on d f way base before now keeps first second addr ep on =
 
 -- ---- no other is opened by its name and side
 
-same_parts : (a b : EpName) → a.addr ≡ b.addr → a.num ≡ b.num → a.way ≡ b.way → a ≡ b
-same_parts a b addr num way =
-    ap (λ (n : ℕ). record a { addr = n }) addr ∙ ap (λ (n : ℕ). record a { addr = b.addr; num = n }) num ∙ ap (λ (v : Way). record b { way = v }) way
-
-opened_again : (d : DriverContent) (m : Mem) (x : EpDesc) (o : Offered) (old : Endpoint) (c : Option EndCause) → old.ended ≡ c → offered_open d m x (Some old) ≡ Ok o → ⊥
-opened_again d m x o old (Some cause) is f =
-    let e : offered_open d m x (Some old) ≡ Err (errors.Closed cause) = ap (λ (k : Option EndCause). by k) is in cc
-  where
-    by : Option EndCause → Result Offered OfferError
-    by k = elim k [ Some cause ↦ Err (errors.Closed cause) | None ↦ Err errors.AlreadyOpen ]
-opened_again d m x o old None is f =
-    let e : offered_open d m x (Some old) ≡ Err errors.AlreadyOpen = ap (λ (k : Option EndCause). by k) is in cc
-  where
-    by : Option EndCause → Result Offered OfferError
-    by k = elim k [ Some cause ↦ Err (errors.Closed cause) | None ↦ Err errors.AlreadyOpen ]
-
 by_busy : (d : DriverContent) (m : Mem) (x : EpDesc) (o : Offered) (old : Endpoint) (c : Option Command) → endpoint_named d x.name ≡ Some old → cond (is_some c) (Err errors.Busy) (offered_next d m (commands.OpenEp x)) ≡ Ok o → ⊥
 by_busy d m x o old (Some c) is f = absurd cc
-by_busy d m x o old None is f = opened_again d m x o old old.ended refl (ap (λ (q : Option Endpoint). offered_open d m x q) (sym is) ∙ f)
+by_busy d m x o old None is f = again_none d m x o old old.ended refl (ap (λ (q : Option Endpoint). offered_open d m x q) (sym is) ∙ f)
 
 named_already : (d : DriverContent) (m : Mem) (x : EpDesc) (o : Offered) → AreNamesApart d → HasNamed d.endpoints x.name → offered d m (commands.OpenEp x) ≡ Ok o → ⊥
 named_already d m x o apart k f =
@@ -145,5 +124,5 @@ named_once d m x o way apart side k f =
       number = k.number;
       endpoint = k.endpoint;
       here = k.here;
-      same = same_parts k.endpoint.desc.name x.name k.named.0 k.named.1 (same_way way k.endpoint.desc.name.way x.name.way k.side side);
+      same = name_is k.endpoint.desc.name x.name k.named.0 k.named.1 (same_way way k.endpoint.desc.name.way x.name.way k.side side);
     }) f

@@ -3,13 +3,15 @@ use Rattle.std.proofs.Common.{◌≡◌, ◌≢◌, ℕ, zero, suc, ◌+◌, ◌
 use Rattle.std.specs.Prelude.{nat_eq}
 use Rattle.std.proofs.lemmas.Bool.{cases_eq, cases_lt, true≢false}
 use Rattle.std.proofs.lemmas.Option.{same_Some}
+use Rattle.law_world.proofs.Common.{harvested_told}
+use Rattle.law_driver.proofs.Common.{piece_next}
 use Rattle.link_words.specs.declared.kinds.QtdLink.TheVariants as qtd_links
 use Rattle.link_words.specs.Links.{qtd_link_of}
 use Rattle.drv_table.specs.declared.content.Endpoint.{Endpoint}
 use Rattle.drv_table.specs.declared.content.Transfer.{Transfer}
 use Rattle.drv_table.specs.DriverContent.{DriverContent}
 use Rattle.claims_driver.specs.Owners.{TransferRuns, runs_of_transfer, views_of, note_in}
-use Rattle.claims_driver.specs.Leaving.{owes, HasOwners}
+use Rattle.claims_driver.specs.Leaving.{HasOwners}
 use Rattle.law_structures.specs.lent_structures.Structures.{StructureSets}
 use Rattle.law_ring.specs.Front.{LinksRise}
 use Rattle.law_driver.specs.chained_transfers.AsynchronousTurns.{AsynchronousTakesTurns}
@@ -17,25 +19,13 @@ use Rattle.law_driver.specs.chained_transfers.Chains.{NoneFrom}
 use Rattle.law_driver.specs.chained_transfers.Turns.{Turn, turn_of, turn_in, IsNext}
 use Rattle.law_driver_ring.specs.fed_queues.Fed.{AreFed, unpublished_of}
 use Rattle.law_queues.specs.released_queues.Fronts.{piece_address, end_at}
-use Rattle.law_queues.proofs.lemmas.released_queues.Pieces.{piece_next}
 use Rattle.law_queues.proofs.lemmas.released_queues.Queues.{none_yet}
-use Rattle.law_queues.proofs.lemmas.standing_fronts.Lists.{times_some}
 
 -- ---- what was harvested was reported
 
 owed_by : (a b : Bool) → 1 ≤ (if a && not b then 1 else 0) → a ≡ true
 owed_by true b some = refl
 owed_by false b some = absurd (omega (arith, some))
-
-owed_told : (o : Option Transfer) (y : Transfer) → o ≡ Some y → 1 ≤ owes o → y.reported ≡ true
-owed_told None y here some = absurd (omega (arith, some))
-owed_told (Some z) y here some = ap (λ (r : Transfer). r.reported) (sym (same_Some z y here)) ∙ owed_by z.reported z.released some
-
-harvested_told : (d : DriverContent) (i u : ℕ) (y : Transfer) → HasOwners d → slice_get d.harvested i ≡ Some u → slice_get d.transfers u ≡ Some y → y.reported ≡ true
-harvested_told d i u y owners listed here =
-    let some = times_some d.harvested i u listed in
-    let most = owners.orderly.harvests u in
-    owed_told (slice_get d.transfers u) y here (omega (arith, some, most))
 
 -- ---- the order of the qTDs
 

@@ -1,12 +1,15 @@
 -- The lend of an open's structures leaves a world whole.
 use Rattle.std.proofs.Common.{◌≡◌, ◌≢◌, ℕ, suc, ◌*◌, Bool, nat_lt, if◌then◌else◌, List, Option, Some, None, ap, refl, sym, subst, ◌∙◌, ⊎_elim, inr}
 use Rattle.std.proofs.lemmas.Bool.{cases_eq}
-use Rattle.word_mem.specs.Runs.{Run}
+use Rattle.law_descriptors.proofs.Common.{none_some}
+use Rattle.law_world.proofs.Common.{kept_has}
+use Rattle.law_controller.proofs.Common.{same_hand, heads_stay, elements_stay}
+use Rattle.law_common.proofs.Numbers.{same_blocks}
+use Rattle.law_world.proofs.Common2.{reach_beside}
 use Rattle.qh_qtd.specs.declared.queue_head.Qh.{Qh}
 use Rattle.async_walk.specs.Rows.{place}
 use Rattle.mem_runs.specs.declared.slots.Slot.{Slot}
-use Rattle.mem_runs.specs.declared.slots.Slot.TheVariants.{Keeps, Lends}
-use Rattle.mem_runs.specs.Book.{Book, Holding, holding, slot_of, slot_at, lend_taken}
+use Rattle.mem_runs.specs.Book.{Book, holding, slot_of, lend_taken}
 use Rattle.drv_table.specs.declared.content.Endpoint.{Endpoint}
 use Rattle.drv_table.specs.declared.content.Command.{Command}
 use Rattle.drv_table.specs.declared.content.Command.TheVariants as unfinished
@@ -31,7 +34,6 @@ use Rattle.law_driver_ring.proofs.LendOwning.{none_there, queue_no_dummy}
 use Rattle.law_driver_ring.specs.Extents.{AreInRuns}
 use Rattle.law_driver_ring.proofs.Extending.{extents_stay, head_put, element_put}
 use Rattle.law_ring.specs.Sparing.{SparesHead, SparesElement}
-use Rattle.law_controller.proofs.lemmas.controlled_streams.Storing.{same_hand}
 use Rattle.law_driver.proofs.lemmas.in_place.Laws.{events_keep_all_in_place}
 use Rattle.law_devices.specs.Senders.{sender_of}
 use Rattle.bus_wire.specs.Bus.{Fixed}
@@ -39,7 +41,6 @@ use Rattle.bus_world.specs.World.{World, driver_parts, driver_next}
 use Rattle.law_world.specs.steps.Streaming.{Streams, Standing, wired}
 use Rattle.law_driver.proofs.lemmas.chained_transfers.Events.{events_keep_asynchronous_turns}
 use Rattle.law_driver.proofs.lemmas.chained_transfers.Staying.{linked_stands_alive}
-use Rattle.law_queues.proofs.lemmas.publish_laws.Apart.{thirty_two}
 use Rattle.law_queues.specs.harvest_laws.Told.{ToldStands}
 use Rattle.law_queues.proofs.lemmas.harvest_laws.Standing.{spared_is_told, alike_is_told}
 use Rattle.law_queues.specs.open_laws.Opens.{IsOpenLent, AreNamesApart, next_of}
@@ -58,18 +59,9 @@ use Rattle.law_world.specs.streams.Tails.{IsUnderWay}
 use Rattle.law_world.specs.streams.Whole.{HaveSenders, IsWhole}
 use Rattle.law_world.specs.streams.Laws.{OpenLendKeepsWhole}
 use Rattle.law_world.specs.streams.Taking.{HaveTakers}
-use Rattle.law_world.proofs.lemmas.streams.OpenBeside.{streams_at, still_frameless, heads_stay, elements_stay, reaches_beside}
+use Rattle.law_world.proofs.lemmas.streams.OpenBeside.{streams_at, still_frameless}
 use Rattle.law_world.proofs.lemmas.streams.KeptLeft.{whole_of, busy_left}
 use Rattle.law_world.proofs.lemmas.streams.TakingOpens.{open_lend_taking}
-
--- a run that was kept and is lent has its blocks still
-kept_has : (h g : Holding) (b c k : ℕ) (r : Run) → slot_at h b ≡ Keeps r → slot_at g b ≡ Lends r → c ≡ b → SlotHas (slot_at h c) k → SlotHas (slot_at g c) k
-kept_has h g b c k r kept lent same inside =
-    let has : SlotHas (Keeps r) k = subst (λ (s : Slot). SlotHas s k) (ap (slot_at h) same ∙ kept) inside in
-    subst (λ (s : Slot). SlotHas s k) (sym (ap (slot_at g) same ∙ lent)) has
-
-no_structure : (s : Structure) → ◌≡◌ {A = Option Structure} None (Some s) → ⊥
-no_structure s same = cc
 
 module _ (p : DriverParts) (ready : IsOpenReady p.driver p.memory) (owners : HasOwners p.driver) (parts : StructureSets) (driven : IsDriven (views_of p.driver) (sorts_of parts)) where
   abbrev d : DriverContent
@@ -120,7 +112,7 @@ module _ (p : DriverParts) (ready : IsOpenReady p.driver p.memory) (owners : Has
   stay m differs = put_beside one n (32 * x.dummy) (Element dummy_qtd) m differs ∙ put_beside parts n n (QueueHead q) m differs
 
   never : (m a : ℕ) (s : Structure) → m ≡ n → parts m a ≡ Some s → ⊥
-  never m a s same here = no_structure s (sym (none a) ∙ sym (ap (λ (i : ℕ). parts i a) same) ∙ here)
+  never m a s same here = none_some s (sym (none a) ∙ sym (ap (λ (i : ℕ). parts i a) same) ∙ here)
 
   pub spares_head : (m : ℕ) → SparesHead parts now m
   spares_head m h here =
@@ -157,8 +149,8 @@ module _ (p : DriverParts) (ready : IsOpenReady p.driver p.memory) (owners : Has
   pub tails_then : (order : ℕ → ℕ → ℕ) (out : ℕ → List ℕ) → TailsStand d parts order out → TailsStand f now order out
   tails_then order out tails e z here met =
       let m = 32 * z.queue in
-      let differs : m ≢ n = λ same. met.there.linked (ready.command ∙ ap (λ (b : ℕ). Some (unfinished.Open b)) (sym (thirty_two z.queue x.queue same))) in
-      reaches_beside d lent_book d.command 1 (now m) (order m) (out m) e z (tail_of d e z)
+      let differs : m ≢ n = λ same. met.there.linked (ready.command ∙ ap (λ (b : ℕ). Some (unfinished.Open b)) (sym (same_blocks z.queue x.queue same))) in
+      reach_beside d lent_book d.command 1 (now m) (order m) (out m) e z (tail_of d e z)
       (subst (λ (part : Structures). Reaches d part (order m) (out m) e z (tail_of d e z)) (sym (stay m differs))
       (tails e z here (record { there = record { linked = met.there.linked; kept = met.there.kept }; near = met.near })))
 

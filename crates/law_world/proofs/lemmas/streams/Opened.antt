@@ -1,5 +1,7 @@
 -- An endpoint is opened: its structures are to be lent.
 use Rattle.std.proofs.Common.{◌≡◌, ◌≢◌, ℕ, ◌*◌, Bool, true, false, ◌||◌, List, [], ◌∷◌, length, drop, get_or, slice_get, Option, Some, Ok, option_map, ap, sym, subst, ◌∙◌, ⊎_elim, inl, arith}
+use Rattle.law_common.proofs.Lists.{drop_first, push_which}
+use Rattle.law_world.proofs.Common.{same_queue, open_tail}
 use Rattle.usb_base.specs.declared.commands.Cmd.{Cmd}
 use Rattle.usb_base.specs.declared.commands.Cmd.TheVariants as commands
 use Rattle.qh_qtd.specs.QueueHead.{IsQhInRange}
@@ -15,13 +17,12 @@ use Rattle.drv_table.specs.Offers.{new_endpoint, offered, IsOffered}
 use Rattle.claims_driver.specs.Owners.{QueueHead, runs_of_endpoint}
 use Rattle.law_driver.proofs.lemmas.run_owners.Runs.{placed_run}
 use Rattle.law_driver.proofs.lemmas.run_owners.Taking.{runs_taken}
-use Rattle.law_driver.proofs.lemmas.run_owners.Accepted.{drop_first, fresh_differs}
+use Rattle.law_driver.proofs.lemmas.run_owners.Accepted.{fresh_differs}
 use Rattle.law_driver_ring.specs.walk_members.Reached.{OpensNumbered}
 use Rattle.law_driver_ring.specs.LendOpened.{opened_head}
 use Rattle.claims_driver.specs.Scripts.{OpensAsynchronous}
 use Rattle.law_driver.specs.chained_transfers.Asynchronous.{IsOpenedAsynchronous}
 use Rattle.law_world.specs.streams.narrowed_streams.Narrowed.{IsOnSide}
-use Rattle.law_queues.proofs.lemmas.fed_lends.Asked.{push_which}
 use Rattle.law_queues.specs.standing_fronts.Reaching.{Reaches}
 use Rattle.law_queues.proofs.lemmas.harvest_laws.Commanding.{opened_is_told}
 use Rattle.law_driver.proofs.lemmas.chained_transfers.BulkAndControl.{not_iso}
@@ -40,8 +41,7 @@ use Rattle.law_world.specs.streams.Left.{IsLeft}
 use Rattle.law_world.specs.streams.Whole.{IsWhole}
 use Rattle.law_world.specs.streams.Laws.{OpensTo}
 use Rattle.law_world.specs.streams.Taking.{HaveSides}
-use Rattle.law_world.proofs.lemmas.streams.Told.{same_queue}
-use Rattle.law_world.proofs.lemmas.streams.Tail.{open_tail, idle_ends}
+use Rattle.law_world.proofs.lemmas.streams.Tail.{idle_ends}
 
 module _ (fixed : Fixed) (takes : ℕ → ℕ → Bool) (member : ℕ → Bool) (x : Streams) (s : Standing) (w : World) (line : ℕ) (cmd : Cmd) (o : Offered) (k : IsWhole fixed takes member x s w) (opened : IsOpenedAsynchronous w.driver w.memory o) where
   abbrev d : DriverContent

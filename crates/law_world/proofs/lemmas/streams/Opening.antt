@@ -1,10 +1,11 @@
 -- A new world is whole: it has no endpoint and no transfer.
-use Rattle.std.proofs.Common.{◌≡◌, ℕ, zero, suc, ◌≤◌, List, [], length, slice_get, Option, Some, ap, subst, arith}
+use Rattle.std.proofs.Common.{◌≡◌, ℕ, ◌≤◌, List, [], length, Option, Some, ap, subst, arith}
 use Rattle.std.proofs.lemmas.List.{length-replicate}
-use Rattle.drv_table.specs.declared.content.Endpoint.{Endpoint}
+use Rattle.law_queues.proofs.Common.{no_endpoint}
+use Rattle.law_world.proofs.Common.{no_transfer}
 use Rattle.drv_table.specs.declared.content.Reserve.{Reserve}
 use Rattle.drv_table.specs.Opening.{opening}
-use Rattle.claims_driver.specs.Owners.{TransferRuns, transfer_in, views_of}
+use Rattle.claims_driver.specs.Owners.{views_of}
 use Rattle.law_structures.specs.lent_structures.Structures.{Structure, Table}
 use Rattle.law_driver_ring.specs.PartOpened.{empty_list, opening_parts, is_head}
 use Rattle.law_driver_ring.specs.Extents.{AreInRuns}
@@ -22,14 +23,6 @@ use Rattle.bus_wire.specs.Bus.{fixed_of}
 use Rattle.bus_world.specs.Opening.{opening_world}
 use Rattle.law_world.specs.steps.Takers.{takes_of}
 use Rattle.law_world.proofs.lemmas.streams.TakingOpening.{new_world_taking}
-
-no_endpoint : (e : ℕ) (x : Endpoint) → slice_get {X = Endpoint} [] e ≡ Some x → ⊥
-no_endpoint zero x here = cc
-no_endpoint (suc e) x here = cc
-
-no_transfer : (t : ℕ) (y : TransferRuns) → transfer_in [] t ≡ Some y → ⊥
-no_transfer zero y here = cc
-no_transfer (suc t) y here = cc
 
 -- ---- the frame list has 1,024 elements
 

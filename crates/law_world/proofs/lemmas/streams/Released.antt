@@ -1,14 +1,14 @@
 -- An endpoint that has left the ring is given back: what its lines tell begins what was moved of it, and of each other one the same is told.
-use Rattle.std.proofs.Common.{◌≡◌, ◌≢◌, ◌⊎◌, ℕ, ◌*◌, ◌||◌, Bool, true, false, cond, List, [], ◌∷◌, ◌++◌, set, slice_get, Option, Some, None, option_map, ap, refl, sym, subst, ◌∙◌, ⊎_elim, inl, inr}
+use Rattle.std.proofs.Common.{◌≡◌, ◌≢◌, ◌⊎◌, ℕ, ◌*◌, ◌||◌, Bool, true, false, List, [], ◌∷◌, ◌++◌, set, slice_get, Option, Some, None, option_map, ap, refl, sym, subst, ◌∙◌, ⊎_elim, inl, inr}
 use Rattle.std.specs.List.{concat}
 use Rattle.std.proofs.lemmas.Bool.{cases_eq, false≢true}
 use Rattle.std.proofs.lemmas.Option.{same_Some}
-use Rattle.std.proofs.lemmas.List.{append_assoc, append-nil}
+use Rattle.std.proofs.lemmas.List.{append-nil}
+use Rattle.law_world.proofs.Common.{told_same, none_opens, begins_both}
+use Rattle.law_common.proofs.Lists.{set_here, set_there}
 use Rattle.bus_wire.specs.Bus.{Fixed}
 use Rattle.claims_base.specs.Prefix.{IsPrefix}
 use Rattle.drv_table.specs.declared.content.Endpoint.{Endpoint}
-use Rattle.drv_table.specs.declared.content.Command.{Command}
-use Rattle.drv_table.specs.declared.content.Command.TheVariants as unfinished
 use Rattle.drv_table.specs.declared.rows.DriverRow.{DriverRow}
 use Rattle.drv_table.specs.declared.rows.DriverRow.TheVariants as rows
 use Rattle.drv_table.specs.DriverContent.{DriverContent}
@@ -18,7 +18,6 @@ use Rattle.drv_table.specs.Releases.{after_endpoint, is_told}
 use Rattle.law_driver.specs.endpoint_lives.Lives.{is_one_of, may_meet}
 use Rattle.law_driver.specs.run_owners.Due.{IsDue, IsEndpointDue}
 use Rattle.law_driver.proofs.lemmas.run_owners.Reasons.{each_event_is_due}
-use Rattle.law_driver.proofs.lemmas.run_owners.Released.{set_here, set_there}
 use Rattle.law_controller.specs.controlled_streams.Reported.{IsReported}
 use Rattle.claims_driver.specs.Scripts.{receives, comes_in, IsAsynchronous}
 use Rattle.law_driver_ring.specs.fed_queues.Places.{IsThere}
@@ -51,10 +50,6 @@ use Rattle.law_world.specs.streams.LeftLaws.{ReleaseKeepsLeft}
 
 -- ---- what begins what begins another
 
-begins_both : (a b c : List ℕ) → IsPrefix a b → IsPrefix b c → IsPrefix a c
-begins_both a b c one other =
-    (one.0 ++ other.0, sym (append_assoc a one.0 other.0) ∙ ap (λ (bs : List ℕ). bs ++ other.0) one.1 ∙ other.1)
-
 none_begin : (a b rest : List ℕ) → a ++ rest ≡ b → b ≡ [] → a ≡ []
 none_begin [] b rest sum none = refl
 none_begin (i ∷ a) b rest sum none = absurd (never (sum ∙ none))
@@ -67,14 +62,6 @@ told_begins a b None one told = none_begin a b one.0 one.1 told
 told_begins a b (Some taken) one told = begins_both a b taken one told
 
 -- ---- the driver's content
-
--- whether a line of the report tells it, the rest of the content is the same
-told_same : {X : Type 0} (f : DriverContent → X) (g d : DriverContent) (b : Bool) → f g ≡ f d → f (cond b g d) ≡ f d
-told_same f g d true same = same
-told_same f g d false same = refl
-
-no_open : (c : Option Command) (q : ℕ) → c ≡ None → c ≡ Some (unfinished.Open q) → ⊥
-no_open c q idle is = absurd (cc)
 
 same_number : (i j : ℕ) → rows.ReleaseEndpoint i ≡ rows.ReleaseEndpoint j → j ≡ i
 same_number i j is = cc
@@ -113,7 +100,7 @@ module _ (fixed : Fixed) (takes : ℕ → ℕ → Bool) (member : ℕ → Bool) 
   new = with_parts w after
 
   there : IsThere d z
-  there = record { linked = λ is. no_open d.command z.queue due.idle is; kept = leaver.leaves.held }
+  there = record { linked = λ is. none_opens d.command z.queue due.idle is; kept = leaver.leaves.held }
 
   far : may_meet d e z ≡ false
   far = cleared_is_far d 0 e z f.working.place.sound.owners leaver.leaves.first leaver.leaves.here
@@ -193,7 +180,7 @@ module _ (fixed : Fixed) (takes : ℕ → ℕ → Bool) (member : ℕ → Bool) 
       (λ (other : (i ≢ e) × (slice_get d.endpoints i ≡ Some y)). other.1) (which i y here)
 
   there_before : (y : Endpoint) → IsThere then y → IsThere d y
-  there_before y is = record { linked = λ opens. no_open d.command y.queue due.idle opens; kept = is.kept }
+  there_before y is = record { linked = λ opens. none_opens d.command y.queue due.idle opens; kept = is.kept }
 
   -- of one that had been given back the same is told
   abbrev AreGoneBefore : DriverContent → Type 0

@@ -1,5 +1,8 @@
 -- The transfer that is given back, in a world whose endpoints are bulk and control ones.
-use Rattle.std.proofs.Common.{◌≡◌, ℕ, zero, suc, ◌<◌, ◌≤◌, ◌&&◌, not, Bool, true, false, if◌then◌else◌, List, [], ◌∷◌, length, slice_get, Option, Some, None, refl, subst, arith}
+use Rattle.std.proofs.Common.{◌≡◌, ℕ, ◌≤◌, Bool, true, false, slice_get, Option, Some, None, refl, subst, arith}
+use Rattle.law_common.proofs.Lists.{there_at}
+use Rattle.law_common.proofs.Booleans.{owed_by}
+use Rattle.law_driver.proofs.Common.{times_of}
 use Rattle.bus_wire.specs.Bus.{Fixed}
 use Rattle.drv_table.specs.declared.content.Endpoint.{Endpoint}
 use Rattle.drv_table.specs.declared.content.Transfer.{Transfer}
@@ -11,7 +14,6 @@ use Rattle.law_driver.proofs.lemmas.run_owners.Reasons.{each_event_is_due}
 use Rattle.claims_base.specs.Controller.{opening_base}
 use Rattle.law_driver.specs.endpoint_lives.Lives.{may_meet}
 use Rattle.law_queues.specs.released_queues.Released.{IsReturning, ReleaseStands}
-use Rattle.law_queues.proofs.lemmas.standing_fronts.Lists.{times_some}
 use Rattle.bus_world.specs.World.{World, driver_parts}
 use Rattle.law_world.specs.steps.Streaming.{Streams, Standing}
 use Rattle.law_world.specs.streams.Whole.{IsWhole}
@@ -25,19 +27,9 @@ pub record IsOwed (o : Option Transfer) : Type 0 where
   pub reported : transfer.reported ≡ true
   pub held : transfer.released ≡ false
 
-owed_by : (a b : Bool) → 1 ≤ (if a && not b then 1 else 0) → (a ≡ true) × (b ≡ false)
-owed_by true false some = (refl, refl)
-owed_by true true some = absurd (omega (arith, some))
-owed_by false b some = absurd (omega (arith, some))
-
 owed_one : (o : Option Transfer) → 1 ≤ owes o → IsOwed o
 owed_one None some = absurd (omega (arith, some))
 owed_one (Some y) some = let both = owed_by y.reported y.released some in record { transfer = y; here = refl; reported = both.0; held = both.1 }
-
-there_at : {X : Type 0} (xs : List X) (i : ℕ) → i < length xs → (x : X) × (slice_get xs i ≡ Some x)
-there_at [] i below = absurd (omega (arith, below))
-there_at (x ∷ xs) zero below = (x, refl)
-there_at (x ∷ xs) (suc i) below = there_at xs i (omega (arith, below))
 
 -- ---- in a world
 
@@ -47,7 +39,7 @@ module _ (fixed : Fixed) (takes : ℕ → ℕ → Bool) (member : ℕ → Bool) 
 
   pub owed : IsOwed (slice_get w.driver.transfers t)
   owed =
-      let some = times_some w.driver.harvested 0 t due.first in
+      let some = times_of w.driver.harvested 0 t due.first in
       let most = k.feeding.working.place.sound.owners.orderly.harvests t in
       owed_one (slice_get w.driver.transfers t) (omega (arith, some, most))
 

@@ -1,6 +1,8 @@
 -- The rows of a driver of bulk and control endpoints: what is so after each of them is so after each event of the driver.
-use Rattle.std.proofs.Common.{◌≡◌, ℕ, ◌≤◌, Bool, true, List, [], slice_get, Option, Some, None, ap, sym, ◌∙◌, ⊎_elim, refl}
+use Rattle.std.proofs.Common.{◌≡◌, ℕ, ◌≤◌, Bool, true, List, Option, Some, None, ap, ⊎_elim, refl}
 use Rattle.std.specs.Prelude.{◌⊎◌}
+use Rattle.law_common.proofs.Lists.{none_there}
+use Rattle.law_world.proofs.Common.{no_command}
 use Rattle.drv_table.specs.declared.content.Command.{Command}
 use Rattle.drv_table.specs.declared.content.Command.TheVariants as unfinished
 use Rattle.drv_table.specs.declared.content.Mend.{Mend}
@@ -21,7 +23,6 @@ use Rattle.law_driver.specs.chained_transfers.Asynchronous.{OnlyAsynchronous}
 use Rattle.law_world.specs.streams.FeedingLaws.{is_still}
 use Rattle.law_world.specs.streams.Tails.{IsUnderWay}
 use Rattle.law_world.specs.streams.Whole.{IsWhole}
-use Rattle.law_world.proofs.lemmas.streams.KeptLeft.{no_command}
 
 -- what is so after each row that such a driver may have
 pub record IsSoAfterEach (member : ℕ → Bool) (s : Standing) (w : World) (so : Type 0) : Type 0 where
@@ -36,9 +37,6 @@ pub record IsSoAfterEach (member : ℕ → Bool) (s : Standing) (w : World) (so 
   pub clear : driver_row (driver_parts w) ≡ rows.ClearAdvance → so
   pub release_endpoint : (e : ℕ) → driver_row (driver_parts w) ≡ rows.ReleaseEndpoint e → so
   pub release : (t : ℕ) → driver_row (driver_parts w) ≡ rows.ReleaseTransfer t → so
-
-none_there : {X : Type 0} (xs : List X) (x : X) → xs ≡ [] → slice_get xs 0 ≡ Some x → ⊥
-none_there xs x none here = let e : ◌≡◌ {A = Option _} None (Some x) = sym (ap (λ ys. slice_get ys 0) none) ∙ here in cc
 
 module _ (fixed : Fixed) (takes : ℕ → ℕ → Bool) (member : ℕ → Bool) (x : Streams) (s : Standing) (w : World) (k : IsWhole fixed takes member x s w) (so : Type 0) (each : IsSoAfterEach member s w so) where
   only : OnlyAsynchronous w.driver

@@ -2,6 +2,9 @@
 use Rattle.std.proofs.Common.{◌≡◌, ◌≢◌, ℕ, suc, ◌-◌, ◌*◌, ◌<◌, ◌≤◌, Bool, true, false, if◌then◌else◌, List, slice_get, Option, Some, None, option_map, ap, refl, sym, subst, ◌∙◌, ⊎_elim, inr, arith}
 use Rattle.std.proofs.lemmas.Bool.{cases_lt, lt-ltb}
 use Rattle.std.proofs.lemmas.Option.{same_Some}
+use Rattle.law_queues.proofs.Common.{same_piece}
+use Rattle.law_controller.proofs.Common.{same_hand}
+use Rattle.law_common.proofs.Numbers.{same_blocks}
 use Rattle.word_mem.specs.Memory.{Mem}
 use Rattle.qh_qtd.specs.declared.qtd.Qtd.{Qtd}
 use Rattle.mem_runs.specs.Book.{slot_of}
@@ -21,7 +24,7 @@ use Rattle.law_queues.specs.publish_laws.Publishing.{IsBeingPublished}
 use Rattle.law_queues.proofs.lemmas.publish_laws.Rows.{counted, after_is}
 use Rattle.law_driver_ring.specs.Extents.{AreInRuns}
 use Rattle.law_driver_ring.proofs.Extending.{extents_stay, element_put}
-use Rattle.law_controller.proofs.lemmas.controlled_streams.Storing.{same_hand, spares_head, spares_element}
+use Rattle.law_controller.proofs.lemmas.controlled_streams.Storing.{spares_head, spares_element}
 use Rattle.law_driver.specs.endpoint_lives.Lives.{may_meet}
 use Rattle.law_driver_ring.specs.told_harvests.Held.{IsOneFrom}
 use Rattle.law_queues.specs.harvest_laws.Holds.{IsNextOf}
@@ -33,12 +36,9 @@ use Rattle.law_driver_ring.specs.fed_queues.Fed.{IsPublished}
 use Rattle.law_driver_ring.specs.fed_queues.Places.{IsThere, IsMet}
 use Rattle.law_driver_ring.proofs.lemmas.fed_queues.Places.{stands_met}
 use Rattle.law_queues.specs.publish_laws.Stores.{IsAtStore, published_by, parts_then, next_of}
-use Rattle.law_queues.proofs.lemmas.publish_laws.Apart.{piece_placed, thirty_two}
+use Rattle.law_queues.proofs.lemmas.publish_laws.Apart.{piece_placed}
 use Rattle.law_world.specs.streams.Tails.{IsUnderWay}
 use Rattle.law_world.proofs.lemmas.streams.There.{next_waits}
-
-same_piece : (t u : ℕ) → PieceOf t ≡ PieceOf u → t ≡ u
-same_piece t u is = cc
 
 module _ (p : DriverParts) (member streams : ℕ → Bool) (ends : ℕ → Told) (parts : StructureSets) (order : ℕ → ℕ → ℕ) (out : ℕ → List ℕ) (b : ℕ) (words : List ℕ) (k : IsAtStore p.driver p.memory member streams ends parts order out b words) where
   abbrev d : DriverContent
@@ -148,7 +148,7 @@ module _ (p : DriverParts) (member streams : ℕ → Bool) (ends : ℕ → Told)
   spares_done : SparesDone d parts (parts_then g)
   spares_done = record {
     heads = λ e x here stream. spares_head parts n (32 * b) old new g.stored (32 * x.queue);
-    done = λ e t x z a is stream one. spares_element parts n (32 * b) old new g.stored (32 * x.queue) (32 * a) (λ name owner. not_read e t x z a is one (thirty_two a b name));
+    done = λ e t x z a is stream one. spares_element parts n (32 * b) old new g.stored (32 * x.queue) (32 * a) (λ name owner. not_read e t x z a is one (same_blocks a b name));
   }
 
   pub told_then : (hand : Hand) (reported : ℕ → List ℕ) → ToldStands d hand parts reported → ToldStands (next_of p).driver hand (parts_then g) reported

@@ -1,14 +1,13 @@
 -- Each event of the controller leaves both sides of each OUT pipe agreed: what it moved of a queue head is known to be taken.
-use Rattle.std.proofs.Common.{◌≡◌, ℕ, Bool, true, false, if◌then◌else◌, List, [], ◌∷◌, ◌++◌, ap, refl, ◌∙◌}
+use Rattle.std.proofs.Common.{◌≡◌, ℕ, Bool, true, List, ◌++◌, ap, refl, ◌∙◌}
 use Rattle.std.specs.List.{concat}
-use Rattle.std.proofs.lemmas.List.{append-nil}
-use Rattle.std.proofs.lemmas.List.Folds.{concat-append}
+use Rattle.law_common.proofs.Lists.{concat_last}
+use Rattle.law_world.proofs.Common.{after_off}
 use Rattle.usb_base.specs.declared.packets.Ask.{Ask}
 use Rattle.usb_base.specs.declared.packets.Reply.{Reply}
 use Rattle.bus_wire.specs.Bus.{Fixed}
 use Rattle.law_structures.specs.lent_structures.Structures.{StructureSets}
 use Rattle.law_ring.specs.Hand.{Hand}
-use Rattle.law_ring.specs.Pipes.{grown}
 use Rattle.law_controller.specs.controlled_streams.Control.{ControlEffect, a_microframe, a_step}
 use Rattle.law_devices.specs.scripted_takers.Takers.{taker_of}
 use Rattle.claims_base.specs.Controller.{opening_base}
@@ -27,13 +26,6 @@ sent_same : {W : Type 0} {begins : W → ℕ → Bool → W → Type 0} {transac
 sent_same n (a_microframe b) = refl
 sent_same n (a_step k) = refl
 
-one_more : (acc : List (List ℕ)) (bytes : List ℕ) → concat (acc ++ bytes ∷ []) ≡ concat acc ++ bytes
-one_more acc bytes = concat-append acc (bytes ∷ []) ∙ ap (λ (xs : List ℕ). concat acc ++ xs) (append-nil bytes)
-
--- of a queue head without a stream the bytes of each event are counted
-moved_after : (streams : ℕ → Bool) (acc : ℕ → List (List ℕ)) (at : ℕ) (more : List (List ℕ)) (bytes : ℕ → List ℕ) (n : ℕ) → streams n ≡ false → acc_after streams acc at more bytes n ≡ acc n ++ bytes n ∷ []
-moved_after streams acc at more bytes n off = ap (λ (b : Bool). if b then grown acc at more n else acc n ++ bytes n ∷ []) off
-
 module _ (fixed : Fixed) (takes : ℕ → ℕ → Bool) (member : ℕ → Bool) (x : Streams) (s : Standing) (w : World) where
   -- the world after the event
   abbrev standing_after : Goes fixed member x s w → Standing
@@ -41,7 +33,8 @@ module _ (fixed : Fixed) (takes : ℕ → ℕ → Bool) (member : ℕ → Bool) 
 
   known_after : (g : Goes fixed member x s w) (n : ℕ) → outs_of member x.streams x.endpoint n ≡ true → concat ((standing_after g).acc n) ≡ concat (s.acc n) ++ sent_in n g.event.effect
   known_after g n on =
-      ap concat (moved_after x.streams s.acc g.at g.more (λ k. bytes_of_event k g.event.effect) n (out_on member x.streams x.endpoint n on).0) ∙ one_more (s.acc n) (bytes_of_event n g.event.effect)
+      ap concat (after_off x.streams s.acc g.at g.more (λ k. bytes_of_event k g.event.effect) n (out_on member x.streams x.endpoint n on).0)
+      ∙ concat_last (s.acc n) (bytes_of_event n g.event.effect)
       ∙ ap (λ (xs : List ℕ). concat (s.acc n) ++ xs) (sent_same n g.event.effect)
 
   event_taking : IsFeeding fixed member x s w → (g : Goes fixed member x s w) → IsTaking fixed takes member x s w → IsTaking fixed takes member x (standing_after g) (controller_next fixed w)

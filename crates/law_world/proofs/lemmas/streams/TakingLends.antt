@@ -1,15 +1,15 @@
 -- A lend leaves the pipes of OUT endpoints agreed: each new qTD that is active asks the way of its endpoint.
-use Rattle.std.proofs.Common.{◌≡◌, ◌≢◌, ℕ, zero, suc, ◌*◌, ◌⊎◌, Bool, true, false, List, [], ◌∷◌, Option, Some, option_map, Ok, Result, ap, refl, sym, subst, ◌∙◌, ⊎_elim, inl, inr}
+use Rattle.std.proofs.Common.{◌≡◌, ◌≢◌, ℕ, zero, suc, ◌*◌, ◌⊎◌, Bool, true, false, List, [], ◌∷◌, Option, Some, option_map, ap, refl, sym, subst, ◌∙◌, ⊎_elim, inl, inr}
 use Rattle.std.specs.List.{AllByRecursion, concat}
 use Rattle.std.proofs.lemmas.Bool.{cases_eq, true≢false}
+use Rattle.law_queues.proofs.Common2.{element_by}
+use Rattle.law_queues.proofs.Common.{one_qtd}
+use Rattle.law_world.proofs.Common2.{control_kind}
 use Rattle.usb_base.specs.declared.packets.Way.{Way}
 use Rattle.usb_base.specs.declared.packets.Way.TheVariants as ways
 use Rattle.bus_wire.specs.Bus.{Fixed}
 use Rattle.word_mem.specs.Memory.{Mem}
-use Rattle.link_words.specs.declared.refusal.Bad.{Bad}
 use Rattle.qh_qtd.specs.declared.qtd.Qtd.{Qtd}
-use Rattle.qh_qtd.specs.Qtd.{qtd_words, qtd_read, IsQtdInRange}
-use Rattle.qh_qtd.proofs.QtdLaws.{qtd_read-words}
 use Rattle.mem_runs.specs.declared.slots.Slot.{Slot}
 use Rattle.mem_runs.specs.Book.{slot_of}
 use Rattle.drv_table.specs.declared.content.QtdNote.{QtdNote}
@@ -24,7 +24,7 @@ use Rattle.claims_driver.specs.Scripts.{comes_in}
 use Rattle.law_driver.proofs.lemmas.chained_transfers.Ways.{IsBy, data_or_control, its_pid}
 use Rattle.law_driver_ring.specs.fed_queues.Places.{IsMet}
 use Rattle.law_ring.specs.Told.{Endpoint as Told}
-use Rattle.law_structures.specs.lent_structures.Structures.{Structure, Element, StructureSets, Tells}
+use Rattle.law_structures.specs.lent_structures.Structures.{Element, StructureSets, Tells}
 use Rattle.async_walk.specs.Rows.{place}
 use Rattle.law_driver_ring.specs.Inventory.{Sort, OfElement, sort_of, sorts_of, Inventory, IsLent, AreTold, IsDriverOwned, the_list, the_head, a_queue, a_dummy, a_piece, a_buffer, IsDriven}
 use Rattle.law_driver_ring.specs.Driven.{DrivesRing}
@@ -50,19 +50,9 @@ use Rattle.law_world.specs.streams.Whole.{IsWhole}
 use Rattle.law_world.specs.streams.Taking.{outs_of, IsTaking}
 use Rattle.law_world.proofs.lemmas.streams.Heads.{own_toggle}
 use Rattle.law_world.proofs.lemmas.streams.FeedingLends.{lend_feeds}
-use Rattle.law_world.proofs.lemmas.streams.TakingStores.{control_out, control_kind, goes_as}
+use Rattle.law_world.proofs.lemmas.streams.TakingStores.{control_out, goes_as}
 
 -- ---- one memory of one driver tells one qTD at a place
-
-ok_same : (t u : Qtd) → ◌≡◌ {A = Result Qtd Bad} (Ok t) (Ok u) → t ≡ u
-ok_same t u same = cc
-
-one_qtd : (t u : Qtd) → IsQtdInRange t → IsQtdInRange u → qtd_words t ≡ qtd_words u → t ≡ u
-one_qtd t u one two same = ok_same t u (sym (qtd_read-words t one) ∙ ap qtd_read same ∙ qtd_read-words u two)
-
-element_by : (o : Option Structure) → option_map sort_of o ≡ Some OfElement → (t : Qtd) × (o ≡ Some (Element t))
-element_by (Some (Element t)) is = (t, refl)
-element_by _ is = absurd (cc)
 
 piece_sort : (v : Views) (sorts : ℕ → Option Sort) (first i c : ℕ) → AreTold v sorts first i → IsPieceOf v.note first i c → IsLent (v.slot c) → sorts (32 * c) ≡ Some OfElement
 piece_sort v sorts first zero c told piece lent = absurd piece

@@ -3,6 +3,10 @@ use Rattle.std.proofs.Common.{◌≡◌, ◌≢◌, ℕ, ◌*◌, ◌&&◌, ◌|
 use Rattle.std.specs.List.{concat}
 use Rattle.std.proofs.lemmas.Bool.{cases_eq, false≢true}
 use Rattle.std.proofs.lemmas.Option.{same_Some}
+use Rattle.law_common.proofs.Numbers.{other_number}
+use Rattle.law_controller.proofs.Common.{same_hand, heads_stay}
+use Rattle.law_driver.proofs.Common.{out_way as way_sends}
+use Rattle.law_world.proofs.Common2.{control_kind}
 use Rattle.usb_base.specs.declared.packets.Way.TheVariants as ways
 use Rattle.bus_wire.specs.Bus.{Fixed}
 use Rattle.qh_qtd.specs.declared.queue_head.Qh.{Qh}
@@ -13,7 +17,7 @@ use Rattle.drv_table.specs.Parts.{Parts as DriverParts}
 use Rattle.drv_table.specs.Words.{head_block, to_queue_head, queue_head, dummy_qtd, speed_field, is_control}
 use Rattle.claims_driver.specs.Owners.{runs_of_endpoint}
 use Rattle.law_structures.specs.lent_structures.Structures.{QueueHead, Element, StructureSets, put}
-use Rattle.law_structures.proofs.lemmas.lent_structures.Names.{not_same, put_beside, put_same}
+use Rattle.law_structures.proofs.lemmas.lent_structures.Names.{put_beside, put_same}
 use Rattle.law_structures.specs.lent_structures.Sound.{IsMember}
 use Rattle.law_structures.proofs.lemmas.lent_structures.Altering.{found_queue}
 use Rattle.law_ring.specs.Hand.{Hand}
@@ -31,14 +35,13 @@ use Rattle.law_driver_ring.specs.Linked.{with_member, head_at}
 use Rattle.law_driver_ring.proofs.Unmet.{open_is_unmet}
 use Rattle.bus_world.specs.World.{World, driver_parts, driver_next}
 use Rattle.law_world.specs.steps.Streaming.{Streams, Standing, wired}
-use Rattle.law_controller.proofs.lemmas.controlled_streams.Storing.{same_hand}
 use Rattle.law_controller.specs.controlled_streams.Unopened.{IsUnopened}
 use Rattle.law_controller.specs.controlled_streams.Opened.{with_stream, with_end, with_none, IsOneMore}
 use Rattle.law_controller.proofs.lemmas.controlled_streams.Beginning.{end_here, end_beside, stream_here, ends_with_one, ends_with_other}
 use Rattle.law_controller.proofs.lemmas.controlled_streams.Alike.{alike_ends}
 use Rattle.law_driver.specs.chained_transfers.Bulk.{IsDataWay}
 use Rattle.claims_driver.specs.Scripts.{receives, comes_in, IsAsynchronous}
-use Rattle.law_driver.proofs.lemmas.chained_transfers.Ways.{data_or_control, data_comes_in, way_goes_out, way_sends, sends_comes_not}
+use Rattle.law_driver.proofs.lemmas.chained_transfers.Ways.{data_or_control, data_comes_in, way_goes_out, sends_comes_not}
 use Rattle.law_driver_ring.specs.fed_queues.Places.{HasHead, HasThere}
 use Rattle.law_queues.specs.open_laws.Opens.{IsOpenLent, IsAtOpen, head_then, hand_then, end_then, streams_then}
 use Rattle.law_queues.proofs.lemmas.open_laws.Standing.{then_here, then_beside, member_here, member_old, member_beside, element_was, its_alive}
@@ -53,9 +56,8 @@ use Rattle.law_world.specs.streams.Taking.{outs_of, IsTaking}
 use Rattle.law_world.specs.streams.Whole.{IsWhole}
 use Rattle.law_world.proofs.lemmas.streams.Heads.{head_of, head_on, head_is, not_head, own_toggle}
 use Rattle.law_world.proofs.lemmas.streams.Told.{data_way, way_control, out_way}
-use Rattle.law_world.proofs.lemmas.streams.OpenBeside.{heads_stay}
 use Rattle.law_world.proofs.lemmas.streams.FeedingLinks.{linked, found, at_open, more}
-use Rattle.law_world.proofs.lemmas.streams.TakingStores.{control_out, control_kind}
+use Rattle.law_world.proofs.lemmas.streams.TakingStores.{control_out}
 use Rattle.law_world.proofs.lemmas.streams.TakingAlike.{out_on, alike_out_pipes, alike_untaken, alike_known, none_concat}
 
 -- ---- the lend: the walk doesn't meet the new queue head yet
@@ -228,7 +230,7 @@ module _ (fixed : Fixed) (takes : ℕ → ℕ → Bool) (member : ℕ → Bool) 
   then_apart : (m : ℕ) → m ≢ new_at → outs_then m ≡ those m
   then_apart m differs =
       ap (λ (b : Bool). if b then false else heads_of wider ends_now m) (then_beside x.streams e m differs)
-      ∙ ap (λ (b : Bool). if x.streams m then false else (if m == 32 * head_block then false else ((b || member m) && not (ends_now m).dtc))) (not_same m new_at differs)
+      ∙ ap (λ (b : Bool). if x.streams m then false else (if m == 32 * head_block then false else ((b || member m) && not (ends_now m).dtc))) (other_number m new_at differs)
       ∙ ap (λ (y : Told). if x.streams m then false else (if m == 32 * head_block then false else (member m && not y.dtc))) (end_beside x.endpoint new_at (end_then e) m differs)
 
   then_there : IsDataWay e.desc.name.way → outs_then new_at ≡ (if comes_in e.desc.name.way then false else true)
@@ -242,7 +244,7 @@ module _ (fixed : Fixed) (takes : ℕ → ℕ → Bool) (member : ℕ → Bool) 
   then_out goes m =
       ⊎_elim (λ (same : m ≡ new_at).
       ap outs_then same ∙ then_there (out_way e.desc.name.way goes) ∙ ap (λ (b : Bool). if b then false else true) (sends_comes_not e.desc.name.way goes) ∙ sym (stream_here those new_at) ∙ ap (with_stream those new_at) (sym same))
-      (λ (differs : m ≢ new_at). then_apart m differs ∙ sym (ap (λ (b : Bool). b || those m) (not_same m new_at differs))) (cases_eq m new_at)
+      (λ (differs : m ≢ new_at). then_apart m differs ∙ sym (ap (λ (b : Bool). b || those m) (other_number m new_at differs))) (cases_eq m new_at)
 
   -- where it is none of them
   then_none : outs_then new_at ≡ false → (m : ℕ) → outs_then m ≡ those m

@@ -1,8 +1,9 @@
 -- A store of the first qTD of a transfer leaves the pipes of OUT endpoints agreed.
-use Rattle.std.proofs.Common.{◌≡◌, ℕ, ◌-◌, ◌*◌, ◌<◌, ◌≤◌, ◌==◌, Bool, true, false, not, ◌&&◌, if◌then◌else◌, List, slice_get, Option, Some, ap, refl, sym, subst, ◌∙◌, ⊎_elim, inl, inr, arith}
+use Rattle.std.proofs.Common.{◌≡◌, ℕ, ◌-◌, ◌*◌, ◌<◌, ◌≤◌, ◌==◌, Bool, true, false, not, ◌&&◌, if◌then◌else◌, List, slice_get, Option, Some, ap, refl, sym, ◌∙◌, ⊎_elim, inl, inr, arith}
 use Rattle.std.specs.List.{concat}
 use Rattle.std.proofs.lemmas.Bool.{cases_lt, false≢true}
-use Rattle.usb_base.specs.declared.packets.EpKind.{EpKind}
+use Rattle.law_world.proofs.Common2.{control_kind}
+use Rattle.law_driver_ring.proofs.Common.{partly_idle}
 use Rattle.usb_base.specs.declared.packets.Way.{Way}
 use Rattle.usb_base.specs.declared.packets.Way.TheVariants as ways
 use Rattle.bus_wire.specs.Bus.{Fixed}
@@ -12,11 +13,10 @@ use Rattle.drv_table.specs.declared.content.Command.{Command}
 use Rattle.drv_table.specs.declared.content.Command.TheVariants as unfinished
 use Rattle.drv_table.specs.Parts.{Parts as DriverParts}
 use Rattle.law_driver.specs.chained_transfers.Bulk.{IsDataWay, pid_by}
-use Rattle.claims_driver.specs.Scripts.{comes_in, IsKindOf}
-use Rattle.drv_table.specs.Words.{head_block, is_control}
+use Rattle.claims_driver.specs.Scripts.{comes_in}
+use Rattle.drv_table.specs.Words.{head_block}
 use Rattle.law_ring.specs.Told.{Endpoint as Told}
 use Rattle.law_driver_ring.specs.Published.{partly}
-use Rattle.law_driver_ring.proofs.Publishing.{idle}
 use Rattle.law_devices.specs.scripted_takers.Takers.{taker_of}
 use Rattle.bus_world.specs.World.{World, driver_parts, driver_next}
 use Rattle.law_world.specs.steps.Streaming.{Streams, Standing, wired}
@@ -51,9 +51,6 @@ off_by_toggle member ends n own =
 
 pub control_out : (member streams : ℕ → Bool) (ends : ℕ → Told) (n : ℕ) → streams n ≡ false → (ends n).dtc ≡ true → outs_of member streams ends n ≡ false
 control_out member streams ends n off own = ap (λ (b : Bool). if b then false else heads_of member ends n) off ∙ off_by_toggle member ends n own
-
-pub control_kind : (way : Way) (kind : EpKind) → way ≡ ways.Ctl → IsKindOf way kind → is_control kind ≡ true
-control_kind way kind is k = ap is_control (subst (λ (v : Way). IsKindOf v kind) is k)
 
 -- a qTD that asks the way of its endpoint
 goes_by : (member streams : ℕ → Bool) (ends : ℕ → Told) (n : ℕ) (way : Way) (t : Qtd) → streams n ≡ comes_in way → (IsDataWay way → heads_of member ends n ≡ true) → (way ≡ ways.Ctl → (ends n).dtc ≡ true)
@@ -105,7 +102,7 @@ module _ (fixed : Fixed) (takes : ℕ → ℕ → Bool) (member : ℕ → Bool) 
   -- it is active once all of its words are stored
   asks : new.token.active ≡ true → new.token.pid ≡ pid_by way
   asks on =
-      ⊎_elim (λ (low : w.driver.made < 8). absurd (false≢true (sym (idle g.qtd w.driver.made low) ∙ on)))
+      ⊎_elim (λ (low : w.driver.made < 8). absurd (false≢true (sym (partly_idle g.qtd w.driver.made low) ∙ on)))
       (λ (over : 8 ≤ w.driver.made).
       let eighth : w.driver.made ≡ 8 = (let few = g.few in omega (arith, few, over)) in
       ap (λ (j : ℕ). (partly g.qtd j).token.pid) eighth ∙ g.pid) (cases_lt w.driver.made 8)
@@ -118,6 +115,6 @@ module _ (fixed : Fixed) (takes : ℕ → ℕ → Bool) (member : ℕ → Bool) 
     ends = whole.taking.ends;
     piped =
         store_pipes taker_of takes member (outs_of member x.streams x.endpoint) x.endpoint (λ i. concat (s.acc i)) s.parts s.hand (wired fixed w) n (32 * b) old new
-        f.working.streaming.controlled.ring.members whole.taking.ends g.stored (idle g.qtd (w.driver.made - 1) (below p member x.streams x.endpoint s.parts s.order s.out b words k)) goes whole.taking.piped;
+        f.working.streaming.controlled.ring.members whole.taking.ends g.stored (partly_idle g.qtd (w.driver.made - 1) (below p member x.streams x.endpoint s.parts s.order s.out b words k)) goes whole.taking.piped;
     untaken = whole.taking.untaken;
   }

@@ -2,6 +2,7 @@
 use Rattle.std.proofs.Common.{◌≡◌, ◌≢◌, ℕ, ◌-◌, ◌*◌, Bool, false, List, slice_get, Option, Some, ap, refl, sym, subst, ◌∙◌, ⊎_elim, arith}
 use Rattle.std.proofs.lemmas.Bool.{cases_eq, true≢false}
 use Rattle.std.proofs.lemmas.Option.{same_Some}
+use Rattle.law_common.proofs.Numbers.{other_number}
 use Rattle.async_walk.specs.Walk.{Walk}
 use Rattle.mem_runs.specs.Book.{holding, slot_of}
 use Rattle.drv_table.specs.declared.content.Endpoint.{Endpoint}
@@ -14,7 +15,6 @@ use Rattle.drv_table.specs.Harvests.{note_at}
 use Rattle.claims_driver.specs.Owners.{Element}
 use Rattle.law_driver.specs.chained_transfers.AsynchronousTurns.{AsynchronousTakesTurns}
 use Rattle.law_structures.specs.lent_structures.Structures.{Structures, StructureSets}
-use Rattle.law_structures.proofs.lemmas.lent_structures.Names.{not_same}
 use Rattle.law_ring.specs.Hand.{Hand}
 use Rattle.claims_base.specs.Controller.{Base}
 use Rattle.law_ring.specs.Effects.{buffer_of}
@@ -59,7 +59,7 @@ module _ (base : Base) (member : ℕ → Bool) (parts : StructureSets) (hand : H
       let owned : s.owners.owner a ≡ Element u =
       owner_is (slot_of d.book.slots) s.owners.owner d.notes u r.first r.qtds a (pieces_of base member parts hand w p order out t y x s k u r is.transfer one_next.1)
       (one_sooner (note_at d.notes) r.first (r.qtds - r.left) r.qtds a (omega arith) one) in
-      goes_off base member parts hand w p order out t y x s k a (ap (mine t) owned ∙ not_same u t (λ same. differs same one_next.0))
+      goes_off base member parts hand w p order out t y x s k a (ap (mine t) owned ∙ other_number u t (λ same. differs same one_next.0))
     where
       differs : u ≡ t → r.reported ≡ false → ⊥
       differs same waits =

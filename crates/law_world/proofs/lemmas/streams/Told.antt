@@ -1,6 +1,8 @@
 -- The queue heads of endpoints that are there, by the driver's content.
-use Rattle.std.proofs.Common.{◌≡◌, ℕ, ◌*◌, ◌==◌, ◌&&◌, Bool, true, false, not, List, slice_get, Option, Some, ap, refl, sym, ◌∙◌}
+use Rattle.std.proofs.Common.{◌≡◌, ℕ, ◌*◌, ◌==◌, ◌&&◌, true, false, not, List, slice_get, Option, Some, ap, refl, sym, ◌∙◌}
 use Rattle.std.proofs.lemmas.Bool.{eqb-true, eq-eqb, false≢true, true≢false, and_parts, and_from, not_from_false}
+use Rattle.law_common.proofs.Booleans.{not_on, off_by}
+use Rattle.law_world.proofs.Common2.{opens_is, opened_is}
 use Rattle.usb_base.specs.declared.endpoints.EpDesc.{EpDesc}
 use Rattle.usb_base.specs.declared.packets.EpKind.{EpKind}
 use Rattle.usb_base.specs.declared.packets.EpKind.TheVariants as kinds
@@ -22,21 +24,6 @@ use Rattle.law_world.specs.streams.Feeding.{there_of}
 
 -- ---- one endpoint
 
-opens_is : (c : Option Command) (b : ℕ) → c ≡ Some (unfinished.Open b) → opens c b ≡ true
-opens_is c b is = ap (λ (o : Option Command). opens o b) is ∙ eq-eqb b b refl
-
-opened : (c : Option Command) (b : ℕ) → opens c b ≡ true → c ≡ Some (unfinished.Open b)
-opened (Some (unfinished.Open queue)) b on = ap (λ (q : ℕ). Some (unfinished.Open q)) (eqb-true queue b on)
-opened _ b on = absurd (false≢true on)
-
-off_by : (b : Bool) → (b ≡ true → ⊥) → b ≡ false
-off_by true never = absurd (never refl)
-off_by false never = refl
-
-not_on : (b : Bool) → not b ≡ true → b ≡ false
-not_on true is = absurd (false≢true is)
-not_on false is = refl
-
 is_there : (d : DriverContent) (x : Endpoint) → (not x.gone && not (opens d.command x.queue)) ≡ true → IsThere d x
 is_there d x on =
     let both = and_parts (not x.gone) (not (opens d.command x.queue)) on in
@@ -45,15 +32,11 @@ is_there d x on =
 there_is : (d : DriverContent) (x : Endpoint) → IsThere d x → (not x.gone && not (opens d.command x.queue)) ≡ true
 there_is d x k =
     and_from (not x.gone) (not (opens d.command x.queue)) (not_from_false x.gone k.kept)
-    (not_from_false (opens d.command x.queue) (off_by (opens d.command x.queue) (λ on. k.linked (opened d.command x.queue on))))
+    (not_from_false (opens d.command x.queue) (off_by (opens d.command x.queue) (λ on. k.linked (opened_is d.command x.queue on))))
 
 queue_in : Option Command → ℕ
 queue_in (Some (unfinished.Open queue)) = queue
 queue_in _ = 0
-
-pub same_queue : (b c : ℕ) → ◌≡◌ {A = Option Command} (Some (unfinished.Open b)) (Some (unfinished.Open c)) → b ≡ c
-unfolding queue_in
-same_queue b c is = ap queue_in is
 
 -- ---- one of them
 
@@ -92,7 +75,7 @@ there_same d f n ends command =
     ap (λ (xs : List Endpoint). any_at (λ e x. (n == 32 * x.queue) && (has_stream x.desc.kind && (not x.gone && not (opens f.command x.queue)))) xs) ends
     ∙ ap (λ (c : Option Command). any_at (λ e x. (n == 32 * x.queue) && (has_stream x.desc.kind && (not x.gone && not (opens c x.queue)))) d.endpoints) command
 
--- where none was being opened
+-- where none was being opened_is
 pub there_before : (d f : DriverContent) (n : ℕ) → f.endpoints ≡ d.endpoints → ((c : ℕ) → d.command ≡ Some (unfinished.Open c) → ⊥) → there_of f n ≡ true → there_of d n ≡ true
 there_before d f n ends never on =
     let h = bulk_there f n on in
@@ -171,11 +154,3 @@ bulk_kind desc k off = by_way desc.name.way desc.kind k.kind off
     by_way ways.Ctl kind is none = absurd (true≢false (sym (ap is_control is) ∙ none))
     by_way ways.In kind is none = is
     by_way ways.Out kind is none = is
-
-pub control_kind : (kind : EpKind) → is_control kind ≡ true → kind ≡ kinds.Control
-control_kind kinds.Control on = refl
-control_kind _ on = absurd (false≢true on)
-
-pub control_stream : (kind : EpKind) → has_stream kind ≡ true → is_control kind ≡ false
-control_stream kinds.Control on = absurd (false≢true on)
-control_stream _ on = refl

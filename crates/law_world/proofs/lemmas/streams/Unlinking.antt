@@ -1,10 +1,10 @@
 -- The store by which a cancelled endpoint's queue head leaves the ring leaves queues fed.
-use Rattle.std.proofs.Common.{◌≡◌, ◌≢◌, ℕ, ◌*◌, Bool, true, false, ◌||◌, slice_get, Option, Some, ap, sym, ◌∙◌, ⊎_elim, arith}
+use Rattle.std.proofs.Common.{◌≡◌, ◌≢◌, ℕ, ◌*◌, Bool, true, false, ◌||◌, slice_get, Some, ap, sym, ◌∙◌, ⊎_elim, arith}
 use Rattle.std.proofs.lemmas.Bool.{cases_eq}
 use Rattle.std.proofs.lemmas.Option.{same_Some}
+use Rattle.law_world.proofs.Common.{unlink_open}
 use Rattle.bus_wire.specs.Bus.{Fixed}
 use Rattle.drv_table.specs.declared.content.Endpoint.{Endpoint}
-use Rattle.drv_table.specs.declared.content.Command.{Command}
 use Rattle.drv_table.specs.declared.content.Command.TheVariants as unfinished
 use Rattle.drv_table.specs.Parts.{Parts as DriverParts}
 use Rattle.drv_table.specs.Rows.{driver_row}
@@ -41,9 +41,6 @@ use Rattle.law_world.proofs.lemmas.streams.Heads.{right_of}
 use Rattle.law_world.proofs.lemmas.streams.OpenBeside.{still_frameless}
 use Rattle.law_world.specs.streams.Leaving.{UnlinkFinds, UnlinkFeeds, unlinked}
 
-never_opens : (e before link c : ℕ) → ◌≡◌ {A = Option Command} (Some (unfinished.Unlink e before link)) (Some (unfinished.Open c)) → ⊥
-never_opens e before link c is = cc
-
 behind_list : 0 ≢ 32 * head_block
 behind_list same = absurd (omega (arith, same))
 
@@ -71,7 +68,7 @@ module _ (fixed : Fixed) (member : ℕ → Bool) (x : Streams) (s : Standing) (w
   pub finds : (e before link : ℕ) → w.driver.command ≡ Some (unfinished.Unlink e before link) → w.driver.made ≡ 0 → IsAtUnlink w.driver member s.parts
   finds e before link command made =
       unlink_stands w.driver w.memory member s.parts e before link command made g.place.sound g.streaming.controlled.ring.tells
-      (meets_ring (λ c is. never_opens e before link c (sym command ∙ is))) g.streaming.controlled.ring.members
+      (meets_ring (λ c is. unlink_open e before link c (sym command ∙ is))) g.streaming.controlled.ring.members
 
   -- a queue head that is met stands behind the frame list
   above : (n : ℕ) → member n ≡ true → 0 ≢ n

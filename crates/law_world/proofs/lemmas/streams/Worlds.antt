@@ -1,7 +1,7 @@
 -- A store of the first qTD of a transfer leaves a world whole.
-use Rattle.std.proofs.Common.{◌≡◌, ℕ, ◌*◌, ◌≤◌, Bool, List, Option, Some, None}
+use Rattle.std.proofs.Common.{◌≡◌, ℕ, ◌*◌, ◌≤◌, Bool, List, Some}
+use Rattle.law_queues.proofs.Common.{none_open}
 use Rattle.bus_wire.specs.Bus.{Fixed}
-use Rattle.drv_table.specs.declared.content.Command.{Command}
 use Rattle.drv_table.specs.declared.content.Command.TheVariants as unfinished
 use Rattle.drv_table.specs.DriverContent.{DriverContent}
 use Rattle.drv_table.specs.Parts.{Parts as DriverParts}
@@ -21,9 +21,6 @@ use Rattle.law_world.proofs.lemmas.streams.KeptLeft.{whole_of, busy_left}
 use Rattle.law_world.proofs.lemmas.streams.StoredTails.{tails_then}
 use Rattle.law_world.proofs.lemmas.streams.TakingStores.{store_taking}
 use Rattle.law_world.proofs.lemmas.streams.Names.{row_apart}
-
-no_open : (c : ℕ) → ◌≡◌ {A = Option Command} None (Some (unfinished.Open c)) → ⊥
-no_open c same = cc
 
 module _ (fixed : Fixed) (takes : ℕ → ℕ → Bool) (member : ℕ → Bool) (x : Streams) (s : Standing) (w : World) (b : ℕ) (words : List ℕ) (command : w.driver.command ≡ Some (unfinished.Publish b words)) (made : 1 ≤ w.driver.made) (whole : IsWhole fixed takes member x s w) where
   abbrev p : DriverParts
@@ -46,8 +43,8 @@ module _ (fixed : Fixed) (takes : ℕ → ℕ → Bool) (member : ℕ → Bool) 
         feeding = store_feeding fixed member x s w b words command made f;
         under_way = under_way_then p member x.streams x.endpoint s.parts s.order s.out b words k (next_of p).memory (parts_then g);
         names = store (λ (d : DriverContent). AreNamesApart d) (λ low. whole.names) (λ eighth. whole.names);
-        senders = store (λ (d : DriverContent). HaveSenders d x.stream) (λ low. whole.senders) (λ eighth e z here opens. absurd (no_open z.queue opens));
-        takers = store (λ (d : DriverContent). HaveTakers d takes) (λ low. whole.takers) (λ eighth e z here opens. absurd (no_open z.queue opens));
+        senders = store (λ (d : DriverContent). HaveSenders d x.stream) (λ low. whole.senders) (λ eighth e z here opens. absurd (none_open z.queue opens));
+        takers = store (λ (d : DriverContent). HaveTakers d takes) (λ low. whole.takers) (λ eighth e z here opens. absurd (none_open z.queue opens));
         controls_apart = row_apart takes (driver_row p) p whole.controls_apart;
         taking = store_taking fixed takes member x s w b words command made whole;
         runs = runs_then p member x.streams x.endpoint s.parts s.order s.out b words k whole.runs;

@@ -1,11 +1,11 @@
 use Rattle.std.specs.Prelude.{◌≡◌, ℕ, ◌&&◌, ◌==◌, true, false}
 use Rattle.std.specs.List.{AllByRecursion}
 use Rattle.std.proofs.Common.{refl, true≢false}
+use Rattle.law_common.proofs.Lists.{nth_all}
 use Rattle.bandwidth.specs.declared.placements.Placement.{Placement}
 use Rattle.bandwidth.specs.Placements.{allowed, mask}
 use Rattle.bandwidth.specs.Worked.{keyboard, placed}
 use Rattle.claims_world.specs.FrameHeads.{IsAllowed}
-use Rattle.law_world.proofs.lemmas.memory.lemmas.framed_memory.Masking.{one_of_all}
 use Rattle.law_microframes.specs.worked_visits.Samples.{placed_keyboard}
 use Rattle.law_microframes.proofs.worked_visits.splits.a_keyboard_is_allowed.Goals as goal
 
@@ -24,9 +24,9 @@ returns-clause-allowed c = record { place = 0; at = refl }
 
 pub returns-clause-without : goal.returns-clause-without
 returns-clause-without c = λ is. true≢false
-    (one_of_all (λ (p : Placement). (p.smask == 0) ≡ false) (allowed keyboard) is.place (placed 8 0 0 0x1C) all_start is.at)
+    (nth_all (λ (p : Placement). (p.smask == 0) ≡ false) (allowed keyboard) is.place (placed 8 0 0 0x1C) all_start is.at)
 
 pub returns-clause-twice : goal.returns-clause-twice
 returns-clause-twice c = λ is. true≢false
-    (one_of_all (λ (p : Placement). ((p.smask == 4) && (p.cmask == 28)) ≡ false) (allowed keyboard) is.place (placed 8 0 0x04 0x1C)
+    (nth_all (λ (p : Placement). ((p.smask == 4) && (p.cmask == 28)) ≡ false) (allowed keyboard) is.place (placed 8 0 0x04 0x1C)
     all_apart is.at)

@@ -1,8 +1,9 @@
 -- The queue head in hand of an interrupt endpoint below a hub asks for that endpoint, and names its hub and port.
 use Rattle.std.proofs.Common.{◌≡◌, ℕ, ◌+◌, ◌*◌, ◌≤◌, max, Bool, true, false, List, slice_get, slice_index, Option, Some, None, Ok, refl, sym, ap, subst, ◌∙◌, arith, if◌then◌else◌}
 use Rattle.std.specs.Prelude.{◌==◌, unwrap_or}
-use Rattle.std.specs.Result.{result_ok}
 use Rattle.std.proofs.lemmas.Bool.{true≢false}
+use Rattle.law_microframes.proofs.Common.{read_ok}
+use Rattle.law_common.proofs.Lists.{nth_all}
 use Rattle.usb_base.specs.declared.endpoints.EpDesc.{EpDesc}
 use Rattle.usb_base.specs.declared.packets.EpKind.{EpKind}
 use Rattle.usb_base.specs.declared.packets.EpKind.TheVariants as kinds
@@ -46,8 +47,7 @@ use Rattle.law_world.specs.memory.framed_memory.Masks.{HasMasks}
 use Rattle.law_world.proofs.lemmas.memory.lemmas.framed_memory.ChainedRuns.{chained_head_is_in_range}
 use Rattle.law_microframes.specs.visits.Belonging.{IsQueueAt, HaveFields, HeadsHaveFields}
 use Rattle.law_microframes.proofs.lemmas.visits.BelongQueues.{queue_belongs}
-use Rattle.law_microframes.proofs.lemmas.visits.BelongReads.{ok_is, word_one, word_two}
-use Rattle.law_devices.proofs.Lists.{all_at}
+use Rattle.law_microframes.proofs.lemmas.visits.BelongReads.{word_one, word_two}
 use Rattle.law_microframes.specs.time.DataQueues.{pid_of, way_of, ReadsData}
 use Rattle.law_microframes.specs.due.repeats.Hearing.{token_of_way, is_control_way, IsHeardOn, AsksFor}
 use Rattle.law_microframes.specs.time.Repeats.{asked_pid}
@@ -68,11 +68,6 @@ place_at ws = record { addr = refl; ep = refl; eps = refl; hub = refl; port = re
 
 place_read : (ws : List ℕ) (q : Qh) → qh_read ws ≡ Ok q → HasPlace (slice_index ws 1) (slice_index ws 2) q
 place_read ws q is = subst (HasPlace (slice_index ws 1) (slice_index ws 2)) (sym (qh_read-is ws q is)) (place_at ws)
-
-read_ok : (m : Mem) (a : ℕ) (q : Qh) (b : Bool) → (if b then result_ok (qh_read (words_at m a 12)) else None) ≡ Some q
-    → qh_read (words_at m a 12) ≡ Ok q
-read_ok m a q true is = ok_is (qh_read (words_at m a 12)) q is
-read_ok m a q false is = absurd (cc)
 
 pub places_read : (m : Mem) (a : ℕ) (q : Qh) → queue_head_at_address m a ≡ Some q → HasPlace (word_at m (a + 4)) (word_at m (a + 8)) q
 places_read m a q is =
@@ -147,7 +142,7 @@ module _ (s : Script) (st : Standing) (w : World) (k : IsMixedAt st w) (fields :
       let carries = no_control x.desc (k.turns.kinds_fit e x here) at.kind in
       let heard : IsHeardOn (fixed_of s) w.bus x.desc = hears x.desc (stands.heard slow carries) in
       let few = few_more x.desc.multi second f.multi in
-      let masks : HasMasks p = all_at (λ y. HasMasks y.placement) w.driver.periodic.plan.placed at.belongs.planned.place _ k.masks
+      let masks : HasMasks p = nth_all (λ y. HasMasks y.placement) w.driver.periodic.plan.placed at.belongs.planned.place _ k.masks
       at.belongs.planned.there in
       let one = written (interrupt_head x.desc 0 0 0 0) (chained_head_is_in_range x.desc (no_masks p) 0 0 (k.numbers e x here) stands.max
       stands.port few (record { smask = omega arith; cmask = omega arith })) in

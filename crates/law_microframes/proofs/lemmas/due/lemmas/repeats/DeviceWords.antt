@@ -1,7 +1,8 @@
 -- What a device answers is a word of its translator: data with a toggle to an IN, a handshake to any other token, or nothing.
 use Rattle.std.proofs.Common.{◌≡◌, ◌≢◌, ℕ, zero, suc, ◌-◌, ◌≤◌, Bool, true, false, List, [], ◌∷◌, length, slice_get, Option, Some, None, refl, sym, subst, inl, inr, arith}
-use Rattle.std.specs.Prelude.{◌==◌, ◌⊎◌, if◌then◌else◌}
+use Rattle.std.specs.Prelude.{◌==◌, if◌then◌else◌}
 use Rattle.std.proofs.lemmas.Bool.{and_parts}
+use Rattle.law_devices.proofs.Common.{either_found}
 use Rattle.usb_base.specs.declared.packets.Ask.{Ask}
 use Rattle.usb_base.specs.declared.packets.Pid.{Pid}
 use Rattle.usb_base.specs.declared.packets.Pid.TheVariants as pids
@@ -33,7 +34,7 @@ use Rattle.endpoint_script.specs.Controlling.{reply_of}
 use Rattle.endpoint_script.specs.Sending.{sent_reply}
 use Rattle.endpoint_script.specs.Taking.{taking_row, row_reply, last_hand}
 use Rattle.endpoint_script.specs.Streaming.{Streaming, due_of, count_pid, first_of}
-use Rattle.endpoint_script.specs.Device.{Device, part_reply, is_way, is_named, place_named, or_else, place_for, endpoint_asked, endpoint_at, reply_from, answer_of}
+use Rattle.endpoint_script.specs.Device.{Device, part_reply, is_way, is_named, place_named, place_for, endpoint_asked, endpoint_at, reply_from, answer_of}
 use Rattle.law_microframes.specs.time.Repeats.{is_data, is_split_word}
 use Rattle.law_microframes.specs.due.repeats.Words.{inward_of, FitsWay, HasItsWay, IsPlain}
 use Rattle.law_microframes.proofs.lemmas.due.lemmas.repeats.Lists.{all_get, position_passes}
@@ -205,25 +206,21 @@ named_way es num way k e found here =
     way_is e.desc.name.way way (and_parts (e.desc.name.num == num) (is_way e.desc.name.way way)
     (position_passes (is_named num way) es k e found here)).1
 
-either : (o other : Option ℕ) (k : ℕ) → or_else o other ≡ Some k → (o ≡ Some k) ⊎ (other ≡ Some k)
-either None other k e = inr e
-either (Some i) other k e = inl e
-
 found_takes : (token : StageToken) (es : List Endpoint) (num k : ℕ) (e : Endpoint) → place_for token es num ≡ Some k
     → slice_get es k ≡ Some e → TakesToken e.desc.name.way token
 found_takes Tokens.Setup es num k e found here = rw (named_way es num ways.Ctl k e found here) tt
 found_takes Tokens.In es num k e found here =
-    elim (either (place_named es num ways.In) (place_named es num ways.Ctl) k found) [
+    elim (either_found (place_named es num ways.In) (place_named es num ways.Ctl) k found) [
       | inl one ↦ rw (named_way es num ways.In k e one here) tt
       | inr two ↦ rw (named_way es num ways.Ctl k e two here) tt
     ]
 found_takes Tokens.Out es num k e found here =
-    elim (either (place_named es num ways.Out) (place_named es num ways.Ctl) k found) [
+    elim (either_found (place_named es num ways.Out) (place_named es num ways.Ctl) k found) [
       | inl one ↦ rw (named_way es num ways.Out k e one here) tt
       | inr two ↦ rw (named_way es num ways.Ctl k e two here) tt
     ]
 found_takes Tokens.Ping es num k e found here =
-    elim (either (place_named es num ways.Out) (place_named es num ways.Ctl) k found) [
+    elim (either_found (place_named es num ways.Out) (place_named es num ways.Ctl) k found) [
       | inl one ↦ rw (named_way es num ways.Out k e one here) tt
       | inr two ↦ rw (named_way es num ways.Ctl k e two here) tt
     ]

@@ -6,6 +6,7 @@ use Rattle.std.specs.Option.{option_map_or}
 use Rattle.std.proofs.lemmas.Bool.{cond_both, cases_Bool, and_parts, leb-true, cond-true, cond-false}
 use Rattle.std.proofs.lemmas.List.{length-set, length-replicate}
 use Rattle.std.proofs.lemmas.Option.{same_Some}
+use Rattle.law_common.proofs.Lists.{all_both, all_more}
 use Rattle.usb_base.specs.declared.packets.Speed.{Speed}
 use Rattle.usb_base.specs.declared.commands.Cmd.TheVariants as cmd
 use Rattle.usb_base.specs.declared.endpoints.EpDesc.{EpDesc}
@@ -20,7 +21,7 @@ use Rattle.script_forms.specs.declared.statements.Statement.TheVariants as says
 use Rattle.script_world.specs.Draft.{Draft, Placed, empty, device_of, hub_of, is_named, known, change, same_way}
 use Rattle.script_world.specs.Ranges.{within, is_endpoint, is_slots}
 use Rattle.script_world.specs.Rows.{translator_of, is_known, answered, roomier, stuffed, at_ep, with_ep, desc_of, attach, where_known, put_room, control_name, translator_below, device, commanded, counted, content_len, after}
-use Rattle.law_devices.proofs.Lists.{all_append, all_more, all_change, find_append}
+use Rattle.law_devices.proofs.Lists.{all_change, find_append}
 use Rattle.law_microframes.proofs.lemmas.due.lemmas.repeats.Lists.{all_found}
 
 -- ---- a port of a hub
@@ -143,7 +144,7 @@ same_plugged w v hubs devices h = record {
 new_ep : (hubs : List HubText) (l : EpLine) (d : Placed) → IsPlugged hubs d → IsPlugged hubs (with_ep l d)
 new_ep hubs l d k = record {
   ports =
-      all_append (λ (e : EpText). (e.desc.port ≡ d.port) × (e.desc.tt ≡ d.tt)) d.eps (record {
+      all_both (λ (e : EpText). (e.desc.port ≡ d.port) × (e.desc.tt ≡ d.tt)) d.eps (record {
         desc = desc_of l d;
         items = [];
         room = 0;
@@ -190,7 +191,7 @@ below_plugged w b tt_ v hubs devices has h =
       devices = subst (λ (ds : List Placed). AllByRecursion (IsPlugged v.hubs) ds) (sym devices)
           (subst (λ (hs : List HubText). AllByRecursion (IsPlugged hs) (w.devices ++ device b.addr b.speed (Some b.hub) b.port tt_ ∷ []))
           (sym hubs)
-          (all_append (IsPlugged later) w.devices (device b.addr b.speed (Some b.hub) b.port tt_ ∷ [])
+          (all_both (IsPlugged later) w.devices (device b.addr b.speed (Some b.hub) b.port tt_ ∷ [])
           (plugged_with w.hubs later w.devices (λ a port n k. changed_hubs (λ (h : HubText). h.addr == b.hub) b.port b.speed w.hubs a port
           n k) h.devices) (new, tt)));
     }
@@ -223,7 +224,7 @@ after_plugged w n (says.Hub addr ports multi) h =
     cond_both (within 1 127 addr && within 1 15 ports) _ w ArePlugged (λ _.
     record {
       hubs =
-          all_append HasItsPorts w.hubs (record { addr = addr; ports = ports; attached = replicate ports None; multi = multi } ∷ [])
+          all_both HasItsPorts w.hubs (record { addr = addr; ports = ports; attached = replicate ports None; multi = multi } ∷ [])
           h.hubs (length-replicate ports _, tt);
       devices = plugged_with w.hubs _ w.devices (λ a port n k. more_hubs w.hubs _ a port n k) h.devices;
     }) (λ _. h)
@@ -231,7 +232,7 @@ after_plugged w n (says.DevHigh addr) h =
     cond_both (within 1 127 addr) _ w ArePlugged (λ _.
     record {
       hubs = h.hubs;
-      devices = all_append (IsPlugged w.hubs) w.devices _ h.devices
+      devices = all_both (IsPlugged w.hubs) w.devices _ h.devices
           (record { ports = tt; behind = λ a is. absurd (none_some a is) }, tt);
     }) (λ _. h)
 after_plugged w n (says.DevBelow b) h =

@@ -2,6 +2,7 @@
 use Rattle.std.proofs.Common.{◌≡◌, ℕ, ◌+◌, Bool, true, false, List, Option, Some, None, refl, sym, ap, subst, ◌∙◌, inl, inr, arith}
 use Rattle.std.specs.Prelude.{◌==◌, ◌&&◌, not, nat_lt, if◌then◌else◌}
 use Rattle.std.proofs.lemmas.Bool.{cases_Bool, true≢false, false≢true}
+use Rattle.law_common.proofs.Booleans.{both_not, and_none, is_low}
 use Rattle.usb_base.specs.declared.packets.Ask.{Ask}
 use Rattle.usb_base.specs.declared.packets.EpKind.TheVariants.{Interrupt}
 use Rattle.usb_base.specs.declared.packets.Pid.{Pid}
@@ -124,14 +125,6 @@ missed_eps : (q : Qh) → (missed_queue q).eps ≡ q.eps
 unfolding missed_queue
 missed_eps q = refl
 
-and_left : (a b : Bool) → a ≡ false → (a && b) ≡ false
-and_left true b e = absurd (true≢false e)
-and_left false b e = refl
-
-and_right : (a b : Bool) → b ≡ false → (a && b) ≡ false
-and_right true b e = e
-and_right false b e = refl
-
 turned : (a b : Bool) → (a && b) ≡ false → (b && a) ≡ false
 turned true true e = e
 turned true false e = refl
@@ -142,7 +135,7 @@ turned false false e = refl
 goes_by : (active low waits bad full : Bool) → low ≡ false → (waits && bad) ≡ false
     → (active && (if low then full else waits && bad)) ≡ false
 goes_by active true waits bad full e none = absurd (true≢false e)
-goes_by active false waits bad full e none = and_right active (waits && bad) none
+goes_by active false waits bad full e none = both_not active (waits && bad) none
 
 inward_is : (inward : Bool) → inward_of (asked_pid inward) ≡ inward
 inward_is true = refl
@@ -193,7 +186,7 @@ module _ (fixed : Fixed) (b : Bus) (says : BusSaysWords fixed b) where
       let split : t.split ≡ start_split (queue_pipe Interrupt q) = ap (λ (x : Bool). split_at x q.token.split_state
       (queue_pipe Interrupt q)) low ∙ ap (λ (x : Bool). split_at false x (queue_pipe Interrupt q)) waits in
       let none : failed (outcome_in t out last reply) ≡ false = rw split refl in
-      and_right (host_after t out last reply).waiting (failed (outcome_in t out last reply)) none
+      both_not (host_after t out last reply).waiting (failed (outcome_in t out last reply)) none
 
   transaction_once : (q : Qh) (out : List ℕ) (last : Bool) → AsksFor fixed b q → (q.eps == 2) ≡ false
       → is_lost fixed b (call_in (planned q) out last).ask (call_in (planned q) out last).out ≡ false
@@ -245,7 +238,7 @@ module _ (fixed : Fixed) (b : Bus) (says : BusSaysWords fixed b) where
 
   missed_once : (h : HeldQueue) (p : FramePlace) → StaysOnce (wrote (missed h) miss_outcome p).walk.hand
   missed_once h p =
-      written_once (missed h) miss_outcome p (λ low. and_left (missed_queue h.copy.queue_head).token.active _
+      written_once (missed h) miss_outcome p (λ low. and_none (missed_queue h.copy.queue_head).token.active _
       (missed_idle h.copy.queue_head))
 
   taken_once : (h : HeldQueue) (a : ℕ) (t : Qtd) (p : FramePlace) → h.copy.settled ≡ None → IsOnce h → StaysOnce (took h a t p).walk.hand
@@ -368,10 +361,6 @@ if_none false r cost none free = none
 first_time : (low : Bool) (made : ℕ) → made ≡ 0 → (not low && nat_lt 0 made) ≡ true → ⊥
 first_time true made none is = absurd (false≢true is)
 first_time false made none is = absurd (false≢true (sym (ap (λ (n : ℕ). nat_lt 0 n) none) ∙ is))
-
-is_low : (high more : Bool) → (not high && more) ≡ true → high ≡ false
-is_low true more is = absurd (false≢true is)
-is_low false more is = refl
 
 queue_again : (p : FramePlace) (h : HeldQueue) (o : Option Outcome) → h.copy.settled ≡ o → IsOnce h → is_again (hands.Queue h) ≡ true
     → cost_of (hc_step (queue_step (settled_row p.memory p.walk.left p.walk.index h.copy.queue_head o) h (reading (queue_read p h) p)))

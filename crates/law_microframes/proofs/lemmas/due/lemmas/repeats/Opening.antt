@@ -1,10 +1,12 @@
 -- The bus of a script that a text spells: each endpoint that is opened below a hub stands there, and its devices are plain.
 use Rattle.std.proofs.Common.{◌≡◌, ℕ, zero, suc, ◌+◌, ◌-◌, ◌<◌, ◌≤◌, Bool, true, false, List, [], ◌∷◌, length, map, replicate, slice_get, Option, Some, None, refl, sym, ap, subst, ◌∙◌, inl, inr, zero-add, arith}
-use Rattle.std.specs.Prelude.{◌==◌, ◌&&◌, nat_le, is_some, not, find}
+use Rattle.std.specs.Prelude.{◌==◌, ◌&&◌, nat_le, is_some, find}
 use Rattle.std.specs.List.{AllByRecursion, list_any}
 use Rattle.std.specs.Option.{option_map, option_and_then}
 use Rattle.std.proofs.lemmas.Bool.{and_parts, eqb-true, le-leb, true≢false}
 use Rattle.std.proofs.lemmas.Option.{same_Some, slice_get-map, slice_get_within}
+use Rattle.law_common.proofs.Booleans.{not_high}
+use Rattle.law_common.proofs.Lists.{all_both, nth_all}
 use Rattle.usb_base.specs.declared.commands.Cmd.TheVariants as cmd
 use Rattle.usb_base.specs.declared.endpoints.EpDesc.{EpDesc}
 use Rattle.usb_base.specs.declared.endpoints.EpName.{EpName}
@@ -36,7 +38,7 @@ use Rattle.bus_wire.specs.declared.seats.Seat.{Seat}
 use Rattle.bus_wire.specs.declared.seats.TokenKind.TheVariants as tokens
 use Rattle.bus_wire.specs.Seats.{suits, owner_at, seat_at, seats_from, hub_seats_from, seat_named, device_seats, seats_of}
 use Rattle.bus_wire.specs.Bus.{fixed_of, opening_bus}
-use Rattle.law_devices.proofs.Lists.{Holds, all_append, all_at, all_find, all_filter_map, any_later, any_found, found_first, find_map}
+use Rattle.law_devices.proofs.Lists.{Holds, all_find, all_filter_map, any_later, any_found, found_first, find_map}
 use Rattle.law_devices.proofs.Drafts.{IsEpOf, HasOwn, IsKnownDesc, IsKnownLine, IsDeclaredDraft, after_declared}
 use Rattle.law_devices.proofs.Seats.{has_seat}
 use Rattle.law_devices.proofs.Senders.{IsDeclaredAt, empty_declared, second_declared}
@@ -141,10 +143,6 @@ part_fits way.Out kinds.Control t few = tt
 part_fits way.Out kinds.Bulk t few = tt
 part_fits way.Out kinds.Interrupt t few = tt
 
-not_high : (b : Bool) → true ≡ not b → b ≡ false
-not_high true e = cc
-not_high false e = refl
-
 iso_paced : (x : EpDesc) → x.kind ≡ kinds.Iso → is_paced x.kind x.speed x.period x.multi ≡ true → is_rate x.speed x.period x.multi ≡ true
 iso_paced x iso is = subst (λ (k : EpKind). is_paced k x.speed x.period x.multi ≡ true) iso is
 
@@ -188,7 +186,7 @@ seats_plain : (names : List EpName) (devices : List Device) (k : ℕ) (ds : List
     → AllByRecursion (IsPlainSeat devices) (seats_from k (map device_text ds))
 seats_plain names devices k [] there own fit = tt
 seats_plain names devices k (d ∷ ds) there own fit =
-    all_append (IsPlainSeat devices) (map (seat_at k) d.eps) (seats_from (k + 1) (map device_text ds))
+    all_both (IsPlainSeat devices) (map (seat_at k) d.eps) (seats_from (k + 1) (map device_text ds))
     (device_seats_plain names devices k d d.eps (subst (λ (i : ℕ). slice_get devices i ≡ Some (opening (device_text d))) (omega arith)
     (there 0 d refl)) own.0 fit.0.eps own.0)
     (seats_plain names devices (k + 1) ds (λ i p is. subst (λ (j : ℕ). slice_get devices j ≡ Some (opening (device_text p)))
@@ -207,10 +205,10 @@ plain_below w h place device hub port stuff seat d seated owned here =
     (slice_get-map opening (map device_text w.devices) i ∙ ap (option_map opening)
     (slice_get-map device_text w.devices i ∙ ap (option_map device_text) is)))
     h.declared.own h.fits.devices in
-    let all = all_append (IsPlainSeat devices) (hub_seats_from 0 w.hubs) (device_seats (script_of w)) (hub_seats_plain devices 0 w.hubs)
+    let all = all_both (IsPlainSeat devices) (hub_seats_from 0 w.hubs) (device_seats (script_of w)) (hub_seats_plain devices 0 w.hubs)
     (all_filter_map (IsPlainSeat devices) (seat_named (seats_from 0 (map device_text w.devices))) w.endpoints
     (λ name. all_find (IsPlainSeat devices) (λ s. _) (seats_from 0 (map device_text w.devices)) from)) in
-    all_at (IsPlainSeat devices) (seats_of (script_of w)) place seat all seated device hub port stuff d owned here
+    nth_all (IsPlainSeat devices) (seats_of (script_of w)) place seat all seated device hub port stuff d owned here
 
 opening_says : (w : Draft) → IsWhole w → BusSaysWords (fixed_of (script_of w)) (opening_bus (script_of w))
 opening_says w h = record { hubs = opened_say w.hubs; devices = plain_below w h }

@@ -1,13 +1,12 @@
 -- Nothing is made again in a microframe in which no packet of the walk of the frames was lost, at each moment of a script that a text
 -- spells.
 use Rattle.std.proofs.Common.{◌≡◌, ◌≢◌, ◌==◌, ℕ, Bool, true, false, List, Some, None, refl, sym, subst, ◌∙◌, arith}
+use Rattle.law_microframes.proofs.Common.{ring_no, over_no}
 use Rattle.script_types.specs.declared.scripts.Script.{Script}
 use Rattle.script_text.specs.Faults.{Spells}
 use Rattle.script_fits.proofs.Texts.{spelled_fits}
 use Rattle.word_mem.specs.Memory.{reaches}
 use Rattle.op_registers.specs.Events.{after_begin}
-use Rattle.async_walk.specs.declared.state.WalkStep.{WalkStep}
-use Rattle.async_walk.specs.declared.state.WalkStep.TheVariants as walk_steps
 use Rattle.hc_interrupt.specs.declared.turns.Turn.TheVariants as turns
 use Rattle.hc_interrupt.specs.Turns.{turn_of}
 use Rattle.periodic_walk.specs.declared.state.Hand.TheVariants as hands
@@ -18,8 +17,8 @@ use Rattle.periodic_walk.specs.Rows.{effect_of}
 use Rattle.hc_core.specs.declared.controller.ControllerRow.{ControllerRow}
 use Rattle.hc_core.specs.declared.controller.ControllerRow.TheVariants as rows
 use Rattle.hc_core.specs.declared.controller.MicroframePart.{MicroframePart}
-use Rattle.hc_core.specs.declared.controller.MicroframePart.TheVariants.{Over, Periodic, Asynchronous}
-use Rattle.hc_core.specs.Controller.{Control, Content, element_address, begun_at, entered, part_after, frame_place, walk_step, kind_of}
+use Rattle.hc_core.specs.declared.controller.MicroframePart.TheVariants.{Over, Periodic}
+use Rattle.hc_core.specs.Controller.{Control, Content, element_address, begun_at, entered, frame_place, walk_step, kind_of}
 use Rattle.bus_wire.specs.Bus.{Bus, Fixed, fixed_of, is_allowed}
 use Rattle.bus_world.specs.World.{World, controller_parts, controller_row, controller_next, frame_by, turned_by}
 use Rattle.bus_world.specs.Budgets.{moment}
@@ -66,13 +65,6 @@ record IsKnown (fixed : Fixed) (w : World) : Type 0 where
 
 outside : (part : MicroframePart) (c : Control) (r : ℕ) → r ≡ 0 → part ≢ Periodic → IsQuiet part c r
 outside part c r none out = record { none = none; once = λ on. absurd (out on) }
-
-ring_no : (step : WalkStep) → part_after Asynchronous step ≢ Periodic
-ring_no walk_steps.Fetch e = cc
-ring_no _ e = cc
-
-over_no : Over ≢ Periodic
-over_no e = cc
 
 lost_none : (lost : Bool) (n : ℕ) → one_more_if lost n ≡ 0 → (lost ≡ false) × (n ≡ 0)
 lost_none true n e = absurd (omega arith)

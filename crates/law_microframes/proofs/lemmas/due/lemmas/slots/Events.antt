@@ -2,6 +2,8 @@
 use Rattle.std.proofs.Common.{◌≡◌, ◌≢◌, ℕ, Bool, true, false, if◌then◌else◌, List, ◌∷◌, ◌&&◌, Option, Some, None, ap, refl, sym, subst, ◌∙◌}
 use Rattle.std.specs.Prelude.{nat_lt}
 use Rattle.std.proofs.lemmas.Bool.{false≢true}
+use Rattle.law_common.proofs.Lists.{more_active}
+use Rattle.law_microframes.proofs.Common.{heard_at}
 use Rattle.usb_base.specs.declared.packets.Ask.{Ask}
 use Rattle.usb_base.specs.declared.packets.Reply.{Reply}
 use Rattle.itd_sitd.specs.Itd.{slot_of}
@@ -154,10 +156,6 @@ quiet_serves bs ds step e is all =
 
 -- ---- nothing in hand
 
-more_active : (b : Bool) (a : ℕ) (bs ds : List ℕ) → bs ≡ ds → (if b then a ∷ bs else bs) ≡ (if b then a ∷ ds else ds)
-more_active true a bs ds is = ap (λ (xs : List ℕ). a ∷ xs) is
-more_active false a bs ds is = is
-
 chain_serves : (row : ChainRow) (p : FramePlace) (bs ds : List ℕ) → bs ≡ ds
     → Serves (active_by (microframe_of p.walk.index) row bs) ds (chain_step row) (chain_after row p)
 unfolding fetched_itd
@@ -173,11 +171,6 @@ not_done : (e : Option IsoEnd) (h : HeldItd) (at : ℕ) (active : Bool) (ds : Li
     → with_itd e h ds ≡ at ∷ ds
 not_done None h at active ds one on = ap (λ (b : Bool). if b then h.at ∷ ds else ds) on ∙ ap (λ (a : ℕ). a ∷ ds) one
 not_done (Some ended) h at active ds one on = ap (λ (a : ℕ). a ∷ ds) one
-
-heard_at : (h : HeldItd) (heard : Heard) → (after_heard h heard).at ≡ h.at
-heard_at h (Packet k n) = refl
-heard_at h TooLong = refl
-heard_at h Wrong = refl
 
 heard_active : (h : HeldItd) (heard : Heard) → (after_heard h heard).slot.active ≡ h.slot.active
 heard_active h (Packet k n) = refl

@@ -1,28 +1,25 @@
 -- Each event of the controller goes on with the slots: those that were fetched active are those that are done, and one that is in hand
 -- (EHCI 1.0, 4.4, 4.6 and 4.7.1).
-use Rattle.std.proofs.Common.{◌≡◌, ◌≢◌, ℕ, ◌+◌, ◌≤◌, Bool, true, false, if◌then◌else◌, List, [], Option, Some, None, ap, refl, sym, subst, ◌∙◌, arith}
-use Rattle.std.specs.Prelude.{◌&&◌, not}
+use Rattle.std.proofs.Common.{◌≡◌, ◌≢◌, ℕ, ◌≤◌, Bool, true, false, List, [], Option, Some, None, ap, refl, sym, subst, ◌∙◌, arith}
+use Rattle.law_microframes.proofs.Common.{repeats_less, frame_row}
 use Rattle.async_walk.specs.declared.state.WalkStep.{WalkStep}
 use Rattle.async_walk.specs.declared.state.WalkStep.TheVariants as walks
 use Rattle.periodic_walk.specs.declared.state.Hand.{Hand}
 use Rattle.periodic_walk.specs.Place.{FramePlace, Effect}
 use Rattle.periodic_walk.specs.Place.Effect.{Leaves, Asks}
 use Rattle.periodic_walk.specs.Rows.{effect_of}
-use Rattle.periodic_walk.specs.Walk.{over_at}
-use Rattle.claims_base.specs.Controller.{Base, opening_base, base_of}
 use Rattle.hc_core.specs.declared.controller.ControllerRow.{ControllerRow}
 use Rattle.hc_core.specs.declared.controller.ControllerRow.TheVariants as rows
 use Rattle.hc_core.specs.declared.controller.HcStep.{HcStep}
 use Rattle.hc_core.specs.declared.controller.MicroframePart.{MicroframePart}
 use Rattle.hc_core.specs.declared.controller.MicroframePart.TheVariants.{Periodic, Asynchronous, Over}
-use Rattle.hc_core.specs.Controller.{Content, enter_row, part_row, part_after, hc_step, kind_of, frame_place, frame_step, begun_at}
+use Rattle.hc_core.specs.Controller.{Content, part_after, hc_step, kind_of, frame_place, frame_step, begun_at}
 use Rattle.bus_wire.specs.Bus.{Bus, Fixed, is_held}
 use Rattle.bus_world.specs.World.{World, frame_by, controller_parts, with_turned, turned_by}
 use Rattle.bus_world.specs.World.{controller_row, controller_next, kind_next}
 use Rattle.claims_world.specs.InTime.{IsInTime}
-use Rattle.claims_world.specs.Prices.{cost_of}
 use Rattle.claims_world.specs.Visits.{TellsMicroframe, is_held_now}
-use Rattle.claims_world.specs.WithinLoad.{is_again, repeats_at, repeats_after, repeats_next}
+use Rattle.claims_world.specs.WithinLoad.{repeats_at, repeats_after, repeats_next}
 use Rattle.law_world.specs.memory.Mixed.{IsMixedWorld}
 use Rattle.law_microframes.proofs.lemmas.visits.ReasonParts.{InPart, row_in}
 use Rattle.law_microframes.proofs.lemmas.visits.ReasonTexts.{never_faults}
@@ -60,26 +57,6 @@ begun : (b allowed : Bool) (c : Content) → c.control.part ≡ Over
     → [] ≡ with_part (begun_at b allowed c).control.part (begun_at b allowed c).control.frame.hand []
 begun true allowed c part = refl
 begun false allowed c part = ap (λ (x : MicroframePart). with_part x c.control.frame.hand []) (sym part)
-
-no_less : (b : Bool) (n m : ℕ) → n ≤ (if b then n + m else n)
-no_less true n m = omega arith
-no_less false n m = omega arith
-
-repeats_less : (hand : Option Hand) (step : HcStep) (n : ℕ) → n ≤ repeats_at hand step n
-repeats_less None step n = omega arith
-repeats_less (Some hand) step n = no_less (is_again hand) n (cost_of step hand)
-
--- while a copy is in hand in the periodic part, an event is one of its walk
-frame_row : (w : World) (hand : Hand) → IsMixedWorld w → w.control.part ≡ Periodic → w.control.frame.hand ≡ Some hand
-    → controller_row w ≡ rows.Frame
-frame_row w hand k part is =
-    let base : base_of w.registers ≡ opening_base = k.mixed.now.framed.runs.ring.registers in
-    ap (λ (b : Bool). if b then part_row w.registers w.control.frame w.control.part else rows.Idle) (ap (λ (b : Base). b.run) base)
-    ∙ ap (part_row w.registers w.control.frame) part
-    ∙ ap (λ (b : Bool). if b && not
-    (over_at w.control.frame.hand w.control.frame.cursor) then rows.Frame else enter_row w.registers.async_enable)
-    (ap (λ (b : Base). b.periodic_enable) base)
-    ∙ ap (λ (o : Option Hand). if not (over_at o w.control.frame.cursor) then rows.Frame else enter_row w.registers.async_enable) is
 
 -- ---- an event of the controller
 

@@ -1,8 +1,10 @@
 -- Where the pipes of a world agree, what was moved of each endpoint at high speed begins its packets, or what its device took.
-use Rattle.std.proofs.Common.{◌≡◌, ℕ, ◌*◌, Bool, true, false, List, [], ◌∷◌, ◌++◌, slice_get, Option, Some, None, ap, refl, sym, subst, ◌∙◌}
+use Rattle.std.proofs.Common.{◌≡◌, ℕ, ◌*◌, Bool, true, false, List, slice_get, Option, Some, None, ap, refl, sym, subst, ◌∙◌}
 use Rattle.std.specs.Prelude.{◌&&◌, ◌||◌}
 use Rattle.std.specs.List.{concat}
-use Rattle.std.proofs.lemmas.Bool.{and_from, false≢true}
+use Rattle.std.proofs.lemmas.Bool.{and_from}
+use Rattle.law_driver.proofs.Common.{out_way, in_way}
+use Rattle.law_world.proofs.Common.{empty_prefix, named_in}
 use Rattle.usb_base.specs.declared.endpoints.EpName.{EpName}
 use Rattle.usb_base.specs.declared.packets.Way.{Way}
 use Rattle.usb_base.specs.declared.packets.Way.TheVariants as ways
@@ -48,16 +50,6 @@ use Rattle.law_reports.proofs.lemmas.pipes.lemmas.high_streams.Reporting.{high_r
 
 -- ---- the packets of a name
 
-empty_prefix : (xs ys : List ℕ) → IsPrefix xs [] → IsPrefix xs ys
-empty_prefix [] ys k = (ys, refl)
-empty_prefix (x ∷ xs) ys k = absurd (no_first k.1)
-  where
-    no_first : x ∷ (xs ++ k.0) ≡ [] → ⊥
-    no_first is = cc
-
-named_in : (name : EpName) → name.way ≡ ways.In → record { addr = name.addr; num = name.num; way = ways.In } ≡ name
-named_in name is = ap (λ (way : Way). record { addr = name.addr; num = name.num; way = way }) (sym is)
-
 packets_begin : (s : Script) (name : EpName) (xs : List ℕ) → HasOwnDevices s → name.way ≡ ways.In
     → IsPrefix xs (concat ((sides_of s).packets name.addr name.num)) → IsPrefix xs (concat (packets_of (items_of s name)))
 packets_begin s name xs own way k = by (sender_of (opening_wired s) name.addr name.num) refl
@@ -70,14 +62,6 @@ packets_begin s name xs own way k = by (sender_of (opening_wired s) name.addr na
         subst (λ (n : EpName). IsPrefix xs (concat (packets_of (items_of s n)))) (named_in name way)
         (subst (λ (ps : List (List ℕ)). IsPrefix xs (concat ps)) (opening_sends s name.addr name.num x own is)
         (subst (λ (o : Option Sender). IsPrefix xs (concat (left_of o))) is k))
-
-in_way : (way : Way) → comes_in way ≡ true → way ≡ ways.In
-in_way ways.In is = refl
-in_way _ is = absurd (false≢true is)
-
-out_way : (way : Way) → receives way ≡ false → way ≡ ways.Out
-out_way ways.Out is = refl
-out_way _ is = absurd (false≢true (sym is))
 
 neither : (a b : Bool) → (a || b) ≡ false → a ≡ false
 neither true b is = is

@@ -3,13 +3,13 @@
 use Rattle.std.proofs.Common.{◌≡◌, ◌≢◌, ℕ, ◌*◌, true, false, List, [], ◌++◌, slice_get, Option, Some, None, option_map, ap, refl, sym}
 use Rattle.std.proofs.Common.{subst, ◌∙◌, ⊎_elim}
 use Rattle.std.specs.List.{concat}
-use Rattle.std.proofs.lemmas.Bool.{cases_Bool, false≢true}
+use Rattle.std.proofs.lemmas.Bool.{cases_Bool}
 use Rattle.std.proofs.lemmas.Option.{slice_get-map, same_Some}
+use Rattle.law_reports.proofs.Common.{one_way, no_iso}
+use Rattle.law_driver.proofs.Common.{of_queue, get_queued}
+use Rattle.law_world.proofs.Common.{met_or_not}
 use Rattle.usb_base.specs.declared.endpoints.EpDesc.{EpDesc}
 use Rattle.usb_base.specs.declared.endpoints.EpName.{EpName}
-use Rattle.usb_base.specs.declared.packets.EpKind.{EpKind}
-use Rattle.usb_base.specs.declared.packets.EpKind.TheVariants as kinds
-use Rattle.usb_base.specs.declared.packets.Way.{Way}
 use Rattle.usb_base.specs.declared.packets.Way.TheVariants as ways
 use Rattle.claims_base.specs.Prefix.{IsPrefix}
 use Rattle.bus_wire.specs.Fates.{is_same_name}
@@ -17,31 +17,18 @@ use Rattle.claims_report.specs.Streams.{told_in, has_stream}
 use Rattle.drv_table.specs.declared.content.Endpoint.{Endpoint}
 use Rattle.drv_table.specs.declared.content.Command.TheVariants as unfinished
 use Rattle.drv_table.specs.DriverContent.{DriverContent}
-use Rattle.drv_table.specs.Kinds.{is_iso}
 use Rattle.law_controller.specs.controlled_streams.Reported.{IsReported}
-use Rattle.law_driver.specs.queued_drivers.Queued.{queued_kind, queued_endpoint, queued}
-use Rattle.law_driver.proofs.lemmas.queued_drivers.CommandFields.{of_queue, desc_same, name_same, get_queued}
+use Rattle.law_driver.specs.queued_drivers.Queued.{queued_endpoint, queued}
+use Rattle.law_driver.proofs.lemmas.queued_drivers.CommandFields.{desc_same, name_same}
 use Rattle.law_driver_ring.specs.fed_queues.Places.{IsThere}
 use Rattle.law_queues.specs.told_endpoints.Telling.{Named, named_of, named_in, lines_in, IsToldTo}
 use Rattle.law_world.specs.streams.Feeding.{there_of}
 use Rattle.law_world.proofs.lemmas.streams.Told.{there_on}
 use Rattle.law_world.proofs.lemmas.streams.lemmas.right_reports.Named.{NoneNamed}
 use Rattle.law_world.proofs.lemmas.streams.lemmas.right_reports.Right.{gone_told}
-use Rattle.law_world.proofs.lemmas.streams.lemmas.taken_reports.Beginning.{met_or_not}
 use Rattle.law_reports.specs.lines.Lined.{in_hand}
 use Rattle.law_reports.specs.lines.TellingLaws.{IsToldWorld}
 use Rattle.bus_world.specs.World.{World}
-
--- ---- kinds
-
-pub no_iso : (kind : EpKind) → has_stream kind ≡ true → is_iso kind ≡ false
-no_iso kinds.Iso is = absurd (false≢true is)
-no_iso _ is = refl
-
--- as its queues tell it, an endpoint whose data go one way has a stream
-one_way : (way : Way) → way ≢ ways.Ctl → has_stream (queued_kind way) ≡ true
-one_way ways.Ctl other = absurd (other refl)
-one_way _ other = refl
 
 -- ---- one endpoint
 

@@ -2,6 +2,7 @@
 use Rattle.std.proofs.Common.{◌≡◌, ℕ, zero, suc, slice_get, Option, Some, None, ap, refl, sym, ◌∙◌, arith}
 use Rattle.std.specs.List.{AllByRecursion}
 use Rattle.std.proofs.lemmas.Bool.{false≢true, eq-eqb}
+use Rattle.law_common.proofs.Lists.{nth_all}
 use Rattle.usb_base.specs.declared.packets.EpKind.TheVariants as kinds
 use Rattle.script_types.specs.declared.devices.DeviceText.{DeviceText}
 use Rattle.script_fits.specs.Fits.{IsFit}
@@ -10,7 +11,6 @@ use Rattle.bus_wire.specs.Bus.{fixed_of, opening_bus}
 use Rattle.bus_wire.specs.declared.seats.Owner.TheVariants as owners
 use Rattle.law_scripts.specs.byte_answers.Bytes.{IsByteScript}
 use Rattle.law_devices.specs.opening_senders.Own.{HasOwnDevices}
-use Rattle.law_devices.proofs.Lists.{all_at}
 use Rattle.law_devices.proofs.Owning.{devices_have_addresses_of_their_own}
 use Rattle.law_opened.specs.Samples.{key_name, sink_name, board_name, beside_split}
 use Rattle.law_opened.proofs.Opened.{texts_open_once, texts_open_fit}
@@ -98,7 +98,7 @@ each_apart (suc (suc i)) j d e one two same = absurd (no_more i d one)
 beside_own : HasOwnDevices beside_split
 beside_own = record {
   own = λ place d here.
-      all_at (λ z. AllByRecursion (λ text. text.desc.name.addr ≡ z.addr) z.eps) beside_split.devices place d
+      nth_all (λ z. AllByRecursion (λ text. text.desc.name.addr ≡ z.addr) z.eps) beside_split.devices place d
       ((refl, (refl, tt)), ((refl, tt), tt)) here;
   apart = each_apart;
 }

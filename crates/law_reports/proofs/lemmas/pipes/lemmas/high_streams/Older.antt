@@ -3,6 +3,7 @@ use Rattle.std.proofs.Common.{◌≡◌, Bool, true, false, if◌then◌else◌,
 use Rattle.std.proofs.Common.{subst, ◌∙◌}
 use Rattle.std.specs.List.{AllByRecursion}
 use Rattle.std.proofs.lemmas.Option.{same_Some}
+use Rattle.law_common.proofs.Booleans.{and_on}
 use Rattle.usb_base.specs.declared.commands.Cmd.{Cmd}
 use Rattle.usb_base.specs.declared.commands.Cmd.TheVariants as commands
 use Rattle.usb_base.specs.declared.endpoints.EpDesc.{EpDesc}
@@ -49,12 +50,8 @@ same_filter {X} P p q (x ∷ xs) same k =
     ap (λ (b : Bool). if b then x ∷ filter p xs else filter p xs) (same x k.0)
     ∙ ap (λ (ys : List X). if q x then x ∷ ys else ys) (same_filter P p q xs same k.1)
 
-and_true : (a b : Bool) → b ≡ true → (a && b) ≡ a
-and_true true b is = is
-and_true false b is = refl
-
 all_high : (s : Script) (x : EpDesc) → IsAsynchronous x → claimed s x ≡ has_stream x.kind
-all_high s x k = and_true (has_stream x.kind) (is_high x.speed) (ap is_high k.speed)
+all_high s x k = and_on (has_stream x.kind) (is_high x.speed) (ap is_high k.speed)
 
 -- of such a report the same endpoints are kept by both
 module _ (s : Script) (only : AsynchronousOnly s) (r : WholeReport) (so : EpDesc → Type 0) (p : EpDesc → Bool) where

@@ -1,6 +1,7 @@
 -- The endpoints of a script's driver are those that its lines open.
-use Rattle.std.proofs.Common.{◌≡◌, ℕ, suc, List, [], ◌∷◌, Option, Some, Result, Ok, Err, slice_get, refl}
+use Rattle.std.proofs.Common.{◌≡◌, ℕ, Option, Some, Result, Ok, Err, slice_get, refl}
 use Rattle.std.specs.List.{AllByRecursion}
+use Rattle.law_common.proofs.Lists.{nothing_at, each_here}
 use Rattle.usb_base.specs.declared.commands.Cmd.{Cmd}
 use Rattle.usb_base.specs.declared.commands.Cmd.TheVariants as commands
 use Rattle.usb_base.specs.declared.endpoints.EpDesc.{EpDesc}
@@ -21,13 +22,6 @@ use Rattle.law_reports.specs.pipes.high_streams.Opened.{OpensOf, AreOpened, Mome
 use Rattle.law_opened.specs.Opened.{IsOpened}
 
 -- ---- along a run
-
-pub each_here : {X : Type 0} (P : X → Type 0) (xs : List X) → ((i : ℕ) (x : X) → slice_get xs i ≡ Some x → P x) → AllByRecursion P xs
-each_here P [] gives = tt
-each_here P (x ∷ xs) gives = (gives 0 x refl, each_here P xs (λ i y here. gives (suc i) y here))
-
-none_there : {X : Type 0} (e : ℕ) (x : X) → slice_get [] e ≡ Some x → ⊥
-none_there e x here = cc
 
 abbrev Opens : Script → EpDesc → Option Placement → Type 0
 Opens s x o = IsOpened s x
@@ -50,7 +44,7 @@ answered s w line name cmd (Err why) is opens all = all
 
 pub moments_are_opened : MomentsAreOpened
 moments_are_opened s fit k =
-    holds_throughout (OpensOf s) (λ w. AreOpened s w.driver) s fit (lines_open s) (λ e x here. absurd (none_there e x here))
+    holds_throughout (OpensOf s) (λ w. AreOpened s w.driver) s fit (lines_open s) (λ e x here. absurd (nothing_at e x here))
     (record {
       driver = λ w all. after_row (Opens s) (driver_row (driver_parts w)) (driver_parts w) all;
       controller = λ w all. all;

@@ -4,6 +4,10 @@ use Rattle.std.proofs.Common.{Option, Some, None, ap, refl, sym, subst, ◌∙�
 use Rattle.std.specs.List.{AllByRecursion, concat}
 use Rattle.std.proofs.lemmas.Bool.{and_parts, false≢true}
 use Rattle.std.proofs.lemmas.Option.{same_Some}
+use Rattle.law_driver.proofs.Common.{in_way}
+use Rattle.law_common.proofs.Lists.{all_two}
+use Rattle.law_world.proofs.Common2.{told_first}
+use Rattle.law_world.proofs.Common.{begins_both}
 use Rattle.usb_base.specs.declared.commands.Cmd.{Cmd}
 use Rattle.usb_base.specs.declared.commands.Cmd.TheVariants as commands
 use Rattle.usb_base.specs.declared.endpoints.EpDesc.{EpDesc}
@@ -37,7 +41,6 @@ use Rattle.law_world.specs.streams.put_laws.TakenPuts.{puts_of, IsOpen}
 use Rattle.law_world.specs.streams.sending_worlds.ReportLaws.{HasNamedTaker}
 use Rattle.law_world.specs.streams.taken_reports.Laws.{bytes_taken}
 use Rattle.law_world.specs.streams.taken_reports.Seats.{HasSeat, OpensItsSeat}
-use Rattle.law_world.proofs.lemmas.streams.lemmas.put_laws.Rests.{prefix_join}
 use Rattle.law_world.proofs.lemmas.streams.lemmas.right_reports.Named.{HasNamed, NoneNamed, search}
 use Rattle.law_world.proofs.lemmas.streams.lemmas.right_reports.Right.{all_mapped}
 use Rattle.law_world.proofs.lemmas.streams.lemmas.sending_worlds.Named.{named_opened, named_or_not}
@@ -58,10 +61,6 @@ use Rattle.law_reports.proofs.lemmas.pipes.lemmas.high_streams.Lives.IsTold.{tol
 use Rattle.law_reports.proofs.lemmas.pipes.lemmas.high_streams.Opened.{lines_open}
 
 -- ---- lists
-
-all_both : {X : Type 0} (P Q : X → Type 0) (xs : List X) → AllByRecursion P xs → AllByRecursion Q xs → AllByRecursion (λ x. P x × Q x) xs
-all_both P Q [] h k = tt
-all_both P Q (x ∷ xs) h k = ((h.0, k.0), all_both P Q xs h.1 k.1)
 
 all_kept : {X : Type 0} (Q P : X → Type 0) (p : X → Bool) (xs : List X) → ((x : X) → Q x → p x ≡ true → P x) → AllByRecursion Q xs
     → AllByRecursion P (filter p xs)
@@ -104,7 +103,7 @@ opened_seated s r has =
     all_mapped (Opens s) (IsSeated s) open_in (filter_map (accepted_in r) s.lines) (opens_by s)
     (all_mapped (λ line. LineOpens s line.1 × OpensItsSeat (fixed_of s).seats line.1) (Opens s) (accepted_in r) s.lines
     (λ line cmd both is. accepted_by s (is_refused r line.0) line.1 cmd both is)
-    (all_both (λ line. LineOpens s line.1) (λ line. OpensItsSeat (fixed_of s).seats line.1) s.lines (lines_open s) has))
+    (all_two (λ line. LineOpens s line.1) (λ line. OpensItsSeat (fixed_of s).seats line.1) s.lines (lines_open s) has))
 
 high_speed : (v : Speed) → is_high v ≡ true → v ≡ speeds.High
 high_speed speeds.High is = refl
@@ -126,13 +125,10 @@ out_sends way is = ap receives is
 
 -- ---- prefixes
 
-told_first : (told held all bytes : List ℕ) → told ++ held ≡ all → IsPrefix all bytes → IsPrefix told bytes
-told_first told held all bytes sum front = prefix_join told all bytes (held, sum) front
-
 -- what begins what was moved begins what was taken
 moved_first : (told moved : List ℕ) (o : Option (List ℕ)) → IsPrefix told moved → IsToldTaken moved o → IsToldTaken told o
 moved_first told moved None front none = first_none told front.0 (front.1 ∙ none)
-moved_first told moved (Some taken) front begins = prefix_join told moved taken front begins
+moved_first told moved (Some taken) front begins = begins_both told moved taken front begins
 
 -- ---- a world
 
@@ -190,7 +186,7 @@ module _ (s : Script) (w : World) (h : HasHighReport s w) where
             subst (λ (xs : List ℕ). IsPrefix xs (concat (packets_of (items_of s k.endpoint.desc.name)))) (sym is)
             (concat (packets_of (items_of s k.endpoint.desc.name)), refl)
         all_begin (told_there there front) =
-            prefix_join (told_each k.number) (concat (h.told.lines.acc (32 * k.endpoint.queue)))
+            begins_both (told_each k.number) (concat (h.told.lines.acc (32 * k.endpoint.queue)))
             (concat (packets_of (items_of s k.endpoint.desc.name))) front (ins.there k.number k.endpoint k.here its_high comes there)
 
         pub in_begins : IsPrefix (told r x.name) (concat (packets_of (items_of s x.name)))
@@ -291,7 +287,7 @@ module _ (s : Script) (p : OrderedWorld) (puts : ℕ → List ℕ) (h : HasHighR
     front : IsPrefix its.taker.taken (stream s q x.name)
     front =
         subst (λ (n : EpName). IsPrefix its.taker.taken (stream s q n)) k.same
-        (prefix_join its.taker.taken (concat (puts_of p.world.driver puts k.number)) (stream s q k.endpoint.desc.name)
+        (begins_both its.taker.taken (concat (puts_of p.world.driver puts k.number)) (stream s q k.endpoint.desc.name)
         (takers.begin k.number k.endpoint its.taker k.here named leaves its.is)
         (are.begin k.number k.endpoint k.here named.stream leaves))
 
@@ -315,10 +311,6 @@ module _ (s : Script) (p : OrderedWorld) (puts : ℕ → List ℕ) (h : HasHighR
       (named_or_not p.world.driver x.name)
 
 -- ---- each that is claimed
-
-in_way : (way : Way) → comes_in way ≡ true → way ≡ ways.In
-in_way ways.In is = refl
-in_way _ is = absurd cc
 
 out_way : (way : Way) → not (receives way) ≡ true → way ≡ ways.Out
 out_way ways.Out is = refl
@@ -356,7 +348,7 @@ pub high_reports_end_right : HighReportsEndRight
 high_reports_end_right s p puts h ins outs takers are none =
     all_kept (λ x. IsSeated s x × IsOpen p.world.driver x) (λ x. IsRightStream s (report_of (fixed_of s) p.world) x.name) (claimed s)
     (opened s (report_of (fixed_of s) p.world)) (λ x both is. by x both (claimed_high s x is) x.name.way refl)
-    (all_both (IsSeated s) (IsOpen p.world.driver) (opened s (report_of (fixed_of s) p.world))
+    (all_two (IsSeated s) (IsOpen p.world.driver) (opened s (report_of (fixed_of s) p.world))
     (opened_seated s (report_of (fixed_of s) p.world) h.seated.seats) (are.opened none))
   where
     by : (x : EpDesc) → IsSeated s x × IsOpen p.world.driver x → IsHigh s x → (way : Way) → x.name.way ≡ way

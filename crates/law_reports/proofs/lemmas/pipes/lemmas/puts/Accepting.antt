@@ -8,12 +8,13 @@ use Rattle.std.proofs.lemmas.Bool.{true≢false}
 use Rattle.std.proofs.lemmas.List.{append-nil, map-append}
 use Rattle.std.proofs.lemmas.List.Folds.{concat-append}
 use Rattle.std.proofs.lemmas.Option.{same_Some, slice_get_within}
+use Rattle.law_queues.proofs.Common.{none_open, last_one}
+use Rattle.law_common.proofs.Lists.{nothing_at, push_which}
 use Rattle.usb_base.specs.declared.endpoints.EndCause.{EndCause}
 use Rattle.usb_base.specs.declared.endpoints.EpDesc.{EpDesc}
 use Rattle.word_mem.specs.Memory.{Mem}
 use Rattle.bus_wire.specs.Bus.{Wired}
 use Rattle.claims_driver.specs.Scripts.{receives}
-use Rattle.drv_table.specs.declared.content.Command.{Command}
 use Rattle.drv_table.specs.declared.content.Command.TheVariants as unfinished
 use Rattle.drv_table.specs.declared.content.Endpoint.{Endpoint}
 use Rattle.drv_table.specs.declared.content.QtdNote.{QtdNote}
@@ -27,7 +28,6 @@ use Rattle.law_driver_ring.specs.fed_queues.Fed.{AreFed}
 use Rattle.law_driver_ring.specs.fed_queues.Places.{IsThere}
 use Rattle.law_ring.specs.OutBus.{Taker}
 use Rattle.law_structures.specs.lent_structures.Structures.{StructureSets, Tells}
-use Rattle.law_queues.proofs.lemmas.harvest_laws.Opening.{push_which}
 use Rattle.law_world.specs.streams.put_laws.HeldPuts.{HoldsPuts}
 use Rattle.law_world.specs.streams.put_laws.Owed.{rest_from, rest_of, Owes}
 use Rattle.law_world.specs.streams.put_laws.OwedLaws.{KeepsPuts}
@@ -35,7 +35,7 @@ use Rattle.law_world.specs.streams.put_laws.OwedTaken.{TakenBegin, EndedAreStopp
 use Rattle.law_world.specs.streams.put_laws.TakenPuts.{puts_from, puts_of}
 use Rattle.law_world.proofs.lemmas.streams.lemmas.put_laws.Driver.{IsNoMore}
 use Rattle.law_world.proofs.lemmas.streams.lemmas.put_laws.HeldAlike.{WasThere, was_itself}
-use Rattle.law_world.proofs.lemmas.streams.lemmas.put_laws.Rests.{prefix_to, prefix_more, puts_kept, reported_not, rest_join, rest_none}
+use Rattle.law_world.proofs.lemmas.streams.lemmas.put_laws.Rests.{prefix_to, puts_kept, reported_not, rest_join, rest_none}
 use Rattle.law_world.proofs.lemmas.streams.lemmas.put_laws.Same.{idle_there, idle_life, same_owes, alike_owes}
 use Rattle.law_world.proofs.lemmas.streams.lemmas.put_laws.Stays.{owner_at}
 use Rattle.law_world.proofs.lemmas.streams.lemmas.put_laws.Sums.{puts_in, by_owners, puts_join, puts_none}
@@ -54,13 +54,6 @@ pub record IsGone (number : ℕ) (y : Transfer) : Type 0 where
   pub endpoint : y.endpoint ≡ number
   pub reported : y.reported ≡ true
   pub released : y.released ≡ true
-
-nothing_at : {X : Type 0} (i : ℕ) (z : X) → slice_get [] i ≡ Some z → ⊥
-nothing_at zero z is = cc
-nothing_at (suc i) z is = cc
-
-none_open : (q : ℕ) → ◌≡◌ {A = Option Command} None (Some (unfinished.Open q)) → ⊥
-none_open q is = cc
 
 -- a list with more behind
 appended : {X : Type 0} (P : X → Type 0) (xs ys : List X) → AllByRecursion P ys → (t : ℕ) (y : X) → slice_get (xs ++ ys) t ≡ Some y
@@ -259,5 +252,5 @@ module _ (watch : Wired → ℕ → ℕ → Option Taker) (wire : Wired) (parts 
         };
         begin = λ e y u at life sends is.
             prefix_to u.taken (concat (puts_of d puts e) ++ more e) (concat (puts_of f puts e)) (sym (puts_given e))
-            (prefix_more u.taken (concat (puts_of d puts e)) (more e) (k.begin e y u (was_end e y at) (idle_life d idle y) sends is));
+            (last_one u.taken (concat (puts_of d puts e)) (more e) (k.begin e y u (was_end e y at) (idle_life d idle y) sends is));
       }

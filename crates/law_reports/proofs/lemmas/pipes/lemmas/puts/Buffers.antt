@@ -1,6 +1,7 @@
 -- Either walk leaves the buffers of a queue head whose active qTDs are OUTs: nothing is received into them.
 use Rattle.std.proofs.Common.{◌≡◌, ◌≢◌, ℕ, Bool, false, if◌then◌else◌, Option, List, [], Some, ap, sym, subst, ◌∙◌, ⊎_elim}
 use Rattle.std.proofs.lemmas.Bool.{cases_eq}
+use Rattle.law_world.proofs.Common.{same_buffers}
 use Rattle.usb_base.specs.declared.packets.Ask.{Ask}
 use Rattle.usb_base.specs.declared.packets.Pid.TheVariants as pids
 use Rattle.usb_base.specs.declared.packets.Reply.{Reply}
@@ -44,9 +45,6 @@ no_in code zero is = out_in (sym (ap pid_at zero) ∙ is)
   where
     out_in : pids.Out ≡ pids.In → ⊥
     out_in e = cc
-
-same_buffers : (part now : Structures) → now ≡ part → BuffersStay part now
-same_buffers part now same a pages k bs here = ap (λ (p : Structures). p a) same ∙ here
 
 -- ---- a transaction is written back
 

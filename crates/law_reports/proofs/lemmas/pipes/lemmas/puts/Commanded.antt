@@ -1,11 +1,16 @@
 -- After each command what was taken of each OUT endpoint at high speed begins its puts, and what is still to be sent stands.
 use Rattle.std.proofs.Common.{◌≡◌, ℕ, ◌*◌, Bool, true, false, List, [], ◌∷◌, ◌++◌, length, slice_get}
-use Rattle.std.proofs.Common.{Option, Some, None, Result, Ok, Err, ap, refl, sym, subst, ◌∙◌, ⊎_elim, inr, arith}
+use Rattle.std.proofs.Common.{Some, None, Result, Ok, Err, ap, refl, sym, subst, ◌∙◌, ⊎_elim, inr, arith}
 use Rattle.std.specs.Prelude.{◌⊎◌, slice_index, ◌&&◌}
 use Rattle.std.specs.List.{AllByRecursion}
 use Rattle.std.proofs.lemmas.Bool.{false≢true, true≢false}
 use Rattle.std.proofs.lemmas.List.{length-map}
 use Rattle.std.proofs.lemmas.Option.{same_Some, slice_get_within}
+use Rattle.law_queues.proofs.Common.{none_open}
+use Rattle.law_world.proofs.Common.{unlink_open, none_some, same_queue}
+use Rattle.law_driver.proofs.Common.{newest_get, out_way, of_none, of_queue, get_queued, pushed}
+use Rattle.law_microframes.proofs.Common.{idle_by}
+use Rattle.law_common.proofs.Lists.{push_which}
 use Rattle.usb_base.specs.declared.commands.Cmd.{Cmd}
 use Rattle.usb_base.specs.declared.commands.Cmd.TheVariants as commands
 use Rattle.usb_base.specs.declared.endpoints.EpDesc.{EpDesc}
@@ -20,7 +25,6 @@ use Rattle.claims_driver.specs.Scripts.{OpensAsynchronous}
 use Rattle.claims_report.specs.Streams.{has_stream}
 use Rattle.drv_table.specs.Accepting.{Offered, new_runs}
 use Rattle.drv_periodic_table.specs.Periodic.{is_periodic}
-use Rattle.drv_table.specs.declared.content.Command.{Command}
 use Rattle.drv_table.specs.declared.content.Command.TheVariants as unfinished
 use Rattle.drv_table.specs.declared.content.Endpoint.{Endpoint}
 use Rattle.drv_table.specs.declared.content.Transfer.{Transfer}
@@ -33,20 +37,16 @@ use Rattle.law_driver.specs.queued_drivers.Commands.{IsQueueOpened, IsEndOpened,
 use Rattle.law_driver.specs.queued_drivers.Commands.{IsQueueLeft, IsEndLeft, QueuesAccept, left_queue, unlink_of}
 use Rattle.law_driver.specs.queued_drivers.Queued.{queued_endpoint, queued_transfer, queued_desc, without_queue, queued}
 use Rattle.law_driver.specs.run_owners.Accepts.{Transfers}
-use Rattle.law_driver.proofs.lemmas.chained_transfers.Ways.{way_sends}
 use Rattle.law_driver.proofs.lemmas.endpoint_lives.Lives.{none_told}
-use Rattle.law_driver.proofs.lemmas.queued_drivers.CommandFields.{of_none, of_queue, get_queued}
 use Rattle.law_driver.proofs.lemmas.queued_drivers.CommandReasons.{reason_of}
 use Rattle.law_driver.proofs.lemmas.queued_drivers.CommandTurns.{commands_are_of_queues}
 use Rattle.law_driver.proofs.lemmas.queued_drivers.RowEvents.{idle_told}
 use Rattle.law_driver.proofs.lemmas.queued_drivers.RowOwners.{queued_are_lent}
 use Rattle.law_driver.proofs.lemmas.run_owners.Commands.{each_command_has_its_reason}
 use Rattle.law_driver_ring.specs.fed_queues.Places.{IsThere}
-use Rattle.law_microframes.proofs.lemmas.visits.BelongItdCommands.{idle_by}
 use Rattle.law_queues.proofs.lemmas.leaving_drivers.Leaving.{cancel_is_as_before}
 use Rattle.law_queues.proofs.lemmas.publish_laws.Apart.{queue_placed, queues_same}
 use Rattle.law_queues.specs.leaving_drivers.Before.{WasSame, IsAsBefore}
-use Rattle.law_queues.proofs.lemmas.harvest_laws.Opening.{push_which}
 use Rattle.law_scripts.specs.byte_answers.Bytes.{IsByteCommand}
 use Rattle.law_structures.specs.lent_structures.Structures.{Tells}
 use Rattle.law_devices.specs.scripted_takers.Takers.{taker_of}
@@ -58,8 +58,6 @@ use Rattle.law_world.specs.streams.put_laws.HeldPuts.{with_put, puts_then}
 use Rattle.law_world.specs.streams.put_laws.OwedLaws.{KeepsPuts}
 use Rattle.law_world.specs.streams.sending_worlds.ReportLaws.{HasNamedTaker}
 use Rattle.law_world.proofs.lemmas.memory.HarvestKept.{owners_of, tells_of}
-use Rattle.law_world.proofs.lemmas.memory.Unfinished.{none_unfinished}
-use Rattle.law_world.proofs.lemmas.streams.Told.{same_queue as same_open}
 use Rattle.law_world.proofs.lemmas.streams.lemmas.put_laws.Commanding.{command_holds_puts}
 use Rattle.law_world.proofs.lemmas.streams.lemmas.put_laws.Commands.{command_owes}
 use Rattle.law_world.proofs.lemmas.streams.lemmas.put_laws.Driver.{IsNoMore, quiet_no_more}
@@ -73,7 +71,7 @@ use Rattle.law_reports.specs.pipes.Declared.{Sides, IsDeclared, IsDeclaredBy}
 use Rattle.law_reports.specs.pipes.Piped.{Heads, IsOpening, IsPiped}
 use Rattle.law_reports.specs.pipes.PipedLaws.{OpensDeclared}
 use Rattle.law_reports.proofs.lemmas.lines.IsoGoing.{told_apart}
-use Rattle.law_reports.proofs.lemmas.pipes.Accepted.{IsNewest, is_opening, is_bare, EndsThen, one_more, one_anew, ends_then, now_pushed}
+use Rattle.law_reports.proofs.lemmas.pipes.Accepted.{IsNewest, is_opening, is_bare, EndsThen, one_more, one_anew, ends_then}
 use Rattle.law_reports.proofs.lemmas.pipes.Accepted.{was_anew}
 use Rattle.law_reports.proofs.lemmas.pipes.Across.{WasIn}
 use Rattle.law_reports.proofs.lemmas.pipes.Commanded.{commanded_piped}
@@ -83,21 +81,11 @@ use Rattle.law_reports.proofs.lemmas.pipes.lemmas.puts.Accepting.{IsOwing, IsGon
 use Rattle.law_reports.proofs.lemmas.pipes.lemmas.puts.Event.{watched_is}
 use Rattle.bus_world.specs.World.{World, name_in, commanded_by, commanded}
 
-none_open : (q : ℕ) → ◌≡◌ {A = Option Command} None (Some (unfinished.Open q)) → ⊥
-none_open q is = cc
-
-unlink_open : (e b link q : ℕ) → ◌≡◌ {A = Option Command} (Some (unfinished.Unlink e b link)) (Some (unfinished.Open q)) → ⊥
-unlink_open e b link q is = cc
-
 iso_streams : (kind : EpKind) → is_iso kind ≡ true → has_stream kind ≡ false
 iso_streams kinds.Iso is = refl
 iso_streams kinds.Bulk is = absurd (false≢true is)
 iso_streams kinds.Interrupt is = absurd (false≢true is)
 iso_streams kinds.Control is = absurd (false≢true is)
-
-last_one : (xs : List Endpoint) (z : Endpoint) → slice_get (xs ++ z ∷ []) (length xs) ≡ Some z
-last_one [] z = refl
-last_one (v ∷ vs) z = last_one vs z
 
 -- no isochronous endpoint has a taker at high speed
 bare_takes : (x : Sides) (desc : EpDesc) → IsDeclared x desc → is_iso desc.kind ≡ true → desc.name.way ≡ ways.Out
@@ -181,7 +169,7 @@ module _ (fixed : Fixed) (x : Sides) (s : Standing) (m : Lines) (h : Heads) (put
         let opens : (queued o.driver).command ≡ Some (unfinished.Open z.queue) = ap (λ (g : DriverContent). g.command) q.alike in
         let unmet : IsThere (queued o.driver) z → ⊥ = (λ there. there.linked opens) in
         let at : slice_get (queued o.driver).endpoints (length (queued w.driver).endpoints) ≡ Some z =
-        ap (λ (xs : List Endpoint). slice_get xs (length d.endpoints)) ends ∙ last_one d.endpoints z in
+        ap (λ (xs : List Endpoint). slice_get xs (length d.endpoints)) ends ∙ newest_get d.endpoints z in
         let owners : HasOwners (queued o.driver) = owners_of s (commanded_by w line name (Ok o)) new.mixed in
         pushed_owing (watched x) (wired fixed w) s.parts m.reported d f w.memory o.memory k.mixed.turns.turns told_idle puts
         k.mixed.queues.queues.fed (tells_of s w k.mixed) tells was z ends (ap (λ (g : DriverContent). g.transfers) q.alike)
@@ -190,10 +178,10 @@ module _ (fixed : Fixed) (x : Sides) (s : Standing) (m : Lines) (h : Heads) (put
         (λ (there : IsThere (queued o.driver) z). unmet there) life)
         (λ e y here alive also.
         let here_now : slice_get (queued o.driver).endpoints e ≡ Some y =
-        ap (λ (xs : List Endpoint). slice_get xs e) ends ∙ now_pushed d.endpoints z e y here in
+        ap (λ (xs : List Endpoint). slice_get xs e) ends ∙ pushed d.endpoints z e y here in
         let each = new.mixed.turns.turns.asynchronous.endpoints in
         let same : e ≡ length d.endpoints =
-        queues_same y.queue z.queue e (length d.endpoints) (same_open y.queue z.queue (sym also ∙ opens))
+        queues_same y.queue z.queue e (length d.endpoints) (same_queue y.queue z.queue (sym also ∙ opens))
         (queue_placed f owners e y here_now (each e y here_now) alive)
         (queue_placed f owners (length d.endpoints) z at (each (length d.endpoints) z at) refl) in
         let low = slice_get_within d.endpoints e y here in omega (arith, same, low))
@@ -206,7 +194,7 @@ module _ (fixed : Fixed) (x : Sides) (s : Standing) (m : Lines) (h : Heads) (put
         (ap (λ (g : DriverContent). g.notes) q.alike) (λ there. absurd (true≢false there.kept)) (λ kept. absurd (true≢false kept))
         (λ u life sends is.
         let a = watched_is (taker_of (wired fixed w) desc.name.addr desc.name.num) (x.takes desc.name.addr desc.name.num) u is in
-        false≢true (sym (bare_takes x desc declared q.isochronous (way_sends desc.name.way sends)) ∙ a.at_high))
+        false≢true (sym (bare_takes x desc declared q.isochronous (out_way desc.name.way sends)) ∙ a.at_high))
         (λ e y here alive also. none_open y.queue (sym told_idle ∙ sym (ap (λ (g : DriverContent). g.command) q.alike) ∙ also))
 
     -- ---- transfers
@@ -218,7 +206,7 @@ module _ (fixed : Fixed) (x : Sides) (s : Standing) (m : Lines) (h : Heads) (put
         let sound = k.mixed.now.framed.place.sound in
         let owners : HasOwners (queued w.driver) = owners_of s w k.mixed in
         let lent = queued_are_lent w.driver k.mixed.now.framed.place.lent
-        (λ e t count is. absurd (none_unfinished (unfinished.Iso e t count) (sym idle ∙ is))) in
+        (λ e t count is. absurd (none_some (unfinished.Iso e t count) (sym idle ∙ is))) in
         let held = command_holds_puts d w.memory cmd (told_of o) s.parts puts only room bytes takes owners lent sound.stands
         k.mixed.turns.turns
         (tells_of s w k.mixed) k.mixed.queues.queues.fed pays.held in
@@ -306,7 +294,7 @@ module _ (fixed : Fixed) (x : Sides) (s : Standing) (m : Lines) (h : Heads) (put
       which e z here = push_which w.driver.endpoints y e z (ap (λ (xs : List Endpoint). slice_get xs e) (sym ends) ∙ here)
 
       its_place : slice_get o.driver.endpoints (length w.driver.endpoints) ≡ Some y
-      its_place = ap (λ (xs : List Endpoint). slice_get xs (length w.driver.endpoints)) ends ∙ last_one w.driver.endpoints y
+      its_place = ap (λ (xs : List Endpoint). slice_get xs (length w.driver.endpoints)) ends ∙ newest_get w.driver.endpoints y
 
       unmet : IsNewest o.driver y → IsThere (queued o.driver) (queued_endpoint y) → ⊥
       unmet (is_opening queue opens made) there =

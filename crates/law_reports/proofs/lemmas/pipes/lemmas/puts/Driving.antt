@@ -1,24 +1,25 @@
 -- After each event of the driver what was taken of each OUT endpoint at high speed begins its puts, and each OUT is sent whole.
-use Rattle.std.proofs.Common.{◌≡◌, ◌≢◌, ℕ, ◌*◌, Bool, true, false, List, [], ◌∷◌, map, slice_get, Some, ap, refl, sym, subst, ◌∙◌, ⊎_elim}
-use Rattle.std.specs.Prelude.{◌⊎◌, if◌then◌else◌}
+use Rattle.std.proofs.Common.{◌≡◌, ◌≢◌, ℕ, ◌*◌, true, false, List, [], ◌∷◌, map, slice_get, Some, ap, refl, sym, subst, ◌∙◌, ⊎_elim}
+use Rattle.std.specs.Prelude.{◌⊎◌}
 use Rattle.std.specs.List.{concat}
 use Rattle.std.proofs.lemmas.Option.{same_Some}
+use Rattle.law_reports.proofs.Common.{queue_open}
+use Rattle.law_world.proofs.Common2.{queued_owner}
+use Rattle.law_driver.proofs.Common.{out_way, get_queued}
+use Rattle.law_world.proofs.Common.{same_queue, begins_all}
 use Rattle.usb_base.specs.declared.endpoints.EpDesc.{EpDesc}
 use Rattle.usb_base.specs.declared.endpoints.EpName.{EpName}
 use Rattle.usb_base.specs.declared.packets.Way.TheVariants as ways
 use Rattle.bus_wire.specs.Bus.{Fixed}
 use Rattle.claims_driver.specs.Scripts.{receives}
-use Rattle.claims_driver.specs.Owners.{is_descriptor}
 use Rattle.drv_table.specs.declared.content.Command.TheVariants as unfinished
 use Rattle.drv_table.specs.declared.content.Endpoint.{Endpoint}
 use Rattle.drv_table.specs.declared.content.Transfer.{Transfer}
 use Rattle.drv_table.specs.DriverContent.{DriverContent}
-use Rattle.law_driver.specs.queued_drivers.Queued.{queued_endpoint, queued_transfer, sort_of_queue, queued}
-use Rattle.law_driver.proofs.lemmas.chained_transfers.Ways.{way_sends}
-use Rattle.law_driver.proofs.lemmas.queued_drivers.CommandFields.{name_same, get_queued}
+use Rattle.law_driver.specs.queued_drivers.Queued.{queued_endpoint, queued_transfer, queued}
+use Rattle.law_driver.proofs.lemmas.queued_drivers.CommandFields.{name_same}
 use Rattle.law_driver_ring.specs.fed_queues.Places.{IsThere}
 use Rattle.law_queues.specs.open_laws.Queues.{IsOpenThere}
-use Rattle.law_world.proofs.lemmas.streams.Told.{same_queue as same_open}
 use Rattle.law_ring.specs.OutBus.{Taker}
 use Rattle.law_devices.specs.scripted_takers.Takers.{taker_of}
 use Rattle.law_world.specs.steps.Outs.{IsUntaken}
@@ -33,7 +34,6 @@ use Rattle.law_world.proofs.lemmas.streams.lemmas.put_laws.Rests.{prefix_to}
 use Rattle.law_world.proofs.lemmas.streams.lemmas.put_laws.Same.{life_or}
 use Rattle.law_world.proofs.lemmas.streams.lemmas.put_laws.Stays.{owner_at, owners_in, event_stays}
 use Rattle.law_world.proofs.lemmas.streams.lemmas.put_laws.Sums.{puts_in, by_owners}
-use Rattle.law_world.proofs.lemmas.streams.lemmas.put_laws.TakenRows.{begins_all}
 use Rattle.law_reports.specs.lines.Lined.{in_hand, Lines}
 use Rattle.law_reports.proofs.lemmas.lines.IsoGoing.{told_apart}
 use Rattle.law_reports.specs.pipes.Declared.{Sides}
@@ -48,19 +48,7 @@ use Rattle.law_reports.proofs.lemmas.pipes.lemmas.puts.Event.{IsWatched, watched
 use Rattle.law_reports.proofs.lemmas.pipes.lemmas.puts.Steps.{IsThereOut, step_sends, step_outs, opened_sends, opened_outs}
 use Rattle.bus_world.specs.World.{World, driver_parts, driver_next}
 
-queue_open : (b c : ℕ) → b ≡ c → Some (unfinished.Open b) ≡ Some (unfinished.Open c)
-queue_open b c is = ap (λ (q : ℕ). Some (unfinished.Open q)) is
-
 -- ---- whose a transfer is stays, as the queues tell it
-
-queued_owner : (xs : List Endpoint) (y : Transfer) → (queued_transfer xs y).endpoint ≡ y.endpoint
-queued_owner xs y = by (is_descriptor y.sort)
-  where
-    by : (b : Bool)
-        → (if b then record y { sort = sort_of_queue (slice_get xs y.endpoint); reported = true; released = true } else y).endpoint
-        ≡ y.endpoint
-    by true = refl
-    by false = refl
 
 queued_owners : (xs : List Endpoint) (ys : List Transfer) → map owner_at (map (queued_transfer xs) ys) ≡ map owner_at ys
 queued_owners xs [] = refl
@@ -128,7 +116,7 @@ module _ (fixed : Fixed) (x : Sides) (s : Standing) (m : Lines) (h : Heads) (put
       let queued_name : (queued_endpoint y).desc.name ≡ z.desc.name = name_same y ∙ sym name in
       let a : IsWatched (taker_of (wired fixed w) z.desc.name.addr z.desc.name.num) (x.takes z.desc.name.addr z.desc.name.num) u =
       watched_is (taker_of (wired fixed w) z.desc.name.addr z.desc.name.num) (x.takes z.desc.name.addr z.desc.name.num) u is in
-      let its_way : y.desc.name.way ≡ ways.Out = ap (λ (n : EpName). n.way) (sym name) ∙ way_sends z.desc.name.way sends in
+      let its_way : y.desc.name.way ≡ ways.Out = ap (λ (n : EpName). n.way) (sym name) ∙ out_way z.desc.name.way sends in
       let on : x.takes y.desc.name.addr y.desc.name.num ≡ true =
       ap (λ (n : EpName). x.takes n.addr n.num) (sym name) ∙ a.at_high in
       ⊎_elim
@@ -181,7 +169,7 @@ module _ (fixed : Fixed) (x : Sides) (s : Standing) (m : Lines) (h : Heads) (put
         let same : 32 * z.queue ≡ 32 * y.queue = ap (λ (b : ℕ). 32 * b) v.comes.queue in
         let was_there : IsThere (queued w.driver) (queued_endpoint y) =
         there_by fixed x s m h w k e z v there.kept (λ opening.
-        differs (same ∙ ap (λ (b : ℕ). 32 * b) (same_open y.queue at.endpoint.queue (sym opening ∙ at.command)))) in
+        differs (same ∙ ap (λ (b : ℕ). 32 * b) (same_queue y.queue at.endpoint.queue (sym opening ∙ at.command)))) in
         subst (IsSentOut s) (sym same) (pays.outs e y v.here was_there (ap (λ (c : EpDesc). c.name.way) (sym v.comes.desc) ∙ way))
 
     pub opened_then : AreOutsWhole t (driver_next w).driver

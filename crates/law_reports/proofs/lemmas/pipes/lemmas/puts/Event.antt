@@ -1,10 +1,12 @@
 -- After each event of the controller what was taken of each OUT endpoint at high speed begins its puts, and what is to be sent stands.
 use Rattle.std.proofs.Common.{◌≡◌, ℕ, ◌*◌, Bool, true, false, List, slice_get, Option, Some, None, ap, refl, sym, subst, ◌∙◌}
-use Rattle.std.proofs.Common.{◌-◌, length, if◌then◌else◌, ⊎_elim, inl, inr, arith}
+use Rattle.std.proofs.Common.{if◌then◌else◌, ⊎_elim, inl, inr}
 use Rattle.std.specs.Prelude.{◌⊎◌}
 use Rattle.std.specs.List.{concat}
-use Rattle.std.proofs.lemmas.Bool.{eq-eqb, true≢false, false≢true}
+use Rattle.std.proofs.lemmas.Bool.{true≢false, false≢true}
 use Rattle.std.proofs.lemmas.Option.{same_Some}
+use Rattle.law_world.proofs.Common.{tail_at}
+use Rattle.law_driver.proofs.Common.{out_way, get_queued}
 use Rattle.usb_base.specs.declared.endpoints.EndCause.{EndCause}
 use Rattle.usb_base.specs.declared.endpoints.EpName.{EpName}
 use Rattle.usb_base.specs.declared.packets.Way.TheVariants as ways
@@ -13,16 +15,13 @@ use Rattle.bus_wire.specs.Bus.{Fixed}
 use Rattle.claims_base.specs.Controller.{opening_base}
 use Rattle.claims_base.specs.Prefix.{IsPrefix}
 use Rattle.claims_driver.specs.Scripts.{receives}
-use Rattle.drv_table.specs.declared.content.Command.{Command}
 use Rattle.drv_table.specs.declared.content.Command.TheVariants as unfinished
-use Rattle.drv_table.specs.declared.content.Transfer.{Transfer}
 use Rattle.drv_table.specs.declared.content.Endpoint.{Endpoint}
 use Rattle.drv_table.specs.DriverContent.{DriverContent}
 use Rattle.law_driver.specs.endpoint_lives.Lives.{told_end, may_meet}
 use Rattle.law_driver.specs.queued_drivers.Queued.{queued_endpoint, queued}
 use Rattle.law_driver.specs.chained_transfers.Out.{out_now}
-use Rattle.law_driver.proofs.lemmas.chained_transfers.Ways.{way_sends}
-use Rattle.law_driver.proofs.lemmas.queued_drivers.CommandFields.{name_same, get_queued}
+use Rattle.law_driver.proofs.lemmas.queued_drivers.CommandFields.{name_same}
 use Rattle.law_driver_ring.specs.fed_queues.Places.{IsThere, IsMet}
 use Rattle.law_structures.specs.lent_structures.Structures.{QueueHead, Structures, StructureSets}
 use Rattle.law_structures.proofs.lemmas.lent_structures.Altering.{found_queue}
@@ -41,7 +40,6 @@ use Rattle.law_descriptors.proofs.lemmas.queue_events.Sending.{events_send_whole
 use Rattle.law_devices.specs.scripted_takers.Takers.{taker_of}
 use Rattle.law_queues.specs.whole_sends.Whole.{AreSentWhole}
 use Rattle.law_queues.specs.whole_sends.Laws.{IsStopped}
-use Rattle.law_queues.specs.standing_fronts.Tails.{tail_block, tail_of}
 use Rattle.law_queues.specs.standing_fronts.Reaching.{Reaches}
 use Rattle.law_world.specs.steps.Streaming.{begins_by, transacts_by, wired}
 use Rattle.law_world.specs.memory.Mixed.{Standing}
@@ -98,17 +96,6 @@ watched_is o false u is = absurd (none_taker u is)
 pub is_watched : (o : Option Taker) (on : Bool) (u : Taker) → on ≡ true → o ≡ Some u → (if on then o else None) ≡ Some u
 is_watched o true u at_high is = is
 is_watched o false u at_high is = absurd (false≢true at_high)
-
--- ---- the first qTD of the transfer that is published is the tail of its queue
-
-tail_at : (d : DriverContent) (e b : ℕ) (z : Endpoint) → IsPublishingTo d e b → tail_of d e z ≡ 32 * b
-tail_at d e b z k =
-    let newest : slice_get d.transfers (length d.transfers - 1) ≡ Some k.transfer =
-    ap (slice_get d.transfers) (let last : length d.transfers - 1 ≡ k.number = (let one = k.newest in omega (arith, one)) in last)
-    ∙ k.there in
-    ap (λ (o : Option Command). 32 * tail_block o (slice_get d.transfers (length d.transfers - 1)) e z.dummy) k.command
-    ∙ ap (λ (o : Option Transfer). 32 * tail_block (Some (unfinished.Publish b k.words)) o e z.dummy) newest
-    ∙ ap (λ (t : Bool). 32 * (if t then b else z.dummy)) (eq-eqb k.transfer.endpoint e k.its_endpoint)
 
 -- ---- one endpoint
 
@@ -195,7 +182,7 @@ module _ (fixed : Fixed) (x : Sides) (s : Standing) (m : Lines) (h : Heads) (put
     name_is = ap (λ (y : Endpoint). y.desc.name) v.is ∙ name_same v.endpoint
 
     way : v.endpoint.desc.name.way ≡ ways.Out
-    way = ap (λ (name : EpName). name.way) (sym name_is) ∙ way_sends z.desc.name.way sends
+    way = ap (λ (name : EpName). name.way) (sym name_is) ∙ out_way z.desc.name.way sends
 
     on_real : x.takes v.endpoint.desc.name.addr v.endpoint.desc.name.num ≡ true
     on_real = ap (λ (name : EpName). x.takes name.addr name.num) (sym name_is) ∙ on

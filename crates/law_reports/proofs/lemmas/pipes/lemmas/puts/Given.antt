@@ -3,6 +3,8 @@ use Rattle.std.proofs.Common.{◌≡◌, ℕ, ◌*◌, true, false, List, ◌++�
 use Rattle.std.proofs.Common.{⊎_elim}
 use Rattle.std.specs.List.{concat}
 use Rattle.std.proofs.lemmas.Bool.{true≢false}
+use Rattle.law_driver.proofs.Common.{out_way}
+use Rattle.law_world.proofs.Common.{none_some}
 use Rattle.usb_base.specs.declared.endpoints.EpName.{EpName}
 use Rattle.word_mem.specs.Memory.{Mem}
 use Rattle.mem_runs.specs.Book.{holding}
@@ -22,7 +24,6 @@ use Rattle.drv_table.specs.Rows.{after_driver_row}
 use Rattle.law_driver.specs.queued_drivers.Queued.{queued}
 use Rattle.law_driver.specs.queued_drivers.Rows.{QueuesAlike}
 use Rattle.law_driver.proofs.lemmas.chained_transfers.Rows.{set_which}
-use Rattle.law_driver.proofs.lemmas.chained_transfers.Ways.{way_sends}
 use Rattle.law_driver.proofs.lemmas.queued_drivers.CommandFields.{name_same}
 use Rattle.law_driver_ring.specs.fed_queues.Places.{IsThere}
 use Rattle.law_ring.specs.QueueParts.{IsQueuePart}
@@ -38,7 +39,6 @@ use Rattle.law_world.specs.streams.put_laws.Owed.{rest_from, Owes}
 use Rattle.law_world.specs.streams.put_laws.OwedTaken.{EndedAreStopped}
 use Rattle.law_world.specs.streams.put_laws.TakenPuts.{puts_from}
 use Rattle.law_world.proofs.lemmas.memory.HarvestKept.{tells_of}
-use Rattle.law_world.proofs.lemmas.memory.Unfinished.{none_unfinished}
 use Rattle.law_world.proofs.lemmas.streams.lemmas.left_puts.Others.{command_same, notes_same, other_end, held_back}
 use Rattle.law_world.proofs.lemmas.streams.lemmas.left_puts.Released.{endpoint_release_owes}
 use Rattle.law_world.proofs.lemmas.streams.lemmas.put_laws.HeldAlike.{WasThere, was_itself, same_holds}
@@ -104,7 +104,7 @@ module _ (fixed : Fixed) (x : Sides) (s : Standing) (m : Lines) (h : Heads) (put
           here = v.here;
           there = subst (IsThere (queued (driver_next w).driver)) v.is there;
           way_is = ap (λ (name : EpName). name.way) (sym (name_same v.endpoint)) ∙ ap (λ (u : Endpoint). u.desc.name.way) (sym v.is)
-              ∙ way_sends z.desc.name.way sends;
+              ∙ out_way z.desc.name.way sends;
           at = ap (λ (u : Endpoint). 32 * u.queue) v.is ∙ ap (λ (q : ℕ). 32 * q) (queue_same v.endpoint);
         } in
         let part : IsQueuePart (32 * z.queue) (t.parts (32 * z.queue)) = part_at t l (driver_next w) mixed telling n o in
@@ -205,7 +205,7 @@ module _ (fixed : Fixed) (x : Sides) (s : Standing) (m : Lines) (h : Heads) (put
         (record { ends = were; transfers = kept_transfers; notes = what.before.notes }) (λ j low. refl) pays.held held_before
         (λ i u here there before. refl)
         (λ i u here there opening. absurd (before_none u.queue opening))
-        (λ u opening. absurd (none_unfinished (unfinished.Open u.queue) (sym what.idle ∙ opening))) pays.owes
+        (λ u opening. absurd (none_some (unfinished.Open u.queue) (sym what.idle ∙ opening))) pays.owes
       where
         before_none : (i : ℕ) → (queued w.driver).command ≡ Some (unfinished.Open i) → ⊥
         before_none i opening = subst UnlinksAtMost opening what.before.idle

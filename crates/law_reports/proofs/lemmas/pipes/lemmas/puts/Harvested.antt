@@ -1,6 +1,8 @@
 -- The driver harvests a qTD: its bytes are reported, and still to be sent no more.
 use Rattle.std.proofs.Common.{◌≡◌, ◌≢◌, ℕ, ◌*◌, true, false, List, [], ◌++◌, slice_get, Some, ap, refl, sym, subst, ◌∙◌}
 use Rattle.std.specs.List.{concat}
+use Rattle.law_driver.proofs.Common.{out_way}
+use Rattle.law_world.proofs.Common.{none_some}
 use Rattle.usb_base.specs.declared.endpoints.EpName.{EpName}
 use Rattle.usb_base.specs.declared.packets.Way.TheVariants as ways
 use Rattle.bus_wire.specs.Bus.{Fixed}
@@ -19,7 +21,6 @@ use Rattle.drv_table.specs.Rows.{after_driver_row}
 use Rattle.law_driver.specs.chained_transfers.Out.{out_now}
 use Rattle.law_driver.specs.queued_drivers.Queued.{queued}
 use Rattle.law_driver.specs.run_owners.Due.{IsHarvestDue}
-use Rattle.law_driver.proofs.lemmas.chained_transfers.Ways.{way_sends}
 use Rattle.law_driver.proofs.lemmas.queued_drivers.CommandFields.{name_same}
 use Rattle.law_driver_ring.specs.fed_queues.Places.{IsThere, IsMet}
 use Rattle.law_driver_ring.proofs.lemmas.fed_queues.Places.{stands_met}
@@ -38,7 +39,6 @@ use Rattle.law_world.specs.streams.put_laws.OwedTaken.{EndedAreStopped}
 use Rattle.law_world.specs.streams.put_laws.Sent.{SentStand}
 use Rattle.law_world.specs.streams.put_laws.TakenPuts.{puts_of}
 use Rattle.law_world.proofs.lemmas.memory.HarvestKept.{owners_of, tells_of, fronts_of}
-use Rattle.law_world.proofs.lemmas.memory.Unfinished.{none_unfinished}
 use Rattle.law_world.proofs.lemmas.streams.FeedingPassed.{passed_are_untold}
 use Rattle.law_world.proofs.lemmas.streams.Told.{there_on, stream_out}
 use Rattle.law_world.proofs.lemmas.streams.lemmas.put_laws.Harvested.{Likes, harvest_like}
@@ -80,7 +80,7 @@ module _ (fixed : Fixed) (x : Sides) (s : Standing) (m : Lines) (h : Heads) (put
       let v : WasQueued w.driver.endpoints e z = was_queued w.driver.endpoints e z here in
       let way : v.endpoint.desc.name.way ≡ ways.Out =
       ap (λ (name : EpName). name.way) (sym (name_same v.endpoint)) ∙ ap (λ (u : Endpoint). u.desc.name.way) (sym v.is)
-      ∙ way_sends z.desc.name.way sends in
+      ∙ out_way z.desc.name.way sends in
       let same : z.queue ≡ v.endpoint.queue = ap (λ (u : Endpoint). u.queue) v.is ∙ queue_same v.endpoint in
       (subst (λ (q : ℕ). IsSentOut s (32 * q)) (sym same)
       (pays.outs e v.endpoint v.here (subst (IsThere (queued w.driver)) v.is met.there) way)).whole
@@ -102,7 +102,7 @@ module _ (fixed : Fixed) (x : Sides) (s : Standing) (m : Lines) (h : Heads) (put
     met : IsMet (queued w.driver) e due.endpoint
     met =
         stands_met (queued w.driver) e due.endpoint (k.mixed.turns.turns.asynchronous.endpoints e due.endpoint due.here) due.goes_on
-        (λ opens. none_unfinished (unfinished.Open due.endpoint.queue) (sym due.idle ∙ opens))
+        (λ opens. none_some (unfinished.Open due.endpoint.queue) (sym due.idle ∙ opens))
 
     part : IsQueuePart (32 * due.endpoint.queue) (s.parts (32 * due.endpoint.queue))
     part = k.mixed.queues.sound e due.endpoint due.here met

@@ -1,7 +1,7 @@
 -- The buffers of puts hold their bytes where memory is told by structures both before and after an event, and these have the same buffers.
-use Rattle.std.proofs.Common.{◌≡◌, ℕ, ◌*◌, ◌<◌, ◌≤◌, false, List, slice_get, Option, Some, None, ap, sym, subst, ◌∙◌}
+use Rattle.std.proofs.Common.{◌≡◌, ℕ, ◌*◌, ◌<◌, ◌≤◌, false, List, slice_get, Some, None, ap, sym, subst, ◌∙◌}
+use Rattle.law_queues.proofs.Common.{none_published}
 use Rattle.word_mem.specs.Memory.{Mem}
-use Rattle.drv_table.specs.declared.content.Command.{Command}
 use Rattle.drv_table.specs.declared.content.Command.TheVariants as unfinished
 use Rattle.drv_table.specs.declared.content.QtdNote.{QtdNote}
 use Rattle.drv_table.specs.declared.content.Sort.TheVariants as sorts
@@ -25,9 +25,6 @@ use Rattle.law_world.proofs.lemmas.streams.lemmas.put_laws.Stored.{IsStored, pie
 -- what is published is lent
 abbrev pub IsLentOut : DriverContent → Type 0
 IsLentOut d = (b : ℕ) (words : List ℕ) → d.command ≡ Some (unfinished.Publish b words) → 1 ≤ d.made
-
-none_published : (b : ℕ) (words : List ℕ) → ◌≡◌ {A = Option Command} None (Some (unfinished.Publish b words)) → ⊥
-none_published b words is = cc
 
 pub idle_out : (d : DriverContent) → d.command ≡ None → IsLentOut d
 idle_out d idle b words is = absurd (none_published b words (sym idle ∙ is))

@@ -2,6 +2,8 @@
 use Rattle.std.proofs.Common.{◌≡◌, ℕ, zero, suc, ◌*◌, ◌/◌, ◌≤◌, false, List, get_or, reverse, slice_get, Option, Some, None, ap}
 use Rattle.std.proofs.Common.{refl, sym, subst, ◌∙◌, ⊎_elim, inl, inr, arith}
 use Rattle.std.specs.Prelude.{◌⊎◌}
+use Rattle.law_queues.proofs.Common.{none_published}
+use Rattle.law_driver.proofs.Common.{out_way}
 use Rattle.word_mem.specs.Memory.{word_at}
 use Rattle.mem_runs.specs.Book.{holding, none_taken}
 use Rattle.bus_wire.specs.Bus.{Fixed}
@@ -25,7 +27,6 @@ use Rattle.law_driver.specs.chained_transfers.Bulk.{MovesAs}
 use Rattle.law_driver.specs.chained_transfers.Chains.{piece_at}
 use Rattle.law_driver.specs.queued_drivers.Queued.{queued_command, queued_made, queued}
 use Rattle.law_driver.proofs.lemmas.chained_transfers.Holding.{held_alive}
-use Rattle.law_driver.proofs.lemmas.chained_transfers.Ways.{way_sends}
 use Rattle.law_driver.proofs.lemmas.queued_drivers.CommandFields.{name_same}
 use Rattle.usb_base.specs.declared.endpoints.EpName.{EpName}
 use Rattle.law_driver_ring.specs.fed_queues.Places.{IsThere}
@@ -74,9 +75,6 @@ publish_unlink : (b e a link : ℕ) (words : List ℕ)
     → ◌≡◌ {A = Option Command} (Some (unfinished.Unlink e a link)) (Some (unfinished.Publish b words)) → ⊥
 publish_unlink b e a link words is = cc
 
-publish_none : (b : ℕ) (words : List ℕ) → ◌≡◌ {A = Option Command} None (Some (unfinished.Publish b words)) → ⊥
-publish_none b words is = cc
-
 -- a put is to be lent next, or what is published is lent
 pub lends_or_out : (w : World) → (driver_row (driver_parts w) ≡ rows.Lend) ⊎ IsLentOut (queued w.driver)
 lends_or_out w = by w.driver.command refl w.driver.made refl
@@ -86,7 +84,7 @@ lends_or_out w = by w.driver.command refl w.driver.made refl
 
     by : (o : Option Command) → w.driver.command ≡ o → (made : ℕ) → w.driver.made ≡ made
         → (driver_row (driver_parts w) ≡ rows.Lend) ⊎ IsLentOut (queued w.driver)
-    by None is made at = inr (λ b words publish. absurd (publish_none b words (sym (told None is) ∙ publish)))
+    by None is made at = inr (λ b words publish. absurd (none_published b words (sym (told None is) ∙ publish)))
     by (Some (unfinished.Publish c ws)) is zero at =
         inl (ap (row_for (driver_parts w)) is ∙ ap (command_row (unfinished.Publish c ws)) at)
     by (Some (unfinished.Publish c ws)) is (suc made) at =
@@ -100,9 +98,9 @@ lends_or_out w = by w.driver.command refl w.driver.made refl
     by (Some unfinished.Chain) is made at =
         inr (λ b words publish. absurd (publish_open b _ words (sym (told (Some unfinished.Chain) is) ∙ publish)))
     by (Some (unfinished.Iso e t count)) is made at =
-        inr (λ b words publish. absurd (publish_none b words (sym (told (Some (unfinished.Iso e t count)) is) ∙ publish)))
+        inr (λ b words publish. absurd (none_published b words (sym (told (Some (unfinished.Iso e t count)) is) ∙ publish)))
     by (Some (unfinished.Unchain e)) is made at =
-        inr (λ b words publish. absurd (publish_none b words (sym (told (Some (unfinished.Unchain e)) is) ∙ publish)))
+        inr (λ b words publish. absurd (none_published b words (sym (told (Some (unfinished.Unchain e)) is) ∙ publish)))
 
 module _ (fixed : Fixed) (x : Sides) (s : Standing) (m : Lines) (puts : ℕ → List ℕ) (w : World) (mixed : IsMixedAt s w)
     (pays : Pays fixed x s m puts w) where
@@ -130,7 +128,7 @@ module _ (fixed : Fixed) (x : Sides) (s : Standing) (m : Lines) (puts : ℕ → 
         here = v.here;
         there = subst (IsThere (queued w.driver)) v.is there_so;
         way_is = ap (λ (name : EpName). name.way) (sym (name_same v.endpoint)) ∙ ap (λ (u : Endpoint). u.desc.name.way) (sym v.is)
-            ∙ way_sends z.desc.name.way sends;
+            ∙ out_way z.desc.name.way sends;
         at = ap (λ (u : Endpoint). 32 * u.queue) v.is ∙ ap (λ (q : ℕ). 32 * q) (queue_same v.endpoint);
       }
 
@@ -175,7 +173,7 @@ module _ (fixed : Fixed) (x : Sides) (s : Standing) (m : Lines) (puts : ℕ → 
 
       by : (o : Option Command) → w.driver.command ≡ o → IsUnderWay w.driver w.memory s.member s.recent s.parts o
           → IsPublishing (queued w.driver) w.memory
-      by None is u b words publish = absurd (publish_none b words (sym (told None is) ∙ publish))
+      by None is u b words publish = absurd (none_published b words (sym (told None is) ∙ publish))
       by (Some (unfinished.Publish e ws)) is u b words publish =
           let own = sym (told (Some (unfinished.Publish e ws)) is) ∙ publish in
           ⊎_elim
@@ -192,9 +190,9 @@ module _ (fixed : Fixed) (x : Sides) (s : Standing) (m : Lines) (puts : ℕ → 
       by (Some unfinished.Chain) is u b words publish =
           absurd (publish_open b _ words (sym (told (Some unfinished.Chain) is) ∙ publish))
       by (Some (unfinished.Iso e t count)) is u b words publish =
-          absurd (publish_none b words (sym (told (Some (unfinished.Iso e t count)) is) ∙ publish))
+          absurd (none_published b words (sym (told (Some (unfinished.Iso e t count)) is) ∙ publish))
       by (Some (unfinished.Unchain e)) is u b words publish =
-          absurd (publish_none b words (sym (told (Some (unfinished.Unchain e)) is) ∙ publish))
+          absurd (none_published b words (sym (told (Some (unfinished.Unchain e)) is) ∙ publish))
 
 -- ---- an event of the controller
 

@@ -1,8 +1,11 @@
 -- Each OUT endpoint at high speed has its taker on the bus; and where what these took begins what was put, the streams are right.
-use Rattle.std.proofs.Common.{◌≡◌, ◌≢◌, ℕ, ◌*◌, true, false, slice_get, Some, ap, refl, sym, subst, ◌∙◌, ⊎_elim}
+use Rattle.std.proofs.Common.{◌≡◌, ◌≢◌, ℕ, ◌*◌, true, false, slice_get, Some, ap, sym, subst, ◌∙◌, ⊎_elim}
 use Rattle.std.specs.List.{concat}
-use Rattle.std.proofs.lemmas.Bool.{and_from, cases_Bool, false≢true}
+use Rattle.std.proofs.lemmas.Bool.{and_from, cases_Bool}
 use Rattle.std.proofs.lemmas.Option.{same_Some}
+use Rattle.law_driver.proofs.Common.{out_way, of_queue}
+use Rattle.law_world.proofs.Common.{met_or_not}
+use Rattle.law_reports.proofs.Common.{no_iso}
 use Rattle.usb_base.specs.declared.packets.Way.{Way}
 use Rattle.usb_base.specs.declared.packets.Way.TheVariants as ways
 use Rattle.script_types.specs.declared.scripts.Script.{Script}
@@ -14,9 +17,7 @@ use Rattle.drv_table.specs.declared.content.Endpoint.{Endpoint}
 use Rattle.drv_table.specs.Kinds.{is_iso}
 use Rattle.drv_table.specs.Words.{is_high}
 use Rattle.law_driver.specs.queued_drivers.Queued.{queued_endpoint, queued}
-use Rattle.law_driver.proofs.lemmas.queued_drivers.CommandFields.{of_queue}
 use Rattle.law_driver_ring.specs.fed_queues.Places.{IsThere}
-use Rattle.law_world.proofs.lemmas.streams.lemmas.taken_reports.Beginning.{met_or_not}
 use Rattle.law_devices.specs.scripted_takers.Takers.{taker_of}
 use Rattle.law_queues.specs.told_endpoints.Telling.{lines_in}
 use Rattle.law_world.specs.steps.Outs.{IsUntaken}
@@ -41,16 +42,11 @@ use Rattle.bus_world.specs.World.{World}
 use Rattle.law_reports.specs.pipes.high_streams.Names.{HasItsNames}
 use Rattle.law_reports.specs.pipes.high_streams.Reports.{IsHigh, TakersBegin, HasHighReport}
 use Rattle.law_reports.proofs.lemmas.pipes.lemmas.high_streams.Joining.{piped_ins_begin, piped_outs_begin}
-use Rattle.law_reports.proofs.lemmas.pipes.lemmas.high_streams.Lives.{no_iso}
 use Rattle.law_reports.proofs.lemmas.pipes.lemmas.high_streams.Names.{texts_have_names}
 use Rattle.law_reports.proofs.lemmas.pipes.lemmas.high_streams.Opened.{moments_are_opened}
 use Rattle.law_reports.proofs.lemmas.pipes.lemmas.high_streams.Reporting.{high_reports_are_sent, high_reports_end_right}
 use Rattle.law_reports.specs.pipes.puts.Takers.{TakenBeginsPuts, FollowedHaveTakers, TextsHaveTakers, TakenBeginsStreams}
 use Rattle.law_reports.specs.pipes.puts.Takers.{TakenEndsRight}
-
-out_way : (way : Way) → receives way ≡ false → way ≡ ways.Out
-out_way ways.Out is = refl
-out_way _ is = absurd (false≢true (sym is))
 
 -- its devices have a taker for each that was opened
 pub high_takes : (s : Script) (t : Standing) (m : Lines) (h : Heads) (w : World) → IsPiped (fixed_of s) (sides_of s) t m h w → (e : ℕ)

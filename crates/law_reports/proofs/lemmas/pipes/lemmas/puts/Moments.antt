@@ -1,8 +1,11 @@
 -- Each moment of each script sends its puts whole: before the first line nothing is published, and each event and each command leaves it
 -- so.
-use Rattle.std.proofs.Common.{◌≡◌, ◌≢◌, ℕ, ◌*◌, Bool, true, false, if◌then◌else◌, slice_get, Some, ap, sym, subst, ◌∙◌, ⊎_elim}
+use Rattle.std.proofs.Common.{◌≡◌, ◌≢◌, ℕ, ◌*◌, Bool, true, false, if◌then◌else◌, ap, sym, subst, ◌∙◌, ⊎_elim}
 use Rattle.std.specs.Prelude.{◌||◌}
 use Rattle.std.proofs.lemmas.Bool.{and_parts, true≢false}
+use Rattle.law_reports.proofs.Common.{none_there}
+use Rattle.law_common.proofs.Numbers.{other_number}
+use Rattle.law_world.proofs.Common.{lines_can}
 use Rattle.script_types.specs.declared.scripts.Script.{Script}
 use Rattle.script_fits.proofs.Texts.{spelled_fits}
 use Rattle.usb_base.specs.declared.packets.Way.TheVariants as ways
@@ -15,7 +18,6 @@ use Rattle.law_ring.specs.Told.{Endpoint as Told}
 use Rattle.law_queues.specs.open_laws.Queues.{IsOpenThere, open_finished}
 use Rattle.law_driver.specs.queued_drivers.Queued.{queued}
 use Rattle.law_driver.specs.queued_drivers.Rows.{QueuesAlike}
-use Rattle.law_structures.proofs.lemmas.lent_structures.Names.{not_same}
 use Rattle.usb_base.specs.declared.endpoints.EpDesc.{EpDesc}
 use Rattle.bus_wire.specs.Bus.{Fixed, fixed_of}
 use Rattle.claims_base.specs.Controller.{opening_base}
@@ -32,7 +34,6 @@ use Rattle.law_world.specs.memory.Steps.{stays, harvests, returns, lends, stores
 use Rattle.law_world.specs.memory.pipe_steps.Laws.{IsNoOpening}
 use Rattle.law_world.proofs.lemmas.memory.Driving.{driver_tells_step}
 use Rattle.law_world.proofs.lemmas.memory.FittingTexts.{texts_open_fitting}
-use Rattle.law_world.proofs.lemmas.memory.Moments.{lines_can}
 use Rattle.law_world.proofs.lemmas.memory.Texts.{texts_fit}
 use Rattle.law_world.proofs.lemmas.memory.Together.{lines_fit}
 use Rattle.law_reports.specs.lines.Lined.{Lines}
@@ -109,7 +110,8 @@ module _ (fixed : Fixed) (x : Sides) (s : Standing) (m : Lines) (h : Heads) (w :
         ways.Out n on now_near in
         let z : Endpoint = is.head.endpoint in
         let near : s.near n ≡ true =
-        sym (ap (λ (c : Bool). c || s.near n) (not_same n own differs)) ∙ sym (ap (λ (these : ℕ → Bool). these n) opened.near) ∙ now_near in
+        sym (ap (λ (c : Bool). c || s.near n) (other_number n own differs)) ∙ sym (ap (λ (these : ℕ → Bool). these n) opened.near)
+        ∙ now_near in
         let v = was_met w.driver (driver_next w).driver s.near t.near k.mixed.now.framed.place.sound.owners k.mixed.queues.queues.met
         mixed.queues.queues.met (λ i u there its_met. was_end fixed x s m h w k i u there) is.head.number z is.head.here is.head.met
         (ap s.near (sym is.head.at) ∙ near) in
@@ -122,7 +124,7 @@ module _ (fixed : Fixed) (x : Sides) (s : Standing) (m : Lines) (h : Heads) (w :
         (by_real w.driver x.sends x.takes h.ins h.outs h.ends k.by_way is.head.number y v.before.here v.met)) in
         let end : then_heads.ends n ≡ h.ends n =
         ap (λ (c : Bool). if c then asked_as (its fixed x s m h w k at t alike opened mixed next).endpoint.desc else h.ends n)
-        (not_same n own differs) in
+        (other_number n own differs) in
         ⊎_elim (λ (was : h.outs n ≡ true). was)
         (λ (none : x.takes (h.ends n).addr (h.ends n).ep ≡ false).
         absurd (true≢false (sym (sym (ap (λ (u : Told). x.takes u.addr u.ep) end) ∙ p.pipes.out_ends.on n on) ∙ none))) asks.1
@@ -189,10 +191,6 @@ command_keeps_sent fixed x w line cmd fits declares room k = record {
 }
 
 -- ---- each moment
-
--- no endpoint was opened
-none_there : (s : Script) (e : ℕ) (y : Endpoint) → slice_get (opening_world s).driver.endpoints e ≡ Some y → ⊥
-none_there s e y here = cc
 
 no_outs : (s : Script) (p : HasPiped (fixed_of s) (sides_of s) (opening_world s)) (n : ℕ) → p.heads.outs n ≡ true → ⊥
 no_outs s p n on =

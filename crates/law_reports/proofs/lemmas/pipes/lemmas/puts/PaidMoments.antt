@@ -2,6 +2,9 @@
 use Rattle.std.proofs.Common.{◌≡◌, ℕ, true, false, List, [], ◌∷◌, slice_get, Some, ap, ◌∙◌, ⊎_elim}
 use Rattle.std.specs.Prelude.{◌⊎◌}
 use Rattle.std.specs.List.{AllByRecursion, concat}
+use Rattle.law_reports.proofs.Common.{none_there}
+use Rattle.law_driver.proofs.Common.{out_way, get_queued}
+use Rattle.law_world.proofs.Common.{lines_can, begins_all}
 use Rattle.usb_base.specs.declared.commands.Cmd.{Cmd}
 use Rattle.usb_base.specs.declared.endpoints.EpName.{EpName}
 use Rattle.script_types.specs.declared.scripts.Line.{Line}
@@ -16,8 +19,7 @@ use Rattle.drv_table.specs.declared.content.Command.TheVariants as unfinished
 use Rattle.drv_table.specs.declared.content.Endpoint.{Endpoint}
 use Rattle.drv_table.specs.DriverContent.{DriverContent}
 use Rattle.law_driver.specs.queued_drivers.Queued.{queued_endpoint, queued}
-use Rattle.law_driver.proofs.lemmas.chained_transfers.Ways.{way_sends}
-use Rattle.law_driver.proofs.lemmas.queued_drivers.CommandFields.{name_same, get_queued}
+use Rattle.law_driver.proofs.lemmas.queued_drivers.CommandFields.{name_same}
 use Rattle.law_driver_ring.specs.fed_queues.Places.{IsThere}
 use Rattle.law_ring.specs.OutBus.{Taker}
 use Rattle.law_devices.specs.scripted_takers.Takers.{taker_of}
@@ -29,13 +31,11 @@ use Rattle.law_world.specs.streams.put_laws.TakenLaws.{IsKeptWithPuts}
 use Rattle.law_world.specs.streams.put_laws.TakenPuts.{puts_of, puts_at}
 use Rattle.law_world.proofs.lemmas.memory.Driving.{driver_tells_step}
 use Rattle.law_world.proofs.lemmas.memory.FittingTexts.{texts_open_fitting}
-use Rattle.law_world.proofs.lemmas.memory.Moments.{lines_can}
 use Rattle.law_world.proofs.lemmas.memory.Texts.{texts_fit}
 use Rattle.law_world.proofs.lemmas.memory.Together.{lines_fit}
 use Rattle.law_world.proofs.lemmas.streams.lemmas.put_laws.Along.{holds_with_puts}
 use Rattle.law_world.proofs.lemmas.streams.lemmas.put_laws.Rests.{prefix_to}
 use Rattle.law_world.proofs.lemmas.streams.lemmas.put_laws.Same.{life_or}
-use Rattle.law_world.proofs.lemmas.streams.lemmas.put_laws.TakenRows.{begins_all}
 use Rattle.law_reports.specs.lines.Lined.{Lines}
 use Rattle.law_reports.specs.lines.TellingLaws.{IsTellingNext}
 use Rattle.law_reports.proofs.lemmas.lines.Driven.{driver_keeps_telling}
@@ -129,10 +129,6 @@ command_keeps_paid fixed x puts w line cmd fits declares bytes room k = record {
 
 -- ---- each moment
 
--- no endpoint was opened
-none_there : (s : Script) (e : ℕ) (y : Endpoint) → slice_get (opening_world s).driver.endpoints e ≡ Some y → ⊥
-none_there s e y here = cc
-
 none_queued : (s : Script) (e : ℕ) (y : Endpoint) → slice_get (queued (opening_world s).driver).endpoints e ≡ Some y → ⊥
 none_queued s e y here = cc
 
@@ -211,7 +207,7 @@ module _ (s : Script) (puts : ℕ → List ℕ) (w : World) (a : HasPaid (fixed_
       (λ (at_open : ((queued w.driver).command ≡ Some (unfinished.Open (queued_endpoint y).queue)) × ((queued_endpoint y).gone ≡ false)).
       let its = kept_as y at_open.1 in
       begins_all u.taken (concat (puts_of w.driver puts e))
-      (none_taken (fixed_of s) x a.standing a.lines a.heads puts w a.piped a.pays e y here (way_sends y.desc.name.way leaves) takes
+      (none_taken (fixed_of s) x a.standing a.lines a.heads puts w a.piped a.pays e y here (out_way y.desc.name.way leaves) takes
       (record {
         kept = its.0;
         queue = its.1;

@@ -3,6 +3,11 @@ use Rattle.std.proofs.Common.{◌≡◌, ◌≢◌, ℕ, ◌*◌, false, List, [
 use Rattle.std.proofs.Common.{◌-◌, ⊎_elim}
 use Rattle.std.proofs.lemmas.Bool.{cases_eq}
 use Rattle.std.proofs.lemmas.Option.{same_Some}
+use Rattle.law_queues.proofs.Common.{none_open}
+use Rattle.law_controller.proofs.Common.{heads_stay as heads_beside}
+use Rattle.law_driver.proofs.Common.{out_way}
+use Rattle.law_world.proofs.Common.{none_some, same_queue}
+use Rattle.law_common.proofs.Numbers.{same_blocks}
 use Rattle.usb_base.specs.declared.endpoints.EpName.{EpName}
 use Rattle.mem_runs.specs.Book.{holding, lend_taken}
 use Rattle.qh_qtd.specs.declared.qtd.Qtd.{Qtd}
@@ -23,7 +28,6 @@ use Rattle.law_driver.specs.chained_transfers.Asynchronous.{OnlyAsynchronous}
 use Rattle.law_driver.specs.queued_drivers.Queued.{queued}
 use Rattle.law_driver.specs.queued_drivers.Rows.{QueuesAlike}
 use Rattle.law_driver.specs.run_owners.Due.{IsDue}
-use Rattle.law_driver.proofs.lemmas.chained_transfers.Ways.{way_sends}
 use Rattle.law_driver.proofs.lemmas.queued_drivers.CommandFields.{name_same}
 use Rattle.law_driver.proofs.lemmas.queued_drivers.RowEvents.{idle_told}
 use Rattle.law_driver.proofs.lemmas.run_owners.Reasons.{each_event_is_due}
@@ -47,12 +51,9 @@ use Rattle.law_world.specs.streams.put_laws.Rings.{BuffersStay}
 use Rattle.law_world.specs.streams.put_laws.HeldPuts.{HoldsPuts}
 use Rattle.law_world.specs.streams.put_laws.Owed.{Owes}
 use Rattle.law_world.proofs.lemmas.memory.HarvestKept.{owners_of, driven_of}
-use Rattle.law_world.proofs.lemmas.memory.Unfinished.{none_unfinished}
 use Rattle.law_world.proofs.lemmas.streams.lemmas.put_laws.Driver.{IsNoMore, no_more_itself, advanced_no_more, quiet_no_more, row_no_more}
 use Rattle.law_world.proofs.lemmas.streams.lemmas.put_laws.Same.{idle_there, ends_same, same_owes}
 use Rattle.law_world.proofs.lemmas.streams.lemmas.put_laws.TakenStopped.{were_ended}
-use Rattle.law_world.proofs.lemmas.streams.Told.{same_queue as same_open}
-use Rattle.law_queues.proofs.lemmas.publish_laws.Apart.{thirty_two}
 use Rattle.law_reports.specs.lines.Lined.{Lines}
 use Rattle.law_reports.specs.lines.TellingLaws.{LinesAfter}
 use Rattle.law_reports.proofs.lemmas.lines.Same.{relinked_head, relinked_put}
@@ -72,9 +73,6 @@ IsPlain (harvests e t found due later row after) = ⊥
 IsPlain (returns t y x row r) = ⊥
 IsPlain (goes e x d t back is) = ⊥
 IsPlain _ = Unit {0}
-
-none_open : (q : ℕ) → ◌≡◌ {A = Option Command} None (Some (unfinished.Open q)) → ⊥
-none_open q is = cc
 
 -- ---- a qTD stands in the place of one
 
@@ -110,13 +108,6 @@ heads_itself : (parts : StructureSets) (n : ℕ) → SparesHead parts parts n
 heads_itself parts n q here = record {
   queue = q;
   here = here;
-  overlay = record { token = refl; current = refl; offset = refl; endpoint = refl };
-}
-
-heads_beside : (parts now : StructureSets) (n : ℕ) → now n ≡ parts n → SparesHead parts now n
-heads_beside parts now n same q here = record {
-  queue = q;
-  here = ap (λ (part : Structures). part n) same ∙ here;
   overlay = record { token = refl; current = refl; offset = refl; endpoint = refl };
 }
 
@@ -157,13 +148,13 @@ module _ (fixed : Fixed) (x : Sides) (s : Standing) (m : Lines) (h : Heads) (put
     due_so row is = subst (IsDue (told_parts w)) is (each_event_is_due (told_parts w))
 
     no_harvest : (e t : ℕ) (found : Found) → driver_row (told_parts w) ≢ rows.Harvest e t found
-    no_harvest e t found is = none_unfinished c (sym (due_so (rows.Harvest e t found) is).idle ∙ busy)
+    no_harvest e t found is = none_some c (sym (due_so (rows.Harvest e t found) is).idle ∙ busy)
 
     no_return : (t : ℕ) → driver_row (told_parts w) ≢ rows.ReleaseTransfer t
-    no_return t is = none_unfinished c (sym (due_so (rows.ReleaseTransfer t) is).idle ∙ busy)
+    no_return t is = none_some c (sym (due_so (rows.ReleaseTransfer t) is).idle ∙ busy)
 
     no_leave : (e : ℕ) → driver_row (told_parts w) ≢ rows.ReleaseEndpoint e
-    no_leave e is = none_unfinished c (sym (due_so (rows.ReleaseEndpoint e) is).idle ∙ busy)
+    no_leave e is = none_some c (sym (due_so (rows.ReleaseEndpoint e) is).idle ∙ busy)
 
   pub no_more : (t : Standing) (step : QueueStep s w (driver_next w) t) → IsPlain step
       → IsNoMore (queued w.driver) (queued (driver_next w).driver)
@@ -261,7 +252,7 @@ module _ (fixed : Fixed) (x : Sides) (s : Standing) (m : Lines) (h : Heads) (put
         here = v.here;
         there = subst (IsThere (queued w.driver)) v.is there;
         way_is = ap (λ (name : EpName). name.way) (sym (name_same v.endpoint)) ∙ ap (λ (u : Endpoint). u.desc.name.way) (sym v.is)
-            ∙ way_sends z.desc.name.way sends;
+            ∙ out_way z.desc.name.way sends;
         at = ap (λ (u : Endpoint). 32 * u.queue) v.is ∙ ap (λ (q : ℕ). 32 * q) (queue_same v.endpoint);
       } in
       heads_beside s.parts t.parts (32 * z.queue)
@@ -344,9 +335,9 @@ module _ (fixed : Fixed) (x : Sides) (s : Standing) (m : Lines) (h : Heads) (put
       owes_so t (opens at t alike opened) plain mixed l.reported
       (λ e z here there before.
       after.beside (32 * z.queue) (λ same.
-      before.linked (at.command ∙ ap (λ (q : ℕ). Some (unfinished.Open q)) (sym (thirty_two z.queue at.endpoint.queue same)))))
+      before.linked (at.command ∙ ap (λ (q : ℕ). Some (unfinished.Open q)) (sym (same_blocks z.queue at.endpoint.queue same)))))
       (λ e z here there opening.
-      ap (λ (q : ℕ). l.reported (32 * q)) (same_open z.queue at.endpoint.queue (sym opening ∙ at.command)) ∙ after.untold)
+      ap (λ (q : ℕ). l.reported (32 * q)) (same_queue z.queue at.endpoint.queue (sym opening ∙ at.command)) ∙ after.untold)
   plain_owes t (unlinks at is) plain mixed l after =
       quiet_owes t (unlinks at is) plain (step_opens s w k.mixed t (unlinks at is) tt) mixed l after
   plain_owes t (narrows member near is are fewer) plain mixed l after =

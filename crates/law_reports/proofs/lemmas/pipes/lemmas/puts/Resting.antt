@@ -1,6 +1,7 @@
 -- A transaction that waits for its write-back is one of a queue head that works, whichever walk made it: so of one that rests nothing is in
 -- hand.
 use Rattle.std.proofs.Common.{◌≡◌, ◌≢◌, ℕ, Bool, true, Option, Some, ap, refl, sym, subst, ◌∙◌, inl}
+use Rattle.law_controller.proofs.Common.{over_not_periodic, asynchronous_not_periodic}
 use Rattle.qh_qtd.specs.declared.queue_head.Qh.{Qh}
 use Rattle.hc_core.specs.declared.controller.MicroframePart.{MicroframePart}
 use Rattle.hc_core.specs.declared.controller.MicroframePart.TheVariants.{Over, Periodic, Asynchronous}
@@ -15,12 +16,6 @@ use Rattle.law_frames.specs.Met.{Kind}
 use Rattle.law_controller.specs.frame_control.Both.{RunsBoth}
 use Rattle.law_controller.specs.frame_control.Joined.{joined}
 use Rattle.law_queues.specs.whole_sends.Whole.{EndsWhole}
-
-over_not_periodic : Over ≡ Periodic → ⊥
-over_not_periodic e = cc
-
-asynchronous_not_periodic : Asynchronous ≡ Periodic → ⊥
-asynchronous_not_periodic e = cc
 
 module _ (base : Base) (member : ℕ → Bool) (met : ℕ → Option Kind) (parts : StructureSets) (hand : Hand) (frame : FrameHand) (c : Content)
     (k : RunsBoth base member met parts hand frame c) (n : ℕ)

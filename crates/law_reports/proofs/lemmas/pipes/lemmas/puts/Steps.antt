@@ -1,6 +1,6 @@
 -- Each step of a queue leaves the qTDs of OUT endpoints at high speed sent whole and in turn.
 use Rattle.std.proofs.Common.{◌≡◌, ◌≢◌, ℕ, ◌*◌, Bool, true, false, if◌then◌else◌, List, [], ◌∷◌, ◌++◌}
-use Rattle.std.proofs.Common.{slice_get, Option, Some, None, ap, ◌==◌}
+use Rattle.std.proofs.Common.{slice_get, Some, ap, ◌==◌}
 use Rattle.std.proofs.Common.{refl, sym, subst, ◌∙◌, ⊎_elim, inl, inr}
 use Rattle.std.proofs.lemmas.Bool.{cases_eq, eq-eqb, true≢false}
 use Rattle.claims_driver.specs.Leaving.{HasOwners}
@@ -8,7 +8,6 @@ use Rattle.drv_table.specs.Kinds.{is_iso}
 use Rattle.law_ring.specs.OutPipes.{IsOut}
 use Rattle.law_ring.proofs.Returning.{those_found}
 use Rattle.law_driver.proofs.lemmas.ring_members.Placed.{has_queue, queue_off_head}
-use Rattle.law_queues.proofs.lemmas.publish_laws.Apart.{thirty_two}
 use Rattle.law_world.specs.memory.pipe_steps.Pipes.{AsksTheWay, AreByWay}
 use Rattle.law_world.proofs.lemmas.memory.lemmas.pipe_steps.Sparing.{AsksRight}
 use Rattle.law_world.proofs.lemmas.memory.lemmas.pipe_steps.Lends.{lend_spares}
@@ -19,6 +18,10 @@ use Rattle.law_reports.specs.lines.Lined.{IsTelling}
 use Rattle.std.proofs.lemmas.Option.{same_Some}
 use Rattle.law_driver_ring.specs.fed_queues.Places.{IsMet}
 use Rattle.std.specs.Prelude.{◌⊎◌}
+use Rattle.law_queues.proofs.Common.{none_open}
+use Rattle.law_common.proofs.Numbers.{same_blocks, other_number}
+use Rattle.law_driver.proofs.Common.{get_queued, control_told, control_kind}
+use Rattle.law_world.proofs.Common.{none_some}
 use Rattle.drv_table.specs.declared.content.Endpoint.{Endpoint}
 use Rattle.qh_qtd.specs.declared.qtd.Qtd.{Qtd}
 use Rattle.qh_qtd.specs.declared.queue_head.Qh.{Qh}
@@ -28,7 +31,6 @@ use Rattle.usb_base.specs.declared.packets.Way.TheVariants as ways
 use Rattle.mem_runs.specs.Book.{slot_of}
 use Rattle.claims_base.specs.Controller.{opening_base}
 use Rattle.claims_report.specs.Streams.{has_stream}
-use Rattle.drv_table.specs.declared.content.Command.{Command}
 use Rattle.drv_table.specs.declared.content.Command.TheVariants as unfinished
 use Rattle.drv_table.specs.declared.rows.Found.{Found}
 use Rattle.drv_table.specs.DriverContent.{DriverContent}
@@ -37,11 +39,11 @@ use Rattle.drv_table.specs.Words.{to_queue_head, dummy_qtd, is_control, head_blo
 use Rattle.law_driver.specs.queued_drivers.Queued.{queued_kind, queued_endpoint, queued_command, with_queue, queued}
 use Rattle.law_driver.specs.run_owners.Due.{IsHarvestDue}
 use Rattle.law_driver.specs.chained_transfers.Out.{out_now}
-use Rattle.law_driver.proofs.lemmas.queued_drivers.CommandFields.{desc_same, name_same, get_queued}
+use Rattle.law_driver.proofs.lemmas.queued_drivers.CommandFields.{desc_same, name_same}
 use Rattle.law_driver.proofs.lemmas.queued_drivers.RowLists.{queue_at}
 use Rattle.law_driver.proofs.lemmas.queued_drivers.RowOwners.{queued_are_lent}
 use Rattle.law_structures.specs.lent_structures.Structures.{QueueHead, Element, Structures, StructureSets, put}
-use Rattle.law_structures.proofs.lemmas.lent_structures.Names.{not_same, put_beside}
+use Rattle.law_structures.proofs.lemmas.lent_structures.Names.{put_beside}
 use Rattle.law_structures.proofs.lemmas.lent_structures.Altering.{found_queue, found_element}
 use Rattle.law_ring.specs.Hand.{Hand}
 use Rattle.law_ring.specs.Order.{IsAmong}
@@ -82,9 +84,8 @@ use Rattle.law_world.specs.memory.Steps.{QueueStep, stays, harvests, returns, le
 use Rattle.law_world.specs.memory.pipe_steps.Laws.{IsNoOpening}
 use Rattle.law_world.proofs.lemmas.memory.HarvestKept.{owners_of}
 use Rattle.law_world.proofs.lemmas.memory.PublishStores.{IsStoring, published_by}
-use Rattle.law_world.proofs.lemmas.memory.Unfinished.{none_unfinished}
 use Rattle.law_reports.specs.lines.Lined.{in_hand, Lines, counted}
-use Rattle.law_reports.proofs.lemmas.lines.Heads.{there_alone, control_told, control_queue}
+use Rattle.law_reports.proofs.lemmas.lines.Heads.{there_alone}
 use Rattle.law_reports.proofs.lemmas.lines.Same.{relinked_put}
 use Rattle.law_reports.proofs.lemmas.lines.ToldStores.{one_parts, one_out}
 use Rattle.bus_world.specs.World.{World, driver_parts, controller_parts}
@@ -99,9 +100,6 @@ among_fewer : (xs ys zs : List ℕ) → ((b : ℕ) → IsAmong b ys → IsAmong 
 among_fewer [] ys zs fewer b is = fewer b is
 among_fewer (x ∷ xs) ys zs fewer b (inl same) = inl same
 among_fewer (x ∷ xs) ys zs fewer b (inr is) = inr (among_fewer xs ys zs fewer b is)
-
-none_opens : (b : ℕ) → ◌≡◌ {A = Option Command} None (Some (unfinished.Open b)) → ⊥
-none_opens b is = cc
 
 -- an OUT endpoint that is there has its queue head at n
 pub record IsThereOut (d : DriverContent) (n : ℕ) : Type 0 where
@@ -138,7 +136,7 @@ module _ (s : Standing) (m : Lines) (w : World) (mixed : IsMixedAt s w) (telling
   pub opening_beside : (q : ℕ) → (queued w.driver).command ≡ Some (unfinished.Open q) → n ≢ 32 * q
   opening_beside q opening same =
       is_out.there.linked (opening ∙ ap (λ (b : ℕ). Some (unfinished.Open b))
-      (thirty_two q is_out.endpoint.queue (sym same ∙ is_out.at) ∙ sym (queue_same is_out.endpoint)))
+      (same_blocks q is_out.endpoint.queue (sym same ∙ is_out.at) ∙ sym (queue_same is_out.endpoint)))
 
   module _ (was : AreSentWhole (s.order n) (s.out n) (in_hand s) n (s.parts n)) where
     still_sent : (t : Standing) → AreStill s t → AreSentWhole (t.order n) (t.out n) (in_hand t) n (t.parts n)
@@ -153,7 +151,7 @@ module _ (s : Standing) (m : Lines) (w : World) (mixed : IsMixedAt s w) (telling
     module _ (e t : ℕ) (found : Found) (due : IsHarvestDue (told_parts w) e t found) where
       there : IsThere (queued w.driver) due.endpoint
       there = (stands_met (queued w.driver) e due.endpoint (mixed.turns.turns.asynchronous.endpoints e due.endpoint due.here)
-          due.goes_on (λ is. none_opens due.endpoint.queue (sym due.idle ∙ is))).there
+          due.goes_on (λ is. none_open due.endpoint.queue (sym due.idle ∙ is))).there
 
       less : (left : List ℕ) → ((b : ℕ) → IsAmong b left → IsAmong b (out_now (queued w.driver) e)) → (b : ℕ)
           → IsAmong b (with_out s.out (32 * due.endpoint.queue) left n) → IsAmong b (s.out n)
@@ -164,7 +162,7 @@ module _ (s : Standing) (m : Lines) (w : World) (mixed : IsMixedAt s w) (telling
           (fewer b (subst (IsAmong b)
           (ap (λ (c : Bool). if c then left else s.out n) (eq-eqb n (32 * due.endpoint.queue) same)) among)))
           (λ (differs : n ≢ 32 * due.endpoint.queue).
-          subst (IsAmong b) (ap (λ (c : Bool). if c then left else s.out n) (not_same n (32 * due.endpoint.queue) differs)) among)
+          subst (IsAmong b) (ap (λ (c : Bool). if c then left else s.out n) (other_number n (32 * due.endpoint.queue) differs)) among)
           (cases_eq n (32 * due.endpoint.queue))
 
       harvested : (later : ℕ → List ℕ) → OutAfter (told_parts w) e t found due s.out later
@@ -223,7 +221,7 @@ module _ (s : Standing) (m : Lines) (w : World) (mixed : IsMixedAt s w) (telling
     module _ (new : World) (b : ℕ) (words : List ℕ) (p : IsPublished (queued w.driver) s.parts b words)
         (is : IsNextStore s w new b words p) where
       not_iso : (e t count : ℕ) → w.driver.command ≡ Some (unfinished.Iso e t count) → ⊥
-      not_iso e t count iso = none_unfinished (unfinished.Publish b words) (sym (ap (queued_command w.driver.endpoints) iso) ∙ is.command)
+      not_iso e t count iso = none_some (unfinished.Publish b words) (sym (ap (queued_command w.driver.endpoints) iso) ∙ is.command)
 
       storing : IsStoring (queued w.driver) s.near s.streams s.ends s.parts s.order s.out b words
       storing = record {
@@ -258,7 +256,7 @@ module _ (s : Standing) (m : Lines) (w : World) (mixed : IsMixedAt s w) (telling
       owed = at.are.owed.0
 
       its_own : slice_get (queued w.driver).endpoints owed.number ≡ Some (with_queue owed.endpoint)
-      its_own = queue_at w.driver.endpoints owed.number owed.endpoint owed.here (control_queue owed.endpoint.desc.kind owed.control)
+      its_own = queue_at w.driver.endpoints owed.number owed.endpoint owed.here (control_kind owed.endpoint.desc.kind owed.control)
 
       control : is_control (with_queue owed.endpoint).desc.kind ≡ true
       control =
@@ -374,18 +372,18 @@ module _ (s : Standing) (m : Lines) (w : World) (mixed : IsMixedAt s w) (telling
         → (way : Way) → u.desc.name.way ≡ way → AsksTheWay none none off single s.ends (32 * u.queue) way
     asks_its_way e u here is_met ways.Out is = (refl, inr refl)
     asks_its_way e u here is_met ways.In is =
-        (not_same (32 * u.queue) n (λ same. in_out (sym is ∙ its_way e u here is_met same)), inr refl)
+        (other_number (32 * u.queue) n (λ same. in_out (sym is ∙ its_way e u here is_met same)), inr refl)
     asks_its_way e u here is_met ways.Ctl is =
-        (refl, not_same (32 * u.queue) n (λ same. control_out (sym is ∙ its_way e u here is_met same)), refl, refl)
+        (refl, other_number (32 * u.queue) n (λ same. control_out (sym is ∙ its_way e u here is_met same)), refl, refl)
 
     by_way : AreByWay (queued w.driver) none none off single s.ends
     by_way = record {
       each = λ e u here is_met. asks_its_way e u here is_met u.desc.name.way refl;
       head = (
         refl,
-        not_same (32 * head_block) n (λ same.
+        other_number (32 * head_block) n (λ same.
             queue_off_head w.driver is_out.number is_out.endpoint owners is_out.here (has_queue is_out.endpoint its_kept.1 its_kept.0)
-            (thirty_two is_out.endpoint.queue head_block (sym is_out.at ∙ sym same))),
+            (same_blocks is_out.endpoint.queue head_block (sym is_out.at ∙ sym same))),
       );
     }
 
@@ -480,7 +478,7 @@ module _ (s : Standing) (w : World) (mixed : IsMixedAt s w) (at : IsOpenThere (q
         (sym (ap (λ (b : Bool). if b then [] else s.out new) (eq-eqb new new refl))) new_sent))
         (λ (differs : n ≢ new).
         subst (λ (es : List ℕ). AreSentWhole (s.order n) es (in_hand s) n (s.parts n))
-        (sym (ap (λ (b : Bool). if b then [] else s.out n) (not_same n new differs))) (before differs)) (cases_eq n new)
+        (sym (ap (λ (b : Bool). if b then [] else s.out n) (other_number n new differs))) (before differs)) (cases_eq n new)
 
     pub opened_sends : AreSentWhole (t.order n) (t.out n) (in_hand t) n (t.parts n)
     opened_sends =

@@ -1,8 +1,12 @@
 -- The stores by which the first qTD of a transfer is published: until the last of them it has nothing to send, and then those behind it
 -- come next.
-use Rattle.std.proofs.Common.{◌≡◌, ◌≢◌, ℕ, zero, suc, ◌-◌, ◌*◌, ◌<◌, ◌≤◌, Bool, true, false, List, [], ◌∷◌, ◌++◌, take, drop, Option, Some}
+use Rattle.std.proofs.Common.{◌≡◌, ◌≢◌, ℕ, zero, suc, ◌-◌, ◌*◌, ◌<◌, ◌≤◌, Bool, true, false, List, ◌∷◌, ◌++◌, take, drop, Option, Some}
 use Rattle.std.proofs.Common.{None, ap, refl, sym, subst, ◌∙◌, ⊎_elim, inl, inr, arith}
 use Rattle.std.proofs.lemmas.Bool.{cases_eq}
+use Rattle.law_controller.proofs.Common.{lower_one}
+use Rattle.law_queues.proofs.Common.{one_target}
+use Rattle.law_world.proofs.Common.{token_is, sorted_behind}
+use Rattle.law_driver_ring.proofs.Common.{partly_idle}
 use Rattle.link_words.specs.declared.kinds.QtdLink.TheVariants as qtd_links
 use Rattle.link_words.specs.Links.{qtd_link_of}
 use Rattle.qh_qtd.specs.declared.token.Token.{Token}
@@ -18,14 +22,13 @@ use Rattle.claims_driver.specs.Owners.{NoteRuns, note_in}
 use Rattle.law_structures.specs.lent_structures.Structures.{Element, Structures, StructureSets}
 use Rattle.law_structures.proofs.lemmas.lent_structures.Names.{put_beside}
 use Rattle.law_ring.specs.Hand.{Hand}
-use Rattle.law_ring.specs.Order.{AreAfter, IsSorted, IsAmong}
+use Rattle.law_ring.specs.Order.{IsSorted, IsAmong}
 use Rattle.law_ring.specs.Front.{HasFront}
 use Rattle.law_ring.specs.Told.{Endpoint as Told}
 use Rattle.law_controller.specs.controlled_streams.Storing.{with_out, stored_parts}
 use Rattle.law_controller.proofs.lemmas.controlled_streams.Streams.{out_here, out_beside}
 use Rattle.law_driver.specs.chained_transfers.Out.{pieces_from, unpublished, out_of, out_now}
 use Rattle.law_driver_ring.specs.Published.{partly}
-use Rattle.law_driver_ring.proofs.Publishing.{idle}
 use Rattle.law_driver_ring.specs.fed_queues.Fed.{IsPublished}
 use Rattle.law_driver_ring.specs.fed_queues.Places.{IsMet}
 use Rattle.law_queues.specs.publish_laws.Stores.{parts_then, out_then, next_of}
@@ -38,22 +41,7 @@ use Rattle.law_queues.proofs.lemmas.whole_sends.Keeping.{idle_store_is_whole, la
 use Rattle.law_world.proofs.lemmas.memory.PublishStores.{IsStoring, published_by, below, some, met_now, out_is, by_store, one_more, finished}
 use Rattle.law_world.proofs.lemmas.memory.PublishTails.{tail_here}
 
--- ---- the qTD before its last store
-
-token_is : (t : Qtd) (k : ℕ) → k < 8 → (partly t k).token ≡ dummy_qtd.token
-token_is t (suc (suc (suc (suc (suc (suc (suc (suc k)))))))) below = absurd (omega (arith, below))
-token_is t _ below = refl
-
 -- ---- those behind it
-
-lower_one : (order : ℕ → ℕ) (e a : ℕ) (es : List ℕ) → AreAfter order e es → IsAmong a es → order e < order a
-lower_one order e a [] after among = absurd among
-lower_one order e a (d ∷ ds) after (inl same) = let less = after.0 in let at = ap order same in omega (arith, less, at)
-lower_one order e a (d ∷ ds) after (inr among) = lower_one order e a ds after.1 among
-
-sorted_behind : (order : ℕ → ℕ) (e : ℕ) (before behind : List ℕ) → IsSorted order (before ++ e ∷ behind) → IsSorted order behind
-sorted_behind order e [] behind sorted = sorted.1
-sorted_behind order e (d ∷ ds) behind sorted = sorted_behind order e ds behind sorted.1
 
 -- the first of them has the least number
 first_least : (order : ℕ → ℕ) (note : ℕ → NoteRuns) (b n a : ℕ) → IsSorted order (pieces_from note b n) → IsAmong a
@@ -62,9 +50,6 @@ first_least order note b zero a sorted among = absurd among
 first_least order note b (suc n) a sorted (inl same) = let at = ap order same in omega (arith, at)
 first_least order note b (suc n) a sorted (inr among) = let less = lower_one order (32 * b) a (pieces_from note
     (note b).next n) sorted.0 among in omega (arith, less)
-
-same_target : (b c : ℕ) → qtd_links.To b ≡ qtd_links.To c → b ≡ c
-same_target b c same = cc
 
 -- ---- the store
 
@@ -104,7 +89,7 @@ module _ (p : DriverParts) (member streams : ℕ → Bool) (ends : ℕ → Told)
   done = finished p member streams ends parts order out b words k
 
   old_idle : old.token.active ≡ false
-  old_idle = idle g.qtd i (below p member streams ends parts order out b words k)
+  old_idle = partly_idle g.qtd i (below p member streams ends parts order out b words k)
 
   met : IsMet p.driver y.endpoint g.endpoint
   met = met_now p member streams ends parts order out b words k
@@ -159,7 +144,7 @@ module _ (p : DriverParts) (member streams : ℕ → Bool) (ends : ℕ → Told)
       let next : ℕ = (note_at d.notes b).next in
       let link : qtd_link_of new.next ≡ qtd_links.To (32 * next) =
       ap (λ (j : ℕ). qtd_link_of (partly g.qtd j).next) eighth ∙ ap qtd_link_of g.noted.next in
-      let at : 32 * next ≡ c = same_target (32 * next) c (sym link ∙ to) in
+      let at : 32 * next ≡ c = one_target (32 * next) c (sym link ∙ to) in
       let those : IsSorted (order n) (pieces_from note next q) = sorted_behind (order n) (32 * b) before behind sorted in
       subst (λ (j : ℕ). order n j ≤ order n a) at (first_least (order n) note next q a those among)
 

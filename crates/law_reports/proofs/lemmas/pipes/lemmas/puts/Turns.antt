@@ -4,6 +4,7 @@ use Rattle.std.proofs.Common.{◌≡◌, ◌≢◌, ℕ, Bool, true, List, [], �
 use Rattle.std.proofs.Common.{⊎_elim, inl}
 use Rattle.std.proofs.lemmas.Bool.{cases_eq}
 use Rattle.std.proofs.lemmas.Option.{same_Some}
+use Rattle.law_controller.proofs.Common.{over_not_periodic, asynchronous_not_periodic}
 use Rattle.usb_base.specs.declared.packets.Reply.{Reply}
 use Rattle.link_words.specs.declared.fields.LinkBits.{LinkBits}
 use Rattle.qh_qtd.specs.declared.queue_head.Qh.{Qh}
@@ -44,12 +45,6 @@ use Rattle.law_reports.proofs.lemmas.lines.Same.{relinked_head, relinked_element
 use Rattle.law_reports.proofs.lemmas.pipes.lemmas.puts.Whole.{relinked_whole, member}
 
 -- ---- what waits for its write-back
-
-over_not_periodic : Over ≡ Periodic → ⊥
-over_not_periodic e = cc
-
-asynchronous_not_periodic : Asynchronous ≡ Periodic → ⊥
-asynchronous_not_periodic e = cc
 
 -- it is of a queue head that stands there
 pub record IsHeld (parts : StructureSets) (c : Copy) (z : Settlement) : Type 0 where

@@ -1,7 +1,8 @@
 -- A transfer that is accepted leaves the requests that there are, and a request comes behind those of its endpoint.
-use Rattle.std.proofs.Common.{◌≡◌, ◌≢◌, ℕ, zero, suc, ◌-◌, ◌||◌, Bool, false, List, [], ◌∷◌, ◌++◌, length, take, drop, set, get_or, slice_get, Some, None, option_map, ap, sym, subst, ◌∙◌, refl, ⊎_elim}
+use Rattle.std.proofs.Common.{◌≡◌, ◌≢◌, ℕ, ◌-◌, ◌||◌, Bool, false, List, [], ◌∷◌, length, take, drop, set, get_or, slice_get, Some, None, option_map, ap, sym, subst, ◌∙◌, refl, ⊎_elim}
 use Rattle.std.proofs.lemmas.Bool.{cases_eq}
 use Rattle.std.proofs.lemmas.Option.{same_Some, slice_get_within}
+use Rattle.law_common.proofs.Lists.{pushed_last, still_there, set_here, set_there, drop_first}
 use Rattle.word_mem.specs.Memory.{Mem}
 use Rattle.mem_runs.specs.Book.{holding, slot_of, Stands}
 use Rattle.drv_table.specs.declared.content.QtdNote.{QtdNote}
@@ -17,10 +18,8 @@ use Rattle.law_driver.specs.run_owners.Accepts.{Transfers}
 use Rattle.claims_driver.specs.Leaving.{HasOwners}
 use Rattle.claims_driver.specs.Owners.{Dummy, Element, IsPlaced, note_in, runs_of_endpoint, runs_of_transfer, views_of, IsPieceOf}
 use Rattle.law_driver.proofs.lemmas.run_owners.Runs.{placed_run}
-use Rattle.law_driver.proofs.lemmas.run_owners.Released.{set_here, set_there}
 use Rattle.law_driver.proofs.lemmas.run_owners.Taking.{runs_taken}
 use Rattle.law_driver.proofs.lemmas.run_owners.Chains.{notes_apart}
-use Rattle.law_driver.proofs.lemmas.run_owners.Accepted.{drop_first}
 use Rattle.law_driver.proofs.lemmas.run_owners.Transferred.{are_new, goes_on_alive}
 use Rattle.claims_report.specs.Requests.{Request}
 use Rattle.law_devices.specs.ring_requests.Windows.{Queue}
@@ -32,16 +31,6 @@ use Rattle.law_reports.proofs.lemmas.requests.lemmas.driver_requests.Keeping.{re
 use Rattle.law_reports.proofs.lemmas.requests.lemmas.driver_requests.Owning.{piece_placed}
 
 -- ---- one more of a list
-
-pub still_there : {X : Type 0} (xs ys : List X) (i : ℕ) (z : X) → slice_get xs i ≡ Some z → slice_get (xs ++ ys) i ≡ Some z
-still_there [] ys zero z here = absurd (cc)
-still_there [] ys (suc i) z here = absurd (cc)
-still_there (x ∷ xs) ys zero z here = here
-still_there (x ∷ xs) ys (suc i) z here = still_there xs ys i z here
-
-at_end : {X : Type 0} (xs : List X) (z : X) → slice_get (xs ++ z ∷ []) (length xs) ≡ Some z
-at_end [] z = refl
-at_end (x ∷ xs) z = at_end xs z
 
 none_some : (t : ℕ) → None ≢ Some t
 none_some t same = cc
@@ -118,7 +107,7 @@ module _ (d : DriverContent) (m : Mem) (o : Offered) (why : Transfers d m o) (ha
   new_of sort =
       subst (λ (g : Offered). IsOfTransfer g.driver why.number (length d.transfers)) (sym why.is) (record {
         own = new_transfer why.number why.asked why.endpoint.dummy;
-        here = at_end d.transfers (new_transfer why.number why.asked why.endpoint.dummy);
+        here = pushed_last d.transfers (new_transfer why.number why.asked why.endpoint.dummy);
         endpoint = refl;
         sort = sort;
       })
@@ -127,7 +116,7 @@ module _ (d : DriverContent) (m : Mem) (o : Offered) (why : Transfers d m o) (ha
   new_laid r stages =
       subst (λ (g : Offered). IsLaidOut g.driver (length d.transfers) r (request_places g.driver.notes why.endpoint.dummy r)) (sym why.is) (record {
         own = new_transfer why.number why.asked why.endpoint.dummy;
-        here = at_end d.transfers (new_transfer why.number why.asked why.endpoint.dummy);
+        here = pushed_last d.transfers (new_transfer why.number why.asked why.endpoint.dummy);
         held = refl;
         qtds = ap (λ (ks : List Stage). length ks) stages;
         places = refl;

@@ -1,8 +1,9 @@
 -- The order of an endpoint's requests behind earlier ones.
-use Rattle.std.proofs.Common.{◌≡◌, ◌≢◌, ℕ, zero, suc, ◌-◌, ◌<◌, Bool, true, false, List, [], ◌∷◌, ◌++◌, length, map, Option, if◌then◌else◌, ap, sym, ◌∙◌, refl, arith}
+use Rattle.std.proofs.Common.{◌≡◌, ◌≢◌, ℕ, suc, ◌-◌, ◌<◌, Bool, true, false, List, [], ◌∷◌, ◌++◌, length, map, Option, if◌then◌else◌, ap, sym, ◌∙◌, refl, arith}
 use Rattle.std.specs.Prelude.{nat_le}
 use Rattle.std.proofs.lemmas.Bool.{leb-true, leb-false}
 use Rattle.std.proofs.lemmas.List.{map-append}
+use Rattle.law_reports.proofs.Common.{less_one, mapped, asked_before}
 use Rattle.usb_base.specs.declared.commands.Cmd.{Cmd}
 use Rattle.usb_base.specs.declared.commands.Cmd.TheVariants as commands
 use Rattle.usb_base.specs.declared.endpoints.EpName.{EpName}
@@ -25,7 +26,7 @@ use Rattle.law_reports.specs.requests.world_requests.Recording.{AreRecorded, Are
 use Rattle.law_reports.specs.requests.driver_requests.Requests.{AreOfEndpoint}
 use Rattle.law_reports.specs.requests.driver_requests.Rows.{number_with}
 use Rattle.law_reports.specs.requests.driver_requests.Behind.{AreBehind}
-use Rattle.law_reports.proofs.lemmas.requests.lemmas.driver_requests.Ordering.{numbers_more, numbers_still, first_more, requests_more, below_new, asked_before}
+use Rattle.law_reports.proofs.lemmas.requests.lemmas.driver_requests.Ordering.{numbers_more, numbers_still, first_more, requests_more, below_new}
 use Rattle.law_reports.proofs.lemmas.requests.lemmas.driver_requests.RowOrder.{row_numbers}
 
 joined : (xs ys zs : List ℕ) → (xs ++ ys) ++ zs ≡ xs ++ (ys ++ zs)
@@ -36,14 +37,6 @@ pub none_earlier : (d : DriverContent) (asks : ℕ → Request) (e : ℕ) (v : Q
 none_earlier d asks e v number order = record { numbers = order.numbers; requests = order.requests }
 
 -- ---- the first goes
-
-from_first : (f : ℕ → ℕ) (n : ℕ) → first_of f (suc n) ≡ f 0 ∷ first_of (λ k. f (suc k)) n
-from_first f zero = refl
-from_first f (suc n) = ap (λ (ks : List ℕ). ks ++ f (suc n) ∷ []) (from_first f n)
-
-less_one : (f : ℕ → ℕ) (n : ℕ) → 0 < n → first_of f n ≡ f 0 ∷ first_of (λ k. f (suc k)) (n - 1)
-less_one f zero some = absurd (omega (arith, some))
-less_one f (suc n) some = let same : n ≡ suc n - 1 = omega arith in from_first f n ∙ ap (λ (k : ℕ). f 0 ∷ first_of (λ k. f (suc k)) k) same
 
 pub first_goes : (d : DriverContent) (asks : ℕ → Request) (e : ℕ) (earlier : List ℕ) (v : Queue) (number : ℕ → ℕ) → 0 < v.count → AreBehind d asks e earlier v number
     → AreBehind d asks e (earlier ++ number 0 ∷ []) (without_first v) (λ k. number (suc k))
@@ -77,10 +70,6 @@ accepted_beside d m o why cmd asks earlier v under n i number other are k = reco
 }
 
 -- ---- what is told
-
-mapped : {A B : Type 0} (f : A → B) (xs : ℕ → A) (n : ℕ) → map f (first_of xs n) ≡ first_of (λ i. f (xs i)) n
-mapped f xs zero = refl
-mapped {A} {B} f xs (suc n) = map-append f (first_of xs n) (xs n ∷ []) ∙ ap (λ (ys : List B). ys ++ f (xs n) ∷ []) (mapped f xs n)
 
 acts_by : (v : Queue) (number : ℕ → ℕ) (latest : Option ℕ) (acts : ℕ → List (List ℕ)) (l : Lines) (i : ℕ) → AreRecorded v number latest acts l → i < v.count → (b : Bool) → nat_le i l.under ≡ b
     → acts (number i) ≡ (if b then (l.line i).acts else [])

@@ -1,5 +1,6 @@
 -- What is accepted without a transfer leaves the requests of an endpoint; chained transfers have qTDs.
 use Rattle.std.proofs.Common.{ℕ, true, None, option_map, ap, sym, subst, refl}
+use Rattle.law_common.proofs.Lists.{still_there}
 use Rattle.word_mem.specs.Memory.{Mem}
 use Rattle.drv_table.specs.DriverContent.{DriverContent}
 use Rattle.drv_table.specs.Accepting.{Offered}
@@ -9,7 +10,6 @@ use Rattle.claims_driver.specs.Owners.{runs_of_transfer, views_of}
 use Rattle.law_driver.specs.chained_transfers.Chains.{AreChained}
 use Rattle.law_reports.specs.requests.driver_requests.Requests.{HaveQtds}
 use Rattle.law_reports.specs.requests.driver_requests.Rows.{KeepsRequests}
-use Rattle.law_reports.proofs.lemmas.requests.lemmas.driver_requests.Accepting.{still_there}
 use Rattle.law_reports.proofs.lemmas.requests.lemmas.driver_requests.Rows.{endpoint_set, keeps}
 
 pub open_keeps_requests : (d : DriverContent) (m : Mem) (o : Offered) (i : ℕ) → Opens d m o → KeepsRequests None d o.driver i

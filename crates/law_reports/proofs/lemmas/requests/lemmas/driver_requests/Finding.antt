@@ -7,6 +7,7 @@ use Rattle.std.proofs.lemmas.List.Sums.{fails_before_first}
 use Rattle.std.proofs.lemmas.Option.{slice_get-get_or, slice_get_within, same_Some}
 use Rattle.std.proofs.lemmas.Bool.{false≢true, true≢false, eq-eqb, eqb-true}
 use Rattle.std.proofs.lemmas.Bool.Decides.{nat_tests}
+use Rattle.law_common.proofs.Booleans.{not_on, and_both}
 use Rattle.drv_table.specs.declared.content.Transfer.{Transfer}
 use Rattle.drv_table.specs.declared.content.Sort.{Sort}
 use Rattle.drv_table.specs.declared.content.Sort.TheVariants as sorts
@@ -53,19 +54,11 @@ request_sort : (s : Sort) → is_request s ≡ true → s ≡ sorts.Request
 request_sort sorts.Request is = refl
 request_sort _ is = absurd (false≢true is)
 
-both : (b c : Bool) → (b && c) ≡ true → (b ≡ true) × (c ≡ true)
-both true c is = (refl, is)
-both false c is = absurd (false≢true is)
-
-not_so : (b : Bool) → not b ≡ true → b ≡ false
-not_so true is = absurd (false≢true is)
-not_so false is = refl
-
 setup_of : (d : DriverContent) (a t : ℕ) (y : Transfer) → slice_get d.transfers t ≡ Some y → is_setup_at a y ≡ true → IsSetup d a t
 setup_of d a t y here is =
-    let one = both (is_request y.sort) (not y.released && 32 * y.first == a) is in
-    let two = both (not y.released) (32 * y.first == a) one.1 in
-    record { own = y; here = here; sort = request_sort y.sort one.0; held = not_so y.released two.0; place = eqb-true (32 * y.first) a two.1 }
+    let one = and_both (is_request y.sort) (not y.released && 32 * y.first == a) is in
+    let two = and_both (not y.released) (32 * y.first == a) one.1 in
+    record { own = y; here = here; sort = request_sort y.sort one.0; held = not_on y.released two.0; place = eqb-true (32 * y.first) a two.1 }
 
 passes_by : (s : Sort) (r b : Bool) → s ≡ sorts.Request → r ≡ false → b ≡ true → (is_request s && (not r && b)) ≡ true
 passes_by s true b sort held place = absurd (true≢false held)

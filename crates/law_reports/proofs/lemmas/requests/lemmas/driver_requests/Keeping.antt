@@ -1,8 +1,9 @@
 -- What a row of the driver, a step of the walk, one more request and the end of the first leave of an endpoint's requests.
-use Rattle.std.proofs.Common.{◌≡◌, ◌≢◌, ℕ, suc, ◌*◌, ◌<◌, ◌≤◌, ◌==◌, Bool, true, false, List, Option, Some, None, if◌then◌else◌, ap, sym, subst, ◌∙◌, ⊎_elim, arith}
+use Rattle.std.proofs.Common.{◌≡◌, ◌≢◌, ℕ, suc, ◌*◌, ◌<◌, ◌≤◌, ◌==◌, Bool, true, false, List, Option, Some, if◌then◌else◌, ap, sym, subst, ◌∙◌, ⊎_elim, arith}
 use Rattle.std.proofs.lemmas.Bool.{cases_eq, eq-eqb}
 use Rattle.std.proofs.lemmas.Option.{same_Some}
-use Rattle.law_structures.proofs.lemmas.lent_structures.Names.{not_same}
+use Rattle.law_reports.proofs.Common.{under_rises}
+use Rattle.law_common.proofs.Numbers.{other_number}
 use Rattle.usb_base.specs.declared.endpoints.EpDesc.{EpDesc}
 use Rattle.drv_table.specs.declared.content.QtdNote.{QtdNote}
 use Rattle.drv_table.specs.declared.content.Transfer.{Transfer}
@@ -10,7 +11,7 @@ use Rattle.drv_table.specs.DriverContent.{DriverContent}
 use Rattle.claims_driver.specs.Owners.{note_in, IsPieceOf}
 use Rattle.claims_report.specs.Requests.{Request}
 use Rattle.law_devices.specs.ring_requests.Laid.{Places}
-use Rattle.law_devices.specs.ring_requests.Windows.{Queue, Lines, Progress, Transaction, Advance, Step, progressed, stepped}
+use Rattle.law_devices.specs.ring_requests.Windows.{Queue, Lines, Step, stepped}
 use Rattle.law_devices.specs.request_stores.Published.{with_request, without_first}
 use Rattle.law_reports.specs.requests.request_bytes.Fresh.{data_places, other_places, next_of, request_places}
 use Rattle.law_reports.specs.requests.driver_requests.Requests.{IsOfEndpoint, IsOfTransfer, IsLaidOut, AreOfEndpoint, AreOfDriver}
@@ -109,18 +110,6 @@ later_requests : (d : DriverContent) (v : Queue) (under later n i : ℕ) (number
 later_requests d v under later n i number rises are =
     record { endpoint = are.endpoint; transfers = are.transfers; rising = are.rising; laid = λ k after few. are.laid k (omega (arith, rises, after)) few }
 
-progress_rises : (v : Queue) (p : Progress) (l : Lines) → l.under ≤ (progressed v p l).under
-progress_rises v (Transaction losses) l = omega arith
-progress_rises v Advance l = omega arith
-
-rises_if : (v : Queue) (p : Progress) (l : Lines) (b : Bool) → l.under ≤ (if b then progressed v p l else l).under
-rises_if v p l true = progress_rises v p l
-rises_if v p l false = omega arith
-
-under_rises : (sent : ℕ → Queue) (step : Option Step) (lines : ℕ → Lines) (n : ℕ) → (lines n).under ≤ (stepped sent step lines n).under
-under_rises sent None lines n = omega arith
-under_rises sent (Some s) lines n = rises_if (sent n) s.is (lines n) (n == s.at)
-
 pub requests_go_on : (d : DriverContent) (windows : ℕ → Bool) (sent : ℕ → Queue) (lines : ℕ → Lines) (step : Option Step) (endpoint : ℕ → ℕ) (number : ℕ → ℕ → ℕ) → AreOfDriver d windows sent lines endpoint number
     → AreOfDriver d windows sent (stepped sent step lines) endpoint number
 requests_go_on d windows sent lines step endpoint number are n on =
@@ -132,7 +121,7 @@ pub number_new : (count t : ℕ) (number : ℕ → ℕ) (k : ℕ) → k ≡ coun
 number_new count t number k is = ap (λ (b : Bool). if b then t else number k) (eq-eqb k count is)
 
 pub number_old : (count t : ℕ) (number : ℕ → ℕ) (k : ℕ) → k ≢ count → number_with count number t k ≡ number k
-number_old count t number k differs = ap (λ (b : Bool). if b then t else number k) (not_same k count differs)
+number_old count t number k differs = ap (λ (b : Bool). if b then t else number k) (other_number k count differs)
 
 module _ (d : DriverContent) (v : Queue) (under n i t : ℕ) (number : ℕ → ℕ) (r : Request) (x : Places) (are : AreOfEndpoint d v under n i number) (of : IsOfTransfer d i t) (new : IsLaidOut d t r x) (below : (k : ℕ) → k < v.count → number k < t) where
   transfers_with : (k : ℕ) → k < suc v.count → IsOfTransfer d i (number_with v.count number t k)
@@ -159,7 +148,7 @@ module _ (d : DriverContent) (v : Queue) (under n i t : ℕ) (number : ℕ → �
       (λ (is : k ≡ v.count).
       subst (λ (b : Bool). IsLaidOut d (if b then t else number k) (if b then r else v.requests k) (if b then x else v.places k)) (sym (eq-eqb k v.count is)) new)
       (λ (differs : k ≢ v.count).
-      subst (λ (b : Bool). IsLaidOut d (if b then t else number k) (if b then r else v.requests k) (if b then x else v.places k)) (sym (not_same k v.count differs))
+      subst (λ (b : Bool). IsLaidOut d (if b then t else number k) (if b then r else v.requests k) (if b then x else v.places k)) (sym (other_number k v.count differs))
       (are.laid k after (omega (arith, few, differs)))) (cases_eq k v.count)
 
 pub request_comes : (d : DriverContent) (v : Queue) (under n i t : ℕ) (number : ℕ → ℕ) (r : Request) (x : Places) → AreOfEndpoint d v under n i number → IsOfTransfer d i t → IsLaidOut d t r x

@@ -2,7 +2,9 @@
 use Rattle.std.proofs.Common.{◌≡◌, ◌≢◌, ℕ, suc, ◌+◌, ◌<◌, ◌==◌, Bool, true, false, List, [], ◌∷◌, ◌++◌, length, if◌then◌else◌, ap, sym, ◌∙◌, refl, ⊎_elim, arith}
 use Rattle.std.proofs.lemmas.Bool.{cases_eq, eq-eqb}
 use Rattle.std.proofs.lemmas.Option.{slice_get_within}
-use Rattle.law_structures.proofs.lemmas.lent_structures.Names.{not_same}
+use Rattle.law_common.proofs.Lists.{more_active}
+use Rattle.law_reports.proofs.Common.{asked_before}
+use Rattle.law_common.proofs.Numbers.{other_number}
 use Rattle.drv_table.specs.declared.content.Transfer.{Transfer}
 use Rattle.drv_table.specs.DriverContent.{DriverContent}
 use Rattle.drv_table.specs.Accepting.{Offered}
@@ -39,12 +41,9 @@ one_more e n (x ∷ xs) y of =
     cons_by (x.endpoint == e) n (numbers_from e (suc n) (xs ++ y ∷ [])) (numbers_from e (suc n) xs) ((n + suc (length xs)) ∷ [])
     (one_more e (suc n) xs y of ∙ ap (λ (k : ℕ). numbers_from e (suc n) xs ++ k ∷ []) more)
 
-pub cons_same : (b : Bool) (n : ℕ) (ks bs : List ℕ) → ks ≡ bs → (if b then n ∷ ks else ks) ≡ (if b then n ∷ bs else bs)
-cons_same b n ks bs same = ap (λ (xs : List ℕ). if b then n ∷ xs else xs) same
-
 none_more : (e n : ℕ) (xs : List Transfer) (y : Transfer) → y.endpoint ≢ e → numbers_from e n (xs ++ y ∷ []) ≡ numbers_from e n xs
-none_more e n [] y other = ap (λ (b : Bool). if b then n ∷ [] else []) (not_same y.endpoint e other)
-none_more e n (x ∷ xs) y other = cons_same (x.endpoint == e) n (numbers_from e (suc n) (xs ++ y ∷ [])) (numbers_from e (suc n) xs) (none_more e (suc n) xs y other)
+none_more e n [] y other = ap (λ (b : Bool). if b then n ∷ [] else []) (other_number y.endpoint e other)
+none_more e n (x ∷ xs) y other = more_active (x.endpoint == e) n (numbers_from e (suc n) (xs ++ y ∷ [])) (numbers_from e (suc n) xs) (none_more e (suc n) xs y other)
 
 -- ---- the requests
 
@@ -52,7 +51,7 @@ ask_new : (asks : ℕ → Request) (t : ℕ) (r : Request) (u : ℕ) → u ≡ t
 ask_new asks t r u is = ap (λ (b : Bool). if b then r else asks u) (eq-eqb u t is)
 
 ask_old : (asks : ℕ → Request) (t : ℕ) (r : Request) (u : ℕ) → u ≢ t → with_ask asks t r u ≡ asks u
-ask_old asks t r u differs = ap (λ (b : Bool). if b then r else asks u) (not_same u t differs)
+ask_old asks t r u differs = ap (λ (b : Bool). if b then r else asks u) (other_number u t differs)
 
 pub below_new : (d : DriverContent) (v : Queue) (under n i : ℕ) (number : ℕ → ℕ) → AreOfEndpoint d v under n i number → (k : ℕ) → k < v.count → number k < length d.transfers
 below_new d v under n i number are k few = let y = are.transfers k few in slice_get_within d.transfers (number k) y.own y.here
@@ -82,7 +81,7 @@ requests_more d asks v under n i number r are asked k few =
     let less : k < v.count = omega (arith, few, differs) in
     let low = below_new d v under n i number are k less in
     ap (with_ask asks t r) (number_old v.count t number k differs) ∙ ask_old asks t r (number k) (λ (same : number k ≡ t). omega (arith, low, same)) ∙ asked k less
-    ∙ sym (ap (λ (b : Bool). if b then r else v.requests k) (not_same k v.count differs))) (cases_eq k v.count)
+    ∙ sym (ap (λ (b : Bool). if b then r else v.requests k) (other_number k v.count differs))) (cases_eq k v.count)
 
 -- a request that is accepted
 pub order_grows : (d : DriverContent) (m : Mem) (o : Offered) (why : Transfers d m o) (name : EpName) (setup bytes : List ℕ) (asks : ℕ → Request) (v : Queue) (under n : ℕ) (number : ℕ → ℕ) (x : Places)
@@ -93,10 +92,6 @@ order_grows d m o why name setup bytes asks v under n number x are order = recor
       ∙ ap (λ (ks : List ℕ). ks ++ length d.transfers ∷ []) order.numbers ∙ first_more number v.count (length d.transfers);
   requests = requests_more d asks v under n why.number number (record { setup = setup; bytes = bytes }) are order.requests;
 }
-
-pub asked_before : (d : DriverContent) (cmd : Cmd) (asks : ℕ → Request) (t : ℕ) → t < length d.transfers → asks_then d cmd asks t ≡ asks t
-asked_before d (commands.Control name setup bytes) asks t low = ask_old asks (length d.transfers) (record { setup = setup; bytes = bytes }) t (λ (same : t ≡ length d.transfers). omega (arith, low, same))
-asked_before d _ asks t low = refl
 
 -- .. and whatever is accepted of another endpoint
 pub order_stays : (d : DriverContent) (m : Mem) (o : Offered) (why : Transfers d m o) (cmd : Cmd) (asks : ℕ → Request) (v : Queue) (under n i : ℕ) (number : ℕ → ℕ) → i ≢ why.number

@@ -1,6 +1,8 @@
 -- Each row of the driver leaves the numbers of an endpoint's transfers.
 use Rattle.std.proofs.Common.{◌≡◌, ℕ, suc, Bool, true, false, ◌||◌, ◌==◌, if◌then◌else◌, map, List, [], ◌∷◌, slice_get, Option, Some, None, option_map, ap, sym, ◌∙◌, refl}
 use Rattle.std.proofs.lemmas.Option.{same_Some, slice_get-map}
+use Rattle.law_driver.proofs.Common.{let_go_same}
+use Rattle.law_common.proofs.Lists.{more_active}
 use Rattle.mem_runs.specs.Book.{Holding}
 use Rattle.drv_periodic_table.specs.declared.content.Removed.TheVariants as removed
 use Rattle.drv_table.specs.declared.content.Endpoint.{Endpoint}
@@ -18,7 +20,6 @@ use Rattle.claims_report.specs.Requests.{Request}
 use Rattle.law_devices.specs.ring_requests.Windows.{Queue}
 use Rattle.claims_world.specs.Requests.{numbers_from, numbers_of}
 use Rattle.law_reports.specs.requests.world_requests.Recording.{AreInOrder}
-use Rattle.law_reports.proofs.lemmas.requests.lemmas.driver_requests.Ordering.{cons_same}
 use Rattle.law_reports.proofs.lemmas.requests.lemmas.driver_requests.Rows.{TransferView, transfer_view, StayAlike, advanced, lent, framed, unlinks, harvested, told_transfers}
 
 abbrev pub endpoint_at : List Transfer → ℕ → Option ℕ
@@ -34,7 +35,8 @@ numbers_same e n (x ∷ xs) [] same = let clash : None ≡ Some x.endpoint = sam
 numbers_same e n (x ∷ xs) (y ∷ ys) same =
     let one : y.endpoint ≡ x.endpoint = same_Some y.endpoint x.endpoint (same 0) in
     ap (λ (k : ℕ). if k == e then n ∷ numbers_from e (suc n) ys else numbers_from e (suc n) ys) one
-    ∙ cons_same (x.endpoint == e) n (numbers_from e (suc n) ys) (numbers_from e (suc n) xs) (numbers_same e (suc n) xs ys (λ t. same (suc t)))
+    ∙ more_active (x.endpoint == e) n (numbers_from e (suc n) ys) (numbers_from e (suc n) xs)
+    (numbers_same e (suc n) xs ys (λ t. same (suc t)))
 
 seen_endpoint : (o : Option Transfer) → option_map (λ (w : TransferView). w.endpoint) (option_map transfer_view o) ≡ option_map (λ (y : Transfer). y.endpoint) o
 seen_endpoint None = refl
@@ -56,9 +58,6 @@ descriptor_given p t (Some x) there k = same_view (λ (y : Transfer). y.endpoint
 if_same : (b : Bool) (y z : Transfer) → y.endpoint ≡ z.endpoint → (if b then y else z).endpoint ≡ z.endpoint
 if_same true y z same = same
 if_same false y z same = refl
-
-let_go_same : (e : ℕ) (told : Bool) (y : Transfer) → (let_go e told y).endpoint ≡ y.endpoint
-let_go_same e told y = if_same (y.endpoint == e) (record y { reported = y.reported || told; released = true }) y refl
 
 let_go_placed_same : (iso : Bool) (e : ℕ) (told : Bool) (y : Transfer) → (let_go_placed iso e told y).endpoint ≡ y.endpoint
 let_go_placed_same true e told y = if_same (waits_for e y) (record y { reported = y.reported || told; released = true }) y refl

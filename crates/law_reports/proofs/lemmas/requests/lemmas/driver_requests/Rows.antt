@@ -3,12 +3,13 @@ use Rattle.std.proofs.Common.{◌≡◌, ◌≢◌, ℕ, zero, suc, ◌-◌, Boo
 use Rattle.std.specs.Prelude.{is_none}
 use Rattle.std.proofs.lemmas.Bool.{cases_eq}
 use Rattle.std.proofs.lemmas.Option.{same_Some, slice_get-map}
+use Rattle.law_common.proofs.Numbers.{other_number}
+use Rattle.law_common.proofs.Lists.{set_here, set_there}
 use Rattle.usb_base.specs.declared.endpoints.EpDesc.{EpDesc}
 use Rattle.usb_base.specs.declared.endpoints.EpName.{EpName}
 use Rattle.usb_base.specs.declared.endpoints.EndCause.{EndCause}
 use Rattle.usb_base.specs.declared.reports.What.{What}
 use Rattle.usb_base.specs.declared.reports.What.TheVariants as lines
-use Rattle.law_structures.proofs.lemmas.lent_structures.Names.{not_same}
 use Rattle.word_mem.specs.Memory.{Mem}
 use Rattle.mem_runs.specs.Book.{Holding, holding, lend_taken}
 use Rattle.drv_periodic_table.specs.declared.content.Removed.TheVariants as removed
@@ -33,7 +34,6 @@ use Rattle.drv_table.specs.Releases.{after_transfer, is_told, cancelled_bytes, c
 use Rattle.drv_table.specs.Harvesting.{served, moved_on, told_with, goes_on, behind_one, behind, stalled, mends_of, after_end, descriptor_told, harvested_as, after_harvest}
 use Rattle.drv_table.specs.Kinds.{is_iso}
 use Rattle.drv_table.specs.Rows.{after_driver_row}
-use Rattle.law_driver.proofs.lemmas.run_owners.Released.{set_here, set_there}
 use Rattle.law_driver.proofs.lemmas.run_owners.Stays.{same_view, same_item}
 use Rattle.law_reports.specs.requests.request_bytes.Fresh.{next_of}
 use Rattle.law_reports.specs.requests.driver_requests.Rows.{TransferStays, KeepsRequests, given_by, KeepsEndpoint}
@@ -276,7 +276,7 @@ picked g f d true same = same
 picked g f d false same = refl
 
 apart : (y : Transfer) (e i : ℕ) → y.endpoint ≡ i → i ≢ e → (y.endpoint == e) ≡ false
-apart y e i of differs = not_same y.endpoint e (λ same. differs (sym of ∙ same))
+apart y e i of differs = other_number y.endpoint e (λ same. differs (sym of ∙ same))
 
 spared : (e i : ℕ) (told : Bool) (y : Transfer) → y.endpoint ≡ i → i ≢ e → let_go e told y ≡ y
 spared e i told y of differs = ap (λ (b : Bool). if b then record y { reported = y.reported || told; released = true } else y) (apart y e i of differs)

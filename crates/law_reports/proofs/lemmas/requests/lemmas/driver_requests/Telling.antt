@@ -2,6 +2,7 @@
 use Rattle.std.proofs.Common.{◌≡◌, ◌≢◌, ℕ, ◌*◌, ◌+◌, ◌<◌, ◌≤◌, Bool, true, false, slice_get, Some, None, option_map, ap, sym, ◌∙◌, refl, ⊎_elim, arith}
 use Rattle.std.proofs.lemmas.Bool.{cases_eq, cases_lt, true≢false}
 use Rattle.std.proofs.lemmas.Option.{same_Some}
+use Rattle.law_reports.proofs.Common.{of_transfer}
 use Rattle.qh_qtd.specs.declared.qtd.Qtd.{Qtd}
 use Rattle.drv_table.specs.declared.content.Endpoint.{Endpoint as DriverEndpoint}
 use Rattle.drv_table.specs.declared.content.Transfer.{Transfer}
@@ -11,14 +12,11 @@ use Rattle.claims_driver.specs.Leaving.{HasOwners}
 use Rattle.law_structures.specs.lent_structures.Structures.{Element, StructureSets}
 use Rattle.law_driver_ring.specs.Inventory.{sort_of, sorts_of, OfElement, IsDriven}
 use Rattle.law_devices.specs.ring_requests.Windows.{Queue, Lines, AreSent}
-use Rattle.claims_world.specs.Requests.{setup_at, endpoint_of}
+use Rattle.claims_world.specs.Requests.{setup_at}
 use Rattle.law_reports.specs.requests.world_requests.Recording.{IsFound, IsNoSetup, AreFound, AreTransfers}
-use Rattle.law_reports.specs.requests.driver_requests.Requests.{IsOfTransfer, AreOfDriver, HaveQtds, AreUnderWay}
+use Rattle.law_reports.specs.requests.driver_requests.Requests.{AreOfDriver, HaveQtds, AreUnderWay}
 use Rattle.law_reports.proofs.lemmas.requests.lemmas.driver_requests.Finding.{setup_is}
 use Rattle.law_reports.proofs.lemmas.requests.lemmas.driver_requests.Owning.{IsQtdAt, status_place, data_place, laid_setup, laid_beside, nobody_there, same_queue}
-
-of_endpoint : (d : DriverContent) (e t : ℕ) → IsOfTransfer d e t → endpoint_of d t ≡ Some e
-of_endpoint d e t k = ap (option_map (λ (y : Transfer). y.endpoint)) k.here ∙ ap (λ (i : ℕ). Some i) k.endpoint
 
 one_each : (number : ℕ → ℕ) (count i k : ℕ) → ((j l : ℕ) → j < l → l < count → number j < number l) → i < count → k < count → number i ≡ number k → i ≡ k
 one_each number count i k rising few less same =
@@ -62,7 +60,7 @@ module _ (d : DriverContent) (member windows : ℕ → Bool) (sent : ℕ → Que
           let two = (are k other).endpoint in
           let own : one.own ≡ two.own = same_Some one.own two.own (sym one.here ∙ ap (slice_get d.endpoints) same ∙ two.here) in
           one.queue ∙ ap (λ (x : DriverEndpoint). 32 * x.queue) own ∙ sym two.queue;
-      are = λ n i on few. of_endpoint d (endpoint n) (number n i) ((are n on).transfers i few);
+      are = λ n i on few. of_transfer d (endpoint n) (number n i) ((are n on).transfers i few);
       own = λ n i k on few less same. one_each (number n) (sent n).count i k (are n on).rising few less same;
       setup = λ n on. (found_each n (lines n).under on (omega arith) (way n on)).setup;
       data_at = λ n on. (found_each n (lines n).under on (omega arith) (way n on)).data_at;

@@ -1,7 +1,8 @@
 -- Once a request was accepted, its buffers hold its bytes, and what isn't lent stays (EHCI 1.0, 3.5 and 4.10).
-use Rattle.std.proofs.Common.{◌≡◌, ℕ, suc, ◌-◌, ◌*◌, ◌/◌, ◌<◌, ◌≤◌, true, false, List, [], ◌∷◌, ◌++◌, length, take, drop, get_or, Ok, ap, refl, sym, subst, ◌∙◌, ⊎_elim, arith}
+use Rattle.std.proofs.Common.{◌≡◌, ℕ, suc, ◌-◌, ◌*◌, ◌/◌, ◌<◌, ◌≤◌, true, false, List, [], ◌∷◌, ◌++◌, length, take, drop, get_or, ap, refl, sym, subst, ◌∙◌, ⊎_elim, arith}
 use Rattle.std.specs.List.{AllByRecursion}
 use Rattle.std.proofs.lemmas.Bool.{true≢false}
+use Rattle.law_world.proofs.Common.{taken_good}
 use Rattle.word_mem.specs.Memory.{Mem, IsShaped, word_at, is_lent, reaches}
 use Rattle.qh_qtd.specs.Qtd.{qtd_words}
 use Rattle.mem_runs.specs.Book.{Holding, holding, slot_of, store_words, Stands}
@@ -11,14 +12,12 @@ use Rattle.drv_table.specs.declared.content.Stage.{Stage}
 use Rattle.drv_table.specs.DriverContent.{DriverContent}
 use Rattle.drv_table.specs.Words.{dummy_qtd, needs, asks_in, request_length, setup_stage, data_stage, request_stages}
 use Rattle.drv_table.specs.Harvests.{note_at, buffer_address, buffer_bytes}
-use Rattle.drv_table.specs.Accepting.{Offered, take_runs, new_runs}
+use Rattle.drv_table.specs.Accepting.{Offered, new_runs}
 use Rattle.drv_table.specs.Offers.{note_stages, write_stages, new_transfer, with_queued}
 use Rattle.claims_driver.specs.Owners.{runs_of_endpoint, runs_of_transfer}
 use Rattle.law_driver.specs.run_owners.Accepts.{AreShort, Transfers}
 use Rattle.claims_driver.specs.Leaving.{HasOwners}
-use Rattle.law_driver.proofs.lemmas.run_owners.Taking.{runs_taken}
 use Rattle.claims_driver.specs.LentRuns.{AreLent}
-use Rattle.law_driver.proofs.lemmas.ring_members.Accepted.{shaped_taken}
 use Rattle.law_driver.specs.in_place.InPlace.{IsGood}
 use Rattle.law_driver.proofs.lemmas.in_place.Good.{words_good, stages_good}
 use Rattle.law_driver_ring.specs.Written.{AreAllApart, AreNoted, IsStageNoted, next_blocks, buffer_blocks, AwaitsLend}
@@ -33,11 +32,6 @@ use Rattle.law_reports.proofs.lemmas.requests.lemmas.request_bytes.Sending.{AreG
 use Rattle.law_reports.proofs.lemmas.requests.lemmas.request_bytes.Requests.{no_data, with_data, request_case, request_pids, request_given, request_held}
 
 -- ---- acceptance
-
-taken_good : (h g : Holding) (ns : List ℕ) → IsGood h.book h.memory → take_runs h ns ≡ Ok g → IsGood g.book g.memory
-taken_good h g ns good runs =
-    let t = runs_taken h g ns good.stands runs in
-    record { stands = t.are.stands; shape = shaped_taken t.are good.stands good.shape }
 
 module _ (d : DriverContent) (m : Mem) (o : Offered) (why : Transfers d m o) where
   abbrev g : Holding

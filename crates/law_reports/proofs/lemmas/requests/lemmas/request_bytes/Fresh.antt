@@ -3,6 +3,7 @@ use Rattle.std.proofs.Common.{◌≡◌, ◌≢◌, ℕ, zero, suc, ◌*◌, ◌
 use Rattle.std.proofs.lemmas.Bool.{cases_eq, true≢false}
 use Rattle.std.proofs.lemmas.List.{take_all}
 use Rattle.std.proofs.lemmas.Option.{same_Some}
+use Rattle.law_structures.proofs.Common.{element_is}
 use Rattle.word_mem.specs.Memory.{Mem}
 use Rattle.qh_qtd.specs.declared.qtd.Qtd.{Qtd}
 use Rattle.mem_runs.specs.Book.{Holding, holding, slot_of, lend_taken, Stands}
@@ -18,7 +19,6 @@ use Rattle.law_structures.specs.lent_structures.Sound.{element_pages, buffer_nam
 use Rattle.law_driver_ring.proofs.lemmas.harvested_streams.Harvesting.{bytes_are_read}
 use Rattle.law_driver_ring.specs.Written.{AreNoted, IsStageNoted}
 use Rattle.law_driver_ring.specs.Pieces.{stage_qtd, AreStanding, AreBuffered}
-use Rattle.law_driver_ring.proofs.Pieces.{element_is}
 use Rattle.law_queues.proofs.lemmas.fed_lends.Feeding.{places_new}
 use Rattle.law_world.proofs.lemmas.streams.lemmas.put_laws.Words.{bytes_same}
 use Rattle.hc_copy.specs.Planning.{pid_at}

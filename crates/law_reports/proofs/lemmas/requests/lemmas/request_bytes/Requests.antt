@@ -3,6 +3,7 @@ use Rattle.std.proofs.Common.{◌≡◌, ℕ, zero, suc, ◌≤◌, ◌⊎◌, B
 use Rattle.std.specs.List.{AllByRecursion}
 use Rattle.std.proofs.lemmas.Bool.{true≢false}
 use Rattle.std.proofs.lemmas.List.{take_all, length-append}
+use Rattle.law_common.proofs.Lists.{first_eight}
 use Rattle.word_mem.specs.Memory.{Mem}
 use Rattle.drv_table.specs.declared.content.QtdNote.{QtdNote}
 use Rattle.drv_table.specs.declared.content.Stage.{Stage}
@@ -52,12 +53,6 @@ data_in r read = ap (λ (b : Bool). sends (data_stage b (request_length r.setup)
 nothing : (b : Bool) → sends (status_stage b) ≡ 0
 nothing true = refl
 nothing false = refl
-
-first_eight : (xs ys : List ℕ) (n : ℕ) → length xs ≡ n → take n (xs ++ ys) ≡ xs
-first_eight [] ys zero long = refl
-first_eight [] ys (suc n) long = absurd (omega (arith, long))
-first_eight (x ∷ xs) ys zero long = absurd (omega (arith, long))
-first_eight (x ∷ xs) ys (suc n) long = ap (λ (zs : List ℕ). x ∷ zs) (first_eight xs ys n (omega (arith, long)))
 
 behind_eight : (xs ys : List ℕ) (n : ℕ) → length xs ≡ n → drop n (xs ++ ys) ≡ ys
 behind_eight [] ys zero long = refl

@@ -1,7 +1,9 @@
 -- What each stage of a transfer sends, once its stages are written, stands in the stage's buffer (EHCI 1.0, 3.5.4 and 4.10).
-use Rattle.std.proofs.Common.{◌≡◌, ◌≢◌, ℕ, zero, suc, ◌*◌, ◌<◌, ◌≤◌, Bool, true, false, nat_eq, if◌then◌else◌, List, [], ◌∷◌, length, take, drop, get_or, refl, sym, ◌∙◌, arith}
+use Rattle.std.proofs.Common.{◌≡◌, ◌≢◌, ℕ, ◌*◌, ◌<◌, ◌≤◌, List, [], ◌∷◌, length, take, drop, refl, sym, ◌∙◌, arith}
 use Rattle.std.specs.List.{AllByRecursion}
 use Rattle.std.proofs.lemmas.List.{length-take}
+use Rattle.law_driver_ring.proofs.Common.{sends_few}
+use Rattle.law_common.proofs.Lists.{small_at, small_take, small_drop}
 use Rattle.word_mem.specs.Memory.{Mem, word_at}
 use Rattle.mem_runs.specs.Book.{Book, Holding, holding, slot_of, Stands}
 use Rattle.law_driver.specs.in_place.InPlace.{IsGood}
@@ -29,28 +31,6 @@ AreSentFrom m notes [] b bytes = Unit {0}
 AreSentFrom m notes (s ∷ ss) b bytes = (buffer_bytes m (note_at notes b) (sends s) ≡ take (sends s) bytes) × AreSentFrom m notes ss (note_at notes b).next (drop (sends s) bytes)
 
 -- ---- a stage
-
-pub sends_few : (s : Stage) → sends s ≤ s.long
-sends_few s = by (nat_eq s.pid 1)
-  where
-    by : (b : Bool) → (if b then 0 else s.long) ≤ s.long
-    by true = omega arith
-    by false = omega arith
-
-small_at : (bytes : List ℕ) (i : ℕ) → AllByRecursion (λ b. b < 256) bytes → get_or bytes i 0 < 256
-small_at [] i all = omega arith
-small_at (b ∷ bs) zero all = all.0
-small_at (b ∷ bs) (suc i) all = small_at bs i all.1
-
-small_take : (bytes : List ℕ) (n : ℕ) → AllByRecursion (λ b. b < 256) bytes → AllByRecursion (λ b. b < 256) (take n bytes)
-small_take bytes zero all = tt
-small_take [] (suc n) all = tt
-small_take (b ∷ bs) (suc n) all = (all.0, small_take bs n all.1)
-
-small_drop : (bytes : List ℕ) (n : ℕ) → AllByRecursion (λ b. b < 256) bytes → AllByRecursion (λ b. b < 256) (drop n bytes)
-small_drop bytes zero all = all
-small_drop [] (suc n) all = tt
-small_drop (b ∷ bs) (suc n) all = small_drop bs n all.1
 
 fewer_words : (k : Book) (size : ℕ) (note : QtdNote) (n few : ℕ) → few ≤ n → IsBuffer k size note n → IsBuffer k size note few
 fewer_words k size note n few less is = record {

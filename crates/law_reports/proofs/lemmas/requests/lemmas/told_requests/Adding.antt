@@ -7,6 +7,7 @@ use Rattle.std.proofs.lemmas.Bool.{cond_both, and_parts}
 use Rattle.std.proofs.lemmas.Option.{get_or_from_slice_get}
 use Rattle.std.proofs.lemmas.List.{append_assoc, append-nil, map-append}
 use Rattle.std.proofs.lemmas.List.Quantifiers.{position-Some}
+use Rattle.law_common.proofs.Lists.{all_alike, map_set_same}
 use Rattle.usb_base.specs.declared.commands.Cmd.{Cmd}
 use Rattle.usb_base.specs.declared.commands.Cmd.TheVariants as commands
 use Rattle.usb_base.specs.declared.endpoints.EpName.{EpName}
@@ -35,7 +36,7 @@ use Rattle.claims_report.specs.Streams.{open_in}
 use Rattle.claims_report.specs.Requests.{request_in}
 use Rattle.law_queues.proofs.lemmas.told_endpoints.Names.{same_name_is, driver_name}
 use Rattle.bus_world.proofs.Offering.{get_asked, put_asked, request_asked}
-use Rattle.law_world.proofs.lemmas.streams.lemmas.put_laws.Mapped.{mapped, set_same}
+use Rattle.law_world.proofs.lemmas.streams.lemmas.put_laws.Mapped.{mapped}
 use Rattle.law_world.proofs.lemmas.streams.lemmas.put_laws.Stays.{desc_at, owner_at, descs_in, owners_in, Stays, stays_join, or_finished_stays}
 use Rattle.law_world.proofs.lemmas.streams.lemmas.put_laws.TakenAccepted.{AddsEndpoint, Adds as AddsPuts, opens as opens_one, puts as puts_one, others as others_more, IfAccepted, command_adds}
 
@@ -84,7 +85,7 @@ module _ (d : DriverContent) (m : Mem) (name : EpName) (takes : Endpoint → Boo
     (gives : (e : ℕ) (x : Endpoint) (c : DriverContent) → slice_get d.endpoints e ≡ Some x → x.desc.name ≡ name → takes x ≡ true → descs_in c ≡ descs_in d → owners_in c ≡ owners_in d ++ e ∷ [] → P c) where
   transfer_taken : (e : ℕ) (x : Endpoint) (r : Result Holding OfferError) → slice_get d.endpoints e ≡ Some x → x.desc.name ≡ name → takes x ≡ true → IfAccepted P (taken_transfer d e x a r)
   transfer_taken e x (Err why) here named on = tt
-  transfer_taken e x (Ok h) here named on = gives e x _ here named on (set_same desc_at d.endpoints e x _ here refl) (map-append owner_at d.transfers _)
+  transfer_taken e x (Ok h) here named on = gives e x _ here named on (map_set_same desc_at d.endpoints e x _ here refl) (map-append owner_at d.transfers _)
 
   transfer_open : (e : ℕ) (x : Endpoint) (cause : Option EndCause) → slice_get d.endpoints e ≡ Some x → x.desc.name ≡ name → takes x ≡ true → IfAccepted P (open_transfer d m e x a cause)
   transfer_open e x (Some cause) here named on = tt
@@ -114,10 +115,6 @@ descriptors_owned k e x s (suc n) seed runs a =
     ∙ ap (λ (os : List ℕ). os ++ replicate n e) (map-append owner_at a.transfers _)
     ∙ append_assoc (map owner_at a.transfers) (e ∷ []) (replicate n e)
 
-all_alike : (P : ℕ → Type 0) (n e : ℕ) → P e → AllByRecursion P (replicate n e)
-all_alike P zero e h = tt
-all_alike P (suc n) e h = (h, all_alike P n e h)
-
 no_iso : (kind : EpKind) → is_iso kind ≡ true → is_control kind ≡ false
 no_iso kinds.Control iso = absurd cc
 no_iso _ iso = refl
@@ -132,7 +129,7 @@ module _ (d : DriverContent) (m : Mem) (name : EpName) (n len seed : ℕ) where
     no_request = λ to. refl;
     more = replicate n e;
     none = all_alike (IsNoControl (descs_in d)) n e (record { desc = x.desc; here = mapped desc_at d.endpoints e x here; none = no_iso x.desc.kind iso });
-    descs = set_same desc_at d.endpoints e x _ here refl;
+    descs = map_set_same desc_at d.endpoints e x _ here refl;
     owners = descriptors_owned h.book e x.desc s n seed (new_runs d h) _;
   })
 
@@ -157,10 +154,15 @@ others_stay : (d c : DriverContent) (cmd : Cmd) → ((name : EpName) → request
 others_stay d c cmd no_request h = others (record { no_request = no_request; more = []; none = tt; descs = h.descs; owners = h.owners ∙ sym (append-nil (owners_in d)) })
 
 cancelled_stays : (d : DriverContent) (e : ℕ) (x : Endpoint) (p : Option Placement) → slice_get d.endpoints e ≡ Some x → Stays d (cancelled_by d e x p)
-cancelled_stays d e x None here = record { descs = set_same desc_at d.endpoints e x (record x { cancelled = true; ended = first_end x.ended }) here refl; owners = refl; refusals = λ n. refl }
+cancelled_stays d e x None here = record { descs = map_set_same desc_at d.endpoints e x (record x { cancelled = true; ended = first_end x.ended }) here refl; owners = refl; refusals = λ n. refl }
 cancelled_stays d e x (Some p) here =
     stays_join d (with_cancel d e x (endpoint_members d e x p)) _
-    (record { descs = set_same desc_at d.endpoints e x (record x { cancelled = true; ended = first_end x.ended }) here refl; owners = refl; refusals = λ n. refl })
+    (record {
+      descs = map_set_same desc_at d.endpoints e x (record x { cancelled = true; ended = first_end x.ended }) here refl;
+      owners =
+          refl;
+      refusals = λ n. refl;
+    })
     (or_finished_stays (with_cancel d e x (endpoint_members d e x p)) (unfinished.Unchain e))
 
 cancel_found : (d : DriverContent) (m : Mem) (name : EpName) (e : ℕ) (o : Option Endpoint) → slice_get d.endpoints e ≡ o → IfAccepted (Adds d (commands.Cancel name)) (offered_cancel d m e o)

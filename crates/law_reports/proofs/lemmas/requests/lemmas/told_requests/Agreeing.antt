@@ -6,6 +6,8 @@ use Rattle.std.proofs.lemmas.Bool.{cases_eq, eq-eqb, eqb-true, true≢false}
 use Rattle.std.proofs.lemmas.Option.{same_Some}
 use Rattle.std.proofs.lemmas.List.{append-nil, map-append}
 use Rattle.std.proofs.lemmas.List.Elements.{filter_map-append}
+use Rattle.law_world.proofs.Common.{name_differs}
+use Rattle.law_common.proofs.Lists.{push_which, still_there, all_more, each_here}
 use Rattle.usb_base.specs.declared.commands.Cmd.{Cmd}
 use Rattle.usb_base.specs.declared.commands.Cmd.TheVariants as commands
 use Rattle.usb_base.specs.declared.endpoints.EpName.{EpName}
@@ -14,8 +16,7 @@ use Rattle.drv_table.specs.declared.content.Transfer.{Transfer}
 use Rattle.drv_table.specs.Words.{is_control}
 use Rattle.bus_wire.specs.Fates.{is_same_name}
 use Rattle.claims_report.specs.Requests.{Request, request_in}
-use Rattle.law_queues.proofs.lemmas.told_endpoints.Names.{same_name_is, name_is_same}
-use Rattle.law_world.proofs.lemmas.streams.lemmas.put_laws.Mapped.{push_which, push_there, all_more, all_here}
+use Rattle.law_queues.proofs.lemmas.told_endpoints.Names.{name_is_same}
 use Rattle.law_world.proofs.lemmas.streams.lemmas.put_laws.Stays.{owner_at}
 use Rattle.law_world.proofs.lemmas.streams.lemmas.put_laws.Agreeing.{HasNone}
 use Rattle.claims_world.specs.Requests.{numbers_from}
@@ -113,11 +114,11 @@ pub agrees_open : (descs : List EpDesc) (owners : List ℕ) (cmds : List Cmd) (a
     → Agrees (descs ++ x ∷ []) owners (cmds ++ commands.OpenEp x ∷ []) asks
 agrees_open descs owners cmds asks x new within old = record {
   each = λ e z here on. each_by e z on (push_which descs x e z here);
-  others = λ name none. asked_same cmds (commands.OpenEp x) name refl ∙ old.others name (λ e z here. none e z (push_there descs (x ∷ []) e z here));
+  others = λ name none. asked_same cmds (commands.OpenEp x) name refl ∙ old.others name (λ e z here. none e z (still_there descs (x ∷ []) e z here));
 }
   where
     none_yet : numbers_in (length descs) 0 owners ≡ []
-    none_yet = numbers_none (length descs) 0 owners (all_here (λ o. o ≢ length descs) owners (λ t o here same. let low = within t o here in absurd (omega (arith, low, same))))
+    none_yet = numbers_none (length descs) 0 owners (each_here (λ o. o ≢ length descs) owners (λ t o here same. let low = within t o here in absurd (omega (arith, low, same))))
 
     each_by : (e : ℕ) (z : EpDesc) → is_control z.kind ≡ true → (slice_get descs e ≡ Some z) ⊎ ((e ≡ length descs) × (z ≡ x)) → asked_of asks e owners ≡ asked_in (cmds ++ commands.OpenEp x ∷ []) z.name
     each_by e z on which = ⊎_elim
@@ -127,10 +128,6 @@ agrees_open descs owners cmds asks x new within old = record {
         ∙ sym (asked_same cmds (commands.OpenEp x) z.name refl ∙ old.others z.name (λ k y here same. new k y here (same ∙ ap (λ (w : EpDesc). w.name) own.1)))) which
 
 -- ---- a request more
-
-name_differs : (a b : EpName) (t : Bool) → is_same_name a b ≡ t → a ≢ b → t ≡ false
-name_differs a b true is differs = absurd (differs (same_name_is a b is))
-name_differs a b false is differs = refl
 
 abbrev asked_one : List ℕ → List ℕ → Request
 asked_one setup bytes = record { setup = setup; bytes = bytes }

@@ -5,6 +5,10 @@ use Rattle.std.specs.List.{AllByRecursion, cons_option}
 use Rattle.std.proofs.lemmas.Bool.{eq-eqb, eqb-true}
 use Rattle.std.proofs.lemmas.List.{append-nil, length-map}
 use Rattle.std.proofs.lemmas.List.Elements.{filter_map-append}
+use Rattle.law_reports.proofs.Common.{asked_before}
+use Rattle.law_world.proofs.Common.{each_alike}
+use Rattle.law_common.proofs.Options.{either_none}
+use Rattle.law_common.proofs.Lists.{all_more, nth_all}
 use Rattle.usb_base.specs.declared.commands.Cmd.{Cmd}
 use Rattle.usb_base.specs.declared.commands.Cmd.TheVariants as commands
 use Rattle.usb_base.specs.declared.endpoints.EpDesc.{EpDesc}
@@ -25,7 +29,7 @@ use Rattle.bus_world.specs.World.{World, driver_parts, driver_next, next, name_i
 use Rattle.bus_world.proofs.Offering.{SameLines, Lines, offer_lines}
 use Rattle.claims_world.specs.Streams.{report_of}
 use Rattle.law_world.specs.streams.put_laws.TakenPuts.{PutsAreTaken}
-use Rattle.law_world.proofs.lemmas.streams.lemmas.put_laws.Mapped.{was_mapped, mapped, all_more, all_there}
+use Rattle.law_world.proofs.lemmas.streams.lemmas.put_laws.Mapped.{was_mapped, mapped}
 use Rattle.law_world.proofs.lemmas.streams.lemmas.put_laws.Stays.{desc_at, owner_at, descs_in, owners_in, refuses, refuses_more, event_stays}
 use Rattle.law_world.proofs.lemmas.streams.lemmas.put_laws.TakenAccepted.{IfAccepted}
 use Rattle.law_world.proofs.lemmas.streams.lemmas.put_laws.Steps.{accepted_of, to_agrees}
@@ -67,10 +71,6 @@ alike_accepted r now (l ∷ ls) same =
     ap (λ (b : Bool). cons_option (if b then None else command_in l.1) (accepted_of now ls)) same.0
     ∙ ap (λ (rest : List Cmd). cons_option (accepted_in r l) rest) (alike_accepted r now ls same.1)
 
-each_alike : (r now : WholeReport) (taken : List (ℕ × Line)) → ((n : ℕ) → is_refused now n ≡ is_refused r n) → AllByRecursion (λ (l : ℕ × Line). is_refused now l.0 ≡ is_refused r l.0) taken
-each_alike r now [] same = tt
-each_alike r now (l ∷ ls) same = (same l.0, each_alike r now ls same)
-
 -- the driver and the report may change otherwise
 requests_stay : (d c : DriverContent) (r now : WholeReport) (taken : List (ℕ × Line)) (asks : ℕ → Request) → descs_in c ≡ descs_in d → owners_in c ≡ owners_in d → ((n : ℕ) → is_refused now n ≡ is_refused r n)
     → RequestsAreTaken d r taken asks → RequestsAreTaken c now taken asks
@@ -91,10 +91,6 @@ event_keeps_requests fixed w events.C taken asks h = requests_stay w.driver w.dr
 accepted_push : (r : WholeReport) (taken : List (ℕ × Line)) (l : ℕ × Line) (o : Option Cmd) → accepted_in r l ≡ o → accepted_of r (taken ++ l ∷ []) ≡ accepted_of r taken ++ cons_option o []
 accepted_push r taken l o is = filter_map-append (accepted_in r) taken (l ∷ []) ∙ ap (λ (z : Option Cmd). accepted_of r taken ++ cons_option z []) is
 
-either_none : {X : Type 0} (b : Bool) (o : Option X) → o ≡ None → (if b then None else o) ≡ None
-either_none true o is = refl
-either_none false o is = is
-
 pub silent_requests : (d : DriverContent) (r : WholeReport) (taken : List (ℕ × Line)) (l : ℕ × Line) (asks : ℕ → Request) → command_in l.1 ≡ None → RequestsAreTaken d r taken asks → RequestsAreTaken d r (taken ++ l ∷ []) asks
 silent_requests d r taken l asks none h =
     from_lists d r (taken ++ l ∷ []) asks
@@ -111,25 +107,11 @@ number_new d r n taken puts before h = by (is_refused r n) refl
     by false is = refl
     by true is =
         let k = h.refused n is in
-        let low = all_there (λ (l : ℕ × Line). l.0 < n) taken k.at (n, lines.Command k.cmd) before k.here in
+        let low = nth_all (λ (l : ℕ × Line). l.0 < n) taken k.at (n, lines.Command k.cmd) before k.here in
         absurd (omega (arith, low))
 
--- the requests of the transfers that the driver has
-pub then_before : (d : DriverContent) (cmd : Cmd) (asks : ℕ → Request) (t : ℕ) → t < length d.transfers → asks_then d cmd asks t ≡ asks t
-then_before d (commands.Control name setup bytes) asks t low = at (t == length d.transfers) refl
-  where
-    at : (b : Bool) → (t == length d.transfers) ≡ b → (if b then record { setup = setup; bytes = bytes } else asks t) ≡ asks t
-    at false is = refl
-    at true is = let same = eqb-true t (length d.transfers) is in absurd (omega (arith, low, same))
-then_before d (commands.OpenEp x) asks t low = refl
-then_before d (commands.Get name len by) asks t low = refl
-then_before d (commands.Put name bytes by) asks t low = refl
-then_before d (commands.Iso name count len seed) asks t low = refl
-then_before d (commands.Cancel name) asks t low = refl
-then_before d _ asks t low = refl
-
 pub then_owned : (d : DriverContent) (cmd : Cmd) (asks : ℕ → Request) (t : ℕ) → t < length (owners_in d) → asks_then d cmd asks t ≡ asks t
-then_owned d cmd asks t low = let long = length-map d.transfers owner_at in then_before d cmd asks t (omega (arith, low, long))
+then_owned d cmd asks t low = let long = length-map d.transfers owner_at in asked_before d cmd asks t (omega (arith, low, long))
 
 ask_last : (d : DriverContent) (name : EpName) (setup bytes : List ℕ) (asks : ℕ → Request) → asks_then d (commands.Control name setup bytes) asks (length (owners_in d)) ≡ record { setup = setup; bytes = bytes }
 ask_last d name setup bytes asks =

@@ -1,10 +1,11 @@
 -- The closing line of a control endpoint tells how often its device acted.
-use Rattle.std.proofs.Common.{◌≡◌, ℕ, zero, suc, ◌<◌, nat_lt, ◌==◌, Bool, true, false, if◌then◌else◌, List, [], ◌∷◌, ◌++◌, filter_map, find, slice_get, Option, Some, None, ap, refl, sym, subst, ◌∙◌, ⊎_elim, inl, inr, arith}
+use Rattle.std.proofs.Common.{◌≡◌, ℕ, zero, suc, nat_lt, ◌==◌, Bool, true, false, if◌then◌else◌, List, [], ◌∷◌, ◌++◌, filter_map, find, slice_get, Option, Some, None, ap, refl, sym, subst, ◌∙◌, ⊎_elim, inl, inr}
 use Rattle.std.specs.Prelude.{◌⊎◌}
 use Rattle.std.specs.List.{flat_map, cons_option}
-use Rattle.std.proofs.lemmas.Bool.{eq-eqb, eqb-true}
+use Rattle.std.proofs.lemmas.Bool.{eq-eqb}
 use Rattle.std.proofs.lemmas.Option.{same_Some}
 use Rattle.std.proofs.lemmas.List.Elements.{filter_map-append}
+use Rattle.law_world.proofs.Common.{device_found}
 use Rattle.usb_base.specs.declared.endpoints.EpName.{EpName}
 use Rattle.usb_base.specs.declared.packets.EpKind.{EpKind}
 use Rattle.usb_base.specs.declared.packets.EpKind.TheVariants as Kinds
@@ -22,25 +23,8 @@ use Rattle.law_queues.proofs.lemmas.told_endpoints.Names.{same_name_is, name_is_
 use Rattle.bus_world.specs.World.{World}
 use Rattle.bus_world.specs.Closing.{waiting, hub_of}
 use Rattle.claims_world.specs.Streams.{waiting_closing, device_closing, told_closing, opened_closings, seat_closings}
-use Rattle.law_world.specs.streams.taken_reports.Seats.{AreApart}
 use Rattle.claims_world.specs.Requests.{wired}
 use Rattle.law_reports.specs.requests.told_requests.Closing.{ClosingTellsActed}
-
--- ---- the device of an address
-
-first_found : {X : Type 0} (p : X → Bool) (xs : List X) (k : ℕ) (x : X) → slice_get xs k ≡ Some x → p x ≡ true → ((i : ℕ) (y : X) → i < k → slice_get xs i ≡ Some y → p y ≡ false) → find p xs ≡ Some x
-first_found p [] zero x here is before = absurd cc
-first_found p [] (suc k) x here is before = absurd cc
-first_found p (y ∷ ys) zero x here is before = ap (λ (b : Bool). if b then Some y else find p ys) (ap p (same_Some y x here) ∙ is) ∙ here
-first_found p (y ∷ ys) (suc k) x here is before =
-    ap (λ (b : Bool). if b then Some y else find p ys) (before 0 y (omega arith) refl) ∙ first_found p ys k x here is (λ i z less there. before (suc i) z (omega (arith, less)) there)
-
-device_found : (devices : List Device) (n a : ℕ) (d : Device) → AreApart devices → slice_get devices n ≡ Some d → a ≡ d.address → find (λ e. e.address == a) devices ≡ Some d
-device_found devices n a d apart here same = first_found (λ e. e.address == a) devices n d here (eq-eqb d.address a (sym same)) (λ i e less there. others i e less there (e.address == a) refl)
-  where
-    others : (i : ℕ) (e : Device) → i < n → slice_get devices i ≡ Some e → (b : Bool) → (e.address == a) ≡ b → (e.address == a) ≡ false
-    others i e less there true is = let alike : i ≡ n = apart i n e d there here (eqb-true e.address a is ∙ same) in absurd (omega (arith, less, alike))
-    others i e less there false is = is
 
 -- ---- how often it acted
 

@@ -5,6 +5,8 @@ use Rattle.std.proofs.lemmas.Bool.{false≢true}
 use Rattle.std.proofs.lemmas.List.{append-nil, take_all}
 use Rattle.std.proofs.lemmas.List.Sums.{sum_by-cons}
 use Rattle.std.proofs.Math.Seq.{drop-nil}
+use Rattle.law_common.proofs.Booleans.{refused_by, is_left}
+use Rattle.law_resting.proofs.Common.{drop_set}
 use Rattle.usb_base.specs.declared.endpoints.EpName.{EpName}
 use Rattle.usb_base.specs.declared.endpoints.EndCause.TheVariants.{Stall}
 use Rattle.usb_base.specs.declared.reports.What.{What}
@@ -24,19 +26,9 @@ use Rattle.law_reports.proofs.lemmas.requests.lemmas.told_requests.Lines.{line_i
 
 -- ---- whose line it is
 
-own_by : (a b : Bool) → a ≡ true → b ≡ false → (a && not b) ≡ true
-own_by true false same plain = refl
-own_by true true same plain = absurd (false≢true (sym plain))
-own_by false b same plain = absurd (false≢true same)
-
 other_name : (a b : Bool) → a ≡ false → (a && not b) ≡ false
 other_name false b is = refl
 other_name true b is = absurd (false≢true (sym is))
-
-other_what : (a b : Bool) → b ≡ true → (a && not b) ≡ false
-other_what true true is = refl
-other_what false true is = refl
-other_what a false is = absurd (false≢true is)
 
 -- ---- one line
 
@@ -45,13 +37,13 @@ module _ (d : DriverContent) (what : What) (name : EpName) (bytes : List ℕ) (w
   own_told plain is k =
       line_is_told d.reports d.store bytes name whole ws left
       (record { name = name; what = what; from = length d.store; len = length bytes })
-      (record { own = own_by (is_same_name name name) (is_refusal what) (name_is_same name) plain; from = refl; long = refl; is = is }) k
+      (record { own = is_left (is_same_name name name) (is_refusal what) (name_is_same name) plain; from = refl; long = refl; is = is }) k
 
 pub others_stay : OthersStay
 others_stay d what other name bytes whole ws left (inl unlike) k =
     other_line_is_told d.reports d.store bytes name whole ws left (record { name = other; what = what; from = length d.store; len = length bytes }) (other_name (is_same_name other name) (is_refusal what) unlike) k
 others_stay d what other name bytes whole ws left (inr refusal) k =
-    other_line_is_told d.reports d.store bytes name whole ws left (record { name = other; what = what; from = length d.store; len = length bytes }) (other_what (is_same_name other name) (is_refusal what) refusal) k
+    other_line_is_told d.reports d.store bytes name whole ws left (record { name = other; what = what; from = length d.store; len = length bytes }) (refused_by (is_same_name other name) (is_refusal what) refusal) k
 
 pub done_is_told : DoneIsTold
 done_is_told d m t y notes name whole ws rest w acts bytes k = own_told d Done name (take y.most (moved_bytes notes m y.first y.qtds)) whole ws (w ∷ rest) refl (acts, bytes) k
@@ -62,7 +54,7 @@ halt_is_told d m t y cause notes name whole ws rest w begins k = own_told d (Hal
 pub refusal_stays : RefusalStays
 refusal_stays d n other name why whole ws left k =
     subst (λ (store : List ℕ). AreToldTo (refused_line d n other why).reports store name whole ws left) (append-nil d.store)
-    (other_line_is_told d.reports d.store [] name whole ws left (record { name = other; what = Refused n why; from = length d.store; len = 0 }) (other_what (is_same_name other name) true refl) k)
+    (other_line_is_told d.reports d.store [] name whole ws left (record { name = other; what = Refused n why; from = length d.store; len = 0 }) (refused_by (is_same_name other name) true refl) k)
 
 -- ---- requests behind a stalled one
 
@@ -73,11 +65,6 @@ one_if b = cond b 1 0
 abbrev pub count_in : ℕ → Option Transfer → ℕ
 count_in e None = 0
 count_in e (Some y) = one_if (waits_for e y)
-
-pub drop_set : (xs : List Transfer) (k : ℕ) (z : Transfer) → drop (suc k) (set xs k z) ≡ drop (suc k) xs
-drop_set [] k z = refl
-drop_set (x ∷ xs) zero z = refl
-drop_set (x ∷ xs) (suc k) z = drop_set xs k z
 
 pub count_first : (e : ℕ) (ys : List Transfer) (k n : ℕ) → count_by (waits_for e) (take (suc n) (drop k ys)) ≡ count_in e (slice_get ys k) + count_by (waits_for e) (take n (drop (suc k) ys))
 count_first e [] zero zero = refl

@@ -2,6 +2,8 @@
 use Rattle.std.proofs.Common.{◌≡◌, ℕ, suc, ◌≤◌, Bool, true, false, if◌then◌else◌, List, [], ◌∷◌, ◌++◌, length, take, drop, set, slice_get, Option, Some, None, refl, sym, subst, ◌∙◌, inl, inr}
 use Rattle.std.specs.Prelude.{◌⊎◌, count_by}
 use Rattle.std.proofs.lemmas.Bool.{false≢true}
+use Rattle.law_reports.proofs.Common.{either_way}
+use Rattle.law_resting.proofs.Common.{drop_set}
 use Rattle.usb_base.specs.declared.endpoints.EpName.{EpName}
 use Rattle.usb_base.specs.declared.endpoints.EndCause.{EndCause}
 use Rattle.usb_base.specs.declared.endpoints.EndCause.TheVariants.{Stall}
@@ -24,11 +26,7 @@ use Rattle.drv_table.specs.Releases.{cancelled_bytes, is_told, gone_with, after_
 use Rattle.drv_table.specs.Removals.{removed_with, after_placed, free_placed}
 use Rattle.law_reports.specs.requests.told_requests.Told.{RequestsAreToldTo}
 use Rattle.law_reports.specs.requests.told_requests.Rows.{OtherHarvestsStay, OtherReturnsStay, IsHarvested, bytes_with, HarvestGoesOn, HarvestEnds, HarvestStalls}
-use Rattle.law_reports.proofs.lemmas.requests.lemmas.told_requests.Driver.{own_told, others_stay, other_behind, drop_set, stalled_are_told}
-
-either : (P : DriverContent → Type 0) (b : Bool) (c d : DriverContent) → P c → P d → P (if b then c else d)
-either P true c d h k = h
-either P false c d h k = k
+use Rattle.law_reports.proofs.lemmas.requests.lemmas.told_requests.Driver.{own_told, others_stay, other_behind, stalled_are_told}
 
 -- ---- of another endpoint
 
@@ -65,7 +63,7 @@ module _ (name : EpName) (whole : Request → List ℕ) (ws left : List Window) 
   other_harvest d m e t found None None unlike k = k
   other_harvest d m e t found None (Some y) unlike k = k
   other_harvest d m e t found (Some x) None unlike k = k
-  other_harvest d m e t found (Some x) (Some y) unlike k = either Told (waits_for e y) (served (harvested_as d m e t x y found) e) d (other_found m e t x (unlike x refl) d y found k) k
+  other_harvest d m e t found (Some x) (Some y) unlike k = either_way Told (waits_for e y) (served (harvested_as d m e t x y found) e) d (other_found m e t x (unlike x refl) d y found k) k
 
   -- ---- returns
 

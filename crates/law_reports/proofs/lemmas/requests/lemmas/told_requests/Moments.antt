@@ -2,6 +2,9 @@
 use Rattle.std.proofs.Common.{◌≡◌, ℕ, zero, suc, ◌<◌, true, false, List, [], ◌∷◌, ◌++◌, length, filter_map, slice_get, Some, ap, sym, subst, refl, ◌∙◌, inl, inr}
 use Rattle.std.proofs.lemmas.List.{append_assoc}
 use Rattle.std.proofs.lemmas.List.Elements.{filter_map-append}
+use Rattle.law_queues.proofs.Common.{no_endpoint}
+use Rattle.law_world.proofs.Common2.{no_transfer}
+use Rattle.law_reports.proofs.Common.{asked_before}
 use Rattle.usb_base.specs.declared.endpoints.EpName.{EpName}
 use Rattle.script_types.specs.declared.scripts.Event.TheVariants as events
 use Rattle.script_types.specs.declared.scripts.Line.{Line}
@@ -9,7 +12,6 @@ use Rattle.script_types.specs.declared.scripts.Line.TheVariants as lines
 use Rattle.script_types.specs.declared.scripts.Script.{Script}
 use Rattle.bus_wire.specs.Bus.{fixed_of}
 use Rattle.drv_table.specs.declared.content.Endpoint.{Endpoint}
-use Rattle.drv_table.specs.declared.content.Transfer.{Transfer}
 use Rattle.drv_table.specs.Words.{is_control}
 use Rattle.claims_report.specs.Reports.{WholeReport}
 use Rattle.claims_report.specs.Streams.{accepted_in}
@@ -27,7 +29,7 @@ use Rattle.law_world.proofs.lemmas.streams.lemmas.put_laws.Ends.{all_are_taken}
 use Rattle.claims_world.specs.Requests.{no_asks, asks_by, asks_next, asks_at}
 use Rattle.law_reports.specs.requests.told_requests.Asked.{requests_of, requests_to, RequestsAreTaken, HasAsked, RequestsAreAsked}
 use Rattle.law_reports.specs.requests.told_requests.AskedLaws.{TickTakesRequests, MomentsTakeRequests, MomentsAsk, AsksStay}
-use Rattle.law_reports.proofs.lemmas.requests.lemmas.told_requests.Asking.{event_keeps_requests, silent_requests, command_takes_requests, then_before}
+use Rattle.law_reports.proofs.lemmas.requests.lemmas.told_requests.Asking.{event_keeps_requests, silent_requests, command_takes_requests}
 
 -- ---- one event or command
 
@@ -112,7 +114,7 @@ tick_takes_requests s p puts asks rise h =
 -- ---- the requests of transfers stay
 
 stay_by : (w : World) (x : Left) (asks : ℕ → Request) (t : ℕ) → t < length w.driver.transfers → asks_by w x asks t ≡ asks t
-stay_by w (Command n cmd) asks t low = then_before w.driver cmd asks t low
+stay_by w (Command n cmd) asks t low = asked_before w.driver cmd asks t low
 stay_by w _ asks t low = refl
 
 stay_at : (w : World) (orders : List Left) (asks : ℕ → Request) (t : ℕ) → t < length w.driver.transfers → asks_next w orders asks t ≡ asks t
@@ -123,12 +125,6 @@ pub asks_stay : AsksStay
 asks_stay p asks t low = stay_at p.world p.orders asks t low
 
 -- ---- each moment
-
-no_endpoint : (e : ℕ) (x : Endpoint) → slice_get {X = Endpoint} [] e ≡ Some x → ⊥
-no_endpoint e x there = cc
-
-no_transfer : (t : ℕ) (y : Transfer) → slice_get {X = Transfer} [] t ≡ Some y → ⊥
-no_transfer t y there = cc
 
 opening_asked : (s : Script) → HasAsked s (at_place (opening_world s) (orders_of s.lines)) no_puts no_asks
 opening_asked s = record {

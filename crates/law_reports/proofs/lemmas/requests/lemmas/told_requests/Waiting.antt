@@ -1,9 +1,10 @@
 -- How many transfers of an endpoint aren't reported.
 use Rattle.std.proofs.Common.{◌≡◌, ◌≢◌, ℕ, zero, suc, ◌+◌, ◌-◌, ◌≤◌, ◌==◌, ◌&&◌, not, Bool, true, false, cond, if◌then◌else◌, List, [], ◌∷◌, ◌++◌, length, map, take, drop, set, slice_get, Option, Some, None, ap, refl, sym, ◌∙◌, arith}
 use Rattle.std.specs.Prelude.{count_by, nat_lt, is_none}
-use Rattle.std.proofs.lemmas.Bool.{true≢false, false≢true, eqb-true}
+use Rattle.std.proofs.lemmas.Bool.{true≢false, eqb-true}
 use Rattle.std.proofs.lemmas.Option.{same_Some}
 use Rattle.std.proofs.lemmas.List.Sums.{sum_by-append, sum_by-cons}
+use Rattle.law_common.proofs.Booleans.{and_none}
 use Rattle.usb_base.specs.declared.endpoints.EpName.{EpName}
 use Rattle.usb_base.specs.declared.endpoints.EndCause.TheVariants.{Stall}
 use Rattle.usb_base.specs.declared.reports.What.TheVariants.{Halt}
@@ -87,14 +88,6 @@ count_dropped k (suc t) (x ∷ xs) y here on =
     omega (arith, one, rest)
 
 -- ---- whose transfer it is
-
-pub and_first : (a b : Bool) → (a && b) ≡ true → a ≡ true
-and_first true b e = refl
-and_first false b e = absurd (false≢true e)
-
-and_none : (a b : Bool) → a ≡ false → (a && b) ≡ false
-and_none false b e = refl
-and_none true b e = absurd (true≢false e)
 
 not_of : (i e k : ℕ) → (i == e) ≡ true → e ≢ k → (b : Bool) → (i == k) ≡ b → b ≡ false
 not_of i e k own differs true is = absurd (differs (sym (eqb-true i e own) ∙ eqb-true i k is))

@@ -2,6 +2,8 @@
 use Rattle.std.proofs.Common.{◌≡◌, ◌≢◌, ℕ, zero, suc, ◌+◌, ◌-◌, ◌==◌, ◌&&◌, ◌||◌, not, Bool, true, false, if◌then◌else◌, List, [], ◌∷◌, ◌++◌, length, take, drop, set, slice_get, Option, Some, None, ap, refl, sym, subst, ◌∙◌, arith}
 use Rattle.std.specs.Prelude.{count_by}
 use Rattle.std.proofs.lemmas.Bool.{cond_both}
+use Rattle.law_common.proofs.Booleans.{and_false, first_of_both}
+use Rattle.law_resting.proofs.Common.{drop_set}
 use Rattle.usb_base.specs.declared.endpoints.EpName.{EpName}
 use Rattle.usb_base.specs.declared.endpoints.EndCause.{EndCause}
 use Rattle.usb_base.specs.declared.endpoints.EndCause.TheVariants.{Stall}
@@ -21,8 +23,8 @@ use Rattle.drv_table.specs.Releases.{cancelled_bytes, is_told, let_go, gone_with
 use Rattle.drv_table.specs.Removals.{let_go_waiting, let_go_placed, removed_with, after_placed, free_placed}
 use Rattle.law_reports.specs.requests.told_requests.Rows.{IsHarvested}
 use Rattle.law_reports.specs.requests.told_requests.Waiting.{waiting, OtherHarvestKeepsWaiting, OtherReturnsKeepWaiting, HarvestKeepsWaiting, HarvestEndsOne, HarvestStallsAll, StallHasWindows}
-use Rattle.law_reports.proofs.lemmas.requests.lemmas.told_requests.Driver.{drop_set, dropped_all}
-use Rattle.law_reports.proofs.lemmas.requests.lemmas.told_requests.Waiting.{either, set_same, set_less, map_same, count_dropped, and_first, other_waits, behind_waits}
+use Rattle.law_reports.proofs.lemmas.requests.lemmas.told_requests.Driver.{dropped_all}
+use Rattle.law_reports.proofs.lemmas.requests.lemmas.told_requests.Waiting.{either, set_same, set_less, map_same, count_dropped, other_waits, behind_waits}
 
 -- ---- of another endpoint
 
@@ -33,7 +35,7 @@ module _ (e k : ℕ) (differs : e ≢ k) where
   -- a transfer of that endpoint is changed to another of it
   other_set : (ys : List Transfer) (t : ℕ) (y z : Transfer) → slice_get ys t ≡ Some y → waits_for e y ≡ true → z.endpoint ≡ y.endpoint → count_by (waits_for k) (set ys t z) ≡ count_by (waits_for k) ys
   other_set ys t y z here on same =
-      let own : (y.endpoint == e) ≡ true = and_first (y.endpoint == e) (not y.reported) on in
+      let own : (y.endpoint == e) ≡ true = first_of_both (y.endpoint == e) (not y.reported) on in
       set_same k ys t y z here
       (ap (λ (i : ℕ). (i == k) && not z.reported) same ∙ other_waits e k y.endpoint z.reported own differs ∙ sym (other_waits e k y.endpoint y.reported own differs))
 
@@ -76,7 +78,7 @@ module _ (e k : ℕ) (differs : e ≢ k) where
   let_go_waiting_other told y =
       cond_both (waits_for e y) _ y (λ (z : Transfer). waits_for k z ≡ waits_for k y)
       (λ on.
-      let own : (y.endpoint == e) ≡ true = and_first (y.endpoint == e) (not y.reported) on in
+      let own : (y.endpoint == e) ≡ true = first_of_both (y.endpoint == e) (not y.reported) on in
       other_waits e k y.endpoint (y.reported || told) own differs ∙ sym (other_waits e k y.endpoint y.reported own differs)) (λ off. refl)
 
   placed_other : (iso told : Bool) (y : Transfer) → waits_for k (let_go_placed iso e told y) ≡ waits_for k y
@@ -117,12 +119,8 @@ module _ (p : Parts) (e t : ℕ) (x : Endpoint) (y : Transfer) (h : IsHarvested 
       (subst (λ (o : Option Transfer). P (waiting (after_harvest p.driver p.memory e t found (Some x) o) e)) (sym h.there)
       (subst (λ (b : Bool). P (waiting (if b then served (harvested_as p.driver p.memory e t x y found) e else p.driver) e)) (sym h.waits) k))
 
-and_off : (a : Bool) → (a && false) ≡ false
-and_off true = refl
-and_off false = refl
-
 one_less : (p : Parts) (e t : ℕ) (x : Endpoint) (y : Transfer) → IsHarvested p e t x y → suc (count_by (waits_for e) (set p.driver.transfers t (record y { reported = true }))) ≡ waiting p.driver e
-one_less p e t x y h = set_less e p.driver.transfers t y (record y { reported = true }) h.there h.waits (and_off (y.endpoint == e))
+one_less p e t x y h = set_less e p.driver.transfers t y (record y { reported = true }) h.there h.waits (and_false (y.endpoint == e))
 
 pub harvest_keeps_waiting : HarvestKeepsWaiting
 harvest_keeps_waiting p e t n x y h = (

@@ -1,7 +1,8 @@
 -- The windows that are told of, and those that are left.
-use Rattle.std.proofs.Common.{◌≡◌, ℕ, suc, ◌||◌, Bool, true, false, List, [], ◌∷◌, ◌++◌, length, ap, refl, sym, subst, ◌∙◌}
+use Rattle.std.proofs.Common.{◌≡◌, ℕ, suc, false, List, [], ◌∷◌, ◌++◌, length, ap, refl, sym, subst, ◌∙◌}
 use Rattle.std.proofs.lemmas.Bool.{false≢true}
 use Rattle.std.proofs.lemmas.List.{append_cancel_right}
+use Rattle.law_common.proofs.Booleans.{or_both}
 use Rattle.usb_base.specs.declared.reports.Report.{Report}
 use Rattle.usb_base.specs.declared.reports.What.{What}
 use Rattle.usb_base.specs.declared.reports.What.TheVariants as lines
@@ -10,10 +11,6 @@ use Rattle.report_text.specs.ReportText.{bytes_of}
 use Rattle.law_queues.specs.told_endpoints.Telling.{lines_in}
 use Rattle.law_reports.specs.requests.told_requests.Told.{left_after, is_cancel, has_cancel}
 use Rattle.law_reports.specs.requests.told_requests.Steps.{WindowsHaveFront, WindowsGrow}
-
-or_both : (a b : Bool) → (a || b) ≡ false → (a ≡ false) × (b ≡ false)
-or_both false b e = (refl, e)
-or_both true b e = absurd (false≢true (sym e))
 
 -- a line that is no cancel takes the first window
 record TakesFirst (whole : Request → List ℕ) (what : What) (bytes : List ℕ) (ws : List Window) : Type 0 where

@@ -2,12 +2,12 @@
 use Rattle.std.proofs.Common.{◌≡◌, ◌≢◌, ℕ, suc, ◌<◌, ◌&&◌, Bool, true, false, if◌then◌else◌, List, Option, Some, None, ap, refl, sym, subst, ◌∙◌, ⊎_elim}
 use Rattle.std.proofs.lemmas.Bool.{cases_eq, eq-eqb, false≢true}
 use Rattle.std.proofs.lemmas.Option.{same_Some}
+use Rattle.law_common.proofs.Numbers.{other_number}
 use Rattle.qh_qtd.specs.declared.queue_head.Qh.{Qh}
 use Rattle.toggle_error.specs.declared.host.HostSide.{HostSide}
 use Rattle.hc_copy.specs.Planning.{host_in}
 use Rattle.async_walk.specs.declared.state.WalkStep.{WalkStep}
 use Rattle.law_structures.specs.lent_structures.Structures.{Structures, StructureSets}
-use Rattle.law_structures.proofs.lemmas.lent_structures.Names.{not_same}
 use Rattle.law_structures.proofs.lemmas.lent_structures.Altering.{found_queue}
 use Rattle.hc_core.specs.declared.controller.MicroframePart.TheVariants.{Asynchronous}
 use Rattle.bus_wire.specs.declared.asked.Losses.{Losses}
@@ -123,7 +123,7 @@ module _ (fixed : Fixed) (base : Base) (member windows : ℕ → Bool) (sent : �
   no_step n is = ap (λ (s : Option Step). stepped sent s lines n) is
 
   step_beside : (n at : ℕ) (p : Progress) → g.step ≡ Some (record { at = at; is = p }) → n ≢ at → stepped sent g.step lines n ≡ lines n
-  step_beside n at p is differs = ap (λ (s : Option Step). stepped sent s lines n) is ∙ ap (λ (b : Bool). if b then progressed (sent n) p (lines n) else lines n) (not_same n at differs)
+  step_beside n at p is differs = ap (λ (s : Option Step). stepped sent s lines n) is ∙ ap (λ (b : Bool). if b then progressed (sent n) p (lines n) else lines n) (other_number n at differs)
 
   step_here : (n at : ℕ) (p : Progress) → g.step ≡ Some (record { at = at; is = p }) → n ≡ at → stepped sent g.step lines n ≡ progressed (sent n) p (lines n)
   step_here n at p is same = ap (λ (s : Option Step). stepped sent s lines n) is ∙ ap (λ (b : Bool). if b then progressed (sent n) p (lines n) else lines n) (eq-eqb n at same)

@@ -1,7 +1,8 @@
 -- What an event records for the requests of one queue.
-use Rattle.std.proofs.Common.{◌≡◌, ◌≢◌, ℕ, suc, ◌<◌, ◌==◌, Bool, true, false, if◌then◌else◌, List, [], ◌++◌, Option, Some, None, ap, refl, sym, subst, ◌∙◌, ⊎_elim, inl, inr, arith}
+use Rattle.std.proofs.Common.{◌≡◌, ◌≢◌, ℕ, suc, ◌<◌, ◌==◌, Bool, if◌then◌else◌, List, [], ◌++◌, Option, Some, None, ap, refl, sym, subst, ◌∙◌, ⊎_elim, inl, inr, arith}
 use Rattle.std.proofs.lemmas.Bool.{cases_eq, eq-eqb}
-use Rattle.law_structures.proofs.lemmas.lent_structures.Names.{not_same}
+use Rattle.law_common.proofs.Lists.{none_more}
+use Rattle.law_common.proofs.Numbers.{other_number}
 use Rattle.bus_wire.specs.declared.asked.Losses.{Losses}
 use Rattle.drv_table.specs.DriverContent.{DriverContent}
 use Rattle.law_request.specs.Host.{Setup}
@@ -16,7 +17,7 @@ use Rattle.law_reports.proofs.lemmas.requests.lemmas.world_requests.Acting.{tran
 
 beside_opens : (e t : ℕ) (o before : Option ℕ) → (o ≢ Some e) → (if is_at e o then Some t else before) ≡ before
 beside_opens e t None before apart = refl
-beside_opens e t (Some k) before apart = ap (λ (b : Bool). if b then Some t else before) (not_same e k (λ same. apart (ap (λ (x : ℕ). Some x) (sym same))))
+beside_opens e t (Some k) before apart = ap (λ (b : Bool). if b then Some t else before) (other_number e k (λ same. apart (ap (λ (x : ℕ). Some x) (sym same))))
 
 opens_none : (d : DriverContent) (e : ℕ) (o : Option ℕ) (before : ℕ → Option ℕ) → ((t : ℕ) → o ≡ Some t → endpoint_of d t ≢ Some e) → opened_by d o before e ≡ before e
 opens_none d e None before none = refl
@@ -30,10 +31,6 @@ setup_opens d e a t before is of =
     ap (λ (o : Option ℕ). opened_by d o before e) is ∙ ap (λ (o : Option ℕ). if is_at e o then Some t else before e) of ∙ ap (λ (b : Bool). if b then Some t else before e) (eq-eqb e e refl)
 
 -- ---- the acts
-
-none_more : (b : Bool) (xs : List (List ℕ)) → (if b then [] ++ xs else xs) ≡ xs
-none_more true xs = refl
-none_more false xs = refl
 
 quiet_by : (latest : ℕ → Option ℕ) (acted : ℕ → List (List ℕ)) (t : ℕ) (acts : List (List ℕ)) (o : Option ℕ) → ((e : ℕ) → o ≡ Some e → acted e ≡ []) → acts_in latest acted t acts o ≡ acts
 quiet_by latest acted t acts None none = refl
@@ -78,7 +75,7 @@ module _ (d : DriverContent) (v : Queue) (e : ℕ) (number : ℕ → ℕ) (lates
         ∙ sym (ap (λ (b : Bool). (if b then opened v i (l.line l.under) else l.line i).acts) (eq-eqb i (suc l.under) is)))
         (λ (differs : i ≢ suc l.under).
         quiet none i (omega (arith, within, upto)) ∙ k.begun i (omega (arith, upto, differs))
-        ∙ sym (ap (λ (b : Bool). (if b then opened v i (l.line l.under) else l.line i).acts) (not_same i (suc l.under) differs))) (cases_eq i (suc l.under));
+        ∙ sym (ap (λ (b : Bool). (if b then opened v i (l.line l.under) else l.line i).acts) (other_number i (suc l.under) differs))) (cases_eq i (suc l.under));
     behind = λ i after few. quiet none i few ∙ k.behind i (omega (arith, after)) few;
     is_open = inr (ap (λ (b : Bool). (if b then opened v (suc l.under) (l.line l.under) else l.line (suc l.under)).host.stage) (eq-eqb (suc l.under) (suc l.under) refl));
   }
@@ -90,7 +87,7 @@ module _ (d : DriverContent) (v : Queue) (e : ℕ) (number : ℕ → ℕ) (lates
 
     beside : (i : ℕ) → i < v.count → i ≢ l.under → acts_in latest acted (number i) (acts (number i)) (endpoint_of d (number i)) ≡ acts (number i)
     beside i few differs =
-        is_now i few ∙ ap (λ (b : Bool). if b then acted e ++ acts (number i) else acts (number i)) (not_same (number i) (number l.under) (λ same. differs (own i l.under few within same)))
+        is_now i few ∙ ap (λ (b : Bool). if b then acted e ++ acts (number i) else acts (number i)) (other_number (number i) (number l.under) (λ same. differs (own i l.under few within same)))
 
     here : acts_in latest acted (number l.under) (acts (number l.under)) (endpoint_of d (number l.under)) ≡ ((progressed v (Transaction losses) l).line l.under).acts
     here =
@@ -108,7 +105,7 @@ module _ (d : DriverContent) (v : Queue) (e : ℕ) (number : ℕ → ℕ) (lates
           subst (λ (j : ℕ). acts_in latest acted (number j) (acts (number j)) (endpoint_of d (number j)) ≡ ((progressed v (Transaction losses) l).line j).acts) (sym is) here)
           (λ (differs : i ≢ l.under).
           beside i (omega (arith, within, upto)) differs ∙ k.begun i upto
-          ∙ sym (ap (λ (b : Bool). (if b then transacted v.endpoint (v.requests i) losses (l.line i) else l.line i).acts) (not_same i l.under differs))) (cases_eq i l.under);
+          ∙ sym (ap (λ (b : Bool). (if b then transacted v.endpoint (v.requests i) losses (l.line i) else l.line i).acts) (other_number i l.under differs))) (cases_eq i l.under);
       behind = λ i after few. beside i few (λ is. omega (arith, after, is)) ∙ k.behind i after few;
       is_open = inl open_now;
     }

@@ -1,8 +1,8 @@
 -- What is recorded of requests before they are begun, and what is told of them.
-use Rattle.std.proofs.Common.{◌≡◌, ◌≢◌, ℕ, zero, suc, ◌<◌, ◌≤◌, Bool, true, false, List, [], ◌∷◌, ◌++◌, map, ◌==◌, Option, Some, None, if◌then◌else◌, ap, refl, sym, subst, ◌∙◌, ⊎_elim, inl, inr, arith}
+use Rattle.std.proofs.Common.{◌≡◌, ◌≢◌, ℕ, suc, ◌<◌, ◌≤◌, Bool, true, false, List, [], map, Option, if◌then◌else◌, ap, refl, sym, subst, ◌∙◌, ⊎_elim, inl, inr, arith}
 use Rattle.std.specs.Prelude.{nat_le}
 use Rattle.std.proofs.lemmas.Bool.{cases_eq, leb-true, leb-false}
-use Rattle.std.proofs.lemmas.List.{map-append}
+use Rattle.law_reports.proofs.Common.{mapped, under_rises}
 use Rattle.dev_control.specs.Stages.{Stages}
 use Rattle.claims_report.specs.Acts.{IsOnce}
 use Rattle.claims_report.specs.Requests.{Request, Window}
@@ -11,7 +11,7 @@ use Rattle.claims_report.specs.ControlSides.{Device}
 use Rattle.drv_table.specs.DriverContent.{DriverContent}
 use Rattle.law_structures.specs.lent_structures.Structures.{StructureSets}
 use Rattle.law_ring.specs.Hand.{Hand}
-use Rattle.law_devices.specs.ring_requests.Windows.{Queue, Lines, lines_at, IsQueue, Progress, Transaction, Advance, Step, progressed, stepped}
+use Rattle.law_devices.specs.ring_requests.Windows.{Queue, Lines, lines_at, IsQueue, Step, stepped}
 use Rattle.law_devices.specs.ring_requests.Runs.{first_of}
 use Rattle.law_devices.proofs.lemmas.ring_requests.Runs.{first_same}
 use Rattle.claims_world.specs.Requests.{Windows, window_at, windows_of}
@@ -34,10 +34,6 @@ recorded_of_more v more number latest acts l k count none = record {
 }
 
 -- ---- what is told
-
-mapped : {A B : Type 0} (f : A → B) (xs : ℕ → A) (n : ℕ) → map f (first_of xs n) ≡ first_of (λ i. f (xs i)) n
-mapped f xs zero = refl
-mapped {A} {B} f xs (suc n) = map-append f (first_of xs n) (xs n ∷ []) ∙ ap (λ (ys : List B). ys ++ f (xs n) ∷ []) (mapped f xs n)
 
 module _ (v : Queue) (number : ℕ → ℕ) (latest : Option ℕ) (acts : ℕ → List (List ℕ)) (l : Lines) (i : ℕ) (k : AreRecorded v number latest acts l) (few : i < v.count) where
   by_test : (b : Bool) → nat_le i l.under ≡ b → acts (number i) ≡ (if b then (l.line i).acts else [])
@@ -75,18 +71,6 @@ pub told_once : (v : Queue) (l : Lines) (number : ℕ → ℕ) (latest : Option 
 told_once v l number latest acts hand parts n i o q k few = once_by v number latest acts l i k few hand parts n o q (nat_le i l.under) refl
 
 -- ---- the requests that aren't done
-
-progress_rises : (v : Queue) (p : Progress) (l : Lines) → l.under ≤ (progressed v p l).under
-progress_rises v (Transaction losses) l = omega arith
-progress_rises v Advance l = omega arith
-
-rises_if : (v : Queue) (p : Progress) (l : Lines) (b : Bool) → l.under ≤ (if b then progressed v p l else l).under
-rises_if v p l true = progress_rises v p l
-rises_if v p l false = omega arith
-
-under_rises : (sent : ℕ → Queue) (step : Option Step) (lines : ℕ → Lines) (n : ℕ) → (lines n).under ≤ (stepped sent step lines n).under
-under_rises sent None lines n = omega arith
-under_rises sent (Some s) lines n = rises_if (sent n) s.is (lines n) (n == s.at)
 
 pub found_stays : (d : DriverContent) (windows : ℕ → Bool) (sent : ℕ → Queue) (lines : ℕ → Lines) (number : ℕ → ℕ → ℕ) (step : Option Step) → AreFound d windows sent lines number → AreFound d windows sent (stepped sent step lines) number
 found_stays d windows sent lines number step k n i on after few = k n i on (let rises = under_rises sent step lines n in omega (arith, rises, after)) few

@@ -2,6 +2,8 @@
 use Rattle.std.proofs.Common.{◌≡◌, ℕ, zero, suc, ◌≤◌, Bool, true, false, cond, List, drop, take, slice_get, Option, Some, None, ap, refl, sym, subst, ◌∙◌, arith}
 use Rattle.std.specs.Prelude.{is_none, nat_le, nat_lt, if◌then◌else◌}
 use Rattle.std.proofs.lemmas.Bool.Decides.{nat_tests}
+use Rattle.law_world.proofs.Common.{none_some}
+use Rattle.law_frame_list.proofs.Common.{row_is}
 use Rattle.mem_runs.specs.Book.{Book, holding, lend_taken}
 use Rattle.drv_periodic.specs.declared.work.Store.{Store}
 use Rattle.drv_periodic.specs.Periodic.{next_store}
@@ -22,9 +24,6 @@ use Rattle.law_world.specs.memory.framed_memory.Isochronous.{AwaitsLend}
 use Rattle.law_world.specs.memory.framed_memory.IsochronousLaws.{NewAwaitsNothing, EventsKeepAwaiting, WritesKeepAwaiting}
 
 -- ---- a driver that was just built
-
-none_some : (c : Command) → ◌≡◌ {A = Option Command} None (Some c) → ⊥
-none_some c is = cc
 
 pub new_awaits_nothing : NewAwaitsNothing
 new_awaits_nothing n room m e t count is few = absurd (none_some (unfinished.Iso e t count) is)
@@ -84,18 +83,13 @@ second_row : (p : Parts) (e t count : ℕ) → p.driver.command ≡ Some (unfini
 second_row p e t count is at =
     ap (row_for p) is ∙ ap (λ (n : ℕ). if nat_le 2 n then link_row (next_store p.driver.periodic.list) else command_row (unfinished.Iso e t count) n) at
 
-later_row : (p : Parts) (e t count : ℕ) → p.driver.command ≡ Some (unfinished.Iso e t count) → 2 ≤ p.driver.made → driver_row p ≡ link_row (next_store p.driver.periodic.list)
-later_row p e t count is late =
-    let on : nat_le 2 p.driver.made ≡ true = grind (arith, nat_tests) in
-    ap (row_for p) is ∙ ap (λ (b : Bool). if b then link_row (next_store p.driver.periodic.list) else command_row (unfinished.Iso e t count) p.driver.made) on
-
 row_late : (p : Parts) (e t count n : ℕ) → p.driver.command ≡ Some (unfinished.Iso e t count) → p.driver.made ≡ suc n → IsLate (after_driver_row (driver_row p) p).driver
 row_late p e t count zero is at =
     subst (λ (r : DriverRow). IsLate (after_driver_row r p).driver) (sym (second_row p e t count is at))
     (lend_late p (lend_taken (holding p.driver.book (linked_by p.driver p.memory p.driver.command))).book e t count is (omega (arith, at)))
 row_late p e t count (suc n) is at =
     let late : 2 ≤ p.driver.made = omega (arith, at) in
-    subst (λ (r : DriverRow). IsLate (after_driver_row r p).driver) (sym (later_row p e t count is late)) (link_late p e t count (next_store p.driver.periodic.list) is late)
+    subst (λ (r : DriverRow). IsLate (after_driver_row r p).driver) (sym (row_is p e t count is late)) (link_late p e t count (next_store p.driver.periodic.list) is late)
 
 -- ---- the first of its own events
 

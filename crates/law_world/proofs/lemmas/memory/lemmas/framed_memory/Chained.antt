@@ -1,12 +1,14 @@
 -- An accepted open of an interrupt endpoint, beside both walks: it takes runs that are kept, writes in these alone, and begins to link its queue head.
 use Rattle.std.proofs.Common.{◌≡◌, ℕ, ◌*◌, ◌/◌, ◌<◌, Bool, List, [], ◌∷◌, length, drop, get_or, slice_get, slice_index, Option, Some, Ok, ap, refl, sym, subst, ◌∙◌, ⊎_elim, arith}
+use Rattle.law_world.proofs.Common2.{linking_led}
+use Rattle.law_frame_list.proofs.Common.{has_run}
+use Rattle.law_common.proofs.Lists.{drop_first, pushed_there}
 use Rattle.usb_base.specs.declared.endpoints.EpDesc.{EpDesc}
 use Rattle.word_mem.specs.Memory.{Mem, IsShaped}
 use Rattle.qh_qtd.specs.Qtd.{qtd_words}
 use Rattle.qh_qtd.specs.QueueHead.{qh_words}
 use Rattle.qh_qtd.specs.declared.queue_head.Qh.{Qh}
 use Rattle.mem_runs.specs.declared.slots.Slot.{Slot}
-use Rattle.mem_runs.specs.declared.slots.Slot.TheVariants.{Empty}
 use Rattle.mem_runs.specs.Book.{Holding, holding, slot_of, store_words, Stands}
 use Rattle.bandwidth.specs.declared.placements.Placement.{Placement}
 use Rattle.drv_chains.specs.Chains.{Schedule}
@@ -18,10 +20,10 @@ use Rattle.drv_table.specs.Words.{interrupt_head, dummy_qtd}
 use Rattle.drv_table.specs.Accepting.{Offered, take_runs}
 use Rattle.drv_table.specs.Offers.{placed_endpoint, accepted_chain}
 use Rattle.law_driver.specs.run_owners.Accepts.{Chains, chains}
-use Rattle.claims_driver.specs.Owners.{HasRun, SlotHas, EndpointRuns, TransferRuns, Views, runs_of_endpoint, views_of}
+use Rattle.claims_driver.specs.Owners.{SlotHas, EndpointRuns, TransferRuns, Views, runs_of_endpoint, views_of}
 use Rattle.claims_driver.specs.Leaving.{HasOwners}
 use Rattle.law_driver.proofs.lemmas.run_owners.Taking.{AreTaken, AreTakenSome, runs_taken}
-use Rattle.law_driver.proofs.lemmas.run_owners.Accepted.{drop_first, fresh_differs, push_case}
+use Rattle.law_driver.proofs.lemmas.run_owners.Accepted.{fresh_differs, push_case}
 use Rattle.law_driver.proofs.lemmas.ring_members.Stores.{slots_apart, words_elsewhere}
 use Rattle.hc_core.specs.Controller.{Content}
 use Rattle.law_structures.specs.lent_structures.Structures.{StructureSets}
@@ -33,7 +35,7 @@ use Rattle.law_driver_ring.specs.Extents.{AreInRuns}
 use Rattle.law_driver_ring.proofs.PartAccepting.{IsAsLarge, words_large}
 use Rattle.law_driver_ring.proofs.PartSlots.{taken_leaves}
 use Rattle.law_driver_ring.proofs.Taken.{takes_on, new_not_lent}
-use Rattle.law_driver_ring.proofs.Opens.{OneMore, driven_more, pushed_old, open_one_more}
+use Rattle.law_driver_ring.proofs.Opens.{OneMore, driven_more, open_one_more}
 use Rattle.law_frames.specs.Met.{Kind}
 use Rattle.law_frames.specs.FrameHand.{FrameHand}
 use Rattle.law_descriptors.specs.Meeting.{standing, kind_at}
@@ -42,7 +44,6 @@ use Rattle.law_world.specs.memory.framed_memory.Now.{IsFramedNow}
 use Rattle.law_world.proofs.lemmas.memory.lemmas.framed_memory.StillStanding.{IsThereStill, pushed_still, recent_still}
 use Rattle.law_world.specs.memory.framed_memory.Chained.{ChainKeepsNow}
 use Rattle.law_world.proofs.lemmas.memory.lemmas.framed_memory.QueueAccepting.{AcceptsBeside, accepted}
-use Rattle.law_world.proofs.lemmas.memory.lemmas.framed_memory.Steps.{linking_led}
 
 -- ---- memory
 
@@ -72,7 +73,7 @@ chain_one_more d m x p g bs has runs taken =
     let y : Endpoint = placed_endpoint x p (get_or bs 0 0) (get_or bs 1 0) in
     record {
       takes = takes_on (holding d.book m) g (2 ∷ 1 ∷ []) bs runs taken;
-      old = λ e z there. pushed_old runs_of_endpoint d.endpoints y e z there;
+      old = λ e z there. pushed_there runs_of_endpoint d.endpoints y e z there;
       endpoints = λ e z there. push_case runs_of_endpoint d.endpoints y e z there;
       queue = λ lent. new_not_lent 0 runs taken (omega (arith, two)) lent;
       dummy = λ lent. new_not_lent 1 runs taken two lent;
@@ -82,10 +83,6 @@ chain_one_more d m x p g bs has runs taken =
     }
 
 -- ---- how far the structures reach
-
-has_run : (s : Slot) (k : ℕ) → SlotHas s k → HasRun s
-has_run Empty k has = has
-has_run _ k has = tt
 
 slots_still : (h g : Holding) (ns bs : List ℕ) → AreTaken h g ns bs → (c k : ℕ) → SlotHas (slot_of h.book.slots c) k → SlotHas (slot_of g.book.slots c) k
 slots_still h g ns bs taken c k has = subst (λ (s : Slot). SlotHas s k) (sym (taken.old c (has_run (slot_of h.book.slots c) k has))) has

@@ -1,5 +1,5 @@
 -- The structures of an interrupt endpoint from the acceptance of its open on: they are to be lent, are lent, and its queue head is linked.
-use Rattle.std.proofs.Common.{◌≡◌, ◌≢◌, ℕ, suc, ◌+◌, ◌*◌, ◌/◌, ◌⊎◌, Bool, true, false, ◌&&◌, cond, List, [], ◌∷◌, ◌++◌, length, get_or, slice_get, Option, Some, None, option_map, nat_le, nat_lt, ap, refl, sym, subst, ◌∙◌, ⊎_elim, inl, inr, arith}
+use Rattle.std.proofs.Common.{◌≡◌, ◌≢◌, ℕ, suc, ◌+◌, ◌*◌, ◌/◌, Bool, true, false, ◌&&◌, cond, List, length, get_or, Option, Some, None, option_map, nat_le, nat_lt, ap, refl, sym, subst, ◌∙◌, ⊎_elim, arith}
 use Rattle.std.specs.Prelude.{not}
 use Rattle.word_mem.specs.Memory.{Mem}
 use Rattle.law_driver.specs.in_place.InPlace.{IsInPlace}
@@ -7,9 +7,12 @@ use Rattle.qh_qtd.specs.QueueHead.{IsQhInRange}
 use Rattle.law_driver.specs.run_owners.Accepts.{Chains}
 use Rattle.std.proofs.lemmas.Bool.{true≢false}
 use Rattle.std.proofs.lemmas.Option.{same_Some}
+use Rattle.law_common.proofs.Lists.{pushed_last}
+use Rattle.law_driver_ring.proofs.Common.{found_one, one_element}
+use Rattle.law_common.proofs.Booleans.{either_if}
+use Rattle.law_descriptors.proofs.Common.{no_work}
 use Rattle.usb_base.specs.declared.packets.Ask.{Ask}
 use Rattle.usb_base.specs.declared.packets.Reply.{Reply}
-use Rattle.qh_qtd.specs.declared.qtd.Qtd.{Qtd}
 use Rattle.qh_qtd.specs.declared.queue_head.Qh.{Qh}
 use Rattle.mem_runs.specs.Book.{Book, holding, lend_taken}
 use Rattle.bandwidth.specs.declared.placements.Placement.{Placement}
@@ -39,7 +42,6 @@ use Rattle.law_structures.specs.lent_structures.Sound.{IsSoundElement}
 use Rattle.law_structures.proofs.lemmas.lent_structures.Names.{with_here, with_there}
 use Rattle.law_ring.specs.Hand.{Hand}
 use Rattle.claims_base.specs.Controller.{Base}
-use Rattle.law_ring.proofs.Parting.{found_with}
 use Rattle.law_controller.specs.controlled_streams.Control.{ControlEffect, a_microframe, a_step}
 use Rattle.law_driver_ring.specs.Driven.{DrivesRing}
 use Rattle.law_driver_ring.specs.LendOpened.{IsOpened}
@@ -60,19 +62,13 @@ use Rattle.law_descriptors.specs.ListRows.{leaves_by, leaves_now, recent_with, H
 use Rattle.law_descriptors.proofs.Standing.{both_off}
 use Rattle.law_descriptors.proofs.Telling.{queue_off}
 use Rattle.law_descriptors.proofs.Rings.{ring_is_of_queues}
-use Rattle.law_descriptors.proofs.ListRows.{either_if}
 use Rattle.law_world.specs.memory.framed_memory.Now.{IsFramedNow, FramedNext, recent_then}
-use Rattle.law_world.proofs.lemmas.memory.lemmas.framed_memory.StillStanding.{idle_work}
 use Rattle.law_world.specs.memory.framed_memory.QueueRows.{chained_runs, chained_head}
 use Rattle.law_world.specs.memory.framed_memory.Chained.{chained_queue, IsChainReady, ChainBecomesReady, ChainReadyStays, chained_parts, IsChainLent, ChainLends, ChainComesFirst, ChainStaysLent, ChainLinksOn}
 use Rattle.law_world.proofs.lemmas.memory.lemmas.framed_memory.Chains.{chain_is_ready}
 use Rattle.law_world.proofs.lemmas.memory.lemmas.framed_memory.OpenLends.{lend_open_keeps_now}
 
 -- ---- it is to be lent
-
-pushed_last : {X : Type 0} (xs : List X) (x : X) → slice_get (xs ++ x ∷ []) (length xs) ≡ Some x
-pushed_last [] x = refl
-pushed_last (z ∷ xs) x = pushed_last xs x
 
 -- what is under way then is the new member, if it may be linked
 new_work : (p : Periodic) (m : Member) → p.work ≡ None → (w : Work) → (linking p m).work ≡ Some w → w ≡ begun m false
@@ -109,7 +105,7 @@ chain_ready_at m d o why place range =
       placed = refl;
       link = new_link d.periodic.list (queue_member queue why.placement);
       opened = opened;
-      links = new_work d.periodic.list (queue_member queue why.placement) (idle_work d why.idle place.sound.listed);
+      links = new_work d.periodic.list (queue_member queue why.placement) (no_work d why.idle place.sound.listed);
     } in
     subst (λ (f : Offered). IsReadyAt f.driver f.memory (length d.endpoints)) (sym why.is) (record { ready = ready; at = refl })
 
@@ -274,28 +270,6 @@ chain_lends base member recent descs parts hand frame c d k r = record {
 }
 
 -- ---- what its first store asks for
-
--- what is found is one of the two
-found_one : (x : EndpointRuns) (q : Qh) (a : ℕ) (s : Structure) → opened_part x q a ≡ Some s → (Element dummy_qtd ≡ s) ⊎ (QueueHead q ≡ s)
-found_one x q a s found =
-    let one = with_structure no_part (32 * x.queue) (QueueHead q) in
-    ⊎_elim (λ (new : (a ≡ 32 * x.dummy) × (Element dummy_qtd ≡ s)). inl new.1)
-    (λ (old : (a ≢ 32 * x.dummy) × (one a ≡ Some s)).
-    ⊎_elim (λ (head : (a ≡ 32 * x.queue) × (QueueHead q ≡ s)). inr head.1)
-    (λ (none : (a ≢ 32 * x.queue) × (no_part a ≡ Some s)). absurd (nothing s none.1)) (found_with no_part (32 * x.queue) a (QueueHead q) s old.1))
-    (found_with one (32 * x.dummy) a (Element dummy_qtd) s found)
-  where
-    nothing : (s : Structure) → ◌≡◌ {A = Option Structure} None (Some s) → ⊥
-    nothing s none = cc
-
-one_element : (x : EndpointRuns) (q : Qh) (a : ℕ) (t : Qtd) → opened_part x q a ≡ Some (Element t) → dummy_qtd ≡ t
-one_element x q a t found = ⊎_elim (λ (same : Element dummy_qtd ≡ Element t). equal t same) (λ (head : QueueHead q ≡ Element t). absurd (never t head)) (found_one x q a (Element t) found)
-  where
-    equal : (t : Qtd) → Element dummy_qtd ≡ Element t → dummy_qtd ≡ t
-    equal t same = cc
-
-    never : (t : Qtd) → QueueHead q ≡ Element t → ⊥
-    never t same = cc
 
 no_buffer : (x : EndpointRuns) (q : Qh) (a : ℕ) (pages : List ℕ) (k : ℕ) (bs : List ℕ) → opened_part x q a ≡ Some (Buffer pages k bs) → ⊥
 no_buffer x q a pages k bs found =

@@ -1,10 +1,12 @@
 -- An open of an interrupt endpoint, from its acceptance to its last store.
-use Rattle.std.proofs.Common.{◌≡◌, ℕ, suc, ◌+◌, ◌<◌, ◌≤◌, Bool, true, false, ◌&&◌, ◌||◌, cond, List, [], length, slice_get, Option, Some, None, nat_le, nat_lt, unwrap_or, if◌then◌else◌, ap, refl, sym, subst, ◌∙◌, ⊎_elim, inl, inr, arith}
+use Rattle.std.proofs.Common.{◌≡◌, ℕ, suc, ◌+◌, ◌<◌, Bool, true, false, ◌&&◌, cond, List, [], length, slice_get, Option, Some, None, nat_le, nat_lt, unwrap_or, if◌then◌else◌, ap, refl, sym, subst, ◌∙◌, ⊎_elim, inl, inr, arith}
 use Rattle.std.specs.Prelude.{is_none, is_some}
+use Rattle.law_world.proofs.Common2.{done_none}
+use Rattle.law_driver_ring.proofs.Common.{speed_small}
+use Rattle.law_descriptors.proofs.Common.{either}
+use Rattle.law_frame_list.proofs.Common.{transfer_command, unlink_command, endpoint_command, removed_command}
 use Rattle.usb_base.specs.declared.packets.Ask.{Ask}
 use Rattle.usb_base.specs.declared.packets.Reply.{Reply}
-use Rattle.usb_base.specs.declared.packets.Speed.{Speed}
-use Rattle.usb_base.specs.declared.packets.Speed.TheVariants as speeds
 use Rattle.word_mem.specs.Memory.{Mem}
 use Rattle.mem_runs.specs.Book.{holding, lend_taken}
 use Rattle.drv_periodic.specs.declared.work.Work.{Work}
@@ -12,18 +14,17 @@ use Rattle.drv_periodic.specs.declared.work.Store.{Store}
 use Rattle.drv_periodic.specs.Periodic.{is_more, members_after, next_store, after_work, after_store}
 use Rattle.drv_periodic_table.specs.Periodic.{PeriodicContent}
 use Rattle.drv_periodic_table.specs.Linking.{with_first, begun_next}
-use Rattle.drv_table.specs.declared.content.Endpoint.{Endpoint}
 use Rattle.drv_table.specs.declared.content.Command.{Command}
 use Rattle.drv_table.specs.declared.content.Command.TheVariants as unfinished
 use Rattle.drv_table.specs.declared.rows.DriverRow.{DriverRow}
 use Rattle.drv_table.specs.declared.rows.DriverRow.TheVariants as rows
 use Rattle.drv_table.specs.DriverContent.{DriverContent}
-use Rattle.drv_table.specs.Words.{is_high, speed_field}
+use Rattle.drv_table.specs.Words.{is_high}
 use Rattle.drv_table.specs.Accepting.{Offered}
 use Rattle.drv_table.specs.CancelOffers.{endpoint_members, with_cancel}
 use Rattle.drv_table.specs.Parts.{Parts}
 use Rattle.drv_table.specs.Kinds.{is_iso}
-use Rattle.drv_table.specs.Commands.{events_of, links, removes_members, leave_frames, no_command, list_after, finished, or_finished, linked_on, advanced_by, advance, link_row, command_row}
+use Rattle.drv_table.specs.Commands.{events_of, links, removes_members, no_command, list_after, finished, or_finished, linked_on, advanced_by, advance, link_row, command_row}
 use Rattle.drv_table.specs.FrameChoice.{framed_by, linked_by}
 use Rattle.drv_table.specs.Releases.{freed_by}
 use Rattle.drv_table.specs.Rows.{row_for, driver_row, after_driver_row}
@@ -41,7 +42,7 @@ use Rattle.law_frames.specs.Met.{Kind}
 use Rattle.law_frames.specs.FrameHand.{FrameHand}
 use Rattle.law_descriptors.specs.Both.{parts_now}
 use Rattle.law_descriptors.specs.ListRows.{leaves_now, recent_with}
-use Rattle.law_descriptors.proofs.Chained.{transfer_command, unlink_command, endpoint_command, removed_command, harvest_command, out_of_ring}
+use Rattle.law_descriptors.proofs.Chained.{harvest_command}
 use Rattle.law_world.specs.memory.framed_memory.Now.{IsFramedNow, reads_alone}
 use Rattle.law_world.specs.memory.framed_memory.NowRows.{FramedLinked}
 use Rattle.law_world.proofs.lemmas.memory.lemmas.framed_memory.Now.{registers_keep_now}
@@ -59,19 +60,6 @@ none_chains d none is = let no : ◌≡◌ {A = Option Command} None (Some unfin
 
 other_chains : (d : DriverContent) (c : Command) → d.command ≡ Some c → (Some c ≡ Some unfinished.Chain → ⊥) → IsChaining d → ⊥
 other_chains d c is other chaining = other (sym is ∙ chaining)
-
-either : (P : DriverContent → Type 0) (d f : DriverContent) (b : Bool) → P d → P f → P (cond b d f)
-either P d f true one two = one
-either P d f false one two = two
-
-out_of_frames : (d : DriverContent) (e : ℕ) (o : Option Endpoint) → d.command ≡ None → (leave_frames d e o).command ≡ None
-out_of_frames d e None none = none
-out_of_frames d e (Some x) none = either (λ (f : DriverContent). f.command ≡ None) _ d x.chained none none
-
-done_none : (d : DriverContent) (c : Command) → (finished d c).command ≡ None
-done_none d (unfinished.Unlink e b link) = out_of_ring (no_command d) e (slice_get d.endpoints e) refl
-done_none d (unfinished.Unchain e) = out_of_frames (no_command d) e (slice_get d.endpoints e) refl
-done_none d _ = refl
 
 -- an event of a command begins none
 abbrev NoChain : DriverContent → Type 0
@@ -184,10 +172,6 @@ finishes g q work queued =
     ap (λ (r : PeriodicContent). (or_finished (record g { made = 1; periodic = r }) unfinished.Chain).command) (none_begun q work queued)
     ∙ ap (λ (o : Option Work). (cond (is_none o) (no_command (record g { made = 1; periodic = q })) (record g { made = 1; periodic = q })).command) work
 
-no_iso : (iso gone : Bool) → iso || gone ≡ false → iso ≡ false
-no_iso true gone is = absurd (cc)
-no_iso false gone is = refl
-
 module _ (base : Base) (member : ℕ → Bool) (recent : ℕ → Option Kind) (descs parts : StructureSets) (hand : Hand) (frame : FrameHand) (c : Content) (d : DriverContent) (k : IsFramedNow base member recent descs parts hand frame c d) (command : d.command ≡ Some unfinished.Chain) where
   queued : d.periodic.queued ≡ []
   queued = (subst (λ (o : Option Command). IsUnderWay d o) command k.framed.place.sound.listed.way).1
@@ -268,10 +252,6 @@ chain_goes_on_now base member recent descs parts hand frame c d k command stands
     ⊎_elim (of_ready base member recent descs parts hand frame c d k command) (of_lent base member recent descs parts hand frame c d k command) (stands command)
 
 -- ---- the fields of the queue head
-
-speed_small : (s : Speed) → speed_field s ≤ 2
-speed_small speeds.Full = omega arith
-speed_small _ = omega arith
 
 either_below : (b : Bool) (n k : ℕ) → n < suc k → (if b then 0 else n) < suc k
 either_below true n k below = omega arith

@@ -1,7 +1,8 @@
 -- An accepted open of an interrupt endpoint: its queue head and the inactive qTD at the end of its queue are written in runs that are kept.
-use Rattle.std.proofs.Common.{◌≡◌, ℕ, ◌+◌, ◌*◌, ◌<◌, ◌≤◌, ◌⊎◌, Bool, true, false, ◌||◌, cond, List, [], ◌∷◌, ◌++◌, length, drop, get_or, slice_get, Some, option_map, Ok, ap, refl, sym, subst, ◌∙◌, ⊎_elim, inl, inr, arith}
+use Rattle.std.proofs.Common.{◌≡◌, ℕ, ◌+◌, ◌*◌, ◌≤◌, ◌⊎◌, Bool, false, ◌||◌, List, [], ◌∷◌, ◌++◌, length, drop, get_or, Ok, ap, refl, sym, subst, ◌∙◌, ⊎_elim, inl, inr, arith}
+use Rattle.law_driver_ring.proofs.Common.{stored_one}
+use Rattle.law_common.proofs.Lists.{pushed_new, drop_first}
 use Rattle.usb_base.specs.declared.endpoints.EpDesc.{EpDesc}
-use Rattle.std.proofs.lemmas.Bool.Decides.{nat_tests}
 use Rattle.word_mem.specs.Runs.{Run, AreApart}
 use Rattle.word_mem.specs.Memory.{Mem, IsShaped, with_word}
 use Rattle.word_mem.specs.Views.{words_in, with_words_in, with_words}
@@ -13,7 +14,7 @@ use Rattle.qh_qtd.specs.QueueHead.{qh_words, IsQhInRange}
 use Rattle.qh_qtd.proofs.QhLaws.{qh_words-length}
 use Rattle.mem_runs.specs.declared.slots.Slot.{Slot}
 use Rattle.mem_runs.specs.declared.slots.Slot.TheVariants.{Empty, Keeps, Lends}
-use Rattle.mem_runs.specs.Book.{Book, Holding, holding, slot_of, has_address, can_store, store, store_words, Stands}
+use Rattle.mem_runs.specs.Book.{Book, Holding, holding, slot_of, store_words, Stands}
 use Rattle.mem_runs.proofs.Standing.{keeps_at}
 use Rattle.drv_table.specs.DriverContent.{DriverContent}
 use Rattle.drv_table.specs.Words.{interrupt_head, dummy_qtd}
@@ -23,7 +24,6 @@ use Rattle.drv_table.specs.Offers.{placed_endpoint, accepted_chain}
 use Rattle.claims_driver.specs.Owners.{HasBlocks, runs_of_endpoint}
 use Rattle.claims_driver.specs.Leaving.{HasOwners}
 use Rattle.law_driver.proofs.lemmas.run_owners.Taking.{AreTaken, runs_taken}
-use Rattle.law_driver.proofs.lemmas.run_owners.Accepted.{drop_first}
 use Rattle.claims_driver.specs.LentRuns.{still_lends}
 use Rattle.law_driver.proofs.lemmas.ring_members.Accepted.{shaped_taken}
 use Rattle.law_driver_ring.specs.Inventory.{IsLent}
@@ -47,16 +47,7 @@ two_of : (rs : List ℕ) → length rs ≡ 2 → rs ≡ get_or rs 0 0 ∷ get_or
 two_of (a ∷ b ∷ []) two = refl
 two_of _ two = absurd (omega (arith, two))
 
-pushed_new : {X Y : Type 0} (f : X → Y) (xs : List X) (y : X) → option_map f (slice_get (xs ++ y ∷ []) (length xs)) ≡ Some (f y)
-pushed_new f [] y = refl
-pushed_new f (x ∷ xs) y = pushed_new f xs y
-
 -- ---- words in a run that is kept
-
-stored_one : (k : Book) (m : Mem) (b at v : ℕ) (r : Run) → slot_of k.slots b ≡ Keeps r → 32 * r.first ≤ at → at < 32 * (r.first + r.blocks) → store k m b at v ≡ with_word m at v
-stored_one k m b at v r there from below =
-    let inside : has_address r at ≡ true = grind (arith, nat_tests) in
-    ap (λ s. cond (can_store s at) (with_word m at v) m) there ∙ ap (λ t. cond t (with_word m at v) m) inside
 
 stored_all : (k : Book) (m : Mem) (b at : ℕ) (ws : List ℕ) (r : Run) → slot_of k.slots b ≡ Keeps r → 32 * r.first ≤ at → at + 4 * length ws ≤ 32 * (r.first + r.blocks) → store_words k m b at ws ≡ with_words m at ws
 unfolding store_words with_words_in

@@ -1,7 +1,8 @@
 -- The descriptors of a command get their frames by a reading of FRINDEX: what stands in the frame list is what it was, and what was unlinked in this microframe
 -- is recent still.
-use Rattle.std.proofs.Common.{◌≡◌, ℕ, zero, suc, Bool, cond, nat_lt, take, drop, Option, Some, ap, refl, sym, subst, ◌∙◌}
+use Rattle.std.proofs.Common.{◌≡◌, ℕ, suc, Bool, cond, nat_lt, take, drop, Option, Some, ap, refl, sym, subst, ◌∙◌}
 use Rattle.std.specs.Prelude.{slice_get}
+use Rattle.law_frame_list.proofs.Common.{frames_first}
 use Rattle.hc_core.specs.Controller.{Content}
 use Rattle.drv_table.specs.declared.content.Command.{Command}
 use Rattle.drv_table.specs.declared.content.Command.TheVariants as unfinished
@@ -36,12 +37,6 @@ record LeavesList (index : ℕ) (recent : ℕ → Option Kind) (d f : DriverCont
   list : f.periodic.list ≡ d.periodic.list
   recent_are : AreRecent f index recent
 
--- the frames are the first of the command's events
-is_first : (e t count made : ℕ) → slice_get (events_of (unfinished.Iso e t count)) made ≡ Some rows.Frames → made ≡ 0
-is_first e t count zero next = refl
-is_first e t count (suc zero) next = absurd (cc)
-is_first e t count (suc (suc made)) next = absurd (cc)
-
 frames_leave : (c : Content) (d : DriverContent) (recent : ℕ → Option Kind) (cmd : Command) → d.command ≡ Some cmd → slice_get (events_of cmd) d.made ≡ Some rows.Frames
     → AreRecent d c.registers.frame_index recent → AreRecent (driver_after (rows.ReadFrame c.registers.frame_index) c d) c.registers.frame_index recent
     → LeavesList c.registers.frame_index recent d (framed_by d c.registers.frame_index (Some cmd))
@@ -52,7 +47,7 @@ frames_leave c d recent unfinished.Chain is next old read = record { list = refl
 frames_leave c d recent (unfinished.Unchain e) is next old read = record { list = refl; recent_are = old }
 frames_leave c d recent (unfinished.Iso e t count) is next old read =
     subst (λ (o : Option Command). LeavesList index recent d (advanced_by f o)) (sym is)
-    (subst (λ (b : Bool). LeavesList index recent d (cond b g (linked_on f (unfinished.Iso e t count)))) (sym (ap (λ (k : ℕ). nat_lt (suc k) 2) (is_first e t count d.made next)))
+    (subst (λ (b : Bool). LeavesList index recent d (cond b g (linked_on f (unfinished.Iso e t count)))) (sym (ap (λ (k : ℕ). nat_lt (suc k) 2) (frames_first e t count d.made next)))
     (record { list = refl; recent_are = read }))
   where
     index : ℕ

@@ -1,8 +1,9 @@
 -- What is said of the description and the placement of each endpoint is true after each event of the driver, and after each accepted command.
 use Rattle.std.proofs.Common.{◌≡◌, ℕ, zero, suc, ◌+◌, ◌-◌, Bool, true, false, cond, nat_lt, not, ◌||◌, List, [], ◌∷◌, ◌++◌, length, take, drop, set, slice_get, Option, Some, None, Result, Ok, Err, unwrap_or, sym, subst, ◌∙◌, refl}
-use Rattle.std.specs.Prelude.{IfOk, option_and_then, count_by, is_none}
+use Rattle.std.specs.Prelude.{IfOk, count_by, is_none}
 use Rattle.std.proofs.lemmas.Option.{same_Some}
 use Rattle.std.proofs.lemmas.Result.{IfOk-at_ok}
+use Rattle.law_driver.proofs.Common.{one_behind, there_by, told_endpoints}
 use Rattle.usb_base.specs.declared.endpoints.EpName.{EpName}
 use Rattle.usb_base.specs.declared.endpoints.EpDesc.{EpDesc}
 use Rattle.usb_base.specs.declared.endpoints.EndCause.{EndCause}
@@ -40,18 +41,13 @@ use Rattle.drv_table.specs.Commands.{events_of, links, removes_members, no_comma
 use Rattle.drv_table.specs.Kinds.{is_iso}
 use Rattle.drv_table.specs.FrameChoice.{framed_by, with_notes, framed_notes, placement_at, linked_by}
 use Rattle.drv_table.specs.Rows.{after_driver_row}
-use Rattle.drv_table.specs.Releases.{after_transfer, freed_by, is_told, cancel_told, after_endpoint}
+use Rattle.drv_table.specs.Releases.{after_transfer, freed_by, after_endpoint}
 use Rattle.drv_table.specs.Removals.{after_unlink, after_descriptor, after_placed, after_removed}
 use Rattle.drv_table.specs.Harvesting.{told_with, behind_one, behind, after_end, harvested_as, served, after_harvest}
 use Rattle.drv_table.specs.Accepting.{Offered, take_runs}
 use Rattle.drv_table.specs.Offers.{Asked, taken_open, taken_chain, placed_open, planned_open, offered_open, new_endpoint, placed_endpoint, taken_transfer, open_transfer, found_transfer, takes_get, takes_put, takes_control, offered_next, offered}
 use Rattle.drv_table.specs.IsoOffers.{slots_of, iso_needs, taken_iso, open_iso, offered_iso, spans_too_long, has_slots}
 use Rattle.drv_table.specs.CancelOffers.{with_cancel, cancelled_by, endpoint_members, offered_cancel}
-
--- the endpoint of a name stands at its number
-there_by : (xs : List Endpoint) (o : Option ℕ) (x : Endpoint) → option_and_then (λ e. slice_get xs e) o ≡ Some x → slice_get xs (unwrap_or o 0) ≡ Some x
-there_by xs None x e = absurd (cc)
-there_by xs (Some k) x e = e
 
 abbrev pub StandsAt : DriverContent → ℕ → Option Endpoint → Type 0
 StandsAt d e q = (x : Endpoint) → q ≡ Some x → slice_get d.endpoints e ≡ Some x
@@ -65,17 +61,10 @@ either_same f false x y z one two = two
 
 -- ---- a harvest behind a stall, and the report of a cancel, leave the endpoints
 
-one_behind : (d : DriverContent) (e : ℕ) (name : EpName) (k : ℕ) (o : Option Transfer) → (behind_one d e name k o).endpoints ≡ d.endpoints
-one_behind d e name k None = refl
-one_behind d e name k (Some x) = either_same (λ (f : DriverContent). f.endpoints) (waits_for e x) _ d d.endpoints refl refl
-
 all_behind : (d : DriverContent) (e : ℕ) (name : EpName) (k n : ℕ) → (behind d e name k n).endpoints ≡ d.endpoints
 unfolding behind
 all_behind d e name k zero = refl
 all_behind d e name k (suc n) = all_behind (behind_one d e name k (slice_get d.transfers k)) e name (suc k) n ∙ one_behind d e name k (slice_get d.transfers k)
-
-cancel_endpoints : (d : DriverContent) (m : Mem) (e : ℕ) (x : Endpoint) → (cancel_told d m e x).endpoints ≡ d.endpoints
-cancel_endpoints d m e x = either_same (λ (f : DriverContent). f.endpoints) (is_told x) _ d d.endpoints refl refl
 
 module _ (P : EpDesc → Option Placement → Type 0) where
   abbrev pub AreAll : List Endpoint → Type 0
@@ -141,7 +130,7 @@ module _ (P : EpDesc → Option Placement → Type 0) where
   endpoint_let_go : (p : Parts) (e : ℕ) (o : Option Endpoint) → slice_get p.driver.endpoints e ≡ o → Have p.driver → Have (after_endpoint p e o).driver
   endpoint_let_go p e None here all = all
   endpoint_let_go p e (Some x) here all =
-      subst (λ (xs : List Endpoint). AreAll (set xs e (record x { gone = true }))) (sym (cancel_endpoints p.driver p.memory e x))
+      subst (λ (xs : List Endpoint). AreAll (set xs e (record x { gone = true }))) (sym (told_endpoints p.driver p.memory e x))
       (one_set p.driver.endpoints e x (record x { gone = true }) here (λ k. k) all)
 
   unlinked : (p : Parts) (t : ℕ) (o : Option Transfer) → Have p.driver → Have (after_unlink p t o).driver
@@ -155,7 +144,7 @@ module _ (P : EpDesc → Option Placement → Type 0) where
   placed_let_go : (p : Parts) (e : ℕ) (o : Option Endpoint) → slice_get p.driver.endpoints e ≡ o → Have p.driver → Have (after_placed p e o).driver
   placed_let_go p e None here all = all
   placed_let_go p e (Some x) here all =
-      subst (λ (xs : List Endpoint). AreAll (set xs e (record x { gone = true }))) (sym (cancel_endpoints p.driver p.memory e x))
+      subst (λ (xs : List Endpoint). AreAll (set xs e (record x { gone = true }))) (sym (told_endpoints p.driver p.memory e x))
       (one_set p.driver.endpoints e x (record x { gone = true }) here (λ k. k) all)
 
   removed_let_go : (p : Parts) (what : Removed) → Have p.driver → Have (after_removed p what).driver

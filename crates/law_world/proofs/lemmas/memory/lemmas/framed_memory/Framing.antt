@@ -1,13 +1,11 @@
 -- Each event of the controller keeps the memory framed.
 use Rattle.std.proofs.Common.{ℕ, Bool, List, refl, subst}
+use Rattle.law_queues.proofs.Common.{is_on}
 use Rattle.usb_base.specs.declared.packets.Ask.{Ask}
 use Rattle.usb_base.specs.declared.packets.Reply.{Reply}
 use Rattle.law_controller.proofs.lemmas.aligned_copies.Controlling.{each_event_keeps_addresses_aligned}
 use Rattle.claims_driver.specs.Owners.{Views, views_of}
 use Rattle.law_structures.specs.lent_structures.Structures.{StructureSets}
-use Rattle.claims_base.specs.Controller.{Base}
-use Rattle.law_controller.specs.controlled_streams.Control.{IsOn}
-use Rattle.law_driver_ring.specs.Driven.{IsOperating}
 use Rattle.law_driver_ring.proofs.Sorts.{driven_same}
 use Rattle.law_driver_ring.specs.Extents.{KeepExtents, AreInRuns}
 use Rattle.law_driver_ring.proofs.Extending.{extents_stay}
@@ -24,9 +22,6 @@ use Rattle.law_descriptors.specs.list_beside.Laws.{DriverStays}
 use Rattle.law_descriptors.proofs.lemmas.list_beside.Describing.{described_is_told, described_are_kept}
 use Rattle.law_descriptors.proofs.lemmas.list_beside.Running.{events_leave_driver}
 use Rattle.law_world.specs.memory.framed_memory.Framed.{ControllerKeepsFramed}
-
-is_on : (base : Base) → IsOperating base → IsOn base
-is_on base is = record { run = is.run; async_enable = is.async_enable }
 
 pub stay_in_runs : (v : Views) (parts now : StructureSets) → KeepExtents parts now → AreInRuns v parts → AreInRuns v now
 stay_in_runs v parts now keep lie = extents_stay v v parts now (record { slots = λ at k has. has; endpoints = λ e. refl; transfers = λ t. refl; notes = λ b. refl }) keep lie

@@ -3,6 +3,7 @@
 use Rattle.std.proofs.Common.{◌≡◌, ◌≢◌, ℕ, zero, suc, ◌-◌, ◌*◌, Bool, true, false, cond, inl, List, [], ◌∷◌, ◌++◌, length, set, Option, Some, None, option_map, ⊎_elim, ap, refl, sym, subst, ◌∙◌}
 use Rattle.std.specs.Prelude.{slice_get}
 use Rattle.std.proofs.lemmas.Option.{same_Some}
+use Rattle.law_common.proofs.Lists.{set_there}
 use Rattle.usb_base.specs.declared.endpoints.EpName.{EpName}
 use Rattle.usb_base.specs.declared.endpoints.EndCause.{EndCause}
 use Rattle.usb_base.specs.declared.endpoints.EndCause.TheVariants as causes
@@ -26,7 +27,6 @@ use Rattle.drv_table.specs.Harvesting.{served, told_with, mends_of, behind_one, 
 use Rattle.claims_driver.specs.Owners.{TransferRuns, runs_of_transfer, transfer_in}
 use Rattle.law_driver.specs.run_owners.Due.{IsDue, IsHarvestDue}
 use Rattle.law_driver.proofs.lemmas.run_owners.Reasons.{each_event_is_due}
-use Rattle.law_driver.proofs.lemmas.run_owners.Released.{set_there}
 use Rattle.law_driver.proofs.lemmas.run_owners.Harvest.{waits_is}
 use Rattle.law_driver.proofs.lemmas.run_owners.Stays.{harvest_stays}
 use Rattle.law_structures.specs.lent_structures.Structures.{StructureSets}

@@ -2,6 +2,7 @@
 use Rattle.std.proofs.Common.{◌≡◌, ◌≢◌, ℕ, ◌*◌, ◌/◌, true, false, List, [], ◌∷◌, Some, ap, sym, subst, ◌∙◌}
 use Rattle.std.specs.List.{AllByRecursion}
 use Rattle.std.proofs.lemmas.Bool.{false≢true}
+use Rattle.law_frame_list.proofs.Common.{none_queued}
 use Rattle.word_mem.specs.Memory.{Mem, word_at}
 use Rattle.mem_runs.specs.Book.{holding, store}
 use Rattle.drv_chains.specs.declared.members.Member.{Member}
@@ -52,9 +53,6 @@ iso_leads p e first count step sound leading old s x xs next queued may =
     leads_by (word_at (store d.book p.memory s.block s.at s.value)) (after_store d.periodic.list) x onces.0 on.0 may
 
 -- ---- a queue head
-
-none_queued : (x : Member) (xs : List Member) → ◌≡◌ {A = List Member} [] (x ∷ xs) → ⊥
-none_queued x xs is = cc
 
 queue_leads : (p : Parts) → IsLinkingStep p unfinished.Chain → IsSound p.memory p.driver → NextLeads p
 queue_leads p step sound s x xs stored queued may =

@@ -1,14 +1,15 @@
 -- The walk of the ring may not reach the queue head of an endpoint that is out of the ring, and neither waits for the doorbell nor for its answer.
-use Rattle.std.proofs.Common.{◌≡◌, ◌≢◌, ℕ, zero, suc, ◌+◌, ◌*◌, ◌≤◌, ◌==◌, ◌||◌, Bool, true, false, cond, List, [], ◌∷◌, slice_get, Some, ⊎_elim, ap, refl, sym, ◌∙◌, arith}
+use Rattle.std.proofs.Common.{◌≡◌, ◌≢◌, ℕ, zero, suc, ◌+◌, ◌*◌, ◌≤◌, ◌==◌, ◌||◌, Bool, false, cond, List, [], ◌∷◌, slice_get, Some, ⊎_elim, ap, refl, sym, ◌∙◌, arith}
 use Rattle.std.proofs.lemmas.Bool.{true≢false, cases_eq, false_from_ne_true}
 use Rattle.std.proofs.lemmas.Option.{same_Some}
+use Rattle.law_driver.proofs.Common.{not_in_ring, ring_queue}
+use Rattle.law_common.proofs.Booleans.{one_most}
 use Rattle.drv_periodic_table.specs.Periodic.{is_periodic}
 use Rattle.drv_table.specs.declared.content.Endpoint.{Endpoint}
 use Rattle.drv_table.specs.DriverContent.{DriverContent}
 use Rattle.drv_table.specs.Kinds.{is_iso}
 use Rattle.claims_driver.specs.Leaving.{times, leaves_ring, HasOwners}
 use Rattle.law_driver.proofs.lemmas.run_owners.Orders.{one_same, IsLeft, has_left}
-use Rattle.law_driver.proofs.lemmas.run_owners.Rows.{not_iso}
 use Rattle.claims_driver.specs.Ring.{IsQueueOf}
 use Rattle.law_driver.proofs.lemmas.ring_members.Placed.{has_queue, in_ring_alive, queue_off_head, queues_apart, left_alive}
 use Rattle.law_driver.proofs.lemmas.ring_members.Leaving.{among_times}
@@ -54,14 +55,6 @@ module _ (d : DriverContent) (rings : Bool) (e : ℕ) (x : Endpoint) (has : HasO
 
 -- ---- an interrupt endpoint
 
-or_true : (a : Bool) → a || true ≡ true
-or_true true = refl
-or_true false = refl
-
-owes_none : (x : Endpoint) → is_periodic x.desc.kind ≡ true → leaves_ring (Some x) ≡ 0
-owes_none x frames =
-    ap (λ (b : Bool). cond {A = ℕ} (x.linked || x.gone || b) 0 1) frames ∙ ap (λ (b : Bool). cond {A = ℕ} b 0 1) (or_true (x.linked || x.gone))
-
 pub interrupt_is_unreached : InterruptIsUnreached
 interrupt_is_unreached d rings e x has here queued frames kept = unreached d rings e x has here queued kept linked none
   where
@@ -69,7 +62,7 @@ interrupt_is_unreached d rings e x has here queued frames kept = unreached d rin
     linked = false_from_ne_true x.linked (λ on. true≢false (sym frames ∙ (has.orderly.steady e x here).ring on))
 
     none : times e d.waiting + times e d.rung ≡ 0
-    none = let most = has.orderly.leaving e in let owes = ap leaves_ring here ∙ owes_none x frames in omega (arith, most, owes)
+    none = let most = has.orderly.leaving e in let owes = ap leaves_ring here ∙ not_in_ring x frames in omega (arith, most, owes)
 
 -- ---- one that was cleared
 
@@ -81,10 +74,6 @@ times_at e (f ∷ es) zero at =
     omega (arith, one)
 times_at e (f ∷ es) (suc i) at = let later = times_at e es i at in omega (arith, later)
 
-owes_most : (b : Bool) → cond b 0 1 ≤ 1
-owes_most true = omega arith
-owes_most false = omega arith
-
 pub cleared_is_unreached : ClearedIsUnreached
 cleared_is_unreached d rings i e x has at here = unreached d rings e x has here queued kept linked none
   where
@@ -95,7 +84,7 @@ cleared_is_unreached d rings i e x has at here = unreached d rings e x has here 
     is = same_Some left.endpoint x (sym left.here ∙ here)
 
     queued : is_iso x.desc.kind ≡ false
-    queued = not_iso x.desc.kind (ap (λ (z : Endpoint). is_periodic z.desc.kind) (sym is) ∙ left.ring)
+    queued = ring_queue x.desc.kind (ap (λ (z : Endpoint). is_periodic z.desc.kind) (sym is) ∙ left.ring)
 
     kept : x.gone ≡ false
     kept = ap (λ (z : Endpoint). z.gone) (sym is) ∙ left.gone
@@ -108,5 +97,5 @@ cleared_is_unreached d rings i e x has at here = unreached d rings e x has here 
         let some = times_at e d.cleared i at in
         let most = has.orderly.leaving e in
         let owes : leaves_ring (slice_get d.endpoints e) ≡ cond (x.linked || x.gone || is_periodic x.desc.kind) 0 1 = ap leaves_ring here in
-        let once = owes_most (x.linked || x.gone || is_periodic x.desc.kind) in
+        let once = one_most (x.linked || x.gone || is_periodic x.desc.kind) in
         omega (arith, some, most, owes, once)

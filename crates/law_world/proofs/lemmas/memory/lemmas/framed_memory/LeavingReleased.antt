@@ -1,6 +1,8 @@
 -- An endpoint that left the ring is given back: all is framed without it.
 use Rattle.std.proofs.Common.{◌≡◌, ℕ, ◌*◌, Bool, true, false, List, map, set, slice_get, Option, Some, None, ⊎_elim, inl, ap, refl, sym, subst, ◌∙◌}
 use Rattle.std.proofs.lemmas.Option.{same_Some}
+use Rattle.law_common.proofs.Options.{none_is_some}
+use Rattle.law_driver.proofs.Common.{ring_queue}
 use Rattle.mem_runs.specs.Book.{Holding, holding}
 use Rattle.drv_periodic_table.specs.Periodic.{PeriodicContent}
 use Rattle.drv_table.specs.declared.content.Endpoint.{Endpoint}
@@ -17,7 +19,6 @@ use Rattle.law_driver.proofs.lemmas.run_owners.Orders.{IsLeft}
 use Rattle.law_driver.proofs.lemmas.run_owners.Leaves.{first_left}
 use Rattle.law_driver.proofs.lemmas.run_owners.Reasons.{each_event_is_due}
 use Rattle.law_driver.proofs.lemmas.run_owners.Released.{AreUntouched, cancel_same}
-use Rattle.law_driver.proofs.lemmas.run_owners.Rows.{not_iso}
 use Rattle.hc_core.specs.Controller.{Content}
 use Rattle.law_structures.specs.lent_structures.Structures.{StructureSets}
 use Rattle.law_ring.specs.Hand.{Hand}
@@ -40,9 +41,6 @@ use Rattle.law_world.proofs.lemmas.memory.lemmas.framed_memory.LeavingUnmet.{rin
 use Rattle.law_world.proofs.lemmas.memory.lemmas.framed_memory.LeavingViews.{IsWithout}
 use Rattle.law_world.proofs.lemmas.memory.lemmas.framed_memory.LeavingRuns.{still_removed, told_beside, runs_then}
 use Rattle.law_world.proofs.lemmas.memory.lemmas.framed_memory.LeavingRows.{LeavesAt, row_leaves, placed_then}
-
-none_some : {A : Type 0} (y : A) → ◌≡◌ {A = Option A} None (Some y) → ⊥
-none_some y same = cc
 
 module _ (base : Base) (member : ℕ → Bool) (recent : ℕ → Option Kind) (descs parts : StructureSets) (hand : Hand) (frame : FrameHand) (c : Content) (d : DriverContent) (e : ℕ) (x : Endpoint) (k : IsFramedNow base member recent descs parts hand frame c d) (is : driver_row (parts_of c d) ≡ rows.ReleaseEndpoint e) (here : slice_get d.endpoints e ≡ Some x) (off : member (32 * x.queue) ≡ false) where
   abbrev p : Parts
@@ -101,7 +99,7 @@ module _ (base : Base) (member : ℕ → Bool) (recent : ℕ → Option Kind) (d
   }
 
   queued : is_iso x.desc.kind ≡ false
-  queued = ap (λ (z : Endpoint). is_iso z.desc.kind) (sym left_is) ∙ not_iso left.endpoint.desc.kind left.ring
+  queued = ap (λ (z : Endpoint). is_iso z.desc.kind) (sym left_is) ∙ ring_queue left.endpoint.desc.kind left.ring
 
   kept : x.gone ≡ false
   kept = ap (λ (z : Endpoint). z.gone) (sym left_is) ∙ left.gone
@@ -137,7 +135,8 @@ module _ (base : Base) (member : ℕ → Bool) (recent : ℕ → Option Kind) (d
   recent_are : AreRecent f c.registers.frame_index recent
   recent_are i kind on =
       ⊎_elim (λ (s : IsRemovedSince d.endpoints d.transfers d.periodic.removals c.registers.frame_index i). inl (since i s))
-      (λ (u : IsUnchainedNow d.endpoints d.transfers d.command i). absurd (none_some _ (sym due.idle ∙ u.command))) (k.recent_are i kind on)
+      (λ (u : IsUnchainedNow d.endpoints d.transfers d.command i). absurd (none_is_some _ (sym due.idle ∙ u.command)))
+      (k.recent_are i kind on)
 
   at_then : LeavesAt base member recent descs now hand frame c later
   at_then = record {

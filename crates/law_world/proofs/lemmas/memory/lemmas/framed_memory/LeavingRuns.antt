@@ -3,6 +3,10 @@
 use Rattle.std.proofs.Common.{◌≡◌, ◌≢◌, ℕ, ◌*◌, ◌==◌, Bool, true, false, not, ◌||◌, if◌then◌else◌, List, map, set, slice_get, Option, Some, None, option_map, ⊎_elim, ap, refl, sym, subst, ◌∙◌, arith}
 use Rattle.std.proofs.lemmas.Bool.{true≢false, eqb-true, and_parts, cases_eq}
 use Rattle.std.proofs.lemmas.Option.{same_Some, slice_get-map}
+use Rattle.law_frames.proofs.Common.{none_some}
+use Rattle.law_world.proofs.Common.{kept_by}
+use Rattle.law_world.proofs.Common2.{no_list}
+use Rattle.law_common.proofs.Lists.{set_here, set_there}
 use Rattle.mem_runs.specs.Book.{Holding, holding}
 use Rattle.async_walk.specs.Rows.{place}
 use Rattle.drv_periodic_table.specs.declared.content.Removed.{Removed}
@@ -11,11 +15,9 @@ use Rattle.drv_table.specs.declared.content.Transfer.{Transfer}
 use Rattle.drv_table.specs.DriverContent.{DriverContent}
 use Rattle.drv_table.specs.Releases.{free_endpoint, let_go}
 use Rattle.drv_table.specs.Kinds.{is_iso}
-use Rattle.claims_driver.specs.Owners.{FrameList, QueueHead, runs_of_endpoint, views_of}
-use Rattle.law_driver.proofs.lemmas.run_owners.Released.{set_here, set_there}
+use Rattle.claims_driver.specs.Owners.{runs_of_endpoint, views_of}
 use Rattle.hc_core.specs.Controller.{Content, walk_place}
 use Rattle.law_structures.specs.lent_structures.Structures.{Structures, StructureSets, Tells}
-use Rattle.law_structures.proofs.lemmas.lent_structures.Names.{not_same}
 use Rattle.law_ring.specs.Hand.{Hand}
 use Rattle.claims_base.specs.Controller.{Base}
 use Rattle.law_ring.specs.Ring.{IsRing}
@@ -45,9 +47,6 @@ first_stays : (told b : Bool) (y : Transfer) → (if b then record y { reported 
 first_stays told true y = refl
 first_stays told false y = refl
 
-untouched : (e : ℕ) (told : Bool) (y : Transfer) → y.endpoint ≢ e → let_go e told y ≡ y
-untouched e told y differs = ap (λ (b : Bool). if b then record y { reported = y.reported || told; released = true } else y) (not_same y.endpoint e differs)
-
 module _ (xs : List Endpoint) (ts : List Transfer) (e : ℕ) (x : Endpoint) (told : Bool) (here : slice_get xs e ≡ Some x) (queued : is_iso x.desc.kind ≡ false) where
   abbrev gone : Endpoint
   gone = record x { gone = true }
@@ -68,15 +67,9 @@ module _ (xs : List Endpoint) (ts : List Transfer) (e : ℕ) (x : Endpoint) (tol
   still_removed n _ (a_waiting u t z y at iso there sort waits name) =
       let differs : u ≢ e = λ same. true≢false (sym iso ∙ ap (λ (v : Endpoint). is_iso v.desc.kind) (same_one u z at same) ∙ queued) in
       let of : y.endpoint ≡ u = eqb-true y.endpoint u (and_parts (y.endpoint == u) (not y.reported) waits).0 in
-      a_waiting u t z y (set_there xs e u gone differs ∙ at) iso (went t y there ∙ ap Some (untouched e told y (λ same. differs (sym of ∙ same)))) sort waits name
+      a_waiting u t z y (set_there xs e u gone differs ∙ at) iso (went t y there ∙ ap Some (kept_by e told y (λ same. differs (sym of ∙ same)))) sort waits name
 
 -- ---- both walks
-
-none_is_met : (kind : Kind) → None ≡ Some kind → ⊥
-none_is_met kind same = cc
-
-no_list : (e : ℕ) → FrameList ≡ QueueHead e → ⊥
-no_list e same = cc
 
 module _ (base : Base) (member : ℕ → Bool) (recent : ℕ → Option Kind) (descs parts : StructureSets) (hand : Hand) (frame : FrameHand) (c : Content) (d : DriverContent) (e : ℕ) (x : Endpoint) (k : IsFramedNow base member recent descs parts hand frame c d) (here : slice_get d.endpoints e ≡ Some x) (queued : is_iso x.desc.kind ≡ false) (kept : x.gone ≡ false) (off : member (32 * x.queue) ≡ false) (unmet : met d recent (32 * x.queue) ≡ None) (f : DriverContent) (g : IsWithout d c.memory e x f) where
   abbrev n : ℕ
@@ -122,7 +115,7 @@ module _ (base : Base) (member : ℕ → Bool) (recent : ℕ → Option Kind) (d
 
   sound : StaysSound (met d recent) parts now
   sound i on is =
-      let same : now i ≡ parts i = queue_beside parts n i (λ (at : i ≡ n). none_is_met AQueue (sym unmet ∙ ap (met d recent) (sym at) ∙ on)) in
+      let same : now i ≡ parts i = queue_beside parts n i (λ (at : i ≡ n). none_some AQueue (sym unmet ∙ ap (met d recent) (sym at) ∙ on)) in
       (subst (IsMetQueue (met d recent) i) (sym same) is, ap (λ (part : Structures). part i) same)
 
   apart : base.periodic_list_base ≢ n

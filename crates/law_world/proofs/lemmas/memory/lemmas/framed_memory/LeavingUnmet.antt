@@ -1,7 +1,11 @@
 -- The walk of the frames doesn't meet the queue head of an endpoint that is given back next: it isn't linked any more, and of what was unlinked it alone has its block.
 use Rattle.std.proofs.Common.{◌≡◌, ℕ, zero, suc, ◌*◌, ◌/◌, ◌≤◌, Bool, true, false, not, ◌&&◌, ◌||◌, ◌==◌, cond, if◌then◌else◌, slice_get, Option, Some, None, option_map, ⊎_elim, ap, refl, sym, subst, ◌∙◌, arith}
-use Rattle.std.proofs.lemmas.Bool.{false≢true, true≢false, eqb-true, eq-eqb, and_parts}
+use Rattle.std.proofs.lemmas.Bool.{false≢true, true≢false, eq-eqb}
 use Rattle.std.proofs.lemmas.Option.{same_Some}
+use Rattle.law_driver.proofs.Common.{waits_is, same_endpoint, ring_queue}
+use Rattle.law_frame_list.proofs.Common.{no_descriptor}
+use Rattle.law_common.proofs.Numbers.{same_blocks}
+use Rattle.law_common.proofs.Booleans.{owed_by}
 use Rattle.drv_chains.specs.declared.members.Member.{Member}
 use Rattle.drv_chains.specs.declared.members.Member.TheVariants.{Once, Each}
 use Rattle.drv_chains.specs.Chains.{id_of}
@@ -19,7 +23,6 @@ use Rattle.claims_driver.specs.Owners.{QueueHead, is_descriptor, runs_of_transfe
 use Rattle.claims_driver.specs.Leaving.{times, endpoints_in, owes, leaves_frames, HasOwners}
 use Rattle.law_driver.proofs.lemmas.run_owners.Orders.{endpoint_first, IsRemoved}
 use Rattle.law_driver.proofs.lemmas.run_owners.Leaves.{first_removed}
-use Rattle.law_driver.proofs.lemmas.run_owners.Rows.{not_iso}
 use Rattle.claims_driver.specs.FrameListMembers.{Framed, framed_of, framed_in}
 use Rattle.law_driver.specs.listed_members.Members.{IsStanding, IsQueueOf, IsListed}
 use Rattle.law_driver.proofs.lemmas.listed_members.Standing.{descriptor_placed, standing_block, why_stands}
@@ -33,19 +36,9 @@ use Rattle.law_descriptors.specs.Recent.{AreRecent}
 use Rattle.law_descriptors.specs.Returned.{IsGivenBack}
 use Rattle.law_descriptors.proofs.Finding.{member_at}
 use Rattle.law_descriptors.proofs.Leading.{led_linked}
-use Rattle.law_descriptors.proofs.Returning.{no_descriptor, same_blocks, owed_by, frames_owed, one_of, transfer_counts, endpoint_counts, not_open, none_some}
+use Rattle.law_descriptors.proofs.Returning.{frames_owed, one_of, transfer_counts, endpoint_counts, not_open, none_some}
 use Rattle.law_descriptors.proofs.Waiting.{later_endpoint, frames_most}
 use Rattle.law_world.specs.memory.framed_memory.Leaving.{InterruptIsUnmet, RingIsUnmet}
-
-same_endpoint : (e f : ℕ) → QueueHead e ≡ QueueHead f → e ≡ f
-same_endpoint e f same = cc
-
-not_told : (e : ℕ) (z : Transfer) → waits_for e z ≡ true → (z.endpoint ≡ e) × (z.reported ≡ false)
-not_told e z is = let a = and_parts (z.endpoint == e) (not z.reported) is in (eqb-true z.endpoint e a.0, turned z.reported a.1)
-  where
-    turned : (b : Bool) → not b ≡ true → b ≡ false
-    turned true is = absurd (false≢true is)
-    turned false is = refl
 
 -- an endpoint with a queue, out of the frames, of which no removal is recorded that is open still
 module _ (d : DriverContent) (recent : ℕ → Option Kind) (index e : ℕ) (x : Endpoint) (has : HasOwners d) (listed : IsListed d) (idle : d.command ≡ None) (here : slice_get d.endpoints e ≡ Some x) (queued : is_iso x.desc.kind ≡ false) (kept : x.gone ≡ false) (out : x.chained ≡ false) (never : (k : ℕ) (r : Removal) → slice_get d.periodic.removals k ≡ Some r → r.what ≡ removed.Endpoint e → IsOpenAt index r.boundary → ⊥) where
@@ -88,7 +81,7 @@ module _ (d : DriverContent) (recent : ℕ → Option Kind) (index e : ℕ) (x :
   held_by : (f u : ℕ) (v : Endpoint) (z : Transfer) → slice_get d.endpoints f ≡ Some v → v.gone ≡ false → slice_get d.transfers u ≡ Some z → waits_for f z ≡ true → (b : Bool) → z.released ≡ b → z.released ≡ false
   held_by f u v z at on in_list waiting false is = is
   held_by f u v z at on in_list waiting true is =
-      let told = not_told f z waiting in
+      let told = waits_is f z waiting in
       absurd (true≢false (sym (has.orderly.untold u z in_list is told.1 v (ap (slice_get d.endpoints) told.0 ∙ at)) ∙ on))
 
   recent_by : (k : ℕ) (r : Removal) (w : Removed) → slice_get d.periodic.removals k ≡ Some r → r.what ≡ w → IsRemovedAt d.endpoints d.transfers (32 * x.queue) w → IsOpenAt index r.boundary → ⊥
@@ -159,7 +152,7 @@ owes_none x off out kept =
 
 pub ring_is_unmet : RingIsUnmet
 ring_is_unmet d recent index e x has listed are idle here ring kept =
-    unmet d recent index e x has listed idle here (not_iso x.desc.kind ring) kept out never are
+    unmet d recent index e x has listed idle here (ring_queue x.desc.kind ring) kept out never are
   where
     by : (b : Bool) → x.chained ≡ b → x.chained ≡ false
     by false is = is

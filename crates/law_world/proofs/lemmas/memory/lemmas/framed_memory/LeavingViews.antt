@@ -3,6 +3,10 @@ use Rattle.std.proofs.Common.{◌≡◌, ◌≢◌, ℕ, ◌*◌, ◌==◌, Bool
 use Rattle.std.specs.List.{AllByRecursion}
 use Rattle.std.proofs.lemmas.Bool.{true≢false, false≢true, eqb-true, eq-eqb, and_parts}
 use Rattle.std.proofs.lemmas.Option.{same_Some, slice_get-map}
+use Rattle.law_common.proofs.Booleans.{or_true, held_is}
+use Rattle.law_common.proofs.Options.{none_is_some, absent}
+use Rattle.law_common.proofs.Lists.{set_here, set_there}
+use Rattle.law_common.proofs.Numbers.{other_number}
 use Rattle.word_mem.specs.Memory.{Mem}
 use Rattle.word_mem.proofs.Holders.{has_block_from}
 use Rattle.mem_runs.specs.declared.slots.Slot.{Slot}
@@ -16,10 +20,8 @@ use Rattle.drv_table.specs.Releases.{free_runs, free_endpoint, let_go}
 use Rattle.drv_table.specs.Kinds.{is_iso}
 use Rattle.claims_driver.specs.Owners.{Owner, QueueHead, Dummy, Element, Buffer as BufferOf, IsPlaced, SlotHas, EndpointRuns, TransferRuns, DescriptorRuns, runs_of_endpoint, runs_of_transfer, endpoint_in, transfer_in, note_in, descriptor_in, Views, views_of, IsQueueIn, IsOneOf}
 use Rattle.law_driver.proofs.lemmas.run_owners.Apart.{runs_apart}
-use Rattle.law_driver.proofs.lemmas.run_owners.Released.{set_here, set_there}
 use Rattle.law_driver.proofs.lemmas.run_owners.Freeing.{runs_freed}
 use Rattle.law_structures.specs.lent_structures.Structures.{Structures, StructureSets, Tells}
-use Rattle.law_structures.proofs.lemmas.lent_structures.Names.{not_same}
 use Rattle.law_ring.proofs.Returning.{fewer_are_told}
 use Rattle.law_driver_ring.specs.Inventory.{IsLent}
 use Rattle.law_driver_ring.specs.Extents.{InRuns, AreInRuns}
@@ -49,18 +51,6 @@ pub record IsWithout (d : DriverContent) (m : Mem) (e : ℕ) (x : Endpoint) (f :
 
 -- ---- a transfer
 
-or_true : (b : Bool) → b || true ≡ true
-or_true true = refl
-or_true false = refl
-
-held_is : (a b : Bool) → a && not b ≡ true → b ≡ false
-held_is true false on = refl
-held_is true true on = absurd (true≢false (sym on))
-held_is false b on = absurd (true≢false (sym on))
-
-none_is_some : {A : Type 0} (y : A) → ◌≡◌ {A = Option A} None (Some y) → ⊥
-none_is_some y same = cc
-
 -- one that is still held is another endpoint's
 one_back : (e : ℕ) (told b : Bool) (y : Transfer) (z : TransferRuns) → (y.endpoint == e) ≡ b → runs_of_transfer (if b then record y { reported = y.reported || told; released = true } else y) ≡ z → z.released ≡ false → (z.endpoint ≢ e) × (runs_of_transfer y ≡ z)
 one_back e told true y z test is off = absurd (true≢false (ap (λ (r : TransferRuns). r.released) is ∙ off))
@@ -78,7 +68,7 @@ some_on : (e : ℕ) (told : Bool) (o : Option Transfer) (z : TransferRuns) → o
 some_on e told None z there differs = absurd (none_is_some z there)
 some_on e told (Some y) z there differs =
     let is : runs_of_transfer y ≡ z = same_Some (runs_of_transfer y) z there in
-    let test : (y.endpoint == e) ≡ false = not_same y.endpoint e (λ same. differs (ap (λ (r : TransferRuns). r.endpoint) (sym is) ∙ same)) in (
+    let test : (y.endpoint == e) ≡ false = other_number y.endpoint e (λ same. differs (ap (λ (r : TransferRuns). r.endpoint) (sym is) ∙ same)) in (
       ap (λ (b : Bool). b && not y.released) test,
       ap (λ (b : Bool). Some (runs_of_transfer (if b then record y { reported = y.reported || told; released = true } else y))) test ∙ there,
     )
@@ -94,9 +84,6 @@ is_held_at e None on = absurd (false≢true on)
 is_held_at e (Some y) on = record { transfer = y; here = refl; endpoint = eqb-true y.endpoint e (and_parts (y.endpoint == e) (not y.released) on).0 }
 
 -- ---- no descriptor's run is among those of a queue
-
-absent : (o : Option ℕ) (n : ℕ) → o ≡ None → o ≡ Some n → ⊥
-absent o n none some = cc
 
 no_descriptor : (transfer : ℕ → Option TransferRuns) (e n : ℕ) (held : ℕ → Bool) (o : Owner) → ((t : ℕ) → held t ≡ true → is_described (transfer t) ≡ false) → goes_with e held o ≡ true → descriptor_owner transfer o ≡ Some n → ⊥
 no_descriptor transfer e n held (QueueHead u) off my is = absent None n refl is

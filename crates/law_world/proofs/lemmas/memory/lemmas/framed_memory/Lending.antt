@@ -1,21 +1,21 @@
 -- The descriptors of a command are lent: they have their structures from then on, and nothing more is met or recent yet.
 use Rattle.std.proofs.Common.{◌≡◌, ℕ, zero, suc, ◌+◌, ◌*◌, ◌/◌, Bool, true, false, cond, List, [], ◌∷◌, slice_get, Option, Some, None, inl, ⊎_elim, ap, refl, sym, subst, ◌∙◌, arith}
-use Rattle.std.specs.Prelude.{is_none, not, ◌&&◌, option_map, slice_index}
+use Rattle.std.specs.Prelude.{is_none, option_map, slice_index}
 use Rattle.std.specs.List.{list_any}
-use Rattle.std.proofs.lemmas.Bool.{and_parts}
 use Rattle.std.proofs.lemmas.Option.{slice_get-map}
+use Rattle.law_world.proofs.Common2.{linking_led}
+use Rattle.law_common.proofs.Booleans.{not_on, either_if}
+use Rattle.law_frames.proofs.Common.{none_some}
+use Rattle.law_world.proofs.Common.{met_alike}
 use Rattle.usb_base.specs.declared.endpoints.EpDesc.{EpDesc}
 use Rattle.mem_runs.specs.Book.{Book, holding, lend_taken}
 use Rattle.drv_chains.specs.declared.members.Member.{Member}
-use Rattle.drv_chains.specs.Chains.{Schedule, has_name, id_of}
-use Rattle.drv_members.specs.Members.{IsKept, is_member, has_room, takes}
-use Rattle.law_frame_words.proofs.lemmas.frame_words.Begins.{out_again}
-use Rattle.drv_periodic.specs.declared.work.Work.{Work}
-use Rattle.drv_periodic.specs.Periodic.{Periodic, inserting}
+use Rattle.drv_chains.specs.Chains.{Schedule}
+use Rattle.drv_members.specs.Members.{IsKept}
 use Rattle.drv_periodic_table.specs.declared.content.DescriptorNote.{DescriptorNote}
 use Rattle.drv_periodic_table.specs.declared.content.Removal.{Removal}
 use Rattle.drv_periodic_table.specs.Periodic.{PeriodicContent, note_at}
-use Rattle.drv_periodic_table.specs.Linking.{may_link, linking, with_first, begun_next}
+use Rattle.drv_periodic_table.specs.Linking.{with_first, begun_next}
 use Rattle.drv_table.specs.declared.content.Command.{Command}
 use Rattle.drv_table.specs.declared.content.Command.TheVariants as unfinished
 use Rattle.drv_table.specs.declared.rows.DriverRow.{DriverRow}
@@ -45,11 +45,10 @@ use Rattle.law_descriptors.specs.Both.{both}
 use Rattle.law_descriptors.specs.PartLaws.{IsDescribing}
 use Rattle.law_descriptors.specs.Told.{IsToldBy, with_memory}
 use Rattle.law_descriptors.specs.Lent.{descs_after, IsLending}
-use Rattle.law_descriptors.specs.Meeting.{kind_of_descriptor, queue_begins, descriptor_begins, kind_by, kind_at, standing_in, standing, or_recent, met}
+use Rattle.law_descriptors.specs.Meeting.{kind_of_descriptor, queue_begins, descriptor_begins, kind_by, kind_at, standing_in, standing, met}
 use Rattle.claims_driver.specs.Unlinked.{led_in}
 use Rattle.law_descriptors.specs.Removed.{IsRemovedSince, IsUnchainedNow}
 use Rattle.law_descriptors.specs.Recent.{AreRecent}
-use Rattle.law_descriptors.proofs.ListRows.{either_if, idle_led}
 use Rattle.law_descriptors.proofs.Telling.{each_is_told}
 use Rattle.law_descriptors.proofs.Lending.{lend_told}
 use Rattle.law_descriptors.proofs.Both.{lend_runs_both}
@@ -88,24 +87,6 @@ lends_iso (unfinished.Iso e t count) (suc (suc n)) is = absurd (cc)
 lends_iso (unfinished.Unchain e) made is = absurd (cc)
 
 -- ---- one that begins to be linked has no store yet
-
-idle : (o : Option Work) → is_none o ≡ true → o ≡ None
-idle None is = refl
-idle (Some w) is = absurd (cc)
-
-off : (b : Bool) → not b ≡ true → b ≡ false
-off true is = absurd (cc)
-off false is = refl
-
-linking_led : (p : Periodic) (x : Member) → IsKept p.members.schedule → led_in (linking p x) ≡ led_in p
-linking_led p x kept =
-    either_if (λ (r : Periodic). led_in r ≡ led_in p) (may_link p x) (inserting p x) p
-    (λ e.
-    let both = and_parts (is_none p.work) (takes p.members x) e in
-    let one = and_parts (is_member x) (not (has_name p.members.schedule (id_of x)) && has_room p.members x) both.1 in
-    let new = and_parts (not (has_name p.members.schedule (id_of x))) (has_room p.members x) one.1 in
-    out_again p.members.schedule x kept (off (has_name p.members.schedule (id_of x)) new.0) ∙ sym (idle_led p (idle p.work both.0)))
-    (λ e. refl)
 
 -- what is told of the members to which a word may lead
 record StaysLed (q new : PeriodicContent) : Type 0 where
@@ -157,16 +138,10 @@ lent_then recent index d k e t count is kept are = by (is_none g.periodic.list.w
 
 -- ---- the same are met
 
-none_met : (kind : Kind) → None ≡ Some kind → ⊥
-none_met kind is = cc
-
 pub runs_alike : (base : Base) (member : ℕ → Bool) (one other : ℕ → Option Kind) (parts : StructureSets) (hand : Hand) (frame : FrameHand) (c : Content) → ((n : ℕ) → other n ≡ one n)
     → RunsBoth base member one parts hand frame c → RunsBoth base member other parts hand frame c
 runs_alike base member one other parts hand frame c same runs =
-    more_are_met_beside_ring base member one other parts hand frame c runs (λ n kind on. same n ∙ on) (λ n kind on off. absurd (none_met kind (sym off ∙ sym (same n) ∙ on)))
-
-met_alike : (d new : DriverContent) (recent : ℕ → Option Kind) → ((n : ℕ) → standing new n ≡ standing d n) → (n : ℕ) → met new recent n ≡ met d recent n
-met_alike d new recent same n = ap (λ (o : Option Kind). or_recent o (recent n)) (same n)
+    more_are_met_beside_ring base member one other parts hand frame c runs (λ n kind on. same n ∙ on) (λ n kind on not_on. absurd (none_some kind (sym not_on ∙ sym (same n) ∙ on)))
 
 -- ---- the row
 

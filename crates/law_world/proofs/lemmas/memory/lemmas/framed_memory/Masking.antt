@@ -1,8 +1,8 @@
 -- Each placement that a plan answers has masks of eight bits, and a driver's plan has no others.
-use Rattle.std.proofs.Common.{◌≡◌, ℕ, zero, suc, ◌+◌, ◌<◌, Bool, true, false, cond, List, [], ◌∷◌, map, filter, slice_get, Option, Some, None, sym, subst, arith}
+use Rattle.std.proofs.Common.{◌≡◌, ℕ, ◌+◌, ◌<◌, Bool, true, false, List, [], ◌∷◌, map, slice_get, Option, Some, None, sym, subst, arith}
 use Rattle.std.specs.Prelude.{◌/◌, ◌%◌, ◌&&◌, nat_eq, nat_le, nat_lt, if◌then◌else◌}
 use Rattle.std.specs.List.{AllByRecursion, flat_map}
-use Rattle.std.proofs.lemmas.Option.{same_Some}
+use Rattle.law_common.proofs.Lists.{nth_all, all_kept, all_both}
 use Rattle.usb_base.specs.declared.packets.Dir.{Dir}
 use Rattle.usb_base.specs.declared.packets.Dir.TheVariants.{In, Out}
 use Rattle.usb_base.specs.declared.packets.EpKind.{EpKind}
@@ -30,23 +30,7 @@ use Rattle.drv_table.specs.PeriodicOpens.{asked}
 use Rattle.law_admission.specs.Opens.{OpenAfter}
 use Rattle.law_admission.proofs.Events.{events_take_out_what_left}
 use Rattle.law_admission.proofs.Commands.{commands_place_the_best}
-use Rattle.law_driver.proofs.lemmas.iso_frames.Framing.{all_joined}
 use Rattle.law_world.specs.memory.framed_memory.Masks.{HasMasks, AreMasked, NewIsMasked, EventsKeepMasks, CommandsKeepMasks}
-
--- ---- lists
-
-pub one_of_all : {X : Type 0} (P : X → Type 0) (xs : List X) (i : ℕ) (x : X) → AllByRecursion P xs → slice_get xs i ≡ Some x → P x
-one_of_all P [] i x all there = absurd (cc)
-one_of_all P (y ∷ xs) zero x all there = subst P (same_Some y x there) all.0
-one_of_all P (y ∷ xs) (suc i) x all there = one_of_all P xs i x all.1 there
-
-all_filtered : {X : Type 0} (P : X → Type 0) (test : X → Bool) (xs : List X) → AllByRecursion P xs → AllByRecursion P (filter test xs)
-all_filtered P test [] all = tt
-all_filtered P test (x ∷ xs) all = at (test x) (all_filtered P test xs all.1)
-  where
-    at : (b : Bool) → AllByRecursion P (filter test xs) → AllByRecursion P (cond b (x ∷ filter test xs) (filter test xs))
-    at true rest = (all.0, rest)
-    at false rest = rest
 
 -- ---- the placements of the table
 
@@ -92,7 +76,8 @@ phase_masked w phase (s ∷ starts) = (record { smask = (row_small w s).0; cmask
 phases_masked : (w : Want) (phases : List ℕ) → AllByRecursion HasMasks (flat_map (in_phase w) phases)
 phases_masked w [] = tt
 phases_masked w (phase ∷ phases) =
-    all_joined HasMasks (in_phase w phase) (flat_map (in_phase w) phases) (phase_masked w phase (below (placement_row w).starts)) (phases_masked w phases)
+    all_both HasMasks (in_phase w phase) (flat_map (in_phase w) phases) (phase_masked w phase (below (placement_row w).starts))
+    (phases_masked w phases)
 
 allowed_masked : (w : Want) → AllByRecursion HasMasks (allowed w)
 unfolding allowed
@@ -100,7 +85,7 @@ allowed_masked w = phases_masked w (below (frame_period w.period))
 
 best_masked : (rules : Rules) (placed : List Placed) (w : Want) (p : Placement) → IsBest rules placed w p → HasMasks p
 best_masked rules placed w p k =
-    let here = allowed_of_table rules w k.place p k.at in one_of_all HasMasks (allowed w) here.place p (allowed_masked w) here.at
+    let here = allowed_of_table rules w k.place p k.at in nth_all HasMasks (allowed w) here.place p (allowed_masked w) here.at
 
 -- ---- the driver
 
@@ -115,7 +100,7 @@ new_is_masked n room = tt
 
 out_masked : (a : Account) (e : ℕ) (o : Option Endpoint) → InAccount a → InAccount (taken_out a e o)
 out_masked a e None all = all
-out_masked a e (Some x) all = all_filtered Masked _ a.plan.placed all
+out_masked a e (Some x) all = all_kept Masked _ a.plan.placed all
 
 after_masked : (row : DriverRow) (d : DriverContent) → AreMasked d → InAccount (account_after row d)
 after_masked (rows.ReleaseRemoved (removed.Endpoint e)) d all = out_masked (account_of d) e (slice_get d.endpoints e) all
@@ -127,7 +112,7 @@ events_keep_masks p all = subst InAccount (sym (events_take_out_what_left (drive
 open_masked : (d : DriverContent) (x : EpDesc) (o : Offered) (b : Bool) → AreMasked d → OpenAfter d x o b → AreMasked o.driver
 open_masked d x o true all why =
     subst InAccount (sym why.account)
-    (all_joined Masked d.periodic.plan.placed (record { want = asked d x; placement = why.placement } ∷ []) all
+    (all_both Masked d.periodic.plan.placed (record { want = asked d x; placement = why.placement } ∷ []) all
     (best_masked d.periodic.plan.rules d.periodic.plan.placed (asked d x) why.placement why.best, tt))
 open_masked d x o false all why = subst InAccount (sym why) all
 

@@ -1,6 +1,9 @@
 -- A store that takes a queue head of the ring out of its halt, beside both walks.
-use Rattle.std.proofs.Common.{◌≡◌, ◌≢◌, ℕ, zero, suc, ◌*◌, ◌/◌, Bool, true, false, List, Option, Some, inl, ap, refl, sym, subst, ◌∙◌, arith}
+use Rattle.std.proofs.Common.{◌≡◌, ◌≢◌, ℕ, ◌*◌, ◌/◌, Bool, true, false, List, Option, Some, inl, ap, refl, sym, subst, ◌∙◌}
 use Rattle.std.proofs.lemmas.Bool.{true≢false}
+use Rattle.law_controller.proofs.Common.{table_head}
+use Rattle.law_queues.proofs.Common.{queue_of}
+use Rattle.law_world.proofs.Common.{in_first, still_empty}
 use Rattle.word_mem.specs.Memory.{Mem, with_word}
 use Rattle.qh_qtd.specs.declared.queue_head.Qh.{Qh}
 use Rattle.async_walk.specs.Rows.{place}
@@ -13,14 +16,13 @@ use Rattle.drv_table.specs.Parts.{Parts}
 use Rattle.drv_table.specs.Rows.{after_driver_row}
 use Rattle.claims_driver.specs.Owners.{views_of}
 use Rattle.hc_core.specs.Controller.{Content, walk_place}
-use Rattle.law_structures.specs.lent_structures.Structures.{Structure, QueueHead, Table, Structures, StructureSets, Holds}
+use Rattle.law_structures.specs.lent_structures.Structures.{QueueHead, Structures, StructureSets, Holds}
 use Rattle.law_structures.specs.lent_structures.Changes.{Changes}
 use Rattle.law_structures.proofs.lemmas.lent_structures.Names.{put_beside}
 use Rattle.law_structures.proofs.lemmas.lent_structures.Standing.{holds_still}
 use Rattle.law_structures.proofs.lemmas.lent_structures.Writing.{word_changes}
-use Rattle.law_ring.specs.Hand.{Hand, Empty}
+use Rattle.law_ring.specs.Hand.{Hand}
 use Rattle.claims_base.specs.Controller.{Base}
-use Rattle.law_ring.specs.Stores.{hand_stale}
 use Rattle.law_controller.specs.controlled_streams.Control.{FrameList}
 use Rattle.law_driver_ring.specs.Driven.{DrivesRing}
 use Rattle.law_driver_ring.specs.Extents.{AreInRuns}
@@ -42,27 +44,11 @@ use Rattle.law_descriptors.proofs.Standing.{found_on}
 use Rattle.law_descriptors.proofs.Telling.{queue_off, queue_found, descriptor_found}
 use Rattle.law_world.specs.memory.framed_memory.Now.{IsFramedNow}
 use Rattle.law_world.proofs.lemmas.memory.lemmas.framed_memory.Now.{RowLeaves, next_now, told_now}
-use Rattle.law_queues.specs.mended_heads.Owed.{store_by, store_due}
+use Rattle.law_queues.specs.mended_heads.Owed.{store_due}
 use Rattle.law_queues.specs.mended_heads.Mended.{mended, IsAtMend, head_at, parts_then, hand_then}
 use Rattle.law_queues.proofs.lemmas.mended_heads.Row.{mend_leaves_ring}
 use Rattle.law_world.specs.memory.framed_memory.QueueRows.{MendKeepsNow}
 use Rattle.law_world.proofs.lemmas.memory.lemmas.framed_memory.Moving.{queues_move, StaysSound}
-
--- the store is into the first block of the queue head
-queue_of : (q b made : ℕ) → (store_by q b made).queue ≡ q
-queue_of q b (suc zero) = refl
-queue_of q b _ = refl
-
-in_first : (q b made : ℕ) → (store_by q b made).at / 32 ≡ 32 * q / 32
-in_first q b (suc zero) = omega arith
-in_first q b _ = omega arith
-
--- nothing is in hand where nothing was
-still_empty : (n : ℕ) (hand : Hand) → hand ≡ Empty → hand_stale n hand ≡ Empty
-still_empty n hand is = ap (hand_stale n) is
-
-table_head : (o : Option Structure) (words : List ℕ) (q : Qh) → o ≡ Some (Table words) → o ≡ Some (QueueHead q) → ⊥
-table_head o words q table head = cc
 
 module _ (base : Base) (member : ℕ → Bool) (recent : ℕ → Option Kind) (descs parts : StructureSets) (hand : Hand) (frame : FrameHand) (c : Content) (d : DriverContent) (out : ℕ → List ℕ) (i : IsFramedNow base member recent descs parts hand frame c d) (k : IsAtMend (parts_of c d) parts out) (on : member (32 * k.stalled.queue) ≡ true) where
   abbrev p : Parts

@@ -1,6 +1,7 @@
 -- A driver and a controller that are framed with what was unlinked in this microframe: the opening, and rows that read or write a register alone.
-use Rattle.std.proofs.Common.{◌≡◌, ℕ, ◌*◌, ◌%◌, Bool, true, false, Option, Some, None, ap, refl, sym, subst, ◌∙◌}
+use Rattle.std.proofs.Common.{◌≡◌, ℕ, ◌*◌, ◌%◌, Bool, true, false, Option, ap, refl, sym, subst, ◌∙◌}
 use Rattle.std.proofs.lemmas.Bool.{true≢false}
+use Rattle.law_frames.proofs.Common.{none_some}
 use Rattle.hc_core.specs.Controller.{Content}
 use Rattle.law_controller.specs.aligned_copies.Aligned.{AreAligned}
 use Rattle.drv_table.specs.declared.rows.DriverRow.{DriverRow}
@@ -55,9 +56,6 @@ pub begins_there : (base : Base) (member : ℕ → Bool) (recent : ℕ → Optio
 begins_there base member recent descs parts hand frame c d k = k.framed.start ∙ sym (ap (λ (b : ℕ). 32 * b) k.framed.place.sound.listed.list.list)
 
 -- ---- the opening
-
-none_some : (kind : Kind) → None ≡ Some kind → ⊥
-none_some kind e = cc
 
 pub new_is_framed_now : NewIsFramedNow
 new_is_framed_now n room many few whole = record {

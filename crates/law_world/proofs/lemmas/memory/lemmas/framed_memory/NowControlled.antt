@@ -1,15 +1,15 @@
 -- Each event of the controller keeps a driver framed with what was unlinked in this microframe; where a microframe begins, nothing was.
-use Rattle.std.proofs.Common.{◌≡◌, ℕ, Bool, true, false, ◌&&◌, not, if◌then◌else◌, List, Option, Some, None, ap, refl, sym, subst, ◌∙◌, inl}
+use Rattle.std.proofs.Common.{◌≡◌, ℕ, Bool, List, Option, ap, refl, sym, subst, ◌∙◌, inl}
+use Rattle.law_controller.proofs.Common.{over_not_periodic}
+use Rattle.law_frames.proofs.Common.{none_some}
+use Rattle.law_world.proofs.Common.{begins_over}
 use Rattle.usb_base.specs.declared.packets.Ask.{Ask}
 use Rattle.usb_base.specs.declared.packets.Reply.{Reply}
-use Rattle.op_registers.specs.RegisterFile.{RegisterFile}
 use Rattle.op_registers.specs.Events.{next_index}
-use Rattle.periodic_walk.specs.Walk.{Walk as FrameWalk, is_over}
-use Rattle.hc_core.specs.declared.controller.MicroframePart.{MicroframePart}
-use Rattle.hc_core.specs.declared.controller.MicroframePart.TheVariants.{Over, Periodic, Asynchronous}
+use Rattle.hc_core.specs.declared.controller.MicroframePart.TheVariants.{Over}
 use Rattle.hc_core.specs.declared.controller.ControllerRow.{ControllerRow}
 use Rattle.hc_core.specs.declared.controller.ControllerRow.TheVariants as events
-use Rattle.hc_core.specs.Controller.{Content, microframe_row, part_row, enter_row, ring_row, entered, began, frame_place, walk_place, HasRow}
+use Rattle.hc_core.specs.Controller.{Content, microframe_row, entered, began, frame_place, walk_place, HasRow}
 use Rattle.drv_table.specs.DriverContent.{DriverContent}
 use Rattle.claims_driver.specs.Owners.{views_of}
 use Rattle.law_structures.specs.lent_structures.Structures.{StructureSets}
@@ -35,36 +35,6 @@ use Rattle.law_world.proofs.lemmas.memory.lemmas.framed_memory.Index.{ring_index
 use Rattle.law_world.proofs.lemmas.memory.lemmas.framed_memory.Now.{now_has_frames, begins_there}
 
 -- ---- it begins where it is over
-
-no_enter : (b : Bool) → enter_row b ≡ events.Begin → ⊥
-no_enter true is = cc
-no_enter false is = cc
-
-no_ring : (b : Bool) → ring_row b ≡ events.Begin → ⊥
-no_ring true is = cc
-no_ring false is = cc
-
-no_frame : (goes async : Bool) → (if goes then events.Frame else enter_row async) ≡ events.Begin → ⊥
-no_frame true async is = cc
-no_frame false async is = no_enter async is
-
-not_idle : events.Idle ≡ events.Begin → ⊥
-not_idle is = cc
-
-part_over : (r : RegisterFile) (frame : FrameWalk) (part : MicroframePart) → part_row r frame part ≡ events.Begin → part ≡ Over
-part_over r frame Over is = refl
-part_over r frame Periodic is = absurd (no_frame (r.periodic_enable && not (is_over frame)) r.async_enable is)
-part_over r frame Asynchronous is = absurd (no_ring r.async_enable is)
-
-begins_over : (runs : Bool) (r : RegisterFile) (frame : FrameWalk) (part : MicroframePart) → (if runs then part_row r frame part else events.Idle) ≡ events.Begin → part ≡ Over
-begins_over true r frame part is = part_over r frame part is
-begins_over false r frame part is = absurd (not_idle is)
-
-over_not_periodic : Over ≡ Periodic → ⊥
-over_not_periodic is = cc
-
-none_some : (kind : Kind) → None ≡ Some kind → ⊥
-none_some kind e = cc
 
 module _ {W : Type 0} (begins : W → ℕ → Bool → W → Type 0) (transacts : W → Ask → List ℕ → Reply → W → Type 0) (base : Base) (member : ℕ → Bool) (recent : ℕ → Option Kind) (descs parts : StructureSets) (hand : Hand) (frame : FrameHand) (c : Content)
     (d : DriverContent) (wire : W) (new : Content) (after : W) (k : IsFramedNow base member recent descs parts hand frame c d) (after_it : FramedAfter begins transacts base member (met d recent) descs parts hand frame c d wire after new) where

@@ -2,6 +2,7 @@
 use Rattle.std.proofs.Common.{◌≡◌, ℕ, ◌*◌, Bool, true, Option, Some, None, ap, refl, sym, subst, ◌∙◌}
 use Rattle.std.specs.Prelude.{slice_get}
 use Rattle.std.proofs.lemmas.Bool.{true≢false}
+use Rattle.law_world.proofs.Common.{descriptor_index, placed_index}
 use Rattle.op_registers.specs.RegisterFile.{RegisterFile}
 use Rattle.hc_core.specs.Controller.{Content}
 use Rattle.drv_periodic_table.specs.Periodic.{PeriodicContent, note_at}
@@ -134,10 +135,6 @@ link_keeps_now base member recent descs parts hand frame c d k why comes =
 
 -- ---- what was unlinked is given back
 
-descriptor_registers : (p : Parts) (t : ℕ) (o : Option Transfer) → (after_descriptor p t o).registers ≡ p.registers
-descriptor_registers p t None = refl
-descriptor_registers p t (Some y) = refl
-
 descriptor_stands : (p : Parts) (t : ℕ) (o : Option Transfer) (n : ℕ) → standing (after_descriptor p t o).driver n ≡ standing p.driver n
 descriptor_stands p t None n = refl
 descriptor_stands p t (Some y) n = refl
@@ -150,7 +147,7 @@ release_keeps_now base member recent descs parts hand frame c d t y k is there =
     let given : IsGivenBack p (removed.Descriptor t) = row_gives_back_passed p (removed.Descriptor t) is in
     let fewer : StructureSets = without_owners descs (begins_at y.first) in
     let told : IsToldBy (views_of d) descs parts = told_now base member recent descs parts hand frame c d k in
-    let registers : (after_driver_row row p).registers ≡ c.registers = descriptor_registers p t (slice_get d.transfers t) in
+    let registers : (after_driver_row row p).registers ≡ c.registers = descriptor_index p t (slice_get d.transfers t) in
     next_now base member recent recent descs parts fewer parts hand hand frame frame c d k
     (subst (RowLeaves base member recent fewer parts hand frame c d) (sym is)
     (record {
@@ -162,10 +159,6 @@ release_keeps_now base member recent descs parts hand frame c d t y k is there =
           (release_leaves_recent p recent c.registers.frame_index t y given there k.recent_are);
       apart = λ n kind on. descriptor_stands p t (slice_get d.transfers t) n ∙ k.apart n kind on;
     }))
-
-placed_registers : (p : Parts) (e : ℕ) (o : Option Endpoint) → (after_placed p e o).registers ≡ p.registers
-placed_registers p e None = refl
-placed_registers p e (Some x) = refl
 
 placed_stands : (p : Parts) (e : ℕ) (o : Option Endpoint) (n : ℕ) → standing (after_placed p e o).driver n ≡ standing p.driver n
 placed_stands p e None n = refl
@@ -179,7 +172,7 @@ waiting_keeps_now base member recent descs parts hand frame c d e x k is there i
     let given : IsGivenBack p (removed.Endpoint e) = row_gives_back_passed p (removed.Endpoint e) is in
     let fewer : StructureSets = without_owners descs (waiting_at d e) in
     let told : IsToldBy (views_of d) descs parts = told_now base member recent descs parts hand frame c d k in
-    let registers : (after_driver_row row p).registers ≡ c.registers = placed_registers p e (slice_get d.endpoints e) in
+    let registers : (after_driver_row row p).registers ≡ c.registers = placed_index p e (slice_get d.endpoints e) in
     next_now base member recent recent descs parts fewer parts hand hand frame frame c d k
     (subst (RowLeaves base member recent fewer parts hand frame c d) (sym is)
     (record {

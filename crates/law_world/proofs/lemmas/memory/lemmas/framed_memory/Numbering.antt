@@ -1,5 +1,6 @@
 -- The numbers of a driver's endpoints fit their fields, where those of each that is opened do.
-use Rattle.std.proofs.Common.{◌≡◌, ℕ, [], slice_get, Option, Some}
+use Rattle.std.proofs.Common.{Option}
+use Rattle.law_common.proofs.Lists.{nothing_at}
 use Rattle.usb_base.specs.declared.endpoints.EpDesc.{EpDesc}
 use Rattle.usb_base.specs.declared.commands.Cmd.{Cmd}
 use Rattle.usb_base.specs.declared.commands.Cmd.TheVariants as commands
@@ -9,14 +10,11 @@ use Rattle.law_world.specs.memory.framed_memory.Isochronous.{NumbersFit}
 use Rattle.law_world.specs.memory.framed_memory.IsochronousLaws.{OpensNumbered, NewIsNumbered, EventsKeepNumbered, CommandsKeepNumbered}
 use Rattle.law_world.proofs.lemmas.memory.lemmas.framed_memory.EndpointFacts.{after_row, IsOfOpened, after_command}
 
-none_there : {X : Type 0} (e : ℕ) (x : X) → slice_get [] e ≡ Some x → ⊥
-none_there e x here = cc
-
 abbrev Fits : EpDesc → Option Placement → Type 0
 Fits x o = NumbersFit x
 
 pub new_is_numbered : NewIsNumbered
-new_is_numbered n room e x here = absurd (none_there e x here)
+new_is_numbered n room e x here = absurd (nothing_at e x here)
 
 pub events_keep_numbered : EventsKeepNumbered
 events_keep_numbered p all = after_row Fits (driver_row p) p all

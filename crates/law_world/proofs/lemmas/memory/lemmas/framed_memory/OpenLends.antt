@@ -1,13 +1,14 @@
 -- The queue head of a new endpoint, and the inactive qTD at the end of its queue, are lent beside both walks.
-use Rattle.std.proofs.Common.{◌≡◌, ◌≢◌, ℕ, ◌*◌, ◌==◌, Bool, true, false, ◌||◌, List, Option, Some, None, ap, refl, sym, subst, ◌∙◌, ⊎_elim, arith}
+use Rattle.std.proofs.Common.{◌≡◌, ◌≢◌, ℕ, ◌*◌, ◌==◌, Bool, true, false, ◌||◌, Option, Some, None, ap, refl, sym, subst, ◌∙◌, ⊎_elim, arith}
 use Rattle.std.proofs.lemmas.Bool.{cases_eq}
-use Rattle.word_mem.specs.Runs.{Run}
+use Rattle.law_controller.proofs.Common.{none_table}
+use Rattle.law_world.proofs.Common.{kept_has, met_alike}
+use Rattle.law_common.proofs.Numbers.{other_number}
 use Rattle.word_mem.specs.Memory.{Mem}
 use Rattle.qh_qtd.specs.declared.queue_head.Qh.{Qh}
 use Rattle.async_walk.specs.Rows.{place}
 use Rattle.mem_runs.specs.declared.slots.Slot.{Slot}
-use Rattle.mem_runs.specs.declared.slots.Slot.TheVariants.{Keeps, Lends}
-use Rattle.mem_runs.specs.Book.{Holding, holding, slot_of, slot_at, lend_taken}
+use Rattle.mem_runs.specs.Book.{Holding, holding, slot_of, lend_taken}
 use Rattle.drv_table.specs.declared.rows.DriverRow.{DriverRow}
 use Rattle.drv_table.specs.declared.rows.DriverRow.TheVariants as rows
 use Rattle.drv_table.specs.DriverContent.{DriverContent}
@@ -20,8 +21,8 @@ use Rattle.law_driver.specs.run_owners.Due.{IsDue, IsNextOf}
 use Rattle.law_driver.proofs.lemmas.run_owners.Reasons.{each_event_is_due}
 use Rattle.claims_driver.specs.LentRuns.{begins_in}
 use Rattle.hc_core.specs.Controller.{Content, walk_place}
-use Rattle.law_structures.specs.lent_structures.Structures.{Structure, QueueHead, Element, Table, Structures, StructureSets, put}
-use Rattle.law_structures.proofs.lemmas.lent_structures.Names.{not_same, put_beside}
+use Rattle.law_structures.specs.lent_structures.Structures.{Structure, QueueHead, Element, Structures, StructureSets, put}
+use Rattle.law_structures.proofs.lemmas.lent_structures.Names.{put_beside}
 use Rattle.law_ring.specs.Hand.{Hand}
 use Rattle.claims_base.specs.Controller.{Base}
 use Rattle.law_controller.specs.controlled_streams.Control.{FrameList}
@@ -49,17 +50,10 @@ use Rattle.law_descriptors.proofs.Others.{queue_lend_describes}
 use Rattle.law_descriptors.proofs.Rings.{ring_is_of_queues, list_is_of_queues}
 use Rattle.law_world.specs.memory.framed_memory.Now.{IsFramedNow}
 use Rattle.law_world.proofs.lemmas.memory.lemmas.framed_memory.Now.{RowLeaves, next_now}
-use Rattle.law_world.proofs.lemmas.memory.lemmas.framed_memory.StillStanding.{met_same}
 use Rattle.law_world.proofs.lemmas.memory.lemmas.framed_memory.Lending.{runs_alike}
 use Rattle.law_world.specs.memory.framed_memory.QueueRows.{LendOpenKeepsNow}
 use Rattle.law_world.proofs.lemmas.memory.lemmas.framed_memory.Moving.{alike_extents, still_held, queues_move, StaysSound}
 use Rattle.law_world.proofs.lemmas.memory.lemmas.framed_memory.Steps.{StaysMet, lend_step}
-
--- a run that was kept and is lent has its blocks still
-kept_has : (h g : Holding) (b c k : ℕ) (r : Run) → slot_at h b ≡ Keeps r → slot_at g b ≡ Lends r → c ≡ b → SlotHas (slot_at h c) k → SlotHas (slot_at g c) k
-kept_has h g b c k r kept lent same inside =
-    let has : SlotHas (Keeps r) k = subst (λ (s : Slot). SlotHas s k) (ap (slot_at h) same ∙ kept) inside in
-    subst (λ (s : Slot). SlotHas s k) (sym (ap (slot_at g) same ∙ lent)) has
 
 -- a queue head that is met stands at its own address
 met_none : (met : ℕ → Option Kind) (n : ℕ) (part : Structures) → part n ≡ None → IsMetQueue met n part → ⊥
@@ -67,9 +61,6 @@ met_none met n part none k = absent (part n) (QueueHead k.part_is.queue) none k.
   where
     absent : (o : Option Structure) (s : Structure) → o ≡ None → o ≡ Some s → ⊥
     absent o s none here = cc
-
-table_none : (o : Option Structure) (words : List ℕ) → o ≡ None → o ≡ Some (Table words) → ⊥
-table_none o words none here = cc
 
 neither : (a b : Bool) → a ≡ false → b ≡ false → (a || (b || false)) ≡ false
 neither a b one two = ap (λ (t : Bool). t || (b || false)) one ∙ ap (λ (t : Bool). t || false) two
@@ -126,7 +117,8 @@ module _ (base : Base) (member : ℕ → Bool) (recent : ℕ → Option Kind) (d
   list_differs : base.periodic_list_base ≢ n
   list_differs same =
       let there : FrameList parts base = (list_is_of_queues d descs parts base old).0 k.framed.runs.list in
-      table_none (parts base.periodic_list_base base.periodic_list_base) there.words (ap (λ (i : ℕ). parts i base.periodic_list_base) same ∙ none base.periodic_list_base) there.here
+      none_table (parts base.periodic_list_base base.periodic_list_base) there.words
+      (ap (λ (i : ℕ). parts i base.periodic_list_base) same ∙ none base.periodic_list_base) there.here
 
   -- ---- their runs
 
@@ -159,8 +151,10 @@ module _ (base : Base) (member : ℕ → Bool) (recent : ℕ → Option Kind) (d
       let dummy = own.owned.each.dummy e x o.here.here o.here.queued in
       ap (begins_in y.first) o.taken
       ∙ neither (x.queue == y.first) (x.dummy == y.first)
-      (not_same x.queue y.first (apart_from (views_of d).slot own.owner x.queue y.first (QueueOf e) (Described split t) queue placed (λ s. omega (arith, s))))
-      (not_same x.dummy y.first (apart_from (views_of d).slot own.owner x.dummy y.first (Dummy e) (Described split t) dummy placed (λ s. omega (arith, s))))
+      (other_number x.queue y.first (apart_from (views_of d).slot own.owner x.queue y.first (QueueOf e) (Described split t) queue placed
+      (λ s. omega (arith, s))))
+      (other_number x.dummy y.first (apart_from (views_of d).slot own.owner x.dummy y.first (Dummy e) (Described split t) dummy placed
+      (λ s. omega (arith, s))))
 
   described : AreDescribed (views_of f) descs
   described = queue_lend_describes p descs k.framed.place.sound.stands k.framed.runs.ring.tells.shape not_taken k.framed.described
@@ -186,7 +180,7 @@ module _ (base : Base) (member : ℕ → Bool) (recent : ℕ → Option Kind) (d
 
   leaves : RowLeaves base member recent descs now hand frame c d rows.Lend
   leaves = record {
-    runs = runs_alike base member (met d recent) (met f recent) (both descs now) hand frame (with_memory c after) (met_same d f recent stays.stands) runs;
+    runs = runs_alike base member (met d recent) (met f recent) (both descs now) hand frame (with_memory c after) (met_alike d f recent stays.stands) runs;
     told = record { driven = drives.driven; extents = lies; described = described };
     recent_are = stays.recent_are;
     apart = λ a kind on. stays.stands a ∙ k.apart a kind on;

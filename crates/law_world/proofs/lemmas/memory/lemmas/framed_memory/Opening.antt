@@ -1,11 +1,13 @@
 -- A driver that was just built and a new controller are framed.
-use Rattle.std.proofs.Common.{◌≡◌, ℕ, zero, suc, ◌≤◌, List, [], length, Option, Some, None, ap, refl, subst, arith}
+use Rattle.std.proofs.Common.{◌≡◌, ℕ, ◌≤◌, List, [], length, Option, Some, ap, refl, subst, arith}
 use Rattle.std.proofs.lemmas.List.{length-replicate}
+use Rattle.law_world.proofs.Common.{no_transfer}
+use Rattle.law_descriptors.proofs.Common.{none_else}
 use Rattle.hc_core.specs.Controller.{Content, content, new_control}
 use Rattle.law_controller.proofs.lemmas.aligned_copies.Controlling.{a_new_controller_is_aligned}
 use Rattle.drv_table.specs.declared.content.Reserve.{Reserve}
 use Rattle.drv_table.specs.Opening.{opening}
-use Rattle.claims_driver.specs.Owners.{TransferRuns, transfer_in, views_of}
+use Rattle.claims_driver.specs.Owners.{views_of}
 use Rattle.law_structures.specs.lent_structures.Structures.{Structure, Table}
 use Rattle.law_ring.specs.Hand.{Empty}
 use Rattle.law_driver_ring.specs.PartOpened.{empty_list, no_parts, opening_parts, is_head}
@@ -17,13 +19,6 @@ use Rattle.law_frame_list.proofs.lemmas.list_driver.Rows.{a_new_driver_keeps_its
 use Rattle.law_controller.proofs.lemmas.frame_control.Frameless.{a_frameless_list_has_nothing_met}
 use Rattle.law_descriptors.specs.Described.{AreDescribed}
 use Rattle.law_world.specs.memory.framed_memory.Framed.{NewIsFramed}
-
-no_transfer : (t : ℕ) (y : TransferRuns) → transfer_in [] t ≡ Some y → ⊥
-no_transfer zero y here = cc
-no_transfer (suc t) y here = cc
-
-none_there : (s : Structure) → None ≡ Some s → ⊥
-none_there s e = cc
 
 -- ---- the frame list has 1,024 elements
 
@@ -44,7 +39,7 @@ opening_described : (n : ℕ) (room : Reserve) → AreDescribed (views_of (openi
 opening_described n room = record {
   descriptors = λ t y is. absurd (no_transfer t y is.here);
   buffers = λ t y is. absurd (no_transfer t y is.here);
-  only = λ a b s here. absurd (none_there s here);
+  only = λ a b s here. absurd (none_else s here);
 }
 
 pub new_is_framed : NewIsFramed

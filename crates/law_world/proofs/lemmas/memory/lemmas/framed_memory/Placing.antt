@@ -1,6 +1,7 @@
 -- An endpoint without a queue comes: what memory has for the driver is told as before.
 use Rattle.std.proofs.Common.{◌≡◌, ℕ, zero, suc, ◌*◌, ◌||◌, false, true, length, Option, Some, ap, sym, ⊎_elim, ◌∙◌}
 use Rattle.std.proofs.lemmas.Bool.{false≢true}
+use Rattle.law_common.proofs.Lists.{pushed_there}
 use Rattle.usb_base.specs.declared.endpoints.EpDesc.{EpDesc}
 use Rattle.bandwidth.specs.declared.placements.Placement.{Placement}
 use Rattle.drv_table.specs.declared.content.Endpoint.{Endpoint}
@@ -12,7 +13,6 @@ use Rattle.law_driver.proofs.lemmas.run_owners.Accepted.{push_case}
 use Rattle.law_structures.specs.lent_structures.Structures.{StructureSets}
 use Rattle.law_driver_ring.specs.Inventory.{Sort, Inventory, AreTold, IsTransferIn, IsDriverOwned, the_list, the_head, a_queue, a_dummy, a_piece, a_buffer, IsDriven}
 use Rattle.law_driver_ring.specs.Extents.{AreInRuns}
-use Rattle.law_driver_ring.proofs.Opens.{pushed_old}
 
 module _ (d : DriverContent) (x : EpDesc) (p : Placement) (iso : is_iso x.kind ≡ true) where
   abbrev y : Endpoint
@@ -32,7 +32,7 @@ module _ (d : DriverContent) (x : EpDesc) (p : Placement) (iso : is_iso x.kind �
       (push_case runs_of_endpoint d.endpoints y e r is.here)
 
   queue_on : (e : ℕ) (r : EndpointRuns) → IsQueueIn v e r → IsQueueIn w e r
-  queue_on e r is = record { here = pushed_old runs_of_endpoint d.endpoints y e r is.here; queued = is.queued }
+  queue_on e r is = record { here = pushed_there runs_of_endpoint d.endpoints y e r is.here; queued = is.queued }
 
   transfer_back : (t : ℕ) (z : TransferRuns) (r : EndpointRuns) → IsTransferIn w t z r → IsTransferIn v t z r
   transfer_back t z r is = record { here = is.here; held = is.held; qtds = is.qtds; queue = queue_back z.endpoint r is.queue }

@@ -1,42 +1,38 @@
 -- A word of a qTD that is published is stored beside both walks.
-use Rattle.std.proofs.Common.{◌≡◌, ◌≢◌, ℕ, zero, suc, ◌+◌, ◌*◌, ◌/◌, ◌%◌, ◌<◌, ◌≤◌, Bool, true, false, nat_le, nat_lt, List, get_or, Option, Some, option_map, slice_index, ap, refl, sym, subst, ◌∙◌, ⊎_elim, arith}
-use Rattle.std.proofs.lemmas.Bool.{true≢false, cases_eq, le-leb, lt-ltb, and_from}
+use Rattle.std.proofs.Common.{◌≡◌, ◌≢◌, ℕ, suc, ◌+◌, ◌*◌, ◌/◌, ◌<◌, Bool, true, false, List, Option, Some, slice_index, ap, refl, sym, subst, ◌∙◌, ⊎_elim, arith}
+use Rattle.std.proofs.lemmas.Bool.{true≢false, cases_eq}
+use Rattle.law_driver_ring.proofs.Common.{sound_at, unnamed_at, places_below, partly_idle}
+use Rattle.law_queues.proofs.Common.{can_publish}
+use Rattle.law_world.proofs.Common.{met_alike}
 use Rattle.word_mem.specs.Memory.{Mem, with_word}
-use Rattle.word_mem.specs.Runs.{Run}
 use Rattle.qh_qtd.specs.declared.qtd.Qtd.{Qtd}
 use Rattle.qh_qtd.specs.declared.queue_head.Qh.{Qh}
 use Rattle.qh_qtd.specs.Qtd.{qtd_words, IsQtdInRange}
 use Rattle.async_walk.specs.Rows.{place}
-use Rattle.mem_runs.specs.declared.slots.Slot.{Slot}
 use Rattle.mem_runs.specs.declared.slots.Slot.TheVariants as slots
-use Rattle.mem_runs.specs.Book.{slot_of, IsAt, has_address, can_store}
+use Rattle.mem_runs.specs.Book.{slot_of, can_store}
 use Rattle.drv_table.specs.declared.content.Command.TheVariants as unfinished
 use Rattle.drv_table.specs.declared.rows.DriverRow.{DriverRow}
 use Rattle.drv_table.specs.DriverContent.{DriverContent}
-use Rattle.drv_table.specs.Words.{dummy_qtd}
 use Rattle.drv_table.specs.Parts.{Parts}
 use Rattle.drv_table.specs.Rows.{driver_row, after_driver_row}
 use Rattle.drv_table.specs.Commands.{advance}
-use Rattle.claims_driver.specs.Owners.{HasBlocks, Owner, NoteRuns, ArePieces, runs_of_transfer, note_in, views_of}
-use Rattle.claims_driver.specs.Ring.{link_in}
-use Rattle.law_driver.specs.in_place.InPlace.{IsSound, IsInPlace}
-use Rattle.law_driver.specs.ring_members.Words.{StandsFor, IsPublishing}
+use Rattle.claims_driver.specs.Owners.{views_of}
+use Rattle.law_driver.specs.in_place.InPlace.{IsInPlace}
 use Rattle.hc_core.specs.Controller.{Content, walk_place}
 use Rattle.law_structures.specs.lent_structures.Structures.{Structure, QueueHead, Element, Table, Structures, StructureSets, put, Holds}
 use Rattle.law_structures.specs.lent_structures.Changes.{Changes}
-use Rattle.law_structures.specs.lent_structures.Sound.{element_pages, buffer_name, IsSoundElement}
 use Rattle.law_structures.proofs.lemmas.lent_structures.Names.{put_here, put_else, put_beside}
 use Rattle.law_structures.proofs.lemmas.lent_structures.Standing.{holds_still}
 use Rattle.law_structures.proofs.lemmas.lent_structures.Writing.{word_changes}
 use Rattle.law_ring.specs.Hand.{Hand}
 use Rattle.claims_base.specs.Controller.{Base}
-use Rattle.law_ring.specs.Stores.{IsBuffer, IsUnnamed}
 use Rattle.law_controller.specs.controlled_streams.Control.{FrameList}
 use Rattle.law_driver_ring.specs.Driven.{DrivesRing}
 use Rattle.law_driver_ring.specs.Extents.{AreInRuns}
 use Rattle.law_driver_ring.specs.Published.{partly, place_in, publish_row, IsPublishable}
 use Rattle.law_driver_ring.proofs.Extending.{extents_stay, element_put}
-use Rattle.law_driver_ring.proofs.Publishing.{publish_store_drives, places_below, idle}
+use Rattle.law_driver_ring.proofs.Publishing.{publish_store_drives}
 use Rattle.law_driver_ring.proofs.Storing.{store_made}
 use Rattle.law_driver.proofs.lemmas.in_place.Laws.{events_keep_all_in_place}
 use Rattle.law_queues.specs.shared_memory.Shared.{parts_of}
@@ -54,63 +50,12 @@ use Rattle.law_descriptors.proofs.Standing.{found_on}
 use Rattle.law_descriptors.proofs.Telling.{queue_off, queue_found, descriptor_found}
 use Rattle.law_world.specs.memory.framed_memory.Now.{IsFramedNow}
 use Rattle.law_world.proofs.lemmas.memory.lemmas.framed_memory.Now.{RowLeaves, next_now, told_now}
-use Rattle.law_world.proofs.lemmas.memory.lemmas.framed_memory.StillStanding.{met_same}
 use Rattle.law_world.proofs.lemmas.memory.lemmas.framed_memory.Lending.{runs_alike}
 use Rattle.law_world.specs.memory.framed_memory.QueueRows.{PublishKeepsNow}
 use Rattle.law_world.proofs.lemmas.memory.lemmas.framed_memory.Moving.{queues_move, StaysSound}
 use Rattle.law_world.proofs.lemmas.memory.lemmas.framed_memory.Steps.{StaysMet, publish_step}
 
--- ---- the run is the driver's
-
-address_in : (r : Run) (b at : ℕ) → r.first ≡ b → 1 ≤ r.blocks → 32 * b ≤ at → at < 32 * (b + 1) → has_address r at ≡ true
-address_in r b at first some low high =
-    and_from (nat_le (32 * r.first) at) (nat_lt at (32 * (r.first + r.blocks))) (le-leb (32 * r.first) at (omega (arith, first, low))) (lt-ltb at (32 * (r.first + r.blocks)) (omega (arith, first, some, high)))
-
-can_by : (s : Slot) (b at : ℕ) → IsAt b s → HasBlocks 1 s → 32 * b ≤ at → at < 32 * (b + 1) → can_store s at ≡ true
-can_by slots.Empty b at is run low high = absurd run
-can_by (slots.Keeps r) b at is run low high = address_in r b at is.0 is.1 low high
-can_by (slots.Lends r) b at is run low high = address_in r b at is.0 is.1 low high
-
-first_piece : (slot : ℕ → Slot) (owner : ℕ → Owner) (note : ℕ → NoteRuns) (t b qtds : ℕ) → 1 ≤ qtds → ArePieces slot owner note t b qtds → HasBlocks 1 (slot b)
-first_piece slot owner note t b zero some pieces = absurd (omega (arith, some))
-first_piece slot owner note t b (suc qtds) some pieces = pieces.0.element.run
-
-can_publish : (m : Mem) (d : DriverContent) (b : ℕ) (words : List ℕ) (i : ℕ) → IsSound m d → d.command ≡ Some (unfinished.Publish b words) → i < 8 → can_store (slot_of d.book.slots b) (32 * b + 4 * i) ≡ true
-can_publish m d b words i k command below =
-    let is : IsPublishing (link_in m) d.endpoints d.transfers b = subst (StandsFor (link_in m) d.endpoints d.transfers) command k.ring.ring in
-    let pieces = k.owners.owned.each.pieces is.number (runs_of_transfer is.transfer) (ap (option_map runs_of_transfer) is.there) is.released in
-    let one : HasBlocks 1 (slot_of d.book.slots is.transfer.first) = first_piece (slot_of d.book.slots) k.owners.owner (note_in d.notes) is.number is.transfer.first is.transfer.qtds is.some pieces in
-    can_by (slot_of d.book.slots b) b (32 * b + 4 * i) (k.stands.placed b) (subst (λ (c : ℕ). HasBlocks 1 (slot_of d.book.slots c)) is.first one) (omega arith) (omega (arith, below))
-
 -- ---- the qTD stays sound
-
-sound_at : (part : Structures) (t : Qtd) (k : ℕ) → IsSoundElement part t → IsSoundElement part (partly t k)
-sound_at part t zero s = record { next = tt; alternate = tt; work = λ on. absurd (true≢false (sym on)) }
-sound_at part t (suc zero) s = record { next = s.next; alternate = tt; work = λ on. absurd (true≢false (sym on)) }
-sound_at part t (suc (suc (suc (suc (suc (suc (suc (suc k)))))))) s = s
-sound_at part t _ s = record { next = s.next; alternate = s.alternate; work = λ on. absurd (true≢false (sym on)) }
-
-name_is : (t : Qtd) → t.offset < 4096 → buffer_name t ≡ t.page0 * 4096 + t.offset
-name_is t low =
-    let first : t.offset / 4096 ≡ 0 = omega (arith, low) in
-    let rest : t.offset % 4096 ≡ t.offset = omega (arith, low) in
-    ap (λ (j : ℕ). get_or (element_pages t) j 0 * 4096 + t.offset % 4096) first ∙ ap (λ (j : ℕ). t.page0 * 4096 + j) rest
-
-same_name : (part : Structures) (a : ℕ) (t u : Qtd) → buffer_name u ≡ buffer_name t → IsUnnamed part a t → IsUnnamed part a u
-same_name part a t u same free b v differs there name has = free b v differs there (name ∙ same) (subst (IsBuffer part) same has)
-
-same_place : (part : Structures) (a : ℕ) (t u : Qtd) → t.offset < 4096 → u.offset ≡ t.offset → u.page0 ≡ t.page0 → IsUnnamed part a t → IsUnnamed part a u
-same_place part a t u low offset page free =
-    same_name part a t u (name_is u (omega (arith, low, offset)) ∙ (let e : u.page0 * 4096 + u.offset ≡ t.page0 * 4096 + t.offset = omega (arith, offset, page) in e) ∙ sym (name_is t low)) free
-
-unnamed_at : (part : Structures) (a : ℕ) (t : Qtd) (k : ℕ) → t.offset < 4096 → IsUnnamed part a t → IsUnnamed part a dummy_qtd → IsUnnamed part a (partly t k)
-unnamed_at part a t (suc (suc (suc zero))) low own blank = same_place part a t (partly t 3) low refl refl own
-unnamed_at part a t (suc (suc (suc (suc zero)))) low own blank = same_place part a t (partly t 4) low refl refl own
-unnamed_at part a t (suc (suc (suc (suc (suc zero))))) low own blank = same_place part a t (partly t 5) low refl refl own
-unnamed_at part a t (suc (suc (suc (suc (suc (suc zero)))))) low own blank = same_place part a t (partly t 6) low refl refl own
-unnamed_at part a t (suc (suc (suc (suc (suc (suc (suc zero))))))) low own blank = same_place part a t (partly t 7) low refl refl own
-unnamed_at part a t (suc (suc (suc (suc (suc (suc (suc (suc k)))))))) low own blank = own
-unnamed_at part a t _ low own blank = blank
 
 head_element : (o : Option Structure) (q : Qh) (t : Qtd) → o ≡ Some (QueueHead q) → o ≡ Some (Element t) → ⊥
 head_element o q t head element = cc
@@ -162,7 +107,7 @@ module _ (base : Base) (member : ℕ → Bool) (recent : ℕ → Option Kind) (d
       let may = frame_may (ap (met d recent) (sym same) ∙ on) in
       subst (λ (j : ℕ). IsMetQueue (met d recent) j (now j) × (now j j ≡ parts j j)) (sym same) (
         subst (IsMetQueue (met d recent) n) (sym (put_here parts n (32 * b) (Element new)))
-            (met_element_may_change (met d recent) n (parts n) (32 * b) (partly t k) new mine at (idle t k below) (sound_at (parts n) t (suc k) may.sound)
+            (met_element_may_change (met d recent) n (parts n) (32 * b) (partly t k) new mine at (partly_idle t k below) (sound_at (parts n) t (suc k) may.sound)
             (unnamed_at (parts n) (32 * b) t (suc k) (let low = range.1.1.1.0.1.0 in omega (arith, low)) may.own may.blank)),
         put_else parts n (32 * b) (Element new) n (head_there mine.part_is.queue mine.part_is.here),
       ))
@@ -226,7 +171,7 @@ module _ (base : Base) (member : ℕ → Bool) (recent : ℕ → Option Kind) (d
 
   leaves : RowLeaves base member recent descs now hand frame c d row
   leaves = record {
-    runs = runs_alike base member (met d recent) (met f recent) (both descs now) hand frame (with_memory c after) (met_same d f recent stays.stands)
+    runs = runs_alike base member (met d recent) (met f recent) (both descs now) hand frame (with_memory c after) (met_alike d f recent stays.stands)
         (queues_move base member (met d recent) descs parts now hand hand (λ e. e) frame c d f after old then lies placed.sound.stands held i.framed.runs drives.ring sound list);
     told = record { driven = drives.driven; extents = lies; described = told.described };
     recent_are = stays.recent_are;

@@ -1,14 +1,17 @@
 -- Accepted commands of endpoints with queues, beside both walks: they take runs that are kept, and write in these alone.
-use Rattle.std.proofs.Common.{◌≡◌, ℕ, ◌-◌, Bool, true, false, cond, List, [], ◌∷◌, length, take, slice_get, slice_index, Option, Some, None, Ok, ap, refl, sym, subst, ◌∙◌}
-use Rattle.std.specs.Prelude.{is_none, is_some}
+use Rattle.std.proofs.Common.{◌≡◌, ℕ, ◌-◌, Bool, true, List, [], ◌∷◌, length, take, slice_get, slice_index, Option, Some, Ok, ap, refl, sym, subst, ◌∙◌}
+use Rattle.std.specs.Prelude.{is_some}
+use Rattle.law_descriptors.proofs.Common.{unchained_book}
+use Rattle.law_driver_ring.proofs.Common.{leaves_itself}
+use Rattle.law_common.proofs.Lists.{still_there}
+use Rattle.law_world.proofs.Common.{met_alike}
 use Rattle.usb_base.specs.declared.commands.Cmd.{Cmd}
-use Rattle.word_mem.specs.Memory.{Mem, IsShaped}
+use Rattle.word_mem.specs.Memory.{Mem}
 use Rattle.mem_runs.specs.Book.{Book, slot_of}
 use Rattle.drv_chains.specs.declared.members.Member.{Member}
 use Rattle.drv_periodic_table.specs.Periodic.{is_periodic}
 use Rattle.drv_table.specs.declared.content.Endpoint.{Endpoint}
 use Rattle.drv_table.specs.declared.content.Command.TheVariants as unfinished
-use Rattle.drv_table.specs.Commands.{no_command, leave_frames, finished, or_finished}
 use Rattle.drv_table.specs.DriverContent.{DriverContent}
 use Rattle.drv_table.specs.Accepting.{Offered, new_runs}
 use Rattle.drv_table.specs.Offers.{IsOffered, offered, new_endpoint, new_transfer, with_queued}
@@ -48,23 +51,12 @@ use Rattle.law_descriptors.proofs.Queued.{commands_link_queued}
 use Rattle.law_descriptors.proofs.Rings.{ring_is_of_queues}
 use Rattle.law_world.specs.memory.framed_memory.Framed.{IsFramed}
 use Rattle.law_world.specs.memory.framed_memory.Now.{IsFramedNow}
-use Rattle.law_world.proofs.lemmas.memory.lemmas.framed_memory.StillStanding.{IsThereStill, pushed_there, pushed_still, set_still, recent_still, met_same, unchain_stands, unchain_recent_still}
+use Rattle.law_world.proofs.lemmas.memory.lemmas.framed_memory.StillStanding.{IsThereStill, pushed_still, set_still, recent_still, unchain_stands, unchain_recent_still}
 use Rattle.law_world.proofs.lemmas.memory.lemmas.framed_memory.Lending.{runs_alike}
 use Rattle.law_world.specs.memory.framed_memory.QueueRows.{OpenKeepsNow, TransferKeepsNow, CancelKeepsNow, UnchainKeepsNow}
 use Rattle.law_world.proofs.lemmas.memory.lemmas.framed_memory.Moving.{alike_extents}
 
 -- ---- an endpoint's members are to be unlinked: the driver's runs and queues are told as before
-
-either_book : (k : Book) (b : Bool) (e f : DriverContent) → e.book ≡ k → f.book ≡ k → (cond b e f).book ≡ k
-either_book k true e f one other = one
-either_book k false e f one other = other
-
-left_book : (d : DriverContent) (e : ℕ) (o : Option Endpoint) → (leave_frames d e o).book ≡ d.book
-left_book d e None = refl
-left_book d e (Some x) = either_book d.book x.chained _ d refl refl
-
-unchained_book : (d : DriverContent) (e : ℕ) → (or_finished d (unfinished.Unchain e)).book ≡ d.book
-unchained_book d e = either_book d.book (is_none d.periodic.list.work) (finished d (unfinished.Unchain e)) d (left_book (no_command d) e (slice_get d.endpoints e)) refl
 
 unchained_views : (d : DriverContent) (e : ℕ) (x : Endpoint) (ms : List Member) → slice_get d.endpoints e ≡ Some x → SameViews (views_of d) (views_of (accepted_unchain d e x ms))
 unchained_views d e x ms here =
@@ -76,9 +68,6 @@ unchained_views d e x ms here =
       transfer = done.transfers;
       note = done.notes;
     }
-
-nothing_written : (m : Mem) → IsShaped m → Leaves m m
-nothing_written m shape = record { shape = shape; lent = λ b is. is; words = λ other on. refl }
 
 -- ---- what the acceptance leaves
 
@@ -133,7 +122,7 @@ module _ (base : Base) (member : ℕ → Bool) (recent : ℕ → Option Kind) (d
             subst (λ (f : Offered). IsThereStill f.driver.endpoints e x) (sym why.is)
             (set_still d.endpoints why.number why.endpoint (with_queued why.endpoint dummy (length d.transfers)) why.here refl refl e x at))
             (λ t y at.
-            subst (λ (f : Offered). slice_get f.driver.transfers t ≡ Some y) (sym why.is) (pushed_there d.transfers (new_transfer why.number why.asked why.endpoint.dummy ∷ []) t y at))
+            subst (λ (f : Offered). slice_get f.driver.transfers t ≡ Some y) (sym why.is) (still_there d.transfers (new_transfer why.number why.asked why.endpoint.dummy ∷ []) t y at))
             (ap (λ (f : Offered). f.driver.periodic.removals) why.is) k.recent_are;
       }
 
@@ -144,7 +133,7 @@ module _ (base : Base) (member : ℕ → Bool) (recent : ℕ → Option Kind) (d
       let drives : DrivesRing base member parts hand (place c.control.walk c.registers o.memory) o.driver = cancel_drives base member parts hand c.control.walk c.registers c.memory d o why ring_driven in
       let views : SameViews (views_of d) (views_of (accepted_cancel d why.number x)) = cancel_views d why.number x why.here in
       record {
-        leaves = subst (λ (f : Offered). Leaves c.memory f.memory) (sym why.is) (nothing_written c.memory sound.shape);
+        leaves = subst (λ (f : Offered). Leaves c.memory f.memory) (sym why.is) (leaves_itself c.memory sound.shape);
         told = record {
           driven = drives.driven;
           extents = subst (λ (f : Offered). AreInRuns (views_of f.driver) parts) (sym why.is) (alike_extents (views_of d) (views_of (accepted_cancel d why.number x)) parts views k.framed.extents);
@@ -169,7 +158,7 @@ module _ (base : Base) (member : ℕ → Bool) (recent : ℕ → Option Kind) (d
       let periodic : is_periodic x.desc.kind ≡ true = sym (sound.owners.orderly.steady e x why.here).placed ∙ ap is_some why.placed in
       let views : SameViews (views_of d) (views_of f) = unchained_views d e x ms why.here in
       record {
-        leaves = subst (λ (g : Offered). Leaves c.memory g.memory) (sym why.is) (nothing_written c.memory sound.shape);
+        leaves = subst (λ (g : Offered). Leaves c.memory g.memory) (sym why.is) (leaves_itself c.memory sound.shape);
         told = record {
           driven = subst (λ (g : Offered). IsDriven (views_of g.driver) (sorts_of parts)) (sym why.is) (driven_views (views_of d) (views_of f) (sorts_of parts) views k.framed.driven);
           extents = subst (λ (g : Offered). AreInRuns (views_of g.driver) parts) (sym why.is) (alike_extents (views_of d) (views_of f) parts views k.framed.extents);
@@ -190,7 +179,7 @@ module _ (base : Base) (member : ℕ → Bool) (recent : ℕ → Option Kind) (d
           operating = f.operating;
           start = f.start;
           aligned = record { frame = f.aligned.frame; ring = f.aligned.ring; start = f.aligned.start };
-          runs = runs_alike base member (met d recent) (met o.driver recent) (both descs parts) hand frame (with_memory c o.memory) (met_same d o.driver recent s.same)
+          runs = runs_alike base member (met d recent) (met o.driver recent) (both descs parts) hand frame (with_memory c o.memory) (met_alike d o.driver recent s.same)
               (rest_leaves_both base member (met d recent) (both descs parts) hand frame c o.memory f.runs s.leaves);
           place = commands_keep_all_in_place d c.memory cmd o room f.place is;
           list = commands_keep_the_list d c.memory cmd o is sound f.list;

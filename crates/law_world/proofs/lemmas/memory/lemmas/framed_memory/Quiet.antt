@@ -1,11 +1,10 @@
 -- An event of the driver that stores no word keeps the memory framed.
 use Rattle.std.proofs.Common.{◌≡◌, ℕ, zero, suc, ◌-◌, ◌%◌, Bool, true, false, cond, length, slice_get, List, Option, Some, None, ap, refl, sym, subst, ◌∙◌}
 use Rattle.std.proofs.lemmas.Bool.{true≢false}
+use Rattle.law_driver_ring.proofs.Common.{cleared_base, rung_same}
 use Rattle.usb_base.specs.declared.endpoints.EpName.{EpName}
 use Rattle.usb_base.specs.declared.endpoints.EndCause.{EndCause}
 use Rattle.word_mem.specs.Memory.{Mem}
-use Rattle.op_registers.specs.RegisterFile.{RegisterFile}
-use Rattle.op_registers.specs.Table.{after_write}
 use Rattle.hc_core.specs.Controller.{Content, frame_place, walk_place}
 use Rattle.drv_periodic_table.specs.declared.content.DescriptorNote.{DescriptorNote}
 use Rattle.drv_table.specs.declared.content.Endpoint.{Endpoint}
@@ -17,7 +16,6 @@ use Rattle.drv_table.specs.declared.rows.Found.TheVariants as founds
 use Rattle.drv_table.specs.DriverContent.{DriverContent, waits_for}
 use Rattle.drv_table.specs.Harvests.{is_stall, end_of, noted}
 use Rattle.drv_table.specs.Parts.{Parts}
-use Rattle.drv_table.specs.Leaving.{doorbell_command}
 use Rattle.drv_table.specs.Rows.{driver_row, after_driver_row}
 use Rattle.drv_table.specs.Harvesting.{served, told_with, behind_one, behind, after_end, harvested_as, after_harvest}
 use Rattle.mem_runs.specs.declared.slots.Slot.{Slot}
@@ -78,24 +76,6 @@ harvest_notes : (d : DriverContent) (m : Mem) (e t : ℕ) (found : Found) (o : O
 harvest_notes d m e t found None q = refl
 harvest_notes d m e t found (Some x) None = refl
 harvest_notes d m e t found (Some x) (Some y) = cond_notes (waits_for e y) d (served (harvested_as d m e t x y found) e) d (harvested_notes d m e t x y found) refl
-
--- ---- registers
-
-cleared_base : (r : RegisterFile) → base_of (after_write r 0x04 0x20) ≡ base_of r
-cleared_base r = refl
-
-rung_base : (r : RegisterFile) → base_of (after_write r 0x00 doorbell_command) ≡ record { run = true; async_enable = true; async_list_address = r.async_list_address; periodic_enable = true; periodic_list_base = r.periodic_list_base }
-rung_base r = refl
-
-rung_same : (base : Base) (r : RegisterFile) → IsOperating base → base_of r ≡ base → base_of (after_write r 0x00 doorbell_command) ≡ base_of r
-rung_same base r on same =
-    let run : r.run ≡ true = ap (λ (b : Base). b.run) same ∙ on.run in
-    let async : r.async_enable ≡ true = ap (λ (b : Base). b.async_enable) same ∙ on.async_enable in
-    let periodic : r.periodic_enable ≡ true = ap (λ (b : Base). b.periodic_enable) same ∙ on.periodic_enable in
-    rung_base r
-    ∙ sym (ap (λ (x : Bool). record { run = x; async_enable = r.async_enable; async_list_address = r.async_list_address; periodic_enable = r.periodic_enable; periodic_list_base = r.periodic_list_base }) run
-    ∙ ap (λ (x : Bool). record { run = true; async_enable = x; async_list_address = r.async_list_address; periodic_enable = r.periodic_enable; periodic_list_base = r.periodic_list_base }) async
-    ∙ ap (λ (x : Bool). record { run = true; async_enable = true; async_list_address = r.async_list_address; periodic_enable = x; periodic_list_base = r.periodic_list_base }) periodic)
 
 -- ---- a row
 

@@ -3,9 +3,11 @@ use Rattle.std.proofs.Common.{◌≡◌, ◌≢◌, ℕ, ◌*◌, ◌==◌, Bool
 use Rattle.std.specs.List.{AllByRecursion}
 use Rattle.std.proofs.lemmas.Bool.{true≢false, cases_eq, eqb-true}
 use Rattle.std.proofs.lemmas.Option.{same_Some}
+use Rattle.law_queues.proofs.Common.{leads_fewer}
+use Rattle.law_ring.proofs.Common.{own_fewer, those_here, fewer_some}
+use Rattle.law_common.proofs.Options.{absent}
+use Rattle.law_common.proofs.Lists.{set_here, set_there}
 use Rattle.word_mem.proofs.Holders.{has_block_from}
-use Rattle.link_words.specs.declared.kinds.QtdLink.{QtdLink}
-use Rattle.link_words.specs.declared.kinds.QtdLink.TheVariants as qtd_links
 use Rattle.link_words.specs.Links.{qtd_link_of}
 use Rattle.qh_qtd.specs.declared.qtd.Qtd.{Qtd}
 use Rattle.qh_qtd.specs.declared.queue_head.Qh.{Qh}
@@ -22,16 +24,15 @@ use Rattle.drv_table.specs.Parts.{Parts}
 use Rattle.drv_table.specs.Releases.{free_runs, free_qtds, freed_by, after_transfer}
 use Rattle.drv_table.specs.Rows.{driver_row, after_driver_row}
 use Rattle.claims_driver.specs.Owners.{Owner, Element as ElementOf, Buffer as BufferOf, IsPlaced, SlotHas, EndpointRuns, TransferRuns, runs_of_transfer, note_in, Views, views_of, IsOneOf}
-use Rattle.law_driver.proofs.lemmas.run_owners.Released.{set_here, set_there}
 use Rattle.law_driver.proofs.lemmas.run_owners.Freeing.{runs_freed}
 use Rattle.hc_core.specs.Controller.{Content, walk_place}
-use Rattle.law_structures.specs.lent_structures.Structures.{QueueHead, Element, Buffer, Structures, StructureSets, Tells}
-use Rattle.law_structures.specs.lent_structures.Sound.{LeadsOn, buffer_name, HasBuffer, IsReady, IsSoundElement, IsWorking, IsSoundQueue, AreOwn}
+use Rattle.law_structures.specs.lent_structures.Structures.{QueueHead, Element, Structures, StructureSets, Tells}
+use Rattle.law_structures.specs.lent_structures.Sound.{buffer_name, HasBuffer, IsReady, IsSoundElement, IsWorking, IsSoundQueue}
 use Rattle.law_ring.specs.Hand.{Hand}
 use Rattle.claims_base.specs.Controller.{Base}
 use Rattle.law_ring.specs.Fewer.{fewer_structures, without_those, MayGo}
-use Rattle.law_ring.proofs.Returning.{those_here, those_beside, those_else}
-use Rattle.law_ring.proofs.ReleaseGoing.{stays, found_fewer}
+use Rattle.law_ring.proofs.Returning.{those_beside, those_else}
+use Rattle.law_ring.proofs.ReleaseGoing.{stays}
 use Rattle.law_driver_ring.specs.Inventory.{IsLent}
 use Rattle.law_driver_ring.specs.Driven.{DrivesRing}
 use Rattle.law_driver_ring.specs.Extents.{InRuns, AreInRuns}
@@ -64,10 +65,6 @@ use Rattle.law_world.proofs.lemmas.memory.lemmas.framed_memory.Moving.{queues_mo
 
 -- ---- a queue that is met, without some of its qTDs and buffers
 
-leads_fewer : (goes : ℕ → Bool) (part : Structures) (l : QtdLink) → ((b : ℕ) → l ≡ qtd_links.To b → goes b ≡ false) → LeadsOn part l → LeadsOn (fewer_structures goes part) l
-leads_fewer goes part qtd_links.End off leads = tt
-leads_fewer goes part (qtd_links.To b) off leads = record { qtd = leads.qtd; here = stays goes part b (off b refl) ∙ leads.here }
-
 buffer_fewer : (goes : ℕ → Bool) (part : Structures) (t : Qtd) (n : ℕ) → goes (buffer_name t) ≡ false → HasBuffer part t n → HasBuffer (fewer_structures goes part) t n
 buffer_fewer goes part t n off has = record { bytes = has.bytes; here = stays goes part (buffer_name t) off ∙ has.here; size = has.size }
 
@@ -99,10 +96,6 @@ queue_fewer goes n part q may sound = record {
       };
 }
 
-own_fewer : (goes : ℕ → Bool) (part : Structures) → AreOwn part → AreOwn (fewer_structures goes part)
-own_fewer goes part own a b t u pages k bs one other same there =
-    own a b t u pages k bs (found_fewer goes part a (Element t) one).1 (found_fewer goes part b (Element u) other).1 same (found_fewer goes part (buffer_name t) (Buffer pages k bs) there).1
-
 met_fewer : (met : ℕ → Option Kind) (n : ℕ) (part : Structures) (goes : ℕ → Bool) → (m : IsMetQueue met n part) → MayGo goes n part m.part_is.queue → IsMetQueue met n (fewer_structures goes part)
 met_fewer met n part goes m may = record {
   part_is = record {
@@ -110,7 +103,7 @@ met_fewer met n part goes m may = record {
     here = stays goes part n may.head ∙ m.part_is.here;
     sound = queue_fewer goes n part m.part_is.queue may m.part_is.sound;
     elements = λ a t found.
-        let there = found_fewer goes part a (Element t) found in
+        let there = fewer_some goes part a (Element t) found in
         element_fewer goes n part m.part_is.queue a t may there.1 there.0 (m.part_is.elements a t there.1);
     own = own_fewer goes part m.part_is.own;
   };
@@ -118,9 +111,6 @@ met_fewer met n part goes m may = record {
 }
 
 -- ---- no descriptor's run
-
-absent : (o : Option ℕ) (n : ℕ) → o ≡ None → o ≡ Some n → ⊥
-absent o n none some = cc
 
 no_descriptor : (transfer : ℕ → Option TransferRuns) (t n : ℕ) (r : TransferRuns) (o : Owner) → transfer t ≡ Some r → r.isochronous ≡ false → mine t o ≡ true → descriptor_owner transfer o ≡ Some n → ⊥
 no_descriptor transfer t n r (ElementOf u) here off my is = absent None n refl is

@@ -1,6 +1,9 @@
 -- The link of a queue head of the ring is stored beside both walks.
-use Rattle.std.proofs.Common.{◌≡◌, ℕ, ◌*◌, ◌/◌, Bool, true, false, List, Option, Some, inl, ap, refl, sym, subst, ◌∙◌, ⊎_elim}
+use Rattle.std.proofs.Common.{◌≡◌, ℕ, ◌*◌, ◌/◌, Bool, true, false, Option, Some, inl, ap, refl, sym, subst, ◌∙◌, ⊎_elim}
 use Rattle.std.proofs.lemmas.Bool.{cases_Bool, true≢false}
+use Rattle.law_controller.proofs.Common.{table_head}
+use Rattle.law_ring.proofs.Common.{wider_link}
+use Rattle.law_world.proofs.Common.{met_alike}
 use Rattle.usb_base.specs.declared.packets.Reply.{Reply}
 use Rattle.word_mem.specs.Memory.{Mem, with_word}
 use Rattle.link_words.specs.declared.fields.LinkBits.{LinkBits}
@@ -14,9 +17,9 @@ use Rattle.drv_table.specs.Parts.{Parts}
 use Rattle.drv_table.specs.Rows.{driver_row, after_driver_row}
 use Rattle.claims_driver.specs.Owners.{views_of}
 use Rattle.hc_core.specs.Controller.{Content, walk_place}
-use Rattle.law_structures.specs.lent_structures.Structures.{Structure, QueueHead, Table, Structures, StructureSets, put, Holds}
+use Rattle.law_structures.specs.lent_structures.Structures.{QueueHead, Structures, StructureSets, put, Holds}
 use Rattle.law_structures.specs.lent_structures.Changes.{Changes}
-use Rattle.law_structures.specs.lent_structures.Sound.{LeadsAmong, IsMember}
+use Rattle.law_structures.specs.lent_structures.Sound.{IsMember}
 use Rattle.law_structures.proofs.lemmas.lent_structures.Names.{put_beside}
 use Rattle.law_structures.proofs.lemmas.lent_structures.Standing.{holds_still}
 use Rattle.law_structures.proofs.lemmas.lent_structures.Writing.{word_changes}
@@ -47,24 +50,20 @@ use Rattle.law_descriptors.proofs.Standing.{found_on}
 use Rattle.law_descriptors.proofs.Telling.{queue_off, queue_found, descriptor_found}
 use Rattle.law_world.specs.memory.framed_memory.Now.{IsFramedNow, FramedNext}
 use Rattle.law_world.proofs.lemmas.memory.lemmas.framed_memory.Now.{RowLeaves, next_now, told_now}
-use Rattle.law_world.proofs.lemmas.memory.lemmas.framed_memory.StillStanding.{met_same}
 use Rattle.law_world.proofs.lemmas.memory.lemmas.framed_memory.Lending.{runs_alike}
 use Rattle.law_world.proofs.lemmas.memory.lemmas.framed_memory.Moving.{queues_move, StaysSound}
 use Rattle.law_world.proofs.lemmas.memory.lemmas.framed_memory.Steps.{StaysMet}
 
 -- ---- the walk of the ring may meet more
 
-wider_leads : (member wider : ℕ → Bool) (l : LinkBits) → IsWider member wider → LeadsAmong member l → LeadsAmong wider l
-wider_leads member wider l more k = record { to = k.to; leads = k.leads; on = more k.to k.on }
-
 wider_copy : (member wider : ℕ → Bool) (parts : StructureSets) (c : Copy) → IsWider member wider → IsCopied member parts c → IsCopied wider parts c
-wider_copy member wider parts c more k = record { on = more c.at k.on; here = k.here; link = wider_leads member wider c.link more k.link; range = k.range }
+wider_copy member wider parts c more k = record { on = more c.at k.on; here = k.here; link = wider_link member wider c.link more k.link; range = k.range }
 
 wider_hand : (member wider : ℕ → Bool) (parts : StructureSets) (reply : Reply) (hand : Hand) → IsWider member wider → IsInHand member parts reply hand → IsInHand wider parts reply hand
 wider_hand member wider parts reply Empty more k = tt
 wider_hand member wider parts reply (Copied c) more k = wider_copy member wider parts c more k
 wider_hand member wider parts reply (Settled c s) more k = (wider_copy member wider parts c more k.0, k.1)
-wider_hand member wider parts reply (Stale n q) more k = record { on = more n k.on; link = wider_leads member wider q.link more k.link; halted = k.halted }
+wider_hand member wider parts reply (Stale n q) more k = record { on = more n k.on; link = wider_link member wider q.link more k.link; halted = k.halted }
 
 -- those that may come are sound
 abbrev pub MayCome : (ℕ → Bool) → (ℕ → Bool) → StructureSets → Type 0
@@ -123,9 +122,6 @@ framed_wider base member wider recent descs parts hand frame c d more comes apar
 -- nothing is in hand where nothing was
 still_empty : (n : ℕ) (l : LinkBits) (hand : Hand) → hand ≡ Empty → hand_linked n l hand ≡ Empty
 still_empty n l hand is = ap (hand_linked n l) is
-
-table_head : (o : Option Structure) (words : List ℕ) (q : Qh) → o ≡ Some (Table words) → o ≡ Some (QueueHead q) → ⊥
-table_head o words q table head = cc
 
 -- the word `v` is stored in the queue head in block `b`, which is `q`
 module _ (base : Base) (member : ℕ → Bool) (recent : ℕ → Option Kind) (descs parts : StructureSets) (hand : Hand) (frame : FrameHand) (c : Content) (d : DriverContent) (b v : ℕ) (l : LinkBits) (q : Qh) (i : IsFramedNow base member recent descs parts hand frame c d) (on : member (32 * b) ≡ true) (there : parts (32 * b) (32 * b) ≡ Some (QueueHead q)) (can : can_store (slot_of d.book.slots b) (32 * b) ≡ true) (is : driver_row (parts_of c d) ≡ rows.Store b (32 * b) v) where
@@ -209,7 +205,7 @@ module _ (base : Base) (member : ℕ → Bool) (recent : ℕ → Option Kind) (d
   leaves drives stays =
       let then : IsDescribing f descs now = record { owners = placed.sound.owners; driven = drives.driven; described = told.described } in
       record {
-        runs = runs_alike base member (met d recent) (met f recent) (both descs now) later frame (with_memory c after) (met_same d f recent stays.stands)
+        runs = runs_alike base member (met d recent) (met f recent) (both descs now) later frame (with_memory c after) (met_alike d f recent stays.stands)
             (queues_move base member (met d recent) descs parts now hand later (still_empty n l hand) frame c d f after old then lies placed.sound.stands held i.framed.runs drives.ring sound list);
         told = record { driven = drives.driven; extents = lies; described = told.described };
         recent_are = stays.recent_are;

@@ -1,5 +1,6 @@
 -- The queue head before a cancelled endpoint's leads past it, beside both walks.
 use Rattle.std.proofs.Common.{◌≡◌, ℕ, zero, suc, ◌*◌, Bool, false, Option, Some, None, inl, ap, refl, sym, subst, ◌∙◌, ⊎_elim}
+use Rattle.law_world.proofs.Common.{not_opened}
 use Rattle.word_mem.specs.Memory.{Mem}
 use Rattle.async_walk.specs.Rows.{place}
 use Rattle.drv_table.specs.declared.content.Endpoint.{Endpoint}
@@ -97,9 +98,6 @@ pub unlink_now : UnlinkNow
 unlink_now base member recent descs parts hand frame c d i k = passed_now base member recent descs parts hand frame c d i k
 
 -- ---- the row tells
-
-not_opened : (o : Option Command) (e b link c : ℕ) → o ≡ Some (unfinished.Unlink e b link) → o ≡ Some (unfinished.Open c) → ⊥
-not_opened o e b link c one two = cc
 
 -- it is the only event of the command
 none_made : (e b link n : ℕ) → command_row (unfinished.Unlink e b link) n ≡ rows.Store b (32 * b) link → n ≡ 0

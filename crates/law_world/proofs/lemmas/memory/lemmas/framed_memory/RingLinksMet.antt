@@ -1,22 +1,22 @@
 -- The walk of the ring meets the queue heads of the driver once a link of the ring was stored.
-use Rattle.std.proofs.Common.{◌≡◌, ◌≢◌, ℕ, suc, ◌*◌, ◌==◌, ◌||◌, Bool, true, false, nat_lt, if◌then◌else◌, List, [], ◌∷◌, slice_get, Option, Some, None, inl, inr, ap, sym, subst, ◌∙◌, ⊎_elim, arith}
-use Rattle.std.proofs.lemmas.Bool.{cases_eq, eqb-true, false≢true, or_cases}
+use Rattle.std.proofs.Common.{◌≡◌, ◌≢◌, ℕ, suc, ◌*◌, Bool, true, nat_lt, if◌then◌else◌, slice_get, Option, Some, None, inl, inr, ap, sym, subst, ◌∙◌, ⊎_elim}
+use Rattle.std.proofs.lemmas.Bool.{cases_eq}
 use Rattle.std.proofs.lemmas.Option.{same_Some}
+use Rattle.law_queues.proofs.Common.{none_open}
+use Rattle.law_world.proofs.Common.{near_alive, not_opened}
 use Rattle.drv_table.specs.declared.content.Endpoint.{Endpoint}
 use Rattle.drv_table.specs.declared.content.Command.{Command}
 use Rattle.drv_table.specs.declared.content.Command.TheVariants as unfinished
 use Rattle.drv_table.specs.declared.rows.DriverRow.{DriverRow}
 use Rattle.drv_table.specs.DriverContent.{DriverContent}
 use Rattle.drv_table.specs.Parts.{Parts}
-use Rattle.drv_table.specs.Kinds.{is_iso}
 use Rattle.drv_table.specs.Rows.{row_for, driver_row, after_driver_row}
 use Rattle.drv_table.specs.Commands.{command_row, advanced_by}
 use Rattle.drv_table.specs.Words.{head_block, queue_head_link}
-use Rattle.law_driver.specs.endpoint_lives.Lives.{is_one_of, may_meet}
-use Rattle.law_driver.proofs.lemmas.endpoint_lives.Lives.{linked_met, IsNear, in_ring, has_left, is_rung, met_where}
+use Rattle.law_driver.specs.endpoint_lives.Lives.{may_meet}
+use Rattle.law_driver.proofs.lemmas.endpoint_lives.Lives.{linked_met}
 use Rattle.claims_driver.specs.Leaving.{HasOwners}
-use Rattle.claims_driver.specs.Ring.{IsAmong, first, later}
-use Rattle.law_driver.proofs.lemmas.ring_members.Placed.{in_ring_alive, left_alive, linked_alive, queues_apart}
+use Rattle.law_driver.proofs.lemmas.ring_members.Placed.{in_ring_alive, linked_alive, queues_apart}
 use Rattle.hc_core.specs.Controller.{Content}
 use Rattle.law_structures.specs.lent_structures.Structures.{StructureSets}
 use Rattle.law_structures.specs.lent_structures.Sound.{IsMember}
@@ -42,25 +42,6 @@ pub head_is_met : HeadIsMet
 head_is_met base member recent descs parts hand frame c d i met =
     let m : IsMember member head_at (parts head_at) = (ring_now base member recent descs parts hand frame c d i).ring.members head_at met.head in
     record { queue = m.queue; here = m.here; on = met.head }
-
--- ---- who may be met has a queue
-
-one_among : (e : ℕ) (es : List ℕ) → is_one_of e es ≡ true → IsAmong e es
-one_among e [] on = absurd (false≢true on)
-one_among e (f ∷ es) on =
-    ⊎_elim (λ (same : (e == f) ≡ true). subst (λ (g : ℕ). IsAmong e (g ∷ es)) (eqb-true e f same) (first es)) (λ (rest : is_one_of e es ≡ true). later f es (one_among e es rest))
-    (or_cases (e == f) (is_one_of e es) on)
-
-near_alive : (d : DriverContent) (e : ℕ) (x : Endpoint) → HasOwners d → slice_get d.endpoints e ≡ Some x → may_meet d e x ≡ true → is_iso x.desc.kind || x.gone ≡ false
-near_alive d e x owners here near = by (met_where d e x near)
-  where
-    by : IsNear d e x → is_iso x.desc.kind || x.gone ≡ false
-    by (in_ring on) = in_ring_alive d e x owners.orderly here on
-    by (has_left on) = (left_alive d e x d.waiting owners.orderly (omega arith) (one_among e d.waiting on) here).0
-    by (is_rung on) = (left_alive d e x d.rung owners.orderly (omega arith) (one_among e d.rung on) here).0
-
-none_open : (c : ℕ) → ◌≡◌ {A = Option Command} None (Some (unfinished.Open c)) → ⊥
-none_open c same = cc
 
 -- ---- an open is linked
 
@@ -137,9 +118,6 @@ pub open_link_meets : OpenLinkMeets
 open_link_meets base member recent descs parts hand frame c d i k old = meets base member recent descs parts hand frame c d i k old
 
 -- ---- an endpoint leaves the ring
-
-not_opened : (o : Option Command) (e b link q : ℕ) → o ≡ Some (unfinished.Unlink e b link) → o ≡ Some (unfinished.Open q) → ⊥
-not_opened o e b link q one two = cc
 
 -- where endpoints are as before, and may be met as before
 met_as_before : (d f : DriverContent) (member : ℕ → Bool) → ((q : ℕ) → d.command ≢ Some (unfinished.Open q)) → ((q : ℕ) → f.command ≢ Some (unfinished.Open q)) → IsAsBefore d f → NearSame d f → AreMet d member → AreMet f member

@@ -1,13 +1,13 @@
 -- The head of the ring leads to a new endpoint's queue head, beside both walks.
 use Rattle.std.proofs.Common.{◌≡◌, ◌≢◌, ℕ, ◌*◌, Bool, true, false, ◌||◌, Option, Some, option_map, ap, sym, subst, ◌∙◌, ⊎_elim, arith}
 use Rattle.std.proofs.lemmas.Bool.{cases_eq, true≢false}
+use Rattle.law_driver_ring.proofs.Common.{led_on}
+use Rattle.law_world.proofs.Common.{head_no_sitd, head_no_itd}
+use Rattle.law_common.proofs.Numbers.{other_number}
 use Rattle.word_mem.specs.Memory.{Mem, word_at}
-use Rattle.link_words.specs.declared.kinds.Link.TheVariants as links
 use Rattle.link_words.specs.Fields.{link_at}
 use Rattle.link_words.specs.Links.{link_of}
 use Rattle.qh_qtd.specs.declared.queue_head.Qh.{Qh}
-use Rattle.itd_sitd.specs.declared.itd.Itd.{Itd}
-use Rattle.itd_sitd.specs.declared.sitd.Sitd.{Sitd}
 use Rattle.async_walk.specs.Rows.{place}
 use Rattle.mem_runs.specs.Book.{holding, slot_of, can_store}
 use Rattle.drv_table.specs.declared.content.Endpoint.{Endpoint}
@@ -24,9 +24,9 @@ use Rattle.law_driver.specs.ring_members.Words.{IsOpening, StandsFor}
 use Rattle.law_driver.specs.in_place.InPlace.{IsSound}
 use Rattle.law_driver.proofs.lemmas.ring_members.Placed.{can_begin, head_run_there, in_ring_alive, queue_placed}
 use Rattle.hc_core.specs.Controller.{Content, walk_place}
-use Rattle.law_structures.specs.lent_structures.Structures.{Structure, QueueHead, Element, Isochronous, SplitIsochronous, Structures, StructureSets, with_structure}
+use Rattle.law_structures.specs.lent_structures.Structures.{QueueHead, Element, Structures, StructureSets, with_structure}
 use Rattle.law_structures.specs.lent_structures.Sound.{LeadsAmong, IsMember}
-use Rattle.law_structures.proofs.lemmas.lent_structures.Names.{not_same, put_beside, with_here, with_there}
+use Rattle.law_structures.proofs.lemmas.lent_structures.Names.{put_beside, with_here, with_there}
 use Rattle.law_structures.proofs.lemmas.lent_structures.Altering.{found_queue}
 use Rattle.law_structures.proofs.lemmas.lent_structures.Reading.{head_read}
 use Rattle.law_ring.specs.Hand.{Hand}
@@ -52,19 +52,6 @@ use Rattle.law_world.specs.memory.framed_memory.Now.{IsFramedNow, FramedNext}
 use Rattle.law_world.specs.memory.framed_memory.Ring.{IsHeadMet, OpenLinkNow}
 use Rattle.law_world.proofs.lemmas.memory.lemmas.framed_memory.RingLinks.{MayCome, framed_wider, ring_now, link_stored}
 use Rattle.law_world.proofs.lemmas.memory.lemmas.framed_memory.Steps.{StaysMet, open_step}
-
--- what a link to a queue head leads to
-led_on : (member : ℕ → Bool) (b : ℕ) → LeadsAmong member (to_queue_head b) → member (32 * b) ≡ true
-led_on member b leads = ap member (same_to (32 * b) leads.to leads.leads) ∙ leads.on
-  where
-    same_to : (a c : ℕ) → links.Qh a ≡ links.Qh c → a ≡ c
-    same_to a c same = cc
-
-head_itd : (o : Option Structure) (q : Qh) (v : Itd) → o ≡ Some (QueueHead q) → o ≡ Some (Isochronous v) → ⊥
-head_itd o q v head descriptor = cc
-
-head_sitd : (o : Option Structure) (q : Qh) (v : Sitd) → o ≡ Some (QueueHead q) → o ≡ Some (SplitIsochronous v) → ⊥
-head_sitd o q v head descriptor = cc
 
 module _ (base : Base) (member : ℕ → Bool) (recent : ℕ → Option Kind) (descs parts : StructureSets) (hand : Hand) (frame : FrameHand) (c : Content) (d : DriverContent) (i : IsFramedNow base member recent descs parts hand frame c d) (k : IsOpenLent d member parts) (h : IsHeadMet member parts) where
   abbrev p : Parts
@@ -153,13 +140,13 @@ module _ (base : Base) (member : ℕ → Bool) (recent : ℕ → Option Kind) (d
       let same : m.part_is.queue ≡ q = found_queue (both descs parts n n) m.part_is.queue q m.part_is.here found in
       let next : LeadsTo (met d recent) (link_of q.link) = subst (λ (z : Qh). LeadsTo (met d recent) (link_of z.link)) same m.link in
       true≢false (sym onward ∙ i.framed.runs.apart (32 * k.link) AQueue next)
-  never_met AnItd at = let m : IsMetItd (met d recent) n (both descs parts n) = i.framed.runs.members n AnItd at in head_itd (both descs parts n n) q m.itd found m.here
-  never_met ASitd at = let m : IsMetSitd (met d recent) n (both descs parts n) = i.framed.runs.members n ASitd at in head_sitd (both descs parts n n) q m.sitd found m.here
+  never_met AnItd at = let m : IsMetItd (met d recent) n (both descs parts n) = i.framed.runs.members n AnItd at in head_no_itd (both descs parts n n) q m.itd found m.here
+  never_met ASitd at = let m : IsMetSitd (met d recent) n (both descs parts n) = i.framed.runs.members n ASitd at in head_no_sitd (both descs parts n n) q m.sitd found m.here
 
   apart : AreApart wider (met d recent)
   apart m kind at =
       ⊎_elim (λ (same : m ≡ n). absurd (never_met kind (ap (met d recent) (sym same) ∙ at)))
-      (λ (other : m ≢ n). ap (λ (b : Bool). b || member m) (not_same m n other) ∙ i.framed.runs.apart m kind at) (cases_eq m n)
+      (λ (other : m ≢ n). ap (λ (b : Bool). b || member m) (other_number m n other) ∙ i.framed.runs.apart m kind at) (cases_eq m n)
 
   -- ---- it may be met
 

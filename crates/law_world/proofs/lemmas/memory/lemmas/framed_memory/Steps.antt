@@ -1,20 +1,20 @@
 -- An event of a command by which it lends its queue or a transfer, or stores a word of either: whoever stands in the frame list stands there still, and what was
 -- unlinked in this microframe is what it was.
-use Rattle.std.proofs.Common.{◌≡◌, ℕ, zero, suc, ◌/◌, Bool, true, false, cond, List, [], ◌∷◌, length, slice_get, Option, Some, None, inl, nat_lt, ⊎_elim, ap, refl, sym, subst, ◌∙◌}
-use Rattle.std.specs.Prelude.{is_none, not, ◌&&◌}
+use Rattle.std.proofs.Common.{◌≡◌, ℕ, zero, suc, ◌/◌, Bool, true, false, cond, List, [], ◌∷◌, length, slice_get, Option, Some, inl, nat_lt, ⊎_elim, ap, refl, sym, subst, ◌∙◌}
+use Rattle.std.specs.Prelude.{is_none}
 use Rattle.std.specs.List.{list_any}
-use Rattle.std.proofs.lemmas.Bool.{and_parts}
+use Rattle.law_world.proofs.Common2.{linking_led}
+use Rattle.law_common.proofs.Booleans.{either_if}
+use Rattle.law_descriptors.proofs.Common.{chain_unchain}
 use Rattle.mem_runs.specs.Book.{Book}
 use Rattle.drv_chains.specs.declared.members.Member.{Member}
-use Rattle.drv_chains.specs.Chains.{Schedule, has_name, id_of}
-use Rattle.drv_members.specs.Members.{IsKept, is_member, has_room, takes}
-use Rattle.law_frame_words.proofs.lemmas.frame_words.Begins.{out_again}
-use Rattle.drv_periodic.specs.declared.work.Work.{Work}
-use Rattle.drv_periodic.specs.Periodic.{Periodic, inserting, after_store}
+use Rattle.drv_chains.specs.Chains.{Schedule}
+use Rattle.drv_members.specs.Members.{IsKept}
+use Rattle.drv_periodic.specs.Periodic.{after_store}
 use Rattle.drv_periodic_table.specs.declared.content.DescriptorNote.{DescriptorNote}
 use Rattle.drv_periodic_table.specs.declared.content.Removal.{Removal}
 use Rattle.drv_periodic_table.specs.Periodic.{PeriodicContent, note_at}
-use Rattle.drv_periodic_table.specs.Linking.{may_link, linking, with_first, begun_next}
+use Rattle.drv_periodic_table.specs.Linking.{with_first, begun_next}
 use Rattle.drv_table.specs.declared.content.Command.{Command}
 use Rattle.drv_table.specs.declared.content.Command.TheVariants as unfinished
 use Rattle.drv_table.specs.declared.rows.DriverRow.TheVariants as rows
@@ -25,28 +25,8 @@ use Rattle.law_descriptors.specs.Meeting.{kind_of_descriptor, queue_begins, desc
 use Rattle.claims_driver.specs.Unlinked.{led_in}
 use Rattle.law_descriptors.specs.Removed.{IsRemovedSince, IsUnchainedNow}
 use Rattle.law_descriptors.specs.Recent.{AreRecent}
-use Rattle.law_descriptors.proofs.ListRows.{either_if, idle_led}
 
 -- ---- a member begins to be linked
-
-idle : (o : Option Work) → is_none o ≡ true → o ≡ None
-idle None is = refl
-idle (Some w) is = absurd (cc)
-
-off : (b : Bool) → not b ≡ true → b ≡ false
-off true is = absurd (cc)
-off false is = refl
-
--- one that begins to be linked has no store yet
-pub linking_led : (p : Periodic) (x : Member) → IsKept p.members.schedule → led_in (linking p x) ≡ led_in p
-linking_led p x kept =
-    either_if (λ (r : Periodic). led_in r ≡ led_in p) (may_link p x) (inserting p x) p
-    (λ e.
-    let both = and_parts (is_none p.work) (takes p.members x) e in
-    let one = and_parts (is_member x) (not (has_name p.members.schedule (id_of x)) && has_room p.members x) both.1 in
-    let new = and_parts (not (has_name p.members.schedule (id_of x))) (has_room p.members x) one.1 in
-    out_again p.members.schedule x kept (off (has_name p.members.schedule (id_of x)) new.0) ∙ sym (idle_led p (idle p.work both.0)))
-    (λ e. refl)
 
 -- what is told of the members to which a word may lead
 record StaysLed (q new : PeriodicContent) : Type 0 where
@@ -91,9 +71,6 @@ open_unchain o queue e one two = cc
 
 publish_unchain : (o : Option Command) (b : ℕ) (words : List ℕ) (e : ℕ) → o ≡ Some (unfinished.Publish b words) → o ≡ Some (unfinished.Unchain e) → ⊥
 publish_unchain o b words e one two = cc
-
-chain_unchain : (o : Option Command) (e : ℕ) → o ≡ Some unfinished.Chain → o ≡ Some (unfinished.Unchain e) → ⊥
-chain_unchain o e one two = cc
 
 module _ (recent : ℕ → Option Kind) (index : ℕ) (d : DriverContent) (book : Book) (are : AreRecent d index recent) where
   abbrev g : DriverContent

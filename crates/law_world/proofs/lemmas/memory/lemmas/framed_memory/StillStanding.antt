@@ -1,9 +1,11 @@
 -- Who stands in the frame list, and what is recent, where a command is accepted: as before.
-use Rattle.std.proofs.Common.{◌≡◌, ◌≢◌, ℕ, zero, suc, ◌*◌, ◌/◌, ◌<◌, ◌≤◌, Bool, true, false, cond, List, [], ◌∷◌, ◌++◌, length, drop, get_or, set, slice_get, Option, Some, None, inl, inr, ap, refl, sym, subst, ◌∙◌, ⊎_elim, arith}
+use Rattle.std.proofs.Common.{◌≡◌, ◌≢◌, ℕ, suc, ◌*◌, ◌/◌, ◌<◌, ◌≤◌, Bool, true, false, cond, List, [], ◌∷◌, ◌++◌, length, drop, get_or, set, slice_get, Option, Some, None, inl, inr, ap, refl, sym, subst, ◌∙◌, ⊎_elim, arith}
 use Rattle.std.specs.Prelude.{◌||◌, is_none}
 use Rattle.std.specs.List.{list_any, AllByRecursion}
 use Rattle.std.proofs.lemmas.Bool.{cases_eq, eqb-true, false≢true}
 use Rattle.std.proofs.lemmas.Option.{same_Some}
+use Rattle.law_common.proofs.Lists.{still_there, drop_first, set_here, set_there}
+use Rattle.law_descriptors.proofs.Common.{no_work}
 use Rattle.usb_base.specs.declared.endpoints.EpDesc.{EpDesc}
 use Rattle.word_mem.specs.Memory.{Mem}
 use Rattle.mem_runs.specs.Book.{Holding, holding, slot_of, Stands}
@@ -31,14 +33,13 @@ use Rattle.law_driver.specs.run_owners.Accepts.{Describes}
 use Rattle.claims_driver.specs.Leaving.{HasOwners}
 use Rattle.law_driver.proofs.lemmas.run_owners.Runs.{placed_run}
 use Rattle.law_driver.proofs.lemmas.run_owners.Taking.{AreTakenSome, runs_taken}
-use Rattle.law_driver.proofs.lemmas.run_owners.Accepted.{drop_first, fresh_differs}
-use Rattle.law_driver.proofs.lemmas.run_owners.Released.{set_here, set_there}
+use Rattle.law_driver.proofs.lemmas.run_owners.Accepted.{fresh_differs}
 use Rattle.law_driver_ring.proofs.Lists.{IsOneOf}
 use Rattle.law_frames.specs.Met.{Kind}
 use Rattle.law_driver.specs.listed_members.Listed.{IsOwnedAs}
-use Rattle.law_driver.specs.listed_members.Members.{IsUnderWay, IsListed}
+use Rattle.law_driver.specs.listed_members.Members.{IsListed}
 use Rattle.law_driver.proofs.lemmas.listed_members.Owned.{members_have_runs}
-use Rattle.law_descriptors.specs.Meeting.{kind_of_descriptor, queue_begins, descriptor_begins, kind_by, kind_at, standing_in, standing, or_recent, met}
+use Rattle.law_descriptors.specs.Meeting.{kind_of_descriptor, queue_begins, descriptor_begins, kind_by, kind_at, standing_in, standing}
 use Rattle.claims_driver.specs.Unlinked.{led}
 use Rattle.law_descriptors.specs.Removed.{IsRemovedAt, a_descriptor, a_queue, a_waiting, IsRemovedSince, IsUnchainedNow}
 use Rattle.law_descriptors.specs.Recent.{AreRecent}
@@ -55,13 +56,8 @@ pub record IsThereStill (xs : List Endpoint) (e : ℕ) (x : Endpoint) : Type 0 w
   pub desc : endpoint.desc ≡ x.desc
   pub queue : endpoint.queue ≡ x.queue
 
-pub pushed_there : {X : Type 0} (xs ys : List X) (e : ℕ) (x : X) → slice_get xs e ≡ Some x → slice_get (xs ++ ys) e ≡ Some x
-pushed_there [] ys e x here = absurd (cc)
-pushed_there (z ∷ xs) ys zero x here = here
-pushed_there (z ∷ xs) ys (suc e) x here = pushed_there xs ys e x here
-
 pub pushed_still : (xs ys : List Endpoint) (e : ℕ) (x : Endpoint) → slice_get xs e ≡ Some x → IsThereStill (xs ++ ys) e x
-pushed_still xs ys e x here = record { endpoint = x; here = pushed_there xs ys e x here; desc = refl; queue = refl }
+pushed_still xs ys e x here = record { endpoint = x; here = still_there xs ys e x here; desc = refl; queue = refl }
 
 pub set_still : (xs : List Endpoint) (e : ℕ) (x z : Endpoint) → slice_get xs e ≡ Some x → z.desc ≡ x.desc → z.queue ≡ x.queue → (i : ℕ) (w : Endpoint) → slice_get xs i ≡ Some w → IsThereStill (set xs e z) i w
 set_still xs e x z here desc queue i w there =
@@ -99,9 +95,6 @@ recent_still d f recent index idle ends on same are n kind is =
     (λ (now : IsUnchainedNow d.endpoints d.transfers d.command n). absurd (not_unchained now.endpoint d.command idle now.command)) (are n kind is)
 
 -- ---- where the same members stand
-
-pub met_same : (d f : DriverContent) (recent : ℕ → Option Kind) → ((n : ℕ) → standing f n ≡ standing d n) → (n : ℕ) → met f recent n ≡ met d recent n
-met_same d f recent same n = ap (λ (o : Option Kind). or_recent o (recent n)) (same n)
 
 -- of what a descriptor is, only its note tells
 no_kind : (queue : Bool) (one two : Kind) → kind_by queue false one ≡ kind_by queue false two
@@ -190,9 +183,6 @@ unchain_recent_still d e x ms recent index idle here chained are = by (is_none f
 
 -- ---- descriptors are accepted: no member has a run that is new
 
-pub idle_work : (d : DriverContent) → d.command ≡ None → IsListed d → d.periodic.list.work ≡ None
-idle_work d idle listed = (subst (λ (o : Option Command). IsUnderWay d o) idle listed.way).work
-
 begins_block : (b n : ℕ) → 32 * b ≡ n → n / 32 ≡ b
 begins_block b n is = omega (arith, is)
 
@@ -245,7 +235,7 @@ note_still d m o why b stands run =
 
 pub described_stands : (d : DriverContent) (m : Mem) (o : Offered) (why : Describes d m o) → Stands (holding d.book m) → HasOwners d → IsListed d → (n : ℕ) → standing o.driver n ≡ standing d n
 described_stands d m o why stands has listed n =
-    let led_is : led d ≡ d.periodic.list.members.schedule = idle_led d.periodic.list (idle_work d why.idle listed) in
+    let led_is : led d ≡ d.periodic.list.members.schedule = idle_led d.periodic.list (no_work d why.idle listed) in
     let runs = members_have_runs d has listed in
     ap (λ (f : Offered). standing f.driver n) why.is
     ∙ kind_same d.periodic (record d.periodic { notes = (after d m o why).notes }) (led d) n
@@ -261,4 +251,4 @@ described_recent d m o why recent index are =
     let now : Offered = entered_iso d why.number x why.count (total_of why.slots) g.book (after d m o why) in
     subst (λ (f : Offered). AreRecent f.driver index recent) (sym why.is)
     (recent_still d now.driver recent index why.idle (set_still d.endpoints why.number x (record x { next = first_waiting x.next (length d.transfers) }) why.here refl refl)
-    (λ t y there. ap (λ (ts : List Transfer). slice_get ts t) many ∙ pushed_there d.transfers (made why.number why.slots why.count (new_runs d g)) t y there) refl are)
+    (λ t y there. ap (λ (ts : List Transfer). slice_get ts t) many ∙ still_there d.transfers (made why.number why.slots why.count (new_runs d g)) t y there) refl are)

@@ -1,10 +1,14 @@
 -- Descriptors that are taken on have the slots of their endpoint, which fit the fields of a descriptor; so they are written, and await their lend.
 use Rattle.std.proofs.Common.{◌≡◌, ℕ, ◌+◌, ◌*◌, ◌<◌, ◌≤◌, Bool, true, false, not, ◌&&◌, ◌||◌, cond, List, [], ◌∷◌, ◌++◌, length, slice_get, Option, Some, None, Result, Ok, Err, ap, refl, sym, subst, ◌∙◌, arith}
-use Rattle.std.specs.Prelude.{IfOk, is_none, is_some, nat_le, nat_lt, option_and_then, unwrap_or, count_by, slice_index, if◌then◌else◌}
+use Rattle.std.specs.Prelude.{IfOk, is_none, is_some, nat_le, nat_lt, option_and_then, unwrap_or, count_by, slice_index}
 use Rattle.std.proofs.lemmas.Bool.{false≢true, leb-true}
 use Rattle.std.proofs.lemmas.Nat.{mul-le}
 use Rattle.std.proofs.lemmas.Option.{same_Some}
 use Rattle.std.proofs.lemmas.Result.{IfOk-at_ok}
+use Rattle.law_admission.proofs.Common.{or_else, refused_again}
+use Rattle.law_world.proofs.Common.{none_some}
+use Rattle.law_descriptors.proofs.Common.{same_endpoint, same_first}
+use Rattle.law_common.proofs.Lists.{set_here, nth_all}
 use Rattle.usb_base.specs.declared.endpoints.EpDesc.{EpDesc}
 use Rattle.usb_base.specs.declared.endpoints.EndCause.{EndCause}
 use Rattle.usb_base.specs.declared.endpoints.EndCause.TheVariants as causes
@@ -38,7 +42,6 @@ use Rattle.drv_table.specs.IsoOffers.{total_of, smask_of, cmask_of, slots_of, is
 use Rattle.drv_table.specs.CancelOffers.{with_cancel, accepted_unchain, cancelled_by, endpoint_members, offered_cancel}
 use Rattle.law_driver.specs.run_owners.Accepts.{Describes}
 use Rattle.claims_driver.specs.Leaving.{HasOwners}
-use Rattle.law_driver.proofs.lemmas.run_owners.Released.{set_here}
 use Rattle.law_driver.specs.planned_endpoints.Planned.{IsPlanned}
 use Rattle.claims_driver.specs.DueMembers.{IsPlannedAt}
 use Rattle.law_driver.proofs.lemmas.planned_endpoints.Laws.{endpoints_count_until_given_back}
@@ -50,7 +53,6 @@ use Rattle.law_descriptors.proofs.Accepted.{accepted_await_lend}
 use Rattle.law_world.specs.memory.framed_memory.Masks.{HasMasks, AreMasked}
 use Rattle.law_world.specs.memory.framed_memory.Isochronous.{NumbersFit, AwaitsLend}
 use Rattle.law_world.specs.memory.framed_memory.IsochronousLaws.{CommandsKeepAwaiting}
-use Rattle.law_world.proofs.lemmas.memory.lemmas.framed_memory.Masking.{one_of_all}
 
 -- ---- a command that leaves descriptors to lend
 
@@ -67,21 +69,10 @@ TakesOn d m o = (e t count : ℕ) → o.driver.command ≡ Some (unfinished.Iso 
 other : (d : DriverContent) (m : Mem) (o : Offered) (c : Command) → o.driver.command ≡ Some c → ((e t count : ℕ) → c ≡ unfinished.Iso e t count → ⊥) → TakesOn d m o
 other d m o c is not e t count now = absurd (not e t count (same_Some c (unfinished.Iso e t count) (sym is ∙ now)))
 
-none_some : (c : Command) → ◌≡◌ {A = Option Command} None (Some c) → ⊥
-none_some c is = cc
-
 none : (d : DriverContent) (m : Mem) (o : Offered) → o.driver.command ≡ None → TakesOn d m o
 none d m o is e t count now = absurd (none_some (unfinished.Iso e t count) (sym is ∙ now))
 
-or_else : (P : Offered → Type 0) (b : Bool) (x y : Result Offered OfferError) → IfOk x P → IfOk y P → IfOk (if b then x else y) P
-or_else P true x y one two = one
-or_else P false x y one two = two
-
 -- ---- an open
-
-refused_again : (P : Offered → Type 0) (c : Option EndCause) → IfOk (elim c [ Some cause ↦ Err (errors.Closed cause) | None ↦ Err errors.AlreadyOpen ]) P
-refused_again P None = tt
-refused_again P (Some cause) = tt
 
 ring_takes : (d : DriverContent) (m : Mem) (x : EpDesc) (r : Result Holding OfferError) → IfOk (taken_open d x r) (TakesOn d m)
 ring_takes d m x (Err why) = tt
@@ -269,16 +260,11 @@ masks_small : (d : DriverContent) (e : ℕ) (x : Endpoint) (o : Option Placement
 masks_small d e x None has planned masked here goes_on placed = (omega arith, omega arith)
 masks_small d e x (Some p) has planned masked here goes_on placed =
     let at : IsPlannedAt d e x p = endpoints_count_until_given_back d e x p planned here (kept d e x has here goes_on) placed in
-    let k : HasMasks p = one_of_all (λ (y : Placed). HasMasks y.placement) d.periodic.plan.placed at.place (record { want = want_of e x.desc; placement = p }) masked at.there in
+    let k : HasMasks p = nth_all (λ (y : Placed). HasMasks y.placement) d.periodic.plan.placed at.place
+    (record { want = want_of e x.desc; placement = p }) masked at.there in
     (k.smask, k.cmask)
 
 -- ---- they await their lend
-
-same_endpoint : (e t n i u k : ℕ) → ◌≡◌ {A = Option Command} (Some (unfinished.Iso e t n)) (Some (unfinished.Iso i u k)) → e ≡ i
-same_endpoint e t n i u k is = cc
-
-same_first : (e t n i u k : ℕ) → ◌≡◌ {A = Option Command} (Some (unfinished.Iso e t n)) (Some (unfinished.Iso i u k)) → t ≡ u
-same_first e t n i u k is = cc
 
 fields : (x : Endpoint) (s : Slots) → NumbersFit x.desc → HasFit x s → HasFields x.desc
 fields x s fit has = record {

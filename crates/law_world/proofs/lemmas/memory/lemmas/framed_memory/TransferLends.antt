@@ -1,6 +1,7 @@
 -- The qTDs of a transfer, with their buffers, are lent beside both walks.
 use Rattle.std.proofs.Common.{◌≡◌, ◌≢◌, ℕ, ◌*◌, ◌⊎◌, Bool, true, false, List, Option, Some, ap, sym, subst, ◌∙◌, ⊎_elim}
 use Rattle.std.proofs.lemmas.Bool.{cases_eq, cases_Bool}
+use Rattle.law_world.proofs.Common.{met_alike}
 use Rattle.word_mem.specs.Memory.{Mem}
 use Rattle.async_walk.specs.Rows.{place}
 use Rattle.drv_table.specs.declared.rows.DriverRow.{DriverRow}
@@ -34,7 +35,6 @@ use Rattle.law_descriptors.proofs.Others.{queue_lend_describes}
 use Rattle.law_descriptors.proofs.Rings.{ring_is_of_queues, list_is_of_queues}
 use Rattle.law_world.specs.memory.framed_memory.Now.{IsFramedNow}
 use Rattle.law_world.proofs.lemmas.memory.lemmas.framed_memory.Now.{RowLeaves, next_now}
-use Rattle.law_world.proofs.lemmas.memory.lemmas.framed_memory.StillStanding.{met_same}
 use Rattle.law_world.proofs.lemmas.memory.lemmas.framed_memory.Lending.{runs_alike}
 use Rattle.qh_qtd.specs.declared.qtd.Qtd.{Qtd}
 use Rattle.mem_runs.specs.Book.{Holding, holding, slot_of, lend_taken}
@@ -195,7 +195,7 @@ module _ (base : Base) (member : ℕ → Bool) (recent : ℕ → Option Kind) (d
 
   leaves : RowLeaves base member recent descs now hand frame c d rows.Lend
   leaves = record {
-    runs = runs_alike base member (met d recent) (met f recent) (both descs now) hand frame (with_memory c after) (met_same d f recent stays.stands) runs;
+    runs = runs_alike base member (met d recent) (met f recent) (both descs now) hand frame (with_memory c after) (met_alike d f recent stays.stands) runs;
     told = record { driven = drives.0.driven; extents = lies; described = described };
     recent_are = stays.recent_are;
     apart = λ a kind at. stays.stands a ∙ k.apart a kind at;

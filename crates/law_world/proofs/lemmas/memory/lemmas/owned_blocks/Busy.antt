@@ -1,6 +1,8 @@
 -- The worked rows.
-use Rattle.std.proofs.Common.{◌≡◌, ℕ, zero, suc, ◌==◌, ◌||◌, Bool, true, false, List, [], ◌∷◌, Option, Some, ap, refl, sym, ◌∙◌, inl, inr, arith}
+use Rattle.std.proofs.Common.{◌≡◌, ℕ, zero, suc, ◌==◌, ◌||◌, Bool, true, false, List, [], ◌∷◌, Some, ap, refl, sym, ◌∙◌, inl, inr, arith}
 use Rattle.std.proofs.lemmas.Bool.{false≢true, eq-eqb}
+use Rattle.law_common.proofs.Options.{same_Some}
+use Rattle.law_common.proofs.Booleans.{second_true}
 use Rattle.claims_driver.specs.Owners.{EndpointRuns, TransferRuns, endpoint_in, transfer_in, views_of, IsOneOf}
 use Rattle.law_driver.specs.run_owners.Worked.{busy_driver, busy_endpoints, busy_transfers}
 use Rattle.claims_driver.specs.LentRuns.{begins_in}
@@ -51,20 +53,13 @@ slots_owned = a_descriptor_buffer 2 (descriptor_runs 140) (record { here = refl;
 
 -- ---- nobody's
 
-or_right : (a b : Bool) → b ≡ true → a || b ≡ true
-or_right true b on = refl
-or_right false b on = on
-
 one_begins : (c : ℕ) (bs : List ℕ) → IsOneOf c bs → begins_in c bs ≡ true
 one_begins c [] among = absurd among
 one_begins c (b ∷ bs) (inl same) = ap (λ (t : Bool). t || begins_in c bs) (eq-eqb b c (sym same))
-one_begins c (b ∷ bs) (inr among) = or_right (b == c) (begins_in c bs) (one_begins c bs among)
+one_begins c (b ∷ bs) (inr among) = second_true (b == c) (begins_in c bs) (one_begins c bs among)
 
 none_begins : (c : ℕ) (bs : List ℕ) → begins_in c bs ≡ false → IsOneOf c bs → ⊥
 none_begins c bs off among = false≢true (sym off ∙ one_begins c bs among)
-
-same_Some : {A : Type 0} (x y : A) → ◌≡◌ {A = Option A} (Some x) (Some y) → x ≡ y
-same_Some x y is = cc
 
 endpoint_apart : (e : ℕ) (x : EndpointRuns) → endpoint_in busy_endpoints e ≡ Some x → x.bare ≡ false → begins_in 131 (queue_blocks x) ≡ false
 endpoint_apart zero x is on = ap (λ (r : EndpointRuns). begins_in 131 (queue_blocks r)) (sym (same_Some bulk_runs x is))

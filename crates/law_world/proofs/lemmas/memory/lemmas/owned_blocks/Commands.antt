@@ -1,8 +1,12 @@
 -- A command that is accepted takes no run but those of what it brings: an open, a transfer, a request and a cancel.
-use Rattle.std.proofs.Common.{◌≡◌, ◌≢◌, ℕ, zero, suc, ◌+◌, ◌-◌, ◌<◌, ◌≤◌, ◌||◌, Bool, true, false, List, [], ◌∷◌, ◌++◌, length, take, drop, get_or, set, replicate, slice_get, Option, Some, Ok, option_map, ap, refl, sym, subst, ◌∙◌, ⊎_elim, inl, inr, arith, length-append, length-take, length-drop}
+use Rattle.std.proofs.Common.{◌≡◌, ◌≢◌, ℕ, zero, suc, ◌+◌, ◌-◌, ◌<◌, ◌≤◌, ◌||◌, Bool, true, false, List, [], ◌∷◌, ◌++◌, length, take, drop, get_or, set, replicate, slice_get, Some, Ok, option_map, ap, refl, sym, subst, ◌∙◌, ⊎_elim, inl, inr, arith, length-append, length-take, length-drop}
 use Rattle.std.proofs.lemmas.Bool.{cases_eq, cases_lt}
 use Rattle.std.proofs.lemmas.List.{length-replicate}
 use Rattle.std.proofs.lemmas.Option.{slice_get_past}
+use Rattle.law_common.proofs.Options.{same_Some}
+use Rattle.law_descriptors.proofs.Common.{old_there}
+use Rattle.law_driver.proofs.Common.{ring_queue}
+use Rattle.law_common.proofs.Lists.{set_here, set_there, drop_first, still_there, pushed_last}
 use Rattle.word_mem.specs.Memory.{Mem}
 use Rattle.mem_runs.specs.Book.{Holding, holding, Stands, slot_of}
 use Rattle.mem_runs.specs.declared.slots.Slot.{Slot}
@@ -19,23 +23,18 @@ use Rattle.law_driver.specs.run_owners.Accepts.{AreShort, Opens, Chains, Places,
 use Rattle.claims_driver.specs.Owners.{Owner, Dummy, Element, HasRun, IsPlaced, EndpointRuns, TransferRuns, is_descriptor, runs_of_endpoint, runs_of_transfer, runs_of_note, endpoint_in, transfer_in, note_in, Views, views_of, IsOwned, IsOneOf}
 use Rattle.claims_driver.specs.Leaving.{owes, IsOrderly, HasOwners}
 use Rattle.law_driver.proofs.lemmas.run_owners.Runs.{placed_run}
-use Rattle.law_driver.proofs.lemmas.run_owners.Rows.{not_iso}
-use Rattle.law_driver.proofs.lemmas.run_owners.Released.{set_here, set_there}
 use Rattle.law_driver.proofs.lemmas.run_owners.Stays.{stays_same, stays_both, endpoint_stays, begun_notes, or_done}
 use Rattle.law_driver.proofs.lemmas.run_owners.Taking.{AreTaken, runs_taken}
 use Rattle.law_driver.proofs.lemmas.run_owners.Chains.{buffers_of, notes_apart}
-use Rattle.law_driver.proofs.lemmas.run_owners.Accepted.{drop_first, within_slots}
+use Rattle.law_driver.proofs.lemmas.run_owners.Accepted.{within_slots}
 use Rattle.law_driver.proofs.lemmas.run_owners.Transferred.{are_new, goes_on_alive}
 use Rattle.law_driver.proofs.lemmas.lent_runs.Books.{or_done_book}
 use Rattle.claims_world.specs.Owned.{IsQueued, AreAllOwned}
 use Rattle.law_world.specs.memory.owned_blocks.Owned.{AreQueuesHarvested, OwnsAll}
-use Rattle.law_world.proofs.lemmas.memory.lemmas.owned_blocks.Whose.{Whose, of_driver, of_endpoint, of_transfer, of_descriptor, queue_blocks, qtd_blocks, blocks_still, endpoint_alike, whose, owned, endpoint_at, transfer_at, place_of}
+use Rattle.law_world.proofs.lemmas.memory.lemmas.owned_blocks.Whose.{Whose, of_driver, of_endpoint, of_transfer, of_descriptor, queue_blocks, qtd_blocks, blocks_still, endpoint_alike, whose, owned, endpoint_at, place_of}
 use Rattle.law_world.proofs.lemmas.memory.lemmas.owned_blocks.Queues.{AreQueues}
-use Rattle.law_world.proofs.lemmas.memory.lemmas.owned_blocks.Taken.{takes_only, pushed_there, pushed_here, are_noted, parted}
+use Rattle.law_world.proofs.lemmas.memory.lemmas.owned_blocks.Taken.{takes_only, are_noted, parted}
 use Rattle.law_world.proofs.lemmas.memory.lemmas.owned_blocks.Events.{with_book, or_done_harvested}
-
-same_Some : {A : Type 0} (x y : A) → ◌≡◌ {A = Option A} (Some x) (Some y) → x ≡ y
-same_Some x y is = cc
 
 -- ---- an endpoint is added
 
@@ -45,7 +44,7 @@ added_views d g y = record (views_of d) { slot = slot_of g.book.slots; endpoint 
 added_there : (xs : List Endpoint) (y : Endpoint) (e : ℕ) (r : EndpointRuns) → endpoint_in xs e ≡ Some r → endpoint_in (xs ++ y ∷ []) e ≡ Some r
 added_there xs y e r there =
     let w = endpoint_at xs e r there in
-    ap (option_map runs_of_endpoint) (pushed_there xs (y ∷ []) e w.endpoint w.here) ∙ ap Some w.runs
+    ap (option_map runs_of_endpoint) (still_there xs (y ∷ []) e w.endpoint w.here) ∙ ap Some w.runs
 
 added_whose : (d : DriverContent) (g : Holding) (y : Endpoint) (b : ℕ) → Whose (views_of d) b → Whose (added_views d g y) b
 added_whose d g y b (of_driver is) = of_driver is
@@ -65,7 +64,7 @@ added_all d m h y stands runs queue dummy bare old b run =
     ⊎_elim (λ (was : HasRun (slot_of d.book.slots b)). added_whose d h y b (whose (views_of d) b (old b was)))
     (λ (among : IsOneOf b (new_runs d h)).
     let both = two_of b (new_runs d h) many among in
-    of_endpoint (length d.endpoints) (runs_of_endpoint y) (record { here = ap (option_map runs_of_endpoint) (pushed_here d.endpoints y); queued = bare })
+    of_endpoint (length d.endpoints) (runs_of_endpoint y) (record { here = ap (option_map runs_of_endpoint) (pushed_last d.endpoints y); queued = bare })
     (subst (λ (q : ℕ). IsOneOf b (q ∷ y.dummy ∷ [])) (sym queue) (subst (λ (k : ℕ). IsOneOf b (get_or (new_runs d h) 0 0 ∷ k ∷ [])) (sym dummy) both)))
     (takes_only (holding d.book m) h (2 ∷ 1 ∷ []) runs b run)
   where
@@ -81,7 +80,7 @@ open_owns d m o stands why old =
     let k = get_or (new_runs d h) 1 0 in
     let y = new_endpoint why.desc q k in
     let all : AreAllOwned (accepted_open d why.desc h q k).driver = λ b run.
-    owned (added_views d h y) b (added_all d m h y stands why.runs refl refl (ap (λ (c : Bool). c || false) (not_iso why.desc.kind why.ring)) old.all b run) in
+    owned (added_views d h y) b (added_all d m h y stands why.runs refl refl (ap (λ (c : Bool). c || false) (ring_queue why.desc.kind why.ring)) old.all b run) in
     subst (λ (f : Offered). OwnsAll f.driver) (sym why.is) (record { all = all; queues = old.queues })
 
 pub chain_owns : (d : DriverContent) (m : Mem) (o : Offered) → Stands (holding d.book m) → Chains d m o → OwnsAll d → OwnsAll o.driver
@@ -123,11 +122,6 @@ unchain_owns d m o why old =
     (or_done_book e (unfinished.Unchain why.number)) (or_done_harvested e (unfinished.Unchain why.number)) old)
 
 -- ---- a transfer
-
-pub added_transfer : (ts us : List Transfer) (t : ℕ) (r : TransferRuns) → transfer_in ts t ≡ Some r → transfer_in (ts ++ us) t ≡ Some r
-added_transfer ts us t r there =
-    let w = transfer_at ts t r there in
-    ap (option_map runs_of_transfer) (pushed_there ts us t w.transfer w.here) ∙ ap Some w.runs
 
 abbrev transfer_views : DriverContent → Holding → ℕ → Endpoint → Asked → List ℕ → Views
 transfer_views d g e x a bs = record (views_of d) {
@@ -190,7 +184,7 @@ chain_new {h = h} {g = g} {bs = bs} d owner e x a taken slots here alive sort sh
 
 the_new : (d : DriverContent) (g : Holding) (e : ℕ) (x : Endpoint) (a : Asked) (bs : List ℕ) (c : ℕ) → IsChainNew d g e x a bs → IsOneOf c (qtd_blocks (transfer_views d g e x a bs) (new_runs_of d e x a)) → Whose (transfer_views d g e x a bs) c
 the_new d g e x a bs c new among =
-    of_transfer (length d.transfers) (new_runs_of d e x a) (record { here = ap (option_map runs_of_transfer) (pushed_here d.transfers (new_transfer e a x.dummy)); held = refl; qtds = new.sort }) among
+    of_transfer (length d.transfers) (new_runs_of d e x a) (record { here = ap (option_map runs_of_transfer) (pushed_last d.transfers (new_transfer e a x.dummy)); held = refl; qtds = new.sort }) among
 
 -- what stood
 stood_whose : (d : DriverContent) (g : Holding) (e : ℕ) (x : Endpoint) (a : Asked) (bs : List ℕ) (b : ℕ) → IsChainNew d g e x a bs → Whose (views_of d) b → Whose (transfer_views d g e x a bs) b
@@ -211,9 +205,9 @@ stood_whose d g e x a bs b new (of_endpoint u r is among) =
         (subst (λ (c : ℕ). IsOneOf c (qtd_blocks (transfer_views d g e x a bs) (new_runs_of d e x a))) (ap (λ (q : EndpointRuns). q.dummy) at ∙ sym last) (new.qtd 0 (omega (arith, new.some))))
     own same at (inr (inr none)) = absurd none
 stood_whose d g e x a bs b new (of_transfer t r is among) =
-    of_transfer t r (record { here = added_transfer d.transfers (new_transfer e a x.dummy ∷ []) t r is.here; held = is.held; qtds = is.qtds }) (subst (IsOneOf b) (sym (new.same t r is)) among)
+    of_transfer t r (record { here = old_there d.transfers (new_transfer e a x.dummy ∷ []) t r is.here; held = is.held; qtds = is.qtds }) (subst (IsOneOf b) (sym (new.same t r is)) among)
 stood_whose d g e x a bs b new (of_descriptor t r is among) =
-    of_descriptor t r (record { here = added_transfer d.transfers (new_transfer e a x.dummy ∷ []) t r is.here; held = is.held; descriptor = is.descriptor }) among
+    of_descriptor t r (record { here = old_there d.transfers (new_transfer e a x.dummy ∷ []) t r is.here; held = is.held; descriptor = is.descriptor }) among
 
 -- what was taken
 taken_whose : (d : DriverContent) (g : Holding) (e : ℕ) (x : Endpoint) (a : Asked) (bs : List ℕ) (b : ℕ) → IsChainNew d g e x a bs → IsOneOf b bs → Whose (transfer_views d g e x a bs) b

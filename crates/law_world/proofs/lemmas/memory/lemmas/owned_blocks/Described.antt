@@ -2,6 +2,9 @@
 use Rattle.std.proofs.Common.{◌≡◌, ◌≢◌, ℕ, zero, suc, ◌+◌, ◌-◌, ◌<◌, ◌≤◌, ◌%◌, false, List, [], ◌∷◌, length, drop, get_or, set, replicate, slice_get, Option, Some, None, option_map, ap, refl, sym, subst, ◌∙◌, ⊎_elim, inl, inr, arith, length-append, length-drop}
 use Rattle.std.proofs.lemmas.Bool.{cases_lt}
 use Rattle.std.proofs.lemmas.List.{get_or-set_same, get_or-set_other, length-set, get_or-drop}
+use Rattle.law_common.proofs.Lists.{get_first, drop_first, pushed_last}
+use Rattle.law_driver.proofs.Common.{blocks_run}
+use Rattle.law_descriptors.proofs.Common.{old_there}
 use Rattle.usb_base.specs.declared.endpoints.EpDesc.{EpDesc}
 use Rattle.word_mem.specs.Memory.{Mem}
 use Rattle.mem_runs.specs.Book.{Book, holding, Stands, slot_of}
@@ -18,16 +21,15 @@ use Rattle.claims_driver.specs.Owners.{Described, HasRun, TransferRuns, NoteRuns
 use Rattle.claims_driver.specs.Leaving.{owes, IsOrderly, HasOwners}
 use Rattle.law_driver.proofs.lemmas.run_owners.Runs.{placed_run}
 use Rattle.law_driver.proofs.lemmas.run_owners.Stays.{same_view}
-use Rattle.law_driver.proofs.lemmas.run_owners.Taking.{AreTaken, runs_taken, blocks_some}
+use Rattle.law_driver.proofs.lemmas.run_owners.Taking.{AreTaken, runs_taken}
 use Rattle.law_driver.proofs.lemmas.run_owners.Chains.{few_runs}
-use Rattle.law_driver.proofs.lemmas.run_owners.Accepted.{drop_first, fresh_differs, within_slots}
+use Rattle.law_driver.proofs.lemmas.run_owners.Accepted.{fresh_differs, within_slots}
 use Rattle.law_driver_ring.specs.Released.{blocks_of}
 use Rattle.claims_world.specs.Owned.{IsIsochronous, AreAllOwned}
 use Rattle.law_world.specs.memory.owned_blocks.Owned.{AreQueuesHarvested, OwnsAll}
 use Rattle.law_world.proofs.lemmas.memory.lemmas.owned_blocks.Whose.{Whose, of_driver, of_endpoint, of_transfer, of_descriptor, endpoint_alike, whose, owned, place_of}
 use Rattle.law_world.proofs.lemmas.memory.lemmas.owned_blocks.Queues.{AreQueues}
-use Rattle.law_world.proofs.lemmas.memory.lemmas.owned_blocks.Taken.{takes_only, pushed_here, filled_one}
-use Rattle.law_world.proofs.lemmas.memory.lemmas.owned_blocks.Commands.{added_transfer}
+use Rattle.law_world.proofs.lemmas.memory.lemmas.owned_blocks.Taken.{takes_only, filled_one}
 
 -- ---- what they leave
 
@@ -36,7 +38,7 @@ unfolding all_descriptors
 all_there zero seed k e x s rs a t r there = there
 all_there (suc n) seed k e x s rs a t r there =
     all_there n ((seed + total_of s) % 256) k e x s (drop (suc (slot_runs s)) rs) (one_descriptor k e x s seed rs a) t r
-    (added_transfer a.transfers (descriptor_transfer e s (get_or rs 0 0) ∷ []) t r there)
+    (old_there a.transfers (descriptor_transfer e s (get_or rs 0 0) ∷ []) t r there)
 
 -- how many runs there are
 enough : (s : Slots) (n : ℕ) (rs : List ℕ) → length rs ≡ length (iso_needs s (suc n)) → length rs ≡ suc (slot_runs s + length (iso_needs s n))
@@ -57,10 +59,6 @@ all_apart (suc n) seed k e x s rs a c long apart =
     ∙ ap runs_of_descriptor (get_or-set_other a.notes (get_or rs 0 0) c (descriptor_note s (drop 1 rs)) no_descriptor (λ same. apart 0 (omega (arith, enough s n rs long)) (sym same)))
 
 -- ---- whose the new runs are
-
-get_first : (rs : List ℕ) (i : ℕ) → get_or (drop 1 rs) i 0 ≡ get_or rs (suc i) 0
-get_first [] i = refl
-get_first (r ∷ rs) i = refl
 
 abbrev views_with : Views → Descriptors → Views
 views_with v a = record v { transfer = transfer_in a.transfers; descriptor = descriptor_in a.notes }
@@ -85,7 +83,7 @@ all_new v (suc n) seed k e x s rs a short long distinct within i below =
     all_apart n later k e x s ss one b (rest_long s n rs long)
     (λ j less same. distinct 0 (suc r + j) (omega arith) (omega (arith, less, many, all)) (sym (get_or-drop (suc r) rs j 0) ∙ same))
     ∙ ap runs_of_descriptor (get_or-set_same a.notes b note no_descriptor (within 0 (omega (arith, all)))) in
-    let here : transfer_in f.transfers t ≡ Some y = all_there n later k e x s ss one t y (ap (option_map runs_of_transfer) (pushed_here a.transfers (descriptor_transfer e s b))) in
+    let here : transfer_in f.transfers t ≡ Some y = all_there n later k e x s ss one t y (ap (option_map runs_of_transfer) (pushed_last a.transfers (descriptor_transfer e s b))) in
     let it : (c : ℕ) → IsOneOf c (b ∷ (runs_of_descriptor note).buffer) → Whose (views_with v f) c = λ c among.
     of_descriptor t y (record { here = here; held = refl; descriptor = refl }) (subst (λ (q : DescriptorRuns). IsOneOf c (b ∷ q.buffer)) (sym noted) among) in
     ⊎_elim
@@ -166,7 +164,7 @@ describe_owns d m o stands why owners old =
     let p = place_of b now among in
     subst (λ (c : ℕ). Whose w c) p.is
     (all_new v n why.seed h.book why.number x.desc s now a why.short taken.long taken.distinct
-    (λ i below. omega (arith, within_slots (get_or now i 0) taken (blocks_some (get_or ns i 0) (slot_of h.book.slots (get_or now i 0)) (taken.new i below)), taken.many, own.as_many))
+    (λ i below. omega (arith, within_slots (get_or now i 0) taken (blocks_run (get_or ns i 0) (slot_of h.book.slots (get_or now i 0)) (taken.new i below)), taken.many, own.as_many))
     p.place p.below))
     (takes_only (holding d.book m) h ns why.runs b run)) in
     subst (λ (g : Offered). OwnsAll g.driver) (sym why.is) (record { all = every; queues = described_queues d f.transfers there owners.orderly old.queues })

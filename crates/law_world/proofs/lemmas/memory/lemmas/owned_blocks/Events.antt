@@ -3,6 +3,10 @@ use Rattle.std.proofs.Common.{◌≡◌, ◌≢◌, ℕ, suc, ◌≤◌, ◌==�
 use Rattle.std.specs.Prelude.{◌⊎◌, is_none}
 use Rattle.std.proofs.lemmas.Bool.{cases_eq, cases_Bool, false≢true}
 use Rattle.std.proofs.lemmas.Option.{slice_get-map}
+use Rattle.law_common.proofs.Options.{same_Some}
+use Rattle.law_common.proofs.Booleans.{no_iso}
+use Rattle.law_common.proofs.Lists.{set_there}
+use Rattle.law_driver.proofs.Common.{ring_queue}
 use Rattle.word_mem.specs.Memory.{Mem}
 use Rattle.mem_runs.specs.Book.{Book, Holding, holding, slot_of, lend_taken}
 use Rattle.drv_periodic_table.specs.Linking.{begun_next}
@@ -30,10 +34,9 @@ use Rattle.claims_driver.specs.Owners.{HasRun, EndpointRuns, TransferRuns, is_de
 use Rattle.claims_driver.specs.Leaving.{times, IsOrderly, HasOwners}
 use Rattle.law_driver.specs.run_owners.Due.{IsDue, IsRemovalDue}
 use Rattle.law_driver.proofs.lemmas.run_owners.Stays.{StaysPlaced, stays_same, advanced, framed, lent, unlinks, harvest_stays}
-use Rattle.law_driver.proofs.lemmas.run_owners.Released.{same_by_test, set_there, AreUntouched, cancel_same}
+use Rattle.law_driver.proofs.lemmas.run_owners.Released.{same_by_test, AreUntouched, cancel_same}
 use Rattle.law_driver.proofs.lemmas.run_owners.Orders.{times_first, removed_first, one_same}
 use Rattle.law_driver.proofs.lemmas.run_owners.Leaves.{first_left}
-use Rattle.law_driver.proofs.lemmas.run_owners.Rows.{not_iso}
 use Rattle.law_driver.proofs.lemmas.run_owners.Reasons.{each_event_is_due}
 use Rattle.claims_driver.specs.LentRuns.{begins_in, AreLent}
 use Rattle.law_driver.proofs.lemmas.lent_runs.Books.{advance_book, harvest_book}
@@ -115,9 +118,6 @@ unlinks_owns p t None old = old
 unlinks_owns p t (Some x) old = with_book p.driver _ (unlinks p t (Some x)) refl refl old
 
 -- ---- a transfer
-
-same_Some : {A : Type 0} (x y : A) → ◌≡◌ {A = Option A} (Some x) (Some y) → x ≡ y
-same_Some x y is = cc
 
 none_kept : (d : DriverContent) (m : Mem) → d.command ≡ None → AreLent d → HasNoneKept (holding d.book m)
 none_kept d m idle lends b r keeps = false≢true (sym (ap (begins_in b) (idle_none d idle lends)) ∙ lends.kept b r keeps)
@@ -214,10 +214,6 @@ record GoesWith (d : DriverContent) (g : Holding) (e : ℕ) (x : Endpoint) (go :
   queued : (t c : ℕ) (y : Transfer) → slice_get d.transfers t ≡ Some y → y.released ≡ false → is_descriptor y.sort ≡ false → IsOneOf c (qtd_blocks (views_of d) (runs_of_transfer y)) → (go y ≡ y) ⊎ Gone g c
   described : (t c : ℕ) (y : Transfer) → slice_get d.transfers t ≡ Some y → y.released ≡ false → is_descriptor y.sort ≡ true → IsOneOf c (descriptor_blocks (views_of d) (runs_of_transfer y)) → (go y ≡ y) ⊎ Gone g c
 
-not_bare : (a b : Bool) → a || b ≡ false → a ≡ false
-not_bare true b is = is
-not_bare false b is = refl
-
 after_going : (d : DriverContent) (g : Holding) (e b : ℕ) (x : Endpoint) (go : Transfer → Transfer) → slice_get d.endpoints e ≡ Some x → GoesWith d g e x go → HasRun (slot_of g.book.slots b) → Whose (views_of d) b
     → Whose (endpoint_views d g e x (map go d.transfers)) b
 after_going d g e b x go here goes run (of_driver is) = of_driver is
@@ -225,7 +221,8 @@ after_going d g e b x go here goes run (of_endpoint u r is among) =
     ⊎_elim
     (λ (same : u ≡ e).
     let at : runs_of_endpoint x ≡ r = endpoint_is d.endpoints e u x r here same is.here in
-    absurd (goes.queue b (not_bare (is_iso x.desc.kind) x.gone (ap (λ (q : EndpointRuns). q.bare) at ∙ is.queued)) (subst (λ (q : EndpointRuns). IsOneOf b (queue_blocks q)) (sym at) among) run))
+    absurd (goes.queue b (no_iso (is_iso x.desc.kind) x.gone (ap (λ (q : EndpointRuns). q.bare) at ∙ is.queued))
+    (subst (λ (q : EndpointRuns). IsOneOf b (queue_blocks q)) (sym at) among) run))
     (λ (differs : u ≢ e). endpoint_alike (views_of d) (endpoint_views d g e x (map go d.transfers)) u b r (endpoint_still d.endpoints e u (record x { gone = true }) differs) is among)
     (cases_eq u e)
 after_going d g e b x go here goes run (of_transfer t r is among) =
@@ -369,7 +366,7 @@ first_queued d t x first there old = old t (runs_of_transfer x) (omega (arith, t
 first_ring : (d : DriverContent) (e : ℕ) (x : Endpoint) → slice_get d.cleared 0 ≡ Some e → slice_get d.endpoints e ≡ Some x → IsOrderly d → is_iso x.desc.kind ≡ false
 first_ring d e x first here order =
     let l = first_left e first order in
-    not_iso x.desc.kind (ap (λ (y : Endpoint). is_periodic y.desc.kind) (same_Some x l.endpoint (sym here ∙ l.here)) ∙ l.ring)
+    ring_queue x.desc.kind (ap (λ (y : Endpoint). is_periodic y.desc.kind) (same_Some x l.endpoint (sym here ∙ l.here)) ∙ l.ring)
 
 first_described : (d : DriverContent) (t : ℕ) (x : Transfer) (m : Removal) → slice_get d.periodic.removals 0 ≡ Some m → m.what ≡ removed.Descriptor t → slice_get d.transfers t ≡ Some x → IsOrderly d → is_descriptor x.sort ≡ true
 first_described d t x m first what there order = order.unlinked t x (omega (arith, removed_first t t d.periodic.removals m first what, one_same t)) there

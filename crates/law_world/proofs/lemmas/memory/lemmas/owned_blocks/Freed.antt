@@ -1,8 +1,9 @@
 -- What is given back, from a book whose runs are all lent, isn't in the book any more; all else that is there was there.
-use Rattle.std.proofs.Common.{◌≡◌, ◌≢◌, ℕ, zero, suc, Bool, true, false, cond, List, [], ◌∷◌, reverse, set, slice_get, Option, Some, ap, refl, sym, subst, ◌∙◌, ⊎_elim, inl, inr}
+use Rattle.std.proofs.Common.{◌≡◌, ◌≢◌, ℕ, zero, suc, Bool, true, false, cond, List, [], ◌∷◌, reverse, set, slice_get, Some, ap, refl, sym, subst, ◌∙◌, ⊎_elim, inl, inr}
 use Rattle.std.specs.Prelude.{◌⊎◌}
 use Rattle.std.proofs.lemmas.Bool.{cases_eq, false≢true}
 use Rattle.std.proofs.lemmas.List.{get_or-set_same, get_or-set_other}
+use Rattle.law_common.proofs.Options.{same_Some}
 use Rattle.word_mem.specs.Runs.{Run}
 use Rattle.mem_runs.specs.Book.{Holding, slot_of, slot_at, lend_slot, lend_runs, lend_taken, none_taken, release_slot, release_run}
 use Rattle.mem_runs.specs.declared.slots.Slot.{Slot}
@@ -116,9 +117,6 @@ when_less false h g less = less_self h
 when_gone : (b : Bool) (h g : Holding) (c : ℕ) → b ≡ true → Gone g c → Gone (cond b g h) c
 when_gone true h g c on gone = gone
 when_gone false h g c on gone = absurd (false≢true on)
-
-same_Some : {A : Type 0} (x y : A) → ◌≡◌ {A = Option A} (Some x) (Some y) → x ≡ y
-same_Some x y is = cc
 
 pub transfers_less : (notes : List QtdNote) (e : ℕ) (h : Holding) (ts : List Transfer) → IsLess h (free_transfers notes e h ts)
 unfolding free_transfers

@@ -1,8 +1,10 @@
 -- Which blocks are Lent; and what a driver owns that was just built.
-use Rattle.std.proofs.Common.{◌≡◌, ◌≢◌, ℕ, zero, suc, ◌+◌, ◌/◌, ◌<◌, ◌≤◌, Bool, true, false, cond, List, [], ◌∷◌, length, set, replicate, slice_get, Option, Some, Ok, ap, refl, sym, subst, ◌∙◌, ⊎_elim, inl, inr, arith}
+use Rattle.std.proofs.Common.{◌≡◌, ◌≢◌, ℕ, zero, suc, ◌+◌, ◌/◌, ◌≤◌, Bool, true, false, cond, List, [], ◌∷◌, set, replicate, Option, Some, Ok, ap, refl, sym, subst, ◌∙◌, ⊎_elim, inl, inr, arith}
 use Rattle.std.specs.Prelude.{◌⊎◌}
 use Rattle.std.proofs.lemmas.Bool.{cases_eq, false≢true}
 use Rattle.std.proofs.lemmas.List.{get_or-set_other}
+use Rattle.law_common.proofs.Lists.{some_below}
+use Rattle.law_driver.proofs.Common.{lent_by as lent_slot}
 use Rattle.usb_base.specs.declared.commands.Cmd.{Cmd}
 use Rattle.word_mem.specs.Memory.{Mem, state_at}
 use Rattle.word_mem.specs.Runs.{Run}
@@ -97,17 +99,12 @@ state_lent (suc l) k is = omega arith
 state_lent zero (suc k) is = absurd (cc)
 state_lent zero zero is = absurd (cc)
 
-past_none : {X : Type 0} (xs : List X) (k : ℕ) (x : X) → slice_get xs k ≡ Some x → k < length xs
-past_none [] k x is = absurd (cc)
-past_none (y ∷ xs) zero x is = omega arith
-past_none (y ∷ xs) (suc k) x is = let r = past_none xs k x is in omega (arith, r)
-
 pub lent_blocks_are_needed : (d : DriverContent) (m : Mem) → Stands (holding d.book m) → AreAllOwned d → LentBlocksAre d m
 lent_blocks_are_needed d m stands all k = (told, from)
   where
     told : state_at m k ≡ Some Lent → IsLentBlock d k
     told is =
-        let below = past_none m.states k Lent is in
+        let below = some_below m.states k Lent is in
         let some = state_lent (holders (lent_in d.book.slots) k) (holders (kept_in d.book.slots) k) (sym (stands.held.each k below) ∙ is) in
         let r = lent_by d.book.slots k some in
         record {
@@ -144,11 +141,6 @@ owned_run d b owners (a_descriptor t y here is) =
 owned_run d b owners (a_descriptor_buffer t y here among) =
     let p = owners.owned.each.described t y here.here here.descriptor here.held in
     placed_run b (Buffer t) (all_one (λ (i : ℕ). IsPlaced (slot_of d.book.slots) owners.owner i (Buffer t)) ((views_of d).descriptor y.first).buffer b p.buffers among)
-
-lent_slot : (s : Slot) → HasRun s → ((r : Run) → s ≡ Keeps r → ⊥) → IsLent s
-lent_slot Empty run none = run
-lent_slot (Keeps r) run none = none r refl
-lent_slot (Lends r) run none = tt
 
 pub needed_runs_are_lent : (d : DriverContent) (b : ℕ) → HasOwners d → AreLent d → IsOwnedRun d b → begins_in b d.book.taken ≡ false → IsLent (slot_of d.book.slots b)
 needed_runs_are_lent d b owners lends is off =

@@ -2,6 +2,8 @@
 use Rattle.std.proofs.Common.{◌≡◌, ◌≢◌, ℕ, zero, suc, ◌-◌, ◌≤◌, ◌==◌, Bool, true, false, ◌||◌, cond, List, [], ◌∷◌, ◌++◌, length, map, drop, set, slice_get, Option, Some, None, option_map, ap, refl, sym, subst, ◌∙◌, ⊎_elim, arith}
 use Rattle.std.proofs.lemmas.Bool.{cases_eq, false≢true}
 use Rattle.std.proofs.lemmas.Option.{slice_get-map}
+use Rattle.law_common.proofs.Options.{same_Some}
+use Rattle.law_common.proofs.Lists.{set_here, set_there}
 use Rattle.usb_base.specs.declared.endpoints.EpName.{EpName}
 use Rattle.usb_base.specs.declared.endpoints.EndCause.{EndCause}
 use Rattle.word_mem.specs.Memory.{Mem}
@@ -22,7 +24,6 @@ use Rattle.drv_table.specs.Removals.{let_go_waiting, let_go_placed}
 use Rattle.claims_driver.specs.Owners.{TransferRuns, is_descriptor, runs_of_transfer, transfer_in}
 use Rattle.claims_driver.specs.Leaving.{times, IsOrderly}
 use Rattle.law_driver.proofs.lemmas.run_owners.Stays.{same_view}
-use Rattle.law_driver.proofs.lemmas.run_owners.Released.{set_here, set_there}
 use Rattle.law_driver.proofs.lemmas.run_owners.Orders.{times_push, none_other}
 use Rattle.law_driver.proofs.lemmas.run_owners.Harvest.{waits_is}
 use Rattle.law_world.specs.memory.owned_blocks.Owned.{AreQueuesHarvested}
@@ -43,9 +44,6 @@ queues_pushed hs ts k new old t y some there =
 pub times_dropped : (t : ℕ) (hs : List ℕ) → times t (drop 1 hs) ≤ times t hs
 times_dropped t [] = omega arith
 times_dropped t (h ∷ hs) = omega arith
-
-same_Some : {A : Type 0} (x y : A) → ◌≡◌ {A = Option A} (Some x) (Some y) → x ≡ y
-same_Some x y is = cc
 
 -- one transfer is changed
 pub queues_set : (hs js : List ℕ) (ts : List Transfer) (t : ℕ) (x z : Transfer) → slice_get ts t ≡ Some x → z.sort ≡ x.sort → ((u : ℕ) → times u js ≤ times u hs) → AreQueues hs ts → AreQueues js (set ts t z)

@@ -1,8 +1,11 @@
 -- A command takes no runs but those that it is told of; and where they stand in the lists of what it brings.
-use Rattle.std.proofs.Common.{◌≡◌, ◌≢◌, ℕ, zero, suc, ◌+◌, ◌-◌, ◌<◌, ◌≤◌, List, [], ◌∷◌, ◌++◌, length, take, drop, get_or, set, replicate, slice_get, Option, Some, None, Result, Ok, Err, option_map, ap, refl, sym, subst, ◌∙◌, ⊎_elim, inl, inr, arith, append_assoc, length-append, length-drop}
+use Rattle.std.proofs.Common.{◌≡◌, ◌≢◌, ℕ, zero, suc, ◌+◌, ◌-◌, ◌<◌, ◌≤◌, List, [], ◌∷◌, ◌++◌, length, take, drop, get_or, set, replicate, Option, Some, None, Result, Ok, Err, option_map, ap, refl, sym, subst, ◌∙◌, ⊎_elim, inl, inr, arith, append_assoc, length-append, length-drop}
 use Rattle.std.specs.Prelude.{◌⊎◌}
 use Rattle.std.proofs.lemmas.Bool.{cases_eq, cases_lt}
 use Rattle.std.proofs.lemmas.List.{get_or-set_same, get_or-set_other, get_or-drop, length-set}
+use Rattle.law_common.proofs.Lists.{next_of, append_none, drop_first}
+use Rattle.law_driver.proofs.Common.{ok_same}
+use Rattle.law_driver_ring.proofs.Common.{one_left, one_right}
 use Rattle.usb_base.specs.declared.reports.OfferError.{OfferError}
 use Rattle.usb_base.specs.declared.reports.OfferError.TheVariants as errors
 use Rattle.word_mem.specs.Runs.{Run}
@@ -19,10 +22,8 @@ use Rattle.drv_table.specs.Accepting.{take_runs}
 use Rattle.drv_table.specs.Offers.{runs_of, note_for, note_stages}
 use Rattle.law_driver.specs.run_owners.Accepts.{AreShort}
 use Rattle.claims_driver.specs.Owners.{HasRun, NoteRuns, runs_of_note, note_in, IsOneOf}
-use Rattle.law_driver.proofs.lemmas.run_owners.Accepted.{drop_first}
 use Rattle.law_driver.proofs.lemmas.run_owners.Chains.{buffers_of, notes_apart, few_runs}
 use Rattle.law_driver_ring.specs.Released.{blocks_of}
-use Rattle.law_world.proofs.lemmas.memory.lemmas.owned_blocks.Whose.{one_left, one_right}
 use Rattle.law_world.proofs.lemmas.memory.lemmas.owned_blocks.Freed.{Has}
 
 -- ---- the runs that are taken
@@ -49,13 +50,6 @@ run_only h g (Some r) is =
 
 abbrev then_runs : Holding → ℕ → List ℕ → Option Holding → Result Holding OfferError
 then_runs h n ns o = elim o [ None ↦ Err (errors.NoBlocks n (longest_run h.memory.states)) | Some more ↦ take_runs more ns ]
-
-ok_same : (h g : Holding) → ◌≡◌ {A = Result Holding OfferError} (Ok h) (Ok g) → h ≡ g
-ok_same h g e = cc
-
-append_none : (xs : List ℕ) → xs ++ [] ≡ xs
-append_none [] = refl
-append_none (x ∷ xs) = ap (λ ys. x ∷ ys) (append_none xs)
 
 first_only : (h g : Holding) (n : ℕ) (ns : List ℕ) (o : Option Holding) → take_run h n ≡ o → ((k : Holding) → take_runs k ns ≡ Ok g → TakesSome k g) → then_runs h n ns o ≡ Ok g → TakesSome h g
 first_only h g n ns None is rest e = absurd (cc)
@@ -86,17 +80,6 @@ takes_only h g ns e c run =
     let new : drop (length h.book.taken) g.book.taken ≡ t.blocks = ap (drop (length h.book.taken)) t.only.taken ∙ drop_first h.book.taken t.blocks in
     ⊎_elim (λ (was : Has h c). inl was) (λ (among : IsOneOf c t.blocks). inr (subst (IsOneOf c) (sym new) among)) (t.only.only c run)
 
--- ---- one more of a list
-
-pub pushed_there : {X : Type 0} (xs ys : List X) (i : ℕ) (x : X) → slice_get xs i ≡ Some x → slice_get (xs ++ ys) i ≡ Some x
-pushed_there [] ys i x there = absurd (cc)
-pushed_there (z ∷ xs) ys zero x there = there
-pushed_there (z ∷ xs) ys (suc i) x there = pushed_there xs ys i x there
-
-pub pushed_here : {X : Type 0} (xs : List X) (x : X) → slice_get (xs ++ x ∷ []) (length xs) ≡ Some x
-pushed_here [] x = refl
-pushed_here (z ∷ xs) x = pushed_here xs x
-
 -- ---- the blocks of new qTDs and of their buffers
 
 pub filled_one : (k m i : ℕ) (xs zs : List ℕ) → k ≤ m → k ≤ length xs → i < k → IsOneOf (get_or xs i 0) (take k (take m (take k xs ++ zs)))
@@ -105,12 +88,6 @@ filled_one (suc k) zero i xs zs few long below = absurd (omega arith)
 filled_one (suc k) (suc m) i [] zs few long below = absurd (omega arith)
 filled_one (suc k) (suc m) zero (x ∷ xs) zs few long below = inl refl
 filled_one (suc k) (suc m) (suc i) (x ∷ xs) zs few long below = inr (filled_one k m i xs zs (omega arith) (omega arith) (omega arith))
-
-next_of : (qtds : List ℕ) (i : ℕ) → get_or (get_or qtds 0 0 ∷ drop 1 qtds) i 0 ≡ get_or qtds i 0
-next_of [] zero = refl
-next_of [] (suc i) = refl
-next_of (q ∷ qtds) zero = refl
-next_of (q ∷ qtds) (suc i) = refl
 
 -- the block that begins a chain, and what is behind it
 pub record AreNoted (notes : List QtdNote) (b n : ℕ) (qtds runs : List ℕ) (many : ℕ) : Type 0 where

@@ -1,6 +1,8 @@
 -- Whose a run is, told by the lists of blocks of endpoints and transfers.
 use Rattle.std.proofs.Common.{◌≡◌, ℕ, zero, suc, ◌<◌, List, [], ◌∷◌, ◌++◌, length, get_or, Option, Some, None, option_map, slice_get, ap, refl, sym, subst, ◌∙◌, ⊎_elim, inl, inr, arith}
 use Rattle.std.specs.Prelude.{◌⊎◌}
+use Rattle.law_common.proofs.Options.{same_Some}
+use Rattle.law_driver_ring.proofs.Common.{one_left, one_right, piece_among}
 use Rattle.mem_runs.specs.declared.slots.Slot.{Slot}
 use Rattle.drv_table.specs.Words.{head_block}
 use Rattle.drv_table.specs.declared.content.Endpoint.{Endpoint}
@@ -26,24 +28,10 @@ pub data Whose (v : Views) (b : ℕ) : Type 0 where
 
 -- ---- members of lists
 
-pub one_left : (c : ℕ) (bs cs : List ℕ) → IsOneOf c bs → IsOneOf c (bs ++ cs)
-one_left c [] cs among = absurd among
-one_left c (b ∷ bs) cs (inl same) = inl same
-one_left c (b ∷ bs) cs (inr among) = inr (one_left c bs cs among)
-
-pub one_right : (c : ℕ) (bs cs : List ℕ) → IsOneOf c cs → IsOneOf c (bs ++ cs)
-one_right c [] cs among = among
-one_right c (b ∷ bs) cs among = inr (one_right c bs cs among)
-
 pub one_split : (c : ℕ) (bs cs : List ℕ) → IsOneOf c (bs ++ cs) → IsOneOf c bs ⊎ IsOneOf c cs
 one_split c [] cs among = inr among
 one_split c (b ∷ bs) cs (inl same) = inl (inl same)
 one_split c (b ∷ bs) cs (inr among) = ⊎_elim (λ (l : IsOneOf c bs). inl (inr l)) (λ (r : IsOneOf c cs). inr r) (one_split c bs cs among)
-
-pub one_at : (bs : List ℕ) (i : ℕ) → i < length bs → IsOneOf (get_or bs i 0) bs
-one_at [] i below = absurd (omega arith)
-one_at (b ∷ bs) zero below = inl refl
-one_at (b ∷ bs) (suc i) below = inr (one_at bs i (omega arith))
 
 -- the place of one
 pub record IsAt (c : ℕ) (bs : List ℕ) : Type 0 where
@@ -57,11 +45,6 @@ place_of c (b ∷ bs) (inl same) = record { place = 0; below = omega arith; is =
 place_of c (b ∷ bs) (inr among) = let r = place_of c bs among in record { place = suc r.place; below = let n = r.below in omega (arith, n); is = r.is }
 
 -- ---- qTDs and their buffers
-
-piece_one : (note : ℕ → NoteRuns) (b n c : ℕ) → IsPieceOf note b n c → IsOneOf c (blocks_of note b n)
-piece_one note b zero c is = absurd is
-piece_one note b (suc n) c (inl same) = inl same
-piece_one note b (suc n) c (inr is) = inr (one_right c (note b).buffer (blocks_of note (note b).next n) (piece_one note (note b).next n c is))
 
 buffer_one : (note : ℕ → NoteRuns) (b n d c : ℕ) → IsPieceOf note b n d → IsOneOf c (note d).buffer → IsOneOf c (blocks_of note b n)
 buffer_one note b zero d c is among = absurd is
@@ -93,7 +76,7 @@ whose v b (the_list is) = of_driver (inl is)
 whose v b (the_head is) = of_driver (inr is)
 whose v b (a_queue e x here is) = of_endpoint e x here (inl is)
 whose v b (a_dummy e x here is) = of_endpoint e x here (inr (inl is))
-whose v b (a_piece t y here is) = of_transfer t y here (piece_one v.note y.first y.qtds b is)
+whose v b (a_piece t y here is) = of_transfer t y here (piece_among v.note y.first y.qtds b is)
 whose v b (a_buffer t c y here is among) = of_transfer t y here (buffer_one v.note y.first y.qtds c b is among)
 whose v b (a_descriptor t y here is) = of_descriptor t y here (inl is)
 whose v b (a_descriptor_buffer t y here among) = of_descriptor t y here (inr among)
@@ -164,9 +147,6 @@ pub record IsTransferAt (ts : List Transfer) (t : ℕ) (r : TransferRuns) : Type
   pub transfer : Transfer
   pub here : slice_get ts t ≡ Some transfer
   pub runs : runs_of_transfer transfer ≡ r
-
-same_Some : {A : Type 0} (x y : A) → ◌≡◌ {A = Option A} (Some x) (Some y) → x ≡ y
-same_Some x y is = cc
 
 transfer_by : (ts : List Transfer) (t : ℕ) (r : TransferRuns) (o : Option Transfer) → slice_get ts t ≡ o → option_map runs_of_transfer o ≡ Some r → IsTransferAt ts t r
 transfer_by ts t r None here is = absurd (cc)

@@ -1,5 +1,7 @@
 -- The structures of an endpoint that is being opened are lent: no queue head that is met has them.
 use Rattle.std.proofs.Common.{◌≡◌, ◌≢◌, ℕ, ◌*◌, Bool, true, slice_get, Some, ap, sym, ◌∙◌, ⊎_elim, inl}
+use Rattle.law_common.proofs.Numbers.{same_blocks}
+use Rattle.law_controller.proofs.Common.{heads_stay, elements_stay}
 use Rattle.drv_table.specs.declared.content.Command.TheVariants as unfinished
 use Rattle.drv_table.specs.declared.content.Endpoint.{Endpoint}
 use Rattle.drv_table.specs.DriverContent.{DriverContent}
@@ -14,8 +16,6 @@ use Rattle.law_ring.specs.Hand.{Hand}
 use Rattle.law_ring.specs.Told.{Endpoint as Told}
 use Rattle.law_driver_ring.specs.fed_queues.Places.{HasHead, AreMet}
 use Rattle.law_queues.specs.open_laws.Queues.{IsOpenToLend, parts_opened}
-use Rattle.law_queues.proofs.lemmas.publish_laws.Apart.{thirty_two}
-use Rattle.law_world.proofs.lemmas.steps.Joining.{heads_stay, elements_stay}
 use Rattle.bus_world.specs.World.{World}
 use Rattle.law_world.specs.memory.Mixed.{Standing, IsMixedAt}
 use Rattle.law_world.proofs.lemmas.memory.lemmas.pipe_steps.Hands.{TellsAlike, alike_itself}
@@ -28,9 +28,9 @@ pub opening_apart : (d : DriverContent) (near : ℕ → Bool) (e : ℕ) (x : End
 opening_apart d near e x owners met here command linked m on same =
     ⊎_elim
     (λ (head : m ≡ 32 * head_block).
-    queue_off_head d e x owners here (in_ring_alive d e x owners.orderly here linked) (thirty_two x.queue head_block (sym same ∙ head)))
+    queue_off_head d e x owners here (in_ring_alive d e x owners.orderly here linked) (same_blocks x.queue head_block (sym same ∙ head)))
     (λ (h : HasHead d m).
-    h.met.there.linked (command ∙ ap (λ (b : ℕ). Some (unfinished.Open b)) (thirty_two x.queue h.endpoint.queue (sym same ∙ h.at))))
+    h.met.there.linked (command ∙ ap (λ (b : ℕ). Some (unfinished.Open b)) (same_blocks x.queue h.endpoint.queue (sym same ∙ h.at))))
     (met.only m on)
 
 module _ (s : Standing) (w : World) (mixed : IsMixedAt s w) (k : IsOpenToLend (queued w.driver) w.memory) where

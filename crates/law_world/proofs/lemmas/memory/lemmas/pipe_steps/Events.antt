@@ -3,12 +3,13 @@ use Rattle.std.proofs.Common.{◌≡◌, ◌≢◌, ℕ, ◌==◌, Bool, true, f
 use Rattle.std.specs.List.{concat}
 use Rattle.std.proofs.lemmas.Bool.{cases_eq, eq-eqb, false≢true}
 use Rattle.std.proofs.lemmas.List.{append_assoc, append-nil}
+use Rattle.law_common.proofs.Numbers.{other_number}
+use Rattle.law_controller.proofs.Common.{none_still}
 use Rattle.usb_base.specs.declared.packets.Ask.{Ask}
 use Rattle.usb_base.specs.declared.packets.Reply.{Reply}
 use Rattle.drv_table.specs.DriverContent.{DriverContent}
 use Rattle.hc_core.specs.Controller.{Content}
 use Rattle.law_structures.specs.lent_structures.Structures.{StructureSets}
-use Rattle.law_structures.proofs.lemmas.lent_structures.Names.{not_same}
 use Rattle.law_structures.specs.lent_structures.Alters.{Alters}
 use Rattle.law_ring.specs.Hand.{Hand}
 use Rattle.claims_base.specs.Controller.{Base}
@@ -34,7 +35,6 @@ use Rattle.law_descriptors.specs.queue_events.Streams.{bytes_of_both}
 use Rattle.law_descriptors.specs.queue_events.Pipes.{IsBothToldBy, BothPipes, AskedAreNear}
 use Rattle.law_descriptors.specs.queue_events.OutPipes.{OutPipeGoesOn}
 use Rattle.law_descriptors.proofs.lemmas.queue_events.Events.{both_keeps_structures}
-use Rattle.law_descriptors.proofs.lemmas.queue_events.OutGoing.{none_still}
 use Rattle.law_descriptors.proofs.lemmas.queue_events.OutPipes.{both_keep_out_pipes}
 use Rattle.law_descriptors.proofs.lemmas.queue_events.Pipes.{both_keep_pipes}
 use Rattle.law_world.specs.steps.Outs.{IsAside}
@@ -72,9 +72,9 @@ module _ (ins : ℕ → Bool) (at : ℕ) (more : List (List ℕ)) (acc : ℕ →
       ∙ ap (λ (ys : List ℕ). concat (acc n) ++ ys) (sym all)
       ∙ ap (λ (b : Bool). concat (acc n) ++ (if b then bytes else [])) (sym (eq-eqb one n (sym same_one))))
       (λ (differs : n ≢ one).
-      ap (λ (b : Bool). concat (if b then acc n ++ more else acc n)) (not_same n at (λ e. differs (e ∙ is)))
+      ap (λ (b : Bool). concat (if b then acc n ++ more else acc n)) (other_number n at (λ e. differs (e ∙ is)))
       ∙ sym (append-nil (concat (acc n)))
-      ∙ ap (λ (b : Bool). concat (acc n) ++ (if b then bytes else [])) (sym (not_same one n (λ e. differs (sym e)))))
+      ∙ ap (λ (b : Bool). concat (acc n) ++ (if b then bytes else [])) (sym (other_number one n (λ e. differs (sym e)))))
       (cases_eq n one)
 
   -- it has no stream, and nothing is told of it
@@ -82,7 +82,7 @@ module _ (ins : ℕ → Bool) (at : ℕ) (more : List (List ℕ)) (acc : ℕ →
       → concat (grown acc at more n) ≡ concat (acc n) ++ (if one == n then bytes else [])
   grown_beside none off n on =
       none_grown at more acc none n ∙ ap (λ (b : Bool). concat (acc n) ++ (if b then bytes else []))
-      (sym (not_same one n (λ e. false≢true (sym off ∙ ap ins e ∙ on))))
+      (sym (other_number one n (λ e. false≢true (sym off ∙ ap ins e ∙ on))))
 
   grown_by : (b : Bool) → ins one ≡ b → ((ins one ≡ true → (at ≡ one) × (bytes ≡ concat more)) × (ins one ≡ false → more ≡ []))
       → (n : ℕ) → ins n ≡ true → concat (grown acc at more n) ≡ concat (acc n) ++ (if one == n then bytes else [])

@@ -1,5 +1,6 @@
 -- What both walks have in hand, as one hand, beside a step of the driver.
 use Rattle.std.proofs.Common.{ℕ}
+use Rattle.law_controller.proofs.Common.{same_hand as hand_itself}
 use Rattle.link_words.specs.declared.fields.LinkBits.{LinkBits}
 use Rattle.law_ring.specs.Hand.{Hand}
 use Rattle.law_ring.specs.Sparing.{SameHand}
@@ -7,7 +8,6 @@ use Rattle.law_ring.specs.Stores.{hand_linked}
 use Rattle.law_ring.specs.OutPipes.{IsUnmoved}
 use Rattle.law_ring.proofs.SparedSparing.{linked_hand_is_same}
 use Rattle.law_controller.proofs.lemmas.controlled_streams.Outs.{linked_is_unmoved}
-use Rattle.law_controller.proofs.lemmas.controlled_streams.Storing.{same_hand as hand_itself}
 use Rattle.law_controller.specs.frame_control.Joined.{joined}
 use Rattle.law_controller.specs.frame_stores.Stores.{frame_linked}
 use Rattle.law_frames.specs.FrameHand.{FrameHand, Nothing, OfQueue, OfSettled, OfItd, OfSitd, queue_hand}

@@ -1,19 +1,19 @@
 -- The store that a stalled control endpoint is owed leaves the pipes: its queue head has no stream.
-use Rattle.std.proofs.Common.{◌≡◌, ◌≢◌, ℕ, ◌*◌, ◌||◌, Bool, true, false, slice_get, Some, ap, refl, sym, subst, ◌∙◌, ⊎_elim, inl, inr}
+use Rattle.std.proofs.Common.{◌≡◌, ◌≢◌, ℕ, ◌*◌, ◌||◌, Bool, true, false, slice_get, Some, ap, sym, subst, ◌∙◌, ⊎_elim, inl, inr}
 use Rattle.std.specs.Prelude.{◌⊎◌}
 use Rattle.std.proofs.lemmas.Bool.{cases_eq, false≢true}
 use Rattle.std.proofs.lemmas.Option.{same_Some}
-use Rattle.usb_base.specs.declared.packets.EpKind.{EpKind}
-use Rattle.usb_base.specs.declared.packets.EpKind.TheVariants as kinds
+use Rattle.law_world.proofs.Common.{its_way, queue_kind}
+use Rattle.law_driver.proofs.Common.{control_kind}
+use Rattle.law_common.proofs.Numbers.{same_blocks}
 use Rattle.usb_base.specs.declared.packets.Way.{Way}
 use Rattle.usb_base.specs.declared.packets.Way.TheVariants as ways
 use Rattle.drv_table.specs.declared.content.Endpoint.{Endpoint}
 use Rattle.drv_table.specs.DriverContent.{DriverContent}
 use Rattle.drv_table.specs.Kinds.{is_iso}
-use Rattle.drv_table.specs.Words.{head_block, is_control}
+use Rattle.drv_table.specs.Words.{head_block}
 use Rattle.claims_driver.specs.Leaving.{HasOwners}
-use Rattle.claims_driver.specs.Scripts.{IsKindOf}
-use Rattle.law_driver.specs.queued_drivers.Queued.{IsOfWay, with_queue, queued}
+use Rattle.law_driver.specs.queued_drivers.Queued.{with_queue, queued}
 use Rattle.law_driver.proofs.lemmas.queued_drivers.RowLists.{queue_at}
 use Rattle.law_driver.proofs.lemmas.queued_drivers.RowOwners.{queued_has_owners}
 use Rattle.law_driver.proofs.lemmas.ring_members.Placed.{has_queue, queues_apart}
@@ -24,28 +24,14 @@ use Rattle.law_controller.specs.frame_control.Joined.{joined}
 use Rattle.law_driver_ring.specs.fed_queues.Places.{HasHead}
 use Rattle.law_queues.specs.mended_heads.Mended.{IsAtMend, parts_then, hand_then, head_at, mended}
 use Rattle.law_queues.specs.mended_heads.Owed.{IsOwed}
-use Rattle.law_queues.proofs.lemmas.mended_heads.Lent.{not_iso}
 use Rattle.law_queues.proofs.lemmas.mended_heads.Parts.{element_was}
 use Rattle.law_queues.proofs.lemmas.mended_heads.Row.{mend_spares_heads, mend_spares_endpoints, mend_spares_elements}
-use Rattle.law_queues.proofs.lemmas.publish_laws.Apart.{thirty_two}
 use Rattle.bus_world.specs.World.{World, driver_parts}
 use Rattle.law_world.specs.memory.Mixed.{Standing, IsMixedAt}
 use Rattle.law_world.specs.memory.pipe_steps.Pipes.{AsksTheWay, AreByWay}
 use Rattle.law_world.proofs.lemmas.memory.QueueViews.{told_queue}
 use Rattle.law_world.proofs.lemmas.memory.lemmas.pipe_steps.Hands.{TellsAlike, ring_alike}
 use Rattle.law_world.proofs.lemmas.memory.lemmas.pipe_steps.Sparing.{Spares}
-
--- a control endpoint's way
-its_way : (way : Way) (kind : EpKind) → IsOfWay way kind → is_control kind ≡ true → way ≡ ways.Ctl
-its_way ways.Ctl kind fits control = refl
-its_way ways.In kinds.Control fits control = absurd fits
-its_way ways.Out kinds.Control fits control = absurd fits
-its_way _ _ fits control = absurd (false≢true control)
-
-queue_kind : (way : Way) (kind : EpKind) → IsKindOf way kind → is_iso kind ≡ false
-queue_kind ways.Ctl kind is = ap is_iso is
-queue_kind ways.In kind is = ap is_iso is
-queue_kind ways.Out kind is = ap is_iso is
 
 no_stream : (sends takes : ℕ → ℕ → Bool) (ins outs : ℕ → Bool) (ends : ℕ → Told) (n : ℕ) (way : Way) → way ≡ ways.Ctl
     → AsksTheWay sends takes ins outs ends n way → (ins n ≡ true) ⊎ (outs n ≡ true) → ⊥
@@ -70,7 +56,7 @@ module _ (s : Standing) (w : World) (mixed : IsMixedAt s w) (k : IsAtMend (drive
   owed = k.are.owed.0
 
   its_kind : is_iso owed.endpoint.desc.kind ≡ false
-  its_kind = not_iso owed.endpoint.desc.kind owed.control
+  its_kind = control_kind owed.endpoint.desc.kind owed.control
 
   there : slice_get (queued w.driver).endpoints owed.number ≡ Some (with_queue owed.endpoint)
   there = queue_at w.driver.endpoints owed.number owed.endpoint owed.here its_kind
@@ -85,7 +71,7 @@ module _ (s : Standing) (w : World) (mixed : IsMixedAt s w) (k : IsAtMend (drive
   met_one : (h : HasHead (queued w.driver) (32 * k.stalled.queue)) → h.endpoint.desc.name.way ≡ ways.Ctl
   met_one h =
       let same_queue : h.endpoint.queue ≡ (with_queue owed.endpoint).queue = sym
-      (thirty_two k.stalled.queue h.endpoint.queue h.at) ∙ sym owed.queue in
+      (same_blocks k.stalled.queue h.endpoint.queue h.at) ∙ sym owed.queue in
       ⊎_elim
       (λ (same : h.number ≡ owed.number).
       let one : h.endpoint ≡ with_queue owed.endpoint = same_Some h.endpoint (with_queue owed.endpoint)

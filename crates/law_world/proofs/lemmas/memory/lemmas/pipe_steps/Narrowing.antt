@@ -1,6 +1,7 @@
 -- The pipes of the queue heads that are still met.
 use Rattle.std.proofs.Common.{◌≡◌, ℕ, ◌&&◌, Bool, true, false, List, Option, refl, sym, ◌∙◌}
 use Rattle.std.proofs.lemmas.Bool.{false≢true}
+use Rattle.law_common.proofs.Booleans.{and_both}
 use Rattle.law_structures.specs.lent_structures.Structures.{StructureSets}
 use Rattle.law_ring.specs.Hand.{Hand}
 use Rattle.law_ring.specs.Stores.{IsWider}
@@ -10,11 +11,6 @@ use Rattle.law_ring.specs.Pipes.{AreEndpoints}
 use Rattle.law_ring.specs.OutBus.{Taker}
 use Rattle.law_world.specs.memory.pipe_steps.Pipes.{PipesStand, AreStillMet}
 
-both_on : (a b : Bool) → (a && b) ≡ true → (a ≡ true) × (b ≡ true)
-both_on true true on = (refl, refl)
-both_on true false on = absurd (false≢true on)
-both_on false b on = absurd (false≢true on)
-
 one_off : (a b : Bool) → (a && b) ≡ false → b ≡ true → a ≡ false
 one_off false b off on = refl
 one_off true true off on = absurd (false≢true (sym off))
@@ -22,7 +18,7 @@ one_off true false off on = absurd (false≢true on)
 
 module _ (near narrow those left : ℕ → Bool) (still : AreStillMet narrow those left) where
   was_one : (n : ℕ) → left n ≡ true → (those n ≡ true) × (narrow n ≡ true)
-  was_one n on = both_on (those n) (narrow n) (sym (still n) ∙ on)
+  was_one n on = and_both (those n) (narrow n) (sym (still n) ∙ on)
 
   was_none : (n : ℕ) → narrow n ≡ true → left n ≡ false → those n ≡ false
   was_none n met off = one_off (those n) (narrow n) (sym (still n) ∙ off) met

@@ -1,7 +1,10 @@
 -- An endpoint was opened: its queue head is met, and its stream begins.
 use Rattle.std.proofs.Common.{◌≡◌, ◌≢◌, ℕ, ◌==◌, ◌*◌, ◌||◌, Bool, true, false, if◌then◌else◌, List, [], Option, Some, ap, refl, sym, subst, ◌∙◌}
 use Rattle.std.specs.List.{concat}
-use Rattle.std.proofs.lemmas.Bool.{eq-eqb}
+use Rattle.law_common.proofs.Booleans.{off_by}
+use Rattle.law_driver_ring.proofs.Common.{new_on}
+use Rattle.law_world.proofs.Common.{member_beside}
+use Rattle.law_controller.proofs.Common.{same_hand}
 use Rattle.link_words.specs.declared.kinds.QtdLink.TheVariants as qtd_links
 use Rattle.link_words.specs.Links.{qtd_link_of}
 use Rattle.qh_qtd.specs.declared.qtd.Qtd.{Qtd}
@@ -11,7 +14,6 @@ use Rattle.law_driver.specs.queued_drivers.Queued.{queued}
 use Rattle.law_driver.proofs.lemmas.queued_drivers.RowOwners.{queued_has_owners}
 use Rattle.law_structures.specs.lent_structures.Structures.{Element}
 use Rattle.law_structures.proofs.lemmas.lent_structures.Altering.{found_element}
-use Rattle.law_structures.proofs.lemmas.lent_structures.Names.{not_same}
 use Rattle.law_ring.specs.Hand.{Hand}
 use Rattle.law_ring.specs.Told.{Endpoint as Told, HasToggle, HasEndpoint}
 use Rattle.law_ring.specs.Bus.{Sender}
@@ -21,7 +23,6 @@ use Rattle.law_ring.specs.OutPipes.{IsOutPipe}
 use Rattle.law_controller.specs.controlled_streams.Opened.{with_stream, with_end, with_none, IsBeginning, IsOneMore}
 use Rattle.law_controller.specs.controlled_streams.Unopened.{IsUntouched, IsUnopened}
 use Rattle.law_controller.proofs.lemmas.controlled_streams.Beginning.{ends_with_one, ends_with_other, pipes_with_one, pipes_with_other}
-use Rattle.law_controller.proofs.lemmas.controlled_streams.Storing.{same_hand}
 use Rattle.law_controller.specs.frame_control.Joined.{joined}
 use Rattle.law_driver_ring.specs.Linked.{with_member}
 use Rattle.law_queues.specs.open_laws.Queues.{IsOpenThere}
@@ -51,22 +52,12 @@ known_none acc n k = by (k == n)
     by true = refl
     by false = refl
 
-member_here : (near : ℕ → Bool) (n : ℕ) → with_member near n n ≡ true
-member_here near n = ap (λ (b : Bool). b || near n) (eq-eqb n n refl)
-
-member_beside : (near : ℕ → Bool) (n k : ℕ) → k ≢ n → with_member near n k ≡ true → near k ≡ true
-member_beside near n k differs on = sym (ap (λ (b : Bool). b || near k) (not_same k n differs)) ∙ on
-
 member_more : (near : ℕ → Bool) (n k : ℕ) → near k ≡ true → with_member near n k ≡ true
 member_more near n k on = ap (λ (b : Bool). (k == n) || b) on ∙ by (k == n)
   where
     by : (b : Bool) → (b || true) ≡ true
     by true = refl
     by false = refl
-
-off_unless : (b : Bool) → (b ≡ true → ⊥) → b ≡ false
-off_unless false never = refl
-off_unless true never = absurd (never refl)
 
 module _ {W : Type 0} (sends takes : ℕ → ℕ → Bool) (packets : ℕ → ℕ → List (List ℕ)) (sender : W → ℕ → ℕ → Option Sender)
     (taker : W → ℕ → ℕ → Option Taker) (ins outs : ℕ → Bool) (ends : ℕ → Told) (acc : ℕ → List (List ℕ)) (wire : W) (s t : Standing)
@@ -98,10 +89,10 @@ module _ {W : Type 0} (sends takes : ℕ → ℕ → Bool) (packets : ℕ → �
       (32 * k.endpoint.queue) on refl
 
   ins_off : ins (32 * k.endpoint.queue) ≡ false
-  ins_off = off_unless (ins n) (λ on. unmet (moved.in_ends.members n on))
+  ins_off = off_by (ins n) (λ on. unmet (moved.in_ends.members n on))
 
   outs_off : outs (32 * k.endpoint.queue) ≡ false
-  outs_off = off_unless (outs n) (λ on. unmet (moved.out_ends.members n on))
+  outs_off = off_by (outs n) (λ on. unmet (moved.out_ends.members n on))
 
   -- ---- the new queue head
 
@@ -174,7 +165,7 @@ module _ {W : Type 0} (sends takes : ℕ → ℕ → Bool) (packets : ℕ → �
   in_one : x.speed ≡ 2 → x.dtc ≡ false → sends x.addr x.ep ≡ true → IsUnopened ins ends x.addr x.ep
       → IsUntouched (packets x.addr x.ep) (sender wire x.addr x.ep) → InStands (with_stream ins n)
   in_one high own on unopened untouched = (
-    ends_with_one sends s.near wider ins ends n x (member_more s.near n) (member_here s.near n) on high unopened moved.in_ends,
+    ends_with_one sends s.near wider ins ends n x (member_more s.near n) (new_on s.near n) on high unopened moved.in_ends,
     pipes_with_one sender sends packets s.near wider ins ends acc hand hand t.parts t.parts wire n x (one_more ins ins_off) own untouched
         others_in moved.in_pipes,
   )
@@ -199,7 +190,7 @@ module _ {W : Type 0} (sends takes : ℕ → ℕ → Bool) (packets : ℕ → �
   out_one : x.speed ≡ 2 → x.dtc ≡ false → takes x.addr x.ep ≡ true → IsUnopened outs ends x.addr x.ep
       → IsUntaken (taker wire x.addr x.ep) → OutStands (with_stream outs n)
   out_one high own on unopened untaken = (
-    ends_with_one takes s.near wider outs ends n x (member_more s.near n) (member_here s.near n) on high unopened moved.out_ends,
+    ends_with_one takes s.near wider outs ends n x (member_more s.near n) (new_on s.near n) on high unopened moved.out_ends,
     same_known (with_stream outs n) (out_pipes_with_one taker takes s.near wider outs ends known hand hand t.parts t.parts wire n x
         head_out own untaken moved.out_pipes),
   )

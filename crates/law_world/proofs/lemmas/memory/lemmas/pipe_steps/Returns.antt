@@ -1,6 +1,7 @@
 -- A harvested transfer's blocks are given back: no queue head works on them.
 use Rattle.std.proofs.Common.{◌≡◌, ℕ, ◌*◌, Bool, false, List, Option, sym, ◌∙◌}
 use Rattle.std.specs.List.{concat}
+use Rattle.law_world.proofs.Common.{none_some}
 use Rattle.qh_qtd.specs.declared.queue_head.Qh.{Qh}
 use Rattle.drv_table.specs.declared.content.Command.TheVariants as unfinished
 use Rattle.drv_table.specs.declared.content.Endpoint.{Endpoint}
@@ -24,7 +25,6 @@ use Rattle.bus_world.specs.World.{World, driver_parts}
 use Rattle.law_world.specs.memory.Mixed.{Standing, IsMixedAt}
 use Rattle.law_world.specs.memory.pipe_steps.Pipes.{PipesStand}
 use Rattle.law_world.proofs.lemmas.memory.HarvestKept.{owners_of, driven_of, runs_of, fronts_of}
-use Rattle.law_world.proofs.lemmas.memory.Unfinished.{none_unfinished}
 
 module _ (s : Standing) (w : World) (mixed : IsMixedAt s w) (t : ℕ) (y : Transfer) (x : Endpoint)
     (r : IsReturning (queued w.driver) t y x) where
@@ -34,7 +34,7 @@ module _ (s : Standing) (w : World) (mixed : IsMixedAt s w) (t : ℕ) (y : Trans
   met : IsMet (queued w.driver) y.endpoint x
   met = record {
     there = record {
-      linked = λ is. none_unfinished (unfinished.Open x.queue) (sym r.free ∙ is);
+      linked = λ is. none_some (unfinished.Open x.queue) (sym r.free ∙ is);
       kept = held_alive (queued w.driver) t y x mixed.turns.turns.turns r.here r.held r.endpoint;
     };
     near = r.near;

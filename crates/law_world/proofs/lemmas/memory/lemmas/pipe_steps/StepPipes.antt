@@ -1,6 +1,6 @@
 -- Each step of a queue keeps both sides of each pipe agreed.
-use Rattle.std.proofs.Common.{◌≡◌, ℕ, ◌*◌, ◌&&◌, ◌==◌, not, Bool, true, false, List, Option, ap, refl, sym, subst, ◌∙◌}
-use Rattle.std.proofs.lemmas.Bool.{eq-eqb, false≢true}
+use Rattle.std.proofs.Common.{◌≡◌, ℕ, ◌*◌, ◌&&◌, ◌==◌, not, Bool, false, List, Option, ap, refl, sym, subst, ◌∙◌}
+use Rattle.std.proofs.lemmas.Bool.{eq-eqb}
 use Rattle.law_structures.specs.lent_structures.Structures.{StructureSets}
 use Rattle.law_ring.specs.Hand.{Hand}
 use Rattle.law_ring.specs.Stores.{IsWider}
@@ -13,6 +13,7 @@ use Rattle.law_frames.specs.FrameHand.{FrameHand}
 use Rattle.law_world.specs.steps.endpoint_releases.Released.{without_queue}
 use Rattle.law_world.proofs.lemmas.steps.lemmas.endpoint_releases.Beside.{pipes_stay, out_pipes_stay}
 use Rattle.std.specs.List.{concat}
+use Rattle.law_common.proofs.Booleans.{and_false, first_of_both}
 use Rattle.bus_world.specs.World.{World}
 use Rattle.law_world.specs.memory.Mixed.{Standing, IsMixedAt}
 use Rattle.law_world.specs.memory.Steps.{IsWithout, QueueStep, stays, harvests, returns, lends, stores, mends, begins, opens, unlinks, narrows, goes}
@@ -26,14 +27,6 @@ use Rattle.law_world.proofs.lemmas.memory.lemmas.pipe_steps.Stores.{store_spares
 use Rattle.law_world.proofs.lemmas.memory.lemmas.pipe_steps.Mends.{mend_spares}
 use Rattle.law_world.proofs.lemmas.memory.lemmas.pipe_steps.Begins.{open_spares}
 use Rattle.law_world.proofs.lemmas.memory.lemmas.pipe_steps.Narrowing.{narrowed}
-
-left_on : (a b : Bool) → (a && b) ≡ true → a ≡ true
-left_on true b on = refl
-left_on false b on = absurd (false≢true on)
-
-none_right : (a : Bool) → (a && false) ≡ false
-none_right true = refl
-none_right false = refl
 
 module _ {W : Type 0} (sends takes : ℕ → ℕ → Bool) (packets : ℕ → ℕ → List (List ℕ)) (sender : W → ℕ → ℕ → Option Sender)
     (taker : W → ℕ → ℕ → Option Taker) (ins outs ins_then outs_then : ℕ → Bool) (ends : ℕ → Told) (acc : ℕ → List (List ℕ)) (wire : W)
@@ -52,13 +45,13 @@ module _ {W : Type 0} (sends takes : ℕ → ℕ → Bool) (packets : ℕ → �
     module _ (s t : Standing) (n : ℕ) (is : IsWithout s t n) (ins_are : AreStillMet t.near ins ins_then)
         (outs_are : AreStillMet t.near outs outs_then) where
       gone : t.near n ≡ false
-      gone = is.near n ∙ ap (λ (b : Bool). s.near n && not b) (eq-eqb n n refl) ∙ none_right (s.near n)
+      gone = is.near n ∙ ap (λ (b : Bool). s.near n && not b) (eq-eqb n n refl) ∙ and_false (s.near n)
 
       fewer : IsWider t.near s.near
-      fewer m on = left_on (s.near m) (not (m == n)) (sym (is.near m) ∙ on)
+      fewer m on = first_of_both (s.near m) (not (m == n)) (sym (is.near m) ∙ on)
 
       none_of : (those rest : ℕ → Bool) → AreStillMet t.near those rest → rest n ≡ false
-      none_of those rest are = are n ∙ ap (λ (b : Bool). those n && b) gone ∙ none_right (those n)
+      none_of those rest are = are n ∙ ap (λ (b : Bool). those n && b) gone ∙ and_false (those n)
 
       without : Stand s.near ins outs s.parts (joined s.hand s.frame) → Stand t.near ins_then outs_then t.parts (joined t.hand t.frame)
       without before =

@@ -1,11 +1,11 @@
 -- A word of a transfer's first qTD is stored: no queue head works on it, and once it is active it asks the way of its endpoint.
-use Rattle.std.proofs.Common.{◌≡◌, ℕ, ◌-◌, ◌*◌, ◌<◌, ◌≤◌, Bool, true, false, List, Option, Some, ap, sym, subst, ◌∙◌, ⊎_elim, inl, inr, arith}
+use Rattle.std.proofs.Common.{◌≡◌, ℕ, ◌-◌, ◌*◌, ◌<◌, ◌≤◌, Bool, true, false, List, Some, ap, sym, subst, ◌∙◌, ⊎_elim, inl, inr, arith}
 use Rattle.std.specs.Prelude.{◌⊎◌}
 use Rattle.std.proofs.lemmas.Bool.{cases_lt, false≢true}
+use Rattle.law_world.proofs.Common.{no_open}
+use Rattle.law_driver_ring.proofs.Common.{partly_idle}
 use Rattle.qh_qtd.specs.declared.qtd.Qtd.{Qtd}
 use Rattle.qh_qtd.specs.declared.queue_head.Qh.{Qh}
-use Rattle.drv_table.specs.declared.content.Command.{Command}
-use Rattle.drv_table.specs.declared.content.Command.TheVariants as unfinished
 use Rattle.drv_table.specs.DriverContent.{DriverContent}
 use Rattle.law_driver.specs.chained_transfers.Bulk.{pid_by}
 use Rattle.law_driver.specs.queued_drivers.Queued.{queued}
@@ -18,7 +18,6 @@ use Rattle.law_ring.specs.Told.{Endpoint as Told}
 use Rattle.law_ring.proofs.SparedSparing.{spared_endpoint}
 use Rattle.law_controller.proofs.lemmas.controlled_streams.Storing.{element_found, spares_head, spares_element}
 use Rattle.law_driver_ring.specs.Published.{partly}
-use Rattle.law_driver_ring.proofs.Publishing.{idle}
 use Rattle.law_driver_ring.specs.fed_queues.Fed.{IsPublished}
 use Rattle.law_driver_ring.specs.fed_queues.Places.{IsMet}
 use Rattle.law_driver_ring.proofs.lemmas.fed_queues.Places.{stands_met}
@@ -29,9 +28,6 @@ use Rattle.law_world.specs.memory.Steps.{IsNextStore}
 use Rattle.law_world.specs.memory.pipe_steps.Pipes.{AreByWay}
 use Rattle.law_world.proofs.lemmas.memory.lemmas.pipe_steps.Hands.{TellsAlike, alike_itself}
 use Rattle.law_world.proofs.lemmas.memory.lemmas.pipe_steps.Sparing.{AsksRight, asks_right, Spares}
-
-never_opens : (b q : ℕ) (words : List ℕ) → ◌≡◌ {A = Option Command} (Some (unfinished.Publish b words)) (Some (unfinished.Open q)) → ⊥
-never_opens b q words is = cc
 
 module _ (s : Standing) (w new : World) (mixed : IsMixedAt s w) (b : ℕ) (words : List ℕ)
     (g : IsPublished (queued w.driver) s.parts b words) (next : IsNextStore s w new b words g) (sends takes : ℕ → ℕ → Bool)
@@ -54,13 +50,13 @@ module _ (s : Standing) (w new : World) (mixed : IsMixedAt s w) (b : ℕ) (words
   met : IsMet (queued w.driver) g.transfer.endpoint g.endpoint
   met = stands_met (queued w.driver) g.transfer.endpoint g.endpoint
       (mixed.turns.turns.asynchronous.endpoints g.transfer.endpoint g.endpoint g.here) g.going
-      (λ is. never_opens b g.endpoint.queue words (sym next.command ∙ is))
+      (λ is. no_open b g.endpoint.queue words (sym next.command ∙ is))
 
   part : IsQueuePart (32 * g.endpoint.queue) (s.parts (32 * g.endpoint.queue))
   part = mixed.queues.sound g.transfer.endpoint g.endpoint g.here met
 
   off : (partly g.qtd ((queued w.driver).made - 1)).token.active ≡ false
-  off = idle g.qtd ((queued w.driver).made - 1) (let some = next.made in let few = g.few in omega (arith, some, few))
+  off = partly_idle g.qtd ((queued w.driver).made - 1) (let some = next.made in let few = g.few in omega (arith, some, few))
 
   -- no overlay works on it
   unworked : (m : ℕ) (q : Qh) → s.parts m m ≡ Some (QueueHead q) → q.token.active ≡ true → q.current ≡ 32 * b → m ≡ n → ⊥
@@ -75,7 +71,7 @@ module _ (s : Standing) (w new : World) (mixed : IsMixedAt s w) (b : ℕ) (words
   pid : (partly g.qtd (queued w.driver).made).token.active ≡ true
       → (partly g.qtd (queued w.driver).made).token.pid ≡ pid_by g.endpoint.desc.name.way
   pid on =
-      ⊎_elim (λ (low : (queued w.driver).made < 8). absurd (false≢true (sym (idle g.qtd (queued w.driver).made low) ∙ on)))
+      ⊎_elim (λ (low : (queued w.driver).made < 8). absurd (false≢true (sym (partly_idle g.qtd (queued w.driver).made low) ∙ on)))
       (λ (over : 8 ≤ (queued w.driver).made).
       let few = g.few in
       let eighth : (queued w.driver).made ≡ 8 = omega (arith, few, over) in

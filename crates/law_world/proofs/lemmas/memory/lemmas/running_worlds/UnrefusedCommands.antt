@@ -1,5 +1,6 @@
 -- No command counts a refusal.
 use Rattle.std.proofs.Common.{◌≡◌, ℕ, zero, suc, ◌+◌, ◌-◌, ◌*◌, ◌/◌, ◌%◌, List, [], ◌∷◌, length, take, drop, slice_index, Option, Some, None, Result, Ok, Err, option_map, ap, sym, ◌∙◌, refl}
+use Rattle.law_driver.proofs.Common.{ok_same}
 use Rattle.usb_base.specs.declared.commands.Cmd.{Cmd}
 use Rattle.usb_base.specs.declared.endpoints.EpDesc.{EpDesc}
 use Rattle.usb_base.specs.declared.reports.OfferError.{OfferError}
@@ -28,9 +29,6 @@ use Rattle.law_world.proofs.lemmas.memory.lemmas.running_worlds.UnrefusedRows.{c
 
 abbrev then_runs : Holding → ℕ → List ℕ → Option Holding → Result Holding OfferError
 then_runs h n ns o = elim o [ None ↦ Err (errors.NoBlocks n (longest_run h.memory.states)) | Some more ↦ take_runs more ns ]
-
-ok_same : (h g : Holding) → ◌≡◌ {A = Result Holding OfferError} (Ok h) (Ok g) → h ≡ g
-ok_same h g is = cc
 
 taken_at : (h after : Holding) (n : ℕ) (ns : List ℕ) (o : Option Run) → ((x : Holding) → take_runs x ns ≡ Ok after → after.memory.foreign ≡ x.memory.foreign)
     → then_runs h n ns (option_map (with_run h) o) ≡ Ok after → after.memory.foreign ≡ h.memory.foreign

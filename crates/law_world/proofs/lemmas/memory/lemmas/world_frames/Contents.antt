@@ -1,5 +1,6 @@
 -- What the frames of a driver stand on, of its content alone: kept by each command and each event.
 use Rattle.std.proofs.Common.{◌≡◌, ℕ, ◌∷◌, Option, Some, None, Ok, refl}
+use Rattle.law_common.proofs.Lists.{all_more}
 use Rattle.usb_base.specs.declared.commands.Cmd.{Cmd}
 use Rattle.usb_base.specs.declared.endpoints.EpName.{EpName}
 use Rattle.usb_base.specs.declared.reports.OfferError.{OfferError}
@@ -19,7 +20,7 @@ use Rattle.claims_driver.specs.Leaving.{HasOwners}
 use Rattle.law_driver.proofs.lemmas.run_owners.Laws.{commands_keep_owners, events_keep_owners}
 use Rattle.law_driver.specs.listed_members.Members.{IsWaitingOf, IsUnderWay, IsListed}
 use Rattle.law_driver.specs.listed_queues.Queues.{HasQueues}
-use Rattle.law_driver.proofs.lemmas.listed_members.Schedules.{all_more, same_members}
+use Rattle.law_driver.proofs.lemmas.listed_members.Schedules.{same_members}
 use Rattle.law_driver.proofs.lemmas.listed_members.Stays.{moved, same_queue}
 use Rattle.law_driver.proofs.lemmas.listed_members.Opening.{opening_list_has_its_members}
 use Rattle.law_driver.proofs.lemmas.listed_members.Accepted.{commands_keep_the_list}

@@ -1,6 +1,7 @@
 -- No event of the controller asks an endpoint that no queue head asks which the walk may meet.
 use Rattle.std.proofs.Common.{◌≡◌, ℕ, ◌==◌, Bool, true, false, List, Option, Some, ap, refl, sym, subst, ◌∙◌, inl, inr}
 use Rattle.std.proofs.lemmas.Bool.{false≢true}
+use Rattle.law_common.proofs.Numbers.{other_number}
 use Rattle.usb_base.specs.declared.packets.Ask.{Ask}
 use Rattle.usb_base.specs.declared.packets.Reply.{Reply}
 use Rattle.transactions.specs.Asks.{pinged}
@@ -8,7 +9,6 @@ use Rattle.hc_copy.specs.Transacting.{call_in}
 use Rattle.hc_copy.specs.Planning.{transaction_of}
 use Rattle.hc_core.specs.Controller.{Content, walk_place}
 use Rattle.law_structures.specs.lent_structures.Structures.{StructureSets}
-use Rattle.law_structures.proofs.lemmas.lent_structures.Names.{not_same}
 use Rattle.law_structures.specs.lent_structures.Sound.{IsWorking, IsSoundQueue, IsMember}
 use Rattle.law_structures.proofs.lemmas.lent_structures.Altering.{found_queue}
 use Rattle.law_ring.specs.Hand.{Hand}
@@ -63,7 +63,8 @@ module _ {W : Type 0} (transacts : W → Ask → List ℕ → Reply → W → Ty
       let w : IsWorking (parts m.copy.at) m.copy.queue = sound.work m.works in
       out_only m.copy.queue.token.pid false (m.copy.queue.token.pid == 1) (transaction_of m.kind m.copy.queue).split
       (pinged m.kind m.copy.queue.token.ping)
-      (not_same m.copy.queue.token.pid 0 (λ (i : m.copy.queue.token.pid ≡ 0). none m.copy.queue.current w.element w.here w.published (sym w.pid ∙ i))) refl refl s.token
+      (other_number m.copy.queue.token.pid 0 (λ (i : m.copy.queue.token.pid ≡ 0). none m.copy.queue.current w.element w.here w.published
+      (sym w.pid ∙ i))) refl refl s.token
 
 -- ---- senders
 

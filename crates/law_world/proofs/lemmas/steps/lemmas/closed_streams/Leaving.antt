@@ -1,7 +1,7 @@
 -- One endpoint, or one queue head, is left out.
 use Rattle.std.proofs.Common.{◌≡◌, ◌≢◌, ℕ, ◌==◌, Bool, true, false, if◌then◌else◌, ap, refl, sym, ◌∙◌}
 use Rattle.std.proofs.lemmas.Bool.{and_from, and_parts, eq-eqb, eqb-true, false_from_ne_true, false≢true}
-use Rattle.law_structures.proofs.lemmas.lent_structures.Names.{not_same}
+use Rattle.law_common.proofs.Numbers.{other_number}
 use Rattle.law_world.specs.steps.closed_streams.Closed.{only_name, without_name, without_head, NameIsClosed, HeadIsClosed}
 
 -- ---- an endpoint
@@ -48,7 +48,7 @@ module _ (those : ℕ → Bool) (n : ℕ) where
   head_gone = ap (λ (b : Bool). if b then false else those n) (eq-eqb n n refl)
 
   pub head_beside : (k : ℕ) → k ≢ n → without_head those n k ≡ those k
-  head_beside k differs = ap (λ (b : Bool). if b then false else those k) (not_same k n differs)
+  head_beside k differs = ap (λ (b : Bool). if b then false else those k) (other_number k n differs)
 
   pub head_on : (k : ℕ) → without_head those n k ≡ true → (k ≢ n) × (those k ≡ true)
   head_on k on =

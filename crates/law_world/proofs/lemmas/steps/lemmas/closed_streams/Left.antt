@@ -12,10 +12,6 @@ use Rattle.law_world.specs.steps.closed_streams.Left.{heads_met, names_closed, L
 
 -- ---- which are closed
 
-on_not : (b : Bool) → not b ≡ true → b ≡ false
-on_not true on = absurd (false≢true on)
-on_not false on = refl
-
 pub left_are_closed : LeftAreClosed
 left_are_closed stream left member narrow streams those ends fewer e l is = (
   record {

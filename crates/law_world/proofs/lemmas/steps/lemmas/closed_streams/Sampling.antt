@@ -2,12 +2,12 @@
 use Rattle.std.proofs.Common.{◌≡◌, ℕ, ◌==◌, Bool, true, false, [], ◌∷◌, Some, if◌then◌else◌, ap, refl, sym, subst, ◌∙◌, ⊎_elim, inl, inr}
 use Rattle.std.proofs.lemmas.Bool.{eqb-true, false≢true, true≢false}
 use Rattle.std.proofs.lemmas.Option.{same_Some}
+use Rattle.law_structures.proofs.Common.{element_is as same_element}
 use Rattle.qh_qtd.specs.declared.qtd.Qtd.{Qtd}
 use Rattle.qh_qtd.specs.declared.queue_head.Qh.{Qh}
 use Rattle.law_structures.specs.lent_structures.Structures.{QueueHead, Element, put}
 use Rattle.law_structures.specs.lent_structures.StructureSamples.{element, nothing}
 use Rattle.law_structures.proofs.lemmas.lent_structures.Names.{put_found}
-use Rattle.law_structures.proofs.lemmas.lent_structures.Altering.{same_element}
 use Rattle.law_ring.specs.Hand.{Empty}
 use Rattle.law_ring.specs.Told.{endpoint_of}
 use Rattle.law_ring.specs.Bus.{Sender}

@@ -1,11 +1,11 @@
 -- The ring of two queue heads, of which one leaves.
 use Rattle.std.proofs.Common.{◌≡◌, ◌⊎◌, ℕ, ◌==◌, true, false, [], ◌∷◌, Some, ap, refl, sym, subst, ◌∙◌, ⊎_elim, inl, inr}
 use Rattle.std.proofs.lemmas.Bool.{eqb-true, false≢true, true≢false, or_cases}
+use Rattle.law_structures.proofs.Common.{element_is as same_element}
 use Rattle.qh_qtd.specs.declared.qtd.Qtd.{Qtd}
 use Rattle.law_structures.specs.lent_structures.Structures.{QueueHead, Element, put}
 use Rattle.law_structures.specs.lent_structures.StructureSamples.{element}
 use Rattle.law_structures.proofs.lemmas.lent_structures.Names.{put_found}
-use Rattle.law_structures.proofs.lemmas.lent_structures.Altering.{same_element}
 use Rattle.law_ring.specs.Hand.{Empty}
 use Rattle.law_ring.specs.Pipes.{IsPipe, AreEndpoints}
 use Rattle.law_ring.specs.Stores.{IsWider}

@@ -1,5 +1,6 @@
 -- What stands of control queues stands of a content that tells the same endpoints, where each queue stays.
 use Rattle.std.proofs.Common.{◌≡◌, ◌≢◌, ℕ, ◌*◌, Bool, true, ◌||◌, List, set, slice_get, Some, ap, refl, sym, subst, ◌∙◌, ⊎_elim}
+use Rattle.law_common.proofs.Lists.{all_more}
 use Rattle.drv_table.specs.declared.content.Command.TheVariants as unfinished
 use Rattle.drv_table.specs.declared.content.Endpoint.{Endpoint}
 use Rattle.drv_table.specs.DriverContent.{DriverContent}
@@ -12,7 +13,7 @@ use Rattle.law_driver_ring.specs.fed_queues.Places.{IsThere, IsMet}
 use Rattle.law_queues.proofs.lemmas.fed_lends.Asked.{set_which}
 use Rattle.law_queues.specs.mended_heads.Owed.{StalledQueue, IsOwed}
 use Rattle.law_queues.specs.mended_heads.Waiting.{Waits, MendsStand}
-use Rattle.law_queues.proofs.lemmas.mended_heads.Content.{all_on, all_both, any_one, OwesAlike, owed_on}
+use Rattle.law_queues.proofs.lemmas.mended_heads.Content.{all_both, any_one, OwesAlike, owed_on}
 use Rattle.law_world.specs.steps.control_queues.Controls.{ControlsStand}
 
 -- ---- endpoints
@@ -115,7 +116,7 @@ module _ (d f : DriverContent) (parts now : StructureSets) (order order_now : �
     queues = k.queues;
     are = record {
       mends = alike.mends ∙ k.are.mends;
-      owed = all_on (IsOwed d) (IsOwed f) k.queues (λ s owed. owed_on any_one d f s alike.owed owed tt) k.are.owed;
+      owed = all_more (IsOwed d) (IsOwed f) k.queues (λ s owed. owed_on any_one d f s alike.owed owed tt) k.are.owed;
       wait = all_both (IsOwed d) (λ (s : StalledQueue). Waits s parts out) (λ (s : StalledQueue). Waits s now later) k.queues waits k.are.owed k.are.wait;
       apart = k.are.apart;
     };

@@ -1,6 +1,10 @@
 -- What stands of control queues is left by the controller, by commands and by rows that touch no structure.
-use Rattle.std.proofs.Common.{◌≡◌, ℕ, ◌*◌, Bool, true, false, ◌||◌, ◌==◌, List, [], ◌∷◌, ◌++◌, length, slice_get, Option, Some, None, ap, refl, sym, subst, ◌∙◌, ⊎_elim}
+use Rattle.std.proofs.Common.{◌≡◌, ℕ, ◌*◌, Bool, true, false, ◌||◌, ◌==◌, List, [], ◌∷◌, ◌++◌, length, slice_get, Some, None, ap, refl, sym, subst, ◌∙◌, ⊎_elim}
 use Rattle.std.proofs.lemmas.Bool.{false≢true}
+use Rattle.law_world.proofs.Common2.{idle_there}
+use Rattle.law_queues.proofs.Common.{none_open}
+use Rattle.law_common.proofs.Booleans.{less_met}
+use Rattle.law_common.proofs.Lists.{push_which}
 use Rattle.usb_base.specs.declared.commands.Cmd.{Cmd}
 use Rattle.usb_base.specs.declared.commands.Cmd.TheVariants as commands
 use Rattle.usb_base.specs.declared.endpoints.EpDesc.{EpDesc}
@@ -10,7 +14,6 @@ use Rattle.word_mem.specs.Memory.{Mem}
 use Rattle.link_words.specs.Links.{qtd_link_of}
 use Rattle.qh_qtd.specs.declared.qtd.Qtd.{Qtd}
 use Rattle.mem_runs.specs.Book.{Holding}
-use Rattle.drv_table.specs.declared.content.Command.{Command}
 use Rattle.drv_table.specs.declared.content.Command.TheVariants as unfinished
 use Rattle.drv_table.specs.declared.content.Endpoint.{Endpoint}
 use Rattle.drv_table.specs.declared.rows.DriverRow.{DriverRow}
@@ -33,8 +36,6 @@ use Rattle.hc_core.specs.Controller.{walk_place}
 use Rattle.law_controller.specs.controlled_streams.Control.{ControlEffect, a_microframe, a_step}
 use Rattle.law_controller.specs.controlled_streams.Kept.{Keeps}
 use Rattle.law_controller.proofs.lemmas.controlled_streams.Events.{control_keeps}
-use Rattle.law_driver_ring.specs.fed_queues.Places.{IsThere}
-use Rattle.law_queues.proofs.lemmas.fed_lends.Asked.{push_which}
 use Rattle.law_queues.specs.mended_heads.Standing.{is_beside}
 use Rattle.law_queues.specs.mended_heads.Waiting.{MendsStand}
 use Rattle.law_queues.proofs.lemmas.mended_heads.Content.{any_one, OwesAlike, alike_same, owed_on}
@@ -85,12 +86,6 @@ same_keep_controls d f parts order out ends transfers mends command waiting rung
 
 -- ---- commands
 
-none_opens : (c : ℕ) → ◌≡◌ {A = Option Command} None (Some (unfinished.Open c)) → ⊥
-none_opens c is = cc
-
-idle_there : (d : DriverContent) (x : Endpoint) → d.command ≡ None → x.gone ≡ false → IsThere d x
-idle_there d x idle kept = record { linked = λ is. none_opens x.queue (sym idle ∙ is); kept = kept }
-
 opened_there : (d : DriverContent) (desc : EpDesc) (h : Holding) (queue dummy : ℕ) → d.command ≡ None → ThereAlike d (accepted_open d desc h queue dummy).driver
 opened_there d desc h queue dummy idle i x here there =
     let new = new_endpoint desc queue dummy in
@@ -106,12 +101,12 @@ open_alike d m o w = subst (λ (q : Offered). ThereAlike d q.driver) (sym w.is) 
 
 asked_alike : (d : DriverContent) (m : Mem) (o : Offered) → Transfers d m o → ThereAlike d o.driver
 asked_alike d m o w =
-    subst (λ (q : Offered). ThereAlike d q.driver) (sym w.is) (told_alike d _ w.number w.endpoint (with_queued w.endpoint _ (length d.transfers)) w.here refl refl refl refl (λ q is. absurd (none_opens q (sym w.idle ∙ is))) refl refl)
+    subst (λ (q : Offered). ThereAlike d q.driver) (sym w.is) (told_alike d _ w.number w.endpoint (with_queued w.endpoint _ (length d.transfers)) w.here refl refl refl refl (λ q is. absurd (none_open q (sym w.idle ∙ is))) refl refl)
 
 cancelled_alike : (d : DriverContent) (m : Mem) (o : Offered) → Cancels d m o → ThereAlike d o.driver
 cancelled_alike d m o w =
     subst (λ (q : Offered). ThereAlike d q.driver) (sym w.is)
-    (told_alike d (accepted_cancel d w.number w.endpoint) w.number w.endpoint (record w.endpoint { cancelled = true; ended = first_end w.endpoint.ended }) w.here refl refl refl refl (λ q is. absurd (none_opens q (sym w.idle ∙ is))) refl refl)
+    (told_alike d (accepted_cancel d w.number w.endpoint) w.number w.endpoint (record w.endpoint { cancelled = true; ended = first_end w.endpoint.ended }) w.here refl refl refl refl (λ q is. absurd (none_open q (sym w.idle ∙ is))) refl refl)
 
 accepted_alike : (d : DriverContent) (m : Mem) (o : Offered) (cmd : Cmd) → AcceptsAsynchronous d m o cmd → ThereAlike d o.driver
 accepted_alike d m o (commands.OpenEp desc) why = open_alike d m o why.opens
@@ -140,14 +135,9 @@ joined e (x ∷ xs) ys = ap (λ (b : Bool). (e == x) || b) (joined e xs ys) ∙ 
     moved true false c = refl
     moved false b c = refl
 
-near_fewer : (linked waiting rung : Bool) → (linked || (waiting || false)) ≡ true → (linked || (waiting || rung)) ≡ true
-near_fewer true waiting rung on = refl
-near_fewer false true rung on = refl
-near_fewer false false rung on = absurd (false≢true on)
-
 silent_there : (row : DriverRow) (p : Parts) → touches_none row ≡ true → ThereAlike p.driver (after_driver_row row p).driver
 silent_there rows.ClearAdvance p silent =
-    near_there p.driver (after_driver_row rows.ClearAdvance p).driver refl (λ q is. is) (λ i x on. near_fewer x.linked (is_one_of i p.driver.waiting) (is_one_of i p.driver.rung) on)
+    near_there p.driver (after_driver_row rows.ClearAdvance p).driver refl (λ q is. is) (λ i x on. less_met x.linked (is_one_of i p.driver.waiting) (is_one_of i p.driver.rung) on)
 silent_there rows.RingBell p silent =
     near_there p.driver (after_driver_row rows.RingBell p).driver refl (λ q is. is) (λ i x on. ap (λ (b : Bool). x.linked || b) (sym (joined i p.driver.rung p.driver.waiting)) ∙ on)
 silent_there (rows.ReadStatus heard) p silent = same_there p.driver (after_driver_row (rows.ReadStatus heard) p).driver refl (λ q is. is) refl refl

@@ -1,11 +1,13 @@
 -- A harvest leaves what stands of control queues: fewer of their qTDs are out, in their order, and where one was halted by a STALL its queue waits.
-use Rattle.std.proofs.Common.{◌≡◌, ◌≢◌, ℕ, zero, suc, ◌+◌, ◌-◌, ◌*◌, ◌==◌, Bool, true, false, not, ◌&&◌, cond, List, [], ◌∷◌, ◌++◌, drop, length, set, slice_get, Option, Some, None, if◌then◌else◌, ap, refl, sym, subst, ◌∙◌, ⊎_elim, inl, inr, ◌⊎◌}
-use Rattle.std.proofs.lemmas.Bool.{cases_eq, eq-eqb, false≢true}
+use Rattle.std.proofs.Common.{◌≡◌, ◌≢◌, ℕ, zero, suc, ◌+◌, ◌-◌, ◌*◌, ◌==◌, Bool, true, false, not, ◌&&◌, cond, List, [], ◌∷◌, ◌++◌, drop, length, set, slice_get, Option, Some, None, if◌then◌else◌, ap, refl, sym, subst, ◌∙◌, ⊎_elim}
+use Rattle.std.proofs.lemmas.Bool.{cases_eq, eq-eqb}
 use Rattle.std.proofs.lemmas.Option.{same_Some}
+use Rattle.law_queues.proofs.Common.{stall_or}
+use Rattle.law_common.proofs.Lists.{set_self, set_here, set_there}
+use Rattle.law_common.proofs.Numbers.{other_number}
 use Rattle.usb_base.specs.declared.endpoints.EndCause.{EndCause}
 use Rattle.usb_base.specs.declared.endpoints.EndCause.TheVariants as causes
 use Rattle.usb_base.specs.declared.endpoints.EpName.{EpName}
-use Rattle.usb_base.specs.declared.packets.EpKind.{EpKind}
 use Rattle.usb_base.specs.declared.reports.What.TheVariants as lines
 use Rattle.word_mem.specs.Memory.{Mem}
 use Rattle.drv_table.specs.declared.content.Command.{Command}
@@ -28,7 +30,6 @@ use Rattle.law_driver.specs.chained_transfers.Out.{pieces_from, passed, out_of_t
 use Rattle.claims_driver.specs.LentRuns.{AreLent}
 use Rattle.law_structures.specs.lent_structures.Sound.{IsMember}
 use Rattle.law_structures.specs.lent_structures.Structures.{StructureSets, Tells}
-use Rattle.law_structures.proofs.lemmas.lent_structures.Names.{not_same}
 use Rattle.law_ring.specs.Order.{IsAmong}
 use Rattle.law_ring.specs.Told.{Endpoint as Told}
 use Rattle.law_ring.proofs.HaltSparing.{fewer_keep_halts}
@@ -42,7 +43,6 @@ use Rattle.law_queues.proofs.lemmas.fed_harvests.Harvests.{unstalled_stands, wai
 use Rattle.law_queues.proofs.lemmas.fed_harvests.Lists.{all_of, all_out}
 use Rattle.law_queues.proofs.lemmas.fed_harvests.Stalls.{stall_stands}
 use Rattle.law_queues.specs.mended_heads.Stalling.{IsStall, HaltsQueue}
-use Rattle.law_queues.proofs.lemmas.mended_heads.Content.{set_at, set_beside}
 use Rattle.law_queues.proofs.lemmas.mended_heads.Stalling.{harvest_keeps_mends}
 use Rattle.law_queues.specs.released_queues.Fronts.{FrontsStand}
 use Rattle.law_queues.proofs.lemmas.stalled_fronts.Halted.{stall_halts_queue}
@@ -88,11 +88,6 @@ record ToldAnew (d f : DriverContent) (e : ℕ) (x : Endpoint) : Type 0 where
   waiting : f.waiting ≡ d.waiting
   rung : f.rung ≡ d.rung
 
-set_self : {X : Type 0} (xs : List X) (e : ℕ) (x : X) → slice_get xs e ≡ Some x → xs ≡ set xs e x
-set_self [] e x here = refl
-set_self (y ∷ ys) zero x here = ap (λ z. z ∷ ys) (same_Some y x here)
-set_self (y ∷ ys) (suc e) x here = ap (λ zs. y ∷ zs) (set_self ys e x here)
-
 end_told : (d : DriverContent) (e t : ℕ) (x : Endpoint) (stall : Bool) (o : Option EndCause) → ToldAnew d (after_end d e t x stall o) e x
 end_told d e t x stall (Some cause) = record { new = record x { ended = Some cause }; endpoints = refl; queue = refl; gone = refl; linked = refl; command = refl; waiting = refl; rung = refl }
 end_told d e t x false None = record { new = record x { next = _ }; endpoints = refl; queue = refl; gone = refl; linked = refl; command = refl; waiting = refl; rung = refl }
@@ -133,29 +128,13 @@ told_part note e (y ∷ ys) =
     by true false = dropped_one (pieces_from note y.place y.left)
     by false r = ends
 
--- ---- whether it is a STALL
-
-stall_or : (kind : EpKind) (found : Found) → IsStall kind found ⊎ (IsStall kind found → ⊥)
-stall_or kind founds.Active = inr (λ stall. stall)
-stall_or kind (founds.Moved n) = inr (λ stall. stall)
-stall_or kind (founds.Served errors) = inr (λ stall. stall)
-stall_or kind (founds.Ended n what) = by (is_stall what) (end_of kind what) refl refl
-  where
-    never : (c : EndCause) → ◌≡◌ {A = Option EndCause} None (Some c) → ⊥
-    never c same = cc
-
-    by : (b : Bool) (o : Option EndCause) → is_stall what ≡ b → end_of kind what ≡ o → IsStall kind (founds.Ended n what) ⊎ (IsStall kind (founds.Ended n what) → ⊥)
-    by true None is none = inl (is, none)
-    by true (Some c) is some = inr (λ stall. never c (sym stall.1 ∙ some))
-    by false o is other = inr (λ stall. false≢true (sym is ∙ stall.0))
-
 -- ---- the law
 
 with_here : (out : ℕ → List ℕ) (n : ℕ) (xs : List ℕ) (m : ℕ) → m ≡ n → with_out out n xs m ≡ xs
 with_here out n xs m same = ap (λ (b : Bool). if b then xs else out m) (eq-eqb m n same)
 
 with_beside : (out : ℕ → List ℕ) (n : ℕ) (xs : List ℕ) (m : ℕ) → m ≢ n → with_out out n xs m ≡ out m
-with_beside out n xs m differs = ap (λ (b : Bool). if b then xs else out m) (not_same m n differs)
+with_beside out n xs m differs = ap (λ (b : Bool). if b then xs else out m) (other_number m n differs)
 
 module _ (p : DriverParts) (e t : ℕ) (found : Found) (member streams : ℕ → Bool) (heads : ℕ → Told) (parts : StructureSets) (order : ℕ → ℕ → ℕ) (out later : ℕ → List ℕ) (due : IsHarvestDue p e t found) (owners : HasOwners p.driver) (lent : AreLent p.driver) (turns : AsynchronousTakesTurns p.driver) (tells : Tells p.memory parts)
     (driven : IsDriven (views_of p.driver) (sorts_of parts)) (old : QueuesStand p.driver member streams heads parts order out) (on : IsMember member (32 * due.endpoint.queue) (parts (32 * due.endpoint.queue))) (still : AreStillOut (after_driver_row (rows.Harvest e t found) p).driver later) (fronts : FrontsStand p.driver parts order out)
@@ -190,11 +169,12 @@ module _ (p : DriverParts) (e t : ℕ) (found : Found) (member streams : ℕ →
       (λ (own : i ≡ e).
       let is : x ≡ due.endpoint = same_Some x due.endpoint (sym here ∙ ap (slice_get d.endpoints) own ∙ due.here) in
       ap (λ (z : Endpoint). lists (32 * z.queue)) is ∙ ap (λ (q : ℕ). lists (32 * q)) (sym told.queue)
-      ∙ stays e told.new (ap (λ (xs : List Endpoint). slice_get xs e) told.endpoints ∙ set_at d.endpoints e due.endpoint told.new due.here)
+      ∙ stays e told.new (ap (λ (xs : List Endpoint). slice_get xs e) told.endpoints
+      ∙ set_here d.endpoints e due.endpoint told.new due.here)
       (record { linked = λ is. no_open told.new.queue (sym due.idle ∙ sym told.command ∙ is); kept = told.gone ∙ met.there.kept })
       ∙ ap (out_now f) (sym own))
       (λ (other : i ≢ e).
-      stays i x (ap (λ (xs : List Endpoint). slice_get xs i) told.endpoints ∙ set_beside d.endpoints e i told.new other ∙ here)
+      stays i x (ap (λ (xs : List Endpoint). slice_get xs i) told.endpoints ∙ set_there d.endpoints e i told.new other ∙ here)
       (record { linked = λ is. no_open x.queue (sym due.idle ∙ sym told.command ∙ is); kept = kept }))
       (cases_eq i e)
 

@@ -1,6 +1,7 @@
 -- Stores of words of queue heads leave what stands of control queues: of a queue that was stalled, and of the link past a queue head that leaves the ring.
 use Rattle.std.proofs.Common.{◌≡◌, ◌≢◌, ℕ, ◌*◌, Bool, false, ◌||◌, List, [], ◌∷◌, ◌++◌, Option, Some, ap, refl, sym, subst, ◌∙◌, ⊎_elim, inl}
 use Rattle.std.proofs.lemmas.Bool.{cases_eq}
+use Rattle.law_common.proofs.Numbers.{other_number}
 use Rattle.link_words.specs.declared.fields.LinkBits.{LinkBits}
 use Rattle.qh_qtd.specs.declared.queue_head.Qh.{Qh}
 use Rattle.drv_table.specs.declared.content.Command.{Command}
@@ -10,7 +11,6 @@ use Rattle.drv_table.specs.Parts.{Parts as DriverParts}
 use Rattle.drv_table.specs.Words.{to_queue_head}
 use Rattle.law_driver.specs.endpoint_lives.Lives.{is_one_of}
 use Rattle.law_structures.specs.lent_structures.Structures.{QueueHead, StructureSets, put}
-use Rattle.law_structures.proofs.lemmas.lent_structures.Names.{not_same}
 use Rattle.law_ring.specs.Front.{LinksRise, HadRest}
 use Rattle.law_ring.specs.Halted.{HaltStops, KeepsRest}
 use Rattle.law_ring.specs.Order.{IsAmong}
@@ -91,7 +91,7 @@ module _ (p : DriverParts) (member : ℕ → Bool) (parts : StructureSets) (k : 
       told_anew d f k.number k.endpoint (record k.endpoint { linked = false }) k.here refl refl refl (λ q is. absurd (never_opens q is))
       (λ near. ap (λ (b : Bool). b || (is_one_of k.number d.waiting || is_one_of k.number d.rung)) k.linked)
       (λ i z differs near.
-      let one : is_one_of i (d.waiting ++ k.number ∷ []) ≡ is_one_of i d.waiting = joined i d.waiting (k.number ∷ []) ∙ ap (λ (b : Bool). (b || false) || is_one_of i d.waiting) (not_same i k.number differs) in
+      let one : is_one_of i (d.waiting ++ k.number ∷ []) ≡ is_one_of i d.waiting = joined i d.waiting (k.number ∷ []) ∙ ap (λ (b : Bool). (b || false) || is_one_of i d.waiting) (other_number i k.number differs) in
       ap (λ (b : Bool). z.linked || (b || is_one_of i d.rung)) (sym one) ∙ near)
 
 pub unlink_keeps_controls : UnlinkKeepsControls

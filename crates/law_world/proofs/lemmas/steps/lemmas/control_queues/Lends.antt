@@ -2,6 +2,8 @@
 use Rattle.std.proofs.Common.{◌≡◌, ◌≢◌, ℕ, suc, ◌*◌, ◌<◌, ◌≤◌, Bool, true, List, ◌∷◌, ◌++◌, length, slice_get, Some, option_map, ap, refl, sym, subst, ◌∙◌, ⊎_elim, inl, inr, arith}
 use Rattle.std.proofs.lemmas.Bool.{cases_eq}
 use Rattle.std.proofs.lemmas.Option.{same_Some}
+use Rattle.law_ring.proofs.Common.{among_either}
+use Rattle.law_queues.proofs.Common.{lower}
 use Rattle.word_mem.specs.Memory.{Mem}
 use Rattle.qh_qtd.specs.declared.qtd.Qtd.{Qtd}
 use Rattle.qh_qtd.specs.declared.queue_head.Qh.{Qh}
@@ -45,7 +47,7 @@ use Rattle.law_world.specs.steps.control_queues.Controls.{ControlsStand}
 use Rattle.law_world.specs.steps.control_queues.Queues.{LendKeepsQueues}
 use Rattle.law_world.specs.steps.control_queues.Rows.{LendKeepsControls}
 use Rattle.law_world.proofs.lemmas.steps.lemmas.control_queues.Alike.{same_there, stand_by}
-use Rattle.law_world.proofs.lemmas.steps.lemmas.control_queues.Lists.{among_either, before_less, part_sorted, one_less}
+use Rattle.law_world.proofs.lemmas.steps.lemmas.control_queues.Lists.{part_sorted, one_less}
 
 module _ (d : DriverContent) (m : Mem) (b : ℕ) (words : List ℕ) (member streams : ℕ → Bool) (ends : ℕ → Told) (parts now : StructureSets) (order order_now : ℕ → ℕ → ℕ) (out later : ℕ → List ℕ) (k : IsToBeLent d m b words) (only : OnlyAsynchronous d)
     (head : IsQueuePart (32 * k.endpoint.queue) (parts (32 * k.endpoint.queue))) (old : QueuesStand d member streams ends parts order out) (next : QueuesStand (lent_now d m) member streams ends now order_now later) (l : IsLentBehind d m parts now order order_now out later) (c : ControlsStand d parts order out) where
@@ -146,7 +148,7 @@ module _ (d : DriverContent) (m : Mem) (b : ℕ) (words : List ℕ) (member stre
 
   not_new : (a : ℕ) (u : Qtd) → IsAmong a (out n) → IsNewQtd d.notes x.dummy l.further (second d y) a u → ⊥
   not_new a u among new =
-      let less : order_now n a < order_now n first = before_less (order_now n) first a sooner rest all_sorted (subst (IsAmong a) out_is among) in
+      let less : order_now n a < order_now n first = lower (order_now n) first a sooner rest all_sorted (subst (IsAmong a) out_is among) in
       let less_now : g a < g first = subst (λ (h : ℕ → ℕ). h a < h first) l.order_is less in
       let from = new_from g d.notes x.dummy l.further (second d y) l.place a u are new in
       let low = first_low in

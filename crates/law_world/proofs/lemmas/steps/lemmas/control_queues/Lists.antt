@@ -1,12 +1,10 @@
 -- qTDs in their order: without one of them, and before one of them.
-use Rattle.std.proofs.Common.{◌≡◌, ◌≢◌, ℕ, ◌<◌, Bool, true, false, List, [], ◌∷◌, ◌++◌, ap, refl, sym, subst, ⊎_elim, inl, inr, ◌⊎◌, arith, if◌then◌else◌}
+use Rattle.std.proofs.Common.{◌≡◌, ◌≢◌, ℕ, Bool, true, false, List, [], ◌∷◌, ◌++◌, ap, ⊎_elim, inl, inr, ◌⊎◌, arith, if◌then◌else◌}
+use Rattle.law_queues.proofs.Common.{behind_less}
+use Rattle.law_ring.proofs.Common.{among_either}
+use Rattle.law_queues.proofs.Common.{lower}
 use Rattle.law_ring.specs.Order.{AreAfter, IsSorted, IsAmong}
 use Rattle.law_controller.specs.controlled_streams.Returned.{staying}
-
-pub among_either : (a : ℕ) (xs ys : List ℕ) → IsAmong a (xs ++ ys) → IsAmong a xs ⊎ IsAmong a ys
-among_either a [] ys is = inr is
-among_either a (x ∷ xs) ys (inl is) = inl (inl is)
-among_either a (x ∷ xs) ys (inr is) = ⊎_elim (λ (left : IsAmong a xs). inl (inr left)) (λ (right : IsAmong a ys). inr right) (among_either a xs ys is)
 
 -- the one at h comes in, or it was among them
 pub among_with : (a h : ℕ) (xs ys : List ℕ) → IsAmong a (xs ++ h ∷ ys) → (a ≡ h) ⊎ IsAmong a (xs ++ ys)
@@ -15,30 +13,12 @@ among_with a h [] ys (inr is) = inr is
 among_with a h (x ∷ xs) ys (inl is) = inr (inl is)
 among_with a h (x ∷ xs) ys (inr is) = ⊎_elim (λ (own : a ≡ h). inl own) (λ (rest : IsAmong a (xs ++ ys)). inr (inr rest)) (among_with a h xs ys is)
 
-among_right : (a : ℕ) (xs ys : List ℕ) → IsAmong a ys → IsAmong a (xs ++ ys)
-among_right a [] ys is = is
-among_right a (x ∷ xs) ys is = inr (among_right a xs ys is)
-
 -- ---- their order
-
-after_one : (f : ℕ → ℕ) (h a : ℕ) (xs : List ℕ) → AreAfter f h xs → IsAmong a xs → f h < f a
-after_one f h a [] after is = absurd is
-after_one f h a (x ∷ xs) after (inl is) = subst (λ (i : ℕ). f h < f i) (sym is) after.0
-after_one f h a (x ∷ xs) after (inr is) = after_one f h a xs after.1 is
-
-pub before_less : (f : ℕ → ℕ) (h a : ℕ) (xs ys : List ℕ) → IsSorted f (xs ++ h ∷ ys) → IsAmong a xs → f a < f h
-before_less f h a [] ys sorted is = absurd is
-before_less f h a (x ∷ xs) ys sorted (inl is) = subst (λ (i : ℕ). f i < f h) (sym is) (after_one f x h (xs ++ h ∷ ys) sorted.0 (among_right h xs (h ∷ ys) (inl refl)))
-before_less f h a (x ∷ xs) ys sorted (inr is) = before_less f h a xs ys sorted.1 is
-
-pub behind_less : (f : ℕ → ℕ) (h a : ℕ) (xs ys : List ℕ) → IsSorted f (xs ++ h ∷ ys) → IsAmong a ys → f h < f a
-behind_less f h a [] ys sorted is = after_one f h a ys sorted.0 is
-behind_less f h a (x ∷ xs) ys sorted is = behind_less f h a xs ys sorted.1 is
 
 -- the others aren't this one
 pub others_differ : (f : ℕ → ℕ) (h a : ℕ) (xs ys : List ℕ) → IsSorted f (xs ++ h ∷ ys) → IsAmong a (xs ++ ys) → a ≢ h
 others_differ f h a xs ys sorted is same =
-    ⊎_elim {C = ⊥} (λ (left : IsAmong a xs). let less = before_less f h a xs ys sorted left in let e = ap f same in omega (arith, less, e))
+    ⊎_elim {C = ⊥} (λ (left : IsAmong a xs). let less = lower f h a xs ys sorted left in let e = ap f same in omega (arith, less, e))
     (λ (right : IsAmong a ys). let less = behind_less f h a xs ys sorted right in let e = ap f same in omega (arith, less, e)) (among_either a xs ys is)
 
 -- ---- fewer of them

@@ -25,9 +25,6 @@ use Rattle.law_queues.specs.open_laws.Queues.{IsNewPart}
 abbrev pub stands_beside : (d : DriverContent) (book : Book) (command : Option Command) (made : ℕ) (part : Structures) (order : ℕ → ℕ) (out : List ℕ) (e : ℕ) (x : Endpoint) → StandsAt d part order out e x → StandsAt (record d { book = book; command = command; made = made }) part order out e x
 stands_beside d book command made part order out e x s = record { front = s.front; has = s.has; ended = s.ended; passed = s.passed }
 
-pub reach_beside : (d : DriverContent) (book : Book) (command : Option Command) (made : ℕ) (part : Structures) (order : ℕ → ℕ) (out : List ℕ) (e : ℕ) (x : Endpoint) (c : ℕ) → Reaches d part order out e x c → Reaches (record d { book = book; command = command; made = made }) part order out e x c
-reach_beside d book command made part order out e x c k = record { stands = stands_beside d book command made part order out e x k.stands; within = k.within; tail = k.tail }
-
 -- ---- the new one
 
 -- its only qTD is the inactive one

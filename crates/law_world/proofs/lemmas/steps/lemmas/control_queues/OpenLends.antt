@@ -1,12 +1,15 @@
 -- The lend of an accepted open leaves what stands of control queues, and each front.
-use Rattle.std.proofs.Common.{◌≡◌, ◌≢◌, ℕ, ◌*◌, Bool, List, Option, Some, None, ap, refl, sym, subst, ◌∙◌}
+use Rattle.std.proofs.Common.{◌≡◌, ◌≢◌, ℕ, ◌*◌, Bool, List, Some, None, ap, refl, sym, subst, ◌∙◌}
+use Rattle.law_ring.proofs.Common.{none_some}
+use Rattle.law_common.proofs.Numbers.{same_blocks}
+use Rattle.law_world.proofs.Common2.{reach_beside}
 use Rattle.word_mem.specs.Memory.{Mem}
 use Rattle.drv_table.specs.declared.content.Command.TheVariants as unfinished
 use Rattle.drv_table.specs.declared.content.Endpoint.{Endpoint}
 use Rattle.drv_table.specs.DriverContent.{DriverContent}
 use Rattle.claims_driver.specs.Leaving.{HasOwners}
 use Rattle.claims_driver.specs.Owners.{views_of}
-use Rattle.law_structures.specs.lent_structures.Structures.{Structure, QueueHead, Structures, StructureSets}
+use Rattle.law_structures.specs.lent_structures.Structures.{QueueHead, Structures, StructureSets}
 use Rattle.law_ring.specs.Front.{LinksRise}
 use Rattle.law_ring.specs.Halted.{HaltStops}
 use Rattle.law_ring.specs.Told.{Endpoint as Told}
@@ -17,7 +20,6 @@ use Rattle.law_queues.specs.mended_heads.Owed.{StalledQueue, IsOwed}
 use Rattle.law_queues.specs.mended_heads.Waiting.{Waits}
 use Rattle.law_queues.proofs.lemmas.mended_heads.Content.{any_one, alike_same}
 use Rattle.law_queues.specs.publish_laws.Stores.{QueuesThen}
-use Rattle.law_queues.proofs.lemmas.publish_laws.Apart.{thirty_two}
 use Rattle.law_queues.specs.released_queues.Fronts.{StandsAt, FrontsStand}
 use Rattle.law_queues.specs.standing_fronts.Along.{LinksOfQueuesRise}
 use Rattle.law_queues.specs.standing_fronts.Reaching.{Reaches}
@@ -31,10 +33,7 @@ use Rattle.law_world.specs.steps.control_queues.Controls.{ControlsStand}
 use Rattle.law_world.specs.steps.control_queues.Queues.{OpenLendIsWhole}
 use Rattle.law_world.specs.steps.control_queues.Rows.{OpenLendKeepsControls}
 use Rattle.law_world.proofs.lemmas.steps.lemmas.control_queues.Alike.{same_there, stand_by, mends_by}
-use Rattle.law_world.proofs.lemmas.steps.lemmas.control_queues.NewFronts.{stands_beside, reach_beside}
-
-none_some : (o : Option Structure) (s : Structure) → o ≡ None → o ≡ Some s → ⊥
-none_some o s none some = cc
+use Rattle.law_world.proofs.lemmas.steps.lemmas.control_queues.NewFronts.{stands_beside}
 
 module _ (d : DriverContent) (m : Mem) (member streams : ℕ → Bool) (ends : ℕ → Told) (parts : StructureSets) (order : ℕ → ℕ → ℕ) (out : ℕ → List ℕ) (owners : HasOwners d) (turns : AsynchronousTakesTurns d) (driven : IsDriven (views_of d) (sorts_of parts)) (stand : QueuesThen d member streams ends parts order out) (k : IsOpenToLend d m) where
   abbrev x : Endpoint
@@ -57,7 +56,7 @@ module _ (d : DriverContent) (m : Mem) (member streams : ℕ → Bool) (ends : �
   none a = lending.none_told d m member streams ends parts order out owners turns driven stand k a
 
   apart : (y : Endpoint) → IsThere d y → 32 * y.queue ≢ n
-  apart y there same = there.linked (k.command ∙ ap (λ (q : ℕ). Some (unfinished.Open q)) (sym (thirty_two y.queue x.queue same)))
+  apart y there same = there.linked (k.command ∙ ap (λ (q : ℕ). Some (unfinished.Open q)) (sym (same_blocks y.queue x.queue same)))
 
   was_met : (e : ℕ) (y : Endpoint) → IsMet f e y → IsMet d e y
   was_met e y met = record { there = record { linked = met.there.linked; kept = met.there.kept }; near = met.near }

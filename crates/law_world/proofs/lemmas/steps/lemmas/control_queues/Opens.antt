@@ -1,6 +1,7 @@
 -- An open is finished: what stands of control queues, and each front, are left, and of the new queue nothing is out.
 use Rattle.std.proofs.Common.{◌≡◌, ◌≢◌, ℕ, ◌-◌, ◌*◌, Bool, false, List, [], length, slice_get, Option, Some, None, ap, refl, sym, subst, ◌∙◌, ⊎_elim}
 use Rattle.std.proofs.lemmas.Bool.{cases_eq}
+use Rattle.law_world.proofs.Common2.{reach_beside}
 use Rattle.drv_table.specs.declared.content.Command.{Command}
 use Rattle.drv_table.specs.declared.content.Command.TheVariants as unfinished
 use Rattle.drv_table.specs.declared.content.Endpoint.{Endpoint}
@@ -37,7 +38,7 @@ use Rattle.law_world.specs.steps.control_queues.Queues.{OpenIsWhole, LinkKeepsCo
 use Rattle.law_world.specs.steps.control_queues.Rows.{OpenLinkKeepsControls}
 use Rattle.law_world.proofs.lemmas.steps.lemmas.control_queues.Alike.{same_there, stand_by}
 use Rattle.law_world.proofs.lemmas.steps.lemmas.control_queues.Heads.{rises_linked, stops_linked, halted_linked}
-use Rattle.law_world.proofs.lemmas.steps.lemmas.control_queues.NewFronts.{stands_beside, reach_beside, new_rises, new_reach, new_front}
+use Rattle.law_world.proofs.lemmas.steps.lemmas.control_queues.NewFronts.{stands_beside, new_rises, new_reach, new_front}
 
 none_stops : (order : ℕ → ℕ) (n : ℕ) (part : Structures) → HaltStops order [] n part
 none_stops order n part = record { head = λ a t q among. absurd among; later = λ a e t u among. absurd among }

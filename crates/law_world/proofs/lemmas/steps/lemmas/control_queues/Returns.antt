@@ -1,6 +1,7 @@
 -- Blocks that are given back leave what stands of control queues: those of a transfer that was harvested, and those of an endpoint that has left.
-use Rattle.std.proofs.Common.{◌≡◌, ◌≢◌, ℕ, ◌*◌, ◌==◌, Bool, true, false, cond, List, [], set, slice_get, Option, Some, None, ap, refl, sym, subst, ◌∙◌, ⊎_elim, inl, if◌then◌else◌}
+use Rattle.std.proofs.Common.{◌≡◌, ◌≢◌, ℕ, ◌*◌, ◌==◌, Bool, true, false, List, [], set, slice_get, Option, Some, None, ap, refl, sym, subst, ◌∙◌, ⊎_elim, inl, if◌then◌else◌}
 use Rattle.std.proofs.lemmas.Bool.{false≢true}
+use Rattle.law_world.proofs.Common.{told_same}
 use Rattle.mem_runs.specs.Book.{Holding, holding}
 use Rattle.drv_table.specs.declared.content.Endpoint.{Endpoint}
 use Rattle.drv_table.specs.declared.content.Transfer.{Transfer}
@@ -79,11 +80,6 @@ release_keeps_controls p t y x parts order out row k c =
     (none_owed p (release_row t) (without_those parts n goes) later row refl) c
 
 -- ---- an endpoint
-
--- whether a line of the report tells it, the rest of the content is the same
-told_same : {X : Type 0} (f : DriverContent → X) (g d : DriverContent) (b : Bool) → f g ≡ f d → f (cond b g d) ≡ f d
-told_same f g d true same = same
-told_same f g d false same = refl
 
 leaver_alike : (p : DriverParts) (e : ℕ) (x : Endpoint) → slice_get p.driver.endpoints e ≡ Some x → ThereAlike p.driver (after_endpoint p e (Some x)).driver
 leaver_alike p e x here i z at there =

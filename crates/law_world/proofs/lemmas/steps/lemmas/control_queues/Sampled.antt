@@ -2,6 +2,7 @@
 use Rattle.std.proofs.Common.{◌≡◌, ◌≢◌, ℕ, zero, suc, ◌*◌, ◌<◌, true, false, [], slice_get, Option, Some, None, ap, refl, sym, subst, ◌∙◌, ⊎_elim, inl, inr, arith, ◌⊎◌}
 use Rattle.std.proofs.lemmas.Bool.{true≢false}
 use Rattle.std.proofs.lemmas.Option.{same_Some}
+use Rattle.law_structures.proofs.Common.{element_is}
 use Rattle.link_words.specs.Links.{qtd_link_of}
 use Rattle.link_words.specs.declared.kinds.QtdLink.TheVariants as qtd_links
 use Rattle.qh_qtd.specs.declared.qtd.Qtd.{Qtd}
@@ -9,7 +10,7 @@ use Rattle.qh_qtd.specs.declared.queue_head.Qh.{Qh}
 use Rattle.drv_table.specs.declared.content.Endpoint.{Endpoint}
 use Rattle.drv_table.specs.Words.{dummy_qtd}
 use Rattle.law_structures.specs.lent_structures.Structures.{Structure, QueueHead, Element, Structures, with_structure}
-use Rattle.law_structures.proofs.lemmas.lent_structures.Altering.{found_queue, same_element}
+use Rattle.law_structures.proofs.lemmas.lent_structures.Altering.{found_queue}
 use Rattle.law_ring.proofs.Parting.{found_with}
 use Rattle.law_ring.specs.Front.{LinksRise}
 use Rattle.law_ring.specs.Halted.{HaltStops}
@@ -29,7 +30,7 @@ ArePlain part = (a : ℕ) (t : Qtd) → part a ≡ Some (Element t) → IsPlain 
 
 with_plain : (part : Structures) (at : ℕ) (u : Qtd) → ArePlain part → IsPlain at u → ArePlain (with_structure part at (Element u))
 with_plain part at u old new a t found =
-    ⊎_elim {C = IsPlain a t} (λ (is : (a ≡ at) × (Element u ≡ Element t)). subst (λ (i : ℕ). IsPlain i t) (sym is.0) (subst (IsPlain at) (same_element u t is.1) new))
+    ⊎_elim {C = IsPlain a t} (λ (is : (a ≡ at) × (Element u ≡ Element t)). subst (λ (i : ℕ). IsPlain i t) (sym is.0) (subst (IsPlain at) (element_is u t is.1) new))
     (λ (other : (a ≢ at) × (part a ≡ Some (Element t))). old a t other.1) (found_with part at a (Element u) (Element t) found)
 
 head_plain : ArePlain head_part

@@ -1,19 +1,20 @@
 -- The other queue heads are told as before.
 use Rattle.std.proofs.Common.{◌≡◌, ◌≢◌, ℕ, Bool, true, false, List, ◌++◌, Option, ap, sym, subst, ◌∙◌, ⊎_elim, inl, inr}
-use Rattle.std.proofs.lemmas.Bool.{true≢false}
+use Rattle.law_common.proofs.Numbers.{streamed_apart}
+use Rattle.law_ring.proofs.Common.{endpoint_kept, those_here}
+use Rattle.law_controller.proofs.Common.{same_hand, heads_stay, elements_stay}
 use Rattle.law_structures.specs.lent_structures.Structures.{Structures, StructureSets}
-use Rattle.law_ring.proofs.Returning.{those_here}
 use Rattle.law_ring.specs.Hand.{Hand}
-use Rattle.law_ring.specs.Told.{Endpoint, HasEndpoint}
+use Rattle.law_ring.specs.Told.{Endpoint}
 use Rattle.law_ring.specs.Bus.{Sender}
 use Rattle.law_ring.specs.Pipes.{IsIn, IsNotIn, IsPipe, IsElsewhere}
 use Rattle.law_ring.specs.Order.{IsOrdered, Accounts}
-use Rattle.law_ring.proofs.SparedSparing.{spared_endpoint, spared_has_toggle, accounts_are_spared}
+use Rattle.law_ring.proofs.SparedSparing.{spared_has_toggle, accounts_are_spared}
 use Rattle.law_ring.specs.OutBus.{Taker}
 use Rattle.law_ring.specs.OutPipeLaws.{SendsNone, IsBeside, IsOnlyEndpoint}
 use Rattle.law_controller.specs.controlled_streams.Outs.{IsOutStream}
 use Rattle.law_world.specs.steps.Outs.{IsAside, AreAside}
-use Rattle.law_world.proofs.lemmas.steps.Joining.{same_hand, heads_stay, elements_stay, reported_stays}
+use Rattle.law_world.proofs.lemmas.steps.Joining.{reported_stays}
 use Rattle.law_world.proofs.lemmas.steps.Spared.{pipe_stays}
 use Rattle.law_world.specs.steps.endpoint_releases.Released.{without_queue}
 use Rattle.law_world.specs.steps.endpoint_releases.Beside.{QueueIsGone, PipesStayBeside, OutPipesStayBeside, OutsStayBeside, ReportsStayBeside}
@@ -22,18 +23,11 @@ use Rattle.law_world.proofs.lemmas.steps.lemmas.endpoint_releases.Owning.{queue_
 pub queue_is_gone : QueueIsGone
 queue_is_gone parts n = (λ a. ap (λ (part : Structures). part a) (those_here parts n (λ b. true)), queue_beside parts n)
 
--- a queue head with a test is another than one without
-other_one : (on : ℕ → Bool) (n k : ℕ) → on n ≡ false → on k ≡ true → k ≢ n
-other_one on n k off is same = true≢false (sym is ∙ ap on same ∙ off)
-
 -- ---- IN pipes
-
-endpoint_stays : (parts now : StructureSets) (k : ℕ) (x : Endpoint) → now k ≡ parts k → HasEndpoint parts k x → HasEndpoint now k x
-endpoint_stays parts now k x same named = spared_endpoint parts now k x (heads_stay parts now k same) named
 
 in_stays : (packets : List (List ℕ)) (o : Option Sender) (acc : List (List ℕ)) (parts now : StructureSets) (hand : Hand) (k : ℕ) (x : Endpoint) → now k ≡ parts k → IsPipe packets o acc parts hand k x → IsPipe packets o acc now hand k x
 in_stays packets o acc parts now hand k x same p = record {
-  named = endpoint_stays parts now k x same p.named;
+  named = endpoint_kept parts now k x same p.named;
   ins = subst IsIn (sym same) p.ins;
   toggle = p.toggle;
   expects = spared_has_toggle hand hand parts now k p.toggle (same_hand hand) (heads_stay parts now k same) p.expects;
@@ -43,30 +37,36 @@ in_stays packets o acc parts now hand k x same p = record {
 }
 
 elsewhere_stays : (stream : ℕ → ℕ → Bool) (parts now : StructureSets) (k : ℕ) (x : Endpoint) → now k ≡ parts k → IsElsewhere stream parts k x → IsElsewhere stream now k x
-elsewhere_stays stream parts now k x same was =
-    (endpoint_stays parts now k x same was.0, ⊎_elim (λ (off : stream x.addr x.ep ≡ false). inl off) (λ (none : IsNotIn (parts k)). inr (subst IsNotIn (sym same) none)) was.1)
+elsewhere_stays stream parts now k x same was = (
+  endpoint_kept parts now k x same was.0,
+  ⊎_elim (λ (off : stream x.addr x.ep ≡ false). inl off)
+      (λ (none : IsNotIn (parts k)). inr (subst IsNotIn (sym same) none)) was.1,
+)
 
 pub pipes_stay : {W : Type 0} (sender : W → ℕ → ℕ → Option Sender) → PipesStayBeside sender
 pipes_stay sender stream packets member streams ends acc parts hand wire n off none k = record {
   pipes = λ i on.
-      in_stays (packets (ends i).addr (ends i).ep) (sender wire (ends i).addr (ends i).ep) (acc i) parts (without_queue parts n) hand i (ends i) (queue_beside parts n i (other_one streams n i none on))
+      in_stays (packets (ends i).addr (ends i).ep) (sender wire (ends i).addr (ends i).ep) (acc i) parts (without_queue parts n) hand i (ends i) (queue_beside parts n i (streamed_apart streams n i none on))
       (k.pipes i on);
-  others = λ i met aside. elsewhere_stays stream parts (without_queue parts n) i (ends i) (queue_beside parts n i (other_one member n i off met)) (k.others i met aside);
+  others = λ i met aside. elsewhere_stays stream parts (without_queue parts n) i (ends i) (queue_beside parts n i (streamed_apart member n i off met)) (k.others i met aside);
 }
 
 -- ---- OUT pipes
 
 aside_stays : (stream : ℕ → ℕ → Bool) (parts now : StructureSets) (k : ℕ) (x : Endpoint) → now k ≡ parts k → IsAside stream parts k x → IsAside stream now k x
-aside_stays stream parts now k x same was =
-    (endpoint_stays parts now k x same was.0, ⊎_elim (λ (off : stream x.addr x.ep ≡ false). inl off) (λ (none : SendsNone (parts k)). inr (subst SendsNone (sym same) none)) was.1)
+aside_stays stream parts now k x same was = (
+  endpoint_kept parts now k x same was.0,
+  ⊎_elim (λ (off : stream x.addr x.ep ≡ false). inl off)
+      (λ (none : SendsNone (parts k)). inr (subst SendsNone (sym same) none)) was.1,
+)
 
 asides_stay : (stream : ℕ → ℕ → Bool) (member outs : ℕ → Bool) (ends : ℕ → Endpoint) (parts : StructureSets) (n : ℕ) → member n ≡ false → AreAside stream member outs ends parts → AreAside stream member outs ends (without_queue parts n)
-asides_stay stream member outs ends parts n off all i met none = aside_stays stream parts (without_queue parts n) i (ends i) (queue_beside parts n i (other_one member n i off met)) (all i met none)
+asides_stay stream member outs ends parts n off all i met none = aside_stays stream parts (without_queue parts n) i (ends i) (queue_beside parts n i (streamed_apart member n i off met)) (all i met none)
 
 pub out_pipes_stay : {W : Type 0} (taker : W → ℕ → ℕ → Option Taker) → OutPipesStayBeside taker
 out_pipes_stay taker stream member outs ends known parts hand wire n off none k = record {
   pipes = λ i on.
-      pipe_stays hand hand parts (without_queue parts n) i (ends i) (taker wire (ends i).addr (ends i).ep) (known i) (same_hand hand) (λ un. un) (queue_beside parts n i (other_one outs n i none on))
+      pipe_stays hand hand parts (without_queue parts n) i (ends i) (taker wire (ends i).addr (ends i).ep) (known i) (same_hand hand) (λ un. un) (queue_beside parts n i (streamed_apart outs n i none on))
       (k.pipes i on);
   others = asides_stay stream member outs ends parts n off k.others;
 }
@@ -76,7 +76,7 @@ out_pipes_stay taker stream member outs ends known parts hand wire n off none k 
 beside_stays : (parts now : StructureSets) (k : ℕ) (x : Endpoint) → now k ≡ parts k → IsBeside parts k x → IsBeside now k x
 beside_stays parts now k x same was = record {
   endpoint = was.endpoint;
-  named = endpoint_stays parts now k was.endpoint same was.named;
+  named = endpoint_kept parts now k was.endpoint same was.named;
   apart = ⊎_elim (λ (apart : x.addr ≡ was.endpoint.addr → x.ep ≡ was.endpoint.ep → ⊥). inl apart) (λ (none : SendsNone (parts k)). inr (subst SendsNone (sym same) none)) was.apart;
 }
 
@@ -85,7 +85,7 @@ only_stays stream member parts n k x off was = record {
   on = was.on;
   streamed = was.streamed;
   high = was.high;
-  others = λ i met differs. beside_stays parts (without_queue parts n) i x (queue_beside parts n i (other_one member n i off met)) (was.others i met differs);
+  others = λ i met differs. beside_stays parts (without_queue parts n) i x (queue_beside parts n i (streamed_apart member n i off met)) (was.others i met differs);
 }
 
 accounts_stay : (order : ℕ → ℕ) (place : ℕ) (out : List ℕ) (hand : Hand) (parts now : StructureSets) (k : ℕ) (told : List ℕ) → now k ≡ parts k → Accounts order place out hand parts k told → Accounts order place out hand now k told
@@ -108,10 +108,10 @@ stream_stays stream o member order out parts hand n k x harvested off differs wa
 pub outs_stay : {W : Type 0} (taker : W → ℕ → ℕ → Option Taker) → OutsStayBeside taker
 outs_stay taker stream member outs ends order out harvested parts hand wire n off none k = record {
   streams = λ i on.
-      stream_stays stream (taker wire (ends i).addr (ends i).ep) member (order i) (out i) parts hand n i (ends i) (harvested i) off (other_one outs n i none on) (k.streams i on);
+      stream_stays stream (taker wire (ends i).addr (ends i).ep) member (order i) (out i) parts hand n i (ends i) (harvested i) off (streamed_apart outs n i none on) (k.streams i on);
   others = asides_stay stream member outs ends parts n off k.others;
 }
 
 pub reports_stay_beside : ReportsStayBeside
 reports_stay_beside heads order out hand parts acc reported n off all k on =
-    reported_stays (order k) (out k) hand hand parts (without_queue parts n) k (acc k) (reported k) (same_hand hand) (queue_beside parts n k (other_one heads n k off on)) (all k on)
+    reported_stays (order k) (out k) hand hand parts (without_queue parts n) k (acc k) (reported k) (same_hand hand) (queue_beside parts n k (streamed_apart heads n k off on)) (all k on)

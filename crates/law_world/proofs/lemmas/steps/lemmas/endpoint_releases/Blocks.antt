@@ -2,7 +2,9 @@
 use Rattle.std.proofs.Common.{◌≡◌, ◌≢◌, ℕ, zero, suc, ◌==◌, Bool, true, false, if◌then◌else◌, List, [], ◌∷◌, ◌++◌, slice_get, Option, Some, None, ap, refl, sym, ◌∙◌}
 use Rattle.std.specs.List.{AllByRecursion}
 use Rattle.std.proofs.lemmas.Bool.{true≢false}
-use Rattle.mem_runs.specs.Book.{Holding, release_run}
+use Rattle.law_driver_ring.proofs.Common.{runs_joined}
+use Rattle.law_common.proofs.Lists.{all_joined}
+use Rattle.mem_runs.specs.Book.{Holding}
 use Rattle.mem_runs.specs.declared.slots.Slot.{Slot}
 use Rattle.drv_table.specs.declared.content.Endpoint.{Endpoint}
 use Rattle.drv_table.specs.declared.content.Transfer.{Transfer}
@@ -29,10 +31,6 @@ goes_with e held (Dummy u) = u == e
 goes_with e held (Element t) = held t
 goes_with e held (Buffer t) = held t
 goes_with e held _ = false
-
-all_joined : (P : ℕ → Type 0) (bs cs : List ℕ) → AllByRecursion P bs → AllByRecursion P cs → AllByRecursion P (bs ++ cs)
-all_joined P [] cs one other = other
-all_joined P (b ∷ bs) cs one other = (one.0, all_joined P bs cs one.1 other)
 
 pieces_go : (slot : ℕ → Slot) (owner : ℕ → Owner) (note : ℕ → NoteRuns) (e : ℕ) (held : ℕ → Bool) (t b n : ℕ) → held t ≡ true → ArePieces slot owner note t b n → AllByRecursion (λ c. goes_with e held (owner c) ≡ true) (blocks_of note b n)
 pieces_go slot owner note e held t b zero on pieces = tt
@@ -63,10 +61,6 @@ none_goes owner e held c cs off all =
     all_still {P = λ b. goes_with e held (owner b) ≡ true} {Q = λ b. c ≢ b} cs (λ b on same. true≢false (sym on ∙ ap (λ (i : ℕ). goes_with e held (owner i)) (sym same) ∙ off)) all
 
 -- ---- all of their runs are given back
-
-runs_joined : (h : Holding) (bs cs : List ℕ) → free_runs h (bs ++ cs) ≡ free_runs (free_runs h bs) cs
-runs_joined h [] cs = refl
-runs_joined h (b ∷ bs) cs = runs_joined (release_run h b) bs cs
 
 held_runs : (b : Bool) (h g : Holding) (bs cs : List ℕ) → g ≡ free_runs h bs → free_runs (if b then g else h) cs ≡ free_runs h ((if b then bs else []) ++ cs)
 held_runs true h g bs cs is = ap (λ (k : Holding). free_runs k cs) is ∙ sym (runs_joined h bs cs)

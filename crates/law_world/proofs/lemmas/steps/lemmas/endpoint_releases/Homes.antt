@@ -1,6 +1,7 @@
 -- Each structure that stays lies in runs of which none is given back.
 use Rattle.std.proofs.Common.{◌≡◌, ◌≢◌, ℕ, ◌+◌, ◌*◌, ◌<◌, ◌≤◌, Bool, false, ◌∷◌, Some, option_map, ap, refl, sym, subst, ◌∙◌, inl, inr, arith}
 use Rattle.std.specs.List.{AllByRecursion}
+use Rattle.law_common.proofs.Numbers.{other_number as not_same}
 use Rattle.word_mem.proofs.Holders.{has_block_from}
 use Rattle.mem_runs.specs.Book.{Holding, slot_of, IsAt, Stands}
 use Rattle.mem_runs.specs.declared.slots.Slot.{Slot}
@@ -8,7 +9,6 @@ use Rattle.mem_runs.specs.declared.slots.Slot.TheVariants.{Empty, Keeps, Lends}
 use Rattle.drv_table.specs.Words.{head_block}
 use Rattle.claims_driver.specs.Owners.{Owner, Buffer, SlotHas, HasBlocks, IsPlaced, EndpointRuns, Views}
 use Rattle.law_structures.specs.lent_structures.Structures.{Structure, Buffer as BufferOf, StructureSets, Has}
-use Rattle.law_structures.proofs.lemmas.lent_structures.Names.{not_same}
 use Rattle.law_driver_ring.specs.Inventory.{Sort, sort_of, sorts_of, OfTable, OfQueueHead, OfElement, OfBuffer, IsDriverOwned, the_list, the_head, a_queue, a_dummy, a_piece, a_buffer, IsDriven}
 use Rattle.law_driver_ring.specs.Extents.{AreInRuns}
 use Rattle.law_driver_ring.proofs.Blocks.{all_one, placed_buffer}

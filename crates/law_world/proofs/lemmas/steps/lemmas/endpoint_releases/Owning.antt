@@ -3,11 +3,11 @@ use Rattle.std.proofs.Common.{◌≡◌, ◌≢◌, ℕ, zero, suc, ◌*◌, Boo
 use Rattle.std.specs.List.{AllByRecursion}
 use Rattle.std.proofs.lemmas.Bool.{true≢false}
 use Rattle.std.proofs.lemmas.Option.{same_Some}
+use Rattle.law_common.proofs.Numbers.{other_number as not_same}
 use Rattle.mem_runs.specs.declared.slots.Slot.{Slot}
 use Rattle.drv_table.specs.Words.{head_block}
 use Rattle.claims_driver.specs.Owners.{Owner, FrameList, Head, QueueHead, Buffer, SlotHas, IsPlaced, EndpointRuns, TransferRuns, NoteRuns, Views, AreOwned, IsPieceOf, IsQueueIn}
 use Rattle.law_structures.specs.lent_structures.Structures.{Structure, Buffer as BufferOf, Table, Structures, StructureSets}
-use Rattle.law_structures.proofs.lemmas.lent_structures.Names.{not_same}
 use Rattle.law_ring.proofs.Returning.{those_found, those_stay, those_beside}
 use Rattle.law_driver_ring.specs.Inventory.{Sort, sort_of, sorts_of, IsLent, IsBufferTold, AreTold, IsTransferIn, IsDriverOwned, the_list, the_head, a_queue, a_dummy, a_piece, a_buffer, IsDriven}
 use Rattle.law_driver_ring.specs.Extents.{AreInRuns}

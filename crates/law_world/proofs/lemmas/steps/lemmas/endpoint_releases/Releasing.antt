@@ -3,6 +3,10 @@ use Rattle.std.proofs.Common.{◌≡◌, ◌≢◌, ℕ, ◌==◌, ◌*◌, Bool
 use Rattle.std.specs.List.{AllByRecursion}
 use Rattle.std.proofs.lemmas.Bool.{true≢false, eq-eqb}
 use Rattle.std.proofs.lemmas.Option.{same_Some, slice_get-map}
+use Rattle.law_common.proofs.Booleans.{or_true, held_is}
+use Rattle.law_common.proofs.Lists.{set_here, set_there}
+use Rattle.law_driver.proofs.Common.{ring_queue}
+use Rattle.law_common.proofs.Numbers.{other_number}
 use Rattle.word_mem.specs.Memory.{Mem}
 use Rattle.word_mem.proofs.Holders.{has_block_from}
 use Rattle.usb_base.specs.declared.packets.Reply.{Reply}
@@ -19,12 +23,10 @@ use Rattle.drv_table.specs.Rows.{after_driver_row}
 use Rattle.claims_driver.specs.Owners.{SlotHas, EndpointRuns, TransferRuns, runs_of_endpoint, runs_of_transfer, endpoint_in, transfer_in, note_in, Views, views_of, IsQueueIn}
 use Rattle.claims_driver.specs.Leaving.{HasOwners}
 use Rattle.law_driver.proofs.lemmas.run_owners.Apart.{runs_apart}
-use Rattle.law_driver.proofs.lemmas.run_owners.Released.{set_here, set_there, cancel_same}
+use Rattle.law_driver.proofs.lemmas.run_owners.Released.{cancel_same}
 use Rattle.law_driver.proofs.lemmas.run_owners.Freeing.{runs_freed}
 use Rattle.law_driver.proofs.lemmas.run_owners.Leaves.{first_left}
-use Rattle.law_driver.proofs.lemmas.run_owners.Rows.{not_iso}
 use Rattle.law_structures.specs.lent_structures.Structures.{StructureSets, Tells}
-use Rattle.law_structures.proofs.lemmas.lent_structures.Names.{not_same}
 use Rattle.law_ring.proofs.Returning.{fewer_are_told}
 use Rattle.law_structures.specs.lent_structures.Sound.{IsMember}
 use Rattle.law_ring.specs.Hand.{Copy, Hand, Empty, Copied, Settled, Stale}
@@ -69,15 +71,6 @@ ring_beside base member parts hand p n after ring off told = record {
 
 -- ---- what the driver has afterwards
 
-or_true : (b : Bool) → b || true ≡ true
-or_true true = refl
-or_true false = refl
-
-held_is : (a b : Bool) → a && not b ≡ true → b ≡ false
-held_is true false on = refl
-held_is true true on = absurd (true≢false (sym on))
-held_is false b on = absurd (true≢false (sym on))
-
 -- a transfer that is still held is another endpoint's
 one_back : (e : ℕ) (told b : Bool) (y : Transfer) (z : TransferRuns) → (y.endpoint == e) ≡ b → runs_of_transfer (if b then record y { reported = y.reported || told; released = true } else y) ≡ z → z.released ≡ false → (z.endpoint ≢ e) × (runs_of_transfer y ≡ z)
 one_back e told true y z test is off = absurd (true≢false (ap (λ (r : TransferRuns). r.released) is ∙ off))
@@ -95,7 +88,7 @@ some_on : (e : ℕ) (told : Bool) (o : Option Transfer) (z : TransferRuns) → o
 some_on e told None z there differs = absurd (cc)
 some_on e told (Some y) z there differs =
     let is : runs_of_transfer y ≡ z = same_Some (runs_of_transfer y) z there in
-    let test : (y.endpoint == e) ≡ false = not_same y.endpoint e (λ same. differs (ap (λ (r : TransferRuns). r.endpoint) (sym is) ∙ same)) in (
+    let test : (y.endpoint == e) ≡ false = other_number y.endpoint e (λ same. differs (ap (λ (r : TransferRuns). r.endpoint) (sym is) ∙ same)) in (
       ap (λ (b : Bool). b && not y.released) test,
       ap (λ (b : Bool). Some (runs_of_transfer (if b then record y { reported = y.reported || told; released = true } else y))) test ∙ there,
     )
@@ -208,7 +201,7 @@ due_is_to_leave p e owners due =
     let l = first_left e due.first owners.orderly in
     record {
       endpoint = l.endpoint;
-      leaves = record { here = l.here; queued = not_iso l.endpoint.desc.kind l.ring; held = l.gone; first = due.first; none_before = due.none_before };
+      leaves = record { here = l.here; queued = ring_queue l.endpoint.desc.kind l.ring; held = l.gone; first = due.first; none_before = due.none_before };
       unlinked = l.linked;
     }
 

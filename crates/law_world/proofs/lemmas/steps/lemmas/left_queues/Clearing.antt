@@ -1,6 +1,7 @@
 -- Once Async Advance was cleared, those that had left when the doorbell was rung aren't met any more.
-use Rattle.std.proofs.Common.{◌≡◌, ◌⊎◌, ℕ, ◌*◌, ◌==◌, ◌&&◌, Bool, true, false, slice_get, Some, None, ap, sym, ◌∙◌, ⊎_elim, inl, inr, refl}
+use Rattle.std.proofs.Common.{◌≡◌, ◌⊎◌, ℕ, ◌*◌, ◌==◌, ◌&&◌, Bool, true, slice_get, Some, None, ap, sym, ◌∙◌, ⊎_elim, inl, inr, refl}
 use Rattle.std.proofs.lemmas.Bool.{eqb-true, eq-eqb, and_parts, and_from, or_cases, or_left, or_right}
+use Rattle.law_common.proofs.Booleans.{and_true}
 use Rattle.drv_table.specs.declared.content.Endpoint.{Endpoint}
 use Rattle.drv_table.specs.declared.rows.DriverRow.TheVariants as rows
 use Rattle.drv_table.specs.DriverContent.{DriverContent}
@@ -20,10 +21,6 @@ use Rattle.law_queues.proofs.lemmas.leaving_drivers.Leaving.{clear_is_as_before}
 use Rattle.law_world.specs.steps.left_queues.Standing.{met_streams, ClearStands}
 use Rattle.law_world.proofs.lemmas.steps.lemmas.left_queues.Unmet.{near_kept, off_head_by}
 use Rattle.law_world.proofs.lemmas.steps.lemmas.left_queues.Same.{fed_now, last_now, still_out_now, fronts_now, tails_now}
-
-and_true : (b : Bool) → b && true ≡ b
-and_true true = refl
-and_true false = refl
 
 module _ (p : Parts) (rings : Bool) (idle : p.driver.command ≡ None) (owners : HasOwners p.driver) (turns : AsynchronousTakesTurns p.driver) (narrow : ℕ → Bool) (are : (n : ℕ) → narrow n ≡ is_reached (after_driver_row rows.ClearAdvance p).driver rings n) where
   abbrev d : DriverContent

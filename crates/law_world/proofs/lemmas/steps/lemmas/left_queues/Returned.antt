@@ -1,7 +1,11 @@
 -- An endpoint that can't be met any more is given back, and all other queues stand as before.
-use Rattle.std.proofs.Common.{◌≡◌, ◌≢◌, ℕ, ◌+◌, ◌*◌, ◌==◌, ◌&&◌, ◌||◌, Bool, true, false, not, if◌then◌else◌, cond, List, [], ◌∷◌, ◌++◌, map, set, drop, slice_get, Option, Some, None, option_map, ap, sym, subst, ◌∙◌, ⊎_elim, inl, inr, refl, arith}
+use Rattle.std.proofs.Common.{◌≡◌, ◌≢◌, ℕ, ◌+◌, ◌*◌, ◌==◌, ◌&&◌, ◌||◌, Bool, true, false, not, if◌then◌else◌, List, [], ◌∷◌, ◌++◌, map, set, drop, slice_get, Option, Some, None, option_map, ap, sym, subst, ◌∙◌, ⊎_elim, inl, inr, refl, arith}
 use Rattle.std.proofs.lemmas.Bool.{true≢false, false≢true, eqb-true, eq-eqb}
 use Rattle.std.proofs.lemmas.Option.{same_Some, slice_get-map}
+use Rattle.law_world.proofs.Common.{told_same}
+use Rattle.law_queues.proofs.Common.{if_zero}
+use Rattle.law_common.proofs.Numbers.{other_number}
+use Rattle.law_common.proofs.Lists.{set_here, set_there}
 use Rattle.mem_runs.specs.Book.{Holding, holding, slot_of}
 use Rattle.mem_runs.specs.declared.slots.Slot.{Slot}
 use Rattle.drv_table.specs.declared.content.Endpoint.{Endpoint}
@@ -17,14 +21,13 @@ use Rattle.law_driver.specs.endpoint_lives.Lives.{may_meet}
 use Rattle.law_driver.proofs.lemmas.endpoint_lives.Lives.{met_alike}
 use Rattle.claims_driver.specs.Owners.{NoteRuns, note_in}
 use Rattle.claims_driver.specs.Leaving.{HasOwners}
-use Rattle.law_driver.proofs.lemmas.run_owners.Released.{set_here, set_there}
 use Rattle.law_structures.specs.lent_structures.Structures.{Structures, StructureSets}
 use Rattle.law_driver_ring.specs.Inventory.{IsLent}
 use Rattle.law_driver_ring.proofs.Freeing.{IsLess, runs_less}
 use Rattle.law_ring.specs.Told.{Endpoint as Told}
 use Rattle.law_driver.specs.chained_transfers.Chains.{piece_at}
 use Rattle.law_driver.specs.chained_transfers.Turns.{turn_of}
-use Rattle.law_driver.specs.chained_transfers.Out.{pieces_from, passed, out_of_transfer, if_last, out_of, out_now}
+use Rattle.law_driver.specs.chained_transfers.Out.{pieces_from, passed, out_of_transfer, out_of, out_now}
 use Rattle.law_driver.specs.chained_transfers.AsynchronousTurns.{AsynchronousTakesTurns}
 use Rattle.law_driver_ring.specs.fed_queues.Fed.{IsPieceFed, AreFed, sized}
 use Rattle.law_driver_ring.specs.fed_queues.Places.{IsMet, HasHead, AreMet, HaveStreams, IsLast, AreLast, AreStillOut}
@@ -53,11 +56,6 @@ pub record IsGivenBack (d f : DriverContent) (e : ℕ) (x : Endpoint) : Type 0 w
 lent_before : (now s : Slot) → IsLess now s → IsLent now → IsLent s
 lent_before now s (inl same) lent = subst IsLent same lent
 lent_before now s (inr empty) lent = absurd (subst IsLent empty lent)
-
--- whether a line of the report tells it
-told_same : {X : Type 0} (f : DriverContent → X) (g d : DriverContent) (b : Bool) → f g ≡ f d → f (cond b g d) ≡ f d
-told_same f g d true same = same
-told_same f g d false same = refl
 
 given_back : (p : Parts) (e : ℕ) (x : Endpoint) → slice_get p.driver.endpoints e ≡ Some x → IsGivenBack p.driver (after_driver_row (endpoint_row e) p).driver e x
 given_back p e x here = subst (λ (q : Parts). IsGivenBack p.driver q.driver e x) (sym (ap (after_endpoint p e) here))
@@ -91,19 +89,8 @@ some_held e told (Some y) z there off =
     let h = one_held e told (y.endpoint == e) y z refl (same_Some (let_go e told y) z there) off in
     (ap Some h.0, h.1)
 
-if_zero : (ts : List Transfer) → if_last ts 0 ≡ 0
-if_zero [] = refl
-if_zero (y ∷ ys) = refl
-
 none_out : (note : ℕ → NoteRuns) (k : ℕ) (w : Transfer) → (w.endpoint == k) ≡ false → out_of_transfer note k 0 w ≡ []
 none_out note k w off = ap (λ (b : Bool). if b && not w.released then drop (0 + passed w.reported) (pieces_from note w.place w.left) else []) off
-
-not_equal : (a b : ℕ) → a ≢ b → (a == b) ≡ false
-not_equal a b differ = by (a == b) refl
-  where
-    by : (c : Bool) → (a == b) ≡ c → (a == b) ≡ false
-    by true is = absurd (differ (eqb-true a b is))
-    by false is = is
 
 out_one : (note : ℕ → NoteRuns) (e k : ℕ) (told : Bool) (y : Transfer) → k ≢ e → out_of_transfer note k 0 (let_go e told y) ≡ out_of_transfer note k 0 y
 out_one note e k told y other = by (y.endpoint == e) refl
@@ -114,7 +101,7 @@ out_one note e k told y other = by (y.endpoint == e) refl
     by : (b : Bool) → (y.endpoint == e) ≡ b → out_of_transfer note k 0 (let_go e told y) ≡ out_of_transfer note k 0 y
     by false is = ap (λ (b : Bool). out_of_transfer note k 0 (if b then record y { reported = y.reported || told; released = true } else y)) is
     by true is =
-        let off : (y.endpoint == k) ≡ false = not_equal y.endpoint k (λ same. other (sym same ∙ eqb-true y.endpoint e is)) in
+        let off : (y.endpoint == k) ≡ false = other_number y.endpoint k (λ same. other (sym same ∙ eqb-true y.endpoint e is)) in
         ap (λ (b : Bool). out_of_transfer note k 0 (if b then record y { reported = y.reported || told; released = true } else y)) is
         ∙ none_out note k (record y { reported = y.reported || told; released = true }) off ∙ sym (none_out note k y off)
 

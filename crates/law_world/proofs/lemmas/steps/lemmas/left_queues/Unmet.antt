@@ -1,45 +1,27 @@
 -- Which queue heads a walk may not meet any more.
-use Rattle.std.proofs.Common.{◌≡◌, ◌≢◌, ℕ, ◌+◌, ◌*◌, ◌≤◌, ◌==◌, ◌||◌, Bool, true, false, if◌then◌else◌, List, [], ◌∷◌, slice_get, Some, ap, sym, ◌∙◌, ⊎_elim, refl, arith}
-use Rattle.std.proofs.lemmas.Bool.{false≢true, eqb-true, or_cases}
+use Rattle.std.proofs.Common.{◌≡◌, ◌≢◌, ℕ, ◌+◌, ◌*◌, ◌≤◌, ◌||◌, Bool, true, false, slice_get, Some, ap, sym, ◌∙◌, ⊎_elim, refl, arith}
+use Rattle.std.proofs.lemmas.Bool.{false≢true}
 use Rattle.std.proofs.lemmas.Option.{same_Some}
+use Rattle.law_common.proofs.Numbers.{same_blocks}
+use Rattle.law_queues.proofs.Common.{not_one}
+use Rattle.law_world.proofs.Common.{times_one}
+use Rattle.law_driver.proofs.Common.{times_of}
 use Rattle.drv_periodic_table.specs.Periodic.{is_periodic}
 use Rattle.drv_table.specs.declared.content.Endpoint.{Endpoint}
 use Rattle.drv_table.specs.DriverContent.{DriverContent}
 use Rattle.drv_table.specs.Kinds.{is_iso}
 use Rattle.drv_table.specs.Words.{head_block}
-use Rattle.law_driver.specs.endpoint_lives.Lives.{is_one_of, may_meet}
+use Rattle.law_driver.specs.endpoint_lives.Lives.{may_meet}
 use Rattle.law_driver.proofs.lemmas.endpoint_lives.Lives.{past_unmet, IsNear, in_ring, has_left, is_rung, met_where}
 use Rattle.claims_driver.specs.Leaving.{times, leaves_ring, IsOrderly, HasOwners}
-use Rattle.law_driver.proofs.lemmas.run_owners.Orders.{one_same, IsLeft, has_left as was_left, out_of_ring}
+use Rattle.law_driver.proofs.lemmas.run_owners.Orders.{IsLeft, has_left as was_left, out_of_ring}
 use Rattle.law_driver.specs.chained_transfers.Asynchronous.{StandsAsynchronous}
 use Rattle.law_driver.specs.chained_transfers.AsynchronousTurns.{AsynchronousTakesTurns}
 use Rattle.law_driver.proofs.lemmas.chained_transfers.BulkAndControl.{not_iso}
 use Rattle.law_driver.proofs.lemmas.chained_transfers.Staying.{linked_stands_alive}
 use Rattle.law_driver.proofs.lemmas.ring_members.Placed.{has_queue, queue_off_head, queues_apart}
-use Rattle.law_queues.proofs.lemmas.standing_fronts.Lists.{times_some}
 use Rattle.law_driver_ring.specs.fed_queues.Places.{HasHead}
 use Rattle.law_world.specs.steps.left_queues.Standing.{ClearedUnmet, ClearedIsNoHead}
-
--- ---- lists
-
-pub times_one : (e : ℕ) (es : List ℕ) → is_one_of e es ≡ true → 1 ≤ times e es
-times_one e [] on = absurd (false≢true on)
-times_one e (f ∷ es) on =
-    ⊎_elim (λ (same : (e == f) ≡ true).
-    let is : f ≡ e = sym (eqb-true e f same) in
-    let one : ◌≡◌ {A = ℕ} (if f == e then 1 else 0) 1 = ap (λ (g : ℕ). if g == e then 1 else 0) is ∙ one_same e in
-    omega (arith, one))
-    (λ (later : is_one_of e es ≡ true). let some = times_one e es later in omega (arith, some)) (or_cases (e == f) (is_one_of e es) on)
-
-not_one : (e : ℕ) (es : List ℕ) → times e es ≡ 0 → is_one_of e es ≡ false
-not_one e es none = by (is_one_of e es) refl
-  where
-    by : (b : Bool) → is_one_of e es ≡ b → is_one_of e es ≡ false
-    by false is = is
-    by true is = let some = times_one e es is in absurd (omega (arith, some, none))
-
-pub same_block : (a b : ℕ) → 32 * a ≡ 32 * b → a ≡ b
-same_block a b is = omega (arith, is)
 
 -- ---- endpoints with a queue
 
@@ -50,12 +32,12 @@ queued x s kept = has_queue x (not_iso x.desc s.asynchronous) kept
 pub apart_by : (d : DriverContent) (e f : ℕ) (x y : Endpoint) → HasOwners d → AsynchronousTakesTurns d → slice_get d.endpoints e ≡ Some x → x.gone ≡ false → slice_get d.endpoints f ≡ Some y → y.gone ≡ false → e ≢ f
     → 32 * x.queue ≢ 32 * y.queue
 apart_by d e f x y owners turns here kept there also differ same =
-    queues_apart d e f x y owners here (queued x (turns.asynchronous.endpoints e x here) kept) there (queued y (turns.asynchronous.endpoints f y there) also) differ (same_block x.queue y.queue same)
+    queues_apart d e f x y owners here (queued x (turns.asynchronous.endpoints e x here) kept) there (queued y (turns.asynchronous.endpoints f y there) also) differ (same_blocks x.queue y.queue same)
 
 -- .. and none of them is the head of the ring
 pub off_head_by : (d : DriverContent) (e : ℕ) (x : Endpoint) → HasOwners d → AsynchronousTakesTurns d → slice_get d.endpoints e ≡ Some x → x.gone ≡ false → 32 * x.queue ≢ 32 * head_block
 off_head_by d e x owners turns here kept same =
-    queue_off_head d e x owners here (queued x (turns.asynchronous.endpoints e x here) kept) (same_block x.queue head_block same)
+    queue_off_head d e x owners here (queued x (turns.asynchronous.endpoints e x here) kept) (same_blocks x.queue head_block same)
 
 -- ---- one that has left
 
@@ -81,7 +63,7 @@ pub record IsCleared (d : DriverContent) (e : ℕ) (x : Endpoint) : Type 0 where
 
 pub cleared_is : (d : DriverContent) (i e : ℕ) (x : Endpoint) → IsOrderly d → slice_get d.cleared i ≡ Some e → slice_get d.endpoints e ≡ Some x → IsCleared d e x
 cleared_is d i e x order at here =
-    let some = times_some d.cleared i e at in
+    let some = times_of d.cleared i e at in
     let most = order.leaving e in
     let l : IsLeft d.endpoints e = was_left d.endpoints e (slice_get d.endpoints e) refl (omega (arith, some, most)) in
     let same : x ≡ l.endpoint = same_Some x l.endpoint (sym here ∙ l.here) in

@@ -2,6 +2,9 @@
 use Rattle.std.proofs.Common.{◌≡◌, ◌≢◌, ℕ, suc, ◌*◌, Bool, true, false, nat_eq, if◌then◌else◌, List, [], ◌∷◌, ◌++◌, length, slice_get, Option, Some, None, ap, refl, sym, subst, ◌∙◌, ⊎_elim, inl, inr, arith, ◌||◌}
 use Rattle.std.proofs.lemmas.Bool.{cases_eq}
 use Rattle.std.proofs.lemmas.Option.{same_Some}
+use Rattle.law_queues.proofs.Common.{none_open, none_published}
+use Rattle.law_world.proofs.Common.{unlink_open}
+use Rattle.law_common.proofs.Lists.{set_here, set_there}
 use Rattle.usb_base.specs.declared.endpoints.EpDesc.{EpDesc}
 use Rattle.link_words.specs.declared.fields.LinkBits.{LinkBits}
 use Rattle.qh_qtd.specs.declared.queue_head.Qh.{Qh}
@@ -16,7 +19,6 @@ use Rattle.drv_table.specs.DriverContent.{DriverContent}
 use Rattle.drv_table.specs.Harvests.{note_at}
 use Rattle.drv_table.specs.Words.{head_block, to_queue_head, queue_head_link, queue_head, dummy_qtd}
 use Rattle.claims_driver.specs.Owners.{NoteRuns, note_in}
-use Rattle.law_driver.proofs.lemmas.run_owners.Released.{set_here, set_there}
 use Rattle.law_structures.specs.lent_structures.Structures.{Structure, QueueHead, Buffer, StructureSets}
 use Rattle.law_structures.specs.lent_structures.Sound.{element_pages, buffer_name, HasBuffer}
 use Rattle.law_ring.specs.Told.{Endpoint as Told, endpoint_of}
@@ -45,15 +47,6 @@ none_if b = if b then 0 else 0
 none_either : (b : Bool) → none_if b ≡ 0
 none_either true = refl
 none_either false = refl
-
-not_opened : (number before link c : ℕ) → ◌≡◌ {A = Option Command} (Some (unfinished.Unlink number before link)) (Some (unfinished.Open c)) → ⊥
-not_opened number before link c same = cc
-
-none_open : (c : ℕ) → ◌≡◌ {A = Option Command} None (Some (unfinished.Open c)) → ⊥
-none_open c same = cc
-
-none_published : (b : ℕ) (words : List ℕ) → ◌≡◌ {A = Option Command} None (Some (unfinished.Publish b words)) → ⊥
-none_published b words same = cc
 
 -- ---- endpoints
 
@@ -137,7 +130,7 @@ module _ (d : DriverContent) (member : ℕ → Bool) (parts : StructureSets) (k 
       }) (cases_eq i e)
 
   there_before : (y : Endpoint) → y.gone ≡ false → IsThere d y
-  there_before y kept = record { linked = λ same. not_opened e k.before (queue_head_link k.after) y.queue (sym k.command ∙ same); kept = kept }
+  there_before y kept = record { linked = λ same. unlink_open e k.before (queue_head_link k.after) y.queue (sym k.command ∙ same); kept = kept }
 
   met_before : (i : ℕ) (y : Endpoint) (w : WasThere d f i y) → IsMet f i y → IsMet d i w.endpoint
   met_before i y w met = record { there = there_before w.endpoint (sym w.gone ∙ met.there.kept); near = sym w.near ∙ met.near }

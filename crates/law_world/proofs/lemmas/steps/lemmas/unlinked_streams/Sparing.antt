@@ -1,14 +1,13 @@
 -- What the store of a queue head's link leaves of all structures: each overlay, each qTD and each buffer.
-use Rattle.std.proofs.Common.{◌≡◌, ◌≢◌, ℕ, ◌==◌, ◌&&◌, not, if◌then◌else◌, List, length, Some, ap, refl, sym, ◌∙◌, ⊎_elim, inl}
+use Rattle.std.proofs.Common.{◌≡◌, ◌≢◌, ℕ, List, length, Some, ap, refl, sym, ◌∙◌, ⊎_elim, inl}
 use Rattle.std.proofs.lemmas.Bool.{cases_eq}
 use Rattle.std.proofs.lemmas.Option.{same_Some}
+use Rattle.law_devices.proofs.Common.{pointer_still}
 use Rattle.link_words.specs.declared.fields.LinkBits.{LinkBits}
-use Rattle.link_words.specs.declared.fields.ShortLink.{ShortLink}
 use Rattle.link_words.specs.Links.{qtd_link_of}
 use Rattle.qh_qtd.specs.declared.token.Token.{Token}
 use Rattle.qh_qtd.specs.declared.qtd.Qtd.{Qtd}
 use Rattle.qh_qtd.specs.declared.queue_head.Qh.{Qh}
-use Rattle.hc_copy.specs.Visits.{next_pointer}
 use Rattle.law_structures.specs.lent_structures.Structures.{Structure, QueueHead, Element, Structures, StructureSets, put}
 use Rattle.law_structures.proofs.lemmas.lent_structures.Names.{put_beside, put_same, put_else, put_found}
 use Rattle.law_structures.specs.lent_structures.Sound.{buffer_name}
@@ -16,15 +15,8 @@ use Rattle.law_structures.proofs.lemmas.lent_structures.Altering.{found_queue, s
 use Rattle.law_ring.specs.Effects.{bytes_in, buffer_of}
 use Rattle.law_ring.specs.Told.{endpoint_of}
 use Rattle.law_ring.specs.Sparing.{SparesHead, SparesElement}
-use Rattle.law_ring.specs.Front.{IsPassed, SameRest, HadRest, HasFront, LinksWithin, HasTail}
+use Rattle.law_ring.specs.Front.{IsPassed, HadRest, HasFront, LinksWithin, HasTail}
 use Rattle.law_ring.proofs.FrontGoing.{front_is_spared}
-
--- where the overlay is the same, so is the link that is followed
-rest_pointer : (q r : Qh) → SameRest q r → next_pointer r ≡ next_pointer q
-rest_pointer q r same =
-    ap (λ (t : Token). if not (t.total == 0) && not r.alternate.t then r.alternate else r.next) same.token
-    ∙ ap (λ (l : ShortLink). if not (q.token.total == 0) && not l.t then l else r.next) same.alternate
-    ∙ ap (λ (l : ShortLink). if not (q.token.total == 0) && not q.alternate.t then q.alternate else l) same.next
 
 -- the queue head q, at n, has the link l then
 module _ (parts : StructureSets) (n : ℕ) (q : Qh) (l : LinkBits) (head : parts n n ≡ Some (QueueHead q)) where
@@ -134,5 +126,5 @@ module _ (parts : StructureSets) (n : ℕ) (q : Qh) (l : LinkBits) (head : parts
     rest = λ r b is off idle to.
         let had : HadRest (parts m) m r = had_rest m r is in
         k.rest had.queue b had.here (ap (λ (t : Token). t.halted) (sym had.rest.token) ∙ off) (ap (λ (t : Token). t.active) (sym had.rest.token) ∙ idle)
-        (ap qtd_link_of (sym (rest_pointer had.queue r had.rest)) ∙ to);
+        (ap qtd_link_of (sym (pointer_still had.queue r had.rest)) ∙ to);
   }

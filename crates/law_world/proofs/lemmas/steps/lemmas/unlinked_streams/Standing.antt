@@ -1,12 +1,12 @@
 -- The words of the ring tell which queue head leads to that of the endpoint, and where this one leads.
-use Rattle.std.proofs.Common.{◌≡◌, ℕ, zero, suc, ◌+◌, ◌*◌, ◌/◌, ◌%◌, ◌==◌, Bool, true, false, cond, List, [], ◌∷◌, drop, take, get_or, slice_get, Option, Some, None, ap, refl, sym, subst, ◌∙◌, ⊎_elim, arith}
+use Rattle.std.proofs.Common.{◌≡◌, ℕ, zero, suc, ◌+◌, ◌*◌, ◌/◌, ◌%◌, ◌==◌, Bool, true, false, cond, List, [], ◌∷◌, drop, take, get_or, slice_get, Some, None, ap, refl, sym, subst, ◌∙◌, ⊎_elim, arith}
 use Rattle.std.specs.Result.{result_ok}
-use Rattle.std.proofs.lemmas.Option.{same_Some}
+use Rattle.law_world.proofs.Common.{oldest_leads}
+use Rattle.law_driver_ring.proofs.Common.{unless_is}
+use Rattle.law_driver.proofs.Common.{get_drop}
 use Rattle.word_mem.specs.Memory.{Mem, word_at}
 use Rattle.word_mem.specs.Views.{words_at}
 use Rattle.word_mem.proofs.Words.{get_or-words_in}
-use Rattle.link_words.specs.Layout.{unless_bad}
-use Rattle.link_words.specs.declared.refusal.Bad.{Bad}
 use Rattle.link_words.specs.Fields.{link_at}
 use Rattle.qh_qtd.specs.declared.queue_head.Qh.{Qh}
 use Rattle.qh_qtd.specs.QueueHead.{qh_read, qh_at, qh_bad}
@@ -21,7 +21,7 @@ use Rattle.claims_driver.specs.Owners.{HasRun}
 use Rattle.claims_driver.specs.Ring.{link_in}
 use Rattle.law_driver.specs.ring_members.Words.{step_to, LeadsFrom, AreLinked, IsUnlinking, StandsFor}
 use Rattle.law_driver.specs.in_place.InPlace.{IsSound}
-use Rattle.law_driver.proofs.lemmas.ring_members.Links.{dropped, LeadsTo, oldest_is}
+use Rattle.law_driver.proofs.lemmas.ring_members.Links.{LeadsTo, oldest_is}
 use Rattle.law_driver.proofs.lemmas.ring_members.Leaving.{link_at as word_from}
 use Rattle.law_driver.proofs.lemmas.ring_members.Placed.{can_begin, in_ring_alive, queue_run, head_run_there}
 use Rattle.law_structures.specs.lent_structures.Structures.{QueueHead, StructureSets, Tells}
@@ -31,10 +31,6 @@ use Rattle.law_ring.specs.Streams.{AreMembers}
 use Rattle.law_world.specs.steps.unlinked_streams.Unlinks.{IsAtUnlink, MeetsRing, UnlinkStands}
 
 -- ---- the link of a queue head by its word
-
-unless_is : (o : Option Bad) (q r : Qh) → result_ok (unless_bad o q) ≡ Some r → q ≡ r
-unless_is None q r e = same_Some q r e
-unless_is (Some bad) q r e = absurd (cc)
 
 read_is : (ws : List ℕ) (q : Qh) → result_ok (qh_read ws) ≡ Some q → qh_at ws ≡ q
 unfolding qh_read
@@ -78,16 +74,13 @@ first_by : (word : ℕ → ℕ) (a : ℕ) (x : Endpoint) (xs : List Endpoint) (o
 first_by word a x xs true leads linked rest = leads
 first_by word a x xs false leads linked rest = rest linked
 
-first_leads : (word : ℕ → ℕ) (a : ℕ) (xs : List Endpoint) → AreLinked word a xs → word (oldest_of xs) ≡ queue_head_link a
-first_leads word a [] linked = linked
-first_leads word a (x ∷ xs) linked = first_by word a x xs x.linked linked.0 linked.1 (λ l. first_leads word a xs l)
-
 leads_to : (word : ℕ → ℕ) (a : ℕ) (xs : List Endpoint) (e : ℕ) (x : Endpoint) → slice_get xs e ≡ Some x → x.linked ≡ true → AreLinked word a xs → word (oldest_of (drop (suc e) xs)) ≡ queue_head_link x.queue
 leads_to word a [] e x here on linked = absurd (cc)
 leads_to word a (y ∷ xs) zero x here on linked =
     let same : y ≡ x = cc in
     subst (λ (z : Endpoint). word (oldest_of xs) ≡ queue_head_link z.queue) same
-    (first_leads word y.queue xs (subst (λ (t : Bool). AreLinked word (cond t y.queue a) xs) (ap (λ (z : Endpoint). z.linked) same ∙ on) linked.1))
+    (oldest_leads word y.queue xs (subst (λ (t : Bool). AreLinked word (cond t y.queue a) xs) (ap (λ (z : Endpoint). z.linked) same ∙ on)
+    linked.1))
 leads_to word a (y ∷ xs) (suc e) x here on linked = leads_to word (step_to a y) xs e x here on linked.1
 
 -- ---- the premises
@@ -102,7 +95,7 @@ in_ring d m member e sound meets =
     let b = oldest_of (drop (suc e) d.endpoints) in
     ⊎_elim (λ (head : b ≡ head_block). subst (IsInRing d member) (sym head) (record { run = head_run_there d sound.owners; on = meets.head }))
     (λ (l : LeadsTo (drop (suc e) d.endpoints) b).
-    let here : slice_get d.endpoints (suc e + l.number) ≡ Some l.endpoint = sym (dropped d.endpoints (suc e) l.number) ∙ l.here in
+    let here : slice_get d.endpoints (suc e + l.number) ≡ Some l.endpoint = sym (get_drop d.endpoints (suc e) l.number) ∙ l.here in
     subst (IsInRing d member) l.queue (record {
       run = queue_run d (suc e + l.number) l.endpoint sound.owners here (in_ring_alive d (suc e + l.number) l.endpoint sound.owners.orderly here l.linked);
       on = meets.each (suc e + l.number) l.endpoint here l.linked;

@@ -1,5 +1,6 @@
 -- A refusal that becomes a line of the report leaves everything in place.
 use Rattle.std.proofs.Common.{ℕ, List, Option, Some}
+use Rattle.law_common.proofs.Lists.{all_more}
 use Rattle.usb_base.specs.declared.endpoints.EpName.{EpName}
 use Rattle.usb_base.specs.declared.reports.OfferError.{OfferError}
 use Rattle.word_mem.specs.Memory.{Mem}
@@ -15,7 +16,6 @@ use Rattle.claims_driver.specs.LentRuns.{AreLent}
 use Rattle.claims_driver.specs.FrameListMembers.{Framed}
 use Rattle.law_driver.specs.listed_members.Members.{IsStanding, IsQueueOf, IsWaitingOf, IsDescribing, AreLeaving, IsUnchaining, IsUnderWay, IsListed}
 use Rattle.law_driver.specs.listed_queues.Queues.{HasQueues}
-use Rattle.law_driver.proofs.lemmas.listed_members.Schedules.{all_more}
 use Rattle.law_driver.specs.ring_members.Words.{IsRing}
 use Rattle.claims_driver.specs.InPlace.{AreFixed}
 use Rattle.law_driver.specs.in_place.InPlace.{IsInPlace}

@@ -1,6 +1,7 @@
 -- Each step of an endpoint's leave.
 use Rattle.std.proofs.Common.{◌≡◌, ℕ, ◌*◌, true, List, Option, ap, refl, sym, subst, ◌∙◌, ⊎_elim, inl, inr}
 use Rattle.std.specs.List.{concat}
+use Rattle.law_queues.proofs.Common.{not_open}
 use Rattle.usb_base.specs.declared.endpoints.EpDesc.{EpDesc}
 use Rattle.qh_qtd.specs.declared.token.Token.{Token}
 use Rattle.drv_table.specs.declared.content.Transfer.{Transfer}
@@ -11,7 +12,7 @@ use Rattle.law_ring.specs.OutBus.{Taker}
 use Rattle.law_queues.specs.whole_sends.Laws.{IsStopped}
 use Rattle.law_driver_ring.specs.fed_queues.Places.{IsThere}
 use Rattle.law_queues.specs.leaving_drivers.Before.{IsAsBefore}
-use Rattle.law_queues.proofs.lemmas.leaving_drivers.Alike.{not_open, there_by, met_before}
+use Rattle.law_queues.proofs.lemmas.leaving_drivers.Alike.{there_by, met_before}
 use Rattle.law_world.proofs.lemmas.streams.lemmas.put_laws.HeldAlike.{same_holds}
 use Rattle.law_world.specs.streams.put_laws.Sent.{OutsWere}
 use Rattle.law_world.proofs.lemmas.streams.lemmas.put_laws.SentAlike.{fewer_are_sent}

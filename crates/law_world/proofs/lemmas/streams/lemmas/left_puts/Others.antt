@@ -3,6 +3,9 @@ use Rattle.std.proofs.Common.{◌≡◌, ◌≢◌, ℕ, suc, ◌==◌, ◌*◌,
 use Rattle.std.specs.Prelude.{◌⊎◌}
 use Rattle.std.proofs.lemmas.Bool.{true≢false, false≢true, eq-eqb, eqb-true}
 use Rattle.std.proofs.lemmas.Option.{same_Some, slice_get-map}
+use Rattle.law_driver.proofs.Common.{others_wait}
+use Rattle.law_world.proofs.Common.{kept_by}
+use Rattle.law_driver.proofs.Common.{let_go_same}
 use Rattle.word_mem.specs.Memory.{Mem}
 use Rattle.drv_table.specs.declared.content.Endpoint.{Endpoint}
 use Rattle.drv_table.specs.declared.content.QtdNote.{QtdNote}
@@ -15,7 +18,7 @@ use Rattle.drv_table.specs.Rows.{after_driver_row}
 use Rattle.law_driver.proofs.lemmas.endpoint_lives.Lives.{met_alike}
 use Rattle.claims_driver.specs.Owners.{runs_of_endpoint, views_of, IsQueueIn}
 use Rattle.claims_driver.specs.Leaving.{HasOwners}
-use Rattle.law_driver.proofs.lemmas.run_owners.Released.{other_number, cancel_same}
+use Rattle.law_driver.proofs.lemmas.run_owners.Released.{cancel_same}
 use Rattle.law_driver.specs.chained_transfers.AsynchronousTurns.{AsynchronousTakesTurns}
 use Rattle.law_driver.proofs.lemmas.chained_transfers.BulkAndControl.{not_iso}
 use Rattle.law_driver_ring.specs.fed_queues.Places.{IsThere, IsMet}
@@ -24,7 +27,7 @@ use Rattle.law_world.specs.steps.endpoint_releases.Released.{IsToLeave, endpoint
 use Rattle.law_world.proofs.lemmas.steps.lemmas.endpoint_releases.Releasing.{queues_differ}
 use Rattle.law_world.specs.streams.put_laws.TakenPuts.{puts_from}
 use Rattle.law_world.specs.streams.put_laws.Owed.{rest_from}
-use Rattle.law_world.proofs.lemmas.streams.lemmas.put_laws.Rests.{one_rest, one_none, waits_not}
+use Rattle.law_world.proofs.lemmas.streams.lemmas.put_laws.Rests.{one_rest, one_none}
 
 -- ---- one transfer
 
@@ -35,13 +38,6 @@ goes_owner : (b told : Bool) (y : Transfer) → (go_if b told y).endpoint ≡ y.
 unfolding go_if
 goes_owner true told y = refl
 goes_owner false told y = refl
-
-pub its_owner : (e : ℕ) (told : Bool) (y : Transfer) → (let_go e told y).endpoint ≡ y.endpoint
-unfolding go_if
-its_owner e told y = goes_owner (y.endpoint == e) told y
-
-pub not_its : (e : ℕ) (told : Bool) (y : Transfer) → y.endpoint ≢ e → let_go e told y ≡ y
-not_its e told y differs = ap (λ (b : Bool). if b then record y { reported = y.reported || told; released = true } else y) (other_number y.endpoint e differs)
 
 -- one that is still held was so, and is another endpoint's
 held_by : (e : ℕ) (told b : Bool) (y z : Transfer) → (y.endpoint == e) ≡ b → go_if b told y ≡ z → z.released ≡ false → (z.endpoint ≢ e) × (y ≡ z)
@@ -63,7 +59,7 @@ pub record HadOwner (xs : List Transfer) (t : ℕ) (z : Transfer) : Type 0 where
 
 owner_in : (xs : List Transfer) (e t : ℕ) (told : Bool) (o : Option Transfer) (z : Transfer) → slice_get xs t ≡ o → option_map (let_go e told) o ≡ Some z → HadOwner xs t z
 owner_in xs e t told None z here there = absurd cc
-owner_in xs e t told (Some y) z here there = record { transfer = y; there = here; owner = ap (λ (r : Transfer). r.endpoint) (sym (same_Some (let_go e told y) z there)) ∙ its_owner e told y }
+owner_in xs e t told (Some y) z here there = record { transfer = y; there = here; owner = ap (λ (r : Transfer). r.endpoint) (sym (same_Some (let_go e told y) z there)) ∙ let_go_same e told y }
 
 -- ---- all of them
 
@@ -71,7 +67,7 @@ pub puts_let_go : (puts : ℕ → List ℕ) (i e n : ℕ) (told : Bool) (ts : Li
 puts_let_go puts i e n told [] = refl
 puts_let_go puts i e n told (y ∷ ys) =
     let rest = puts_from puts i (suc n) (map (let_go e told) ys) in
-    ap (λ (o : ℕ). if o == i then puts n ∷ rest else rest) (its_owner e told y)
+    ap (λ (o : ℕ). if o == i then puts n ∷ rest else rest) (let_go_same e told y)
     ∙ ap (λ (r : List (List ℕ)). if y.endpoint == i then puts n ∷ r else r) (puts_let_go puts i e (suc n) told ys)
 
 one_let_go : (m : Mem) (notes : List QtdNote) (i e : ℕ) (told : Bool) (y : Transfer) → i ≢ e → one_rest m notes i (let_go e told y) ≡ one_rest m notes i y
@@ -80,8 +76,8 @@ one_let_go m notes i e told y apart = by (y.endpoint == e) refl
     by : (b : Bool) → (y.endpoint == e) ≡ b → one_rest m notes i (let_go e told y) ≡ one_rest m notes i y
     by true is =
         let differs : y.endpoint ≢ i = λ same. apart (sym same ∙ eqb-true y.endpoint e is) in
-        one_none m notes i (let_go e told y) (waits_not i (let_go e told y) (λ same. differs (sym (its_owner e told y) ∙ same))) ∙ sym (one_none m notes i y (waits_not i y differs))
-    by false is = ap (one_rest m notes i) (not_its e told y (λ same. false≢true (sym is ∙ eq-eqb y.endpoint e same)))
+        one_none m notes i (let_go e told y) (others_wait i (let_go e told y) (λ same. differs (sym (let_go_same e told y) ∙ same))) ∙ sym (one_none m notes i y (others_wait i y differs))
+    by false is = ap (one_rest m notes i) (kept_by e told y (λ same. false≢true (sym is ∙ eq-eqb y.endpoint e same)))
 
 pub rest_let_go : (m : Mem) (notes : List QtdNote) (i e : ℕ) (told : Bool) (ts : List Transfer) → i ≢ e → rest_from m notes i (map (let_go e told) ts) ≡ rest_from m notes i ts
 rest_let_go m notes i e told [] apart = refl
@@ -152,7 +148,7 @@ module _ (p : DriverParts) (e : ℕ) (x : Endpoint) (leave : IsToLeave p.driver 
   owner_back t z there = owner_in p.driver.transfers e t (is_told x) (slice_get p.driver.transfers t) z refl (sym (transfer_at t) ∙ there)
 
   pub other_on : (t : ℕ) (z : Transfer) → slice_get p.driver.transfers t ≡ Some z → z.endpoint ≢ e → slice_get (after_driver_row (endpoint_row e) p).driver.transfers t ≡ Some z
-  other_on t z there differs = transfer_at t ∙ (ap (option_map (let_go e (is_told x))) there ∙ ap Some (not_its e (is_told x) z differs))
+  other_on t z there differs = transfer_at t ∙ (ap (option_map (let_go e (is_told x))) there ∙ ap Some (kept_by e (is_told x) z differs))
 
   -- ---- what is there, and what is met
 

@@ -1,13 +1,13 @@
 -- An endpoint that has left the ring is given back.
 use Rattle.std.proofs.Common.{◌≡◌, ◌≢◌, ℕ, ◌*◌, ◌<◌, Bool, true, false, List, ◌++◌, map, slice_get, Option, Some, None, ap, sym, subst, ◌∙◌, ⊎_elim}
 use Rattle.std.specs.List.{concat}
+use Rattle.law_queues.proofs.Common.{none_published}
+use Rattle.law_driver.proofs.Common.{waits_is}
 use Rattle.claims_base.specs.Prefix.{IsPrefix}
 use Rattle.word_mem.specs.Memory.{Mem}
 use Rattle.mem_runs.specs.Book.{holding, Stands}
 use Rattle.async_walk.specs.Walk.{Walk}
 use Rattle.async_walk.specs.Rows.{place}
-use Rattle.drv_table.specs.declared.content.Command.{Command}
-use Rattle.drv_table.specs.declared.content.Command.TheVariants as unfinished
 use Rattle.drv_table.specs.declared.content.Endpoint.{Endpoint}
 use Rattle.drv_table.specs.declared.content.QtdNote.{QtdNote}
 use Rattle.drv_table.specs.declared.content.Sort.TheVariants as sorts
@@ -44,13 +44,10 @@ use Rattle.law_world.proofs.lemmas.streams.lemmas.put_laws.Stored.{IsStored, pie
 use Rattle.law_world.specs.streams.put_laws.TakenPuts.{puts_from, puts_of}
 use Rattle.law_world.specs.streams.put_laws.Owed.{rest_from, rest_of, Owes}
 use Rattle.law_world.proofs.lemmas.streams.lemmas.put_laws.Bytes.{held_left}
-use Rattle.law_world.proofs.lemmas.streams.lemmas.put_laws.Rests.{prefix_to, waits_is, rest_alike}
+use Rattle.law_world.proofs.lemmas.streams.lemmas.put_laws.Rests.{prefix_to, rest_alike}
 use Rattle.law_world.proofs.lemmas.streams.lemmas.put_laws.Same.{not_gone, kept, its_sort, its_bytes, idle_life}
 use Rattle.law_world.specs.streams.left_puts.Released.{EndpointReleaseHoldsPuts, EndpointReleaseOwes, EndpointReleaseSends, EndpointReleaseStops, EndpointReleaseKeepsTaken}
 use Rattle.law_world.proofs.lemmas.streams.lemmas.left_puts.Others.{puts_let_go, rest_let_go, command_same, notes_same, transfers_are, which_end, other_end, held_back, owner_back, other_on, there_before, met_before, queues_apart}
-
-no_publish : (b : ℕ) (words : List ℕ) → ◌≡◌ {A = Option Command} None (Some (unfinished.Publish b words)) → ⊥
-no_publish b words is = cc
 
 -- ---- the buffers of puts
 
@@ -68,7 +65,7 @@ module _ (base : Base) (member : ℕ → Bool) (parts : StructureSets) (hand : H
       let apart : n ≢ 32 * x.queue = queues_apart p e x leave owners turns z.endpoint y differs moves.here (held_alive p.driver u z y turns.turns there held moves.here) in
       either_way p.memory (after_driver_row (endpoint_row e) p).memory note
       (λ some.
-      let s : IsStored (parts n) note = pieces_stored p.driver parts u i z y (ap is_request put) fed there held moves.here (λ newest b words publish. absurd (no_publish b words (sym idle ∙ publish))) below some in
+      let s : IsStored (parts n) note = pieces_stored p.driver parts u i z y (ap is_request put) fed there held moves.here (λ newest b words publish. absurd (none_published b words (sym idle ∙ publish))) below some in
       buffer_stays p.memory (after_driver_row (endpoint_row e) p).memory parts (without_queue parts (32 * x.queue)) n note drives.ring.tells after.ring.tells s
       (ap (λ (part : Structures). part (buffer_name s.qtd)) (queue_beside parts (32 * x.queue) n apart) ∙ s.here))
 

@@ -1,5 +1,6 @@
 -- What is told of each queue where an endpoint leaves the ring.
-use Rattle.std.proofs.Common.{◌≡◌, ◌≢◌, ℕ, ◌*◌, ◌≤◌, true, List, slice_get, Option, Some, None, option_map, ap, sym, subst, ◌∙◌, refl}
+use Rattle.std.proofs.Common.{◌≡◌, ℕ, ◌*◌, ◌≤◌, true, List, slice_get, Option, Some, None, option_map, ap, sym, subst, ◌∙◌, refl}
+use Rattle.law_queues.proofs.Common.{not_open}
 use Rattle.usb_base.specs.declared.reports.Report.{Report}
 use Rattle.law_structures.specs.lent_structures.Structures.{StructureSets}
 use Rattle.law_ring.specs.Hand.{Hand}
@@ -7,8 +8,6 @@ use Rattle.claims_report.specs.Streams.{has_stream}
 use Rattle.drv_table.specs.declared.content.Endpoint.{Endpoint}
 use Rattle.drv_table.specs.declared.content.Transfer.{Transfer}
 use Rattle.drv_table.specs.declared.content.QtdNote.{QtdNote}
-use Rattle.drv_table.specs.declared.content.Command.{Command}
-use Rattle.drv_table.specs.declared.content.Command.TheVariants as unfinished
 use Rattle.drv_table.specs.DriverContent.{DriverContent}
 use Rattle.drv_table.specs.Harvests.{note_at}
 use Rattle.law_queues.specs.told_endpoints.Telling.{named_of, named_in, TellsEach}
@@ -17,12 +16,7 @@ use Rattle.law_driver_ring.specs.told_harvests.Held.{told_of}
 use Rattle.law_driver.specs.endpoint_lives.Lives.{told_end}
 use Rattle.law_queues.specs.harvest_laws.Holds.{IsUnderWay, IsToCome, HoldsEach}
 use Rattle.law_queues.specs.harvest_laws.Told.{ToldStands}
-use Rattle.law_queues.specs.leaving_drivers.Before.{WasSame, UnlinksAtMost, IsAsBefore}
-
-not_open : (o : Option Command) (q : ℕ) → UnlinksAtMost o → o ≢ Some (unfinished.Open q)
-not_open None q may is = cc
-not_open (Some (unfinished.Unlink e b link)) q may is = cc
-not_open _ q may is = may
+use Rattle.law_queues.specs.leaving_drivers.Before.{WasSame, IsAsBefore}
 
 same_stream : (x z : Endpoint) → x.desc ≡ z.desc → has_stream x.desc.kind ≡ true → has_stream z.desc.kind ≡ true
 same_stream x z same on = ap (λ d. has_stream d.kind) (sym same) ∙ on

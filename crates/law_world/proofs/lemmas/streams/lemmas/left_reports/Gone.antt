@@ -3,6 +3,9 @@ use Rattle.std.proofs.Common.{◌≡◌, ◌≢◌, ◌⊎◌, ℕ, ◌*◌, ◌
 use Rattle.std.proofs.lemmas.Bool.{cases_eq, false≢true}
 use Rattle.std.proofs.lemmas.Option.{same_Some}
 use Rattle.std.proofs.lemmas.List.{append-nil}
+use Rattle.law_common.proofs.Lists.{set_here, set_there}
+use Rattle.law_common.proofs.Numbers.{same_number, other_number}
+use Rattle.law_controller.proofs.Common.{same_hand, heads_stay, elements_stay}
 use Rattle.usb_base.specs.declared.endpoints.EndCause.{EndCause}
 use Rattle.usb_base.specs.declared.reports.Report.{Report}
 use Rattle.usb_base.specs.declared.reports.What.TheVariants as lines
@@ -23,7 +26,6 @@ use Rattle.law_driver.specs.endpoint_lives.Lives.{told_end}
 use Rattle.law_driver.proofs.lemmas.endpoint_lives.Lives.{untold_same, told_gone}
 use Rattle.claims_driver.specs.Owners.{runs_of_endpoint, views_of, IsQueueIn}
 use Rattle.claims_driver.specs.Leaving.{HasOwners}
-use Rattle.law_driver.proofs.lemmas.run_owners.Released.{set_here, set_there, same_number, other_number}
 use Rattle.law_driver.specs.chained_transfers.Asynchronous.{OnlyAsynchronous, StandsAsynchronous}
 use Rattle.law_driver.specs.chained_transfers.Turns.{AreInTurn}
 use Rattle.law_driver.specs.chained_transfers.Out.{out_now}
@@ -39,7 +41,6 @@ use Rattle.law_queues.specs.harvest_laws.Holds.{IsUnderWay, IsToCome, IsNextOf, 
 use Rattle.law_queues.proofs.lemmas.harvest_laws.RowRows.{grown_at, cleared_at}
 use Rattle.law_queues.proofs.lemmas.harvest_laws.RowHarvesting.{holds_still}
 use Rattle.law_controller.specs.controlled_streams.Reported.{IsReported}
-use Rattle.law_world.proofs.lemmas.steps.Joining.{same_hand, heads_stay, elements_stay}
 use Rattle.law_driver_ring.specs.fed_queues.Places.{IsThere}
 use Rattle.law_queues.specs.harvest_laws.Told.{ToldStands}
 use Rattle.law_queues.specs.leaving_drivers.Told.{told_to}

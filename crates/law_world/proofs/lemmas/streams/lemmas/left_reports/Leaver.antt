@@ -1,8 +1,9 @@
 -- What is known of an endpoint that is to be given back.
-use Rattle.std.proofs.Common.{◌≡◌, ℕ, zero, suc, ◌+◌, ◌*◌, ◌<◌, ◌==◌, ◌&&◌, not, nat_eq, Bool, true, false, if◌then◌else◌, List, [], ◌∷◌, drop, length, slice_get, Option, Some, None, option_map, ap, refl, sym, subst, ◌∙◌, arith}
+use Rattle.std.proofs.Common.{◌≡◌, ℕ, zero, suc, ◌+◌, ◌*◌, ◌<◌, ◌==◌, ◌&&◌, not, Bool, true, false, if◌then◌else◌, List, [], ◌∷◌, drop, slice_get, Some, None, option_map, ap, refl, sym, subst, ◌∙◌, arith}
 use Rattle.std.proofs.lemmas.Bool.{false≢true, eqb-true, and_parts}
 use Rattle.std.proofs.lemmas.Option.{same_Some}
-use Rattle.law_structures.specs.lent_structures.Structures.{Structures, StructureSets}
+use Rattle.law_queues.proofs.Common.{none_unpublished, all_read}
+use Rattle.law_structures.specs.lent_structures.Structures.{StructureSets}
 use Rattle.law_ring.specs.Hand.{Hand, Settled}
 use Rattle.law_ring.specs.Ring.{IsInHand}
 use Rattle.law_ring.specs.Order.{IsAmong}
@@ -13,8 +14,6 @@ use Rattle.usb_base.specs.declared.packets.Way.TheVariants as Ways
 use Rattle.claims_report.specs.Streams.{has_stream}
 use Rattle.drv_table.specs.declared.content.Endpoint.{Endpoint}
 use Rattle.drv_table.specs.declared.content.Transfer.{Transfer}
-use Rattle.drv_table.specs.declared.content.QtdNote.{QtdNote}
-use Rattle.drv_table.specs.declared.content.Command.{Command}
 use Rattle.drv_table.specs.DriverContent.{DriverContent}
 use Rattle.drv_table.specs.Harvests.{note_at}
 use Rattle.drv_table.specs.Parts.{Parts}
@@ -23,13 +22,13 @@ use Rattle.law_driver.specs.endpoint_lives.Lives.{told_end}
 use Rattle.claims_driver.specs.Owners.{NoteRuns, note_in}
 use Rattle.law_driver.specs.chained_transfers.Chains.{piece_at}
 use Rattle.law_driver.specs.chained_transfers.Turns.{Turn, turn_of, turn_in, AreReportedTo, AreInTurn}
-use Rattle.law_driver.specs.chained_transfers.Out.{unpublished, pieces_from, passed, out_of_transfer}
+use Rattle.law_driver.specs.chained_transfers.Out.{pieces_from, passed, out_of_transfer}
 use Rattle.claims_driver.specs.Scripts.{IsKindOf}
 use Rattle.law_driver.specs.chained_transfers.Bulk.{MovesAs, IsDataWay}
 use Rattle.law_driver.proofs.lemmas.chained_transfers.Holding.{stands_unreleased}
-use Rattle.law_driver_ring.specs.told_harvests.Held.{IsRead, AreRead}
+use Rattle.law_driver_ring.specs.told_harvests.Held.{IsRead}
 use Rattle.law_queues.specs.harvest_laws.Holds.{IsNextOf}
-use Rattle.law_driver_ring.specs.fed_queues.Fed.{IsPieceFed, unpublished_of}
+use Rattle.law_driver_ring.specs.fed_queues.Fed.{IsPieceFed}
 use Rattle.law_driver_ring.proofs.lemmas.fed_queues.Sized.{moves_told, told_fed}
 use Rattle.law_queues.specs.harvest_laws.Told.{ToldStands}
 use Rattle.law_queues.specs.cancelled_bytes.Cancelled.{SettlesElsewhere, CanBeTold}
@@ -49,17 +48,6 @@ next_waits d turns f u w z is =
     let n = subst (AreReportedTo (turn_in d.transfers) f) is.next (turns.turns.next f w is.endpoint is.going) in
     let same : n.transfer ≡ turn_of z = same_Some n.transfer (turn_of z) (sym n.here ∙ ap (option_map turn_of) is.transfer) in
     (ap (λ (r : Turn). r.endpoint) (sym same) ∙ n.endpoint, ap (λ (r : Turn). r.reported) (sym same) ∙ n.waits)
-
-all_read : (part : Structures) (notes : List QtdNote) (b n : ℕ) → ((i : ℕ) → i < n → IsRead part (note_at notes (piece_at (note_in notes) b i)) (piece_at (note_in notes) b i)) → AreRead part (note_at notes) b n
-all_read part notes b zero each = tt
-all_read part notes b (suc n) each = (each 0 (omega arith), all_read part notes (note_at notes b).next n (λ i below. each (suc i) (omega (arith, below))))
-
-none_unpublished : (d : DriverContent) (t : ℕ) (y : Transfer) → d.command ≡ None → unpublished_of d t y ≡ 0
-none_unpublished d t y idle = by_newest (nat_eq (suc t) (length d.transfers))
-  where
-    by_newest : (b : Bool) → (if b then unpublished d.command d.made y.qtds else 0) ≡ 0
-    by_newest true = ap (λ (c : Option Command). unpublished c d.made y.qtds) idle
-    by_newest false = refl
 
 none_listed : (ts : List ℕ) (t i : ℕ) → slice_get ts 0 ≡ None → slice_get ts i ≡ Some t → ⊥
 none_listed [] t zero none here = cc

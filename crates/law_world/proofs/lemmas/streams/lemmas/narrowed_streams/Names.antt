@@ -1,6 +1,7 @@
 -- The names of endpoints that aren't met any more.
 use Rattle.std.proofs.Common.{◌≡◌, ◌⊎◌, ℕ, ◌==◌, ◌&&◌, not, Bool, true, false, inl, inr, refl}
-use Rattle.std.proofs.lemmas.Bool.{false≢true, and_from, and_parts, and_right, eqb-true, eq-eqb, not_from_true, not_from_false}
+use Rattle.std.proofs.lemmas.Bool.{and_from, and_parts, and_right, eqb-true, eq-eqb, not_from_true, not_from_false}
+use Rattle.law_common.proofs.Booleans.{not_on}
 use Rattle.usb_base.specs.declared.packets.Way.{Way}
 use Rattle.drv_table.specs.declared.content.Endpoint.{Endpoint}
 use Rattle.drv_table.specs.DriverContent.{DriverContent}
@@ -10,13 +11,9 @@ use Rattle.law_driver.proofs.lemmas.endpoint_lives.Lives.{any_there, there_any}
 use Rattle.law_world.specs.steps.closed_streams.Left.{names_kept}
 use Rattle.law_world.specs.streams.narrowed_streams.Narrowed.{is_side, IsOnSide, left_names, HasLeft, LeftIsNamed, NamedHasLeft, KeptOrLeft, LeftIsShut}
 
-pub on_not : (b : Bool) → not b ≡ true → b ≡ false
-on_not true on = absurd (false≢true on)
-on_not false on = refl
-
 side_is : (way : Bool) (w : Way) → is_side way w ≡ true → IsOnSide way w
 side_is true w on = on
-side_is false w on = on_not (receives w) on
+side_is false w on = not_on (receives w) on
 
 is_on_side : (way : Bool) (w : Way) → IsOnSide way w → is_side way w ≡ true
 is_on_side true w is = is
@@ -39,7 +36,7 @@ module _ (d : DriverContent) (way : Bool) (addr ep : ℕ) where
         here = r.here;
         named = (eqb-true x.desc.name.addr addr name.0, eqb-true x.desc.name.num ep name.1);
         side = side_is way x.desc.name.way rest.0;
-        unmet = on_not (may_meet d r.number x) rest.1;
+        unmet = not_on (may_meet d r.number x) rest.1;
       }
 
   pub named_left : HasLeft d way addr ep → left_names d way addr ep ≡ true

@@ -2,6 +2,7 @@
 use Rattle.std.proofs.Common.{◌≡◌, ◌≢◌, ℕ, ◌*◌, ◌||◌, ◌&&◌, Bool, true, false, List, slice_get, Some, ap, sym, ◌∙◌, ⊎_elim, refl, arith}
 use Rattle.std.proofs.lemmas.Bool.{false≢true, cases_eq, and_parts, false_from_ne_true}
 use Rattle.std.proofs.lemmas.Option.{same_Some}
+use Rattle.law_driver.proofs.Common.{in_way, out_way}
 use Rattle.usb_base.specs.declared.packets.EpKind.{EpKind}
 use Rattle.usb_base.specs.declared.packets.Way.{Way}
 use Rattle.usb_base.specs.declared.packets.Way.TheVariants as ways
@@ -14,7 +15,6 @@ use Rattle.law_ring.specs.Told.{Endpoint as Told, endpoint_of}
 use Rattle.claims_driver.specs.Scripts.{receives, comes_in, IsKindOf}
 use Rattle.law_driver.specs.chained_transfers.Asynchronous.{OnlyAsynchronous}
 use Rattle.law_driver.proofs.lemmas.chained_transfers.BulkAndControl.{not_iso}
-use Rattle.law_driver.proofs.lemmas.chained_transfers.Ways.{way_comes_in, way_sends}
 use Rattle.law_driver.specs.endpoint_lives.Lives.{may_meet}
 use Rattle.law_driver_ring.specs.fed_queues.Places.{IsMet, HasHead, HaveStreams}
 use Rattle.law_queues.specs.open_laws.Opens.{AreNamesApart}
@@ -58,8 +58,8 @@ are_narrowed d f narrow only owners ends none met = record { ends = ends; met = 
 -- ---- which have left
 
 pub same_way : (way : Bool) (v w : Way) → IsOnSide way v → IsOnSide way w → v ≡ w
-same_way true v w one two = way_comes_in v one ∙ sym (way_comes_in w two)
-same_way false v w one two = way_sends v one ∙ sym (way_sends w two)
+same_way true v w one two = in_way v one ∙ sym (in_way w two)
+same_way false v w one two = out_way v one ∙ sym (out_way w two)
 
 module _ (d f : DriverContent) (narrow : ℕ → Bool) (only : OnlyAsynchronous d) (apart : AreNamesApart d) (to : NarrowsTo d f narrow) where
   module _ (e : ℕ) (x : Endpoint) (here : slice_get d.endpoints e ≡ Some x) (met : IsMet d e x) (way : Bool) (side : IsOnSide way x.desc.name.way) where

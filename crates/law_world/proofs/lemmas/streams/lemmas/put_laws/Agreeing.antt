@@ -7,15 +7,16 @@ use Rattle.std.proofs.lemmas.Option.{same_Some, slice_get_within}
 use Rattle.std.proofs.lemmas.List.{append-nil}
 use Rattle.std.proofs.lemmas.List.Elements.{filter_map-append}
 use Rattle.std.proofs.lemmas.List.Folds.{concat-append}
+use Rattle.law_world.proofs.Common.{name_differs}
+use Rattle.law_common.proofs.Lists.{push_which, still_there, pushed_last, all_both, all_more, each_here, nth_all}
 use Rattle.usb_base.specs.declared.commands.Cmd.{Cmd}
 use Rattle.usb_base.specs.declared.commands.Cmd.TheVariants as commands
 use Rattle.usb_base.specs.declared.endpoints.EpName.{EpName}
 use Rattle.usb_base.specs.declared.endpoints.EpDesc.{EpDesc}
 use Rattle.bus_wire.specs.Fates.{is_same_name}
 use Rattle.claims_report.specs.Streams.{open_in, put_in, has_stream}
-use Rattle.law_queues.proofs.lemmas.told_endpoints.Names.{same_name_is, name_is_same}
+use Rattle.law_queues.proofs.lemmas.told_endpoints.Names.{name_is_same}
 use Rattle.claims_driver.specs.Scripts.{receives}
-use Rattle.law_world.proofs.lemmas.streams.lemmas.put_laws.Mapped.{push_which, push_there, push_last, all_join, all_more, all_here, all_there}
 use Rattle.law_world.proofs.lemmas.streams.lemmas.put_laws.Sums.{puts_in, puts_join, puts_alike, puts_none, puts_one}
 use Rattle.law_world.proofs.lemmas.streams.lemmas.put_laws.TakenAccepted.{IsNoSender}
 
@@ -58,17 +59,17 @@ pub agrees_open : (descs : List EpDesc) (owners : List ℕ) (cmds : List Cmd) (p
 agrees_open descs owners cmds puts x new old = record {
   each = λ e z here on out. each_by e z on out (push_which descs x e z here);
   others = λ name none.
-      sent_same cmds (commands.OpenEp x) name refl ∙ old.others name (λ e z here. none e z (push_there descs (x ∷ []) e z here));
+      sent_same cmds (commands.OpenEp x) name refl ∙ old.others name (λ e z here. none e z (still_there descs (x ∷ []) e z here));
   opened = subst (AllByRecursion (IsAmong (descs ++ x ∷ []))) (sym (filter_map-append open_in cmds (commands.OpenEp x ∷ [])))
-      (all_join (IsAmong (descs ++ x ∷ [])) (filter_map open_in cmds) (x ∷ [])
-      (all_more (IsAmong descs) (IsAmong (descs ++ x ∷ [])) (filter_map open_in cmds) (λ z k. record { number = k.number; here = push_there descs (x ∷ []) k.number z k.here }) old.opened)
-      (record { number = length descs; here = push_last descs x }, tt));
+      (all_both (IsAmong (descs ++ x ∷ [])) (filter_map open_in cmds) (x ∷ [])
+      (all_more (IsAmong descs) (IsAmong (descs ++ x ∷ [])) (filter_map open_in cmds) (λ z k. record { number = k.number; here = still_there descs (x ∷ []) k.number z k.here }) old.opened)
+      (record { number = length descs; here = pushed_last descs x }, tt));
   apart = λ e k y z here there same. apart_by e k y z same (push_which descs x e y here) (push_which descs x k z there);
   within = λ t e here. let low = old.within t e here in let long = length-append descs (x ∷ []) in omega (arith, low, long);
 }
   where
     none_yet : puts_in puts (length descs) 0 owners ≡ []
-    none_yet = puts_none puts (length descs) 0 owners (all_here (λ o. o ≢ length descs) owners (λ t o here same. let low = old.within t o here in absurd (omega (arith, low, same))))
+    none_yet = puts_none puts (length descs) 0 owners (each_here (λ o. o ≢ length descs) owners (λ t o here same. let low = old.within t o here in absurd (omega (arith, low, same))))
 
     each_by : (e : ℕ) (z : EpDesc) → has_stream z.kind ≡ true → receives z.name.way ≡ false → (slice_get descs e ≡ Some z) ⊎ ((e ≡ length descs) × (z ≡ x))
         → concat (puts_in puts e 0 owners) ≡ sent_to (cmds ++ commands.OpenEp x ∷ []) z.name
@@ -89,10 +90,6 @@ agrees_open descs owners cmds puts x new old = record {
 
 -- ---- a put more
 
-name_differs : (a b : EpName) (t : Bool) → is_same_name a b ≡ t → a ≢ b → t ≡ false
-name_differs a b true is differs = absurd (differs (same_name_is a b is))
-name_differs a b false is differs = refl
-
 no_put_to : (to name : EpName) (bytes : List ℕ) (by : ℕ) → to ≢ name → put_in name (commands.Put to bytes by) ≡ None
 no_put_to to name bytes by differs = ap (λ (b : Bool). if b then Some bytes else None) (name_differs to name (is_same_name to name) refl differs)
 
@@ -104,7 +101,7 @@ kept_puts : (puts now : ℕ → List ℕ) (e : ℕ) (owners : List ℕ) → ((t 
 kept_puts puts now e owners same = puts_alike puts now e 0 owners (λ t low high. same t (omega (arith, high)))
 
 owners_within : (owners more : List ℕ) (n : ℕ) → ((t e : ℕ) → slice_get owners t ≡ Some e → e < n) → AllByRecursion (λ e. e < n) more → (t e : ℕ) → slice_get (owners ++ more) t ≡ Some e → e < n
-owners_within [] more n low all t e here = all_there (λ k. k < n) more t e all here
+owners_within [] more n low all t e here = nth_all (λ k. k < n) more t e all here
 owners_within (o ∷ os) more n low all zero e here = low zero e here
 owners_within (o ∷ os) more n low all (suc t) e here = owners_within os more n (λ u k there. low (suc u) k there) all t e here
 

@@ -4,6 +4,7 @@ use Rattle.std.specs.Prelude.{◌⊎◌}
 use Rattle.std.specs.List.{AllByRecursion}
 use Rattle.std.proofs.lemmas.Bool.{cases_eq}
 use Rattle.std.proofs.lemmas.Option.{same_Some}
+use Rattle.law_driver.proofs.Common.{out_way}
 use Rattle.usb_base.specs.declared.packets.Ask.{Ask}
 use Rattle.usb_base.specs.declared.packets.Reply.{Reply}
 use Rattle.usb_base.specs.declared.packets.Way.{Way}
@@ -27,7 +28,7 @@ use Rattle.claims_driver.specs.Scripts.{receives}
 use Rattle.law_driver.specs.chained_transfers.Bulk.{sort_by, MovesAs}
 use Rattle.law_driver.specs.chained_transfers.Chains.{piece_at}
 use Rattle.law_driver.specs.chained_transfers.AsynchronousTurns.{AsynchronousTakesTurns}
-use Rattle.law_driver.proofs.lemmas.chained_transfers.Ways.{IsBy, its_told, all_of_all, way_sends}
+use Rattle.law_driver.proofs.lemmas.chained_transfers.Ways.{IsBy, its_told, all_of_all}
 use Rattle.law_driver.proofs.lemmas.chained_transfers.BulkAndControl.{not_iso}
 use Rattle.law_driver.proofs.lemmas.chained_transfers.Holding.{held_alive}
 use Rattle.law_structures.specs.lent_structures.Structures.{StructureSets}
@@ -96,7 +97,7 @@ pub waiting_held : (d : DriverContent) (m new : Mem) (t : ℕ) (y : Transfer) (b
     → ((at : ℕ) → reaches m at ≡ false → word_at new at ≡ word_at m at) → held_bytes new d.notes y.first y.qtds ≡ held_bytes m d.notes y.first y.qtds
 waiting_held d m new t y b words k number there put stands same =
     let is : y ≡ k.transfer = same_Some y k.transfer (sym there ∙ ap (slice_get d.transfers) number ∙ k.there) in
-    let out : k.endpoint.desc.name.way ≡ ways.Out = way_sends k.endpoint.desc.name.way (put_sends k.endpoint.desc.name.way (sym k.sort ∙ ap (λ (r : Transfer). r.sort) (sym is) ∙ put)) in
+    let out : k.endpoint.desc.name.way ≡ ways.Out = out_way k.endpoint.desc.name.way (put_sends k.endpoint.desc.name.way (sym k.sort ∙ ap (λ (r : Transfer). r.sort) (sym is) ∙ put)) in
     let stages : AllByRecursion (IsBy ways.Out) (k.stage ∷ k.further) = subst (λ (way : Way). AreStagesBy way (k.stage ∷ k.further)) out k.stages in
     let whole : AllByRecursion (λ (r : Stage). r.told ≡ r.long) (k.stage ∷ k.further) = all_of_all (IsBy ways.Out) (λ (r : Stage). r.told ≡ r.long) (k.stage ∷ k.further) (its_told ways.Out) stages in
     let stays : held_bytes new d.notes k.transfer.first (suc (length k.further)) ≡ held_bytes m d.notes k.transfer.first (suc (length k.further)) =

@@ -1,9 +1,13 @@
 -- The bytes that the transfers of an OUT endpoint hold stand in the buffers of their qTDs.
-use Rattle.std.proofs.Common.{◌≡◌, ◌≢◌, ℕ, zero, suc, ◌+◌, ◌-◌, ◌*◌, ◌<◌, ◌≤◌, ◌==◌, ◌&&◌, not, nat_eq, cond, Bool, true, false, List, [], ◌∷◌, ◌++◌, length, take, drop, slice_get, Option, Some, None, ap, refl, sym, subst, ◌∙◌, ⊎_elim, arith}
+use Rattle.std.proofs.Common.{◌≡◌, ◌≢◌, ℕ, zero, suc, ◌+◌, ◌-◌, ◌*◌, ◌<◌, ◌≤◌, ◌&&◌, not, nat_eq, cond, Bool, true, false, List, [], ◌∷◌, ◌++◌, length, take, drop, slice_get, Option, Some, None, ap, refl, sym, subst, ◌∙◌, ⊎_elim, arith}
 use Rattle.std.proofs.lemmas.Bool.{cases_eq, cases_lt, eq-eqb}
 use Rattle.std.proofs.lemmas.Bool.Decides.{nat_tests}
 use Rattle.std.proofs.lemmas.List.{append_assoc, append-nil, length-drop, length-take-le}
 use Rattle.std.proofs.lemmas.Option.{same_Some, slice_get_within}
+use Rattle.law_driver.proofs.Common.{others_wait}
+use Rattle.law_world.proofs.Common.{one_out}
+use Rattle.law_queues.proofs.Common.{drop_all, not_its_out, piece_more}
+use Rattle.law_common.proofs.Lists.{still_there}
 use Rattle.word_mem.specs.Memory.{Mem}
 use Rattle.drv_table.specs.declared.content.Command.{Command}
 use Rattle.drv_table.specs.declared.content.Command.TheVariants as unfinished
@@ -25,14 +29,13 @@ use Rattle.law_ring.specs.Effects.{bytes_in, buffer_of}
 use Rattle.law_queues.specs.whole_sends.Whole.{bytes_of_element, buffer_at, buffers_of}
 use Rattle.law_driver_ring.specs.fed_queues.Fed.{is_request, IsPieceFed, unpublished_of, IsPublished, AreFed}
 use Rattle.law_driver_ring.proofs.lemmas.fed_queues.Sized.{told_fed}
-use Rattle.law_queues.proofs.lemmas.fed_lends.Outs.{last_apart, out_apart, drop_all, its_out, not_its_out, piece_add}
+use Rattle.law_queues.proofs.lemmas.fed_lends.Outs.{last_apart, out_apart, its_out}
 use Rattle.law_world.specs.streams.put_laws.Held.{held_bytes}
 use Rattle.law_world.proofs.lemmas.streams.lemmas.put_laws.Stored.{fed_stored, stored_bytes}
-use Rattle.law_world.proofs.lemmas.streams.lemmas.put_laws.Mapped.{push_there}
 use Rattle.law_world.specs.streams.put_laws.Owed.{rest_from, rest_of, AreReadToEnd}
 use Rattle.law_world.specs.streams.put_laws.Buffers.{IsPublishingTo, BuffersAreRest, BuffersBeforeLend, IsRestAround, BuffersAround}
 use Rattle.law_world.proofs.lemmas.streams.lemmas.put_laws.Bytes.{no_bytes, held_first}
-use Rattle.law_world.proofs.lemmas.streams.lemmas.put_laws.Rests.{waits_on, waits_not, reported_not, one_rest, one_waits, one_none, rest_join}
+use Rattle.law_world.proofs.lemmas.streams.lemmas.put_laws.Rests.{waits_on, reported_not, one_rest, one_waits, one_none, rest_join}
 use Rattle.law_world.proofs.lemmas.streams.lemmas.put_laws.Same.{not_gone, kept, its_sort}
 
 -- ---- one qTD
@@ -79,15 +82,6 @@ own_out : (note : ℕ → NoteRuns) (e first : ℕ) (y : Transfer) → y.endpoin
 own_out note e first y at stays =
     let all = drop (first + passed y.reported) (pieces_from note y.place y.left) in
     ap (λ (t : Bool). cond (t && not y.released) all []) (eq-eqb y.endpoint e at) ∙ ap (λ (t : Bool). cond (not t) all []) stays
-
-gone_out : (note : ℕ → NoteRuns) (e first : ℕ) (y : Transfer) → y.released ≡ true → out_of_transfer note e first y ≡ []
-gone_out note e first y gone =
-    let all = drop (first + passed y.reported) (pieces_from note y.place y.left) in
-    ap (λ (t : Bool). cond ((y.endpoint == e) && not t) all []) gone ∙ by (y.endpoint == e) all
-  where
-    by : (t : Bool) (all : List ℕ) → cond (t && not true) all [] ≡ []
-    by true all = refl
-    by false all = refl
 
 -- ---- the newest transfer
 
@@ -140,7 +134,7 @@ module _ (d : DriverContent) (m : Mem) (parts : StructureSets) (e : ℕ) (x : En
       let c = piece_at (note_in d.notes) y.first (from + i) in
       let reached : unpublished_of d t y ≤ from + i = omega (arith, late) in
       let inside : from + i < y.qtds = omega (arith, few, below) in
-      subst (λ (a : ℕ). buffer_bytes m (note_at d.notes a) (note_at d.notes a).told ≡ buffer_at (parts (32 * x.queue)) (32 * a)) (sym (piece_add (note_in d.notes) y.first from i))
+      subst (λ (a : ℕ). buffer_bytes m (note_at d.notes a) (note_at d.notes a).told ≡ buffer_at (parts (32 * x.queue)) (32 * a)) (sym (piece_more (note_in d.notes) y.first from i))
       (piece_bytes m parts (32 * x.queue) (note_at d.notes c) y.sort c (piece_at (note_in d.notes) y.first y.qtds) tells (told_fed y.sort (parts (32 * x.queue)) (from + i) (note_at d.notes c) c (piece_at (note_in d.notes) y.first y.qtds) (ap is_request (its_sort d e t x y turns here sends there own)) (fed.pieces t (from + i) y x there stays (its_end y own) reached inside)))
 
   -- a transfer that waits, and one that was reported
@@ -161,7 +155,7 @@ module _ (d : DriverContent) (m : Mem) (parts : StructureSets) (e : ℕ) (x : En
   reported_out t y there own told = by y.released refl
     where
       by : (b : Bool) → y.released ≡ b → out_of_transfer (note_in d.notes) e 0 y ≡ []
-      by true gone = gone_out (note_in d.notes) e 0 y gone
+      by true gone = one_out (note_in d.notes) e 0 y gone
       by false stays =
           own_out (note_in d.notes) e 0 y own stays ∙ ap (λ (r : Bool). drop (0 + passed r) (pieces_from (note_in d.notes) y.place y.left)) told
           ∙ ap (λ (n : ℕ). drop 1 (pieces_from (note_in d.notes) y.place n)) (read t y x there (its_end y own) sends goes told stays)
@@ -179,7 +173,7 @@ module _ (d : DriverContent) (m : Mem) (parts : StructureSets) (e : ℕ) (x : En
   one_is t y first there all =
       ⊎_elim
       (λ (own : y.endpoint ≡ e). own_is t y there own (all own).0 ∙ ap (λ (n : ℕ). buffers_of (parts (32 * x.queue)) (out_of_transfer (note_in d.notes) e n y)) (sym (all own).1))
-      (λ (differs : y.endpoint ≢ e). one_none m d.notes e y (waits_not e y differs) ∙ ap (buffers_of (parts (32 * x.queue))) (sym (not_its_out (note_in d.notes) e first y differs)))
+      (λ (differs : y.endpoint ≢ e). one_none m d.notes e y (others_wait e y differs) ∙ ap (buffers_of (parts (32 * x.queue))) (sym (not_its_out (note_in d.notes) e first y differs)))
       (cases_eq y.endpoint e)
 
   lists_are : (c : Option Command) (made : ℕ) (ts : List Transfer)
@@ -225,7 +219,7 @@ module _ (d : DriverContent) (m : Mem) (parts : StructureSets) (e : ℕ) (x : En
         (λ i y there.
         let less = older_early i y there in
         let newest = k.newest in
-        one_is i y (if_last (drop (suc i) older) 0) (ap (λ (ts : List Transfer). slice_get ts i) apart ∙ push_there older (k.transfer ∷ []) i y there)
+        one_is i y (if_last (drop (suc i) older) 0) (ap (λ (ts : List Transfer). slice_get ts i) apart ∙ still_there older (k.transfer ∷ []) i y there)
         (λ own. (early d i y (λ last. absurd (omega (arith, less, newest, last))), if_last_none (drop (suc i) older) 0 (λ none. refl))))
 
     rest_apart : rest_of d m e ≡ buffers_of (parts (32 * x.queue)) (out_of (note_in d.notes) e None 0 older) ++ one_rest m d.notes e k.transfer

@@ -1,6 +1,7 @@
 -- The buffers that the driver takes for a qTD (EHCI 1.0, 3.5.4): each word of theirs is its own, and no other qTD's.
 use Rattle.std.proofs.Common.{◌≡◌, ◌≢◌, ℕ, zero, suc, ◌+◌, ◌*◌, ◌/◌, ◌%◌, ◌<◌, ◌≤◌, true, List, [], ◌∷◌, length, take, replicate, get_or, ap, refl, sym, subst, ◌∙◌, ⊎_elim, arith}
 use Rattle.std.proofs.lemmas.Bool.Decides.{nat_tests}
+use Rattle.law_common.proofs.Numbers.{same_numbers}
 use Rattle.word_mem.specs.Runs.{Run, IsInRun}
 use Rattle.word_mem.specs.Memory.{IsShaped}
 use Rattle.word_mem.specs.declared.blocks.BlockState.TheVariants.{Kept}
@@ -28,11 +29,6 @@ many_runs : (p : ℕ) → length (replicate {A = ℕ} p 128) ≡ p
 many_runs zero = refl
 many_runs (suc p) = ap suc (many_runs p)
 
-all_whole : (p j : ℕ) → j < p → get_or (replicate {A = ℕ} p 128) j 0 ≡ 128
-all_whole zero j below = absurd (omega (arith, below))
-all_whole (suc p) zero below = refl
-all_whole (suc p) (suc j) below = all_whole p j (omega (arith, below))
-
 -- counted from the start of the first page, a byte has the number of its run
 same_page : (h : Holding) (note : QtdNote) (s : Stage) (j : ℕ) → Stands h → IsStageNoted (slot_of h.book.slots) note s → j < s.long
     → (32 * (get_or note.buffer 0 0 % 128) + j) / 4096 ≡ j / 4096
@@ -55,7 +51,7 @@ same_page h note s j stands noted inside =
     let first = (keeps_at h (get_or cs 0 0) at.run.run stands at.run.is).0 in
     let blocks = at.run.blocks in
     let page = at.run.one_page in
-    let whole = all_whole (pieces s.long 4096) 0 (omega (arith, inside)) in
+    let whole = same_numbers (pieces s.long 4096) 0 (omega (arith, inside)) in
     let b = take_same note.runs note.buffer 0 at.below in
     let from_start : 32 * (get_or note.buffer 0 0 % 128) + j ≡ j = omega (arith, first, blocks, page, whole, b) in
     ap (λ (i : ℕ). i / 4096) from_start)

@@ -1,5 +1,5 @@
 -- The bytes that a put holds from its place on are those of its put behind those of the qTDs before.
-use Rattle.std.proofs.Common.{◌≡◌, ℕ, zero, suc, ◌+◌, ◌-◌, ◌<◌, ◌≤◌, Bool, true, false, nat_le, List, [], ◌++◌, length, take, drop, if◌then◌else◌, ap, refl, sym, ◌∙◌, arith}
+use Rattle.std.proofs.Common.{◌≡◌, ℕ, zero, suc, ◌+◌, ◌-◌, ◌<◌, ◌≤◌, List, [], ◌++◌, length, take, drop, ap, refl, sym, ◌∙◌, arith}
 use Rattle.std.proofs.lemmas.List.{append_assoc, take-append-drop, length-append, length-take, ext_get_or, places}
 use Rattle.std.proofs.lemmas.List.FromFn.{get_or-map-range_with_len, length-map-range_with_len}
 use Rattle.std.proofs.Math.Seq.{drop-append_seam}
@@ -9,7 +9,7 @@ use Rattle.word_mem.specs.Memory.{Mem}
 use Rattle.word_mem.specs.Views.{byte_at}
 use Rattle.drv_table.specs.declared.content.QtdNote.{QtdNote}
 use Rattle.drv_table.specs.declared.content.Transfer.{Transfer}
-use Rattle.drv_table.specs.Harvests.{note_at, moved_of, buffer_address, buffer_bytes}
+use Rattle.drv_table.specs.Harvests.{note_at, buffer_address, buffer_bytes}
 use Rattle.claims_driver.specs.Owners.{note_in}
 use Rattle.law_driver.specs.chained_transfers.Chains.{piece_at}
 use Rattle.law_driver.specs.chained_transfers.Turns.{IsAtPlace}
@@ -47,13 +47,6 @@ begins_buffer m note n k few =
 pub no_bytes : (m : Mem) (note : QtdNote) → buffer_bytes m note 0 ≡ []
 unfolding buffer_bytes
 no_bytes m note = refl
-
-pub moved_few : (told left : ℕ) → moved_of told left ≤ told
-moved_few told left = by (nat_le left told)
-  where
-    by : (b : Bool) → (if b then told - left else 0) ≤ told
-    by true = omega arith
-    by false = omega arith
 
 -- ---- the buffers of a put
 

@@ -1,9 +1,10 @@
 -- The bytes of a put are those of its command.
-use Rattle.std.proofs.Common.{◌≡◌, ℕ, ◌<◌, ◌≤◌, Bool, true, false, ◌&&◌, cond, nat_lt, List, [], length, slice_get, Option, Some, None, Result, Ok, Err, unwrap_or, ap, refl, sym, subst, ◌∙◌, arith}
+use Rattle.std.proofs.Common.{◌≡◌, ℕ, ◌<◌, ◌≤◌, Bool, true, false, cond, nat_lt, List, [], length, slice_get, Option, Some, None, Result, Ok, Err, unwrap_or, ap, refl, sym, subst, ◌∙◌, arith}
 use Rattle.std.specs.Prelude.{option_and_then, is_some}
 use Rattle.std.specs.List.{AllByRecursion}
-use Rattle.std.proofs.lemmas.Bool.{false≢true}
 use Rattle.std.proofs.lemmas.Bool.Decides.{nat_tests}
+use Rattle.law_driver.proofs.Common.{ok_is}
+use Rattle.law_common.proofs.Booleans.{and_right}
 use Rattle.usb_base.specs.declared.endpoints.EndCause.{EndCause}
 use Rattle.usb_base.specs.declared.commands.Cmd.{Cmd}
 use Rattle.usb_base.specs.declared.commands.Cmd.TheVariants as commands
@@ -40,13 +41,6 @@ use Rattle.law_world.specs.streams.put_laws.HeldPuts.{HoldsPuts, with_put, puts_
 use Rattle.law_world.specs.streams.put_laws.HeldLaws.{CommandHoldsPuts}
 use Rattle.law_world.proofs.lemmas.streams.lemmas.put_laws.HeldAccepted.{open_holds_puts, get_holds_puts, put_holds_puts}
 use Rattle.law_world.proofs.lemmas.streams.lemmas.put_laws.HeldAlike.{same_holds}
-
-ok_is : (o p : Offered) → ◌≡◌ {A = Result Offered OfferError} (Ok o) (Ok p) → p ≡ o
-ok_is o p e = cc
-
-and_right : (b c : Bool) → (b && c) ≡ true → c ≡ true
-and_right true c is = is
-and_right false c is = absurd (false≢true is)
 
 -- a get or put of an endpoint of this way, in qTDs of so many bytes
 record IsAskedAs (d : DriverContent) (m : Mem) (o : Offered) (way : Way) (by : ℕ) (bytes : List ℕ) : Type 0 where

@@ -5,6 +5,11 @@ use Rattle.std.specs.List.{concat}
 use Rattle.std.proofs.lemmas.Bool.{false≢true, eq-eqb, eqb-true}
 use Rattle.std.proofs.lemmas.List.{append_assoc, append-nil}
 use Rattle.std.proofs.lemmas.Option.{slice_get_within}
+use Rattle.law_driver.proofs.Common.{others_wait}
+use Rattle.law_queues.proofs.Common.{none_open, last_one}
+use Rattle.law_world.proofs.Common.{no_open as publish_open, same_queue}
+use Rattle.law_common.proofs.Lists.{drop_first, push_which, still_there as push_there, pushed_last}
+use Rattle.law_driver.proofs.Common.{waits_is}
 use Rattle.usb_base.specs.declared.commands.Cmd.{Cmd}
 use Rattle.usb_base.specs.declared.commands.Cmd.TheVariants as commands
 use Rattle.usb_base.specs.declared.endpoints.EndCause.{EndCause}
@@ -29,7 +34,7 @@ use Rattle.law_driver.proofs.lemmas.endpoint_lives.Lives.{told_uncancelled}
 use Rattle.law_driver.specs.run_owners.Accepts.{Opens, Transfers, Cancels}
 use Rattle.claims_driver.specs.Leaving.{HasOwners}
 use Rattle.claims_driver.specs.Owners.{Element, QueueHead, IsPlaced, runs_of_endpoint, runs_of_transfer, note_in}
-use Rattle.law_driver.proofs.lemmas.run_owners.Accepted.{drop_first, fresh_differs}
+use Rattle.law_driver.proofs.lemmas.run_owners.Accepted.{fresh_differs}
 use Rattle.law_driver.proofs.lemmas.run_owners.Chains.{notes_apart}
 use Rattle.law_driver.proofs.lemmas.run_owners.Runs.{placed_run}
 use Rattle.law_driver.proofs.lemmas.run_owners.Taking.{runs_taken}
@@ -46,23 +51,16 @@ use Rattle.law_driver.proofs.lemmas.chained_transfers.BulkAndControl.{not_iso}
 use Rattle.law_driver.proofs.lemmas.chained_transfers.Queued.{not_dummy}
 use Rattle.law_driver.proofs.lemmas.chained_transfers.Ways.{sends_sort}
 use Rattle.law_driver_ring.specs.fed_queues.Places.{IsThere}
-use Rattle.law_queues.proofs.lemmas.fed_lends.Asked.{push_which, set_which, piece_placed}
+use Rattle.law_queues.proofs.lemmas.fed_lends.Asked.{set_which, piece_placed}
 use Rattle.law_world.specs.streams.put_laws.Held.{held_bytes}
 use Rattle.law_world.specs.streams.put_laws.HeldPuts.{HoldsPuts, piece_of}
 use Rattle.law_world.proofs.lemmas.streams.lemmas.put_laws.HeldAlike.{SameNote, note_is}
 use Rattle.law_world.specs.streams.put_laws.TakenPuts.{puts_from, puts_of}
-use Rattle.law_world.proofs.lemmas.streams.lemmas.put_laws.Mapped.{push_there, push_last}
 use Rattle.law_world.specs.streams.put_laws.Owed.{rest_from, rest_of, Owes}
 use Rattle.law_world.specs.streams.put_laws.OwedLaws.{KeepsPuts, OpenOwes, AskedOwes, CommandOwes}
 use Rattle.law_world.proofs.lemmas.streams.lemmas.put_laws.Bytes.{held_left, told_same, pieces_same}
-use Rattle.law_world.proofs.lemmas.streams.lemmas.put_laws.Rests.{prefix_to, prefix_of, prefix_more, waits_is, waits_on, waits_not, one_rest, one_waits, one_none, rest_alike, rest_join, puts_kept, puts_push}
-use Rattle.law_world.proofs.lemmas.streams.lemmas.put_laws.Same.{not_gone, kept, its_sort, its_bytes, same_open, idle_there, WereEnds, same_owes}
-
-none_open : (q : ℕ) → ◌≡◌ {A = Option Command} None (Some (unfinished.Open q)) → ⊥
-none_open q is = cc
-
-publish_open : (b q : ℕ) (words : List ℕ) → ◌≡◌ {A = Option Command} (Some (unfinished.Publish b words)) (Some (unfinished.Open q)) → ⊥
-publish_open b q words is = cc
+use Rattle.law_world.proofs.lemmas.streams.lemmas.put_laws.Rests.{prefix_to, prefix_of, waits_on, one_rest, one_waits, one_none, rest_alike, rest_join, puts_kept, puts_push}
+use Rattle.law_world.proofs.lemmas.streams.lemmas.put_laws.Same.{not_gone, kept, its_sort, its_bytes, idle_there, WereEnds, same_owes}
 
 -- ---- an open
 
@@ -246,8 +244,8 @@ module _ (d : DriverContent) (m : Mem) (o : Offered) (puts now reported : ℕ �
           let way : k.endpoint.desc.name.way ≡ x.desc.name.way = ap (λ (z : Endpoint). z.desc.name.way) (sym (own (sym same))) in
           let put : added.sort ≡ sorts.Put = sorted ∙ ap sort_by way ∙ sends_sort x.desc.name.way sends in
           one_waits o.memory o.driver.notes e added (waits_on e added same refl)
-          ∙ still.each (length d.transfers) added (ap (λ (ts : List Transfer). slice_get ts (length d.transfers)) transfers_are ∙ push_last d.transfers added) put refl
-      by false is = one_none o.memory o.driver.notes e added (waits_not e added (λ same. false≢true (sym is ∙ eq-eqb added.endpoint e same)))
+          ∙ still.each (length d.transfers) added (ap (λ (ts : List Transfer). slice_get ts (length d.transfers)) transfers_are ∙ pushed_last d.transfers added) put refl
+      by false is = one_none o.memory o.driver.notes e added (others_wait e added (λ same. false≢true (sym is ∙ eq-eqb added.endpoint e same)))
 
   rest_is : (e : ℕ) (x : Endpoint) → slice_get d.endpoints e ≡ Some x → x.gone ≡ false → (e ≡ k.number → x ≡ k.endpoint) → receives x.desc.name.way ≡ false
       → rest_of o.driver o.memory e ≡ rest_of d m e ++ (if added.endpoint == e then now (length d.transfers) else [])
@@ -278,7 +276,7 @@ module _ (d : DriverContent) (m : Mem) (o : Offered) (puts now reported : ℕ �
         let out = ap (λ (z : _). receives z.name.way) (sym w.desc) ∙ sends in
         let more = if added.endpoint == e then now (length d.transfers) else [] in
         prefix_to (reported (32 * x.queue)) (concat (puts_of d puts e) ++ more) (concat (puts_of o.driver now e)) (sym (puts_are e))
-        (prefix_more (reported (32 * x.queue)) (concat (puts_of d puts e)) more
+        (last_one (reported (32 * x.queue)) (concat (puts_of d puts e)) more
         (prefix_of (reported (32 * x.queue)) (reported (32 * w.endpoint.queue)) (concat (puts_of d puts e)) (ap (λ (q : ℕ). reported (32 * q)) w.queue)
         (owes.over e w.endpoint cause w.here (there_before w.endpoint (sym w.gone ∙ meets.kept)) out (sym w.ended ∙ ends))));
     opening = λ e t x y here alive is there. absurd (no_open x.queue is);
@@ -306,7 +304,7 @@ opens_apart d m o why owners stands turns e x there still is =
     let alive : is_iso x.desc.kind || x.gone ≡ false = ap (λ (b : Bool). b || x.gone) (not_iso x.desc standing.asynchronous) ∙ still in
     fresh_differs 0 x.queue all.are (omega (arith, two))
     (placed_run x.queue (QueueHead e) (owners.owned.each.queue e (runs_of_endpoint x) (ap (option_map runs_of_endpoint) there) alive))
-    (ap (λ (rs : List ℕ). get_or rs 0 0) (sym runs) ∙ same_open (get_or (new_runs d why.holding_after) 0 0) x.queue (sym (ap (λ (p : Offered). p.driver.command) why.is) ∙ is))
+    (ap (λ (rs : List ℕ). get_or rs 0 0) (sym runs) ∙ same_queue (get_or (new_runs d why.holding_after) 0 0) x.queue (sym (ap (λ (p : Offered). p.driver.command) why.is) ∙ is))
 
 -- ---- a cancel
 

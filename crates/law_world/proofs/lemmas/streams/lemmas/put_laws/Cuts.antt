@@ -1,9 +1,10 @@
 -- The qTDs of a put send all its bytes, each its piece (EHCI 1.0, 3.5.3 and 4.10).
-use Rattle.std.proofs.Common.{◌≡◌, ℕ, zero, suc, ◌+◌, ◌-◌, ◌*◌, ◌/◌, ◌≤◌, ◌<◌, min, max, List, length, drop, map, ap, refl, sym, subst, ◌∙◌, ⊎_elim, arith}
+use Rattle.std.proofs.Common.{◌≡◌, ℕ, zero, suc, ◌+◌, ◌-◌, ◌*◌, ◌≤◌, ◌<◌, min, max, List, length, drop, map, ap, refl, sym, subst, ◌∙◌, ⊎_elim, arith}
 use Rattle.std.specs.List.{range_with_len}
-use Rattle.std.proofs.Math.Nat.{suc-mul, lt-div-mul-add}
+use Rattle.std.proofs.Math.Nat.{suc-mul}
 use Rattle.std.proofs.lemmas.Bool.{cases_lt}
 use Rattle.std.proofs.lemmas.List.{drop_all, drop-drop, length-drop}
+use Rattle.law_world.proofs.Common.{enough}
 use Rattle.drv_table.specs.Words.{pieces, out_stage, put_stages}
 use Rattle.law_world.specs.streams.put_laws.Held.{AreFilled, PutsAreFilled}
 
@@ -31,19 +32,6 @@ filled_from len by bytes long a (suc n) all =
       subst (AreFilled (map out_stage (map (λ (k : ℕ). min by (len - k * by)) (range_with_len (a + 1) n)))) (sym (rest_behind len by a bytes long))
           (filled_from len by bytes long (a + 1) n (omega (arith, all, same))),
     )
-
--- there are pieces enough
-enough : (len by : ℕ) → 1 ≤ by → len ≤ (0 + max 1 (pieces len by)) * by
-enough len by some =
-    let q = (len + (by - 1)) / by in
-    let below = lt-div-mul-add {a = len + (by - 1)} {b = by} (omega (arith, some)) in
-    let few : len ≤ q * by = omega (arith, below, some) in
-    ⊎_elim
-    (λ (none : q < 1).
-    let zero_pieces : q * by ≡ 0 = ap (λ (i : ℕ). i * by) (let e : q ≡ 0 = omega (arith, none) in e) ∙ (let z : 0 * by ≡ 0 = omega arith in z) in
-    omega (arith, few, zero_pieces))
-    (λ (one : 1 ≤ q). let same : (0 + max 1 q) * by ≡ q * by = ap (λ (i : ℕ). i * by) (let e : 0 + max 1 q ≡ q = omega (arith, one) in e) in omega (arith, few, same))
-    (cases_lt q 1)
 
 pub puts_filled : PutsAreFilled
 puts_filled bytes by some =

@@ -1,8 +1,10 @@
 -- What is owed after each row of the driver but a harvest.
-use Rattle.std.proofs.Common.{◌≡◌, ◌≢◌, ℕ, ◌*◌, false, List, [], ◌++◌, slice_get, Option, Some, None, ap, refl, sym, subst, ◌∙◌, ⊎_elim}
+use Rattle.std.proofs.Common.{◌≡◌, ◌≢◌, ℕ, ◌*◌, false, List, [], ◌++◌, slice_get, Option, Some, ap, refl, sym, subst, ◌∙◌, ⊎_elim}
 use Rattle.std.specs.List.{concat}
+use Rattle.law_queues.proofs.Common.{none_open}
+use Rattle.law_common.proofs.Lists.{none_there}
+use Rattle.law_world.proofs.Common.{framed_same}
 use Rattle.mem_runs.specs.Book.{holding, lend_taken}
-use Rattle.drv_table.specs.declared.content.Command.{Command}
 use Rattle.drv_table.specs.declared.content.Command.TheVariants as unfinished
 use Rattle.drv_table.specs.declared.content.Endpoint.{Endpoint}
 use Rattle.drv_table.specs.declared.content.Transfer.{Transfer}
@@ -12,7 +14,7 @@ use Rattle.drv_table.specs.declared.rows.Found.{Found}
 use Rattle.drv_table.specs.DriverContent.{DriverContent}
 use Rattle.drv_table.specs.Parts.{Parts}
 use Rattle.drv_table.specs.Commands.{advance}
-use Rattle.drv_table.specs.FrameChoice.{framed_by, linked_by}
+use Rattle.drv_table.specs.FrameChoice.{linked_by}
 use Rattle.drv_table.specs.Releases.{freed_by, after_transfer}
 use Rattle.drv_table.specs.Rows.{driver_row, after_driver_row}
 use Rattle.law_driver.specs.endpoint_lives.Lives.{told_end}
@@ -38,9 +40,6 @@ pub record IsNoMore (d f : DriverContent) : Type 0 where
   pub alike : TellsLike d f
   pub opens : (q : ℕ) → f.command ≡ Some (unfinished.Open q) → d.command ≡ Some (unfinished.Open q)
 
-none_open : (q : ℕ) → ◌≡◌ {A = Option Command} None (Some (unfinished.Open q)) → ⊥
-none_open q is = cc
-
 pub no_more_itself : (d : DriverContent) → IsNoMore d d
 no_more_itself d = record { alike = record { ends = ends_same d d refl; transfers = refl; notes = refl }; opens = λ q is. is }
 
@@ -65,15 +64,6 @@ advanced_no_more d f bulk k =
     advanced_or_left (IsNoMore d) f f.command bulk k (record { alike = record { ends = k.alike.ends; transfers = k.alike.transfers; notes = k.alike.notes }; opens = λ q is. k.opens q is })
     (record { alike = record { ends = k.alike.ends; transfers = k.alike.transfers; notes = k.alike.notes }; opens = λ q is. absurd (none_open q is) })
     (λ e x leaves here. record { alike = record { ends = left_ends d f e x here k.alike.ends; transfers = k.alike.transfers; notes = k.alike.notes }; opens = λ q is. absurd (none_open q is) })
-
-framed_same : (d : DriverContent) (n : ℕ) (o : Option Command) → IsBulkCommand o → framed_by d n o ≡ d
-framed_same d n (Some unfinished.Chain) is = absurd is
-framed_same d n (Some (unfinished.Iso e t count)) is = absurd is
-framed_same d n (Some (unfinished.Unchain e)) is = absurd is
-framed_same d n _ is = refl
-
-none_there : {X : Type 0} (xs : List X) (x : X) → xs ≡ [] → slice_get xs 0 ≡ Some x → ⊥
-none_there xs x none here = let e : ◌≡◌ {A = Option _} None (Some x) = sym (ap (λ ys. slice_get ys 0) none) ∙ here in cc
 
 pub quiet_no_more : (d f : DriverContent) → f.endpoints ≡ d.endpoints → f.transfers ≡ d.transfers → f.notes ≡ d.notes → f.command ≡ d.command → IsNoMore d f
 quiet_no_more d f endpoints transfers notes command = record { alike = record { ends = ends_same d f endpoints; transfers = transfers; notes = notes }; opens = λ q is. sym command ∙ is }

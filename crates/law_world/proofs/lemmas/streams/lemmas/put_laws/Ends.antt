@@ -4,6 +4,7 @@ use Rattle.std.specs.List.{AllByRecursion, concat}
 use Rattle.std.proofs.lemmas.List.{append-nil}
 use Rattle.std.proofs.lemmas.List.Elements.{filter_map-append}
 use Rattle.std.proofs.lemmas.List.Folds.{concat-append}
+use Rattle.law_driver.proofs.Common.{out_way}
 use Rattle.usb_base.specs.declared.endpoints.EpName.{EpName}
 use Rattle.usb_base.specs.declared.packets.Way.{Way}
 use Rattle.script_types.specs.declared.scripts.Line.{Line}
@@ -14,7 +15,6 @@ use Rattle.drv_table.specs.declared.content.Endpoint.{Endpoint}
 use Rattle.claims_report.specs.Reports.{WholeReport}
 use Rattle.claims_report.specs.Streams.{accepted_in, put_in, stream_by, stream, has_stream}
 use Rattle.claims_driver.specs.Scripts.{receives}
-use Rattle.law_driver.proofs.lemmas.chained_transfers.Ways.{way_sends}
 use Rattle.bus_world.specs.Orders.{Left, OrderedWorld, orders_of}
 use Rattle.bus_world.specs.Budgets.{moment}
 use Rattle.claims_world.specs.Streams.{report_of}
@@ -37,7 +37,7 @@ puts_join r taken left name =
 
 -- the stream of an OUT endpoint
 stream_puts : (s : Script) (r : WholeReport) (name : EpName) → receives name.way ≡ false → stream s r name ≡ puts_to r s.lines name
-stream_puts s r name out = ap (λ (way : Way). stream_by way s r name) (way_sends name.way out)
+stream_puts s r name out = ap (λ (way : Way). stream_by way s r name) (out_way name.way out)
 
 streams_begin : (s : Script) (p : OrderedWorld) (puts : ℕ → List ℕ) (e : ℕ) (x : Endpoint) → slice_get p.world.driver.endpoints e ≡ Some x → has_stream x.desc.kind ≡ true → receives x.desc.name.way ≡ false → HasTaken s p puts
     → IsPrefix (concat (puts_of p.world.driver puts e)) (stream s (report_of (fixed_of s) p.world) x.desc.name)

@@ -1,17 +1,14 @@
 -- A driver that was just built, and an event of the controller.
-use Rattle.std.proofs.Common.{◌≡◌, ℕ, ◌*◌, Bool, List, Option, Some, None}
+use Rattle.std.proofs.Common.{◌≡◌, ℕ, ◌*◌, Bool, List}
+use Rattle.law_world.proofs.Common.{no_end}
 use Rattle.usb_base.specs.declared.packets.Ask.{Ask}
 use Rattle.usb_base.specs.declared.packets.Reply.{Reply}
-use Rattle.drv_table.specs.declared.content.Endpoint.{Endpoint}
 use Rattle.hc_core.specs.Controller.{walk_place}
 use Rattle.law_queues.proofs.lemmas.whole_sends.Walking.{control_keeps_whole}
 use Rattle.law_world.specs.streams.put_laws.SentEvents.{NewDriverSends, EventSends}
 
-no_endpoint : (x : Endpoint) → ◌≡◌ {A = Option Endpoint} None (Some x) → ⊥
-no_endpoint x here = cc
-
 pub new_driver_sends : NewDriverSends
-new_driver_sends n room order out hand parts e x here met sends = absurd (no_endpoint x here)
+new_driver_sends n room order out hand parts e x here met sends = absurd (no_end x here)
 
 pub event_sends : {W : Type 0} (begins : W → ℕ → Bool → W → Type 0) (transacts : W → Ask → List ℕ → Reply → W → Type 0) → EventSends begins transacts
 event_sends begins transacts base member heads outs parts hand c wire after now later d order out acc reported controlled effect right counted are_outs outs_are k e x here met sends =

@@ -4,6 +4,7 @@ use Rattle.std.specs.Prelude.{◌⊎◌}
 use Rattle.std.proofs.lemmas.Bool.{cases_eq, true≢false}
 use Rattle.std.proofs.lemmas.Bool.Decides.{nat_tests}
 use Rattle.std.proofs.lemmas.Option.{same_Some}
+use Rattle.law_common.proofs.Lists.{set_here, set_there}
 use Rattle.usb_base.specs.declared.endpoints.EndCause.{EndCause}
 use Rattle.usb_base.specs.declared.endpoints.EndCause.TheVariants as causes
 use Rattle.usb_base.specs.declared.packets.EpKind.{EpKind}
@@ -19,7 +20,6 @@ use Rattle.drv_table.specs.DriverContent.{DriverContent, next_after}
 use Rattle.drv_table.specs.Harvests.{note_at, noted, token_in, moved_of, is_get, found_in, halt_of, done_of, ends_by, end_of, is_stall}
 use Rattle.drv_table.specs.Harvesting.{served, told_with, after_end, harvested_as}
 use Rattle.claims_driver.specs.Owners.{note_in}
-use Rattle.law_driver.proofs.lemmas.run_owners.Released.{set_here, set_there}
 use Rattle.law_driver.proofs.lemmas.chained_transfers.Harvested.{note_same}
 use Rattle.law_world.proofs.lemmas.streams.lemmas.put_laws.HeldAlike.{SameNotes, noted_same}
 

@@ -3,6 +3,8 @@ use Rattle.std.proofs.Common.{◌≡◌, ℕ, ◌*◌, ◌<◌, ◌==◌, ◌||�
 use Rattle.std.specs.Prelude.{◌⊎◌}
 use Rattle.std.specs.List.{AllByRecursion}
 use Rattle.std.proofs.lemmas.Bool.{eq-eqb, eqb-true}
+use Rattle.law_common.proofs.Lists.{drop_first, push_which, some_below}
+use Rattle.law_driver.proofs.Common.{out_way}
 use Rattle.usb_base.specs.declared.packets.Way.{Way}
 use Rattle.usb_base.specs.declared.packets.Way.TheVariants as ways
 use Rattle.word_mem.specs.Memory.{Mem}
@@ -21,7 +23,6 @@ use Rattle.drv_table.specs.Words.{needs}
 use Rattle.law_driver.specs.run_owners.Accepts.{Transfers}
 use Rattle.claims_driver.specs.Leaving.{HasOwners}
 use Rattle.claims_driver.specs.Owners.{Element, IsPlaced, runs_of_endpoint, runs_of_transfer, note_in}
-use Rattle.law_driver.proofs.lemmas.run_owners.Accepted.{drop_first}
 use Rattle.law_driver.proofs.lemmas.run_owners.Chains.{notes_apart}
 use Rattle.law_driver.proofs.lemmas.run_owners.Runs.{placed_run}
 use Rattle.law_driver.proofs.lemmas.run_owners.Taking.{runs_taken}
@@ -31,13 +32,13 @@ use Rattle.law_driver.specs.chained_transfers.Bulk.{MovesAs}
 use Rattle.law_driver.specs.chained_transfers.Chains.{piece_at}
 use Rattle.law_driver.specs.chained_transfers.AsynchronousTurns.{AsynchronousTakesTurns}
 use Rattle.law_driver.proofs.lemmas.chained_transfers.Queued.{not_dummy}
-use Rattle.law_driver.proofs.lemmas.chained_transfers.Ways.{way_sends, asked_pids}
+use Rattle.law_driver.proofs.lemmas.chained_transfers.Ways.{asked_pids}
 use Rattle.law_structures.specs.lent_structures.Structures.{StructureSets, Tells}
 use Rattle.law_structures.specs.lent_structures.Changes.{Leaves}
 use Rattle.law_driver_ring.proofs.Offered.{opens_leave}
 use Rattle.law_driver_ring.proofs.Sending.{transfer_leaves}
 use Rattle.law_driver_ring.specs.fed_queues.Fed.{is_request, AreFed}
-use Rattle.law_queues.proofs.lemmas.fed_lends.Asked.{push_which, low, piece_placed}
+use Rattle.law_queues.proofs.lemmas.fed_lends.Asked.{piece_placed}
 use Rattle.law_world.specs.streams.put_laws.Held.{held_bytes, AreFilled}
 use Rattle.law_world.proofs.lemmas.streams.lemmas.put_laws.Accepting.{put_is_held}
 use Rattle.law_world.proofs.lemmas.streams.lemmas.put_laws.Cuts.{puts_filled}
@@ -143,7 +144,7 @@ module _ (d : DriverContent) (m : Mem) (o : Offered) (parts : StructureSets) (wh
     each = λ t y here put held.
         ⊎_elim
         (λ (was : slice_get d.transfers t ≡ Some y).
-        put_stays d o.driver m o.memory puts t y (older t y was put held) k put held ∙ sym (put_there puts (length d.transfers) why.asked.bytes t (low d.transfers t y was)))
+        put_stays d o.driver m o.memory puts t y (older t y was put held) k put held ∙ sym (put_there puts (length d.transfers) why.asked.bytes t (some_below d.transfers t y was)))
         (λ (is : (t ≡ length d.transfers) × (y ≡ new)).
         ap (λ (r : Transfer). held_bytes o.memory o.driver.notes r.first r.qtds) is.1 ∙ new_held ∙ sym (put_here puts (length d.transfers) why.asked.bytes t is.0))
         (which t y here);
@@ -157,7 +158,7 @@ get_holds_puts d m o parts puts why differs owners stands turns tells fed held =
 pub put_holds_puts : PutHoldsPuts
 put_holds_puts d m o parts puts k leaves some small owners lent stands turns tells fed held =
     let way = k.transfers.endpoint.desc.name.way in
-    let out : way ≡ ways.Out = way_sends way leaves in
+    let out : way ≡ ways.Out = out_way way leaves in
     let asked : k.transfers.asked ≡ move_of ways.Out (length k.bytes) k.by k.bytes =
     k.asked ∙ ap (λ (w : Way). move_of w k.most k.by k.bytes) out ∙ ap (λ (n : ℕ). move_of ways.Out n k.by k.bytes) (sym (k.whole out)) in
     let bytes : k.transfers.asked.bytes ≡ k.bytes = ap (λ (a : Asked). a.bytes) asked in

@@ -3,6 +3,7 @@ use Rattle.std.proofs.Common.{◌≡◌, ◌≢◌, ℕ, zero, suc, ◌+◌, ◌
 use Rattle.std.specs.List.{range_with_len}
 use Rattle.std.proofs.lemmas.Bool.{cases_eq}
 use Rattle.std.proofs.lemmas.Option.{same_Some}
+use Rattle.law_common.proofs.Lists.{set_here, set_there}
 use Rattle.word_mem.specs.Memory.{Mem, word_at}
 use Rattle.word_mem.specs.Views.{byte_at}
 use Rattle.drv_table.specs.declared.content.QtdNote.{QtdNote}
@@ -11,7 +12,6 @@ use Rattle.drv_table.specs.declared.content.Transfer.{Transfer}
 use Rattle.drv_table.specs.DriverContent.{DriverContent, no_note}
 use Rattle.drv_table.specs.Harvests.{note_at, noted, buffer_bytes}
 use Rattle.claims_driver.specs.Owners.{note_in}
-use Rattle.law_driver.proofs.lemmas.run_owners.Released.{set_here, set_there}
 use Rattle.law_driver.proofs.lemmas.run_owners.Stays.{same_item}
 use Rattle.law_driver.specs.chained_transfers.Chains.{piece_at}
 use Rattle.law_world.specs.streams.put_laws.Held.{held_bytes}

@@ -1,8 +1,9 @@
 -- What is read of a put's qTDs, and what is reported of it, is what it asked to send.
-use Rattle.std.proofs.Common.{◌≡◌, ℕ, zero, suc, ◌+◌, ◌-◌, ◌<◌, ◌≤◌, Bool, true, false, nat_le, if◌then◌else◌, List, [], ◌∷◌, ◌++◌, length, take, drop, get_or, ap, refl, sym, ◌∙◌, arith}
+use Rattle.std.proofs.Common.{◌≡◌, ℕ, zero, suc, ◌+◌, ◌<◌, ◌≤◌, List, [], ◌∷◌, ◌++◌, length, take, drop, get_or, ap, refl, sym, ◌∙◌, arith}
 use Rattle.std.proofs.lemmas.List.{places, ext_get_or, length-take}
 use Rattle.std.proofs.lemmas.List.FromFn.{get_or-map-range_with_len, length-map-range_with_len}
 use Rattle.std.proofs.Math.Seq.{drop-append-add}
+use Rattle.law_world.proofs.Common.{moved_few}
 use Rattle.word_mem.specs.Memory.{Mem}
 use Rattle.word_mem.specs.Views.{byte_at}
 use Rattle.drv_table.specs.declared.content.QtdNote.{QtdNote}
@@ -58,13 +59,6 @@ own_bytes m notes b (suc n) (suc i) k below few =
     ∙ ap (take k) (drop-append-add bs rest (told_before notes note.next i)) ∙ own_bytes m notes note.next n i k (omega (arith, below)) few
 
 -- ---- a harvest
-
-moved_few : (told left : ℕ) → moved_of told left ≤ told
-moved_few told left = by (nat_le left told)
-  where
-    by : (b : Bool) → (if b then told - left else 0) ≤ told
-    by true = omega arith
-    by false = omega arith
 
 pub harvest_reads_puts : HarvestReadsPuts
 harvest_reads_puts d m puts t i y left k there put held below =

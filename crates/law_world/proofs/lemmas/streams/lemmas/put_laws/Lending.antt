@@ -1,6 +1,8 @@
 -- A transfer is lent: its qTDs but the first come behind all others.
-use Rattle.std.proofs.Common.{◌≡◌, ◌≢◌, ℕ, suc, ◌*◌, ◌<◌, ◌≤◌, ◌⊎◌, true, false, Bool, List, [], ◌∷◌, ◌++◌, length, Some, ap, refl, sym, subst, ◌∙◌, ⊎_elim, inl, inr, arith}
+use Rattle.std.proofs.Common.{◌≡◌, ◌≢◌, ℕ, suc, ◌*◌, ◌<◌, ◌≤◌, true, false, Bool, List, [], ◌∷◌, ◌++◌, length, Some, ap, refl, sym, subst, ◌∙◌, ⊎_elim, inl, inr, arith}
 use Rattle.std.proofs.lemmas.Bool.{cases_eq, true≢false}
+use Rattle.law_ring.proofs.Common.{among_either, none_some}
+use Rattle.law_queues.proofs.Common.{one_target}
 use Rattle.word_mem.specs.Memory.{Mem}
 use Rattle.link_words.specs.declared.kinds.QtdLink.{QtdLink}
 use Rattle.link_words.specs.declared.kinds.QtdLink.TheVariants as qtd_links
@@ -29,7 +31,7 @@ use Rattle.law_driver_ring.specs.TransferLaws.{HasPieces, lent_driver}
 use Rattle.law_driver_ring.specs.Pieces.{stage_qtd, IsNewQtd}
 use Rattle.law_queues.specs.fed_lends.Streams.{second, new_order, new_out}
 use Rattle.law_queues.proofs.lemmas.fed_lends.Numbering.{AreNumbered, first_number, new_from}
-use Rattle.law_queues.proofs.lemmas.fed_lends.Reporting.{some_none, numbers, old_number, all_there, new_active}
+use Rattle.law_queues.proofs.lemmas.fed_lends.Reporting.{numbers, old_number, all_there, new_active}
 use Rattle.law_queues.proofs.lemmas.fed_lends.Reports.{is_there}
 use Rattle.law_queues.specs.whole_sends.Whole.{AreSentWhole}
 use Rattle.law_queues.specs.whole_sends.Laws.{IsNewBehind}
@@ -57,9 +59,6 @@ new_idle notes dummy (s ∷ ss) b a u (inr new) off = new_idle notes dummy ss (n
 no_end : (c : ℕ) → ◌≡◌ {A = QtdLink} qtd_links.End (qtd_links.To c) → ⊥
 no_end c same = cc
 
-one_target : (b c : ℕ) → qtd_links.To b ≡ qtd_links.To c → b ≡ c
-one_target b c same = cc
-
 -- each leads to the next one
 next_number : (f : ℕ → ℕ) (notes : List QtdNote) (dummy : ℕ) (ss : List Stage) (b k a : ℕ) (u : Qtd) (c : ℕ) → AreNumbered f notes ss b k → IsNewQtd notes dummy ss b a u → qtd_link_of u.next ≡ qtd_links.To c → f c ≡ suc (f a)
 next_number f notes dummy [] b k a u c are new leads = absurd (no_end c (sym (ap (λ (t : Qtd). qtd_link_of t.next) new.1) ∙ leads))
@@ -72,11 +71,6 @@ next_number f notes dummy (s ∷ ss) b k a u c are (inl new) leads =
     let i = ap f at in
     omega (arith, g, h, e, i)
 next_number f notes dummy (s ∷ ss) b k a u c are (inr new) leads = next_number f notes dummy ss (note_at notes b).next (suc k) a u c are.1 new leads
-
-among_either : (e : ℕ) (xs ys : List ℕ) → IsAmong e (xs ++ ys) → IsAmong e xs ⊎ IsAmong e ys
-among_either e [] ys is = inr is
-among_either e (x ∷ xs) ys (inl is) = inl (inl is)
-among_either e (x ∷ xs) ys (inr is) = ⊎_elim (λ (left : IsAmong e xs). inl (inr left)) (λ (right : IsAmong e ys). inr right) (among_either e xs ys is)
 
 -- ---- its queue
 
@@ -102,7 +96,7 @@ module _ (d : DriverContent) (m : Mem) (t : ℕ) (y : TransferRuns) (x : Endpoin
   same a u there = old_number d y x s ss slot parts now k order a (Element u) pieces there
 
   not_both : (a : ℕ) (u v : Qtd) → New a u → parts n a ≡ Some (Element v) → ⊥
-  not_both a u v new there = some_none (parts n a) (Element v) (pieces.none_before a u new) there
+  not_both a u v new there = none_some (parts n a) (Element v) (pieces.none_before a u new) there
 
   was_out : (a : ℕ) (u : Qtd) → IsAmong a (out ++ more) → parts n a ≡ Some (Element u) → IsAmong a out
   was_out a u among there =

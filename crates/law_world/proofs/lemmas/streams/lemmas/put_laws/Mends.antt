@@ -2,18 +2,18 @@
 use Rattle.std.proofs.Common.{◌≡◌, ◌≢◌, ℕ, zero, suc, ◌+◌, ◌*◌, ◌/◌, false, List, slice_get, Some, ap, sym, subst, ◌∙◌, arith}
 use Rattle.std.proofs.lemmas.Bool.{false≢true}
 use Rattle.std.proofs.lemmas.Option.{same_Some}
+use Rattle.law_world.proofs.Common2.{same_mend}
+use Rattle.law_driver.proofs.Common.{out_way}
 use Rattle.usb_base.specs.declared.packets.EpKind.{EpKind}
 use Rattle.usb_base.specs.declared.packets.Way.{Way}
 use Rattle.drv_table.specs.declared.content.Endpoint.{Endpoint}
 use Rattle.drv_table.specs.declared.content.Mend.{Mend}
-use Rattle.drv_table.specs.declared.rows.DriverRow.TheVariants as rows
 use Rattle.drv_table.specs.DriverContent.{DriverContent}
 use Rattle.drv_table.specs.Parts.{Parts as DriverParts}
 use Rattle.drv_table.specs.Words.{is_control}
 use Rattle.claims_driver.specs.Leaving.{HasOwners}
 use Rattle.claims_driver.specs.Scripts.{receives, IsKindOf}
 use Rattle.law_driver.specs.chained_transfers.AsynchronousTurns.{AsynchronousTakesTurns}
-use Rattle.law_driver.proofs.lemmas.chained_transfers.Ways.{way_sends}
 use Rattle.law_structures.specs.lent_structures.Structures.{QueueHead, Structures, StructureSets}
 use Rattle.law_structures.proofs.lemmas.lent_structures.Names.{put_beside}
 use Rattle.law_ring.specs.Hand.{Hand}
@@ -35,9 +35,6 @@ store_within q b zero = let e : (32 * q + 16) / 32 ≡ q = omega arith in e
 store_within q b (suc zero) = let e : (32 * q + 20) / 32 ≡ q = omega arith in e
 store_within q b (suc (suc n)) = let e : (32 * q + 24) / 32 ≡ q = omega arith in e
 
-same_mend : (a b : Mend) → rows.Mend a ≡ rows.Mend b → a ≡ b
-same_mend a b is = cc
-
 pub mend_is_in_head : MendIsInHead
 mend_is_in_head p parts out k w row =
     let s : StalledQueue = k.stalled in
@@ -47,7 +44,7 @@ mend_is_in_head p parts out k w row =
 -- ---- OUT endpoints have queue heads of their own
 
 no_control : (way : Way) (kind : EpKind) → IsKindOf way kind → receives way ≡ false → is_control kind ≡ false
-no_control way kind is sends = ap is_control (subst (λ (w : Way). IsKindOf w kind) (way_sends way sends) is)
+no_control way kind is sends = ap is_control (subst (λ (w : Way). IsKindOf w kind) (out_way way sends) is)
 
 module _ (p : DriverParts) (parts : StructureSets) (out : ℕ → List ℕ) (owners : HasOwners p.driver) (turns : AsynchronousTakesTurns p.driver) (k : IsAtMend p parts out) where
   abbrev d : DriverContent

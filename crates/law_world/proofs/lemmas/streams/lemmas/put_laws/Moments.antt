@@ -1,14 +1,14 @@
 -- Each moment of a run has lines that were taken, whose puts are those of its driver.
-use Rattle.std.proofs.Common.{◌≡◌, ℕ, zero, suc, ◌+◌, ◌<◌, ◌≤◌, true, false, List, [], ◌∷◌, ◌++◌, length, slice_get, Some, ap, sym, subst, refl, ◌∙◌, inl, inr, arith}
+use Rattle.std.proofs.Common.{◌≡◌, ℕ, zero, suc, ◌+◌, ◌<◌, ◌≤◌, true, false, List, [], ◌∷◌, ◌++◌, length, ap, sym, subst, refl, ◌∙◌, inl, inr, arith}
 use Rattle.std.specs.List.{AllByRecursion}
 use Rattle.std.proofs.lemmas.List.{append_assoc}
+use Rattle.law_queues.proofs.Common.{no_endpoint}
+use Rattle.law_world.proofs.Common2.{no_transfer}
 use Rattle.script_types.specs.declared.scripts.Event.TheVariants as events
 use Rattle.script_types.specs.declared.scripts.Line.{Line}
 use Rattle.script_types.specs.declared.scripts.Line.TheVariants as lines
 use Rattle.script_types.specs.declared.scripts.Script.{Script}
 use Rattle.bus_wire.specs.Bus.{Fixed, fixed_of}
-use Rattle.drv_table.specs.declared.content.Endpoint.{Endpoint}
-use Rattle.drv_table.specs.declared.content.Transfer.{Transfer}
 use Rattle.bus_world.specs.World.{World, kind_next}
 use Rattle.bus_world.specs.Opening.{opening_world}
 use Rattle.bus_world.specs.Orders.{Left, Events, Microframes, Answer, Command, Plugs, OrderedWorld, at_place, left_of, orders_of, fewer, is_end, tick, tick_by, tick_at, ticks}
@@ -128,12 +128,6 @@ unfolding ticks puts_at
 each_moment s P first step zero = first
 each_moment s P first step (suc k) =
     subst (λ (p : OrderedWorld). P p (puts_tick (moment s k) (puts_at s k))) (sym (next_moment s k)) (step (moment s k) (puts_at s k) (each_moment s P first step k))
-
-no_endpoint : (e : ℕ) (x : Endpoint) → slice_get {X = Endpoint} [] e ≡ Some x → ⊥
-no_endpoint e x there = cc
-
-no_transfer : (t : ℕ) (y : Transfer) → slice_get {X = Transfer} [] t ≡ Some y → ⊥
-no_transfer t y there = cc
 
 opening_taken : (s : Script) → HasTaken s (at_place (opening_world s) (orders_of s.lines)) no_puts
 opening_taken s = record {

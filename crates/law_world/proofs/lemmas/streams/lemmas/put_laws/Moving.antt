@@ -1,5 +1,7 @@
 -- No more is noted as moved of a qTD than it asked for.
-use Rattle.std.proofs.Common.{◌≡◌, ℕ, zero, suc, ◌-◌, ◌≤◌, Bool, true, false, cond, nat_le, if◌then◌else◌, List, [], ◌∷◌, ◌++◌, length, take, drop, replicate, set, get_or, slice_get, Option, Some, None, refl, sym, subst, ◌∙◌, inl, inr, arith}
+use Rattle.std.proofs.Common.{◌≡◌, ℕ, zero, suc, ◌-◌, ◌≤◌, Bool, true, false, cond, nat_le, List, [], ◌∷◌, ◌++◌, length, take, drop, replicate, set, get_or, slice_get, Option, Some, None, refl, sym, subst, ◌∙◌, inl, inr, arith}
+use Rattle.law_world.proofs.Common.{moved_few, one_notes, framed_same}
+use Rattle.law_common.proofs.Lists.{none_there}
 use Rattle.usb_base.specs.declared.endpoints.EpName.{EpName}
 use Rattle.usb_base.specs.declared.endpoints.EndCause.{EndCause}
 use Rattle.usb_base.specs.declared.reports.What.{What}
@@ -31,7 +33,7 @@ use Rattle.law_driver.proofs.lemmas.run_owners.Reasons.{each_event_is_due}
 use Rattle.law_driver.specs.chained_transfers.Asynchronous.{OnlyAsynchronous}
 use Rattle.law_driver.proofs.lemmas.chained_transfers.Ways.{found_by, moves_queued}
 use Rattle.law_world.specs.streams.put_laws.HeldLaws.{NewDriverMovesFew, CommandMovesFew, DriverMovesFew}
-use Rattle.law_world.proofs.lemmas.streams.lemmas.put_laws.Rows.{advanced_keeps, framed_same, none_there}
+use Rattle.law_world.proofs.lemmas.streams.lemmas.put_laws.Rows.{advanced_keeps}
 
 -- ---- notes
 
@@ -84,23 +86,8 @@ few_by false true e n told what few = few
 few_by false false true n told what few = few
 few_by false false false n told what few = few
 
-moved_few : (told left : ℕ) → moved_of told left ≤ told
-moved_few told left = by (nat_le left told)
-  where
-    by : (b : Bool) → (if b then told - left else 0) ≤ told
-    by true = omega arith
-    by false = omega arith
-
 found_few : (sort : Sort) (last : Bool) (note : QtdNote) (t : Token) → MovesFew note.told (found_in sort last note t)
 found_few sort last note t = few_by t.active t.halted (ends_by sort last t.total) (moved_of note.told t.total) note.told (halt_of t) (moved_few note.told t.total)
-
-either : (d f g : DriverContent) (b : Bool) → f.notes ≡ d.notes → g.notes ≡ d.notes → (cond b f g).notes ≡ d.notes
-either d f g true one two = one
-either d f g false one two = two
-
-one_notes : (d : DriverContent) (e : ℕ) (name : EpName) (k : ℕ) (o : Option Transfer) → (behind_one d e name k o).notes ≡ d.notes
-one_notes d e name k None = refl
-one_notes d e name k (Some y) = either d _ d (waits_for e y) refl refl
 
 behind_notes : (d : DriverContent) (e : ℕ) (name : EpName) (k n : ℕ) → (behind d e name k n).notes ≡ d.notes
 unfolding behind

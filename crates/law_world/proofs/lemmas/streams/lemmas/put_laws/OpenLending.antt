@@ -1,5 +1,6 @@
 -- An open is lent: the walk doesn't meet its queue head yet.
 use Rattle.std.proofs.Common.{◌≡◌, ◌≢◌, ℕ, suc, ◌*◌, nat_lt, if◌then◌else◌, List, Some, None, ap, sym, subst, ◌∙◌}
+use Rattle.law_common.proofs.Numbers.{same_blocks}
 use Rattle.qh_qtd.specs.declared.queue_head.Qh.{Qh}
 use Rattle.mem_runs.specs.Book.{Book, holding, lend_taken}
 use Rattle.drv_table.specs.declared.content.Endpoint.{Endpoint}
@@ -14,7 +15,6 @@ use Rattle.drv_table.specs.Words.{queue_head, dummy_qtd}
 use Rattle.law_structures.specs.lent_structures.Structures.{QueueHead, Element, Structures, StructureSets, put}
 use Rattle.law_structures.proofs.lemmas.lent_structures.Names.{put_beside}
 use Rattle.law_ring.specs.Hand.{Hand}
-use Rattle.law_queues.proofs.lemmas.publish_laws.Apart.{thirty_two}
 use Rattle.law_queues.specs.open_laws.Opens.{next_of}
 use Rattle.law_queues.specs.open_laws.Lends.{IsOpenReady, parts_lent}
 use Rattle.law_queues.specs.whole_sends.Whole.{AreSentWhole}
@@ -54,7 +54,7 @@ module _ (p : DriverParts) (parts : StructureSets) (ready : IsOpenReady p.driver
   lent_sends : (hand : Hand) (order : ℕ → ℕ → ℕ) (out : ℕ → List ℕ) → SentStand d order out hand parts → SentStand lent order out hand (parts_lent parts ready)
   lent_sends hand order out k e z there met sends =
       let m : ℕ = 32 * z.queue in
-      let differs : m ≢ n = λ same. met.there.linked (ready.command ∙ ap (λ (b : ℕ). Some (unfinished.Open b)) (sym (thirty_two z.queue x.queue same))) in
+      let differs : m ≢ n = λ same. met.there.linked (ready.command ∙ ap (λ (b : ℕ). Some (unfinished.Open b)) (sym (same_blocks z.queue x.queue same))) in
       subst (λ (part : Structures). AreSentWhole (order m) (out m) hand m part) (sym (beside m differs)) (k e z there (record { there = record { linked = met.there.linked; kept = met.there.kept }; near = met.near }) sends)
 
 pub open_lend_sends : OpenLendSends

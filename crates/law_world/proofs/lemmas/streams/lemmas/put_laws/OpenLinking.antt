@@ -1,30 +1,30 @@
 -- The link of an opened endpoint's queue head is stored: nothing of it is published.
-use Rattle.std.proofs.Common.{◌≡◌, ◌≢◌, ℕ, ◌*◌, Bool, false, if◌then◌else◌, List, [], slice_get, Option, Some, None, ap, refl, sym, subst, ◌∙◌, ⊎_elim, true}
+use Rattle.std.proofs.Common.{◌≡◌, ◌≢◌, ℕ, ◌*◌, Bool, false, if◌then◌else◌, List, [], slice_get, Some, None, ap, refl, sym, subst, ◌∙◌, ⊎_elim, true}
 use Rattle.std.proofs.lemmas.Bool.{cases_eq, eq-eqb}
+use Rattle.law_world.proofs.Common.{same_queue}
+use Rattle.law_driver_ring.proofs.Common.{one_element}
+use Rattle.law_common.proofs.Numbers.{other_number, same_blocks}
 use Rattle.qh_qtd.specs.declared.qtd.Qtd.{Qtd}
 use Rattle.qh_qtd.specs.declared.queue_head.Qh.{Qh}
 use Rattle.async_walk.specs.Walk.{Walk}
 use Rattle.async_walk.specs.Rows.{place}
 use Rattle.drv_table.specs.declared.content.Endpoint.{Endpoint}
-use Rattle.drv_table.specs.declared.content.Command.{Command}
-use Rattle.drv_table.specs.declared.content.Command.TheVariants as unfinished
 use Rattle.drv_table.specs.DriverContent.{DriverContent}
 use Rattle.drv_table.specs.Parts.{Parts as DriverParts}
 use Rattle.drv_table.specs.Words.{head_block, to_queue_head, queue_head, dummy_qtd}
-use Rattle.claims_driver.specs.Owners.{EndpointRuns, Head, QueueHead as QueueOf, runs_of_endpoint}
-use Rattle.law_structures.specs.lent_structures.Structures.{Structure, QueueHead, Element, Structures, StructureSets, with_structure}
-use Rattle.law_structures.proofs.lemmas.lent_structures.Names.{not_same, put_beside}
-use Rattle.law_structures.proofs.lemmas.lent_structures.Altering.{found_queue, same_element}
+use Rattle.claims_driver.specs.Owners.{Head, QueueHead as QueueOf, runs_of_endpoint}
+use Rattle.law_structures.specs.lent_structures.Structures.{QueueHead, Element, Structures, StructureSets}
+use Rattle.law_structures.proofs.lemmas.lent_structures.Names.{put_beside}
+use Rattle.law_structures.proofs.lemmas.lent_structures.Altering.{found_queue}
 use Rattle.law_ring.specs.Hand.{Hand}
 use Rattle.claims_base.specs.Controller.{Base}
 use Rattle.law_ring.specs.Told.{Endpoint as Told}
-use Rattle.law_ring.proofs.Parting.{found_with}
 use Rattle.law_driver_ring.specs.Driven.{DrivesRing}
-use Rattle.law_driver_ring.specs.Linked.{no_part, opened_part, head_at}
+use Rattle.law_driver_ring.specs.Linked.{head_at}
 use Rattle.law_controller.specs.controlled_streams.Opened.{with_none}
 use Rattle.claims_driver.specs.Scripts.{receives}
 use Rattle.law_driver_ring.specs.fed_queues.Places.{IsMet}
-use Rattle.law_queues.proofs.lemmas.publish_laws.Apart.{queue_placed, thirty_two}
+use Rattle.law_queues.proofs.lemmas.publish_laws.Apart.{queue_placed}
 use Rattle.law_queues.specs.open_laws.Opens.{IsAtOpen, head_then, hand_then}
 use Rattle.law_queues.proofs.lemmas.open_laws.Linking.{driver_is, here}
 use Rattle.law_queues.specs.whole_sends.Whole.{EndsWhole, AreSentWhole}
@@ -33,25 +33,6 @@ use Rattle.law_queues.proofs.lemmas.whole_sends.Walking.{with_hand}
 use Rattle.law_world.specs.streams.put_laws.Sent.{SentStand}
 use Rattle.law_world.specs.streams.put_laws.SentOpens.{OpenLinkSends}
 use Rattle.law_driver.specs.endpoint_lives.Lives.{may_meet}
-
--- a new queue head has the inactive qTD alone
-one_element : (r : EndpointRuns) (q : Qh) (a : ℕ) (t : Qtd) → opened_part r q a ≡ Some (Element t) → dummy_qtd ≡ t
-one_element r q a t found =
-    let one : Structures = with_structure no_part (32 * r.queue) (QueueHead q) in
-    ⊎_elim (λ (new : (a ≡ 32 * r.dummy) × (Element dummy_qtd ≡ Element t)). same_element dummy_qtd t new.1)
-    (λ (old : (a ≢ 32 * r.dummy) × (one a ≡ Some (Element t))).
-    ⊎_elim (λ (head : (a ≡ 32 * r.queue) × (QueueHead q ≡ Element t)). absurd (never head.1))
-    (λ (none : (a ≢ 32 * r.queue) × (no_part a ≡ Some (Element t))). absurd (nothing none.1)) (found_with no_part (32 * r.queue) a (QueueHead q) (Element t) old.1))
-    (found_with one (32 * r.dummy) a (Element dummy_qtd) (Element t) found)
-  where
-    never : QueueHead q ≡ Element t → ⊥
-    never same = cc
-
-    nothing : ◌≡◌ {A = Option Structure} None (Some (Element t)) → ⊥
-    nothing none = cc
-
-same_queue : (b c : ℕ) → ◌≡◌ {A = Option Command} (Some (unfinished.Open b)) (Some (unfinished.Open c)) → b ≡ c
-same_queue b c is = cc
 
 module _ (base : Base) (w : Walk) (hand : Hand) (p : DriverParts) (member streams : ℕ → Bool) (ends : ℕ → Told) (parts : StructureSets) (order : ℕ → ℕ → ℕ) (out : ℕ → List ℕ) (k : IsAtOpen p.driver p.memory member streams ends parts order out) (drives : DrivesRing base member parts hand (place w p.registers p.memory) p.driver)
     (sent : SentStand p.driver order out hand parts) where
@@ -79,7 +60,7 @@ module _ (base : Base) (w : Walk) (hand : Hand) (p : DriverParts) (member stream
   -- the queue head of an endpoint isn't the head of the ring
   not_head : (e : ℕ) (z : Endpoint) → slice_get d.endpoints e ≡ Some z → z.gone ≡ false → 32 * z.queue ≢ head_at
   not_head e z there kept same =
-      never (sym (queue_placed d k.sound.owners e z there (k.turns.asynchronous.endpoints e z there) kept).owned ∙ ap k.sound.owners.owner (thirty_two z.queue head_block same) ∙ k.sound.owners.owned.each.head.owned)
+      never (sym (queue_placed d k.sound.owners e z there (k.turns.asynchronous.endpoints e z there) kept).owned ∙ ap k.sound.owners.owner (same_blocks z.queue head_block same) ∙ k.sound.owners.owned.each.head.owned)
     where
       never : QueueOf e ≡ Head → ⊥
       never is = cc
@@ -94,7 +75,7 @@ module _ (base : Base) (w : Walk) (hand : Hand) (p : DriverParts) (member stream
   none_here = ap (λ (b : Bool). if b then [] else out n) (eq-eqb n n refl)
 
   none_beside : (m : ℕ) → m ≢ n → with_none out n m ≡ out m
-  none_beside m differs = ap (λ (b : Bool). if b then [] else out m) (not_same m n differs)
+  none_beside m differs = ap (λ (b : Bool). if b then [] else out m) (other_number m n differs)
 
   -- nothing of the new one is published
   dummy_is : (a : ℕ) (t : Qtd) → parts n a ≡ Some (Element t) → dummy_qtd ≡ t

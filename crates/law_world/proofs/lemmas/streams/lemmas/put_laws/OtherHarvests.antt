@@ -3,6 +3,10 @@ use Rattle.std.proofs.Common.{◌≡◌, ◌≢◌, ℕ, zero, suc, ◌-◌, ◌
 use Rattle.std.specs.Prelude.{◌⊎◌}
 use Rattle.std.specs.List.{concat}
 use Rattle.std.proofs.lemmas.Option.{same_Some}
+use Rattle.law_driver.proofs.Common.{others_wait}
+use Rattle.law_queues.proofs.Common.{none_open}
+use Rattle.law_common.proofs.Lists.{set_there}
+use Rattle.law_driver.proofs.Common.{out_way, waits_is}
 use Rattle.usb_base.specs.declared.endpoints.EndCause.{EndCause}
 use Rattle.usb_base.specs.declared.endpoints.EndCause.TheVariants as causes
 use Rattle.usb_base.specs.declared.endpoints.EpDesc.{EpDesc}
@@ -12,8 +16,6 @@ use Rattle.usb_base.specs.declared.packets.EpKind.TheVariants as kinds
 use Rattle.usb_base.specs.declared.packets.Way.{Way}
 use Rattle.usb_base.specs.declared.reports.What.TheVariants as lines
 use Rattle.word_mem.specs.Memory.{Mem}
-use Rattle.drv_table.specs.declared.content.Command.{Command}
-use Rattle.drv_table.specs.declared.content.Command.TheVariants as unfinished
 use Rattle.drv_table.specs.declared.content.Endpoint.{Endpoint}
 use Rattle.drv_table.specs.declared.content.QtdNote.{QtdNote}
 use Rattle.drv_table.specs.declared.content.Transfer.{Transfer}
@@ -26,17 +28,15 @@ use Rattle.drv_table.specs.Parts.{Parts}
 use Rattle.drv_table.specs.Harvesting.{served, told_with, behind_one, behind, mends_of, after_end, harvested_as, after_harvest}
 use Rattle.drv_table.specs.Rows.{after_driver_row}
 use Rattle.law_driver.specs.run_owners.Due.{IsHarvestDue}
-use Rattle.law_driver.proofs.lemmas.run_owners.Released.{set_there}
 use Rattle.claims_driver.specs.Scripts.{IsKindOf, IsAsynchronous, receives}
 use Rattle.law_driver.specs.chained_transfers.AsynchronousTurns.{AsynchronousTakesTurns}
 use Rattle.law_driver.proofs.lemmas.chained_transfers.Rows.{set_which}
-use Rattle.law_driver.proofs.lemmas.chained_transfers.Ways.{way_sends}
 use Rattle.law_driver_ring.proofs.lemmas.walk_members.Descriptions.{desc_of, row_left}
 use Rattle.law_world.specs.streams.put_laws.TakenPuts.{puts_from, puts_of}
 use Rattle.law_world.specs.streams.put_laws.Owed.{rest_from, rest_of, Owes}
 use Rattle.law_world.proofs.lemmas.streams.lemmas.put_laws.HeldAlike.{held_alike}
 use Rattle.law_world.proofs.lemmas.streams.lemmas.put_laws.Harvested.{Likes, harvest_like}
-use Rattle.law_world.proofs.lemmas.streams.lemmas.put_laws.Rests.{prefix_to, prefix_of, waits_is, waits_not, one_none, rest_alike, rest_set, puts_set}
+use Rattle.law_world.proofs.lemmas.streams.lemmas.put_laws.Rests.{prefix_to, prefix_of, one_none, rest_alike, rest_set, puts_set}
 use Rattle.law_world.proofs.lemmas.streams.lemmas.put_laws.Same.{idle_there}
 
 -- ---- contents that tell the same of all endpoints but e
@@ -67,7 +67,8 @@ transfer_set d f e t y z here own now is ends command = record {
   rests = λ m notes i differs.
       ap (rest_from m notes i) is
       ∙ rest_set m notes i t d.transfers y z here
-      (one_none m notes i z (waits_not i z (λ same. differs (sym same ∙ now))) ∙ sym (one_none m notes i y (waits_not i y (λ same. differs (sym same ∙ own)))));
+      (one_none m notes i z (others_wait i z (λ same. differs (sym same ∙ now)))
+      ∙ sym (one_none m notes i y (others_wait i y (λ same. differs (sym same ∙ own)))));
   puts = λ puts i. ap (puts_from puts i 0) is ∙ puts_set puts i t d.transfers y z here (now ∙ sym own);
   was = λ u w at.
       ⊎_elim (λ (its : (u ≡ t) × (w ≡ z)). inl (ap (λ (r : Transfer). r.endpoint) its.1 ∙ now)) (λ (other : slice_get d.transfers u ≡ Some w). inr other)
@@ -137,7 +138,7 @@ harvest_beside p e t found due =
 -- ---- the OUT endpoints
 
 out_is_bulk : (way : Way) (kind : EpKind) → IsKindOf way kind → receives way ≡ false → kind ≡ kinds.Control → ⊥
-out_is_bulk way kind is sends control = let same : ◌≡◌ {A = EpKind} kinds.Bulk kinds.Control = sym (subst (λ (w : Way). IsKindOf w kind) (way_sends way sends) is) ∙ control in cc
+out_is_bulk way kind is sends control = let same : ◌≡◌ {A = EpKind} kinds.Bulk kinds.Control = sym (subst (λ (w : Way). IsKindOf w kind) (out_way way sends) is) ∙ control in cc
 
 -- an OUT endpoint is another one than a control endpoint that is harvested
 pub other_out : (p : Parts) (e t : ℕ) (found : Found) (due : IsHarvestDue p e t found) → due.endpoint.desc.kind ≡ kinds.Control → AsynchronousTakesTurns p.driver → (f : ℕ) (v : Endpoint) → slice_get (after_driver_row (rows.Harvest e t found) p).driver.endpoints f ≡ Some v
@@ -151,9 +152,6 @@ other_out p e t found due control turns f v at sends =
     let own : IsAsynchronous due.endpoint.desc = (turns.asynchronous.endpoints e due.endpoint due.here).asynchronous in
     out_is_bulk due.endpoint.desc.name.way due.endpoint.desc.kind own.kind (ap (λ (r : EpDesc). receives r.name.way) (sym desc) ∙ sends) control in
     (differs, (harvest_beside p e t found due).ends f v differs at)
-
-none_open : (q : ℕ) → ◌≡◌ {A = Option Command} None (Some (unfinished.Open q)) → ⊥
-none_open q is = cc
 
 module _ (p : Parts) (e t : ℕ) (found : Found) (due : IsHarvestDue p e t found) (control : due.endpoint.desc.kind ≡ kinds.Control) (turns : AsynchronousTakesTurns p.driver) (puts reported told : ℕ → List ℕ)
     (told_is : (f : ℕ) (v : Endpoint) → slice_get (after_driver_row (rows.Harvest e t found) p).driver.endpoints f ≡ Some v → v.gone ≡ false → receives v.desc.name.way ≡ false → told (32 * v.queue) ≡ reported (32 * v.queue)) (owes : Owes p.driver p.memory puts reported) where

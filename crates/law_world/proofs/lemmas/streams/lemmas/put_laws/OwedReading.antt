@@ -2,16 +2,15 @@
 use Rattle.std.proofs.Common.{◌≡◌, ℕ, zero, suc, ◌-◌, ◌*◌, ◌<◌, ◌≤◌, true, false, List, [], ◌∷◌, ◌++◌, length, take, slice_get, Option, Some, None, option_map, ap, refl, sym, subst, ◌∙◌, ⊎_elim, arith}
 use Rattle.std.proofs.lemmas.Bool.{cases_lt}
 use Rattle.std.proofs.lemmas.List.{append_assoc, append_cancel_left, append_cancel_right, nil_from_length}
+use Rattle.law_driver_ring.proofs.Common.{one_told, moved_is}
+use Rattle.law_world.proofs.Common.{moved_few}
 use Rattle.word_mem.specs.Memory.{Mem}
-use Rattle.qh_qtd.specs.declared.qtd.Qtd.{Qtd}
 use Rattle.qh_qtd.specs.declared.token.Token.{Token}
-use Rattle.qh_qtd.specs.declared.queue_head.Qh.{Qh}
 use Rattle.law_structures.specs.lent_structures.Structures.{StructureSets, Tells}
 use Rattle.law_structures.specs.lent_structures.Sound.{HasBuffer}
-use Rattle.law_structures.proofs.lemmas.lent_structures.Altering.{found_element, found_queue}
 use Rattle.law_ring.specs.Hand.{Hand}
-use Rattle.law_ring.specs.Effects.{bytes_in, buffer_of}
-use Rattle.law_ring.specs.Told.{Told, hand_bytes}
+use Rattle.law_ring.specs.Effects.{bytes_in}
+use Rattle.law_ring.specs.Told.{Told}
 use Rattle.law_ring.specs.QueueParts.{IsQueuePart}
 use Rattle.law_ring.specs.Order.{AllTold, none_out, one_out}
 use Rattle.usb_base.specs.declared.endpoints.EndCause.{EndCause}
@@ -26,19 +25,13 @@ use Rattle.law_driver.proofs.lemmas.chained_transfers.Harvesting.{turn_at}
 use Rattle.law_queues.specs.told_endpoints.Telling.{named_of, lines_in}
 use Rattle.law_driver_ring.specs.told_harvests.Held.{IsDone, AreHeld, none_held, one_held, IsRead}
 use Rattle.law_driver_ring.proofs.lemmas.told_harvests.Done.{done_in_part}
-use Rattle.law_driver_ring.proofs.lemmas.told_harvests.Noting.{moved_is, found_is_done}
+use Rattle.law_driver_ring.proofs.lemmas.told_harvests.Noting.{found_is_done}
 use Rattle.law_driver_ring.specs.harvested_streams.Harvested.{IsNoted}
 use Rattle.law_driver_ring.proofs.lemmas.harvested_streams.Harvesting.{token_is_read, bytes_are_read}
 use Rattle.law_queues.specs.harvest_laws.Holds.{IsNextOf}
 use Rattle.law_driver_ring.specs.fed_queues.Places.{IsThere}
 use Rattle.law_queues.specs.harvest_laws.Told.{ToldStands}
-use Rattle.law_world.proofs.lemmas.streams.lemmas.put_laws.Bytes.{no_bytes, moved_few}
-
--- of any qTD
-pub told_at : (hand : Hand) (parts : StructureSets) (n e : ℕ) (x y : List ℕ) → Told hand parts n e x → Told hand parts n e y → x ≡ y
-told_at hand parts n e x y one two =
-    one.are ∙ ap (λ (q : Qh). hand_bytes hand n q e one.qtd (buffer_of (parts n) one.qtd)) (found_queue (parts n n) one.queue two.queue one.head two.head)
-    ∙ ap (λ (t : Qtd). hand_bytes hand n two.queue e t (buffer_of (parts n) t)) (found_element (parts n e) one.qtd two.qtd one.here two.here) ∙ sym two.are
+use Rattle.law_world.proofs.lemmas.streams.lemmas.put_laws.Bytes.{no_bytes}
 
 -- ---- what is held back
 
@@ -61,7 +54,7 @@ module _ (hand : Hand) (parts : StructureSets) (n : ℕ) (note : ℕ → QtdNote
   held_once b i c d xs ys (none_held a) other = sym (no_held a d ys other)
   held_once b i c d xs ys (one_held a j e x zs done behind) other =
       let f : IsHeldFirst a j ys = held_first a j d ys other in
-      ap (λ (us : List ℕ). us ++ zs) (told_at hand parts n (32 * a) x f.first done.told f.done.told) ∙ ap (λ (us : List ℕ). f.first ++ us) (held_once (note a).next j e f.to zs f.rest behind f.behind) ∙ sym f.sum
+      ap (λ (us : List ℕ). us ++ zs) (one_told hand parts n (32 * a) x f.first done.told f.done.told) ∙ ap (λ (us : List ℕ). f.first ++ us) (held_once (note a).next j e f.to zs f.rest behind f.behind) ∙ sym f.sum
 
 -- ---- what the report tells
 
@@ -120,7 +113,7 @@ pub all_once : (hand : Hand) (parts : StructureSets) (n : ℕ) (out xs ys : List
 all_once hand parts n out xs ys none_out other = sym (no_out hand parts n ys other)
 all_once hand parts n out xs ys (one_out e es x zs told behind) other =
     let f : IsOutFirst hand parts n e es ys = out_first hand parts n e es ys other in
-    ap (λ (us : List ℕ). us ++ zs) (told_at hand parts n e x f.first told f.told) ∙ ap (λ (us : List ℕ). f.first ++ us) (all_once hand parts n es zs f.rest behind f.behind) ∙ sym f.sum
+    ap (λ (us : List ℕ). us ++ zs) (one_told hand parts n e x f.first told f.told) ∙ ap (λ (us : List ℕ). f.first ++ us) (all_once hand parts n es zs f.rest behind f.behind) ∙ sym f.sum
 
 -- where what was reported grew by `more`, and the first of what was out is out no more
 pub more_is : (reported more bytes others told all : List ℕ) → reported ++ (bytes ++ others) ≡ all → (reported ++ more) ++ told ≡ all → told ≡ others → more ≡ bytes

@@ -3,11 +3,14 @@ use Rattle.std.proofs.Common.{◌≡◌, ◌≢◌, ℕ, suc, ◌-◌, ◌*◌, 
 use Rattle.std.specs.List.{concat}
 use Rattle.std.proofs.lemmas.Bool.{cases_eq, true≢false}
 use Rattle.std.proofs.lemmas.List.{append_assoc}
+use Rattle.law_driver.proofs.Common.{others_wait}
+use Rattle.law_queues.proofs.Common.{none_open, last_one, after_both}
+use Rattle.law_common.proofs.Lists.{set_here, set_there}
+use Rattle.law_world.proofs.Common.{moved_few}
+use Rattle.law_driver.proofs.Common.{waits_is}
 use Rattle.claims_base.specs.Prefix.{IsPrefix}
 use Rattle.usb_base.specs.declared.endpoints.EndCause.{EndCause}
 use Rattle.word_mem.specs.Memory.{Mem}
-use Rattle.drv_table.specs.declared.content.Command.{Command}
-use Rattle.drv_table.specs.declared.content.Command.TheVariants as unfinished
 use Rattle.drv_table.specs.declared.content.Endpoint.{Endpoint}
 use Rattle.drv_table.specs.declared.content.Transfer.{Transfer}
 use Rattle.drv_table.specs.declared.content.QtdNote.{QtdNote}
@@ -16,7 +19,6 @@ use Rattle.drv_table.specs.Harvests.{note_at, token_in, moved_of, is_get, buffer
 use Rattle.law_driver.specs.endpoint_lives.Lives.{told_end}
 use Rattle.law_driver.proofs.lemmas.endpoint_lives.Lives.{none_told, told_uncancelled}
 use Rattle.claims_driver.specs.Owners.{note_in}
-use Rattle.law_driver.proofs.lemmas.run_owners.Released.{set_here, set_there}
 use Rattle.claims_driver.specs.Scripts.{receives}
 use Rattle.law_driver.specs.chained_transfers.Asynchronous.{StandsAsynchronous}
 use Rattle.law_driver.specs.chained_transfers.AsynchronousTurns.{AsynchronousTakesTurns}
@@ -29,16 +31,13 @@ use Rattle.law_world.proofs.lemmas.streams.lemmas.put_laws.HeldAlike.{held_alike
 use Rattle.law_world.specs.streams.put_laws.TakenPuts.{puts_from, puts_of}
 use Rattle.law_world.specs.streams.put_laws.Owed.{rest_from, rest_of, Owes}
 use Rattle.law_world.specs.streams.put_laws.OwedLaws.{IsMovedWhole}
-use Rattle.law_world.proofs.lemmas.streams.lemmas.put_laws.Bytes.{begins_buffer, moved_few, held_first, held_none}
-use Rattle.law_world.proofs.lemmas.streams.lemmas.put_laws.Rests.{prefix_to, prefix_of, prefix_more, prefix_both, waits_is, waits_on, waits_not, reported_not, one_rest, one_waits, one_none, rest_alike, rest_set, rest_first, dropped_set, puts_set}
+use Rattle.law_world.proofs.lemmas.streams.lemmas.put_laws.Bytes.{begins_buffer, held_first, held_none}
+use Rattle.law_world.proofs.lemmas.streams.lemmas.put_laws.Rests.{prefix_to, prefix_of, waits_on, reported_not, one_rest, one_waits, one_none, rest_alike, rest_set, rest_first, dropped_set, puts_set}
 use Rattle.law_world.proofs.lemmas.streams.lemmas.put_laws.Same.{not_gone, kept, its_sort, idle_there}
 use Rattle.law_world.proofs.lemmas.streams.lemmas.put_laws.Harvests.{HowRead, on, done, halts, ReadsTo}
 
 none_some : (o : Option EndCause) (cause : EndCause) → o ≡ None → o ≡ Some cause → ⊥
 none_some o cause none some = let e : ◌≡◌ {A = Option EndCause} None (Some cause) = sym none ∙ some in cc
-
-none_open : (q : ℕ) → ◌≡◌ {A = Option Command} None (Some (unfinished.Open q)) → ⊥
-none_open q is = cc
 
 module _ (d new : DriverContent) (m : Mem) (e t : ℕ) (x : Endpoint) (y : Transfer) (turns : AsynchronousTakesTurns d) (idle : d.command ≡ None) (here : slice_get d.endpoints e ≡ Some x) (goes : x.ended ≡ None) (next : x.next ≡ Some t) (there : slice_get d.transfers t ≡ Some y) (waits : waits_for e y ≡ true) (k : ReadsTo d new m e t x y) (puts reported told : ℕ → List ℕ) (bytes : List ℕ) (bytes_is : receives x.desc.name.way ≡ false → bytes ≡ buffer_bytes m (note_at d.notes y.place) (moved_of (note_at d.notes y.place).told (token_in m y.place).total)) (whole : receives x.desc.name.way ≡ false → IsMovedWhole d m y) (told_here : told (32 * x.queue) ≡ reported (32 * x.queue) ++ bytes) (told_beside : (f : ℕ) (v : Endpoint) → f ≢ e → slice_get d.endpoints f ≡ Some v → v.gone ≡ false → receives v.desc.name.way ≡ false → told (32 * v.queue) ≡ reported (32 * v.queue)) (owes : Owes d m puts reported) where
   abbrev note : QtdNote
@@ -79,7 +78,7 @@ module _ (d new : DriverContent) (m : Mem) (e t : ℕ) (x : Endpoint) (y : Trans
   before : (u : ℕ) (z : Transfer) → u < t → slice_get d.transfers u ≡ Some z → waits_for e z ≡ false
   before u z less there_z =
       let first = subst (AreReportedTo (turn_in d.transfers) e) next (turns.turns.turns.next e x here goes_told) in
-      ⊎_elim (λ (same : z.endpoint ≡ e). reported_not e z (first.before u (turn_of z) less (ap (option_map turn_of) there_z) same)) (λ (differs : z.endpoint ≢ e). waits_not e z differs) (cases_eq z.endpoint e)
+      ⊎_elim (λ (same : z.endpoint ≡ e). reported_not e z (first.before u (turn_of z) less (ap (option_map turn_of) there_z) same)) (λ (differs : z.endpoint ≢ e). others_wait e z differs) (cases_eq z.endpoint e)
 
   -- ---- what is still to be sent
 
@@ -101,7 +100,7 @@ module _ (d new : DriverContent) (m : Mem) (e t : ℕ) (x : Endpoint) (y : Trans
   rest_beside f differs =
       ap (rest_from m new.notes f) k.transfers ∙ noted_now f (set d.transfers t k.transfer)
       ∙ rest_set m d.notes f t d.transfers y k.transfer there
-      (one_none m d.notes f k.transfer (waits_not f k.transfer (λ is. differs (sym is ∙ k.its_endpoint ∙ own.0))) ∙ sym (one_none m d.notes f y (waits_not f y (λ is. differs (sym is ∙ own.0)))))
+      (one_none m d.notes f k.transfer (others_wait f k.transfer (λ is. differs (sym is ∙ k.its_endpoint ∙ own.0))) ∙ sym (one_none m d.notes f y (others_wait f y (λ is. differs (sym is ∙ own.0)))))
 
   puts_same : (f : ℕ) → concat (puts_of new puts f) ≡ concat (puts_of d puts f)
   puts_same f = ap (λ (ts : List Transfer). concat (puts_from puts f 0 ts)) k.transfers ∙ ap concat (puts_set puts f t d.transfers y k.transfer there k.its_endpoint)
@@ -143,10 +142,10 @@ module _ (d new : DriverContent) (m : Mem) (e t : ℕ) (x : Endpoint) (y : Trans
       let further = held_bytes m d.notes (note_at d.notes y.place).next (y.left - 1) in
       let rest_begins : IsPrefix bytes (rest_of d m e) =
       prefix_to bytes ((buffer ++ further) ++ others) (rest_of d m e) (ap (λ (us : List ℕ). us ++ others) (sym held_is) ∙ sym rest_was)
-      (prefix_more bytes (buffer ++ further) others (prefix_more bytes buffer further own_bytes)) in
+      (last_one bytes (buffer ++ further) others (last_one bytes buffer further own_bytes)) in
       prefix_of (told (32 * x.queue)) (reported (32 * x.queue) ++ bytes) (concat (puts_of d puts e)) told_here
       (prefix_to (reported (32 * x.queue) ++ bytes) (reported (32 * x.queue) ++ rest_of d m e) (concat (puts_of d puts e)) (owes.going e x here (was_there x its_alive) sends goes_told)
-      (prefix_both (reported (32 * x.queue)) bytes (rest_of d m e) rest_begins))
+      (after_both (reported (32 * x.queue)) bytes (rest_of d m e) rest_begins))
 
   -- ---- all of them
 

@@ -2,6 +2,8 @@
 use Rattle.std.proofs.Common.{◌≡◌, ◌≢◌, ℕ, ◌*◌, ◌<◌, Bool, true, false, List, set, slice_get, Option, Some, ap, sym, ◌∙◌, ⊎_elim, arith}
 use Rattle.std.proofs.lemmas.Bool.{cases_eq, true≢false}
 use Rattle.std.proofs.lemmas.Option.{same_Some}
+use Rattle.law_common.proofs.Lists.{set_here, set_there}
+use Rattle.law_queues.proofs.Common.{none_unpublished}
 use Rattle.async_walk.specs.Walk.{Walk}
 use Rattle.mem_runs.specs.Book.{holding}
 use Rattle.drv_table.specs.declared.content.Endpoint.{Endpoint}
@@ -12,7 +14,6 @@ use Rattle.drv_table.specs.Parts.{Parts as DriverParts}
 use Rattle.drv_table.specs.Releases.{freed_by, after_transfer}
 use Rattle.drv_table.specs.Rows.{after_driver_row}
 use Rattle.claims_driver.specs.Owners.{note_in}
-use Rattle.law_driver.proofs.lemmas.run_owners.Released.{set_here, set_there}
 use Rattle.law_driver.specs.chained_transfers.Bulk.{MovesAs}
 use Rattle.law_driver.specs.chained_transfers.Asynchronous.{OnlyAsynchronous}
 use Rattle.law_driver.specs.chained_transfers.Chains.{piece_at}
@@ -26,7 +27,6 @@ use Rattle.law_ring.proofs.Returning.{those_beside, those_else}
 use Rattle.law_driver_ring.specs.Released.{goes_of, release_row}
 use Rattle.law_driver_ring.specs.fed_queues.Fed.{is_request, IsPieceFed}
 use Rattle.law_driver_ring.proofs.lemmas.fed_queues.Sized.{told_fed}
-use Rattle.law_queues.proofs.lemmas.fed_lends.Asked.{same_unpublished}
 use Rattle.law_queues.specs.released_queues.Released.{IsReturning, ReleaseStands, IsReleased}
 use Rattle.law_queues.proofs.lemmas.released_queues.Queues.{goes_off, piece_off}
 use Rattle.law_queues.proofs.lemmas.released_queues.Releasing.{release_feeds}
@@ -82,7 +82,7 @@ module _ (base : Base) (member : ℕ → Bool) (parts : StructureSets) (hand : H
       let e : Endpoint = moves.endpoint in
       let c = piece_at (note_in p.driver.notes) z.first i in
       let note = note_at p.driver.notes c in
-      let none = same_unpublished p.driver u z k.free in
+      let none = none_unpublished p.driver u z k.free in
       let f : IsPieceFed z.sort (parts (32 * e.queue)) note c (piece_at (note_in p.driver.notes) z.first z.qtds) = told_fed z.sort (parts (32 * e.queue)) i note c (piece_at (note_in p.driver.notes) z.first z.qtds) (ap is_request put) (s.fed.pieces u i z e there held moves.here (omega (arith, none)) below) in
       either_way p.memory (after_driver_row (release_row t) p).memory note
       (λ some.

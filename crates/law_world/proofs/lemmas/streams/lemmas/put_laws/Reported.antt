@@ -1,14 +1,13 @@
 -- The row of a harvest.
-use Rattle.std.proofs.Common.{◌≡◌, ◌≢◌, ℕ, suc, ◌+◌, ◌-◌, ◌*◌, ◌==◌, Bool, true, false, if◌then◌else◌, List, [], ◌∷◌, ◌++◌, set, drop, nat_le, slice_get, Option, Some, None, ap, refl, sym, subst, ◌∙◌, ⊎_elim, inl, inr, arith}
-use Rattle.std.specs.Prelude.{◌⊎◌}
+use Rattle.std.proofs.Common.{◌≡◌, ◌≢◌, ℕ, suc, ◌+◌, ◌-◌, ◌*◌, ◌==◌, Bool, true, false, if◌then◌else◌, List, [], ◌∷◌, ◌++◌, set, drop, nat_le, slice_get, Option, Some, ap, refl, sym, subst, ◌∙◌, ⊎_elim, arith}
 use Rattle.std.specs.List.{concat}
 use Rattle.std.proofs.lemmas.Bool.{eq-eqb}
-use Rattle.law_structures.proofs.lemmas.lent_structures.Names.{not_same}
+use Rattle.law_queues.proofs.Common.{none_open, own_out}
+use Rattle.law_driver.proofs.Common.{two_kinds, out_way, waits_is}
+use Rattle.law_common.proofs.Numbers.{other_number}
 use Rattle.usb_base.specs.declared.endpoints.EpDesc.{EpDesc}
-use Rattle.usb_base.specs.declared.packets.EpKind.{EpKind}
 use Rattle.usb_base.specs.declared.packets.EpKind.TheVariants as kinds
 use Rattle.usb_base.specs.declared.packets.Way.{Way}
-use Rattle.usb_base.specs.declared.packets.Way.TheVariants as ways
 use Rattle.claims_report.specs.Streams.{has_stream}
 use Rattle.word_mem.specs.Memory.{Mem}
 use Rattle.law_structures.specs.lent_structures.Structures.{StructureSets, Tells}
@@ -18,7 +17,6 @@ use Rattle.law_ring.specs.QueueParts.{IsQueuePart}
 use Rattle.law_ring.specs.Order.{AllTold, Accounts}
 use Rattle.qh_qtd.specs.declared.token.Token.{Token}
 use Rattle.drv_table.specs.declared.content.Command.{Command}
-use Rattle.drv_table.specs.declared.content.Command.TheVariants as unfinished
 use Rattle.drv_table.specs.declared.content.Endpoint.{Endpoint}
 use Rattle.drv_table.specs.declared.content.Transfer.{Transfer}
 use Rattle.drv_table.specs.declared.rows.DriverRow.TheVariants as rows
@@ -39,7 +37,7 @@ use Rattle.law_driver.specs.chained_transfers.Out.{pieces_from, passed, out_of_t
 use Rattle.law_driver.specs.chained_transfers.Turns.{IsAtPlace, IsNotGone}
 use Rattle.law_driver.proofs.lemmas.chained_transfers.Harvested.{harvest_in_turn}
 use Rattle.law_driver.proofs.lemmas.chained_transfers.Staying.{stands_alive, stands_fresh}
-use Rattle.law_driver.proofs.lemmas.chained_transfers.Ways.{moves_queued, found_by, way_sends}
+use Rattle.law_driver.proofs.lemmas.chained_transfers.Ways.{moves_queued, found_by}
 use Rattle.law_driver_ring.specs.told_harvests.Held.{IsRead}
 use Rattle.law_driver_ring.specs.told_harvests.Passed.{HarvestsFirst}
 use Rattle.law_driver_ring.proofs.lemmas.told_harvests.Passing.{harvest_takes_first}
@@ -50,7 +48,7 @@ use Rattle.law_queues.proofs.lemmas.harvest_laws.Places.{read_at}
 use Rattle.law_controller.specs.controlled_streams.Reported.{IsReported}
 use Rattle.law_driver_ring.specs.fed_queues.Fed.{AreFed}
 use Rattle.law_driver_ring.specs.fed_queues.Places.{IsThere}
-use Rattle.law_queues.proofs.lemmas.fed_harvests.Lists.{all_of, all_out, all_same, IsBefore, Splits, splits, own_out}
+use Rattle.law_queues.proofs.lemmas.fed_harvests.Lists.{all_of, all_out, all_same, IsBefore, Splits, splits}
 use Rattle.law_queues.specs.harvest_laws.Told.{ToldStands}
 use Rattle.law_queues.specs.harvest_laws.ToldLaws.{HarvestReports}
 use Rattle.law_queues.specs.harvest_laws.ReadLaws.{LeavesStreams}
@@ -58,15 +56,11 @@ use Rattle.law_queues.proofs.lemmas.harvest_laws.Requests.{other_harvest_is_told
 use Rattle.law_queues.proofs.lemmas.harvest_laws.ReadRows.{harvest_row_is_told, queue_alone, reads, not_active}
 use Rattle.law_world.specs.streams.put_laws.Owed.{Owes}
 use Rattle.law_world.specs.streams.put_laws.OwedLaws.{IsMovedWhole, HarvestOwes, WaitOwes}
-use Rattle.law_world.proofs.lemmas.streams.lemmas.put_laws.Rests.{waits_is}
 use Rattle.law_world.proofs.lemmas.streams.lemmas.put_laws.Same.{not_gone, kept, its_sort}
 use Rattle.law_world.proofs.lemmas.streams.lemmas.put_laws.OwedReading.{NextIs, told_same, all_once, more_is, bytes_are}
 use Rattle.law_world.proofs.lemmas.streams.lemmas.put_laws.Harvests.{HowRead, on, done, halts, ReadsTo, found_row}
 use Rattle.law_world.proofs.lemmas.streams.lemmas.put_laws.Paying.{paid_owes}
 use Rattle.law_world.proofs.lemmas.streams.lemmas.put_laws.OtherHarvests.{harvest_beside, other_out, other_owes}
-
-no_open : (q : ℕ) → ◌≡◌ {A = Option Command} None (Some (unfinished.Open q)) → ⊥
-no_open q is = cc
 
 pub row_is : (p : Parts) (e t : ℕ) (found : Found) (due : IsHarvestDue p e t found) → (after_driver_row (rows.Harvest e t found) p).driver ≡ served (harvested_as p.driver p.memory e t due.endpoint due.transfer found) e
 row_is p e t found due =
@@ -89,7 +83,7 @@ next_then p e t found due turns =
 
 -- an OUT endpoint has a stream
 out_streams : (x : Endpoint) → StandsAsynchronous x → receives x.desc.name.way ≡ false → has_stream x.desc.kind ≡ true
-out_streams x s sends = ap has_stream (subst (λ (w : Way). IsKindOf w x.desc.kind) (way_sends x.desc.name.way sends) s.asynchronous.kind)
+out_streams x s sends = ap has_stream (subst (λ (w : Way). IsKindOf w x.desc.kind) (out_way x.desc.name.way sends) s.asynchronous.kind)
 
 module _ (order : ℕ → ℕ) (p : Parts) (parts : StructureSets) (hand : Hand) (e t : ℕ) (found : Found) (acc : List (List ℕ)) (puts reported told : ℕ → List ℕ) (due : IsHarvestDue p e t found) (differs : found ≢ founds.Active) (owners : HasOwners p.driver) (turns : AsynchronousTakesTurns p.driver) (bulk : due.endpoint.desc.kind ≡ kinds.Bulk) (fed : AreFed p.driver parts) (tells : Tells p.memory parts) (on_it : IsQueuePart (32 * due.endpoint.queue) (parts (32 * due.endpoint.queue)))
     (none : (a : ℕ) (z : List ℕ) → IsOutEarlier (note_in p.driver.notes) e t p.driver.transfers a → Told hand parts (32 * due.endpoint.queue) a z → z ≡ []) (r : IsReported order (out_now p.driver e) hand parts (32 * due.endpoint.queue) acc (reported (32 * due.endpoint.queue))) (whole : receives due.endpoint.desc.name.way ≡ false → IsMovedWhole p.driver p.memory due.transfer)
@@ -156,10 +150,10 @@ module _ (order : ℕ → ℕ) (p : Parts) (parts : StructureSets) (hand : Hand)
 
   now_beside : (q : ℕ) → q ≢ 32 * due.endpoint.queue → now q ≡ reported q
   unfolding now
-  now_beside q apart = ap (λ (b : Bool). if b then reported q ++ hr.bytes else reported q) (not_same q (32 * due.endpoint.queue) apart)
+  now_beside q apart = ap (λ (b : Bool). if b then reported q ++ hr.bytes else reported q) (other_number q (32 * due.endpoint.queue) apart)
 
   there_now : (v : Endpoint) → v.gone ≡ false → IsThere new v
-  there_now v still = record { linked = λ is. no_open v.queue (sym due.idle ∙ sym k.command ∙ is); kept = still }
+  there_now v still = record { linked = λ is. none_open v.queue (sym due.idle ∙ sym k.command ∙ is); kept = still }
 
   told_is : (f : ℕ) (v : Endpoint) → slice_get new.endpoints f ≡ Some v → has_stream v.desc.kind ≡ true → v.gone ≡ false → told (32 * v.queue) ≡ now (32 * v.queue)
   told_is f v at streams still = told_same new hand parts told now next_now after (hr.stands now now_here now_beside) f v at streams (there_now v still)
@@ -237,17 +231,13 @@ module _ (p : Parts) (e t : ℕ) (found : Found) (parts : StructureSets) (hand :
       let turns_now : NextIs new = next_then p e t found due turns in
       let was = other_out p e t found due control turns f v at sends in
       told_same new hand parts told reported turns_now after left.stands f v at (out_streams v (turns.asynchronous.endpoints f v was.1) sends)
-      (record { linked = λ is. no_open v.queue (sym due.idle ∙ sym beside.command ∙ is); kept = still })
-
-kinds_of : (way : Way) (kind : EpKind) → IsKindOf way kind → (kind ≡ kinds.Bulk) ⊎ (kind ≡ kinds.Control)
-kinds_of ways.Ctl kind is = inr is
-kinds_of _ kind is = inl is
+      (record { linked = λ is. none_open v.queue (sym due.idle ∙ sym beside.command ∙ is); kept = still })
 
 pub harvest_owes : HarvestOwes
 harvest_owes order p parts hand e t found acc puts reported told due differs owners turns fed tells on_it none r whole before after owes =
     ⊎_elim (λ (bulk : due.endpoint.desc.kind ≡ kinds.Bulk). row_owes order p parts hand e t found acc puts reported told due differs owners turns bulk fed tells on_it (none (ap has_stream bulk)) (r (ap has_stream bulk)) whole before after owes)
     (λ (control : due.endpoint.desc.kind ≡ kinds.Control). other_owes p e t found due control turns puts reported told (nothing_told p e t found parts hand reported told due owners turns control before after) owes)
-    (kinds_of due.endpoint.desc.name.way due.endpoint.desc.kind (turns.asynchronous.endpoints e due.endpoint due.here).asynchronous.kind)
+    (two_kinds due.endpoint.desc.name.way due.endpoint.desc.kind (turns.asynchronous.endpoints e due.endpoint due.here).asynchronous.kind)
 
 pub wait_owes : WaitOwes
 wait_owes p e t puts reported due owes =

@@ -5,15 +5,15 @@ use Rattle.std.proofs.lemmas.Bool.{eq-eqb, eqb-true, false≢true}
 use Rattle.std.proofs.lemmas.List.{append_assoc, append-nil, length-map, map-append}
 use Rattle.std.proofs.lemmas.List.Folds.{concat-append}
 use Rattle.std.proofs.lemmas.Option.{same_Some}
+use Rattle.law_common.proofs.Lists.{map_set_same, each_here}
 use Rattle.claims_base.specs.Prefix.{IsPrefix}
 use Rattle.word_mem.specs.Memory.{Mem}
 use Rattle.drv_table.specs.declared.content.QtdNote.{QtdNote}
 use Rattle.drv_table.specs.declared.content.Transfer.{Transfer}
 use Rattle.drv_table.specs.DriverContent.{waits_for}
-use Rattle.law_driver.proofs.lemmas.run_owners.Released.{other_number}
 use Rattle.law_world.specs.streams.put_laws.Held.{held_bytes}
 use Rattle.law_world.specs.streams.put_laws.TakenPuts.{puts_from}
-use Rattle.law_world.proofs.lemmas.streams.lemmas.put_laws.Mapped.{set_same, all_here, was_mapped}
+use Rattle.law_world.proofs.lemmas.streams.lemmas.put_laws.Mapped.{was_mapped}
 use Rattle.law_world.proofs.lemmas.streams.lemmas.put_laws.Stays.{owner_at}
 use Rattle.law_world.proofs.lemmas.streams.lemmas.put_laws.Sums.{puts_in, by_owners, puts_join, puts_alike, puts_none, puts_one}
 use Rattle.law_world.specs.streams.put_laws.Owed.{rest_from}
@@ -23,36 +23,16 @@ use Rattle.law_world.specs.streams.put_laws.Owed.{rest_from}
 pub prefix_same : (xs ys : List ℕ) → xs ≡ ys → IsPrefix xs ys
 prefix_same xs ys is = ([], append-nil xs ∙ is)
 
-pub prefix_more : (xs ys zs : List ℕ) → IsPrefix xs ys → IsPrefix xs (ys ++ zs)
-prefix_more xs ys zs (rest, e) = (rest ++ zs, sym (append_assoc xs rest zs) ∙ ap (λ (us : List ℕ). us ++ zs) e)
-
-pub prefix_both : (h xs ys : List ℕ) → IsPrefix xs ys → IsPrefix (h ++ xs) (h ++ ys)
-prefix_both h xs ys (rest, e) = (rest, append_assoc h xs rest ∙ ap (λ (us : List ℕ). h ++ us) e)
-
 pub prefix_to : (xs ys zs : List ℕ) → ys ≡ zs → IsPrefix xs ys → IsPrefix xs zs
 prefix_to xs ys zs is (rest, e) = (rest, e ∙ is)
 
 pub prefix_of : (xs ys zs : List ℕ) → xs ≡ ys → IsPrefix ys zs → IsPrefix xs zs
 prefix_of xs ys zs is (rest, e) = (rest, ap (λ (us : List ℕ). us ++ rest) is ∙ e)
 
-pub prefix_join : (xs ys zs : List ℕ) → IsPrefix xs ys → IsPrefix ys zs → IsPrefix xs zs
-prefix_join xs ys zs (a, e) (b, f) = (a ++ b, sym (append_assoc xs a b) ∙ ap (λ (us : List ℕ). us ++ b) e ∙ f)
-
 -- ---- which transfers wait
-
-waits_by : (a b : Bool) → (a && not b) ≡ true → (a ≡ true) × (b ≡ false)
-waits_by true false is = (refl, refl)
-waits_by true true is = absurd (false≢true is)
-waits_by false b is = absurd (false≢true is)
-
-pub waits_is : (e : ℕ) (y : Transfer) → waits_for e y ≡ true → (y.endpoint ≡ e) × (y.reported ≡ false)
-waits_is e y is = let both = waits_by (y.endpoint == e) y.reported is in (eqb-true y.endpoint e both.0, both.1)
 
 pub waits_on : (e : ℕ) (y : Transfer) → y.endpoint ≡ e → y.reported ≡ false → waits_for e y ≡ true
 waits_on e y own waits = ap (λ (b : Bool). b && not y.reported) (eq-eqb y.endpoint e own) ∙ ap not waits
-
-pub waits_not : (e : ℕ) (y : Transfer) → y.endpoint ≢ e → waits_for e y ≡ false
-waits_not e y differs = ap (λ (b : Bool). b && not y.reported) (other_number y.endpoint e differs)
 
 pub reported_not : (e : ℕ) (y : Transfer) → y.reported ≡ true → waits_for e y ≡ false
 reported_not e y told = by (y.endpoint == e) (ap not told)
@@ -124,13 +104,13 @@ puts_kept puts now e ts same =
 
 pub puts_set : (puts : ℕ → List ℕ) (e t : ℕ) (ts : List Transfer) (y z : Transfer) → slice_get ts t ≡ Some y → z.endpoint ≡ y.endpoint → puts_from puts e 0 (set ts t z) ≡ puts_from puts e 0 ts
 puts_set puts e t ts y z here same =
-    by_owners puts e 0 (set ts t z) ∙ ap (puts_in puts e 0) (set_same owner_at ts t y z here same) ∙ sym (by_owners puts e 0 ts)
+    by_owners puts e 0 (set ts t z) ∙ ap (puts_in puts e 0) (map_set_same owner_at ts t y z here same) ∙ sym (by_owners puts e 0 ts)
 
 pub puts_no : (puts : ℕ → List ℕ) (e : ℕ) (ts : List Transfer) → ((t : ℕ) (y : Transfer) → slice_get ts t ≡ Some y → y.endpoint ≢ e) → puts_from puts e 0 ts ≡ []
 puts_no puts e ts none =
     by_owners puts e 0 ts
     ∙ puts_none puts e 0 (map owner_at ts)
-    (all_here (λ o. o ≢ e) (map owner_at ts) (λ n o here is. let w = was_mapped owner_at ts n o here in none n w.0 w.1 (w.2 ∙ is)))
+    (each_here (λ o. o ≢ e) (map owner_at ts) (λ n o here is. let w = was_mapped owner_at ts n o here in none n w.0 w.1 (w.2 ∙ is)))
 
 pub puts_push : (puts : ℕ → List ℕ) (e : ℕ) (ts : List Transfer) (y : Transfer)
     → concat (puts_from puts e 0 (ts ++ y ∷ [])) ≡ concat (puts_from puts e 0 ts) ++ (if y.endpoint == e then puts (length ts) else [])

@@ -5,6 +5,7 @@ use Rattle.std.specs.List.{AllByRecursion, list_all, list_any}
 use Rattle.std.specs.Option.{option_map_or}
 use Rattle.std.specs.Str.{bytes_eq}
 use Rattle.std.proofs.lemmas.Bool.{cond_both}
+use Rattle.law_common.proofs.Lists.{all_both, all_more}
 use Rattle.usb_base.specs.declared.commands.Cmd.{Cmd}
 use Rattle.usb_base.specs.declared.commands.Cmd.TheVariants as cmd
 use Rattle.usb_base.specs.declared.endpoints.EpDesc.{EpDesc}
@@ -27,7 +28,6 @@ use Rattle.script_world.specs.Rows.{cause_of, is_late, is_known, content_len, by
 use Rattle.script_text.specs.Reading.{lines_in, words_in, says, may_stand, no_bytes, answer, form_read, first_read, words_read, version_read, line_read, onward, lines_read, script_after, text_read, script_read}
 use Rattle.script_text.specs.Faults.{Spells}
 use Rattle.law_world.specs.streams.put_laws.TakenLines.{RiseFrom, NumbersRise}
-use Rattle.law_world.proofs.lemmas.streams.lemmas.put_laws.Mapped.{all_join, all_more}
 
 -- ---- a line more
 
@@ -96,7 +96,7 @@ after_before n w s h = ⊎_elim
     let k = later_line n w h in
     record {
       rise = subst (RiseFrom 0) (sym more.is) (rise_push 0 n more.line w.lines (omega arith) h.rise h.before);
-      before = subst (AllByRecursion (λ (l : ℕ × Line). l.0 < n + 1)) (sym more.is) (all_join (λ (l : ℕ × Line). l.0 < n + 1) w.lines ((n, more.line) ∷ []) k.before (omega arith, tt));
+      before = subst (AllByRecursion (λ (l : ℕ × Line). l.0 < n + 1)) (sym more.is) (all_both (λ (l : ℕ × Line). l.0 < n + 1) w.lines ((n, more.line) ∷ []) k.before (omega arith, tt));
     }) (after_added w n s)
 
 -- ---- lines

@@ -3,13 +3,14 @@ use Rattle.std.proofs.Common.{◌≡◌, ℕ, zero, suc, ◌+◌, ◌*◌, ◌/�
 use Rattle.std.specs.List.{AllByRecursion}
 use Rattle.std.proofs.lemmas.Bool.{false≢true}
 use Rattle.std.proofs.lemmas.Option.{same_Some}
+use Rattle.law_common.proofs.Lists.{none_there}
+use Rattle.law_driver.proofs.Common.{lent_slot}
+use Rattle.law_world.proofs.Common.{framed_same}
 use Rattle.word_mem.specs.Memory.{Mem}
 use Rattle.qh_qtd.specs.declared.qtd.Qtd.{Qtd}
 use Rattle.qh_qtd.specs.declared.queue_head.Qh.{Qh}
 use Rattle.async_walk.specs.Walk.{Walk}
 use Rattle.async_walk.specs.Rows.{place}
-use Rattle.mem_runs.specs.declared.slots.Slot.{Slot}
-use Rattle.mem_runs.specs.declared.slots.Slot.TheVariants.{Empty}
 use Rattle.mem_runs.specs.Book.{Holding, holding, slot_at, lend_slot, lend_runs, none_taken, lend_taken, store}
 use Rattle.drv_table.specs.declared.content.Endpoint.{Endpoint}
 use Rattle.drv_table.specs.declared.content.Command.{Command}
@@ -24,7 +25,7 @@ use Rattle.drv_table.specs.DriverContent.{DriverContent}
 use Rattle.drv_table.specs.Harvests.{note_at, buffer_address}
 use Rattle.drv_table.specs.Parts.{Parts as DriverParts}
 use Rattle.drv_table.specs.Commands.{store_order, events_of, links, leave_ring, no_command, advanced_by, advance}
-use Rattle.drv_table.specs.FrameChoice.{framed_by, linked_by}
+use Rattle.drv_table.specs.FrameChoice.{linked_by}
 use Rattle.drv_table.specs.Rows.{driver_row, after_driver_row}
 use Rattle.drv_table.specs.Words.{head_block}
 use Rattle.law_driver.specs.run_owners.Due.{IsDue, IsNextOf, IsLinkOf, IsTransferDue}
@@ -83,14 +84,10 @@ advanced_keeps d _ is = absurd is
 
 -- ---- a lend changes no word
 
-slot_words : (h : Holding) (b : ℕ) (s : Slot) → (lend_slot h b s).memory.words ≡ h.memory.words
-slot_words h b Empty = refl
-slot_words h b _ = refl
-
 pub runs_words : (h : Holding) (bs : List ℕ) → (lend_runs h bs).memory.words ≡ h.memory.words
 unfolding lend_runs
 runs_words h [] = refl
-runs_words h (b ∷ bs) = runs_words (lend_slot h b (slot_at h b)) bs ∙ slot_words h b (slot_at h b)
+runs_words h (b ∷ bs) = runs_words (lend_slot h b (slot_at h b)) bs ∙ lent_slot h b (slot_at h b)
 
 lent_holds : (d : DriverContent) (m q : Mem) (puts : ℕ → List ℕ) → OnlyAsynchronous d → q ≡ m → HoldsPuts d m puts → HoldsPuts (advance (record d { book = (lend_taken (holding d.book q)).book })) (lend_taken (holding d.book q)).memory puts
 lent_holds d m q puts bulk same held =
@@ -293,12 +290,6 @@ no_links _ bulk is = false≢true is
 
 -- ---- rows of frames
 
-pub framed_same : (d : DriverContent) (n : ℕ) (o : Option Command) → IsBulkCommand o → framed_by d n o ≡ d
-framed_same d n (Some unfinished.Chain) is = absurd is
-framed_same d n (Some (unfinished.Iso e t count)) is = absurd is
-framed_same d n (Some (unfinished.Unchain e)) is = absurd is
-framed_same d n _ is = refl
-
 linked_same : (d : DriverContent) (m : Mem) (o : Option Command) → IsBulkCommand o → linked_by d m o ≡ m
 linked_same d m (Some unfinished.Chain) is = absurd is
 linked_same d m (Some (unfinished.Iso e t count)) is = absurd is
@@ -306,9 +297,6 @@ linked_same d m (Some (unfinished.Unchain e)) is = absurd is
 linked_same d m _ is = refl
 
 -- ---- any row
-
-pub none_there : {X : Type 0} (xs : List X) (x : X) → xs ≡ [] → slice_get xs 0 ≡ Some x → ⊥
-none_there xs x none here = let e : ◌≡◌ {A = Option _} None (Some x) = sym (ap (λ ys. slice_get ys 0) none) ∙ here in cc
 
 module _ (base : Base) (member : ℕ → Bool) (parts : StructureSets) (hand : Hand) (w : Walk) (p : DriverParts) (order : ℕ → ℕ → ℕ) (out : ℕ → List ℕ) (puts : ℕ → List ℕ) (owners : HasOwners p.driver) (turns : AsynchronousTakesTurns p.driver) (drives : DrivesRing base member parts hand (place w p.registers p.memory) p.driver) (fed : AreFed p.driver parts) (released : (t : ℕ) → driver_row p ≡ rows.ReleaseTransfer t → ReleaseStands base member parts hand w p order out) (near : IsReleasedMet p) (finds : FindsUnlink p.driver member parts) (heads : (w : Mend) → driver_row p ≡ rows.Mend w → IsInHead parts w.at) (gone : (e : ℕ) → driver_row p ≡ rows.ReleaseEndpoint e → HoldsPuts (after_driver_row (driver_row p) p).driver (after_driver_row (driver_row p) p).memory puts) (held : HoldsPuts p.driver p.memory puts) where
   abbrev Holds : DriverRow → Type 0

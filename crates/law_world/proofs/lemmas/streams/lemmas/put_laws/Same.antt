@@ -1,9 +1,14 @@
 -- What is owed where no endpoint, transfer or note changes.
-use Rattle.std.proofs.Common.{◌≡◌, ◌≢◌, ℕ, zero, suc, ◌-◌, ◌*◌, Bool, true, false, List, [], ◌++◌, set, slice_get, Option, Some, None, option_map, ap, refl, sym, subst, ◌∙◌, ⊎_elim, inl, inr, arith}
+use Rattle.std.proofs.Common.{◌≡◌, ◌≢◌, ℕ, ◌-◌, ◌*◌, Bool, true, false, List, [], ◌++◌, set, slice_get, Option, Some, None, option_map, ap, refl, sym, subst, ◌∙◌, ⊎_elim, inl, inr, arith}
 use Rattle.std.specs.Prelude.{◌⊎◌}
 use Rattle.std.specs.List.{concat}
-use Rattle.std.proofs.lemmas.Bool.{cases_eq, false≢true, true≢false}
+use Rattle.std.proofs.lemmas.Bool.{false≢true, true≢false}
 use Rattle.std.proofs.lemmas.Option.{same_Some, slice_get_within}
+use Rattle.law_driver.proofs.Common.{others_wait}
+use Rattle.law_queues.proofs.Common.{none_open}
+use Rattle.law_common.proofs.Lists.{nothing_at, set_there}
+use Rattle.law_world.proofs.Common.{same_queue, met_or_not}
+use Rattle.law_driver.proofs.Common.{waits_is}
 use Rattle.claims_base.specs.Prefix.{IsPrefix}
 use Rattle.word_mem.specs.Memory.{Mem}
 use Rattle.usb_base.specs.declared.endpoints.EpDesc.{EpDesc}
@@ -15,7 +20,6 @@ use Rattle.drv_table.specs.declared.content.Sort.TheVariants as sorts
 use Rattle.drv_table.specs.declared.content.Transfer.{Transfer}
 use Rattle.drv_table.specs.DriverContent.{DriverContent, waits_for}
 use Rattle.law_driver.specs.endpoint_lives.Lives.{told_end}
-use Rattle.law_driver.proofs.lemmas.run_owners.Released.{set_there}
 use Rattle.claims_driver.specs.Scripts.{receives}
 use Rattle.law_driver.specs.chained_transfers.Bulk.{sort_by, MovesAs}
 use Rattle.law_driver.specs.chained_transfers.AsynchronousTurns.{AsynchronousTakesTurns}
@@ -29,10 +33,7 @@ use Rattle.law_world.specs.streams.put_laws.TakenPuts.{puts_from, puts_of}
 use Rattle.law_world.specs.streams.put_laws.Owed.{rest_from, rest_of, Owes}
 use Rattle.law_world.specs.streams.put_laws.OwedLaws.{TellsAlike, KeepsPuts, NewDriverOwes, AlikeOwes, MetOwes, ReturnedOwes}
 use Rattle.law_world.proofs.lemmas.streams.lemmas.put_laws.Bytes.{held_left}
-use Rattle.law_world.proofs.lemmas.streams.lemmas.put_laws.Rests.{prefix_to, waits_is, waits_not, reported_not, one_none, rest_alike, rest_none, rest_set, puts_kept, puts_set, puts_no}
-
-none_open : (q : ℕ) → ◌≡◌ {A = Option Command} None (Some (unfinished.Open q)) → ⊥
-none_open q is = cc
+use Rattle.law_world.proofs.lemmas.streams.lemmas.put_laws.Rests.{prefix_to, reported_not, one_none, rest_alike, rest_none, rest_set, puts_kept, puts_set, puts_no}
 
 -- ---- one put that waits
 
@@ -68,18 +69,10 @@ queue_in : Option Command → ℕ
 queue_in (Some (unfinished.Open c)) = c
 queue_in _ = 0
 
-pub same_open : (b c : ℕ) → ◌≡◌ {A = Option Command} (Some (unfinished.Open b)) (Some (unfinished.Open c)) → b ≡ c
-unfolding queue_in
-same_open b c is = ap queue_in is
-
-open_or : (o : Option Command) (q : ℕ) → (o ≡ Some (unfinished.Open q)) ⊎ (o ≢ Some (unfinished.Open q))
-open_or (Some (unfinished.Open b)) q = ⊎_elim (λ (is : b ≡ q). inl (ap (λ (c : ℕ). Some (unfinished.Open c)) is)) (λ (differs : b ≢ q). inr (λ is. differs (same_open b q is))) (cases_eq b q)
-open_or _ q = inr (λ is. cc)
-
 pub there_or : (d : DriverContent) (x : Endpoint) → x.gone ≡ false → (d.command ≡ Some (unfinished.Open x.queue)) ⊎ IsThere d x
 there_or d x alive =
     ⊎_elim (λ (opens : d.command ≡ Some (unfinished.Open x.queue)). inl opens)
-    (λ (linked : d.command ≢ Some (unfinished.Open x.queue)). inr (record { linked = linked; kept = alive })) (open_or d.command x.queue)
+    (λ (linked : d.command ≢ Some (unfinished.Open x.queue)). inr (record { linked = linked; kept = alive })) (met_or_not d.command x.queue)
 
 pub life_or : (d : DriverContent) (x : Endpoint) → ((d.command ≡ Some (unfinished.Open x.queue)) × (x.gone ≡ false)) ⊎ ((x.gone ≡ true) ⊎ IsThere d x)
 life_or d x = by x.gone refl
@@ -165,7 +158,7 @@ module _ (d new : DriverContent) (m later : Mem) (puts now reported told : ℕ �
   none_put : (e : ℕ) (x : Endpoint) → slice_get d.endpoints e ≡ Some x → x.gone ≡ false → d.command ≡ Some (unfinished.Open x.queue) → (rest_of new later e ≡ []) × (concat (puts_of new now e) ≡ [])
   none_put e x here alive is =
       let none = λ (t : ℕ) (y : Transfer) (there : slice_get new.transfers t ≡ Some y). owes.opening e t x y here alive is (had t y there) in
-      (rest_none later new.notes e new.transfers (λ t y there. waits_not e y (none t y there)), ap concat (puts_no now e new.transfers none))
+      (rest_none later new.notes e new.transfers (λ t y there. others_wait e y (none t y there)), ap concat (puts_no now e new.transfers none))
 
   pub same_owes : Owes new later now told
   same_owes = record {
@@ -212,11 +205,7 @@ pub met_owes : MetOwes
 met_owes d new m later puts reported told b turns alike opens done here beside held still owes =
     same_owes d new m later puts puts reported told turns (alike_like d new alike) (λ t low. refl) held still
     (λ e x at meets before. beside (32 * x.queue) (λ same. before.linked (opens ∙ ap (λ (c : ℕ). Some (unfinished.Open c)) (let q : b ≡ x.queue = omega (arith, same) in q))))
-    (λ e x at meets at_open. ap (λ (c : ℕ). told (32 * c)) (sym (same_open b x.queue (sym opens ∙ at_open))) ∙ here) (λ x is. absurd (none_open x.queue (sym done ∙ is))) owes
-
-nothing_at : {X : Type 0} (i : ℕ) (z : X) → slice_get [] i ≡ Some z → ⊥
-nothing_at zero z is = cc
-nothing_at (suc i) z is = cc
+    (λ e x at meets at_open. ap (λ (c : ℕ). told (32 * c)) (sym (same_queue b x.queue (sym opens ∙ at_open))) ∙ here) (λ x is. absurd (none_open x.queue (sym done ∙ is))) owes
 
 pub new_owes : NewDriverOwes
 new_owes n room m puts reported = record {

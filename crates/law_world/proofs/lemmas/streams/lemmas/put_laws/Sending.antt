@@ -1,8 +1,10 @@
 -- The bytes of a put, once its stages are written (EHCI 1.0, 3.5.4 and 4.10).
-use Rattle.std.proofs.Common.{◌≡◌, ◌≢◌, ℕ, zero, suc, ◌*◌, ◌<◌, ◌≤◌, Bool, true, false, nat_eq, if◌then◌else◌, List, [], ◌∷◌, ◌++◌, length, take, drop, get_or, ap, refl, sym, subst, ◌∙◌, arith}
+use Rattle.std.proofs.Common.{◌≡◌, ◌≢◌, ℕ, ◌*◌, ◌<◌, ◌≤◌, Bool, true, false, nat_eq, if◌then◌else◌, List, [], ◌∷◌, ◌++◌, length, take, drop, ap, refl, sym, subst, ◌∙◌, arith}
 use Rattle.std.specs.List.{AllByRecursion}
 use Rattle.std.proofs.lemmas.Bool.Decides.{nat_tests}
 use Rattle.std.proofs.lemmas.List.{take-append-drop, length-take}
+use Rattle.law_driver_ring.proofs.Common.{sends_few}
+use Rattle.law_common.proofs.Lists.{small_at, small_take, small_drop}
 use Rattle.word_mem.specs.Memory.{Mem, word_at}
 use Rattle.mem_runs.specs.Book.{Book, Holding, holding, slot_of, Stands}
 use Rattle.law_driver.specs.in_place.InPlace.{IsGood}
@@ -27,28 +29,6 @@ sends_all s out = by (nat_eq s.pid 1) refl
     by : (b : Bool) → nat_eq s.pid 1 ≡ b → (if b then 0 else s.long) ≡ s.long
     by true is = absurd (out (grind (arith, nat_tests, is)))
     by false is = refl
-
-sends_few : (s : Stage) → sends s ≤ s.long
-sends_few s = by (nat_eq s.pid 1)
-  where
-    by : (b : Bool) → (if b then 0 else s.long) ≤ s.long
-    by true = omega arith
-    by false = omega arith
-
-small_at : (bytes : List ℕ) (i : ℕ) → AllByRecursion (λ b. b < 256) bytes → get_or bytes i 0 < 256
-small_at [] i all = omega arith
-small_at (b ∷ bs) zero all = all.0
-small_at (b ∷ bs) (suc i) all = small_at bs i all.1
-
-small_take : (bytes : List ℕ) (n : ℕ) → AllByRecursion (λ b. b < 256) bytes → AllByRecursion (λ b. b < 256) (take n bytes)
-small_take bytes zero all = tt
-small_take [] (suc n) all = tt
-small_take (b ∷ bs) (suc n) all = (all.0, small_take bs n all.1)
-
-small_drop : (bytes : List ℕ) (n : ℕ) → AllByRecursion (λ b. b < 256) bytes → AllByRecursion (λ b. b < 256) (drop n bytes)
-small_drop bytes zero all = all
-small_drop [] (suc n) all = tt
-small_drop (b ∷ bs) (suc n) all = small_drop bs n all.1
 
 -- ---- the buffers of other stages
 

@@ -1,8 +1,10 @@
 -- Commands, and rows that store no word of a queue.
 use Rattle.std.proofs.Common.{◌≡◌, ◌≢◌, ℕ, ◌-◌, ◌*◌, ◌==◌, Bool, true, false, if◌then◌else◌, List, [], ◌∷◌, ◌++◌, length, take, get_or, slice_get, option_map, Option, Some, None, ap, refl, sym, subst, ◌∙◌, ⊎_elim, inl, inr, ◌||◌}
-use Rattle.std.specs.Prelude.{◌⊎◌}
 use Rattle.std.proofs.lemmas.Bool.{cases_eq, eq-eqb, false≢true, or_cases}
 use Rattle.std.proofs.lemmas.Option.{same_Some}
+use Rattle.law_queues.proofs.Common.{stall_or}
+use Rattle.law_common.proofs.Numbers.{other_number}
+use Rattle.law_common.proofs.Lists.{push_which}
 use Rattle.usb_base.specs.declared.endpoints.EpDesc.{EpDesc}
 use Rattle.word_mem.specs.Memory.{Mem}
 use Rattle.mem_runs.specs.Book.{holding}
@@ -28,7 +30,6 @@ use Rattle.claims_driver.specs.Leaving.{HasOwners}
 use Rattle.claims_driver.specs.Owners.{EndpointRuns, runs_of_endpoint}
 use Rattle.law_driver.proofs.lemmas.run_owners.Reasons.{each_event_is_due}
 use Rattle.law_structures.specs.lent_structures.Structures.{StructureSets}
-use Rattle.law_structures.proofs.lemmas.lent_structures.Names.{not_same}
 use Rattle.law_ring.specs.Hand.{Hand}
 use Rattle.law_ring.specs.Order.{IsAmong}
 use Rattle.law_ring.specs.Fewer.{without_those}
@@ -43,16 +44,13 @@ use Rattle.law_driver.specs.chained_transfers.Asynchronous.{OnlyAsynchronous}
 use Rattle.law_driver.specs.chained_transfers.AsynchronousTurns.{AsynchronousTakesTurns}
 use Rattle.law_driver_ring.specs.fed_queues.Places.{IsMet, AreStillOut}
 use Rattle.law_queues.specs.fed_lends.Commands.{QueuesStand}
-use Rattle.law_queues.proofs.lemmas.fed_lends.Asked.{push_which, set_which}
+use Rattle.law_queues.proofs.lemmas.fed_lends.Asked.{set_which}
 use Rattle.law_queues.specs.fed_harvests.Harvests.{HarvestLeaves, with_out}
 use Rattle.law_queues.specs.fed_harvests.Stalls.{StallLeaves}
 use Rattle.law_queues.proofs.lemmas.fed_harvests.Harvests.{unstalled_stands, wait_stands}
 use Rattle.law_queues.proofs.lemmas.fed_harvests.Stalls.{stall_stands}
 use Rattle.law_queues.proofs.lemmas.fed_harvests.Told.{in_both}
 use Rattle.law_queues.specs.mended_heads.Stalling.{IsStall}
-use Rattle.usb_base.specs.declared.packets.EpKind.{EpKind}
-use Rattle.usb_base.specs.declared.endpoints.EndCause.{EndCause}
-use Rattle.drv_table.specs.Harvests.{end_of, is_stall}
 use Rattle.law_driver.specs.chained_transfers.Out.{out_now}
 use Rattle.law_driver.proofs.lemmas.chained_transfers.BulkAndControl.{not_iso}
 use Rattle.law_driver_ring.proofs.lemmas.walk_members.Descriptions.{desc_of, row_left}
@@ -201,20 +199,6 @@ quiet_sends p hand parts order out later quiet bulk fewer k =
 
 -- ---- a harvest
 
-stall_or : (kind : EpKind) (found : Found) → IsStall kind found ⊎ (IsStall kind found → ⊥)
-stall_or kind founds.Active = inr (λ stall. stall)
-stall_or kind (founds.Moved n) = inr (λ stall. stall)
-stall_or kind (founds.Served errors) = inr (λ stall. stall)
-stall_or kind (founds.Ended n what) = by (is_stall what) (end_of kind what) refl refl
-  where
-    some_none : (c : EndCause) → ◌≡◌ {A = Option EndCause} (Some c) None → ⊥
-    some_none c same = cc
-
-    by : (b : Bool) (o : Option EndCause) → is_stall what ≡ b → end_of kind what ≡ o → ((is_stall what ≡ true) × (end_of kind what ≡ None)) ⊎ ((is_stall what ≡ true) × (end_of kind what ≡ None) → ⊥)
-    by true None one two = inl (one, two)
-    by true (Some c) one two = inr (λ both. some_none c (sym two ∙ both.1))
-    by false o one two = inr (λ both. false≢true (sym one ∙ both.0))
-
 module _ (p : Parts) (e t : ℕ) (found : Found) (member streams : ℕ → Bool) (ends : ℕ → Told) (parts : StructureSets) (order : ℕ → ℕ → ℕ) (out later : ℕ → List ℕ) (due : IsHarvestDue p e t found) (owners : HasOwners p.driver) (turns : AsynchronousTakesTurns p.driver) (queues : QueuesStand p.driver member streams ends parts order out) where
   abbrev new : DriverContent
   new = (after_driver_row (rows.Harvest e t found) p).driver
@@ -242,7 +226,7 @@ module _ (p : Parts) (e t : ℕ) (found : Found) (member streams : ℕ → Bool)
       let is : with_out out n left (32 * z.queue) ≡ left = ap (λ (b : Bool). if b then left else out (32 * z.queue)) (eq-eqb (32 * z.queue) n same) in
       subst (IsAmong a) (sym was ∙ ap out (sym same)) (fewer a (subst (IsAmong a) (those ∙ is) among)))
       (λ (apart : 32 * z.queue ≢ n).
-      subst (IsAmong a) (those ∙ ap (λ (b : Bool). if b then left else out (32 * z.queue)) (not_same (32 * z.queue) n apart)) among) (cases_eq (32 * z.queue) n)
+      subst (IsAmong a) (those ∙ ap (λ (b : Bool). if b then left else out (32 * z.queue)) (other_number (32 * z.queue) n apart)) among) (cases_eq (32 * z.queue) n)
 
   one_less : found ≢ founds.Active → (IsStall due.endpoint.desc.kind found → ⊥) → AreStillOut new later → AreFewer new out later
   one_less differs unstalled =

@@ -1,9 +1,12 @@
 -- An event of the driver changes no endpoint's description and no transfer's endpoint, and refuses no command.
-use Rattle.std.proofs.Common.{◌≡◌, ℕ, zero, suc, ◌-◌, Bool, true, false, ◌||◌, ◌==◌, List, [], ◌∷◌, ◌++◌, length, map, slice_get, slice_set, Option, Some, None, ap, sym, subst, refl, ◌∙◌}
+use Rattle.std.proofs.Common.{◌≡◌, ℕ, zero, suc, ◌-◌, Bool, true, false, ◌||◌, List, [], ◌∷◌, ◌++◌, length, map, slice_get, slice_set, Option, Some, None, ap, sym, subst, refl, ◌∙◌}
 use Rattle.std.specs.Prelude.{if◌then◌else◌, nat_eq, nat_le, nat_lt, is_none, take, drop}
 use Rattle.std.specs.List.{list_any}
 use Rattle.std.proofs.lemmas.Bool.{cond_both}
 use Rattle.std.proofs.lemmas.List.Folds.{list_any-append}
+use Rattle.law_driver.proofs.Common.{let_go_same}
+use Rattle.law_common.proofs.Booleans.{or_false}
+use Rattle.law_common.proofs.Lists.{map_set_same}
 use Rattle.usb_base.specs.declared.endpoints.EpDesc.{EpDesc}
 use Rattle.usb_base.specs.declared.endpoints.EpName.{EpName}
 use Rattle.usb_base.specs.declared.endpoints.EndCause.{EndCause}
@@ -45,7 +48,7 @@ use Rattle.law_driver.specs.run_owners.Due.{IsDue}
 use Rattle.law_driver.proofs.lemmas.run_owners.Reasons.{each_event_is_due}
 use Rattle.claims_report.specs.Reports.{is_refusal}
 use Rattle.claims_report.specs.Streams.{refuses_in}
-use Rattle.law_world.proofs.lemmas.streams.lemmas.put_laws.Mapped.{set_same, map_same}
+use Rattle.law_world.proofs.lemmas.streams.lemmas.put_laws.Mapped.{map_same}
 
 abbrev pub desc_at : Endpoint → EpDesc
 desc_at x = x.desc
@@ -87,30 +90,26 @@ refuses_none : (n : ℕ) (what : What) → is_refusal what ≡ false → refuses
 refuses_none n (lines.Refused line why) is = absurd (cc)
 refuses_none n _ is = refl
 
-or_none : (b : Bool) → (b || false) ≡ b
-or_none true = refl
-or_none false = refl
-
 pub refuses_more : (n : ℕ) (reports : List Report) (line : Report) → refuses n (reports ++ line ∷ []) ≡ (refuses n reports || refuses_in n line.what)
 refuses_more n reports line =
-    list_any-append (λ (z : Report). refuses_in n z.what) reports (line ∷ []) ∙ ap (λ (b : Bool). refuses n reports || b) (or_none (refuses_in n line.what))
+    list_any-append (λ (z : Report). refuses_in n z.what) reports (line ∷ []) ∙ ap (λ (b : Bool). refuses n reports || b) (or_false (refuses_in n line.what))
 
 reported_stays : (d : DriverContent) (what : What) (name : EpName) (bytes : List ℕ) → is_refusal what ≡ false → Stays d (reported d what name bytes)
 reported_stays d what name bytes plain = record {
   descs = refl;
   owners = refl;
-  refusals = λ n. refuses_more n d.reports _ ∙ ap (λ (b : Bool). refuses n d.reports || b) (refuses_none n what plain) ∙ or_none (refuses n d.reports);
+  refusals = λ n. refuses_more n d.reports _ ∙ ap (λ (b : Bool). refuses n d.reports || b) (refuses_none n what plain) ∙ or_false (refuses n d.reports);
 }
 
 -- ---- commands
 
 left_stays : (d : DriverContent) (e : ℕ) (o : Option Endpoint) → slice_get d.endpoints e ≡ o → Stays d (leave_ring d e o)
 left_stays d e None here = stays_all d
-left_stays d e (Some x) here = stays_if d x.linked _ d (stays_so d _ (set_same desc_at d.endpoints e x (record x { linked = false }) here refl) refl refl) (stays_all d)
+left_stays d e (Some x) here = stays_if d x.linked _ d (stays_so d _ (map_set_same desc_at d.endpoints e x (record x { linked = false }) here refl) refl refl) (stays_all d)
 
 frames_left_stays : (d : DriverContent) (e : ℕ) (o : Option Endpoint) → slice_get d.endpoints e ≡ o → Stays d (leave_frames d e o)
 frames_left_stays d e None here = stays_all d
-frames_left_stays d e (Some x) here = stays_if d x.chained _ d (stays_so d _ (set_same desc_at d.endpoints e x (record x { chained = false }) here refl) refl refl) (stays_all d)
+frames_left_stays d e (Some x) here = stays_if d x.chained _ d (stays_so d _ (map_set_same desc_at d.endpoints e x (record x { chained = false }) here refl) refl refl) (stays_all d)
 
 finished_stays : (d : DriverContent) (c : Command) → Stays d (finished d c)
 finished_stays d (unfinished.Unlink e b link) = stays_join d (no_command d) _ (stays_so d _ refl refl refl) (left_stays (no_command d) e (slice_get d.endpoints e) refl)
@@ -144,10 +143,7 @@ framed_stays d n _ = stays_all d
 
 transfer_stays : (p : Parts) (t : ℕ) (o : Option Transfer) (h : Holding) → slice_get p.driver.transfers t ≡ o → Stays p.driver (after_transfer p t o h).driver
 transfer_stays p t None h here = stays_all p.driver
-transfer_stays p t (Some y) h here = stays_so p.driver _ refl (set_same owner_at p.driver.transfers t y (record y { released = true }) here refl) refl
-
-let_go_same : (e : ℕ) (told : Bool) (y : Transfer) → (let_go e told y).endpoint ≡ y.endpoint
-let_go_same e told y = cond_both (y.endpoint == e) _ y (λ (z : Transfer). z.endpoint ≡ y.endpoint) (λ _. refl) (λ _. refl)
+transfer_stays p t (Some y) h here = stays_so p.driver _ refl (map_set_same owner_at p.driver.transfers t y (record y { released = true }) here refl) refl
 
 let_go_waiting_same : (e : ℕ) (told : Bool) (y : Transfer) → (let_go_waiting e told y).endpoint ≡ y.endpoint
 let_go_waiting_same e told y = cond_both (waits_for e y) _ y (λ (z : Transfer). z.endpoint ≡ y.endpoint) (λ _. refl) (λ _. refl)
@@ -158,11 +154,12 @@ let_go_placed_same false e told y = let_go_same e told y
 
 gone_stays : (d : DriverContent) (e : ℕ) (x : Endpoint) (told : Bool) (book : Book) → slice_get d.endpoints e ≡ Some x → Stays d (gone_with d e x told book)
 gone_stays d e x told book here =
-    stays_so d _ (set_same desc_at d.endpoints e x (record x { gone = true }) here refl) (map_same owner_at (let_go e told) d.transfers (let_go_same e told)) refl
+    stays_so d _ (map_set_same desc_at d.endpoints e x (record x { gone = true }) here refl)
+    (map_same owner_at (let_go e told) d.transfers (let_go_same e told)) refl
 
 removed_stays : (d : DriverContent) (e : ℕ) (x : Endpoint) (told : Bool) (book : Book) → slice_get d.endpoints e ≡ Some x → Stays d (removed_with d e x told book)
 removed_stays d e x told book here =
-    stays_so d _ (set_same desc_at d.endpoints e x (record x { gone = true }) here refl)
+    stays_so d _ (map_set_same desc_at d.endpoints e x (record x { gone = true }) here refl)
     (map_same owner_at (let_go_placed (is_iso x.desc.kind) e told) d.transfers (let_go_placed_same (is_iso x.desc.kind) e told)) refl
 
 -- told or not, and then changed
@@ -206,7 +203,7 @@ unlink_stays p t (Some y) = stays_so p.driver _ refl refl refl
 
 descriptor_stays : (p : Parts) (t : ℕ) (o : Option Transfer) → slice_get p.driver.transfers t ≡ o → Stays p.driver (after_descriptor p t o).driver
 descriptor_stays p t None here = stays_all p.driver
-descriptor_stays p t (Some y) here = stays_so p.driver _ refl (set_same owner_at p.driver.transfers t y (record y { released = true }) here refl) refl
+descriptor_stays p t (Some y) here = stays_so p.driver _ refl (map_set_same owner_at p.driver.transfers t y (record y { released = true }) here refl) refl
 
 what_stays : (p : Parts) (what : Removed) → Stays p.driver (after_removed p what).driver
 what_stays p (removed.Descriptor t) = descriptor_stays p t (slice_get p.driver.transfers t) refl
@@ -219,7 +216,7 @@ one_behind_stays d e name k None here = stays_all d
 one_behind_stays d e name k (Some y) here =
     stays_if d (waits_for e y) _ d
     (stays_join d (reported d (lines.Halt causes.Stall) name []) _ (reported_stays d (lines.Halt causes.Stall) name [] refl)
-    (stays_so (reported d (lines.Halt causes.Stall) name []) _ refl (set_same owner_at d.transfers k y (record y { reported = true }) here refl) refl))
+    (stays_so (reported d (lines.Halt causes.Stall) name []) _ refl (map_set_same owner_at d.transfers k y (record y { reported = true }) here refl) refl))
     (stays_all d)
 
 behind_stays : (d : DriverContent) (e : ℕ) (name : EpName) (k n : ℕ) → Stays d (behind d e name k n)
@@ -237,17 +234,17 @@ stalled_stays d e t x here =
       endpoints = slice_set d.endpoints e (record x { next = None });
       mends = d.mends ++ mends_of x;
     } in
-    stays_join d first _ (stays_so d first (set_same desc_at d.endpoints e x (record x { next = None }) here refl) refl refl) (behind_stays first e x.desc.name (suc t) (length d.transfers - suc t))
+    stays_join d first _ (stays_so d first (map_set_same desc_at d.endpoints e x (record x { next = None }) here refl) refl refl) (behind_stays first e x.desc.name (suc t) (length d.transfers - suc t))
 
 end_stays : (d : DriverContent) (e t : ℕ) (x : Endpoint) (stall : Bool) (cause : Option EndCause) → slice_get d.endpoints e ≡ Some x → Stays d (after_end d e t x stall cause)
-end_stays d e t x stall (Some cause) here = stays_so d _ (set_same desc_at d.endpoints e x (record x { ended = Some cause }) here refl) refl refl
+end_stays d e t x stall (Some cause) here = stays_so d _ (map_set_same desc_at d.endpoints e x (record x { ended = Some cause }) here refl) refl refl
 end_stays d e t x stall None here =
-    stays_if d stall (stalled d e t x) (goes_on d e t x) (stalled_stays d e t x here) (stays_so d _ (set_same desc_at d.endpoints e x _ here refl) refl refl)
+    stays_if d stall (stalled d e t x) (goes_on d e t x) (stalled_stays d e t x here) (stays_so d _ (map_set_same desc_at d.endpoints e x _ here refl) refl refl)
 
 told_with_stays : (d : DriverContent) (m : Mem) (t : ℕ) (y : Transfer) (what : What) (name : EpName) (notes : List QtdNote) → is_refusal what ≡ false → slice_get d.transfers t ≡ Some y
     → Stays d (told_with d m t y what name notes)
 told_with_stays d m t y what name notes plain there =
-    stays_join d (reported d what name _) _ (reported_stays d what name _ plain) (stays_so (reported d what name _) _ refl (set_same owner_at d.transfers t y (record y { reported = true }) there refl) refl)
+    stays_join d (reported d what name _) _ (reported_stays d what name _ plain) (stays_so (reported d what name _) _ refl (map_set_same owner_at d.transfers t y (record y { reported = true }) there refl) refl)
 
 abbrev IsPlainFound : Found → Type 0
 IsPlainFound (founds.Ended n what) = is_refusal what ≡ false
@@ -256,10 +253,10 @@ IsPlainFound _ = Unit {0}
 found_stays : (d : DriverContent) (m : Mem) (e t : ℕ) (x : Endpoint) (y : Transfer) (found : Found) → IsPlainFound found → slice_get d.endpoints e ≡ Some x → slice_get d.transfers t ≡ Some y
     → Stays d (harvested_as d m e t x y found)
 found_stays d m e t x y founds.Active plain here there = stays_all d
-found_stays d m e t x y (founds.Moved n) plain here there = stays_so d _ refl (set_same owner_at d.transfers t y _ there refl) refl
+found_stays d m e t x y (founds.Moved n) plain here there = stays_so d _ refl (map_set_same owner_at d.transfers t y _ there refl) refl
 found_stays d m e t x y (founds.Served errors) plain here there =
     stays_join d (reported d (lines.Iso errors) x.desc.name _) _ (reported_stays d (lines.Iso errors) x.desc.name _ refl)
-    (stays_so (reported d (lines.Iso errors) x.desc.name _) _ (set_same desc_at d.endpoints e x _ here refl) (set_same owner_at d.transfers t y (record y { reported = true }) there refl) refl)
+    (stays_so (reported d (lines.Iso errors) x.desc.name _) _ (map_set_same desc_at d.endpoints e x _ here refl) (map_set_same owner_at d.transfers t y (record y { reported = true }) there refl) refl)
 found_stays d m e t x y (founds.Ended n what) plain here there =
     stays_join d (told_with d m t y what x.desc.name (noted d.notes y.place n)) _
     (told_with_stays d m t y what x.desc.name (noted d.notes y.place n) plain there)

@@ -5,6 +5,9 @@ use Rattle.std.specs.List.{AllByRecursion, concat, cons_option}
 use Rattle.std.proofs.lemmas.Bool.{eq-eqb, eqb-true}
 use Rattle.std.proofs.lemmas.List.{append-nil, length-map}
 use Rattle.std.proofs.lemmas.List.Elements.{filter_map-append}
+use Rattle.law_world.proofs.Common.{each_alike}
+use Rattle.law_common.proofs.Options.{either_none}
+use Rattle.law_common.proofs.Lists.{still_there, pushed_last, all_more, nth_all}
 use Rattle.usb_base.specs.declared.commands.Cmd.{Cmd}
 use Rattle.usb_base.specs.declared.commands.Cmd.TheVariants as commands
 use Rattle.usb_base.specs.declared.endpoints.EpDesc.{EpDesc}
@@ -26,7 +29,7 @@ use Rattle.bus_world.proofs.Offering.{SameLines, Lines, offer_lines}
 use Rattle.claims_world.specs.Streams.{report_of}
 use Rattle.law_world.specs.streams.put_laws.HeldPuts.{puts_then}
 use Rattle.law_world.specs.streams.put_laws.TakenPuts.{puts_of, IsOpen, IsCommandAmong, PutsAreTaken}
-use Rattle.law_world.proofs.lemmas.streams.lemmas.put_laws.Mapped.{was_mapped, mapped, push_there, push_last, all_more, all_there}
+use Rattle.law_world.proofs.lemmas.streams.lemmas.put_laws.Mapped.{was_mapped, mapped}
 use Rattle.law_world.proofs.lemmas.streams.lemmas.put_laws.Stays.{desc_at, owner_at, descs_in, owners_in, refuses, refuses_more, event_stays}
 use Rattle.law_world.proofs.lemmas.streams.lemmas.put_laws.TakenAccepted.{Adds, opens, puts as puts_one, others, IfAccepted, command_adds}
 use Rattle.law_world.proofs.lemmas.streams.lemmas.put_laws.Sums.{by_owners}
@@ -88,10 +91,6 @@ alike_accepted r now (l ∷ ls) same =
     ap (λ (b : Bool). cons_option (if b then None else command_in l.1) (accepted_of now ls)) same.0
     ∙ ap (λ (rest : List Cmd). cons_option (accepted_in r l) rest) (alike_accepted r now ls same.1)
 
-each_alike : (r now : WholeReport) (taken : List (ℕ × Line)) → ((n : ℕ) → is_refused now n ≡ is_refused r n) → AllByRecursion (λ (l : ℕ × Line). is_refused now l.0 ≡ is_refused r l.0) taken
-each_alike r now [] same = tt
-each_alike r now (l ∷ ls) same = (same l.0, each_alike r now ls same)
-
 -- the driver and the report may change otherwise
 pub puts_stay : (d c : DriverContent) (r now : WholeReport) (taken : List (ℕ × Line)) (puts : ℕ → List ℕ) → descs_in c ≡ descs_in d → owners_in c ≡ owners_in d → ((n : ℕ) → is_refused now n ≡ is_refused r n)
     → PutsAreTaken d r taken puts → PutsAreTaken c now taken puts
@@ -114,12 +113,8 @@ event_keeps_puts fixed w events.C taken puts h = puts_stay w.driver w.driver (re
 accepted_push : (r : WholeReport) (taken : List (ℕ × Line)) (l : ℕ × Line) (o : Option Cmd) → accepted_in r l ≡ o → accepted_of r (taken ++ l ∷ []) ≡ accepted_of r taken ++ cons_option o []
 accepted_push r taken l o is = filter_map-append (accepted_in r) taken (l ∷ []) ∙ ap (λ (z : Option Cmd). accepted_of r taken ++ cons_option z []) is
 
-either_none : {X : Type 0} (b : Bool) (o : Option X) → o ≡ None → (if b then None else o) ≡ None
-either_none true o is = refl
-either_none false o is = is
-
 command_push : (taken : List (ℕ × Line)) (l : ℕ × Line) (n : ℕ) → IsCommandAmong taken n → IsCommandAmong (taken ++ l ∷ []) n
-command_push taken l n k = record { at = k.at; cmd = k.cmd; here = push_there taken (l ∷ []) k.at (n, lines.Command k.cmd) k.here }
+command_push taken l n k = record { at = k.at; cmd = k.cmd; here = still_there taken (l ∷ []) k.at (n, lines.Command k.cmd) k.here }
 
 pub silent_puts : (d : DriverContent) (r : WholeReport) (taken : List (ℕ × Line)) (l : ℕ × Line) (puts : ℕ → List ℕ) → command_in l.1 ≡ None → PutsAreTaken d r taken puts → PutsAreTaken d r (taken ++ l ∷ []) puts
 silent_puts d r taken l puts none h =
@@ -138,7 +133,7 @@ number_new d r n taken puts before h = by (is_refused r n) refl
     by false is = refl
     by true is =
         let k = h.refused n is in
-        let low = all_there (λ (l : ℕ × Line). l.0 < n) taken k.at (n, lines.Command k.cmd) before k.here in
+        let low = nth_all (λ (l : ℕ × Line). l.0 < n) taken k.at (n, lines.Command k.cmd) before k.here in
         absurd (omega (arith, low))
 
 -- the puts of the transfers that the driver has
@@ -235,7 +230,7 @@ module _ (fixed : Fixed) (w : World) (n : ℕ) (cmd : Cmd) (taken : List (ℕ ×
       (agrees_same (descs_in d) (owners_in d) (accepted_of r taken) puts (puts_then w.driver cmd puts) (then_owned w.driver cmd puts) (to_agrees w.driver r taken puts h)))
       (λ k refused. ⊎_elim (λ (was : is_refused r k ≡ true). command_push taken (n, lines.Command cmd) k (h.refused k was))
       (λ (own : (n == k) ≡ true).
-      record { at = length taken; cmd = cmd; here = push_last taken (n, lines.Command cmd) ∙ ap (λ (z : ℕ). Some (z, lines.Command cmd)) (eqb-true n k own) })
+      record { at = length taken; cmd = cmd; here = pushed_last taken (n, lines.Command cmd) ∙ ap (λ (z : ℕ). Some (z, lines.Command cmd)) (eqb-true n k own) })
       (or_either (is_refused r k) (n == k) (sym (refused_also why k) ∙ refused)))
 
   answered_puts : (a : Result Offered OfferError) → IfAccepted (Adds w.driver cmd) a → Lines w.driver a

@@ -120,9 +120,6 @@ newest_by : (d : DriverContent) (t i : ℕ) (y : Transfer) (b : Bool) → nat_eq
 newest_by d t i y true is below = record { newest = grind (arith, nat_tests, is); out = left_out d.command d.made y.qtds i below }
 newest_by d t i y false is below = absurd (omega (arith, below))
 
-same_publish : (b c : ℕ) (words others : List ℕ) → ◌≡◌ {A = Option Command} (Some (unfinished.Publish b words)) (Some (unfinished.Publish c others)) → b ≡ c
-same_publish b c words others is = cc
-
 -- each is stored, but where its transfer is still to be lent
 pub pieces_stored : (d : DriverContent) (parts : StructureSets) (t i : ℕ) (y : Transfer) (x : Endpoint) → is_request y.sort ≡ false → AreFed d parts → slice_get d.transfers t ≡ Some y → y.released ≡ false → slice_get d.endpoints y.endpoint ≡ Some x
     → (suc t ≡ length d.transfers → (b : ℕ) (words : List ℕ) → d.command ≡ Some (unfinished.Publish b words) → 1 ≤ d.made) → i < y.qtds → 0 < (note_at d.notes (piece_at (note_in d.notes) y.first i)).told

@@ -1,13 +1,16 @@
 -- What an accepted command adds: an endpoint, a put of the endpoint with its name, or transfers of endpoints that send no stream.
-use Rattle.std.proofs.Common.{◌≡◌, ◌≢◌, ℕ, zero, suc, ◌+◌, Bool, true, false, ◌||◌, not, cond, List, [], ◌∷◌, ◌++◌, length, map, get_or, position, slice_get, Option, Some, None, Result, Ok, Err, unwrap_or, replicate, ap, sym, refl, ◌∙◌}
+use Rattle.std.proofs.Common.{◌≡◌, ◌≢◌, ℕ, zero, suc, ◌+◌, Bool, true, false, ◌||◌, not, cond, List, [], ◌∷◌, ◌++◌, length, map, position, slice_get, Option, Some, None, Result, Ok, Err, unwrap_or, replicate, ap, sym, refl, ◌∙◌}
 use Rattle.std.specs.Prelude.{nat_lt, count_by, ◌%◌, drop}
 use Rattle.std.specs.List.{AllByRecursion, position_from}
 use Rattle.std.specs.Option.{option_and_then}
 use Rattle.std.proofs.lemmas.Bool.{cond_both, and_parts}
-use Rattle.std.proofs.lemmas.Option.{same_Some, slice_get-get_or, get_or_from_slice_get}
+use Rattle.std.proofs.lemmas.Option.{same_Some, get_or_from_slice_get}
 use Rattle.std.proofs.lemmas.List.{append_assoc, append-nil, map-append}
 use Rattle.std.proofs.lemmas.List.Quantifiers.{position-Some}
 use Rattle.std.proofs.lemmas.Iterator.Adapters.{position_from-zero}
+use Rattle.law_common.proofs.Options.{some_not_none, by_test}
+use Rattle.law_driver.proofs.Common.{found_there}
+use Rattle.law_common.proofs.Lists.{all_alike, map_set_same}
 use Rattle.usb_base.specs.declared.commands.Cmd.{Cmd}
 use Rattle.usb_base.specs.declared.commands.Cmd.TheVariants as commands
 use Rattle.usb_base.specs.declared.endpoints.EpName.{EpName}
@@ -42,7 +45,7 @@ use Rattle.law_queues.proofs.lemmas.told_endpoints.Names.{same_name_is, name_is_
 use Rattle.claims_driver.specs.Scripts.{receives}
 use Rattle.law_driver.proofs.lemmas.chained_transfers.Ways.{same_in}
 use Rattle.bus_world.proofs.Offering.{get_asked, put_asked, request_asked}
-use Rattle.law_world.proofs.lemmas.streams.lemmas.put_laws.Mapped.{mapped, was_mapped, set_same}
+use Rattle.law_world.proofs.lemmas.streams.lemmas.put_laws.Mapped.{mapped, was_mapped}
 use Rattle.law_world.proofs.lemmas.streams.lemmas.put_laws.Stays.{desc_at, owner_at, descs_in, owners_in, Stays, stays_join, or_finished_stays}
 
 -- the endpoint has no stream that it sends
@@ -90,13 +93,6 @@ IfAccepted P (Err why) = Unit {0}
 
 -- ---- endpoints by name
 
-some_not_none : (i : ℕ) → ◌≡◌ {A = Option ℕ} (Some i) None → ⊥
-some_not_none i e = cc
-
-by_test : (b : Bool) (i : ℕ) (o : Option ℕ) → (o ≡ None → ⊥) → cond b (Some i) o ≡ None → ⊥
-by_test true i o later e = some_not_none i e
-by_test false i o later e = later e
-
 found_from : (t : Endpoint → Bool) (i : ℕ) (xs : List Endpoint) (j : ℕ) (x : Endpoint) → slice_get xs j ≡ Some x → t x ≡ true → position_from t i xs ≡ None → ⊥
 found_from t i [] j x there on none = absurd (cc)
 found_from t i (z ∷ zs) zero x there on none =
@@ -106,11 +102,6 @@ found_from t i (z ∷ zs) (suc j) x there on none = by_test (t z) i (position_fr
 
 no_position : (t : Endpoint → Bool) (xs : List Endpoint) (j : ℕ) (x : Endpoint) → slice_get xs j ≡ Some x → t x ≡ true → position t xs ≡ None → ⊥
 no_position t xs j x there on none = found_from t 0 xs j x there on (sym (position_from-zero t xs) ∙ none)
-
-found_there : (xs : List Endpoint) (p : Endpoint → Bool) (e : ℕ) → position p xs ≡ Some e → (y : Endpoint) × (slice_get xs e ≡ Some y)
-found_there [] p e f = absurd (cc)
-found_there (x ∷ xs) p e f =
-    let at = position-Some p (x ∷ xs) e x f in (get_or (x ∷ xs) e x, slice_get-get_or (x ∷ xs) e x at.0)
 
 found_passes : (xs : List Endpoint) (p : Endpoint → Bool) (e : ℕ) (y : Endpoint) → position p xs ≡ Some e → slice_get xs e ≡ Some y → p y ≡ true
 found_passes xs p e y f here = sym (ap p (get_or_from_slice_get xs e y y here)) ∙ (position-Some p xs e y f).1
@@ -131,7 +122,7 @@ module _ (d : DriverContent) (m : Mem) (name : EpName) (takes : Endpoint → Boo
     (gives : (e : ℕ) (x : Endpoint) (c : DriverContent) → slice_get d.endpoints e ≡ Some x → x.desc.name ≡ name → takes x ≡ true → descs_in c ≡ descs_in d → owners_in c ≡ owners_in d ++ e ∷ [] → P c) where
   transfer_taken : (e : ℕ) (x : Endpoint) (r : Result Holding OfferError) → slice_get d.endpoints e ≡ Some x → x.desc.name ≡ name → takes x ≡ true → IfAccepted P (taken_transfer d e x a r)
   transfer_taken e x (Err why) here named on = tt
-  transfer_taken e x (Ok h) here named on = gives e x _ here named on (set_same desc_at d.endpoints e x _ here refl) (map-append owner_at d.transfers _)
+  transfer_taken e x (Ok h) here named on = gives e x _ here named on (map_set_same desc_at d.endpoints e x _ here refl) (map-append owner_at d.transfers _)
 
   transfer_open : (e : ℕ) (x : Endpoint) (cause : Option EndCause) → slice_get d.endpoints e ≡ Some x → x.desc.name ≡ name → takes x ≡ true → IfAccepted P (open_transfer d m e x a cause)
   transfer_open e x (Some cause) here named on = tt
@@ -161,10 +152,6 @@ descriptors_owned k e x s (suc n) seed runs a =
     ∙ ap (λ (os : List ℕ). os ++ replicate n e) (map-append owner_at a.transfers _)
     ∙ append_assoc (map owner_at a.transfers) (e ∷ []) (replicate n e)
 
-all_alike : (P : ℕ → Type 0) (n e : ℕ) → P e → AllByRecursion P (replicate n e)
-all_alike P zero e h = tt
-all_alike P (suc n) e h = (h, all_alike P n e h)
-
 no_iso_stream : (kind : EpKind) → is_iso kind ≡ true → has_stream kind ≡ true → ⊥
 no_iso_stream kinds.Iso iso on = cc
 no_iso_stream _ iso on = cc
@@ -180,7 +167,7 @@ module _ (d : DriverContent) (m : Mem) (name : EpName) (n len seed : ℕ) where
     no_open = refl;
     more = replicate n e;
     none = all_alike (IsNoSender (descs_in d)) n e (record { desc = x.desc; here = mapped desc_at d.endpoints e x here; none = λ on out. no_iso_stream x.desc.kind iso on });
-    descs = set_same desc_at d.endpoints e x _ here refl;
+    descs = map_set_same desc_at d.endpoints e x _ here refl;
     owners = descriptors_owned h.book e x.desc s n seed (new_runs d h) _;
   })
 
@@ -206,10 +193,15 @@ others_stay d c cmd no_put no_open h =
     others (record { no_put = no_put; no_open = no_open; more = []; none = tt; descs = h.descs; owners = h.owners ∙ sym (append-nil (owners_in d)) })
 
 cancelled_stays : (d : DriverContent) (e : ℕ) (x : Endpoint) (p : Option Placement) → slice_get d.endpoints e ≡ Some x → Stays d (cancelled_by d e x p)
-cancelled_stays d e x None here = record { descs = set_same desc_at d.endpoints e x (record x { cancelled = true; ended = first_end x.ended }) here refl; owners = refl; refusals = λ n. refl }
+cancelled_stays d e x None here = record { descs = map_set_same desc_at d.endpoints e x (record x { cancelled = true; ended = first_end x.ended }) here refl; owners = refl; refusals = λ n. refl }
 cancelled_stays d e x (Some p) here =
     stays_join d (with_cancel d e x (endpoint_members d e x p)) _
-    (record { descs = set_same desc_at d.endpoints e x (record x { cancelled = true; ended = first_end x.ended }) here refl; owners = refl; refusals = λ n. refl })
+    (record {
+      descs = map_set_same desc_at d.endpoints e x (record x { cancelled = true; ended = first_end x.ended }) here refl;
+      owners =
+          refl;
+      refusals = λ n. refl;
+    })
     (or_finished_stays (with_cancel d e x (endpoint_members d e x p)) (unfinished.Unchain e))
 
 cancel_found : (d : DriverContent) (m : Mem) (name : EpName) (e : ℕ) (o : Option Endpoint) → slice_get d.endpoints e ≡ o → IfAccepted (Adds d (commands.Cancel name)) (offered_cancel d m e o)

@@ -1,10 +1,13 @@
 -- What the device of an OUT endpoint took begins the endpoint's puts, at each moment and with each event of the controller.
-use Rattle.std.proofs.Common.{◌≡◌, ◌≢◌, ℕ, zero, suc, ◌+◌, ◌*◌, ◌<◌, ◌≤◌, ◌==◌, Bool, true, false, if◌then◌else◌, List, [], ◌∷◌, ◌++◌, length, slice_get, Option, Some, None, ap, refl, sym, subst, ◌∙◌, ⊎_elim, inl, inr, arith}
+use Rattle.std.proofs.Common.{◌≡◌, ◌≢◌, ℕ, zero, suc, ◌+◌, ◌*◌, ◌<◌, ◌≤◌, Bool, true, false, List, ◌∷◌, ◌++◌, length, slice_get, Option, Some, None, ap, refl, sym, subst, ◌∙◌, ⊎_elim, inl, inr, arith}
 use Rattle.std.specs.Prelude.{◌⊎◌}
 use Rattle.std.specs.List.{concat}
-use Rattle.std.proofs.lemmas.Bool.{cases_eq, false≢true, true≢false, eqb-true, or_cases}
+use Rattle.std.proofs.lemmas.Bool.{cases_eq, false≢true, true≢false}
 use Rattle.std.proofs.lemmas.List.{append_assoc}
 use Rattle.std.proofs.lemmas.Option.{same_Some}
+use Rattle.law_queues.proofs.Common.{behind_less}
+use Rattle.law_world.proofs.Common.{times_one}
+use Rattle.law_queues.proofs.Common.{last_one}
 use Rattle.claims_base.specs.Prefix.{IsPrefix}
 use Rattle.usb_base.specs.declared.endpoints.EndCause.{EndCause}
 use Rattle.usb_base.specs.declared.packets.Ask.{Ask}
@@ -21,7 +24,7 @@ use Rattle.drv_table.specs.Harvests.{note_at, buffer_bytes}
 use Rattle.law_driver.specs.endpoint_lives.Lives.{told_end, may_meet, is_one_of}
 use Rattle.law_driver.proofs.lemmas.endpoint_lives.Lives.{past_unmet}
 use Rattle.claims_driver.specs.Leaving.{HasOwners, times}
-use Rattle.law_driver.proofs.lemmas.run_owners.Orders.{one_same, IsLeft, has_left}
+use Rattle.law_driver.proofs.lemmas.run_owners.Orders.{IsLeft, has_left}
 use Rattle.claims_driver.specs.Scripts.{receives}
 use Rattle.law_driver.specs.chained_transfers.AsynchronousTurns.{AsynchronousTakesTurns}
 use Rattle.law_driver.specs.chained_transfers.Out.{out_now, out_all}
@@ -33,7 +36,7 @@ use Rattle.claims_base.specs.Controller.{Base}
 use Rattle.law_ring.specs.Ring.{IsInHand}
 use Rattle.law_ring.specs.Effects.{Effect}
 use Rattle.law_ring.specs.Effects.Effect.{reads, passes, ends, takes, makes, writes_back}
-use Rattle.law_ring.specs.Order.{AreAfter, IsSorted, IsAmong, Accounts}
+use Rattle.law_ring.specs.Order.{IsSorted, IsAmong, Accounts}
 use Rattle.law_ring.specs.Front.{HasFront, HasTail}
 use Rattle.law_ring.specs.Told.{Endpoint as Told}
 use Rattle.law_ring.specs.Pipes.{AreEndpoints}
@@ -55,19 +58,8 @@ use Rattle.law_world.specs.streams.put_laws.TakenPuts.{puts_of}
 use Rattle.law_world.specs.streams.put_laws.Owed.{rest_of, Owes}
 use Rattle.law_world.specs.streams.put_laws.Buffers.{IsPublishingTo, BuffersAreRest, BuffersBeforeLend, IsRestAround, BuffersAround}
 use Rattle.law_world.specs.streams.put_laws.OwedTaken.{TakenBegin, EndedAreStopped, IsOutHead, OutsStand, TakenBeginsPuts, EventKeepsTaken}
-use Rattle.law_world.proofs.lemmas.streams.lemmas.put_laws.Rests.{prefix_to, prefix_more}
+use Rattle.law_world.proofs.lemmas.streams.lemmas.put_laws.Rests.{prefix_to}
 use Rattle.law_world.proofs.lemmas.streams.lemmas.put_laws.TakenFresh.{out_fresh}
-
--- ---- what stands behind the first qTD of the transfer that is published
-
-after_one : (order : ℕ → ℕ) (e c : ℕ) (bs : List ℕ) → AreAfter order e bs → IsAmong c bs → order e < order c
-after_one order e c [] after among = absurd among
-after_one order e c (b ∷ bs) after (inl same) = let less = after.0 in let at = ap order same in omega (arith, less, at)
-after_one order e c (b ∷ bs) after (inr among) = after_one order e c bs after.1 among
-
-pub after_that : (order : ℕ → ℕ) (e c : ℕ) (ahead behind : List ℕ) → IsSorted order (ahead ++ e ∷ behind) → IsAmong c behind → order e < order c
-after_that order e c [] behind sorted among = after_one order e c behind sorted.0 among
-after_that order e c (a ∷ ahead) behind sorted among = after_that order e c ahead behind sorted.1 among
 
 -- ---- whether something is published to the endpoint
 
@@ -114,15 +106,6 @@ stopped_or member parts n mem = by mem.queue.token.active mem.queue.token.halted
     by false false off on = inr (λ k. false≢true (sym on ∙ ap (λ (q : Qh). q.token.halted) (sym (its k)) ∙ k.3))
 
 -- ---- an endpoint that was given back isn't met any more
-
-times_one : (e : ℕ) (es : List ℕ) → is_one_of e es ≡ true → 1 ≤ times e es
-times_one e [] on = absurd (false≢true on)
-times_one e (f ∷ es) on =
-    ⊎_elim (λ (same : (e == f) ≡ true).
-    let is : f ≡ e = sym (eqb-true e f same) in
-    let one : ◌≡◌ {A = ℕ} (if f == e then 1 else 0) 1 = ap (λ (g : ℕ). if g == e then 1 else 0) is ∙ one_same e in
-    omega (arith, one))
-    (λ (later : is_one_of e es ≡ true). let some = times_one e es later in omega (arith, some)) (or_cases (e == f) (is_one_of e es) on)
 
 -- what has left and isn't given back wasn't given back
 not_listed : (d : DriverContent) (e : ℕ) (x : Endpoint) (es : List ℕ) (owners : HasOwners d) → times e es ≤ times e d.waiting + times e d.rung → slice_get d.endpoints e ≡ Some x → x.gone ≡ true → is_one_of e es ≡ false
@@ -202,7 +185,7 @@ module _ (rest : BuffersAreRest) (before : BuffersBeforeLend) (around : BuffersA
     behind_them : (ahead more taken : List ℕ) → rest_of d m e ≡ ahead ++ more → IsPrefix taken (reported n ++ ahead) → IsPrefix taken all
     behind_them ahead more taken is begins =
         prefix_to taken ((reported n ++ ahead) ++ more) all (append_assoc (reported n) ahead more ∙ ap (λ (bs : List ℕ). reported n ++ bs) (sym is) ∙ all_are)
-        (prefix_more taken (reported n ++ ahead) more begins)
+        (last_one taken (reported n ++ ahead) more begins)
 
     module _ (b : ℕ) (k : IsPublishingTo d e b) where
       reach : Reaches d (parts n) (order n) (out_now d e) e x (32 * b)
@@ -228,7 +211,7 @@ module _ (rest : BuffersAreRest) (before : BuffersBeforeLend) (around : BuffersA
           let sent : AreSentWhole (order n) (r.ahead ++ r.behind) hand n (parts n) = subst (λ (xs : List ℕ). AreSentWhole (order n) xs hand n (parts n)) r.out_are whole in
           behind_them (buffers_of (parts n) r.ahead) (buffer_bytes m (note_at d.notes b) (note_at d.notes b).told ++ buffers_of (parts n) r.behind) p.taker.taken r.rest_is
           (told.around reach.stands.front (32 * b) r.ahead r.behind accounts fronts reach.tail
-          (λ c among. after_that (order n) (32 * b) c r.ahead r.behind sorted_so among) sent p)
+          (λ c among. behind_less (order n) (32 * b) c r.ahead r.behind sorted_so among) sent p)
 
       by_made : (made : ℕ) → d.made ≡ made → (p : IsOutPipe o (reported n ++ rep.told) parts hand n z) → IsPrefix p.taker.taken all
       by_made zero is p = to_be_lent is p

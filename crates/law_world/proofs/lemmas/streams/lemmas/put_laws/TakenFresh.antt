@@ -1,7 +1,9 @@
 -- Of the qTDs that are out nothing was moved yet, where they aren't done.
-use Rattle.std.proofs.Common.{◌≡◌, ℕ, zero, suc, ◌+◌, ◌-◌, ◌*◌, ◌==◌, ◌&&◌, not, Bool, true, false, if◌then◌else◌, List, [], ◌∷◌, ◌++◌, drop, length, slice_get, Option, Some, None, ap, refl, sym, subst, ◌∙◌, ⊎_elim, inl, inr, arith}
-use Rattle.std.specs.Prelude.{◌⊎◌, nat_eq}
+use Rattle.std.proofs.Common.{◌≡◌, ℕ, zero, suc, ◌+◌, ◌-◌, ◌*◌, ◌==◌, ◌&&◌, not, Bool, true, false, if◌then◌else◌, List, [], ◌∷◌, drop, length, slice_get, Option, Some, None, ap, refl, sym, subst, ◌∙◌, ⊎_elim, inr, arith}
+use Rattle.std.specs.Prelude.{nat_eq}
 use Rattle.std.proofs.lemmas.Bool.{eqb-true}
+use Rattle.law_ring.proofs.Common.{among_either}
+use Rattle.law_queues.proofs.Common.{piece_more}
 use Rattle.qh_qtd.specs.declared.qtd.Qtd.{Qtd}
 use Rattle.drv_table.specs.declared.content.Command.{Command}
 use Rattle.drv_table.specs.declared.content.Command.TheVariants as unfinished
@@ -18,17 +20,11 @@ use Rattle.law_structures.specs.lent_structures.Structures.{StructureSets}
 use Rattle.law_structures.proofs.lemmas.lent_structures.Altering.{found_element}
 use Rattle.law_ring.specs.Order.{IsFresh, IsAmong}
 use Rattle.law_driver_ring.specs.fed_queues.Fed.{AreFed, IsPieceFed, unpublished_of, sized}
-use Rattle.law_queues.proofs.lemmas.fed_lends.Asked.{piece_more}
 use Rattle.law_queues.proofs.lemmas.released_queues.Outs.{IsOutIn, out_of_one}
 use Rattle.law_queues.specs.whole_sends.Laws.{AreFresh}
 use Rattle.law_world.specs.streams.put_laws.Buffers.{IsPublishingTo}
 
 -- ---- which is out
-
-among_or : (a : ℕ) (xs ys : List ℕ) → IsAmong a (xs ++ ys) → IsAmong a xs ⊎ IsAmong a ys
-among_or a [] ys among = inr among
-among_or a (b ∷ xs) ys (inl same) = inl (inl same)
-among_or a (b ∷ xs) ys (inr among) = ⊎_elim (λ (first : IsAmong a xs). inl (inr first)) (λ (second : IsAmong a ys). inr second) (among_or a xs ys among)
 
 among_dropped : (a i : ℕ) (ys : List ℕ) → IsAmong a (drop i ys) → IsAmong a ys
 among_dropped a zero ys among = among
@@ -54,7 +50,7 @@ out_any note e c made (y ∷ ys) a among =
     let first = if_last ys (unpublished c made y.qtds) in
     ⊎_elim (λ (own : IsAmong a (out_of_transfer note e first y)). record { number = 0; transfer = y; here = refl; is = out_of_one note e y a (transfer_fewer note e first y a own) })
     (λ (rest : IsAmong a (out_of note e c made ys)). let k = out_any note e c made ys a rest in record { number = suc k.number; transfer = k.transfer; here = k.here; is = k.is })
-    (among_or a (out_of_transfer note e first y) (out_of note e c made ys) among)
+    (among_either a (out_of_transfer note e first y) (out_of note e c made ys) among)
 
 -- ---- while nothing is published
 

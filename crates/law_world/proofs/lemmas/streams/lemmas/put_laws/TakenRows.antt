@@ -3,6 +3,9 @@ use Rattle.std.proofs.Common.{false, ◌≡◌, ◌≢◌, ℕ, ◌==◌, true, 
 use Rattle.std.specs.Prelude.{◌⊎◌}
 use Rattle.std.specs.List.{concat}
 use Rattle.std.proofs.lemmas.Bool.{false≢true}
+use Rattle.law_world.proofs.Common.{begins_all}
+use Rattle.law_common.proofs.Lists.{push_which}
+use Rattle.law_queues.proofs.Common.{last_one}
 use Rattle.claims_base.specs.Prefix.{IsPrefix}
 use Rattle.usb_base.specs.declared.commands.Cmd.{Cmd}
 use Rattle.usb_base.specs.declared.commands.Cmd.TheVariants as commands
@@ -20,7 +23,7 @@ use Rattle.law_driver.specs.chained_transfers.Asynchronous.{AcceptsAsynchronous}
 use Rattle.claims_driver.specs.Scripts.{receives}
 use Rattle.law_driver.proofs.lemmas.chained_transfers.Accepting.{asynchronous_command_is_accepted}
 use Rattle.law_driver_ring.specs.fed_queues.Places.{IsThere}
-use Rattle.law_queues.proofs.lemmas.fed_lends.Asked.{push_which, set_which}
+use Rattle.law_queues.proofs.lemmas.fed_lends.Asked.{set_which}
 use Rattle.law_ring.specs.OutBus.{Taker}
 use Rattle.law_world.specs.streams.put_laws.TakenPuts.{puts_from, puts_of}
 use Rattle.law_world.proofs.lemmas.streams.lemmas.put_laws.Mapped.{mapped, was_mapped}
@@ -28,11 +31,8 @@ use Rattle.law_world.proofs.lemmas.streams.lemmas.put_laws.Stays.{desc_at, Stays
 use Rattle.law_world.proofs.lemmas.streams.lemmas.put_laws.Sums.{puts_in, by_owners}
 use Rattle.law_world.specs.streams.put_laws.OwedLaws.{KeepsPuts}
 use Rattle.law_world.specs.streams.put_laws.OwedTaken.{TakenBegin, DriverKeepsTaken, CommandKeepsTaken}
-use Rattle.law_world.proofs.lemmas.streams.lemmas.put_laws.Rests.{prefix_to, prefix_more, puts_kept, puts_push}
+use Rattle.law_world.proofs.lemmas.streams.lemmas.put_laws.Rests.{prefix_to, puts_kept, puts_push}
 use Rattle.law_world.proofs.lemmas.streams.lemmas.put_laws.Same.{life_or, idle_life}
-
-pub begins_all : (xs ys : List ℕ) → xs ≡ [] → IsPrefix xs ys
-begins_all xs ys none = (ys, ap (λ (zs : List ℕ). zs ++ ys) none)
 
 -- ---- a row of the driver
 
@@ -79,7 +79,7 @@ module _ {W : Type 0} (taker : W → ℕ → ℕ → Option Taker) (d : DriverCo
     begins_more : (e : ℕ) (xs : List ℕ) → IsPrefix xs (concat (puts_of d puts e)) → IsPrefix xs (concat (puts_of o.driver now e))
     begins_more e xs begins =
         let more = if added.endpoint == e then now (length d.transfers) else [] in
-        prefix_to xs (concat (puts_of d puts e) ++ more) (concat (puts_of o.driver now e)) (puts_are e) (prefix_more xs (concat (puts_of d puts e)) more begins)
+        prefix_to xs (concat (puts_of d puts e) ++ more) (concat (puts_of o.driver now e)) (puts_are e) (last_one xs (concat (puts_of d puts e)) more begins)
 
     pub asked_taken : TakenBegin taker o.driver now wire
     asked_taken e x s here life sends is =

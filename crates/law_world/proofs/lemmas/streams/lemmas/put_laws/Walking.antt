@@ -1,6 +1,7 @@
 -- The buffers of a queue head that asks for no data, beside the walk.
 use Rattle.std.proofs.Common.{◌≡◌, ◌≢◌, ℕ, Bool, true, false, ◌==◌, if◌then◌else◌, List, [], Some, ap, refl, sym, subst, ◌∙◌, ⊎_elim}
 use Rattle.std.proofs.lemmas.Bool.{cases_eq, eqb-true}
+use Rattle.law_world.proofs.Common.{same_buffers}
 use Rattle.usb_base.specs.declared.packets.Ask.{Ask}
 use Rattle.usb_base.specs.declared.packets.Pid.TheVariants as pids
 use Rattle.usb_base.specs.declared.packets.Reply.{Reply}
@@ -44,9 +45,6 @@ outs_ask_none part outs a t here active is = zero_one (sym (outs a t here active
     zero_one e = cc
 
 -- ---- an event of the walk
-
-same_buffers : (part now : Structures) → now ≡ part → BuffersStay part now
-same_buffers part now same a pages k bs here = ap (λ (p : Structures). p a) same ∙ here
 
 module _ {W : Type 0} (transacts : W → Ask → List ℕ → Reply → W → Type 0) (member : ℕ → Bool) (parts : StructureSets) (hand : Hand) (reply : Reply) (wire after : W) (now : StructureSets) (later : Hand) (n : ℕ) (members : AreMembers member parts) (in_hand : IsInHand member parts reply hand) (none : member n ≡ true → IsNotIn (parts n)) where
   -- where a qTD is taken, its queue head's overlay is written

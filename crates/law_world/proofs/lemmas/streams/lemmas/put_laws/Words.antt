@@ -1,10 +1,10 @@
 -- The words of one buffer, and its bytes once they were written (EHCI 1.0, 3.5.4).
 use Rattle.std.proofs.Common.{◌≡◌, ◌≢◌, ℕ, zero, suc, ◌+◌, ◌*◌, ◌/◌, ◌%◌, ◌<◌, ◌≤◌, Bool, true, false, cond, List, length, get_or, map, ap, refl, sym, subst, ◌∙◌, ⊎_elim, arith}
-use Rattle.std.proofs.Math.ListN.{length-set}
 use Rattle.std.proofs.lemmas.Bool.{cases_eq}
 use Rattle.std.proofs.lemmas.List.{ext_get_or, get_or-set_same, get_or-set_other}
 use Rattle.std.proofs.lemmas.List.FromFn.{get_or-map-range_with_len, length-map-range_with_len}
 use Rattle.std.specs.List.{range_with_len}
+use Rattle.law_driver.proofs.Common.{stored_many}
 use Rattle.word_mem.specs.Memory.{Mem, word_at, with_word}
 use Rattle.word_mem.specs.Views.{byte_of, byte_at}
 use Rattle.mem_runs.specs.Book.{Book, slot_of, can_store, store}
@@ -35,13 +35,6 @@ store_other k m b at v other differs = by (can_store (slot_of k.slots b) at)
 
 store_here : (k : Book) (m : Mem) (b at v : ℕ) → can_store (slot_of k.slots b) at ≡ true → at / 4 < length m.words → word_at (store k m b at v) at ≡ v
 store_here k m b at v can inside = ap (λ (t : Bool). word_at (cond t (with_word m at v) m) at) can ∙ get_or-set_same m.words (at / 4) v 0 inside
-
-store_long : (k : Book) (m : Mem) (b at v : ℕ) → length (store k m b at v).words ≡ length m.words
-store_long k m b at v = by (can_store (slot_of k.slots b) at)
-  where
-    by : (t : Bool) → length (cond t (with_word m at v) m).words ≡ length m.words
-    by true = length-set m.words (at / 4) v
-    by false = refl
 
 -- ---- all words of a buffer
 
@@ -79,7 +72,8 @@ written_at k m note bytes size all w (suc n) u is long within from below =
     (let i = is.inside w (omega (arith, within)) in omega (arith, i, long))))
     (λ (differs : w ≢ u).
     written_at k (first_stored k m note bytes w) note bytes size all (w + 1) n u is
-    (store_long k m (get_or note.buffer (4 * w / 4096) 0) (buffer_address note (4 * w)) (word_from bytes (4 * w)) ∙ long) (omega (arith, within)) (not_first w u from differs) (omega (arith, below)))
+    (stored_many k m (get_or note.buffer (4 * w / 4096) 0) (buffer_address note (4 * w)) (word_from bytes (4 * w)) ∙ long)
+    (omega (arith, within)) (not_first w u from differs) (omega (arith, below)))
     (cases_eq w u)
   where
     not_first : (w u : ℕ) → w ≤ u → w ≢ u → w + 1 ≤ u

@@ -7,6 +7,8 @@ use Rattle.std.proofs.lemmas.Bool.{false≢true}
 use Rattle.std.proofs.lemmas.Option.{same_Some, slice_get_within, get_or_from_slice_get}
 use Rattle.std.proofs.lemmas.List.Folds.{list_any-append}
 use Rattle.std.proofs.lemmas.List.Sums.{position_or_len_is}
+use Rattle.law_common.proofs.Numbers.{is_less}
+use Rattle.law_common.proofs.Booleans.{none_late}
 use Rattle.usb_base.specs.declared.endpoints.EpName.{EpName}
 use Rattle.usb_base.specs.declared.packets.EpKind.{EpKind}
 use Rattle.usb_base.specs.declared.packets.EpKind.TheVariants as Kinds
@@ -56,9 +58,6 @@ search (y ∷ ys) name = by_first (is_same_name y.desc.name name) refl (search y
 
 -- ---- a driver finds it
 
-is_less : (a b : ℕ) → a < b → nat_lt a b ≡ true
-is_less a b less = grind arith
-
 got : (xs : List Endpoint) (k : ℕ) (d : Endpoint) → k < length xs → slice_get xs k ≡ Some (get_or xs k d)
 got [] k d less = absurd (omega (arith, less))
 got (x ∷ xs) zero d less = refl
@@ -96,9 +95,6 @@ named_is d name k apart = ap (λ (o : Option ℕ). option_and_then (λ e. slice_
 
 -- ---- the lines that close its report
 
-or_none : (a b : Bool) → a ≡ false → b ≡ false → (a || b) ≡ false
-or_none a b first second = ap (λ (x : Bool). x || b) first ∙ second
-
 waiting_by : (name other : EpName) (k : ℕ) (b : Bool) → nat_lt 0 k ≡ b → (b ≡ true → is_same_name other name ≡ false) → list_any (is_pending name) (waiting_closing other k) ≡ false
 waiting_by name other k true is none = ap (λ (b : Bool). list_any (is_pending name) (if b then Pending other k ∷ [] else [])) is ∙ ap (λ (b : Bool). b || false) (none refl)
 waiting_by name other k false is none = ap (λ (b : Bool). list_any (is_pending name) (if b then Pending other k ∷ [] else [])) is
@@ -132,14 +128,16 @@ module _ (w : World) (name : EpName) (over : is_none (ended w.driver name) ≡ f
   seat_none s false = refl
   seat_none s true =
       list_any-append (is_pending name) (waiting_closing s.name (waiting w.driver s.name)) (told_closing s (find (λ d. d.address == s.name.addr) w.bus.devices) (hub_of w.bus s.name))
-      ∙ or_none (list_any (is_pending name) (waiting_closing s.name (waiting w.driver s.name))) (list_any (is_pending name) (told_closing s (find (λ d. d.address == s.name.addr) w.bus.devices) (hub_of w.bus s.name)))
+      ∙ none_late (list_any (is_pending name) (waiting_closing s.name (waiting w.driver s.name)))
+      (list_any (is_pending name) (told_closing s (find (λ d. d.address == s.name.addr) w.bus.devices) (hub_of w.bus s.name)))
       (waiting_none s.name) (told_none name s (find (λ d. d.address == s.name.addr) w.bus.devices) (hub_of w.bus s.name))
 
   seats_none : (seats : List Seat) → list_any (is_pending name) (flat_map (seat_closings w) seats) ≡ false
   seats_none [] = refl
   seats_none (s ∷ ss) =
       list_any-append (is_pending name) (seat_closings w s) (flat_map (seat_closings w) ss)
-      ∙ or_none (list_any (is_pending name) (seat_closings w s)) (list_any (is_pending name) (flat_map (seat_closings w) ss)) (seat_none s (opened w.driver s.name)) (seats_none ss)
+      ∙ none_late (list_any (is_pending name) (seat_closings w s)) (list_any (is_pending name) (flat_map (seat_closings w) ss))
+      (seat_none s (opened w.driver s.name)) (seats_none ss)
 
   pub none_pending : (fixed : Fixed) → list_any (is_pending name) (closings_of fixed w) ≡ false
   none_pending fixed = seats_none fixed.seats

@@ -4,6 +4,8 @@ use Rattle.std.specs.Prelude.{is_none}
 use Rattle.std.specs.Option.{option_map, option_and_then}
 use Rattle.std.specs.List.{AllByRecursion, concat, list_any, cons_option}
 use Rattle.std.proofs.lemmas.List.{append_assoc, append-nil}
+use Rattle.law_common.proofs.Booleans.{and_right}
+use Rattle.law_driver.proofs.Common.{in_way}
 use Rattle.usb_base.specs.declared.endpoints.EndCause.{EndCause}
 use Rattle.usb_base.specs.declared.endpoints.EpDesc.{EpDesc}
 use Rattle.usb_base.specs.declared.endpoints.EpName.{EpName}
@@ -52,10 +54,6 @@ all_mapped P Q h (x ∷ xs) gives k = with_first (h x) refl (all_mapped P Q h xs
 
 -- ---- what is opened
 
-and_right : (a b : Bool) → (a && b) ≡ true → b ≡ true
-and_right true b is = is
-and_right false b is = absurd cc
-
 all_right : (s : Script) (r : WholeReport) → ((desc : EpDesc) → comes_in desc.name.way ≡ true → IsRightStream s r desc.name) → AreRightInStreams s r
 all_right s r each =
     all_kept (λ desc. IsRightStream s r desc.name) (λ desc. has_stream desc.kind && comes_in desc.name.way) (opened s r)
@@ -70,11 +68,6 @@ has_data _ kind is moves = ap has_stream is
 
 pub in_stream : (d : DriverContent) (e : ℕ) (x : Endpoint) → OnlyAsynchronous d → slice_get d.endpoints e ≡ Some x → x.desc.name.way ≡ Ways.In → has_stream x.desc.kind ≡ true
 in_stream d e x only here way = has_data x.desc.name.way x.desc.kind (only.endpoints e x here).asynchronous.kind (subst IsDataWay (sym way) tt)
-
--- data of a bulk endpoint come to the host at an IN one alone
-pub in_way : (way : Way) → comes_in way ≡ true → way ≡ Ways.In
-in_way Ways.In is = refl
-in_way _ is = absurd cc
 
 bytes_right : (s : Script) (r : WholeReport) (name : EpName) → name.way ≡ Ways.In → IsPrefix (told r name) (concat (packets_of (items_of s name))) → AreBytesRight name.way s r name
 bytes_right s r name is k = subst (λ (way : Way). AreBytesRight way s r name) (sym is) (subst (λ (way : Way). IsPrefix (told r name) (stream_by way s r name)) (sym is) k)

@@ -1,11 +1,10 @@
 -- What is told of each IN endpoint begins its packets.
-use Rattle.std.proofs.Common.{◌≡◌, ◌≢◌, ℕ, ◌*◌, Bool, true, false, List, [], ◌∷◌, ◌++◌, slice_get, Option, Some, None, ap, refl, sym, subst, ◌∙◌, ⊎_elim, inl, inr}
-use Rattle.std.specs.Prelude.{◌⊎◌}
+use Rattle.std.proofs.Common.{◌≡◌, ◌≢◌, ℕ, ◌*◌, Bool, true, false, List, ◌++◌, slice_get, Option, Some, None, ap, refl, sym, subst, ◌∙◌, ⊎_elim}
 use Rattle.std.specs.List.{concat}
-use Rattle.std.proofs.lemmas.Bool.{cases_eq}
 use Rattle.std.proofs.lemmas.List.{append_assoc}
+use Rattle.law_world.proofs.Common.{met_or_not, empty_prefix, named_in}
+use Rattle.law_driver.proofs.Common.{in_way}
 use Rattle.usb_base.specs.declared.endpoints.EpName.{EpName}
-use Rattle.usb_base.specs.declared.packets.Way.{Way}
 use Rattle.usb_base.specs.declared.packets.Way.TheVariants as Ways
 use Rattle.script_types.specs.declared.scripts.Script.{Script}
 use Rattle.endpoint_script.specs.Items.{packets_of}
@@ -27,7 +26,7 @@ use Rattle.law_driver_ring.specs.fed_queues.Places.{IsThere, IsMet}
 use Rattle.law_devices.specs.opening_senders.Own.{HasOwnDevices}
 use Rattle.law_devices.proofs.lemmas.opening_senders.Opening.{opening_sends}
 use Rattle.law_world.specs.streams.right_reports.Laws.{BeginsEach}
-use Rattle.law_world.proofs.lemmas.streams.lemmas.right_reports.Right.{in_way, in_stream, gone_told, report_is_right}
+use Rattle.law_world.proofs.lemmas.streams.lemmas.right_reports.Right.{in_stream, gone_told, report_is_right}
 use Rattle.law_world.specs.streams.right_worlds.Right.{AreOfScript, WorldIsRight}
 
 -- ---- an endpoint is met, or is being opened
@@ -36,48 +35,7 @@ queue_in : Option Command → ℕ
 queue_in (Some (unfinished.Open b)) = b
 queue_in _ = 0
 
-same_queue : (b c : ℕ) → Some (unfinished.Open b) ≡ Some (unfinished.Open c) → b ≡ c
-unfolding queue_in
-same_queue b c is = ap queue_in is
-
-met_or_not : (o : Option Command) (b : ℕ) → (o ≡ Some (unfinished.Open b)) ⊎ (o ≢ Some (unfinished.Open b))
-met_or_not None b = inr (λ is. none is)
-  where
-    none : None ≡ Some (unfinished.Open b) → ⊥
-    none is = cc
-met_or_not (Some (unfinished.Open c)) b = ⊎_elim (λ (is : c ≡ b). inl (ap (λ (i : ℕ). Some (unfinished.Open i)) is)) (λ (differs : c ≢ b). inr (λ same. differs (same_queue c b same))) (cases_eq c b)
-met_or_not (Some (unfinished.Publish c words)) b = inr (λ is. other is)
-  where
-    other : Some (unfinished.Publish c words) ≡ Some (unfinished.Open b) → ⊥
-    other is = cc
-met_or_not (Some (unfinished.Unlink e c link)) b = inr (λ is. other is)
-  where
-    other : Some (unfinished.Unlink e c link) ≡ Some (unfinished.Open b) → ⊥
-    other is = cc
-met_or_not (Some unfinished.Chain) b = inr (λ is. other is)
-  where
-    other : Some unfinished.Chain ≡ Some (unfinished.Open b) → ⊥
-    other is = cc
-met_or_not (Some (unfinished.Iso e t n)) b = inr (λ is. other is)
-  where
-    other : Some (unfinished.Iso e t n) ≡ Some (unfinished.Open b) → ⊥
-    other is = cc
-met_or_not (Some (unfinished.Unchain e)) b = inr (λ is. other is)
-  where
-    other : Some (unfinished.Unchain e) ≡ Some (unfinished.Open b) → ⊥
-    other is = cc
-
 -- ---- the packets of a name
-
-empty_prefix : (xs ys : List ℕ) → IsPrefix xs [] → IsPrefix xs ys
-empty_prefix [] ys k = (ys, refl)
-empty_prefix (x ∷ xs) ys k = absurd (no_first k.1)
-  where
-    no_first : x ∷ (xs ++ k.0) ≡ [] → ⊥
-    no_first is = cc
-
-named_in : (name : EpName) → name.way ≡ Ways.In → record { addr = name.addr; num = name.num; way = Ways.In } ≡ name
-named_in name is = ap (λ (way : Way). record { addr = name.addr; num = name.num; way = way }) (sym is)
 
 packets_begin : (script : Script) (packets : ℕ → ℕ → List (List ℕ)) (name : EpName) (xs : List ℕ) → HasOwnDevices script → AreOfScript script packets → name.way ≡ Ways.In → IsPrefix xs (concat (packets name.addr name.num)) → IsPrefix xs (concat (packets_of (items_of script name)))
 packets_begin script packets name xs own of_it way k = by_sender (sender_of (opening_wired script) name.addr name.num) refl

@@ -1,12 +1,9 @@
 -- Each event of the controller leaves a world with what its driver has still to send: the bytes that devices took go on beginning the puts.
-use Rattle.std.proofs.Common.{◌≡◌, ℕ, ◌-◌, ◌*◌, Bool, false, if◌then◌else◌, List, length, slice_get, Option, Some, ap, refl, sym, subst, ◌∙◌, arith}
+use Rattle.std.proofs.Common.{◌≡◌, ℕ, ◌*◌, Bool, false, List, slice_get, Some, refl, sym, subst, ◌∙◌}
 use Rattle.std.specs.List.{concat}
-use Rattle.std.proofs.lemmas.Bool.{eq-eqb}
+use Rattle.law_world.proofs.Common.{tail_at}
 use Rattle.bus_wire.specs.Bus.{Fixed}
-use Rattle.drv_table.specs.declared.content.Command.{Command}
-use Rattle.drv_table.specs.declared.content.Command.TheVariants as unfinished
 use Rattle.drv_table.specs.declared.content.Endpoint.{Endpoint}
-use Rattle.drv_table.specs.declared.content.Transfer.{Transfer}
 use Rattle.drv_table.specs.DriverContent.{DriverContent}
 use Rattle.claims_driver.specs.Scripts.{receives}
 use Rattle.law_driver.specs.endpoint_lives.Lives.{may_meet}
@@ -26,7 +23,6 @@ use Rattle.law_world.proofs.lemmas.steps.StreamTurning.{world_has_row}
 use Rattle.law_world.proofs.lemmas.steps.lemmas.world_bytes.Hearing.{a_bus_of_bytes_is_heard_as_bytes}
 use Rattle.law_world.specs.streams.Feeding.{there_of, IsFeeding}
 use Rattle.law_world.specs.streams.Taking.{outs_of}
-use Rattle.law_queues.specs.standing_fronts.Tails.{tail_block, tail_of}
 use Rattle.law_world.specs.streams.Tails.{IsUnderWay}
 use Rattle.law_world.specs.streams.Whole.{IsWhole}
 use Rattle.law_world.proofs.lemmas.streams.TakingHeads.{outs_stand}
@@ -48,16 +44,6 @@ use Rattle.law_world.proofs.lemmas.streams.Controlled.{taker_stays}
 use Rattle.law_world.specs.streams.sending_worlds.Sending.{IsSending}
 use Rattle.law_world.proofs.lemmas.streams.lemmas.sending_worlds.Each.{there_heads, out_number, has_of}
 use Rattle.law_world.specs.streams.sending_worlds.WorldLaws.{ControllerKeepsSending}
-
--- ---- the first qTD of the transfer that is published is the tail of its queue
-
-tail_at : (d : DriverContent) (e b : ℕ) (z : Endpoint) → IsPublishingTo d e b → tail_of d e z ≡ 32 * b
-tail_at d e b z k =
-    let newest : slice_get d.transfers (length d.transfers - 1) ≡ Some k.transfer =
-    ap (slice_get d.transfers) (let last : length d.transfers - 1 ≡ k.number = (let one = k.newest in omega (arith, one)) in last) ∙ k.there in
-    ap (λ (c : Option Command). 32 * tail_block c (slice_get d.transfers (length d.transfers - 1)) e z.dummy) k.command
-    ∙ ap (λ (o : Option Transfer). 32 * tail_block (Some (unfinished.Publish b k.words)) o e z.dummy) newest
-    ∙ ap (λ (t : Bool). 32 * (if t then b else z.dummy)) (eq-eqb k.transfer.endpoint e k.its_endpoint)
 
 -- ---- the event
 

@@ -2,6 +2,7 @@
 use Rattle.std.proofs.Common.{◌≡◌, ◌≢◌, ℕ, Bool, true, List, get_or, length, slice_get, Option, Some, None, Result, Ok, Err, ap, refl, sym, ◌∙◌, ⊎_elim, inl, inr, subst, ◌⊎◌}
 use Rattle.std.specs.List.{concat}
 use Rattle.std.proofs.lemmas.Option.{slice_get_within}
+use Rattle.law_common.proofs.Lists.{push_which}
 use Rattle.usb_base.specs.declared.commands.Cmd.{Cmd}
 use Rattle.usb_base.specs.declared.endpoints.EpName.{EpName}
 use Rattle.usb_base.specs.declared.reports.OfferError.{OfferError}
@@ -19,7 +20,7 @@ use Rattle.law_driver.specs.chained_transfers.AsynchronousTurns.{AsynchronousTak
 use Rattle.law_driver.proofs.lemmas.chained_transfers.Accepting.{asynchronous_command_is_accepted}
 use Rattle.law_driver.proofs.lemmas.endpoint_lives.Lives.{told_some}
 use Rattle.law_driver_ring.specs.fed_queues.Places.{IsThere}
-use Rattle.law_queues.proofs.lemmas.fed_lends.Asked.{push_which, set_which}
+use Rattle.law_queues.proofs.lemmas.fed_lends.Asked.{set_which}
 use Rattle.law_driver_ring.specs.walk_members.Reached.{OpensNumbered}
 use Rattle.law_scripts.specs.byte_answers.Bytes.{IsByteCommand}
 use Rattle.law_ring.specs.OutBus.{Taker}

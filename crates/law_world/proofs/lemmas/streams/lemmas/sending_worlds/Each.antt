@@ -1,8 +1,10 @@
 -- What each event of the driver leaves of a world with what its driver has still to send: the buffers of puts hold their bytes, what the devices took begins their
 -- puts, the queue heads of endpoints that have ended are halted, and what is still to be sent stands behind what was reported.
-use Rattle.std.proofs.Common.{◌≡◌, ◌≢◌, ℕ, ◌*◌, Bool, true, false, List, [], slice_get, Option, Some, None, ap, refl, sym, subst, ◌∙◌, inl, arith}
+use Rattle.std.proofs.Common.{◌≡◌, ◌≢◌, ℕ, ◌*◌, Bool, true, false, List, [], slice_get, Some, None, ap, refl, sym, subst, ◌∙◌, inl, arith}
 use Rattle.std.proofs.lemmas.Bool.{false≢true}
 use Rattle.std.proofs.lemmas.Option.{same_Some}
+use Rattle.law_world.proofs.Common.{no_command}
+use Rattle.law_driver.proofs.Common.{out_way}
 use Rattle.async_walk.specs.Rows.{place}
 use Rattle.usb_base.specs.declared.endpoints.EpDesc.{EpDesc}
 use Rattle.usb_base.specs.declared.packets.EpKind.{EpKind}
@@ -28,7 +30,7 @@ use Rattle.claims_base.specs.Controller.{opening_base}
 use Rattle.law_driver_ring.specs.Driven.{DrivesRing}
 use Rattle.law_driver.specs.chained_transfers.Bulk.{IsDataWay}
 use Rattle.claims_driver.specs.Scripts.{receives, comes_in}
-use Rattle.law_driver.proofs.lemmas.chained_transfers.Ways.{way_sends, way_goes_out}
+use Rattle.law_driver.proofs.lemmas.chained_transfers.Ways.{way_goes_out}
 use Rattle.law_driver_ring.specs.fed_queues.Places.{IsThere, HasHead}
 use Rattle.law_controller.specs.controlled_streams.Unopened.{IsUnopened}
 use Rattle.law_world.specs.steps.Outs.{IsUntaken}
@@ -61,9 +63,6 @@ use Rattle.law_world.specs.streams.sending_worlds.Sending.{IsSending, HasSending
 
 abbrev pub HarvestsNone : World → Type 0
 HarvestsNone w = (e t : ℕ) (found : Found) → driver_row (driver_parts w) ≢ rows.Harvest e t found
-
-no_command : (o : Option Command) (c : Command) → o ≡ None → o ≡ Some c → ⊥
-no_command o c idle busy = let e : ◌≡◌ {A = Option Command} None (Some c) = sym idle ∙ busy in cc
 
 -- while a command is unfinished
 pub busy_harvests_none : (w : World) (c : Command) → w.driver.command ≡ Some c → HarvestsNone w
@@ -156,7 +155,7 @@ module _ (fixed : Fixed) (takes : ℕ → ℕ → Bool) (member : ℕ → Bool) 
       let one_way : IsDataWay h.endpoint.desc.name.way = data_way h.endpoint.desc (k.whole.feeding.turns.asynchronous.endpoints h.number h.endpoint h.here).asynchronous off in
       let number : h.number ≡ e =
       k.whole.names h.number e h.endpoint z h.here here (sym (ap (λ (y : Told). y.addr) is) ∙ addr) (sym (ap (λ (y : Told). y.ep) is) ∙ num)
-      (way_goes_out h.endpoint.desc.name.way one_way too ∙ sym (way_sends z.desc.name.way sends)) in
+      (way_goes_out h.endpoint.desc.name.way one_way too ∙ sym (out_way z.desc.name.way sends)) in
       let same : h.endpoint ≡ z = same_Some h.endpoint z (sym h.here ∙ ap (slice_get w.driver.endpoints) number ∙ here) in
       h.met.there.linked (opens ∙ ap (λ (y : Endpoint). Some (unfinished.Open y.queue)) (sym same))
 

@@ -1,13 +1,13 @@
 -- The driver of a world harvests a qTD: its bytes are reported, and still to be sent no more.
-use Rattle.std.proofs.Common.{◌≡◌, ◌≢◌, ℕ, ◌*◌, Bool, true, false, List, [], ◌++◌, slice_get, Option, Some, None, ap, refl, sym, subst, ◌∙◌}
+use Rattle.std.proofs.Common.{◌≡◌, ◌≢◌, ℕ, ◌*◌, Bool, true, false, List, [], ◌++◌, slice_get, Some, ap, refl, sym, subst, ◌∙◌}
 use Rattle.std.specs.List.{concat}
+use Rattle.law_queues.proofs.Common.{none_open}
 use Rattle.bus_wire.specs.Bus.{Fixed}
 use Rattle.word_mem.specs.Memory.{Mem}
 use Rattle.law_structures.specs.lent_structures.Structures.{Tells}
 use Rattle.law_ring.specs.QueueParts.{IsQueuePart}
 use Rattle.law_ring.proofs.QueueParts.{member_part}
 use Rattle.law_ring.specs.Told.{Told}
-use Rattle.drv_table.specs.declared.content.Command.{Command}
 use Rattle.drv_table.specs.declared.content.Command.TheVariants as unfinished
 use Rattle.drv_table.specs.declared.content.Endpoint.{Endpoint}
 use Rattle.drv_table.specs.declared.rows.DriverRow.{DriverRow}
@@ -50,9 +50,6 @@ use Rattle.law_world.proofs.lemmas.streams.Leaving.{due, fronts, leaves, whole_h
 use Rattle.law_world.specs.streams.sending_worlds.Sending.{IsSending, HasSending}
 use Rattle.law_world.specs.streams.sending_worlds.WorldLaws.{HarvestKeepsSending}
 use Rattle.law_world.proofs.lemmas.streams.lemmas.sending_worlds.Each.{held_then, begin_then, IsOrdinary, idle_ordinary, left_then, has_of}
-
-no_open : (b : ℕ) → ◌≡◌ {A = Option Command} None (Some (unfinished.Open b)) → ⊥
-no_open b same = cc
 
 -- what is owed where the same is reported
 same_reports : (d : DriverContent) (m : Mem) (puts reported told : ℕ → List ℕ) → ((e : ℕ) (x : Endpoint) → slice_get d.endpoints e ≡ Some x → receives x.desc.name.way ≡ false → IsThere d x → told (32 * x.queue) ≡ reported (32 * x.queue)) → Owes d m puts reported → Owes d m puts told
@@ -101,7 +98,7 @@ module _ (fixed : Fixed) (takes : ℕ → ℕ → Bool) (member : ℕ → Bool) 
 
   -- no command is unfinished, and its endpoint goes on
   its_met : IsMet w.driver e read.endpoint
-  its_met = stands_met w.driver e read.endpoint (f.turns.asynchronous.endpoints e read.endpoint read.here) read.goes_on (λ is. no_open read.endpoint.queue (sym read.idle ∙ is))
+  its_met = stands_met w.driver e read.endpoint (f.turns.asynchronous.endpoints e read.endpoint read.here) read.goes_on (λ is. none_open read.endpoint.queue (sym read.idle ∙ is))
 
   its_part : IsQueuePart (32 * read.endpoint.queue) (s.parts (32 * read.endpoint.queue))
   its_part =

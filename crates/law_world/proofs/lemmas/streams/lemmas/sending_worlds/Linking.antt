@@ -1,5 +1,7 @@
 -- The store by which an open is finished leaves a world so: the walk may meet one queue head more, of which nothing was put, sent or reported yet.
 use Rattle.std.proofs.Common.{◌≡◌, ◌≢◌, ℕ, ◌*◌, Bool, List, [], slice_get, Some, ap, sym, ◌∙◌}
+use Rattle.law_queues.proofs.Common.{same_queue}
+use Rattle.law_common.proofs.Numbers.{same_blocks}
 use Rattle.drv_table.specs.declared.content.Endpoint.{Endpoint}
 use Rattle.drv_table.specs.declared.content.Command.TheVariants as unfinished
 use Rattle.drv_table.specs.Parts.{Parts as DriverParts}
@@ -12,7 +14,6 @@ use Rattle.bus_wire.specs.Bus.{Fixed}
 use Rattle.bus_world.specs.World.{World, driver_parts, driver_next}
 use Rattle.law_world.specs.steps.Streaming.{Streams, Standing}
 use Rattle.law_driver_ring.specs.fed_queues.Places.{IsThere}
-use Rattle.law_queues.proofs.lemmas.publish_laws.Apart.{thirty_two}
 use Rattle.law_controller.specs.controlled_streams.Opened.{with_none}
 use Rattle.law_controller.proofs.lemmas.controlled_streams.Beginning.{list_here, list_beside}
 use Rattle.law_queues.specs.open_laws.Opens.{IsOpenLent, IsAtOpen, head_then, hand_then}
@@ -27,9 +28,6 @@ use Rattle.law_world.proofs.lemmas.streams.Linked.{linked_whole}
 use Rattle.law_world.specs.streams.sending_worlds.Sending.{IsSending}
 use Rattle.law_world.specs.streams.sending_worlds.WorldLaws.{OpenLinkKeepsSending}
 use Rattle.law_world.proofs.lemmas.streams.lemmas.sending_worlds.Each as each
-
-one_open : (b c : ℕ) → Some (unfinished.Open b) ≡ Some (unfinished.Open c) → b ≡ c
-one_open b c same = cc
 
 module _ (fixed : Fixed) (takes : ℕ → ℕ → Bool) (member : ℕ → Bool) (x : Streams) (s : Standing) (puts : ℕ → List ℕ) (w : World) (lent : IsOpenLent w.driver member s.parts) (k : IsSending fixed takes member x s puts w) where
   abbrev e : Endpoint
@@ -77,13 +75,13 @@ module _ (fixed : Fixed) (takes : ℕ → ℕ → Bool) (member : ℕ → Bool) 
 
   met_told : (i : ℕ) (z : Endpoint) → slice_get w.driver.endpoints i ≡ Some z → IsThere w.driver z → told (32 * z.queue) ≡ s.reported (32 * z.queue)
   met_told i z here there =
-      let differs : 32 * z.queue ≢ n = λ same. there.linked (lent.command ∙ ap (λ (b : ℕ). Some (unfinished.Open b)) (sym (thirty_two z.queue e.queue same))) in
+      let differs : 32 * z.queue ≢ n = λ same. there.linked (lent.command ∙ ap (λ (b : ℕ). Some (unfinished.Open b)) (sym (same_blocks z.queue e.queue same))) in
       list_beside s.reported n (32 * z.queue) differs
 
   -- nothing was reported of the new one
   new_told : (i : ℕ) (z : Endpoint) → slice_get w.driver.endpoints i ≡ Some z → w.driver.command ≡ Some (unfinished.Open z.queue) → IsThere (driver_next w).driver z → told (32 * z.queue) ≡ []
   new_told i z here opens there =
-      let same : z.queue ≡ e.queue = one_open z.queue e.queue (sym opens ∙ lent.command) in
+      let same : z.queue ≡ e.queue = same_queue z.queue e.queue (sym opens ∙ lent.command) in
       ap (λ (b : ℕ). told (32 * b)) same ∙ list_here s.reported n
 
   owes_then : Owes (driver_next w).driver (driver_next w).memory puts told

@@ -1,9 +1,8 @@
 -- The next store by which a stalled control endpoint goes on leaves a world with what its driver has still to send: the queue heads and the buffers of OUT endpoints
 -- are others.
-use Rattle.std.proofs.Common.{◌≡◌, ◌≢◌, ℕ, Bool, List, Option, Some, None, sym, ◌∙◌}
+use Rattle.std.proofs.Common.{◌≡◌, ◌≢◌, ℕ, Bool, List, sym, ◌∙◌}
+use Rattle.law_queues.proofs.Common.{none_open}
 use Rattle.bus_wire.specs.Bus.{Fixed}
-use Rattle.drv_table.specs.declared.content.Command.{Command}
-use Rattle.drv_table.specs.declared.content.Command.TheVariants as unfinished
 use Rattle.drv_table.specs.declared.content.Mend.{Mend}
 use Rattle.drv_table.specs.declared.rows.DriverRow.{DriverRow}
 use Rattle.drv_table.specs.declared.rows.DriverRow.TheVariants as rows
@@ -22,9 +21,6 @@ use Rattle.law_world.proofs.lemmas.streams.Mending.{whole_mended}
 use Rattle.law_world.specs.streams.sending_worlds.Sending.{IsSending}
 use Rattle.law_world.specs.streams.sending_worlds.WorldLaws.{MendKeepsSending}
 use Rattle.law_world.proofs.lemmas.streams.lemmas.sending_worlds.Each.{HarvestsNone, IsOrdinary, idle_ordinary, owners, held_then, begin_then, owes_same, left_then, has_of}
-
-no_open : (b : ℕ) → ◌≡◌ {A = Option Command} None (Some (unfinished.Open b)) → ⊥
-no_open b same = cc
 
 other_row : (m : Mend) (e t : ℕ) (found : Found) → ◌≡◌ {A = DriverRow} (rows.Mend m) (rows.Harvest e t found) → ⊥
 other_row m e t found same = cc
@@ -49,7 +45,8 @@ module _ (fixed : Fixed) (takes : ℕ → ℕ → Bool) (member : ℕ → Bool) 
   ended_then = mend_stops (driver_parts w) s.parts s.out (owners fixed takes member x s puts w k) k.whole.feeding.turns at k.ended
 
   owes_then : Owes (driver_next w).driver (driver_next w).memory puts s.reported
-  owes_then = owes_same fixed takes member x s puts w k ordinary harvests_none (λ e z here opens met. no_open z.queue (sym at.idle ∙ opens))
+  owes_then = owes_same fixed takes member x s puts w k ordinary harvests_none
+      (λ e z here opens met. none_open z.queue (sym at.idle ∙ opens))
 
   pub sending_mended : IsSending fixed takes member x (mended s at) puts (driver_next w)
   sending_mended = record {

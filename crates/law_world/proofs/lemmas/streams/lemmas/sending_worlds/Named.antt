@@ -1,10 +1,11 @@
 -- Whether a driver has an endpoint of a name.
-use Rattle.std.proofs.Common.{◌≡◌, ℕ, zero, suc, ◌+◌, ◌<◌, nat_lt, Bool, true, false, not, cond, List, [], ◌∷◌, length, get_or, position, slice_get, Option, Some, None, ap, refl, sym, ◌∙◌, inl, inr, arith}
+use Rattle.std.proofs.Common.{◌≡◌, ℕ, Bool, true, false, cond, List, [], ◌∷◌, length, get_or, position, slice_get, Option, Some, None, ap, refl, sym, ◌∙◌, inl, inr}
 use Rattle.std.specs.Prelude.{◌⊎◌, is_some}
 use Rattle.std.specs.List.{position_or_len}
-use Rattle.std.proofs.lemmas.Bool.{false≢true}
-use Rattle.std.proofs.lemmas.Option.{same_Some, slice_get-get_or}
+use Rattle.std.proofs.lemmas.Option.{slice_get-get_or}
 use Rattle.std.proofs.lemmas.List.Quantifiers.{position-Some}
+use Rattle.law_common.proofs.Numbers.{is_less}
+use Rattle.law_queues.proofs.Common.{has_place}
 use Rattle.usb_base.specs.declared.endpoints.EpName.{EpName}
 use Rattle.bus_wire.specs.Fates.{is_same_name}
 use Rattle.drv_table.specs.declared.content.Endpoint.{Endpoint}
@@ -17,24 +18,6 @@ use Rattle.law_world.proofs.lemmas.streams.lemmas.right_reports.Named.{HasNamed}
 found_there : (test : Endpoint → Bool) (xs : List Endpoint) (e : ℕ) → position test xs ≡ Some e → (y : Endpoint) × (slice_get xs e ≡ Some y) × (test y ≡ true)
 found_there test [] e f = absurd (cc)
 found_there test (x ∷ xs) e f = let at = position-Some test (x ∷ xs) e x f in (get_or (x ∷ xs) e x, slice_get-get_or (x ∷ xs) e x at.0, at.1)
-
--- one that passes is not before it
-has_place : (test : Endpoint → Bool) (xs : List Endpoint) (k : ℕ) (x : Endpoint) → slice_get xs k ≡ Some x → test x ≡ true → position_or_len test xs < length xs
-has_place test [] zero x here on = absurd (cc)
-has_place test [] (suc k) x here on = absurd (cc)
-has_place test (y ∷ ys) zero x here on = by_test (test y) (ap test (same_Some y x here) ∙ on)
-  where
-    by_test : (b : Bool) → b ≡ true → cond (not b) (1 + position_or_len test ys) 0 < suc (length ys)
-    by_test true is = omega arith
-    by_test false is = absurd (false≢true is)
-has_place test (y ∷ ys) (suc k) x here on = by_test (test y) (has_place test ys k x here on)
-  where
-    by_test : (b : Bool) → position_or_len test ys < length ys → cond (not b) (1 + position_or_len test ys) 0 < suc (length ys)
-    by_test true less = omega arith
-    by_test false less = omega (arith, less)
-
-is_less : (a b : ℕ) → a < b → nat_lt a b ≡ true
-is_less a b less = grind arith
 
 -- ---- the driver's answer
 

@@ -1,8 +1,7 @@
 -- A new world has nothing to send: it has no endpoint and no transfer.
-use Rattle.std.proofs.Common.{◌≡◌, ℕ, zero, suc, [], slice_get, Some}
+use Rattle.law_queues.proofs.Common.{no_endpoint}
+use Rattle.law_world.proofs.Common2.{no_transfer}
 use Rattle.script_types.specs.declared.scripts.Script.{Script}
-use Rattle.drv_table.specs.declared.content.Endpoint.{Endpoint}
-use Rattle.drv_table.specs.declared.content.Transfer.{Transfer}
 use Rattle.bus_wire.specs.Bus.{fixed_of}
 use Rattle.law_devices.specs.scripted_takers.Takers.{taker_of}
 use Rattle.bus_world.specs.Rooms.{room_of_script}
@@ -21,14 +20,6 @@ use Rattle.law_world.specs.streams.Feeding.{streams_of}
 use Rattle.law_world.specs.streams.Whole.{HasWhole}
 use Rattle.law_world.proofs.lemmas.streams.Opening.{new_world_is_whole}
 use Rattle.law_world.specs.streams.sending_worlds.WorldLaws.{NewWorldSends}
-
-no_endpoint : (e : ℕ) (x : Endpoint) → slice_get {X = Endpoint} [] e ≡ Some x → ⊥
-no_endpoint zero x here = cc
-no_endpoint (suc e) x here = cc
-
-no_transfer : (t : ℕ) (y : Transfer) → slice_get {X = Transfer} [] t ≡ Some y → ⊥
-no_transfer zero y here = cc
-no_transfer (suc t) y here = cc
 
 module _ (s : Script) where
   abbrev w : World

@@ -1,8 +1,7 @@
 -- The driver of a world gives a harvested transfer's blocks back: what it has still to send goes on.
-use Rattle.std.proofs.Common.{◌≡◌, ℕ, ◌*◌, Bool, List, Option, Some, None, sym, subst, ◌∙◌, ◌≢◌}
+use Rattle.std.proofs.Common.{◌≡◌, ℕ, ◌*◌, Bool, List, sym, subst, ◌∙◌, ◌≢◌}
+use Rattle.law_queues.proofs.Common.{none_open}
 use Rattle.bus_wire.specs.Bus.{Fixed}
-use Rattle.drv_table.specs.declared.content.Command.{Command}
-use Rattle.drv_table.specs.declared.content.Command.TheVariants as unfinished
 use Rattle.drv_table.specs.declared.rows.DriverRow.{DriverRow}
 use Rattle.drv_table.specs.declared.rows.DriverRow.TheVariants as rows
 use Rattle.drv_table.specs.declared.rows.Found.{Found}
@@ -23,9 +22,6 @@ use Rattle.law_world.proofs.lemmas.streams.Releasing.{n, goes, standing, g, whol
 use Rattle.law_world.specs.streams.sending_worlds.Sending.{IsSending, HasSending, HaveLeftTakers}
 use Rattle.law_world.specs.streams.sending_worlds.WorldLaws.{ReleaseKeepsSending}
 use Rattle.law_world.proofs.lemmas.streams.lemmas.sending_worlds.Each.{HarvestsNone, held_then, begin_then, ended_alike, owes_same, IsOrdinary, idle_ordinary, left_then, has_of}
-
-no_open : (b : ℕ) → ◌≡◌ {A = Option Command} None (Some (unfinished.Open b)) → ⊥
-no_open b same = cc
 
 other_row : (t : ℕ) (e u : ℕ) (found : Found) → ◌≡◌ {A = DriverRow} (rows.ReleaseTransfer t) (rows.Harvest e u found) → ⊥
 other_row t e u found same = cc
@@ -74,7 +70,7 @@ module _ (fixed : Fixed) (takes : ℕ → ℕ → Bool) (member : ℕ → Bool) 
   owes_then : Owes next.driver next.memory puts s.reported
   owes_then =
       at_row (λ (v : Parts). Owes v.driver v.memory puts s.reported)
-      (owes_same fixed takes member x s puts w k ordinary harvests_none (λ e z here opens met. no_open z.queue (sym (due fixed takes member x s w t row k.whole).idle ∙ opens)))
+      (owes_same fixed takes member x s puts w k ordinary harvests_none (λ e z here opens met. none_open z.queue (sym (due fixed takes member x s w t row k.whole).idle ∙ opens)))
 
   sending_now : IsSending fixed takes member x after puts next
   sending_now = record {

@@ -1,7 +1,6 @@
 -- What the devices of the OUT endpoints of a sending world took, beside what was put to them.
-use Rattle.std.proofs.Common.{◌≡◌, ℕ, ◌*◌, Bool, List, [], Some, ap, refl, sym, subst, ◌∙◌, ⊎_elim, true, false, slice_get, ◌⊎◌}
+use Rattle.std.proofs.Common.{◌≡◌, ℕ, ◌*◌, Bool, List, Some, ap, refl, sym, ◌∙◌, ⊎_elim, true, false, slice_get, ◌⊎◌}
 use Rattle.std.specs.List.{concat}
-use Rattle.claims_base.specs.Prefix.{IsPrefix}
 use Rattle.bus_wire.specs.Bus.{Fixed}
 use Rattle.drv_table.specs.declared.content.Command.TheVariants as unfinished
 use Rattle.law_driver_ring.specs.fed_queues.Places.{IsMet, IsThere}
@@ -16,21 +15,20 @@ use Rattle.law_world.proofs.lemmas.streams.TakingHeads.{outs_stand}
 use Rattle.law_world.specs.streams.sending_worlds.Sending.{IsSending}
 use Rattle.law_world.proofs.lemmas.streams.lemmas.sending_worlds.Each.{unopened, nothing_taken}
 use Rattle.std.proofs.lemmas.Bool.{true≢false}
+use Rattle.law_world.proofs.Common.{begins_all}
 use Rattle.drv_table.specs.declared.content.Endpoint.{Endpoint}
 use Rattle.law_driver.specs.endpoint_lives.Lives.{may_meet}
 use Rattle.claims_driver.specs.Scripts.{receives}
 use Rattle.law_queues.proofs.lemmas.leaving_drivers.Unmet.{gone_are_unmet}
 use Rattle.law_world.proofs.lemmas.streams.lemmas.put_laws.Same.{life_or}
 
-none_begins : (taken bytes : List ℕ) → taken ≡ [] → IsPrefix taken bytes
-none_begins taken bytes none = subst (λ (xs : List ℕ). IsPrefix xs bytes) (sym none) (bytes, refl)
-
 module _ (fixed : Fixed) (takes : ℕ → ℕ → Bool) (member : ℕ → Bool) (x : Streams) (s : Standing) (puts : ℕ → List ℕ) (w : World) (k : IsSending fixed takes member x s puts w) where
   pub takes_puts : TakesPuts fixed w puts
   takes_puts e z t here sends is =
       ⊎_elim
       (λ (opens : (w.driver.command ≡ Some (unfinished.Open z.queue)) × (z.gone ≡ false)).
-      none_begins t.taken (concat (puts_of w.driver puts e)) (nothing_taken fixed takes member x s puts w k e z t here opens.0 opens.1 sends is))
+      begins_all t.taken (concat (puts_of w.driver puts e)) (nothing_taken fixed takes member x s puts w k e z t here opens.0 opens.1 sends
+      is))
       (λ (life : (z.gone ≡ true) ⊎ IsThere w.driver z). k.begin e z t here life sends is) (life_or w.driver z)
 
   -- one that the walk may meet has its own, or the one that it is opened for

@@ -1,9 +1,11 @@
 -- What the closing line of each OUT endpoint says was taken begins the endpoint's stream.
-use Rattle.std.proofs.Common.{◌≡◌, ℕ, Bool, true, false, not, ◌&&◌, if◌then◌else◌, List, [], ◌∷◌, ◌++◌, filter, filter_map, Option, Some, None, ap, refl, sym, subst, ◌∙◌, ⊎_elim}
+use Rattle.std.proofs.Common.{◌≡◌, ℕ, Bool, true, false, not, ◌&&◌, if◌then◌else◌, List, [], ◌∷◌, filter, filter_map, Option, Some, None, ap, refl, sym, subst, ◌∙◌, ⊎_elim}
 use Rattle.std.specs.List.{AllByRecursion, concat}
-use Rattle.std.proofs.lemmas.Bool.{false≢true}
 use Rattle.std.proofs.lemmas.Option.{same_Some}
-use Rattle.std.proofs.lemmas.List.{append_assoc}
+use Rattle.law_common.proofs.Booleans.{not_on}
+use Rattle.law_common.proofs.Lists.{all_two}
+use Rattle.law_world.proofs.Common.{begins_both, no_control}
+use Rattle.law_driver.proofs.Common.{out_way as way_sends}
 use Rattle.usb_base.specs.declared.commands.Cmd.{Cmd}
 use Rattle.usb_base.specs.declared.commands.Cmd.TheVariants as commands
 use Rattle.usb_base.specs.declared.endpoints.EpDesc.{EpDesc}
@@ -26,14 +28,14 @@ use Rattle.law_world.specs.steps.Streaming.{wired}
 use Rattle.law_driver.specs.chained_transfers.Bulk.{IsDataWay}
 use Rattle.claims_driver.specs.Scripts.{receives, comes_in, IsAsynchronous, OpensAsynchronous, AsynchronousLine, AsynchronousOnly}
 use Rattle.law_driver.specs.chained_transfers.Asynchronous.{OnlyAsynchronous}
-use Rattle.law_driver.proofs.lemmas.chained_transfers.Ways.{way_sends, data_comes_in}
+use Rattle.law_driver.proofs.lemmas.chained_transfers.Ways.{data_comes_in}
 use Rattle.claims_world.specs.Streams.{report_of, IsToldTaken, IsTakenStream, IsTakenSent}
 use Rattle.law_world.specs.streams.Asynchronous.{AreRightInStreams, AreTakenStreams, AreSentStreams}
 use Rattle.law_world.proofs.lemmas.streams.lemmas.right_reports.Named.{HasNamed}
 use Rattle.law_world.proofs.lemmas.streams.lemmas.right_reports.Right.{all_mapped}
 use Rattle.law_world.specs.streams.taken_reports.Seats.{HasSeat, OpensItsSeat, OpensSeats, IsSeatedBus}
 use Rattle.law_world.proofs.lemmas.streams.lemmas.taken_reports.Closing.{closing_tells_taker}
-use Rattle.law_world.proofs.lemmas.streams.Told.{data_way, stream_out, out_way, control_stream}
+use Rattle.law_world.proofs.lemmas.streams.Told.{data_way, stream_out, out_way}
 use Rattle.law_world.specs.streams.put_laws.TakenPuts.{puts_of, IsOpen}
 use Rattle.law_world.specs.streams.put_laws.TakenLaws.{StreamsArePuts}
 use Rattle.law_world.specs.streams.sending_worlds.ReportLaws.{HasNamedTaker, HaveTheirTakers, TakesPuts, ReportIsSent, ReportEndsRight}
@@ -41,10 +43,6 @@ use Rattle.law_world.proofs.lemmas.streams.lemmas.sending_worlds.Named.{named_op
 use Rattle.law_world.proofs.lemmas.streams.lemmas.sending_worlds.Untold.{untold}
 
 -- ---- lists
-
-all_both : {X : Type 0} (P Q : X → Type 0) (xs : List X) → AllByRecursion P xs → AllByRecursion Q xs → AllByRecursion (λ x. P x × Q x) xs
-all_both P Q [] h k = tt
-all_both P Q (x ∷ xs) h k = ((h.0, k.0), all_both P Q xs h.1 k.1)
 
 -- of those that pass both tests
 all_kept : {X : Type 0} (Q P : X → Type 0) (a b : X → Bool) (xs : List X) → ((x : X) → Q x → b x ≡ true → P x) → AllByRecursion Q xs → AllByRecursion P (filter (λ x. a x && b x) xs)
@@ -82,13 +80,6 @@ alike_kept {X} Q a b c (x ∷ xs) alike k = by_test (a x) refl (alike_kept Q a b
         ∙ ap (λ (ys : List X). if b x then x ∷ ys else ys) rest
     by_test false is rest = rest
 
-begins_both : (xs ys zs : List ℕ) → IsPrefix xs ys → IsPrefix ys zs → IsPrefix xs zs
-begins_both xs ys zs h k = (h.0 ++ k.0, sym (append_assoc xs h.0 k.0) ∙ ap (λ (bytes : List ℕ). bytes ++ k.0) h.1 ∙ k.1)
-
-not_true : (b : Bool) → not b ≡ true → b ≡ false
-not_true true e = absurd (false≢true e)
-not_true false e = refl
-
 -- ---- what is opened
 
 -- it is a bulk or a control endpoint, and where data go one way it has its seat
@@ -114,7 +105,7 @@ opened_seated : (s : Script) (seats : List Seat) (r : WholeReport) → Asynchron
 opened_seated s seats r only has =
     all_mapped (Opens seats) (IsSeated seats) open_in (filter_map (accepted_in r) s.lines) (opens_by seats)
     (all_mapped (λ line. AsynchronousLine line.1 × OpensItsSeat seats line.1) (Opens seats) (accepted_in r) s.lines (λ line cmd both is. accepted_by seats (is_refused r line.0) line.1 cmd both is)
-    (all_both (λ line. AsynchronousLine line.1) (λ line. OpensItsSeat seats line.1) s.lines only has))
+    (all_two (λ line. AsynchronousLine line.1) (λ line. OpensItsSeat seats line.1) s.lines only has))
 
 -- ---- an OUT endpoint
 
@@ -166,7 +157,7 @@ module _ (s : Script) (p : OrderedWorld) (puts : ℕ → List ℕ) (seated : IsS
   pub all_sent : AsynchronousOnly s → OnlyAsynchronous p.world.driver → AreSentStreams s r
   all_sent each only =
       all_kept (IsSeated (fixed_of s).seats) (λ desc. IsTakenSent (taken r desc.name) (stream s r desc.name)) (λ desc. has_stream desc.kind) (λ desc. not (receives desc.name.way)) (opened_by s r)
-      (λ x k is. one_sent only x k (not_true (receives x.name.way) is)) (opened_seated s (fixed_of s).seats r each seated.seats)
+      (λ x k is. one_sent only x k (not_on (receives x.name.way) is)) (opened_seated s (fixed_of s).seats r each seated.seats)
 
   one_right : (x : EpDesc) → IsSeated (fixed_of s).seats x → IsOpen p.world.driver x → receives x.name.way ≡ false → IsTakenStream r x.name → IsRightStream s r x.name
   one_right x k o sends t =
@@ -177,7 +168,7 @@ module _ (s : Script) (p : OrderedWorld) (puts : ℕ → List ℕ) (seated : IsS
   all_right each none ins outs =
       all_split (λ desc. IsSeated (fixed_of s).seats desc × IsOpen p.world.driver desc) (λ desc. IsTakenStream r desc.name) (λ desc. IsRightStream s r desc.name) (λ desc. has_stream desc.kind)
       (λ desc. receives desc.name.way) (opened_by s r) (λ x k sends t. one_right x k.0 k.1 sends t)
-      (all_both (IsSeated (fixed_of s).seats) (IsOpen p.world.driver) (opened_by s r) seats_all (are.opened none))
+      (all_two (IsSeated (fixed_of s).seats) (IsOpen p.world.driver) (opened_by s r) seats_all (are.opened none))
       (subst (AllByRecursion (λ (desc : EpDesc). IsRightStream s r desc.name)) kept ins) outs
     where
       seats_all : AllByRecursion (IsSeated (fixed_of s).seats) (opened_by s r)
@@ -185,7 +176,7 @@ module _ (s : Script) (p : OrderedWorld) (puts : ℕ → List ℕ) (seated : IsS
 
       kept : filter (λ (desc : EpDesc). has_stream desc.kind && comes_in desc.name.way) (opened_by s r) ≡ filter (λ (desc : EpDesc). has_stream desc.kind && receives desc.name.way) (opened_by s r)
       kept =
-          alike_kept (IsSeated (fixed_of s).seats) (λ desc. has_stream desc.kind) (λ desc. receives desc.name.way) (λ desc. comes_in desc.name.way) (opened_by s r) (λ x k on. data_comes_in x.name.way (data_way x k.0 (control_stream x.kind on)))
+          alike_kept (IsSeated (fixed_of s).seats) (λ desc. has_stream desc.kind) (λ desc. receives desc.name.way) (λ desc. comes_in desc.name.way) (opened_by s r) (λ x k on. data_comes_in x.name.way (data_way x k.0 (no_control x.kind on)))
           seats_all
 
 -- ---- the laws

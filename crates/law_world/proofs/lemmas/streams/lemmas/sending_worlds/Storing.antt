@@ -1,7 +1,7 @@
 -- The driver of a world stores a word of its newest transfer's first qTD: what it has still to send goes on.
-use Rattle.std.proofs.Common.{◌≡◌, ℕ, ◌-◌, ◌*◌, ◌≤◌, Bool, List, Option, Some, sym, subst, ◌∙◌}
+use Rattle.std.proofs.Common.{◌≡◌, ℕ, ◌-◌, ◌*◌, ◌≤◌, Bool, List, Some, sym, subst, ◌∙◌}
+use Rattle.law_world.proofs.Common.{no_open}
 use Rattle.bus_wire.specs.Bus.{Fixed}
-use Rattle.drv_table.specs.declared.content.Command.{Command}
 use Rattle.drv_table.specs.declared.content.Command.TheVariants as unfinished
 use Rattle.drv_table.specs.Parts.{Parts as DriverParts}
 use Rattle.law_driver_ring.specs.Published.{partly}
@@ -24,9 +24,6 @@ use Rattle.law_world.proofs.lemmas.streams.Worlds.{whole_after}
 use Rattle.law_world.specs.streams.sending_worlds.Sending.{IsSending}
 use Rattle.law_world.specs.streams.sending_worlds.WorldLaws.{StoreKeepsSending}
 use Rattle.law_world.proofs.lemmas.streams.lemmas.sending_worlds.Each.{there_heads, HarvestsNone, busy_harvests_none, held_then, begin_then, ended_alike, owes_same, IsOrdinary, publish_ordinary, left_then, has_of}
-
-no_open : (b c : ℕ) (words : List ℕ) → ◌≡◌ {A = Option Command} (Some (unfinished.Publish b words)) (Some (unfinished.Open c)) → ⊥
-no_open b c words same = cc
 
 module _ (fixed : Fixed) (takes : ℕ → ℕ → Bool) (member : ℕ → Bool) (x : Streams) (s : Standing) (puts : ℕ → List ℕ) (w : World) (b : ℕ) (words : List ℕ) (command : w.driver.command ≡ Some (unfinished.Publish b words)) (made : 1 ≤ w.driver.made) (k : IsSending fixed takes member x s puts w) where
   abbrev p : DriverParts

@@ -2,6 +2,7 @@
 use Rattle.std.proofs.Common.{◌≡◌, ℕ, nat_lt, ◌==◌, Bool, true, false, if◌then◌else◌, List, [], ◌∷◌, ◌++◌, filter_map, find, slice_get, Option, Some, None, ap, refl, ◌∙◌}
 use Rattle.std.specs.List.{flat_map, cons_option}
 use Rattle.std.proofs.lemmas.List.Elements.{filter_map-append}
+use Rattle.law_world.proofs.Common.{waiting_none}
 use Rattle.usb_base.specs.declared.endpoints.EpName.{EpName}
 use Rattle.usb_base.specs.declared.packets.EpKind.{EpKind}
 use Rattle.usb_base.specs.declared.packets.EpKind.TheVariants as Kinds
@@ -13,17 +14,13 @@ use Rattle.drv_table.specs.DriverContent.{opened}
 use Rattle.bus_wire.specs.declared.seats.Seat.{Seat}
 use Rattle.bus_wire.specs.Fates.{is_same_name}
 use Rattle.bus_wire.specs.Bus.{Fixed}
-use Rattle.claims_report.specs.Reports.{Pending, taken_in, taken}
+use Rattle.claims_report.specs.Reports.{taken_in, taken}
 use Rattle.law_queues.proofs.lemmas.told_endpoints.Names.{same_name_is}
 use Rattle.bus_world.specs.World.{World}
 use Rattle.bus_world.specs.Closing.{waiting, hub_of}
 use Rattle.claims_world.specs.Streams.{waiting_closing, device_closing, told_closing, opened_closings, seat_closings, report_of}
 
 -- ---- the closing lines of another endpoint
-
-waiting_none : (name other : EpName) (k : ℕ) (b : Bool) → filter_map (taken_in name) (if b then Pending other k ∷ [] else []) ≡ []
-waiting_none name other k true = refl
-waiting_none name other k false = refl
 
 none_taken : (name other : EpName) (bytes : List ℕ) → is_same_name other name ≡ false → cons_option (if is_same_name other name then Some bytes else None) [] ≡ []
 none_taken name other bytes is = ap (λ (b : Bool). cons_option (if b then Some bytes else None) []) is

@@ -1,9 +1,9 @@
 -- What was harvested of each OUT queue begins what its taker took, and is what is told of it.
-use Rattle.std.proofs.Common.{◌≡◌, ◌≢◌, ℕ, ◌*◌, Bool, true, false, List, [], ◌++◌, slice_get, Option, Some, None, ap, refl, sym, subst, ◌∙◌, ⊎_elim, inl, inr}
-use Rattle.std.specs.Prelude.{◌⊎◌}
+use Rattle.std.proofs.Common.{◌≡◌, ◌≢◌, ℕ, ◌*◌, Bool, true, false, List, [], ◌++◌, slice_get, Option, Some, None, ap, refl, sym, subst, ◌∙◌, ⊎_elim}
 use Rattle.std.specs.List.{concat}
-use Rattle.std.proofs.lemmas.Bool.{cases_eq}
 use Rattle.std.proofs.lemmas.List.{append_assoc}
+use Rattle.law_world.proofs.Common.{met_or_not}
+use Rattle.law_world.proofs.Common2.{told_first}
 use Rattle.law_structures.specs.lent_structures.Structures.{StructureSets}
 use Rattle.law_ring.specs.Hand.{Hand}
 use Rattle.law_ring.specs.Told.{Endpoint as Told}
@@ -25,44 +25,13 @@ use Rattle.law_driver_ring.specs.fed_queues.Places.{IsThere, IsMet}
 use Rattle.claims_world.specs.Streams.{IsToldTaken}
 use Rattle.law_world.specs.streams.taken_reports.Laws.{bytes_taken, TakesEach}
 use Rattle.law_world.specs.streams.taken_reports.Worlds.{WorldIsTaken}
-use Rattle.law_world.proofs.lemmas.streams.lemmas.taken_reports.Telling.{out_stream, no_bytes, first_none, first_begins, report_is_taken}
+use Rattle.law_world.proofs.lemmas.streams.lemmas.taken_reports.Telling.{out_stream, no_bytes, first_none, report_is_taken}
 
 -- ---- an endpoint is met, or is being opened
 
 queue_in : Option Command → ℕ
 queue_in (Some (unfinished.Open b)) = b
 queue_in _ = 0
-
-same_queue : (b c : ℕ) → Some (unfinished.Open b) ≡ Some (unfinished.Open c) → b ≡ c
-unfolding queue_in
-same_queue b c is = ap queue_in is
-
-pub met_or_not : (o : Option Command) (b : ℕ) → (o ≡ Some (unfinished.Open b)) ⊎ (o ≢ Some (unfinished.Open b))
-met_or_not None b = inr (λ is. none is)
-  where
-    none : None ≡ Some (unfinished.Open b) → ⊥
-    none is = cc
-met_or_not (Some (unfinished.Open c)) b = ⊎_elim (λ (is : c ≡ b). inl (ap (λ (i : ℕ). Some (unfinished.Open i)) is)) (λ (differs : c ≢ b). inr (λ same. differs (same_queue c b same))) (cases_eq c b)
-met_or_not (Some (unfinished.Publish c words)) b = inr (λ is. other is)
-  where
-    other : Some (unfinished.Publish c words) ≡ Some (unfinished.Open b) → ⊥
-    other is = cc
-met_or_not (Some (unfinished.Unlink e c link)) b = inr (λ is. other is)
-  where
-    other : Some (unfinished.Unlink e c link) ≡ Some (unfinished.Open b) → ⊥
-    other is = cc
-met_or_not (Some unfinished.Chain) b = inr (λ is. other is)
-  where
-    other : Some unfinished.Chain ≡ Some (unfinished.Open b) → ⊥
-    other is = cc
-met_or_not (Some (unfinished.Iso e t n)) b = inr (λ is. other is)
-  where
-    other : Some (unfinished.Iso e t n) ≡ Some (unfinished.Open b) → ⊥
-    other is = cc
-met_or_not (Some (unfinished.Unchain e)) b = inr (λ is. other is)
-  where
-    other : Some (unfinished.Unchain e) ≡ Some (unfinished.Open b) → ⊥
-    other is = cc
 
 -- ---- what was harvested begins what was taken
 
@@ -76,7 +45,7 @@ harvested_begins o acc order out hand parts n harvested b r =
 all_begins : (o : Option Taker) (acc : List (List ℕ)) (order : ℕ → ℕ) (out : List ℕ) (hand : Hand) (parts : StructureSets) (n : ℕ) (harvested : List ℕ) → IsToldTaken (concat acc) (bytes_taken o)
     → IsReported order out hand parts n acc harvested → IsToldTaken harvested (bytes_taken o)
 all_begins None acc order out hand parts n harvested all r = first_none harvested r.told (r.sum ∙ all)
-all_begins (Some t) acc order out hand parts n harvested all r = first_begins harvested r.told (concat acc) t.taken r.sum all
+all_begins (Some t) acc order out hand parts n harvested all r = told_first harvested r.told (concat acc) t.taken r.sum all
 
 -- ---- the world
 

@@ -1,10 +1,11 @@
 -- The closing line of an OUT endpoint tells what its taker took.
-use Rattle.std.proofs.Common.{◌≡◌, ℕ, zero, suc, ◌<◌, nat_lt, ◌==◌, Bool, true, false, if◌then◌else◌, List, [], ◌∷◌, ◌++◌, filter_map, find, slice_get, Option, Some, None, ap, refl, sym, subst, ◌∙◌, ⊎_elim, inl, inr, arith}
+use Rattle.std.proofs.Common.{◌≡◌, ℕ, zero, suc, nat_lt, ◌==◌, Bool, true, false, if◌then◌else◌, List, [], ◌∷◌, ◌++◌, filter_map, find, slice_get, Option, Some, None, ap, refl, sym, subst, ◌∙◌, ⊎_elim, inl, inr}
 use Rattle.std.specs.Prelude.{◌⊎◌}
 use Rattle.std.specs.List.{flat_map, cons_option}
-use Rattle.std.proofs.lemmas.Bool.{eq-eqb, eqb-true, true≢false}
+use Rattle.std.proofs.lemmas.Bool.{eq-eqb, true≢false}
 use Rattle.std.proofs.lemmas.Option.{same_Some}
 use Rattle.std.proofs.lemmas.List.Elements.{filter_map-append}
+use Rattle.law_world.proofs.Common.{device_found, waiting_none}
 use Rattle.usb_base.specs.declared.endpoints.EpName.{EpName}
 use Rattle.usb_base.specs.declared.packets.EpKind.{EpKind}
 use Rattle.usb_base.specs.declared.packets.EpKind.TheVariants as Kinds
@@ -17,31 +18,14 @@ use Rattle.bus_wire.specs.declared.seats.Seat.{Seat}
 use Rattle.bus_wire.specs.Fates.{is_same_name}
 use Rattle.law_ring.specs.OutBus.{Taker}
 use Rattle.law_devices.proofs.lemmas.scripted_takers.Asking.{IsAtDevice, HasTaker, taker_found}
-use Rattle.claims_report.specs.Reports.{Closing, Pending, taken_in}
+use Rattle.claims_report.specs.Reports.{Closing, taken_in}
 use Rattle.claims_report.specs.Streams.{has_stream}
 use Rattle.law_queues.proofs.lemmas.told_endpoints.Names.{same_name_is, name_is_same}
 use Rattle.bus_world.specs.World.{World}
 use Rattle.bus_world.specs.Closing.{waiting, hub_of}
 use Rattle.law_world.specs.steps.Streaming.{wired}
 use Rattle.claims_world.specs.Streams.{waiting_closing, device_closing, told_closing, opened_closings, seat_closings}
-use Rattle.law_world.specs.streams.taken_reports.Seats.{AreApart}
 use Rattle.law_world.specs.streams.taken_reports.Laws.{ClosingTellsTaker}
-
--- ---- the device of an address
-
-first_found : {X : Type 0} (p : X → Bool) (xs : List X) (k : ℕ) (x : X) → slice_get xs k ≡ Some x → p x ≡ true → ((i : ℕ) (y : X) → i < k → slice_get xs i ≡ Some y → p y ≡ false) → find p xs ≡ Some x
-first_found p [] zero x here is before = absurd cc
-first_found p [] (suc k) x here is before = absurd cc
-first_found p (y ∷ ys) zero x here is before = ap (λ (b : Bool). if b then Some y else find p ys) (ap p (same_Some y x here) ∙ is) ∙ here
-first_found p (y ∷ ys) (suc k) x here is before =
-    ap (λ (b : Bool). if b then Some y else find p ys) (before 0 y (omega arith) refl) ∙ first_found p ys k x here is (λ i z less there. before (suc i) z (omega (arith, less)) there)
-
-device_found : (devices : List Device) (n a : ℕ) (d : Device) → AreApart devices → slice_get devices n ≡ Some d → a ≡ d.address → find (λ e. e.address == a) devices ≡ Some d
-device_found devices n a d apart here same = first_found (λ e. e.address == a) devices n d here (eq-eqb d.address a (sym same)) (λ i e less there. others i e less there (e.address == a) refl)
-  where
-    others : (i : ℕ) (e : Device) → i < n → slice_get devices i ≡ Some e → (b : Bool) → (e.address == a) ≡ b → (e.address == a) ≡ false
-    others i e less there true is = let alike : i ≡ n = apart i n e d there here (eqb-true e.address a is ∙ same) in absurd (omega (arith, less, alike))
-    others i e less there false is = is
 
 -- ---- what it took
 
@@ -57,10 +41,6 @@ taken_there d name t way at =
 
 taken_by : EpName → List Closing → List (List ℕ)
 taken_by name closings = filter_map (taken_in name) closings
-
-waiting_none : (name other : EpName) (k : ℕ) (b : Bool) → filter_map (taken_in name) (if b then Pending other k ∷ [] else []) ≡ []
-waiting_none name other k true = refl
-waiting_none name other k false = refl
 
 one_taken : (name other : EpName) (bytes : List ℕ) (b : Bool) → is_same_name other name ≡ b → cons_option (if is_same_name other name then Some bytes else None) [] ≡ (if b then bytes ∷ [] else [])
 one_taken name other bytes true is = ap (λ (b : Bool). cons_option (if b then Some bytes else None) []) is

@@ -5,6 +5,8 @@ use Rattle.std.specs.List.{AllByRecursion, list_any}
 use Rattle.std.specs.Option.{option_map, option_and_then}
 use Rattle.std.proofs.lemmas.Bool.{and_parts, eqb-true, eq-eqb, true≢false, cases_Bool, cond-true, cond-false, or_cases}
 use Rattle.std.proofs.lemmas.Option.{same_Some, slice_get-map}
+use Rattle.law_devices.proofs.Common.{ways_equal}
+use Rattle.law_common.proofs.Lists.{all_more}
 use Rattle.usb_base.specs.declared.commands.Cmd.TheVariants as cmd
 use Rattle.usb_base.specs.declared.endpoints.EpDesc.{EpDesc}
 use Rattle.usb_base.specs.declared.endpoints.EpName.{EpName}
@@ -29,7 +31,7 @@ use Rattle.law_driver.specs.chained_transfers.Bulk.{IsDataWay}
 use Rattle.bus_world.specs.Opening.{opening_world}
 use Rattle.bus_world.specs.Orders.{at_place, orders_of}
 use Rattle.law_devices.specs.opening_senders.Own.{HasOwnDevices}
-use Rattle.law_devices.proofs.Lists.{Holds, all_more, all_find, filter_skips, filter_takes, found_passes, find_append, find_later, find_same, find_map}
+use Rattle.law_devices.proofs.Lists.{Holds, all_find, filter_skips, filter_takes, found_passes, find_append, find_later, find_same, find_map}
 use Rattle.law_devices.proofs.Drafts.{IsEpOf, HasOwn, IsKnownDesc, IsKnownLine, IsDeclaredDraft}
 use Rattle.law_devices.proofs.Texts.{spelled_kept}
 use Rattle.law_devices.proofs.Senders.{IsDeclaredAt, empty_declared, second_declared, line_declares}
@@ -60,17 +62,6 @@ ways_same way.Out way.Ctl = refl
 ways_same way.Ctl way.In = refl
 ways_same way.Ctl way.Out = refl
 ways_same way.Ctl way.Ctl = refl
-
-ways_equal : (a b : Way) → same_way a b ≡ true → a ≡ b
-ways_equal way.In way.In e = refl
-ways_equal way.In way.Out e = cc
-ways_equal way.In way.Ctl e = cc
-ways_equal way.Out way.In e = cc
-ways_equal way.Out way.Out e = refl
-ways_equal way.Out way.Ctl e = cc
-ways_equal way.Ctl way.In e = cc
-ways_equal way.Ctl way.Out e = cc
-ways_equal way.Ctl way.Ctl e = refl
 
 -- ---- the seats of a list
 

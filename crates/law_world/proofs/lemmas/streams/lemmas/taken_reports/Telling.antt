@@ -5,7 +5,9 @@ use Rattle.std.specs.Option.{option_map, option_and_then}
 use Rattle.std.specs.List.{AllByRecursion, list_any}
 use Rattle.std.proofs.lemmas.Bool.{false≢true}
 use Rattle.std.proofs.lemmas.Option.{same_Some}
-use Rattle.std.proofs.lemmas.List.{append_assoc}
+use Rattle.law_common.proofs.Booleans.{not_on, and_right, first_of_both}
+use Rattle.law_driver.proofs.Common.{out_way}
+use Rattle.law_world.proofs.Common2.{told_first}
 use Rattle.usb_base.specs.declared.commands.Cmd.{Cmd}
 use Rattle.usb_base.specs.declared.commands.Cmd.TheVariants as commands
 use Rattle.usb_base.specs.declared.endpoints.EndCause.{EndCause}
@@ -17,7 +19,6 @@ use Rattle.usb_base.specs.declared.reports.Report.{Report}
 use Rattle.script_types.specs.declared.scripts.Line.{Line}
 use Rattle.script_types.specs.declared.scripts.Line.TheVariants as lines
 use Rattle.script_types.specs.declared.scripts.Script.{Script}
-use Rattle.claims_base.specs.Prefix.{IsPrefix}
 use Rattle.bus_wire.specs.declared.seats.Seat.{Seat}
 use Rattle.bus_wire.specs.Fates.{is_same_name}
 use Rattle.bus_wire.specs.Bus.{Fixed}
@@ -77,29 +78,14 @@ opened_seated s seats r has =
     all_mapped (λ cmd. OpensItsSeat seats (lines.Command cmd)) (IsSeated seats) open_in (filter_map (accepted_in r) s.lines) (opens_by seats)
     (all_mapped (λ line. OpensItsSeat seats line.1) (λ cmd. OpensItsSeat seats (lines.Command cmd)) (accepted_in r) s.lines (λ line cmd seat is. accepted_by seats (is_refused r line.0) line.1 cmd seat is) has)
 
-and_left : (a b : Bool) → (a && b) ≡ true → a ≡ true
-and_left true b e = refl
-and_left false b e = absurd (false≢true e)
-
-and_right : (a b : Bool) → (a && b) ≡ true → b ≡ true
-and_right true b e = e
-and_right false b e = absurd (false≢true e)
-
-not_true : (b : Bool) → not b ≡ true → b ≡ false
-not_true true e = absurd (false≢true e)
-not_true false e = refl
-
-out_way : (way : Way) → receives way ≡ false → way ≡ Ways.Out
-out_way Ways.Out is = refl
-out_way _ is = absurd (false≢true (sym is))
-
 all_taken : (s : Script) (seats : List Seat) (r : WholeReport) → OpensSeats s seats → ((x : EpDesc) → has_stream x.kind ≡ true → HasSeat seats x → x.name.way ≡ Ways.Out → IsTakenStream r x.name)
     → AreTakenStreams s r
 all_taken s seats r has each =
     all_kept (IsSeated seats) (λ desc. IsTakenStream r desc.name) (λ desc. has_stream desc.kind && not (receives desc.name.way)) (opened_by s r)
     (λ x k is.
-    let way = out_way x.name.way (not_true (receives x.name.way) (and_right (has_stream x.kind) (not (receives x.name.way)) is)) in
-    each x (and_left (has_stream x.kind) (not (receives x.name.way)) is) (k (subst IsDataWay (sym way) tt)) way) (opened_seated s seats r has)
+    let way = out_way x.name.way (not_on (receives x.name.way) (and_right (has_stream x.kind) (not (receives x.name.way)) is)) in
+    each x (first_of_both (has_stream x.kind) (not (receives x.name.way)) is) (k (subst IsDataWay (sym way) tt)) way)
+    (opened_seated s seats r has)
 
 -- ---- bytes
 
@@ -110,9 +96,6 @@ no_bytes (Some taken) = (taken, refl)
 pub first_none : (xs ys : List ℕ) → xs ++ ys ≡ [] → xs ≡ []
 first_none [] ys is = refl
 first_none (x ∷ xs) ys is = absurd cc
-
-pub first_begins : (told held all taken : List ℕ) → told ++ held ≡ all → IsPrefix all taken → IsPrefix told taken
-first_begins told held all taken sum k = (held ++ k.0, sym (append_assoc told held k.0) ∙ ap (λ (xs : List ℕ). xs ++ k.0) sum ∙ k.1)
 
 -- ---- one endpoint
 
@@ -195,7 +178,7 @@ module _ (fixed : Fixed) (w : World) (held told_each : ℕ → List ℕ) (tells 
     bytes_by k (Some t) is begins =
         subst (IsToldTaken (told r x.name)) (sym (closing_tells_taker fixed w x t way stream has seated.apart (is_opened x.name sends k)
         is))
-        (first_begins (told r x.name) (held k.number) (told_each k.number) t.taken (sum x.name sends k) begins)
+        (told_first (told r x.name) (held k.number) (told_each k.number) t.taken (sum x.name sends k) begins)
 
     named_taken : (k : HasNamed w.driver.endpoints x.name) → IsToldTaken (told_each k.number) (bytes_taken (taker_of (wired fixed w) x.name.addr x.name.num))
     named_taken k =
