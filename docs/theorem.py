@@ -88,6 +88,8 @@ The theorem of this repository is the contract of one function, `ehci` in crates
 
 Most clauses speak of **the table machine** over the script that the input spells, and for `load` over the one that is drawn from its number: contents of driver, controller, registers, memory, hubs and devices, and the row that each event is. Clause `output` ties it to what is printed: the report is that of the machine's whole run. Each clause below is given in its own words, then in English, then come the definitions beside the machine that it reaches, which one has to read to know what it says. "At each moment" is: before the run, and after each of its events and commands.
 
+The calls below keep the tables as their contracts: `World::offer`, `World::event` and `World::run` of bus_world say which row each command and event is, and nothing of what then holds along a run. What holds there are clauses of `ehci` alone, so that no part of the machine, and no program over it, has to wait for the proofs of laws. A program of one's own over `World` gets them by the same laws: each takes a script, and speaks of the moments of its run.
+
 Where a clause's English says less than its name, the definitions count. [NOT_PROVED.md](NOT_PROVED.md) has what no clause says. **Lent, Kept, Free**: a block of memory that the controller may touch too, that the driver has alone, that nobody has. A **run** of blocks is some blocks in a row.
 """
 
