@@ -1,7 +1,6 @@
 pub mod Watching
 pub mod Keeping
 pub mod Laws
-pub mod Short
 pub mod Samples
 pub mod Parts
 pub mod Turns

@@ -14,10 +14,9 @@ pub mod Starting
 pub mod StuffTexts
 pub mod SitdStarts
 pub mod Parts
-pub mod ShortOuts
+pub mod SitdCopies
 pub mod SitdHands
 pub mod SitdFollowing
-pub mod ShortTexts
 pub mod Turns
 pub mod TurnsNew
 pub mod TurnsDriven
@@ -26,3 +25,13 @@ pub mod TurnsPipelines
 pub mod TurnsBegin
 pub mod TurnsAsks
 pub mod TurnsEnds
+pub mod TurnsWords
+pub mod TurnsMemory
+pub mod TurnsWalk
+pub mod TurnsFirst
+pub mod TurnsKeys
+pub mod TurnsFrame
+pub mod TurnsHeld
+pub mod TurnsRing
+pub mod TurnsRuns
+pub mod TurnsTexts

@@ -2,9 +2,9 @@
 --     EachPipeline P w g         P tells of the watched pipeline of each translator of the world
 --     AlongRuns most P           so it is at each moment of a run where endpoints have at most so many stuffed bits in 36, each plan fits,
 --                                no two keys of a plan are the same, and each start-split follows its plan
---     AlongTexts P               .. in the run of each script that a text spells, where no part of an isochronous OUT comes behind the
---                                last one, nor two in a microframe
+--     AlongTexts P               .. in the run of each script that a text spells
 --     AlongPlainTexts P          .. where no endpoint has stuffed bits
+--     PartsComeInTurn            in such a run no part of an isochronous OUT comes behind the last one, nor two in a microframe
 --     TextsHaveFewStuffedBits                no endpoint of a script that a text spells has more than six of them in 36
 --     InterruptsFollow           each start-split of a queue head follows its plan; SitdsFollowToo: and each of a siTD
 --     EntriesStayOwned           an event of the driver, a command and a microframe that begins in the frame leave whose an entry is
@@ -35,15 +35,17 @@ abbrev pub AlongRuns : ℕ → (Plan → ℕ → List Watched → Type 0) → Ty
 AlongRuns most P = (s : Script) → StuffsAtMost most (fixed_of s) → ((k : ℕ) → IsKnown (moment s k).world) → (k : ℕ)
     → EachPipeline P (moment s k).world (gaps s k)
 
--- of texts, where no part of an isochronous OUT comes behind the last one, nor two in a microframe
 abbrev pub AlongTexts : (Plan → ℕ → List Watched → Type 0) → Type 0
-AlongTexts P = (text : List ℕ) (s : Script) → Spells text s → ((k : ℕ) → PartsAreLacked (moment s k).world) → (k : ℕ)
+AlongTexts P = (text : List ℕ) (s : Script) → Spells text s → (k : ℕ) → EachPipeline P (moment s k).world (gaps s k)
+
+-- .. where no endpoint has stuffed bits
+abbrev pub AlongPlainTexts : (Plan → ℕ → List Watched → Type 0) → Type 0
+AlongPlainTexts P = (text : List ℕ) (s : Script) → Spells text s → StuffsAtMost 0 (fixed_of s) → (k : ℕ)
     → EachPipeline P (moment s k).world (gaps s k)
 
--- .. and no endpoint has stuffed bits
-abbrev pub AlongPlainTexts : (Plan → ℕ → List Watched → Type 0) → Type 0
-AlongPlainTexts P = (text : List ℕ) (s : Script) → Spells text s → StuffsAtMost 0 (fixed_of s)
-    → ((k : ℕ) → PartsAreLacked (moment s k).world) → (k : ℕ) → EachPipeline P (moment s k).world (gaps s k)
+-- no part of an isochronous OUT comes behind the last one, nor two in a microframe
+abbrev pub PartsComeInTurn : Type 0
+PartsComeInTurn = (text : List ℕ) (s : Script) → Spells text s → (k : ℕ) → PartsAreLacked (moment s k).world
 
 -- no endpoint has more than six
 abbrev pub TextsHaveFewStuffedBits : Type 0

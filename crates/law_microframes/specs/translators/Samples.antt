@@ -73,19 +73,6 @@ spoken es = record (opening_world keyboard_and_disk) {
   };
 }
 
-abbrev pub speaker : ℕ → EpDesc
-speaker max = record {
-  name = record { addr = 3; num = 1; way = ways.Out };
-  speed = Full;
-  kind = Iso;
-  max = max;
-  period = 8;
-  multi = 1;
-  hub = Some 9;
-  port = 2;
-  tt = 0;
-}
-
 -- ---- stuffed bits
 
 abbrev pub stuffed_bits : ℕ → Fixed

@@ -1,8 +1,7 @@
 //! The same of each script that a text spells: each start-split follows its plan.
 ghost use Rattle.law_translator.specs.Premises.{AllKeepUp, AllKeepUpStuffed};
 ghost use Rattle.law_translator.specs.Results.{AllAnswered};
-ghost use Rattle.law_microframes.specs.translators.Short.{AlongShortTexts, AlongPlainShortTexts};
-ghost use Rattle.law_microframes.specs.translators.Laws.{AlongTexts, AlongPlainTexts, TextsHaveFewStuffedBits, InterruptsFollow, SitdsFollowToo};
+ghost use Rattle.law_microframes.specs.translators.Laws.{AlongTexts, AlongPlainTexts, PartsComeInTurn, TextsHaveFewStuffedBits, InterruptsFollow, SitdsFollowToo};
 
 /// Each start-split of a queue head is one that the plan of its translator calls for, and its endpoint isn't given back in the frame.
 pub fn interrupts_follow()
@@ -15,12 +14,17 @@ pub fn sitds_follow()
     ensures { SitdsFollowToo }
 {}
 
+/// No part of an isochronous OUT comes behind the last one, nor do two come in a microframe.
+pub fn parts_come_in_turn()
+    ensures { PartsComeInTurn }
+{}
+
 /// No endpoint below a hub has more than six stuffed bits in 36.
 pub fn texts_have_few_stuffed_bits()
     ensures { TextsHaveFewStuffedBits }
 {}
 
-/// So the translators keep up, as far as the parts of isochronous OUTs come in turn.
+/// So the translators keep up.
 pub fn texts_keep_up()
     ensures work { AlongPlainTexts AllKeepUp }
     ensures answers { AlongPlainTexts (AllAnswered 1) }
@@ -30,12 +34,4 @@ pub fn texts_keep_up()
 pub fn stuffed_texts_keep_up()
     ensures work { AlongTexts AllKeepUpStuffed }
     ensures answers { AlongTexts (AllAnswered 2) }
-{}
-
-/// Where isochronous OUTs below hubs have packets of less than 188 bytes, the translators keep up along each run, with nothing asked of it.
-pub fn short_texts_keep_up()
-    ensures work { AlongPlainShortTexts AllKeepUp }
-    ensures answers { AlongPlainShortTexts (AllAnswered 1) }
-    ensures stuffed { AlongShortTexts AllKeepUpStuffed }
-    ensures stuffed_answers { AlongShortTexts (AllAnswered 2) }
 {}

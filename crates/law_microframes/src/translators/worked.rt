@@ -8,8 +8,7 @@ ghost use Rattle.law_microframes.specs.plans.Samples.{filmed};
 ghost use Rattle.law_microframes.specs.translators.Watching.{gaps_worked, StuffsAtMost};
 ghost use Rattle.law_microframes.specs.translators.Keeping.{plans_now, IsOwned, EntryLacks};
 ghost use Rattle.law_microframes.specs.translators.Parts.{EachOf, Lacks, IsEven};
-ghost use Rattle.law_microframes.specs.translators.Short.{IsShort};
-ghost use Rattle.law_microframes.specs.translators.Samples.{camera_start, camera_key, leaving, speaker_key, begun, gone_on, ended, spoken, speaker, stuffed_bits};
+ghost use Rattle.law_microframes.specs.translators.Samples.{camera_start, camera_key, leaving, speaker_key, begun, gone_on, ended, spoken, stuffed_bits};
 
 /// The camera's start-split follows its plan in microframe 1 of its frames, in no other microframe, and at no other hub.
 pub fn a_camera_follows_its_plan()
@@ -47,12 +46,6 @@ pub fn stuffed_bits_count()
     ensures six { StuffsAtMost 6 (stuffed_bits 6) }
     ensures none { StuffsAtMost 0 (stuffed_bits 0) }
     ensures some { StuffsAtMost 0 (stuffed_bits 6) → ⊥ }
-{}
-
-/// A speaker of 187 bytes has one part a frame; of 188 bytes it isn't short.
-pub fn a_short_speaker()
-    ensures short { IsShort (speaker 187) }
-    ensures long { IsShort (speaker 188) → ⊥ }
 {}
 
 /// The speaker's entry lacks its last part until that came; a microframe after a part it is even.

@@ -127,7 +127,7 @@ itd_no_sitd : (b a : ℕ) (v : Sitd) (o : Option Itd) → itd_fetch b o ≡ chai
 itd_no_sitd b a v None is = cc
 itd_no_sitd b a v (Some q) is = cc
 
-sitd_cursor : (m : Mem) (cursor : Link) (a : ℕ) (v : Sitd) → chain_row m cursor ≡ chains.Sitd a v
+pub sitd_cursor : (m : Mem) (cursor : Link) (a : ℕ) (v : Sitd) → chain_row m cursor ≡ chains.Sitd a v
     → (cursor ≡ links.Sitd a) × (sitd_at_address m a ≡ Some v)
 sitd_cursor m (links.Itd b) a v is = absurd (itd_no_sitd b a v (itd_at_address m b) is)
 sitd_cursor m (links.Qh b) a v is = absurd (queue_no_sitd b a v (queue_head_at_address m b) is)
@@ -407,6 +407,38 @@ module _ (b : World) (s : Standing) (w : World) (k : IsMixedAt s w) (heads : Hea
       placed = q.belongs.placed;
     }
 
+    -- what is told of it
+    pub record IsSplitThere : Type 0 where
+      pub at : IsDescriptorAt w.driver a
+      pub split : (note_at w.driver.periodic.notes at.transfer.first).split ≡ true
+      pub frame : (note_at w.driver.periodic.notes at.transfer.first).frame ≡ frame_in w.control.frame.index
+      pub holds : HoldsSplitIsochronous w.memory a v
+      pub fields : HaveSitdFields v at.belongs.endpoint.desc at.belongs.placement
+      pub was : IsActiveDescriptor b.driver b.memory at.belongs.number (frame_in w.control.frame.index) a
+
+    told_there : IsDescriptorAt w.driver a → IsSplitThere
+    unfolding of_split
+    told_there q =
+        let i = sitd_active.is in
+        let same : i.transfer ≡ q.transfer = one_transfer s w a k q i.number i.transfer i.here i.descriptor i.held i.at in
+        let m = k.now.framed.runs.members a ASitd sitd_met in
+        let holds : HoldsSplitIsochronous w.memory a m.sitd = k.now.framed.runs.ring.tells.each a a (SplitIsochronous m.sitd) m.here in
+        let have : HaveSitdFields (sitd_in w.memory q.transfer.first) q.belongs.endpoint.desc q.belongs.placement =
+        sitds.fields (of_split q) in
+        record {
+          at = q;
+          split = (of_split q).split;
+          frame =
+              ap (λ (y : Transfer). (note_at w.driver.periodic.notes y.first).frame) (sym same) ∙ i.frame
+              ∙ within.in_frame sitd_active.endpoint sitd_active.frame a sitd_ahead i;
+          holds = subst (HoldsSplitIsochronous w.memory a) (sym (read_one w.memory a v m.sitd sitd_reads holds)) holds;
+          fields = record {
+            classic = have.classic;
+            has = read_as _ _ _ _ w.memory q.transfer.first a v q.name sitd_reads have.has;
+          };
+          was = (active_now a q sitd_ahead sitd_active).was;
+        }
+
     split_there : (q : IsDescriptorAt w.driver a) → IsSitdThere b w.driver (controller_parts w) a v
     unfolding of_split
     split_there q =
@@ -436,15 +468,21 @@ module _ (b : World) (s : Standing) (w : World) (k : IsMixedAt s w) (heads : Hea
           active = now.active;
         }
 
-    sitd_there : IsSitdThere b w.driver (controller_parts w) a v
-    sitd_there =
-        ⊎_elim {C = IsSitdThere b w.driver (controller_parts w) a v} split_there
+    its_descriptor : IsDescriptorAt w.driver a
+    its_descriptor =
+        ⊎_elim {C = IsDescriptorAt w.driver a} (λ (q : IsDescriptorAt w.driver a). q)
         (λ (h : IsHarvestedAt w.driver a).
         let i = sitd_active.is in
         let same : i.transfer.first ≡ h.transfer.first = same_blocks i.transfer.first h.transfer.first (sym i.at ∙ h.name) in
         absurd (true≢false (sym (served h.number h.transfer h.there h.sort h.reported h.held)
         ∙ ap (λ (n : ℕ). is_served (note_at w.driver.periodic.notes n) w.memory n) (sym same) ∙ i.active)))
         (descriptor_belongs s w a ASitd k sitd_met (λ same. cc))
+
+    sitd_there : IsSitdThere b w.driver (controller_parts w) a v
+    sitd_there = split_there its_descriptor
+
+    pub sitd_told : IsSplitThere
+    sitd_told = told_there its_descriptor
 
   structures : ReadsStructures b w.driver (controller_parts w)
   structures = record {

@@ -217,8 +217,7 @@ CanHaveSlots d name len = (e : ℕ) (v : Endpoint) → slice_get d.endpoints e �
     → (v.desc.multi ≡ 1) × (len ≤ v.desc.max * v.desc.multi)
 
 module _ (w : World) (name : EpName) (count len seed : ℕ) (o : Offered) (mixed : IsMixedWorld w)
-    (is : offered w.driver w.memory (commands.Iso name count len seed) ≡ Ok o) (old : SitdsStand w.driver w.memory w.control)
-    (can : CanHaveSlots w.driver name len) where
+    (is : offered w.driver w.memory (commands.Iso name count len seed) ≡ Ok o) where
   abbrev d : DriverContent
   d = w.driver
 
@@ -310,15 +309,15 @@ module _ (w : World) (name : EpName) (count len seed : ℕ) (o : Offered) (mixed
           ∙ ap (λ (ts : List Transfer). slice_get ts new.index)
           (drop_old d.transfers (made k.number (slots_of k.endpoint k.len) k.count bs)) ∙ new.there
 
-      slot_most : note.slot ≤ k.endpoint.desc.max
+      slot_most : CanHaveSlots w.driver name len → note.slot ≤ k.endpoint.desc.max
       unfolding k i
-      slot_most =
+      slot_most can =
           let c = can k.number k.endpoint k.here k.iso classic i.named in
           subst (λ (n : ℕ). n ≤ k.endpoint.desc.max) (sym its_note.3)
           (slot_fits k.endpoint.desc k.len c.0 (subst (λ (n : ℕ). n ≤ k.endpoint.desc.max * k.endpoint.desc.multi) (sym i.same) c.1))
 
-      new_fields : HaveSitdFields (sitd_in o.memory j.transfer.first) j.endpoint.desc j.placement
-      new_fields =
+      new_fields : CanHaveSlots w.driver name len → HaveSitdFields (sitd_in o.memory j.transfer.first) j.endpoint.desc j.placement
+      new_fields can =
           let a = awaited in
           let same_a : a.endpoint.desc ≡ k.endpoint.desc
           = sym (ap (λ (s : Seen). s.desc) (seen_old k.number a.endpoint a.here).same)
@@ -331,7 +330,7 @@ module _ (w : World) (name : EpName) (count len seed : ℕ) (o : Offered) (mixed
           (words_of_descriptor note.split) ≡ descriptor_words x note) same_a written.words in
           let limit : note.slot ≤ 1023 = subst (λ (c : Bool). note.slot ≤ (if c then 1023 else 3072)) j.split written.noted.few in
           let has = new_sitd_as k.endpoint.desc note.smask note.cmask note.slot j.transfer.first note.buffer o.memory fits
-          written.noted.smask written.noted.cmask limit slot_most
+          written.noted.smask written.noted.cmask limit (slot_most can)
           (split_words k.endpoint.desc note o.memory j.transfer.first j.split words) in
           let starts : note.smask ≡ j.placement.smask = its_note.0 ∙ ap smask_of placed in
           let completes : note.cmask ≡ j.placement.cmask = its_note.2 ∙ ap cmask_of placed in
@@ -383,12 +382,12 @@ module _ (w : World) (name : EpName) (count len seed : ℕ) (o : Offered) (mixed
         inr (record { number = k.number; first = length d.transfers; awaits = awaited j new; index = new.index; there = dropped j new }))
         (transfer_there d m o place k bs by j.number j.transfer j.there)
 
-    iso_stand : SitdsStand o.driver o.memory w.control
-    iso_stand = record {
+    iso_stand : SitdsStand w.driver w.memory w.control → CanHaveSlots w.driver name len → SitdsStand o.driver o.memory w.control
+    iso_stand old can = record {
       fields = λ j.
           ⊎_elim {C = HaveSitdFields (sitd_in o.memory j.transfer.first) j.endpoint.desc j.placement}
           (λ (was : slice_get d.transfers j.number ≡ Some j.transfer). old_fields d m w.control o place reason old j (was_old j was))
-          (λ (new : IsLater (made k.number (slots_of k.endpoint k.len) k.count bs) j.transfer). new_fields j new)
+          (λ (new : IsLater (made k.number (slots_of k.endpoint k.len) k.count bs) j.transfer). new_fields j new can)
           (transfer_there d m o place k bs by j.number j.transfer j.there);
       hand = λ j h on in_hand at.
           ⊎_elim {C = HaveSitdFields h.sitd j.endpoint.desc j.placement}
@@ -402,8 +401,8 @@ module _ (w : World) (name : EpName) (count len seed : ℕ) (o : Offered) (mixed
   pub iso_split : (j : SplitTransfer o.driver) → IsOldSplit w.driver o.driver j ⊎ IsNewSplit o.driver o.memory j
   iso_split = each_split _ (by_runs d m o place k)
 
-  iso_keeps : SitdsStand o.driver o.memory w.control
-  iso_keeps = iso_stand _ (by_runs d m o place k)
+  iso_keeps : SitdsStand w.driver w.memory w.control → CanHaveSlots w.driver name len → SitdsStand o.driver o.memory w.control
+  iso_keeps old can = iso_stand _ (by_runs d m o place k) old can
 
 pub iso_keeps_sitds : (w : World) (line : ℕ) (name : EpName) (count len seed : ℕ) → IsMixedWorld w → CanHaveSlots w.driver name len
     → SitdsStand w.driver w.memory w.control

@@ -36,25 +36,25 @@ use Rattle.law_microframes.proofs.lemmas.time.SitdStable.{sitds_are_stable}
 
 -- ---- what is in hand
 
-abbrev is_sitd : FrameHand → Bool
+abbrev pub is_sitd : FrameHand → Bool
 is_sitd Nothing = false
 is_sitd (OfQueue c made) = false
 is_sitd (OfSettled c s made) = false
 is_sitd (OfItd c) = false
 is_sitd (OfSitd c) = true
 
-not_sitd : (hand : FrameHand) (k : SitdCopy) → is_sitd hand ≡ false → hand ≡ OfSitd k → ⊥
+pub not_sitd : (hand : FrameHand) (k : SitdCopy) → is_sitd hand ≡ false → hand ≡ OfSitd k → ⊥
 not_sitd hand k off is = true≢false (sym (ap is_sitd is) ∙ off)
 
-back_off : (goes : Bool) (c : Copy) (made : ℕ) → is_sitd (if goes then OfQueue c made else Nothing) ≡ false
+pub back_off : (goes : Bool) (c : Copy) (made : ℕ) → is_sitd (if goes then OfQueue c made else Nothing) ≡ false
 back_off true c made = refl
 back_off false c made = refl
 
-same_sitd : (i j : SitdCopy) → OfSitd i ≡ OfSitd j → i ≡ j
+pub same_sitd : (i j : SitdCopy) → OfSitd i ≡ OfSitd j → i ≡ j
 same_sitd i j e = cc
 
 -- where a copy was read
-abbrev address : RingHand → ℕ
+abbrev pub address : RingHand → ℕ
 address Empty = 0
 address (Copied c) = c.at
 address (Settled c s) = c.at
@@ -62,23 +62,38 @@ address (Stale n q) = n
 
 -- ---- one siTD
 
+-- what is no siTD stands beside one
+module _ (n : ℕ) (parts : StructureSets) (a : ℕ) where
+  pub queue_beside : (q : Qh) (v : Sitd) → parts a a ≡ Some (QueueHead q)
+      → parts n n ≡ Some (SplitIsochronous v) → n ≢ a
+  queue_beside q v one here same =
+      let e : QueueHead q ≡ SplitIsochronous v =
+      same_Some (QueueHead q) (SplitIsochronous v) (sym one ∙ ap (λ (i : ℕ). parts i i) (sym same) ∙ here) in cc
+
+  pub itd_beside : (q : Itd) (v : Sitd) → parts a a ≡ Some (Isochronous q)
+      → parts n n ≡ Some (SplitIsochronous v) → n ≢ a
+  itd_beside q v one here same =
+      let e : Isochronous q ≡ SplitIsochronous v =
+      same_Some (Isochronous q) (SplitIsochronous v) (sym one ∙ ap (λ (i : ℕ). parts i i) (sym same) ∙ here) in cc
+
+module _ (n : ℕ) {W : Type 0} (begins : W → ℕ → Bool → W → Type 0) (transacts : W → Ask → List ℕ → Reply → W → Type 0)
+    (met : ℕ → Option Kind) where
+  -- an event of the ring's walk
+  pub ring_stays : (base : Base) (member : ℕ → Bool) (parts now : StructureSets) (hand later : RingHand) (frame : FrameHand) (o : Content)
+      (wire after : W) (v : Sitd)
+      → RunsBoth base member met parts hand frame o → ControlEffect begins transacts parts hand wire after now later
+      → parts n n ≡ Some (SplitIsochronous v) → now n ≡ parts n
+  ring_stays base member parts now hand later frame o wire after v runs (a_microframe b) here =
+      ap (λ (x : StructureSets). x n) b.parts_stay
+  ring_stays base member parts now hand later frame o wire after v runs (a_step r) here =
+      ring_leaves transacts base member parts hand (walk_place o) wire after now later r.kind n runs.ring r.effect
+      (λ a on same. let m = runs.ring.members a on in queue_beside n parts a m.queue v m.here here same)
+
 module _ (way : SitdName) (s c most n : ℕ) where
   -- what stands at n, and a copy of it in hand
   pub record AreSitdsAs (parts : StructureSets) (hand : FrameHand) : Type 0 where
     pub there : (v : Sitd) → parts n n ≡ Some (SplitIsochronous v) → IsSitdAs way s c most v
     pub held : (k : SitdCopy) → hand ≡ OfSitd k → k.held.at ≡ n → IsSitdAs way s c most k.held.sitd
-
-  queue_beside : (parts : StructureSets) (a : ℕ) (q : Qh) (v : Sitd) → parts a a ≡ Some (QueueHead q)
-      → parts n n ≡ Some (SplitIsochronous v) → n ≢ a
-  queue_beside parts a q v one here same =
-      let e : QueueHead q ≡ SplitIsochronous v =
-      same_Some (QueueHead q) (SplitIsochronous v) (sym one ∙ ap (λ (i : ℕ). parts i i) (sym same) ∙ here) in cc
-
-  itd_beside : (parts : StructureSets) (a : ℕ) (q : Itd) (v : Sitd) → parts a a ≡ Some (Isochronous q)
-      → parts n n ≡ Some (SplitIsochronous v) → n ≢ a
-  itd_beside parts a q v one here same =
-      let e : Isochronous q ≡ SplitIsochronous v =
-      same_Some (Isochronous q) (SplitIsochronous v) (sym one ∙ ap (λ (i : ℕ). parts i i) (sym same) ∙ here) in cc
 
   module _ (parts now : StructureSets) (hand later : FrameHand) (k : AreSitdsAs parts hand) where
     -- nothing is written at n
@@ -123,7 +138,7 @@ module _ (way : SitdName) (s c most n : ℕ) where
       took r =
           let copied : IsCopiedQueue met parts r.copy = subst (IsInFrame met parts w.got w.reply) r.in_hand in_hand in
           let differs : n ≢ r.takes.copy.at = subst (λ (a : ℕ). n ≢ a) (ap address r.takes.in_hand)
-          (queue_beside parts r.copy.at r.copy.queue v copied.here here) in
+          (queue_beside n parts r.copy.at r.copy.queue v copied.here here) in
           quiet
           (ap (λ (x : StructureSets). x n) r.takes.now_is
           ∙ put_beside parts r.takes.copy.at r.takes.copy.at
@@ -133,7 +148,7 @@ module _ (way : SitdName) (s c most n : ℕ) where
       wrote_queue : WritesQueue parts w hand now later → AreSitdsAs now later
       wrote_queue r =
           let copied : IsCopiedQueue met parts r.copy = (hand_is_settled met parts w hand r.copy r.settled r.made in_hand r.from).0 in
-          let differs : n ≢ r.copy.at = queue_beside parts r.copy.at r.copy.queue v copied.here here in
+          let differs : n ≢ r.copy.at = queue_beside n parts r.copy.at r.copy.queue v copied.here here in
           quiet
           (ap (λ (x : StructureSets). x n) r.now_is
           ∙ back_beside parts r.copy.at r.copy.at r.copy.queue (settled_in r.copy r.settled) (moved_by r.settled.outcome) r.settled.got
@@ -143,7 +158,7 @@ module _ (way : SitdName) (s c most n : ℕ) where
       wrote_itd : WritesItd parts w hand now later → AreSitdsAs now later
       wrote_itd r =
           let copied : IsCopiedItd met parts w.got r.copy = subst (IsInFrame met parts w.got w.reply) r.in_hand in_hand in
-          let differs : n ≢ r.copy.held.at = itd_beside parts r.copy.held.at r.copy.itd v copied.here here in
+          let differs : n ≢ r.copy.held.at = itd_beside n parts r.copy.held.at r.copy.itd v copied.here here in
           quiet
           (ap (λ (x : StructureSets). x n) r.now_is
           ∙ put_beside (received_parts parts r.copy.held.at w.got r.into) r.copy.held.at r.copy.held.at
@@ -209,17 +224,6 @@ module _ (way : SitdName) (s c most n : ℕ) where
     walked parts now hand later w wire after _ v in_hand (makes r same) here k = made parts now hand later k transacts w wire after same r
     walked parts now hand later w wire after _ v in_hand (writes r over) here k = wrote parts now hand later k met w in_hand v here r
 
-    -- an event of the ring's walk
-    ring_stays : (base : Base) (member : ℕ → Bool) (parts now : StructureSets) (hand later : RingHand) (frame : FrameHand) (o : Content)
-        (wire after : W) (v : Sitd)
-        → RunsBoth base member met parts hand frame o → ControlEffect begins transacts parts hand wire after now later
-        → parts n n ≡ Some (SplitIsochronous v) → now n ≡ parts n
-    ring_stays base member parts now hand later frame o wire after v runs (a_microframe b) here =
-        ap (λ (x : StructureSets). x n) b.parts_stay
-    ring_stays base member parts now hand later frame o wire after v runs (a_step r) here =
-        ring_leaves transacts base member parts hand (walk_place o) wire after now later r.kind n runs.ring r.effect
-        (λ a on same. let m = runs.ring.members a on in queue_beside parts a m.queue v m.here here same)
-
     -- of any walk
     pub event_as : (base : Base) (member : ℕ → Bool) (parts now : StructureSets) (hand later : RingHand) (frame frame_later : FrameHand)
         (o : Content) (wire after : W) (v : Sitd)
@@ -227,7 +231,7 @@ module _ (way : SitdName) (s c most n : ℕ) where
         → BothEffect begins transacts parts o.control hand frame wire after now later frame_later
         → parts n n ≡ Some (SplitIsochronous v) → AreSitdsAs parts frame → AreSitdsAs now frame_later
     event_as base member parts now hand later frame frame_later o wire after v runs (of_ring effect nothing) here k =
-        quiet parts now frame frame_later k (ring_stays base member parts now hand later frame o wire after v runs effect here)
+        quiet parts now frame frame_later k (ring_stays n begins transacts met base member parts now hand later frame o wire after v runs effect here)
         (ap is_sitd nothing.1)
     event_as base member parts now hand later frame frame_later o wire after v runs (of_frame w) here k =
         walked parts now frame frame_later o.control.frame wire after w.kind v (runs.walk w.part).in_hand w.effect here k

@@ -59,17 +59,17 @@ sitd_in_hand (OfSitd c) h is = record {
       same_Some (hands.Sitd c.held) (hands.Sitd h) is in cc;
 }
 
-either_part : (p : MicroframePart) → (p ≡ parts.Periodic) ⊎ (p ≢ parts.Periodic)
+pub either_part : (p : MicroframePart) → (p ≡ parts.Periodic) ⊎ (p ≢ parts.Periodic)
 either_part parts.Periodic = inl refl
 either_part parts.Over = inr (λ same. cc)
 either_part parts.Asynchronous = inr (λ same. cc)
 
 -- what has the kind of a siTD is one
-record IsSitd (o : Option Structure) : Type 0 where
-  sitd : Sitd
-  is : o ≡ Some (SplitIsochronous sitd)
+pub record IsSitd (o : Option Structure) : Type 0 where
+  pub sitd : Sitd
+  pub is : o ≡ Some (SplitIsochronous sitd)
 
-was_sitd : (o : Option Structure) (v : Sitd) → option_map sort_of o ≡ option_map sort_of (Some (SplitIsochronous v)) → IsSitd o
+pub was_sitd : (o : Option Structure) (v : Sitd) → option_map sort_of o ≡ option_map sort_of (Some (SplitIsochronous v)) → IsSitd o
 was_sitd None v same = absurd (cc)
 was_sitd (Some (SplitIsochronous x)) v same = record { sitd = x; is = refl }
 was_sitd (Some _) v same = absurd (cc)

@@ -91,7 +91,7 @@ module _ (C : Ask → List ℕ → Type 0) where
   turn_asking m left (turns.Take qtd_links.End) h p unset is asks = tt
   turn_asking m left (turns.Take (qtd_links.To a)) h p unset is asks = taken_asking a (qtd_at_address m a) h p
 
-  settled_asking : (m : Mem) (left : ℕ) (h : HeldQueue) (p : FramePlace) (o : Option Outcome) → h.copy.settled ≡ o
+  pub settled_asking : (m : Mem) (left : ℕ) (h : HeldQueue) (p : FramePlace) (o : Option Outcome) → h.copy.settled ≡ o
       → QueueAsks h p.walk.index
       → Asking (queue_effect (settled_row m left p.walk.index h.copy.queue_head o) h p)
   settled_asking m left h p None unset asks =
@@ -100,7 +100,7 @@ module _ (C : Ask → List ℕ → Type 0) where
 
   -- ---- an iTD
 
-  abbrev PlainAsks : Type 0
+  abbrev pub PlainAsks : Type 0
   PlainAsks = (ask : Ask) (out : List ℕ) → ask.split ≡ splits.Plain → C ask out
 
   itd_plain : (h : HeldItd) → (itd_transaction h).ask.split ≡ splits.Plain
@@ -123,7 +123,7 @@ module _ (C : Ask → List ℕ → Type 0) where
   itd_open true left h p plain = itd_timed (nat_lt left (itd_transaction h).price.0) h p plain
   itd_open false left h p plain = tt
 
-  itd_asking : (left : ℕ) (h : HeldItd) (p : FramePlace) (o : Option IsoEnd) → PlainAsks
+  pub itd_asking : (left : ℕ) (h : HeldItd) (p : FramePlace) (o : Option IsoEnd) → PlainAsks
       → Asking (itd_effect (Itds.ended_row left h o) h p)
   itd_asking left h p None plain = itd_open h.slot.active left h p plain
   itd_asking left h p (Some ended) plain = tt
@@ -151,7 +151,7 @@ module _ (C : Ask → List ℕ → Type 0) where
       sitd_timed (nat_lt left (sitd_transaction h.sitd).price.0) h p (asks p.memory unset is)
   sitd_turned left u sitd_turns.Miss h p unset is asks = tt
 
-  sitd_asking : (left u : ℕ) (h : HeldSitd) (p : FramePlace) (o : Option SplitOutcome) → h.settled ≡ o → SitdAsks h u
+  pub sitd_asking : (left u : ℕ) (h : HeldSitd) (p : FramePlace) (o : Option SplitOutcome) → h.settled ≡ o → SitdAsks h u
       → Asking (sitd_effect (Sitds.settled_row left u h.sitd o) h p)
   sitd_asking left u h p None unset asks = sitd_turned left u (sitd_turn u h.sitd) h p unset refl asks
   sitd_asking left u h p (Some outcome) is asks = tt

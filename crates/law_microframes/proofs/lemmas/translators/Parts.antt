@@ -29,7 +29,7 @@ use Rattle.law_microframes.proofs.lemmas.translators.SitdStarts.{out_ask, out_tr
 
 -- ---- lists
 
-none_each : (P : Entry → Type 0) (k : Key) (es : List Entry) → is_there k es ≡ false → EachOf P k es
+pub none_each : (P : Entry → Type 0) (k : Key) (es : List Entry) → is_there k es ≡ false → EachOf P k es
 none_each P k [] none = tt
 none_each P k (e ∷ es) none =
     elim (cases_Bool (has_key k e)) [
@@ -37,7 +37,7 @@ none_each P k (e ∷ es) none =
       | inr off ↦ ((λ t. absurd (true≢false (sym t ∙ off))), none_each P k es (rw off at none))
     ]
 
-each_without : (P : Entry → Type 0) (k : Key) (p : Entry → Bool) (es : List Entry) → EachOf P k es → EachOf P k (without_first p es)
+pub each_without : (P : Entry → Type 0) (k : Key) (p : Entry → Bool) (es : List Entry) → EachOf P k es → EachOf P k (without_first p es)
 each_without P k p [] all = tt
 each_without P k p (e ∷ es) all =
     cond_both (p e) es (e ∷ without_first p es) (EachOf P k) (λ _. all.1) (λ _. (all.0, each_without P k p es all.1))
@@ -50,7 +50,7 @@ each_changed P k p f (e ∷ es) step all =
     cond_both (p e) (f e ∷ es) (e ∷ with_first p f es) (EachOf P k) (λ on. ((λ t. step e on t all.0), all.1))
     (λ _. (all.0, each_changed P k p f es step all.1))
 
-each_last : (P : Entry → Type 0) (k : Key) (es : List Entry) (e : Entry) → EachOf P k es → (has_key k e ≡ true → P e)
+pub each_last : (P : Entry → Type 0) (k : Key) (es : List Entry) (e : Entry) → EachOf P k es → (has_key k e ≡ true → P e)
     → EachOf P k (es ++ e ∷ [])
 each_last P k es e all one = all_both (λ x. has_key k x ≡ true → P x) es (e ∷ []) all (one, tt)
 
@@ -79,6 +79,17 @@ begins ask bytes stuff es is once =
     (λ _. each_last Lacks k (without k es) (fresh ask bytes stuff) (none_each Lacks k (without k es) once)
     (λ _. ap (λ (part : DataPart). (brought_by part (length bytes) nothing_brought).whole) is))
     (λ none. none_each Lacks k es (or_parts (is_there k es) (nat_lt (length es) 256) none).0))
+
+-- the first one makes an entry that lacks its last
+pub enters : (ask : Ask) (bytes : List ℕ) (stuff : ℕ) (es : List Entry) → asked_part ask ≡ parts.Begin → EachOf Lacks (key_of ask) es
+    → EachOf Lacks (key_of ask) (started ask bytes stuff es)
+enters ask bytes stuff es is all =
+    let k : Key = key_of ask in
+    subst (λ (part : DataPart). EachOf Lacks k (after_start (row_of_part part k (length bytes) es) ask bytes stuff es)) (sym is)
+    (cond_both (is_there k es || nat_lt (length es) 256) Enters Forgotten (λ row. EachOf Lacks k (after_start row ask bytes stuff es))
+    (λ _. each_last Lacks k (without k es) (fresh ask bytes stuff) (each_without Lacks k (has_key k) es all)
+    (λ _. ap (λ (part : DataPart). (brought_by part (length bytes) nothing_brought).whole) is))
+    (λ none. all))
 
 pub goes : (ask : Ask) (bytes : List ℕ) (stuff : ℕ) (es : List Entry) → asked_part ask ≡ parts.Middle → EachOf Lacks (key_of ask) es
     → EachOf Lacks (key_of ask) (started ask bytes stuff es)

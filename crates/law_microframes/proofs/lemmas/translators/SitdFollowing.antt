@@ -32,7 +32,6 @@ use Rattle.law_microframes.specs.time.Payments.{names_in}
 use Rattle.law_microframes.specs.time.PaymentLaws.{IsHandPaid, IsPassing, ArePaidByHand}
 use Rattle.law_microframes.specs.translators.Keeping.{SitdsFollow, PartsAreLacked}
 use Rattle.law_microframes.specs.translators.Laws.{SitdsFollowToo}
-use Rattle.law_microframes.specs.translators.Short.{AllShort}
 use Rattle.law_microframes.proofs.lemmas.plans.Keys.{kept_apart, texts_plan_apart}
 use Rattle.law_microframes.proofs.lemmas.plans.Right.{scripts_place_right}
 use Rattle.law_microframes.proofs.lemmas.visits.OneDescriptorMoments.{each_moment_has_one_active}
@@ -46,7 +45,7 @@ use Rattle.law_microframes.proofs.lemmas.time.SlotTexts.{texts_fit_slots}
 use Rattle.law_microframes.proofs.lemmas.due.lemmas.repeats.BusMoments.{each_bus_hears}
 use Rattle.law_microframes.proofs.lemmas.due.lemmas.repeats.Endpoints.{texts_stand}
 use Rattle.law_microframes.proofs.lemmas.translators.FrameIndex.{scripts_have_index}
-use Rattle.law_microframes.proofs.lemmas.translators.SitdHands.{sitd_fair, no_later_part}
+use Rattle.law_microframes.proofs.lemmas.translators.SitdHands.{sitd_fair}
 
 hand_paid : {b : World} {d : DriverContent} {now index : ℕ} (h : HeldSitd) (o : Option Hand) (ps : List (ℕ × ℕ)) → o ≡ Some (hands.Sitd h)
     → h.sitd.active ≡ true → ArePaidByHand b d now index o ps → IsHandPaid b d now index (hands.Sitd h) ps
@@ -100,23 +99,6 @@ module _ (text : List ℕ) (s : Script) (spelled : Spells text s) (k : ℕ) wher
       (λ hub port f. kept_apart (key_at o.driver) (is_below hub port f) o.driver.periodic.plan.placed (texts_plan_apart text s spelled k))
       periodic (scripts_have_index s fit k periodic) h held unset work (moment_framed periodic h held on)
       (λ way some. lacked h periodic held unset work way some)
-
-  -- .. where isochronous OUTs below hubs are short, there is none that comes behind the first
-  pub moment_lacks : AllShort o.driver → PartsAreLacked o
-  moment_lacks short h periodic held unset work way some =
-      let fit = spelled_fits text s spelled in
-      let bytes = a_text_spells_bytes text s spelled in
-      let opens = lines_fit s.lines (texts_fit text s spelled) (texts_open_fitting text s spelled) in
-      let slots = texts_fit_slots text s spelled in
-      let mixed : IsMixedWorld o = texts_stay_mixed text s spelled k in
-      let on = (works h.sitd.active (sitd_missed (o.registers.frame_index % 8) h.sitd)
-      (comes (o.registers.frame_index % 8) h.sitd) work).0 in
-      absurd (no_later_part s mixed.standing o mixed.mixed (scripts_keep_sitds s fit bytes opens slots k)
-      (each_moment_has_one_active s fit bytes opens k).one.served (scripts_have_periodics s fit bytes opens k)
-      (texts_stand text s spelled k)
-      (λ x heard. each_bus_hears s x heard k) (scripts_place_right s fit k)
-      (λ hub port f. kept_apart (key_at o.driver) (is_below hub port f) o.driver.periodic.plan.placed (texts_plan_apart text s spelled k))
-      periodic (scripts_have_index s fit k periodic) h held unset work (moment_framed periodic h held on) short way some)
 
 pub sitds_follow : SitdsFollowToo
 sitds_follow text s spelled k lacked = moment_sitds text s spelled k lacked

@@ -11,12 +11,8 @@ use Rattle.usb_base.specs.declared.endpoints.EpDesc.{EpDesc}
 use Rattle.usb_base.specs.declared.packets.Ask.{Ask}
 use Rattle.usb_base.specs.declared.packets.DataPart.{DataPart}
 use Rattle.usb_base.specs.declared.packets.EpKind.{EpKind}
-use Rattle.usb_base.specs.declared.packets.EpKind.TheVariants as kinds
 use Rattle.usb_base.specs.declared.packets.Speed.{Speed}
-use Rattle.usb_base.specs.declared.packets.Speed.TheVariants as speeds
-use Rattle.usb_base.specs.declared.packets.Split.TheVariants as splits
 use Rattle.usb_base.specs.declared.packets.Way.{Way}
-use Rattle.usb_base.specs.declared.packets.Way.TheVariants as ways
 use Rattle.script_types.specs.declared.scripts.Script.{Script}
 use Rattle.itd_sitd.specs.declared.sitd.Sitd.{Sitd}
 use Rattle.multi_tt.specs.Translators.{place_of}
@@ -30,7 +26,6 @@ use Rattle.bandwidth.specs.Placements.{is_classic}
 use Rattle.bandwidth.specs.Sums.{is_hub, is_active}
 use Rattle.drv_periodic_table.specs.Descriptors.{is_served}
 use Rattle.drv_periodic_table.specs.Periodic.{dir_of, note_at}
-use Rattle.periodic_walk.specs.declared.state.Hand.TheVariants as hands
 use Rattle.hc_core.specs.declared.controller.MicroframePart.TheVariants.{Periodic}
 use Rattle.hc_core.specs.Controller.{frame_place}
 use Rattle.drv_table.specs.declared.content.Transfer.{Transfer}
@@ -72,9 +67,13 @@ use Rattle.law_microframes.proofs.lemmas.due.lemmas.repeats.Endpoints.{AllStand}
 use Rattle.law_microframes.proofs.lemmas.translators.Hands.{numbered}
 use Rattle.law_microframes.proofs.lemmas.translators.Owned.{owned_planned}
 use Rattle.law_microframes.proofs.lemmas.translators.Placing.{one_of}
-use Rattle.law_microframes.specs.translators.Short.{AllShort}
-use Rattle.law_microframes.proofs.lemmas.translators.ShortOuts.{marked}
 use Rattle.law_microframes.proofs.lemmas.translators.SitdStarts.{in_ask, out_ask, in_transaction, out_transaction, in_key, in_follows, out_key, out_follows}
+use Rattle.law_microframes.proofs.lemmas.translators.SitdCopies.{IsCopyOf, copy_of}
+use Rattle.usb_base.specs.declared.packets.EpKind.TheVariants as kinds
+use Rattle.usb_base.specs.declared.packets.Speed.TheVariants as speeds
+use Rattle.usb_base.specs.declared.packets.Split.TheVariants as splits
+use Rattle.usb_base.specs.declared.packets.Way.TheVariants as ways
+use Rattle.periodic_walk.specs.declared.state.Hand.TheVariants as hands
 
 -- ---- small facts
 
@@ -119,78 +118,28 @@ module _ (s : Script) (st : Standing) (w : World) (k : IsMixedAt st w) (sitds : 
     (work : sitd_turn (w.registers.frame_index % 8) h.sitd ≡ Work)
     (framed : (q : IsDescriptorAt w.driver h.at) → frame_in w.control.frame.index ≡
     (note_at w.driver.periodic.notes q.transfer.first).frame) where
-  walk : IsFrameWalk (met w.driver st.recent) (both st.descs st.parts) st.frame (frame_place (controller_parts w))
-  walk = k.now.framed.runs.walk periodic
+  c : IsCopyOf st w h
+  c =
+      copy_of st w k sitds served periodic h held unset
+      (works h.sitd.active (sitd_missed (w.registers.frame_index % 8) h.sitd) (comes (w.registers.frame_index % 8) h.sitd) work).0
 
-  f : IsSitdFrame st.frame h
-  f = sitd_in_hand st.frame h (sym walk.held ∙ held)
+  abbrev one : IsActiveSome w.driver w.memory h.at
+  one = c.one
 
-  copied : IsCopiedSitd (met w.driver st.recent) (both st.descs st.parts) w.control.frame.reply f.copy
-  copied =
-      subst (IsInFrame (met w.driver st.recent) (both st.descs st.parts) w.control.frame.got w.control.frame.reply) f.is walk.in_hand
-
-  is_met : met w.driver st.recent h.at ≡ Some ASitd
-  is_met = subst (λ (z : HeldSitd). met w.driver st.recent z.at ≡ Some ASitd) f.held copied.on
-
-  stands_there : both st.descs st.parts h.at h.at ≡ Some (SplitIsochronous f.copy.sitd)
-  stands_there = subst (λ (z : HeldSitd). both st.descs st.parts z.at z.at ≡ Some (SplitIsochronous f.copy.sitd)) f.held copied.here
-
-  turned : IsTurned f.copy w.control.frame.reply None
-  turned =
-      subst (IsTurned f.copy w.control.frame.reply) (ap (λ (z : HeldSitd). z.settled) f.held ∙ unset) copied.turn
-
-  on : f.copy.sitd.active ≡ true
-  on =
-      ap (λ (z : Sitd). z.active) (sym turned) ∙ ap (λ (z : HeldSitd). z.sitd.active) f.held
-      ∙ (works h.sitd.active (sitd_missed (w.registers.frame_index % 8) h.sitd) (comes (w.registers.frame_index % 8) h.sitd) work).0
-
-  one : IsActiveSome w.driver w.memory h.at
-  one = met_split_is_active st w h.at f.copy.sitd k stands_there on
-
-  q : IsDescriptorAt w.driver h.at
-  q =
-      ⊎_elim {C = IsDescriptorAt w.driver h.at} (λ (d : IsDescriptorAt w.driver h.at). d)
-      (λ (z : IsHarvestedAt w.driver h.at).
-      let i = one.is in
-      let same : i.transfer.first ≡ z.transfer.first = same_blocks i.transfer.first z.transfer.first (sym i.at ∙ z.name) in
-      absurd (true≢false (sym (served z.number z.transfer z.there z.sort z.reported z.held)
-      ∙ ap (λ (n : ℕ). is_served (note_at w.driver.periodic.notes n) w.memory n) (sym same) ∙ i.active)))
-      (descriptor_belongs st w h.at ASitd k is_met (λ same. cc))
+  abbrev q : IsDescriptorAt w.driver h.at
+  q = c.at
 
   abbrev x : EpDesc
-  x = q.belongs.endpoint.desc
+  x = c.at.belongs.endpoint.desc
 
   abbrev p : Placement
-  p = q.belongs.placement
+  p = c.at.belongs.placement
 
   abbrev e : ℕ
-  e = q.belongs.number
+  e = c.at.belongs.number
 
-  noted : (c : Bool) → (note_at w.driver.periodic.notes q.transfer.first).split ≡ c
-      → (note_at w.driver.periodic.notes q.transfer.first).split ≡ true
-  noted true is = is
-  noted false whole =
-      let g = k.now.framed in
-      absurd (not_whole w.driver g.place.sound.owners st.descs st.parts g.driven g.described h.at q.transfer.first f.copy.sitd stands_there
-      q.name whole)
-
-  split_one : SplitTransfer w.driver
-  split_one = record {
-    number = q.number;
-    transfer = q.transfer;
-    endpoint = q.belongs.endpoint;
-    placement = q.belongs.placement;
-    there = q.there;
-    sort = q.sort;
-    held = q.held;
-    split = noted (note_at w.driver.periodic.notes q.transfer.first).split refl;
-    here = ap (slice_get w.driver.endpoints) (waits_is q.belongs.number q.transfer q.waits).0 ∙ q.belongs.here;
-    placed = q.belongs.placed;
-  }
-
-  fields : HaveSitdFields h.sitd q.belongs.endpoint.desc q.belongs.placement
-  unfolding split_one
-  fields = sitds.hand split_one h periodic held q.name
+  abbrev fields : HaveSitdFields h.sitd c.at.belongs.endpoint.desc c.at.belongs.placement
+  fields = c.fields
 
   -- its placement is active in this frame
   same_transfer : one.is.transfer ≡ q.transfer
@@ -237,7 +186,7 @@ module _ (s : Script) (st : Standing) (w : World) (k : IsMixedAt st w) (sitds : 
   its_hub = fields.has.named.1.1.0 ∙ ap (λ (o : Option ℕ). unwrap_or o 0) heard.behind
 
   low_hub : h.sitd.hub < 128
-  low_hub = subst (λ (z : HeldSitd). z.sitd.hub < 128) f.held copied.range.1.0.1.0
+  low_hub = subst (λ (z : HeldSitd). z.sitd.hub < 128) c.same c.copied.range.1.0.1.0
 
   module _ (hub port j a : ℕ) (content : HubContent) (found : position (λ v. v.address == hub) w.bus.hubs ≡ Some a)
       (here : slice_get w.bus.hubs a ≡ Some content) (address : content.address ≡ hub)
@@ -290,7 +239,7 @@ module _ (s : Script) (st : Standing) (w : World) (k : IsMixedAt st w) (sitds : 
       below = is_its_own;
       numbers = in_range;
       is = refl;
-      still_open = (iso_now st w h.at k q ASitd is_met).its.still_open;
+      still_open = (iso_now st w h.at k q ASitd c.is_met).its.still_open;
     }
 
   -- ---- by the way
@@ -329,18 +278,6 @@ module _ (s : Script) (st : Standing) (w : World) (k : IsMixedAt st w) (sitds : 
             (λ some n at. lacks some hub port part a j content t n split found here place there at),
         subst (IsOwned w.driver w.registers.frame_index content.address (port_at content.translators.multi j)) (sym key) o,
       )
-
-  -- where such endpoints are short, no part comes behind the first
-  pub no_later_part : AllShort w.driver → h.sitd.dir_in ≡ false → (h.sitd.c_prog == 0) ≡ false → ⊥
-  no_later_part short way some =
-      let small : x.max < 188 =
-      short e q.belongs.endpoint q.belongs.here q.kind (low_classic x.speed fields.classic)
-      (out_dir (dir_of x.name.way) (sym fields.has.way ∙ way)) in
-      let active = (works h.sitd.active (sitd_missed (w.registers.frame_index % 8) h.sitd) (comes (w.registers.frame_index % 8) h.sitd)
-      work).0 in
-      let within = fields.has.parts.within active way in
-      let one = marked h.sitd.c_prog fields.has.prog some in
-      omega (arith, small, within, one)
 
   pub sitd_fair : (h.sitd.dir_in ≡ false → (h.sitd.c_prog == 0) ≡ false → EntryLacks w (sitd_transaction h.sitd).ask)
       → Fair (sitd_transaction h.sitd).ask (sitd_transaction h.sitd).bytes

@@ -183,7 +183,7 @@ module _ (text : List ℕ) (s : Script) (spelled : Spells text s) (k : ℕ) wher
       subst (λ (a : ℕ). (b : IsQueueAt o.driver a) → is_active b.belongs.placement (frame_in o.control.frame.index) ≡ true)
       (sym one.at) each
 
-  moment_apart : (hub port f : ℕ) → AreKeysApart (key_at o.driver) (placed_below hub port f o.driver.periodic.plan.placed)
+  pub moment_apart : (hub port f : ℕ) → AreKeysApart (key_at o.driver) (placed_below hub port f o.driver.periodic.plan.placed)
   moment_apart hub port f =
       kept_apart (key_at o.driver) (is_below hub port f) o.driver.periodic.plan.placed (texts_plan_apart text s spelled k)
 
@@ -204,23 +204,3 @@ module _ (text : List ℕ) (s : Script) (spelled : Spells text s) (k : ℕ) wher
 
 pub interrupts_follow : InterruptsFollow
 interrupts_follow text s spelled k sitds = moment_starts text s spelled k sitds
-
-along_texts : (most : ℕ) (P : Plan → ℕ → List Watched → Type 0) → AlongRuns most P → (text : List ℕ) (s : Script) → Spells text s
-    → StuffsAtMost most (fixed_of s) → ((k : ℕ) → PartsAreLacked (moment s k).world) → (k : ℕ)
-    → EachPipeline P (moment s k).world (gaps s k)
-along_texts most P runs text s spelled few lacked k =
-    runs s few (λ j. moment_known text s spelled j (sitds_follow text s spelled j (lacked j))) k
-
-pub texts_keep_up : AlongPlainTexts AllKeepUp
-texts_keep_up = along_texts 0 AllKeepUp keep_up
-
-pub texts_answer_in_time : AlongPlainTexts (AllAnswered 1)
-texts_answer_in_time = along_texts 0 (AllAnswered 1) answer_in_time
-
-pub stuffed_texts_keep_up : AlongTexts AllKeepUpStuffed
-stuffed_texts_keep_up text s spelled =
-    along_texts 6 AllKeepUpStuffed stuffed_keep_up text s spelled (texts_have_few_stuffed_bits text s spelled)
-
-pub stuffed_texts_answer : AlongTexts (AllAnswered 2)
-stuffed_texts_answer text s spelled =
-    along_texts 6 (AllAnswered 2) stuffed_answer_in_time text s spelled (texts_have_few_stuffed_bits text s spelled)

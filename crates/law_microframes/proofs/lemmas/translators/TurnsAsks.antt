@@ -34,7 +34,7 @@ use Rattle.hc_iso.specs.declared.held.IsoTransaction.{IsoTransaction}
 use Rattle.usb_base.specs.declared.packets.DataPart.TheVariants as parts
 use Rattle.tt_pipeline.specs.Work.{asked_part}
 use Rattle.law_microframes.specs.time.SitdParts.{position_of}
-use Rattle.law_microframes.proofs.lemmas.translators.Parts.{goes, part_of, still_left, completes_lack}
+use Rattle.law_microframes.proofs.lemmas.translators.Parts.{enters, goes, part_of, still_left, completes_lack}
 use Rattle.law_microframes.proofs.lemmas.translators.SitdStarts.{out_ask, out_transaction}
 use Rattle.law_microframes.proofs.lemmas.translators.TurnsPipelines.{BesideIn, Beside, pipelines_beside}
 
@@ -204,6 +204,14 @@ middle_asks : (fixed : Fixed) (b : Bus) (ask : Ask) (out : List ℕ) → asked_p
     → EachOf Lacks (key_of ask) (pipeline_for (transact_after fixed b ask out).hubs hub port)
 middle_asks fixed b ask out middle hub port all =
     asks_leave Lacks (key_of ask) ask out (λ at place part stuff es is piped has. goes ask out stuff es middle has) completes_lack
+    fixed b hub port all
+
+-- the first part of one that has another behind it
+pub begin_asks : (fixed : Fixed) (b : Bus) (ask : Ask) (out : List ℕ) → asked_part ask ≡ parts.Begin → (hub port : ℕ)
+    → EachOf Lacks (key_of ask) (pipeline_for b.hubs hub port)
+    → EachOf Lacks (key_of ask) (pipeline_for (transact_after fixed b ask out).hubs hub port)
+begin_asks fixed b ask out first hub port all =
+    asks_leave Lacks (key_of ask) ask out (λ at place part stuff es is piped has. enters ask out stuff es first has) completes_lack
     fixed b hub port all
 
 pub later_parts_leave : LaterPartsLeave

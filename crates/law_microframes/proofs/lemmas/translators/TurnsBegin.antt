@@ -9,6 +9,7 @@ use Rattle.op_registers.specs.Events.{after_begin, next_index}
 use Rattle.itd_sitd.specs.declared.sitd.Sitd.{Sitd}
 use Rattle.drv_periodic_table.specs.Descriptors.{sitd_in}
 use Rattle.drv_periodic_table.specs.Periodic.{note_at}
+use Rattle.hub_keys.specs.declared.key.Key.{Key}
 use Rattle.hub_class.specs.HubContent.{HubContent}
 use Rattle.periodic_walk.specs.Walk.{Walk, is_over}
 use Rattle.hc_core.specs.declared.controller.ControllerRow.{ControllerRow}
@@ -20,7 +21,7 @@ use Rattle.bus_wire.specs.Bus.{Fixed, begin_after, is_allowed}
 use Rattle.bus_world.specs.World.{World, controller_parts, controller_row, turned_by, with_turned}
 use Rattle.claims_world.specs.Visits.{frame_in}
 use Rattle.law_microframes.specs.translators.Parts.{EachOf, Lacks, IsEven, key_asked}
-use Rattle.law_microframes.specs.translators.Turns.{EntriesAre, OutsGoOn, BeginKeepsOuts}
+use Rattle.law_microframes.specs.translators.Turns.{pipeline_for, EntriesAre, OutsGoOn, BeginKeepsOuts}
 use Rattle.law_microframes.proofs.lemmas.translators.Owned.{same_frame}
 use Rattle.law_microframes.proofs.lemmas.translators.TurnsPipelines.{begun_empty, begun_lacks, begun_even}
 
@@ -40,7 +41,7 @@ part_begins r frame true micro.Periodic is on = by (r.periodic_enable && not (is
 none_begins : (w : World) → controller_row w ≡ rows.Begin → w.control.part ≢ micro.Periodic
 none_begins w row = part_begins w.registers w.control.frame w.registers.run w.control.part row
 
-module _ (fixed : Fixed) (w : World) (vs : List ℕ) (row : controller_row w ≡ rows.Begin) (k : OutsGoOn w vs) where
+module _ (fixed : Fixed) (start w : World) (vs : List ℕ) (row : controller_row w ≡ rows.Begin) (k : OutsGoOn start w vs) where
   abbrev i : ℕ
   i = w.registers.frame_index
 
@@ -59,12 +60,12 @@ module _ (fixed : Fixed) (w : World) (vs : List ℕ) (row : controller_row w ≡
             (was (now ∙ same_frame i (λ none. true≢false (sym (eq-eqb (next_index i % 8) 0 none) ∙ off))) on way some)
       ]
 
-  even_then : (v : Sitd) → EntriesAre IsEven (begin_after fixed (next_index w.registers.frame_index) w.bus).hubs v
-  even_then v on way some = begun_even fixed (next_index i) w.bus v.hub v.port (key_asked v)
+  even_then : (j : Key) (hub port : ℕ) → EachOf IsEven j (pipeline_for (begin_after fixed (next_index w.registers.frame_index) w.bus).hubs hub port)
+  even_then j hub port = begun_even fixed (next_index i) w.bus hub port j
 
   -- whether the element may be read or not
   by_read : (b allowed : Bool)
-      → OutsGoOn (with_turned w (record {
+      → OutsGoOn w (with_turned w (record {
         content = begun_at b allowed (record (controller_parts w) { registers = after_begin w.registers });
         bus = begin_after fixed (next_index w.registers.frame_index) w.bus;
       })) []
@@ -83,9 +84,9 @@ module _ (fixed : Fixed) (w : World) (vs : List ℕ) (row : controller_row w ≡
           here = j.here;
           placed = j.placed;
         }) was (λ hand. none_begins w row hand.part));
-    even = λ j now out. even_then (sitd_in w.memory j.transfer.first);
     held = λ h on is. absurd (cc);
-    held_even = λ h on is unset. even_then h.sitd;
+    came = λ j hub port kind dir. inl (even_then j hub port);
+    read = λ n u on way. absurd (let h = u.hand.held in cc);
   }
   by_read false allowed = record {
     there = λ j now out.
@@ -102,12 +103,12 @@ module _ (fixed : Fixed) (w : World) (vs : List ℕ) (row : controller_row w ≡
           here = j.here;
           placed = j.placed;
         }) was (λ hand. none_begins w row hand.part));
-    even = λ j now out. even_then (sitd_in w.memory j.transfer.first);
     held = λ h on is. absurd (none_begins w row on);
-    held_even = λ h on is unset. absurd (none_begins w row on);
+    came = λ j hub port kind dir. inl (even_then j hub port);
+    read = λ n u on way. absurd (none_begins w row u.hand.part);
   }
 
 pub begin_keeps_outs : BeginKeepsOuts
-begin_keeps_outs fixed w vs row k =
-    subst (λ (r : ControllerRow). OutsGoOn (with_turned w (turned_by fixed r (controller_parts w) w.bus)) []) (sym row)
-    (by_read fixed w vs row k (reaches w.memory (element_address (after_begin w.registers))) (is_allowed fixed w.bus))
+begin_keeps_outs fixed start w vs row k =
+    subst (λ (r : ControllerRow). OutsGoOn w (with_turned w (turned_by fixed r (controller_parts w) w.bus)) []) (sym row)
+    (by_read fixed start w vs row k (reaches w.memory (element_address (after_begin w.registers))) (is_allowed fixed w.bus))

@@ -1,12 +1,11 @@
 -- Each command goes on with what is told of the isochronous OUTs below hubs: the words of a siTD that there was stay, and of one that it
 -- takes on no part was sent (EHCI 1.0, 3.4 and 4.12.3).
-use Rattle.std.proofs.Common.{◌≡◌, ℕ, ◌*◌, ◌<◌, ◌≤◌, Bool, true, false, List, length, Result, Ok, Err, option_map, refl, ap, sym, subst, ◌∙◌, ⊎_elim, arith, if◌then◌else◌}
+use Rattle.std.proofs.Common.{◌≡◌, ℕ, ◌*◌, ◌<◌, ◌≤◌, Bool, true, false, List, length, Result, Ok, Err, option_map, refl, ap, sym, subst, ◌∙◌, ⊎_elim, arith, if◌then◌else◌, ◌⊎◌, inl, slice_get, Some}
 use Rattle.std.specs.Prelude.{◌==◌, not}
 use Rattle.std.proofs.lemmas.Bool.{cases_lt}
 use Rattle.std.proofs.lemmas.Option.{slice_get_within}
 use Rattle.law_microframes.proofs.Common.{idle_by}
 use Rattle.usb_base.specs.declared.commands.Cmd.{Cmd}
-use Rattle.usb_base.specs.declared.commands.Cmd.TheVariants as commands
 use Rattle.usb_base.specs.declared.endpoints.EpName.{EpName}
 use Rattle.usb_base.specs.declared.reports.OfferError.{OfferError}
 use Rattle.mem_runs.specs.Book.{slot_of}
@@ -21,20 +20,25 @@ use Rattle.law_driver.specs.in_place.InPlace.{IsInPlace}
 use Rattle.claims_driver.specs.Owners.{HasBlocks, runs_of_transfer}
 use Rattle.law_driver.specs.run_owners.Accepts.{Accepts}
 use Rattle.law_driver.proofs.lemmas.run_owners.Commands.{each_command_has_its_reason}
-use Rattle.law_driver.proofs.lemmas.queued_drivers.CommandReasons.{reason_of}
+use Rattle.law_driver.proofs.lemmas.queued_drivers.CommandReasons.{reason_of, IsReasonOf}
 use Rattle.bus_world.specs.World.{World, name_in, commanded_by, commanded}
-use Rattle.claims_world.specs.Visits.{frame_in, HasVisited}
+use Rattle.claims_world.specs.Visits.{frame_in}
 use Rattle.law_world.specs.memory.Mixed.{IsMixedWorld}
 use Rattle.law_world.proofs.lemmas.memory.LeavesLent.{leaves_lent}
 use Rattle.law_microframes.specs.visits.OneDescriptor.{IsActiveTransfer, WasActive}
-use Rattle.law_microframes.specs.time.SitdFields.{SplitTransfer, SitdsStand}
-use Rattle.law_microframes.specs.translators.Parts.{EachOf, Lacks, IsEven, key_asked}
+use Rattle.law_microframes.specs.time.SitdFields.{SplitTransfer}
+use Rattle.law_microframes.specs.translators.Parts.{EachOf, Lacks, key_asked}
 use Rattle.law_microframes.specs.translators.Turns.{pipeline_for, EntriesAre, IsInHand, OutsGoOn, CommandKeepsOuts}
-use Rattle.law_microframes.proofs.lemmas.visits.BelongItdCommands.{HasNoDescriptors, old_words, IsTold, told_by}
+use Rattle.law_microframes.proofs.lemmas.visits.BelongItdCommands.{HasNoDescriptors, old_words, told_by}
 use Rattle.law_microframes.proofs.lemmas.visits.OneDescriptorOffered.{by_accept}
-use Rattle.law_microframes.proofs.lemmas.time.SitdCommands.{IsOldSplit, IsNewSplit, CanHaveSlots, refused_split, told_old, iso_split}
+use Rattle.law_microframes.proofs.lemmas.time.SitdCommands.{IsOldSplit, IsNewSplit, refused_split, told_old, iso_split}
 use Rattle.law_microframes.proofs.lemmas.translators.Turns.{words_stay}
 use Rattle.law_microframes.proofs.lemmas.translators.TurnsNew.{none_sent, awaits_new, unframed_is_new}
+use Rattle.drv_table.specs.declared.content.Endpoint.{Endpoint}
+use Rattle.law_microframes.proofs.lemmas.visits.BelongCommands.{taken_same, described_same, left_same, opened_new, pushed_seen}
+use Rattle.law_microframes.proofs.lemmas.visits.BelongSeen.{seen_in}
+use Rattle.law_microframes.proofs.lemmas.translators.TurnsDriven.{came_then, read_then}
+use Rattle.usb_base.specs.declared.commands.Cmd.TheVariants as commands
 
 -- ---- one that was there before
 
@@ -97,94 +101,89 @@ module _ (w : World) (mixed : IsMixedWorld w) (o : Offered) (reason : Accepts w.
 
 -- ---- a command
 
-module _ (w : World) (line : ℕ) (name : EpName) (vs : List ℕ) (mixed : IsMixedWorld w) (k : OutsGoOn w vs) where
-  refused : (why : OfferError) → OutsGoOn (commanded_by w line name (Err why)) vs
-  refused why = record {
-    there = λ j now out. k.there (refused_split w line name why j) now out;
-    even = λ j now out. k.even (refused_split w line name why j) now out;
-    held = λ h on is. k.held h on is;
-    held_even = λ h on is unset. k.held_even h on is unset;
+-- an endpoint is seen as it was
+module _ (w : World) (o : Offered) (e : ℕ) (x : Endpoint) (here : slice_get w.driver.endpoints e ≡ Some x) where
+  command_sees : (cmd : Cmd) → IsReasonOf w.driver w.memory o cmd → seen_in o.driver.endpoints e ≡ seen_in w.driver.endpoints e
+  command_sees (commands.OpenEp v) why = pushed_seen w.driver o e x (opened_new w.driver w.memory o v why) here
+  command_sees (commands.Get name len by) why = taken_same w.driver w.memory o name _ _ why e
+  command_sees (commands.Put name bytes by) why = taken_same w.driver w.memory o name _ _ why e
+  command_sees (commands.Control name setup bytes) why = taken_same w.driver w.memory o name _ _ why e
+  command_sees (commands.Iso name count len seed) why = described_same w.driver w.memory o why e
+  command_sees (commands.Cancel name) why = left_same w.driver w.memory o name why e
+  command_sees _ why = absurd why
+
+module _ (start w : World) (line : ℕ) (cmd : Cmd) (vs : List ℕ) (mixed : IsMixedWorld w) (k : OutsGoOn start w vs) where
+  -- an endpoint is as it was seen
+  seen_then : (r : Result Offered OfferError) → offered w.driver w.memory cmd ≡ r → (e : ℕ) (x : Endpoint)
+      → slice_get w.driver.endpoints e ≡ Some x
+      → seen_in (commanded_by w line (name_in cmd) r).driver.endpoints e ≡ seen_in w.driver.endpoints e
+  seen_then (Err why) is e x here = refl
+  seen_then (Ok o) is e x here = command_sees w o e x here cmd (reason_of w.driver w.memory cmd o is)
+
+  refused : (why : OfferError) → offered w.driver w.memory cmd ≡ Err why → OutsGoOn start (commanded_by w line (name_in cmd) (Err why)) vs
+  refused why is = record {
+    there = λ j now out. k.there (refused_split w line (name_in cmd) why j) now out;
+    held = λ h on in_hand. k.held h on in_hand;
+    came = λ j hub port kind dir.
+        came_then start w (commanded_by w line (name_in cmd) (Err why)) vs refl refl refl (seen_then (Err why) is) j hub port
+        (k.came j hub port kind dir);
+    read = read_then start w (commanded_by w line (name_in cmd) (Err why)) vs refl refl (seen_then (Err why) is) k.read;
   }
 
-  -- one that takes on no descriptors
-  told : (o : Offered) → Accepts w.driver w.memory o → IsTold w.driver o → OutsGoOn (commanded_by w line name (Ok o)) vs
-  told o reason t =
-      let old = told_old w.driver w.memory o mixed.mixed.now.framed.place t in
-      record {
-        there = λ j now out.
-            old_goes w mixed o reason j (old j) Lacks w.bus.hubs (frame_in w.registers.frame_index) now
-            (λ was. k.there (old j).before was
-            (λ hand. out (subst (λ (b : ℕ). IsInHand w.control (32 * b)) (old j).first hand)));
-        even = λ j now out.
-            old_goes w mixed o reason j (old j) IsEven w.bus.hubs (frame_in w.registers.frame_index) now
-            (λ was. k.even (old j).before was
-            (λ seen. out (subst (λ (b : ℕ). HasVisited (32 * b) vs) (old j).first seen)));
-        held = λ h on is. k.held h on is;
-        held_even = λ h on is unset. k.held_even h on is unset;
-      }
+  accepted : (o : Offered) → offered w.driver w.memory cmd ≡ Ok o
+      → ((j : SplitTransfer o.driver) → IsOldSplit w.driver o.driver j ⊎ IsNewSplit o.driver o.memory j)
+      → OutsGoOn start (commanded_by w line (name_in cmd) (Ok o)) vs
+  accepted o is each = record {
+    there = λ j now out.
+        ⊎_elim {C = EntriesAre Lacks w.bus.hubs (sitd_in o.memory j.transfer.first)}
+        (λ (old : IsOldSplit w.driver o.driver j).
+        old_goes w mixed o (each_command_has_its_reason w.driver w.memory cmd o is) j old Lacks w.bus.hubs
+        (frame_in w.registers.frame_index) now
+        (λ was. k.there old.before was
+        (λ hand. out (subst (λ (b : ℕ). IsInHand w.control (32 * b)) old.first hand))))
+        (λ (new : IsNewSplit o.driver o.memory j).
+        none_sent Lacks w.bus.hubs (sitd_in o.memory j.transfer.first)
+        (awaits_new o.driver o.memory new.number new.first new.awaits new.index j.transfer new.there j.split))
+        (each j);
+    held = λ h on in_hand. k.held h on in_hand;
+    came = λ j hub port kind dir.
+        came_then start w (commanded_by w line (name_in cmd) (Ok o)) vs refl refl refl (seen_then (Ok o) is) j hub port
+        (k.came j hub port kind dir);
+    read = read_then start w (commanded_by w line (name_in cmd) (Ok o)) vs refl refl (seen_then (Ok o) is) k.read;
+  }
 
-other_keeps_outs : (w : World) (line : ℕ) (cmd : Cmd) (vs : List ℕ) → HasNoDescriptors cmd → IsMixedWorld w → OutsGoOn w vs
-    → OutsGoOn (commanded w line cmd) vs
-other_keeps_outs w line cmd vs other mixed k = by (offered w.driver w.memory cmd) refl
-  where
-    by : (r : Result Offered OfferError) → offered w.driver w.memory cmd ≡ r → OutsGoOn (commanded_by w line (name_in cmd) r) vs
-    by (Err why) is = refused w line (name_in cmd) vs mixed k why
-    by (Ok o) is =
-        told w line (name_in cmd) vs mixed k o (each_command_has_its_reason w.driver w.memory cmd o is)
-        (told_by w.driver w.memory cmd o other (reason_of w.driver w.memory cmd o is))
+  told : HasNoDescriptors cmd → OutsGoOn start (commanded w line cmd) vs
+  told other = by (offered w.driver w.memory cmd) refl
+    where
+      by : (r : Result Offered OfferError) → offered w.driver w.memory cmd ≡ r → OutsGoOn start (commanded_by w line (name_in cmd) r) vs
+      by (Err why) is = refused why is
+      by (Ok o) is =
+          let t = told_by w.driver w.memory cmd o other (reason_of w.driver w.memory cmd o is) in
+          accepted o is (λ j. inl (told_old w.driver w.memory o mixed.mixed.now.framed.place t j))
 
 -- one that takes on isochronous descriptors
-module _ (w : World) (line : ℕ) (name : EpName) (count len seed : ℕ) (vs : List ℕ) (mixed : IsMixedWorld w)
-    (sitds : SitdsStand w.driver w.memory w.control) (can : CanHaveSlots w.driver name len) (k : OutsGoOn w vs) (o : Offered)
-    (is : offered w.driver w.memory (commands.Iso name count len seed) ≡ Ok o) where
-  reason : Accepts w.driver w.memory o
-  reason = each_command_has_its_reason w.driver w.memory (commands.Iso name count len seed) o is
-
-  goes : (P : Entry → Type 0) (j : SplitTransfer o.driver)
-      → ((i : SplitTransfer w.driver) → (note_at w.driver.periodic.notes i.transfer.first).frame ≡ frame_in w.registers.frame_index
-      → i.transfer.first ≡ j.transfer.first → EntriesAre P w.bus.hubs (sitd_in w.memory i.transfer.first))
-      → (note_at o.driver.periodic.notes j.transfer.first).frame ≡ frame_in w.registers.frame_index
-      → EntriesAre P w.bus.hubs (sitd_in o.memory j.transfer.first)
-  goes P j before now =
-      ⊎_elim {C = EntriesAre P w.bus.hubs (sitd_in o.memory j.transfer.first)}
-      (λ (old : IsOldSplit w.driver o.driver j).
-      old_goes w mixed o reason j old P w.bus.hubs (frame_in w.registers.frame_index) now (λ was. before old.before was old.first))
-      (λ (new : IsNewSplit o.driver o.memory j).
-      none_sent P w.bus.hubs (sitd_in o.memory j.transfer.first)
-      (awaits_new o.driver o.memory new.number new.first new.awaits new.index j.transfer new.there j.split))
-      (iso_split w name count len seed o mixed is sitds can j)
-
-  taken : OutsGoOn (commanded_by w line name (Ok o)) vs
-  taken = record {
-    there = λ j now out.
-        goes Lacks j (λ i was same. k.there i was (λ hand. out (subst (λ (b : ℕ). IsInHand w.control (32 * b)) same hand))) now;
-    even = λ j now out.
-        goes IsEven j (λ i was same. k.even i was (λ seen. out (subst (λ (b : ℕ). HasVisited (32 * b) vs) same seen))) now;
-    held = λ h on is. k.held h on is;
-    held_even = λ h on is unset. k.held_even h on is unset;
-  }
-
-iso_keeps_outs : (w : World) (line : ℕ) (name : EpName) (count len seed : ℕ) (vs : List ℕ) → IsMixedWorld w
-    → SitdsStand w.driver w.memory w.control → CanHaveSlots w.driver name len → OutsGoOn w vs
-    → OutsGoOn (commanded w line (commands.Iso name count len seed)) vs
-iso_keeps_outs w line name count len seed vs mixed sitds can k = by (offered w.driver w.memory (commands.Iso name count len seed)) refl
+iso_keeps_outs : (start w : World) (line : ℕ) (name : EpName) (count len seed : ℕ) (vs : List ℕ) → IsMixedWorld w
+    → OutsGoOn start w vs → OutsGoOn start (commanded w line (commands.Iso name count len seed)) vs
+iso_keeps_outs start w line name count len seed vs mixed k = by (offered w.driver w.memory (commands.Iso name count len seed)) refl
   where
     by : (r : Result Offered OfferError) → offered w.driver w.memory (commands.Iso name count len seed) ≡ r
-        → OutsGoOn (commanded_by w line name r) vs
-    by (Err why) is = refused w line name vs mixed k why
-    by (Ok o) is = taken w line name count len seed vs mixed sitds can k o is
+        → OutsGoOn start (commanded_by w line name r) vs
+    by (Err why) is = refused start w line (commands.Iso name count len seed) vs mixed k why is
+    by (Ok o) is =
+        accepted start w line (commands.Iso name count len seed) vs mixed k o is
+        (iso_split w name count len seed o mixed is)
 
 pub command_keeps_outs : CommandKeepsOuts
-command_keeps_outs w line (commands.Iso name count len seed) vs can mixed sitds k =
-    iso_keeps_outs w line name count len seed vs mixed sitds can k
-command_keeps_outs w line (commands.OpenEp x) vs can mixed sitds k = other_keeps_outs w line (commands.OpenEp x) vs tt mixed k
-command_keeps_outs w line (commands.Get name len by) vs can mixed sitds k = other_keeps_outs w line (commands.Get name len by) vs tt mixed k
-command_keeps_outs w line (commands.Put name bytes by) vs can mixed sitds k = other_keeps_outs w line (commands.Put name bytes by) vs tt mixed k
-command_keeps_outs w line (commands.Control name setup bytes) vs can mixed sitds k = other_keeps_outs w line (commands.Control name setup bytes) vs tt mixed k
-command_keeps_outs w line (commands.Cancel name) vs can mixed sitds k = other_keeps_outs w line (commands.Cancel name) vs tt mixed k
-command_keeps_outs w line (commands.Clear name) vs can mixed sitds k = other_keeps_outs w line (commands.Clear name) vs tt mixed k
-command_keeps_outs w line (commands.Reset port) vs can mixed sitds k = other_keeps_outs w line (commands.Reset port) vs tt mixed k
-command_keeps_outs w line (commands.Give port) vs can mixed sitds k = other_keeps_outs w line (commands.Give port) vs tt mixed k
-command_keeps_outs w line (commands.DiskRead addr lba count) vs can mixed sitds k = other_keeps_outs w line (commands.DiskRead addr lba count) vs tt mixed k
-command_keeps_outs w line (commands.DiskWrite addr lba bytes) vs can mixed sitds k = other_keeps_outs w line (commands.DiskWrite addr lba bytes) vs tt mixed k
-command_keeps_outs w line (commands.Revive addr) vs can mixed sitds k = other_keeps_outs w line (commands.Revive addr) vs tt mixed k
+command_keeps_outs start w line (commands.Iso name count len seed) vs mixed k =
+    iso_keeps_outs start w line name count len seed vs mixed k
+command_keeps_outs start w line (commands.OpenEp x) vs mixed k = told start w line (commands.OpenEp x) vs mixed k tt
+command_keeps_outs start w line (commands.Get name len by) vs mixed k = told start w line (commands.Get name len by) vs mixed k tt
+command_keeps_outs start w line (commands.Put name bytes by) vs mixed k = told start w line (commands.Put name bytes by) vs mixed k tt
+command_keeps_outs start w line (commands.Control name setup bytes) vs mixed k = told start w line (commands.Control name setup bytes) vs mixed k tt
+command_keeps_outs start w line (commands.Cancel name) vs mixed k = told start w line (commands.Cancel name) vs mixed k tt
+command_keeps_outs start w line (commands.Clear name) vs mixed k = told start w line (commands.Clear name) vs mixed k tt
+command_keeps_outs start w line (commands.Reset port) vs mixed k = told start w line (commands.Reset port) vs mixed k tt
+command_keeps_outs start w line (commands.Give port) vs mixed k = told start w line (commands.Give port) vs mixed k tt
+command_keeps_outs start w line (commands.DiskRead addr lba count) vs mixed k = told start w line (commands.DiskRead addr lba count) vs mixed k tt
+command_keeps_outs start w line (commands.DiskWrite addr lba bytes) vs mixed k = told start w line (commands.DiskWrite addr lba bytes) vs mixed k tt
+command_keeps_outs start w line (commands.Revive addr) vs mixed k = told start w line (commands.Revive addr) vs mixed k tt

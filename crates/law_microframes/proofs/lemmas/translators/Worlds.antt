@@ -59,6 +59,8 @@ use Rattle.law_translator.specs.Plans.{Fits}
 use Rattle.law_translator.specs.Frames.{Frame}
 use Rattle.law_microframes.proofs.lemmas.visits.ReasonParts.{command_bus}
 use Rattle.law_microframes.proofs.lemmas.time.PaymentIsochronous.{driver_index}
+use Rattle.law_hub_plans.specs.HubPlans.{placed_below, AreKeysApart}
+use Rattle.law_microframes.specs.plans.Plans.{key_at, HubPlansFitIn}
 use Rattle.law_microframes.specs.translators.Watching.{frame_of, AllAt, port_at, gaps_begun, HubsHold, StartFollows, StuffsAtMost}
 use Rattle.law_microframes.specs.translators.Keeping.{plans_now, IsOwned, IsRight, WorldKeeps, gaps_after, gaps_next, no_gaps, gaps, IsKnown}
 use Rattle.law_microframes.proofs.lemmas.translators.Watching.{IsKept}
@@ -69,7 +71,7 @@ use Rattle.law_microframes.proofs.lemmas.translators.Owned.{StaysOwned, owned_dr
 
 -- ---- the ring asks of bulk and control endpoints alone
 
-abbrev IsBufferedRow : WalkRow → Type 0
+abbrev pub IsBufferedRow : WalkRow → Type 0
 IsBufferedRow (walks.Transact t) = is_buffered t.pipe.kind ≡ true
 IsBufferedRow _ = Unit {0}
 
@@ -121,12 +123,12 @@ at_buffered : (p : WalkPlace) (o : Option Held) → IsBufferedRow (row_at p o)
 at_buffered p None = ring_buffered p.memory p.registers.reclamation (cursor_link p.registers p.walk.cursor)
 at_buffered p (Some h) = held_buffered p.memory p.walk.left h.queue_head h.settled
 
-event_buffered : (p : WalkPlace) → IsBufferedRow (event_row p)
+pub event_buffered : (p : WalkPlace) → IsBufferedRow (event_row p)
 event_buffered p = at_buffered (started p) (started p).walk.held
 
 -- ---- FRINDEX after an event of the controller
 
-abbrev index_by : ControllerRow → ℕ → ℕ
+abbrev pub index_by : ControllerRow → ℕ → ℕ
 index_by rows.Begin i = next_index i
 index_by _ i = i
 
@@ -281,14 +283,15 @@ module _ (most : ℕ) (H : Frame → Type 0) (is : IsKept most Any H) (fixed : F
 
   -- ---- the driver
 
-  pub driver_keeps_up : (w : World) (g : ℕ → ℕ → Key → ℕ) → IsKnown w → IsKnown (driver_next w) → WorldKeeps H w g
-      → WorldKeeps H (driver_next w) g
-  driver_keeps_up w g known later all =
+  pub driver_keeps_up : (w : World) (g : ℕ → ℕ → Key → ℕ) → IsKnown w → HubPlansFitIn (driver_next w).driver
+      → ((hub port f : ℕ) → AreKeysApart (key_at (driver_next w).driver) (placed_below hub port f (driver_next w).driver.periodic.plan.placed))
+      → WorldKeeps H w g → WorldKeeps H (driver_next w) g
+  driver_keeps_up w g known fit apart all =
       subst (λ (j : ℕ). Holds (driver_next w).driver j g w.bus.hubs) (sym (driver_index w))
       (change w.driver (driver_next w).driver w.registers.frame_index w.registers.frame_index (w.registers.frame_index % 8) g w.bus.hubs
-      (λ hub port. plans_fit (driver_next w).driver later.fit w.registers.frame_index hub port)
+      (λ hub port. plans_fit (driver_next w).driver fit w.registers.frame_index hub port)
       (λ hub port k o. owned_planned w.driver known.apart w.registers.frame_index hub port k o)
-      (λ hub port k o. owned_planned (driver_next w).driver later.apart w.registers.frame_index hub port k o)
+      (λ hub port k o. owned_planned (driver_next w).driver apart w.registers.frame_index hub port k o)
       (λ hub port k o. owned_driver w hub port k o) all)
 
   -- ---- a command
@@ -298,23 +301,25 @@ module _ (most : ℕ) (H : Frame → Type 0) (is : IsKept most Any H) (fixed : F
   index_by_offer w line name (Ok o) = refl
   index_by_offer w line name (Err why) = refl
 
-  pub command_keeps_up : (w : World) (line : ℕ) (cmd : Cmd) (g : ℕ → ℕ → Key → ℕ) → IsKnown w → IsKnown (commanded w line cmd)
+  pub command_keeps_up : (w : World) (line : ℕ) (cmd : Cmd) (g : ℕ → ℕ → Key → ℕ) → IsKnown w → HubPlansFitIn (commanded w line cmd).driver
+      → ((hub port f : ℕ) → AreKeysApart (key_at (commanded w line cmd).driver)
+      (placed_below hub port f (commanded w line cmd).driver.periodic.plan.placed))
       → WorldKeeps H w g → WorldKeeps H (commanded w line cmd) g
-  command_keeps_up w line cmd g known later all =
+  command_keeps_up w line cmd g known fit apart all =
       let new : World = commanded w line cmd in
       subst (λ (b : Bus). Holds new.driver new.registers.frame_index g b.hubs) (sym (command_bus w line cmd))
       (subst (λ (j : ℕ). Holds new.driver j g w.bus.hubs) (sym (index_by_offer w line (name_in cmd) (offered w.driver w.memory cmd)))
       (change w.driver new.driver w.registers.frame_index w.registers.frame_index (w.registers.frame_index % 8) g w.bus.hubs
-      (λ hub port. plans_fit new.driver later.fit w.registers.frame_index hub port)
+      (λ hub port. plans_fit new.driver fit w.registers.frame_index hub port)
       (λ hub port k o. owned_planned w.driver known.apart w.registers.frame_index hub port k o)
-      (λ hub port k o. owned_planned new.driver later.apart w.registers.frame_index hub port k o)
+      (λ hub port k o. owned_planned new.driver apart w.registers.frame_index hub port k o)
       (λ hub port k o. owned_command w line cmd hub port k o) all))
 
   -- ---- a run
 
   next_keeps : (w : World) (event : Event) (g : ℕ → ℕ → Key → ℕ) → IsKnown w → IsKnown (next fixed w event) → WorldKeeps H w g
       → WorldKeeps H (next fixed w event) (carried_next gaps_next fixed w event g)
-  next_keeps w events.D g known later all = driver_keeps_up w g known later all
+  next_keeps w events.D g known later all = driver_keeps_up w g known later.fit later.apart all
   next_keeps w events.C g known later all = controller_keeps_up w known g all
 
   by_keeps : (w : World) (order : Left) (rest : List Left) (g : ℕ → ℕ → Key → ℕ) → IsKnown w → IsKnown (tick_by fixed w order rest).world
@@ -324,7 +329,7 @@ module _ (most : ℕ) (H : Frame → Type 0) (is : IsKept most Any H) (fixed : F
   by_keeps w (Microframes zero) rest g known later all = all
   by_keeps w (Microframes (suc n)) rest g known later all = next_keeps w events.C g known later all
   by_keeps w (Answer ended n) rest g known later all = next_keeps w events.D g known later all
-  by_keeps w (Command n cmd) rest g known later all = command_keeps_up w n cmd g known later all
+  by_keeps w (Command n cmd) rest g known later all = command_keeps_up w n cmd g known later.fit later.apart all
   by_keeps w (Plugs there port) rest g known later all = all
 
   in_keeps : (w : World) (orders : List Left) (g : ℕ → ℕ → Key → ℕ) → IsKnown w → IsKnown (tick_at fixed w orders).world → WorldKeeps H w g
@@ -365,6 +370,12 @@ module _ (most : ℕ) (H : Frame → Type 0) (is : IsKept most Any H) (d : Drive
     hubs_open hs (λ i. g (suc i)),
   )
 
+pub plans_open : (most : ℕ) (H : Frame → Type 0) → IsKept most Any H → (s : Script) → HubPlansFitIn (opening_world s).driver
+    → WorldKeeps H (opening_world s) no_gaps
+plans_open most H is s fit =
+    hubs_open most H is (opening_world s).driver (opening_world s).registers.frame_index refl
+    (λ hub port. plans_fit (opening_world s).driver fit (opening_world s).registers.frame_index hub port) s.hubs no_gaps
+
 known_first : (s : Script) → ((k : ℕ) → IsKnown (moment s k).world) → IsKnown (opening_world s)
 unfolding ticks
 known_first s knows = knows 0
@@ -373,6 +384,4 @@ pub keeps_along : (most : ℕ) (H : Frame → Type 0) → IsKept most Any H → 
     → ((k : ℕ) → IsKnown (moment s k).world) → (k : ℕ) → WorldKeeps H (moment s k).world (gaps s k)
 keeps_along most H is s few knows k =
     from_keeps most H is (fixed_of s) few (at_place (opening_world s) (orders_of s.lines)) no_gaps k knows
-    (hubs_open most H is (opening_world s).driver (opening_world s).registers.frame_index refl
-    (λ hub port. plans_fit (opening_world s).driver (known_first s knows).fit
-    (opening_world s).registers.frame_index hub port) s.hubs no_gaps)
+    (plans_open most H is s (known_first s knows).fit)

@@ -47,7 +47,7 @@ use Rattle.law_microframes.specs.visits.OneDescriptor.{HasOneActive, IsActiveDes
 use Rattle.law_microframes.specs.visits.Began.{StandsAlone, ActiveStands, WaitsLeft, ActiveIsMet, ActiveIsFramed, MetIsLent}
 use Rattle.law_microframes.specs.visits.ActiveFrames.{QueueIsNotActive, ScheduledIsAlone}
 use Rattle.law_microframes.proofs.lemmas.visits.DriverGoesOn.{member_stands}
-use Rattle.law_microframes.proofs.lemmas.visits.OneDescriptor.{lent_framed, unreported}
+use Rattle.law_microframes.proofs.lemmas.visits.OneDescriptor.{lent_framed, active_framed, unreported}
 use Rattle.law_microframes.proofs.lemmas.visits.BelongQueues.{endpoint_same, alive, removed_kept, unchained_in, waiting_held, removed_held, no_descriptor_there}
 use Rattle.law_microframes.proofs.lemmas.visits.BelongDescriptors.{is_of_descriptor, not_driven}
 
@@ -130,7 +130,7 @@ module _ (s : Standing) (w : World) (e f n : ℕ) (k : IsMixedAt s w) (a : IsAct
     removed_by i r _ at is (a_descriptor t y there name) =
         let h = removed_held d has t y i r there at is in
         let same : y ≡ a.transfer = same_run d has t a.number n y a.transfer there a.here h.1.1 a.descriptor h.1.0 a.held name a.at in
-        absurd (true≢false (sym h.0 ∙ ap (λ (z : Transfer). z.reported) same ∙ unreported d w.memory e f n one a))
+        absurd (true≢false (sym h.0 ∙ ap (λ (z : Transfer). z.reported) same ∙ unreported d w.memory e f n one (active_framed d w.memory e f n k.awaiting a)))
     removed_by i r _ at is (a_queue g v there queue name) = absurd (not_a_queue g v there queue (removed_kept d has g v i r there at is) name)
     removed_by i r _ at is (a_waiting g t v y in_list iso there sort waits name) = waits_there g t v y in_list (removed_kept d has g v i r in_list at is) iso there sort waits name
 

@@ -1,4 +1,4 @@
-use Rattle.law_microframes.proofs.lemmas.translators.Starting.{stuffed_texts_keep_up, stuffed_texts_answer}
+use Rattle.law_microframes.proofs.lemmas.translators.TurnsTexts.{stuffed_texts_keep_up, stuffed_texts_answer}
 use Rattle.law_microframes.proofs.translators.texts.stuffed_texts_keep_up.Goals as goal
 
 pub returns-clause-work : goal.returns-clause-work

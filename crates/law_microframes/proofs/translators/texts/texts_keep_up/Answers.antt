@@ -1,4 +1,4 @@
-use Rattle.law_microframes.proofs.lemmas.translators.Starting.{texts_keep_up, texts_answer_in_time}
+use Rattle.law_microframes.proofs.lemmas.translators.TurnsTexts.{texts_keep_up, texts_answer_in_time}
 use Rattle.law_microframes.proofs.translators.texts.texts_keep_up.Goals as goal
 
 pub returns-clause-work : goal.returns-clause-work
