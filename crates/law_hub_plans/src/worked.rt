@@ -3,7 +3,8 @@ ghost use Rattle.std.specs.Prelude.{◌≡◌, [], ◌∷◌};
 ghost use Rattle.std.specs.List.{AllByRecursion};
 ghost use Rattle.bandwidth.specs.Worked.{camera, keyboard};
 ghost use Rattle.law_translator.specs.Plans.{laid_at, sum_at};
-ghost use Rattle.law_hub_plans.specs.HubPlans.{placed_below, hub_plan, AreKeysApart};
+ghost use Rattle.law_hub_plans.specs.HubPlans.{AreKeysApart};
+ghost use Rattle.claims_translators.specs.HubPlans.{placed_below, hub_plan};
 ghost use Rattle.law_hub_plans.specs.Laws.{IsPlacedRight};
 ghost use Rattle.law_hub_plans.specs.Samples.{key_in, sample_key, camera_in_1, keyboard_in_0, a_plan, too_much};
 

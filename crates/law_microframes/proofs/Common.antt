@@ -3,8 +3,9 @@ use Rattle.std.proofs.Common.{◌≡◌, None, ℕ, ◌<◌, arith, Result, Some
 use Rattle.std.specs.Result.{result_ok}
 use Rattle.std.proofs.lemmas.Option.{same_Some}
 use Rattle.std.specs.List.{AllByRecursion}
-use Rattle.std.proofs.lemmas.Bool.{true≢false}
+use Rattle.std.proofs.lemmas.Bool.{true≢false, false≢true}
 use Rattle.usb_base.specs.declared.packets.Dir.{Dir}
+use Rattle.usb_base.specs.declared.packets.EpKind.{EpKind}
 use Rattle.word_mem.specs.Memory.{Mem}
 use Rattle.word_mem.specs.Views.{words_at}
 use Rattle.law_common.proofs.Numbers.{no_less, not_higher, between}
@@ -20,11 +21,14 @@ use Rattle.qh_qtd.specs.QueueHead.{qh_read}
 use Rattle.drv_table.specs.DriverContent.{DriverContent}
 use Rattle.drv_table.specs.Accepting.{Offered}
 use Rattle.drv_table.specs.declared.content.Endpoint.{Endpoint}
+use Rattle.drv_table.specs.Kinds.{is_iso}
 use Rattle.async_walk.specs.declared.state.WalkStep.{WalkStep}
 use Rattle.hc_iso.specs.declared.held.HeldItd.{HeldItd}
 use Rattle.hc_iso.specs.declared.held.Heard.{Heard}
 use Rattle.hc_iso.specs.Itd.{after_heard}
 use Rattle.hc_iso.specs.declared.held.Heard.TheVariants.{Packet, TooLong, Wrong}
+use Rattle.hc_iso.specs.declared.held.SplitHeard.{SplitHeard}
+use Rattle.hc_iso.specs.Sitd.{after_split_heard}
 use Rattle.periodic_walk.specs.declared.state.Hand.{Hand}
 use Rattle.periodic_walk.specs.Walk.{over_at}
 use Rattle.periodic_walk.specs.Chain.{queue_fetch, itd_fetch, sitd_fetch}
@@ -42,7 +46,9 @@ use Rattle.law_world.specs.memory.Mixed.{IsMixedWorld}
 use Rattle.law_world.proofs.Common.{without_last}
 use Rattle.law_microframes.specs.time.SitdParts.{is_in}
 use Rattle.usb_base.specs.declared.packets.Dir.TheVariants as ways
+use Rattle.usb_base.specs.declared.packets.EpKind.TheVariants as kinds
 use Rattle.async_walk.specs.declared.state.WalkStep.TheVariants as walk_steps
+use Rattle.hc_iso.specs.declared.held.SplitHeard.TheVariants as heards
 use Rattle.periodic_walk.specs.declared.chain.ChainRow.TheVariants as chains
 use Rattle.hc_core.specs.declared.controller.ControllerRow.TheVariants as rows
 
@@ -127,3 +133,14 @@ pub all_higher : (height : ℕ → ℕ) (k a : ℕ) (vs : List ℕ) → height k
     → AllByRecursion (λ v. height k < height v) vs
 all_higher height k a [] less all = tt
 all_higher height k a (v ∷ vs) less all = (between (height k) (height a) (height v) less all.0, all_higher height k a vs less all.1)
+
+pub heard_way : (heard : SplitHeard) (v : Sitd) → (after_split_heard heard v).dir_in ≡ v.dir_in
+heard_way (heards.Data last n) v = refl
+heard_way heards.Later v = refl
+heard_way heards.TooLong v = refl
+heard_way heards.Error v = refl
+heard_way heards.Wrong v = refl
+
+pub iso_kind : (k : EpKind) → is_iso k ≡ true → k ≡ kinds.Iso
+iso_kind kinds.Iso is = refl
+iso_kind _ is = absurd (false≢true is)

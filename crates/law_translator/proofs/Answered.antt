@@ -1,10 +1,13 @@
 -- The results are there by the last complete-splits.
 use Rattle.std.proofs.Common.{◌≡◌, ℕ, ◌+◌, ◌≤◌, List, [], ◌∷◌}
 use Rattle.tt_pipeline.specs.Work.{called_for}
-use Rattle.law_translator.specs.Plans.{Plan, Fits}
-use Rattle.law_translator.specs.Frames.{Event, Watched, run, opening}
-use Rattle.law_translator.specs.Premises.{FairAll, KeepsUp}
-use Rattle.law_translator.specs.Results.{end_of, IsAnswered, AllAnswered}
+use Rattle.law_translator.specs.Plans.{Fits}
+use Rattle.claims_translators.specs.Plans.{Plan}
+use Rattle.law_translator.specs.Frames.{Event, run, opening}
+use Rattle.claims_translators.specs.Watched.{Watched}
+use Rattle.law_translator.specs.Premises.{FairAll}
+use Rattle.claims_translators.specs.KeepsUp.{KeepsUp}
+use Rattle.claims_translators.specs.Answered.{end_of, IsAnswered, AllAnswered}
 use Rattle.law_translator.proofs.Keeps.{owed_kept, keeps_all, opening_holds}
 use Rattle.law_translator.proofs.KeepsStuffed.{stuffed_keeps_all, stuffed_opening}
 use Rattle.law_translator.proofs.Owing.{Coming, Owing}

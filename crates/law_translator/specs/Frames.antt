@@ -2,12 +2,11 @@
 --     Event, Frame            what happens to a pipeline; a frame of it
 --     next, run               the frame after an event, after a list of them
 --     contents_after          the entries alone after an event, by the words of the pipeline
-use Rattle.std.specs.Prelude.{ℕ, ◌+◌, ◌-◌, Bool, ◌&&◌, ◌==◌, not, nat_lt, if◌then◌else◌, List, [], ◌∷◌, ◌++◌, length, map}
+use Rattle.std.specs.Prelude.{ℕ, ◌+◌, ◌-◌, Bool, List, [], ◌∷◌, ◌++◌, length, map}
 use Rattle.usb_base.specs.declared.packets.Ask.{Ask}
 use Rattle.usb_base.specs.declared.packets.Reply.{Reply}
 use Rattle.hub_keys.specs.Keys.{key_of}
 use Rattle.hub_keys.specs.declared.key.Key.{Key}
-use Rattle.tt_pipeline.specs.declared.entry.Brought.{Brought}
 use Rattle.tt_pipeline.specs.declared.entry.Entry.{Entry}
 use Rattle.tt_pipeline.specs.declared.rows.StartRow.{StartRow}
 use Rattle.tt_pipeline.specs.declared.rows.StartRow.TheVariants.{Enters, Joins, Forgotten}
@@ -15,7 +14,8 @@ use Rattle.tt_pipeline.specs.Answers.{completed, given}
 use Rattle.tt_pipeline.specs.Starting.{has_key, with_first, without_first, start_row, started}
 use Rattle.tt_pipeline.specs.Work.{fresh, joined}
 use Rattle.tt_pipeline.specs.Working.{budget, used_at, turned, turned_all, first_reply, later_replies}
-use Rattle.law_translator.specs.Plans.{Plan}
+use Rattle.claims_translators.specs.Plans.{Plan}
+use Rattle.claims_translators.specs.Watched.{Watched, gap_of}
 
 pub data Event : Type 0 where
   Start : (ask : Ask) (bytes : List ℕ) (stuff : ℕ) → Event  -- a start-split comes, of an endpoint with so many stuffed bits
@@ -25,26 +25,10 @@ pub data Event : Type 0 where
   Replan : (plan : Plan) → Event  -- endpoints are placed, or given back, in mid-frame: the rest of the frame has this plan
   Clear : Event  -- the pipeline is emptied
 
--- an entry, and how many microframes after its first brought it no part while it lacked its last
-pub record Watched : Type 0 where
-  pub entry : Entry
-  pub gaps : ℕ
-
 pub record Frame : Type 0 where
   pub plan : Plan
   pub now : ℕ  -- the microframe of the frame, 8 at the begin of the next one
   pub watched : List Watched  -- in order of arrival
-
--- from the earlier to the later of two moments no part came, while the last was lacked
-abbrev pub is_gap : Brought → Brought → Bool
-is_gap a b = not a.whole && not b.whole && nat_lt 0 a.parts && b.parts == a.parts
-
-abbrev pub gap_between : Brought → Brought → ℕ
-gap_between a b = if is_gap a b then 1 else 0
-
--- the microframe that is worked from its turn on
-abbrev pub gap_of : Entry → ℕ
-gap_of e = gap_between e.heard e.before
 
 abbrev pub entries_of : List Watched → List Entry
 entries_of ws = map (λ w. w.entry) ws

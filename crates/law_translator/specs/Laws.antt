@@ -11,9 +11,11 @@ use Rattle.usb_base.specs.declared.packets.Reply.{Reply}
 use Rattle.tt_pipeline.specs.Working.{budget, Works, entries_after, wire_worked}
 use Rattle.tt_pipeline.specs.declared.entry.Entry.{Entry}
 use Rattle.law_translator.specs.Frames.{Event, worked_all, run, opening}
-use Rattle.law_translator.specs.Plans.{Plan, Fits}
-use Rattle.law_translator.specs.Premises.{FairAll, AllKeepUp, AllKeepUpStuffed, AllStay}
-use Rattle.law_translator.specs.Results.{AllAnswered}
+use Rattle.law_translator.specs.Plans.{Fits}
+use Rattle.claims_translators.specs.Plans.{Plan}
+use Rattle.law_translator.specs.Premises.{FairAll, AllStay}
+use Rattle.claims_translators.specs.KeepsUp.{AllKeepUp, AllKeepUpStuffed}
+use Rattle.claims_translators.specs.Answered.{AllAnswered}
 
 abbrev pub KeepsUpWithPlans : Type 0
 KeepsUpWithPlans = (plan : Plan) → Fits plan → (events : List Event) → FairAll 0 events (opening plan)

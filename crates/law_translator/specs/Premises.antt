@@ -1,9 +1,7 @@
--- Starts that come from a plan that fits, and what the translator has done for them.
+-- Starts that come from a plan that fits.
 --     Follows p now ask ..    a start is one that the plan calls for
 --     FairAll most            each start of a run is, of at most so many stuffed bits in 36, and each plan fits
---     KeepsUp                 the work that is laid is done; what is laid whole is answered
---     KeepsUpStuffed          the same with stuffed bits: one microframe later
-use Rattle.std.specs.Prelude.{◌≡◌, ◌⊎◌, ℕ, ◌+◌, ◌-◌, ◌*◌, ◌≤◌, ◌<◌, min, true, false, List, [], ◌∷◌, length, Option, Some, None}
+use Rattle.std.specs.Prelude.{◌≡◌, ◌⊎◌, ℕ, ◌+◌, ◌-◌, ◌*◌, ◌≤◌, ◌<◌, true, false, List, [], ◌∷◌, length, Option, Some, None}
 use Rattle.std.specs.List.{find}
 use Rattle.usb_base.specs.declared.packets.Ask.{Ask}
 use Rattle.usb_base.specs.declared.packets.EpKind.TheVariants.{Interrupt}
@@ -19,9 +17,11 @@ use Rattle.tt_pipeline.specs.declared.rows.StartRow.{StartRow}
 use Rattle.tt_pipeline.specs.declared.rows.StartRow.TheVariants.{Enters, Joins, Forgotten}
 use Rattle.tt_pipeline.specs.Answers.{answer_row, answer_of}
 use Rattle.tt_pipeline.specs.Starting.{has_key, start_row}
-use Rattle.tt_pipeline.specs.Work.{asked_part, called_for}
-use Rattle.law_translator.specs.Plans.{Plan, laid, Fits}
-use Rattle.law_translator.specs.Frames.{Event, Start, Complete, Work, Drop, Replan, Clear, Watched, Frame, entries_of, next}
+use Rattle.tt_pipeline.specs.Work.{asked_part}
+use Rattle.law_translator.specs.Plans.{Fits}
+use Rattle.claims_translators.specs.Plans.{Plan}
+use Rattle.law_translator.specs.Frames.{Event, Start, Complete, Work, Drop, Replan, Clear, Frame, entries_of, next}
+use Rattle.claims_translators.specs.Watched.{Watched}
 
 -- k is one of the keys
 abbrev pub In : Key → List Key → Type 0
@@ -94,34 +94,6 @@ FairAll most [] f = Unit {0}
 FairAll most (event ∷ events) f = Fair most event f × FairAll most events (next f event)
 
 -- ---- what is promised
-
--- at the begin of a microframe, after the work, an entry has had what is laid for it up to the last microframe but one, less
--- 188 for each microframe that brought no part while it lacked its last, or all that its starts up to then call for
-pub record KeepsUp (p : Plan) (now : ℕ) (w : Watched) : Type 0 where
-  pub enough : min (laid p w.entry.key (now - 1)) (called_for w.entry + 188 * w.gaps) ≤ w.entry.done + 188 * w.gaps
-  pub no_more : w.entry.done ≤ called_for w.entry
-  -- once all is laid and its last part was heard, all that it calls for was worked
-  pub whole : w.entry.heard.whole ≡ true → p.times w.entry.key ≤ laid p w.entry.key (now - 1) → w.entry.done ≡ called_for w.entry
-  -- and an interrupt's answer is there
-  pub answered : w.entry.ask.kind ≡ Interrupt → w.entry.heard.whole ≡ true → p.times w.entry.key ≤ laid p w.entry.key (now - 1) → answer_row w.entry ≡ Result
-
-abbrev pub AllKeepUp : Plan → ℕ → List Watched → Type 0
-AllKeepUp p now [] = Unit {0}
-AllKeepUp p now (w ∷ ws) = KeepsUp p now w × AllKeepUp p now ws
-
--- with stuffed bits, up to one in six: an entry of which all is laid up to the last microframe but two has had all that its
--- starts call for (7.1.9, 11.18)
-pub record KeepsUpStuffed (p : Plan) (now : ℕ) (w : Watched) : Type 0 where
-  pub no_more : w.entry.done ≤ called_for w.entry
-  pub whole : now ≤ 8 → p.times w.entry.key ≤ laid p w.entry.key (now - 2) → w.entry.done ≡ called_for w.entry
-  -- and an interrupt's answer is there
-  pub answered :
-      w.entry.ask.kind ≡ Interrupt → w.entry.heard.whole ≡ true → now ≤ 8 → p.times w.entry.key ≤ laid p w.entry.key (now - 2)
-      → answer_row w.entry ≡ Result
-
-abbrev pub AllKeepUpStuffed : Plan → ℕ → List Watched → Type 0
-AllKeepUpStuffed p now [] = Unit {0}
-AllKeepUpStuffed p now (w ∷ ws) = KeepsUpStuffed p now w × AllKeepUpStuffed p now ws
 
 -- an interrupt's answer that was there is there, and the same
 abbrev pub Stays : Watched → Watched → Type 0

@@ -1,5 +1,4 @@
 -- The translators of a world keep up with the driver's plan (USB 2.0, 11.14, 11.18 and 11.18.4; EHCI 1.0, 2.3.4, 4.6 and 4.12).
---     plans_now d index hub port     the plan of the translator with this number of the hub with this address, in the frame of this FRINDEX
 --     IsOwned d index hub port k     the key is that of an endpoint which is placed below that translator, active in the frame, and no
 --                                    removal of it was read past the frame: so it isn't given back in the frame
 --     IsRight H d index              H holds of a watched pipeline, and each of its keys is owned
@@ -8,12 +7,10 @@
 --     PartsAreLacked w               where the siTD in hand of an OUT that was begun is to be asked for, the entry of its key lacks its
 --                                    last part, and none came in this microframe
 --     SitdsFollow w                  .. so it is of the siTD in hand, if one is to be asked for
---     gaps s k                       by the places of a hub and of its translator and by the key: after k events and commands of a run,
---                                    how many microframes after the first brought the entry no part while it lacked its last
 --     IsKnown w                      the plans of a world fit, no two keys of one are the same, and each start-split follows its plan
 --     StartsFollow w                 each start-split of it is one that the plan of its translator calls for, of a key that is owned
 use Rattle.std.specs.List.{find}
-use Rattle.std.specs.Prelude.{◌≡◌, ℕ, ◌%◌, ◌==◌, position, Bool, true, false, ◌&&◌, nat_lt, List, [], length, slice_get, Some, None}
+use Rattle.std.specs.Prelude.{◌≡◌, ℕ, ◌%◌, ◌==◌, position, true, false, List, length, slice_get, Some, None}
 use Rattle.usb_base.specs.declared.endpoints.EpDesc.{EpDesc}
 use Rattle.usb_base.specs.declared.packets.Ask.{Ask}
 use Rattle.usb_base.specs.declared.packets.DataPart.{DataPart}
@@ -38,38 +35,18 @@ use Rattle.periodic_walk.specs.Place.{FramePlace}
 use Rattle.periodic_walk.specs.Place.Effect.{Asks}
 use Rattle.periodic_walk.specs.Rows.{effect_of}
 use Rattle.hc_core.specs.declared.controller.MicroframePart.TheVariants.{Periodic}
-use Rattle.hc_core.specs.declared.controller.ControllerRow.{ControllerRow}
 use Rattle.hc_core.specs.declared.controller.ControllerRow.TheVariants as rows
 use Rattle.hc_core.specs.Controller.{frame_place}
 use Rattle.hub_class.specs.HubContent.{HubContent}
-use Rattle.script_types.specs.declared.scripts.Script.{Script}
-use Rattle.bus_wire.specs.Bus.{Fixed}
 use Rattle.bus_world.specs.World.{World, controller_parts, controller_row}
 use Rattle.claims_driver.specs.Unlinked.{IsOpenAt}
 use Rattle.claims_world.specs.Visits.{frame_in}
-use Rattle.claims_world.specs.Carried.{carried}
 use Rattle.law_budgets.specs.visit_prices.Spent.{placed_as, IsAmong}
-use Rattle.law_translator.specs.Plans.{Plan}
 use Rattle.law_translator.specs.Frames.{Frame}
-use Rattle.law_hub_plans.specs.HubPlans.{is_below, placed_below, AreKeysApart}
-use Rattle.law_microframes.specs.plans.Plans.{key_at, plan_at, HubPlansFitIn}
-use Rattle.law_microframes.specs.translators.Watching.{WithKeys, gaps_begun, HubsHold, StartFollows}
-
--- ---- plans
-
-abbrev pub no_plan : Plan
-no_plan = record { keys = []; first = λ k. 0; times = λ k. 0 }
-
--- a hub has an address below 128, and at most 15 translators
-abbrev pub is_number : ℕ → ℕ → Bool
-is_number hub port = nat_lt hub 128 && nat_lt port 16
-
-abbrev pub if_number : Bool → Plan → Plan
-if_number true p = p
-if_number false p = no_plan
-
-abbrev pub plans_now : DriverContent → ℕ → ℕ → ℕ → Plan
-plans_now d index hub port = if_number (is_number hub port) (plan_at d hub port (frame_in index))
+use Rattle.law_hub_plans.specs.HubPlans.{AreKeysApart}
+use Rattle.claims_translators.specs.HubPlans.{is_below, placed_below, key_at, is_number, plans_now}
+use Rattle.law_microframes.specs.plans.Plans.{HubPlansFitIn}
+use Rattle.law_microframes.specs.translators.Watching.{WithKeys, HubsHold, StartFollows}
 
 -- ---- whose an entry is
 
@@ -136,21 +113,6 @@ PartsAreLacked w =
     (h : HeldSitd) → w.control.part ≡ Periodic → w.control.frame.hand ≡ Some (hands.Sitd h) → h.settled ≡ None
     → sitd_turn (w.registers.frame_index % 8) h.sitd ≡ Work → h.sitd.dir_in ≡ false → (h.sitd.c_prog == 0) ≡ false
     → EntryLacks w (sitd_transaction h.sitd).ask
-
--- ---- the parts that never came, along a run
-
-abbrev pub gaps_after : ControllerRow → List HubContent → (ℕ → ℕ → Key → ℕ) → ℕ → ℕ → Key → ℕ
-gaps_after rows.Begin hubs g = gaps_begun hubs g
-gaps_after _ hubs g = g
-
-abbrev pub gaps_next : Fixed → World → (ℕ → ℕ → Key → ℕ) → ℕ → ℕ → Key → ℕ
-gaps_next fixed w g = gaps_after (controller_row w) w.bus.hubs g
-
-abbrev pub no_gaps : ℕ → ℕ → Key → ℕ
-no_gaps i j k = 0
-
-abbrev pub gaps : Script → ℕ → ℕ → ℕ → Key → ℕ
-gaps s k = carried gaps_next s no_gaps k
 
 -- ---- what is known of a world
 

@@ -1,5 +1,4 @@
 -- Laws of the translators along a run (USB 2.0, 11.18 and 11.18.4; EHCI 1.0, 4.12).
---     EachPipeline P w g         P tells of the watched pipeline of each translator of the world
 --     AlongRuns most P           so it is at each moment of a run where endpoints have at most so many stuffed bits in 36, each plan fits,
 --                                no two keys of a plan are the same, and each start-split follows its plan
 --     AlongTexts P               .. in the run of each script that a text spells
@@ -8,28 +7,21 @@
 --     TextsHaveFewStuffedBits                no endpoint of a script that a text spells has more than six of them in 36
 --     InterruptsFollow           each start-split of a queue head follows its plan; SitdsFollowToo: and each of a siTD
 --     EntriesStayOwned           an event of the driver, a command and a microframe that begins in the frame leave whose an entry is
-use Rattle.std.specs.Prelude.{◌≡◌, ℕ, ◌%◌, List, slice_get, Some}
+use Rattle.std.specs.Prelude.{◌≡◌, ℕ, ◌%◌, List}
 use Rattle.usb_base.specs.declared.commands.Cmd.{Cmd}
 use Rattle.script_types.specs.declared.scripts.Script.{Script}
 use Rattle.script_text.specs.Faults.{Spells}
 use Rattle.op_registers.specs.Events.{next_index}
 use Rattle.hub_keys.specs.declared.key.Key.{Key}
-use Rattle.multi_tt.specs.Translators.{Translator}
-use Rattle.hub_class.specs.HubContent.{HubContent}
 use Rattle.drv_table.specs.DriverContent.{DriverContent}
 use Rattle.bus_wire.specs.Bus.{fixed_of}
 use Rattle.bus_world.specs.World.{World, driver_next, commanded}
 use Rattle.bus_world.specs.Budgets.{moment}
-use Rattle.law_translator.specs.Plans.{Plan}
-use Rattle.law_translator.specs.Frames.{Watched}
-use Rattle.law_microframes.specs.translators.Watching.{watched_of, port_at, StuffsAtMost}
-use Rattle.law_microframes.specs.translators.Keeping.{plans_now, IsOwned, StartsFollow, SitdsFollow, PartsAreLacked, gaps, IsKnown}
-
-abbrev pub EachPipeline : (Plan → ℕ → List Watched → Type 0) → World → (ℕ → ℕ → Key → ℕ) → Type 0
-EachPipeline P w g =
-    (i j : ℕ) (h : HubContent) (t : Translator) → slice_get w.bus.hubs i ≡ Some h → slice_get h.translators.all j ≡ Some t
-    → P (plans_now w.driver w.registers.frame_index h.address (port_at h.translators.multi j)) (w.registers.frame_index % 8)
-    (watched_of (g i j) t.pipeline)
+use Rattle.claims_translators.specs.Plans.{Plan}
+use Rattle.claims_translators.specs.Watched.{Watched}
+use Rattle.claims_translators.specs.Pipelines.{StuffsAtMost, EachPipeline}
+use Rattle.law_microframes.specs.translators.Keeping.{IsOwned, StartsFollow, SitdsFollow, PartsAreLacked, IsKnown}
+use Rattle.claims_translators.specs.Gaps.{gaps}
 
 abbrev pub AlongRuns : ℕ → (Plan → ℕ → List Watched → Type 0) → Type 0
 AlongRuns most P = (s : Script) → StuffsAtMost most (fixed_of s) → ((k : ℕ) → IsKnown (moment s k).world) → (k : ℕ)

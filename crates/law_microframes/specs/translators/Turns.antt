@@ -57,7 +57,7 @@ use Rattle.law_queues.specs.open_laws.Opens.{AreNamesApart}
 use Rattle.law_world.specs.memory.Mixed.{IsMixedWorld}
 use Rattle.law_microframes.specs.visits.OneDescriptor.{IsActiveDescriptor, IsMixedOnce}
 use Rattle.law_microframes.specs.time.SitdFields.{SplitTransfer, SitdsStand}
-use Rattle.law_microframes.specs.translators.Watching.{pipeline_in}
+use Rattle.claims_translators.specs.Gaps.{pipeline_in}
 use Rattle.law_microframes.specs.translators.Keeping.{key_for, PartsAreLacked}
 use Rattle.law_microframes.specs.translators.Parts.{EachOf, Lacks, IsEven, key_asked}
 

@@ -1,6 +1,6 @@
 //! The same of each script that a text spells: each start-split follows its plan.
-ghost use Rattle.law_translator.specs.Premises.{AllKeepUp, AllKeepUpStuffed};
-ghost use Rattle.law_translator.specs.Results.{AllAnswered};
+ghost use Rattle.claims_translators.specs.KeepsUp.{AllKeepUp, AllKeepUpStuffed};
+ghost use Rattle.claims_translators.specs.Answered.{AllAnswered};
 ghost use Rattle.law_microframes.specs.translators.Laws.{AlongTexts, AlongPlainTexts, PartsComeInTurn, TextsHaveFewStuffedBits, InterruptsFollow, SitdsFollowToo};
 
 /// Each start-split of a queue head is one that the plan of its translator calls for, and its endpoint isn't given back in the frame.

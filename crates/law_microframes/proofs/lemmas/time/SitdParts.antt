@@ -4,6 +4,7 @@ use Rattle.std.proofs.Common.{◌≡◌, ℕ, zero, suc, ◌+◌, ◌-◌, ◌*�
 use Rattle.std.specs.Prelude.{not, ◌==◌, ◌&&◌, nat_le, if◌then◌else◌}
 use Rattle.std.proofs.lemmas.Bool.{and_parts, true≢false, cases_lt}
 use Rattle.std.proofs.lemmas.Bool.Decides.{nat_tests}
+use Rattle.law_microframes.proofs.Common.{heard_way}
 use Rattle.law_common.proofs.Booleans.{or_both, off_by}
 use Rattle.usb_base.specs.Cost.{bus_time}
 use Rattle.usb_base.specs.declared.packets.Dir.{Dir}
@@ -411,13 +412,6 @@ heard_fits heards.Later v most fits active = fits active
 heard_fits heards.TooLong v most fits active = absurd (true≢false (sym active))
 heard_fits heards.Error v most fits active = absurd (true≢false (sym active))
 heard_fits heards.Wrong v most fits active = absurd (true≢false (sym active))
-
-heard_way : (heard : SplitHeard) (v : Sitd) → (after_split_heard heard v).dir_in ≡ v.dir_in
-heard_way (heards.Data last n) v = refl
-heard_way heards.Later v = refl
-heard_way heards.TooLong v = refl
-heard_way heards.Error v = refl
-heard_way heards.Wrong v = refl
 
 complete_stays : (v : Sitd) (most u : ℕ) (heard : SplitHeard) → IsInParts v most → v.dir_in ≡ true
     → IsInParts (after_complete u heard v) most

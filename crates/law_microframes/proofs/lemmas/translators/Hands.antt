@@ -9,12 +9,8 @@ use Rattle.usb_base.specs.declared.endpoints.EpDesc.{EpDesc}
 use Rattle.usb_base.specs.declared.packets.Ask.{Ask}
 use Rattle.usb_base.specs.declared.packets.DataPart.{DataPart}
 use Rattle.usb_base.specs.declared.packets.Dir.{Dir}
-use Rattle.usb_base.specs.declared.packets.Dir.TheVariants as dirs
 use Rattle.usb_base.specs.declared.packets.EpKind.{EpKind}
-use Rattle.usb_base.specs.declared.packets.EpKind.TheVariants as kinds
 use Rattle.usb_base.specs.declared.packets.Speed.{Speed}
-use Rattle.usb_base.specs.declared.packets.Speed.TheVariants as speeds
-use Rattle.usb_base.specs.declared.packets.Split.TheVariants as splits
 use Rattle.script_types.specs.declared.scripts.Script.{Script}
 use Rattle.word_mem.specs.Memory.{word_at}
 use Rattle.link_words.specs.Layout.{bits}
@@ -34,13 +30,11 @@ use Rattle.hc_copy.specs.Visits.{visit_at, visit_of}
 use Rattle.hc_copy.specs.Planning.{pid_at, speed_at, queue_pipe, split_at}
 use Rattle.hc_copy.specs.Transacting.{call_in}
 use Rattle.hc_masks.specs.Masks.{has as has_bit}
-use Rattle.hc_interrupt.specs.declared.turns.Turn.TheVariants as turns
 use Rattle.hc_interrupt.specs.Turns.{microframe_of, is_missed, complete_turn, start_turn, turn_of, waits, planned}
 use Rattle.bandwidth.specs.declared.placements.Placed.{Placed}
 use Rattle.bandwidth.specs.declared.placements.Placement.{Placement}
 use Rattle.bandwidth.specs.Placements.{has, first_in, is_classic}
 use Rattle.bandwidth.specs.Sums.{is_hub, is_active}
-use Rattle.periodic_walk.specs.declared.state.Hand.TheVariants as hands
 use Rattle.periodic_walk.specs.declared.state.HeldQueue.{HeldQueue}
 use Rattle.hc_core.specs.declared.controller.MicroframePart.TheVariants.{Periodic}
 use Rattle.drv_table.specs.declared.content.Endpoint.{Endpoint}
@@ -57,17 +51,15 @@ use Rattle.law_descriptors.specs.Meeting.{met}
 use Rattle.law_world.specs.memory.Mixed.{Standing, IsMixedAt}
 use Rattle.law_world.specs.memory.framed_memory.Masks.{HasMasks}
 use Rattle.law_world.proofs.lemmas.memory.lemmas.framed_memory.ChainedRuns.{chained_head_is_in_range}
-use Rattle.law_translator.specs.Plans.{Plan}
 use Rattle.law_translator.specs.Premises.{IsFirst, FollowsRow}
-use Rattle.law_hub_plans.specs.HubPlans.{is_below, placed_below, AreKeysApart}
+use Rattle.law_hub_plans.specs.HubPlans.{AreKeysApart}
 use Rattle.law_hub_plans.specs.Laws.{IsPlacedRight}
 use Rattle.law_microframes.specs.plans.Laws.{PlacesAreRight}
-use Rattle.law_microframes.specs.plans.Plans.{key_at}
 use Rattle.law_microframes.specs.visits.Belonging.{placed_of, IsQueueAt, HaveFields, HeadsHaveFields}
 use Rattle.law_microframes.specs.time.DataQueues.{pid_of, way_of, ReadsData}
 use Rattle.law_microframes.specs.due.repeats.Hearing.{number_of, IsHeardOn}
-use Rattle.law_microframes.specs.translators.Watching.{port_at, StartFollows}
-use Rattle.law_microframes.specs.translators.Keeping.{is_number, plans_now, key_for, IsOwned}
+use Rattle.law_microframes.specs.translators.Watching.{StartFollows}
+use Rattle.law_microframes.specs.translators.Keeping.{key_for, IsOwned}
 use Rattle.law_microframes.proofs.lemmas.visits.BelongQueues.{queue_belongs}
 use Rattle.law_microframes.proofs.lemmas.visits.BelongReads.{HasReadFields, read_fields}
 use Rattle.law_microframes.proofs.lemmas.due.lemmas.repeats.AskedHeads.{HasPlace, places_read, written, few_more, low_field, no_control, no_masks}
@@ -76,6 +68,15 @@ use Rattle.law_microframes.proofs.lemmas.translators.Interrupts.{StartsNow, its_
 use Rattle.law_microframes.proofs.lemmas.translators.Owned.{owned_planned}
 use Rattle.law_microframes.proofs.lemmas.translators.Placing.{one_of, IsOneBit, only_first}
 use Rattle.law_microframes.proofs.lemmas.translators.QueueOpen.{queue_open}
+use Rattle.claims_translators.specs.Plans.{Plan}
+use Rattle.claims_translators.specs.HubPlans.{is_below, placed_below, key_at, is_number, plans_now}
+use Rattle.claims_translators.specs.Pipelines.{port_at}
+use Rattle.usb_base.specs.declared.packets.Dir.TheVariants as dirs
+use Rattle.usb_base.specs.declared.packets.EpKind.TheVariants as kinds
+use Rattle.usb_base.specs.declared.packets.Speed.TheVariants as speeds
+use Rattle.usb_base.specs.declared.packets.Split.TheVariants as splits
+use Rattle.hc_interrupt.specs.declared.turns.Turn.TheVariants as turns
+use Rattle.periodic_walk.specs.declared.state.Hand.TheVariants as hands
 
 -- ---- small facts
 

@@ -15,15 +15,19 @@ use Rattle.tt_pipeline.specs.Starting.{with_first, without_first, start_row}
 use Rattle.tt_pipeline.specs.Work.{fresh, joined, moved, is_due, answered}
 use Rattle.tt_pipeline.specs.Working.{budget, used_at, first_reply, later_replies}
 use Rattle.hub_class.specs.HubContent.{HubContent}
-use Rattle.law_translator.specs.Plans.{Plan, Fits}
-use Rattle.law_translator.specs.Frames.{Event, Start, Complete, Work, Drop, Replan, Clear, Watched, Frame, is_of, changed, begun, worked_all, next, entries_of}
+use Rattle.law_translator.specs.Plans.{Fits}
+use Rattle.claims_translators.specs.Plans.{Plan}
+use Rattle.law_translator.specs.Frames.{Event, Start, Complete, Work, Drop, Replan, Clear, Frame, is_of, changed, begun, worked_all, next, entries_of}
+use Rattle.claims_translators.specs.Watched.{Watched}
 use Rattle.law_translator.specs.Premises.{IsLaidAs, AllLaidAs}
 use Rattle.law_translator.proofs.Holds.{Holds}
 use Rattle.law_translator.proofs.Keeps.{keeps, opening_holds}
 use Rattle.law_translator.proofs.KeepsStuffed.{HoldsStuffed, stuffed_keeps, stuffed_opening}
 use Rattle.law_translator.proofs.Owing.{Coming}
 use Rattle.law_translator.proofs.Work.{All, AllOwe}
-use Rattle.law_microframes.specs.translators.Watching.{HasKey, HaveKeys, WithKeys, watched_of, frame_of, port_at, HubHolds, HubsHold}
+use Rattle.law_microframes.specs.translators.Watching.{HasKey, HaveKeys, WithKeys, frame_of, HubHolds, HubsHold}
+use Rattle.claims_translators.specs.Gaps.{watched_of}
+use Rattle.claims_translators.specs.Pipelines.{port_at}
 use Rattle.law_microframes.proofs.lemmas.translators.Watching.{StartIsOwn, IsKept}
 use Rattle.law_microframes.proofs.lemmas.translators.Hubs.{at_more}
 

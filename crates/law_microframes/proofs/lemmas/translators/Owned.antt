@@ -29,13 +29,14 @@ use Rattle.bus_world.specs.World.{World, driver_parts, driver_next, name_in, com
 use Rattle.claims_driver.specs.Unlinked.{IsOpenAt}
 use Rattle.claims_world.specs.Visits.{frame_in}
 use Rattle.law_translator.specs.Plans.{Fits}
-use Rattle.law_hub_plans.specs.HubPlans.{is_below, placed_below, AreKeysApart}
-use Rattle.law_microframes.specs.plans.Plans.{key_by, key_at, plan_at, HubPlansFitIn}
+use Rattle.law_hub_plans.specs.HubPlans.{AreKeysApart}
+use Rattle.claims_translators.specs.HubPlans.{is_below, placed_below, key_by, key_at, plan_at, no_plan, is_number, if_number, plans_now}
+use Rattle.law_microframes.specs.plans.Plans.{HubPlansFitIn}
 use Rattle.law_microframes.proofs.lemmas.visits.BelongSeen.{Seen, seen_in, IsSeenIn, seen_there, row_seen}
 use Rattle.law_microframes.proofs.lemmas.visits.BelongPlan.{row_more}
 use Rattle.law_microframes.proofs.lemmas.time.PaymentIsochronous.{accepted_sees, accepted_open}
 use Rattle.law_microframes.proofs.lemmas.time.PaymentRemovals.{AreOpen, row_open}
-use Rattle.law_microframes.specs.translators.Keeping.{no_plan, is_number, if_number, plans_now, IsOwned}
+use Rattle.law_microframes.specs.translators.Keeping.{IsOwned}
 use Rattle.law_microframes.proofs.lemmas.translators.Placing.{IsPlannedAs, planned_as}
 
 -- ---- it stays

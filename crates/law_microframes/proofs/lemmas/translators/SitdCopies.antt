@@ -2,6 +2,9 @@
 -- endpoint (EHCI 1.0, 3.4, 4.6 and 4.12.3).
 use Rattle.std.proofs.Common.{◌≡◌, ℕ, ◌*◌, Bool, true, false, slice_get, Option, Some, None, refl, sym, ap, subst, ◌∙◌, ⊎_elim}
 use Rattle.std.proofs.lemmas.Bool.{true≢false}
+use Rattle.law_microframes.proofs.Common.{out_dir}
+use Rattle.law_driver.proofs.Common.{waits_is}
+use Rattle.law_common.proofs.Numbers.{same_blocks}
 use Rattle.usb_base.specs.declared.endpoints.EpDesc.{EpDesc}
 use Rattle.usb_base.specs.declared.packets.Dir.{Dir}
 use Rattle.usb_base.specs.declared.packets.Dir.TheVariants as dirs
@@ -24,16 +27,13 @@ use Rattle.drv_table.specs.DriverContent.{DriverContent}
 use Rattle.bandwidth.specs.declared.placements.Placement.{Placement}
 use Rattle.bus_world.specs.World.{World, controller_parts}
 use Rattle.law_driver.specs.queued_drivers.Queued.{IsOfWay, FitsKind}
-use Rattle.law_driver.proofs.lemmas.chained_transfers.Harvesting.{waits_is}
 use Rattle.law_structures.specs.lent_structures.Structures.{SplitIsochronous}
 use Rattle.law_frames.specs.Met.{ASitd}
 use Rattle.law_frames.specs.FrameHand.{SitdCopy}
 use Rattle.law_frames.specs.Frame.{IsCopiedSitd, IsTurned, IsFrameWalk, IsInFrame}
 use Rattle.law_descriptors.specs.Both.{both}
 use Rattle.law_descriptors.specs.Meeting.{met}
-use Rattle.law_descriptors.proofs.Returning.{same_blocks}
 use Rattle.law_world.specs.memory.Mixed.{Standing, IsMixedAt}
-use Rattle.law_microframes.specs.time.SitdParts.{is_in}
 use Rattle.law_microframes.specs.time.SitdFields.{HaveSitdFields, SplitTransfer, SitdsStand}
 use Rattle.law_microframes.specs.translators.Keeping.{key_for}
 use Rattle.law_microframes.specs.translators.Parts.{key_asked}
@@ -132,10 +132,6 @@ module _ (st : Standing) (w : World) (k : IsMixedAt st w) (sitds : SitdsStand w.
   }
 
 -- ---- an OUT of an isochronous endpoint is of its key
-
-out_dir : (d : Dir) → is_in d ≡ false → d ≡ dirs.Out
-out_dir dirs.In is = absurd (true≢false is)
-out_dir dirs.Out is = refl
 
 out_way : (w : Way) (k : EpKind) → IsOfWay w k → k ≡ kinds.Iso → dir_of w ≡ dirs.Out → w ≡ ways.Out
 out_way ways.In k fits iso out = absurd (cc)

@@ -43,17 +43,16 @@ use Rattle.law_frames.specs.Frame.{IsCopiedSitd, IsTurned, IsFrameWalk, IsInFram
 use Rattle.law_descriptors.specs.Both.{both}
 use Rattle.law_descriptors.specs.Meeting.{met}
 use Rattle.law_world.specs.memory.Mixed.{Standing, IsMixedAt}
-use Rattle.law_hub_plans.specs.HubPlans.{is_below, placed_below, AreKeysApart}
+use Rattle.law_hub_plans.specs.HubPlans.{AreKeysApart}
 use Rattle.law_hub_plans.specs.Laws.{IsPlacedRight}
 use Rattle.law_microframes.specs.plans.Laws.{PlacesAreRight}
-use Rattle.law_microframes.specs.plans.Plans.{key_at}
 use Rattle.law_microframes.specs.visits.Belonging.{placed_of, IsDescriptorAt, IsHarvestedAt}
 use Rattle.law_microframes.specs.visits.OneDescriptor.{IsActiveSome, AreServed}
 use Rattle.law_microframes.specs.time.PaymentLaws.{HasPeriodics}
 use Rattle.law_microframes.specs.time.SitdFields.{HaveSitdFields, SplitTransfer, SitdsStand}
 use Rattle.law_microframes.specs.due.repeats.Hearing.{number_of, is_control_way, IsHeardOn}
-use Rattle.law_microframes.specs.translators.Watching.{port_at, StartFollows}
-use Rattle.law_microframes.specs.translators.Keeping.{is_number, plans_now, key_for, IsOwned, EntryLacks}
+use Rattle.law_microframes.specs.translators.Watching.{StartFollows}
+use Rattle.law_microframes.specs.translators.Keeping.{key_for, IsOwned, EntryLacks}
 use Rattle.law_microframes.proofs.lemmas.visits.ActiveStands.{active_is_framed}
 use Rattle.law_microframes.proofs.lemmas.visits.BelongDescriptors.{descriptor_belongs}
 use Rattle.law_microframes.proofs.lemmas.visits.OneDescriptorMet.{met_split_is_active}
@@ -68,6 +67,8 @@ use Rattle.law_microframes.proofs.lemmas.translators.Hands.{numbered}
 use Rattle.law_microframes.proofs.lemmas.translators.Owned.{owned_planned}
 use Rattle.law_microframes.proofs.lemmas.translators.Placing.{one_of}
 use Rattle.law_microframes.proofs.lemmas.translators.SitdStarts.{in_ask, out_ask, in_transaction, out_transaction, in_key, in_follows, out_key, out_follows}
+use Rattle.claims_translators.specs.HubPlans.{is_below, placed_below, key_at, is_number, plans_now}
+use Rattle.claims_translators.specs.Pipelines.{port_at}
 use Rattle.law_microframes.proofs.lemmas.translators.SitdCopies.{IsCopyOf, copy_of}
 use Rattle.usb_base.specs.declared.packets.EpKind.TheVariants as kinds
 use Rattle.usb_base.specs.declared.packets.Speed.TheVariants as speeds

@@ -43,13 +43,13 @@ use Rattle.law_world.specs.memory.Mixed.{Standing, IsMixedAt, IsMixedWorld}
 use Rattle.law_world.proofs.lemmas.memory.FittingTexts.{texts_open_fitting}
 use Rattle.law_world.proofs.lemmas.memory.Texts.{texts_fit}
 use Rattle.law_world.proofs.lemmas.memory.Together.{texts_stay_mixed}
-use Rattle.law_translator.specs.Plans.{Plan}
-use Rattle.law_translator.specs.Frames.{Watched}
-use Rattle.law_translator.specs.Premises.{AllKeepUp, AllKeepUpStuffed}
-use Rattle.law_translator.specs.Results.{AllAnswered}
-use Rattle.law_hub_plans.specs.HubPlans.{is_below, placed_below, AreKeysApart}
+use Rattle.claims_translators.specs.Plans.{Plan}
+use Rattle.claims_translators.specs.Watched.{Watched}
+use Rattle.claims_translators.specs.KeepsUp.{AllKeepUp, AllKeepUpStuffed}
+use Rattle.claims_translators.specs.Answered.{AllAnswered}
+use Rattle.law_hub_plans.specs.HubPlans.{AreKeysApart}
+use Rattle.claims_translators.specs.HubPlans.{is_below, placed_below, key_at, plans_now}
 use Rattle.law_microframes.specs.plans.Laws.{PlacesAreRight}
-use Rattle.law_microframes.specs.plans.Plans.{key_at}
 use Rattle.law_microframes.specs.visits.Began.{began}
 use Rattle.law_microframes.specs.visits.Belonging.{IsQueueAt, HeadsHaveFields}
 use Rattle.law_microframes.specs.visits.InFrames.{AreInTheirFrames}
@@ -57,9 +57,11 @@ use Rattle.law_microframes.specs.time.DataQueues.{ReadsData}
 use Rattle.law_microframes.specs.time.Payments.{names_in}
 use Rattle.law_microframes.specs.time.PaymentLaws.{IsHandPaid, IsPassing, ArePaidByHand}
 use Rattle.law_microframes.specs.due.repeats.Hearing.{IsHeardOn}
-use Rattle.law_microframes.specs.translators.Watching.{StartFollows, StuffsAtMost}
-use Rattle.law_microframes.specs.translators.Keeping.{plans_now, IsOwned, AsksInFrames, StartsFollow, SitdsFollow, PartsAreLacked, gaps, IsKnown}
-use Rattle.law_microframes.specs.translators.Laws.{EachPipeline, AlongRuns, AlongTexts, AlongPlainTexts, InterruptsFollow}
+use Rattle.law_microframes.specs.translators.Watching.{StartFollows}
+use Rattle.claims_translators.specs.Pipelines.{StuffsAtMost, EachPipeline}
+use Rattle.law_microframes.specs.translators.Keeping.{IsOwned, AsksInFrames, StartsFollow, SitdsFollow, PartsAreLacked, IsKnown}
+use Rattle.claims_translators.specs.Gaps.{gaps}
+use Rattle.law_microframes.specs.translators.Laws.{AlongRuns, AlongTexts, AlongPlainTexts, InterruptsFollow}
 use Rattle.law_microframes.proofs.lemmas.translators.StuffTexts.{texts_have_few_stuffed_bits}
 use Rattle.law_microframes.proofs.lemmas.plans.Keys.{kept_apart, texts_plan_apart, texts_plan_hubs}
 use Rattle.law_microframes.proofs.lemmas.plans.Right.{scripts_place_right}

@@ -5,15 +5,12 @@ use Rattle.std.specs.List.{AllByRecursion}
 use Rattle.std.specs.Option.{option_map_or}
 use Rattle.std.proofs.lemmas.Bool.{cond_both, leb-true}
 use Rattle.law_common.proofs.Lists.{all_both, nth_all}
-use Rattle.usb_base.specs.declared.commands.Cmd.TheVariants as cmd
 use Rattle.usb_base.specs.declared.endpoints.EpDesc.{EpDesc}
-use Rattle.usb_base.specs.declared.packets.Way.TheVariants as way
 use Rattle.script_types.specs.declared.devices.EpText.{EpText}
 use Rattle.script_types.specs.declared.devices.HubText.{HubText}
 use Rattle.script_types.specs.declared.scripts.Script.{Script}
 use Rattle.script_forms.specs.declared.statements.Name.{Name}
 use Rattle.script_forms.specs.declared.statements.Statement.{Statement}
-use Rattle.script_forms.specs.declared.statements.Statement.TheVariants as says
 use Rattle.script_text.specs.Faults.{Spells}
 use Rattle.script_world.specs.Draft.{Draft, Placed, device_of, is_named, known, change, same_way, device_text, script_of}
 use Rattle.script_world.specs.Ranges.{within, is_endpoint, is_slots}
@@ -22,8 +19,11 @@ use Rattle.bus_wire.specs.declared.seats.Seat.{Seat}
 use Rattle.bus_wire.specs.Bus.{fixed_of, stuff_of}
 use Rattle.bus_wire.specs.Seats.{owner_at, seat_at, seats_from, hub_seats_from, seat_named, device_seats, seats_of}
 use Rattle.law_devices.proofs.Lists.{all_change, all_find, all_filter_map}
-use Rattle.law_microframes.specs.translators.Watching.{StuffsAtMost}
 use Rattle.law_microframes.proofs.lemmas.due.lemmas.repeats.SaidTexts.{spelled_said}
+use Rattle.claims_translators.specs.Pipelines.{StuffsAtMost}
+use Rattle.usb_base.specs.declared.commands.Cmd.TheVariants as cmd
+use Rattle.usb_base.specs.declared.packets.Way.TheVariants as way
+use Rattle.script_forms.specs.declared.statements.Statement.TheVariants as says
 
 abbrev IsFewEp : EpText → Type 0
 IsFewEp e = e.stuff ≤ 6

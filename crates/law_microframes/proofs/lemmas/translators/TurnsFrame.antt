@@ -5,9 +5,10 @@ use Rattle.std.specs.Prelude.{◌==◌, not}
 use Rattle.std.specs.List.{AllByRecursion}
 use Rattle.std.proofs.lemmas.Bool.{true≢false, cases_Bool, cases_eq, cases_lt}
 use Rattle.std.proofs.lemmas.Option.{same_Some}
+use Rattle.law_microframes.proofs.Common.{iso_kind}
+use Rattle.law_driver.proofs.Common.{waits_is}
 use Rattle.usb_base.specs.declared.packets.DataPart.TheVariants as parts
 use Rattle.usb_base.specs.declared.packets.Dir.TheVariants as dirs
-use Rattle.usb_base.specs.declared.packets.EpKind.{EpKind}
 use Rattle.usb_base.specs.declared.packets.EpKind.TheVariants as kinds
 use Rattle.usb_base.specs.declared.packets.Reply.{Reply}
 use Rattle.hub_keys.specs.Keys.{key_of, is_same_key}
@@ -28,14 +29,12 @@ use Rattle.hc_core.specs.declared.controller.MicroframePart.TheVariants.{Periodi
 use Rattle.hc_core.specs.Controller.{frame_place}
 use Rattle.drv_table.specs.declared.content.Transfer.{Transfer}
 use Rattle.drv_table.specs.DriverContent.{DriverContent}
-use Rattle.drv_table.specs.Kinds.{is_iso}
 use Rattle.tt_pipeline.specs.declared.entry.Entry.{Entry}
 use Rattle.tt_pipeline.specs.Work.{asked_part}
 use Rattle.claims_driver.specs.DueMembers.{framed_to}
 use Rattle.bus_wire.specs.Bus.{Bus, Fixed}
 use Rattle.bus_world.specs.World.{World, controller_parts, controller_row, controller_next}
 use Rattle.claims_world.specs.Visits.{frame_in, HasVisited}
-use Rattle.law_driver.proofs.lemmas.chained_transfers.Harvesting.{waits_is}
 use Rattle.law_frames.specs.Met.{Kind}
 use Rattle.law_queues.specs.open_laws.Opens.{AreNamesApart}
 use Rattle.law_translator.proofs.Keys.{same_key}
@@ -68,12 +67,6 @@ at_visit : (P : ℕ → Type 0) (vs : List ℕ) (n : ℕ) → AllByRecursion P v
 at_visit P [] n all seen = absurd seen
 at_visit P (v ∷ vs) n all (inl same) = subst P (sym same) all.0
 at_visit P (v ∷ vs) n all (inr later) = at_visit P vs n all.1 later
-
-iso_kind : (k : EpKind) → is_iso k ≡ true → k ≡ kinds.Iso
-iso_kind kinds.Iso is = refl
-iso_kind kinds.Control is = absurd (true≢false (sym is))
-iso_kind kinds.Bulk is = absurd (true≢false (sym is))
-iso_kind kinds.Interrupt is = absurd (true≢false (sym is))
 
 same_sitd_hand : (h k : HeldSitd) → Some (hands.Sitd h) ≡ Some (hands.Sitd k) → h ≡ k
 same_sitd_hand h k e = let f : hands.Sitd h ≡ hands.Sitd k = same_Some (hands.Sitd h) (hands.Sitd k) e in cc

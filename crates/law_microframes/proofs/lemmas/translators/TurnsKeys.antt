@@ -2,6 +2,8 @@
 use Rattle.std.proofs.Common.{◌≡◌, ℕ, Bool, true, false, List, length, Option, Some, refl, sym, ap, subst, ◌∙◌, inl, inr, ◌⊎◌, if◌then◌else◌}
 use Rattle.std.specs.Prelude.{◌==◌, ◌&&◌, not, nat_le}
 use Rattle.std.proofs.lemmas.Bool.{true≢false, cases_Bool}
+use Rattle.law_common.proofs.Booleans.{and_false}
+use Rattle.law_microframes.proofs.Common.{heard_way}
 use Rattle.usb_base.specs.declared.packets.Ask.{Ask}
 use Rattle.usb_base.specs.declared.packets.DataPart.{DataPart}
 use Rattle.usb_base.specs.declared.packets.DataPart.TheVariants as parts
@@ -15,9 +17,7 @@ use Rattle.hub_keys.specs.Keys.{key_of, is_same_key, is_same_direction, is_same_
 use Rattle.hub_keys.specs.declared.key.Key.{Key}
 use Rattle.itd_sitd.specs.declared.sitd.Sitd.{Sitd}
 use Rattle.hc_iso.specs.declared.held.IsoTransaction.{IsoTransaction}
-use Rattle.hc_iso.specs.Sitd.{sitd_after, after_part, part_bytes, sitd_ask, sitd_with, sitd_out, sitd_in, sitd_transaction, in_after, after_complete, after_start, heard_by, marked, after_split_heard}
-use Rattle.hc_iso.specs.declared.held.SplitHeard.{SplitHeard}
-use Rattle.hc_iso.specs.declared.held.SplitHeard.TheVariants as heards
+use Rattle.hc_iso.specs.Sitd.{sitd_after, after_part, part_bytes, sitd_ask, sitd_with, sitd_out, sitd_in, sitd_transaction, in_after, after_complete, after_start, heard_by, marked}
 use Rattle.tt_pipeline.specs.Work.{asked_part}
 use Rattle.bus_wire.specs.Bus.{Bus, Fixed, transact_after}
 use Rattle.law_microframes.specs.time.SitdParts.{position_of, IsInParts}
@@ -29,10 +29,6 @@ use Rattle.law_microframes.proofs.lemmas.translators.TurnsAsks.{begin_asks}
 use Rattle.law_microframes.proofs.lemmas.translators.TurnsWalk.{AsksAnother}
 
 -- ---- keys
-
-no_and : (b : Bool) → (b && false) ≡ false
-no_and true = refl
-no_and false = refl
 
 not_iso : (k : EpKind) → (k ≡ kinds.Iso → ⊥) → is_same_kind k kinds.Iso ≡ false
 not_iso kinds.Control differs = refl
@@ -48,7 +44,7 @@ other_key ask k hub port part another iso split =
     iso
     ∙ ap (λ (b : Bool). ask.addr == k.addr && ask.ep == k.ep && is_same_direction (direction_of ask.pid) k.dir && b)
     (not_iso ask.kind (another hub port part split))
-    ∙ no_and _
+    ∙ and_false _
 
 -- each transaction of a siTD of an IN has the key of one
 in_way : (v : Sitd) → (key_of (sitd_in v).ask).dir ≡ dirs.In
@@ -70,13 +66,6 @@ way_by_key v k is out = by v.dir_in refl
     by false way = way
 
 -- ---- after a transaction
-
-heard_way : (heard : SplitHeard) (v : Sitd) → (after_split_heard heard v).dir_in ≡ v.dir_in
-heard_way (heards.Data last n) v = refl
-heard_way heards.Later v = refl
-heard_way heards.TooLong v = refl
-heard_way heards.Error v = refl
-heard_way heards.Wrong v = refl
 
 in_way_after : (u : ℕ) (reply : Reply) (v : Sitd) → (in_after u reply v).dir_in ≡ v.dir_in
 unfolding after_complete after_start

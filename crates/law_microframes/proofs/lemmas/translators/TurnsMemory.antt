@@ -4,6 +4,7 @@ use Rattle.std.proofs.Common.{◌≡◌, ◌≢◌, ℕ, ◌+◌, ◌*◌, ◌/�
 use Rattle.std.specs.Prelude.{◌==◌, is_some}
 use Rattle.std.proofs.lemmas.Bool.{true≢false}
 use Rattle.std.proofs.lemmas.Option.{same_Some}
+use Rattle.law_microframes.proofs.Common.{words_are}
 use Rattle.hub_keys.specs.Keys.{key_of}
 use Rattle.hub_keys.specs.declared.key.Key.{Key}
 use Rattle.usb_base.specs.declared.packets.Dir.TheVariants.{Out}
@@ -53,7 +54,6 @@ use Rattle.law_microframes.specs.time.SitdFields.{SplitTransfer}
 use Rattle.law_microframes.specs.translators.Parts.{EachOf, key_asked}
 use Rattle.law_microframes.specs.translators.Turns.{pipeline_for, EntriesAre, IsInHand}
 use Rattle.law_microframes.proofs.lemmas.visits.BelongFields.{event_of}
-use Rattle.law_microframes.proofs.lemmas.time.SitdWords.{words_are}
 use Rattle.law_microframes.proofs.lemmas.time.SitdWorlds.{either_part, IsSitd, was_sitd, IsSitdFrame, sitd_in_hand}
 use Rattle.law_microframes.proofs.lemmas.translators.SitdStarts.{out_transaction}
 use Rattle.law_microframes.proofs.lemmas.translators.TurnsWords.{IsOut, IsSteady, StandsSo, event_stands}

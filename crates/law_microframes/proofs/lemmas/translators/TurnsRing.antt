@@ -1,6 +1,7 @@
 -- An event of the ring's walk goes on with what is told of the isochronous OUTs below hubs: it starts none of them, and has none in hand
 -- (EHCI 1.0, 4.8 and 4.12.3; USB 2.0, 11.14).
-use Rattle.std.proofs.Common.{◌≡◌, ◌≢◌, ℕ, ◌*◌, Bool, true, false, List, Option, Some, None, refl, sym, ap, subst, ◌∙◌, inl, inr, ◌⊎◌, ⊎_elim}
+use Rattle.std.proofs.Common.{◌≡◌, ℕ, ◌*◌, Bool, true, false, List, Option, Some, None, refl, sym, ap, subst, ◌∙◌, inl, inr, ◌⊎◌, ⊎_elim}
+use Rattle.law_microframes.proofs.Common.{ring_no}
 use Rattle.usb_base.specs.declared.packets.Ask.{Ask}
 use Rattle.usb_base.specs.declared.packets.DataPart.{DataPart}
 use Rattle.hub_keys.specs.declared.key.Key.{Key}
@@ -13,8 +14,6 @@ use Rattle.hc_copy.specs.Buffer.{Reading, sending}
 use Rattle.hc_copy.specs.Transacting.{call_in}
 use Rattle.async_walk.specs.declared.rows.WalkRow.{WalkRow}
 use Rattle.async_walk.specs.declared.rows.WalkRow.TheVariants as walks
-use Rattle.async_walk.specs.declared.state.WalkStep.{WalkStep}
-use Rattle.async_walk.specs.declared.state.WalkStep.TheVariants as walk_steps
 use Rattle.async_walk.specs.Rows.{WalkPlace, event_row, at_event}
 use Rattle.drv_periodic_table.specs.Descriptors.{sitd_in}
 use Rattle.periodic_walk.specs.declared.state.Hand.{Hand}
@@ -22,7 +21,7 @@ use Rattle.periodic_walk.specs.Walk.{over_at}
 use Rattle.hc_core.specs.declared.controller.ControllerRow.{ControllerRow}
 use Rattle.hc_core.specs.declared.controller.ControllerRow.TheVariants as rows
 use Rattle.hc_core.specs.declared.controller.MicroframePart.TheVariants.{Periodic, Asynchronous}
-use Rattle.hc_core.specs.Controller.{entered, part_after, walk_place, walk_step}
+use Rattle.hc_core.specs.Controller.{entered, walk_place, walk_step}
 use Rattle.tt_pipeline.specs.declared.entry.Entry.{Entry}
 use Rattle.claims_base.specs.Controller.{Base}
 use Rattle.bus_wire.specs.Bus.{Bus, Fixed, transact_after}
@@ -78,11 +77,6 @@ IsRing rows.Enter = Unit {0}
 IsRing rows.Go = Unit {0}
 IsRing _ = ⊥
 
-not_periodic : (step : WalkStep) → part_after Asynchronous step ≢ Periodic
-not_periodic walk_steps.Ended e = cc
-not_periodic walk_steps.Fault e = cc
-not_periodic _ e = cc
-
 module _ (fixed : Fixed) (start w : World) (vs : List ℕ) (mixed : IsMixedWorld w) (outs : OutsGoOn start w vs) where
   abbrev new : World
   new = controller_next fixed w
@@ -91,8 +85,8 @@ module _ (fixed : Fixed) (start w : World) (vs : List ℕ) (mixed : IsMixedWorld
   by r = with_turned w (turned_by fixed r (controller_parts w) w.bus)
 
   none_then : (r : ControllerRow) → IsRing r → (by r).control.part ≡ Periodic → ⊥
-  none_then rows.Enter ring on = not_periodic (walk_step (entered (controller_parts w))) on
-  none_then rows.Go ring on = not_periodic (walk_step (controller_parts w)) on
+  none_then rows.Enter ring on = ring_no (walk_step (entered (controller_parts w))) on
+  none_then rows.Go ring on = ring_no (walk_step (controller_parts w)) on
   none_then rows.Idle ring on = ring
   none_then rows.Begin ring on = ring
   none_then rows.Frame ring on = ring

@@ -3,10 +3,9 @@ use Rattle.std.proofs.Common.{◌≡◌, ◌≢◌, ℕ, ◌*◌, ◌⊎◌, Boo
 use Rattle.std.specs.Prelude.{◌||◌, not}
 use Rattle.std.proofs.lemmas.Bool.{false≢true, and_parts}
 use Rattle.std.proofs.lemmas.Option.{same_Some}
+use Rattle.law_microframes.proofs.Common.{iso_kind}
 use Rattle.law_frame_list.proofs.Common.{no_descriptor}
 use Rattle.law_common.proofs.Numbers.{same_blocks}
-use Rattle.usb_base.specs.declared.packets.EpKind.{EpKind}
-use Rattle.usb_base.specs.declared.packets.EpKind.TheVariants as kinds
 use Rattle.drv_chains.specs.declared.members.Member.{Member}
 use Rattle.drv_chains.specs.declared.members.Member.TheVariants.{Once, Each}
 use Rattle.drv_chains.specs.Chains.{Schedule}
@@ -43,10 +42,6 @@ use Rattle.law_world.specs.memory.Mixed.{Standing, IsMixedAt}
 use Rattle.law_microframes.specs.visits.Belonging as belonging
 use Rattle.law_microframes.specs.visits.Belonging.{IsDescriptorAt, IsHarvestedAt, DescriptorBelongs}
 use Rattle.law_microframes.proofs.lemmas.visits.BelongQueues.{belongs_by, alive, removed_kept, unchained_in, waiting_held, removed_held, endpoint_same, waits_by}
-
-iso_kind : (k : EpKind) → is_iso k ≡ true → k ≡ kinds.Iso
-iso_kind kinds.Iso is = refl
-iso_kind _ is = absurd (false≢true is)
 
 -- ---- a descriptor that waits at an endpoint which wasn't given back
 
